@@ -1,1 +1,7 @@
 pub mod Words
+pub mod Thin
+pub mod ThinReading
+pub mod ThinView
+pub mod ThinMeaning
+pub mod Rendering
+pub mod Answers

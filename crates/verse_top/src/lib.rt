@@ -2,3 +2,9 @@
 #![tactic(auto)]
 
 pub mod commands;
+
+mod thin;
+
+pub mod endings;
+
+pub mod answers;

@@ -1,0 +1,75 @@
+-- What the top call answers: a status and the text that is written.
+use Rattle.std.specs.Prelude.{◌≡◌, ◌≢◌, ◌⊎◌, ℕ, ◌+◌, ◌<◌, ◌≤◌, List, [], ◌∷◌, ◌++◌, Option, length, codes, unwrap_or}
+use Rattle.verse_base.specs.declared.places.Place.{Place}
+use Rattle.verse_base.specs.RuleText.{rule_text_of}
+use Rattle.verse_lex.specs.Cut.{first_place, place_at}
+use Rattle.verse_outside.specs.Causes.{Rose}
+use Rattle.verse_outside.specs.Held.{Holding, Holds, Lacks, Loads, with_more, TookPrefix}
+use Rattle.verse_top.specs.Words.{Command, run, Options, Says}
+use Rattle.verse_top.specs.Thin.{IsThin, IsUnbuilt}
+use Rattle.verse_top.specs.ThinMeaning.{mean}
+use Rattle.verse_top.specs.Rendering.{line_and_column, rule_code, run_text, ending_status}
+
+-- the line of a refusal of the one file: its place, the rule and the rule's text
+abbrev pub refusal_line : ℕ → Place → List ℕ
+refusal_line rule place = line_and_column place ++ codes " " ++ rule_code rule ++ codes " " ++ unwrap_or (rule_text_of rule) [] ++ 10 ∷ []
+
+-- a file of at most 1048576 bytes is read; one byte more shows that there are more
+abbrev pub most_bytes : ℕ
+most_bytes = 1048577
+
+abbrev pub words_line : List ℕ
+words_line = codes "= words\n"
+
+abbrev pub read_line : List ℕ → List ℕ
+read_line file = codes "= read " ++ file ++ codes "\n"
+
+abbrev pub memory_line : List ℕ
+memory_line = codes "= memory\n"
+
+-- the status and the text for a command over what was loaded
+pub data Answers : Command → List ℕ → ℕ → List ℕ → Type 0 where
+  too_large : {file bytes : List ℕ} {o : Options} → 1048576 < length bytes → Answers (run file o) bytes 1 (refusal_line 2 (first_place 0))
+  not_built : {file bytes : List ℕ} {o : Options} (at : ℕ) → length bytes ≤ 1048576 → IsUnbuilt bytes at →
+      Answers (run file o) bytes 1 (refusal_line 99 (place_at 0 bytes at))
+  ran : {file bytes : List ℕ} {o : Options} (texts : List (List ℕ)) → length bytes ≤ 1048576 → IsThin bytes texts →
+      Answers (run file o) bytes (ending_status (mean texts o.steps).ending) (run_text 1 (mean texts o.steps))
+
+abbrev pub file_of : Command → List ℕ
+file_of (run file o) = file
+
+-- the command has this answer over the files, and its text was written
+pub record Answered (words : List (List ℕ)) (held : Holding) (status : ℕ) (old new : Option (List ℕ)) : Type 0 where
+  pub command : Command
+  pub bytes : List ℕ
+  pub text : List ℕ
+  pub says : Says words command
+  pub loads : Loads held (file_of command) most_bytes bytes
+  pub answers : Answers command bytes status text
+  pub written : new ≡ with_more old text
+
+-- no file was read: the line that says so was written
+pub record NotRead (words : List (List ℕ)) (held : Holding) (before now : ℕ) (old new : Option (List ℕ)) : Type 0 where
+  pub command : Command
+  pub says : Says words command
+  pub cause : Rose before now ⊎ Lacks held (file_of command)
+  pub written : new ≡ with_more old (read_line (file_of command))
+
+-- the texts that may be written for these words over these files
+pub data MayWrite (words : List (List ℕ)) (held : Holding) : List ℕ → Type 0 where
+  no_command : ((c : Command) → Says words c → ⊥) → MayWrite words held words_line
+  not_read : (c : Command) → Says words c → MayWrite words held (read_line (file_of c))
+  no_memory : MayWrite words held memory_line
+  answer : {text : List ℕ} (c : Command) (bytes : List ℕ) (status : ℕ) → Says words c → Loads held (file_of c) most_bytes bytes →
+      Answers c bytes status text → MayWrite words held text
+
+-- the sink failed, and took a prefix of a text that may be written
+pub record CutShort (words : List (List ℕ)) (held : Holding) (before now : ℕ) (old new : Option (List ℕ)) : Type 0 where
+  pub text : List ℕ
+  pub may : MayWrite words held text
+  pub cause : Rose before now
+  pub part : TookPrefix old text new
+
+-- what is loaded has one answer
+abbrev pub AnsweredOnce : Type 0
+AnsweredOnce = (c : Command) (bytes : List ℕ) (s t : ℕ) (x y : List ℕ) → Answers c bytes s x → Answers c bytes t y → (s ≡ t) × (x ≡ y)
