@@ -2,3 +2,5 @@
 #![tactic(auto)]
 
 pub mod commands;
+pub(crate) mod options;
+pub(crate) mod numbers;
