@@ -1,2 +1,5 @@
 pub mod ThinLaws
 pub mod AnswerLaws
+pub mod NumberLemmas
+pub mod OptionLemmas
+pub mod CommandLemmas

@@ -5,3 +5,4 @@ pub mod ThinView
 pub mod ThinMeaning
 pub mod Rendering
 pub mod Answers
+pub mod Settings

@@ -1,5 +1,5 @@
 -- The words of a command line, and the command that they are.
-use Rattle.std.specs.Prelude.{◌≡◌, ◌≢◌, ℕ, ◌<◌, ◌≤◌, ℤ, List, [], ◌∷◌, ◌++◌, Bool, true, false, Option, Some, None, unwrap_or, length, codes, decimal, FitsSigned}
+use Rattle.std.specs.Prelude.{◌≡◌, ◌≢◌, ℕ, ◌≤◌, ℤ, List, [], ◌∷◌, ◌++◌, Bool, true, false, Option, Some, None, unwrap_or, length, codes, decimal, FitsSigned}
 use Rattle.std.specs.Fmt.{signed_decimal}
 use Rattle.std.specs.Int.{w64}
 
@@ -26,16 +26,21 @@ pub record IsNumber (most : ℕ) (word : List ℕ) (n : ℕ) : Type 0 where
   pub spelled : word ≡ decimal n
   pub within : n ≤ most
 
+-- an int is written in decimal, with `-` before a negative one
+pub record IsInt (word : List ℕ) (n : ℤ) : Type 0 where
+  pub spelled : word ≡ signed_decimal n
+  pub within : FitsSigned w64 n
+
 -- ints with commas between them
 pub data IsIntList : List ℕ → List ℤ → Type 0 where
-  last : {n : ℤ} → FitsSigned w64 n → IsIntList (signed_decimal n) (n ∷ [])
-  more : {n : ℤ} {ns : List ℤ} {word : List ℕ} → FitsSigned w64 n → IsIntList word ns → IsIntList (signed_decimal n ++ 44 ∷ word) (n ∷ ns)
+  last : {n : ℤ} {word : List ℕ} → IsInt word n → IsIntList word (n ∷ [])
+  more : {n : ℤ} {ns : List ℤ} {first rest : List ℕ} → IsInt first n → IsIntList rest ns → IsIntList (first ++ 44 ∷ rest) (n ∷ ns)
 
 -- the options given so far; the inputs by the word that lists them
 pub record Given : Type 0 where
   pub steps : Option ℕ
   pub until : Option ℕ
-  pub inputs : Option (List ℤ)
+  pub inputs : Option (List ℕ)
   pub heap : Bool
 
 abbrev pub no_options : Given
@@ -48,24 +53,29 @@ pub data Gives : Given → List (List ℕ) → Given → Type 0 where
       Gives (record g { steps = Some n }) words h → Gives g (codes "--steps" ∷ value ∷ words) h
   until : {g h : Given} {value : List ℕ} {words : List (List ℕ)} (n : ℕ) → g.until ≡ None → IsNumber 1000000000000 value n →
       Gives (record g { until = Some n }) words h → Gives g (codes "--until" ∷ value ∷ words) h
-  inputs : {g h : Given} {value : List ℕ} {words : List (List ℕ)} (ns : List ℤ) → g.inputs ≡ None → IsIntList value ns → length ns ≤ 1000 →
-      Gives (record g { inputs = Some ns }) words h → Gives g (codes "--in" ∷ value ∷ words) h
+  inputs : {g h : Given} {value : List ℕ} {words : List (List ℕ)} → g.inputs ≡ None →
+      Gives (record g { inputs = Some value }) words h → Gives g (codes "--in" ∷ value ∷ words) h
   heap : {g h : Given} {words : List (List ℕ)} → g.heap ≡ false →
       Gives (record g { heap = true }) words h → Gives g (codes "--heap" ∷ words) h
 
+-- what Main is given: the 1 to 1000 ints that the word of `--in` lists, and nothing without it
+pub data Inputs : Option (List ℕ) → List ℤ → Type 0 where
+  not_given : Inputs None []
+  listed : {word : List ℕ} {ns : List ℤ} → IsIntList word ns → length ns ≤ 1000 → Inputs (Some word) ns
+
 -- an option that is not given has its default
-abbrev pub options_of : Given → Options
-options_of g = record {
+abbrev pub options_of : Given → List ℤ → Options
+options_of g ns = record {
     steps = unwrap_or g.steps 10000000;
     until = unwrap_or g.until 1000000000000;
-    inputs = unwrap_or g.inputs [];
+    inputs = ns;
     heap = g.heap
   }
 
 -- the words after the program's name, and the command that they are
 pub data Says : List (List ℕ) → Command → Type 0 where
-  says_run : {file : List ℕ} {words : List (List ℕ)} {g : Given} → IsFile file → Gives no_options words g →
-      Says (codes "run" ∷ file ∷ words) (run file (options_of g))
+  says_run : {file : List ℕ} {words : List (List ℕ)} {g : Given} {ns : List ℤ} → IsFile file → Gives no_options words g → Inputs g.inputs ns →
+      Says (codes "run" ∷ file ∷ words) (run file (options_of g ns))
 
 -- no words are two commands
 abbrev pub SayOnce : Type 0

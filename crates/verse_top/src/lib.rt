@@ -8,3 +8,5 @@ mod thin;
 pub mod endings;
 
 pub mod answers;
+pub(crate) mod options;
+pub(crate) mod numbers;
