@@ -3,3 +3,4 @@ pub mod AnswerLaws
 pub mod NumberLemmas
 pub mod OptionLemmas
 pub mod CommandLemmas
+pub mod CallLaws

@@ -73,3 +73,14 @@ pub record CutShort (words : List (List ℕ)) (held : Holding) (before now : ℕ
 -- what is loaded has one answer
 abbrev pub AnsweredOnce : Type 0
 AnsweredOnce = (c : Command) (bytes : List ℕ) (s t : ℕ) (x y : List ℕ) → Answers c bytes s x → Answers c bytes t y → (s ≡ t) × (x ≡ y)
+
+-- the text was written whole and the status is the answer, or the sink failed and took a prefix of it
+abbrev pub Finishes : ℕ → List ℕ → ℕ → ℕ → ℕ → Option (List ℕ) → Option (List ℕ) → Type 0
+Finishes status text result before now old new =
+    ((result ≡ status) × (new ≡ with_more old text)) ⊎ ((result ≡ 7) × Rose before now × TookPrefix old text new)
+
+-- an answer to a command, of the status 6 where the file was not read
+pub record Replies (file : List ℕ) (steps : ℕ) (held : Holding) (before now : ℕ) (status : ℕ) (text : List ℕ) : Type 0 where
+  pub among : (status ≡ 0) ⊎ (status ≡ 1) ⊎ (status ≡ 3) ⊎ (status ≡ 6)
+  pub not_read : status ≡ 6 → (text ≡ read_line file) × (Rose before now ⊎ Lacks held file)
+  pub read : status ≢ 6 → (bytes : List ℕ) × Loads held file most_bytes bytes × ((o : Options) → o.steps ≡ steps → Answers (run file o) bytes status text)

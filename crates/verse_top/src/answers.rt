@@ -19,7 +19,7 @@ use verse_lex::place_at;
 use verse_value::runs::Ending;
 
 /// The most bytes that a file may have.
-const MOST_BYTES: usize = 1048576;
+pub(crate) const MOST_BYTES: usize = 1048576;
 
 const FIRST_PLACE: Place = Place {
     file: 0,

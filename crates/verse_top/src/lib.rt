@@ -1,6 +1,10 @@
 //! All that the program does, as one call.
 #![tactic(auto)]
 
+mod numbers;
+
+mod options;
+
 pub mod commands;
 
 mod thin;
@@ -8,5 +12,12 @@ mod thin;
 pub mod endings;
 
 pub mod answers;
-pub(crate) mod options;
-pub(crate) mod numbers;
+
+mod call;
+
+pub use call::verse;
+pub use commands::words_fit;
+pub use endings::ending_text;
+
+#[cfg(test)]
+mod tests;

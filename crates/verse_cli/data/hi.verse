@@ -1,0 +1,2 @@
+Main():void =
+    Print("hi")

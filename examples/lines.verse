@@ -1,0 +1,3 @@
+Main():void =
+    Print("first")
+    Print("second")
