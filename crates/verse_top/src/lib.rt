@@ -2,5 +2,5 @@
 #![tactic(auto)]
 
 pub mod commands;
-pub(crate) mod options;
-pub(crate) mod numbers;
+mod numbers;
+mod options;
