@@ -1,5 +1,5 @@
 -- The words are one command.
-use Rattle.std.proofs.Common.{◌≡◌, ◌≢◌, ◌↔◌, ℕ, ℤ, Option, Some, None, List, [], ◌∷◌, codes, refl, sym, ◌∙◌, ap, subst, ◌≤◌, length, IsTrue, not, nat_eq, slice_index_or, arith, unwrap_or}
+use Rattle.std.proofs.Common.{◌≡◌, ◌≢◌, ◌↔◌, ℕ, ℤ, Option, Some, None, List, [], ◌∷◌, codes, refl, sym, subst, ◌≤◌, length, IsTrue, not, nat_eq, slice_index_or, arith, unwrap_or, Result, Ok, Err, IfOk}
 use Rattle.verse_top.specs.Words.{Command, Given, Gives, Inputs, IsFile, IsIntList, name, SayOnce, Says, listed, no_options, not_given, Options, options_of, run, says_run}
 use Rattle.verse_top.proofs.NumberLemmas.{Lists, list_once}
 use Rattle.verse_top.proofs.OptionLemmas.{gives_once}
@@ -33,7 +33,7 @@ say_once words a b s t =
     let ints : p.ints ≡ q.ints = inputs_once p.lists (subst (λ g. Inputs g.inputs q.ints) given q.lists) in
     cc
 
-listed_of : {word : List ℕ} {ns : List ℤ} → Inputs (Some word) ns → IsIntList word ns × (length ns ≤ 1000)
+pub listed_of : {word : List ℕ} {ns : List ℤ} → Inputs (Some word) ns → IsIntList word ns × (length ns ≤ 1000)
 listed_of (listed l few) = (l, few)
 
 file_byte : {b : ℕ} {bs : List ℕ} → IsFile (b ∷ bs) → b ≢ 45
@@ -42,14 +42,16 @@ file_byte (name other) = other
 pub file_test : (word : List ℕ) → 1 ≤ length word → IsTrue (not (nat_eq (slice_index_or word 0 0) 45)) ↔ IsFile word
 file_test [] low = absurd (omega arith)
 file_test (b ∷ bs) low = (
-    λ (t : IsTrue (not (nat_eq b 45))). name (λ (e : b ≡ 45). (let f = rw e at t in cc)),
-    λ (f : IsFile (b ∷ bs)). (let other = file_byte f in grind arith))
+  λ (t : IsTrue (not (nat_eq b 45))). name (λ (e : b ≡ 45). (let f = rw e at t in cc)),
+  λ (f : IsFile (b ∷ bs)). (let other = file_byte f in grind arith),
+)
 
 pub inputs_listed : (given : Option (List ℕ)) (word : List ℕ) → given ≡ Some word → Lists 1000 word ↔ ((ns : List ℤ) × Inputs given ns)
 inputs_listed None word e = absurd (cc)
 inputs_listed (Some other) word e = (
-    λ (f : Lists 1000 word). (let same : word ≡ other = cc in (f.0, listed (subst (λ w. IsIntList w f.0) same f.1) f.2)),
-    λ (f : (ns : List ℤ) × Inputs (Some other) ns). (let same : other ≡ word = cc in let g = listed_of f.1 in (f.0, subst (λ w. IsIntList w f.0) same g.0, g.1)))
+  λ (f : Lists 1000 word). (let same : word ≡ other = cc in (f.0, listed (subst (λ w. IsIntList w f.0) same f.1) f.2)),
+  λ (f : (ns : List ℤ) × Inputs (Some other) ns). (let same : other ≡ word = cc in let g = listed_of f.1 in (f.0, subst (λ w. IsIntList w f.0) same g.0, g.1)),
+)
 
 pub inputs_absent : (given : Option (List ℕ)) → given ≡ None → (ns : List ℤ) × Inputs given ns
 inputs_absent None e = ([], not_given)
@@ -75,3 +77,13 @@ reads_run words file given steps until r named (ns, lists) s u =
     let same : options_of given ns ≡ options = cc in
     let said : Says (codes "run" ∷ file ∷ r.options) (run file (options_of given ns)) = says_run named r.gives lists in
     (ns, lists, subst (λ o. Says words (run file o)) same (subst (λ ws. Says ws (run file (options_of given ns))) (sym r.is) said))
+
+pub inputs_are : (given : Option (List ℕ)) (word : List ℕ) → given ≡ Some word → (ns : List ℤ) × Inputs given ns → (ms : List ℤ) → IsIntList word ms → Inputs given ms
+inputs_are given word e fits ms l =
+    let known = (inputs_listed given word e).1 fits in
+    let same : known.0 ≡ ms = list_once known.1 l in
+    subst (λ g. Inputs g ms) (sym e) (listed l (subst (λ ks. length ks ≤ 1000) same known.2))
+
+pub ok_then : {T E : Type 0} (r : Result T E) (P Q : T → Type 0) → ((x : T) → P x → Q x) → IfOk r P → IfOk r Q
+ok_then (Ok x) P Q f h = f x h
+ok_then (Err e) P Q f h = tt

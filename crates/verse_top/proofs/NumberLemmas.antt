@@ -1,5 +1,5 @@
 -- Numbers and lists of ints, as texts: each text has one reading.
-use Rattle.std.proofs.Common.{◌≡◌, ◌≢◌, ℕ, suc, ◌+◌, ◌<◌, ◌≤◌, ◌^◌, ◌↔◌, ℤ, pos, negsuc, List, [], ◌∷◌, ◌++◌, length, get_or, refl, sym, ◌∙◌, ap, subst, arith, Result, Ok, FitsSigned, decimal, rules, Option, Some, None, MatchOption, IsTrue, is_some, true, false, append_assoc}
+use Rattle.std.proofs.Common.{◌≡◌, ◌≢◌, ℕ, suc, ◌<◌, ◌≤◌, ◌^◌, ◌↔◌, ℤ, pos, negsuc, List, [], ◌∷◌, ◌++◌, length, get_or, refl, sym, ◌∙◌, ap, subst, arith, Result, Ok, FitsSigned, decimal, rules, Option, Some, None, MatchOption, IsTrue, is_some, true, false, append_assoc}
 use Rattle.std.specs.Fmt.{signed_decimal}
 use Rattle.std.specs.Int.{w64}
 use Rattle.std.specs.Str.Parse.{AllDigits, digits_value, ParsesUnsigned, ParsesSigned}
@@ -115,14 +115,15 @@ lists_none word f = let count = has_one f.1 in let few = f.2 in omega arith
 
 lists_first : (most less : ℕ) → most ≡ suc less → (word first rest : List ℕ) → word ≡ first ++ 44 ∷ rest → NoComma first → (n : ℤ) → IsInt first n → Lists most word ↔ Lists less rest
 lists_first most less e word first rest split p n s = (
-    λ (f : Lists most word). (
-        let c = list_cut f.1 first rest split p in
-        let count : length f.0 ≡ suc (length c.ints) = ap length c.whole in
-        let few = f.2 in
-        (c.ints, c.listed, omega arith)),
-    λ (f : Lists less rest). (
-        let few = f.2 in
-        (n ∷ f.0, subst (λ w. IsIntList w (n ∷ f.0)) (sym split) (more s f.1), omega arith)))
+  λ (f : Lists most word). (
+      let c = list_cut f.1 first rest split p in
+      let count : length f.0 ≡ suc (length c.ints) = ap length c.whole in
+      let few = f.2 in
+      (c.ints, c.listed, omega arith)),
+  λ (f : Lists less rest). (
+      let few = f.2 in
+      (n ∷ f.0, subst (λ w. IsIntList w (n ∷ f.0)) (sym split) (more s f.1), omega arith)),
+)
 
 -- a turn of the loop: the first int is taken
 pub lists_on : (most less : ℕ) → most ≡ suc less → (whole word first rest : List ℕ) → word ≡ first ++ 44 ∷ rest → NoComma first → (n : ℤ) → IsInt first n → Lists most word ↔ Lists 1000 whole → Lists less rest ↔ Lists 1000 whole

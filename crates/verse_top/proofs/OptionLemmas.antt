@@ -1,5 +1,5 @@
 -- What the first words give, and that words give the options in one way.
-use Rattle.std.proofs.Common.{◌≡◌, ℕ, ◌≤◌, ◌^◌, ◌<◌, ◌↔◌, Bool, true, false, Option, Some, None, List, [], ◌∷◌, codes, refl, sym, ◌∙◌, ap, subst, arith, length, map}
+use Rattle.std.proofs.Common.{◌≡◌, ℕ, true, false, Some, None, List, [], ◌∷◌, codes, refl, sym, ◌∙◌, ap, subst, arith, length, map}
 use Rattle.verse_top.specs.Words.{Given, Gives, IsNumber, none_left, steps, until, inputs, heap}
 use Rattle.verse_top.specs.Settings.{Continues, Wrong}
 use Rattle.verse_top.proofs.NumberLemmas.{number_once}
@@ -117,49 +117,53 @@ gives_once (heap fresh on) other = let p = at_heap (first other _ _ refl) refl i
 -- the first word that is left is taken, with its value
 pub on_steps : (g now : Given) (word value : List ℕ) (behind left : Words) (n : ℕ) → word ≡ codes "--steps" → behind ≡ value ∷ left → g.steps ≡ None → IsNumber 100000000 value n → now ≡ record g { steps = Some n } → Continues g (word ∷ behind) now left
 on_steps g now word value behind left n w split fresh number e h = (
-    λ (a : Gives g (word ∷ behind) h). (
-        let p = at_steps (first a word behind refl) w in
-        let same : p.value ≡ value = cc in
-        let m : p.n ≡ n = number_once 100000000 value p.n n (omega arith) (subst (λ v. IsNumber 100000000 v p.n) same p.number) number in
-        let rest : p.words ≡ left = cc in
-        let given : record g { steps = Some p.n } ≡ now = ap (λ k. record g { steps = Some k }) m ∙ sym e in
-        subst (λ k. Gives k left h) given (subst (λ ws. Gives (record g { steps = Some p.n }) ws h) rest p.on)),
-    λ (b : Gives now left h). (
-        let words : codes "--steps" ∷ value ∷ left ≡ word ∷ behind = cc in
-        subst (λ ws. Gives g ws h) words (steps n fresh number (subst (λ k. Gives k left h) e b))))
+  λ (a : Gives g (word ∷ behind) h). (
+      let p = at_steps (first a word behind refl) w in
+      let same : p.value ≡ value = cc in
+      let m : p.n ≡ n = number_once 100000000 value p.n n (omega arith) (subst (λ v. IsNumber 100000000 v p.n) same p.number) number in
+      let rest : p.words ≡ left = cc in
+      let given : record g { steps = Some p.n } ≡ now = ap (λ k. record g { steps = Some k }) m ∙ sym e in
+      subst (λ k. Gives k left h) given (subst (λ ws. Gives (record g { steps = Some p.n }) ws h) rest p.on)),
+  λ (b : Gives now left h). (
+      let words : codes "--steps" ∷ value ∷ left ≡ word ∷ behind = cc in
+      subst (λ ws. Gives g ws h) words (steps n fresh number (subst (λ k. Gives k left h) e b))),
+)
 
 pub on_until : (g now : Given) (word value : List ℕ) (behind left : Words) (n : ℕ) → word ≡ codes "--until" → behind ≡ value ∷ left → g.until ≡ None → IsNumber 1000000000000 value n → now ≡ record g { until = Some n } → Continues g (word ∷ behind) now left
 on_until g now word value behind left n w split fresh number e h = (
-    λ (a : Gives g (word ∷ behind) h). (
-        let p = at_until (first a word behind refl) w in
-        let same : p.value ≡ value = cc in
-        let m : p.n ≡ n = number_once 1000000000000 value p.n n (omega arith) (subst (λ v. IsNumber 1000000000000 v p.n) same p.number) number in
-        let rest : p.words ≡ left = cc in
-        let given : record g { until = Some p.n } ≡ now = ap (λ k. record g { until = Some k }) m ∙ sym e in
-        subst (λ k. Gives k left h) given (subst (λ ws. Gives (record g { until = Some p.n }) ws h) rest p.on)),
-    λ (b : Gives now left h). (
-        let words : codes "--until" ∷ value ∷ left ≡ word ∷ behind = cc in
-        subst (λ ws. Gives g ws h) words (until n fresh number (subst (λ k. Gives k left h) e b))))
+  λ (a : Gives g (word ∷ behind) h). (
+      let p = at_until (first a word behind refl) w in
+      let same : p.value ≡ value = cc in
+      let m : p.n ≡ n = number_once 1000000000000 value p.n n (omega arith) (subst (λ v. IsNumber 1000000000000 v p.n) same p.number) number in
+      let rest : p.words ≡ left = cc in
+      let given : record g { until = Some p.n } ≡ now = ap (λ k. record g { until = Some k }) m ∙ sym e in
+      subst (λ k. Gives k left h) given (subst (λ ws. Gives (record g { until = Some p.n }) ws h) rest p.on)),
+  λ (b : Gives now left h). (
+      let words : codes "--until" ∷ value ∷ left ≡ word ∷ behind = cc in
+      subst (λ ws. Gives g ws h) words (until n fresh number (subst (λ k. Gives k left h) e b))),
+)
 
 pub on_inputs : (g now : Given) (word value : List ℕ) (behind left : Words) → word ≡ codes "--in" → behind ≡ value ∷ left → g.inputs ≡ None → now ≡ record g { inputs = Some value } → Continues g (word ∷ behind) now left
 on_inputs g now word value behind left w split fresh e h = (
-    λ (a : Gives g (word ∷ behind) h). (
-        let p = at_inputs (first a word behind refl) w in
-        let same : p.value ≡ value = cc in
-        let rest : p.words ≡ left = cc in
-        let given : record g { inputs = Some p.value } ≡ now = ap (λ k. record g { inputs = Some k }) same ∙ sym e in
-        subst (λ k. Gives k left h) given (subst (λ ws. Gives (record g { inputs = Some p.value }) ws h) rest p.on)),
-    λ (b : Gives now left h). (
-        let words : codes "--in" ∷ value ∷ left ≡ word ∷ behind = cc in
-        subst (λ ws. Gives g ws h) words (inputs fresh (subst (λ k. Gives k left h) e b))))
+  λ (a : Gives g (word ∷ behind) h). (
+      let p = at_inputs (first a word behind refl) w in
+      let same : p.value ≡ value = cc in
+      let rest : p.words ≡ left = cc in
+      let given : record g { inputs = Some p.value } ≡ now = ap (λ k. record g { inputs = Some k }) same ∙ sym e in
+      subst (λ k. Gives k left h) given (subst (λ ws. Gives (record g { inputs = Some p.value }) ws h) rest p.on)),
+  λ (b : Gives now left h). (
+      let words : codes "--in" ∷ value ∷ left ≡ word ∷ behind = cc in
+      subst (λ ws. Gives g ws h) words (inputs fresh (subst (λ k. Gives k left h) e b))),
+)
 
 pub on_heap : (g now : Given) (word : List ℕ) (left : Words) → word ≡ codes "--heap" → g.heap ≡ false → now ≡ record g { heap = true } → Continues g (word ∷ left) now left
 on_heap g now word left w fresh e h = (
-    λ (a : Gives g (word ∷ left) h). (
-        let p = at_heap (first a word left refl) w in
-        subst (λ k. Gives k left h) (sym e) p.on),
-    λ (b : Gives now left h). (
-        subst (λ v. Gives g (v ∷ left) h) (sym w) (heap fresh (subst (λ k. Gives k left h) e b))))
+  λ (a : Gives g (word ∷ left) h). (
+      let p = at_heap (first a word left refl) w in
+      subst (λ k. Gives k left h) (sym e) p.on),
+  λ (b : Gives now left h). (
+      subst (λ v. Gives g (v ∷ left) h) (sym w) (heap fresh (subst (λ k. Gives k left h) e b))),
+)
 
 -- the words that are left give nothing
 pub off_steps : (g : Given) (word value : List ℕ) (behind left : Words) → word ≡ codes "--steps" → behind ≡ value ∷ left → ((n : ℕ) → g.steps ≡ None → ¬ (IsNumber 100000000 value n)) → Wrong g (word ∷ behind)

@@ -66,11 +66,11 @@ pub data Inputs : Option (List ℕ) → List ℤ → Type 0 where
 -- an option that is not given has its default
 abbrev pub options_of : Given → List ℤ → Options
 options_of g ns = record {
-    steps = unwrap_or g.steps 10000000;
-    until = unwrap_or g.until 1000000000000;
-    inputs = ns;
-    heap = g.heap
-  }
+  steps = unwrap_or g.steps 10000000;
+  until = unwrap_or g.until 1000000000000;
+  inputs = ns;
+  heap = g.heap;
+}
 
 -- the words after the program's name, and the command that they are
 pub data Says : List (List ℕ) → Command → Type 0 where

@@ -1,9 +1,14 @@
 //! The words after the program's name, and the command that they are.
-ghost use Rattle.std.specs.Prelude.{◌≡◌, ◌↔◌, ℤ, List, IsTrue, MatchOption, map, string_bytes, option_copied};
+ghost use Rattle.std.specs.Prelude.{◌≡◌, ◌↔◌, ℤ, List, IfOk, IsTrue, MatchOption, map, string_bytes, option_copied};
 ghost use Rattle.verse_top.specs.Words.{Command, Inputs, IsFile, SayOnce, Says, run};
 
-use crate::numbers::{is, lists_inputs};
+#[cfg(test)]
+mod tests;
+
+use crate::numbers::{inputs, is, lists_inputs};
 use crate::options::all_options;
+use std::alloc::Global;
+use verse_base::refusals::Memory;
 
 /// The steps that a run may spend where the words don't say.
 const DEFAULT_STEPS: u64 = 10000000;
@@ -20,11 +25,23 @@ pub(crate) struct Request<'a> {
     pub(crate) heap: bool,
 }
 
+impl Request<'_> {
+    /// What Main is given.
+    pub(crate) fn ints(&self, alloc: Global) -> Result<Vec<i64>, Memory>
+        requires { (ns : List ℤ) × Inputs (option_copied self.now.inputs) ns }
+        ensures { IfOk result (λ v. Inputs (option_copied self.now.inputs) v.items) }
+    {
+        match self.inputs {
+            Some(word) => inputs(alloc, word),
+            None => Ok(Vec::new(alloc)),
+        }
+    }
+}
+
 /// No words are two commands.
 pub fn words_say_once()
     ensures { SayOnce }
-{
-}
+{}
 
 /// Whether these words, those after the program's name, are a command.
 pub fn words_fit(words: &[String]) -> bool

@@ -28,7 +28,11 @@ pub(crate) fn number(word: &str, most: u64) -> Option<u64>
         return None;
     }
     let mut buffer = Buffer::new();
-    if is(word, buffer.format(number)) { Some(number) } else { None }
+    if is(word, buffer.format(number)) {
+        Some(number)
+    } else {
+        None
+    }
 }
 
 /// The int of a word.
@@ -39,7 +43,11 @@ fn int(word: &str) -> Option<i64>
         return None;
     };
     let mut buffer = Buffer::new();
-    if is(word, buffer.format(int)) { Some(int) } else { None }
+    if is(word, buffer.format(int)) {
+        Some(int)
+    } else {
+        None
+    }
 }
 
 /// Whether a word lists 1 to 1000 ints.

@@ -23,7 +23,12 @@ pub(crate) struct Settings<'a> {
 pub(crate) fn all_options(words: &[String]) -> Option<Settings<'_>>
     ensures { MatchOption result (Wrong no_options (map string_bytes words.now)) (λ s. Gives no_options (map string_bytes words.now) (given_of s)) }
 {
-    let mut given = Settings { steps: None, until: None, inputs: None, heap: false };
+    let mut given = Settings {
+        steps: None,
+        until: None,
+        inputs: None,
+        heap: false,
+    };
     let mut rest = words;
     while let Some((word, behind)) = rest.split_first() {
         (given, rest) = option(given, word.as_str(), behind)?;
@@ -31,7 +36,11 @@ pub(crate) fn all_options(words: &[String]) -> Option<Settings<'_>>
     Some(given)
 }
 
-fn option<'a>(given: Settings<'a>, word: &str, behind: &'a [String]) -> Option<(Settings<'a>, &'a [String])>
+fn option<'a>(
+    given: Settings<'a>,
+    word: &str,
+    behind: &'a [String],
+) -> Option<(Settings<'a>, &'a [String])>
     ensures gives { MatchOption result (Wrong (given_of given.entry) (word.now ∷ map string_bytes behind.now))
         (λ r. Continues (given_of given.entry) (word.now ∷ map string_bytes behind.now) (given_of r.0) (map string_bytes r.1.now)) }
     ensures shorter { IfSome result (λ r. length r.1.now ≤ length behind.now) }
@@ -58,7 +67,10 @@ fn heap<'a>(given: Settings<'a>) -> Option<Settings<'a>>
     if given.heap {
         return None;
     }
-    Some(Settings { heap: true, ..given })
+    Some(Settings {
+        heap: true,
+        ..given
+    })
 }
 
 fn steps<'a>(given: Settings<'a>, value: &str) -> Option<Settings<'a>>
@@ -69,7 +81,10 @@ fn steps<'a>(given: Settings<'a>, value: &str) -> Option<Settings<'a>>
         return None;
     }
     let steps = number(value, MOST_STEPS)?;
-    Some(Settings { steps: Some(steps), ..given })
+    Some(Settings {
+        steps: Some(steps),
+        ..given
+    })
 }
 
 fn until<'a>(given: Settings<'a>, value: &str) -> Option<Settings<'a>>
@@ -80,7 +95,10 @@ fn until<'a>(given: Settings<'a>, value: &str) -> Option<Settings<'a>>
         return None;
     }
     let until = number(value, MOST_UNTIL)?;
-    Some(Settings { until: Some(until), ..given })
+    Some(Settings {
+        until: Some(until),
+        ..given
+    })
 }
 
 fn inputs<'a>(given: Settings<'a>, value: &'a str) -> Option<Settings<'a>>
@@ -90,5 +108,8 @@ fn inputs<'a>(given: Settings<'a>, value: &'a str) -> Option<Settings<'a>>
     if given.inputs.is_some() {
         return None;
     }
-    Some(Settings { inputs: Some(value), ..given })
+    Some(Settings {
+        inputs: Some(value),
+        ..given
+    })
 }

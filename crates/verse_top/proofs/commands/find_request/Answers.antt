@@ -1,6 +1,5 @@
 -- The words are `run`, a file's name and options.
-use Rattle.std.proofs.Common.{◌≡◌, ◌∷◌, List, ℕ, ℤ, map, string_bytes, codes, option_copied, ap, sym, ◌∙◌, IsTrue, false}
-use Rattle.verse_top.specs.Words.{Inputs}
+use Rattle.std.proofs.Common.{◌≡◌, ◌∷◌, map, string_bytes, codes, ap, sym, ◌∙◌, IsTrue}
 use Rattle.verse_top.specs.Settings.{given_of}
 use Rattle.verse_top.proofs.CommandLemmas.{Reads, no_inputs, reads_run}
 use Rattle.verse_top.proofs.commands.find_request.Goals as goal

@@ -1,5 +1,5 @@
 -- A file's name by its first byte.
-use Rattle.std.proofs.Common.{◌≡◌, subst, ◌≤◌, length, IsTrue, not, nat_eq, slice_index_or, ◌↔◌, List, ℕ}
+use Rattle.std.proofs.Common.{subst, IsTrue, not, nat_eq, slice_index_or, ◌↔◌, List, ℕ}
 use Rattle.verse_top.specs.Words.{IsFile}
 use Rattle.verse_top.proofs.CommandLemmas.{file_test}
 use Rattle.verse_top.proofs.commands.is_file.Goals as goal

@@ -1,5 +1,5 @@
 -- The word is cut at its commas.
-use Rattle.std.proofs.Common.{◌≡◌, ◌++◌, ◌∷◌, [], List, ℤ, rules, arith}
+use Rattle.std.proofs.Common.{◌≡◌, ◌++◌, ◌∷◌, [], rules}
 use Rattle.verse_top.proofs.NumberLemmas.{cut_at, missing_end, missing_first, missing_last, missing_on}
 use Rattle.verse_top.proofs.numbers.inputs.Goals as goal
 
@@ -15,8 +15,8 @@ loop-first-preserved c =
     let at = rw c.in-Some.is at cut in
     let pushed : c.push.new.self.items ≡ c.loop-first.inputs.items ++ c.listed.result ∷ [] = search rules in
     record {
-        text = search rules;
-        missing = missing_on c.args.word.now c.loop-first.rest.now c.in-Some.first.now c.in-Some.others.now c.loop-first.inputs.items c.push.new.self.items c.listed.result at.0 at.1 c.listed.ensures pushed c.loop-first.invariant.missing
+      text = search rules;
+      missing = missing_on c.args.word.now c.loop-first.rest.now c.in-Some.first.now c.in-Some.others.now c.loop-first.inputs.items c.push.new.self.items c.listed.result at.0 at.1 c.listed.ensures pushed c.loop-first.invariant.missing;
     }
 
 pub listed-requires-2 : goal.listed-requires-2

@@ -1,5 +1,5 @@
 -- An int reads as itself, and its text is written again.
-use Rattle.std.proofs.Common.{◌≡◌, refl, sym, ◌∙◌, ap, arith, rules, IsTrue}
+use Rattle.std.proofs.Common.{◌≡◌, sym, ◌∙◌, ap, rules, IsTrue}
 use Rattle.std.specs.Fmt.{signed_decimal}
 use Rattle.verse_top.proofs.NumberLemmas.{int_reads}
 use Rattle.verse_top.proofs.numbers.int.Goals as goal

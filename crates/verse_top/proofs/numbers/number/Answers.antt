@@ -1,5 +1,5 @@
 -- A number reads as itself, and its text is written again.
-use Rattle.std.proofs.Common.{◌≡◌, refl, sym, ◌∙◌, ap, arith, decimal, rules, IsTrue}
+use Rattle.std.proofs.Common.{◌≡◌, sym, ◌∙◌, ap, arith, decimal, rules, IsTrue}
 use Rattle.verse_top.proofs.NumberLemmas.{number_reads}
 use Rattle.verse_top.proofs.numbers.number.Goals as goal
 

@@ -1,5 +1,5 @@
 -- The words that are left give, with the options so far, what all the words give.
-use Rattle.std.proofs.Common.{◌↔◌, List, length, map, string_bytes}
+use Rattle.std.proofs.Common.{length, map, string_bytes}
 use Rattle.verse_top.specs.Words.{no_options}
 use Rattle.verse_top.specs.Settings.{Continues, given_of}
 use Rattle.verse_top.proofs.options.all_options.Given as goal
