@@ -9,3 +9,4 @@ pub mod Runs
 pub mod Longest
 pub mod Parts
 pub mod Spelled
+pub mod Files

@@ -8,6 +8,9 @@ use Rattle.verse_lex.specs.Numbers.{decimal, hexadecimal, thousandths}
 use Rattle.verse_lex.specs.Texts.{escape}
 use Rattle.verse_lex.specs.Comments.{closes, opens, is_lone}
 use Rattle.verse_lex.specs.Pieces.{escape_of, in_literal, is_lone_at, breaks_hole, piece_at}
+use Rattle.verse_lex.specs.Contents.{text_of}
+use Rattle.verse_lex.specs.Cut.{mark_len, first_place, after, AreTokens}
+use Rattle.verse_lex.specs.declared.tokens.Token.{Token}
 use Rattle.verse_lex.specs.declared.rules.TheConstants.{UNEXPECTED, TEXT_END, COMMENT_END, ESCAPE, INTEGER, DURATION, CHARACTER}
 use Rattle.verse_lex.specs.declared.texts.Ending.{Ending}
 use Rattle.verse_lex.specs.declared.texts.Ending.TheVariants as e
@@ -169,3 +172,30 @@ Explains within bs n.HoleEnd = (within ≡ true) × Unended bs
 
 abbrev pub EachExplained : Type 0
 EachExplained = (within : Bool) (bs : List ℕ) → Explains within bs (piece_at within bs)
+
+-- The file is cut round this token: a byte-order mark, the bytes before it, its own, those behind.
+pub record IsSpelled (file : ℕ) (bs : List ℕ) (t : Token) : Type 0 where
+  pub within : Bool
+  pub mark : List ℕ
+  pub before : List ℕ
+  pub front : List ℕ
+  pub behind : List ℕ
+  pub whole : bs ≡ mark ++ (before ++ (front ++ behind))
+  pub marked : length mark ≡ mark_len bs
+  pub start : t.start ≡ length mark + length before
+  pub stop : t.end ≡ length mark + length before + length front
+  pub place : t.place ≡ after (first_place file) before
+  pub spelled : Spells within front (is_token t.kind)
+
+abbrev pub EachSpelled : ℕ → List ℕ → List Token → Type 0
+EachSpelled file bs [] = Unit {0}
+EachSpelled file bs (t ∷ ts) = IsSpelled file bs t × EachSpelled file bs ts
+
+-- the tokens of a file are spelled by the bytes of their spans, and stand at their places
+abbrev pub TokensSpelled : Type 0
+TokensSpelled = (file : ℕ) (bs : List ℕ) (ts : List Token) → AreTokens file bs ts → EachSpelled file bs ts
+
+-- the bytes of a text token are what its characters stand for
+abbrev pub TextsMean : Type 0
+TextsMean = (before behind cs ms : List ℕ) (q r : ℕ) (t : Token) → t.start ≡ length before → t.end ≡ length before + length (q ∷ (cs ++ r ∷ [])) → Chars cs ms →
+    text_of (before ++ ((q ∷ (cs ++ r ∷ [])) ++ behind)) t ≡ ms

@@ -1,7 +1,7 @@
 //! Laws of the definitions.
 
 ghost use Rattle.verse_lex.specs.Cut.{OneCut, OneRefusal, CutOrRefused};
-ghost use Rattle.verse_lex.specs.Spelling.{NoneLonger, EachExplained};
+ghost use Rattle.verse_lex.specs.Spelling.{NoneLonger, EachExplained, TokensSpelled, TextsMean};
 
 /// A file is cut in at most one way, it is refused in at most one, and never both.
 pub fn one_cut()
@@ -15,4 +15,11 @@ pub fn one_cut()
 pub fn spelled_pieces()
     ensures longest { NoneLonger }
     ensures spelled { EachExplained }
+{}
+
+/// The tokens of a file are spelled by the bytes of their spans and stand at their places, and the
+/// bytes of a text token are what its characters stand for.
+pub fn spelled_tokens()
+    ensures tokens { TokensSpelled }
+    ensures texts { TextsMean }
 {}
