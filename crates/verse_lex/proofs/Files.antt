@@ -1,11 +1,9 @@
 -- The tokens of a file are spelled by their bytes.
-use Rattle.std.proofs.Common.{◌≡◌, ℕ, zero, suc, ◌+◌, ◌-◌, ◌≤◌, ◌==◌, ◌&&◌, Bool, true, false, not, List, [], ◌∷◌, ◌++◌, Option, Some, None, length, take, drop, if◌then◌else◌, refl, sym, ◌∙◌, ap, arith, subst, append_assoc, append-nil, length-append, length-take, length-drop, take-append-drop, add-one}
-use Rattle.std.specs.Prelude.{unwrap_or}
+use Rattle.std.proofs.Common.{◌≡◌, ℕ, suc, ◌+◌, ◌-◌, Bool, List, [], ◌∷◌, ◌++◌, length, take, drop, refl, sym, ◌∙◌, ap, arith, subst, append_assoc, length-append, length-take, take-append-drop}
 use Rattle.verse_base.specs.declared.places.Place.{Place}
 use Rattle.verse_lex.specs.Pieces.{piece_at}
-use Rattle.verse_lex.specs.Texts.{escape}
-use Rattle.verse_lex.specs.Contents.{unescaped, between, text_of}
-use Rattle.verse_lex.specs.Cut.{Cuts, cuts_none, cuts_separator, cuts_line, cuts_token, in_hole, mark_len, body, first_place, after, step, AreTokens}
+use Rattle.verse_lex.specs.Contents.{unescaped, between}
+use Rattle.verse_lex.specs.Cut.{Cuts, cuts_none, cuts_separator, cuts_line, cuts_token, in_hole, mark_len, first_place, after, step}
 use Rattle.verse_lex.specs.Spelling as s
 use Rattle.verse_lex.specs.Spelling.{Chars, Piece, BeginsWith, Explains, IsSpelled, EachSpelled, TokensSpelled, TextsMean}
 use Rattle.verse_lex.specs.declared.tokens.Token.{Token}

@@ -1,14 +1,13 @@
 -- Each piece is the longest that is spelled at its place.
-use Rattle.std.proofs.Common.{◌≡◌, ℕ, zero, suc, ◌+◌, ◌≤◌, ◌==◌, ◌&&◌, ◌||◌, Bool, true, false, List, [], ◌∷◌, ◌++◌, Option, Some, None, length, take, drop, if◌then◌else◌, refl, sym, ◌∙◌, not, ap, arith, subst, append_assoc, length-append, add-one}
+use Rattle.std.proofs.Common.{◌≡◌, ℕ, suc, ◌+◌, ◌≤◌, ◌==◌, ◌&&◌, ◌||◌, Bool, true, false, List, [], ◌∷◌, ◌++◌, Option, Some, None, length, take, drop, if◌then◌else◌, refl, sym, ◌∙◌, not, ap, arith, subst, append_assoc, length-append, add-one}
 use Rattle.std.specs.Prelude.{◌^◌, pos, slice_get, nat_le, nat_lt}
 use Rattle.std.proofs.lemmas.Bool.Decides.{nat_tests}
 use Rattle.std.proofs.lemmas.List.Sums.{take_while-cons}
-use Rattle.verse_lex.specs.Bytes.{is_letter, is_digit, is_hex_digit, is_blank, in_name, in_line, is_at, letter_at, digit_at, passes, run}
-use Rattle.verse_lex.specs.Words.{look_up, name_kind}
+use Rattle.verse_lex.specs.Bytes.{is_letter, is_digit, is_hex_digit, is_blank, in_name, in_line, is_at, letter_at, passes, run}
 use Rattle.verse_lex.specs.Marks.{doubles, singles}
-use Rattle.verse_lex.specs.Texts.{escape, text_chars, further}
-use Rattle.verse_lex.specs.Comments.{closing, beyond, closes, opens, is_lone}
-use Rattle.verse_lex.specs.Pieces.{piece_at, next_plain, next_hole, common, name, number, mark, mark_next, double_mark, comment, comment_next, in_literal, is_lone_at, is_hexadecimal, has_fraction, hexadecimal_number, fractional_number, integer, ended, duration}
+use Rattle.verse_lex.specs.Texts.{text_chars, further}
+use Rattle.verse_lex.specs.Comments.{closing, beyond}
+use Rattle.verse_lex.specs.Pieces.{piece_at, common, name, number, mark, mark_next, double_mark, comment, comment_next, is_lone_at, is_hexadecimal, has_fraction, hexadecimal_number, fractional_number, integer, ended, duration}
 use Rattle.verse_lex.specs.Numbers.{decimal, hexadecimal, thousandths}
 use Rattle.verse_lex.specs.Spelling as s
 use Rattle.verse_lex.specs.Spelling.{all_pass, Body, Chars, Literal, Number, Piece, Spells, Reaches, NoneLonger}

@@ -1,32 +1,21 @@
 -- Runs, texts and comments by their parts.
-use Rattle.std.proofs.Common.{◌≡◌, ℕ, zero, suc, ◌+◌, ◌≤◌, ◌==◌, ◌&&◌, ◌||◌, Bool, true, false, List, [], ◌∷◌, ◌++◌, Option, Some, None, length, take, drop, if◌then◌else◌, refl, sym, ◌∙◌, not, ap, arith, subst, append_assoc, length-append, length-take, add-one, take-append-drop, zero-add, append-nil}
+use Rattle.std.proofs.Common.{◌≡◌, ℕ, zero, suc, ◌+◌, ◌==◌, ◌&&◌, Bool, true, false, List, [], ◌∷◌, ◌++◌, Option, Some, None, length, take, drop, if◌then◌else◌, refl, sym, ◌∙◌, ap, arith, subst, append_assoc, zero-add, append-nil}
 use Rattle.std.proofs.Math.Nat.{suc-add}
-use Rattle.std.specs.Prelude.{◌^◌, pos, slice_get, nat_le, nat_lt}
-use Rattle.std.proofs.lemmas.Bool.Decides.{nat_tests}
+use Rattle.std.specs.Prelude.{slice_get}
 use Rattle.std.proofs.lemmas.List.Sums.{take_while-cons}
-use Rattle.verse_lex.specs.Bytes.{is_letter, is_digit, is_hex_digit, is_blank, in_name, in_line, is_at, letter_at, digit_at, passes, run}
-use Rattle.verse_lex.specs.Words.{look_up, name_kind}
-use Rattle.verse_lex.specs.Marks.{doubles, singles}
-use Rattle.verse_lex.specs.Numbers.{decimal, hexadecimal, thousandths}
+use Rattle.verse_lex.specs.Bytes.{is_at, passes, run}
 use Rattle.verse_lex.specs.Texts.{escape, text_chars, behind_backslash, if_escape, further}
 use Rattle.verse_lex.specs.Comments.{closing, beyond, closes, opens, is_lone}
-use Rattle.verse_lex.specs.Pieces.{piece_at, next_plain, next_hole, common, name, number, hexadecimal_number, fractional_number, integer, ended, duration, mark, mark_next, double_mark, comment, comment_next, begins_comment, in_literal, literal_end, is_lone_at, is_hexadecimal, has_fraction, escape_of, breaks_hole, carriage_return}
+use Rattle.verse_lex.specs.Pieces.{is_lone_at}
 use Rattle.verse_lex.specs.Spelling as s
 use Rattle.verse_lex.specs.Spelling.{all_pass, is_plain, Body, Chars, Literal, Number, Piece, Spells, Stops, NoBody, NoLiteral, LongestNumber, IsStray, Breaks, Unended, BeginsWith, Explains, EachExplained}
-use Rattle.verse_base.specs.declared.refusals.Rule.{Rule}
-use Rattle.verse_lex.specs.declared.rules.TheConstants.{UNEXPECTED, TEXT_END, COMMENT_END, ESCAPE, INTEGER, DURATION, CHARACTER}
-use Rattle.verse_lex.specs.declared.tokens.Mark.{Mark}
-use Rattle.verse_lex.specs.declared.tokens.TokenKind.{TokenKind}
-use Rattle.verse_lex.specs.declared.tokens.TokenKind.TheVariants as k
+use Rattle.verse_lex.specs.declared.rules.TheConstants.{UNEXPECTED, ESCAPE}
 use Rattle.verse_lex.specs.declared.texts.Ending.{Ending}
 use Rattle.verse_lex.specs.declared.texts.Ending.TheVariants as e
 use Rattle.verse_lex.specs.declared.comments.Close.{Close}
 use Rattle.verse_lex.specs.declared.comments.Close.TheVariants as close
-use Rattle.verse_lex.specs.declared.pieces.Next.{Next}
-use Rattle.verse_lex.specs.declared.pieces.Next.TheVariants as n
-use Rattle.verse_lex.proofs.Bounds.{run_within}
-use Rattle.verse_lex.proofs.Runs.{equal, other_byte, both, digit_no_letter, run_reach, run_stops, at_end, behind_end, drop_end, AllRows, in_table}
-use Rattle.verse_lex.proofs.Longest.{number_len, number_reach, body_closes}
+use Rattle.verse_lex.proofs.Runs.{equal, both}
+use Rattle.verse_lex.proofs.Longest.{body_closes}
 
 -- a run of bytes that pass, and what stands behind it
 pub record Run (p : ℕ → Bool) (bs : List ℕ) : Type 0 where

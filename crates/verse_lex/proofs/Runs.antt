@@ -1,11 +1,11 @@
 -- Tests of bytes, runs of bytes, and tables.
-use Rattle.std.proofs.Common.{◌≡◌, ℕ, zero, suc, ◌+◌, ◌-◌, ◌<◌, ◌≤◌, ◌==◌, ◌&&◌, ◌||◌, Bool, true, false, List, [], ◌∷◌, ◌++◌, Option, Some, None, length, take, drop, if◌then◌else◌, refl, sym, ◌∙◌, not, ap, arith, subst, append_assoc, length-append}
+use Rattle.std.proofs.Common.{◌≡◌, ℕ, suc, ◌≤◌, ◌==◌, ◌&&◌, Bool, true, false, List, [], ◌∷◌, ◌++◌, Option, Some, length, drop, if◌then◌else◌, refl, sym, arith, subst}
 use Rattle.std.specs.Prelude.{nat_eq, slice_get}
 use Rattle.std.specs.Cmp.Lexicographic.{pointwise}
 use Rattle.std.proofs.lemmas.List.Sums.{take_while-cons}
 use Rattle.std.proofs.lemmas.Bool.{eqb-true}
 use Rattle.std.proofs.lemmas.Bool.Decides.{nat_tests}
-use Rattle.verse_lex.specs.Bytes.{is_letter, is_digit, is_hex_digit, is_blank, in_name, is_at, passes, run}
+use Rattle.verse_lex.specs.Bytes.{is_letter, is_digit, run}
 use Rattle.verse_lex.specs.Words.{look_up}
 use Rattle.verse_lex.specs.Spelling.{all_pass}
 

@@ -1,20 +1,17 @@
 -- What begins at a place is spelled, or breaks a rule.
-use Rattle.std.proofs.Common.{◌≡◌, ℕ, zero, suc, ◌+◌, ◌≤◌, ◌==◌, ◌&&◌, ◌||◌, Bool, true, false, List, [], ◌∷◌, ◌++◌, Option, Some, None, length, take, drop, if◌then◌else◌, refl, sym, ◌∙◌, not, ap, arith, subst, append_assoc, length-append, length-take, add-one, take-append-drop, zero-add, add-zero, append-nil}
-use Rattle.std.proofs.Math.Nat.{suc-add}
+use Rattle.std.proofs.Common.{◌≡◌, ℕ, suc, ◌+◌, ◌≤◌, ◌==◌, ◌&&◌, ◌||◌, Bool, true, false, List, [], ◌∷◌, ◌++◌, Option, Some, None, length, take, drop, if◌then◌else◌, refl, sym, ◌∙◌, not, ap, arith, subst, append_assoc, length-append, add-zero}
 use Rattle.std.specs.Prelude.{◌^◌, pos, slice_get, nat_le, nat_lt}
-use Rattle.std.proofs.lemmas.Bool.Decides.{nat_tests}
-use Rattle.std.proofs.lemmas.List.Sums.{take_while-cons}
 use Rattle.verse_lex.specs.Bytes.{is_letter, is_digit, is_hex_digit, is_blank, in_name, in_line, is_at, is_byte, letter_at, digit_at, passes, run}
 use Rattle.verse_lex.specs.Words.{look_up, name_kind}
 use Rattle.verse_lex.specs.Marks.{doubles, singles}
 use Rattle.verse_lex.specs.Numbers.{decimal, hexadecimal, thousandths}
-use Rattle.verse_lex.specs.Texts.{escape, text_chars, behind_backslash, if_escape, further}
-use Rattle.verse_lex.specs.Comments.{closing, beyond, closes, opens, is_lone}
-use Rattle.verse_lex.specs.Pieces.{piece_at, next_plain, next_hole, common, name, number, hexadecimal_number, fractional_number, integer, ended, duration, mark, mark_next, double_mark, comment, comment_next, begins_comment, in_literal, literal, literal_escape, literal_end, text_next, text, text_on, line_comment, is_lone_at, is_hexadecimal, has_fraction, escape_of, breaks_hole, carriage_return}
+use Rattle.verse_lex.specs.Texts.{escape, further}
+use Rattle.verse_lex.specs.Comments.{closing}
+use Rattle.verse_lex.specs.Pieces.{next_plain, next_hole, common, name, number, hexadecimal_number, fractional_number, integer, ended, duration, mark, mark_next, comment, comment_next, begins_comment, in_literal, literal, literal_escape, literal_end, text_next, text, text_on, line_comment, is_lone_at, is_hexadecimal, has_fraction, escape_of, breaks_hole, carriage_return}
 use Rattle.verse_lex.specs.Spelling as s
 use Rattle.verse_lex.specs.Spelling.{all_pass, is_plain, Body, Chars, Literal, Number, Piece, Spells, Stops, NoBody, NoLiteral, LongestNumber, IsStray, Breaks, Unended, BeginsWith, Explains, EachExplained}
 use Rattle.verse_base.specs.declared.refusals.Rule.{Rule}
-use Rattle.verse_lex.specs.declared.rules.TheConstants.{UNEXPECTED, TEXT_END, COMMENT_END, ESCAPE, INTEGER, DURATION, CHARACTER}
+use Rattle.verse_lex.specs.declared.rules.TheConstants.{UNEXPECTED, TEXT_END, ESCAPE, INTEGER, DURATION, CHARACTER}
 use Rattle.verse_lex.specs.declared.tokens.Mark.{Mark}
 use Rattle.verse_lex.specs.declared.tokens.TokenKind.{TokenKind}
 use Rattle.verse_lex.specs.declared.tokens.TokenKind.TheVariants as k
@@ -24,10 +21,9 @@ use Rattle.verse_lex.specs.declared.comments.Close.{Close}
 use Rattle.verse_lex.specs.declared.comments.Close.TheVariants as close
 use Rattle.verse_lex.specs.declared.pieces.Next.{Next}
 use Rattle.verse_lex.specs.declared.pieces.Next.TheVariants as n
-use Rattle.verse_lex.proofs.Bounds.{run_within}
-use Rattle.verse_lex.proofs.Runs.{equal, other_byte, both, digit_no_letter, run_reach, run_stops, at_end, behind_end, drop_end, AllRows, in_table}
+use Rattle.verse_lex.proofs.Runs.{equal, both, drop_end}
 use Rattle.verse_lex.proofs.Longest.{number_len, number_reach}
-use Rattle.verse_lex.proofs.Parts.{Run, run_parts, run_more, run_take, run_drop, take_front, drop_front, get_behind, Parts, text_parts, OneBody, comment_body, comment_lone, no_body}
+use Rattle.verse_lex.proofs.Parts.{run_parts, run_more, run_take, take_front, get_behind, text_parts, comment_body, comment_lone, no_body}
 
 if_explains : (within : Bool) (bs : List ℕ) (v : Bool) (x y : Next) → (v ≡ true → Explains within bs x) → (v ≡ false → Explains within bs y) → Explains within bs (if v then x else y)
 if_explains within bs true x y h g = h refl
