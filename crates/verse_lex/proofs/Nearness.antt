@@ -1,5 +1,5 @@
 -- Places are near each other.
-use Rattle.std.proofs.Common.{◌≡◌, ℕ, ◌+◌, ◌≤◌, ◌==◌, Bool, true, false, refl, arith}
+use Rattle.std.proofs.Common.{◌≡◌, ℕ, ◌+◌, ◌==◌, Bool, true, false, refl, arith}
 use Rattle.verse_base.specs.declared.places.Place.{Place}
 use Rattle.verse_lex.specs.Cut.{step, IsNear}
 

@@ -1,5 +1,5 @@
 -- Where a comment is closed, byte by byte.
-use Rattle.std.proofs.Common.{◌≡◌, ℕ, zero, suc, ◌+◌, ◌-◌, ◌<◌, true, false, List, [], ◌∷◌, refl, arith, ap, add_assoc, add-one}
+use Rattle.std.proofs.Common.{◌≡◌, ℕ, zero, suc, ◌+◌, ◌-◌, ◌<◌, true, false, List, ◌∷◌, refl, arith, ap, add_assoc, add-one}
 use Rattle.verse_lex.specs.Comments.{closes, opens, is_lone, beyond, closing}
 use Rattle.verse_lex.specs.declared.comments.Close.{Close}
 use Rattle.verse_lex.specs.declared.comments.Close.TheVariants as k

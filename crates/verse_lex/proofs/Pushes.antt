@@ -52,7 +52,7 @@ one_more : (from : ℕ) (ts : List Token) (at : ℕ) (t : Token) → Rise from t
 one_more from [] at t r h g = (omega (arith, r, h), g, omega arith)
 one_more from (u ∷ ts) at t r h g = (r.0, r.1, one_more u.end ts at t r.2 h g)
 
-mark_within : (bs : List ℕ) → mark_len bs ≤ length bs
+pub mark_within : (bs : List ℕ) → mark_len bs ≤ length bs
 mark_within bs = by_mark (is_at bs 0 0xEF) (is_at bs 1 0xBB) (is_at bs 2 0xBF) refl
   where
     by_mark : (u v w : Bool) → is_at bs 2 0xBF ≡ w → (if u && (v && w) then 3 else 0) ≤ length bs

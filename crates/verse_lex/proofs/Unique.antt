@@ -1,11 +1,11 @@
 -- At most one cut goes as far as it can.
-use Rattle.std.proofs.Common.{◌≡◌, ℕ, ◌<◌, ◌⊎◌, inl, inr, Bool, true, false, List, [], ◌∷◌, length, take, drop, Some, None, refl, sym, ◌∙◌, subst, ap}
+use Rattle.std.proofs.Common.{◌≡◌, ℕ, ◌<◌, ◌⊎◌, inl, inr, Bool, true, false, List, [], ◌∷◌, length, drop, Some, None, refl, sym, ◌∙◌, subst, ap}
 use Rattle.std.proofs.Math.Seq.{take-length}
 use Rattle.std.proofs.lemmas.Bool.{cases_order}
 use Rattle.std.specs.Str.{IsUtf8, IsValidUpTo}
 use Rattle.verse_base.specs.declared.refusals.Refusal.{Refusal}
 use Rattle.verse_lex.specs.Pieces.{piece_at}
-use Rattle.verse_lex.specs.Cut.{Cuts, cuts_none, cuts_separator, cuts_line, cuts_token, in_hole, past, past_line, past_token, token, place_at, refusal_of, AreTokens, IsRefused, no_text, no_piece, OneCut, OneRefusal, CutOrRefused}
+use Rattle.verse_lex.specs.Cut.{Cuts, cuts_none, cuts_separator, cuts_line, cuts_token, in_hole, past, past_line, past_token, token, place_at, refusal_of, no_text, no_piece, OneCut, OneRefusal, CutOrRefused}
 use Rattle.verse_lex.specs.declared.tokens.TokenKind.{TokenKind}
 use Rattle.verse_lex.specs.declared.tokens.Token.{Token}
 use Rattle.verse_lex.specs.declared.pieces.Next.{Next}

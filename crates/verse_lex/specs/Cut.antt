@@ -1,8 +1,7 @@
 -- A file's bytes are cut into pieces.
-use Rattle.std.specs.Prelude.{◌≡◌, ℕ, ◌+◌, ◌-◌, ◌≤◌, ◌<◌, Bool, true, false, ◌==◌, ◌&&◌, if◌then◌else◌, List, [], ◌∷◌, length, take, drop, Option, Some, None, is_some}
+use Rattle.std.specs.Prelude.{◌≡◌, ℕ, ◌+◌, ◌-◌, ◌≤◌, ◌<◌, Bool, ◌==◌, ◌&&◌, if◌then◌else◌, List, [], ◌∷◌, length, take, drop, Option, Some, None, is_some}
 use Rattle.std.specs.Str.{IsUtf8, IsValidUpTo}
 use Rattle.verse_base.specs.declared.places.Place.{Place}
-use Rattle.verse_base.specs.declared.refusals.Rule.{Rule}
 use Rattle.verse_base.specs.declared.refusals.Refusal.{Refusal}
 use Rattle.verse_lex.specs.Bytes.{is_at, is_blank, run}
 use Rattle.verse_lex.specs.Pieces.{piece_at}

@@ -7,3 +7,4 @@ pub mod Contents
 pub mod Comments
 pub mod Pieces
 pub mod Cut
+pub mod Spelling
