@@ -1,0 +1,61 @@
+#!/usr/bin/env bash
+# What the gate does not look at: the repository's own rules, cheap to test.
+set -u
+cd "$(dirname "$0")/../.." || exit 2
+failed=0
+passed=0
+
+check() {
+  if "$@" > /tmp/repository-check.$$ 2>&1; then
+    passed=$((passed + 1))
+  else
+    failed=$((failed + 1))
+    echo "repository check failed: $*"
+    head -n 8 /tmp/repository-check.$$
+  fi
+  rm -f /tmp/repository-check.$$
+}
+
+handles_are_none() { [ "$(cat HANDLES)" = 'Handles allowed: none.' ]; }
+
+crates() { grep -v '^#' crates.txt | cut -d: -f1 | cut -d' ' -f1; }
+
+each_crate_has_edits() {
+  for name in $(crates); do
+    [ -f "crates/$name/src/main.rt" ] || compgen -G "crates/$name/must-fail/*.edit" > /dev/null || { echo "$name"; return 1; }
+  done
+}
+
+each_crate_is_described() {
+  for name in $(crates); do
+    grep -q "\*\*$name\*\*" docs/ARCHITECTURE.md || { echo "$name is not in docs/ARCHITECTURE.md"; return 1; }
+    grep -q "$name" README.md || { echo "$name is not in README.md"; return 1; }
+  done
+}
+
+files_are_short() {
+  local long
+  long=$(git ls-files 'crates/*/src/*.rt' | xargs wc -l | awk '$2 != "total" && $1 > 800 { print $2 ": " $1 }')
+  [ -z "$long" ] || { echo "$long"; return 1; }
+}
+
+no_hole_is_left() { ! git grep -nE '(^|[^A-Za-z"])\?($|[^A-Za-z.])' -- 'crates/*/proofs/*.antt' 'crates/*/proofs/**/*.antt'; }
+
+nothing_made_is_kept() { ! git ls-files | grep -E '(^|/)out/|BUILD\.bazel$'; }
+
+# The examples that the language's chapters show are those in examples/.
+examples_are_named() {
+  for file in examples/*.verse; do
+    grep -rq "$(basename "$file")" README.md docs || { echo "$file is named nowhere"; return 1; }
+  done
+}
+
+check handles_are_none
+check each_crate_has_edits
+check each_crate_is_described
+check files_are_short
+check no_hole_is_left
+check nothing_made_is_kept
+check examples_are_named
+echo "$passed passed, $failed failed"
+[ "$failed" -eq 0 ]
