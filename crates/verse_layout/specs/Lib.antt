@@ -1,0 +1,6 @@
+pub mod Roles
+pub mod Weights
+pub mod Loads
+pub mod Cells
+pub mod Written
+pub mod Frames
