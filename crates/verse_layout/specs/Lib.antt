@@ -4,3 +4,4 @@ pub mod Loads
 pub mod Cells
 pub mod Written
 pub mod Frames
+pub mod Rests

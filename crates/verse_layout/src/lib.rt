@@ -5,3 +5,4 @@ pub mod toks;
 pub mod roles;
 pub mod loads;
 pub mod frames;
+pub mod writers;
