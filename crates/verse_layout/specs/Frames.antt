@@ -75,12 +75,16 @@ leave (f ∷ fs) token text go =
     else (if is_block f.region && not (is_front f.text text) then write (close_at (spot_of token)) (leave fs token text go)
     else refuse 20 token.place)
 
+-- a token begins a block of this indentation
+abbrev pub begin_block : Here → Token → List ℕ → (Here → Walk) → Walk
+begin_block h token text go =
+    write (tok (mark_at t.Open (spot_of token)))
+    (go (record { opened = false; line = text; frames = record { region = block_in (region_at h.frames); text = text; place = token.place } ∷ h.frames }))
+
 -- a line behind an opener is the first of its block
 abbrev pub indent : Here → Token → List ℕ → (Here → Walk) → Walk
 indent h token text go =
-    if is_proper h.line text then
-      (if is_bracket_close (role_of token.kind) then refuse 21 token.place
-       else write (tok (mark_at t.Open (spot_of token))) (go (record { opened = false; line = text; frames = record { region = block_in (region_at h.frames); text = text; place = token.place } ∷ h.frames })))
+    if is_proper h.line text then (if is_bracket_close (role_of token.kind) then refuse 21 token.place else begin_block h token text go)
     else refuse 20 token.place
 
 -- what stands before a token that begins a line

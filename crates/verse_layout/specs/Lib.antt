@@ -5,3 +5,4 @@ pub mod Cells
 pub mod Written
 pub mod Frames
 pub mod Rests
+pub mod Stands

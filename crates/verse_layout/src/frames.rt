@@ -1,9 +1,12 @@
 //! The brackets and blocks that are open at a token.
 
+ghost use Rattle.std.specs.Prelude.{◌≡◌, not, ◌||◌, ◌&&◌};
+ghost use Rattle.verse_layout.specs.Roles.{role_of};
+ghost use Rattle.verse_layout.specs.Cells.{is_same, is_front, is_proper};
+ghost use Rattle.verse_layout.specs.Frames.{region_at, is_block, block_in, is_brace_close, is_bracket_close};
+ghost use Rattle.verse_layout.specs.Stands.{stack};
 
-
-
-use crate::roles::{Region, has_lines};
+use crate::roles::{Region, Role, in_braces, is_same_region};
 use verse_base::places::Place;
 
 /// A bracket or block that is open.
@@ -26,4 +29,69 @@ pub struct Stand<'a> {
     pub line: &'a [u8],
     /// The innermost frame is the last one.
     pub frames: Vec<Frame<'a>>,
+}
+
+/// Where the innermost frame is.
+pub fn region_at(frames: &[Frame]) -> Region
+    ensures { result ≡ region_at (stack frames.now) }
+{
+    match frames.last() {
+        Some(frame) => frame.region,
+        None => Region::File,
+    }
+}
+
+/// Whether it is an indented block.
+pub fn is_block(region: Region) -> bool
+    ensures { result ≡ is_block region }
+{
+    matches!(region, Region::Block | Region::BraceBlock)
+}
+
+/// What an indented block is, by what stands round it.
+pub fn block_in(region: Region) -> Region
+    ensures { result ≡ block_in region }
+{
+    if in_braces(region) { Region::BraceBlock } else { Region::Block }
+}
+
+/// Whether it is the role of a `}`.
+pub fn is_brace_close(role: Role) -> bool
+    ensures { result ≡ is_brace_close role }
+{
+    match role {
+        Role::Closes(region) => is_same_region(region, Region::Brace),
+        _ => false,
+    }
+}
+
+/// Whether it is the role of another closing bracket.
+pub fn is_bracket_close(role: Role) -> bool
+    ensures { result ≡ is_bracket_close role }
+{
+    match role {
+        Role::Closes(region) => !is_same_region(region, Region::Brace),
+        _ => false,
+    }
+}
+
+/// Whether both are the same text.
+pub fn is_same(a: &[u8], b: &[u8]) -> bool
+    ensures { result ≡ is_same a.now b.now }
+{
+    a == b
+}
+
+/// Whether the text begins with the front.
+pub fn is_front(front: &[u8], text: &[u8]) -> bool
+    ensures { result ≡ is_front front.now text.now }
+{
+    text.starts_with(front)
+}
+
+/// Whether the text begins with the front and is longer.
+pub fn is_proper(front: &[u8], text: &[u8]) -> bool
+    ensures { result ≡ is_proper front.now text.now }
+{
+    front.len() < text.len() && text.starts_with(front)
 }

@@ -6,3 +6,4 @@ pub mod roles;
 pub mod loads;
 pub mod frames;
 pub mod writers;
+pub mod steps;

@@ -6,7 +6,7 @@ ghost use Rattle.verse_base.specs.declared.refusals.Refusal.{Refusal};
 ghost use Rattle.verse_base.specs.declared.refusals.Front.TheVariants as front;
 ghost use Rattle.verse_layout.specs.declared.toks.Tok.{Tok};
 ghost use Rattle.verse_layout.specs.Loads.{open_counts, at_start};
-ghost use Rattle.verse_layout.specs.Written.{is_open, is_close, kept_sep, refusal, with_front, settled, judged};
+ghost use Rattle.verse_layout.specs.Written.{Written, tok, is_open, is_close, kept_sep, refusal, with_front, settled, judged};
 ghost use Rattle.verse_layout.specs.Frames.{Walk};
 ghost use Rattle.verse_layout.specs.Rests.{rest_of, after_tok, after_sep, after_no_sep};
 
@@ -96,7 +96,8 @@ impl Writer {
     /// Writes a tok, behind the Sep that waits.
     pub fn put(&mut self, next: Tok) -> Result<(), Front>
         ensures ok { OnOk result ((x : Walk) → rest_of self.new x ≡ rest_of self.old (after_tok next x)) }
-        ensures refused { (r : Refusal) → IsErrOf result (front.Refused r) → (x : Walk) → rest_of self.old (after_tok next x) ≡ Err r }
+        ensures refused { (r : Refusal) → IsErrOf result (front.Refused r) → (ws : List Written) (stop : Option Refusal) →
+            rest_of self.old (record { written = tok next ∷ ws; stop = stop }) ≡ Err r }
     {
         self.part(next.kind)?;
         self.pen.put(next)?;
