@@ -4,6 +4,7 @@ use Rattle.std.specs.List.{starts_with}
 use Rattle.std.specs.Cmp.Lexicographic.{pointwise}
 use Rattle.verse_base.specs.declared.places.Place.{Place}
 use Rattle.verse_lex.specs.declared.tokens.Token.{Token}
+use Rattle.verse_layout.specs.declared.frames.Spot.{Spot}
 use Rattle.verse_layout.specs.declared.toks.Tok.{Tok}
 use Rattle.verse_layout.specs.declared.toks.TokKind.{TokKind}
 use Rattle.verse_layout.specs.declared.toks.TokKind.TheVariants as t
@@ -18,6 +19,10 @@ text_of bytes span = slice_range bytes span.0 span.1
 
 abbrev pub cell_of : List ℕ → Token → Cell
 cell_of bytes token = record { token = token; line = option_map (text_of bytes) token.indent }
+
+-- the token's indentation lies within the bytes
+abbrev pub Lies : List ℕ → Token → Type 0
+Lies bytes token = IfSome token.indent (λ span. (span.0 ≤ span.1) × (span.1 ≤ length bytes))
 
 abbrev pub cells_of : List ℕ → List Token → List Cell
 cells_of bytes tokens = map (cell_of bytes) tokens
@@ -36,11 +41,6 @@ is_front front text = starts_with nat_eq text front
 
 abbrev pub is_proper : List ℕ → List ℕ → Bool
 is_proper front text = nat_lt (length front) (length text) && is_front front text
-
--- an offset in the file, and its place
-pub record Spot : Type 0 where
-  pub at : ℕ
-  pub place : Place
 
 abbrev pub spot_of : Token → Spot
 spot_of token = record { at = token.start; place = token.place }

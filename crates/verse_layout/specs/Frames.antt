@@ -10,7 +10,8 @@ use Rattle.verse_layout.specs.declared.roles.Role.TheVariants as role
 use Rattle.verse_layout.specs.declared.roles.Region.{Region}
 use Rattle.verse_layout.specs.declared.roles.Region.TheVariants as region
 use Rattle.verse_layout.specs.Roles.{role_of, is_else, has_lines, in_braces, is_same_region}
-use Rattle.verse_layout.specs.Cells.{Cell, Spot, spot_of, mark_at, tok_as, passed, ends_line, is_same, is_front, is_proper}
+use Rattle.verse_layout.specs.declared.frames.Spot.{Spot}
+use Rattle.verse_layout.specs.Cells.{Cell, spot_of, mark_at, tok_as, passed, ends_line, is_same, is_front, is_proper}
 use Rattle.verse_layout.specs.Loads.{at_start}
 use Rattle.verse_layout.specs.Written.{Written, tok, sep, no_sep, refusal, Answer, settled, judged}
 
@@ -58,8 +59,11 @@ abbrev pub block_in : Region → Region
 block_in r = if in_braces r then region.BraceBlock else region.Block
 
 -- the indentation of the line that a token begins
+abbrev pub begins_none : List Open → Token → Bool
+begins_none fs token = not (has_lines (region_at fs)) || is_brace_close (role_of token.kind)
+
 abbrev pub line_start : List Open → Cell → Option (List ℕ)
-line_start fs c = if has_lines (region_at fs) && not (is_brace_close (role_of c.token.kind)) then c.line else None
+line_start fs c = if begins_none fs c.token then None else c.line
 
 abbrev pub line_sep : Token → Written
 line_sep token = if is_else token.kind then no_sep else sep (mark_at t.Sep (spot_of token))
@@ -125,18 +129,24 @@ close r (f ∷ fs) token go =
 abbrev pub stay : Bool → Here → Here
 stay opened h = record { opened = opened; line = h.line; frames = h.frames }
 
-abbrev pub on_role : Role → Bool → Here → Token → (Here → Walk) → Walk
-on_role (role.Opens r) ends h token go =
+abbrev pub open_bracket : Region → Here → Token → (Here → Walk) → Walk
+open_bracket r h token go =
     write (tok (opened_as r token)) (go (record { opened = false; line = h.line; frames = record { region = r; text = h.line; place = token.place } ∷ h.frames }))
+
+abbrev pub divided : Bool → Token → Written
+divided divides token = if divides then sep (tok_as t.Sep token) else tok (passed token)
+
+abbrev pub after_colon : Bool → Token → Walk → Walk
+after_colon opens token x = if opens then x else write (tok (passed token)) x
+
+abbrev pub on_role : Role → Bool → Here → Token → (Here → Walk) → Walk
+on_role (role.Opens r) ends h token go = open_bracket r h token go
 on_role (role.Closes r) ends h token go = close r h.frames token go
-on_role role.Semicolon ends h token go =
-    write (if has_lines (region_at h.frames) then sep (tok_as t.Sep token) else tok (passed token)) (go (stay false h))
-on_role role.Comma ends h token go =
-    write (if in_braces (region_at h.frames) then sep (tok_as t.Sep token) else tok (passed token)) (go (stay false h))
+on_role role.Semicolon ends h token go = write (divided (has_lines (region_at h.frames)) token) (go (stay false h))
+on_role role.Comma ends h token go = write (divided (in_braces (region_at h.frames)) token) (go (stay false h))
 on_role role.Colon ends h token go =
-    if has_lines (region_at h.frames) && ends then go (stay true h) else write (tok (passed token)) (go (stay false h))
-on_role role.Equals ends h token go =
-    write (tok (passed token)) (go (stay (has_lines (region_at h.frames) && ends) h))
+    let opens = has_lines (region_at h.frames) && ends in after_colon opens token (go (stay opens h))
+on_role role.Equals ends h token go = write (tok (passed token)) (go (stay (has_lines (region_at h.frames) && ends) h))
 on_role role.Other ends h token go = write (tok (passed token)) (go (stay false h))
 
 -- the token itself; `ends` says whether it is the last of its line
@@ -148,18 +158,25 @@ abbrev pub innermost : List Open → Option Place
 innermost [] = None
 innermost (f ∷ fs) = if is_same_region f.region region.File then None else (if is_block f.region then innermost fs else Some f.place)
 
+abbrev pub no_more : Walk
+no_more = record { written = []; stop = None }
+
 -- at the file's end each block but the file's closes
 abbrev pub closes : Spot → List Open → Walk
-closes end [] = record { written = []; stop = None }
-closes end (f ∷ fs) = if is_block f.region then write (close_at end) (closes end fs) else record { written = []; stop = None }
+closes end [] = no_more
+closes end (f ∷ fs) = if is_block f.region then write (close_at end) (closes end fs) else no_more
 
 abbrev pub at_end : Option Place → Spot → Here → Walk
 at_end (Some place) end h = refuse 21 place
 at_end None end h = if h.opened then refuse 20 end.place else closes end h.frames
 
+-- one token, with what stands before it
+abbrev pub step : Here → Cell → Bool → (Here → Walk) → Walk
+step h c ends go = before_token (line_start h.frames c) h c.token (λ g. on_token ends g c.token go)
+
 abbrev pub walk : Spot → Here → List Cell → Walk
 walk end h [] = at_end (innermost h.frames) end h
-walk end h (c ∷ cs) = before_token (line_start h.frames c) h c.token (λ g. on_token (ends_line cs) g c.token (λ k. walk end k cs))
+walk end h (c ∷ cs) = step h c (ends_line cs) (λ g. walk end g cs)
 
 abbrev pub nowhere : Here
 nowhere = record { opened = false; line = []; frames = [] }

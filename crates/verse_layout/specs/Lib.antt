@@ -6,3 +6,4 @@ pub mod Written
 pub mod Frames
 pub mod Rests
 pub mod Stands
+pub mod Ends

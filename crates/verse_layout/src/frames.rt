@@ -3,7 +3,7 @@
 ghost use Rattle.std.specs.Prelude.{◌≡◌, not, ◌||◌, ◌&&◌};
 ghost use Rattle.verse_layout.specs.Roles.{role_of};
 ghost use Rattle.verse_layout.specs.Cells.{is_same, is_front, is_proper};
-ghost use Rattle.verse_layout.specs.Frames.{region_at, is_block, block_in, is_brace_close, is_bracket_close};
+ghost use Rattle.verse_layout.specs.Frames.{region_at, is_block, block_in, is_brace_close, is_bracket_close, innermost};
 ghost use Rattle.verse_layout.specs.Stands.{stack};
 
 use crate::roles::{Region, Role, in_braces, is_same_region};
@@ -29,6 +29,13 @@ pub struct Stand<'a> {
     pub line: &'a [u8],
     /// The innermost frame is the last one.
     pub frames: Vec<Frame<'a>>,
+}
+
+/// An offset in the file, and its place.
+#[derive(Clone, Copy, Debug, PartialEq, Eq)]
+pub struct Spot {
+    pub at: u32,
+    pub place: Place,
 }
 
 /// Where the innermost frame is.
@@ -94,4 +101,19 @@ pub fn is_proper(front: &[u8], text: &[u8]) -> bool
     ensures { result ≡ is_proper front.now text.now }
 {
     front.len() < text.len() && text.starts_with(front)
+}
+
+/// Where the innermost bracket was opened.
+pub fn innermost(frames: &[Frame]) -> Option<Place>
+    ensures { result ≡ innermost (stack frames.now) }
+{
+    'frames: for i in (0..frames.len()).rev() {
+        if is_same_region(frames[i].region, Region::File) {
+            return None;
+        }
+        if !is_block(frames[i].region) {
+            return Some(frames[i].place);
+        }
+    }
+    None
 }

@@ -7,3 +7,4 @@ pub mod loads;
 pub mod frames;
 pub mod writers;
 pub mod steps;
+pub mod layouts;
