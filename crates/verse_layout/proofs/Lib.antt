@@ -1,3 +1,4 @@
 pub mod Holes
 pub mod Fronts
 pub mod Turns
+pub mod Walks

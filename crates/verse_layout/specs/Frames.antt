@@ -9,10 +9,11 @@ use Rattle.verse_layout.specs.declared.roles.Role.{Role}
 use Rattle.verse_layout.specs.declared.roles.Role.TheVariants as role
 use Rattle.verse_layout.specs.declared.roles.Region.{Region}
 use Rattle.verse_layout.specs.declared.roles.Region.TheVariants as region
-use Rattle.verse_layout.specs.Roles.{role_of, is_else, has_lines, in_braces, is_same_region}
+use Rattle.verse_layout.specs.Roles.{role_of, is_else, has_lines, in_braces, is_same_region, is_brace_close, is_bracket_close}
 use Rattle.verse_layout.specs.declared.frames.Spot.{Spot}
 use Rattle.verse_layout.specs.Cells.{Cell, spot_of, mark_at, tok_as, passed, ends_line, is_same, is_front, is_proper}
 use Rattle.verse_layout.specs.Loads.{at_start}
+use Rattle.verse_layout.specs.Blocks.{line_sep, close_at}
 use Rattle.verse_layout.specs.Written.{Written, tok, sep, no_sep, refusal, Answer, settled, judged}
 
 -- a bracket or block that is open; a bracket has the indentation of the last line that began round it
@@ -42,14 +43,6 @@ abbrev pub region_at : List Open → Region
 region_at [] = region.File
 region_at (f ∷ fs) = f.region
 
-abbrev pub is_brace_close : Role → Bool
-is_brace_close (role.Closes r) = is_same_region r region.Brace
-is_brace_close _ = false
-
-abbrev pub is_bracket_close : Role → Bool
-is_bracket_close (role.Closes r) = not (is_same_region r region.Brace)
-is_bracket_close _ = false
-
 abbrev pub is_block : Region → Bool
 is_block region.Block = true
 is_block region.BraceBlock = true
@@ -65,12 +58,6 @@ begins_none fs token = not (has_lines (region_at fs)) || is_brace_close (role_of
 abbrev pub line_start : List Open → Cell → Option (List ℕ)
 line_start fs c = if begins_none fs c.token then None else c.line
 
-abbrev pub line_sep : Token → Written
-line_sep token = if is_else token.kind then no_sep else sep (mark_at t.Sep (spot_of token))
-
-abbrev pub close_at : Spot → Written
-close_at s = tok (mark_at t.Close s)
-
 -- a line of this indentation closes the blocks that it leaves
 abbrev pub leave : List Open → Token → List ℕ → (List Open → Walk) → Walk
 leave [] token text go = go (record { region = region.File; text = text; place = token.place } ∷ [])
@@ -83,7 +70,7 @@ leave (f ∷ fs) token text go =
 abbrev pub begin_block : Here → Token → List ℕ → (Here → Walk) → Walk
 begin_block h token text go =
     write (tok (mark_at t.Open (spot_of token)))
-    (go (record { opened = false; line = text; frames = record { region = block_in (region_at h.frames); text = text; place = token.place } ∷ h.frames }))
+    (write (line_sep token) (go (record { opened = false; line = text; frames = record { region = block_in (region_at h.frames); text = text; place = token.place } ∷ h.frames })))
 
 -- a line behind an opener is the first of its block
 abbrev pub indent : Here → Token → List ℕ → (Here → Walk) → Walk

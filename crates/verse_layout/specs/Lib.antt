@@ -3,6 +3,7 @@ pub mod Weights
 pub mod Loads
 pub mod Cells
 pub mod Written
+pub mod Blocks
 pub mod Frames
 pub mod Rests
 pub mod Stands

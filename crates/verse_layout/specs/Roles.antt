@@ -1,5 +1,5 @@
 -- What tokens mean for lines, blocks and brackets.
-use Rattle.std.specs.Prelude.{Bool, true, false}
+use Rattle.std.specs.Prelude.{Bool, true, false, not}
 use Rattle.verse_lex.specs.declared.tokens.TokenKind.{TokenKind}
 use Rattle.verse_lex.specs.declared.tokens.TokenKind.TheVariants as k
 use Rattle.verse_lex.specs.declared.tokens.Mark.{Mark}
@@ -68,3 +68,11 @@ is_same_region region.Round region.Round = true
 is_same_region region.Square region.Square = true
 is_same_region region.Hole region.Hole = true
 is_same_region _ _ = false
+
+abbrev pub is_brace_close : Role → Bool
+is_brace_close (role.Closes r) = is_same_region r region.Brace
+is_brace_close _ = false
+
+abbrev pub is_bracket_close : Role → Bool
+is_bracket_close (role.Closes r) = not (is_same_region r region.Brace)
+is_bracket_close _ = false

@@ -1,9 +1,9 @@
 //! The brackets and blocks that are open at a token.
 
 ghost use Rattle.std.specs.Prelude.{◌≡◌, not, ◌||◌, ◌&&◌};
-ghost use Rattle.verse_layout.specs.Roles.{role_of};
+ghost use Rattle.verse_layout.specs.Roles.{is_brace_close, is_bracket_close};
 ghost use Rattle.verse_layout.specs.Cells.{is_same, is_front, is_proper};
-ghost use Rattle.verse_layout.specs.Frames.{region_at, is_block, block_in, is_brace_close, is_bracket_close, innermost};
+ghost use Rattle.verse_layout.specs.Frames.{region_at, is_block, block_in, innermost};
 ghost use Rattle.verse_layout.specs.Stands.{stack};
 
 use crate::roles::{Region, Role, in_braces, is_same_region};

@@ -7,7 +7,8 @@ ghost use Rattle.verse_base.specs.declared.refusals.Front.TheVariants as front;
 ghost use Rattle.verse_layout.specs.declared.toks.TokKind.TheVariants as t;
 ghost use Rattle.verse_layout.specs.Roles.{role_of};
 ghost use Rattle.verse_layout.specs.Cells.{Lies, cell_of, spot_of, mark_at, tok_as, passed};
-ghost use Rattle.verse_layout.specs.Frames.{Open, Here, Walk, leave, begin_block, indent, lead, follow, close, on_token, before_token, begins_none, line_start, opened_as, closed_as, open_bracket, line_sep, divided, after_colon, close_at, closes, innermost, at_end, no_more, step, write, refuse};
+ghost use Rattle.verse_layout.specs.Frames.{Open, Here, Walk, leave, begin_block, indent, lead, follow, close, on_token, before_token, begins_none, line_start, opened_as, closed_as, open_bracket, divided, after_colon, closes, innermost, at_end, no_more, step, write, refuse};
+ghost use Rattle.verse_layout.specs.Blocks.{line_sep, close_at};
 ghost use Rattle.verse_layout.specs.Written.{Written, tok};
 ghost use Rattle.verse_layout.specs.Rests.{rest_of};
 ghost use Rattle.verse_layout.specs.Stands.{stack, here_of};
@@ -124,13 +125,24 @@ fn want_line(writer: &mut Writer, token: &Token)
     }
 }
 
+/// Writes the Open of an indented block, and what separates its first line from it.
+fn put_open(writer: &mut Writer, token: &Token) -> Result<(), Front>
+    ensures ok { OnOk result ((x : Walk) → rest_of writer.new x ≡ rest_of writer.old (write (tok (mark_at t.Open (spot_of token.now))) (write (line_sep token.now) x))) }
+    ensures refused { (r : Refusal) → IsErrOf result (front.Refused r) → (ws : List Written) (stop : Option Refusal) →
+        rest_of writer.old (record { written = tok (mark_at t.Open (spot_of token.now)) ∷ ws; stop = stop }) ≡ Err r }
+{
+    put_mark(writer, TokKind::Open, token)?;
+    want_line(writer, token);
+    Ok(())
+}
+
 /// Begins a block of this indentation.
 fn begin_block<'a>(writer: &mut Writer, stand: &mut Stand<'a>, token: &Token, text: &'a [u8]) -> Result<(), Front>
     ensures ok { OnOk result ((go : Here → Walk) → rest_of writer.new (go (here_of stand.new)) ≡ rest_of writer.old (begin_block (here_of stand.old) token.now text.now go)) }
     ensures refused { (r : Refusal) → IsErrOf result (front.Refused r) → (go : Here → Walk) → rest_of writer.old (begin_block (here_of stand.old) token.now text.now go) ≡ Err r }
 {
     let region = block_in(region_at(stand.frames.as_slice()));
-    put_mark(writer, TokKind::Open, token)?;
+    put_open(writer, token)?;
     stand.frames.push(Frame { region, text, place: token.place })?;
     stand.is_opened = false;
     stand.line = text;
