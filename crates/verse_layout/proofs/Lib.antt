@@ -2,3 +2,5 @@ pub mod Holes
 pub mod Fronts
 pub mod Turns
 pub mod Walks
+pub mod Complete
+pub mod Written
