@@ -4,3 +4,5 @@ pub mod Turns
 pub mod Walks
 pub mod Complete
 pub mod Written
+pub mod Nests
+pub mod Sound
