@@ -6,3 +6,4 @@ pub mod Complete
 pub mod Written
 pub mod Nests
 pub mod Sound
+pub mod Files

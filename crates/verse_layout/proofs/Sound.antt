@@ -13,7 +13,7 @@ use Rattle.verse_layout.specs.Cells.{Cell, spot_of, spot_at, tok_as, passed, end
 use Rattle.verse_layout.specs.Written.{Written, tok, sep}
 use Rattle.verse_layout.specs.Blocks.{is_no_bracket, separates, stays, opener, open_at, close_at, ends_block, Inside, inside_end, inside_token, Bracket, round, braces, Part, part_token, part_sep, Body, body_block, Block, Lines, lines_end, Rest, is_opener}
 use Rattle.verse_layout.specs.Frames.{Open, Here, Walk, write, walk, on_role, is_block, region_at, divided, after_colon, stay, close, opened_as}
-use Rattle.verse_layout.proofs.Walks.{at_line, go, go_open, go_token, if_true, same_region}
+use Rattle.verse_layout.proofs.Walks.{at_line, go, go_open, go_token, if_true, if_false, same_region}
 use Rattle.verse_layout.proofs.Complete.{no_braces, no_brace, is_brace}
 use Rattle.verse_layout.proofs.Nests.{Tail, tail_end, Nest, nest_line, nest_round, Out, out_file, out_block, out_brace, Start, start_line, start_round, start_brace, Opened, Nested, nested_file, nested_block, nested_bracket, add_part, add_bracket, no_opens, no_closes}
 
@@ -113,3 +113,85 @@ brace_sound : (end : Spot) (h : List ℕ) (f : Open) (fs : List Open) (c : Cell)
     Nest end h (record { region = region.Brace; text = h; place = c.token.place } ∷ f ∷ fs) cs ws → Start end h (f ∷ fs) (c ∷ cs) (tok (tok_as t.Open c.token) ∷ ws)
 brace_sound end h f fs c cs ws p (nest_line l x o g) = brace_out end h f fs c cs _ ws _ _ p x g o
 brace_sound end h f fs c cs ws p (nest_round l i s n g) = absurd (cc)
+
+-- a closing bracket
+abbrev Closing : (end : Spot) (h : List ℕ) (r : Region) (f : Open) (fs : List Open) (c : Cell) (cs : List Cell) → Type 0
+Closing end h r f fs c cs = Starts end h (f ∷ fs) (c ∷ cs) (close r (f ∷ fs) c.token (λ g. walk end g cs))
+
+nested_behind : (f : Open) (fs : List Open) → has_lines f.region ≡ false → Nested (f ∷ fs) → Nested fs
+nested_behind f fs e (nested_file g) = absurd (let x = ap has_lines g in cc)
+nested_behind f fs e (nested_block g l b n) = n
+nested_behind f fs e (nested_bracket a b n) = n
+
+-- a round or square one, or the end of a hole
+round_close : (end : Spot) (h : List ℕ) (r : Region) (f : Open) (fs : List Open) (c : Cell) (cs : List Cell) → Sound end cs → Nested (f ∷ fs) → has_lines r ≡ false → role_of c.token.kind ≡ role.Closes r → Closing end h r f fs c cs
+round_close end h r f fs c cs ih n e p =
+    by_if (Starts end h (f ∷ fs) (c ∷ cs)) (is_same_region f.region r) _ _
+      (λ same. λ s.
+        let q : f.region ≡ r = same_region f.region r same in
+        let l : has_lines f.region ≡ false = ap has_lines q ∙ e in
+        let start : Start end h (f ∷ fs) (c ∷ cs) (tok (passed c.token) ∷ (walk end (at_line false f.text fs) cs).written) =
+            start_round l inside_end (p ∙ ap role.Closes (sym q)) (ih false f.text fs (nested_behind f fs l n) s) refl in
+        subst (λ k. Start end h (f ∷ fs) (c ∷ cs) (tok k ∷ (walk end (at_line false f.text fs) cs).written))
+          (sym (if_false (is_same_region r region.Brace) (tok_as t.Close c.token) (passed c.token) (no_brace r e))) start)
+      (λ other. by_if (Starts end h (f ∷ fs) (c ∷ cs)) (is_same_region r region.Brace && is_same_region f.region region.BraceBlock) _ _
+        (λ b. let x = both (is_same_region r region.Brace) (is_same_region f.region region.BraceBlock) b in let y = no_brace r e in absurd (cc))
+        (λ b s. absurd (cc)))
+
+block_end : (b : Bool) (i : List ℕ) (c : Cell) (cs : List Cell) → role_of c.token.kind ≡ role.Closes region.Brace → b ≡ true → ends_block b i (c ∷ cs) ≡ true
+block_end b i c cs p e = if_true (is_brace_close (role_of c.token.kind)) b _ (is_brace _ p) ∙ e
+
+region_brace_block : (f : Open) → f.region ≡ region.BraceBlock → (is_block f.region ≡ true) × (in_braces f.region ≡ true)
+region_brace_block f e = (ap is_block e, ap in_braces e)
+
+nested_inner : (f : Open) (fs : List Open) → is_block f.region ≡ true → Nested (f ∷ fs) → Nested fs
+nested_inner f fs e (nested_file g) = absurd (let x = ap is_block g in cc)
+nested_inner f fs e (nested_block g l b n) = n
+nested_inner f fs e (nested_bracket a b n) = n
+
+nested_brace : (f : Open) (fs : List Open) → f.region ≡ region.Brace → Nested (f ∷ fs) → Nested fs
+nested_brace f fs e (nested_file g) = absurd (cc)
+nested_brace f fs e (nested_block g l b n) = n
+nested_brace f fs e (nested_bracket a b n) = n
+
+-- a `}`, which closes the blocks in its braces first
+brace_close : (end : Spot) (fs : List Open) (c : Cell) (cs : List Cell) → Sound end cs → Nested fs → role_of c.token.kind ≡ role.Closes region.Brace →
+    Outs end fs (c ∷ cs) (close region.Brace fs c.token (λ g. walk end g cs))
+brace_close end [] c cs ih n p = λ s. absurd (cc)
+brace_close end (f ∷ fs) c cs ih n p =
+    by_if (Outs end (f ∷ fs) (c ∷ cs)) (is_same_region f.region region.Brace) _ _
+      (λ same. λ s. let q = same_region f.region region.Brace same in out_brace q lines_end p (ih false f.text fs (nested_brace f fs q n) s) refl)
+      (λ other. by_if (Outs end (f ∷ fs) (c ∷ cs)) (is_same_region f.region region.BraceBlock) _ _
+        (λ same. λ s.
+          let q = region_brace_block f (same_region f.region region.BraceBlock same) in
+          out_block q.0 (tail_end (block_end _ f.text c cs p q.1)) (brace_close end fs c cs ih (nested_inner f fs q.0 n) p s) refl)
+        (λ b s. absurd (cc)))
+
+-- the token itself
+role_sound : (end : Spot) (h : List ℕ) (f : Open) (fs : List Open) (c : Cell) (cs : List Cell) → Sound end cs → Nested (f ∷ fs) → (r : Role) → role_of c.token.kind ≡ r →
+    Starts end h (f ∷ fs) (c ∷ cs) (on_role r (ends_line cs) (at_line false h (f ∷ fs)) c.token (λ g. walk end g cs))
+role_sound end h f fs c cs ih n (role.Opens region.Brace) p = λ s. brace_sound end h f fs c cs _ p (ih false h _ (nested_bracket refl refl n) s)
+role_sound end h f fs c cs ih n (role.Opens region.Round) p = λ s. round_sound end h region.Round f fs c cs _ p refl (ih false h _ (nested_bracket refl refl n) s)
+role_sound end h f fs c cs ih n (role.Opens region.Square) p = λ s. round_sound end h region.Square f fs c cs _ p refl (ih false h _ (nested_bracket refl refl n) s)
+role_sound end h f fs c cs ih n (role.Opens region.Hole) p = λ s. round_sound end h region.Hole f fs c cs _ p refl (ih false h _ (nested_bracket refl refl n) s)
+role_sound end h f fs c cs ih n (role.Opens region.File) p = absurd (no_opens c.token.kind region.File refl p)
+role_sound end h f fs c cs ih n (role.Opens region.Block) p = absurd (no_opens c.token.kind region.Block refl p)
+role_sound end h f fs c cs ih n (role.Opens region.BraceBlock) p = absurd (no_opens c.token.kind region.BraceBlock refl p)
+role_sound end h f fs c cs ih n (role.Closes region.Brace) p = λ s. start_brace p (brace_close end (f ∷ fs) c cs ih n p s)
+role_sound end h f fs c cs ih n (role.Closes region.Round) p = round_close end h region.Round f fs c cs ih n refl p
+role_sound end h f fs c cs ih n (role.Closes region.Square) p = round_close end h region.Square f fs c cs ih n refl p
+role_sound end h f fs c cs ih n (role.Closes region.Hole) p = round_close end h region.Hole f fs c cs ih n refl p
+role_sound end h f fs c cs ih n (role.Closes region.File) p = absurd (no_closes c.token.kind region.File refl p)
+role_sound end h f fs c cs ih n (role.Closes region.Block) p = absurd (no_closes c.token.kind region.Block refl p)
+role_sound end h f fs c cs ih n (role.Closes region.BraceBlock) p = absurd (no_closes c.token.kind region.BraceBlock refl p)
+role_sound end h f fs c cs ih n role.Semicolon p = λ s.
+    add_part (divided (has_lines f.region) c.token) (λ l. semicolon_part end h _ _ c cs p l) (λ l. divided_inside _ c cs l (no_bracket _ _ p refl)) (ih false h (f ∷ fs) n s)
+role_sound end h f fs c cs ih n role.Comma p = λ s.
+    add_part (divided (in_braces f.region) c.token) (λ l. comma_part end h _ c cs p) (λ l. divided_inside _ c cs (no_braces f.region l) (no_bracket _ _ p refl)) (ih false h (f ∷ fs) n s)
+role_sound end h f fs c cs ih n role.Colon p = colon_sound end h f fs c cs ih n p _ refl
+role_sound end h f fs c cs ih n role.Equals p = equals_sound end h f fs c cs ih n p _ refl
+role_sound end h f fs c cs ih n role.Other p = λ s.
+    add_part (tok (passed c.token)) (λ l. part_token (ap (stays (in_braces f.region) (ends_line cs)) p)) (λ l. inside_any c cs (no_bracket _ _ p refl)) (ih false h (f ∷ fs) n s)
+
+pub token_sound : (end : Spot) (h : List ℕ) (f : Open) (fs : List Open) (c : Cell) (cs : List Cell) → Sound end cs → Nested (f ∷ fs) → Starts end h (f ∷ fs) (c ∷ cs) (go_token end h (f ∷ fs) (c ∷ cs))
+token_sound end h f fs c cs ih n = role_sound end h f fs c cs ih n (role_of c.token.kind) refl
