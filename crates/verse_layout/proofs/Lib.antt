@@ -7,3 +7,5 @@ pub mod Written
 pub mod Nests
 pub mod Sound
 pub mod Files
+pub mod Answers
+pub mod Counts

@@ -8,3 +8,4 @@ pub mod Frames
 pub mod Rests
 pub mod Stands
 pub mod Ends
+pub mod Layouts

@@ -1,13 +1,15 @@
 //! Layout: the toks of a file's tokens.
 
-ghost use Rattle.std.specs.Prelude.{◌≡◌, ◌≤◌, List, ℕ, length, IfOk, Ok, Err};
+ghost use Rattle.std.specs.Prelude.{◌≡◌, ◌≤◌, ◌*◌, List, ℕ, length, IfOk, Ok, Err};
 ghost use Rattle.std.specs.List.{All};
 ghost use Rattle.std.specs.Result.{IsErrOf};
 ghost use Rattle.verse_base.specs.declared.refusals.Refusal.{Refusal};
 ghost use Rattle.verse_base.specs.declared.refusals.Front.TheVariants as front;
 ghost use Rattle.verse_layout.specs.Cells.{Lies, cells_of, ends_line};
 ghost use Rattle.verse_layout.specs.Ends.{end_of, file_of, line_feeds, last_line, place_behind, without_mark};
+ghost use Rattle.verse_layout.specs.declared.toks.Tok.{Tok};
 ghost use Rattle.verse_layout.specs.Frames.{laid};
+ghost use Rattle.verse_layout.specs.Layouts.{IsLayout};
 
 use crate::frames::{Spot, Stand};
 use crate::steps::{at_end, step};
@@ -78,8 +80,8 @@ fn ends_line(tokens: &[Token]) -> bool
     }
 }
 
-/// The toks of a file's tokens.
-pub fn layout(alloc: Global, bytes: &[u8], tokens: &[Token]) -> Result<Vec<Tok>, Front>
+/// Walks over the tokens with the frames that are open.
+fn walk(alloc: Global, bytes: &[u8], tokens: &[Token]) -> Result<Vec<Tok>, Front>
     requires size { length bytes.now ≤ 1048576 }
     requires lines { All (Lies bytes.now) tokens.now }
     ensures toks { IfOk result (λ toks. laid (end_of bytes.now tokens.now) (cells_of bytes.now tokens.now) ≡ Ok toks.items) }
@@ -95,4 +97,21 @@ pub fn layout(alloc: Global, bytes: &[u8], tokens: &[Token]) -> Result<Vec<Tok>,
     }
     at_end(&mut writer, &mut stand, end)?;
     Ok(writer.pen.toks)
+}
+
+/// The toks of a file's tokens: the file's lines as a block, written out with Open, Sep and Close.
+///
+/// `bytes` is the file, of at most 1048576 bytes, and `tokens` are its tokens. Refusals: E020 at a
+/// token, or at the file's end, that stands outside the rules of lines; E021 at a wrong closing
+/// bracket or, at the file's end, at the innermost bracket that is open; E022 at the first tok that
+/// brings the nesting load above 400. The list has at most four toks for each token.
+pub fn layout(alloc: Global, bytes: &[u8], tokens: &[Token]) -> Result<Vec<Tok>, Front>
+    requires size { length bytes.now ≤ 1048576 }
+    requires lines { All (Lies bytes.now) tokens.now }
+    ensures toks { IfOk result (λ toks. IsLayout bytes.now tokens.now toks.items) }
+    ensures few { IfOk result (λ toks. length toks.items ≤ 4 * length tokens.now) }
+    ensures refused { (r : Refusal) → IsErrOf result (front.Refused r) → laid (end_of bytes.now tokens.now) (cells_of bytes.now tokens.now) ≡ Err r }
+    ensures none { (r : Refusal) → IsErrOf result (front.Refused r) → (ks : List Tok) → IsLayout bytes.now tokens.now ks → ⊥ }
+{
+    walk(alloc, bytes, tokens)
 }

@@ -8,3 +8,4 @@ pub mod frames;
 pub mod writers;
 pub mod steps;
 pub mod layouts;
+pub mod laws;

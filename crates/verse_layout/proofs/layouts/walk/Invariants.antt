@@ -5,7 +5,7 @@ use Rattle.verse_layout.specs.Ends.{end_of}
 use Rattle.verse_layout.specs.Frames.{laid, walk}
 use Rattle.verse_layout.specs.Rests.{rest_of}
 use Rattle.verse_layout.specs.Stands.{here_of}
-use Rattle.verse_layout.proofs.layouts.layout.Given as goal
+use Rattle.verse_layout.proofs.layouts.walk.Given as goal
 
 abbrev pub invariant-tokens : goal.invariant-tokens
 invariant-tokens l = record {
