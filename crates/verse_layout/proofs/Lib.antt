@@ -9,3 +9,4 @@ pub mod Sound
 pub mod Files
 pub mod Answers
 pub mod Counts
+pub mod Outcomes

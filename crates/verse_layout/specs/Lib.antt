@@ -9,3 +9,4 @@ pub mod Rests
 pub mod Stands
 pub mod Ends
 pub mod Layouts
+pub mod Stuck
