@@ -270,39 +270,39 @@ go_indent end h j f fs cs e p x =
     rw x.cs_are (rw s (if_true _ _ _ p ∙ if_false _ _ _ x.bracket))
 
 -- a block that ends closes
-pub go_close : (end : Spot) (j h : List ℕ) (b : Bool) (f : Open) (fs : List Open) (place : Place) (cs : List Cell) → has_lines f.region ≡ true → in_braces f.region ≡ b →
+pub go_close : (end : Spot) (j m h : List ℕ) (b : Bool) (f : Open) (fs : List Open) (place : Place) (cs : List Cell) → has_lines f.region ≡ true → in_braces f.region ≡ b →
     (b ≡ false → innermost (f ∷ fs) ≡ None) → ends_block b j cs ≡ true →
-    go end j (record { region = block_in f.region; text = j; place = place } ∷ f ∷ fs) cs ≡ write (close_at (spot_at end cs)) (go end h (f ∷ fs) cs)
-go_close end j h true f fs place [] e g n p = absurd (cc)
-go_close end j h false f fs place [] e g n p =
+    go end m (record { region = block_in f.region; text = j; place = place } ∷ f ∷ fs) cs ≡ write (close_at (spot_at end cs)) (go end h (f ∷ fs) cs)
+go_close end j m h true f fs place [] e g n p = absurd (cc)
+go_close end j m h false f fs place [] e g n p =
     let out : innermost (f ∷ fs) ≡ None = n refl in
     rw (block_no_file f.region, block_is f.region, out, block_is f.region) refl
-go_close end j h b f fs place (c ∷ cs) e g n p = by_test (is_brace_close (role_of c.token.kind)) refl
+go_close end j m h b f fs place (c ∷ cs) e g n p = by_test (is_brace_close (role_of c.token.kind)) refl
   where
-    at_brace : role_of c.token.kind ≡ role.Closes region.Brace → b ≡ true → go end j (record { region = block_in f.region; text = j; place = place } ∷ f ∷ fs) (c ∷ cs) ≡ write (close_at (spot_of c.token)) (go end h (f ∷ fs) (c ∷ cs))
+    at_brace : role_of c.token.kind ≡ role.Closes region.Brace → b ≡ true → go end m (record { region = block_in f.region; text = j; place = place } ∷ f ∷ fs) (c ∷ cs) ≡ write (close_at (spot_of c.token)) (go end h (f ∷ fs) (c ∷ cs))
     at_brace r v =
         let k : Here → Walk = λ x. walk end x cs in
         let i : Open = record { region = block_in f.region; text = j; place = place } in
         let inside : block_in f.region ≡ region.BraceBlock = ap (λ x. if x then region.BraceBlock else region.Block) (g ∙ v) in
-        let left : go end j (i ∷ f ∷ fs) (c ∷ cs) ≡ close region.Brace (i ∷ f ∷ fs) c.token k =
-            go_on end j i (f ∷ fs) c cs (brace_start (i ∷ f ∷ fs) c (is_brace _ r)) ∙ ap (λ x. on_role x (ends_line cs) (at_line false j (i ∷ f ∷ fs)) c.token k) r in
+        let left : go end m (i ∷ f ∷ fs) (c ∷ cs) ≡ close region.Brace (i ∷ f ∷ fs) c.token k =
+            go_on end m i (f ∷ fs) c cs (brace_start (i ∷ f ∷ fs) c (is_brace _ r)) ∙ ap (λ x. on_role x (ends_line cs) (at_line false m (i ∷ f ∷ fs)) c.token k) r in
         let right : go end h (f ∷ fs) (c ∷ cs) ≡ close region.Brace (f ∷ fs) c.token k =
             go_on end h f fs c cs (brace_start (f ∷ fs) c (is_brace _ r)) ∙ ap (λ x. on_role x (ends_line cs) (at_line false h (f ∷ fs)) c.token k) r in
         left ∙ ap (λ x. close region.Brace (record { region = x; text = j; place = place } ∷ f ∷ fs) c.token k) inside ∙ sym (ap (write (close_at (spot_of c.token))) right)
 
     at_line_start : is_brace_close (role_of c.token.kind) ≡ false → (o : Option (List ℕ)) → c.line ≡ o → leaves j o ≡ true →
-        go end j (record { region = block_in f.region; text = j; place = place } ∷ f ∷ fs) (c ∷ cs) ≡ write (close_at (spot_of c.token)) (go end h (f ∷ fs) (c ∷ cs))
+        go end m (record { region = block_in f.region; text = j; place = place } ∷ f ∷ fs) (c ∷ cs) ≡ write (close_at (spot_of c.token)) (go end h (f ∷ fs) (c ∷ cs))
     at_line_start r None l v = absurd (cc)
     at_line_start r (Some i) l v =
         let k : List Open → Walk = λ gs. write (line_sep c.token) (go_token end i gs (c ∷ cs)) in
         let x : Open = record { region = block_in f.region; text = j; place = place } in
         let off : is_front j i ≡ false = not_true (is_front j i) v in
-        let left : go end j (x ∷ f ∷ fs) (c ∷ cs) ≡ leave (x ∷ f ∷ fs) c.token i k = go_line end j x (f ∷ fs) c cs i (block_lines f.region) r l in
+        let left : go end m (x ∷ f ∷ fs) (c ∷ cs) ≡ leave (x ∷ f ∷ fs) c.token i k = go_line end m x (f ∷ fs) c cs i (block_lines f.region) r l in
         let right : go end h (f ∷ fs) (c ∷ cs) ≡ leave (f ∷ fs) c.token i k = go_line end h f fs c cs i e r l in
         let moves : leave (x ∷ f ∷ fs) c.token i k ≡ write (close_at (spot_of c.token)) (leave (f ∷ fs) c.token i k) =
             rw (block_no_brace f.region, not_same j i off, block_is f.region, off) refl in
         left ∙ moves ∙ sym (ap (write (close_at (spot_of c.token))) right)
 
-    by_test : (v : Bool) → is_brace_close (role_of c.token.kind) ≡ v → go end j (record { region = block_in f.region; text = j; place = place } ∷ f ∷ fs) (c ∷ cs) ≡ write (close_at (spot_of c.token)) (go end h (f ∷ fs) (c ∷ cs))
+    by_test : (v : Bool) → is_brace_close (role_of c.token.kind) ≡ v → go end m (record { region = block_in f.region; text = j; place = place } ∷ f ∷ fs) (c ∷ cs) ≡ write (close_at (spot_of c.token)) (go end h (f ∷ fs) (c ∷ cs))
     by_test true r = at_brace (closes_brace _ r) (sym (if_true _ b (leaves j c.line) r) ∙ p)
     by_test false r = at_line_start r c.line refl (sym (if_false _ b (leaves j c.line) r) ∙ p)

@@ -10,3 +10,4 @@ pub mod Files
 pub mod Answers
 pub mod Counts
 pub mod Outcomes
+pub mod Closers

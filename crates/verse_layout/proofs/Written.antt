@@ -70,7 +70,7 @@ mutual
       ap (λ v. on_role (role_of c.token.kind) v (at_line false h (f ∷ fs)) c.token (λ y. walk end y cs)) q
       ∙ opener_role _ h f fs c.token (λ y. walk end y cs) e p
       ∙ ap (front (opener (role_of c.token.kind) c.token))
-        (go_indent end h j f fs cs e s x ∙ ap (write (open_at (spot_at end cs))) (block.0 ∙ ap (front ws) (go_close end j h b f fs x.first.token.place ds e g n block.1)))
+        (go_indent end h j f fs cs e s x ∙ ap (write (open_at (spot_at end cs))) (block.0 ∙ ap (front ws) (go_close end j j h b f fs x.first.token.place ds e g n block.1)))
       ∙ behind (opener (role_of c.token.kind) c.token) (open_at (spot_at end cs)) (close_at (spot_at end ds)) ws (go end h (f ∷ fs) ds)
 
   rest_go : {end : Spot} {b : Bool} {h : List ℕ} {cs ds : List Cell} {ws : List Written} → Rest end b h cs ws ds → (f : Open) (fs : List Open) → has_lines f.region ≡ true → in_braces f.region ≡ b → Free b (f ∷ fs) →
