@@ -11,3 +11,4 @@ pub mod Answers
 pub mod Counts
 pub mod Outcomes
 pub mod Closers
+pub mod Traces
