@@ -12,3 +12,4 @@ pub mod Counts
 pub mod Outcomes
 pub mod Closers
 pub mod Traces
+pub mod Refused

@@ -10,6 +10,7 @@ ghost use Rattle.verse_layout.specs.Ends.{end_of, file_of, line_feeds, last_line
 ghost use Rattle.verse_layout.specs.declared.toks.Tok.{Tok};
 ghost use Rattle.verse_layout.specs.Frames.{laid};
 ghost use Rattle.verse_layout.specs.Layouts.{IsLayout};
+ghost use Rattle.verse_layout.specs.Stuck.{IsRefused};
 
 use crate::frames::{Spot, Stand};
 use crate::steps::{at_end, step};
@@ -110,7 +111,8 @@ pub fn layout(alloc: Global, bytes: &[u8], tokens: &[Token]) -> Result<Vec<Tok>,
     requires lines { All (Lies bytes.now) tokens.now }
     ensures toks { IfOk result (λ toks. IsLayout bytes.now tokens.now toks.items) }
     ensures few { IfOk result (λ toks. length toks.items ≤ 4 * length tokens.now) }
-    ensures refused { (r : Refusal) → IsErrOf result (front.Refused r) → laid (end_of bytes.now tokens.now) (cells_of bytes.now tokens.now) ≡ Err r }
+    ensures refused { (r : Refusal) → IsErrOf result (front.Refused r) → IsRefused bytes.now tokens.now r }
+    ensures exact { (r : Refusal) → IsErrOf result (front.Refused r) → laid (end_of bytes.now tokens.now) (cells_of bytes.now tokens.now) ≡ Err r }
     ensures none { (r : Refusal) → IsErrOf result (front.Refused r) → (ks : List Tok) → IsLayout bytes.now tokens.now ks → ⊥ }
 {
     walk(alloc, bytes, tokens)
