@@ -2,10 +2,13 @@
 #![tactic(auto)]
 
 pub mod toks;
-pub mod roles;
-pub mod loads;
-pub mod frames;
-pub mod writers;
-pub mod steps;
+mod roles;
+mod loads;
+mod frames;
+mod writers;
+mod steps;
 pub mod layouts;
 pub mod laws;
+
+#[cfg(test)]
+mod tests;
