@@ -1,0 +1,15 @@
+pub mod Holes
+pub mod Fronts
+pub mod Turns
+pub mod Walks
+pub mod Complete
+pub mod Written
+pub mod Nests
+pub mod Sound
+pub mod Files
+pub mod Answers
+pub mod Counts
+pub mod Outcomes
+pub mod Closers
+pub mod Traces
+pub mod Refused

@@ -1,0 +1,16 @@
+use Rattle.verse_layout.proofs.Answers.{layout_of, no_layout, on_ok}
+use Rattle.verse_layout.proofs.Refused.{refused_of}
+use Rattle.verse_layout.proofs.Counts.{few_toks}
+use Rattle.verse_layout.proofs.layouts.layout.Goals as goal
+
+pub returns-clause-toks : goal.returns-clause-toks
+returns-clause-toks c = on_ok c.walk.result (λ toks h. layout_of c.args.bytes.now c.args.tokens.now toks.items h) c.walk.ensures.toks
+
+pub returns-clause-few : goal.returns-clause-few
+returns-clause-few c = on_ok c.walk.result (λ toks h. few_toks c.args.bytes.now c.args.tokens.now toks.items (layout_of c.args.bytes.now c.args.tokens.now toks.items h)) c.walk.ensures.toks
+
+pub returns-clause-none : goal.returns-clause-none
+returns-clause-none c = λ r e ks l. no_layout c.args.bytes.now c.args.tokens.now r ks (c.walk.ensures.refused r e) l
+
+pub returns-clause-refused : goal.returns-clause-refused
+returns-clause-refused c = λ r e. refused_of c.args.bytes.now c.args.tokens.now r (c.walk.ensures.refused r e)

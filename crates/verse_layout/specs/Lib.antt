@@ -1,0 +1,12 @@
+pub mod Roles
+pub mod Weights
+pub mod Loads
+pub mod Cells
+pub mod Written
+pub mod Blocks
+pub mod Frames
+pub mod Rests
+pub mod Stands
+pub mod Ends
+pub mod Layouts
+pub mod Stuck
