@@ -1,0 +1,3 @@
+pub mod RuleText
+pub mod Quotients
+pub mod TraceLine

@@ -1,0 +1,72 @@
+use crate::arithmetic::{add, ceil_div, floor_div, modulo, mul, neg, quotients_round, sub};
+use crate::refusals::Rule;
+use crate::rule_texts::rule_text;
+use crate::texts::{decimal, natural, trace_line};
+use std::test::Fail;
+
+// operation, operands, and the answer, `-` where there is none
+const CASES: &str = "add 2 3 5
+add 9223372036854775807 1 -
+sub -9223372036854775808 1 -
+sub 2 5 -3
+mul 3037000500 3037000500 -
+mul -4 5 -20
+neg 7 0 -7
+neg -9223372036854775808 0 -
+floor -7 2 -4
+floor 7 -2 -4
+floor -7 -2 3
+floor -9223372036854775808 -1 -
+ceil -7 2 -3
+ceil 7 2 4
+ceil 7 -2 -3
+ceil -9223372036854775808 -1 -
+mod 7 -2 1
+mod -7 2 1
+mod -9223372036854775808 -1 0";
+
+fn answer(operation: &str, a: i64, b: i64) -> Option<i64> {
+    match operation {
+        "add" => add(a, b),
+        "sub" => sub(a, b),
+        "mul" => mul(a, b),
+        "neg" => neg(a),
+        "floor" if b != 0 => floor_div(a, b),
+        "ceil" if b != 0 => ceil_div(a, b),
+        "mod" if b != 0 => modulo(a, b),
+        _ => None,
+    }
+}
+
+fn parsed(word: Option<&str>) -> Option<i64> {
+    word?.parse::<i64>().ok()
+}
+
+#[test]
+fn arithmetic_is_exact(rt: HostRuntime) -> Result<(), Fail> {
+    let mut count = 0u64;
+    for line in CASES.lines() {
+        let mut words = line.split_whitespace();
+        let operation = words.next().ok_or("an operation")?;
+        let a = parsed(words.next()).ok_or("an operand")?;
+        let b = parsed(words.next()).ok_or("an operand")?;
+        let expected = parsed(words.next());
+        assert_eq!(rt; answer(operation, a, b), expected, "{line}");
+        count = count.saturating_add(1);
+    }
+    assert_eq!(rt; count, 19);
+    quotients_round();
+    Ok(())
+}
+
+#[test]
+fn texts_are_written(rt: HostRuntime) -> Result<(), Fail> {
+    let mut out = Vec::new(rt.alloc());
+    decimal(i64::MIN, &mut out)?;
+    natural(u64::MAX, &mut out)?;
+    trace_line(1500, b"a\\b\nc", &mut out)?;
+    out.extend_from_slice(rule_text(Rule(30)).as_bytes())?;
+    let expected = "-9223372036854775808184467440737095516151500 a\\\\b\\nc\nunexpected token";
+    assert_eq!(rt; out.as_slice(), expected.as_bytes());
+    Ok(())
+}

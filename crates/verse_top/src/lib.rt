@@ -1,0 +1,4 @@
+//! All that the program does, as one call.
+#![tactic(auto)]
+
+pub mod commands;
