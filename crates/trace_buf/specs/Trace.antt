@@ -14,8 +14,11 @@ pub record Trace : Type 0 where
   -- how many lines were drained
   pub lines : ℕ
 
+abbrev pub line_text : ℕ × List ℕ → List ℕ
+line_text line = line_bytes line.0 line.1
+
 abbrev pub printed : List (ℕ × List ℕ) → List ℕ
-printed lines = flat_map (λ l. line_bytes l.0 l.1) lines
+printed lines = flat_map line_text lines
 
 -- the printed bytes of all lines that stand, the drained ones counted
 abbrev pub printed_size : Trace → ℕ

@@ -1,11 +1,11 @@
-ghost use Rattle.std.specs.Prelude.{◌≡◌, ◌≢◌, ◌+◌, ◌<◌, ◌≤◌, ◌↔◌, [], ◌∷◌, IsErrOf, OnErr, OnOk, length};
+ghost use Rattle.std.specs.Prelude.{◌≡◌, ◌≢◌, ◌+◌, ◌<◌, ◌≤◌, ◌↔◌, [], ◌∷◌, IsErrOf, OnErr, OnOk, length, take};
 ghost use Rattle.verse_base.specs.TraceLine.{line_bytes};
 ghost use Rattle.verse_outside.specs.Causes.{Rose};
 ghost use Rattle.verse_outside.specs.Held.{TookPrefix, with_more};
 ghost use Rattle.trace_buf.specs.Trace.{Trace, committed, drained, marked, outside, printed, printed_size, rolled_back, with_line};
 ghost use Rattle.trace_buf.specs.declared.buffers.LineFault.TheVariants as fault;
 
-use crate::lines::{Kept, remove_front, write_lines};
+use crate::lines::{Kept, front, remove_front, write_lines};
 use crate::sizes::line_size;
 use std::alloc::{AllocError, AllocFailed, Global};
 use std::marker::Model;
@@ -127,7 +127,9 @@ impl TraceBuf {
         requires { self.old.marks ≢ [] }
         ensures { self.new ≡ committed self.old }
     {
-        let _ = self.marks.pop();
+        let Some(_newest) = self.marks.pop() else {
+            return;
+        };
     }
 
     /// Closes the newest mark and takes the lines back to it.
@@ -135,9 +137,22 @@ impl TraceBuf {
         requires { self.old.marks ≢ [] }
         ensures { self.new ≡ rolled_back self.old }
     {
-        if let Some(mark) = self.marks.pop() {
-            self.lines.truncate(mark.lines - self.drained_lines);
-            self.bytes = mark.bytes;
+        let Some(newest) = self.marks.pop() else {
+            return;
+        };
+        self.lines.truncate(newest.lines - self.drained_lines);
+        self.bytes = newest.bytes;
+    }
+
+    /// How far the lines go that stand outside every open mark.
+    fn settled(&self) -> Mark
+        ensures lines { result.lines ≡ self.now.lines + length (outside self.now.kept self.now.marks) }
+        ensures bytes { result.bytes ≡ self.now.bytes + length (printed (outside self.now.kept self.now.marks)) }
+        ensures front { outside self.now.kept self.now.marks ≡ take (length (outside self.now.kept self.now.marks)) self.now.kept }
+    {
+        match self.marks.first() {
+            Some(oldest) => *oldest,
+            None => self.reached(),
         }
     }
 
@@ -151,12 +166,9 @@ impl TraceBuf {
         ensures later { S.faults out.old ≤ S.faults out.new }
         ensures failed { OnErr result (Rose (S.faults out.old) (S.faults out.new)) }
     {
-        let mark = match self.marks.first() {
-            Some(oldest) => *oldest,
-            None => self.reached(),
-        };
+        let mark = self.settled();
         let count = mark.lines - self.drained_lines;
-        write_lines(out, &self.lines[..count])?;
+        write_lines(out, front(self.lines.as_slice(), count))?;
         remove_front(&mut self.lines, count);
         self.drained_lines = mark.lines;
         self.drained_bytes = mark.bytes;

@@ -5,3 +5,5 @@ pub mod buffers;
 mod lines;
 mod pieces;
 mod sizes;
+#[cfg(test)]
+mod tests;

@@ -1,4 +1,4 @@
-ghost use Rattle.std.specs.Prelude.{◌≡◌, ◌≤◌, ◌<◌, ◌++◌, ◌∷◌, [], OnErr, OnOk, length, map, drop, string_bytes};
+ghost use Rattle.std.specs.Prelude.{◌≡◌, ◌≤◌, ◌<◌, ◌++◌, ◌∷◌, [], OnErr, OnOk, length, map, drop, take};
 ghost use Rattle.verse_base.specs.TraceLine.{escaped, escaped_byte, line_bytes};
 ghost use Rattle.verse_outside.specs.Causes.{Rose};
 ghost use Rattle.verse_outside.specs.Held.{TookPrefix, with_more};
@@ -78,6 +78,14 @@ pub(crate) fn write_lines<S: Sink>(out: &mut S, lines: &[Kept]) -> Result<(), Fa
     let mut piece = Piece::new();
     put_lines(out, &mut piece, lines)?;
     flush(out, &mut piece)
+}
+
+/// The first lines.
+pub(crate) fn front(lines: &[Kept], count: usize) -> &[Kept]
+    requires { count ≤ length lines.now }
+    ensures { result.now ≡ take count lines.now }
+{
+    &lines[..count]
 }
 
 /// Takes the first lines off the list.
