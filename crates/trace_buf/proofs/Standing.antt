@@ -1,6 +1,5 @@
 -- Marks that stand within the kept lines.
-use Rattle.std.proofs.Common.{◌≡◌, ℕ, ◌+◌, ◌-◌, ◌≤◌, List, [], ◌∷◌, ◌++◌, length, take, drop, map, reverse, get_or, ap, sym, ◌∙◌, refl, arith, length-append, length-take, length-drop, subst, take-take, Option, Some, slice_get, decimal}
-use Rattle.std.specs.List.{flat_map}
+use Rattle.std.proofs.Common.{◌≡◌, ℕ, ◌+◌, ◌-◌, ◌≤◌, List, [], ◌∷◌, ◌++◌, length, take, drop, map, reverse, ap, sym, ◌∙◌, refl, arith, length-append, length-take, length-drop, subst, take-take, Some, slice_get, decimal}
 use Rattle.std.proofs.lemmas.Grind.{flat_map-append}
 use Rattle.std.proofs.lemmas.List.{take-append-drop, take-append-le, drop-take, reverse-append}
 use Rattle.std.proofs.Math.Seq.{take-length}

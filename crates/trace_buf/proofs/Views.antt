@@ -4,10 +4,10 @@ use Rattle.std.proofs.lemmas.List.{take-map, drop-map, map-append}
 use Rattle.trace_buf.specs.declared.buffers.Mark.{Mark}
 use Rattle.trace_buf.specs.declared.buffers.TraceBuf.TheInside.{Inside}
 use Rattle.trace_buf.specs.declared.lines.Kept.{Kept}
-use Rattle.trace_buf.specs.Trace.{Trace, committed, drained, line_text, marked, newest, outside, printed, rolled_back, with_line}
+use Rattle.trace_buf.specs.Trace.{Trace, committed, drained, line_text, newest, outside, printed, rolled_back, with_line}
 use Rattle.trace_buf.specs.Lines.{line_of}
 use Rattle.trace_buf.specs.Shown.{IsWhole, Stands, copies, trace_of}
-use Rattle.trace_buf.proofs.Standing.{copies_commit, copies_drain, copies_line, length-printed, oldest, oldest_first, outside_within, printed-append, printed_parts, reaches, Reaches, reverse_pushed, stands_commit, stands_drain, stands_line}
+use Rattle.trace_buf.proofs.Standing.{copies_commit, copies_drain, copies_line, length-printed, oldest, oldest_first, printed-append, printed_parts, reaches, Reaches, reverse_pushed, stands_commit, stands_drain, stands_line}
 
 same_trace : {k k' : List (ℕ × List ℕ)} {m m' : List (List (ℕ × List ℕ))} {b b' l l' : ℕ} → k ≡ k' → m ≡ m' → b ≡ b' → l ≡ l' → (let t : Trace = record { kept = k; marks = m; bytes = b; lines = l } in t) ≡ (let t : Trace = record { kept = k'; marks = m'; bytes = b'; lines = l' } in t)
 same_trace {k' = k'} {m = m} {m' = m'} {b = b} {b' = b'} {l = l} e f g h =

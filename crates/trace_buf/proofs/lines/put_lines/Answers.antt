@@ -1,4 +1,4 @@
-use Rattle.std.proofs.Common.{◌≤◌, arith}
+use Rattle.std.proofs.Common.{arith}
 use Rattle.trace_buf.proofs.LinePasses.{lines_passed, lines_stopped}
 use Rattle.trace_buf.proofs.Passes.{on_err}
 use Rattle.trace_buf.proofs.lines.put_lines.Goals as goal

@@ -1,4 +1,4 @@
-use Rattle.std.proofs.Common.{◌≤◌, arith}
+use Rattle.std.proofs.Common.{arith}
 use Rattle.verse_base.specs.TraceLine.{escaped_byte}
 use Rattle.trace_buf.proofs.Passes.{on_err, passed_at, stopped_at}
 use Rattle.trace_buf.proofs.lines.put_text.Goals as goal

@@ -1,4 +1,4 @@
-use Rattle.std.proofs.Common.{◌≤◌, arith}
+use Rattle.std.proofs.Common.{arith}
 use Rattle.trace_buf.proofs.Passes.{on_err, passed_byte, stopped_byte}
 use Rattle.trace_buf.proofs.pieces.put_bytes.Goals as goal
 

@@ -1,4 +1,4 @@
-use Rattle.std.proofs.Common.{◌∙◌, ap, map, reverse}
+use Rattle.std.proofs.Common.{◌∙◌, ap, map}
 use Rattle.trace_buf.specs.Lines.{line_of}
 use Rattle.trace_buf.specs.Trace.{committed}
 use Rattle.trace_buf.proofs.Views.{committed_stands, committed_view}

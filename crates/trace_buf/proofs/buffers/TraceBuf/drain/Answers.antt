@@ -1,4 +1,4 @@
-use Rattle.std.proofs.Common.{◌≡◌, ◌∙◌, ◌-◌, List, ℕ, ap, map, subst, take}
+use Rattle.std.proofs.Common.{◌≡◌, ◌∙◌, ◌-◌, ap, map, subst, take}
 use Rattle.verse_outside.specs.Held.{TookPrefix, with_more}
 use Rattle.trace_buf.specs.Lines.{line_of}
 use Rattle.trace_buf.specs.Shown.{trace_of}

@@ -1,4 +1,4 @@
-use Rattle.std.proofs.Common.{◌≡◌, ◌+◌, ◌≤◌, ◌∙◌, ap, length, arith}
+use Rattle.std.proofs.Common.{◌≡◌, ◌+◌, ◌∙◌, ap, length, arith}
 use Rattle.verse_base.specs.TraceLine.{line_bytes}
 use Rattle.trace_buf.specs.Trace.{with_line}
 use Rattle.trace_buf.proofs.Views.{lengthens, longer_view, Lengthens}
