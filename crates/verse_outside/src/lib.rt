@@ -8,3 +8,5 @@ pub mod memory_sinks;
 pub mod sinks;
 pub mod standard;
 pub mod sure;
+#[cfg(test)]
+mod tests;

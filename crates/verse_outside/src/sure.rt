@@ -1,4 +1,4 @@
-ghost use Rattle.std.specs.Prelude.{◌≡◌, List, None, ℕ, Some, length};
+ghost use Rattle.std.specs.Prelude.{◌≡◌, ◌<◌, ◌≤◌, IfOk, List, None, ℕ, Some, length};
 
 use crate::files::{Files, LoadFault};
 use crate::sinks::{Failed, Sink};
@@ -51,7 +51,12 @@ impl Sink for SureSink {
 
     ghost faults = { λ _. 0 };
 
-    fn write(&mut self, piece: &[u8]) -> Result<usize, Failed> {
+    fn write(&mut self, piece: &[u8]) -> Result<usize, Failed>
+        requires { 0 < length piece.now }
+        ensures some { IfOk result (λ n. 0 < n) }
+        ensures within { IfOk result (λ n. n ≤ length piece.now) }
+        ensures whole { result ≡ Ok (length piece.now) }
+    {
         Ok(piece.len())
     }
 }
