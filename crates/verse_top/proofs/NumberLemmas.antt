@@ -106,13 +106,6 @@ cut_at word r h = parted word r (split_parts 44 word r h (omega arith))
 abbrev pub Lists : ℕ → List ℕ → Type 0
 Lists most word = (ns : List ℤ) × IsIntList word ns × (length ns ≤ most)
 
-has_one : {word : List ℕ} {ns : List ℤ} → IsIntList word ns → 1 ≤ length ns
-has_one (last s) = omega arith
-has_one (more s l) = omega arith
-
-pub lists_none : (word : List ℕ) → ¬ (Lists 0 word)
-lists_none word f = let count = has_one f.1 in let few = f.2 in omega arith
-
 lists_first : (most less : ℕ) → most ≡ suc less → (word first rest : List ℕ) → word ≡ first ++ 44 ∷ rest → NoComma first → (n : ℤ) → IsInt first n → Lists most word ↔ Lists less rest
 lists_first most less e word first rest split p n s = (
   λ (f : Lists most word). (

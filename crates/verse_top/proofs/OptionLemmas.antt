@@ -1,7 +1,7 @@
 -- What the first words give, and that words give the options in one way.
 use Rattle.std.proofs.Common.{◌≡◌, ℕ, true, false, Some, None, List, [], ◌∷◌, codes, refl, sym, ◌∙◌, ap, subst, arith, length, map}
 use Rattle.verse_top.specs.Words.{Given, Gives, IsNumber, none_left, steps, until, inputs, heap}
-use Rattle.verse_top.specs.Settings.{Continues, Wrong}
+use Rattle.verse_top.specs.Settings.{Continues}
 use Rattle.verse_top.proofs.NumberLemmas.{number_once}
 use Rattle.std.proofs.lemmas.Slice.Eq.{bytes_eq-Decides}
 use Rattle.std.specs.Str.{bytes_eq}
@@ -165,43 +165,7 @@ on_heap g now word left w fresh e h = (
       subst (λ v. Gives g (v ∷ left) h) (sym w) (heap fresh (subst (λ k. Gives k left h) e b))),
 )
 
--- the words that are left give nothing
-pub off_steps : (g : Given) (word value : List ℕ) (behind left : Words) → word ≡ codes "--steps" → behind ≡ value ∷ left → ((n : ℕ) → g.steps ≡ None → ¬ (IsNumber 100000000 value n)) → Wrong g (word ∷ behind)
-off_steps g word value behind left w split none h a =
-    let p = at_steps (first a word behind refl) w in
-    let same : p.value ≡ value = cc in
-    none p.n p.fresh (subst (λ v. IsNumber 100000000 v p.n) same p.number)
-
-pub off_until : (g : Given) (word value : List ℕ) (behind left : Words) → word ≡ codes "--until" → behind ≡ value ∷ left → ((n : ℕ) → g.until ≡ None → ¬ (IsNumber 1000000000000 value n)) → Wrong g (word ∷ behind)
-off_until g word value behind left w split none h a =
-    let p = at_until (first a word behind refl) w in
-    let same : p.value ≡ value = cc in
-    none p.n p.fresh (subst (λ v. IsNumber 1000000000000 v p.n) same p.number)
-
-pub off_inputs : (g : Given) (word : List ℕ) (behind : Words) → word ≡ codes "--in" → ¬ (g.inputs ≡ None) → Wrong g (word ∷ behind)
-off_inputs g word behind w none h a = none (at_inputs (first a word behind refl) w).fresh
-
-pub off_heap : (g : Given) (word : List ℕ) (behind : Words) → word ≡ codes "--heap" → ¬ (g.heap ≡ false) → Wrong g (word ∷ behind)
-off_heap g word behind w none h a = none (at_heap (first a word behind refl) w).fresh
-
-no_value : {g h : Given} {word : List ℕ} {behind : Words} → First g word behind h → behind ≡ [] → ¬ (word ≡ codes "--heap") → ⊥
-no_value (first_steps w p) e other = let f : p.value ∷ p.words ≡ [] = sym p.is ∙ e in cc
-no_value (first_until w p) e other = let f : p.value ∷ p.words ≡ [] = sym p.is ∙ e in cc
-no_value (first_inputs w p) e other = let f : p.value ∷ p.words ≡ [] = sym p.is ∙ e in cc
-no_value (first_heap w p) e other = other w
-
-pub off_alone : (g : Given) (word : List ℕ) (behind : Words) → behind ≡ [] → ¬ (word ≡ codes "--heap") → Wrong g (word ∷ behind)
-off_alone g word behind e other h a = no_value (first a word behind refl) e other
-
-none_of : {g h : Given} {word : List ℕ} {behind : Words} → First g word behind h → ¬ (word ≡ codes "--heap") → ¬ (word ≡ codes "--steps") → ¬ (word ≡ codes "--until") → ¬ (word ≡ codes "--in") → ⊥
-none_of (first_steps w p) a b c d = b w
-none_of (first_until w p) a b c d = c w
-none_of (first_inputs w p) a b c d = d w
-none_of (first_heap w p) a b c d = a w
-
-pub off_other : (g : Given) (word : List ℕ) (behind : Words) → ¬ (word ≡ codes "--heap") → ¬ (word ≡ codes "--steps") → ¬ (word ≡ codes "--until") → ¬ (word ≡ codes "--in") → Wrong g (word ∷ behind)
-off_other g word behind a b c d h gives = none_of (first gives word behind refl) a b c d
-
+-- no words are left
 pub all_taken : {A : Type 0} → (text : A → List ℕ) (g now : Given) (words : Words) (left : List A) → length left ≡ 0 → Continues g words now (map text left) → Gives g words now
 all_taken text g now words [] e on = (on now).1 none_left
 all_taken text g now words (a ∷ left) e on = absurd (omega arith)
