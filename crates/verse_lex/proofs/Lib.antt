@@ -10,3 +10,4 @@ pub mod Longest
 pub mod Parts
 pub mod Spelled
 pub mod Files
+pub mod Alone
