@@ -11,3 +11,4 @@ pub mod Parts
 pub mod Spelled
 pub mod Files
 pub mod Lines
+pub mod Alone

@@ -52,7 +52,7 @@ at_letter within b bs h = at_class is_letter within b bs h refl refl refl refl r
 pub at_digit : (within : Bool) (b : ℕ) (bs : List ℕ) → is_digit b ≡ true → piece_at within (b ∷ bs) ≡ number (b ∷ bs)
 at_digit within b bs h = at_class is_digit within b bs h refl refl refl refl refl refl refl ∙ (rw (digit_no_blank b h, digit_no_letter b h, h) refl)
 
-at_blank : (within : Bool) (b : ℕ) (bs : List ℕ) → is_blank b ≡ true → piece_at within (b ∷ bs) ≡ n.Separator 1
+pub at_blank : (within : Bool) (b : ℕ) (bs : List ℕ) → is_blank b ≡ true → piece_at within (b ∷ bs) ≡ n.Separator 1
 at_blank within b bs h = at_class is_blank within b bs h refl refl refl refl refl refl refl ∙ (rw h refl)
 
 reaches_along : (x y : Next) (len : ℕ) → x ≡ y → Reaches y len → Reaches x len
@@ -116,7 +116,7 @@ second_no_x b c cs h = by_first (b == 48)
     by_first false = refl
 
 -- digits and then a point begin no hexadecimal number
-point_no_hex : (c : ℕ) (cs ds : List ℕ) → all_pass is_digit cs ≡ true → is_hexadecimal (c ∷ (cs ++ 46 ∷ ds)) ≡ false
+pub point_no_hex : (c : ℕ) (cs ds : List ℕ) → all_pass is_digit cs ≡ true → is_hexadecimal (c ∷ (cs ++ 46 ∷ ds)) ≡ false
 point_no_hex c [] ds h = second_no_x c 46 ds refl
 point_no_hex c (d ∷ cs) ds h = second_no_x c d (cs ++ 46 ∷ ds) (other_byte is_digit d 120 (both (is_digit d) (all_pass is_digit cs) h).0 refl)
 

@@ -173,6 +173,20 @@ Explains within bs n.HoleEnd = (within ≡ true) × Unended bs
 abbrev pub EachExplained : Type 0
 EachExplained = (within : Bool) (bs : List ℕ) → Explains within bs (piece_at within bs)
 
+-- this piece of so many bytes
+abbrev pub next_of : Piece → ℕ → Next
+next_of separates count = n.Separator count
+next_of ends_line count = n.LineEnd count
+next_of (is_token kind) count = n.Token kind count
+
+-- each spelling, by itself, is read as what it spells
+abbrev pub SpelledAlone : Type 0
+SpelledAlone = (within : Bool) (cs : List ℕ) (piece : Piece) → Spells within cs piece → piece_at within cs ≡ next_of piece (length cs)
+
+-- no bytes spell two pieces
+abbrev pub OnePiece : Type 0
+OnePiece = (within : Bool) (cs : List ℕ) (p q : Piece) → Spells within cs p → Spells within cs q → p ≡ q
+
 -- The file is cut round this token: a byte-order mark, the bytes before it, its own, those behind.
 pub record IsSpelled (file : ℕ) (bs : List ℕ) (t : Token) : Type 0 where
   pub within : Bool
