@@ -72,6 +72,7 @@ impl Model for TraceBuf {
 }
 
 impl TraceBuf {
+    /// No lines, no marks.
     pub fn new(alloc: Global) -> TraceBuf
         ensures { result ≡ record { kept = []; marks = []; bytes = 0; lines = 0 } }
     {
