@@ -1,4 +1,26 @@
-//! A file's bytes are cut into tokens.
+//! A file's bytes are cut into tokens: at each place the longest piece, a separator or a token.
+//!
+//! To be read in this order: `tokens`, what is answered; `rules`, `bytes`, `words`, `marks`,
+//! `numbers`, `texts`, `comments`, of which pieces are made; `pieces`, what begins at a place;
+//! `places`, `steps`, `lexer`, the cut of a file; `contents`, what a text stands for; `laws`.
 #![tactic(auto)]
 
+mod bytes;
+mod comments;
+mod contents;
+pub mod laws;
+mod lexer;
+mod marks;
+mod numbers;
+mod pieces;
+mod places;
+mod rules;
+mod steps;
+#[cfg(test)]
+mod tests;
+mod texts;
 pub mod tokens;
+mod words;
+
+pub use contents::text_bytes;
+pub use lexer::lex;

@@ -1,0 +1,13 @@
+pub mod Tables
+pub mod Bounds
+pub mod Values
+pub mod Nested
+pub mod Nearness
+pub mod Pushes
+pub mod Unique
+pub mod Runs
+pub mod Longest
+pub mod Parts
+pub mod Spelled
+pub mod Files
+pub mod Alone

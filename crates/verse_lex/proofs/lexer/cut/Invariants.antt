@@ -1,0 +1,10 @@
+use Rattle.std.proofs.Common.{length}
+use Rattle.verse_lex.specs.Cut.{IsBounded}
+use Rattle.verse_lex.proofs.Pushes.{Reached}
+use Rattle.verse_lex.proofs.lexer.cut.Given as goal
+
+abbrev pub invariant-pieces : goal.invariant-pieces
+invariant-pieces l = Reached l.file l.bytes l.tokens.items l.here l.rest × IsBounded l.here l.rest 1048576
+
+abbrev pub decreases-pieces : goal.decreases-pieces
+decreases-pieces l = length l.rest

@@ -1,0 +1,10 @@
+pub mod Bytes
+pub mod Words
+pub mod Marks
+pub mod Numbers
+pub mod Texts
+pub mod Contents
+pub mod Comments
+pub mod Pieces
+pub mod Cut
+pub mod Spelling
