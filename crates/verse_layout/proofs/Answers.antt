@@ -1,14 +1,13 @@
 -- The walk's answer is the layout.
-use Rattle.std.proofs.Common.{◌≡◌, ◌<◌, ◌≤◌, ◌+◌, ◌*◌, Bool, true, false, not, ◌&&◌, List, [], ◌∷◌, ◌++◌, length, ℕ, Option, Some, None, Result, Ok, Err, IfOk, refl, sym, ◌∙◌, ap, subst, nat_le, arith, if◌then◌else◌, length-append}
+use Rattle.std.proofs.Common.{◌≡◌, ◌≤◌, Bool, true, false, List, [], ◌∷◌, ℕ, Option, Some, None, Result, Ok, Err, IfOk, refl, sym, ◌∙◌, ap, subst, nat_le}
 use Rattle.std.proofs.lemmas.Bool.{leb-true, le-leb}
 use Rattle.verse_base.specs.declared.refusals.Refusal.{Refusal}
 use Rattle.verse_lex.specs.declared.tokens.Token.{Token}
 use Rattle.verse_layout.specs.declared.toks.Tok.{Tok}
-use Rattle.verse_layout.specs.Cells.{Cell, cells_of}
+use Rattle.verse_layout.specs.Cells.{cells_of}
 use Rattle.verse_layout.specs.Ends.{end_of}
 use Rattle.verse_layout.specs.Loads.{Counts, load, after_tok, at_start}
-use Rattle.verse_layout.specs.Written.{Written, settled, Answer, with_front, judged, ended, refusal}
-use Rattle.verse_layout.specs.Blocks.{IsFile}
+use Rattle.verse_layout.specs.Written.{settled, Answer, with_front, judged, refusal}
 use Rattle.verse_layout.specs.Frames.{Walk, walk, nowhere, laid}
 use Rattle.verse_layout.specs.Layouts.{IsWithin, IsLayout, OneLayout}
 use Rattle.verse_layout.proofs.Walks.{if_true, if_false}

@@ -1,23 +1,20 @@
 -- Every place that a walk reaches goes on to a file's end.
-use Rattle.std.proofs.Common.{◌≡◌, ◌<◌, ◌+◌, Bool, true, false, not, ◌&&◌, ◌||◌, ◌⊎◌, inl, inr, List, [], ◌∷◌, ◌++◌, ℕ, Option, Some, None, refl, sym, ◌∙◌, ap, subst, append_assoc, append-nil, if◌then◌else◌, is_some, length, nat_lt, arith, length-append}
+use Rattle.std.proofs.Common.{◌≡◌, Bool, true, false, ◌&&◌, List, [], ◌∷◌, ◌++◌, ℕ, Option, Some, None, refl, sym, ◌∙◌, ap, subst, if◌then◌else◌, is_some, length, nat_lt, arith, length-append}
 use Rattle.std.proofs.Math.Seq.{take-append_seam}
 use Rattle.std.proofs.lemmas.Bool.{lt-ltb}
-use Rattle.verse_base.specs.declared.places.Place.{Place}
-use Rattle.verse_lex.specs.declared.tokens.Token.{Token}
 use Rattle.verse_lex.specs.declared.tokens.TokenKind.{TokenKind}
 use Rattle.verse_lex.specs.declared.tokens.TokenKind.TheVariants as k
 use Rattle.verse_lex.specs.declared.tokens.Mark.TheVariants as m
 use Rattle.verse_layout.specs.declared.frames.Spot.{Spot}
-use Rattle.verse_layout.specs.declared.roles.Role.{Role}
 use Rattle.verse_layout.specs.declared.roles.Role.TheVariants as role
 use Rattle.verse_layout.specs.declared.roles.Region.{Region}
 use Rattle.verse_layout.specs.declared.roles.Region.TheVariants as region
-use Rattle.verse_layout.specs.Roles.{role_of, has_lines, in_braces, is_same_region, is_brace_close}
-use Rattle.verse_layout.specs.Cells.{Cell, spot_at, ends_line, is_same, is_front, is_proper}
-use Rattle.verse_layout.specs.Blocks.{close_at, ends_block}
-use Rattle.verse_layout.specs.Frames.{Open, Here, Walk, write, walk, region_at, closes, innermost, at_end, is_block, block_in, line_start, step, nowhere}
-use Rattle.verse_layout.proofs.Walks.{at_line, go, go_open, go_token, if_true, if_false, no_start, brace_start, line_begins, go_on, same_self, region_self}
-use Rattle.verse_layout.proofs.Complete.{closes_token, go_close, no_line, go_line, Heads, go_again, go_indent, led, block_is, block_braces, block_lines}
+use Rattle.verse_layout.specs.Roles.{role_of, has_lines, in_braces, is_same_region}
+use Rattle.verse_layout.specs.Cells.{Cell, ends_line, is_same, is_front, is_proper}
+use Rattle.verse_layout.specs.Blocks.{ends_block}
+use Rattle.verse_layout.specs.Frames.{Open, Here, Walk, walk, region_at, closes, innermost, at_end, is_block, block_in, line_start, nowhere}
+use Rattle.verse_layout.proofs.Walks.{at_line, go, if_true, if_false, no_start, brace_start, go_on, same_self}
+use Rattle.verse_layout.proofs.Complete.{closes_token, go_close, no_line, Heads, go_again, go_indent, block_is, block_braces}
 use Rattle.verse_layout.proofs.Nests.{Nested, nested_file, nested_block, nested_bracket}
 use Rattle.verse_layout.proofs.Sound.{by_if}
 use Rattle.verse_layout.proofs.Outcomes.{Fine}
@@ -63,9 +60,10 @@ out_facts : (fs : List Open) → Nested fs → has_lines (region_at fs) ≡ true
 out_facts [] n e g = (refl, refl)
 out_facts (f ∷ fs) (nested_file x) e g = (if_true (is_same_region f.region region.File) None _ (ap (λ r. is_same_region r region.File) x), ap (λ r. closer r ++ []) x)
 out_facts (f ∷ fs) (nested_block x l b n) e g =
-    let rest = out_facts fs n l (sym b ∙ g) in
-    (if_false (is_same_region f.region region.File) None _ (block_no_file f.region x) ∙ if_true (is_block f.region) (innermost fs) (Some f.place) x ∙ rest.0,
-     ap (λ cs. cs ++ closers fs) (block_closer f.region x) ∙ rest.1)
+    let rest = out_facts fs n l (sym b ∙ g) in (
+      if_false (is_same_region f.region region.File) None _ (block_no_file f.region x) ∙ if_true (is_block f.region) (innermost fs) (Some f.place) x ∙ rest.0,
+      ap (λ cs. cs ++ closers fs) (block_closer f.region x) ∙ rest.1,
+    )
 out_facts (f ∷ fs) (nested_bracket x y n) e g = absurd (no_such f.region x y e g)
 
 record BraceFirst (cs : List Cell) : Type 0 where
@@ -179,8 +177,8 @@ line_ends h f fs n e = record {
   rest = a_name (Some f.text) ∷ closers (f ∷ fs);
   first = refl;
   well = λ end.
-    let x : Heads f.text (a_name (Some f.text) ∷ closers (f ∷ fs)) = record { first = a_name (Some f.text); rest = closers (f ∷ fs); cs_are = refl; line_is = refl; brace = refl; bracket = refl } in
-    ap (λ (y : Walk). y.stop) (go_again end h f fs f.text (a_name (Some f.text) ∷ closers (f ∷ fs)) e refl x) ∙ all_closed end (f ∷ fs) n f.text;
+      let x : Heads f.text (a_name (Some f.text) ∷ closers (f ∷ fs)) = record { first = a_name (Some f.text); rest = closers (f ∷ fs); cs_are = refl; line_is = refl; brace = refl; bracket = refl } in
+      ap (λ (y : Walk). y.stop) (go_again end h f fs f.text (a_name (Some f.text) ∷ closers (f ∷ fs)) e refl x) ∙ all_closed end (f ∷ fs) n f.text;
 }
 
 block_ends_well : (h : List ℕ) (f : Open) (fs : List Open) → Nested (f ∷ fs) → has_lines f.region ≡ true → Ends (at_line true h (f ∷ fs)) true
@@ -193,8 +191,8 @@ block_ends_well h f fs n e =
       rest = c ∷ closers (g ∷ f ∷ fs);
       first = refl;
       well = λ end.
-        let x : Heads j (c ∷ closers (g ∷ f ∷ fs)) = record { first = c; rest = closers (g ∷ f ∷ fs); cs_are = refl; line_is = refl; brace = refl; bracket = refl } in
-        ap (λ (y : Walk). y.stop) (go_indent end h j f fs (c ∷ closers (g ∷ f ∷ fs)) e (deeper h) x) ∙ all_closed end (g ∷ f ∷ fs) nested j;
+          let x : Heads j (c ∷ closers (g ∷ f ∷ fs)) = record { first = c; rest = closers (g ∷ f ∷ fs); cs_are = refl; line_is = refl; brace = refl; bracket = refl } in
+          ap (λ (y : Walk). y.stop) (go_indent end h j f fs (c ∷ closers (g ∷ f ∷ fs)) e (deeper h) x) ∙ all_closed end (g ∷ f ∷ fs) nested j;
     }
 
 -- every place ends well

@@ -1,6 +1,6 @@
 -- The walk of a file that is a block writes the block out.
-use Rattle.std.proofs.Common.{◌≡◌, Bool, true, false, not, ◌&&◌, ◌||◌, List, [], ◌∷◌, ◌++◌, ℕ, Option, Some, None, refl, sym, ◌∙◌, ap, subst, append_assoc, append-nil, if◌then◌else◌, length, take}
-use Rattle.std.specs.Cmp.Lexicographic.{other_text, same_text}
+use Rattle.std.proofs.Common.{◌≡◌, Bool, true, false, not, ◌||◌, List, [], ◌∷◌, ◌++◌, ℕ, Option, Some, None, refl, sym, ◌∙◌, ap, subst, append_assoc, if◌then◌else◌}
+use Rattle.std.specs.Cmp.Lexicographic.{same_text}
 use Rattle.std.proofs.Math.Seq.{take-length}
 use Rattle.verse_base.specs.declared.places.Place.{Place}
 use Rattle.verse_lex.specs.declared.tokens.Token.{Token}
@@ -13,8 +13,8 @@ use Rattle.verse_layout.specs.declared.roles.Region.TheVariants as region
 use Rattle.verse_layout.specs.Roles.{role_of, has_lines, in_braces, is_same_region, is_brace_close, is_bracket_close}
 use Rattle.verse_layout.specs.Cells.{Cell, spot_of, spot_at, tok_as, passed, ends_line, is_same, is_front, is_proper}
 use Rattle.verse_layout.specs.Written.{Written, tok, sep}
-use Rattle.verse_layout.specs.Blocks.{is_no_bracket, separates, is_opener, stays, opener, line_sep, open_at, close_at, leaves, ends_block, Inside, inside_end, inside_token, inside_bracket, Bracket, round, braces, Part, part_token, part_sep, part_bracket, Body, body_part, body_block, Rest, rest_end, rest_more, Line, line, Block, block_last, block_more, Lines, lines_end, lines_more, IsFile, no_tokens, one_block}
-use Rattle.verse_layout.specs.Frames.{Open, Here, Walk, write, walk, on_role, line_start, begins_none, region_at, opened_as, closed_as, close, leave, lead, indent, block_in, is_block, innermost, at_end, closes, no_more, nowhere}
+use Rattle.verse_layout.specs.Blocks.{is_no_bracket, separates, is_opener, stays, opener, line_sep, open_at, close_at, leaves, ends_block, Bracket, round, braces, Part, part_token, part_sep, part_bracket, Body, body_part, body_block, Line, line, Block, block_last, block_more}
+use Rattle.verse_layout.specs.Frames.{Open, Here, Walk, write, walk, on_role, line_start, begins_none, opened_as, closed_as, close, leave, block_in, is_block, innermost}
 use Rattle.verse_layout.proofs.Walks.{at_line, go, go_open, go_token, front, front_front, if_true, if_false, same_self, same_region, region_self, no_start, brace_start, line_begins, go_on}
 
 -- around and after what is written
@@ -285,9 +285,9 @@ go_close end j m h b f fs place (c ∷ cs) e g n p = by_test (is_brace_close (ro
         let i : Open = record { region = block_in f.region; text = j; place = place } in
         let inside : block_in f.region ≡ region.BraceBlock = ap (λ x. if x then region.BraceBlock else region.Block) (g ∙ v) in
         let left : go end m (i ∷ f ∷ fs) (c ∷ cs) ≡ close region.Brace (i ∷ f ∷ fs) c.token k =
-            go_on end m i (f ∷ fs) c cs (brace_start (i ∷ f ∷ fs) c (is_brace _ r)) ∙ ap (λ x. on_role x (ends_line cs) (at_line false m (i ∷ f ∷ fs)) c.token k) r in
+        go_on end m i (f ∷ fs) c cs (brace_start (i ∷ f ∷ fs) c (is_brace _ r)) ∙ ap (λ x. on_role x (ends_line cs) (at_line false m (i ∷ f ∷ fs)) c.token k) r in
         let right : go end h (f ∷ fs) (c ∷ cs) ≡ close region.Brace (f ∷ fs) c.token k =
-            go_on end h f fs c cs (brace_start (f ∷ fs) c (is_brace _ r)) ∙ ap (λ x. on_role x (ends_line cs) (at_line false h (f ∷ fs)) c.token k) r in
+        go_on end h f fs c cs (brace_start (f ∷ fs) c (is_brace _ r)) ∙ ap (λ x. on_role x (ends_line cs) (at_line false h (f ∷ fs)) c.token k) r in
         left ∙ ap (λ x. close region.Brace (record { region = x; text = j; place = place } ∷ f ∷ fs) c.token k) inside ∙ sym (ap (write (close_at (spot_of c.token))) right)
 
     at_line_start : is_brace_close (role_of c.token.kind) ≡ false → (o : Option (List ℕ)) → c.line ≡ o → leaves j o ≡ true →
@@ -300,7 +300,7 @@ go_close end j m h b f fs place (c ∷ cs) e g n p = by_test (is_brace_close (ro
         let left : go end m (x ∷ f ∷ fs) (c ∷ cs) ≡ leave (x ∷ f ∷ fs) c.token i k = go_line end m x (f ∷ fs) c cs i (block_lines f.region) r l in
         let right : go end h (f ∷ fs) (c ∷ cs) ≡ leave (f ∷ fs) c.token i k = go_line end h f fs c cs i e r l in
         let moves : leave (x ∷ f ∷ fs) c.token i k ≡ write (close_at (spot_of c.token)) (leave (f ∷ fs) c.token i k) =
-            rw (block_no_brace f.region, not_same j i off, block_is f.region, off) refl in
+        rw (block_no_brace f.region, not_same j i off, block_is f.region, off) refl in
         left ∙ moves ∙ sym (ap (write (close_at (spot_of c.token))) right)
 
     by_test : (v : Bool) → is_brace_close (role_of c.token.kind) ≡ v → go end m (record { region = block_in f.region; text = j; place = place } ∷ f ∷ fs) (c ∷ cs) ≡ write (close_at (spot_of c.token)) (go end h (f ∷ fs) (c ∷ cs))

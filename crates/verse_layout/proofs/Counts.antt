@@ -1,16 +1,14 @@
 -- A list of tokens has at most four toks for each token.
-use Rattle.std.proofs.Common.{◌≡◌, ◌<◌, ◌≤◌, ◌+◌, ◌*◌, Bool, true, false, not, ◌&&◌, List, [], ◌∷◌, ◌++◌, length, ℕ, suc, Option, Some, None, Result, Ok, Err, refl, sym, ◌∙◌, ap, subst, map, arith, length-append}
+use Rattle.std.proofs.Common.{◌≡◌, ◌≤◌, ◌+◌, ◌*◌, Bool, true, false, not, ◌&&◌, List, [], ◌∷◌, ◌++◌, length, ℕ, Option, Some, None, refl, ap, arith, length-append}
 use Rattle.std.proofs.lemmas.List.{length-map}
-use Rattle.verse_base.specs.declared.refusals.Refusal.{Refusal}
 use Rattle.verse_lex.specs.declared.tokens.Token.{Token}
 use Rattle.verse_layout.specs.declared.toks.Tok.{Tok}
 use Rattle.verse_layout.specs.declared.frames.Spot.{Spot}
 use Rattle.verse_layout.specs.declared.roles.Role.{Role}
 use Rattle.verse_layout.specs.declared.roles.Role.TheVariants as role
 use Rattle.verse_layout.specs.Roles.{role_of}
-use Rattle.verse_layout.specs.Cells.{Cell, cell_of, cells_of, spot_at, passed, tok_as}
+use Rattle.verse_layout.specs.Cells.{Cell, cell_of, spot_at, passed, tok_as}
 use Rattle.verse_layout.specs.declared.toks.TokKind.TheVariants as t
-use Rattle.verse_layout.specs.Ends.{end_of}
 use Rattle.verse_layout.specs.Written.{Written, tok, sep, no_sep, settled, first_sep, kept_sep, is_close, is_open}
 use Rattle.verse_layout.specs.Blocks.{opener, open_at, close_at, Inside, inside_end, inside_token, inside_bracket, Bracket, round, braces, Part, part_token, part_sep, part_bracket, Body, body_part, body_block, Rest, rest_end, rest_more, Line, line, Block, block_last, block_more, Lines, lines_end, lines_more, IsFile, no_tokens, one_block}
 use Rattle.verse_layout.specs.Layouts.{IsLayout}

@@ -1,22 +1,19 @@
 -- What a walk writes to the file's end is a block: lines, and the whole file.
-use Rattle.std.proofs.Common.{◌≡◌, Bool, true, false, not, ◌&&◌, ◌||◌, ◌⊎◌, inl, inr, List, [], ◌∷◌, ◌++◌, ℕ, Option, Some, None, refl, sym, ◌∙◌, ap, subst, append_assoc, append-nil, if◌then◌else◌}
+use Rattle.std.proofs.Common.{◌≡◌, Bool, true, false, not, ◌&&◌, ◌||◌, ◌⊎◌, inl, inr, List, [], ◌∷◌, ◌++◌, ℕ, Option, Some, None, refl, sym, ◌∙◌, ap, subst, append_assoc}
 use Rattle.std.specs.Cmp.Lexicographic.{same_text}
 use Rattle.verse_base.specs.declared.places.Place.{Place}
-use Rattle.verse_lex.specs.declared.tokens.Token.{Token}
 use Rattle.verse_layout.specs.declared.frames.Spot.{Spot}
-use Rattle.verse_layout.specs.declared.roles.Role.{Role}
-use Rattle.verse_layout.specs.declared.roles.Role.TheVariants as role
 use Rattle.verse_layout.specs.declared.roles.Region.{Region}
 use Rattle.verse_layout.specs.declared.roles.Region.TheVariants as region
 use Rattle.verse_layout.specs.Roles.{role_of, has_lines, in_braces, is_same_region, is_brace_close, is_bracket_close}
 use Rattle.verse_layout.specs.Cells.{Cell, spot_of, spot_at, ends_line, is_same, is_front, is_proper}
-use Rattle.verse_layout.specs.Written.{Written, tok}
-use Rattle.verse_layout.specs.Blocks.{line_sep, open_at, close_at, leaves, ends_block, Body, Rest, rest_end, rest_more, Line, line, Block, Lines, lines_more, IsFile, no_tokens, one_block}
-use Rattle.verse_layout.specs.Frames.{Open, Here, Walk, write, walk, on_token, before_token, line_start, begins_none, region_at, leave, lead, indent, follow, block_in, is_block, is_none, innermost, at_end, closes, nowhere}
-use Rattle.verse_layout.proofs.Walks.{at_line, go, go_open, go_token, if_true, if_false, same_region, line_begins, brace_start, no_start}
-use Rattle.verse_layout.proofs.Complete.{not_true, block_lines, block_braces, block_is, block_no_file, block_no_brace, body_begins, Begins, closes_brace, is_brace}
+use Rattle.verse_layout.specs.Written.{Written}
+use Rattle.verse_layout.specs.Blocks.{line_sep, open_at, close_at, leaves, ends_block, rest_end, rest_more, Line, line, Block, lines_more, IsFile, no_tokens, one_block}
+use Rattle.verse_layout.specs.Frames.{Open, Walk, write, walk, on_token, before_token, line_start, region_at, leave, lead, indent, block_in, is_block, innermost, at_end, closes, nowhere}
+use Rattle.verse_layout.proofs.Walks.{at_line, go_token, if_true, if_false, same_region, line_begins, brace_start, no_start}
+use Rattle.verse_layout.proofs.Complete.{block_lines, block_braces, block_is, block_no_file, block_no_brace, body_begins, is_brace}
 use Rattle.verse_layout.proofs.Nests.{Tail, tail_end, tail_more, line_tail, Nest, nest_line, nest_round, Out, out_file, out_block, out_brace, Start, start_line, start_round, start_brace, Opened, Nested, nested_file, nested_block, nested_bracket, out_lines}
-use Rattle.verse_layout.proofs.Sound.{by_if, State, Sound, Starts, Outs, token_sound}
+use Rattle.verse_layout.proofs.Sound.{by_if, State, Sound, Outs, token_sound}
 
 -- a line stands before the lines of its block, or in braces before the further lines
 add_line : {end : Spot} {i : List ℕ} {f : Open} {fs : List Open} {cs ds : List Cell} {vs us : List Written} → (f.region ≡ region.Brace) ⊎ (f.text ≡ i) → Line end (in_braces f.region) i cs vs ds → Out end (f ∷ fs) ds us → Out end (f ∷ fs) cs (vs ++ us)
@@ -67,13 +64,13 @@ leave_sound end i [] c cs ih n e l p = absurd (no_frames n)
     no_frames x = elim x [ ]
 leave_sound end i (f ∷ fs) c cs ih n e l p =
     by_if (Outs end (f ∷ fs) (c ∷ cs)) (is_same_region f.region region.Brace || is_same f.text i) _ _
-      (λ a. λ s. start_out end i f fs c cs _ l p e (here (or_cases (is_same_region f.region region.Brace) (is_same f.text i) a)) (token_sound end i f fs c cs ih n s))
-      (λ a. by_if (Outs end (f ∷ fs) (c ∷ cs)) (is_block f.region && not (is_front f.text i)) _ _
-        (λ b. λ s.
-          let x = both_true (is_block f.region) (is_front f.text i) b in
-          let y = nested_block_lines f fs x.0 n in
-          out_block x.0 (tail_end (leave_end _ i f.text c cs l p x.1)) (leave_sound end i fs c cs ih y.1 y.0 l p s) refl)
-        (λ b s. absurd (cc)))
+    (λ a. λ s. start_out end i f fs c cs _ l p e (here (or_cases (is_same_region f.region region.Brace) (is_same f.text i) a)) (token_sound end i f fs c cs ih n s))
+    (λ a. by_if (Outs end (f ∷ fs) (c ∷ cs)) (is_block f.region && not (is_front f.text i)) _ _
+    (λ b. λ s.
+    let x = both_true (is_block f.region) (is_front f.text i) b in
+    let y = nested_block_lines f fs x.0 n in
+    out_block x.0 (tail_end (leave_end _ i f.text c cs l p x.1)) (leave_sound end i fs c cs ih y.1 y.0 l p s) refl)
+    (λ b s. absurd (cc)))
   where
     here : (is_same_region f.region region.Brace ≡ true) ⊎ (is_same f.text i ≡ true) → (f.region ≡ region.Brace) ⊎ (f.text ≡ i)
     here (inl q) = inl (same_region f.region region.Brace q)
@@ -113,10 +110,10 @@ indent_sound end h i f fs c cs ih n e l p =
     let g : Open = record { region = block_in f.region; text = i; place = c.token.place } in
     let nested : Nested (g ∷ f ∷ fs) = nested_block (block_is f.region) e (block_braces f.region (in_braces f.region) refl) n in
     by_if P (is_proper h i) _ _
-      (λ q. by_if P (is_bracket_close (role_of c.token.kind)) _ _
-        (λ a s. absurd (cc))
-        (λ a. λ s. open_start end i h g f fs c cs _ refl refl q l p (token_sound end i g (f ∷ fs) c cs ih nested s)))
-      (λ q s. absurd (cc))
+    (λ q. by_if P (is_bracket_close (role_of c.token.kind)) _ _
+    (λ a s. absurd (cc))
+    (λ a. λ s. open_start end i h g f fs c cs _ refl refl q l p (token_sound end i g (f ∷ fs) c cs ih nested s)))
+    (λ q s. absurd (cc))
 
 block_no_file_is : (r : Region) → is_block r ≡ true → is_same_region r region.File ≡ false
 block_no_file_is region.Block p = refl
@@ -150,8 +147,8 @@ end_out end (f ∷ fs) (nested_bracket a b n) e = absurd (let x = no_braces_left
 end_out end (f ∷ fs) (nested_block g l b n) e =
     let x = no_braces_left (f ∷ fs) (nested_block g l b n) e in
     by_if (Outs end (f ∷ fs) []) (is_block f.region) _ _
-      (λ y. λ s. out_block g (tail_end (ap not x.1)) (end_out end fs n (block_inner f fs g e) s) refl)
-      (λ y. absurd (cc))
+    (λ y. λ s. out_block g (tail_end (ap not x.1)) (end_out end fs n (block_inner f fs g e) s) refl)
+    (λ y. absurd (cc))
 
 end_sound : (end : Spot) (o : Bool) (h : List ℕ) (fs : List Open) (p : Option Place) → Nested fs → innermost fs ≡ p → (at_end p end (at_line o h fs)).stop ≡ None → State o end h fs [] ((at_end p end (at_line o h fs)).written)
 end_sound end o h fs (Some place) n e s = absurd (cc)

@@ -1,7 +1,5 @@
 -- What the frames that are open still want, where a walk goes on to the file's end.
-use Rattle.std.proofs.Common.{◌≡◌, Bool, true, false, not, ◌&&◌, ◌||◌, List, [], ◌∷◌, ◌++◌, ℕ, Option, Some, None, refl, sym, ◌∙◌, ap, subst, append_assoc, append-nil, if◌then◌else◌}
-use Rattle.verse_base.specs.declared.places.Place.{Place}
-use Rattle.verse_lex.specs.declared.tokens.Token.{Token}
+use Rattle.std.proofs.Common.{◌≡◌, Bool, true, false, List, [], ◌∷◌, ◌++◌, ℕ, refl, sym, ◌∙◌, ap, subst, append_assoc, append-nil}
 use Rattle.verse_lex.specs.declared.tokens.TokenKind.{TokenKind}
 use Rattle.verse_lex.specs.declared.tokens.TokenKind.TheVariants as k
 use Rattle.verse_lex.specs.declared.tokens.Mark.{Mark}
@@ -12,11 +10,11 @@ use Rattle.verse_layout.specs.declared.roles.Role.{Role}
 use Rattle.verse_layout.specs.declared.roles.Role.TheVariants as role
 use Rattle.verse_layout.specs.declared.roles.Region.{Region}
 use Rattle.verse_layout.specs.declared.roles.Region.TheVariants as region
-use Rattle.verse_layout.specs.Roles.{mark_role, role_of, has_lines, in_braces, is_same_region, is_brace_close}
-use Rattle.verse_layout.specs.Cells.{Cell, spot_at, tok_as, passed, ends_line, is_proper}
-use Rattle.verse_layout.specs.Written.{Written, tok, sep}
-use Rattle.verse_layout.specs.Blocks.{is_no_bracket, open_at, close_at, ends_block, Inside, inside_end, inside_token, inside_bracket, Bracket, Part, part_token, part_sep, part_bracket, Body, body_part, Rest, rest_end, rest_more, Line, Block, block_last, block_more, Lines, lines_end, lines_more}
-use Rattle.verse_layout.specs.Frames.{Open, Walk, is_block, region_at}
+use Rattle.verse_layout.specs.Roles.{mark_role, role_of, has_lines, in_braces, is_same_region}
+use Rattle.verse_layout.specs.Cells.{Cell, spot_at, tok_as, passed, is_proper}
+use Rattle.verse_layout.specs.Written.{Written, tok}
+use Rattle.verse_layout.specs.Blocks.{open_at, close_at, ends_block, Inside, inside_bracket, Bracket, Part, part_bracket, Body, body_part, Rest, Line, Block, block_last, block_more, Lines}
+use Rattle.verse_layout.specs.Frames.{Open, is_block, region_at}
 
 -- the lines of a block behind one of its lines
 pub data Tail : Spot → Bool → List ℕ → List Cell → List Written → List Cell → Type 0 where

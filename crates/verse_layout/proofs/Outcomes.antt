@@ -1,19 +1,16 @@
 -- Each step of a walk passes on to a place, or stops with a refusal, whatever follows it.
-use Rattle.std.proofs.Common.{◌≡◌, Bool, true, false, not, ◌&&◌, ◌||◌, ◌⊎◌, inl, inr, List, [], ◌∷◌, ◌++◌, ℕ, Option, Some, None, refl, sym, ◌∙◌, ap, subst, append_assoc, append-nil, if◌then◌else◌, is_some}
+use Rattle.std.proofs.Common.{◌≡◌, Bool, true, false, not, ◌&&◌, ◌||◌, ◌⊎◌, inl, inr, List, [], ◌∷◌, ◌++◌, ℕ, Option, Some, None, refl, sym, ◌∙◌, ap, if◌then◌else◌}
 use Rattle.verse_base.specs.declared.places.Place.{Place}
-use Rattle.verse_base.specs.declared.refusals.Refusal.{Refusal}
 use Rattle.verse_lex.specs.declared.tokens.Token.{Token}
-use Rattle.verse_layout.specs.declared.frames.Spot.{Spot}
-use Rattle.verse_layout.specs.declared.toks.TokKind.TheVariants as t
 use Rattle.verse_layout.specs.declared.roles.Role.{Role}
 use Rattle.verse_layout.specs.declared.roles.Role.TheVariants as role
 use Rattle.verse_layout.specs.declared.roles.Region.{Region}
 use Rattle.verse_layout.specs.declared.roles.Region.TheVariants as region
 use Rattle.verse_layout.specs.Roles.{role_of, has_lines, in_braces, is_same_region, is_brace_close, is_bracket_close}
-use Rattle.verse_layout.specs.Cells.{Cell, spot_of, mark_at, passed, ends_line, is_same, is_front, is_proper}
-use Rattle.verse_layout.specs.Written.{Written, tok, sep, refusal}
+use Rattle.verse_layout.specs.Cells.{Cell, spot_of, passed, is_same, is_front, is_proper}
+use Rattle.verse_layout.specs.Written.{Written, tok}
 use Rattle.verse_layout.specs.Blocks.{line_sep, close_at}
-use Rattle.verse_layout.specs.Frames.{Open, Here, Walk, write, refuse, walk, step, on_role, on_token, before_token, line_start, begins_none, region_at, leave, lead, indent, follow, begin_block, close, closed_as, opened_as, stay, divided, after_colon, block_in, is_block, is_none}
+use Rattle.verse_layout.specs.Frames.{Open, Here, Walk, write, refuse, step, on_role, on_token, before_token, line_start, region_at, leave, lead, indent, follow, close, closed_as, opened_as, stay, after_colon, is_block, is_none}
 use Rattle.verse_layout.proofs.Walks.{at_line, front, front_front, same_region}
 use Rattle.verse_layout.proofs.Complete.{block_is, block_braces}
 use Rattle.verse_layout.proofs.Nests.{Nested, nested_file, nested_block, nested_bracket, is_bracket, no_opens, no_closes}
@@ -74,29 +71,29 @@ close_outcome : (r : Region) (fs : List Open) (token : Token) → is_bracket r �
 close_outcome r [] token b n = absurd (nested_some n)
 close_outcome r (f ∷ fs) token b n =
     outcome_if (is_same_region f.region r)
-      (λ same. after (tok (closed_as r token)) (here (at_line false f.text fs) (fine_shut f.text fs (nested_tail f fs (ap (λ x. is_same_region x region.File) (same_region f.region r same) ∙ bracket_no_file r b) n)) refl))
-      (λ other. outcome_if (is_same_region r region.Brace && is_same_region f.region region.BraceBlock)
-        (λ both. after (close_at (spot_of token))
-          (close_outcome r fs token b (nested_tail f fs (ap (λ x. is_same_region x region.File) (same_region f.region region.BraceBlock (both_is (is_same_region r region.Brace) (is_same_region f.region region.BraceBlock) both).1)) n)))
-        (λ x. no 21 (inr refl)))
+    (λ same. after (tok (closed_as r token)) (here (at_line false f.text fs) (fine_shut f.text fs (nested_tail f fs (ap (λ x. is_same_region x region.File) (same_region f.region r same) ∙ bracket_no_file r b) n)) refl))
+    (λ other. outcome_if (is_same_region r region.Brace && is_same_region f.region region.BraceBlock)
+    (λ both. after (close_at (spot_of token))
+    (close_outcome r fs token b (nested_tail f fs (ap (λ x. is_same_region x region.File) (same_region f.region region.BraceBlock (both_is (is_same_region r region.Brace) (is_same_region f.region region.BraceBlock) both).1)) n)))
+    (λ x. no 21 (inr refl)))
 
 pub leave_outcome : (fs : List Open) (token : Token) (text : List ℕ) → Nested fs → Outcome token.place (λ go. leave fs token text (λ gs. write (line_sep token) (go (at_line false text gs))))
 leave_outcome [] token text n = absurd (nested_some n)
 leave_outcome (f ∷ fs) token text n =
     outcome_if (is_same_region f.region region.Brace || is_same f.text text)
-      (λ same. after (line_sep token) (here (at_line false text (f ∷ fs)) (fine_shut text (f ∷ fs) n) refl))
-      (λ other. outcome_if (is_block f.region && not (is_front f.text text))
-        (λ both. after (close_at (spot_of token))
-          (leave_outcome fs token text (nested_tail f fs (block_no_file f.region (both_is (is_block f.region) (not (is_front f.text text)) both).0) n)))
-        (λ x. no 20 (inl refl)))
+    (λ same. after (line_sep token) (here (at_line false text (f ∷ fs)) (fine_shut text (f ∷ fs) n) refl))
+    (λ other. outcome_if (is_block f.region && not (is_front f.text text))
+    (λ both. after (close_at (spot_of token))
+    (leave_outcome fs token text (nested_tail f fs (block_no_file f.region (both_is (is_block f.region) (not (is_front f.text text)) both).0) n)))
+    (λ x. no 20 (inl refl)))
 
 indent_outcome : (h : Here) (token : Token) (text : List ℕ) → Nested h.frames → has_lines (region_at h.frames) ≡ true → Outcome token.place (λ go. indent h token text go)
 indent_outcome h token text n e =
     outcome_if (is_proper h.line text)
-      (λ p. outcome_if (is_bracket_close (role_of token.kind))
-        (λ b. no 21 (inr refl))
-        (λ b. after _ (after (line_sep token) (here _ (fine_shut text _ (nested_block (block_is (region_at h.frames)) e (block_braces (region_at h.frames) (in_braces (region_at h.frames)) refl) n)) refl))))
-      (λ p. no 20 (inl refl))
+    (λ p. outcome_if (is_bracket_close (role_of token.kind))
+    (λ b. no 21 (inr refl))
+    (λ b. after _ (after (line_sep token) (here _ (fine_shut text _ (nested_block (block_is (region_at h.frames)) e (block_braces (region_at h.frames) (in_braces (region_at h.frames)) refl) n)) refl))))
+    (λ p. no 20 (inl refl))
 
 lead_outcome : (h : Here) (token : Token) (text : List ℕ) → Fine h → Outcome token.place (λ go. lead h token text go)
 lead_outcome h token text f = outcome_if h.opened (λ o. indent_outcome h token text f.nested (f.lines o)) (λ o. leave_outcome h.frames token text f.nested)

@@ -1,5 +1,5 @@
 -- What a refused answer tells.
-use Rattle.std.proofs.Common.{◌≡◌, ◌<◌, ◌≤◌, ◌⊎◌, inl, inr, Bool, true, false, List, [], ◌∷◌, ◌++◌, ℕ, Option, Some, None, Ok, Err, refl, sym, ◌∙◌, ap, nat_le, if◌then◌else◌, arith}
+use Rattle.std.proofs.Common.{◌≡◌, ◌<◌, ◌≤◌, ◌⊎◌, inl, inr, Bool, true, false, List, [], ◌∷◌, ℕ, Option, Some, None, Ok, Err, refl, sym, ◌∙◌, ap, nat_le}
 use Rattle.std.proofs.lemmas.Bool.{leb-true, leb-false}
 use Rattle.verse_base.specs.declared.refusals.Refusal.{Refusal}
 use Rattle.verse_lex.specs.declared.tokens.Token.{Token}
@@ -7,7 +7,7 @@ use Rattle.verse_layout.specs.declared.toks.Tok.{Tok}
 use Rattle.verse_layout.specs.Cells.{cells_of}
 use Rattle.verse_layout.specs.Ends.{end_of}
 use Rattle.verse_layout.specs.Loads.{Counts, load, after_tok, at_start}
-use Rattle.verse_layout.specs.Written.{Answer, with_front, judged, settled, refusal}
+use Rattle.verse_layout.specs.Written.{Answer, with_front, judged, refusal}
 use Rattle.verse_layout.specs.Frames.{walk, nowhere, laid}
 use Rattle.verse_layout.specs.Layouts.{IsWithin}
 use Rattle.verse_layout.specs.Stuck.{IsTooDeep, IsRefused, toks_of, too_deep, stuck}

@@ -1,7 +1,5 @@
 -- What a walk writes to the file's end is a block: one token.
-use Rattle.std.proofs.Common.{◌≡◌, Bool, true, false, not, ◌&&◌, ◌||◌, ◌⊎◌, inl, inr, List, [], ◌∷◌, ◌++◌, ℕ, Option, Some, None, refl, sym, ◌∙◌, ap, subst, append_assoc, append-nil, if◌then◌else◌}
-use Rattle.verse_base.specs.declared.places.Place.{Place}
-use Rattle.verse_lex.specs.declared.tokens.Token.{Token}
+use Rattle.std.proofs.Common.{◌≡◌, Bool, true, false, not, ◌&&◌, ◌⊎◌, inl, inr, List, [], ◌∷◌, ◌++◌, ℕ, None, refl, sym, ◌∙◌, ap, subst, append_assoc, if◌then◌else◌}
 use Rattle.verse_layout.specs.declared.frames.Spot.{Spot}
 use Rattle.verse_layout.specs.declared.toks.TokKind.TheVariants as t
 use Rattle.verse_layout.specs.declared.roles.Role.{Role}
@@ -9,13 +7,13 @@ use Rattle.verse_layout.specs.declared.roles.Role.TheVariants as role
 use Rattle.verse_layout.specs.declared.roles.Region.{Region}
 use Rattle.verse_layout.specs.declared.roles.Region.TheVariants as region
 use Rattle.verse_layout.specs.Roles.{role_of, has_lines, in_braces, is_same_region, is_brace_close}
-use Rattle.verse_layout.specs.Cells.{Cell, spot_of, spot_at, tok_as, passed, ends_line, is_proper}
-use Rattle.verse_layout.specs.Written.{Written, tok, sep}
-use Rattle.verse_layout.specs.Blocks.{is_no_bracket, separates, stays, opener, open_at, close_at, ends_block, Inside, inside_end, inside_token, Bracket, round, braces, Part, part_token, part_sep, Body, body_block, Block, Lines, lines_end, Rest, is_opener}
-use Rattle.verse_layout.specs.Frames.{Open, Here, Walk, write, walk, on_role, is_block, region_at, divided, after_colon, stay, close, opened_as}
-use Rattle.verse_layout.proofs.Walks.{at_line, go, go_open, go_token, if_true, if_false, same_region}
+use Rattle.verse_layout.specs.Cells.{Cell, spot_at, tok_as, passed, ends_line}
+use Rattle.verse_layout.specs.Written.{Written, tok}
+use Rattle.verse_layout.specs.Blocks.{is_no_bracket, separates, stays, opener, open_at, close_at, ends_block, Inside, inside_end, inside_token, round, braces, Part, part_token, part_sep, body_block, lines_end, Rest, is_opener}
+use Rattle.verse_layout.specs.Frames.{Open, Walk, write, walk, on_role, is_block, divided, after_colon, close}
+use Rattle.verse_layout.proofs.Walks.{at_line, go_token, if_true, if_false, same_region}
 use Rattle.verse_layout.proofs.Complete.{no_braces, no_brace, is_brace}
-use Rattle.verse_layout.proofs.Nests.{Tail, tail_end, Nest, nest_line, nest_round, Out, out_file, out_block, out_brace, Start, start_line, start_round, start_brace, Opened, Nested, nested_file, nested_block, nested_bracket, add_part, add_bracket, no_opens, no_closes}
+use Rattle.verse_layout.proofs.Nests.{tail_end, Nest, nest_line, nest_round, Out, out_file, out_block, out_brace, Start, start_line, start_round, start_brace, Opened, Nested, nested_file, nested_block, nested_bracket, add_part, add_bracket, no_opens, no_closes}
 
 pub by_if : (P : Walk → Type 0) (b : Bool) (x y : Walk) → (b ≡ true → P x) → (b ≡ false → P y) → P (if b then x else y)
 by_if P true x y p q = p refl
@@ -59,8 +57,8 @@ opened_start end h f fs c cs ws r p q e g x =
     let body = body_block {end = end} {b = in_braces f.region} {h = h} {j = x.j} {c = c} {cs = cs} {ds = x.ds} {ws = x.vs} (opens p q) g x.proper x.block in
     start_line e body x.out
     (ap (λ us. opener r c.token ++ us) x.toks ∙ ap (λ y. opener r c.token ++ (open_at (spot_at end cs) ∷ y)) (sym (append_assoc x.vs (close_at (spot_at end x.ds) ∷ []) x.us))
-     ∙ sym (append_assoc (opener r c.token) (open_at (spot_at end cs) ∷ (x.vs ++ close_at (spot_at end x.ds) ∷ [])) x.us)
-     ∙ ap (λ y. (opener y c.token ++ open_at (spot_at end cs) ∷ (x.vs ++ close_at (spot_at end x.ds) ∷ [])) ++ x.us) (sym p))
+    ∙ sym (append_assoc (opener r c.token) (open_at (spot_at end cs) ∷ (x.vs ++ close_at (spot_at end x.ds) ∷ [])) x.us)
+    ∙ ap (λ y. (opener y c.token ++ open_at (spot_at end cs) ∷ (x.vs ++ close_at (spot_at end x.ds) ∷ [])) ++ x.us) (sym p))
   where
     opens : role_of c.token.kind ≡ r → (r ≡ role.Colon) ⊎ (r ≡ role.Equals) → is_opener (role_of c.token.kind) ≡ true
     opens a (inl b) = ap is_opener (a ∙ b)
@@ -106,7 +104,7 @@ brace_out end h f fs c cs ds ws vs us p r g (out_block e x o q) = absurd (cc)
 brace_out end h f fs c cs ds ws vs us p r g (out_brace {c = d} {vs = ls} {us = xs} e l s n q) =
     let start = add_bracket (braces p r l s) n in
     let shape : (vs ++ (ls ++ tok (tok_as t.Close d.token) ∷ [])) ++ xs ≡ ws =
-        append_assoc vs (ls ++ tok (tok_as t.Close d.token) ∷ []) xs ∙ ap (λ x. vs ++ x) (append_assoc ls (tok (tok_as t.Close d.token) ∷ []) xs ∙ sym q) ∙ sym g in
+    append_assoc vs (ls ++ tok (tok_as t.Close d.token) ∷ []) xs ∙ ap (λ x. vs ++ x) (append_assoc ls (tok (tok_as t.Close d.token) ∷ []) xs ∙ sym q) ∙ sym g in
     subst (Start end h (f ∷ fs) (c ∷ cs)) (ap (λ x. tok (tok_as t.Open c.token) ∷ x) shape) start
 
 brace_sound : (end : Spot) (h : List ℕ) (f : Open) (fs : List Open) (c : Cell) (cs : List Cell) (ws : List Written) → role_of c.token.kind ≡ role.Opens region.Brace →
@@ -127,16 +125,16 @@ nested_behind f fs e (nested_bracket a b n) = n
 round_close : (end : Spot) (h : List ℕ) (r : Region) (f : Open) (fs : List Open) (c : Cell) (cs : List Cell) → Sound end cs → Nested (f ∷ fs) → has_lines r ≡ false → role_of c.token.kind ≡ role.Closes r → Closing end h r f fs c cs
 round_close end h r f fs c cs ih n e p =
     by_if (Starts end h (f ∷ fs) (c ∷ cs)) (is_same_region f.region r) _ _
-      (λ same. λ s.
-        let q : f.region ≡ r = same_region f.region r same in
-        let l : has_lines f.region ≡ false = ap has_lines q ∙ e in
-        let start : Start end h (f ∷ fs) (c ∷ cs) (tok (passed c.token) ∷ (walk end (at_line false f.text fs) cs).written) =
-            start_round l inside_end (p ∙ ap role.Closes (sym q)) (ih false f.text fs (nested_behind f fs l n) s) refl in
-        subst (λ k. Start end h (f ∷ fs) (c ∷ cs) (tok k ∷ (walk end (at_line false f.text fs) cs).written))
-          (sym (if_false (is_same_region r region.Brace) (tok_as t.Close c.token) (passed c.token) (no_brace r e))) start)
-      (λ other. by_if (Starts end h (f ∷ fs) (c ∷ cs)) (is_same_region r region.Brace && is_same_region f.region region.BraceBlock) _ _
-        (λ b. let x = both (is_same_region r region.Brace) (is_same_region f.region region.BraceBlock) b in let y = no_brace r e in absurd (cc))
-        (λ b s. absurd (cc)))
+    (λ same. λ s.
+    let q : f.region ≡ r = same_region f.region r same in
+    let l : has_lines f.region ≡ false = ap has_lines q ∙ e in
+    let start : Start end h (f ∷ fs) (c ∷ cs) (tok (passed c.token) ∷ (walk end (at_line false f.text fs) cs).written) =
+    start_round l inside_end (p ∙ ap role.Closes (sym q)) (ih false f.text fs (nested_behind f fs l n) s) refl in
+    subst (λ k. Start end h (f ∷ fs) (c ∷ cs) (tok k ∷ (walk end (at_line false f.text fs) cs).written))
+    (sym (if_false (is_same_region r region.Brace) (tok_as t.Close c.token) (passed c.token) (no_brace r e))) start)
+    (λ other. by_if (Starts end h (f ∷ fs) (c ∷ cs)) (is_same_region r region.Brace && is_same_region f.region region.BraceBlock) _ _
+    (λ b. let x = both (is_same_region r region.Brace) (is_same_region f.region region.BraceBlock) b in let y = no_brace r e in absurd (cc))
+    (λ b s. absurd (cc)))
 
 block_end : (b : Bool) (i : List ℕ) (c : Cell) (cs : List Cell) → role_of c.token.kind ≡ role.Closes region.Brace → b ≡ true → ends_block b i (c ∷ cs) ≡ true
 block_end b i c cs p e = if_true (is_brace_close (role_of c.token.kind)) b _ (is_brace _ p) ∙ e
@@ -160,12 +158,12 @@ brace_close : (end : Spot) (fs : List Open) (c : Cell) (cs : List Cell) → Soun
 brace_close end [] c cs ih n p = λ s. absurd (cc)
 brace_close end (f ∷ fs) c cs ih n p =
     by_if (Outs end (f ∷ fs) (c ∷ cs)) (is_same_region f.region region.Brace) _ _
-      (λ same. λ s. let q = same_region f.region region.Brace same in out_brace q lines_end p (ih false f.text fs (nested_brace f fs q n) s) refl)
-      (λ other. by_if (Outs end (f ∷ fs) (c ∷ cs)) (is_same_region f.region region.BraceBlock) _ _
-        (λ same. λ s.
-          let q = region_brace_block f (same_region f.region region.BraceBlock same) in
-          out_block q.0 (tail_end (block_end _ f.text c cs p q.1)) (brace_close end fs c cs ih (nested_inner f fs q.0 n) p s) refl)
-        (λ b s. absurd (cc)))
+    (λ same. λ s. let q = same_region f.region region.Brace same in out_brace q lines_end p (ih false f.text fs (nested_brace f fs q n) s) refl)
+    (λ other. by_if (Outs end (f ∷ fs) (c ∷ cs)) (is_same_region f.region region.BraceBlock) _ _
+    (λ same. λ s.
+    let q = region_brace_block f (same_region f.region region.BraceBlock same) in
+    out_block q.0 (tail_end (block_end _ f.text c cs p q.1)) (brace_close end fs c cs ih (nested_inner f fs q.0 n) p s) refl)
+    (λ b s. absurd (cc)))
 
 -- the token itself
 role_sound : (end : Spot) (h : List ℕ) (f : Open) (fs : List Open) (c : Cell) (cs : List Cell) → Sound end cs → Nested (f ∷ fs) → (r : Role) → role_of c.token.kind ≡ r →

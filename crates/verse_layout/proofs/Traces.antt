@@ -1,5 +1,5 @@
 -- A walk reaches the file's end, or stops at the first token with which no file goes on.
-use Rattle.std.proofs.Common.{◌≡◌, Bool, true, false, ◌⊎◌, inl, inr, List, [], ◌∷◌, ◌++◌, ℕ, Option, Some, None, refl, sym, ◌∙◌, ap, subst, append_assoc, append-nil, is_some}
+use Rattle.std.proofs.Common.{◌≡◌, Bool, true, ◌⊎◌, inl, inr, List, [], ◌∷◌, ◌++◌, ℕ, Some, None, refl, sym, ◌∙◌, ap, append_assoc, is_some}
 use Rattle.verse_base.specs.declared.refusals.Refusal.{Refusal}
 use Rattle.verse_layout.specs.declared.frames.Spot.{Spot}
 use Rattle.verse_layout.specs.Cells.{Cell, ends_line}
@@ -7,8 +7,8 @@ use Rattle.verse_layout.specs.Written.{Written, refusal}
 use Rattle.verse_layout.specs.Blocks.{IsFile}
 use Rattle.verse_layout.specs.Frames.{Here, Walk, walk, step, nowhere}
 use Rattle.verse_layout.specs.Stuck.{BeginsFile, IsStuck, at_token, at_file_end, StuckWhere}
-use Rattle.verse_layout.proofs.Walks.{front, front_front, at_line}
-use Rattle.verse_layout.proofs.Outcomes.{Fine, Both, pass_both, stop_both, Passes, step_both, first_both}
+use Rattle.verse_layout.proofs.Walks.{front}
+use Rattle.verse_layout.proofs.Outcomes.{Fine, Both, pass_both, stop_both, step_both, first_both}
 use Rattle.verse_layout.proofs.Closers.{Ends, ends_well, nowhere_ends}
 use Rattle.verse_layout.proofs.Written.{file_walk}
 use Rattle.verse_layout.proofs.Files.{file_sound}
@@ -41,7 +41,6 @@ same_first (b ∷ before) cs behind rest c e = ap ends_line (sym e)
 stop_of : (x y : Walk) (ws : List Written) → x ≡ front ws y → x.stop ≡ y.stop
 stop_of x y ws e = ap (λ (z : Walk). z.stop) e
 
-
 stopped_here : (h : Here) (c : Cell) (cs : List Cell) (rule : ℕ) (ws : List Written) → (rule ≡ 20) ⊎ (rule ≡ 21) → Ends h (is_some c.line) →
     ((ends : Bool) (go : Here → Walk) → step h c ends go ≡ front ws (let w : Walk = record { written = []; stop = Some (refusal rule c.token.place) } in w)) → Stopped h (c ∷ cs)
 stopped_here h c cs rule ws r x e = record {
@@ -67,14 +66,14 @@ stopped_more h g c cs ws e s = record {
   goes = record {
     rest = s.goes.rest;
     well = λ end.
-      ap (λ b. (step h c b (λ k. walk end k (s.before ++ s.goes.rest))).stop) s.first
-      ∙ stop_of _ _ ws (e (λ k. walk end k (s.before ++ s.goes.rest))) ∙ s.goes.well end;
+        ap (λ b. (step h c b (λ k. walk end k (s.before ++ s.goes.rest))).stop) s.first
+        ∙ stop_of _ _ ws (e (λ k. walk end k (s.before ++ s.goes.rest))) ∙ s.goes.well end;
   };
   first = refl;
   rules = s.rules;
   stuck = λ end rest.
-    ap (λ b. (step h c b (λ k. walk end k (s.before ++ s.c ∷ rest))).stop) (same_first s.before cs s.behind rest s.c s.split)
-    ∙ stop_of _ _ ws (e (λ k. walk end k (s.before ++ s.c ∷ rest))) ∙ s.stuck end rest;
+      ap (λ b. (step h c b (λ k. walk end k (s.before ++ s.c ∷ rest))).stop) (same_first s.before cs s.behind rest s.c s.split)
+      ∙ stop_of _ _ ws (e (λ k. walk end k (s.before ++ s.c ∷ rest))) ∙ s.stuck end rest;
 }
 
 walked_more : (h g : Here) (c : Cell) (cs : List Cell) (ws : List Written) → ((go : Here → Walk) → step h c (ends_line cs) go ≡ front ws (go g)) → Walked g cs → Walked h (c ∷ cs)
@@ -82,8 +81,8 @@ walked_more h g c cs ws e s = record {
   goes = record {
     rest = s.goes.rest;
     well = λ end.
-      ap (λ b. (step h c b (λ k. walk end k (cs ++ s.goes.rest))).stop) s.first
-      ∙ stop_of _ _ ws (e (λ k. walk end k (cs ++ s.goes.rest))) ∙ s.goes.well end;
+        ap (λ b. (step h c b (λ k. walk end k (cs ++ s.goes.rest))).stop) s.first
+        ∙ stop_of _ _ ws (e (λ k. walk end k (cs ++ s.goes.rest))) ∙ s.goes.well end;
   };
   first = refl;
 }
@@ -126,7 +125,7 @@ some_is r s e = cc
 stopped_stuck : (end : Spot) (cs : List Cell) (r : Refusal) → (walk end nowhere cs).stop ≡ Some r → Stopped nowhere cs → IsStuck end cs r
 stopped_stuck end cs r e s =
     at_token s.before s.behind s.c s.rule s.split (goes_file end s.before s.goes) (stuck_file s.before s.c _ s.stuck) s.rules
-      (some_is _ _ (sym e ∙ ap (λ x. (walk end nowhere x).stop) s.split ∙ s.stuck end s.behind))
+    (some_is _ _ (sym e ∙ ap (λ x. (walk end nowhere x).stop) s.split ∙ s.stuck end s.behind))
 
 walked_stuck : (end : Spot) (cs : List Cell) (r : Refusal) → (walk end nowhere cs).stop ≡ Some r → BeginsFile cs → IsStuck end cs r
 walked_stuck end cs r e b = at_file_end b (λ ws f. let x = sym e ∙ file_stop f in absurd (cc))

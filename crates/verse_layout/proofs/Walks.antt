@@ -1,17 +1,13 @@
 -- Words about walks: what is written before one, and where a walk stands.
-use Rattle.std.proofs.Common.{◌≡◌, Bool, true, false, not, ◌&&◌, ◌||◌, List, [], ◌∷◌, ◌++◌, ℕ, Option, Some, None, refl, sym, ◌∙◌, ap, subst, append_assoc, append-nil, if◌then◌else◌}
-use Rattle.std.specs.Cmp.Lexicographic.{other_text, same_text}
-use Rattle.verse_lex.specs.declared.tokens.Token.{Token}
+use Rattle.std.proofs.Common.{◌≡◌, Bool, true, false, not, ◌||◌, List, [], ◌∷◌, ◌++◌, ℕ, None, refl, sym, ◌∙◌, ap, append_assoc, if◌then◌else◌}
+use Rattle.std.specs.Cmp.Lexicographic.{other_text}
 use Rattle.verse_layout.specs.declared.frames.Spot.{Spot}
-use Rattle.verse_layout.specs.declared.roles.Role.{Role}
-use Rattle.verse_layout.specs.declared.roles.Role.TheVariants as role
 use Rattle.verse_layout.specs.declared.roles.Region.{Region}
 use Rattle.verse_layout.specs.declared.roles.Region.TheVariants as region
-use Rattle.verse_layout.specs.Roles.{role_of, has_lines, in_braces, is_same_region, is_brace_close, is_bracket_close}
-use Rattle.verse_layout.specs.Cells.{Cell, ends_line, is_same, is_front}
+use Rattle.verse_layout.specs.Roles.{role_of, has_lines, is_same_region, is_brace_close}
+use Rattle.verse_layout.specs.Cells.{Cell, ends_line, is_same}
 use Rattle.verse_layout.specs.Written.{Written}
-use Rattle.verse_layout.specs.Blocks.{is_no_bracket}
-use Rattle.verse_layout.specs.Frames.{Open, Here, Walk, walk, on_token, line_start, begins_none, region_at}
+use Rattle.verse_layout.specs.Frames.{Open, Here, Walk, walk, on_token, line_start, region_at}
 
 abbrev pub at_line : Bool → List ℕ → List Open → Here
 at_line o h fs = record { opened = o; line = h; frames = fs }

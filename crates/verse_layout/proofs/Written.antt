@@ -1,19 +1,16 @@
 -- The walk of a file that is a block writes the block out: the induction.
-use Rattle.std.proofs.Common.{◌≡◌, Bool, true, false, not, List, [], ◌∷◌, ◌++◌, ℕ, Option, Some, None, refl, sym, ◌∙◌, ap, subst, append_assoc, append-nil, if◌then◌else◌}
-use Rattle.verse_base.specs.declared.places.Place.{Place}
+use Rattle.std.proofs.Common.{◌≡◌, Bool, true, false, List, [], ◌∷◌, ℕ, None, refl, ◌∙◌, ap, append-nil}
 use Rattle.verse_layout.specs.declared.frames.Spot.{Spot}
 use Rattle.verse_layout.specs.declared.toks.TokKind.TheVariants as t
-use Rattle.verse_layout.specs.declared.roles.Role.{Role}
 use Rattle.verse_layout.specs.declared.roles.Role.TheVariants as role
-use Rattle.verse_layout.specs.declared.roles.Region.{Region}
 use Rattle.verse_layout.specs.declared.roles.Region.TheVariants as region
 use Rattle.verse_layout.specs.Roles.{role_of, has_lines, in_braces, is_same_region}
 use Rattle.verse_layout.specs.Cells.{Cell, spot_at, tok_as, passed, ends_line}
-use Rattle.verse_layout.specs.Written.{Written, tok, sep}
+use Rattle.verse_layout.specs.Written.{Written, tok}
 use Rattle.verse_layout.specs.Blocks.{opener, line_sep, open_at, close_at, ends_block, Inside, inside_end, inside_token, inside_bracket, Bracket, round, braces, Part, part_token, part_sep, part_bracket, Body, body_part, body_block, Rest, rest_end, rest_more, Line, line, Block, block_last, block_more, Lines, lines_end, lines_more, IsFile, no_tokens, one_block}
-use Rattle.verse_layout.specs.Frames.{Open, Here, Walk, write, walk, on_role, block_in, innermost, no_more, nowhere, opened_as, closed_as}
-use Rattle.verse_layout.proofs.Walks.{at_line, go, go_open, go_token, front, front_front, if_true, if_false, no_start, brace_start, go_on, region_self}
-use Rattle.verse_layout.proofs.Complete.{around, around_two, behind, no_brace, inner_role, stays_role, separates_role, opener_role, opens_token, closes_token, go_inner, is_brace, brace_free, no_line, led, Heads, line_heads, block_heads, block_lines, block_braces, block_is, block_no_file, go_line, go_again, go_braces, go_indent, go_close}
+use Rattle.verse_layout.specs.Frames.{Open, Walk, write, walk, on_role, block_in, innermost, nowhere}
+use Rattle.verse_layout.proofs.Walks.{at_line, go, go_token, front, front_front, if_false, no_start, brace_start, go_on}
+use Rattle.verse_layout.proofs.Complete.{around, around_two, behind, no_brace, inner_role, stays_role, separates_role, opener_role, opens_token, closes_token, go_inner, is_brace, brace_free, no_line, led, Heads, line_heads, block_heads, block_lines, block_braces, block_is, block_no_file, go_again, go_braces, go_indent, go_close}
 
 -- the blocks round a line outside braces are in no bracket
 abbrev Free : Bool → List Open → Type 0
@@ -39,7 +36,7 @@ mutual
       let open_is = if_false (is_same_region r region.Brace) (tok_as t.Open o.token) (passed o.token) (no_brace r q) in
       let close_is = if_false (is_same_region r region.Brace) (tok_as t.Close c.token) (passed c.token) (no_brace r q) in
       let last : go end h (g ∷ f ∷ fs) (c ∷ ds) ≡ write (tok (passed c.token)) (go end h (f ∷ fs) ds) =
-          go_on end h g (f ∷ fs) c ds (no_start g (f ∷ fs) c q) ∙ closes_token end h g f fs c ds s ∙ ap (λ k. write (tok k) (go end h (f ∷ fs) ds)) close_is in
+      go_on end h g (f ∷ fs) c ds (no_start g (f ∷ fs) c q) ∙ closes_token end h g f fs c ds s ∙ ap (λ k. write (tok k) (go end h (f ∷ fs) ds)) close_is in
       opens_token end h (f ∷ fs) r o cs p ∙ ap (λ k. write (tok k) (go end h (g ∷ f ∷ fs) cs)) open_is
       ∙ ap (write (tok (passed o.token))) (inside_go i g (f ∷ fs) q ∙ ap (front ws) last)
       ∙ around (tok (passed o.token)) (tok (passed c.token)) ws (go end h (f ∷ fs) ds)
@@ -47,7 +44,7 @@ mutual
       let g : Open = record { region = region.Brace; text = h; place = o.token.place } in
       let free : Free true (g ∷ f ∷ fs) = λ e. absurd (cc) in
       let last : go end h (g ∷ f ∷ fs) (c ∷ es) ≡ write (tok (tok_as t.Close c.token)) (go end h (f ∷ fs) es) =
-          go_on end h g (f ∷ fs) c es (brace_start (g ∷ f ∷ fs) c (is_brace _ s)) ∙ closes_token end h g f fs c es s in
+      go_on end h g (f ∷ fs) c es (brace_start (g ∷ f ∷ fs) c (is_brace _ s)) ∙ closes_token end h g f fs c es s in
       opens_token end h (f ∷ fs) region.Brace o cs p
       ∙ ap (write (tok (tok_as t.Open o.token))) (rest_go r g (f ∷ fs) refl refl free ∙ ap (front ws) (lines_go l g (f ∷ fs) h h refl c es refl s ∙ ap (front vs) last))
       ∙ around_two (tok (tok_as t.Open o.token)) (tok (tok_as t.Close c.token)) ws vs (go end h (f ∷ fs) es)
@@ -70,7 +67,7 @@ mutual
       ap (λ v. on_role (role_of c.token.kind) v (at_line false h (f ∷ fs)) c.token (λ y. walk end y cs)) q
       ∙ opener_role _ h f fs c.token (λ y. walk end y cs) e p
       ∙ ap (front (opener (role_of c.token.kind) c.token))
-        (go_indent end h j f fs cs e s x ∙ ap (write (open_at (spot_at end cs))) (block.0 ∙ ap (front ws) (go_close end j j h b f fs x.first.token.place ds e g n block.1)))
+      (go_indent end h j f fs cs e s x ∙ ap (write (open_at (spot_at end cs))) (block.0 ∙ ap (front ws) (go_close end j j h b f fs x.first.token.place ds e g n block.1)))
       ∙ behind (opener (role_of c.token.kind) c.token) (open_at (spot_at end cs)) (close_at (spot_at end ds)) ws (go end h (f ∷ fs) ds)
 
   rest_go : {end : Spot} {b : Bool} {h : List ℕ} {cs ds : List Cell} {ws : List Written} → Rest end b h cs ws ds → (f : Open) (fs : List Open) → has_lines f.region ≡ true → in_braces f.region ≡ b → Free b (f ∷ fs) →

@@ -1,5 +1,5 @@
 -- The file's end.
-use Rattle.std.specs.Prelude.{ℕ, ◌+◌, ◌==◌, not, if◌then◌else◌, Bool, List, [], ◌∷◌, length, drop, reverse, take_while, count_by, nat_eq}
+use Rattle.std.specs.Prelude.{ℕ, ◌+◌, ◌==◌, not, if◌then◌else◌, List, [], ◌∷◌, length, drop, reverse, take_while, count_by, nat_eq}
 use Rattle.std.specs.List.{starts_with}
 use Rattle.verse_base.specs.declared.places.Place.{Place}
 use Rattle.verse_lex.specs.declared.tokens.Token.{Token}

@@ -1,5 +1,5 @@
 -- Layout token by token, over the brackets and blocks that are open: a form between the blocks and the code.
-use Rattle.std.specs.Prelude.{ℕ, ◌≡◌, Bool, true, false, not, ◌&&◌, ◌||◌, if◌then◌else◌, List, [], ◌∷◌, ◌++◌, Option, Some, None, is_some}
+use Rattle.std.specs.Prelude.{ℕ, Bool, true, false, not, ◌&&◌, ◌||◌, if◌then◌else◌, List, [], ◌∷◌, Option, Some, None}
 use Rattle.verse_base.specs.declared.places.Place.{Place}
 use Rattle.verse_base.specs.declared.refusals.Refusal.{Refusal}
 use Rattle.verse_lex.specs.declared.tokens.Token.{Token}
@@ -9,12 +9,12 @@ use Rattle.verse_layout.specs.declared.roles.Role.{Role}
 use Rattle.verse_layout.specs.declared.roles.Role.TheVariants as role
 use Rattle.verse_layout.specs.declared.roles.Region.{Region}
 use Rattle.verse_layout.specs.declared.roles.Region.TheVariants as region
-use Rattle.verse_layout.specs.Roles.{role_of, is_else, has_lines, in_braces, is_same_region, is_brace_close, is_bracket_close}
+use Rattle.verse_layout.specs.Roles.{role_of, has_lines, in_braces, is_same_region, is_brace_close, is_bracket_close}
 use Rattle.verse_layout.specs.declared.frames.Spot.{Spot}
 use Rattle.verse_layout.specs.Cells.{Cell, spot_of, mark_at, tok_as, passed, ends_line, is_same, is_front, is_proper}
 use Rattle.verse_layout.specs.Loads.{at_start}
 use Rattle.verse_layout.specs.Blocks.{line_sep, close_at}
-use Rattle.verse_layout.specs.Written.{Written, tok, sep, no_sep, refusal, Answer, settled, judged}
+use Rattle.verse_layout.specs.Written.{Written, tok, sep, refusal, Answer, settled, judged}
 
 -- a bracket or block that is open; a bracket has the indentation of the last line that began round it
 pub record Open : Type 0 where
@@ -92,7 +92,7 @@ is_none (f ∷ fs) = false
 abbrev pub follow : Here → Token → (Here → Walk) → Walk
 follow h token go =
     if h.opened || is_none h.frames then
-      refuse (if is_brace_close (role_of token.kind) && not (in_braces (region_at h.frames)) then 21 else 20) token.place
+    refuse (if is_brace_close (role_of token.kind) && not (in_braces (region_at h.frames)) then 21 else 20) token.place
     else go h
 
 abbrev pub before_token : Option (List ℕ) → Here → Token → (Here → Walk) → Walk

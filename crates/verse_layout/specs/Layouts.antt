@@ -1,6 +1,5 @@
 -- The layout of a file's tokens, and the laws of it.
-use Rattle.std.specs.Prelude.{◌≡◌, ◌≤◌, ◌*◌, ◌↔◌, ℕ, false, List, [], ◌∷◌, length, Ok, Err, None}
-use Rattle.verse_base.specs.declared.refusals.Refusal.{Refusal}
+use Rattle.std.specs.Prelude.{◌≡◌, ◌≤◌, ◌↔◌, ℕ, false, List, [], ◌∷◌, Ok, None}
 use Rattle.verse_lex.specs.declared.tokens.Token.{Token}
 use Rattle.verse_layout.specs.declared.toks.Tok.{Tok}
 use Rattle.verse_layout.specs.Loads.{Counts, load, after_tok, at_start}

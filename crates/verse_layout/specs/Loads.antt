@@ -1,7 +1,6 @@
 -- The nesting load of a list of toks.
-use Rattle.std.specs.Prelude.{ℕ, ◌≡◌, ◌+◌, ◌<◌, ◌≤◌, reverse, Bool, true, false, if◌then◌else◌, List, [], ◌∷◌, nat_le, Option, Some, None}
+use Rattle.std.specs.Prelude.{ℕ, ◌≡◌, ◌+◌, ◌<◌, ◌≤◌, reverse, Bool, true, false, if◌then◌else◌, List, [], ◌∷◌}
 use Rattle.verse_layout.specs.declared.toks.Tok.{Tok}
-use Rattle.verse_layout.specs.declared.toks.TokKind.{TokKind}
 use Rattle.verse_layout.specs.declared.loads.Count.{Count}
 use Rattle.verse_layout.specs.declared.loads.Weight.{Weight}
 use Rattle.verse_layout.specs.declared.loads.Weight.TheVariants.{Keeps, Adds, Begins, Ends, Resets, ResetsHole}

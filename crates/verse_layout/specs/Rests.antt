@@ -1,5 +1,4 @@
 -- What a writer answers once the rest is written.
-use Rattle.std.specs.Prelude.{List, reverse, map}
 use Rattle.verse_layout.specs.declared.toks.Tok.{Tok}
 use Rattle.verse_layout.specs.declared.writers.Writer.{Writer}
 use Rattle.verse_layout.specs.Loads.{open_counts}

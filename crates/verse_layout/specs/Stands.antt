@@ -1,6 +1,5 @@
 -- The code's stack and its place between two tokens, as the definitions see them.
 use Rattle.std.specs.Prelude.{List, map, reverse}
-use denote.Ref.{Bor}
 use Rattle.verse_layout.specs.declared.frames.Frame.{Frame}
 use Rattle.verse_layout.specs.declared.frames.Stand.{Stand}
 use Rattle.verse_layout.specs.Frames.{Open, Here}

@@ -1,5 +1,5 @@
 -- What a tok does to the counts of the frames that are open.
-use Rattle.std.specs.Prelude.{Bool, true, false}
+use Rattle.std.specs.Prelude.{true, false}
 use Rattle.verse_lex.specs.declared.tokens.TokenKind.{TokenKind}
 use Rattle.verse_lex.specs.declared.tokens.TokenKind.TheVariants as k
 use Rattle.verse_lex.specs.declared.tokens.Mark.{Mark}

@@ -59,7 +59,11 @@ pub fn is_block(region: Region) -> bool
 pub fn block_in(region: Region) -> Region
     ensures { result ≡ block_in region }
 {
-    if in_braces(region) { Region::BraceBlock } else { Region::Block }
+    if in_braces(region) {
+        Region::BraceBlock
+    } else {
+        Region::Block
+    }
 }
 
 /// Whether it is the role of a `}`.

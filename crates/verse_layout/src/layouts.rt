@@ -26,7 +26,11 @@ fn without_mark(bytes: &[u8]) -> &[u8]
     ensures mark { result.now ≡ without_mark bytes.now }
     ensures within { length result.now ≤ length bytes.now }
 {
-    if bytes.starts_with(b"\xEF\xBB\xBF") { &bytes[3..] } else { bytes }
+    if bytes.starts_with(b"\xEF\xBB\xBF") {
+        &bytes[3..]
+    } else {
+        bytes
+    }
 }
 
 /// How many line feeds there are.
@@ -50,7 +54,11 @@ fn place_behind(file: u32, bytes: &[u8]) -> Place
     requires { length bytes.now ≤ 1048576 }
     ensures { result ≡ place_behind file bytes.now }
 {
-    Place { file, line: line_feeds(bytes) as u32 + 1, col: last_line(bytes) as u32 + 1 }
+    Place {
+        file,
+        line: line_feeds(bytes) as u32 + 1,
+        col: last_line(bytes) as u32 + 1,
+    }
 }
 
 /// The number of the tokens' file.
@@ -68,7 +76,10 @@ fn end_of(bytes: &[u8], tokens: &[Token]) -> Spot
     requires { length bytes.now ≤ 1048576 }
     ensures { result ≡ end_of bytes.now tokens.now }
 {
-    Spot { at: bytes.len() as u32, place: place_behind(file_of(tokens), without_mark(bytes)) }
+    Spot {
+        at: bytes.len() as u32,
+        place: place_behind(file_of(tokens), without_mark(bytes)),
+    }
 }
 
 /// Whether the token before these is the last of its line.
@@ -90,7 +101,11 @@ fn walk(alloc: Global, bytes: &[u8], tokens: &[Token]) -> Result<Vec<Tok>, Front
 {
     let end = end_of(bytes, tokens);
     let mut writer = Writer::start(alloc);
-    let mut stand = Stand { is_opened: false, line: &[], frames: Vec::new(alloc) };
+    let mut stand = Stand {
+        is_opened: false,
+        line: &[],
+        frames: Vec::new(alloc),
+    };
     let mut rest = tokens;
     'tokens: while let Some((token, behind)) = rest.split_first() {
         step(&mut writer, &mut stand, bytes, token, ends_line(behind))?;

@@ -1,14 +1,13 @@
 //! Tokens become toks: lines and blocks are written out with Open, Sep and Close.
 #![tactic(auto)]
 
-pub mod toks;
-mod roles;
-mod loads;
 mod frames;
-mod writers;
-mod steps;
-pub mod layouts;
 pub mod laws;
-
+pub mod layouts;
+mod loads;
+mod roles;
+mod steps;
 #[cfg(test)]
 mod tests;
+pub mod toks;
+mod writers;

@@ -117,7 +117,10 @@ fn reset_last_hole(frames: &mut [Count], sum: u32) -> Option<u32>
     if without > MOST_LOAD {
         return None;
     }
-    frames[at] = Count { is_hole: frame.is_hole, count: 1 };
+    frames[at] = Count {
+        is_hole: frame.is_hole,
+        count: 1,
+    };
     Some(without)
 }
 
@@ -136,7 +139,14 @@ impl Load {
     pub fn start(alloc: Global) -> Load
         ensures start { open_counts result.inner result.outer.items ≡ at_start }
     {
-        Load { inner: Count { is_hole: false, count: 1 }, outer: Vec::new(alloc), sum: 1 }
+        Load {
+            inner: Count {
+                is_hole: false,
+                count: 1,
+            },
+            outer: Vec::new(alloc),
+            sum: 1,
+        }
     }
 
     /// Adds 1 to the innermost count, if the load allows it.
@@ -158,7 +168,10 @@ impl Load {
         if self.sum + 2 > MOST_LOAD {
             return Ok(false);
         }
-        let around = Count { is_hole: self.inner.is_hole, count: self.inner.count + 1 };
+        let around = Count {
+            is_hole: self.inner.is_hole,
+            count: self.inner.count + 1,
+        };
         self.outer.push(around)?;
         self.inner = Count { is_hole, count: 1 };
         self.sum += 2;

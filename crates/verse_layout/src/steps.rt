@@ -13,7 +13,10 @@ ghost use Rattle.verse_layout.specs.Written.{Written, tok};
 ghost use Rattle.verse_layout.specs.Rests.{rest_of};
 ghost use Rattle.verse_layout.specs.Stands.{stack, here_of};
 
-use crate::frames::{Frame, Spot, Stand, block_in, innermost, is_block, is_brace_close, is_bracket_close, is_front, is_proper, is_same, region_at};
+use crate::frames::{
+    Frame, Spot, Stand, block_in, innermost, is_block, is_brace_close, is_bracket_close, is_front,
+    is_proper, is_same, region_at,
+};
 use crate::roles::{Region, Role, has_lines, in_braces, is_else, is_same_region, role_of};
 use crate::toks::{Tok, TokKind};
 use crate::writers::{Writer, refused};
@@ -24,14 +27,24 @@ use verse_lex::tokens::Token;
 fn mark_at(kind: TokKind, token: &Token) -> Tok
     ensures { result ≡ mark_at kind (spot_of token.now) }
 {
-    Tok { kind, start: token.start, end: token.start, place: token.place }
+    Tok {
+        kind,
+        start: token.start,
+        end: token.start,
+        place: token.place,
+    }
 }
 
 /// The token as a tok of this kind.
 fn tok_as(kind: TokKind, token: &Token) -> Tok
     ensures { result ≡ tok_as kind token.now }
 {
-    Tok { kind, start: token.start, end: token.end, place: token.place }
+    Tok {
+        kind,
+        start: token.start,
+        end: token.end,
+        place: token.place,
+    }
 }
 
 /// Writes a mark that no byte spells.
@@ -63,14 +76,22 @@ fn pass(writer: &mut Writer, token: &Token) -> Result<(), Front>
 fn opened_as(region: Region, token: &Token) -> Tok
     ensures { result ≡ opened_as region token.now }
 {
-    if is_same_region(region, Region::Brace) { tok_as(TokKind::Open, token) } else { passed(token) }
+    if is_same_region(region, Region::Brace) {
+        tok_as(TokKind::Open, token)
+    } else {
+        passed(token)
+    }
 }
 
 /// The tok of a closing bracket.
 fn closed_as(region: Region, token: &Token) -> Tok
     ensures { result ≡ closed_as region token.now }
 {
-    if is_same_region(region, Region::Brace) { tok_as(TokKind::Close, token) } else { passed(token) }
+    if is_same_region(region, Region::Brace) {
+        tok_as(TokKind::Close, token)
+    } else {
+        passed(token)
+    }
 }
 
 /// Writes an opening bracket.
@@ -92,7 +113,12 @@ fn put_closing(writer: &mut Writer, region: Region, token: &Token) -> Result<(),
 }
 
 /// Closes the blocks that a line of this indentation leaves; a file's first line begins its block.
-fn leave<'a>(writer: &mut Writer, frames: &mut Vec<Frame<'a>>, token: &Token, text: &'a [u8]) -> Result<(), Front>
+fn leave<'a>(
+    writer: &mut Writer,
+    frames: &mut Vec<Frame<'a>>,
+    token: &Token,
+    text: &'a [u8],
+) -> Result<(), Front>
     ensures ok { OnOk result ((go : List Open → Walk) →
         rest_of writer.new (go (stack frames.new.items)) ≡ rest_of writer.old (leave (stack frames.old.items) token.now text.now go)) }
     ensures refused { (r : Refusal) → IsErrOf result (front.Refused r) → (go : List Open → Walk) →
@@ -100,7 +126,11 @@ fn leave<'a>(writer: &mut Writer, frames: &mut Vec<Frame<'a>>, token: &Token, te
 {
     'leaving: loop {
         let Some(frame) = frames.pop() else {
-            frames.push(Frame { region: Region::File, text, place: token.place })?;
+            frames.push(Frame {
+                region: Region::File,
+                text,
+                place: token.place,
+            })?;
             return Ok(());
         };
         if is_same_region(frame.region, Region::Brace) || is_same(frame.text, text) {
@@ -137,20 +167,34 @@ fn put_open(writer: &mut Writer, token: &Token) -> Result<(), Front>
 }
 
 /// Begins a block of this indentation.
-fn begin_block<'a>(writer: &mut Writer, stand: &mut Stand<'a>, token: &Token, text: &'a [u8]) -> Result<(), Front>
+fn begin_block<'a>(
+    writer: &mut Writer,
+    stand: &mut Stand<'a>,
+    token: &Token,
+    text: &'a [u8],
+) -> Result<(), Front>
     ensures ok { OnOk result ((go : Here → Walk) → rest_of writer.new (go (here_of stand.new)) ≡ rest_of writer.old (begin_block (here_of stand.old) token.now text.now go)) }
     ensures refused { (r : Refusal) → IsErrOf result (front.Refused r) → (go : Here → Walk) → rest_of writer.old (begin_block (here_of stand.old) token.now text.now go) ≡ Err r }
 {
     let region = block_in(region_at(stand.frames.as_slice()));
     put_open(writer, token)?;
-    stand.frames.push(Frame { region, text, place: token.place })?;
+    stand.frames.push(Frame {
+        region,
+        text,
+        place: token.place,
+    })?;
     stand.is_opened = false;
     stand.line = text;
     Ok(())
 }
 
 /// Begins the block behind an opener, if the line is indented behind the opener's.
-fn indent<'a>(writer: &mut Writer, stand: &mut Stand<'a>, token: &Token, text: &'a [u8]) -> Result<(), Front>
+fn indent<'a>(
+    writer: &mut Writer,
+    stand: &mut Stand<'a>,
+    token: &Token,
+    text: &'a [u8],
+) -> Result<(), Front>
     ensures ok { OnOk result ((go : Here → Walk) → rest_of writer.new (go (here_of stand.new)) ≡ rest_of writer.old (indent (here_of stand.old) token.now text.now go)) }
     ensures refused { (r : Refusal) → IsErrOf result (front.Refused r) → (go : Here → Walk) → rest_of writer.old (indent (here_of stand.old) token.now text.now go) ≡ Err r }
 {
@@ -164,7 +208,12 @@ fn indent<'a>(writer: &mut Writer, stand: &mut Stand<'a>, token: &Token, text: &
 }
 
 /// Writes what stands before a token that begins a line.
-fn lead<'a>(writer: &mut Writer, stand: &mut Stand<'a>, token: &Token, text: &'a [u8]) -> Result<(), Front>
+fn lead<'a>(
+    writer: &mut Writer,
+    stand: &mut Stand<'a>,
+    token: &Token,
+    text: &'a [u8],
+) -> Result<(), Front>
     ensures ok { OnOk result ((go : Here → Walk) → rest_of writer.new (go (here_of stand.new)) ≡ rest_of writer.old (lead (here_of stand.old) token.now text.now go)) }
     ensures refused { (r : Refusal) → IsErrOf result (front.Refused r) → (go : Here → Walk) → rest_of writer.old (lead (here_of stand.old) token.now text.now go) ≡ Err r }
 {
@@ -185,12 +234,18 @@ fn follow(stand: &Stand, token: &Token) -> Result<(), Front>
     if !stand.is_opened && !stand.frames.is_empty() {
         return Ok(());
     }
-    let is_wrong = is_brace_close(role_of(token.kind)) && !in_braces(region_at(stand.frames.as_slice()));
+    let is_wrong = is_brace_close(role_of(token.kind))
+        && !in_braces(region_at(stand.frames.as_slice()));
     Err(refused(if is_wrong { 21 } else { 20 }, token.place))
 }
 
 /// Closes the innermost bracket, and answers the indentation of the last line that began round it.
-fn close<'a>(writer: &mut Writer, frames: &mut Vec<Frame<'a>>, region: Region, token: &Token) -> Result<&'a [u8], Front>
+fn close<'a>(
+    writer: &mut Writer,
+    frames: &mut Vec<Frame<'a>>,
+    region: Region,
+    token: &Token,
+) -> Result<&'a [u8], Front>
     ensures ok { IfOk result (λ text. (go : Here → Walk) →
         rest_of writer.new (go (record { opened = false; line = text.now; frames = stack frames.new.items })) ≡ rest_of writer.old (close region (stack frames.old.items) token.now go)) }
     ensures refused { (r : Refusal) → IsErrOf result (front.Refused r) → (go : Here → Walk) → rest_of writer.old (close region (stack frames.old.items) token.now go) ≡ Err r }
@@ -203,7 +258,9 @@ fn close<'a>(writer: &mut Writer, frames: &mut Vec<Frame<'a>>, region: Region, t
             put_closing(writer, region, token)?;
             return Ok(frame.text);
         }
-        if !is_same_region(region, Region::Brace) || !is_same_region(frame.region, Region::BraceBlock) {
+        if !is_same_region(region, Region::Brace)
+            || !is_same_region(frame.region, Region::BraceBlock)
+        {
             return Err(refused(21, token.place));
         }
         put_mark(writer, TokKind::Close, token)?;
@@ -218,7 +275,12 @@ fn begins_none(stand: &Stand, token: &Token) -> bool
 }
 
 /// Writes what stands before a token.
-fn before_token<'a>(writer: &mut Writer, stand: &mut Stand<'a>, bytes: &'a [u8], token: &Token) -> Result<(), Front>
+fn before_token<'a>(
+    writer: &mut Writer,
+    stand: &mut Stand<'a>,
+    bytes: &'a [u8],
+    token: &Token,
+) -> Result<(), Front>
     requires { Lies bytes.now token.now }
     ensures ok { OnOk result ((go : Here → Walk) → rest_of writer.new (go (here_of stand.new))
         ≡ rest_of writer.old (before_token (line_start (stack stand.old.frames.items) (cell_of bytes.now token.now)) (here_of stand.old) token.now go)) }
@@ -235,18 +297,32 @@ fn before_token<'a>(writer: &mut Writer, stand: &mut Stand<'a>, bytes: &'a [u8],
 }
 
 /// Opens a bracket.
-fn open_bracket<'a>(writer: &mut Writer, stand: &mut Stand<'a>, region: Region, token: &Token) -> Result<(), Front>
+fn open_bracket<'a>(
+    writer: &mut Writer,
+    stand: &mut Stand<'a>,
+    region: Region,
+    token: &Token,
+) -> Result<(), Front>
     ensures ok { OnOk result ((go : Here → Walk) → rest_of writer.new (go (here_of stand.new)) ≡ rest_of writer.old (open_bracket region (here_of stand.old) token.now go)) }
     ensures refused { (r : Refusal) → IsErrOf result (front.Refused r) → (go : Here → Walk) → rest_of writer.old (open_bracket region (here_of stand.old) token.now go) ≡ Err r }
 {
     put_opening(writer, region, token)?;
-    stand.frames.push(Frame { region, text: stand.line, place: token.place })?;
+    stand.frames.push(Frame {
+        region,
+        text: stand.line,
+        place: token.place,
+    })?;
     stand.is_opened = false;
     Ok(())
 }
 
 /// Closes a bracket.
-fn close_bracket<'a>(writer: &mut Writer, stand: &mut Stand<'a>, region: Region, token: &Token) -> Result<(), Front>
+fn close_bracket<'a>(
+    writer: &mut Writer,
+    stand: &mut Stand<'a>,
+    region: Region,
+    token: &Token,
+) -> Result<(), Front>
     ensures ok { OnOk result ((go : Here → Walk) → rest_of writer.new (go (here_of stand.new)) ≡ rest_of writer.old (close region (here_of stand.old).frames token.now go)) }
     ensures refused { (r : Refusal) → IsErrOf result (front.Refused r) → (go : Here → Walk) → rest_of writer.old (close region (here_of stand.old).frames token.now go) ≡ Err r }
 {
@@ -282,7 +358,12 @@ fn colon(writer: &mut Writer, opens: bool, token: &Token) -> Result<(), Front>
 }
 
 /// The token itself, whose line it ends or not.
-fn on_token<'a>(writer: &mut Writer, stand: &mut Stand<'a>, token: &Token, ends: bool) -> Result<(), Front>
+fn on_token<'a>(
+    writer: &mut Writer,
+    stand: &mut Stand<'a>,
+    token: &Token,
+    ends: bool,
+) -> Result<(), Front>
     ensures ok { OnOk result ((go : Here → Walk) → rest_of writer.new (go (here_of stand.new)) ≡ rest_of writer.old (on_token ends (here_of stand.old) token.now go)) }
     ensures refused { (r : Refusal) → IsErrOf result (front.Refused r) → (go : Here → Walk) → rest_of writer.old (on_token ends (here_of stand.old) token.now go) ≡ Err r }
 {
@@ -325,7 +406,12 @@ fn put_end(writer: &mut Writer, end: Spot) -> Result<(), Front>
     ensures refused { (r : Refusal) → IsErrOf result (front.Refused r) → (ws : List Written) (stop : Option Refusal) →
         rest_of writer.old (record { written = close_at end ∷ ws; stop = stop }) ≡ Err r }
 {
-    writer.put(Tok { kind: TokKind::Close, start: end.at, end: end.at, place: end.place })
+    writer.put(Tok {
+        kind: TokKind::Close,
+        start: end.at,
+        end: end.at,
+        place: end.place,
+    })
 }
 
 /// Closes the blocks that are open at the file's end.
@@ -357,7 +443,13 @@ pub fn at_end(writer: &mut Writer, stand: &mut Stand, end: Spot) -> Result<(), F
 }
 
 /// One token, with what stands before it.
-pub fn step<'a>(writer: &mut Writer, stand: &mut Stand<'a>, bytes: &'a [u8], token: &Token, ends: bool) -> Result<(), Front>
+pub fn step<'a>(
+    writer: &mut Writer,
+    stand: &mut Stand<'a>,
+    bytes: &'a [u8],
+    token: &Token,
+    ends: bool,
+) -> Result<(), Front>
     requires { Lies bytes.now token.now }
     ensures ok { OnOk result ((go : Here → Walk) → rest_of writer.new (go (here_of stand.new))
         ≡ rest_of writer.old (step (here_of stand.old) (cell_of bytes.now token.now) ends go)) }

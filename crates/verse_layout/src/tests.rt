@@ -8,8 +8,8 @@ ghost use Rattle.std.specs.Prelude.{IsTrue, IfOk};
 ghost use Rattle.std.specs.List.{All};
 ghost use Rattle.verse_layout.specs.Cells.{Lies};
 
-use crate::layouts::layout;
 use crate::laws::{one_layout, stuck_where, walk_is_layout};
+use crate::layouts::layout;
 use crate::toks::{Tok, TokKind};
 use std::alloc::{AllocError, Global};
 use std::test::Fail;
@@ -190,22 +190,40 @@ fn text_of(alloc: Global, source: &[u8]) -> Result<Vec<u8>, AllocError> {
 
 fn tokens_of(alloc: Global, text: &[u8]) -> Result<Vec<Token>, AllocError> {
     let mut tokens = Vec::new(alloc);
-    let mut place = Place { file: 0, line: 1, col: 1 };
+    let mut place = Place {
+        file: 0,
+        line: 1,
+        col: 1,
+    };
     let mut at = 0u32;
     let mut indent = Some(0u32);
     for byte in text {
         let next = at.saturating_add(1);
         let col = place.col.saturating_add(1);
         if *byte == b'\n' {
-            place = Place { file: 0, line: place.line.saturating_add(1), col: 1 };
+            place = Place {
+                file: 0,
+                line: place.line.saturating_add(1),
+                col: 1,
+            };
             indent = Some(next);
         } else {
             if *byte != b' ' && *byte != b'\t' {
                 let indent_span = indent.map(|from| (from, at));
-                tokens.push(Token { kind: kind_of(*byte), start: at, end: next, place, indent: indent_span })?;
+                tokens.push(Token {
+                    kind: kind_of(*byte),
+                    start: at,
+                    end: next,
+                    place,
+                    indent: indent_span,
+                })?;
                 indent = None;
             }
-            place = Place { file: 0, line: place.line, col };
+            place = Place {
+                file: 0,
+                line: place.line,
+                col,
+            };
         }
         at = next;
     }
@@ -253,7 +271,12 @@ fn show_toks(alloc: Global, text: &[u8], toks: &[Tok]) -> Result<String, Fail> {
     Ok(out)
 }
 
-fn show(alloc: Global, text: &[u8], wanted: &str, answer: Result<Vec<Tok>, Front>) -> Result<String, Fail> {
+fn show(
+    alloc: Global,
+    text: &[u8],
+    wanted: &str,
+    answer: Result<Vec<Tok>, Front>,
+) -> Result<String, Fail> {
     match answer {
         Ok(toks) => {
             if wanted.starts_with("#") {
@@ -261,7 +284,10 @@ fn show(alloc: Global, text: &[u8], wanted: &str, answer: Result<Vec<Tok>, Front
             }
             show_toks(alloc, text, toks.as_slice())
         }
-        Err(Front::Refused(r)) => Ok(format!(in alloc; "E{} {}:{}", r.rule.0, r.place.line, r.place.col)?),
+        Err(Front::Refused(r)) => Ok(format!(in alloc;
+            "E{} {}:{}",
+            r.rule.0, r.place.line, r.place.col
+        )?),
         Err(Front::Memory) => Ok(format!(in alloc; "memory")?),
     }
 }
@@ -269,7 +295,9 @@ fn show(alloc: Global, text: &[u8], wanted: &str, answer: Result<Vec<Tok>, Front
 #[test]
 fn rows(rt: HostRuntime) -> Result<(), Fail> {
     for row in ROWS.lines() {
-        let Some((source, wanted)) = row.split_once("~") else { continue };
+        let Some((source, wanted)) = row.split_once("~") else {
+            continue
+        };
         let text = text_of(rt.alloc(), source.as_bytes())?;
         let tokens = tokens_of(rt.alloc(), text.as_slice())?;
         assert!(rt; text.len() <= 1048576);

@@ -20,7 +20,10 @@ use verse_base::refusals::{Front, Refusal, Rule};
 pub fn refused(rule: u16, place: Place) -> Front
     ensures { result ≡ front.Refused (refusal rule place) }
 {
-    Front::Refused(Refusal { rule: Rule(rule), place })
+    Front::Refused(Refusal {
+        rule: Rule(rule),
+        place,
+    })
 }
 
 /// Whether it is an Open.
@@ -75,8 +78,15 @@ impl Writer {
     pub fn start(alloc: Global) -> Writer
         ensures { (x : Walk) → rest_of result x ≡ judged at_start (settled false None x.written) x.stop }
     {
-        let pen = Pen { toks: Vec::new(alloc), load: Load::start(alloc) };
-        Writer { pen, waiting: None, may: false }
+        let pen = Pen {
+            toks: Vec::new(alloc),
+            load: Load::start(alloc),
+        };
+        Writer {
+            pen,
+            waiting: None,
+            may: false,
+        }
     }
 
     /// Writes the Sep that waits, where one may stand before a tok of this kind.
@@ -87,7 +97,10 @@ impl Writer {
         ensures refused { (r : Refusal) → IsErrOf result (front.Refused r) → (ks : List Tok) (stop : Option Refusal) →
             judged (open_counts self.old.pen.load.inner self.old.pen.load.outer.items) (kept_sep (self.old.may && not (is_close kind)) self.old.waiting ++ ks) stop ≡ Err r }
     {
-        if self.may && !is_close(kind) && let Some(sep) = self.waiting {
+        if self.may
+            && !is_close(kind)
+            && let Some(sep) = self.waiting
+        {
             self.pen.put(sep)?;
         }
         Ok(())

@@ -3,7 +3,7 @@ use Rattle.std.specs.List.{All}
 use Rattle.std.proofs.lemmas.List.Elements.{All-tail}
 use Rattle.verse_layout.specs.Cells.{Lies, cell_of, cells_of}
 use Rattle.verse_layout.specs.Ends.{end_of}
-use Rattle.verse_layout.specs.Frames.{Here, Walk, walk, step}
+use Rattle.verse_layout.specs.Frames.{Here, walk, step}
 use Rattle.verse_layout.specs.Rests.{rest_of}
 use Rattle.verse_layout.specs.Stands.{here_of}
 use Rattle.verse_layout.proofs.Turns.{turn}

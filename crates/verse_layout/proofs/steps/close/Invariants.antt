@@ -1,4 +1,4 @@
-use Rattle.std.proofs.Common.{◌≡◌, List, length}
+use Rattle.std.proofs.Common.{◌≡◌, length}
 use Rattle.verse_layout.specs.Frames.{Here, Walk, close}
 use Rattle.verse_layout.specs.Rests.{rest_of}
 use Rattle.verse_layout.specs.Stands.{stack}

@@ -1,4 +1,4 @@
-use Rattle.std.proofs.Common.{◌≡◌, ◌∙◌}
+use Rattle.std.proofs.Common.{◌∙◌}
 use Rattle.verse_layout.specs.Blocks.{line_sep}
 use Rattle.verse_layout.specs.Frames.{write}
 use Rattle.verse_layout.proofs.steps.put_open.Goals as goal
