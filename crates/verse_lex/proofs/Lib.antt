@@ -10,5 +10,4 @@ pub mod Longest
 pub mod Parts
 pub mod Spelled
 pub mod Files
-pub mod Lines
 pub mod Alone

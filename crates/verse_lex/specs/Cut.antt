@@ -1,5 +1,5 @@
 -- A file's bytes are cut into pieces.
-use Rattle.std.specs.Prelude.{◌≡◌, ℕ, ◌+◌, ◌-◌, ◌≤◌, ◌<◌, Bool, ◌==◌, ◌&&◌, if◌then◌else◌, List, [], ◌∷◌, length, take, drop, Option, Some, None, is_some, IfSome, All}
+use Rattle.std.specs.Prelude.{◌≡◌, ℕ, ◌+◌, ◌-◌, ◌≤◌, ◌<◌, Bool, ◌==◌, ◌&&◌, if◌then◌else◌, List, [], ◌∷◌, length, take, drop, Option, Some, None, is_some}
 use Rattle.std.specs.Str.{IsUtf8, IsValidUpTo}
 use Rattle.verse_base.specs.declared.places.Place.{Place}
 use Rattle.verse_base.specs.declared.refusals.Refusal.{Refusal}
@@ -145,10 +145,3 @@ OneRefusal = (file : ℕ) (bs : List ℕ) (r s : Refusal) → IsRefused file bs 
 
 abbrev pub CutOrRefused : Type 0
 CutOrRefused = (file : ℕ) (bs : List ℕ) (ts : List Token) (r : Refusal) → AreTokens file bs ts → IsRefused file bs r → ⊥
-
--- the span of the indentation, where the token has one, lies within the bytes
-abbrev pub LiesWithin : List ℕ → Token → Type 0
-LiesWithin bs t = IfSome t.indent (λ span. (span.0 ≤ span.1) × (span.1 ≤ length bs))
-
-abbrev pub LinesLie : Type 0
-LinesLie = (file : ℕ) (bs : List ℕ) (ts : List Token) → AreTokens file bs ts → All (λ t. LiesWithin bs t) ts

@@ -1,6 +1,6 @@
 //! Laws of the definitions.
 
-ghost use Rattle.verse_lex.specs.Cut.{OneCut, OneRefusal, CutOrRefused, LinesLie};
+ghost use Rattle.verse_lex.specs.Cut.{OneCut, OneRefusal, CutOrRefused};
 ghost use Rattle.verse_lex.specs.Spelling.{NoneLonger, EachExplained, SpelledAlone, OnePiece, TokensSpelled, TextsMean};
 
 /// A file is cut in at most one way, it is refused in at most one, and never both.
@@ -24,9 +24,4 @@ pub fn spelled_pieces()
 pub fn spelled_tokens()
     ensures tokens { TokensSpelled }
     ensures texts { TextsMean }
-{}
-
-/// The indentation of a line lies within the bytes of the file.
-pub fn lines_lie()
-    ensures { LinesLie }
 {}

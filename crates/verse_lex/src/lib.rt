@@ -24,4 +24,3 @@ mod words;
 
 pub use contents::text_bytes;
 pub use lexer::lex;
-pub use places::place_at;
