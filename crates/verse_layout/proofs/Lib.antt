@@ -13,3 +13,4 @@ pub mod Outcomes
 pub mod Closers
 pub mod Traces
 pub mod Refused
+pub mod Lexed

@@ -1,9 +1,10 @@
 -- The layout of a file's tokens, and the laws of it.
-use Rattle.std.specs.Prelude.{◌≡◌, ◌≤◌, ◌↔◌, ℕ, false, List, [], ◌∷◌, Ok, None}
+use Rattle.std.specs.Prelude.{◌≡◌, ◌≤◌, ◌↔◌, All, ℕ, false, List, [], ◌∷◌, length, Ok, None}
 use Rattle.verse_lex.specs.declared.tokens.Token.{Token}
 use Rattle.verse_layout.specs.declared.toks.Tok.{Tok}
 use Rattle.verse_layout.specs.Loads.{Counts, load, after_tok, at_start}
-use Rattle.verse_layout.specs.Cells.{cells_of}
+use Rattle.verse_lex.specs.Cut.{AreTokens, Rise}
+use Rattle.verse_layout.specs.Cells.{Lies, cells_of}
 use Rattle.verse_layout.specs.Ends.{end_of}
 use Rattle.verse_layout.specs.Written.{Written, settled}
 use Rattle.verse_layout.specs.Blocks.{IsFile}
@@ -31,3 +32,7 @@ WalkIsLayout = (bytes : List ℕ) (tokens : List Token) (ks : List Tok) → (lai
 
 abbrev pub HasLayout : List ℕ → List Token → Type 0
 HasLayout bytes tokens = (ks : List Tok) × IsLayout bytes tokens ks
+
+-- the tokens of a file have their indentations within its bytes
+abbrev pub LexedLie : Type 0
+LexedLie = (file : ℕ) (bytes : List ℕ) (tokens : List Token) → AreTokens file bytes tokens → Rise 0 tokens (length bytes) → All (Lies bytes) tokens

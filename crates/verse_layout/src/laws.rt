@@ -1,6 +1,6 @@
 //! Laws of the layout of tokens.
 
-ghost use Rattle.verse_layout.specs.Layouts.{OneLayout, WalkIsLayout};
+ghost use Rattle.verse_layout.specs.Layouts.{LexedLie, OneLayout, WalkIsLayout};
 ghost use Rattle.verse_layout.specs.Stuck.{StuckWhere};
 
 /// A list of tokens has at most one layout.
@@ -17,4 +17,9 @@ pub fn walk_is_layout()
 /// the end of a file that could go on.
 pub fn stuck_where()
     ensures { StuckWhere }
+{}
+
+/// The tokens that `lex` answers for a file are such as `layout` needs for it.
+pub fn lexed_tokens_lie()
+    ensures { LexedLie }
 {}

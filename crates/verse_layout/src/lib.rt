@@ -1,4 +1,8 @@
 //! Tokens become toks: lines and blocks are written out with Open, Sep and Close.
+//!
+//! To be read in this order: `toks`, what is answered; `roles`, what tokens mean for lines and
+//! brackets; `loads`, the nesting load; `writers`, how toks are written; `frames`, what is open;
+//! `steps`, what one token does; `layouts`, the whole file; `laws`.
 #![tactic(auto)]
 
 mod frames;
