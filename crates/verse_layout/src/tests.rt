@@ -4,17 +4,18 @@
 //! toks, with an Open, a Sep and a Close as `<`, `/` and `>` and their places; or how many they are;
 //! or the refusal.
 
-ghost use Rattle.std.specs.Prelude.{IsTrue, IfOk};
+ghost use Rattle.std.specs.Prelude.{◌≤◌, length, IsTrue};
 ghost use Rattle.std.specs.List.{All};
 ghost use Rattle.verse_layout.specs.Cells.{Lies};
 
-use crate::laws::{one_layout, stuck_where, walk_is_layout};
+use crate::laws::{lexed_tokens_lie, one_layout, stuck_where, walk_is_layout};
 use crate::layouts::layout;
 use crate::toks::{Tok, TokKind};
 use std::alloc::{AllocError, Global};
 use std::test::Fail;
 use verse_base::places::Place;
 use verse_base::refusals::Front;
+use verse_lex::lex;
 use verse_lex::tokens::{Mark, Token, TokenKind, Word};
 
 const ROWS: &str = "~\n\
@@ -146,6 +147,21 @@ a=|_b=|__c|d:|_e~a=<2:2 b=<3:3 c>4:1 >4:1 /4:1 d<5:2 e>5:3\n\
 '(+(+(+(+(+(+(+(+(+(+(+(+(+(+(+(+(+(+(+(+(+(+(+(+(+(+(+(+(+(+(+(+(+(+(+(+(+(+(+(+(+(+(+(+(+(+(+(+(+(+(+(+(+(+(+(+(+(+(+(+(+(+(+(+(+(+(+(+(+(+(+(+(+(+(+(+(+(+(+(+(+(+(+(+(+(+(+(+(+(+(+(+(+(+(+(+(+(+(+(+-~E21 1:200\n\
 '++++++++++++++++++++++++++++++++++++++++++++++++++++++++++++++++++++++++++++++++++++++++++++++++++++++++++++++++++++++++++++++++++++++++++++++++++++++++++++++++++++++++++++++++++++++++++++++++++++++++(((((((((((((((((((((((((((((((((((((((((((((((((((((((((((((((((((((((((((((((((((((((((((((((((((-++++++++++++++++++++++++++++++++++++++++++++++++++++++++++++++++++++++++++++++++++++++++++++++++++++~E22 1:300";
 
+// Files, with `|` for a line's end and `^` for a tab.
+const FILES: &str = "Main():void = (1~E21 1:15\n\
+Main():void =|    Print(\"a\")|^Print(\"b\")~E20 3:2\n\
+Main():void =|    X := ((((((((((((((((((((((((((((((((((((((((((((((((((((((((((((((((((((((((((((((((((((((((((((((((((((((((((((((((((((((((((((((((((((((((((((((((((((((((((((((((((((((((((((((((((((((((((((((((((((((((((((((((((((((((((((((((((((((((((((((((((((((((((((((((((((((((((((((((((((((((((((((((((((((((((((((((((((((((((((((((((((((((((((((((((((((((((((((((((((((((((((((((((((((((((((((((((((((((((((((((((((((((((((((((((((((((((((((((((((((((((((((((((((((((((((((((((((((((((((((((((((((((((((((((((((1))))))))))))))))))))))))))))))))))))))))))))))))))))))))))))))))))))))))))))))))))))))))))))))))))))))))))))))))))))))))))))))))))))))))))))))))))))))))))))))))))))))))))))))))))))))))))))))))))))))))))))))))))))))))))))))))))))))))))))))))))))))))))))))))))))))))))))))))))))))))))))))))))))))))))))))))))))))))))))))))))))))))))))))))))))))))))))))))))))))))))))))))))))))))))))))))))))))))))))))))))))))))))))))))))))))))))))))))))))))))))))))))))))))))))))))))))))))))))))))))))))))))))))))))))))~E22 2:206\n\
+Main():void =|    X := ((((((((((((((((((((((((((((((((((((((((((((((((((((((((((((((((((((((((((((((((((((((((((((((((((((1))))))))))))))))))))))))))))))))))))))))))))))))))))))))))))))))))))))))))))))))))))))))))))))))))))~#211\n\
+# nothing|<# at|all #>|~\n\
+a: <#|  #> b~a:b\n\
+a:  # why|  b <# c|#> d|e~a<2:3 bd>4:1 /4:1 e\n\
+if (A):|    Print(\"{X} of {Y}\")|else:|    set Y += 1~i(A)<2:5 P(\"X}Y})>3:1 e<4:5 sY+1>4:15\n\
+X := map{|    \"a\" => 1,|  \"b\" => 2|}~X:m<1:9 \"=1/2:13 \"=2>4:1\n\
+if (a) {};|else {}~i(a)<1:8 >1:9 e<2:6 >2:7\n\
+if (a) {}; else {}~i(a)<1:8 >1:9 /1:10 e<1:17 >1:18\n\
+F{a = }~F<1:2 a=>1:7\n\
+F{a =|}~E20 2:1";
+
 fn mark_of(byte: u8) -> Mark {
     match byte {
         b':' => Mark::Colon,
@@ -181,6 +197,19 @@ fn text_of(alloc: Global, source: &[u8]) -> Result<Vec<u8>, AllocError> {
             b'|' => b'\n',
             b'_' => b' ',
             b'>' => b'\t',
+            other => other,
+        };
+        text.push(read)?;
+    }
+    Ok(text)
+}
+
+fn file_of(alloc: Global, source: &[u8]) -> Result<Vec<u8>, AllocError> {
+    let mut text = Vec::new(alloc);
+    for byte in source {
+        let read = match *byte {
+            b'|' => b'\n',
+            b'^' => b'\t',
             other => other,
         };
         text.push(read)?;
@@ -290,6 +319,29 @@ fn show(
         )?),
         Err(Front::Memory) => Ok(format!(in alloc; "memory")?),
     }
+}
+
+fn laid(alloc: Global, bytes: &[u8]) -> Result<Vec<Tok>, Front>
+    requires { length bytes.now ≤ 1048576 }
+{
+    let tokens = lex(alloc, 0, bytes)?;
+    lexed_tokens_lie();
+    layout(alloc, bytes, tokens.as_slice())
+}
+
+#[test]
+fn files(rt: HostRuntime) -> Result<(), Fail> {
+    for row in FILES.lines() {
+        let Some((source, wanted)) = row.split_once("~") else {
+            continue
+        };
+        let text = file_of(rt.alloc(), source.as_bytes())?;
+        assert!(rt; text.len() <= 1048576);
+        let answer = laid(rt.alloc(), text.as_slice());
+        let shown = show(rt.alloc(), text.as_slice(), wanted, answer)?;
+        assert_eq!(rt; shown.as_str().trim_end(), wanted, "{source}");
+    }
+    Ok(())
 }
 
 #[test]
