@@ -1,0 +1,195 @@
+ghost use Rattle.std.specs.Prelude.{◌≡◌, [], ◌∷◌, OnOk, OnErr, IfOk, map};
+ghost use Rattle.verse_value.specs.View.{val_of, vals_of, entry_of};
+ghost use Rattle.verse_value.specs.Val.{array, mapping, vals, pairs};
+ghost use Rattle.verse_value.specs.Places.{end_of, applied, Allows, put, pop, there, changed_here, pushed, popped, LacksKey, HasKeys};
+ghost use Rattle.verse_value.specs.Ends.{IsEnd};
+ghost use Rattle.verse_value.specs.Changes.{change_of, Undoes, TakesMemory};
+
+use crate::keys::Key;
+use crate::lookups::{Step, array_place, find, map_place};
+use crate::parts::Parts;
+use crate::paths::Path;
+use crate::values::{MapValue, Value};
+use std::mem;
+use verse_base::refusals::Memory;
+
+// Where a path leads in a slot's value.
+#[derive(Clone, Copy)]
+pub(crate) enum End<'a> {
+    There(&'a Value),
+    // To a key that the last map lacks, and that is the last index.
+    NewKey,
+    // Outside an array, or to a key other than a last one that a map lacks.
+    Nowhere,
+    Unfit,
+}
+
+#[derive(Drop)]
+pub(crate) enum Change {
+    Put(Value),
+    Push(Key, Value),
+    Pop,
+}
+
+pub(crate) fn follow<'a>(slot: &'a Value, path: &[Value]) -> End<'a>
+    ensures { IsEnd result (end_of (vals_of path.now) (val_of slot.now)) }
+{
+    match path {
+        [] => End::There(slot),
+        [index, rest @ ..] => match find(slot, index) {
+            Step::Part(part) => follow(part, rest),
+            Step::Outside => End::Nowhere,
+            Step::Absent if rest.is_empty() => End::NewKey,
+            Step::Absent => End::Nowhere,
+            Step::Misfit => End::Unfit,
+        },
+    }
+}
+
+// Makes a change where the path leads, and gives the value that was replaced. Only a new key takes
+// memory, and takes it before anything is changed.
+#[cycle(apply)]
+pub(crate) fn apply(
+    slot: &mut Value,
+    path: &[Value],
+    change: Change,
+) -> Result<Option<Value>, Memory>
+    requires { Allows (end_of (vals_of path.now) (val_of slot.old)) (change_of change) }
+    ensures ok { OnOk result (val_of slot.new ≡ applied (vals_of path.now) (change_of change) (val_of slot.old)) }
+    ensures undoes { IfOk result (λ old. Undoes (vals_of path.now) (change_of change) old (val_of slot.old) (val_of slot.new)) }
+    ensures memory { OnErr result (TakesMemory (change_of change)) }
+    ensures err { OnErr result (val_of slot.new ≡ val_of slot.old) }
+{
+    match path {
+        [] => apply_here(slot, change),
+        [index, rest @ ..] => match slot {
+            Value::Array(parts) => apply_to_part(parts, index, rest, change),
+            Value::Map(entries) => apply_to_entry(entries, index, rest, change),
+            _ => unreachable!(),
+        },
+    }
+}
+
+#[cycle(apply)]
+fn apply_to_part(
+    parts: &mut Parts<Value>,
+    index: &Value,
+    path: &[Value],
+    made: Change,
+) -> Result<Option<Value>, Memory>
+    requires { Allows (end_of (val_of index.now ∷ vals_of path.now) (array (vals (vals_of parts.old)))) (change_of made) }
+    ensures ok { OnOk result (array (vals (vals_of parts.new)) ≡ applied (val_of index.now ∷ vals_of path.now) (change_of made) (array (vals (vals_of parts.old)))) }
+    ensures undoes { IfOk result (λ old. Undoes (val_of index.now ∷ vals_of path.now) (change_of made) old (array (vals (vals_of parts.old))) (array (vals (vals_of parts.new)))) }
+    ensures memory { OnErr result (TakesMemory (change_of made)) }
+    ensures err { OnErr result (array (vals (vals_of parts.new)) ≡ array (vals (vals_of parts.old))) }
+{
+    let Value::Int(n) = index else {
+        unreachable!();
+    };
+    match array_place(parts.len(), *n) {
+        Some(at) => apply(parts.part_mut(at), path, made),
+        None => unreachable!(),
+    }
+}
+
+#[cycle(apply)]
+fn apply_to_entry(
+    entries: &mut MapValue,
+    index: &Value,
+    path: &[Value],
+    made: Change,
+) -> Result<Option<Value>, Memory>
+    requires { Allows (end_of (val_of index.now ∷ vals_of path.now) (mapping (pairs (map entry_of entries.old)))) (change_of made) }
+    ensures ok { OnOk result (mapping (pairs (map entry_of entries.new)) ≡ applied (val_of index.now ∷ vals_of path.now) (change_of made) (mapping (pairs (map entry_of entries.old)))) }
+    ensures undoes { IfOk result (λ old. Undoes (val_of index.now ∷ vals_of path.now) (change_of made) old (mapping (pairs (map entry_of entries.old))) (mapping (pairs (map entry_of entries.new)))) }
+    ensures memory { OnErr result (TakesMemory (change_of made)) }
+    ensures err { OnErr result (mapping (pairs (map entry_of entries.new)) ≡ mapping (pairs (map entry_of entries.old))) }
+{
+    match map_place(entries, index) {
+        Some(Some(at)) => apply(entries.value_mut(at), path, made),
+        _ => unreachable!(),
+    }
+}
+
+fn apply_here(slot: &mut Value, change: Change) -> Result<Option<Value>, Memory>
+    requires { Allows (there (val_of slot.old)) (change_of change) }
+    ensures ok { OnOk result (val_of slot.new ≡ changed_here (change_of change) (val_of slot.old)) }
+    ensures undoes { IfOk result (λ old. Undoes [] (change_of change) old (val_of slot.old) (val_of slot.new)) }
+    ensures memory { OnErr result (TakesMemory (change_of change)) }
+    ensures err { OnErr result (val_of slot.new ≡ val_of slot.old) }
+{
+    match change {
+        Change::Put(new) => Ok(Some(mem::replace(slot, new))),
+        Change::Push(key, new) => {
+            push_key(slot, key, new)?;
+            Ok(None)
+        }
+        Change::Pop => {
+            pop_key(slot);
+            Ok(None)
+        }
+    }
+}
+
+fn push_key(slot: &mut Value, key: Key, new: Value) -> Result<(), Memory>
+    requires { LacksKey key (val_of slot.old) }
+    ensures ok { OnOk result (val_of slot.new ≡ pushed key (val_of new) (val_of slot.old)) }
+    ensures undoes { OnOk result (HasKeys (val_of slot.new) × (popped (val_of slot.new) ≡ val_of slot.old)) }
+    ensures err { OnErr result (val_of slot.new ≡ val_of slot.old) }
+{
+    match slot {
+        Value::Map(entries) => entries.push(key, new),
+        _ => unreachable!(),
+    }
+}
+
+fn pop_key(slot: &mut Value)
+    ensures { val_of slot.new ≡ popped (val_of slot.old) }
+{
+    if let Value::Map(entries) = slot {
+        let _ = entries.pop();
+    }
+}
+
+/// Puts a value where a path leads, which must be to a value that is there, and gives the old one.
+/// Takes no memory.
+pub fn put_at(slot: &mut Value, path: &Path, value: Value) -> Value
+    requires { Allows (end_of (vals_of path.now) (val_of slot.old)) (put (val_of value)) }
+    ensures new { val_of slot.new ≡ applied (vals_of path.now) (put (val_of value)) (val_of slot.old) }
+    ensures old { end_of (vals_of path.now) (val_of slot.old) ≡ there (val_of result) }
+    ensures back { applied (vals_of path.now) (put (val_of result)) (val_of slot.new) ≡ val_of slot.old }
+{
+    put(slot, path.as_slice(), value)
+}
+
+pub(crate) fn put(slot: &mut Value, path: &[Value], value: Value) -> Value
+    requires { Allows (end_of (vals_of path.now) (val_of slot.old)) (put (val_of value)) }
+    ensures new { val_of slot.new ≡ applied (vals_of path.now) (put (val_of value)) (val_of slot.old) }
+    ensures old { end_of (vals_of path.now) (val_of slot.old) ≡ there (val_of result) }
+    ensures can_go_back { Allows (end_of (vals_of path.now) (val_of slot.new)) (put (val_of result)) }
+    ensures back { applied (vals_of path.now) (put (val_of result)) (val_of slot.new) ≡ val_of slot.old }
+{
+    match apply(slot, path, Change::Put(value)) {
+        Ok(Some(old)) => old,
+        _ => unreachable!(),
+    }
+}
+
+/// Takes the last key with its value off the map that a path leads to, which must have one. Takes
+/// no memory.
+pub fn drop_last(slot: &mut Value, path: &Path)
+    requires { Allows (end_of (vals_of path.now) (val_of slot.old)) pop }
+    ensures { val_of slot.new ≡ applied (vals_of path.now) pop (val_of slot.old) }
+{
+    take_last(slot, path.as_slice());
+}
+
+pub(crate) fn take_last(slot: &mut Value, path: &[Value])
+    requires { Allows (end_of (vals_of path.now) (val_of slot.old)) pop }
+    ensures { val_of slot.new ≡ applied (vals_of path.now) pop (val_of slot.old) }
+{
+    match apply(slot, path, Change::Pop) {
+        Ok(_) => {}
+        Err(_) => unreachable!(),
+    }
+}

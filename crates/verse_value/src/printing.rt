@@ -1,0 +1,165 @@
+ghost use Rattle.std.specs.Prelude.{◌≡◌, ◌++◌, OnOk, OnErr, map};
+ghost use Rattle.verse_value.specs.View.{val_of, vals_of, entry_of};
+ghost use Rattle.verse_value.specs.Val.{vals, pairs};
+ghost use Rattle.verse_value.specs.Texts.{text_of, list_text, pairs_text, key_text, quoted, escaped, hex_pair, enum_text};
+
+use crate::keys::Key;
+use crate::lookups::text_bytes;
+use crate::values::{MapValue, Value};
+use std::alloc::Global;
+use verse_base::refusals::Memory;
+use verse_base::texts::decimal;
+
+/// Appends the text of a value. After want of memory `out` is as it was.
+pub fn text(v: &Value, out: &mut Vec<u8>) -> Result<(), Memory>
+    ensures ok { OnOk result (out.new.items ≡ out.old.items ++ text_of (val_of v.now)) }
+    ensures err { OnErr result (out.new.items ≡ out.old.items) }
+{
+    let alloc = *out.allocator();
+    let mut text = Vec::new(alloc);
+    append(alloc, v, &mut text)?;
+    out.extend_from_slice(text.as_slice())?;
+    Ok(())
+}
+
+#[cycle(append)]
+fn append(alloc: Global, v: &Value, out: &mut Vec<u8>) -> Result<(), Memory>
+    ensures { OnOk result (out.new.items ≡ out.old.items ++ text_of (val_of v.now)) }
+{
+    match v {
+        Value::Unit => append_bytes(out, b"()"),
+        Value::False => append_bytes(out, b"false"),
+        Value::True => append_bytes(out, b"true"),
+        Value::Int(n) => decimal(*n, out),
+        Value::Char(c) => append_char(out, *c),
+        Value::Enum(of, at) => append_enum(out, *of, *at),
+        Value::Obj(cell) => append_numbered(out, b'@', *cell),
+        Value::Event(cell) => append_numbered(out, b'!', *cell),
+        Value::Task(number) => append_numbered(out, b'~', *number),
+        Value::Some(part) => {
+            append_bytes(out, b"option{")?;
+            append(alloc, part, out)?;
+            append_bytes(out, b"}")
+        }
+        Value::Array(parts) => append_array(alloc, parts.as_slice(), out),
+        Value::Map(entries) => append_map(alloc, entries, out),
+        Value::Tuple(parts) => {
+            append_bytes(out, b"(")?;
+            append_list(alloc, parts.as_slice(), out)?;
+            append_bytes(out, b")")
+        }
+    }
+}
+
+#[cycle(append)]
+fn append_array(alloc: Global, parts: &[Value], out: &mut Vec<u8>) -> Result<(), Memory> {
+    match text_bytes(alloc, parts)? {
+        Some(bytes) if !bytes.is_empty() => append_quoted(out, bytes.as_slice()),
+        _ => {
+            append_bytes(out, b"array{")?;
+            append_list(alloc, parts, out)?;
+            append_bytes(out, b"}")
+        }
+    }
+}
+
+#[cycle(append)]
+fn append_list(alloc: Global, parts: &[Value], out: &mut Vec<u8>) -> Result<(), Memory> {
+    let [first, rest @ ..] = parts else {
+        return Ok(());
+    };
+    append(alloc, first, out)?;
+    'parts: for part in rest {
+        append_bytes(out, b", ")?;
+        append(alloc, part, out)?;
+    }
+    Ok(())
+}
+
+#[cycle(append)]
+fn append_map(alloc: Global, entries: &MapValue, out: &mut Vec<u8>) -> Result<(), Memory> {
+    append_bytes(out, b"map{")?;
+    let keys = entries.keys();
+    let values = entries.values();
+    'entries: for i in 0..values.len() {
+        if i > 0 {
+            append_bytes(out, b", ")?;
+        }
+        append_key(out, &keys[i])?;
+        append_bytes(out, b" => ")?;
+        append(alloc, &values[i], out)?;
+    }
+    append_bytes(out, b"}")
+}
+
+fn append_key(out: &mut Vec<u8>, key: &Key) -> Result<(), Memory>
+    ensures { OnOk result (out.new.items ≡ out.old.items ++ key_text key.now) }
+{
+    match key {
+        Key::Int(n) => decimal(*n, out),
+        Key::Logic(true) => append_bytes(out, b"true"),
+        Key::Logic(false) => append_bytes(out, b"false"),
+        Key::Char(c) => append_char(out, *c),
+        Key::Enum(of, at) => append_enum(out, *of, *at),
+        Key::Text(bytes) if bytes.as_slice().is_empty() => append_bytes(out, b"array{}"),
+        Key::Text(bytes) => append_quoted(out, bytes.as_slice()),
+    }
+}
+
+fn append_enum(out: &mut Vec<u8>, of: u32, at: u32) -> Result<(), Memory>
+    ensures { OnOk result (out.new.items ≡ out.old.items ++ enum_text of at) }
+{
+    append_numbered(out, b'#', of)?;
+    append_numbered(out, b'.', at)
+}
+
+fn append_numbered(out: &mut Vec<u8>, mark: u8, number: u32) -> Result<(), Memory> {
+    out.push(mark)?;
+    decimal(i64::from(number), out)
+}
+
+fn append_char(out: &mut Vec<u8>, c: u8) -> Result<(), Memory> {
+    append_bytes(out, b"0o")?;
+    append_hex(out, c)
+}
+
+fn append_hex(out: &mut Vec<u8>, byte: u8) -> Result<(), Memory>
+    ensures { OnOk result (out.new.items ≡ out.old.items ++ hex_pair byte) }
+{
+    out.push(hex_digit(byte / 16))?;
+    out.push(hex_digit(byte % 16))?;
+    Ok(())
+}
+
+fn hex_digit(d: u8) -> u8 {
+    if d < 10 { b'0' + d } else { b'a' + (d - 10) }
+}
+
+fn append_quoted(out: &mut Vec<u8>, bytes: &[u8]) -> Result<(), Memory>
+    ensures { OnOk result (out.new.items ≡ out.old.items ++ quoted bytes.now) }
+{
+    out.push(b'"')?;
+    'bytes: for byte in bytes {
+        append_escaped(out, *byte)?;
+    }
+    out.push(b'"')?;
+    Ok(())
+}
+
+fn append_escaped(out: &mut Vec<u8>, byte: u8) -> Result<(), Memory>
+    ensures { OnOk result (out.new.items ≡ out.old.items ++ escaped byte) }
+{
+    if (0x20..=0x7e).contains(&byte) && byte != b'"' && byte != b'\\' {
+        out.push(byte)?;
+        return Ok(());
+    }
+    append_bytes(out, b"\\x")?;
+    append_hex(out, byte)
+}
+
+fn append_bytes(out: &mut Vec<u8>, bytes: &[u8]) -> Result<(), Memory>
+    ensures { OnOk result (out.new.items ≡ out.old.items ++ bytes.now) }
+{
+    out.extend_from_slice(bytes)?;
+    Ok(())
+}
