@@ -9,14 +9,18 @@ use Rattle.verse_value.specs.contracts.keys.KeyPartialEq.TheImpl.{ghosts}
 abbrev pub key_eq : Key → Key → Bool
 key_eq = ghosts.eq
 
--- the bytes of a list of chars alone
-abbrev pub with_byte : Val → Option (List ℕ) → Option (List ℕ)
-with_byte (char c) bytes = option_map (λ bs. c ∷ bs) bytes
-with_byte v bytes = None
+-- the bytes of a list of chars alone; none where another value is among them
+abbrev pub byte_of : Val → Option ℕ
+byte_of (char c) = Some c
+byte_of v = None
+
+abbrev pub with_byte : Option ℕ → Option (List ℕ) → Option (List ℕ)
+with_byte None bytes = None
+with_byte (Some b) bytes = option_map (λ bs. b ∷ bs) bytes
 
 abbrev pub bytes_of : Vals → Option (List ℕ)
 bytes_of no_vals = Some []
-bytes_of (more_vals v vs) = with_byte v (bytes_of vs)
+bytes_of (more_vals v vs) = with_byte (byte_of v) (bytes_of vs)
 
 abbrev pub chars : List ℕ → Vals
 chars [] = no_vals

@@ -8,7 +8,7 @@ use Rattle.verse_value.specs.declared.keys.Key.{Key}
 pub data Step : Type 0 where
   part : Val → Step
   outside : Step
-  absent : Key → Step
+  absent : Step
   misfit : Step
 
 -- where an int leads in that many parts
@@ -31,7 +31,7 @@ in_array vs (int (negsuc n)) = outside
 in_array vs index = misfit
 
 abbrev pub in_map : Pairs → Option Key → Step
-in_map ps (Some k) = part_or (absent k) (at_key ps k)
+in_map ps (Some k) = part_or absent (at_key ps k)
 in_map ps None = misfit
 
 -- an array takes an int, a map a key
@@ -48,19 +48,19 @@ found other = None
 -- where a path leads: to a value that is there, to a key that the last map lacks, nowhere, or it does not go with the value
 pub data End : Type 0 where
   there : Val → End
-  new_key : Key → End
+  new_key : End
   nowhere : End
   unfit : End
 
 -- only a key that is the last index may be absent
-abbrev pub at_absent : List Val → Key → End
-at_absent [] k = new_key k
-at_absent (i ∷ path) k = nowhere
+abbrev pub at_absent : List Val → End
+at_absent [] = new_key
+at_absent (i ∷ path) = nowhere
 
 abbrev pub end_from : Step → List Val → (Val → End) → End
 end_from (part v) path rest = rest v
 end_from outside path rest = nowhere
-end_from (absent k) path rest = at_absent path k
+end_from absent path rest = at_absent path
 end_from misfit path rest = unfit
 
 -- followed from the left
@@ -147,6 +147,8 @@ path_to_map [] = []
 path_to_map (i ∷ []) = []
 path_to_map (i ∷ (j ∷ path)) = i ∷ path_to_map (j ∷ path)
 
-abbrev pub IsNewKey : End → Type 0
-IsNewKey (new_key k) = Unit {0}
-IsNewKey end = ⊥
+-- the key that its last index is
+abbrev pub last_key : List Val → Option Key
+last_key [] = None
+last_key (i ∷ []) = key_of i
+last_key (i ∷ (j ∷ path)) = last_key (j ∷ path)

@@ -1,10 +1,10 @@
 -- What a write at a path comes to, and what undoes it.
-use Rattle.std.specs.Prelude.{ℕ, ℤ, pos, negsuc, ◌^◌, ◌+ℤ◌, ◌-ℤ◌, ◌*ℤ◌, Bool, nat_lt, List, Result, Ok, Err, ◌≡◌, if◌then◌else◌}
+use Rattle.std.specs.Prelude.{ℕ, ℤ, pos, negsuc, ◌^◌, ◌+ℤ◌, ◌-ℤ◌, ◌*ℤ◌, Bool, nat_lt, List, Option, Some, Result, Ok, Err, ◌≡◌, if◌then◌else◌}
 use Rattle.verse_base.specs.declared.refusals.Kind.TheVariants.{Overflow, Size}
 use Rattle.verse_value.specs.Val.{Val, unit, falsity, truth, int, char, enum, object, event, task, some, array, mapping, tuple, Vals, no_vals, more_vals}
 use Rattle.verse_value.specs.View.{val_of}
 use Rattle.verse_value.specs.Sizes.{fits}
-use Rattle.verse_value.specs.Places.{End, there, new_key, nowhere, unfit, end_of, Change, put, push, pop, applied, Allows, path_to_map}
+use Rattle.verse_value.specs.Places.{End, there, new_key, nowhere, unfit, end_of, Change, put, push, pop, applied, Allows, path_to_map, last_key}
 use Rattle.verse_value.specs.declared.keys.Key.{Key}
 use Rattle.verse_value.specs.declared.values.Value.{Value}
 use Rattle.verse_value.specs.declared.writes.Mode.{Mode}
@@ -44,13 +44,13 @@ overwritten path slot (Ok new) = sized (applied path (put new) slot) new
 overwritten path slot (Err fault) = Err fault
 
 -- only `=` makes a key
-abbrev pub key_made : List Val → Mode → Val → Val → Key → Result (Val × Val) WriteFault
-key_made path Set value slot k = sized (applied (path_to_map path) (push k value) slot) value
+abbrev pub key_made : List Val → Mode → Val → Val → Option Key → Result (Val × Val) WriteFault
+key_made path Set value slot (Some k) = sized (applied (path_to_map path) (push k value) slot) value
 key_made path mode value slot k = Err Fail
 
 abbrev pub written_at : End → List Val → Mode → Val → Val → Result (Val × Val) WriteFault
 written_at (there old) path mode value slot = overwritten path slot (combined mode old value)
-written_at (new_key k) path mode value slot = key_made path mode value slot k
+written_at new_key path mode value slot = key_made path mode value slot (last_key path)
 written_at nowhere path mode value slot = Err Fail
 written_at unfit path mode value slot = Err Stuck
 

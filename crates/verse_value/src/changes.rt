@@ -2,7 +2,7 @@ ghost use Rattle.std.specs.Prelude.{◌≡◌, [], ◌∷◌, OnOk, OnErr, IfOk,
 ghost use Rattle.verse_value.specs.View.{val_of, vals_of, entry_of};
 ghost use Rattle.verse_value.specs.Val.{array, mapping, vals, pairs};
 ghost use Rattle.verse_value.specs.Places.{end_of, applied, Allows, put, pop, there, changed_here, pushed, popped, LacksKey, HasKeys};
-ghost use Rattle.verse_value.specs.Ends.{IsEnd};
+ghost use Rattle.verse_value.specs.Ends.{end_found};
 ghost use Rattle.verse_value.specs.Changes.{change_of, Undoes, TakesMemory};
 
 use crate::keys::Key;
@@ -32,7 +32,7 @@ pub(crate) enum Change {
 }
 
 pub(crate) fn follow<'a>(slot: &'a Value, path: &[Value]) -> End<'a>
-    ensures { IsEnd result (end_of (vals_of path.now) (val_of slot.now)) }
+    ensures { end_found result ≡ end_of (vals_of path.now) (val_of slot.now) }
 {
     match path {
         [] => End::There(slot),
@@ -131,6 +131,7 @@ fn apply_here(slot: &mut Value, change: Change) -> Result<Option<Value>, Memory>
     }
 }
 
+#[tactic(auto, using(crate::proofs::MapLemmas::pairs_push, crate::proofs::MapLemmas::without_with, crate::proofs::MapLemmas::has_with, crate::proofs::MapLemmas::absent_place))]
 fn push_key(slot: &mut Value, key: Key, new: Value) -> Result<(), Memory>
     requires { LacksKey key (val_of slot.old) }
     ensures ok { OnOk result (val_of slot.new ≡ pushed key (val_of new) (val_of slot.old)) }
@@ -143,6 +144,7 @@ fn push_key(slot: &mut Value, key: Key, new: Value) -> Result<(), Memory>
     }
 }
 
+#[tactic(auto, using(crate::proofs::MapLemmas::pairs_pop))]
 fn pop_key(slot: &mut Value)
     ensures { val_of slot.new ≡ popped (val_of slot.old) }
 {

@@ -1,4 +1,4 @@
-ghost use Rattle.std.specs.Prelude.{◌≡◌, ◌<◌, ◌++◌, [], ◌∷◌, None, Some, length, slice_get, zip, vec_len, IfOk, OnOk, OnErr, MatchOption};
+ghost use Rattle.std.specs.Prelude.{◌≡◌, ◌<◌, ◌++◌, [], ◌∷◌, None, Some, length, slice_get, zip, vec_len, IfOk, IfSome, OnOk, OnErr, MatchOption};
 ghost use Rattle.std.specs.Borrow.{sem};
 ghost use Rattle.verse_value.specs.Entries.{keys_of, values_of, place_of, inserted};
 
@@ -68,7 +68,8 @@ impl<V> Entries<V> {
 
     /// Where the entry of a key stands, found by hash; `None` exactly where the key is absent.
     pub fn place(&self, key: &Key) -> Option<usize>
-        ensures { result ≡ place_of key.now self.now }
+        ensures place { result ≡ place_of key.now self.now }
+        ensures within { IfSome result (λ at. at < length self.now) }
     {
         self.keys.get_index_of(key)
     }
@@ -102,9 +103,10 @@ impl<V> Entries<V> {
         V: Drop,
         ensures { MatchOption result ((self.old ≡ []) × (self.new ≡ [])) (λ e. self.old ≡ self.new ++ e ∷ []) }
     {
-        match (self.keys.pop(), self.values.pop()) {
-            (Some(key), Some(value)) => Some((key, value)),
-            _ => None,
+        let value = self.values.pop()?;
+        match self.keys.pop() {
+            Some(key) => Some((key, value)),
+            None => unreachable!(),
         }
     }
 

@@ -1,10 +1,10 @@
-ghost use Rattle.std.specs.Prelude.{◌≡◌, ◌≢◌, ◌↔◌, Some, is_some, IsTrue, IfOk, option_map};
+ghost use Rattle.std.specs.Prelude.{◌≡◌, ◌≢◌, ◌↔◌, ◌<◌, Some, is_some, length, IsTrue, IfOk, IfSome, option_map};
 ghost use Rattle.verse_value.specs.View.{val_of, vals_of};
 ghost use Rattle.verse_value.specs.Val.{array, vals};
-ghost use Rattle.verse_value.specs.Keys.{key_of, bytes_of};
+ghost use Rattle.verse_value.specs.Keys.{key_of, byte_of, bytes_of};
 ghost use Rattle.verse_value.specs.Entries.{place_of, key_place};
 ghost use Rattle.verse_value.specs.Places.{step_in, found, misfit, place_in};
-ghost use Rattle.verse_value.specs.Lookups.{IsStep};
+ghost use Rattle.verse_value.specs.Lookups.{step_of};
 ghost use Rattle.verse_value.specs.declared.keys.Key.TheVariants as key;
 
 use crate::bytes::Bytes;
@@ -29,7 +29,7 @@ pub enum Step<'a> {
 /// What an index leads to in a value. An array is read by place, and a key that is no text is found
 /// by hash; a text is compared with the keys one after the other, so that no key is made.
 pub fn find<'a>(v: &'a Value, index: &Value) -> Step<'a>
-    ensures { IsStep result (step_in (val_of v.now) (val_of index.now)) }
+    ensures { step_of result ≡ step_in (val_of v.now) (val_of index.now) }
 {
     match v {
         Value::Array(parts) => match index {
@@ -61,7 +61,8 @@ pub fn at<'a>(v: &'a Value, index: &Value) -> Option<&'a Value>
 }
 
 pub(crate) fn array_place(len: usize, index: i64) -> Option<usize>
-    ensures { result ≡ place_in len index }
+    ensures place { result ≡ place_in len index }
+    ensures within { IfSome result (λ at. at < len) }
 {
     let at = usize::try_from(index).ok()?;
     if at < len { Some(at) } else { None }
@@ -69,7 +70,8 @@ pub(crate) fn array_place(len: usize, index: i64) -> Option<usize>
 
 // Where the key that `index` is stands, if it is one and stands there.
 pub(crate) fn map_place(entries: &MapValue, index: &Value) -> Option<Option<usize>>
-    ensures { result ≡ option_map (λ k. place_of k entries.now) (key_of (val_of index.now)) }
+    ensures place { result ≡ option_map (λ k. place_of k entries.now) (key_of (val_of index.now)) }
+    ensures within { IfSome result (λ place. IfSome place (λ at. at < length entries.now)) }
 {
     match index {
         Value::Int(n) => Some(entries.place(&Key::Int(*n))),
@@ -83,19 +85,39 @@ pub(crate) fn map_place(entries: &MapValue, index: &Value) -> Option<Option<usiz
 }
 
 fn text_place(keys: &[Key], parts: &[Value]) -> Option<Option<usize>>
-    ensures { result ≡ option_map (λ bytes. key_place (key.Text bytes) keys.now) (bytes_of (vals (vals_of parts.now))) }
+    ensures place { result ≡ option_map (λ bytes. key_place (key.Text bytes) keys.now) (bytes_of (vals (vals_of parts.now))) }
+    ensures within { IfSome result (λ place. IfSome place (λ at. at < length keys.now)) }
 {
     if !is_text(parts) {
         return None;
     }
-    Some(keys.iter().position(|key| is_text_key(key, parts)))
+    'keys: for i in 0..keys.len() {
+        if is_text_key(&keys[i], parts) {
+            return Some(Some(i));
+        }
+    }
+    Some(None)
+}
+
+fn char_of(value: &Value) -> Option<u8>
+    ensures { result ≡ byte_of (val_of value.now) }
+{
+    match value {
+        Value::Char(c) => Some(*c),
+        _ => None,
+    }
 }
 
 /// Whether all of these are chars.
 pub fn is_text(parts: &[Value]) -> bool
     ensures { result ≡ is_some (bytes_of (vals (vals_of parts.now))) }
 {
-    parts.iter().all(|part| matches!(part, Value::Char(_)))
+    'parts: for part in parts {
+        if char_of(part).is_none() {
+            return false;
+        }
+    }
+    true
 }
 
 // Whether a key is the text of these chars.
@@ -115,9 +137,8 @@ fn same_text(bytes: &[u8], parts: &[Value]) -> bool
         return false;
     }
     'bytes: for i in 0..bytes.len() {
-        match &parts[i] {
-            Value::Char(c) if *c == bytes[i] => {}
-            _ => return false,
+        if char_of(&parts[i]) != Some(bytes[i]) {
+            return false;
         }
     }
     true
@@ -148,9 +169,9 @@ pub fn text_bytes(alloc: Global, parts: &[Value]) -> Result<Option<Vec<u8>>, Mem
 {
     let mut bytes = Vec::new(alloc);
     'parts: for part in parts {
-        match part {
-            Value::Char(c) => bytes.push(*c)?,
-            _ => return Ok(None),
+        match char_of(part) {
+            Some(c) => bytes.push(c)?,
+            None => return Ok(None),
         }
     }
     Ok(Some(bytes))

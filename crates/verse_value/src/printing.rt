@@ -1,14 +1,15 @@
-ghost use Rattle.std.specs.Prelude.{◌≡◌, ◌++◌, OnOk, OnErr, map};
+ghost use Rattle.std.specs.Prelude.{◌≡◌, ◌<◌, ◌++◌, ◌∷◌, codes, decimal, length, zip, OnOk, OnErr, map};
+ghost use Rattle.verse_value.specs.Keys.{bytes_of};
 ghost use Rattle.verse_value.specs.View.{val_of, vals_of, entry_of};
 ghost use Rattle.verse_value.specs.Val.{vals, pairs};
-ghost use Rattle.verse_value.specs.Texts.{text_of, list_text, pairs_text, key_text, quoted, escaped, hex_pair, enum_text};
+ghost use Rattle.verse_value.specs.Texts.{text_of, list_text, pairs_text, array_text, key_text, quoted, escaped, hex_digit, hex_pair, enum_text};
 
 use crate::keys::Key;
 use crate::lookups::text_bytes;
 use crate::values::{MapValue, Value};
 use std::alloc::Global;
 use verse_base::refusals::Memory;
-use verse_base::texts::decimal;
+use verse_base::texts::{decimal, natural};
 
 /// Appends the text of a value. After want of memory `out` is as it was.
 pub fn text(v: &Value, out: &mut Vec<u8>) -> Result<(), Memory>
@@ -52,7 +53,9 @@ fn append(alloc: Global, v: &Value, out: &mut Vec<u8>) -> Result<(), Memory>
 }
 
 #[cycle(append)]
-fn append_array(alloc: Global, parts: &[Value], out: &mut Vec<u8>) -> Result<(), Memory> {
+fn append_array(alloc: Global, parts: &[Value], out: &mut Vec<u8>) -> Result<(), Memory>
+    ensures { OnOk result (out.new.items ≡ out.old.items ++ array_text (bytes_of (vals (vals_of parts.now))) (list_text (vals (vals_of parts.now)))) }
+{
     match text_bytes(alloc, parts)? {
         Some(bytes) if !bytes.is_empty() => append_quoted(out, bytes.as_slice()),
         _ => {
@@ -64,7 +67,9 @@ fn append_array(alloc: Global, parts: &[Value], out: &mut Vec<u8>) -> Result<(),
 }
 
 #[cycle(append)]
-fn append_list(alloc: Global, parts: &[Value], out: &mut Vec<u8>) -> Result<(), Memory> {
+fn append_list(alloc: Global, parts: &[Value], out: &mut Vec<u8>) -> Result<(), Memory>
+    ensures { OnOk result (out.new.items ≡ out.old.items ++ list_text (vals (vals_of parts.now))) }
+{
     let [first, rest @ ..] = parts else {
         return Ok(());
     };
@@ -77,19 +82,42 @@ fn append_list(alloc: Global, parts: &[Value], out: &mut Vec<u8>) -> Result<(), 
 }
 
 #[cycle(append)]
-fn append_map(alloc: Global, entries: &MapValue, out: &mut Vec<u8>) -> Result<(), Memory> {
+fn append_map(alloc: Global, entries: &MapValue, out: &mut Vec<u8>) -> Result<(), Memory>
+    ensures { OnOk result (out.new.items ≡ out.old.items ++ codes "map{" ++ pairs_text (pairs (map entry_of entries.now)) ++ codes "}") }
+{
     append_bytes(out, b"map{")?;
-    let keys = entries.keys();
-    let values = entries.values();
-    'entries: for i in 0..values.len() {
-        if i > 0 {
-            append_bytes(out, b", ")?;
-        }
-        append_key(out, &keys[i])?;
-        append_bytes(out, b" => ")?;
-        append(alloc, &values[i], out)?;
-    }
+    append_entries(alloc, entries.keys(), entries.values(), out)?;
     append_bytes(out, b"}")
+}
+
+#[cycle(append)]
+fn append_entries(
+    alloc: Global,
+    keys: &[Key],
+    values: &[Value],
+    out: &mut Vec<u8>,
+) -> Result<(), Memory>
+    requires { length values.now ≡ length keys.now }
+    ensures { OnOk result (out.new.items ≡ out.old.items ++ pairs_text (pairs (zip keys.now (vals_of values.now)))) }
+{
+    if values.is_empty() {
+        return Ok(());
+    }
+    append_entry(alloc, &keys[0], &values[0], out)?;
+    'entries: for i in 1..values.len() {
+        append_bytes(out, b", ")?;
+        append_entry(alloc, &keys[i], &values[i], out)?;
+    }
+    Ok(())
+}
+
+#[cycle(append)]
+fn append_entry(alloc: Global, key: &Key, value: &Value, out: &mut Vec<u8>) -> Result<(), Memory>
+    ensures { OnOk result (out.new.items ≡ out.old.items ++ key_text key.now ++ codes " => " ++ text_of (val_of value.now)) }
+{
+    append_key(out, key)?;
+    append_bytes(out, b" => ")?;
+    append(alloc, value, out)
 }
 
 fn append_key(out: &mut Vec<u8>, key: &Key) -> Result<(), Memory>
@@ -113,12 +141,16 @@ fn append_enum(out: &mut Vec<u8>, of: u32, at: u32) -> Result<(), Memory>
     append_numbered(out, b'.', at)
 }
 
-fn append_numbered(out: &mut Vec<u8>, mark: u8, number: u32) -> Result<(), Memory> {
+fn append_numbered(out: &mut Vec<u8>, mark: u8, number: u32) -> Result<(), Memory>
+    ensures { OnOk result (out.new.items ≡ out.old.items ++ mark ∷ decimal number) }
+{
     out.push(mark)?;
-    decimal(i64::from(number), out)
+    natural(u64::from(number), out)
 }
 
-fn append_char(out: &mut Vec<u8>, c: u8) -> Result<(), Memory> {
+fn append_char(out: &mut Vec<u8>, c: u8) -> Result<(), Memory>
+    ensures { OnOk result (out.new.items ≡ out.old.items ++ codes "0o" ++ hex_pair c) }
+{
     append_bytes(out, b"0o")?;
     append_hex(out, c)
 }
@@ -126,12 +158,15 @@ fn append_char(out: &mut Vec<u8>, c: u8) -> Result<(), Memory> {
 fn append_hex(out: &mut Vec<u8>, byte: u8) -> Result<(), Memory>
     ensures { OnOk result (out.new.items ≡ out.old.items ++ hex_pair byte) }
 {
-    out.push(hex_digit(byte / 16))?;
-    out.push(hex_digit(byte % 16))?;
+    out.push(glyph(byte / 16))?;
+    out.push(glyph(byte % 16))?;
     Ok(())
 }
 
-fn hex_digit(d: u8) -> u8 {
+fn glyph(d: u8) -> u8
+    requires { d < 16 }
+    ensures { result ≡ hex_digit d }
+{
     if d < 10 { b'0' + d } else { b'a' + (d - 10) }
 }
 

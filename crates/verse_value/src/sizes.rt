@@ -28,6 +28,7 @@ pub fn weight(v: &Value) -> u64
 }
 
 #[cycle(weight)]
+#[tactic(auto, using(crate::proofs::ValLemmas::pair_weights_split))]
 fn weight_map(entries: &MapValue) -> u64
     ensures { result ≡ min (pair_weights (pairs (map entry_of entries.now))) 18446744073709551615 }
 {
@@ -88,6 +89,7 @@ pub fn levels(v: &Value) -> u64
 }
 
 #[cycle(levels)]
+#[tactic(auto, using(crate::proofs::ValLemmas::most_pair_levels_values))]
 fn most_of_map(entries: &MapValue) -> u64
     ensures { result ≡ min (most_pair_levels (pairs (map entry_of entries.now))) 18446744073709551615 }
 {

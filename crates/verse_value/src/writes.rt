@@ -1,7 +1,7 @@
 ghost use Rattle.std.specs.Prelude.{◌≡◌, Ok, IfOk, IfErr, IsErrOf, OnErr, MatchOption};
 ghost use Rattle.verse_value.specs.View.{val_of, vals_of};
 ghost use Rattle.verse_value.specs.Val.{int, array, vals};
-ghost use Rattle.verse_value.specs.Places.{end_of, applied, Allows, put, IsNewKey};
+ghost use Rattle.verse_value.specs.Places.{end_of, applied, Allows, put, new_key};
 ghost use Rattle.verse_value.specs.Writes.{written, sized, combined, joined, undone, Explains, CanUndo};
 ghost use Rattle.verse_value.specs.declared.writes.WriteFault.TheVariants as fault;
 
@@ -161,7 +161,7 @@ fn add_key(
     path: &[Value],
     new: Value,
 ) -> Result<Written, WriteFault>
-    requires { IsNewKey (end_of (vals_of path.now) (val_of slot.old)) }
+    requires { end_of (vals_of path.now) (val_of slot.old) ≡ new_key }
     ensures ok { IfOk result (λ w. written (vals_of path.now) Mode.Set (val_of new) (val_of slot.old) ≡ Ok (val_of slot.new, val_of w.value)) }
     ensures fault { IfErr result (Explains (written (vals_of path.now) Mode.Set (val_of new) (val_of slot.old))) }
     ensures same { OnErr result (val_of slot.new ≡ val_of slot.old) }
@@ -169,10 +169,10 @@ fn add_key(
     ensures undo { IfOk result (λ w. undone (vals_of path.now) w.undo (val_of slot.new) ≡ val_of slot.old) }
 {
     let [to_map @ .., last] = path else {
-        unreachable!();
+        return Err(WriteFault::Fail);
     };
     let Some(key) = key_from(alloc, last)? else {
-        unreachable!();
+        return Err(WriteFault::Fail);
     };
     let value = new.copy(alloc)?;
     apply(slot, to_map, Change::Push(key, new))?;
