@@ -26,10 +26,20 @@ pub pairs_pop : (es fs : List (Key × Value)) (e : Key × Value) → es ≡ fs +
 pairs_pop es fs e is =
     sym (ap without_last (ap (λ (l : List (Key × Value)). pairs (map entry_of l)) is ∙ pairs_push fs e.0 e.1) ∙ without_with (pairs (map entry_of fs)) e.0 (val_of e.1))
 
+absent_cases : (x : Key × Value) (es : List (Key × Value)) (k : Key) (b : Bool) → key_eq k x.0 ≡ b → (at_key (pairs (map entry_of es)) k ≡ None → place_of k es ≡ None)
+    → at_key (pairs (map entry_of (x ∷ es))) k ≡ None → place_of k (x ∷ es) ≡ None
+absent_cases x es k true h rest f = absurd (let g : Some (val_of x.1) ≡ None = rw h at f in cc)
+absent_cases x es k false h rest f = rw h (ap (option_map suc) (rest (rw h at f)))
+
 pub absent_place : (es : List (Key × Value)) (k : Key) → at_key (pairs (map entry_of es)) k ≡ None → place_of k es ≡ None
 absent_place [] k e = refl
-absent_place (x ∷ es) k e = cases (key_eq k x.0) refl e
-  where
-    cases : (b : Bool) → key_eq k x.0 ≡ b → at_key (pairs (map entry_of (x ∷ es))) k ≡ None → place_of k (x ∷ es) ≡ None
-    cases true h f = absurd (let g : Some (val_of x.1) ≡ None = rw h at f in cc)
-    cases false h f = rw h (ap (option_map suc) (absent_place es k (rw h at f)))
+absent_place (x ∷ es) k e = absent_cases x es k (key_eq k x.0) refl (absent_place es k) e
+
+pub pushed_pairs : (es fs : List (Key × Value)) (k : Key) (v : Value) → fs ≡ es ++ (k, v) ∷ [] → pairs (map entry_of fs) ≡ with_last (pairs (map entry_of es)) k (val_of v)
+pushed_pairs es fs k v is = ap (λ (l : List (Key × Value)). pairs (map entry_of l)) is ∙ pairs_push es k v
+
+pub undone_push : (es fs : List (Key × Value)) (k : Key) (v : Value) → fs ≡ es ++ (k, v) ∷ [] → HasKeys (mapping (pairs (map entry_of fs))) × (without_last (pairs (map entry_of fs)) ≡ pairs (map entry_of es))
+undone_push es fs k v is =
+    let made : pairs (map entry_of fs) ≡ with_last (pairs (map entry_of es)) k (val_of v) = pushed_pairs es fs k v is in
+    (subst (λ (ps : Pairs). HasKeys (mapping ps)) (sym made) (has_with (pairs (map entry_of es)) k (val_of v)),
+     ap without_last made ∙ without_with (pairs (map entry_of es)) k (val_of v))

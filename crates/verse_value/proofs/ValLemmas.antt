@@ -72,3 +72,6 @@ zip-entries (k ∷ ks) (v ∷ vs) = ap (λ es. (k, val_of v) ∷ es) (zip-entrie
 pub entries-zip : (es : List (Key × Value)) → zip (keys_of es) (vals_of (values_of es)) ≡ map entry_of es
 entries-zip [] = refl
 entries-zip (e ∷ es) = ap (λ fs. (e.0, val_of e.1) ∷ fs) (entries-zip es)
+
+pub copied_entries : (es : List (Key × Value)) (ks : List Key) (vs : List Value) → ks ≡ keys_of es → vals_of vs ≡ vals_of (values_of es) → map entry_of (zip ks vs) ≡ map entry_of es
+copied_entries es ks vs p q = zip-entries ks vs ∙ (λ i. zip (p i) (q i)) ∙ entries-zip es

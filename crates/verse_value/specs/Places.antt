@@ -11,6 +11,10 @@ pub data Step : Type 0 where
   absent : Step
   misfit : Step
 
+abbrev pub int_of : Val → Option ℤ
+int_of (int n) = Some n
+int_of v = None
+
 -- where an int leads in that many parts
 abbrev pub place_in : ℕ → ℤ → Option ℕ
 place_in n (pos i) = if nat_lt i n then Some i else None

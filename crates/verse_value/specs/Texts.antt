@@ -13,11 +13,11 @@ abbrev pub hex_pair : ℕ → List ℕ
 hex_pair b = hex_digit (b / 16) ∷ hex_digit (b % 16) ∷ []
 
 -- printable, and neither a quote nor a backslash
-abbrev pub is_plain : ℕ → Bool
-is_plain b = nat_le 32 b && nat_le b 126 && not (b == 34) && not (b == 92)
+abbrev pub plain : ℕ → Bool
+plain b = nat_le 32 b && nat_le b 126 && not (b == 34) && not (b == 92)
 
 abbrev pub escaped : ℕ → List ℕ
-escaped b = if is_plain b then b ∷ [] else 92 ∷ 120 ∷ hex_pair b
+escaped b = if plain b then b ∷ [] else 92 ∷ 120 ∷ hex_pair b
 
 abbrev pub quoted : List ℕ → List ℕ
 quoted bytes = 34 ∷ (flat_map escaped bytes ++ 34 ∷ [])
@@ -25,21 +25,27 @@ quoted bytes = 34 ∷ (flat_map escaped bytes ++ 34 ∷ [])
 -- an array of chars alone goes in quotes, but for the empty one
 abbrev pub array_text : Option (List ℕ) → List ℕ → List ℕ
 array_text (Some (b ∷ bytes)) parts = quoted (b ∷ bytes)
-array_text other parts = codes "array{" ++ parts ++ codes "}"
+array_text other parts = codes "array{" ++ (parts ++ codes "}")
 
 abbrev pub logic_text : Bool → List ℕ
 logic_text b = if b then codes "true" else codes "false"
 
 abbrev pub enum_text : ℕ → ℕ → List ℕ
-enum_text of at = codes "#" ++ decimal of ++ codes "." ++ decimal at
+enum_text of at = codes "#" ++ (decimal of ++ (codes "." ++ decimal at))
+
+abbrev pub char_text : ℕ → List ℕ
+char_text c = codes "0o" ++ hex_pair c
 
 -- that of the value that the key is
 abbrev pub key_text : Key → List ℕ
 key_text (key.Int n) = signed_decimal n
 key_text (key.Logic b) = logic_text b
-key_text (key.Char c) = codes "0o" ++ hex_pair c
+key_text (key.Char c) = char_text c
 key_text (key.Enum of at) = enum_text of at
 key_text (key.Text bytes) = array_text (Some bytes) []
+
+abbrev pub entry_text : Key → List ℕ → List ℕ
+entry_text k value = key_text k ++ (codes " => " ++ value)
 
 abbrev mutual
   pub text_of : Val → List ℕ
@@ -47,15 +53,15 @@ abbrev mutual
   text_of falsity = codes "false"
   text_of truth = codes "true"
   text_of (int n) = signed_decimal n
-  text_of (char c) = codes "0o" ++ hex_pair c
+  text_of (char c) = char_text c
   text_of (enum of at) = enum_text of at
   text_of (object cell) = codes "@" ++ decimal cell
   text_of (event cell) = codes "!" ++ decimal cell
   text_of (task number) = codes "~" ++ decimal number
-  text_of (some v) = codes "option{" ++ text_of v ++ codes "}"
+  text_of (some v) = codes "option{" ++ (text_of v ++ codes "}")
   text_of (array vs) = array_text (bytes_of vs) (list_text vs)
-  text_of (mapping ps) = codes "map{" ++ pairs_text ps ++ codes "}"
-  text_of (tuple vs) = codes "(" ++ list_text vs ++ codes ")"
+  text_of (mapping ps) = codes "map{" ++ (pairs_text ps ++ codes "}")
+  text_of (tuple vs) = codes "(" ++ (list_text vs ++ codes ")")
 
   -- with commas between
   pub list_text : Vals → List ℕ
@@ -64,12 +70,15 @@ abbrev mutual
 
   pub rest_text : Vals → List ℕ
   rest_text no_vals = []
-  rest_text (more_vals v vs) = codes ", " ++ text_of v ++ rest_text vs
+  rest_text (more_vals v vs) = codes ", " ++ (text_of v ++ rest_text vs)
 
   pub pairs_text : Pairs → List ℕ
   pairs_text no_pairs = []
-  pairs_text (more_pairs k v ps) = key_text k ++ codes " => " ++ text_of v ++ rest_pairs_text ps
+  pairs_text (more_pairs k v ps) = entry_text k (text_of v) ++ rest_pairs_text ps
 
   pub rest_pairs_text : Pairs → List ℕ
   rest_pairs_text no_pairs = []
-  rest_pairs_text (more_pairs k v ps) = codes ", " ++ key_text k ++ codes " => " ++ text_of v ++ rest_pairs_text ps
+  rest_pairs_text (more_pairs k v ps) = codes ", " ++ (entry_text k (text_of v) ++ rest_pairs_text ps)
+
+abbrev pub map_text : Pairs → List ℕ
+map_text ps = codes "map{" ++ (pairs_text ps ++ codes "}")

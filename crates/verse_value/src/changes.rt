@@ -1,12 +1,12 @@
 ghost use Rattle.std.specs.Prelude.{◌≡◌, [], ◌∷◌, OnOk, OnErr, IfOk, map};
 ghost use Rattle.verse_value.specs.View.{val_of, vals_of, entry_of};
 ghost use Rattle.verse_value.specs.Val.{array, mapping, vals, pairs};
-ghost use Rattle.verse_value.specs.Places.{end_of, applied, Allows, put, pop, there, changed_here, pushed, popped, LacksKey, HasKeys};
+ghost use Rattle.verse_value.specs.Places.{end_of, applied, Allows, put, pop, there, changed_here, pushed, popped, with_last, without_last, LacksKey, HasKeys};
 ghost use Rattle.verse_value.specs.Ends.{end_found};
 ghost use Rattle.verse_value.specs.Changes.{change_of, Undoes, TakesMemory};
 
 use crate::keys::Key;
-use crate::lookups::{Step, array_place, find, map_place};
+use crate::lookups::{Step, find, map_place, part_place};
 use crate::parts::Parts;
 use crate::paths::Path;
 use crate::values::{MapValue, Value};
@@ -62,11 +62,38 @@ pub(crate) fn apply(
 {
     match path {
         [] => apply_here(slot, change),
-        [index, rest @ ..] => match slot {
-            Value::Array(parts) => apply_to_part(parts, index, rest, change),
-            Value::Map(entries) => apply_to_entry(entries, index, rest, change),
-            _ => unreachable!(),
-        },
+        [index, rest @ ..] => {
+            let whole = mem::replace(slot, Value::Unit);
+            let (whole, outcome) = apply_inside(whole, index, rest, change);
+            *slot = whole;
+            outcome
+        }
+    }
+}
+
+#[cycle(apply)]
+fn apply_inside(
+    whole: Value,
+    index: &Value,
+    path: &[Value],
+    made: Change,
+) -> (Value, Result<Option<Value>, Memory>)
+    requires { Allows (end_of (val_of index.now ∷ vals_of path.now) (val_of whole)) (change_of made) }
+    ensures ok { OnOk result.1 (val_of result.0 ≡ applied (val_of index.now ∷ vals_of path.now) (change_of made) (val_of whole)) }
+    ensures undoes { IfOk result.1 (λ old. Undoes (val_of index.now ∷ vals_of path.now) (change_of made) old (val_of whole) (val_of result.0)) }
+    ensures memory { OnErr result.1 (TakesMemory (change_of made)) }
+    ensures err { OnErr result.1 (val_of result.0 ≡ val_of whole) }
+{
+    match whole {
+        Value::Array(mut parts) => {
+            let outcome = apply_to_part(&mut parts, index, path, made);
+            (Value::Array(parts), outcome)
+        }
+        Value::Map(mut entries) => {
+            let outcome = apply_to_entry(&mut entries, index, path, made);
+            (Value::Map(entries), outcome)
+        }
+        _ => unreachable!(),
     }
 }
 
@@ -83,11 +110,9 @@ fn apply_to_part(
     ensures memory { OnErr result (TakesMemory (change_of made)) }
     ensures err { OnErr result (array (vals (vals_of parts.new)) ≡ array (vals (vals_of parts.old))) }
 {
-    let Value::Int(n) = index else {
-        unreachable!();
-    };
-    match array_place(parts.len(), *n) {
-        Some(at) => apply(parts.part_mut(at), path, made),
+    match part_place(parts.len(), index) {
+        Some(Some(at)) => apply(parts.part_mut(at), path, made),
+        Some(None) => unreachable!(),
         None => unreachable!(),
     }
 }
@@ -107,7 +132,8 @@ fn apply_to_entry(
 {
     match map_place(entries, index) {
         Some(Some(at)) => apply(entries.value_mut(at), path, made),
-        _ => unreachable!(),
+        Some(None) => unreachable!(),
+        None => unreachable!(),
     }
 }
 
@@ -131,26 +157,48 @@ fn apply_here(slot: &mut Value, change: Change) -> Result<Option<Value>, Memory>
     }
 }
 
-#[tactic(auto, using(crate::proofs::MapLemmas::pairs_push, crate::proofs::MapLemmas::without_with, crate::proofs::MapLemmas::has_with, crate::proofs::MapLemmas::absent_place))]
 fn push_key(slot: &mut Value, key: Key, new: Value) -> Result<(), Memory>
     requires { LacksKey key (val_of slot.old) }
     ensures ok { OnOk result (val_of slot.new ≡ pushed key (val_of new) (val_of slot.old)) }
     ensures undoes { OnOk result (HasKeys (val_of slot.new) × (popped (val_of slot.new) ≡ val_of slot.old)) }
     ensures err { OnErr result (val_of slot.new ≡ val_of slot.old) }
 {
-    match slot {
-        Value::Map(entries) => entries.push(key, new),
+    match mem::replace(slot, Value::Unit) {
+        Value::Map(mut entries) => {
+            let outcome = push_entry(&mut entries, key, new);
+            *slot = Value::Map(entries);
+            outcome
+        }
         _ => unreachable!(),
     }
 }
 
-#[tactic(auto, using(crate::proofs::MapLemmas::pairs_pop))]
+fn push_entry(entries: &mut MapValue, key: Key, new: Value) -> Result<(), Memory>
+    requires { LacksKey key (mapping (pairs (map entry_of entries.old))) }
+    ensures ok { OnOk result (pairs (map entry_of entries.new) ≡ with_last (pairs (map entry_of entries.old)) key (val_of new)) }
+    ensures undoes { OnOk result (HasKeys (mapping (pairs (map entry_of entries.new))) × (without_last (pairs (map entry_of entries.new)) ≡ pairs (map entry_of entries.old))) }
+    ensures err { OnErr result (pairs (map entry_of entries.new) ≡ pairs (map entry_of entries.old)) }
+{
+    entries.push(key, new)?;
+    Ok(())
+}
+
 fn pop_key(slot: &mut Value)
     ensures { val_of slot.new ≡ popped (val_of slot.old) }
 {
-    if let Value::Map(entries) = slot {
-        let _ = entries.pop();
+    match mem::replace(slot, Value::Unit) {
+        Value::Map(mut entries) => {
+            pop_entry(&mut entries);
+            *slot = Value::Map(entries);
+        }
+        whole => *slot = whole,
     }
+}
+
+fn pop_entry(entries: &mut MapValue)
+    ensures { pairs (map entry_of entries.new) ≡ without_last (pairs (map entry_of entries.old)) }
+{
+    if let Some(_entry) = entries.pop() {}
 }
 
 /// Puts a value where a path leads, which must be to a value that is there, and gives the old one.

@@ -1,6 +1,7 @@
 ghost use Rattle.std.specs.Prelude.{◌≡◌, ◌<◌, ◌++◌, [], ◌∷◌, None, Some, length, slice_get, zip, vec_len, IfOk, IfSome, OnOk, OnErr, MatchOption};
 ghost use Rattle.std.specs.Borrow.{sem};
-ghost use Rattle.verse_value.specs.Entries.{keys_of, values_of, place_of, inserted};
+ghost use Rattle.indexmap.specs.IndexSet.{spare};
+ghost use Rattle.verse_value.specs.Entries.{keys_of, values_of, key_place, place_of, inserted};
 
 use crate::keys::Key;
 use indexmap::IndexSet;
@@ -91,9 +92,9 @@ impl<V> Entries<V> {
         ensures ok { OnOk result (self.new ≡ self.old ++ (key, value) ∷ []) }
         ensures err { OnErr result (self.new ≡ self.old) }
     {
-        self.keys.reserve(1)?;
+        make_room(&mut self.keys)?;
         self.values.push(value)?;
-        self.keys.insert(key)?;
+        add_key(&mut self.keys, key);
         Ok(())
     }
 
@@ -103,15 +104,18 @@ impl<V> Entries<V> {
         V: Drop,
         ensures { MatchOption result ((self.old ≡ []) × (self.new ≡ [])) (λ e. self.old ≡ self.new ++ e ∷ []) }
     {
-        let value = self.values.pop()?;
-        match self.keys.pop() {
-            Some(key) => Some((key, value)),
-            None => unreachable!(),
+        match self.values.pop() {
+            Some(value) => match self.keys.pop() {
+                Some(key) => Some((key, value)),
+                None => unreachable!(),
+            },
+            None => None,
         }
     }
 
     /// Puts a value at a key, and gives the one that stood there. A present key keeps its place, a
     /// new one goes last.
+    #[tactic(auto, using(crate::proofs::EntryLemmas::inserted_new, crate::proofs::EntryLemmas::inserted_present))]
     pub fn insert(&mut self, key: Key, value: V) -> Result<Option<V>, Memory>
     where
         V: Drop,
@@ -143,5 +147,24 @@ impl<V> Entries<V> {
         ensures { result ≡ zip keys.keys values.items }
     {
         Entries { keys, values }
+    }
+}
+
+fn make_room(keys: &mut IndexSet<Key>) -> Result<(), Memory>
+    ensures keys { keys.new.keys ≡ keys.old.keys }
+    ensures room { OnOk result (0 < spare keys.new) }
+{
+    keys.reserve(1)?;
+    Ok(())
+}
+
+#[tactic(auto, using(crate::proofs::EntryLemmas::new_key_last))]
+fn add_key(keys: &mut IndexSet<Key>, key: Key)
+    requires room { 0 < spare keys.old }
+    requires absent { key_place key keys.old.keys ≡ None }
+    ensures { keys.new.keys ≡ keys.old.keys ++ key ∷ [] }
+{
+    if keys.insert(key).is_err() {
+        unreachable!();
     }
 }

@@ -33,7 +33,10 @@ pub fn equal(a: &Value, b: &Value) -> bool
 fn equal_maps(xs: &MapValue, ys: &MapValue) -> bool
     ensures { IsTrue result ↔ (pairs (map entry_of xs.now) ≡ pairs (map entry_of ys.now)) }
 {
-    equal_keys(xs.keys(), ys.keys()) && equal_all(xs.values(), ys.values())
+    if !equal_keys(xs.keys(), ys.keys()) {
+        return false;
+    }
+    equal_all(xs.values(), ys.values())
 }
 
 #[cycle(equal)]

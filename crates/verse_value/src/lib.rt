@@ -10,7 +10,6 @@ pub mod values;
 pub mod runs;
 pub mod equality;
 pub mod sizes;
-pub mod copies;
 pub mod lookups;
 pub mod paths;
 pub mod changes;

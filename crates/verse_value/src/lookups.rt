@@ -3,7 +3,7 @@ ghost use Rattle.verse_value.specs.View.{val_of, vals_of};
 ghost use Rattle.verse_value.specs.Val.{array, vals};
 ghost use Rattle.verse_value.specs.Keys.{key_of, byte_of, bytes_of};
 ghost use Rattle.verse_value.specs.Entries.{place_of, key_place};
-ghost use Rattle.verse_value.specs.Places.{step_in, found, misfit, place_in};
+ghost use Rattle.verse_value.specs.Places.{step_in, found, misfit, int_of, place_in};
 ghost use Rattle.verse_value.specs.Lookups.{step_of};
 ghost use Rattle.verse_value.specs.declared.keys.Key.TheVariants as key;
 
@@ -32,12 +32,10 @@ pub fn find<'a>(v: &'a Value, index: &Value) -> Step<'a>
     ensures { step_of result ≡ step_in (val_of v.now) (val_of index.now) }
 {
     match v {
-        Value::Array(parts) => match index {
-            Value::Int(n) => match array_place(parts.len(), *n) {
-                Some(at) => Step::Part(&parts.as_slice()[at]),
-                None => Step::Outside,
-            },
-            _ => Step::Misfit,
+        Value::Array(parts) => match part_place(parts.len(), index) {
+            Some(Some(at)) => Step::Part(&parts.as_slice()[at]),
+            Some(None) => Step::Outside,
+            None => Step::Misfit,
         },
         Value::Map(entries) => match map_place(entries, index) {
             Some(Some(at)) => Step::Part(&entries.values()[at]),
@@ -60,7 +58,18 @@ pub fn at<'a>(v: &'a Value, index: &Value) -> Option<&'a Value>
     }
 }
 
-pub(crate) fn array_place(len: usize, index: i64) -> Option<usize>
+// Where the int that `index` is leads in that many parts, if it is one and leads there.
+pub(crate) fn part_place(len: usize, index: &Value) -> Option<Option<usize>>
+    ensures place { result ≡ option_map (place_in len) (int_of (val_of index.now)) }
+    ensures within { IfSome result (λ place. IfSome place (λ at. at < len)) }
+{
+    match index {
+        Value::Int(n) => Some(array_place(len, *n)),
+        _ => None,
+    }
+}
+
+fn array_place(len: usize, index: i64) -> Option<usize>
     ensures place { result ≡ place_in len index }
     ensures within { IfSome result (λ at. at < len) }
 {

@@ -1,8 +1,8 @@
-ghost use Rattle.std.specs.Prelude.{◌≡◌, ◌<◌, ◌++◌, ◌∷◌, codes, decimal, length, zip, OnOk, OnErr, map};
+ghost use Rattle.std.specs.Prelude.{◌≡◌, ◌<◌, ◌++◌, [], ◌∷◌, Some, codes, decimal, length, zip, OnOk, OnErr, map};
 ghost use Rattle.verse_value.specs.Keys.{bytes_of};
 ghost use Rattle.verse_value.specs.View.{val_of, vals_of, entry_of};
 ghost use Rattle.verse_value.specs.Val.{vals, pairs};
-ghost use Rattle.verse_value.specs.Texts.{text_of, list_text, pairs_text, array_text, key_text, quoted, escaped, hex_digit, hex_pair, enum_text};
+ghost use Rattle.verse_value.specs.Texts.{text_of, list_text, pairs_text, array_text, map_text, entry_text, key_text, quoted, escaped, hex_digit, hex_pair, enum_text, char_text, plain};
 
 use crate::keys::Key;
 use crate::lookups::text_bytes;
@@ -28,42 +28,57 @@ fn append(alloc: Global, v: &Value, out: &mut Vec<u8>) -> Result<(), Memory>
     ensures { OnOk result (out.new.items ≡ out.old.items ++ text_of (val_of v.now)) }
 {
     match v {
-        Value::Unit => append_bytes(out, b"()"),
-        Value::False => append_bytes(out, b"false"),
-        Value::True => append_bytes(out, b"true"),
-        Value::Int(n) => decimal(*n, out),
-        Value::Char(c) => append_char(out, *c),
-        Value::Enum(of, at) => append_enum(out, *of, *at),
-        Value::Obj(cell) => append_numbered(out, b'@', *cell),
-        Value::Event(cell) => append_numbered(out, b'!', *cell),
-        Value::Task(number) => append_numbered(out, b'~', *number),
-        Value::Some(part) => {
-            append_bytes(out, b"option{")?;
-            append(alloc, part, out)?;
-            append_bytes(out, b"}")
-        }
-        Value::Array(parts) => append_array(alloc, parts.as_slice(), out),
-        Value::Map(entries) => append_map(alloc, entries, out),
-        Value::Tuple(parts) => {
-            append_bytes(out, b"(")?;
-            append_list(alloc, parts.as_slice(), out)?;
-            append_bytes(out, b")")
-        }
+        Value::Unit => append_bytes(out, b"()")?,
+        Value::False => append_bytes(out, b"false")?,
+        Value::True => append_bytes(out, b"true")?,
+        Value::Int(n) => decimal(*n, out)?,
+        Value::Char(c) => append_char(out, *c)?,
+        Value::Enum(of, at) => append_enum(out, *of, *at)?,
+        Value::Obj(cell) => append_numbered(out, b'@', *cell)?,
+        Value::Event(cell) => append_numbered(out, b'!', *cell)?,
+        Value::Task(number) => append_numbered(out, b'~', *number)?,
+        Value::Some(part) => append_option(alloc, part, out)?,
+        Value::Array(parts) => append_array(alloc, parts.as_slice(), out)?,
+        Value::Map(entries) => append_map(alloc, entries, out)?,
+        Value::Tuple(parts) => append_tuple(alloc, parts.as_slice(), out)?,
     }
+    Ok(())
+}
+
+#[cycle(append)]
+fn append_option(alloc: Global, part: &Value, out: &mut Vec<u8>) -> Result<(), Memory>
+    ensures { OnOk result (out.new.items ≡ out.old.items ++ (codes "option{" ++ (text_of (val_of part.now) ++ codes "}"))) }
+{
+    append_bytes(out, b"option{")?;
+    append(alloc, part, out)?;
+    append_bytes(out, b"}")?;
+    Ok(())
+}
+
+#[cycle(append)]
+fn append_tuple(alloc: Global, parts: &[Value], out: &mut Vec<u8>) -> Result<(), Memory>
+    ensures { OnOk result (out.new.items ≡ out.old.items ++ (codes "(" ++ (list_text (vals (vals_of parts.now)) ++ codes ")"))) }
+{
+    append_bytes(out, b"(")?;
+    append_list(alloc, parts, out)?;
+    append_bytes(out, b")")?;
+    Ok(())
 }
 
 #[cycle(append)]
 fn append_array(alloc: Global, parts: &[Value], out: &mut Vec<u8>) -> Result<(), Memory>
     ensures { OnOk result (out.new.items ≡ out.old.items ++ array_text (bytes_of (vals (vals_of parts.now))) (list_text (vals (vals_of parts.now)))) }
 {
-    match text_bytes(alloc, parts)? {
-        Some(bytes) if !bytes.is_empty() => append_quoted(out, bytes.as_slice()),
-        _ => {
-            append_bytes(out, b"array{")?;
-            append_list(alloc, parts, out)?;
-            append_bytes(out, b"}")
+    if let Some(bytes) = text_bytes(alloc, parts)? {
+        if !bytes.is_empty() {
+            append_quoted(out, bytes.as_slice())?;
+            return Ok(());
         }
     }
+    append_bytes(out, b"array{")?;
+    append_list(alloc, parts, out)?;
+    append_bytes(out, b"}")?;
+    Ok(())
 }
 
 #[cycle(append)]
@@ -83,11 +98,12 @@ fn append_list(alloc: Global, parts: &[Value], out: &mut Vec<u8>) -> Result<(), 
 
 #[cycle(append)]
 fn append_map(alloc: Global, entries: &MapValue, out: &mut Vec<u8>) -> Result<(), Memory>
-    ensures { OnOk result (out.new.items ≡ out.old.items ++ codes "map{" ++ pairs_text (pairs (map entry_of entries.now)) ++ codes "}") }
+    ensures { OnOk result (out.new.items ≡ out.old.items ++ map_text (pairs (map entry_of entries.now))) }
 {
     append_bytes(out, b"map{")?;
     append_entries(alloc, entries.keys(), entries.values(), out)?;
-    append_bytes(out, b"}")
+    append_bytes(out, b"}")?;
+    Ok(())
 }
 
 #[cycle(append)]
@@ -113,46 +129,60 @@ fn append_entries(
 
 #[cycle(append)]
 fn append_entry(alloc: Global, key: &Key, value: &Value, out: &mut Vec<u8>) -> Result<(), Memory>
-    ensures { OnOk result (out.new.items ≡ out.old.items ++ key_text key.now ++ codes " => " ++ text_of (val_of value.now)) }
+    ensures { OnOk result (out.new.items ≡ out.old.items ++ entry_text key.now (text_of (val_of value.now))) }
 {
     append_key(out, key)?;
     append_bytes(out, b" => ")?;
-    append(alloc, value, out)
+    append(alloc, value, out)?;
+    Ok(())
 }
 
 fn append_key(out: &mut Vec<u8>, key: &Key) -> Result<(), Memory>
     ensures { OnOk result (out.new.items ≡ out.old.items ++ key_text key.now) }
 {
     match key {
-        Key::Int(n) => decimal(*n, out),
-        Key::Logic(true) => append_bytes(out, b"true"),
-        Key::Logic(false) => append_bytes(out, b"false"),
-        Key::Char(c) => append_char(out, *c),
-        Key::Enum(of, at) => append_enum(out, *of, *at),
-        Key::Text(bytes) if bytes.as_slice().is_empty() => append_bytes(out, b"array{}"),
-        Key::Text(bytes) => append_quoted(out, bytes.as_slice()),
+        Key::Int(n) => decimal(*n, out)?,
+        Key::Logic(true) => append_bytes(out, b"true")?,
+        Key::Logic(false) => append_bytes(out, b"false")?,
+        Key::Char(c) => append_char(out, *c)?,
+        Key::Enum(of, at) => append_enum(out, *of, *at)?,
+        Key::Text(bytes) => append_text(out, bytes.as_slice())?,
     }
+    Ok(())
+}
+
+fn append_text(out: &mut Vec<u8>, bytes: &[u8]) -> Result<(), Memory>
+    ensures { OnOk result (out.new.items ≡ out.old.items ++ array_text (Some bytes.now) []) }
+{
+    match bytes {
+        [] => append_bytes(out, b"array{}")?,
+        [_, ..] => append_quoted(out, bytes)?,
+    }
+    Ok(())
 }
 
 fn append_enum(out: &mut Vec<u8>, of: u32, at: u32) -> Result<(), Memory>
     ensures { OnOk result (out.new.items ≡ out.old.items ++ enum_text of at) }
 {
     append_numbered(out, b'#', of)?;
-    append_numbered(out, b'.', at)
+    append_numbered(out, b'.', at)?;
+    Ok(())
 }
 
 fn append_numbered(out: &mut Vec<u8>, mark: u8, number: u32) -> Result<(), Memory>
     ensures { OnOk result (out.new.items ≡ out.old.items ++ mark ∷ decimal number) }
 {
     out.push(mark)?;
-    natural(u64::from(number), out)
+    natural(u64::from(number), out)?;
+    Ok(())
 }
 
 fn append_char(out: &mut Vec<u8>, c: u8) -> Result<(), Memory>
-    ensures { OnOk result (out.new.items ≡ out.old.items ++ codes "0o" ++ hex_pair c) }
+    ensures { OnOk result (out.new.items ≡ out.old.items ++ char_text c) }
 {
     append_bytes(out, b"0o")?;
-    append_hex(out, c)
+    append_hex(out, c)?;
+    Ok(())
 }
 
 fn append_hex(out: &mut Vec<u8>, byte: u8) -> Result<(), Memory>
@@ -167,7 +197,7 @@ fn glyph(d: u8) -> u8
     requires { d < 16 }
     ensures { result ≡ hex_digit d }
 {
-    if d < 10 { b'0' + d } else { b'a' + (d - 10) }
+    if d < 10 { 48 + d } else { 87 + d }
 }
 
 fn append_quoted(out: &mut Vec<u8>, bytes: &[u8]) -> Result<(), Memory>
@@ -184,12 +214,19 @@ fn append_quoted(out: &mut Vec<u8>, bytes: &[u8]) -> Result<(), Memory>
 fn append_escaped(out: &mut Vec<u8>, byte: u8) -> Result<(), Memory>
     ensures { OnOk result (out.new.items ≡ out.old.items ++ escaped byte) }
 {
-    if (0x20..=0x7e).contains(&byte) && byte != b'"' && byte != b'\\' {
+    if is_plain(byte) {
         out.push(byte)?;
         return Ok(());
     }
     append_bytes(out, b"\\x")?;
-    append_hex(out, byte)
+    append_hex(out, byte)?;
+    Ok(())
+}
+
+fn is_plain(byte: u8) -> bool
+    ensures { result ≡ plain byte }
+{
+    0x20 <= byte && byte <= 0x7e && byte != b'"' && byte != b'\\'
 }
 
 fn append_bytes(out: &mut Vec<u8>, bytes: &[u8]) -> Result<(), Memory>

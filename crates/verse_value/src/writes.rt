@@ -1,17 +1,16 @@
-ghost use Rattle.std.specs.Prelude.{◌≡◌, Ok, IfOk, IfErr, IsErrOf, OnErr, MatchOption};
+ghost use Rattle.std.specs.Prelude.{◌≡◌, ◌+ℤ◌, ◌-ℤ◌, ◌*ℤ◌, Ok, IfOk, IfErr, OnErr};
 ghost use Rattle.verse_value.specs.View.{val_of, vals_of};
-ghost use Rattle.verse_value.specs.Val.{int, array, vals};
+ghost use Rattle.verse_value.specs.Val.{array, vals};
 ghost use Rattle.verse_value.specs.Places.{end_of, applied, Allows, put, new_key};
-ghost use Rattle.verse_value.specs.Writes.{written, sized, combined, joined, undone, Explains, CanUndo};
+ghost use Rattle.verse_value.specs.Writes.{written, sized, combined, ranged, joined, undone, Explains, CanUndo};
 ghost use Rattle.verse_value.specs.declared.writes.WriteFault.TheVariants as fault;
 
 use crate::changes::{Change, End, apply, follow, put, take_last};
-use crate::copies::copy_all;
 use crate::lookups::key_from;
 use crate::parts::Parts;
 use crate::paths::Path;
 use crate::sizes::is_fit;
-use crate::values::Value;
+use crate::values::{Value, copy_all};
 use std::alloc::{AllocError, AllocFailed, Global};
 use verse_base::arithmetic::{add, mul, sub};
 use verse_base::refusals::{Kind, Memory};
@@ -190,26 +189,74 @@ fn combine(alloc: Global, old: &Value, mode: Mode, value: Value) -> Result<Value
 {
     match mode {
         Mode::Set => Ok(value),
-        Mode::Add => match (old, value) {
-            (Value::Int(a), Value::Int(b)) => ranged(add(*a, b)),
-            (Value::Array(a), Value::Array(b)) => Ok(join(alloc, a, b)?),
-            _ => Err(WriteFault::Stuck),
-        },
-        Mode::Sub => match (old, value) {
-            (Value::Int(a), Value::Int(b)) => ranged(sub(*a, b)),
-            _ => Err(WriteFault::Stuck),
-        },
-        Mode::Mul => match (old, value) {
-            (Value::Int(a), Value::Int(b)) => ranged(mul(*a, b)),
-            _ => Err(WriteFault::Stuck),
-        },
+        Mode::Add => added(alloc, old, value),
+        Mode::Sub => subtracted(old, value),
+        Mode::Mul => multiplied(old, value),
     }
 }
 
-fn ranged(n: Option<i64>) -> Result<Value, WriteFault>
-    ensures { MatchOption n (IsErrOf result (WriteFault.Fault Kind.Overflow)) (λ z. IfOk result (λ v. val_of v ≡ int z)) }
+fn added(alloc: Global, old: &Value, value: Value) -> Result<Value, WriteFault>
+    ensures ok { IfOk result (λ v. combined Mode.Add (val_of old.now) (val_of value) ≡ Ok (val_of v)) }
+    ensures fault { IfErr result (Explains (combined Mode.Add (val_of old.now) (val_of value))) }
 {
-    match n {
+    match (old, value) {
+        (Value::Int(a), Value::Int(b)) => sum(*a, b),
+        (Value::Array(a), Value::Array(b)) => {
+            let array = join(alloc, a, b)?;
+            Ok(array)
+        }
+        _ => Err(WriteFault::Stuck),
+    }
+}
+
+fn subtracted(old: &Value, value: Value) -> Result<Value, WriteFault>
+    ensures ok { IfOk result (λ v. combined Mode.Sub (val_of old.now) (val_of value) ≡ Ok (val_of v)) }
+    ensures fault { IfErr result (Explains (combined Mode.Sub (val_of old.now) (val_of value))) }
+{
+    match (old, value) {
+        (Value::Int(a), Value::Int(b)) => difference(*a, b),
+        _ => Err(WriteFault::Stuck),
+    }
+}
+
+fn multiplied(old: &Value, value: Value) -> Result<Value, WriteFault>
+    ensures ok { IfOk result (λ v. combined Mode.Mul (val_of old.now) (val_of value) ≡ Ok (val_of v)) }
+    ensures fault { IfErr result (Explains (combined Mode.Mul (val_of old.now) (val_of value))) }
+{
+    match (old, value) {
+        (Value::Int(a), Value::Int(b)) => product(*a, b),
+        _ => Err(WriteFault::Stuck),
+    }
+}
+
+#[tactic(auto, using(crate::proofs::Ints::ranged_some, crate::proofs::Ints::ranged_none))]
+fn sum(a: i64, b: i64) -> Result<Value, WriteFault>
+    ensures ok { IfOk result (λ v. ranged (a +ℤ b) ≡ Ok (val_of v)) }
+    ensures fault { IfErr result (Explains (ranged (a +ℤ b))) }
+{
+    match add(a, b) {
+        Some(n) => Ok(Value::Int(n)),
+        None => Err(WriteFault::Fault(Kind::Overflow)),
+    }
+}
+
+#[tactic(auto, using(crate::proofs::Ints::ranged_some, crate::proofs::Ints::ranged_none))]
+fn difference(a: i64, b: i64) -> Result<Value, WriteFault>
+    ensures ok { IfOk result (λ v. ranged (a -ℤ b) ≡ Ok (val_of v)) }
+    ensures fault { IfErr result (Explains (ranged (a -ℤ b))) }
+{
+    match sub(a, b) {
+        Some(n) => Ok(Value::Int(n)),
+        None => Err(WriteFault::Fault(Kind::Overflow)),
+    }
+}
+
+#[tactic(auto, using(crate::proofs::Ints::ranged_some, crate::proofs::Ints::ranged_none))]
+fn product(a: i64, b: i64) -> Result<Value, WriteFault>
+    ensures ok { IfOk result (λ v. ranged (a *ℤ b) ≡ Ok (val_of v)) }
+    ensures fault { IfErr result (Explains (ranged (a *ℤ b))) }
+{
+    match mul(a, b) {
         Some(n) => Ok(Value::Int(n)),
         None => Err(WriteFault::Fault(Kind::Overflow)),
     }
