@@ -1,10 +1,11 @@
 -- Lists of values, and maps as trees.
-use Rattle.std.proofs.Common.{◌≡◌, ◌↔◌, ℕ, zero, suc, ◌+◌, ◌<◌, ◌≤◌, Bool, true, false, List, [], ◌∷◌, ◌++◌, length, map, zip, Option, Some, None, option_map, arith, refl, sym, ap, ◌∙◌}
+use Rattle.std.proofs.Common.{◌≡◌, ◌↔◌, ℕ, zero, suc, ◌+◌, ◌<◌, ◌≤◌, Bool, true, false, List, [], ◌∷◌, ◌++◌, length, map, zip, Option, Some, None, option_map, append_assoc, arith, refl, sym, ap, ◌∙◌}
 use Rattle.verse_value.specs.declared.keys.Key.{Key}
 use Rattle.verse_value.specs.declared.values.Value.{Value}
 use Rattle.verse_value.specs.View.{val_of, entry_of, vals_of}
 use Rattle.verse_value.specs.Val.{Val, Vals, no_vals, more_vals, vals, Pairs, no_pairs, more_pairs, pairs}
 use Rattle.verse_value.specs.Entries.{keys_of, values_of}
+use Rattle.verse_value.specs.Writes.{joined}
 use Rattle.verse_value.specs.Sizes.{weight_of, weights, pair_weights, key_weight, keys_weight, most_levels, most_pair_levels}
 
 pub vals_count : Vals → ℕ
@@ -75,3 +76,19 @@ entries-zip (e ∷ es) = ap (λ fs. (e.0, val_of e.1) ∷ fs) (entries-zip es)
 
 pub copied_entries : (es : List (Key × Value)) (ks : List Key) (vs : List Value) → ks ≡ keys_of es → vals_of vs ≡ vals_of (values_of es) → map entry_of (zip ks vs) ≡ map entry_of es
 copied_entries es ks vs p q = zip-entries ks vs ∙ (λ i. zip (p i) (q i)) ∙ entries-zip es
+
+pub zipped : (es : List (Key × Value)) (ks : List Key) (vs : List Value) → ks ≡ keys_of es → vs ≡ values_of es → zip ks (vals_of vs) ≡ map entry_of es
+zipped es ks vs p q = (λ i. zip (p i) (vals_of (q i))) ∙ entries-zip es
+
+joined_lists : (xs ys : List Value) → vals (vals_of (xs ++ ys)) ≡ joined (vals (vals_of xs)) (vals (vals_of ys))
+joined_lists [] ys = refl
+joined_lists (x ∷ xs) ys = ap (more_vals (val_of x)) (joined_lists xs ys)
+
+pub joined_is : (ps more xs ys all : List Value) → vals_of ps ≡ vals_of xs → more ≡ ys → all ≡ ps ++ more → vals (vals_of all) ≡ joined (vals (vals_of xs)) (vals (vals_of ys))
+joined_is ps more xs ys all p q r =
+    ap (λ (l : List Value). vals (vals_of l)) r ∙ joined_lists ps more ∙ (λ i. joined (vals (p i)) (vals (vals_of (q i))))
+
+-- three texts one after another
+pub three_parts : (out a p b one two three : List ℕ) → one ≡ out ++ a → two ≡ one ++ p → three ≡ two ++ b → three ≡ out ++ (a ++ (p ++ b))
+three_parts out a p b one two three f g h =
+    h ∙ ap (λ (l : List ℕ). l ++ b) (g ∙ ap (λ (l : List ℕ). l ++ p) f) ∙ ap (λ (l : List ℕ). l ++ b) (append_assoc out a p) ∙ append_assoc out (a ++ p) b ∙ ap (λ (l : List ℕ). out ++ l) (append_assoc a p b)

@@ -1,7 +1,7 @@
 ghost use Rattle.std.specs.Prelude.{◌≡◌, [], ◌∷◌, OnOk, OnErr, IfOk, map};
 ghost use Rattle.verse_value.specs.View.{val_of, vals_of, entry_of};
 ghost use Rattle.verse_value.specs.Val.{array, mapping, vals, pairs};
-ghost use Rattle.verse_value.specs.Places.{end_of, applied, Allows, put, pop, there, changed_here, pushed, popped, with_last, without_last, LacksKey, HasKeys};
+ghost use Rattle.verse_value.specs.Places.{end_of, applied, Allows, put, push, pop, there, changed_here, pushed, popped, with_last, without_last, LacksKey, HasKeys};
 ghost use Rattle.verse_value.specs.Ends.{end_found};
 ghost use Rattle.verse_value.specs.Changes.{change_of, Undoes, TakesMemory};
 
@@ -241,5 +241,24 @@ pub(crate) fn take_last(slot: &mut Value, path: &[Value])
     match apply(slot, path, Change::Pop) {
         Ok(_) => {}
         Err(_) => unreachable!(),
+    }
+}
+
+pub(crate) fn add_last(
+    slot: &mut Value,
+    path: &[Value],
+    key: Key,
+    new: Value,
+) -> Result<(), Memory>
+    requires { Allows (end_of (vals_of path.now) (val_of slot.old)) (push key (val_of new)) }
+    ensures ok { OnOk result (val_of slot.new ≡ applied (vals_of path.now) (push key (val_of new)) (val_of slot.old)) }
+    ensures can_undo { OnOk result (Allows (end_of (vals_of path.now) (val_of slot.new)) pop) }
+    ensures undo { OnOk result (applied (vals_of path.now) pop (val_of slot.new) ≡ val_of slot.old) }
+    ensures err { OnErr result (val_of slot.new ≡ val_of slot.old) }
+{
+    match apply(slot, path, Change::Push(key, new)) {
+        Ok(None) => Ok(()),
+        Ok(Some(_)) => unreachable!(),
+        Err(error) => Err(error),
     }
 }

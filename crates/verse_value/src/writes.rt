@@ -1,11 +1,12 @@
-ghost use Rattle.std.specs.Prelude.{◌≡◌, ◌+ℤ◌, ◌-ℤ◌, ◌*ℤ◌, Ok, IfOk, IfErr, OnErr};
+ghost use Rattle.std.specs.Prelude.{◌≡◌, ◌+ℤ◌, ◌-ℤ◌, ◌*ℤ◌, Ok, IfOk, IfErr, OnOk, OnErr};
 ghost use Rattle.verse_value.specs.View.{val_of, vals_of};
 ghost use Rattle.verse_value.specs.Val.{array, vals};
-ghost use Rattle.verse_value.specs.Places.{end_of, applied, Allows, put, new_key};
+ghost use Rattle.verse_value.specs.Places.{end_of, applied, Allows, put, push, pop, new_key};
 ghost use Rattle.verse_value.specs.Writes.{written, sized, combined, ranged, joined, undone, Explains, CanUndo};
 ghost use Rattle.verse_value.specs.declared.writes.WriteFault.TheVariants as fault;
 
-use crate::changes::{Change, End, apply, follow, put, take_last};
+use crate::changes::{End, add_last, follow, put, take_last};
+use crate::keys::Key;
 use crate::lookups::key_from;
 use crate::parts::Parts;
 use crate::paths::Path;
@@ -167,17 +168,39 @@ fn add_key(
     ensures can_undo { IfOk result (λ w. CanUndo (vals_of path.now) w.undo (val_of slot.new)) }
     ensures undo { IfOk result (λ w. undone (vals_of path.now) w.undo (val_of slot.new) ≡ val_of slot.old) }
 {
-    let [to_map @ .., last] = path else {
-        return Err(WriteFault::Fail);
-    };
-    let Some(key) = key_from(alloc, last)? else {
-        return Err(WriteFault::Fail);
-    };
+    match path {
+        [] => Err(WriteFault::Fail),
+        [to_map @ .., last] => match key_from(alloc, last)? {
+            None => Err(WriteFault::Fail),
+            Some(key) => match add_at(alloc, slot, to_map, key, new) {
+                Ok(value) => {
+                    let undo = Undo::DropLast;
+                    Ok(Written { value, undo })
+                }
+                Err(fault) => Err(fault),
+            },
+        },
+    }
+}
+
+fn add_at(
+    alloc: Global,
+    slot: &mut Value,
+    to_map: &[Value],
+    key: Key,
+    new: Value,
+) -> Result<Value, WriteFault>
+    requires { Allows (end_of (vals_of to_map.now) (val_of slot.old)) (push key (val_of new)) }
+    ensures ok { IfOk result (λ v. sized (applied (vals_of to_map.now) (push key (val_of new)) (val_of slot.old)) (val_of new) ≡ Ok (val_of slot.new, val_of v)) }
+    ensures fault { IfErr result (Explains (sized (applied (vals_of to_map.now) (push key (val_of new)) (val_of slot.old)) (val_of new))) }
+    ensures same { OnErr result (val_of slot.new ≡ val_of slot.old) }
+    ensures can_undo { OnOk result (Allows (end_of (vals_of to_map.now) (val_of slot.new)) pop) }
+    ensures undo { OnOk result (applied (vals_of to_map.now) pop (val_of slot.new) ≡ val_of slot.old) }
+{
     let value = new.copy(alloc)?;
-    apply(slot, to_map, Change::Push(key, new))?;
+    add_last(slot, to_map, key, new)?;
     if is_fit(slot) {
-        let undo = Undo::DropLast;
-        return Ok(Written { value, undo });
+        return Ok(value);
     }
     take_last(slot, to_map);
     Err(WriteFault::Fault(Kind::Size))
