@@ -1,0 +1,10 @@
+pub mod Steps
+pub mod Rolled
+pub mod EntryLemmas
+pub mod ValLemmas
+pub mod LookupLemmas
+pub mod TextKeys
+pub mod Holes
+pub mod PathLemmas
+pub mod MapLemmas
+pub mod Ints

@@ -1,0 +1,14 @@
+use Rattle.std.proofs.Common.{length, ◌*◌, ◌+◌}
+use Rattle.verse_value.proofs.changes.+apply.Given as goal
+
+abbrev pub decreases-apply : goal.decreases-apply
+decreases-apply l = 3 * length l.path.now
+
+abbrev pub decreases-apply_inside : goal.decreases-apply_inside
+decreases-apply_inside l = 3 * length l.path.now + 2
+
+abbrev pub decreases-apply_to_part : goal.decreases-apply_to_part
+decreases-apply_to_part l = 3 * length l.path.now + 1
+
+abbrev pub decreases-apply_to_entry : goal.decreases-apply_to_entry
+decreases-apply_to_entry l = 3 * length l.path.now + 1

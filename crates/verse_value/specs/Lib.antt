@@ -1,0 +1,15 @@
+pub mod formers
+pub mod Entries
+pub mod Lending
+pub mod Val
+pub mod View
+pub mod Keys
+pub mod Sizes
+pub mod Places
+pub mod Lookups
+pub mod Ends
+pub mod Changes
+pub mod Writes
+pub mod Texts
+pub mod Store
+pub mod Runs

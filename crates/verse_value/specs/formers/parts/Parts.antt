@@ -1,0 +1,48 @@
+-- A list of parts may hold the type that holds it.
+use mathlib.Core.Path.{◌≡◌, refl, sym}
+use mathlib.Core.List.{List, []}
+use mathlib.Core.Former.{Former, this, list, via, children}
+use base.Stored.{code_map}
+use denote.RattleType.{RattleType}
+use denote.HoleLaws.{Alike}
+use denote.HolePlaces.{Recodes, struct_places, laid}
+use denote.Hole.Carrier.{listed, list-listed}
+use denote.Hole.Fix.{over}
+use denote.Param.Weighed.{Weighed, w_list}
+use denote.Model.Placed.{view_places}
+use Rattle.std.specs.formers.vec.Vec as vec
+use Rattle.std.specs.declared.alloc.Global.{Global}
+use Rattle.std.specs.contracts.alloc.Global as heap
+use Rattle.std.specs.contracts.impls.GlobalAllocator.TheImpl.{ghosts}
+use Rattle.verse_value.specs.declared.parts.Parts.TheInside.{Inside}
+use Rattle.verse_value.specs.declared.parts.Parts.TheView.{view, invariant}
+use Rattle.verse_value.specs.contracts.parts.Parts as C
+use Rattle.verse_value.specs.contracts.parts.Parts.TheInside as I
+
+abbrev pub the_former : Former {0} → Former {0}
+the_former g = list g
+
+abbrev pub the_weighed : {g : Former {0}} → Weighed g → Weighed (the_former g)
+the_weighed w = w_list w
+
+pub the_empty : List ⊥
+the_empty = []
+
+abbrev pub the_items : (X : Type 0) → List X → List X
+the_items X parts = parts
+
+pub the_items_listed : (X : Type 0) (parts : List X) → listed _ (children (the_former this) X parts) ≡ the_items X parts
+the_items_listed X parts = list-listed X parts
+
+abbrev fields : Former {0}
+fields = via (vec.the_former this Global) Inside (λ X inside. inside.items) (λ X items. record { items = items }) (λ X inside. refl) (λ X items. refl)
+
+module _ (R S : RattleType) (h : R.Denot → S.Denot) where
+  pub the_places : Alike R S h → Alike (C.the_row R) (C.the_row S) ((the_former this).map R.Denot S.Denot h)
+  the_places alike = view_places fields (list this) view (λ X Y k inside. refl) (λ X inside. refl) R.Denot S.Denot h (C.the_row R).coded (C.the_row S).coded
+      (invariant R.Denot) (invariant S.Denot) (λ inside p q. refl) (λ inside p q. refl) (λ inside p. tt) (λ inside p. tt)
+      (over (I.the_row R)) (over (I.the_row S))
+      (struct_places (I.the_type R) (I.the_type S) (vec.mapped h, tt) _ (λ d. refl) refl (laid _ _ _ (vec.the_places heap.the_row ghosts R S h alike), tt))
+
+  pub the_codes_placed : Recodes R S h → Recodes (C.the_row R) (C.the_row S) ((the_former this).map R.Denot S.Denot h)
+  the_codes_placed recodes parts = sym (code_map R.coded.code S.coded.code h (λ x. sym (recodes x)) parts)
