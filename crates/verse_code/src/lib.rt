@@ -4,5 +4,6 @@
 pub mod codes;
 pub mod operands;
 pub mod operations;
+pub mod shapes;
 pub mod tables;
 pub mod validity;
