@@ -1,0 +1,4 @@
+pub mod WritingLemmas
+pub mod ReadingSteps
+pub mod Versions
+pub mod NumberLaws
