@@ -6,4 +6,6 @@ pub mod operands;
 pub mod operations;
 pub mod shapes;
 pub mod tables;
+#[cfg(test)]
+mod tests;
 pub mod validity;

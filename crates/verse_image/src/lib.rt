@@ -11,3 +11,5 @@ mod numbers;
 mod operations;
 mod pieces;
 mod tables;
+#[cfg(test)]
+mod tests;
