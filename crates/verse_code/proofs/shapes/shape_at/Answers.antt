@@ -1,4 +1,4 @@
-use Rattle.std.proofs.Common.{◌≡◌, ◌∙◌}
+use Rattle.std.proofs.Common.{◌∙◌}
 use Rattle.std.proofs.lemmas.Option.{slice_get-map}
 use Rattle.verse_code.specs.Forms.{forms, shape_of}
 use Rattle.verse_code.proofs.shapes.shape_at.Goals as goal

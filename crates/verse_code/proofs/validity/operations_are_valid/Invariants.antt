@@ -1,7 +1,7 @@
 use Rattle.std.proofs.Common.{◌≡◌, ◌<◌, ℕ, true, Some, slice_get}
 use Rattle.verse_code.specs.declared.operations.Op.{Op}
 use Rattle.verse_code.specs.Operations.{operands_of}
-use Rattle.verse_code.specs.Validity.{all_suit, sizes_of}
+use Rattle.verse_code.specs.Validity.{all_suit}
 use Rattle.verse_code.proofs.validity.operations_are_valid.Given as goal
 
 -- the operations so far have operands that suit
