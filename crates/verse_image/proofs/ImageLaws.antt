@@ -1,21 +1,16 @@
 -- What is read is an image of the code, what is an image is read, and a code has one image in each version.
-use Rattle.std.proofs.Common.{◌≡◌, ℕ, zero, suc, ◌+◌, ◌<◌, ◌≤◌, Bool, true, false, cond, eqb, ◌||◌, ◌⊎◌, inl, inr, List, [], ◌∷◌, ◌++◌, length, All, Some, slice_get, Result, Ok, Err, refl, sym, ap, subst, ◌∙◌, arith, eq-eqb}
-use Rattle.std.specs.Prelude.{IfOk}
+use Rattle.std.proofs.Common.{◌≡◌, ℕ, ◌+◌, ◌≤◌, Bool, true, false, eqb, ◌||◌, ◌⊎◌, inl, inr, List, [], ◌∷◌, ◌++◌, length, All, Ok, refl, sym, ap, subst, ◌∙◌, arith, eq-eqb}
 use Rattle.std.specs.List.{AllByRecursion}
 use Rattle.std.proofs.lemmas.Bool.{eqb-true}
 use Rattle.std.proofs.lemmas.List.Elements.{All-from_recursion, recursion_from_All}
-use Rattle.verse_base.specs.declared.places.Place.{Place}
 use Rattle.verse_code.specs.declared.operations.Op.{Op}
-use Rattle.verse_code.specs.declared.codes.Func.{Func}
-use Rattle.verse_code.specs.declared.codes.Class.{Class}
 use Rattle.verse_code.specs.declared.codes.Code.{Code}
 use Rattle.verse_code.specs.declared.validity.Sizes.{Sizes}
 use Rattle.verse_code.specs.Operations.{code_of, operands_of}
-use Rattle.verse_code.specs.Validity.{all_suit, sizes_of, IsText, IsPlace, IsFunction, IsClass, IsMain, Counts, Valid}
-use Rattle.verse_image.specs.declared.faults.Flaw.{Flaw}
+use Rattle.verse_code.specs.Validity.{all_suit, sizes_of, IsText, IsPlace, IsFunction, IsClass, IsMain, Valid}
 use Rattle.verse_image.specs.declared.tables.Tables.{Tables}
-use Rattle.verse_image.specs.Format.{Field, ◌⨾◌, nothing, byte, plain, number, each, table, text, place, function, class, operation, mark, head, tables, fields, IsVersion, Image}
-use Rattle.verse_image.specs.Reading.{◌>>=◌, flaw, byte_at, letter_at, mark_at, version_at, top_of, head_at, within_at, table_at, text_at, place_at, function_at, class_at, main_at, tables_at, ops_at, sizes_with, code_with, ended, image_at}
+use Rattle.verse_image.specs.Format.{◌⨾◌, byte, plain, number, each, table, text, place, function, class, operation, mark, head, tables, fields, IsVersion, Image}
+use Rattle.verse_image.specs.Reading.{◌>>=◌, flaw, letter_at, mark_at, version_at, top_of, head_at, within_at, table_at, text_at, place_at, function_at, class_at, main_at, tables_at, ops_at, sizes_with, code_with, ended, image_at}
 use Rattle.verse_image.proofs.NumberLaws.{IsBytes, rest_bytes, bind_ok, test_ok, ok_is, Takes, within_take, within_again}
 use Rattle.verse_image.proofs.TableLaws.{Once, once_then, once_number, once_plain, once_each, once_table, once_text, once_place, once_function, once_class, TableFits, table_take, table_again, text_take, text_again, place_take, place_again, function_take, function_again, class_take, class_again, main_take, main_again}
 use Rattle.verse_image.proofs.OperationLaws.{ops_take, ops_again, once_operation, SuitFrom, suit_at, suit_codes, suit_from, codes_most}

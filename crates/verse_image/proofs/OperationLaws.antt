@@ -1,11 +1,10 @@
 -- An operation that is read is spelled so and its operands suit, and what is spelled so is read.
-use Rattle.std.proofs.Common.{◌≡◌, ℕ, zero, suc, ◌+◌, ◌-◌, ◌<◌, ◌≤◌, ℤ, pos, negsuc, Bool, true, false, cond, ltb, leb, ◌&&◌, List, [], ◌∷◌, ◌++◌, length, Option, Some, None, slice_get, Result, Ok, Err, refl, sym, ap, subst, ◌∙◌, arith, inl, inr}
+use Rattle.std.proofs.Common.{◌≡◌, ℕ, zero, suc, ◌+◌, ◌<◌, ◌≤◌, ℤ, pos, negsuc, Bool, true, false, cond, ltb, List, [], ◌∷◌, length, Option, Some, None, slice_get, Result, Ok, Err, refl, sym, ap, subst, ◌∙◌, arith}
 use Rattle.std.specs.List.{AllByRecursion}
 use Rattle.std.proofs.lemmas.Option.{slice_get_within}
-use Rattle.std.proofs.lemmas.Bool.{cases_lt, ltb-false, le-ltb, and_parts, and_from}
+use Rattle.std.proofs.lemmas.Bool.{ltb-false, le-ltb, and_parts, and_from}
 use Rattle.verse_code.specs.declared.operands.OperandKind.{OperandKind}
 use Rattle.verse_code.specs.declared.operands.OperandKind.TheVariants as k
-use Rattle.verse_code.specs.declared.operands.Operand.{Operand}
 use Rattle.verse_code.specs.declared.operands.Operands.{Operands}
 use Rattle.verse_code.specs.declared.operands.Operands.TheVariants as os
 use Rattle.verse_code.specs.declared.operations.Op.{Op}
@@ -16,11 +15,11 @@ use Rattle.verse_code.specs.declared.shapes.Parts.{Parts}
 use Rattle.verse_code.specs.declared.validity.Sizes.{Sizes}
 use Rattle.verse_code.specs.Operations.{code_of, operands_of}
 use Rattle.verse_code.specs.Forms.{Form, bare, integer, one, two, three, four, forms, shape_of, made}
-use Rattle.verse_code.specs.Validity.{suits_kind, suits, all_suit}
+use Rattle.verse_code.specs.Validity.{suits_kind, all_suit}
 use Rattle.verse_image.specs.declared.faults.Flaw.{Flaw}
 use Rattle.verse_image.specs.Format.{Field, ◌⨾◌, nothing, byte, number, operand, operands, operation, each}
 use Rattle.verse_image.specs.Format as format
-use Rattle.verse_image.specs.Reading.{◌>>=◌, flaw, byte_at, number_at, integer_at, operand_at, parts, parts_at, form_at, op_at, ops_at}
+use Rattle.verse_image.specs.Reading.{◌>>=◌, flaw, number_at, integer_at, operand_at, parts, parts_at, form_at, op_at, ops_at}
 use Rattle.verse_image.proofs.NumberLaws.{IsBytes, rest_bytes, bind_ok, test_ok, ok_is, Takes, number_take, number_again, integer_take, integer_again, signed_once}
 use Rattle.verse_image.proofs.TableLaws.{Once, once_then, once_number}
 

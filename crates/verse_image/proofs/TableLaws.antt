@@ -1,5 +1,5 @@
 -- A table's part that is read is spelled so and keeps its rules, and what is spelled so is read.
-use Rattle.std.proofs.Common.{◌≡◌, ℕ, zero, suc, ◌+◌, ◌-◌, ◌<◌, ◌≤◌, Bool, true, false, cond, ltb, leb, eqb, inl, inr, List, [], ◌∷◌, ◌++◌, length, take, drop, All, Option, Some, None, slice_get, Result, Ok, Err, refl, sym, ap, subst, ◌∙◌, arith}
+use Rattle.std.proofs.Common.{◌≡◌, ℕ, zero, suc, ◌+◌, ◌<◌, ◌≤◌, Bool, true, false, cond, ltb, eqb, inl, inr, List, [], ◌∷◌, length, take, drop, Option, Some, None, slice_get, Result, Ok, Err, refl, sym, ap, subst, ◌∙◌, arith}
 use Rattle.std.specs.List.{AllByRecursion}
 use Rattle.std.proofs.lemmas.Bool.{cases_lt, lt-ltb, le-ltb, le-leb, leb-true}
 use Rattle.std.proofs.lemmas.List.{take_at, drop_at, take-append-drop, length-append, length-take, get_or-drop}
@@ -9,7 +9,7 @@ use Rattle.verse_code.specs.declared.codes.Func.{Func}
 use Rattle.verse_code.specs.declared.codes.Class.{Class}
 use Rattle.verse_code.specs.Validity.{IsText, IsPlace, IsFunction, IsClass, IsMain}
 use Rattle.verse_image.specs.declared.faults.Flaw.{Flaw}
-use Rattle.verse_image.specs.Format.{Field, ◌⨾◌, nothing, plain, number, each, table, text, place, function, class, flag}
+use Rattle.verse_image.specs.Format.{Field, ◌⨾◌, plain, number, each, table, text, place, function, class, flag}
 use Rattle.verse_image.specs.Reading.{◌>>=◌, Reader, flaw, number_at, within_at, many_at, table_at, text_at, place_at, function_at, class_at, main_at, may_begin}
 use Rattle.verse_image.proofs.NumberLaws.{IsBytes, bind_ok, test_ok, ok_is, Takes, number_take, number_again, within_take, within_again, spelled_once}
 

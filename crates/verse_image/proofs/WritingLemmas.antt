@@ -1,8 +1,8 @@
 -- Writing one field after another.
-use Rattle.std.proofs.Common.{◌≡◌, ℕ, suc, ◌+◌, ◌/◌, ◌%◌, ◌<◌, ◌≤◌, Bool, List, [], ◌∷◌, ◌++◌, length, drop, get_or, refl, sym, ap, subst, ◌∙◌, append_assoc, arith}
+use Rattle.std.proofs.Common.{◌≡◌, ℕ, ◌+◌, ◌/◌, ◌%◌, ◌<◌, ◌≤◌, Bool, List, [], ◌∷◌, ◌++◌, length, drop, get_or, refl, sym, ap, subst, ◌∙◌, append_assoc}
 use Rattle.std.proofs.lemmas.List.{append-nil, drop_more}
 use Rattle.std.proofs.Math.ListN.{drop_of_length-le}
-use Rattle.verse_image.specs.Format.{Field, ◌⨾◌, nothing, byte, plain, number, each, table, Spelled, one_byte, more_bytes, SignedSpelled, one_signed, more_signed, seven_bits}
+use Rattle.verse_image.specs.Format.{Field, ◌⨾◌, nothing, plain, each, Spelled, one_byte, more_bytes, SignedSpelled, one_signed, more_signed, seven_bits}
 use Rattle.verse_image.specs.Writing.{Writes}
 
 pub writes_then : (P Q : Field) (a b c : List ℕ) → Writes P a b → Writes Q b c → Writes (P ⨾ Q) a c

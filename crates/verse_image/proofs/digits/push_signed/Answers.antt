@@ -1,4 +1,4 @@
-use Rattle.std.proofs.Common.{◌≡◌, ℕ, ◌/◌, ◌%◌, ◌+◌, List, [], ◌∷◌, ◌++◌, sym, subst, refl, ap, arith}
+use Rattle.std.proofs.Common.{ℕ, ◌/◌, ◌+◌, List, sym, subst, ap, arith}
 use Rattle.verse_image.specs.Format.{SignedSpelled}
 use Rattle.verse_image.specs.Writing.{Writes}
 use Rattle.verse_image.proofs.WritingLemmas.{writes_signed_last, writes_signed_more}

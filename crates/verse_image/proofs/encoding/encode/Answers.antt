@@ -1,4 +1,4 @@
-use Rattle.std.proofs.Common.{◌≡◌, ℕ, List, length, subst, ◌∙◌, ap, sym}
+use Rattle.std.proofs.Common.{◌≡◌, ℕ, List, length, subst, ◌∙◌, ap}
 use Rattle.verse_code.specs.declared.operations.Op.{Op}
 use Rattle.verse_image.specs.Format.{each, head, tables, operation, version_of, version_for}
 use Rattle.verse_image.specs.Writing.{Writes}

@@ -1,6 +1,5 @@
-use Rattle.std.proofs.Common.{ℕ, List, length, arith, refl, subst}
+use Rattle.std.proofs.Common.{length, arith, refl}
 use Rattle.verse_image.specs.Format.{number, each, function}
-use Rattle.verse_image.specs.Writing.{Writes}
 use Rattle.verse_image.proofs.WritingLemmas.{writes_then, writes_entry, writes_end}
 use Rattle.verse_image.proofs.encoding.push_functions.Goals as goal
 

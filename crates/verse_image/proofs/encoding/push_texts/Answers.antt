@@ -1,4 +1,4 @@
-use Rattle.std.proofs.Common.{ℕ, List, length, arith, refl, subst}
+use Rattle.std.proofs.Common.{ℕ, List, length, arith, subst}
 use Rattle.verse_image.specs.Format.{number, each, text}
 use Rattle.verse_image.specs.Writing.{Writes}
 use Rattle.verse_image.proofs.WritingLemmas.{writes_then, writes_entry, writes_end}

@@ -1,4 +1,4 @@
-use Rattle.std.proofs.Common.{◌≡◌, ◌++◌, ◌∷◌, [], arith}
+use Rattle.std.proofs.Common.{arith}
 use Rattle.std.proofs.lemmas.Result.{err_from_is_err_and}
 use Rattle.verse_image.specs.Reading.{ops_at}
 use Rattle.verse_image.proofs.ReadingSteps.{ops_go_on, ops_end, ops_done}

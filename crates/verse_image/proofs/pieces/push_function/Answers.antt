@@ -1,4 +1,4 @@
-use Rattle.std.proofs.Common.{ℕ, List, subst}
+use Rattle.std.proofs.Common.{ℕ, subst}
 use Rattle.verse_image.specs.Format.{number, flag}
 use Rattle.verse_image.specs.Writing.{Writes}
 use Rattle.verse_image.proofs.WritingLemmas.{writes_four}

@@ -1,4 +1,3 @@
-use Rattle.std.proofs.Common.{◌≡◌, ◌++◌, ◌∷◌, []}
 use Rattle.std.proofs.lemmas.Result.{err_from_is_err_and}
 use Rattle.verse_image.specs.Reading.{within_at, table_at}
 use Rattle.verse_image.proofs.ReadingSteps.{table_begins, table_fails, goes_on, ends, is_done}
