@@ -5,3 +5,4 @@ pub mod NumberLaws
 pub mod TableLaws
 pub mod OperationLaws
 pub mod ImageLaws
+pub mod Locality
