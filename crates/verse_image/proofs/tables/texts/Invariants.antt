@@ -1,0 +1,7 @@
+use Rattle.std.proofs.Common.{◌≡◌, ◌-◌}
+use Rattle.verse_image.specs.Reading.{text_at, many_at, table_at}
+use Rattle.verse_image.proofs.ReadingSteps.{with_front}
+use Rattle.verse_image.proofs.tables.texts.Given as goal
+
+abbrev pub invariant-entries : goal.invariant-entries
+invariant-entries l = with_front l.entries (many_at text_at (l.count - l._i) l.rest) ≡ table_at text_at l.bytes
