@@ -22,6 +22,7 @@ impl<'a, R: rt::Files> Model for StdFiles<'a, R> {
 }
 
 impl<'a, R: rt::Files> StdFiles<'a, R> {
+    /// The files that `rt` reaches, with no fault so far.
     pub fn new(rt: &'a R) -> StdFiles<'a, R>
         ensures { result ≡ 0 }
     {
@@ -86,6 +87,7 @@ impl<W: Write> Model for StdSink<W> {
 }
 
 impl<W: Write> StdSink<W> {
+    /// What `out` takes, with no fault so far.
     pub fn new(out: W) -> StdSink<W>
         ensures { result ≡ 0 }
     {

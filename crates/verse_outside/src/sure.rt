@@ -18,6 +18,7 @@ impl Model for SureFiles {
 }
 
 impl SureFiles {
+    /// Holds these bytes.
     pub fn new(_alloc: Global, bytes: Vec<u8>) -> SureFiles
         ensures { result ≡ bytes.items }
     {
@@ -41,6 +42,7 @@ impl Files for SureFiles {
 pub struct SureSink;
 
 impl SureSink {
+    /// A sink that never fails.
     pub fn new() -> SureSink {
         SureSink
     }

@@ -1,0 +1,4 @@
+pub mod Passes
+pub mod LinePasses
+pub mod Standing
+pub mod Views

@@ -1,0 +1,4 @@
+pub mod Trace
+pub mod Passing
+pub mod Lines
+pub mod Shown
