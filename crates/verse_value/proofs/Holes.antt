@@ -25,13 +25,15 @@ module _ (hole : Val → Val) (index : Val) (is : IsHole hole index) where
   applied-hole path change v = is.change v (applied path change)
 
   pub undoes-hole : (path : List Val) (change : Change) (old : Option Value) (v w : Val) → Undoes path change old v w → Undoes (index ∷ path) change old (hole v) (hole w)
-  undoes-hole path (put new) (Some o) v w u =
-      (end-hole path v ∙ u.0,
-       subst (λ (e : End). Allows e (put (val_of o))) (sym (end-hole path w)) u.1,
-       applied-hole path (put (val_of o)) w ∙ ap hole u.2)
-  undoes-hole path (push k new) None v w u =
-      (subst (λ (e : End). Allows e pop) (sym (end-hole path w)) u.0,
-       applied-hole path pop w ∙ ap hole u.1)
+  undoes-hole path (put new) (Some o) v w u = (
+    end-hole path v ∙ u.0,
+    subst (λ (e : End). Allows e (put (val_of o))) (sym (end-hole path w)) u.1,
+    applied-hole path (put (val_of o)) w ∙ ap hole u.2,
+  )
+  undoes-hole path (push k new) None v w u = (
+    subst (λ (e : End). Allows e pop) (sym (end-hole path w)) u.0,
+    applied-hole path pop w ∙ ap hole u.1,
+  )
   undoes-hole path pop None v w u = tt
   undoes-hole path (put new) None v w u = u
   undoes-hole path (push k new) (Some o) v w u = u

@@ -40,6 +40,7 @@ pushed_pairs es fs k v is = ap (λ (l : List (Key × Value)). pairs (map entry_o
 
 pub undone_push : (es fs : List (Key × Value)) (k : Key) (v : Value) → fs ≡ es ++ (k, v) ∷ [] → HasKeys (mapping (pairs (map entry_of fs))) × (without_last (pairs (map entry_of fs)) ≡ pairs (map entry_of es))
 undone_push es fs k v is =
-    let made : pairs (map entry_of fs) ≡ with_last (pairs (map entry_of es)) k (val_of v) = pushed_pairs es fs k v is in
-    (subst (λ (ps : Pairs). HasKeys (mapping ps)) (sym made) (has_with (pairs (map entry_of es)) k (val_of v)),
-     ap without_last made ∙ without_with (pairs (map entry_of es)) k (val_of v))
+    let made : pairs (map entry_of fs) ≡ with_last (pairs (map entry_of es)) k (val_of v) = pushed_pairs es fs k v is in (
+      subst (λ (ps : Pairs). HasKeys (mapping ps)) (sym made) (has_with (pairs (map entry_of es)) k (val_of v)),
+      ap without_last made ∙ without_with (pairs (map entry_of es)) k (val_of v),
+    )

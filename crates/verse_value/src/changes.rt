@@ -244,12 +244,7 @@ pub(crate) fn take_last(slot: &mut Value, path: &[Value])
     }
 }
 
-pub(crate) fn add_last(
-    slot: &mut Value,
-    path: &[Value],
-    key: Key,
-    new: Value,
-) -> Result<(), Memory>
+pub(crate) fn add_last(slot: &mut Value, path: &[Value], key: Key, new: Value) -> Result<(), Memory>
     requires { Allows (end_of (vals_of path.now) (val_of slot.old)) (push key (val_of new)) }
     ensures ok { OnOk result (val_of slot.new ≡ applied (vals_of path.now) (push key (val_of new)) (val_of slot.old)) }
     ensures can_undo { OnOk result (Allows (end_of (vals_of path.now) (val_of slot.new)) pop) }

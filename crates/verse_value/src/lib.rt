@@ -3,15 +3,17 @@
 #![tactic(auto)]
 
 pub mod bytes;
-pub mod keys;
-pub mod parts;
-pub mod entries;
-pub mod values;
-pub mod runs;
-pub mod equality;
-pub mod sizes;
-pub mod lookups;
-pub mod paths;
 pub mod changes;
-pub mod writes;
+pub mod entries;
+pub mod equality;
+pub mod keys;
+pub mod lookups;
+pub mod parts;
+pub mod paths;
 pub mod printing;
+pub mod runs;
+pub mod sizes;
+#[cfg(test)]
+mod tests;
+pub mod values;
+pub mod writes;

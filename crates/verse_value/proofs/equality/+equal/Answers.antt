@@ -17,9 +17,10 @@ tree vs = vals (vals_of vs)
 pub equal_maps-returns : goal.equal_maps-returns
 equal_maps-returns t c =
     let same : c.equal_keys.result ≡ true = cc in
-    let keys : keys_of c.args.xs.now ≡ keys_of c.args.ys.now = sym c.keys.ensures ∙ c.equal_keys.ensures.0 same ∙ c.keys-2.ensures in
-    (λ h. same_pairs c.args.xs.now c.args.ys.now keys (sym (ap tree c.values.ensures) ∙ c.equal_all.ensures.0 h ∙ ap tree c.values-2.ensures),
-     λ e. c.equal_all.ensures.1 (ap tree c.values.ensures ∙ same_vals c.args.xs.now c.args.ys.now e ∙ sym (ap tree c.values-2.ensures)))
+    let keys : keys_of c.args.xs.now ≡ keys_of c.args.ys.now = sym c.keys.ensures ∙ c.equal_keys.ensures.0 same ∙ c.keys-2.ensures in (
+      λ h. same_pairs c.args.xs.now c.args.ys.now keys (sym (ap tree c.values.ensures) ∙ c.equal_all.ensures.0 h ∙ ap tree c.values-2.ensures),
+      λ e. c.equal_all.ensures.1 (ap tree c.values.ensures ∙ same_vals c.args.xs.now c.args.ys.now e ∙ sym (ap tree c.values-2.ensures)),
+    )
 
 pub equal_maps-returns-then-not-equal_keys : goal.equal_maps-returns-then-not-equal_keys
 equal_maps-returns-then-not-equal_keys t c =
