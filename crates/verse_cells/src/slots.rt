@@ -1,0 +1,181 @@
+ghost use Rattle.std.specs.Prelude.{◌≡◌, ◌<◌, length, IsSome, None, Some, MatchOption, IfOk, IfErr, OnErr, slice_get, slice_set};
+ghost use Rattle.verse_value.specs.View.{val_of, vals_of};
+ghost use Rattle.verse_value.specs.Store.{slot_of, stored};
+ghost use Rattle.verse_value.specs.Writes.{written, Explains};
+ghost use Rattle.verse_cells.specs.View.{cells_of};
+ghost use Rattle.verse_cells.specs.Changes.{spared, slot_written, IsWrite, IsUndone, InSlot, InCell, CanUndoIn};
+
+use std::alloc::Global;
+use std::mem;
+use verse_base::refusals::{Kind, Memory};
+use verse_value::parts::Parts;
+use verse_value::paths::Path;
+use verse_value::runs::CellKind;
+use verse_value::sizes::weight;
+use verse_value::values::{Value, copy_all};
+use verse_value::writes::{self, Mode, Undo, WriteFault, Written, write_logged};
+
+/// A cell of a store: what it is, and what its slots hold.
+#[derive(Drop)]
+pub struct Cell {
+    pub kind: CellKind,
+    pub slots: Parts<Value>,
+}
+
+/// Which slot of which cell.
+#[derive(Clone, Copy, Debug, PartialEq, Eq)]
+pub struct Address {
+    pub cell: u32,
+    pub slot: u32,
+}
+
+/// What a write in a slot came to.
+#[derive(Drop)]
+pub struct Change {
+    /// A copy of the value written, and what undoes the write.
+    pub written: Written,
+    /// What the slot weighed before the write.
+    pub before: u64,
+    /// What the slot weighs after it.
+    pub after: u64,
+}
+
+/// What a slot holds. The cell and the slot are there.
+pub fn slot_at(cells: &[Cell], cell: u32, slot: u32) -> &Value
+    requires { IsSome (slot_of (cells_of cells.now) cell slot) }
+    ensures { slot_of (cells_of cells.now) cell slot ≡ Some (val_of result.now) }
+{
+    &cells[cell as usize].slots.as_slice()[slot as usize]
+}
+
+/// What a slot holds, where the cell and the slot are there.
+pub fn find_slot(cells: &[Cell], cell: u32, slot: u32) -> Option<&Value>
+    ensures { MatchOption result (slot_of (cells_of cells.now) cell slot ≡ None) (λ v. slot_of (cells_of cells.now) cell slot ≡ Some (val_of v.now)) }
+{
+    match cells.get(cell as usize) {
+        Some(cell) => cell.slots.as_slice().get(slot as usize),
+        None => None,
+    }
+}
+
+/// Puts a value in a slot, and answers the one that it held. The cell and the slot are there. Takes
+/// no memory.
+pub fn put(cells: &mut [Cell], cell: u32, slot: u32, value: Value) -> Value
+    requires { IsSome (slot_of (cells_of cells.old) cell slot) }
+    ensures old { slot_of (cells_of cells.old) cell slot ≡ Some (val_of result) }
+    ensures new { cells_of cells.new ≡ stored (cells_of cells.old) cell slot (val_of value) }
+{
+    put_part(&mut cells[cell as usize].slots, slot, value)
+}
+
+fn put_part(slots: &mut Parts<Value>, slot: u32, value: Value) -> Value
+    requires { slot < length slots.old }
+    ensures old { slice_get (vals_of slots.old) slot ≡ Some (val_of result) }
+    ensures new { vals_of slots.new ≡ slice_set (vals_of slots.old) slot (val_of value) }
+{
+    mem::replace(slots.part_mut(slot as usize), value)
+}
+
+/// Writes at a path in a slot, as `verse_value::writes::write_logged` does. The cell and the slot
+/// are there.
+///
+/// The refusals are those of that call, and then `Fault(Kind::Store)` where the slot would weigh
+/// more than `spare` above what it weighs. After each refusal the cells are unchanged.
+pub fn write_at(
+    alloc: Global,
+    cells: &mut [Cell],
+    at: Address,
+    path: &Path,
+    mode: Mode,
+    value: Value,
+    spare: u64,
+) -> Result<Change, WriteFault>
+    requires { IsSome (slot_of (cells_of cells.old) at.cell at.slot) }
+    ensures ok { IfOk result (λ c. InCell at.cell at.slot (IsWrite spare (vals_of path.now) mode (val_of value) c) (cells_of cells.old) (cells_of cells.new)) }
+    ensures fault { IfErr result (Explains (slot_written spare (vals_of path.now) mode (val_of value) (slot_of (cells_of cells.old) at.cell at.slot))) }
+    ensures same { OnErr result (cells_of cells.new ≡ cells_of cells.old) }
+{
+    let slots = &mut cells[at.cell as usize].slots;
+    write_part(alloc, slots, at.slot, path, mode, value, spare)
+}
+
+fn write_part(
+    alloc: Global,
+    slots: &mut Parts<Value>,
+    slot: u32,
+    path: &Path,
+    mode: Mode,
+    value: Value,
+    spare: u64,
+) -> Result<Change, WriteFault>
+    requires { slot < length slots.old }
+    ensures ok { IfOk result (λ c. InSlot slot (IsWrite spare (vals_of path.now) mode (val_of value) c) (vals_of slots.old) (vals_of slots.new)) }
+    ensures fault { IfErr result (Explains (slot_written spare (vals_of path.now) mode (val_of value) (slice_get (vals_of slots.old) slot))) }
+    ensures same { OnErr result (vals_of slots.new ≡ vals_of slots.old) }
+{
+    write_value(
+        alloc,
+        slots.part_mut(slot as usize),
+        path,
+        mode,
+        value,
+        spare,
+    )
+}
+
+fn write_value(
+    alloc: Global,
+    slot: &mut Value,
+    path: &Path,
+    mode: Mode,
+    value: Value,
+    spare: u64,
+) -> Result<Change, WriteFault>
+    ensures ok { IfOk result (λ c. IsWrite spare (vals_of path.now) mode (val_of value) c (val_of slot.old) (val_of slot.new)) }
+    ensures fault { IfErr result (Explains (spared spare (val_of slot.old) (written (vals_of path.now) mode (val_of value) (val_of slot.old)))) }
+    ensures same { OnErr result (val_of slot.new ≡ val_of slot.old) }
+{
+    let before = weight(slot);
+    let written = write_logged(alloc, slot, path, mode, value)?;
+    let after = weight(slot);
+    if after <= before.saturating_add(spare) {
+        return Ok(Change {
+            written,
+            before,
+            after,
+        });
+    }
+    let Written { value: _, undo } = written;
+    writes::take_back(slot, path, undo);
+    Err(WriteFault::Fault(Kind::Store))
+}
+
+/// Undoes a write at the path in the slot where it was made. Takes no memory.
+pub fn take_back(cells: &mut [Cell], at: Address, path: &Path, undo: Undo)
+    requires { CanUndoIn (vals_of path.now) undo (slot_of (cells_of cells.old) at.cell at.slot) }
+    ensures { InCell at.cell at.slot (IsUndone (vals_of path.now) undo) (cells_of cells.old) (cells_of cells.new) }
+{
+    take_back_part(&mut cells[at.cell as usize].slots, at.slot, path, undo);
+}
+
+fn take_back_part(slots: &mut Parts<Value>, slot: u32, path: &Path, undo: Undo)
+    requires { CanUndoIn (vals_of path.now) undo (slice_get (vals_of slots.old) slot) }
+    ensures { InSlot slot (IsUndone (vals_of path.now) undo) (vals_of slots.old) (vals_of slots.new) }
+{
+    writes::take_back(slots.part_mut(slot as usize), path, undo);
+}
+
+/// Cells equal to these.
+pub fn copy_cells(alloc: Global, cells: &[Cell]) -> Result<Vec<Cell>, Memory>
+    ensures { IfOk result (λ copies. cells_of copies.items ≡ cells_of cells.now) }
+{
+    let mut copies = Vec::new(alloc);
+    'cells: for cell in cells {
+        let slots = copy_all(alloc, cell.slots.as_slice())?;
+        copies.push(Cell {
+            kind: cell.kind,
+            slots: Parts::from_vec(slots),
+        })?;
+    }
+    Ok(copies)
+}
