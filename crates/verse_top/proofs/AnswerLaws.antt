@@ -30,10 +30,10 @@ begins_less : (bytes : List ℕ) (i j : ℕ) → i ≤ j → j ≤ length bytes 
 begins_less bytes i j less within h =
     let room : i ≤ length (take j bytes) = omega (arith, length-take-le j bytes within) in
     let e : take i bytes ≡ take i (take j bytes) =
-        ap (λ (xs : List ℕ). take i xs) (sym (take-append-drop j bytes)) ∙ take-append-le i (take j bytes) (drop j bytes) room in
+    ap (λ (xs : List ℕ). take i xs) (sym (take-append-drop j bytes)) ∙ take-append-le i (take j bytes) (drop j bytes) room in
     subst (λ (xs : List ℕ). Begins xs) (sym e)
-      (shorter (take i (take j bytes)) (drop i (take j bytes))
-        (subst (λ (xs : List ℕ). Begins xs) (sym (take-append-drop i (take j bytes))) h))
+    (shorter (take i (take j bytes)) (drop i (take j bytes))
+    (subst (λ (xs : List ℕ). Begins xs) (sym (take-append-drop i (take j bytes))) h))
 
 no_later : (bytes : List ℕ) (at later : ℕ) → at < later → IsUnbuilt bytes at → IsUnbuilt bytes later → ⊥
 no_later bytes at later below p q =
@@ -42,15 +42,18 @@ no_later bytes at later below p q =
 
 one_place : (bytes : List ℕ) (at other : ℕ) → IsUnbuilt bytes at → IsUnbuilt bytes other → at ≡ other
 one_place bytes at other p q = elim (cases_order at other) [
-    inl same ↦ same
-  | inr rest ↦ elim rest [ inl below ↦ absurd (no_later bytes at other below p q) | inr above ↦ absurd (no_later bytes other at above q p) ] ]
+  | inl same ↦ same
+  | inr rest ↦ elim rest [ inl below ↦ absurd (no_later bytes at other below p q) | inr above ↦ absurd (no_later bytes other at above q p) ]
+]
 
 not_both : (bytes : List ℕ) (texts : List (List ℕ)) (at : ℕ) → IsThin bytes texts → IsUnbuilt bytes at → ⊥
 not_both bytes texts at thin p = elim (cases_order at (length bytes)) [
-    inl same ↦ p.ended same texts thin
+  | inl same ↦ p.ended same texts thin
   | inr rest ↦ elim rest [
-      inl below ↦ p.beyond below (drop (at + 1) bytes, texts, subst (λ (xs : List ℕ). IsThin xs texts) (sym (take-append-drop (at + 1) bytes)) thin)
-    | inr above ↦ let w : at ≤ length bytes = p.within in absurd (omega arith) ] ]
+    | inl below ↦ p.beyond below (drop (at + 1) bytes, texts, subst (λ (xs : List ℕ). IsThin xs texts) (sym (take-append-drop (at + 1) bytes)) thin)
+    | inr above ↦ let w : at ≤ length bytes = p.within in absurd (omega arith)
+  ]
+]
 
 pub once : AnsweredOnce
 once c bytes s t x y (too_large big) (too_large big') = (refl, refl)

@@ -64,11 +64,11 @@ held_or_not (Some f) name all h l = cc
 -- what a reply to the command that the words say leaves
 module _ (words : List (List ℕ)) (held : Holding) (file : List ℕ) (o : Options) (says : Says words (run file o))
     (before now status : ℕ) (text : List ℕ) (replies : Replies file o.steps held before now status text) where
-
   may_write : MayWrite words held text
   may_write = elim (six_or_not status replies.among) [
-      inl six ↦ subst (λ (t : List ℕ). MayWrite words held t) (sym (replies.not_read six).0) (not_read (run file o) says)
-    | inr other ↦ let got = replies.read other in answer (run file o) got.0 status says got.1 (got.2 o refl) ]
+    | inl six ↦ subst (λ (t : List ℕ). MayWrite words held t) (sym (replies.not_read six).0) (not_read (run file o) says)
+    | inr other ↦ let got = replies.read other in answer (run file o) got.0 status says got.1 (got.2 o refl)
+  ]
 
   pub reply_cut : (result sink_before sink_now : ℕ) (old new : Option (List ℕ)) → Finishes status text result sink_before sink_now old new → result ≡ 7 →
       CutShort words held sink_before sink_now old new
@@ -89,15 +89,17 @@ module _ (words : List (List ℕ)) (held : Holding) (file : List ℕ) (o : Optio
       let same : c ≡ run file o = say_once words c (run file o) said says in
       let here : Holds held file all = subst (λ (d : Command). Holds held (file_of d) all) same holds in
       elim (six_or_not status replies.among) [
-          inl six ↦ elim ((replies.not_read six).1) [ inl rose ↦ absurd (calm rose) | inr lacks ↦ absurd (held_or_not held file all here lacks) ]
+        | inl six ↦ elim ((replies.not_read six).1) [ inl rose ↦ absurd (calm rose) | inr lacks ↦ absurd (held_or_not held file all here lacks) ]
         | inr other ↦ let got = replies.read other in elim finishes [
-              inl whole ↦ inr (record {
-                command = run file o;
-                bytes = got.0;
-                text = text;
-                says = says;
-                loads = got.1;
-                answers = subst (λ (s : ℕ). Answers (run file o) got.0 s text) (sym whole.0) (got.2 o refl);
-                written = whole.1;
-              })
-            | inr part ↦ absurd (sink_calm part.1) ] ]
+          | inl whole ↦ inr (record {
+            command = run file o;
+            bytes = got.0;
+            text = text;
+            says = says;
+            loads = got.1;
+            answers = subst (λ (s : ℕ). Answers (run file o) got.0 s text) (sym whole.0) (got.2 o refl);
+            written = whole.1;
+          })
+          | inr part ↦ absurd (sink_calm part.1)
+        ]
+      ]

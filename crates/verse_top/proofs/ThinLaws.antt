@@ -78,16 +78,21 @@ seen_quote : (ts : List (List ℕ)) (t bs : List ℕ) → Seen inside ts t bs �
 seen_quote ts t bs seen = rw seen (append_assoc (front ts) (10 ∷ (opening ++ t)) (34 ∷ []))
 
 seen_closed : (ts : List (List ℕ)) (t bs : List ℕ) → Seen bracket ts t bs → Seen line_end (ts ++ t ∷ []) [] (bs ++ 41 ∷ [])
-seen_closed ts t bs seen =
-    (not_nil ts t, refl, rw seen
+seen_closed ts t bs seen = (
+  not_nil ts t,
+  refl,
+  rw seen
       (append_assoc (front ts) (10 ∷ (opening ++ (t ++ 34 ∷ []))) (41 ∷ [])
-        ∙ ap (λ (xs : List ℕ). front ts ++ 10 ∷ (opening ++ xs)) (append_assoc t (34 ∷ []) (41 ∷ []))
-        ∙ sym (ap (λ (xs : List ℕ). head ++ xs) (print_lines-push ts t))))
+      ∙ ap (λ (xs : List ℕ). front ts ++ 10 ∷ (opening ++ xs)) (append_assoc t (34 ∷ []) (41 ∷ []))
+      ∙ sym (ap (λ (xs : List ℕ). head ++ xs) (print_lines-push ts t))),
+)
 
 seen_opened : (ts : List (List ℕ)) (t bs : List ℕ) → Seen line ts t bs → Seen (fixed (32 ∷ 32 ∷ 32 ∷ 80 ∷ 114 ∷ 105 ∷ 110 ∷ 116 ∷ 40 ∷ 34 ∷ [])) ts t (bs ++ 32 ∷ [])
-seen_opened ts t bs seen =
-    (seen.1, rw (seen.2) (append_assoc (front ts ++ 10 ∷ []) (32 ∷ []) (32 ∷ 32 ∷ 32 ∷ 80 ∷ 114 ∷ 105 ∷ 110 ∷ 116 ∷ 40 ∷ 34 ∷ [])
-      ∙ append_assoc (front ts) (10 ∷ []) opening))
+seen_opened ts t bs seen = (
+  seen.1,
+  rw (seen.2) (append_assoc (front ts ++ 10 ∷ []) (32 ∷ []) (32 ∷ 32 ∷ 32 ∷ 80 ∷ 114 ∷ 105 ∷ 110 ∷ 116 ∷ 40 ∷ 34 ∷ [])
+      ∙ append_assoc (front ts) (10 ∷ []) opening),
+)
 
 abbrev Goes : ℕ → List ℕ → Reading → Type 0
 Goes b bs s = Seen s.next s.texts s.current (bs ++ b ∷ []) × Plain s
@@ -98,57 +103,63 @@ goes_on (fixed (c ∷ cs)) r b bs s e seen plain =
     let went = if_some (b == c) (record r { next = after_fixed cs }) s e in
     let same : b ≡ c = eqb-true b c went.0 in
     subst (λ (t : Reading). Goes b bs t) went.1
-      (rw same (seen_fixed cs r.texts r.current bs c seen), record { texts = plain.texts; current = plain.current })
+    (rw same (seen_fixed cs r.texts r.current bs c seen), record { texts = plain.texts; current = plain.current })
 goes_on inside r b bs s e seen plain = by_quote (b == 34) refl
-    where
-      by_quote : (v : Bool) → (b == 34) ≡ v → Goes b bs s
-      by_quote true quote =
-          let at : Some (record r { next = bracket }) ≡ Some s = if_first (b == 34) _ _ _ quote e in
-          let same : b ≡ 34 = eqb-true b 34 quote in
-          let went : record r { next = bracket } ≡ s = cc in
-          subst (λ (t : Reading). Goes b bs t) went
-            (rw same (seen_quote r.texts r.current bs seen), record { texts = plain.texts; current = plain.current })
-      by_quote false other =
-          let at : (if is_plain b then Some (record { next = inside; texts = r.texts; current = r.current ++ b ∷ [] }) else None) ≡ Some s = if_other (b == 34) _ _ _ other e in
-          let went = if_some (is_plain b) (record { next = inside; texts = r.texts; current = r.current ++ b ∷ [] }) s at in
-          subst (λ (t : Reading). Goes b bs t) went.1
-            (seen_more r.texts r.current bs b seen, record { texts = plain.texts; current = list_all-push is_plain r.current b plain.current went.0 })
+  where
+    by_quote : (v : Bool) → (b == 34) ≡ v → Goes b bs s
+    by_quote true quote =
+        let at : Some (record r { next = bracket }) ≡ Some s = if_first (b == 34) _ _ _ quote e in
+        let same : b ≡ 34 = eqb-true b 34 quote in
+        let went : record r { next = bracket } ≡ s = cc in
+        subst (λ (t : Reading). Goes b bs t) went
+        (rw same (seen_quote r.texts r.current bs seen), record { texts = plain.texts; current = plain.current })
+    by_quote false other =
+        let at : (if is_plain b then Some (record { next = inside; texts = r.texts; current = r.current ++ b ∷ [] }) else None) ≡ Some s = if_other (b == 34) _ _ _ other e in
+        let went = if_some (is_plain b) (record { next = inside; texts = r.texts; current = r.current ++ b ∷ [] }) s at in
+        subst (λ (t : Reading). Goes b bs t) went.1
+        (seen_more r.texts r.current bs b seen, record { texts = plain.texts; current = list_all-push is_plain r.current b plain.current went.0 })
 goes_on bracket r b bs s e seen plain =
     let went = if_some (b == 41) (record { next = line_end; texts = r.texts ++ r.current ∷ []; current = [] }) s e in
     let same : b ≡ 41 = eqb-true b 41 went.0 in
     subst (λ (t : Reading). Goes b bs t) went.1
-      (rw same (seen_closed r.texts r.current bs seen), record { texts = list_all-push (list_all is_plain) r.texts r.current plain.texts plain.current; current = refl })
+    (rw same (seen_closed r.texts r.current bs seen), record { texts = list_all-push (list_all is_plain) r.texts r.current plain.texts plain.current; current = refl })
 goes_on line_end r b bs s e seen plain =
     let went = if_some (b == 10) (record r { next = line }) s e in
     let same : b ≡ 10 = eqb-true b 10 went.0 in
     subst (λ (t : Reading). Goes b bs t) went.1
-      ((seen.0, seen.1, rw (same, seen.2) refl), record { texts = plain.texts; current = plain.current })
+    ((seen.0, seen.1, rw (same, seen.2) refl), record { texts = plain.texts; current = plain.current })
 goes_on line r b bs s e seen plain =
     let went = if_some (b == 32) (record r { next = fixed (32 ∷ 32 ∷ 32 ∷ 80 ∷ 114 ∷ 105 ∷ 110 ∷ 116 ∷ 40 ∷ 34 ∷ []) }) s e in
     let same : b ≡ 32 = eqb-true b 32 went.0 in
     subst (λ (t : Reading). Goes b bs t) went.1
-      (rw same (seen_opened r.texts r.current bs seen), record { texts = plain.texts; current = plain.current })
+    (rw same (seen_opened r.texts r.current bs seen), record { texts = plain.texts; current = plain.current })
 
 -- ---- what was read can be completed
 
 thin_lines : (bs : List ℕ) (ts : List (List ℕ)) (t : List ℕ) → list_all (list_all is_plain) ts ≡ true → list_all is_plain t ≡ true →
     bs ≡ front ts ++ print_line t → IsThin bs (ts ++ t ∷ [])
 thin_lines bs ts t plain one e = record {
-    some = not_nil ts t;
-    plain = list_all-push (list_all is_plain) ts t plain one;
-    spelled = inl (e ∙ sym (ap (λ (xs : List ℕ). head ++ xs) (print_lines-push ts t)));
-  }
+  some = not_nil ts t;
+  plain = list_all-push (list_all is_plain) ts t plain one;
+  spelled = inl (e ∙ sym (ap (λ (xs : List ℕ). head ++ xs) (print_lines-push ts t)));
+}
 
 begins_at : (n : Next) (ts : List (List ℕ)) (t bs : List ℕ) → Seen n ts t bs → list_all (list_all is_plain) ts ≡ true → list_all is_plain t ≡ true → Begins bs
-begins_at (fixed rest) ts t bs seen plain one =
-    (rest ++ closing, ts ++ [] ∷ [], thin_lines _ ts [] plain refl
-      (sym (append_assoc bs rest closing) ∙ ap (λ (xs : List ℕ). xs ++ closing) seen.1 ∙ append_assoc (front ts) (10 ∷ opening) closing))
+begins_at (fixed rest) ts t bs seen plain one = (
+  rest ++ closing,
+  ts ++ [] ∷ [],
+  thin_lines _ ts [] plain refl
+      (sym (append_assoc bs rest closing) ∙ ap (λ (xs : List ℕ). xs ++ closing) seen.1 ∙ append_assoc (front ts) (10 ∷ opening) closing),
+)
 begins_at inside ts t bs seen plain one =
     (closing, ts ++ t ∷ [], thin_lines _ ts t plain one (rw seen (append_assoc (front ts) (10 ∷ (opening ++ t)) closing)))
-begins_at bracket ts t bs seen plain one =
-    (41 ∷ [], ts ++ t ∷ [], thin_lines _ ts t plain one (rw seen
+begins_at bracket ts t bs seen plain one = (
+  41 ∷ [],
+  ts ++ t ∷ [],
+  thin_lines _ ts t plain one (rw seen
       (append_assoc (front ts) (10 ∷ (opening ++ (t ++ 34 ∷ []))) (41 ∷ [])
-        ∙ ap (λ (xs : List ℕ). front ts ++ 10 ∷ (opening ++ xs)) (append_assoc t (34 ∷ []) (41 ∷ [])))))
+      ∙ ap (λ (xs : List ℕ). front ts ++ 10 ∷ (opening ++ xs)) (append_assoc t (34 ∷ []) (41 ∷ [])))),
+)
 begins_at line_end ts t bs seen plain one =
     ([], ts, record { some = seen.0; plain = plain; spelled = inl (append-nil bs ∙ seen.2) })
 begins_at line ts t bs seen plain one =
@@ -205,8 +216,8 @@ reads_text : (u t : List ℕ) (ts : List (List ℕ)) (more : List ℕ) → list_
 reads_text [] t ts more h = ap (λ (x : List ℕ). run (ended (ts ++ x ∷ [])) more) (sym (append-nil t))
 reads_text (c ∷ u) t ts more h =
     ap (λ (o : Option Reading). and_run o (λ s. run s (u ++ 34 ∷ 41 ∷ more))) (step_plain c ts t (and_left (is_plain c) (list_all is_plain u) h))
-      ∙ reads_text u (t ++ c ∷ []) ts more (and_right (is_plain c) (list_all is_plain u) h)
-      ∙ ap (λ (x : List ℕ). run (ended (ts ++ x ∷ [])) more) (append_assoc t (c ∷ []) u)
+    ∙ reads_text u (t ++ c ∷ []) ts more (and_right (is_plain c) (list_all is_plain u) h)
+    ∙ ap (λ (x : List ℕ). run (ended (ts ++ x ∷ [])) more) (append_assoc t (c ∷ []) u)
 
 reads_line : (u : List ℕ) (ts : List (List ℕ)) (more : List ℕ) → list_all is_plain u ≡ true →
     run (ended ts) (print_line u ++ more) ≡ run (ended (ts ++ u ∷ [])) more
@@ -218,17 +229,17 @@ reads_lines : (us ts : List (List ℕ)) (more : List ℕ) → list_all (list_all
 reads_lines [] ts more h = ap (λ (x : List (List ℕ)). run (ended x) more) (sym (append-nil ts))
 reads_lines (u ∷ us) ts more h =
     ap (λ (xs : List ℕ). run (ended ts) xs) (append_assoc (print_line u) (print_lines us) more)
-      ∙ reads_line u ts (print_lines us ++ more) (and_left (list_all is_plain u) (list_all (list_all is_plain) us) h)
-      ∙ reads_lines us (ts ++ u ∷ []) more (and_right (list_all is_plain u) (list_all (list_all is_plain) us) h)
-      ∙ ap (λ (x : List (List ℕ)). run (ended x) more) (append_assoc ts (u ∷ []) us)
+    ∙ reads_line u ts (print_lines us ++ more) (and_left (list_all is_plain u) (list_all (list_all is_plain) us) h)
+    ∙ reads_lines us (ts ++ u ∷ []) more (and_right (list_all is_plain u) (list_all (list_all is_plain) us) h)
+    ∙ ap (λ (x : List (List ℕ)). run (ended x) more) (append_assoc ts (u ∷ []) us)
 
 reads_file : (u : List ℕ) (us : List (List ℕ)) (more : List ℕ) → list_all (list_all is_plain) (u ∷ us) ≡ true →
     run start ((head ++ print_lines (u ∷ us)) ++ more) ≡ run (ended (u ∷ us)) more
 reads_file u us more h =
     ap (λ (xs : List ℕ). run (within [] []) xs)
-      (append_assoc (u ++ closing) (print_lines us) more ∙ append_assoc u closing (print_lines us ++ more))
-      ∙ reads_text u [] [] (print_lines us ++ more) (and_left (list_all is_plain u) (list_all (list_all is_plain) us) h)
-      ∙ reads_lines us (u ∷ []) more (and_right (list_all is_plain u) (list_all (list_all is_plain) us) h)
+    (append_assoc (u ++ closing) (print_lines us) more ∙ append_assoc u closing (print_lines us ++ more))
+    ∙ reads_text u [] [] (print_lines us ++ more) (and_left (list_all is_plain u) (list_all (list_all is_plain) us) h)
+    ∙ reads_lines us (u ∷ []) more (and_right (list_all is_plain u) (list_all (list_all is_plain) us) h)
 
 -- a reading that may end with these texts
 pub data Finished : Reading → List (List ℕ) → Type 0 where
@@ -246,15 +257,15 @@ reads_nonempty bytes (u ∷ us) thin = by_spelling thin.spelled
   where
     by_spelling : (bytes ≡ head ++ print_lines (u ∷ us)) ⊎ (bytes ≡ (head ++ print_lines (u ∷ us)) ++ 10 ∷ []) → Reads bytes (u ∷ us)
     by_spelling (inl e) = record {
-        reading = ended (u ∷ us);
-        ran = ap (λ (xs : List ℕ). run start xs) (e ∙ sym (append-nil (head ++ print_lines (u ∷ us)))) ∙ reads_file u us [] thin.plain;
-        finished = at_line_end;
-      }
+      reading = ended (u ∷ us);
+      ran = ap (λ (xs : List ℕ). run start xs) (e ∙ sym (append-nil (head ++ print_lines (u ∷ us)))) ∙ reads_file u us [] thin.plain;
+      finished = at_line_end;
+    }
     by_spelling (inr e) = record {
-        reading = record { next = line; texts = u ∷ us; current = [] };
-        ran = ap (λ (xs : List ℕ). run start xs) e ∙ reads_file u us (10 ∷ []) thin.plain;
-        finished = at_line;
-      }
+      reading = record { next = line; texts = u ∷ us; current = [] };
+      ran = ap (λ (xs : List ℕ). run start xs) e ∙ reads_file u us (10 ∷ []) thin.plain;
+      finished = at_line;
+    }
 
 pub reads_thin : (bytes : List ℕ) (texts : List (List ℕ)) → IsThin bytes texts → Reads bytes texts
 reads_thin = reads_nonempty
@@ -269,9 +280,9 @@ thin_at_end bytes r texts w at_line = record { some = w.seen.0; plain = w.plain.
 refuses : (xs ys : List ℕ) (b : ℕ) (r : Reading) → run start xs ≡ Some r → step r b ≡ None → run start ((xs ++ b ∷ []) ++ ys) ≡ None
 refuses xs ys b r ran stuck =
     ap (λ (zs : List ℕ). run start zs) (behind xs ys b)
-      ∙ run-append xs (b ∷ ys) start
-      ∙ ap (λ (o : Option Reading). and_run o (λ s. run s (b ∷ ys))) ran
-      ∙ ap (λ (o : Option Reading). and_run o (λ s. run s ys)) stuck
+    ∙ run-append xs (b ∷ ys) start
+    ∙ ap (λ (o : Option Reading). and_run o (λ s. run s (b ∷ ys))) ran
+    ∙ ap (λ (o : Option Reading). and_run o (λ s. run s ys)) stuck
 
 pub no_beginning : (xs : List ℕ) (b : ℕ) (r : Reading) → run start xs ≡ Some r → step r b ≡ None → Begins (xs ++ b ∷ []) → ⊥
 no_beginning xs b r ran stuck (more, texts, thin) =
@@ -293,29 +304,29 @@ finished_may_end r texts at_line = refl
 pub unbuilt_here : (bytes : List ℕ) (at : ℕ) (r : Reading) → at < length bytes → run start (take at bytes) ≡ Some r → Written r (take at bytes) →
     step r (get_or bytes at 0) ≡ None → IsUnbuilt bytes at
 unbuilt_here bytes at r inside_file ran w stuck = record {
-    within = omega arith;
-    before = begins r (take at bytes) w;
-    beyond = λ _ on. no_beginning (take at bytes) (get_or bytes at 0) r ran stuck
+  within = omega arith;
+  before = begins r (take at bytes) w;
+  beyond = λ _ on. no_beginning (take at bytes) (get_or bytes at 0) r ran stuck
       (subst (λ (xs : List ℕ). Begins xs) (take_more bytes at 0 inside_file) on);
-    ended = λ e. absurd (omega arith);
-  }
+  ended = λ e. absurd (omega arith);
+}
 
 pub unbuilt_end : (bytes : List ℕ) (r : Reading) → run start (take (length bytes) bytes) ≡ Some r → Written r (take (length bytes) bytes) →
     may_end r.next ≡ false → IsUnbuilt bytes (length bytes)
 unbuilt_end bytes r ran w going = record {
-    within = omega arith;
-    before = begins r (take (length bytes) bytes) w;
-    beyond = λ h. absurd (omega arith);
-    ended = λ _. no_end bytes r (rw (take-length bytes) at ran) (λ texts f. let may = finished_may_end r texts f in cc);
-  }
+  within = omega arith;
+  before = begins r (take (length bytes) bytes) w;
+  beyond = λ h. absurd (omega arith);
+  ended = λ _. no_end bytes r (rw (take-length bytes) at ran) (λ texts f. let may = finished_may_end r texts f in cc);
+}
 
 pub reads_on : (bytes : List ℕ) (at : ℕ) (r s : Reading) → at < length bytes → run start (take at bytes) ≡ Some r →
     step r (get_or bytes at 0) ≡ Some s → run start (take (at + 1) bytes) ≡ Some s
 reads_on bytes at r s inside_file ran went =
     ap (λ (xs : List ℕ). run start xs) (take_more bytes at 0 inside_file)
-      ∙ run-append (take at bytes) (get_or bytes at 0 ∷ []) start
-      ∙ ap (λ (o : Option Reading). and_run o (λ s. run s (get_or bytes at 0 ∷ []))) ran
-      ∙ ap (λ (o : Option Reading). and_run o (λ s. run s [])) went
+    ∙ run-append (take at bytes) (get_or bytes at 0 ∷ []) start
+    ∙ ap (λ (o : Option Reading). and_run o (λ s. run s (get_or bytes at 0 ∷ []))) ran
+    ∙ ap (λ (o : Option Reading). and_run o (λ s. run s [])) went
 
 pub writes_on : (bytes : List ℕ) (at : ℕ) (r s : Reading) → at < length bytes → Written r (take at bytes) →
     step r (get_or bytes at 0) ≡ Some s → Written s (take (at + 1) bytes)

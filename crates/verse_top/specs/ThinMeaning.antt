@@ -11,10 +11,10 @@ printed texts = map (λ (text : List ℕ). record { moment = 0; bytes = text }) 
 abbrev pub mean : List (List ℕ) → ℕ → Run
 mean texts zero = record { trace = []; store = []; ending = ending.Steps; now = 0; steps = 0; live = None }
 mean texts (suc steps) = record {
-    trace = printed texts;
-    store = [];
-    ending = ending.Done;
-    now = 0;
-    steps = 1;
-    live = Some 0;
-  }
+  trace = printed texts;
+  store = [];
+  ending = ending.Done;
+  now = 0;
+  steps = 1;
+  live = Some 0;
+}

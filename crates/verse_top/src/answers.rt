@@ -94,5 +94,4 @@ fn run_texts(alloc: Global, texts: &[Vec<u8>], steps: u64) -> Result<Answer, Mem
 /// What is loaded has one answer.
 pub fn answered_once()
     ensures { AnsweredOnce }
-{
-}
+{}

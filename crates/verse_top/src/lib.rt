@@ -1,19 +1,13 @@
 //! All that the program does, as one call.
 #![tactic(auto)]
 
-mod numbers;
-
-mod options;
-
-pub mod commands;
-
-mod thin;
-
-pub mod endings;
-
 pub mod answers;
-
 mod call;
+pub mod commands;
+pub mod endings;
+mod numbers;
+mod options;
+mod thin;
 
 pub use call::verse;
 pub use commands::words_fit;

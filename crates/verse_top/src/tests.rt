@@ -63,7 +63,11 @@ fn answers_by_the_table(rt: HostRuntime) -> Result<(), Fail> {
         let mut out = MemSink::new(alloc, 1000, 1000)?;
         let command = words(alloc, command)?;
         let status = status.parse::<u8>().map_err(|_| "a status")?;
-        assert_eq!(rt; verse(alloc, command.as_slice(), &mut files, &mut out), status, "{line}");
+        assert_eq!(rt;
+            verse(alloc, command.as_slice(), &mut files, &mut out),
+            status,
+            "{line}"
+        );
         assert_eq!(rt; out.taken(), lines(alloc, text)?.as_slice(), "{line}");
         count = count.saturating_add(1);
     }
@@ -81,12 +85,18 @@ fn faults_and_great_files(rt: HostRuntime) -> Result<(), Fail> {
     files.fail_at(1)?;
     let mut out = MemSink::new(alloc, 1000, 1000)?;
     assert_eq!(rt; verse(alloc, command.as_slice(), &mut files, &mut out), 0);
-    assert_eq!(rt; out.taken(), b"0 hi\n= done at 0 steps 1 live 0\n".as_slice());
+    assert_eq!(rt;
+        out.taken(),
+        b"0 hi\n= done at 0 steps 1 live 0\n".as_slice()
+    );
     let mut failing = MemSink::new(alloc, 1000, 1)?;
     failing.fail_at(2)?;
     let mut calm = MemFiles::new(alloc);
     calm.add("a.verse", lines(alloc, HI)?.as_slice())?;
-    assert_eq!(rt; verse(alloc, command.as_slice(), &mut calm, &mut failing), 7);
+    assert_eq!(rt;
+        verse(alloc, command.as_slice(), &mut calm, &mut failing),
+        7
+    );
     assert_eq!(rt; failing.taken(), b"0 ".as_slice());
     let mut great = MemFiles::new(alloc);
     great.add("a.verse", vec![in alloc; b' '; 1048577]?.as_slice())?;
@@ -113,7 +123,8 @@ fn endings_are_told(rt: HostRuntime) -> Result<(), Fail> {
     text.extend_from_slice(ending_text(alloc, error, 1, 0, 1, 0)?.as_slice())?;
     text.extend_from_slice(ending_text(alloc, error, 2, 0, 1, 0)?.as_slice())?;
     text.extend_from_slice(ending_text(alloc, Ending::Stuck, 1, 0, 1, 0)?.as_slice())?;
-    let expected = "= done at 20000 steps 17 live 0~= waiting at 0 steps 1 live 1~= until at 1000 steps 4 live 1~= steps at 0 steps 3~= error K1 3:53 at 0 steps 1~= error K1 2:3:53 at 0 steps 1~= stuck at 0 steps 1~";
+    let expected =
+        "= done at 20000 steps 17 live 0~= waiting at 0 steps 1 live 1~= until at 1000 steps 4 live 1~= steps at 0 steps 3~= error K1 3:53 at 0 steps 1~= error K1 2:3:53 at 0 steps 1~= stuck at 0 steps 1~";
     assert_eq!(rt; text.as_slice(), lines(alloc, expected)?.as_slice());
     Ok(())
 }

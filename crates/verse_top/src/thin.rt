@@ -2,11 +2,10 @@ ghost use Rattle.std.specs.Prelude.{◌≡◌, ◌==◌, ℕ, IfOk, IsErrOf, Non
 ghost use Rattle.verse_top.specs.Thin.{IsThin, IsUnbuilt, is_plain};
 ghost use Rattle.verse_top.specs.ThinReading.{bracket, fixed, inside, may_end, start, step, step_at};
 ghost use Rattle.verse_top.specs.ThinView.{next_of, reading_of};
+ghost use Rattle.verse_top.specs.declared.thin.ThinFault.TheVariants as fault;
 
 use std::alloc::{AllocError, AllocFailed, Global};
 use std::mem;
-
-ghost use Rattle.verse_top.specs.declared.thin.ThinFault.TheVariants as fault;
 
 /// Why a file is not read as a thin program.
 #[derive(Clone, Copy, Debug, PartialEq, Eq)]

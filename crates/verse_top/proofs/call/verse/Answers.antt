@@ -12,27 +12,27 @@ five n e f = absurd (cc)
 pub returns-in_default-clause-cut_short : goal.returns-in_default-clause-cut_short
 returns-in_default-clause-cut_short g c e =
     cut_of (map string_bytes c.args.words.now) (g.F.Files.holds c.args.files.now) words_line 2 c.finish.result _ _ _ _ (two 2 refl)
-      (no_command c.in_default.ensures) c.finish.ensures.either e
+    (no_command c.in_default.ensures) c.finish.ensures.either e
 
 pub returns-in-Ok-clause-absent : goal.returns-in-Ok-clause-absent
 returns-in-Ok-clause-absent g c =
     reply_absent (map string_bytes c.args.words.now) (g.F.Files.holds c.args.files.now) c.in-Some.request.file.now _ c.in-Some.ensures.2
-      _ _ c.in-Ok.answer.status c.in-Ok.answer.text.items c.in-Ok.ensures.replies
-      c.finish-in-Ok.result _ _ _ _ (rw (c.as_slice.ensures.value) at c.finish-in-Ok.ensures.either) c.in-Ok.ensures.absent
+    _ _ c.in-Ok.answer.status c.in-Ok.answer.text.items c.in-Ok.ensures.replies
+    c.finish-in-Ok.result _ _ _ _ (rw (c.as_slice.ensures.value) at c.finish-in-Ok.ensures.either) c.in-Ok.ensures.absent
 
 pub returns-in-Ok-clause-cut_short : goal.returns-in-Ok-clause-cut_short
 returns-in-Ok-clause-cut_short g c e =
     reply_cut (map string_bytes c.args.words.now) (g.F.Files.holds c.args.files.now) c.in-Some.request.file.now _ c.in-Some.ensures.2
-      _ _ c.in-Ok.answer.status c.in-Ok.answer.text.items c.in-Ok.ensures.replies
-      c.finish-in-Ok.result _ _ _ _ (rw (c.as_slice.ensures.value) at c.finish-in-Ok.ensures.either) e
+    _ _ c.in-Ok.answer.status c.in-Ok.answer.text.items c.in-Ok.ensures.replies
+    c.finish-in-Ok.result _ _ _ _ (rw (c.as_slice.ensures.value) at c.finish-in-Ok.ensures.either) e
 
 pub returns-in-Ok-clause-complete : goal.returns-in-Ok-clause-complete
 returns-in-Ok-clause-complete g c =
     reply_complete (map string_bytes c.args.words.now) (g.F.Files.holds c.args.files.now) c.in-Some.request.file.now _ c.in-Some.ensures.2
-      _ _ c.in-Ok.answer.status c.in-Ok.answer.text.items c.in-Ok.ensures.replies
-      c.finish-in-Ok.result _ _ _ _ (rw (c.as_slice.ensures.value) at c.finish-in-Ok.ensures.either)
+    _ _ c.in-Ok.answer.status c.in-Ok.answer.text.items c.in-Ok.ensures.replies
+    c.finish-in-Ok.result _ _ _ _ (rw (c.as_slice.ensures.value) at c.finish-in-Ok.ensures.either)
 
 pub returns-in-Err-clause-cut_short : goal.returns-in-Err-clause-cut_short
 returns-in-Err-clause-cut_short g c e =
     cut_of (map string_bytes c.args.words.now) (g.F.Files.holds c.args.files.now) memory_line 5 c.finish-in-Err.result _ _ _ _ (five 5 refl)
-      no_memory c.finish-in-Err.ensures.either e
+    no_memory c.finish-in-Err.ensures.either e

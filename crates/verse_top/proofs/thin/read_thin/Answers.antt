@@ -11,7 +11,7 @@ returns-then-not-branch-clause-unbuilt c at e =
     let stuck : step (reading_of c.loop-at.reader) (get_or c.args.bytes.now c.loop-at.at 0) ≡ None = rw (c.if-not-branch.true) at c.in_ok-read.ensures in
     let same : c.loop-at.at ≡ at = cc in
     subst (λ (n : ℕ). IsUnbuilt c.args.bytes.now n) same
-      (unbuilt_here c.args.bytes.now c.loop-at.at (reading_of c.loop-at.reader) (omega arith) c.loop-at.invariant.ran c.loop-at.invariant.written stuck)
+    (unbuilt_here c.args.bytes.now c.loop-at.at (reading_of c.loop-at.reader) (omega arith) c.loop-at.invariant.ran c.loop-at.invariant.written stuck)
 
 pub loop-at-preserved : goal.loop-at-preserved
 loop-at-preserved c =
@@ -26,4 +26,4 @@ returns-then-not-may_end-clause-unbuilt c at e =
     let same : length c.args.bytes.now ≡ at = cc in
     let last : c.loop-at.at ≡ length c.args.bytes.now = omega arith in
     subst (λ (n : ℕ). IsUnbuilt c.args.bytes.now n) same
-      (unbuilt_end c.args.bytes.now (reading_of c.loop-at.reader) (rw last at c.loop-at.invariant.ran) (rw last at c.loop-at.invariant.written) (sym c.if-not-may_end.ensures))
+    (unbuilt_end c.args.bytes.now (reading_of c.loop-at.reader) (rw last at c.loop-at.invariant.ran) (rw last at c.loop-at.invariant.written) (sym c.if-not-may_end.ensures))

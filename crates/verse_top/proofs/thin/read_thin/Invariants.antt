@@ -7,6 +7,6 @@ use Rattle.verse_top.proofs.thin.read_thin.Given as goal
 
 abbrev pub invariant-loop-at : goal.invariant-loop-at
 invariant-loop-at l = record {
-    ran : run start (take l.at l.bytes) ≡ Some (reading_of l.reader);
-    written : Written (reading_of l.reader) (take l.at l.bytes);
-  }
+  ran : run start (take l.at l.bytes) ≡ Some (reading_of l.reader);
+  written : Written (reading_of l.reader) (take l.at l.bytes);
+}

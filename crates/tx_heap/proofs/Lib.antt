@@ -1,0 +1,4 @@
+pub mod Undoing
+pub mod Changing
+pub mod Limits
+pub mod Making

@@ -1,0 +1,9 @@
+pub mod State
+pub mod Outcomes
+pub mod Dues
+pub mod Calls
+pub mod Weighed
+pub mod Copies
+pub mod Undo
+pub mod Logged
+pub mod Rests

@@ -1,0 +1,25 @@
+-- What a write at a path in a slot comes to.
+use Rattle.std.specs.Prelude.{ℕ, nat_le, List, Option, Some, None, Result, Ok, Err, if◌then◌else◌}
+use Rattle.verse_base.specs.declared.refusals.Kind.TheVariants as kind
+use Rattle.verse_value.specs.Val.{Val}
+use Rattle.verse_value.specs.Store.{Store, slot_of, stored, store_weight}
+use Rattle.verse_value.specs.Writes.{written}
+use Rattle.verse_value.specs.declared.writes.Mode.{Mode}
+use Rattle.verse_value.specs.declared.writes.WriteFault.{WriteFault}
+use Rattle.verse_value.specs.declared.writes.WriteFault.TheVariants.{Fault, Stuck}
+
+-- the limit of the store is looked at last
+abbrev pub limited : Store → Val → Result (Store × Val) WriteFault
+limited cells value = if nat_le (store_weight cells) 16000000 then Ok (cells, value) else Err (Fault kind.Store)
+
+abbrev pub with_written : Store → ℕ → ℕ → Result (Val × Val) WriteFault → Result (Store × Val) WriteFault
+with_written cells cell slot (Ok w) = limited (stored cells cell slot w.0) w.1
+with_written cells cell slot (Err fault) = Err fault
+
+abbrev pub written_from : Store → ℕ → ℕ → List Val → Mode → Val → Option Val → Result (Store × Val) WriteFault
+written_from cells cell slot path mode value None = Err Stuck
+written_from cells cell slot path mode value (Some from) = with_written cells cell slot (written path mode value from)
+
+-- the cells after the write and the value written, or why there is neither
+abbrev pub cells_written : Store → ℕ → ℕ → List Val → Mode → Val → Result (Store × Val) WriteFault
+cells_written cells cell slot path mode value = written_from cells cell slot path mode value (slot_of cells cell slot)

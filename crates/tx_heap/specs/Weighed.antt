@@ -1,0 +1,7 @@
+-- Cells with the sum of their weights.
+use Rattle.std.specs.Prelude.{◌≡◌, ◌≤◌, ℕ}
+use Rattle.verse_value.specs.Store.{Store, store_weight}
+
+pub record IsWeighed (weight : ℕ) (cells : Store) : Type 0 where
+  pub sum : weight ≡ store_weight cells
+  pub light : weight ≤ 16000000

@@ -1,0 +1,124 @@
+ghost use Rattle.std.specs.Prelude.{◌≡◌, ◌<◌, ◌≢◌, ℕ, List, [], ◌∷◌, IsSome, IfOk, IfErr, OnOk, OnErr, length, slice_get, option_map, Some, Ok};
+ghost use Rattle.std.specs.Borrow.{sem};
+ghost use Rattle.std.specs.Io.BufRead.{Rests};
+ghost use Rattle.verse_value.specs.View.{val_of, vals_of};
+ghost use Rattle.verse_value.specs.Store.{Cell, slot_of, stored, with_cell, store_weight};
+ghost use Rattle.verse_value.specs.Writes.{Explains};
+ghost use Rattle.tx_heap.specs.State.{State, new_cell, with_new, with_slot, marked, committed, rolled_back, IsLight};
+ghost use Rattle.tx_heap.specs.Outcomes.{cells_written};
+ghost use Rattle.tx_heap.specs.Dues.{Raised, Joined, TakenOff, Spent};
+
+use verse_base::refusals::Memory;
+use verse_value::paths::Path;
+use verse_value::runs::CellKind;
+use verse_value::values::Value;
+use verse_value::writes::{Mode, WriteFault};
+
+/// The greatest sum of the weights of all cells.
+pub const MOST_WEIGHT: u64 = 16000000;
+
+/// Cells by address from 0, whose changes since a mark can be undone. Marks nest.
+///
+/// After a refusal the cells, the copies and the dues are what they were.
+pub trait Heap {
+    /// The cells, and the copies of them at open marks, the newest first.
+    ghost state: { Self → State };
+    /// How often cells were accessed.
+    ghost count: { Self → ℕ };
+    /// How many accesses it may cost to undo, for each open mark, the newest first.
+    ghost dues: { Self → List ℕ };
+
+    /// Adds a cell, and answers its address. There are fewer than 4294967295 cells, and with this
+    /// one they weigh at most 16000000 in all.
+    fn alloc_cell(&mut self, kind: CellKind, slots: Vec<Value>) -> Result<u32, Memory>
+        requires fewer { length (state self.old).cells < 4294967295 }
+        requires light { IsLight (with_cell (state self.old).cells (new_cell kind (vals_of slots.items))) }
+        ensures address { IfOk result (λ n. n ≡ length (state self.old).cells) }
+        ensures ok { OnOk result (state self.new ≡ with_new (state self.old) (new_cell kind (vals_of slots.items))) }
+        ensures err { OnErr result (state self.new ≡ state self.old) }
+        ensures due { OnOk result (Raised 1 (dues self.old) (dues self.new)) }
+        ensures same_dues { OnErr result (dues self.new ≡ dues self.old) };
+
+    /// Puts a value in a slot. The cell and the slot are there, and afterwards the cells weigh at
+    /// most 16000000 in all.
+    fn set(&mut self, cell: u32, slot: u32, value: Value) -> Result<(), Memory>
+        requires there { IsSome (slot_of (state self.old).cells cell slot) }
+        requires light { IsLight (stored (state self.old).cells cell slot (val_of value)) }
+        ensures ok { OnOk result (state self.new ≡ with_slot (state self.old) cell slot (val_of value)) }
+        ensures err { OnErr result (state self.new ≡ state self.old) }
+        ensures due { OnOk result (Raised 2 (dues self.old) (dues self.new)) }
+        ensures same_dues { OnErr result (dues self.new ≡ dues self.old) };
+
+    /// Writes at a path in a slot, as `verse_value::writes::write` does, and answers a copy of the
+    /// value written. The cell and the slot are there.
+    ///
+    /// The refusals are those of that call, and last `Fault(Kind::Store)`, exactly where the cells
+    /// would weigh more than 16000000 in all.
+    fn write(
+        &mut self,
+        cell: u32,
+        slot: u32,
+        path: &Path,
+        mode: Mode,
+        value: Value,
+    ) -> Result<Value, WriteFault>
+        requires { IsSome (slot_of (state self.old).cells cell slot) }
+        ensures ok { IfOk result (λ v. cells_written (state self.old).cells cell slot (vals_of path.now) mode (val_of value) ≡ Ok ((state self.new).cells, val_of v)) }
+        ensures copies { (state self.new).copies ≡ (state self.old).copies }
+        ensures fault { IfErr result (Explains (cells_written (state self.old).cells cell slot (vals_of path.now) mode (val_of value))) }
+        ensures err { OnErr result (state self.new ≡ state self.old) }
+        ensures due { OnOk result (Raised 2 (dues self.old) (dues self.new)) }
+        ensures same_dues { OnErr result (dues self.new ≡ dues self.old) };
+
+    /// What a slot holds. The cell and the slot are there. Takes no memory.
+    fn get(&mut self, cell: u32, slot: u32) -> &Value
+        requires { IsSome (slot_of (state self.old).cells cell slot) }
+        ensures value { slot_of (state self.old).cells cell slot ≡ Some (val_of result.now) }
+        ensures* same { sem 𝓛 (Rests Self.row self.entry (λ n. (state n ≡ state self.entry.now) × (dues n ≡ dues self.entry.now))) };
+
+    /// What a cell is. It is there. Takes no memory.
+    fn kind(&mut self, cell: u32) -> CellKind
+        requires { cell < length (state self.old).cells }
+        ensures kind { option_map (λ (c : Cell). c.kind) (slice_get (state self.old).cells cell) ≡ Some result }
+        ensures same { state self.new ≡ state self.old }
+        ensures same_dues { dues self.new ≡ dues self.old };
+
+    /// Opens a mark, without an access.
+    fn mark(&mut self) -> Result<(), Memory>
+        ensures ok { OnOk result (state self.new ≡ marked (state self.old)) }
+        ensures err { OnErr result (state self.new ≡ state self.old) }
+        ensures due { OnOk result (dues self.new ≡ 0 ∷ dues self.old) }
+        ensures same_dues { OnErr result (dues self.new ≡ dues self.old) }
+        ensures count { count self.new ≡ count self.old };
+
+    /// Closes the newest mark, and keeps what was done since. A mark is open. Takes no memory.
+    fn commit(&mut self)
+        requires { (state self.old).copies ≢ [] }
+        ensures kept { state self.new ≡ committed (state self.old) }
+        ensures due { Joined (dues self.old) (dues self.new) };
+
+    /// Closes the newest mark, and undoes what was done since. A mark is open. Takes no memory.
+    fn rollback(&mut self)
+        requires { (state self.old).copies ≢ [] }
+        ensures back { state self.new ≡ rolled_back (state self.old) }
+        ensures due { TakenOff (dues self.old) (dues self.new) }
+        ensures spent { Spent (dues self.old) (count self.old) (count self.new) };
+
+    /// How many cells there are.
+    fn len(&self) -> u32
+        ensures { result ≡ length (state self.now).cells };
+
+    /// What all cells weigh: at most 16000000.
+    fn weight(&self) -> u64
+        ensures sum { result ≡ store_weight (state self.now).cells }
+        ensures light { IsLight (state self.now).cells };
+
+    /// How many marks are open.
+    fn depth(&self) -> u64
+        ensures marks { result ≡ length (state self.now).copies }
+        ensures dues { result ≡ length (dues self.now) };
+
+    /// How often cells were accessed.
+    fn accesses(&self) -> u64
+        ensures { result ≡ count self.now };
+}
