@@ -8,3 +8,4 @@ pub mod Holes
 pub mod PathLemmas
 pub mod MapLemmas
 pub mod Ints
+pub mod KeyLaws

@@ -1,8 +1,8 @@
 -- The text of a value.
-use Rattle.std.specs.Prelude.{ℕ, ◌+◌, ◌/◌, ◌%◌, Bool, ◌&&◌, not, nat_lt, nat_le, ◌==◌, List, [], ◌∷◌, ◌++◌, flat_map, codes, decimal, Option, Some, None, if◌then◌else◌}
+use Rattle.std.specs.Prelude.{◌≡◌, ℕ, ◌+◌, ◌/◌, ◌%◌, Bool, ◌&&◌, not, nat_lt, nat_le, ◌==◌, List, [], ◌∷◌, ◌++◌, flat_map, codes, decimal, Option, Some, None, if◌then◌else◌}
 use Rattle.std.specs.Fmt.{signed_decimal}
 use Rattle.verse_value.specs.Val.{Val, unit, falsity, truth, int, char, enum, object, event, task, some, array, mapping, tuple, Vals, no_vals, more_vals, Pairs, no_pairs, more_pairs}
-use Rattle.verse_value.specs.Keys.{bytes_of}
+use Rattle.verse_value.specs.Keys.{bytes_of, key_of, key_val}
 use Rattle.verse_value.specs.declared.keys.Key.{Key}
 use Rattle.verse_value.specs.declared.keys.Key.TheVariants as key
 
@@ -36,7 +36,6 @@ enum_text of at = codes "#" ++ (decimal of ++ (codes "." ++ decimal at))
 abbrev pub char_text : ℕ → List ℕ
 char_text c = codes "0o" ++ hex_pair c
 
--- that of the value that the key is
 abbrev pub key_text : Key → List ℕ
 key_text (key.Int n) = signed_decimal n
 key_text (key.Logic b) = logic_text b
@@ -82,3 +81,8 @@ abbrev mutual
 
 abbrev pub map_text : Pairs → List ℕ
 map_text ps = codes "map{" ++ (pairs_text ps ++ codes "}")
+
+-- a key is the value that it stands for, and is printed as that value
+pub record KeysAreValues : Type 0 where
+  pub key : (k : Key) → key_of (key_val k) ≡ Some k
+  pub text : (k : Key) → key_text k ≡ text_of (key_val k)

@@ -2,7 +2,7 @@ ghost use Rattle.std.specs.Prelude.{◌≡◌, ◌<◌, ◌++◌, [], ◌∷◌,
 ghost use Rattle.verse_value.specs.Keys.{bytes_of};
 ghost use Rattle.verse_value.specs.View.{val_of, vals_of, entry_of};
 ghost use Rattle.verse_value.specs.Val.{vals, pairs};
-ghost use Rattle.verse_value.specs.Texts.{text_of, list_text, pairs_text, array_text, map_text, entry_text, key_text, quoted, escaped, hex_digit, hex_pair, enum_text, char_text, plain};
+ghost use Rattle.verse_value.specs.Texts.{text_of, list_text, pairs_text, array_text, map_text, entry_text, key_text, quoted, escaped, hex_digit, hex_pair, enum_text, char_text, plain, KeysAreValues};
 
 use crate::keys::Key;
 use crate::lookups::text_bytes;
@@ -10,6 +10,11 @@ use crate::values::{MapValue, Value};
 use std::alloc::Global;
 use verse_base::refusals::Memory;
 use verse_base::texts::{decimal, natural};
+
+/// A key is the value that it stands for, and is printed as that value.
+pub fn keys_are_values()
+    ensures { KeysAreValues }
+{}
 
 /// Appends the text of a value. After want of memory `out` is as it was.
 pub fn text(v: &Value, out: &mut Vec<u8>) -> Result<(), Memory>
