@@ -24,3 +24,4 @@ mod words;
 
 pub use contents::text_bytes;
 pub use lexer::lex;
+pub use places::place_at;
