@@ -3,3 +3,5 @@
 
 pub mod cells;
 pub mod slots;
+#[cfg(test)]
+mod tests;
