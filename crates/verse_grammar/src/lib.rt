@@ -1,0 +1,8 @@
+//! The grammar: which toks spell which trees, and what the next tok decides.
+//!
+//! To be read in this order: `phrases`, what the grammar speaks of; `starts`, what the first tok of
+//! a phrase says of it; `laws`.
+#![tactic(auto)]
+
+pub mod phrases;
+pub mod starts;
