@@ -3,6 +3,7 @@ pub mod Fixing
 pub mod Eating
 pub mod Sticking
 pub mod Going
+pub mod ByExpr
 pub mod EatingItems
 pub mod StickingItems
 pub mod GoingItems
