@@ -141,3 +141,85 @@ clause_by_expr k ks rest h i j l e = eats_takes {r = phrase p.Clause} {Ys = rule
 pub clause_stuck_by_expr : (k : Tok) (ks : List Tok) (left : ℕ) → k.kind ≡ name → ahead ks ≢ Some (mark m.Define) → ahead ks ≢ Some (mark m.Colon) → ahead ks ≢ Some (mark m.Arrow) →
     SticksRule (phrase p.Expr) (k ∷ ks) left → SticksRule (phrase p.Clause) (k ∷ ks) left
 clause_stuck_by_expr k ks left h i j l s = sticks_takes {r = phrase p.Clause} {Ys = rule clause_name ∷ []} (rw h refl) (sticks_in_rule (sticks_becomes (clause_name_other ks i j l) (named_expr_stuck k ks left h s)))
+
+by_sight : {P : Type 0} (x : Bool) → (x ≡ true → P) → (x ≡ false → P) → P
+by_sight true f g = f refl
+by_sight false f g = g refl
+
+skipped : {ks ls : List Tok} → Eats [] ks ls → ks ≡ ls
+skipped eats_none = refl
+
+stuck_nowhere : {ks : List Tok} {left : ℕ} → Sticks [] ks left → ⊥
+stuck_nowhere s = elim s [ ]
+
+seen_ahead : (kind : TokKind) (ks : List Tok) → sees kind ks ≡ true → ahead ks ≡ Some kind
+seen_ahead kind [] h = absurd (cc)
+seen_ahead kind (k ∷ ks) h = ap Some (same_kind k.kind kind h)
+
+-- behind a first sum
+abbrev pub from_comparison : List Symbol
+from_comparison = rule comparison_tail ∷ rule (chain_tail p.And) ∷ rule (chain_tail p.Or) ∷ []
+
+dots_and : (ks : List Tok) → ahead ks ≡ Some (mark m.DotDot) → predict (chain_tail p.And) ks ≡ becomes []
+dots_and [] h = refl
+dots_and (k ∷ ks) h = let e : k.kind ≡ mark m.DotDot = cc in rw e refl
+
+dots_or : (ks : List Tok) → ahead ks ≡ Some (mark m.DotDot) → predict (chain_tail p.Or) ks ≡ becomes []
+dots_or [] h = refl
+dots_or (k ∷ ks) h = let e : k.kind ≡ mark m.DotDot = cc in rw e refl
+
+dots_comparison : (ks : List Tok) → ahead ks ≡ Some (mark m.DotDot) → predict comparison_tail ks ≡ becomes []
+dots_comparison [] h = refl
+dots_comparison (k ∷ ks) h = let e : k.kind ≡ mark m.DotDot = cc in rw e refl
+
+no_tails : (ks rest : List Tok) → ahead ks ≡ Some (mark m.DotDot) → Eats from_comparison ks rest → ks ≡ rest
+no_tails ks rest h (eats_rule {ls = l1} r1 (eats_rule {ls = l2} r2 (eats_rule {ls = l3} r3 e))) =
+    let s1 : ks ≡ l1 = skipped (became r1 (dots_comparison ks h)) in
+    let s2 : l1 ≡ l2 = skipped (became r2 (dots_and l1 (ap ahead (sym s1) ∙ h))) in
+    let s3 : l2 ≡ l3 = skipped (became r3 (dots_or l2 (ap ahead (sym (s1 ∙ s2)) ∙ h))) in
+    s1 ∙ s2 ∙ s3 ∙ skipped e
+
+no_tails_stuck : (ks : List Tok) (left : ℕ) → ahead ks ≡ Some (mark m.DotDot) → Sticks from_comparison ks left → ⊥
+no_tails_stuck ks left h (sticks_in_rule r) = stuck_nowhere (stuck_became r (dots_comparison ks h))
+no_tails_stuck ks left h (sticks_behind_rule {ls = l1} r1 (sticks_in_rule r)) =
+    let s1 : ks ≡ l1 = skipped (became r1 (dots_comparison ks h)) in stuck_nowhere (stuck_became r (dots_and l1 (ap ahead (sym s1) ∙ h)))
+no_tails_stuck ks left h (sticks_behind_rule {ls = l1} r1 (sticks_behind_rule {ls = l2} r2 (sticks_in_rule r))) =
+    let s1 : ks ≡ l1 = skipped (became r1 (dots_comparison ks h)) in
+    let s2 : l1 ≡ l2 = skipped (became r2 (dots_and l1 (ap ahead (sym s1) ∙ h))) in
+    stuck_nowhere (stuck_became r (dots_or l2 (ap ahead (sym (s1 ∙ s2)) ∙ h)))
+no_tails_stuck ks left h (sticks_behind_rule r1 (sticks_behind_rule r2 (sticks_behind_rule r3 e))) = stuck_nowhere e
+
+-- what a definition in a `for` makes of its sum and what follows
+by_range : (ks rest : List Tok) → ahead rest ≢ Some (mark m.DotDot) → Eats from_sum ks rest → Eats (rule (phrase p.Sum) ∷ rule range_rest ∷ []) ks rest
+by_range ks rest h (eats_rule {ls = mid} r e) = eats_rule r (eats_rule
+    (by_sight (sees (mark m.DotDot) mid)
+    (λ s. let d : ahead mid ≡ Some (mark m.DotDot) = seen_ahead (mark m.DotDot) mid s in absurd (h (ap ahead (sym (no_tails mid rest d e)) ∙ d)))
+    (λ s. eats_becomes {r = range_rest} {Ys = from_comparison} (rw s refl) e))
+    eats_none)
+
+by_range_stuck : (ks : List Tok) (left : ℕ) → Sticks from_sum ks left → Sticks (rule (phrase p.Sum) ∷ rule range_rest ∷ []) ks left
+by_range_stuck ks left (sticks_in_rule r) = sticks_in_rule r
+by_range_stuck ks left (sticks_behind_rule {ls = mid} r e) = sticks_behind_rule r (sticks_in_rule
+    (by_sight (sees (mark m.DotDot) mid)
+    (λ s. absurd (no_tails_stuck mid left (seen_ahead (mark m.DotDot) mid s) e))
+    (λ s. sticks_becomes {r = range_rest} {Ys = from_comparison} (rw s refl) e)))
+
+pub value_by_expr : (ks rest : List Tok) → ahead rest ≢ Some (mark m.DotDot) → EatsRule (phrase p.Expr) ks rest → EatsRule clause_value ks rest
+value_by_expr ks rest h e =
+    by_sight (sees (word w.If) ks)
+    (λ i. eats_becomes {r = clause_value} {Ys = rule an_if ∷ []} (rw i refl) (became e (rw i refl)))
+    (λ i. let o : Eats (rule (phrase p.Or) ∷ []) ks rest = became e (rw i refl) in
+    by_sight (sees (word w.Not) ks)
+    (λ n. eats_becomes {r = clause_value} {Ys = rule (phrase p.Or) ∷ []} (rw (i, n) refl) o)
+    (λ n. eats_becomes {r = clause_value} {Ys = rule (phrase p.Sum) ∷ rule range_rest ∷ []} (rw (i, n) refl)
+    (by_range ks rest h (onto from_sum [] (phrase p.Or) ks ks rest (λ ms f. let d = or_from_sum ks n in d.eats ms f) o))))
+
+pub value_stuck_by_expr : (ks : List Tok) (left : ℕ) → SticksRule (phrase p.Expr) ks left → SticksRule clause_value ks left
+value_stuck_by_expr ks left e =
+    by_sight (sees (word w.If) ks)
+    (λ i. sticks_becomes {r = clause_value} {Ys = rule an_if ∷ []} (rw i refl) (stuck_became e (rw i refl)))
+    (λ i. let o : Sticks (rule (phrase p.Or) ∷ []) ks left = stuck_became e (rw i refl) in
+    by_sight (sees (word w.Not) ks)
+    (λ n. sticks_becomes {r = clause_value} {Ys = rule (phrase p.Or) ∷ []} (rw (i, n) refl) o)
+    (λ n. sticks_becomes {r = clause_value} {Ys = rule (phrase p.Sum) ∷ rule range_rest ∷ []} (rw (i, n) refl)
+    (by_range_stuck ks left (stuck_onto from_sum [] (phrase p.Or) ks ks left (λ ms f. let d = or_from_sum ks n in d.eats ms f) (λ f. let d = or_from_sum ks n in d.sticks left f) o))))
