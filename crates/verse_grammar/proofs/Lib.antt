@@ -4,6 +4,7 @@ pub mod Eating
 pub mod Sticking
 pub mod Going
 pub mod ByExpr
+pub mod Values
 pub mod EatingItems
 pub mod StickingItems
 pub mod GoingItems
