@@ -5,6 +5,8 @@ pub mod Sticking
 pub mod Going
 pub mod ByExpr
 pub mod Values
+pub mod Ranks
+pub mod SpelledTypes
 pub mod EatingItems
 pub mod StickingItems
 pub mod GoingItems

@@ -267,9 +267,9 @@ abbrev pub field_by : List ℕ → Tok → List SpecTree → Val → List SpecTr
 field_by b k vs (v_tok n) ss f = field (record { number = 0; place = k.place; is_var = true; var_specs = vs; name = name_at b n; specs = ss; written = field_type f; default = field_default f })
 field_by b k vs _ ss f = no_member
 
-abbrev pub type_event : Option Written → Written
-type_event None = t.Written.bare_event
-type_event (Some u) = t.Written.event u
+abbrev pub event_value : Option Written → Written
+event_value None = t.Written.bare_event
+event_value (Some u) = t.Written.event u
 
 abbrev pub type_value : List ℕ → Option TypeStart → Tok → List Val → Written
 type_value b None k vs = t.Written.int
@@ -283,7 +283,7 @@ type_value b (Some type.Option) k vs = t.Written.option (as_type (v0 vs))
 type_value b (Some type.Bracket) k vs = as_type (v0 vs)
 type_value b (Some type.Tuple) k vs = as_type (v0 vs)
 type_value b (Some type.Task) k vs = t.Written.task (as_type (v1 vs))
-type_value b (Some type.Event) k vs = type_event (as_maybe_type (v0 vs))
+type_value b (Some type.Event) k vs = event_value (as_maybe_type (v0 vs))
 
 abbrev pub stmt_value : List ℕ → Option StmtStart → Tok → List Val → Tree
 stmt_value b None k vs = no_tree
