@@ -7,6 +7,8 @@ pub mod ByExpr
 pub mod Values
 pub mod Ranks
 pub mod SpelledTypes
+pub mod Firsts
+pub mod SpelledPrimary
 pub mod EatingItems
 pub mod StickingItems
 pub mod GoingItems

@@ -2,6 +2,7 @@
 use Rattle.std.proofs.Common.{◌≡◌, ◌≢◌, ℕ, ◌≤◌, ◌<◌, Bool, true, false, List, [], ◌∷◌, Option, Some, None, refl, ap, arith, ◌⊎◌, inl, inr}
 use Rattle.verse_lex.specs.declared.tokens.Word.{Word}
 use Rattle.verse_lex.specs.declared.tokens.Word.TheVariants as w
+use Rattle.verse_lex.specs.declared.tokens.Mark.{Mark}
 use Rattle.verse_lex.specs.declared.tokens.Mark.TheVariants as m
 use Rattle.verse_lex.specs.declared.tokens.TokenKind.TheVariants as token
 use Rattle.verse_layout.specs.declared.toks.TokKind.{TokKind}
@@ -241,3 +242,16 @@ not_that k o e h = absurd (cc)
 -- a type begins with none of the closing brackets
 pub type_no_close : (k : TokKind) (o : TypeStart) → type_start k ≡ Some o → (k ≢ mark m.SquareClose) × (k ≢ mark m.RoundClose)
 type_no_close k o h = (λ e. not_that k o (rw e refl) h, λ e. not_that k o (rw e refl) h)
+
+rise_word : (x : Word) → rise (tok.Plain (token.Word x)) ≤ 7
+rise_word w.True = omega arith
+rise_word _ = omega arith
+
+rise_mark : (x : Mark) → rise (tok.Plain (token.Mark x)) ≤ 7
+rise_mark m.Dot = omega arith
+rise_mark _ = omega arith
+
+pub rise_bound : (k : TokKind) → rise k ≤ 7
+rise_bound (tok.Plain (token.Word x)) = rise_word x
+rise_bound (tok.Plain (token.Mark x)) = rise_mark x
+rise_bound _ = omega arith
