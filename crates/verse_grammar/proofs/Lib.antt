@@ -9,6 +9,7 @@ pub mod Ranks
 pub mod SpelledTypes
 pub mod Firsts
 pub mod SpelledPrimary
+pub mod SpelledLevels
 pub mod EatingItems
 pub mod StickingItems
 pub mod GoingItems
