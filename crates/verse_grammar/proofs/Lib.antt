@@ -10,6 +10,7 @@ pub mod SpelledTypes
 pub mod Firsts
 pub mod SpelledPrimary
 pub mod SpelledLevels
+pub mod SpelledStmts
 pub mod EatingItems
 pub mod StickingItems
 pub mod GoingItems
