@@ -11,6 +11,7 @@ pub mod Firsts
 pub mod SpelledPrimary
 pub mod SpelledLevels
 pub mod SpelledStmts
+pub mod SpelledReads
 pub mod EatingItems
 pub mod StickingItems
 pub mod GoingItems
