@@ -12,6 +12,7 @@ pub mod SpelledPrimary
 pub mod SpelledLevels
 pub mod SpelledStmts
 pub mod SpelledReads
+pub mod SpelledItems
 pub mod EatingItems
 pub mod StickingItems
 pub mod GoingItems
