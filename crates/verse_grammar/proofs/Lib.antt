@@ -13,6 +13,7 @@ pub mod SpelledLevels
 pub mod SpelledStmts
 pub mod SpelledReads
 pub mod SpelledItems
+pub mod SpelledLaws
 pub mod EatingItems
 pub mod StickingItems
 pub mod GoingItems

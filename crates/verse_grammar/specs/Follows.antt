@@ -1,5 +1,5 @@
 -- What may stand behind a phrase, and what a phrase may begin with, by numbers.
-use Rattle.std.specs.Prelude.{ℕ, Option, Some, None}
+use Rattle.std.specs.Prelude.{ℕ, Bool, nat_le, Option, Some, None}
 use Rattle.verse_lex.specs.declared.tokens.Word.TheVariants as w
 use Rattle.verse_lex.specs.declared.tokens.Mark.TheVariants as m
 use Rattle.verse_lex.specs.declared.tokens.TokenKind.TheVariants as token
@@ -70,6 +70,10 @@ needs p.Pattern = 0
 needs p.Stmt = 9
 needs p.Part = 9
 needs p.Clause = 9
+
+-- this tok, or the end, may stand behind the phrase
+abbrev pub may_follow : Phrase → Option TokKind → Bool
+may_follow q k = nat_le (needs q) (rank_ahead k)
 
 -- what kind of phrase a tok begins: 0 a primary form, 7 none
 abbrev pub rise : TokKind → ℕ

@@ -9,3 +9,4 @@ pub mod Symbols
 pub mod Reading
 pub mod Loops
 pub mod Follows
+pub mod SpelledLaws
