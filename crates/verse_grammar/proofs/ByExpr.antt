@@ -1,17 +1,15 @@
 -- Statements and clauses that begin with a name and are expressions: what reads the expression reads them.
-use Rattle.std.proofs.Common.{◌≡◌, ◌≢◌, ℕ, Bool, true, false, List, [], ◌∷◌, ◌++◌, Option, Some, None, length, refl, sym, ap, subst, ◌∙◌, ◌⊎◌, inl, inr}
+use Rattle.std.proofs.Common.{◌≡◌, ◌≢◌, ℕ, Bool, true, false, List, [], ◌∷◌, ◌++◌, Some, refl, sym, ap, subst, ◌∙◌}
 use Rattle.verse_lex.specs.declared.tokens.Word.TheVariants as w
 use Rattle.verse_lex.specs.declared.tokens.Mark.TheVariants as m
 use Rattle.verse_layout.specs.declared.toks.TokKind.{TokKind}
-use Rattle.verse_layout.specs.declared.toks.TokKind.TheVariants as tok
 use Rattle.verse_layout.specs.declared.toks.Tok.{Tok}
 use Rattle.verse_grammar.specs.Toks.{word, mark, name, ahead}
-use Rattle.verse_grammar.specs.Codes.{sees, is_same}
-use Rattle.verse_grammar.specs.declared.phrases.Phrase.{Phrase}
+use Rattle.verse_grammar.specs.Codes.{sees}
 use Rattle.verse_grammar.specs.declared.phrases.Phrase.TheVariants as p
-use Rattle.verse_grammar.specs.Symbols.{Rule, Symbol, a, rule, Move, takes, becomes, refuses, predict, phrase, stmt_name, name_rest, postfix_tail, chain_tail, comparison_tail, clause_name, clause_value, range_rest, an_if}
+use Rattle.verse_grammar.specs.Symbols.{Rule, Symbol, rule, takes, becomes, predict, phrase, stmt_name, name_rest, postfix_tail, chain_tail, comparison_tail, clause_name, clause_value, range_rest, an_if}
 use Rattle.verse_grammar.specs.Reading.{Eats, EatsRule, Sticks, SticksRule, eats_none, eats_tok, eats_rule, eats_takes, eats_becomes, sticks_here, sticks_behind_tok, sticks_in_rule, sticks_behind_rule, sticks_refused, sticks_takes, sticks_becomes}
-use Rattle.verse_grammar.proofs.Sights.{seen, unseen, same_kind}
+use Rattle.verse_grammar.proofs.Sights.{unseen, same_kind}
 
 -- what a rule that becomes symbols reads, they read
 pub became : {r : Rule} {Ys : List Symbol} {ks rest : List Tok} → EatsRule r ks rest → predict r ks ≡ becomes Ys → Eats Ys ks rest
@@ -142,7 +140,7 @@ pub clause_stuck_by_expr : (k : Tok) (ks : List Tok) (left : ℕ) → k.kind ≡
     SticksRule (phrase p.Expr) (k ∷ ks) left → SticksRule (phrase p.Clause) (k ∷ ks) left
 clause_stuck_by_expr k ks left h i j l s = sticks_takes {r = phrase p.Clause} {Ys = rule clause_name ∷ []} (rw h refl) (sticks_in_rule (sticks_becomes (clause_name_other ks i j l) (named_expr_stuck k ks left h s)))
 
-by_sight : {P : Type 0} (x : Bool) → (x ≡ true → P) → (x ≡ false → P) → P
+pub by_sight : {P : Type 0} (x : Bool) → (x ≡ true → P) → (x ≡ false → P) → P
 by_sight true f g = f refl
 by_sight false f g = g refl
 

@@ -1,17 +1,13 @@
 -- What a phrase begins with.
-use Rattle.std.proofs.Common.{◌≡◌, ◌≢◌, ℕ, ◌≤◌, List, [], ◌∷◌, Option, Some, None, refl, ap, arith}
-use Rattle.verse_lex.specs.declared.tokens.Word.TheVariants as w
-use Rattle.verse_lex.specs.declared.tokens.Mark.TheVariants as m
+use Rattle.std.proofs.Common.{◌≡◌, ℕ, ◌≤◌, List, arith}
 use Rattle.verse_layout.specs.declared.toks.TokKind.{TokKind}
 use Rattle.verse_layout.specs.declared.toks.Tok.{Tok}
 use Rattle.verse_tree.specs.Tree.{Bytes, Tree}
-use Rattle.verse_grammar.specs.Toks.{word, mark, name, ahead}
-use Rattle.verse_grammar.specs.Starts.{primary_start}
+use Rattle.verse_grammar.specs.Toks.{ahead}
 use Rattle.verse_grammar.specs.Exprs.{Reads, Control, IsIf, Row, Closed, HoleRow, PairRow, GivenRow}
 use Rattle.verse_grammar.specs.Exprs as x
-use Rattle.verse_grammar.specs.Follows.{rank, rank_ahead, needs, rise, rise_ahead, top}
+use Rattle.verse_grammar.specs.Follows.{rise, rise_ahead, top}
 use Rattle.verse_grammar.specs.declared.phrases.Phrase.{Phrase}
-use Rattle.verse_grammar.specs.declared.phrases.Phrase.TheVariants as p
 use Rattle.verse_grammar.proofs.Ranks.{primary_rise, rise_bound}
 
 -- from the kind of the first tok

@@ -1,5 +1,5 @@
 -- What the numbers say of a tok.
-use Rattle.std.proofs.Common.{◌≡◌, ◌≢◌, ℕ, ◌≤◌, ◌<◌, Bool, true, false, List, [], ◌∷◌, Option, Some, None, refl, ap, arith, ◌⊎◌, inl, inr}
+use Rattle.std.proofs.Common.{◌≡◌, ◌≢◌, ℕ, ◌≤◌, ◌<◌, true, false, List, [], ◌∷◌, Option, Some, None, refl, ap, arith, ◌⊎◌, inl, inr}
 use Rattle.verse_lex.specs.declared.tokens.Word.{Word}
 use Rattle.verse_lex.specs.declared.tokens.Word.TheVariants as w
 use Rattle.verse_lex.specs.declared.tokens.Mark.{Mark}
@@ -11,17 +11,16 @@ use Rattle.verse_layout.specs.declared.toks.Tok.{Tok}
 use Rattle.verse_tree.specs.declared.exprs.Assign.{Assign}
 use Rattle.verse_tree.specs.declared.exprs.Comparison.{Comparison}
 use Rattle.verse_tree.specs.declared.exprs.Operator.{Operator}
-use Rattle.verse_grammar.specs.Toks.{word, mark, name, ahead}
+use Rattle.verse_grammar.specs.Toks.{mark, name, ahead}
 use Rattle.verse_grammar.specs.Starts.{type_start, primary_start, primary_word, postfix_start, stmt_start, comparison_at, assign_at, begins_expr, sum_operator, product_operator}
 use Rattle.verse_grammar.specs.Exprs.{chain_operator, operand}
 use Rattle.verse_grammar.specs.Symbols.{first_as, first_is}
-use Rattle.verse_grammar.specs.Follows.{rank, rank_ahead, needs, rise, rise_ahead, top}
+use Rattle.verse_grammar.specs.Follows.{rank, rank_ahead, needs, rise, rise_ahead}
 use Rattle.verse_grammar.specs.declared.phrases.Phrase.{Phrase}
 use Rattle.verse_grammar.specs.declared.phrases.Phrase.TheVariants as p
 use Rattle.verse_grammar.specs.declared.starts.PrimaryStart.{PrimaryStart}
 use Rattle.verse_grammar.specs.declared.starts.PostfixStart.{PostfixStart}
 use Rattle.verse_grammar.specs.declared.starts.TypeStart.{TypeStart}
-use Rattle.verse_grammar.specs.declared.starts.StmtStart.TheVariants as stmt
 
 pub postfix_rank : (k : TokKind) (o : PostfixStart) → postfix_start k ≡ Some o → 1 ≤ rank k
 postfix_rank (tok.Plain (token.Mark m.RoundOpen)) o h = omega arith
@@ -71,6 +70,9 @@ assign_rank (tok.Plain (token.Mark m.PlusEquals)) o h = omega arith
 assign_rank (tok.Plain (token.Mark m.MinusEquals)) o h = omega arith
 assign_rank (tok.Plain (token.Mark m.TimesEquals)) o h = omega arith
 assign_rank _ o h = absurd (cc)
+
+pub at_rank : (n : ℕ) (j k : TokKind) → j ≡ k → n ≤ rank k → n ≤ rank j
+at_rank n j k h l = rw h l
 
 -- a tok of another rank is none of a kind
 pub not_below : (n : ℕ) (o : Option TokKind) (k : TokKind) → n ≤ rank_ahead o → rank k < n → o ≢ Some k

@@ -1,5 +1,5 @@
 -- An item that is spelled is read, with what it stands for.
-use Rattle.std.proofs.Common.{◌≡◌, ◌≢◌, ℕ, ◌≤◌, ◌<◌, Bool, true, false, List, [], ◌∷◌, ◌++◌, Option, Some, None, refl, sym, ap, subst, arith, ◌∙◌, append_assoc, append-nil}
+use Rattle.std.proofs.Common.{◌≡◌, ◌≢◌, ℕ, ◌≤◌, true, false, List, [], ◌∷◌, ◌++◌, Option, Some, None, refl, sym, ap, arith, append_assoc, append-nil}
 use Rattle.verse_lex.specs.declared.tokens.Word.TheVariants as w
 use Rattle.verse_lex.specs.declared.tokens.Mark.TheVariants as m
 use Rattle.verse_layout.specs.declared.toks.TokKind.{TokKind}
@@ -11,21 +11,15 @@ use Rattle.verse_grammar.specs.Toks.{word, mark, name, name_at, ahead}
 use Rattle.verse_grammar.specs.Starts.{item_start}
 use Rattle.verse_grammar.specs.Items.{Specs, Dotted, Path, ValueRow, Values, Param, ParamRow, Params, FunRest, Fun, Default, Field, Member, MemberRow, Members, Parent, Item, ItemRow, Program}
 use Rattle.verse_grammar.specs.Items as x
-use Rattle.verse_grammar.specs.Follows.{rank, rank_ahead, needs}
+use Rattle.verse_grammar.specs.Follows.{rank_ahead}
 use Rattle.verse_grammar.specs.declared.phrases.Phrase.TheVariants as p
 use Rattle.verse_grammar.specs.declared.starts.ItemStart.TheVariants as item
-use Rattle.verse_grammar.specs.Symbols.{Rule, Symbol, a, rule, predict, becomes, phrase, a_type, program, items_tail, an_item, using_rest, dotted, dots_tail, path_tail, specs, item_rest, enum_or_class, enum_rest, values_until, values_tail, class_rest, parent, members_until, members_tail, member, member_rest, field_rest, default, fun_rest, params_until, param, params_tail}
+use Rattle.verse_grammar.specs.Symbols.{a, rule, predict, becomes, phrase, a_type, program, items_tail, an_item, using_rest, dotted, dots_tail, path_tail, specs, item_rest, enum_or_class, enum_rest, values_until, values_tail, class_rest, parent, members_until, members_tail, member, member_rest, field_rest, default, fun_rest, params_until, param, params_tail}
 use Rattle.verse_grammar.proofs.Sights.{seen, unseen}
-use Rattle.verse_grammar.proofs.Ranks.{not_below}
+use Rattle.verse_grammar.proofs.Ranks.{at_rank, not_below}
 use Rattle.verse_grammar.proofs.SpelledTypes.{revalued, spelled_type}
 use Rattle.verse_grammar.proofs.SpelledReads.{spelled}
-use Rattle.verse_grammar.proofs.Values.{Val, v_type, v_tree, v_maybe_tree, v_names, v_path, v_specs, v_maybe_name, v_items, v_item_named, v_field, v_members, v_member_named, v_fun, v_params, Gives, gives_none, gives_tok, gives_rule, gives_takes, gives_becomes}
-
-at_rank : (n : ℕ) (j k : TokKind) → j ≡ k → n ≤ rank k → n ≤ rank j
-at_rank n j k h l = rw h l
-
-differs : (o : Option TokKind) (j k : TokKind) → o ≡ Some j → j ≢ k → o ≢ Some k
-differs o j k h n e = let i : j ≡ k = cc in n i
+use Rattle.verse_grammar.proofs.Values.{v_type, v_tree, v_maybe_tree, v_names, v_path, v_specs, v_maybe_name, v_items, v_item_named, v_field, v_members, v_member_named, v_fun, v_params, Gives, gives_none, gives_tok, gives_rule, gives_takes, gives_becomes}
 
 -- specifiers
 specs_end : {b : List ℕ} {rest : List Tok} → ahead rest ≢ Some (mark m.Below) → Gives b specs rest (v_specs []) rest
@@ -72,10 +66,6 @@ path_more hs d g = gives_takes {r = path_tail} {Ys = rule dotted ∷ rule path_t
 using_one : {b : List ℕ} {o s c : Tok} {ks ls rest : List Tok} {ns : List Bytes} {path : List (List Bytes)} → o.kind ≡ tok.Open → s.kind ≡ mark m.Slash → Gives b dotted ks (v_names ns) ls → Gives b path_tail ls (v_path path) (c ∷ rest) → c.kind ≡ tok.Close →
     Gives b using_rest (o ∷ s ∷ ks) (v_path (ns ∷ path)) rest
 using_one ho hs d g hc = gives_becomes {r = using_rest} {Ys = a tok.Open ∷ a (mark m.Slash) ∷ rule dotted ∷ rule path_tail ∷ a tok.Close ∷ []} refl (gives_tok ho (gives_tok hs (gives_rule d (gives_rule g (gives_tok hc gives_none))))) refl
-
--- no dot stands behind a part of a path
-NoDot : List Tok → Type 0
-NoDot ls = ahead ls ≢ Some (mark m.Dot)
 
 slash_no_dot : {s : TokKind} → s ≡ mark m.Slash → Some s ≢ Some (mark m.Dot)
 slash_no_dot h e = absurd (cc)

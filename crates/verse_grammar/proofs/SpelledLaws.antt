@@ -1,17 +1,15 @@
 -- The laws of what is spelled.
-use Rattle.std.proofs.Common.{◌≡◌, ℕ, ◌≤◌, Bool, true, List, [], refl, ap, arith, nat_le}
+use Rattle.std.proofs.Common.{◌≡◌, ◌≤◌, true, List, refl, ap, arith}
 use Rattle.std.proofs.lemmas.Bool.{leb-true}
 use Rattle.verse_layout.specs.declared.toks.Tok.{Tok}
 use Rattle.verse_tree.specs.Tree.{Written, Tree}
 use Rattle.verse_tree.specs.ItemTree.{ItemTree}
 use Rattle.verse_grammar.specs.Toks.{ahead}
-use Rattle.verse_grammar.specs.Exprs.{Reads}
-use Rattle.verse_grammar.specs.Symbols.{phrase}
 use Rattle.verse_grammar.specs.Follows.{rank_ahead, needs, may_follow}
 use Rattle.verse_grammar.specs.SpelledLaws.{PhraseEaten, SpelledEaten, TypeEaten, ProgramEaten, OnePhrase, OneTree, OneType, OneProgram}
 use Rattle.verse_grammar.specs.declared.phrases.Phrase.{Phrase}
 use Rattle.verse_grammar.specs.declared.phrases.Phrase.TheVariants as p
-use Rattle.verse_grammar.proofs.Values.{Val, v_type, v_tree, v_items, as_type, as_tree, as_items, Gives, gives_eats, Same, same_value}
+use Rattle.verse_grammar.proofs.Values.{v_type, v_tree, v_items, as_type, as_tree, as_items, gives_eats, Same, same_value}
 use Rattle.verse_grammar.proofs.SpelledTypes.{spelled_type}
 use Rattle.verse_grammar.proofs.SpelledReads.{spelled}
 use Rattle.verse_grammar.proofs.SpelledItems.{spelled_program}

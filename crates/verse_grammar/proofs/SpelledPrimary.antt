@@ -1,35 +1,23 @@
 -- What each primary form reads, with its value.
-use Rattle.std.proofs.Common.{◌≡◌, ◌≢◌, ℕ, ℤ, ◌≤◌, Bool, true, false, List, [], ◌∷◌, ◌++◌, Option, Some, None, refl, sym, ap, subst, arith, ◌∙◌, ◌⊎◌, inl, inr}
-use Rattle.verse_lex.specs.declared.tokens.Word.TheVariants as w
+use Rattle.std.proofs.Common.{◌≡◌, ◌≢◌, ℕ, ℤ, List, [], ◌∷◌, Option, Some, refl, ap}
 use Rattle.verse_lex.specs.declared.tokens.Mark.TheVariants as m
-use Rattle.verse_lex.specs.declared.tokens.TokenKind.TheVariants as token
-use Rattle.verse_layout.specs.declared.toks.TokKind.{TokKind}
 use Rattle.verse_layout.specs.declared.toks.TokKind.TheVariants as tok
 use Rattle.verse_layout.specs.declared.toks.Tok.{Tok}
 use Rattle.verse_tree.specs.Tree.{Bytes, Written, Tree, Shape}
 use Rattle.verse_tree.specs.Tree as t
 use Rattle.verse_tree.specs.View.{trees, holes, pairs, givens}
-use Rattle.verse_tree.specs.declared.exprs.Assign.{Assign}
-use Rattle.verse_tree.specs.declared.exprs.Comparison.{Comparison}
-use Rattle.verse_tree.specs.declared.exprs.Operator.{Operator}
-use Rattle.verse_grammar.specs.Toks.{word, mark, name, name_at, text_at, ahead}
-use Rattle.verse_grammar.specs.Codes.{sees}
-use Rattle.verse_grammar.specs.Starts.{primary_start, postfix_start, stmt_start, pattern_start, comparison_at, assign_at, duration_at, int_at, begins_expr}
-use Rattle.verse_grammar.specs.Exprs.{at, event_at, chain_operator, operand}
-use Rattle.verse_grammar.specs.Follows.{rank, rank_ahead, needs, rise, rise_ahead, top}
-use Rattle.verse_grammar.specs.declared.phrases.Phrase.{Phrase}
+use Rattle.verse_grammar.specs.Toks.{mark, name, name_at, text_at, ahead}
+use Rattle.verse_grammar.specs.Starts.{primary_start, pattern_start, duration_at, int_at}
+use Rattle.verse_grammar.specs.Exprs.{at, event_at}
 use Rattle.verse_grammar.specs.declared.phrases.Phrase.TheVariants as p
 use Rattle.verse_grammar.specs.declared.starts.Duration.TheVariants as duration
 use Rattle.verse_grammar.specs.declared.starts.PrimaryStart.TheVariants as primary
-use Rattle.verse_grammar.specs.declared.starts.PostfixStart.TheVariants as postfix
-use Rattle.verse_grammar.specs.declared.starts.StmtStart.TheVariants as stmt
 use Rattle.verse_grammar.specs.declared.starts.PatternStart.TheVariants as pattern
 use Rattle.verse_grammar.specs.Symbols.{Rule, Symbol, a, rule, predict, takes, becomes, first_as, first_is, a_type, bracket_type, stmt_name, typed_value, set_rest, assign, return_value, an_if, taken, otherwise, comparison_tail, postfix_tail, hole_rest, name_rest, givens_until, given, givens_tail, round_rest, pairs_until, pair, pairs_tail, clauses, case_rest, generator_rest, entries_rest, clause_name, clause_value, range_rest, an_int, phrase, chain_tail, row_tail, closed, until}
 use Rattle.verse_grammar.specs.Symbols as rules
-use Rattle.verse_grammar.proofs.Sights.{seen, unseen}
-use Rattle.verse_grammar.proofs.Ranks.{no_postfix, no_chain, no_comparison, no_expr, an_expr, not_below, not_above, a_name_or}
+use Rattle.verse_grammar.proofs.Sights.{unseen}
 use Rattle.verse_grammar.proofs.SpelledTypes.{revalued}
-use Rattle.verse_grammar.proofs.Values.{Val, v_tok, v_type, v_maybe_type, v_typed, v_tree, v_trees, v_maybe_tree, v_shape, v_after, v_named, v_holes, v_givens, v_pairs, v_more, v_assign, v_clause, v_int, Gives, GivesAll, gives_none, gives_tok, gives_rule, gives_takes, gives_becomes}
+use Rattle.verse_grammar.proofs.Values.{v_maybe_type, v_tree, v_trees, v_holes, v_givens, v_pairs, Gives, gives_none, gives_tok, gives_rule, gives_takes, gives_becomes}
 
 pub case_integer : {b : List ℕ} {k : Tok} {rest : List Tok} {n : ℤ} → primary_start k.kind ≡ Some (primary.Int n) → Gives b (phrase p.Primary) (k ∷ rest) (v_tree (at k (t.Shape.integer n))) rest
 case_integer h = gives_takes {r = phrase p.Primary} {Ys = []} (rw h refl) (gives_none) (rw h refl)

@@ -1,38 +1,30 @@
 -- What statements, clauses and arms read, with their values.
-use Rattle.std.proofs.Common.{◌≡◌, ◌≢◌, ℕ, ℤ, ◌≤◌, Bool, true, false, List, [], ◌∷◌, ◌++◌, Option, Some, None, refl, sym, ap, subst, arith, ◌∙◌, ◌⊎◌, inl, inr}
+use Rattle.std.proofs.Common.{◌≡◌, ◌≢◌, ℕ, ◌≤◌, true, false, List, [], ◌∷◌, Option, Some, None, refl, sym, ap, subst, arith, ◌∙◌, ◌⊎◌, inl, inr}
 use Rattle.verse_lex.specs.declared.tokens.Word.TheVariants as w
 use Rattle.verse_lex.specs.declared.tokens.Mark.TheVariants as m
-use Rattle.verse_lex.specs.declared.tokens.TokenKind.TheVariants as token
 use Rattle.verse_layout.specs.declared.toks.TokKind.{TokKind}
 use Rattle.verse_layout.specs.declared.toks.TokKind.TheVariants as tok
 use Rattle.verse_layout.specs.declared.toks.Tok.{Tok}
 use Rattle.verse_tree.specs.Tree.{Bytes, Written, Tree, Shape}
 use Rattle.verse_tree.specs.Tree as t
-use Rattle.verse_tree.specs.View.{trees, holes, pairs, givens}
 use Rattle.verse_tree.specs.declared.exprs.Assign.{Assign}
-use Rattle.verse_tree.specs.declared.exprs.Comparison.{Comparison}
-use Rattle.verse_tree.specs.declared.exprs.Operator.{Operator}
-use Rattle.verse_grammar.specs.Toks.{word, mark, name, name_at, text_at, ahead}
+use Rattle.verse_grammar.specs.Toks.{word, mark, name, name_at, ahead}
 use Rattle.verse_grammar.specs.Codes.{sees}
-use Rattle.verse_grammar.specs.Starts.{primary_start, postfix_start, stmt_start, pattern_start, comparison_at, assign_at, duration_at, int_at, begins_expr}
-use Rattle.verse_grammar.specs.Exprs.{at, event_at, chain_operator, operand}
-use Rattle.verse_grammar.specs.Follows.{rank, rank_ahead, needs, rise, rise_ahead, top}
+use Rattle.verse_grammar.specs.Starts.{primary_start, stmt_start, assign_at, begins_expr}
+use Rattle.verse_grammar.specs.Exprs.{at}
+use Rattle.verse_grammar.specs.Follows.{rank, rank_ahead, needs, rise_ahead}
 use Rattle.verse_grammar.specs.declared.phrases.Phrase.{Phrase}
 use Rattle.verse_grammar.specs.declared.phrases.Phrase.TheVariants as p
-use Rattle.verse_grammar.specs.declared.starts.Duration.TheVariants as duration
 use Rattle.verse_grammar.specs.declared.starts.PrimaryStart.TheVariants as primary
-use Rattle.verse_grammar.specs.declared.starts.PostfixStart.TheVariants as postfix
 use Rattle.verse_grammar.specs.declared.starts.StmtStart.TheVariants as stmt
-use Rattle.verse_grammar.specs.declared.starts.PatternStart.TheVariants as pattern
-use Rattle.verse_grammar.specs.Symbols.{Rule, Symbol, a, rule, predict, takes, becomes, first_as, first_is, a_type, bracket_type, stmt_name, typed_value, set_rest, assign, return_value, an_if, taken, otherwise, comparison_tail, postfix_tail, hole_rest, name_rest, givens_until, given, givens_tail, round_rest, pairs_until, pair, pairs_tail, clauses, case_rest, generator_rest, entries_rest, clause_name, clause_value, range_rest, an_int, phrase, chain_tail, row_tail, closed, until}
-use Rattle.verse_grammar.specs.Symbols as rules
-use Rattle.verse_grammar.proofs.Sights.{seen, unseen}
+use Rattle.verse_grammar.specs.Symbols.{Rule, Symbol, a, rule, predict, takes, becomes, first_is, a_type, stmt_name, typed_value, set_rest, assign, return_value, an_if, comparison_tail, postfix_tail, name_rest, generator_rest, entries_rest, clause_name, clause_value, range_rest, phrase, chain_tail}
+use Rattle.verse_grammar.proofs.Sights.{unseen}
 use Rattle.verse_grammar.proofs.Ranks.{no_postfix, no_chain, no_comparison, no_expr, an_expr, not_below, not_above, a_name_or}
 use Rattle.verse_grammar.specs.Reading.{Eats, EatsRule, eats_none, eats_rule}
-use Rattle.verse_grammar.proofs.ByExpr.{from_name, from_sum, from_comparison, became, named_expr}
+use Rattle.verse_grammar.proofs.ByExpr.{by_sight, from_name, from_comparison, became, named_expr}
 use Rattle.verse_grammar.proofs.SpelledLevels.{seen_first}
 use Rattle.verse_grammar.proofs.SpelledTypes.{revalued}
-use Rattle.verse_grammar.proofs.Values.{Val, v_tok, v_type, v_maybe_type, v_typed, v_tree, v_trees, v_maybe_tree, v_shape, v_after, v_named, v_holes, v_givens, v_pairs, v_more, v_assign, v_clause, v_int, by_name, act_takes, act_becomes, as_tree, as_after, as_named, as_clause, Gives, GivesAll, gives_eats, gives_none, gives_tok, gives_rule, gives_takes, gives_becomes}
+use Rattle.verse_grammar.proofs.Values.{Val, v_type, v_typed, v_tree, v_shape, v_named, v_clause, by_name, act_takes, act_becomes, as_tree, as_after, as_named, Gives, GivesAll, gives_eats, gives_none, gives_tok, gives_rule, gives_takes, gives_becomes}
 
 -- inversions
 record One (b : List ℕ) (q : Rule) (ks : List Tok) (f : Val → Val) (v : Val) (rest : List Tok) : Type 0 where
@@ -69,6 +61,51 @@ took_one q (gives_becomes h g e) i = absurd (cc)
 took_one {b = b} {r = r} q {k = k} {ks = ks} {rest = rest} (gives_takes {Ys = Ys} {vs = vs} h g e) i =
     let s : Ys ≡ rule q ∷ [] = cc in one_of (act_takes b r k) (subst (λ (Xs : List Symbol). GivesAll b Xs ks vs rest) s g) e
 
+-- a tree, and what is made of it from the left
+abbrev folded : List Val → Tree → Tree
+folded [] e = e
+folded (c ∷ cs) e = folded cs (as_after c e)
+
+-- what a rule reads, down to the rule with which it begins: these symbols stand behind that
+record Falls (b : List ℕ) (q : Rule) (ks : List Tok) (Xs : List Symbol) (v : Val) (rest : List Tok) : Type 0 where
+  first : Val
+  others : List Val
+  mid : List Tok
+  gives_first : Gives b q ks first mid
+  gives_others : GivesAll b Xs mid others rest
+  same : folded others (as_tree first) ≡ as_tree v
+
+falls_here : {b : List ℕ} {q : Rule} {ks rest : List Tok} {v : Val} → Gives b q ks v rest → Falls b q ks [] v rest
+falls_here {rest = rest} {v = v} g = record { first = v; others = []; mid = rest; gives_first = g; gives_others = gives_none; same = refl }
+
+falls_one : {b : List ℕ} {r : Rule} (q : Rule) {ks rest : List Tok} {Xs : List Symbol} {v : Val} → Falls b r ks Xs v rest → predict r ks ≡ becomes (rule q ∷ []) → ((x : Val) → as_tree (act_becomes b r ks (x ∷ [])) ≡ as_tree x) →
+    Falls b q ks Xs v rest
+falls_one q f h e =
+    let d = became_one q f.gives_first h in
+    record { first = d.part; others = f.others; mid = f.mid; gives_first = d.gives; gives_others = f.gives_others; same = ap (folded f.others) (sym (e d.part) ∙ ap as_tree d.same) ∙ f.same }
+
+falls_two : {b : List ℕ} {r : Rule} (q s : Rule) {ks rest : List Tok} {Xs : List Symbol} {v : Val} → Falls b r ks Xs v rest → predict r ks ≡ becomes (rule q ∷ rule s ∷ []) →
+    ((x y : Val) → as_tree (act_becomes b r ks (x ∷ y ∷ [])) ≡ as_after y (as_tree x)) → Falls b q ks (rule s ∷ Xs) v rest
+falls_two q s f h e =
+    let d = became_two q s f.gives_first h in
+    record {
+      first = d.first;
+      others = d.second ∷ f.others;
+      mid = d.mid;
+      gives_first = d.gives_first;
+      gives_others = gives_rule d.gives_second f.gives_others;
+      same = ap (folded f.others) (sym (e d.first d.second) ∙ ap as_tree d.same) ∙ f.same;
+    }
+
+-- from the first sum on
+falls_to_sum : {b : List ℕ} {ks rest : List Tok} {v : Val} → sees (word w.Not) ks ≡ false → Falls b (phrase p.Or) ks [] v rest → Falls b (phrase p.Sum) ks from_comparison v rest
+falls_to_sum n f =
+    falls_two (phrase p.Sum) comparison_tail
+    (falls_one (phrase p.Comparison)
+    (falls_two (phrase p.Not) (chain_tail p.And) (falls_two (phrase p.And) (chain_tail p.Or) f refl (λ x y. refl)) refl (λ x y. refl))
+    (rw n refl) (λ x. refl))
+    refl (λ x y. refl)
+
 -- an expression from its first sum on
 record FromSum (b : List ℕ) (ks : List Tok) (v : Val) (rest : List Tok) : Type 0 where
   sum : Val
@@ -84,26 +121,12 @@ record FromSum (b : List ℕ) (ks : List Tok) (v : Val) (rest : List Tok) : Type
   gives3 : Gives b (chain_tail p.Or) m3 c3 rest
   same : as_after c3 (as_after c2 (as_after c1 (as_tree sum))) ≡ as_tree v
 
+sum_parts : {b : List ℕ} {ks m1 rest : List Tok} {x v : Val} {cs : List Val} → Gives b (phrase p.Sum) ks x m1 → GivesAll b from_comparison m1 cs rest → folded cs (as_tree x) ≡ as_tree v → FromSum b ks v rest
+sum_parts {m1 = m1} {x = x} g (gives_rule {ls = m2} {v = c1} r1 (gives_rule {ls = m3} {v = c2} r2 (gives_rule {v = c3} r3 gives_none))) h =
+    record { sum = x; c1 = c1; c2 = c2; c3 = c3; m1 = m1; m2 = m2; m3 = m3; gives_sum = g; gives1 = r1; gives2 = r2; gives3 = r3; same = h }
+
 from_the_sum : {b : List ℕ} {ks rest : List Tok} {v : Val} → sees (word w.Not) ks ≡ false → Gives b (phrase p.Or) ks v rest → FromSum b ks v rest
-from_the_sum {ks = ks} n g =
-    let d1 = became_two (phrase p.And) (chain_tail p.Or) g refl in
-    let d2 = became_two (phrase p.Not) (chain_tail p.And) d1.gives_first refl in
-    let d3 = became_one (phrase p.Comparison) d2.gives_first (rw n refl) in
-    let d4 = became_two (phrase p.Sum) comparison_tail d3.gives refl in
-    record {
-      sum = d4.first;
-      c1 = d4.second;
-      c2 = d2.second;
-      c3 = d1.second;
-      m1 = d4.mid;
-      m2 = d2.mid;
-      m3 = d1.mid;
-      gives_sum = d4.gives_first;
-      gives1 = d4.gives_second;
-      gives2 = d2.gives_second;
-      gives3 = d1.gives_second;
-      same = ap (λ x. as_after d1.second (as_after d2.second x)) (ap as_tree d4.same ∙ ap as_tree d3.same) ∙ ap (λ x. as_after d1.second x) (ap as_tree d2.same) ∙ ap as_tree d1.same;
-    }
+from_the_sum n g = let f = falls_to_sum n (falls_here g) in sum_parts f.gives_first f.gives_others f.same
 
 -- an expression from the tok behind the name with which it begins
 record FromName (b : List ℕ) (k : Tok) (ks : List Tok) (v : Val) (rest : List Tok) : Type 0 where
@@ -120,25 +143,32 @@ stmt_act b k f e h q = rw h (ap v_tree q)
 clause_act : (b : List ℕ) (k : Tok) (f : Tok → Tree) (e : Tree) → stmt_start k.kind ≡ Some stmt.Name → f k ≡ e → act_takes b (phrase p.Clause) k (v_named f ∷ []) ≡ v_tree e
 clause_act b k f e h q = rw h (ap v_tree q)
 
-from_the_name : {b : List ℕ} {k : Tok} {ks rest : List Tok} {v : Val} → k.kind ≡ name → Gives b (phrase p.Expr) (k ∷ ks) v rest → FromName b k ks v rest
-from_the_name {b = b} {k = k} h g =
-    let d0 = became_one (phrase p.Or) g (rw h refl) in
-    let s = from_the_sum (rw h refl) d0.gives in
-    let d1 = became_two (phrase p.Product) (chain_tail p.Sum) s.gives_sum refl in
-    let d2 = became_two (phrase p.Minus) (chain_tail p.Product) d1.gives_first refl in
-    let d3 = became_one (phrase p.Postfix) d2.gives_first (rw h refl) in
-    let d4 = became_two (phrase p.Primary) postfix_tail d3.gives refl in
-    let d5 = took_one name_rest d4.gives_first (rw h refl) in
-    let e5 : as_named d5.part k ≡ as_tree d4.first = name_act b k d5.part d4.first (ap primary_start h) d5.same in
+falls_to_primary : {b : List ℕ} {k : Tok} {ks rest : List Tok} {v : Val} → k.kind ≡ name → Falls b (phrase p.Or) (k ∷ ks) [] v rest →
+    Falls b (phrase p.Primary) (k ∷ ks) (rule postfix_tail ∷ rule (chain_tail p.Product) ∷ rule (chain_tail p.Sum) ∷ from_comparison) v rest
+falls_to_primary h f =
+    falls_two (phrase p.Primary) postfix_tail
+    (falls_one (phrase p.Postfix)
+    (falls_two (phrase p.Minus) (chain_tail p.Product) (falls_two (phrase p.Product) (chain_tail p.Sum) (falls_to_sum (rw h refl) f) refl (λ x y. refl)) refl (λ x y. refl))
+    (rw h refl) (λ x. refl))
+    refl (λ x y. refl)
+
+name_folded : {b : List ℕ} {mid rest : List Tok} {cs : List Val} (n : Val) (k : Tok) → GivesAll b (rule postfix_tail ∷ rule (chain_tail p.Product) ∷ rule (chain_tail p.Sum) ∷ from_comparison) mid cs rest → by_name (n ∷ cs) k ≡ folded cs (as_named n k)
+name_folded n k (gives_rule r1 (gives_rule r2 (gives_rule r3 (gives_rule r4 (gives_rule r5 (gives_rule r6 gives_none)))))) = refl
+
+name_parts : {b : List ℕ} {k : Tok} {ks rest : List Tok} {v : Val} → k.kind ≡ name → Falls b (phrase p.Primary) (k ∷ ks) (rule postfix_tail ∷ rule (chain_tail p.Product) ∷ rule (chain_tail p.Sum) ∷ from_comparison) v rest → FromName b k ks v rest
+name_parts {b = b} {k = k} h f =
+    let d = took_one name_rest f.gives_first (rw h refl) in
     record {
-      values = d5.part ∷ d4.second ∷ d2.second ∷ d1.second ∷ s.c1 ∷ s.c2 ∷ s.c3 ∷ [];
-      gives = gives_rule d5.gives (gives_rule d4.gives_second (gives_rule d2.gives_second (gives_rule d1.gives_second (gives_rule s.gives1 (gives_rule s.gives2 (gives_rule s.gives3 gives_none))))));
-      same = ap (λ x. as_after s.c3 (as_after s.c2 (as_after s.c1 (as_after d1.second (as_after d2.second (as_after d4.second x)))))) e5
-          ∙ ap (λ x. as_after s.c3 (as_after s.c2 (as_after s.c1 (as_after d1.second (as_after d2.second x))))) (ap as_tree d4.same ∙ ap as_tree d3.same)
-          ∙ ap (λ x. as_after s.c3 (as_after s.c2 (as_after s.c1 (as_after d1.second x)))) (ap as_tree d2.same)
-          ∙ ap (λ x. as_after s.c3 (as_after s.c2 (as_after s.c1 x))) (ap as_tree d1.same)
-          ∙ s.same ∙ ap as_tree d0.same;
+      values = d.part ∷ f.others;
+      gives = gives_rule d.gives f.gives_others;
+      same = name_folded d.part k f.gives_others ∙ ap (folded f.others) (name_act b k d.part f.first (ap primary_start h) d.same) ∙ f.same;
     }
+
+expr_or : {b : List ℕ} {k : Tok} {ks rest : List Tok} {v : Val} → k.kind ≡ name → Falls b (phrase p.Expr) (k ∷ ks) [] v rest → Falls b (phrase p.Or) (k ∷ ks) [] v rest
+expr_or h f = falls_one (phrase p.Or) f (rw h refl) (λ x. refl)
+
+from_the_name : {b : List ℕ} {k : Tok} {ks rest : List Tok} {v : Val} → k.kind ≡ name → Gives b (phrase p.Expr) (k ∷ ks) v rest → FromName b k ks v rest
+from_the_name h g = name_parts h (falls_to_primary h (expr_or h (falls_here g)))
 
 nothing_eaten : {ks ls : List Tok} → Eats [] ks ls → ks ≡ ls
 nothing_eaten eats_none = refl
@@ -335,10 +365,6 @@ case_range {b = b} {ks = ks} {e = e} {f = f} h ho i d hd g = record {
 }
 
 -- a definition as a clause
-by_sight : {P : Type 0} (x : Bool) → (x ≡ true → P) → (x ≡ false → P) → P
-by_sight true f g = f refl
-by_sight false f g = g refl
-
 -- where dots stand behind the first sum, the expression ends there
 dots_end : {b : List ℕ} {mid rest : List Tok} {c1 c2 c3 : Val} {m2 m3 : List Tok} → 8 ≤ rank_ahead (ahead mid) → Gives b comparison_tail mid c1 m2 → Gives b (chain_tail p.And) m2 c2 m3 → Gives b (chain_tail p.Or) m3 c3 rest → mid ≡ rest
 dots_end {mid = l4} {rest = l7} {m2 = l5} {m3 = l6} h4 r5 r6 r7 =

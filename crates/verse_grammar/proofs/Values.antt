@@ -1,5 +1,5 @@
 -- Predictive reading with values: what each rule makes of the values of its parts, and that the toks settle it.
-use Rattle.std.proofs.Common.{◌≡◌, ℕ, ℤ, pos, Bool, true, false, if◌then◌else◌, List, [], ◌∷◌, ◌++◌, Option, Some, None, refl, sym, ap, subst, ◌∙◌}
+use Rattle.std.proofs.Common.{◌≡◌, ℕ, ℤ, pos, true, false, if◌then◌else◌, List, [], ◌∷◌, ◌++◌, Option, Some, None, refl, sym, ap, subst, ◌∙◌}
 use Rattle.verse_lex.specs.declared.tokens.Word.TheVariants as w
 use Rattle.verse_lex.specs.declared.tokens.Mark.TheVariants as m
 use Rattle.verse_layout.specs.declared.toks.TokKind.{TokKind}
@@ -12,14 +12,11 @@ use Rattle.verse_tree.specs.View.{writtens, trees, holes, pairs, givens}
 use Rattle.verse_tree.specs.declared.exprs.Assign.{Assign}
 use Rattle.verse_tree.specs.declared.exprs.Assign.TheVariants as assigns
 use Rattle.verse_tree.specs.declared.exprs.Comparison.{Comparison}
-use Rattle.verse_tree.specs.declared.exprs.Comparison.TheVariants as comparison
 use Rattle.verse_tree.specs.declared.exprs.Operator.{Operator}
-use Rattle.verse_tree.specs.declared.exprs.Operator.TheVariants as operator
 use Rattle.verse_grammar.specs.Toks.{word, mark, name_at, text_at}
 use Rattle.verse_grammar.specs.Codes.{sees, is_same}
 use Rattle.verse_grammar.specs.Starts.{type_start, primary_start, postfix_start, stmt_start, pattern_start, item_start, comparison_at, assign_at, duration_at, int_at, begins_expr}
 use Rattle.verse_grammar.specs.Exprs.{at, event_at, chain_operator}
-use Rattle.verse_grammar.specs.declared.phrases.Phrase.{Phrase}
 use Rattle.verse_grammar.specs.declared.phrases.Phrase.TheVariants as p
 use Rattle.verse_grammar.specs.declared.starts.Duration.{Duration}
 use Rattle.verse_grammar.specs.declared.starts.Duration.TheVariants as durations
@@ -35,7 +32,7 @@ use Rattle.verse_grammar.specs.declared.starts.PatternStart.{PatternStart}
 use Rattle.verse_grammar.specs.declared.starts.PatternStart.TheVariants as pattern
 use Rattle.verse_grammar.specs.declared.starts.ItemStart.{ItemStart}
 use Rattle.verse_grammar.specs.declared.starts.ItemStart.TheVariants as item
-use Rattle.verse_grammar.specs.Symbols.{Rule, Symbol, a, rule, Move, takes, becomes, refuses, predict, first_is, a_type, bracket_rest, tuple_rest, types, types_tail, bracket_type, bracket_type_rest, stmt_name, typed_value, set_rest, assign, return_value, an_if, taken, otherwise, comparison_tail, postfix_tail, hole_rest, name_rest, givens_until, given, givens_tail, round_rest, pairs_until, pair, pairs_tail, clauses, case_rest, duration, generator_rest, entries_rest, clause_name, clause_value, range_rest, an_int, program, items_tail, an_item, using_rest, dotted, dots_tail, path_tail, specs, item_rest, enum_or_class, enum_rest, values_until, values_tail, class_rest, parent, members_until, members_tail, member, member_rest, field_rest, default, fun_rest, params_until, param, params_tail, phrase, chain_tail, row_tail, closed, until}
+use Rattle.verse_grammar.specs.Symbols.{Rule, Symbol, a, rule, Move, takes, becomes, predict, first_is, a_type, bracket_rest, tuple_rest, types, types_tail, bracket_type, bracket_type_rest, stmt_name, typed_value, set_rest, assign, return_value, an_if, taken, otherwise, comparison_tail, postfix_tail, hole_rest, name_rest, givens_until, given, givens_tail, round_rest, pairs_until, pair, pairs_tail, clauses, case_rest, duration, generator_rest, entries_rest, clause_name, clause_value, range_rest, an_int, program, items_tail, an_item, using_rest, dotted, dots_tail, path_tail, specs, item_rest, enum_or_class, enum_rest, values_until, values_tail, class_rest, parent, members_until, members_tail, member, member_rest, field_rest, default, fun_rest, params_until, param, params_tail, phrase, chain_tail, row_tail, closed, until}
 use Rattle.verse_grammar.specs.Reading.{Eats, EatsRule, eats_none, eats_tok, eats_rule, eats_takes, eats_becomes}
 
 -- what a rule stands for; where a rule ends what another began, a function of that
