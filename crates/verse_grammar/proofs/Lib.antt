@@ -4,10 +4,10 @@ pub mod Eating
 pub mod Sticking
 pub mod Going
 pub mod ByExpr
-pub mod Values
-pub mod Ranks
+pub mod SpelledValues
+pub mod SpelledRanks
 pub mod SpelledTypes
-pub mod Firsts
+pub mod SpelledFirsts
 pub mod SpelledPrimary
 pub mod SpelledLevels
 pub mod SpelledStmts

@@ -16,10 +16,10 @@ use Rattle.verse_grammar.specs.declared.phrases.Phrase.TheVariants as p
 use Rattle.verse_grammar.specs.declared.starts.ItemStart.TheVariants as item
 use Rattle.verse_grammar.specs.Symbols.{a, rule, predict, becomes, phrase, a_type, program, items_tail, an_item, using_rest, dotted, dots_tail, path_tail, specs, item_rest, enum_or_class, enum_rest, values_until, values_tail, class_rest, parent, members_until, members_tail, member, member_rest, field_rest, default, fun_rest, params_until, param, params_tail}
 use Rattle.verse_grammar.proofs.Sights.{seen, unseen}
-use Rattle.verse_grammar.proofs.Ranks.{at_rank, not_below}
+use Rattle.verse_grammar.proofs.SpelledRanks.{at_rank, not_below}
 use Rattle.verse_grammar.proofs.SpelledTypes.{revalued, spelled_type}
 use Rattle.verse_grammar.proofs.SpelledReads.{spelled}
-use Rattle.verse_grammar.proofs.Values.{v_type, v_tree, v_maybe_tree, v_names, v_path, v_specs, v_maybe_name, v_items, v_item_named, v_field, v_members, v_member_named, v_fun, v_params, Gives, gives_none, gives_tok, gives_rule, gives_takes, gives_becomes}
+use Rattle.verse_grammar.proofs.SpelledValues.{v_type, v_tree, v_maybe_tree, v_names, v_path, v_specs, v_maybe_name, v_items, v_item_named, v_field, v_members, v_member_named, v_fun, v_params, Gives, gives_none, gives_tok, gives_rule, gives_takes, gives_becomes}
 
 -- specifiers
 specs_end : {b : List ℕ} {rest : List Tok} → ahead rest ≢ Some (mark m.Below) → Gives b specs rest (v_specs []) rest

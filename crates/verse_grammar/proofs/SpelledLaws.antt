@@ -9,7 +9,7 @@ use Rattle.verse_grammar.specs.Follows.{rank_ahead, needs, may_follow}
 use Rattle.verse_grammar.specs.SpelledLaws.{PhraseEaten, SpelledEaten, TypeEaten, ProgramEaten, OnePhrase, OneTree, OneType, OneProgram}
 use Rattle.verse_grammar.specs.declared.phrases.Phrase.{Phrase}
 use Rattle.verse_grammar.specs.declared.phrases.Phrase.TheVariants as p
-use Rattle.verse_grammar.proofs.Values.{v_type, v_tree, v_items, as_type, as_tree, as_items, gives_eats, Same, same_value}
+use Rattle.verse_grammar.proofs.SpelledValues.{v_type, v_tree, v_items, as_type, as_tree, as_items, gives_eats, Same, same_value}
 use Rattle.verse_grammar.proofs.SpelledTypes.{spelled_type}
 use Rattle.verse_grammar.proofs.SpelledReads.{spelled}
 use Rattle.verse_grammar.proofs.SpelledItems.{spelled_program}

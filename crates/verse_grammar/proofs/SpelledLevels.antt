@@ -21,8 +21,8 @@ use Rattle.verse_grammar.specs.declared.phrases.Phrase.TheVariants as p
 use Rattle.verse_grammar.specs.declared.starts.PostfixStart.TheVariants as postfix
 use Rattle.verse_grammar.specs.Symbols.{a, rule, an_if, taken, otherwise, comparison_tail, postfix_tail, hole_rest, givens_until, given, givens_tail, pairs_until, pair, pairs_tail, clauses, phrase, chain_tail, row_tail, closed, until}
 use Rattle.verse_grammar.proofs.Sights.{seen, unseen}
-use Rattle.verse_grammar.proofs.Ranks.{no_postfix, no_chain, no_comparison}
-use Rattle.verse_grammar.proofs.Values.{v_tree, v_trees, v_after, v_holes, v_givens, v_pairs, Gives, gives_none, gives_tok, gives_rule, gives_takes, gives_becomes}
+use Rattle.verse_grammar.proofs.SpelledRanks.{no_postfix, no_chain, no_comparison}
+use Rattle.verse_grammar.proofs.SpelledValues.{v_tree, v_trees, v_after, v_holes, v_givens, v_pairs, Gives, gives_none, gives_tok, gives_rule, gives_takes, gives_becomes}
 
 pub seen_first : (kind : TokKind) (ks : List Tok) → ahead ks ≡ Some kind → sees kind ks ≡ true
 seen_first kind [] h = absurd (cc)

@@ -17,7 +17,7 @@ use Rattle.verse_grammar.specs.Symbols.{Rule, Symbol, a, rule, predict, takes, b
 use Rattle.verse_grammar.specs.Symbols as rules
 use Rattle.verse_grammar.proofs.Sights.{unseen}
 use Rattle.verse_grammar.proofs.SpelledTypes.{revalued}
-use Rattle.verse_grammar.proofs.Values.{v_maybe_type, v_tree, v_trees, v_holes, v_givens, v_pairs, Gives, gives_none, gives_tok, gives_rule, gives_takes, gives_becomes}
+use Rattle.verse_grammar.proofs.SpelledValues.{v_maybe_type, v_tree, v_trees, v_holes, v_givens, v_pairs, Gives, gives_none, gives_tok, gives_rule, gives_takes, gives_becomes}
 
 pub case_integer : {b : List ℕ} {k : Tok} {rest : List Tok} {n : ℤ} → primary_start k.kind ≡ Some (primary.Int n) → Gives b (phrase p.Primary) (k ∷ rest) (v_tree (at k (t.Shape.integer n))) rest
 case_integer h = gives_takes {r = phrase p.Primary} {Ys = []} (rw h refl) (gives_none) (rw h refl)

@@ -15,9 +15,9 @@ use Rattle.verse_grammar.specs.Follows.{rank, rank_ahead, needs, rise, top}
 use Rattle.verse_grammar.specs.declared.phrases.Phrase.{Phrase}
 use Rattle.verse_grammar.specs.declared.phrases.Phrase.TheVariants as p
 use Rattle.verse_grammar.specs.Symbols.{typed_value, an_if, taken, postfix_tail, hole_rest, givens_until, givens_tail, pairs_until, pairs_tail, clauses, phrase, chain_tail, row_tail, closed, until}
-use Rattle.verse_grammar.proofs.Ranks.{at_rank, postfix_rank, chain_rank, comparison_rank, assign_rank, not_below, not_above}
-use Rattle.verse_grammar.proofs.Firsts.{opens, closed_opens, pair_row_opens, given_row_opens}
-use Rattle.verse_grammar.proofs.Values.{v_typed, v_tree, v_trees, v_after, v_holes, v_givens, v_pairs, Gives}
+use Rattle.verse_grammar.proofs.SpelledRanks.{at_rank, postfix_rank, chain_rank, comparison_rank, assign_rank, not_below, not_above}
+use Rattle.verse_grammar.proofs.SpelledFirsts.{opens, closed_opens, pair_row_opens, given_row_opens}
+use Rattle.verse_grammar.proofs.SpelledValues.{v_typed, v_tree, v_trees, v_after, v_holes, v_givens, v_pairs, Gives}
 use Rattle.verse_grammar.proofs.SpelledPrimary.{case_integer, case_character, case_text, case_truth, case_falsehood, case_this, case_array, case_mapping, case_option, case_logic, case_event, case_each, case_turns, case_scope, case_branch, case_sync, case_race, case_rush, case_spawn, case_text_holes, case_name_alone, case_instance, case_brackets, case_tuple, case_cases, case_sleep, case_sleep_forever, case_integer_pattern, case_character_pattern, case_text_pattern, case_truth_pattern, case_falsehood_pattern, case_any_pattern, case_enum_pattern, case_minus_pattern}
 use Rattle.verse_grammar.proofs.SpelledLevels.{case_block, case_part_defer, case_part_stmt, case_body_block, case_body_expr, case_expr_if, case_expr_or, case_or_chain, case_and_chain, case_sum_chain, case_product_chain, case_postfix_chain, case_not_word, case_not_comparison, case_minus_mark, case_minus_postfix, case_comparison_sum, case_comparison_two, case_chain_end, case_chain_more, case_postfix_end, case_postfix_call, case_postfix_index, case_postfix_member, case_postfix_query, case_row_end, case_row_more, case_closed, case_until_none, case_until_some, case_clauses, case_hole_end, case_hole_more, case_pair, case_pairs_end, case_pairs_more, case_no_pairs, case_some_pairs, case_given, case_givens_end, case_givens_more, case_no_givens, case_some_givens, case_taken_then, case_taken_block, case_choice_alone, case_choice, ChainGives, PostfixGives, RowGives, ClausesGive, HolesGive, PairsGive, GivensGive}
 use Rattle.verse_grammar.proofs.SpelledStmts.{case_expr, case_stmt_definition, case_typed_value, case_stmt_typed, case_stmt_variable, case_assignment, case_returned, case_returned_unit, case_left_loop, case_elements, case_entries, case_range, case_clause_definition, case_arm, ControlGives}

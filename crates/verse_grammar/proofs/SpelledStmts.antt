@@ -19,12 +19,12 @@ use Rattle.verse_grammar.specs.declared.starts.PrimaryStart.TheVariants as prima
 use Rattle.verse_grammar.specs.declared.starts.StmtStart.TheVariants as stmt
 use Rattle.verse_grammar.specs.Symbols.{Rule, Symbol, a, rule, predict, takes, becomes, first_is, a_type, stmt_name, typed_value, set_rest, assign, return_value, an_if, comparison_tail, postfix_tail, name_rest, generator_rest, entries_rest, clause_name, clause_value, range_rest, phrase, chain_tail}
 use Rattle.verse_grammar.proofs.Sights.{unseen}
-use Rattle.verse_grammar.proofs.Ranks.{no_postfix, no_chain, no_comparison, no_expr, an_expr, not_below, not_above, a_name_or}
+use Rattle.verse_grammar.proofs.SpelledRanks.{no_postfix, no_chain, no_comparison, no_expr, an_expr, not_below, not_above, a_name_or}
 use Rattle.verse_grammar.specs.Reading.{Eats, EatsRule, eats_none, eats_rule}
 use Rattle.verse_grammar.proofs.ByExpr.{by_sight, from_name, from_comparison, became, named_expr}
 use Rattle.verse_grammar.proofs.SpelledLevels.{seen_first}
 use Rattle.verse_grammar.proofs.SpelledTypes.{revalued}
-use Rattle.verse_grammar.proofs.Values.{Val, v_type, v_typed, v_tree, v_shape, v_named, v_clause, by_name, act_takes, act_becomes, as_tree, as_after, as_named, Gives, GivesAll, gives_eats, gives_none, gives_tok, gives_rule, gives_takes, gives_becomes}
+use Rattle.verse_grammar.proofs.SpelledValues.{Val, v_type, v_typed, v_tree, v_shape, v_named, v_clause, by_name, act_takes, act_becomes, as_tree, as_after, as_named, Gives, GivesAll, gives_eats, gives_none, gives_tok, gives_rule, gives_takes, gives_becomes}
 
 -- inversions
 record One (b : List ℕ) (q : Rule) (ks : List Tok) (f : Val → Val) (v : Val) (rest : List Tok) : Type 0 where

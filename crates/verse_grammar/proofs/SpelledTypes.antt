@@ -14,8 +14,8 @@ use Rattle.verse_grammar.specs.Exprs.{BracketType}
 use Rattle.verse_grammar.specs.Exprs as x
 use Rattle.verse_grammar.specs.Symbols.{Rule, a, rule, a_type, bracket_rest, tuple_rest, types, types_tail, bracket_type, bracket_type_rest}
 use Rattle.verse_grammar.proofs.Sights.{unseen}
-use Rattle.verse_grammar.proofs.Ranks.{type_no_close}
-use Rattle.verse_grammar.proofs.Values.{Val, v_type, v_types, v_maybe_type, event_value, Gives, gives_none, gives_tok, gives_rule, gives_takes, gives_becomes}
+use Rattle.verse_grammar.proofs.SpelledRanks.{type_no_close}
+use Rattle.verse_grammar.proofs.SpelledValues.{Val, v_type, v_types, v_maybe_type, event_value, Gives, gives_none, gives_tok, gives_rule, gives_takes, gives_becomes}
 
 pub revalued : {b : List ℕ} {r : Rule} {ks rest : List Tok} {v u : Val} → v ≡ u → Gives b r ks v rest → Gives b r ks u rest
 revalued {b = b} {r = r} {ks = ks} {rest = rest} h g = subst (λ (x : Val). Gives b r ks x rest) h g

@@ -8,7 +8,7 @@ use Rattle.verse_grammar.specs.Exprs.{Reads, Control, IsIf, Row, Closed, HoleRow
 use Rattle.verse_grammar.specs.Exprs as x
 use Rattle.verse_grammar.specs.Follows.{rise, rise_ahead, top}
 use Rattle.verse_grammar.specs.declared.phrases.Phrase.{Phrase}
-use Rattle.verse_grammar.proofs.Ranks.{primary_rise, rise_bound}
+use Rattle.verse_grammar.proofs.SpelledRanks.{primary_rise, rise_bound}
 
 -- from the kind of the first tok
 by_kind : (n : ℕ) (j k : TokKind) → j ≡ k → rise k ≤ n → rise j ≤ n
