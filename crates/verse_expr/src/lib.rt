@@ -1,0 +1,4 @@
+//! Reads types and expressions from toks.
+#![tactic(auto)]
+
+mod stops;

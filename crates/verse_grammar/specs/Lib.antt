@@ -1,0 +1,12 @@
+pub mod Toks
+pub mod Starts
+pub mod Types
+pub mod Exprs
+pub mod Items
+pub mod Begins
+pub mod Codes
+pub mod Symbols
+pub mod Reading
+pub mod Loops
+pub mod Follows
+pub mod SpelledLaws

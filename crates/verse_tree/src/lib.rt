@@ -1,0 +1,10 @@
+//! Syntax trees: what the grammar makes of a program, with a node for each of its parts.
+//!
+//! To be read in this order: `names`, spelled names and texts; `types`, written types; `exprs`,
+//! blocks, statements and expressions; `items`, what a file defines.
+#![tactic(auto)]
+
+pub mod exprs;
+pub mod items;
+pub mod names;
+pub mod types;
