@@ -6,3 +6,4 @@ pub mod Going
 pub mod EatingItems
 pub mod StickingItems
 pub mod GoingItems
+pub mod Local

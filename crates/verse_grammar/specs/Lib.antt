@@ -8,3 +8,4 @@ pub mod Codes
 pub mod Symbols
 pub mod Reading
 pub mod Loops
+pub mod BeginsLaws

@@ -4,5 +4,6 @@
 //! a phrase says of it; `laws`.
 #![tactic(auto)]
 
+pub mod laws_begins;
 pub mod phrases;
 pub mod starts;
