@@ -7,3 +7,9 @@ pub mod EatingItems
 pub mod StickingItems
 pub mod GoingItems
 pub mod Local
+pub mod CompletingMeanings
+pub mod CompletingTypes
+pub mod CompletingExprs
+pub mod CompletingItems
+pub mod Completing
+pub mod CompletingStops

@@ -1,12 +1,12 @@
 -- Predictive reading is a function of the toks, and looks one tok ahead only.
-use Rattle.std.proofs.Common.{◌≡◌, ◌≢◌, ℕ, ◌+◌, ◌<◌, ◌≤◌, List, [], ◌∷◌, ◌++◌, Option, Some, None, length, take, map, refl, sym, ap, subst, ◌∙◌, arith}
+use Rattle.std.proofs.Common.{◌≡◌, ◌≢◌, ℕ, ◌+◌, ◌≤◌, List, [], ◌∷◌, Some, None, length, refl, sym, ap, subst, ◌∙◌, arith}
 use Rattle.verse_layout.specs.declared.toks.TokKind.{TokKind}
 use Rattle.verse_layout.specs.declared.toks.Tok.{Tok}
 use Rattle.verse_grammar.specs.Toks.{ahead}
 use Rattle.verse_grammar.specs.declared.phrases.Phrase.TheVariants as p
 use Rattle.verse_grammar.specs.Symbols.{Rule, Symbol, Move, a, rule, predict, takes, becomes, refuses, a_type, bracket_rest, tuple_rest, types, types_tail, bracket_type, bracket_type_rest, stmt_name, typed_value, set_rest, assign, return_value, an_if, taken, otherwise, comparison_tail, postfix_tail, hole_rest, name_rest, givens_until, given, givens_tail, round_rest, pairs_until, pair, pairs_tail, clauses, case_rest, duration, generator_rest, entries_rest, clause_name, clause_value, range_rest, an_int, program, items_tail, an_item, using_rest, dotted, dots_tail, path_tail, specs, item_rest, enum_or_class, enum_rest, values_until, values_tail, class_rest, parent, members_until, members_tail, member, member_rest, field_rest, default, fun_rest, params_until, param, params_tail, phrase, chain_tail, row_tail, closed, until}
 use Rattle.verse_grammar.specs.Reading.{Eats, eats_none, eats_tok, eats_rule, EatsRule, eats_takes, eats_becomes, Sticks, sticks_here, sticks_behind_tok, sticks_in_rule, sticks_behind_rule, SticksRule, sticks_refused, sticks_takes, sticks_becomes}
-use Rattle.verse_grammar.specs.BeginsLaws.{Agree, agree_last, agree_more, SticksAt, OneReading, LooksAhead, ReadsOneWay, ReadsLocally}
+use Rattle.verse_grammar.specs.BeginsLaws.{Agree, agree_last, agree_more, SticksAt, ReadsOneWay, ReadsLocally}
 
 -- what a rule does depends on the kind of the first tok alone
 same_move : (r : Rule) (k l : Tok) (ks ls : List Tok) → k.kind ≡ l.kind → predict r (k ∷ ks) ≡ predict r (l ∷ ls)
@@ -216,7 +216,7 @@ mutual
   eats_within (eats_tok e x) = let i = eats_within x in omega arith
   eats_within (eats_rule d x) = let i = rule_within d in let j = eats_within x in omega arith
 
-  rule_within : {r : Rule} {ks rest : List Tok} → EatsRule r ks rest → length rest ≤ length ks
+  pub rule_within : {r : Rule} {ks rest : List Tok} → EatsRule r ks rest → length rest ≤ length ks
   rule_within (eats_takes e x) = let i = eats_within x in omega arith
   rule_within (eats_becomes e x) = eats_within x
 

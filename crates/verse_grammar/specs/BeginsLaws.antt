@@ -1,9 +1,11 @@
 -- Laws of predictive reading. It is a function of the toks that looks one tok ahead; what it reads before it sticks begins a whole.
-use Rattle.std.specs.Prelude.{◌≡◌, ℕ, ◌+◌, List, [], ◌∷◌, length}
+use Rattle.std.specs.Prelude.{◌≡◌, ℕ, ◌+◌, ◌-◌, List, [], ◌∷◌, length, take}
 use Rattle.verse_layout.specs.declared.toks.Tok.{Tok}
 use Rattle.verse_grammar.specs.Toks.{ahead}
 use Rattle.verse_grammar.specs.Symbols.{Rule}
 use Rattle.verse_grammar.specs.Reading.{EatsRule, SticksRule}
+use Rattle.verse_grammar.specs.Begins.{Whole, IsWhole, Begins, Stops}
+use Rattle.verse_grammar.specs.Wholes.{rule_of}
 
 -- two lists of toks look alike until so many toks are left in the first, and at the next tok or the end
 pub data Agree (left : ℕ) : List Tok → List Tok → Type 0 where
@@ -33,3 +35,19 @@ ReadsOneWay = (r : Rule) (ks : List Tok) → OneReading r ks
 
 abbrev pub ReadsLocally : Type 0
 ReadsLocally = (r : Rule) (ks : List Tok) → LooksAhead r ks
+
+-- what the rule of a whole reads before it sticks begins such a whole
+abbrev pub StuckBegins : Type 0
+StuckBegins = (whole : Whole) (ks : List Tok) (left : ℕ) → SticksRule (rule_of whole) ks left → Begins whole (take (length ks - left) ks)
+
+-- what it reads is one
+abbrev pub EatenIsWhole : Type 0
+EatenIsWhole = (whole : Whole) (ks rest : List Tok) → EatsRule (rule_of whole) ks rest → IsWhole whole (take (length ks - length rest) ks)
+
+-- where every such whole is read to its end by its rule, a rule that sticks or leaves toks stops where it should
+abbrev pub StuckStops : Type 0
+StuckStops = (whole : Whole) (ks : List Tok) (left : ℕ) → ((ls : List Tok) → IsWhole whole ls → EatsRule (rule_of whole) ls []) → SticksRule (rule_of whole) ks left → Stops whole ks (length ks - left)
+
+abbrev pub LeftStops : Type 0
+LeftStops = (whole : Whole) (k : Tok) (ks rest : List Tok) → ((ls : List Tok) → IsWhole whole ls → EatsRule (rule_of whole) ls []) → EatsRule (rule_of whole) ks (k ∷ rest) →
+    Stops whole ks (length ks - length (k ∷ rest))

@@ -8,4 +8,5 @@ pub mod Codes
 pub mod Symbols
 pub mod Reading
 pub mod Loops
+pub mod Wholes
 pub mod BeginsLaws

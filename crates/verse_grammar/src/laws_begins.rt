@@ -1,6 +1,6 @@
 //! Laws of predictive reading.
 
-ghost use Rattle.verse_grammar.specs.BeginsLaws.{ReadsLocally, ReadsOneWay};
+ghost use Rattle.verse_grammar.specs.BeginsLaws.{EatenIsWhole, LeftStops, ReadsLocally, ReadsOneWay, StuckBegins, StuckStops};
 
 /// A rule reads given toks in at most one way, and does not both read them and stick.
 pub fn reads_one_way()
@@ -10,4 +10,26 @@ pub fn reads_one_way()
 /// A rule looks no further than at the tok on which it sticks, or which it leaves.
 pub fn reads_locally()
     ensures { ReadsLocally }
+{}
+
+/// What the rule of a whole reads before it sticks begins such a whole.
+pub fn stuck_begins()
+    ensures { StuckBegins }
+{}
+
+/// What the rule of a whole reads is such a whole.
+pub fn eaten_is_whole()
+    ensures { EatenIsWhole }
+{}
+
+/// Where every whole is read to its end, a rule that sticks stops at the first tok with which no
+/// whole goes on.
+pub fn stuck_stops()
+    ensures { StuckStops }
+{}
+
+/// Where every whole is read to its end, a rule that leaves toks stops at the first tok with which
+/// no whole goes on.
+pub fn left_stops()
+    ensures { LeftStops }
 {}
