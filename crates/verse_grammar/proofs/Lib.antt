@@ -17,3 +17,10 @@ pub mod SpelledLaws
 pub mod EatingItems
 pub mod StickingItems
 pub mod GoingItems
+pub mod Local
+pub mod CompletingMeanings
+pub mod CompletingTypes
+pub mod CompletingExprs
+pub mod CompletingItems
+pub mod Completing
+pub mod CompletingStops

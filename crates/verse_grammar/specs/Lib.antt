@@ -10,3 +10,5 @@ pub mod Reading
 pub mod Loops
 pub mod Follows
 pub mod SpelledLaws
+pub mod Wholes
+pub mod BeginsLaws
