@@ -1,1 +1,4 @@
 pub mod Taking
+pub mod TypeRows
+pub mod Suffixes
+pub mod Ends

@@ -1,10 +1,13 @@
-//! Reads types, blocks and expressions from toks.
+//! Reads written types from toks; blocks and expressions are to come.
 //!
-//! To be read in this order: `stops`, how readers go over toks; `spans`; `types`; `nesting`, how
-//! what is nested is read.
+//! To be read in this order: `stops`, how readers go over toks; `spans`, what their spans hold;
+//! `types`; `faults`; `reads`, what the crate is called for.
 #![tactic(auto)]
 
-mod levels;
-mod nesting;
+pub mod faults;
+mod reads;
 pub mod spans;
 pub mod stops;
+pub mod types;
+
+pub use reads::ty;

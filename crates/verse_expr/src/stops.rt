@@ -1,6 +1,6 @@
 //! How readers go over toks, and why they stop.
 
-ghost use Rattle.std.specs.Prelude.{◌≡◌, ◌≢◌, ◌∷◌, [], ℕ, Some, MatchOption, IfOk, length};
+ghost use Rattle.std.specs.Prelude.{◌≡◌, ◌≢◌, ◌≤◌, ◌∷◌, [], ℕ, Some, MatchOption, IfOk, length, drop};
 ghost use Rattle.std.specs.Result.{IsErrOf};
 ghost use Rattle.verse_grammar.specs.Toks.{ahead};
 ghost use Rattle.verse_grammar.specs.Starts.{kind_of};
@@ -76,4 +76,12 @@ pub fn expect(toks: &[Tok], what: Fixed) -> Result<(Tok, &[Tok]), Stop>
         Some(taken) => Ok(taken),
         None => Err(Stop::At(toks.len())),
     }
+}
+
+/// The toks from an index on.
+pub fn behind(toks: &[Tok], at: usize) -> &[Tok]
+    requires { at ≤ length toks.now }
+    ensures { result.now ≡ drop at toks.now }
+{
+    &toks[at..]
 }
