@@ -1,10 +1,13 @@
 //! Syntax trees: what the grammar makes of a program, with a node for each of its parts.
 //!
 //! To be read in this order: `names`, spelled names and texts; `types`, written types; `exprs`,
-//! blocks, statements and expressions; `items`, what a file defines.
+//! blocks, statements and expressions; `items`, what a file defines; `tables`, what names stand
+//! for and which types nodes have; `programs`, all three together.
 #![tactic(auto)]
 
 pub mod exprs;
 pub mod items;
 pub mod names;
+pub mod programs;
+pub mod tables;
 pub mod types;
