@@ -2,12 +2,16 @@
 //!
 //! To be read in this order: `names`, spelled names and texts; `types`, written types; `exprs`,
 //! blocks, statements and expressions; `items`, what a file defines; `tables`, what names stand
-//! for and which types nodes have; `programs`, all three together.
+//! for and which types nodes have; `programs`, all three together; `laws`, what numbering means;
+//! `type_numbering`, the numbers of the names in types, over `turning`.
 #![tactic(auto)]
 
 pub mod exprs;
 pub mod items;
+pub mod laws;
 pub mod names;
 pub mod programs;
 pub mod tables;
+mod turning;
+mod type_numbering;
 pub mod types;
