@@ -1,3 +1,4 @@
 pub mod Waiting
 pub mod Lists
 pub mod Order
+pub mod Leaves

@@ -6,3 +6,4 @@ pub mod ItemView
 pub mod Numbering
 pub mod PartNumbering
 pub mod Numbers
+pub mod Sizes
