@@ -1,0 +1,4 @@
+pub mod Waiting
+pub mod Lists
+pub mod Order
+pub mod Leaves
