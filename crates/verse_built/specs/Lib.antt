@@ -1,0 +1,4 @@
+pub mod Nodes
+pub mod MapView
+pub mod Built
+pub mod Texts
