@@ -8,6 +8,8 @@ pub mod faults;
 mod reads;
 pub mod spans;
 pub mod stops;
+#[cfg(test)]
+mod tests;
 pub mod types;
 
 pub use reads::ty;
