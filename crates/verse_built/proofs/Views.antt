@@ -2,7 +2,7 @@
 use Rattle.std.proofs.Common.{◌≡◌, map, option_map, rules}
 use Rattle.verse_tree.specs.Tree.{tree}
 use Rattle.verse_tree.specs.View.{written_of, tree_of, shape_of, two_of, typed_of, choice_of, applied_of, each_of, cases_of, hole_of, pair_of, given_of}
-use Rattle.verse_built.specs.MapView.{map_of}
+use Rattle.verse_tree.specs.TypeView.{map_of}
 use Rattle.verse_tree.specs.declared.types.MapTy.{MapTy}
 use Rattle.verse_tree.specs.declared.exprs.Two.{Two, out-Two}
 use Rattle.verse_tree.specs.declared.exprs.Typed.{Typed, out-Typed}

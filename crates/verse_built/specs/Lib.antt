@@ -1,4 +1,3 @@
 pub mod Nodes
-pub mod MapView
 pub mod Built
 pub mod Texts

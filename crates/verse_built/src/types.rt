@@ -2,7 +2,7 @@
 
 ghost use Rattle.std.specs.Prelude.{◌≡◌, ◌++◌, map};
 ghost use Rattle.verse_tree.specs.View.{written_of, writtens};
-ghost use Rattle.verse_built.specs.MapView.{map_of};
+ghost use Rattle.verse_tree.specs.TypeView.{map_of};
 ghost use Rattle.verse_built.specs.Nodes.{written_nodes, writtens_nodes};
 ghost use Rattle.verse_built.specs.Built.{first_unbuilt};
 

@@ -5,7 +5,7 @@ ghost use Rattle.verse_tree.specs.Tree.{named};
 ghost use Rattle.verse_tree.specs.Tree as t;
 ghost use Rattle.std.specs.Option.{option_map};
 ghost use Rattle.verse_tree.specs.View.{written_of, writtens, event_written};
-ghost use Rattle.verse_nodes.specs.Types.{map_types_of};
+ghost use Rattle.verse_tree.specs.TypeView as types;
 
 use sqlite_items::{Boxed, Items};
 use std::alloc::Global;
@@ -110,7 +110,7 @@ pub fn map_of(alloc: Global, key: TyExpr, value: TyExpr) -> Result<TyExpr, Memor
 }
 
 fn map_types(alloc: Global, key: TyExpr, value: TyExpr) -> Result<MapTy, Memory>
-    ensures { IfOk result (λ r. map_types_of r ≡ (written_of key, written_of value)) }
+    ensures { IfOk result (λ r. types.map_of r ≡ (written_of key, written_of value)) }
 {
     Ok(MapTy {
         key: Boxed::new(alloc, key)?,

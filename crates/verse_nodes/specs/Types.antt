@@ -1,7 +1,0 @@
--- What the parts of a map's type stand for.
-use Rattle.verse_tree.specs.Tree.{Written}
-use Rattle.verse_tree.specs.View.{written_step, map_written}
-use Rattle.verse_tree.specs.declared.types.MapTy.{MapTy, fold-MapTy}
-
-abbrev pub map_types_of : MapTy → Written × Written
-map_types_of = fold-MapTy Written (Written × Written) written_step map_written
