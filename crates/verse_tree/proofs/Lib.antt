@@ -1,4 +1,3 @@
-pub mod Waiting
 pub mod Lists
 pub mod Order
 pub mod Leaves

@@ -3,8 +3,7 @@
 //! To be read in this order: `names`, spelled names and texts; `types`, written types; `exprs`,
 //! blocks, statements and expressions; `items`, what a file defines; `tables`, what names stand
 //! for and which types nodes have; `programs`, all three together; `laws`, what numbering means;
-//! `type_numbering`, the numbers of the names in types, over `turning`; `sizes`, the size of a
-//! program, over `instance_fields`.
+//! `sizes`, the size of a program, over `instance_fields`.
 #![tactic(auto)]
 
 pub mod exprs;
@@ -15,6 +14,4 @@ pub mod names;
 pub mod programs;
 pub mod sizes;
 pub mod tables;
-mod turning;
-mod type_numbering;
 pub mod types;

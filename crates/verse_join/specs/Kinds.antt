@@ -1,0 +1,41 @@
+-- Which shape a kind has with its parts.
+use Rattle.verse_tree.specs.Tree.{Tree, Trees, Shape}
+use Rattle.verse_tree.specs.Tree as t
+use Rattle.verse_join.specs.declared.kinds.AppliedKind.{AppliedKind}
+use Rattle.verse_join.specs.declared.kinds.AppliedKind.TheVariants as applied
+use Rattle.verse_join.specs.declared.kinds.ListKind.{ListKind}
+use Rattle.verse_join.specs.declared.kinds.ListKind.TheVariants as list
+use Rattle.verse_join.specs.declared.kinds.PartKind.{PartKind}
+use Rattle.verse_join.specs.declared.kinds.PartKind.TheVariants as part
+use Rattle.verse_join.specs.declared.kinds.TwoKind.{TwoKind}
+use Rattle.verse_join.specs.declared.kinds.TwoKind.TheVariants as two
+
+abbrev pub list_shape : ListKind → Trees → Shape
+list_shape list.Block ts = t.Shape.block ts
+list_shape list.Tuple ts = t.Shape.tuple ts
+list_shape list.Array ts = t.Shape.array ts
+list_shape list.Option ts = t.Shape.option ts
+list_shape list.Logic ts = t.Shape.logic ts
+list_shape list.Sync ts = t.Shape.sync ts
+list_shape list.Race ts = t.Shape.race ts
+list_shape list.Rush ts = t.Shape.rush ts
+
+abbrev pub part_shape : PartKind → Tree → Shape
+part_shape part.Defer a = t.Shape.defer a
+part_shape part.Not a = t.Shape.negation a
+part_shape part.Neg a = t.Shape.minus a
+part_shape part.Query a = t.Shape.query a
+part_shape part.Loop a = t.Shape.turns a
+part_shape part.Scope a = t.Shape.scope a
+part_shape part.Branch a = t.Shape.branch a
+part_shape part.Spawn a = t.Shape.spawn a
+
+abbrev pub two_shape : TwoKind → Tree → Tree → Shape
+two_shape (two.Set how) a b = t.Shape.assignment how a b
+two_shape (two.Chain operator) a b = t.Shape.chained operator a b
+two_shape (two.Compare operator) a b = t.Shape.compared operator a b
+two_shape two.Arm a b = t.Shape.arm a b
+
+abbrev pub applied_shape : AppliedKind → Tree → Trees → Shape
+applied_shape applied.Call a ts = t.Shape.call a ts
+applied_shape applied.Index a ts = t.Shape.index a ts
