@@ -1,4 +1,6 @@
-pub mod Taking
-pub mod TypeRows
-pub mod Suffixes
 pub mod Ends
+pub mod Suffixes
+pub mod Indices
+pub mod AtOnce
+pub mod Plain
+pub mod Cuts

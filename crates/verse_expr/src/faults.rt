@@ -1,13 +1,16 @@
 //! Why toks are no phrase.
 
-ghost use Rattle.std.specs.Prelude.{◌≡◌, ◌≤◌, length, drop};
+ghost use Rattle.std.specs.Prelude.{◌≡◌, ◌≤◌, ◌-◌, ℕ, length, drop};
+ghost use Rattle.verse_base.specs.declared.refusals.Rule.{Rule};
 ghost use Rattle.verse_grammar.specs.Toks.{ahead};
+ghost use Rattle.verse_reading.specs.declared.stops.Stop.TheVariants as stop;
 ghost use Rattle.verse_expr.specs.Faults.{stop_rule};
+ghost use Rattle.verse_expr.specs.declared.faults.ParseFault.TheVariants as fault;
 
-use crate::stops::next;
 use verse_base::refusals::Rule;
 use verse_layout::toks::{Tok, TokKind};
 use verse_lex::tokens::TokenKind;
+use verse_reading::stops::{Stop, next};
 
 /// Why there is no tree.
 #[derive(Clone, Copy, Debug, PartialEq, Eq)]
@@ -15,6 +18,24 @@ pub enum ParseFault {
     Memory,
     /// With the tok of this index, or at the end, nothing goes on.
     At { index: usize, rule: Rule },
+}
+
+/// The fault of toks of which a reader left some: with the first of those, or the end, nothing goes on.
+pub fn fault_of(toks: &[Tok], why: Stop) -> ParseFault
+    requires within { (left : ℕ) → why ≡ stop.At left → left ≤ length toks.now }
+    ensures left { (index : ℕ) (rule : Rule) → result ≡ fault.At index rule → why ≡ stop.At (length toks.now - index) }
+    ensures within { (index : ℕ) (rule : Rule) → result ≡ fault.At index rule → index ≤ length toks.now }
+    ensures rule { (index : ℕ) (rule : Rule) → result ≡ fault.At index rule → rule.0 ≡ stop_rule (ahead (drop index toks.now)) }
+    ensures memory { result ≡ fault.Memory → why ≡ stop.Memory }
+{
+    match why {
+        Stop::Memory => ParseFault::Memory,
+        Stop::At(left) => {
+            let index = toks.len() - left;
+            let rule = stop_rule(toks, index);
+            ParseFault::At { index, rule }
+        }
+    }
 }
 
 /// The rule that the tok of this index breaks, with which nothing goes on: E069 where it is left out

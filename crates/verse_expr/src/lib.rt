@@ -1,15 +1,13 @@
-//! Reads written types from toks; blocks and expressions are to come.
+//! Reads types, blocks and expressions from toks.
 //!
-//! To be read in this order: `stops`, how readers go over toks; `spans`, what their spans hold;
-//! `types`; `faults`; `reads`, what the crate is called for.
+//! To be read in this order: `phrases`, the reader of all phrases; `faults`, why there is none;
+//! `reads`, what the crate is called for.
 #![tactic(auto)]
 
 pub mod faults;
+pub mod phrases;
 mod reads;
-pub mod spans;
-pub mod stops;
 #[cfg(test)]
 mod tests;
-pub mod types;
 
-pub use reads::ty;
+pub use reads::{block, expr, ty};

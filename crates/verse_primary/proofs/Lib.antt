@@ -1,0 +1,7 @@
+pub mod Parts
+pub mod Repeats
+pub mod BracketEnds
+pub mod BraceParts
+pub mod PrimaryParts
+pub mod ArmRests
+pub mod BracketStops

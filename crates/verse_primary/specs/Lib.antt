@@ -1,0 +1,4 @@
+pub mod Parts
+pub mod Rounds
+pub mod ArmRests
+pub mod HoleReads

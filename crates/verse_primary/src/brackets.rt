@@ -1,0 +1,184 @@
+//! Primary forms in round brackets.
+
+ghost use Rattle.std.specs.Prelude.{◌≡◌, ◌<◌, ◌≤◌, ◌∷◌, ℕ, Some, IfOk, length, map};
+ghost use Rattle.std.specs.Option.{option_map};
+ghost use Rattle.std.specs.Result.{IsErrOf};
+ghost use Rattle.verse_tree.specs.Tree.{tree};
+ghost use Rattle.verse_tree.specs.View.{tree_of, written_of};
+ghost use Rattle.verse_grammar.specs.Exprs.{Reads, BracketType};
+ghost use Rattle.verse_grammar.specs.Starts.{primary_start};
+ghost use Rattle.verse_grammar.specs.Symbols.{phrase, bracket_type, round_rest};
+ghost use Rattle.verse_grammar.specs.Reading.{EatsRule, SticksRule};
+ghost use Rattle.verse_grammar.specs.declared.phrases.Phrase.{Phrase};
+ghost use Rattle.verse_grammar.specs.declared.starts.PrimaryStart.{PrimaryStart};
+ghost use Rattle.verse_primary.specs.Parts.{slept};
+ghost use Rattle.verse_primary.specs.Rounds.{RoundRest, rounded};
+ghost use Rattle.verse_reading.specs.Nests.{Nests};
+ghost use Rattle.verse_reading.specs.declared.stops.Stop.TheVariants as stop;
+
+use sqlite_items::Items;
+use std::alloc::Global;
+use verse_base::places::Place;
+use verse_base::refusals::Memory;
+use verse_grammar::phrases::Phrase;
+use verse_grammar::starts::{Duration, Fixed, duration_at};
+use verse_layout::toks::Tok;
+use verse_nodes::{forms, literals};
+use verse_reading::nesting::Reader;
+use verse_reading::stops::{Stop, expect, next, take};
+use verse_reading::types::type_at;
+use verse_tree::exprs::Expr;
+use verse_tree::types::TyExpr;
+
+/// An expression in round brackets, or a tuple.
+#[tactic(auto, using(crate::proofs::PrimaryParts::round_reads, verse_grammar::proofs::Eating::eats_primary_round, verse_grammar::proofs::Sticking::sticks_primary_round_1, verse_grammar::proofs::Sticking::sticks_primary_round_2))]
+pub fn round<'t, F: Fn(Global, &[u8], Phrase, &[Tok]) -> Result<(Expr, usize), Stop>>(
+    reader: &Reader<'_, F>,
+    tok: Tok,
+    toks: &'t [Tok],
+) -> Result<(Expr, &'t [Tok]), Stop>
+    requires nests { Nests reader.now.bytes.now reader.now.most (F.pre reader.now.nested) (F.post reader.now.nested) }
+    requires fewer { length toks.now < reader.now.most }
+    requires start { primary_start tok.kind ≡ Some PrimaryStart.Round }
+    ensures spelled { IfOk result (λ r. Reads reader.now.bytes.now Phrase.Primary (tok ∷ toks.now) (tree_of r.0) r.1.now) }
+    ensures eats { IfOk result (λ r. EatsRule (phrase Phrase.Primary) (tok ∷ toks.now) r.1.now) }
+    ensures sticks { (left : ℕ) → IsErrOf result (stop.At left) → SticksRule (phrase Phrase.Primary) (tok ∷ toks.now) left }
+    ensures shorter { IfOk result (λ r. length r.1.now ≤ length toks.now) }
+{
+    let (first, behind) = reader.inner(Phrase::Expr, toks)?;
+    let (more, rest) = others(reader, behind)?;
+    Ok((rounded(reader.alloc, tok.place, first, more)?, rest))
+}
+
+/// What stands behind the first expression in round brackets: others behind a comma, or none.
+#[tactic(auto, using(crate::specs::Rounds::only_one, crate::specs::Rounds::several, verse_grammar::proofs::Eating::eats_round_rest_at, verse_grammar::proofs::Eating::eats_round_rest_other, verse_grammar::proofs::Sticking::sticks_round_rest_at_1, verse_grammar::proofs::Sticking::sticks_round_rest_other_1))]
+fn others<'t, F: Fn(Global, &[u8], Phrase, &[Tok]) -> Result<(Expr, usize), Stop>>(
+    reader: &Reader<'_, F>,
+    toks: &'t [Tok],
+) -> Result<(Option<Items<Expr>>, &'t [Tok]), Stop>
+    requires nests { Nests reader.now.bytes.now reader.now.most (F.pre reader.now.nested) (F.post reader.now.nested) }
+    requires fewer { length toks.now < reader.now.most }
+    ensures spelled { IfOk result (λ r. RoundRest reader.now.bytes.now toks.now (option_map (map tree_of) r.0) r.1.now) }
+    ensures eats { IfOk result (λ r. EatsRule round_rest toks.now r.1.now) }
+    ensures sticks { (left : ℕ) → IsErrOf result (stop.At left) → SticksRule round_rest toks.now left }
+    ensures shorter { IfOk result (λ r. length r.1.now < length toks.now) }
+{
+    match take(toks, Fixed::Comma) {
+        Some((_, behind)) => {
+            let (more, rest) = reader.closed(
+                Phrase::Expr,
+                Fixed::Comma,
+                Fixed::RoundClose,
+                behind,
+            )?;
+            Ok((Some(more), rest))
+        }
+        None => {
+            let (_, rest) = expect(toks, Fixed::RoundClose)?;
+            Ok((None, rest))
+        }
+    }
+}
+
+/// `event(t){}`
+#[tactic(auto, using(verse_grammar::proofs::Sticking::sticks_primary_event_1, verse_grammar::proofs::Sticking::sticks_primary_event_2))]
+pub fn event<'t, F: Fn(Global, &[u8], Phrase, &[Tok]) -> Result<(Expr, usize), Stop>>(
+    reader: &Reader<'_, F>,
+    tok: Tok,
+    toks: &'t [Tok],
+) -> Result<(Expr, &'t [Tok]), Stop>
+    requires start { primary_start tok.kind ≡ Some PrimaryStart.Event }
+    ensures spelled { IfOk result (λ r. Reads reader.now.bytes.now Phrase.Primary (tok ∷ toks.now) (tree_of r.0) r.1.now) }
+    ensures eats { IfOk result (λ r. EatsRule (phrase Phrase.Primary) (tok ∷ toks.now) r.1.now) }
+    ensures sticks { (left : ℕ) → IsErrOf result (stop.At left) → SticksRule (phrase Phrase.Primary) (tok ∷ toks.now) left }
+    ensures shorter { IfOk result (λ r. length r.1.now ≤ length toks.now) }
+{
+    let (ty, behind) = bracket_type(reader.alloc, reader.bytes, toks)?;
+    let (_, behind) = expect(behind, Fixed::Open)?;
+    let (_, rest) = expect(behind, Fixed::Close)?;
+    Ok((literals::event(tok.place, ty), rest))
+}
+
+/// `Sleep(D)`
+#[tactic(auto, using(crate::proofs::Parts::sleep_reads, verse_grammar::proofs::Sticking::sticks_primary_sleep_1, verse_grammar::proofs::Sticking::sticks_primary_sleep_2, verse_grammar::proofs::Sticking::sticks_duration_other, verse_grammar::proofs::Sticking::sticks_duration_end))]
+pub fn sleep<'t, F: Fn(Global, &[u8], Phrase, &[Tok]) -> Result<(Expr, usize), Stop>>(
+    reader: &Reader<'_, F>,
+    tok: Tok,
+    toks: &'t [Tok],
+) -> Result<(Expr, &'t [Tok]), Stop>
+    requires start { primary_start tok.kind ≡ Some PrimaryStart.Sleep }
+    ensures spelled { IfOk result (λ r. Reads reader.now.bytes.now Phrase.Primary (tok ∷ toks.now) (tree_of r.0) r.1.now) }
+    ensures eats { IfOk result (λ r. EatsRule (phrase Phrase.Primary) (tok ∷ toks.now) r.1.now) }
+    ensures sticks { (left : ℕ) → IsErrOf result (stop.At left) → SticksRule (phrase Phrase.Primary) (tok ∷ toks.now) left }
+    ensures shorter { IfOk result (λ r. length r.1.now ≤ length toks.now) }
+{
+    let (_, behind) = expect(toks, Fixed::RoundOpen)?;
+    match next(behind) {
+        Some((time, after)) => match duration_at(time.kind) {
+            Some(duration) => {
+                let (_, rest) = expect(after, Fixed::RoundClose)?;
+                Ok((slept(tok.place, duration), rest))
+            }
+            None => Err(Stop::At(behind.len())),
+        },
+        None => Err(Stop::At(0)),
+    }
+}
+
+/// A type in round brackets, or nothing in them.
+#[tactic(auto, using(verse_grammar::specs::Exprs::bracket_type, verse_grammar::specs::Exprs::no_bracket_type, verse_grammar::proofs::Eating::eats_bracket_type, verse_grammar::proofs::Eating::eats_bracket_type_rest_at, verse_grammar::proofs::Eating::eats_bracket_type_rest_other, verse_grammar::proofs::Sticking::sticks_bracket_type_1, verse_grammar::proofs::Sticking::sticks_bracket_type_2, verse_grammar::proofs::Sticking::sticks_bracket_type_rest_other_1, verse_grammar::proofs::Sticking::sticks_bracket_type_rest_other_2))]
+pub fn bracket_type<'t>(
+    alloc: Global,
+    bytes: &[u8],
+    toks: &'t [Tok],
+) -> Result<(Option<TyExpr>, &'t [Tok]), Stop>
+    ensures spelled { IfOk result (λ r. BracketType bytes.now toks.now (option_map written_of r.0) r.1.now) }
+    ensures eats { IfOk result (λ r. EatsRule bracket_type toks.now r.1.now) }
+    ensures sticks { (left : ℕ) → IsErrOf result (stop.At left) → SticksRule bracket_type toks.now left }
+    ensures shorter { IfOk result (λ r. length r.1.now < length toks.now) }
+{
+    let (_, behind) = expect(toks, Fixed::RoundOpen)?;
+    match take(behind, Fixed::RoundClose) {
+        Some((_, rest)) => Ok((None, rest)),
+        None => {
+            let (ty, behind) = type_at(alloc, bytes, behind)?;
+            let (_, rest) = expect(behind, Fixed::RoundClose)?;
+            Ok((Some(ty), rest))
+        }
+    }
+}
+
+/// An expression by itself, or a tuple with others behind it.
+fn rounded(
+    alloc: Global,
+    place: Place,
+    first: Expr,
+    more: Option<Items<Expr>>,
+) -> Result<Expr, Memory>
+    ensures { IfOk result (λ r. tree_of r ≡ rounded place (tree_of first) (option_map (map tree_of) more)) }
+{
+    match more {
+        Some(more) => Ok(literals::tuple(place, joined(alloc, first, more)?)),
+        None => Ok(first),
+    }
+}
+
+/// An expression before others.
+fn joined(alloc: Global, first: Expr, more: Items<Expr>) -> Result<Items<Expr>, Memory>
+    ensures { IfOk result (λ r. map tree_of r ≡ tree_of first ∷ map tree_of more) }
+{
+    let mut parts = Items::new(alloc);
+    parts.push(first)?;
+    parts.append(more)?;
+    Ok(parts)
+}
+
+/// The node of a `Sleep`.
+fn slept(place: Place, duration: Duration) -> Expr
+    ensures { tree_of result ≡ tree 0 place (slept duration) }
+{
+    match duration {
+        Duration::Milliseconds(milliseconds) => forms::sleep(place, milliseconds),
+        Duration::Forever => forms::sleep_forever(place),
+    }
+}

@@ -1,0 +1,10 @@
+//! Reads primary forms and patterns from toks.
+//!
+//! To be read in this order: `primary`, which there are; `brackets`, `braces`, `forms`; `patterns`.
+#![tactic(auto)]
+
+pub mod braces;
+pub mod brackets;
+pub mod forms;
+pub mod patterns;
+pub mod primary;

@@ -1,0 +1,11 @@
+//! Readers of toks: what they have in common, and types.
+//!
+//! To be read in this order: `stops`, how readers go over toks; `spans`, what their spans hold;
+//! `types`; `nesting`, how what is nested is read; `lists`.
+#![tactic(auto)]
+
+pub mod lists;
+pub mod nesting;
+pub mod spans;
+pub mod stops;
+pub mod types;

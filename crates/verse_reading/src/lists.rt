@@ -1,0 +1,75 @@
+//! Lists of phrases.
+
+ghost use Rattle.std.specs.Prelude.{◌<◌, ℕ, IfOk, length, map};
+ghost use Rattle.std.specs.Result.{IsErrOf};
+ghost use Rattle.verse_tree.specs.View.{tree_of};
+ghost use Rattle.verse_grammar.specs.Exprs.{Closed, Until};
+ghost use Rattle.verse_grammar.specs.Starts.{kind_of};
+ghost use Rattle.verse_grammar.specs.Symbols.{closed, until};
+ghost use Rattle.verse_grammar.specs.Reading.{EatsRule, SticksRule};
+ghost use Rattle.verse_reading.specs.Nests.{Nests};
+ghost use Rattle.verse_reading.specs.declared.stops.Stop.TheVariants as stop;
+
+use crate::nesting::Reader;
+use crate::stops::{Stop, take};
+use sqlite_items::Items;
+use std::alloc::Global;
+use verse_grammar::phrases::Phrase;
+use verse_grammar::starts::Fixed;
+use verse_layout::toks::Tok;
+use verse_tree::exprs::Expr;
+
+impl<'b, F: Fn(Global, &[u8], Phrase, &[Tok]) -> Result<(Expr, usize), Stop>> Reader<'b, F> {
+    /// One phrase or more, with a separator between them, up to a closing tok.
+    #[tactic(auto, using(verse_grammar::specs::Exprs::row_one, verse_grammar::specs::Exprs::row_more, verse_grammar::specs::Exprs::closed, verse_grammar::proofs::Going::goes_start, verse_grammar::proofs::Going::goes_row_tail_at, crate::proofs::Rows::closed_eaten, crate::proofs::Rows::closed_stuck_between, crate::proofs::Rows::closed_stuck_at_end, verse_grammar::proofs::Sticking::sticks_closed_1))]
+    pub fn closed<'t>(
+        &self,
+        what: Phrase,
+        separator: Fixed,
+        close: Fixed,
+        toks: &'t [Tok],
+    ) -> Result<(Items<Expr>, &'t [Tok]), Stop>
+        requires nests { Nests self.now.bytes.now self.now.most (F.pre self.now.nested) (F.post self.now.nested) }
+        requires fewer { length toks.now < self.now.most }
+        ensures spelled { IfOk result (λ r. Closed self.now.bytes.now what (kind_of separator) (kind_of close) toks.now (map tree_of r.0) r.1.now) }
+        ensures eats { IfOk result (λ r. EatsRule (closed what (kind_of separator) (kind_of close)) toks.now r.1.now) }
+        ensures sticks { (left : ℕ) → IsErrOf result (stop.At left) → SticksRule (closed what (kind_of separator) (kind_of close)) toks.now left }
+        ensures shorter { IfOk result (λ r. length r.1.now < length toks.now) }
+    {
+        let (first, after) = self.inner(what, toks)?;
+        let mut exprs = Items::new(self.alloc);
+        exprs.push(first)?;
+        let mut rest = after;
+        'more: while let Some((_, behind)) = take(rest, separator) {
+            let (expr, left) = self.inner(what, behind)?;
+            exprs.push(expr)?;
+            rest = left;
+        }
+        match take(rest, close) {
+            Some((_, rest)) => Ok((exprs, rest)),
+            None => Err(Stop::At(rest.len())),
+        }
+    }
+
+    /// No phrase or more, up to a closing tok.
+    #[tactic(auto, using(verse_grammar::specs::Exprs::until_none, verse_grammar::specs::Exprs::until_some, verse_grammar::proofs::Eating::eats_until_at, verse_grammar::proofs::Eating::eats_until_other, verse_grammar::proofs::Sticking::sticks_until_other_1))]
+    pub fn until<'t>(
+        &self,
+        what: Phrase,
+        separator: Fixed,
+        close: Fixed,
+        toks: &'t [Tok],
+    ) -> Result<(Items<Expr>, &'t [Tok]), Stop>
+        requires nests { Nests self.now.bytes.now self.now.most (F.pre self.now.nested) (F.post self.now.nested) }
+        requires fewer { length toks.now < self.now.most }
+        ensures spelled { IfOk result (λ r. Until self.now.bytes.now what (kind_of separator) (kind_of close) toks.now (map tree_of r.0) r.1.now) }
+        ensures eats { IfOk result (λ r. EatsRule (until what (kind_of separator) (kind_of close)) toks.now r.1.now) }
+        ensures sticks { (left : ℕ) → IsErrOf result (stop.At left) → SticksRule (until what (kind_of separator) (kind_of close)) toks.now left }
+        ensures shorter { IfOk result (λ r. length r.1.now < length toks.now) }
+    {
+        match take(toks, close) {
+            Some((_, rest)) => Ok((Items::new(self.alloc), rest)),
+            None => self.closed(what, separator, close, toks),
+        }
+    }
+}
