@@ -1,0 +1,6 @@
+pub mod Wholes
+pub mod Halting
+pub mod Steps
+pub mod Signatures
+pub mod Rows
+pub mod Few

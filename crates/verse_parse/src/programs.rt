@@ -1,0 +1,103 @@
+//! The items of a file.
+
+ghost use Rattle.std.specs.Prelude.{◌≡◌, ◌≤◌, [], ℕ, List, IfOk, length, map, drop};
+ghost use Rattle.std.specs.Result.{IsErrOf};
+ghost use Rattle.verse_base.specs.declared.refusals.Rule.{Rule};
+ghost use Rattle.verse_tree.specs.ItemTree.{ItemTree};
+ghost use Rattle.verse_tree.specs.ItemView.{item_of};
+ghost use Rattle.verse_tree.specs.Numbering.{items_nodes};
+ghost use Rattle.verse_grammar.specs.Toks.{ahead};
+ghost use Rattle.verse_grammar.specs.Items.{ItemRow, Program};
+ghost use Rattle.verse_grammar.specs.Items as grammar;
+ghost use Rattle.verse_grammar.specs.Symbols as rules_of;
+ghost use Rattle.verse_grammar.specs.Reading.{EatsRule, SticksRule};
+ghost use Rattle.verse_grammar.specs.Begins.{Stops, a_program};
+ghost use Rattle.verse_reading.specs.declared.stops.Stop.TheVariants as stop;
+ghost use Rattle.verse_expr.specs.Faults.{stop_rule};
+ghost use Rattle.verse_expr.specs.declared.faults.ParseFault.TheVariants as fault;
+ghost use Rattle.verse_parse.specs.Halts.{Halts};
+
+use crate::items::item;
+use std::alloc::Global;
+use verse_expr::faults::{ParseFault, fault_of};
+use verse_grammar::starts::Fixed;
+use verse_layout::toks::Tok;
+use verse_reading::stops::{Stop, next, take};
+use verse_tree::items::Item;
+
+/// The items that the toks of a file spell.
+///
+/// They have no more nodes than there are toks, the program's own left out.
+/// Where the toks are no program, `At` has the greatest index up to which they begin one, with E069
+/// where the tok of that index is left out of the language, and E030 where it is another or there is
+/// none.
+#[tactic(auto, using(crate::proofs::Halting::halts_stops, crate::proofs::Halting::halts_within, crate::proofs::Halting::program_once, crate::proofs::Few::few_items))]
+pub fn parse(alloc: Global, bytes: &[u8], toks: &[Tok]) -> Result<Vec<Item>, ParseFault>
+    ensures spelled { IfOk result (λ items. Program bytes.now toks.now (map item_of items.items) []) }
+    ensures only { IfOk result (λ items. (is : List ItemTree) → Program bytes.now toks.now is [] → is ≡ map item_of items.items) }
+    ensures few { IfOk result (λ items. items_nodes (map item_of items.items) ≤ length toks.now) }
+    ensures stops { (index : ℕ) (rule : Rule) → IsErrOf result (fault.At index rule) → Stops a_program toks.now index }
+    ensures within { (index : ℕ) (rule : Rule) → IsErrOf result (fault.At index rule) → index ≤ length toks.now }
+    ensures rule { (index : ℕ) (rule : Rule) → IsErrOf result (fault.At index rule) → rule.0 ≡ stop_rule (ahead (drop index toks.now)) }
+{
+    match items(alloc, bytes, toks) {
+        Ok(items) => Ok(items),
+        Err(why) => Err(fault_of(toks, why)),
+    }
+}
+
+/// The items of a file, behind which is nothing.
+#[tactic(auto, using(crate::specs::Halts::halts_inside, crate::specs::Halts::halts_behind))]
+fn items(alloc: Global, bytes: &[u8], toks: &[Tok]) -> Result<Vec<Item>, Stop>
+    ensures spelled { IfOk result (λ items. Program bytes.now toks.now (map item_of items.items) []) }
+    ensures halts { (left : ℕ) → IsErrOf result (stop.At left) → Halts toks.now left }
+{
+    let (items, rest) = program(alloc, bytes, toks)?;
+    match next(rest) {
+        None => Ok(items),
+        Some(_) => Err(Stop::At(rest.len())),
+    }
+}
+
+/// The items of a file, and the toks behind them.
+#[tactic(auto, using(verse_grammar::specs::Items::no_items, verse_grammar::specs::Items::some_items, verse_grammar::proofs::EatingItems::eats_program_end, crate::proofs::Wholes::program_eats, crate::proofs::Wholes::program_sticks_1, crate::proofs::Wholes::program_sticks_2))]
+fn program<'t>(alloc: Global, bytes: &[u8], toks: &'t [Tok]) -> Result<(Vec<Item>, &'t [Tok]), Stop>
+    ensures spelled { IfOk result (λ r. Program bytes.now toks.now (map item_of r.0.items) r.1.now) }
+    ensures eats { IfOk result (λ r. EatsRule rules_of.program toks.now r.1.now) }
+    ensures sticks { (left : ℕ) → IsErrOf result (stop.At left) → SticksRule rules_of.program toks.now left }
+    ensures shorter { IfOk result (λ r. length r.1.now ≤ length toks.now) }
+{
+    let Some((_first, _rest)) = next(toks) else {
+        return Ok((Vec::new(alloc), toks));
+    };
+    let (first, rest) = item(alloc, bytes, toks)?;
+    item_row(alloc, bytes, toks, first, rest)
+}
+
+/// The items from the first on, which begins at `start`.
+#[tactic(auto, using(verse_grammar::specs::Items::one_item, verse_grammar::specs::Items::more_items, verse_grammar::proofs::EatingItems::eats_items_tail_other, verse_grammar::proofs::GoingItems::goes_items_tail_at, verse_grammar::proofs::GoingItems::stuck_items_tail_at_1, verse_grammar::proofs::Going::goes_start, verse_grammar::proofs::Going::goes_eats))]
+fn item_row<'t>(
+    alloc: Global,
+    bytes: &[u8],
+    start: &[Tok],
+    first: Item,
+    toks: &'t [Tok],
+) -> Result<(Vec<Item>, &'t [Tok]), Stop>
+    requires begun { grammar.Item bytes.now start.now (item_of first) toks.now }
+    ensures spelled { IfOk result (λ r. ItemRow bytes.now start.now (map item_of r.0.items) r.1.now) }
+    ensures eats { IfOk result (λ r. EatsRule rules_of.items_tail toks.now r.1.now) }
+    ensures sticks { (left : ℕ) → IsErrOf result (stop.At left) → SticksRule rules_of.items_tail toks.now left }
+    ensures shorter { IfOk result (λ r. length r.1.now ≤ length toks.now) }
+{
+    let mut items = Vec::new(alloc);
+    items.push(first)?;
+    let mut rest = toks;
+    'items: loop {
+        let Some((_sep, behind)) = take(rest, Fixed::Sep) else {
+            return Ok((items, rest));
+        };
+        let (next, behind) = item(alloc, bytes, behind)?;
+        items.push(next)?;
+        rest = behind;
+    }
+}
