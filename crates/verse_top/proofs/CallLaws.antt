@@ -1,11 +1,12 @@
 -- From the parts of the top call to its clauses.
-use Rattle.std.proofs.Common.{◌≡◌, ◌≢◌, ℕ, zero, suc, List, [], false, Option, Some, None, ◌⊎◌, inl, inr, refl, sym, subst, ap, ◌∙◌}
+use Rattle.std.proofs.Common.{◌≡◌, ◌≢◌, ℕ, zero, suc, List, [], false, Option, Some, None, ◌⊎◌, inl, inr, refl, sym, subst, ◌∙◌}
 use Rattle.verse_outside.specs.Causes.{Rose}
-use Rattle.verse_outside.specs.Held.{Holding, Holds, Lacks, Loads, with_more, TookPrefix}
-use Rattle.verse_top.specs.Words.{Command, run, Options, Says, SayOnce}
-use Rattle.verse_top.specs.ThinMeaning.{mean}
+use Rattle.verse_outside.specs.Held.{Holding, Holds, Lacks, Loads}
+use Rattle.verse_top.specs.Words.{Command, run, Options, Says}
+use Rattle.verse_built.specs.Texts.{texts_of}
+use Rattle.verse_top.specs.Meaning.{mean}
 use Rattle.verse_top.specs.Rendering.{ending_status}
-use Rattle.verse_top.specs.Answers.{Answers, too_large, not_built, ran, Answered, CutShort, Finishes, MayWrite, not_read, answer, Replies, file_of, most_bytes, read_line}
+use Rattle.verse_top.specs.Answers.{Answers, too_large, refused, ran, Answered, CutShort, Finishes, MayWrite, not_read, answer, Replies, file_of, most_bytes}
 use Rattle.verse_top.proofs.CommandLemmas.{say_once}
 
 abbrev Known : ℕ → Type 0
@@ -17,8 +18,8 @@ known_mean texts (suc n) = inl refl
 
 known_answer : (c : Command) (bytes : List ℕ) (s : ℕ) (t : List ℕ) → Answers c bytes s t → Known s
 known_answer c bytes s t (too_large big) = inr (inl refl)
-known_answer c bytes s t (not_built at small p) = inr (inl refl)
-known_answer c bytes s t (ran {o = o} texts small p) = known_mean texts o.steps
+known_answer c bytes s t (refused r small p) = inr (inl refl)
+known_answer c bytes s t (ran {o = o} is small p) = known_mean (texts_of is) o.steps
 
 not_six_mean : (texts : List (List ℕ)) (n : ℕ) → ending_status (mean texts n).ending ≢ 6
 not_six_mean texts zero e = absurd (cc)
@@ -26,8 +27,8 @@ not_six_mean texts (suc n) e = absurd (cc)
 
 not_six : (c : Command) (bytes : List ℕ) (s : ℕ) (t : List ℕ) → Answers c bytes s t → s ≢ 6
 not_six c bytes s t (too_large big) e = absurd (cc)
-not_six c bytes s t (not_built at small p) e = absurd (cc)
-not_six c bytes s t (ran {o = o} texts small p) e = not_six_mean texts o.steps e
+not_six c bytes s t (refused r small p) e = absurd (cc)
+not_six c bytes s t (ran {o = o} is small p) e = not_six_mean (texts_of is) o.steps e
 
 pub replies_ran : (file : List ℕ) (steps : ℕ) (held : Holding) (before now status : ℕ) (text bytes : List ℕ) → Loads held file most_bytes bytes →
     ((f : List ℕ) (o : Options) → o.steps ≡ steps → Answers (run f o) bytes status text) → Replies file steps held before now status text

@@ -1,4 +1,8 @@
-pub mod ThinLaws
+pub mod ListedTokens
+pub mod ListedLayout
+pub mod Parts
+pub mod StuckToks
+pub mod Answered
 pub mod AnswerLaws
 pub mod NumberLemmas
 pub mod OptionLemmas

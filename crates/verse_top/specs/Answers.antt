@@ -1,13 +1,16 @@
 -- What the top call answers: a status and the text that is written.
-use Rattle.std.specs.Prelude.{◌≡◌, ◌≢◌, ◌⊎◌, ℕ, ◌+◌, ◌<◌, ◌≤◌, List, [], ◌∷◌, ◌++◌, Option, length, codes, unwrap_or}
+use Rattle.std.specs.Prelude.{◌≡◌, ◌≢◌, ◌⊎◌, ℕ, ◌<◌, ◌≤◌, List, [], ◌∷◌, ◌++◌, Option, length, codes, unwrap_or}
 use Rattle.verse_base.specs.declared.places.Place.{Place}
 use Rattle.verse_base.specs.RuleText.{rule_text_of}
-use Rattle.verse_lex.specs.Cut.{first_place, place_at}
+use Rattle.verse_base.specs.declared.refusals.Refusal.{Refusal}
+use Rattle.verse_lex.specs.Cut.{first_place}
 use Rattle.verse_outside.specs.Causes.{Rose}
-use Rattle.verse_outside.specs.Held.{Holding, Holds, Lacks, Loads, with_more, TookPrefix}
+use Rattle.verse_outside.specs.Held.{Holding, Lacks, Loads, with_more, TookPrefix}
 use Rattle.verse_top.specs.Words.{Command, run, Options, Says}
-use Rattle.verse_top.specs.Thin.{IsThin, IsUnbuilt}
-use Rattle.verse_top.specs.ThinMeaning.{mean}
+use Rattle.verse_tree.specs.ItemTree.{ItemTree}
+use Rattle.verse_built.specs.Texts.{texts_of}
+use Rattle.verse_top.specs.Programs.{IsRefused, Runs}
+use Rattle.verse_top.specs.Meaning.{mean}
 use Rattle.verse_top.specs.Rendering.{line_and_column, rule_code, run_text, ending_status}
 
 -- the line of a refusal of the one file: its place, the rule and the rule's text
@@ -30,10 +33,10 @@ memory_line = codes "= memory\n"
 -- the status and the text for a command over what was loaded
 pub data Answers : Command → List ℕ → ℕ → List ℕ → Type 0 where
   too_large : {file bytes : List ℕ} {o : Options} → 1048576 < length bytes → Answers (run file o) bytes 1 (refusal_line 2 (first_place 0))
-  not_built : {file bytes : List ℕ} {o : Options} (at : ℕ) → length bytes ≤ 1048576 → IsUnbuilt bytes at →
-      Answers (run file o) bytes 1 (refusal_line 99 (place_at 0 bytes at))
-  ran : {file bytes : List ℕ} {o : Options} (texts : List (List ℕ)) → length bytes ≤ 1048576 → IsThin bytes texts →
-      Answers (run file o) bytes (ending_status (mean texts o.steps).ending) (run_text 1 (mean texts o.steps))
+  refused : {file bytes : List ℕ} {o : Options} (r : Refusal) → length bytes ≤ 1048576 → IsRefused bytes r →
+      Answers (run file o) bytes 1 (refusal_line r.rule.0 r.place)
+  ran : {file bytes : List ℕ} {o : Options} (is : List ItemTree) → length bytes ≤ 1048576 → Runs bytes is →
+      Answers (run file o) bytes (ending_status (mean (texts_of is) o.steps).ending) (run_text 1 (mean (texts_of is) o.steps))
 
 abbrev pub file_of : Command → List ℕ
 file_of (run file o) = file

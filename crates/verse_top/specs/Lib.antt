@@ -1,8 +1,6 @@
 pub mod Words
-pub mod Thin
-pub mod ThinReading
-pub mod ThinView
-pub mod ThinMeaning
+pub mod Programs
+pub mod Meaning
 pub mod Rendering
 pub mod Answers
 pub mod Settings

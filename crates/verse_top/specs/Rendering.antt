@@ -1,5 +1,5 @@
 -- The text that is written for a run and for a refusal, and the status that goes with an ending.
-use Rattle.std.specs.Prelude.{ℕ, suc, ◌+◌, ◌≤◌, List, [], ◌∷◌, ◌++◌, Option, None, Some, if◌then◌else◌, nat_le, codes, decimal}
+use Rattle.std.specs.Prelude.{ℕ, ◌+◌, List, [], ◌∷◌, ◌++◌, Option, None, Some, if◌then◌else◌, nat_le, codes, decimal}
 use Rattle.std.specs.List.{flat_map}
 use Rattle.verse_base.specs.TraceLine.{line_bytes}
 use Rattle.verse_base.specs.declared.places.Place.{Place}

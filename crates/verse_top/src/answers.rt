@@ -4,18 +4,21 @@ ghost use Rattle.verse_base.specs.TraceLine.{line_bytes};
 ghost use Rattle.std.specs.Prelude.{IsSome, ◌<◌, length};
 ghost use Rattle.verse_top.specs.Answers.{Answers, AnsweredOnce, refusal_line};
 ghost use Rattle.verse_top.specs.Rendering.{rule_code, run_text, ending_status, trace_text};
-ghost use Rattle.verse_top.specs.Thin.{IsThin};
-ghost use Rattle.verse_top.specs.ThinMeaning.{mean};
+ghost use Rattle.verse_top.specs.Meaning.{mean};
+ghost use Rattle.verse_top.specs.Programs.{Parses};
+ghost use Rattle.verse_tree.specs.ItemView.{item_of};
 ghost use Rattle.verse_top.specs.Words.{run, Options};
 
 use crate::endings::{ending_text, line_and_column};
-use crate::thin::{ThinFault, read_thin};
+use crate::programs::items_of;
 use std::alloc::Global;
 use verse_base::places::Place;
-use verse_base::refusals::{Memory, Rule};
+use verse_base::refusals::{Front, Memory, Rule};
 use verse_base::rule_texts::rule_text;
 use verse_base::texts::{natural, trace_line};
-use verse_lex::place_at;
+use verse_built::{printed, unbuilt};
+use verse_tree::items::Item;
+use verse_tree::names::Text;
 use verse_value::runs::Ending;
 
 /// The most bytes that a file may have.
@@ -35,17 +38,33 @@ pub(crate) struct Answer {
 }
 
 /// What running the file answers, with so many steps to spend.
-#[tactic(auto, using(crate::proofs::AnswerLaws::answers_large, crate::proofs::AnswerLaws::answers_unbuilt, crate::proofs::AnswerLaws::answers_run))]
+#[tactic(auto, using(crate::proofs::AnswerLaws::answers_large, crate::proofs::AnswerLaws::answers_refused))]
 pub(crate) fn run_file(alloc: Global, bytes: &[u8], steps: u64) -> Result<Answer, Memory>
     ensures { IfOk result (λ a. (file : List ℕ) (o : Options) → o.steps ≡ steps → Answers (run file o) bytes.now a.status a.text.items) }
 {
     if bytes.len() > MOST_BYTES {
         return Ok(refused(alloc, Rule(2), FIRST_PLACE)?);
     }
-    match read_thin(alloc, bytes) {
-        Ok(texts) => Ok(run_texts(alloc, texts.as_slice(), steps)?),
-        Err(ThinFault::Unbuilt(at)) => Ok(refused(alloc, Rule(99), place_at(0, bytes, at))?),
-        Err(ThinFault::Memory) => Err(Memory),
+    match items_of(alloc, bytes) {
+        Ok(items) => run_items(alloc, bytes, items.as_slice(), steps),
+        Err(Front::Refused(refusal)) => Ok(refused(alloc, refusal.rule, refusal.place)?),
+        Err(Front::Memory) => Err(Memory),
+    }
+}
+
+/// What running the items of the file answers.
+#[tactic(auto, using(crate::proofs::AnswerLaws::answers_unbuilt, crate::proofs::AnswerLaws::answers_run))]
+fn run_items(alloc: Global, bytes: &[u8], items: &[Item], steps: u64) -> Result<Answer, Memory>
+    requires size { length bytes.now ≤ 1048576 }
+    requires parsed { Parses bytes.now (map item_of items.now) }
+    ensures { IfOk result (λ a. (file : List ℕ) (o : Options) → o.steps ≡ steps → Answers (run file o) bytes.now a.status a.text.items) }
+{
+    match unbuilt(items) {
+        Some(place) => Ok(refused(alloc, Rule(99), place)?),
+        None => {
+            let texts = printed(alloc, items)?;
+            Ok(run_texts(alloc, texts.as_slice(), steps)?)
+        }
     }
 }
 
@@ -74,9 +93,9 @@ fn push_code(rule: Rule, out: &mut Vec<u8>) -> Result<(), Memory>
     Ok(())
 }
 
-fn run_texts(alloc: Global, texts: &[Vec<u8>], steps: u64) -> Result<Answer, Memory>
-    ensures status { IfOk result (λ a. a.status ≡ ending_status (mean (map (λ t. t.items) texts.now) steps).ending) }
-    ensures text { IfOk result (λ a. a.text.items ≡ run_text 1 (mean (map (λ t. t.items) texts.now) steps)) }
+fn run_texts(alloc: Global, texts: &[Text], steps: u64) -> Result<Answer, Memory>
+    ensures status { IfOk result (λ a. a.status ≡ ending_status (mean texts.now steps).ending) }
+    ensures text { IfOk result (λ a. a.text.items ≡ run_text 1 (mean texts.now steps)) }
 {
     if steps == 0 {
         let text = ending_text(alloc, Ending::Steps, 1, 0, 0, 0)?;

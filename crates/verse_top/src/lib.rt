@@ -7,7 +7,7 @@ pub mod commands;
 pub mod endings;
 mod numbers;
 mod options;
-mod thin;
+mod programs;
 
 pub use call::verse;
 pub use commands::words_fit;

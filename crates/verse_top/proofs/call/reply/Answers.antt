@@ -1,4 +1,3 @@
-use Rattle.std.proofs.Common.{ℕ, List, ap}
 use Rattle.verse_top.proofs.CallLaws.{replies_ran}
 use Rattle.verse_top.proofs.call.reply.Goals as goal
 

@@ -1,5 +1,5 @@
 use Rattle.std.proofs.Common.{◌≡◌, ◌≢◌, ℕ, refl, map, string_bytes}
-use Rattle.verse_top.specs.Answers.{Finishes, Replies, no_command, no_memory, words_line, memory_line}
+use Rattle.verse_top.specs.Answers.{no_command, no_memory, words_line, memory_line}
 use Rattle.verse_top.proofs.CallLaws.{cut_of, reply_cut, reply_absent, reply_complete}
 use Rattle.verse_top.proofs.call.verse.Goals as goal
 

@@ -1,4 +1,4 @@
--- What the run of a thin program means.
+-- What the run of a program means that prints texts.
 use Rattle.std.specs.Prelude.{ℕ, zero, suc, List, [], Some, None, map}
 use Rattle.verse_value.specs.Runs.{Line, Run}
 use Rattle.verse_value.specs.declared.runs.Ending.TheVariants as ending

@@ -1,0 +1,2 @@
+Main():void =
+    if (true?) then 1 else else 2
