@@ -11,7 +11,7 @@ is_built() {
 
 if ! is_built; then
   echo 'verse: building: every function below the program is proved first. The first time this takes,' >&2
-  echo 'verse: by estimate, 15 to 30 minutes, after an edit less; the log is in crates/verse_cli/out/build.log' >&2
+  echo 'verse: by estimate, 40 to 60 minutes, after an edit less; the log is in crates/verse_cli/out/build.log' >&2
   mkdir -p "$here/crates/verse_cli/out"
   (cd "$here/crates/verse_cli" && rt run > out/build.log 2>&1 < /dev/null)
   if ! is_built; then
