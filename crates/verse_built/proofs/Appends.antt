@@ -2,7 +2,7 @@
 use Rattle.std.proofs.Common.{◌≡◌, List, [], ◌∷◌, ◌++◌, Bool, true, false, Option, Some, None, if◌then◌else◌, refl, sym, ◌∙◌}
 use Rattle.std.specs.Option.{option_or}
 use Rattle.verse_base.specs.declared.places.Place.{Place}
-use Rattle.verse_built.specs.Nodes.{Node}
+use Rattle.verse_tree.specs.PostOrder.{Node}
 use Rattle.verse_built.specs.Built.{is_built, first_unbuilt}
 
 or_if : (b : Bool) (o q : Option Place) (place : Place) → (if b then option_or o q else Some place) ≡ option_or (if b then o else Some place) q

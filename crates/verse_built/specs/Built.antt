@@ -5,7 +5,7 @@ use Rattle.verse_base.specs.declared.places.Place.{Place}
 use Rattle.verse_tree.specs.Tree.{Bytes, Written, Tree, tree, Shape, Trees, no_trees, more_trees}
 use Rattle.verse_tree.specs.Tree as t
 use Rattle.verse_tree.specs.ItemTree.{SpecTree, ParamTree, FunTree, ItemTree, using, enumeration, class, function}
-use Rattle.verse_built.specs.Nodes.{What, program, item, member, parameter, type_name, expression, Node}
+use Rattle.verse_tree.specs.PostOrder.{What, program, item, member, parameter, type_name, expression, Node}
 
 abbrev pub is_print : Bytes → Bool
 is_print name = pointwise nat_eq name (codes "Print")

@@ -1,3 +1,2 @@
-pub mod Nodes
 pub mod Built
 pub mod Texts

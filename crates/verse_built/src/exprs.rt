@@ -3,7 +3,7 @@
 ghost use Rattle.std.specs.Prelude.{◌≡◌, ◌++◌, map};
 ghost use Rattle.std.specs.Option.{option_map};
 ghost use Rattle.verse_tree.specs.View.{shape_of, tree_of, trees, holes, hole_of, pairs, pair_of, givens, given_of, applied_of, cases_of, choice_of, each_of, two_of, typed_of};
-ghost use Rattle.verse_built.specs.Nodes.{nodes, parts, all_nodes, holes_nodes, pairs_nodes, givens_nodes, maybe_nodes, written_nodes};
+ghost use Rattle.verse_tree.specs.PostOrder.{post_order, parts, trees_order, holes_order, pairs_order, givens_order, default_order, written_order};
 ghost use Rattle.verse_built.specs.Built.{first_unbuilt};
 
 use crate::forms::is_built_form;
@@ -16,7 +16,7 @@ use verse_tree::exprs::{Applied, Cases, Choice, Each, Expr, Form, Given, Hole, P
 #[cycle(exprs)]
 #[tactic(auto, using(crate::proofs::Appends::first_append, crate::proofs::Views::expr_parts))]
 pub(crate) fn in_expr(expr: &Expr) -> Option<Place>
-    ensures { result ≡ first_unbuilt (nodes (tree_of expr.now)) }
+    ensures { result ≡ first_unbuilt (post_order (tree_of expr.now)) }
 {
     match in_parts(&expr.form) {
         Some(place) => Some(place),
@@ -88,7 +88,7 @@ fn in_parts(form: &Form) -> Option<Place>
 
 #[cycle(exprs)]
 fn in_all(exprs: &[Expr]) -> Option<Place>
-    ensures { result ≡ first_unbuilt (all_nodes (trees (map tree_of exprs.now))) }
+    ensures { result ≡ first_unbuilt (trees_order (trees (map tree_of exprs.now))) }
 {
     for expr in exprs {
         if let Some(place) = in_expr(expr) {
@@ -101,7 +101,7 @@ fn in_all(exprs: &[Expr]) -> Option<Place>
 /// In the other part of an `if`, or what is returned.
 #[cycle(exprs)]
 fn in_other(other: &Option<Boxed<Expr>>) -> Option<Place>
-    ensures { result ≡ first_unbuilt (maybe_nodes (option_map tree_of other.now)) }
+    ensures { result ≡ first_unbuilt (default_order (option_map tree_of other.now)) }
 {
     match other {
         Some(expr) => in_expr(expr.get()),
@@ -112,7 +112,7 @@ fn in_other(other: &Option<Boxed<Expr>>) -> Option<Place>
 #[cycle(exprs)]
 #[tactic(auto, using(crate::proofs::Appends::first_append, crate::proofs::Views::two_parts))]
 fn in_two(two: &Two) -> Option<Place>
-    ensures { result ≡ first_unbuilt (nodes (two_of two.now).0 ++ nodes (two_of two.now).1) }
+    ensures { result ≡ first_unbuilt (post_order (two_of two.now).0 ++ post_order (two_of two.now).1) }
 {
     match in_expr(two.left.get()) {
         Some(place) => Some(place),
@@ -123,7 +123,7 @@ fn in_two(two: &Two) -> Option<Place>
 #[cycle(exprs)]
 #[tactic(auto, using(crate::proofs::Appends::first_append, crate::proofs::Views::typed_parts))]
 fn in_typed(typed: &Typed) -> Option<Place>
-    ensures { result ≡ first_unbuilt (written_nodes (typed_of typed.now).0 ++ nodes (typed_of typed.now).1) }
+    ensures { result ≡ first_unbuilt (written_order (typed_of typed.now).0 ++ post_order (typed_of typed.now).1) }
 {
     match in_type(&typed.ty) {
         Some(place) => Some(place),
@@ -134,7 +134,7 @@ fn in_typed(typed: &Typed) -> Option<Place>
 #[cycle(exprs)]
 #[tactic(auto, using(crate::proofs::Appends::first_append, crate::proofs::Views::choice_parts))]
 fn in_choice(choice: &Choice) -> Option<Place>
-    ensures { result ≡ first_unbuilt (all_nodes (trees (choice_of choice.now).conditions) ++ nodes (choice_of choice.now).taken ++ maybe_nodes (choice_of choice.now).otherwise) }
+    ensures { result ≡ first_unbuilt (trees_order (trees (choice_of choice.now).conditions) ++ post_order (choice_of choice.now).taken ++ default_order (choice_of choice.now).otherwise) }
 {
     if let Some(place) = in_all(choice.conditions.as_slice()) {
         return Some(place);
@@ -148,7 +148,7 @@ fn in_choice(choice: &Choice) -> Option<Place>
 #[cycle(exprs)]
 #[tactic(auto, using(crate::proofs::Appends::first_append, crate::proofs::Views::applied_parts))]
 fn in_applied(applied: &Applied) -> Option<Place>
-    ensures { result ≡ first_unbuilt (nodes (applied_of applied.now).0 ++ all_nodes (trees (applied_of applied.now).1)) }
+    ensures { result ≡ first_unbuilt (post_order (applied_of applied.now).0 ++ trees_order (trees (applied_of applied.now).1)) }
 {
     match in_expr(applied.callee.get()) {
         Some(place) => Some(place),
@@ -158,7 +158,7 @@ fn in_applied(applied: &Applied) -> Option<Place>
 
 #[cycle(exprs)]
 fn in_holes(all: &[Hole]) -> Option<Place>
-    ensures { result ≡ first_unbuilt (holes_nodes (holes (map hole_of all.now))) }
+    ensures { result ≡ first_unbuilt (holes_order (holes (map hole_of all.now))) }
 {
     for hole in all {
         if let Some(place) = in_expr(&hole.value) {
@@ -170,7 +170,7 @@ fn in_holes(all: &[Hole]) -> Option<Place>
 
 #[cycle(exprs)]
 fn in_pairs(all: &[Pair]) -> Option<Place>
-    ensures { result ≡ first_unbuilt (pairs_nodes (pairs (map pair_of all.now))) }
+    ensures { result ≡ first_unbuilt (pairs_order (pairs (map pair_of all.now))) }
 {
     for pair in all {
         if let Some(place) = in_pair(pair) {
@@ -183,7 +183,7 @@ fn in_pairs(all: &[Pair]) -> Option<Place>
 #[cycle(exprs)]
 #[tactic(auto, using(crate::proofs::Appends::first_append, crate::proofs::Views::pair_parts))]
 fn in_pair(pair: &Pair) -> Option<Place>
-    ensures { result ≡ first_unbuilt (nodes (pair_of pair.now).0 ++ nodes (pair_of pair.now).1) }
+    ensures { result ≡ first_unbuilt (post_order (pair_of pair.now).0 ++ post_order (pair_of pair.now).1) }
 {
     match in_expr(&pair.key) {
         Some(place) => Some(place),
@@ -194,7 +194,7 @@ fn in_pair(pair: &Pair) -> Option<Place>
 /// In the values of an instance.
 #[cycle(exprs)]
 fn in_values(values: &[Given]) -> Option<Place>
-    ensures { result ≡ first_unbuilt (givens_nodes (givens (map given_of values.now))) }
+    ensures { result ≡ first_unbuilt (givens_order (givens (map given_of values.now))) }
 {
     for given in values {
         if let Some(place) = in_expr(&given.value) {
@@ -207,7 +207,7 @@ fn in_values(values: &[Given]) -> Option<Place>
 #[cycle(exprs)]
 #[tactic(auto, using(crate::proofs::Appends::first_append, crate::proofs::Views::each_parts))]
 fn in_each(each: &Each) -> Option<Place>
-    ensures { result ≡ first_unbuilt (all_nodes (trees (each_of each.now).0) ++ nodes (each_of each.now).1) }
+    ensures { result ≡ first_unbuilt (trees_order (trees (each_of each.now).0) ++ post_order (each_of each.now).1) }
 {
     match in_all(each.clauses.as_slice()) {
         Some(place) => Some(place),
@@ -218,7 +218,7 @@ fn in_each(each: &Each) -> Option<Place>
 #[cycle(exprs)]
 #[tactic(auto, using(crate::proofs::Appends::first_append, crate::proofs::Views::cases_parts))]
 fn in_cases(cases: &Cases) -> Option<Place>
-    ensures { result ≡ first_unbuilt (nodes (cases_of cases.now).0 ++ all_nodes (trees (cases_of cases.now).1)) }
+    ensures { result ≡ first_unbuilt (post_order (cases_of cases.now).0 ++ trees_order (trees (cases_of cases.now).1)) }
 {
     match in_expr(cases.subject.get()) {
         Some(place) => Some(place),

@@ -5,7 +5,7 @@ ghost use Rattle.std.specs.Option.{option_map};
 ghost use Rattle.verse_tree.specs.View.{tree_of};
 ghost use Rattle.verse_tree.specs.ItemTree.{function};
 ghost use Rattle.verse_tree.specs.ItemView.{field_of, param_of, fun_of, member_of, item_of};
-ghost use Rattle.verse_built.specs.Nodes.{maybe_nodes, param_nodes, params_nodes, fun_parts, field_parts, member_nodes, members_nodes, item_nodes, items_nodes, program_nodes};
+ghost use Rattle.verse_tree.specs.PostOrder.{default_order, param_order, params_order, fun_parts, field_parts, member_order, members_order, item_order, items_order, program_order};
 ghost use Rattle.verse_built.specs.Built.{first_unbuilt};
 
 use crate::exprs::in_expr;
@@ -25,7 +25,7 @@ const PROGRAM: Place = Place {
 /// The place of the first node that is not built; None where every node is built.
 #[tactic(auto, using(crate::proofs::Appends::first_append))]
 pub fn unbuilt(items: &[Item]) -> Option<Place>
-    ensures { result ≡ first_unbuilt (program_nodes (map item_of items.now)) }
+    ensures { result ≡ first_unbuilt (program_order (map item_of items.now)) }
 {
     match in_items(items) {
         Some(place) => Some(place),
@@ -36,7 +36,7 @@ pub fn unbuilt(items: &[Item]) -> Option<Place>
 
 #[tactic(auto, using(crate::proofs::Appends::first_append))]
 fn in_items(items: &[Item]) -> Option<Place>
-    ensures { result ≡ first_unbuilt (items_nodes (map item_of items.now)) }
+    ensures { result ≡ first_unbuilt (items_order (map item_of items.now)) }
 {
     for item in items {
         if let Some(place) = in_item(item) {
@@ -48,7 +48,7 @@ fn in_items(items: &[Item]) -> Option<Place>
 
 #[tactic(auto, using(crate::proofs::Appends::first_append))]
 fn in_item(item: &Item) -> Option<Place>
-    ensures { result ≡ first_unbuilt (item_nodes (item_of item.now)) }
+    ensures { result ≡ first_unbuilt (item_order (item_of item.now)) }
 {
     match item {
         Item::Using(using) => Some(using.place),
@@ -63,7 +63,7 @@ fn in_item(item: &Item) -> Option<Place>
 
 #[tactic(auto, using(crate::proofs::Appends::first_append))]
 fn in_function(fun: &Fun) -> Option<Place>
-    ensures { result ≡ first_unbuilt (item_nodes (function (fun_of fun.now))) }
+    ensures { result ≡ first_unbuilt (item_order (function (fun_of fun.now))) }
 {
     match in_fun(fun) {
         Some(place) => Some(place),
@@ -88,7 +88,7 @@ fn in_fun(fun: &Fun) -> Option<Place>
 
 #[tactic(auto, using(crate::proofs::Appends::first_append))]
 fn in_params(params: &[Param]) -> Option<Place>
-    ensures { result ≡ first_unbuilt (params_nodes (map param_of params.now)) }
+    ensures { result ≡ first_unbuilt (params_order (map param_of params.now)) }
 {
     // No parameter is built.
     let (first, _) = params.split_first()?;
@@ -97,7 +97,7 @@ fn in_params(params: &[Param]) -> Option<Place>
 
 #[tactic(auto, using(crate::proofs::Appends::first_append))]
 fn in_param(param: &Param) -> Place
-    ensures { first_unbuilt (param_nodes (param_of param.now)) ≡ Some result }
+    ensures { first_unbuilt (param_order (param_of param.now)) ≡ Some result }
 {
     match in_type(&param.ty) {
         Some(place) => place,
@@ -107,7 +107,7 @@ fn in_param(param: &Param) -> Place
 
 #[tactic(auto, using(crate::proofs::Appends::first_append))]
 fn in_members(members: &[Member]) -> Option<Place>
-    ensures { result ≡ first_unbuilt (members_nodes (map member_of members.now)) }
+    ensures { result ≡ first_unbuilt (members_order (map member_of members.now)) }
 {
     // No member is built.
     let (first, _) = members.split_first()?;
@@ -116,7 +116,7 @@ fn in_members(members: &[Member]) -> Option<Place>
 
 #[tactic(auto, using(crate::proofs::Appends::first_append))]
 fn in_member(member: &Member) -> Place
-    ensures { first_unbuilt (member_nodes (member_of member.now)) ≡ Some result }
+    ensures { first_unbuilt (member_order (member_of member.now)) ≡ Some result }
 {
     match member {
         Member::Field(field) => match in_field(field) {
@@ -141,7 +141,7 @@ fn in_field(field: &Field) -> Option<Place>
 }
 
 fn in_default(default: &Option<Expr>) -> Option<Place>
-    ensures { result ≡ first_unbuilt (maybe_nodes (option_map tree_of default.now)) }
+    ensures { result ≡ first_unbuilt (default_order (option_map tree_of default.now)) }
 {
     match default {
         Some(expr) => in_expr(expr),

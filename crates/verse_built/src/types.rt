@@ -3,7 +3,7 @@
 ghost use Rattle.std.specs.Prelude.{◌≡◌, ◌++◌, map};
 ghost use Rattle.verse_tree.specs.View.{written_of, writtens};
 ghost use Rattle.verse_tree.specs.TypeView.{map_of};
-ghost use Rattle.verse_built.specs.Nodes.{written_nodes, writtens_nodes};
+ghost use Rattle.verse_tree.specs.PostOrder.{written_order, writtens_order};
 ghost use Rattle.verse_built.specs.Built.{first_unbuilt};
 
 use verse_base::places::Place;
@@ -12,7 +12,7 @@ use verse_tree::types::{MapTy, TyExpr};
 /// The first node in the type that is not built.
 #[cycle(types)]
 pub(crate) fn in_type(ty: &TyExpr) -> Option<Place>
-    ensures { result ≡ first_unbuilt (written_nodes (written_of ty.now)) }
+    ensures { result ≡ first_unbuilt (written_order (written_of ty.now)) }
 {
     match ty {
         TyExpr::Int | TyExpr::Logic | TyExpr::Char | TyExpr::String | TyExpr::Void => None,
@@ -28,7 +28,7 @@ pub(crate) fn in_type(ty: &TyExpr) -> Option<Place>
 #[cycle(types)]
 #[tactic(auto, using(crate::proofs::Appends::first_append, crate::proofs::Views::mapty_parts))]
 fn in_map(parts: &MapTy) -> Option<Place>
-    ensures { result ≡ first_unbuilt (written_nodes (map_of parts.now).0 ++ written_nodes (map_of parts.now).1) }
+    ensures { result ≡ first_unbuilt (written_order (map_of parts.now).0 ++ written_order (map_of parts.now).1) }
 {
     match in_type(parts.key.get()) {
         Some(place) => Some(place),
@@ -38,7 +38,7 @@ fn in_map(parts: &MapTy) -> Option<Place>
 
 #[cycle(types)]
 fn in_types(types: &[TyExpr]) -> Option<Place>
-    ensures { result ≡ first_unbuilt (writtens_nodes (writtens (map written_of types.now))) }
+    ensures { result ≡ first_unbuilt (writtens_order (writtens (map written_of types.now))) }
 {
     for ty in types {
         if let Some(place) = in_type(ty) {

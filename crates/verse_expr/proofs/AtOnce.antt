@@ -22,23 +22,9 @@ use Rattle.verse_grammar.specs.declared.starts.PostfixStart.TheVariants as postf
 use Rattle.verse_grammar.specs.Symbols.{Rule, Symbol, a, rule, Move, takes, becomes, refuses, first_as, first_is, predict, by_primary, by_chain_tail, by_comparison_tail, by_postfix_tail, a_type, bracket_rest, tuple_rest, types, types_tail, bracket_type, bracket_type_rest, stmt_name, typed_value, set_rest, assign, return_value, an_if, taken, otherwise, comparison_tail, postfix_tail, hole_rest, name_rest, givens_until, given, givens_tail, round_rest, pairs_until, pair, pairs_tail, clauses, case_rest, duration, generator_rest, entries_rest, clause_name, clause_value, range_rest, an_int, program, items_tail, an_item, using_rest, dotted, dots_tail, path_tail, specs, item_rest, enum_or_class, enum_rest, values_until, values_tail, class_rest, parent, members_until, members_tail, member, member_rest, field_rest, default, fun_rest, params_until, param, params_tail, phrase, chain_tail, row_tail, closed, until}
 use Rattle.verse_grammar.specs.Reading.{Eats, eats_tok, eats_rule, EatsRule, eats_takes, eats_becomes, Sticks, sticks_here, sticks_behind_tok, sticks_in_rule, sticks_behind_rule, SticksRule, sticks_refused, sticks_takes, sticks_becomes}
 use Rattle.verse_grammar.proofs.Sights.{same_kind, seen}
+use Rattle.verse_grammar.proofs.Moves.{becomes_becomes, takes_becomes, takes_refuses, becomes_refuses}
 use Rattle.verse_grammar.proofs.Local.{rule_within}
 use Rattle.verse_expr.proofs.Suffixes.{stuck_inside}
-
-pub becomes_becomes : {M : Move} {Xs Ys : List Symbol} → M ≡ becomes Xs → M ≡ becomes Ys → Xs ≡ Ys
-becomes_becomes g h = cc
-
-pub takes_takes : {M : Move} {Xs Ys : List Symbol} → M ≡ takes Xs → M ≡ takes Ys → Xs ≡ Ys
-takes_takes g h = cc
-
-pub takes_becomes : {M : Move} {Xs Ys : List Symbol} → M ≡ takes Xs → M ≡ becomes Ys → ⊥
-takes_becomes g h = cc
-
-pub takes_refuses : {M : Move} {Xs : List Symbol} → M ≡ takes Xs → M ≡ refuses → ⊥
-takes_refuses g h = cc
-
-pub becomes_refuses : {M : Move} {Xs : List Symbol} → M ≡ becomes Xs → M ≡ refuses → ⊥
-becomes_refuses g h = cc
 
 no_toks : {k : Tok} {ks : List Tok} → k ∷ ks ≡ [] → ⊥
 no_toks h = cc

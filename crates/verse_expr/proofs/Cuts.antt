@@ -8,9 +8,10 @@ use Rattle.verse_grammar.specs.declared.phrases.Phrase.{Phrase}
 use Rattle.verse_grammar.specs.Symbols.{Rule, Symbol, a, rule, takes, becomes, refuses, predict, program, phrase}
 use Rattle.verse_grammar.specs.Reading.{Eats, eats_none, eats_tok, eats_rule, EatsRule, eats_takes, eats_becomes, Sticks, sticks_here, sticks_behind_tok, sticks_in_rule, sticks_behind_rule, SticksRule, sticks_refused, sticks_takes, sticks_becomes}
 use Rattle.verse_grammar.proofs.CompletingStops.{whole_eaten}
+use Rattle.verse_grammar.proofs.Moves.{becomes_becomes, takes_takes, takes_becomes, takes_refuses, becomes_refuses}
 use Rattle.verse_grammar.proofs.Local.{predict_ahead, rule_within, sticks_rule_within}
 use Rattle.verse_expr.proofs.Suffixes.{stuck_inside}
-use Rattle.verse_expr.proofs.AtOnce.{at_once, becomes_becomes, takes_takes, takes_becomes, takes_refuses, becomes_refuses}
+use Rattle.verse_expr.proofs.AtOnce.{at_once}
 use Rattle.verse_expr.proofs.Plain.{plain, takes_plain, becomes_plain, plain_parts}
 
 -- the toks but for the last so many
@@ -42,9 +43,6 @@ view (cut_more c) = goes_on refl
 cut_length : {left : ℕ} {ks ls : List Tok} → Cut left ks ls → length ls + left ≡ length ks
 cut_length (cut_here h) = omega arith
 cut_length (cut_more c) = let i = cut_length c in omega arith
-
-no_toks : {k : Tok} {ks : List Tok} → k ∷ ks ≡ [] → ⊥
-no_toks h = cc
 
 nothing : (ls : List Tok) → length ls ≤ 0 → ls ≡ []
 nothing [] h = refl

@@ -17,6 +17,7 @@ pub mod SpelledLaws
 pub mod EatingItems
 pub mod StickingItems
 pub mod GoingItems
+pub mod Moves
 pub mod Local
 pub mod CompletingMeanings
 pub mod CompletingTypes

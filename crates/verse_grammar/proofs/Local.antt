@@ -4,8 +4,9 @@ use Rattle.verse_layout.specs.declared.toks.TokKind.{TokKind}
 use Rattle.verse_layout.specs.declared.toks.Tok.{Tok}
 use Rattle.verse_grammar.specs.Toks.{ahead}
 use Rattle.verse_grammar.specs.declared.phrases.Phrase.TheVariants as p
-use Rattle.verse_grammar.specs.Symbols.{Rule, Symbol, Move, a, rule, predict, takes, becomes, refuses, a_type, bracket_rest, tuple_rest, types, types_tail, bracket_type, bracket_type_rest, stmt_name, typed_value, set_rest, assign, return_value, an_if, taken, otherwise, comparison_tail, postfix_tail, hole_rest, name_rest, givens_until, given, givens_tail, round_rest, pairs_until, pair, pairs_tail, clauses, case_rest, duration, generator_rest, entries_rest, clause_name, clause_value, range_rest, an_int, program, items_tail, an_item, using_rest, dotted, dots_tail, path_tail, specs, item_rest, enum_or_class, enum_rest, values_until, values_tail, class_rest, parent, members_until, members_tail, member, member_rest, field_rest, default, fun_rest, params_until, param, params_tail, phrase, chain_tail, row_tail, closed, until}
+use Rattle.verse_grammar.specs.Symbols.{Rule, Symbol, a, rule, predict, takes, becomes, refuses, a_type, bracket_rest, tuple_rest, types, types_tail, bracket_type, bracket_type_rest, stmt_name, typed_value, set_rest, assign, return_value, an_if, taken, otherwise, comparison_tail, postfix_tail, hole_rest, name_rest, givens_until, given, givens_tail, round_rest, pairs_until, pair, pairs_tail, clauses, case_rest, duration, generator_rest, entries_rest, clause_name, clause_value, range_rest, an_int, program, items_tail, an_item, using_rest, dotted, dots_tail, path_tail, specs, item_rest, enum_or_class, enum_rest, values_until, values_tail, class_rest, parent, members_until, members_tail, member, member_rest, field_rest, default, fun_rest, params_until, param, params_tail, phrase, chain_tail, row_tail, closed, until}
 use Rattle.verse_grammar.specs.Reading.{Eats, eats_none, eats_tok, eats_rule, EatsRule, eats_takes, eats_becomes, Sticks, sticks_here, sticks_behind_tok, sticks_in_rule, sticks_behind_rule, SticksRule, sticks_refused, sticks_takes, sticks_becomes}
+use Rattle.verse_grammar.proofs.Moves.{takes_takes, becomes_becomes, takes_becomes, takes_refuses, becomes_refuses}
 use Rattle.verse_grammar.specs.BeginsLaws.{Agree, agree_last, agree_more, SticksAt, ReadsOneWay, ReadsLocally}
 
 -- what a rule does depends on the kind of the first tok alone
@@ -141,21 +142,6 @@ rule_off : {r : Rule} {Xs : List Symbol} {ks : List Tok} {o : Out} {n : ℕ} →
 rule_off f (eaten (eats_rule x y)) = absurd (upto_at (f _ (rule_eaten x)))
 rule_off f (stuck (sticks_in_rule x)) = f _ (rule_stuck x)
 rule_off f (stuck (sticks_behind_rule x y)) = absurd (upto_at (f _ (rule_eaten x)))
-
-takes_takes : {M : Move} {Xs Ys : List Symbol} → M ≡ takes Xs → M ≡ takes Ys → Xs ≡ Ys
-takes_takes g h = cc
-
-becomes_becomes : {M : Move} {Xs Ys : List Symbol} → M ≡ becomes Xs → M ≡ becomes Ys → Xs ≡ Ys
-becomes_becomes g h = cc
-
-takes_becomes : {M : Move} {Xs Ys : List Symbol} → M ≡ takes Xs → M ≡ becomes Ys → ⊥
-takes_becomes g h = cc
-
-takes_refuses : {M : Move} {Xs : List Symbol} → M ≡ takes Xs → M ≡ refuses → ⊥
-takes_refuses g h = cc
-
-becomes_refuses : {M : Move} {Xs : List Symbol} → M ≡ becomes Xs → M ≡ refuses → ⊥
-becomes_refuses g h = cc
 
 takes_case : {r : Rule} {Ys : List Symbol} {k : Tok} {ks : List Tok} {o q : Out} → predict r (k ∷ ks) ≡ takes Ys → ((o : Out) → Run Ys ks o → o ≡ q) → RunRule r (k ∷ ks) o → o ≡ q
 takes_case {ks = ks} e f (rule_eaten {ls = rest} (eats_takes h x)) = f _ (eaten (subst (λ (Xs : List Symbol). Eats Xs ks rest) (takes_takes h e) x))

@@ -15,8 +15,9 @@ use verse_tree::items::{Item, Tree};
 /// the whole, and from left to right. The program itself is the last node, so that its number is
 /// one less than the count of nodes. A program may have no file, and a file no item.
 ///
-/// The program has fewer than 4294967295 nodes, and at most 4294967295 files. Want of memory alone
-/// is an error.
+/// The program has fewer than 4294967295 nodes, and at most 4294967295 files. The nodes are built
+/// anew, so that until the answer is there both trees are in memory. Want of memory alone is an
+/// error.
 pub fn join(alloc: Global, files: Vec<Vec<Item>>) -> Result<Tree, Memory>
     requires nodes { program_nodes (joined files.items) < 4294967295 }
     requires files { length files.items ≤ 4294967295 }

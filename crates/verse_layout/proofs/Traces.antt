@@ -1,5 +1,6 @@
 -- A walk reaches the file's end, or stops at the first token with which no file goes on.
 use Rattle.std.proofs.Common.{◌≡◌, Bool, true, ◌⊎◌, inl, inr, List, [], ◌∷◌, ◌++◌, ℕ, Some, None, refl, sym, ◌∙◌, ap, append_assoc, is_some}
+use Rattle.std.proofs.lemmas.Option.{same_Some}
 use Rattle.verse_base.specs.declared.refusals.Refusal.{Refusal}
 use Rattle.verse_layout.specs.declared.frames.Spot.{Spot}
 use Rattle.verse_layout.specs.Cells.{Cell, ends_line}
@@ -119,13 +120,10 @@ stuck_file before c r stuck b =
     let e = sym (stuck b.end b.rest) ∙ ap (λ cs. (walk b.end nowhere cs).stop) (sym (append_assoc before (c ∷ []) b.rest)) ∙ file_stop b.block in
     absurd (cc)
 
-some_is : (r s : Refusal) → Some r ≡ Some s → r ≡ s
-some_is r s e = cc
-
 stopped_stuck : (end : Spot) (cs : List Cell) (r : Refusal) → (walk end nowhere cs).stop ≡ Some r → Stopped nowhere cs → IsStuck end cs r
 stopped_stuck end cs r e s =
     at_token s.before s.behind s.c s.rule s.split (goes_file end s.before s.goes) (stuck_file s.before s.c _ s.stuck) s.rules
-    (some_is _ _ (sym e ∙ ap (λ x. (walk end nowhere x).stop) s.split ∙ s.stuck end s.behind))
+    (same_Some _ _ (sym e ∙ ap (λ x. (walk end nowhere x).stop) s.split ∙ s.stuck end s.behind))
 
 walked_stuck : (end : Spot) (cs : List Cell) (r : Refusal) → (walk end nowhere cs).stop ≡ Some r → BeginsFile cs → IsStuck end cs r
 walked_stuck end cs r e b = at_file_end b (λ ws f. let x = sym e ∙ file_stop f in absurd (cc))
@@ -140,7 +138,7 @@ traced_stuck end cs r e (inr s) = walked_stuck end cs r e (goes_file end cs s.go
 first_stuck : (end : Spot) (c : Cell) (cs : List Cell) (r : Refusal) → (walk end nowhere (c ∷ cs)).stop ≡ Some r → Both c.token.place (λ ends go. step nowhere c ends go) → IsStuck end (c ∷ cs) r
 first_stuck end c cs r e (stop_both rule ws q w) =
     let stuck = λ (end' : Spot) (rest : List Cell). stop_of (walk end' nowhere (c ∷ rest)) _ ws (w (ends_line rest) (λ g. walk end' g rest)) in
-    at_token [] cs c rule refl nothing_begins (stuck_file [] c (refusal rule c.token.place) stuck) q (some_is _ _ (sym e ∙ stuck end cs))
+    at_token [] cs c rule refl nothing_begins (stuck_file [] c (refusal rule c.token.place) stuck) q (same_Some _ _ (sym e ∙ stuck end cs))
 first_stuck end c cs r e (pass_both p) =
     let y = p (ends_line cs) in
     traced_stuck end (c ∷ cs) r e (traced_more nowhere y.there c cs y.ws y.walks (traced cs y.there y.fine y.opens))

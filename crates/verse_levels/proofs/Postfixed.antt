@@ -1,6 +1,5 @@
 -- One postfix more.
-use Rattle.std.proofs.Common.{◌≡◌, ℕ, List, ◌∷◌, Some, Err}
-use Rattle.std.specs.Result.{IsErrOf}
+use Rattle.std.proofs.Common.{◌≡◌, ℕ, List, ◌∷◌, Some}
 use Rattle.verse_layout.specs.declared.toks.Tok.{Tok}
 use Rattle.verse_tree.specs.Tree.{Tree}
 use Rattle.verse_grammar.specs.Starts.{postfix_start}
@@ -9,7 +8,6 @@ use Rattle.verse_grammar.specs.Symbols.{postfix_tail}
 use Rattle.verse_grammar.specs.Reading.{SticksRule}
 use Rattle.verse_grammar.specs.Loops.{Goes}
 use Rattle.verse_grammar.specs.declared.starts.PostfixStart.{PostfixStart}
-use Rattle.verse_reading.specs.declared.stops.Stop.{Stop}
 use Rattle.verse_grammar.proofs.Going.{goes_postfix_tail_round, goes_postfix_tail_square, goes_postfix_tail_dot, goes_postfix_tail_question, stuck_postfix_tail_round_1, stuck_postfix_tail_square_1, stuck_postfix_tail_dot_1}
 use Rattle.verse_levels.specs.declared.postfixes.Suffix.{Suffix}
 use Rattle.verse_levels.specs.Postfixing.{joined, OnePostfix, one_call, one_index, one_member, one_query, PostfixEats, eats_call, eats_index, eats_member, eats_query, PostfixSticks, sticks_call, sticks_index, sticks_member}
@@ -41,7 +39,3 @@ stuck_on {k = k} {ks = ks} {ls = ls} h g (sticks_member x) = stuck_postfix_tail_
 
 pub stuck_postfix : (s : PostfixStart) (k : Tok) (ks ls ms : List Tok) (left : ℕ) → Goes postfix_tail ks ls → ls ≡ k ∷ ms → postfix_start k.kind ≡ Some s → PostfixSticks s ms left → SticksRule postfix_tail ks left
 stuck_postfix s k ks ls ms left g same h x = stuck_on h (rw same at g) x
-
--- a stop is the same whatever the reading that it ended was of
-pub same_stop : {A B : Type 0} (x y : Stop) → IsErrOf {T = A} (Err x) y → IsErrOf {T = B} (Err x) y
-same_stop x y h = cc

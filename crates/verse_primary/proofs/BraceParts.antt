@@ -1,7 +1,6 @@
 -- Forms in braces and the parts of a `for`, by what the code knows: an equation says which tok stands ahead, and what is made.
-use Rattle.std.proofs.Common.{◌≡◌, ℕ, List, [], ◌∷◌, ◌++◌, Some, Err, map, refl}
+use Rattle.std.proofs.Common.{◌≡◌, ℕ, List, [], ◌∷◌, ◌++◌, Some, map}
 use Rattle.std.proofs.lemmas.List.{map-append}
-use Rattle.std.specs.Result.{IsErrOf}
 use Rattle.verse_lex.specs.declared.tokens.Mark.TheVariants as m
 use Rattle.verse_layout.specs.declared.toks.TokKind.TheVariants as tok
 use Rattle.verse_layout.specs.declared.toks.Tok.{Tok}
@@ -19,7 +18,6 @@ use Rattle.verse_grammar.specs.Loops.{Goes}
 use Rattle.verse_grammar.specs.declared.phrases.Phrase.TheVariants as p
 use Rattle.verse_grammar.specs.declared.starts.PrimaryStart.TheVariants as primary
 use Rattle.verse_grammar.proofs.Going.{goes_pairs_tail_at, goes_row_tail_at}
-use Rattle.verse_reading.specs.declared.stops.Stop.{Stop}
 use Rattle.verse_primary.specs.Parts.{IsPair}
 use Rattle.verse_primary.proofs.Parts.{pair_row_more, spawn_by, eats_spawn_by}
 use Rattle.verse_primary.proofs.BracketEnds.{cases_by, eats_cases_by, sticks_cases_by}
@@ -55,7 +53,3 @@ cases_eaten k o c q all ks mid ls rest s a h e u i j x = rw a (eats_cases_by k o
 pub cases_stuck : (left : ℕ) (k o c q : Tok) (all ks mid at : List Tok) → primary_start k.kind ≡ Some primary.Case → all ≡ o ∷ ks → o.kind ≡ mark m.RoundOpen → EatsRule (phrase p.Expr) ks mid → mid ≡ c ∷ (q ∷ at) → c.kind ≡ mark m.RoundClose → q.kind ≡ tok.Open →
     SticksRule (closed p.Arm tok.Sep tok.Close) at left → SticksRule (phrase p.Primary) (k ∷ all) left
 cases_stuck left k o c q all ks mid at s a h e u i j x = rw a (sticks_cases_by left k o c q ks mid at s h e u i j x)
-
--- the same stop as the answer of another call
-pub same_stop : {T U : Type 0} (s e : Stop) → IsErrOf {T = T} (Err s) e → IsErrOf {T = U} (Err s) e
-same_stop s e h = let same : s ≡ e = cc in rw same refl

@@ -1,6 +1,5 @@
 -- Names, instances, texts with holes and arms: one part more, and where they do not go on, by equations.
-use Rattle.std.proofs.Common.{◌≡◌, ℕ, List, [], ◌∷◌, ◌++◌, Option, Some, Err, map, refl}
-use Rattle.std.specs.Result.{IsErrOf}
+use Rattle.std.proofs.Common.{◌≡◌, ℕ, List, [], ◌∷◌, ◌++◌, Option, Some, map}
 use Rattle.std.proofs.lemmas.List.{map-append}
 use Rattle.verse_lex.specs.declared.tokens.TokenKind.TheVariants as token
 use Rattle.verse_layout.specs.declared.toks.TokKind.TheVariants as tok
@@ -48,7 +47,3 @@ pub round_reads : {b : List ℕ} {k : Tok} {ks mid rest : List Tok} {e x : Tree}
     Reads b p.Primary (k ∷ ks) x rest
 round_reads s r (only_one h) made = rw made (brackets s r h)
 round_reads s r (several h c) made = rw made (tuple s r h c)
-
--- an error that is passed on is the same at another type of values
-pub same_stop : {A B E : Type 0} (x y : E) → IsErrOf {T = A} {E = E} (Err x) y → IsErrOf {T = B} {E = E} (Err x) y
-same_stop x y e = let same : x ≡ y = cc in rw same refl

@@ -1,3 +1,4 @@
 pub mod Taking
+pub mod Stopping
 pub mod TypeRows
 pub mod Rows

@@ -1,5 +1,6 @@
 -- What the first tok is not.
-use Rattle.std.proofs.Common.{◌≡◌, ◌≢◌, List, [], ◌∷◌, Some}
+use Rattle.std.proofs.Common.{◌≢◌, List, [], ◌∷◌, Some}
+use Rattle.std.proofs.lemmas.Option.{same_Some}
 use Rattle.verse_layout.specs.declared.toks.Tok.{Tok}
 use Rattle.verse_layout.specs.declared.toks.TokKind.{TokKind}
 use Rattle.verse_grammar.specs.Toks.{ahead}
@@ -10,8 +11,5 @@ use Rattle.verse_grammar.proofs.Fixing.{other_kind}
 pub none_ahead : (kind : TokKind) → ahead [] ≢ Some kind
 none_ahead kind e = absurd (cc)
 
-some_is : {A : Type 0} (x y : A) → Some x ≡ Some y → x ≡ y
-some_is x y e = cc
-
 pub other_ahead : (k : Tok) (ks : List Tok) (f : Fixed) → fixed_at k.kind ≢ Some f → ahead (k ∷ ks) ≢ Some (kind_of f)
-other_ahead k ks f h e = other_kind k.kind f h (some_is k.kind (kind_of f) e)
+other_ahead k ks f h e = other_kind k.kind f h (same_Some k.kind (kind_of f) e)

@@ -1,5 +1,6 @@
 -- What clauses that begin with a name read.
 use Rattle.std.proofs.Common.{◌≡◌, ◌≢◌, ℕ, List, [], ◌∷◌, Some, length, refl}
+use Rattle.std.proofs.lemmas.Option.{same_Some}
 use Rattle.verse_lex.specs.declared.tokens.Word.TheVariants as w
 use Rattle.verse_lex.specs.declared.tokens.Mark.TheVariants as m
 use Rattle.verse_layout.specs.declared.toks.Tok.{Tok}
@@ -17,9 +18,6 @@ use Rattle.verse_grammar.proofs.Eating.{eats_clause_name, eats_clause_name_at1, 
 use Rattle.verse_grammar.proofs.Sticking.{sticks_clause_name_1, sticks_clause_name_at1_1, sticks_clause_name_at2_1, sticks_clause_name_at3_1, sticks_clause_value_at2_1}
 use Rattle.verse_statements.specs.Behind.{Writes, writes, write_symbols, EndsRange, ends, end_symbols}
 use Rattle.verse_statements.proofs.Starting.{set_start}
-
-some_is : {A : Type 0} (x y : A) → Some x ≡ Some y → x ≡ y
-some_is x y e = cc
 
 pub eats_clause_elements : (k o : Tok) (ks rest : List Tok) → stmt_start k.kind ≡ Some stmt.Name → o.kind ≡ mark m.Colon → EatsRule (phrase p.Sum) ks rest → EatsRule (phrase p.Clause) (k ∷ (o ∷ ks)) rest
 eats_clause_elements k o ks rest h e x = eats_clause_name k (o ∷ ks) rest h (eats_clause_name_at1 o ks rest e x)
@@ -41,11 +39,11 @@ sticks_clause_defined left k o ls h e x = sticks_clause_name_1 left k (o ∷ ls)
 
 pub eats_value_not : (ks rest : List Tok) → ahead ks ≡ Some (word w.Not) → EatsRule (phrase p.Or) ks rest → EatsRule clause_value ks rest
 eats_value_not [] rest h x = absurd (cc)
-eats_value_not (k ∷ ks) rest h x = eats_clause_value_at2 k ks rest (some_is k.kind (word w.Not) h) x
+eats_value_not (k ∷ ks) rest h x = eats_clause_value_at2 k ks rest (same_Some k.kind (word w.Not) h) x
 
 pub sticks_value_not : (left : ℕ) (ls : List Tok) → ahead ls ≡ Some (word w.Not) → SticksRule (phrase p.Or) ls left → SticksRule clause_value ls left
 sticks_value_not left [] h x = absurd (cc)
-sticks_value_not left (k ∷ ks) h x = sticks_clause_value_at2_1 left k ks (some_is k.kind (word w.Not) h) x
+sticks_value_not left (k ∷ ks) h x = sticks_clause_value_at2_1 left k ks (same_Some k.kind (word w.Not) h) x
 
 -- `set`
 pub set_by : (b : List ℕ) (k : Tok) (ks ls rest : List Tok) (x : Assign) (e f : Tree) → stmt_start k.kind ≡ Some stmt.Set → Reads b p.Postfix ks e ls → Writes b ls x f rest →

@@ -4,7 +4,7 @@ use Rattle.verse_base.specs.declared.places.Place.{Place}
 use Rattle.verse_base.specs.declared.refusals.Refusal.{Refusal}
 use Rattle.verse_lex.specs.Cut.{first_place}
 use Rattle.verse_tree.specs.ItemTree.{ItemTree}
-use Rattle.verse_built.specs.Nodes.{program_nodes}
+use Rattle.verse_tree.specs.PostOrder.{program_order}
 use Rattle.verse_built.specs.Built.{first_unbuilt}
 use Rattle.verse_built.specs.Texts.{texts_of}
 use Rattle.verse_top.specs.Rendering.{ending_status, run_text}
@@ -40,10 +40,10 @@ pub answers_refused : (file bytes : List ℕ) (o : Options) (s : ℕ) (x : List 
 answers_refused file bytes o s x r e f small p = along (run file o) bytes s 1 x _ e f (refused r small p)
 
 pub answers_unbuilt : (file bytes : List ℕ) (o : Options) (s : ℕ) (x : List ℕ) (is : List ItemTree) (place : Place) → s ≡ 1 → x ≡ refusal_line 99 place → length bytes ≤ 1048576 →
-    Parses bytes is → first_unbuilt (program_nodes is) ≡ Some place → Answers (run file o) bytes s x
+    Parses bytes is → first_unbuilt (program_order is) ≡ Some place → Answers (run file o) bytes s x
 answers_unbuilt file bytes o s x is place e f small p u = along (run file o) bytes s 1 x _ e f (refused _ small (by_forms is place p u refl))
 
 pub answers_run : (file bytes : List ℕ) (o : Options) (s : ℕ) (x : List ℕ) (is : List ItemTree) (n : ℕ) → o.steps ≡ n → s ≡ ending_status (mean (texts_of is) n).ending →
-    x ≡ run_text 1 (mean (texts_of is) n) → length bytes ≤ 1048576 → Parses bytes is → first_unbuilt (program_nodes is) ≡ None → Answers (run file o) bytes s x
+    x ≡ run_text 1 (mean (texts_of is) n) → length bytes ≤ 1048576 → Parses bytes is → first_unbuilt (program_order is) ≡ None → Answers (run file o) bytes s x
 answers_run file bytes o s x is n same e f small p u =
     along (run file o) bytes s (ending_status (mean (texts_of is) o.steps).ending) x (run_text 1 (mean (texts_of is) o.steps)) (rw same e) (rw same f) (ran is small (record { parses = p; built = u }))

@@ -1,5 +1,6 @@
 -- What is loaded has one answer: the laws of the front end, joined.
 use Rattle.std.proofs.Common.{◌≡◌, ℕ, List, [], Some, None, Err, sym, ap, subst, ◌∙◌, Result, drop}
+use Rattle.std.proofs.lemmas.Option.{same_Some}
 use Rattle.verse_base.specs.declared.places.Place.{Place}
 use Rattle.verse_base.specs.declared.refusals.Refusal.{Refusal}
 use Rattle.verse_lex.specs.declared.tokens.Token.{Token}
@@ -15,7 +16,7 @@ use Rattle.verse_tree.specs.ItemTree.{ItemTree}
 use Rattle.verse_grammar.specs.Items.{Program}
 use Rattle.verse_grammar.specs.Toks.{ahead}
 use Rattle.verse_expr.specs.Faults.{stop_rule}
-use Rattle.verse_built.specs.Nodes.{program_nodes}
+use Rattle.verse_tree.specs.PostOrder.{program_order}
 use Rattle.verse_built.specs.Built.{first_unbuilt}
 use Rattle.verse_top.specs.Programs.{Lays, Parses, Runs, IsStuck, IsRefused, by_tokens, by_layout, by_grammar, by_forms, tok_place, refusal}
 use Rattle.verse_top.proofs.StuckToks.{stuck_once, stuck_or_spelled}
@@ -58,14 +59,11 @@ stuck_or_parsed bytes ks i is l p q =
     let same : ks ≡ q.toks = one_toks bytes ks q.toks l q.lays in
     stuck_or_spelled bytes is q i (subst (λ (hs : List Tok). IsStuck hs i) same p)
 
-some_is : {p q : Place} → Some p ≡ Some q → p ≡ q
-some_is e = cc
-
-one_form : (bytes : List ℕ) (is js : List ItemTree) (p q : Place) (r s : Refusal) → Parses bytes is → Parses bytes js → first_unbuilt (program_nodes is) ≡ Some p →
-    first_unbuilt (program_nodes js) ≡ Some q → r ≡ refusal 99 p → s ≡ refusal 99 q → r ≡ s
+one_form : (bytes : List ℕ) (is js : List ItemTree) (p q : Place) (r s : Refusal) → Parses bytes is → Parses bytes js → first_unbuilt (program_order is) ≡ Some p →
+    first_unbuilt (program_order js) ≡ Some q → r ≡ refusal 99 p → s ≡ refusal 99 q → r ≡ s
 one_form bytes is js p q r s a b e f g h =
     let same : is ≡ js = one_program bytes is js a b in
-    let at : p ≡ q = some_is (sym e ∙ ap (λ (ks : List ItemTree). first_unbuilt (program_nodes ks)) same ∙ f) in
+    let at : p ≡ q = same_Some p q (sym e ∙ ap (λ (ks : List ItemTree). first_unbuilt (program_order ks)) same ∙ f) in
     g ∙ ap (λ (x : Place). refusal 99 x) at ∙ sym h
 
 pub one_refused : (bytes : List ℕ) (r s : Refusal) → IsRefused bytes r → IsRefused bytes s → r ≡ s
@@ -93,5 +91,5 @@ runs_or_refused bytes is r runs (by_layout ts a x e) = unlaid bytes ts r runs.pa
 runs_or_refused bytes is r runs (by_grammar ks i l p e) = stuck_or_parsed bytes ks i is l p runs.parses
 runs_or_refused bytes is r runs (by_forms js p a e g) =
     let same : is ≡ js = one_program bytes is js runs.parses a in
-    let none : first_unbuilt (program_nodes js) ≡ None = subst (λ (ks : List ItemTree). first_unbuilt (program_nodes ks) ≡ None) same runs.built in
+    let none : first_unbuilt (program_order js) ≡ None = subst (λ (ks : List ItemTree). first_unbuilt (program_order ks) ≡ None) same runs.built in
     absurd (cc)

@@ -1,5 +1,6 @@
 -- Each rule that layout or the grammar answers has a text.
 use Rattle.std.proofs.Common.{◌≡◌, ◌⊎◌, inl, inr, ℕ, Bool, true, false, if◌then◌else◌, ◌&&◌, nat_le, List, [], ◌∷◌, Option, Some, None, Result, Ok, Err, refl, subst}
+use Rattle.std.proofs.lemmas.Option.{same_Some}
 use Rattle.std.specs.Option.{IsSome}
 use Rattle.verse_base.specs.declared.places.Place.{Place}
 use Rattle.verse_base.specs.declared.refusals.Refusal.{Refusal}
@@ -28,17 +29,14 @@ use Rattle.verse_top.proofs.ListedTokens.{Listed}
 record Good (x : Walk) : Type 0 where
   pub listed : (r : Refusal) → x.stop ≡ Some r → Listed r
 
-some_is : {A : Type 0} {x y : A} → Some x ≡ Some y → x ≡ y
-some_is e = cc
-
 err_is : {T E : Type 0} {r s : E} → ◌≡◌ {A = Result T E} (Err r) (Err s) → r ≡ s
 err_is e = cc
 
 good_20 : (place : Place) → Good (refuse 20 place)
-good_20 place = record { listed = λ r e. subst Listed (some_is e) refl }
+good_20 place = record { listed = λ r e. subst Listed (same_Some _ _ e) refl }
 
 good_21 : (place : Place) → Good (refuse 21 place)
-good_21 place = record { listed = λ r e. subst Listed (some_is e) refl }
+good_21 place = record { listed = λ r e. subst Listed (same_Some _ _ e) refl }
 
 good_either : (b : Bool) (place : Place) → Good (refuse (if b then 21 else 20) place)
 good_either true place = good_21 place

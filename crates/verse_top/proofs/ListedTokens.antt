@@ -1,5 +1,6 @@
 -- Each rule that tokens answer has a text.
 use Rattle.std.proofs.Common.{◌≡◌, ℕ, Bool, true, false, if◌then◌else◌, List, Option, Some, None, refl, sym, subst}
+use Rattle.std.proofs.lemmas.Option.{same_Some}
 use Rattle.std.specs.Option.{IsSome}
 use Rattle.verse_base.specs.declared.refusals.Rule.{Rule}
 use Rattle.verse_base.specs.declared.refusals.Refusal.{Refusal}
@@ -20,11 +21,8 @@ use Rattle.verse_lex.proofs.Spelled.{each_explained}
 abbrev pub Listed : Refusal → Type 0
 Listed r = IsSome (rule_text_of r.rule.0)
 
-some_is : {A : Type 0} {x y : A} → Some x ≡ Some y → x ≡ y
-some_is e = cc
-
 if_is : (b : Bool) (rule other : Rule) → IsSome (rule_text_of rule.0) → (if b then Some rule else None) ≡ Some other → IsSome (rule_text_of other.0)
-if_is true rule other listed h = subst (λ (q : Rule). IsSome (rule_text_of q.0)) (some_is h) listed
+if_is true rule other listed h = subst (λ (q : Rule). IsSome (rule_text_of q.0)) (same_Some _ _ h) listed
 if_is false rule other listed h = absurd (cc)
 
 number : {cs : List ℕ} {kind : TokenKind} {o : Option Rule} → Number cs kind o → (rule : Rule) → o ≡ Some rule → IsSome (rule_text_of rule.0)
@@ -65,8 +63,8 @@ next here bs within n.End r x h = absurd (cc)
 next here bs within (n.Separator count) r x h = absurd (cc)
 next here bs within (n.LineEnd count) r x h = absurd (cc)
 next here bs within (n.Token kind count) r x h = absurd (cc)
-next here bs within (n.Bad rule count) r x h = subst Listed (some_is h) (broken x)
-next here bs within n.HoleEnd r x h = subst Listed (some_is h) refl
+next here bs within (n.Bad rule count) r x h = subst Listed (same_Some _ _ h) (broken x)
+next here bs within n.HoleEnd r x h = subst Listed (same_Some _ _ h) refl
 
 pub listed_tokens : (bytes : List ℕ) (r : Refusal) → tokens.IsRefused 0 bytes r → IsSome (rule_text_of r.rule.0)
 listed_tokens bytes r (no_text v h) = subst Listed (sym h) refl

@@ -16,7 +16,7 @@ use Rattle.verse_grammar.specs.Items.{Program}
 use Rattle.verse_grammar.specs.Begins.{a_program, Stops}
 use Rattle.verse_grammar.specs.Toks.{ahead}
 use Rattle.verse_expr.specs.Faults.{stop_rule}
-use Rattle.verse_built.specs.Nodes.{program_nodes}
+use Rattle.verse_tree.specs.PostOrder.{program_order}
 use Rattle.verse_built.specs.Built.{first_unbuilt}
 
 -- the toks of a file
@@ -35,7 +35,7 @@ pub record Parses (bytes : List ℕ) (is : List ItemTree) : Type 0 where
 -- the items are a program that is built
 pub record Runs (bytes : List ℕ) (is : List ItemTree) : Type 0 where
   pub parses : Parses bytes is
-  pub built : first_unbuilt (program_nodes is) ≡ None
+  pub built : first_unbuilt (program_order is) ≡ None
 
 -- the toks go on up to this one, or to their end, and not further
 pub record IsStuck (toks : List Tok) (index : ℕ) : Type 0 where
@@ -58,4 +58,4 @@ pub data IsRefused (bytes : List ℕ) (r : Refusal) : Type 0 where
   by_tokens : tokens.IsRefused 0 bytes r → IsRefused bytes r
   by_layout : (ts : List Token) → AreTokens 0 bytes ts → layout.IsRefused bytes ts r → laid (end_of bytes ts) (cells_of bytes ts) ≡ Err r → IsRefused bytes r
   by_grammar : (toks : List Tok) (index : ℕ) → Lays bytes toks → IsStuck toks index → r ≡ refusal (stop_rule (ahead (drop index toks))) (tok_place bytes toks index) → IsRefused bytes r
-  by_forms : (is : List ItemTree) (place : Place) → Parses bytes is → first_unbuilt (program_nodes is) ≡ Some place → r ≡ refusal 99 place → IsRefused bytes r
+  by_forms : (is : List ItemTree) (place : Place) → Parses bytes is → first_unbuilt (program_order is) ≡ Some place → r ≡ refusal 99 place → IsRefused bytes r

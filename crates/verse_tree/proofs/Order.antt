@@ -1,13 +1,13 @@
 -- What is numbered has the numbers from the first on, and is the same but for them.
-use Rattle.std.proofs.Common.{◌≡◌, ℕ, suc, zero, ◌+◌, List, [], ◌∷◌, ◌++◌, map, Option, Some, None, refl, sym, ap, ◌∙◌, arith}
-use Rattle.std.specs.List.{range_with_len, flat_map}
-use Rattle.std.proofs.lemmas.List.Concat.{flat_map-cons}
-use Rattle.verse_tree.specs.Tree.{Bytes, Written, Writtens, no_writtens, more_writtens, Tree, tree, Shape, Trees, no_trees, more_trees, Holes, no_holes, more_holes, Pairs, no_pairs, more_pairs, Givens, no_givens, more_givens}
+use Rattle.std.proofs.Common.{◌≡◌, ℕ, suc, zero, ◌+◌, List, [], ◌∷◌, ◌++◌, map, length, Option, Some, None, refl, sym, ap, ◌∙◌, arith}
+use Rattle.std.specs.List.{range_with_len}
+use Rattle.verse_tree.specs.Tree.{Written, Writtens, no_writtens, more_writtens, Tree, tree, Shape, Trees, no_trees, more_trees, Holes, no_holes, more_holes, Pairs, no_pairs, more_pairs, Givens, no_givens, more_givens}
 use Rattle.verse_tree.specs.Tree as t
 use Rattle.verse_tree.specs.ItemTree.{FieldTree, ParamTree, FunTree, MemberTree, ItemTree}
 use Rattle.verse_tree.specs.ItemTree as i
-use Rattle.verse_tree.specs.Numbering.{written_nodes, writtens_nodes, nodes, shape_nodes, trees_nodes, holes_nodes, pairs_nodes, givens_nodes, written_numbered, writtens_numbered, numbered, shape_numbered, trees_numbered, holes_numbered, pairs_numbered, givens_numbered, list_nodes, list_numbered, default_nodes, default_numbered, field_nodes, field_numbered, param_nodes, param_numbered, fun_nodes, fun_numbered, member_nodes, member_numbered, item_nodes, item_numbered}
-use Rattle.verse_tree.specs.Numbers.{written_numbers, writtens_numbers, numbers, shape_numbers, trees_numbers, holes_numbers, pairs_numbers, givens_numbers, default_numbers, field_numbers, param_numbers, fun_numbers, member_numbers, item_numbers, written_cleared, writtens_cleared, cleared, shape_cleared, trees_cleared, holes_cleared, pairs_cleared, givens_cleared, default_cleared, field_cleared, param_cleared, fun_cleared, member_cleared, item_cleared, NumberedInOrder, NumbersAlone}
+use Rattle.verse_tree.specs.Numbering.{written_nodes, writtens_nodes, nodes, shape_nodes, trees_nodes, holes_nodes, pairs_nodes, givens_nodes, written_numbered, writtens_numbered, numbered, shape_numbered, trees_numbered, holes_numbered, pairs_numbered, givens_numbered, list_nodes, list_numbered, default_nodes, default_numbered, field_numbered, param_nodes, param_numbered, fun_numbered, member_nodes, member_numbered, item_nodes, item_numbered, items_nodes, items_numbered}
+use Rattle.verse_tree.specs.PostOrder.{Node, written_order, writtens_order, post_order, parts, trees_order, holes_order, pairs_order, givens_order, default_order, field_parts, param_order, params_order, fun_parts, member_order, members_order, item_order, items_order}
+use Rattle.verse_tree.specs.Numbers.{numbers, written_cleared, writtens_cleared, cleared, shape_cleared, trees_cleared, holes_cleared, pairs_cleared, givens_cleared, default_cleared, field_cleared, param_cleared, fun_cleared, member_cleared, item_cleared, NumberedInOrder, ProgramInOrder, NumbersAlone}
 
 counted : (n a b : ℕ) → range_with_len n (a + b) ≡ range_with_len n a ++ range_with_len (n + a) b
 counted n zero b =
@@ -19,8 +19,18 @@ counted n (suc a) b =
     let f : suc a + b ≡ suc (a + b) = omega arith in
     ap (range_with_len n) f ∙ ap (λ l. n ∷ l) (counted (n + 1) a b ∙ ap (λ k. range_with_len (n + 1) a ++ range_with_len k b) e)
 
-both : (n a b : ℕ) {l m : List ℕ} → l ≡ range_with_len n a → m ≡ range_with_len (n + a) b → l ++ m ≡ range_with_len n (a + b)
-both n a b {l} {m} e f = ap (λ k. k ++ m) e ∙ ap (λ k. range_with_len n a ++ k) f ∙ sym (counted n a b)
+numbers_append : (l m : List Node) → numbers (l ++ m) ≡ numbers l ++ numbers m
+numbers_append [] m = refl
+numbers_append (x ∷ l) m = ap (λ k. x.number ∷ k) (numbers_append l m)
+
+both : (l m : List Node) (n a b : ℕ) → numbers l ≡ range_with_len n a → numbers m ≡ range_with_len (n + a) b → numbers (l ++ m) ≡ range_with_len n (a + b)
+both l m n a b e f = numbers_append l m ∙ ap (λ k. k ++ numbers m) e ∙ ap (λ k. range_with_len n a ++ k) f ∙ sym (counted n a b)
+
+all_three : (l m k : List Node) (n a b c : ℕ) → numbers l ≡ range_with_len n a → numbers m ≡ range_with_len (n + a) b → numbers k ≡ range_with_len (n + a + b) c → numbers (l ++ m ++ k) ≡ range_with_len n (a + (b + c))
+all_three l m k n a b c e f g =
+    let at : n + a + b ≡ n + (a + b) = omega arith in
+    let all : (a + b) + c ≡ a + (b + c) = omega arith in
+    both _ _ n (a + b) c (both _ _ n a b e f) (g ∙ ap (λ (i : ℕ). range_with_len i c) at) ∙ ap (range_with_len n) all
 
 ap_two : {A B C : Type 0} (f : A → B → C) {a x : A} {b y : B} → a ≡ x → b ≡ y → f a b ≡ f x y
 ap_two f {a} {x} {b} {y} d e = ap (λ k. f k b) d ∙ ap (f x) e
@@ -29,7 +39,7 @@ ap_three : {A B C D : Type 0} (f : A → B → C → D) {a x : A} {b y : B} {c z
 ap_three f {a} {x} {b} {y} {c} {z} d e g = ap (λ k. f k b c) d ∙ ap_two (f x) e g
 
 mutual
-  written_in_order : (w : Written) (next : ℕ) → written_numbers (written_numbered w next) ≡ range_with_len next (written_nodes w)
+  written_in_order : (w : Written) (next : ℕ) → numbers (written_order (written_numbered w next)) ≡ range_with_len next (written_nodes w)
   written_in_order t.Written.int next = refl
   written_in_order t.Written.logic next = refl
   written_in_order t.Written.char next = refl
@@ -38,38 +48,38 @@ mutual
   written_in_order (t.Written.named number place name) next = refl
   written_in_order (t.Written.option w) next = written_in_order w next
   written_in_order (t.Written.array w) next = written_in_order w next
-  written_in_order (t.Written.map w v) next = both next (written_nodes w) (written_nodes v) (written_in_order w next) (written_in_order v (next + written_nodes w))
+  written_in_order (t.Written.map w v) next = both _ _ next (written_nodes w) (written_nodes v) (written_in_order w next) (written_in_order v (next + written_nodes w))
   written_in_order (t.Written.tuple ws) next = writtens_in_order ws next
   written_in_order (t.Written.task w) next = written_in_order w next
   written_in_order (t.Written.event w) next = written_in_order w next
   written_in_order t.Written.bare_event next = refl
 
-  writtens_in_order : (ws : Writtens) (next : ℕ) → writtens_numbers (writtens_numbered ws next) ≡ range_with_len next (writtens_nodes ws)
+  writtens_in_order : (ws : Writtens) (next : ℕ) → numbers (writtens_order (writtens_numbered ws next)) ≡ range_with_len next (writtens_nodes ws)
   writtens_in_order no_writtens next = refl
-  writtens_in_order (more_writtens w ws) next = both next (written_nodes w) (writtens_nodes ws) (written_in_order w next) (writtens_in_order ws (next + written_nodes w))
+  writtens_in_order (more_writtens w ws) next = both _ _ next (written_nodes w) (writtens_nodes ws) (written_in_order w next) (writtens_in_order ws (next + written_nodes w))
 
 mutual
-  in_order : (s : Tree) (next : ℕ) → numbers (numbered s next) ≡ range_with_len next (nodes s)
-  in_order (tree number place s) next = both next (shape_nodes s) 1 (shape_in_order s next) refl
+  in_order : (s : Tree) (next : ℕ) → numbers (post_order (numbered s next)) ≡ range_with_len next (nodes s)
+  in_order (tree number place s) next = both _ _ next (shape_nodes s) 1 (shape_in_order s next) refl
 
-  shape_in_order : (s : Shape) (next : ℕ) → shape_numbers (shape_numbered s next) ≡ range_with_len next (shape_nodes s)
+  shape_in_order : (s : Shape) (next : ℕ) → numbers (parts (shape_numbered s next)) ≡ range_with_len next (shape_nodes s)
   shape_in_order (t.Shape.block ts) next = trees_in_order ts next
   shape_in_order (t.Shape.defer a) next = in_order a next
   shape_in_order (t.Shape.definition x a) next = in_order a next
-  shape_in_order (t.Shape.typed x w a) next = both next (written_nodes w) (nodes a) (written_in_order w next) (in_order a (next + written_nodes w))
-  shape_in_order (t.Shape.variable x w a) next = both next (written_nodes w) (nodes a) (written_in_order w next) (in_order a (next + written_nodes w))
-  shape_in_order (t.Shape.assignment x a b) next = both next (nodes a) (nodes b) (in_order a next) (in_order b (next + nodes a))
+  shape_in_order (t.Shape.typed x w a) next = both _ _ next (written_nodes w) (nodes a) (written_in_order w next) (in_order a (next + written_nodes w))
+  shape_in_order (t.Shape.variable x w a) next = both _ _ next (written_nodes w) (nodes a) (written_in_order w next) (in_order a (next + written_nodes w))
+  shape_in_order (t.Shape.assignment x a b) next = both _ _ next (nodes a) (nodes b) (in_order a next) (in_order b (next + nodes a))
   shape_in_order (t.Shape.returned a) next = in_order a next
   shape_in_order t.Shape.returned_unit next = refl
   shape_in_order t.Shape.left_loop next = refl
-  shape_in_order (t.Shape.choice ts a b) next = both next (trees_nodes ts) (nodes a + nodes b) (trees_in_order ts next) (both (next + trees_nodes ts) (nodes a) (nodes b) (in_order a (next + trees_nodes ts)) (in_order b (next + trees_nodes ts + nodes a)))
-  shape_in_order (t.Shape.choice_alone ts a) next = both next (trees_nodes ts) (nodes a) (trees_in_order ts next) (in_order a (next + trees_nodes ts))
-  shape_in_order (t.Shape.chained x a b) next = both next (nodes a) (nodes b) (in_order a next) (in_order b (next + nodes a))
-  shape_in_order (t.Shape.compared x a b) next = both next (nodes a) (nodes b) (in_order a next) (in_order b (next + nodes a))
+  shape_in_order (t.Shape.choice ts a b) next = all_three _ _ _ next (trees_nodes ts) (nodes a) (nodes b) (trees_in_order ts next) (in_order a (next + trees_nodes ts)) (in_order b (next + trees_nodes ts + nodes a))
+  shape_in_order (t.Shape.choice_alone ts a) next = both _ _ next (trees_nodes ts) (nodes a) (trees_in_order ts next) (in_order a (next + trees_nodes ts))
+  shape_in_order (t.Shape.chained x a b) next = both _ _ next (nodes a) (nodes b) (in_order a next) (in_order b (next + nodes a))
+  shape_in_order (t.Shape.compared x a b) next = both _ _ next (nodes a) (nodes b) (in_order a next) (in_order b (next + nodes a))
   shape_in_order (t.Shape.negation a) next = in_order a next
   shape_in_order (t.Shape.minus a) next = in_order a next
-  shape_in_order (t.Shape.call a ts) next = both next (nodes a) (trees_nodes ts) (in_order a next) (trees_in_order ts (next + nodes a))
-  shape_in_order (t.Shape.index a ts) next = both next (nodes a) (trees_nodes ts) (in_order a next) (trees_in_order ts (next + nodes a))
+  shape_in_order (t.Shape.call a ts) next = both _ _ next (nodes a) (trees_nodes ts) (in_order a next) (trees_in_order ts (next + nodes a))
+  shape_in_order (t.Shape.index a ts) next = both _ _ next (nodes a) (trees_nodes ts) (in_order a next) (trees_in_order ts (next + nodes a))
   shape_in_order (t.Shape.member a x) next = in_order a next
   shape_in_order (t.Shape.query a) next = in_order a next
   shape_in_order (t.Shape.integer x) next = refl
@@ -88,21 +98,21 @@ mutual
   shape_in_order (t.Shape.instance x gs) next = givens_in_order gs next
   shape_in_order (t.Shape.event w) next = written_in_order w next
   shape_in_order t.Shape.bare_event next = refl
-  shape_in_order (t.Shape.each ts a) next = both next (trees_nodes ts) (nodes a) (trees_in_order ts next) (in_order a (next + trees_nodes ts))
+  shape_in_order (t.Shape.each ts a) next = both _ _ next (trees_nodes ts) (nodes a) (trees_in_order ts next) (in_order a (next + trees_nodes ts))
   shape_in_order (t.Shape.turns a) next = in_order a next
   shape_in_order (t.Shape.scope a) next = in_order a next
   shape_in_order (t.Shape.branch a) next = in_order a next
   shape_in_order (t.Shape.sync ts) next = trees_in_order ts next
   shape_in_order (t.Shape.race ts) next = trees_in_order ts next
   shape_in_order (t.Shape.rush ts) next = trees_in_order ts next
-  shape_in_order (t.Shape.cases a ts) next = both next (nodes a) (trees_nodes ts) (in_order a next) (trees_in_order ts (next + nodes a))
+  shape_in_order (t.Shape.cases a ts) next = both _ _ next (nodes a) (trees_nodes ts) (in_order a next) (trees_in_order ts (next + nodes a))
   shape_in_order (t.Shape.spawn a) next = in_order a next
   shape_in_order (t.Shape.sleep x) next = refl
   shape_in_order t.Shape.sleep_forever next = refl
   shape_in_order (t.Shape.elements x a) next = in_order a next
   shape_in_order (t.Shape.entries x y a) next = in_order a next
-  shape_in_order (t.Shape.range x a b) next = both next (nodes a) (nodes b) (in_order a next) (in_order b (next + nodes a))
-  shape_in_order (t.Shape.arm a b) next = both next (nodes a) (nodes b) (in_order a next) (in_order b (next + nodes a))
+  shape_in_order (t.Shape.range x a b) next = both _ _ next (nodes a) (nodes b) (in_order a next) (in_order b (next + nodes a))
+  shape_in_order (t.Shape.arm a b) next = both _ _ next (nodes a) (nodes b) (in_order a next) (in_order b (next + nodes a))
   shape_in_order (t.Shape.integer_pattern x) next = refl
   shape_in_order (t.Shape.minus_pattern x) next = refl
   shape_in_order (t.Shape.character_pattern x) next = refl
@@ -112,21 +122,21 @@ mutual
   shape_in_order t.Shape.any_pattern next = refl
   shape_in_order (t.Shape.enum_pattern x y) next = refl
 
-  trees_in_order : (ts : Trees) (next : ℕ) → trees_numbers (trees_numbered ts next) ≡ range_with_len next (trees_nodes ts)
+  trees_in_order : (ts : Trees) (next : ℕ) → numbers (trees_order (trees_numbered ts next)) ≡ range_with_len next (trees_nodes ts)
   trees_in_order no_trees next = refl
-  trees_in_order (more_trees a ts) next = both next (nodes a) (trees_nodes ts) (in_order a next) (trees_in_order ts (next + nodes a))
+  trees_in_order (more_trees a ts) next = both _ _ next (nodes a) (trees_nodes ts) (in_order a next) (trees_in_order ts (next + nodes a))
 
-  holes_in_order : (hs : Holes) (next : ℕ) → holes_numbers (holes_numbered hs next) ≡ range_with_len next (holes_nodes hs)
+  holes_in_order : (hs : Holes) (next : ℕ) → numbers (holes_order (holes_numbered hs next)) ≡ range_with_len next (holes_nodes hs)
   holes_in_order no_holes next = refl
-  holes_in_order (more_holes a x hs) next = both next (nodes a) (holes_nodes hs) (in_order a next) (holes_in_order hs (next + nodes a))
+  holes_in_order (more_holes a x hs) next = both _ _ next (nodes a) (holes_nodes hs) (in_order a next) (holes_in_order hs (next + nodes a))
 
-  pairs_in_order : (ps : Pairs) (next : ℕ) → pairs_numbers (pairs_numbered ps next) ≡ range_with_len next (pairs_nodes ps)
+  pairs_in_order : (ps : Pairs) (next : ℕ) → numbers (pairs_order (pairs_numbered ps next)) ≡ range_with_len next (pairs_nodes ps)
   pairs_in_order no_pairs next = refl
-  pairs_in_order (more_pairs a b ps) next = both next (nodes a + nodes b) (pairs_nodes ps) (both next (nodes a) (nodes b) (in_order a next) (in_order b (next + nodes a))) (pairs_in_order ps (next + (nodes a + nodes b)))
+  pairs_in_order (more_pairs a b ps) next = both _ _ next (nodes a + nodes b) (pairs_nodes ps) (both _ _ next (nodes a) (nodes b) (in_order a next) (in_order b (next + nodes a))) (pairs_in_order ps (next + (nodes a + nodes b)))
 
-  givens_in_order : (gs : Givens) (next : ℕ) → givens_numbers (givens_numbered gs next) ≡ range_with_len next (givens_nodes gs)
+  givens_in_order : (gs : Givens) (next : ℕ) → numbers (givens_order (givens_numbered gs next)) ≡ range_with_len next (givens_nodes gs)
   givens_in_order no_givens next = refl
-  givens_in_order (more_givens x a gs) next = both next (nodes a) (givens_nodes gs) (in_order a next) (givens_in_order gs (next + nodes a))
+  givens_in_order (more_givens x a gs) next = both _ _ next (nodes a) (givens_nodes gs) (in_order a next) (givens_in_order gs (next + nodes a))
 
 mutual
   written_kept : (w : Written) (next : ℕ) → written_cleared (written_numbered w next) ≡ written_cleared w
@@ -230,43 +240,62 @@ mutual
 
 -- lists of what is in order itself
 module _ {X : Type 0} (step : X → ℕ → X) (size : X → ℕ) where
-  list_in_order : (found : X → List ℕ) → ((x : X) (next : ℕ) → found (step x next) ≡ range_with_len next (size x)) →
-      (xs : List X) (next : ℕ) → flat_map found (list_numbered step size xs next) ≡ range_with_len next (list_nodes size xs)
-  list_in_order found h [] next = refl
-  list_in_order found h (x ∷ xs) next = flat_map-cons found (step x next) (list_numbered step size xs (next + size x)) ∙ both next (size x) (list_nodes size xs) (h x next) (list_in_order found h xs (next + size x))
-
   list_kept : {Y : Type 0} (clear : X → Y) → ((x : X) (next : ℕ) → clear (step x next) ≡ clear x) → (xs : List X) (next : ℕ) → map clear (list_numbered step size xs next) ≡ map clear xs
   list_kept clear h [] next = refl
   list_kept clear h (x ∷ xs) next = ap_two (λ k l. k ∷ l) (h x next) (list_kept clear h xs (next + size x))
 
-default_in_order : (o : Option Tree) (next : ℕ) → default_numbers (default_numbered o next) ≡ range_with_len next (default_nodes o)
+default_in_order : (o : Option Tree) (next : ℕ) → numbers (default_order (default_numbered o next)) ≡ range_with_len next (default_nodes o)
 default_in_order None next = refl
 default_in_order (Some a) next = in_order a next
 
-field_in_order : (f : FieldTree) (next : ℕ) → field_numbers (field_numbered f next) ≡ range_with_len next (field_nodes f)
-field_in_order f next = both next (written_nodes f.written + default_nodes f.default) 1 (both next (written_nodes f.written) (default_nodes f.default) (written_in_order f.written next) (default_in_order f.default (next + written_nodes f.written))) refl
+field_in_order : (f : FieldTree) (next : ℕ) → numbers (field_parts (field_numbered f next)) ≡ range_with_len next (written_nodes f.written + default_nodes f.default)
+field_in_order f next = both _ _ next (written_nodes f.written) (default_nodes f.default) (written_in_order f.written next) (default_in_order f.default (next + written_nodes f.written))
 
-param_in_order : (p : ParamTree) (next : ℕ) → param_numbers (param_numbered p next) ≡ range_with_len next (param_nodes p)
-param_in_order p next = both next (written_nodes p.written) 1 (written_in_order p.written next) refl
+param_in_order : (p : ParamTree) (next : ℕ) → numbers (param_order (param_numbered p next)) ≡ range_with_len next (param_nodes p)
+param_in_order p next = both _ _ next (written_nodes p.written) 1 (written_in_order p.written next) refl
 
-fun_in_order : (f : FunTree) (next : ℕ) → fun_numbers (fun_numbered f next) ≡ range_with_len next (fun_nodes f)
+params_in_order : (ps : List ParamTree) (next : ℕ) → numbers (params_order (list_numbered param_numbered param_nodes ps next)) ≡ range_with_len next (list_nodes param_nodes ps)
+params_in_order [] next = refl
+params_in_order (p ∷ ps) next = both _ _ next (param_nodes p) (list_nodes param_nodes ps) (param_in_order p next) (params_in_order ps (next + param_nodes p))
+
+fun_in_order : (f : FunTree) (next : ℕ) → numbers (fun_parts (fun_numbered f next)) ≡ range_with_len next (list_nodes param_nodes f.params + (written_nodes f.written + nodes f.body))
 fun_in_order f next =
-    let params = list_in_order param_numbered param_nodes param_numbers param_in_order f.params next in
-    let behind = both (next + list_nodes param_nodes f.params) (written_nodes f.written) (nodes f.body) (written_in_order f.written (next + list_nodes param_nodes f.params)) (in_order f.body (next + list_nodes param_nodes f.params + written_nodes f.written)) in
-    both next (list_nodes param_nodes f.params + (written_nodes f.written + nodes f.body)) 1 (both next (list_nodes param_nodes f.params) (written_nodes f.written + nodes f.body) params behind) refl
+    let behind = next + list_nodes param_nodes f.params in
+    all_three _ _ _ next (list_nodes param_nodes f.params) (written_nodes f.written) (nodes f.body) (params_in_order f.params next) (written_in_order f.written behind) (in_order f.body (behind + written_nodes f.written))
 
-member_in_order : (m : MemberTree) (next : ℕ) → member_numbers (member_numbered m next) ≡ range_with_len next (member_nodes m)
-member_in_order (i.MemberTree.field f) next = field_in_order f next
-member_in_order (i.MemberTree.method f) next = fun_in_order f next
+member_in_order : (m : MemberTree) (next : ℕ) → numbers (member_order (member_numbered m next)) ≡ range_with_len next (member_nodes m)
+member_in_order (i.MemberTree.field f) next = both _ _ next (written_nodes f.written + default_nodes f.default) 1 (field_in_order f next) refl
+member_in_order (i.MemberTree.method f) next = both _ _ next (list_nodes param_nodes f.params + (written_nodes f.written + nodes f.body)) 1 (fun_in_order f next) refl
 
-item_in_order : (x : ItemTree) (next : ℕ) → item_numbers (item_numbered x next) ≡ range_with_len next (item_nodes x)
+members_in_order : (ms : List MemberTree) (next : ℕ) → numbers (members_order (list_numbered member_numbered member_nodes ms next)) ≡ range_with_len next (list_nodes member_nodes ms)
+members_in_order [] next = refl
+members_in_order (m ∷ ms) next = both _ _ next (member_nodes m) (list_nodes member_nodes ms) (member_in_order m next) (members_in_order ms (next + member_nodes m))
+
+item_in_order : (x : ItemTree) (next : ℕ) → numbers (item_order (item_numbered x next)) ≡ range_with_len next (item_nodes x)
 item_in_order (i.ItemTree.using u) next = refl
 item_in_order (i.ItemTree.enumeration e) next = refl
-item_in_order (i.ItemTree.class c) next = both next (list_nodes member_nodes c.members) 1 (list_in_order member_numbered member_nodes member_numbers member_in_order c.members next) refl
-item_in_order (i.ItemTree.function f) next = fun_in_order f next
+item_in_order (i.ItemTree.class c) next = both _ _ next (list_nodes member_nodes c.members) 1 (members_in_order c.members next) refl
+item_in_order (i.ItemTree.function f) next = both _ _ next (list_nodes param_nodes f.params + (written_nodes f.written + nodes f.body)) 1 (fun_in_order f next) refl
 
 pub items_in_order : NumberedInOrder
-items_in_order items next = list_in_order item_numbered item_nodes item_numbers item_in_order items next
+items_in_order [] next = refl
+items_in_order (x ∷ xs) next = both _ _ next (item_nodes x) (items_nodes xs) (item_in_order x next) (items_in_order xs (next + item_nodes x))
+
+numbers_length : (ns : List Node) → length (numbers ns) ≡ length ns
+numbers_length [] = refl
+numbers_length (n ∷ ns) = ap suc (numbers_length ns)
+
+range_length : (n a : ℕ) → length (range_with_len n a) ≡ a
+range_length n zero = refl
+range_length n (suc a) = ap suc (range_length (n + 1) a)
+
+pub program_in_order : ProgramInOrder
+program_in_order items =
+    let numbered_items = items_numbered items 0 in
+    let before : numbers (items_order numbered_items) ≡ range_with_len 0 (items_nodes items) = items_in_order items 0 in
+    let last : length (items_order numbered_items) ≡ items_nodes items = sym (numbers_length (items_order numbered_items)) ∙ ap length before ∙ range_length 0 (items_nodes items) in
+    let behind : items_nodes items ≡ 0 + items_nodes items = omega arith in
+    both _ _ 0 (items_nodes items) 1 before (ap (λ (n : ℕ). n ∷ []) (last ∙ behind))
 
 default_kept : (o : Option Tree) (next : ℕ) → default_cleared (default_numbered o next) ≡ default_cleared o
 default_kept None next = refl

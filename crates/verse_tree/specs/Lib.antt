@@ -5,5 +5,6 @@ pub mod ItemTree
 pub mod ItemView
 pub mod Numbering
 pub mod PartNumbering
+pub mod PostOrder
 pub mod Numbers
 pub mod Sizes

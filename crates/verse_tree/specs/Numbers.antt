@@ -1,136 +1,15 @@
--- Which numbers the nodes of a tree have, and what a tree is but for them.
-use Rattle.std.specs.Prelude.{◌≡◌, ℕ, List, [], ◌∷◌, ◌++◌, Option, Some, None, map}
-use Rattle.std.specs.List.{range_with_len, flat_map}
-use Rattle.verse_tree.specs.Tree.{Bytes, Written, Writtens, no_writtens, more_writtens, Tree, tree, Shape, Trees, no_trees, more_trees, Holes, no_holes, more_holes, Pairs, no_pairs, more_pairs, Givens, no_givens, more_givens}
+-- The numbers of nodes, what a tree is but for them, and the laws of numbering.
+use Rattle.std.specs.Prelude.{◌≡◌, ℕ, List, Option, Some, None, map}
+use Rattle.std.specs.List.{range_with_len}
+use Rattle.verse_tree.specs.Tree.{Written, Writtens, no_writtens, more_writtens, Tree, tree, Shape, Trees, no_trees, more_trees, Holes, no_holes, more_holes, Pairs, no_pairs, more_pairs, Givens, no_givens, more_givens}
 use Rattle.verse_tree.specs.Tree as t
-use Rattle.verse_tree.specs.ItemTree.{UsingTree, EnumTree, FieldTree, ParamTree, FunTree, MemberTree, ClassTree, ItemTree}
+use Rattle.verse_tree.specs.ItemTree.{FieldTree, ParamTree, FunTree, MemberTree, ItemTree}
 use Rattle.verse_tree.specs.ItemTree as i
-use Rattle.verse_tree.specs.Numbering.{items_nodes, items_numbered}
+use Rattle.verse_tree.specs.PostOrder.{Node, items_order, program_order}
+use Rattle.verse_tree.specs.Numbering.{items_nodes, items_numbered, program_nodes}
 
--- the numbers in a type
-abbrev mutual
-  pub written_numbers : Written → List ℕ
-  written_numbers t.Written.int = []
-  written_numbers t.Written.logic = []
-  written_numbers t.Written.char = []
-  written_numbers t.Written.string = []
-  written_numbers t.Written.void = []
-  written_numbers (t.Written.named number place name) = number ∷ []
-  written_numbers (t.Written.option w) = written_numbers w
-  written_numbers (t.Written.array w) = written_numbers w
-  written_numbers (t.Written.map w v) = written_numbers w ++ written_numbers v
-  written_numbers (t.Written.tuple ws) = writtens_numbers ws
-  written_numbers (t.Written.task w) = written_numbers w
-  written_numbers (t.Written.event w) = written_numbers w
-  written_numbers t.Written.bare_event = []
-
-  pub writtens_numbers : Writtens → List ℕ
-  writtens_numbers no_writtens = []
-  writtens_numbers (more_writtens w ws) = written_numbers w ++ writtens_numbers ws
-
--- the numbers in a tree: those of its parts as they are written, and then its own
-abbrev mutual
-  pub numbers : Tree → List ℕ
-  numbers (tree number place s) = shape_numbers s ++ number ∷ []
-
-  pub shape_numbers : Shape → List ℕ
-  shape_numbers (t.Shape.block ts) = trees_numbers ts
-  shape_numbers (t.Shape.defer a) = numbers a
-  shape_numbers (t.Shape.definition x a) = numbers a
-  shape_numbers (t.Shape.typed x w a) = written_numbers w ++ numbers a
-  shape_numbers (t.Shape.variable x w a) = written_numbers w ++ numbers a
-  shape_numbers (t.Shape.assignment x a b) = numbers a ++ numbers b
-  shape_numbers (t.Shape.returned a) = numbers a
-  shape_numbers t.Shape.returned_unit = []
-  shape_numbers t.Shape.left_loop = []
-  shape_numbers (t.Shape.choice ts a b) = trees_numbers ts ++ (numbers a ++ numbers b)
-  shape_numbers (t.Shape.choice_alone ts a) = trees_numbers ts ++ numbers a
-  shape_numbers (t.Shape.chained x a b) = numbers a ++ numbers b
-  shape_numbers (t.Shape.compared x a b) = numbers a ++ numbers b
-  shape_numbers (t.Shape.negation a) = numbers a
-  shape_numbers (t.Shape.minus a) = numbers a
-  shape_numbers (t.Shape.call a ts) = numbers a ++ trees_numbers ts
-  shape_numbers (t.Shape.index a ts) = numbers a ++ trees_numbers ts
-  shape_numbers (t.Shape.member a x) = numbers a
-  shape_numbers (t.Shape.query a) = numbers a
-  shape_numbers (t.Shape.integer x) = []
-  shape_numbers (t.Shape.character x) = []
-  shape_numbers (t.Shape.text x) = []
-  shape_numbers (t.Shape.holes x hs) = holes_numbers hs
-  shape_numbers t.Shape.truth = []
-  shape_numbers t.Shape.falsehood = []
-  shape_numbers t.Shape.this = []
-  shape_numbers (t.Shape.name x) = []
-  shape_numbers (t.Shape.tuple ts) = trees_numbers ts
-  shape_numbers (t.Shape.array ts) = trees_numbers ts
-  shape_numbers (t.Shape.option ts) = trees_numbers ts
-  shape_numbers (t.Shape.logic ts) = trees_numbers ts
-  shape_numbers (t.Shape.mapping ps) = pairs_numbers ps
-  shape_numbers (t.Shape.instance x gs) = givens_numbers gs
-  shape_numbers (t.Shape.event w) = written_numbers w
-  shape_numbers t.Shape.bare_event = []
-  shape_numbers (t.Shape.each ts a) = trees_numbers ts ++ numbers a
-  shape_numbers (t.Shape.turns a) = numbers a
-  shape_numbers (t.Shape.scope a) = numbers a
-  shape_numbers (t.Shape.branch a) = numbers a
-  shape_numbers (t.Shape.sync ts) = trees_numbers ts
-  shape_numbers (t.Shape.race ts) = trees_numbers ts
-  shape_numbers (t.Shape.rush ts) = trees_numbers ts
-  shape_numbers (t.Shape.cases a ts) = numbers a ++ trees_numbers ts
-  shape_numbers (t.Shape.spawn a) = numbers a
-  shape_numbers (t.Shape.sleep x) = []
-  shape_numbers t.Shape.sleep_forever = []
-  shape_numbers (t.Shape.elements x a) = numbers a
-  shape_numbers (t.Shape.entries x y a) = numbers a
-  shape_numbers (t.Shape.range x a b) = numbers a ++ numbers b
-  shape_numbers (t.Shape.arm a b) = numbers a ++ numbers b
-  shape_numbers (t.Shape.integer_pattern x) = []
-  shape_numbers (t.Shape.minus_pattern x) = []
-  shape_numbers (t.Shape.character_pattern x) = []
-  shape_numbers (t.Shape.text_pattern x) = []
-  shape_numbers t.Shape.truth_pattern = []
-  shape_numbers t.Shape.falsehood_pattern = []
-  shape_numbers t.Shape.any_pattern = []
-  shape_numbers (t.Shape.enum_pattern x y) = []
-
-  pub trees_numbers : Trees → List ℕ
-  trees_numbers no_trees = []
-  trees_numbers (more_trees a ts) = numbers a ++ trees_numbers ts
-
-  pub holes_numbers : Holes → List ℕ
-  holes_numbers no_holes = []
-  holes_numbers (more_holes a x hs) = numbers a ++ holes_numbers hs
-
-  pub pairs_numbers : Pairs → List ℕ
-  pairs_numbers no_pairs = []
-  pairs_numbers (more_pairs a b ps) = (numbers a ++ numbers b) ++ pairs_numbers ps
-
-  pub givens_numbers : Givens → List ℕ
-  givens_numbers no_givens = []
-  givens_numbers (more_givens x a gs) = numbers a ++ givens_numbers gs
-
-abbrev pub default_numbers : Option Tree → List ℕ
-default_numbers None = []
-default_numbers (Some a) = numbers a
-
-abbrev pub field_numbers : FieldTree → List ℕ
-field_numbers f = (written_numbers f.written ++ default_numbers f.default) ++ f.number ∷ []
-
-abbrev pub param_numbers : ParamTree → List ℕ
-param_numbers p = written_numbers p.written ++ p.number ∷ []
-
-abbrev pub fun_numbers : FunTree → List ℕ
-fun_numbers f = (flat_map param_numbers f.params ++ (written_numbers f.written ++ numbers f.body)) ++ f.number ∷ []
-
-abbrev pub member_numbers : MemberTree → List ℕ
-member_numbers (i.MemberTree.field f) = field_numbers f
-member_numbers (i.MemberTree.method f) = fun_numbers f
-
-abbrev pub item_numbers : ItemTree → List ℕ
-item_numbers (i.ItemTree.using u) = u.number ∷ []
-item_numbers (i.ItemTree.enumeration e) = e.number ∷ []
-item_numbers (i.ItemTree.class c) = flat_map member_numbers c.members ++ c.number ∷ []
-item_numbers (i.ItemTree.function f) = fun_numbers f
+abbrev pub numbers : List Node → List ℕ
+numbers ns = map (λ (n : Node). n.number) ns
 
 -- a type with 0 for each number
 abbrev mutual
@@ -259,7 +138,11 @@ item_cleared (i.ItemTree.function f) = i.ItemTree.function (fun_cleared f)
 
 -- the numbers of what is numbered from `next` on are `next` and those behind it, one for each node, in order
 abbrev pub NumberedInOrder : Type 0
-NumberedInOrder = (items : List ItemTree) (next : ℕ) → flat_map item_numbers (items_numbered items next) ≡ range_with_len next (items_nodes items)
+NumberedInOrder = (items : List ItemTree) (next : ℕ) → numbers (items_order (items_numbered items next)) ≡ range_with_len next (items_nodes items)
+
+-- and the program's own node, where its items are numbered from 0, has the last number
+abbrev pub ProgramInOrder : Type 0
+ProgramInOrder = (items : List ItemTree) → numbers (program_order (items_numbered items 0)) ≡ range_with_len 0 (program_nodes items)
 
 -- and nothing but numbers is changed
 abbrev pub NumbersAlone : Type 0

@@ -1,5 +1,6 @@
 use Rattle.std.proofs.lemmas.Result.{err_from_is_err_and}
-use Rattle.verse_levels.proofs.Postfixed.{postfix_next, goes_postfix, stuck_postfix, same_stop}
+use Rattle.verse_levels.proofs.Postfixed.{postfix_next, goes_postfix, stuck_postfix}
+use Rattle.verse_reading.proofs.Stopping.{same_stop}
 use Rattle.verse_reading.proofs.Rows.{no_longer_next}
 use Rattle.verse_levels.proofs.postfixes.postfix_tail.Goals as goal
 

@@ -1,4 +1,4 @@
-use Rattle.verse_primary.proofs.BraceParts.{same_stop}
+use Rattle.verse_reading.proofs.Stopping.{same_stop}
 use Rattle.verse_primary.proofs.Parts.{sticks_pair_by}
 use Rattle.verse_primary.proofs.braces.pair.Goals as goal
 

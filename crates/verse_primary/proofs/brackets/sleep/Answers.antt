@@ -1,6 +1,6 @@
 use Rattle.std.proofs.Common.{sym}
 use Rattle.std.proofs.lemmas.Result.{err_from_is_err_and}
-use Rattle.verse_primary.proofs.PrimaryParts.{same_stop}
+use Rattle.verse_reading.proofs.Stopping.{same_stop}
 use Rattle.verse_primary.proofs.BracketStops.{sleep_eaten, sleep_stuck}
 use Rattle.verse_primary.proofs.brackets.sleep.Goals as goal
 

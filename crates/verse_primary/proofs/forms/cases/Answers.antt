@@ -1,4 +1,5 @@
-use Rattle.verse_primary.proofs.BraceParts.{same_stop, cases_made, cases_eaten, cases_stuck}
+use Rattle.verse_primary.proofs.BraceParts.{cases_made, cases_eaten, cases_stuck}
+use Rattle.verse_reading.proofs.Stopping.{same_stop}
 use Rattle.verse_primary.proofs.forms.cases.Goals as goal
 
 pub returns-in_ok-cases-in-Ok-closed-clause-spelled : goal.returns-in_ok-cases-in-Ok-closed-clause-spelled

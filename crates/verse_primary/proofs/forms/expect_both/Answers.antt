@@ -1,6 +1,6 @@
 use Rattle.std.proofs.lemmas.Result.{err_from_is_err_and}
 use Rattle.verse_primary.specs.Parts.{before_second}
-use Rattle.verse_primary.proofs.BraceParts.{same_stop}
+use Rattle.verse_reading.proofs.Stopping.{same_stop}
 use Rattle.verse_primary.proofs.forms.expect_both.Goals as goal
 
 pub returns-in_err-other-clause-sticks : goal.returns-in_err-other-clause-sticks

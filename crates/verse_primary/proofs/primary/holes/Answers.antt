@@ -1,7 +1,8 @@
 use Rattle.std.proofs.lemmas.Result.{err_from_is_err_and}
 use Rattle.verse_reading.proofs.Rows.{shorter_next}
 use Rattle.verse_primary.proofs.Repeats.{goes_holes_by, holes_eaten_by, holes_stuck_between_by}
-use Rattle.verse_primary.proofs.PrimaryParts.{holes_next, same_stop}
+use Rattle.verse_primary.proofs.PrimaryParts.{holes_next}
+use Rattle.verse_reading.proofs.Stopping.{same_stop}
 use Rattle.verse_primary.proofs.primary.holes.Goals as goal
 
 pub more-preserved : goal.more-preserved
