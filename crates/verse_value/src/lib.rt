@@ -13,7 +13,5 @@ pub mod paths;
 pub mod printing;
 pub mod runs;
 pub mod sizes;
-#[cfg(test)]
-mod tests;
 pub mod values;
 pub mod writes;

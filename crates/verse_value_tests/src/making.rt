@@ -2,6 +2,7 @@ ghost use Rattle.std.specs.Prelude.{◌≡◌, [], ◌∷◌, ◌+◌, IfOk};
 ghost use Rattle.verse_value.specs.View.{val_of, vals_of};
 ghost use Rattle.verse_value.specs.Val.{array, mapping, no_vals, more_vals, no_pairs, more_pairs};
 ghost use Rattle.verse_value.specs.Sizes.{levels_of};
+ghost use Rattle.verse_value_tests.specs.Nested.{in_options};
 
 use std::alloc::Global;
 use verse_base::refusals::Memory;
@@ -41,7 +42,8 @@ pub fn path_to(alloc: Global, index: Value) -> Result<Path, Memory>
 
 /// A value in so many options.
 pub fn nested(alloc: Global, value: Value, count: u32) -> Result<Value, Memory>
-    ensures { IfOk result (λ v. levels_of (val_of v) ≡ count + levels_of (val_of value)) }
+    ensures nested { IfOk result (λ v. val_of v ≡ in_options count (val_of value)) }
+    ensures levels { IfOk result (λ v. levels_of (val_of v) ≡ count + levels_of (val_of value)) }
 {
     let mut nested = value;
     'options: for _ in 0..count {

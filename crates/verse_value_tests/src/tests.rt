@@ -214,7 +214,7 @@ fn values_are_described(rt: HostRuntime) -> Result<(), Fail> {
         assert!(rt; is_fit(&value), "{line}");
         count = count.saturating_add(1);
     }
-    assert_eq!(rt; count, 52);
+    assert_eq!(rt; count, 53);
     keys_are_values();
     Ok(())
 }
@@ -245,7 +245,7 @@ fn values_are_equal_to_themselves_alone(rt: HostRuntime) -> Result<(), Fail> {
     let alloc = rt.alloc();
     let all = all_values(alloc)?;
     let copies = copy_all(alloc, all.as_slice())?;
-    assert_eq!(rt; copies.len(), 52);
+    assert_eq!(rt; copies.len(), 53);
     for (one, copy) in all.iter().zip(copies.iter()) {
         assert!(rt; equal(one, copy));
         assert_eq!(rt; count_equal(all.as_slice(), copy), 1);
