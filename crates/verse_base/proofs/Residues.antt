@@ -1,10 +1,10 @@
 -- What the Euclidean quotient and remainder are, in the words of the definitions.
-use Rattle.std.proofs.Common.{◌≡◌, ◌≢◌, ℕ, zero, suc, ◌+◌, ◌-◌, ◌*◌, ◌/◌, ◌%◌, ◌<◌, ℤ, pos, negsuc, ◌+ℤ◌, ◌*ℤ◌, neg_ℤ, FitsSigned, of_z, w64, ◌^◌, refl, ap, arith}
+use Rattle.std.proofs.Common.{◌≡◌, ◌≢◌, ℕ, zero, suc, ◌+◌, ◌-◌, ◌*◌, ◌/◌, ◌%◌, ◌<◌, ℤ, pos, negsuc, ◌+ℤ◌, ◌-ℤ◌, ◌*ℤ◌, neg_ℤ, FitsSigned, of_z, w64, ◌^◌, refl, ap, arith, sym, ◌∙◌}
 use Rattle.std.proofs.lemmas.Nat.{div-add-mod'}
 use Rattle.std.proofs.lemmas.Int.{ints}
 use Rattle.std.proofs.Math.IntN.{negsuc-*ℤ-pos, pos-*ℤ-negsuc, negsuc-*ℤ-negsuc, zero-*ℤ, neg_ℤ-neg_ℤ}
 use Rattle.std.specs.Int.{int_div_euclid, int_rem_euclid}
-use Rattle.verse_base.specs.Quotients.{floor_quotient, IsResidue, IsFloor, RoundsDownAndUp}
+use Rattle.verse_base.specs.Quotients.{floor_quotient, ceil_quotient, IsResidue, IsFloor, IsCeil, RoundsDownAndUp}
 
 neg_mul_negsuc : (q m : ℕ) → neg_ℤ (pos q) *ℤ negsuc m ≡ pos (q * suc m)
 neg_mul_negsuc zero m = rw (zero-*ℤ (negsuc m)) (let none : 0 * suc m ≡ 0 = omega arith in rw none refl)
@@ -83,8 +83,23 @@ both_signs a (pos zero) nonzero = absurd (nonzero refl)
 both_signs a (pos (suc m)) nonzero = ap (λ (z : ℤ). int_div_euclid z (pos (suc m))) (neg_ℤ-neg_ℤ a)
 both_signs a (negsuc m) nonzero = refl
 
+neg_mul : (q : ℤ) (d : ℕ) → neg_ℤ q *ℤ pos d ≡ neg_ℤ (q *ℤ pos d)
+neg_mul (pos q) d = neg_mul_pos q d
+neg_mul (negsuc q) d = sym (ap neg_ℤ (negsuc-*ℤ-pos q d) ∙ neg_ℤ-neg_ℤ (pos (suc q * d)))
+
+mirrored : (a : ℤ) (d : ℕ) (q : ℤ) → IsFloor (neg_ℤ a) d q → IsCeil a d (neg_ℤ q)
+mirrored a d q f =
+    let one_less : neg_ℤ q -ℤ pos 1 ≡ neg_ℤ (q +ℤ pos 1) = omega (arith, ints) in
+    record {
+      before = rw (one_less, neg_mul (q +ℤ pos 1) d) (omega (arith, ints, f.next));
+      within = rw (neg_mul q d) (omega (arith, ints, f.within));
+    }
+
+rounds_up : (a : ℤ) (d : ℕ) → 0 < d → IsCeil a d (ceil_quotient a (pos d))
+rounds_up a d positive = mirrored a d (floor_quotient (neg_ℤ a) (pos d)) (rounds_down (neg_ℤ a) d positive)
+
 pub rounds : RoundsDownAndUp
-rounds = record { positive = rounds_down; negative = both_signs; upward = λ a b. refl }
+rounds = record { down = rounds_down; up = rounds_up; down_signs = both_signs; up_signs = λ a b nonzero. ap neg_ℤ (both_signs (neg_ℤ a) b nonzero) }
 
 pub minus_one : (b : ℤ) → FitsSigned w64 b → of_z w64 b ≡ 2 ^ 64 - 1 → b ≡ negsuc 0
 minus_one (pos n) fits e = absurd (omega (arith, fits.sfits))

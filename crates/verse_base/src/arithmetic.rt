@@ -1,3 +1,5 @@
+//! Exact arithmetic of 64-bit integers.
+
 ghost use Rattle.std.specs.Prelude.{◌≡◌, ◌≢◌, pos, ◌+ℤ◌, ◌-ℤ◌, ◌*ℤ◌, neg_ℤ, IsSome, IfSome, FitsSigned};
 ghost use Rattle.std.specs.Bool.{OnTrue, OnFalse};
 ghost use Rattle.std.specs.Int.{w64, int_div_euclid, int_rem_euclid, NotMinOverMinusOne};
@@ -89,7 +91,8 @@ pub fn modulo(a: i64, b: i64) -> Option<i64>
     Some(a.rem_euclid(b))
 }
 
-/// Rounding down is to the greatest number that does not pass the quotient, and rounding up mirrors it.
+/// Rounding down is to the greatest number that does not pass the quotient, and rounding up to the
+/// least that it does not pass.
 pub fn quotients_round()
     ensures { RoundsDownAndUp }
 {}

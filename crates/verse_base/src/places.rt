@@ -1,3 +1,5 @@
+//! Places in a program.
+
 /// A place in the program's text: the file counted from 0, the line and the column from 1. Columns
 /// count bytes, after a byte-order mark.
 #[derive(Clone, Copy, Debug, PartialEq, Eq)]

@@ -1,3 +1,5 @@
+//! Refusals, and what ends a run.
+
 ghost use Rattle.std.specs.Prelude.{◌≡◌};
 ghost use Rattle.verse_base.specs.declared.refusals.Front.TheVariants as front;
 

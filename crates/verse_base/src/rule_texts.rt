@@ -1,3 +1,5 @@
+//! The text that is printed for each rule.
+
 ghost use Rattle.std.specs.Prelude.{◌≡◌, Some, IsSome};
 ghost use Rattle.verse_base.specs.RuleText.{rule_text_of};
 

@@ -1,22 +1,26 @@
-ghost use Rattle.std.specs.Prelude.{◌≡◌, ◌++◌, OnOk, decimal};
+//! Text: numbers in decimal, and the lines of a trace.
+
+ghost use Rattle.std.specs.Prelude.{◌≡◌, ◌++◌, OnOk, OnErr, decimal};
 ghost use Rattle.std.specs.Fmt.{signed_decimal};
 ghost use Rattle.verse_base.specs.TraceLine.{escaped, escaped_byte, line_bytes};
 
 use crate::refusals::Memory;
 use itoa::Buffer;
 
-/// Appends a number in decimal, with `-` before a negative one.
+/// Appends a number in decimal, with `-` before a negative one. Without memory nothing is appended.
 pub fn decimal(n: i64, out: &mut Vec<u8>) -> Result<(), Memory>
-    ensures { OnOk result (out.new.items ≡ out.old.items ++ signed_decimal n) }
+    ensures ok { OnOk result (out.new.items ≡ out.old.items ++ signed_decimal n) }
+    ensures err { OnErr result (out.new.items ≡ out.old.items) }
 {
-    let mut buffer = Buffer::new();
-    out.extend_from_slice(buffer.format(n).as_bytes())?;
+    let mut digits = Buffer::new();
+    out.extend_from_slice(digits.format(n).as_bytes())?;
     Ok(())
 }
 
-/// Appends a natural number in decimal.
+/// Appends a natural number in decimal. Without memory nothing is appended.
 pub fn natural(n: u64, out: &mut Vec<u8>) -> Result<(), Memory>
-    ensures { OnOk result (out.new.items ≡ out.old.items ++ decimal n) }
+    ensures ok { OnOk result (out.new.items ≡ out.old.items ++ decimal n) }
+    ensures err { OnErr result (out.new.items ≡ out.old.items) }
 {
     let mut buffer = Buffer::new();
     out.extend_from_slice(buffer.format(n).as_bytes())?;

@@ -1,3 +1,5 @@
+//! Which calls are to fail.
+
 ghost use Rattle.std.specs.Prelude.{◌≡◌};
 ghost use Rattle.verse_outside.specs.Chosen.{is_chosen};
 

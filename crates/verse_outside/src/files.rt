@@ -1,3 +1,5 @@
+//! Files that are loaded by name.
+
 ghost use Rattle.std.specs.Prelude.{◌≡◌, ◌≤◌, ◌⊎◌, ℕ, IfOk, IsErrOf, length};
 ghost use Rattle.verse_outside.specs.Causes.{Rose};
 ghost use Rattle.verse_outside.specs.Held.{Holding, Lacks, Loads};
@@ -31,7 +33,7 @@ impl<T: Drop> From<AllocFailed<T>> for LoadFault {
 }
 
 /// Files, read by name. An object may tell what it holds under each name, and no load changes
-/// that. It counts its faults: the count never falls.
+/// that. It counts its faults: the count never falls, and rises only where a load failed.
 pub trait Files {
     /// What is held under each name, where the object tells it.
     ghost holds: { Self → Holding };
@@ -47,6 +49,7 @@ pub trait Files {
         ensures within { IfOk result (λ v. length v.items ≤ most) }
         ensures bytes { IfOk result (λ v. Loads (holds self.old) name.now most v.items) }
         ensures later { faults self.old ≤ faults self.new }
+        ensures calm { IsErrOf result LoadFault.Failed ⊎ (faults self.new ≡ faults self.old) }
         ensures failed { IsErrOf result LoadFault.Failed → Rose (faults self.old) (faults self.new) ⊎ Lacks (holds self.old) name.now }
         ensures absent { Lacks (holds self.old) name.now → faults self.new ≡ faults self.old };
 }

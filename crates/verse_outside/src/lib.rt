@@ -1,4 +1,7 @@
 //! The outside: files that are loaded by name and sinks that take bytes. Each counts its faults.
+//!
+//! To be read in this order: `files`, `sinks`; `chosen`, `memory_files`, `memory_sinks`, `sure`,
+//! `standard`, which are some of them.
 #![tactic(auto)]
 
 mod chosen;

@@ -1,3 +1,5 @@
+//! A sink in memory.
+
 ghost use Rattle.std.specs.Prelude.{◌≡◌, ◌<◌, ◌≤◌, ◌++◌, ◌∷◌, ◌⊎◌, [], IfOk, IsErr, IsTrue, OnErr, OnOk, Some, length, take};
 ghost use Rattle.verse_outside.specs.Causes.{Rose};
 ghost use Rattle.verse_outside.specs.Chosen.{counted, is_chosen};
@@ -81,6 +83,7 @@ impl Sink for MemSink {
         ensures chosen { IsTrue (is_chosen self.old.failing self.old.writes) → IsErr result }
         ensures cause { IsErr result → IsTrue (is_chosen self.old.failing self.old.writes) ⊎ (share self.old (length piece.now) ≡ 0) }
         ensures failed { OnErr result (Rose self.old.faults self.new.faults) }
+        ensures calm { IfOk result (λ _. self.new.faults ≡ self.old.faults) }
         ensures later { self.old.faults ≤ self.new.faults }
     {
         let call = self.writes;

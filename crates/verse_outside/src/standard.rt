@@ -1,3 +1,5 @@
+//! Files and a sink of the system.
+
 ghost use Rattle.std.specs.Prelude.{◌≡◌, ◌≤◌, None, IfOk, length, ℕ};
 
 use crate::files::{Files, LoadFault};

@@ -1,3 +1,5 @@
+//! Files and a sink that never fail.
+
 ghost use Rattle.std.specs.Prelude.{◌≡◌, ◌<◌, ◌≤◌, IfOk, List, None, ℕ, Some, length};
 
 use crate::files::{Files, LoadFault};

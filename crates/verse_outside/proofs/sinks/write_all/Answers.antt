@@ -1,4 +1,4 @@
-use Rattle.std.proofs.Common.{◌-◌, ◌≤◌, length, length-take, length-drop, arith}
+use Rattle.std.proofs.Common.{◌∙◌, ◌-◌, ◌≤◌, length, length-take, length-drop, arith}
 use Rattle.verse_outside.proofs.Taken.{taken_further}
 use Rattle.verse_outside.proofs.sinks.write_all.Goals as goal
 
@@ -8,5 +8,5 @@ pieces-preserved g c =
     record {
       within = omega arith;
       taken = taken_further _ _ _ c.args.piece.now c.pieces.at c.in_ok-at.field-0 (length c.args.piece.now - c.pieces.at) c.pieces.invariant.taken c.in_ok-at.ensures.taken within;
-      later = omega (arith, c.pieces.invariant.later, c.in_ok-at.ensures.later);
+      calm = c.in_ok-at.ensures.calm ∙ c.pieces.invariant.calm;
     }

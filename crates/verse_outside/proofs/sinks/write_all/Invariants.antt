@@ -9,7 +9,7 @@ invariant-pieces g l =
     record {
       within : l.at ≤ length l.piece;
       taken : taken l.out ≡ with_more (taken l.fn.out) (take l.at l.piece);
-      later : faults l.fn.out ≤ faults l.out;
+      calm : faults l.out ≡ faults l.fn.out;
     }
 
 abbrev pub decreases-pieces : goal.decreases-pieces
