@@ -5,9 +5,3 @@ pub mod Nested
 pub mod Nearness
 pub mod Pushes
 pub mod Unique
-pub mod Runs
-pub mod Longest
-pub mod Parts
-pub mod Spelled
-pub mod Files
-pub mod Alone

@@ -15,29 +15,29 @@ use Rattle.verse_lex.specs.declared.tokens.Token.{Token}
 use Rattle.verse_lex.specs.declared.pieces.Next.{Next}
 use Rattle.verse_lex.specs.declared.pieces.Next.TheVariants as n
 use Rattle.verse_lex.specs.declared.rules.TheConstants.{NOT_UTF8, TEXT_END}
-use Rattle.verse_lex.specs.declared.steps.Here.{Here}
+use Rattle.verse_lex.specs.declared.cursors.Cursor.{Cursor}
 
 -- the tokens so far
-pub record Reached (file : ℕ) (bytes : List ℕ) (tokens : List Token) (here : Here) (rest : List ℕ) : Type 0 where
+pub record Reached (file : ℕ) (bytes : List ℕ) (tokens : List Token) (here : Cursor) (rest : List ℕ) : Type 0 where
   pub cut : Cuts (start file bytes) (body bytes) tokens here rest
   pub at : here.at + length rest ≡ length bytes
   pub spans : Rise 0 tokens here.at
 
-more_separator : {here there : Here} {bs cs : List ℕ} {ts : List Token} (count : ℕ) → Cuts here bs ts there cs → piece_at (in_hole there) cs ≡ n.Separator count →
+more_separator : {here there : Cursor} {bs cs : List ℕ} {ts : List Token} (count : ℕ) → Cuts here bs ts there cs → piece_at (in_hole there) cs ≡ n.Separator count →
     Cuts here bs ts (past there count cs) (drop count cs)
 more_separator count cuts_none h = cuts_separator h cuts_none
 more_separator count (cuts_separator g r) h = cuts_separator g (more_separator count r h)
 more_separator count (cuts_line g r) h = cuts_line g (more_separator count r h)
 more_separator count (cuts_token g r) h = cuts_token g (more_separator count r h)
 
-more_line : {here there : Here} {bs cs : List ℕ} {ts : List Token} (count : ℕ) → Cuts here bs ts there cs → piece_at (in_hole there) cs ≡ n.LineEnd count →
+more_line : {here there : Cursor} {bs cs : List ℕ} {ts : List Token} (count : ℕ) → Cuts here bs ts there cs → piece_at (in_hole there) cs ≡ n.LineEnd count →
     Cuts here bs ts (past_line there count cs) (drop count cs)
 more_line count cuts_none h = cuts_line h cuts_none
 more_line count (cuts_separator g r) h = cuts_separator g (more_line count r h)
 more_line count (cuts_line g r) h = cuts_line g (more_line count r h)
 more_line count (cuts_token g r) h = cuts_token g (more_line count r h)
 
-more_token : {here there : Here} {bs cs : List ℕ} {ts : List Token} (kind : TokenKind) (count : ℕ) → Cuts here bs ts there cs → piece_at (in_hole there) cs ≡ n.Token kind count →
+more_token : {here there : Cursor} {bs cs : List ℕ} {ts : List Token} (kind : TokenKind) (count : ℕ) → Cuts here bs ts there cs → piece_at (in_hole there) cs ≡ n.Token kind count →
     Cuts here bs (ts ++ token there kind count ∷ []) (past_token there kind count cs) (drop count cs)
 more_token kind count cuts_none h = cuts_token h cuts_none
 more_token kind count (cuts_separator g r) h = cuts_separator g (more_token kind count r h)
@@ -64,7 +64,7 @@ mark_within bs = by_mark (is_at bs 0 0xEF) (is_at bs 1 0xBB) (is_at bs 2 0xBF) r
 pub reached_start : (file : ℕ) (bytes : List ℕ) → Reached file bytes [] (start file bytes) (body bytes)
 reached_start file bytes = record { cut = cuts_none; at = omega (arith, length-drop (mark_len bytes) bytes, mark_within bytes); spans = omega arith }
 
-pub reached_separator : (file : ℕ) (bytes : List ℕ) (tokens : List Token) (here : Here) (rest : List ℕ) (count : ℕ) →
+pub reached_separator : (file : ℕ) (bytes : List ℕ) (tokens : List Token) (here : Cursor) (rest : List ℕ) (count : ℕ) →
     Reached file bytes tokens here rest → piece_at (in_hole here) rest ≡ n.Separator count → count ≤ length rest →
     Reached file bytes tokens (past here count rest) (drop count rest)
 reached_separator file bytes tokens here rest count r h within = record {
@@ -73,7 +73,7 @@ reached_separator file bytes tokens here rest count r h within = record {
   spans = further_on 0 tokens here.at (here.at + count) r.spans (omega arith);
 }
 
-pub reached_line : (file : ℕ) (bytes : List ℕ) (tokens : List Token) (here : Here) (rest : List ℕ) (count : ℕ) →
+pub reached_line : (file : ℕ) (bytes : List ℕ) (tokens : List Token) (here : Cursor) (rest : List ℕ) (count : ℕ) →
     Reached file bytes tokens here rest → piece_at (in_hole here) rest ≡ n.LineEnd count → count ≤ length rest →
     Reached file bytes tokens (past_line here count rest) (drop count rest)
 reached_line file bytes tokens here rest count r h within = record {
@@ -82,7 +82,7 @@ reached_line file bytes tokens here rest count r h within = record {
   spans = further_on 0 tokens here.at (here.at + count) r.spans (omega arith);
 }
 
-pub reached_token : (file : ℕ) (bytes : List ℕ) (tokens : List Token) (here : Here) (rest : List ℕ) (kind : TokenKind) (count : ℕ) →
+pub reached_token : (file : ℕ) (bytes : List ℕ) (tokens : List Token) (here : Cursor) (rest : List ℕ) (kind : TokenKind) (count : ℕ) →
     Reached file bytes tokens here rest → piece_at (in_hole here) rest ≡ n.Token kind count → 0 < count → count ≤ length rest →
     Reached file bytes (tokens ++ token here kind count ∷ []) (past_token here kind count rest) (drop count rest)
 reached_token file bytes tokens here rest kind count r h g within = record {
@@ -96,15 +96,15 @@ pub piece_is : (hole answer : Bool) (rest : List ℕ) (x y : Next) → answer �
 piece_is hole answer rest x y e f g = sym (ap (λ b. piece_at b rest) e) ∙ (sym f ∙ g)
 
 -- a rule is broken behind the pieces so far
-pub refused_bad : {T : Type 0} (file : ℕ) (bytes : List ℕ) (tokens : List Token) (here there : Here) (rest : List ℕ) (rule : Rule) (count : ℕ) (refusal : Refusal) →
+pub refused_bad : {T : Type 0} (file : ℕ) (bytes : List ℕ) (tokens : List Token) (here there : Cursor) (rest : List ℕ) (rule : Rule) (count : ℕ) (refusal : Refusal) →
     IsUtf8 bytes → Reached file bytes tokens here rest → piece_at (in_hole here) rest ≡ n.Bad rule count → there ≡ past here count rest →
     IsErrOf {T = T} (Err (front.Refused (record { rule = rule; place = there.place }))) (front.Refused refusal) → IsRefused file bytes refusal
 refused_bad file bytes tokens here there rest rule count refusal u r h e f =
     let g : record { rule = rule; place = there.place } ≡ refusal = cc in
-    no_piece u r.cut (rw h (ap Some (ap (λ (x : Here). record { rule = rule; place = x.place }) (sym e) ∙ g)))
+    no_piece u r.cut (rw h (ap Some (ap (λ (x : Cursor). record { rule = rule; place = x.place }) (sym e) ∙ g)))
 
 -- a text is not closed behind the pieces so far
-pub refused_hole : {T : Type 0} (file : ℕ) (bytes : List ℕ) (tokens : List Token) (here : Here) (rest : List ℕ) (place : Place) (refusal : Refusal) →
+pub refused_hole : {T : Type 0} (file : ℕ) (bytes : List ℕ) (tokens : List Token) (here : Cursor) (rest : List ℕ) (place : Place) (refusal : Refusal) →
     IsUtf8 bytes → Reached file bytes tokens here rest → piece_at (in_hole here) rest ≡ n.HoleEnd → place ≡ opening here here.hole →
     IsErrOf {T = T} (Err (front.Refused (record { rule = TEXT_END; place = place }))) (front.Refused refusal) → IsRefused file bytes refusal
 refused_hole file bytes tokens here rest place refusal u r h e f =

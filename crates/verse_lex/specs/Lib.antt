@@ -7,4 +7,3 @@ pub mod Contents
 pub mod Comments
 pub mod Pieces
 pub mod Cut
-pub mod Spelling

@@ -8,17 +8,18 @@ ghost use Rattle.verse_base.specs.declared.refusals.Front.TheVariants as front;
 ghost use Rattle.verse_lex.specs.Cut.{start, body, AreTokens, IsRefused, IsBounded, Rise, OneCut, OneRefusal, CutOrRefused};
 
 use crate::bytes::behind;
+use crate::cursors::{Cursor, indentation};
 use crate::pieces::{Next, piece_at};
 use crate::places::{body, first_place, malformed, mark_len, place_at};
 use crate::rules::{NOT_UTF8, TEXT_END};
-use crate::steps::{Here, indentation};
 use crate::tokens::Token;
 use std::alloc::Global;
+use verse_base::limits::MOST_FILE_BYTES;
 use verse_base::refusals::{Front, Refusal};
 
 /// The tokens of a file, with rising spans, or the first place where no piece goes on.
 pub fn lex(alloc: Global, file: u32, bytes: &[u8]) -> Result<Vec<Token>, Front>
-    requires { length bytes.now ≤ 1048576 }
+    requires { length bytes.now ≤ MOST_FILE_BYTES }
     ensures tokens { IfOk result (λ tokens. AreTokens file bytes.now tokens.items) }
     ensures spans { IfOk result (λ tokens. Rise 0 tokens.items (length bytes.now)) }
     ensures refused { (refusal : Refusal) → IsErrOf result (Front.Refused refusal) → IsRefused file bytes.now refusal }
@@ -35,7 +36,7 @@ pub fn lex(alloc: Global, file: u32, bytes: &[u8]) -> Result<Vec<Token>, Front>
 /// The tokens of a file that is UTF-8.
 #[tactic(auto, using(crate::proofs::Pushes::reached_start))]
 fn cut(alloc: Global, file: u32, bytes: &[u8]) -> Result<Vec<Token>, Front>
-    requires len { length bytes.now ≤ 1048576 }
+    requires len { length bytes.now ≤ MOST_FILE_BYTES }
     requires text { IsUtf8 bytes.now }
     ensures tokens { IfOk result (λ tokens. AreTokens file bytes.now tokens.items) }
     ensures spans { IfOk result (λ tokens. Rise 0 tokens.items (length bytes.now)) }
@@ -77,13 +78,13 @@ fn cut(alloc: Global, file: u32, bytes: &[u8]) -> Result<Vec<Token>, Front>
 }
 
 /// A file's first byte behind the byte-order mark.
-fn start(file: u32, bytes: &[u8]) -> Here
-    requires { length bytes.now ≤ 1048576 }
+fn start(file: u32, bytes: &[u8]) -> Cursor
+    requires { length bytes.now ≤ MOST_FILE_BYTES }
     ensures here { result ≡ start file bytes.now }
-    ensures bounded { IsBounded result (body bytes.now) 1048576 }
+    ensures bounded { IsBounded result (body bytes.now) MOST_FILE_BYTES }
 {
     let at = mark_len(bytes);
-    Here {
+    Cursor {
         at,
         place: first_place(file),
         hole: None,

@@ -2,12 +2,15 @@
 //!
 //! To be read in this order: `tokens`, what is answered; `rules`, `bytes`, `words`, `marks`,
 //! `numbers`, `texts`, `comments`, of which pieces are made; `pieces`, what begins at a place;
-//! `places`, `steps`, `lexer`, the cut of a file; `contents`, what a text stands for; `laws`.
+//! `places`, `cursors`, `lexer`, the cut of a file; `contents`, what a text stands for; `laws`.
+//! How each piece is spelled is said by `verse_lex_laws`. The public lemmas, which crates above cite,
+//! are `proofs/Unique`, `proofs/Bounds` and `proofs/Pushes`.
 #![tactic(auto)]
 
 mod bytes;
 mod comments;
 mod contents;
+mod cursors;
 pub mod laws;
 mod lexer;
 mod marks;
@@ -15,9 +18,6 @@ mod numbers;
 mod pieces;
 mod places;
 mod rules;
-mod steps;
-#[cfg(test)]
-mod tests;
 mod texts;
 pub mod tokens;
 mod words;

@@ -2,16 +2,17 @@
 
 ghost use Rattle.std.specs.Prelude.{◌≡◌, ◌+◌, ◌<◌, ◌≤◌, ◌^◌, length, MatchOption};
 ghost use Rattle.std.specs.Str.{IsUtf8, IsValidUpTo};
-ghost use Rattle.verse_lex.specs.Cut.{step, after, mark_len, body, first_place, place_at, IsNear};
+ghost use Rattle.verse_lex.specs.Cut.{next_place, after, mark_len, body, first_place, place_at, IsNear};
 
 use crate::bytes::is_at;
+use verse_base::limits::MOST_FILE_BYTES;
 use verse_base::places::Place;
 
 /// The place behind this byte.
-pub fn step(place: Place, byte: u8) -> Place
+pub fn next_place(place: Place, byte: u8) -> Place
     requires line { place.line + 1 < 2 ^ 32 }
     requires col { place.col + 1 < 2 ^ 32 }
-    ensures { result ≡ step place byte }
+    ensures { result ≡ next_place place byte }
 {
     if byte == b'\n' {
         Place {
@@ -29,7 +30,7 @@ pub fn step(place: Place, byte: u8) -> Place
 }
 
 /// The place behind these bytes.
-#[tactic(auto, using(crate::proofs::Nearness::step_near))]
+#[tactic(auto, using(crate::proofs::Nearness::next_place_near))]
 pub fn after(place: Place, bytes: &[u8]) -> Place
     requires first { 1 ≤ place.col }
     requires line { place.line + length bytes.now < 2 ^ 32 }
@@ -39,7 +40,7 @@ pub fn after(place: Place, bytes: &[u8]) -> Place
 {
     let mut here = place;
     'bytes: for byte in bytes {
-        here = step(here, *byte);
+        here = next_place(here, *byte);
     }
     here
 }
@@ -76,7 +77,7 @@ pub fn first_place(file: u32) -> Place
 
 /// The place of the byte at this offset.
 pub fn place_at(file: u32, bytes: &[u8], offset: usize) -> Place
-    requires len { length bytes.now ≤ 1048576 }
+    requires len { length bytes.now ≤ MOST_FILE_BYTES }
     requires within { offset ≤ length bytes.now }
     ensures { result ≡ place_at file bytes.now offset }
 {

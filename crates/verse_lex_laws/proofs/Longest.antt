@@ -9,8 +9,8 @@ use Rattle.verse_lex.specs.Texts.{text_chars, further}
 use Rattle.verse_lex.specs.Comments.{closing, beyond}
 use Rattle.verse_lex.specs.Pieces.{piece_at, common, name, number, mark, mark_next, double_mark, comment, comment_next, is_lone_at, is_hexadecimal, has_fraction, hexadecimal_number, fractional_number, integer, ended, duration}
 use Rattle.verse_lex.specs.Numbers.{decimal, hexadecimal, thousandths}
-use Rattle.verse_lex.specs.Spelling as s
-use Rattle.verse_lex.specs.Spelling.{all_pass, Body, Chars, Literal, Number, Piece, Spells, Reaches, NoneLonger}
+use Rattle.verse_lex_laws.specs.Spelling as s
+use Rattle.verse_lex_laws.specs.Spelling.{all_pass, Body, Chars, Literal, Number, Piece, Spells, Reaches, NoneLonger}
 use Rattle.verse_lex.specs.declared.rules.TheConstants.{UNEXPECTED, INTEGER, DURATION}
 use Rattle.verse_base.specs.declared.refusals.Rule.{Rule}
 use Rattle.verse_lex.specs.declared.tokens.Mark.{Mark}
@@ -23,7 +23,7 @@ use Rattle.verse_lex.specs.declared.comments.Close.{Close}
 use Rattle.verse_lex.specs.declared.comments.Close.TheVariants as close
 use Rattle.verse_lex.specs.declared.pieces.Next.{Next}
 use Rattle.verse_lex.specs.declared.pieces.Next.TheVariants as n
-use Rattle.verse_lex.proofs.Runs.{equal, other_byte, both, digit_no_letter, run_reach, run_stops, at_end, behind_end, drop_end, AllRows, in_table}
+use Rattle.verse_lex_laws.proofs.Runs.{equal, other_byte, both, digit_no_letter, run_reach, run_stops, at_end, behind_end, drop_end, AllRows, in_table}
 
 if_reaches : (v : Bool) (x y : Next) (len : ℕ) → Reaches x len → Reaches y len → Reaches (if v then x else y) len
 if_reaches true x y len h g = h
@@ -160,7 +160,7 @@ number_piece bs len h = by_form (is_hexadecimal bs) (has_fraction bs (run is_dig
         duration_reaches bs (take (run is_digit bs) bs) (take (run is_digit (drop (run is_digit bs + 1) bs)) (drop (run is_digit bs + 1) bs)) (run is_digit bs + 1 + run is_digit (drop (run is_digit bs + 1) bs)) len g
     by_form false false g = integer_reaches bs (decimal (take (run is_digit bs) bs)) (run is_digit bs) len g
 
-number_first : (cs : List ℕ) (kind : TokenKind) (rule : Option Rule) (ds : List ℕ) (within : Bool) → Number cs kind rule → piece_at within (cs ++ ds) ≡ number (cs ++ ds)
+pub number_first : (cs : List ℕ) (kind : TokenKind) (rule : Option Rule) (ds : List ℕ) (within : Bool) → Number cs kind rule → piece_at within (cs ++ ds) ≡ number (cs ++ ds)
 number_first cs kind rule ds within (s.digits b bs h all) = at_digit within b (bs ++ ds) h
 number_first cs kind rule ds within (s.hex_digits b bs h all) = at_digit within 48 (120 ∷ b ∷ (bs ++ ds)) refl
 number_first cs kind rule ds within (s.fraction b c bs es h all g each) = at_digit within b ((bs ++ 46 ∷ c ∷ es) ++ ds) h

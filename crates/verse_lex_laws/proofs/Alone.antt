@@ -11,8 +11,8 @@ use Rattle.verse_lex.specs.Numbers.{decimal, hexadecimal, thousandths}
 use Rattle.verse_lex.specs.Texts.{text_chars}
 use Rattle.verse_lex.specs.Comments.{closing}
 use Rattle.verse_lex.specs.Pieces.{piece_at, number, hexadecimal_number, fractional_number, integer, ended, duration, is_lone_at, is_hexadecimal, has_fraction}
-use Rattle.verse_lex.specs.Spelling as s
-use Rattle.verse_lex.specs.Spelling.{all_pass, Body, Chars, Number, Piece, Spells, next_of, SpelledAlone, OnePiece}
+use Rattle.verse_lex_laws.specs.Spelling as s
+use Rattle.verse_lex_laws.specs.Spelling.{all_pass, Body, Chars, Number, Piece, Spells, next_of, SpelledAlone, OnePiece}
 use Rattle.verse_base.specs.declared.refusals.Rule.{Rule}
 use Rattle.verse_lex.specs.declared.rules.TheConstants.{UNEXPECTED, INTEGER, DURATION}
 use Rattle.verse_lex.specs.declared.tokens.TokenKind.{TokenKind}
@@ -21,9 +21,10 @@ use Rattle.verse_lex.specs.declared.texts.Ending.TheVariants as e
 use Rattle.verse_lex.specs.declared.comments.Close.TheVariants as close
 use Rattle.verse_lex.specs.declared.pieces.Next.{Next}
 use Rattle.verse_lex.specs.declared.pieces.Next.TheVariants as n
-use Rattle.verse_lex.proofs.Runs.{other_byte, both, run_stops, at_end, behind_end, drop_end, pointwise_equal}
-use Rattle.verse_lex.proofs.Parts.{take_front}
-use Rattle.verse_lex.proofs.Longest.{at_common, at_letter, at_digit, at_blank, point_no_hex, chars_end, body_closes}
+use Rattle.verse_lex_laws.proofs.Runs.{other_byte, both, run_stops, at_end, behind_end, drop_end, pointwise_equal}
+use Rattle.verse_lex_laws.proofs.Parts.{take_front}
+use Rattle.verse_lex_laws.proofs.Spelled.{outcome}
+use Rattle.verse_lex_laws.proofs.Longest.{at_common, at_letter, at_digit, at_blank, point_no_hex, chars_end, body_closes}
 
 run_all : (p : ℕ → Bool) (cs : List ℕ) → all_pass p cs ≡ true → run p cs ≡ length cs
 run_all p [] h = refl
@@ -50,19 +51,20 @@ not_at_end cs b = ap (λ x. is_byte x b) (get_end cs)
 ended_alone : (cs : List ℕ) (kind : TokenKind) → ended cs kind (length cs) ≡ n.Token kind (length cs)
 ended_alone cs kind = if_false (letter_at cs (length cs)) (n.Bad UNEXPECTED (length cs)) (n.Token kind (length cs)) (no_letter_end cs)
 
-rule_none : (v : Bool) (rule : Rule) → (if v then Some rule else None) ≡ None → v ≡ false
-rule_none true rule h = absurd (cc)
-rule_none false rule h = refl
+integer_alone : (cs : List ℕ) (value : ℕ) → integer cs value (length cs) ≡ outcome (s.integer_rule value) (k.Int (pos value)) false (length cs)
+integer_alone cs value = by_rule (nat_le (2 ^ 63) value)
+  where
+    by_rule : (v : Bool) → (if v then n.Bad INTEGER 0 else ended cs (k.Int (pos value)) (length cs)) ≡ outcome (if v then Some INTEGER else None) (k.Int (pos value)) false (length cs)
+    by_rule true = refl
+    by_rule false = ended_alone cs (k.Int (pos value))
 
-integer_alone : (cs : List ℕ) (value : ℕ) → s.integer_rule value ≡ None → integer cs value (length cs) ≡ n.Token (k.Int (pos value)) (length cs)
-integer_alone cs value h =
-    if_false (nat_le (2 ^ 63) value) (n.Bad INTEGER 0) (ended cs (k.Int (pos value)) (length cs)) (rule_none _ INTEGER h) ∙ ended_alone cs (k.Int (pos value))
-
-duration_alone : (cs whole decimals : List ℕ) → s.duration_rule decimals (thousandths whole decimals) ≡ None →
-    duration cs whole decimals (length cs) ≡ n.Token (k.Dec (thousandths whole decimals)) (length cs)
-duration_alone cs whole decimals h =
-    if_false (nat_lt 3 (length decimals) || nat_lt 1000000000 (thousandths whole decimals)) (n.Bad DURATION 0) (ended cs (k.Dec (thousandths whole decimals)) (length cs)) (rule_none _ DURATION h) ∙
-    ended_alone cs (k.Dec (thousandths whole decimals))
+duration_alone : (cs whole decimals : List ℕ) →
+    duration cs whole decimals (length cs) ≡ outcome (s.duration_rule decimals (thousandths whole decimals)) (k.Dec (thousandths whole decimals)) false (length cs)
+duration_alone cs whole decimals = by_rule (nat_lt 3 (length decimals) || nat_lt 1000000000 (thousandths whole decimals))
+  where
+    by_rule : (v : Bool) → (if v then n.Bad DURATION 0 else ended cs (k.Dec (thousandths whole decimals)) (length cs)) ≡ outcome (if v then Some DURATION else None) (k.Dec (thousandths whole decimals)) false (length cs)
+    by_rule true = refl
+    by_rule false = ended_alone cs (k.Dec (thousandths whole decimals))
 
 name_alone : (within : Bool) (b : ℕ) (cs : List ℕ) → is_letter b ≡ true → all_pass in_name cs ≡ true → piece_at within (b ∷ cs) ≡ n.Token (name_kind (b ∷ cs)) (length (b ∷ cs))
 name_alone within b cs h all =
@@ -85,9 +87,9 @@ digits_no_hex b [] h = by_first (b == 48)
     by_first false = refl
 digits_no_hex b (c ∷ cs) h = second_no_hex b c cs (other_byte is_digit c 120 (both (is_digit c) (all_pass is_digit cs) h).0 refl)
 
-digits_alone : (within : Bool) (b : ℕ) (cs : List ℕ) → is_digit b ≡ true → all_pass is_digit cs ≡ true → s.integer_rule (decimal (b ∷ cs)) ≡ None →
-    piece_at within (b ∷ cs) ≡ n.Token (k.Int (pos (decimal (b ∷ cs)))) (length (b ∷ cs))
-digits_alone within b cs h all rule =
+digits_alone : (within : Bool) (b : ℕ) (cs : List ℕ) → is_digit b ≡ true → all_pass is_digit cs ≡ true →
+    piece_at within (b ∷ cs) ≡ outcome (s.integer_rule (decimal (b ∷ cs))) (k.Int (pos (decimal (b ∷ cs)))) false (length (b ∷ cs))
+digits_alone within b cs h all =
     let first : all_pass is_digit (b ∷ cs) ≡ true = rw (h, all) refl in
     let count : run is_digit (b ∷ cs) ≡ length (b ∷ cs) = run_all is_digit (b ∷ cs) first in
     let here : number (b ∷ cs) ≡ (if has_fraction (b ∷ cs) (run is_digit (b ∷ cs)) then fractional_number (b ∷ cs) (run is_digit (b ∷ cs)) else integer (b ∷ cs) (decimal (take (run is_digit (b ∷ cs)) (b ∷ cs))) (run is_digit (b ∷ cs))) =
@@ -96,15 +98,15 @@ digits_alone within b cs h all rule =
     here ∙ ap (λ i. if has_fraction (b ∷ cs) i then fractional_number (b ∷ cs) i else integer (b ∷ cs) (decimal (take i (b ∷ cs))) i) count in
     let pointless : has_fraction (b ∷ cs) (length (b ∷ cs)) ≡ false = ap (λ v. v && digit_at (b ∷ cs) (length (b ∷ cs) + 1)) (not_at_end (b ∷ cs) 46) in
     at_digit within b cs h ∙ (next ∙ (if_false (has_fraction (b ∷ cs) (length (b ∷ cs))) (fractional_number (b ∷ cs) (length (b ∷ cs))) _ pointless ∙
-    (ap (λ x. integer (b ∷ cs) (decimal x) (length (b ∷ cs))) (take-length (b ∷ cs)) ∙ integer_alone (b ∷ cs) (decimal (b ∷ cs)) rule)))
+    (ap (λ x. integer (b ∷ cs) (decimal x) (length (b ∷ cs))) (take-length (b ∷ cs)) ∙ integer_alone (b ∷ cs) (decimal (b ∷ cs)))))
 
 if_true : (v : Bool) (x y : Next) → v ≡ true → (if v then x else y) ≡ x
 if_true true x y h = refl
 if_true false x y h = absurd (cc)
 
-hex_alone : (within : Bool) (d : ℕ) (ds : List ℕ) → is_hex_digit d ≡ true → all_pass is_hex_digit ds ≡ true → s.integer_rule (hexadecimal (d ∷ ds)) ≡ None →
-    piece_at within (48 ∷ 120 ∷ d ∷ ds) ≡ n.Token (k.Int (pos (hexadecimal (d ∷ ds)))) (length (48 ∷ 120 ∷ d ∷ ds))
-hex_alone within d ds h all rule =
+hex_alone : (within : Bool) (d : ℕ) (ds : List ℕ) → is_hex_digit d ≡ true → all_pass is_hex_digit ds ≡ true →
+    piece_at within (48 ∷ 120 ∷ d ∷ ds) ≡ outcome (s.integer_rule (hexadecimal (d ∷ ds))) (k.Int (pos (hexadecimal (d ∷ ds)))) false (length (48 ∷ 120 ∷ d ∷ ds))
+hex_alone within d ds h all =
     let first : all_pass is_hex_digit (d ∷ ds) ≡ true = rw (h, all) refl in
     let short : run is_hex_digit (d ∷ ds) ≡ length (d ∷ ds) = run_all is_hex_digit (d ∷ ds) first in
     let count : length (d ∷ ds) + 2 ≡ length (48 ∷ 120 ∷ d ∷ ds) = omega arith in
@@ -112,12 +114,11 @@ hex_alone within d ds h all rule =
     at_digit within 48 (120 ∷ d ∷ ds) refl ∙ (here ∙
     (ap (λ i. integer (48 ∷ 120 ∷ d ∷ ds) (hexadecimal (take i (d ∷ ds))) (i + 2)) short ∙
     (ap (λ x. integer (48 ∷ 120 ∷ d ∷ ds) (hexadecimal x) (length (d ∷ ds) + 2)) (take-length (d ∷ ds)) ∙
-    (ap (integer (48 ∷ 120 ∷ d ∷ ds) (hexadecimal (d ∷ ds))) count ∙ integer_alone (48 ∷ 120 ∷ d ∷ ds) (hexadecimal (d ∷ ds)) rule))))
+    (ap (integer (48 ∷ 120 ∷ d ∷ ds) (hexadecimal (d ∷ ds))) count ∙ integer_alone (48 ∷ 120 ∷ d ∷ ds) (hexadecimal (d ∷ ds))))))
 
 fraction_alone : (within : Bool) (c d : ℕ) (cs ds : List ℕ) → is_digit c ≡ true → all_pass is_digit cs ≡ true → is_digit d ≡ true → all_pass is_digit ds ≡ true →
-    s.duration_rule (d ∷ ds) (thousandths (c ∷ cs) (d ∷ ds)) ≡ None →
-    piece_at within ((c ∷ cs) ++ 46 ∷ d ∷ ds) ≡ n.Token (k.Dec (thousandths (c ∷ cs) (d ∷ ds))) (length ((c ∷ cs) ++ 46 ∷ d ∷ ds))
-fraction_alone within c d cs ds h all g each rule =
+    piece_at within ((c ∷ cs) ++ 46 ∷ d ∷ ds) ≡ outcome (s.duration_rule (d ∷ ds) (thousandths (c ∷ cs) (d ∷ ds))) (k.Dec (thousandths (c ∷ cs) (d ∷ ds))) false (length ((c ∷ cs) ++ 46 ∷ d ∷ ds))
+fraction_alone within c d cs ds h all g each =
     let bs : List ℕ = (c ∷ cs) ++ 46 ∷ d ∷ ds in
     let front : all_pass is_digit (c ∷ cs) ≡ true = rw (h, all) refl in
     let behind : all_pass is_digit (d ∷ ds) ≡ true = rw (g, each) refl in
@@ -141,7 +142,7 @@ fraction_alone within c d cs ds h all g each rule =
     (ap (λ w. duration bs w (take (run is_digit (d ∷ ds)) (d ∷ ds)) (length (c ∷ cs) + 1 + run is_digit (d ∷ ds))) before ∙
     (ap (λ i. duration bs (c ∷ cs) (take i (d ∷ ds)) (length (c ∷ cs) + 1 + i)) short ∙
     (ap (λ x. duration bs (c ∷ cs) x (length (c ∷ cs) + 1 + length (d ∷ ds))) (take-length (d ∷ ds)) ∙ ap (duration bs (c ∷ cs) (d ∷ ds)) len))) in
-    at_digit within c (cs ++ 46 ∷ d ∷ ds) h ∙ (two ∙ (three ∙ duration_alone bs (c ∷ cs) (d ∷ ds) rule))
+    at_digit within c (cs ++ 46 ∷ d ∷ ds) h ∙ (two ∙ (three ∙ duration_alone bs (c ∷ cs) (d ∷ ds)))
 
 -- texts
 text_alone : (cs ms : List ℕ) → Chars cs ms → piece_at false (34 ∷ (cs ++ 34 ∷ [])) ≡ n.Token k.Text (length (34 ∷ (cs ++ 34 ∷ [])))
@@ -208,10 +209,10 @@ singles_in_hole : RowsHave (λ cs m. is_at cs 0 123 ≡ false → is_at cs 0 125
 singles_in_hole =
     (λ g h. refl, (λ g h. refl, (λ g h. refl, (λ g h. refl, (λ g h. refl, (λ g h. refl, (λ g h. refl, (λ g h. refl, (λ g h. refl, (λ g h. refl, (λ g h. refl, (λ g h. refl, (λ g h. refl, (λ g h. refl, (λ g h. refl, (λ g h. absurd (cc), (λ g h. absurd (cc), (λ g h. refl, tt))))))))))))))))))
 
-number_alone : (within : Bool) (cs : List ℕ) (kind : TokenKind) (rule : Option Rule) → rule ≡ None → Number cs kind rule → piece_at within cs ≡ n.Token kind (length cs)
-number_alone within cs kind rule e (s.digits b bs h all) = digits_alone within b bs h all e
-number_alone within cs kind rule e (s.hex_digits b bs h all) = hex_alone within b bs h all e
-number_alone within cs kind rule e (s.fraction b c bs es h all g each) = fraction_alone within b c bs es h all g each e
+pub number_alone : (within : Bool) (cs : List ℕ) (kind : TokenKind) (rule : Option Rule) → Number cs kind rule → piece_at within cs ≡ outcome rule kind false (length cs)
+number_alone within cs kind rule (s.digits b bs h all) = digits_alone within b bs h all
+number_alone within cs kind rule (s.hex_digits b bs h all) = hex_alone within b bs h all
+number_alone within cs kind rule (s.fraction b c bs es h all g each) = fraction_alone within b c bs es h all g each
 
 pub spelled_alone : SpelledAlone
 spelled_alone within cs piece (s.blank {b = b} h) = at_blank within b [] h
@@ -220,7 +221,7 @@ spelled_alone within cs piece s.return_feed = refl
 spelled_alone within cs piece (s.line_comment {cs = bs} h) = line_alone bs h
 spelled_alone within cs piece (s.comment {cs = bs} r h) = comment_alone bs r h
 spelled_alone within cs piece (s.name {b = b} {cs = bs} h all) = name_alone within b bs h all
-spelled_alone within cs piece (s.number {kind = kind} h) = number_alone within cs kind None refl h
+spelled_alone within cs piece (s.number {kind = kind} h) = number_alone within cs kind None h
 spelled_alone within cs piece (s.literal {c = c} (s.literal_plain {b = b} h g)) = at_common within 39 (b ∷ 39 ∷ []) refl refl refl refl refl refl refl ∙ (rw (g, h) refl)
 spelled_alone within cs piece (s.literal {c = c} (s.literal_escaped {b = b} h)) = at_common within 39 (92 ∷ b ∷ 39 ∷ []) refl refl refl refl refl refl refl ∙ (rw h refl)
 spelled_alone within cs piece (s.text {cs = bs} {ms = ms} r) = text_alone bs ms r

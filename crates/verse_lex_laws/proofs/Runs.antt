@@ -7,7 +7,7 @@ use Rattle.std.proofs.lemmas.Bool.{eqb-true}
 use Rattle.std.proofs.lemmas.Bool.Decides.{nat_tests}
 use Rattle.verse_lex.specs.Bytes.{is_letter, is_digit, run}
 use Rattle.verse_lex.specs.Words.{look_up}
-use Rattle.verse_lex.specs.Spelling.{all_pass}
+use Rattle.verse_lex_laws.specs.Spelling.{all_pass}
 
 pub equal : (b c : ℕ) → (b == c) ≡ true → b ≡ c
 equal b c h = eqb-true b c h

@@ -1,10 +1,10 @@
 //! Files and their tokens, a line for each.
 
-use crate::tokens::{Token, TokenKind};
-use crate::{lex, text_bytes};
 use std::alloc::{AllocError, Global};
 use std::test::Fail;
 use verse_base::refusals::Front;
+use verse_lex::tokens::{Token, TokenKind};
+use verse_lex::{lex, text_bytes};
 
 // A file and its tokens: kind with value, span, place and, of the first of a line, the span of
 // the line's indentation; or the rule that is broken, and where. In the file `^` is a line feed,

@@ -1,5 +1,5 @@
 -- Runs, texts and comments by their parts.
-use Rattle.std.proofs.Common.{◌≡◌, ℕ, zero, suc, ◌+◌, ◌==◌, ◌&&◌, Bool, true, false, List, [], ◌∷◌, ◌++◌, Option, Some, None, length, take, drop, if◌then◌else◌, refl, sym, ◌∙◌, ap, arith, subst, append_assoc, zero-add, append-nil}
+use Rattle.std.proofs.Common.{◌≡◌, ℕ, zero, suc, ◌+◌, ◌==◌, ◌&&◌, Bool, true, false, List, [], ◌∷◌, ◌++◌, Option, Some, None, length, take, drop, if◌then◌else◌, refl, sym, ◌∙◌, ap, arith, subst, append_assoc, zero-add, append-nil, length-append, not}
 use Rattle.std.proofs.Math.Nat.{suc-add}
 use Rattle.std.specs.Prelude.{slice_get}
 use Rattle.std.proofs.lemmas.List.Sums.{take_while-cons}
@@ -7,15 +7,15 @@ use Rattle.verse_lex.specs.Bytes.{is_at, passes, run}
 use Rattle.verse_lex.specs.Texts.{escape, text_chars, behind_backslash, if_escape, further}
 use Rattle.verse_lex.specs.Comments.{closing, beyond, closes, opens, is_lone}
 use Rattle.verse_lex.specs.Pieces.{is_lone_at}
-use Rattle.verse_lex.specs.Spelling as s
-use Rattle.verse_lex.specs.Spelling.{all_pass, is_plain, Body, Chars, Literal, Number, Piece, Spells, Stops, NoBody, NoLiteral, LongestNumber, IsStray, Breaks, Unended, BeginsWith, Explains, EachExplained}
+use Rattle.verse_lex_laws.specs.Spelling as s
+use Rattle.verse_lex_laws.specs.Spelling.{all_pass, is_plain, Body, Chars, Literal, Number, Piece, Spells, Stops, NoBody, NoLiteral, LongestNumber, MeetsLone, IsStray, Breaks, Unended, BeginsWith, Explains, EachExplained}
 use Rattle.verse_lex.specs.declared.rules.TheConstants.{UNEXPECTED, ESCAPE}
 use Rattle.verse_lex.specs.declared.texts.Ending.{Ending}
 use Rattle.verse_lex.specs.declared.texts.Ending.TheVariants as e
 use Rattle.verse_lex.specs.declared.comments.Close.{Close}
 use Rattle.verse_lex.specs.declared.comments.Close.TheVariants as close
-use Rattle.verse_lex.proofs.Runs.{equal, both}
-use Rattle.verse_lex.proofs.Longest.{body_closes}
+use Rattle.verse_lex_laws.proofs.Runs.{equal, both}
+use Rattle.verse_lex_laws.proofs.Longest.{body_closes}
 
 -- a run of bytes that pass, and what stands behind it
 pub record Run (p : ℕ → Bool) (bs : List ℕ) : Type 0 where
@@ -165,37 +165,43 @@ record Front (depth : ℕ) (bs : List ℕ) (count : ℕ) : Type 0 where
   len : length front ≡ count
   bodies : Bodies depth front
 
+-- some of so many comments that are open are closed, and in the next one stands a carriage return alone
+data Lones : ℕ → List ℕ → ℕ → Type 0 where
+  lone_now : {depth : ℕ} {bs : List ℕ} {count : ℕ} → MeetsLone bs count → Lones (suc depth) bs count
+  lone_later : {depth : ℕ} {cs ds : List ℕ} {count : ℕ} → Body cs → Lones depth ds count → Lones (suc depth) (cs ++ ds) (length cs + count)
+
 -- what closes the comments that are open, by how it does
 abbrev Closing : ℕ → List ℕ → Close → Type 0
 Closing depth bs (close.Closed count) = Front depth bs count
-Closing depth bs (close.Lone count) = is_lone_at bs count ≡ true
+Closing depth bs (close.Lone count) = Lones depth bs count
 Closing depth bs close.Never = Unit {0}
 
 if_closing : (depth : ℕ) (bs : List ℕ) (v : Bool) (x y : Close) → (v ≡ true → Closing depth bs x) → (v ≡ false → Closing depth bs y) → Closing depth bs (if v then x else y)
 if_closing depth bs true x y h g = h refl
 if_closing depth bs false x y h g = g refl
 
-lone_behind : (b : ℕ) (bs : List ℕ) (i : ℕ) → is_lone_at (b ∷ bs) (suc i) ≡ is_lone_at bs i
-lone_behind b bs i = rw suc-add refl
-
-lone_one : (b : ℕ) (bs : List ℕ) (i : ℕ) → is_lone_at bs i ≡ true → is_lone_at (b ∷ bs) (1 + i) ≡ true
-lone_one b bs i h = let e : 1 + i ≡ suc i = omega arith in ap (is_lone_at (b ∷ bs)) e ∙ (lone_behind b bs i ∙ h)
-
-lone_two : (b c : ℕ) (bs : List ℕ) (i : ℕ) → is_lone_at bs i ≡ true → is_lone_at (b ∷ c ∷ bs) (2 + i) ≡ true
-lone_two b c bs i h = let e : 2 + i ≡ suc (suc i) = omega arith in ap (is_lone_at (b ∷ c ∷ bs)) e ∙ (lone_behind b (c ∷ bs) (suc i) ∙ (lone_behind c bs i ∙ h))
-
 closed_end : (depth : ℕ) (bs : List ℕ) (x : Close) → Closing depth bs x → Closing (suc depth) (35 ∷ 62 ∷ bs) (beyond 2 x)
 closed_end depth bs (close.Closed count) f = record { front = 35 ∷ 62 ∷ f.front; behind = f.behind; whole = ap (λ y. 35 ∷ 62 ∷ y) f.whole; len = omega (arith, f.len); bodies = one_body s.ends f.bodies }
-closed_end depth bs (close.Lone count) f = lone_two 35 62 bs count f
+closed_end depth bs (close.Lone count) f = lone_later s.ends f
 closed_end depth bs close.Never f = tt
 
 open_bodies : {depth : ℕ} {fs : List ℕ} → Bodies (suc (suc depth)) fs → Bodies (suc depth) (60 ∷ 35 ∷ fs)
 open_bodies {depth = depth} (one_body {cs = cs} r (one_body {cs = ds} {ds = es} q rest)) =
     subst (Bodies (suc depth)) (ap (λ y. 60 ∷ 35 ∷ y) (append_assoc cs ds es)) (one_body (s.nested r q) rest)
 
+same_count : {depth : ℕ} {bs : List ℕ} (i j : ℕ) → i ≡ j → Lones depth bs i → Lones depth bs j
+same_count {depth = depth} {bs = bs} i j e l = subst (Lones depth bs) e l
+
+open_lones : {depth : ℕ} {bs : List ℕ} {count : ℕ} → Lones (suc (suc depth)) bs count → Lones (suc depth) (60 ∷ 35 ∷ bs) (2 + count)
+open_lones (lone_now m) = lone_now (s.in_nested m)
+open_lones {depth = depth} (lone_later {cs = cs} r (lone_now {count = count} m)) = same_count _ _ (omega arith) (lone_now (s.past_nested r m))
+open_lones {depth = depth} (lone_later {cs = cs} r (lone_later {cs = ds} {ds = es} {count = count} q l)) =
+    let there = lone_later (s.nested r q) l in
+    same_count _ _ (omega (arith, length-append cs ds)) (subst (λ y. Lones (suc depth) y (length (60 ∷ 35 ∷ (cs ++ ds)) + count)) (ap (λ y. 60 ∷ 35 ∷ y) (append_assoc cs ds es)) there)
+
 opened : (depth : ℕ) (bs : List ℕ) (x : Close) → Closing (suc (suc depth)) bs x → Closing (suc depth) (60 ∷ 35 ∷ bs) (beyond 2 x)
 opened depth bs (close.Closed count) f = record { front = 60 ∷ 35 ∷ f.front; behind = f.behind; whole = ap (λ y. 60 ∷ 35 ∷ y) f.whole; len = omega (arith, f.len); bodies = open_bodies f.bodies }
-opened depth bs (close.Lone count) f = lone_two 60 35 bs count f
+opened depth bs (close.Lone count) f = open_lones f
 opened depth bs close.Never f = tt
 
 -- no comment begins or ends with these two bytes
@@ -218,9 +224,16 @@ body_more b c bs cs es e h (s.more {b = x} {c = y} {cs = xs} f g l r) = with_byt
 more_bodies : {depth : ℕ} {fs : List ℕ} (b c : ℕ) (bs es : List ℕ) → c ∷ bs ≡ fs ++ es → IsInside b c → Bodies (suc depth) fs → Bodies (suc depth) (b ∷ fs)
 more_bodies b c bs es e h (one_body {cs = cs} {ds = ds} r rest) = one_body (body_more b c bs cs (ds ++ es) (e ∙ append_assoc cs ds es) h r) rest
 
+more_lones : {depth : ℕ} {count : ℕ} (b c : ℕ) (bs xs : List ℕ) → xs ≡ c ∷ bs → IsInside b c → Lones (suc depth) xs count → Lones (suc depth) (b ∷ c ∷ bs) (1 + count)
+more_lones {depth = depth} b c bs xs e h (lone_now {count = count} m) =
+    lone_now (s.past_byte h.closed h.open_none h.lone (subst (λ y. MeetsLone y count) e m))
+more_lones {depth = depth} b c bs xs e h (lone_later {cs = cs} {ds = ds} {count = count} r l) =
+    let there = lone_later (body_more b c bs cs ds (sym e) h r) l in
+    same_count _ _ (omega arith) (subst (λ y. Lones (suc depth) (b ∷ y) (length (b ∷ cs) + count)) e there)
+
 one_more : (depth b c : ℕ) (bs : List ℕ) (x : Close) → IsInside b c → Closing (suc depth) (c ∷ bs) x → Closing (suc depth) (b ∷ c ∷ bs) (beyond 1 x)
 one_more depth b c bs (close.Closed count) h f = record { front = b ∷ f.front; behind = f.behind; whole = ap (λ y. b ∷ y) f.whole; len = omega (arith, f.len); bodies = more_bodies b c bs f.behind f.whole h f.bodies }
-one_more depth b c bs (close.Lone count) h f = lone_one b (c ∷ bs) count f
+one_more depth b c bs (close.Lone count) h f = more_lones b c bs (c ∷ bs) refl h f
 one_more depth b c bs close.Never h f = tt
 
 two_bytes : (b c x y : ℕ) (bs : List ℕ) (depth : ℕ) (z : Close) → ((b == x) && (c == y)) ≡ true → Closing depth (x ∷ y ∷ bs) z → Closing depth (b ∷ c ∷ bs) z
@@ -228,21 +241,21 @@ two_bytes b c x y bs depth z h f =
     let g = both (b == x) (c == y) h in
     subst (λ i. Closing depth (i ∷ c ∷ bs) z) (sym (equal b x g.0)) (subst (λ i. Closing depth (x ∷ i ∷ bs) z) (sym (equal c y g.1)) f)
 
-last_byte : (b : ℕ) (depth : ℕ) (v : Bool) → (b == 13) ≡ v → Closing depth (b ∷ []) (if v then close.Lone 0 else close.Never)
-last_byte b depth true h = rw h refl
+last_byte : (b : ℕ) (depth : ℕ) (v : Bool) → (b == 13) ≡ v → Closing (suc depth) (b ∷ []) (if v then close.Lone 0 else close.Never)
+last_byte b depth true h = lone_now (s.lone_here (rw h refl))
 last_byte b depth false h = tt
 
 closing_parts : (depth : ℕ) (bs : List ℕ) → Closing depth bs (closing depth bs)
 closing_parts zero bs = record { front = []; behind = bs; whole = refl; len = refl; bodies = no_bodies }
 closing_parts (suc depth) [] = tt
-closing_parts (suc depth) (b ∷ []) = last_byte b (suc depth) (b == 13) refl
+closing_parts (suc depth) (b ∷ []) = last_byte b depth (b == 13) refl
 closing_parts (suc depth) (b ∷ c ∷ bs) =
     let ended = closing_parts depth bs in
     let deeper = closing_parts (suc (suc depth)) bs in
     let further_in = closing_parts (suc depth) (c ∷ bs) in
     if_closing (suc depth) (b ∷ c ∷ bs) (closes b c) _ _ (λ t. two_bytes b c 35 62 bs (suc depth) (beyond 2 (closing depth bs)) t (closed_end depth bs (closing depth bs) ended)) (λ t1.
     if_closing (suc depth) (b ∷ c ∷ bs) (opens b c) _ _ (λ t. two_bytes b c 60 35 bs (suc depth) (beyond 2 (closing (suc (suc depth)) bs)) t (opened depth bs (closing (suc (suc depth)) bs) deeper)) (λ t2.
-    if_closing (suc depth) (b ∷ c ∷ bs) (is_lone b c) _ _ (λ t. t) (λ t3.
+    if_closing (suc depth) (b ∷ c ∷ bs) (is_lone b c) _ _ (λ t. lone_now (s.lone_here t)) (λ t3.
     one_more depth b c bs (closing (suc depth) (c ∷ bs)) (record { closed = t1; open_none = t2; lone = t3 }) further_in)))
 
 -- the body of one comment
@@ -261,8 +274,29 @@ comment_body bs count h =
     let f : Front 1 bs count = subst (Closing 1 bs) h (closing_parts 1 bs) in
     record { front = f.front; behind = f.behind; whole = f.whole; len = f.len; body = only_body f.bodies }
 
-pub comment_lone : (bs : List ℕ) (count : ℕ) → closing 1 bs ≡ close.Lone count → is_lone_at bs count ≡ true
-comment_lone bs count h = subst (Closing 1 bs) h (closing_parts 1 bs)
+only_lone : {depth : ℕ} {bs : List ℕ} {count : ℕ} → depth ≡ 1 → Lones depth bs count → MeetsLone bs count
+only_lone e (lone_now m) = m
+only_lone e (lone_later r (lone_now m)) = absurd (cc)
+only_lone e (lone_later r (lone_later q l)) = absurd (cc)
+
+pub comment_lone : (bs : List ℕ) (count : ℕ) → closing 1 bs ≡ close.Lone count → MeetsLone bs count
+comment_lone bs count h = only_lone refl (subst (Closing 1 bs) h (closing_parts 1 bs))
+
+-- and a carriage return that is met alone ends the search
+pub meets_lone : {bs : List ℕ} {count : ℕ} → MeetsLone bs count → (depth : ℕ) → closing (suc depth) bs ≡ close.Lone count
+meets_lone (s.lone_here {bs = bs} h) depth = at_lone bs depth h
+  where
+    at_lone : (cs : List ℕ) (m : ℕ) → is_lone_at cs 0 ≡ true → closing (suc m) cs ≡ close.Lone 0
+    at_lone [] m g = absurd (cc)
+    at_lone (b ∷ []) m g = rw (both (b == 13) true g).0 refl
+    at_lone (b ∷ c ∷ cs) m g =
+        let f = both (b == 13) (not (c == 10)) g in
+        let e : b ≡ 13 = equal b 13 f.0 in
+        subst (λ x. closing (suc m) (x ∷ c ∷ cs) ≡ close.Lone 0) (sym e) (rw f.1 refl)
+meets_lone (s.in_nested {bs = bs} {count = count} m) depth = ap (beyond 2) (meets_lone m (suc depth))
+meets_lone (s.past_nested {cs = cs} {ds = ds} {count = count} r m) depth =
+    ap (beyond 2) (body_closes cs (suc depth) ds r ∙ ap (beyond (length cs)) (meets_lone m depth)) ∙ ap close.Lone (omega arith)
+meets_lone (s.past_byte {b = b} {c = c} {bs = bs} f g l m) depth = rw (f, g, l) (ap (beyond 1) (meets_lone m depth))
 
 closed_no : (i : ℕ) (x : Close) → (x ≡ close.Closed i → ⊥) → x ≡ beyond i (close.Closed 0) → ⊥
 closed_no i x h e = h (e ∙ ap close.Closed (omega arith))

@@ -100,6 +100,20 @@ pub data Stops : List ℕ → Ending → Type 0 where
 abbrev pub NoBody : List ℕ → Type 0
 NoBody bs = (cs ds : List ℕ) → bs ≡ cs ++ ds → Body cs → ⊥
 
+-- A carriage return with no line feed behind it stands behind so many of these bytes, in a comment that is open there.
+pub data MeetsLone : List ℕ → ℕ → Type 0 where
+  lone_here : {bs : List ℕ} → is_lone_at bs 0 ≡ true → MeetsLone bs 0
+  in_nested : {bs : List ℕ} {count : ℕ} → MeetsLone bs count → MeetsLone (60 ∷ 35 ∷ bs) (2 + count)
+  past_nested : {cs ds : List ℕ} {count : ℕ} → Body cs → MeetsLone ds count → MeetsLone (60 ∷ 35 ∷ (cs ++ ds)) (2 + length cs + count)
+  past_byte : {b c : ℕ} {bs : List ℕ} {count : ℕ} → closes b c ≡ false → opens b c ≡ false → is_lone b c ≡ false → MeetsLone (c ∷ bs) count →
+      MeetsLone (b ∷ c ∷ bs) (1 + count)
+
+-- these bytes begin with a backslash that begins no escape
+pub record NoEscape (bs : List ℕ) : Type 0 where
+  pub behind : List ℕ
+  pub whole : bs ≡ 92 ∷ behind
+  pub none : escape_of (slice_get behind 0) ≡ None
+
 -- no front of these bytes is a character literal
 abbrev pub NoLiteral : List ℕ → Type 0
 NoLiteral bs = (cs ds : List ℕ) (c : ℕ) → bs ≡ cs ++ ds → Literal cs c → ⊥
@@ -114,6 +128,10 @@ pub record IsStray (b : ℕ) : Type 0 where
   pub letter : is_letter b ≡ false
   pub digit : is_digit b ≡ false
   pub quote : (b == 39) ≡ false
+  pub text : (b == 34) ≡ false
+  pub comment : (b == 35) ≡ false
+  pub line_feed : (b == 10) ≡ false
+  pub carriage_return : (b == 13) ≡ false
   pub mark : look_up singles (b ∷ []) ≡ None
 
 -- What breaks each rule, and how many bytes on.
@@ -121,23 +139,23 @@ pub data Breaks : Bool → List ℕ → Rule → ℕ → Type 0 where
   stray : {within : Bool} {b : ℕ} {bs : List ℕ} → IsStray b → Breaks within (b ∷ bs) UNEXPECTED 0
   lone_return : {within : Bool} {bs : List ℕ} → is_lone_at bs 0 ≡ true → Breaks within bs UNEXPECTED 0
   lone_in_line : (cs ds : List ℕ) → all_pass in_line cs ≡ true → is_lone_at ds 0 ≡ true → Breaks false (35 ∷ (cs ++ ds)) UNEXPECTED (1 + length cs)
-  lone_in_comment : {bs : List ℕ} (count : ℕ) → NoBody bs → is_lone_at bs count ≡ true → Breaks false (60 ∷ 35 ∷ bs) UNEXPECTED (count + 2)
+  lone_in_comment : {bs : List ℕ} {count : ℕ} → is_at bs 0 62 ≡ false → MeetsLone bs count → Breaks false (60 ∷ 35 ∷ bs) UNEXPECTED (count + 2)
   no_comment : {bs : List ℕ} → Breaks false (60 ∷ 35 ∷ 62 ∷ bs) UNEXPECTED 0
   letter_behind : {within : Bool} {cs : List ℕ} (ds : List ℕ) {kind : TokenKind} → Number cs kind None → LongestNumber (cs ++ ds) (length cs) → letter_at ds 0 ≡ true →
       Breaks within (cs ++ ds) UNEXPECTED (length cs)
   broken_number : {within : Bool} {cs : List ℕ} (ds : List ℕ) {kind : TokenKind} {rule : Rule} → Number cs kind (Some rule) → LongestNumber (cs ++ ds) (length cs) →
       Breaks within (cs ++ ds) rule 0
-  no_literal : {within : Bool} {bs : List ℕ} → NoLiteral (39 ∷ bs) → Breaks within (39 ∷ bs) CHARACTER 0
+  no_literal : {within : Bool} {bs : List ℕ} → NoLiteral (39 ∷ bs) → (NoEscape bs → ⊥) → Breaks within (39 ∷ bs) CHARACTER 0
   literal_escape : {within : Bool} {bs : List ℕ} → escape_of (slice_get bs 0) ≡ None → Breaks within (39 ∷ 92 ∷ bs) ESCAPE 1
   broken_text : {cs ms ds : List ℕ} {rule : Rule} → Chars cs ms → Stops ds (e.Broken rule 0) → Breaks false (34 ∷ (cs ++ ds)) rule (1 + length cs)
   broken_part : {cs ms ds : List ℕ} {rule : Rule} → Chars cs ms → Stops ds (e.Broken rule 0) → Breaks true (125 ∷ (cs ++ ds)) rule (1 + length cs)
   unended_text : {cs ms ds : List ℕ} → Chars cs ms → Stops ds e.Line → Breaks false (34 ∷ (cs ++ ds)) TEXT_END 0
-  unended_comment : {bs : List ℕ} → NoBody bs → Breaks false (60 ∷ 35 ∷ bs) COMMENT_END 0
+  unended_comment : {bs : List ℕ} → is_at bs 0 62 ≡ false → NoBody bs → ((count : ℕ) → MeetsLone bs count → ⊥) → Breaks false (60 ∷ 35 ∷ bs) COMMENT_END 0
 
 -- where the text round a hole does not end
 pub data Unended : List ℕ → Type 0 where
   no_more : Unended []
-  broken_hole : {bs : List ℕ} → breaks_hole bs ≡ true → Unended bs
+  broken_hole : {bs : List ℕ} → is_lone_at bs 0 ≡ false → breaks_hole bs ≡ true → Unended bs
   unended_part : {cs ms ds : List ℕ} → Chars cs ms → Stops ds e.Line → Unended (125 ∷ (cs ++ ds))
 
 -- the piece, if no rule is broken, has at least so many bytes
@@ -172,6 +190,20 @@ Explains within bs n.HoleEnd = (within ≡ true) × Unended bs
 
 abbrev pub EachExplained : Type 0
 EachExplained = (within : Bool) (bs : List ℕ) → Explains within bs (piece_at within bs)
+
+-- where a rule is broken, no piece goes on, and that rule is answered there
+abbrev pub EachBroken : Type 0
+EachBroken = (within : Bool) (bs : List ℕ) (rule : Rule) (count : ℕ) → Breaks within bs rule count → piece_at within bs ≡ n.Bad rule count
+
+-- where the text round a hole does not end, that is answered
+abbrev pub EachUnended : Type 0
+EachUnended = (bs : List ℕ) → Unended bs → piece_at true bs ≡ n.HoleEnd
+
+-- at a place at most one rule is broken, at one offset, and none where the text round a hole does not end
+pub record OneBreak : Type 0 where
+  pub one : (within : Bool) (bs : List ℕ) (rule other : Rule) (count offset : ℕ) → Breaks within bs rule count → Breaks within bs other offset →
+      (rule ≡ other) × (count ≡ offset)
+  pub apart : (bs : List ℕ) (rule : Rule) (count : ℕ) → Breaks true bs rule count → Unended bs → ⊥
 
 -- this piece of so many bytes
 abbrev pub next_of : Piece → ℕ → Next

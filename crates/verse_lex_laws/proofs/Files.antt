@@ -3,31 +3,31 @@ use Rattle.std.proofs.Common.{◌≡◌, ℕ, suc, ◌+◌, ◌-◌, Bool, List,
 use Rattle.verse_base.specs.declared.places.Place.{Place}
 use Rattle.verse_lex.specs.Pieces.{piece_at}
 use Rattle.verse_lex.specs.Contents.{unescaped, between}
-use Rattle.verse_lex.specs.Cut.{Cuts, cuts_none, cuts_separator, cuts_line, cuts_token, in_hole, mark_len, first_place, after, step}
-use Rattle.verse_lex.specs.Spelling as s
-use Rattle.verse_lex.specs.Spelling.{Chars, Piece, BeginsWith, Explains, IsSpelled, EachSpelled, TokensSpelled, TextsMean}
+use Rattle.verse_lex.specs.Cut.{Cuts, cuts_none, cuts_separator, cuts_line, cuts_token, in_hole, mark_len, first_place, after, next_place}
+use Rattle.verse_lex_laws.specs.Spelling as s
+use Rattle.verse_lex_laws.specs.Spelling.{Chars, Piece, BeginsWith, Explains, IsSpelled, EachSpelled, TokensSpelled, TextsMean}
 use Rattle.verse_lex.specs.declared.tokens.Token.{Token}
 use Rattle.verse_lex.specs.declared.pieces.Next.{Next}
 use Rattle.verse_lex.specs.declared.pieces.Next.TheVariants as n
-use Rattle.verse_lex.specs.declared.steps.Here.{Here}
-use Rattle.verse_lex.proofs.Runs.{other_byte, drop_end}
-use Rattle.verse_lex.proofs.Parts.{take_front, drop_front}
+use Rattle.verse_lex.specs.declared.cursors.Cursor.{Cursor}
+use Rattle.verse_lex_laws.proofs.Runs.{other_byte, drop_end}
+use Rattle.verse_lex_laws.proofs.Parts.{take_front, drop_front}
 use Rattle.verse_lex.proofs.Pushes.{mark_within}
-use Rattle.verse_lex.proofs.Spelled.{each_explained}
+use Rattle.verse_lex_laws.proofs.Spelled.{each_explained}
 
 after-append : (p : Place) (cs ds : List ℕ) → after p (cs ++ ds) ≡ after (after p cs) ds
 after-append p [] ds = refl
-after-append p (c ∷ cs) ds = after-append (step p c) cs ds
+after-append p (c ∷ cs) ds = after-append (next_place p c) cs ds
 
 -- the bytes of the mark, those up to here, and the place here
-record Upto (file : ℕ) (bytes mark : List ℕ) (here : Here) (rest : List ℕ) : Type 0 where
+record Upto (file : ℕ) (bytes mark : List ℕ) (here : Cursor) (rest : List ℕ) : Type 0 where
   before : List ℕ
   whole : bytes ≡ mark ++ (before ++ rest)
   at : here.at ≡ length mark + length before
   place : here.place ≡ after (first_place file) before
 
 -- a piece on
-passed : (file : ℕ) (bytes mark : List ℕ) (here there : Here) (rest : List ℕ) (piece : Piece) (within : Bool) (count : ℕ) → Upto file bytes mark here rest → BeginsWith within rest piece count →
+passed : (file : ℕ) (bytes mark : List ℕ) (here there : Cursor) (rest : List ℕ) (piece : Piece) (within : Bool) (count : ℕ) → Upto file bytes mark here rest → BeginsWith within rest piece count →
     there.at ≡ here.at + count → there.place ≡ after here.place (take count rest) → Upto file bytes mark there (drop count rest)
 passed file bytes mark here there rest piece within count u b at place =
     let taken : take count rest ≡ b.front = ap (λ i. take i rest) (sym b.len) ∙ (ap (take (length b.front)) b.whole ∙ take_front b.front b.behind) in
@@ -42,7 +42,7 @@ passed file bytes mark here there rest piece within count u b at place =
 begun : (within : Bool) (bs : List ℕ) (x : Next) → piece_at within bs ≡ x → Explains within bs x
 begun within bs x h = subst (Explains within bs) h (each_explained within bs)
 
-spelled_along : (file : ℕ) (bytes mark : List ℕ) {here there : Here} {bs cs : List ℕ} {ts : List Token} → length mark ≡ mark_len bytes → Cuts here bs ts there cs → Upto file bytes mark here bs → EachSpelled file bytes ts
+spelled_along : (file : ℕ) (bytes mark : List ℕ) {here there : Cursor} {bs cs : List ℕ} {ts : List Token} → length mark ≡ mark_len bytes → Cuts here bs ts there cs → Upto file bytes mark here bs → EachSpelled file bytes ts
 spelled_along file bytes mark marked cuts_none u = tt
 spelled_along file bytes mark {here = here} {bs = bs} marked (cuts_separator {count = count} h r) u =
     spelled_along file bytes mark marked r (passed file bytes mark here _ bs s.separates (in_hole here) count u (begun (in_hole here) bs (n.Separator count) h) refl refl)
