@@ -14,7 +14,7 @@ use Rattle.verse_layout.specs.Roles.{role_of, has_lines, in_braces, is_same_regi
 use Rattle.verse_layout.specs.Cells.{Cell, spot_of, spot_at, tok_as, passed, ends_line, is_same, is_front, is_proper}
 use Rattle.verse_layout.specs.Written.{Written, tok, sep}
 use Rattle.verse_layout.specs.Blocks.{is_no_bracket, separates, is_opener, stays, opener, line_sep, open_at, close_at, leaves, ends_block, Bracket, round, braces, Part, part_token, part_sep, part_bracket, Body, body_part, body_block, Line, line, Block, block_last, block_more}
-use Rattle.verse_layout.specs.Frames.{Open, Here, Walk, write, walk, on_role, line_start, begins_none, opened_as, closed_as, close, leave, block_in, is_block, innermost}
+use Rattle.verse_layout.specs.Frames.{Open, Context, Walk, write, walk, on_role, line_start, begins_none, opened_as, closed_as, close, leave, block_in, is_block, innermost}
 use Rattle.verse_layout.proofs.Walks.{at_line, go, go_open, go_token, front, front_front, if_true, if_false, same_self, same_region, region_self, no_start, brace_start, line_begins, go_on}
 
 -- around and after what is written
@@ -42,7 +42,7 @@ no_brace region.Hole e = refl
 no_brace r e = absurd (cc)
 
 -- a token in a bracket where line ends mean nothing
-pub inner_role : (r : Role) (ends : Bool) (h : List ℕ) (f : Open) (fs : List Open) (token : Token) (k : Here → Walk) → has_lines f.region ≡ false → is_no_bracket r ≡ true →
+pub inner_role : (r : Role) (ends : Bool) (h : List ℕ) (f : Open) (fs : List Open) (token : Token) (k : Context → Walk) → has_lines f.region ≡ false → is_no_bracket r ≡ true →
     on_role r ends (at_line false h (f ∷ fs)) token k ≡ write (tok (passed token)) (k (at_line false h (f ∷ fs)))
 inner_role (role.Opens r) ends h f fs token k e p = absurd (cc)
 inner_role (role.Closes r) ends h f fs token k e p = absurd (cc)
@@ -53,7 +53,7 @@ inner_role role.Equals ends h f fs token k e p = rw e refl
 inner_role role.Other ends h f fs token k e p = refl
 
 -- a token that is passed on in a line
-pub stays_role : (r : Role) (b ends : Bool) (h : List ℕ) (f : Open) (fs : List Open) (token : Token) (k : Here → Walk) → has_lines f.region ≡ true → in_braces f.region ≡ b → stays b ends r ≡ true →
+pub stays_role : (r : Role) (b ends : Bool) (h : List ℕ) (f : Open) (fs : List Open) (token : Token) (k : Context → Walk) → has_lines f.region ≡ true → in_braces f.region ≡ b → stays b ends r ≡ true →
     on_role r ends (at_line false h (f ∷ fs)) token k ≡ write (tok (passed token)) (k (at_line false h (f ∷ fs)))
 stays_role (role.Opens r) b ends h f fs token k e g p = absurd (cc)
 stays_role (role.Closes r) b ends h f fs token k e g p = absurd (cc)
@@ -66,7 +66,7 @@ stays_role role.Equals b true h f fs token k e g p = absurd (cc)
 stays_role role.Equals b false h f fs token k e g p = rw e refl
 stays_role role.Other b ends h f fs token k e g p = refl
 
-pub separates_role : (r : Role) (b ends : Bool) (h : List ℕ) (f : Open) (fs : List Open) (token : Token) (k : Here → Walk) → has_lines f.region ≡ true → in_braces f.region ≡ b → separates b r ≡ true →
+pub separates_role : (r : Role) (b ends : Bool) (h : List ℕ) (f : Open) (fs : List Open) (token : Token) (k : Context → Walk) → has_lines f.region ≡ true → in_braces f.region ≡ b → separates b r ≡ true →
     on_role r ends (at_line false h (f ∷ fs)) token k ≡ write (sep (tok_as t.Sep token)) (k (at_line false h (f ∷ fs)))
 separates_role (role.Opens r) b ends h f fs token k e g p = absurd (cc)
 separates_role (role.Closes r) b ends h f fs token k e g p = absurd (cc)
@@ -77,7 +77,7 @@ separates_role role.Colon b ends h f fs token k e g p = absurd (cc)
 separates_role role.Equals b ends h f fs token k e g p = absurd (cc)
 separates_role role.Other b ends h f fs token k e g p = absurd (cc)
 
-pub opener_role : (r : Role) (h : List ℕ) (f : Open) (fs : List Open) (token : Token) (k : Here → Walk) → has_lines f.region ≡ true → is_opener r ≡ true →
+pub opener_role : (r : Role) (h : List ℕ) (f : Open) (fs : List Open) (token : Token) (k : Context → Walk) → has_lines f.region ≡ true → is_opener r ≡ true →
     on_role r true (at_line false h (f ∷ fs)) token k ≡ front (opener r token) (k (at_line true h (f ∷ fs)))
 opener_role (role.Opens r) h f fs token k e p = absurd (cc)
 opener_role (role.Closes r) h f fs token k e p = absurd (cc)
@@ -281,7 +281,7 @@ go_close end j m h b f fs place (c ∷ cs) e g n p = by_test (is_brace_close (ro
   where
     at_brace : role_of c.token.kind ≡ role.Closes region.Brace → b ≡ true → go end m (record { region = block_in f.region; text = j; place = place } ∷ f ∷ fs) (c ∷ cs) ≡ write (close_at (spot_of c.token)) (go end h (f ∷ fs) (c ∷ cs))
     at_brace r v =
-        let k : Here → Walk = λ x. walk end x cs in
+        let k : Context → Walk = λ x. walk end x cs in
         let i : Open = record { region = block_in f.region; text = j; place = place } in
         let inside : block_in f.region ≡ region.BraceBlock = ap (λ x. if x then region.BraceBlock else region.Block) (g ∙ v) in
         let left : go end m (i ∷ f ∷ fs) (c ∷ cs) ≡ close region.Brace (i ∷ f ∷ fs) c.token k =

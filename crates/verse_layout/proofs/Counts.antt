@@ -9,7 +9,9 @@ use Rattle.verse_layout.specs.declared.roles.Role.TheVariants as role
 use Rattle.verse_layout.specs.Roles.{role_of}
 use Rattle.verse_layout.specs.Cells.{Cell, cell_of, spot_at, passed, tok_as}
 use Rattle.verse_layout.specs.declared.toks.TokKind.TheVariants as t
-use Rattle.verse_layout.specs.Written.{Written, tok, sep, no_sep, settled, first_sep, kept_sep, is_close, is_open}
+use Rattle.verse_layout.specs.Written.{Written, tok, sep, no_sep, is_close, is_open}
+use Rattle.verse_layout.specs.Answers.{spaced, first_sep, kept_sep}
+use Rattle.verse_layout.proofs.Spacing.{spaced_is}
 use Rattle.verse_layout.specs.Blocks.{opener, open_at, close_at, Inside, inside_end, inside_token, inside_bracket, Bracket, round, braces, Part, part_token, part_sep, part_bracket, Body, body_part, body_block, Rest, rest_end, rest_more, Line, line, Block, block_last, block_more, Lines, lines_end, lines_more, IsFile, no_tokens, one_block}
 use Rattle.verse_layout.specs.Layouts.{IsLayout}
 
@@ -27,14 +29,14 @@ first_few : (w : Option Tok) (s : Tok) → waits (first_sep w s) ≡ 1
 first_few None s = refl
 first_few (Some r) s = refl
 
-settled_few : (may : Bool) (w : Option Tok) (ws : List Written) → length (settled may w ws) ≤ length ws + waits w
-settled_few may w [] = omega arith
-settled_few may w (sep s ∷ ws) = let h = settled_few may (first_sep w s) ws in let g = first_few w s in omega arith
-settled_few may w (no_sep ∷ ws) = let h = settled_few may None ws in omega arith
-settled_few may w (tok k ∷ ws) =
-    let h = settled_few (not (is_open k.kind)) None ws in
-    let g = kept_few (may && not (is_close k.kind)) w in
-    let e = length-append (kept_sep (may && not (is_close k.kind)) w) (k ∷ settled (not (is_open k.kind)) None ws) in
+spaced_few : (can : Bool) (w : Option Tok) (ws : List Written) → length (spaced can w ws) ≤ length ws + waits w
+spaced_few can w [] = omega arith
+spaced_few can w (sep s ∷ ws) = let h = spaced_few can (first_sep w s) ws in let g = first_few w s in omega arith
+spaced_few can w (no_sep ∷ ws) = let h = spaced_few can None ws in omega arith
+spaced_few can w (tok k ∷ ws) =
+    let h = spaced_few (not (is_open k.kind)) None ws in
+    let g = kept_few (can && not (is_close k.kind)) w in
+    let e = length-append (kept_sep (can && not (is_close k.kind)) w) (k ∷ spaced (not (is_open k.kind)) None ws) in
     omega arith
 
 opener_few : (r : Role) (k : Token) → length (opener r k) ≤ 1
@@ -93,7 +95,7 @@ file_few (one_block k) = let x = block_few k in omega arith
 pub few_toks : (bytes : List ℕ) (tokens : List Token) (ks : List Tok) → IsLayout bytes tokens ks → length ks ≤ 4 * length tokens
 few_toks bytes tokens ks l =
     let x = file_few l.block in
-    let y = settled_few false None l.written in
-    let z = ap length l.kept in
+    let y = spaced_few false None l.written in
+    let z = ap length (spaced_is l.written_out) in
     let e = length-map tokens (cell_of bytes) in
     omega arith

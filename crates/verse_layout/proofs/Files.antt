@@ -9,7 +9,7 @@ use Rattle.verse_layout.specs.Roles.{role_of, has_lines, in_braces, is_same_regi
 use Rattle.verse_layout.specs.Cells.{Cell, spot_of, spot_at, ends_line, is_same, is_front, is_proper}
 use Rattle.verse_layout.specs.Written.{Written}
 use Rattle.verse_layout.specs.Blocks.{line_sep, open_at, close_at, leaves, ends_block, rest_end, rest_more, Line, line, Block, lines_more, IsFile, no_tokens, one_block}
-use Rattle.verse_layout.specs.Frames.{Open, Walk, write, walk, on_token, before_token, line_start, region_at, leave, lead, indent, block_in, is_block, innermost, at_end, closes, nowhere}
+use Rattle.verse_layout.specs.Frames.{Open, Walk, write, walk, on_token, before_token, line_start, region_at, leave, lead, indent, block_in, is_block, innermost, at_end, closes, file_start}
 use Rattle.verse_layout.proofs.Walks.{at_line, go_token, if_true, if_false, same_region, line_begins, brace_start, no_start}
 use Rattle.verse_layout.proofs.Complete.{block_lines, block_braces, block_is, block_no_file, block_no_brace, body_begins, is_brace}
 use Rattle.verse_layout.proofs.Nests.{Tail, tail_end, tail_more, line_tail, Nest, nest_line, nest_round, Out, out_file, out_block, out_brace, Start, start_line, start_round, start_brace, Opened, Nested, nested_file, nested_block, nested_bracket, out_lines}
@@ -189,22 +189,22 @@ file_out end i f cs ws r (out_file e x) = x
 file_out end i f cs ws r (out_block e x o g) = absurd (elim o [ ])
 file_out end i f cs ws r (out_brace e x s n g) = absurd (cc)
 
-file_start : (end : Spot) (i : List ℕ) (c : Cell) (cs : List Cell) (ws : List Written) → c.line ≡ Some i → is_brace_close (role_of c.token.kind) ≡ false → Start end i (record { region = region.File; text = i; place = c.token.place } ∷ []) (c ∷ cs) ws → IsFile end (c ∷ cs) (line_sep c.token ∷ ws)
-file_start end i c cs ws l p (start_line {ds = ds} {vs = vs} {us = us} e body o g) =
+whole_sound : (end : Spot) (i : List ℕ) (c : Cell) (cs : List Cell) (ws : List Written) → c.line ≡ Some i → is_brace_close (role_of c.token.kind) ≡ false → Start end i (record { region = region.File; text = i; place = c.token.place } ∷ []) (c ∷ cs) ws → IsFile end (c ∷ cs) (line_sep c.token ∷ ws)
+whole_sound end i c cs ws l p (start_line {ds = ds} {vs = vs} {us = us} e body o g) =
     subst (λ y. IsFile end (c ∷ cs) (line_sep c.token ∷ y)) (sym g) (one_block (line_tail (line l body) (file_out end i _ ds us refl o)))
-file_start end i c cs ws l p (start_round e x s n g) = absurd (cc)
-file_start end i c cs ws l p (start_brace s o) = absurd (let x = is_brace _ s in cc)
+whole_sound end i c cs ws l p (start_round e x s n g) = absurd (cc)
+whole_sound end i c cs ws l p (start_brace s o) = absurd (let x = is_brace _ s in cc)
 
 -- a walk that is not refused writes out the file's block
-pub file_sound : (end : Spot) (cs : List Cell) → (walk end nowhere cs).stop ≡ None → IsFile end cs ((walk end nowhere cs).written)
+pub file_sound : (end : Spot) (cs : List Cell) → (walk end file_start cs).stop ≡ None → IsFile end cs ((walk end file_start cs).written)
 file_sound end [] s = no_tokens
 file_sound end (c ∷ cs) s = by_start (is_brace_close (role_of c.token.kind)) refl c.line refl (line_start [] c) refl s
   where
     by_start : (b : Bool) → is_brace_close (role_of c.token.kind) ≡ b → (l : Option (List ℕ)) → c.line ≡ l → (k : Option (List ℕ)) → line_start [] c ≡ k →
-        (before_token k nowhere c.token (λ g. on_token (ends_line cs) g c.token (λ k. walk end k cs))).stop ≡ None →
-        IsFile end (c ∷ cs) ((before_token k nowhere c.token (λ g. on_token (ends_line cs) g c.token (λ k. walk end k cs))).written)
+        (before_token k file_start c.token (λ g. on_token (ends_line cs) g c.token (λ k. walk end k cs))).stop ≡ None →
+        IsFile end (c ∷ cs) ((before_token k file_start c.token (λ g. on_token (ends_line cs) g c.token (λ k. walk end k cs))).written)
     by_start b p l q None r x = absurd (cc)
     by_start true p l q (Some i) r x = absurd (let w = brace_start [] c p in cc)
     by_start false p l q (Some i) r x =
         let here : c.line ≡ Some i = sym (if_false (is_brace_close (role_of c.token.kind)) None c.line p) ∙ r in
-        file_start end i c cs _ here p (token_sound end i (record { region = region.File; text = i; place = c.token.place }) [] c cs (sound end cs) (nested_file refl) x)
+        whole_sound end i c cs _ here p (token_sound end i (record { region = region.File; text = i; place = c.token.place }) [] c cs (sound end cs) (nested_file refl) x)

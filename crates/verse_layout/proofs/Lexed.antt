@@ -4,7 +4,7 @@ use Rattle.std.specs.List.{All}
 use Rattle.std.proofs.lemmas.List.{drop-drop, length-drop}
 use Rattle.std.proofs.lemmas.List.Elements.{All-nil, All-cons}
 use Rattle.verse_lex.specs.declared.tokens.Token.{Token}
-use Rattle.verse_lex.specs.declared.steps.Here.{Here}
+use Rattle.verse_lex.specs.declared.cursors.Cursor.{Cursor}
 use Rattle.verse_lex.specs.Bytes.{is_blank, run}
 use Rattle.verse_lex.specs.Cut.{Cuts, cuts_none, cuts_separator, cuts_line, cuts_token, AreTokens, Rise, token, body, mark_len}
 use Rattle.verse_lex.proofs.Bounds.{run_within}
@@ -36,7 +36,7 @@ blanks_ok len at bs e = let h = run_within is_blank bs in (omega arith, omega ar
 behind : (bytes bs : List ℕ) (at count : ℕ) → bs ≡ drop at bytes → drop count bs ≡ drop (at + count) bytes
 behind bytes bs at count e = ap (drop count) e ∙ drop-drop count at bytes
 
-cut_lies : {here there : Here} {bs cs : List ℕ} {ts : List Token} → Cuts here bs ts there cs → (bytes : List ℕ) (from : ℕ) → bs ≡ drop here.at bytes → LineOk (length bytes) here.at here.line → Rise from ts (length bytes) → All (Lies bytes) ts
+cut_lies : {here there : Cursor} {bs cs : List ℕ} {ts : List Token} → Cuts here bs ts there cs → (bytes : List ℕ) (from : ℕ) → bs ≡ drop here.at bytes → LineOk (length bytes) here.at here.line → Rise from ts (length bytes) → All (Lies bytes) ts
 cut_lies cuts_none bytes from e l r = All-nil (Lies bytes)
 cut_lies (cuts_separator {here = here} {bs = bs} {count = count} p c) bytes from e l r =
     cut_lies c bytes from (behind bytes bs here.at count e) (later (length bytes) here.at (here.at + count) here.line (omega arith) l) r

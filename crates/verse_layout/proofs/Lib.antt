@@ -2,8 +2,10 @@ pub mod Holes
 pub mod Fronts
 pub mod Turns
 pub mod Walks
+pub mod Spacing
+pub mod OpenBrackets
 pub mod Complete
-pub mod Written
+pub mod Blocks
 pub mod Nests
 pub mod Sound
 pub mod Files
@@ -12,5 +14,6 @@ pub mod Counts
 pub mod Outcomes
 pub mod Closers
 pub mod Traces
+pub mod Depth
 pub mod Refused
 pub mod Lexed

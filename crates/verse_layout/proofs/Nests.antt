@@ -66,7 +66,7 @@ pub record Opened (end : Spot) (h : List ℕ) (fs : List Open) (cs : List Cell) 
   pub out : Out end fs ds us
   pub toks : ws ≡ open_at (spot_at end cs) ∷ (vs ++ close_at (spot_at end ds) ∷ us)
 
--- frames as they come to stand in each other
+-- frames as they come to state in each other
 pub data Nested : List Open → Type 0 where
   nested_file : {f : Open} → f.region ≡ region.File → Nested (f ∷ [])
   nested_block : {f : Open} {fs : List Open} → is_block f.region ≡ true → has_lines (region_at fs) ≡ true → in_braces f.region ≡ in_braces (region_at fs) → Nested fs → Nested (f ∷ fs)

@@ -1,148 +1,151 @@
 -- A walk reaches the file's end, or stops at the first token with which no file goes on.
-use Rattle.std.proofs.Common.{◌≡◌, Bool, true, ◌⊎◌, inl, inr, List, [], ◌∷◌, ◌++◌, ℕ, Some, None, refl, sym, ◌∙◌, ap, append_assoc, is_some}
-use Rattle.std.proofs.lemmas.Option.{same_Some}
-use Rattle.verse_base.specs.declared.refusals.Refusal.{Refusal}
+use Rattle.std.proofs.Common.{◌≡◌, Bool, true, false, List, [], ◌∷◌, ◌++◌, ℕ, None, refl, sym, ◌∙◌, ap, subst, append_assoc, append-nil}
+use Rattle.verse_base.specs.declared.refusals.Rule.{Rule}
 use Rattle.verse_layout.specs.declared.frames.Spot.{Spot}
+use Rattle.verse_layout.specs.Roles.{role_of}
 use Rattle.verse_layout.specs.Cells.{Cell, ends_line}
-use Rattle.verse_layout.specs.Written.{Written, refusal}
-use Rattle.verse_layout.specs.Blocks.{IsFile}
-use Rattle.verse_layout.specs.Frames.{Here, Walk, walk, step, nowhere}
-use Rattle.verse_layout.specs.Stuck.{BeginsFile, IsStuck, at_token, at_file_end, StuckWhere}
-use Rattle.verse_layout.proofs.Walks.{front}
-use Rattle.verse_layout.proofs.Outcomes.{Fine, Both, pass_both, stop_both, step_both, first_both}
-use Rattle.verse_layout.proofs.Closers.{Ends, ends_well, nowhere_ends}
-use Rattle.verse_layout.proofs.Written.{file_walk}
+use Rattle.verse_layout.specs.Written.{Written}
+use Rattle.verse_layout.specs.Blocks.{is_opener}
+use Rattle.verse_layout.specs.Frames.{Context, Walk, walk, step, refuse, file_start}
+use Rattle.verse_layout.specs.Refusals.{BeginsFile, SameLine, GoesOn}
+use Rattle.verse_layout.proofs.Walks.{front, front_front}
+use Rattle.verse_layout.proofs.OpenBrackets.{Reflects, reflects_moved}
+use Rattle.verse_layout.proofs.Outcomes.{Fine, Passes, Both, pass_both, stop_both, Reason, Ending, brackets, stands, step_both, first_both}
+use Rattle.verse_layout.proofs.Closers.{AllStart, Ends, ends_well, file_start_ends}
 use Rattle.verse_layout.proofs.Files.{file_sound}
 
--- these tokens, and then others whose first one begins a line or does not, are walked well
-record Goes (h : Here) (cs : List Cell) : Type 0 where
-  rest : List Cell
-  well : (end : Spot) → (walk end h (cs ++ rest)).stop ≡ None
+-- From here these tokens, which stand before the others, are walked over to a place, and so much is written.
+pub data Reach : Context → List Cell → List Cell → Context → List Written → Type 0 where
+  reach_none : {h : Context} {others : List Cell} → Reach h [] others h []
+  reach_more : {h g : Context} {c : Cell} {cs others : List Cell} {ws : List Written} (ends ok : Bool) → ends ≡ ends_line (cs ++ others) →
+      (p : Passes ends c ok h (λ go. step h c ends go)) → Reach p.there cs others g ws → Reach h (c ∷ cs) others g (p.ws ++ ws)
 
-record Stopped (h : Here) (cs : List Cell) : Type 0 where
-  before : List Cell
-  behind : List Cell
-  c : Cell
-  rule : ℕ
-  split : cs ≡ before ++ c ∷ behind
-  goes : Goes h before
-  -- where the first token behind these is such as c is, the walk of those goes on
-  first : ends_line (before ++ goes.rest) ≡ ends_line cs
-  rules : (rule ≡ 20) ⊎ (rule ≡ 21)
-  stuck : (end : Spot) (rest : List Cell) → (walk end h (before ++ c ∷ rest)).stop ≡ Some (refusal rule c.token.place)
+next_line : (cs rest others : List Cell) (c : Cell) → SameLine (c ∷ cs) rest others → ends_line (cs ++ rest) ≡ ends_line (cs ++ others)
+next_line [] rest others c e = e
+next_line (d ∷ cs) rest others c e = refl
 
-record Walked (h : Here) (cs : List Cell) : Type 0 where
-  goes : Goes h cs
-  first : ends_line (cs ++ goes.rest) ≡ ends_line cs
+same_tail : (cs rest others : List Cell) (c : Cell) → SameLine (c ∷ cs) rest others → SameLine cs rest others
+same_tail [] rest others c e = tt
+same_tail (d ∷ cs) rest others c e = e
 
-same_first : (before cs behind rest : List Cell) (c : Cell) → cs ≡ before ++ c ∷ behind → ends_line (before ++ c ∷ rest) ≡ ends_line cs
-same_first [] cs behind rest c e = ap ends_line (sym e)
-same_first (b ∷ before) cs behind rest c e = ap ends_line (sym e)
+pub reach_walk : {h g : Context} {cs others : List Cell} {ws : List Written} → Reach h cs others g ws → (end : Spot) (rest : List Cell) → SameLine cs rest others →
+    walk end h (cs ++ rest) ≡ front ws (walk end g rest)
+reach_walk reach_none end rest e = refl
+reach_walk {h = h} {g = g} (reach_more {c = c} {cs = cs} {others = others} {ws = ws} ends ok same p r) end rest e =
+    ap (λ b. step h c b (λ k. walk end k (cs ++ rest))) (next_line cs rest others c e ∙ sym same)
+    ∙ p.walks (λ k. walk end k (cs ++ rest))
+    ∙ ap (front p.ws) (reach_walk r end rest (same_tail cs rest others c e))
+    ∙ front_front p.ws ws (walk end g rest)
 
-stop_of : (x y : Walk) (ws : List Written) → x ≡ front ws y → x.stop ≡ y.stop
-stop_of x y ws e = ap (λ (z : Walk). z.stop) e
+pub reach_fine : {h g : Context} {cs others : List Cell} {ws : List Written} → Reach h cs others g ws → Fine h → Fine g
+reach_fine reach_none f = f
+reach_fine (reach_more ends ok same p r) f = reach_fine r p.fine
 
-stopped_here : (h : Here) (c : Cell) (cs : List Cell) (rule : ℕ) (ws : List Written) → (rule ≡ 20) ⊎ (rule ≡ 21) → Ends h (is_some c.line) →
-    ((ends : Bool) (go : Here → Walk) → step h c ends go ≡ front ws (let w : Walk = record { written = []; stop = Some (refusal rule c.token.place) } in w)) → Stopped h (c ∷ cs)
-stopped_here h c cs rule ws r x e = record {
-  before = [];
-  behind = cs;
-  c = c;
-  rule = rule;
-  split = refl;
-  goes = record { rest = x.rest; well = x.well };
-  first = x.first;
-  rules = r;
-  stuck = λ end rest. stop_of _ _ ws (e (ends_line rest) (λ g. walk end g rest));
-}
+pub reach_reflects : {h g : Context} {cs others : List Cell} {ws : List Written} (past : List Cell) → Reach h cs others g ws → Reflects past (brackets h.frames) → Reflects (past ++ cs) (brackets g.frames)
+reach_reflects past (reach_none {h = h}) f = subst (λ zs. Reflects zs (brackets h.frames)) (sym (append-nil past)) f
+reach_reflects {g = g} past (reach_more {c = c} {cs = cs} ends ok same p r) f =
+    subst (λ zs. Reflects zs (brackets g.frames)) (append_assoc past (c ∷ []) cs) (reach_reflects (past ++ c ∷ []) r (reflects_moved c f p.moves))
 
--- one token more in front
-stopped_more : (h g : Here) (c : Cell) (cs : List Cell) (ws : List Written) → ((go : Here → Walk) → step h c (ends_line cs) go ≡ front ws (go g)) → Stopped g cs → Stopped h (c ∷ cs)
-stopped_more h g c cs ws e s = record {
-  before = c ∷ s.before;
-  behind = s.behind;
-  c = s.c;
-  rule = s.rule;
-  split = ap (λ x. c ∷ x) s.split;
-  goes = record {
-    rest = s.goes.rest;
-    well = λ end.
-        ap (λ b. (step h c b (λ k. walk end k (s.before ++ s.goes.rest))).stop) s.first
-        ∙ stop_of _ _ ws (e (λ k. walk end k (s.before ++ s.goes.rest))) ∙ s.goes.well end;
-  };
-  first = refl;
-  rules = s.rules;
-  stuck = λ end rest.
-      ap (λ b. (step h c b (λ k. walk end k (s.before ++ s.c ∷ rest))).stop) (same_first s.before cs s.behind rest s.c s.split)
-      ∙ stop_of _ _ ws (e (λ k. walk end k (s.before ++ s.c ∷ rest))) ∙ s.stuck end rest;
-}
+-- the last of these tokens is an opener
+pub record LastOpens (cs : List Cell) : Type 0 where
+  pub before : List Cell
+  pub last : Cell
+  pub split : cs ≡ before ++ last ∷ []
+  pub opener : is_opener (role_of last.token.kind) ≡ true
 
-walked_more : (h g : Here) (c : Cell) (cs : List Cell) (ws : List Written) → ((go : Here → Walk) → step h c (ends_line cs) go ≡ front ws (go g)) → Walked g cs → Walked h (c ∷ cs)
-walked_more h g c cs ws e s = record {
-  goes = record {
-    rest = s.goes.rest;
-    well = λ end.
-        ap (λ b. (step h c b (λ k. walk end k (cs ++ s.goes.rest))).stop) s.first
-        ∙ stop_of _ _ ws (e (λ k. walk end k (cs ++ s.goes.rest))) ∙ s.goes.well end;
-  };
-  first = refl;
-}
+pub record Opener (cs others : List Cell) : Type 0 where
+  pub line : ends_line others ≡ true
+  pub last : LastOpens cs
 
-abbrev Traced : Here → List Cell → Type 0
-Traced h cs = Stopped h cs ⊎ Walked h cs
+pub reach_opened : {h g : Context} {cs others : List Cell} {ws : List Written} (past : List Cell) → Reach h cs others g ws → (h.opened ≡ true → (ends_line (cs ++ others) ≡ true) × LastOpens past) →
+    g.opened ≡ true → Opener (past ++ cs) others
+reach_opened past (reach_none {h = h} {others = others}) f o =
+    let x = f o in record { line = x.0; last = subst LastOpens (sym (append-nil past)) x.1 }
+reach_opened past (reach_more {c = c} {cs = cs} {others = others} ends ok same p r) f o =
+    subst (λ zs. Opener zs others) (append_assoc past (c ∷ []) cs)
+    (reach_opened (past ++ c ∷ []) r (λ q. (sym same ∙ (p.opens q).0, record { before = past; last = c; split = refl; opener = (p.opens q).1 })) o)
 
-traced_more : (h g : Here) (c : Cell) (cs : List Cell) (ws : List Written) → ((go : Here → Walk) → step h c (ends_line cs) go ≡ front ws (go g)) → Traced g cs → Traced h (c ∷ cs)
-traced_more h g c cs ws e (inl s) = inl (stopped_more h g c cs ws e s)
-traced_more h g c cs ws e (inr s) = inr (walked_more h g c cs ws e s)
+-- where a walk stops: the tokens before, the token, its rule and the reason
+pub record Stop (h : Context) (cs : List Cell) : Type 0 where
+  pub before : List Cell
+  pub behind : List Cell
+  pub c : Cell
+  pub place : Context
+  pub ws : List Written
+  pub split : cs ≡ before ++ c ∷ behind
+  pub reach : Reach h before (c ∷ behind) place ws
+  pub rule : Rule
+  pub vs : List Written
+  pub reason : Reason (stands place c) (brackets place.frames) c.token rule
+  pub ending : Ending vs
+  pub stops : (ends : Bool) (go : Context → Walk) → step place c ends go ≡ front vs (refuse rule c.token.place)
 
-step_traced : (h : Here) (c : Cell) (cs : List Cell) → Ends h (is_some c.line) → Both c.token.place (λ ends go. step h c ends go) →
-    ((g : Here) → Fine g → (g.opened ≡ true → ends_line cs ≡ true) → Traced g cs) → Traced h (c ∷ cs)
-step_traced h c cs x (stop_both rule ws r e) more = inl (stopped_here h c cs rule ws r x e)
-step_traced h c cs x (pass_both p) more =
-    let y = p (ends_line cs) in
-    traced_more h y.there c cs y.ws y.walks (more y.there y.fine y.opens)
+pub data Traced (h : Context) (cs : List Cell) : Type 0 where
+  stopped : Stop h cs → Traced h cs
+  walked : (g : Context) (ws : List Written) → Reach h cs [] g ws → Traced h cs
 
-traced : (cs : List Cell) (h : Here) → Fine h → (h.opened ≡ true → ends_line cs ≡ true) → Traced h cs
-traced [] h f o =
-    let x = ends_well h.opened h.line h.frames true f (λ e. refl) in
-    inr (record { goes = record { rest = x.rest; well = x.well }; first = x.first })
-traced (c ∷ cs) h f o =
-    step_traced h c cs (ends_well h.opened h.line h.frames (is_some c.line) f o) (step_both h c f) (λ g x y. traced cs g x y)
+step_traced : (h : Context) (c : Cell) (cs : List Cell) → Both c (stands h c) h (λ ends go. step h c ends go) → ((g : Context) → Fine g → Traced g cs) → Traced h (c ∷ cs)
+step_traced h c cs (stop_both rule vs r e a s) more =
+    stopped (record { before = []; behind = cs; c = c; place = h; ws = []; split = refl; reach = reach_none; rule = rule; vs = vs; reason = r; ending = e; stops = s })
+step_traced h c cs (pass_both p) more = by_rest (more y.there y.fine)
+  where
+    y : Passes (ends_line cs) c (stands h c) h (λ go. step h c (ends_line cs) go)
+    y = p (ends_line cs)
 
-goes_file : (end : Spot) (cs : List Cell) → Goes nowhere cs → BeginsFile cs
-goes_file end cs g = record { end = end; rest = g.rest; written = _; block = file_sound end (cs ++ g.rest) (g.well end) }
+    by_rest : Traced y.there cs → Traced h (c ∷ cs)
+    by_rest (stopped s) = stopped (record {
+      before = c ∷ s.before;
+      behind = s.behind;
+      c = s.c;
+      place = s.place;
+      ws = y.ws ++ s.ws;
+      split = ap (λ zs. c ∷ zs) s.split;
+      reach = reach_more (ends_line cs) (stands h c) (ap ends_line s.split) y s.reach;
+      rule = s.rule;
+      vs = s.vs;
+      reason = s.reason;
+      ending = s.ending;
+      stops = s.stops;
+    })
+    by_rest (walked g ws r) = walked g (y.ws ++ ws) (reach_more (ends_line cs) (stands h c) (ap ends_line (sym (append-nil cs))) y r)
 
-file_stop : {end : Spot} {cs : List Cell} {ws : List Written} → IsFile end cs ws → (walk end nowhere cs).stop ≡ None
-file_stop f = ap (λ (x : Walk). x.stop) (file_walk f)
+traced : (cs : List Cell) (h : Context) → Fine h → Traced h cs
+traced [] h f = walked h [] reach_none
+traced (c ∷ cs) h f = step_traced h c cs (step_both h c f) (λ g x. traced cs g x)
 
-stuck_file : (before : List Cell) (c : Cell) (r : Refusal) → ((end : Spot) (rest : List Cell) → (walk end nowhere (before ++ c ∷ rest)).stop ≡ Some r) → BeginsFile (before ++ c ∷ []) → ⊥
-stuck_file before c r stuck b =
-    let e = sym (stuck b.end b.rest) ∙ ap (λ cs. (walk b.end nowhere cs).stop) (sym (append_assoc before (c ∷ []) b.rest)) ∙ file_stop b.block in
-    absurd (cc)
+pub file_traced : (cs : List Cell) → Traced file_start cs
+file_traced [] = walked file_start [] reach_none
+file_traced (c ∷ cs) = step_traced file_start c cs (first_both c) (λ g x. traced cs g x)
 
-stopped_stuck : (end : Spot) (cs : List Cell) (r : Refusal) → (walk end nowhere cs).stop ≡ Some r → Stopped nowhere cs → IsStuck end cs r
-stopped_stuck end cs r e s =
-    at_token s.before s.behind s.c s.rule s.split (goes_file end s.before s.goes) (stuck_file s.before s.c _ s.stuck) s.rules
-    (same_Some _ _ (sym e ∙ ap (λ x. (walk end nowhere x).stop) s.split ∙ s.stuck end s.behind))
+-- tokens at this offset with which a file goes on from there
+pub record Continues (before others : List Cell) (g : Context) (n : ℕ) : Type 0 where
+  pub rest : List Cell
+  pub line : SameLine before rest others
+  pub starts : AllStart n rest
+  pub well : (end : Spot) → (walk end g rest).stop ≡ None
 
-walked_stuck : (end : Spot) (cs : List Cell) (r : Refusal) → (walk end nowhere cs).stop ≡ Some r → BeginsFile cs → IsStuck end cs r
-walked_stuck end cs r e b = at_file_end b (λ ws f. let x = sym e ∙ file_stop f in absurd (cc))
+by_ends : {before others : List Cell} {g : Context} {n : ℕ} {b : Bool} → (Ends n g b) → ((rest : List Cell) → ends_line rest ≡ b → SameLine before rest others) → Continues before others g n
+by_ends x e = record { rest = x.rest; line = e x.rest x.first; starts = x.starts; well = x.well }
 
-nothing_begins : BeginsFile []
-nothing_begins = goes_file (record { at = 0; place = record { file = 0; line = 0; col = 0 } }) [] (record { rest = nowhere_ends.rest; well = nowhere_ends.well })
+-- every place that is reached goes on
+pub reach_goes : {cs others : List Cell} {g : Context} {ws : List Written} (n : ℕ) → Reach file_start cs others g ws → Continues cs others g n
+reach_goes n (reach_none {others = others}) = by_ends {before = []} {others = others} (file_start_ends n) (λ rest e. tt)
+reach_goes {g = g} n (reach_more {c = c} {cs = cs} {others = others} ends ok same p r) =
+    by_ends {before = c ∷ cs} {others = others}
+    (ends_well n g.opened g.line g.frames (ends_line others) (reach_fine r p.fine) (λ o. (reach_opened [] (reach_more ends ok same p r) (λ q. absurd (let x : false ≡ true = q in cc)) o).line))
+    (λ rest e. e)
 
-traced_stuck : (end : Spot) (cs : List Cell) (r : Refusal) → (walk end nowhere cs).stop ≡ Some r → Traced nowhere cs → IsStuck end cs r
-traced_stuck end cs r e (inl s) = stopped_stuck end cs r e s
-traced_stuck end cs r e (inr s) = walked_stuck end cs r e (goes_file end cs s.goes)
+pub reach_file : {cs others : List Cell} {g : Context} {ws : List Written} → Reach file_start cs others g ws → GoesOn cs others
+reach_file {cs = cs} {others = others} r =
+    let x = reach_goes 0 r in
+    let end : Spot = record { at = 0; place = record { file = 0; line = 0; col = 0 } } in
+    record {
+      end = end;
+      rest = x.rest;
+      written = _;
+      line = x.line;
+      block = file_sound end (cs ++ x.rest) (ap (λ (w : Walk). w.stop) (reach_walk r end x.rest x.line) ∙ x.well end);
+    }
 
-first_stuck : (end : Spot) (c : Cell) (cs : List Cell) (r : Refusal) → (walk end nowhere (c ∷ cs)).stop ≡ Some r → Both c.token.place (λ ends go. step nowhere c ends go) → IsStuck end (c ∷ cs) r
-first_stuck end c cs r e (stop_both rule ws q w) =
-    let stuck = λ (end' : Spot) (rest : List Cell). stop_of (walk end' nowhere (c ∷ rest)) _ ws (w (ends_line rest) (λ g. walk end' g rest)) in
-    at_token [] cs c rule refl nothing_begins (stuck_file [] c (refusal rule c.token.place) stuck) q (same_Some _ _ (sym e ∙ stuck end cs))
-first_stuck end c cs r e (pass_both p) =
-    let y = p (ends_line cs) in
-    traced_stuck end (c ∷ cs) r e (traced_more nowhere y.there c cs y.ws y.walks (traced cs y.there y.fine y.opens))
-
-pub stuck_where : StuckWhere
-stuck_where end [] r e = absurd (cc)
-stuck_where end (c ∷ cs) r e = first_stuck end c cs r e (first_both c)
+pub goes_begins : (cs others : List Cell) → GoesOn cs others → BeginsFile cs
+goes_begins cs others g = record { end = g.end; rest = g.rest; written = g.written; block = g.block }

@@ -7,9 +7,9 @@ use Rattle.verse_layout.specs.declared.roles.Region.TheVariants as region
 use Rattle.verse_layout.specs.Roles.{role_of, has_lines, is_same_region, is_brace_close}
 use Rattle.verse_layout.specs.Cells.{Cell, ends_line, is_same}
 use Rattle.verse_layout.specs.Written.{Written}
-use Rattle.verse_layout.specs.Frames.{Open, Here, Walk, walk, on_token, line_start, region_at}
+use Rattle.verse_layout.specs.Frames.{Open, Context, Walk, walk, on_token, line_start, region_at}
 
-abbrev pub at_line : Bool → List ℕ → List Open → Here
+abbrev pub at_line : Bool → List ℕ → List Open → Context
 at_line o h fs = record { opened = o; line = h; frames = fs }
 
 -- the walk from here on

@@ -13,11 +13,11 @@ pub record Cell : Type 0 where
   pub token : Token
   pub line : Option (List ℕ)
 
-abbrev pub text_of : List ℕ → ℕ × ℕ → List ℕ
-text_of bytes span = slice_range bytes span.0 span.1
+abbrev pub indentation_of : List ℕ → ℕ × ℕ → List ℕ
+indentation_of bytes span = slice_range bytes span.0 span.1
 
 abbrev pub cell_of : List ℕ → Token → Cell
-cell_of bytes token = record { token = token; line = option_map (text_of bytes) token.indent }
+cell_of bytes token = record { token = token; line = option_map (indentation_of bytes) token.indent }
 
 -- the token's indentation lies within the bytes
 abbrev pub Lies : List ℕ → Token → Type 0

@@ -4,9 +4,9 @@ pub mod Loads
 pub mod Cells
 pub mod Written
 pub mod Blocks
+pub mod Answers
 pub mod Frames
 pub mod Rests
-pub mod Stands
-pub mod Ends
+pub mod States
 pub mod Layouts
-pub mod Stuck
+pub mod Refusals

@@ -1,5 +1,6 @@
 -- The nesting load of a list of toks.
 use Rattle.std.specs.Prelude.{ℕ, ◌≡◌, ◌+◌, ◌<◌, ◌≤◌, reverse, Bool, true, false, if◌then◌else◌, List, [], ◌∷◌}
+use Rattle.verse_base.specs.declared.limits.TheConstants.{MOST_LOAD}
 use Rattle.verse_layout.specs.declared.toks.Tok.{Tok}
 use Rattle.verse_layout.specs.declared.loads.Count.{Count}
 use Rattle.verse_layout.specs.declared.loads.Weight.{Weight}
@@ -51,8 +52,8 @@ open_counts inner outer = record { inner = inner; outer = reverse outer }
 
 -- what a tok makes of the counts is kept where the load stays within its bound
 abbrev pub Notes : Bool → Counts → Counts → Type 0
-Notes true made new = (new ≡ made) × (load made ≤ 400)
-Notes false made new = 400 < load made
+Notes true made new = (new ≡ made) × (load made ≤ MOST_LOAD)
+Notes false made new = MOST_LOAD < load made
 
 -- the frames behind a tok
 abbrev pub after_tok : Tok → Counts → Counts

@@ -1,11 +1,11 @@
--- What a block's writing becomes: the toks, with a Sep only where one stands, within the load.
-use Rattle.std.specs.Prelude.{ℕ, Bool, true, false, not, ◌&&◌, if◌then◌else◌, nat_le, List, [], ◌∷◌, ◌++◌, Option, Some, None, Result, Ok, Err}
+-- What a block's writing becomes: its toks, with a Sep only where one stands.
+use Rattle.std.specs.Prelude.{◌≡◌, Bool, true, false, ◌||◌, if◌then◌else◌, List, [], ◌∷◌, ◌++◌}
 use Rattle.verse_base.specs.declared.places.Place.{Place}
 use Rattle.verse_base.specs.declared.refusals.Refusal.{Refusal}
+use Rattle.verse_base.specs.declared.refusals.Rule.{Rule}
 use Rattle.verse_layout.specs.declared.toks.Tok.{Tok}
 use Rattle.verse_layout.specs.declared.toks.TokKind.{TokKind}
 use Rattle.verse_layout.specs.declared.toks.TokKind.TheVariants as t
-use Rattle.verse_layout.specs.Loads.{Counts, load, after_tok}
 
 -- a tok; a Sep, which may fall; or a place where no Sep stands
 pub data Written : Type 0 where
@@ -21,42 +21,39 @@ abbrev pub is_close : TokKind → Bool
 is_close t.Close = true
 is_close _ = false
 
--- of several Seps the first
-abbrev pub first_sep : Option Tok → Tok → Option Tok
-first_sep None s = Some s
-first_sep (Some r) s = Some r
+-- what is written between two toks: none of it is a tok
+abbrev pub is_gap : List Written → Bool
+is_gap [] = true
+is_gap (tok k ∷ ws) = false
+is_gap (sep s ∷ ws) = is_gap ws
+is_gap (no_sep ∷ ws) = is_gap ws
 
-abbrev pub kept_sep : Bool → Option Tok → List Tok
-kept_sep true (Some s) = s ∷ []
-kept_sep true None = []
-kept_sep false _ = []
+abbrev pub has_no_sep : List Written → Bool
+has_no_sep [] = false
+has_no_sep (no_sep ∷ ws) = true
+has_no_sep (_ ∷ ws) = has_no_sep ws
 
--- The toks: a Sep stands neither at either end of the file nor behind an Open, a Sep or before a Close or an else's line.
--- Given: whether a Sep may stand behind the tok before, and the Sep that waits for the next tok.
-abbrev pub settled : Bool → Option Tok → List Written → List Tok
-settled may waiting [] = []
-settled may waiting (sep s ∷ ws) = settled may (first_sep waiting s) ws
-settled may waiting (no_sep ∷ ws) = settled may None ws
-settled may waiting (tok k ∷ ws) = kept_sep (may && not (is_close k.kind)) waiting ++ k ∷ settled (not (is_open k.kind)) None ws
+-- Of the Seps between two toks the first stands; those before an `else`'s line fall.
+abbrev pub gap_sep : List Written → List Tok
+gap_sep [] = []
+gap_sep (sep s ∷ ws) = if has_no_sep ws then gap_sep ws else s ∷ []
+gap_sep (_ ∷ ws) = gap_sep ws
 
--- the toks, or why there are none
-abbrev pub Answer : Type 0
-Answer = Result (List Tok) Refusal
+-- No Sep stands behind an Open or before a Close.
+abbrev pub sep_between : Tok → List Written → Tok → List Tok
+sep_between j gap k = if is_open j.kind || is_close k.kind then [] else gap_sep gap
 
-abbrev pub with_front : List Tok → Answer → Answer
-with_front ks (Ok js) = Ok (ks ++ js)
-with_front ks (Err r) = Err r
+-- What is written behind a tok, and the toks that it becomes. No Sep stands at the end.
+pub data SpacedBehind : Tok → List Written → List Tok → Type 0 where
+  last_gap : {j : Tok} {gap : List Written} → is_gap gap ≡ true → SpacedBehind j gap []
+  next_tok : {j k : Tok} (gap : List Written) {ws : List Written} {ks : List Tok} → is_gap gap ≡ true → SpacedBehind k ws ks →
+      SpacedBehind j (gap ++ tok k ∷ ws) (sep_between j gap k ++ k ∷ ks)
 
-abbrev pub refusal : ℕ → Place → Refusal
-refusal rule place = record { rule = record { 0 = rule }; place = place }
+-- What is written, and the toks that it becomes. No Sep stands at the beginning.
+pub data Spaced : List Written → List Tok → Type 0 where
+  only_gap : {gap : List Written} → is_gap gap ≡ true → Spaced gap []
+  first_tok : {k : Tok} (gap : List Written) {ws : List Written} {ks : List Tok} → is_gap gap ≡ true → SpacedBehind k ws ks →
+      Spaced (gap ++ tok k ∷ ws) (k ∷ ks)
 
-abbrev pub ended : Option Refusal → Answer
-ended None = Ok []
-ended (Some r) = Err r
-
--- the toks, unless one of them brings the load above 400; then why the list ends there, if so
-abbrev pub judged : Counts → List Tok → Option Refusal → Answer
-judged s [] stop = ended stop
-judged s (k ∷ ks) stop =
-    if nat_le (load (after_tok k s)) 400 then with_front (k ∷ []) (judged (after_tok k s) ks stop)
-    else Err (refusal 22 k.place)
+abbrev pub refusal : Rule → Place → Refusal
+refusal rule place = record { rule = rule; place = place }

@@ -4,7 +4,7 @@ ghost use Rattle.std.specs.Prelude.{◌≡◌, not, ◌||◌, ◌&&◌};
 ghost use Rattle.verse_layout.specs.Roles.{is_brace_close, is_bracket_close};
 ghost use Rattle.verse_layout.specs.Cells.{is_same, is_front, is_proper};
 ghost use Rattle.verse_layout.specs.Frames.{region_at, is_block, block_in, innermost};
-ghost use Rattle.verse_layout.specs.Stands.{stack};
+ghost use Rattle.verse_layout.specs.States.{stack};
 
 use crate::roles::{Region, Role, in_braces, is_same_region};
 use verse_base::places::Place;
@@ -21,7 +21,7 @@ pub struct Frame<'a> {
 
 /// Where layout stands between two tokens.
 #[derive(Drop)]
-pub struct Stand<'a> {
+pub struct State<'a> {
     /// The token before opens an indented block.
     pub is_opened: bool,
     /// The indentation of the last line that began in the innermost bracket; round it, where none

@@ -1,6 +1,7 @@
 //! The nesting load of a list of toks.
 
 ghost use Rattle.std.specs.Prelude.{◌≡◌, ◌<◌, ◌≤◌, ◌+◌, IfOk, IfSome, length, reverse, slice_set, slice_get, Some};
+ghost use Rattle.verse_base.specs.declared.limits.TheConstants.{MOST_LOAD};
 ghost use Rattle.verse_layout.specs.Weights.{weight_of, word_weight, mark_weight};
 ghost use Rattle.verse_layout.specs.declared.loads.Count.{Count};
 ghost use Rattle.verse_layout.specs.declared.loads.Weight.TheVariants.{Adds, Begins, Ends, Resets, ResetsHole};
@@ -8,10 +9,8 @@ ghost use Rattle.verse_layout.specs.Loads.{moved, at_start, sum_of, reset, reset
 
 use crate::toks::TokKind;
 use std::alloc::{AllocError, Global};
+use verse_base::limits::MOST_LOAD;
 use verse_lex::tokens::{Mark, TokenKind, Word};
-
-/// The greatest load that a file may have.
-pub const MOST_LOAD: u32 = 400;
 
 /// What a tok does to the counts of the frames that are open.
 #[derive(Clone, Copy, Debug, PartialEq, Eq)]
@@ -102,11 +101,11 @@ fn last_hole(frames: &[Count]) -> Option<usize>
 /// Sets the count of the last hole to 1, if the load allows it, and answers the load then.
 fn reset_last_hole(frames: &mut [Count], sum: u32) -> Option<u32>
     requires within { sum_of (reverse frames.old) ≤ sum }
-    requires small { sum ≤ 400 }
+    requires small { sum ≤ MOST_LOAD }
     ensures ok { IfSome result (λ s. reverse frames.new ≡ reset_hole (reverse frames.old)) }
     ensures sum { IfSome result (λ s. s + sum_of (reverse frames.old) ≡ sum + sum_of (reset_hole (reverse frames.old))) }
-    ensures few { IfSome result (λ s. s ≤ 400) }
-    ensures many { result ≡ None → 400 + sum_of (reverse frames.old) < sum + sum_of (reset_hole (reverse frames.old)) }
+    ensures few { IfSome result (λ s. s ≤ MOST_LOAD) }
+    ensures many { result ≡ None → MOST_LOAD + sum_of (reverse frames.old) < sum + sum_of (reset_hole (reverse frames.old)) }
     ensures same { result ≡ None → frames.new ≡ frames.old }
 {
     let Some(at) = last_hole(frames) else {
@@ -131,7 +130,7 @@ pub struct Load {
     pub outer: Vec<Count>,
     pub sum: u32,
     ghost summed: { sum ≡ inner.count + sum_of (reverse outer.items) },
-    ghost within: { sum ≤ 400 },
+    ghost within: { sum ≤ MOST_LOAD },
 }
 
 impl Load {

@@ -7,17 +7,18 @@ ghost use Rattle.verse_base.specs.declared.refusals.Front.TheVariants as front;
 ghost use Rattle.verse_layout.specs.declared.toks.TokKind.TheVariants as t;
 ghost use Rattle.verse_layout.specs.Roles.{role_of};
 ghost use Rattle.verse_layout.specs.Cells.{Lies, cell_of, spot_of, mark_at, tok_as, passed};
-ghost use Rattle.verse_layout.specs.Frames.{Open, Here, Walk, leave, begin_block, indent, lead, follow, close, on_token, before_token, begins_none, line_start, opened_as, closed_as, open_bracket, divided, after_colon, closes, innermost, at_end, no_more, step, write, refuse};
+ghost use Rattle.verse_layout.specs.Frames.{Open, Context, Walk, leave, begin_block, indent, lead, follow, close, on_token, before_token, begins_none, line_start, opened_as, closed_as, open_bracket, divided, after_colon, closes, innermost, at_end, no_more, step, write, refuse};
 ghost use Rattle.verse_layout.specs.Blocks.{line_sep, close_at};
 ghost use Rattle.verse_layout.specs.Written.{Written, tok};
 ghost use Rattle.verse_layout.specs.Rests.{rest_of};
-ghost use Rattle.verse_layout.specs.Stands.{stack, here_of};
+ghost use Rattle.verse_layout.specs.States.{stack, context_of};
 
 use crate::frames::{
-    Frame, Spot, Stand, block_in, innermost, is_block, is_brace_close, is_bracket_close, is_front,
+    Frame, Spot, State, block_in, innermost, is_block, is_brace_close, is_bracket_close, is_front,
     is_proper, is_same, region_at,
 };
 use crate::roles::{Region, Role, has_lines, in_braces, is_else, is_same_region, role_of};
+use crate::rules::{BRACKET, INDENTATION};
 use crate::toks::{Tok, TokKind};
 use crate::writers::{Writer, refused};
 use verse_base::refusals::Front;
@@ -138,7 +139,7 @@ fn leave<'a>(
             return Ok(());
         }
         if !is_block(frame.region) || is_front(frame.text, text) {
-            return Err(refused(20, token.place));
+            return Err(refused(INDENTATION, token.place));
         }
         put_mark(writer, TokKind::Close, token)?;
     }
@@ -169,74 +170,74 @@ fn put_open(writer: &mut Writer, token: &Token) -> Result<(), Front>
 /// Begins a block of this indentation.
 fn begin_block<'a>(
     writer: &mut Writer,
-    stand: &mut Stand<'a>,
+    state: &mut State<'a>,
     token: &Token,
     text: &'a [u8],
 ) -> Result<(), Front>
-    ensures ok { OnOk result ((go : Here → Walk) → rest_of writer.new (go (here_of stand.new)) ≡ rest_of writer.old (begin_block (here_of stand.old) token.now text.now go)) }
-    ensures refused { (r : Refusal) → IsErrOf result (front.Refused r) → (go : Here → Walk) → rest_of writer.old (begin_block (here_of stand.old) token.now text.now go) ≡ Err r }
+    ensures ok { OnOk result ((go : Context → Walk) → rest_of writer.new (go (context_of state.new)) ≡ rest_of writer.old (begin_block (context_of state.old) token.now text.now go)) }
+    ensures refused { (r : Refusal) → IsErrOf result (front.Refused r) → (go : Context → Walk) → rest_of writer.old (begin_block (context_of state.old) token.now text.now go) ≡ Err r }
 {
-    let region = block_in(region_at(stand.frames.as_slice()));
+    let region = block_in(region_at(state.frames.as_slice()));
     put_open(writer, token)?;
-    stand.frames.push(Frame {
+    state.frames.push(Frame {
         region,
         text,
         place: token.place,
     })?;
-    stand.is_opened = false;
-    stand.line = text;
+    state.is_opened = false;
+    state.line = text;
     Ok(())
 }
 
 /// Begins the block behind an opener, if the line is indented behind the opener's.
 fn indent<'a>(
     writer: &mut Writer,
-    stand: &mut Stand<'a>,
+    state: &mut State<'a>,
     token: &Token,
     text: &'a [u8],
 ) -> Result<(), Front>
-    ensures ok { OnOk result ((go : Here → Walk) → rest_of writer.new (go (here_of stand.new)) ≡ rest_of writer.old (indent (here_of stand.old) token.now text.now go)) }
-    ensures refused { (r : Refusal) → IsErrOf result (front.Refused r) → (go : Here → Walk) → rest_of writer.old (indent (here_of stand.old) token.now text.now go) ≡ Err r }
+    ensures ok { OnOk result ((go : Context → Walk) → rest_of writer.new (go (context_of state.new)) ≡ rest_of writer.old (indent (context_of state.old) token.now text.now go)) }
+    ensures refused { (r : Refusal) → IsErrOf result (front.Refused r) → (go : Context → Walk) → rest_of writer.old (indent (context_of state.old) token.now text.now go) ≡ Err r }
 {
-    if !is_proper(stand.line, text) {
-        return Err(refused(20, token.place));
+    if !is_proper(state.line, text) {
+        return Err(refused(INDENTATION, token.place));
     }
     if is_bracket_close(role_of(token.kind)) {
-        return Err(refused(21, token.place));
+        return Err(refused(BRACKET, token.place));
     }
-    begin_block(writer, stand, token, text)
+    begin_block(writer, state, token, text)
 }
 
 /// Writes what stands before a token that begins a line.
 fn lead<'a>(
     writer: &mut Writer,
-    stand: &mut Stand<'a>,
+    state: &mut State<'a>,
     token: &Token,
     text: &'a [u8],
 ) -> Result<(), Front>
-    ensures ok { OnOk result ((go : Here → Walk) → rest_of writer.new (go (here_of stand.new)) ≡ rest_of writer.old (lead (here_of stand.old) token.now text.now go)) }
-    ensures refused { (r : Refusal) → IsErrOf result (front.Refused r) → (go : Here → Walk) → rest_of writer.old (lead (here_of stand.old) token.now text.now go) ≡ Err r }
+    ensures ok { OnOk result ((go : Context → Walk) → rest_of writer.new (go (context_of state.new)) ≡ rest_of writer.old (lead (context_of state.old) token.now text.now go)) }
+    ensures refused { (r : Refusal) → IsErrOf result (front.Refused r) → (go : Context → Walk) → rest_of writer.old (lead (context_of state.old) token.now text.now go) ≡ Err r }
 {
-    if stand.is_opened {
-        return indent(writer, stand, token, text);
+    if state.is_opened {
+        return indent(writer, state, token, text);
     }
-    leave(writer, &mut stand.frames, token, text)?;
+    leave(writer, &mut state.frames, token, text)?;
     want_line(writer, token);
-    stand.line = text;
+    state.line = text;
     Ok(())
 }
 
 /// Refuses a token behind an opener that begins no line.
-fn follow(stand: &Stand, token: &Token) -> Result<(), Front>
-    ensures ok { OnOk result ((go : Here → Walk) → follow (here_of stand.now) token.now go ≡ go (here_of stand.now)) }
-    ensures refused { (r : Refusal) → IsErrOf result (front.Refused r) → (go : Here → Walk) → follow (here_of stand.now) token.now go ≡ refuse r.rule.0 r.place }
+fn follow(state: &State, token: &Token) -> Result<(), Front>
+    ensures ok { OnOk result ((go : Context → Walk) → follow (context_of state.now) token.now go ≡ go (context_of state.now)) }
+    ensures refused { (r : Refusal) → IsErrOf result (front.Refused r) → (go : Context → Walk) → follow (context_of state.now) token.now go ≡ refuse r.rule r.place }
 {
-    if !stand.is_opened && !stand.frames.is_empty() {
+    if !state.is_opened && !state.frames.is_empty() {
         return Ok(());
     }
     let is_wrong = is_brace_close(role_of(token.kind))
-        && !in_braces(region_at(stand.frames.as_slice()));
-    Err(refused(if is_wrong { 21 } else { 20 }, token.place))
+        && !in_braces(region_at(state.frames.as_slice()));
+    Err(refused(if is_wrong { BRACKET } else { INDENTATION }, token.place))
 }
 
 /// Closes the innermost bracket, and answers the indentation of the last line that began round it.
@@ -246,13 +247,13 @@ fn close<'a>(
     region: Region,
     token: &Token,
 ) -> Result<&'a [u8], Front>
-    ensures ok { IfOk result (λ text. (go : Here → Walk) →
+    ensures ok { IfOk result (λ text. (go : Context → Walk) →
         rest_of writer.new (go (record { opened = false; line = text.now; frames = stack frames.new.items })) ≡ rest_of writer.old (close region (stack frames.old.items) token.now go)) }
-    ensures refused { (r : Refusal) → IsErrOf result (front.Refused r) → (go : Here → Walk) → rest_of writer.old (close region (stack frames.old.items) token.now go) ≡ Err r }
+    ensures refused { (r : Refusal) → IsErrOf result (front.Refused r) → (go : Context → Walk) → rest_of writer.old (close region (stack frames.old.items) token.now go) ≡ Err r }
 {
     'closing: loop {
         let Some(frame) = frames.pop() else {
-            return Err(refused(21, token.place));
+            return Err(refused(BRACKET, token.place));
         };
         if is_same_region(frame.region, region) {
             put_closing(writer, region, token)?;
@@ -261,74 +262,74 @@ fn close<'a>(
         if !is_same_region(region, Region::Brace)
             || !is_same_region(frame.region, Region::BraceBlock)
         {
-            return Err(refused(21, token.place));
+            return Err(refused(BRACKET, token.place));
         }
         put_mark(writer, TokKind::Close, token)?;
     }
 }
 
 /// Whether it is the role of a token that begins no line, a `}`, or line ends mean nothing there.
-fn begins_none(stand: &Stand, token: &Token) -> bool
-    ensures { result ≡ begins_none (stack stand.now.frames.items) token.now }
+fn begins_none(state: &State, token: &Token) -> bool
+    ensures { result ≡ begins_none (stack state.now.frames.items) token.now }
 {
-    !has_lines(region_at(stand.frames.as_slice())) || is_brace_close(role_of(token.kind))
+    !has_lines(region_at(state.frames.as_slice())) || is_brace_close(role_of(token.kind))
 }
 
 /// Writes what stands before a token.
 fn before_token<'a>(
     writer: &mut Writer,
-    stand: &mut Stand<'a>,
+    state: &mut State<'a>,
     bytes: &'a [u8],
     token: &Token,
 ) -> Result<(), Front>
     requires { Lies bytes.now token.now }
-    ensures ok { OnOk result ((go : Here → Walk) → rest_of writer.new (go (here_of stand.new))
-        ≡ rest_of writer.old (before_token (line_start (stack stand.old.frames.items) (cell_of bytes.now token.now)) (here_of stand.old) token.now go)) }
-    ensures refused { (r : Refusal) → IsErrOf result (front.Refused r) → (go : Here → Walk) →
-        rest_of writer.old (before_token (line_start (stack stand.old.frames.items) (cell_of bytes.now token.now)) (here_of stand.old) token.now go) ≡ Err r }
+    ensures ok { OnOk result ((go : Context → Walk) → rest_of writer.new (go (context_of state.new))
+        ≡ rest_of writer.old (before_token (line_start (stack state.old.frames.items) (cell_of bytes.now token.now)) (context_of state.old) token.now go)) }
+    ensures refused { (r : Refusal) → IsErrOf result (front.Refused r) → (go : Context → Walk) →
+        rest_of writer.old (before_token (line_start (stack state.old.frames.items) (cell_of bytes.now token.now)) (context_of state.old) token.now go) ≡ Err r }
 {
-    if begins_none(stand, token) {
-        return follow(stand, token);
+    if begins_none(state, token) {
+        return follow(state, token);
     }
     match token.indent {
-        Some((from, to)) => lead(writer, stand, token, &bytes[from as usize..to as usize]),
-        None => follow(stand, token),
+        Some((from, to)) => lead(writer, state, token, &bytes[from as usize..to as usize]),
+        None => follow(state, token),
     }
 }
 
 /// Opens a bracket.
 fn open_bracket<'a>(
     writer: &mut Writer,
-    stand: &mut Stand<'a>,
+    state: &mut State<'a>,
     region: Region,
     token: &Token,
 ) -> Result<(), Front>
-    ensures ok { OnOk result ((go : Here → Walk) → rest_of writer.new (go (here_of stand.new)) ≡ rest_of writer.old (open_bracket region (here_of stand.old) token.now go)) }
-    ensures refused { (r : Refusal) → IsErrOf result (front.Refused r) → (go : Here → Walk) → rest_of writer.old (open_bracket region (here_of stand.old) token.now go) ≡ Err r }
+    ensures ok { OnOk result ((go : Context → Walk) → rest_of writer.new (go (context_of state.new)) ≡ rest_of writer.old (open_bracket region (context_of state.old) token.now go)) }
+    ensures refused { (r : Refusal) → IsErrOf result (front.Refused r) → (go : Context → Walk) → rest_of writer.old (open_bracket region (context_of state.old) token.now go) ≡ Err r }
 {
     put_opening(writer, region, token)?;
-    stand.frames.push(Frame {
+    state.frames.push(Frame {
         region,
-        text: stand.line,
+        text: state.line,
         place: token.place,
     })?;
-    stand.is_opened = false;
+    state.is_opened = false;
     Ok(())
 }
 
 /// Closes a bracket.
 fn close_bracket<'a>(
     writer: &mut Writer,
-    stand: &mut Stand<'a>,
+    state: &mut State<'a>,
     region: Region,
     token: &Token,
 ) -> Result<(), Front>
-    ensures ok { OnOk result ((go : Here → Walk) → rest_of writer.new (go (here_of stand.new)) ≡ rest_of writer.old (close region (here_of stand.old).frames token.now go)) }
-    ensures refused { (r : Refusal) → IsErrOf result (front.Refused r) → (go : Here → Walk) → rest_of writer.old (close region (here_of stand.old).frames token.now go) ≡ Err r }
+    ensures ok { OnOk result ((go : Context → Walk) → rest_of writer.new (go (context_of state.new)) ≡ rest_of writer.old (close region (context_of state.old).frames token.now go)) }
+    ensures refused { (r : Refusal) → IsErrOf result (front.Refused r) → (go : Context → Walk) → rest_of writer.old (close region (context_of state.old).frames token.now go) ≡ Err r }
 {
-    let line = close(writer, &mut stand.frames, region, token)?;
-    stand.is_opened = false;
-    stand.line = line;
+    let line = close(writer, &mut state.frames, region, token)?;
+    state.is_opened = false;
+    state.line = line;
     Ok(())
 }
 
@@ -360,41 +361,41 @@ fn colon(writer: &mut Writer, opens: bool, token: &Token) -> Result<(), Front>
 /// The token itself, whose line it ends or not.
 fn on_token<'a>(
     writer: &mut Writer,
-    stand: &mut Stand<'a>,
+    state: &mut State<'a>,
     token: &Token,
     ends: bool,
 ) -> Result<(), Front>
-    ensures ok { OnOk result ((go : Here → Walk) → rest_of writer.new (go (here_of stand.new)) ≡ rest_of writer.old (on_token ends (here_of stand.old) token.now go)) }
-    ensures refused { (r : Refusal) → IsErrOf result (front.Refused r) → (go : Here → Walk) → rest_of writer.old (on_token ends (here_of stand.old) token.now go) ≡ Err r }
+    ensures ok { OnOk result ((go : Context → Walk) → rest_of writer.new (go (context_of state.new)) ≡ rest_of writer.old (on_token ends (context_of state.old) token.now go)) }
+    ensures refused { (r : Refusal) → IsErrOf result (front.Refused r) → (go : Context → Walk) → rest_of writer.old (on_token ends (context_of state.old) token.now go) ≡ Err r }
 {
-    let region = region_at(stand.frames.as_slice());
+    let region = region_at(state.frames.as_slice());
     let opens = has_lines(region) && ends;
     match role_of(token.kind) {
-        Role::Opens(inner) => open_bracket(writer, stand, inner, token),
-        Role::Closes(inner) => close_bracket(writer, stand, inner, token),
+        Role::Opens(inner) => open_bracket(writer, state, inner, token),
+        Role::Closes(inner) => close_bracket(writer, state, inner, token),
         Role::Semicolon => {
             divide(writer, has_lines(region), token)?;
-            stand.is_opened = false;
+            state.is_opened = false;
             Ok(())
         }
         Role::Comma => {
             divide(writer, in_braces(region), token)?;
-            stand.is_opened = false;
+            state.is_opened = false;
             Ok(())
         }
         Role::Colon => {
             colon(writer, opens, token)?;
-            stand.is_opened = opens;
+            state.is_opened = opens;
             Ok(())
         }
         Role::Equals => {
             pass(writer, token)?;
-            stand.is_opened = opens;
+            state.is_opened = opens;
             Ok(())
         }
         Role::Other => {
             pass(writer, token)?;
-            stand.is_opened = false;
+            state.is_opened = false;
             Ok(())
         }
     }
@@ -429,33 +430,33 @@ fn close_all(writer: &mut Writer, frames: &mut Vec<Frame>, end: Spot) -> Result<
 }
 
 /// Refuses a file that ends in a bracket or behind an opener, and closes its blocks otherwise.
-pub fn at_end(writer: &mut Writer, stand: &mut Stand, end: Spot) -> Result<(), Front>
-    ensures ok { OnOk result (rest_of writer.new no_more ≡ rest_of writer.old (at_end (innermost (stack stand.old.frames.items)) end (here_of stand.old))) }
-    ensures refused { (r : Refusal) → IsErrOf result (front.Refused r) → rest_of writer.old (at_end (innermost (stack stand.old.frames.items)) end (here_of stand.old)) ≡ Err r }
+pub fn at_end(writer: &mut Writer, state: &mut State, end: Spot) -> Result<(), Front>
+    ensures ok { OnOk result (rest_of writer.new no_more ≡ rest_of writer.old (at_end (innermost (stack state.old.frames.items)) end (context_of state.old))) }
+    ensures refused { (r : Refusal) → IsErrOf result (front.Refused r) → rest_of writer.old (at_end (innermost (stack state.old.frames.items)) end (context_of state.old)) ≡ Err r }
 {
-    if let Some(place) = innermost(stand.frames.as_slice()) {
-        return Err(refused(21, place));
+    if let Some(place) = innermost(state.frames.as_slice()) {
+        return Err(refused(BRACKET, place));
     }
-    if stand.is_opened {
-        return Err(refused(20, end.place));
+    if state.is_opened {
+        return Err(refused(INDENTATION, end.place));
     }
-    close_all(writer, &mut stand.frames, end)
+    close_all(writer, &mut state.frames, end)
 }
 
 /// One token, with what stands before it.
 pub fn step<'a>(
     writer: &mut Writer,
-    stand: &mut Stand<'a>,
+    state: &mut State<'a>,
     bytes: &'a [u8],
     token: &Token,
     ends: bool,
 ) -> Result<(), Front>
     requires { Lies bytes.now token.now }
-    ensures ok { OnOk result ((go : Here → Walk) → rest_of writer.new (go (here_of stand.new))
-        ≡ rest_of writer.old (step (here_of stand.old) (cell_of bytes.now token.now) ends go)) }
-    ensures refused { (r : Refusal) → IsErrOf result (front.Refused r) → (go : Here → Walk) →
-        rest_of writer.old (step (here_of stand.old) (cell_of bytes.now token.now) ends go) ≡ Err r }
+    ensures ok { OnOk result ((go : Context → Walk) → rest_of writer.new (go (context_of state.new))
+        ≡ rest_of writer.old (step (context_of state.old) (cell_of bytes.now token.now) ends go)) }
+    ensures refused { (r : Refusal) → IsErrOf result (front.Refused r) → (go : Context → Walk) →
+        rest_of writer.old (step (context_of state.old) (cell_of bytes.now token.now) ends go) ≡ Err r }
 {
-    before_token(writer, stand, bytes, token)?;
-    on_token(writer, stand, token, ends)
+    before_token(writer, state, bytes, token)?;
+    on_token(writer, state, token, ends)
 }

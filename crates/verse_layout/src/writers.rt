@@ -6,24 +6,23 @@ ghost use Rattle.verse_base.specs.declared.refusals.Refusal.{Refusal};
 ghost use Rattle.verse_base.specs.declared.refusals.Front.TheVariants as front;
 ghost use Rattle.verse_layout.specs.declared.toks.Tok.{Tok};
 ghost use Rattle.verse_layout.specs.Loads.{open_counts, at_start};
-ghost use Rattle.verse_layout.specs.Written.{Written, tok, is_open, is_close, kept_sep, refusal, with_front, settled, judged};
+ghost use Rattle.verse_layout.specs.Written.{Written, tok, is_open, is_close, refusal};
+ghost use Rattle.verse_layout.specs.Answers.{kept_sep, with_front, spaced, bounded};
 ghost use Rattle.verse_layout.specs.Frames.{Walk};
 ghost use Rattle.verse_layout.specs.Rests.{rest_of, after_tok, after_sep, after_no_sep};
 
 use crate::loads::Load;
+use crate::rules::NESTING;
 use crate::toks::{Tok, TokKind};
 use std::alloc::Global;
 use verse_base::places::Place;
 use verse_base::refusals::{Front, Refusal, Rule};
 
 /// A refusal, as the front end answers it.
-pub fn refused(rule: u16, place: Place) -> Front
+pub fn refused(rule: Rule, place: Place) -> Front
     ensures { result ≡ front.Refused (refusal rule place) }
 {
-    Front::Refused(Refusal {
-        rule: Rule(rule),
-        place,
-    })
+    Front::Refused(Refusal { rule, place })
 }
 
 /// Whether it is an Open.
@@ -42,22 +41,22 @@ fn is_close(kind: TokKind) -> bool
 
 /// The toks so far, and their load.
 #[derive(Drop)]
-pub struct Pen {
+pub struct Output {
     pub toks: Vec<Tok>,
     pub load: Load,
 }
 
-impl Pen {
+impl Output {
     /// Writes a tok; refuses one that brings the load above its bound.
     fn put(&mut self, next: Tok) -> Result<(), Front>
         ensures ok { OnOk result ((ks : List Tok) (stop : Option Refusal) →
-            with_front self.new.toks.items (judged (open_counts self.new.load.inner self.new.load.outer.items) ks stop)
-            ≡ with_front self.old.toks.items (judged (open_counts self.old.load.inner self.old.load.outer.items) (next ∷ ks) stop)) }
+            with_front self.new.toks.items (bounded (open_counts self.new.load.inner self.new.load.outer.items) ks stop)
+            ≡ with_front self.old.toks.items (bounded (open_counts self.old.load.inner self.old.load.outer.items) (next ∷ ks) stop)) }
         ensures refused { (r : Refusal) → IsErrOf result (front.Refused r) → (ks : List Tok) (stop : Option Refusal) →
-            judged (open_counts self.old.load.inner self.old.load.outer.items) (next ∷ ks) stop ≡ Err r }
+            bounded (open_counts self.old.load.inner self.old.load.outer.items) (next ∷ ks) stop ≡ Err r }
     {
         if !self.load.note(next.kind)? {
-            return Err(refused(22, next.place));
+            return Err(refused(NESTING, next.place));
         }
         self.toks.push(next)?;
         Ok(())
@@ -67,41 +66,41 @@ impl Pen {
 /// The toks so far, and the Sep that waits for the next one.
 #[derive(Drop)]
 pub struct Writer {
-    pub pen: Pen,
+    pub output: Output,
     pub waiting: Option<Tok>,
     /// Whether a Sep may stand behind the last tok.
-    pub may: bool,
+    pub can_separate: bool,
 }
 
 impl Writer {
     /// A writer that has written nothing.
     pub fn start(alloc: Global) -> Writer
-        ensures { (x : Walk) → rest_of result x ≡ judged at_start (settled false None x.written) x.stop }
+        ensures { (x : Walk) → rest_of result x ≡ bounded at_start (spaced false None x.written) x.stop }
     {
-        let pen = Pen {
+        let output = Output {
             toks: Vec::new(alloc),
             load: Load::start(alloc),
         };
         Writer {
-            pen,
+            output,
             waiting: None,
-            may: false,
+            can_separate: false,
         }
     }
 
     /// Writes the Sep that waits, where one may stand before a tok of this kind.
     fn part(&mut self, kind: TokKind) -> Result<(), Front>
         ensures ok { OnOk result ((ks : List Tok) (stop : Option Refusal) →
-            with_front self.new.pen.toks.items (judged (open_counts self.new.pen.load.inner self.new.pen.load.outer.items) ks stop)
-            ≡ with_front self.old.pen.toks.items (judged (open_counts self.old.pen.load.inner self.old.pen.load.outer.items) (kept_sep (self.old.may && not (is_close kind)) self.old.waiting ++ ks) stop)) }
+            with_front self.new.output.toks.items (bounded (open_counts self.new.output.load.inner self.new.output.load.outer.items) ks stop)
+            ≡ with_front self.old.output.toks.items (bounded (open_counts self.old.output.load.inner self.old.output.load.outer.items) (kept_sep (self.old.can_separate && not (is_close kind)) self.old.waiting ++ ks) stop)) }
         ensures refused { (r : Refusal) → IsErrOf result (front.Refused r) → (ks : List Tok) (stop : Option Refusal) →
-            judged (open_counts self.old.pen.load.inner self.old.pen.load.outer.items) (kept_sep (self.old.may && not (is_close kind)) self.old.waiting ++ ks) stop ≡ Err r }
+            bounded (open_counts self.old.output.load.inner self.old.output.load.outer.items) (kept_sep (self.old.can_separate && not (is_close kind)) self.old.waiting ++ ks) stop ≡ Err r }
     {
-        if self.may
+        if self.can_separate
             && !is_close(kind)
             && let Some(sep) = self.waiting
         {
-            self.pen.put(sep)?;
+            self.output.put(sep)?;
         }
         Ok(())
     }
@@ -113,9 +112,9 @@ impl Writer {
             rest_of self.old (record { written = tok next ∷ ws; stop = stop }) ≡ Err r }
     {
         self.part(next.kind)?;
-        self.pen.put(next)?;
+        self.output.put(next)?;
         self.waiting = None;
-        self.may = !is_open(next.kind);
+        self.can_separate = !is_open(next.kind);
         Ok(())
     }
 

@@ -1,6 +1,6 @@
 use Rattle.std.proofs.Common.{◌≡◌, take}
 use Rattle.verse_layout.specs.Frames.{innermost}
-use Rattle.verse_layout.specs.Stands.{stack}
+use Rattle.verse_layout.specs.States.{stack}
 use Rattle.verse_layout.proofs.frames.innermost.Given as goal
 
 abbrev pub invariant-frames : goal.invariant-frames

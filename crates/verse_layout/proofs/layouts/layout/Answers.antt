@@ -12,5 +12,5 @@ returns-clause-few c = on_ok c.walk.result (λ toks h. few_toks c.args.bytes.now
 pub returns-clause-none : goal.returns-clause-none
 returns-clause-none c = λ r e ks l. no_layout c.args.bytes.now c.args.tokens.now r ks (c.walk.ensures.refused r e) l
 
-pub returns-clause-refused : goal.returns-clause-refused
-returns-clause-refused c = λ r e. refused_of c.args.bytes.now c.args.tokens.now r (c.walk.ensures.refused r e)
+pub returns-clause-exact : goal.returns-clause-exact
+returns-clause-exact c = λ r e. refused_of c.args.bytes.now c.args.tokens.now r (c.walk.ensures.refused r e)

@@ -1,7 +1,7 @@
 use Rattle.std.proofs.Common.{◌≡◌, length}
 use Rattle.verse_layout.specs.Frames.{closes}
 use Rattle.verse_layout.specs.Rests.{rest_of}
-use Rattle.verse_layout.specs.Stands.{stack}
+use Rattle.verse_layout.specs.States.{stack}
 use Rattle.verse_layout.proofs.steps.close_all.Given as goal
 
 abbrev pub invariant-closing : goal.invariant-closing

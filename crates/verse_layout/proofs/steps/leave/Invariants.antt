@@ -1,7 +1,7 @@
 use Rattle.std.proofs.Common.{◌≡◌, List, length}
 use Rattle.verse_layout.specs.Frames.{Open, Walk, leave}
 use Rattle.verse_layout.specs.Rests.{rest_of}
-use Rattle.verse_layout.specs.Stands.{stack}
+use Rattle.verse_layout.specs.States.{stack}
 use Rattle.verse_layout.proofs.steps.leave.Given as goal
 
 abbrev pub invariant-leaving : goal.invariant-leaving

@@ -1,7 +1,7 @@
 use Rattle.std.proofs.Common.{subst, sym}
 use Rattle.std.specs.List.{All}
 use Rattle.verse_layout.specs.Cells.{Lies}
-use Rattle.verse_layout.proofs.tests.laid.Goals as goal
+use Rattle.verse_layout_laws.proofs.tests.layout_of.Goals as goal
 
 pub layout-requires-clause-lines : goal.layout-requires-clause-lines
 layout-requires-clause-lines c =

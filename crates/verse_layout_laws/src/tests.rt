@@ -8,13 +8,15 @@ ghost use Rattle.std.specs.Prelude.{◌≤◌, length, IsTrue};
 ghost use Rattle.std.specs.List.{All};
 ghost use Rattle.verse_layout.specs.Cells.{Lies};
 
-use crate::laws::{lexed_tokens_lie, one_layout, stuck_where, walk_is_layout};
-use crate::layouts::layout;
-use crate::toks::{Tok, TokKind};
+use crate::laws::{one_refusal, seps_stand};
 use std::alloc::{AllocError, Global};
 use std::test::Fail;
+use verse_base::limits::MOST_FILE_BYTES;
 use verse_base::places::Place;
 use verse_base::refusals::Front;
+use verse_layout::laws::{lexed_tokens_lie, one_layout};
+use verse_layout::layouts::layout;
+use verse_layout::toks::{Tok, TokKind};
 use verse_lex::lex;
 use verse_lex::tokens::{Mark, Token, TokenKind, Word};
 
@@ -364,8 +366,8 @@ fn show(
     }
 }
 
-fn laid(alloc: Global, bytes: &[u8]) -> Result<Vec<Tok>, Front>
-    requires { length bytes.now ≤ 1048576 }
+fn layout_of(alloc: Global, bytes: &[u8]) -> Result<Vec<Tok>, Front>
+    requires { length bytes.now ≤ MOST_FILE_BYTES }
 {
     let tokens = lex(alloc, 0, bytes)?;
     lexed_tokens_lie();
@@ -379,8 +381,8 @@ fn files(rt: HostRuntime) -> Result<(), Fail> {
             continue
         };
         let text = file_of(rt.alloc(), source.as_bytes())?;
-        assert!(rt; text.len() <= 1048576);
-        let answer = laid(rt.alloc(), text.as_slice());
+        assert!(rt; text.len() <= MOST_FILE_BYTES);
+        let answer = layout_of(rt.alloc(), text.as_slice());
         let shown = show(rt.alloc(), text.as_slice(), wanted, answer)?;
         assert_eq!(rt; shown.as_str().trim_end(), wanted, "{source}");
     }
@@ -395,7 +397,7 @@ fn rows(rt: HostRuntime) -> Result<(), Fail> {
         };
         let text = text_of(rt.alloc(), source.as_bytes())?;
         let tokens = tokens_of(rt.alloc(), text.as_slice())?;
-        assert!(rt; text.len() <= 1048576);
+        assert!(rt; text.len() <= MOST_FILE_BYTES);
         let lie = all_lie(text.as_slice(), tokens.as_slice());
         assert!(rt; lie);
         let answer = layout(rt.alloc(), text.as_slice(), tokens.as_slice());
@@ -403,7 +405,7 @@ fn rows(rt: HostRuntime) -> Result<(), Fail> {
         assert_eq!(rt; shown.as_str().trim_end(), wanted, "{source}");
     }
     one_layout();
-    walk_is_layout();
-    stuck_where();
+    one_refusal();
+    seps_stand();
     Ok(())
 }
