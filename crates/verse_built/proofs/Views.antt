@@ -1,14 +1,14 @@
 -- What the structs of the trees stand for, by their fields.
 use Rattle.std.proofs.Common.{◌≡◌, map, option_map, rules}
 use Rattle.verse_tree.specs.Tree.{tree}
-use Rattle.verse_tree.specs.View.{written_of, tree_of, shape_of, two_of, typed_of, choice_of, applied_of, each_of, cases_of, hole_of, pair_of, given_of}
+use Rattle.verse_tree.specs.View.{written_of, tree_of, shape_of, two_of, typed_value_of, if_of, applied_of, for_of, cases_of, hole_of, pair_of, given_of}
 use Rattle.verse_tree.specs.TypeView.{map_of}
 use Rattle.verse_tree.specs.declared.types.MapTy.{MapTy}
 use Rattle.verse_tree.specs.declared.exprs.Two.{Two, out-Two}
-use Rattle.verse_tree.specs.declared.exprs.Typed.{Typed, out-Typed}
-use Rattle.verse_tree.specs.declared.exprs.Choice.{Choice, out-Choice}
+use Rattle.verse_tree.specs.declared.exprs.TypedValue.{TypedValue, out-TypedValue}
+use Rattle.verse_tree.specs.declared.exprs.IfParts.{IfParts, out-IfParts}
 use Rattle.verse_tree.specs.declared.exprs.Applied.{Applied, out-Applied}
-use Rattle.verse_tree.specs.declared.exprs.Each.{Each, out-Each}
+use Rattle.verse_tree.specs.declared.exprs.ForParts.{ForParts, out-ForParts}
 use Rattle.verse_tree.specs.declared.exprs.Cases.{Cases, out-Cases}
 use Rattle.verse_tree.specs.declared.exprs.Hole.{Hole}
 use Rattle.verse_tree.specs.declared.exprs.Pair.{Pair}
@@ -23,17 +23,17 @@ mapty_parts x = search (rules, maps.the_lemmas)
 pub two_parts : (x : Two) → two_of x ≡ (tree_of (out-Two x).left, tree_of (out-Two x).right)
 two_parts x = search (rules, the_lemmas)
 
-pub typed_parts : (x : Typed) → typed_of x ≡ (written_of (out-Typed x).ty, tree_of (out-Typed x).value)
+pub typed_parts : (x : TypedValue) → typed_value_of x ≡ (written_of (out-TypedValue x).ty, tree_of (out-TypedValue x).value)
 typed_parts x = search (rules, the_lemmas)
 
-pub choice_parts : (x : Choice) → choice_of x ≡ record { conditions = map tree_of (out-Choice x).conditions; taken = tree_of (out-Choice x).then; otherwise = option_map tree_of (out-Choice x).otherwise }
-choice_parts x = search (rules, the_lemmas)
+pub if_parts : (x : IfParts) → if_of x ≡ record { conditions = map tree_of (out-IfParts x).conditions; taken = tree_of (out-IfParts x).then; otherwise = option_map tree_of (out-IfParts x).otherwise }
+if_parts x = search (rules, the_lemmas)
 
 pub applied_parts : (x : Applied) → applied_of x ≡ (tree_of (out-Applied x).callee, map tree_of (out-Applied x).args)
 applied_parts x = search (rules, the_lemmas)
 
-pub each_parts : (x : Each) → each_of x ≡ (map tree_of (out-Each x).clauses, tree_of (out-Each x).body)
-each_parts x = search (rules, the_lemmas)
+pub for_parts : (x : ForParts) → for_of x ≡ (map tree_of (out-ForParts x).clauses, tree_of (out-ForParts x).body)
+for_parts x = search (rules, the_lemmas)
 
 pub cases_parts : (x : Cases) → cases_of x ≡ (tree_of (out-Cases x).subject, map tree_of (out-Cases x).arms)
 cases_parts x = search (rules, the_lemmas)

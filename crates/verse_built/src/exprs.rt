@@ -2,7 +2,7 @@
 
 ghost use Rattle.std.specs.Prelude.{◌≡◌, ◌++◌, map};
 ghost use Rattle.std.specs.Option.{option_map};
-ghost use Rattle.verse_tree.specs.View.{shape_of, tree_of, trees, holes, hole_of, pairs, pair_of, givens, given_of, applied_of, cases_of, choice_of, each_of, two_of, typed_of};
+ghost use Rattle.verse_tree.specs.View.{shape_of, tree_of, trees, holes, hole_of, pairs, pair_of, givens, given_of, applied_of, cases_of, if_of, for_of, two_of, typed_value_of};
 ghost use Rattle.verse_tree.specs.PostOrder.{post_order, parts, trees_order, holes_order, pairs_order, givens_order, default_order, written_order};
 ghost use Rattle.verse_built.specs.Built.{first_unbuilt};
 
@@ -10,7 +10,9 @@ use crate::forms::is_built_form;
 use crate::types::in_type;
 use sqlite_items::Boxed;
 use verse_base::places::Place;
-use verse_tree::exprs::{Applied, Cases, Choice, Each, Expr, Form, Given, Hole, Pair, Two, Typed};
+use verse_tree::exprs::{
+    Applied, Cases, Expr, ForParts, Form, Given, Hole, IfParts, Pair, Two, TypedValue,
+};
 
 /// The first node of the expression that is not built.
 #[cycle(exprs)]
@@ -54,11 +56,11 @@ fn in_parts(form: &Form) -> Option<Place>
         | Form::Member(part, _)
         | Form::Query(part)
         | Form::Loop(part)
-        | Form::Scope(part)
+        | Form::BlockForm(part)
         | Form::Branch(part)
         | Form::Spawn(part)
         | Form::Elements(_, part)
-        | Form::Pairs(_, _, part) => in_expr(part.get()),
+        | Form::Entries(_, _, part) => in_expr(part.get()),
         Form::Block(exprs)
         | Form::Tuple(exprs)
         | Form::Array(exprs)
@@ -75,13 +77,13 @@ fn in_parts(form: &Form) -> Option<Place>
         Form::Def(_, typed) | Form::VarDef(_, typed) => in_typed(typed),
         Form::Call(applied) | Form::Index(applied) => in_applied(applied),
         Form::Return(value) => in_other(value),
-        Form::If(choice) => in_choice(choice),
+        Form::If(choice) => in_if(choice),
         Form::Holes(_, holes) => in_holes(holes.as_slice()),
         Form::Map(pairs) => in_pairs(pairs.as_slice()),
         Form::Instance(_, values) => in_values(values.as_slice()),
         Form::Event(Some(ty)) => in_type(ty),
         Form::Event(None) => None,
-        Form::For(each) => in_each(each),
+        Form::For(each) => in_for(each),
         Form::Case(cases) => in_cases(cases),
     }
 }
@@ -122,8 +124,8 @@ fn in_two(two: &Two) -> Option<Place>
 
 #[cycle(exprs)]
 #[tactic(auto, using(crate::proofs::Appends::first_append, crate::proofs::Views::typed_parts))]
-fn in_typed(typed: &Typed) -> Option<Place>
-    ensures { result ≡ first_unbuilt (written_order (typed_of typed.now).0 ++ post_order (typed_of typed.now).1) }
+fn in_typed(typed: &TypedValue) -> Option<Place>
+    ensures { result ≡ first_unbuilt (written_order (typed_value_of typed.now).0 ++ post_order (typed_value_of typed.now).1) }
 {
     match in_type(&typed.ty) {
         Some(place) => Some(place),
@@ -132,9 +134,9 @@ fn in_typed(typed: &Typed) -> Option<Place>
 }
 
 #[cycle(exprs)]
-#[tactic(auto, using(crate::proofs::Appends::first_append, crate::proofs::Views::choice_parts))]
-fn in_choice(choice: &Choice) -> Option<Place>
-    ensures { result ≡ first_unbuilt (trees_order (trees (choice_of choice.now).conditions) ++ post_order (choice_of choice.now).taken ++ default_order (choice_of choice.now).otherwise) }
+#[tactic(auto, using(crate::proofs::Appends::first_append, crate::proofs::Views::if_parts))]
+fn in_if(choice: &IfParts) -> Option<Place>
+    ensures { result ≡ first_unbuilt (trees_order (trees (if_of choice.now).conditions) ++ post_order (if_of choice.now).taken ++ default_order (if_of choice.now).otherwise) }
 {
     if let Some(place) = in_all(choice.conditions.as_slice()) {
         return Some(place);
@@ -205,9 +207,9 @@ fn in_values(values: &[Given]) -> Option<Place>
 }
 
 #[cycle(exprs)]
-#[tactic(auto, using(crate::proofs::Appends::first_append, crate::proofs::Views::each_parts))]
-fn in_each(each: &Each) -> Option<Place>
-    ensures { result ≡ first_unbuilt (trees_order (trees (each_of each.now).0) ++ post_order (each_of each.now).1) }
+#[tactic(auto, using(crate::proofs::Appends::first_append, crate::proofs::Views::for_parts))]
+fn in_for(each: &ForParts) -> Option<Place>
+    ensures { result ≡ first_unbuilt (trees_order (trees (for_of each.now).0) ++ post_order (for_of each.now).1) }
 {
     match in_all(each.clauses.as_slice()) {
         Some(place) => Some(place),

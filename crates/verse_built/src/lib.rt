@@ -13,6 +13,3 @@ mod types;
 
 pub use items::unbuilt;
 pub use texts::printed;
-
-#[cfg(test)]
-mod tests;

@@ -7,7 +7,5 @@
 pub mod faults;
 pub mod phrases;
 mod reads;
-#[cfg(test)]
-mod tests;
 
 pub use reads::{block, expr, ty};

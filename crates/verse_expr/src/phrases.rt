@@ -12,6 +12,7 @@ ghost use Rattle.verse_reading.specs.declared.stops.Stop.TheVariants as stop;
 
 use std::alloc::Global;
 use verse_grammar::phrases::Phrase;
+use verse_handles::trees::Tree;
 use verse_layout::toks::Tok;
 use verse_levels::levels::{ands, comparison, negated, negative, ors, product, sum};
 use verse_levels::postfixes::postfix;
@@ -22,14 +23,13 @@ use verse_reading::stops::Stop;
 use verse_statements::generators::{clause, generator};
 use verse_statements::statements::stmt;
 use verse_statements::{blocks, choices};
-use verse_tree::exprs::Expr;
 
 /// A phrase of this kind.
-fn phrase_of<'t, F: Fn(Global, &[u8], Phrase, &[Tok]) -> Result<(Expr, usize), Stop>>(
+fn phrase_of<'t, F: Fn(Global, &[u8], Phrase, &[Tok]) -> Result<(Tree, usize), Stop>>(
     reader: &Reader<'_, F>,
     what: Phrase,
     toks: &'t [Tok],
-) -> Result<(Expr, &'t [Tok]), Stop>
+) -> Result<(Tree, &'t [Tok]), Stop>
     requires nests { Nests reader.now.bytes.now reader.now.most (F.pre reader.now.nested) (F.post reader.now.nested) }
     requires within { length toks.now ≤ reader.now.most }
     ensures spelled { IfOk result (λ r. Reads reader.now.bytes.now what toks.now (tree_of r.0) r.1.now) }
@@ -66,7 +66,7 @@ pub fn phrase_at(
     bytes: &[u8],
     what: Phrase,
     toks: &[Tok],
-) -> Result<(Expr, usize), Stop>
+) -> Result<(Tree, usize), Stop>
     ensures stands { IfOk result (Stands bytes.now what toks.now) }
     ensures sticks { (left : ℕ) → IsErrOf result (stop.At left) → SticksRule (phrase what) toks.now left }
 {
@@ -86,7 +86,7 @@ pub fn read<'t>(
     bytes: &[u8],
     what: Phrase,
     toks: &'t [Tok],
-) -> Result<(Expr, &'t [Tok]), Stop>
+) -> Result<(Tree, &'t [Tok]), Stop>
     ensures spelled { IfOk result (λ r. Reads bytes.now what toks.now (tree_of r.0) r.1.now) }
     ensures eats { IfOk result (λ r. EatsRule (phrase what) toks.now r.1.now) }
     ensures sticks { (left : ℕ) → IsErrOf result (stop.At left) → SticksRule (phrase what) toks.now left }

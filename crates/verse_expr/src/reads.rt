@@ -1,10 +1,10 @@
 //! What this crate is called for.
 
-ghost use Rattle.std.specs.Prelude.{◌≡◌, ◌<◌, ◌≤◌, ◌+◌, ◌-◌, ℕ, List, IfOk, length, drop, take};
+ghost use Rattle.std.specs.Prelude.{[], ◌≡◌, ◌<◌, ◌≤◌, ◌+◌, ◌-◌, ℕ, List, IfOk, length, drop, take};
 ghost use Rattle.std.specs.Result.{IsErrOf};
 ghost use Rattle.verse_base.specs.declared.refusals.Rule.{Rule};
 ghost use Rattle.verse_layout.specs.declared.toks.Tok.{Tok};
-ghost use Rattle.verse_tree.specs.Tree.{Written};
+ghost use Rattle.verse_tree.specs.Tree as t;
 ghost use Rattle.verse_tree.specs.View.{tree_of, written_of};
 ghost use Rattle.verse_grammar.specs.Toks.{ahead};
 ghost use Rattle.verse_grammar.specs.Types.{IsType};
@@ -21,11 +21,11 @@ use crate::faults::{ParseFault, fault_of};
 use crate::phrases::read;
 use std::alloc::Global;
 use verse_grammar::phrases::Phrase;
+use verse_handles::trees::Tree;
+use verse_handles::types::Written;
 use verse_layout::toks::Tok;
 use verse_reading::stops::behind;
 use verse_reading::types::type_at;
-use verse_tree::exprs::Expr;
-use verse_tree::types::TyExpr;
 
 /// The type at an index, and the index behind it.
 ///
@@ -38,14 +38,14 @@ pub fn ty(
     bytes: &[u8],
     toks: &[Tok],
     at: usize,
-) -> Result<(TyExpr, usize), ParseFault>
+) -> Result<(Written, usize), ParseFault>
     requires { at ≤ length toks.now }
     ensures spelled { IfOk result (λ r. IsType bytes.now (drop at toks.now) (written_of r.0) (drop r.1 toks.now)) }
     ensures behind { IfOk result (λ r. (at < r.1) × (r.1 ≤ length toks.now)) }
-    ensures once { IfOk result (λ r. (v : Written) (rest : List Tok) → IsType bytes.now (drop at toks.now) v rest → (v ≡ written_of r.0) × (rest ≡ drop r.1 toks.now)) }
+    ensures once { IfOk result (λ r. (v : t.Written) (rest : List Tok) → IsType bytes.now (drop at toks.now) v rest → (v ≡ written_of r.0) × (rest ≡ drop r.1 toks.now)) }
     ensures greatest { IfOk result (λ r. r.1 < length toks.now → Begins whole.a_type (take (r.1 - at + 1) (drop at toks.now)) → ⊥) }
     ensures stops { (index : ℕ) (rule : Rule) → IsErrOf result (fault.At index rule) → Stops whole.a_type (drop at toks.now) (index - at) }
-    ensures none { (index : ℕ) (rule : Rule) → IsErrOf result (fault.At index rule) → (v : Written) (rest : List Tok) → IsType bytes.now (drop at toks.now) v rest → ⊥ }
+    ensures none { (index : ℕ) (rule : Rule) → IsErrOf result (fault.At index rule) → (v : t.Written) (rest : List Tok) → IsType bytes.now (drop at toks.now) v rest → ⊥ }
     ensures within { (index : ℕ) (rule : Rule) → IsErrOf result (fault.At index rule) → (at ≤ index) × (index ≤ length toks.now) }
     ensures rule { (index : ℕ) (rule : Rule) → IsErrOf result (fault.At index rule) → rule.0 ≡ stop_rule (ahead (drop index toks.now)) }
 {
@@ -54,19 +54,20 @@ pub fn ty(
 
 /// The expression at an index, and the index behind it.
 ///
-/// The answer is the greatest index up to which the toks from `at` on begin an expression: where they are
-/// one, its tree; otherwise `At`, with E069 where the tok of that index is left out of the language,
-/// and E030 where it is another or there is none.
-#[tactic(auto, using(crate::proofs::Ends::phrase_stops, crate::proofs::Ends::phrase_refused, crate::proofs::Ends::phrase_greatest))]
+/// The answer is the greatest index up to which the toks from `at` on begin an expression: where they
+/// are one, its tree, and the toks from `at` to it spell no other; otherwise `At`, with E069 where the
+/// tok of that index is left out of the language, and E030 where it is another or there is none.
+#[tactic(auto, using(crate::proofs::Ends::phrase_stops, crate::proofs::Ends::phrase_refused, crate::proofs::Ends::phrase_greatest, crate::proofs::Alone::phrase_once))]
 pub fn expr(
     alloc: Global,
     bytes: &[u8],
     toks: &[Tok],
     at: usize,
-) -> Result<(Expr, usize), ParseFault>
+) -> Result<(Tree, usize), ParseFault>
     requires { at ≤ length toks.now }
     ensures spelled { IfOk result (λ r. Reads bytes.now Phrase.Expr (drop at toks.now) (tree_of r.0) (drop r.1 toks.now)) }
     ensures behind { IfOk result (λ r. (at < r.1) × (r.1 ≤ length toks.now)) }
+    ensures once { IfOk result (λ r. (u : t.Tree) → Reads bytes.now Phrase.Expr (take (r.1 - at) (drop at toks.now)) u [] → u ≡ tree_of r.0) }
     ensures greatest { IfOk result (λ r. r.1 < length toks.now → Begins (whole.a_phrase Phrase.Expr) (take (r.1 - at + 1) (drop at toks.now)) → ⊥) }
     ensures none { (index : ℕ) (rule : Rule) → IsErrOf result (fault.At index rule) → IsWhole (whole.a_phrase Phrase.Expr) (take (index - at) (drop at toks.now)) → ⊥ }
     ensures stops { (index : ℕ) (rule : Rule) → IsErrOf result (fault.At index rule) → Stops (whole.a_phrase Phrase.Expr) (drop at toks.now) (index - at) }
@@ -79,18 +80,19 @@ pub fn expr(
 /// The block at an index, and the index behind it.
 ///
 /// The answer is the greatest index up to which the toks from `at` on begin a block: where they are
-/// one, its tree; otherwise `At`, with E069 where the tok of that index is left out of the language,
-/// and E030 where it is another or there is none.
-#[tactic(auto, using(crate::proofs::Ends::phrase_stops, crate::proofs::Ends::phrase_refused, crate::proofs::Ends::phrase_greatest))]
+/// one, its tree, and the toks from `at` to it spell no other; otherwise `At`, with E069 where the
+/// tok of that index is left out of the language, and E030 where it is another or there is none.
+#[tactic(auto, using(crate::proofs::Ends::phrase_stops, crate::proofs::Ends::phrase_refused, crate::proofs::Ends::phrase_greatest, crate::proofs::Alone::phrase_once))]
 pub fn block(
     alloc: Global,
     bytes: &[u8],
     toks: &[Tok],
     at: usize,
-) -> Result<(Expr, usize), ParseFault>
+) -> Result<(Tree, usize), ParseFault>
     requires { at ≤ length toks.now }
     ensures spelled { IfOk result (λ r. Reads bytes.now Phrase.Block (drop at toks.now) (tree_of r.0) (drop r.1 toks.now)) }
     ensures behind { IfOk result (λ r. (at < r.1) × (r.1 ≤ length toks.now)) }
+    ensures once { IfOk result (λ r. (u : t.Tree) → Reads bytes.now Phrase.Block (take (r.1 - at) (drop at toks.now)) u [] → u ≡ tree_of r.0) }
     ensures greatest { IfOk result (λ r. r.1 < length toks.now → Begins (whole.a_phrase Phrase.Block) (take (r.1 - at + 1) (drop at toks.now)) → ⊥) }
     ensures none { (index : ℕ) (rule : Rule) → IsErrOf result (fault.At index rule) → IsWhole (whole.a_phrase Phrase.Block) (take (index - at) (drop at toks.now)) → ⊥ }
     ensures stops { (index : ℕ) (rule : Rule) → IsErrOf result (fault.At index rule) → Stops (whole.a_phrase Phrase.Block) (drop at toks.now) (index - at) }
@@ -107,7 +109,7 @@ fn type_from(
     bytes: &[u8],
     toks: &[Tok],
     at: usize,
-) -> Result<(TyExpr, usize), ParseFault>
+) -> Result<(Written, usize), ParseFault>
     requires { at ≤ length toks.now }
     ensures spelled { IfOk result (λ r. IsType bytes.now (drop at toks.now) (written_of r.0) (drop r.1 toks.now)) }
     ensures eats { IfOk result (λ r. EatsRule a_type (drop at toks.now) (drop r.1 toks.now)) }
@@ -130,7 +132,7 @@ fn phrase_from(
     what: Phrase,
     toks: &[Tok],
     at: usize,
-) -> Result<(Expr, usize), ParseFault>
+) -> Result<(Tree, usize), ParseFault>
     requires { at ≤ length toks.now }
     ensures spelled { IfOk result (λ r. Reads bytes.now what (drop at toks.now) (tree_of r.0) (drop r.1 toks.now)) }
     ensures eats { IfOk result (λ r. EatsRule (phrase what) (drop at toks.now) (drop r.1 toks.now)) }

@@ -31,7 +31,7 @@ use Rattle.verse_grammar.specs.declared.starts.StmtStart.TheVariants as stmt
 use Rattle.verse_grammar.specs.declared.starts.PatternStart.{PatternStart}
 use Rattle.verse_grammar.specs.declared.starts.PatternStart.TheVariants as pattern
 use Rattle.verse_grammar.specs.Types.{type_name}
-use Rattle.verse_grammar.specs.Exprs.{chain_operator, Reads, block, part_defer, part_stmt, stmt_definition, stmt_typed, stmt_variable, stmt_control, stmt_expr, body_block, body_expr, expr_if, expr_or, or_chain, and_chain, not_word, not_comparison, comparison_sum, comparison_two, sum_chain, product_chain, minus_mark, minus_postfix, postfix_chain, integer, character, text, text_holes, truth, falsehood, this, name_alone, instance, brackets, tuple, array, mapping, option, logic, event, each, turns, scope, branch, sync, race, rush, cases, spawn, sleep, sleep_forever, elements, entries, range, clause_generator, clause_definition, clause_control, clause_expr, arm, integer_pattern, minus_pattern, character_pattern, text_pattern, truth_pattern, falsehood_pattern, any_pattern, enum_pattern, typed_value, Control, assignment, returned, returned_unit, left_loop, choice_alone, choice, taken_then, taken_block, chain_none, chain_more, postfix_none, postfix_call, postfix_index, postfix_member, postfix_query, Row, row_one, row_more, closed, until_none, until_some, no_holes, more_holes, last_hole, PairRow, pair_one, pair_more, no_pairs, some_pairs, GivenRow, given_one, given_more, no_givens, some_givens, ClauseRow, first_generator, more_clauses, clauses}
+use Rattle.verse_grammar.specs.Exprs.{chain_operator, Reads, block, part_defer, part_stmt, stmt_definition, stmt_typed, stmt_variable, stmt_control, stmt_expr, body_block, body_expr, expr_if, expr_or, or_chain, and_chain, not_word, not_comparison, comparison_sum, comparison_two, sum_chain, product_chain, minus_mark, minus_postfix, postfix_chain, integer, character, text, text_holes, truth, falsehood, this, name_alone, instance, brackets, tuple, array, mapping, option, logic, event, for_form, loop_form, block_form, branch, sync, race, rush, cases, spawn, sleep, sleep_forever, elements, entries, range, clause_generator, clause_definition, clause_control, clause_expr, arm, integer_pattern, minus_pattern, character_pattern, text_pattern, truth_pattern, falsehood_pattern, any_pattern, enum_pattern, typed_value, Control, assignment, returned, returned_unit, break_form, if_alone, if_else, taken_then, taken_block, chain_none, chain_more, postfix_none, postfix_call, postfix_index, postfix_member, postfix_query, Row, row_one, row_more, closed, until_none, until_some, no_holes, more_holes, last_hole, PairRow, pair_one, pair_more, no_pairs, some_pairs, GivenRow, given_one, given_more, no_givens, some_givens, ClauseRow, first_generator, more_clauses, clauses}
 use Rattle.verse_grammar.specs.Symbols.{first_is, by_stmt, by_primary, by_clause, by_pattern, by_assign, by_chain_tail, by_comparison_tail, by_postfix_tail, by_duration, by_an_int}
 
 -- what the kinds of starts are
@@ -110,7 +110,7 @@ stmt_case b k ks (Some stmt.Name) h = λ rest ms x. x k (started h)
 stmt_case b k ks (Some stmt.Var) h = λ rest ms x n hn. (_, stmt_variable (started h) hn x.2)
 stmt_case b k ks (Some stmt.Set) h = λ rest ms x. (_, stmt_control (x k (started h)).1)
 stmt_case b k ks (Some stmt.Return) h = λ rest ms x. (_, stmt_control (x k (started h)).1)
-stmt_case b k ks (Some stmt.Break) h = λ rest. (_, stmt_control (left_loop (started h)))
+stmt_case b k ks (Some stmt.Break) h = λ rest. (_, stmt_control (break_form (started h)))
 
 pub stmt_sound : (b : List ℕ) (ks : List Tok) → Sound b (s.phrase p.Stmt) ks (predict (s.phrase p.Stmt) ks)
 stmt_sound b [] = λ rest ms x. (_, stmt_expr x.1)
@@ -167,9 +167,9 @@ primary_case b k ks (Some primary.Map) h = λ rest ms x o ho. (_, mapping h ho x
 primary_case b k ks (Some primary.Option) h = λ rest ms x o ho. (_, option h ho x.1)
 primary_case b k ks (Some primary.Logic) h = λ rest ms x o ho. (_, logic h ho x.1)
 primary_case b k ks (Some primary.Event) h = λ rest c hc o ho ms x. (_, event h x.1 ho hc)
-primary_case b k ks (Some primary.For) h = λ rest ns y ms x o ho. (_, each h ho x.1 y.1)
-primary_case b k ks (Some primary.Loop) h = λ rest ms x. (_, turns h x.1)
-primary_case b k ks (Some primary.Block) h = λ rest ms x. (_, scope h x.1)
+primary_case b k ks (Some primary.For) h = λ rest ns y ms x o ho. (_, for_form h ho x.1 y.1)
+primary_case b k ks (Some primary.Loop) h = λ rest ms x. (_, loop_form h x.1)
+primary_case b k ks (Some primary.Block) h = λ rest ms x. (_, block_form h x.1)
 primary_case b k ks (Some primary.Branch) h = λ rest ms x. (_, branch h x.1)
 primary_case b k ks (Some primary.Sync) h = λ rest ms x o ho. (_, sync h ho x.1)
 primary_case b k ks (Some primary.Race) h = λ rest ms x o ho. (_, race h ho x.1)
@@ -191,7 +191,7 @@ clause_case b k ks (Some stmt.Name) h = λ rest ms x. x k (started h)
 clause_case b k ks (Some stmt.Var) h = tt
 clause_case b k ks (Some stmt.Set) h = λ rest ms x. (_, clause_control (x k (started h)).1)
 clause_case b k ks (Some stmt.Return) h = λ rest ms x. (_, clause_control (x k (started h)).1)
-clause_case b k ks (Some stmt.Break) h = λ rest. (_, clause_control (left_loop (started h)))
+clause_case b k ks (Some stmt.Break) h = λ rest. (_, clause_control (break_form (started h)))
 
 pub clause_sound : (b : List ℕ) (ks : List Tok) → Sound b (s.phrase p.Clause) ks (predict (s.phrase p.Clause) ks)
 clause_sound b [] = λ rest ms x. (_, clause_expr x.1)
@@ -259,7 +259,7 @@ pub taken_sound : (b : List ℕ) (ks : List Tok) → Sound b s.taken ks (predict
 taken_sound b ks = sees_sound b s.taken ks (word w.Then) _ _ (λ k h rest ms x. (_, taken_then h x.1)) (λ rest ms x. (_, taken_block x.1))
 
 pub otherwise_sound : (b : List ℕ) (ks : List Tok) → Sound b s.otherwise ks (predict s.otherwise ks)
-otherwise_sound b ks = sees_sound b s.otherwise ks (word w.Else) _ _ (λ q hq rest ms x k o js ls cs e hk ho r t. (_, choice hk ho r t hq x.1)) (λ rest k o js ls cs e hk ho r t. (_, choice_alone hk ho r t))
+otherwise_sound b ks = sees_sound b s.otherwise ks (word w.Else) _ _ (λ q hq rest ms x k o js ls cs e hk ho r t. (_, if_else hk ho r t hq x.1)) (λ rest k o js ls cs e hk ho r t. (_, if_alone hk ho r t))
 
 chain_tail_case : (b : List ℕ) (q : Phrase) (k : Tok) (ks : List Tok) (o : Option Operator) → chain_operator q k.kind ≡ o → Sound b (s.chain_tail q) (k ∷ ks) (by_chain_tail q o)
 chain_tail_case b q k ks None h = λ rest js e f r. (f, r)
@@ -471,13 +471,13 @@ pub read_return_value : (b : List ℕ) → Readable b s.return_value
 read_return_value b = λ rest. (rest, λ k hk. (_, returned_unit hk))
 
 pub read_an_if : (b : List ℕ) → Readable b s.an_if
-read_an_if b = λ rest. (a_tok (word w.If) ∷ a_tok (mark m.RoundOpen) ∷ a_tok name ∷ a_tok (mark m.RoundClose) ∷ a_tok (word w.Then) ∷ a_tok name ∷ rest, (_, choice_alone refl refl (closed (row_one (stmt_expr (expr_of (name_alone refl)))) refl) (taken_then refl (or_of (sum_of (name_alone refl))))))
+read_an_if b = λ rest. (a_tok (word w.If) ∷ a_tok (mark m.RoundOpen) ∷ a_tok name ∷ a_tok (mark m.RoundClose) ∷ a_tok (word w.Then) ∷ a_tok name ∷ rest, (_, if_alone refl refl (closed (row_one (stmt_expr (expr_of (name_alone refl)))) refl) (taken_then refl (or_of (sum_of (name_alone refl))))))
 
 pub read_taken : (b : List ℕ) → Readable b s.taken
 read_taken b = λ rest. (a_tok (word w.Then) ∷ a_tok name ∷ rest, (_, taken_then refl (or_of (sum_of (name_alone refl)))))
 
 pub read_otherwise : (b : List ℕ) → Readable b s.otherwise
-read_otherwise b = λ rest. (rest, λ k o js ls cs e hk ho r t. (_, choice_alone hk ho r t))
+read_otherwise b = λ rest. (rest, λ k o js ls cs e hk ho r t. (_, if_alone hk ho r t))
 
 pub read_chain_tail : (b : List ℕ) (q : Phrase) → Readable b (s.chain_tail q)
 read_chain_tail b q = λ rest. (rest, λ js e f r. (f, r))

@@ -18,11 +18,11 @@ control_opens : {b : List ℕ} {ks rest : List Tok} {e : Tree} → Control b ks 
 control_opens (x.Control.assignment h d ho e) = by_kind _ _ _ h (omega arith)
 control_opens (x.Control.returned h d) = by_kind _ _ _ h (omega arith)
 control_opens (x.Control.returned_unit h) = by_kind _ _ _ h (omega arith)
-control_opens (x.Control.left_loop h) = by_kind _ _ _ h (omega arith)
+control_opens (x.Control.break_form h) = by_kind _ _ _ h (omega arith)
 
 if_opens : {b : List ℕ} {ks rest : List Tok} {e : Tree} → IsIf b ks e rest → rise_ahead (ahead ks) ≤ 3
-if_opens (x.IsIf.choice_alone h ho d e) = by_kind _ _ _ h (omega arith)
-if_opens (x.IsIf.choice h ho d e hq f) = by_kind _ _ _ h (omega arith)
+if_opens (x.IsIf.if_alone h ho d e) = by_kind _ _ _ h (omega arith)
+if_opens (x.IsIf.if_else h ho d e hq f) = by_kind _ _ _ h (omega arith)
 
 pub opens : {b : List ℕ} {q : Phrase} {ks rest : List Tok} {t : Tree} → Reads b q ks t rest → rise_ahead (ahead ks) ≤ top q
 opens (x.Reads.block h0 h1) = by_kind _ _ _ h0 (omega arith)
@@ -64,9 +64,9 @@ opens (x.Reads.mapping h0 h1 h2) = primary_rise _ _ h0
 opens (x.Reads.option h0 h1 h2) = primary_rise _ _ h0
 opens (x.Reads.logic h0 h1 h2) = primary_rise _ _ h0
 opens (x.Reads.event h0 h1 h2 h3) = primary_rise _ _ h0
-opens (x.Reads.each h0 h1 h2 h3) = primary_rise _ _ h0
-opens (x.Reads.turns h0 h1) = primary_rise _ _ h0
-opens (x.Reads.scope h0 h1) = primary_rise _ _ h0
+opens (x.Reads.for_form h0 h1 h2 h3) = primary_rise _ _ h0
+opens (x.Reads.loop_form h0 h1) = primary_rise _ _ h0
+opens (x.Reads.block_form h0 h1) = primary_rise _ _ h0
 opens (x.Reads.branch h0 h1) = primary_rise _ _ h0
 opens (x.Reads.sync h0 h1 h2) = primary_rise _ _ h0
 opens (x.Reads.race h0 h1 h2) = primary_rise _ _ h0

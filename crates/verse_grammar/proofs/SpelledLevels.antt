@@ -244,12 +244,12 @@ case_taken_then h d = gives_takes {r = taken} {Ys = rule (phrase p.Or) ∷ []} (
 pub case_taken_block : {b : List ℕ} {ks rest : List Tok} {e : Tree} → ahead ks ≢ Some (word w.Then) → Gives b (phrase p.Block) ks (v_tree e) rest → Gives b taken ks (v_tree e) rest
 case_taken_block {ks = ks} n d = gives_becomes {r = taken} {Ys = rule (phrase p.Block) ∷ []} (rw (unseen (word w.Then) ks n) refl) (gives_rule d gives_none) refl
 
-pub case_choice_alone : {b : List ℕ} {k o : Tok} {ks ls rest : List Tok} {cs : List Tree} {e : Tree} → k.kind ≡ word w.If → o.kind ≡ mark m.RoundOpen → Gives b (closed p.Stmt (mark m.Comma) (mark m.RoundClose)) ks (v_trees cs) ls →
-    Gives b taken ls (v_tree e) rest → ahead rest ≢ Some (word w.Else) → Gives b an_if (k ∷ o ∷ ks) (v_tree (at k (t.Shape.choice_alone (trees cs) e))) rest
-case_choice_alone {rest = rest} h ho d e n = gives_becomes {r = an_if} {Ys = a (word w.If) ∷ a (mark m.RoundOpen) ∷ rule (closed p.Stmt (mark m.Comma) (mark m.RoundClose)) ∷ rule taken ∷ rule otherwise ∷ []} refl
+pub case_if_alone : {b : List ℕ} {k o : Tok} {ks ls rest : List Tok} {cs : List Tree} {e : Tree} → k.kind ≡ word w.If → o.kind ≡ mark m.RoundOpen → Gives b (closed p.Stmt (mark m.Comma) (mark m.RoundClose)) ks (v_trees cs) ls →
+    Gives b taken ls (v_tree e) rest → ahead rest ≢ Some (word w.Else) → Gives b an_if (k ∷ o ∷ ks) (v_tree (at k (t.Shape.if_alone (trees cs) e))) rest
+case_if_alone {rest = rest} h ho d e n = gives_becomes {r = an_if} {Ys = a (word w.If) ∷ a (mark m.RoundOpen) ∷ rule (closed p.Stmt (mark m.Comma) (mark m.RoundClose)) ∷ rule taken ∷ rule otherwise ∷ []} refl
     (gives_tok h (gives_tok ho (gives_rule d (gives_rule e (gives_rule (gives_becomes {r = otherwise} {Ys = []} (rw (unseen (word w.Else) rest n) refl) gives_none refl) gives_none))))) refl
 
-pub case_choice : {b : List ℕ} {k o q : Tok} {ks ls ms rest : List Tok} {cs : List Tree} {e f : Tree} → k.kind ≡ word w.If → o.kind ≡ mark m.RoundOpen → Gives b (closed p.Stmt (mark m.Comma) (mark m.RoundClose)) ks (v_trees cs) ls →
-    Gives b taken ls (v_tree e) (q ∷ ms) → q.kind ≡ word w.Else → Gives b (phrase p.Body) ms (v_tree f) rest → Gives b an_if (k ∷ o ∷ ks) (v_tree (at k (t.Shape.choice (trees cs) e f))) rest
-case_choice h ho d e hq f = gives_becomes {r = an_if} {Ys = a (word w.If) ∷ a (mark m.RoundOpen) ∷ rule (closed p.Stmt (mark m.Comma) (mark m.RoundClose)) ∷ rule taken ∷ rule otherwise ∷ []} refl
+pub case_if_else : {b : List ℕ} {k o q : Tok} {ks ls ms rest : List Tok} {cs : List Tree} {e f : Tree} → k.kind ≡ word w.If → o.kind ≡ mark m.RoundOpen → Gives b (closed p.Stmt (mark m.Comma) (mark m.RoundClose)) ks (v_trees cs) ls →
+    Gives b taken ls (v_tree e) (q ∷ ms) → q.kind ≡ word w.Else → Gives b (phrase p.Body) ms (v_tree f) rest → Gives b an_if (k ∷ o ∷ ks) (v_tree (at k (t.Shape.if_else (trees cs) e f))) rest
+case_if_else h ho d e hq f = gives_becomes {r = an_if} {Ys = a (word w.If) ∷ a (mark m.RoundOpen) ∷ rule (closed p.Stmt (mark m.Comma) (mark m.RoundClose)) ∷ rule taken ∷ rule otherwise ∷ []} refl
     (gives_tok h (gives_tok ho (gives_rule d (gives_rule e (gives_rule (gives_takes {r = otherwise} {Ys = rule (phrase p.Body) ∷ []} (rw hq refl) (gives_rule f gives_none) refl) gives_none))))) refl

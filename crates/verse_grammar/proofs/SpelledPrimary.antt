@@ -52,14 +52,14 @@ case_logic h d1 d2 = gives_takes {r = phrase p.Primary} {Ys = a tok.Open ∷ rul
 pub case_event : {b : List ℕ} {k o c : Tok} {ks rest : List Tok} {u : Option Written} → primary_start k.kind ≡ Some primary.Event → Gives b bracket_type ks (v_maybe_type u) (o ∷ c ∷ rest) → o.kind ≡ tok.Open → c.kind ≡ tok.Close → Gives b (phrase p.Primary) (k ∷ ks) (v_tree (event_at k u)) rest
 case_event h d1 d2 d3 = gives_takes {r = phrase p.Primary} {Ys = rule bracket_type ∷ a tok.Open ∷ a tok.Close ∷ []} (rw h refl) (gives_rule d1 (gives_tok d2 (gives_tok d3 (gives_none)))) (rw h refl)
 
-pub case_each : {b : List ℕ} {k o : Tok} {ks ls rest : List Tok} {cs : List Tree} {e : Tree} → primary_start k.kind ≡ Some primary.For → o.kind ≡ mark m.RoundOpen → Gives b clauses ks (v_trees cs) ls → Gives b (phrase p.Block) ls (v_tree e) rest → Gives b (phrase p.Primary) (k ∷ o ∷ ks) (v_tree (at k (t.Shape.each (trees cs) e))) rest
-case_each h d1 d2 d3 = gives_takes {r = phrase p.Primary} {Ys = a (mark m.RoundOpen) ∷ rule clauses ∷ rule (phrase p.Block) ∷ []} (rw h refl) (gives_tok d1 (gives_rule d2 (gives_rule d3 (gives_none)))) (rw h refl)
+pub case_for_form : {b : List ℕ} {k o : Tok} {ks ls rest : List Tok} {cs : List Tree} {e : Tree} → primary_start k.kind ≡ Some primary.For → o.kind ≡ mark m.RoundOpen → Gives b clauses ks (v_trees cs) ls → Gives b (phrase p.Block) ls (v_tree e) rest → Gives b (phrase p.Primary) (k ∷ o ∷ ks) (v_tree (at k (t.Shape.for_form (trees cs) e))) rest
+case_for_form h d1 d2 d3 = gives_takes {r = phrase p.Primary} {Ys = a (mark m.RoundOpen) ∷ rule clauses ∷ rule (phrase p.Block) ∷ []} (rw h refl) (gives_tok d1 (gives_rule d2 (gives_rule d3 (gives_none)))) (rw h refl)
 
-pub case_turns : {b : List ℕ} {k : Tok} {ks rest : List Tok} {e : Tree} → primary_start k.kind ≡ Some primary.Loop → Gives b (phrase p.Block) ks (v_tree e) rest → Gives b (phrase p.Primary) (k ∷ ks) (v_tree (at k (t.Shape.turns e))) rest
-case_turns h d1 = gives_takes {r = phrase p.Primary} {Ys = rule (phrase p.Block) ∷ []} (rw h refl) (gives_rule d1 (gives_none)) (rw h refl)
+pub case_loop_form : {b : List ℕ} {k : Tok} {ks rest : List Tok} {e : Tree} → primary_start k.kind ≡ Some primary.Loop → Gives b (phrase p.Block) ks (v_tree e) rest → Gives b (phrase p.Primary) (k ∷ ks) (v_tree (at k (t.Shape.loop_form e))) rest
+case_loop_form h d1 = gives_takes {r = phrase p.Primary} {Ys = rule (phrase p.Block) ∷ []} (rw h refl) (gives_rule d1 (gives_none)) (rw h refl)
 
-pub case_scope : {b : List ℕ} {k : Tok} {ks rest : List Tok} {e : Tree} → primary_start k.kind ≡ Some primary.Block → Gives b (phrase p.Block) ks (v_tree e) rest → Gives b (phrase p.Primary) (k ∷ ks) (v_tree (at k (t.Shape.scope e))) rest
-case_scope h d1 = gives_takes {r = phrase p.Primary} {Ys = rule (phrase p.Block) ∷ []} (rw h refl) (gives_rule d1 (gives_none)) (rw h refl)
+pub case_block_form : {b : List ℕ} {k : Tok} {ks rest : List Tok} {e : Tree} → primary_start k.kind ≡ Some primary.Block → Gives b (phrase p.Block) ks (v_tree e) rest → Gives b (phrase p.Primary) (k ∷ ks) (v_tree (at k (t.Shape.block_form e))) rest
+case_block_form h d1 = gives_takes {r = phrase p.Primary} {Ys = rule (phrase p.Block) ∷ []} (rw h refl) (gives_rule d1 (gives_none)) (rw h refl)
 
 pub case_branch : {b : List ℕ} {k : Tok} {ks rest : List Tok} {e : Tree} → primary_start k.kind ≡ Some primary.Branch → Gives b (phrase p.Block) ks (v_tree e) rest → Gives b (phrase p.Primary) (k ∷ ks) (v_tree (at k (t.Shape.branch e))) rest
 case_branch h d1 = gives_takes {r = phrase p.Primary} {Ys = rule (phrase p.Block) ∷ []} (rw h refl) (gives_rule d1 (gives_none)) (rw h refl)

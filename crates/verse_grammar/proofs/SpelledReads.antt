@@ -18,9 +18,9 @@ use Rattle.verse_grammar.specs.Symbols.{typed_value, an_if, taken, postfix_tail,
 use Rattle.verse_grammar.proofs.SpelledRanks.{at_rank, postfix_rank, chain_rank, comparison_rank, assign_rank, not_below, not_above}
 use Rattle.verse_grammar.proofs.SpelledFirsts.{opens, closed_opens, pair_row_opens, given_row_opens}
 use Rattle.verse_grammar.proofs.SpelledValues.{v_typed, v_tree, v_trees, v_after, v_holes, v_givens, v_pairs, Gives}
-use Rattle.verse_grammar.proofs.SpelledPrimary.{case_integer, case_character, case_text, case_truth, case_falsehood, case_this, case_array, case_mapping, case_option, case_logic, case_event, case_each, case_turns, case_scope, case_branch, case_sync, case_race, case_rush, case_spawn, case_text_holes, case_name_alone, case_instance, case_brackets, case_tuple, case_cases, case_sleep, case_sleep_forever, case_integer_pattern, case_character_pattern, case_text_pattern, case_truth_pattern, case_falsehood_pattern, case_any_pattern, case_enum_pattern, case_minus_pattern}
-use Rattle.verse_grammar.proofs.SpelledLevels.{case_block, case_part_defer, case_part_stmt, case_body_block, case_body_expr, case_expr_if, case_expr_or, case_or_chain, case_and_chain, case_sum_chain, case_product_chain, case_postfix_chain, case_not_word, case_not_comparison, case_minus_mark, case_minus_postfix, case_comparison_sum, case_comparison_two, case_chain_end, case_chain_more, case_postfix_end, case_postfix_call, case_postfix_index, case_postfix_member, case_postfix_query, case_row_end, case_row_more, case_closed, case_until_none, case_until_some, case_clauses, case_hole_end, case_hole_more, case_pair, case_pairs_end, case_pairs_more, case_no_pairs, case_some_pairs, case_given, case_givens_end, case_givens_more, case_no_givens, case_some_givens, case_taken_then, case_taken_block, case_choice_alone, case_choice, ChainGives, PostfixGives, RowGives, ClausesGive, HolesGive, PairsGive, GivensGive}
-use Rattle.verse_grammar.proofs.SpelledStmts.{case_expr, case_stmt_definition, case_typed_value, case_stmt_typed, case_stmt_variable, case_assignment, case_returned, case_returned_unit, case_left_loop, case_elements, case_entries, case_range, case_clause_definition, case_arm, ControlGives}
+use Rattle.verse_grammar.proofs.SpelledPrimary.{case_integer, case_character, case_text, case_truth, case_falsehood, case_this, case_array, case_mapping, case_option, case_logic, case_event, case_for_form, case_loop_form, case_block_form, case_branch, case_sync, case_race, case_rush, case_spawn, case_text_holes, case_name_alone, case_instance, case_brackets, case_tuple, case_cases, case_sleep, case_sleep_forever, case_integer_pattern, case_character_pattern, case_text_pattern, case_truth_pattern, case_falsehood_pattern, case_any_pattern, case_enum_pattern, case_minus_pattern}
+use Rattle.verse_grammar.proofs.SpelledLevels.{case_block, case_part_defer, case_part_stmt, case_body_block, case_body_expr, case_expr_if, case_expr_or, case_or_chain, case_and_chain, case_sum_chain, case_product_chain, case_postfix_chain, case_not_word, case_not_comparison, case_minus_mark, case_minus_postfix, case_comparison_sum, case_comparison_two, case_chain_end, case_chain_more, case_postfix_end, case_postfix_call, case_postfix_index, case_postfix_member, case_postfix_query, case_row_end, case_row_more, case_closed, case_until_none, case_until_some, case_clauses, case_hole_end, case_hole_more, case_pair, case_pairs_end, case_pairs_more, case_no_pairs, case_some_pairs, case_given, case_givens_end, case_givens_more, case_no_givens, case_some_givens, case_taken_then, case_taken_block, case_if_alone, case_if_else, ChainGives, PostfixGives, RowGives, ClausesGive, HolesGive, PairsGive, GivensGive}
+use Rattle.verse_grammar.proofs.SpelledStmts.{case_expr, case_stmt_definition, case_typed_value, case_stmt_typed, case_stmt_variable, case_assignment, case_returned, case_returned_unit, case_break_form, case_elements, case_entries, case_range, case_clause_definition, case_arm, ControlGives}
 use Rattle.verse_grammar.proofs.SpelledTypes.{spelled_type, spelled_bracket_type}
 
 other_ahead : (j c s : TokKind) → j ≡ c → c ≢ s → Some j ≢ Some s
@@ -81,8 +81,8 @@ block_first : {b : List ℕ} {ks rest : List Tok} {e : Tree} → Reads b p.Block
 block_first (x.Reads.block h u) = ap Some h
 
 if_first : {b : List ℕ} {ks rest : List Tok} {e : Tree} → IsIf b ks e rest → ahead ks ≡ Some (word w.If)
-if_first (x.IsIf.choice_alone h ho c e) = ap Some h
-if_first (x.IsIf.choice h ho c e hq d) = ap Some h
+if_first (x.IsIf.if_alone h ho c e) = ap Some h
+if_first (x.IsIf.if_else h ho c e hq d) = ap Some h
 
 typed_first : {b : List ℕ} {ks rest : List Tok} {u : Written} {e : Tree} → TypedValue b ks u e rest → ahead ks ≡ Some (mark m.Colon)
 typed_first (x.TypedValue.typed_value h d hq e) = ap Some h
@@ -129,9 +129,9 @@ mutual
   spelled (x.Reads.option h0 h1 h2) f = case_option h0 h1 (spelled_closed h2 fits_stmt)
   spelled (x.Reads.logic h0 h1 h2) f = case_logic h0 h1 (spelled_closed h2 fits_stmt)
   spelled (x.Reads.event h0 h1 h2 h3) f = case_event h0 (spelled_bracket_type h1) h2 h3
-  spelled (x.Reads.each h0 h1 h2 h3) f = case_each h0 h1 (spelled_clauses h2) (spelled h3 (omega arith))
-  spelled (x.Reads.turns h0 h1) f = case_turns h0 (spelled h1 (omega arith))
-  spelled (x.Reads.scope h0 h1) f = case_scope h0 (spelled h1 (omega arith))
+  spelled (x.Reads.for_form h0 h1 h2 h3) f = case_for_form h0 h1 (spelled_clauses h2) (spelled h3 (omega arith))
+  spelled (x.Reads.loop_form h0 h1) f = case_loop_form h0 (spelled h1 (omega arith))
+  spelled (x.Reads.block_form h0 h1) f = case_block_form h0 (spelled h1 (omega arith))
   spelled (x.Reads.branch h0 h1) f = case_branch h0 (spelled h1 (omega arith))
   spelled (x.Reads.sync h0 h1 h2) f = case_sync h0 h1 (spelled_until h2 fits_stmt (omega arith))
   spelled (x.Reads.race h0 h1 h2) f = case_race h0 h1 (spelled_until h2 fits_stmt (omega arith))
@@ -166,11 +166,11 @@ mutual
   spelled_control (x.Control.assignment h0 h1 h2 h3) f = case_assignment h0 (spelled h1 (assign_rank _ _ h2)) h2 (spelled h3 (omega arith))
   spelled_control (x.Control.returned h0 h1) f = case_returned h0 (opens h1) (spelled h1 (omega arith))
   spelled_control (x.Control.returned_unit h0) f = case_returned_unit h0 f
-  spelled_control (x.Control.left_loop h0) f = case_left_loop h0
+  spelled_control (x.Control.break_form h0) f = case_break_form h0
 
   spelled_if : {b : List ℕ} {ks rest : List Tok} {e : Tree} → IsIf b ks e rest → 8 ≤ rank_ahead (ahead rest) → Gives b an_if ks (v_tree e) rest
-  spelled_if (x.IsIf.choice_alone h0 h1 h2 h3) f = case_choice_alone h0 h1 (spelled_closed h2 fits_conditions) (spelled_taken h3 (omega arith)) (not_below 8 _ (word w.Else) f (omega arith))
-  spelled_if (x.IsIf.choice h0 h1 h2 h3 h4 h5) f = case_choice h0 h1 (spelled_closed h2 fits_conditions) (spelled_taken h3 (at_rank _ _ _ h4 (omega arith))) h4 (spelled h5 f)
+  spelled_if (x.IsIf.if_alone h0 h1 h2 h3) f = case_if_alone h0 h1 (spelled_closed h2 fits_conditions) (spelled_taken h3 (omega arith)) (not_below 8 _ (word w.Else) f (omega arith))
+  spelled_if (x.IsIf.if_else h0 h1 h2 h3 h4 h5) f = case_if_else h0 h1 (spelled_closed h2 fits_conditions) (spelled_taken h3 (at_rank _ _ _ h4 (omega arith))) h4 (spelled h5 f)
 
   spelled_taken : {b : List ℕ} {ks rest : List Tok} {e : Tree} → Taken b ks e rest → 7 ≤ rank_ahead (ahead rest) → Gives b taken ks (v_tree e) rest
   spelled_taken (x.Taken.taken_then h0 h1) f = case_taken_then h0 (spelled h1 f)

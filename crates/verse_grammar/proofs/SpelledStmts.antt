@@ -291,7 +291,7 @@ set_stmt h d = gives_takes {r = phrase p.Stmt} {Ys = rule set_rest ∷ []} (rw h
 return_stmt : {b : List ℕ} {k : Tok} {ks rest : List Tok} {s : Shape} → k.kind ≡ word w.Return → Gives b return_value ks (v_shape s) rest → Gives b (phrase p.Stmt) (k ∷ ks) (v_tree (at k s)) rest
 return_stmt h d = gives_takes {r = phrase p.Stmt} {Ys = rule return_value ∷ []} (rw h refl) (gives_rule d gives_none) (rw h refl)
 
-break_stmt : {b : List ℕ} {k : Tok} {rest : List Tok} → k.kind ≡ word w.Break → Gives b (phrase p.Stmt) (k ∷ rest) (v_tree (at k t.Shape.left_loop)) rest
+break_stmt : {b : List ℕ} {k : Tok} {rest : List Tok} → k.kind ≡ word w.Break → Gives b (phrase p.Stmt) (k ∷ rest) (v_tree (at k t.Shape.break_form)) rest
 break_stmt h = gives_takes {r = phrase p.Stmt} {Ys = []} (rw h refl) gives_none (rw h refl)
 
 set_clause : {b : List ℕ} {k : Tok} {ks rest : List Tok} {s : Shape} → k.kind ≡ word w.Set → Gives b set_rest ks (v_shape s) rest → Gives b (phrase p.Clause) (k ∷ ks) (v_tree (at k s)) rest
@@ -300,7 +300,7 @@ set_clause h d = gives_takes {r = phrase p.Clause} {Ys = rule set_rest ∷ []} (
 return_clause : {b : List ℕ} {k : Tok} {ks rest : List Tok} {s : Shape} → k.kind ≡ word w.Return → Gives b return_value ks (v_shape s) rest → Gives b (phrase p.Clause) (k ∷ ks) (v_tree (at k s)) rest
 return_clause h d = gives_takes {r = phrase p.Clause} {Ys = rule return_value ∷ []} (rw h refl) (gives_rule d gives_none) (rw h refl)
 
-break_clause : {b : List ℕ} {k : Tok} {rest : List Tok} → k.kind ≡ word w.Break → Gives b (phrase p.Clause) (k ∷ rest) (v_tree (at k t.Shape.left_loop)) rest
+break_clause : {b : List ℕ} {k : Tok} {rest : List Tok} → k.kind ≡ word w.Break → Gives b (phrase p.Clause) (k ∷ rest) (v_tree (at k t.Shape.break_form)) rest
 break_clause h = gives_takes {r = phrase p.Clause} {Ys = []} (rw h refl) gives_none (rw h refl)
 
 -- both at once
@@ -318,8 +318,8 @@ case_returned {ks = ks} h o d = record { stmt = return_stmt h (returned_gives (a
 pub case_returned_unit : {b : List ℕ} {k : Tok} {rest : List Tok} → k.kind ≡ word w.Return → 9 ≤ rank_ahead (ahead rest) → ControlGives b (k ∷ rest) (at k t.Shape.returned_unit) rest
 case_returned_unit {rest = rest} h l = record { stmt = return_stmt h (unit_gives (no_expr rest l)); clause = return_clause h (unit_gives (no_expr rest l)) }
 
-pub case_left_loop : {b : List ℕ} {k : Tok} {rest : List Tok} → k.kind ≡ word w.Break → ControlGives b (k ∷ rest) (at k t.Shape.left_loop) rest
-case_left_loop h = record { stmt = break_stmt h; clause = break_clause h }
+pub case_break_form : {b : List ℕ} {k : Tok} {rest : List Tok} → k.kind ≡ word w.Break → ControlGives b (k ∷ rest) (at k t.Shape.break_form) rest
+case_break_form h = record { stmt = break_stmt h; clause = break_clause h }
 
 -- a generator, as such and as a clause
 pub record GeneratorGives (b : List ℕ) (ks : List Tok) (e : Tree) (rest : List Tok) : Type 0 where

@@ -288,7 +288,7 @@ stmt_value b (Some stmt.Name) k vs = as_named (v0 vs) k
 stmt_value b (Some stmt.Var) k vs = at k (t.Shape.variable (tok_name b (v0 vs)) (typed_as (v1 vs)) (typed_value_of (v1 vs)))
 stmt_value b (Some stmt.Set) k vs = at k (as_shape (v0 vs))
 stmt_value b (Some stmt.Return) k vs = at k (as_shape (v0 vs))
-stmt_value b (Some stmt.Break) k vs = at k t.Shape.left_loop
+stmt_value b (Some stmt.Break) k vs = at k t.Shape.break_form
 
 abbrev pub round_value : Tok → Tree → Option (List Tree) → Tree
 round_value k e None = e
@@ -310,9 +310,9 @@ primary_value b (Some primary.Map) k vs = at k (t.Shape.mapping (pairs (as_pairs
 primary_value b (Some primary.Option) k vs = at k (t.Shape.option (trees (as_trees (v1 vs))))
 primary_value b (Some primary.Logic) k vs = at k (t.Shape.logic (trees (as_trees (v1 vs))))
 primary_value b (Some primary.Event) k vs = event_at k (as_maybe_type (v0 vs))
-primary_value b (Some primary.For) k vs = at k (t.Shape.each (trees (as_trees (v1 vs))) (as_tree (v2 vs)))
-primary_value b (Some primary.Loop) k vs = at k (t.Shape.turns (as_tree (v0 vs)))
-primary_value b (Some primary.Block) k vs = at k (t.Shape.scope (as_tree (v0 vs)))
+primary_value b (Some primary.For) k vs = at k (t.Shape.for_form (trees (as_trees (v1 vs))) (as_tree (v2 vs)))
+primary_value b (Some primary.Loop) k vs = at k (t.Shape.loop_form (as_tree (v0 vs)))
+primary_value b (Some primary.Block) k vs = at k (t.Shape.block_form (as_tree (v0 vs)))
 primary_value b (Some primary.Branch) k vs = at k (t.Shape.branch (as_tree (v0 vs)))
 primary_value b (Some primary.Sync) k vs = at k (t.Shape.sync (trees (as_trees (v1 vs))))
 primary_value b (Some primary.Race) k vs = at k (t.Shape.race (trees (as_trees (v1 vs))))
@@ -433,8 +433,8 @@ arm_value [] e f = no_tree
 arm_value (k ∷ ks) e f = at k (t.Shape.arm e f)
 
 abbrev pub if_value : Val → List Tree → Tree → Option Tree → Tree
-if_value k cs e None = at_tok k (t.Shape.choice_alone (trees cs) e)
-if_value k cs e (Some f) = at_tok k (t.Shape.choice (trees cs) e f)
+if_value k cs e None = at_tok k (t.Shape.if_alone (trees cs) e)
+if_value k cs e (Some f) = at_tok k (t.Shape.if_else (trees cs) e f)
 
 -- a name and the tails behind it
 abbrev pub by_name : List Val → Tok → Tree

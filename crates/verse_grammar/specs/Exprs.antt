@@ -116,12 +116,12 @@ mutual
         Reads b p.Primary (k ∷ o ∷ ks) (at k (t.Shape.logic (trees es))) rest
     event : {k o c : Tok} {ks rest : List Tok} {u : Option Written} → primary_start k.kind ≡ Some primary.Event → BracketType b ks u (o ∷ c ∷ rest) → o.kind ≡ tok.Open → c.kind ≡ tok.Close →
         Reads b p.Primary (k ∷ ks) (event_at k u) rest
-    each : {k o : Tok} {ks ls rest : List Tok} {cs : List Tree} {e : Tree} → primary_start k.kind ≡ Some primary.For → o.kind ≡ mark m.RoundOpen → Clauses b ks cs ls → Reads b p.Block ls e rest →
-        Reads b p.Primary (k ∷ o ∷ ks) (at k (t.Shape.each (trees cs) e)) rest
-    turns : {k : Tok} {ks rest : List Tok} {e : Tree} → primary_start k.kind ≡ Some primary.Loop → Reads b p.Block ks e rest →
-        Reads b p.Primary (k ∷ ks) (at k (t.Shape.turns e)) rest
-    scope : {k : Tok} {ks rest : List Tok} {e : Tree} → primary_start k.kind ≡ Some primary.Block → Reads b p.Block ks e rest →
-        Reads b p.Primary (k ∷ ks) (at k (t.Shape.scope e)) rest
+    for_form : {k o : Tok} {ks ls rest : List Tok} {cs : List Tree} {e : Tree} → primary_start k.kind ≡ Some primary.For → o.kind ≡ mark m.RoundOpen → Clauses b ks cs ls → Reads b p.Block ls e rest →
+        Reads b p.Primary (k ∷ o ∷ ks) (at k (t.Shape.for_form (trees cs) e)) rest
+    loop_form : {k : Tok} {ks rest : List Tok} {e : Tree} → primary_start k.kind ≡ Some primary.Loop → Reads b p.Block ks e rest →
+        Reads b p.Primary (k ∷ ks) (at k (t.Shape.loop_form e)) rest
+    block_form : {k : Tok} {ks rest : List Tok} {e : Tree} → primary_start k.kind ≡ Some primary.Block → Reads b p.Block ks e rest →
+        Reads b p.Primary (k ∷ ks) (at k (t.Shape.block_form e)) rest
     branch : {k : Tok} {ks rest : List Tok} {e : Tree} → primary_start k.kind ≡ Some primary.Branch → Reads b p.Block ks e rest →
         Reads b p.Primary (k ∷ ks) (at k (t.Shape.branch e)) rest
     sync : {k o : Tok} {ks rest : List Tok} {es : List Tree} → primary_start k.kind ≡ Some primary.Sync → o.kind ≡ tok.Open → Until b p.Stmt tok.Sep tok.Close ks es rest →
@@ -177,14 +177,14 @@ mutual
         Control b (k ∷ ks) (at k (t.Shape.assignment a e f)) rest
     returned : {k : Tok} {ks rest : List Tok} {e : Tree} → k.kind ≡ word w.Return → Reads b p.Expr ks e rest → Control b (k ∷ ks) (at k (t.Shape.returned e)) rest
     returned_unit : {k : Tok} {rest : List Tok} → k.kind ≡ word w.Return → Control b (k ∷ rest) (at k t.Shape.returned_unit) rest
-    left_loop : {k : Tok} {rest : List Tok} → k.kind ≡ word w.Break → Control b (k ∷ rest) (at k t.Shape.left_loop) rest
+    break_form : {k : Tok} {rest : List Tok} → k.kind ≡ word w.Break → Control b (k ∷ rest) (at k t.Shape.break_form) rest
 
   -- `if`
   pub data IsIf (b : List ℕ) : List Tok → Tree → List Tok → Type 0 where
-    choice_alone : {k o : Tok} {ks ls rest : List Tok} {cs : List Tree} {e : Tree} → k.kind ≡ word w.If → o.kind ≡ mark m.RoundOpen → Closed b p.Stmt (mark m.Comma) (mark m.RoundClose) ks cs ls → Taken b ls e rest →
-        IsIf b (k ∷ o ∷ ks) (at k (t.Shape.choice_alone (trees cs) e)) rest
-    choice : {k o q : Tok} {ks ls ms rest : List Tok} {cs : List Tree} {e f : Tree} → k.kind ≡ word w.If → o.kind ≡ mark m.RoundOpen → Closed b p.Stmt (mark m.Comma) (mark m.RoundClose) ks cs ls → Taken b ls e (q ∷ ms) → q.kind ≡ word w.Else → Reads b p.Body ms f rest →
-        IsIf b (k ∷ o ∷ ks) (at k (t.Shape.choice (trees cs) e f)) rest
+    if_alone : {k o : Tok} {ks ls rest : List Tok} {cs : List Tree} {e : Tree} → k.kind ≡ word w.If → o.kind ≡ mark m.RoundOpen → Closed b p.Stmt (mark m.Comma) (mark m.RoundClose) ks cs ls → Taken b ls e rest →
+        IsIf b (k ∷ o ∷ ks) (at k (t.Shape.if_alone (trees cs) e)) rest
+    if_else : {k o q : Tok} {ks ls ms rest : List Tok} {cs : List Tree} {e f : Tree} → k.kind ≡ word w.If → o.kind ≡ mark m.RoundOpen → Closed b p.Stmt (mark m.Comma) (mark m.RoundClose) ks cs ls → Taken b ls e (q ∷ ms) → q.kind ≡ word w.Else → Reads b p.Body ms f rest →
+        IsIf b (k ∷ o ∷ ks) (at k (t.Shape.if_else (trees cs) e f)) rest
 
   -- the part of an `if` that is taken where its conditions hold
   pub data Taken (b : List ℕ) : List Tok → Tree → List Tok → Type 0 where

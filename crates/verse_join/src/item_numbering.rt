@@ -2,26 +2,32 @@
 
 ghost use Rattle.std.specs.Prelude.{◌≡◌, ◌≤◌, ◌+◌, map, IfOk};
 ghost use Rattle.std.specs.Option.{option_map};
+ghost use Rattle.verse_tree.specs.ItemTree as t;
 ghost use Rattle.verse_tree.specs.View.{tree_of};
 ghost use Rattle.verse_tree.specs.ItemView.{using_of, enum_of, field_of, param_of, fun_of, member_of, class_of, item_of};
 ghost use Rattle.verse_tree.specs.Numbering.{list_nodes, list_numbered, default_nodes, default_numbered, using_numbered, enum_numbered, field_nodes, field_numbered, param_nodes, param_numbered, fun_nodes, fun_numbered, member_nodes, member_numbered, class_nodes, class_numbered, item_nodes, item_numbered};
 
 use crate::copies::{copied, copied_names, copied_option, copied_path, copied_specs};
 use crate::numbering::number;
-use crate::type_numbering::{number_held_type, number_type};
-use sqlite_items::Items;
+use crate::type_numbering::number_type;
 use std::alloc::Global;
+use verse_base::places::Place;
 use verse_base::refusals::Memory;
+use verse_handles::funs::{FunTree, Head, ParamTree, ParamTrees};
+use verse_handles::items::{ItemTree, ItemTrees};
+use verse_handles::members::{MemberTree, MemberTrees, member_field};
+use verse_handles::trees::Tree;
 use verse_tree::exprs::Expr;
-use verse_tree::items::{ClassItem, EnumItem, Field, Fun, Item, Member, Param, Using};
+use verse_tree::items::{ClassItem, EnumItem, Field, Fun, Item, Member, Param, Spec, Using};
+use verse_tree::names::Name;
 
 /// A copy of the items with their nodes numbered from `next` on, and the number behind the last.
-pub fn number_items(alloc: Global, parts: &[Item], next: u32) -> Result<(Items<Item>, u32), Memory>
+pub fn number_items(alloc: Global, parts: &[Item], next: u32) -> Result<(ItemTrees, u32), Memory>
     requires fits { next + list_nodes item_nodes (map item_of parts.now) ≤ 4294967295 }
     ensures numbered { IfOk result (λ r. map item_of r.0 ≡ list_numbered item_numbered item_nodes (map item_of parts.now) next) }
     ensures behind { IfOk result (λ r. r.1 ≡ next + list_nodes item_nodes (map item_of parts.now)) }
 {
-    let mut done = Items::new(alloc);
+    let mut done = ItemTrees::new(alloc);
     let mut at = next;
     'parts: for part in parts {
         let (part, behind) = number_item(alloc, part, at)?;
@@ -31,82 +37,81 @@ pub fn number_items(alloc: Global, parts: &[Item], next: u32) -> Result<(Items<I
     Ok((done, at))
 }
 
-fn number_item(alloc: Global, item: &Item, next: u32) -> Result<(Item, u32), Memory>
+fn number_item(alloc: Global, item: &Item, next: u32) -> Result<(ItemTree, u32), Memory>
     requires fits { next + item_nodes (item_of item.now) ≤ 4294967295 }
     ensures numbered { IfOk result (λ r. item_of r.0 ≡ item_numbered (item_of item.now) next) }
     ensures behind { IfOk result (λ r. r.1 ≡ next + item_nodes (item_of item.now)) }
 {
     match item {
-        Item::Using(using) => Ok((Item::Using(number_using(alloc, using, next)?), next + 1)),
-        Item::Enum(item) => Ok((Item::Enum(number_enum(alloc, item, next)?), next + 1)),
-        Item::Class(class) => {
-            let (class, behind) = number_class(alloc, class, next)?;
-            Ok((Item::Class(class), behind))
-        }
+        Item::Using(using) => Ok((number_using(alloc, using, next)?, next + 1)),
+        Item::Enum(item) => Ok((number_enum(alloc, item, next)?, next + 1)),
+        Item::Class(class) => number_class(alloc, class, next),
         Item::Fun(fun) => {
             let (fun, behind) = number_fun(alloc, fun, next)?;
-            Ok((Item::Fun(fun), behind))
+            Ok((ItemTree::function(fun), behind))
         }
     }
 }
 
-fn number_using(alloc: Global, item: &Using, node: u32) -> Result<Using, Memory>
-    ensures { IfOk result (λ r. using_of r ≡ using_numbered (using_of item.now) node) }
+/// A copy of what a definition begins with, with the number of its node.
+fn head(alloc: Global, node: u32, place: Place, name: &Name, specs: &[Spec]) -> Result<Head, Memory>
+    ensures node { IfOk result (λ r. r.node ≡ node) }
+    ensures place { IfOk result (λ r. r.place ≡ place) }
+    ensures name { IfOk result (λ r. r.name ≡ name.now) }
+    ensures specs { IfOk result (λ r. r.specs ≡ specs.now) }
 {
-    let place = item.place;
-    let path = copied_path(alloc, item.path.as_slice())?;
-    Ok(Using { node, place, path })
-}
-
-fn number_enum(alloc: Global, item: &EnumItem, node: u32) -> Result<EnumItem, Memory>
-    ensures { IfOk result (λ r. enum_of r ≡ enum_numbered (enum_of item.now) node) }
-{
-    let place = item.place;
-    let name = copied(alloc, &item.name)?;
-    let specs = copied_specs(alloc, item.specs.as_slice())?;
-    let values = copied_names(alloc, item.values.as_slice())?;
-    Ok(EnumItem {
+    let name = copied(alloc, name)?;
+    let specs = copied_specs(alloc, specs)?;
+    Ok(Head {
         node,
         place,
         name,
         specs,
-        values,
     })
 }
 
-fn number_class(alloc: Global, class: &ClassItem, next: u32) -> Result<(ClassItem, u32), Memory>
+fn number_using(alloc: Global, item: &Using, node: u32) -> Result<ItemTree, Memory>
+    ensures { IfOk result (λ r. item_of r ≡ t.ItemTree.using (using_numbered (using_of item.now) node)) }
+{
+    let path = copied_path(alloc, item.path.as_slice())?;
+    Ok(ItemTree::using(node, item.place, path))
+}
+
+fn number_enum(alloc: Global, item: &EnumItem, node: u32) -> Result<ItemTree, Memory>
+    ensures { IfOk result (λ r. item_of r ≡ t.ItemTree.enumeration (enum_numbered (enum_of item.now) node)) }
+{
+    let values = copied_names(alloc, item.values.as_slice())?;
+    let head = head(alloc, node, item.place, &item.name, item.specs.as_slice())?;
+    Ok(ItemTree::enumeration(head, values))
+}
+
+fn number_class(alloc: Global, class: &ClassItem, next: u32) -> Result<(ItemTree, u32), Memory>
     requires fits { next + class_nodes (class_of class.now) ≤ 4294967295 }
-    ensures numbered { IfOk result (λ r. class_of r.0 ≡ class_numbered (class_of class.now) next) }
+    ensures numbered { IfOk result (λ r. item_of r.0 ≡ t.ItemTree.class (class_numbered (class_of class.now) next)) }
     ensures behind { IfOk result (λ r. r.1 ≡ next + class_nodes (class_of class.now)) }
 {
-    let place = class.place;
-    let name = copied(alloc, &class.name)?;
-    let specs = copied_specs(alloc, class.specs.as_slice())?;
     let class_specs = copied_specs(alloc, class.class_specs.as_slice())?;
     let parent = copied_option(alloc, &class.parent)?;
     let (members, node) = number_members(alloc, class.members.as_slice(), next)?;
-    let class = ClassItem {
+    let head = head(
+        alloc,
         node,
-        place,
-        name,
-        specs,
-        class_specs,
-        parent,
-        members,
-    };
-    Ok((class, node + 1))
+        class.place,
+        &class.name,
+        class.specs.as_slice(),
+    )?;
+    Ok((
+        ItemTree::class(head, class_specs, parent, members),
+        node + 1,
+    ))
 }
 
-fn number_members(
-    alloc: Global,
-    parts: &[Member],
-    next: u32,
-) -> Result<(Items<Member>, u32), Memory>
+fn number_members(alloc: Global, parts: &[Member], next: u32) -> Result<(MemberTrees, u32), Memory>
     requires fits { next + list_nodes member_nodes (map member_of parts.now) ≤ 4294967295 }
     ensures numbered { IfOk result (λ r. map member_of r.0 ≡ list_numbered member_numbered member_nodes (map member_of parts.now) next) }
     ensures behind { IfOk result (λ r. r.1 ≡ next + list_nodes member_nodes (map member_of parts.now)) }
 {
-    let mut done = Items::new(alloc);
+    let mut done = MemberTrees::new(alloc);
     let mut at = next;
     'parts: for part in parts {
         let (part, behind) = number_member(alloc, part, at)?;
@@ -116,54 +121,46 @@ fn number_members(
     Ok((done, at))
 }
 
-fn number_member(alloc: Global, member: &Member, next: u32) -> Result<(Member, u32), Memory>
+fn number_member(alloc: Global, member: &Member, next: u32) -> Result<(MemberTree, u32), Memory>
     requires fits { next + member_nodes (member_of member.now) ≤ 4294967295 }
     ensures numbered { IfOk result (λ r. member_of r.0 ≡ member_numbered (member_of member.now) next) }
     ensures behind { IfOk result (λ r. r.1 ≡ next + member_nodes (member_of member.now)) }
 {
     match member {
-        Member::Field(field) => {
-            let (field, behind) = number_field(alloc, field, next)?;
-            Ok((Member::Field(field), behind))
-        }
+        Member::Field(field) => number_field(alloc, field, next),
         Member::Method(fun) => {
             let (fun, behind) = number_fun(alloc, fun, next)?;
-            Ok((Member::Method(fun), behind))
+            Ok((MemberTree::method(fun), behind))
         }
     }
 }
 
-fn number_field(alloc: Global, field: &Field, next: u32) -> Result<(Field, u32), Memory>
+fn number_field(alloc: Global, field: &Field, next: u32) -> Result<(MemberTree, u32), Memory>
     requires fits { next + field_nodes (field_of field.now) ≤ 4294967295 }
-    ensures numbered { IfOk result (λ r. field_of r.0 ≡ field_numbered (field_of field.now) next) }
+    ensures numbered { IfOk result (λ r. member_of r.0 ≡ t.MemberTree.field (field_numbered (field_of field.now) next)) }
     ensures behind { IfOk result (λ r. r.1 ≡ next + field_nodes (field_of field.now)) }
 {
-    let place = field.place;
-    let is_var = field.is_var;
-    let var_specs = copied_specs(alloc, field.var_specs.as_slice())?;
-    let name = copied(alloc, &field.name)?;
-    let specs = copied_specs(alloc, field.specs.as_slice())?;
-    let (ty, middle) = number_held_type(alloc, &field.ty, next)?;
+    let (ty, middle) = number_type(alloc, &field.ty, next)?;
     let (default, node) = number_default(alloc, &field.default, middle)?;
-    let ty = ty.into_inner();
-    let field = Field {
+    let var_specs = copied_specs(alloc, field.var_specs.as_slice())?;
+    let head = head(
+        alloc,
         node,
-        place,
-        is_var,
-        var_specs,
-        name,
-        specs,
-        ty,
-        default,
-    };
-    Ok((field, node + 1))
+        field.place,
+        &field.name,
+        field.specs.as_slice(),
+    )?;
+    Ok((
+        member_field(head, field.is_var, var_specs, ty, default),
+        node + 1,
+    ))
 }
 
 fn number_default(
     alloc: Global,
     default: &Option<Expr>,
     next: u32,
-) -> Result<(Option<Expr>, u32), Memory>
+) -> Result<(Option<Tree>, u32), Memory>
     requires fits { next + default_nodes (option_map tree_of default.now) ≤ 4294967295 }
     ensures numbered { IfOk result (λ r. option_map tree_of r.0 ≡ default_numbered (option_map tree_of default.now) next) }
     ensures behind { IfOk result (λ r. r.1 ≡ next + default_nodes (option_map tree_of default.now)) }
@@ -177,37 +174,25 @@ fn number_default(
     }
 }
 
-fn number_fun(alloc: Global, fun: &Fun, next: u32) -> Result<(Fun, u32), Memory>
+fn number_fun(alloc: Global, fun: &Fun, next: u32) -> Result<(FunTree, u32), Memory>
     requires fits { next + fun_nodes (fun_of fun.now) ≤ 4294967295 }
     ensures numbered { IfOk result (λ r. fun_of r.0 ≡ fun_numbered (fun_of fun.now) next) }
     ensures behind { IfOk result (λ r. r.1 ≡ next + fun_nodes (fun_of fun.now)) }
 {
-    let place = fun.place;
-    let name = copied(alloc, &fun.name)?;
-    let specs = copied_specs(alloc, fun.specs.as_slice())?;
-    let effects = copied_specs(alloc, fun.effects.as_slice())?;
     let (params, first) = number_params(alloc, fun.params.as_slice(), next)?;
-    let (ty, second) = number_held_type(alloc, &fun.result, first)?;
+    let (ty, second) = number_type(alloc, &fun.result, first)?;
     let (body, node) = number(alloc, &fun.body, second)?;
-    let fun = Fun {
-        node,
-        place,
-        name,
-        specs,
-        params,
-        effects,
-        result: ty.into_inner(),
-        body,
-    };
-    Ok((fun, node + 1))
+    let effects = copied_specs(alloc, fun.effects.as_slice())?;
+    let head = head(alloc, node, fun.place, &fun.name, fun.specs.as_slice())?;
+    Ok((FunTree::new(head, params, effects, ty, body), node + 1))
 }
 
-fn number_params(alloc: Global, parts: &[Param], next: u32) -> Result<(Items<Param>, u32), Memory>
+fn number_params(alloc: Global, parts: &[Param], next: u32) -> Result<(ParamTrees, u32), Memory>
     requires fits { next + list_nodes param_nodes (map param_of parts.now) ≤ 4294967295 }
     ensures numbered { IfOk result (λ r. map param_of r.0 ≡ list_numbered param_numbered param_nodes (map param_of parts.now) next) }
     ensures behind { IfOk result (λ r. r.1 ≡ next + list_nodes param_nodes (map param_of parts.now)) }
 {
-    let mut done = Items::new(alloc);
+    let mut done = ParamTrees::new(alloc);
     let mut at = next;
     'parts: for part in parts {
         let (part, behind) = number_param(alloc, part, at)?;
@@ -217,19 +202,12 @@ fn number_params(alloc: Global, parts: &[Param], next: u32) -> Result<(Items<Par
     Ok((done, at))
 }
 
-fn number_param(alloc: Global, param: &Param, next: u32) -> Result<(Param, u32), Memory>
+fn number_param(alloc: Global, param: &Param, next: u32) -> Result<(ParamTree, u32), Memory>
     requires fits { next + param_nodes (param_of param.now) ≤ 4294967295 }
     ensures numbered { IfOk result (λ r. param_of r.0 ≡ param_numbered (param_of param.now) next) }
     ensures behind { IfOk result (λ r. r.1 ≡ next + param_nodes (param_of param.now)) }
 {
-    let place = param.place;
-    let name = copied(alloc, &param.name)?;
     let (ty, node) = number_type(alloc, &param.ty, next)?;
-    let param = Param {
-        node,
-        place,
-        name,
-        ty,
-    };
-    Ok((param, node + 1))
+    let name = copied(alloc, &param.name)?;
+    Ok((ParamTree::new(node, param.place, name, ty), node + 1))
 }

@@ -13,6 +13,3 @@ mod numbering;
 mod type_numbering;
 
 pub use joining::join;
-
-#[cfg(test)]
-mod tests;

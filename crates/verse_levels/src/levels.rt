@@ -16,12 +16,13 @@ use crate::postfixes::postfix;
 use std::alloc::Global;
 use verse_grammar::phrases::Phrase;
 use verse_grammar::starts::{Fixed, comparison_at, product_operator, sum_operator};
+use verse_handles::trees::Tree;
 use verse_layout::toks::{Tok, TokKind};
 use verse_lex::tokens::{TokenKind, Word};
 use verse_nodes::operators;
 use verse_reading::nesting::Reader;
 use verse_reading::stops::{Stop, next, take};
-use verse_tree::exprs::{Comparison, Expr, Operator};
+use verse_tree::exprs::{Comparison, Operator};
 
 /// The operator with which a chain of this level goes on.
 fn chain_operator(level: Phrase, kind: TokKind) -> Option<Operator>
@@ -69,12 +70,12 @@ fn comparison_ahead(toks: &[Tok]) -> Option<(Comparison, Tok, &[Tok])>
 
 /// Operands that are joined to the tree so far, from the left.
 #[tactic(auto, using(verse_grammar::specs::Exprs::chain_none, verse_grammar::proofs::Going::goes_start, verse_grammar::proofs::Going::goes_eats, crate::proofs::Chains::stuck_chain, verse_grammar::proofs::Eating::eats_chain_tail_other))]
-pub fn chain_tail<'t, F: Fn(Global, &[u8], Phrase, &[Tok]) -> Result<(Expr, usize), Stop>>(
+pub fn chain_tail<'t, F: Fn(Global, &[u8], Phrase, &[Tok]) -> Result<(Tree, usize), Stop>>(
     reader: &Reader<'_, F>,
     level: Phrase,
-    left: Expr,
+    left: Tree,
     toks: &'t [Tok],
-) -> Result<(Expr, &'t [Tok]), Stop>
+) -> Result<(Tree, &'t [Tok]), Stop>
     requires nests { Nests reader.now.bytes.now reader.now.most (F.pre reader.now.nested) (F.post reader.now.nested) }
     requires fewer { length toks.now < reader.now.most }
     ensures spelled { IfOk result (λ r. Chain reader.now.bytes.now level (tree_of left) toks.now (tree_of r.0) r.1.now) }
@@ -94,10 +95,10 @@ pub fn chain_tail<'t, F: Fn(Global, &[u8], Phrase, &[Tok]) -> Result<(Expr, usiz
 
 /// `E or F`, and what binds closer.
 #[tactic(auto, using(verse_grammar::specs::Exprs::or_chain, verse_grammar::proofs::Eating::eats_or, verse_grammar::proofs::Sticking::sticks_or_1, verse_grammar::proofs::Sticking::sticks_or_2))]
-pub fn ors<'t, F: Fn(Global, &[u8], Phrase, &[Tok]) -> Result<(Expr, usize), Stop>>(
+pub fn ors<'t, F: Fn(Global, &[u8], Phrase, &[Tok]) -> Result<(Tree, usize), Stop>>(
     reader: &Reader<'_, F>,
     toks: &'t [Tok],
-) -> Result<(Expr, &'t [Tok]), Stop>
+) -> Result<(Tree, &'t [Tok]), Stop>
     requires nests { Nests reader.now.bytes.now reader.now.most (F.pre reader.now.nested) (F.post reader.now.nested) }
     requires within { length toks.now ≤ reader.now.most }
     ensures spelled { IfOk result (λ r. Reads reader.now.bytes.now Phrase.Or toks.now (tree_of r.0) r.1.now) }
@@ -111,10 +112,10 @@ pub fn ors<'t, F: Fn(Global, &[u8], Phrase, &[Tok]) -> Result<(Expr, usize), Sto
 
 /// `E and F`, and what binds closer.
 #[tactic(auto, using(verse_grammar::specs::Exprs::and_chain, verse_grammar::proofs::Eating::eats_and, verse_grammar::proofs::Sticking::sticks_and_1, verse_grammar::proofs::Sticking::sticks_and_2))]
-pub fn ands<'t, F: Fn(Global, &[u8], Phrase, &[Tok]) -> Result<(Expr, usize), Stop>>(
+pub fn ands<'t, F: Fn(Global, &[u8], Phrase, &[Tok]) -> Result<(Tree, usize), Stop>>(
     reader: &Reader<'_, F>,
     toks: &'t [Tok],
-) -> Result<(Expr, &'t [Tok]), Stop>
+) -> Result<(Tree, &'t [Tok]), Stop>
     requires nests { Nests reader.now.bytes.now reader.now.most (F.pre reader.now.nested) (F.post reader.now.nested) }
     requires within { length toks.now ≤ reader.now.most }
     ensures spelled { IfOk result (λ r. Reads reader.now.bytes.now Phrase.And toks.now (tree_of r.0) r.1.now) }
@@ -128,10 +129,10 @@ pub fn ands<'t, F: Fn(Global, &[u8], Phrase, &[Tok]) -> Result<(Expr, usize), St
 
 /// `E + F` and `E - F`, and what binds closer.
 #[tactic(auto, using(verse_grammar::specs::Exprs::sum_chain, verse_grammar::proofs::Eating::eats_sum, verse_grammar::proofs::Sticking::sticks_sum_1, verse_grammar::proofs::Sticking::sticks_sum_2))]
-pub fn sum<'t, F: Fn(Global, &[u8], Phrase, &[Tok]) -> Result<(Expr, usize), Stop>>(
+pub fn sum<'t, F: Fn(Global, &[u8], Phrase, &[Tok]) -> Result<(Tree, usize), Stop>>(
     reader: &Reader<'_, F>,
     toks: &'t [Tok],
-) -> Result<(Expr, &'t [Tok]), Stop>
+) -> Result<(Tree, &'t [Tok]), Stop>
     requires nests { Nests reader.now.bytes.now reader.now.most (F.pre reader.now.nested) (F.post reader.now.nested) }
     requires within { length toks.now ≤ reader.now.most }
     ensures spelled { IfOk result (λ r. Reads reader.now.bytes.now Phrase.Sum toks.now (tree_of r.0) r.1.now) }
@@ -145,10 +146,10 @@ pub fn sum<'t, F: Fn(Global, &[u8], Phrase, &[Tok]) -> Result<(Expr, usize), Sto
 
 /// `E * F` and `E / F`, and what binds closer.
 #[tactic(auto, using(verse_grammar::specs::Exprs::product_chain, verse_grammar::proofs::Eating::eats_product, verse_grammar::proofs::Sticking::sticks_product_1, verse_grammar::proofs::Sticking::sticks_product_2))]
-pub fn product<'t, F: Fn(Global, &[u8], Phrase, &[Tok]) -> Result<(Expr, usize), Stop>>(
+pub fn product<'t, F: Fn(Global, &[u8], Phrase, &[Tok]) -> Result<(Tree, usize), Stop>>(
     reader: &Reader<'_, F>,
     toks: &'t [Tok],
-) -> Result<(Expr, &'t [Tok]), Stop>
+) -> Result<(Tree, &'t [Tok]), Stop>
     requires nests { Nests reader.now.bytes.now reader.now.most (F.pre reader.now.nested) (F.post reader.now.nested) }
     requires within { length toks.now ≤ reader.now.most }
     ensures spelled { IfOk result (λ r. Reads reader.now.bytes.now Phrase.Product toks.now (tree_of r.0) r.1.now) }
@@ -162,10 +163,10 @@ pub fn product<'t, F: Fn(Global, &[u8], Phrase, &[Tok]) -> Result<(Expr, usize),
 
 /// `not E`, or a comparison.
 #[tactic(auto, using(verse_grammar::specs::Exprs::not_word, verse_grammar::specs::Exprs::not_comparison, verse_grammar::proofs::Eating::eats_not_at, verse_grammar::proofs::Eating::eats_not_other, verse_grammar::proofs::Sticking::sticks_not_at_1, verse_grammar::proofs::Sticking::sticks_not_other_1))]
-pub fn negated<'t, F: Fn(Global, &[u8], Phrase, &[Tok]) -> Result<(Expr, usize), Stop>>(
+pub fn negated<'t, F: Fn(Global, &[u8], Phrase, &[Tok]) -> Result<(Tree, usize), Stop>>(
     reader: &Reader<'_, F>,
     toks: &'t [Tok],
-) -> Result<(Expr, &'t [Tok]), Stop>
+) -> Result<(Tree, &'t [Tok]), Stop>
     requires nests { Nests reader.now.bytes.now reader.now.most (F.pre reader.now.nested) (F.post reader.now.nested) }
     requires within { length toks.now ≤ reader.now.most }
     ensures spelled { IfOk result (λ r. Reads reader.now.bytes.now Phrase.Not toks.now (tree_of r.0) r.1.now) }
@@ -184,10 +185,10 @@ pub fn negated<'t, F: Fn(Global, &[u8], Phrase, &[Tok]) -> Result<(Expr, usize),
 
 /// Two sums that are compared, or one.
 #[tactic(auto, using(crate::proofs::Comparing::compared_sums, verse_grammar::proofs::Eating::eats_comparison, verse_grammar::proofs::Sticking::sticks_comparison_1, verse_grammar::proofs::Sticking::sticks_comparison_2, verse_grammar::proofs::Sticking::sticks_comparison_tail_at_1))]
-pub fn comparison<'t, F: Fn(Global, &[u8], Phrase, &[Tok]) -> Result<(Expr, usize), Stop>>(
+pub fn comparison<'t, F: Fn(Global, &[u8], Phrase, &[Tok]) -> Result<(Tree, usize), Stop>>(
     reader: &Reader<'_, F>,
     toks: &'t [Tok],
-) -> Result<(Expr, &'t [Tok]), Stop>
+) -> Result<(Tree, &'t [Tok]), Stop>
     requires nests { Nests reader.now.bytes.now reader.now.most (F.pre reader.now.nested) (F.post reader.now.nested) }
     requires within { length toks.now ≤ reader.now.most }
     ensures spelled { IfOk result (λ r. Reads reader.now.bytes.now Phrase.Comparison toks.now (tree_of r.0) r.1.now) }
@@ -201,11 +202,11 @@ pub fn comparison<'t, F: Fn(Global, &[u8], Phrase, &[Tok]) -> Result<(Expr, usiz
 
 /// What a sum is compared with, if anything.
 #[tactic(auto, using(crate::specs::Compares::alone, crate::specs::Compares::with_another, verse_grammar::proofs::Eating::eats_comparison_tail_at, verse_grammar::proofs::Eating::eats_comparison_tail_other, verse_grammar::proofs::Sticking::sticks_comparison_tail_at_1))]
-pub fn comparison_tail<'t, F: Fn(Global, &[u8], Phrase, &[Tok]) -> Result<(Expr, usize), Stop>>(
+pub fn comparison_tail<'t, F: Fn(Global, &[u8], Phrase, &[Tok]) -> Result<(Tree, usize), Stop>>(
     reader: &Reader<'_, F>,
-    left: Expr,
+    left: Tree,
     toks: &'t [Tok],
-) -> Result<(Expr, &'t [Tok]), Stop>
+) -> Result<(Tree, &'t [Tok]), Stop>
     requires nests { Nests reader.now.bytes.now reader.now.most (F.pre reader.now.nested) (F.post reader.now.nested) }
     requires fewer { length toks.now < reader.now.most }
     ensures spelled { IfOk result (λ r. Compares reader.now.bytes.now (tree_of left) toks.now (tree_of r.0) r.1.now) }
@@ -227,10 +228,10 @@ pub fn comparison_tail<'t, F: Fn(Global, &[u8], Phrase, &[Tok]) -> Result<(Expr,
 
 /// `-E`, or a postfix.
 #[tactic(auto, using(verse_grammar::specs::Exprs::minus_mark, verse_grammar::specs::Exprs::minus_postfix, verse_grammar::proofs::Eating::eats_minus_at, verse_grammar::proofs::Eating::eats_minus_other, verse_grammar::proofs::Sticking::sticks_minus_at_1, verse_grammar::proofs::Sticking::sticks_minus_other_1))]
-pub fn negative<'t, F: Fn(Global, &[u8], Phrase, &[Tok]) -> Result<(Expr, usize), Stop>>(
+pub fn negative<'t, F: Fn(Global, &[u8], Phrase, &[Tok]) -> Result<(Tree, usize), Stop>>(
     reader: &Reader<'_, F>,
     toks: &'t [Tok],
-) -> Result<(Expr, &'t [Tok]), Stop>
+) -> Result<(Tree, &'t [Tok]), Stop>
     requires nests { Nests reader.now.bytes.now reader.now.most (F.pre reader.now.nested) (F.post reader.now.nested) }
     requires within { length toks.now ≤ reader.now.most }
     ensures spelled { IfOk result (λ r. Reads reader.now.bytes.now Phrase.Minus toks.now (tree_of r.0) r.1.now) }

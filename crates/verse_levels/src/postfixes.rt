@@ -13,28 +13,27 @@ ghost use Rattle.verse_reading.specs.Nests.{Nests};
 ghost use Rattle.verse_levels.specs.Postfixing.{OnePostfix, PostfixEats, PostfixSticks, joined};
 ghost use Rattle.verse_reading.specs.declared.stops.Stop.TheVariants as stop;
 
-use sqlite_items::Items;
 use std::alloc::Global;
 use verse_base::places::Place;
 use verse_base::refusals::Memory;
 use verse_grammar::phrases::Phrase;
 use verse_grammar::starts::{Fixed, PostfixStart, postfix_start};
+use verse_handles::trees::{Tree, Trees};
 use verse_layout::toks::Tok;
 use verse_nodes::operators;
 use verse_primary::primary::primary;
 use verse_reading::nesting::Reader;
 use verse_reading::spans::name_of;
 use verse_reading::stops::{Stop, next, take};
-use verse_tree::exprs::Expr;
 use verse_tree::names::Name;
 
 /// A postfix without the tree that it is put to.
 #[derive(Drop)]
 enum Suffix {
     /// `(E, F)`
-    Call(Items<Expr>),
+    Call(Trees),
     /// `[E, F]`
-    Index(Items<Expr>),
+    Index(Trees),
     /// `.F`
     Member(Name),
     /// `?`
@@ -52,10 +51,10 @@ fn postfix_ahead(toks: &[Tok]) -> Option<(PostfixStart, Tok, &[Tok])>
 
 /// A primary form with its postfixes.
 #[tactic(auto, using(verse_grammar::specs::Exprs::postfix_chain, verse_grammar::proofs::Eating::eats_postfix, verse_grammar::proofs::Sticking::sticks_postfix_1, verse_grammar::proofs::Sticking::sticks_postfix_2))]
-pub fn postfix<'t, F: Fn(Global, &[u8], Phrase, &[Tok]) -> Result<(Expr, usize), Stop>>(
+pub fn postfix<'t, F: Fn(Global, &[u8], Phrase, &[Tok]) -> Result<(Tree, usize), Stop>>(
     reader: &Reader<'_, F>,
     toks: &'t [Tok],
-) -> Result<(Expr, &'t [Tok]), Stop>
+) -> Result<(Tree, &'t [Tok]), Stop>
     requires nests { Nests reader.now.bytes.now reader.now.most (F.pre reader.now.nested) (F.post reader.now.nested) }
     requires within { length toks.now ≤ reader.now.most }
     ensures spelled { IfOk result (λ r. Reads reader.now.bytes.now Phrase.Postfix toks.now (tree_of r.0) r.1.now) }
@@ -69,11 +68,11 @@ pub fn postfix<'t, F: Fn(Global, &[u8], Phrase, &[Tok]) -> Result<(Expr, usize),
 
 /// The postfixes of a tree, from the left.
 #[tactic(auto, using(verse_grammar::specs::Exprs::postfix_none, verse_grammar::proofs::Going::goes_start, verse_grammar::proofs::Going::goes_eats, verse_grammar::proofs::Eating::eats_postfix_tail_other, crate::proofs::Postfixed::stuck_postfix))]
-pub fn postfix_tail<'t, F: Fn(Global, &[u8], Phrase, &[Tok]) -> Result<(Expr, usize), Stop>>(
+pub fn postfix_tail<'t, F: Fn(Global, &[u8], Phrase, &[Tok]) -> Result<(Tree, usize), Stop>>(
     reader: &Reader<'_, F>,
-    object: Expr,
+    object: Tree,
     toks: &'t [Tok],
-) -> Result<(Expr, &'t [Tok]), Stop>
+) -> Result<(Tree, &'t [Tok]), Stop>
     requires nests { Nests reader.now.bytes.now reader.now.most (F.pre reader.now.nested) (F.post reader.now.nested) }
     requires fewer { length toks.now < reader.now.most }
     ensures spelled { IfOk result (λ r. Postfixes reader.now.bytes.now (tree_of object) toks.now (tree_of r.0) r.1.now) }
@@ -92,7 +91,7 @@ pub fn postfix_tail<'t, F: Fn(Global, &[u8], Phrase, &[Tok]) -> Result<(Expr, us
 }
 
 /// The tree with a postfix, which begins at a place.
-fn joined(alloc: Global, place: Place, object: Expr, suffix: Suffix) -> Result<Expr, Memory>
+fn joined(alloc: Global, place: Place, object: Tree, suffix: Suffix) -> Result<Tree, Memory>
     ensures { IfOk result (λ r. tree_of r ≡ joined place (tree_of object) suffix) }
 {
     match suffix {
@@ -105,7 +104,7 @@ fn joined(alloc: Global, place: Place, object: Expr, suffix: Suffix) -> Result<E
 
 /// One postfix, behind its first tok.
 #[tactic(auto, using(crate::specs::Postfixing::one_query, crate::specs::Postfixing::eats_query))]
-fn suffix_behind<'t, F: Fn(Global, &[u8], Phrase, &[Tok]) -> Result<(Expr, usize), Stop>>(
+fn suffix_behind<'t, F: Fn(Global, &[u8], Phrase, &[Tok]) -> Result<(Tree, usize), Stop>>(
     reader: &Reader<'_, F>,
     start: PostfixStart,
     toks: &'t [Tok],
@@ -127,7 +126,7 @@ fn suffix_behind<'t, F: Fn(Global, &[u8], Phrase, &[Tok]) -> Result<(Expr, usize
 
 /// The arguments of a call, behind the opening bracket.
 #[tactic(auto, using(crate::specs::Postfixing::one_call, crate::specs::Postfixing::eats_call, crate::specs::Postfixing::sticks_call))]
-fn called<'t, F: Fn(Global, &[u8], Phrase, &[Tok]) -> Result<(Expr, usize), Stop>>(
+fn called<'t, F: Fn(Global, &[u8], Phrase, &[Tok]) -> Result<(Tree, usize), Stop>>(
     reader: &Reader<'_, F>,
     toks: &'t [Tok],
 ) -> Result<(Suffix, &'t [Tok]), Stop>
@@ -144,7 +143,7 @@ fn called<'t, F: Fn(Global, &[u8], Phrase, &[Tok]) -> Result<(Expr, usize), Stop
 
 /// The indices, behind the opening bracket.
 #[tactic(auto, using(crate::specs::Postfixing::one_index, crate::specs::Postfixing::eats_index, crate::specs::Postfixing::sticks_index))]
-fn indexed<'t, F: Fn(Global, &[u8], Phrase, &[Tok]) -> Result<(Expr, usize), Stop>>(
+fn indexed<'t, F: Fn(Global, &[u8], Phrase, &[Tok]) -> Result<(Tree, usize), Stop>>(
     reader: &Reader<'_, F>,
     toks: &'t [Tok],
 ) -> Result<(Suffix, &'t [Tok]), Stop>
@@ -161,7 +160,7 @@ fn indexed<'t, F: Fn(Global, &[u8], Phrase, &[Tok]) -> Result<(Expr, usize), Sto
 
 /// The name of a member, behind the dot.
 #[tactic(auto, using(crate::specs::Postfixing::one_member, crate::specs::Postfixing::eats_member, crate::specs::Postfixing::sticks_member))]
-fn member<'t, F: Fn(Global, &[u8], Phrase, &[Tok]) -> Result<(Expr, usize), Stop>>(
+fn member<'t, F: Fn(Global, &[u8], Phrase, &[Tok]) -> Result<(Tree, usize), Stop>>(
     reader: &Reader<'_, F>,
     toks: &'t [Tok],
 ) -> Result<(Suffix, &'t [Tok]), Stop>

@@ -5,96 +5,97 @@ ghost use Rattle.verse_tree.specs.Tree.{tree};
 ghost use Rattle.verse_tree.specs.Tree as t;
 ghost use Rattle.verse_tree.specs.View.{tree_of, trees};
 
-use crate::parts::{choosing, node, taking, two};
-use sqlite_items::{Boxed, Items};
+use crate::parts::{choosing, taking, two};
 use std::alloc::Global;
 use verse_base::places::Place;
 use verse_base::refusals::Memory;
-use verse_tree::exprs::{Expr, Form};
+use verse_handles::nodes::node;
+use verse_handles::trees::{Tree, Trees};
+use verse_tree::exprs::Form;
 use verse_tree::names::Name;
 
 /// `for`
-pub fn each(alloc: Global, place: Place, clauses: Items<Expr>, body: Expr) -> Result<Expr, Memory>
-    ensures { IfOk result (λ r. tree_of r ≡ tree 0 place (t.Shape.each (trees (map tree_of clauses)) (tree_of body))) }
+pub fn for_form(alloc: Global, place: Place, clauses: Trees, body: Tree) -> Result<Tree, Memory>
+    ensures { IfOk result (λ r. tree_of r ≡ tree 0 place (t.Shape.for_form (trees (map tree_of clauses)) (tree_of body))) }
 {
-    Ok(node(place, Form::For(taking(alloc, clauses, body)?)))
+    node(alloc, place, Form::For(taking(clauses, body)))
 }
 
 /// `loop`
-pub fn turns(alloc: Global, place: Place, body: Expr) -> Result<Expr, Memory>
-    ensures { IfOk result (λ r. tree_of r ≡ tree 0 place (t.Shape.turns (tree_of body))) }
+pub fn loop_form(alloc: Global, place: Place, body: Tree) -> Result<Tree, Memory>
+    ensures { IfOk result (λ r. tree_of r ≡ tree 0 place (t.Shape.loop_form (tree_of body))) }
 {
-    Ok(node(place, Form::Loop(Boxed::new(alloc, body)?)))
+    node(alloc, place, Form::Loop(body.into_boxed()))
 }
 
 /// `block`
-pub fn scope(alloc: Global, place: Place, body: Expr) -> Result<Expr, Memory>
-    ensures { IfOk result (λ r. tree_of r ≡ tree 0 place (t.Shape.scope (tree_of body))) }
+pub fn block_form(alloc: Global, place: Place, body: Tree) -> Result<Tree, Memory>
+    ensures { IfOk result (λ r. tree_of r ≡ tree 0 place (t.Shape.block_form (tree_of body))) }
 {
-    Ok(node(place, Form::Scope(Boxed::new(alloc, body)?)))
+    node(alloc, place, Form::BlockForm(body.into_boxed()))
 }
 
 /// `branch`
-pub fn branch(alloc: Global, place: Place, body: Expr) -> Result<Expr, Memory>
+pub fn branch(alloc: Global, place: Place, body: Tree) -> Result<Tree, Memory>
     ensures { IfOk result (λ r. tree_of r ≡ tree 0 place (t.Shape.branch (tree_of body))) }
 {
-    Ok(node(place, Form::Branch(Boxed::new(alloc, body)?)))
+    node(alloc, place, Form::Branch(body.into_boxed()))
 }
 
 /// `sync`
-pub fn sync(place: Place, arms: Items<Expr>) -> Expr
-    ensures { tree_of result ≡ tree 0 place (t.Shape.sync (trees (map tree_of arms))) }
+pub fn sync(alloc: Global, place: Place, arms: Trees) -> Result<Tree, Memory>
+    ensures { IfOk result (λ r. tree_of r ≡ tree 0 place (t.Shape.sync (trees (map tree_of arms)))) }
 {
-    node(place, Form::Sync(arms))
+    node(alloc, place, Form::Sync(arms.into_items()))
 }
 
 /// `race`
-pub fn race(place: Place, arms: Items<Expr>) -> Expr
-    ensures { tree_of result ≡ tree 0 place (t.Shape.race (trees (map tree_of arms))) }
+pub fn race(alloc: Global, place: Place, arms: Trees) -> Result<Tree, Memory>
+    ensures { IfOk result (λ r. tree_of r ≡ tree 0 place (t.Shape.race (trees (map tree_of arms)))) }
 {
-    node(place, Form::Race(arms))
+    node(alloc, place, Form::Race(arms.into_items()))
 }
 
 /// `rush`
-pub fn rush(place: Place, arms: Items<Expr>) -> Expr
-    ensures { tree_of result ≡ tree 0 place (t.Shape.rush (trees (map tree_of arms))) }
+pub fn rush(alloc: Global, place: Place, arms: Trees) -> Result<Tree, Memory>
+    ensures { IfOk result (λ r. tree_of r ≡ tree 0 place (t.Shape.rush (trees (map tree_of arms)))) }
 {
-    node(place, Form::Rush(arms))
+    node(alloc, place, Form::Rush(arms.into_items()))
 }
 
 /// `case`
-pub fn cases(alloc: Global, place: Place, subject: Expr, arms: Items<Expr>) -> Result<Expr, Memory>
+pub fn cases(alloc: Global, place: Place, subject: Tree, arms: Trees) -> Result<Tree, Memory>
     ensures { IfOk result (λ r. tree_of r ≡ tree 0 place (t.Shape.cases (tree_of subject) (trees (map tree_of arms)))) }
 {
-    Ok(node(place, Form::Case(choosing(alloc, subject, arms)?)))
+    node(alloc, place, Form::Case(choosing(subject, arms)))
 }
 
 /// `spawn{E}`
-pub fn spawn(alloc: Global, place: Place, operand: Expr) -> Result<Expr, Memory>
+pub fn spawn(alloc: Global, place: Place, operand: Tree) -> Result<Tree, Memory>
     ensures { IfOk result (λ r. tree_of r ≡ tree 0 place (t.Shape.spawn (tree_of operand))) }
 {
-    Ok(node(place, Form::Spawn(Boxed::new(alloc, operand)?)))
+    node(alloc, place, Form::Spawn(operand.into_boxed()))
 }
 
 /// `Sleep` for so many milliseconds.
-pub fn sleep(place: Place, milliseconds: u64) -> Expr
-    ensures { tree_of result ≡ tree 0 place (t.Shape.sleep milliseconds) }
+pub fn sleep(alloc: Global, place: Place, milliseconds: u64) -> Result<Tree, Memory>
+    ensures { IfOk result (λ r. tree_of r ≡ tree 0 place (t.Shape.sleep milliseconds)) }
 {
-    node(place, Form::Sleep(Some(milliseconds)))
+    node(alloc, place, Form::Sleep(Some(milliseconds)))
 }
 
 /// `Sleep(Inf)`
-pub fn sleep_forever(place: Place) -> Expr
-    ensures { tree_of result ≡ tree 0 place t.Shape.sleep_forever }
+pub fn sleep_forever(alloc: Global, place: Place) -> Result<Tree, Memory>
+    ensures { IfOk result (λ r. tree_of r ≡ tree 0 place t.Shape.sleep_forever) }
 {
-    node(place, Form::Sleep(None))
+    node(alloc, place, Form::Sleep(None))
 }
 
 /// `X : E`
-pub fn elements(alloc: Global, place: Place, name: Name, domain: Expr) -> Result<Expr, Memory>
+pub fn elements(alloc: Global, place: Place, name: Name, domain: Tree) -> Result<Tree, Memory>
     ensures { IfOk result (λ r. tree_of r ≡ tree 0 place (t.Shape.elements name (tree_of domain))) }
 {
-    Ok(node(place, Form::Elements(name, Boxed::new(alloc, domain)?)))
+    node(alloc, place, Form::Elements(name, domain.into_boxed()))
 }
 
 /// `K -> V : E`
@@ -103,16 +104,16 @@ pub fn entries(
     place: Place,
     key: Name,
     value: Name,
-    domain: Expr,
-) -> Result<Expr, Memory>
+    domain: Tree,
+) -> Result<Tree, Memory>
     ensures { IfOk result (λ r. tree_of r ≡ tree 0 place (t.Shape.entries key value (tree_of domain))) }
 {
-    Ok(node(place, Form::Pairs(key, value, Boxed::new(alloc, domain)?)))
+    node(alloc, place, Form::Entries(key, value, domain.into_boxed()))
 }
 
 /// `I := L..H`
-pub fn range(alloc: Global, place: Place, name: Name, low: Expr, high: Expr) -> Result<Expr, Memory>
+pub fn range(alloc: Global, place: Place, name: Name, low: Tree, high: Tree) -> Result<Tree, Memory>
     ensures { IfOk result (λ r. tree_of r ≡ tree 0 place (t.Shape.range name (tree_of low) (tree_of high))) }
 {
-    Ok(node(place, Form::Range(name, two(alloc, low, high)?)))
+    node(alloc, place, Form::Range(name, two(low, high)))
 }

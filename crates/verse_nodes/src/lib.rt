@@ -7,7 +7,7 @@
 pub mod forms;
 pub mod literals;
 pub mod operators;
-mod parts;
+pub mod parts;
 pub mod patterns;
 pub mod statements;
 pub mod types;

@@ -1,102 +1,85 @@
 //! Parts of nodes.
 
-ghost use Rattle.std.specs.Prelude.{◌≡◌, IfOk, None, Some, map};
+ghost use Rattle.std.specs.Prelude.{◌≡◌, None, Some, map};
 ghost use Rattle.std.specs.Option.{option_map};
-ghost use Rattle.verse_tree.specs.View.{tree_of, written_of, shape_of, return_shape, applied_of, cases_of, choice_of, each_of, two_of, typed_of};
+ghost use Rattle.verse_tree.specs.View.{tree_of, written_of, shape_of, return_shape, applied_of, cases_of, if_of, for_of, two_of, typed_value_of};
 
-use sqlite_items::{Boxed, Items};
-use std::alloc::Global;
-use verse_base::places::Place;
-use verse_base::refusals::Memory;
-use verse_tree::exprs::{Applied, Cases, Choice, Each, Expr, Form, Two, Typed};
+use sqlite_items::Boxed;
+use verse_handles::trees::{Tree, Trees};
+use verse_handles::types::Written;
+use verse_tree::exprs::{Applied, Cases, Expr, ForParts, Form, IfParts, Two, TypedValue};
 use verse_tree::types::TyExpr;
 
-/// A node that has no number yet.
-pub fn node(place: Place, form: Form) -> Expr
-    ensures { result ≡ record { node = 0; place = place; form = form } }
+/// Two parts.
+pub fn two(left: Tree, right: Tree) -> Two
+    ensures { two_of result ≡ (tree_of left, tree_of right) }
 {
-    Expr {
-        node: 0,
-        place,
-        form,
+    Two {
+        left: left.into_boxed(),
+        right: right.into_boxed(),
     }
 }
 
-/// Two parts.
-pub fn two(alloc: Global, left: Expr, right: Expr) -> Result<Two, Memory>
-    ensures { IfOk result (λ r. two_of r ≡ (tree_of left, tree_of right)) }
-{
-    Ok(Two {
-        left: Boxed::new(alloc, left)?,
-        right: Boxed::new(alloc, right)?,
-    })
-}
-
 /// A value with its type.
-pub fn with_type(alloc: Global, ty: TyExpr, value: Expr) -> Result<Typed, Memory>
-    ensures { IfOk result (λ r. typed_of r ≡ (written_of ty, tree_of value)) }
+pub fn with_type(ty: Written, value: Tree) -> TypedValue
+    ensures { typed_value_of result ≡ (written_of ty, tree_of value) }
 {
-    Ok(Typed {
-        ty,
-        value: Boxed::new(alloc, value)?,
-    })
+    TypedValue {
+        ty: ty.into_ty(),
+        value: value.into_boxed(),
+    }
 }
 
 /// The parts of an `if` with an other part.
-pub fn alternative(
-    alloc: Global,
-    conditions: Items<Expr>,
-    taken: Expr,
-    otherwise: Expr,
-) -> Result<Choice, Memory>
-    ensures { IfOk result (λ r. choice_of r ≡ record { conditions = map tree_of conditions; taken = tree_of taken; otherwise = Some (tree_of otherwise) }) }
+pub fn alternative(conditions: Trees, taken: Tree, otherwise: Tree) -> IfParts
+    ensures { if_of result ≡ record { conditions = map tree_of conditions; taken = tree_of taken; otherwise = Some (tree_of otherwise) } }
 {
-    Ok(Choice {
-        conditions,
-        then: Boxed::new(alloc, taken)?,
-        otherwise: Some(Boxed::new(alloc, otherwise)?),
-    })
+    IfParts {
+        conditions: conditions.into_items(),
+        then: taken.into_boxed(),
+        otherwise: Some(otherwise.into_boxed()),
+    }
 }
 
 /// The parts of an `if` without one.
-pub fn single(alloc: Global, conditions: Items<Expr>, taken: Expr) -> Result<Choice, Memory>
-    ensures { IfOk result (λ r. choice_of r ≡ record { conditions = map tree_of conditions; taken = tree_of taken; otherwise = None }) }
+pub fn single(conditions: Trees, taken: Tree) -> IfParts
+    ensures { if_of result ≡ record { conditions = map tree_of conditions; taken = tree_of taken; otherwise = None } }
 {
-    Ok(Choice {
-        conditions,
-        then: Boxed::new(alloc, taken)?,
+    IfParts {
+        conditions: conditions.into_items(),
+        then: taken.into_boxed(),
         otherwise: None,
-    })
+    }
 }
 
 /// What is called or indexed, with its arguments.
-pub fn applied(alloc: Global, callee: Expr, args: Items<Expr>) -> Result<Applied, Memory>
-    ensures { IfOk result (λ r. applied_of r ≡ (tree_of callee, map tree_of args)) }
+pub fn applied(callee: Tree, args: Trees) -> Applied
+    ensures { applied_of result ≡ (tree_of callee, map tree_of args) }
 {
-    Ok(Applied {
-        callee: Boxed::new(alloc, callee)?,
-        args,
-    })
+    Applied {
+        callee: callee.into_boxed(),
+        args: args.into_items(),
+    }
 }
 
 /// The clauses of a `for`, with its body.
-pub fn taking(alloc: Global, clauses: Items<Expr>, body: Expr) -> Result<Each, Memory>
-    ensures { IfOk result (λ r. each_of r ≡ (map tree_of clauses, tree_of body)) }
+pub fn taking(clauses: Trees, body: Tree) -> ForParts
+    ensures { for_of result ≡ (map tree_of clauses, tree_of body) }
 {
-    Ok(Each {
-        clauses,
-        body: Boxed::new(alloc, body)?,
-    })
+    ForParts {
+        clauses: clauses.into_items(),
+        body: body.into_boxed(),
+    }
 }
 
 /// The subject of a `case`, with its arms.
-pub fn choosing(alloc: Global, subject: Expr, arms: Items<Expr>) -> Result<Cases, Memory>
-    ensures { IfOk result (λ r. cases_of r ≡ (tree_of subject, map tree_of arms)) }
+pub fn choosing(subject: Tree, arms: Trees) -> Cases
+    ensures { cases_of result ≡ (tree_of subject, map tree_of arms) }
 {
-    Ok(Cases {
-        subject: Boxed::new(alloc, subject)?,
-        arms,
-    })
+    Cases {
+        subject: subject.into_boxed(),
+        arms: arms.into_items(),
+    }
 }
 
 /// A `return`, with its value where it has one.
@@ -104,4 +87,14 @@ pub fn returning(value: Option<Boxed<Expr>>) -> Form
     ensures { shape_of result ≡ return_shape (option_map tree_of value) }
 {
     Form::Return(value)
+}
+
+/// A type, where there is one.
+pub fn optional(ty: Option<Written>) -> Option<TyExpr>
+    ensures { result ≡ ty }
+{
+    match ty {
+        Some(ty) => Some(ty.into_ty()),
+        None => None,
+    }
 }

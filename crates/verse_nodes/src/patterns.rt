@@ -5,72 +5,74 @@ ghost use Rattle.verse_tree.specs.Tree.{tree};
 ghost use Rattle.verse_tree.specs.Tree as t;
 ghost use Rattle.verse_tree.specs.View.{tree_of};
 
-use crate::parts::{node, two};
+use crate::parts::two;
 use std::alloc::Global;
 use verse_base::places::Place;
 use verse_base::refusals::Memory;
-use verse_tree::exprs::{Expr, Form};
+use verse_handles::nodes::node;
+use verse_handles::trees::Tree;
+use verse_tree::exprs::Form;
 use verse_tree::names::{Name, Text};
 
 /// `P => E`
-pub fn arm(alloc: Global, place: Place, pattern: Expr, body: Expr) -> Result<Expr, Memory>
+pub fn arm(alloc: Global, place: Place, pattern: Tree, body: Tree) -> Result<Tree, Memory>
     ensures { IfOk result (λ r. tree_of r ≡ tree 0 place (t.Shape.arm (tree_of pattern) (tree_of body))) }
 {
-    Ok(node(place, Form::Arm(two(alloc, pattern, body)?)))
+    node(alloc, place, Form::Arm(two(pattern, body)))
 }
 
 /// The pattern of an int.
-pub fn integer_pattern(place: Place, value: i64) -> Expr
-    ensures { tree_of result ≡ tree 0 place (t.Shape.integer_pattern value) }
+pub fn integer_pattern(alloc: Global, place: Place, value: i64) -> Result<Tree, Memory>
+    ensures { IfOk result (λ r. tree_of r ≡ tree 0 place (t.Shape.integer_pattern value)) }
 {
-    node(place, Form::IntPattern(value))
+    node(alloc, place, Form::IntPattern(value))
 }
 
 /// The pattern `-n`, by n.
-pub fn minus_pattern(place: Place, value: i64) -> Expr
-    ensures { tree_of result ≡ tree 0 place (t.Shape.minus_pattern value) }
+pub fn minus_pattern(alloc: Global, place: Place, value: i64) -> Result<Tree, Memory>
+    ensures { IfOk result (λ r. tree_of r ≡ tree 0 place (t.Shape.minus_pattern value)) }
 {
-    node(place, Form::MinusPattern(value))
+    node(alloc, place, Form::MinusPattern(value))
 }
 
 /// The pattern of a char.
-pub fn character_pattern(place: Place, value: u8) -> Expr
-    ensures { tree_of result ≡ tree 0 place (t.Shape.character_pattern value) }
+pub fn character_pattern(alloc: Global, place: Place, value: u8) -> Result<Tree, Memory>
+    ensures { IfOk result (λ r. tree_of r ≡ tree 0 place (t.Shape.character_pattern value)) }
 {
-    node(place, Form::CharPattern(value))
+    node(alloc, place, Form::CharPattern(value))
 }
 
 /// The pattern of a text.
-pub fn text_pattern(place: Place, bytes: Text) -> Expr
-    ensures { tree_of result ≡ tree 0 place (t.Shape.text_pattern bytes) }
+pub fn text_pattern(alloc: Global, place: Place, bytes: Text) -> Result<Tree, Memory>
+    ensures { IfOk result (λ r. tree_of r ≡ tree 0 place (t.Shape.text_pattern bytes)) }
 {
-    node(place, Form::TextPattern(bytes))
+    node(alloc, place, Form::TextPattern(bytes))
 }
 
 /// The pattern `true`.
-pub fn truth_pattern(place: Place) -> Expr
-    ensures { tree_of result ≡ tree 0 place t.Shape.truth_pattern }
+pub fn truth_pattern(alloc: Global, place: Place) -> Result<Tree, Memory>
+    ensures { IfOk result (λ r. tree_of r ≡ tree 0 place t.Shape.truth_pattern) }
 {
-    node(place, Form::TruePattern)
+    node(alloc, place, Form::TruePattern)
 }
 
 /// The pattern `false`.
-pub fn falsehood_pattern(place: Place) -> Expr
-    ensures { tree_of result ≡ tree 0 place t.Shape.falsehood_pattern }
+pub fn falsehood_pattern(alloc: Global, place: Place) -> Result<Tree, Memory>
+    ensures { IfOk result (λ r. tree_of r ≡ tree 0 place t.Shape.falsehood_pattern) }
 {
-    node(place, Form::FalsePattern)
+    node(alloc, place, Form::FalsePattern)
 }
 
 /// The pattern `_`.
-pub fn any_pattern(place: Place) -> Expr
-    ensures { tree_of result ≡ tree 0 place t.Shape.any_pattern }
+pub fn any_pattern(alloc: Global, place: Place) -> Result<Tree, Memory>
+    ensures { IfOk result (λ r. tree_of r ≡ tree 0 place t.Shape.any_pattern) }
 {
-    node(place, Form::AnyPattern)
+    node(alloc, place, Form::AnyPattern)
 }
 
 /// The pattern `e.v`.
-pub fn enum_pattern(place: Place, name: Name, value: Name) -> Expr
-    ensures { tree_of result ≡ tree 0 place (t.Shape.enum_pattern name value) }
+pub fn enum_pattern(alloc: Global, place: Place, name: Name, value: Name) -> Result<Tree, Memory>
+    ensures { IfOk result (λ r. tree_of r ≡ tree 0 place (t.Shape.enum_pattern name value)) }
 {
-    node(place, Form::EnumPattern(name, value))
+    node(alloc, place, Form::EnumPattern(name, value))
 }

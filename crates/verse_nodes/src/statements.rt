@@ -5,34 +5,35 @@ ghost use Rattle.verse_tree.specs.Tree.{tree};
 ghost use Rattle.verse_tree.specs.Tree as t;
 ghost use Rattle.verse_tree.specs.View.{tree_of, written_of, trees};
 
-use crate::parts::{alternative, node, returning, single, two, with_type};
-use sqlite_items::{Boxed, Items};
+use crate::parts::{alternative, returning, single, two, with_type};
 use std::alloc::Global;
 use verse_base::places::Place;
 use verse_base::refusals::Memory;
-use verse_tree::exprs::{Assign, Expr, Form};
+use verse_handles::nodes::node;
+use verse_handles::trees::{Tree, Trees};
+use verse_handles::types::Written;
+use verse_tree::exprs::{Assign, Form};
 use verse_tree::names::Name;
-use verse_tree::types::TyExpr;
 
 /// Statements between Open and Close.
-pub fn block(place: Place, parts: Items<Expr>) -> Expr
-    ensures { tree_of result ≡ tree 0 place (t.Shape.block (trees (map tree_of parts))) }
+pub fn block(alloc: Global, place: Place, parts: Trees) -> Result<Tree, Memory>
+    ensures { IfOk result (λ r. tree_of r ≡ tree 0 place (t.Shape.block (trees (map tree_of parts)))) }
 {
-    node(place, Form::Block(parts))
+    node(alloc, place, Form::Block(parts.into_items()))
 }
 
 /// `defer` and its block.
-pub fn defer(alloc: Global, place: Place, body: Expr) -> Result<Expr, Memory>
+pub fn defer(alloc: Global, place: Place, body: Tree) -> Result<Tree, Memory>
     ensures { IfOk result (λ r. tree_of r ≡ tree 0 place (t.Shape.defer (tree_of body))) }
 {
-    Ok(node(place, Form::Defer(Boxed::new(alloc, body)?)))
+    node(alloc, place, Form::Defer(body.into_boxed()))
 }
 
 /// `X := E`
-pub fn definition(alloc: Global, place: Place, name: Name, value: Expr) -> Result<Expr, Memory>
+pub fn definition(alloc: Global, place: Place, name: Name, value: Tree) -> Result<Tree, Memory>
     ensures { IfOk result (λ r. tree_of r ≡ tree 0 place (t.Shape.definition name (tree_of value))) }
 {
-    Ok(node(place, Form::Let(name, Boxed::new(alloc, value)?)))
+    node(alloc, place, Form::Let(name, value.into_boxed()))
 }
 
 /// `X:t = E`
@@ -40,12 +41,12 @@ pub fn typed(
     alloc: Global,
     place: Place,
     name: Name,
-    ty: TyExpr,
-    value: Expr,
-) -> Result<Expr, Memory>
+    ty: Written,
+    value: Tree,
+) -> Result<Tree, Memory>
     ensures { IfOk result (λ r. tree_of r ≡ tree 0 place (t.Shape.typed name (written_of ty) (tree_of value))) }
 {
-    Ok(node(place, Form::Def(name, with_type(alloc, ty, value)?)))
+    node(alloc, place, Form::Def(name, with_type(ty, value)))
 }
 
 /// `var X:t = E`
@@ -53,12 +54,12 @@ pub fn variable(
     alloc: Global,
     place: Place,
     name: Name,
-    ty: TyExpr,
-    value: Expr,
-) -> Result<Expr, Memory>
+    ty: Written,
+    value: Tree,
+) -> Result<Tree, Memory>
     ensures { IfOk result (λ r. tree_of r ≡ tree 0 place (t.Shape.variable name (written_of ty) (tree_of value))) }
 {
-    Ok(node(place, Form::VarDef(name, with_type(alloc, ty, value)?)))
+    node(alloc, place, Form::VarDef(name, with_type(ty, value)))
 }
 
 /// `set P = E` and its like.
@@ -66,59 +67,55 @@ pub fn assignment(
     alloc: Global,
     place: Place,
     mode: Assign,
-    target: Expr,
-    value: Expr,
-) -> Result<Expr, Memory>
+    target: Tree,
+    value: Tree,
+) -> Result<Tree, Memory>
     ensures { IfOk result (λ r. tree_of r ≡ tree 0 place (t.Shape.assignment mode (tree_of target) (tree_of value))) }
 {
-    Ok(node(place, Form::Set(mode, two(alloc, target, value)?)))
+    node(alloc, place, Form::Set(mode, two(target, value)))
 }
 
 /// `return E`
-pub fn returned(alloc: Global, place: Place, value: Expr) -> Result<Expr, Memory>
+pub fn returned(alloc: Global, place: Place, value: Tree) -> Result<Tree, Memory>
     ensures { IfOk result (λ r. tree_of r ≡ tree 0 place (t.Shape.returned (tree_of value))) }
 {
-    Ok(node(place, returning(Some(Boxed::new(alloc, value)?))))
+    node(alloc, place, returning(Some(value.into_boxed())))
 }
 
 /// `return`
-pub fn returned_unit(place: Place) -> Expr
-    ensures { tree_of result ≡ tree 0 place t.Shape.returned_unit }
+pub fn returned_unit(alloc: Global, place: Place) -> Result<Tree, Memory>
+    ensures { IfOk result (λ r. tree_of r ≡ tree 0 place t.Shape.returned_unit) }
 {
-    node(place, Form::Return(None))
+    node(alloc, place, Form::Return(None))
 }
 
 /// `break`
-pub fn left_loop(place: Place) -> Expr
-    ensures { tree_of result ≡ tree 0 place t.Shape.left_loop }
+pub fn break_form(alloc: Global, place: Place) -> Result<Tree, Memory>
+    ensures { IfOk result (λ r. tree_of r ≡ tree 0 place t.Shape.break_form) }
 {
-    node(place, Form::Break)
+    node(alloc, place, Form::Break)
 }
 
 /// `if` with an other part.
-pub fn choice(
+pub fn if_else(
     alloc: Global,
     place: Place,
-    conditions: Items<Expr>,
-    taken: Expr,
-    otherwise: Expr,
-) -> Result<Expr, Memory>
-    ensures { IfOk result (λ r. tree_of r ≡ tree 0 place (t.Shape.choice (trees (map tree_of conditions)) (tree_of taken) (tree_of otherwise))) }
+    conditions: Trees,
+    taken: Tree,
+    otherwise: Tree,
+) -> Result<Tree, Memory>
+    ensures { IfOk result (λ r. tree_of r ≡ tree 0 place (t.Shape.if_else (trees (map tree_of conditions)) (tree_of taken) (tree_of otherwise))) }
 {
-    Ok(node(
+    node(
+        alloc,
         place,
-        Form::If(alternative(alloc, conditions, taken, otherwise)?),
-    ))
+        Form::If(alternative(conditions, taken, otherwise)),
+    )
 }
 
 /// `if` without an other part.
-pub fn choice_alone(
-    alloc: Global,
-    place: Place,
-    conditions: Items<Expr>,
-    taken: Expr,
-) -> Result<Expr, Memory>
-    ensures { IfOk result (λ r. tree_of r ≡ tree 0 place (t.Shape.choice_alone (trees (map tree_of conditions)) (tree_of taken))) }
+pub fn if_alone(alloc: Global, place: Place, conditions: Trees, taken: Tree) -> Result<Tree, Memory>
+    ensures { IfOk result (λ r. tree_of r ≡ tree 0 place (t.Shape.if_alone (trees (map tree_of conditions)) (tree_of taken))) }
 {
-    Ok(node(place, Form::If(single(alloc, conditions, taken)?)))
+    node(alloc, place, Form::If(single(conditions, taken)))
 }

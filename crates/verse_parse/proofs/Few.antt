@@ -8,7 +8,7 @@ use Rattle.verse_tree.specs.View.{writtens, trees, holes, pairs, givens}
 use Rattle.verse_tree.specs.Numbering.{written_nodes, writtens_nodes, nodes, trees_nodes, holes_nodes, pairs_nodes, givens_nodes, list_nodes, param_nodes, fun_nodes, default_nodes, field_nodes, member_nodes, item_nodes, items_nodes}
 use Rattle.verse_grammar.specs.Toks.{name_at, text_at}
 use Rattle.verse_grammar.specs.Types.{IsType, AreTypes, more_types, one_type, type_array, type_bare_event, type_char, type_event, type_int, type_logic, type_map, type_name, type_option, type_string, type_task, type_tuple, type_void}
-use Rattle.verse_grammar.specs.Exprs.{event_at, BracketType, Reads, TypedValue, Control, IsIf, Taken, Chain, Postfixes, Row, Closed, Until, HoleRow, AreHoles, PairRow, PairsUntil, GivenRow, GivensUntil, ClauseRow, Clauses, and_chain, any_pattern, arm, array, assignment, block, body_block, body_expr, bracket_type, brackets, branch, cases, chain_more, chain_none, character, character_pattern, choice, choice_alone, clause_control, clause_definition, clause_expr, clause_generator, clauses, closed, comparison_sum, comparison_two, each, elements, entries, enum_pattern, event, expr_if, expr_or, falsehood, falsehood_pattern, first_generator, given_more, given_one, instance, integer, integer_pattern, last_hole, left_loop, logic, mapping, minus_mark, minus_pattern, minus_postfix, more_clauses, more_holes, name_alone, no_bracket_type, no_givens, no_holes, no_pairs, not_comparison, not_word, option, or_chain, pair_more, pair_one, part_defer, part_stmt, postfix_call, postfix_chain, postfix_index, postfix_member, postfix_none, postfix_query, product_chain, race, range, returned, returned_unit, row_more, row_one, rush, scope, sleep, sleep_forever, some_givens, some_pairs, spawn, stmt_control, stmt_definition, stmt_expr, stmt_typed, stmt_variable, sum_chain, sync, taken_block, taken_then, text, text_holes, text_pattern, this, truth, truth_pattern, tuple, turns, typed_value, until_none, until_some}
+use Rattle.verse_grammar.specs.Exprs.{event_at, BracketType, Reads, TypedValue, Control, IsIf, Taken, Chain, Postfixes, Row, Closed, Until, HoleRow, AreHoles, PairRow, PairsUntil, GivenRow, GivensUntil, ClauseRow, Clauses, and_chain, any_pattern, arm, array, assignment, block, body_block, body_expr, bracket_type, brackets, branch, cases, chain_more, chain_none, character, character_pattern, if_else, if_alone, clause_control, clause_definition, clause_expr, clause_generator, clauses, closed, comparison_sum, comparison_two, for_form, elements, entries, enum_pattern, event, expr_if, expr_or, falsehood, falsehood_pattern, first_generator, given_more, given_one, instance, integer, integer_pattern, last_hole, break_form, logic, mapping, minus_mark, minus_pattern, minus_postfix, more_clauses, more_holes, name_alone, no_bracket_type, no_givens, no_holes, no_pairs, not_comparison, not_word, option, or_chain, pair_more, pair_one, part_defer, part_stmt, postfix_call, postfix_chain, postfix_index, postfix_member, postfix_none, postfix_query, product_chain, race, range, returned, returned_unit, row_more, row_one, rush, block_form, sleep, sleep_forever, some_givens, some_pairs, spawn, stmt_control, stmt_definition, stmt_expr, stmt_typed, stmt_variable, sum_chain, sync, taken_block, taken_then, text, text_holes, text_pattern, this, truth, truth_pattern, tuple, loop_form, typed_value, until_none, until_some}
 use Rattle.verse_grammar.specs.Items.{Specs, Dotted, Path, ValueRow, Values, Param, ParamRow, Params, FunRest, Fun, Default, Field, Member, MemberRow, Members, Parent, Item, ItemRow, Program, default, field_plain, field_var, fun, fun_rest, item_class, item_enum, item_function, item_using, member_field, member_method, more_items, more_members, more_names, more_params, more_parts, more_specs, more_values, no_default, no_items, no_members, no_params, no_parent, no_specs, no_values, one_item, one_member, one_name, one_param, one_part, one_value, param, parent, some_items, some_members, some_params, some_values}
 use Rattle.verse_grammar.specs.declared.phrases.Phrase.{Phrase}
 
@@ -110,9 +110,9 @@ mutual
   few_reads b (option _ _ r1) = let i1 = few_closed b r1 in omega (arith, i1)
   few_reads b (logic _ _ r1) = let i1 = few_closed b r1 in omega (arith, i1)
   few_reads b (event {k = k} {u = u} _ r1 _ _) = let i1 = few_bracket_type b r1 in omega (arith, i1, event_nodes k u)
-  few_reads b (each _ _ r1 r2) = let i1 = few_clauses b r1 in let i2 = few_reads b r2 in omega (arith, i1, i2)
-  few_reads b (turns _ r1) = let i1 = few_reads b r1 in omega (arith, i1)
-  few_reads b (scope _ r1) = let i1 = few_reads b r1 in omega (arith, i1)
+  few_reads b (for_form _ _ r1 r2) = let i1 = few_clauses b r1 in let i2 = few_reads b r2 in omega (arith, i1, i2)
+  few_reads b (loop_form _ r1) = let i1 = few_reads b r1 in omega (arith, i1)
+  few_reads b (block_form _ r1) = let i1 = few_reads b r1 in omega (arith, i1)
   few_reads b (branch _ r1) = let i1 = few_reads b r1 in omega (arith, i1)
   few_reads b (sync _ _ r1) = let i1 = few_until b r1 in omega (arith, i1)
   few_reads b (race _ _ r1) = let i1 = few_until b r1 in omega (arith, i1)
@@ -145,11 +145,11 @@ mutual
   few_control b (assignment _ r1 _ r2) = let i1 = few_reads b r1 in let i2 = few_reads b r2 in omega (arith, i1, i2)
   few_control b (returned _ r1) = let i1 = few_reads b r1 in omega (arith, i1)
   few_control b (returned_unit _) = omega arith
-  few_control b (left_loop _) = omega arith
+  few_control b (break_form _) = omega arith
 
   few_is_if : (b : List ℕ) {ks rest : List Tok} {e : Tree} → IsIf b ks e rest → nodes e + length rest ≤ length ks
-  few_is_if b (choice_alone _ _ r1 r2) = let i1 = few_closed b r1 in let i2 = few_taken b r2 in omega (arith, i1, i2)
-  few_is_if b (choice _ _ r1 r2 _ r3) = let i1 = few_closed b r1 in let i2 = few_taken b r2 in let i3 = few_reads b r3 in omega (arith, i1, i2, i3)
+  few_is_if b (if_alone _ _ r1 r2) = let i1 = few_closed b r1 in let i2 = few_taken b r2 in omega (arith, i1, i2)
+  few_is_if b (if_else _ _ r1 r2 _ r3) = let i1 = few_closed b r1 in let i2 = few_taken b r2 in let i3 = few_reads b r3 in omega (arith, i1, i2, i3)
 
   few_taken : (b : List ℕ) {ks rest : List Tok} {e : Tree} → Taken b ks e rest → nodes e + length rest ≤ length ks
   few_taken b (taken_then _ r1) = let i1 = few_reads b r1 in omega (arith, i1)

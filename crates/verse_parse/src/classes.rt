@@ -4,9 +4,8 @@ ghost use Rattle.std.specs.Prelude.{◌≡◌, ◌≢◌, ◌<◌, ◌≤◌, �
 ghost use Rattle.std.specs.Option.{option_map};
 ghost use Rattle.std.specs.Result.{IsErrOf};
 ghost use Rattle.verse_lex.specs.declared.tokens.Word.TheVariants as w;
-ghost use Rattle.verse_tree.specs.ItemTree as t;
 ghost use Rattle.verse_tree.specs.View.{tree_of, written_of};
-ghost use Rattle.verse_tree.specs.ItemView.{spec_of, member_of, item_of, fun_of};
+ghost use Rattle.verse_tree.specs.ItemView.{spec_of, member_of, item_of};
 ghost use Rattle.verse_grammar.specs.Toks.{word, name};
 ghost use Rattle.verse_grammar.specs.Items.{Default, MemberRow, Members, Parent};
 ghost use Rattle.verse_grammar.specs.Items as grammar;
@@ -16,96 +15,22 @@ ghost use Rattle.verse_reading.specs.declared.stops.Stop.TheVariants as stop;
 ghost use Rattle.verse_parse.specs.Rests.{FieldRest, MemberRest, ClassRest};
 
 use crate::functions::fun_rest;
-use crate::names::specifiers;
+use crate::names::{head_at, specifiers};
 use sqlite_items::Items;
 use std::alloc::Global;
-use verse_base::places::Place;
 use verse_expr::phrases::read;
 use verse_grammar::phrases::Phrase;
 use verse_grammar::starts::Fixed;
+use verse_handles::items::ItemTree;
+use verse_handles::members::{MemberTree, MemberTrees};
+use verse_handles::trees::Tree;
+use verse_handles::types::Written;
 use verse_layout::toks::Tok;
 use verse_reading::spans::name_of;
 use verse_reading::stops::{Stop, expect, take};
 use verse_reading::types::type_at;
-use verse_tree::exprs::Expr;
-use verse_tree::items::{ClassItem, Field, Fun, Item, Member, Spec};
+use verse_tree::items::Spec;
 use verse_tree::names::Name;
-use verse_tree::types::TyExpr;
-
-/// A class that has no number yet.
-fn class_item(
-    place: Place,
-    name: Name,
-    specs: Items<Spec>,
-    class_specs: Items<Spec>,
-    parent: Option<Name>,
-    members: Items<Member>,
-) -> Item
-    ensures { item_of result ≡ t.ItemTree.class (record { number = 0; place = place; name = name; specs = map spec_of specs; class_specs = map spec_of class_specs; parent = parent; members = map member_of members }) }
-{
-    Item::Class(ClassItem {
-        node: 0,
-        place,
-        name,
-        specs,
-        class_specs,
-        parent,
-        members,
-    })
-}
-
-/// A field without `var` that has no number yet.
-fn plain_field(
-    alloc: Global,
-    place: Place,
-    name: Name,
-    specs: Items<Spec>,
-    ty: TyExpr,
-    default: Option<Expr>,
-) -> Member
-    ensures { member_of result ≡ t.MemberTree.field (record { number = 0; place = place; is_var = false; var_specs = []; name = name; specs = map spec_of specs; written = written_of ty; default = option_map tree_of default }) }
-{
-    Member::Field(Field {
-        node: 0,
-        place,
-        is_var: false,
-        var_specs: Items::new(alloc),
-        name,
-        specs,
-        ty,
-        default,
-    })
-}
-
-/// A field with `var`, which stands at the place, and with the specifiers of the `var`.
-fn var_field(
-    place: Place,
-    var_specs: Items<Spec>,
-    name: Name,
-    specs: Items<Spec>,
-    ty: TyExpr,
-    default: Option<Expr>,
-) -> Member
-    ensures { member_of result ≡ t.MemberTree.field (record { number = 0; place = place; is_var = true; var_specs = map spec_of var_specs; name = name; specs = map spec_of specs; written = written_of ty; default = option_map tree_of default }) }
-{
-    Member::Field(Field {
-        node: 0,
-        place,
-        is_var: true,
-        var_specs,
-        name,
-        specs,
-        ty,
-        default,
-    })
-}
-
-/// A method.
-fn method(fun: Fun) -> Member
-    ensures { member_of result ≡ t.MemberTree.method (fun_of fun) }
-{
-    Member::Method(fun)
-}
 
 /// What stands behind `class`; `tok` is the class's name.
 #[tactic(auto, using(crate::specs::Rests::rest_of_class, verse_grammar::proofs::EatingItems::eats_class_rest, verse_grammar::proofs::StickingItems::sticks_class_rest_1, verse_grammar::proofs::StickingItems::sticks_class_rest_2, verse_grammar::proofs::StickingItems::sticks_class_rest_3, verse_grammar::proofs::StickingItems::sticks_class_rest_4))]
@@ -115,7 +40,7 @@ pub fn class_rest<'t>(
     tok: Tok,
     specs: Items<Spec>,
     toks: &'t [Tok],
-) -> Result<(Item, &'t [Tok]), Stop>
+) -> Result<(ItemTree, &'t [Tok]), Stop>
     ensures spelled { IfOk result (λ r. ClassRest bytes.now tok (map spec_of specs) toks.now (item_of r.0) r.1.now) }
     ensures eats { IfOk result (λ r. EatsRule rules_of.class_rest toks.now r.1.now) }
     ensures sticks { (left : ℕ) → IsErrOf result (stop.At left) → SticksRule rules_of.class_rest toks.now left }
@@ -125,11 +50,8 @@ pub fn class_rest<'t>(
     let (parent, rest) = parent(alloc, bytes, rest)?;
     let (_block, rest) = expect(rest, Fixed::Open)?;
     let (members, rest) = members(alloc, bytes, rest)?;
-    let name = name_of(alloc, bytes, tok)?;
-    Ok((
-        class_item(tok.place, name, specs, class_specs, parent, members),
-        rest,
-    ))
+    let head = head_at(tok.place, name_of(alloc, bytes, tok)?, specs);
+    Ok((ItemTree::class(head, class_specs, parent, members), rest))
 }
 
 /// The parent in round brackets, where there is one.
@@ -158,14 +80,14 @@ fn members<'t>(
     alloc: Global,
     bytes: &[u8],
     toks: &'t [Tok],
-) -> Result<(Items<Member>, &'t [Tok]), Stop>
+) -> Result<(MemberTrees, &'t [Tok]), Stop>
     ensures spelled { IfOk result (λ r. Members bytes.now toks.now (map member_of r.0) r.1.now) }
     ensures eats { IfOk result (λ r. EatsRule rules_of.members_until toks.now r.1.now) }
     ensures sticks { (left : ℕ) → IsErrOf result (stop.At left) → SticksRule rules_of.members_until toks.now left }
     ensures shorter { IfOk result (λ r. length r.1.now < length toks.now) }
 {
     if let Some((_close, rest)) = take(toks, Fixed::Close) {
-        return Ok((Items::new(alloc), rest));
+        return Ok((MemberTrees::new(alloc), rest));
     }
     let (first, rest) = member(alloc, bytes, toks)?;
     let (members, rest) = member_row(alloc, bytes, toks, first, rest)?;
@@ -179,16 +101,16 @@ fn member_row<'t>(
     alloc: Global,
     bytes: &[u8],
     start: &[Tok],
-    first: Member,
+    first: MemberTree,
     toks: &'t [Tok],
-) -> Result<(Items<Member>, &'t [Tok]), Stop>
+) -> Result<(MemberTrees, &'t [Tok]), Stop>
     requires begun { grammar.Member bytes.now start.now (member_of first) toks.now }
     ensures spelled { IfOk result (λ r. MemberRow bytes.now start.now (map member_of r.0) r.1.now) }
     ensures eats { IfOk result (λ r. EatsRule rules_of.members_tail toks.now r.1.now) }
     ensures sticks { (left : ℕ) → IsErrOf result (stop.At left) → SticksRule rules_of.members_tail toks.now left }
     ensures shorter { IfOk result (λ r. length r.1.now ≤ length toks.now) }
 {
-    let mut members = Items::new(alloc);
+    let mut members = MemberTrees::new(alloc);
     members.push(first)?;
     let mut rest = toks;
     'members: loop {
@@ -203,7 +125,7 @@ fn member_row<'t>(
 
 /// A field or a method.
 #[tactic(auto, using(verse_grammar::proofs::StickingItems::sticks_member_other_1))]
-fn member<'t>(alloc: Global, bytes: &[u8], toks: &'t [Tok]) -> Result<(Member, &'t [Tok]), Stop>
+fn member<'t>(alloc: Global, bytes: &[u8], toks: &'t [Tok]) -> Result<(MemberTree, &'t [Tok]), Stop>
     ensures spelled { IfOk result (λ r. grammar.Member bytes.now toks.now (member_of r.0) r.1.now) }
     ensures eats { IfOk result (λ r. EatsRule rules_of.member toks.now r.1.now) }
     ensures sticks { (left : ℕ) → IsErrOf result (stop.At left) → SticksRule rules_of.member toks.now left }
@@ -223,7 +145,7 @@ fn var_member<'t>(
     bytes: &[u8],
     tok: Tok,
     toks: &'t [Tok],
-) -> Result<(Member, &'t [Tok]), Stop>
+) -> Result<(MemberTree, &'t [Tok]), Stop>
     requires first { tok.kind ≡ word w.Var }
     ensures spelled { IfOk result (λ r. grammar.Member bytes.now (tok ∷ toks.now) (member_of r.0) r.1.now) }
     ensures eats { IfOk result (λ r. EatsRule rules_of.member (tok ∷ toks.now) r.1.now) }
@@ -234,11 +156,8 @@ fn var_member<'t>(
     let (name, rest) = expect(rest, Fixed::Name)?;
     let (specs, rest) = specifiers(alloc, bytes, rest)?;
     let (ty, default, rest) = field_rest(alloc, bytes, rest)?;
-    let name = name_of(alloc, bytes, name)?;
-    Ok((
-        var_field(tok.place, var_specs, name, specs, ty, default),
-        rest,
-    ))
+    let head = head_at(tok.place, name_of(alloc, bytes, name)?, specs);
+    Ok((MemberTree::var_field(head, var_specs, ty, default), rest))
 }
 
 /// A field or a method with the name `tok`.
@@ -248,7 +167,7 @@ fn named_member<'t>(
     bytes: &[u8],
     tok: Tok,
     toks: &'t [Tok],
-) -> Result<(Member, &'t [Tok]), Stop>
+) -> Result<(MemberTree, &'t [Tok]), Stop>
     requires first { tok.kind ≡ name }
     ensures spelled { IfOk result (λ r. grammar.Member bytes.now (tok ∷ toks.now) (member_of r.0) r.1.now) }
     ensures eats { IfOk result (λ r. EatsRule rules_of.member (tok ∷ toks.now) r.1.now) }
@@ -267,7 +186,7 @@ fn member_rest<'t>(
     tok: Tok,
     specs: Items<Spec>,
     toks: &'t [Tok],
-) -> Result<(Member, &'t [Tok]), Stop>
+) -> Result<(MemberTree, &'t [Tok]), Stop>
     ensures spelled { IfOk result (λ r. MemberRest bytes.now tok (map spec_of specs) toks.now (member_of r.0) r.1.now) }
     ensures eats { IfOk result (λ r. EatsRule rules_of.member_rest toks.now r.1.now) }
     ensures sticks { (left : ℕ) → IsErrOf result (stop.At left) → SticksRule rules_of.member_rest toks.now left }
@@ -287,14 +206,14 @@ fn method_rest<'t>(
     tok: Tok,
     specs: Items<Spec>,
     toks: &'t [Tok],
-) -> Result<(Member, &'t [Tok]), Stop>
+) -> Result<(MemberTree, &'t [Tok]), Stop>
     ensures spelled { IfOk result (λ r. MemberRest bytes.now tok (map spec_of specs) toks.now (member_of r.0) r.1.now) }
     ensures eats { IfOk result (λ r. EatsRule rules_of.fun_rest toks.now r.1.now) }
     ensures sticks { (left : ℕ) → IsErrOf result (stop.At left) → SticksRule rules_of.fun_rest toks.now left }
     ensures shorter { IfOk result (λ r. length r.1.now < length toks.now) }
 {
     let (fun, rest) = fun_rest(alloc, bytes, tok, specs, toks)?;
-    Ok((method(fun), rest))
+    Ok((MemberTree::method(fun), rest))
 }
 
 /// A field behind its name `tok` and its specifiers.
@@ -305,18 +224,15 @@ fn plain_rest<'t>(
     tok: Tok,
     specs: Items<Spec>,
     toks: &'t [Tok],
-) -> Result<(Member, &'t [Tok]), Stop>
+) -> Result<(MemberTree, &'t [Tok]), Stop>
     ensures spelled { IfOk result (λ r. MemberRest bytes.now tok (map spec_of specs) toks.now (member_of r.0) r.1.now) }
     ensures eats { IfOk result (λ r. EatsRule rules_of.field_rest toks.now r.1.now) }
     ensures sticks { (left : ℕ) → IsErrOf result (stop.At left) → SticksRule rules_of.field_rest toks.now left }
     ensures shorter { IfOk result (λ r. length r.1.now < length toks.now) }
 {
     let (ty, default, rest) = field_rest(alloc, bytes, toks)?;
-    let name = name_of(alloc, bytes, tok)?;
-    Ok((
-        plain_field(alloc, tok.place, name, specs, ty, default),
-        rest,
-    ))
+    let head = head_at(tok.place, name_of(alloc, bytes, tok)?, specs);
+    Ok((MemberTree::field(alloc, head, ty, default), rest))
 }
 
 /// The type of a field, and its default where it has one.
@@ -325,7 +241,7 @@ fn field_rest<'t>(
     alloc: Global,
     bytes: &[u8],
     toks: &'t [Tok],
-) -> Result<(TyExpr, Option<Expr>, &'t [Tok]), Stop>
+) -> Result<(Written, Option<Tree>, &'t [Tok]), Stop>
     ensures spelled { IfOk result (λ r. FieldRest bytes.now toks.now (written_of r.0) (option_map tree_of r.1) r.2.now) }
     ensures eats { IfOk result (λ r. EatsRule rules_of.field_rest toks.now r.2.now) }
     ensures sticks { (left : ℕ) → IsErrOf result (stop.At left) → SticksRule rules_of.field_rest toks.now left }
@@ -343,7 +259,7 @@ fn default_value<'t>(
     alloc: Global,
     bytes: &[u8],
     toks: &'t [Tok],
-) -> Result<(Option<Expr>, &'t [Tok]), Stop>
+) -> Result<(Option<Tree>, &'t [Tok]), Stop>
     ensures spelled { IfOk result (λ r. Default bytes.now toks.now (option_map tree_of r.0) r.1.now) }
     ensures eats { IfOk result (λ r. EatsRule rules_of.default toks.now r.1.now) }
     ensures sticks { (left : ℕ) → IsErrOf result (stop.At left) → SticksRule rules_of.default toks.now left }

@@ -2,7 +2,6 @@
 
 ghost use Rattle.std.specs.Prelude.{◌≡◌, ◌<◌, ◌≤◌, ◌∷◌, [], ℕ, IfOk, length, map};
 ghost use Rattle.std.specs.Result.{IsErrOf};
-ghost use Rattle.verse_tree.specs.ItemTree.{enumeration};
 ghost use Rattle.verse_tree.specs.ItemView.{spec_of, item_of};
 ghost use Rattle.verse_grammar.specs.Toks.{name, name_at};
 ghost use Rattle.verse_grammar.specs.Items.{ValueRow, Values};
@@ -11,28 +10,16 @@ ghost use Rattle.verse_grammar.specs.Reading.{EatsRule, SticksRule};
 ghost use Rattle.verse_reading.specs.declared.stops.Stop.TheVariants as stop;
 ghost use Rattle.verse_parse.specs.Rests.{EnumRest};
 
+use crate::names::head_at;
 use sqlite_items::Items;
 use std::alloc::Global;
-use verse_base::places::Place;
 use verse_grammar::starts::Fixed;
+use verse_handles::items::ItemTree;
 use verse_layout::toks::Tok;
 use verse_reading::spans::name_of;
 use verse_reading::stops::{Stop, expect, take};
-use verse_tree::items::{EnumItem, Item, Spec};
+use verse_tree::items::Spec;
 use verse_tree::names::Name;
-
-/// An enum that has no number yet.
-fn enum_item(place: Place, name: Name, specs: Items<Spec>, values: Items<Name>) -> Item
-    ensures { item_of result ≡ enumeration (record { number = 0; place = place; name = name; specs = map spec_of specs; values = values }) }
-{
-    Item::Enum(EnumItem {
-        node: 0,
-        place,
-        name,
-        specs,
-        values,
-    })
-}
 
 /// What stands behind `enum`; `tok` is the enum's name.
 #[tactic(auto, using(crate::specs::Rests::rest_of_enum, verse_grammar::proofs::EatingItems::eats_enum_rest, verse_grammar::proofs::StickingItems::sticks_enum_rest_1, verse_grammar::proofs::StickingItems::sticks_enum_rest_2))]
@@ -42,7 +29,7 @@ pub fn enum_rest<'t>(
     tok: Tok,
     specs: Items<Spec>,
     toks: &'t [Tok],
-) -> Result<(Item, &'t [Tok]), Stop>
+) -> Result<(ItemTree, &'t [Tok]), Stop>
     ensures spelled { IfOk result (λ r. EnumRest bytes.now tok (map spec_of specs) toks.now (item_of r.0) r.1.now) }
     ensures eats { IfOk result (λ r. EatsRule rules_of.enum_rest toks.now r.1.now) }
     ensures sticks { (left : ℕ) → IsErrOf result (stop.At left) → SticksRule rules_of.enum_rest toks.now left }
@@ -50,8 +37,8 @@ pub fn enum_rest<'t>(
 {
     let (_braces, rest) = expect(toks, Fixed::Open)?;
     let (values, rest) = values(alloc, bytes, rest)?;
-    let name = name_of(alloc, bytes, tok)?;
-    Ok((enum_item(tok.place, name, specs, values), rest))
+    let head = head_at(tok.place, name_of(alloc, bytes, tok)?, specs);
+    Ok((ItemTree::enumeration(head, values), rest))
 }
 
 /// Values up to the end of the block.

@@ -11,61 +11,24 @@ ghost use Rattle.verse_grammar.specs.Reading.{Eats, EatsRule, Sticks, SticksRule
 ghost use Rattle.verse_reading.specs.declared.stops.Stop.TheVariants as stop;
 ghost use Rattle.verse_parse.specs.Rests.{Signature, signature_symbols};
 
-use crate::names::specifiers;
+use crate::names::{head_at, specifiers};
 use sqlite_items::Items;
 use std::alloc::Global;
-use verse_base::places::Place;
 use verse_expr::phrases::read;
 use verse_grammar::phrases::Phrase;
 use verse_grammar::starts::Fixed;
+use verse_handles::funs::{FunTree, ParamTree, ParamTrees};
+use verse_handles::trees::Tree;
+use verse_handles::types::Written;
 use verse_layout::toks::Tok;
 use verse_reading::spans::name_of;
 use verse_reading::stops::{Stop, expect, take};
 use verse_reading::types::type_at;
-use verse_tree::exprs::Expr;
-use verse_tree::items::{Fun, Param, Spec};
-use verse_tree::names::Name;
-use verse_tree::types::TyExpr;
-
-/// A parameter that has no number yet.
-fn parameter(place: Place, name: Name, ty: TyExpr) -> Param
-    ensures { param_of result ≡ record { number = 0; place = place; name = name; written = written_of ty } }
-{
-    Param {
-        node: 0,
-        place,
-        name,
-        ty,
-    }
-}
-
-/// A function that has no number yet.
-fn function(
-    place: Place,
-    name: Name,
-    specs: Items<Spec>,
-    params: Items<Param>,
-    effects: Items<Spec>,
-    ty: TyExpr,
-    body: Expr,
-) -> Fun
-    ensures { fun_of result ≡ record { number = 0; place = place; name = name; specs = map spec_of specs; params = map param_of params; effects = map spec_of effects; written = written_of ty; body = tree_of body } }
-{
-    Fun {
-        node: 0,
-        place,
-        name,
-        specs,
-        params,
-        effects,
-        result: ty,
-        body,
-    }
-}
+use verse_tree::items::Spec;
 
 /// `X:t`
 #[tactic(auto, using(verse_grammar::specs::Items::param, verse_grammar::proofs::EatingItems::eats_param, verse_grammar::proofs::StickingItems::sticks_param_1, verse_grammar::proofs::StickingItems::sticks_param_2, verse_grammar::proofs::StickingItems::sticks_param_3))]
-fn param<'t>(alloc: Global, bytes: &[u8], toks: &'t [Tok]) -> Result<(Param, &'t [Tok]), Stop>
+fn param<'t>(alloc: Global, bytes: &[u8], toks: &'t [Tok]) -> Result<(ParamTree, &'t [Tok]), Stop>
     ensures spelled { IfOk result (λ r. grammar.Param bytes.now toks.now (param_of r.0) r.1.now) }
     ensures eats { IfOk result (λ r. EatsRule rules_of.param toks.now r.1.now) }
     ensures sticks { (left : ℕ) → IsErrOf result (stop.At left) → SticksRule rules_of.param toks.now left }
@@ -75,23 +38,19 @@ fn param<'t>(alloc: Global, bytes: &[u8], toks: &'t [Tok]) -> Result<(Param, &'t
     let (_colon, rest) = expect(rest, Fixed::Colon)?;
     let (ty, rest) = type_at(alloc, bytes, rest)?;
     let name = name_of(alloc, bytes, tok)?;
-    Ok((parameter(tok.place, name, ty), rest))
+    Ok((ParamTree::new(0, tok.place, name, ty), rest))
 }
 
 /// Parameters up to the closing bracket.
 #[tactic(auto, using(verse_grammar::specs::Items::no_params, verse_grammar::specs::Items::some_params, verse_grammar::proofs::EatingItems::eats_params_until_at, verse_grammar::proofs::EatingItems::eats_params_until_other, verse_grammar::proofs::StickingItems::sticks_params_until_other_1, verse_grammar::proofs::StickingItems::sticks_params_until_other_2, verse_grammar::proofs::StickingItems::sticks_params_until_other_3))]
-fn params<'t>(
-    alloc: Global,
-    bytes: &[u8],
-    toks: &'t [Tok],
-) -> Result<(Items<Param>, &'t [Tok]), Stop>
+fn params<'t>(alloc: Global, bytes: &[u8], toks: &'t [Tok]) -> Result<(ParamTrees, &'t [Tok]), Stop>
     ensures spelled { IfOk result (λ r. Params bytes.now toks.now (map param_of r.0) r.1.now) }
     ensures eats { IfOk result (λ r. EatsRule rules_of.params_until toks.now r.1.now) }
     ensures sticks { (left : ℕ) → IsErrOf result (stop.At left) → SticksRule rules_of.params_until toks.now left }
     ensures shorter { IfOk result (λ r. length r.1.now < length toks.now) }
 {
     if let Some((_close, rest)) = take(toks, Fixed::RoundClose) {
-        return Ok((Items::new(alloc), rest));
+        return Ok((ParamTrees::new(alloc), rest));
     }
     let (first, rest) = param(alloc, bytes, toks)?;
     let (params, rest) = param_row(alloc, bytes, toks, first, rest)?;
@@ -105,16 +64,16 @@ fn param_row<'t>(
     alloc: Global,
     bytes: &[u8],
     start: &[Tok],
-    first: Param,
+    first: ParamTree,
     toks: &'t [Tok],
-) -> Result<(Items<Param>, &'t [Tok]), Stop>
+) -> Result<(ParamTrees, &'t [Tok]), Stop>
     requires begun { grammar.Param bytes.now start.now (param_of first) toks.now }
     ensures spelled { IfOk result (λ r. ParamRow bytes.now start.now (map param_of r.0) r.1.now) }
     ensures eats { IfOk result (λ r. EatsRule rules_of.params_tail toks.now r.1.now) }
     ensures sticks { (left : ℕ) → IsErrOf result (stop.At left) → SticksRule rules_of.params_tail toks.now left }
     ensures shorter { IfOk result (λ r. length r.1.now ≤ length toks.now) }
 {
-    let mut params = Items::new(alloc);
+    let mut params = ParamTrees::new(alloc);
     params.push(first)?;
     let mut rest = toks;
     'params: loop {
@@ -135,7 +94,7 @@ pub fn fun_rest<'t>(
     tok: Tok,
     specs: Items<Spec>,
     toks: &'t [Tok],
-) -> Result<(Fun, &'t [Tok]), Stop>
+) -> Result<(FunTree, &'t [Tok]), Stop>
     ensures spelled { IfOk result (λ r. FunRest bytes.now tok (map spec_of specs) toks.now (fun_of r.0) r.1.now) }
     ensures eats { IfOk result (λ r. EatsRule rules_of.fun_rest toks.now r.1.now) }
     ensures sticks { (left : ℕ) → IsErrOf result (stop.At left) → SticksRule rules_of.fun_rest toks.now left }
@@ -144,11 +103,8 @@ pub fn fun_rest<'t>(
     let (_bracket, rest) = expect(toks, Fixed::RoundOpen)?;
     let (params, rest) = params(alloc, bytes, rest)?;
     let (effects, ty, body, rest) = signature(alloc, bytes, rest)?;
-    let name = name_of(alloc, bytes, tok)?;
-    Ok((
-        function(tok.place, name, specs, params, effects, ty, body),
-        rest,
-    ))
+    let head = head_at(tok.place, name_of(alloc, bytes, tok)?, specs);
+    Ok((FunTree::new(head, params, effects, ty, body), rest))
 }
 
 /// The effects of a function, its type and its body.
@@ -157,7 +113,7 @@ fn signature<'t>(
     alloc: Global,
     bytes: &[u8],
     toks: &'t [Tok],
-) -> Result<(Items<Spec>, TyExpr, Expr, &'t [Tok]), Stop>
+) -> Result<(Items<Spec>, Written, Tree, &'t [Tok]), Stop>
     ensures spelled { IfOk result (λ r. Signature bytes.now toks.now (map spec_of r.0) (written_of r.1) (tree_of r.2) r.3.now) }
     ensures eats { IfOk result (λ r. Eats signature_symbols toks.now r.3.now) }
     ensures sticks { (left : ℕ) → IsErrOf result (stop.At left) → Sticks signature_symbols toks.now left }

@@ -2,8 +2,7 @@
 
 ghost use Rattle.std.specs.Prelude.{◌≡◌, ◌<◌, ◌≤◌, ◌∷◌, [], ℕ, Some, IfOk, length, map};
 ghost use Rattle.std.specs.Result.{IsErrOf};
-ghost use Rattle.verse_tree.specs.ItemTree as t;
-ghost use Rattle.verse_tree.specs.ItemView.{spec_of, item_of, fun_of};
+ghost use Rattle.verse_tree.specs.ItemView.{spec_of, item_of};
 ghost use Rattle.verse_grammar.specs.Starts.{item_start};
 ghost use Rattle.verse_grammar.specs.declared.starts.ItemStart.TheVariants as begins;
 ghost use Rattle.verse_grammar.specs.Items as grammar;
@@ -18,34 +17,16 @@ use crate::functions::fun_rest;
 use crate::names::{dotted, path, specifiers};
 use sqlite_items::Items;
 use std::alloc::Global;
-use verse_base::places::Place;
 use verse_grammar::starts::{Fixed, ItemStart, item_start};
+use verse_handles::items::ItemTree;
 use verse_layout::toks::Tok;
 use verse_reading::stops::{Stop, expect, next, take};
-use verse_tree::items::{Fun, Item, Spec, Using};
+use verse_tree::items::Spec;
 use verse_tree::names::Name;
-
-/// A `using` that has no number yet.
-fn using_item(place: Place, path: Items<Items<Name>>) -> Item
-    ensures { item_of result ≡ t.ItemTree.using (record { number = 0; place = place; path = path }) }
-{
-    Item::Using(Using {
-        node: 0,
-        place,
-        path,
-    })
-}
-
-/// A function that is an item.
-fn fun_item(fun: Fun) -> Item
-    ensures { item_of result ≡ t.ItemTree.function (fun_of fun) }
-{
-    Item::Fun(fun)
-}
 
 /// An item.
 #[tactic(auto, using(verse_grammar::proofs::StickingItems::sticks_an_item_other, verse_grammar::proofs::StickingItems::sticks_an_item_end))]
-pub fn item<'t>(alloc: Global, bytes: &[u8], toks: &'t [Tok]) -> Result<(Item, &'t [Tok]), Stop>
+pub fn item<'t>(alloc: Global, bytes: &[u8], toks: &'t [Tok]) -> Result<(ItemTree, &'t [Tok]), Stop>
     ensures spelled { IfOk result (λ r. grammar.Item bytes.now toks.now (item_of r.0) r.1.now) }
     ensures eats { IfOk result (λ r. EatsRule rules_of.an_item toks.now r.1.now) }
     ensures sticks { (left : ℕ) → IsErrOf result (stop.At left) → SticksRule rules_of.an_item toks.now left }
@@ -68,7 +49,7 @@ fn using_at<'t>(
     bytes: &[u8],
     tok: Tok,
     toks: &'t [Tok],
-) -> Result<(Item, &'t [Tok]), Stop>
+) -> Result<(ItemTree, &'t [Tok]), Stop>
     requires first { item_start tok.kind ≡ Some begins.Using }
     ensures spelled { IfOk result (λ r. grammar.Item bytes.now (tok ∷ toks.now) (item_of r.0) r.1.now) }
     ensures eats { IfOk result (λ r. EatsRule rules_of.an_item (tok ∷ toks.now) r.1.now) }
@@ -76,7 +57,7 @@ fn using_at<'t>(
     ensures shorter { IfOk result (λ r. length r.1.now ≤ length toks.now) }
 {
     let (path, rest) = using_rest(alloc, bytes, toks)?;
-    Ok((using_item(tok.place, path), rest))
+    Ok((ItemTree::using(0, tok.place, path), rest))
 }
 
 /// A path in braces.
@@ -106,7 +87,7 @@ fn named_item<'t>(
     bytes: &[u8],
     tok: Tok,
     toks: &'t [Tok],
-) -> Result<(Item, &'t [Tok]), Stop>
+) -> Result<(ItemTree, &'t [Tok]), Stop>
     requires first { item_start tok.kind ≡ Some begins.Name }
     ensures spelled { IfOk result (λ r. grammar.Item bytes.now (tok ∷ toks.now) (item_of r.0) r.1.now) }
     ensures eats { IfOk result (λ r. EatsRule rules_of.an_item (tok ∷ toks.now) r.1.now) }
@@ -125,7 +106,7 @@ fn item_rest<'t>(
     tok: Tok,
     specs: Items<Spec>,
     toks: &'t [Tok],
-) -> Result<(Item, &'t [Tok]), Stop>
+) -> Result<(ItemTree, &'t [Tok]), Stop>
     ensures spelled { IfOk result (λ r. ItemRest bytes.now tok (map spec_of specs) toks.now (item_of r.0) r.1.now) }
     ensures eats { IfOk result (λ r. EatsRule rules_of.item_rest toks.now r.1.now) }
     ensures sticks { (left : ℕ) → IsErrOf result (stop.At left) → SticksRule rules_of.item_rest toks.now left }
@@ -135,7 +116,7 @@ fn item_rest<'t>(
         Some((_define, rest)) => defined(alloc, bytes, tok, specs, rest),
         None => {
             let (fun, rest) = fun_rest(alloc, bytes, tok, specs, toks)?;
-            Ok((fun_item(fun), rest))
+            Ok((ItemTree::function(fun), rest))
         }
     }
 }
@@ -148,7 +129,7 @@ fn defined<'t>(
     tok: Tok,
     specs: Items<Spec>,
     toks: &'t [Tok],
-) -> Result<(Item, &'t [Tok]), Stop>
+) -> Result<(ItemTree, &'t [Tok]), Stop>
     ensures spelled { IfOk result (λ r. Defined bytes.now tok (map spec_of specs) toks.now (item_of r.0) r.1.now) }
     ensures eats { IfOk result (λ r. EatsRule rules_of.enum_or_class toks.now r.1.now) }
     ensures sticks { (left : ℕ) → IsErrOf result (stop.At left) → SticksRule rules_of.enum_or_class toks.now left }

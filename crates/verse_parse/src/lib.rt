@@ -10,7 +10,5 @@ mod functions;
 mod items;
 mod names;
 mod programs;
-#[cfg(test)]
-mod tests;
 
 pub use programs::parse;

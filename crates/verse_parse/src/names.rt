@@ -14,6 +14,7 @@ use sqlite_items::Items;
 use std::alloc::Global;
 use verse_base::places::Place;
 use verse_grammar::starts::Fixed;
+use verse_handles::funs::Head;
 use verse_layout::toks::Tok;
 use verse_reading::spans::name_of;
 use verse_reading::stops::{Stop, expect, take};
@@ -25,6 +26,21 @@ fn spec(place: Place, name: Name) -> Spec
     ensures { spec_of result ≡ record { place = place; name = name } }
 {
     Spec { place, name }
+}
+
+/// What a definition begins with that has no number yet.
+pub fn head_at(place: Place, name: Name, specs: Items<Spec>) -> Head
+    ensures number { result.node ≡ 0 }
+    ensures place { result.place ≡ place }
+    ensures name { result.name ≡ name }
+    ensures specs { result.specs ≡ specs }
+{
+    Head {
+        node: 0,
+        place,
+        name,
+        specs,
+    }
 }
 
 /// Specifiers, as `<public><override>`.

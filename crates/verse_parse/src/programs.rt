@@ -3,7 +3,7 @@
 ghost use Rattle.std.specs.Prelude.{◌≡◌, ◌≤◌, [], ℕ, List, IfOk, length, map, drop};
 ghost use Rattle.std.specs.Result.{IsErrOf};
 ghost use Rattle.verse_base.specs.declared.refusals.Rule.{Rule};
-ghost use Rattle.verse_tree.specs.ItemTree.{ItemTree};
+ghost use Rattle.verse_tree.specs.ItemTree as t;
 ghost use Rattle.verse_tree.specs.ItemView.{item_of};
 ghost use Rattle.verse_tree.specs.Numbering.{items_nodes};
 ghost use Rattle.verse_grammar.specs.Toks.{ahead};
@@ -21,9 +21,9 @@ use crate::items::item;
 use std::alloc::Global;
 use verse_expr::faults::{ParseFault, fault_of};
 use verse_grammar::starts::Fixed;
+use verse_handles::items::{ItemTree, ItemTrees};
 use verse_layout::toks::Tok;
 use verse_reading::stops::{Stop, next, take};
-use verse_tree::items::Item;
 
 /// The items that the toks of a file spell.
 ///
@@ -32,10 +32,10 @@ use verse_tree::items::Item;
 /// where the tok of that index is left out of the language, and E030 where it is another or there is
 /// none.
 #[tactic(auto, using(crate::proofs::Halting::halts_stops, crate::proofs::Halting::halts_within, crate::proofs::Halting::program_once, crate::proofs::Few::few_items))]
-pub fn parse(alloc: Global, bytes: &[u8], toks: &[Tok]) -> Result<Vec<Item>, ParseFault>
-    ensures spelled { IfOk result (λ items. Program bytes.now toks.now (map item_of items.items) []) }
-    ensures only { IfOk result (λ items. (is : List ItemTree) → Program bytes.now toks.now is [] → is ≡ map item_of items.items) }
-    ensures few { IfOk result (λ items. items_nodes (map item_of items.items) ≤ length toks.now) }
+pub fn parse(alloc: Global, bytes: &[u8], toks: &[Tok]) -> Result<ItemTrees, ParseFault>
+    ensures spelled { IfOk result (λ items. Program bytes.now toks.now (map item_of items) []) }
+    ensures only { IfOk result (λ items. (is : List t.ItemTree) → Program bytes.now toks.now is [] → is ≡ map item_of items) }
+    ensures few { IfOk result (λ items. items_nodes (map item_of items) ≤ length toks.now) }
     ensures stops { (index : ℕ) (rule : Rule) → IsErrOf result (fault.At index rule) → Stops a_program toks.now index }
     ensures within { (index : ℕ) (rule : Rule) → IsErrOf result (fault.At index rule) → index ≤ length toks.now }
     ensures rule { (index : ℕ) (rule : Rule) → IsErrOf result (fault.At index rule) → rule.0 ≡ stop_rule (ahead (drop index toks.now)) }
@@ -48,8 +48,8 @@ pub fn parse(alloc: Global, bytes: &[u8], toks: &[Tok]) -> Result<Vec<Item>, Par
 
 /// The items of a file, behind which is nothing.
 #[tactic(auto, using(crate::specs::Halts::halts_inside, crate::specs::Halts::halts_behind))]
-fn items(alloc: Global, bytes: &[u8], toks: &[Tok]) -> Result<Vec<Item>, Stop>
-    ensures spelled { IfOk result (λ items. Program bytes.now toks.now (map item_of items.items) []) }
+fn items(alloc: Global, bytes: &[u8], toks: &[Tok]) -> Result<ItemTrees, Stop>
+    ensures spelled { IfOk result (λ items. Program bytes.now toks.now (map item_of items) []) }
     ensures halts { (left : ℕ) → IsErrOf result (stop.At left) → Halts toks.now left }
 {
     let (items, rest) = program(alloc, bytes, toks)?;
@@ -61,14 +61,14 @@ fn items(alloc: Global, bytes: &[u8], toks: &[Tok]) -> Result<Vec<Item>, Stop>
 
 /// The items of a file, and the toks behind them.
 #[tactic(auto, using(verse_grammar::specs::Items::no_items, verse_grammar::specs::Items::some_items, verse_grammar::proofs::EatingItems::eats_program_end, crate::proofs::Wholes::program_eats, crate::proofs::Wholes::program_sticks_1, crate::proofs::Wholes::program_sticks_2))]
-fn program<'t>(alloc: Global, bytes: &[u8], toks: &'t [Tok]) -> Result<(Vec<Item>, &'t [Tok]), Stop>
-    ensures spelled { IfOk result (λ r. Program bytes.now toks.now (map item_of r.0.items) r.1.now) }
+fn program<'t>(alloc: Global, bytes: &[u8], toks: &'t [Tok]) -> Result<(ItemTrees, &'t [Tok]), Stop>
+    ensures spelled { IfOk result (λ r. Program bytes.now toks.now (map item_of r.0) r.1.now) }
     ensures eats { IfOk result (λ r. EatsRule rules_of.program toks.now r.1.now) }
     ensures sticks { (left : ℕ) → IsErrOf result (stop.At left) → SticksRule rules_of.program toks.now left }
     ensures shorter { IfOk result (λ r. length r.1.now ≤ length toks.now) }
 {
     let Some((_first, _rest)) = next(toks) else {
-        return Ok((Vec::new(alloc), toks));
+        return Ok((ItemTrees::new(alloc), toks));
     };
     let (first, rest) = item(alloc, bytes, toks)?;
     item_row(alloc, bytes, toks, first, rest)
@@ -80,16 +80,16 @@ fn item_row<'t>(
     alloc: Global,
     bytes: &[u8],
     start: &[Tok],
-    first: Item,
+    first: ItemTree,
     toks: &'t [Tok],
-) -> Result<(Vec<Item>, &'t [Tok]), Stop>
+) -> Result<(ItemTrees, &'t [Tok]), Stop>
     requires begun { grammar.Item bytes.now start.now (item_of first) toks.now }
-    ensures spelled { IfOk result (λ r. ItemRow bytes.now start.now (map item_of r.0.items) r.1.now) }
+    ensures spelled { IfOk result (λ r. ItemRow bytes.now start.now (map item_of r.0) r.1.now) }
     ensures eats { IfOk result (λ r. EatsRule rules_of.items_tail toks.now r.1.now) }
     ensures sticks { (left : ℕ) → IsErrOf result (stop.At left) → SticksRule rules_of.items_tail toks.now left }
     ensures shorter { IfOk result (λ r. length r.1.now ≤ length toks.now) }
 {
-    let mut items = Vec::new(alloc);
+    let mut items = ItemTrees::new(alloc);
     items.push(first)?;
     let mut rest = toks;
     'items: loop {

@@ -6,9 +6,8 @@ use Rattle.verse_layout.specs.declared.toks.TokKind.TheVariants as tok
 use Rattle.verse_layout.specs.declared.toks.Tok.{Tok}
 use Rattle.verse_tree.specs.Tree.{Tree, tree}
 use Rattle.verse_tree.specs.Tree as t
-use Rattle.verse_tree.specs.View.{tree_of, pair_of, trees}
+use Rattle.verse_tree.specs.View.{tree_of, trees}
 use Rattle.verse_tree.specs.declared.exprs.Expr.{Expr}
-use Rattle.verse_tree.specs.declared.exprs.Pair.{Pair}
 use Rattle.verse_grammar.specs.Toks.{mark}
 use Rattle.verse_grammar.specs.Starts.{primary_start}
 use Rattle.verse_grammar.specs.Exprs.{Reads, PairRow, ClauseRow, Closed, more_clauses}
@@ -22,8 +21,8 @@ use Rattle.verse_primary.specs.Parts.{IsPair}
 use Rattle.verse_primary.proofs.Parts.{pair_row_more, spawn_by, eats_spawn_by}
 use Rattle.verse_primary.proofs.BracketEnds.{cases_by, eats_cases_by, sticks_cases_by}
 
-pub pairs_next : (b : List ℕ) (k : Tok) (ks ls ms rest : List Tok) (es fs : List Pair) (e : Pair) → PairRow b ks (map pair_of es) ls → ls ≡ k ∷ ms → k.kind ≡ tok.Sep → IsPair b ms (pair_of e) rest → fs ≡ es ++ e ∷ [] → PairRow b ks (map pair_of fs) rest
-pairs_next b k ks ls ms rest es fs e r same h x f = rw (f, map-append) (pair_row_more (rw same at r) h x)
+pub pairs_next : (b : List ℕ) (k : Tok) (ks ls ms rest : List Tok) (es fs : List (Tree × Tree)) (e : Tree × Tree) → PairRow b ks es ls → ls ≡ k ∷ ms → k.kind ≡ tok.Sep → IsPair b ms e rest → fs ≡ es ++ e ∷ [] → PairRow b ks fs rest
+pairs_next b k ks ls ms rest es fs e r same h x f = rw f (pair_row_more (rw same at r) h x)
 
 pub goes_pairs_next : (k : Tok) (ks ls ms rest : List Tok) → Goes pairs_tail ks ls → ls ≡ k ∷ ms → k.kind ≡ tok.Sep → EatsRule pair ms rest → Goes pairs_tail ks rest
 goes_pairs_next k ks ls ms rest g same h e = goes_pairs_tail_at k ks ms rest (rw same at g) h e

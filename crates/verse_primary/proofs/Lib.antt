@@ -5,3 +5,5 @@ pub mod BraceParts
 pub mod PrimaryParts
 pub mod ArmRests
 pub mod BracketStops
+pub mod LeafForms
+pub mod WordForms

@@ -1,13 +1,8 @@
 -- Names, instances, texts with holes and arms: one part more, and where they do not go on, by equations.
-use Rattle.std.proofs.Common.{◌≡◌, ℕ, List, [], ◌∷◌, ◌++◌, Option, Some, map}
-use Rattle.std.proofs.lemmas.List.{map-append}
+use Rattle.std.proofs.Common.{◌≡◌, ℕ, List, [], ◌∷◌, ◌++◌, Option, Some}
 use Rattle.verse_lex.specs.declared.tokens.TokenKind.TheVariants as token
 use Rattle.verse_layout.specs.declared.toks.TokKind.TheVariants as tok
 use Rattle.verse_layout.specs.declared.toks.Tok.{Tok}
-use Rattle.verse_tree.specs.declared.exprs.Expr.{Expr}
-use Rattle.verse_tree.specs.declared.exprs.Given.{Given}
-use Rattle.verse_tree.specs.declared.exprs.Hole.{Hole}
-use Rattle.verse_tree.specs.View.{tree_of, given_of, hole_of}
 use Rattle.verse_tree.specs.Tree.{Bytes, Tree}
 use Rattle.verse_grammar.specs.Toks.{text_at}
 use Rattle.verse_grammar.specs.Starts.{primary_start}
@@ -20,9 +15,9 @@ use Rattle.verse_primary.specs.Rounds.{RoundRest, only_one, several, rounded}
 use Rattle.verse_primary.proofs.Repeats.{given_row_more_by, more_holes_by, last_hole_by}
 
 -- one more field of an instance
-pub givens_next : (b : List ℕ) (k : Tok) (ks ls ms rest : List Tok) (gs hs : List Given) (g : Given) → GivenRow b ks (map given_of gs) ls → ls ≡ k ∷ ms → k.kind ≡ tok.Sep →
-    IsGiven b ms (given_of g) rest → hs ≡ gs ++ g ∷ [] → GivenRow b ks (map given_of hs) rest
-givens_next b k ks ls ms rest gs hs g row same h x f = rw (f, map-append) (given_row_more_by row same h x)
+pub givens_next : (b : List ℕ) (k : Tok) (ks ls ms rest : List Tok) (gs hs : List (Bytes × Tree)) (g : Bytes × Tree) → GivenRow b ks gs ls → ls ≡ k ∷ ms → k.kind ≡ tok.Sep →
+    IsGiven b ms g rest → hs ≡ gs ++ g ∷ [] → GivenRow b ks hs rest
+givens_next b k ks ls ms rest gs hs g row same h x f = rw f (given_row_more_by row same h x)
 
 -- the holes of a text
 pub holes_begun : {b : List ℕ} {ks rest : List Tok} {e : Tree} → Reads b p.Expr ks e rest → HoleRead b ks [] e rest
@@ -34,13 +29,13 @@ holes_more (hole_read row r) same h = more_holes_by row r same h
 holes_done : {b : List ℕ} {k : Tok} {ks mid rest : List Tok} {hs : List (Tree × Bytes)} {e : Tree} → HoleRead b ks hs e mid → mid ≡ k ∷ rest → k.kind ≡ tok.Plain token.TextClose → AreHoles b ks (hs ++ (e, text_at b k) ∷ []) rest
 holes_done (hole_read row r) same h = last_hole_by row r same h
 
-pub holes_next : (b : List ℕ) (k : Tok) (ks mid ms rest : List Tok) (gs hs : List Hole) (g : Hole) (e f : Expr) → HoleRead b ks (map hole_of gs) (tree_of e) mid → mid ≡ k ∷ ms → k.kind ≡ tok.Plain token.TextMid →
-    hole_of g ≡ (tree_of e, text_at b k) → hs ≡ gs ++ g ∷ [] → Reads b p.Expr ms (tree_of f) rest → HoleRead b ks (map hole_of hs) (tree_of f) rest
-holes_next b k ks mid ms rest gs hs g e f r same h made all s = hole_read (rw (all, map-append, made) (holes_more r same h)) s
+pub holes_next : (b : List ℕ) (k : Tok) (ks mid ms rest : List Tok) (gs hs : List (Tree × Bytes)) (e f : Tree) (text : Bytes) → HoleRead b ks gs e mid → mid ≡ k ∷ ms → k.kind ≡ tok.Plain token.TextMid →
+    text ≡ text_at b k → hs ≡ gs ++ (e, text) ∷ [] → Reads b p.Expr ms f rest → HoleRead b ks hs f rest
+holes_next b k ks mid ms rest gs hs e f text r same h made all s = hole_read (rw (all, made) (holes_more r same h)) s
 
-pub holes_last : (b : List ℕ) (k : Tok) (ks mid rest : List Tok) (gs hs : List Hole) (g : Hole) (e : Expr) → HoleRead b ks (map hole_of gs) (tree_of e) mid → mid ≡ k ∷ rest → k.kind ≡ tok.Plain token.TextClose →
-    hole_of g ≡ (tree_of e, text_at b k) → hs ≡ gs ++ g ∷ [] → AreHoles b ks (map hole_of hs) rest
-holes_last b k ks mid rest gs hs g e r same h made all = rw (all, map-append, made) (holes_done r same h)
+pub holes_last : (b : List ℕ) (k : Tok) (ks mid rest : List Tok) (gs hs : List (Tree × Bytes)) (e : Tree) (text : Bytes) → HoleRead b ks gs e mid → mid ≡ k ∷ rest → k.kind ≡ tok.Plain token.TextClose →
+    text ≡ text_at b k → hs ≡ gs ++ (e, text) ∷ [] → AreHoles b ks hs rest
+holes_last b k ks mid rest gs hs e text r same h made all = rw (all, made) (holes_done r same h)
 
 -- round brackets
 pub round_reads : {b : List ℕ} {k : Tok} {ks mid rest : List Tok} {e x : Tree} {more : Option (List Tree)} → primary_start k.kind ≡ Some primary.Round → Reads b p.Expr ks e mid → RoundRest b mid more rest → x ≡ rounded k.place e more →

@@ -15,143 +15,23 @@ ghost use Rattle.verse_primary.specs.Parts.{IsPair};
 ghost use Rattle.verse_reading.specs.Nests.{Nests};
 ghost use Rattle.verse_reading.specs.declared.stops.Stop.TheVariants as stop;
 
-use sqlite_items::Items;
 use std::alloc::Global;
 use verse_grammar::phrases::Phrase;
 use verse_grammar::starts::Fixed;
+use verse_handles::parts::Pairs;
+use verse_handles::trees::Tree;
 use verse_layout::toks::Tok;
 use verse_nodes::{forms, literals};
 use verse_reading::nesting::Reader;
 use verse_reading::stops::{Stop, expect, take};
-use verse_tree::exprs::{Expr, Pair};
-
-/// `array{..}`
-#[tactic(auto, using(verse_grammar::specs::Exprs::array, verse_grammar::proofs::Eating::eats_primary_array, verse_grammar::proofs::Sticking::sticks_primary_array_1, verse_grammar::proofs::Sticking::sticks_primary_array_2))]
-pub fn array<'t, F: Fn(Global, &[u8], Phrase, &[Tok]) -> Result<(Expr, usize), Stop>>(
-    reader: &Reader<'_, F>,
-    tok: Tok,
-    toks: &'t [Tok],
-) -> Result<(Expr, &'t [Tok]), Stop>
-    requires nests { Nests reader.now.bytes.now reader.now.most (F.pre reader.now.nested) (F.post reader.now.nested) }
-    requires fewer { length toks.now < reader.now.most }
-    requires start { primary_start tok.kind ≡ Some PrimaryStart.Array }
-    ensures spelled { IfOk result (λ r. Reads reader.now.bytes.now Phrase.Primary (tok ∷ toks.now) (tree_of r.0) r.1.now) }
-    ensures eats { IfOk result (λ r. EatsRule (phrase Phrase.Primary) (tok ∷ toks.now) r.1.now) }
-    ensures sticks { (left : ℕ) → IsErrOf result (stop.At left) → SticksRule (phrase Phrase.Primary) (tok ∷ toks.now) left }
-    ensures shorter { IfOk result (λ r. length r.1.now ≤ length toks.now) }
-{
-    let (_, behind) = expect(toks, Fixed::Open)?;
-    let (parts, rest) = reader.until(Phrase::Expr, Fixed::Sep, Fixed::Close, behind)?;
-    Ok((literals::array(tok.place, parts), rest))
-}
-
-/// `option{..}`
-#[tactic(auto, using(verse_grammar::specs::Exprs::option, verse_grammar::proofs::Eating::eats_primary_option, verse_grammar::proofs::Sticking::sticks_primary_option_1, verse_grammar::proofs::Sticking::sticks_primary_option_2))]
-pub fn option<'t, F: Fn(Global, &[u8], Phrase, &[Tok]) -> Result<(Expr, usize), Stop>>(
-    reader: &Reader<'_, F>,
-    tok: Tok,
-    toks: &'t [Tok],
-) -> Result<(Expr, &'t [Tok]), Stop>
-    requires nests { Nests reader.now.bytes.now reader.now.most (F.pre reader.now.nested) (F.post reader.now.nested) }
-    requires fewer { length toks.now < reader.now.most }
-    requires start { primary_start tok.kind ≡ Some PrimaryStart.Option }
-    ensures spelled { IfOk result (λ r. Reads reader.now.bytes.now Phrase.Primary (tok ∷ toks.now) (tree_of r.0) r.1.now) }
-    ensures eats { IfOk result (λ r. EatsRule (phrase Phrase.Primary) (tok ∷ toks.now) r.1.now) }
-    ensures sticks { (left : ℕ) → IsErrOf result (stop.At left) → SticksRule (phrase Phrase.Primary) (tok ∷ toks.now) left }
-    ensures shorter { IfOk result (λ r. length r.1.now ≤ length toks.now) }
-{
-    let (_, behind) = expect(toks, Fixed::Open)?;
-    let (parts, rest) = reader.closed(Phrase::Stmt, Fixed::Sep, Fixed::Close, behind)?;
-    Ok((literals::option(tok.place, parts), rest))
-}
-
-/// `logic{..}`
-#[tactic(auto, using(verse_grammar::specs::Exprs::logic, verse_grammar::proofs::Eating::eats_primary_logic, verse_grammar::proofs::Sticking::sticks_primary_logic_1, verse_grammar::proofs::Sticking::sticks_primary_logic_2))]
-pub fn logic<'t, F: Fn(Global, &[u8], Phrase, &[Tok]) -> Result<(Expr, usize), Stop>>(
-    reader: &Reader<'_, F>,
-    tok: Tok,
-    toks: &'t [Tok],
-) -> Result<(Expr, &'t [Tok]), Stop>
-    requires nests { Nests reader.now.bytes.now reader.now.most (F.pre reader.now.nested) (F.post reader.now.nested) }
-    requires fewer { length toks.now < reader.now.most }
-    requires start { primary_start tok.kind ≡ Some PrimaryStart.Logic }
-    ensures spelled { IfOk result (λ r. Reads reader.now.bytes.now Phrase.Primary (tok ∷ toks.now) (tree_of r.0) r.1.now) }
-    ensures eats { IfOk result (λ r. EatsRule (phrase Phrase.Primary) (tok ∷ toks.now) r.1.now) }
-    ensures sticks { (left : ℕ) → IsErrOf result (stop.At left) → SticksRule (phrase Phrase.Primary) (tok ∷ toks.now) left }
-    ensures shorter { IfOk result (λ r. length r.1.now ≤ length toks.now) }
-{
-    let (_, behind) = expect(toks, Fixed::Open)?;
-    let (parts, rest) = reader.closed(Phrase::Stmt, Fixed::Sep, Fixed::Close, behind)?;
-    Ok((literals::logic(tok.place, parts), rest))
-}
-
-/// `sync`
-#[tactic(auto, using(verse_grammar::specs::Exprs::sync, verse_grammar::proofs::Eating::eats_primary_sync, verse_grammar::proofs::Sticking::sticks_primary_sync_1, verse_grammar::proofs::Sticking::sticks_primary_sync_2))]
-pub fn sync<'t, F: Fn(Global, &[u8], Phrase, &[Tok]) -> Result<(Expr, usize), Stop>>(
-    reader: &Reader<'_, F>,
-    tok: Tok,
-    toks: &'t [Tok],
-) -> Result<(Expr, &'t [Tok]), Stop>
-    requires nests { Nests reader.now.bytes.now reader.now.most (F.pre reader.now.nested) (F.post reader.now.nested) }
-    requires fewer { length toks.now < reader.now.most }
-    requires start { primary_start tok.kind ≡ Some PrimaryStart.Sync }
-    ensures spelled { IfOk result (λ r. Reads reader.now.bytes.now Phrase.Primary (tok ∷ toks.now) (tree_of r.0) r.1.now) }
-    ensures eats { IfOk result (λ r. EatsRule (phrase Phrase.Primary) (tok ∷ toks.now) r.1.now) }
-    ensures sticks { (left : ℕ) → IsErrOf result (stop.At left) → SticksRule (phrase Phrase.Primary) (tok ∷ toks.now) left }
-    ensures shorter { IfOk result (λ r. length r.1.now ≤ length toks.now) }
-{
-    let (_, behind) = expect(toks, Fixed::Open)?;
-    let (parts, rest) = reader.until(Phrase::Stmt, Fixed::Sep, Fixed::Close, behind)?;
-    Ok((forms::sync(tok.place, parts), rest))
-}
-
-/// `race`
-#[tactic(auto, using(verse_grammar::specs::Exprs::race, verse_grammar::proofs::Eating::eats_primary_race, verse_grammar::proofs::Sticking::sticks_primary_race_1, verse_grammar::proofs::Sticking::sticks_primary_race_2))]
-pub fn race<'t, F: Fn(Global, &[u8], Phrase, &[Tok]) -> Result<(Expr, usize), Stop>>(
-    reader: &Reader<'_, F>,
-    tok: Tok,
-    toks: &'t [Tok],
-) -> Result<(Expr, &'t [Tok]), Stop>
-    requires nests { Nests reader.now.bytes.now reader.now.most (F.pre reader.now.nested) (F.post reader.now.nested) }
-    requires fewer { length toks.now < reader.now.most }
-    requires start { primary_start tok.kind ≡ Some PrimaryStart.Race }
-    ensures spelled { IfOk result (λ r. Reads reader.now.bytes.now Phrase.Primary (tok ∷ toks.now) (tree_of r.0) r.1.now) }
-    ensures eats { IfOk result (λ r. EatsRule (phrase Phrase.Primary) (tok ∷ toks.now) r.1.now) }
-    ensures sticks { (left : ℕ) → IsErrOf result (stop.At left) → SticksRule (phrase Phrase.Primary) (tok ∷ toks.now) left }
-    ensures shorter { IfOk result (λ r. length r.1.now ≤ length toks.now) }
-{
-    let (_, behind) = expect(toks, Fixed::Open)?;
-    let (parts, rest) = reader.until(Phrase::Stmt, Fixed::Sep, Fixed::Close, behind)?;
-    Ok((forms::race(tok.place, parts), rest))
-}
-
-/// `rush`
-#[tactic(auto, using(verse_grammar::specs::Exprs::rush, verse_grammar::proofs::Eating::eats_primary_rush, verse_grammar::proofs::Sticking::sticks_primary_rush_1, verse_grammar::proofs::Sticking::sticks_primary_rush_2))]
-pub fn rush<'t, F: Fn(Global, &[u8], Phrase, &[Tok]) -> Result<(Expr, usize), Stop>>(
-    reader: &Reader<'_, F>,
-    tok: Tok,
-    toks: &'t [Tok],
-) -> Result<(Expr, &'t [Tok]), Stop>
-    requires nests { Nests reader.now.bytes.now reader.now.most (F.pre reader.now.nested) (F.post reader.now.nested) }
-    requires fewer { length toks.now < reader.now.most }
-    requires start { primary_start tok.kind ≡ Some PrimaryStart.Rush }
-    ensures spelled { IfOk result (λ r. Reads reader.now.bytes.now Phrase.Primary (tok ∷ toks.now) (tree_of r.0) r.1.now) }
-    ensures eats { IfOk result (λ r. EatsRule (phrase Phrase.Primary) (tok ∷ toks.now) r.1.now) }
-    ensures sticks { (left : ℕ) → IsErrOf result (stop.At left) → SticksRule (phrase Phrase.Primary) (tok ∷ toks.now) left }
-    ensures shorter { IfOk result (λ r. length r.1.now ≤ length toks.now) }
-{
-    let (_, behind) = expect(toks, Fixed::Open)?;
-    let (parts, rest) = reader.until(Phrase::Stmt, Fixed::Sep, Fixed::Close, behind)?;
-    Ok((forms::rush(tok.place, parts), rest))
-}
 
 /// `spawn{E}`
 #[tactic(auto, using(verse_grammar::proofs::Sticking::sticks_primary_spawn_1, verse_grammar::proofs::Sticking::sticks_primary_spawn_2, verse_grammar::proofs::Sticking::sticks_primary_spawn_3))]
-pub fn spawn<'t, F: Fn(Global, &[u8], Phrase, &[Tok]) -> Result<(Expr, usize), Stop>>(
+pub fn spawn<'t, F: Fn(Global, &[u8], Phrase, &[Tok]) -> Result<(Tree, usize), Stop>>(
     reader: &Reader<'_, F>,
     tok: Tok,
     toks: &'t [Tok],
-) -> Result<(Expr, &'t [Tok]), Stop>
+) -> Result<(Tree, &'t [Tok]), Stop>
     requires nests { Nests reader.now.bytes.now reader.now.most (F.pre reader.now.nested) (F.post reader.now.nested) }
     requires fewer { length toks.now < reader.now.most }
     requires start { primary_start tok.kind ≡ Some PrimaryStart.Spawn }
@@ -173,11 +53,11 @@ pub fn spawn<'t, F: Fn(Global, &[u8], Phrase, &[Tok]) -> Result<(Expr, usize), S
 
 /// `map{..}`
 #[tactic(auto, using(verse_grammar::specs::Exprs::mapping, verse_grammar::proofs::Eating::eats_primary_map, verse_grammar::proofs::Sticking::sticks_primary_map_1, verse_grammar::proofs::Sticking::sticks_primary_map_2))]
-pub fn mapping<'t, F: Fn(Global, &[u8], Phrase, &[Tok]) -> Result<(Expr, usize), Stop>>(
+pub fn mapping<'t, F: Fn(Global, &[u8], Phrase, &[Tok]) -> Result<(Tree, usize), Stop>>(
     reader: &Reader<'_, F>,
     tok: Tok,
     toks: &'t [Tok],
-) -> Result<(Expr, &'t [Tok]), Stop>
+) -> Result<(Tree, &'t [Tok]), Stop>
     requires nests { Nests reader.now.bytes.now reader.now.most (F.pre reader.now.nested) (F.post reader.now.nested) }
     requires fewer { length toks.now < reader.now.most }
     requires start { primary_start tok.kind ≡ Some PrimaryStart.Map }
@@ -188,15 +68,15 @@ pub fn mapping<'t, F: Fn(Global, &[u8], Phrase, &[Tok]) -> Result<(Expr, usize),
 {
     let (_, behind) = expect(toks, Fixed::Open)?;
     let (parts, rest) = pairs_until(reader, behind)?;
-    Ok((literals::mapping(tok.place, parts), rest))
+    Ok((literals::mapping(reader.alloc, tok.place, parts)?, rest))
 }
 
 /// The keys of a map with their values, up to Close.
 #[tactic(auto, using(verse_grammar::specs::Exprs::no_pairs, verse_grammar::proofs::Eating::eats_pairs_until_at))]
-fn pairs_until<'t, F: Fn(Global, &[u8], Phrase, &[Tok]) -> Result<(Expr, usize), Stop>>(
+fn pairs_until<'t, F: Fn(Global, &[u8], Phrase, &[Tok]) -> Result<(Tree, usize), Stop>>(
     reader: &Reader<'_, F>,
     toks: &'t [Tok],
-) -> Result<(Items<Pair>, &'t [Tok]), Stop>
+) -> Result<(Pairs, &'t [Tok]), Stop>
     requires nests { Nests reader.now.bytes.now reader.now.most (F.pre reader.now.nested) (F.post reader.now.nested) }
     requires fewer { length toks.now < reader.now.most }
     ensures spelled { IfOk result (λ r. PairsUntil reader.now.bytes.now toks.now (map pair_of r.0) r.1.now) }
@@ -205,17 +85,17 @@ fn pairs_until<'t, F: Fn(Global, &[u8], Phrase, &[Tok]) -> Result<(Expr, usize),
     ensures shorter { IfOk result (λ r. length r.1.now < length toks.now) }
 {
     match take(toks, Fixed::Close) {
-        Some((_, rest)) => Ok((Items::new(reader.alloc), rest)),
+        Some((_, rest)) => Ok((Pairs::new(reader.alloc), rest)),
         None => pairs(reader, toks),
     }
 }
 
 /// One key or more, up to Close.
 #[tactic(auto, using(crate::proofs::Parts::pair_row_one, verse_grammar::specs::Exprs::some_pairs, verse_grammar::proofs::Going::goes_start, crate::proofs::Parts::pairs_eaten, crate::proofs::Parts::pairs_stuck_between, crate::proofs::Parts::pairs_stuck_at_end, verse_grammar::proofs::Sticking::sticks_pairs_until_other_1))]
-fn pairs<'t, F: Fn(Global, &[u8], Phrase, &[Tok]) -> Result<(Expr, usize), Stop>>(
+fn pairs<'t, F: Fn(Global, &[u8], Phrase, &[Tok]) -> Result<(Tree, usize), Stop>>(
     reader: &Reader<'_, F>,
     toks: &'t [Tok],
-) -> Result<(Items<Pair>, &'t [Tok]), Stop>
+) -> Result<(Pairs, &'t [Tok]), Stop>
     requires nests { Nests reader.now.bytes.now reader.now.most (F.pre reader.now.nested) (F.post reader.now.nested) }
     requires fewer { length toks.now < reader.now.most }
     requires some { ahead toks.now ≢ Some (kind_of Fixed.Close) }
@@ -224,13 +104,13 @@ fn pairs<'t, F: Fn(Global, &[u8], Phrase, &[Tok]) -> Result<(Expr, usize), Stop>
     ensures sticks { (left : ℕ) → IsErrOf result (stop.At left) → SticksRule pairs_until toks.now left }
     ensures shorter { IfOk result (λ r. length r.1.now < length toks.now) }
 {
-    let (first, after) = pair(reader, toks)?;
-    let mut parts = Items::new(reader.alloc);
-    parts.push(first)?;
+    let ((key, value), after) = pair(reader, toks)?;
+    let mut parts = Pairs::new(reader.alloc);
+    parts.push(key, value)?;
     let mut rest = after;
     'more: while let Some((_, behind)) = take(rest, Fixed::Sep) {
-        let (part, left) = pair(reader, behind)?;
-        parts.push(part)?;
+        let ((key, value), left) = pair(reader, behind)?;
+        parts.push(key, value)?;
         rest = left;
     }
     match take(rest, Fixed::Close) {
@@ -241,13 +121,13 @@ fn pairs<'t, F: Fn(Global, &[u8], Phrase, &[Tok]) -> Result<(Expr, usize), Stop>
 
 /// `K => V`
 #[tactic(auto, using(crate::proofs::Parts::pair_by, crate::proofs::Parts::eats_pair_by, verse_grammar::proofs::Sticking::sticks_pair_1, verse_grammar::proofs::Sticking::sticks_pair_2, crate::proofs::Parts::sticks_pair_by))]
-fn pair<'t, F: Fn(Global, &[u8], Phrase, &[Tok]) -> Result<(Expr, usize), Stop>>(
+fn pair<'t, F: Fn(Global, &[u8], Phrase, &[Tok]) -> Result<(Tree, usize), Stop>>(
     reader: &Reader<'_, F>,
     toks: &'t [Tok],
-) -> Result<(Pair, &'t [Tok]), Stop>
+) -> Result<((Tree, Tree), &'t [Tok]), Stop>
     requires nests { Nests reader.now.bytes.now reader.now.most (F.pre reader.now.nested) (F.post reader.now.nested) }
     requires fewer { length toks.now < reader.now.most }
-    ensures spelled { IfOk result (λ r. IsPair reader.now.bytes.now toks.now (pair_of r.0) r.1.now) }
+    ensures spelled { IfOk result (λ r. IsPair reader.now.bytes.now toks.now (tree_of r.0.0, tree_of r.0.1) r.1.now) }
     ensures eats { IfOk result (λ r. EatsRule pair toks.now r.1.now) }
     ensures sticks { (left : ℕ) → IsErrOf result (stop.At left) → SticksRule pair toks.now left }
     ensures shorter { IfOk result (λ r. length r.1.now < length toks.now) }
@@ -255,7 +135,7 @@ fn pair<'t, F: Fn(Global, &[u8], Phrase, &[Tok]) -> Result<(Expr, usize), Stop>>
     let (key, behind) = reader.inner(Phrase::Expr, toks)?;
     match take(behind, Fixed::FatArrow) {
         Some((_, behind)) => match reader.inner(Phrase::Expr, behind) {
-            Ok((value, rest)) => Ok((entry(key, value), rest)),
+            Ok((value, rest)) => Ok(((key, value), rest)),
             Err(stop) => {
                 drop(key);
                 Err(stop)
@@ -266,11 +146,4 @@ fn pair<'t, F: Fn(Global, &[u8], Phrase, &[Tok]) -> Result<(Expr, usize), Stop>>
             Err(Stop::At(behind.len()))
         }
     }
-}
-
-/// A key with its value.
-fn entry(key: Expr, value: Expr) -> Pair
-    ensures { pair_of result ≡ (tree_of key, tree_of value) }
-{
-    Pair { key, value }
 }

@@ -16,27 +16,26 @@ ghost use Rattle.verse_primary.specs.Rounds.{RoundRest, rounded};
 ghost use Rattle.verse_reading.specs.Nests.{Nests};
 ghost use Rattle.verse_reading.specs.declared.stops.Stop.TheVariants as stop;
 
-use sqlite_items::Items;
 use std::alloc::Global;
 use verse_base::places::Place;
 use verse_base::refusals::Memory;
 use verse_grammar::phrases::Phrase;
 use verse_grammar::starts::{Duration, Fixed, duration_at};
+use verse_handles::trees::{Tree, Trees};
+use verse_handles::types::Written;
 use verse_layout::toks::Tok;
 use verse_nodes::{forms, literals};
 use verse_reading::nesting::Reader;
 use verse_reading::stops::{Stop, expect, next, take};
 use verse_reading::types::type_at;
-use verse_tree::exprs::Expr;
-use verse_tree::types::TyExpr;
 
 /// An expression in round brackets, or a tuple.
 #[tactic(auto, using(crate::proofs::PrimaryParts::round_reads, verse_grammar::proofs::Eating::eats_primary_round, verse_grammar::proofs::Sticking::sticks_primary_round_1, verse_grammar::proofs::Sticking::sticks_primary_round_2))]
-pub fn round<'t, F: Fn(Global, &[u8], Phrase, &[Tok]) -> Result<(Expr, usize), Stop>>(
+pub fn round<'t, F: Fn(Global, &[u8], Phrase, &[Tok]) -> Result<(Tree, usize), Stop>>(
     reader: &Reader<'_, F>,
     tok: Tok,
     toks: &'t [Tok],
-) -> Result<(Expr, &'t [Tok]), Stop>
+) -> Result<(Tree, &'t [Tok]), Stop>
     requires nests { Nests reader.now.bytes.now reader.now.most (F.pre reader.now.nested) (F.post reader.now.nested) }
     requires fewer { length toks.now < reader.now.most }
     requires start { primary_start tok.kind ≡ Some PrimaryStart.Round }
@@ -52,10 +51,10 @@ pub fn round<'t, F: Fn(Global, &[u8], Phrase, &[Tok]) -> Result<(Expr, usize), S
 
 /// What stands behind the first expression in round brackets: others behind a comma, or none.
 #[tactic(auto, using(crate::specs::Rounds::only_one, crate::specs::Rounds::several, verse_grammar::proofs::Eating::eats_round_rest_at, verse_grammar::proofs::Eating::eats_round_rest_other, verse_grammar::proofs::Sticking::sticks_round_rest_at_1, verse_grammar::proofs::Sticking::sticks_round_rest_other_1))]
-fn others<'t, F: Fn(Global, &[u8], Phrase, &[Tok]) -> Result<(Expr, usize), Stop>>(
+fn others<'t, F: Fn(Global, &[u8], Phrase, &[Tok]) -> Result<(Tree, usize), Stop>>(
     reader: &Reader<'_, F>,
     toks: &'t [Tok],
-) -> Result<(Option<Items<Expr>>, &'t [Tok]), Stop>
+) -> Result<(Option<Trees>, &'t [Tok]), Stop>
     requires nests { Nests reader.now.bytes.now reader.now.most (F.pre reader.now.nested) (F.post reader.now.nested) }
     requires fewer { length toks.now < reader.now.most }
     ensures spelled { IfOk result (λ r. RoundRest reader.now.bytes.now toks.now (option_map (map tree_of) r.0) r.1.now) }
@@ -82,11 +81,11 @@ fn others<'t, F: Fn(Global, &[u8], Phrase, &[Tok]) -> Result<(Expr, usize), Stop
 
 /// `event(t){}`
 #[tactic(auto, using(verse_grammar::proofs::Sticking::sticks_primary_event_1, verse_grammar::proofs::Sticking::sticks_primary_event_2))]
-pub fn event<'t, F: Fn(Global, &[u8], Phrase, &[Tok]) -> Result<(Expr, usize), Stop>>(
+pub fn event<'t, F: Fn(Global, &[u8], Phrase, &[Tok]) -> Result<(Tree, usize), Stop>>(
     reader: &Reader<'_, F>,
     tok: Tok,
     toks: &'t [Tok],
-) -> Result<(Expr, &'t [Tok]), Stop>
+) -> Result<(Tree, &'t [Tok]), Stop>
     requires start { primary_start tok.kind ≡ Some PrimaryStart.Event }
     ensures spelled { IfOk result (λ r. Reads reader.now.bytes.now Phrase.Primary (tok ∷ toks.now) (tree_of r.0) r.1.now) }
     ensures eats { IfOk result (λ r. EatsRule (phrase Phrase.Primary) (tok ∷ toks.now) r.1.now) }
@@ -96,16 +95,16 @@ pub fn event<'t, F: Fn(Global, &[u8], Phrase, &[Tok]) -> Result<(Expr, usize), S
     let (ty, behind) = bracket_type(reader.alloc, reader.bytes, toks)?;
     let (_, behind) = expect(behind, Fixed::Open)?;
     let (_, rest) = expect(behind, Fixed::Close)?;
-    Ok((literals::event(tok.place, ty), rest))
+    Ok((literals::event(reader.alloc, tok.place, ty)?, rest))
 }
 
 /// `Sleep(D)`
 #[tactic(auto, using(crate::proofs::Parts::sleep_reads, verse_grammar::proofs::Sticking::sticks_primary_sleep_1, verse_grammar::proofs::Sticking::sticks_primary_sleep_2, verse_grammar::proofs::Sticking::sticks_duration_other, verse_grammar::proofs::Sticking::sticks_duration_end))]
-pub fn sleep<'t, F: Fn(Global, &[u8], Phrase, &[Tok]) -> Result<(Expr, usize), Stop>>(
+pub fn sleep<'t, F: Fn(Global, &[u8], Phrase, &[Tok]) -> Result<(Tree, usize), Stop>>(
     reader: &Reader<'_, F>,
     tok: Tok,
     toks: &'t [Tok],
-) -> Result<(Expr, &'t [Tok]), Stop>
+) -> Result<(Tree, &'t [Tok]), Stop>
     requires start { primary_start tok.kind ≡ Some PrimaryStart.Sleep }
     ensures spelled { IfOk result (λ r. Reads reader.now.bytes.now Phrase.Primary (tok ∷ toks.now) (tree_of r.0) r.1.now) }
     ensures eats { IfOk result (λ r. EatsRule (phrase Phrase.Primary) (tok ∷ toks.now) r.1.now) }
@@ -117,7 +116,7 @@ pub fn sleep<'t, F: Fn(Global, &[u8], Phrase, &[Tok]) -> Result<(Expr, usize), S
         Some((time, after)) => match duration_at(time.kind) {
             Some(duration) => {
                 let (_, rest) = expect(after, Fixed::RoundClose)?;
-                Ok((slept(tok.place, duration), rest))
+                Ok((slept(reader.alloc, tok.place, duration)?, rest))
             }
             None => Err(Stop::At(behind.len())),
         },
@@ -131,7 +130,7 @@ pub fn bracket_type<'t>(
     alloc: Global,
     bytes: &[u8],
     toks: &'t [Tok],
-) -> Result<(Option<TyExpr>, &'t [Tok]), Stop>
+) -> Result<(Option<Written>, &'t [Tok]), Stop>
     ensures spelled { IfOk result (λ r. BracketType bytes.now toks.now (option_map written_of r.0) r.1.now) }
     ensures eats { IfOk result (λ r. EatsRule bracket_type toks.now r.1.now) }
     ensures sticks { (left : ℕ) → IsErrOf result (stop.At left) → SticksRule bracket_type toks.now left }
@@ -149,36 +148,31 @@ pub fn bracket_type<'t>(
 }
 
 /// An expression by itself, or a tuple with others behind it.
-fn rounded(
-    alloc: Global,
-    place: Place,
-    first: Expr,
-    more: Option<Items<Expr>>,
-) -> Result<Expr, Memory>
+fn rounded(alloc: Global, place: Place, first: Tree, more: Option<Trees>) -> Result<Tree, Memory>
     ensures { IfOk result (λ r. tree_of r ≡ rounded place (tree_of first) (option_map (map tree_of) more)) }
 {
     match more {
-        Some(more) => Ok(literals::tuple(place, joined(alloc, first, more)?)),
+        Some(more) => literals::tuple(alloc, place, joined(alloc, first, more)?),
         None => Ok(first),
     }
 }
 
 /// An expression before others.
-fn joined(alloc: Global, first: Expr, more: Items<Expr>) -> Result<Items<Expr>, Memory>
+fn joined(alloc: Global, first: Tree, more: Trees) -> Result<Trees, Memory>
     ensures { IfOk result (λ r. map tree_of r ≡ tree_of first ∷ map tree_of more) }
 {
-    let mut parts = Items::new(alloc);
+    let mut parts = Trees::new(alloc);
     parts.push(first)?;
     parts.append(more)?;
     Ok(parts)
 }
 
 /// The node of a `Sleep`.
-fn slept(place: Place, duration: Duration) -> Expr
-    ensures { tree_of result ≡ tree 0 place (slept duration) }
+fn slept(alloc: Global, place: Place, duration: Duration) -> Result<Tree, Memory>
+    ensures { IfOk result (λ r. tree_of r ≡ tree 0 place (slept duration)) }
 {
     match duration {
-        Duration::Milliseconds(milliseconds) => forms::sleep(place, milliseconds),
-        Duration::Forever => forms::sleep_forever(place),
+        Duration::Milliseconds(milliseconds) => forms::sleep(alloc, place, milliseconds),
+        Duration::Forever => forms::sleep_forever(alloc, place),
     }
 }

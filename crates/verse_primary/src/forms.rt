@@ -13,23 +13,22 @@ ghost use Rattle.verse_grammar.specs.declared.starts.PrimaryStart.{PrimaryStart}
 ghost use Rattle.verse_reading.specs.Nests.{Nests};
 ghost use Rattle.verse_reading.specs.declared.stops.Stop.TheVariants as stop;
 
-use sqlite_items::Items;
 use std::alloc::Global;
 use verse_grammar::phrases::Phrase;
 use verse_grammar::starts::Fixed;
+use verse_handles::trees::{Tree, Trees};
 use verse_layout::toks::Tok;
 use verse_nodes::forms;
 use verse_reading::nesting::Reader;
 use verse_reading::stops::{Stop, expect, take};
-use verse_tree::exprs::Expr;
 
 /// `for`
-#[tactic(auto, using(verse_grammar::specs::Exprs::each, verse_grammar::proofs::Eating::eats_primary_for, verse_grammar::proofs::Sticking::sticks_primary_for_1, verse_grammar::proofs::Sticking::sticks_primary_for_2, verse_grammar::proofs::Sticking::sticks_primary_for_3))]
-pub fn each<'t, F: Fn(Global, &[u8], Phrase, &[Tok]) -> Result<(Expr, usize), Stop>>(
+#[tactic(auto, using(verse_grammar::specs::Exprs::for_form, verse_grammar::proofs::Eating::eats_primary_for, verse_grammar::proofs::Sticking::sticks_primary_for_1, verse_grammar::proofs::Sticking::sticks_primary_for_2, verse_grammar::proofs::Sticking::sticks_primary_for_3))]
+pub fn for_form<'t, F: Fn(Global, &[u8], Phrase, &[Tok]) -> Result<(Tree, usize), Stop>>(
     reader: &Reader<'_, F>,
     tok: Tok,
     toks: &'t [Tok],
-) -> Result<(Expr, &'t [Tok]), Stop>
+) -> Result<(Tree, &'t [Tok]), Stop>
     requires nests { Nests reader.now.bytes.now reader.now.most (F.pre reader.now.nested) (F.post reader.now.nested) }
     requires fewer { length toks.now < reader.now.most }
     requires start { primary_start tok.kind ≡ Some PrimaryStart.For }
@@ -41,15 +40,15 @@ pub fn each<'t, F: Fn(Global, &[u8], Phrase, &[Tok]) -> Result<(Expr, usize), St
     let (_, behind) = expect(toks, Fixed::RoundOpen)?;
     let (parts, behind) = clauses(reader, behind)?;
     let (body, rest) = reader.inner(Phrase::Block, behind)?;
-    Ok((forms::each(reader.alloc, tok.place, parts, body)?, rest))
+    Ok((forms::for_form(reader.alloc, tok.place, parts, body)?, rest))
 }
 
 /// A generator, and clauses behind it, up to the closing bracket.
 #[tactic(auto, using(verse_grammar::specs::Exprs::first_generator, verse_grammar::specs::Exprs::clauses, verse_grammar::proofs::Going::goes_start, crate::proofs::Parts::clauses_eaten, crate::proofs::Parts::clauses_stuck_between, crate::proofs::Parts::clauses_stuck_at_end, verse_grammar::proofs::Sticking::sticks_clauses_1))]
-fn clauses<'t, F: Fn(Global, &[u8], Phrase, &[Tok]) -> Result<(Expr, usize), Stop>>(
+fn clauses<'t, F: Fn(Global, &[u8], Phrase, &[Tok]) -> Result<(Tree, usize), Stop>>(
     reader: &Reader<'_, F>,
     toks: &'t [Tok],
-) -> Result<(Items<Expr>, &'t [Tok]), Stop>
+) -> Result<(Trees, &'t [Tok]), Stop>
     requires nests { Nests reader.now.bytes.now reader.now.most (F.pre reader.now.nested) (F.post reader.now.nested) }
     requires fewer { length toks.now < reader.now.most }
     ensures spelled { IfOk result (λ r. Clauses reader.now.bytes.now toks.now (map tree_of r.0) r.1.now) }
@@ -58,7 +57,7 @@ fn clauses<'t, F: Fn(Global, &[u8], Phrase, &[Tok]) -> Result<(Expr, usize), Sto
     ensures shorter { IfOk result (λ r. length r.1.now < length toks.now) }
 {
     let (first, after) = reader.inner(Phrase::Generator, toks)?;
-    let mut parts = Items::new(reader.alloc);
+    let mut parts = Trees::new(reader.alloc);
     parts.push(first)?;
     let mut rest = after;
     'more: while let Some((_, behind)) = take(rest, Fixed::Comma) {
@@ -72,70 +71,13 @@ fn clauses<'t, F: Fn(Global, &[u8], Phrase, &[Tok]) -> Result<(Expr, usize), Sto
     }
 }
 
-/// `loop`
-#[tactic(auto, using(verse_grammar::specs::Exprs::turns, verse_grammar::proofs::Eating::eats_primary_loop, verse_grammar::proofs::Sticking::sticks_primary_loop_1))]
-pub fn turns<'t, F: Fn(Global, &[u8], Phrase, &[Tok]) -> Result<(Expr, usize), Stop>>(
-    reader: &Reader<'_, F>,
-    tok: Tok,
-    toks: &'t [Tok],
-) -> Result<(Expr, &'t [Tok]), Stop>
-    requires nests { Nests reader.now.bytes.now reader.now.most (F.pre reader.now.nested) (F.post reader.now.nested) }
-    requires fewer { length toks.now < reader.now.most }
-    requires start { primary_start tok.kind ≡ Some PrimaryStart.Loop }
-    ensures spelled { IfOk result (λ r. Reads reader.now.bytes.now Phrase.Primary (tok ∷ toks.now) (tree_of r.0) r.1.now) }
-    ensures eats { IfOk result (λ r. EatsRule (phrase Phrase.Primary) (tok ∷ toks.now) r.1.now) }
-    ensures sticks { (left : ℕ) → IsErrOf result (stop.At left) → SticksRule (phrase Phrase.Primary) (tok ∷ toks.now) left }
-    ensures shorter { IfOk result (λ r. length r.1.now ≤ length toks.now) }
-{
-    let (body, rest) = reader.inner(Phrase::Block, toks)?;
-    Ok((forms::turns(reader.alloc, tok.place, body)?, rest))
-}
-
-/// `block`
-#[tactic(auto, using(verse_grammar::specs::Exprs::scope, verse_grammar::proofs::Eating::eats_primary_block, verse_grammar::proofs::Sticking::sticks_primary_block_1))]
-pub fn scope<'t, F: Fn(Global, &[u8], Phrase, &[Tok]) -> Result<(Expr, usize), Stop>>(
-    reader: &Reader<'_, F>,
-    tok: Tok,
-    toks: &'t [Tok],
-) -> Result<(Expr, &'t [Tok]), Stop>
-    requires nests { Nests reader.now.bytes.now reader.now.most (F.pre reader.now.nested) (F.post reader.now.nested) }
-    requires fewer { length toks.now < reader.now.most }
-    requires start { primary_start tok.kind ≡ Some PrimaryStart.Block }
-    ensures spelled { IfOk result (λ r. Reads reader.now.bytes.now Phrase.Primary (tok ∷ toks.now) (tree_of r.0) r.1.now) }
-    ensures eats { IfOk result (λ r. EatsRule (phrase Phrase.Primary) (tok ∷ toks.now) r.1.now) }
-    ensures sticks { (left : ℕ) → IsErrOf result (stop.At left) → SticksRule (phrase Phrase.Primary) (tok ∷ toks.now) left }
-    ensures shorter { IfOk result (λ r. length r.1.now ≤ length toks.now) }
-{
-    let (body, rest) = reader.inner(Phrase::Block, toks)?;
-    Ok((forms::scope(reader.alloc, tok.place, body)?, rest))
-}
-
-/// `branch`
-#[tactic(auto, using(verse_grammar::specs::Exprs::branch, verse_grammar::proofs::Eating::eats_primary_branch, verse_grammar::proofs::Sticking::sticks_primary_branch_1))]
-pub fn branch<'t, F: Fn(Global, &[u8], Phrase, &[Tok]) -> Result<(Expr, usize), Stop>>(
-    reader: &Reader<'_, F>,
-    tok: Tok,
-    toks: &'t [Tok],
-) -> Result<(Expr, &'t [Tok]), Stop>
-    requires nests { Nests reader.now.bytes.now reader.now.most (F.pre reader.now.nested) (F.post reader.now.nested) }
-    requires fewer { length toks.now < reader.now.most }
-    requires start { primary_start tok.kind ≡ Some PrimaryStart.Branch }
-    ensures spelled { IfOk result (λ r. Reads reader.now.bytes.now Phrase.Primary (tok ∷ toks.now) (tree_of r.0) r.1.now) }
-    ensures eats { IfOk result (λ r. EatsRule (phrase Phrase.Primary) (tok ∷ toks.now) r.1.now) }
-    ensures sticks { (left : ℕ) → IsErrOf result (stop.At left) → SticksRule (phrase Phrase.Primary) (tok ∷ toks.now) left }
-    ensures shorter { IfOk result (λ r. length r.1.now ≤ length toks.now) }
-{
-    let (body, rest) = reader.inner(Phrase::Block, toks)?;
-    Ok((forms::branch(reader.alloc, tok.place, body)?, rest))
-}
-
 /// `case`
 #[tactic(auto, using(verse_grammar::proofs::Sticking::sticks_primary_case_1, verse_grammar::proofs::Sticking::sticks_case_rest_1, verse_grammar::proofs::Sticking::sticks_case_rest_2, crate::proofs::Parts::case_stuck_behind))]
-pub fn cases<'t, F: Fn(Global, &[u8], Phrase, &[Tok]) -> Result<(Expr, usize), Stop>>(
+pub fn cases<'t, F: Fn(Global, &[u8], Phrase, &[Tok]) -> Result<(Tree, usize), Stop>>(
     reader: &Reader<'_, F>,
     tok: Tok,
     toks: &'t [Tok],
-) -> Result<(Expr, &'t [Tok]), Stop>
+) -> Result<(Tree, &'t [Tok]), Stop>
     requires nests { Nests reader.now.bytes.now reader.now.most (F.pre reader.now.nested) (F.post reader.now.nested) }
     requires fewer { length toks.now < reader.now.most }
     requires start { primary_start tok.kind ≡ Some PrimaryStart.Case }

@@ -18,19 +18,19 @@ use std::alloc::Global;
 use verse_base::places::Place;
 use verse_grammar::phrases::Phrase;
 use verse_grammar::starts::{Fixed, PatternStart, int_at, pattern_start};
+use verse_handles::trees::Tree;
 use verse_layout::toks::Tok;
 use verse_nodes::patterns;
 use verse_reading::nesting::Reader;
 use verse_reading::spans::{name_of, text_of};
 use verse_reading::stops::{Stop, expect, next};
-use verse_tree::exprs::Expr;
 
 /// A pattern.
 #[tactic(auto, using(verse_grammar::proofs::Sticking::sticks_pattern_other, verse_grammar::proofs::Sticking::sticks_pattern_end))]
-pub fn pattern<'t, F: Fn(Global, &[u8], Phrase, &[Tok]) -> Result<(Expr, usize), Stop>>(
+pub fn pattern<'t, F: Fn(Global, &[u8], Phrase, &[Tok]) -> Result<(Tree, usize), Stop>>(
     reader: &Reader<'_, F>,
     toks: &'t [Tok],
-) -> Result<(Expr, &'t [Tok]), Stop>
+) -> Result<(Tree, &'t [Tok]), Stop>
     ensures spelled { IfOk result (λ r. Reads reader.now.bytes.now Phrase.Pattern toks.now (tree_of r.0) r.1.now) }
     ensures eats { IfOk result (λ r. EatsRule (phrase Phrase.Pattern) toks.now r.1.now) }
     ensures sticks { (left : ℕ) → IsErrOf result (stop.At left) → SticksRule (phrase Phrase.Pattern) toks.now left }
@@ -47,12 +47,12 @@ pub fn pattern<'t, F: Fn(Global, &[u8], Phrase, &[Tok]) -> Result<(Expr, usize),
 
 /// The pattern that begins with this tok.
 #[tactic(auto, using(verse_grammar::specs::Exprs::integer_pattern, verse_grammar::specs::Exprs::character_pattern, verse_grammar::specs::Exprs::text_pattern, verse_grammar::specs::Exprs::truth_pattern, verse_grammar::specs::Exprs::falsehood_pattern, verse_grammar::specs::Exprs::any_pattern, verse_grammar::proofs::Eating::eats_pattern_int, verse_grammar::proofs::Eating::eats_pattern_char, verse_grammar::proofs::Eating::eats_pattern_text, verse_grammar::proofs::Eating::eats_pattern_true, verse_grammar::proofs::Eating::eats_pattern_false, verse_grammar::proofs::Eating::eats_pattern_wild))]
-fn pattern_from<'t, F: Fn(Global, &[u8], Phrase, &[Tok]) -> Result<(Expr, usize), Stop>>(
+fn pattern_from<'t, F: Fn(Global, &[u8], Phrase, &[Tok]) -> Result<(Tree, usize), Stop>>(
     reader: &Reader<'_, F>,
     start: PatternStart,
     tok: Tok,
     toks: &'t [Tok],
-) -> Result<(Expr, &'t [Tok]), Stop>
+) -> Result<(Tree, &'t [Tok]), Stop>
     requires start { pattern_start tok.kind ≡ Some start }
     ensures spelled { IfOk result (λ r. Reads reader.now.bytes.now Phrase.Pattern (tok ∷ toks.now) (tree_of r.0) r.1.now) }
     ensures eats { IfOk result (λ r. EatsRule (phrase Phrase.Pattern) (tok ∷ toks.now) r.1.now) }
@@ -60,15 +60,25 @@ fn pattern_from<'t, F: Fn(Global, &[u8], Phrase, &[Tok]) -> Result<(Expr, usize)
     ensures shorter { IfOk result (λ r. length r.1.now ≤ length toks.now) }
 {
     match start {
-        PatternStart::Int(value) => Ok((patterns::integer_pattern(tok.place, value), toks)),
-        PatternStart::Char(value) => Ok((patterns::character_pattern(tok.place, value), toks)),
-        PatternStart::Text => Ok((
-            patterns::text_pattern(tok.place, text_of(reader.alloc, reader.bytes, tok)?),
+        PatternStart::Int(value) => Ok((
+            patterns::integer_pattern(reader.alloc, tok.place, value)?,
             toks,
         )),
-        PatternStart::True => Ok((patterns::truth_pattern(tok.place), toks)),
-        PatternStart::False => Ok((patterns::falsehood_pattern(tok.place), toks)),
-        PatternStart::Wild => Ok((patterns::any_pattern(tok.place), toks)),
+        PatternStart::Char(value) => Ok((
+            patterns::character_pattern(reader.alloc, tok.place, value)?,
+            toks,
+        )),
+        PatternStart::Text => Ok((
+            patterns::text_pattern(
+                reader.alloc,
+                tok.place,
+                text_of(reader.alloc, reader.bytes, tok)?,
+            )?,
+            toks,
+        )),
+        PatternStart::True => Ok((patterns::truth_pattern(reader.alloc, tok.place)?, toks)),
+        PatternStart::False => Ok((patterns::falsehood_pattern(reader.alloc, tok.place)?, toks)),
+        PatternStart::Wild => Ok((patterns::any_pattern(reader.alloc, tok.place)?, toks)),
         PatternStart::Minus => below_zero(reader, tok, toks),
         PatternStart::Name => enum_value(reader, tok, toks),
     }
@@ -76,11 +86,11 @@ fn pattern_from<'t, F: Fn(Global, &[u8], Phrase, &[Tok]) -> Result<(Expr, usize)
 
 /// `-n`
 #[tactic(auto, using(verse_grammar::specs::Exprs::minus_pattern, verse_grammar::proofs::Eating::eats_pattern_minus, verse_grammar::proofs::Eating::eats_an_int_at, verse_grammar::proofs::Sticking::sticks_pattern_minus_1, verse_grammar::proofs::Sticking::sticks_an_int_other, verse_grammar::proofs::Sticking::sticks_an_int_end))]
-fn below_zero<'t, F: Fn(Global, &[u8], Phrase, &[Tok]) -> Result<(Expr, usize), Stop>>(
+fn below_zero<'t, F: Fn(Global, &[u8], Phrase, &[Tok]) -> Result<(Tree, usize), Stop>>(
     reader: &Reader<'_, F>,
     tok: Tok,
     toks: &'t [Tok],
-) -> Result<(Expr, &'t [Tok]), Stop>
+) -> Result<(Tree, &'t [Tok]), Stop>
     requires start { pattern_start tok.kind ≡ Some PatternStart.Minus }
     ensures spelled { IfOk result (λ r. Reads reader.now.bytes.now Phrase.Pattern (tok ∷ toks.now) (tree_of r.0) r.1.now) }
     ensures eats { IfOk result (λ r. EatsRule (phrase Phrase.Pattern) (tok ∷ toks.now) r.1.now) }
@@ -89,7 +99,10 @@ fn below_zero<'t, F: Fn(Global, &[u8], Phrase, &[Tok]) -> Result<(Expr, usize), 
 {
     match next(toks) {
         Some((number, rest)) => match int_at(number.kind) {
-            Some(value) => Ok((patterns::minus_pattern(tok.place, value), rest)),
+            Some(value) => Ok((
+                patterns::minus_pattern(reader.alloc, tok.place, value)?,
+                rest,
+            )),
             None => Err(Stop::At(toks.len())),
         },
         None => Err(Stop::At(0)),
@@ -98,11 +111,11 @@ fn below_zero<'t, F: Fn(Global, &[u8], Phrase, &[Tok]) -> Result<(Expr, usize), 
 
 /// `e.v`
 #[tactic(auto, using(verse_grammar::specs::Exprs::enum_pattern, verse_grammar::proofs::Eating::eats_pattern_name, verse_grammar::proofs::Sticking::sticks_pattern_name_1, verse_grammar::proofs::Sticking::sticks_pattern_name_2))]
-fn enum_value<'t, F: Fn(Global, &[u8], Phrase, &[Tok]) -> Result<(Expr, usize), Stop>>(
+fn enum_value<'t, F: Fn(Global, &[u8], Phrase, &[Tok]) -> Result<(Tree, usize), Stop>>(
     reader: &Reader<'_, F>,
     tok: Tok,
     toks: &'t [Tok],
-) -> Result<(Expr, &'t [Tok]), Stop>
+) -> Result<(Tree, &'t [Tok]), Stop>
     requires start { pattern_start tok.kind ≡ Some PatternStart.Name }
     ensures spelled { IfOk result (λ r. Reads reader.now.bytes.now Phrase.Pattern (tok ∷ toks.now) (tree_of r.0) r.1.now) }
     ensures eats { IfOk result (λ r. EatsRule (phrase Phrase.Pattern) (tok ∷ toks.now) r.1.now) }
@@ -113,15 +126,18 @@ fn enum_value<'t, F: Fn(Global, &[u8], Phrase, &[Tok]) -> Result<(Expr, usize), 
     let (value, rest) = expect(behind, Fixed::Name)?;
     let of = name_of(reader.alloc, reader.bytes, tok)?;
     let value = name_of(reader.alloc, reader.bytes, value)?;
-    Ok((patterns::enum_pattern(tok.place, of, value), rest))
+    Ok((
+        patterns::enum_pattern(reader.alloc, tok.place, of, value)?,
+        rest,
+    ))
 }
 
 /// `P => E`
 #[tactic(auto, using(crate::proofs::Parts::arm_reads, crate::proofs::Parts::sticks_arm_end))]
-pub fn arm<'t, F: Fn(Global, &[u8], Phrase, &[Tok]) -> Result<(Expr, usize), Stop>>(
+pub fn arm<'t, F: Fn(Global, &[u8], Phrase, &[Tok]) -> Result<(Tree, usize), Stop>>(
     reader: &Reader<'_, F>,
     toks: &'t [Tok],
-) -> Result<(Expr, &'t [Tok]), Stop>
+) -> Result<(Tree, &'t [Tok]), Stop>
     requires nests { Nests reader.now.bytes.now reader.now.most (F.pre reader.now.nested) (F.post reader.now.nested) }
     requires within { length toks.now ≤ reader.now.most }
     ensures spelled { IfOk result (λ r. Reads reader.now.bytes.now Phrase.Arm toks.now (tree_of r.0) r.1.now) }
@@ -137,11 +153,11 @@ pub fn arm<'t, F: Fn(Global, &[u8], Phrase, &[Tok]) -> Result<(Expr, usize), Sto
 
 /// The same, with the place of its first tok.
 #[tactic(auto, using(crate::proofs::ArmRests::arm_joined, crate::proofs::ArmRests::eats_arm_joined, crate::proofs::ArmRests::sticks_arm_joined, verse_grammar::proofs::Sticking::sticks_arm_1))]
-fn arm_placed<'t, F: Fn(Global, &[u8], Phrase, &[Tok]) -> Result<(Expr, usize), Stop>>(
+fn arm_placed<'t, F: Fn(Global, &[u8], Phrase, &[Tok]) -> Result<(Tree, usize), Stop>>(
     reader: &Reader<'_, F>,
     place: Place,
     toks: &'t [Tok],
-) -> Result<(Expr, &'t [Tok]), Stop>
+) -> Result<(Tree, &'t [Tok]), Stop>
     requires nests { Nests reader.now.bytes.now reader.now.most (F.pre reader.now.nested) (F.post reader.now.nested) }
     requires within { length toks.now ≤ reader.now.most }
     ensures spelled { IfOk result (λ r. IsArm reader.now.bytes.now place toks.now (tree_of r.0) r.1.now) }
@@ -156,10 +172,10 @@ fn arm_placed<'t, F: Fn(Global, &[u8], Phrase, &[Tok]) -> Result<(Expr, usize), 
 
 /// The arrow of an arm and its body.
 #[tactic(auto, using(crate::specs::ArmRests::behind_arrow, crate::proofs::ArmRests::eats_arm_rest, crate::proofs::ArmRests::sticks_arm_rest_1, crate::proofs::ArmRests::sticks_arm_rest_2))]
-fn arm_body<'t, F: Fn(Global, &[u8], Phrase, &[Tok]) -> Result<(Expr, usize), Stop>>(
+fn arm_body<'t, F: Fn(Global, &[u8], Phrase, &[Tok]) -> Result<(Tree, usize), Stop>>(
     reader: &Reader<'_, F>,
     toks: &'t [Tok],
-) -> Result<(Expr, &'t [Tok]), Stop>
+) -> Result<(Tree, &'t [Tok]), Stop>
     requires nests { Nests reader.now.bytes.now reader.now.most (F.pre reader.now.nested) (F.post reader.now.nested) }
     requires fewer { length toks.now < reader.now.most }
     ensures spelled { IfOk result (λ r. IsArmRest reader.now.bytes.now toks.now (tree_of r.0) r.1.now) }

@@ -12,14 +12,13 @@ ghost use Rattle.verse_reading.specs.declared.stops.Stop.TheVariants as stop;
 
 use crate::nesting::Reader;
 use crate::stops::{Stop, take};
-use sqlite_items::Items;
 use std::alloc::Global;
 use verse_grammar::phrases::Phrase;
 use verse_grammar::starts::Fixed;
+use verse_handles::trees::{Tree, Trees};
 use verse_layout::toks::Tok;
-use verse_tree::exprs::Expr;
 
-impl<'b, F: Fn(Global, &[u8], Phrase, &[Tok]) -> Result<(Expr, usize), Stop>> Reader<'b, F> {
+impl<'b, F: Fn(Global, &[u8], Phrase, &[Tok]) -> Result<(Tree, usize), Stop>> Reader<'b, F> {
     /// One phrase or more, with a separator between them, up to a closing tok.
     #[tactic(auto, using(verse_grammar::specs::Exprs::row_one, verse_grammar::specs::Exprs::row_more, verse_grammar::specs::Exprs::closed, verse_grammar::proofs::Going::goes_start, verse_grammar::proofs::Going::goes_row_tail_at, crate::proofs::Rows::closed_eaten, crate::proofs::Rows::closed_stuck_between, crate::proofs::Rows::closed_stuck_at_end, verse_grammar::proofs::Sticking::sticks_closed_1))]
     pub fn closed<'t>(
@@ -28,7 +27,7 @@ impl<'b, F: Fn(Global, &[u8], Phrase, &[Tok]) -> Result<(Expr, usize), Stop>> Re
         separator: Fixed,
         close: Fixed,
         toks: &'t [Tok],
-    ) -> Result<(Items<Expr>, &'t [Tok]), Stop>
+    ) -> Result<(Trees, &'t [Tok]), Stop>
         requires nests { Nests self.now.bytes.now self.now.most (F.pre self.now.nested) (F.post self.now.nested) }
         requires fewer { length toks.now < self.now.most }
         ensures spelled { IfOk result (λ r. Closed self.now.bytes.now what (kind_of separator) (kind_of close) toks.now (map tree_of r.0) r.1.now) }
@@ -37,7 +36,7 @@ impl<'b, F: Fn(Global, &[u8], Phrase, &[Tok]) -> Result<(Expr, usize), Stop>> Re
         ensures shorter { IfOk result (λ r. length r.1.now < length toks.now) }
     {
         let (first, after) = self.inner(what, toks)?;
-        let mut exprs = Items::new(self.alloc);
+        let mut exprs = Trees::new(self.alloc);
         exprs.push(first)?;
         let mut rest = after;
         'more: while let Some((_, behind)) = take(rest, separator) {
@@ -59,7 +58,7 @@ impl<'b, F: Fn(Global, &[u8], Phrase, &[Tok]) -> Result<(Expr, usize), Stop>> Re
         separator: Fixed,
         close: Fixed,
         toks: &'t [Tok],
-    ) -> Result<(Items<Expr>, &'t [Tok]), Stop>
+    ) -> Result<(Trees, &'t [Tok]), Stop>
         requires nests { Nests self.now.bytes.now self.now.most (F.pre self.now.nested) (F.post self.now.nested) }
         requires fewer { length toks.now < self.now.most }
         ensures spelled { IfOk result (λ r. Until self.now.bytes.now what (kind_of separator) (kind_of close) toks.now (map tree_of r.0) r.1.now) }
@@ -68,7 +67,7 @@ impl<'b, F: Fn(Global, &[u8], Phrase, &[Tok]) -> Result<(Expr, usize), Stop>> Re
         ensures shorter { IfOk result (λ r. length r.1.now < length toks.now) }
     {
         match take(toks, close) {
-            Some((_, rest)) => Ok((Items::new(self.alloc), rest)),
+            Some((_, rest)) => Ok((Trees::new(self.alloc), rest)),
             None => self.closed(what, separator, close, toks),
         }
     }

@@ -12,8 +12,8 @@ ghost use Rattle.verse_reading.specs.declared.stops.Stop.TheVariants as stop;
 use crate::stops::Stop;
 use std::alloc::Global;
 use verse_grammar::phrases::Phrase;
+use verse_handles::trees::Tree;
 use verse_layout::toks::Tok;
-use verse_tree::exprs::Expr;
 
 /// Reads the phrases of a file; what is nested in one is read by `nested`, which answers the tree and
 /// how many toks it has.
@@ -26,9 +26,9 @@ pub struct Reader<'b, F> {
     pub nested: F,
 }
 
-impl<'b, F: Fn(Global, &[u8], Phrase, &[Tok]) -> Result<(Expr, usize), Stop>> Reader<'b, F> {
+impl<'b, F: Fn(Global, &[u8], Phrase, &[Tok]) -> Result<(Tree, usize), Stop>> Reader<'b, F> {
     /// A phrase inside another.
-    pub fn inner<'t>(&self, what: Phrase, toks: &'t [Tok]) -> Result<(Expr, &'t [Tok]), Stop>
+    pub fn inner<'t>(&self, what: Phrase, toks: &'t [Tok]) -> Result<(Tree, &'t [Tok]), Stop>
         requires nests { Nests self.now.bytes.now self.now.most (F.pre self.now.nested) (F.post self.now.nested) }
         requires fewer { length toks.now < self.now.most }
         ensures spelled { IfOk result (λ r. Reads self.now.bytes.now what toks.now (tree_of r.0) r.1.now) }

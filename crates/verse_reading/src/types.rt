@@ -14,16 +14,15 @@ ghost use Rattle.verse_reading.specs.declared.stops.Stop.TheVariants as stop;
 
 use crate::spans::name_of;
 use crate::stops::{Stop, expect, next, take};
-use sqlite_items::Items;
 use std::alloc::Global;
 use verse_base::refusals::Memory;
 use verse_grammar::starts::{Fixed, TypeStart, type_start};
+use verse_handles::types::{Written, Writtens};
 use verse_layout::toks::Tok;
 use verse_nodes::types::{
     array_of, bare_event, char, event_of, int, logic, map_of, named, option_of, string, task_of,
     tuple_of, void,
 };
-use verse_tree::types::TyExpr;
 
 /// A type.
 #[cycle(type_at)]
@@ -32,7 +31,7 @@ pub fn type_at<'t>(
     alloc: Global,
     bytes: &[u8],
     toks: &'t [Tok],
-) -> Result<(TyExpr, &'t [Tok]), Stop>
+) -> Result<(Written, &'t [Tok]), Stop>
     ensures spelled { IfOk result (λ r. IsType bytes.now toks.now (written_of r.0) r.1.now) }
     ensures eats { IfOk result (λ r. EatsRule a_type toks.now r.1.now) }
     ensures sticks { (left : ℕ) → IsErrOf result (stop.At left) → SticksRule a_type toks.now left }
@@ -65,7 +64,7 @@ fn option_type<'t>(
     bytes: &[u8],
     tok: Tok,
     toks: &'t [Tok],
-) -> Result<(TyExpr, &'t [Tok]), Stop>
+) -> Result<(Written, &'t [Tok]), Stop>
     requires start { type_start tok.kind ≡ Some TypeStart.Option }
     ensures spelled { IfOk result (λ r. IsType bytes.now (tok ∷ toks.now) (written_of r.0) r.1.now) }
     ensures eats { IfOk result (λ r. EatsRule a_type (tok ∷ toks.now) r.1.now) }
@@ -84,7 +83,7 @@ fn bracket_type<'t>(
     bytes: &[u8],
     tok: Tok,
     toks: &'t [Tok],
-) -> Result<(TyExpr, &'t [Tok]), Stop>
+) -> Result<(Written, &'t [Tok]), Stop>
     requires start { type_start tok.kind ≡ Some TypeStart.Bracket }
     ensures spelled { IfOk result (λ r. IsType bytes.now (tok ∷ toks.now) (written_of r.0) r.1.now) }
     ensures eats { IfOk result (λ r. EatsRule a_type (tok ∷ toks.now) r.1.now) }
@@ -108,7 +107,7 @@ fn map_type<'t>(
     bytes: &[u8],
     tok: Tok,
     toks: &'t [Tok],
-) -> Result<(TyExpr, &'t [Tok]), Stop>
+) -> Result<(Written, &'t [Tok]), Stop>
     requires other { ahead toks.now ≢ Some (kind_of Fixed.SquareClose) }
     requires start { type_start tok.kind ≡ Some TypeStart.Bracket }
     ensures spelled { IfOk result (λ r. IsType bytes.now (tok ∷ toks.now) (written_of r.0) r.1.now) }
@@ -132,7 +131,7 @@ fn tuple_type<'t>(
     bytes: &[u8],
     tok: Tok,
     toks: &'t [Tok],
-) -> Result<(TyExpr, &'t [Tok]), Stop>
+) -> Result<(Written, &'t [Tok]), Stop>
     requires start { type_start tok.kind ≡ Some TypeStart.Tuple }
     ensures spelled { IfOk result (λ r. IsType bytes.now (tok ∷ toks.now) (written_of r.0) r.1.now) }
     ensures eats { IfOk result (λ r. EatsRule a_type (tok ∷ toks.now) r.1.now) }
@@ -150,18 +149,14 @@ fn tuple_type<'t>(
 /// Types with commas between them.
 #[cycle(type_at)]
 #[tactic(auto, using(verse_grammar::specs::Types::one_type, verse_grammar::specs::Types::more_types, verse_grammar::proofs::Going::goes_start, verse_grammar::proofs::Going::goes_types_tail_at, verse_grammar::proofs::Sticking::sticks_types_1, crate::proofs::TypeRows::types_eaten, crate::proofs::TypeRows::types_stuck))]
-fn types<'t>(
-    alloc: Global,
-    bytes: &[u8],
-    toks: &'t [Tok],
-) -> Result<(Items<TyExpr>, &'t [Tok]), Stop>
+fn types<'t>(alloc: Global, bytes: &[u8], toks: &'t [Tok]) -> Result<(Writtens, &'t [Tok]), Stop>
     ensures spelled { IfOk result (λ r. AreTypes bytes.now toks.now (map written_of r.0) r.1.now) }
     ensures eats { IfOk result (λ r. EatsRule types toks.now r.1.now) }
     ensures sticks { (left : ℕ) → IsErrOf result (stop.At left) → SticksRule types toks.now left }
     ensures shorter { IfOk result (λ r. length r.1.now < length toks.now) }
 {
     let (first, after) = type_at(alloc, bytes, toks)?;
-    let mut parts = Items::new(alloc);
+    let mut parts = Writtens::new(alloc);
     parts.push(first)?;
     let mut rest = after;
     'more: while let Some((_, behind)) = take(rest, Fixed::Comma) {
@@ -180,7 +175,7 @@ fn task_type<'t>(
     bytes: &[u8],
     tok: Tok,
     toks: &'t [Tok],
-) -> Result<(TyExpr, &'t [Tok]), Stop>
+) -> Result<(Written, &'t [Tok]), Stop>
     requires start { type_start tok.kind ≡ Some TypeStart.Task }
     ensures spelled { IfOk result (λ r. IsType bytes.now (tok ∷ toks.now) (written_of r.0) r.1.now) }
     ensures eats { IfOk result (λ r. EatsRule a_type (tok ∷ toks.now) r.1.now) }
@@ -201,7 +196,7 @@ fn event_type<'t>(
     bytes: &[u8],
     tok: Tok,
     toks: &'t [Tok],
-) -> Result<(TyExpr, &'t [Tok]), Stop>
+) -> Result<(Written, &'t [Tok]), Stop>
     requires start { type_start tok.kind ≡ Some TypeStart.Event }
     ensures spelled { IfOk result (λ r. IsType bytes.now (tok ∷ toks.now) (written_of r.0) r.1.now) }
     ensures eats { IfOk result (λ r. EatsRule a_type (tok ∷ toks.now) r.1.now) }
@@ -220,10 +215,10 @@ fn event_type<'t>(
 }
 
 /// A first part before others.
-fn with_first(alloc: Global, first: TyExpr, parts: Items<TyExpr>) -> Result<Items<TyExpr>, Memory>
+fn with_first(alloc: Global, first: Written, parts: Writtens) -> Result<Writtens, Memory>
     ensures { IfOk result (λ r. map written_of r ≡ written_of first ∷ map written_of parts) }
 {
-    let mut all = Items::new(alloc);
+    let mut all = Writtens::new(alloc);
     all.push(first)?;
     all.append(parts)?;
     Ok(all)

@@ -8,7 +8,7 @@ use Rattle.verse_layout.specs.declared.toks.TokKind.TheVariants as tok
 use Rattle.verse_layout.specs.declared.toks.Tok.{Tok}
 use Rattle.verse_tree.specs.Tree as t
 use Rattle.verse_grammar.specs.Toks.{word, name}
-use Rattle.verse_grammar.specs.Exprs.{Control, left_loop, at}
+use Rattle.verse_grammar.specs.Exprs.{Control, break_form, at}
 use Rattle.verse_grammar.specs.Starts.{stmt_start}
 use Rattle.verse_grammar.specs.declared.starts.StmtStart.{StmtStart}
 use Rattle.verse_grammar.specs.declared.starts.StmtStart.TheVariants as stmt
@@ -100,5 +100,5 @@ return_start k h = start_is k stmt.Return h
 pub break_start : (k : TokKind) → stmt_start k ≡ Some stmt.Break → k ≡ word w.Break
 break_start k h = start_is k stmt.Break h
 
-pub left_at : (b : List ℕ) (k : Tok) (rest : List Tok) → stmt_start k.kind ≡ Some stmt.Break → Control b (k ∷ rest) (at k t.Shape.left_loop) rest
-left_at b k rest h = left_loop (break_start k.kind h)
+pub left_at : (b : List ℕ) (k : Tok) (rest : List Tok) → stmt_start k.kind ≡ Some stmt.Break → Control b (k ∷ rest) (at k t.Shape.break_form) rest
+left_at b k rest h = break_form (break_start k.kind h)

@@ -15,18 +15,18 @@ use crate::statements::stmt;
 use std::alloc::Global;
 use verse_grammar::phrases::Phrase;
 use verse_grammar::starts::Fixed;
+use verse_handles::trees::Tree;
 use verse_layout::toks::Tok;
 use verse_nodes::statements;
 use verse_reading::nesting::Reader;
 use verse_reading::stops::{Stop, expect, take};
-use verse_tree::exprs::Expr;
 
 /// Open, parts and Close.
 #[tactic(auto, using(verse_grammar::specs::Exprs::block, verse_grammar::proofs::Eating::eats_block, verse_grammar::proofs::Sticking::sticks_block_1, verse_grammar::proofs::Sticking::sticks_block_2))]
-pub fn block<'t, F: Fn(Global, &[u8], Phrase, &[Tok]) -> Result<(Expr, usize), Stop>>(
+pub fn block<'t, F: Fn(Global, &[u8], Phrase, &[Tok]) -> Result<(Tree, usize), Stop>>(
     reader: &Reader<'_, F>,
     toks: &'t [Tok],
-) -> Result<(Expr, &'t [Tok]), Stop>
+) -> Result<(Tree, &'t [Tok]), Stop>
     requires nests { Nests reader.now.bytes.now reader.now.most (F.pre reader.now.nested) (F.post reader.now.nested) }
     requires within { length toks.now ≤ reader.now.most }
     ensures spelled { IfOk result (λ r. Reads reader.now.bytes.now Phrase.Block toks.now (tree_of r.0) r.1.now) }
@@ -36,15 +36,15 @@ pub fn block<'t, F: Fn(Global, &[u8], Phrase, &[Tok]) -> Result<(Expr, usize), S
 {
     let (tok, rest) = expect(toks, Fixed::Open)?;
     let (parts, rest) = reader.until(Phrase::Part, Fixed::Sep, Fixed::Close, rest)?;
-    Ok((statements::block(tok.place, parts), rest))
+    Ok((statements::block(reader.alloc, tok.place, parts)?, rest))
 }
 
 /// `defer` and its block, or a statement.
 #[tactic(auto, using(verse_grammar::specs::Exprs::part_defer, verse_grammar::specs::Exprs::part_stmt, verse_grammar::proofs::Eating::eats_part_at, verse_grammar::proofs::Eating::eats_part_other, verse_grammar::proofs::Sticking::sticks_part_at_1, verse_grammar::proofs::Sticking::sticks_part_other_1))]
-pub fn part<'t, F: Fn(Global, &[u8], Phrase, &[Tok]) -> Result<(Expr, usize), Stop>>(
+pub fn part<'t, F: Fn(Global, &[u8], Phrase, &[Tok]) -> Result<(Tree, usize), Stop>>(
     reader: &Reader<'_, F>,
     toks: &'t [Tok],
-) -> Result<(Expr, &'t [Tok]), Stop>
+) -> Result<(Tree, &'t [Tok]), Stop>
     requires nests { Nests reader.now.bytes.now reader.now.most (F.pre reader.now.nested) (F.post reader.now.nested) }
     requires within { length toks.now ≤ reader.now.most }
     ensures spelled { IfOk result (λ r. Reads reader.now.bytes.now Phrase.Part toks.now (tree_of r.0) r.1.now) }
@@ -63,10 +63,10 @@ pub fn part<'t, F: Fn(Global, &[u8], Phrase, &[Tok]) -> Result<(Expr, usize), St
 
 /// A block or an expression.
 #[tactic(auto, using(verse_grammar::specs::Exprs::body_block, verse_grammar::specs::Exprs::body_expr, verse_grammar::proofs::Eating::eats_body_at, verse_grammar::proofs::Eating::eats_body_other, verse_grammar::proofs::Sticking::sticks_body_at_1, verse_grammar::proofs::Sticking::sticks_body_other_1))]
-pub fn body<'t, F: Fn(Global, &[u8], Phrase, &[Tok]) -> Result<(Expr, usize), Stop>>(
+pub fn body<'t, F: Fn(Global, &[u8], Phrase, &[Tok]) -> Result<(Tree, usize), Stop>>(
     reader: &Reader<'_, F>,
     toks: &'t [Tok],
-) -> Result<(Expr, &'t [Tok]), Stop>
+) -> Result<(Tree, &'t [Tok]), Stop>
     requires nests { Nests reader.now.bytes.now reader.now.most (F.pre reader.now.nested) (F.post reader.now.nested) }
     requires within { length toks.now ≤ reader.now.most }
     ensures spelled { IfOk result (λ r. Reads reader.now.bytes.now Phrase.Body toks.now (tree_of r.0) r.1.now) }

@@ -15,19 +15,19 @@ ghost use Rattle.verse_reading.specs.declared.stops.Stop.TheVariants as stop;
 use std::alloc::Global;
 use verse_grammar::phrases::Phrase;
 use verse_grammar::starts::Fixed;
+use verse_handles::trees::Tree;
 use verse_layout::toks::Tok;
 use verse_levels::levels::ors;
 use verse_nodes::statements;
 use verse_reading::nesting::Reader;
 use verse_reading::stops::{Stop, expect, take};
-use verse_tree::exprs::Expr;
 
 /// `if`, or what is joined by `or`.
 #[tactic(auto, using(verse_grammar::specs::Exprs::expr_if, verse_grammar::specs::Exprs::expr_or, verse_grammar::proofs::Eating::eats_expr_at, verse_grammar::proofs::Eating::eats_expr_other, verse_grammar::proofs::Sticking::sticks_expr_at_1, verse_grammar::proofs::Sticking::sticks_expr_other_1))]
-pub fn expr<'t, F: Fn(Global, &[u8], Phrase, &[Tok]) -> Result<(Expr, usize), Stop>>(
+pub fn expr<'t, F: Fn(Global, &[u8], Phrase, &[Tok]) -> Result<(Tree, usize), Stop>>(
     reader: &Reader<'_, F>,
     toks: &'t [Tok],
-) -> Result<(Expr, &'t [Tok]), Stop>
+) -> Result<(Tree, &'t [Tok]), Stop>
     requires nests { Nests reader.now.bytes.now reader.now.most (F.pre reader.now.nested) (F.post reader.now.nested) }
     requires within { length toks.now ≤ reader.now.most }
     ensures spelled { IfOk result (λ r. Reads reader.now.bytes.now Phrase.Expr toks.now (tree_of r.0) r.1.now) }
@@ -42,12 +42,12 @@ pub fn expr<'t, F: Fn(Global, &[u8], Phrase, &[Tok]) -> Result<(Expr, usize), St
 }
 
 /// What is behind `if`.
-#[tactic(auto, using(verse_grammar::specs::Exprs::choice, verse_grammar::specs::Exprs::choice_alone, verse_grammar::proofs::Eating::eats_an_if, verse_grammar::proofs::Eating::eats_otherwise_at, verse_grammar::proofs::Eating::eats_otherwise_other, verse_grammar::proofs::Sticking::sticks_an_if_2, verse_grammar::proofs::Sticking::sticks_an_if_3, verse_grammar::proofs::Sticking::sticks_an_if_4, verse_grammar::proofs::Sticking::sticks_an_if_5, verse_grammar::proofs::Sticking::sticks_otherwise_at_1))]
-pub fn if_form<'t, F: Fn(Global, &[u8], Phrase, &[Tok]) -> Result<(Expr, usize), Stop>>(
+#[tactic(auto, using(verse_grammar::specs::Exprs::if_else, verse_grammar::specs::Exprs::if_alone, verse_grammar::proofs::Eating::eats_an_if, verse_grammar::proofs::Eating::eats_otherwise_at, verse_grammar::proofs::Eating::eats_otherwise_other, verse_grammar::proofs::Sticking::sticks_an_if_2, verse_grammar::proofs::Sticking::sticks_an_if_3, verse_grammar::proofs::Sticking::sticks_an_if_4, verse_grammar::proofs::Sticking::sticks_an_if_5, verse_grammar::proofs::Sticking::sticks_otherwise_at_1))]
+pub fn if_form<'t, F: Fn(Global, &[u8], Phrase, &[Tok]) -> Result<(Tree, usize), Stop>>(
     reader: &Reader<'_, F>,
     tok: Tok,
     toks: &'t [Tok],
-) -> Result<(Expr, &'t [Tok]), Stop>
+) -> Result<(Tree, &'t [Tok]), Stop>
     requires nests { Nests reader.now.bytes.now reader.now.most (F.pre reader.now.nested) (F.post reader.now.nested) }
     requires fewer { length toks.now < reader.now.most }
     requires start { tok.kind ≡ word w.If }
@@ -63,12 +63,12 @@ pub fn if_form<'t, F: Fn(Global, &[u8], Phrase, &[Tok]) -> Result<(Expr, usize),
         Some((_, rest)) => {
             let (other, rest) = reader.inner(Phrase::Body, rest)?;
             Ok((
-                statements::choice(reader.alloc, tok.place, conditions, body, other)?,
+                statements::if_else(reader.alloc, tok.place, conditions, body, other)?,
                 rest,
             ))
         }
         None => Ok((
-            statements::choice_alone(reader.alloc, tok.place, conditions, body)?,
+            statements::if_alone(reader.alloc, tok.place, conditions, body)?,
             rest,
         )),
     }
@@ -76,10 +76,10 @@ pub fn if_form<'t, F: Fn(Global, &[u8], Phrase, &[Tok]) -> Result<(Expr, usize),
 
 /// What an `if` comes to where its conditions hold.
 #[tactic(auto, using(verse_grammar::specs::Exprs::taken_then, verse_grammar::specs::Exprs::taken_block, verse_grammar::proofs::Eating::eats_taken_at, verse_grammar::proofs::Eating::eats_taken_other, verse_grammar::proofs::Sticking::sticks_taken_at_1, verse_grammar::proofs::Sticking::sticks_taken_other_1))]
-fn taken<'t, F: Fn(Global, &[u8], Phrase, &[Tok]) -> Result<(Expr, usize), Stop>>(
+fn taken<'t, F: Fn(Global, &[u8], Phrase, &[Tok]) -> Result<(Tree, usize), Stop>>(
     reader: &Reader<'_, F>,
     toks: &'t [Tok],
-) -> Result<(Expr, &'t [Tok]), Stop>
+) -> Result<(Tree, &'t [Tok]), Stop>
     requires nests { Nests reader.now.bytes.now reader.now.most (F.pre reader.now.nested) (F.post reader.now.nested) }
     requires fewer { length toks.now < reader.now.most }
     ensures spelled { IfOk result (λ r. Taken reader.now.bytes.now toks.now (tree_of r.0) r.1.now) }

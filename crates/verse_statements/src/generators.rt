@@ -21,20 +21,20 @@ use crate::statements::{returned, set};
 use std::alloc::Global;
 use verse_grammar::phrases::Phrase;
 use verse_grammar::starts::{Fixed, StmtStart, stmt_start};
+use verse_handles::trees::Tree;
 use verse_layout::toks::Tok;
 use verse_levels::levels::{chain_tail, comparison_tail};
 use verse_nodes::{forms, statements};
 use verse_reading::nesting::Reader;
 use verse_reading::spans::name_of;
 use verse_reading::stops::{Stop, expect, next, take};
-use verse_tree::exprs::Expr;
 
 /// The first thing in the brackets of a `for`.
 #[tactic(auto, using(verse_grammar::proofs::Eating::eats_generator, verse_grammar::proofs::Sticking::sticks_generator_1, verse_grammar::proofs::Sticking::sticks_generator_2))]
-pub fn generator<'t, F: Fn(Global, &[u8], Phrase, &[Tok]) -> Result<(Expr, usize), Stop>>(
+pub fn generator<'t, F: Fn(Global, &[u8], Phrase, &[Tok]) -> Result<(Tree, usize), Stop>>(
     reader: &Reader<'_, F>,
     toks: &'t [Tok],
-) -> Result<(Expr, &'t [Tok]), Stop>
+) -> Result<(Tree, &'t [Tok]), Stop>
     requires nests { Nests reader.now.bytes.now reader.now.most (F.pre reader.now.nested) (F.post reader.now.nested) }
     requires within { length toks.now ≤ reader.now.most }
     ensures spelled { IfOk result (λ r. Reads reader.now.bytes.now Phrase.Generator toks.now (tree_of r.0) r.1.now) }
@@ -48,11 +48,11 @@ pub fn generator<'t, F: Fn(Global, &[u8], Phrase, &[Tok]) -> Result<(Expr, usize
 
 /// What is behind the first name of a generator.
 #[tactic(auto, using(verse_grammar::proofs::Eating::eats_generator_rest_at1, verse_grammar::proofs::Eating::eats_generator_rest_at2, verse_grammar::proofs::Sticking::sticks_generator_rest_at1_1, verse_grammar::proofs::Sticking::sticks_generator_rest_at2_1, verse_grammar::proofs::Sticking::sticks_generator_rest_other))]
-fn generated<'t, F: Fn(Global, &[u8], Phrase, &[Tok]) -> Result<(Expr, usize), Stop>>(
+fn generated<'t, F: Fn(Global, &[u8], Phrase, &[Tok]) -> Result<(Tree, usize), Stop>>(
     reader: &Reader<'_, F>,
     tok: Tok,
     toks: &'t [Tok],
-) -> Result<(Expr, &'t [Tok]), Stop>
+) -> Result<(Tree, &'t [Tok]), Stop>
     requires nests { Nests reader.now.bytes.now reader.now.most (F.pre reader.now.nested) (F.post reader.now.nested) }
     requires fewer { length toks.now < reader.now.most }
     requires start { tok.kind ≡ name }
@@ -75,12 +75,12 @@ fn generated<'t, F: Fn(Global, &[u8], Phrase, &[Tok]) -> Result<(Expr, usize), S
 
 /// What is behind `X :`.
 #[tactic(auto, using(verse_grammar::specs::Exprs::elements))]
-fn elements<'t, F: Fn(Global, &[u8], Phrase, &[Tok]) -> Result<(Expr, usize), Stop>>(
+fn elements<'t, F: Fn(Global, &[u8], Phrase, &[Tok]) -> Result<(Tree, usize), Stop>>(
     reader: &Reader<'_, F>,
     tok: Tok,
     colon: Tok,
     toks: &'t [Tok],
-) -> Result<(Expr, &'t [Tok]), Stop>
+) -> Result<(Tree, &'t [Tok]), Stop>
     requires nests { Nests reader.now.bytes.now reader.now.most (F.pre reader.now.nested) (F.post reader.now.nested) }
     requires fewer { length toks.now < reader.now.most }
     requires start { tok.kind ≡ name }
@@ -100,12 +100,12 @@ fn elements<'t, F: Fn(Global, &[u8], Phrase, &[Tok]) -> Result<(Expr, usize), St
 
 /// What is behind `K ->`.
 #[tactic(auto, using(verse_grammar::proofs::Sticking::sticks_entries_rest_1))]
-fn entries<'t, F: Fn(Global, &[u8], Phrase, &[Tok]) -> Result<(Expr, usize), Stop>>(
+fn entries<'t, F: Fn(Global, &[u8], Phrase, &[Tok]) -> Result<(Tree, usize), Stop>>(
     reader: &Reader<'_, F>,
     tok: Tok,
     arrow: Tok,
     toks: &'t [Tok],
-) -> Result<(Expr, &'t [Tok]), Stop>
+) -> Result<(Tree, &'t [Tok]), Stop>
     requires nests { Nests reader.now.bytes.now reader.now.most (F.pre reader.now.nested) (F.post reader.now.nested) }
     requires fewer { length toks.now < reader.now.most }
     requires start { tok.kind ≡ name }
@@ -121,13 +121,13 @@ fn entries<'t, F: Fn(Global, &[u8], Phrase, &[Tok]) -> Result<(Expr, usize), Sto
 
 /// What is behind `K -> V`.
 #[tactic(auto, using(verse_grammar::specs::Exprs::entries, verse_grammar::proofs::Eating::eats_entries_rest, verse_grammar::proofs::Sticking::sticks_entries_rest_2, verse_grammar::proofs::Sticking::sticks_entries_rest_3))]
-fn entries_of<'t, F: Fn(Global, &[u8], Phrase, &[Tok]) -> Result<(Expr, usize), Stop>>(
+fn entries_of<'t, F: Fn(Global, &[u8], Phrase, &[Tok]) -> Result<(Tree, usize), Stop>>(
     reader: &Reader<'_, F>,
     tok: Tok,
     arrow: Tok,
     second: Tok,
     toks: &'t [Tok],
-) -> Result<(Expr, &'t [Tok]), Stop>
+) -> Result<(Tree, &'t [Tok]), Stop>
     requires nests { Nests reader.now.bytes.now reader.now.most (F.pre reader.now.nested) (F.post reader.now.nested) }
     requires fewer { length toks.now < reader.now.most }
     requires start { tok.kind ≡ name }
@@ -150,12 +150,12 @@ fn entries_of<'t, F: Fn(Global, &[u8], Phrase, &[Tok]) -> Result<(Expr, usize), 
 
 /// What is behind `I :=` in a generator.
 #[tactic(auto, using(crate::proofs::Clausing::range_by, crate::proofs::Clausing::eats_range_by, crate::proofs::Clausing::sticks_range_by, verse_grammar::proofs::Sticking::sticks_generator_rest_at3_1))]
-fn range<'t, F: Fn(Global, &[u8], Phrase, &[Tok]) -> Result<(Expr, usize), Stop>>(
+fn range<'t, F: Fn(Global, &[u8], Phrase, &[Tok]) -> Result<(Tree, usize), Stop>>(
     reader: &Reader<'_, F>,
     tok: Tok,
     define: Tok,
     toks: &'t [Tok],
-) -> Result<(Expr, &'t [Tok]), Stop>
+) -> Result<(Tree, &'t [Tok]), Stop>
     requires nests { Nests reader.now.bytes.now reader.now.most (F.pre reader.now.nested) (F.post reader.now.nested) }
     requires fewer { length toks.now < reader.now.most }
     requires start { tok.kind ≡ name }
@@ -176,10 +176,10 @@ fn range<'t, F: Fn(Global, &[u8], Phrase, &[Tok]) -> Result<(Expr, usize), Stop>
 
 /// `..`, and the end of a range.
 #[tactic(auto, using(crate::specs::Behind::ends, crate::proofs::Clausing::eats_ends, crate::proofs::Clausing::sticks_ends_1, crate::proofs::Clausing::sticks_ends_2))]
-fn highest<'t, F: Fn(Global, &[u8], Phrase, &[Tok]) -> Result<(Expr, usize), Stop>>(
+fn highest<'t, F: Fn(Global, &[u8], Phrase, &[Tok]) -> Result<(Tree, usize), Stop>>(
     reader: &Reader<'_, F>,
     toks: &'t [Tok],
-) -> Result<(Expr, &'t [Tok]), Stop>
+) -> Result<(Tree, &'t [Tok]), Stop>
     requires nests { Nests reader.now.bytes.now reader.now.most (F.pre reader.now.nested) (F.post reader.now.nested) }
     requires fewer { length toks.now < reader.now.most }
     ensures spelled { IfOk result (λ r. EndsRange reader.now.bytes.now toks.now (tree_of r.0) r.1.now) }
@@ -193,10 +193,10 @@ fn highest<'t, F: Fn(Global, &[u8], Phrase, &[Tok]) -> Result<(Expr, usize), Sto
 
 /// What stands behind a generator.
 #[tactic(auto, using(verse_grammar::specs::Exprs::clause_control, verse_grammar::specs::Exprs::clause_expr, crate::proofs::Starting::left_at, verse_grammar::proofs::Eating::eats_clause_set, verse_grammar::proofs::Eating::eats_clause_return, verse_grammar::proofs::Eating::eats_clause_break, verse_grammar::proofs::Eating::eats_clause_other, verse_grammar::proofs::Sticking::sticks_clause_var, verse_grammar::proofs::Sticking::sticks_clause_set_1, verse_grammar::proofs::Sticking::sticks_clause_return_1, verse_grammar::proofs::Sticking::sticks_clause_other_1))]
-pub fn clause<'t, F: Fn(Global, &[u8], Phrase, &[Tok]) -> Result<(Expr, usize), Stop>>(
+pub fn clause<'t, F: Fn(Global, &[u8], Phrase, &[Tok]) -> Result<(Tree, usize), Stop>>(
     reader: &Reader<'_, F>,
     toks: &'t [Tok],
-) -> Result<(Expr, &'t [Tok]), Stop>
+) -> Result<(Tree, &'t [Tok]), Stop>
     requires nests { Nests reader.now.bytes.now reader.now.most (F.pre reader.now.nested) (F.post reader.now.nested) }
     requires within { length toks.now ≤ reader.now.most }
     ensures spelled { IfOk result (λ r. Reads reader.now.bytes.now Phrase.Clause toks.now (tree_of r.0) r.1.now) }
@@ -212,19 +212,19 @@ pub fn clause<'t, F: Fn(Global, &[u8], Phrase, &[Tok]) -> Result<(Expr, usize), 
         Some(StmtStart::Var) => Err(Stop::At(toks.len())),
         Some(StmtStart::Set) => set(reader, tok, rest),
         Some(StmtStart::Return) => returned(reader, tok, rest),
-        Some(StmtStart::Break) => Ok((statements::left_loop(tok.place), rest)),
+        Some(StmtStart::Break) => Ok((statements::break_form(reader.alloc, tok.place)?, rest)),
         None => expr(reader, toks),
     }
 }
 
 /// A clause that begins with a name: a generator, a definition, or an expression.
 #[tactic(auto, using(verse_grammar::specs::Exprs::clause_expr, verse_grammar::specs::Exprs::clause_generator, verse_grammar::proofs::ByExpr::clause_by_expr, verse_grammar::proofs::ByExpr::clause_stuck_by_expr, crate::proofs::Clausing::eats_clause_elements, crate::proofs::Clausing::eats_clause_entries, crate::proofs::Clausing::eats_clause_defined, crate::proofs::Clausing::sticks_clause_elements, crate::proofs::Clausing::sticks_clause_entries, crate::proofs::Clausing::sticks_clause_defined, crate::proofs::Starting::name_start))]
-fn named_clause<'t, F: Fn(Global, &[u8], Phrase, &[Tok]) -> Result<(Expr, usize), Stop>>(
+fn named_clause<'t, F: Fn(Global, &[u8], Phrase, &[Tok]) -> Result<(Tree, usize), Stop>>(
     reader: &Reader<'_, F>,
     tok: Tok,
     toks: &'t [Tok],
     all: &'t [Tok],
-) -> Result<(Expr, &'t [Tok]), Stop>
+) -> Result<(Tree, &'t [Tok]), Stop>
     requires nests { Nests reader.now.bytes.now reader.now.most (F.pre reader.now.nested) (F.post reader.now.nested) }
     requires fewer { length toks.now < reader.now.most }
     requires start { stmt_start tok.kind ≡ Some StmtStart.Name }
@@ -248,12 +248,12 @@ fn named_clause<'t, F: Fn(Global, &[u8], Phrase, &[Tok]) -> Result<(Expr, usize)
 
 /// What is behind `X :=` in a clause.
 #[tactic(auto, using(verse_grammar::specs::Exprs::clause_definition, verse_grammar::specs::Exprs::expr_if, verse_grammar::proofs::Eating::eats_clause_value_at1, verse_grammar::proofs::Sticking::sticks_clause_value_at1_1))]
-fn defined_clause<'t, F: Fn(Global, &[u8], Phrase, &[Tok]) -> Result<(Expr, usize), Stop>>(
+fn defined_clause<'t, F: Fn(Global, &[u8], Phrase, &[Tok]) -> Result<(Tree, usize), Stop>>(
     reader: &Reader<'_, F>,
     tok: Tok,
     define: Tok,
     toks: &'t [Tok],
-) -> Result<(Expr, &'t [Tok]), Stop>
+) -> Result<(Tree, &'t [Tok]), Stop>
     requires nests { Nests reader.now.bytes.now reader.now.most (F.pre reader.now.nested) (F.post reader.now.nested) }
     requires fewer { length toks.now < reader.now.most }
     requires start { tok.kind ≡ name }
@@ -279,12 +279,12 @@ fn defined_clause<'t, F: Fn(Global, &[u8], Phrase, &[Tok]) -> Result<(Expr, usiz
 
 /// The value of a definition that begins with `not`.
 #[tactic(auto, using(verse_grammar::specs::Exprs::clause_definition, verse_grammar::specs::Exprs::expr_or, crate::proofs::Clausing::eats_value_not, crate::proofs::Clausing::sticks_value_not))]
-fn denied_clause<'t, F: Fn(Global, &[u8], Phrase, &[Tok]) -> Result<(Expr, usize), Stop>>(
+fn denied_clause<'t, F: Fn(Global, &[u8], Phrase, &[Tok]) -> Result<(Tree, usize), Stop>>(
     reader: &Reader<'_, F>,
     tok: Tok,
     define: Tok,
     toks: &'t [Tok],
-) -> Result<(Expr, &'t [Tok]), Stop>
+) -> Result<(Tree, &'t [Tok]), Stop>
     requires nests { Nests reader.now.bytes.now reader.now.most (F.pre reader.now.nested) (F.post reader.now.nested) }
     requires fewer { length toks.now < reader.now.most }
     requires start { tok.kind ≡ name }
@@ -305,12 +305,12 @@ fn denied_clause<'t, F: Fn(Global, &[u8], Phrase, &[Tok]) -> Result<(Expr, usize
 
 /// What begins with a sum behind `X :=`: a range, or the value of a definition.
 #[tactic(auto, using(verse_grammar::specs::Exprs::range, verse_grammar::specs::Exprs::clause_generator, verse_grammar::specs::Exprs::clause_definition, crate::proofs::Sums::whole, verse_grammar::proofs::Eating::eats_clause_value_other, verse_grammar::proofs::Eating::eats_range_rest_at, verse_grammar::proofs::Sticking::sticks_clause_value_other_1, verse_grammar::proofs::Sticking::sticks_clause_value_other_2, verse_grammar::proofs::Sticking::sticks_range_rest_at_1))]
-fn sum_clause<'t, F: Fn(Global, &[u8], Phrase, &[Tok]) -> Result<(Expr, usize), Stop>>(
+fn sum_clause<'t, F: Fn(Global, &[u8], Phrase, &[Tok]) -> Result<(Tree, usize), Stop>>(
     reader: &Reader<'_, F>,
     tok: Tok,
     define: Tok,
     toks: &'t [Tok],
-) -> Result<(Expr, &'t [Tok]), Stop>
+) -> Result<(Tree, &'t [Tok]), Stop>
     requires nests { Nests reader.now.bytes.now reader.now.most (F.pre reader.now.nested) (F.post reader.now.nested) }
     requires fewer { length toks.now < reader.now.most }
     requires start { tok.kind ≡ name }
@@ -344,11 +344,11 @@ fn sum_clause<'t, F: Fn(Global, &[u8], Phrase, &[Tok]) -> Result<(Expr, usize), 
 
 /// The rest of an expression behind the sum with which it begins.
 #[tactic(auto, using(crate::specs::Behind::behind, verse_grammar::proofs::Eating::eats_range_rest_other, verse_grammar::proofs::Sticking::sticks_range_rest_other_1, verse_grammar::proofs::Sticking::sticks_range_rest_other_2, verse_grammar::proofs::Sticking::sticks_range_rest_other_3))]
-fn behind_sum<'t, F: Fn(Global, &[u8], Phrase, &[Tok]) -> Result<(Expr, usize), Stop>>(
+fn behind_sum<'t, F: Fn(Global, &[u8], Phrase, &[Tok]) -> Result<(Tree, usize), Stop>>(
     reader: &Reader<'_, F>,
-    left: Expr,
+    left: Tree,
     toks: &'t [Tok],
-) -> Result<(Expr, &'t [Tok]), Stop>
+) -> Result<(Tree, &'t [Tok]), Stop>
     requires nests { Nests reader.now.bytes.now reader.now.most (F.pre reader.now.nested) (F.post reader.now.nested) }
     requires fewer { length toks.now < reader.now.most }
     requires other { ahead toks.now ≢ Some (mark m.DotDot) }

@@ -19,21 +19,22 @@ use crate::choices::expr;
 use std::alloc::Global;
 use verse_grammar::phrases::Phrase;
 use verse_grammar::starts::{Fixed, StmtStart, assign_at, begins_expr, stmt_start};
+use verse_handles::trees::Tree;
+use verse_handles::types::Written;
 use verse_layout::toks::Tok;
 use verse_nodes::statements;
 use verse_reading::nesting::Reader;
 use verse_reading::spans::name_of;
 use verse_reading::stops::{Stop, expect, next, take};
 use verse_reading::types::type_at;
-use verse_tree::exprs::{Assign, Expr};
-use verse_tree::types::TyExpr;
+use verse_tree::exprs::Assign;
 
 /// A statement.
 #[tactic(auto, using(verse_grammar::specs::Exprs::stmt_control, verse_grammar::specs::Exprs::stmt_expr, crate::proofs::Starting::left_at, verse_grammar::proofs::Eating::eats_stmt_set, verse_grammar::proofs::Eating::eats_stmt_return, verse_grammar::proofs::Eating::eats_stmt_break, verse_grammar::proofs::Eating::eats_stmt_other, verse_grammar::proofs::Sticking::sticks_stmt_set_1, verse_grammar::proofs::Sticking::sticks_stmt_return_1, verse_grammar::proofs::Sticking::sticks_stmt_other_1))]
-pub fn stmt<'t, F: Fn(Global, &[u8], Phrase, &[Tok]) -> Result<(Expr, usize), Stop>>(
+pub fn stmt<'t, F: Fn(Global, &[u8], Phrase, &[Tok]) -> Result<(Tree, usize), Stop>>(
     reader: &Reader<'_, F>,
     toks: &'t [Tok],
-) -> Result<(Expr, &'t [Tok]), Stop>
+) -> Result<(Tree, &'t [Tok]), Stop>
     requires nests { Nests reader.now.bytes.now reader.now.most (F.pre reader.now.nested) (F.post reader.now.nested) }
     requires within { length toks.now ≤ reader.now.most }
     ensures spelled { IfOk result (λ r. Reads reader.now.bytes.now Phrase.Stmt toks.now (tree_of r.0) r.1.now) }
@@ -49,19 +50,19 @@ pub fn stmt<'t, F: Fn(Global, &[u8], Phrase, &[Tok]) -> Result<(Expr, usize), St
         Some(StmtStart::Var) => variable(reader, tok, rest),
         Some(StmtStart::Set) => set(reader, tok, rest),
         Some(StmtStart::Return) => returned(reader, tok, rest),
-        Some(StmtStart::Break) => Ok((statements::left_loop(tok.place), rest)),
+        Some(StmtStart::Break) => Ok((statements::break_form(reader.alloc, tok.place)?, rest)),
         None => expr(reader, toks),
     }
 }
 
 /// A statement that begins with a name: a definition, or an expression.
 #[tactic(auto, using(verse_grammar::specs::Exprs::stmt_expr, verse_grammar::proofs::ByExpr::stmt_by_expr, verse_grammar::proofs::ByExpr::stmt_stuck_by_expr, crate::proofs::Starting::name_start))]
-fn named_stmt<'t, F: Fn(Global, &[u8], Phrase, &[Tok]) -> Result<(Expr, usize), Stop>>(
+fn named_stmt<'t, F: Fn(Global, &[u8], Phrase, &[Tok]) -> Result<(Tree, usize), Stop>>(
     reader: &Reader<'_, F>,
     tok: Tok,
     toks: &'t [Tok],
     all: &'t [Tok],
-) -> Result<(Expr, &'t [Tok]), Stop>
+) -> Result<(Tree, &'t [Tok]), Stop>
     requires nests { Nests reader.now.bytes.now reader.now.most (F.pre reader.now.nested) (F.post reader.now.nested) }
     requires fewer { length toks.now < reader.now.most }
     requires start { stmt_start tok.kind ≡ Some StmtStart.Name }
@@ -82,12 +83,12 @@ fn named_stmt<'t, F: Fn(Global, &[u8], Phrase, &[Tok]) -> Result<(Expr, usize), 
 
 /// The value behind `X :=`.
 #[tactic(auto, using(verse_grammar::specs::Exprs::stmt_definition, verse_grammar::proofs::Eating::eats_stmt_name, verse_grammar::proofs::Eating::eats_stmt_name_at1, verse_grammar::proofs::Sticking::sticks_stmt_name_1, verse_grammar::proofs::Sticking::sticks_stmt_name_at1_1, crate::proofs::Starting::name_start))]
-fn defined<'t, F: Fn(Global, &[u8], Phrase, &[Tok]) -> Result<(Expr, usize), Stop>>(
+fn defined<'t, F: Fn(Global, &[u8], Phrase, &[Tok]) -> Result<(Tree, usize), Stop>>(
     reader: &Reader<'_, F>,
     tok: Tok,
     define: Tok,
     toks: &'t [Tok],
-) -> Result<(Expr, &'t [Tok]), Stop>
+) -> Result<(Tree, &'t [Tok]), Stop>
     requires nests { Nests reader.now.bytes.now reader.now.most (F.pre reader.now.nested) (F.post reader.now.nested) }
     requires fewer { length toks.now < reader.now.most }
     requires start { stmt_start tok.kind ≡ Some StmtStart.Name }
@@ -107,12 +108,12 @@ fn defined<'t, F: Fn(Global, &[u8], Phrase, &[Tok]) -> Result<(Expr, usize), Sto
 
 /// What is behind `X` in `X:t = E`.
 #[tactic(auto, using(verse_grammar::specs::Exprs::stmt_typed, verse_grammar::proofs::Eating::eats_stmt_name, verse_grammar::proofs::Eating::eats_stmt_name_at2, verse_grammar::proofs::Sticking::sticks_stmt_name_1, verse_grammar::proofs::Sticking::sticks_stmt_name_at2_1, crate::proofs::Starting::name_start))]
-fn typed<'t, F: Fn(Global, &[u8], Phrase, &[Tok]) -> Result<(Expr, usize), Stop>>(
+fn typed<'t, F: Fn(Global, &[u8], Phrase, &[Tok]) -> Result<(Tree, usize), Stop>>(
     reader: &Reader<'_, F>,
     tok: Tok,
     colon: Tok,
     toks: &'t [Tok],
-) -> Result<(Expr, &'t [Tok]), Stop>
+) -> Result<(Tree, &'t [Tok]), Stop>
     requires nests { Nests reader.now.bytes.now reader.now.most (F.pre reader.now.nested) (F.post reader.now.nested) }
     requires fewer { length toks.now < reader.now.most }
     requires start { stmt_start tok.kind ≡ Some StmtStart.Name }
@@ -132,11 +133,11 @@ fn typed<'t, F: Fn(Global, &[u8], Phrase, &[Tok]) -> Result<(Expr, usize), Stop>
 
 /// What is behind `var`.
 #[tactic(auto, using(verse_grammar::specs::Exprs::stmt_variable, verse_grammar::proofs::Eating::eats_stmt_var, verse_grammar::proofs::Sticking::sticks_stmt_var_1, verse_grammar::proofs::Sticking::sticks_stmt_var_2, verse_grammar::proofs::Sticking::sticks_typed_value_1, crate::proofs::Starting::var_start))]
-fn variable<'t, F: Fn(Global, &[u8], Phrase, &[Tok]) -> Result<(Expr, usize), Stop>>(
+fn variable<'t, F: Fn(Global, &[u8], Phrase, &[Tok]) -> Result<(Tree, usize), Stop>>(
     reader: &Reader<'_, F>,
     tok: Tok,
     toks: &'t [Tok],
-) -> Result<(Expr, &'t [Tok]), Stop>
+) -> Result<(Tree, &'t [Tok]), Stop>
     requires nests { Nests reader.now.bytes.now reader.now.most (F.pre reader.now.nested) (F.post reader.now.nested) }
     requires fewer { length toks.now < reader.now.most }
     requires start { stmt_start tok.kind ≡ Some StmtStart.Var }
@@ -157,11 +158,11 @@ fn variable<'t, F: Fn(Global, &[u8], Phrase, &[Tok]) -> Result<(Expr, usize), St
 
 /// The type and the value behind a colon.
 #[tactic(auto, using(verse_grammar::specs::Exprs::typed_value, verse_grammar::proofs::Eating::eats_typed_value, verse_grammar::proofs::Sticking::sticks_typed_value_2, verse_grammar::proofs::Sticking::sticks_typed_value_3, verse_grammar::proofs::Sticking::sticks_typed_value_4))]
-fn typed_value<'t, F: Fn(Global, &[u8], Phrase, &[Tok]) -> Result<(Expr, usize), Stop>>(
+fn typed_value<'t, F: Fn(Global, &[u8], Phrase, &[Tok]) -> Result<(Tree, usize), Stop>>(
     reader: &Reader<'_, F>,
     colon: Tok,
     toks: &'t [Tok],
-) -> Result<((TyExpr, Expr), &'t [Tok]), Stop>
+) -> Result<((Written, Tree), &'t [Tok]), Stop>
     requires nests { Nests reader.now.bytes.now reader.now.most (F.pre reader.now.nested) (F.post reader.now.nested) }
     requires fewer { length toks.now < reader.now.most }
     requires start { colon.kind ≡ mark m.Colon }
@@ -178,11 +179,11 @@ fn typed_value<'t, F: Fn(Global, &[u8], Phrase, &[Tok]) -> Result<(Expr, usize),
 
 /// What is behind `set`.
 #[tactic(auto, using(crate::proofs::Clausing::set_by, crate::proofs::Clausing::eats_set_by, crate::proofs::Clausing::sticks_set_by, verse_grammar::proofs::Sticking::sticks_set_rest_1))]
-pub fn set<'t, F: Fn(Global, &[u8], Phrase, &[Tok]) -> Result<(Expr, usize), Stop>>(
+pub fn set<'t, F: Fn(Global, &[u8], Phrase, &[Tok]) -> Result<(Tree, usize), Stop>>(
     reader: &Reader<'_, F>,
     tok: Tok,
     toks: &'t [Tok],
-) -> Result<(Expr, &'t [Tok]), Stop>
+) -> Result<(Tree, &'t [Tok]), Stop>
     requires nests { Nests reader.now.bytes.now reader.now.most (F.pre reader.now.nested) (F.post reader.now.nested) }
     requires fewer { length toks.now < reader.now.most }
     requires start { stmt_start tok.kind ≡ Some StmtStart.Set }
@@ -201,10 +202,10 @@ pub fn set<'t, F: Fn(Global, &[u8], Phrase, &[Tok]) -> Result<(Expr, usize), Sto
 
 /// How a `set` writes, and the value.
 #[tactic(auto, using(crate::specs::Behind::writes, crate::proofs::Clausing::eats_writes, crate::proofs::Clausing::sticks_writes_1, crate::proofs::Clausing::sticks_writes_2))]
-fn written<'t, F: Fn(Global, &[u8], Phrase, &[Tok]) -> Result<(Expr, usize), Stop>>(
+fn written<'t, F: Fn(Global, &[u8], Phrase, &[Tok]) -> Result<(Tree, usize), Stop>>(
     reader: &Reader<'_, F>,
     toks: &'t [Tok],
-) -> Result<((Assign, Expr), &'t [Tok]), Stop>
+) -> Result<((Assign, Tree), &'t [Tok]), Stop>
     requires nests { Nests reader.now.bytes.now reader.now.most (F.pre reader.now.nested) (F.post reader.now.nested) }
     requires fewer { length toks.now < reader.now.most }
     ensures spelled { IfOk result (λ r. Writes reader.now.bytes.now toks.now r.0.0 (tree_of r.0.1) r.1.now) }
@@ -219,11 +220,11 @@ fn written<'t, F: Fn(Global, &[u8], Phrase, &[Tok]) -> Result<(Expr, usize), Sto
 
 /// What is behind `return`.
 #[tactic(auto, using(verse_grammar::specs::Exprs::returned, verse_grammar::specs::Exprs::returned_unit, verse_grammar::proofs::Eating::eats_return_value_at, verse_grammar::proofs::Eating::eats_return_value_other, verse_grammar::proofs::Sticking::sticks_return_value_at_1, crate::proofs::Starting::return_start))]
-pub fn returned<'t, F: Fn(Global, &[u8], Phrase, &[Tok]) -> Result<(Expr, usize), Stop>>(
+pub fn returned<'t, F: Fn(Global, &[u8], Phrase, &[Tok]) -> Result<(Tree, usize), Stop>>(
     reader: &Reader<'_, F>,
     tok: Tok,
     toks: &'t [Tok],
-) -> Result<(Expr, &'t [Tok]), Stop>
+) -> Result<(Tree, &'t [Tok]), Stop>
     requires nests { Nests reader.now.bytes.now reader.now.most (F.pre reader.now.nested) (F.post reader.now.nested) }
     requires fewer { length toks.now < reader.now.most }
     requires start { stmt_start tok.kind ≡ Some StmtStart.Return }
@@ -236,7 +237,7 @@ pub fn returned<'t, F: Fn(Global, &[u8], Phrase, &[Tok]) -> Result<(Expr, usize)
         let (value, rest) = reader.inner(Phrase::Expr, toks)?;
         return Ok((statements::returned(reader.alloc, tok.place, value)?, rest));
     }
-    Ok((statements::returned_unit(tok.place), toks))
+    Ok((statements::returned_unit(reader.alloc, tok.place)?, toks))
 }
 
 /// How a `set` writes.

@@ -7,4 +7,5 @@ pub mod Numbering
 pub mod PartNumbering
 pub mod PostOrder
 pub mod Numbers
+pub mod Shapes
 pub mod Sizes

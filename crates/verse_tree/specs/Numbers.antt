@@ -46,9 +46,9 @@ abbrev mutual
   shape_cleared (t.Shape.assignment x a b) = t.Shape.assignment x (cleared a) (cleared b)
   shape_cleared (t.Shape.returned a) = t.Shape.returned (cleared a)
   shape_cleared t.Shape.returned_unit = t.Shape.returned_unit
-  shape_cleared t.Shape.left_loop = t.Shape.left_loop
-  shape_cleared (t.Shape.choice ts a b) = t.Shape.choice (trees_cleared ts) (cleared a) (cleared b)
-  shape_cleared (t.Shape.choice_alone ts a) = t.Shape.choice_alone (trees_cleared ts) (cleared a)
+  shape_cleared t.Shape.break_form = t.Shape.break_form
+  shape_cleared (t.Shape.if_else ts a b) = t.Shape.if_else (trees_cleared ts) (cleared a) (cleared b)
+  shape_cleared (t.Shape.if_alone ts a) = t.Shape.if_alone (trees_cleared ts) (cleared a)
   shape_cleared (t.Shape.chained x a b) = t.Shape.chained x (cleared a) (cleared b)
   shape_cleared (t.Shape.compared x a b) = t.Shape.compared x (cleared a) (cleared b)
   shape_cleared (t.Shape.negation a) = t.Shape.negation (cleared a)
@@ -73,9 +73,9 @@ abbrev mutual
   shape_cleared (t.Shape.instance x gs) = t.Shape.instance x (givens_cleared gs)
   shape_cleared (t.Shape.event w) = t.Shape.event (written_cleared w)
   shape_cleared t.Shape.bare_event = t.Shape.bare_event
-  shape_cleared (t.Shape.each ts a) = t.Shape.each (trees_cleared ts) (cleared a)
-  shape_cleared (t.Shape.turns a) = t.Shape.turns (cleared a)
-  shape_cleared (t.Shape.scope a) = t.Shape.scope (cleared a)
+  shape_cleared (t.Shape.for_form ts a) = t.Shape.for_form (trees_cleared ts) (cleared a)
+  shape_cleared (t.Shape.loop_form a) = t.Shape.loop_form (cleared a)
+  shape_cleared (t.Shape.block_form a) = t.Shape.block_form (cleared a)
   shape_cleared (t.Shape.branch a) = t.Shape.branch (cleared a)
   shape_cleared (t.Shape.sync ts) = t.Shape.sync (trees_cleared ts)
   shape_cleared (t.Shape.race ts) = t.Shape.race (trees_cleared ts)

@@ -58,9 +58,9 @@ abbrev mutual
   parts (t.Shape.assignment m p e) = post_order p ++ post_order e
   parts (t.Shape.returned e) = post_order e
   parts t.Shape.returned_unit = []
-  parts t.Shape.left_loop = []
-  parts (t.Shape.choice cs e f) = trees_order cs ++ post_order e ++ post_order f
-  parts (t.Shape.choice_alone cs e) = trees_order cs ++ post_order e
+  parts t.Shape.break_form = []
+  parts (t.Shape.if_else cs e f) = trees_order cs ++ post_order e ++ post_order f
+  parts (t.Shape.if_alone cs e) = trees_order cs ++ post_order e
   parts (t.Shape.chained o e f) = post_order e ++ post_order f
   parts (t.Shape.compared o e f) = post_order e ++ post_order f
   parts (t.Shape.negation e) = post_order e
@@ -85,9 +85,9 @@ abbrev mutual
   parts (t.Shape.instance n gs) = givens_order gs
   parts (t.Shape.event w) = written_order w
   parts t.Shape.bare_event = []
-  parts (t.Shape.each cs e) = trees_order cs ++ post_order e
-  parts (t.Shape.turns e) = post_order e
-  parts (t.Shape.scope e) = post_order e
+  parts (t.Shape.for_form cs e) = trees_order cs ++ post_order e
+  parts (t.Shape.loop_form e) = post_order e
+  parts (t.Shape.block_form e) = post_order e
   parts (t.Shape.branch e) = post_order e
   parts (t.Shape.sync es) = trees_order es
   parts (t.Shape.race es) = trees_order es

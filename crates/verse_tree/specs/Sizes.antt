@@ -5,7 +5,7 @@ use Rattle.verse_tree.specs.Tree as t
 use Rattle.verse_tree.specs.ItemTree.{FieldTree, FunTree, MemberTree, ClassTree, ItemTree}
 use Rattle.verse_tree.specs.ItemTree as i
 use Rattle.verse_tree.specs.ItemView.{item_of}
-use Rattle.verse_tree.specs.Numbering.{list_nodes}
+use Rattle.verse_tree.specs.Numbering.{list_nodes, program_nodes}
 use Rattle.verse_tree.specs.declared.tables.ClassInfo.{ClassInfo}
 use Rattle.verse_tree.specs.declared.tables.Names.{Names}
 use Rattle.verse_tree.specs.declared.tables.Ref.{Ref}
@@ -20,6 +20,7 @@ class_fields (Some class) = length class.fields
 -- what a name stands for has fields where it is a class
 abbrev pub ref_fields : Names → Ref → ℕ
 ref_fields names (r.Local n) = 0
+ref_fields names (r.Key n) = 0
 ref_fields names (r.Field c n) = 0
 ref_fields names (r.Method c n) = 0
 ref_fields names (r.Fun n) = 0
@@ -55,9 +56,9 @@ module _ (fields : ℕ → ℕ) where
     shape_fields number (t.Shape.assignment x a b) = tree_fields a + tree_fields b
     shape_fields number (t.Shape.returned a) = tree_fields a
     shape_fields number t.Shape.returned_unit = 0
-    shape_fields number t.Shape.left_loop = 0
-    shape_fields number (t.Shape.choice ts a b) = trees_fields ts + (tree_fields a + tree_fields b)
-    shape_fields number (t.Shape.choice_alone ts a) = trees_fields ts + tree_fields a
+    shape_fields number t.Shape.break_form = 0
+    shape_fields number (t.Shape.if_else ts a b) = trees_fields ts + (tree_fields a + tree_fields b)
+    shape_fields number (t.Shape.if_alone ts a) = trees_fields ts + tree_fields a
     shape_fields number (t.Shape.chained x a b) = tree_fields a + tree_fields b
     shape_fields number (t.Shape.compared x a b) = tree_fields a + tree_fields b
     shape_fields number (t.Shape.negation a) = tree_fields a
@@ -82,9 +83,9 @@ module _ (fields : ℕ → ℕ) where
     shape_fields number (t.Shape.instance x gs) = fields number + givens_fields gs
     shape_fields number (t.Shape.event w) = 0
     shape_fields number t.Shape.bare_event = 0
-    shape_fields number (t.Shape.each ts a) = trees_fields ts + tree_fields a
-    shape_fields number (t.Shape.turns a) = tree_fields a
-    shape_fields number (t.Shape.scope a) = tree_fields a
+    shape_fields number (t.Shape.for_form ts a) = trees_fields ts + tree_fields a
+    shape_fields number (t.Shape.loop_form a) = tree_fields a
+    shape_fields number (t.Shape.block_form a) = tree_fields a
     shape_fields number (t.Shape.branch a) = tree_fields a
     shape_fields number (t.Shape.sync ts) = trees_fields ts
     shape_fields number (t.Shape.race ts) = trees_fields ts
@@ -140,4 +141,4 @@ abbrev pub items_fields : Names → List ItemTree → ℕ
 items_fields names items = list_nodes (item_fields (fields_at names)) items
 
 abbrev pub size_of : Program → ℕ
-size_of program = 16 * program.tree.nodes + 4 * items_fields program.names (map item_of program.tree.items)
+size_of program = 16 * program_nodes (map item_of program.tree.items) + 4 * items_fields program.names (map item_of program.tree.items)

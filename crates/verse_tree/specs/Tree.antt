@@ -38,10 +38,10 @@ mutual
     typed variable : Bytes → Written → Tree → Shape
     assignment : Assign → Tree → Tree → Shape
     returned : Tree → Shape
-    returned_unit left_loop : Shape
+    returned_unit break_form : Shape
     -- `if`: the conditions, the part taken where they hold, and the other
-    choice : Trees → Tree → Tree → Shape
-    choice_alone : Trees → Tree → Shape
+    if_else : Trees → Tree → Tree → Shape
+    if_alone : Trees → Tree → Shape
     -- operators
     chained : Operator → Tree → Tree → Shape
     compared : Comparison → Tree → Tree → Shape
@@ -62,8 +62,8 @@ mutual
     instance : Bytes → Givens → Shape
     event : Written → Shape
     bare_event : Shape
-    each : Trees → Tree → Shape
-    turns scope branch : Tree → Shape
+    for_form : Trees → Tree → Shape
+    loop_form block_form branch : Tree → Shape
     sync race rush : Trees → Shape
     cases : Tree → Trees → Shape
     spawn : Tree → Shape

@@ -10,13 +10,13 @@ use Rattle.verse_tree.specs.declared.exprs.Form.{Form, Form-F, fold-Form}
 use Rattle.verse_tree.specs.declared.exprs.Form.TheOpen as form
 use Rattle.verse_tree.specs.declared.exprs.Applied.{Applied, Applied-F, fold-Applied}
 use Rattle.verse_tree.specs.declared.exprs.Cases.{Cases, Cases-F, fold-Cases}
-use Rattle.verse_tree.specs.declared.exprs.Choice.{Choice, Choice-F, fold-Choice}
-use Rattle.verse_tree.specs.declared.exprs.Each.{Each, Each-F, fold-Each}
+use Rattle.verse_tree.specs.declared.exprs.IfParts.{IfParts, IfParts-F, fold-IfParts}
+use Rattle.verse_tree.specs.declared.exprs.ForParts.{ForParts, ForParts-F, fold-ForParts}
 use Rattle.verse_tree.specs.declared.exprs.Given.{Given, Given-F, fold-Given}
 use Rattle.verse_tree.specs.declared.exprs.Hole.{Hole, Hole-F, fold-Hole}
 use Rattle.verse_tree.specs.declared.exprs.Pair.{Pair, Pair-F, fold-Pair}
 use Rattle.verse_tree.specs.declared.exprs.Two.{Two, Two-F, fold-Two}
-use Rattle.verse_tree.specs.declared.exprs.Typed.{Typed, Typed-F, fold-Typed}
+use Rattle.verse_tree.specs.declared.exprs.TypedValue.{TypedValue, TypedValue-F, fold-TypedValue}
 
 abbrev pub writtens : List Written → Writtens
 writtens [] = no_writtens
@@ -66,9 +66,9 @@ abbrev pub return_shape : Option Tree → Shape
 return_shape None = t.Shape.returned_unit
 return_shape (Some e) = t.Shape.returned e
 
-abbrev pub choice_shape : Trees → Tree → Option Tree → Shape
-choice_shape cs e None = t.Shape.choice_alone cs e
-choice_shape cs e (Some o) = t.Shape.choice cs e o
+abbrev pub if_shape : Trees → Tree → Option Tree → Shape
+if_shape cs e None = t.Shape.if_alone cs e
+if_shape cs e (Some o) = t.Shape.if_else cs e o
 
 abbrev pub event_shape : Option TyExpr → Shape
 event_shape None = t.Shape.bare_event
@@ -85,7 +85,7 @@ pub record Parts : Type 0 where
   pub otherwise : Option Tree
 
 -- one layer, whose parts are trees already
-abbrev pub shape_step : Form-F Shape (Tree × List Tree) (Tree × List Tree) Parts (List Tree × Tree) Tree (Bytes × Tree) (Tree × Bytes) (Tree × Tree) (Tree × Tree) (Written × Tree) → Shape
+abbrev pub shape_step : Form-F Shape (Tree × List Tree) (Tree × List Tree) Tree (List Tree × Tree) (Bytes × Tree) (Tree × Bytes) Parts (Tree × Tree) (Tree × Tree) (Written × Tree) → Shape
 shape_step (form.Block es) = t.Shape.block (trees es)
 shape_step (form.Defer e) = t.Shape.defer e
 shape_step (form.Let n e) = t.Shape.definition n e
@@ -93,8 +93,8 @@ shape_step (form.Def n d) = t.Shape.typed n d.0 d.1
 shape_step (form.VarDef n d) = t.Shape.variable n d.0 d.1
 shape_step (form.Set m p) = t.Shape.assignment m p.0 p.1
 shape_step (form.Return o) = return_shape o
-shape_step form.Break = t.Shape.left_loop
-shape_step (form.If c) = choice_shape (trees c.conditions) c.taken c.otherwise
+shape_step form.Break = t.Shape.break_form
+shape_step (form.If c) = if_shape (trees c.conditions) c.taken c.otherwise
 shape_step (form.Chain o p) = t.Shape.chained o p.0 p.1
 shape_step (form.Compare o p) = t.Shape.compared o p.0 p.1
 shape_step (form.Not e) = t.Shape.negation e
@@ -118,9 +118,9 @@ shape_step (form.Option es) = t.Shape.option (trees es)
 shape_step (form.Logic es) = t.Shape.logic (trees es)
 shape_step (form.Instance n gs) = t.Shape.instance n (givens gs)
 shape_step (form.Event o) = event_shape o
-shape_step (form.For e) = t.Shape.each (trees e.0) e.1
-shape_step (form.Loop e) = t.Shape.turns e
-shape_step (form.Scope e) = t.Shape.scope e
+shape_step (form.For e) = t.Shape.for_form (trees e.0) e.1
+shape_step (form.Loop e) = t.Shape.loop_form e
+shape_step (form.BlockForm e) = t.Shape.block_form e
 shape_step (form.Branch e) = t.Shape.branch e
 shape_step (form.Sync es) = t.Shape.sync (trees es)
 shape_step (form.Race es) = t.Shape.race (trees es)
@@ -129,7 +129,7 @@ shape_step (form.Case c) = t.Shape.cases c.0 (trees c.1)
 shape_step (form.Spawn e) = t.Shape.spawn e
 shape_step (form.Sleep o) = sleep_shape o
 shape_step (form.Elements n e) = t.Shape.elements n e
-shape_step (form.Pairs k v e) = t.Shape.entries k v e
+shape_step (form.Entries k v e) = t.Shape.entries k v e
 shape_step (form.Range n p) = t.Shape.range n p.0 p.1
 shape_step (form.Arm p) = t.Shape.arm p.0 p.1
 shape_step (form.IntPattern n) = t.Shape.integer_pattern n
@@ -141,65 +141,65 @@ shape_step form.FalsePattern = t.Shape.falsehood_pattern
 shape_step (form.EnumPattern n v) = t.Shape.enum_pattern n v
 shape_step form.AnyPattern = t.Shape.any_pattern
 
-abbrev pub applied_step : Applied-F Shape (Tree × List Tree) (Tree × List Tree) Parts (List Tree × Tree) Tree (Bytes × Tree) (Tree × Bytes) (Tree × Tree) (Tree × Tree) (Written × Tree) → Tree × List Tree
+abbrev pub applied_step : Applied-F Shape (Tree × List Tree) (Tree × List Tree) Tree (List Tree × Tree) (Bytes × Tree) (Tree × Bytes) Parts (Tree × Tree) (Tree × Tree) (Written × Tree) → Tree × List Tree
 applied_step a = (a.callee, a.args)
 
-abbrev pub cases_step : Cases-F Shape (Tree × List Tree) (Tree × List Tree) Parts (List Tree × Tree) Tree (Bytes × Tree) (Tree × Bytes) (Tree × Tree) (Tree × Tree) (Written × Tree) → Tree × List Tree
+abbrev pub cases_step : Cases-F Shape (Tree × List Tree) (Tree × List Tree) Tree (List Tree × Tree) (Bytes × Tree) (Tree × Bytes) Parts (Tree × Tree) (Tree × Tree) (Written × Tree) → Tree × List Tree
 cases_step a = (a.subject, a.arms)
 
-abbrev pub choice_step : Choice-F Shape (Tree × List Tree) (Tree × List Tree) Parts (List Tree × Tree) Tree (Bytes × Tree) (Tree × Bytes) (Tree × Tree) (Tree × Tree) (Written × Tree) → Parts
-choice_step a = record { conditions = a.conditions; taken = a.then; otherwise = a.otherwise }
+abbrev pub if_step : IfParts-F Shape (Tree × List Tree) (Tree × List Tree) Tree (List Tree × Tree) (Bytes × Tree) (Tree × Bytes) Parts (Tree × Tree) (Tree × Tree) (Written × Tree) → Parts
+if_step a = record { conditions = a.conditions; taken = a.then; otherwise = a.otherwise }
 
-abbrev pub each_step : Each-F Shape (Tree × List Tree) (Tree × List Tree) Parts (List Tree × Tree) Tree (Bytes × Tree) (Tree × Bytes) (Tree × Tree) (Tree × Tree) (Written × Tree) → List Tree × Tree
-each_step a = (a.clauses, a.body)
+abbrev pub for_step : ForParts-F Shape (Tree × List Tree) (Tree × List Tree) Tree (List Tree × Tree) (Bytes × Tree) (Tree × Bytes) Parts (Tree × Tree) (Tree × Tree) (Written × Tree) → List Tree × Tree
+for_step a = (a.clauses, a.body)
 
-abbrev pub tree_step : Expr-F Shape (Tree × List Tree) (Tree × List Tree) Parts (List Tree × Tree) Tree (Bytes × Tree) (Tree × Bytes) (Tree × Tree) (Tree × Tree) (Written × Tree) → Tree
+abbrev pub tree_step : Expr-F Shape (Tree × List Tree) (Tree × List Tree) Tree (List Tree × Tree) (Bytes × Tree) (Tree × Bytes) Parts (Tree × Tree) (Tree × Tree) (Written × Tree) → Tree
 tree_step a = tree a.node a.place a.form
 
-abbrev pub given_step : Given-F Shape (Tree × List Tree) (Tree × List Tree) Parts (List Tree × Tree) Tree (Bytes × Tree) (Tree × Bytes) (Tree × Tree) (Tree × Tree) (Written × Tree) → Bytes × Tree
+abbrev pub given_step : Given-F Shape (Tree × List Tree) (Tree × List Tree) Tree (List Tree × Tree) (Bytes × Tree) (Tree × Bytes) Parts (Tree × Tree) (Tree × Tree) (Written × Tree) → Bytes × Tree
 given_step a = (a.name, a.value)
 
-abbrev pub hole_step : Hole-F Shape (Tree × List Tree) (Tree × List Tree) Parts (List Tree × Tree) Tree (Bytes × Tree) (Tree × Bytes) (Tree × Tree) (Tree × Tree) (Written × Tree) → Tree × Bytes
+abbrev pub hole_step : Hole-F Shape (Tree × List Tree) (Tree × List Tree) Tree (List Tree × Tree) (Bytes × Tree) (Tree × Bytes) Parts (Tree × Tree) (Tree × Tree) (Written × Tree) → Tree × Bytes
 hole_step a = (a.value, a.behind)
 
-abbrev pub pair_step : Pair-F Shape (Tree × List Tree) (Tree × List Tree) Parts (List Tree × Tree) Tree (Bytes × Tree) (Tree × Bytes) (Tree × Tree) (Tree × Tree) (Written × Tree) → Tree × Tree
+abbrev pub pair_step : Pair-F Shape (Tree × List Tree) (Tree × List Tree) Tree (List Tree × Tree) (Bytes × Tree) (Tree × Bytes) Parts (Tree × Tree) (Tree × Tree) (Written × Tree) → Tree × Tree
 pair_step a = (a.key, a.value)
 
-abbrev pub two_step : Two-F Shape (Tree × List Tree) (Tree × List Tree) Parts (List Tree × Tree) Tree (Bytes × Tree) (Tree × Bytes) (Tree × Tree) (Tree × Tree) (Written × Tree) → Tree × Tree
+abbrev pub two_step : Two-F Shape (Tree × List Tree) (Tree × List Tree) Tree (List Tree × Tree) (Bytes × Tree) (Tree × Bytes) Parts (Tree × Tree) (Tree × Tree) (Written × Tree) → Tree × Tree
 two_step a = (a.left, a.right)
 
-abbrev pub typed_step : Typed-F Shape (Tree × List Tree) (Tree × List Tree) Parts (List Tree × Tree) Tree (Bytes × Tree) (Tree × Bytes) (Tree × Tree) (Tree × Tree) (Written × Tree) → Written × Tree
-typed_step a = (written_of a.ty, a.value)
+abbrev pub typed_value_step : TypedValue-F Shape (Tree × List Tree) (Tree × List Tree) Tree (List Tree × Tree) (Bytes × Tree) (Tree × Bytes) Parts (Tree × Tree) (Tree × Tree) (Written × Tree) → Written × Tree
+typed_value_step a = (written_of a.ty, a.value)
 
 abbrev pub shape_of : Form → Shape
-shape_of = fold-Form Shape (Tree × List Tree) (Tree × List Tree) Parts (List Tree × Tree) Tree (Bytes × Tree) (Tree × Bytes) (Tree × Tree) (Tree × Tree) (Written × Tree) shape_step applied_step cases_step choice_step each_step tree_step given_step hole_step pair_step two_step typed_step
+shape_of = fold-Form Shape (Tree × List Tree) (Tree × List Tree) Tree (List Tree × Tree) (Bytes × Tree) (Tree × Bytes) Parts (Tree × Tree) (Tree × Tree) (Written × Tree) shape_step applied_step cases_step tree_step for_step given_step hole_step if_step pair_step two_step typed_value_step
 
 abbrev pub applied_of : Applied → Tree × List Tree
-applied_of = fold-Applied Shape (Tree × List Tree) (Tree × List Tree) Parts (List Tree × Tree) Tree (Bytes × Tree) (Tree × Bytes) (Tree × Tree) (Tree × Tree) (Written × Tree) shape_step applied_step cases_step choice_step each_step tree_step given_step hole_step pair_step two_step typed_step
+applied_of = fold-Applied Shape (Tree × List Tree) (Tree × List Tree) Tree (List Tree × Tree) (Bytes × Tree) (Tree × Bytes) Parts (Tree × Tree) (Tree × Tree) (Written × Tree) shape_step applied_step cases_step tree_step for_step given_step hole_step if_step pair_step two_step typed_value_step
 
 abbrev pub cases_of : Cases → Tree × List Tree
-cases_of = fold-Cases Shape (Tree × List Tree) (Tree × List Tree) Parts (List Tree × Tree) Tree (Bytes × Tree) (Tree × Bytes) (Tree × Tree) (Tree × Tree) (Written × Tree) shape_step applied_step cases_step choice_step each_step tree_step given_step hole_step pair_step two_step typed_step
+cases_of = fold-Cases Shape (Tree × List Tree) (Tree × List Tree) Tree (List Tree × Tree) (Bytes × Tree) (Tree × Bytes) Parts (Tree × Tree) (Tree × Tree) (Written × Tree) shape_step applied_step cases_step tree_step for_step given_step hole_step if_step pair_step two_step typed_value_step
 
-abbrev pub choice_of : Choice → Parts
-choice_of = fold-Choice Shape (Tree × List Tree) (Tree × List Tree) Parts (List Tree × Tree) Tree (Bytes × Tree) (Tree × Bytes) (Tree × Tree) (Tree × Tree) (Written × Tree) shape_step applied_step cases_step choice_step each_step tree_step given_step hole_step pair_step two_step typed_step
+abbrev pub if_of : IfParts → Parts
+if_of = fold-IfParts Shape (Tree × List Tree) (Tree × List Tree) Tree (List Tree × Tree) (Bytes × Tree) (Tree × Bytes) Parts (Tree × Tree) (Tree × Tree) (Written × Tree) shape_step applied_step cases_step tree_step for_step given_step hole_step if_step pair_step two_step typed_value_step
 
-abbrev pub each_of : Each → List Tree × Tree
-each_of = fold-Each Shape (Tree × List Tree) (Tree × List Tree) Parts (List Tree × Tree) Tree (Bytes × Tree) (Tree × Bytes) (Tree × Tree) (Tree × Tree) (Written × Tree) shape_step applied_step cases_step choice_step each_step tree_step given_step hole_step pair_step two_step typed_step
+abbrev pub for_of : ForParts → List Tree × Tree
+for_of = fold-ForParts Shape (Tree × List Tree) (Tree × List Tree) Tree (List Tree × Tree) (Bytes × Tree) (Tree × Bytes) Parts (Tree × Tree) (Tree × Tree) (Written × Tree) shape_step applied_step cases_step tree_step for_step given_step hole_step if_step pair_step two_step typed_value_step
 
 abbrev pub tree_of : Expr → Tree
-tree_of = fold-Expr Shape (Tree × List Tree) (Tree × List Tree) Parts (List Tree × Tree) Tree (Bytes × Tree) (Tree × Bytes) (Tree × Tree) (Tree × Tree) (Written × Tree) shape_step applied_step cases_step choice_step each_step tree_step given_step hole_step pair_step two_step typed_step
+tree_of = fold-Expr Shape (Tree × List Tree) (Tree × List Tree) Tree (List Tree × Tree) (Bytes × Tree) (Tree × Bytes) Parts (Tree × Tree) (Tree × Tree) (Written × Tree) shape_step applied_step cases_step tree_step for_step given_step hole_step if_step pair_step two_step typed_value_step
 
 abbrev pub given_of : Given → Bytes × Tree
-given_of = fold-Given Shape (Tree × List Tree) (Tree × List Tree) Parts (List Tree × Tree) Tree (Bytes × Tree) (Tree × Bytes) (Tree × Tree) (Tree × Tree) (Written × Tree) shape_step applied_step cases_step choice_step each_step tree_step given_step hole_step pair_step two_step typed_step
+given_of = fold-Given Shape (Tree × List Tree) (Tree × List Tree) Tree (List Tree × Tree) (Bytes × Tree) (Tree × Bytes) Parts (Tree × Tree) (Tree × Tree) (Written × Tree) shape_step applied_step cases_step tree_step for_step given_step hole_step if_step pair_step two_step typed_value_step
 
 abbrev pub hole_of : Hole → Tree × Bytes
-hole_of = fold-Hole Shape (Tree × List Tree) (Tree × List Tree) Parts (List Tree × Tree) Tree (Bytes × Tree) (Tree × Bytes) (Tree × Tree) (Tree × Tree) (Written × Tree) shape_step applied_step cases_step choice_step each_step tree_step given_step hole_step pair_step two_step typed_step
+hole_of = fold-Hole Shape (Tree × List Tree) (Tree × List Tree) Tree (List Tree × Tree) (Bytes × Tree) (Tree × Bytes) Parts (Tree × Tree) (Tree × Tree) (Written × Tree) shape_step applied_step cases_step tree_step for_step given_step hole_step if_step pair_step two_step typed_value_step
 
 abbrev pub pair_of : Pair → Tree × Tree
-pair_of = fold-Pair Shape (Tree × List Tree) (Tree × List Tree) Parts (List Tree × Tree) Tree (Bytes × Tree) (Tree × Bytes) (Tree × Tree) (Tree × Tree) (Written × Tree) shape_step applied_step cases_step choice_step each_step tree_step given_step hole_step pair_step two_step typed_step
+pair_of = fold-Pair Shape (Tree × List Tree) (Tree × List Tree) Tree (List Tree × Tree) (Bytes × Tree) (Tree × Bytes) Parts (Tree × Tree) (Tree × Tree) (Written × Tree) shape_step applied_step cases_step tree_step for_step given_step hole_step if_step pair_step two_step typed_value_step
 
 abbrev pub two_of : Two → Tree × Tree
-two_of = fold-Two Shape (Tree × List Tree) (Tree × List Tree) Parts (List Tree × Tree) Tree (Bytes × Tree) (Tree × Bytes) (Tree × Tree) (Tree × Tree) (Written × Tree) shape_step applied_step cases_step choice_step each_step tree_step given_step hole_step pair_step two_step typed_step
+two_of = fold-Two Shape (Tree × List Tree) (Tree × List Tree) Tree (List Tree × Tree) (Bytes × Tree) (Tree × Bytes) Parts (Tree × Tree) (Tree × Tree) (Written × Tree) shape_step applied_step cases_step tree_step for_step given_step hole_step if_step pair_step two_step typed_value_step
 
-abbrev pub typed_of : Typed → Written × Tree
-typed_of = fold-Typed Shape (Tree × List Tree) (Tree × List Tree) Parts (List Tree × Tree) Tree (Bytes × Tree) (Tree × Bytes) (Tree × Tree) (Tree × Tree) (Written × Tree) shape_step applied_step cases_step choice_step each_step tree_step given_step hole_step pair_step two_step typed_step
+abbrev pub typed_value_of : TypedValue → Written × Tree
+typed_value_of = fold-TypedValue Shape (Tree × List Tree) (Tree × List Tree) Tree (List Tree × Tree) (Bytes × Tree) (Tree × Bytes) Parts (Tree × Tree) (Tree × Tree) (Written × Tree) shape_step applied_step cases_step tree_step for_step given_step hole_step if_step pair_step two_step typed_value_step

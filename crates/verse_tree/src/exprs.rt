@@ -70,15 +70,15 @@ pub enum Form {
     /// `X := E`
     Let(Name, Boxed<Expr>),
     /// `X:t = E`
-    Def(Name, Typed),
+    Def(Name, TypedValue),
     /// `var X:t = E`
-    VarDef(Name, Typed),
+    VarDef(Name, TypedValue),
     /// `set P = E`: the place and the value.
     Set(Assign, Two),
     /// `return` with or without a value.
     Return(Option<Boxed<Expr>>),
     Break,
-    If(Choice),
+    If(IfParts),
     /// `E or F`, `E and F`, `E + F`, `E - F`, `E * F`, `E / F`
     Chain(Operator, Two),
     Compare(Comparison, Two),
@@ -114,10 +114,10 @@ pub enum Form {
     Instance(Name, Items<Given>),
     /// `event(t){}`
     Event(Option<TyExpr>),
-    For(Each),
+    For(ForParts),
     Loop(Boxed<Expr>),
     /// `block` and its block.
-    Scope(Boxed<Expr>),
+    BlockForm(Boxed<Expr>),
     Branch(Boxed<Expr>),
     Sync(Items<Expr>),
     Race(Items<Expr>),
@@ -130,7 +130,7 @@ pub enum Form {
     /// `X : E` in a `for`.
     Elements(Name, Boxed<Expr>),
     /// `K -> V : E` in a `for`.
-    Pairs(Name, Name, Boxed<Expr>),
+    Entries(Name, Name, Boxed<Expr>),
     /// `I := L..H` in a `for`.
     Range(Name, Two),
     /// `P => E` in a `case`: the pattern and the body.
@@ -160,7 +160,7 @@ pub struct Two {
 /// A type and a value.
 #[cycle(tree)]
 #[derive(Drop)]
-pub struct Typed {
+pub struct TypedValue {
     pub ty: TyExpr,
     pub value: Boxed<Expr>,
 }
@@ -168,7 +168,7 @@ pub struct Typed {
 /// The parts of an `if`.
 #[cycle(tree)]
 #[derive(Drop)]
-pub struct Choice {
+pub struct IfParts {
     pub conditions: Items<Expr>,
     pub then: Boxed<Expr>,
     pub otherwise: Option<Boxed<Expr>>,
@@ -209,7 +209,7 @@ pub struct Given {
 /// The generators and clauses of a `for`, and its body.
 #[cycle(tree)]
 #[derive(Drop)]
-pub struct Each {
+pub struct ForParts {
     pub clauses: Items<Expr>,
     pub body: Boxed<Expr>,
 }

@@ -2,10 +2,12 @@
 
 ghost use Rattle.std.specs.Prelude.{◌≡◌, ◌+◌, min, map, slice_get};
 ghost use Rattle.std.specs.Option.{option_map};
-ghost use Rattle.verse_tree.specs.View.{tree_of, shape_of, two_of, typed_of, choice_of, applied_of, each_of, cases_of, hole_of, pair_of, given_of, trees, holes, pairs, givens, return_shape, choice_shape};
+ghost use Rattle.verse_tree.specs.View.{tree_of, shape_of, two_of, typed_value_of, if_of, applied_of, for_of, cases_of, hole_of, pair_of, given_of, trees, holes, pairs, givens, return_shape, if_shape};
 ghost use Rattle.verse_tree.specs.Sizes.{class_fields, ref_fields, known_fields, fields_at, tree_fields, shape_fields, trees_fields, holes_fields, pairs_fields, givens_fields};
 
-use crate::exprs::{Applied, Cases, Choice, Each, Expr, Form, Given, Hole, Pair, Two, Typed};
+use crate::exprs::{
+    Applied, Cases, Expr, ForParts, Form, Given, Hole, IfParts, Pair, Two, TypedValue,
+};
 use crate::tables::{Names, Ref};
 use sqlite_items::Boxed;
 
@@ -25,6 +27,7 @@ fn fields_of_ref(names: &Names, what: Ref) -> u64
     match what {
         Ref::Class(class) => fields_of_class(names, class),
         Ref::Local(_) => 0,
+        Ref::Key(_) => 0,
         Ref::Field(_, _) => 0,
         Ref::Method(_, _) => 0,
         Ref::Fun(_) => 0,
@@ -79,13 +82,13 @@ fn fields_in_form(names: &Names, node: u32, form: &Form) -> u64
         Form::Neg(part) => fields_in(names, part.get()),
         Form::Query(part) => fields_in(names, part.get()),
         Form::Loop(part) => fields_in(names, part.get()),
-        Form::Scope(part) => fields_in(names, part.get()),
+        Form::BlockForm(part) => fields_in(names, part.get()),
         Form::Branch(part) => fields_in(names, part.get()),
         Form::Spawn(part) => fields_in(names, part.get()),
         Form::Let(_, part) => fields_in(names, part.get()),
         Form::Elements(_, part) => fields_in(names, part.get()),
         Form::Member(part, _) => fields_in(names, part.get()),
-        Form::Pairs(_, _, part) => fields_in(names, part.get()),
+        Form::Entries(_, _, part) => fields_in(names, part.get()),
         Form::Set(_, parts) => fields_in_two(names, parts),
         Form::Chain(_, parts) => fields_in_two(names, parts),
         Form::Compare(_, parts) => fields_in_two(names, parts),
@@ -94,7 +97,7 @@ fn fields_in_form(names: &Names, node: u32, form: &Form) -> u64
         Form::Def(_, parts) => fields_in_typed(names, parts),
         Form::VarDef(_, parts) => fields_in_typed(names, parts),
         Form::Return(part) => fields_in_returned(names, part),
-        Form::If(parts) => fields_in_choice(names, parts),
+        Form::If(parts) => fields_in_if(names, parts),
         Form::Call(parts) => fields_in_applied(names, parts),
         Form::Index(parts) => fields_in_applied(names, parts),
         Form::Holes(_, parts) => fields_in_holes(names, parts.as_slice()),
@@ -103,7 +106,7 @@ fn fields_in_form(names: &Names, node: u32, form: &Form) -> u64
             names,
             parts.as_slice(),
         )),
-        Form::For(parts) => fields_in_each(names, parts),
+        Form::For(parts) => fields_in_for(names, parts),
         Form::Case(parts) => fields_in_cases(names, parts),
         Form::Break => 0,
         Form::Int(_) => 0,
@@ -144,15 +147,15 @@ fn fields_in_two(names: &Names, two: &Two) -> u64
 }
 
 #[cycle(fields)]
-fn fields_in_typed(names: &Names, typed: &Typed) -> u64
-    ensures { result ≡ min (tree_fields (fields_at names.now) (typed_of typed.now).1) 18446744073709551615 }
+fn fields_in_typed(names: &Names, typed: &TypedValue) -> u64
+    ensures { result ≡ min (tree_fields (fields_at names.now) (typed_value_of typed.now).1) 18446744073709551615 }
 {
     fields_in(names, typed.value.get())
 }
 
 #[cycle(fields)]
-fn fields_in_choice(names: &Names, choice: &Choice) -> u64
-    ensures { result ≡ min (shape_fields (fields_at names.now) 0 (choice_shape (trees (choice_of choice.now).conditions) (choice_of choice.now).taken (choice_of choice.now).otherwise)) 18446744073709551615 }
+fn fields_in_if(names: &Names, choice: &IfParts) -> u64
+    ensures { result ≡ min (shape_fields (fields_at names.now) 0 (if_shape (trees (if_of choice.now).conditions) (if_of choice.now).taken (if_of choice.now).otherwise)) 18446744073709551615 }
 {
     let first = fields_in_all(names, choice.conditions.as_slice());
     let second = fields_in(names, choice.then.get());
@@ -176,8 +179,8 @@ fn fields_in_applied(names: &Names, applied: &Applied) -> u64
 }
 
 #[cycle(fields)]
-fn fields_in_each(names: &Names, each: &Each) -> u64
-    ensures { result ≡ min (trees_fields (fields_at names.now) (trees (each_of each.now).0) + tree_fields (fields_at names.now) (each_of each.now).1) 18446744073709551615 }
+fn fields_in_for(names: &Names, each: &ForParts) -> u64
+    ensures { result ≡ min (trees_fields (fields_at names.now) (trees (for_of each.now).0) + tree_fields (fields_at names.now) (for_of each.now).1) 18446744073709551615 }
 {
     fields_in_all(names, each.clauses.as_slice()).saturating_add(fields_in(names, each.body.get()))
 }

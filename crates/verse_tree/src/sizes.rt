@@ -4,7 +4,7 @@ ghost use Rattle.std.specs.Prelude.{◌≡◌, ◌+◌, min, map};
 ghost use Rattle.std.specs.Option.{option_map};
 ghost use Rattle.verse_tree.specs.View.{tree_of};
 ghost use Rattle.verse_tree.specs.ItemView.{item_of, member_of};
-ghost use Rattle.verse_tree.specs.Numbering.{list_nodes};
+ghost use Rattle.verse_tree.specs.Numbering.{list_nodes, program_nodes};
 ghost use Rattle.verse_tree.specs.Sizes.{size_of, fields_at, default_fields, member_fields, item_fields};
 
 use crate::exprs::Expr;
@@ -15,8 +15,9 @@ use crate::tables::Names;
 
 /// 16 for each node and 4 for each field of the class of each instance expression, or the largest
 /// number. The class is what the name of the instance stands for; an instance without one counts
-/// no field.
+/// no field. The count in the tree is that of its nodes, as `join` gives it.
 pub fn size(program: &Program) -> u64
+    requires counted { program.now.tree.nodes ≡ program_nodes (map item_of program.now.tree.items) }
     ensures { result ≡ min (size_of program.now) 18446744073709551615 }
 {
     let fields = fields_in_items(&program.names, program.tree.items.as_slice());

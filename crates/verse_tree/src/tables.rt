@@ -37,8 +37,11 @@ pub struct MapOf {
 /// What a name stands for.
 #[derive(Clone, Copy, Debug, PartialEq, Eq)]
 pub enum Ref {
-    /// A local name, by the number of the node that defines it.
+    /// A local name, by the number of the node that defines it; of the two names of `K -> V : M`
+    /// it is V.
     Local(u32),
+    /// The name K of `K -> V : M`, by the number of that node.
+    Key(u32),
     /// The class and the place of the field among its fields.
     Field(u32, u32),
     /// The class and the place of the method among its methods.
@@ -104,7 +107,9 @@ pub struct Names {
     pub refs: Items<Option<Ref>>,
 }
 
-/// The types of a program's nodes, by their numbers.
+/// The types of a program's nodes, by their numbers. At the node of `K -> V : M` stands the type of
+/// V. That of K is int where M is an array, and the type of its keys where it is a map; the number of
+/// M is one less than that of the node.
 #[derive(Drop)]
 pub struct Typed {
     pub types: Items<Ty>,

@@ -7,7 +7,7 @@ use Rattle.verse_parse.proofs.programs.item_row.Given as goal
 
 abbrev pub invariant-items : goal.invariant-items
 invariant-items l = record {
-  spelled : ItemRow l.bytes l.start (map item_of l.items.items) l.rest;
+  spelled : ItemRow l.bytes l.start (map item_of l.items) l.rest;
   goes : Goes rules_of.items_tail l.toks l.rest;
   shorter : length l.rest ≤ length l.toks;
 }

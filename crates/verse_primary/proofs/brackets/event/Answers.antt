@@ -12,7 +12,7 @@ returns-in_err-rest-clause-sticks g c = λ left bad.
 
 pub returns-clause-spelled : goal.returns-clause-spelled
 returns-clause-spelled g c =
-    event_made c.in_ok-ty.ty c.requires.start c.in_ok-ty.ensures.spelled c.in_ok-behind.ensures.found c.in_ok-behind.ensures.kind c.in_ok-rest.ensures.found c.in_ok-rest.ensures.kind c.event.ensures
+    event_made c.in_ok-ty.ty c.requires.start c.in_ok-ty.ensures.spelled c.in_ok-behind.ensures.found c.in_ok-behind.ensures.kind c.in_ok-rest.ensures.found c.in_ok-rest.ensures.kind c.in_ok-event.ensures
 
 pub returns-clause-eats : goal.returns-clause-eats
 returns-clause-eats g c =

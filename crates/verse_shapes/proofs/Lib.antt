@@ -1,0 +1,4 @@
+mod Moved
+mod Spelled
+mod SpelledItems
+mod Numbered
