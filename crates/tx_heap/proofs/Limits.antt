@@ -9,10 +9,10 @@ use Rattle.verse_value.specs.Sizes.{weight_of, weights}
 use Rattle.verse_value.specs.declared.values.Value.{Value}
 use Rattle.verse_value.specs.declared.runs.CellKind.{CellKind}
 use Rattle.verse_value.specs.Store.{Cell, Store, slot_of, stored, store_weight, cell_weight, with_cell}
-use Rattle.verse_value.specs.Writes.{written, Explains}
-use Rattle.verse_value.specs.declared.writes.Mode.{Mode}
-use Rattle.verse_value.specs.declared.writes.WriteFault.{WriteFault}
-use Rattle.verse_value.specs.declared.writes.WriteFault.TheVariants.{Memory, Fail, Fault, Stuck}
+use Rattle.verse_write.specs.Writes.{written, Explains}
+use Rattle.verse_value.specs.declared.modes.Mode.{Mode}
+use Rattle.verse_write.specs.declared.writes.WriteFault.{WriteFault}
+use Rattle.verse_write.specs.declared.writes.WriteFault.TheVariants.{Memory, Fail, Fault, Stuck}
 use Rattle.verse_cells.specs.Changes.{spared, slot_written, IsWrite, InCell}
 use Rattle.verse_cells.specs.declared.slots.Change.{Change}
 use Rattle.verse_cells.proofs.Weights.{store_weight_stored, slot_weight, store_weight_push}

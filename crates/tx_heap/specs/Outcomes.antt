@@ -3,10 +3,10 @@ use Rattle.std.specs.Prelude.{ℕ, nat_le, List, Option, Some, None, Result, Ok,
 use Rattle.verse_base.specs.declared.refusals.Kind.TheVariants as kind
 use Rattle.verse_value.specs.Val.{Val}
 use Rattle.verse_value.specs.Store.{Store, slot_of, stored, store_weight}
-use Rattle.verse_value.specs.Writes.{written}
-use Rattle.verse_value.specs.declared.writes.Mode.{Mode}
-use Rattle.verse_value.specs.declared.writes.WriteFault.{WriteFault}
-use Rattle.verse_value.specs.declared.writes.WriteFault.TheVariants.{Fault, Stuck}
+use Rattle.verse_write.specs.Writes.{written}
+use Rattle.verse_value.specs.declared.modes.Mode.{Mode}
+use Rattle.verse_write.specs.declared.writes.WriteFault.{WriteFault}
+use Rattle.verse_write.specs.declared.writes.WriteFault.TheVariants.{Fault, Stuck}
 
 -- the limit of the store is looked at last
 abbrev pub limited : Store → Val → Result (Store × Val) WriteFault

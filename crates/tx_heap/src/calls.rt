@@ -9,17 +9,17 @@ use crate::copy_heap::CopyHeap;
 use crate::heaps::{Heap, MOST_WEIGHT};
 use std::alloc::Global;
 use verse_base::refusals::Memory;
-use verse_value::parts::Parts;
-use verse_value::paths::Path;
+use verse_cells::lists::Slots;
 use verse_value::runs::CellKind;
 use verse_value::sizes::{cell_weight, weight};
 use verse_value::values::{Value, copy_all};
-use verse_value::writes::{Mode, WriteFault};
+use verse_write::paths::Path;
+use verse_write::writes::{Mode, WriteFault};
 
 /// A call that changes a heap.
 #[derive(Drop)]
 pub enum Call {
-    AllocCell(CellKind, Parts<Value>),
+    AllocCell(CellKind, Slots<Value>),
     Set(u32, u32, Value),
     Write(u32, u32, Path, Mode, Value),
     Mark,

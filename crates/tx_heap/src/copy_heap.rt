@@ -9,10 +9,10 @@ use crate::light_list::LightList;
 use std::alloc::Global;
 use verse_base::refusals::Memory;
 use verse_cells::slots::Address;
-use verse_value::paths::Path;
 use verse_value::runs::CellKind;
 use verse_value::values::Value;
-use verse_value::writes::{Mode, WriteFault};
+use verse_write::paths::Path;
+use verse_write::writes::{Mode, WriteFault};
 
 /// A heap that keeps a copy of all cells for each open mark.
 #[derive(Drop)]

@@ -1,7 +1,7 @@
 use verse_cells::slots::Address;
-use verse_value::paths::Path;
 use verse_value::values::Value;
-use verse_value::writes::Undo;
+use verse_write::paths::Path;
+use verse_write::writes::Undo;
 
 /// What undoes one change.
 #[derive(Drop)]

@@ -3,16 +3,16 @@ ghost use Rattle.std.specs.Borrow.{sem};
 ghost use Rattle.std.specs.Io.BufRead.{Rests};
 ghost use Rattle.verse_value.specs.View.{val_of, vals_of};
 ghost use Rattle.verse_value.specs.Store.{Cell, slot_of, stored, with_cell, store_weight};
-ghost use Rattle.verse_value.specs.Writes.{Explains};
+ghost use Rattle.verse_write.specs.Writes.{Explains};
 ghost use Rattle.tx_heap.specs.State.{State, new_cell, with_new, with_slot, marked, committed, rolled_back, IsLight};
 ghost use Rattle.tx_heap.specs.Outcomes.{cells_written};
 ghost use Rattle.tx_heap.specs.Dues.{Raised, Joined, TakenOff, Spent};
 
 use verse_base::refusals::Memory;
-use verse_value::paths::Path;
 use verse_value::runs::CellKind;
 use verse_value::values::Value;
-use verse_value::writes::{Mode, WriteFault};
+use verse_write::paths::Path;
+use verse_write::writes::{Mode, WriteFault};
 
 /// The greatest sum of the weights of all cells.
 pub const MOST_WEIGHT: u64 = 16000000;
@@ -49,7 +49,7 @@ pub trait Heap {
         ensures due { OnOk result (Raised 2 (dues self.old) (dues self.new)) }
         ensures same_dues { OnErr result (dues self.new ≡ dues self.old) };
 
-    /// Writes at a path in a slot, as `verse_value::writes::write` does, and answers a copy of the
+    /// Writes at a path in a slot, as `verse_write::writes::write` does, and answers a copy of the
     /// value written. The cell and the slot are there.
     ///
     /// The refusals are those of that call, and last `Fault(Kind::Store)`, exactly where the cells

@@ -3,7 +3,7 @@ ghost use Rattle.std.specs.Borrow.{sem};
 ghost use Rattle.verse_value.specs.View.{val_of, vals_of};
 ghost use Rattle.verse_value.specs.Store as store;
 ghost use Rattle.verse_value.specs.Store.{slot_of, stored, with_cell, store_weight};
-ghost use Rattle.verse_value.specs.Writes.{Explains};
+ghost use Rattle.verse_write.specs.Writes.{Explains};
 ghost use Rattle.verse_cells.specs.Changes.{InCell};
 ghost use Rattle.verse_cells.specs.Held.{store_of, touched};
 ghost use Rattle.tx_heap.specs.State.{new_cell, IsLight};
@@ -20,11 +20,11 @@ use std::marker::Model;
 use verse_base::refusals::Memory;
 use verse_cells::cells::Cells;
 use verse_cells::slots::Address;
-use verse_value::paths::Path;
 use verse_value::runs::CellKind;
 use verse_value::sizes::{cell_weight, weight};
 use verse_value::values::Value;
-use verse_value::writes::{Mode, WriteFault, Written};
+use verse_write::paths::Path;
+use verse_write::writes::{Mode, WriteFault, Written};
 
 /// Counted cells with the sum of their weights, which is at most 16000000.
 #[derive(Drop)]

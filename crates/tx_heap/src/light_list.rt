@@ -2,7 +2,7 @@ ghost use Rattle.std.specs.Prelude.{◌≡◌, ◌<◌, ◌+◌, ◌≤◌, [], 
 ghost use Rattle.verse_value.specs.View.{val_of, vals_of};
 ghost use Rattle.verse_value.specs.Store as store;
 ghost use Rattle.verse_value.specs.Store.{slot_of, stored, with_cell, store_weight};
-ghost use Rattle.verse_value.specs.Writes.{Explains};
+ghost use Rattle.verse_write.specs.Writes.{Explains};
 ghost use Rattle.verse_cells.specs.View.{cells_of};
 ghost use Rattle.tx_heap.specs.State.{new_cell, IsLight};
 ghost use Rattle.tx_heap.specs.Outcomes.{cells_written};
@@ -11,13 +11,13 @@ use crate::heaps::MOST_WEIGHT;
 use std::alloc::Global;
 use std::marker::Model;
 use verse_base::refusals::Memory;
+use verse_cells::lists::Slots;
 use verse_cells::slots::{Address, Cell, copy_cells, find_slot, put, slot_at, write_at};
-use verse_value::parts::Parts;
-use verse_value::paths::Path;
 use verse_value::runs::CellKind;
 use verse_value::sizes::{cell_weight, weight};
 use verse_value::values::Value;
-use verse_value::writes::{Mode, WriteFault};
+use verse_write::paths::Path;
+use verse_write::writes::{Mode, WriteFault};
 
 /// Cells with the sum of their weights, which is at most 16000000.
 #[derive(Drop)]
@@ -104,7 +104,7 @@ impl LightList {
         let address = self.cells.len() as u32;
         self.cells.push(Cell {
             kind,
-            slots: Parts::from_vec(slots),
+            slots: Slots::from_vec(slots),
         })?;
         self.weight += more;
         Ok(address)

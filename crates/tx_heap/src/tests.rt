@@ -8,12 +8,12 @@ use crate::undo_heap::UndoHeap;
 use std::alloc::Global;
 use std::test::Fail;
 use verse_base::refusals::Memory;
+use verse_cells::lists::Slots;
 use verse_value::equality::equal;
-use verse_value::parts::Parts;
-use verse_value::paths::Path;
 use verse_value::runs::CellKind;
 use verse_value::values::Value;
-use verse_value::writes::Mode;
+use verse_write::paths::Path;
+use verse_write::writes::Mode;
 
 // Whether all first slots hold the same.
 fn are_alike<H: Heap>(copies: &CopyHeap, heap: &mut H) -> bool
@@ -44,16 +44,16 @@ fn step<H: Heap>(
 }
 
 fn variable(alloc: Global, value: Value) -> Result<Call, Memory> {
-    let mut slots = Parts::new(alloc);
+    let mut slots = Vec::new(alloc);
     slots.push(value)?;
-    Ok(Call::AllocCell(CellKind::Var, slots))
+    Ok(Call::AllocCell(CellKind::Var, Slots::from_vec(slots)))
 }
 
 fn pair(alloc: Global) -> Result<Value, Memory> {
-    let mut parts = Parts::new(alloc);
-    parts.push(Value::Int(5))?;
-    parts.push(Value::Int(6))?;
-    Ok(Value::Array(parts))
+    let mut items = Vec::new(alloc);
+    items.push(Value::Int(5))?;
+    items.push(Value::Int(6))?;
+    Value::array(alloc, items)
 }
 
 fn added(alloc: Global) -> Result<Call, Memory> {

@@ -7,10 +7,10 @@ use std::alloc::Global;
 use std::marker::Model;
 use verse_base::refusals::Memory;
 use verse_cells::slots::Address;
-use verse_value::paths::Path;
 use verse_value::runs::CellKind;
 use verse_value::values::Value;
-use verse_value::writes::{Mode, WriteFault, Written};
+use verse_write::paths::Path;
+use verse_write::writes::{Mode, WriteFault, Written};
 
 /// A heap that keeps what undoes each change since its oldest open mark.
 #[derive(Drop)]

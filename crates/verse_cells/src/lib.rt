@@ -2,6 +2,7 @@
 #![tactic(auto)]
 
 pub mod cells;
+pub mod lists;
 pub mod slots;
 #[cfg(test)]
 mod tests;

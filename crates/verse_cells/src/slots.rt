@@ -1,25 +1,25 @@
 ghost use Rattle.std.specs.Prelude.{◌≡◌, ◌<◌, length, IsSome, None, Some, MatchOption, IfOk, IfErr, OnErr, slice_get, slice_set};
 ghost use Rattle.verse_value.specs.View.{val_of, vals_of};
 ghost use Rattle.verse_value.specs.Store.{slot_of, stored};
-ghost use Rattle.verse_value.specs.Writes.{written, Explains};
+ghost use Rattle.verse_write.specs.Writes.{written, Explains};
 ghost use Rattle.verse_cells.specs.View.{cells_of};
 ghost use Rattle.verse_cells.specs.Changes.{spared, slot_written, IsWrite, IsUndone, InSlot, InCell, CanUndoIn};
 
+use crate::lists::Slots;
 use std::alloc::Global;
 use std::mem;
 use verse_base::refusals::{Kind, Memory};
-use verse_value::parts::Parts;
-use verse_value::paths::Path;
 use verse_value::runs::CellKind;
 use verse_value::sizes::weight;
 use verse_value::values::{Value, copy_all};
-use verse_value::writes::{self, Mode, Undo, WriteFault, Written, write_logged};
+use verse_write::paths::Path;
+use verse_write::writes::{self, Mode, Undo, WriteFault, Written, write_logged};
 
 /// A cell of a store: what it is, and what its slots hold.
 #[derive(Drop)]
 pub struct Cell {
     pub kind: CellKind,
-    pub slots: Parts<Value>,
+    pub slots: Slots<Value>,
 }
 
 /// Which slot of which cell.
@@ -68,7 +68,7 @@ pub fn put(cells: &mut [Cell], cell: u32, slot: u32, value: Value) -> Value
     put_part(&mut cells[cell as usize].slots, slot, value)
 }
 
-fn put_part(slots: &mut Parts<Value>, slot: u32, value: Value) -> Value
+fn put_part(slots: &mut Slots<Value>, slot: u32, value: Value) -> Value
     requires { slot < length slots.old }
     ensures old { slice_get (vals_of slots.old) slot ≡ Some (val_of result) }
     ensures new { vals_of slots.new ≡ slice_set (vals_of slots.old) slot (val_of value) }
@@ -76,7 +76,7 @@ fn put_part(slots: &mut Parts<Value>, slot: u32, value: Value) -> Value
     mem::replace(slots.part_mut(slot as usize), value)
 }
 
-/// Writes at a path in a slot, as `verse_value::writes::write_logged` does. The cell and the slot
+/// Writes at a path in a slot, as `verse_write::writes::write_logged` does. The cell and the slot
 /// are there.
 ///
 /// The refusals are those of that call, and then `Fault(Kind::Store)` where the slot would weigh
@@ -101,7 +101,7 @@ pub fn write_at(
 
 fn write_part(
     alloc: Global,
-    slots: &mut Parts<Value>,
+    slots: &mut Slots<Value>,
     slot: u32,
     path: &Path,
     mode: Mode,
@@ -158,7 +158,7 @@ pub fn take_back(cells: &mut [Cell], at: Address, path: &Path, undo: Undo)
     take_back_part(&mut cells[at.cell as usize].slots, at.slot, path, undo);
 }
 
-fn take_back_part(slots: &mut Parts<Value>, slot: u32, path: &Path, undo: Undo)
+fn take_back_part(slots: &mut Slots<Value>, slot: u32, path: &Path, undo: Undo)
     requires { CanUndoIn (vals_of path.now) undo (slice_get (vals_of slots.old) slot) }
     ensures { InSlot slot (IsUndone (vals_of path.now) undo) (vals_of slots.old) (vals_of slots.new) }
 {
@@ -174,7 +174,7 @@ pub fn copy_cells(alloc: Global, cells: &[Cell]) -> Result<Vec<Cell>, Memory>
         let slots = copy_all(alloc, cell.slots.as_slice())?;
         copies.push(Cell {
             kind: cell.kind,
-            slots: Parts::from_vec(slots),
+            slots: Slots::from_vec(slots),
         })?;
     }
     Ok(copies)

@@ -9,10 +9,10 @@ use std::alloc::Global;
 use std::test::Fail;
 use verse_base::refusals::Memory;
 use verse_value::equality::equal;
-use verse_value::paths::Path;
 use verse_value::runs::CellKind;
 use verse_value::values::Value;
-use verse_value::writes::{Mode, Written};
+use verse_write::paths::Path;
+use verse_write::writes::{Mode, Written};
 
 /// A variable that holds 1, at the address 0.
 fn one_variable(alloc: Global) -> Result<Cells, Memory>

@@ -1,11 +1,9 @@
 pub mod Steps
-pub mod Rolled
-pub mod EntryLemmas
-pub mod ValLemmas
-pub mod LookupLemmas
+pub mod Seen
+pub mod Sums
+pub mod KeyPlaces
 pub mod TextKeys
-pub mod Holes
-pub mod PathLemmas
-pub mod MapLemmas
-pub mod Ints
+pub mod Stepping
 pub mod KeyLaws
+pub mod EqualityLaw
+pub mod Texts

@@ -1,6 +1,7 @@
 -- Where a path leads in a value, and the value with a change at the end of the path.
 use Rattle.std.specs.Prelude.{ℕ, zero, suc, ℤ, pos, negsuc, List, [], ◌∷◌, Option, Some, None, if◌then◌else◌, ◌≡◌, nat_lt}
-use Rattle.verse_value.specs.Val.{Val, unit, falsity, truth, int, char, enum, object, event, task, some, array, mapping, tuple, Vals, no_vals, more_vals, Pairs, no_pairs, more_pairs}
+use Rattle.verse_value.specs.Val.{Val, int, array, mapping, Vals, no_vals, more_vals, Pairs, no_pairs, more_pairs}
+use Rattle.verse_value.specs.Parts.{joined, first}
 use Rattle.verse_value.specs.Keys.{key_eq, key_of, at_key}
 use Rattle.verse_value.specs.declared.keys.Key.{Key}
 
@@ -97,11 +98,13 @@ changed (array vs) index f = array (array_with vs index f)
 changed (mapping ps) index f = mapping (map_with ps (key_of index) f)
 changed v index f = v
 
--- another value in a value's place, a new key at the end of a map, or a map's last key taken off
+-- another value in a value's place; a new key at the end of a map, or a map's last key taken off; parts at the end of an array, or all but its first parts taken off
 pub data Change : Type 0 where
   put : Val → Change
   push : Key → Val → Change
   pop : Change
+  extend : Vals → Change
+  shorten : ℕ → Change
 
 abbrev pub with_last : Pairs → Key → Val → Pairs
 with_last no_pairs k v = more_pairs k v no_pairs
@@ -120,10 +123,20 @@ abbrev pub popped : Val → Val
 popped (mapping ps) = mapping (without_last ps)
 popped v = v
 
+abbrev pub extended : Vals → Val → Val
+extended ws (array vs) = array (joined vs ws)
+extended ws v = v
+
+abbrev pub shortened : ℕ → Val → Val
+shortened n (array vs) = array (first n vs)
+shortened n v = v
+
 abbrev pub changed_here : Change → Val → Val
 changed_here (put new) v = new
 changed_here (push k new) v = pushed k new v
 changed_here pop v = popped v
+changed_here (extend ws) v = extended ws v
+changed_here (shorten n) v = shortened n v
 
 -- a slot's value with a change at the end of a path
 abbrev pub applied : List Val → Change → Val → Val
@@ -138,11 +151,17 @@ abbrev pub HasKeys : Val → Type 0
 HasKeys (mapping (more_pairs k v ps)) = Unit {0}
 HasKeys v = ⊥
 
+abbrev pub IsArray : Val → Type 0
+IsArray (array vs) = Unit {0}
+IsArray v = ⊥
+
 -- a change can be made where its path leads
 abbrev pub Allows : End → Change → Type 0
 Allows (there v) (put new) = Unit {0}
 Allows (there v) (push k new) = LacksKey k v
 Allows (there v) pop = HasKeys v
+Allows (there v) (extend ws) = IsArray v
+Allows (there v) (shorten n) = IsArray v
 Allows end change = ⊥
 
 -- without its last index

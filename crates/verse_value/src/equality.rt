@@ -1,9 +1,15 @@
-ghost use Rattle.std.specs.Prelude.{◌≡◌, ◌↔◌, IsTrue, map};
-ghost use Rattle.verse_value.specs.View.{val_of, entry_of, vals_of};
-ghost use Rattle.verse_value.specs.Val.{vals, pairs};
+ghost use Rattle.std.specs.Prelude.{◌≡◌, ◌↔◌, IsTrue};
+ghost use Rattle.verse_value.specs.View.{val_of, vals_of};
+ghost use Rattle.verse_value.specs.Val.{vals};
+ghost use Rattle.verse_value.specs.Equality.{EqualityIsTested};
 
 use crate::keys::Key;
-use crate::values::{MapValue, Value};
+use crate::values::{Entries, Value};
+
+/// What a test of two values answers is true exactly where they are equal.
+pub fn equality_is_tested()
+    ensures { EqualityIsTested }
+{}
 
 /// Whether two values are equal: maps where they have equal keys in the same order with equal
 /// values, references where their numbers are equal.
@@ -21,7 +27,7 @@ pub fn equal(a: &Value, b: &Value) -> bool
         (Value::Obj(x), Value::Obj(y)) => x == y,
         (Value::Event(x), Value::Event(y)) => x == y,
         (Value::Task(x), Value::Task(y)) => x == y,
-        (Value::Some(x), Value::Some(y)) => equal(x, y),
+        (Value::Some(x), Value::Some(y)) => equal(x.part(), y.part()),
         (Value::Array(x), Value::Array(y)) => equal_all(x.as_slice(), y.as_slice()),
         (Value::Map(x), Value::Map(y)) => equal_maps(x, y),
         (Value::Tuple(x), Value::Tuple(y)) => equal_all(x.as_slice(), y.as_slice()),
@@ -30,8 +36,8 @@ pub fn equal(a: &Value, b: &Value) -> bool
 }
 
 #[cycle(equal)]
-fn equal_maps(xs: &MapValue, ys: &MapValue) -> bool
-    ensures { IsTrue result ↔ (pairs (map entry_of xs.now) ≡ pairs (map entry_of ys.now)) }
+fn equal_maps(xs: &Entries, ys: &Entries) -> bool
+    ensures { IsTrue result ↔ (xs.now ≡ ys.now) }
 {
     if !equal_keys(xs.keys(), ys.keys()) {
         return false;

@@ -2,14 +2,15 @@ ghost use Rattle.std.specs.Prelude.{◌≡◌, ◌≢◌, ◌↔◌, ◌<◌, So
 ghost use Rattle.verse_value.specs.View.{val_of, vals_of};
 ghost use Rattle.verse_value.specs.Val.{array, vals};
 ghost use Rattle.verse_value.specs.Keys.{key_of, byte_of, bytes_of};
-ghost use Rattle.verse_value.specs.Entries.{place_of, key_place};
-ghost use Rattle.verse_value.specs.Places.{step_in, found, misfit, int_of, place_in};
+ghost use Rattle.verse_value.specs.Entries.{key_place};
+ghost use Rattle.verse_value.specs.Parts.{keys_in};
+ghost use Rattle.verse_value.specs.Places.{step_in, in_array, in_map, found, misfit, int_of, place_in};
 ghost use Rattle.verse_value.specs.Lookups.{step_of};
 ghost use Rattle.verse_value.specs.declared.keys.Key.TheVariants as key;
 
 use crate::bytes::Bytes;
 use crate::keys::Key;
-use crate::values::{MapValue, Value};
+use crate::values::{Entries, Parts, Value};
 use std::alloc::Global;
 use verse_base::refusals::Memory;
 
@@ -32,17 +33,37 @@ pub fn find<'a>(v: &'a Value, index: &Value) -> Step<'a>
     ensures { step_of result ≡ step_in (val_of v.now) (val_of index.now) }
 {
     match v {
-        Value::Array(parts) => match part_place(parts.len(), index) {
-            Some(Some(at)) => Step::Part(&parts.as_slice()[at]),
-            Some(None) => Step::Outside,
-            None => Step::Misfit,
-        },
-        Value::Map(entries) => match map_place(entries, index) {
-            Some(Some(at)) => Step::Part(&entries.values()[at]),
-            Some(None) => Step::Absent,
-            None => Step::Misfit,
-        },
+        Value::Array(parts) => in_parts(parts, index),
+        Value::Map(entries) => in_entries(entries, index),
         _ => Step::Misfit,
+    }
+}
+
+#[tactic(auto, using(crate::proofs::Stepping::array_part, crate::proofs::Stepping::array_past, crate::proofs::Stepping::array_none, crate::proofs::Stepping::array_misfit))]
+fn in_parts<'a>(parts: &'a Parts, index: &Value) -> Step<'a>
+    ensures { step_of result ≡ in_array parts.now (val_of index.now) }
+{
+    match part_place(parts.len(), index) {
+        Some(Some(at)) => match parts.part(at) {
+            Some(part) => Step::Part(part),
+            None => Step::Outside,
+        },
+        Some(None) => Step::Outside,
+        None => Step::Misfit,
+    }
+}
+
+#[tactic(auto, using(crate::proofs::Stepping::map_part, crate::proofs::Stepping::map_past, crate::proofs::Stepping::map_none, crate::proofs::Stepping::map_misfit))]
+fn in_entries<'a>(entries: &'a Entries, index: &Value) -> Step<'a>
+    ensures { step_of result ≡ in_map entries.now (key_of (val_of index.now)) }
+{
+    match map_place(entries, index) {
+        Some(Some(at)) => match entries.value(at) {
+            Some(part) => Step::Part(part),
+            None => Step::Absent,
+        },
+        Some(None) => Step::Absent,
+        None => Step::Misfit,
     }
 }
 
@@ -58,10 +79,10 @@ pub fn at<'a>(v: &'a Value, index: &Value) -> Option<&'a Value>
     }
 }
 
-// Where the int that `index` is leads in that many parts, if it is one and leads there.
-pub(crate) fn part_place(len: usize, index: &Value) -> Option<Option<usize>>
-    ensures place { result ≡ option_map (place_in len) (int_of (val_of index.now)) }
-    ensures within { IfSome result (λ place. IfSome place (λ at. at < len)) }
+/// Where the int that an index is leads in that many parts: `None` where it is no int, and `None`
+/// within where it leads to none of them.
+pub fn part_place(len: usize, index: &Value) -> Option<Option<usize>>
+    ensures { result ≡ option_map (place_in len) (int_of (val_of index.now)) }
 {
     match index {
         Value::Int(n) => Some(array_place(len, *n)),
@@ -70,17 +91,16 @@ pub(crate) fn part_place(len: usize, index: &Value) -> Option<Option<usize>>
 }
 
 fn array_place(len: usize, index: i64) -> Option<usize>
-    ensures place { result ≡ place_in len index }
-    ensures within { IfSome result (λ at. at < len) }
+    ensures { result ≡ place_in len index }
 {
     let at = usize::try_from(index).ok()?;
     if at < len { Some(at) } else { None }
 }
 
-// Where the key that `index` is stands, if it is one and stands there.
-pub(crate) fn map_place(entries: &MapValue, index: &Value) -> Option<Option<usize>>
-    ensures place { result ≡ option_map (λ k. place_of k entries.now) (key_of (val_of index.now)) }
-    ensures within { IfSome result (λ place. IfSome place (λ at. at < length entries.now)) }
+/// Where the key that an index is stands in a map: `None` where it is no key, and `None` within where
+/// the map lacks it.
+pub fn map_place(entries: &Entries, index: &Value) -> Option<Option<usize>>
+    ensures { result ≡ option_map (λ k. key_place k (keys_in entries.now)) (key_of (val_of index.now)) }
 {
     match index {
         Value::Int(n) => Some(entries.place(&Key::Int(*n))),
@@ -94,18 +114,14 @@ pub(crate) fn map_place(entries: &MapValue, index: &Value) -> Option<Option<usiz
 }
 
 fn text_place(keys: &[Key], parts: &[Value]) -> Option<Option<usize>>
-    ensures place { result ≡ option_map (λ bytes. key_place (key.Text bytes) keys.now) (bytes_of (vals (vals_of parts.now))) }
-    ensures within { IfSome result (λ place. IfSome place (λ at. at < length keys.now)) }
+    ensures { result ≡ option_map (λ bytes. key_place (key.Text bytes) keys.now) (bytes_of (vals (vals_of parts.now))) }
 {
-    if !is_text(parts) {
-        return None;
-    }
     'keys: for i in 0..keys.len() {
         if is_text_key(&keys[i], parts) {
             return Some(Some(i));
         }
     }
-    Some(None)
+    if is_text(parts) { Some(None) } else { None }
 }
 
 fn char_of(value: &Value) -> Option<u8>
@@ -176,7 +192,7 @@ pub fn key_from(alloc: Global, value: &Value) -> Result<Option<Key>, Memory>
 pub fn text_bytes(alloc: Global, parts: &[Value]) -> Result<Option<Vec<u8>>, Memory>
     ensures { IfOk result (λ o. option_map (λ bytes. bytes.items) o ≡ bytes_of (vals (vals_of parts.now))) }
 {
-    let mut bytes = Vec::new(alloc);
+    let mut bytes = Vec::with_capacity(alloc, parts.len())?;
     'parts: for part in parts {
         match char_of(part) {
             Some(c) => bytes.push(c)?,

@@ -1,12 +1,12 @@
-ghost use Rattle.std.specs.Prelude.{◌≡◌, ◌<◌, ◌++◌, [], ◌∷◌, Some, codes, decimal, length, zip, OnOk, OnErr, map};
+ghost use Rattle.std.specs.Prelude.{◌≡◌, ◌<◌, ◌++◌, [], ◌∷◌, Some, codes, decimal, length, zip, OnOk, OnErr};
 ghost use Rattle.verse_value.specs.Keys.{bytes_of};
-ghost use Rattle.verse_value.specs.View.{val_of, vals_of, entry_of};
+ghost use Rattle.verse_value.specs.View.{val_of, vals_of};
 ghost use Rattle.verse_value.specs.Val.{vals, pairs};
 ghost use Rattle.verse_value.specs.Texts.{text_of, list_text, pairs_text, array_text, map_text, entry_text, key_text, quoted, escaped, hex_digit, hex_pair, enum_text, char_text, plain, KeysAreValues};
 
 use crate::keys::Key;
 use crate::lookups::text_bytes;
-use crate::values::{MapValue, Value};
+use crate::values::{Entries, Value};
 use std::alloc::Global;
 use verse_base::refusals::Memory;
 use verse_base::texts::{decimal, natural};
@@ -42,7 +42,7 @@ fn append(alloc: Global, v: &Value, out: &mut Vec<u8>) -> Result<(), Memory>
         Value::Obj(cell) => append_numbered(out, b'@', *cell)?,
         Value::Event(cell) => append_numbered(out, b'!', *cell)?,
         Value::Task(number) => append_numbered(out, b'~', *number)?,
-        Value::Some(part) => append_option(alloc, part, out)?,
+        Value::Some(held) => append_option(alloc, held.part(), out)?,
         Value::Array(parts) => append_array(alloc, parts.as_slice(), out)?,
         Value::Map(entries) => append_map(alloc, entries, out)?,
         Value::Tuple(parts) => append_tuple(alloc, parts.as_slice(), out)?,
@@ -102,8 +102,8 @@ fn append_list(alloc: Global, parts: &[Value], out: &mut Vec<u8>) -> Result<(), 
 }
 
 #[cycle(append)]
-fn append_map(alloc: Global, entries: &MapValue, out: &mut Vec<u8>) -> Result<(), Memory>
-    ensures { OnOk result (out.new.items ≡ out.old.items ++ map_text (pairs (map entry_of entries.now))) }
+fn append_map(alloc: Global, entries: &Entries, out: &mut Vec<u8>) -> Result<(), Memory>
+    ensures { OnOk result (out.new.items ≡ out.old.items ++ map_text entries.now) }
 {
     append_bytes(out, b"map{")?;
     append_entries(alloc, entries.keys(), entries.values(), out)?;

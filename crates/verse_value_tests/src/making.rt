@@ -6,11 +6,9 @@ ghost use Rattle.verse_value_tests.specs.Nested.{in_options};
 
 use std::alloc::Global;
 use verse_base::refusals::Memory;
-use verse_value::entries::Entries;
 use verse_value::keys::Key;
-use verse_value::parts::Parts;
-use verse_value::paths::Path;
-use verse_value::values::Value;
+use verse_value::values::{Entries, Parts, Value};
+use verse_write::paths::Path;
 
 /// An array of two values.
 pub fn pair(alloc: Global, first: Value, second: Value) -> Result<Value, Memory>
@@ -19,7 +17,7 @@ pub fn pair(alloc: Global, first: Value, second: Value) -> Result<Value, Memory>
     let mut parts = Parts::new(alloc);
     parts.push(first)?;
     parts.push(second)?;
-    Ok(Value::Array(parts))
+    Ok(Value::Array(Box::new(alloc, parts)?))
 }
 
 /// A map with one entry.
@@ -28,7 +26,7 @@ pub fn one_entry(alloc: Global, key: Key, value: Value) -> Result<Value, Memory>
 {
     let mut entries = Entries::new(alloc);
     entries.push(key, value)?;
-    Ok(Value::Map(entries))
+    Value::map(alloc, entries)
 }
 
 /// The path of one index.
@@ -47,7 +45,7 @@ pub fn nested(alloc: Global, value: Value, count: u32) -> Result<Value, Memory>
 {
     let mut nested = value;
     'options: for _ in 0..count {
-        nested = Value::Some(Box::new(alloc, nested)?);
+        nested = Value::option(alloc, nested)?;
     }
     Ok(nested)
 }

@@ -7,16 +7,16 @@ use std::alloc::Global;
 use std::test::Fail;
 use verse_base::refusals::Kind;
 use verse_value::bytes::Bytes;
-use verse_value::entries::Entries;
 use verse_value::equality::equal;
 use verse_value::keys::Key;
 use verse_value::lookups::{Step, find, is_text, key_from, text_bytes};
-use verse_value::parts::Parts;
-use verse_value::paths::Path;
 use verse_value::printing::{keys_are_values, text};
 use verse_value::sizes::{cell_weight, is_fit, levels, weight};
-use verse_value::values::{Value, copy_all};
-use verse_value::writes::{Mode, WriteFault, take_back, write, write_logged};
+use verse_value::values::{Entries, Parts, Value, copy_all};
+use verse_write::paths::Path;
+use verse_write::writes::{
+    Mode, Undo, WriteFault, store, store_logged, take_back, write, write_logged,
+};
 
 fn top(stack: &mut Vec<Value>) -> Result<Value, Fail> {
     let value = stack.pop().ok_or("a value is missing")?;
@@ -28,7 +28,7 @@ fn text_value(alloc: Global, bytes: &[u8]) -> Result<Value, Fail> {
     for byte in bytes {
         parts.push(Value::Char(*byte))?;
     }
-    Ok(Value::Array(parts))
+    Ok(Value::Array(Box::new(alloc, parts)?))
 }
 
 fn enum_value(numbers: &str) -> Result<Value, Fail> {
@@ -74,20 +74,21 @@ fn reference(word: &str) -> Result<Option<Value>, Fail> {
     Ok(None)
 }
 
-fn named(alloc: Global, word: &str) -> Option<Value> {
-    match word.as_bytes() {
-        b"()" => Some(Value::default()),
-        b"false" => Some(Value::False),
-        b"true" => Some(Value::True),
-        b"[" => Some(Value::Array(Parts::new(alloc))),
-        b"(" => Some(Value::Tuple(Parts::new(alloc))),
-        b"{" => Some(Value::Map(Entries::new(alloc))),
-        _ => None,
-    }
+fn named(alloc: Global, word: &str) -> Result<Option<Value>, Fail> {
+    let value = match word.as_bytes() {
+        b"()" => Value::default(),
+        b"false" => Value::False,
+        b"true" => Value::True,
+        b"[" => Value::array(alloc, Vec::new(alloc))?,
+        b"(" => Value::tuple(alloc, Vec::new(alloc))?,
+        b"{" => Value::map(alloc, Entries::new(alloc))?,
+        _ => return Ok(None),
+    };
+    Ok(Some(value))
 }
 
 fn single(alloc: Global, word: &str) -> Result<Value, Fail> {
-    if let Some(value) = named(alloc, word) {
+    if let Some(value) = named(alloc, word)? {
         return Ok(value);
     }
     if let Some(letters) = word.strip_prefix("\"") {
@@ -116,7 +117,7 @@ fn with_part(whole: Value, part: Value) -> Result<Value, Fail> {
 fn with_entry(whole: Value, key: Key, value: Value) -> Result<Value, Fail> {
     match whole {
         Value::Map(mut entries) => {
-            let _ = entries.insert(key, value)?;
+            entries.insert(key, value)?;
             Ok(Value::Map(entries))
         }
         _ => Err(Fail::from("a map")),
@@ -141,8 +142,8 @@ fn add_entry(alloc: Global, stack: &mut Vec<Value>) -> Result<Value, Fail> {
 
 fn option_of(alloc: Global, stack: &mut Vec<Value>) -> Result<Value, Fail> {
     let part = top(stack)?;
-    let part = Box::new(alloc, part)?;
-    Ok(Value::Some(part))
+    let option = Value::option(alloc, part)?;
+    Ok(option)
 }
 
 fn read_word(alloc: Global, stack: &mut Vec<Value>, word: &str) -> Result<(), Fail> {
@@ -485,7 +486,7 @@ fn a_key_may_weigh_four_million(rt: HostRuntime) -> Result<(), Fail> {
 fn alone(alloc: Global, value: Value) -> Result<Value, Fail> {
     let mut parts = Parts::new(alloc);
     parts.push(value)?;
-    Ok(Value::Array(parts))
+    Ok(Value::Array(Box::new(alloc, parts)?))
 }
 
 #[test]
@@ -588,10 +589,15 @@ fn parts_are_lists(rt: HostRuntime) -> Result<(), Fail> {
     let mut parts = Parts::from_vec(values(alloc, "1 2 3")?);
     assert_eq!(rt; parts.len(), 3);
     if 1 < parts.len() {
-        *parts.part_mut(1) = Value::True;
+        let old = parts.replace(1, Value::True);
+        assert!(rt; equal(&old, &Value::Int(2)));
     }
-    let tuple = Value::Tuple(Parts::from_vec(parts.into_vec()));
-    assert_eq!(rt; shown(alloc, &tuple)?.as_str(), "(1, true, 3)");
+    assert!(rt; parts.part(3).is_none());
+    parts.append(Parts::from_vec(values(alloc, "4 5")?))?;
+    parts.truncate(4);
+    let tuple = Value::tuple(alloc, parts.into_vec())?;
+    assert_eq!(rt; shown(alloc, &tuple)?.as_str(), "(1, true, 3, 4)");
+    assert_eq!(rt; weight(&tuple), 5);
     Ok(())
 }
 
@@ -608,11 +614,11 @@ fn paths_are_lists(rt: HostRuntime) -> Result<(), Fail> {
 }
 
 // Ten at the text `a`, and thirty at 3.
-fn ten_and_thirty(alloc: Global) -> Result<Entries<u32>, Fail> {
+fn ten_and_thirty(alloc: Global) -> Result<Entries, Fail> {
     let mut entries = Entries::new(alloc);
     let letter = Key::Text(Bytes::from_slice(alloc, b"a")?);
-    let _ = entries.insert(letter, 10u32)?;
-    let _ = entries.insert(Key::Int(3), 30u32)?;
+    entries.insert(letter, Value::Int(10))?;
+    entries.insert(Key::Int(3), Value::Int(30))?;
     Ok(entries)
 }
 
@@ -621,7 +627,6 @@ fn entries_are_found_by_key(rt: HostRuntime) -> Result<(), Fail> {
     let alloc = rt.alloc();
     let entries = ten_and_thirty(alloc)?;
     assert_eq!(rt; entries.len(), 2);
-    assert_eq!(rt; entries.values(), [10u32, 30].as_slice());
     assert_eq!(rt; entries.place(&Key::Int(3)), Some(1));
     assert_eq!(rt; entries.place(&Key::Char(3)), None);
     let [letter, three] = entries.keys() else {
@@ -639,12 +644,33 @@ fn entries_keep_their_places(rt: HostRuntime) -> Result<(), Fail> {
     let mut entries = ten_and_thirty(alloc)?;
     let letter = Bytes::from_slice(alloc, b"a")?;
     assert_eq!(rt; letter.as_slice(), b"a".as_slice());
-    assert_eq!(rt; entries.insert(Key::Text(letter), 11)?, Some(10));
-    assert_eq!(rt; entries.values(), [11u32, 30].as_slice());
+    entries.insert(Key::Text(letter), Value::Int(11))?;
     if 0 < entries.len() {
-        *entries.value_mut(0) = 12;
+        let old = entries.replace(0, Value::Int(12));
+        assert!(rt; equal(&old, &Value::Int(11)));
     }
-    assert!(rt; matches!(entries.pop(), Some((Key::Int(3), 30))));
-    assert_eq!(rt; entries.values(), [12u32].as_slice());
+    entries.pop();
+    let map = Value::map(alloc, entries)?;
+    assert_eq!(rt; shown(alloc, &map)?.as_str(), "map{\"a\" => 12}");
+    assert_eq!(rt; weight(&map), 4);
+    Ok(())
+}
+
+// The same write that answers nothing, and what undoes it.
+#[test]
+fn a_grown_array_is_shortened(rt: HostRuntime) -> Result<(), Fail> {
+    let alloc = rt.alloc();
+    let mut slot = value(alloc, "[ [ 1 , 2 , ,")?;
+    let first = path_to(alloc, Value::Int(0))?;
+    let more = value(alloc, "[ 3 ,")?;
+    let undo = store_logged(alloc, &mut slot, &first, Mode::Add, more)?;
+    assert_eq!(rt; shown(alloc, &slot)?.as_str(), "array{array{1, 2, 3}}");
+    assert!(rt; matches!(undo, Undo::Shorten(2)));
+    take_back(&mut slot, &first, undo);
+    assert_eq!(rt; shown(alloc, &slot)?.as_str(), "array{array{1, 2}}");
+    assert_eq!(rt; weight(&slot), 4);
+    store(alloc, &mut slot, &first, Mode::Set, Value::True)?;
+    assert_eq!(rt; shown(alloc, &slot)?.as_str(), "array{true}");
+    assert_eq!(rt; weight(&slot), 2);
     Ok(())
 }

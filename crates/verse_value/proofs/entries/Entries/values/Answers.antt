@@ -1,6 +1,0 @@
-use Rattle.std.proofs.Common.{◌∙◌}
-use Rattle.verse_value.proofs.EntryLemmas.{values_seen}
-use Rattle.verse_value.proofs.entries.Entries.values.Goals as goal
-
-pub returns : goal.returns
-returns g c = c.as_slice.ensures.value ∙ values_seen c.self.inside.keys.keys c.self.inside.values.items c.args.self.now c.self.invariant c.self.view_is

@@ -1,2 +1,0 @@
-pub mod entries
-pub mod parts

@@ -1,0 +1,4 @@
+pub mod Inside
+pub mod Along
+pub mod Ints
+pub mod KeyPaths
