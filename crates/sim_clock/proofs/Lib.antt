@@ -1,0 +1,10 @@
+mod Walks
+mod First
+mod Making
+mod Pair
+mod Order
+mod Edits
+mod Numbered
+mod Placed
+mod Waking
+mod Soonest

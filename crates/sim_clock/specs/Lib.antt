@@ -1,0 +1,9 @@
+pub mod Pending
+pub mod Calls
+pub mod Marked
+pub mod Queued
+pub mod QueueView
+pub mod Places
+pub mod IndexView
+pub mod Indexed
+pub mod MapView
