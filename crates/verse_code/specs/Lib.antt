@@ -1,3 +1,4 @@
 pub mod Operations
 pub mod Validity
 pub mod Forms
+pub mod Agreement

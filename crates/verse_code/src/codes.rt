@@ -1,3 +1,5 @@
+//! A program in bytecode.
+
 use crate::operations::Op;
 use crate::tables::Table;
 use verse_base::places::Place;

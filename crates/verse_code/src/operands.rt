@@ -1,3 +1,5 @@
+//! Operands of operations.
+
 /// What an operand is, and so what it may be.
 #[derive(Clone, Copy, Debug, PartialEq, Eq)]
 pub enum OperandKind {

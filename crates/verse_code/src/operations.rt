@@ -1,5 +1,7 @@
+//! The operations, with their codes and operands.
+
 ghost use Rattle.std.specs.Prelude.{◌≡◌};
-ghost use Rattle.verse_code.specs.Operations.{code_of, operands_of};
+ghost use Rattle.verse_code.specs.Operations.{code_of, operands_of, or_label, label_of};
 
 use crate::operands::OperandKind::{
     Ahead, Arms, Behind, Char, Class, Function, Group, Mode, Number, Pause, Place, Text,
@@ -79,9 +81,14 @@ pub enum Op {
     New(u32),
     /// 34: Pops a cell and pushes its slot of this number.
     Load(u32),
-    /// 35: Pops a value, as many indices as the second operand says, and a cell; writes into the slot of the first
-    /// operand in the mode of the third (0 set, 1 add, 2 subtract, 3 multiply); pushes the value.
-    Store(u32, u32, u32, u32),
+    /// 35: Pops a value, as many indices as `indices` says, and a cell; writes into the slot of this
+    /// number in this mode (0 set, 1 add, 2 subtract, 3 multiply); pushes the value.
+    Store {
+        slot: u32,
+        indices: u32,
+        mode: u32,
+        place: u32,
+    },
     /// 36: Pops all slots of the class, adds an object cell and pushes it.
     Object(u32, u32),
     /// 37: Adds an event cell and pushes it.
@@ -110,8 +117,13 @@ pub enum Op {
     Each(u32),
     /// 49: Pops the high end into the next local and the low end into the local.
     Range(u32),
-    /// 50: Where the domain in the first local has a value left: writes it to the second local and goes back to the label.
-    Take(u32, u32, u32),
+    /// 50: Where the domain in this local has a value left: writes it to the local `value` and goes
+    /// back to the label.
+    Take {
+        domain: u32,
+        value: u32,
+        label: u32,
+    },
     /// 51: Pops a value and appends it to the array in the local.
     Append(u32, u32),
     /// 52: Pops a text and prints it as a line.
@@ -130,9 +142,13 @@ pub enum Op {
     Spawn(u32),
     /// 59: As `Method`, in a new task that runs at once.
     SpawnMethod(u32, u32),
-    /// 60: Begins as many arms as the second operand says, those of the `Arm` operations that follow; the first
-    /// operand is 0 for sync, 1 for race, 2 for rush.
-    Group(u32, u32, u32),
+    /// 60: Begins as many arms as `arms` says, those of the `Arm` operations that follow; `kind` is 0
+    /// for sync, 1 for race, 2 for rush.
+    Group {
+        kind: u32,
+        arms: u32,
+        place: u32,
+    },
     /// 61: An arm begins at the label.
     Arm(u32),
     /// 62: A task begins at the next operation; the parent goes on at the label.
@@ -188,7 +204,7 @@ impl Op {
             Op::Length => 32,
             Op::New(..) => 33,
             Op::Load(..) => 34,
-            Op::Store(..) => 35,
+            Op::Store { .. } => 35,
             Op::Object(..) => 36,
             Op::Event(..) => 37,
             Op::Jump(..) => 38,
@@ -203,7 +219,7 @@ impl Op {
             Op::Return => 47,
             Op::Each(..) => 48,
             Op::Range(..) => 49,
-            Op::Take(..) => 50,
+            Op::Take { .. } => 50,
             Op::Append(..) => 51,
             Op::Print(..) => 52,
             Op::Sleep(..) => 53,
@@ -213,7 +229,7 @@ impl Op {
             Op::Signal => 57,
             Op::Spawn(..) => 58,
             Op::SpawnMethod(..) => 59,
-            Op::Group(..) => 60,
+            Op::Group { .. } => 60,
             Op::Arm(..) => 61,
             Op::Branch(..) => 62,
             Op::ArmEnd => 63,
@@ -263,11 +279,16 @@ impl Op {
             Op::Length => Operands::Bare,
             Op::New(p) => Operands::One(Operand(Place, *p)),
             Op::Load(n) => Operands::One(Operand(Number, *n)),
-            Op::Store(s, n, m, p) => Operands::Four(
-                Operand(Number, *s),
-                Operand(Number, *n),
-                Operand(Mode, *m),
-                Operand(Place, *p),
+            Op::Store {
+                slot,
+                indices,
+                mode,
+                place,
+            } => Operands::Four(
+                Operand(Number, *slot),
+                Operand(Number, *indices),
+                Operand(Mode, *mode),
+                Operand(Place, *place),
             ),
             Op::Object(c, p) => Operands::Two(Operand(Class, *c), Operand(Place, *p)),
             Op::Event(p) => Operands::One(Operand(Place, *p)),
@@ -283,10 +304,14 @@ impl Op {
             Op::Return => Operands::Bare,
             Op::Each(l) => Operands::One(Operand(Number, *l)),
             Op::Range(l) => Operands::One(Operand(Number, *l)),
-            Op::Take(l, d, to) => Operands::Three(
-                Operand(Number, *l),
-                Operand(Number, *d),
-                Operand(Behind, *to),
+            Op::Take {
+                domain,
+                value,
+                label,
+            } => Operands::Three(
+                Operand(Number, *domain),
+                Operand(Number, *value),
+                Operand(Behind, *label),
             ),
             Op::Append(l, p) => Operands::Two(Operand(Number, *l), Operand(Place, *p)),
             Op::Print(p) => Operands::One(Operand(Place, *p)),
@@ -297,10 +322,10 @@ impl Op {
             Op::Signal => Operands::Bare,
             Op::Spawn(f) => Operands::One(Operand(Function, *f)),
             Op::SpawnMethod(n, m) => Operands::Two(Operand(Number, *n), Operand(Number, *m)),
-            Op::Group(k, m, p) => Operands::Three(
-                Operand(Group, *k),
-                Operand(Arms, *m),
-                Operand(Place, *p),
+            Op::Group { kind, arms, place } => Operands::Three(
+                Operand(Group, *kind),
+                Operand(Arms, *arms),
+                Operand(Place, *place),
             ),
             Op::Arm(l) => Operands::One(Operand(Ahead, *l)),
             Op::Branch(l) => Operands::One(Operand(Ahead, *l)),
@@ -309,5 +334,30 @@ impl Op {
             Op::Leave(n) => Operands::One(Operand(Number, *n)),
             Op::DeferEnd => Operands::Bare,
         }
+    }
+
+    /// The label, of an operation that has one.
+    pub fn label(&self) -> Option<u32>
+        ensures { result ≡ label_of self.now }
+    {
+        match self.operands() {
+            Operands::Bare | Operands::Integer(_) => None,
+            Operands::One(a) => or_label(a, None),
+            Operands::Two(a, b) => or_label(a, or_label(b, None)),
+            Operands::Three(a, b, c) => or_label(a, or_label(b, or_label(c, None))),
+            Operands::Four(a, b, c, d) => {
+                or_label(a, or_label(b, or_label(c, or_label(d, None))))
+            }
+        }
+    }
+}
+
+/// The operand, if it is a label, and otherwise what the others have.
+fn or_label(operand: Operand, other: Option<u32>) -> Option<u32>
+    ensures { result ≡ or_label operand other }
+{
+    match operand.0 {
+        Ahead | Behind => Some(operand.1),
+        _ => other,
     }
 }

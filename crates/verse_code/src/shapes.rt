@@ -1,3 +1,5 @@
+//! What operands each operation has, and how it is made of them.
+
 ghost use Rattle.std.specs.Prelude.{◌≡◌, ◌<◌, ◌≤◌, Some, slice_get};
 ghost use Rattle.std.specs.Option.{option_map};
 ghost use Rattle.verse_code.specs.Forms.{forms, shape_of, made};
@@ -196,7 +198,12 @@ fn data_op(code: u8, parts: Parts) -> Op
         32 => Op::Length,
         33 => Op::New(parts.a),
         34 => Op::Load(parts.a),
-        35 => Op::Store(parts.a, parts.b, parts.c, parts.d),
+        35 => Op::Store {
+            slot: parts.a,
+            indices: parts.b,
+            mode: parts.c,
+            place: parts.d,
+        },
         36 => Op::Object(parts.a, parts.b),
         37 => Op::Event(parts.a),
         _ => unreachable!(),
@@ -222,7 +229,11 @@ fn control_op(code: u8, parts: Parts) -> Op
         47 => Op::Return,
         48 => Op::Each(parts.a),
         49 => Op::Range(parts.a),
-        50 => Op::Take(parts.a, parts.b, parts.c),
+        50 => Op::Take {
+            domain: parts.a,
+            value: parts.b,
+            label: parts.c,
+        },
         51 => Op::Append(parts.a, parts.b),
         _ => unreachable!(),
     }
@@ -243,7 +254,11 @@ fn task_op(code: u8, parts: Parts) -> Op
         57 => Op::Signal,
         58 => Op::Spawn(parts.a),
         59 => Op::SpawnMethod(parts.a, parts.b),
-        60 => Op::Group(parts.a, parts.b, parts.c),
+        60 => Op::Group {
+            kind: parts.a,
+            arms: parts.b,
+            place: parts.c,
+        },
         61 => Op::Arm(parts.a),
         62 => Op::Branch(parts.a),
         63 => Op::ArmEnd,

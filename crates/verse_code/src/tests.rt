@@ -45,7 +45,7 @@ const OPERATIONS: &str = "\
 32|Length|Bare
 33|New(1)|One(Operand(Place, 1))
 34|Load(1)|One(Operand(Number, 1))
-35|Store(1, 2, 3, 4)|Four(Operand(Number, 1), Operand(Number, 2), Operand(Mode, 3), Operand(Place, 4))
+35|Store { slot: 1, indices: 2, mode: 3, place: 4 }|Four(Operand(Number, 1), Operand(Number, 2), Operand(Mode, 3), Operand(Place, 4))
 36|Object(1, 2)|Two(Operand(Class, 1), Operand(Place, 2))
 37|Event(1)|One(Operand(Place, 1))
 38|Jump(1)|One(Operand(Ahead, 1))
@@ -60,7 +60,7 @@ const OPERATIONS: &str = "\
 47|Return|Bare
 48|Each(1)|One(Operand(Number, 1))
 49|Range(1)|One(Operand(Number, 1))
-50|Take(1, 2, 3)|Three(Operand(Number, 1), Operand(Number, 2), Operand(Behind, 3))
+50|Take { domain: 1, value: 2, label: 3 }|Three(Operand(Number, 1), Operand(Number, 2), Operand(Behind, 3))
 51|Append(1, 2)|Two(Operand(Number, 1), Operand(Place, 2))
 52|Print(1)|One(Operand(Place, 1))
 53|Sleep(1)|One(Operand(Pause, 1))
@@ -70,7 +70,7 @@ const OPERATIONS: &str = "\
 57|Signal|Bare
 58|Spawn(1)|One(Operand(Function, 1))
 59|SpawnMethod(1, 2)|Two(Operand(Number, 1), Operand(Number, 2))
-60|Group(1, 2, 3)|Three(Operand(Group, 1), Operand(Arms, 2), Operand(Place, 3))
+60|Group { kind: 1, arms: 2, place: 3 }|Three(Operand(Group, 1), Operand(Arms, 2), Operand(Place, 3))
 61|Arm(1)|One(Operand(Ahead, 1))
 62|Branch(1)|One(Operand(Ahead, 1))
 63|ArmEnd|Bare
@@ -170,6 +170,8 @@ fn operands(rt: HostRuntime) -> Result<(), Fail> {
     assert!(rt; suits_kind(&sizes, 1, OperandKind::Ahead, 2));
     assert!(rt; !suits_kind(&sizes, 1, OperandKind::Ahead, 1));
     assert!(rt; !suits_kind(&sizes, 1, OperandKind::Class, 0));
+    assert_eq!(rt; Op::Jump(2).label(), Some(2));
+    assert_eq!(rt; Op::Unit.label(), None);
     assert!(rt; all_suit(&sizes, 1, Op::Jump(2).operands()));
     assert!(rt; !all_suit(&sizes, 1, Op::Again(1).operands()));
     assert_eq!(rt;

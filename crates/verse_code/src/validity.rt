@@ -1,3 +1,5 @@
+//! When a code is valid.
+
 ghost use Rattle.std.specs.Prelude.{◌≡◌, ◌↔◌, ◌<◌, ◌≤◌, length, All, IsTrue};
 ghost use Rattle.verse_code.specs.Operations.{operands_of};
 ghost use Rattle.verse_code.specs.Validity.{
@@ -173,7 +175,7 @@ fn sizes_of(code: &Code) -> Sizes
 }
 
 fn operations_are_valid(code: &Code) -> bool
-    requires { length code.now.ops ≤ 16777216 }
+    requires { length code.now.ops ≤ MAX_OPERATIONS }
     ensures { IsTrue result ↔ AreOperations code.now }
 {
     let sizes = sizes_of(code);

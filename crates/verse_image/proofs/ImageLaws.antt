@@ -11,7 +11,8 @@ use Rattle.verse_code.specs.Validity.{all_suit, sizes_of, IsText, IsPlace, IsFun
 use Rattle.verse_image.specs.declared.tables.Tables.{Tables}
 use Rattle.verse_image.specs.Format.{◌⨾◌, byte, plain, number, each, table, text, place, function, class, operation, mark, head, tables, fields, IsVersion, Image}
 use Rattle.verse_image.specs.Reading.{◌>>=◌, flaw, letter_at, mark_at, version_at, top_of, head_at, within_at, table_at, text_at, place_at, function_at, class_at, main_at, tables_at, ops_at, sizes_with, code_with, ended, image_at}
-use Rattle.verse_image.proofs.NumberLaws.{IsBytes, rest_bytes, bind_ok, test_ok, ok_is, Takes, within_take, within_again}
+use Rattle.verse_image.specs.Numbers.{IsBytes}
+use Rattle.verse_image.proofs.NumberLaws.{rest_bytes, bind_ok, test_ok, ok_is, Takes, within_take, within_again}
 use Rattle.verse_image.proofs.TableLaws.{Once, once_then, once_number, once_plain, once_each, once_table, once_text, once_place, once_function, once_class, TableFits, table_take, table_again, text_take, text_again, place_take, place_again, function_take, function_again, class_take, class_again, main_take, main_again}
 use Rattle.verse_image.proofs.OperationLaws.{ops_take, ops_again, once_operation, SuitFrom, suit_at, suit_codes, suit_from, codes_most}
 

@@ -6,3 +6,4 @@ pub mod TableLaws
 pub mod OperationLaws
 pub mod ImageLaws
 pub mod Locality
+pub mod Fronts

@@ -46,60 +46,60 @@ byte_stays (b ∷ rest) more = refl
 
 -- ---- numbers
 
-high_stays : (more rest : List ℕ) (left wide b high : ℕ) → wide ≡ left + length more → Stays more (with_high left b (high, rest)) (with_high wide b (high, rest ++ more))
-high_stays more rest left wide b high e = tested (ltb 0 high && ltb (b - 128 + 128 * high) 4294967296)
+high_stays : (more rest : List ℕ) (end left wide b high : ℕ) → wide ≡ left + length more → Stays more (with_high end left b (high, rest)) (with_high end wide b (high, rest ++ more))
+high_stays more rest end left wide b high e = tested (ltb 0 high && ltb (b - 128 + 128 * high) end)
   where
     tested : (t : Bool) → Stays more (cond t (Ok (b - 128 + 128 * high, rest)) (Err (flaw 4 left))) (cond t (Ok (b - 128 + 128 * high, rest ++ more)) (Err (flaw 4 wide)))
     tested true = refl
     tested false = inr (ap (λ (n : ℕ). Err (flaw 4 n)) e)
 
-digits_stay : (most left wide : ℕ) (bytes more : List ℕ) → wide ≡ left + length more → Stays more (digits_at most left bytes) (digits_at most wide (bytes ++ more))
+digits_stay : (most end left wide : ℕ) (bytes more : List ℕ) → wide ≡ left + length more → Stays more (digits_at most end left bytes) (digits_at most end wide (bytes ++ more))
 unfolding digits_at
-digits_stay zero left wide bytes more e = inr (ap (λ (n : ℕ). Err (flaw 4 n)) e)
-digits_stay (suc most) left wide [] more e = inl refl
-digits_stay (suc most) left wide (b ∷ rest) more e = tested (digits_stay most left wide rest more e) (ltb b 128)
+digits_stay zero end left wide bytes more e = inr (ap (λ (n : ℕ). Err (flaw 4 n)) e)
+digits_stay (suc most) end left wide [] more e = inl refl
+digits_stay (suc most) end left wide (b ∷ rest) more e = tested (digits_stay most end left wide rest more e) (ltb b 128)
   where
-    tested : Stays more (digits_at most left rest) (digits_at most wide (rest ++ more)) → (t : Bool) → Stays more (cond t (Ok (b, rest)) (digits_at most left rest >>= with_high left b)) (cond t (Ok (b, rest ++ more)) (digits_at most wide (rest ++ more) >>= with_high wide b))
+    tested : Stays more (digits_at most end left rest) (digits_at most end wide (rest ++ more)) → (t : Bool) → Stays more (cond t (Ok (b, rest)) (digits_at most end left rest >>= with_high end left b)) (cond t (Ok (b, rest ++ more)) (digits_at most end wide (rest ++ more) >>= with_high end wide b))
     tested h true = refl
-    tested h false = stays_then more (digits_at most left rest) (digits_at most wide (rest ++ more)) (with_high left b) (with_high wide b) h (λ x. high_stays more x.1 left wide b x.0 e)
+    tested h false = stays_then more (digits_at most end left rest) (digits_at most end wide (rest ++ more)) (with_high end left b) (with_high end wide b) h (λ x. high_stays more x.1 end left wide b x.0 e)
 
 pub number_stays : Local number_at
 unfolding number_at
-number_stays bytes more = digits_stay 5 (length bytes) (length (bytes ++ more)) bytes more (length-append bytes more)
+number_stays bytes more = digits_stay 5 4294967296 (length bytes) (length (bytes ++ more)) bytes more (length-append bytes more)
 
 pub within_stays : (least end : ℕ) → Local (within_at least end)
 unfolding within_at
 within_stays least end bytes more =
     stays_then more (number_at bytes) (number_at (bytes ++ more)) _ _ (number_stays bytes more) (λ n. stays_test more bytes n.1 (leb least n.0 && ltb n.0 end) 5 n.0)
 
-signed_high_stays : (more rest : List ℕ) (left wide b : ℕ) (high : Bool × ℕ) → wide ≡ left + length more → Stays more (signed_with_high left b (high, rest)) (signed_with_high wide b (high, rest ++ more))
-signed_high_stays more rest left wide b high e = tested (high.1 * 128 + cond high.0 (127 - (b - 128)) (b - 128)) (leb 64 (high.1 * 128 + cond high.0 (127 - (b - 128)) (b - 128)) && ltb (high.1 * 128 + cond high.0 (127 - (b - 128)) (b - 128)) 9223372036854775808)
+signed_high_stays : (more rest : List ℕ) (end left wide b : ℕ) (high : Bool × ℕ) → wide ≡ left + length more → Stays more (signed_with_high end left b (high, rest)) (signed_with_high end wide b (high, rest ++ more))
+signed_high_stays more rest end left wide b high e = tested (high.1 * 128 + cond high.0 (127 - (b - 128)) (b - 128)) (leb 64 (high.1 * 128 + cond high.0 (127 - (b - 128)) (b - 128)) && ltb (high.1 * 128 + cond high.0 (127 - (b - 128)) (b - 128)) end)
   where
     tested : (size : ℕ) (t : Bool) → Stays {A = Bool × ℕ} more (cond t (Ok ((high.0, size), rest)) (Err (flaw 4 left))) (cond t (Ok ((high.0, size), rest ++ more)) (Err (flaw 4 wide)))
     tested size true = refl
     tested size false = inr (ap (λ (n : ℕ). Err (flaw 4 n)) e)
 
-signed_stays : (most left wide : ℕ) (bytes more : List ℕ) → wide ≡ left + length more → Stays more (signed_digits_at most left bytes) (signed_digits_at most wide (bytes ++ more))
+signed_stays : (most end left wide : ℕ) (bytes more : List ℕ) → wide ≡ left + length more → Stays more (signed_digits_at most end left bytes) (signed_digits_at most end wide (bytes ++ more))
 unfolding signed_digits_at
-signed_stays zero left wide bytes more e = inr (ap (λ (n : ℕ). Err (flaw 4 n)) e)
-signed_stays (suc most) left wide [] more e = inl refl
-signed_stays (suc most) left wide (b ∷ rest) more e = first (signed_stays most left wide rest more e) (ltb b 64)
+signed_stays zero end left wide bytes more e = inr (ap (λ (n : ℕ). Err (flaw 4 n)) e)
+signed_stays (suc most) end left wide [] more e = inl refl
+signed_stays (suc most) end left wide (b ∷ rest) more e = first (signed_stays most end left wide rest more e) (ltb b 64)
   where
-    second : Stays more (signed_digits_at most left rest) (signed_digits_at most wide (rest ++ more)) → (t : Bool) →
-        Stays {A = Bool × ℕ} more (cond t (Ok ((true, 127 - b), rest)) (signed_digits_at most left rest >>= signed_with_high left b)) (cond t (Ok ((true, 127 - b), rest ++ more)) (signed_digits_at most wide (rest ++ more) >>= signed_with_high wide b))
+    second : Stays more (signed_digits_at most end left rest) (signed_digits_at most end wide (rest ++ more)) → (t : Bool) →
+        Stays {A = Bool × ℕ} more (cond t (Ok ((true, 127 - b), rest)) (signed_digits_at most end left rest >>= signed_with_high end left b)) (cond t (Ok ((true, 127 - b), rest ++ more)) (signed_digits_at most end wide (rest ++ more) >>= signed_with_high end wide b))
     second h true = refl
-    second h false = stays_then more (signed_digits_at most left rest) (signed_digits_at most wide (rest ++ more)) (signed_with_high left b) (signed_with_high wide b) h (λ x. signed_high_stays more x.1 left wide b x.0 e)
+    second h false = stays_then more (signed_digits_at most end left rest) (signed_digits_at most end wide (rest ++ more)) (signed_with_high end left b) (signed_with_high end wide b) h (λ x. signed_high_stays more x.1 end left wide b x.0 e)
 
-    first : Stays more (signed_digits_at most left rest) (signed_digits_at most wide (rest ++ more)) → (t : Bool) →
-        Stays {A = Bool × ℕ} more (cond t (Ok ((false, b), rest)) (cond (ltb b 128) (Ok ((true, 127 - b), rest)) (signed_digits_at most left rest >>= signed_with_high left b))) (cond t (Ok ((false, b), rest ++ more)) (cond (ltb b 128) (Ok ((true, 127 - b), rest ++ more)) (signed_digits_at most wide (rest ++ more) >>= signed_with_high wide b)))
+    first : Stays more (signed_digits_at most end left rest) (signed_digits_at most end wide (rest ++ more)) → (t : Bool) →
+        Stays {A = Bool × ℕ} more (cond t (Ok ((false, b), rest)) (cond (ltb b 128) (Ok ((true, 127 - b), rest)) (signed_digits_at most end left rest >>= signed_with_high end left b))) (cond t (Ok ((false, b), rest ++ more)) (cond (ltb b 128) (Ok ((true, 127 - b), rest ++ more)) (signed_digits_at most end wide (rest ++ more) >>= signed_with_high end wide b)))
     first h true = refl
     first h false = second h (ltb b 128)
 
 integer_stays : Local integer_at
 unfolding integer_at
 integer_stays bytes more =
-    stays_then more (signed_digits_at 10 (length bytes) bytes) (signed_digits_at 10 (length (bytes ++ more)) (bytes ++ more)) (λ n. Ok (with_sign n.0.0 n.0.1, n.1)) (λ n. Ok (with_sign n.0.0 n.0.1, n.1))
-    (signed_stays 10 (length bytes) (length (bytes ++ more)) bytes more (length-append bytes more)) (λ n. refl)
+    stays_then more (signed_digits_at 10 9223372036854775808 (length bytes) bytes) (signed_digits_at 10 9223372036854775808 (length (bytes ++ more)) (bytes ++ more)) (λ n. Ok (with_sign n.0.0 n.0.1, n.1)) (λ n. Ok (with_sign n.0.0 n.0.1, n.1))
+    (signed_stays 10 9223372036854775808 (length bytes) (length (bytes ++ more)) bytes more (length-append bytes more)) (λ n. refl)
 
 -- ---- tables
 
@@ -257,7 +257,7 @@ tables_stay files ops bytes more =
 -- ---- the image
 
 -- what reading all gives before a byte more and with it
-abbrev Ends : List ℕ → Result Code Flaw → Result Code Flaw → Type 0
+abbrev pub Ends : List ℕ → Result Code Flaw → Result Code Flaw → Type 0
 Ends more (Ok code) wide = wide ≡ Err (flaw 7 (length more))
 Ends more (Err f) wide = (f ≡ flaw 3 0) ⊎ (wide ≡ Err (flaw f.rule (f.left + length more)))
 
@@ -270,7 +270,7 @@ ended_ends : (code : Code) (rest : List ℕ) (b : ℕ) (more : List ℕ) → End
 ended_ends code [] b more = refl
 ended_ends code (c ∷ rest) b more = inr (ap (λ (n : ℕ). Err (flaw 7 n)) (length-append (c ∷ rest) (b ∷ more)))
 
-image_ends : (bytes : List ℕ) (b : ℕ) (more : List ℕ) → Ends (b ∷ more) (image_at bytes) (image_at (bytes ++ b ∷ more))
+pub image_ends : (bytes : List ℕ) (b : ℕ) (more : List ℕ) → Ends (b ∷ more) (image_at bytes) (image_at (bytes ++ b ∷ more))
 unfolding image_at
 image_ends bytes b more =
     ends_then (b ∷ more) (head_at bytes) (head_at (bytes ++ b ∷ more)) _ _ (head_stays bytes (b ∷ more)) (λ h.

@@ -2,12 +2,10 @@
 use Rattle.std.proofs.Common.{◌≡◌, ℕ, zero, suc, ◌+◌, ◌-◌, ◌*◌, ◌/◌, ◌%◌, ◌<◌, ◌≤◌, ℤ, pos, negsuc, Bool, true, false, cond, ltb, leb, ◌&&◌, inl, inr, List, [], ◌∷◌, length, get_or, Result, Ok, Err, refl, sym, ap, subst, ◌∙◌, arith}
 use Rattle.std.proofs.lemmas.Bool.{cases_lt, ltb-true, leb-true, lt-ltb, le-ltb, le-leb, and_parts}
 use Rattle.verse_image.specs.declared.faults.Flaw.{Flaw}
-use Rattle.verse_image.specs.Format.{Field, Spelled, one_byte, more_bytes, SignedSpelled, one_signed, more_signed, number, integer}
+use Rattle.verse_image.specs.Format.{Field, Spelled, one_byte, more_bytes, SignedSpelled, one_signed, more_signed, below, number, integer}
 use Rattle.verse_image.specs.Format as format
+use Rattle.verse_image.specs.Numbers.{IsBytes, room, signed_room, ReadIsSpelled, SpelledIsRead, SignedIsSpelled, SignedIsRead}
 use Rattle.verse_image.specs.Reading.{◌>>=◌, flaw, digits_at, with_high, number_at, within_at, seven_bits, signed_digits_at, signed_with_high, with_sign, integer_at}
-
-abbrev pub IsBytes : List ℕ → Type 0
-IsBytes bytes = (i : ℕ) → get_or bytes i 0 < 256
 
 pub rest_bytes : (b : ℕ) (bytes : List ℕ) → IsBytes (b ∷ bytes) → IsBytes bytes
 rest_bytes b bytes h i = h (suc i)
@@ -35,64 +33,61 @@ pub record Takes (P : Field) (bytes rest : List ℕ) : Type 0 where
 
 -- ---- numbers
 
-digits_more : (most left b : ℕ) (tail : List ℕ) → 128 ≤ b → digits_at (suc most) left (b ∷ tail) ≡ (digits_at most left tail >>= with_high left b)
+digits_more : (most end left b : ℕ) (tail : List ℕ) → 128 ≤ b → digits_at (suc most) end left (b ∷ tail) ≡ (digits_at most end left tail >>= with_high end left b)
 unfolding digits_at
-digits_more most left b tail le = let e : ltb b 128 ≡ false = le-ltb b 128 le in rw e refl
+digits_more most end left b tail le = let e : ltb b 128 ≡ false = le-ltb b 128 le in rw e refl
 
-digits_one : (most left b : ℕ) (tail : List ℕ) → b < 128 → digits_at (suc most) left (b ∷ tail) ≡ Ok (b, tail)
+digits_one : (most end left b : ℕ) (tail : List ℕ) → b < 128 → digits_at (suc most) end left (b ∷ tail) ≡ Ok (b, tail)
 unfolding digits_at
-digits_one most left b tail lt = let e : ltb b 128 ≡ true = lt-ltb b 128 lt in rw e refl
+digits_one most end left b tail lt = let e : ltb b 128 ≡ true = lt-ltb b 128 lt in rw e refl
 
-abbrev Digits : List ℕ → ℕ × List ℕ → Type 0
-Digits bytes x = Takes (number x.0) bytes x.1
+abbrev Digits : ℕ → List ℕ → ℕ × List ℕ → Type 0
+Digits end bytes x = Takes (below end x.0) bytes x.1
 
-digits_joined : (left b : ℕ) (tail : List ℕ) (high : ℕ × List ℕ) (x : ℕ × List ℕ) → IsBytes (b ∷ tail) → 128 ≤ b → Digits tail high → with_high left b high ≡ Ok x → Digits (b ∷ tail) x
-digits_joined left b tail high x fits le ih e =
-    let g = test_ok (ltb 0 high.0 && ltb (b - 128 + 128 * high.0) 4294967296) (flaw 4 left) (b - 128 + 128 * high.0, high.1) x e in
+digits_joined : (end left b : ℕ) (tail : List ℕ) (high : ℕ × List ℕ) (x : ℕ × List ℕ) → IsBytes (b ∷ tail) → 128 ≤ b → Digits end tail high → with_high end left b high ≡ Ok x → Digits end (b ∷ tail) x
+digits_joined end left b tail high x fits le ih e =
+    let g = test_ok (ltb 0 high.0 && ltb (b - 128 + 128 * high.0) end) (flaw 4 left) (b - 128 + 128 * high.0, high.1) x e in
     let parts = and_parts _ _ g.0 in
     let some : 0 < high.0 = ltb-true _ _ parts.0 in
-    let small : b - 128 + 128 * high.0 < 4294967296 = ltb-true _ _ parts.1 in
+    let small : b - 128 + 128 * high.0 < end = ltb-true _ _ parts.1 in
     let byte : b < 256 = fits 0 in
     let n = b - 128 + 128 * high.0 in
     let low : b ≡ 128 + n % 128 = omega arith in
     let up : high.0 ≡ n / 128 = omega arith in
     let whole : Spelled n (b ∷ tail) high.1 = more_bytes (omega arith) low (subst (λ (k : ℕ). Spelled k tail high.1) up ih.spelled.1) in
-    subst (Digits (b ∷ tail)) g.1 (record { spelled = (omega arith, whole); fits = ih.fits })
+    subst (Digits end (b ∷ tail)) g.1 (record { spelled = (omega arith, whole); fits = ih.fits })
 
-pub digits_take : (most left : ℕ) (bytes : List ℕ) (x : ℕ × List ℕ) → IsBytes bytes → digits_at most left bytes ≡ Ok x → Digits bytes x
+pub digits_take : (most end left : ℕ) (bytes : List ℕ) (x : ℕ × List ℕ) → 128 ≤ end → IsBytes bytes → digits_at most end left bytes ≡ Ok x → Digits end bytes x
 unfolding digits_at
-digits_take zero left bytes x fits e = absurd cc
-digits_take (suc most) left [] x fits e = absurd cc
-digits_take (suc most) left (b ∷ tail) x fits e =
+digits_take zero end left bytes x from fits e = absurd cc
+digits_take (suc most) end left [] x from fits e = absurd cc
+digits_take (suc most) end left (b ∷ tail) x from fits e =
     elim (cases_lt b 128) [
-      | inl lt ↦ subst (Digits (b ∷ tail)) (ok_is (b, tail) x (sym (digits_one most left b tail lt) ∙ e)) (record { spelled = (omega arith, one_byte lt); fits = rest_bytes b tail fits })
+      | inl lt ↦ subst (Digits end (b ∷ tail)) (ok_is (b, tail) x (sym (digits_one most end left b tail lt) ∙ e)) (record { spelled = (omega arith, one_byte lt); fits = rest_bytes b tail fits })
       | inr le ↦
-          let p = bind_ok (digits_at most left tail) (with_high left b) x (sym (digits_more most left b tail le) ∙ e) in
-          digits_joined left b tail p.0 x fits le (digits_take most left tail p.0 (rest_bytes b tail fits) p.1) p.2
+          let p = bind_ok (digits_at most end left tail) (with_high end left b) x (sym (digits_more most end left b tail le) ∙ e) in
+          digits_joined end left b tail p.0 x fits le (digits_take most end left tail p.0 from (rest_bytes b tail fits) p.1) p.2
     ]
 
--- what so many bytes and one more can spell
-abbrev room : ℕ → ℕ
-room zero = 128
-room (suc k) = 128 * room k
-
-digits_again : (k left : ℕ) {n : ℕ} {bytes rest : List ℕ} → Spelled n bytes rest → n < room k → n ≤ 4294967295 → digits_at (suc k) left bytes ≡ Ok (n, rest)
-digits_again k left (one_byte {n = n} {rest = rest} lt) small fits = digits_one k left n rest lt
-digits_again zero left (more_bytes le e s) small fits = absurd (omega arith)
-digits_again (suc k) left (more_bytes {n = n} {b = b} {bytes = bytes} {rest = rest} le e s) small fits =
-    let ih : digits_at (suc k) left bytes ≡ Ok (n / 128, rest) = digits_again k left s (omega arith) (omega arith) in
+digits_again : (k end left : ℕ) {n : ℕ} {bytes rest : List ℕ} → Spelled n bytes rest → n < room k → n < end → digits_at (suc k) end left bytes ≡ Ok (n, rest)
+digits_again k end left (one_byte {n = n} {rest = rest} lt) small fits = digits_one k end left n rest lt
+digits_again zero end left (more_bytes le e s) small fits = absurd (omega arith)
+digits_again (suc k) end left (more_bytes {n = n} {b = b} {bytes = bytes} {rest = rest} le e s) small fits =
+    let ih : digits_at (suc k) end left bytes ≡ Ok (n / 128, rest) = digits_again k end left s (omega arith) (omega arith) in
     let value : b - 128 + 128 * (n / 128) ≡ n = omega arith in
     let one : ltb 0 (n / 128) ≡ true = lt-ltb _ _ (omega arith) in
-    let two : ltb n 4294967296 ≡ true = lt-ltb _ _ (omega arith) in
-    digits_more (suc k) left b bytes (omega arith) ∙ rw (ih, value, one, two) refl
+    let two : ltb n end ≡ true = lt-ltb _ _ (omega arith) in
+    digits_more (suc k) end left b bytes (omega arith) ∙ rw (ih, value, one, two) refl
 
 pub number_take : (bytes : List ℕ) (x : ℕ × List ℕ) → IsBytes bytes → number_at bytes ≡ Ok x → Takes (number x.0) bytes x.1
 unfolding number_at
-number_take bytes x fits e = digits_take 5 (length bytes) bytes x fits e
+number_take bytes x fits e =
+    let p = digits_take 5 4294967296 (length bytes) bytes x (omega arith) fits e in
+    record { spelled = (omega (arith, p.spelled.0), p.spelled.1); fits = p.fits }
 
 pub number_again : (n : ℕ) (bytes rest : List ℕ) → number n bytes rest → number_at bytes ≡ Ok (n, rest)
 unfolding number_at
-number_again n bytes rest h = digits_again 4 (length bytes) h.1 (omega arith) h.0
+number_again n bytes rest h = digits_again 4 4294967296 (length bytes) h.1 (omega (arith, h.0)) (omega (arith, h.0))
 
 pub within_take : (least end : ℕ) (bytes : List ℕ) (x : ℕ × List ℕ) → IsBytes bytes → within_at least end bytes ≡ Ok x → Takes (number x.0) bytes x.1 × (least ≤ x.0) × (x.0 < end)
 unfolding within_at
@@ -129,37 +124,37 @@ turned_bound : (negative : Bool) (bits : ℕ) → bits ≤ 127 → format.seven_
 turned_bound false bits le = le
 turned_bound true bits le = omega arith
 
-signed_one : (most left b : ℕ) (tail : List ℕ) → b < 64 → signed_digits_at (suc most) left (b ∷ tail) ≡ Ok ((false, b), tail)
+signed_one : (most end left b : ℕ) (tail : List ℕ) → b < 64 → signed_digits_at (suc most) end left (b ∷ tail) ≡ Ok ((false, b), tail)
 unfolding signed_digits_at
-signed_one most left b tail lt = let e : ltb b 64 ≡ true = lt-ltb b 64 lt in rw e refl
+signed_one most end left b tail lt = let e : ltb b 64 ≡ true = lt-ltb b 64 lt in rw e refl
 
-signed_two : (most left b : ℕ) (tail : List ℕ) → 64 ≤ b → b < 128 → signed_digits_at (suc most) left (b ∷ tail) ≡ Ok ((true, 127 - b), tail)
+signed_two : (most end left b : ℕ) (tail : List ℕ) → 64 ≤ b → b < 128 → signed_digits_at (suc most) end left (b ∷ tail) ≡ Ok ((true, 127 - b), tail)
 unfolding signed_digits_at
-signed_two most left b tail le lt =
+signed_two most end left b tail le lt =
     let d : ltb b 64 ≡ false = le-ltb b 64 le in
     let e : ltb b 128 ≡ true = lt-ltb b 128 lt in
     rw (d, e) refl
 
-signed_rest : (most left b : ℕ) (tail : List ℕ) → 128 ≤ b → signed_digits_at (suc most) left (b ∷ tail) ≡ (signed_digits_at most left tail >>= signed_with_high left b)
+signed_rest : (most end left b : ℕ) (tail : List ℕ) → 128 ≤ b → signed_digits_at (suc most) end left (b ∷ tail) ≡ (signed_digits_at most end left tail >>= signed_with_high end left b)
 unfolding signed_digits_at
-signed_rest most left b tail le =
+signed_rest most end left b tail le =
     let d : ltb b 64 ≡ false = le-ltb b 64 (omega arith) in
     let e : ltb b 128 ≡ false = le-ltb b 128 le in
     rw (d, e) refl
 
-pub record SignedTakes (bytes : List ℕ) (x : (Bool × ℕ) × List ℕ) : Type 0 where
+pub record SignedTakes (end : ℕ) (bytes : List ℕ) (x : (Bool × ℕ) × List ℕ) : Type 0 where
   pub spelled : SignedSpelled x.0.0 x.0.1 bytes x.1
-  pub size : x.0.1 < 9223372036854775808
+  pub size : x.0.1 < end
   pub fits : IsBytes x.1
 
-signed_joined : (left b : ℕ) (tail : List ℕ) (negative : Bool) (high : ℕ) (rest : List ℕ) (x : (Bool × ℕ) × List ℕ) → IsBytes (b ∷ tail) → 128 ≤ b → SignedTakes tail ((negative, high), rest) → signed_with_high left b ((negative, high), rest) ≡ Ok x → SignedTakes (b ∷ tail) x
-signed_joined left b tail negative high rest x fits le ih e =
+signed_joined : (end left b : ℕ) (tail : List ℕ) (negative : Bool) (high : ℕ) (rest : List ℕ) (x : (Bool × ℕ) × List ℕ) → IsBytes (b ∷ tail) → 128 ≤ b → SignedTakes end tail ((negative, high), rest) → signed_with_high end left b ((negative, high), rest) ≡ Ok x → SignedTakes end (b ∷ tail) x
+signed_joined end left b tail negative high rest x fits le ih e =
     let bits = seven_bits negative (b - 128) in
     let size = high * 128 + bits in
-    let g = test_ok (leb 64 size && ltb size 9223372036854775808) (flaw 4 left) ((negative, size), rest) x e in
+    let g = test_ok (leb 64 size && ltb size end) (flaw 4 left) ((negative, size), rest) x e in
     let parts = and_parts _ _ g.0 in
     let some : 64 ≤ size = leb-true _ _ parts.0 in
-    let small : size < 9223372036854775808 = ltb-true _ _ parts.1 in
+    let small : size < end = ltb-true _ _ parts.1 in
     let byte : b < 256 = fits 0 in
     let bits_is : bits ≡ format.seven_bits negative (b - 128) = seven_same negative (b - 128) in
     let bits_most : format.seven_bits negative (b - 128) ≤ 127 = turned_bound negative (b - 128) (omega arith) in
@@ -167,63 +162,75 @@ signed_joined left b tail negative high rest x fits le ih e =
     let up : high ≡ size / 128 = omega arith in
     let back : format.seven_bits negative (size % 128) ≡ b - 128 = ap (format.seven_bits negative) (low ∙ bits_is) ∙ turned_back negative (b - 128) (omega arith) in
     let whole : SignedSpelled negative size (b ∷ tail) rest = more_signed some (omega arith) (subst (λ (k : ℕ). SignedSpelled negative k tail rest) up ih.spelled) in
-    subst (SignedTakes (b ∷ tail)) g.1 (record { spelled = whole; size = small; fits = ih.fits })
+    subst (SignedTakes end (b ∷ tail)) g.1 (record { spelled = whole; size = small; fits = ih.fits })
 
-pub signed_take : (most left : ℕ) (bytes : List ℕ) (x : (Bool × ℕ) × List ℕ) → IsBytes bytes → signed_digits_at most left bytes ≡ Ok x → SignedTakes bytes x
+pub signed_take : (most end left : ℕ) (bytes : List ℕ) (x : (Bool × ℕ) × List ℕ) → 64 ≤ end → IsBytes bytes → signed_digits_at most end left bytes ≡ Ok x → SignedTakes end bytes x
 unfolding signed_digits_at
-signed_take zero left bytes x fits e = absurd cc
-signed_take (suc most) left [] x fits e = absurd cc
-signed_take (suc most) left (b ∷ tail) x fits e =
+signed_take zero end left bytes x from fits e = absurd cc
+signed_take (suc most) end left [] x from fits e = absurd cc
+signed_take (suc most) end left (b ∷ tail) x from fits e =
     elim (cases_lt b 64) [
-      | inl lt ↦ subst (SignedTakes (b ∷ tail)) (ok_is ((false, b), tail) x (sym (signed_one most left b tail lt) ∙ e)) (record { spelled = one_signed lt refl; size = omega arith; fits = rest_bytes b tail fits })
+      | inl lt ↦ subst (SignedTakes end (b ∷ tail)) (ok_is ((false, b), tail) x (sym (signed_one most end left b tail lt) ∙ e)) (record { spelled = one_signed lt refl; size = omega arith; fits = rest_bytes b tail fits })
       | inr ge ↦ elim (cases_lt b 128) [
-        | inl lt ↦ subst (SignedTakes (b ∷ tail)) (ok_is ((true, 127 - b), tail) x (sym (signed_two most left b tail ge lt) ∙ e)) (record { spelled = one_signed (omega arith) (omega arith); size = omega arith; fits = rest_bytes b tail fits })
+        | inl lt ↦ subst (SignedTakes end (b ∷ tail)) (ok_is ((true, 127 - b), tail) x (sym (signed_two most end left b tail ge lt) ∙ e)) (record { spelled = one_signed (omega arith) (omega arith); size = omega arith; fits = rest_bytes b tail fits })
         | inr le ↦
-            let p = bind_ok (signed_digits_at most left tail) (signed_with_high left b) x (sym (signed_rest most left b tail le) ∙ e) in
-            signed_joined left b tail p.0.0.0 p.0.0.1 p.0.1 x fits le (signed_take most left tail p.0 (rest_bytes b tail fits) p.1) p.2
+            let p = bind_ok (signed_digits_at most end left tail) (signed_with_high end left b) x (sym (signed_rest most end left b tail le) ∙ e) in
+            signed_joined end left b tail p.0.0.0 p.0.0.1 p.0.1 x fits le (signed_take most end left tail p.0 from (rest_bytes b tail fits) p.1) p.2
       ]
     ]
 
-abbrev signed_room : ℕ → ℕ
-signed_room zero = 64
-signed_room (suc k) = 128 * signed_room k
-
-signed_last_again : (k left : ℕ) (negative : Bool) (size b : ℕ) (rest : List ℕ) → size < 64 → b ≡ format.seven_bits negative size → signed_digits_at (suc k) left (b ∷ rest) ≡ Ok ((negative, size), rest)
-signed_last_again k left false size b rest lt e = rw e (signed_one k left size rest lt)
-signed_last_again k left true size b rest lt e =
+signed_last_again : (k end left : ℕ) (negative : Bool) (size b : ℕ) (rest : List ℕ) → size < 64 → b ≡ format.seven_bits negative size → signed_digits_at (suc k) end left (b ∷ rest) ≡ Ok ((negative, size), rest)
+signed_last_again k end left false size b rest lt e = rw e (signed_one k end left size rest lt)
+signed_last_again k end left true size b rest lt e =
     let back : 127 - b ≡ size = omega arith in
-    signed_two k left b rest (omega arith) (omega arith) ∙ rw back refl
+    signed_two k end left b rest (omega arith) (omega arith) ∙ rw back refl
 
-signed_again : (k left : ℕ) {negative : Bool} {size : ℕ} {bytes rest : List ℕ} → SignedSpelled negative size bytes rest → size < signed_room k → size < 9223372036854775808 → signed_digits_at (suc k) left bytes ≡ Ok ((negative, size), rest)
-signed_again k left (one_signed {negative = negative} {size = size} {b = b} {rest = rest} lt e) small fits = signed_last_again k left negative size b rest lt e
-signed_again zero left (more_signed le e s) small fits = absurd (omega arith)
-signed_again (suc k) left (more_signed {negative = negative} {size = size} {b = b} {bytes = bytes} {rest = rest} le e s) small fits =
-    let ih : signed_digits_at (suc k) left bytes ≡ Ok ((negative, size / 128), rest) = signed_again k left s (omega arith) (omega arith) in
+signed_again : (k end left : ℕ) {negative : Bool} {size : ℕ} {bytes rest : List ℕ} → SignedSpelled negative size bytes rest → size < signed_room k → size < end → signed_digits_at (suc k) end left bytes ≡ Ok ((negative, size), rest)
+signed_again k end left (one_signed {negative = negative} {size = size} {b = b} {rest = rest} lt e) small fits = signed_last_again k end left negative size b rest lt e
+signed_again zero end left (more_signed le e s) small fits = absurd (omega arith)
+signed_again (suc k) end left (more_signed {negative = negative} {size = size} {b = b} {bytes = bytes} {rest = rest} le e s) small fits =
+    let ih : signed_digits_at (suc k) end left bytes ≡ Ok ((negative, size / 128), rest) = signed_again k end left s (omega arith) (omega arith) in
     let most : format.seven_bits negative (size % 128) ≤ 127 = turned_bound negative (size % 128) (omega arith) in
     let bits : b - 128 ≡ format.seven_bits negative (size % 128) = omega arith in
     let low : seven_bits negative (b - 128) ≡ size % 128 = seven_same negative (b - 128) ∙ ap (format.seven_bits negative) bits ∙ turned_back negative (size % 128) (omega arith) in
     let value : size / 128 * 128 + seven_bits negative (b - 128) ≡ size = omega arith in
     let one : leb 64 size ≡ true = le-leb _ _ le in
-    let two : ltb size 9223372036854775808 ≡ true = lt-ltb _ _ fits in
-    signed_rest (suc k) left b bytes (omega arith) ∙ rw (ih, value, one, two) refl
+    let two : ltb size end ≡ true = lt-ltb _ _ fits in
+    signed_rest (suc k) end left b bytes (omega arith) ∙ rw (ih, value, one, two) refl
 
 pub integer_take : (bytes : List ℕ) (x : ℤ × List ℕ) → IsBytes bytes → integer_at bytes ≡ Ok x → Takes (integer x.0) bytes x.1
 unfolding integer_at
 integer_take bytes x fits e =
-    let p = bind_ok (signed_digits_at 10 (length bytes) bytes) (λ n. Ok (with_sign n.0.0 n.0.1, n.1)) x e in
-    subst (λ (y : ℤ × List ℕ). Takes (integer y.0) bytes y.1) (ok_is _ x p.2) (integer_from bytes p.0.0.0 p.0.0.1 p.0.1 (signed_take 10 (length bytes) bytes p.0 fits p.1))
+    let p = bind_ok (signed_digits_at 10 9223372036854775808 (length bytes) bytes) (λ n. Ok (with_sign n.0.0 n.0.1, n.1)) x e in
+    subst (λ (y : ℤ × List ℕ). Takes (integer y.0) bytes y.1) (ok_is _ x p.2) (integer_from bytes p.0.0.0 p.0.0.1 p.0.1 (signed_take 10 9223372036854775808 (length bytes) bytes p.0 (omega arith) fits p.1))
   where
-    integer_from : (bytes : List ℕ) (negative : Bool) (size : ℕ) (rest : List ℕ) → SignedTakes bytes ((negative, size), rest) → Takes (integer (with_sign negative size)) bytes rest
+    integer_from : (bytes : List ℕ) (negative : Bool) (size : ℕ) (rest : List ℕ) → SignedTakes 9223372036854775808 bytes ((negative, size), rest) → Takes (integer (with_sign negative size)) bytes rest
     integer_from bytes false size rest t = record { spelled = (omega (arith, t.size), t.spelled); fits = t.fits }
     integer_from bytes true size rest t = record { spelled = (omega (arith, t.size), t.spelled); fits = t.fits }
 
 pub integer_again : (n : ℤ) (bytes rest : List ℕ) → integer n bytes rest → integer_at bytes ≡ Ok (n, rest)
 unfolding integer_at
-integer_again (pos n) bytes rest h = rw (signed_again 9 (length bytes) h.1 (omega (arith, h.0)) (omega (arith, h.0))) refl
-integer_again (negsuc n) bytes rest h = rw (signed_again 9 (length bytes) h.1 (omega (arith, h.0)) (omega (arith, h.0))) refl
+integer_again (pos n) bytes rest h = rw (signed_again 9 9223372036854775808 (length bytes) h.1 (omega (arith, h.0)) (omega (arith, h.0))) refl
+integer_again (negsuc n) bytes rest h = rw (signed_again 9 9223372036854775808 (length bytes) h.1 (omega (arith, h.0)) (omega (arith, h.0))) refl
 
 pub signed_once : {negative : Bool} {size : ℕ} {a b rest : List ℕ} → SignedSpelled negative size a rest → SignedSpelled negative size b rest → a ≡ b
 signed_once (one_signed lt e) (one_signed lt' e') = cc
 signed_once (one_signed lt e) (more_signed le e' s) = absurd (omega arith)
 signed_once (more_signed le e s) (one_signed lt e') = absurd (omega arith)
 signed_once (more_signed le e s) (more_signed le' e' s') = let tails = signed_once s s' in cc
+
+-- ---- for every bound
+
+pub read_is_spelled : ReadIsSpelled
+read_is_spelled most end bytes x from fits e = (digits_take most end (length bytes) bytes x from fits e).spelled
+
+pub spelled_is_read : SpelledIsRead
+spelled_is_read more end n bytes rest h small = digits_again more end (length bytes) h.1 small h.0
+
+pub signed_is_spelled : SignedIsSpelled
+signed_is_spelled most end bytes x from fits e =
+    let t = signed_take most end (length bytes) bytes x from fits e in
+    (t.size, t.spelled)
+
+pub signed_is_read : SignedIsRead
+signed_is_read more end negative size bytes rest s below small = signed_again more end (length bytes) s small below

@@ -10,53 +10,53 @@ use Rattle.verse_image.specs.declared.faults.ReadFault.{ReadFault}
 use Rattle.verse_image.specs.declared.faults.ReadFault.TheVariants as faults
 use Rattle.verse_image.specs.Reading.{◌>>=◌, Fails, Reader, flaw, byte_at, digits_at, with_high, signed_digits_at, signed_with_high, seven_bits, number_at, many_at, table_at, op_at, ops_at}
 
-pub digits_none : (most left : ℕ) (bytes : List ℕ) → most ≡ 0 → digits_at most left bytes ≡ Err (flaw 4 left)
+pub digits_none : (most end left : ℕ) (bytes : List ℕ) → most ≡ 0 → digits_at most end left bytes ≡ Err (flaw 4 left)
 unfolding digits_at
-digits_none most left bytes e = rw e refl
+digits_none most end left bytes e = rw e refl
 
-pub digits_some : (most left : ℕ) (bytes : List ℕ) → 0 < most →
-    digits_at most left bytes ≡ (byte_at bytes >>= λ b. if nat_lt b.0 128 then Ok b else (digits_at (most - 1) left b.1 >>= with_high left b.0))
+pub digits_some : (most end left : ℕ) (bytes : List ℕ) → 0 < most →
+    digits_at most end left bytes ≡ (byte_at bytes >>= λ b. if nat_lt b.0 128 then Ok b else (digits_at (most - 1) end left b.1 >>= with_high end left b.0))
 unfolding digits_at
-digits_some most left bytes lt = let e : most ≡ suc (most - 1) = omega arith in ap (λ k. digits_at k left bytes) e
+digits_some most end left bytes lt = let e : most ≡ suc (most - 1) = omega arith in ap (λ k. digits_at k end left bytes) e
 
 -- the last byte
-pub digits_last : (most left : ℕ) (bytes : List ℕ) (b : ℕ) (rest : List ℕ) → 0 < most → byte_at bytes ≡ Ok (b, rest) → b < 128 → digits_at most left bytes ≡ Ok (b, rest)
-digits_last most left bytes b rest lt e below =
+pub digits_last : (most end left : ℕ) (bytes : List ℕ) (b : ℕ) (rest : List ℕ) → 0 < most → byte_at bytes ≡ Ok (b, rest) → b < 128 → digits_at most end left bytes ≡ Ok (b, rest)
+digits_last most end left bytes b rest lt e below =
     let test : ltb b 128 ≡ true = lt-ltb b 128 below in
-    digits_some most left bytes lt ∙ rw (e, test) refl
+    digits_some most end left bytes lt ∙ rw (e, test) refl
 
 -- a byte that goes on
-digits_goes : (most left : ℕ) (bytes : List ℕ) (b : ℕ) (rest : List ℕ) (high : ℕ) (after : List ℕ) → 0 < most → byte_at bytes ≡ Ok (b, rest) → 128 ≤ b → digits_at (most - 1) left rest ≡ Ok (high, after) →
-    digits_at most left bytes ≡ with_high left b (high, after)
-digits_goes most left bytes b rest high after lt e from h =
+digits_goes : (most end left : ℕ) (bytes : List ℕ) (b : ℕ) (rest : List ℕ) (high : ℕ) (after : List ℕ) → 0 < most → byte_at bytes ≡ Ok (b, rest) → 128 ≤ b → digits_at (most - 1) end left rest ≡ Ok (high, after) →
+    digits_at most end left bytes ≡ with_high end left b (high, after)
+digits_goes most end left bytes b rest high after lt e from h =
     let test : ltb b 128 ≡ false = le-ltb b 128 from in
-    digits_some most left bytes lt ∙ rw (e, test, h) refl
+    digits_some most end left bytes lt ∙ rw (e, test, h) refl
 
-pub digits_whole : (most left : ℕ) (bytes : List ℕ) (b : ℕ) (rest : List ℕ) (high : ℕ) (after : List ℕ) → 0 < most → byte_at bytes ≡ Ok (b, rest) → 128 ≤ b → digits_at (most - 1) left rest ≡ Ok (high, after) →
-    0 < high → b - 128 + 128 * high < 4294967296 → digits_at most left bytes ≡ Ok (b - 128 + 128 * high, after)
-digits_whole most left bytes b rest high after lt e from h some fits =
+pub digits_whole : (most end left : ℕ) (bytes : List ℕ) (b : ℕ) (rest : List ℕ) (high : ℕ) (after : List ℕ) → 0 < most → byte_at bytes ≡ Ok (b, rest) → 128 ≤ b → digits_at (most - 1) end left rest ≡ Ok (high, after) →
+    0 < high → b - 128 + 128 * high < end → digits_at most end left bytes ≡ Ok (b - 128 + 128 * high, after)
+digits_whole most end left bytes b rest high after lt e from h some fits =
     let one : ltb 0 high ≡ true = lt-ltb 0 high some in
-    let two : ltb (b - 128 + 128 * high) 4294967296 ≡ true = lt-ltb _ _ fits in
-    digits_goes most left bytes b rest high after lt e from h ∙ rw (one, two) refl
+    let two : ltb (b - 128 + 128 * high) end ≡ true = lt-ltb _ _ fits in
+    digits_goes most end left bytes b rest high after lt e from h ∙ rw (one, two) refl
 
-pub digits_wrong : (most left : ℕ) (bytes : List ℕ) (b : ℕ) (rest : List ℕ) (high : ℕ) (after : List ℕ) → 0 < most → byte_at bytes ≡ Ok (b, rest) → 128 ≤ b → digits_at (most - 1) left rest ≡ Ok (high, after) →
-    (high ≤ 0) ⊎ (4294967296 ≤ b - 128 + 128 * high) → digits_at most left bytes ≡ Err (flaw 4 left)
-digits_wrong most left bytes b rest high after lt e from h (inl none) =
+pub digits_wrong : (most end left : ℕ) (bytes : List ℕ) (b : ℕ) (rest : List ℕ) (high : ℕ) (after : List ℕ) → 0 < most → byte_at bytes ≡ Ok (b, rest) → 128 ≤ b → digits_at (most - 1) end left rest ≡ Ok (high, after) →
+    (high ≤ 0) ⊎ (end ≤ b - 128 + 128 * high) → digits_at most end left bytes ≡ Err (flaw 4 left)
+digits_wrong most end left bytes b rest high after lt e from h (inl none) =
     let one : ltb 0 high ≡ false = le-ltb 0 high none in
-    digits_goes most left bytes b rest high after lt e from h ∙ rw one refl
-digits_wrong most left bytes b rest high after lt e from h (inr large) =
-    let two : (ltb 0 high && ltb (b - 128 + 128 * high) 4294967296) ≡ false = and_right _ _ (le-ltb _ _ large) in
-    digits_goes most left bytes b rest high after lt e from h ∙ rw two refl
+    digits_goes most end left bytes b rest high after lt e from h ∙ rw one refl
+digits_wrong most end left bytes b rest high after lt e from h (inr large) =
+    let two : (ltb 0 high && ltb (b - 128 + 128 * high) end) ≡ false = and_right _ _ (le-ltb _ _ large) in
+    digits_goes most end left bytes b rest high after lt e from h ∙ rw two refl
 
-pub signed_none : (most left : ℕ) (bytes : List ℕ) → most ≡ 0 → signed_digits_at most left bytes ≡ Err (flaw 4 left)
+pub signed_none : (most end left : ℕ) (bytes : List ℕ) → most ≡ 0 → signed_digits_at most end left bytes ≡ Err (flaw 4 left)
 unfolding signed_digits_at
-signed_none most left bytes e = rw e refl
+signed_none most end left bytes e = rw e refl
 
-pub signed_some : (most left : ℕ) (bytes : List ℕ) → 0 < most →
-    signed_digits_at most left bytes ≡ (byte_at bytes >>= λ b. if nat_lt b.0 64 then Ok ((false, b.0), b.1) else
-    if nat_lt b.0 128 then Ok ((true, 127 - b.0), b.1) else (signed_digits_at (most - 1) left b.1 >>= signed_with_high left b.0))
+pub signed_some : (most end left : ℕ) (bytes : List ℕ) → 0 < most →
+    signed_digits_at most end left bytes ≡ (byte_at bytes >>= λ b. if nat_lt b.0 64 then Ok ((false, b.0), b.1) else
+    if nat_lt b.0 128 then Ok ((true, 127 - b.0), b.1) else (signed_digits_at (most - 1) end left b.1 >>= signed_with_high end left b.0))
 unfolding signed_digits_at
-signed_some most left bytes lt = let e : most ≡ suc (most - 1) = omega arith in ap (λ k. signed_digits_at k left bytes) e
+signed_some most end left bytes lt = let e : most ≡ suc (most - 1) = omega arith in ap (λ k. signed_digits_at k end left bytes) e
 
 -- ---- one after the other
 
@@ -122,42 +122,42 @@ ops_done s top front count i bytes total le so_far =
 
 -- ---- numbers with a sign
 
-pub signed_last : (most left : ℕ) (bytes : List ℕ) (b : ℕ) (rest : List ℕ) → 0 < most → byte_at bytes ≡ Ok (b, rest) → b < 64 → signed_digits_at most left bytes ≡ Ok ((false, b), rest)
-signed_last most left bytes b rest lt e below =
+pub signed_last : (most end left : ℕ) (bytes : List ℕ) (b : ℕ) (rest : List ℕ) → 0 < most → byte_at bytes ≡ Ok (b, rest) → b < 64 → signed_digits_at most end left bytes ≡ Ok ((false, b), rest)
+signed_last most end left bytes b rest lt e below =
     let test : ltb b 64 ≡ true = lt-ltb b 64 below in
-    signed_some most left bytes lt ∙ rw (e, test) refl
+    signed_some most end left bytes lt ∙ rw (e, test) refl
 
-pub signed_turned : (most left : ℕ) (bytes : List ℕ) (b : ℕ) (rest : List ℕ) → 0 < most → byte_at bytes ≡ Ok (b, rest) → 64 ≤ b → b < 128 → signed_digits_at most left bytes ≡ Ok ((true, 127 - b), rest)
-signed_turned most left bytes b rest lt e from below =
+pub signed_turned : (most end left : ℕ) (bytes : List ℕ) (b : ℕ) (rest : List ℕ) → 0 < most → byte_at bytes ≡ Ok (b, rest) → 64 ≤ b → b < 128 → signed_digits_at most end left bytes ≡ Ok ((true, 127 - b), rest)
+signed_turned most end left bytes b rest lt e from below =
     let one : ltb b 64 ≡ false = le-ltb b 64 from in
     let two : ltb b 128 ≡ true = lt-ltb b 128 below in
-    signed_some most left bytes lt ∙ rw (e, one, two) refl
+    signed_some most end left bytes lt ∙ rw (e, one, two) refl
 
-signed_goes : (most left : ℕ) (bytes : List ℕ) (b : ℕ) (rest : List ℕ) (high : Bool × ℕ) (after : List ℕ) → 0 < most → byte_at bytes ≡ Ok (b, rest) → 128 ≤ b → signed_digits_at (most - 1) left rest ≡ Ok (high, after) →
-    signed_digits_at most left bytes ≡ signed_with_high left b (high, after)
-signed_goes most left bytes b rest high after lt e from h =
+signed_goes : (most end left : ℕ) (bytes : List ℕ) (b : ℕ) (rest : List ℕ) (high : Bool × ℕ) (after : List ℕ) → 0 < most → byte_at bytes ≡ Ok (b, rest) → 128 ≤ b → signed_digits_at (most - 1) end left rest ≡ Ok (high, after) →
+    signed_digits_at most end left bytes ≡ signed_with_high end left b (high, after)
+signed_goes most end left bytes b rest high after lt e from h =
     let one : ltb b 64 ≡ false = le-ltb b 64 (omega arith) in
     let two : ltb b 128 ≡ false = le-ltb b 128 from in
-    signed_some most left bytes lt ∙ rw (e, one, two, h) refl
+    signed_some most end left bytes lt ∙ rw (e, one, two, h) refl
 
-pub signed_whole : (most left : ℕ) (bytes : List ℕ) (b : ℕ) (rest : List ℕ) (negative : Bool) (high low size : ℕ) (after : List ℕ) → 0 < most → byte_at bytes ≡ Ok (b, rest) → 128 ≤ b → signed_digits_at (most - 1) left rest ≡ Ok ((negative, high), after) →
-    low ≡ seven_bits negative (b - 128) → size ≡ high * 128 + low → 64 ≤ size → size < 9223372036854775808 → signed_digits_at most left bytes ≡ Ok ((negative, size), after)
-signed_whole most left bytes b rest negative high low size after lt e from h low_is size_is some fits =
+pub signed_whole : (most end left : ℕ) (bytes : List ℕ) (b : ℕ) (rest : List ℕ) (negative : Bool) (high low size : ℕ) (after : List ℕ) → 0 < most → byte_at bytes ≡ Ok (b, rest) → 128 ≤ b → signed_digits_at (most - 1) end left rest ≡ Ok ((negative, high), after) →
+    low ≡ seven_bits negative (b - 128) → size ≡ high * 128 + low → 64 ≤ size → size < end → signed_digits_at most end left bytes ≡ Ok ((negative, size), after)
+signed_whole most end left bytes b rest negative high low size after lt e from h low_is size_is some fits =
     let s : high * 128 + seven_bits negative (b - 128) ≡ size = ap (λ (n : ℕ). high * 128 + n) (sym low_is) ∙ sym size_is in
     let one : leb 64 size ≡ true = le-leb 64 size some in
-    let two : ltb size 9223372036854775808 ≡ true = lt-ltb _ _ fits in
-    signed_goes most left bytes b rest (negative, high) after lt e from h ∙ rw (s, one, two) refl
+    let two : ltb size end ≡ true = lt-ltb _ _ fits in
+    signed_goes most end left bytes b rest (negative, high) after lt e from h ∙ rw (s, one, two) refl
 
-pub signed_wrong : (most left : ℕ) (bytes : List ℕ) (b : ℕ) (rest : List ℕ) (negative : Bool) (high low size : ℕ) (after : List ℕ) → 0 < most → byte_at bytes ≡ Ok (b, rest) → 128 ≤ b → signed_digits_at (most - 1) left rest ≡ Ok ((negative, high), after) →
-    low ≡ seven_bits negative (b - 128) → size ≡ high * 128 + low → (size < 64) ⊎ (9223372036854775808 ≤ size) → signed_digits_at most left bytes ≡ Err (flaw 4 left)
-signed_wrong most left bytes b rest negative high low size after lt e from h low_is size_is (inl small) =
+pub signed_wrong : (most end left : ℕ) (bytes : List ℕ) (b : ℕ) (rest : List ℕ) (negative : Bool) (high low size : ℕ) (after : List ℕ) → 0 < most → byte_at bytes ≡ Ok (b, rest) → 128 ≤ b → signed_digits_at (most - 1) end left rest ≡ Ok ((negative, high), after) →
+    low ≡ seven_bits negative (b - 128) → size ≡ high * 128 + low → (size < 64) ⊎ (end ≤ size) → signed_digits_at most end left bytes ≡ Err (flaw 4 left)
+signed_wrong most end left bytes b rest negative high low size after lt e from h low_is size_is (inl small) =
     let s : high * 128 + seven_bits negative (b - 128) ≡ size = ap (λ (n : ℕ). high * 128 + n) (sym low_is) ∙ sym size_is in
     let one : leb 64 size ≡ false = lt-leb 64 size small in
-    signed_goes most left bytes b rest (negative, high) after lt e from h ∙ rw (s, one) refl
-signed_wrong most left bytes b rest negative high low size after lt e from h low_is size_is (inr large) =
+    signed_goes most end left bytes b rest (negative, high) after lt e from h ∙ rw (s, one) refl
+signed_wrong most end left bytes b rest negative high low size after lt e from h low_is size_is (inr large) =
     let s : high * 128 + seven_bits negative (b - 128) ≡ size = ap (λ (n : ℕ). high * 128 + n) (sym low_is) ∙ sym size_is in
-    let two : (leb 64 size && ltb size 9223372036854775808) ≡ false = and_right _ _ (le-ltb _ _ large) in
-    signed_goes most left bytes b rest (negative, high) after lt e from h ∙ rw (s, two) refl
+    let two : (leb 64 size && ltb size end) ≡ false = and_right _ _ (le-ltb _ _ large) in
+    signed_goes most end left bytes b rest (negative, high) after lt e from h ∙ rw (s, two) refl
 
 -- ---- a table
 

@@ -11,7 +11,8 @@ use Rattle.verse_code.specs.Validity.{IsText, IsPlace, IsFunction, IsClass, IsMa
 use Rattle.verse_image.specs.declared.faults.Flaw.{Flaw}
 use Rattle.verse_image.specs.Format.{Field, ◌⨾◌, plain, number, each, table, text, place, function, class, flag}
 use Rattle.verse_image.specs.Reading.{◌>>=◌, Reader, flaw, number_at, within_at, many_at, table_at, text_at, place_at, function_at, class_at, main_at, may_begin}
-use Rattle.verse_image.proofs.NumberLaws.{IsBytes, bind_ok, test_ok, ok_is, Takes, number_take, number_again, within_take, within_again, spelled_once}
+use Rattle.verse_image.specs.Numbers.{IsBytes}
+use Rattle.verse_image.proofs.NumberLaws.{bind_ok, test_ok, ok_is, Takes, number_take, number_again, within_take, within_again, spelled_once}
 
 -- a reader gives what the field spells, and such that it fits
 abbrev pub Found : {A : Type 0} → (A → Field) → Reader A → (A → Type 0) → Type 0

@@ -51,6 +51,10 @@ byte b bytes rest = bytes ≡ b ∷ rest
 abbrev pub plain : List ℕ → Field
 plain text bytes rest = bytes ≡ text ++ rest
 
+-- a number below an end
+abbrev pub below : ℕ → ℕ → Field
+below end n bytes rest = (n < end) × Spelled n bytes rest
+
 -- a number of 32 bits
 abbrev pub number : ℕ → Field
 number n bytes rest = (n ≤ 4294967295) × Spelled n bytes rest

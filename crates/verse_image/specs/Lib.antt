@@ -1,3 +1,5 @@
 pub mod Format
 pub mod Reading
 pub mod Writing
+pub mod Faults
+pub mod Numbers

@@ -49,17 +49,17 @@ byte_at (b ∷ rest) = Ok (b, rest)
 -- ---- numbers
 
 -- a byte that goes on, and the number that the bytes after it spell
-abbrev pub with_high : ℕ → ℕ → ℕ × List ℕ → Result (ℕ × List ℕ) Flaw
-with_high left b high =
-    if nat_lt 0 high.0 && nat_lt (b - 128 + 128 * high.0) 4294967296 then Ok (b - 128 + 128 * high.0, high.1) else Err (flaw 4 left)
+abbrev pub with_high : ℕ → ℕ → ℕ → ℕ × List ℕ → Result (ℕ × List ℕ) Flaw
+with_high end left b high =
+    if nat_lt 0 high.0 && nat_lt (b - 128 + 128 * high.0) end then Ok (b - 128 + 128 * high.0, high.1) else Err (flaw 4 left)
 
--- a number of at most so many bytes
-unfoldable pub digits_at : ℕ → ℕ → Reader ℕ
-digits_at zero left bytes = Err (flaw 4 left)
-digits_at (suc most) left bytes = byte_at bytes >>= λ b. if nat_lt b.0 128 then Ok b else (digits_at most left b.1 >>= with_high left b.0)
+-- a number of at most so many bytes, below end
+unfoldable pub digits_at : ℕ → ℕ → ℕ → Reader ℕ
+digits_at zero end left bytes = Err (flaw 4 left)
+digits_at (suc most) end left bytes = byte_at bytes >>= λ b. if nat_lt b.0 128 then Ok b else (digits_at most end left b.1 >>= with_high end left b.0)
 
 unfoldable pub number_at : Reader ℕ
-number_at bytes = digits_at 5 (length bytes) bytes
+number_at bytes = digits_at 5 4294967296 (length bytes) bytes
 
 -- a table's number, from least on and below end
 unfoldable pub within_at : ℕ → ℕ → Reader ℕ
@@ -68,25 +68,25 @@ within_at least end bytes = number_at bytes >>= λ n. if nat_le least n.0 && nat
 abbrev pub seven_bits : Bool → ℕ → ℕ
 seven_bits negative bits = if negative then 127 - bits else bits
 
-abbrev pub signed_with_high : ℕ → ℕ → (Bool × ℕ) × List ℕ → Result ((Bool × ℕ) × List ℕ) Flaw
-signed_with_high left b high =
+abbrev pub signed_with_high : ℕ → ℕ → ℕ → (Bool × ℕ) × List ℕ → Result ((Bool × ℕ) × List ℕ) Flaw
+signed_with_high end left b high =
     let size = high.0.1 * 128 + seven_bits high.0.0 (b - 128) in
-    if nat_le 64 size && nat_lt size 9223372036854775808 then Ok ((high.0.0, size), high.1) else Err (flaw 4 left)
+    if nat_le 64 size && nat_lt size end then Ok ((high.0.0, size), high.1) else Err (flaw 4 left)
 
--- whether the number is negative, and its size
-unfoldable pub signed_digits_at : ℕ → ℕ → Reader (Bool × ℕ)
-signed_digits_at zero left bytes = Err (flaw 4 left)
-signed_digits_at (suc most) left bytes =
+-- whether the number is negative, and its size below end
+unfoldable pub signed_digits_at : ℕ → ℕ → ℕ → Reader (Bool × ℕ)
+signed_digits_at zero end left bytes = Err (flaw 4 left)
+signed_digits_at (suc most) end left bytes =
     byte_at bytes >>= λ b.
     if nat_lt b.0 64 then Ok ((false, b.0), b.1) else
-    if nat_lt b.0 128 then Ok ((true, 127 - b.0), b.1) else (signed_digits_at most left b.1 >>= signed_with_high left b.0)
+    if nat_lt b.0 128 then Ok ((true, 127 - b.0), b.1) else (signed_digits_at most end left b.1 >>= signed_with_high end left b.0)
 
 abbrev pub with_sign : Bool → ℕ → ℤ
 with_sign false size = pos size
 with_sign true size = negsuc size
 
 unfoldable pub integer_at : Reader ℤ
-integer_at bytes = signed_digits_at 10 (length bytes) bytes >>= λ n. Ok (with_sign n.0.0 n.0.1, n.1)
+integer_at bytes = signed_digits_at 10 9223372036854775808 (length bytes) bytes >>= λ n. Ok (with_sign n.0.0 n.0.1, n.1)
 
 -- ---- tables
 

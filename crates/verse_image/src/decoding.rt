@@ -1,5 +1,8 @@
+//! Bytes are read as a code.
+
 ghost use Rattle.std.specs.Prelude.{◌≡◌, ◌≤◌, ℕ, IfOk, Ok, length};
 ghost use Rattle.verse_code.specs.declared.codes.Code.{Code};
+ghost use Rattle.verse_image.specs.Faults.{NoneBefore};
 ghost use Rattle.verse_image.specs.Format.{mark, Image};
 ghost use Rattle.verse_image.specs.Reading.{Gives, letter_at, mark_at, version_at, top_of, head_at, sizes_with, code_with, ended, image_at, Tells};
 
@@ -137,6 +140,8 @@ pub fn decode(alloc: Global, bytes: &[u8]) -> Result<Code, ImageFault>
     ensures only { (version : ℕ) (code : Code) → Image version code bytes.now → Tells bytes.now result (Ok code) }
     // Which fault it is.
     ensures exact { Tells bytes.now result (image_at bytes.now) }
+    // What stands before it has no fault.
+    ensures before { NoneBefore bytes.now result }
 {
     match image(alloc, bytes) {
         Ok(code) => Ok(code),

@@ -1,3 +1,5 @@
+//! Numbers are written.
+
 ghost use Rattle.std.specs.Prelude.{◌≡◌, ◌≤◌, OnOk};
 ghost use Rattle.verse_image.specs.Format.{byte, plain, number, integer, Spelled, SignedSpelled, seven_bits};
 ghost use Rattle.verse_image.specs.Writing.{Writes};
@@ -20,9 +22,9 @@ pub fn push_bytes(out: &mut Vec<u8>, bytes: &[u8]) -> Result<(), Memory>
     Ok(())
 }
 
-/// Writes a number of 32 bits.
-pub fn push_number(out: &mut Vec<u8>, value: u32) -> Result<(), Memory>
-    ensures { OnOk result (Writes (number value) out.old.items out.new.items) }
+/// Writes a number.
+pub fn push_unsigned(out: &mut Vec<u8>, value: u64) -> Result<(), Memory>
+    ensures { OnOk result (Writes (Spelled value) out.old.items out.new.items) }
 {
     let mut left = value;
     'digits: while left >= 128 {
@@ -33,6 +35,14 @@ pub fn push_number(out: &mut Vec<u8>, value: u32) -> Result<(), Memory>
     Ok(())
 }
 
+/// Writes a number of 32 bits.
+pub fn push_number(out: &mut Vec<u8>, value: u32) -> Result<(), Memory>
+    ensures { OnOk result (Writes (number value) out.old.items out.new.items) }
+{
+    push_unsigned(out, value as u64)?;
+    Ok(())
+}
+
 fn seven_bits(negative: bool, bits: u8) -> u8
     requires { bits ≤ 127 }
     ensures { result ≡ seven_bits negative bits }
@@ -40,7 +50,8 @@ fn seven_bits(negative: bool, bits: u8) -> u8
     if negative { 127 - bits } else { bits }
 }
 
-fn push_signed(out: &mut Vec<u8>, negative: bool, size: u64) -> Result<(), Memory>
+/// Writes a number with a sign: whether it is negative, and its size.
+pub fn push_signed(out: &mut Vec<u8>, negative: bool, size: u64) -> Result<(), Memory>
     ensures { OnOk result (Writes (SignedSpelled negative size) out.old.items out.new.items) }
 {
     let mut left = size;

@@ -1,3 +1,5 @@
+//! A code is written as its image.
+
 ghost use Rattle.std.specs.Prelude.{◌≡◌, ◌≤◌, length, All, OnOk, IfOk};
 ghost use Rattle.verse_code.specs.Validity.{IsText, IsClass, Valid};
 ghost use Rattle.verse_image.specs.Format.{number, text, place, function, class, table, operation, each, head, tables, Image, version_for, version_of};

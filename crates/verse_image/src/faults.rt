@@ -1,3 +1,5 @@
+//! Why bytes are no image.
+
 ghost use Rattle.std.specs.Prelude.{◌≡◌};
 ghost use Rattle.verse_image.specs.declared.faults.ReadFault.TheVariants as reading;
 

@@ -1,3 +1,5 @@
+//! Fields of tables are read.
+
 ghost use Rattle.std.specs.Prelude.{◌≡◌, Ok};
 ghost use Rattle.verse_image.specs.Reading.{Gives, text_at, place_at, function_at};
 

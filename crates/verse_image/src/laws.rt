@@ -1,8 +1,12 @@
+//! Laws of images.
+
 ghost use Rattle.std.specs.Prelude.{◌≡◌, ℕ, ◌+◌, ◌⊎◌, List, ◌∷◌, ◌++◌, length, Err};
 ghost use Rattle.verse_code.specs.declared.codes.Code.{Code};
 ghost use Rattle.verse_image.specs.declared.faults.Flaw.{Flaw};
 ghost use Rattle.verse_image.specs.Format.{Image};
 ghost use Rattle.verse_image.specs.Reading.{flaw, image_at};
+ghost use Rattle.verse_image.specs.Faults.{FrontHasNoFault};
+ghost use Rattle.verse_image.specs.Numbers.{ReadIsSpelled, SpelledIsRead, SignedIsSpelled, SignedIsRead};
 
 /// Bytes are the image of one code at most.
 pub fn one_code()
@@ -28,4 +32,19 @@ pub fn bytes_behind()
 /// place and by the same rule, whatever follows.
 pub fn first_fault()
     ensures { (bytes : List ℕ) (b : ℕ) (more : List ℕ) (f : Flaw) → image_at bytes ≡ Err f → (f ≡ flaw 3 0) ⊎ (image_at (bytes ++ b ∷ more) ≡ Err (flaw f.rule (f.left + length (b ∷ more)))) }
+{}
+
+/// The bytes before a failing place have no fault but that they end: I3, at their end. Before bytes
+/// behind an image stands the image.
+pub fn front_has_no_fault()
+    ensures { FrontHasNoFault }
+{}
+
+/// For every bound: a number that is read stands in its one shortest spelling and is below the bound, and
+/// one below it that its bytes can spell is read. So are numbers with a sign.
+pub fn numbers_are_exact()
+    ensures read_is_spelled { ReadIsSpelled }
+    ensures spelled_is_read { SpelledIsRead }
+    ensures signed_is_spelled { SignedIsSpelled }
+    ensures signed_is_read { SignedIsRead }
 {}

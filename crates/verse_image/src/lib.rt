@@ -1,13 +1,16 @@
 //! Images: a code as bytes, and back.
+//!
+//! To be read in this order: `digits`, `pieces`, `encoding`, what is written; `faults`, `numbers`,
+//! `fields`, `tables`, `operations`, `decoding`, what is read; `laws`.
 #![tactic(auto)]
 
 pub mod decoding;
-mod digits;
+pub mod digits;
 pub mod encoding;
 pub mod faults;
 mod fields;
 pub mod laws;
-mod numbers;
+pub mod numbers;
 mod operations;
 mod pieces;
 mod tables;

@@ -1,3 +1,5 @@
+//! Operations are read.
+
 ghost use Rattle.std.specs.Prelude.{◌≡◌, ◌≤◌, pos, Ok};
 ghost use Rattle.verse_image.specs.Reading.{Gives, operand_at, parts, parts_at, op_at, ops_at};
 

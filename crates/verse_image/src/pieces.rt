@@ -1,3 +1,5 @@
+//! Parts of a code are written.
+
 #![tactic(auto, using(crate::proofs::WritingLemmas::writes_then))]
 
 ghost use Rattle.std.specs.Prelude.{◌≡◌, ◌≤◌, length, OnOk};

@@ -1,3 +1,5 @@
+//! Tables are read.
+
 ghost use Rattle.std.specs.Prelude.{◌≡◌, Ok, slice_get};
 ghost use Rattle.verse_image.specs.Reading.{Gives, number_at, within_at, many_at, table_at, text_at, place_at, function_at, class_at, main_at, may_begin, tables_at};
 

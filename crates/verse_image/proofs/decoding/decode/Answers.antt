@@ -3,6 +3,7 @@ use Rattle.verse_code.specs.declared.codes.Code.{Code}
 use Rattle.verse_image.specs.declared.faults.Flaw.{Flaw}
 use Rattle.verse_image.specs.Reading.{image_at}
 use Rattle.verse_image.proofs.ImageLaws.{image_take, image_again}
+use Rattle.verse_image.proofs.Fronts.{none_before}
 use Rattle.verse_image.proofs.decoding.decode.Goals as goal
 
 abbrev fine : Code → Result Code Flaw
@@ -24,3 +25,6 @@ returns-in-Err-Bad-clause-only c = λ version code i.
 
 pub returns-in-Err-Bad-clause-exact : goal.returns-in-Err-Bad-clause-exact
 returns-in-Err-Bad-clause-exact c = (c.in-Err-Bad.flaw.left, rw c.in-Err-Bad.field-0-is at c.in-Err-Bad.ensures, c.saturating_sub.ensures)
+
+pub returns-in-Err-Bad-clause-before : goal.returns-in-Err-Bad-clause-before
+returns-in-Err-Bad-clause-before c = none_before c.args.bytes.now c.in-Err-Bad.flaw c.saturating_sub.result (rw c.in-Err-Bad.field-0-is at c.in-Err-Bad.ensures) c.saturating_sub.ensures
