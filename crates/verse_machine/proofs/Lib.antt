@@ -1,0 +1,8 @@
+mod Examples
+mod Weights
+mod Ends
+mod Acts
+mod Whole
+mod BelongingEnds
+mod BelongingActs
+mod BelongingRuns

@@ -1,0 +1,5 @@
+pub mod State
+pub mod Waits
+pub mod Turns
+pub mod Effects
+pub mod Texts
