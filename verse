@@ -1,23 +1,69 @@
 #!/usr/bin/env bash
-# Runs the program with these words; builds it first where that is missing or the sources are newer.
+# Runs the proved program with these words. Where the program is missing, or was built of other sources, the
+# toolchain proves and builds it first; standard output has what the program writes, and nothing else.
 set -u
-here=$(cd "$(dirname "${BASH_SOURCE[0]}")" && pwd)
-program=$here/crates/verse_cli/out/verse_cli
+here=$(dirname "$(readlink -f "${BASH_SOURCE[0]}")")
+folder=$here/crates/verse_cli
+program=$folder/out/verse_cli
+sums=$here/scripts/program_sums
+log=$folder/out/build.log
 
-is_built() {
-  [ -x "$program" ] && [ -z "$(find "$here/crates" -path '*/out' -prune -o -type f \
-    \( -name '*.rt' -o -name '*.antt' \) -newer "$program" -print -quit)" ]
+say() { echo "verse: $*" >&2; }
+
+# Shows which crate is being proved and for how long, while the process runs.
+progress() {
+  local elapsed
+  while kill -0 "$1" 2> /dev/null; do
+    elapsed=$((SECONDS - begun))
+    printf '\r\033[Kverse: proving %s, crate %d of %d, %d:%02d' \
+      "$crate" "$number" "${#crates[@]}" $((elapsed / 60)) $((elapsed % 60)) >&2
+    sleep 1
+  done
+  printf '\r\033[K' >&2
 }
 
-if ! is_built; then
-  echo 'verse: building: every function below the program is proved first. The first time this takes,' >&2
-  echo 'verse: by estimate, 40 to 60 minutes, after an edit less; the log is in crates/verse_cli/out/build.log' >&2
-  mkdir -p "$here/crates/verse_cli/out"
-  (cd "$here/crates/verse_cli" && rt run > out/build.log 2>&1 < /dev/null)
-  if ! is_built; then
-    echo 'verse: the build failed' >&2
-    tail -n 5 "$here/crates/verse_cli/out/build.log" >&2
-    exit 1
-  fi
+# Has the toolchain prove and build one crate. From the lowest up, none has to look at more than its own sources. The
+# stored run of verse_cli ends with status 0, and no failure of the toolchain does.
+build() {
+  local words=(lib)
+  [ "$crate" != verse_cli ] || words=(run -- run data/hi.verse)
+  (cd "$here/crates/$crate" && exec rt "${words[@]}") >> "$log" 2>&1 < /dev/null &
+  builder=$!
+  trap 'kill "$builder" 2> /dev/null; wait "$builder"; exit 130' INT TERM HUP
+  [ ! -t 2 ] || progress "$builder"
+  wait "$builder"
+  local status=$?
+  trap - INT TERM HUP
+  return "$status"
+}
+
+fail() {
+  say "the build failed: $1; the log is $log"
+  { grep -E 'error|NOT PROVED|not proved|no proof|did not build|^rt: ' "$log" || cat "$log"; } |
+    grep -v 'rt: nothing has changed' | tail -n 8 >&2
+  exit 1
+}
+
+build_all() {
+  number=0
+  : > "$log"
+  for crate in "${crates[@]}"; do
+    number=$((number + 1))
+    build || fail "$crate, crate $number of ${#crates[@]}"
+  done
+}
+
+if ! "$sums" same; then
+  command -v rt > /dev/null || { say 'the Rattle toolchain is missing: rt is not on the path'; exit 1; }
+  mapfile -t crates < <("$sums" crates)
+  begun=$SECONDS
+  mkdir -p "$folder/out"
+  say "building: of the ${#crates[@]} crates of the program those are proved that no build has proved as they stand"
+  for attempt in 1 2 3; do
+    before=$("$sums")
+    build_all
+    ! "$sums" keep "$before" || break
+    [ "$attempt" -lt 3 ] || fail 'the sources changed while they were built, or no program was left'
+  done
 fi
 exec "$program" "$@"

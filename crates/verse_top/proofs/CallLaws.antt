@@ -6,7 +6,7 @@ use Rattle.verse_top.specs.Words.{Command, run, Options, Says}
 use Rattle.verse_built.specs.Texts.{texts_of}
 use Rattle.verse_top.specs.Meaning.{mean}
 use Rattle.verse_top.specs.Rendering.{ending_status}
-use Rattle.verse_top.specs.Answers.{Answers, too_large, refused, ran, Answered, CutShort, Finishes, MayWrite, not_read, answer, Replies, file_of, most_bytes}
+use Rattle.verse_top.specs.Answers.{Answers, refused, ran, Answered, CutShort, Finishes, MayWrite, not_read, answer, Replies, file_of, most_bytes}
 use Rattle.verse_top.proofs.CommandLemmas.{say_once}
 
 abbrev Known : ℕ → Type 0
@@ -17,18 +17,16 @@ known_mean texts zero = inr (inr (inl refl))
 known_mean texts (suc n) = inl refl
 
 known_answer : (c : Command) (bytes : List ℕ) (s : ℕ) (t : List ℕ) → Answers c bytes s t → Known s
-known_answer c bytes s t (too_large big) = inr (inl refl)
-known_answer c bytes s t (refused r small p) = inr (inl refl)
-known_answer c bytes s t (ran {o = o} is small p) = known_mean (texts_of is) o.steps
+known_answer c bytes s t (refused r p) = inr (inl refl)
+known_answer c bytes s t (ran {o = o} is p) = known_mean (texts_of is) o.steps
 
 not_six_mean : (texts : List (List ℕ)) (n : ℕ) → ending_status (mean texts n).ending ≢ 6
 not_six_mean texts zero e = absurd (cc)
 not_six_mean texts (suc n) e = absurd (cc)
 
 not_six : (c : Command) (bytes : List ℕ) (s : ℕ) (t : List ℕ) → Answers c bytes s t → s ≢ 6
-not_six c bytes s t (too_large big) e = absurd (cc)
-not_six c bytes s t (refused r small p) e = absurd (cc)
-not_six c bytes s t (ran {o = o} is small p) e = not_six_mean (texts_of is) o.steps e
+not_six c bytes s t (refused r p) e = absurd (cc)
+not_six c bytes s t (ran {o = o} is p) e = not_six_mean (texts_of is) o.steps e
 
 pub replies_ran : (file : List ℕ) (steps : ℕ) (held : Holding) (before now status : ℕ) (text bytes : List ℕ) → Loads held file most_bytes bytes →
     ((f : List ℕ) (o : Options) → o.steps ≡ steps → Answers (run f o) bytes status text) → Replies file steps held before now status text
@@ -40,10 +38,10 @@ replies_ran file steps held before now status text bytes loads answers =
       read = λ _. (bytes, loads, answers file);
     }
 
-pub cut_of : (words : List (List ℕ)) (held : Holding) (text : List ℕ) (status result before now : ℕ) (old new : Option (List ℕ)) → status ≢ 7 →
-    MayWrite words held text → Finishes status text result before now old new → result ≡ 7 → CutShort words held before now old new
-cut_of words held text status result before now old new other may (inl whole) e = absurd (other (sym whole.0 ∙ e))
-cut_of words held text status result before now old new other may (inr part) e = record { text = text; may = may; cause = part.1; part = part.2 }
+pub cut_of : (words : List (List ℕ)) (held : Holding) (files_before files_now : ℕ) (text : List ℕ) (status result before now : ℕ) (old new : Option (List ℕ)) → status ≢ 7 →
+    MayWrite words held files_before files_now text → Finishes status text result before now old new → result ≡ 7 → CutShort words held files_before files_now before now old new
+cut_of words held files_before files_now text status result before now old new other may (inl whole) e = absurd (other (sym whole.0 ∙ e))
+cut_of words held files_before files_now text status result before now old new other may (inr part) e = record { text = text; may = may; cause = part.1; part = part.2 }
 
 not_seven : (s : ℕ) → Known s → s ≢ 7
 not_seven s (inl e) f = absurd (cc)
@@ -65,16 +63,16 @@ held_or_not (Some f) name all h l = cc
 -- what a reply to the command that the words say leaves
 module _ (words : List (List ℕ)) (held : Holding) (file : List ℕ) (o : Options) (says : Says words (run file o))
     (before now status : ℕ) (text : List ℕ) (replies : Replies file o.steps held before now status text) where
-  may_write : MayWrite words held text
+  may_write : MayWrite words held before now text
   may_write = elim (six_or_not status replies.among) [
-    | inl six ↦ subst (λ (t : List ℕ). MayWrite words held t) (sym (replies.not_read six).0) (not_read (run file o) says)
+    | inl six ↦ let why = replies.not_read six in subst (λ (t : List ℕ). MayWrite words held before now t) (sym why.0) (not_read (run file o) says why.1)
     | inr other ↦ let got = replies.read other in answer (run file o) got.0 status says got.1 (got.2 o refl)
   ]
 
   pub reply_cut : (result sink_before sink_now : ℕ) (old new : Option (List ℕ)) → Finishes status text result sink_before sink_now old new → result ≡ 7 →
-      CutShort words held sink_before sink_now old new
+      CutShort words held before now sink_before sink_now old new
   reply_cut result sink_before sink_now old new finishes e =
-      cut_of words held text status result sink_before sink_now old new (not_seven status replies.among) may_write finishes e
+      cut_of words held before now text status result sink_before sink_now old new (not_seven status replies.among) may_write finishes e
 
   pub reply_absent : (result sink_before sink_now : ℕ) (old new : Option (List ℕ)) → Finishes status text result sink_before sink_now old new →
       (Lacks held file → status ≡ 6) → (c : Command) → Says words c → Lacks held (file_of c) → (result ≡ 6) ⊎ (result ≡ 5) ⊎ (result ≡ 7)

@@ -2,6 +2,7 @@ pub mod ListedTokens
 pub mod ListedLayout
 pub mod Parts
 pub mod StuckToks
+pub mod OneByOne
 pub mod Answered
 pub mod AnswerLaws
 pub mod NumberLemmas

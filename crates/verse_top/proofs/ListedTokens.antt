@@ -8,15 +8,15 @@ use Rattle.verse_base.specs.RuleText.{rule_text_of}
 use Rattle.verse_lex.specs.declared.tokens.TokenKind.{TokenKind}
 use Rattle.verse_lex.specs.declared.pieces.Next.{Next}
 use Rattle.verse_lex.specs.declared.pieces.Next.TheVariants as n
-use Rattle.verse_lex.specs.declared.steps.Here.{Here}
+use Rattle.verse_lex.specs.declared.cursors.Cursor.{Cursor}
 use Rattle.verse_lex.specs.declared.rules.TheConstants.{INTEGER, DURATION}
 use Rattle.verse_lex.specs.declared.texts.Ending.{Ending}
 use Rattle.verse_lex.specs.declared.texts.Ending.TheVariants as e
 use Rattle.verse_lex.specs.Cut.{in_hole, refusal_of, no_text, no_piece}
 use Rattle.verse_lex.specs.Cut as tokens
 use Rattle.verse_lex.specs.Pieces.{piece_at}
-use Rattle.verse_lex.specs.Spelling.{Number, digits, hex_digits, fraction, Stops, quote, hole, brace, lone, no_escape, file_end, line_end, return_end, Breaks, stray, lone_return, lone_in_line, lone_in_comment, no_comment, letter_behind, broken_number, no_literal, literal_escape, broken_text, broken_part, unended_text, unended_comment, Explains}
-use Rattle.verse_lex.proofs.Spelled.{each_explained}
+use Rattle.verse_lex_laws.specs.Spelling.{Number, digits, hex_digits, fraction, Stops, quote, hole, brace, lone, no_escape, file_end, line_end, return_end, Breaks, stray, lone_return, lone_in_line, lone_in_comment, no_comment, letter_behind, broken_number, no_literal, literal_escape, broken_text, broken_part, unended_text, unended_comment, Explains}
+use Rattle.verse_lex_laws.proofs.Spelled.{each_explained}
 
 abbrev pub Listed : Refusal → Type 0
 Listed r = IsSome (rule_text_of r.rule.0)
@@ -47,18 +47,18 @@ broken : {within : Bool} {bs : List ℕ} {rule : Rule} {n : ℕ} → Breaks with
 broken (stray s) = refl
 broken (lone_return s) = refl
 broken (lone_in_line cs ds s t) = refl
-broken (lone_in_comment count s t) = refl
+broken (lone_in_comment s t) = refl
 broken no_comment = refl
 broken (letter_behind ds s t u) = refl
 broken (broken_number ds {rule = rule} s t) = number s rule refl
-broken (no_literal s) = refl
+broken (no_literal s t) = refl
 broken (literal_escape s) = refl
 broken (broken_text {rule = rule} s t) = ending t rule 0 refl
 broken (broken_part {rule = rule} s t) = ending t rule 0 refl
 broken (unended_text s t) = refl
-broken (unended_comment s) = refl
+broken (unended_comment s t u) = refl
 
-next : (here : Here) (bs : List ℕ) (within : Bool) (p : Next) (r : Refusal) → Explains within bs p → refusal_of here bs p ≡ Some r → Listed r
+next : (here : Cursor) (bs : List ℕ) (within : Bool) (p : Next) (r : Refusal) → Explains within bs p → refusal_of here bs p ≡ Some r → Listed r
 next here bs within n.End r x h = absurd (cc)
 next here bs within (n.Separator count) r x h = absurd (cc)
 next here bs within (n.LineEnd count) r x h = absurd (cc)

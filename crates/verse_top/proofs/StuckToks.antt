@@ -6,7 +6,7 @@ use Rattle.verse_layout.specs.declared.toks.Tok.{Tok}
 use Rattle.verse_tree.specs.ItemTree.{ItemTree}
 use Rattle.verse_grammar.specs.Items.{Program}
 use Rattle.verse_grammar.specs.Begins.{a_program, is_program, kinds, Begins}
-use Rattle.verse_top.specs.Programs.{Parses, IsStuck}
+use Rattle.verse_top.specs.Programs.{IsStuck}
 
 -- what begins a program begins it with less of it too
 shorter : (xs ys : List Tok) → Begins a_program (xs ++ ys) → Begins a_program xs
@@ -46,11 +46,11 @@ stuck_once ks i j p q = elim (cases_order i j) [
 ]
 
 -- toks that are items are not stuck
-pub stuck_or_spelled : (bytes : List ℕ) (is : List ItemTree) (p : Parses bytes is) (i : ℕ) → IsStuck p.toks i → ⊥
-stuck_or_spelled bytes is p i s = elim (cases_order i (length p.toks)) [
-  | inl same ↦ s.stops.ended same (is_program p.spelled)
+pub stuck_or_spelled : (bytes : List ℕ) (ks : List Tok) (is : List ItemTree) (i : ℕ) → Program bytes ks is [] → IsStuck ks i → ⊥
+stuck_or_spelled bytes ks is i p s = elim (cases_order i (length ks)) [
+  | inl same ↦ s.stops.ended same (is_program p)
   | inr rest ↦ elim rest [
-    | inl below ↦ s.stops.beyond below (begins_whole bytes p.toks is (i + 1) p.spelled)
-    | inr above ↦ let w : i ≤ length p.toks = s.within in absurd (omega arith)
+    | inl below ↦ s.stops.beyond below (begins_whole bytes ks is (i + 1) p)
+    | inr above ↦ let w : i ≤ length ks = s.within in absurd (omega arith)
   ]
 ]

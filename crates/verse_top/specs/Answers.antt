@@ -1,9 +1,9 @@
 -- What the top call answers: a status and the text that is written.
-use Rattle.std.specs.Prelude.{◌≡◌, ◌≢◌, ◌⊎◌, ℕ, ◌<◌, ◌≤◌, List, [], ◌∷◌, ◌++◌, Option, length, codes, unwrap_or}
+use Rattle.std.specs.Prelude.{◌≡◌, ◌≢◌, ◌⊎◌, ℕ, ◌+◌, List, [], ◌∷◌, ◌++◌, Option, codes, unwrap_or}
+use Rattle.verse_base.specs.declared.limits.TheConstants.{MOST_FILE_BYTES}
 use Rattle.verse_base.specs.declared.places.Place.{Place}
 use Rattle.verse_base.specs.RuleText.{rule_text_of}
 use Rattle.verse_base.specs.declared.refusals.Refusal.{Refusal}
-use Rattle.verse_lex.specs.Cut.{first_place}
 use Rattle.verse_outside.specs.Causes.{Rose}
 use Rattle.verse_outside.specs.Held.{Holding, Lacks, Loads, with_more, TookPrefix}
 use Rattle.verse_top.specs.Words.{Command, run, Options, Says}
@@ -17,9 +17,9 @@ use Rattle.verse_top.specs.Rendering.{line_and_column, rule_code, run_text, endi
 abbrev pub refusal_line : ℕ → Place → List ℕ
 refusal_line rule place = line_and_column place ++ codes " " ++ rule_code rule ++ codes " " ++ unwrap_or (rule_text_of rule) [] ++ 10 ∷ []
 
--- a file of at most 1048576 bytes is read; one byte more shows that there are more
+-- one byte more than a file may have shows that there are more
 abbrev pub most_bytes : ℕ
-most_bytes = 1048577
+most_bytes = MOST_FILE_BYTES + 1
 
 abbrev pub words_line : List ℕ
 words_line = codes "= words\n"
@@ -32,10 +32,8 @@ memory_line = codes "= memory\n"
 
 -- the status and the text for a command over what was loaded
 pub data Answers : Command → List ℕ → ℕ → List ℕ → Type 0 where
-  too_large : {file bytes : List ℕ} {o : Options} → 1048576 < length bytes → Answers (run file o) bytes 1 (refusal_line 2 (first_place 0))
-  refused : {file bytes : List ℕ} {o : Options} (r : Refusal) → length bytes ≤ 1048576 → IsRefused bytes r →
-      Answers (run file o) bytes 1 (refusal_line r.rule.0 r.place)
-  ran : {file bytes : List ℕ} {o : Options} (is : List ItemTree) → length bytes ≤ 1048576 → Runs bytes is →
+  refused : {file bytes : List ℕ} {o : Options} (r : Refusal) → IsRefused bytes r → Answers (run file o) bytes 1 (refusal_line r.rule.0 r.place)
+  ran : {file bytes : List ℕ} {o : Options} (is : List ItemTree) → Runs bytes is →
       Answers (run file o) bytes (ending_status (mean (texts_of is) o.steps).ending) (run_text 1 (mean (texts_of is) o.steps))
 
 abbrev pub file_of : Command → List ℕ
@@ -58,18 +56,18 @@ pub record NotRead (words : List (List ℕ)) (held : Holding) (before now : ℕ)
   pub cause : Rose before now ⊎ Lacks held (file_of command)
   pub written : new ≡ with_more old (read_line (file_of command))
 
--- the texts that may be written for these words over these files
-pub data MayWrite (words : List (List ℕ)) (held : Holding) : List ℕ → Type 0 where
-  no_command : ((c : Command) → Says words c → ⊥) → MayWrite words held words_line
-  not_read : (c : Command) → Says words c → MayWrite words held (read_line (file_of c))
-  no_memory : MayWrite words held memory_line
+-- the texts that may be written for these words over these files, whose count of faults rose or not
+pub data MayWrite (words : List (List ℕ)) (held : Holding) (before now : ℕ) : List ℕ → Type 0 where
+  no_command : ((c : Command) → Says words c → ⊥) → MayWrite words held before now words_line
+  not_read : (c : Command) → Says words c → Rose before now ⊎ Lacks held (file_of c) → MayWrite words held before now (read_line (file_of c))
+  no_memory : (c : Command) → Says words c → MayWrite words held before now memory_line
   answer : {text : List ℕ} (c : Command) (bytes : List ℕ) (status : ℕ) → Says words c → Loads held (file_of c) most_bytes bytes →
-      Answers c bytes status text → MayWrite words held text
+      Answers c bytes status text → MayWrite words held before now text
 
 -- the sink failed, and took a prefix of a text that may be written
-pub record CutShort (words : List (List ℕ)) (held : Holding) (before now : ℕ) (old new : Option (List ℕ)) : Type 0 where
+pub record CutShort (words : List (List ℕ)) (held : Holding) (files_before files_now before now : ℕ) (old new : Option (List ℕ)) : Type 0 where
   pub text : List ℕ
-  pub may : MayWrite words held text
+  pub may : MayWrite words held files_before files_now text
   pub cause : Rose before now
   pub part : TookPrefix old text new
 

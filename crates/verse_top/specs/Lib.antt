@@ -1,4 +1,5 @@
 pub mod Words
+pub mod Stages
 pub mod Programs
 pub mod Meaning
 pub mod Rendering

@@ -12,6 +12,7 @@ ghost use Rattle.verse_top.specs.Words.{run, Options};
 use crate::endings::{ending_text, line_and_column};
 use crate::programs::items_of;
 use std::alloc::Global;
+use verse_base::limits::MOST_FILE_BYTES;
 use verse_base::places::Place;
 use verse_base::refusals::{Front, Memory, Rule};
 use verse_base::rule_texts::rule_text;
@@ -20,9 +21,6 @@ use verse_built::{printed, unbuilt};
 use verse_tree::items::Item;
 use verse_tree::names::Text;
 use verse_value::runs::Ending;
-
-/// The most bytes that a file may have.
-pub(crate) const MOST_BYTES: usize = 1048576;
 
 const FIRST_PLACE: Place = Place {
     file: 0,
@@ -42,7 +40,7 @@ pub(crate) struct Answer {
 pub(crate) fn run_file(alloc: Global, bytes: &[u8], steps: u64) -> Result<Answer, Memory>
     ensures { IfOk result (λ a. (file : List ℕ) (o : Options) → o.steps ≡ steps → Answers (run file o) bytes.now a.status a.text.items) }
 {
-    if bytes.len() > MOST_BYTES {
+    if bytes.len() > MOST_FILE_BYTES {
         return Ok(refused(alloc, Rule(2), FIRST_PLACE)?);
     }
     match items_of(alloc, bytes) {
@@ -55,8 +53,7 @@ pub(crate) fn run_file(alloc: Global, bytes: &[u8], steps: u64) -> Result<Answer
 /// What running the items of the file answers.
 #[tactic(auto, using(crate::proofs::AnswerLaws::answers_unbuilt, crate::proofs::AnswerLaws::answers_run))]
 fn run_items(alloc: Global, bytes: &[u8], items: &[Item], steps: u64) -> Result<Answer, Memory>
-    requires size { length bytes.now ≤ 1048576 }
-    requires parsed { Parses bytes.now (map item_of items.now) }
+    requires { Parses bytes.now (map item_of items.now) }
     ensures { IfOk result (λ a. (file : List ℕ) (o : Options) → o.steps ≡ steps → Answers (run file o) bytes.now a.status a.text.items) }
 {
     match unbuilt(items) {

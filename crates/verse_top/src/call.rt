@@ -4,9 +4,10 @@ ghost use Rattle.verse_outside.specs.Held.{Holds, Lacks, with_more};
 ghost use Rattle.verse_top.specs.Answers.{Answered, CutShort, Finishes, NotRead, Replies, file_of, memory_line, read_line, words_line};
 ghost use Rattle.verse_top.specs.Words.{Command, Says};
 
-use crate::answers::{Answer, MOST_BYTES, run_file};
+use crate::answers::{Answer, run_file};
 use crate::commands::find_request;
 use std::alloc::Global;
+use verse_base::limits::MOST_FILE_BYTES;
 use verse_base::refusals::Memory;
 use verse_outside::files::{Files, LoadFault};
 use verse_outside::sinks::{Sink, write_all};
@@ -24,7 +25,7 @@ pub fn verse<F: Files, S: Sink>(alloc: Global, words: &[String], files: &mut F, 
     ensures absent { (c : Command) → Says (map string_bytes words.now) c → Lacks (F.holds files.old) (file_of c) → (result ≡ 6) ⊎ (result ≡ 5) ⊎ (result ≡ 7) }
     // 5 is want of memory; 7 only for a fault of the sink, which took a prefix.
     ensures memory { result ≡ 5 → ((c : Command) × Says (map string_bytes words.now) c) × (S.taken out.new ≡ with_more (S.taken out.old) memory_line) }
-    ensures cut_short { result ≡ 7 → CutShort (map string_bytes words.now) (F.holds files.old) (S.faults out.old) (S.faults out.new) (S.taken out.old) (S.taken out.new) }
+    ensures cut_short { result ≡ 7 → CutShort (map string_bytes words.now) (F.holds files.old) (F.faults files.old) (F.faults files.new) (S.faults out.old) (S.faults out.new) (S.taken out.old) (S.taken out.new) }
     // With no fault, a held file has its whole answer, or want of memory.
     ensures complete { (c : Command) (all : List ℕ) → Says (map string_bytes words.now) c → Holds (F.holds files.old) (file_of c) all
         → (Rose (F.faults files.old) (F.faults files.new) → ⊥) → (Rose (S.faults out.old) (S.faults out.new) → ⊥)
@@ -60,7 +61,7 @@ fn reply<F: Files>(alloc: Global, file: &str, steps: u64, files: &mut F) -> Resu
     ensures same { F.holds files.new ≡ F.holds files.old }
     ensures later { F.faults files.old ≤ F.faults files.new }
 {
-    match files.load(alloc, file, MOST_BYTES + 1) {
+    match files.load(alloc, file, MOST_FILE_BYTES + 1) {
         Ok(bytes) => Ok(run_file(alloc, bytes.as_slice(), steps)?),
         Err(LoadFault::Failed) => Ok(not_read(alloc, file)?),
         Err(LoadFault::Memory) => Err(Memory),

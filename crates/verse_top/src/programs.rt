@@ -8,23 +8,24 @@ ghost use Rattle.verse_base.specs.RuleText.{rule_text_of};
 ghost use Rattle.verse_base.specs.declared.refusals.Refusal.{Refusal};
 ghost use Rattle.verse_base.specs.declared.refusals.Front.TheVariants as front;
 ghost use Rattle.verse_tree.specs.ItemView.{item_of};
-ghost use Rattle.verse_top.specs.Programs.{Lays, Parses, IsRefused, tok_place};
+ghost use Rattle.verse_top.specs.Programs.{Lays, Unlaid, Parses, Unparsed, tok_place};
 
 use std::alloc::Global;
+use verse_base::limits::MOST_FILE_BYTES;
 use verse_base::places::Place;
 use verse_base::refusals::{Front, Refusal};
 use verse_expr::faults::ParseFault;
+use verse_handles::items::ItemTrees;
 use verse_layout::layouts::layout;
 use verse_layout::toks::Tok;
 use verse_lex::{lex, place_at};
 use verse_parse::parse;
-use verse_tree::items::Item;
 
 /// The items of a file, or its refusal by tokens, layout or grammar.
-pub(crate) fn items_of(alloc: Global, bytes: &[u8]) -> Result<Vec<Item>, Front>
-    requires { length bytes.now ≤ 1048576 }
-    ensures parsed { IfOk result (λ items. Parses bytes.now (map item_of items.items)) }
-    ensures refused { (r : Refusal) → IsErrOf result (front.Refused r) → IsRefused bytes.now r }
+pub(crate) fn items_of(alloc: Global, bytes: &[u8]) -> Result<ItemTrees, Front>
+    requires { length bytes.now ≤ MOST_FILE_BYTES }
+    ensures parsed { IfOk result (λ items. Parses bytes.now (map item_of items)) }
+    ensures refused { (r : Refusal) → IsErrOf result (front.Refused r) → Unparsed bytes.now r }
     ensures listed { (r : Refusal) → IsErrOf result (front.Refused r) → IsSome (rule_text_of r.rule.0) }
 {
     let toks = toks_of(alloc, bytes)?;
@@ -34,9 +35,9 @@ pub(crate) fn items_of(alloc: Global, bytes: &[u8]) -> Result<Vec<Item>, Front>
 /// The toks of a file.
 #[tactic(auto, using(crate::proofs::Parts::lies, crate::proofs::Parts::lays, crate::proofs::Parts::refused_tokens, crate::proofs::Parts::refused_layout, crate::proofs::ListedTokens::listed_tokens, crate::proofs::ListedLayout::listed_layout))]
 fn toks_of(alloc: Global, bytes: &[u8]) -> Result<Vec<Tok>, Front>
-    requires { length bytes.now ≤ 1048576 }
+    requires { length bytes.now ≤ MOST_FILE_BYTES }
     ensures laid { IfOk result (λ toks. Lays bytes.now toks.items) }
-    ensures refused { (r : Refusal) → IsErrOf result (front.Refused r) → IsRefused bytes.now r }
+    ensures refused { (r : Refusal) → IsErrOf result (front.Refused r) → Unlaid bytes.now r }
     ensures listed { (r : Refusal) → IsErrOf result (front.Refused r) → IsSome (rule_text_of r.rule.0) }
 {
     let tokens = lex(alloc, 0, bytes)?;
@@ -44,11 +45,11 @@ fn toks_of(alloc: Global, bytes: &[u8]) -> Result<Vec<Tok>, Front>
 }
 
 /// The items that the toks of a file spell.
-fn items_by(alloc: Global, bytes: &[u8], toks: &[Tok]) -> Result<Vec<Item>, Front>
-    requires size { length bytes.now ≤ 1048576 }
+fn items_by(alloc: Global, bytes: &[u8], toks: &[Tok]) -> Result<ItemTrees, Front>
+    requires size { length bytes.now ≤ MOST_FILE_BYTES }
     requires laid { Lays bytes.now toks.now }
-    ensures parsed { IfOk result (λ items. Parses bytes.now (map item_of items.items)) }
-    ensures refused { (r : Refusal) → IsErrOf result (front.Refused r) → IsRefused bytes.now r }
+    ensures parsed { IfOk result (λ items. Parses bytes.now (map item_of items)) }
+    ensures refused { (r : Refusal) → IsErrOf result (front.Refused r) → Unparsed bytes.now r }
     ensures listed { (r : Refusal) → IsErrOf result (front.Refused r) → IsSome (rule_text_of r.rule.0) }
 {
     match parse(alloc, bytes, toks) {
@@ -63,7 +64,7 @@ fn items_by(alloc: Global, bytes: &[u8], toks: &[Tok]) -> Result<Vec<Item>, Fron
 
 /// The place of the tok of this index, or the file's end.
 fn tok_place(bytes: &[u8], toks: &[Tok], index: usize) -> Place
-    requires { length bytes.now ≤ 1048576 }
+    requires { length bytes.now ≤ MOST_FILE_BYTES }
     ensures { result ≡ tok_place bytes.now toks.now index }
 {
     match toks.get(index) {

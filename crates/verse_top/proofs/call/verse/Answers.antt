@@ -11,7 +11,7 @@ five n e f = absurd (cc)
 
 pub returns-in_default-clause-cut_short : goal.returns-in_default-clause-cut_short
 returns-in_default-clause-cut_short g c e =
-    cut_of (map string_bytes c.args.words.now) (g.F.Files.holds c.args.files.now) words_line 2 c.finish.result _ _ _ _ (two 2 refl)
+    cut_of (map string_bytes c.args.words.now) (g.F.Files.holds c.args.files.now) _ _ words_line 2 c.finish.result _ _ _ _ (two 2 refl)
     (no_command c.in_default.ensures) c.finish.ensures.either e
 
 pub returns-in-Ok-clause-absent : goal.returns-in-Ok-clause-absent
@@ -34,5 +34,5 @@ returns-in-Ok-clause-complete g c =
 
 pub returns-in-Err-clause-cut_short : goal.returns-in-Err-clause-cut_short
 returns-in-Err-clause-cut_short g c e =
-    cut_of (map string_bytes c.args.words.now) (g.F.Files.holds c.args.files.now) memory_line 5 c.finish-in-Err.result _ _ _ _ (five 5 refl)
-    no_memory c.finish-in-Err.ensures.either e
+    cut_of (map string_bytes c.args.words.now) (g.F.Files.holds c.args.files.now) _ _ memory_line 5 c.finish-in-Err.result _ _ _ _ (five 5 refl)
+    (no_memory _ c.in-Some.ensures.2) c.finish-in-Err.ensures.either e

@@ -1,0 +1,266 @@
+"""Compares documents with examples, definitions and sources; docs.sh runs it with the path of the proved program."""
+import json
+import os
+import re
+import subprocess
+import sys
+import tempfile
+
+PROGRAM = sys.argv[1]
+DOCUMENTS = subprocess.run(["git", "ls-files", "*.md"], capture_output=True, text=True, check=True).stdout.split()
+passed = 0
+failures = []
+
+
+def text_of(path):
+    with open(path, encoding="utf-8") as file:
+        return file.read()
+
+
+def check(holds, what):
+    global passed
+    if holds:
+        passed += 1
+    else:
+        failures.append(what)
+
+
+def blocks(text):
+    """The fenced blocks: line, info string, lines."""
+    found, lines, at = [], text.split("\n"), 0
+    while at < len(lines):
+        if lines[at].startswith("```"):
+            end = next((it for it in range(at + 1, len(lines)) if lines[it] == "```"), len(lines))
+            found.append((at + 1, lines[at][3:].strip(), lines[at + 1 : end]))
+            at = end
+        at += 1
+    return found
+
+
+def without_blocks(text):
+    return re.sub(r"(?ms)^```.*?^```$", "", text)
+
+
+def outer(lines, path):
+    """Whether the lines stand together in the file, whole lines as they are."""
+    return "\n".join(["", *lines, ""]) in "\n" + text_of(path) + "\n"
+
+
+def listed(name):
+    """The words and the output of an example."""
+    args = f"examples/{name}.args"
+    words = text_of(args).split("\n")[:-1] if os.path.exists(args) else []
+    return words, text_of(f"examples/{name}.out").split("\n")[:-2]
+
+
+def shown_run(words, where):
+    """What stands below a command: an example's output, or what the program writes."""
+    match = re.fullmatch(r"examples/(\w+)\.verse", words[1] if len(words) > 1 else "")
+    if words[:1] == ["run"] and match and os.path.exists(f"examples/{match[1]}.out"):
+        args, out = listed(match[1])
+        if words[2:] == args:
+            return out
+        not_built = text_of("examples/not_built.txt").split()
+        if match[1] in not_built:
+            failures.append(f"{where}: {match[1]} is not built, so only its own .args can be shown")
+            return None
+    ran = subprocess.run([PROGRAM, *words], capture_output=True, text=True, stdin=subprocess.DEVNULL, timeout=60)
+    return ran.stdout.split("\n")[:-1]
+
+
+def parts_of_examples():
+    for document in DOCUMENTS:
+        for line, info, lines in blocks(text_of(document)):
+            words = info.split()
+            where = f"{document}:{line}"
+            if len(words) == 2 and words[1].startswith("examples/"):
+                check(os.path.exists(words[1]) and outer(lines, words[1]), f"{where}: this is no part of {words[1]}")
+            if words[:1] == ["console"]:
+                at = 0
+                while at < len(lines):
+                    if not lines[at].startswith("$ "):
+                        failures.append(f"{where}: a line before the first command")
+                        break
+                    end = next((it for it in range(at + 1, len(lines)) if lines[it].startswith("$ ")), len(lines))
+                    command = re.sub(r"\s+#.*", "", lines[at][2:]).split()
+                    if command[0] in ("./verse", "./try"):
+                        wanted = shown_run(command[1:], where)
+                        check(wanted is None or wanted == lines[at + 1 : end], f"{where}: `{lines[at][2:]}` does not write this, but {wanted}")
+                    at = end
+
+
+def slug(heading, seen):
+    plain = re.sub(r"[^\w\- ]", "", heading.strip().lower().replace("`", "")).replace(" ", "-")
+    count = seen.get(plain, 0)
+    seen[plain] = count + 1
+    return f"{plain}-{count}" if count else plain
+
+
+def links():
+    anchors = {}
+    for document in DOCUMENTS:
+        seen = {}
+        headings = re.findall(r"(?m)^#{1,6} (.*)$", without_blocks(text_of(document)))
+        anchors[document] = {slug(it, seen) for it in headings}
+    for document in DOCUMENTS:
+        for target in re.findall(r"\]\(([^)\s]+)\)", without_blocks(text_of(document))):
+            if re.match(r"[a-z]+:", target):
+                continue
+            path, _, anchor = target.partition("#")
+            file = os.path.normpath(os.path.join(os.path.dirname(document), path)) if path else document
+            well = os.path.exists(file) and (not anchor or anchor in anchors.get(file, ()))
+            check(well, f"{document}: the link {target} leads nowhere")
+
+
+def section(text, heading):
+    return re.split(r"(?m)^## ", text.split(f"\n## {heading}\n", 1)[1])[0] if f"\n## {heading}\n" in text else ""
+
+
+def built_forms():
+    """The table of what is built against the kinds of node and the definition of what is built."""
+    rows = re.findall(r"(?m)^\| .* \| (yes|no) \| (.*) \|$", section(text_of("docs/LANGUAGE.md"), "What is built today"))
+    told = {kind: answer == "yes" for answer, kinds in rows for kind in re.findall(r"`(\w+)`", kinds)}
+    tree, items = text_of("crates/verse_tree/specs/Tree.antt"), text_of("crates/verse_tree/specs/ItemTree.antt")
+    shapes = re.search(r"pub data Shape .*?\n\n", tree + "\n\n", re.S)
+    shapes = shapes[0].split("\n")[1:] if shapes else []
+    kinds = {name for line in shapes if not line.strip().startswith("--") for name in line.partition(":")[0].split()}
+    kinds |= set(re.findall(r"(?m)^  (\w+) :", items.partition("pub data ItemTree")[2]))
+    built = text_of("crates/verse_built/specs/Built.antt")
+    cases = re.findall(r"(?m)^is_built_(?:shape|item) \(?(?:t\.Shape\.)?(\w+)[^=]*= (.*)$", built)
+    is_built = {name: right.strip() != "false" for name, right in cases}
+    other = is_built.pop("other", None)
+    check(bool(rows) and bool(kinds) and other is False, "docs/LANGUAGE.md or the definitions have no table of what is built that this check can read")
+    for kind in sorted(kinds | set(told)):
+        if kind not in told or kind not in kinds:
+            failures.append(f"docs/LANGUAGE.md, What is built today: {kind} {'is no kind of node' if kind in told else 'is missing'}")
+            continue
+        now = is_built.get(kind, False)
+        check(told[kind] == now, f"docs/LANGUAGE.md, What is built today: {kind} is {'' if now else 'not '}built by verse_built/specs/Built.antt")
+
+
+def refusals():
+    """The table of refusals against the texts that the program has."""
+    rows = dict(re.findall(r"(?m)^\| E(\d{3}) (.*?) \|", section(text_of("docs/LANGUAGE.md"), "All refusals")))
+    texts = re.findall(r'(?m)^ *(\d+) => "(.*)",$', text_of("crates/verse_base/src/rule_texts.rt"))
+    check(len(texts) > 0, "crates/verse_base/src/rule_texts.rt has no texts that this check can read")
+    for number, text in texts:
+        told = rows.pop(f"{int(number):03}", None)
+        check(told == text, f"docs/LANGUAGE.md, All refusals: E{int(number):03} is `{text}`, and the table has {told}")
+    for number in rows:
+        failures.append(f"docs/LANGUAGE.md, All refusals: the program has no E{number}")
+
+
+def short_examples():
+    """The short examples: a block of code, and below it what it writes. One that needs a form that is not built is E099.
+    Lines without a Main are the body of one; an ending line `= done` may be left out."""
+    waiting = total = 0
+    with tempfile.TemporaryDirectory() as folder:
+        for document in DOCUMENTS:
+            found = blocks(text_of(document))
+            for (line, info, lines), below in zip(found, found[1:] + [(0, "", [])]):
+                if info != "verse":
+                    continue
+                kind, *words = below[1].split() or [""]
+                check(kind == "text", f"{document}:{line}: nothing says what this example writes")
+                if not any(it.startswith("Main") for it in lines):
+                    lines = ["Main():void =", *[f"    {it}" for it in lines]]
+                file = f"{folder}/example.verse"
+                with open(file, "w", encoding="utf-8") as out:
+                    out.write("\n".join([*lines, ""]))
+                command = [PROGRAM, "run", file, *words]
+                wrote = subprocess.run(command, capture_output=True, text=True, stdin=subprocess.DEVNULL, timeout=60).stdout
+                got = wrote.split("\n")[:-1]
+                is_waiting = re.fullmatch(r"\d+:\d+ E099 not built yet\n", wrote) is not None
+                waiting, total = waiting + is_waiting, total + 1
+                shows_ending = below[2][-1:] and below[2][-1].startswith("= ")
+                if got[-1:] and got[-1].startswith("= done ") and not shows_ending:
+                    got.pop()
+                check(is_waiting or got == below[2], f"{document}:{line}: this example writes {got}")
+    print(f"{waiting} of {total} short examples need a form that is not built")
+
+
+NOT_REPORTED = "so E040 to E068, E070 and E098 are not reported"
+
+
+def refused_examples():
+    """Each example of the table of refusals, through the program. While the document says that the rules of names, types
+    and effects are not reported, they must be E099."""
+    language = text_of("docs/LANGUAGE.md")
+    rows = re.findall(r"(?m)^\| E(\d{3}) ([^|]*?) \| [^|]* \| `([^|]*)` \| (\d+:\d+) \|$", section(language, "All refusals"))
+    check(len(rows) >= 36, "docs/LANGUAGE.md, All refusals: this check can read too few examples")
+    with tempfile.TemporaryDirectory() as folder:
+        for number, text, example, place in rows:
+            file = f"{folder}/example.verse"
+            with open(file, "w", encoding="utf-8") as out:
+                out.write(example)
+            ran = subprocess.run([PROGRAM, "run", file], capture_output=True, text=True, stdin=subprocess.DEVNULL, timeout=60)
+            later = NOT_REPORTED in language and "040" <= number <= "098" and number != "069"
+            wanted = r"\d+:\d+ E099 not built yet\n" if later else re.escape(f"{place} E{number} {text}\n")
+            what = f"docs/LANGUAGE.md, All refusals: the example of E{number} writes {ran.stdout.strip()}"
+            check(ran.returncode == 1 and re.fullmatch(wanted, ran.stdout) is not None, what)
+
+
+def spellings(enumeration):
+    source = text_of("crates/verse_lex/src/tokens.rt")
+    body = re.search(rf"pub enum {enumeration} \{{(.*?)\n\}}", source, re.S)
+    body = body[1] if body else ""
+    names = re.findall(r"(?m)^    (\w+),$", body)
+    found = re.findall(r"(?m)^    /// `(\S+)`.*\n    \w+,$", body)
+    check(len(found) == len(names) > 0, f"verse_lex/src/tokens.rt: not each {enumeration} has its spelling in a comment above it")
+    return found
+
+
+def first_match(patterns, text, at=0):
+    """As an editor does: of the patterns that match at a place, the first."""
+    for pattern in patterns:
+        match = re.compile(pattern["match"]).match(text, at)
+        if match:
+            return match[0], pattern["name"]
+    return None
+
+
+def editors():
+    grammar = json.loads(text_of("editors/verse.tmLanguage.json"))["repository"]
+    words, marks = grammar["words"]["patterns"], grammar["marks"]["patterns"]
+    source = text_of("crates/verse_lex/src/words.rt")
+    spelled = re.findall(r'b"(\w+)" => Some\(Word::', source)
+    left_out = re.findall(r'b"(\w+)" => true', source)
+    check(sorted(spelled) == sorted(spellings("Word")), "verse_lex/src: words.rt and tokens.rt spell other words")
+    language = text_of("docs/LANGUAGE.md")
+    told = {}
+    for kind in ("The words are", "The left-out words are", "The marks are"):
+        line = re.search(rf"(?m)^{kind} .*$", language)
+        told[kind] = re.findall(r"`(\S+)`", line[0]) if line else []
+    check(sorted(told["The words are"]) == sorted(spelled), "docs/LANGUAGE.md, Tokens: the words are others")
+    check(sorted(told["The left-out words are"]) == sorted(left_out), "docs/LANGUAGE.md, Tokens: the left-out words are others")
+    check(sorted(told["The marks are"]) == sorted(spellings("Mark")), "docs/LANGUAGE.md, Tokens: the marks are others")
+    for word in spelled + left_out:
+        match = first_match(words, word)
+        illegal = "invalid.illegal.left-out.verse"
+        check(
+            match is not None and match[0] == word and (match[1] == illegal) == (word in left_out),
+            f"editors/verse.tmLanguage.json: {word} is {match}",
+        )
+        check(first_match(words, word + "s_") is None, f"editors/verse.tmLanguage.json: {word}s_ is taken for a word")
+    for mark in spellings("Mark"):
+        match = first_match(marks, mark)
+        check(match is not None and match[0] == mark, f"editors/verse.tmLanguage.json: the mark {mark} is read as {match}")
+    for name in ("package.json", "language-configuration.json", "tasks.json"):
+        json.loads(text_of(f"editors/{name}"))
+    matcher = json.loads(text_of("editors/package.json"))["contributes"]["problemMatchers"]
+    several, one = matcher[0]["pattern"], matcher[1]["pattern"][1]
+    check(re.search(several["regexp"], "b.verse:1:12 E041 unknown name") is not None, "editors/package.json: $verse reads no refusal")
+    check(re.search(one["regexp"], "2:28 E030 unexpected token") is not None, "editors/package.json: $verse-one-file reads no refusal")
+
+
+parts_of_examples()
+links()
+built_forms()
+refusals()
+refused_examples()
+short_examples()
+editors()
+for it in failures:
+    print(f"docs check failed: {it}")
+print(f"{passed} passed, {len(failures)} failed")
+sys.exit(1 if failures else 0)
