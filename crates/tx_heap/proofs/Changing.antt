@@ -1,5 +1,5 @@
 -- What undoes a change.
-use Rattle.std.proofs.Common.{◌≡◌, ◌<◌, ℕ, suc, List, [], ◌∷◌, ◌++◌, length, Option, Some, IsSome, refl, sym, ap, subst, ◌∙◌, arith}
+use Rattle.std.proofs.Common.{◌≡◌, List, [], ◌∷◌, length, Option, Some, IsSome, refl, sym, ap, subst, ◌∙◌, arith}
 use Rattle.std.proofs.lemmas.List.{length_push, take_at}
 use Rattle.verse_value.specs.Val.{Val}
 use Rattle.verse_value.specs.View.{val_of, vals_of}
@@ -11,7 +11,6 @@ use Rattle.verse_cells.specs.Changes.{InCell, IsUndone, CanUndoIn}
 use Rattle.verse_cells.specs.declared.slots.Address.{Address}
 use Rattle.verse_cells.proofs.Stored.{slot_stored, stored_back}
 use Rattle.tx_heap.specs.Undo.{back, changed, CanGoBack, UndoneBy}
-use Rattle.tx_heap.specs.declared.entries.Entry.{Entry}
 use Rattle.tx_heap.specs.declared.entries.Entry.TheVariants as entry
 
 pub set_goes : (cells after : Store) (at : Address) (old : Value) (value : Val) → after ≡ stored cells at.cell at.slot value → slot_of cells at.cell at.slot ≡ Some (val_of old) → back (entry.Slot at old) after ≡ cells

@@ -1,10 +1,10 @@
 -- The limit of the store, from the weight that is spare.
-use Rattle.std.proofs.Common.{◌≡◌, ◌≤◌, ◌<◌, ◌+◌, ◌-◌, min, ℕ, Bool, true, false, List, length, Option, Some, None, Result, Ok, Err, IfOk, IfErr, OnOk, OnErr, refl, sym, ap, subst, ◌∙◌, arith, if◌then◌else◌}
+use Rattle.std.proofs.Common.{◌≡◌, ◌≤◌, ◌+◌, ◌-◌, min, ℕ, Bool, true, false, List, Option, Some, None, Result, Ok, Err, refl, sym, ap, ◌∙◌, arith, if◌then◌else◌}
 use Rattle.std.specs.Prelude.{nat_le}
 use Rattle.std.proofs.lemmas.Bool.{le-leb, leb-true}
 use Rattle.verse_base.specs.declared.refusals.Kind.TheVariants as kind
 use Rattle.verse_value.specs.Val.{Val, vals}
-use Rattle.verse_value.specs.View.{val_of, vals_of}
+use Rattle.verse_value.specs.View.{vals_of}
 use Rattle.verse_value.specs.Sizes.{weight_of, weights}
 use Rattle.verse_value.specs.declared.values.Value.{Value}
 use Rattle.verse_value.specs.declared.runs.CellKind.{CellKind}
@@ -15,9 +15,10 @@ use Rattle.verse_write.specs.declared.writes.WriteFault.{WriteFault}
 use Rattle.verse_write.specs.declared.writes.WriteFault.TheVariants.{Memory, Fail, Fault, Stuck}
 use Rattle.verse_cells.specs.Changes.{spared, slot_written, IsWrite, InCell}
 use Rattle.verse_cells.specs.declared.slots.Change.{Change}
+use Rattle.verse_cells.specs.declared.slots.Wanted.{Wanted}
 use Rattle.verse_cells.proofs.Weights.{store_weight_stored, slot_weight, store_weight_push}
 use Rattle.tx_heap.specs.State.{new_cell, IsLight}
-use Rattle.tx_heap.specs.Outcomes.{limited, with_written, written_from, cells_written}
+use Rattle.tx_heap.specs.Outcomes.{with_written, written_from, cells_written, Lands}
 use Rattle.tx_heap.specs.Weighed.{IsWeighed}
 use Rattle.tx_heap.specs.Undo.{UndoneBy}
 
@@ -61,10 +62,14 @@ pub cells_written_spared : (cells : Store) (cell slot weight : ℕ) (path : List
 cells_written_spared cells cell slot weight path mode value w = written_spared cells cell slot weight path mode value (slot_of cells cell slot) w refl
 
 -- a write within the spare weight is one within the limit
-pub write_lands : (cells after : Store) (cell slot weight : ℕ) (path : List Val) (mode : Mode) (value : Val) (change : Change) → IsWeighed weight cells → InCell cell slot (IsWrite (16000000 - weight) path mode value change) cells after → cells_written cells cell slot path mode value ≡ Ok (after, val_of change.written.value)
-write_lands cells after cell slot weight path mode value change weighed w =
+pub write_lands : (cells after : Store) (cell slot weight : ℕ) (path : List Val) (mode : Mode) (value : Val) (wanted : Wanted) (change : Change) → IsWeighed weight cells → InCell cell slot (IsWrite (16000000 - weight) path mode value wanted change) cells after → Lands wanted (cells_written cells cell slot path mode value) after change.value
+write_lands cells after cell slot weight path mode value wanted change weighed w =
     let gives = ap (slot_written (16000000 - weight) path mode value) w.there ∙ w.goes.gives in
-    cells_written_spared cells cell slot weight path mode value weighed ∙ (ap (in_cells cells cell slot) gives ∙ ap (λ (s : Store). Ok (s, val_of change.written.value)) (sym w.cells))
+    record {
+      wrote = w.goes.wrote;
+      is = cells_written_spared cells cell slot weight path mode value weighed ∙ (ap (in_cells cells cell slot) gives ∙ ap (λ (s : Store). Ok (s, w.goes.wrote)) (sym w.cells));
+      answers = w.goes.answers;
+    }
 
 explains_same : {V W : Type 0} (o : Result V WriteFault) (p : Result W WriteFault) (fault : WriteFault) → (o ≡ Err fault → p ≡ Err fault) → Explains o fault → Explains p fault
 explains_same o p Memory f h = tt
@@ -79,8 +84,8 @@ fault_lands cells cell slot weight path mode value fault weighed h =
     h
 
 -- what undoes the write
-pub write_undone : (cells after : Store) (cell slot spare : ℕ) (path : List Val) (mode : Mode) (value : Val) (change : Change) → InCell cell slot (IsWrite spare path mode value change) cells after → InCell cell slot (UndoneBy path change.written.undo) cells after
-write_undone cells after cell slot spare path mode value change w = record {
+pub write_undone : (cells after : Store) (cell slot spare : ℕ) (path : List Val) (mode : Mode) (value : Val) (wanted : Wanted) (change : Change) → InCell cell slot (IsWrite spare path mode value wanted change) cells after → InCell cell slot (UndoneBy path change.undo) cells after
+write_undone cells after cell slot spare path mode value wanted change w = record {
   from = w.from;
   to = w.to;
   there = w.there;
@@ -122,11 +127,11 @@ spared_light : (spare : ℕ) (from to value : Val) (o : Result (Val × Val) Writ
 spared_light spare from to value (Err fault) e = cc
 spared_light spare from to value (Ok w) e = spared_within spare from w to value _ refl e
 
-pub write_reweighs : (weight : ℕ) (cells new : Store) (cell slot : ℕ) (path : List Val) (mode : Mode) (value : Val) (change : Change) → IsWeighed weight cells → InCell cell slot (IsWrite (16000000 - weight) path mode value change) cells new → Reweighs weight change.before change.after new
-write_reweighs weight cells new cell slot path mode value change weighed w =
+pub write_reweighs : (weight : ℕ) (cells new : Store) (cell slot : ℕ) (path : List Val) (mode : Mode) (value : Val) (wanted : Wanted) (change : Change) → IsWeighed weight cells → InCell cell slot (IsWrite (16000000 - weight) path mode value wanted change) cells new → Reweighs weight change.before change.after new
+write_reweighs weight cells new cell slot path mode value wanted change weighed w =
     let sum = store_weight_stored cells cell slot w.from w.to w.there in
     let part = slot_weight cells cell slot w.from w.there in
-    let spare = spared_light (16000000 - weight) w.from w.to (val_of change.written.value) (written path mode value w.from) w.goes.gives in
+    let spare = spared_light (16000000 - weight) w.from w.to w.goes.wrote (written path mode value w.from) w.goes.gives in
     let light : store_weight (stored cells cell slot w.to) ≤ 16000000 = omega (arith, sum, part, spare, weighed.sum, weighed.light) in
     reweighs weight change.before change.after cells new cell slot w.from w.to weighed w.there w.goes.before w.goes.after w.cells light
 

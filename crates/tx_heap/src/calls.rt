@@ -11,7 +11,7 @@ use std::alloc::Global;
 use verse_base::refusals::Memory;
 use verse_cells::lists::Slots;
 use verse_value::runs::CellKind;
-use verse_value::sizes::{cell_weight, weight};
+use verse_value::sizes::weight;
 use verse_value::values::{Value, copy_all};
 use verse_write::paths::Path;
 use verse_write::writes::{Mode, WriteFault};
@@ -111,8 +111,7 @@ fn may_make(copies: &CopyHeap, call: &Call) -> bool
 fn may_add(copies: &CopyHeap, kind: CellKind, slots: &[Value]) -> bool
     ensures { IsTrue result ↔ ((length (state_of copies.now).cells < 4294967295) × IsLight (with_cell (state_of copies.now).cells (new_cell kind (vals_of slots.now)))) }
 {
-    let sum = copies.weight().saturating_add(cell_weight(slots));
-    copies.len() < u32::MAX && sum <= MOST_WEIGHT
+    copies.len() < u32::MAX && copies.has_room(slots)
 }
 
 fn may_set(copies: &CopyHeap, cell: u32, slot: u32, value: &Value) -> bool

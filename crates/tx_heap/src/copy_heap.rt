@@ -8,7 +8,7 @@ use crate::heaps::Heap;
 use crate::light_list::LightList;
 use std::alloc::Global;
 use verse_base::refusals::Memory;
-use verse_cells::slots::Address;
+use verse_cells::slots::{Address, Wanted};
 use verse_value::runs::CellKind;
 use verse_value::values::Value;
 use verse_write::paths::Path;
@@ -60,16 +60,15 @@ impl Heap for CopyHeap {
         Ok(())
     }
 
-    fn write(
+    fn write_wanted(
         &mut self,
-        cell: u32,
-        slot: u32,
+        at: Address,
         path: &Path,
         mode: Mode,
         value: Value,
-    ) -> Result<Value, WriteFault> {
-        let at = Address { cell, slot };
-        self.cells.write(self.alloc, at, path, mode, value)
+        wanted: Wanted,
+    ) -> Result<Option<Value>, WriteFault> {
+        self.cells.write(self.alloc, at, path, mode, value, wanted)
     }
 
     fn get(&mut self, cell: u32, slot: u32) -> &Value {

@@ -1,15 +1,18 @@
-ghost use Rattle.std.specs.Prelude.{◌≡◌, ◌<◌, ◌≢◌, ℕ, List, [], ◌∷◌, IsSome, IfOk, IfErr, OnOk, OnErr, length, slice_get, option_map, Some, Ok};
+ghost use Rattle.std.specs.Prelude.{◌≡◌, ◌<◌, ◌≢◌, ◌↔◌, IsTrue, ℕ, List, [], ◌∷◌, IsSome, IfOk, IfErr, OnOk, OnErr, length, slice_get, option_map, Some, Ok};
 ghost use Rattle.std.specs.Borrow.{sem};
+ghost use Rattle.verse_value.specs.declared.runs.CellKind.{CellKind};
 ghost use Rattle.std.specs.Io.BufRead.{Rests};
 ghost use Rattle.verse_value.specs.View.{val_of, vals_of};
 ghost use Rattle.verse_value.specs.Store.{Cell, slot_of, stored, with_cell, store_weight};
 ghost use Rattle.verse_write.specs.Writes.{Explains};
 ghost use Rattle.tx_heap.specs.State.{State, new_cell, with_new, with_slot, marked, committed, rolled_back, IsLight};
-ghost use Rattle.tx_heap.specs.Outcomes.{cells_written};
+ghost use Rattle.tx_heap.specs.Outcomes.{cells_written, cells_after, Lands};
 ghost use Rattle.tx_heap.specs.Dues.{Raised, Joined, TakenOff, Spent};
 
 use verse_base::refusals::Memory;
+use verse_cells::slots::{Address, Wanted};
 use verse_value::runs::CellKind;
+use verse_value::sizes::cell_weight;
 use verse_value::values::Value;
 use verse_write::paths::Path;
 use verse_write::writes::{Mode, WriteFault};
@@ -49,11 +52,28 @@ pub trait Heap {
         ensures due { OnOk result (Raised 2 (dues self.old) (dues self.new)) }
         ensures same_dues { OnErr result (dues self.new ≡ dues self.old) };
 
-    /// Writes at a path in a slot, as `verse_write::writes::write` does, and answers a copy of the
-    /// value written. The cell and the slot are there.
+    /// Writes at a path in a slot, as `verse_write::writes::write` does, and hands back what is wanted
+    /// of the value written. The cell and the slot are there.
     ///
     /// The refusals are those of that call, and last `Fault(Kind::Store)`, exactly where the cells
     /// would weigh more than 16000000 in all.
+    fn write_wanted(
+        &mut self,
+        at: Address,
+        path: &Path,
+        mode: Mode,
+        value: Value,
+        wanted: Wanted,
+    ) -> Result<Option<Value>, WriteFault>
+        requires { IsSome (slot_of (state self.old).cells at.cell at.slot) }
+        ensures ok { IfOk result (Lands wanted (cells_written (state self.old).cells at.cell at.slot (vals_of path.now) mode (val_of value)) (state self.new).cells) }
+        ensures copies { (state self.new).copies ≡ (state self.old).copies }
+        ensures fault { IfErr result (Explains (cells_written (state self.old).cells at.cell at.slot (vals_of path.now) mode (val_of value))) }
+        ensures err { OnErr result (state self.new ≡ state self.old) }
+        ensures due { OnOk result (Raised 2 (dues self.old) (dues self.new)) }
+        ensures same_dues { OnErr result (dues self.new ≡ dues self.old) };
+
+    /// Writes as `write_wanted` does, and answers a copy of the value written.
     fn write(
         &mut self,
         cell: u32,
@@ -68,7 +88,39 @@ pub trait Heap {
         ensures fault { IfErr result (Explains (cells_written (state self.old).cells cell slot (vals_of path.now) mode (val_of value))) }
         ensures err { OnErr result (state self.new ≡ state self.old) }
         ensures due { OnOk result (Raised 2 (dues self.old) (dues self.new)) }
-        ensures same_dues { OnErr result (dues self.new ≡ dues self.old) };
+        ensures same_dues { OnErr result (dues self.new ≡ dues self.old) }
+    {
+        let at = Address { cell, slot };
+        match self.write_wanted(at, path, mode, value, Wanted::Copy) {
+            Ok(Some(written)) => Ok(written),
+            Ok(None) => unreachable!(),
+            Err(fault) => Err(fault),
+        }
+    }
+
+    /// Writes as `write_wanted` does, and answers nothing: no copy of the value written is made.
+    fn store(
+        &mut self,
+        cell: u32,
+        slot: u32,
+        path: &Path,
+        mode: Mode,
+        value: Value,
+    ) -> Result<(), WriteFault>
+        requires { IsSome (slot_of (state self.old).cells cell slot) }
+        ensures ok { OnOk result (cells_after (cells_written (state self.old).cells cell slot (vals_of path.now) mode (val_of value)) ≡ Some (state self.new).cells) }
+        ensures copies { (state self.new).copies ≡ (state self.old).copies }
+        ensures fault { IfErr result (Explains (cells_written (state self.old).cells cell slot (vals_of path.now) mode (val_of value))) }
+        ensures err { OnErr result (state self.new ≡ state self.old) }
+        ensures due { OnOk result (Raised 2 (dues self.old) (dues self.new)) }
+        ensures same_dues { OnErr result (dues self.new ≡ dues self.old) }
+    {
+        let at = Address { cell, slot };
+        match self.write_wanted(at, path, mode, value, Wanted::Nothing) {
+            Ok(_) => Ok(()),
+            Err(fault) => Err(fault),
+        }
+    }
 
     /// What a slot holds. The cell and the slot are there. Takes no memory.
     fn get(&mut self, cell: u32, slot: u32) -> &Value
@@ -112,6 +164,14 @@ pub trait Heap {
     fn weight(&self) -> u64
         ensures sum { result ≡ store_weight (state self.now).cells }
         ensures light { IsLight (state self.now).cells };
+
+    /// Whether a cell with these slots may be added: whether the cells then weigh at most 16000000 in
+    /// all.
+    fn has_room(&self, slots: &[Value]) -> bool
+        ensures { (kind : CellKind) → (IsTrue result ↔ IsLight (with_cell (state self.now).cells (new_cell kind (vals_of slots.now)))) }
+    {
+        self.weight().saturating_add(cell_weight(slots)) <= MOST_WEIGHT
+    }
 
     /// How many marks are open.
     fn depth(&self) -> u64

@@ -7,6 +7,4 @@ pub mod entries;
 pub mod heaps;
 pub mod light_cells;
 pub mod light_list;
-#[cfg(test)]
-mod tests;
 pub mod undo_heap;

@@ -7,7 +7,7 @@ ghost use Rattle.verse_write.specs.Writes.{Explains};
 ghost use Rattle.verse_cells.specs.Changes.{InCell};
 ghost use Rattle.verse_cells.specs.Held.{store_of, touched};
 ghost use Rattle.tx_heap.specs.State.{new_cell, IsLight};
-ghost use Rattle.tx_heap.specs.Outcomes.{cells_written};
+ghost use Rattle.tx_heap.specs.Outcomes.{cells_written, Lands};
 ghost use Rattle.tx_heap.specs.Weighed.{IsWeighed};
 ghost use Rattle.tx_heap.specs.Undo.{back, CanGoBack, Undoable, Undoing, UndoneBy, rewound};
 ghost use Rattle.tx_heap.specs.Rests.{RestsTouched};
@@ -19,12 +19,12 @@ use std::alloc::Global;
 use std::marker::Model;
 use verse_base::refusals::Memory;
 use verse_cells::cells::Cells;
-use verse_cells::slots::Address;
+use verse_cells::slots::{Address, Change, Wanted};
 use verse_value::runs::CellKind;
 use verse_value::sizes::{cell_weight, weight};
 use verse_value::values::Value;
 use verse_write::paths::Path;
-use verse_write::writes::{Mode, WriteFault, Written};
+use verse_write::writes::{Mode, WriteFault};
 
 /// Counted cells with the sum of their weights, which is at most 16000000.
 #[derive(Drop)]
@@ -127,8 +127,8 @@ impl LightCells {
         old
     }
 
-    /// Writes at a path in a slot, where the sum stays within its limit, and hands out what undoes
-    /// it too.
+    /// Writes at a path in a slot, where the sum stays within its limit, and hands back what is wanted
+    /// of the value written, and what undoes the write.
     pub fn write(
         &mut self,
         alloc: Global,
@@ -136,17 +136,20 @@ impl LightCells {
         path: &Path,
         mode: Mode,
         value: Value,
-    ) -> Result<Written, WriteFault>
+        wanted: Wanted,
+    ) -> Result<Change, WriteFault>
         requires { IsSome (slot_of (store_of self.old) at.cell at.slot) }
-        ensures ok { IfOk result (λ w. cells_written (store_of self.old) at.cell at.slot (vals_of path.now) mode (val_of value) ≡ Ok (store_of self.new, val_of w.value)) }
+        ensures ok { IfOk result (λ w. Lands wanted (cells_written (store_of self.old) at.cell at.slot (vals_of path.now) mode (val_of value)) (store_of self.new) w.value) }
         ensures undo { IfOk result (λ w. InCell at.cell at.slot (UndoneBy (vals_of path.now) w.undo) (store_of self.old) (store_of self.new)) }
         ensures fault { IfErr result (Explains (cells_written (store_of self.old) at.cell at.slot (vals_of path.now) mode (val_of value))) }
         ensures same { OnErr result (store_of self.new ≡ store_of self.old) }
     {
         let spare = MOST_WEIGHT - self.weight;
-        let change = self.cells.write(alloc, at, path, mode, value, spare)?;
+        let change = self
+            .cells
+            .write(alloc, at, path, mode, value, spare, wanted)?;
         self.weight = reweighed(self.weight, change.before, change.after);
-        Ok(change.written)
+        Ok(change)
     }
 
     /// Undoes the newest entries until as many are left as stood at the mark. Takes no memory.

@@ -5,14 +5,14 @@ ghost use Rattle.verse_value.specs.Store.{slot_of, stored, with_cell, store_weig
 ghost use Rattle.verse_write.specs.Writes.{Explains};
 ghost use Rattle.verse_cells.specs.View.{cells_of};
 ghost use Rattle.tx_heap.specs.State.{new_cell, IsLight};
-ghost use Rattle.tx_heap.specs.Outcomes.{cells_written};
+ghost use Rattle.tx_heap.specs.Outcomes.{cells_written, Lands};
 
 use crate::heaps::MOST_WEIGHT;
 use std::alloc::Global;
 use std::marker::Model;
 use verse_base::refusals::Memory;
 use verse_cells::lists::Slots;
-use verse_cells::slots::{Address, Cell, copy_cells, find_slot, put, slot_at, write_at};
+use verse_cells::slots::{Address, Cell, Wanted, copy_cells, find_slot, put, slot_at, write_at};
 use verse_value::runs::CellKind;
 use verse_value::sizes::{cell_weight, weight};
 use verse_value::values::Value;
@@ -121,7 +121,8 @@ impl LightList {
         self.weight = reweighed(self.weight, weight(&old), after);
     }
 
-    /// Writes at a path in a slot, where the sum stays within its limit.
+    /// Writes at a path in a slot, where the sum stays within its limit, and hands back what is wanted
+    /// of the value written.
     pub fn write(
         &mut self,
         alloc: Global,
@@ -129,9 +130,10 @@ impl LightList {
         path: &Path,
         mode: Mode,
         value: Value,
-    ) -> Result<Value, WriteFault>
+        wanted: Wanted,
+    ) -> Result<Option<Value>, WriteFault>
         requires { IsSome (slot_of (cells_of self.old) at.cell at.slot) }
-        ensures ok { IfOk result (λ v. cells_written (cells_of self.old) at.cell at.slot (vals_of path.now) mode (val_of value) ≡ Ok (cells_of self.new, val_of v)) }
+        ensures ok { IfOk result (Lands wanted (cells_written (cells_of self.old) at.cell at.slot (vals_of path.now) mode (val_of value)) (cells_of self.new)) }
         ensures fault { IfErr result (Explains (cells_written (cells_of self.old) at.cell at.slot (vals_of path.now) mode (val_of value))) }
         ensures same { OnErr result (cells_of self.new ≡ cells_of self.old) }
     {
@@ -144,9 +146,10 @@ impl LightList {
             mode,
             value,
             spare,
+            wanted,
         )?;
         self.weight = reweighed(self.weight, change.before, change.after);
-        Ok(change.written.value)
+        Ok(change.value)
     }
 
     /// Cells equal to these.

@@ -6,11 +6,11 @@ use crate::light_cells::LightCells;
 use std::alloc::Global;
 use std::marker::Model;
 use verse_base::refusals::Memory;
-use verse_cells::slots::Address;
+use verse_cells::slots::{Address, Change, Wanted};
 use verse_value::runs::CellKind;
 use verse_value::values::Value;
 use verse_write::paths::Path;
-use verse_write::writes::{Mode, WriteFault, Written};
+use verse_write::writes::{Mode, WriteFault};
 
 /// A heap that keeps what undoes each change since its oldest open mark.
 #[derive(Drop)]
@@ -84,22 +84,26 @@ impl Heap for UndoHeap {
         Ok(())
     }
 
-    fn write(
+    fn write_wanted(
         &mut self,
-        cell: u32,
-        slot: u32,
+        at: Address,
         path: &Path,
         mode: Mode,
         value: Value,
-    ) -> Result<Value, WriteFault> {
-        let at = Address { cell, slot };
+        wanted: Wanted,
+    ) -> Result<Option<Value>, WriteFault> {
         if self.marks.is_empty() {
-            let written = self.cells.write(self.alloc, at, path, mode, value)?;
-            return Ok(written.value);
+            let change = self.cells.write(self.alloc, at, path, mode, value, wanted)?;
+            return Ok(change.value);
         }
         let kept = path.copy(self.alloc)?;
         make_room(&mut self.log)?;
-        let Written { value, undo } = self.cells.write(self.alloc, at, path, mode, value)?;
+        let Change {
+            value,
+            undo,
+            before: _,
+            after: _,
+        } = self.cells.write(self.alloc, at, path, mode, value, wanted)?;
         note(&mut self.log, Entry::Part(at, kept, undo));
         Ok(value)
     }

@@ -1,3 +1,4 @@
 pub mod Weights
 pub mod Places
 pub mod Stored
+mod Wanting

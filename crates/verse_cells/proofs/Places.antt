@@ -1,5 +1,5 @@
 -- Changes of one slot, from a list of values to a list of cells.
-use Rattle.std.proofs.Common.{◌≡◌, false, true, ◌<◌, ℕ, zero, suc, List, [], ◌∷◌, length, map, get_or, set, Option, Some, None, IsSome, Result, Ok, Err, IfOk, IfErr, OnErr, refl, ap, sym, subst, arith, ◌∙◌}
+use Rattle.std.proofs.Common.{◌≡◌, false, true, ◌<◌, ℕ, zero, suc, List, [], ◌∷◌, length, get_or, set, Option, Some, IsSome, Result, Ok, Err, IfOk, OnErr, refl, ap, sym, arith, ◌∙◌}
 use Rattle.std.specs.List.{slice_get}
 use Rattle.std.specs.Option.{option_map, option_and_then}
 use Rattle.std.proofs.lemmas.List.{map-set}

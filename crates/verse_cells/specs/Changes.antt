@@ -1,5 +1,5 @@
 -- Changes of one slot.
-use Rattle.std.specs.Prelude.{◌≡◌, ℕ, ◌+◌, min, nat_le, List, take, length, ◌-◌, Option, Some, None, Result, Ok, Err, if◌then◌else◌, slice_get, slice_set}
+use Rattle.std.specs.Prelude.{◌≡◌, ℕ, ◌+◌, min, nat_le, List, take, length, ◌-◌, Option, Some, None, option_map, Result, Ok, Err, if◌then◌else◌, slice_get, slice_set}
 use Rattle.verse_base.specs.declared.refusals.Kind.TheVariants as kind
 use Rattle.verse_value.specs.Val.{Val}
 use Rattle.verse_value.specs.View.{val_of}
@@ -10,7 +10,10 @@ use Rattle.verse_value.specs.declared.modes.Mode.{Mode}
 use Rattle.verse_write.specs.declared.writes.Undo.{Undo}
 use Rattle.verse_write.specs.declared.writes.WriteFault.{WriteFault}
 use Rattle.verse_write.specs.declared.writes.WriteFault.TheVariants.{Fault, Stuck}
+use Rattle.verse_value.specs.declared.values.Value.{Value}
 use Rattle.verse_cells.specs.declared.slots.Change.{Change}
+use Rattle.verse_cells.specs.declared.slots.Wanted.{Wanted}
+use Rattle.verse_cells.specs.declared.slots.Wanted.TheVariants.{Copy, Nothing}
 
 -- a slot may grow by no more than the weight that is spare
 abbrev pub spared : ℕ → Val → Result (Val × Val) WriteFault → Result (Val × Val) WriteFault
@@ -22,11 +25,18 @@ abbrev pub slot_written : ℕ → List Val → Mode → Val → Option Val → R
 slot_written spare path mode value None = Err Stuck
 slot_written spare path mode value (Some from) = spared spare from (written path mode value from)
 
+-- what is handed back of the value written: a copy, or nothing
+abbrev pub IsWanted : Wanted → Option Value → Val → Type 0
+IsWanted Copy copy wrote = option_map val_of copy ≡ Some wrote
+IsWanted Nothing copy wrote = copy ≡ None
+
 -- what a write hands out where the slot went from one value to another
-pub record IsWrite (spare : ℕ) (path : List Val) (mode : Mode) (value : Val) (change : Change) (from to : Val) : Type 0 where
-  pub gives : spared spare from (written path mode value from) ≡ Ok (to, val_of change.written.value)
-  pub can_undo : CanUndo path change.written.undo to
-  pub undo : undone path change.written.undo to ≡ from
+pub record IsWrite (spare : ℕ) (path : List Val) (mode : Mode) (value : Val) (wanted : Wanted) (change : Change) (from to : Val) : Type 0 where
+  pub wrote : Val
+  pub gives : spared spare from (written path mode value from) ≡ Ok (to, wrote)
+  pub answers : IsWanted wanted change.value wrote
+  pub can_undo : CanUndo path change.undo to
+  pub undo : undone path change.undo to ≡ from
   pub before : change.before ≡ min (weight_of from) 18446744073709551615
   pub after : change.after ≡ min (weight_of to) 18446744073709551615
 

@@ -10,7 +10,7 @@ ghost use Rattle.verse_cells.specs.Changes.{slot_written, IsWrite, IsUndone, InC
 ghost use Rattle.verse_cells.specs.Rests.{RestsTouched};
 
 use crate::lists::Slots;
-use crate::slots::{self, Address, Cell, Change, slot_at, write_at};
+use crate::slots::{self, Address, Cell, Change, Wanted, slot_at, write_at};
 use std::alloc::Global;
 use std::marker::Model;
 use verse_base::refusals::Memory;
@@ -109,9 +109,10 @@ impl Cells {
         mode: Mode,
         value: Value,
         spare: u64,
+        wanted: Wanted,
     ) -> Result<Change, WriteFault>
         requires { IsSome (slot_of (store_of self.old) at.cell at.slot) }
-        ensures ok { IfOk result (λ c. InCell at.cell at.slot (IsWrite spare (vals_of path.now) mode (val_of value) c) (store_of self.old) (store_of self.new)) }
+        ensures ok { IfOk result (λ c. InCell at.cell at.slot (IsWrite spare (vals_of path.now) mode (val_of value) wanted c) (store_of self.old) (store_of self.new)) }
         ensures fault { IfErr result (Explains (slot_written spare (vals_of path.now) mode (val_of value) (slot_of (store_of self.old) at.cell at.slot))) }
         ensures same { OnErr result (store_of self.new ≡ store_of self.old) }
         ensures count { self.new.accesses ≡ counted self.old.accesses }
@@ -125,6 +126,7 @@ impl Cells {
             mode,
             value,
             spare,
+            wanted,
         )
     }
 

@@ -4,5 +4,3 @@
 pub mod cells;
 pub mod lists;
 pub mod slots;
-#[cfg(test)]
-mod tests;

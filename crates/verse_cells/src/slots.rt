@@ -1,9 +1,10 @@
-ghost use Rattle.std.specs.Prelude.{◌≡◌, ◌<◌, length, IsSome, None, Some, MatchOption, IfOk, IfErr, OnErr, slice_get, slice_set};
+ghost use Rattle.std.specs.Prelude.{◌≡◌, ◌<◌, Ok, length, IsSome, None, Some, MatchOption, IfOk, IfErr, OnErr, slice_get, slice_set};
 ghost use Rattle.verse_value.specs.View.{val_of, vals_of};
 ghost use Rattle.verse_value.specs.Store.{slot_of, stored};
-ghost use Rattle.verse_write.specs.Writes.{written, Explains};
+ghost use Rattle.verse_value.specs.Val.{Val};
+ghost use Rattle.verse_write.specs.Writes.{written, undone, CanUndo, Explains};
 ghost use Rattle.verse_cells.specs.View.{cells_of};
-ghost use Rattle.verse_cells.specs.Changes.{spared, slot_written, IsWrite, IsUndone, InSlot, InCell, CanUndoIn};
+ghost use Rattle.verse_cells.specs.Changes.{IsWanted, spared, slot_written, IsWrite, IsUndone, InSlot, InCell, CanUndoIn};
 
 use crate::lists::Slots;
 use std::alloc::Global;
@@ -13,7 +14,7 @@ use verse_value::runs::CellKind;
 use verse_value::sizes::weight;
 use verse_value::values::{Value, copy_all};
 use verse_write::paths::Path;
-use verse_write::writes::{self, Mode, Undo, WriteFault, Written, write_logged};
+use verse_write::writes::{self, Mode, Undo, WriteFault, Written, store_logged, write_logged};
 
 /// A cell of a store: what it is, and what its slots hold.
 #[derive(Drop)]
@@ -29,11 +30,20 @@ pub struct Address {
     pub slot: u32,
 }
 
+/// What a write hands back of the value written.
+#[derive(Clone, Copy, Debug, PartialEq, Eq)]
+pub enum Wanted {
+    Copy,
+    Nothing,
+}
+
 /// What a write in a slot came to.
 #[derive(Drop)]
 pub struct Change {
-    /// A copy of the value written, and what undoes the write.
-    pub written: Written,
+    /// A copy of the value written, where one is wanted.
+    pub value: Option<Value>,
+    /// What undoes the write at the same path.
+    pub undo: Undo,
     /// What the slot weighed before the write.
     pub before: u64,
     /// What the slot weighs after it.
@@ -76,8 +86,8 @@ fn put_part(slots: &mut Slots<Value>, slot: u32, value: Value) -> Value
     mem::replace(slots.part_mut(slot as usize), value)
 }
 
-/// Writes at a path in a slot, as `verse_write::writes::write_logged` does. The cell and the slot
-/// are there.
+/// Writes at a path in a slot, as `verse_write::writes::write_logged` does, or, where no copy of the
+/// value written is wanted, as `store_logged`. The cell and the slot are there.
 ///
 /// The refusals are those of that call, and then `Fault(Kind::Store)` where the slot would weigh
 /// more than `spare` above what it weighs. After each refusal the cells are unchanged.
@@ -89,14 +99,15 @@ pub fn write_at(
     mode: Mode,
     value: Value,
     spare: u64,
+    wanted: Wanted,
 ) -> Result<Change, WriteFault>
     requires { IsSome (slot_of (cells_of cells.old) at.cell at.slot) }
-    ensures ok { IfOk result (λ c. InCell at.cell at.slot (IsWrite spare (vals_of path.now) mode (val_of value) c) (cells_of cells.old) (cells_of cells.new)) }
+    ensures ok { IfOk result (λ c. InCell at.cell at.slot (IsWrite spare (vals_of path.now) mode (val_of value) wanted c) (cells_of cells.old) (cells_of cells.new)) }
     ensures fault { IfErr result (Explains (slot_written spare (vals_of path.now) mode (val_of value) (slot_of (cells_of cells.old) at.cell at.slot))) }
     ensures same { OnErr result (cells_of cells.new ≡ cells_of cells.old) }
 {
     let slots = &mut cells[at.cell as usize].slots;
-    write_part(alloc, slots, at.slot, path, mode, value, spare)
+    write_part(alloc, slots, at.slot, path, mode, value, spare, wanted)
 }
 
 fn write_part(
@@ -107,9 +118,10 @@ fn write_part(
     mode: Mode,
     value: Value,
     spare: u64,
+    wanted: Wanted,
 ) -> Result<Change, WriteFault>
     requires { slot < length slots.old }
-    ensures ok { IfOk result (λ c. InSlot slot (IsWrite spare (vals_of path.now) mode (val_of value) c) (vals_of slots.old) (vals_of slots.new)) }
+    ensures ok { IfOk result (λ c. InSlot slot (IsWrite spare (vals_of path.now) mode (val_of value) wanted c) (vals_of slots.old) (vals_of slots.new)) }
     ensures fault { IfErr result (Explains (slot_written spare (vals_of path.now) mode (val_of value) (slice_get (vals_of slots.old) slot))) }
     ensures same { OnErr result (vals_of slots.new ≡ vals_of slots.old) }
 {
@@ -120,6 +132,7 @@ fn write_part(
         mode,
         value,
         spare,
+        wanted,
     )
 }
 
@@ -130,24 +143,52 @@ fn write_value(
     mode: Mode,
     value: Value,
     spare: u64,
+    wanted: Wanted,
 ) -> Result<Change, WriteFault>
-    ensures ok { IfOk result (λ c. IsWrite spare (vals_of path.now) mode (val_of value) c (val_of slot.old) (val_of slot.new)) }
+    ensures ok { IfOk result (λ c. IsWrite spare (vals_of path.now) mode (val_of value) wanted c (val_of slot.old) (val_of slot.new)) }
     ensures fault { IfErr result (Explains (spared spare (val_of slot.old) (written (vals_of path.now) mode (val_of value) (val_of slot.old)))) }
     ensures same { OnErr result (val_of slot.new ≡ val_of slot.old) }
 {
     let before = weight(slot);
-    let written = write_logged(alloc, slot, path, mode, value)?;
+    let (value, undo) = write_wanted(alloc, slot, path, mode, value, wanted)?;
     let after = weight(slot);
     if after <= before.saturating_add(spare) {
         return Ok(Change {
-            written,
+            value,
+            undo,
             before,
             after,
         });
     }
-    let Written { value: _, undo } = written;
     writes::take_back(slot, path, undo);
     Err(WriteFault::Fault(Kind::Store))
+}
+
+/// Writes, with a copy of the value written where one is wanted.
+fn write_wanted(
+    alloc: Global,
+    slot: &mut Value,
+    path: &Path,
+    mode: Mode,
+    value: Value,
+    wanted: Wanted,
+) -> Result<(Option<Value>, Undo), WriteFault>
+    ensures ok { IfOk result (λ r. (v : Val) × (written (vals_of path.now) mode (val_of value) (val_of slot.old) ≡ Ok (val_of slot.new, v)) × IsWanted wanted r.0 v) }
+    ensures fault { IfErr result (Explains (written (vals_of path.now) mode (val_of value) (val_of slot.old))) }
+    ensures same { OnErr result (val_of slot.new ≡ val_of slot.old) }
+    ensures can_undo { IfOk result (λ r. CanUndo (vals_of path.now) r.1 (val_of slot.new)) }
+    ensures undo { IfOk result (λ r. undone (vals_of path.now) r.1 (val_of slot.new) ≡ val_of slot.old) }
+{
+    match wanted {
+        Wanted::Copy => {
+            let Written { value, undo } = write_logged(alloc, slot, path, mode, value)?;
+            Ok((Some(value), undo))
+        }
+        Wanted::Nothing => {
+            let undo = store_logged(alloc, slot, path, mode, value)?;
+            Ok((None, undo))
+        }
+    }
 }
 
 /// Undoes a write at the path in the slot where it was made. Takes no memory.

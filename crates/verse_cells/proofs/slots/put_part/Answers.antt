@@ -1,4 +1,4 @@
-use Rattle.std.proofs.Common.{ap, ◌∙◌, rules}
+use Rattle.std.proofs.Common.{rules}
 use Rattle.std.proofs.lemmas.List.{map-set}
 use Rattle.verse_cells.proofs.slots.put_part.Goals as goal
 

@@ -1,4 +1,4 @@
-use Rattle.std.proofs.Common.{◌≡◌, Option, IfErr, sym, subst}
+use Rattle.std.proofs.Common.{Option, IfErr, sym, subst}
 use Rattle.verse_value.specs.Val.{Val}
 use Rattle.verse_value.specs.View.{val_of, vals_of}
 use Rattle.verse_write.specs.Writes.{Explains}
@@ -10,7 +10,7 @@ pub returns-clause-ok : goal.returns-clause-ok
 returns-clause-ok c =
     let there = cell_there c.args.cells.now c.args.at.cell c.args.at.slot c.requires in
     if_ok c.write_part.result
-    (λ ch h. in_cell c.args.at.cell c.args.at.slot (IsWrite c.args.spare (vals_of c.args.path.now) c.args.mode (val_of c.args.value) ch) c.args.cells.now c.index-cells-at.result c.write_part.new.slots there h)
+    (λ ch h. in_cell c.args.at.cell c.args.at.slot (IsWrite c.args.spare (vals_of c.args.path.now) c.args.mode (val_of c.args.value) c.args.wanted ch) c.args.cells.now c.index-cells-at.result c.write_part.new.slots there h)
     c.write_part.ensures.ok
 
 pub returns-clause-fault : goal.returns-clause-fault

@@ -1,4 +1,4 @@
-use Rattle.std.proofs.Common.{◌≡◌, Option, IfErr, sym, subst}
+use Rattle.std.proofs.Common.{Option, IfErr, sym, subst}
 use Rattle.verse_value.specs.Val.{Val}
 use Rattle.verse_value.specs.View.{val_of, vals_of}
 use Rattle.verse_write.specs.Writes.{Explains}
@@ -9,7 +9,7 @@ use Rattle.verse_cells.proofs.slots.write_part.Goals as goal
 pub returns-clause-ok : goal.returns-clause-ok
 returns-clause-ok c =
     if_ok c.write_value.result
-    (λ ch h. in_slot c.args.slot (IsWrite c.args.spare (vals_of c.args.path.now) c.args.mode (val_of c.args.value) ch) c.args.slots.now c.part_mut.result.now c.write_value.new.slot c.part_mut.ensures.value h)
+    (λ ch h. in_slot c.args.slot (IsWrite c.args.spare (vals_of c.args.path.now) c.args.mode (val_of c.args.value) c.args.wanted ch) c.args.slots.now c.part_mut.result.now c.write_value.new.slot c.part_mut.ensures.value h)
     c.write_value.ensures.ok
 
 pub returns-clause-fault : goal.returns-clause-fault

@@ -1,4 +1,4 @@
-use Rattle.std.proofs.Common.{◌≡◌, ℕ, List, refl, sym, subst, arith, rules}
+use Rattle.std.proofs.Common.{◌≡◌, List, refl, sym, subst, arith, rules}
 use Rattle.std.proofs.lemmas.List.{map_push}
 use Rattle.verse_value.specs.Store.{with_cell}
 use Rattle.verse_value.specs.View.{vals_of}

@@ -1,4 +1,4 @@
-use Rattle.std.proofs.Common.{◌≡◌, ℕ, List, length, drop, sym, subst, ◌∙◌, rules}
+use Rattle.std.proofs.Common.{◌≡◌, List, length, drop, sym, subst, ◌∙◌, rules}
 use Rattle.std.proofs.lemmas.List.{take_at}
 use Rattle.verse_value.specs.Store.{stored}
 use Rattle.verse_value.specs.View.{val_of}
