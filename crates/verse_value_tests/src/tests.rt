@@ -604,12 +604,15 @@ fn parts_are_lists(rt: HostRuntime) -> Result<(), Fail> {
 #[test]
 fn paths_are_lists(rt: HostRuntime) -> Result<(), Fail> {
     let alloc = rt.alloc();
-    let one = path_to(alloc, Value::Int(1))?;
-    assert_eq!(rt; one.len(), 1);
-    let [index] = one.as_slice() else {
-        return Err(Fail::from("one index"));
+    let mut path = path_to(alloc, Value::Int(1))?;
+    assert_eq!(rt; path.len(), 1);
+    path.push(Value::Int(2))?;
+    path.reverse();
+    let [outer, inner] = path.as_slice() else {
+        return Err(Fail::from("two indices"));
     };
-    assert!(rt; equal(index, &Value::Int(1)));
+    assert!(rt; equal(outer, &Value::Int(2)));
+    assert!(rt; equal(inner, &Value::Int(1)));
     Ok(())
 }
 

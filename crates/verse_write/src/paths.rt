@@ -1,4 +1,4 @@
-ghost use Rattle.std.specs.Prelude.{◌≡◌, [], ◌∷◌, ◌++◌, length, IfOk, OnOk, OnErr};
+ghost use Rattle.std.specs.Prelude.{◌≡◌, [], ◌∷◌, ◌++◌, length, reverse, IfOk, OnOk, OnErr};
 ghost use Rattle.verse_value.specs.View.{vals_of};
 
 use smallvec::SmallVec;
@@ -66,6 +66,14 @@ impl Path {
     {
         self.indices.push(index)?;
         Ok(())
+    }
+
+    /// Turns the indices round: those that were taken off a stack stand the innermost first. Takes no
+    /// memory.
+    pub fn reverse(&mut self)
+        ensures { self.new ≡ reverse self.old }
+    {
+        self.indices.as_mut_slice().reverse();
     }
 
     /// A path of equal indices.
