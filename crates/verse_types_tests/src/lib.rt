@@ -1,0 +1,6 @@
+//! The tests of types.
+#![tactic(auto)]
+
+pub mod copying;
+#[cfg(test)]
+mod tests;
