@@ -10,9 +10,9 @@ use Rattle.verse_tree.specs.declared.exprs.IfParts.{IfParts, out-IfParts}
 use Rattle.verse_tree.specs.declared.exprs.Applied.{Applied, out-Applied}
 use Rattle.verse_tree.specs.declared.exprs.ForParts.{ForParts, out-ForParts}
 use Rattle.verse_tree.specs.declared.exprs.Cases.{Cases, out-Cases}
-use Rattle.verse_tree.specs.declared.exprs.Hole.{Hole}
-use Rattle.verse_tree.specs.declared.exprs.Pair.{Pair}
-use Rattle.verse_tree.specs.declared.exprs.Given.{Given}
+use Rattle.verse_tree.specs.declared.exprs.Hole.{Hole, out-Hole}
+use Rattle.verse_tree.specs.declared.exprs.Pair.{Pair, out-Pair}
+use Rattle.verse_tree.specs.declared.exprs.Given.{Given, out-Given}
 use Rattle.verse_tree.specs.declared.exprs.Expr.{Expr}
 use Rattle.verse_tree.specs.declared.exprs.Expr.{the_lemmas}
 use Rattle.verse_tree.specs.declared.types.MapTy as maps
@@ -38,13 +38,13 @@ for_parts x = search (rules, the_lemmas)
 pub cases_parts : (x : Cases) → cases_of x ≡ (tree_of (out-Cases x).subject, map tree_of (out-Cases x).arms)
 cases_parts x = search (rules, the_lemmas)
 
-pub hole_parts : (x : Hole) → hole_of x ≡ (tree_of x.value, x.behind)
+pub hole_parts : (x : Hole) → hole_of x ≡ (tree_of (out-Hole x).value, (out-Hole x).behind)
 hole_parts x = search (rules, the_lemmas)
 
-pub pair_parts : (x : Pair) → pair_of x ≡ (tree_of x.key, tree_of x.value)
+pub pair_parts : (x : Pair) → pair_of x ≡ (tree_of (out-Pair x).key, tree_of (out-Pair x).value)
 pair_parts x = search (rules, the_lemmas)
 
-pub given_parts : (x : Given) → given_of x ≡ (x.name, tree_of x.value)
+pub given_parts : (x : Given) → given_of x ≡ ((out-Given x).name, tree_of (out-Given x).value)
 given_parts x = search (rules, the_lemmas)
 
 pub expr_parts : (x : Expr) → tree_of x ≡ tree x.node x.place (shape_of x.form)

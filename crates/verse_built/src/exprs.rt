@@ -163,11 +163,19 @@ fn in_holes(all: &[Hole]) -> Option<Place>
     ensures { result ≡ first_unbuilt (holes_order (holes (map hole_of all.now))) }
 {
     for hole in all {
-        if let Some(place) = in_expr(&hole.value) {
+        if let Some(place) = in_hole(hole) {
             return Some(place);
         }
     }
     None
+}
+
+#[cycle(exprs)]
+#[tactic(auto, using(crate::proofs::Views::hole_parts))]
+fn in_hole(hole: &Hole) -> Option<Place>
+    ensures { result ≡ first_unbuilt (post_order (hole_of hole.now).0) }
+{
+    in_expr(hole.value.get())
 }
 
 #[cycle(exprs)]
@@ -187,9 +195,9 @@ fn in_pairs(all: &[Pair]) -> Option<Place>
 fn in_pair(pair: &Pair) -> Option<Place>
     ensures { result ≡ first_unbuilt (post_order (pair_of pair.now).0 ++ post_order (pair_of pair.now).1) }
 {
-    match in_expr(&pair.key) {
+    match in_expr(pair.key.get()) {
         Some(place) => Some(place),
-        None => in_expr(&pair.value),
+        None => in_expr(pair.value.get()),
     }
 }
 
@@ -199,11 +207,19 @@ fn in_values(values: &[Given]) -> Option<Place>
     ensures { result ≡ first_unbuilt (givens_order (givens (map given_of values.now))) }
 {
     for given in values {
-        if let Some(place) = in_expr(&given.value) {
+        if let Some(place) = in_value(given) {
             return Some(place);
         }
     }
     None
+}
+
+#[cycle(exprs)]
+#[tactic(auto, using(crate::proofs::Views::given_parts))]
+fn in_value(given: &Given) -> Option<Place>
+    ensures { result ≡ first_unbuilt (post_order (given_of given.now).1) }
+{
+    in_expr(given.value.get())
 }
 
 #[cycle(exprs)]

@@ -123,7 +123,7 @@ pub(crate) fn is_built_fun(fun: &Fun) -> bool
         && no_params(fun.params.as_slice())
         && no_specs(fun.effects.as_slice())
         && is_void(&fun.result)
-        && is_block(&fun.body)
+        && is_block(fun.body.get())
 }
 
 /// Whether it is a single item.

@@ -11,6 +11,7 @@ ghost use Rattle.verse_built.specs.Built.{first_unbuilt};
 use crate::exprs::in_expr;
 use crate::forms::{is_built_fun, is_one};
 use crate::types::in_type;
+use sqlite_items::Boxed;
 use verse_base::places::Place;
 use verse_tree::exprs::Expr;
 use verse_tree::items::{Field, Fun, Item, Member, Param};
@@ -82,7 +83,7 @@ fn in_fun(fun: &Fun) -> Option<Place>
     }
     match in_type(&fun.result) {
         Some(place) => Some(place),
-        None => in_expr(&fun.body),
+        None => in_expr(fun.body.get()),
     }
 }
 
@@ -140,11 +141,11 @@ fn in_field(field: &Field) -> Option<Place>
     }
 }
 
-fn in_default(default: &Option<Expr>) -> Option<Place>
+fn in_default(default: &Option<Boxed<Expr>>) -> Option<Place>
     ensures { result ≡ first_unbuilt (default_order (option_map tree_of default.now)) }
 {
     match default {
-        Some(expr) => in_expr(expr),
+        Some(expr) => in_expr(expr.get()),
         None => None,
     }
 }

@@ -19,7 +19,7 @@ pub fn printed(alloc: Global, items: &[Item]) -> Result<Vec<Text>, Memory>
     let mut texts = Vec::new(alloc);
     for item in items {
         if let Item::Fun(fun) = item {
-            body(alloc, &fun.body, &mut texts)?;
+            body(alloc, fun.body.get(), &mut texts)?;
         }
     }
     Ok(texts)

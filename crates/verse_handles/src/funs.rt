@@ -165,7 +165,7 @@ impl FunTree {
                 params: params.into_items(),
                 effects,
                 result: ty.into_ty(),
-                body: body.into_expr(),
+                body: body.into_boxed(),
             },
         }
     }

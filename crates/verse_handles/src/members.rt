@@ -9,7 +9,7 @@ ghost use Rattle.verse_tree.specs.ItemView.{spec_of, fun_of, member_of};
 use crate::funs::{FunTree, Head};
 use crate::trees::Tree;
 use crate::types::Written;
-use sqlite_items::Items;
+use sqlite_items::{Boxed, Items};
 use std::alloc::{AllocError, Global};
 use std::marker::Model;
 use verse_tree::exprs::Expr;
@@ -100,17 +100,17 @@ pub fn member_field(
             name,
             specs,
             ty: ty.into_ty(),
-            default: default_expr(default),
+            default: default_boxed(default),
         }),
     }
 }
 
-fn default_expr(default: Option<Tree>) -> Option<Expr>
+fn default_boxed(default: Option<Tree>) -> Option<Boxed<Expr>>
     ensures { result ≡ default }
 {
     match default {
         None => None,
-        Some(value) => Some(value.into_expr()),
+        Some(value) => Some(value.into_boxed()),
     }
 }
 

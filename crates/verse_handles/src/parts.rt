@@ -161,7 +161,7 @@ fn hole(value: Tree, behind: Text) -> Hole
     ensures { hole_of result ≡ (tree_of value, behind) }
 {
     Hole {
-        value: value.into_expr(),
+        value: value.into_boxed(),
         behind,
     }
 }
@@ -170,8 +170,8 @@ fn pair(key: Tree, value: Tree) -> Pair
     ensures { pair_of result ≡ (tree_of key, tree_of value) }
 {
     Pair {
-        key: key.into_expr(),
-        value: value.into_expr(),
+        key: key.into_boxed(),
+        value: value.into_boxed(),
     }
 }
 
@@ -180,6 +180,6 @@ fn given(name: Name, value: Tree) -> Given
 {
     Given {
         name,
-        value: value.into_expr(),
+        value: value.into_boxed(),
     }
 }

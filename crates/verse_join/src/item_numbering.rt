@@ -10,6 +10,7 @@ ghost use Rattle.verse_tree.specs.Numbering.{list_nodes, list_numbered, default_
 use crate::copies::{copied, copied_names, copied_option, copied_path, copied_specs};
 use crate::numbering::number;
 use crate::type_numbering::number_type;
+use sqlite_items::Boxed;
 use std::alloc::Global;
 use verse_base::places::Place;
 use verse_base::refusals::Memory;
@@ -158,7 +159,7 @@ fn number_field(alloc: Global, field: &Field, next: u32) -> Result<(MemberTree, 
 
 fn number_default(
     alloc: Global,
-    default: &Option<Expr>,
+    default: &Option<Boxed<Expr>>,
     next: u32,
 ) -> Result<(Option<Tree>, u32), Memory>
     requires fits { next + default_nodes (option_map tree_of default.now) ≤ 4294967295 }
@@ -168,7 +169,7 @@ fn number_default(
     match default {
         None => Ok((None, next)),
         Some(value) => {
-            let (value, behind) = number(alloc, value, next)?;
+            let (value, behind) = number(alloc, value.get(), next)?;
             Ok((Some(value), behind))
         }
     }
@@ -181,7 +182,7 @@ fn number_fun(alloc: Global, fun: &Fun, next: u32) -> Result<(FunTree, u32), Mem
 {
     let (params, first) = number_params(alloc, fun.params.as_slice(), next)?;
     let (ty, second) = number_type(alloc, &fun.result, first)?;
-    let (body, node) = number(alloc, &fun.body, second)?;
+    let (body, node) = number(alloc, fun.body.get(), second)?;
     let effects = copied_specs(alloc, fun.effects.as_slice())?;
     let head = head(alloc, node, fun.place, &fun.name, fun.specs.as_slice())?;
     Ok((FunTree::new(head, params, effects, ty, body), node + 1))

@@ -441,7 +441,7 @@ fn number_holes(
     let mut at = next;
     'parts: for part in parts {
         let behind = copied(alloc, &part.behind)?;
-        let (value, after) = number(alloc, &part.value, at)?;
+        let (value, after) = number(alloc, part.value.get(), at)?;
         done.push(value, behind)?;
         at = after;
     }
@@ -464,8 +464,8 @@ fn number_pairs(
     let mut done = Pairs::new(alloc);
     let mut at = next;
     'parts: for part in parts {
-        let (key, middle) = number(alloc, &part.key, at)?;
-        let (value, behind) = number(alloc, &part.value, middle)?;
+        let (key, middle) = number(alloc, part.key.get(), at)?;
+        let (value, behind) = number(alloc, part.value.get(), middle)?;
         done.push(key, value)?;
         at = behind;
     }
@@ -489,7 +489,7 @@ fn number_givens(
     let mut at = next;
     'parts: for part in parts {
         let field = copied(alloc, &part.name)?;
-        let (value, behind) = number(alloc, &part.value, at)?;
+        let (value, behind) = number(alloc, part.value.get(), at)?;
         done.push(field, value)?;
         at = behind;
     }

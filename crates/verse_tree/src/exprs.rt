@@ -186,7 +186,7 @@ pub struct Applied {
 #[cycle(tree)]
 #[derive(Drop)]
 pub struct Hole {
-    pub value: Expr,
+    pub value: Boxed<Expr>,
     pub behind: Text,
 }
 
@@ -194,8 +194,8 @@ pub struct Hole {
 #[cycle(tree)]
 #[derive(Drop)]
 pub struct Pair {
-    pub key: Expr,
-    pub value: Expr,
+    pub key: Boxed<Expr>,
+    pub value: Boxed<Expr>,
 }
 
 /// A field that an instance is given.
@@ -203,7 +203,7 @@ pub struct Pair {
 #[derive(Drop)]
 pub struct Given {
     pub name: Name,
-    pub value: Expr,
+    pub value: Boxed<Expr>,
 }
 
 /// The generators and clauses of a `for`, and its body.

@@ -212,7 +212,7 @@ fn fields_in_holes(names: &Names, parts: &[Hole]) -> u64
 {
     let mut total = 0u64;
     'parts: for part in parts {
-        total = total.saturating_add(fields_in(names, &part.value));
+        total = total.saturating_add(fields_in(names, part.value.get()));
     }
     total
 }
@@ -223,9 +223,9 @@ fn fields_in_pairs(names: &Names, parts: &[Pair]) -> u64
 {
     let mut total = 0u64;
     'parts: for part in parts {
-        total = total.saturating_add(fields_in(names, &part.key).saturating_add(fields_in(
+        total = total.saturating_add(fields_in(names, part.key.get()).saturating_add(fields_in(
             names,
-            &part.value,
+            part.value.get(),
         )));
     }
     total
@@ -237,7 +237,7 @@ fn fields_in_givens(names: &Names, parts: &[Given]) -> u64
 {
     let mut total = 0u64;
     'parts: for part in parts {
-        total = total.saturating_add(fields_in(names, &part.value));
+        total = total.saturating_add(fields_in(names, part.value.get()));
     }
     total
 }

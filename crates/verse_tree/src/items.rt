@@ -3,7 +3,7 @@
 use crate::exprs::Expr;
 use crate::names::Name;
 use crate::types::TyExpr;
-use sqlite_items::Items;
+use sqlite_items::{Boxed, Items};
 use verse_base::places::Place;
 
 /// A specifier as it is written, as `<public>`.
@@ -53,7 +53,7 @@ pub struct Field {
     pub name: Name,
     pub specs: Items<Spec>,
     pub ty: TyExpr,
-    pub default: Option<Expr>,
+    pub default: Option<Boxed<Expr>>,
 }
 
 /// A parameter of a function.
@@ -75,7 +75,7 @@ pub struct Fun {
     pub params: Items<Param>,
     pub effects: Items<Spec>,
     pub result: TyExpr,
-    pub body: Expr,
+    pub body: Boxed<Expr>,
 }
 
 /// A member of a class.

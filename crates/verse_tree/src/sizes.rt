@@ -12,6 +12,7 @@ use crate::instance_fields::fields_in;
 use crate::items::{Item, Member};
 use crate::programs::Program;
 use crate::tables::Names;
+use sqlite_items::Boxed;
 
 /// 16 for each node and 4 for each field of the class of each instance expression, or the largest
 /// number. The class is what the name of the instance stands for; an instance without one counts
@@ -42,7 +43,7 @@ fn fields_in_item(names: &Names, item: &Item) -> u64
         Item::Using(_) => 0,
         Item::Enum(_) => 0,
         Item::Class(class) => fields_in_members(names, class.members.as_slice()),
-        Item::Fun(fun) => fields_in(names, &fun.body),
+        Item::Fun(fun) => fields_in(names, fun.body.get()),
     }
 }
 
@@ -61,15 +62,15 @@ fn fields_in_member(names: &Names, member: &Member) -> u64
 {
     match member {
         Member::Field(field) => fields_in_default(names, &field.default),
-        Member::Method(fun) => fields_in(names, &fun.body),
+        Member::Method(fun) => fields_in(names, fun.body.get()),
     }
 }
 
-fn fields_in_default(names: &Names, default: &Option<Expr>) -> u64
+fn fields_in_default(names: &Names, default: &Option<Boxed<Expr>>) -> u64
     ensures { result ≡ min (default_fields (fields_at names.now) (option_map tree_of default.now)) 18446744073709551615 }
 {
     match default {
         None => 0,
-        Some(value) => fields_in(names, value),
+        Some(value) => fields_in(names, value.get()),
     }
 }
