@@ -5,13 +5,9 @@
 //! Contracts see a handle as what it holds.
 //!
 //! To be read in this order: `types`, written types; `trees`, trees and lists of them; `parts`, lists
-//! of other parts; `nodes`, how a node is made; `funs`, functions and their parameters; `members`,
-//! members of classes; `items`, items of files, and programs.
+//! of other parts; `nodes`, how a node is made.
 #![tactic(auto)]
 
-pub mod funs;
-pub mod items;
-pub mod members;
 pub mod nodes;
 pub mod parts;
 pub mod trees;

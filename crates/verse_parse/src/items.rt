@@ -18,7 +18,7 @@ use crate::names::{dotted, path, specifiers};
 use sqlite_items::Items;
 use std::alloc::Global;
 use verse_grammar::starts::{Fixed, ItemStart, item_start};
-use verse_handles::items::ItemTree;
+use verse_item_handles::items::ItemTree;
 use verse_layout::toks::Tok;
 use verse_reading::stops::{Stop, expect, next, take};
 use verse_tree::items::Spec;

@@ -14,7 +14,7 @@ use sqlite_items::Items;
 use std::alloc::Global;
 use verse_base::places::Place;
 use verse_grammar::starts::Fixed;
-use verse_handles::funs::Head;
+use verse_item_handles::funs::Head;
 use verse_layout::toks::Tok;
 use verse_reading::spans::name_of;
 use verse_reading::stops::{Stop, expect, take};

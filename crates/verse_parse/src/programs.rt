@@ -21,7 +21,7 @@ use crate::items::item;
 use std::alloc::Global;
 use verse_expr::faults::{ParseFault, fault_of};
 use verse_grammar::starts::Fixed;
-use verse_handles::items::{ItemTree, ItemTrees};
+use verse_item_handles::items::{ItemTree, ItemTrees};
 use verse_layout::toks::Tok;
 use verse_reading::stops::{Stop, next, take};
 

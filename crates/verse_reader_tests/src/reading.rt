@@ -6,7 +6,7 @@ ghost use Rattle.verse_tree.specs.Numbering.{items_nodes};
 
 use std::alloc::Global;
 use verse_base::refusals::{Front, Memory};
-use verse_handles::items::{ItemTrees, ProgramTree};
+use verse_item_handles::items::{ItemTrees, ProgramTree};
 use verse_join::join;
 use verse_layout::layouts::layout;
 use verse_layout::toks::Tok;

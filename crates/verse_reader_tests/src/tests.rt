@@ -10,7 +10,7 @@ use verse_base::places::Place;
 use verse_built::{printed, unbuilt};
 use verse_expr::faults::ParseFault;
 use verse_expr::{block, expr, ty};
-use verse_handles::items::ItemTrees;
+use verse_item_handles::items::ItemTrees;
 use verse_parse::parse;
 
 // the items of a file

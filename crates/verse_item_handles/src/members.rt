@@ -7,11 +7,11 @@ ghost use Rattle.verse_tree.specs.View.{tree_of, written_of};
 ghost use Rattle.verse_tree.specs.ItemView.{spec_of, fun_of, member_of};
 
 use crate::funs::{FunTree, Head};
-use crate::trees::Tree;
-use crate::types::Written;
 use sqlite_items::{Boxed, Items};
 use std::alloc::{AllocError, Global};
 use std::marker::Model;
+use verse_handles::trees::Tree;
+use verse_handles::types::Written;
 use verse_tree::exprs::Expr;
 use verse_tree::items::{Field, Member, Spec};
 

@@ -4,12 +4,12 @@ ghost use Rattle.std.specs.Prelude.{◌≡◌, [], ◌∷◌, ◌++◌, OnOk, On
 ghost use Rattle.verse_tree.specs.View.{tree_of, written_of};
 ghost use Rattle.verse_tree.specs.ItemView.{spec_of, param_of, fun_of};
 
-use crate::trees::Tree;
-use crate::types::Written;
 use sqlite_items::Items;
 use std::alloc::{AllocError, Global};
 use std::marker::Model;
 use verse_base::places::Place;
+use verse_handles::trees::Tree;
+use verse_handles::types::Written;
 use verse_tree::items::{Fun, Param, Spec};
 use verse_tree::names::Name;
 
