@@ -1,4 +1,4 @@
-ghost use Rattle.std.specs.Prelude.{◌≡◌, ◌+◌, ◌<◌, ◌≤◌, ◌++◌, [], ◌∷◌, min, None, Some, length, option_map, MatchOption, IfOk, IfSome, OnOk, OnErr};
+ghost use Rattle.std.specs.Prelude.{◌≡◌, ◌+◌, ◌<◌, ◌≤◌, ◌++◌, [], ◌∷◌, min, None, Some, pos, length, option_map, MatchOption, IfOk, IfSome, OnOk, OnErr};
 ghost use Rattle.indexmap.specs.IndexSet.{spare};
 ghost use Rattle.verse_value.specs.View.{val_of, vals_of};
 ghost use Rattle.verse_value.specs.Val.{vals, no_vals, more_vals, no_pairs, some, array, mapping, tuple};
@@ -254,6 +254,14 @@ impl Held {
         &self.part
     }
 
+    /// The value, out of its option. Takes no memory.
+    pub fn into_part(self) -> Value
+        ensures { val_of result ≡ self }
+    {
+        let Held { part, size: _ } = self;
+        part
+    }
+
     pub(crate) fn size(&self) -> Size
         ensures { Measures result (1 + weight_of self.now) (1 + levels_of self.now) }
     {
@@ -290,6 +298,13 @@ impl Parts {
         ensures { result ≡ count self.now }
     {
         self.items.len()
+    }
+
+    /// How many parts there are, as an int of the language.
+    pub fn count(&self) -> i64
+        ensures { result ≡ pos (count self.now) }
+    {
+        int_len(&self.items)
     }
 
     /// The parts, in their order.
@@ -362,6 +377,13 @@ impl Parts {
     }
 }
 
+// No list is so long that an int could not say it.
+fn int_len(items: &Vec<Value>) -> i64
+    ensures { result ≡ pos (length items.now.items) }
+{
+    items.len() as i64
+}
+
 pub(crate) fn size_of_all(values: &[Value]) -> Size
     ensures { Measures result (weights (vals (vals_of values.now))) (most_levels (vals (vals_of values.now))) }
 {
@@ -398,6 +420,13 @@ impl Entries {
         ensures { result ≡ entry_count self.now }
     {
         self.values.len()
+    }
+
+    /// How many entries there are, as an int of the language.
+    pub fn count(&self) -> i64
+        ensures { result ≡ pos (entry_count self.now) }
+    {
+        int_len(&self.values)
     }
 
     /// The keys, in their order.
