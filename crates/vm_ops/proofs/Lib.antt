@@ -1,0 +1,4 @@
+pub mod Equal
+pub mod Shown
+pub mod Entered
+pub mod Elements

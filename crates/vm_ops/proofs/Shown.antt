@@ -1,0 +1,60 @@
+-- A text from its parts, and what it weighs.
+use Rattle.std.proofs.Common.{◌≡◌, ℕ, ◌+◌, ◌≤◌, ◌<◌, List, [], ◌∷◌, ◌++◌, length, append_assoc, append-nil, Option, Some, None, option_map, true, false, nat_le, arith, refl, sym, ap, ◌∙◌}
+use Rattle.std.proofs.lemmas.Bool.Decides.{nat_tests}
+use Rattle.verse_base.specs.declared.refusals.Kind.TheVariants.{Size}
+use Rattle.verse_value.specs.Val.{Val}
+use Rattle.verse_value.specs.Answer.{Answer, gives, error, stuck}
+use Rattle.verse_value.specs.Sizes.{weights, weight_of, levels_of, most_levels}
+use Rattle.verse_value.specs.Keys.{chars}
+use Rattle.verse_value.specs.Operations.{text_val, sized, sized_text, join_of, hole_bytes, holes_bytes, both_bytes}
+use Rattle.vm_ops.specs.Answers.{IsFaultOrMemory, IsMisfit}
+use Rattle.vm_ops.specs.declared.faults.OpFault.{OpFault}
+use Rattle.vm_ops.specs.declared.faults.OpFault.TheVariants.{Fail, Fault, Stuck, Memory}
+
+chars_weigh : (bs : List ℕ) → weights (chars bs) ≡ length bs
+chars_weigh [] = refl
+chars_weigh (b ∷ bs) = omega (arith, chars_weigh bs)
+
+chars_flat : (bs : List ℕ) → most_levels (chars bs) ≤ 1
+chars_flat [] = omega arith
+chars_flat (b ∷ bs) = omega (arith, chars_flat bs)
+
+flat : (bs : List ℕ) → nat_le (levels_of (text_val bs)) 200 ≡ true
+flat bs = let few : levels_of (text_val bs) ≤ 200 = omega (arith, chars_flat bs) in grind (arith, nat_tests)
+
+pub light_text : (bs : List ℕ) → length bs < 4000000 → sized (text_val bs) ≡ gives (text_val bs)
+light_text bs h =
+    let light : weight_of (text_val bs) ≤ 4000000 = omega (arith, chars_weigh bs) in
+    let is : nat_le (weight_of (text_val bs)) 4000000 ≡ true = grind (arith, nat_tests) in
+    rw is (rw (flat bs) refl)
+
+pub heavy_text : (bs : List ℕ) → 4000000 ≤ length bs → sized (text_val bs) ≡ error Size
+heavy_text bs h =
+    let heavy : 4000001 ≤ weight_of (text_val bs) = omega (arith, chars_weigh bs) in
+    let is : nat_le (weight_of (text_val bs)) 4000000 ≡ false = grind (arith, nat_tests) in
+    rw is refl
+
+-- a text from its front and what the other parts show
+abbrev pub text_from : List ℕ → Option (List ℕ) → Answer Val
+text_from front (Some bytes) = sized (text_val (front ++ bytes))
+text_from front None = stuck
+
+pub text_begins : (o : Option (List ℕ)) → text_from [] o ≡ sized_text o
+text_begins (Some bytes) = refl
+text_begins None = refl
+
+pub text_goes_on : (front new : List ℕ) (o rest : Option (List ℕ)) → option_map (λ bytes. front ++ bytes) o ≡ Some new → text_from front (both_bytes o rest) ≡ text_from new rest
+text_goes_on front new None rest e = absurd (cc)
+text_goes_on front new (Some bytes) None e = refl
+text_goes_on front new (Some bytes) (Some more) e =
+    let same : front ++ bytes ≡ new = cc in
+    ap (λ l. sized (text_val l)) (sym (append_assoc front bytes more) ∙ ap (λ l. l ++ more) same)
+
+pub text_ends : (front : List ℕ) → text_from front (Some []) ≡ sized (text_val front)
+text_ends front = ap (λ l. sized (text_val l)) (append-nil front)
+
+pub no_text : (front : List ℕ) (o rest : Option (List ℕ)) (fault : OpFault) → IsMisfit o fault → IsFaultOrMemory (text_from front (both_bytes o rest)) fault
+no_text front o rest Fail h = absurd h
+no_text front o rest (Fault kind) h = absurd h
+no_text front o rest Stuck h = rw h refl
+no_text front o rest Memory h = tt
