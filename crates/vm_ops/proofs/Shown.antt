@@ -38,23 +38,3 @@ heavy_text bs h =
 abbrev pub text_from : List ℕ → Option (List ℕ) → Answer Val
 text_from front (Some bytes) = sized (text_val (front ++ bytes))
 text_from front None = stuck
-
-pub text_begins : (o : Option (List ℕ)) → text_from [] o ≡ sized_text o
-text_begins (Some bytes) = refl
-text_begins None = refl
-
-pub text_goes_on : (front new : List ℕ) (o rest : Option (List ℕ)) → option_map (λ bytes. front ++ bytes) o ≡ Some new → text_from front (both_bytes o rest) ≡ text_from new rest
-text_goes_on front new None rest e = absurd (cc)
-text_goes_on front new (Some bytes) None e = refl
-text_goes_on front new (Some bytes) (Some more) e =
-    let same : front ++ bytes ≡ new = cc in
-    ap (λ l. sized (text_val l)) (sym (append_assoc front bytes more) ∙ ap (λ l. l ++ more) same)
-
-pub text_ends : (front : List ℕ) → text_from front (Some []) ≡ sized (text_val front)
-text_ends front = ap (λ l. sized (text_val l)) (append-nil front)
-
-pub no_text : (front : List ℕ) (o rest : Option (List ℕ)) (fault : OpFault) → IsMisfit o fault → IsFaultOrMemory (text_from front (both_bytes o rest)) fault
-no_text front o rest Fail h = absurd h
-no_text front o rest (Fault kind) h = absurd h
-no_text front o rest Stuck h = rw h refl
-no_text front o rest Memory h = tt
