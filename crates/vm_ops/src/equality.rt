@@ -26,9 +26,9 @@ pub fn op_eq(a: Value, b: Value) -> Result<Value, OpFault>
 pub fn op_ne(a: Value, b: Value) -> Result<Value, OpFault>
     ensures answers { IsAnswer (unequal_of (val_of a) (val_of b)) result }
 {
-    if equal(&a, &b) {
-        Err(OpFault::Fail)
-    } else {
+    if !equal(&a, &b) {
         Ok(a)
+    } else {
+        Err(OpFault::Fail)
     }
 }
