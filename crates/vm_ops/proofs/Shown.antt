@@ -1,15 +1,12 @@
 -- A text from its parts, and what it weighs.
-use Rattle.std.proofs.Common.{◌≡◌, ℕ, ◌+◌, ◌≤◌, ◌<◌, List, [], ◌∷◌, ◌++◌, length, append_assoc, append-nil, Option, Some, None, option_map, true, false, nat_le, arith, refl, sym, ap, ◌∙◌}
+use Rattle.std.proofs.Common.{◌≡◌, ℕ, ◌≤◌, ◌<◌, List, [], ◌∷◌, ◌++◌, length, Option, Some, None, true, false, nat_le, arith, refl}
 use Rattle.std.proofs.lemmas.Bool.Decides.{nat_tests}
 use Rattle.verse_base.specs.declared.refusals.Kind.TheVariants.{Size}
 use Rattle.verse_value.specs.Val.{Val}
 use Rattle.verse_value.specs.Answer.{Answer, gives, error, stuck}
 use Rattle.verse_value.specs.Sizes.{weights, weight_of, levels_of, most_levels}
 use Rattle.verse_value.specs.Keys.{chars}
-use Rattle.verse_value.specs.Operations.{text_val, sized, sized_text, join_of, hole_bytes, holes_bytes, both_bytes}
-use Rattle.vm_ops.specs.Answers.{IsFaultOrMemory, IsMisfit}
-use Rattle.vm_ops.specs.declared.faults.OpFault.{OpFault}
-use Rattle.vm_ops.specs.declared.faults.OpFault.TheVariants.{Fail, Fault, Stuck, Memory}
+use Rattle.verse_value.specs.Operations.{text_val, sized}
 
 chars_weigh : (bs : List ℕ) → weights (chars bs) ≡ length bs
 chars_weigh [] = refl
