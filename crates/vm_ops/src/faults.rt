@@ -16,6 +16,7 @@ pub enum OpFault {
     Fault(Kind),
     /// An operand is of no kind that the operation takes, or a tuple lacks the element.
     Stuck,
+    /// There was no memory.
     Memory,
 }
 

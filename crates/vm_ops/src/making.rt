@@ -1,5 +1,5 @@
 //! What makes an array, a tuple, an option or a map. Each value made is no heavier and no deeper
-//! than a value of a run may be.
+//! than a value of a run may be. An array keeps its allocator and grows with it.
 
 ghost use Rattle.std.specs.Prelude.{◌≡◌, Some, option_map, OnOk, IfOk, IfErr};
 ghost use Rattle.verse_value.specs.Val.{mapping};

@@ -1,5 +1,6 @@
 //! How the words of a row are worked out, on a stack of values.
 
+use crate::making::{nested, units};
 use std::alloc::Global;
 use std::test::Fail;
 use verse_base::refusals::Kind;
@@ -99,24 +100,18 @@ fn repeated(alloc: Global, count: usize) -> Result<Vec<u8>, Fail> {
     Ok(bytes)
 }
 
-// An array of this weight, of units.
-fn heavy(alloc: Global, weight: usize) -> Result<Value, Fail> {
+// An array of this weight.
+fn heavy(alloc: Global, weight: u64) -> Result<Outcome, Fail> {
     let count = weight.checked_sub(1).ok_or("a weight from 1 on")?;
-    let mut items = Vec::with_capacity(alloc, count)?;
-    for _ in 0..count {
-        items.push(Value::Unit)?;
-    }
-    let array = Value::array(alloc, items)?;
-    Ok(array)
+    let value = units(alloc, count)?;
+    Ok(Ok(value))
 }
 
 // A value of so many levels.
-fn deep(alloc: Global, levels: usize) -> Result<Value, Fail> {
-    let mut value = Value::Unit;
-    for _ in 1..levels {
-        value = Value::option(alloc, value)?;
-    }
-    Ok(value)
+fn deep(alloc: Global, levels: u64) -> Result<Outcome, Fail> {
+    let count = levels.checked_sub(1).ok_or("levels from 1 on")?;
+    let value = nested(alloc, count)?;
+    Ok(Ok(value))
 }
 
 fn long_text(alloc: Global, count: usize) -> Result<Outcome, Fail> {
@@ -141,8 +136,8 @@ fn counted(
     count: usize,
 ) -> Result<Outcome, Fail> {
     match word.as_bytes() {
-        b"heavy" => heavy(alloc, count).map(Ok),
-        b"deep" => deep(alloc, count).map(Ok),
+        b"heavy" => heavy(alloc, u64::try_from(count)?),
+        b"deep" => deep(alloc, u64::try_from(count)?),
         b"text" => long_text(alloc, count),
         b"item" => Ok(op_item(top(stack)?, u32::try_from(count)?)),
         b"lend-item" => lent(alloc, item(&top(stack)?, u32::try_from(count)?)),
