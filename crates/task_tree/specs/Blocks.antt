@@ -1,0 +1,33 @@
+-- Where a task stands with all that it encloses.
+use Rattle.std.specs.Prelude.{◌≡◌, ℕ, true, List, [], ◌∷◌, ◌++◌, Option, Some, None}
+use Rattle.task_tree.specs.Tasks.{Task, youngest, suits}
+use Rattle.task_tree.specs.Nested.{Forest}
+use Rattle.task_tree.specs.Links.{last}
+use Rattle.task_tree.specs.Removing.{IsEnd}
+
+module _ {T : Type 0} where
+  -- the task with this number, and what stands before it, beneath it and behind that
+  pub record Block (top : Option ℕ) (ts : List (Task T)) (n : ℕ) : Type 0 where
+    pub front : List (Task T)
+    pub task : Task T
+    pub kids : List (Task T)
+    pub back : List (Task T)
+    pub was : ts ≡ front ++ task ∷ kids ++ back
+    pub number : task.number ≡ n
+    pub suited : suits task.parent task.role ≡ true
+    pub beneath : Forest (Some task.number) kids
+    pub around : (others : List (Task T)) → Forest task.parent others → Forest top (front ++ others ++ back)
+
+  -- the last task of this block
+  pub record EndsBelow (ts : List (Task T)) (n end : ℕ) : Type 0 where
+    pub block : Block None ts n
+    pub ends : last (block.front ++ block.task ∷ block.kids) ≡ Some end
+
+  -- behind this task a child stands behind all that the parent encloses
+  pub record EndsAt (ts : List (Task T)) (parent end : Option ℕ) : Type 0 where
+    pub front : List (Task T)
+    pub back : List (Task T)
+    pub was : ts ≡ front ++ back
+    pub ends : end ≡ last front
+    pub grows : (t : Task T) → t.parent ≡ parent → suits t.parent t.role ≡ true → Forest None (front ++ t ∷ back)
+    pub behind : IsEnd parent ts front back

@@ -1,0 +1,54 @@
+-- What is added, what is removed, and what a visitor is told.
+use Rattle.std.specs.Prelude.{◌≡◌, ℕ, List, [], ◌∷◌, ◌++◌, Option, Some, None}
+use Rattle.task_tree.specs.declared.tasks.Role.{Role}
+use Rattle.task_tree.specs.declared.tasks.Role.TheVariants.{Behind}
+use Rattle.task_tree.specs.Tasks.{Task, task_at}
+use Rattle.task_tree.specs.Nested.{Under}
+
+module _ {T : Type 0} where
+  -- all of these tasks are so
+  abbrev pub Each : (Task T → Type 0) → List (Task T) → Type 0
+  Each P [] = Unit {0}
+  Each P (t ∷ ts) = P t × Each P ts
+
+  -- of the old tasks those that are so are gone, and the others are left, all in their order
+  pub data Parts (P : Task T → Type 0) : List (Task T) → List (Task T) → List (Task T) → Type 0 where
+    all_parted : Parts P [] [] []
+    one_goes : {old gone left : List (Task T)} (t : Task T) → P t → Parts P old gone left → Parts P (t ∷ old) (t ∷ gone) left
+    one_stays : {old gone left : List (Task T)} (t : Task T) → (P t → ⊥) → Parts P old gone left → Parts P (t ∷ old) gone (t ∷ left)
+
+  -- the task with this number, and all that it encloses
+  abbrev pub Cancels : ℕ → List (Task T) → List (Task T) → List (Task T) → Type 0
+  Cancels n old = Parts (λ t. Under old n t.number) old
+
+  -- a task in the background of this frame encloses the number
+  pub record UnderBehind (ts : List (Task T)) (n depth : ℕ) (m : ℕ) : Type 0 where
+    pub child : ℕ
+    pub task : Task T
+    pub is_there : task_at child ts ≡ Some task
+    pub parent : task.parent ≡ Some n
+    pub role : task.role ≡ Behind depth
+    pub under : Under ts child m
+
+  -- the tasks in the background of a frame, and all that these enclose
+  abbrev pub CancelsBehind : ℕ → ℕ → List (Task T) → List (Task T) → List (Task T) → Type 0
+  CancelsBehind n depth old = Parts (λ t. UnderBehind old n depth t.number) old
+
+  -- behind these stands no task that the parent encloses, and the last of them is one, or the parent
+  abbrev pub IsEnd : Option ℕ → List (Task T) → List (Task T) → List (Task T) → Type 0
+  IsEnd None ts front back = back ≡ []
+  IsEnd (Some p) ts front back =
+      ((some : List (Task T)) × (last : Task T) × (front ≡ some ++ last ∷ []) × Under ts p last.number) × Each (λ t. Under ts p t.number → ⊥) back
+
+  -- the task stands behind all that its parent encloses
+  pub record Added (task : Task T) (old new : List (Task T)) : Type 0 where
+    pub front : List (Task T)
+    pub back : List (Task T)
+    pub was : old ≡ front ++ back
+    pub is : new ≡ front ++ task ∷ back
+    pub behind : IsEnd task.parent old front back
+
+  -- what a visitor may be when it was told of these tasks, of the last one first
+  abbrev pub Visited : {V : Type 0} → (V → ℕ → T → V → Type 0) → V → List (Task T) → V → Type 0
+  Visited leaves old [] new = new ≡ old
+  Visited {V} leaves old (t ∷ ts) new = (mid : V) × Visited leaves old ts mid × leaves mid t.number t.item new

@@ -1,0 +1,10 @@
+//! Tasks that enclose tasks, under numbers that are used again.
+//!
+//! To be read in this order: `tasks`, what a task is beside others, and who is told of the tasks
+//! that a cancelling removes; `nodes`, where tasks are kept with the numbers of those that stand
+//! next to them; `tree`.
+#![tactic(auto)]
+
+mod nodes;
+pub mod tasks;
+pub mod tree;
