@@ -12,11 +12,11 @@ module _ {T : Type 0} where
     pub task : Task T
     pub kids : List (Task T)
     pub back : List (Task T)
-    pub was : ts ≡ front ++ task ∷ kids ++ back
+    pub was : ts ≡ front ++ (task ∷ kids ++ back)
     pub number : task.number ≡ n
     pub suited : suits task.parent task.role ≡ true
     pub beneath : Forest (Some task.number) kids
-    pub around : (others : List (Task T)) → Forest task.parent others → Forest top (front ++ others ++ back)
+    pub around : (others : List (Task T)) → Forest task.parent others → Forest top (front ++ (others ++ back))
 
   -- the last task of this block
   pub record EndsBelow (ts : List (Task T)) (n end : ℕ) : Type 0 where
