@@ -40,7 +40,7 @@ module _ {T : Type 0} where
       let none_rest = outsiders p rest more q d in_rest in
       ap (youngest q) was ∙ youngest_other q t (kids ++ rest) (λ e. d (sym (e ∙ parent))) ∙ no_child_both q kids rest none_kids none_rest
 
-  no_split : (front : List (Task T)) (t : Task T) (back : List (Task T)) → [] ≡ front ++ t ∷ back → ⊥
+  pub no_split : (front : List (Task T)) (t : Task T) (back : List (Task T)) → [] ≡ front ++ t ∷ back → ⊥
   no_split [] t back e = absurd (cc)
   no_split (u ∷ us) t back e = absurd (cc)
 

@@ -1,2 +1,4 @@
 pub mod Standing
 pub mod Forests
+pub mod Linking
+pub mod Changing

@@ -44,6 +44,9 @@ module _ {T : Type 0} where
   abbrev pub IsLive : ℕ → List (Task T) → Type 0
   IsLive n ts = IsSome (task_at n ts)
 
+  abbrev pub parent_at : ℕ → List (Task T) → Option ℕ
+  parent_at n ts = elim (task_at n ts) [ None ↦ None | Some t ↦ t.parent ]
+
   -- the number of the first task
   abbrev pub first : List (Task T) → Option ℕ
   first [] = None

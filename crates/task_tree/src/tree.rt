@@ -4,7 +4,7 @@ ghost use Rattle.std.specs.Prelude.{◌≡◌, true, List, [], ◌∷◌, ◌++�
 ghost use Rattle.std.specs.Option.{option_copied_mut};
 ghost use Rattle.std.specs.Borrow.{sem};
 ghost use Rattle.task_tree.specs.declared.tasks.Role.TheVariants as role;
-ghost use Rattle.task_tree.specs.Tasks.{Task, task_at, IsLive, IsArm, IsPossible, suits, HasNoChild, first, after, youngest, without, with_role, finished, is_behind};
+ghost use Rattle.task_tree.specs.Tasks.{Task, task_at, IsLive, IsArm, IsPossible, suits, HasNoChild, first, after, youngest, without, with_role, finished, is_behind, parent_at};
 ghost use Rattle.task_tree.specs.Nested.{IsTree};
 ghost use Rattle.task_tree.specs.Removing.{Cancels, CancelsBehind, Added, Visited};
 ghost use Rattle.task_tree.specs.Links.{last, task_of};
@@ -69,9 +69,8 @@ impl<T> TaskTree<T> {
         self.nodes.contains(id)
     }
 
-    /// Whether a live task has children.
+    /// Whether a task has children.
     pub fn has_children(&self, id: usize) -> bool
-        requires { IsLive id self.now }
         ensures { result ≡ is_some (youngest (Some id) self.now) }
     {
         self.youngest_child(id).is_some()
@@ -107,7 +106,6 @@ impl<T> TaskTree<T> {
 
     /// The task behind this live one. None exactly where it is the last.
     pub fn after(&self, id: usize) -> Option<usize>
-        requires { IsLive id self.now }
         ensures { result ≡ after id self.now }
     {
         links_at(&self.nodes, id)?.behind
@@ -115,8 +113,7 @@ impl<T> TaskTree<T> {
 
     /// The parent of a live task. None exactly where it has none.
     pub fn parent(&self, id: usize) -> Option<usize>
-        requires { IsLive id self.now }
-        ensures { Some result ≡ option_map (λ t. t.parent) (task_at id self.now) }
+        ensures { result ≡ parent_at id self.now }
     {
         self.nodes.get(id)?.parent
     }
@@ -234,14 +231,12 @@ impl<T> TaskTree<T> {
     }
 
     fn youngest_child(&self, id: usize) -> Option<usize>
-        requires { IsLive id self.now }
         ensures { result ≡ youngest (Some id) self.now }
     {
         links_at(&self.nodes, id)?.youngest
     }
 
     fn youngest_of(&self, parent: Option<usize>) -> Option<usize>
-        requires { IsPossible parent self.now }
         ensures { result ≡ youngest parent self.now }
     {
         match parent {
