@@ -2,3 +2,4 @@ pub mod Standing
 pub mod Forests
 pub mod Linking
 pub mod Changing
+pub mod Taking
