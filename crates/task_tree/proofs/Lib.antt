@@ -3,3 +3,4 @@ pub mod Forests
 pub mod Linking
 pub mod Changing
 pub mod Taking
+pub mod Ending

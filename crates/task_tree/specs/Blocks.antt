@@ -1,7 +1,7 @@
 -- Where a task stands with all that it encloses.
-use Rattle.std.specs.Prelude.{◌≡◌, ℕ, true, List, [], ◌∷◌, ◌++◌, Option, Some, None}
+use Rattle.std.specs.Prelude.{◌≡◌, ℕ, eqb, if◌then◌else◌, length, true, List, [], ◌∷◌, ◌++◌, Option, Some, None}
 use Rattle.task_tree.specs.Tasks.{Task, youngest, suits}
-use Rattle.task_tree.specs.Nested.{Forest}
+use Rattle.task_tree.specs.Nested.{Forest, IsTree}
 use Rattle.task_tree.specs.Links.{last}
 use Rattle.task_tree.specs.Removing.{IsEnd}
 
@@ -17,6 +17,18 @@ module _ {T : Type 0} where
     pub suited : suits task.parent task.role ≡ true
     pub beneath : Forest (Some task.number) kids
     pub around : (others : List (Task T)) → Forest task.parent others → Forest top (front ++ (others ++ back))
+
+  -- from the first task the last one of its block is looked for, and the second one's block ends there too
+  pub record Down (ts : List (Task T)) (start at : ℕ) : Type 0 where
+    pub tree : IsTree ts
+    pub block : Block None ts start
+    pub inner : Block None ts at
+    pub same : block.front ++ block.task ∷ block.kids ≡ inner.front ++ inner.task ∷ inner.kids
+
+  -- how many tasks stand behind this one
+  abbrev pub count_behind : ℕ → List (Task T) → ℕ
+  count_behind n [] = 0
+  count_behind n (t ∷ ts) = if eqb t.number n then length ts else count_behind n ts
 
   -- the last task of this block
   pub record EndsBelow (ts : List (Task T)) (n end : ℕ) : Type 0 where

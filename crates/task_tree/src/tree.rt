@@ -231,7 +231,8 @@ impl<T> TaskTree<T> {
     }
 
     fn youngest_child(&self, id: usize) -> Option<usize>
-        ensures { result ≡ youngest (Some id) self.now }
+        ensures value { result ≡ youngest (Some id) self.now }
+        ensures nested { IsTree self.now }
     {
         links_at(&self.nodes, id)?.youngest
     }
