@@ -4,3 +4,5 @@ pub mod Linking
 pub mod Changing
 pub mod Taking
 pub mod Ending
+pub mod Under
+pub mod Adding

@@ -1,6 +1,6 @@
 -- Where a task stands with all that it encloses.
 use Rattle.std.specs.Prelude.{◌≡◌, ℕ, eqb, if◌then◌else◌, length, true, List, [], ◌∷◌, ◌++◌, Option, Some, None}
-use Rattle.task_tree.specs.Tasks.{Task, youngest, suits}
+use Rattle.task_tree.specs.Tasks.{Task, task_at, youngest, suits}
 use Rattle.task_tree.specs.Nested.{Forest, IsTree}
 use Rattle.task_tree.specs.Links.{last}
 use Rattle.task_tree.specs.Removing.{IsEnd}
@@ -41,5 +41,7 @@ module _ {T : Type 0} where
     pub back : List (Task T)
     pub was : ts ≡ front ++ back
     pub ends : end ≡ last front
+    pub none : youngest parent back ≡ None
+    pub above : (n : ℕ) → parent ≡ Some n → task_at n back ≡ None
     pub grows : (t : Task T) → t.parent ≡ parent → suits t.parent t.role ≡ true → Forest None (front ++ t ∷ back)
     pub behind : IsEnd parent ts front back

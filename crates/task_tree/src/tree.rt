@@ -281,7 +281,8 @@ impl<T> TaskTree<T> {
     /// The last task that a live one encloses, or itself.
     fn end_below(&self, id: usize) -> usize
         requires { IsLive id self.now }
-        ensures { EndsBelow self.now id result }
+        ensures ends { EndsBelow self.now id result }
+        ensures nested { IsTree self.now }
     {
         let mut at = id;
         'down: while let Some(child) = self.youngest_child(at) {
@@ -290,18 +291,21 @@ impl<T> TaskTree<T> {
         at
     }
 
+    /// The last task of all.
+    fn last(&self) -> Option<usize>
+        ensures { EndsAt self.now None result }
+    {
+        Some(self.end_below(self.youngest?))
+    }
+
     /// The task behind which a child would be added.
     fn end_of(&self, parent: Option<usize>) -> Option<usize>
         requires { IsPossible parent self.now }
         ensures { EndsAt self.now parent result }
     {
-        let start = match parent {
-            Some(id) => Some(id),
-            None => self.youngest,
-        };
-        match start {
+        match parent {
             Some(id) => Some(self.end_below(id)),
-            None => None,
+            None => self.last(),
         }
     }
 
