@@ -7,15 +7,30 @@ use Rattle.task_tree.specs.declared.nodes.Node.{Node}
 use Rattle.task_tree.specs.declared.nodes.Links.{Links}
 use Rattle.task_tree.specs.declared.nodes.Change.{Change}
 use Rattle.task_tree.specs.declared.nodes.Change.TheVariants.{Youngest, Before, Behind}
-use Rattle.task_tree.specs.Tasks.{Task, task_at, youngest, first, or_else, suits}
+use Rattle.task_tree.specs.Tasks.{Task, task_at, youngest, first, or_else, suits, IsPossible}
 use Rattle.task_tree.specs.Nested.{Forest, Distinct, IsTree}
-use Rattle.task_tree.specs.Links.{Linked, Whole, node_at, last, Changes, changed, is_at}
+use Rattle.task_tree.specs.Links.{Linked, Whole, node_at, last, Changes, changed, is_at, youngest_with}
 use Rattle.task_tree.specs.Removing.{Added, IsEnd}
 use Rattle.task_tree.specs.Blocks.{EndsAt}
 use Rattle.task_tree.proofs.Standing.{never, inner, here, absent_parts, absent_head, absent_both, absent_then, absent_other, distinct_put, distinct_parts, beside, at_place, Cut, in_first, in_second, cut, youngest_append, some_child, no_child_parts, cases_parent, else_none, last_behind}
 use Rattle.task_tree.proofs.Forests.{outsiders}
-use Rattle.task_tree.proofs.Linking.{last_none}
+use Rattle.task_tree.proofs.Linking.{not_some}
 use Rattle.task_tree.proofs.Taking.{drop_other, with_same, same_node}
+
+by_false : (b : Bool) (x y z : Option ℕ) → b ≡ false → y ≡ z → (if b then x else y) ≡ z
+by_false true x y z e f = absurd (cc)
+by_false false x y z e f = f
+
+by_true : (b : Bool) (x y z : Option ℕ) → b ≡ true → x ≡ z → (if b then x else y) ≡ z
+by_true true x y z e f = f
+by_true false x y z e f = absurd (cc)
+
+parent_at_key : (p : Option ℕ) (n : ℕ) → (Some n ≡ p → ⊥) → is_at p n ≡ false
+parent_at_key None n d = refl
+parent_at_key (Some m) n d = ne_eqb m n (λ e. d (ap (λ k. Some k) (sym e)))
+
+at_own : (p : Option ℕ) (n : ℕ) → Some n ≡ p → is_at p n ≡ true
+at_own p n e = ap (λ q. is_at q n) (sym e) ∙ eq-eqb n n refl
 
 module _ {T : Type 0} where
   -- a number that is not there is not that of the first or the last
@@ -63,21 +78,6 @@ module _ {T : Type 0} where
   three_none k true true false = refl
   three_none k true true true = refl
 
-  by_false : (b : Bool) (x y z : Option ℕ) → b ≡ false → y ≡ z → (if b then x else y) ≡ z
-  by_false true x y z e f = absurd (cc)
-  by_false false x y z e f = f
-
-  by_true : (b : Bool) (x y z : Option ℕ) → b ≡ true → x ≡ z → (if b then x else y) ≡ z
-  by_true true x y z e f = f
-  by_true false x y z e f = absurd (cc)
-
-  parent_at_key : (p : Option ℕ) (n : ℕ) → (Some n ≡ p → ⊥) → is_at p n ≡ false
-  parent_at_key None n d = refl
-  parent_at_key (Some m) n d = ne_eqb m n (λ e. d (ap (λ k. Some k) (sym e)))
-
-  at_own : (p : Option ℕ) (n : ℕ) → Some n ≡ p → is_at p n ≡ true
-  at_own p n e = ap (λ q. is_at q n) (sym e) ∙ eq-eqb n n refl
-
   module _ (front back : List (Task T)) (t : Task T) (none : youngest t.parent back ≡ None) where
     youngest_in_front : (m : List (Task T)) (e : Task T) → (if is_at t.parent e.number then Some t.number else youngest (Some e.number) (m ++ back)) ≡ youngest (Some e.number) (m ++ t ∷ back)
     youngest_in_front m e =
@@ -115,11 +115,7 @@ module _ {T : Type 0} where
   head_joined ts [] back t head h was empty = ap (λ o. or_else o (Some t.number)) (h ∙ (ap first was ∙ ap first (empty refl)))
   head_joined ts (u ∷ us) back t head h was empty = ap (λ o. or_else o (Some t.number)) (h ∙ ap first was)
 
-  abbrev tail_joined : Option ℕ → ℕ → Option ℕ → Option ℕ
-  tail_joined None k tail = Some k
-  tail_joined (Some p) k tail = tail
-
-  tail_is : (ts front back : List (Task T)) (t : Task T) (p tail : Option ℕ) → t.parent ≡ p → tail ≡ youngest None ts → ts ≡ front ++ back → youngest p back ≡ None → tail_joined p t.number tail ≡ youngest None (front ++ t ∷ back)
+  tail_is : (ts front back : List (Task T)) (t : Task T) (p tail : Option ℕ) → t.parent ≡ p → tail ≡ youngest None ts → ts ≡ front ++ back → youngest p back ≡ None → youngest_with p t.number tail ≡ youngest None (front ++ t ∷ back)
   tail_is ts front back t None tail parent h was none =
       sym (with_same None front back t (sym parent) ∙ ap (λ o. or_else (or_else o (Some t.number)) (youngest None front)) none)
   tail_is ts front back t (Some p) tail parent h was none =
@@ -133,11 +129,15 @@ module _ {T : Type 0} where
       no_more [] y k = absurd (cc)
       no_more (z ∷ zs) y k = absurd (cc)
 
-  pub joins : (nodes n1 n2 n3 n4 : Slab (Node T)) (head tail : Option ℕ) (ts : List (Task T)) (t : Task T) (older before behind : Option ℕ) → Whole nodes head tail ts → (e : EndsAt ts t.parent before) → suits t.parent t.role ≡ true →
+  stranger : (ts : List (Task T)) (p : Option ℕ) (k : ℕ) → IsPossible p ts → task_at k ts ≡ None → Some k ≡ p → ⊥
+  stranger ts None k possible fresh e = never (sym e)
+  stranger ts (Some p) k possible fresh e = not_some p ts possible (sym (ap (λ n. task_at n ts) (sym (inner e)) ∙ fresh))
+
+  pub joins : (nodes n1 n2 n3 n4 : Slab (Node T)) (head tail : Option ℕ) (ts : List (Task T)) (t : Task T) (older before behind : Option ℕ) → Whole nodes head tail ts → (e : EndsAt ts t.parent before) → IsPossible t.parent ts → suits t.parent t.role ≡ true →
       older ≡ youngest t.parent ts → behind ≡ first e.back → task_at t.number ts ≡ None → Updates nodes n1 t.number (Some (new_node t older before behind)) → slab_len n1 ≡ slab_len nodes + 1 →
       Changes n1 n2 before (Behind t.number) → Changes n2 n3 behind (Before t.number) → Changes n3 n4 t.parent (Youngest t.number) →
-      Whole n4 (or_else head (Some t.number)) (tail_joined t.parent t.number tail) (e.front ++ t ∷ e.back)
-  joins nodes n1 n2 n3 n4 head tail ts t older before behind w e suited older_is behind_is fresh u more c1 c2 c3 =
+      Whole n4 (or_else head (Some t.number)) (youngest_with t.parent t.number tail) (e.front ++ t ∷ e.back)
+  joins nodes n1 n2 n3 n4 head tail ts t older before behind w e possible suited older_is behind_is fresh u more c1 c2 c3 =
       let k = t.number in
       let front = e.front in
       let back = e.back in
@@ -172,7 +172,7 @@ module _ {T : Type 0} where
                 let is_t : t ≡ x = cc in
                 let rest : back ≡ b = cc in
                 let front_is : a ≡ front = h ∙ append-nil front in
-                let apart_p : is_at t.parent k ≡ false = own_parent t.parent front_parent in
+                let apart_p : is_at t.parent k ≡ false = parent_at_key t.parent k (λ s. stranger ts t.parent k possible fresh s) in
                 let here_is : get n4 k ≡ Some (node_at front t back) =
                     whole_node k (new_node t older before behind) u.changed ∙ ap (λ n. Some n) (same_node t
                       (by_false (is_at t.parent k) (Some k) None (youngest (Some k) back) apart_p (sym no_kids_back))

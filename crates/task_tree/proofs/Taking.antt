@@ -47,11 +47,11 @@ module _ {T : Type 0} where
       go None e d = past_other k t.number next d
       go (Some n) e d = e
 
-  drop_other : (p : Option ℕ) (a b : List (Task T)) (x : Task T) → (p ≡ x.parent → ⊥) → youngest p (a ++ x ∷ b) ≡ youngest p (a ++ b)
+  pub drop_other : (p : Option ℕ) (a b : List (Task T)) (x : Task T) → (p ≡ x.parent → ⊥) → youngest p (a ++ x ∷ b) ≡ youngest p (a ++ b)
   drop_other p a b x d =
       youngest_append p a (x ∷ b) ∙ (ap (λ o. or_else o (youngest p a)) (youngest_other p x b d) ∙ sym (youngest_append p a b))
 
-  with_same : (p : Option ℕ) (a b : List (Task T)) (x : Task T) → p ≡ x.parent → youngest p (a ++ x ∷ b) ≡ or_else (or_else (youngest p b) (Some x.number)) (youngest p a)
+  pub with_same : (p : Option ℕ) (a b : List (Task T)) (x : Task T) → p ≡ x.parent → youngest p (a ++ x ∷ b) ≡ or_else (or_else (youngest p b) (Some x.number)) (youngest p a)
   with_same p a b x s = youngest_append p a (x ∷ b) ∙ ap (λ o. or_else o (youngest p a)) (youngest_same p x b s)
 
   -- the last child of a parent, where a task is gone

@@ -25,6 +25,11 @@ abbrev pub is_at : Option ℕ → ℕ → Bool
 is_at None n = false
 is_at (Some m) n = eqb m n
 
+-- the last task without a parent, where one with this parent is added
+abbrev pub youngest_with : Option ℕ → ℕ → Option ℕ → Option ℕ
+youngest_with None n before = Some n
+youngest_with (Some p) n before = before
+
 module _ {T : Type 0} where
   abbrev pub changed : Change → Node T → Node T
   changed (Youngest n) node = record node { links = record node.links { youngest = Some n } }

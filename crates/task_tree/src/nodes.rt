@@ -1,8 +1,9 @@
 //! Nodes of tasks, and how their links change.
 
-ghost use Rattle.std.specs.Prelude.{◌≡◌, option_map};
+ghost use Rattle.std.specs.Prelude.{◌≡◌, Some, option_map};
 ghost use Rattle.slab.specs.Slab.{get};
-ghost use Rattle.task_tree.specs.Links.{past, links_past, changed, Changes};
+ghost use Rattle.task_tree.specs.Tasks.{or_else};
+ghost use Rattle.task_tree.specs.Links.{past, youngest_with, links_past, changed, Changes};
 
 use crate::tasks::Role;
 use slab::Slab;
@@ -45,6 +46,30 @@ pub fn past(gone: usize, next: Option<usize>, link: Option<usize>) -> Option<usi
     match link {
         Some(number) if number == gone => next,
         _ => link,
+    }
+}
+
+/// The first task when one is added: the same, or else the new one.
+pub fn first_with(first: Option<usize>, number: usize) -> Option<usize>
+    ensures { result ≡ or_else first (Some number) }
+{
+    match first {
+        Some(_) => first,
+        None => Some(number),
+    }
+}
+
+/// The last task without a parent when one with this parent, or with none, is added.
+pub fn youngest_with(
+    youngest: Option<usize>,
+    parent: Option<usize>,
+    number: usize,
+) -> Option<usize>
+    ensures { result ≡ youngest_with parent number youngest }
+{
+    match parent {
+        Some(_) => youngest,
+        None => Some(number),
     }
 }
 

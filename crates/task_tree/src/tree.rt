@@ -10,7 +10,7 @@ ghost use Rattle.task_tree.specs.Removing.{Cancels, CancelsBehind, Added, Visite
 ghost use Rattle.task_tree.specs.Links.{last, task_of};
 ghost use Rattle.task_tree.specs.Blocks.{EndsBelow, EndsAt};
 
-use crate::nodes::{Change, Links, Node, change_at, links_at, past};
+use crate::nodes::{Change, Links, Node, change_at, first_with, links_at, past, youngest_with};
 use crate::tasks::{Finished, Role, Visit};
 use slab::Slab;
 use std::alloc::Global;
@@ -166,10 +166,8 @@ impl<T> TaskTree<T> {
         change_at(&mut self.nodes, before, Change::Behind(number));
         change_at(&mut self.nodes, behind, Change::Before(number));
         change_at(&mut self.nodes, parent, Change::Youngest(number));
-        self.first = self.first.or(Some(number));
-        if parent.is_none() {
-            self.youngest = Some(number);
-        }
+        self.first = first_with(self.first, number);
+        self.youngest = youngest_with(self.youngest, parent, number);
         Ok(number)
     }
 
