@@ -14,7 +14,7 @@ use Rattle.task_tree.specs.Removing.{Added, IsEnd}
 use Rattle.task_tree.specs.Blocks.{EndsAt}
 use Rattle.task_tree.proofs.Standing.{never, inner, here, absent_parts, absent_head, absent_both, absent_then, absent_other, distinct_put, distinct_parts, beside, at_place, Cut, in_first, in_second, cut, youngest_append, some_child, no_child_parts, cases_parent, else_none, last_behind}
 use Rattle.task_tree.proofs.Forests.{outsiders}
-use Rattle.task_tree.proofs.Linking.{not_some}
+use Rattle.task_tree.proofs.Linking.{not_some, fresh_is}
 use Rattle.task_tree.proofs.Taking.{drop_other, with_same, same_node}
 
 by_false : (b : Bool) (x y z : Option ℕ) → b ≡ false → y ≡ z → (if b then x else y) ≡ z
@@ -206,3 +206,11 @@ module _ {T : Type 0} where
         head_is = head_joined ts front back t head w.head_is was (empty_end t.parent ts front back e.behind);
         tail_is = tail_is ts front back t t.parent tail refl w.tail_is was e.none;
       }
+
+  pub is_added : (nodes n1 n2 n3 n4 : Slab (Node T)) (head tail head2 tail2 : Option ℕ) (ts now : List (Task T)) (t : Task T) (older before behind : Option ℕ) → Whole nodes head tail ts → ts ≡ now → (e : EndsAt now t.parent before) → IsPossible t.parent now → suits t.parent t.role ≡ true →
+      older ≡ youngest t.parent now → ((front back : List (Task T)) → now ≡ front ++ back → before ≡ last front → behind ≡ first back) → get nodes t.number ≡ None → Updates nodes n1 t.number (Some (new_node t older before behind)) → slab_len n1 ≡ slab_len nodes + 1 →
+      Changes n1 n2 before (Behind t.number) → Changes n2 n3 behind (Before t.number) → Changes n3 n4 t.parent (Youngest t.number) → head2 ≡ or_else head (Some t.number) → tail2 ≡ youngest_with t.parent t.number tail →
+      Whole n4 head2 tail2 (e.front ++ t ∷ e.back)
+  is_added nodes n1 n2 n3 n4 head tail head2 tail2 ts now t older before behind w view e possible suited older_is behind_is vacant u more c1 c2 c3 h2 t2 =
+      let whole = joins nodes n1 n2 n3 n4 head tail now t older before behind (subst (λ us. Whole nodes head tail us) view w) e possible suited older_is (behind_is e.front e.back e.was e.ends) (fresh_is nodes ts now t.number w.linked view vacant) u more c1 c2 c3 in
+      subst (λ o. Whole n4 o tail2 (e.front ++ t ∷ e.back)) (sym h2) (subst (λ o. Whole n4 (or_else head (Some t.number)) o (e.front ++ t ∷ e.back)) (sym t2) whole)

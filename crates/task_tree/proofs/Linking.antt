@@ -171,3 +171,19 @@ module _ {T : Type 0} where
         linked = record { each = λ front back t was. absurd (no_split front t back was); others = λ n absent. gone n; count = count };
         head_is = refl; tail_is = refl;
       })
+
+  pub same_slots : (nodes next : Slab (Node T)) (head tail : Option ℕ) (ts : List (Task T)) → next.slots ≡ nodes.slots → Whole nodes head tail ts → Whole next head tail ts
+  same_slots nodes next head tail ts e w =
+      let at : (n : ℕ) → get next n ≡ get nodes n = λ n. ap (λ s. slice_index_or s n None) e in
+      record {
+        tree = w.tree;
+        linked = record {
+          each = λ front back t was. at t.number ∙ w.linked.each front back t was;
+          others = λ n absent. at n ∙ w.linked.others n absent;
+          count = ap (count_by is_some) e ∙ w.linked.count;
+        };
+        head_is = w.head_is; tail_is = w.tail_is;
+      }
+
+  pub fresh_is : (nodes : Slab (Node T)) (ts now : List (Task T)) (n : ℕ) → Linked nodes ts → ts ≡ now → get nodes n ≡ None → task_at n now ≡ None
+  fresh_is nodes ts now n linked view e = sym (ap (task_at n) view) ∙ (sym (one_map nodes ts n linked) ∙ ap (option_map (task_of n)) e)
