@@ -6,3 +6,4 @@ pub mod Taking
 pub mod Ending
 pub mod Under
 pub mod Adding
+pub mod Cancelling

@@ -1,6 +1,6 @@
 //! A tree of tasks.
 
-ghost use Rattle.std.specs.Prelude.{◌≡◌, true, List, [], ◌∷◌, ◌++◌, None, Some, IfOk, OnOk, OnErr, IfErr, IfSome, is_some, option_map, option_copied};
+ghost use Rattle.std.specs.Prelude.{◌≡◌, eqb, if◌then◌else◌, true, List, [], ◌∷◌, ◌++◌, None, Some, IfOk, OnOk, OnErr, IfErr, IfSome, is_some, option_map, option_copied};
 ghost use Rattle.std.specs.Option.{option_copied_mut};
 ghost use Rattle.std.specs.Borrow.{sem};
 ghost use Rattle.task_tree.specs.declared.tasks.Role.TheVariants as role;
@@ -207,7 +207,7 @@ impl<T> TaskTree<T> {
     {
         let mut next = Some(self.end_below(id));
         'tasks: while let Some(at) = next {
-            next = if at == id { None } else { self.before(at) };
+            next = self.before_within(at, id);
             let node = self.take(at);
             visit.removed(at, node.item);
         }
@@ -254,6 +254,13 @@ impl<T> TaskTree<T> {
         ensures { (front back : List (Task T)) (t : Task T) → self.now ≡ front ++ t ∷ back → t.number ≡ id → result ≡ last front }
     {
         links_at(&self.nodes, id)?.before
+    }
+
+    /// The task before this one, unless this is the top one.
+    fn before_within(&self, id: usize, top: usize) -> Option<usize>
+        ensures { (front back : List (Task T)) (t : Task T) → self.now ≡ front ++ t ∷ back → t.number ≡ id → result ≡ (if eqb id top then None else last front) }
+    {
+        if id == top { None } else { self.before(id) }
     }
 
     /// The task behind this one, or the first.
@@ -312,6 +319,7 @@ impl<T> TaskTree<T> {
         requires live { IsLive id self.old }
         requires childless { HasNoChild id self.old }
         ensures left { self.new ≡ without id self.old }
+        ensures nested { IsTree self.new }
         ensures value { Some (task_of id result) ≡ task_at id self.old }
     {
         let node = self.nodes.remove(id);

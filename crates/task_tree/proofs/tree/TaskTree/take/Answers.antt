@@ -19,3 +19,7 @@ returns-clause-left g c = rw c.past-self-inside.ensures (
 pub returns-clause-value : goal.returns-clause-value
 returns-clause-value g c =
     sym (ap (option_map (task_of c.args.id)) c.remove-node.ensures.value) ∙ (one_map _ _ c.args.id c.self.invariant.linked ∙ ap (task_at c.args.id) c.self.view_is)
+
+pub returns-clause-nested : goal.returns-clause-nested
+returns-clause-nested g c = rw c.past-self-inside.ensures (
+    (whole_walk _ _ _ _ (take_out _ _ _ _ _ _ _ _ _ c.args.id c.remove-node.result c.self.invariant c.self.view_is c.requires.live c.requires.childless c.remove-node.ensures.value c.remove-node.ensures.updates c.remove-node.ensures.len c.change_at.ensures c.change_at-2.ensures c.change_at-3.ensures)).tree)
