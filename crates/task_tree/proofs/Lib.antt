@@ -7,3 +7,4 @@ pub mod Ending
 pub mod Under
 pub mod Adding
 pub mod Cancelling
+pub mod Background
