@@ -1,18 +1,17 @@
 -- A task that is added.
-use Rattle.std.proofs.Common.{◌≡◌, ◌⊎◌, inl, inr, ℕ, ◌+◌, eqb, Bool, true, false, List, [], ◌∷◌, ◌++◌, length, Option, Some, None, option_map, if◌then◌else◌, refl, sym, ap, subst, ◌∙◌, append_assoc, length-append, arith}
-use Rattle.std.proofs.lemmas.Bool.{cases_eq, eq-eqb, ne_eqb}
+use Rattle.std.proofs.Common.{◌≡◌, inl, inr, ℕ, ◌+◌, Bool, true, false, List, [], ◌∷◌, ◌++◌, length, Option, Some, None, option_map, if◌then◌else◌, refl, sym, ap, subst, ◌∙◌, append_assoc, length-append, arith}
+use Rattle.std.proofs.lemmas.Bool.{eq-eqb, ne_eqb}
 use Rattle.std.proofs.lemmas.List.{append-nil}
 use Rattle.slab.specs.Slab.{Slab, get, slab_len, Updates}
 use Rattle.task_tree.specs.declared.nodes.Node.{Node}
-use Rattle.task_tree.specs.declared.nodes.Links.{Links}
 use Rattle.task_tree.specs.declared.nodes.Change.{Change}
 use Rattle.task_tree.specs.declared.nodes.Change.TheVariants.{Youngest, Before, Behind}
 use Rattle.task_tree.specs.Tasks.{Task, task_at, youngest, first, or_else, suits, IsPossible}
-use Rattle.task_tree.specs.Nested.{Forest, Distinct, IsTree}
-use Rattle.task_tree.specs.Links.{Linked, Whole, node_at, last, Changes, changed, is_at, youngest_with}
-use Rattle.task_tree.specs.Removing.{Added, IsEnd}
+use Rattle.task_tree.specs.Nested.{Distinct}
+use Rattle.task_tree.specs.Links.{Whole, node_at, last, Changes, changed, is_at, youngest_with}
+use Rattle.task_tree.specs.Removing.{IsEnd}
 use Rattle.task_tree.specs.Blocks.{EndsAt}
-use Rattle.task_tree.proofs.Standing.{never, inner, here, absent_parts, absent_head, absent_both, absent_then, absent_other, distinct_put, distinct_parts, beside, at_place, Cut, in_first, in_second, cut, youngest_append, some_child, no_child_parts, cases_parent, else_none, last_behind}
+use Rattle.task_tree.proofs.Standing.{never, inner, absent_parts, absent_head, absent_both, distinct_put, distinct_parts, beside, at_place, in_first, in_second, cut, youngest_append, some_child, no_child_parts, cases_parent, last_behind}
 use Rattle.task_tree.proofs.Forests.{outsiders}
 use Rattle.task_tree.proofs.Linking.{not_some, fresh_is}
 use Rattle.task_tree.proofs.Taking.{drop_other, with_same, same_node}
@@ -49,7 +48,9 @@ module _ {T : Type 0} where
   -- what three changes leave
   abbrev joined : ℕ → Bool → Bool → Bool → Node T → Node T
   joined k b1 b2 b3 n = record {
-    parent = n.parent; role = n.role; item = n.item;
+    parent = n.parent;
+    role = n.role;
+    item = n.item;
     links = record {
       youngest = if b3 then Some k else n.links.youngest;
       older = n.links.older;
@@ -145,10 +146,10 @@ module _ {T : Type 0} where
       let distinct : Distinct (front ++ back) = subst Distinct was w.tree.distinct in
       let out = absent_parts k front back (sym (ap (task_at k) was) ∙ fresh) in
       let chain : (m : ℕ) (o : Option (Node T)) → get n1 m ≡ o → get n4 m ≡ step (Youngest k) (is_at t.parent m) (step (Before k) (is_at (first back) m) (step (Behind k) (is_at (last front) m) o)) = λ m o h.
-          c3.nodes m ∙ ap (step (Youngest k) (is_at t.parent m)) (c2.nodes m ∙ (ap (λ b. if is_at b m then option_map (changed (Before k)) (get n2 m) else get n2 m) behind_is ∙ ap (step (Before k) (is_at (first back) m))
-            (c1.nodes m ∙ (ap (λ b. if is_at b m then option_map (changed (Behind k)) (get n1 m) else get n1 m) e.ends ∙ ap (step (Behind k) (is_at (last front) m)) h)))) in
+      c3.nodes m ∙ ap (step (Youngest k) (is_at t.parent m)) (c2.nodes m ∙ (ap (λ b. if is_at b m then option_map (changed (Before k)) (get n2 m) else get n2 m) behind_is ∙ ap (step (Before k) (is_at (first back) m))
+      (c1.nodes m ∙ (ap (λ b. if is_at b m then option_map (changed (Behind k)) (get n1 m) else get n1 m) e.ends ∙ ap (step (Behind k) (is_at (last front) m)) h)))) in
       let whole_node : (m : ℕ) (o : Node T) → get n1 m ≡ Some o → get n4 m ≡ Some (joined k (is_at (last front) m) (is_at (first back) m) (is_at t.parent m) o) = λ m o h.
-          chain m (Some o) h ∙ three k (is_at (last front) m) (is_at (first back) m) (is_at t.parent m) o in
+      chain m (Some o) h ∙ three k (is_at (last front) m) (is_at (first back) m) (is_at t.parent m) o in
       let no_kids : youngest (Some k) ts ≡ None = outsiders None ts w.tree.forest (Some k) (λ h. never h) (λ m h. subst (λ j. task_at j ts ≡ None) (inner h) fresh) in
       let no_kids_back = (no_child_parts (Some k) front back (sym (ap (youngest (Some k)) was) ∙ no_kids)).1 in
       let older_front : older ≡ youngest t.parent front = older_is ∙ (ap (youngest t.parent) was ∙ (youngest_append t.parent front back ∙ ap (λ o. or_else o (youngest t.parent front)) e.none)) in
@@ -162,23 +163,23 @@ module _ {T : Type 0} where
                 let old : ts ≡ a ++ x ∷ (m ++ back) = was ∙ (ap (λ xs. xs ++ back) g ∙ append_assoc a (x ∷ m) back) in
                 let alone = absent_parts x.number m back (beside a (m ++ back) x (subst Distinct old w.tree.distinct)).1 in
                 whole_node x.number (node_at a x (m ++ back)) (u.others x.number differs ∙ w.linked.each a (m ++ back) x old) ∙ (
-                  ap (λ n. Some n) (same_node x
-                    (youngest_in_front front back t e.none m x)
-                    refl
-                    (by_false (is_at (first back) x.number) (Some k) (last a) (last a) (not_first x.number back alone.1) refl)
-                    (behind_in_front front back t e.none a m x g alone.0))
-                  ∙ ap (λ xs. Some (node_at a x xs)) (sym h))
+                ap (λ n. Some n) (same_node x
+                (youngest_in_front front back t e.none m x)
+                refl
+                (by_false (is_at (first back) x.number) (Some k) (last a) (last a) (not_first x.number back alone.1) refl)
+                (behind_in_front front back t e.none a m x g alone.0))
+                ∙ ap (λ xs. Some (node_at a x xs)) (sym h))
             | in_second [] g h ↦
                 let is_t : t ≡ x = cc in
                 let rest : back ≡ b = cc in
                 let front_is : a ≡ front = h ∙ append-nil front in
                 let apart_p : is_at t.parent k ≡ false = parent_at_key t.parent k (λ s. stranger ts t.parent k possible fresh s) in
                 let here_is : get n4 k ≡ Some (node_at front t back) =
-                    whole_node k (new_node t older before behind) u.changed ∙ ap (λ n. Some n) (same_node t
-                      (by_false (is_at t.parent k) (Some k) None (youngest (Some k) back) apart_p (sym no_kids_back))
-                      older_front
-                      (by_false (is_at (first back) k) (Some k) before (last front) (not_first k back out.1) e.ends)
-                      (by_false (is_at (last front) k) (Some k) behind (first back) (not_last k front out.0) behind_is)) in
+                whole_node k (new_node t older before behind) u.changed ∙ ap (λ n. Some n) (same_node t
+                (by_false (is_at t.parent k) (Some k) None (youngest (Some k) back) apart_p (sym no_kids_back))
+                older_front
+                (by_false (is_at (first back) k) (Some k) before (last front) (not_first k back out.1) e.ends)
+                (by_false (is_at (last front) k) (Some k) behind (first back) (not_last k front out.0) behind_is)) in
                 subst (λ (y : Task T). get n4 y.number ≡ Some (node_at a y b)) is_t (here_is ∙ (ap (λ xs. Some (node_at front t xs)) rest ∙ ap (λ xs. Some (node_at xs t b)) (sym front_is)))
             | in_second (v ∷ m) g h ↦
                 let is_t : t ≡ v = cc in
@@ -190,12 +191,12 @@ module _ {T : Type 0} where
                 let alone = absent_parts x.number front m (beside (front ++ m) b x (subst Distinct old w.tree.distinct)).0 in
                 let not_parent : is_at t.parent x.number ≡ false = parent_at_key t.parent x.number (λ s. never (sym (sym (ap (task_at x.number) rest) ∙ e.above x.number (sym s)) ∙ at_place m b x (distinct_parts front (m ++ x ∷ b) (subst Distinct (ap (λ xs. front ++ xs) rest) distinct)).1)) in
                 whole_node x.number (node_at (front ++ m) x b) (u.others x.number differs ∙ w.linked.each (front ++ m) b x old) ∙ (
-                  ap (λ n. Some n) (same_node x
-                    (by_false (is_at t.parent x.number) (Some k) (youngest (Some x.number) b) (youngest (Some x.number) b) not_parent refl)
-                    (older_in_back front back t e.none m b x rest)
-                    (before_in_back front back t e.none m b x rest alone.1)
-                    (by_false (is_at (last front) x.number) (Some k) (first b) (first b) (not_last x.number front alone.0) refl))
-                  ∙ ap (λ xs. Some (node_at xs x b)) (sym front_is))
+                ap (λ n. Some n) (same_node x
+                (by_false (is_at t.parent x.number) (Some k) (youngest (Some x.number) b) (youngest (Some x.number) b) not_parent refl)
+                (older_in_back front back t e.none m b x rest)
+                (before_in_back front back t e.none m b x rest alone.1)
+                (by_false (is_at (last front) x.number) (Some k) (first b) (first b) (not_last x.number front alone.0) refl))
+                ∙ ap (λ xs. Some (node_at xs x b)) (sym front_is))
           ];
           others = λ n absent.
               let split = absent_parts n front (t ∷ back) absent in

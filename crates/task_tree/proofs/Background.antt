@@ -1,19 +1,19 @@
 -- The children in the background of one frame, removed from the last to the first.
-use Rattle.std.proofs.Common.{◌≡◌, ◌⊎◌, inl, inr, ℕ, suc, ◌+◌, ◌<◌, eqb, if◌then◌else◌, true, false, Bool, List, [], ◌∷◌, ◌++◌, length, Option, Some, None, IsSome, is_some, option_map, refl, sym, ap, subst, ◌∙◌, append_assoc, length-append, arith}
+use Rattle.std.proofs.Common.{◌≡◌, ◌⊎◌, inl, inr, ℕ, suc, ◌<◌, eqb, if◌then◌else◌, true, false, Bool, List, [], ◌∷◌, ◌++◌, length, Option, Some, None, is_some, option_map, refl, sym, ap, subst, ◌∙◌, append_assoc, arith}
 use Rattle.std.proofs.lemmas.Bool.{cases_eq, eq-eqb, ne_eqb, eqb-true}
 use Rattle.std.proofs.lemmas.List.{append-nil}
 use mathlib.Core.Bool.{false≢true}
 use Rattle.task_tree.specs.declared.tasks.Role.{Role}
 use Rattle.task_tree.specs.declared.tasks.Role.TheVariants.{Root, Arm, Behind}
 use Rattle.task_tree.specs.Tasks.{Task, task_at, youngest, or_else, suits, is_behind, IsLive}
-use Rattle.task_tree.specs.Nested.{Forest, no_tasks, a_task, Distinct, IsTree, Under, itself, beneath}
+use Rattle.task_tree.specs.Nested.{Forest, no_tasks, Distinct, IsTree, Under, itself, beneath}
 use Rattle.task_tree.specs.Removing.{Each, Parts, all_parted, one_goes, one_stays, Cancels, UnderBehind, CancelsBehind, Visited}
 use Rattle.task_tree.specs.Blocks.{Block}
-use Rattle.task_tree.proofs.Standing.{never, inner, found, here, further, absent_parts, absent_head, absent_then, beside, at_place, distinct_parts, distinct_drop, youngest_same, cases_parent, youngest_append, youngest_other, no_child_parts, else_none, task_or, append_at}
-use Rattle.task_tree.proofs.Forests.{IsThere, there_behind, Place, place, forest_one, forest_append, forest_empty, LastOf, last_of}
+use Rattle.task_tree.proofs.Standing.{never, inner, found, here, further, absent_parts, absent_head, beside, at_place, distinct_parts, distinct_drop, youngest_same, cases_parent, youngest_append, youngest_other, else_none}
+use Rattle.task_tree.proofs.Forests.{IsThere, there_behind, place, forest_one, forest_append, forest_empty, last_of}
 use Rattle.task_tree.proofs.Linking.{not_own}
 use Rattle.task_tree.proofs.Ending.{block_of, block_children}
-use Rattle.task_tree.proofs.Under.{each_append, each_parts, each_weaker, block_under, not_under}
+use Rattle.task_tree.proofs.Under.{each_weaker, block_under, not_under}
 use Rattle.task_tree.proofs.Cancelling.{all_stay, all_go, rest_stays, block_parts}
 
 is_behind_role : (depth : ℕ) (r : Role) → is_behind depth r ≡ true → r ≡ Behind depth
@@ -72,8 +72,15 @@ module _ {T : Type 0} where
       let a = found k ts t is in
       let p = place None ts a.front t a.back tree.forest tree.distinct (λ m h. absurd (never h)) a.was in
       let b : Block None ts k = record {
-        front = a.front; task = t; kids = p.kids; back = p.younger ++ p.outer;
-        was = a.was ∙ ap (λ xs. a.front ++ t ∷ xs) p.was; number = a.number; suited = p.suited; beneath = p.beneath; around = p.around;
+        front = a.front;
+        task = t;
+        kids = p.kids;
+        back = p.younger ++ p.outer;
+        was = a.was ∙ ap (λ xs. a.front ++ t ∷ xs) p.was;
+        number = a.number;
+        suited = p.suited;
+        beneath = p.beneath;
+        around = p.around;
       } in
       let out = (not_under ts k tree b).0 in
       elim p.above [
@@ -161,11 +168,21 @@ module _ {T : Type 0} where
     begins old id depth next seen tree live e =
         let b = block_of old id tree live in
         record {
-          tree = tree; nested = tree; block = b; todo = b.kids; done = []; gone = []; left = [];
-          kids = sym (append-nil b.kids); fore = b.beneath; rest = no_tasks; rest_left = no_tasks;
+          tree = tree;
+          nested = tree;
+          block = b;
+          todo = b.kids;
+          done = [];
+          gone = [];
+          left = [];
+          kids = sym (append-nil b.kids);
+          fore = b.beneath;
+          rest = no_tasks;
+          rest_left = no_tasks;
           is = b.was ∙ ap (λ ks. b.front ++ ((b.task ∷ ks) ++ b.back)) (sym (append-nil b.kids));
           at = e ∙ (block_children old id tree b).2;
-          parts = all_parted; visited = refl;
+          parts = all_parted;
+          visited = refl;
         }
 
     -- the child that is looked at, with all that it encloses
@@ -194,11 +211,18 @@ module _ {T : Type 0} where
         let d_todo = (distinct_parts c.todo c.done (subst Distinct c.kids d_kids)).0 in
         let l = last_of (Some b.task.number) c.todo child c.fore d_todo (λ n h. subst (λ m. task_at m c.todo ≡ None) (inner h) out) (sym c.at ∙ e) in
         record {
-          some = l.front; it = l.task; kids = l.kids; split = l.was; number = l.number; parent = l.parent; fore = l.before;
+          some = l.front;
+          it = l.task;
+          kids = l.kids;
+          split = l.was;
+          number = l.number;
+          parent = l.parent;
+          fore = l.before;
           own = forest_one (Some b.task.number) l.task l.kids l.parent l.suited l.beneath;
           was = b.was ∙ (ap (λ ks. b.front ++ ((b.task ∷ ks) ++ b.back)) (c.kids ∙ ap (λ us. us ++ c.done) l.was) ∙ simp append_assoc);
           is = c.is ∙ (ap (λ us. b.front ++ ((b.task ∷ (us ++ c.left)) ++ b.back)) l.was ∙ simp append_assoc);
-          below = l.beneath; suited = l.suited;
+          below = l.beneath;
+          suited = l.suited;
         }
 
     pub child_live : (old : List (Task T)) (id depth : ℕ) (before : V) (next : Option ℕ) (now : List (Task T)) (seen : V) (child : ℕ) → Clearing old id depth before next now seen → next ≡ Some child → IsLive child now
@@ -214,8 +238,8 @@ module _ {T : Type 0} where
         let q = Some b.task.number in
         let none = (block_children old id c.tree b).0 in
         step (b.front ++ b.task ∷ t.some) (t.kids ++ (c.left ++ b.back)) t.it t.is t.number ∙ (ap (λ p. youngest p (b.front ++ b.task ∷ t.some)) t.parent ∙
-          (youngest_append q b.front (b.task ∷ t.some) ∙ (ap (λ o. or_else (youngest q (b.task ∷ t.some)) o) none ∙ (else_none (youngest q (b.task ∷ t.some)) ∙
-            youngest_other q b.task t.some (not_own old b.front (b.kids ++ b.back) b.task c.tree b.was)))))
+        (youngest_append q b.front (b.task ∷ t.some) ∙ (ap (λ o. or_else (youngest q (b.task ∷ t.some)) o) none ∙ (else_none (youngest q (b.task ∷ t.some)) ∙
+        youngest_other q b.task t.some (not_own old b.front (b.kids ++ b.back) b.task c.tree b.was)))))
 
     role_of : (old : List (Task T)) (id depth : ℕ) (before : V) (next : Option ℕ) (now : List (Task T)) (seen : V) (child : ℕ) (test : Bool) → (c : Clearing old id depth before next now seen) → (t : Turn old now c.block.front c.todo c.done c.left c.block.back c.block.task child) →
         option_map (λ (u : Task T). is_behind depth u.role) (task_at child now) ≡ Some test → is_behind depth t.it.role ≡ test
@@ -231,8 +255,14 @@ module _ {T : Type 0} where
         let b = c.block in
         let front = b.front ++ b.task ∷ t.some in
         let block : Block None old t.it.number = record {
-          front = front; task = t.it; kids = t.kids; back = c.done ++ b.back; was = t.was; number = refl;
-          suited = subst (λ p. suits p t.it.role ≡ true) (sym t.parent) t.suited; beneath = t.below;
+          front = front;
+          task = t.it;
+          kids = t.kids;
+          back = c.done ++ b.back;
+          was = t.was;
+          number = refl;
+          suited = subst (λ p. suits p t.it.role ≡ true) (sym t.parent) t.suited;
+          beneath = t.below;
           around = λ others f.
               let all : Forest (Some b.task.number) (t.some ++ (others ++ c.done)) = forest_append t.some (others ++ c.done) t.fore (forest_append others c.done (subst (λ p. Forest p others) t.parent f) c.rest) in
               let eq : b.front ++ ((b.task ∷ (t.some ++ (others ++ c.done))) ++ b.back) ≡ (b.front ++ b.task ∷ t.some) ++ (others ++ (c.done ++ b.back)) = simp append_assoc in
@@ -250,13 +280,21 @@ module _ {T : Type 0} where
         let parent : t.it.parent ≡ Some id = t.parent ∙ ap (λ k. Some k) b.number in
         let not_role : is_behind depth t.it.role ≡ false = role_of old id depth before next now seen child test c t role ∙ false_is in
         let away : (u : Task T) → Under old t.it.number u.number → UnderBehind old id depth u.number → ⊥ = λ u up h.
-            let same = one_child old h.child t.it.number id u.number h.task t.it c.tree h.is_there h.parent own.1 parent h.under up in
-            let task_same : h.task ≡ t.it = inner (sym h.is_there ∙ (ap (λ k. task_at k old) same ∙ own.1)) in
-            false≢true (sym not_role ∙ role_is_behind depth t.it.role (ap (λ (v : Task T). v.role) (sym task_same) ∙ h.role)) in
+        let same = one_child old h.child t.it.number id u.number h.task t.it c.tree h.is_there h.parent own.1 parent h.under up in
+        let task_same : h.task ≡ t.it = inner (sym h.is_there ∙ (ap (λ k. task_at k old) same ∙ own.1)) in
+        false≢true (sym not_role ∙ role_is_behind depth t.it.role (ap (λ (v : Task T). v.role) (sym task_same) ∙ h.role)) in
         record {
-          tree = c.tree; nested = c.nested; block = b; todo = t.some; done = (t.it ∷ t.kids) ++ c.done; gone = c.gone; left = (t.it ∷ t.kids) ++ c.left;
+          tree = c.tree;
+          nested = c.nested;
+          block = b;
+          todo = t.some;
+          done = (t.it ∷ t.kids) ++ c.done;
+          gone = c.gone;
+          left = (t.it ∷ t.kids) ++ c.left;
           kids = c.kids ∙ (ap (λ us. us ++ c.done) t.split ∙ append_assoc t.some (t.it ∷ t.kids) c.done);
-          fore = t.fore; rest = forest_append (t.it ∷ t.kids) c.done t.own c.rest; rest_left = forest_append (t.it ∷ t.kids) c.left t.own c.rest_left;
+          fore = t.fore;
+          rest = forest_append (t.it ∷ t.kids) c.done t.own c.rest;
+          rest_left = forest_append (t.it ∷ t.kids) c.left t.own c.rest_left;
           is = t.is ∙ simp append_assoc;
           at = next_is old id depth before next next2 now seen child c t step;
           parts = all_stay (λ u. UnderBehind old id depth u.number) (t.it ∷ t.kids) c.done c.gone c.left (each_weaker (λ u. Under old t.it.number u.number) (λ u. UnderBehind old id depth u.number → ⊥) (t.it ∷ t.kids) away own.0) c.parts;
@@ -270,8 +308,14 @@ module _ {T : Type 0} where
         let b = c.block in
         let front = b.front ++ b.task ∷ t.some in
         let block : Block None now child = record {
-          front = front; task = t.it; kids = t.kids; back = c.left ++ b.back; was = t.is; number = t.number;
-          suited = subst (λ p. suits p t.it.role ≡ true) (sym t.parent) t.suited; beneath = t.below;
+          front = front;
+          task = t.it;
+          kids = t.kids;
+          back = c.left ++ b.back;
+          was = t.is;
+          number = t.number;
+          suited = subst (λ p. suits p t.it.role ≡ true) (sym t.parent) t.suited;
+          beneath = t.below;
           around = λ others f.
               let all : Forest (Some b.task.number) (t.some ++ (others ++ c.left)) = forest_append t.some (others ++ c.left) t.fore (forest_append others c.left (subst (λ p. Forest p others) t.parent f) c.rest_left) in
               let eq : b.front ++ ((b.task ∷ (t.some ++ (others ++ c.left))) ++ b.back) ≡ (b.front ++ b.task ∷ t.some) ++ (others ++ (c.left ++ b.back)) = simp append_assoc in
@@ -301,9 +345,15 @@ module _ {T : Type 0} where
             forest = subst (λ us. Forest None us) (eq ∙ sym l.1) forest;
             distinct = subst Distinct (sym l.1) (distinct_drop front (t.it ∷ t.kids) (c.left ++ b.back) (subst Distinct t.is c.nested.distinct));
           };
-          block = b; todo = t.some; done = (t.it ∷ t.kids) ++ c.done; gone = (t.it ∷ t.kids) ++ c.gone; left = c.left;
+          block = b;
+          todo = t.some;
+          done = (t.it ∷ t.kids) ++ c.done;
+          gone = (t.it ∷ t.kids) ++ c.gone;
+          left = c.left;
           kids = c.kids ∙ (ap (λ us. us ++ c.done) t.split ∙ append_assoc t.some (t.it ∷ t.kids) c.done);
-          fore = t.fore; rest = forest_append (t.it ∷ t.kids) c.done t.own c.rest; rest_left = c.rest_left;
+          fore = t.fore;
+          rest = forest_append (t.it ∷ t.kids) c.done t.own c.rest;
+          rest_left = c.rest_left;
           is = l.1 ∙ sym eq;
           at = next_is old id depth before next next2 now seen child c t step;
           parts = all_go (λ u. UnderBehind old id depth u.number) (t.it ∷ t.kids) c.done c.gone c.left (each_weaker (λ u. Under old t.it.number u.number) (λ u. UnderBehind old id depth u.number) (t.it ∷ t.kids) inside own.0) c.parts;
@@ -361,10 +411,9 @@ module _ {T : Type 0} where
         let back : Parts P b.back [] b.back = rest_stays P b.back (each_weaker (λ u. Under old id u.number → ⊥) (λ u. P u → ⊥) b.back away out.1) in
         let tail : Parts P (c.done ++ b.back) (c.gone ++ []) (c.left ++ b.back) = parts_append P c.done c.gone c.left b.back [] b.back c.parts back in
         let all : Parts P (b.front ++ (b.task ∷ (c.done ++ b.back))) (c.gone ++ []) (b.front ++ (b.task ∷ (c.left ++ b.back))) =
-            parts_append P b.front [] b.front (b.task ∷ (c.done ++ b.back)) (c.gone ++ []) (b.task ∷ (c.left ++ b.back)) front (one_stays b.task not_self tail) in
+        parts_append P b.front [] b.front (b.task ∷ (c.done ++ b.back)) (c.gone ++ []) (b.task ∷ (c.left ++ b.back)) front (one_stays b.task not_self tail) in
         let old_is : b.front ++ (b.task ∷ (c.done ++ b.back)) ≡ old = sym (b.was ∙ ap (λ ks. b.front ++ (b.task ∷ (ks ++ b.back))) kids) in
-        let now_is : b.front ++ (b.task ∷ (c.left ++ b.back)) ≡ now = sym (c.is ∙ ap (λ us. b.front ++ ((b.task ∷ (us ++ c.left)) ++ b.back)) nothing) in
-        (
+        let now_is : b.front ++ (b.task ∷ (c.left ++ b.back)) ≡ now = sym (c.is ∙ ap (λ us. b.front ++ ((b.task ∷ (us ++ c.left)) ++ b.back)) nothing) in (
           c.gone,
           subst (λ us. Parts P old us now) (append-nil c.gone) (subst (λ us. Parts P us (c.gone ++ []) now) old_is (subst (λ us. Parts P (b.front ++ (b.task ∷ (c.done ++ b.back))) (c.gone ++ []) us) now_is all)),
           c.visited,

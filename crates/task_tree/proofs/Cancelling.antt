@@ -1,15 +1,15 @@
 -- A block of tasks that is removed from its end.
-use Rattle.std.proofs.Common.{◌≡◌, ◌⊎◌, inl, inr, ℕ, ◌+◌, ◌<◌, eqb, if◌then◌else◌, true, false, Bool, List, [], ◌∷◌, ◌++◌, length, Option, Some, None, IsSome, is_some, refl, sym, ap, subst, ◌∙◌, append_assoc, length-append, arith}
+use Rattle.std.proofs.Common.{◌≡◌, ℕ, ◌<◌, eqb, if◌then◌else◌, List, [], ◌∷◌, ◌++◌, length, Option, Some, None, is_some, refl, sym, ap, subst, ◌∙◌, append_assoc, length-append, arith}
 use Rattle.std.proofs.lemmas.Bool.{eq-eqb, ne_eqb}
 use Rattle.std.proofs.lemmas.List.{append-nil}
 use Rattle.task_tree.specs.declared.nodes.Node.{Node}
 use Rattle.task_tree.specs.Tasks.{Task, task_at, youngest, without, IsLive, HasNoChild}
-use Rattle.task_tree.specs.Nested.{Forest, no_tasks, Distinct, IsTree, Under}
+use Rattle.task_tree.specs.Nested.{no_tasks, Distinct, IsTree, Under}
 use Rattle.task_tree.specs.Links.{last, task_of}
 use Rattle.task_tree.specs.Removing.{Each, Parts, all_parted, one_goes, one_stays, Cancels, Visited}
 use Rattle.task_tree.specs.Blocks.{Block, EndsBelow}
-use Rattle.task_tree.proofs.Standing.{never, inner, absent_parts, absent_head, absent_both, absent_then, beside, at_place, without_at, no_child_parts, last_behind}
-use Rattle.task_tree.proofs.Forests.{Place, place, outsiders}
+use Rattle.task_tree.proofs.Standing.{never, inner, absent_parts, absent_head, absent_both, beside, at_place, without_at, no_child_parts, last_behind}
+use Rattle.task_tree.proofs.Forests.{place, outsiders}
 use Rattle.task_tree.proofs.Linking.{children, last_none, last_split}
 use Rattle.task_tree.proofs.Under.{block_under, not_under}
 
@@ -52,8 +52,13 @@ module _ {T : Type 0} where
     begins old id end seen tree e =
         let b = e.block in
         record {
-          tree = tree; nested = tree; block = b; todo = b.task ∷ b.kids; gone = [];
-          parts = sym (append-nil (b.task ∷ b.kids)); is = b.was;
+          tree = tree;
+          nested = tree;
+          block = b;
+          todo = b.task ∷ b.kids;
+          gone = [];
+          parts = sym (append-nil (b.task ∷ b.kids));
+          is = b.was;
           at = sym (sym (last_behind b.front b.task b.kids) ∙ e.ends);
           visited = refl;
         }
@@ -70,7 +75,10 @@ module _ {T : Type 0} where
     next_of old id at before next now seen c e =
         let s = last_split c.todo at (sym c.at ∙ e) in
         record {
-          some = s.0; task = s.1; split = s.2; number = s.3;
+          some = s.0;
+          task = s.1;
+          split = s.2;
+          number = s.3;
           place = c.is ∙ (ap (λ us. c.block.front ++ (us ++ c.block.back)) s.2 ∙ simp append_assoc);
         }
 
@@ -118,7 +126,11 @@ module _ {T : Type 0} where
         let item : node.item ≡ n.task.item = ap (λ (t : Task T). t.item) (inner (value ∙ there)) in
         let left_is : without at now ≡ front ++ b.back = ap (λ k. without k now) (sym n.number) ∙ (ap (without n.task.number) n.place ∙ without_at front b.back n.task (beside front b.back n.task distinct).0) in
         record {
-          tree = c.tree; nested = nested; block = b; todo = n.some; gone = n.task ∷ c.gone;
+          tree = c.tree;
+          nested = nested;
+          block = b;
+          todo = n.some;
+          gone = n.task ∷ c.gone;
           parts = parts;
           is = left ∙ (left_is ∙ append_assoc b.front n.some b.back);
           at = step front b.back n.task n.place n.number ∙ next_is old id at b n.some c.gone n.task c.tree parts n.number;
@@ -138,8 +150,7 @@ module _ {T : Type 0} where
     is_over old id before next now seen c e =
         let nothing = last_none c.todo (sym c.at ∙ e) in
         let all : c.gone ≡ c.block.task ∷ c.block.kids = sym (c.parts ∙ ap (λ us. us ++ c.gone) nothing) in
-        let left : now ≡ c.block.front ++ c.block.back = c.is ∙ ap (λ us. c.block.front ++ (us ++ c.block.back)) nothing in
-        (
+        let left : now ≡ c.block.front ++ c.block.back = c.is ∙ ap (λ us. c.block.front ++ (us ++ c.block.back)) nothing in (
           c.gone,
           subst (λ us. Cancels id old us now) (sym all) (subst (λ us. Cancels id old (c.block.task ∷ c.block.kids) us) (sym left) (block_parts old id c.tree c.block)),
           c.visited,

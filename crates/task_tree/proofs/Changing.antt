@@ -1,8 +1,8 @@
 -- A task that is changed where it stands.
-use Rattle.std.proofs.Common.{◌≡◌, ◌⊎◌, inl, inr, ℕ, eqb, true, Bool, List, [], ◌∷◌, ◌++◌, length, Option, Some, None, option_map, if◌then◌else◌, refl, sym, ap, subst, ◌∙◌, append_assoc, length-append, arith}
-use Rattle.std.proofs.lemmas.Bool.{cases_eq, eq-eqb, ne_eqb}
+use Rattle.std.proofs.Common.{◌≡◌, ℕ, true, List, [], ◌∷◌, ◌++◌, length, Option, Some, None, option_map, if◌then◌else◌, refl, sym, ap, subst, ◌∙◌, append_assoc, length-append, arith}
+use Rattle.std.proofs.lemmas.Bool.{eq-eqb, ne_eqb}
 use Rattle.std.proofs.lemmas.List.{append-nil}
-use Rattle.std.proofs.Common.{◌<◌, ◌+◌, cond, get_or, is_some}
+use Rattle.std.proofs.Common.{◌<◌, cond, get_or, is_some}
 use Rattle.std.proofs.lemmas.List.Sums.{sum_by-set}
 use mathlib.Core.Bool.{false≢true}
 use Rattle.slab.specs.Slab.{Slab, get, slab_len, with_value}
@@ -13,11 +13,10 @@ use Rattle.task_tree.specs.declared.nodes.Change.{Change}
 use Rattle.task_tree.specs.declared.nodes.Change.TheVariants.{Becomes}
 use Rattle.task_tree.specs.declared.nodes.Node.{Node}
 use Rattle.task_tree.specs.Tasks.{Task, task_at, youngest, first, or_else, suits, is_child, is_arm, IsArm, with_role, with_item}
-use Rattle.task_tree.specs.Nested.{Forest, Distinct, IsTree}
-use Rattle.task_tree.specs.Links.{Linked, Whole, node_at, last, Changes, changed}
-use Rattle.task_tree.proofs.Standing.{never, inner, found, changed_here, absent_parts, absent_head, absent_both, absent_other, distinct_parts, distinct_drop, distinct_put, beside, at_place, Cut, in_first, in_second, cut, youngest_append, last_behind}
-use Rattle.task_tree.proofs.Forests.{Place, place, forest_one, forest_append}
-use Rattle.task_tree.proofs.Linking.{one_map}
+use Rattle.task_tree.specs.Nested.{Forest, Distinct}
+use Rattle.task_tree.specs.Links.{Whole, node_at, last, Changes, changed}
+use Rattle.task_tree.proofs.Standing.{never, inner, found, changed_here, absent_parts, absent_head, absent_both, absent_other, distinct_drop, distinct_put, beside, in_first, in_second, cut, youngest_append, last_behind}
+use Rattle.task_tree.proofs.Forests.{place, forest_one}
 
 arm_suits : (p : Option ℕ) (r : Role) (depth : ℕ) → suits p r ≡ true → is_arm r ≡ true → suits p (Behind depth) ≡ true
 arm_suits None Root depth s a = absurd (false≢true a)
@@ -64,9 +63,9 @@ module _ {T : Type 0} where
                 let old : ts ≡ a ++ x ∷ (m ++ t ∷ back) = was ∙ (ap (λ xs. xs ++ t ∷ back) g ∙ append_assoc a (x ∷ m) (t ∷ back)) in
                 let differs : x.number ≡ t.number → ⊥ = λ s. (absent_head t.number x m (absent_parts t.number a (x ∷ m) (sym (ap (task_at t.number) g) ∙ alone.0)).1).0 s in
                 others x.number differs ∙ (w.linked.each a (m ++ t ∷ back) x old ∙ (
-                  ap (λ f. Some (record { parent = x.parent; role = x.role; item = x.item; links = record { youngest = youngest (Some x.number) (m ++ t ∷ back); older = youngest x.parent a; before = last a; behind = f } })) (sym (first_alike m back t u same))
-                  ∙ ap (λ y. Some (record { parent = x.parent; role = x.role; item = x.item; links = record { youngest = y; older = youngest x.parent a; before = last a; behind = first (m ++ u ∷ back) } })) (sym (youngest_alike (Some x.number) m back t u same))
-                  ∙ ap (λ xs. Some (node_at a x xs)) (sym h)))
+                ap (λ f. Some (record { parent = x.parent; role = x.role; item = x.item; links = record { youngest = youngest (Some x.number) (m ++ t ∷ back); older = youngest x.parent a; before = last a; behind = f } })) (sym (first_alike m back t u same))
+                ∙ ap (λ y. Some (record { parent = x.parent; role = x.role; item = x.item; links = record { youngest = y; older = youngest x.parent a; before = last a; behind = first (m ++ u ∷ back) } })) (sym (youngest_alike (Some x.number) m back t u same))
+                ∙ ap (λ xs. Some (node_at a x xs)) (sym h)))
             | in_second [] g h ↦
                 let is : u ≡ x = cc in
                 let rest : back ≡ b = cc in
@@ -79,9 +78,9 @@ module _ {T : Type 0} where
                 let differs : x.number ≡ t.number → ⊥ = λ s. (absent_head t.number x b (absent_parts t.number m (x ∷ b) (sym (ap (task_at t.number) rest) ∙ alone.1)).1).0 s in
                 let front_is : a ≡ front ++ u ∷ m = h ∙ ap (λ y. front ++ y ∷ m) (sym is) in
                 others x.number differs ∙ (w.linked.each (front ++ t ∷ m) b x old ∙ (
-                  ap (λ f. Some (record { parent = x.parent; role = x.role; item = x.item; links = record { youngest = youngest (Some x.number) b; older = youngest x.parent (front ++ t ∷ m); before = f; behind = first b } })) (sym (last_alike front m t u same))
-                  ∙ ap (λ y. Some (record { parent = x.parent; role = x.role; item = x.item; links = record { youngest = youngest (Some x.number) b; older = y; before = last (front ++ u ∷ m); behind = first b } })) (sym (youngest_alike x.parent front m t u same))
-                  ∙ ap (λ xs. Some (node_at xs x b)) (sym front_is)))
+                ap (λ f. Some (record { parent = x.parent; role = x.role; item = x.item; links = record { youngest = youngest (Some x.number) b; older = youngest x.parent (front ++ t ∷ m); before = f; behind = first b } })) (sym (last_alike front m t u same))
+                ∙ ap (λ y. Some (record { parent = x.parent; role = x.role; item = x.item; links = record { youngest = youngest (Some x.number) b; older = y; before = last (front ++ u ∷ m); behind = first b } })) (sym (youngest_alike x.parent front m t u same))
+                ∙ ap (λ xs. Some (node_at xs x b)) (sym front_is)))
           ];
           others = λ n absent.
               let split = absent_parts n front (u ∷ back) absent in
@@ -114,11 +113,11 @@ module _ {T : Type 0} where
           let absent : task_at t.number a.front ≡ None = subst (λ n. task_at n a.front ≡ None) (sym a.number) a.absent in
           let u : Task T = record t { role = Behind depth } in
           let is : a.front ++ u ∷ a.back ≡ with_role id (Behind depth) now =
-              sym (ap (with_role id (Behind depth)) a.was ∙ (ap (λ n. with_role n (Behind depth) (a.front ++ t ∷ a.back)) (sym a.number) ∙ changed_here a.front a.back t (λ v. record v { role = Behind depth }) absent)) in
+          sym (ap (with_role id (Behind depth)) a.was ∙ (ap (λ n. with_role n (Behind depth) (a.front ++ t ∷ a.back)) (sym a.number) ∙ changed_here a.front a.back t (λ v. record v { role = Behind depth }) absent)) in
           let p = place None ts a.front t a.back w.tree.forest w.tree.distinct (λ n h. absurd (never h)) was in
           let arm_here : is_arm t.role ≡ true = inner (sym (ap (option_map (λ (v : Task T). is_arm v.role)) e) ∙ arm) in
           let node : get next t.number ≡ Some (node_at a.front u a.back) =
-              ap (get next) a.number ∙ (at_key nodes next id (Becomes (Behind depth)) c ∙ (ap (λ n. option_map (changed (Becomes (Behind depth))) (get nodes n)) (sym a.number) ∙ ap (option_map (changed (Becomes (Behind depth)))) (w.linked.each a.front a.back t was))) in
+          ap (get next) a.number ∙ (at_key nodes next id (Becomes (Behind depth)) c ∙ (ap (λ n. option_map (changed (Becomes (Behind depth))) (get nodes n)) (sym a.number) ∙ ap (option_map (changed (Becomes (Behind depth)))) (w.linked.each a.front a.back t was))) in
           subst (λ xs. Whole next head tail xs) is
           (changed_one nodes next head tail ts a.front a.back t u w was (record { number = refl; parent = refl }) (arm_suits t.parent t.role depth p.suited arm_here) node (λ n d. off_key nodes next id n (Becomes (Behind depth)) c (λ e. d (e ∙ sym a.number))) c.count)
 
@@ -141,7 +140,7 @@ module _ {T : Type 0} where
           let absent : task_at t.number a.front ≡ None = subst (λ n. task_at n a.front ≡ None) (sym a.number) a.absent in
           let u : Task T = record t { item = item } in
           let is : a.front ++ u ∷ a.back ≡ with_item id now item =
-              sym (ap (λ xs. with_item id xs item) a.was ∙ (ap (λ n. with_item n (a.front ++ t ∷ a.back) item) (sym a.number) ∙ changed_here a.front a.back t (λ v. record v { item = item }) absent)) in
+          sym (ap (λ xs. with_item id xs item) a.was ∙ (ap (λ n. with_item n (a.front ++ t ∷ a.back) item) (sym a.number) ∙ changed_here a.front a.back t (λ v. record v { item = item }) absent)) in
           let p = place None ts a.front t a.back w.tree.forest w.tree.distinct (λ n h. absurd (never h)) was in
           let same : node ≡ node_at a.front t a.back = inner (sym got ∙ (ap (get nodes) (sym a.number) ∙ w.linked.each a.front a.back t was)) in
           let next = with_value nodes id (record node { item = item }) in

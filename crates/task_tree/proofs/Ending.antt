@@ -1,13 +1,12 @@
 -- Where the tasks that a task encloses end.
-use Rattle.std.proofs.Common.{◌≡◌, ◌⊎◌, inl, inr, ℕ, ◌+◌, ◌<◌, eqb, if◌then◌else◌, true, List, [], ◌∷◌, ◌++◌, length, Option, Some, None, refl, sym, ap, subst, ◌∙◌, append_assoc, length-append, arith}
+use Rattle.std.proofs.Common.{◌≡◌, ℕ, ◌<◌, if◌then◌else◌, true, List, [], ◌∷◌, ◌++◌, length, Option, Some, None, refl, sym, ap, subst, ◌∙◌, append_assoc, length-append, arith}
 use Rattle.std.proofs.lemmas.Bool.{eq-eqb, ne_eqb}
-use Rattle.std.proofs.lemmas.List.{append-nil}
 use Rattle.task_tree.specs.Tasks.{Task, task_at, youngest, or_else, suits, IsLive}
-use Rattle.task_tree.specs.Nested.{Forest, no_tasks, a_task, Distinct, IsTree}
+use Rattle.task_tree.specs.Nested.{Forest, no_tasks, Distinct, IsTree}
 use Rattle.task_tree.specs.Links.{last}
 use Rattle.task_tree.specs.Blocks.{Block, Down, EndsBelow, count_behind}
 use Rattle.task_tree.proofs.Standing.{never, inner, found, absent_parts, absent_head, absent_then, beside, distinct_parts, youngest_append, youngest_other, no_child_parts, else_none, last_behind}
-use Rattle.task_tree.proofs.Forests.{Place, place, outsiders, forest_one, forest_append, forest_empty, LastOf, last_of}
+use Rattle.task_tree.proofs.Forests.{place, outsiders, forest_one, forest_append, forest_empty, last_of}
 use Rattle.task_tree.proofs.Linking.{not_own, not_some}
 
 module _ {T : Type 0} where
@@ -15,9 +14,15 @@ module _ {T : Type 0} where
   block_at ts front back t n tree was number =
       let p = place None ts front t back tree.forest tree.distinct (λ m h. absurd (never h)) was in
       record {
-        front = front; task = t; kids = p.kids; back = p.younger ++ p.outer;
+        front = front;
+        task = t;
+        kids = p.kids;
+        back = p.younger ++ p.outer;
         was = was ∙ ap (λ xs. front ++ t ∷ xs) p.was;
-        number = number; suited = p.suited; beneath = p.beneath; around = p.around;
+        number = number;
+        suited = p.suited;
+        beneath = p.beneath;
+        around = p.around;
       }
 
   pub block_of : (ts : List (Task T)) (n : ℕ) → IsTree ts → IsLive n ts → Block None ts n
@@ -37,8 +42,8 @@ module _ {T : Type 0} where
       let none = no_child_parts q b.front b.back (outsiders None (b.front ++ b.back) (b.around [] no_tasks) q (λ e. never e) (λ m e. subst (λ k. task_at k (b.front ++ b.back) ≡ None) (inner e) absent)) in
       let in_rest : youngest q (b.kids ++ b.back) ≡ youngest q b.kids = youngest_append q b.kids b.back ∙ ap (λ o. or_else o (youngest q b.kids)) none.1 in
       let in_all : youngest q ts ≡ youngest q b.kids =
-          ap (youngest q) b.was ∙ (youngest_append q b.front (b.task ∷ b.kids ++ b.back) ∙ (ap (λ o. or_else (youngest q (b.task ∷ b.kids ++ b.back)) o) none.0 ∙
-            (else_none (youngest q (b.task ∷ b.kids ++ b.back)) ∙ (youngest_other q b.task (b.kids ++ b.back) (not_own ts b.front (b.kids ++ b.back) b.task tree b.was) ∙ in_rest)))) in
+      ap (youngest q) b.was ∙ (youngest_append q b.front (b.task ∷ b.kids ++ b.back) ∙ (ap (λ o. or_else (youngest q (b.task ∷ b.kids ++ b.back)) o) none.0 ∙
+      (else_none (youngest q (b.task ∷ b.kids ++ b.back)) ∙ (youngest_other q b.task (b.kids ++ b.back) (not_own ts b.front (b.kids ++ b.back) b.task tree b.was) ∙ in_rest)))) in
       (none.0, none.1, ap (λ m. youngest (Some m) ts) (sym b.number) ∙ in_all)
 
   count_at : (front rest : List (Task T)) (t : Task T) → task_at t.number front ≡ None → count_behind t.number (front ++ t ∷ rest) ≡ length rest
@@ -66,15 +71,19 @@ module _ {T : Type 0} where
       let out = (absent_parts b.task.number b.kids b.back alone.1).0 in
       let r = last_of (Some b.task.number) b.kids child b.beneath distinct (λ n h. subst (λ m. task_at m b.kids ≡ None) (inner h) out) (sym (block_children ts at tree b).2 ∙ e) in
       let c : Block None ts child = record {
-        front = b.front ++ b.task ∷ r.front; task = r.task; kids = r.kids; back = b.back;
+        front = b.front ++ b.task ∷ r.front;
+        task = r.task;
+        kids = r.kids;
+        back = b.back;
         was = b.was ∙ (ap (λ ks. b.front ++ b.task ∷ (ks ++ b.back)) r.was ∙ simp append_assoc);
-        number = r.number; suited = subst (λ p. suits p r.task.role ≡ true) (sym r.parent) r.suited; beneath = r.beneath;
+        number = r.number;
+        suited = subst (λ p. suits p r.task.role ≡ true) (sym r.parent) r.suited;
+        beneath = r.beneath;
         around = λ others f.
             let more : Forest (Some b.task.number) (r.front ++ others) = forest_append r.front others r.before (subst (λ p. Forest p others) r.parent f) in
             let eq : b.front ++ (b.task ∷ (r.front ++ others) ++ b.back) ≡ (b.front ++ b.task ∷ r.front) ++ (others ++ b.back) = simp append_assoc in
             subst (λ xs. Forest None xs) eq (b.around (b.task ∷ (r.front ++ others)) (forest_one b.task.parent b.task (r.front ++ others) refl b.suited more));
-      } in
-      (
+      } in (
         c,
         ap (λ ks. b.front ++ b.task ∷ ks) r.was ∙ simp append_assoc,
         omega (arith, length-append r.kids b.back, length-append b.kids b.back, ap length r.was, length-append r.front (r.task ∷ r.kids)),

@@ -2,9 +2,8 @@
 use Rattle.std.proofs.Common.{◌≡◌, ◌⊎◌, inl, inr, ℕ, true, List, [], ◌∷◌, ◌++◌, Option, Some, None, refl, sym, ap, subst, ◌∙◌, append_assoc}
 use Rattle.std.proofs.lemmas.List.{append-nil}
 use Rattle.task_tree.specs.Tasks.{Task, task_at, youngest, suits, or_else}
-use Rattle.task_tree.specs.Nested.{Forest, no_tasks, a_task, Distinct, IsTree}
-use Rattle.task_tree.specs.Blocks.{Block}
-use Rattle.task_tree.proofs.Standing.{never, inner, here, further, append_at, task_or, absent_parts, absent_head, absent_then, absent_both, distinct_parts, apart, beside, at_place, Cut, in_first, in_second, cut, youngest_append, no_child_parts, no_child_both, youngest_other, youngest_same, some_child, else_absent, else_none, found}
+use Rattle.task_tree.specs.Nested.{Forest, no_tasks, a_task, Distinct}
+use Rattle.task_tree.proofs.Standing.{never, inner, here, append_at, task_or, absent_parts, absent_head, distinct_parts, apart, in_first, in_second, cut, youngest_append, no_child_both, youngest_other, youngest_same, some_child, else_none}
 
 abbrev pub IsThere : {T : Type 0} → ℕ → List (Task T) → Type 0
 IsThere {T} n ts = (t : Task T) × (task_at n ts ≡ Some t)
@@ -65,7 +64,9 @@ module _ {T : Type 0} where
       let tails : kids ++ rest ≡ behind = cc in
       let own : t.parent ≡ top = ap (λ (v : Task T). v.parent) (sym same) ∙ parent in
       record {
-        kids = kids; younger = rest; outer = [];
+        kids = kids;
+        younger = rest;
+        outer = [];
         was = sym tails ∙ ap (λ xs. kids ++ xs) (sym (append-nil rest));
         suited = subst (λ p. suits p t.role ≡ true) (sym own) (subst (λ (v : Task T). suits top v.role ≡ true) same role);
         beneath = subst (λ (v : Task T). Forest (Some v.number) kids) same below;
@@ -85,19 +86,23 @@ module _ {T : Type 0} where
             let r = place (Some u.number) kids vs t m below parts.0 (λ n h. subst (λ k. task_at k kids ≡ None) (inner h) (absent_parts u.number kids rest distinct.0).0) p in
             let there : (n : ℕ) → IsThere n ts → top ≡ Some n → ⊥ = λ n h g. never (sym (out n g) ∙ h.1) in
             let up : (n : ℕ) × (t.parent ≡ Some n) × IsThere n (u ∷ vs) × (task_at n rest ≡ None) × IsThere n ts =
-                elim r.above [
-                  | inl g ↦ (u.number, g, (u, here u.number u vs refl), (absent_parts u.number kids rest distinct.0).1, (u, ap (task_at u.number) was ∙ here u.number u (kids ++ rest) refl))
-                  | inr h ↦
-                      let k : IsThere h.0 kids = (h.2.0, ap (task_at h.0) p ∙ (append_at h.0 vs (t ∷ m) ∙ ap (λ o. task_or o (task_at h.0 (t ∷ m))) h.2.1)) in
-                      let l : task_at h.0 (kids ++ rest) ≡ Some k.0 = append_at h.0 kids rest ∙ ap (λ o. task_or o (task_at h.0 rest)) k.1 in
-                      let w = there_behind h.0 (u ∷ []) (kids ++ rest) (k.0, l) in
-                      (h.0, h.1, there_behind h.0 (u ∷ []) vs h.2, apart kids rest h.0 k.0 distinct.1 k.1, (w.0, ap (task_at h.0) was ∙ w.1))
-                ] in
+            elim r.above [
+              | inl g ↦ (u.number, g, (u, here u.number u vs refl), (absent_parts u.number kids rest distinct.0).1, (u, ap (task_at u.number) was ∙ here u.number u (kids ++ rest) refl))
+              | inr h ↦
+                  let k : IsThere h.0 kids = (h.2.0, ap (task_at h.0) p ∙ (append_at h.0 vs (t ∷ m) ∙ ap (λ o. task_or o (task_at h.0 (t ∷ m))) h.2.1)) in
+                  let l : task_at h.0 (kids ++ rest) ≡ Some k.0 = append_at h.0 kids rest ∙ ap (λ o. task_or o (task_at h.0 rest)) k.1 in
+                  let w = there_behind h.0 (u ∷ []) (kids ++ rest) (k.0, l) in
+                  (h.0, h.1, there_behind h.0 (u ∷ []) vs h.2, apart kids rest h.0 k.0 distinct.1 k.1, (w.0, ap (task_at h.0) was ∙ w.1))
+            ] in
             let none_rest : youngest t.parent rest ≡ None = outsiders top rest more t.parent (λ g. there up.0 up.4 (g ∙ up.1)) (λ n h. subst (λ k. task_at k rest ≡ None) (inner (sym up.1 ∙ h)) up.3) in
             record {
-              kids = r.kids; younger = r.younger; outer = r.outer ++ rest;
+              kids = r.kids;
+              younger = r.younger;
+              outer = r.outer ++ rest;
               was = q ∙ ap (λ xs. xs ++ rest) r.was ∙ simp append_assoc;
-              suited = r.suited; beneath = r.beneath; siblings = r.siblings;
+              suited = r.suited;
+              beneath = r.beneath;
+              siblings = r.siblings;
               no_more = no_child_both t.parent r.outer rest r.no_more none_rest;
               around = λ others f.
                   a_task u (vs ++ (others ++ (r.younger ++ r.outer))) rest (ap (λ w. w ∷ (vs ++ (others ++ (r.younger ++ (r.outer ++ rest))))) (sym same) ∙ simp append_assoc) parent role (r.around others f) more;
@@ -106,8 +111,14 @@ module _ {T : Type 0} where
         | in_second m p q ↦
             let r = place top rest m t behind more parts.1 (λ n h. (absent_parts n kids rest (absent_head n u (kids ++ rest) (sym (ap (task_at n) was) ∙ out n h)).1).1) p in
             record {
-              kids = r.kids; younger = r.younger; outer = r.outer;
-              was = r.was; suited = r.suited; beneath = r.beneath; siblings = r.siblings; no_more = r.no_more;
+              kids = r.kids;
+              younger = r.younger;
+              outer = r.outer;
+              was = r.was;
+              suited = r.suited;
+              beneath = r.beneath;
+              siblings = r.siblings;
+              no_more = r.no_more;
               around = λ others f.
                   a_task u kids (m ++ (others ++ (r.younger ++ r.outer))) (ap (λ w. w ∷ (vs ++ (others ++ (r.younger ++ r.outer)))) (sym same) ∙ (ap (λ xs. u ∷ (xs ++ (others ++ (r.younger ++ r.outer)))) q ∙ simp append_assoc)) parent role below (r.around others f);
               above = elim r.above [
@@ -142,24 +153,34 @@ module _ {T : Type 0} where
       let absent : (m : ℕ) → p ≡ Some m → (u.number ≡ m → ⊥) × (task_at m (kids ++ rest) ≡ None) = λ m h. absent_head m u (kids ++ rest) (sym (ap (task_at m) was) ∙ out m h) in
       let none_kids : youngest p kids ≡ None = outsiders (Some u.number) kids below p (λ g. (absent u.number (sym g)).0 refl) (λ m h. (absent_parts m kids rest (absent m h).1).0) in
       let whole : or_else (youngest p rest) (Some u.number) ≡ Some n =
-          sym (ap (λ o. or_else o (Some u.number)) (youngest_append p kids rest ∙ (ap (λ o. or_else (youngest p rest) o) none_kids ∙ else_none (youngest p rest)))) ∙ (sym (youngest_same p u (kids ++ rest) (sym parent)) ∙ (sym (ap (youngest p) was) ∙ e)) in
+      sym (ap (λ o. or_else o (Some u.number)) (youngest_append p kids rest ∙ (ap (λ o. or_else (youngest p rest) o) none_kids ∙ else_none (youngest p rest)))) ∙ (sym (youngest_same p u (kids ++ rest) (sym parent)) ∙ (sym (ap (youngest p) was) ∙ e)) in
       let later : (m : ℕ) → youngest p rest ≡ Some m → LastOf p ts n = λ m h.
-          let r = last_of p rest m more parts.1 (λ k g. (absent_parts k kids rest (absent k g).1).1) h in
-          let same : m ≡ n = inner (sym (ap (λ o. or_else o (Some u.number)) h) ∙ whole) in
-          record {
-            front = u ∷ (kids ++ r.front); task = r.task; kids = r.kids;
-            was = was ∙ (ap (λ xs. u ∷ (kids ++ xs)) r.was ∙ simp append_assoc);
-            number = r.number ∙ same; parent = r.parent; suited = r.suited; beneath = r.beneath;
-            before = a_task u kids r.front refl parent role below r.before;
-          } in
+      let r = last_of p rest m more parts.1 (λ k g. (absent_parts k kids rest (absent k g).1).1) h in
+      let same : m ≡ n = inner (sym (ap (λ o. or_else o (Some u.number)) h) ∙ whole) in
+      record {
+        front = u ∷ (kids ++ r.front);
+        task = r.task;
+        kids = r.kids;
+        was = was ∙ (ap (λ xs. u ∷ (kids ++ xs)) r.was ∙ simp append_assoc);
+        number = r.number ∙ same;
+        parent = r.parent;
+        suited = r.suited;
+        beneath = r.beneath;
+        before = a_task u kids r.front refl parent role below r.before;
+      } in
       let only : youngest p rest ≡ None → LastOf p ts n = λ h.
-          let nothing = forest_empty p rest more h in
-          record {
-            front = []; task = u; kids = kids;
-            was = was ∙ (ap (λ xs. u ∷ (kids ++ xs)) nothing ∙ append-nil (u ∷ kids));
-            number = inner (sym (ap (λ o. or_else o (Some u.number)) h) ∙ whole); parent = parent; suited = role; beneath = below;
-            before = no_tasks;
-          } in
+      let nothing = forest_empty p rest more h in
+      record {
+        front = [];
+        task = u;
+        kids = kids;
+        was = was ∙ (ap (λ xs. u ∷ (kids ++ xs)) nothing ∙ append-nil (u ∷ kids));
+        number = inner (sym (ap (λ o. or_else o (Some u.number)) h) ∙ whole);
+        parent = parent;
+        suited = role;
+        beneath = below;
+        before = no_tasks;
+      } in
       pick (youngest p rest) refl later only
     where
       pick : (o : Option ℕ) → youngest p rest ≡ o → ((m : ℕ) → youngest p rest ≡ Some m → LastOf p ts n) → (youngest p rest ≡ None → LastOf p ts n) → LastOf p ts n

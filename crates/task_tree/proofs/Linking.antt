@@ -1,19 +1,17 @@
 -- What the nodes of tasks tell.
-use Rattle.std.proofs.Common.{◌≡◌, ◌⊎◌, inl, inr, ◌↔◌, ℕ, zero, suc, ◌+◌, true, false, rules, Bool, IsTrue, List, [], ◌∷◌, ◌++◌, length, Option, Some, None, IsSome, is_some, option_map, refl, sym, ap, subst, ◌∙◌, arith, append_assoc}
-use Rattle.std.proofs.lemmas.List.{append-nil}
+use Rattle.std.proofs.Common.{◌≡◌, inl, inr, ◌↔◌, ℕ, true, false, Bool, IsTrue, List, [], ◌∷◌, ◌++◌, length, Option, Some, None, IsSome, is_some, option_map, refl, sym, ap, subst, ◌∙◌, append_assoc}
 use Rattle.std.proofs.lemmas.Bool.{ne_eqb}
 use Rattle.std.proofs.Common.{Bor, option_copied, count_by, slice_index_or}
 use mathlib.Core.Bool.{false≢true}
-use Rattle.slab.specs.Slab.{Slab, get, slab_len, ContainsKey}
+use Rattle.slab.specs.Slab.{Slab, get, slab_len}
 use Rattle.task_tree.specs.declared.nodes.Node.{Node}
 use Rattle.task_tree.specs.declared.nodes.Links.{Links}
-use Rattle.task_tree.specs.Tasks.{Task, task_at, parent_at, youngest, after, first, or_else, suits}
-use Rattle.task_tree.specs.Nested.{Forest, no_tasks, a_task, Distinct, IsTree}
+use Rattle.task_tree.specs.Tasks.{Task, task_at, youngest, after, first, or_else}
+use Rattle.task_tree.specs.Nested.{no_tasks, Distinct, IsTree}
 use Rattle.task_tree.specs.Links.{Linked, Whole, node_at, task_of, last}
-use Rattle.task_tree.specs.Blocks.{Block}
 use Rattle.task_tree.specs.View.{walk}
-use Rattle.task_tree.proofs.Standing.{At, found, never, inner, here, absent_parts, absent_head, absent_then, distinct_parts, beside, at_place, after_at, no_child_parts, no_child_both, youngest_append, youngest_other, else_none}
-use Rattle.task_tree.proofs.Forests.{Place, place, outsiders, no_split, forest_one, Outside, IsThere}
+use Rattle.task_tree.proofs.Standing.{At, found, never, inner, absent_parts, absent_head, absent_then, beside, after_at, no_child_parts, youngest_append, youngest_other, else_none}
+use Rattle.task_tree.proofs.Forests.{Place, place, outsiders, no_split}
 
 pub tested : {A : Type 0} (b : Bool) (o : Option A) → IsTrue b ↔ IsSome o → b ≡ is_some o
 tested true None e = absurd (false≢true (e.0 refl))
@@ -91,7 +89,7 @@ module _ {T : Type 0} where
       let none = no_child_parts q front rest (outsiders None (front ++ rest) (p.around [] no_tasks) q (λ e. never e) (λ n e. subst (λ m. task_at m (front ++ rest) ≡ None) (inner e) absent_all)) in
       let in_back : youngest q back ≡ youngest q p.kids = ap (youngest q) p.was ∙ (youngest_append q p.kids rest ∙ ap (λ o. or_else o (youngest q p.kids)) none.1) in
       let in_all : youngest q ts ≡ youngest q p.kids =
-          ap (youngest q) was ∙ (youngest_append q front (t ∷ back) ∙ (ap (λ o. or_else (youngest q (t ∷ back)) o) none.0 ∙ (else_none (youngest q (t ∷ back)) ∙ (youngest_other q t back (not_own ts front back t tree was) ∙ in_back)))) in
+      ap (youngest q) was ∙ (youngest_append q front (t ∷ back) ∙ (ap (λ o. or_else (youngest q (t ∷ back)) o) none.0 ∙ (else_none (youngest q (t ∷ back)) ∙ (youngest_other q t back (not_own ts front back t tree was) ∙ in_back)))) in
       (none.0, none.1, in_all, in_back)
 
   pub youngest_is : (nodes : Slab (Node T)) (ts : List (Task T)) (n : ℕ) → IsTree ts → Linked nodes ts → leads (λ l. l.youngest) (links_in (get nodes n)) ≡ youngest (Some n) ts
@@ -169,7 +167,8 @@ module _ {T : Type 0} where
       whole_walk nodes None None [] (record {
         tree = record { forest = no_tasks; distinct = tt };
         linked = record { each = λ front back t was. absurd (no_split front t back was); others = λ n absent. gone n; count = count };
-        head_is = refl; tail_is = refl;
+        head_is = refl;
+        tail_is = refl;
       })
 
   pub same_slots : (nodes next : Slab (Node T)) (head tail : Option ℕ) (ts : List (Task T)) → next.slots ≡ nodes.slots → Whole nodes head tail ts → Whole next head tail ts
@@ -182,7 +181,8 @@ module _ {T : Type 0} where
           others = λ n absent. at n ∙ w.linked.others n absent;
           count = ap (count_by is_some) e ∙ w.linked.count;
         };
-        head_is = w.head_is; tail_is = w.tail_is;
+        head_is = w.head_is;
+        tail_is = w.tail_is;
       }
 
   pub fresh_is : (nodes : Slab (Node T)) (ts now : List (Task T)) (n : ℕ) → Linked nodes ts → ts ≡ now → get nodes n ≡ None → task_at n now ≡ None

@@ -2,7 +2,6 @@
 use Rattle.std.proofs.Common.{◌≡◌, ◌⊎◌, inl, inr, ℕ, eqb, Bool, true, false, if◌then◌else◌, List, [], ◌∷◌, ◌++◌, Option, Some, None, refl, sym, ap, subst, ◌∙◌}
 use Rattle.std.proofs.lemmas.Bool.{cases_eq, eq-eqb, ne_eqb}
 use Rattle.std.proofs.lemmas.Option.{same_Some, none-some}
-use Rattle.std.proofs.lemmas.List.{append-nil}
 use Rattle.task_tree.specs.Tasks.{Task, task_at, first, after, is_child, or_else, youngest, without, changed_at}
 use Rattle.task_tree.specs.Links.{last}
 use Rattle.task_tree.specs.Nested.{Distinct}

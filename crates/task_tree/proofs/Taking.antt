@@ -1,18 +1,17 @@
 -- A task without children that is taken out.
-use Rattle.std.proofs.Common.{◌≡◌, ◌⊎◌, inl, inr, ℕ, ◌+◌, eqb, Bool, true, false, List, [], ◌∷◌, ◌++◌, length, Option, Some, None, option_map, if◌then◌else◌, refl, sym, ap, subst, ◌∙◌, append_assoc, length-append, arith}
+use Rattle.std.proofs.Common.{◌≡◌, ◌⊎◌, inl, inr, ℕ, ◌+◌, Bool, true, false, List, [], ◌∷◌, ◌++◌, length, Option, Some, None, option_map, if◌then◌else◌, refl, sym, ap, subst, ◌∙◌, append_assoc, length-append, arith}
 use Rattle.std.proofs.lemmas.Bool.{cases_eq, eq-eqb, ne_eqb}
 use Rattle.std.proofs.lemmas.List.{append-nil}
 use mathlib.Core.Bool.{false≢true}
 use Rattle.slab.specs.Slab.{Slab, get, slab_len, Updates}
 use Rattle.task_tree.specs.declared.nodes.Node.{Node}
-use Rattle.task_tree.specs.declared.nodes.Links.{Links}
 use Rattle.task_tree.specs.declared.nodes.Change.{Change}
 use Rattle.task_tree.specs.declared.nodes.Change.TheVariants.{Past}
 use Rattle.task_tree.specs.Tasks.{Task, task_at, youngest, first, or_else, without, IsLive, HasNoChild}
 use Rattle.task_tree.specs.Nested.{Forest, no_tasks, a_task, Distinct, IsTree}
-use Rattle.task_tree.specs.Links.{Linked, Whole, node_at, last, Changes, changed, past, is_at}
-use Rattle.task_tree.proofs.Standing.{found, without_at, never, inner, absent_parts, absent_head, absent_both, absent_other, distinct_drop, beside, Cut, in_first, in_second, cut, youngest_append, youngest_other, youngest_same, some_child, no_child_parts, cases_parent, else_none, last_behind}
-use Rattle.task_tree.proofs.Forests.{Place, place, forest_empty}
+use Rattle.task_tree.specs.Links.{Whole, node_at, last, Changes, changed, past, is_at}
+use Rattle.task_tree.proofs.Standing.{found, without_at, never, inner, absent_parts, absent_head, absent_both, absent_other, distinct_drop, beside, in_first, in_second, cut, youngest_append, youngest_other, youngest_same, some_child, cases_parent, else_none, last_behind}
+use Rattle.task_tree.proofs.Forests.{place, forest_empty}
 use Rattle.task_tree.proofs.Linking.{children, not_own, not_some}
 
 pub past_own : (k : ℕ) (next : Option ℕ) → past k next (Some k) ≡ next
@@ -106,8 +105,8 @@ module _ {T : Type 0} where
         let p = place None ts a e (m ++ x ∷ back) tree.forest tree.distinct (λ n h. absurd (never h)) place_e in
         let none_before : youngest (Some e.number) a ≡ None = (children ts a e (m ++ x ∷ back) tree place_e p).0 in
         let own : Some e.number ≡ x.parent → its.older ≡ youngest (Some e.number) m = λ s.
-            ap (λ q. youngest q front) (sym s) ∙ (ap (youngest (Some e.number)) is ∙ (youngest_append (Some e.number) a (e ∷ m) ∙
-              (ap (λ o. or_else (youngest (Some e.number) (e ∷ m)) o) none_before ∙ (else_none (youngest (Some e.number) (e ∷ m)) ∙ youngest_other (Some e.number) e m (not_own ts a (m ++ x ∷ back) e tree place_e))))) in
+        ap (λ q. youngest q front) (sym s) ∙ (ap (youngest (Some e.number)) is ∙ (youngest_append (Some e.number) a (e ∷ m) ∙
+        (ap (λ o. or_else (youngest (Some e.number) (e ∷ m)) o) none_before ∙ (else_none (youngest (Some e.number) (e ∷ m)) ∙ youngest_other (Some e.number) e m (not_own ts a (m ++ x ∷ back) e tree place_e))))) in
         same_node e
         (youngest_past x.number its.older (Some e.number) m back x refl in_m alone.1 own)
         (past_youngest x.number its.older e.parent a split.0)
@@ -195,7 +194,7 @@ module _ {T : Type 0} where
       let no_kids = forest_empty (Some x.number) p.kids p.beneath (sym (children ts front x back w.tree was p).2 ∙ childless) in
       let rest : back ≡ p.younger ++ p.outer = p.was ∙ ap (λ ks. ks ++ (p.younger ++ p.outer)) no_kids in
       let chain : (m : ℕ) (o : Option (Node T)) → get n1 m ≡ o → get n4 m ≡ step change (is_at x.parent m) (step change (is_at (first back) m) (step change (is_at (last front) m) o)) = λ m o e.
-          c3.nodes m ∙ ap (step change (is_at x.parent m)) (c2.nodes m ∙ ap (step change (is_at (first back) m)) (c1.nodes m ∙ ap (step change (is_at (last front) m)) e)) in
+      c3.nodes m ∙ ap (step change (is_at x.parent m)) (c2.nodes m ∙ ap (step change (is_at (first back) m)) (c1.nodes m ∙ ap (step change (is_at (last front) m)) e)) in
       record {
         tree = record { forest = subst (λ xs. Forest None (front ++ xs)) (sym rest) (p.around [] no_tasks); distinct = distinct_drop front (x ∷ []) back (subst Distinct was w.tree.distinct) };
         linked = record {
@@ -206,22 +205,22 @@ module _ {T : Type 0} where
                 let old : ts ≡ a ++ e ∷ (m ++ x ∷ back) = was ∙ (ap (λ xs. xs ++ x ∷ back) g ∙ append_assoc a (e ∷ m) (x ∷ back)) in
                 let there : get n1 e.number ≡ Some (node_at a e (m ++ x ∷ back)) = others e.number e_head.0 ∙ w.linked.each a (m ++ x ∷ back) e old in
                 chain e.number (Some (node_at a e (m ++ x ∷ back))) there ∙ (
-                  three change (is_at (last front) e.number) (is_at (first back) e.number) (is_at x.parent e.number) (node_at a e (m ++ x ∷ back)) (node_at a e (m ++ back))
-                    (before_changes ts front back x w.tree was a m e g)
-                    (settled ts front back x w.tree was a (m ++ back) e split.0 (absent_both x.number m back e_head.1 alone.1))
-                    (λ h1 h2 h3. before_same ts front back x w.tree was a m e g h1 h3)
-                  ∙ ap (λ xs. Some (node_at a e xs)) (sym h))
+                three change (is_at (last front) e.number) (is_at (first back) e.number) (is_at x.parent e.number) (node_at a e (m ++ x ∷ back)) (node_at a e (m ++ back))
+                (before_changes ts front back x w.tree was a m e g)
+                (settled ts front back x w.tree was a (m ++ back) e split.0 (absent_both x.number m back e_head.1 alone.1))
+                (λ h1 h2 h3. before_same ts front back x w.tree was a m e g h1 h3)
+                ∙ ap (λ xs. Some (node_at a e xs)) (sym h))
             | in_second m g h ↦
                 let split = absent_parts x.number m (e ∷ b) (sym (ap (task_at x.number) g) ∙ alone.1) in
                 let e_head = absent_head x.number e b split.1 in
                 let old : ts ≡ (front ++ x ∷ m) ++ e ∷ b = was ∙ (ap (λ xs. front ++ x ∷ xs) g ∙ sym (append_assoc front (x ∷ m) (e ∷ b))) in
                 let there : get n1 e.number ≡ Some (node_at (front ++ x ∷ m) e b) = others e.number e_head.0 ∙ w.linked.each (front ++ x ∷ m) b e old in
                 chain e.number (Some (node_at (front ++ x ∷ m) e b)) there ∙ (
-                  three change (is_at (last front) e.number) (is_at (first back) e.number) (is_at x.parent e.number) (node_at (front ++ x ∷ m) e b) (node_at (front ++ m) e b)
-                    (behind_changes ts front back x w.tree was m b e g)
-                    (settled ts front back x w.tree was (front ++ m) b e (absent_both x.number front m alone.0 split.0) e_head.1)
-                    (λ h1 h2 h3. behind_same ts front back x w.tree was childless m b e g h2)
-                  ∙ ap (λ xs. Some (node_at xs e b)) (sym h))
+                three change (is_at (last front) e.number) (is_at (first back) e.number) (is_at x.parent e.number) (node_at (front ++ x ∷ m) e b) (node_at (front ++ m) e b)
+                (behind_changes ts front back x w.tree was m b e g)
+                (settled ts front back x w.tree was (front ++ m) b e (absent_both x.number front m alone.0 split.0) e_head.1)
+                (λ h1 h2 h3. behind_same ts front back x w.tree was childless m b e g h2)
+                ∙ ap (λ xs. Some (node_at xs e b)) (sym h))
           ];
           others = λ n absent.
               let split = absent_parts n front back absent in

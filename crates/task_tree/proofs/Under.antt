@@ -1,15 +1,15 @@
 -- What a task encloses, by chains of parents.
-use Rattle.std.proofs.Common.{◌≡◌, ◌⊎◌, inl, inr, ℕ, true, List, [], ◌∷◌, ◌++◌, Option, Some, None, is_some, refl, sym, ap, subst, ◌∙◌, append_assoc}
+use Rattle.std.proofs.Common.{◌≡◌, ℕ, true, List, [], ◌∷◌, ◌++◌, Option, Some, None, is_some, refl, sym, ap, subst, ◌∙◌, append_assoc}
 use Rattle.std.proofs.lemmas.List.{append-nil}
 use Rattle.task_tree.specs.Tasks.{Task, task_at, youngest, suits, IsLive}
 use Rattle.task_tree.specs.Nested.{Forest, no_tasks, a_task, Distinct, IsTree, Under, itself, beneath}
 use Rattle.task_tree.specs.Links.{last}
-use Rattle.task_tree.specs.Removing.{Each, IsEnd}
+use Rattle.task_tree.specs.Removing.{Each, StandsTogether}
 use Rattle.task_tree.specs.Blocks.{Block, EndsBelow, EndsAt}
-use Rattle.task_tree.proofs.Standing.{never, inner, here, found, append_at, task_or, absent_parts, absent_head, absent_then, absent_both, present_then, beside, at_place, apart, distinct_parts, distinct_drop, Cut, in_first, in_second, cut, some_child}
-use Rattle.task_tree.proofs.Forests.{IsThere, there_behind, outsiders, forest_one, forest_append, forest_empty, LastOf, last_of}
+use Rattle.task_tree.proofs.Standing.{never, inner, here, found, append_at, task_or, absent_parts, absent_head, absent_then, absent_both, present_then, beside, at_place, apart, distinct_parts, in_first, in_second, cut, some_child}
+use Rattle.task_tree.proofs.Forests.{IsThere, there_behind, outsiders, forest_one, forest_append, forest_empty, last_of}
 use Rattle.task_tree.proofs.Linking.{last_split}
-use Rattle.task_tree.proofs.Ending.{block_children}
+use Rattle.task_tree.proofs.Ending.{block_children, block_of}
 
 module _ {T : Type 0} where
   pub each_append : (P : Task T → Type 0) (a b : List (Task T)) → Each P a → Each P b → Each P (a ++ b)
@@ -102,7 +102,10 @@ module _ {T : Type 0} where
       let under = block_under ts p tree b in
       let last_under = last_of_each s.0 s.1 (b.front) (b.task) (b.kids) s.2 under in
       record {
-        front = front; back = b.back; was = was; ends = sym e.ends;
+        front = front;
+        back = b.back;
+        was = was;
+        ends = sym e.ends;
         none = subst (λ k. youngest (Some k) b.back ≡ None) b.number (block_children ts p tree b).1;
         above = λ k h. subst (λ j. task_at j b.back ≡ None) (b.number ∙ inner h) (absent_parts b.task.number b.kids b.back (beside b.front (b.kids ++ b.back) b.task (subst Distinct b.was tree.distinct)).1).1;
         grows = λ t parent suited.
@@ -154,9 +157,12 @@ module _ {T : Type 0} where
       let nothing = both_nil b.back under_back (not_under ts r tree b).1 in
       let was : ts ≡ b.front ++ b.task ∷ b.kids = b.was ∙ (ap (λ us. b.front ++ b.task ∷ (b.kids ++ us)) nothing ∙ ap (λ us. b.front ++ b.task ∷ us) (append-nil b.kids)) in
       record {
-        front = ts; back = []; was = sym (append-nil ts);
+        front = ts;
+        back = [];
+        was = sym (append-nil ts);
         ends = sym (ap last was ∙ below.ends);
-        none = refl; above = λ n h. refl;
+        none = refl;
+        above = λ n h. refl;
         grows = λ t parent suited. forest_append ts (t ∷ []) tree.forest (forest_one None t [] parent (subst (λ q. suits q t.role ≡ true) parent suited) no_tasks);
         behind = refl;
       }
@@ -169,7 +175,12 @@ module _ {T : Type 0} where
   no_roots ts tree e =
       let nothing = forest_empty None ts tree.forest e in
       record {
-        front = []; back = []; was = nothing; ends = refl; none = refl; above = λ n h. refl;
+        front = [];
+        back = [];
+        was = nothing;
+        ends = refl;
+        none = refl;
+        above = λ n h. refl;
         grows = λ t parent suited. forest_one None t [] parent (subst (λ q. suits q t.role ≡ true) parent suited) no_tasks;
         behind = refl;
       }
@@ -179,3 +190,19 @@ module _ {T : Type 0} where
       let l = last_of None ts r tree.forest tree.distinct (λ n h. absurd (never h)) e in
       let is : task_at r ts ≡ Some l.task = ap (λ n. task_at n ts) (sym l.number) ∙ (ap (task_at l.task.number) l.was ∙ at_place l.front l.kids l.task (subst Distinct l.was tree.distinct)) in
       ap is_some is
+
+  pub stands_so : (ts : List (Task T)) (n : ℕ) → IsTree ts → IsLive n ts → StandsTogether ts n
+  stands_so ts n tree live =
+      let b = block_of ts n tree live in
+      let out = not_under ts n tree b in
+      record {
+        front = b.front;
+        task = b.task;
+        enclosed = b.kids;
+        back = b.back;
+        is = b.was;
+        number = b.number;
+        under = block_under ts n tree b;
+        not_before = out.0;
+        not_behind = out.1;
+      }

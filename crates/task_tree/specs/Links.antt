@@ -1,5 +1,5 @@
 -- The numbers of the tasks that stand next to a task.
-use Rattle.std.specs.Prelude.{◌≡◌, ℕ, eqb, Bool, true, false, List, [], ◌∷◌, ◌++◌, Option, Some, None, if◌then◌else◌, option_map, length}
+use Rattle.std.specs.Prelude.{◌≡◌, ℕ, eqb, Bool, false, List, [], ◌∷◌, ◌++◌, Option, Some, None, if◌then◌else◌, option_map, length}
 use Rattle.slab.specs.Slab.{Slab, get, slab_len}
 use Rattle.task_tree.specs.declared.nodes.Node.{Node}
 use Rattle.task_tree.specs.declared.nodes.Links.{Links}

@@ -1,5 +1,5 @@
 -- How tasks enclose tasks.
-use Rattle.std.specs.Prelude.{◌≡◌, ◌≢◌, ℕ, true, List, [], ◌∷◌, ◌++◌, Option, Some, None}
+use Rattle.std.specs.Prelude.{◌≡◌, ℕ, true, List, [], ◌∷◌, ◌++◌, Option, Some, None}
 use Rattle.task_tree.specs.Tasks.{Task, task_at, suits}
 
 module _ {T : Type 0} where

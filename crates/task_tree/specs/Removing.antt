@@ -1,6 +1,5 @@
 -- What is added, what is removed, and what a visitor is told.
 use Rattle.std.specs.Prelude.{◌≡◌, ℕ, List, [], ◌∷◌, ◌++◌, Option, Some, None}
-use Rattle.task_tree.specs.declared.tasks.Role.{Role}
 use Rattle.task_tree.specs.declared.tasks.Role.TheVariants.{Behind}
 use Rattle.task_tree.specs.Tasks.{Task, task_at}
 use Rattle.task_tree.specs.Nested.{Under}
@@ -10,6 +9,18 @@ module _ {T : Type 0} where
   abbrev pub Each : (Task T → Type 0) → List (Task T) → Type 0
   Each P [] = Unit {0}
   Each P (t ∷ ts) = P t × Each P ts
+
+  -- what a task encloses stands right behind it, and nothing else does
+  pub record StandsTogether (ts : List (Task T)) (n : ℕ) : Type 0 where
+    pub front : List (Task T)
+    pub task : Task T
+    pub enclosed : List (Task T)
+    pub back : List (Task T)
+    pub is : ts ≡ front ++ (task ∷ enclosed ++ back)
+    pub number : task.number ≡ n
+    pub under : Each (λ t. Under ts n t.number) (task ∷ enclosed)
+    pub not_before : Each (λ t. Under ts n t.number → ⊥) front
+    pub not_behind : Each (λ t. Under ts n t.number → ⊥) back
 
   -- of the old tasks those that are so are gone, and the others are left, all in their order
   pub data Parts (P : Task T → Type 0) : List (Task T) → List (Task T) → List (Task T) → Type 0 where

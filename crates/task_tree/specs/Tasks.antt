@@ -1,5 +1,5 @@
 -- Tasks in the order in which they are written down: each before the tasks that it encloses, and siblings as they were added.
-use Rattle.std.specs.Prelude.{◌≡◌, ℕ, eqb, Bool, true, false, ◌||◌, List, [], ◌∷◌, Option, Some, None, IsSome, if◌then◌else◌, option_map}
+use Rattle.std.specs.Prelude.{◌≡◌, ℕ, eqb, Bool, true, false, List, [], ◌∷◌, Option, Some, None, IsSome, if◌then◌else◌, option_map}
 use Rattle.task_tree.specs.declared.tasks.Role.{Role}
 use Rattle.task_tree.specs.declared.tasks.Role.TheVariants.{Root, Arm, Behind}
 use Rattle.task_tree.specs.declared.tasks.Finished.{Finished}

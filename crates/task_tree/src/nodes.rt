@@ -1,6 +1,7 @@
 //! Nodes of tasks, and how their links change.
 
 ghost use Rattle.std.specs.Prelude.{◌≡◌, Some, option_map};
+ghost use Rattle.std.specs.Borrow.{sem};
 ghost use Rattle.slab.specs.Slab.{get};
 ghost use Rattle.task_tree.specs.Tasks.{or_else};
 ghost use Rattle.task_tree.specs.Links.{past, youngest_with, links_past, changed, Changes};
@@ -60,11 +61,7 @@ pub fn first_with(first: Option<usize>, number: usize) -> Option<usize>
 }
 
 /// The last task without a parent when one with this parent, or with none, is added.
-pub fn youngest_with(
-    youngest: Option<usize>,
-    parent: Option<usize>,
-    number: usize,
-) -> Option<usize>
+pub fn youngest_with(youngest: Option<usize>, parent: Option<usize>, number: usize) -> Option<usize>
     ensures { result ≡ youngest_with parent number youngest }
 {
     match parent {
@@ -85,6 +82,15 @@ fn links_past(gone: usize, its: Links, links: Links) -> Links
 }
 
 impl<T> Node<T> {
+    ghost use Rattle.task_tree.specs.Lends.{lends_node_item};
+
+    pub fn item_mut(&mut self) -> &mut T
+        ensures* writes_back { sem 𝓛 (lends_node_item T.row self.entry result) }
+        ensures value { result.now ≡ self.old.item }
+    {
+        &mut self.item
+    }
+
     fn change(&mut self, change: Change)
         ensures { self.new ≡ changed change self.old }
     {

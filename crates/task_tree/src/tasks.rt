@@ -18,11 +18,7 @@ pub enum Role {
 pub enum Finished<T> {
     /// It had no parent.
     Alone(T),
-    Child {
-        parent: usize,
-        role: Role,
-        item: T,
-    },
+    Child { parent: usize, role: Role, item: T },
 }
 
 /// Is told of each task that is removed.

@@ -6,7 +6,7 @@ ghost use Rattle.std.specs.Borrow.{sem};
 ghost use Rattle.task_tree.specs.declared.tasks.Role.TheVariants as role;
 ghost use Rattle.task_tree.specs.Tasks.{Task, task_at, IsLive, IsArm, IsPossible, suits, HasNoChild, first, after, youngest, without, with_role, finished, is_behind, parent_at};
 ghost use Rattle.task_tree.specs.Nested.{IsTree};
-ghost use Rattle.task_tree.specs.Removing.{Cancels, CancelsBehind, Added, Visited};
+ghost use Rattle.task_tree.specs.Removing.{Cancels, CancelsBehind, Added, StandsTogether, Visited};
 ghost use Rattle.task_tree.specs.Links.{last, task_of};
 ghost use Rattle.task_tree.specs.Blocks.{EndsBelow, EndsAt};
 
@@ -55,10 +55,17 @@ impl<T> TaskTree<T> {
         }
     }
 
-    /// No number stands twice, and each task stands before those that it encloses, which stand
-    /// together.
+    /// No number stands twice, and each task stands before those that it encloses.
     pub fn is_nested(&self)
         ensures { IsTree self.now }
+    {
+        let _ = &self.first;
+    }
+
+    /// What a live task encloses stands right behind it.
+    pub fn stands_together(&self, id: usize)
+        requires { IsLive id self.now }
+        ensures { StandsTogether self.now id }
     {
         let _ = &self.first;
     }
@@ -92,7 +99,7 @@ impl<T> TaskTree<T> {
         ensures value { option_copied_mut result ≡ option_map (λ t. t.item) (task_at id self.old) }
     {
         match self.nodes.get_mut(id) {
-            Some(node) => Some(&mut node.item),
+            Some(node) => Some(node.item_mut()),
             None => None,
         }
     }
@@ -131,12 +138,7 @@ impl<T> TaskTree<T> {
 
     /// Adds a task behind its siblings, under a number that was not live. The role `Root` has no
     /// parent, and the others have a live one. Without memory it changes nothing.
-    pub fn add(
-        &mut self,
-        parent: Option<usize>,
-        role: Role,
-        item: T,
-    ) -> Result<usize, (Memory, T)>
+    pub fn add(&mut self, parent: Option<usize>, role: Role, item: T) -> Result<usize, (Memory, T)>
         requires parent { IsPossible parent self.old }
         requires role { suits parent role ≡ true }
         ensures fresh { IfOk result (λ n. task_at n self.old ≡ None) }

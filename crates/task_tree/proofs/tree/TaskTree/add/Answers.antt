@@ -1,8 +1,7 @@
-use Rattle.std.proofs.Common.{◌∷◌, ◌++◌, ap, sym, ◌∙◌, refl}
+use Rattle.std.proofs.Common.{ap, ◌∙◌}
 use Rattle.slab.specs.Slab.{Slab}
 use Rattle.task_tree.specs.declared.nodes.Node.{Node}
 use Rattle.task_tree.specs.Tasks.{Task}
-use Rattle.task_tree.specs.Links.{Whole}
 use Rattle.task_tree.proofs.Linking.{walk_is, whole_walk, same_slots, fresh_is}
 use Rattle.task_tree.proofs.Adding.{is_added}
 use Rattle.task_tree.proofs.tree.TaskTree.add.Goals as goal
@@ -29,7 +28,9 @@ returns-clause-added g c =
     let t : Task g.row.T.Denot = record { number = c.in-Ok.number; parent = c.args.parent; role = c.args.role; item = c.args.item } in
     let e = c.end_of-before.ensures in
     record {
-      front = e.front; back = e.back; was = e.was;
+      front = e.front;
+      back = e.back;
+      was = e.was;
       is = walk_is _ _ _ _ (is_added c.self.inside.nodes c.insert.new.self c.change_at.new.nodes c.change_at-2.new.nodes c.change_at-3.new.nodes _ _ _ _ _ c.args.self.now t c.youngest_of-older.result c.end_of-before.result c.behind-behind.result c.self.invariant c.self.view_is e c.requires.parent c.requires.role c.youngest_of-older.ensures c.behind-behind.ensures c.in-Ok.ensures.was_vacant c.in-Ok.ensures.updates c.in-Ok.ensures.len c.change_at.ensures c.change_at-2.ensures c.change_at-3.ensures c.first_with-self-inside.ensures c.youngest_with-self-inside.ensures);
       behind = e.behind;
     }

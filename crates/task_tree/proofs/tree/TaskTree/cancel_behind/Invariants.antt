@@ -1,4 +1,3 @@
-use Rattle.task_tree.specs.Nested.{IsTree}
 use Rattle.task_tree.proofs.Background.{Clearing, to_come}
 use Rattle.task_tree.proofs.tree.TaskTree.cancel_behind.Given as goal
 

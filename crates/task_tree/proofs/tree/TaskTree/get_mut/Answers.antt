@@ -1,4 +1,4 @@
-use Rattle.std.proofs.Common.{inl, inr, None, Some, ap, sym, ◌∙◌, option_map}
+use Rattle.std.proofs.Common.{inl, inr, Some, ap, sym, ◌∙◌, option_map}
 use Rattle.std.specs.Option.{option_copied_mut}
 use Rattle.task_tree.specs.Tasks.{Task, task_at}
 use Rattle.task_tree.specs.Links.{task_of}
@@ -15,8 +15,8 @@ returns-in-Some g c =
     let got = sym c.get_mut.ensures.value ∙ ap option_copied_mut c.in-Some.is in
     let tasks = λ (w : g.row.T.Denot). walk_is _ _ _ _ (item_changed _ _ _ _ _ c.args.id c.in-Some.node.now c.self.invariant c.self.view_is got w) in
     let seen = sym (ap (option_map (task_of c.args.id)) got) ∙ (one_map _ _ c.args.id c.self.invariant.linked ∙ ap (task_at c.args.id) c.self.view_is) in (
-      (λ i. inl (c.node-1.given, λ w. tasks w i)),
-      record { writes_back = tt; value = ap (option_map (λ (t : Task g.row.T.Denot). t.item)) seen },
+      (λ i. inl (c.item_mut.result.ghost_name, λ w. tasks w i)),
+      record { writes_back = tt; value = ap (λ item. Some item) c.item_mut.ensures.value ∙ ap (option_map (λ (t : Task g.row.T.Denot). t.item)) seen },
     )
 
 pub returns-in-None : goal.returns-in-None

@@ -1,4 +1,4 @@
-use Rattle.std.proofs.Common.{None, Some, ap, sym, subst, ◌∙◌}
+use Rattle.std.proofs.Common.{None, ap, sym, subst, ◌∙◌}
 use Rattle.task_tree.specs.Tasks.{youngest, IsLive}
 use Rattle.task_tree.specs.Nested.{IsTree}
 use Rattle.task_tree.specs.Blocks.{EndsAt}
