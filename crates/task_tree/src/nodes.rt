@@ -17,10 +17,13 @@ pub struct Links {
     pub youngest: Option<usize>,
     /// The sibling that was added before it.
     pub older: Option<usize>,
+    /// The task right before it in the order.
     pub before: Option<usize>,
+    /// The task right behind it in the order.
     pub behind: Option<usize>,
 }
 
+/// A task and its links.
 #[derive(Drop)]
 pub struct Node<T> {
     pub parent: Option<usize>,
@@ -29,7 +32,8 @@ pub struct Node<T> {
     pub links: Links,
 }
 
-/// What changes in a node.
+/// What changes in a node: one of its links to the task with this number, all of its links, or the
+/// role.
 #[derive(Clone, Copy)]
 pub enum Change {
     Youngest(usize),

@@ -26,6 +26,7 @@ pub trait Visit<T> {
     /// What the visitor may be after it was told of a task, from what it was.
     ghost leaves: { Self → ℕ → T → Self → Type 0 };
 
+    /// The task with this number and this item was removed.
     fn removed(&mut self, id: usize, item: T)
         ensures { leaves self.old id item self.new };
 }

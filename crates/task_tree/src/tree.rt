@@ -45,6 +45,7 @@ impl<T> Model for TaskTree<T> {
 impl<T> TaskTree<T> {
     ghost use Rattle.task_tree.specs.Lends.{lends_item};
 
+    /// No tasks. Takes no memory.
     pub fn new(alloc: Global) -> TaskTree<T>
         ensures { result ≡ [] }
     {
@@ -70,6 +71,7 @@ impl<T> TaskTree<T> {
         let _ = &self.first;
     }
 
+    /// Whether a task has this number.
     pub fn is_live(&self, id: usize) -> bool
         ensures { result ≡ is_some (task_at id self.now) }
     {
