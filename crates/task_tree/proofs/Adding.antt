@@ -124,7 +124,7 @@ module _ {T : Type 0} where
 
   empty_end : (p : Option ℕ) (ts front back : List (Task T)) → IsEnd p ts front back → front ≡ [] → back ≡ []
   empty_end None ts front back e h = e
-  empty_end (Some p) ts front back e h = absurd (no_more e.0.0 e.0.1 (sym h ∙ e.0.2))
+  empty_end (Some p) ts front back e h = absurd (no_more e.0.some e.0.last (sym h ∙ e.0.is))
     where
       no_more : (m : List (Task T)) (y : Task T) → [] ≡ m ++ y ∷ [] → ⊥
       no_more [] y k = absurd (cc)

@@ -114,7 +114,7 @@ module _ {T : Type 0} where
             let more = forest_one b.task.parent b.task (b.kids ++ t ∷ []) refl b.suited (forest_append b.kids (t ∷ []) b.beneath one) in
             let eq : b.front ++ (b.task ∷ (b.kids ++ t ∷ []) ++ b.back) ≡ (b.front ++ b.task ∷ b.kids) ++ t ∷ b.back = simp append_assoc in
             subst (λ xs. Forest None xs) eq (b.around (b.task ∷ (b.kids ++ t ∷ [])) more);
-        behind = ((s.0, s.1, s.2, last_under), (not_under ts p tree b).1);
+        behind = (record { some = s.0; last = s.1; is = s.2; under = last_under }, (not_under ts p tree b).1);
       }
     where
       last_of_each : (some : List (Task T)) (l : Task T) (xs : List (Task T)) (y : Task T) (ys : List (Task T)) → xs ++ y ∷ ys ≡ some ++ l ∷ [] → Each (λ t. Under ts p t.number) (y ∷ ys) → Under ts p l.number

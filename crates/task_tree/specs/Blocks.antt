@@ -6,7 +6,8 @@ use Rattle.task_tree.specs.Links.{last}
 use Rattle.task_tree.specs.Removing.{IsEnd}
 
 module _ {T : Type 0} where
-  -- the task with this number, and what stands before it, beneath it and behind that
+  -- the task with this number, and what stands before it, beneath it and behind that; in the place of
+  -- the task and what is beneath it other tasks with its parent may stand
   pub record Block (top : Option ℕ) (ts : List (Task T)) (n : ℕ) : Type 0 where
     pub front : List (Task T)
     pub task : Task T
@@ -18,7 +19,7 @@ module _ {T : Type 0} where
     pub beneath : Forest (Some task.number) kids
     pub around : (others : List (Task T)) → Forest task.parent others → Forest top (front ++ (others ++ back))
 
-  -- from the first task the last one of its block is looked for, and the second one's block ends there too
+  -- on the way down from the first task to the last one of its block: the second one's block ends there too
   pub record Down (ts : List (Task T)) (start at : ℕ) : Type 0 where
     pub tree : IsTree ts
     pub block : Block None ts start
@@ -35,7 +36,7 @@ module _ {T : Type 0} where
     pub block : Block None ts n
     pub ends : last (block.front ++ block.task ∷ block.kids) ≡ Some end
 
-  -- behind this task a child stands behind all that the parent encloses
+  -- behind this task a child may be added: there the parent and all that it encloses ends
   pub record EndsAt (ts : List (Task T)) (parent end : Option ℕ) : Type 0 where
     pub front : List (Task T)
     pub back : List (Task T)

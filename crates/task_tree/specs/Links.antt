@@ -21,6 +21,7 @@ links_past gone its links = record {
   behind = past gone its.behind links.behind;
 }
 
+-- the link leads to this number
 abbrev pub is_at : Option ℕ → ℕ → Bool
 is_at None n = false
 is_at (Some m) n = eqb m n
@@ -31,6 +32,7 @@ youngest_with None n before = Some n
 youngest_with (Some p) n before = before
 
 module _ {T : Type 0} where
+  -- what becomes of a node
   abbrev pub changed : Change → Node T → Node T
   changed (Youngest n) node = record node { links = record node.links { youngest = Some n } }
   changed (Before n) node = record node { links = record node.links { before = Some n } }
@@ -43,6 +45,7 @@ module _ {T : Type 0} where
     pub nodes : (n : ℕ) → get new n ≡ (if is_at key n then option_map (changed change) (get old n) else get old n)
     pub count : slab_len new ≡ slab_len old
 
+  -- the number of the last task
   abbrev pub last : List (Task T) → Option ℕ
   last [] = None
   last (t ∷ []) = Some t.number
@@ -57,15 +60,17 @@ module _ {T : Type 0} where
     links = record { youngest = youngest (Some t.number) back; older = youngest t.parent front; before = last front; behind = first back };
   }
 
+  -- the task that a node stands for
   abbrev pub task_of : ℕ → Node T → Task T
   task_of n node = record { number = n; parent = node.parent; role = node.role; item = node.item }
 
-  -- each task has its node
+  -- each task has its node, and there are no others
   pub record Linked (nodes : Slab (Node T)) (ts : List (Task T)) : Type 0 where
     pub each : (front back : List (Task T)) (t : Task T) → ts ≡ front ++ t ∷ back → get nodes t.number ≡ Some (node_at front t back)
     pub others : (n : ℕ) → task_at n ts ≡ None → get nodes n ≡ None
     pub count : slab_len nodes ≡ length ts
 
+  -- nodes, the first task and the last one without a parent are those of these tasks
   pub record Whole (nodes : Slab (Node T)) (head tail : Option ℕ) (ts : List (Task T)) : Type 0 where
     pub tree : IsTree ts
     pub linked : Linked nodes ts

@@ -5,7 +5,7 @@ use Rattle.task_tree.specs.Tasks.{Task, task_at}
 use Rattle.task_tree.specs.Nested.{Under}
 
 module _ {T : Type 0} where
-  -- all of these tasks are so
+  -- it holds of all of these tasks
   abbrev pub Each : (Task T → Type 0) → List (Task T) → Type 0
   Each P [] = Unit {0}
   Each P (t ∷ ts) = P t × Each P ts
@@ -22,7 +22,7 @@ module _ {T : Type 0} where
     pub not_before : Each (λ t. Under ts n t.number → ⊥) front
     pub not_behind : Each (λ t. Under ts n t.number → ⊥) back
 
-  -- of the old tasks those that are so are gone, and the others are left, all in their order
+  -- the old tasks of which this holds are gone, and the others are left, both in their order
   pub data Parts (P : Task T → Type 0) : List (Task T) → List (Task T) → List (Task T) → Type 0 where
     all_parted : Parts P [] [] []
     one_goes : {old gone left : List (Task T)} (t : Task T) → P t → Parts P old gone left → Parts P (t ∷ old) (t ∷ gone) left
@@ -45,11 +45,17 @@ module _ {T : Type 0} where
   abbrev pub CancelsBehind : ℕ → ℕ → List (Task T) → List (Task T) → List (Task T) → Type 0
   CancelsBehind n depth old = Parts (λ t. UnderBehind old n depth t.number) old
 
-  -- behind these stands no task that the parent encloses, and the last of them is one, or the parent
+  -- the last of these tasks is this one, or one that it encloses
+  pub record EndsUnder (ts : List (Task T)) (n : ℕ) (front : List (Task T)) : Type 0 where
+    pub some : List (Task T)
+    pub last : Task T
+    pub is : front ≡ some ++ last ∷ []
+    pub under : Under ts n last.number
+
+  -- the parent and all that it encloses ends between these, or all tasks where there is no parent
   abbrev pub IsEnd : Option ℕ → List (Task T) → List (Task T) → List (Task T) → Type 0
   IsEnd None ts front back = back ≡ []
-  IsEnd (Some p) ts front back =
-      ((some : List (Task T)) × (last : Task T) × (front ≡ some ++ last ∷ []) × Under ts p last.number) × Each (λ t. Under ts p t.number → ⊥) back
+  IsEnd (Some p) ts front back = EndsUnder ts p front × Each (λ t. Under ts p t.number → ⊥) back
 
   -- the task stands behind all that its parent encloses
   pub record Added (task : Task T) (old new : List (Task T)) : Type 0 where

@@ -1,6 +1,6 @@
 //! A tree of tasks.
 
-ghost use Rattle.std.specs.Prelude.{◌≡◌, eqb, if◌then◌else◌, true, List, [], ◌∷◌, ◌++◌, None, Some, IfOk, OnOk, OnErr, IfErr, IfSome, is_some, option_map, option_copied};
+ghost use Rattle.std.specs.Prelude.{◌≡◌, eqb, if◌then◌else◌, true, List, [], ◌∷◌, ◌++◌, None, Some, IfOk, OnOk, OnErr, IfErr, is_some, option_map, option_copied};
 ghost use Rattle.std.specs.Option.{option_copied_mut};
 ghost use Rattle.std.specs.Borrow.{sem};
 ghost use Rattle.task_tree.specs.declared.tasks.Role.TheVariants as role;
