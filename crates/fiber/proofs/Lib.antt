@@ -1,0 +1,5 @@
+mod Framed
+mod Opened
+mod Bounded
+mod Unwound
+mod Anywhere

@@ -1,0 +1,4 @@
+pub mod Lists
+mod Layered
+mod Levelled
+mod Headed

@@ -1,0 +1,9 @@
+//! Stacks that hold the parts of a task's frames.
+//!
+//! To be read in this order: `layers`, lists one on another in one list; `levels`, the operands,
+//! deferred blocks and noted places; `heads`, the places, locals and bounds of handlers.
+#![tactic(auto)]
+
+pub mod heads;
+pub mod layers;
+pub mod levels;
