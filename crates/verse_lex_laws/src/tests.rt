@@ -27,6 +27,7 @@ aé ⇒ E010 1:2
 a! ⇒ E001 1:2
 #é( ⇒ 
 "é€" ⇒ Text=[195, 169, 226, 130, 172] 0-7 1:1 in 0-0
+"a"b ⇒ Text=[97] 0-3 1:1 in 0-0; Name 3-4 1:4
 a$^b ⇒ Name 0-1 1:1 in 0-0; Name 3-4 2:1 in 3-3
 a$b ⇒ E010 1:2
 #a$b ⇒ E010 1:3
@@ -221,6 +222,6 @@ fn cases(rt: HostRuntime) -> Result<(), Fail> {
         assert_eq!(rt; found.as_str(), expected, "{line}");
         count = count.saturating_add(1);
     }
-    assert_eq!(rt; count, 136);
+    assert_eq!(rt; count, 137);
     Ok(())
 }
