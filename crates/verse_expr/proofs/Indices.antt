@@ -8,7 +8,7 @@ use Rattle.verse_grammar.specs.Reading.{EatsRule, SticksRule}
 use Rattle.verse_grammar.specs.declared.phrases.Phrase.{Phrase}
 use Rattle.verse_tree.specs.View.{tree_of}
 use Rattle.verse_tree.specs.declared.exprs.Expr.{Expr}
-use Rattle.verse_reading.specs.Nests.{Stands}
+use Rattle.verse_reading.specs.Nests.{IsRead}
 use Rattle.verse_expr.proofs.Suffixes.{suffix, suffix_at, stuck_within}
 
 pub phrase_index : (b : List ℕ) (q : Phrase) (t : Tree) (ks rest : List Tok) (at : ℕ) → at ≤ length ks → Reads b q (drop at ks) t rest → EatsRule (phrase q) (drop at ks) rest →
@@ -34,7 +34,7 @@ index_within r ks at left index h e x =
     (omega (arith, length-drop at ks), omega arith)
 
 -- what was read stands at the front, by the number of its toks
-pub standing : (b : List ℕ) (q : Phrase) (ks rest : List Tok) (e : Expr) → Reads b q ks (tree_of e) rest → EatsRule (phrase q) ks rest → length rest < length ks → Stands b q ks (e, length ks - length rest)
+pub standing : (b : List ℕ) (q : Phrase) (ks rest : List Tok) (e : Expr) → Reads b q ks (tree_of e) rest → EatsRule (phrase q) ks rest → length rest < length ks → IsRead b q ks (e, length ks - length rest)
 standing b q ks rest e r x h = record {
   spelled = rw (suffix x) r;
   eats = rw (suffix x) x;

@@ -3,14 +3,14 @@
 ghost use Rattle.std.specs.Prelude.{◌≡◌, ◌≤◌, ◌-◌, ℕ, length, drop};
 ghost use Rattle.verse_base.specs.declared.refusals.Rule.{Rule};
 ghost use Rattle.verse_grammar.specs.Toks.{ahead};
-ghost use Rattle.verse_reading.specs.declared.stops.Stop.TheVariants as stop;
+ghost use Rattle.verse_reading.specs.declared.steps.ReadFault.TheVariants as read_fault;
 ghost use Rattle.verse_expr.specs.Faults.{stop_rule};
 ghost use Rattle.verse_expr.specs.declared.faults.ParseFault.TheVariants as fault;
 
 use verse_base::refusals::Rule;
 use verse_layout::toks::{Tok, TokKind};
 use verse_lex::tokens::TokenKind;
-use verse_reading::stops::{Stop, next};
+use verse_reading::steps::{ReadFault, next};
 
 /// Why there is no tree.
 #[derive(Clone, Copy, Debug, PartialEq, Eq)]
@@ -21,16 +21,16 @@ pub enum ParseFault {
 }
 
 /// The fault of toks of which a reader left some: with the first of those, or the end, nothing goes on.
-pub fn fault_of(toks: &[Tok], why: Stop) -> ParseFault
-    requires within { (left : ℕ) → why ≡ stop.At left → left ≤ length toks.now }
-    ensures left { (index : ℕ) (rule : Rule) → result ≡ fault.At index rule → why ≡ stop.At (length toks.now - index) }
+pub fn fault_of(toks: &[Tok], why: ReadFault) -> ParseFault
+    requires within { (left : ℕ) → why ≡ read_fault.Stuck left → left ≤ length toks.now }
+    ensures left { (index : ℕ) (rule : Rule) → result ≡ fault.At index rule → why ≡ read_fault.Stuck (length toks.now - index) }
     ensures within { (index : ℕ) (rule : Rule) → result ≡ fault.At index rule → index ≤ length toks.now }
     ensures rule { (index : ℕ) (rule : Rule) → result ≡ fault.At index rule → rule.0 ≡ stop_rule (ahead (drop index toks.now)) }
-    ensures memory { result ≡ fault.Memory → why ≡ stop.Memory }
+    ensures memory { result ≡ fault.Memory → why ≡ read_fault.Memory }
 {
     match why {
-        Stop::Memory => ParseFault::Memory,
-        Stop::At(left) => {
+        ReadFault::Memory => ParseFault::Memory,
+        ReadFault::Stuck(left) => {
             let index = toks.len() - left;
             let rule = stop_rule(toks, index);
             ParseFault::At { index, rule }

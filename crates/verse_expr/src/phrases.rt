@@ -7,34 +7,35 @@ ghost use Rattle.verse_grammar.specs.Exprs.{Reads};
 ghost use Rattle.verse_grammar.specs.Symbols.{phrase};
 ghost use Rattle.verse_grammar.specs.Reading.{EatsRule, SticksRule};
 ghost use Rattle.verse_grammar.specs.declared.phrases.Phrase.{Phrase};
-ghost use Rattle.verse_reading.specs.Nests.{Nests, Stands};
-ghost use Rattle.verse_reading.specs.declared.stops.Stop.TheVariants as stop;
+ghost use Rattle.verse_reading.specs.Nests.{Nests, IsRead};
+ghost use Rattle.verse_reading.specs.declared.steps.ReadFault.TheVariants as read_fault;
 
 use std::alloc::Global;
+use verse_choices::choices;
+use verse_generators::generators::{clause, generator};
 use verse_grammar::phrases::Phrase;
 use verse_handles::trees::Tree;
 use verse_layout::toks::Tok;
 use verse_levels::levels::{ands, comparison, negated, negative, ors, product, sum};
 use verse_levels::postfixes::postfix;
-use verse_primary::patterns::{arm, pattern};
+use verse_patterns::patterns::{arm, pattern};
 use verse_primary::primary::primary;
 use verse_reading::nesting::Reader;
-use verse_reading::stops::Stop;
-use verse_statements::generators::{clause, generator};
+use verse_reading::steps::ReadFault;
+use verse_statements::blocks;
 use verse_statements::statements::stmt;
-use verse_statements::{blocks, choices};
 
 /// A phrase of this kind.
-fn phrase_of<'t, F: Fn(Global, &[u8], Phrase, &[Tok]) -> Result<(Tree, usize), Stop>>(
+fn phrase_of<'t, F: Fn(Global, &[u8], Phrase, &[Tok]) -> Result<(Tree, usize), ReadFault>>(
     reader: &Reader<'_, F>,
     what: Phrase,
     toks: &'t [Tok],
-) -> Result<(Tree, &'t [Tok]), Stop>
+) -> Result<(Tree, &'t [Tok]), ReadFault>
     requires nests { Nests reader.now.bytes.now reader.now.most (F.pre reader.now.nested) (F.post reader.now.nested) }
     requires within { length toks.now ≤ reader.now.most }
     ensures spelled { IfOk result (λ r. Reads reader.now.bytes.now what toks.now (tree_of r.0) r.1.now) }
     ensures eats { IfOk result (λ r. EatsRule (phrase what) toks.now r.1.now) }
-    ensures sticks { (left : ℕ) → IsErrOf result (stop.At left) → SticksRule (phrase what) toks.now left }
+    ensures sticks { (left : ℕ) → IsErrOf result (read_fault.Stuck left) → SticksRule (phrase what) toks.now left }
     ensures shorter { IfOk result (λ r. length r.1.now < length toks.now) }
 {
     match what {
@@ -66,9 +67,9 @@ pub fn phrase_at(
     bytes: &[u8],
     what: Phrase,
     toks: &[Tok],
-) -> Result<(Tree, usize), Stop>
-    ensures stands { IfOk result (Stands bytes.now what toks.now) }
-    ensures sticks { (left : ℕ) → IsErrOf result (stop.At left) → SticksRule (phrase what) toks.now left }
+) -> Result<(Tree, usize), ReadFault>
+    ensures read { IfOk result (IsRead bytes.now what toks.now) }
+    ensures sticks { (left : ℕ) → IsErrOf result (read_fault.Stuck left) → SticksRule (phrase what) toks.now left }
 {
     let reader = Reader {
         alloc,
@@ -86,10 +87,10 @@ pub fn read<'t>(
     bytes: &[u8],
     what: Phrase,
     toks: &'t [Tok],
-) -> Result<(Tree, &'t [Tok]), Stop>
+) -> Result<(Tree, &'t [Tok]), ReadFault>
     ensures spelled { IfOk result (λ r. Reads bytes.now what toks.now (tree_of r.0) r.1.now) }
     ensures eats { IfOk result (λ r. EatsRule (phrase what) toks.now r.1.now) }
-    ensures sticks { (left : ℕ) → IsErrOf result (stop.At left) → SticksRule (phrase what) toks.now left }
+    ensures sticks { (left : ℕ) → IsErrOf result (read_fault.Stuck left) → SticksRule (phrase what) toks.now left }
     ensures shorter { IfOk result (λ r. length r.1.now < length toks.now) }
 {
     let (expr, count) = phrase_at(alloc, bytes, what, toks)?;

@@ -24,7 +24,7 @@ use verse_grammar::phrases::Phrase;
 use verse_handles::trees::Tree;
 use verse_handles::types::Written;
 use verse_layout::toks::Tok;
-use verse_reading::stops::behind;
+use verse_reading::steps::behind;
 use verse_reading::types::type_at;
 
 /// The type at an index, and the index behind it.

@@ -1,3 +1,2 @@
-pub mod Optional
 pub mod Files
-mod Counted
+pub mod Counted

@@ -10,7 +10,7 @@ ghost use Rattle.verse_grammar.specs.Reading.{EatsRule, SticksRule};
 ghost use Rattle.verse_grammar.specs.declared.phrases.Phrase.{Phrase};
 ghost use Rattle.verse_reading.specs.Nests.{Nests};
 ghost use Rattle.verse_levels.specs.Compares.{Compares};
-ghost use Rattle.verse_reading.specs.declared.stops.Stop.TheVariants as stop;
+ghost use Rattle.verse_reading.specs.declared.steps.ReadFault.TheVariants as read_fault;
 
 use crate::postfixes::postfix;
 use std::alloc::Global;
@@ -21,7 +21,7 @@ use verse_layout::toks::{Tok, TokKind};
 use verse_lex::tokens::{TokenKind, Word};
 use verse_nodes::operators;
 use verse_reading::nesting::Reader;
-use verse_reading::stops::{Stop, next, take};
+use verse_reading::steps::{ReadFault, next, take};
 use verse_tree::exprs::{Comparison, Operator};
 
 /// The operator with which a chain of this level goes on.
@@ -70,17 +70,17 @@ fn comparison_ahead(toks: &[Tok]) -> Option<(Comparison, Tok, &[Tok])>
 
 /// Operands that are joined to the tree so far, from the left.
 #[tactic(auto, using(verse_grammar::specs::Exprs::chain_none, verse_grammar::proofs::Going::goes_start, verse_grammar::proofs::Going::goes_eats, crate::proofs::Chains::stuck_chain, verse_grammar::proofs::Eating::eats_chain_tail_other))]
-pub fn chain_tail<'t, F: Fn(Global, &[u8], Phrase, &[Tok]) -> Result<(Tree, usize), Stop>>(
+pub fn chain_tail<'t, F: Fn(Global, &[u8], Phrase, &[Tok]) -> Result<(Tree, usize), ReadFault>>(
     reader: &Reader<'_, F>,
     level: Phrase,
     left: Tree,
     toks: &'t [Tok],
-) -> Result<(Tree, &'t [Tok]), Stop>
+) -> Result<(Tree, &'t [Tok]), ReadFault>
     requires nests { Nests reader.now.bytes.now reader.now.most (F.pre reader.now.nested) (F.post reader.now.nested) }
     requires fewer { length toks.now < reader.now.most }
     ensures spelled { IfOk result (λ r. Chain reader.now.bytes.now level (tree_of left) toks.now (tree_of r.0) r.1.now) }
     ensures eats { IfOk result (λ r. EatsRule (chain_tail level) toks.now r.1.now) }
-    ensures sticks { (left : ℕ) → IsErrOf result (stop.At left) → SticksRule (chain_tail level) toks.now left }
+    ensures sticks { (left : ℕ) → IsErrOf result (read_fault.Stuck left) → SticksRule (chain_tail level) toks.now left }
     ensures shorter { IfOk result (λ r. length r.1.now ≤ length toks.now) }
 {
     let mut tree = left;
@@ -95,15 +95,15 @@ pub fn chain_tail<'t, F: Fn(Global, &[u8], Phrase, &[Tok]) -> Result<(Tree, usiz
 
 /// `E or F`, and what binds closer.
 #[tactic(auto, using(verse_grammar::specs::Exprs::or_chain, verse_grammar::proofs::Eating::eats_or, verse_grammar::proofs::Sticking::sticks_or_1, verse_grammar::proofs::Sticking::sticks_or_2))]
-pub fn ors<'t, F: Fn(Global, &[u8], Phrase, &[Tok]) -> Result<(Tree, usize), Stop>>(
+pub fn ors<'t, F: Fn(Global, &[u8], Phrase, &[Tok]) -> Result<(Tree, usize), ReadFault>>(
     reader: &Reader<'_, F>,
     toks: &'t [Tok],
-) -> Result<(Tree, &'t [Tok]), Stop>
+) -> Result<(Tree, &'t [Tok]), ReadFault>
     requires nests { Nests reader.now.bytes.now reader.now.most (F.pre reader.now.nested) (F.post reader.now.nested) }
     requires within { length toks.now ≤ reader.now.most }
     ensures spelled { IfOk result (λ r. Reads reader.now.bytes.now Phrase.Or toks.now (tree_of r.0) r.1.now) }
     ensures eats { IfOk result (λ r. EatsRule (phrase Phrase.Or) toks.now r.1.now) }
-    ensures sticks { (left : ℕ) → IsErrOf result (stop.At left) → SticksRule (phrase Phrase.Or) toks.now left }
+    ensures sticks { (left : ℕ) → IsErrOf result (read_fault.Stuck left) → SticksRule (phrase Phrase.Or) toks.now left }
     ensures shorter { IfOk result (λ r. length r.1.now < length toks.now) }
 {
     let (first, rest) = ands(reader, toks)?;
@@ -112,15 +112,15 @@ pub fn ors<'t, F: Fn(Global, &[u8], Phrase, &[Tok]) -> Result<(Tree, usize), Sto
 
 /// `E and F`, and what binds closer.
 #[tactic(auto, using(verse_grammar::specs::Exprs::and_chain, verse_grammar::proofs::Eating::eats_and, verse_grammar::proofs::Sticking::sticks_and_1, verse_grammar::proofs::Sticking::sticks_and_2))]
-pub fn ands<'t, F: Fn(Global, &[u8], Phrase, &[Tok]) -> Result<(Tree, usize), Stop>>(
+pub fn ands<'t, F: Fn(Global, &[u8], Phrase, &[Tok]) -> Result<(Tree, usize), ReadFault>>(
     reader: &Reader<'_, F>,
     toks: &'t [Tok],
-) -> Result<(Tree, &'t [Tok]), Stop>
+) -> Result<(Tree, &'t [Tok]), ReadFault>
     requires nests { Nests reader.now.bytes.now reader.now.most (F.pre reader.now.nested) (F.post reader.now.nested) }
     requires within { length toks.now ≤ reader.now.most }
     ensures spelled { IfOk result (λ r. Reads reader.now.bytes.now Phrase.And toks.now (tree_of r.0) r.1.now) }
     ensures eats { IfOk result (λ r. EatsRule (phrase Phrase.And) toks.now r.1.now) }
-    ensures sticks { (left : ℕ) → IsErrOf result (stop.At left) → SticksRule (phrase Phrase.And) toks.now left }
+    ensures sticks { (left : ℕ) → IsErrOf result (read_fault.Stuck left) → SticksRule (phrase Phrase.And) toks.now left }
     ensures shorter { IfOk result (λ r. length r.1.now < length toks.now) }
 {
     let (first, rest) = negated(reader, toks)?;
@@ -129,15 +129,15 @@ pub fn ands<'t, F: Fn(Global, &[u8], Phrase, &[Tok]) -> Result<(Tree, usize), St
 
 /// `E + F` and `E - F`, and what binds closer.
 #[tactic(auto, using(verse_grammar::specs::Exprs::sum_chain, verse_grammar::proofs::Eating::eats_sum, verse_grammar::proofs::Sticking::sticks_sum_1, verse_grammar::proofs::Sticking::sticks_sum_2))]
-pub fn sum<'t, F: Fn(Global, &[u8], Phrase, &[Tok]) -> Result<(Tree, usize), Stop>>(
+pub fn sum<'t, F: Fn(Global, &[u8], Phrase, &[Tok]) -> Result<(Tree, usize), ReadFault>>(
     reader: &Reader<'_, F>,
     toks: &'t [Tok],
-) -> Result<(Tree, &'t [Tok]), Stop>
+) -> Result<(Tree, &'t [Tok]), ReadFault>
     requires nests { Nests reader.now.bytes.now reader.now.most (F.pre reader.now.nested) (F.post reader.now.nested) }
     requires within { length toks.now ≤ reader.now.most }
     ensures spelled { IfOk result (λ r. Reads reader.now.bytes.now Phrase.Sum toks.now (tree_of r.0) r.1.now) }
     ensures eats { IfOk result (λ r. EatsRule (phrase Phrase.Sum) toks.now r.1.now) }
-    ensures sticks { (left : ℕ) → IsErrOf result (stop.At left) → SticksRule (phrase Phrase.Sum) toks.now left }
+    ensures sticks { (left : ℕ) → IsErrOf result (read_fault.Stuck left) → SticksRule (phrase Phrase.Sum) toks.now left }
     ensures shorter { IfOk result (λ r. length r.1.now < length toks.now) }
 {
     let (first, rest) = product(reader, toks)?;
@@ -146,15 +146,15 @@ pub fn sum<'t, F: Fn(Global, &[u8], Phrase, &[Tok]) -> Result<(Tree, usize), Sto
 
 /// `E * F` and `E / F`, and what binds closer.
 #[tactic(auto, using(verse_grammar::specs::Exprs::product_chain, verse_grammar::proofs::Eating::eats_product, verse_grammar::proofs::Sticking::sticks_product_1, verse_grammar::proofs::Sticking::sticks_product_2))]
-pub fn product<'t, F: Fn(Global, &[u8], Phrase, &[Tok]) -> Result<(Tree, usize), Stop>>(
+pub fn product<'t, F: Fn(Global, &[u8], Phrase, &[Tok]) -> Result<(Tree, usize), ReadFault>>(
     reader: &Reader<'_, F>,
     toks: &'t [Tok],
-) -> Result<(Tree, &'t [Tok]), Stop>
+) -> Result<(Tree, &'t [Tok]), ReadFault>
     requires nests { Nests reader.now.bytes.now reader.now.most (F.pre reader.now.nested) (F.post reader.now.nested) }
     requires within { length toks.now ≤ reader.now.most }
     ensures spelled { IfOk result (λ r. Reads reader.now.bytes.now Phrase.Product toks.now (tree_of r.0) r.1.now) }
     ensures eats { IfOk result (λ r. EatsRule (phrase Phrase.Product) toks.now r.1.now) }
-    ensures sticks { (left : ℕ) → IsErrOf result (stop.At left) → SticksRule (phrase Phrase.Product) toks.now left }
+    ensures sticks { (left : ℕ) → IsErrOf result (read_fault.Stuck left) → SticksRule (phrase Phrase.Product) toks.now left }
     ensures shorter { IfOk result (λ r. length r.1.now < length toks.now) }
 {
     let (first, rest) = negative(reader, toks)?;
@@ -163,15 +163,15 @@ pub fn product<'t, F: Fn(Global, &[u8], Phrase, &[Tok]) -> Result<(Tree, usize),
 
 /// `not E`, or a comparison.
 #[tactic(auto, using(verse_grammar::specs::Exprs::not_word, verse_grammar::specs::Exprs::not_comparison, verse_grammar::proofs::Eating::eats_not_at, verse_grammar::proofs::Eating::eats_not_other, verse_grammar::proofs::Sticking::sticks_not_at_1, verse_grammar::proofs::Sticking::sticks_not_other_1))]
-pub fn negated<'t, F: Fn(Global, &[u8], Phrase, &[Tok]) -> Result<(Tree, usize), Stop>>(
+pub fn negated<'t, F: Fn(Global, &[u8], Phrase, &[Tok]) -> Result<(Tree, usize), ReadFault>>(
     reader: &Reader<'_, F>,
     toks: &'t [Tok],
-) -> Result<(Tree, &'t [Tok]), Stop>
+) -> Result<(Tree, &'t [Tok]), ReadFault>
     requires nests { Nests reader.now.bytes.now reader.now.most (F.pre reader.now.nested) (F.post reader.now.nested) }
     requires within { length toks.now ≤ reader.now.most }
     ensures spelled { IfOk result (λ r. Reads reader.now.bytes.now Phrase.Not toks.now (tree_of r.0) r.1.now) }
     ensures eats { IfOk result (λ r. EatsRule (phrase Phrase.Not) toks.now r.1.now) }
-    ensures sticks { (left : ℕ) → IsErrOf result (stop.At left) → SticksRule (phrase Phrase.Not) toks.now left }
+    ensures sticks { (left : ℕ) → IsErrOf result (read_fault.Stuck left) → SticksRule (phrase Phrase.Not) toks.now left }
     ensures shorter { IfOk result (λ r. length r.1.now < length toks.now) }
 {
     match take(toks, Fixed::Not) {
@@ -185,15 +185,15 @@ pub fn negated<'t, F: Fn(Global, &[u8], Phrase, &[Tok]) -> Result<(Tree, usize),
 
 /// Two sums that are compared, or one.
 #[tactic(auto, using(crate::proofs::Comparing::compared_sums, verse_grammar::proofs::Eating::eats_comparison, verse_grammar::proofs::Sticking::sticks_comparison_1, verse_grammar::proofs::Sticking::sticks_comparison_2, verse_grammar::proofs::Sticking::sticks_comparison_tail_at_1))]
-pub fn comparison<'t, F: Fn(Global, &[u8], Phrase, &[Tok]) -> Result<(Tree, usize), Stop>>(
+pub fn comparison<'t, F: Fn(Global, &[u8], Phrase, &[Tok]) -> Result<(Tree, usize), ReadFault>>(
     reader: &Reader<'_, F>,
     toks: &'t [Tok],
-) -> Result<(Tree, &'t [Tok]), Stop>
+) -> Result<(Tree, &'t [Tok]), ReadFault>
     requires nests { Nests reader.now.bytes.now reader.now.most (F.pre reader.now.nested) (F.post reader.now.nested) }
     requires within { length toks.now ≤ reader.now.most }
     ensures spelled { IfOk result (λ r. Reads reader.now.bytes.now Phrase.Comparison toks.now (tree_of r.0) r.1.now) }
     ensures eats { IfOk result (λ r. EatsRule (phrase Phrase.Comparison) toks.now r.1.now) }
-    ensures sticks { (left : ℕ) → IsErrOf result (stop.At left) → SticksRule (phrase Phrase.Comparison) toks.now left }
+    ensures sticks { (left : ℕ) → IsErrOf result (read_fault.Stuck left) → SticksRule (phrase Phrase.Comparison) toks.now left }
     ensures shorter { IfOk result (λ r. length r.1.now < length toks.now) }
 {
     let (left, rest) = sum(reader, toks)?;
@@ -202,16 +202,15 @@ pub fn comparison<'t, F: Fn(Global, &[u8], Phrase, &[Tok]) -> Result<(Tree, usiz
 
 /// What a sum is compared with, if anything.
 #[tactic(auto, using(crate::specs::Compares::alone, crate::specs::Compares::with_another, verse_grammar::proofs::Eating::eats_comparison_tail_at, verse_grammar::proofs::Eating::eats_comparison_tail_other, verse_grammar::proofs::Sticking::sticks_comparison_tail_at_1))]
-pub fn comparison_tail<'t, F: Fn(Global, &[u8], Phrase, &[Tok]) -> Result<(Tree, usize), Stop>>(
-    reader: &Reader<'_, F>,
-    left: Tree,
-    toks: &'t [Tok],
-) -> Result<(Tree, &'t [Tok]), Stop>
+pub fn comparison_tail<
+    't,
+    F: Fn(Global, &[u8], Phrase, &[Tok]) -> Result<(Tree, usize), ReadFault>,
+>(reader: &Reader<'_, F>, left: Tree, toks: &'t [Tok]) -> Result<(Tree, &'t [Tok]), ReadFault>
     requires nests { Nests reader.now.bytes.now reader.now.most (F.pre reader.now.nested) (F.post reader.now.nested) }
     requires fewer { length toks.now < reader.now.most }
     ensures spelled { IfOk result (λ r. Compares reader.now.bytes.now (tree_of left) toks.now (tree_of r.0) r.1.now) }
     ensures eats { IfOk result (λ r. EatsRule comparison_tail toks.now r.1.now) }
-    ensures sticks { (left : ℕ) → IsErrOf result (stop.At left) → SticksRule comparison_tail toks.now left }
+    ensures sticks { (left : ℕ) → IsErrOf result (read_fault.Stuck left) → SticksRule comparison_tail toks.now left }
     ensures shorter { IfOk result (λ r. length r.1.now ≤ length toks.now) }
 {
     match comparison_ahead(toks) {
@@ -228,15 +227,15 @@ pub fn comparison_tail<'t, F: Fn(Global, &[u8], Phrase, &[Tok]) -> Result<(Tree,
 
 /// `-E`, or a postfix.
 #[tactic(auto, using(verse_grammar::specs::Exprs::minus_mark, verse_grammar::specs::Exprs::minus_postfix, verse_grammar::proofs::Eating::eats_minus_at, verse_grammar::proofs::Eating::eats_minus_other, verse_grammar::proofs::Sticking::sticks_minus_at_1, verse_grammar::proofs::Sticking::sticks_minus_other_1))]
-pub fn negative<'t, F: Fn(Global, &[u8], Phrase, &[Tok]) -> Result<(Tree, usize), Stop>>(
+pub fn negative<'t, F: Fn(Global, &[u8], Phrase, &[Tok]) -> Result<(Tree, usize), ReadFault>>(
     reader: &Reader<'_, F>,
     toks: &'t [Tok],
-) -> Result<(Tree, &'t [Tok]), Stop>
+) -> Result<(Tree, &'t [Tok]), ReadFault>
     requires nests { Nests reader.now.bytes.now reader.now.most (F.pre reader.now.nested) (F.post reader.now.nested) }
     requires within { length toks.now ≤ reader.now.most }
     ensures spelled { IfOk result (λ r. Reads reader.now.bytes.now Phrase.Minus toks.now (tree_of r.0) r.1.now) }
     ensures eats { IfOk result (λ r. EatsRule (phrase Phrase.Minus) toks.now r.1.now) }
-    ensures sticks { (left : ℕ) → IsErrOf result (stop.At left) → SticksRule (phrase Phrase.Minus) toks.now left }
+    ensures sticks { (left : ℕ) → IsErrOf result (read_fault.Stuck left) → SticksRule (phrase Phrase.Minus) toks.now left }
     ensures shorter { IfOk result (λ r. length r.1.now < length toks.now) }
 {
     match take(toks, Fixed::Minus) {

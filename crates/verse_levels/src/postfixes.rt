@@ -11,7 +11,7 @@ ghost use Rattle.verse_grammar.specs.declared.phrases.Phrase.{Phrase};
 ghost use Rattle.verse_grammar.specs.declared.starts.PostfixStart.{PostfixStart};
 ghost use Rattle.verse_reading.specs.Nests.{Nests};
 ghost use Rattle.verse_levels.specs.Postfixing.{OnePostfix, PostfixEats, PostfixSticks, joined};
-ghost use Rattle.verse_reading.specs.declared.stops.Stop.TheVariants as stop;
+ghost use Rattle.verse_reading.specs.declared.steps.ReadFault.TheVariants as read_fault;
 
 use std::alloc::Global;
 use verse_base::places::Place;
@@ -24,7 +24,7 @@ use verse_nodes::operators;
 use verse_primary::primary::primary;
 use verse_reading::nesting::Reader;
 use verse_reading::spans::name_of;
-use verse_reading::stops::{Stop, next, take};
+use verse_reading::steps::{ReadFault, next, take};
 use verse_tree::names::Name;
 
 /// A postfix without the tree that it is put to.
@@ -51,15 +51,15 @@ fn postfix_ahead(toks: &[Tok]) -> Option<(PostfixStart, Tok, &[Tok])>
 
 /// A primary form with its postfixes.
 #[tactic(auto, using(verse_grammar::specs::Exprs::postfix_chain, verse_grammar::proofs::Eating::eats_postfix, verse_grammar::proofs::Sticking::sticks_postfix_1, verse_grammar::proofs::Sticking::sticks_postfix_2))]
-pub fn postfix<'t, F: Fn(Global, &[u8], Phrase, &[Tok]) -> Result<(Tree, usize), Stop>>(
+pub fn postfix<'t, F: Fn(Global, &[u8], Phrase, &[Tok]) -> Result<(Tree, usize), ReadFault>>(
     reader: &Reader<'_, F>,
     toks: &'t [Tok],
-) -> Result<(Tree, &'t [Tok]), Stop>
+) -> Result<(Tree, &'t [Tok]), ReadFault>
     requires nests { Nests reader.now.bytes.now reader.now.most (F.pre reader.now.nested) (F.post reader.now.nested) }
     requires within { length toks.now ≤ reader.now.most }
     ensures spelled { IfOk result (λ r. Reads reader.now.bytes.now Phrase.Postfix toks.now (tree_of r.0) r.1.now) }
     ensures eats { IfOk result (λ r. EatsRule (phrase Phrase.Postfix) toks.now r.1.now) }
-    ensures sticks { (left : ℕ) → IsErrOf result (stop.At left) → SticksRule (phrase Phrase.Postfix) toks.now left }
+    ensures sticks { (left : ℕ) → IsErrOf result (read_fault.Stuck left) → SticksRule (phrase Phrase.Postfix) toks.now left }
     ensures shorter { IfOk result (λ r. length r.1.now < length toks.now) }
 {
     let (primary, rest) = primary(reader, toks)?;
@@ -68,16 +68,16 @@ pub fn postfix<'t, F: Fn(Global, &[u8], Phrase, &[Tok]) -> Result<(Tree, usize),
 
 /// The postfixes of a tree, from the left.
 #[tactic(auto, using(verse_grammar::specs::Exprs::postfix_none, verse_grammar::proofs::Going::goes_start, verse_grammar::proofs::Going::goes_eats, verse_grammar::proofs::Eating::eats_postfix_tail_other, crate::proofs::Postfixed::stuck_postfix))]
-pub fn postfix_tail<'t, F: Fn(Global, &[u8], Phrase, &[Tok]) -> Result<(Tree, usize), Stop>>(
+pub fn postfix_tail<'t, F: Fn(Global, &[u8], Phrase, &[Tok]) -> Result<(Tree, usize), ReadFault>>(
     reader: &Reader<'_, F>,
     object: Tree,
     toks: &'t [Tok],
-) -> Result<(Tree, &'t [Tok]), Stop>
+) -> Result<(Tree, &'t [Tok]), ReadFault>
     requires nests { Nests reader.now.bytes.now reader.now.most (F.pre reader.now.nested) (F.post reader.now.nested) }
     requires fewer { length toks.now < reader.now.most }
     ensures spelled { IfOk result (λ r. Postfixes reader.now.bytes.now (tree_of object) toks.now (tree_of r.0) r.1.now) }
     ensures eats { IfOk result (λ r. EatsRule postfix_tail toks.now r.1.now) }
-    ensures sticks { (left : ℕ) → IsErrOf result (stop.At left) → SticksRule postfix_tail toks.now left }
+    ensures sticks { (left : ℕ) → IsErrOf result (read_fault.Stuck left) → SticksRule postfix_tail toks.now left }
     ensures shorter { IfOk result (λ r. length r.1.now ≤ length toks.now) }
 {
     let mut tree = object;
@@ -104,16 +104,16 @@ fn joined(alloc: Global, place: Place, object: Tree, suffix: Suffix) -> Result<T
 
 /// One postfix, behind its first tok.
 #[tactic(auto, using(crate::specs::Postfixing::one_query, crate::specs::Postfixing::eats_query))]
-fn suffix_behind<'t, F: Fn(Global, &[u8], Phrase, &[Tok]) -> Result<(Tree, usize), Stop>>(
+fn suffix_behind<'t, F: Fn(Global, &[u8], Phrase, &[Tok]) -> Result<(Tree, usize), ReadFault>>(
     reader: &Reader<'_, F>,
     start: PostfixStart,
     toks: &'t [Tok],
-) -> Result<(Suffix, &'t [Tok]), Stop>
+) -> Result<(Suffix, &'t [Tok]), ReadFault>
     requires nests { Nests reader.now.bytes.now reader.now.most (F.pre reader.now.nested) (F.post reader.now.nested) }
     requires fewer { length toks.now < reader.now.most }
     ensures spelled { IfOk result (λ r. OnePostfix reader.now.bytes.now start toks.now r.0 r.1.now) }
     ensures eats { IfOk result (λ r. PostfixEats start toks.now r.1.now) }
-    ensures sticks { (left : ℕ) → IsErrOf result (stop.At left) → PostfixSticks start toks.now left }
+    ensures sticks { (left : ℕ) → IsErrOf result (read_fault.Stuck left) → PostfixSticks start toks.now left }
     ensures shorter { IfOk result (λ r. length r.1.now ≤ length toks.now) }
 {
     match start {
@@ -126,15 +126,15 @@ fn suffix_behind<'t, F: Fn(Global, &[u8], Phrase, &[Tok]) -> Result<(Tree, usize
 
 /// The arguments of a call, behind the opening bracket.
 #[tactic(auto, using(crate::specs::Postfixing::one_call, crate::specs::Postfixing::eats_call, crate::specs::Postfixing::sticks_call))]
-fn called<'t, F: Fn(Global, &[u8], Phrase, &[Tok]) -> Result<(Tree, usize), Stop>>(
+fn called<'t, F: Fn(Global, &[u8], Phrase, &[Tok]) -> Result<(Tree, usize), ReadFault>>(
     reader: &Reader<'_, F>,
     toks: &'t [Tok],
-) -> Result<(Suffix, &'t [Tok]), Stop>
+) -> Result<(Suffix, &'t [Tok]), ReadFault>
     requires nests { Nests reader.now.bytes.now reader.now.most (F.pre reader.now.nested) (F.post reader.now.nested) }
     requires fewer { length toks.now < reader.now.most }
     ensures spelled { IfOk result (λ r. OnePostfix reader.now.bytes.now PostfixStart.Round toks.now r.0 r.1.now) }
     ensures eats { IfOk result (λ r. PostfixEats PostfixStart.Round toks.now r.1.now) }
-    ensures sticks { (left : ℕ) → IsErrOf result (stop.At left) → PostfixSticks PostfixStart.Round toks.now left }
+    ensures sticks { (left : ℕ) → IsErrOf result (read_fault.Stuck left) → PostfixSticks PostfixStart.Round toks.now left }
     ensures shorter { IfOk result (λ r. length r.1.now ≤ length toks.now) }
 {
     let (args, rest) = reader.until(Phrase::Expr, Fixed::Comma, Fixed::RoundClose, toks)?;
@@ -143,15 +143,15 @@ fn called<'t, F: Fn(Global, &[u8], Phrase, &[Tok]) -> Result<(Tree, usize), Stop
 
 /// The indices, behind the opening bracket.
 #[tactic(auto, using(crate::specs::Postfixing::one_index, crate::specs::Postfixing::eats_index, crate::specs::Postfixing::sticks_index))]
-fn indexed<'t, F: Fn(Global, &[u8], Phrase, &[Tok]) -> Result<(Tree, usize), Stop>>(
+fn indexed<'t, F: Fn(Global, &[u8], Phrase, &[Tok]) -> Result<(Tree, usize), ReadFault>>(
     reader: &Reader<'_, F>,
     toks: &'t [Tok],
-) -> Result<(Suffix, &'t [Tok]), Stop>
+) -> Result<(Suffix, &'t [Tok]), ReadFault>
     requires nests { Nests reader.now.bytes.now reader.now.most (F.pre reader.now.nested) (F.post reader.now.nested) }
     requires fewer { length toks.now < reader.now.most }
     ensures spelled { IfOk result (λ r. OnePostfix reader.now.bytes.now PostfixStart.Square toks.now r.0 r.1.now) }
     ensures eats { IfOk result (λ r. PostfixEats PostfixStart.Square toks.now r.1.now) }
-    ensures sticks { (left : ℕ) → IsErrOf result (stop.At left) → PostfixSticks PostfixStart.Square toks.now left }
+    ensures sticks { (left : ℕ) → IsErrOf result (read_fault.Stuck left) → PostfixSticks PostfixStart.Square toks.now left }
     ensures shorter { IfOk result (λ r. length r.1.now ≤ length toks.now) }
 {
     let (args, rest) = reader.until(Phrase::Expr, Fixed::Comma, Fixed::SquareClose, toks)?;
@@ -160,17 +160,17 @@ fn indexed<'t, F: Fn(Global, &[u8], Phrase, &[Tok]) -> Result<(Tree, usize), Sto
 
 /// The name of a member, behind the dot.
 #[tactic(auto, using(crate::specs::Postfixing::one_member, crate::specs::Postfixing::eats_member, crate::specs::Postfixing::sticks_member))]
-fn member<'t, F: Fn(Global, &[u8], Phrase, &[Tok]) -> Result<(Tree, usize), Stop>>(
+fn member<'t, F: Fn(Global, &[u8], Phrase, &[Tok]) -> Result<(Tree, usize), ReadFault>>(
     reader: &Reader<'_, F>,
     toks: &'t [Tok],
-) -> Result<(Suffix, &'t [Tok]), Stop>
+) -> Result<(Suffix, &'t [Tok]), ReadFault>
     ensures spelled { IfOk result (λ r. OnePostfix reader.now.bytes.now PostfixStart.Dot toks.now r.0 r.1.now) }
     ensures eats { IfOk result (λ r. PostfixEats PostfixStart.Dot toks.now r.1.now) }
-    ensures sticks { (left : ℕ) → IsErrOf result (stop.At left) → PostfixSticks PostfixStart.Dot toks.now left }
+    ensures sticks { (left : ℕ) → IsErrOf result (read_fault.Stuck left) → PostfixSticks PostfixStart.Dot toks.now left }
     ensures shorter { IfOk result (λ r. length r.1.now ≤ length toks.now) }
 {
     let Some((field, rest)) = take(toks, Fixed::Name) else {
-        return Err(Stop::At(toks.len()));
+        return Err(ReadFault::Stuck(toks.len()));
     };
     Ok((
         Suffix::Member(name_of(reader.alloc, reader.bytes, field)?),

@@ -1,6 +1,4 @@
-pub mod Wholes
-pub mod Halting
-pub mod Steps
-pub mod Signatures
+pub mod Spelled
+pub mod Stopping
 pub mod Rows
 pub mod Few

@@ -12,18 +12,18 @@ ghost use Rattle.verse_grammar.specs.Items as grammar;
 ghost use Rattle.verse_grammar.specs.Symbols as rules_of;
 ghost use Rattle.verse_grammar.specs.Reading.{EatsRule, SticksRule};
 ghost use Rattle.verse_grammar.specs.Begins.{Stops, a_program};
-ghost use Rattle.verse_reading.specs.declared.stops.Stop.TheVariants as stop;
+ghost use Rattle.verse_reading.specs.declared.steps.ReadFault.TheVariants as read_fault;
 ghost use Rattle.verse_expr.specs.Faults.{stop_rule};
 ghost use Rattle.verse_expr.specs.declared.faults.ParseFault.TheVariants as fault;
-ghost use Rattle.verse_parse.specs.Halts.{Halts};
+ghost use Rattle.verse_parse.specs.StopsWith.{StopsWith};
 
-use crate::items::item;
 use std::alloc::Global;
 use verse_expr::faults::{ParseFault, fault_of};
 use verse_grammar::starts::Fixed;
 use verse_item_handles::items::{ItemTree, ItemTrees};
 use verse_layout::toks::Tok;
-use verse_reading::stops::{Stop, next, take};
+use verse_read_items::item;
+use verse_reading::steps::{ReadFault, next, take};
 
 /// The items that the toks of a file spell.
 ///
@@ -31,7 +31,7 @@ use verse_reading::stops::{Stop, next, take};
 /// Where the toks are no program, `At` has the greatest index up to which they begin one, with E069
 /// where the tok of that index is left out of the language, and E030 where it is another or there is
 /// none.
-#[tactic(auto, using(crate::proofs::Halting::halts_stops, crate::proofs::Halting::halts_within, crate::proofs::Halting::program_once, crate::proofs::Few::few_items))]
+#[tactic(auto, using(crate::proofs::Stopping::left_stops_program, crate::proofs::Stopping::left_within, crate::proofs::Stopping::program_once, crate::proofs::Few::few_items))]
 pub fn parse(alloc: Global, bytes: &[u8], toks: &[Tok]) -> Result<ItemTrees, ParseFault>
     ensures spelled { IfOk result (λ items. Program bytes.now toks.now (map item_of items) []) }
     ensures only { IfOk result (λ items. (is : List t.ItemTree) → Program bytes.now toks.now is [] → is ≡ map item_of items) }
@@ -47,24 +47,28 @@ pub fn parse(alloc: Global, bytes: &[u8], toks: &[Tok]) -> Result<ItemTrees, Par
 }
 
 /// The items of a file, behind which is nothing.
-#[tactic(auto, using(crate::specs::Halts::halts_inside, crate::specs::Halts::halts_behind))]
-fn items(alloc: Global, bytes: &[u8], toks: &[Tok]) -> Result<ItemTrees, Stop>
+#[tactic(auto, using(crate::specs::StopsWith::stuck_inside, crate::specs::StopsWith::left_behind))]
+fn items(alloc: Global, bytes: &[u8], toks: &[Tok]) -> Result<ItemTrees, ReadFault>
     ensures spelled { IfOk result (λ items. Program bytes.now toks.now (map item_of items) []) }
-    ensures halts { (left : ℕ) → IsErrOf result (stop.At left) → Halts toks.now left }
+    ensures stops { (left : ℕ) → IsErrOf result (read_fault.Stuck left) → StopsWith toks.now left }
 {
     let (items, rest) = program(alloc, bytes, toks)?;
     match next(rest) {
         None => Ok(items),
-        Some(_) => Err(Stop::At(rest.len())),
+        Some(_) => Err(ReadFault::Stuck(rest.len())),
     }
 }
 
 /// The items of a file, and the toks behind them.
-#[tactic(auto, using(verse_grammar::specs::Items::no_items, verse_grammar::specs::Items::some_items, verse_grammar::proofs::EatingItems::eats_program_end, crate::proofs::Wholes::program_eats, crate::proofs::Wholes::program_sticks_1, crate::proofs::Wholes::program_sticks_2))]
-fn program<'t>(alloc: Global, bytes: &[u8], toks: &'t [Tok]) -> Result<(ItemTrees, &'t [Tok]), Stop>
+#[tactic(auto, using(verse_grammar::specs::Items::no_items, verse_grammar::specs::Items::some_items, verse_grammar::proofs::EatingItems::eats_program_end, crate::proofs::Spelled::program_eats, crate::proofs::Spelled::program_sticks_1, crate::proofs::Spelled::program_sticks_2))]
+fn program<'t>(
+    alloc: Global,
+    bytes: &[u8],
+    toks: &'t [Tok],
+) -> Result<(ItemTrees, &'t [Tok]), ReadFault>
     ensures spelled { IfOk result (λ r. Program bytes.now toks.now (map item_of r.0) r.1.now) }
     ensures eats { IfOk result (λ r. EatsRule rules_of.program toks.now r.1.now) }
-    ensures sticks { (left : ℕ) → IsErrOf result (stop.At left) → SticksRule rules_of.program toks.now left }
+    ensures sticks { (left : ℕ) → IsErrOf result (read_fault.Stuck left) → SticksRule rules_of.program toks.now left }
     ensures shorter { IfOk result (λ r. length r.1.now ≤ length toks.now) }
 {
     let Some((_first, _rest)) = next(toks) else {
@@ -82,11 +86,11 @@ fn item_row<'t>(
     start: &[Tok],
     first: ItemTree,
     toks: &'t [Tok],
-) -> Result<(ItemTrees, &'t [Tok]), Stop>
+) -> Result<(ItemTrees, &'t [Tok]), ReadFault>
     requires begun { grammar.Item bytes.now start.now (item_of first) toks.now }
     ensures spelled { IfOk result (λ r. ItemRow bytes.now start.now (map item_of r.0) r.1.now) }
     ensures eats { IfOk result (λ r. EatsRule rules_of.items_tail toks.now r.1.now) }
-    ensures sticks { (left : ℕ) → IsErrOf result (stop.At left) → SticksRule rules_of.items_tail toks.now left }
+    ensures sticks { (left : ℕ) → IsErrOf result (read_fault.Stuck left) → SticksRule rules_of.items_tail toks.now left }
     ensures shorter { IfOk result (λ r. length r.1.now ≤ length toks.now) }
 {
     let mut items = ItemTrees::new(alloc);

@@ -3,7 +3,4 @@ pub mod Repeats
 pub mod BracketEnds
 pub mod BraceParts
 pub mod PrimaryParts
-pub mod ArmRests
 pub mod BracketStops
-pub mod LeafForms
-pub mod WordForms

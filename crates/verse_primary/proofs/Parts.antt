@@ -11,25 +11,18 @@ use Rattle.verse_tree.specs.Tree as t
 use Rattle.verse_tree.specs.View.{written_of, event_shape}
 use Rattle.verse_grammar.specs.Toks.{ahead, mark}
 use Rattle.verse_grammar.specs.Starts.{primary_start, duration_at}
-use Rattle.verse_grammar.specs.Exprs.{Reads, BracketType, GivenRow, PairRow, given_one, given_more, pair_one, pair_more, arm, event, sleep, sleep_forever, spawn}
-use Rattle.verse_grammar.specs.Symbols.{case_rest, phrase, given, givens_until, givens_tail, pair, pairs_until, pairs_tail, clauses, row_tail, hole_rest}
+use Rattle.verse_grammar.specs.Exprs.{Reads, BracketType, GivenRow, PairRow, given_one, given_more, pair_one, pair_more, event, sleep, sleep_forever, spawn}
+use Rattle.verse_grammar.specs.Symbols.{phrase, given, givens_until, givens_tail, pair, pairs_until, pairs_tail, hole_rest}
 use Rattle.verse_grammar.specs.Reading.{EatsRule, SticksRule}
 use Rattle.verse_grammar.specs.Loops.{Goes}
 use Rattle.verse_grammar.specs.declared.phrases.Phrase.TheVariants as p
 use Rattle.verse_grammar.specs.declared.starts.Duration.{Duration}
 use Rattle.verse_grammar.specs.declared.starts.Duration.TheVariants as duration
 use Rattle.verse_grammar.specs.declared.starts.PrimaryStart.TheVariants as primary
-use Rattle.verse_grammar.proofs.Eating.{eats_givens_until_other, eats_givens_tail_other, eats_pairs_until_other, eats_pairs_tail_other, eats_clauses, eats_row_tail_other, eats_primary_textopen, eats_hole_rest_other, eats_pair, eats_primary_spawn}
-use Rattle.verse_grammar.proofs.Sticking.{sticks_arm_1, sticks_pattern_end, sticks_givens_until_other_2, sticks_givens_until_other_3, sticks_pairs_until_other_2, sticks_pairs_until_other_3, sticks_clauses_2, sticks_clauses_3, sticks_primary_textopen_2, sticks_hole_rest_other_1, sticks_case_rest_3, sticks_case_rest_4, sticks_pair_3}
-use Rattle.verse_grammar.proofs.Going.{stuck_givens_tail_at_1, stuck_pairs_tail_at_1, stuck_row_tail_at_1, stuck_hole_rest_at_1}
-use Rattle.verse_primary.specs.Parts.{IsGiven, is_given, IsPair, is_pair, IsArm, is_arm, StopsBetween, before_first, before_second, slept}
-
-pub sticks_arm_end : SticksRule (phrase p.Arm) [] 0
-sticks_arm_end = sticks_arm_1 0 [] sticks_pattern_end
-
--- the place is that of its first tok
-pub arm_reads : {b : List ℕ} {k : Tok} {ks all rest : List Tok} {e : Tree} → all ≡ k ∷ ks → IsArm b k.place all e rest → Reads b p.Arm all e rest
-arm_reads q (is_arm r h s) = rw q (arm (rw q at r) h s)
+use Rattle.verse_grammar.proofs.Eating.{eats_givens_until_other, eats_givens_tail_other, eats_pairs_until_other, eats_pairs_tail_other, eats_primary_textopen, eats_hole_rest_other, eats_pair, eats_primary_spawn}
+use Rattle.verse_grammar.proofs.Sticking.{sticks_givens_until_other_2, sticks_givens_until_other_3, sticks_pairs_until_other_2, sticks_pairs_until_other_3, sticks_primary_textopen_2, sticks_hole_rest_other_1, sticks_pair_3}
+use Rattle.verse_grammar.proofs.Going.{stuck_givens_tail_at_1, stuck_pairs_tail_at_1, stuck_hole_rest_at_1}
+use Rattle.verse_primary.specs.Parts.{IsGiven, is_given, IsPair, is_pair, slept}
 
 -- the fields of an instance
 
@@ -75,18 +68,6 @@ pairs_stuck_between left k ks mid at o e g h x = sticks_pairs_until_other_2 left
 
 -- the clauses of a `for`
 
-pub clauses_eaten : (k : Tok) (ks mid rest : List Tok) → EatsRule (phrase p.Generator) ks mid → Goes (row_tail p.Clause (mark m.Comma)) mid (k ∷ rest) → ahead (k ∷ rest) ≢ Some (mark m.Comma) → k.kind ≡ mark m.RoundClose →
-    EatsRule clauses ks rest
-clauses_eaten k ks mid rest e g n h = eats_clauses k ks mid rest e (g.eats (k ∷ rest) (eats_row_tail_other p.Clause (mark m.Comma) (k ∷ rest) n)) h
-
-pub clauses_stuck_at_end : (ks mid at : List Tok) → EatsRule (phrase p.Generator) ks mid → Goes (row_tail p.Clause (mark m.Comma)) mid at → ahead at ≢ Some (mark m.Comma) → ahead at ≢ Some (mark m.RoundClose) →
-    SticksRule clauses ks (length at)
-clauses_stuck_at_end ks mid at e g n x = sticks_clauses_3 ks mid at e (g.eats at (eats_row_tail_other p.Clause (mark m.Comma) at n)) x
-
-pub clauses_stuck_between : (left : ℕ) (k : Tok) (ks mid at : List Tok) → EatsRule (phrase p.Generator) ks mid → Goes (row_tail p.Clause (mark m.Comma)) mid (k ∷ at) → k.kind ≡ mark m.Comma → SticksRule (phrase p.Clause) at left →
-    SticksRule clauses ks left
-clauses_stuck_between left k ks mid at e g h x = sticks_clauses_2 left ks mid e (stuck_row_tail_at_1 p.Clause (mark m.Comma) left k mid at g h x)
-
 -- the holes of a text
 
 pub holes_eaten : (k c : Tok) (ks mid rest : List Tok) → primary_start k.kind ≡ Some primary.TextOpen → EatsRule (phrase p.Expr) ks mid → Goes hole_rest mid (c ∷ rest) → ahead (c ∷ rest) ≢ Some (tok.Plain token.TextMid) → c.kind ≡ tok.Plain token.TextClose →
@@ -114,10 +95,6 @@ sleep_reads (duration.Milliseconds n) s h e i = sleep s h e i
 sleep_reads duration.Forever s h e i = sleep_forever s h e i
 
 -- a `case`
-
-pub case_stuck_behind : {left : ℕ} {o : Tok} {ks at : List Tok} → o.kind ≡ mark m.RoundOpen → EatsRule (phrase p.Expr) ks at → StopsBetween (mark m.RoundClose) tok.Open at left → SticksRule case_rest (o ∷ ks) left
-case_stuck_behind h e (before_first q n) = rw q (sticks_case_rest_3 _ _ _ h e n)
-case_stuck_behind h e (before_second a i q n) = rw q (sticks_case_rest_4 _ _ _ _ h (rw a at e) i n)
 
 -- the same by equations: the tok that ends a part is known by one
 

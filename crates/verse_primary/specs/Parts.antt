@@ -1,12 +1,10 @@
 -- Parts of primary forms that stand in rows, and what a `Sleep` is.
-use Rattle.std.specs.Prelude.{◌≡◌, ◌≢◌, ℕ, List, ◌∷◌, Some, length}
-use Rattle.verse_base.specs.declared.places.Place.{Place}
+use Rattle.std.specs.Prelude.{◌≡◌, ℕ, List, ◌∷◌}
 use Rattle.verse_lex.specs.declared.tokens.Mark.TheVariants as m
 use Rattle.verse_layout.specs.declared.toks.Tok.{Tok}
-use Rattle.verse_layout.specs.declared.toks.TokKind.{TokKind}
-use Rattle.verse_tree.specs.Tree.{Bytes, Tree, tree, Shape}
+use Rattle.verse_tree.specs.Tree.{Bytes, Tree, Shape}
 use Rattle.verse_tree.specs.Tree as t
-use Rattle.verse_grammar.specs.Toks.{mark, name, name_at, ahead}
+use Rattle.verse_grammar.specs.Toks.{mark, name, name_at}
 use Rattle.verse_grammar.specs.Exprs.{Reads}
 use Rattle.verse_grammar.specs.declared.phrases.Phrase.TheVariants as p
 use Rattle.verse_grammar.specs.declared.starts.Duration.{Duration}
@@ -20,16 +18,7 @@ pub data IsGiven (b : List ℕ) : List Tok → Bytes × Tree → List Tok → Ty
 pub data IsPair (b : List ℕ) : List Tok → Tree × Tree → List Tok → Type 0 where
   is_pair : {o : Tok} {ks ls rest : List Tok} {e f : Tree} → Reads b p.Expr ks e (o ∷ ls) → o.kind ≡ mark m.FatArrow → Reads b p.Expr ls f rest → IsPair b ks (e, f) rest
 
--- an arm of a `case`, whose node has this place
-pub data IsArm (b : List ℕ) (place : Place) : List Tok → Tree → List Tok → Type 0 where
-  is_arm : {o : Tok} {ks ls rest : List Tok} {e f : Tree} → Reads b p.Pattern ks e (o ∷ ls) → o.kind ≡ mark m.FatArrow → Reads b p.Body ls f rest → IsArm b place ks (tree 0 place (t.Shape.arm e f)) rest
-
 -- the shape of a `Sleep`
 abbrev pub slept : Duration → Shape
 slept (duration.Milliseconds n) = t.Shape.sleep n
 slept duration.Forever = t.Shape.sleep_forever
-
--- two toks are to be of these kinds, and with so many toks left one is not
-pub data StopsBetween (first second : TokKind) : List Tok → ℕ → Type 0 where
-  before_first : {ks : List Tok} {left : ℕ} → left ≡ length ks → ahead ks ≢ Some first → StopsBetween first second ks left
-  before_second : {k : Tok} {all ks : List Tok} {left : ℕ} → all ≡ k ∷ ks → k.kind ≡ first → left ≡ length ks → ahead ks ≢ Some second → StopsBetween first second all left

@@ -13,7 +13,7 @@ ghost use Rattle.verse_grammar.specs.declared.starts.PrimaryStart.{PrimaryStart}
 ghost use Rattle.verse_grammar.specs.declared.starts.Fixed.{Fixed};
 ghost use Rattle.verse_primary.specs.Parts.{IsPair};
 ghost use Rattle.verse_reading.specs.Nests.{Nests};
-ghost use Rattle.verse_reading.specs.declared.stops.Stop.TheVariants as stop;
+ghost use Rattle.verse_reading.specs.declared.steps.ReadFault.TheVariants as read_fault;
 
 use std::alloc::Global;
 use verse_grammar::phrases::Phrase;
@@ -23,21 +23,21 @@ use verse_handles::trees::Tree;
 use verse_layout::toks::Tok;
 use verse_nodes::{forms, literals};
 use verse_reading::nesting::Reader;
-use verse_reading::stops::{Stop, expect, take};
+use verse_reading::steps::{ReadFault, expect, take};
 
 /// `spawn{E}`
 #[tactic(auto, using(verse_grammar::proofs::Sticking::sticks_primary_spawn_1, verse_grammar::proofs::Sticking::sticks_primary_spawn_2, verse_grammar::proofs::Sticking::sticks_primary_spawn_3))]
-pub fn spawn<'t, F: Fn(Global, &[u8], Phrase, &[Tok]) -> Result<(Tree, usize), Stop>>(
+pub fn spawn<'t, F: Fn(Global, &[u8], Phrase, &[Tok]) -> Result<(Tree, usize), ReadFault>>(
     reader: &Reader<'_, F>,
     tok: Tok,
     toks: &'t [Tok],
-) -> Result<(Tree, &'t [Tok]), Stop>
+) -> Result<(Tree, &'t [Tok]), ReadFault>
     requires nests { Nests reader.now.bytes.now reader.now.most (F.pre reader.now.nested) (F.post reader.now.nested) }
     requires fewer { length toks.now < reader.now.most }
     requires start { primary_start tok.kind ≡ Some PrimaryStart.Spawn }
     ensures spelled { IfOk result (λ r. Reads reader.now.bytes.now Phrase.Primary (tok ∷ toks.now) (tree_of r.0) r.1.now) }
     ensures eats { IfOk result (λ r. EatsRule (phrase Phrase.Primary) (tok ∷ toks.now) r.1.now) }
-    ensures sticks { (left : ℕ) → IsErrOf result (stop.At left) → SticksRule (phrase Phrase.Primary) (tok ∷ toks.now) left }
+    ensures sticks { (left : ℕ) → IsErrOf result (read_fault.Stuck left) → SticksRule (phrase Phrase.Primary) (tok ∷ toks.now) left }
     ensures shorter { IfOk result (λ r. length r.1.now ≤ length toks.now) }
 {
     let (_, behind) = expect(toks, Fixed::Open)?;
@@ -46,24 +46,24 @@ pub fn spawn<'t, F: Fn(Global, &[u8], Phrase, &[Tok]) -> Result<(Tree, usize), S
         Some((_, rest)) => Ok((forms::spawn(reader.alloc, tok.place, operand)?, rest)),
         None => {
             drop(operand);
-            Err(Stop::At(behind.len()))
+            Err(ReadFault::Stuck(behind.len()))
         }
     }
 }
 
 /// `map{..}`
 #[tactic(auto, using(verse_grammar::specs::Exprs::mapping, verse_grammar::proofs::Eating::eats_primary_map, verse_grammar::proofs::Sticking::sticks_primary_map_1, verse_grammar::proofs::Sticking::sticks_primary_map_2))]
-pub fn mapping<'t, F: Fn(Global, &[u8], Phrase, &[Tok]) -> Result<(Tree, usize), Stop>>(
+pub fn mapping<'t, F: Fn(Global, &[u8], Phrase, &[Tok]) -> Result<(Tree, usize), ReadFault>>(
     reader: &Reader<'_, F>,
     tok: Tok,
     toks: &'t [Tok],
-) -> Result<(Tree, &'t [Tok]), Stop>
+) -> Result<(Tree, &'t [Tok]), ReadFault>
     requires nests { Nests reader.now.bytes.now reader.now.most (F.pre reader.now.nested) (F.post reader.now.nested) }
     requires fewer { length toks.now < reader.now.most }
     requires start { primary_start tok.kind ≡ Some PrimaryStart.Map }
     ensures spelled { IfOk result (λ r. Reads reader.now.bytes.now Phrase.Primary (tok ∷ toks.now) (tree_of r.0) r.1.now) }
     ensures eats { IfOk result (λ r. EatsRule (phrase Phrase.Primary) (tok ∷ toks.now) r.1.now) }
-    ensures sticks { (left : ℕ) → IsErrOf result (stop.At left) → SticksRule (phrase Phrase.Primary) (tok ∷ toks.now) left }
+    ensures sticks { (left : ℕ) → IsErrOf result (read_fault.Stuck left) → SticksRule (phrase Phrase.Primary) (tok ∷ toks.now) left }
     ensures shorter { IfOk result (λ r. length r.1.now ≤ length toks.now) }
 {
     let (_, behind) = expect(toks, Fixed::Open)?;
@@ -73,15 +73,15 @@ pub fn mapping<'t, F: Fn(Global, &[u8], Phrase, &[Tok]) -> Result<(Tree, usize),
 
 /// The keys of a map with their values, up to Close.
 #[tactic(auto, using(verse_grammar::specs::Exprs::no_pairs, verse_grammar::proofs::Eating::eats_pairs_until_at))]
-fn pairs_until<'t, F: Fn(Global, &[u8], Phrase, &[Tok]) -> Result<(Tree, usize), Stop>>(
+fn pairs_until<'t, F: Fn(Global, &[u8], Phrase, &[Tok]) -> Result<(Tree, usize), ReadFault>>(
     reader: &Reader<'_, F>,
     toks: &'t [Tok],
-) -> Result<(Pairs, &'t [Tok]), Stop>
+) -> Result<(Pairs, &'t [Tok]), ReadFault>
     requires nests { Nests reader.now.bytes.now reader.now.most (F.pre reader.now.nested) (F.post reader.now.nested) }
     requires fewer { length toks.now < reader.now.most }
     ensures spelled { IfOk result (λ r. PairsUntil reader.now.bytes.now toks.now (map pair_of r.0) r.1.now) }
     ensures eats { IfOk result (λ r. EatsRule pairs_until toks.now r.1.now) }
-    ensures sticks { (left : ℕ) → IsErrOf result (stop.At left) → SticksRule pairs_until toks.now left }
+    ensures sticks { (left : ℕ) → IsErrOf result (read_fault.Stuck left) → SticksRule pairs_until toks.now left }
     ensures shorter { IfOk result (λ r. length r.1.now < length toks.now) }
 {
     match take(toks, Fixed::Close) {
@@ -92,16 +92,16 @@ fn pairs_until<'t, F: Fn(Global, &[u8], Phrase, &[Tok]) -> Result<(Tree, usize),
 
 /// One key or more, up to Close.
 #[tactic(auto, using(crate::proofs::Parts::pair_row_one, verse_grammar::specs::Exprs::some_pairs, verse_grammar::proofs::Going::goes_start, crate::proofs::Parts::pairs_eaten, crate::proofs::Parts::pairs_stuck_between, crate::proofs::Parts::pairs_stuck_at_end, verse_grammar::proofs::Sticking::sticks_pairs_until_other_1))]
-fn pairs<'t, F: Fn(Global, &[u8], Phrase, &[Tok]) -> Result<(Tree, usize), Stop>>(
+fn pairs<'t, F: Fn(Global, &[u8], Phrase, &[Tok]) -> Result<(Tree, usize), ReadFault>>(
     reader: &Reader<'_, F>,
     toks: &'t [Tok],
-) -> Result<(Pairs, &'t [Tok]), Stop>
+) -> Result<(Pairs, &'t [Tok]), ReadFault>
     requires nests { Nests reader.now.bytes.now reader.now.most (F.pre reader.now.nested) (F.post reader.now.nested) }
     requires fewer { length toks.now < reader.now.most }
     requires some { ahead toks.now ≢ Some (kind_of Fixed.Close) }
     ensures spelled { IfOk result (λ r. PairsUntil reader.now.bytes.now toks.now (map pair_of r.0) r.1.now) }
     ensures eats { IfOk result (λ r. EatsRule pairs_until toks.now r.1.now) }
-    ensures sticks { (left : ℕ) → IsErrOf result (stop.At left) → SticksRule pairs_until toks.now left }
+    ensures sticks { (left : ℕ) → IsErrOf result (read_fault.Stuck left) → SticksRule pairs_until toks.now left }
     ensures shorter { IfOk result (λ r. length r.1.now < length toks.now) }
 {
     let ((key, value), after) = pair(reader, toks)?;
@@ -115,35 +115,35 @@ fn pairs<'t, F: Fn(Global, &[u8], Phrase, &[Tok]) -> Result<(Tree, usize), Stop>
     }
     match take(rest, Fixed::Close) {
         Some((_, rest)) => Ok((parts, rest)),
-        None => Err(Stop::At(rest.len())),
+        None => Err(ReadFault::Stuck(rest.len())),
     }
 }
 
 /// `K => V`
 #[tactic(auto, using(crate::proofs::Parts::pair_by, crate::proofs::Parts::eats_pair_by, verse_grammar::proofs::Sticking::sticks_pair_1, verse_grammar::proofs::Sticking::sticks_pair_2, crate::proofs::Parts::sticks_pair_by))]
-fn pair<'t, F: Fn(Global, &[u8], Phrase, &[Tok]) -> Result<(Tree, usize), Stop>>(
+fn pair<'t, F: Fn(Global, &[u8], Phrase, &[Tok]) -> Result<(Tree, usize), ReadFault>>(
     reader: &Reader<'_, F>,
     toks: &'t [Tok],
-) -> Result<((Tree, Tree), &'t [Tok]), Stop>
+) -> Result<((Tree, Tree), &'t [Tok]), ReadFault>
     requires nests { Nests reader.now.bytes.now reader.now.most (F.pre reader.now.nested) (F.post reader.now.nested) }
     requires fewer { length toks.now < reader.now.most }
     ensures spelled { IfOk result (λ r. IsPair reader.now.bytes.now toks.now (tree_of r.0.0, tree_of r.0.1) r.1.now) }
     ensures eats { IfOk result (λ r. EatsRule pair toks.now r.1.now) }
-    ensures sticks { (left : ℕ) → IsErrOf result (stop.At left) → SticksRule pair toks.now left }
+    ensures sticks { (left : ℕ) → IsErrOf result (read_fault.Stuck left) → SticksRule pair toks.now left }
     ensures shorter { IfOk result (λ r. length r.1.now < length toks.now) }
 {
     let (key, behind) = reader.inner(Phrase::Expr, toks)?;
     match take(behind, Fixed::FatArrow) {
         Some((_, behind)) => match reader.inner(Phrase::Expr, behind) {
             Ok((value, rest)) => Ok(((key, value), rest)),
-            Err(stop) => {
+            Err(fault) => {
                 drop(key);
-                Err(stop)
+                Err(fault)
             }
         },
         None => {
             drop(key);
-            Err(Stop::At(behind.len()))
+            Err(ReadFault::Stuck(behind.len()))
         }
     }
 }

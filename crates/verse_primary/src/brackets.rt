@@ -14,7 +14,7 @@ ghost use Rattle.verse_grammar.specs.declared.starts.PrimaryStart.{PrimaryStart}
 ghost use Rattle.verse_primary.specs.Parts.{slept};
 ghost use Rattle.verse_primary.specs.Rounds.{RoundRest, rounded};
 ghost use Rattle.verse_reading.specs.Nests.{Nests};
-ghost use Rattle.verse_reading.specs.declared.stops.Stop.TheVariants as stop;
+ghost use Rattle.verse_reading.specs.declared.steps.ReadFault.TheVariants as read_fault;
 
 use std::alloc::Global;
 use verse_base::places::Place;
@@ -26,22 +26,22 @@ use verse_handles::types::Written;
 use verse_layout::toks::Tok;
 use verse_nodes::{forms, literals};
 use verse_reading::nesting::Reader;
-use verse_reading::stops::{Stop, expect, next, take};
+use verse_reading::steps::{ReadFault, expect, next, take};
 use verse_reading::types::type_at;
 
 /// An expression in round brackets, or a tuple.
 #[tactic(auto, using(crate::proofs::PrimaryParts::round_reads, verse_grammar::proofs::Eating::eats_primary_round, verse_grammar::proofs::Sticking::sticks_primary_round_1, verse_grammar::proofs::Sticking::sticks_primary_round_2))]
-pub fn round<'t, F: Fn(Global, &[u8], Phrase, &[Tok]) -> Result<(Tree, usize), Stop>>(
+pub fn round<'t, F: Fn(Global, &[u8], Phrase, &[Tok]) -> Result<(Tree, usize), ReadFault>>(
     reader: &Reader<'_, F>,
     tok: Tok,
     toks: &'t [Tok],
-) -> Result<(Tree, &'t [Tok]), Stop>
+) -> Result<(Tree, &'t [Tok]), ReadFault>
     requires nests { Nests reader.now.bytes.now reader.now.most (F.pre reader.now.nested) (F.post reader.now.nested) }
     requires fewer { length toks.now < reader.now.most }
     requires start { primary_start tok.kind ≡ Some PrimaryStart.Round }
     ensures spelled { IfOk result (λ r. Reads reader.now.bytes.now Phrase.Primary (tok ∷ toks.now) (tree_of r.0) r.1.now) }
     ensures eats { IfOk result (λ r. EatsRule (phrase Phrase.Primary) (tok ∷ toks.now) r.1.now) }
-    ensures sticks { (left : ℕ) → IsErrOf result (stop.At left) → SticksRule (phrase Phrase.Primary) (tok ∷ toks.now) left }
+    ensures sticks { (left : ℕ) → IsErrOf result (read_fault.Stuck left) → SticksRule (phrase Phrase.Primary) (tok ∷ toks.now) left }
     ensures shorter { IfOk result (λ r. length r.1.now ≤ length toks.now) }
 {
     let (first, behind) = reader.inner(Phrase::Expr, toks)?;
@@ -51,15 +51,15 @@ pub fn round<'t, F: Fn(Global, &[u8], Phrase, &[Tok]) -> Result<(Tree, usize), S
 
 /// What stands behind the first expression in round brackets: others behind a comma, or none.
 #[tactic(auto, using(crate::specs::Rounds::only_one, crate::specs::Rounds::several, verse_grammar::proofs::Eating::eats_round_rest_at, verse_grammar::proofs::Eating::eats_round_rest_other, verse_grammar::proofs::Sticking::sticks_round_rest_at_1, verse_grammar::proofs::Sticking::sticks_round_rest_other_1))]
-fn others<'t, F: Fn(Global, &[u8], Phrase, &[Tok]) -> Result<(Tree, usize), Stop>>(
+fn others<'t, F: Fn(Global, &[u8], Phrase, &[Tok]) -> Result<(Tree, usize), ReadFault>>(
     reader: &Reader<'_, F>,
     toks: &'t [Tok],
-) -> Result<(Option<Trees>, &'t [Tok]), Stop>
+) -> Result<(Option<Trees>, &'t [Tok]), ReadFault>
     requires nests { Nests reader.now.bytes.now reader.now.most (F.pre reader.now.nested) (F.post reader.now.nested) }
     requires fewer { length toks.now < reader.now.most }
     ensures spelled { IfOk result (λ r. RoundRest reader.now.bytes.now toks.now (option_map (map tree_of) r.0) r.1.now) }
     ensures eats { IfOk result (λ r. EatsRule round_rest toks.now r.1.now) }
-    ensures sticks { (left : ℕ) → IsErrOf result (stop.At left) → SticksRule round_rest toks.now left }
+    ensures sticks { (left : ℕ) → IsErrOf result (read_fault.Stuck left) → SticksRule round_rest toks.now left }
     ensures shorter { IfOk result (λ r. length r.1.now < length toks.now) }
 {
     match take(toks, Fixed::Comma) {
@@ -81,15 +81,15 @@ fn others<'t, F: Fn(Global, &[u8], Phrase, &[Tok]) -> Result<(Tree, usize), Stop
 
 /// `event(t){}`
 #[tactic(auto, using(verse_grammar::proofs::Sticking::sticks_primary_event_1, verse_grammar::proofs::Sticking::sticks_primary_event_2))]
-pub fn event<'t, F: Fn(Global, &[u8], Phrase, &[Tok]) -> Result<(Tree, usize), Stop>>(
+pub fn event<'t, F: Fn(Global, &[u8], Phrase, &[Tok]) -> Result<(Tree, usize), ReadFault>>(
     reader: &Reader<'_, F>,
     tok: Tok,
     toks: &'t [Tok],
-) -> Result<(Tree, &'t [Tok]), Stop>
+) -> Result<(Tree, &'t [Tok]), ReadFault>
     requires start { primary_start tok.kind ≡ Some PrimaryStart.Event }
     ensures spelled { IfOk result (λ r. Reads reader.now.bytes.now Phrase.Primary (tok ∷ toks.now) (tree_of r.0) r.1.now) }
     ensures eats { IfOk result (λ r. EatsRule (phrase Phrase.Primary) (tok ∷ toks.now) r.1.now) }
-    ensures sticks { (left : ℕ) → IsErrOf result (stop.At left) → SticksRule (phrase Phrase.Primary) (tok ∷ toks.now) left }
+    ensures sticks { (left : ℕ) → IsErrOf result (read_fault.Stuck left) → SticksRule (phrase Phrase.Primary) (tok ∷ toks.now) left }
     ensures shorter { IfOk result (λ r. length r.1.now ≤ length toks.now) }
 {
     let (ty, behind) = bracket_type(reader.alloc, reader.bytes, toks)?;
@@ -100,15 +100,15 @@ pub fn event<'t, F: Fn(Global, &[u8], Phrase, &[Tok]) -> Result<(Tree, usize), S
 
 /// `Sleep(D)`
 #[tactic(auto, using(crate::proofs::Parts::sleep_reads, verse_grammar::proofs::Sticking::sticks_primary_sleep_1, verse_grammar::proofs::Sticking::sticks_primary_sleep_2, verse_grammar::proofs::Sticking::sticks_duration_other, verse_grammar::proofs::Sticking::sticks_duration_end))]
-pub fn sleep<'t, F: Fn(Global, &[u8], Phrase, &[Tok]) -> Result<(Tree, usize), Stop>>(
+pub fn sleep<'t, F: Fn(Global, &[u8], Phrase, &[Tok]) -> Result<(Tree, usize), ReadFault>>(
     reader: &Reader<'_, F>,
     tok: Tok,
     toks: &'t [Tok],
-) -> Result<(Tree, &'t [Tok]), Stop>
+) -> Result<(Tree, &'t [Tok]), ReadFault>
     requires start { primary_start tok.kind ≡ Some PrimaryStart.Sleep }
     ensures spelled { IfOk result (λ r. Reads reader.now.bytes.now Phrase.Primary (tok ∷ toks.now) (tree_of r.0) r.1.now) }
     ensures eats { IfOk result (λ r. EatsRule (phrase Phrase.Primary) (tok ∷ toks.now) r.1.now) }
-    ensures sticks { (left : ℕ) → IsErrOf result (stop.At left) → SticksRule (phrase Phrase.Primary) (tok ∷ toks.now) left }
+    ensures sticks { (left : ℕ) → IsErrOf result (read_fault.Stuck left) → SticksRule (phrase Phrase.Primary) (tok ∷ toks.now) left }
     ensures shorter { IfOk result (λ r. length r.1.now ≤ length toks.now) }
 {
     let (_, behind) = expect(toks, Fixed::RoundOpen)?;
@@ -118,9 +118,9 @@ pub fn sleep<'t, F: Fn(Global, &[u8], Phrase, &[Tok]) -> Result<(Tree, usize), S
                 let (_, rest) = expect(after, Fixed::RoundClose)?;
                 Ok((slept(reader.alloc, tok.place, duration)?, rest))
             }
-            None => Err(Stop::At(behind.len())),
+            None => Err(ReadFault::Stuck(behind.len())),
         },
-        None => Err(Stop::At(0)),
+        None => Err(ReadFault::Stuck(0)),
     }
 }
 
@@ -130,10 +130,10 @@ pub fn bracket_type<'t>(
     alloc: Global,
     bytes: &[u8],
     toks: &'t [Tok],
-) -> Result<(Option<Written>, &'t [Tok]), Stop>
+) -> Result<(Option<Written>, &'t [Tok]), ReadFault>
     ensures spelled { IfOk result (λ r. BracketType bytes.now toks.now (option_map written_of r.0) r.1.now) }
     ensures eats { IfOk result (λ r. EatsRule bracket_type toks.now r.1.now) }
-    ensures sticks { (left : ℕ) → IsErrOf result (stop.At left) → SticksRule bracket_type toks.now left }
+    ensures sticks { (left : ℕ) → IsErrOf result (read_fault.Stuck left) → SticksRule bracket_type toks.now left }
     ensures shorter { IfOk result (λ r. length r.1.now < length toks.now) }
 {
     let (_, behind) = expect(toks, Fixed::RoundOpen)?;

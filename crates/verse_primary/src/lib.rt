@@ -1,13 +1,8 @@
-//! Reads primary forms and patterns from toks.
+//! Reads primary forms from toks.
 //!
-//! To be read in this order: `primary`, which there are; `leaves`; `words`, which share a shape;
-//! `brackets`, `braces`, `forms`; `patterns`.
+//! To be read in this order: `primary`, which there are; `brackets`; `braces`.
 #![tactic(auto)]
 
 pub mod braces;
 pub mod brackets;
-pub mod forms;
-pub mod leaves;
-pub mod patterns;
 pub mod primary;
-pub mod words;

@@ -13,14 +13,14 @@ ghost use Rattle.verse_grammar.specs.declared.starts.PrimaryStart.{PrimaryStart}
 ghost use Rattle.verse_grammar.specs.declared.starts.Fixed.{Fixed};
 ghost use Rattle.verse_primary.specs.Parts.{IsGiven};
 ghost use Rattle.verse_reading.specs.Nests.{Nests};
-ghost use Rattle.verse_reading.specs.declared.stops.Stop.TheVariants as stop;
+ghost use Rattle.verse_reading.specs.declared.steps.ReadFault.TheVariants as read_fault;
 
 use crate::braces::{mapping, spawn};
 use crate::brackets::{event, round, sleep};
-use crate::forms::{cases, for_form};
-use crate::leaves::{Leaf, leaf_form};
-use crate::words::{BodyWord, ListWord, body_form, list_form};
 use std::alloc::Global;
+use verse_forms::forms::{cases, for_form};
+use verse_forms::leaves::{Leaf, leaf_form};
+use verse_forms::words::{BodyWord, ListWord, body_form, list_form};
 use verse_grammar::phrases::Phrase;
 use verse_grammar::starts::{Fixed, PrimaryStart, primary_start};
 use verse_handles::parts::{Givens, Holes};
@@ -29,44 +29,44 @@ use verse_layout::toks::Tok;
 use verse_nodes::literals;
 use verse_reading::nesting::Reader;
 use verse_reading::spans::{name_of, text_of};
-use verse_reading::stops::{Stop, expect, next, take};
+use verse_reading::steps::{ReadFault, expect, next, take};
 use verse_tree::names::Name;
 
 /// A primary form.
 #[tactic(auto, using(verse_grammar::proofs::Sticking::sticks_primary_other, verse_grammar::proofs::Sticking::sticks_primary_end))]
-pub fn primary<'t, F: Fn(Global, &[u8], Phrase, &[Tok]) -> Result<(Tree, usize), Stop>>(
+pub fn primary<'t, F: Fn(Global, &[u8], Phrase, &[Tok]) -> Result<(Tree, usize), ReadFault>>(
     reader: &Reader<'_, F>,
     toks: &'t [Tok],
-) -> Result<(Tree, &'t [Tok]), Stop>
+) -> Result<(Tree, &'t [Tok]), ReadFault>
     requires nests { Nests reader.now.bytes.now reader.now.most (F.pre reader.now.nested) (F.post reader.now.nested) }
     requires within { length toks.now ≤ reader.now.most }
     ensures spelled { IfOk result (λ r. Reads reader.now.bytes.now Phrase.Primary toks.now (tree_of r.0) r.1.now) }
     ensures eats { IfOk result (λ r. EatsRule (phrase Phrase.Primary) toks.now r.1.now) }
-    ensures sticks { (left : ℕ) → IsErrOf result (stop.At left) → SticksRule (phrase Phrase.Primary) toks.now left }
+    ensures sticks { (left : ℕ) → IsErrOf result (read_fault.Stuck left) → SticksRule (phrase Phrase.Primary) toks.now left }
     ensures shorter { IfOk result (λ r. length r.1.now < length toks.now) }
 {
     match next(toks) {
         Some((tok, rest)) => match primary_start(tok.kind) {
             Some(start) => primary_from(reader, start, tok, rest),
-            None => Err(Stop::At(toks.len())),
+            None => Err(ReadFault::Stuck(toks.len())),
         },
-        None => Err(Stop::At(0)),
+        None => Err(ReadFault::Stuck(0)),
     }
 }
 
 /// The primary form that begins with this tok.
-fn primary_from<'t, F: Fn(Global, &[u8], Phrase, &[Tok]) -> Result<(Tree, usize), Stop>>(
+fn primary_from<'t, F: Fn(Global, &[u8], Phrase, &[Tok]) -> Result<(Tree, usize), ReadFault>>(
     reader: &Reader<'_, F>,
     start: PrimaryStart,
     tok: Tok,
     toks: &'t [Tok],
-) -> Result<(Tree, &'t [Tok]), Stop>
+) -> Result<(Tree, &'t [Tok]), ReadFault>
     requires nests { Nests reader.now.bytes.now reader.now.most (F.pre reader.now.nested) (F.post reader.now.nested) }
     requires fewer { length toks.now < reader.now.most }
     requires start { primary_start tok.kind ≡ Some start }
     ensures spelled { IfOk result (λ r. Reads reader.now.bytes.now Phrase.Primary (tok ∷ toks.now) (tree_of r.0) r.1.now) }
     ensures eats { IfOk result (λ r. EatsRule (phrase Phrase.Primary) (tok ∷ toks.now) r.1.now) }
-    ensures sticks { (left : ℕ) → IsErrOf result (stop.At left) → SticksRule (phrase Phrase.Primary) (tok ∷ toks.now) left }
+    ensures sticks { (left : ℕ) → IsErrOf result (read_fault.Stuck left) → SticksRule (phrase Phrase.Primary) (tok ∷ toks.now) left }
     ensures shorter { IfOk result (λ r. length r.1.now ≤ length toks.now) }
 {
     match start {
@@ -99,17 +99,17 @@ fn primary_from<'t, F: Fn(Global, &[u8], Phrase, &[Tok]) -> Result<(Tree, usize)
 
 /// A name, or an instance of a class.
 #[tactic(auto, using(verse_grammar::specs::Exprs::name_alone, verse_grammar::specs::Exprs::instance, verse_grammar::proofs::Eating::eats_primary_name, verse_grammar::proofs::Eating::eats_name_rest_at, verse_grammar::proofs::Eating::eats_name_rest_other, verse_grammar::proofs::Sticking::sticks_primary_name_1, verse_grammar::proofs::Sticking::sticks_name_rest_at_1))]
-fn name_from<'t, F: Fn(Global, &[u8], Phrase, &[Tok]) -> Result<(Tree, usize), Stop>>(
+fn name_from<'t, F: Fn(Global, &[u8], Phrase, &[Tok]) -> Result<(Tree, usize), ReadFault>>(
     reader: &Reader<'_, F>,
     tok: Tok,
     toks: &'t [Tok],
-) -> Result<(Tree, &'t [Tok]), Stop>
+) -> Result<(Tree, &'t [Tok]), ReadFault>
     requires nests { Nests reader.now.bytes.now reader.now.most (F.pre reader.now.nested) (F.post reader.now.nested) }
     requires fewer { length toks.now < reader.now.most }
     requires start { primary_start tok.kind ≡ Some PrimaryStart.Name }
     ensures spelled { IfOk result (λ r. Reads reader.now.bytes.now Phrase.Primary (tok ∷ toks.now) (tree_of r.0) r.1.now) }
     ensures eats { IfOk result (λ r. EatsRule (phrase Phrase.Primary) (tok ∷ toks.now) r.1.now) }
-    ensures sticks { (left : ℕ) → IsErrOf result (stop.At left) → SticksRule (phrase Phrase.Primary) (tok ∷ toks.now) left }
+    ensures sticks { (left : ℕ) → IsErrOf result (read_fault.Stuck left) → SticksRule (phrase Phrase.Primary) (tok ∷ toks.now) left }
     ensures shorter { IfOk result (λ r. length r.1.now ≤ length toks.now) }
 {
     let name = name_of(reader.alloc, reader.bytes, tok)?;
@@ -127,15 +127,15 @@ fn name_from<'t, F: Fn(Global, &[u8], Phrase, &[Tok]) -> Result<(Tree, usize), S
 
 /// The fields that an instance is given, up to Close.
 #[tactic(auto, using(verse_grammar::specs::Exprs::no_givens, verse_grammar::proofs::Eating::eats_givens_until_at))]
-fn givens_until<'t, F: Fn(Global, &[u8], Phrase, &[Tok]) -> Result<(Tree, usize), Stop>>(
+fn givens_until<'t, F: Fn(Global, &[u8], Phrase, &[Tok]) -> Result<(Tree, usize), ReadFault>>(
     reader: &Reader<'_, F>,
     toks: &'t [Tok],
-) -> Result<(Givens, &'t [Tok]), Stop>
+) -> Result<(Givens, &'t [Tok]), ReadFault>
     requires nests { Nests reader.now.bytes.now reader.now.most (F.pre reader.now.nested) (F.post reader.now.nested) }
     requires fewer { length toks.now < reader.now.most }
     ensures spelled { IfOk result (λ r. GivensUntil reader.now.bytes.now toks.now (map given_of r.0) r.1.now) }
     ensures eats { IfOk result (λ r. EatsRule givens_until toks.now r.1.now) }
-    ensures sticks { (left : ℕ) → IsErrOf result (stop.At left) → SticksRule givens_until toks.now left }
+    ensures sticks { (left : ℕ) → IsErrOf result (read_fault.Stuck left) → SticksRule givens_until toks.now left }
     ensures shorter { IfOk result (λ r. length r.1.now < length toks.now) }
 {
     match take(toks, Fixed::Close) {
@@ -146,16 +146,16 @@ fn givens_until<'t, F: Fn(Global, &[u8], Phrase, &[Tok]) -> Result<(Tree, usize)
 
 /// One field or more, up to Close.
 #[tactic(auto, using(crate::proofs::Parts::given_row_one, crate::proofs::Repeats::some_givens_by, verse_grammar::proofs::Going::goes_start, crate::proofs::Repeats::givens_eaten_by, crate::proofs::Parts::givens_stuck_at_end, verse_grammar::proofs::Sticking::sticks_givens_until_other_1))]
-fn givens<'t, F: Fn(Global, &[u8], Phrase, &[Tok]) -> Result<(Tree, usize), Stop>>(
+fn givens<'t, F: Fn(Global, &[u8], Phrase, &[Tok]) -> Result<(Tree, usize), ReadFault>>(
     reader: &Reader<'_, F>,
     toks: &'t [Tok],
-) -> Result<(Givens, &'t [Tok]), Stop>
+) -> Result<(Givens, &'t [Tok]), ReadFault>
     requires nests { Nests reader.now.bytes.now reader.now.most (F.pre reader.now.nested) (F.post reader.now.nested) }
     requires fewer { length toks.now < reader.now.most }
     requires some { ahead toks.now ≢ Some (kind_of Fixed.Close) }
     ensures spelled { IfOk result (λ r. GivensUntil reader.now.bytes.now toks.now (map given_of r.0) r.1.now) }
     ensures eats { IfOk result (λ r. EatsRule givens_until toks.now r.1.now) }
-    ensures sticks { (left : ℕ) → IsErrOf result (stop.At left) → SticksRule givens_until toks.now left }
+    ensures sticks { (left : ℕ) → IsErrOf result (read_fault.Stuck left) → SticksRule givens_until toks.now left }
     ensures shorter { IfOk result (λ r. length r.1.now < length toks.now) }
 {
     let ((name, value), after) = given(reader, toks)?;
@@ -169,21 +169,21 @@ fn givens<'t, F: Fn(Global, &[u8], Phrase, &[Tok]) -> Result<(Tree, usize), Stop
     }
     match take(rest, Fixed::Close) {
         Some((_, rest)) => Ok((parts, rest)),
-        None => Err(Stop::At(rest.len())),
+        None => Err(ReadFault::Stuck(rest.len())),
     }
 }
 
 /// `F := E`
 #[tactic(auto, using(crate::specs::Parts::is_given, verse_grammar::proofs::Eating::eats_given, verse_grammar::proofs::Sticking::sticks_given_1, verse_grammar::proofs::Sticking::sticks_given_2, verse_grammar::proofs::Sticking::sticks_given_3))]
-fn given<'t, F: Fn(Global, &[u8], Phrase, &[Tok]) -> Result<(Tree, usize), Stop>>(
+fn given<'t, F: Fn(Global, &[u8], Phrase, &[Tok]) -> Result<(Tree, usize), ReadFault>>(
     reader: &Reader<'_, F>,
     toks: &'t [Tok],
-) -> Result<((Name, Tree), &'t [Tok]), Stop>
+) -> Result<((Name, Tree), &'t [Tok]), ReadFault>
     requires nests { Nests reader.now.bytes.now reader.now.most (F.pre reader.now.nested) (F.post reader.now.nested) }
     requires fewer { length toks.now < reader.now.most }
     ensures spelled { IfOk result (λ r. IsGiven reader.now.bytes.now toks.now (r.0.0, tree_of r.0.1) r.1.now) }
     ensures eats { IfOk result (λ r. EatsRule given toks.now r.1.now) }
-    ensures sticks { (left : ℕ) → IsErrOf result (stop.At left) → SticksRule given toks.now left }
+    ensures sticks { (left : ℕ) → IsErrOf result (read_fault.Stuck left) → SticksRule given toks.now left }
     ensures shorter { IfOk result (λ r. length r.1.now < length toks.now) }
 {
     let (field, behind) = expect(toks, Fixed::Name)?;
@@ -195,17 +195,17 @@ fn given<'t, F: Fn(Global, &[u8], Phrase, &[Tok]) -> Result<(Tree, usize), Stop>
 
 /// A text with holes.
 #[tactic(auto, using(verse_grammar::specs::Exprs::text_holes))]
-fn text_with_holes<'t, F: Fn(Global, &[u8], Phrase, &[Tok]) -> Result<(Tree, usize), Stop>>(
+fn text_with_holes<'t, F: Fn(Global, &[u8], Phrase, &[Tok]) -> Result<(Tree, usize), ReadFault>>(
     reader: &Reader<'_, F>,
     tok: Tok,
     toks: &'t [Tok],
-) -> Result<(Tree, &'t [Tok]), Stop>
+) -> Result<(Tree, &'t [Tok]), ReadFault>
     requires nests { Nests reader.now.bytes.now reader.now.most (F.pre reader.now.nested) (F.post reader.now.nested) }
     requires fewer { length toks.now < reader.now.most }
     requires start { primary_start tok.kind ≡ Some PrimaryStart.TextOpen }
     ensures spelled { IfOk result (λ r. Reads reader.now.bytes.now Phrase.Primary (tok ∷ toks.now) (tree_of r.0) r.1.now) }
     ensures eats { IfOk result (λ r. EatsRule (phrase Phrase.Primary) (tok ∷ toks.now) r.1.now) }
-    ensures sticks { (left : ℕ) → IsErrOf result (stop.At left) → SticksRule (phrase Phrase.Primary) (tok ∷ toks.now) left }
+    ensures sticks { (left : ℕ) → IsErrOf result (read_fault.Stuck left) → SticksRule (phrase Phrase.Primary) (tok ∷ toks.now) left }
     ensures shorter { IfOk result (λ r. length r.1.now ≤ length toks.now) }
 {
     let bytes = text_of(reader.alloc, reader.bytes, tok)?;
@@ -218,17 +218,17 @@ fn text_with_holes<'t, F: Fn(Global, &[u8], Phrase, &[Tok]) -> Result<(Tree, usi
 
 /// The holes of a text, each with the text behind it.
 #[tactic(auto, using(crate::proofs::PrimaryParts::holes_begun, crate::proofs::PrimaryParts::holes_last, verse_grammar::proofs::Going::goes_start, crate::proofs::Parts::holes_stuck_at_end, verse_grammar::proofs::Sticking::sticks_primary_textopen_1))]
-fn holes<'t, F: Fn(Global, &[u8], Phrase, &[Tok]) -> Result<(Tree, usize), Stop>>(
+fn holes<'t, F: Fn(Global, &[u8], Phrase, &[Tok]) -> Result<(Tree, usize), ReadFault>>(
     reader: &Reader<'_, F>,
     tok: Tok,
     toks: &'t [Tok],
-) -> Result<(Holes, &'t [Tok]), Stop>
+) -> Result<(Holes, &'t [Tok]), ReadFault>
     requires nests { Nests reader.now.bytes.now reader.now.most (F.pre reader.now.nested) (F.post reader.now.nested) }
     requires fewer { length toks.now < reader.now.most }
     requires start { primary_start tok.kind ≡ Some PrimaryStart.TextOpen }
     ensures spelled { IfOk result (λ r. AreHoles reader.now.bytes.now toks.now (map hole_of r.0) r.1.now) }
     ensures eats { IfOk result (λ r. EatsRule (phrase Phrase.Primary) (tok ∷ toks.now) r.1.now) }
-    ensures sticks { (left : ℕ) → IsErrOf result (stop.At left) → SticksRule (phrase Phrase.Primary) (tok ∷ toks.now) left }
+    ensures sticks { (left : ℕ) → IsErrOf result (read_fault.Stuck left) → SticksRule (phrase Phrase.Primary) (tok ∷ toks.now) left }
     ensures shorter { IfOk result (λ r. length r.1.now ≤ length toks.now) }
 {
     let (first, after) = reader.inner(Phrase::Expr, toks)?;
@@ -246,6 +246,6 @@ fn holes<'t, F: Fn(Global, &[u8], Phrase, &[Tok]) -> Result<(Tree, usize), Stop>
             parts.push(value, text_of(reader.alloc, reader.bytes, part)?)?;
             Ok((parts, rest))
         }
-        None => Err(Stop::At(rest.len())),
+        None => Err(ReadFault::Stuck(rest.len())),
     }
 }

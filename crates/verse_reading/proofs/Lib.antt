@@ -1,4 +1,4 @@
 pub mod Taking
-pub mod Stopping
+pub mod Faults
 pub mod TypeRows
 pub mod Rows

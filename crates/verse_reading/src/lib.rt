@@ -1,11 +1,11 @@
 //! Readers of toks: what they have in common, and types.
 //!
-//! To be read in this order: `stops`, how readers go over toks; `spans`, what their spans hold;
+//! To be read in this order: `steps`, how readers go over toks; `spans`, what their spans hold;
 //! `types`; `nesting`, how what is nested is read; `lists`.
 #![tactic(auto)]
 
 pub mod lists;
 pub mod nesting;
 pub mod spans;
-pub mod stops;
+pub mod steps;
 pub mod types;

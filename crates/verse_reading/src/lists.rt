@@ -8,17 +8,17 @@ ghost use Rattle.verse_grammar.specs.Starts.{kind_of};
 ghost use Rattle.verse_grammar.specs.Symbols.{closed, until};
 ghost use Rattle.verse_grammar.specs.Reading.{EatsRule, SticksRule};
 ghost use Rattle.verse_reading.specs.Nests.{Nests};
-ghost use Rattle.verse_reading.specs.declared.stops.Stop.TheVariants as stop;
+ghost use Rattle.verse_reading.specs.declared.steps.ReadFault.TheVariants as read_fault;
 
 use crate::nesting::Reader;
-use crate::stops::{Stop, take};
+use crate::steps::{ReadFault, take};
 use std::alloc::Global;
 use verse_grammar::phrases::Phrase;
 use verse_grammar::starts::Fixed;
 use verse_handles::trees::{Tree, Trees};
 use verse_layout::toks::Tok;
 
-impl<'b, F: Fn(Global, &[u8], Phrase, &[Tok]) -> Result<(Tree, usize), Stop>> Reader<'b, F> {
+impl<'b, F: Fn(Global, &[u8], Phrase, &[Tok]) -> Result<(Tree, usize), ReadFault>> Reader<'b, F> {
     /// One phrase or more, with a separator between them, up to a closing tok.
     #[tactic(auto, using(verse_grammar::specs::Exprs::row_one, verse_grammar::specs::Exprs::row_more, verse_grammar::specs::Exprs::closed, verse_grammar::proofs::Going::goes_start, verse_grammar::proofs::Going::goes_row_tail_at, crate::proofs::Rows::closed_eaten, crate::proofs::Rows::closed_stuck_between, crate::proofs::Rows::closed_stuck_at_end, verse_grammar::proofs::Sticking::sticks_closed_1))]
     pub fn closed<'t>(
@@ -27,12 +27,12 @@ impl<'b, F: Fn(Global, &[u8], Phrase, &[Tok]) -> Result<(Tree, usize), Stop>> Re
         separator: Fixed,
         close: Fixed,
         toks: &'t [Tok],
-    ) -> Result<(Trees, &'t [Tok]), Stop>
+    ) -> Result<(Trees, &'t [Tok]), ReadFault>
         requires nests { Nests self.now.bytes.now self.now.most (F.pre self.now.nested) (F.post self.now.nested) }
         requires fewer { length toks.now < self.now.most }
         ensures spelled { IfOk result (λ r. Closed self.now.bytes.now what (kind_of separator) (kind_of close) toks.now (map tree_of r.0) r.1.now) }
         ensures eats { IfOk result (λ r. EatsRule (closed what (kind_of separator) (kind_of close)) toks.now r.1.now) }
-        ensures sticks { (left : ℕ) → IsErrOf result (stop.At left) → SticksRule (closed what (kind_of separator) (kind_of close)) toks.now left }
+        ensures sticks { (left : ℕ) → IsErrOf result (read_fault.Stuck left) → SticksRule (closed what (kind_of separator) (kind_of close)) toks.now left }
         ensures shorter { IfOk result (λ r. length r.1.now < length toks.now) }
     {
         let (first, after) = self.inner(what, toks)?;
@@ -46,7 +46,7 @@ impl<'b, F: Fn(Global, &[u8], Phrase, &[Tok]) -> Result<(Tree, usize), Stop>> Re
         }
         match take(rest, close) {
             Some((_, rest)) => Ok((exprs, rest)),
-            None => Err(Stop::At(rest.len())),
+            None => Err(ReadFault::Stuck(rest.len())),
         }
     }
 
@@ -58,12 +58,12 @@ impl<'b, F: Fn(Global, &[u8], Phrase, &[Tok]) -> Result<(Tree, usize), Stop>> Re
         separator: Fixed,
         close: Fixed,
         toks: &'t [Tok],
-    ) -> Result<(Trees, &'t [Tok]), Stop>
+    ) -> Result<(Trees, &'t [Tok]), ReadFault>
         requires nests { Nests self.now.bytes.now self.now.most (F.pre self.now.nested) (F.post self.now.nested) }
         requires fewer { length toks.now < self.now.most }
         ensures spelled { IfOk result (λ r. Until self.now.bytes.now what (kind_of separator) (kind_of close) toks.now (map tree_of r.0) r.1.now) }
         ensures eats { IfOk result (λ r. EatsRule (until what (kind_of separator) (kind_of close)) toks.now r.1.now) }
-        ensures sticks { (left : ℕ) → IsErrOf result (stop.At left) → SticksRule (until what (kind_of separator) (kind_of close)) toks.now left }
+        ensures sticks { (left : ℕ) → IsErrOf result (read_fault.Stuck left) → SticksRule (until what (kind_of separator) (kind_of close)) toks.now left }
         ensures shorter { IfOk result (λ r. length r.1.now < length toks.now) }
     {
         match take(toks, close) {

@@ -7,9 +7,9 @@ ghost use Rattle.verse_grammar.specs.Exprs.{Reads};
 ghost use Rattle.verse_grammar.specs.Symbols.{phrase};
 ghost use Rattle.verse_grammar.specs.Reading.{EatsRule, SticksRule};
 ghost use Rattle.verse_reading.specs.Nests.{Nests};
-ghost use Rattle.verse_reading.specs.declared.stops.Stop.TheVariants as stop;
+ghost use Rattle.verse_reading.specs.declared.steps.ReadFault.TheVariants as read_fault;
 
-use crate::stops::Stop;
+use crate::steps::ReadFault;
 use std::alloc::Global;
 use verse_grammar::phrases::Phrase;
 use verse_handles::trees::Tree;
@@ -26,14 +26,14 @@ pub struct Reader<'b, F> {
     pub nested: F,
 }
 
-impl<'b, F: Fn(Global, &[u8], Phrase, &[Tok]) -> Result<(Tree, usize), Stop>> Reader<'b, F> {
+impl<'b, F: Fn(Global, &[u8], Phrase, &[Tok]) -> Result<(Tree, usize), ReadFault>> Reader<'b, F> {
     /// A phrase inside another.
-    pub fn inner<'t>(&self, what: Phrase, toks: &'t [Tok]) -> Result<(Tree, &'t [Tok]), Stop>
+    pub fn inner<'t>(&self, what: Phrase, toks: &'t [Tok]) -> Result<(Tree, &'t [Tok]), ReadFault>
         requires nests { Nests self.now.bytes.now self.now.most (F.pre self.now.nested) (F.post self.now.nested) }
         requires fewer { length toks.now < self.now.most }
         ensures spelled { IfOk result (λ r. Reads self.now.bytes.now what toks.now (tree_of r.0) r.1.now) }
         ensures eats { IfOk result (λ r. EatsRule (phrase what) toks.now r.1.now) }
-        ensures sticks { (left : ℕ) → IsErrOf result (stop.At left) → SticksRule (phrase what) toks.now left }
+        ensures sticks { (left : ℕ) → IsErrOf result (read_fault.Stuck left) → SticksRule (phrase what) toks.now left }
         ensures shorter { IfOk result (λ r. length r.1.now < length toks.now) }
     {
         let (expr, count) = (self.nested)(self.alloc, self.bytes, what, toks)?;

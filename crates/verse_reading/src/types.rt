@@ -10,10 +10,10 @@ ghost use Rattle.verse_grammar.specs.Symbols.{a_type, types};
 ghost use Rattle.verse_grammar.specs.Reading.{EatsRule, SticksRule};
 ghost use Rattle.verse_grammar.specs.declared.starts.TypeStart.{TypeStart};
 ghost use Rattle.verse_grammar.specs.declared.starts.Fixed.{Fixed};
-ghost use Rattle.verse_reading.specs.declared.stops.Stop.TheVariants as stop;
+ghost use Rattle.verse_reading.specs.declared.steps.ReadFault.TheVariants as read_fault;
 
 use crate::spans::name_of;
-use crate::stops::{Stop, expect, next, take};
+use crate::steps::{ReadFault, expect, next, take};
 use std::alloc::Global;
 use verse_base::refusals::Memory;
 use verse_grammar::starts::{Fixed, TypeStart, type_start};
@@ -31,14 +31,14 @@ pub fn type_at<'t>(
     alloc: Global,
     bytes: &[u8],
     toks: &'t [Tok],
-) -> Result<(Written, &'t [Tok]), Stop>
+) -> Result<(Written, &'t [Tok]), ReadFault>
     ensures spelled { IfOk result (λ r. IsType bytes.now toks.now (written_of r.0) r.1.now) }
     ensures eats { IfOk result (λ r. EatsRule a_type toks.now r.1.now) }
-    ensures sticks { (left : ℕ) → IsErrOf result (stop.At left) → SticksRule a_type toks.now left }
+    ensures sticks { (left : ℕ) → IsErrOf result (read_fault.Stuck left) → SticksRule a_type toks.now left }
     ensures shorter { IfOk result (λ r. length r.1.now < length toks.now) }
 {
     let Some((tok, rest)) = next(toks) else {
-        return Err(Stop::At(0));
+        return Err(ReadFault::Stuck(0));
     };
     match type_start(tok.kind) {
         Some(TypeStart::Option) => option_type(alloc, bytes, tok, rest),
@@ -52,7 +52,7 @@ pub fn type_at<'t>(
         Some(TypeStart::String) => Ok((string(), rest)),
         Some(TypeStart::Void) => Ok((void(), rest)),
         Some(TypeStart::Name) => Ok((named(tok.place, name_of(alloc, bytes, tok)?), rest)),
-        None => Err(Stop::At(toks.len())),
+        None => Err(ReadFault::Stuck(toks.len())),
     }
 }
 
@@ -64,11 +64,11 @@ fn option_type<'t>(
     bytes: &[u8],
     tok: Tok,
     toks: &'t [Tok],
-) -> Result<(Written, &'t [Tok]), Stop>
+) -> Result<(Written, &'t [Tok]), ReadFault>
     requires start { type_start tok.kind ≡ Some TypeStart.Option }
     ensures spelled { IfOk result (λ r. IsType bytes.now (tok ∷ toks.now) (written_of r.0) r.1.now) }
     ensures eats { IfOk result (λ r. EatsRule a_type (tok ∷ toks.now) r.1.now) }
-    ensures sticks { (left : ℕ) → IsErrOf result (stop.At left) → SticksRule a_type (tok ∷ toks.now) left }
+    ensures sticks { (left : ℕ) → IsErrOf result (read_fault.Stuck left) → SticksRule a_type (tok ∷ toks.now) left }
     ensures shorter { IfOk result (λ r. length r.1.now < length toks.now) }
 {
     let (content, rest) = type_at(alloc, bytes, toks)?;
@@ -83,11 +83,11 @@ fn bracket_type<'t>(
     bytes: &[u8],
     tok: Tok,
     toks: &'t [Tok],
-) -> Result<(Written, &'t [Tok]), Stop>
+) -> Result<(Written, &'t [Tok]), ReadFault>
     requires start { type_start tok.kind ≡ Some TypeStart.Bracket }
     ensures spelled { IfOk result (λ r. IsType bytes.now (tok ∷ toks.now) (written_of r.0) r.1.now) }
     ensures eats { IfOk result (λ r. EatsRule a_type (tok ∷ toks.now) r.1.now) }
-    ensures sticks { (left : ℕ) → IsErrOf result (stop.At left) → SticksRule a_type (tok ∷ toks.now) left }
+    ensures sticks { (left : ℕ) → IsErrOf result (read_fault.Stuck left) → SticksRule a_type (tok ∷ toks.now) left }
     ensures shorter { IfOk result (λ r. length r.1.now < length toks.now) }
 {
     match take(toks, Fixed::SquareClose) {
@@ -107,17 +107,17 @@ fn map_type<'t>(
     bytes: &[u8],
     tok: Tok,
     toks: &'t [Tok],
-) -> Result<(Written, &'t [Tok]), Stop>
+) -> Result<(Written, &'t [Tok]), ReadFault>
     requires other { ahead toks.now ≢ Some (kind_of Fixed.SquareClose) }
     requires start { type_start tok.kind ≡ Some TypeStart.Bracket }
     ensures spelled { IfOk result (λ r. IsType bytes.now (tok ∷ toks.now) (written_of r.0) r.1.now) }
     ensures eats { IfOk result (λ r. EatsRule a_type (tok ∷ toks.now) r.1.now) }
-    ensures sticks { (left : ℕ) → IsErrOf result (stop.At left) → SticksRule a_type (tok ∷ toks.now) left }
+    ensures sticks { (left : ℕ) → IsErrOf result (read_fault.Stuck left) → SticksRule a_type (tok ∷ toks.now) left }
     ensures shorter { IfOk result (λ r. length r.1.now < length toks.now) }
 {
     let (key, rest) = type_at(alloc, bytes, toks)?;
     let Some((_, rest)) = take(rest, Fixed::SquareClose) else {
-        return Err(Stop::At(rest.len()));
+        return Err(ReadFault::Stuck(rest.len()));
     };
     let (value, rest) = type_at(alloc, bytes, rest)?;
     Ok((map_of(alloc, key, value)?, rest))
@@ -131,11 +131,11 @@ fn tuple_type<'t>(
     bytes: &[u8],
     tok: Tok,
     toks: &'t [Tok],
-) -> Result<(Written, &'t [Tok]), Stop>
+) -> Result<(Written, &'t [Tok]), ReadFault>
     requires start { type_start tok.kind ≡ Some TypeStart.Tuple }
     ensures spelled { IfOk result (λ r. IsType bytes.now (tok ∷ toks.now) (written_of r.0) r.1.now) }
     ensures eats { IfOk result (λ r. EatsRule a_type (tok ∷ toks.now) r.1.now) }
-    ensures sticks { (left : ℕ) → IsErrOf result (stop.At left) → SticksRule a_type (tok ∷ toks.now) left }
+    ensures sticks { (left : ℕ) → IsErrOf result (read_fault.Stuck left) → SticksRule a_type (tok ∷ toks.now) left }
     ensures shorter { IfOk result (λ r. length r.1.now < length toks.now) }
 {
     let (_, rest) = expect(toks, Fixed::RoundOpen)?;
@@ -149,10 +149,14 @@ fn tuple_type<'t>(
 /// Types with commas between them.
 #[cycle(type_at)]
 #[tactic(auto, using(verse_grammar::specs::Types::one_type, verse_grammar::specs::Types::more_types, verse_grammar::proofs::Going::goes_start, verse_grammar::proofs::Going::goes_types_tail_at, verse_grammar::proofs::Sticking::sticks_types_1, crate::proofs::TypeRows::types_eaten, crate::proofs::TypeRows::types_stuck))]
-fn types<'t>(alloc: Global, bytes: &[u8], toks: &'t [Tok]) -> Result<(Writtens, &'t [Tok]), Stop>
+fn types<'t>(
+    alloc: Global,
+    bytes: &[u8],
+    toks: &'t [Tok],
+) -> Result<(Writtens, &'t [Tok]), ReadFault>
     ensures spelled { IfOk result (λ r. AreTypes bytes.now toks.now (map written_of r.0) r.1.now) }
     ensures eats { IfOk result (λ r. EatsRule types toks.now r.1.now) }
-    ensures sticks { (left : ℕ) → IsErrOf result (stop.At left) → SticksRule types toks.now left }
+    ensures sticks { (left : ℕ) → IsErrOf result (read_fault.Stuck left) → SticksRule types toks.now left }
     ensures shorter { IfOk result (λ r. length r.1.now < length toks.now) }
 {
     let (first, after) = type_at(alloc, bytes, toks)?;
@@ -175,11 +179,11 @@ fn task_type<'t>(
     bytes: &[u8],
     tok: Tok,
     toks: &'t [Tok],
-) -> Result<(Written, &'t [Tok]), Stop>
+) -> Result<(Written, &'t [Tok]), ReadFault>
     requires start { type_start tok.kind ≡ Some TypeStart.Task }
     ensures spelled { IfOk result (λ r. IsType bytes.now (tok ∷ toks.now) (written_of r.0) r.1.now) }
     ensures eats { IfOk result (λ r. EatsRule a_type (tok ∷ toks.now) r.1.now) }
-    ensures sticks { (left : ℕ) → IsErrOf result (stop.At left) → SticksRule a_type (tok ∷ toks.now) left }
+    ensures sticks { (left : ℕ) → IsErrOf result (read_fault.Stuck left) → SticksRule a_type (tok ∷ toks.now) left }
     ensures shorter { IfOk result (λ r. length r.1.now < length toks.now) }
 {
     let (_, rest) = expect(toks, Fixed::RoundOpen)?;
@@ -196,11 +200,11 @@ fn event_type<'t>(
     bytes: &[u8],
     tok: Tok,
     toks: &'t [Tok],
-) -> Result<(Written, &'t [Tok]), Stop>
+) -> Result<(Written, &'t [Tok]), ReadFault>
     requires start { type_start tok.kind ≡ Some TypeStart.Event }
     ensures spelled { IfOk result (λ r. IsType bytes.now (tok ∷ toks.now) (written_of r.0) r.1.now) }
     ensures eats { IfOk result (λ r. EatsRule a_type (tok ∷ toks.now) r.1.now) }
-    ensures sticks { (left : ℕ) → IsErrOf result (stop.At left) → SticksRule a_type (tok ∷ toks.now) left }
+    ensures sticks { (left : ℕ) → IsErrOf result (read_fault.Stuck left) → SticksRule a_type (tok ∷ toks.now) left }
     ensures shorter { IfOk result (λ r. length r.1.now < length toks.now) }
 {
     let (_, rest) = expect(toks, Fixed::RoundOpen)?;

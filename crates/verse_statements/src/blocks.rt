@@ -8,30 +8,30 @@ ghost use Rattle.verse_grammar.specs.Symbols.{phrase};
 ghost use Rattle.verse_grammar.specs.Reading.{EatsRule, SticksRule};
 ghost use Rattle.verse_grammar.specs.declared.phrases.Phrase.{Phrase};
 ghost use Rattle.verse_reading.specs.Nests.{Nests};
-ghost use Rattle.verse_reading.specs.declared.stops.Stop.TheVariants as stop;
+ghost use Rattle.verse_reading.specs.declared.steps.ReadFault.TheVariants as read_fault;
 
-use crate::choices::expr;
 use crate::statements::stmt;
 use std::alloc::Global;
+use verse_choices::choices::expr;
 use verse_grammar::phrases::Phrase;
 use verse_grammar::starts::Fixed;
 use verse_handles::trees::Tree;
 use verse_layout::toks::Tok;
 use verse_nodes::statements;
 use verse_reading::nesting::Reader;
-use verse_reading::stops::{Stop, expect, take};
+use verse_reading::steps::{ReadFault, expect, take};
 
 /// Open, parts and Close.
 #[tactic(auto, using(verse_grammar::specs::Exprs::block, verse_grammar::proofs::Eating::eats_block, verse_grammar::proofs::Sticking::sticks_block_1, verse_grammar::proofs::Sticking::sticks_block_2))]
-pub fn block<'t, F: Fn(Global, &[u8], Phrase, &[Tok]) -> Result<(Tree, usize), Stop>>(
+pub fn block<'t, F: Fn(Global, &[u8], Phrase, &[Tok]) -> Result<(Tree, usize), ReadFault>>(
     reader: &Reader<'_, F>,
     toks: &'t [Tok],
-) -> Result<(Tree, &'t [Tok]), Stop>
+) -> Result<(Tree, &'t [Tok]), ReadFault>
     requires nests { Nests reader.now.bytes.now reader.now.most (F.pre reader.now.nested) (F.post reader.now.nested) }
     requires within { length toks.now ≤ reader.now.most }
     ensures spelled { IfOk result (λ r. Reads reader.now.bytes.now Phrase.Block toks.now (tree_of r.0) r.1.now) }
     ensures eats { IfOk result (λ r. EatsRule (phrase Phrase.Block) toks.now r.1.now) }
-    ensures sticks { (left : ℕ) → IsErrOf result (stop.At left) → SticksRule (phrase Phrase.Block) toks.now left }
+    ensures sticks { (left : ℕ) → IsErrOf result (read_fault.Stuck left) → SticksRule (phrase Phrase.Block) toks.now left }
     ensures shorter { IfOk result (λ r. length r.1.now < length toks.now) }
 {
     let (tok, rest) = expect(toks, Fixed::Open)?;
@@ -41,15 +41,15 @@ pub fn block<'t, F: Fn(Global, &[u8], Phrase, &[Tok]) -> Result<(Tree, usize), S
 
 /// `defer` and its block, or a statement.
 #[tactic(auto, using(verse_grammar::specs::Exprs::part_defer, verse_grammar::specs::Exprs::part_stmt, verse_grammar::proofs::Eating::eats_part_at, verse_grammar::proofs::Eating::eats_part_other, verse_grammar::proofs::Sticking::sticks_part_at_1, verse_grammar::proofs::Sticking::sticks_part_other_1))]
-pub fn part<'t, F: Fn(Global, &[u8], Phrase, &[Tok]) -> Result<(Tree, usize), Stop>>(
+pub fn part<'t, F: Fn(Global, &[u8], Phrase, &[Tok]) -> Result<(Tree, usize), ReadFault>>(
     reader: &Reader<'_, F>,
     toks: &'t [Tok],
-) -> Result<(Tree, &'t [Tok]), Stop>
+) -> Result<(Tree, &'t [Tok]), ReadFault>
     requires nests { Nests reader.now.bytes.now reader.now.most (F.pre reader.now.nested) (F.post reader.now.nested) }
     requires within { length toks.now ≤ reader.now.most }
     ensures spelled { IfOk result (λ r. Reads reader.now.bytes.now Phrase.Part toks.now (tree_of r.0) r.1.now) }
     ensures eats { IfOk result (λ r. EatsRule (phrase Phrase.Part) toks.now r.1.now) }
-    ensures sticks { (left : ℕ) → IsErrOf result (stop.At left) → SticksRule (phrase Phrase.Part) toks.now left }
+    ensures sticks { (left : ℕ) → IsErrOf result (read_fault.Stuck left) → SticksRule (phrase Phrase.Part) toks.now left }
     ensures shorter { IfOk result (λ r. length r.1.now < length toks.now) }
 {
     match take(toks, Fixed::Defer) {
@@ -63,15 +63,15 @@ pub fn part<'t, F: Fn(Global, &[u8], Phrase, &[Tok]) -> Result<(Tree, usize), St
 
 /// A block or an expression.
 #[tactic(auto, using(verse_grammar::specs::Exprs::body_block, verse_grammar::specs::Exprs::body_expr, verse_grammar::proofs::Eating::eats_body_at, verse_grammar::proofs::Eating::eats_body_other, verse_grammar::proofs::Sticking::sticks_body_at_1, verse_grammar::proofs::Sticking::sticks_body_other_1))]
-pub fn body<'t, F: Fn(Global, &[u8], Phrase, &[Tok]) -> Result<(Tree, usize), Stop>>(
+pub fn body<'t, F: Fn(Global, &[u8], Phrase, &[Tok]) -> Result<(Tree, usize), ReadFault>>(
     reader: &Reader<'_, F>,
     toks: &'t [Tok],
-) -> Result<(Tree, &'t [Tok]), Stop>
+) -> Result<(Tree, &'t [Tok]), ReadFault>
     requires nests { Nests reader.now.bytes.now reader.now.most (F.pre reader.now.nested) (F.post reader.now.nested) }
     requires within { length toks.now ≤ reader.now.most }
     ensures spelled { IfOk result (λ r. Reads reader.now.bytes.now Phrase.Body toks.now (tree_of r.0) r.1.now) }
     ensures eats { IfOk result (λ r. EatsRule (phrase Phrase.Body) toks.now r.1.now) }
-    ensures sticks { (left : ℕ) → IsErrOf result (stop.At left) → SticksRule (phrase Phrase.Body) toks.now left }
+    ensures sticks { (left : ℕ) → IsErrOf result (read_fault.Stuck left) → SticksRule (phrase Phrase.Body) toks.now left }
     ensures shorter { IfOk result (λ r. length r.1.now < length toks.now) }
 {
     match take(toks, Fixed::Open) {

@@ -1,9 +1,7 @@
-//! Reads expressions, statements, blocks and what a `for` takes from toks.
+//! Reads statements and blocks from toks.
 //!
-//! To be read in this order: `choices`, expressions and `if`; `statements`; `blocks`; `generators`.
+//! To be read in this order: `statements`; `blocks`.
 #![tactic(auto)]
 
 pub mod blocks;
-pub mod choices;
-pub mod generators;
 pub mod statements;

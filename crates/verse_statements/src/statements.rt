@@ -1,45 +1,44 @@
-//! Statements, and what begins with `set`, `return` or `break`.
+//! Statements.
 
 ghost use Rattle.std.specs.Prelude.{◌≡◌, ◌<◌, ◌≤◌, ◌∷◌, ℕ, Some, IfOk, length};
 ghost use Rattle.std.specs.Result.{IsErrOf};
 ghost use Rattle.verse_lex.specs.declared.tokens.Mark.TheVariants as m;
 ghost use Rattle.verse_tree.specs.View.{tree_of, written_of};
-ghost use Rattle.verse_grammar.specs.Exprs.{Reads, TypedValue, Control};
+ghost use Rattle.verse_grammar.specs.Exprs.{Reads, TypedValue};
 ghost use Rattle.verse_grammar.specs.Toks.{mark};
-ghost use Rattle.verse_grammar.specs.Symbols.{phrase, typed_value, set_rest, assign, return_value, first_is};
-ghost use Rattle.verse_grammar.specs.Starts.{assign_at, begins_expr, stmt_start};
-ghost use Rattle.verse_grammar.specs.Reading.{Eats, EatsRule, Sticks, SticksRule};
+ghost use Rattle.verse_grammar.specs.Symbols.{phrase, typed_value};
+ghost use Rattle.verse_grammar.specs.Starts.{stmt_start};
+ghost use Rattle.verse_grammar.specs.Reading.{EatsRule, SticksRule};
 ghost use Rattle.verse_grammar.specs.declared.phrases.Phrase.{Phrase};
 ghost use Rattle.verse_grammar.specs.declared.starts.StmtStart.{StmtStart};
-ghost use Rattle.verse_statements.specs.Behind.{Writes, write_symbols};
 ghost use Rattle.verse_reading.specs.Nests.{Nests};
-ghost use Rattle.verse_reading.specs.declared.stops.Stop.TheVariants as stop;
+ghost use Rattle.verse_reading.specs.declared.steps.ReadFault.TheVariants as read_fault;
 
-use crate::choices::expr;
 use std::alloc::Global;
+use verse_choices::choices::expr;
+use verse_choices::controls::{returned, set};
 use verse_grammar::phrases::Phrase;
-use verse_grammar::starts::{Fixed, StmtStart, assign_at, begins_expr, stmt_start};
+use verse_grammar::starts::{Fixed, StmtStart, stmt_start};
 use verse_handles::trees::Tree;
 use verse_handles::types::Written;
 use verse_layout::toks::Tok;
 use verse_nodes::statements;
 use verse_reading::nesting::Reader;
 use verse_reading::spans::name_of;
-use verse_reading::stops::{Stop, expect, next, take};
+use verse_reading::steps::{ReadFault, expect, next, take};
 use verse_reading::types::type_at;
-use verse_tree::exprs::Assign;
 
 /// A statement.
-#[tactic(auto, using(verse_grammar::specs::Exprs::stmt_control, verse_grammar::specs::Exprs::stmt_expr, crate::proofs::Starting::left_at, verse_grammar::proofs::Eating::eats_stmt_set, verse_grammar::proofs::Eating::eats_stmt_return, verse_grammar::proofs::Eating::eats_stmt_break, verse_grammar::proofs::Eating::eats_stmt_other, verse_grammar::proofs::Sticking::sticks_stmt_set_1, verse_grammar::proofs::Sticking::sticks_stmt_return_1, verse_grammar::proofs::Sticking::sticks_stmt_other_1))]
-pub fn stmt<'t, F: Fn(Global, &[u8], Phrase, &[Tok]) -> Result<(Tree, usize), Stop>>(
+#[tactic(auto, using(verse_grammar::specs::Exprs::stmt_control, verse_grammar::specs::Exprs::stmt_expr, verse_choices::proofs::Starting::left_at, verse_grammar::proofs::Eating::eats_stmt_set, verse_grammar::proofs::Eating::eats_stmt_return, verse_grammar::proofs::Eating::eats_stmt_break, verse_grammar::proofs::Eating::eats_stmt_other, verse_grammar::proofs::Sticking::sticks_stmt_set_1, verse_grammar::proofs::Sticking::sticks_stmt_return_1, verse_grammar::proofs::Sticking::sticks_stmt_other_1))]
+pub fn stmt<'t, F: Fn(Global, &[u8], Phrase, &[Tok]) -> Result<(Tree, usize), ReadFault>>(
     reader: &Reader<'_, F>,
     toks: &'t [Tok],
-) -> Result<(Tree, &'t [Tok]), Stop>
+) -> Result<(Tree, &'t [Tok]), ReadFault>
     requires nests { Nests reader.now.bytes.now reader.now.most (F.pre reader.now.nested) (F.post reader.now.nested) }
     requires within { length toks.now ≤ reader.now.most }
     ensures spelled { IfOk result (λ r. Reads reader.now.bytes.now Phrase.Stmt toks.now (tree_of r.0) r.1.now) }
     ensures eats { IfOk result (λ r. EatsRule (phrase Phrase.Stmt) toks.now r.1.now) }
-    ensures sticks { (left : ℕ) → IsErrOf result (stop.At left) → SticksRule (phrase Phrase.Stmt) toks.now left }
+    ensures sticks { (left : ℕ) → IsErrOf result (read_fault.Stuck left) → SticksRule (phrase Phrase.Stmt) toks.now left }
     ensures shorter { IfOk result (λ r. length r.1.now < length toks.now) }
 {
     let Some((tok, rest)) = next(toks) else {
@@ -56,20 +55,20 @@ pub fn stmt<'t, F: Fn(Global, &[u8], Phrase, &[Tok]) -> Result<(Tree, usize), St
 }
 
 /// A statement that begins with a name: a definition, or an expression.
-#[tactic(auto, using(verse_grammar::specs::Exprs::stmt_expr, verse_grammar::proofs::ByExpr::stmt_by_expr, verse_grammar::proofs::ByExpr::stmt_stuck_by_expr, crate::proofs::Starting::name_start))]
-fn named_stmt<'t, F: Fn(Global, &[u8], Phrase, &[Tok]) -> Result<(Tree, usize), Stop>>(
+#[tactic(auto, using(verse_grammar::specs::Exprs::stmt_expr, verse_grammar::proofs::ByExpr::stmt_by_expr, verse_grammar::proofs::ByExpr::stmt_stuck_by_expr, verse_choices::proofs::Starting::name_start))]
+fn named_stmt<'t, F: Fn(Global, &[u8], Phrase, &[Tok]) -> Result<(Tree, usize), ReadFault>>(
     reader: &Reader<'_, F>,
     tok: Tok,
     toks: &'t [Tok],
     all: &'t [Tok],
-) -> Result<(Tree, &'t [Tok]), Stop>
+) -> Result<(Tree, &'t [Tok]), ReadFault>
     requires nests { Nests reader.now.bytes.now reader.now.most (F.pre reader.now.nested) (F.post reader.now.nested) }
     requires fewer { length toks.now < reader.now.most }
     requires start { stmt_start tok.kind ≡ Some StmtStart.Name }
     requires all { all.now ≡ tok ∷ toks.now }
     ensures spelled { IfOk result (λ r. Reads reader.now.bytes.now Phrase.Stmt (tok ∷ toks.now) (tree_of r.0) r.1.now) }
     ensures eats { IfOk result (λ r. EatsRule (phrase Phrase.Stmt) (tok ∷ toks.now) r.1.now) }
-    ensures sticks { (left : ℕ) → IsErrOf result (stop.At left) → SticksRule (phrase Phrase.Stmt) (tok ∷ toks.now) left }
+    ensures sticks { (left : ℕ) → IsErrOf result (read_fault.Stuck left) → SticksRule (phrase Phrase.Stmt) (tok ∷ toks.now) left }
     ensures shorter { IfOk result (λ r. length r.1.now < length all.now) }
 {
     if let Some((define, rest)) = take(toks, Fixed::Define) {
@@ -82,20 +81,20 @@ fn named_stmt<'t, F: Fn(Global, &[u8], Phrase, &[Tok]) -> Result<(Tree, usize), 
 }
 
 /// The value behind `X :=`.
-#[tactic(auto, using(verse_grammar::specs::Exprs::stmt_definition, verse_grammar::proofs::Eating::eats_stmt_name, verse_grammar::proofs::Eating::eats_stmt_name_at1, verse_grammar::proofs::Sticking::sticks_stmt_name_1, verse_grammar::proofs::Sticking::sticks_stmt_name_at1_1, crate::proofs::Starting::name_start))]
-fn defined<'t, F: Fn(Global, &[u8], Phrase, &[Tok]) -> Result<(Tree, usize), Stop>>(
+#[tactic(auto, using(verse_grammar::specs::Exprs::stmt_definition, verse_grammar::proofs::Eating::eats_stmt_name, verse_grammar::proofs::Eating::eats_stmt_name_at1, verse_grammar::proofs::Sticking::sticks_stmt_name_1, verse_grammar::proofs::Sticking::sticks_stmt_name_at1_1, verse_choices::proofs::Starting::name_start))]
+fn defined<'t, F: Fn(Global, &[u8], Phrase, &[Tok]) -> Result<(Tree, usize), ReadFault>>(
     reader: &Reader<'_, F>,
     tok: Tok,
     define: Tok,
     toks: &'t [Tok],
-) -> Result<(Tree, &'t [Tok]), Stop>
+) -> Result<(Tree, &'t [Tok]), ReadFault>
     requires nests { Nests reader.now.bytes.now reader.now.most (F.pre reader.now.nested) (F.post reader.now.nested) }
     requires fewer { length toks.now < reader.now.most }
     requires start { stmt_start tok.kind ≡ Some StmtStart.Name }
     requires define { define.kind ≡ mark m.Define }
     ensures spelled { IfOk result (λ r. Reads reader.now.bytes.now Phrase.Stmt (tok ∷ define ∷ toks.now) (tree_of r.0) r.1.now) }
     ensures eats { IfOk result (λ r. EatsRule (phrase Phrase.Stmt) (tok ∷ define ∷ toks.now) r.1.now) }
-    ensures sticks { (left : ℕ) → IsErrOf result (stop.At left) → SticksRule (phrase Phrase.Stmt) (tok ∷ define ∷ toks.now) left }
+    ensures sticks { (left : ℕ) → IsErrOf result (read_fault.Stuck left) → SticksRule (phrase Phrase.Stmt) (tok ∷ define ∷ toks.now) left }
     ensures shorter { IfOk result (λ r. length r.1.now < length toks.now) }
 {
     let name = name_of(reader.alloc, reader.bytes, tok)?;
@@ -107,20 +106,20 @@ fn defined<'t, F: Fn(Global, &[u8], Phrase, &[Tok]) -> Result<(Tree, usize), Sto
 }
 
 /// What is behind `X` in `X:t = E`.
-#[tactic(auto, using(verse_grammar::specs::Exprs::stmt_typed, verse_grammar::proofs::Eating::eats_stmt_name, verse_grammar::proofs::Eating::eats_stmt_name_at2, verse_grammar::proofs::Sticking::sticks_stmt_name_1, verse_grammar::proofs::Sticking::sticks_stmt_name_at2_1, crate::proofs::Starting::name_start))]
-fn typed<'t, F: Fn(Global, &[u8], Phrase, &[Tok]) -> Result<(Tree, usize), Stop>>(
+#[tactic(auto, using(verse_grammar::specs::Exprs::stmt_typed, verse_grammar::proofs::Eating::eats_stmt_name, verse_grammar::proofs::Eating::eats_stmt_name_at2, verse_grammar::proofs::Sticking::sticks_stmt_name_1, verse_grammar::proofs::Sticking::sticks_stmt_name_at2_1, verse_choices::proofs::Starting::name_start))]
+fn typed<'t, F: Fn(Global, &[u8], Phrase, &[Tok]) -> Result<(Tree, usize), ReadFault>>(
     reader: &Reader<'_, F>,
     tok: Tok,
     colon: Tok,
     toks: &'t [Tok],
-) -> Result<(Tree, &'t [Tok]), Stop>
+) -> Result<(Tree, &'t [Tok]), ReadFault>
     requires nests { Nests reader.now.bytes.now reader.now.most (F.pre reader.now.nested) (F.post reader.now.nested) }
     requires fewer { length toks.now < reader.now.most }
     requires start { stmt_start tok.kind ≡ Some StmtStart.Name }
     requires colon { colon.kind ≡ mark m.Colon }
     ensures spelled { IfOk result (λ r. Reads reader.now.bytes.now Phrase.Stmt (tok ∷ colon ∷ toks.now) (tree_of r.0) r.1.now) }
     ensures eats { IfOk result (λ r. EatsRule (phrase Phrase.Stmt) (tok ∷ colon ∷ toks.now) r.1.now) }
-    ensures sticks { (left : ℕ) → IsErrOf result (stop.At left) → SticksRule (phrase Phrase.Stmt) (tok ∷ colon ∷ toks.now) left }
+    ensures sticks { (left : ℕ) → IsErrOf result (read_fault.Stuck left) → SticksRule (phrase Phrase.Stmt) (tok ∷ colon ∷ toks.now) left }
     ensures shorter { IfOk result (λ r. length r.1.now < length toks.now) }
 {
     let name = name_of(reader.alloc, reader.bytes, tok)?;
@@ -132,18 +131,18 @@ fn typed<'t, F: Fn(Global, &[u8], Phrase, &[Tok]) -> Result<(Tree, usize), Stop>
 }
 
 /// What is behind `var`.
-#[tactic(auto, using(verse_grammar::specs::Exprs::stmt_variable, verse_grammar::proofs::Eating::eats_stmt_var, verse_grammar::proofs::Sticking::sticks_stmt_var_1, verse_grammar::proofs::Sticking::sticks_stmt_var_2, verse_grammar::proofs::Sticking::sticks_typed_value_1, crate::proofs::Starting::var_start))]
-fn variable<'t, F: Fn(Global, &[u8], Phrase, &[Tok]) -> Result<(Tree, usize), Stop>>(
+#[tactic(auto, using(verse_grammar::specs::Exprs::stmt_variable, verse_grammar::proofs::Eating::eats_stmt_var, verse_grammar::proofs::Sticking::sticks_stmt_var_1, verse_grammar::proofs::Sticking::sticks_stmt_var_2, verse_grammar::proofs::Sticking::sticks_typed_value_1, verse_choices::proofs::Starting::var_start))]
+fn variable<'t, F: Fn(Global, &[u8], Phrase, &[Tok]) -> Result<(Tree, usize), ReadFault>>(
     reader: &Reader<'_, F>,
     tok: Tok,
     toks: &'t [Tok],
-) -> Result<(Tree, &'t [Tok]), Stop>
+) -> Result<(Tree, &'t [Tok]), ReadFault>
     requires nests { Nests reader.now.bytes.now reader.now.most (F.pre reader.now.nested) (F.post reader.now.nested) }
     requires fewer { length toks.now < reader.now.most }
     requires start { stmt_start tok.kind ≡ Some StmtStart.Var }
     ensures spelled { IfOk result (λ r. Reads reader.now.bytes.now Phrase.Stmt (tok ∷ toks.now) (tree_of r.0) r.1.now) }
     ensures eats { IfOk result (λ r. EatsRule (phrase Phrase.Stmt) (tok ∷ toks.now) r.1.now) }
-    ensures sticks { (left : ℕ) → IsErrOf result (stop.At left) → SticksRule (phrase Phrase.Stmt) (tok ∷ toks.now) left }
+    ensures sticks { (left : ℕ) → IsErrOf result (read_fault.Stuck left) → SticksRule (phrase Phrase.Stmt) (tok ∷ toks.now) left }
     ensures shorter { IfOk result (λ r. length r.1.now < length toks.now) }
 {
     let (named, rest) = expect(toks, Fixed::Name)?;
@@ -158,112 +157,21 @@ fn variable<'t, F: Fn(Global, &[u8], Phrase, &[Tok]) -> Result<(Tree, usize), St
 
 /// The type and the value behind a colon.
 #[tactic(auto, using(verse_grammar::specs::Exprs::typed_value, verse_grammar::proofs::Eating::eats_typed_value, verse_grammar::proofs::Sticking::sticks_typed_value_2, verse_grammar::proofs::Sticking::sticks_typed_value_3, verse_grammar::proofs::Sticking::sticks_typed_value_4))]
-fn typed_value<'t, F: Fn(Global, &[u8], Phrase, &[Tok]) -> Result<(Tree, usize), Stop>>(
+fn typed_value<'t, F: Fn(Global, &[u8], Phrase, &[Tok]) -> Result<(Tree, usize), ReadFault>>(
     reader: &Reader<'_, F>,
     colon: Tok,
     toks: &'t [Tok],
-) -> Result<((Written, Tree), &'t [Tok]), Stop>
+) -> Result<((Written, Tree), &'t [Tok]), ReadFault>
     requires nests { Nests reader.now.bytes.now reader.now.most (F.pre reader.now.nested) (F.post reader.now.nested) }
     requires fewer { length toks.now < reader.now.most }
     requires start { colon.kind ≡ mark m.Colon }
     ensures spelled { IfOk result (λ r. TypedValue reader.now.bytes.now (colon ∷ toks.now) (written_of r.0.0) (tree_of r.0.1) r.1.now) }
     ensures eats { IfOk result (λ r. EatsRule typed_value (colon ∷ toks.now) r.1.now) }
-    ensures sticks { (left : ℕ) → IsErrOf result (stop.At left) → SticksRule typed_value (colon ∷ toks.now) left }
+    ensures sticks { (left : ℕ) → IsErrOf result (read_fault.Stuck left) → SticksRule typed_value (colon ∷ toks.now) left }
     ensures shorter { IfOk result (λ r. length r.1.now < length toks.now) }
 {
     let (ty, rest) = type_at(reader.alloc, reader.bytes, toks)?;
     let (_, rest) = expect(rest, Fixed::Equals)?;
     let (value, rest) = reader.inner(Phrase::Expr, rest)?;
     Ok(((ty, value), rest))
-}
-
-/// What is behind `set`.
-#[tactic(auto, using(crate::proofs::Clausing::set_by, crate::proofs::Clausing::eats_set_by, crate::proofs::Clausing::sticks_set_by, verse_grammar::proofs::Sticking::sticks_set_rest_1))]
-pub fn set<'t, F: Fn(Global, &[u8], Phrase, &[Tok]) -> Result<(Tree, usize), Stop>>(
-    reader: &Reader<'_, F>,
-    tok: Tok,
-    toks: &'t [Tok],
-) -> Result<(Tree, &'t [Tok]), Stop>
-    requires nests { Nests reader.now.bytes.now reader.now.most (F.pre reader.now.nested) (F.post reader.now.nested) }
-    requires fewer { length toks.now < reader.now.most }
-    requires start { stmt_start tok.kind ≡ Some StmtStart.Set }
-    ensures spelled { IfOk result (λ r. Control reader.now.bytes.now (tok ∷ toks.now) (tree_of r.0) r.1.now) }
-    ensures eats { IfOk result (λ r. EatsRule set_rest toks.now r.1.now) }
-    ensures sticks { (left : ℕ) → IsErrOf result (stop.At left) → SticksRule set_rest toks.now left }
-    ensures shorter { IfOk result (λ r. length r.1.now < length toks.now) }
-{
-    let (target, rest) = reader.inner(Phrase::Postfix, toks)?;
-    let ((mode, value), rest) = written(reader, rest)?;
-    Ok((
-        statements::assignment(reader.alloc, tok.place, mode, target, value)?,
-        rest,
-    ))
-}
-
-/// How a `set` writes, and the value.
-#[tactic(auto, using(crate::specs::Behind::writes, crate::proofs::Clausing::eats_writes, crate::proofs::Clausing::sticks_writes_1, crate::proofs::Clausing::sticks_writes_2))]
-fn written<'t, F: Fn(Global, &[u8], Phrase, &[Tok]) -> Result<(Tree, usize), Stop>>(
-    reader: &Reader<'_, F>,
-    toks: &'t [Tok],
-) -> Result<((Assign, Tree), &'t [Tok]), Stop>
-    requires nests { Nests reader.now.bytes.now reader.now.most (F.pre reader.now.nested) (F.post reader.now.nested) }
-    requires fewer { length toks.now < reader.now.most }
-    ensures spelled { IfOk result (λ r. Writes reader.now.bytes.now toks.now r.0.0 (tree_of r.0.1) r.1.now) }
-    ensures eats { IfOk result (λ r. Eats write_symbols toks.now r.1.now) }
-    ensures sticks { (left : ℕ) → IsErrOf result (stop.At left) → Sticks write_symbols toks.now left }
-    ensures shorter { IfOk result (λ r. length r.1.now < length toks.now) }
-{
-    let ((_, mode), rest) = assign(toks)?;
-    let (value, rest) = reader.inner(Phrase::Expr, rest)?;
-    Ok(((mode, value), rest))
-}
-
-/// What is behind `return`.
-#[tactic(auto, using(verse_grammar::specs::Exprs::returned, verse_grammar::specs::Exprs::returned_unit, verse_grammar::proofs::Eating::eats_return_value_at, verse_grammar::proofs::Eating::eats_return_value_other, verse_grammar::proofs::Sticking::sticks_return_value_at_1, crate::proofs::Starting::return_start))]
-pub fn returned<'t, F: Fn(Global, &[u8], Phrase, &[Tok]) -> Result<(Tree, usize), Stop>>(
-    reader: &Reader<'_, F>,
-    tok: Tok,
-    toks: &'t [Tok],
-) -> Result<(Tree, &'t [Tok]), Stop>
-    requires nests { Nests reader.now.bytes.now reader.now.most (F.pre reader.now.nested) (F.post reader.now.nested) }
-    requires fewer { length toks.now < reader.now.most }
-    requires start { stmt_start tok.kind ≡ Some StmtStart.Return }
-    ensures spelled { IfOk result (λ r. Control reader.now.bytes.now (tok ∷ toks.now) (tree_of r.0) r.1.now) }
-    ensures eats { IfOk result (λ r. EatsRule return_value toks.now r.1.now) }
-    ensures sticks { (left : ℕ) → IsErrOf result (stop.At left) → SticksRule return_value toks.now left }
-    ensures shorter { IfOk result (λ r. length r.1.now ≤ length toks.now) }
-{
-    if begins(toks) {
-        let (value, rest) = reader.inner(Phrase::Expr, toks)?;
-        return Ok((statements::returned(reader.alloc, tok.place, value)?, rest));
-    }
-    Ok((statements::returned_unit(reader.alloc, tok.place)?, toks))
-}
-
-/// How a `set` writes.
-#[tactic(auto, using(verse_grammar::proofs::Eating::eats_assign_at, verse_grammar::proofs::Sticking::sticks_assign_other, verse_grammar::proofs::Sticking::sticks_assign_end))]
-fn assign<'t>(toks: &'t [Tok]) -> Result<((Tok, Assign), &'t [Tok]), Stop>
-    ensures found { IfOk result (λ r. toks.now ≡ r.0.0 ∷ r.1.now) }
-    ensures mode { IfOk result (λ r. assign_at r.0.0.kind ≡ Some r.0.1) }
-    ensures eats { IfOk result (λ r. EatsRule assign toks.now r.1.now) }
-    ensures sticks { (left : ℕ) → IsErrOf result (stop.At left) → SticksRule assign toks.now left }
-    ensures shorter { IfOk result (λ r. length r.1.now < length toks.now) }
-{
-    let Some((tok, rest)) = next(toks) else {
-        return Err(Stop::At(0));
-    };
-    match assign_at(tok.kind) {
-        Some(mode) => Ok(((tok, mode), rest)),
-        None => Err(Stop::At(toks.len())),
-    }
-}
-
-/// Whether an expression begins here.
-fn begins(toks: &[Tok]) -> bool
-    ensures { result ≡ first_is begins_expr toks.now }
-{
-    match next(toks) {
-        Some((tok, _)) => begins_expr(tok.kind),
-        None => false,
-    }
 }

@@ -1,9 +1,9 @@
 use Rattle.std.proofs.Common.{◌≡◌, ◌<◌, map, length, get_or, ap, ◌∙◌, arith}
 use Rattle.verse_tree.specs.Numbering.{item_numbered, item_nodes}
 use Rattle.verse_tree.specs.ItemView.{item_of}
+use Rattle.verse_join.proofs.joining.join_files.Goals as goal
 use Rattle.verse_join.specs.Joining.{file_items}
 use Rattle.verse_join.proofs.Files.{group_fits, more_nodes, more_done}
-use Rattle.verse_join.proofs.joining.join_files.Goals as goal
 
 pub number_items-requires : goal.number_items-requires
 number_items-requires c =

@@ -1,8 +1,8 @@
 use Rattle.std.proofs.Common.{◌≡◌, ◌+◌, ◌++◌, map, drop}
 use Rattle.verse_tree.specs.Numbering.{items_numbered, items_nodes}
 use Rattle.verse_tree.specs.ItemView.{item_of}
-use Rattle.verse_join.specs.Joining.{joined}
 use Rattle.verse_join.proofs.joining.join_files.Given as goal
+use Rattle.verse_join.specs.Joining.{joined}
 
 -- what is done, and what is left from the next number on, are all
 abbrev pub invariant-files : goal.invariant-files

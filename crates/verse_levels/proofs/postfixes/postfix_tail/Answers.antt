@@ -1,6 +1,6 @@
 use Rattle.std.proofs.lemmas.Result.{err_from_is_err_and}
 use Rattle.verse_levels.proofs.Postfixed.{postfix_next, goes_postfix, stuck_postfix}
-use Rattle.verse_reading.proofs.Stopping.{same_stop}
+use Rattle.verse_reading.proofs.Faults.{same_fault}
 use Rattle.verse_reading.proofs.Rows.{no_longer_next}
 use Rattle.verse_levels.proofs.postfixes.postfix_tail.Goals as goal
 
@@ -15,4 +15,4 @@ pub returns-in_err-suffix-clause-sticks : goal.returns-in_err-suffix-clause-stic
 returns-in_err-suffix-clause-sticks g c = λ left bad.
     let p = err_from_is_err_and c.from_residual.result c.from_residual.ensures.1 in
     let told = rw (p.1, p.2) at bad in
-    stuck_postfix _ _ _ _ _ _ c.postfixes.invariant.goes c.in-Some.ensures.0 c.in-Some.ensures.1 (c.in_err-suffix.ensures.sticks left (same_stop _ _ told))
+    stuck_postfix _ _ _ _ _ _ c.postfixes.invariant.goes c.in-Some.ensures.0 c.in-Some.ensures.1 (c.in_err-suffix.ensures.sticks left (same_fault _ _ told))

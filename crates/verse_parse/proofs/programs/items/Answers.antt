@@ -1,5 +1,5 @@
-use Rattle.verse_parse.specs.Halts.{halts_behind}
 use Rattle.verse_parse.proofs.programs.items.Goals as goal
+use Rattle.verse_parse.specs.StopsWith.{left_behind}
 
-pub returns-in-Some-clause-halts : goal.returns-in-Some-clause-halts
-returns-in-Some-clause-halts c left bad = halts_behind c.in_ok-items.ensures.eats c.in-Some.ensures (cc)
+pub returns-in-Some-clause-stops : goal.returns-in-Some-clause-stops
+returns-in-Some-clause-stops c left bad = left_behind c.in_ok-items.ensures.eats c.in-Some.ensures (cc)

@@ -1,6 +1,6 @@
 use Rattle.verse_reading.proofs.Rows.{shorter_next}
-use Rattle.verse_primary.proofs.BraceParts.{pairs_next, goes_pairs_next}
 use Rattle.verse_primary.proofs.braces.pairs.Goals as goal
+use Rattle.verse_primary.proofs.BraceParts.{pairs_next, goes_pairs_next}
 
 pub more-preserved : goal.more-preserved
 more-preserved g c = record {

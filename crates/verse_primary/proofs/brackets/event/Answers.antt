@@ -1,13 +1,13 @@
 use Rattle.std.proofs.lemmas.Result.{err_from_is_err_and}
-use Rattle.verse_primary.proofs.BracketEnds.{eats_event_by}
-use Rattle.verse_reading.proofs.Stopping.{same_stop}
-use Rattle.verse_primary.proofs.BracketStops.{event_made, event_stuck}
+use Rattle.verse_reading.proofs.Faults.{same_fault}
 use Rattle.verse_primary.proofs.brackets.event.Goals as goal
+use Rattle.verse_primary.proofs.BracketEnds.{eats_event_by}
+use Rattle.verse_primary.proofs.BracketStops.{event_made, event_stuck}
 
 pub returns-in_err-rest-clause-sticks : goal.returns-in_err-rest-clause-sticks
 returns-in_err-rest-clause-sticks g c = λ left bad.
     let p = err_from_is_err_and c.from_residual-in_err-rest.result c.from_residual-in_err-rest.ensures.1 in
-    let told = same_stop _ _ (rw (p.1, p.2) at bad) in
+    let told = same_fault _ _ (rw (p.1, p.2) at bad) in
     event_stuck _ _ _ _ _ _ c.requires.start c.in_ok-ty.ensures.eats c.in_ok-behind.ensures.found c.in_ok-behind.ensures.kind (c.in_err-rest.ensures.left left told) (c.in_err-rest.ensures.other left told)
 
 pub returns-clause-spelled : goal.returns-clause-spelled

@@ -1,9 +1,9 @@
 use Rattle.std.proofs.lemmas.Result.{err_from_is_err_and}
 use Rattle.verse_reading.proofs.Rows.{shorter_next}
+use Rattle.verse_reading.proofs.Faults.{same_fault}
+use Rattle.verse_primary.proofs.primary.givens.Goals as goal
 use Rattle.verse_primary.proofs.Repeats.{goes_givens_by, givens_stuck_between_by}
 use Rattle.verse_primary.proofs.PrimaryParts.{givens_next}
-use Rattle.verse_reading.proofs.Stopping.{same_stop}
-use Rattle.verse_primary.proofs.primary.givens.Goals as goal
 
 pub more-preserved : goal.more-preserved
 more-preserved g c = record {
@@ -15,5 +15,5 @@ more-preserved g c = record {
 pub returns-in_err-name-2-clause-sticks : goal.returns-in_err-name-2-clause-sticks
 returns-in_err-name-2-clause-sticks g c = λ left bad.
     let p = err_from_is_err_and c.from_residual-in_err-name-2.result c.from_residual-in_err-name-2.ensures.1 in
-    let told = same_stop _ _ (rw (p.1, p.2) at bad) in
+    let told = same_fault _ _ (rw (p.1, p.2) at bad) in
     givens_stuck_between_by _ _ _ _ _ _ c.requires.some c.in_ok-name.ensures.eats c.more.invariant.goes c.in-Some.ensures.0 c.in-Some.ensures.1 (c.in_err-name-2.ensures.sticks left told)

@@ -2,8 +2,8 @@ use Rattle.std.proofs.Common.{◌≤◌, length, map}
 use Rattle.verse_tree.specs.View.{hole_of, tree_of}
 use Rattle.verse_grammar.specs.Symbols.{hole_rest}
 use Rattle.verse_grammar.specs.Loops.{Goes}
-use Rattle.verse_primary.specs.HoleReads.{HoleRead}
 use Rattle.verse_primary.proofs.primary.holes.Given as goal
+use Rattle.verse_primary.specs.HoleReads.{HoleRead}
 
 abbrev pub invariant-more : goal.invariant-more
 invariant-more g l = record {

@@ -1,0 +1,7 @@
+//! Reads expressions, and what begins with `set` or `return`, from toks.
+//!
+//! To be read in this order: `choices`, expressions and `if`; `controls`.
+#![tactic(auto)]
+
+pub mod choices;
+pub mod controls;

@@ -1,0 +1,4 @@
+pub mod Clauses
+pub mod Cases
+pub mod LeafForms
+pub mod WordForms

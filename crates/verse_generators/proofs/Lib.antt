@@ -1,0 +1,2 @@
+pub mod Clausing
+pub mod Sums

@@ -1,6 +1,0 @@
-use Rattle.std.proofs.lemmas.Result.{IfOk-weaker}
-use Rattle.verse_primary.proofs.Parts.{arm_reads}
-use Rattle.verse_primary.proofs.patterns.arm.Goals as goal
-
-pub returns-in-Some-clause-spelled : goal.returns-in-Some-clause-spelled
-returns-in-Some-clause-spelled g c = IfOk-weaker c.arm_placed.result _ _ (λ r told. arm_reads c.in-Some.ensures told) c.arm_placed.ensures.spelled

@@ -1,0 +1,4 @@
+pub mod Wholes
+pub mod Steps
+pub mod Signatures
+pub mod Rows
