@@ -1,0 +1,4 @@
+pub mod Callees
+pub mod Forms
+pub mod Specifiers
+pub mod Rules
