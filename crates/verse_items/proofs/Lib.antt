@@ -1,0 +1,6 @@
+pub mod Looking
+pub mod Lists
+pub mod Spelling
+pub mod Climbing
+pub mod Passing
+pub mod Numbered
