@@ -235,3 +235,7 @@ closing_of (h ∷ hs) ls high =
 
 pub closing_in : (hs : List (Head Value)) (ls : List (Level Value)) (fs : List Frame) → frames hs ls ≡ fs → length ls ≡ height hs → any_noted ls ≡ is_closing fs
 closing_in hs ls fs are high = rw (← are) (sym (closing_of hs ls high))
+
+pub permits_in : (hs : List (Head Value)) (ls : List (Level Value)) (fs : List Frame) (q : ℕ) → frames hs ls ≡ fs → within (bounds_on hs) q ≡ fits (handlers_of fs) q
+permits_in [] ls fs q are = rw (← are) refl
+permits_in (h ∷ hs) ls fs q are = rw (← are) (sym (fits_in h.bounds (below ls) q))

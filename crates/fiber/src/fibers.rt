@@ -3,7 +3,7 @@
 ghost use Rattle.std.specs.Prelude.{◌≡◌, ◌≢◌, ◌≤◌, ◌<◌, [], ◌∷◌, ◌++◌, true, false, Some, None, OnOk, OnErr, IfOk, IfErr, IfSome, IfNone, length, reverse, slice_get, option_map, ◌-◌};
 ghost use Rattle.verse_value.specs.View.{val_of, vals_of};
 ghost use Rattle.fiber_stacks.specs.Levels.{below};
-ghost use Rattle.fiber.specs.Frames.{Frame, place_of, locals_of, handlers_of, defers_of, noted_of, is_guarded, is_closing, kept_defers};
+ghost use Rattle.fiber.specs.Frames.{Frame, fits, place_of, locals_of, handlers_of, defers_of, noted_of, is_guarded, is_closing, kept_defers};
 ghost use Rattle.fiber.specs.Calls.{units, bare, added, frame_at, entered, pushed, popped, left, gone_to, with_local, guarded, released, unwound, deferred, taken, ended};
 
 use crate::bounding::all_permit;
@@ -185,6 +185,14 @@ impl Fiber {
         self.heads.place()
     }
 
+    /// Whether the handlers of the top frame let it go on at a place. Takes no memory.
+    pub fn permits(&self, place: u32) -> bool
+        requires { self.now ≢ [] }
+        ensures { result ≡ fits (handlers_of self.now) place }
+    {
+        all_permit(self.heads.bounds(), place)
+    }
+
     /// Moves the top frame to a place. False, and nothing is changed, where a handler of the frame
     /// forbids the place, which is not above its beginning or not below its label. Takes no memory.
     pub fn go(&mut self, place: u32) -> bool
@@ -224,6 +232,14 @@ impl Fiber {
         self.levels.pop()
     }
 
+    /// The locals of the top frame.
+    pub fn locals(&self) -> &[Value]
+        requires { self.now ≢ [] }
+        ensures { vals_of result.now ≡ locals_of self.now }
+    {
+        self.heads.locals()
+    }
+
     /// A local; None where there is no such local.
     pub fn local(&self, local: u32) -> Option<&Value>
         requires { self.now ≢ [] }
@@ -247,6 +263,19 @@ impl Fiber {
             return Err(value);
         }
         Ok(self.heads.put(local as usize, value))
+    }
+}
+
+/// A local that is there.
+impl Fiber {
+    /// Puts a value into a local, and gives the old one. Takes no memory.
+    pub fn put_local(&mut self, local: usize, value: Value) -> Value
+        requires some { self.old ≢ [] }
+        requires there { local < length (locals_of self.old) }
+        ensures old { slice_get (locals_of self.old) local ≡ Some (val_of result) }
+        ensures new { self.new ≡ with_local local (val_of value) self.old }
+    {
+        self.heads.put(local, value)
     }
 }
 

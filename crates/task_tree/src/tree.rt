@@ -85,6 +85,14 @@ impl<T> TaskTree<T> {
         self.youngest_child(id).is_some()
     }
 
+    /// The child of a task that was added last. None exactly where it has none.
+    pub fn youngest_child(&self, id: usize) -> Option<usize>
+        ensures value { result ≡ youngest (Some id) self.now }
+        ensures nested { IsTree self.now }
+    {
+        links_at(&self.nodes, id)?.youngest
+    }
+
     /// The task's item, or None exactly where the number is not live.
     pub fn get(&self, id: usize) -> Option<&T>
         ensures { option_copied result ≡ option_map (λ t. t.item) (task_at id self.now) }
@@ -230,13 +238,6 @@ impl<T> TaskTree<T> {
                 self.cancel(child, visit);
             }
         }
-    }
-
-    fn youngest_child(&self, id: usize) -> Option<usize>
-        ensures value { result ≡ youngest (Some id) self.now }
-        ensures nested { IsTree self.now }
-    {
-        links_at(&self.nodes, id)?.youngest
     }
 
     fn youngest_of(&self, parent: Option<usize>) -> Option<usize>

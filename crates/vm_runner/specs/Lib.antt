@@ -1,0 +1,5 @@
+pub mod Views
+pub mod Doings
+pub mod Operands
+pub mod Comes
+pub mod Runners

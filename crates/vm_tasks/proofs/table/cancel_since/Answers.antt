@@ -1,0 +1,12 @@
+use Rattle.vm_tasks.proofs.Endings.{alone_so}
+use Rattle.vm_tasks.proofs.Meaning.{scope_so, arms_so}
+use Rattle.vm_tasks.proofs.table.cancel_since.Goals as goal
+
+pub returns-clause-scope : goal.returns-clause-scope
+returns-clause-scope g c = scope_so g.W.Waits.pending c.args.id c.args.bound c.args.tree.now c.clear_since.new.tree c.args.gone.now c.clear_since.new.gone c.clear_since.ensures.cleared
+
+pub returns-clause-arms : goal.returns-clause-arms
+returns-clause-arms g c = arms_so g.W.Waits.pending c.args.id c.args.bound c.args.tree.now c.clear_since.new.tree c.args.gone.now c.clear_since.new.gone c.is_nested.ensures c.clear_since.ensures.cleared
+
+pub returns-clause-alone : goal.returns-clause-alone
+returns-clause-alone g c = alone_so c.clear_since.new.tree c.args.id c.args.bound c.clear_since.ensures.nested c.clear_since.ensures.left

@@ -1,0 +1,45 @@
+-- What is told of a cancelled task, and of all that a task has begun since so many steps were left.
+use Rattle.std.specs.Prelude.{◌≡◌, ◌<◌, ◌≤◌, ℕ, false, List, [], ◌∷◌, ◌++◌, Some}
+use Rattle.task_tree.specs.Tasks.{Task, task_at, youngest}
+use Rattle.task_tree.specs.Removing.{Visited}
+use Rattle.verse_machine.specs.Tasks.{Frame}
+use Rattle.sim_clock.specs.declared.waits.Pending.{Pending}
+use Rattle.sim_clock.specs.Pending.{removed}
+use Rattle.vm_table.specs.Cancelling.{CancelsSince}
+use Rattle.vm_tasks.specs.declared.slots.Slot.{Slot}
+use Rattle.vm_tasks.specs.declared.slots.Held.{Held}
+use Rattle.vm_tasks.specs.declared.slots.Held.TheVariants.{ByMachine, Asleep, AtGroup}
+use Rattle.vm_tasks.specs.declared.gone.Gone.{Gone}
+use Rattle.vm_tasks.specs.View.{slot_of}
+
+module _ {F : Type 0} where
+  abbrev pub frames_in : Held F → List F
+  frames_in ByMachine = []
+  frames_in (Asleep f n kind) = f ∷ []
+  frames_in (AtGroup f g) = f ∷ []
+
+  abbrev pub without_wait : Held F → List Pending → List Pending
+  without_wait ByMachine ps = ps
+  without_wait (Asleep f n kind) ps = removed n ps
+  without_wait (AtGroup f g) ps = ps
+
+  -- the child that began last did so when fewer steps were left
+  pub record IsYounger (ts : List (Task (Slot F))) (id bound child : ℕ) : Type 0 where
+    pub task : Task (Slot F)
+    pub youngest_is : youngest (Some id) ts ≡ Some child
+    pub at_it : task_at child ts ≡ Some task
+    pub less : task.item.number < bound
+
+  abbrev pub NoYounger : List (Task (Slot F)) → ℕ → ℕ → Type 0
+  NoYounger ts id bound = (c : ℕ) (u : Task (Slot F)) → youngest (Some id) ts ≡ Some c → task_at c ts ≡ Some u → bound ≤ u.item.number
+
+module _ {F W : Type 0} (pending : W → List Pending) where
+  -- the wait is gone, and the frames stand behind those of tasks that were cancelled before, or some were lost
+  pub record Leaves (old : Gone F W) (id : ℕ) (item : Slot F) (new : Gone F W) : Type 0 where
+    pub waits : pending new.waits ≡ without_wait item.held (pending old.waits)
+    pub kept : new.lost ≡ false → (old.lost ≡ false) × (new.frames.items ≡ old.frames.items ++ frames_in item.held)
+
+  pub record Cleared (id bound : ℕ) (old new : List (Task (Slot F))) (before behind : Gone F W) : Type 0 where
+    pub gone : List (Task (Slot F))
+    pub cancels : (frames : F → Frame × List Frame) → CancelsSince (slot_of frames) id bound old gone new
+    pub told : Visited Leaves before gone behind

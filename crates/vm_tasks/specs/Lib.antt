@@ -1,0 +1,5 @@
+pub mod View
+pub mod Gone
+pub mod Begun
+pub mod Standing
+pub mod Ending

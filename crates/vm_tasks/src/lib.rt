@@ -1,0 +1,9 @@
+//! The tasks of a machine in a tree, with the waits of those that are asleep.
+//!
+//! To be read in this order: `slots`, what the tree keeps of a task; `gone`, where the frames of
+//! cancelled tasks go; `table`, the changes of the tree.
+#![tactic(auto)]
+
+pub mod gone;
+pub mod slots;
+pub mod table;

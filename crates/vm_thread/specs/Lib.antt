@@ -1,0 +1,4 @@
+pub mod Framed
+pub mod Calls
+pub mod Machine
+pub mod View
