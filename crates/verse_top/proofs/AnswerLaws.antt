@@ -1,45 +1,99 @@
 -- The ways to an answer, and that there is one.
-use Rattle.std.proofs.Common.{◌≡◌, ℕ, ◌<◌, List, Some, None, length, inl, inr, refl, ap}
-use Rattle.verse_base.specs.declared.limits.TheConstants.{MOST_FILE_BYTES}
-use Rattle.verse_base.specs.declared.places.Place.{Place}
+use Rattle.std.proofs.Common.{◌≡◌, ℕ, zero, suc, Bool, true, false, List, Option, Some, length, refl, sym, ◌∙◌, ap, subst, map, string_bytes, Result, Ok, Err, IfOk}
 use Rattle.verse_base.specs.declared.refusals.Refusal.{Refusal}
 use Rattle.verse_lex.specs.Cut.{first_place}
+use Rattle.verse_outside.specs.Held.{Holding}
 use Rattle.verse_tree.specs.ItemTree.{ItemTree}
-use Rattle.verse_tree.specs.PostOrder.{program_order}
-use Rattle.verse_built.specs.Built.{first_unbuilt}
 use Rattle.verse_built.specs.Texts.{texts_of}
-use Rattle.verse_top.specs.Rendering.{ending_status, run_text}
-use Rattle.verse_top.specs.Words.{Command, run, Options}
+use Rattle.verse_state.specs.Texts.{run_text}
+use Rattle.verse_texts.specs.Refusals.{refusal_line}
+use Rattle.verse_words.specs.Words.{Command, run, check, files_of, Options}
+use Rattle.verse_words.specs.Requests.{AsksFor, AsksForRun, names_of, options_with}
+use Rattle.verse_words.specs.declared.commands.Request.{Request}
+use Rattle.verse_words.specs.declared.commands.Request.TheVariants as request
+use Rattle.verse_words.specs.declared.commands.Running.{Running}
+use Rattle.verse_accept.specs.Fronts.{Accepts, IsRefused, front_end, refusal}
+use Rattle.verse_accept.proofs.Answered.{one_front_end}
+use Rattle.verse_top.specs.Loading.{AreLoaded, IsTooLarge}
 use Rattle.verse_top.specs.Meaning.{mean}
-use Rattle.verse_top.specs.Programs.{Parses, Unparsed, refusal}
-use Rattle.verse_top.specs.Answers.{Answers, refusal_line, refused, ran, AnsweredOnce}
-use Rattle.verse_top.proofs.Answered.{one_front_end}
+use Rattle.verse_top.specs.Statuses.{ending_status}
+use Rattle.verse_top.specs.Answers.{Answers, too_large, refused, checked, ran, ok_line, AnsweredOnce}
+use Rattle.verse_top.proofs.LoadLaws.{as_many, loaded_once, loaded_or_large, large_once}
+
+-- ---- one answer
 
 pub once : AnsweredOnce
-once c bytes s t x y (refused r p) (refused q u) = (refl, ap (λ (v : Refusal). refusal_line v.rule.0 v.place) ((one_front_end bytes).refusal bytes r q p u))
-once c bytes s t x y (refused r p) (ran is q) = absurd ((one_front_end bytes).apart bytes is r q p)
-once c bytes s t x y (ran is p) (refused r q) = absurd ((one_front_end bytes).apart bytes is r p q)
-once c bytes s t x y (ran {o = o} is p) (ran js q) =
-    let same = (one_front_end bytes).value bytes is js p q in
-    (ap (λ (ks : List ItemTree). ending_status (mean (texts_of ks) o.steps).ending) same, ap (λ (ks : List ItemTree). run_text 1 (mean (texts_of ks) o.steps)) same)
+once held c s t x y (too_large d n p) (too_large e m q) =
+    (refl, ap (λ (k : ℕ). refusal_line (files_of c) (refusal 2 (first_place k))) (large_once held (files_of c) 0 n m p q))
+once held c s t x y (too_large d n p) (refused e files r l q) = absurd (loaded_or_large held (files_of c) files 0 n l p)
+once held c s t x y (too_large d n p) (checked names files is l q) = absurd (loaded_or_large held names files 0 n l p)
+once held c s t x y (too_large d n p) (ran names o files is l q) = absurd (loaded_or_large held names files 0 n l p)
+once held c s t x y (refused e files r l q) (too_large d n p) = absurd (loaded_or_large held (files_of c) files 0 n l p)
+once held c s t x y (checked names files is l q) (too_large d n p) = absurd (loaded_or_large held names files 0 n l p)
+once held c s t x y (ran names o files is l q) (too_large d n p) = absurd (loaded_or_large held names files 0 n l p)
+once held c s t x y (refused d files r l p) (refused e others u k q) =
+    let same = loaded_once held (files_of c) files others l k in
+    (refl, ap (λ (v : Refusal). refusal_line (files_of c) v) (one_front_end.refusal others r u (subst (λ fs. IsRefused fs r) same p) q))
+once held c s t x y (refused d files r l p) (checked names others is k q) =
+    let same = loaded_once held names files others l k in absurd (one_front_end.apart others is r q (subst (λ fs. IsRefused fs r) same p))
+once held c s t x y (refused d files r l p) (ran names o others is k q) =
+    let same = loaded_once held names files others l k in absurd (one_front_end.apart others is r q (subst (λ fs. IsRefused fs r) same p))
+once held c s t x y (checked names others is k q) (refused d files r l p) =
+    let same = loaded_once held names files others l k in absurd (one_front_end.apart others is r q (subst (λ fs. IsRefused fs r) same p))
+once held c s t x y (ran names o others is k q) (refused d files r l p) =
+    let same = loaded_once held names files others l k in absurd (one_front_end.apart others is r q (subst (λ fs. IsRefused fs r) same p))
+once held c s t x y (checked names files is l p) (checked other others js k q) = (refl, refl)
+once held c s t x y (ran names o files is l p) (ran other u others js k q) =
+    let same = loaded_once held names files others l k in
+    let items = one_front_end.value others is js (subst (λ fs. Accepts fs is) same p) q in (
+      ap (λ (ks : List ItemTree). ending_status (mean (texts_of ks) o.steps).ending) items,
+      ap (λ (ks : List ItemTree). run_text (mean (texts_of ks) o.steps) o.heap (length names)) items,
+    )
 
--- the ways to an answer, with equations in place of indices
-along : (c : Command) (bytes : List ℕ) (s t : ℕ) (x y : List ℕ) → s ≡ t → x ≡ y → Answers c bytes t y → Answers c bytes s x
-along c bytes s t x y e f h = rw (e, f) h
+-- ---- the ways to an answer, with equations in place of indices
 
-pub answers_large : (file bytes : List ℕ) (o : Options) (s : ℕ) (x : List ℕ) → s ≡ 1 → x ≡ refusal_line 2 (first_place 0) → MOST_FILE_BYTES < length bytes →
-    Answers (run file o) bytes s x
-answers_large file bytes o s x e f big = along (run file o) bytes s 1 x _ e f (refused (refusal 2 (first_place 0)) (inl (inl (inl (inl (big, refl))))))
+along : (held : Holding) (c : Command) (s t : ℕ) (x y : List ℕ) → s ≡ t → x ≡ y → Answers held c t y → Answers held c s x
+along held c s t x y e f h = rw (e, f) h
 
-pub answers_refused : (file bytes : List ℕ) (o : Options) (s : ℕ) (x : List ℕ) (r : Refusal) → s ≡ 1 → x ≡ refusal_line r.rule.0 r.place → Unparsed bytes r →
-    Answers (run file o) bytes s x
-answers_refused file bytes o s x r e f p = along (run file o) bytes s 1 x _ e f (refused r (inl p))
+pub asks_for_files : (q : Request) (c : Command) → AsksFor q c → files_of c ≡ names_of q
+asks_for_files (request.Run r) c a = ap files_of a.is
+asks_for_files (request.Check files) c a = ap files_of a
 
-pub answers_unbuilt : (file bytes : List ℕ) (o : Options) (s : ℕ) (x : List ℕ) (is : List ItemTree) (place : Place) → s ≡ 1 → x ≡ refusal_line 99 place →
-    Parses bytes is → first_unbuilt (program_order is) ≡ Some place → Answers (run file o) bytes s x
-answers_unbuilt file bytes o s x is place e f p u = along (run file o) bytes s 1 x _ e f (refused (refusal 99 place) (inr (is, p, (place, u, refl))))
+pub answers_refused : (held : Holding) (q : Request) (c : Command) (names files : List (List ℕ)) (s : ℕ) (x : List ℕ) (r : Refusal) → AsksFor q c → names ≡ names_of q →
+    s ≡ 1 → x ≡ refusal_line names r → AreLoaded held (files_of c) files → IsRefused files r → Answers held c s x
+answers_refused held q c names files s x r a n e f l p =
+    along held c s 1 x (refusal_line (files_of c) r) e (f ∙ ap (λ ns. refusal_line ns r) (n ∙ sym (asks_for_files q c a))) (refused c files r l p)
 
-pub answers_run : (file bytes : List ℕ) (o : Options) (s : ℕ) (x : List ℕ) (is : List ItemTree) (n : ℕ) → o.steps ≡ n → s ≡ ending_status (mean (texts_of is) n).ending →
-    x ≡ run_text 1 (mean (texts_of is) n) → Parses bytes is → first_unbuilt (program_order is) ≡ None → Answers (run file o) bytes s x
-answers_run file bytes o s x is n same e f p u =
-    along (run file o) bytes s (ending_status (mean (texts_of is) o.steps).ending) x (run_text 1 (mean (texts_of is) o.steps)) (rw same e) (rw same f) (ran is (is, p, (refl, u)))
+pub answers_large : (held : Holding) (q : Request) (c : Command) (names : List (List ℕ)) (file s : ℕ) (x : List ℕ) → AsksFor q c → names ≡ names_of q →
+    s ≡ 1 → x ≡ refusal_line names (refusal 2 (first_place file)) → IsTooLarge held 0 names file → Answers held c s x
+answers_large held q c names file s x a n e f p =
+    let same : names ≡ files_of c = n ∙ sym (asks_for_files q c a) in
+    along held c s 1 x (refusal_line (files_of c) (refusal 2 (first_place file))) e (f ∙ ap (λ ns. refusal_line ns (refusal 2 (first_place file))) same)
+    (too_large c file (subst (λ ns. IsTooLarge held 0 ns file) same p))
+
+pub answers_checked : (held : Holding) (c : Command) (names files : List (List ℕ)) (is : List ItemTree) (s : ℕ) (x : List ℕ) → c ≡ check names →
+    s ≡ 0 → x ≡ ok_line → AreLoaded held (files_of c) files → Accepts files is → Answers held c s x
+answers_checked held c names files is s x a e f l p =
+    rw a (along held (check names) s 0 x ok_line e f (checked names files is (rw a at l) p))
+
+pub answers_ran : (held : Holding) (r : Running) (c : Command) (files : List (List ℕ)) (is : List ItemTree) (s count : ℕ) (x : List ℕ) → AsksForRun r c →
+    AreLoaded held (files_of c) files → Accepts files is → count ≡ length files → s ≡ ending_status (mean (texts_of is) r.steps).ending →
+    ((heap : Bool) → x ≡ run_text (mean (texts_of is) r.steps) heap count) → Answers held c s x
+answers_ran held r c files is s count x a l p n e f =
+    let o = options_with r a.ints in
+    let names = map string_bytes r.files.now in
+    let loaded : AreLoaded held names files = subst (λ (d : Command). AreLoaded held (files_of d) files) a.is l in
+    let many : count ≡ length names = n ∙ sym (as_many held names files loaded) in
+    let text : x ≡ run_text (mean (texts_of is) r.steps) r.heap (length names) = f r.heap ∙ ap (λ k. run_text (mean (texts_of is) r.steps) r.heap k) many in
+    rw a.is (along held (run names o) s (ending_status (mean (texts_of is) r.steps).ending) x (run_text (mean (texts_of is) r.steps) r.heap (length names)) e text
+    (ran names o files is loaded p))
+
+-- ---- what holds of a result where there is one
+
+pub ok_then : {T E : Type 0} (r : Result T E) (P Q : T → Type 0) → ((x : T) → P x → Q x) → IfOk r P → IfOk r Q
+ok_then (Ok x) P Q f h = f x h
+ok_then (Err e) P Q f h = tt
+
+pub ok_both : {T E : Type 0} (r : Result T E) (P Q R : T → Type 0) → ((x : T) → P x → Q x → R x) → IfOk r P → IfOk r Q → IfOk r R
+ok_both (Ok x) P Q R f h k = f x h k
+ok_both (Err e) P Q R f h k = tt

@@ -1,11 +1,4 @@
-pub mod ListedTokens
-pub mod ListedLayout
-pub mod Parts
-pub mod StuckToks
-pub mod OneByOne
-pub mod Answered
+pub mod LoadLaws
+pub mod LoadSteps
 pub mod AnswerLaws
-pub mod NumberLemmas
-pub mod OptionLemmas
-pub mod CommandLemmas
 pub mod CallLaws

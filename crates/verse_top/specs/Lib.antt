@@ -1,7 +1,5 @@
-pub mod Words
-pub mod Stages
-pub mod Programs
 pub mod Meaning
-pub mod Rendering
+pub mod Statuses
+pub mod Loading
+pub mod Loaded
 pub mod Answers
-pub mod Settings

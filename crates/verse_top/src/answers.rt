@@ -1,32 +1,35 @@
-ghost use Rattle.std.specs.Prelude.{◌≡◌, ◌++◌, ◌⊎◌, ◌≤◌, ℕ, List, IfOk, OnOk, map, string_bytes};
-ghost use Rattle.verse_base.specs.RuleText.{rule_text_of};
-ghost use Rattle.verse_base.specs.TraceLine.{line_bytes};
-ghost use Rattle.std.specs.Prelude.{IsSome, ◌<◌, length};
-ghost use Rattle.verse_top.specs.Answers.{Answers, AnsweredOnce, refusal_line};
-ghost use Rattle.verse_top.specs.Rendering.{rule_code, run_text, ending_status, trace_text};
-ghost use Rattle.verse_top.specs.Meaning.{mean};
-ghost use Rattle.verse_top.specs.Programs.{Parses};
-ghost use Rattle.verse_tree.specs.ItemView.{item_of};
-ghost use Rattle.verse_top.specs.Words.{run, Options};
+//! What a command answers over the files that it names.
 
-use crate::endings::{ending_text, line_and_column};
-use crate::programs::items_of;
+ghost use Rattle.std.specs.Prelude.{◌≡◌, ◌++◌, ◌⊎◌, ◌≤◌, ℕ, Bool, List, IfOk, IsSome, OnOk, length, map, string_bytes};
+ghost use Rattle.verse_base.specs.RuleText.{rule_text_of};
+ghost use Rattle.verse_outside.specs.Held.{Holding};
+ghost use Rattle.verse_state.specs.Texts.{run_text};
+ghost use Rattle.verse_texts.specs.Refusals.{refusal_line};
+ghost use Rattle.verse_tree.specs.ItemView.{item_of};
+ghost use Rattle.verse_words.specs.Words.{Command, files_of};
+ghost use Rattle.verse_lex.specs.Cut.{first_place};
+ghost use Rattle.verse_accept.specs.Fronts.{Accepts, refusal};
+ghost use Rattle.verse_words.specs.Requests.{AsksFor, AsksForRun};
+ghost use Rattle.verse_top.specs.Answers.{AnsweredOnce, Answers, ok_line};
+ghost use Rattle.verse_top.specs.Loading.{AreLoaded};
+ghost use Rattle.verse_top.specs.Meaning.{mean};
+ghost use Rattle.verse_top.specs.Statuses.{ending_status};
+
 use std::alloc::Global;
-use verse_base::limits::MOST_FILE_BYTES;
+use verse_accept::accept;
 use verse_base::places::Place;
-use verse_base::refusals::{Front, Memory, Rule};
-use verse_base::rule_texts::rule_text;
-use verse_base::texts::{natural, trace_line};
-use verse_built::{printed, unbuilt};
-use verse_tree::items::Item;
+use verse_base::refusals::{Front, Memory, Refusal, Rule};
+use verse_base::texts::trace_line;
+use verse_built::printed;
+use verse_item_handles::items::ProgramTree;
+use verse_texts::endings::ending_text;
+use verse_texts::refusals::refusal_text;
 use verse_tree::names::Text;
 use verse_value::runs::Ending;
+use verse_words::commands::{Request, Running};
 
-const FIRST_PLACE: Place = Place {
-    file: 0,
-    line: 1,
-    col: 1,
-};
+/// E002: a file has more bytes than a file may have.
+const TOO_LARGE: Rule = Rule(2);
 
 /// A status, and the text that goes with it.
 #[derive(Drop)]
@@ -35,79 +38,99 @@ pub(crate) struct Answer {
     pub(crate) text: Vec<u8>,
 }
 
-/// What running the file answers, with so many steps to spend.
-#[tactic(auto, using(crate::proofs::AnswerLaws::answers_large, crate::proofs::AnswerLaws::answers_refused))]
-pub(crate) fn run_file(alloc: Global, bytes: &[u8], steps: u64) -> Result<Answer, Memory>
-    ensures { IfOk result (λ a. (file : List ℕ) (o : Options) → o.steps ≡ steps → Answers (run file o) bytes.now a.status a.text.items) }
+/// Over files that tell what they hold a command has one answer.
+pub fn answered_once()
+    ensures { AnsweredOnce }
+{}
+
+/// What the request answers, where its files hold these bytes.
+#[tactic(auto, using(crate::proofs::AnswerLaws::answers_refused))]
+pub(crate) fn answer_to(
+    alloc: Global,
+    request: Request<'_>,
+    files: &[Vec<u8>],
+) -> Result<Answer, Memory>
+    requires { length files.now ≤ 16 }
+    ensures { IfOk result (λ a. (held : Holding) (c : Command) → AsksFor request.entry c → AreLoaded held (files_of c) (map (λ f. f.items) files.now) → Answers held c a.status a.text.items) }
 {
-    if bytes.len() > MOST_FILE_BYTES {
-        return Ok(refused(alloc, Rule(2), FIRST_PLACE)?);
-    }
-    match items_of(alloc, bytes) {
-        Ok(items) => run_items(alloc, bytes, items.as_slice(), steps),
-        Err(Front::Refused(refusal)) => Ok(refused(alloc, refusal.rule, refusal.place)?),
+    match accept(alloc, files) {
+        Ok(tree) => accepted(alloc, request, tree),
+        Err(Front::Refused(refusal)) => refused(alloc, request.files(), refusal),
         Err(Front::Memory) => Err(Memory),
     }
 }
 
-/// What running the items of the file answers.
-#[tactic(auto, using(crate::proofs::AnswerLaws::answers_unbuilt, crate::proofs::AnswerLaws::answers_run))]
-fn run_items(alloc: Global, bytes: &[u8], items: &[Item], steps: u64) -> Result<Answer, Memory>
-    requires { Parses bytes.now (map item_of items.now) }
-    ensures { IfOk result (λ a. (file : List ℕ) (o : Options) → o.steps ≡ steps → Answers (run file o) bytes.now a.status a.text.items) }
+/// What the request answers to an accepted program.
+#[tactic(auto, using(crate::proofs::AnswerLaws::answers_checked))]
+fn accepted(alloc: Global, request: Request<'_>, tree: ProgramTree) -> Result<Answer, Memory>
+    ensures { IfOk result (λ a. (held : Holding) (c : Command) (files : List (List ℕ)) → AsksFor request.entry c → AreLoaded held (files_of c) files → Accepts files (map item_of tree.items)
+        → tree.files ≡ length files → Answers held c a.status a.text.items) }
 {
-    match unbuilt(items) {
-        Some(place) => Ok(refused(alloc, Rule(99), place)?),
-        None => {
-            let texts = printed(alloc, items)?;
-            Ok(run_texts(alloc, texts.as_slice(), steps)?)
-        }
+    match request {
+        Request::Run(running) => run(alloc, running, tree),
+        Request::Check(_) => Ok(checked(alloc)?),
     }
 }
 
-fn refused(alloc: Global, rule: Rule, place: Place) -> Result<Answer, Memory>
-    requires { IsSome (rule_text_of rule.0) }
-    ensures { IfOk result (λ a. (a.status ≡ 1) × (a.text.items ≡ refusal_line rule.0 place)) }
+fn checked(alloc: Global) -> Result<Answer, Memory>
+    ensures { IfOk result (λ a. (a.status ≡ 0) × (a.text.items ≡ ok_line)) }
 {
     let mut text = Vec::new(alloc);
-    line_and_column(place, &mut text)?;
-    text.push(b' ')?;
-    push_code(rule, &mut text)?;
-    text.push(b' ')?;
-    text.extend_from_slice(rule_text(rule).as_bytes())?;
-    text.push(b'\n')?;
+    text.extend_from_slice(b"= ok\n")?;
+    Ok(Answer { status: 0, text })
+}
+
+/// The run of a program that prints texts.
+fn run(alloc: Global, running: Running<'_>, tree: ProgramTree) -> Result<Answer, Memory>
+    ensures { IfOk result (λ a. (held : Holding) (c : Command) (files : List (List ℕ)) → AsksForRun running.entry c → AreLoaded held (files_of c) files → Accepts files (map item_of tree.items)
+        → tree.files ≡ length files → Answers held c a.status a.text.items) }
+{
+    let tree = tree.get();
+    let texts = printed(alloc, tree.items.as_slice())?;
+    run_texts(alloc, texts.as_slice(), running.steps, tree.files)
+}
+
+fn refused(alloc: Global, names: &[String], refusal: Refusal) -> Result<Answer, Memory>
+    requires { IsSome (rule_text_of refusal.rule.0) }
+    ensures { IfOk result (λ a. (a.status ≡ 1) × (a.text.items ≡ refusal_line (map string_bytes names.now) refusal)) }
+{
+    let text = refusal_text(alloc, names, refusal)?;
     Ok(Answer { status: 1, text })
 }
 
-fn push_code(rule: Rule, out: &mut Vec<u8>) -> Result<(), Memory>
-    ensures { OnOk result (out.new.items ≡ out.old.items ++ rule_code rule.0) }
+/// The refusal of the file of this number, which is too large.
+pub(crate) fn too_large(alloc: Global, names: &[String], file: u32) -> Result<Answer, Memory>
+    ensures { IfOk result (λ a. (a.status ≡ 1) × (a.text.items ≡ refusal_line (map string_bytes names.now) (refusal 2 (first_place file)))) }
 {
-    out.extend_from_slice(b"E0")?;
-    if rule.0 < 10 {
-        out.push(b'0')?;
-    }
-    natural(u64::from(rule.0), out)?;
-    Ok(())
+    let place = Place {
+        file,
+        line: 1,
+        col: 1,
+    };
+    refused(
+        alloc,
+        names,
+        Refusal {
+            rule: TOO_LARGE,
+            place,
+        },
+    )
 }
 
-fn run_texts(alloc: Global, texts: &[Text], steps: u64) -> Result<Answer, Memory>
+/// The run of a program in so many files that prints these texts and has no cells.
+fn run_texts(alloc: Global, texts: &[Text], steps: u64, files: u32) -> Result<Answer, Memory>
     ensures status { IfOk result (λ a. a.status ≡ ending_status (mean texts.now steps).ending) }
-    ensures text { IfOk result (λ a. a.text.items ≡ run_text 1 (mean texts.now steps)) }
+    ensures text { IfOk result (λ a. (heap : Bool) → a.text.items ≡ run_text (mean texts.now steps) heap files) }
 {
     if steps == 0 {
-        let text = ending_text(alloc, Ending::Steps, 1, 0, 0, 0)?;
+        let text = ending_text(alloc, Ending::Steps, files, 0, 0, 0)?;
         return Ok(Answer { status: 3, text });
     }
     let mut text = Vec::new(alloc);
     for line in texts {
         trace_line(0, line.as_slice(), &mut text)?;
     }
-    let ending = ending_text(alloc, Ending::Done, 1, 0, 1, 0)?;
+    let ending = ending_text(alloc, Ending::Done, files, 0, 1, 0)?;
     text.extend_from_slice(ending.as_slice())?;
     Ok(Answer { status: 0, text })
 }
-
-/// What is loaded has one answer.
-pub fn answered_once()
-    ensures { AnsweredOnce }
-{}

@@ -1,17 +1,13 @@
 //! All that the program does, as one call.
+//!
+//! To be read in this order: `call`, the top call; `answers`, what a command answers; `loading`,
+//! its files.
 #![tactic(auto)]
 
 pub mod answers;
 mod call;
-pub mod commands;
-pub mod endings;
-mod numbers;
-mod options;
-mod programs;
+mod loading;
 
 pub use call::verse;
-pub use commands::words_fit;
-pub use endings::ending_text;
-
-#[cfg(test)]
-mod tests;
+pub use verse_texts::endings::ending_text;
+pub use verse_words::commands::words_fit;

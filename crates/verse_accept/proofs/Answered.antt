@@ -1,0 +1,90 @@
+-- A file has at most one result: each layer of the front end has one.
+use Rattle.std.proofs.Common.{◌≡◌, ℕ, List, [], Option, Some, None, sym, ap, subst, ◌∙◌, drop, arith, refl}
+use Rattle.std.proofs.lemmas.Option.{same_Some}
+use Rattle.verse_base.specs.declared.places.Place.{Place}
+use Rattle.verse_base.specs.declared.refusals.Refusal.{Refusal}
+use Rattle.verse_lex.specs.declared.tokens.Token.{Token}
+use Rattle.verse_lex.proofs.Unique as tokens
+use Rattle.verse_layout.specs.declared.toks.Tok.{Tok}
+use Rattle.verse_layout.proofs.Answers.{one_layout}
+use Rattle.verse_layout_laws.proofs.Unique as layout
+use Rattle.verse_tree.specs.ItemTree.{ItemTree}
+use Rattle.verse_tree.specs.PostOrder.{program_order}
+use Rattle.verse_grammar.specs.Toks.{ahead}
+use Rattle.verse_expr.specs.Faults.{stop_rule}
+use Rattle.verse_built.specs.Built.{first_unbuilt}
+use Rattle.verse_accept.specs.Stages.{OneResult, in_turn}
+use Rattle.verse_accept.specs.Fronts.{Cut, Laid, sized, cutting, laying, spelling, joining, building, to_sized, to_cut, to_laid, to_spelled, to_joined, front_end, IsStuck, tok_place, refusal}
+use Rattle.verse_accept.proofs.OneByOne.{one_followed, one_in_turn}
+use Rattle.verse_accept.proofs.StuckToks.{stuck_once, stuck_or_spelled}
+
+one_size : (file : ℕ) → OneResult (sized file)
+one_size file = record {
+  value = λ a b c x y. x.0 ∙ sym y.0;
+  refusal = λ a r q x y. x.1 ∙ sym y.1;
+  apart = λ a b r x y. let small = x.1 in let large = y.0 in omega arith;
+}
+
+same_cut : (b c : Cut) → b.bytes ≡ c.bytes → b.tokens ≡ c.tokens → b ≡ c
+same_cut b c e f = ap (λ x. record { bytes = x; tokens = b.tokens }) e ∙ ap (λ y. record { bytes = c.bytes; tokens = y }) f
+
+same_laid : (b c : Laid) → b.bytes ≡ c.bytes → b.toks ≡ c.toks → b ≡ c
+same_laid b c e f = ap (λ x. record { bytes = x; toks = b.toks }) e ∙ ap (λ y. record { bytes = c.bytes; toks = y }) f
+
+one_cutting : (file : ℕ) → OneResult (cutting file)
+one_cutting file = record {
+  value = λ a b c x y. same_cut b c (x.0 ∙ sym y.0) (tokens.one_cut file a b.tokens c.tokens x.1 y.1);
+  refusal = λ a r q x y. tokens.one_refusal file a r q x y;
+  apart = λ a b r x y. tokens.cut_or_refused file a b.tokens r x.1 y;
+}
+
+one_laying : (file : ℕ) → OneResult (laying file)
+one_laying file = record {
+  value = λ a b c x y. same_laid b c (x.0 ∙ sym y.0) (one_layout a.bytes a.tokens b.toks c.toks x.1 y.1);
+  refusal = λ a r q x y. layout.one_refusal a.bytes a.tokens r q x y;
+  apart = λ a b r x y. layout.laid_or_refused a.bytes a.tokens b.toks r x.1 y;
+}
+
+same_stop : (file : ℕ) (bytes : List ℕ) (ks : List Tok) (i j : ℕ) (r q : Refusal) → IsStuck ks i → IsStuck ks j →
+    r ≡ refusal (stop_rule (ahead (drop i ks))) (tok_place file bytes ks i) → q ≡ refusal (stop_rule (ahead (drop j ks))) (tok_place file bytes ks j) → r ≡ q
+same_stop file bytes ks i j r q x y e f =
+    e ∙ ap (λ (n : ℕ). refusal (stop_rule (ahead (drop n ks))) (tok_place file bytes ks n)) (stuck_once ks i j x y) ∙ sym f
+
+one_spelling : (file : ℕ) → OneResult (spelling file)
+one_spelling file = record {
+  value = λ a b c x y. y.1 b x.0;
+  refusal = λ a r q x y. same_stop file a.bytes a.toks x.0 y.0 r q x.1 y.1 x.2 y.2;
+  apart = λ a b r x y. stuck_or_spelled a.bytes a.toks b y.0 x.0 y.1;
+}
+
+one_joining : OneResult joining
+one_joining = record {
+  value = λ a b c x y. x ∙ sym y;
+  refusal = λ a r q x y. absurd x;
+  apart = λ a b r x y. y;
+}
+
+same_place : (is : List ItemTree) (p q : Place) (r u : Refusal) → first_unbuilt (program_order is) ≡ Some p → first_unbuilt (program_order is) ≡ Some q → r ≡ refusal 99 p → u ≡ refusal 99 q → r ≡ u
+same_place is p q r u e f g h = g ∙ ap (λ (x : Place). refusal 99 x) (same_Some p q (sym e ∙ f)) ∙ sym h
+
+built_or_not : (is : List ItemTree) (p : Place) → first_unbuilt (program_order is) ≡ None → first_unbuilt (program_order is) ≡ Some p → ⊥
+built_or_not is p e f = let x : None ≡ Some p = sym e ∙ f in cc
+
+one_building : OneResult building
+one_building = record {
+  value = λ a b c x y. x.0 ∙ sym y.0;
+  refusal = λ a r q x y. same_place a x.0 y.0 r q x.1 y.1 x.2 y.2;
+  apart = λ a b r x y. built_or_not a y.0 x.1 y.1;
+}
+
+pub one_front_end : OneResult front_end
+one_front_end =
+    one_followed to_joined building
+    (one_followed to_spelled joining
+    (one_followed to_laid (in_turn spelling)
+    (one_followed to_cut (in_turn laying)
+    (one_followed to_sized (in_turn cutting) (one_in_turn sized one_size) (one_in_turn cutting one_cutting))
+    (one_in_turn laying one_laying))
+    (one_in_turn spelling one_spelling))
+    one_joining)
+    one_building

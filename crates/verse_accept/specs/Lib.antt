@@ -1,0 +1,4 @@
+pub mod Stages
+pub mod Fronts
+pub mod Ready
+pub mod Files

@@ -1,0 +1,12 @@
+//! The front end: the files of a program, from their bytes to the items that are accepted.
+//!
+//! To be read in this order: `programs`, the whole program; `turns`, a layer over all files in
+//! turn; `files`, the layers over one file. The lemmas of `Answered` in `proofs/` are the crate's
+//! own for those above.
+#![tactic(auto)]
+
+mod files;
+mod programs;
+mod turns;
+
+pub use programs::{accept, accepted_once};

@@ -1,0 +1,37 @@
+-- What comes of loading the files of a program one after another.
+use Rattle.std.specs.Prelude.{◌≡◌, ◌⊎◌, ℕ, suc, ◌+◌, ◌<◌, ◌≤◌, List, [], ◌∷◌, length}
+use Rattle.verse_base.specs.declared.limits.TheConstants.{MOST_FILE_BYTES}
+use Rattle.verse_outside.specs.Held.{Holding, Holds, Lacks, Loads}
+
+-- one byte more than a file may have shows that there are more
+abbrev pub most_bytes : ℕ
+most_bytes = MOST_FILE_BYTES + 1
+
+module _ (held : Holding) where
+  -- all are loaded, and none is too large
+  abbrev pub AreLoaded : (names files : List (List ℕ)) → Type 0
+  AreLoaded [] [] = Unit {0}
+  AreLoaded [] (b ∷ bs) = ⊥
+  AreLoaded (f ∷ fs) [] = ⊥
+  AreLoaded (f ∷ fs) (b ∷ bs) = Loads held f most_bytes b × ((length b ≤ MOST_FILE_BYTES) × AreLoaded fs bs)
+
+  -- the first file that is too large, by its number, where the first of these files has the number n; those before it are loaded
+  abbrev pub IsTooLarge : ℕ → List (List ℕ) → ℕ → Type 0
+  IsTooLarge n [] file = ⊥
+  IsTooLarge n (f ∷ fs) file =
+      (b : List ℕ) × (Loads held f most_bytes b × (((MOST_FILE_BYTES < length b) × (file ≡ n)) ⊎ ((length b ≤ MOST_FILE_BYTES) × IsTooLarge (suc n) fs file)))
+
+  -- the first name under which nothing is held; the files before it are loaded
+  abbrev pub IsAbsent : List (List ℕ) → List ℕ → Type 0
+  IsAbsent [] name = ⊥
+  IsAbsent (f ∷ fs) name =
+      (Lacks held f × (name ≡ f)) ⊎ ((b : List ℕ) × (Loads held f most_bytes b × ((length b ≤ MOST_FILE_BYTES) × IsAbsent fs name)))
+
+  -- something is held under each name
+  abbrev pub AreHeld : List (List ℕ) → Type 0
+  AreHeld [] = Unit {0}
+  AreHeld (f ∷ fs) = ((all : List ℕ) × Holds held f all) × AreHeld fs
+
+abbrev pub IsAmong : List ℕ → List (List ℕ) → Type 0
+IsAmong name [] = ⊥
+IsAmong name (f ∷ fs) = (name ≡ f) ⊎ IsAmong name fs

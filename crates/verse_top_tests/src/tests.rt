@@ -1,0 +1,188 @@
+use crate::telling::told;
+use std::alloc::Global;
+use std::test::Fail;
+use verse_base::places::Place;
+use verse_base::refusals::Kind;
+use verse_outside::memory_files::MemFiles;
+use verse_outside::memory_sinks::MemSink;
+use verse_top::answers::answered_once;
+use verse_top::ending_text;
+use verse_value::runs::Ending;
+
+// the status, the words, the files as `NAME=TEXT` with bars between them, and what is written; `~` is a
+// line feed, `^` a tab and `!` the byte FF
+const ROWS: &str =
+    "0`run a.verse`a.verse=Main():void =~    Print(\"hi\")~`0 hi~= done at 0 steps 1 live 0~
+0`run a.verse`a.verse=Main():void =~    Print(\"hi\")`0 hi~= done at 0 steps 1 live 0~
+0`run a.verse`a.verse=Main():void = {}`= done at 0 steps 1 live 0~
+0`run a.verse`a.verse=Main():void = { Print(\"a\"); Print(\"b\") }`0 a~0 b~= done at 0 steps 1 live 0~
+0`run a.verse`a.verse=Main():void = {~  Print(\"a\")~  Print(\"b\")~}~`0 a~0 b~= done at 0 steps 1 live 0~
+0`run a.verse`a.verse=<# c #> Main ( ) : void = # c~~  Print ( \"a\\{b\" ) ~`0 a{b~= done at 0 steps 1 live 0~
+0`run a.verse`a.verse=Main():void =~    Print(\"a\\n\\\\\")~`0 a\\n\\\\~= done at 0 steps 1 live 0~
+0`run a.verse --in 1,-2 --heap --until 0 --steps 1`a.verse=Main():void =~    Print(\"hi\")~    Print(\"\")`0 hi~0 ~= done at 0 steps 1 live 0~
+3`run a.verse --steps 0`a.verse=Main():void =~    Print(\"hi\")~`= steps at 0 steps 0~
+6`run x`a.verse=Main():void =~    Print(\"hi\")~`= read x~
+1`run a.verse`a.verse=!`1:1 E001 not UTF-8~
+1`run a.verse`a.verse=Main():void = @`1:15 E010 unexpected character~
+1`run a.verse`a.verse=Main():void = Print(\"a`1:21 E011 text not closed~
+1`run a.verse`a.verse=Main():void =~    Print(\"a{b\")`2:11 E011 text not closed~
+1`run a.verse`a.verse=<# a`1:1 E012 comment not closed~
+1`run a.verse`a.verse=Main():void =~    Print(\"\\q\")`2:12 E013 unknown escape~
+1`run a.verse`a.verse=Main():void =~    X := 9223372036854775808`2:10 E014 integer too large~
+1`run a.verse`a.verse=Main()<suspends>:void =~    Sleep(0.0005)`2:11 E015 duration out of range~
+1`run a.verse`a.verse=Main():void = 'ab'`1:15 E016 bad character literal~
+1`run a.verse`a.verse=Main():void =~    Print(\"a\")~^Print(\"b\")`3:2 E020 bad indentation~
+1`run a.verse`a.verse=Main():void =`1:14 E020 bad indentation~
+1`run a.verse`a.verse=Main():void = (1`1:15 E021 bracket not matched~
+1`run a.verse`a.verse=Main():void = 1 2`1:17 E030 unexpected token~
+1`run a.verse`a.verse=Main():void`1:12 E030 unexpected token~
+1`run a.verse`a.verse=f := interface {}`1:6 E069 not part of this profile~
+1`run a.verse`a.verse=Main()<suspends>:void =~    race:~        defer:~            Print(\"a\")`3:9 E030 unexpected token~
+1`run a.verse`a.verse=`1:1 E099 not built yet~
+1`run a.verse`a.verse=F():void = {}`1:1 E099 not built yet~
+1`run a.verse`a.verse=Main():void = {}~Main():void = {}`1:1 E099 not built yet~
+1`run a.verse`a.verse=Main():void = 1`1:15 E099 not built yet~
+1`run a.verse`a.verse=Main(X:int):void = {}`1:6 E099 not built yet~
+1`run a.verse`a.verse=Main(X:c):void = {}`1:8 E099 not built yet~
+1`run a.verse`a.verse=Main():void =~    Log(\"a\")`2:5 E099 not built yet~
+1`run a.verse`a.verse=Main():void =~    Print(\"a\", \"b\")`2:10 E099 not built yet~
+1`run a.verse`a.verse=Main():void =~    Print(\"a{1}\")`2:14 E099 not built yet~
+2``a.verse=Main():void =~    Print(\"hi\")~`= words~
+2`run`a.verse=Main():void =~    Print(\"hi\")~`= words~
+2`run -x`a.verse=Main():void =~    Print(\"hi\")~`= words~
+2`run a.verse --steps 1 --steps 2`a.verse=Main():void =~    Print(\"hi\")~`= words~
+2`run a.verse --steps 01`a.verse=Main():void =~    Print(\"hi\")~`= words~
+2`run a.verse --steps 100000001`a.verse=Main():void =~    Print(\"hi\")~`= words~
+2`run a.verse --until 1000000000001`a.verse=Main():void =~    Print(\"hi\")~`= words~
+2`run a.verse --in 1,,2`a.verse=Main():void =~    Print(\"hi\")~`= words~
+2`run a.verse --in -0`a.verse=Main():void =~    Print(\"hi\")~`= words~
+2`run a.verse --in 9223372036854775808`a.verse=Main():void =~    Print(\"hi\")~`= words~
+0`check a.verse`a.verse=Main():void =~    Print(\"hi\")~`= ok~
+1`check a.verse`a.verse=Main():void = 1`1:15 E099 not built yet~
+1`check a.verse`a.verse=Main():void = 1 2`1:17 E030 unexpected token~
+6`check x`a.verse=Main():void =~    Print(\"hi\")~`= read x~
+2`check a.verse --heap`a.verse=Main():void =~    Print(\"hi\")~`= words~
+2`check`a.verse=Main():void =~    Print(\"hi\")~`= words~
+0`check a b`a=|b=Main():void =~    Print(\"hi\")~`= ok~
+0`run a b`a=|b=Main():void =~    Print(\"hi\")~`0 hi~= done at 0 steps 1 live 0~
+0`run b a --heap`a=|b=Main():void =~    Print(\"hi\")~`0 hi~= done at 0 steps 1 live 0~
+3`run a b --steps 0`a=|b=Main():void =~    Print(\"hi\")~`= steps at 0 steps 0~
+1`run a b`a=Main():void =~    Print(\"hi\")~|b=Main():void =~    Print(\"hi\")~`a:1:1 E099 not built yet~
+1`run a b`a=Main():void = 1 2|b=@`b:1:1 E010 unexpected character~
+1`run a b`a=Main():void = (1|b=@`b:1:1 E010 unexpected character~
+1`run a b`a=Main():void = 1 2|b=F():void =`b:1:11 E020 bad indentation~
+1`run a b`a=F():void = 1 2|b=G():void = 1 2`a:1:14 E030 unexpected token~
+1`run a b`a=Main():void = 1|b=G():void = 1 2`b:1:14 E030 unexpected token~
+1`run a b`a=|b=Main():void =~    Log(\"a\")`b:2:5 E099 not built yet~
+6`run a x b`a=@|b=Main():void =~    Print(\"hi\")~`= read x~
+6`run x y`a=Main():void =~    Print(\"hi\")~`= read x~
+1`run a a`a=@`a:1:1 E010 unexpected character~
+2`run a b c d e f g h i j k l m n o p q`a=Main():void =~    Print(\"hi\")~`= words~";
+
+fn lines(alloc: Global, text: &str) -> Result<Vec<u8>, Fail> {
+    let mut bytes = Vec::new(alloc);
+    for byte in text.as_bytes() {
+        bytes.push(match *byte {
+            b'~' => b'\n',
+            b'^' => b'\t',
+            b'!' => 255,
+            other => other,
+        })?;
+    }
+    Ok(bytes)
+}
+
+fn words(alloc: Global, text: &str) -> Result<Vec<String>, Fail> {
+    let mut words = Vec::new(alloc);
+    for word in text.split_whitespace() {
+        words.push(String::from_str(alloc, word)?)?;
+    }
+    Ok(words)
+}
+
+fn files_of(alloc: Global, text: &str) -> Result<MemFiles, Fail> {
+    let mut files = MemFiles::new(alloc);
+    for file in text.split('|') {
+        let (name, text) = file.split_once('=').ok_or("a name and a text")?;
+        files.add(name, lines(alloc, text)?.as_slice())?;
+    }
+    Ok(files)
+}
+
+#[test]
+fn rows_are_told(rt: HostRuntime) -> Result<(), Fail> {
+    let alloc = rt.alloc();
+    answered_once();
+    let mut count = 0u64;
+    for row in ROWS.lines() {
+        let (status, rest) = row.split_once('`').ok_or("a status")?;
+        let (command, rest) = rest.split_once('`').ok_or("words")?;
+        let (files, text) = rest.split_once('`').ok_or("files and a text")?;
+        let status = status.parse::<u8>().map_err(|_| "a number")?;
+        let mut files = files_of(alloc, files)?;
+        let mut out = MemSink::new(alloc, 1000, 1000)?;
+        let command = words(alloc, command)?;
+        let result = told(alloc, command.as_slice(), &mut files, &mut out);
+        assert_eq!(rt; result, status, "{row}");
+        assert_eq!(rt; out.taken(), lines(alloc, text)?.as_slice(), "{row}");
+        count = count.saturating_add(1);
+    }
+    assert_eq!(rt; count, 66);
+    Ok(())
+}
+
+#[test]
+fn faults_and_great_files(rt: HostRuntime) -> Result<(), Fail> {
+    let alloc = rt.alloc();
+    let hi = "Main():void =~    Print(\"hi\")~";
+    let command = words(alloc, "run a.verse")?;
+    let mut files = MemFiles::new(alloc);
+    files.add("a.verse", lines(alloc, hi)?.as_slice())?;
+    files.fail_at(1)?;
+    let mut out = MemSink::new(alloc, 1000, 1000)?;
+    assert_eq!(rt; told(alloc, command.as_slice(), &mut files, &mut out), 0);
+    assert_eq!(rt; told(alloc, command.as_slice(), &mut files, &mut out), 6);
+    assert_eq!(rt;
+        out.taken(),
+        b"0 hi\n= done at 0 steps 1 live 0\n= read a.verse\n".as_slice()
+    );
+    let mut failing = MemSink::new(alloc, 1000, 1)?;
+    failing.fail_at(2)?;
+    assert_eq!(rt;
+        told(alloc, command.as_slice(), &mut files, &mut failing),
+        7
+    );
+    assert_eq!(rt; failing.taken(), b"0 ".as_slice());
+    // a file that is too large decides before what stands behind it is loaded
+    let mut great = MemFiles::new(alloc);
+    great.add("a", b"@".as_slice())?;
+    great.add("b", vec![in alloc; b' '; 1048577]?.as_slice())?;
+    let command = words(alloc, "check a b x")?;
+    let mut out = MemSink::new(alloc, 1000, 1000)?;
+    assert_eq!(rt; told(alloc, command.as_slice(), &mut great, &mut out), 1);
+    assert_eq!(rt; out.taken(), b"b:1:1 E002 file too large\n".as_slice());
+    Ok(())
+}
+
+#[test]
+fn endings_are_told(rt: HostRuntime) -> Result<(), Fail> {
+    let alloc = rt.alloc();
+    let place = Place {
+        file: 1,
+        line: 3,
+        col: 53,
+    };
+    let error = Ending::Error(Kind::Overflow, place);
+    let mut text = Vec::new(alloc);
+    text.extend_from_slice(ending_text(alloc, Ending::Done, 1, 20000, 17, 0)?.as_slice())?;
+    text.extend_from_slice(ending_text(alloc, Ending::Waiting, 1, 0, 1, 1)?.as_slice())?;
+    text.extend_from_slice(ending_text(alloc, Ending::Until, 1, 1000, 4, 1)?.as_slice())?;
+    text.extend_from_slice(ending_text(alloc, Ending::Steps, 1, 0, 3, 0)?.as_slice())?;
+    text.extend_from_slice(ending_text(alloc, error, 1, 0, 1, 0)?.as_slice())?;
+    text.extend_from_slice(ending_text(alloc, error, 2, 0, 1, 0)?.as_slice())?;
+    text.extend_from_slice(ending_text(alloc, Ending::Stuck, 1, 0, 1, 0)?.as_slice())?;
+    let expected =
+        "= done at 20000 steps 17 live 0~= waiting at 0 steps 1 live 1~= until at 1000 steps 4 live 1~= steps at 0 steps 3~= error K1 3:53 at 0 steps 1~= error K1 2:3:53 at 0 steps 1~= stuck at 0 steps 1~";
+    assert_eq!(rt; text.as_slice(), lines(alloc, expected)?.as_slice());
+    Ok(())
+}

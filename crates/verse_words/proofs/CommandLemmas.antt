@@ -1,0 +1,148 @@
+-- The words are one command.
+use Rattle.std.proofs.Common.{◌≡◌, ◌≢◌, ◌↔◌, ℕ, ℤ, Option, Some, None, List, [], ◌∷◌, ◌++◌, codes, refl, sym, ap, ◌∙◌, subst, ◌≤◌, length, unwrap_or, Result, Ok, Err, IfOk, false, map, string_bytes, option_copied, append-nil}
+use Rattle.std.specs.Str.{bytes_eq}
+use Rattle.std.proofs.lemmas.Slice.Eq.{bytes_eq-Decides}
+use Rattle.verse_words.specs.Words.{AreFiles, Command, EachIsFile, Given, Gives, Inputs, IsIntList, SayOnce, Says, listed, no_options, not_given, Options, options_of, run, check, says_run, says_check}
+use Rattle.verse_words.specs.Requests.{AsksFor, AsksForRun, BeginsWithNoFile, options_with}
+use Rattle.verse_words.specs.declared.commands.Request.TheVariants as request
+use Rattle.verse_words.specs.declared.commands.Running.{Running}
+use Rattle.verse_words.proofs.FileLemmas.{Same, options_begin, parted_once}
+use Rattle.verse_words.proofs.NumberLemmas.{Lists, list_once}
+use Rattle.verse_words.proofs.OptionLemmas.{gives_once}
+
+pub inputs_once : {word : Option (List ℕ)} {ns ms : List ℤ} → Inputs word ns → Inputs word ms → ns ≡ ms
+inputs_once not_given not_given = refl
+inputs_once (listed l few) (listed m less) = list_once l m
+
+pub listed_of : {word : List ℕ} {ns : List ℤ} → Inputs (Some word) ns → IsIntList word ns × (length ns ≤ 1000)
+listed_of (listed l few) = (l, few)
+
+-- the words are a command's name, the names of files, and words that begin with none
+pub record Parted (words : List (List ℕ)) (command : List ℕ) (files options : List (List ℕ)) : Type 0 where
+  pub is : words ≡ command ∷ files ++ options
+  pub each : EachIsFile files
+  pub behind : BeginsWithNoFile options
+
+-- files and options of a run
+pub record Runs (files options : List (List ℕ)) (c : Command) : Type 0 where
+  pub are : AreFiles files
+  pub given : Given
+  pub ints : List ℤ
+  pub gives : Gives no_options options given
+  pub lists : Inputs given.inputs ints
+  pub runs : c ≡ run files (options_of given ints)
+
+pub record Checks (files options : List (List ℕ)) (c : Command) : Type 0 where
+  pub are : AreFiles files
+  pub none : options ≡ []
+  pub checks : c ≡ check files
+
+other_word : (a b : List ℕ) → bytes_eq a b ≡ false → a ≡ b → ⊥
+other_word a b different e = let same = (bytes_eq-Decides a b).1 e in cc
+
+pub run_of : {words files options : List (List ℕ)} {c : Command} → Says words c → Parted words (codes "run") files options → Runs files options c
+run_of {files = files} {options = options} (says_run {files = names} {words = behind} {g = given} {ns = ints} are gives lists) p =
+    let same = parted_once names files behind options are.each p.each (options_begin gives) p.behind (cc p.is) in
+    record {
+      are = subst AreFiles same.files_are are;
+      given = given;
+      ints = ints;
+      gives = subst (λ ws. Gives no_options ws given) same.words_are gives;
+      lists = lists;
+      runs = ap (λ fs. run fs (options_of given ints)) same.files_are;
+    }
+run_of {files = files} {options = options} (says_check are) p = absurd (other_word (codes "check") (codes "run") refl (cc p.is))
+
+pub check_of : {words files options : List (List ℕ)} {c : Command} → Says words c → Parted words (codes "check") files options → Checks files options c
+check_of {files = files} {options = options} (says_run are gives lists) p = absurd (other_word (codes "run") (codes "check") refl (cc p.is))
+check_of {files = files} {options = options} (says_check {files = names} are) p =
+    let same = parted_once names files [] options are.each p.each tt p.behind (append-nil names ∙ cc p.is) in
+    record { are = subst AreFiles same.files_are are; none = sym same.words_are; checks = ap check same.files_are }
+
+-- only these words begin a command
+pub neither : {words files options : List (List ℕ)} {c : Command} (word : List ℕ) → Says words c → Parted words word files options → word ≢ codes "run" → word ≢ codes "check" → ⊥
+neither word (says_run are gives lists) p r k = r (cc p.is)
+neither word (says_check are) p r k = k (cc p.is)
+
+pub files_are : {words files options : List (List ℕ)} {c : Command} (word : List ℕ) → Says words c → Parted words word files options → AreFiles files
+files_are {files = files} {options = options} word (says_run {files = names} {words = behind} are gives lists) p =
+    subst AreFiles (parted_once names files behind options are.each p.each (options_begin gives) p.behind (cc p.is)).files_are are
+files_are {files = files} {options = options} word (says_check {files = names} are) p =
+    subst AreFiles (parted_once names files [] options are.each p.each tt p.behind (append-nil names ∙ cc p.is)).files_are are
+
+same_runs : (files options : List (List ℕ)) (a b : Command) → Runs files options a → Runs files options b → a ≡ b
+same_runs files options a b p q =
+    let given : q.given ≡ p.given = gives_once q.gives p.gives in
+    let ints : p.ints ≡ q.ints = inputs_once p.lists (subst (λ g. Inputs g.inputs q.ints) given q.lists) in
+    cc (p.runs, q.runs)
+
+pub say_once : SayOnce
+say_once words a b (says_run {files = files} {words = options} {g = given} {ns = ints} are gives lists) t =
+    let own : Runs files options (run files (options_of given ints)) = record { are = are; given = given; ints = ints; gives = gives; lists = lists; runs = refl } in
+    same_runs files options (run files (options_of given ints)) b own (run_of t (record { is = refl; each = are.each; behind = options_begin gives }))
+say_once words a b (says_check {files = files} are) t =
+    sym (check_of {options = []} t (record { is = ap (λ fs. codes "check" ∷ fs) (sym (append-nil files)); each = are.each; behind = tt })).checks
+
+pub inputs_listed : (given : Option (List ℕ)) (word : List ℕ) → given ≡ Some word → Lists 1000 word ↔ ((ns : List ℤ) × Inputs given ns)
+inputs_listed None word e = absurd (cc)
+inputs_listed (Some other) word e = (
+  λ (f : Lists 1000 word). (let same : word ≡ other = cc in (f.0, listed (subst (λ w. IsIntList w f.0) same f.1) f.2)),
+  λ (f : (ns : List ℤ) × Inputs (Some other) ns). (let same : other ≡ word = cc in let g = listed_of f.1 in (f.0, subst (λ w. IsIntList w f.0) same g.0, g.1)),
+)
+
+pub inputs_absent : (given : Option (List ℕ)) → given ≡ None → (ns : List ℤ) × Inputs given ns
+inputs_absent None e = ([], not_given)
+inputs_absent (Some word) e = absurd (cc)
+
+pub inputs_are : (given : Option (List ℕ)) (word : List ℕ) → given ≡ Some word → (ns : List ℤ) × Inputs given ns → (ms : List ℤ) → IsIntList word ms → Inputs given ms
+inputs_are given word e fits ms l =
+    let known = (inputs_listed given word e).1 fits in
+    let same : known.0 ≡ ms = list_once known.1 l in
+    subst (λ g. Inputs g ms) (sym e) (listed l (subst (λ ks. length ks ≤ 1000) same known.2))
+
+pub ok_then : {T E : Type 0} (r : Result T E) (P Q : T → Type 0) → ((x : T) → P x → Q x) → IfOk r P → IfOk r Q
+ok_then (Ok x) P Q f h = f x h
+ok_then (Err e) P Q f h = tt
+
+-- the words of a run of these files
+abbrev pub run_words : List (List ℕ) → List (List ℕ) → List (List ℕ)
+run_words files options = codes "run" ∷ files ++ options
+
+module _ (files options : List (List ℕ)) (are : AreFiles files) (behind : BeginsWithNoFile options) where
+  parted : Parted (run_words files options) (codes "run") files options
+  parted = record { is = refl; each = are.each; behind = behind }
+
+  -- no run, since the options are none
+  pub no_given : ((g : Given) → ¬ (Gives no_options options g)) → (c : Command) → ¬ (Says (run_words files options) c)
+  no_given none c s = let p = run_of s parted in none p.given p.gives
+
+  -- nor where the word of the inputs lists none
+  pub no_inputs : (given : Given) → Gives no_options options given → ((ns : List ℤ) → ¬ (Inputs given.inputs ns)) → (c : Command) → ¬ (Says (run_words files options) c)
+  no_inputs given gives none c s =
+      let p = run_of s parted in
+      let same : p.given ≡ given = gives_once p.gives gives in
+      none p.ints (subst (λ g. Inputs g.inputs p.ints) same p.lists)
+
+  pub is_run : (given : Given) → Gives no_options options given → (ns : List ℤ) × Inputs given.inputs ns → (r : Running) → map string_bytes r.files.now ≡ files →
+      r.steps ≡ unwrap_or given.steps 10000000 → r.until ≡ unwrap_or given.until 1000000000000 → option_copied r.inputs ≡ given.inputs → r.heap ≡ given.heap →
+      (c : Command) × Says (run_words files options) c × AsksForRun r c
+  is_run given gives (ns, lists) r named steps until inputs heap =
+      let same : options_of given ns ≡ options_with r ns = cc in (
+        run files (options_of given ns),
+        says_run are gives lists,
+        record { ints = ns; lists = subst (λ (i : Option (List ℕ)). Inputs i ns) (sym inputs) lists; is = cc (named, same) },
+      )
+
+-- the words of a check of these files
+abbrev pub check_words : List (List ℕ) → List (List ℕ) → List (List ℕ)
+check_words files options = codes "check" ∷ files ++ options
+
+module _ (files options : List (List ℕ)) (are : AreFiles files) (behind : BeginsWithNoFile options) where
+  -- nothing stands behind the files of a check
+  pub no_check : options ≢ [] → (c : Command) → ¬ (Says (check_words files options) c)
+  no_check more c s = more (check_of s (record { is = refl; each = are.each; behind = behind })).none
+
+  pub is_check : options ≡ [] → (c : Command) × Says (check_words files options) c × (c ≡ check files)
+  is_check none =
+      let all : codes "check" ∷ files ≡ check_words files options = cc (none, append-nil files) in
+      (check files, subst (λ ws. Says ws (check files)) all (says_check are), refl)

@@ -1,0 +1,4 @@
+pub mod NumberLemmas
+pub mod OptionLemmas
+pub mod FileLemmas
+pub mod CommandLemmas

@@ -1,0 +1,100 @@
+-- The words of a command line, and the command that they are.
+use Rattle.std.specs.Prelude.{◌≡◌, ◌≢◌, ℕ, ◌≤◌, ℤ, List, [], ◌∷◌, ◌++◌, Bool, true, false, Option, Some, None, unwrap_or, length, codes, decimal, FitsSigned}
+use Rattle.std.specs.Fmt.{signed_decimal}
+use Rattle.std.specs.Int.{w64}
+
+pub record Options : Type 0 where
+  -- how many steps a run may spend
+  pub steps : ℕ
+  -- the horizon of the clock, in milliseconds
+  pub until : ℕ
+  -- what Main is given
+  pub inputs : List ℤ
+  -- whether the heap is written
+  pub heap : Bool
+
+pub data Command : Type 0 where
+  -- runs the program in the files of these names
+  run : (files : List (List ℕ)) → Options → Command
+  -- tells whether the program in these files is accepted
+  check : (files : List (List ℕ)) → Command
+
+-- the names of a command's files
+abbrev pub files_of : Command → List (List ℕ)
+files_of (run files o) = files
+files_of (check files) = files
+
+-- a file's name is not empty and does not begin with `-`
+pub data IsFile : List ℕ → Type 0 where
+  name : {b : ℕ} {bs : List ℕ} → b ≢ 45 → IsFile (b ∷ bs)
+
+abbrev pub EachIsFile : List (List ℕ) → Type 0
+EachIsFile [] = Unit {0}
+EachIsFile (w ∷ ws) = IsFile w × EachIsFile ws
+
+-- the names of the files of one program: 1 to 16
+pub record AreFiles (files : List (List ℕ)) : Type 0 where
+  pub each : EachIsFile files
+  pub some : 1 ≤ length files
+  pub few : length files ≤ 16
+
+-- a number is written in decimal, with no zero before it
+pub record IsNumber (most : ℕ) (word : List ℕ) (n : ℕ) : Type 0 where
+  pub spelled : word ≡ decimal n
+  pub within : n ≤ most
+
+-- an int is written in decimal, with `-` before a negative one
+pub record IsInt (word : List ℕ) (n : ℤ) : Type 0 where
+  pub spelled : word ≡ signed_decimal n
+  pub within : FitsSigned w64 n
+
+-- ints with commas between them
+pub data IsIntList : List ℕ → List ℤ → Type 0 where
+  last : {n : ℤ} {word : List ℕ} → IsInt word n → IsIntList word (n ∷ [])
+  more : {n : ℤ} {ns : List ℤ} {first rest : List ℕ} → IsInt first n → IsIntList rest ns → IsIntList (first ++ 44 ∷ rest) (n ∷ ns)
+
+-- the options given so far; the inputs by the word that lists them
+pub record Given : Type 0 where
+  pub steps : Option ℕ
+  pub until : Option ℕ
+  pub inputs : Option (List ℕ)
+  pub heap : Bool
+
+abbrev pub no_options : Given
+no_options = record { steps = None; until = None; inputs = None; heap = false }
+
+-- after the options before, these words give the options in the end: in any order, each at most once
+pub data Gives : Given → List (List ℕ) → Given → Type 0 where
+  none_left : {g : Given} → Gives g [] g
+  steps : {g h : Given} {value : List ℕ} {words : List (List ℕ)} (n : ℕ) → g.steps ≡ None → IsNumber 100000000 value n →
+      Gives (record g { steps = Some n }) words h → Gives g (codes "--steps" ∷ value ∷ words) h
+  until : {g h : Given} {value : List ℕ} {words : List (List ℕ)} (n : ℕ) → g.until ≡ None → IsNumber 1000000000000 value n →
+      Gives (record g { until = Some n }) words h → Gives g (codes "--until" ∷ value ∷ words) h
+  inputs : {g h : Given} {value : List ℕ} {words : List (List ℕ)} → g.inputs ≡ None →
+      Gives (record g { inputs = Some value }) words h → Gives g (codes "--in" ∷ value ∷ words) h
+  heap : {g h : Given} {words : List (List ℕ)} → g.heap ≡ false →
+      Gives (record g { heap = true }) words h → Gives g (codes "--heap" ∷ words) h
+
+-- what Main is given: the 1 to 1000 ints that the word of `--in` lists, and nothing without it
+pub data Inputs : Option (List ℕ) → List ℤ → Type 0 where
+  not_given : Inputs None []
+  listed : {word : List ℕ} {ns : List ℤ} → IsIntList word ns → length ns ≤ 1000 → Inputs (Some word) ns
+
+-- an option that is not given has its default
+abbrev pub options_of : Given → List ℤ → Options
+options_of g ns = record {
+  steps = unwrap_or g.steps 10000000;
+  until = unwrap_or g.until 1000000000000;
+  inputs = ns;
+  heap = g.heap;
+}
+
+-- the words after the program's name, and the command that they are
+pub data Says : List (List ℕ) → Command → Type 0 where
+  says_run : {files words : List (List ℕ)} {g : Given} {ns : List ℤ} → AreFiles files → Gives no_options words g → Inputs g.inputs ns →
+      Says (codes "run" ∷ files ++ words) (run files (options_of g ns))
+  says_check : {files : List (List ℕ)} → AreFiles files → Says (codes "check" ∷ files) (check files)
+
+-- no words are two commands
+abbrev pub SayOnce : Type 0
+SayOnce = (words : List (List ℕ)) (a b : Command) → Says words a → Says words b → a ≡ b
