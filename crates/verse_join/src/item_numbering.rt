@@ -15,9 +15,11 @@ use verse_handles::trees::Tree;
 use verse_item_handles::funs::{FunTree, Head, ParamTree, ParamTrees};
 use verse_item_handles::items::{ItemTree, ItemTrees};
 use verse_item_handles::members::{MemberTree, MemberTrees, member_field};
-use verse_numbering::copies::{copied, copied_names, copied_option, copied_path, copied_specs};
+use verse_numbered_parts::copies::{
+    copied, copied_names, copied_option, copied_path, copied_specs,
+};
+use verse_numbered_parts::type_numbering::number_type;
 use verse_numbering::numbering::number;
-use verse_numbering::type_numbering::number_type;
 use verse_tree::exprs::Expr;
 use verse_tree::items::{ClassItem, EnumItem, Field, Fun, Item, Member, Param, Spec, Using};
 use verse_tree::names::Name;

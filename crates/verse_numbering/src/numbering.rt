@@ -3,41 +3,32 @@
 
 ghost use Rattle.std.specs.Prelude.{◌≡◌, ◌≤◌, ◌+◌, map, IfOk};
 ghost use Rattle.std.specs.Option.{option_map};
-ghost use Rattle.verse_tree.specs.View.{tree_of, shape_of, two_of, typed_value_of, if_of, applied_of, for_of, cases_of, hole_of, pair_of, given_of, trees, holes, pairs, givens, return_shape, if_shape, event_shape};
+ghost use Rattle.verse_tree.specs.View.{tree_of, shape_of, two_of, typed_value_of, if_of, applied_of, for_of, cases_of, hole_of, pair_of, given_of, trees, holes, pairs, givens, return_shape, if_shape};
 ghost use Rattle.verse_tree.specs.Numbering.{nodes, shape_nodes, trees_nodes, holes_nodes, pairs_nodes, givens_nodes, written_nodes, numbered, shape_numbered, trees_numbered, holes_numbered, pairs_numbered, givens_numbered, written_numbered};
 ghost use Rattle.verse_tree.specs.Tree.{tree};
 ghost use Rattle.verse_tree.specs.Tree as t;
-ghost use Rattle.verse_numbering.specs.Kinds.{applied_shape, list_shape, named_shape, part_shape, two_shape, typed_shape};
+ghost use Rattle.verse_numbered_parts.specs.Kinds.{applied_shape, list_shape, named_shape, part_shape, two_shape, typed_shape};
 
-use crate::copies::copied;
-use crate::kinds::{
-    AppliedKind, ListKind, NamedKind, PartKind, TwoKind, TypedKind, applied_form, list_form,
-    named_form, part_form, range_form, two_form, typed_form,
-};
-use crate::type_numbering::number_type;
 use sqlite_items::Boxed;
 use std::alloc::Global;
 use verse_base::places::Place;
 use verse_base::refusals::Memory;
-use verse_handles::nodes::numbered_node;
 use verse_handles::parts::{Givens, Holes, Pairs};
 use verse_handles::trees::{Tree, Trees};
 use verse_nodes::parts::{alternative, choosing, returning, single, taking};
+use verse_numbered_parts::copies::copied;
+use verse_numbered_parts::kinds::{
+    AppliedKind, ListKind, NamedKind, PartKind, TwoKind, TypedKind, applied_form, list_form,
+    named_form, part_form, range_form, two_form, typed_form,
+};
+use verse_numbered_parts::leaves::{
+    made, number_enum_pattern, number_event, number_name, number_text, number_text_pattern,
+};
+use verse_numbered_parts::type_numbering::number_type;
 use verse_tree::exprs::{
     Applied, Cases, Expr, ForParts, Form, Given, Hole, IfParts, Pair, Two, TypedValue,
 };
 use verse_tree::names::{Name, Text};
-use verse_tree::types::TyExpr;
-
-/// A node with the number `node`, and the number behind it.
-fn made(alloc: Global, node: u32, place: Place, form: Form) -> Result<(Tree, u32), Memory>
-    requires fits { node + 1 ≤ 4294967295 }
-    ensures made { IfOk result (λ r. tree_of r.0 ≡ tree node place (shape_of form)) }
-    ensures behind { IfOk result (λ r. r.1 ≡ node + 1) }
-{
-    let made = numbered_node(alloc, node, place, form)?;
-    Ok((made, node + 1))
-}
 
 /// A copy of the node with its parts and itself numbered from `next` on, and the number behind it.
 #[cycle(number)]
@@ -138,54 +129,6 @@ fn number_form(alloc: Global, place: Place, form: &Form, next: u32) -> Result<(T
         Form::Name(name) => number_name(alloc, place, name, next),
         Form::EnumPattern(name, value) => number_enum_pattern(alloc, place, name, value, next),
     }
-}
-
-fn number_text(alloc: Global, place: Place, text: &Text, next: u32) -> Result<(Tree, u32), Memory>
-    requires fits { next + 1 ≤ 4294967295 }
-    ensures numbered { IfOk result (λ r. tree_of r.0 ≡ tree next place (t.Shape.text text.now)) }
-    ensures behind { IfOk result (λ r. r.1 ≡ next + 1) }
-{
-    let text = copied(alloc, text)?;
-    made(alloc, next, place, Form::Text(text))
-}
-
-fn number_text_pattern(
-    alloc: Global,
-    place: Place,
-    text: &Text,
-    next: u32,
-) -> Result<(Tree, u32), Memory>
-    requires fits { next + 1 ≤ 4294967295 }
-    ensures numbered { IfOk result (λ r. tree_of r.0 ≡ tree next place (t.Shape.text_pattern text.now)) }
-    ensures behind { IfOk result (λ r. r.1 ≡ next + 1) }
-{
-    let text = copied(alloc, text)?;
-    made(alloc, next, place, Form::TextPattern(text))
-}
-
-fn number_name(alloc: Global, place: Place, name: &Name, next: u32) -> Result<(Tree, u32), Memory>
-    requires fits { next + 1 ≤ 4294967295 }
-    ensures numbered { IfOk result (λ r. tree_of r.0 ≡ tree next place (t.Shape.name name.now)) }
-    ensures behind { IfOk result (λ r. r.1 ≡ next + 1) }
-{
-    let name = copied(alloc, name)?;
-    made(alloc, next, place, Form::Name(name))
-}
-
-fn number_enum_pattern(
-    alloc: Global,
-    place: Place,
-    name: &Name,
-    value: &Name,
-    next: u32,
-) -> Result<(Tree, u32), Memory>
-    requires fits { next + 1 ≤ 4294967295 }
-    ensures numbered { IfOk result (λ r. tree_of r.0 ≡ tree next place (t.Shape.enum_pattern name.now value.now)) }
-    ensures behind { IfOk result (λ r. r.1 ≡ next + 1) }
-{
-    let name = copied(alloc, name)?;
-    let value = copied(alloc, value)?;
-    made(alloc, next, place, Form::EnumPattern(name, value))
 }
 
 #[cycle(number)]
@@ -495,24 +438,4 @@ fn number_givens(
     }
     let name = copied(alloc, name)?;
     made(alloc, at, place, Form::Instance(name, done.into_items()))
-}
-
-/// An event whose type is numbered where it is written.
-fn number_event(
-    alloc: Global,
-    place: Place,
-    ty: &Option<TyExpr>,
-    next: u32,
-) -> Result<(Tree, u32), Memory>
-    requires fits { next + (shape_nodes (event_shape ty.now) + 1) ≤ 4294967295 }
-    ensures numbered { IfOk result (λ r. tree_of r.0 ≡ tree (next + shape_nodes (event_shape ty.now)) place (shape_numbered (event_shape ty.now) next)) }
-    ensures behind { IfOk result (λ r. r.1 ≡ next + (shape_nodes (event_shape ty.now) + 1)) }
-{
-    match ty {
-        None => made(alloc, next, place, Form::Event(None)),
-        Some(ty) => {
-            let (ty, behind) = number_type(alloc, ty, next)?;
-            made(alloc, behind, place, Form::Event(Some(ty.into_ty())))
-        }
-    }
 }

@@ -1,4 +1,2 @@
 pub mod Wholes
-pub mod Steps
-pub mod Signatures
 pub mod Rows

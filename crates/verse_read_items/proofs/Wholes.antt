@@ -16,7 +16,8 @@ use Rattle.verse_grammar.specs.Symbols as rules_of
 use Rattle.verse_grammar.specs.Reading.{EatsRule, SticksRule}
 use Rattle.verse_grammar.proofs.EatingItems.{eats_member_other, eats_member_rest_at}
 use Rattle.verse_grammar.proofs.StickingItems.{sticks_member_other_2, sticks_member_other_3, sticks_member_rest_at_1}
-use Rattle.verse_read_items.specs.Rests.{UsingRest, braced_path, FieldRest, type_and_default, MemberRest, rest_of_field, rest_of_method, rest_of_enum, rest_of_class, defined_enum, defined_class, ItemRest, rest_defined, rest_of_function}
+use Rattle.verse_read_parts.specs.Rests.{rest_of_enum}
+use Rattle.verse_read_items.specs.Rests.{UsingRest, braced_path, FieldRest, type_and_default, MemberRest, rest_of_field, rest_of_method, rest_of_class, defined_enum, defined_class, ItemRest, rest_defined, rest_of_function}
 
 pub using_word : (k : TokKind) → item_start k ≡ Some item.Using → k ≡ word w.Using
 using_word (tok.Plain (token.Word w.Using)) h = refl

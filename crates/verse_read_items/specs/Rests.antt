@@ -12,19 +12,11 @@ use Rattle.verse_grammar.specs.Exprs.{Reads}
 use Rattle.verse_grammar.specs.Symbols.{Symbol, a, rule, specs, a_type, phrase}
 use Rattle.verse_grammar.specs.declared.phrases.Phrase.TheVariants as p
 use Rattle.verse_grammar.specs.Items.{Specs, Path, Values, FunRest, Default, Members, Parent}
+use Rattle.verse_read_parts.specs.Rests.{EnumRest}
 
 -- a path in braces
 pub data UsingRest (b : List ℕ) : List Tok → List (List Bytes) → List Tok → Type 0 where
   braced_path : {o c : Tok} {ks rest : List Tok} {path : List (List Bytes)} → o.kind ≡ tok.Open → Path b ks path (c ∷ rest) → c.kind ≡ tok.Close → UsingRest b (o ∷ ks) path rest
-
--- what stands behind the parameters of a function: its effects, its type and its body
-pub data Signature (b : List ℕ) : List Tok → List SpecTree → Written → Tree → List Tok → Type 0 where
-  signature : {d q : Tok} {ks ls ms rest : List Tok} {es : List SpecTree} {u : Written} {e : Tree} → Specs b ks es (d ∷ ls) → d.kind ≡ mark m.Colon → IsType b ls u (q ∷ ms) → q.kind ≡ mark m.Equals →
-      Reads b p.Body ms e rest → Signature b ks es u e rest
-
--- the symbols of that part
-abbrev pub signature_symbols : List Symbol
-signature_symbols = rule specs ∷ a (mark m.Colon) ∷ rule a_type ∷ a (mark m.Equals) ∷ rule (phrase p.Body) ∷ []
 
 -- what stands behind the name and the specifiers of a field: its type, and its default where it has one
 pub data FieldRest (b : List ℕ) : List Tok → Written → Option Tree → List Tok → Type 0 where
@@ -35,11 +27,6 @@ pub data MemberRest (b : List ℕ) (n : Tok) (ss : List SpecTree) : List Tok →
   rest_of_field : {ks rest : List Tok} {u : Written} {d : Option Tree} → FieldRest b ks u d rest →
       MemberRest b n ss ks (field (record { number = 0; place = n.place; is_var = false; var_specs = []; name = name_at b n; specs = ss; written = u; default = d })) rest
   rest_of_method : {ks rest : List Tok} {f : FunTree} → FunRest b n ss ks f rest → MemberRest b n ss ks (method f) rest
-
--- what stands behind `enum`
-pub data EnumRest (b : List ℕ) (n : Tok) (ss : List SpecTree) : List Tok → ItemTree → List Tok → Type 0 where
-  rest_of_enum : {o : Tok} {ks rest : List Tok} {vs : List Bytes} → o.kind ≡ tok.Open → Values b ks vs rest →
-      EnumRest b n ss (o ∷ ks) (enumeration (record { number = 0; place = n.place; name = name_at b n; specs = ss; values = vs })) rest
 
 -- what stands behind `class`
 pub data ClassRest (b : List ℕ) (n : Tok) (ss : List SpecTree) : List Tok → ItemTree → List Tok → Type 0 where

@@ -14,8 +14,6 @@ ghost use Rattle.verse_grammar.specs.Reading.{EatsRule, SticksRule};
 ghost use Rattle.verse_reading.specs.declared.steps.ReadFault.TheVariants as read_fault;
 ghost use Rattle.verse_read_items.specs.Rests.{FieldRest, MemberRest, ClassRest};
 
-use crate::functions::fun_rest;
-use crate::names::{head_at, specifiers};
 use sqlite_items::Items;
 use std::alloc::Global;
 use verse_expr::phrases::read;
@@ -26,6 +24,8 @@ use verse_handles::types::Written;
 use verse_item_handles::items::ItemTree;
 use verse_item_handles::members::{MemberTree, MemberTrees};
 use verse_layout::toks::Tok;
+use verse_read_parts::functions::fun_rest;
+use verse_read_parts::names::{head_at, specifiers};
 use verse_reading::spans::name_of;
 use verse_reading::steps::{ReadFault, expect, take};
 use verse_reading::types::type_at;

@@ -12,14 +12,14 @@ ghost use Rattle.verse_reading.specs.declared.steps.ReadFault.TheVariants as rea
 ghost use Rattle.verse_read_items.specs.Rests.{UsingRest, ItemRest, Defined};
 
 use crate::classes::class_rest;
-use crate::enums::enum_rest;
-use crate::functions::fun_rest;
-use crate::names::{dotted, path, specifiers};
 use sqlite_items::Items;
 use std::alloc::Global;
 use verse_grammar::starts::{Fixed, ItemStart, item_start};
 use verse_item_handles::items::ItemTree;
 use verse_layout::toks::Tok;
+use verse_read_parts::enums::enum_rest;
+use verse_read_parts::functions::fun_rest;
+use verse_read_parts::names::{dotted, path, specifiers};
 use verse_reading::steps::{ReadFault, expect, next, take};
 use verse_tree::items::Spec;
 use verse_tree::names::Name;

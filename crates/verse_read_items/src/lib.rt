@@ -1,13 +1,10 @@
 //! Reads an item of a file from toks.
 //!
-//! To be read in this order: `names`, specifiers, names with dots and paths; `enums`; `functions`;
-//! `classes`; `items`.
+//! To be read in this order: `classes`; `items`. Enums, functions and specifiers are read by
+//! `verse_read_parts`.
 #![tactic(auto)]
 
 mod classes;
-mod enums;
-mod functions;
 mod items;
-mod names;
 
 pub use items::item;

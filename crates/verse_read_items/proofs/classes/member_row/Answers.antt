@@ -1,5 +1,6 @@
 use Rattle.verse_read_items.proofs.classes.member_row.Goals as goal
-use Rattle.verse_read_items.proofs.Rows.{member_read, member_goes, row_shorter}
+use Rattle.verse_read_parts.proofs.Rows.{row_shorter}
+use Rattle.verse_read_items.proofs.Rows.{member_read, member_goes}
 
 pub members-preserved : goal.members-preserved
 members-preserved c = record {
