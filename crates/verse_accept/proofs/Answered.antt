@@ -12,9 +12,12 @@ use Rattle.verse_tree.specs.ItemTree.{ItemTree}
 use Rattle.verse_tree.specs.PostOrder.{program_order}
 use Rattle.verse_grammar.specs.Toks.{ahead}
 use Rattle.verse_expr.specs.Faults.{stop_rule}
+use Rattle.verse_least.proofs.Refusals.{refused_once}
+use Rattle.verse_items.specs.Nodes.{places_in}
+use Rattle.verse_names.specs.Breaking.{NamesBreak}
 use Rattle.verse_built.specs.Built.{first_unbuilt}
 use Rattle.verse_accept.specs.Stages.{OneResult, in_turn}
-use Rattle.verse_accept.specs.Fronts.{Cut, Laid, sized, cutting, laying, spelling, joining, building, to_sized, to_cut, to_laid, to_spelled, to_joined, front_end, IsStuck, tok_place, refusal}
+use Rattle.verse_accept.specs.Fronts.{Cut, Laid, sized, cutting, laying, spelling, joining, naming, building, to_sized, to_cut, to_laid, to_spelled, to_joined, to_named, front_end, IsStuck, tok_place, refusal}
 use Rattle.verse_accept.proofs.OneByOne.{one_followed, one_in_turn}
 use Rattle.verse_accept.proofs.StuckToks.{stuck_once, stuck_or_spelled}
 
@@ -64,6 +67,13 @@ one_joining = record {
   apart = λ a b r x y. y;
 }
 
+one_naming : OneResult naming
+one_naming = record {
+  value = λ a b c x y. x.0 ∙ sym y.0;
+  refusal = λ a r q x y. refused_once (NamesBreak a) (places_in a) r q x y;
+  apart = λ a b r x y. x.1 y.fault.node y.fault.rule.0 y.leads.0;
+}
+
 same_place : (is : List ItemTree) (p q : Place) (r u : Refusal) → first_unbuilt (program_order is) ≡ Some p → first_unbuilt (program_order is) ≡ Some q → r ≡ refusal 99 p → u ≡ refusal 99 q → r ≡ u
 same_place is p q r u e f g h = g ∙ ap (λ (x : Place). refusal 99 x) (same_Some p q (sym e ∙ f)) ∙ sym h
 
@@ -79,7 +89,8 @@ one_building = record {
 
 pub one_front_end : OneResult front_end
 one_front_end =
-    one_followed to_joined building
+    one_followed to_named building
+    (one_followed to_joined naming
     (one_followed to_spelled joining
     (one_followed to_laid (in_turn spelling)
     (one_followed to_cut (in_turn laying)
@@ -87,4 +98,5 @@ one_front_end =
     (one_in_turn laying one_laying))
     (one_in_turn spelling one_spelling))
     one_joining)
+    one_naming)
     one_building

@@ -18,6 +18,7 @@ use Rattle.verse_grammar.specs.Toks.{ahead}
 use Rattle.verse_expr.specs.Faults.{stop_rule}
 use Rattle.verse_tree.specs.PostOrder.{program_order}
 use Rattle.verse_tree.specs.Numbering.{items_numbered}
+use Rattle.verse_names.specs.Breaking.{NamesBreak, IsMisnamed}
 use Rattle.verse_built.specs.Built.{first_unbuilt}
 use Rattle.verse_accept.specs.Stages.{Stage, followed, in_turn, OneResult}
 
@@ -88,6 +89,13 @@ joining = record {
   refuses = λ (iss : List (List ItemTree)) (r : Refusal). ⊥;
 }
 
+-- a program that breaks no rule of names
+abbrev pub naming : Stage (List ItemTree) (List ItemTree)
+naming = record {
+  makes = λ (is : List ItemTree) (js : List ItemTree). (js ≡ is) × ((n c : ℕ) → NamesBreak is n c → ⊥);
+  refuses = λ (is : List ItemTree) (r : Refusal). IsMisnamed is r;
+}
+
 -- a program that is built
 abbrev pub building : Stage (List ItemTree) (List ItemTree)
 building = record {
@@ -112,8 +120,11 @@ to_spelled = followed to_laid (in_turn spelling)
 abbrev pub to_joined : Stage (List (List ℕ)) (List ItemTree)
 to_joined = followed to_spelled joining
 
+abbrev pub to_named : Stage (List (List ℕ)) (List ItemTree)
+to_named = followed to_joined naming
+
 abbrev pub front_end : Stage (List (List ℕ)) (List ItemTree)
-front_end = followed to_joined building
+front_end = followed to_named building
 
 -- the files are a program that is accepted, of these items
 abbrev pub Accepts : List (List ℕ) → List ItemTree → Type 0

@@ -6,6 +6,7 @@ ghost use Rattle.verse_base.specs.RuleText.{rule_text_of};
 ghost use Rattle.verse_base.specs.declared.refusals.Refusal.{Refusal};
 ghost use Rattle.verse_base.specs.declared.refusals.Front.TheVariants as front;
 ghost use Rattle.verse_tree.specs.ItemView.{item_of};
+ghost use Rattle.verse_items.specs.Nodes.{IsNumbered};
 ghost use Rattle.verse_join.specs.Joining.{file_items};
 ghost use Rattle.verse_accept.specs.Fronts.{Accepts, AcceptedOnce, IsRefused, to_spelled, to_joined};
 
@@ -15,6 +16,7 @@ use verse_base::refusals::{Front, Refusal, Rule};
 use verse_built::unbuilt;
 use verse_item_handles::items::ProgramTree;
 use verse_join::join;
+use verse_names::naming::name_program;
 
 /// E099: a form is not built.
 const NOT_BUILT: Rule = Rule(99);
@@ -35,6 +37,7 @@ pub fn accept(alloc: Global, files: &[Vec<u8>]) -> Result<ProgramTree, Front>
     ensures listed { (r : Refusal) → IsErrOf result (front.Refused r) → IsSome (rule_text_of r.rule.0) }
 {
     let tree = read(alloc, files)?;
+    name_program(alloc, tree.get())?;
     match unbuilt(tree.get().items.as_slice()) {
         Some(place) => Err(Front::Refused(Refusal {
             rule: NOT_BUILT,
@@ -47,6 +50,7 @@ pub fn accept(alloc: Global, files: &[Vec<u8>]) -> Result<ProgramTree, Front>
 /// The program that the files spell.
 fn read(alloc: Global, files: &[Vec<u8>]) -> Result<ProgramTree, Front>
     requires { length files.now ≤ 16 }
+    ensures numbered { IfOk result (λ tree. IsNumbered (map item_of tree.items) tree.nodes) }
     ensures made { IfOk result (λ tree. to_joined.makes (map (λ f. f.items) files.now) (map item_of tree.items)) }
     ensures files { IfOk result (λ tree. tree.files ≡ length files.now) }
     ensures refused { (r : Refusal) → IsErrOf result (front.Refused r) → to_spelled.refuses (map (λ f. f.items) files.now) r }

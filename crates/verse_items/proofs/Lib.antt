@@ -1,6 +1,3 @@
-pub mod Looking
-pub mod Lists
-pub mod Spelling
-pub mod Climbing
+pub mod Fields
 pub mod Passing
 pub mod Numbered

@@ -1,6 +1,8 @@
--- The nodes with what the rules ask are those of the program, so their numbers rise.
+-- The nodes with what the rules ask are those of the program, at their places, and so their numbers rise.
 use Rattle.std.proofs.Common.{◌≡◌, ℕ, zero, suc, ◌+◌, List, [], ◌∷◌, ◌++◌, map, length, refl, ap, sym, ◌∙◌, arith, subst}
+use Rattle.std.specs.Prelude.{Option, Some, None, slice_get}
 use Rattle.std.specs.List.{range_with_len}
+use Rattle.verse_base.specs.declared.places.Place.{Place}
 use Rattle.verse_tree.specs.Tree.{Written, Writtens, no_writtens, more_writtens}
 use Rattle.verse_tree.specs.Tree as t
 use Rattle.verse_tree.specs.ItemTree.{ParamTree, FunTree, FieldTree, MemberTree, ItemTree}
@@ -9,32 +11,37 @@ use Rattle.verse_tree.specs.Numbers.{numbers}
 use Rattle.verse_tree.specs.Numbering.{items_numbered, program_nodes}
 use Rattle.verse_tree.specs.PostOrder.{Node, written_order, writtens_order, post_order, default_order, param_order, params_order, fun_parts, field_parts, member_order, members_order, item_order, items_order, program_order}
 use Rattle.verse_tree.proofs.Order.{program_in_order}
-use Rattle.verse_least.specs.Least.{InOrder}
+use Rattle.verse_least.specs.Least.{InOrder, Placed}
+use Rattle.verse_least.specs.declared.faults.Fault.{Fault}
 use Rattle.verse_least.proofs.Ordered.{in_order}
-use Rattle.verse_items.specs.Counting.{counted, counts_after, fun_after, no_counts}
-use Rattle.verse_items.specs.declared.counting.Counts.{Counts}
-use Rattle.verse_items.specs.Known.{Known, known}
-use Rattle.verse_items.specs.Lines.{Home, home}
-use Rattle.verse_items.specs.Nodes.{Declared, number_of, quiet_node, written_declared, writtens_declared, param_declared, params_declared, fun_declared, field_declared, member_declared, members_declared, item_declared, items_declared, program_declared, IsNumbered}
+use Rattle.verse_least.proofs.Refusals.{stands_there}
+use Rattle.verse_outline.specs.Counting.{counted, counts_after, fun_after, no_counts}
+use Rattle.verse_outline.specs.declared.counting.Counts.{Counts}
+use Rattle.verse_outline.specs.Known.{Known, known}
+use Rattle.verse_outline.specs.Lines.{Home, home}
+use Rattle.verse_items.specs.Nodes.{Declared, number_of, place_of, quiet_node, written_declared, writtens_declared, param_declared, params_declared, fun_declared, field_declared, member_declared, members_declared, item_declared, items_declared, program_declared, IsNumbered, IsPlaced}
 
--- the same numbers in the same order
+abbrev declared_at : Declared → ℕ × Place
+declared_at v = (v.number, v.place)
+
+abbrev stands_at : Node → ℕ × Place
+stands_at n = (n.number, n.place)
+
+-- the same numbers and places in the same order
 abbrev Agree : List Declared → List Node → Type 0
-Agree vs ns = map number_of vs ≡ numbers ns
+Agree vs ns = map declared_at vs ≡ map stands_at ns
 
-append_declared : (vs ws : List Declared) → map number_of (vs ++ ws) ≡ map number_of vs ++ map number_of ws
-append_declared [] ws = refl
-append_declared (v ∷ vs) ws = ap (λ l. v.number ∷ l) (append_declared vs ws)
-
-append_nodes : (ms ns : List Node) → numbers (ms ++ ns) ≡ numbers ms ++ numbers ns
-append_nodes [] ns = refl
-append_nodes (m ∷ ms) ns = ap (λ l. m.number ∷ l) (append_nodes ms ns)
+append : {A B : Type 0} (f : A → B) (vs ws : List A) → map f (vs ++ ws) ≡ map f vs ++ map f ws
+append f [] ws = refl
+append f (v ∷ vs) ws = ap (λ l. f v ∷ l) (append f vs ws)
 
 both : (vs ws : List Declared) (ms ns : List Node) → Agree vs ms → Agree ws ns → Agree (vs ++ ws) (ms ++ ns)
-both vs ws ms ns e f = append_declared vs ws ∙ ap (λ l. l ++ map number_of ws) e ∙ ap (λ l. numbers ms ++ l) f ∙ sym (append_nodes ms ns)
+both vs ws ms ns e f =
+    append declared_at vs ws ∙ ap (λ l. l ++ map declared_at ws) e ∙ ap (λ l. map stands_at ms ++ l) f ∙ sym (append stands_at ms ns)
 
 quiet_agree : (ns : List Node) → Agree (map quiet_node ns) ns
 quiet_agree [] = refl
-quiet_agree (n ∷ ns) = ap (λ l. n.number ∷ l) (quiet_agree ns)
+quiet_agree (n ∷ ns) = ap (λ l. stands_at n ∷ l) (quiet_agree ns)
 
 mutual
   written_agree : (w : Written) → Agree (written_declared w) (written_order w)
@@ -90,6 +97,25 @@ items_agree k n (it ∷ is) = both (item_declared k it n) (items_declared k (cou
 program_agree : (is : List ItemTree) → Agree (program_declared (known is) is) (program_order is)
 program_agree is = both (items_declared (known is) (counted no_counts is)) _ (items_order is) _ (items_agree (known is) no_counts is) refl
 
+-- so in particular the same numbers, and the same places
+module _ {C : Type 0} (part : ℕ × Place → C) where
+  parts_declared : (vs : List Declared) → map (λ v. part (declared_at v)) vs ≡ map part (map declared_at vs)
+  parts_declared [] = refl
+  parts_declared (v ∷ vs) = ap (λ l. part (declared_at v) ∷ l) (parts_declared vs)
+
+  parts_nodes : (ns : List Node) → map (λ n. part (stands_at n)) ns ≡ map part (map stands_at ns)
+  parts_nodes [] = refl
+  parts_nodes (n ∷ ns) = ap (λ l. part (stands_at n) ∷ l) (parts_nodes ns)
+
+  parts_agree : (vs : List Declared) (ns : List Node) → Agree vs ns → map (λ v. part (declared_at v)) vs ≡ map (λ n. part (stands_at n)) ns
+  parts_agree vs ns e = parts_declared vs ∙ ap (map part) e ∙ sym (parts_nodes ns)
+
+program_numbers : (is : List ItemTree) → map number_of (program_declared (known is) is) ≡ numbers (program_order is)
+program_numbers is = parts_agree (λ x. x.0) (program_declared (known is) is) (program_order is) (program_agree is)
+
+program_places : (is : List ItemTree) → map place_of (program_declared (known is) is) ≡ map (λ (n : Node). n.place) (program_order is)
+program_places is = parts_agree (λ x. x.1) (program_declared (known is) is) (program_order is) (program_agree is)
+
 numbers_length : (ns : List Node) → length (numbers ns) ≡ length ns
 numbers_length [] = refl
 numbers_length (n ∷ ns) = ap suc (numbers_length ns)
@@ -118,16 +144,24 @@ module _ (written : List ItemTree) where
       let more = one_more (items_order is) _ in
       sym more ∙ whole
 
-  rising : InOrder number_of (program_declared (known (items_numbered written 0)) (items_numbered written 0))
-  rising =
+  row : map number_of (program_declared (known (items_numbered written 0)) (items_numbered written 0)) ≡ range_with_len 0 (length (program_declared (known (items_numbered written 0)) (items_numbered written 0)))
+  row =
       let is = items_numbered written 0 in
       let vs = program_declared (known is) is in
-      let row : map number_of vs ≡ range_with_len 0 (program_nodes written) = program_agree is ∙ in_row in
+      let row : map number_of vs ≡ range_with_len 0 (program_nodes written) = program_numbers is ∙ in_row in
       let count : length vs ≡ program_nodes written = sym (declared_length vs) ∙ ap length row ∙ range_length 0 (program_nodes written) in
-      in_order number_of 0 vs (row ∙ ap (range_with_len 0) (sym count))
+      row ∙ ap (range_with_len 0) (sym count)
 
 pub last_number : (is : List ItemTree) (n : ℕ) → IsNumbered is n → length (items_order is) + 1 ≡ n
 last_number is n h = ap (λ l. length (items_order l) + 1) h.1 ∙ last_is h.0 ∙ sym h.2
 
+pub numbers_in_row : (is : List ItemTree) (n : ℕ) → IsNumbered is n → map number_of (program_declared (known is) is) ≡ range_with_len 0 (length (program_declared (known is) is))
+numbers_in_row is n h = subst (λ l. map number_of (program_declared (known l) l) ≡ range_with_len 0 (length (program_declared (known l) l))) (sym h.1) (row h.0)
+
 pub numbers_rise : (is : List ItemTree) (n : ℕ) → IsNumbered is n → InOrder number_of (program_declared (known is) is)
-numbers_rise is n h = subst (λ l. InOrder number_of (program_declared (known l) l)) (sym h.1) (rising h.0)
+numbers_rise is n h = in_order number_of 0 (program_declared (known is) is) (numbers_in_row is n h)
+
+-- a fault at one of the nodes has the place of the program's node with its number
+pub placed_there : (is : List ItemTree) (n : ℕ) (o : Option Fault) → IsNumbered is n → Placed number_of place_of (program_declared (known is) is) o → IsPlaced is o
+placed_there is n None h p = tt
+placed_there is n (Some f) h p = ap (λ l. slice_get l f.node) (sym (program_places is)) ∙ stands_there number_of place_of (program_declared (known is) is) f (numbers_in_row is n h) p

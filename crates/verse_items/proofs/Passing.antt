@@ -6,13 +6,13 @@ use Rattle.verse_tree.specs.Tree as t
 use Rattle.verse_tree.specs.ItemTree.{FieldTree, ParamTree, FunTree, MemberTree, ClassTree, ItemTree}
 use Rattle.verse_tree.specs.ItemTree as i
 use Rattle.verse_tree.specs.PostOrder.{Node, post_order, default_order, items_order, program_place}
-use Rattle.verse_least.specs.Least.{first, each, InOrder, Told, Finds, first_true}
+use Rattle.verse_least.specs.Least.{first, each, InOrder, Told, Placed, Finds, first_true}
 use Rattle.verse_least.specs.declared.faults.Fault.{Fault}
-use Rattle.verse_least.proofs.Least.{first_finds, least_kept}
-use Rattle.verse_items.specs.Counting.{Counted, fun_after}
-use Rattle.verse_items.specs.declared.counting.Counts.{Counts}
-use Rattle.verse_items.specs.Known.{Known}
-use Rattle.verse_items.specs.Lines.{Home, home}
+use Rattle.verse_least.proofs.Least.{first_finds, least_kept, placed_kept}
+use Rattle.verse_outline.specs.Counting.{Counted, fun_after}
+use Rattle.verse_outline.specs.declared.counting.Counts.{Counts}
+use Rattle.verse_outline.specs.Known.{Known}
+use Rattle.verse_outline.specs.Lines.{Home, home}
 use Rattle.verse_items.specs.Rules.{rules_at, quiet, field, method, class, function, program}
 use Rattle.verse_items.specs.Nodes.{Declared, number_of, place_of, one, quiet_node, written_declared, writtens_declared, param_declared, params_declared, fun_declared, field_declared, member_declared, members_declared, item_declared, items_declared, program_declared, fault_of, keep_fault, Breaks}
 use Rattle.verse_items.specs.Faults.{written_fault, writtens_fault, params_fault, fun_fault, member_fault, members_fault, item_fault, items_fault, program_fault}
@@ -116,3 +116,11 @@ module _ (k : Known) where
   -- the first fault of the items is the least of all
   pub items_told : (is : List ItemTree) → InOrder number_of (program_declared k is) → Told number_of (keep_fault k) (Breaks k) (program_declared k is) None (program_fault k (length (items_order is)) is)
   items_told is o = subst (Told number_of (keep_fault k) (Breaks k) (program_declared k is) None) (kept (program_declared k is) None ∙ sym (program_is is)) (told (program_declared k is) o)
+
+  placed : (vs : List Declared) → Placed number_of place_of vs (each (keep_fault k) vs None)
+  unfolding keep_fault
+  placed vs = placed_kept number_of place_of (keep_fault k) (Breaks k) (λ v s. first_true (rules_at k v.subject)) finds (λ s. s) (λ v s. refl) vs None refl
+
+  -- and stands at one of the nodes
+  pub items_placed : (is : List ItemTree) → Placed number_of place_of (program_declared k is) (program_fault k (length (items_order is)) is)
+  items_placed is = subst (Placed number_of place_of (program_declared k is)) (kept (program_declared k is) None ∙ sym (program_is is)) (placed (program_declared k is))

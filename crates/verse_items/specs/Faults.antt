@@ -8,10 +8,10 @@ use Rattle.verse_tree.specs.ItemTree as i
 use Rattle.verse_tree.specs.PostOrder.{program_place}
 use Rattle.verse_least.specs.Least.{first, fault_at, first_true}
 use Rattle.verse_least.specs.declared.faults.Fault.{Fault}
-use Rattle.verse_items.specs.Counting.{Counted, fun_after}
-use Rattle.verse_items.specs.declared.counting.Counts.{Counts}
-use Rattle.verse_items.specs.Known.{Known}
-use Rattle.verse_items.specs.Lines.{Home, home}
+use Rattle.verse_outline.specs.Counting.{Counted, fun_after}
+use Rattle.verse_outline.specs.declared.counting.Counts.{Counts}
+use Rattle.verse_outline.specs.Known.{Known}
+use Rattle.verse_outline.specs.Lines.{Home, home}
 use Rattle.verse_items.specs.Rules.{Subject, type_name, field, method, enumeration, class, function, program, rules_at}
 
 abbrev pub subject_fault : Known → ℕ → Place → Subject → Option Fault

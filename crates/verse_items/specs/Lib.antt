@@ -1,11 +1,3 @@
-pub mod Names
-pub mod Views
-pub mod Words
-pub mod Functions
-pub mod Counting
-pub mod Naming
-pub mod Known
-pub mod Lines
 pub mod Rules
 pub mod Nodes
 pub mod Faults

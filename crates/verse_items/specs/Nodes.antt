@@ -1,19 +1,20 @@
 -- All nodes of a program in written post-order, with what the rules of items and members ask at each.
-use Rattle.std.specs.Prelude.{◌≡◌, ℕ, List, [], ◌∷◌, ◌++◌, map, length, Option, None}
+use Rattle.std.specs.Prelude.{◌≡◌, ℕ, List, [], ◌∷◌, ◌++◌, map, length, Option, Some, None}
 use Rattle.verse_base.specs.declared.places.Place.{Place}
 use Rattle.verse_base.specs.declared.refusals.Refusal.{Refusal}
 use Rattle.verse_tree.specs.Tree.{Written, Writtens, no_writtens, more_writtens}
 use Rattle.verse_tree.specs.Tree as t
 use Rattle.verse_tree.specs.ItemTree.{FieldTree, ParamTree, FunTree, MemberTree, ItemTree}
 use Rattle.verse_tree.specs.ItemTree as i
-use Rattle.verse_tree.specs.PostOrder.{Node, post_order, default_order, items_order, program_place}
+use Rattle.verse_tree.specs.PostOrder.{Node, post_order, default_order, items_order, program_place, program_order}
 use Rattle.verse_tree.specs.Numbering.{items_numbered, program_nodes}
-use Rattle.verse_least.specs.Least.{first, fault_at, first_true, Holds, IsLeast, refusal_of}
+use Rattle.verse_least.specs.Least.{first, fault_at, first_true, Holds, Broken}
+use Rattle.verse_least.specs.Refusals.{place_at, IsRefusedFor}
 use Rattle.verse_least.specs.declared.faults.Fault.{Fault}
-use Rattle.verse_items.specs.Counting.{Counted, fun_after}
-use Rattle.verse_items.specs.declared.counting.Counts.{Counts}
-use Rattle.verse_items.specs.Known.{Known, known}
-use Rattle.verse_items.specs.Lines.{Home, home}
+use Rattle.verse_outline.specs.Counting.{Counted, fun_after}
+use Rattle.verse_outline.specs.declared.counting.Counts.{Counts}
+use Rattle.verse_outline.specs.Known.{Known, known}
+use Rattle.verse_outline.specs.Lines.{Home, home}
 use Rattle.verse_items.specs.Rules.{Subject, quiet, type_name, field, method, enumeration, class, function, program, rules_at}
 
 pub record Declared : Type 0 where
@@ -103,6 +104,19 @@ Breaks k d o c = Holds (rules_at k d.subject) c
 abbrev pub IsNumbered : List ItemTree → ℕ → Type 0
 IsNumbered is n = (written : List ItemTree) × (is ≡ items_numbered written 0) × (n ≡ program_nodes written)
 
+-- a node breaks a rule of items and members, by its number and the rule's code
+abbrev pub ItemsBreak : List ItemTree → ℕ → ℕ → Type 0
+ItemsBreak is = Broken number_of (keep_fault (known is)) (Breaks (known is)) (program_declared (known is) is) None
+
+-- the place of each node of a program, by its number
+abbrev pub places_in : List ItemTree → ℕ → Option Place
+places_in is = place_at (λ (v : Node). v.place) (program_order is)
+
+-- a fault has the place of the node with its number
+abbrev pub IsPlaced : List ItemTree → Option Fault → Type 0
+IsPlaced is None = Unit {0}
+IsPlaced is (Some f) = places_in is f.node ≡ Some f.place
+
 -- a refusal is that of the least fault of all that items and members break
 abbrev pub IsLeastRefusal : List ItemTree → Refusal → Type 0
-IsLeastRefusal is r = (f : Fault) × (r ≡ refusal_of f) × IsLeast number_of (keep_fault (known is)) (Breaks (known is)) (program_declared (known is) is) None f
+IsLeastRefusal is r = IsRefusedFor (ItemsBreak is) (places_in is) r

@@ -9,11 +9,11 @@ use Rattle.verse_tree.specs.declared.tables.Ref.TheVariants as ref
 use Rattle.verse_tree.specs.declared.tables.Effects.{Effects}
 use Rattle.verse_types.specs.Types.{Ty, int, void, array, tys, Class}
 use Rattle.verse_types.specs.Fitting.{parent_of, inherits, all_same, fits}
-use Rattle.verse_items.specs.Names.{look, is_repeated, any_again}
-use Rattle.verse_items.specs.Words.{has, builtins}
-use Rattle.verse_items.specs.Functions.{Function}
-use Rattle.verse_items.specs.Known.{Known}
-use Rattle.verse_items.specs.Lines.{Home}
+use Rattle.verse_outline.specs.Names.{look, is_repeated, any_again}
+use Rattle.verse_outline.specs.Words.{has, builtins}
+use Rattle.verse_outline.specs.Functions.{Function}
+use Rattle.verse_outline.specs.Known.{Known}
+use Rattle.verse_outline.specs.Lines.{Home}
 
 -- what a node is, with what the rules ask of what stands round it; numbers are those of functions and classes
 pub data Subject : Type 0 where

@@ -6,10 +6,10 @@ use Rattle.verse_tree.specs.declared.tables.Ref.{Ref}
 use Rattle.verse_tree.specs.declared.tables.Ref.TheVariants as ref
 use Rattle.verse_tree.specs.declared.tables.EnumInfo.{EnumInfo}
 use Rattle.verse_types.specs.Types.{Field, Class, classes_of}
-use Rattle.verse_items.specs.Names.{Table, meanings}
-use Rattle.verse_items.specs.Functions.{Function, function_of, spelled}
-use Rattle.verse_items.specs.Known.{Note, Known, known}
-use Rattle.verse_items.specs.Lines.{line_of, all_members}
+use Rattle.verse_outline.specs.Names.{Table, meanings}
+use Rattle.verse_outline.specs.Functions.{Function, function_of, spelled}
+use Rattle.verse_outline.specs.Known.{Note, Known, known}
+use Rattle.verse_outline.specs.Lines.{line_of, all_members}
 use Rattle.verse_items.specs.declared.tables.Tables.{Tables as Made}
 
 abbrev pub tree_number : Tree → ℕ

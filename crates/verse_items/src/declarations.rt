@@ -1,23 +1,23 @@
 //! What the items of a program define, or the least rule that items and members break.
 
-ghost use Rattle.std.specs.Prelude.{◌≡◌, ℕ, None, map, IfOk, ◌-◌, length};
+ghost use Rattle.std.specs.Prelude.{◌≡◌, ℕ, map, IfOk, length};
 ghost use Rattle.std.specs.Result.{IsErrOf};
 ghost use Rattle.verse_base.specs.declared.refusals.Refusal.{Refusal};
 ghost use Rattle.verse_base.specs.declared.refusals.Front.TheVariants as front;
 ghost use Rattle.verse_tree.specs.ItemView.{item_of};
 ghost use Rattle.verse_tree.specs.PostOrder.{items_order};
-ghost use Rattle.verse_least.specs.Least.{Told, Broken};
-ghost use Rattle.verse_items.specs.Known.{known as facts_of, known_of};
+ghost use Rattle.verse_least.specs.Both.{Leads};
+ghost use Rattle.verse_outline.specs.Known.{known as facts_of, known_of};
 ghost use Rattle.verse_items.specs.Faults as faults;
-ghost use Rattle.verse_items.specs.Nodes.{number_of, program_declared, keep_fault, Breaks, IsNumbered, IsLeastRefusal};
+ghost use Rattle.verse_items.specs.Nodes.{ItemsBreak, IsNumbered, IsPlaced, IsLeastRefusal};
 ghost use Rattle.verse_items.specs.Tables.{tables, tables_of};
 
 use crate::faults::program_fault;
-use crate::known::{Known, know};
 use crate::tables::{Tables, class_tables, enum_tables};
 use std::alloc::Global;
 use verse_base::refusals::{Front, Memory};
 use verse_least::faults::{Fault, refusal};
+use verse_outline::known::{Known, know};
 use verse_tree::items::Tree;
 
 /// The least fault of items and members, of those of rules 40 to 45 that are broken there.
@@ -28,7 +28,8 @@ pub fn least_fault<'a>(
 ) -> Result<Option<Fault>, Memory>
     requires known { known_of known.now ≡ facts_of (map item_of tree.now.items) }
     requires numbered { IsNumbered (map item_of tree.now.items) tree.now.nodes }
-    ensures { IfOk result (λ f. Told number_of (keep_fault (facts_of (map item_of tree.now.items))) (Breaks (facts_of (map item_of tree.now.items))) (program_declared (facts_of (map item_of tree.now.items)) (map item_of tree.now.items)) None f) }
+    ensures least { IfOk result (λ f. Leads (ItemsBreak (map item_of tree.now.items)) f) }
+    ensures placed { IfOk result (λ f. IsPlaced (map item_of tree.now.items) f) }
 {
     let last = last_node(tree);
     let fault = program_fault(alloc, known, last, tree.items.as_slice())?;
@@ -47,7 +48,7 @@ fn last_node(tree: &Tree) -> u32
 pub fn define(alloc: Global, tree: &Tree) -> Result<Tables, Front>
     requires numbered { IsNumbered (map item_of tree.now.items) tree.now.nodes }
     ensures tables { IfOk result (λ t. tables_of t ≡ tables (map item_of tree.now.items)) }
-    ensures fine { IfOk result (λ _. (n c : ℕ) → Broken number_of (keep_fault (facts_of (map item_of tree.now.items))) (Breaks (facts_of (map item_of tree.now.items))) (program_declared (facts_of (map item_of tree.now.items)) (map item_of tree.now.items)) None n c → ⊥) }
+    ensures fine { IfOk result (λ _. (n c : ℕ) → ItemsBreak (map item_of tree.now.items) n c → ⊥) }
     ensures refused { (r : Refusal) → IsErrOf result (front.Refused r) → IsLeastRefusal (map item_of tree.now.items) r }
 {
     let facts = know(alloc, tree.items.as_slice())?;
@@ -61,7 +62,8 @@ pub fn define(alloc: Global, tree: &Tree) -> Result<Tables, Front>
     }
 }
 
-fn tables_from(alloc: Global, facts: Known, tree: &Tree) -> Result<Tables, Memory>
+/// The tables of a program, of which this is known.
+pub fn tables_from(alloc: Global, facts: Known, tree: &Tree) -> Result<Tables, Memory>
     requires { known_of facts ≡ facts_of (map item_of tree.now.items) }
     ensures { IfOk result (λ t. tables_of t ≡ tables (map item_of tree.now.items)) }
 {

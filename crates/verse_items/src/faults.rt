@@ -5,14 +5,11 @@ ghost use Rattle.verse_tree.specs.View.{written_of, writtens};
 ghost use Rattle.verse_tree.specs.TypeView as written;
 ghost use Rattle.verse_tree.specs.ItemView.{param_of, fun_of, field_of, member_of, class_of, item_of};
 ghost use Rattle.verse_least.specs.Least.{first};
-ghost use Rattle.verse_items.specs.Counting.{counted_of};
-ghost use Rattle.verse_items.specs.Known.{known_of};
-ghost use Rattle.verse_items.specs.Lines.{home, home_of};
+ghost use Rattle.verse_outline.specs.Counting.{counted_of};
+ghost use Rattle.verse_outline.specs.Known.{known_of};
+ghost use Rattle.verse_outline.specs.Lines.{home, home_of};
 ghost use Rattle.verse_items.specs.Faults as faults;
 
-use crate::counting::{Counted, Counts, fun_after};
-use crate::known::Known;
-use crate::members::{Home, make_home};
 use crate::rules::{
     class_code, enum_code, field_code, function_code, method_code, program_code, type_name_code,
 };
@@ -20,6 +17,9 @@ use std::alloc::Global;
 use verse_base::places::Place;
 use verse_base::refusals::Memory;
 use verse_least::faults::{Fault, fault_for, keep_first};
+use verse_outline::counting::{Counted, Counts, fun_after};
+use verse_outline::known::Known;
+use verse_outline::members::{Home, make_home};
 use verse_tree::items::{ClassItem, Field, Fun, Item, Member, Param};
 use verse_tree::types::{MapTy, TyExpr};
 

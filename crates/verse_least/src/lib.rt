@@ -2,8 +2,8 @@
 //!
 //! To be read in this order: `faults`, a broken rule at a node, the first of two and the less of
 //! two. What a pass over nodes in post-order finds is said in `specs/Least` and `specs/Both`, and
-//! proved once for all passes in `proofs/Least`, `proofs/Both` and `proofs/Ordered`, which crates
-//! above cite.
+//! how a program is refused for it in `specs/Refusals`. It is proved once for all passes in
+//! `proofs/Least`, `Both`, `Ordered`, `Refusals` and `Codes`, which crates above cite.
 #![tactic(auto)]
 
 pub mod faults;

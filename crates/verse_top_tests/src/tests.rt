@@ -38,13 +38,18 @@ const ROWS: &str =
 1`run a.verse`a.verse=Main():void`1:12 E030 unexpected token~
 1`run a.verse`a.verse=f := interface {}`1:6 E069 not part of this profile~
 1`run a.verse`a.verse=Main()<suspends>:void =~    race:~        defer:~            Print(\"a\")`3:9 E030 unexpected token~
-1`run a.verse`a.verse=`1:1 E099 not built yet~
-1`run a.verse`a.verse=F():void = {}`1:1 E099 not built yet~
-1`run a.verse`a.verse=Main():void = {}~Main():void = {}`1:1 E099 not built yet~
+1`run a.verse`a.verse=`1:1 E043 no Main~
+1`run a.verse`a.verse=F():void = {}`1:1 E043 no Main~
+1`run a.verse`a.verse=Main():void = {}~Main():void = {}`1:1 E040 name already defined~
 1`run a.verse`a.verse=Main():void = 1`1:15 E099 not built yet~
-1`run a.verse`a.verse=Main(X:int):void = {}`1:6 E099 not built yet~
-1`run a.verse`a.verse=Main(X:c):void = {}`1:8 E099 not built yet~
-1`run a.verse`a.verse=Main():void =~    Log(\"a\")`2:5 E099 not built yet~
+1`run a.verse`a.verse=Main(X:int):void = {}`1:1 E044 Main has the wrong shape~
+1`run a.verse`a.verse=Main(X:c):void = {}`1:8 E041 unknown name~
+1`run a.verse`a.verse=Main():void =~    Log(\"a\")`2:5 E041 unknown name~
+1`run a.verse`a.verse=a := class(b) {}; b := class(a) {}; Main():void = {}`1:1 E042 class inherits from itself~
+1`run a.verse`a.verse=a := class { F():int = 1 }; b := class(a) { F():int = 2 }; Main():void = {}`1:45 E045 override does not fit~
+1`run a.verse`a.verse=Main():void = { X := 1; X := 2 }`1:25 E040 name already defined~
+1`check a.verse`a.verse=Main():void =~    if (X := 1) {}~    X`3:5 E041 unknown name~
+1`run a.verse b.verse`a.verse=Main():void = G()|b.verse=G():void = H()`b.verse:1:12 E041 unknown name~
 1`run a.verse`a.verse=Main():void =~    Print(\"a\", \"b\")`2:10 E099 not built yet~
 1`run a.verse`a.verse=Main():void =~    Print(\"a{1}\")`2:14 E099 not built yet~
 2``a.verse=Main():void =~    Print(\"hi\")~`= words~
@@ -67,13 +72,13 @@ const ROWS: &str =
 0`run a b`a=|b=Main():void =~    Print(\"hi\")~`0 hi~= done at 0 steps 1 live 0~
 0`run b a --heap`a=|b=Main():void =~    Print(\"hi\")~`0 hi~= done at 0 steps 1 live 0~
 3`run a b --steps 0`a=|b=Main():void =~    Print(\"hi\")~`= steps at 0 steps 0~
-1`run a b`a=Main():void =~    Print(\"hi\")~|b=Main():void =~    Print(\"hi\")~`a:1:1 E099 not built yet~
+1`run a b`a=Main():void =~    Print(\"hi\")~|b=Main():void =~    Print(\"hi\")~`a:1:1 E040 name already defined~
 1`run a b`a=Main():void = 1 2|b=@`b:1:1 E010 unexpected character~
 1`run a b`a=Main():void = (1|b=@`b:1:1 E010 unexpected character~
 1`run a b`a=Main():void = 1 2|b=F():void =`b:1:11 E020 bad indentation~
 1`run a b`a=F():void = 1 2|b=G():void = 1 2`a:1:14 E030 unexpected token~
 1`run a b`a=Main():void = 1|b=G():void = 1 2`b:1:14 E030 unexpected token~
-1`run a b`a=|b=Main():void =~    Log(\"a\")`b:2:5 E099 not built yet~
+1`run a b`a=|b=Main():void =~    Log(\"a\")`b:2:5 E041 unknown name~
 6`run a x b`a=@|b=Main():void =~    Print(\"hi\")~`= read x~
 6`run x y`a=Main():void =~    Print(\"hi\")~`= read x~
 1`run a a`a=@`a:1:1 E010 unexpected character~
@@ -127,7 +132,7 @@ fn rows_are_told(rt: HostRuntime) -> Result<(), Fail> {
         assert_eq!(rt; out.taken(), lines(alloc, text)?.as_slice(), "{row}");
         count = count.saturating_add(1);
     }
-    assert_eq!(rt; count, 66);
+    assert_eq!(rt; count, 71);
     Ok(())
 }
 

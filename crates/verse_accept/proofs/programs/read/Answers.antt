@@ -1,6 +1,6 @@
 -- The layers one behind the other.
 use Rattle.std.proofs.Common.{◌≡◌, ◌≤◌, List, length, map, sym, ap, subst, ◌∙◌, arith, rules}
-use Rattle.verse_join.specs.Joining.{file_items}
+use Rattle.verse_join.specs.Joining.{file_items, joined}
 use Rattle.verse_tree.specs.ItemTree.{ItemTree}
 use Rattle.verse_tree.specs.Numbering.{items_numbered}
 use Rattle.verse_accept.specs.Stages.{makes_each}
@@ -30,3 +30,6 @@ returns-clause-made c = (
   ),
   c.in_ok-join.ensures.items ∙ ap (λ (is : List ItemTree). items_numbered is 0) (sym (all_joined c.in_ok-items.items.items)),
 )
+
+pub returns-clause-numbered : goal.returns-clause-numbered
+returns-clause-numbered c = (joined c.in_ok-items.items.items, c.in_ok-join.ensures.items, c.in_ok-join.ensures.nodes)

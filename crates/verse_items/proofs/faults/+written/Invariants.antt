@@ -1,6 +1,6 @@
 use Rattle.std.proofs.Common.{◌≡◌, drop, map}
 use Rattle.verse_tree.specs.View.{written_of, writtens}
-use Rattle.verse_items.specs.Known.{known_of}
+use Rattle.verse_outline.specs.Known.{known_of}
 use Rattle.verse_items.specs.Faults.{writtens_fault}
 use Rattle.verse_items.proofs.faults.+written.Given as goal
 

@@ -1,6 +1,6 @@
 use Rattle.std.proofs.Common.{◌≡◌, drop, map}
-use Rattle.verse_items.specs.Known.{known_of}
-use Rattle.verse_items.specs.Counting.{counted_of}
+use Rattle.verse_outline.specs.Known.{known_of}
+use Rattle.verse_outline.specs.Counting.{counted_of}
 use Rattle.verse_items.specs.Faults.{items_fault}
 use Rattle.verse_items.proofs.faults.items_fault.Given as goal
 

@@ -1,7 +1,7 @@
 use Rattle.std.proofs.Common.{◌≡◌, drop, map}
 use Rattle.verse_tree.specs.ItemView.{member_of}
-use Rattle.verse_items.specs.Known.{known_of}
-use Rattle.verse_items.specs.Lines.{home_of}
+use Rattle.verse_outline.specs.Known.{known_of}
+use Rattle.verse_outline.specs.Lines.{home_of}
 use Rattle.verse_items.specs.Faults.{members_fault}
 use Rattle.verse_items.proofs.faults.members_fault.Given as goal
 

@@ -1,6 +1,6 @@
 use Rattle.std.proofs.Common.{◌≡◌, drop, map}
 use Rattle.verse_tree.specs.ItemView.{param_of}
-use Rattle.verse_items.specs.Known.{known_of}
+use Rattle.verse_outline.specs.Known.{known_of}
 use Rattle.verse_items.specs.Faults.{params_fault}
 use Rattle.verse_items.proofs.faults.params_fault.Given as goal
 

@@ -1,6 +1,6 @@
 use Rattle.std.proofs.Common.{◌≡◌, [], drop}
-use Rattle.verse_items.specs.Names.{any_again}
-use Rattle.verse_items.specs.Views.{roll_of}
+use Rattle.verse_outline.specs.Names.{any_again}
+use Rattle.verse_outline.specs.Views.{roll_of}
 use Rattle.verse_items.proofs.rules.any_again.Given as goal
 
 -- what is left decides

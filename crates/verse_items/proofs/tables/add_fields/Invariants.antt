@@ -1,7 +1,7 @@
 use Rattle.std.proofs.Common.{◌≡◌, ◌++◌, drop, map}
 use Rattle.verse_tree.specs.ItemView.{member_of}
 use Rattle.verse_types.specs.Types.{field_of}
-use Rattle.verse_items.specs.Views.{table_of}
+use Rattle.verse_outline.specs.Views.{table_of}
 use Rattle.verse_items.specs.Tables.{own_fields}
 use Rattle.verse_items.proofs.tables.add_fields.Given as goal
 

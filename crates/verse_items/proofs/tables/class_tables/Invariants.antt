@@ -1,6 +1,6 @@
 use Rattle.std.proofs.Common.{◌≡◌, ◌++◌, drop}
 use Rattle.verse_types.specs.Types.{classes_of}
-use Rattle.verse_items.specs.Known.{known_of}
+use Rattle.verse_outline.specs.Known.{known_of}
 use Rattle.verse_items.specs.Tables.{class_tables, class_tables_from}
 use Rattle.verse_items.proofs.tables.class_tables.Given as goal
 

@@ -1,10 +1,10 @@
 use Rattle.std.proofs.Common.{◌++◌, map, ap, sym, ◌∙◌, append_assoc}
 use Rattle.std.specs.Prelude.{slice_get}
 use Rattle.verse_types.specs.Types.{field_of}
-use Rattle.verse_items.specs.Views.{table_of}
-use Rattle.verse_items.specs.Known.{note_of}
+use Rattle.verse_outline.specs.Views.{table_of}
+use Rattle.verse_outline.specs.Known.{note_of}
 use Rattle.verse_items.specs.Tables.{fields_of, own_fields, note_members}
-use Rattle.verse_items.proofs.Climbing.{last_fields}
+use Rattle.verse_items.proofs.Fields.{last_fields}
 use Rattle.verse_items.proofs.tables.fields_of.Goals as goal
 
 pub classes-preserved : goal.classes-preserved

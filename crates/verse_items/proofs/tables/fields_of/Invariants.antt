@@ -1,7 +1,7 @@
 use Rattle.std.proofs.Common.{◌≡◌, ◌++◌, map, length}
 use Rattle.verse_types.specs.Types.{field_of}
-use Rattle.verse_items.specs.Views.{table_of}
-use Rattle.verse_items.specs.Known.{note_of}
+use Rattle.verse_outline.specs.Views.{table_of}
+use Rattle.verse_outline.specs.Known.{note_of}
 use Rattle.verse_items.specs.Tables.{fields_of}
 use Rattle.verse_items.proofs.tables.fields_of.Given as goal
 

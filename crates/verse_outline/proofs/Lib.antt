@@ -1,0 +1,4 @@
+pub mod Looking
+pub mod Lists
+pub mod Spelling
+pub mod Climbing

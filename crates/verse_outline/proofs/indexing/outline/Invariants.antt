@@ -1,0 +1,9 @@
+use Rattle.std.proofs.Common.{◌≡◌, ◌++◌, drop, map}
+use Rattle.verse_types.specs.Types.{classes_of}
+use Rattle.verse_outline.specs.Views.{table_of}
+use Rattle.verse_outline.specs.Known.{note_of, outlined}
+use Rattle.verse_outline.proofs.indexing.outline.Given as goal
+
+-- what is done and what is left are all
+abbrev pub invariant-notes : goal.invariant-notes
+invariant-notes l = classes_of l.found ++ map (outlined (table_of l.classes)) (map note_of (drop l.note-index l.notes)) ≡ map (outlined (table_of l.classes)) (map note_of l.notes)
