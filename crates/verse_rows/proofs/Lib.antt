@@ -1,0 +1,4 @@
+mod InSets
+mod InTurn
+mod Nothing
+mod Spelled

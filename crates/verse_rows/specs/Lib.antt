@@ -1,0 +1,15 @@
+pub mod Sets
+pub mod Facts
+pub mod Spelling
+pub mod Keys
+pub mod Parts
+pub mod Members
+pub mod Callees
+pub mod Calls
+pub mod Loops
+pub mod Cases
+pub mod Rows
+pub mod Judgement
+pub mod TypeRules
+pub mod Steps
+pub mod Views
