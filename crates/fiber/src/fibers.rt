@@ -80,7 +80,8 @@ impl Fiber {
         Ok(fiber)
     }
 
-    fn empty(alloc: Global) -> Fiber
+    /// No frames. Takes no memory.
+    pub fn empty(alloc: Global) -> Fiber
         ensures { result ≡ [] }
     {
         Fiber {

@@ -114,7 +114,7 @@ module _ {F W : Type 0} (pending : W → List Pending) where
   told_waits frames (t ∷ ts) x y v =
       v.2.waits ∙ (ap (λ ps. without_wait t.item.held ps) (told_waits frames ts x v.0 v.1) ∙ no_wait frames t.number t.item.held (sleeping (slot_of frames) ts) (pending x.waits))
 
-  told_frames : (gone : List (Task (Slot F))) (x y : Gone F W) → Visited (Leaves pending) x gone y → y.lost ≡ false → (x.lost ≡ false) × (y.frames.items ≡ x.frames.items ++ frames_back gone)
+  pub told_frames : (gone : List (Task (Slot F))) (x y : Gone F W) → Visited (Leaves pending) x gone y → y.lost ≡ false → (x.lost ≡ false) × (y.frames.items ≡ x.frames.items ++ frames_back gone)
   told_frames [] x y v l = (ap (λ (z : Gone F W). z.lost) (sym v) ∙ l, ap (λ (z : Gone F W). z.frames.items) v ∙ sym (append-nil x.frames.items))
   told_frames (t ∷ ts) x y v l =
       let k = v.2.kept l in

@@ -16,7 +16,7 @@ role_under (Some p) = role.Behind 0
 
 module _ {F : Type 0} where
   abbrev pub new_slot : ℕ → Root → Slot F
-  new_slot n root = record { number = n; since = 0; root = root; held = ByMachine }
+  new_slot n root = record { number = n; since = n; root = root; held = ByMachine }
 
   -- a task that the machine runs stands behind its siblings
   pub record Begun (old new : List (Task (Slot F))) (parent : Option ℕ) (id n : ℕ) (root : Root) : Type 0 where

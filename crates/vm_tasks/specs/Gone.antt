@@ -1,5 +1,5 @@
 -- What is told of a cancelled task, and of all that a task has begun since so many steps were left.
-use Rattle.std.specs.Prelude.{◌≡◌, ◌<◌, ◌≤◌, ℕ, false, List, [], ◌∷◌, ◌++◌, Some}
+use Rattle.std.specs.Prelude.{◌≡◌, ◌⊎◌, ◌<◌, ◌≤◌, ℕ, false, List, [], ◌∷◌, ◌++◌, Some}
 use Rattle.task_tree.specs.Tasks.{Task, task_at, youngest}
 use Rattle.task_tree.specs.Removing.{Visited}
 use Rattle.verse_machine.specs.Tasks.{Frame}
@@ -32,6 +32,17 @@ module _ {F : Type 0} where
 
   abbrev pub NoYounger : List (Task (Slot F)) → ℕ → ℕ → Type 0
   NoYounger ts id bound = (c : ℕ) (u : Task (Slot F)) → youngest (Some id) ts ≡ Some c → task_at c ts ≡ Some u → bound ≤ u.item.number
+
+-- an element of a list
+pub data In {A : Type 0} (x : A) : List A → Type 0 where
+  first_in : {xs : List A} → In x (x ∷ xs)
+  later_in : {xs : List A} (y : A) → In x xs → In x (y ∷ xs)
+
+module _ {F W : Type 0} where
+  -- those that are left were there, and the frames that are kept are of tasks that were there
+  pub record KeepsEach (old new : List (Task (Slot F))) (before behind : Gone F W) : Type 0 where
+    pub tasks : (t : Task (Slot F)) → In t new → In t old
+    pub frames : behind.lost ≡ false → (f : F) → In f behind.frames.items → In f before.frames.items ⊎ ((t : Task (Slot F)) × In t old × In f (frames_in t.item.held))
 
 module _ {F W : Type 0} (pending : W → List Pending) where
   -- the wait is gone, and the frames stand behind those of tasks that were cancelled before, or some were lost

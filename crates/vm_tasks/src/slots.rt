@@ -49,7 +49,8 @@ pub enum Held<F> {
     AtGroup(F, Group),
 }
 
-/// A task: how many steps were left when it began, and when its group began, if it is at one.
+/// A task: how many steps were left when it began, and when its last group began; before that the
+/// first number stands for both.
 #[derive(Drop)]
 pub struct Slot<F> {
     pub number: u64,

@@ -6,7 +6,7 @@ ghost use Rattle.task_tree.specs.Nested.{IsTree};
 ghost use Rattle.vm_tasks.specs.declared.slots.Root.TheVariants.{Part as APart, Spawned};
 ghost use Rattle.vm_tasks.specs.declared.slots.Held.TheVariants.{ByMachine, Asleep};
 ghost use Rattle.vm_tasks.specs.Begun.{Begun, Reheld, Grouped};
-ghost use Rattle.vm_tasks.specs.Gone.{IsYounger, NoYounger, Cleared};
+ghost use Rattle.vm_tasks.specs.Gone.{IsYounger, NoYounger, Cleared, KeepsEach};
 ghost use Rattle.vm_tasks.specs.Ending.{IsAlone, Ended, Wakes, FallsAsleep};
 ghost use Rattle.sim_clock.specs.Pending.{IsAboveAll};
 ghost use Rattle.vm_tasks.specs.Standing.{Branches, BeginsArm, Spawns, SetsDown, BeginsGroup, CancelsScope, CancelsArms};
@@ -31,6 +31,7 @@ pub fn cancel_since<F: Drop, W: Waits>(
 )
     ensures scope { CancelsScope W.pending id bound tree.old tree.new gone.old gone.new }
     ensures arms { CancelsArms W.pending id bound tree.old tree.new gone.old gone.new }
+    ensures each { KeepsEach tree.old tree.new gone.old gone.new }
     ensures left { NoYounger tree.new id bound }
     ensures alone { IsAlone tree.new id bound }
     ensures nested { IsTree tree.new }
@@ -206,13 +207,13 @@ fn youngest_since<F>(tree: &TaskTree<Slot<F>>, id: usize, bound: u64) -> Option<
 
 fn new_slot<F>(number: u64, root: Root) -> Slot<F>
     ensures number { result.number ≡ number }
-    ensures since { result.since ≡ 0 }
+    ensures since { result.since ≡ number }
     ensures root { result.root ≡ root }
     ensures held { result.held ≡ ByMachine }
 {
     Slot {
         number,
-        since: 0,
+        since: number,
         root,
         held: Held::ByMachine,
     }

@@ -44,6 +44,16 @@ impl Model for Thread {
 
 /// How a task begins.
 impl Thread {
+    /// No frames. Takes no memory.
+    pub fn empty(alloc: Global) -> Thread
+        ensures { result ≡ [] }
+    {
+        Thread {
+            fiber: Fiber::empty(alloc),
+            births: Vec::new(alloc),
+        }
+    }
+
     /// One frame, of a function and as many arguments as it has parameters. So many steps are left.
     pub fn begin(alloc: Global, func: &Func, args: Vec<Value>, born: u64) -> Result<Thread, Memory>
         requires params { length args.items ≡ func.now.params }

@@ -1,5 +1,6 @@
 use Rattle.vm_tasks.proofs.Endings.{alone_so}
 use Rattle.vm_tasks.proofs.Meaning.{scope_so, arms_so}
+use Rattle.vm_tasks.proofs.Keeping.{keeps_so}
 use Rattle.vm_tasks.proofs.table.cancel_since.Goals as goal
 
 pub returns-clause-scope : goal.returns-clause-scope
@@ -10,3 +11,6 @@ returns-clause-arms g c = arms_so g.W.Waits.pending c.args.id c.args.bound c.arg
 
 pub returns-clause-alone : goal.returns-clause-alone
 returns-clause-alone g c = alone_so c.clear_since.new.tree c.args.id c.args.bound c.clear_since.ensures.nested c.clear_since.ensures.left
+
+pub returns-clause-each : goal.returns-clause-each
+returns-clause-each g c = keeps_so g.W.Waits.pending c.args.id c.args.bound c.args.tree.now c.clear_since.new.tree c.args.gone.now c.clear_since.new.gone c.clear_since.ensures.cleared

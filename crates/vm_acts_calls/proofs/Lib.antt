@@ -1,0 +1,4 @@
+pub mod Handed
+pub mod Entering
+pub mod Choosing
+pub mod Blocks

@@ -1,0 +1,4 @@
+pub mod Asking
+pub mod Waits
+pub mod Starts
+pub mod Ends

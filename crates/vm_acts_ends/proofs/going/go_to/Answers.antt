@@ -1,0 +1,11 @@
+use Rattle.std.proofs.Common.{◌≡◌, suc, ◌+◌, Some, None, [], true, false, length, slice_get, refl, sym, ap, subst, ◌∙◌, arith, rules}
+use Rattle.vm_thread.specs.Calls.{permits}
+use Rattle.vm_acts_ends.proofs.Asking.{free_permits}
+use Rattle.vm_acts_ends.proofs.going.go_to.Goals as goal
+
+pub unreachable-requires : goal.unreachable-requires
+unreachable-requires c =
+    let no : c.go.result ≡ false = search rules in
+    let yes = free_permits c.args.place c.args.thread.now c.requires.free in
+    let test = c.go.ensures.test in
+    cc

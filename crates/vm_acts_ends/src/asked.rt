@@ -1,0 +1,59 @@
+//! What an operation asks of the machine.
+
+use verse_base::places::Place;
+use verse_value::values::Value;
+use vm_runner::runners::Did;
+use vm_thread::threads::Thread;
+
+/// What an operation asks of the machine. The task's frames, the store, the trace and the steps are
+/// then as they are to be: a task that is suspended or waits goes on at its frame's place.
+#[derive(Drop)]
+pub enum Asked {
+    /// Nothing: the task goes on with its next operation, or the run is over.
+    Nothing(Did),
+    /// The task is suspended until this moment in milliseconds.
+    SleepUntil(u64),
+    /// The task is suspended for ever.
+    SleepForever,
+    /// The task goes on with the result of the spawned task of this number; it is suspended until
+    /// there is one.
+    AwaitTask(u32),
+    /// The task is suspended until the event of this cell is signalled.
+    AwaitEvent(u32),
+    /// The event of this cell is signalled with the value, and the task goes on.
+    Signal(u32, Value),
+    /// A spawned task begins, with these frames.
+    Spawn(Thread),
+    /// A task behind begins, with these frames.
+    Branch(Thread),
+    /// The arms of a group begin.
+    Arms(Arms),
+    /// The top frame has returned the value; the frame below goes on with it when what the top
+    /// frame has begun since then is cancelled.
+    Return(Ended),
+    /// The last frame has returned the value: the task is over when what it has begun is cancelled.
+    Finish(Ended),
+    /// An arm or a task behind is over with the value, when what it has begun is cancelled.
+    Close(Ended),
+    /// A deferred block of a frame that is being cancelled is over.
+    Clear,
+}
+
+/// The arms of a group.
+#[derive(Drop)]
+pub struct Arms {
+    /// 0: all, 1: the first, 2: the first, and the others go on.
+    pub kind: u32,
+    /// The place of the group's error.
+    pub place: Place,
+    /// Where each arm begins; there is one.
+    pub labels: Vec<u32>,
+}
+
+/// A frame that has ended.
+#[derive(Drop)]
+pub struct Ended {
+    /// How many steps were left when it began.
+    pub born: u64,
+    pub value: Value,
+}

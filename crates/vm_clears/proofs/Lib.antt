@@ -1,0 +1,4 @@
+pub mod Blocks
+pub mod All
+pub mod Under
+pub mod Cancelling

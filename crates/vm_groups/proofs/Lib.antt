@@ -1,0 +1,4 @@
+pub mod Gave
+pub mod Standing
+pub mod Settling
+pub mod Racing

@@ -1,0 +1,5 @@
+pub mod Free
+pub mod Fines
+pub mod Running
+pub mod Seated
+pub mod Ends

@@ -1,0 +1,6 @@
+pub mod Frames
+pub mod Ups
+pub mod Standing
+pub mod Going
+pub mod Meets
+pub mod Moving
