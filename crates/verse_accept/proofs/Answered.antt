@@ -15,9 +15,10 @@ use Rattle.verse_expr.specs.Faults.{stop_rule}
 use Rattle.verse_least.proofs.Refusals.{refused_once}
 use Rattle.verse_items.specs.Nodes.{places_in}
 use Rattle.verse_names.specs.Breaking.{NamesBreak}
+use Rattle.verse_sound.proofs.Once.{mistyped_breaks, mistyped_once}
 use Rattle.verse_built.specs.Built.{first_unbuilt}
-use Rattle.verse_accept.specs.Stages.{OneResult, in_turn}
-use Rattle.verse_accept.specs.Fronts.{Cut, Laid, sized, cutting, laying, spelling, joining, naming, building, to_sized, to_cut, to_laid, to_spelled, to_joined, to_named, front_end, IsStuck, tok_place, refusal}
+use Rattle.verse_accept.specs.Stages.{OneResult, followed, in_turn}
+use Rattle.verse_accept.specs.Fronts.{Cut, Laid, sized, cutting, laying, spelling, joining, naming, typing, bounding, building, testing, to_sized, to_cut, to_laid, to_spelled, to_joined, front_end, IsStuck, tok_place, refusal}
 use Rattle.verse_accept.proofs.OneByOne.{one_followed, one_in_turn}
 use Rattle.verse_accept.proofs.StuckToks.{stuck_once, stuck_or_spelled}
 
@@ -74,6 +75,20 @@ one_naming = record {
   apart = λ a b r x y. x.1 y.fault.node y.fault.rule.0 y.leads.0;
 }
 
+one_typing : OneResult typing
+one_typing = record {
+  value = λ a b c x y. x.0 ∙ sym y.0;
+  refusal = λ a r q x y. mistyped_once a r q x y;
+  apart = λ a b r x y. mistyped_breaks a r y x.1;
+}
+
+one_bounding : OneResult bounding
+one_bounding = record {
+  value = λ a b c x y. x.0 ∙ sym y.0;
+  refusal = λ a r q x y. x.1 ∙ sym y.1;
+  apart = λ a b r x y. let small = x.1 in let large = y.0 in omega arith;
+}
+
 same_place : (is : List ItemTree) (p q : Place) (r u : Refusal) → first_unbuilt (program_order is) ≡ Some p → first_unbuilt (program_order is) ≡ Some q → r ≡ refusal 99 p → u ≡ refusal 99 q → r ≡ u
 same_place is p q r u e f g h = g ∙ ap (λ (x : Place). refusal 99 x) (same_Some p q (sym e ∙ f)) ∙ sym h
 
@@ -87,10 +102,17 @@ one_building = record {
   apart = λ a b r x y. built_or_not a y.0 x.1 y.1;
 }
 
+one_testing : OneResult testing
+one_testing =
+    one_followed (followed (followed naming typing) bounding) building
+    (one_followed (followed naming typing) bounding
+    (one_followed naming typing one_naming one_typing)
+    one_bounding)
+    one_building
+
 pub one_front_end : OneResult front_end
 one_front_end =
-    one_followed to_named building
-    (one_followed to_joined naming
+    one_followed to_joined testing
     (one_followed to_spelled joining
     (one_followed to_laid (in_turn spelling)
     (one_followed to_cut (in_turn laying)
@@ -98,5 +120,4 @@ one_front_end =
     (one_in_turn laying one_laying))
     (one_in_turn spelling one_spelling))
     one_joining)
-    one_naming)
-    one_building
+    one_testing

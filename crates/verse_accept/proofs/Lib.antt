@@ -3,6 +3,7 @@ pub mod ListedLayout
 pub mod Parts
 pub mod StuckToks
 pub mod OneByOne
+pub mod Tested
 pub mod Answered
 pub mod InTurn
 pub mod Joined

@@ -16,9 +16,10 @@ use Rattle.verse_grammar.specs.Items.{Program}
 use Rattle.verse_grammar.specs.Begins.{a_program, Stops}
 use Rattle.verse_grammar.specs.Toks.{ahead}
 use Rattle.verse_expr.specs.Faults.{stop_rule}
-use Rattle.verse_tree.specs.PostOrder.{program_order}
+use Rattle.verse_tree.specs.PostOrder.{program_order, program_place}
 use Rattle.verse_tree.specs.Numbering.{items_numbered}
 use Rattle.verse_names.specs.Breaking.{NamesBreak, IsMisnamed}
+use Rattle.verse_sound.specs.Sound.{BodiesBreak, IsMistyped, size_of, most_size}
 use Rattle.verse_built.specs.Built.{first_unbuilt}
 use Rattle.verse_accept.specs.Stages.{Stage, followed, in_turn, OneResult}
 
@@ -96,12 +97,30 @@ naming = record {
   refuses = λ (is : List ItemTree) (r : Refusal). IsMisnamed is r;
 }
 
+-- a program that breaks no rule of types or effects
+abbrev pub typing : Stage (List ItemTree) (List ItemTree)
+typing = record {
+  makes = λ (is : List ItemTree) (js : List ItemTree). (js ≡ is) × ((n c : ℕ) → BodiesBreak is n c → ⊥);
+  refuses = λ (is : List ItemTree) (r : Refusal). IsMistyped is r;
+}
+
+-- a program that is no larger than a program may be
+abbrev pub bounding : Stage (List ItemTree) (List ItemTree)
+bounding = record {
+  makes = λ (is : List ItemTree) (js : List ItemTree). (js ≡ is) × (size_of is ≤ most_size);
+  refuses = λ (is : List ItemTree) (r : Refusal). (most_size < size_of is) × (r ≡ refusal 98 program_place);
+}
+
 -- a program that is built
 abbrev pub building : Stage (List ItemTree) (List ItemTree)
 building = record {
   makes = λ (is : List ItemTree) (js : List ItemTree). (js ≡ is) × (first_unbuilt (program_order is) ≡ None);
   refuses = λ (is : List ItemTree) (r : Refusal). (place : Place) × (first_unbuilt (program_order is) ≡ Some place) × (r ≡ refusal 99 place);
 }
+
+-- the rules over the whole program, one group behind the other
+abbrev pub testing : Stage (List ItemTree) (List ItemTree)
+testing = followed (followed (followed naming typing) bounding) building
 
 -- ---- the front end: the layers one behind the other; a further one is one more line
 
@@ -120,11 +139,8 @@ to_spelled = followed to_laid (in_turn spelling)
 abbrev pub to_joined : Stage (List (List ℕ)) (List ItemTree)
 to_joined = followed to_spelled joining
 
-abbrev pub to_named : Stage (List (List ℕ)) (List ItemTree)
-to_named = followed to_joined naming
-
 abbrev pub front_end : Stage (List (List ℕ)) (List ItemTree)
-front_end = followed to_named building
+front_end = followed to_joined testing
 
 -- the files are a program that is accepted, of these items
 abbrev pub Accepts : List (List ℕ) → List ItemTree → Type 0

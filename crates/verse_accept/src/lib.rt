@@ -1,4 +1,4 @@
-//! The front end: the files of a program, from their bytes to the items that are accepted.
+//! The front end: the files of a program, from their bytes to the program that is accepted.
 //!
 //! To be read in this order: `programs`, the whole program; `turns`, a layer over all files in
 //! turn; `files`, the layers over one file. The lemmas of `Answered` in `proofs/` are the crate's
@@ -9,4 +9,4 @@ mod files;
 mod programs;
 mod turns;
 
-pub use programs::{accept, accepted_once};
+pub use programs::{Accepted, accept, accepted_once};

@@ -1,22 +1,32 @@
 //! The whole program: the layers one behind the other.
 
-ghost use Rattle.std.specs.Prelude.{◌≡◌, ◌≤◌, ℕ, IfOk, IsSome, length, map};
+ghost use Rattle.std.specs.Prelude.{◌≡◌, ◌≤◌, ◌<◌, IfOk, IsSome, length, map};
 ghost use Rattle.std.specs.Result.{IsErrOf};
 ghost use Rattle.verse_base.specs.RuleText.{rule_text_of};
 ghost use Rattle.verse_base.specs.declared.refusals.Refusal.{Refusal};
 ghost use Rattle.verse_base.specs.declared.refusals.Front.TheVariants as front;
 ghost use Rattle.verse_tree.specs.ItemView.{item_of};
+ghost use Rattle.verse_tree.specs.Numbering.{program_nodes};
+ghost use Rattle.verse_tree.specs.PostOrder.{program_place};
 ghost use Rattle.verse_items.specs.Nodes.{IsNumbered};
-ghost use Rattle.verse_join.specs.Joining.{file_items};
-ghost use Rattle.verse_accept.specs.Fronts.{Accepts, AcceptedOnce, IsRefused, to_spelled, to_joined};
+ghost use Rattle.verse_sound.specs.Sound.{completed, most_size, size_of, types_of};
+ghost use Rattle.verse_types.specs.Types.{ty_of};
+ghost use Rattle.verse_accept.specs.Fronts.{Accepts, AcceptedOnce, IsRefused, refusal, testing, to_spelled, to_joined};
 
 use crate::turns::{cut_all, lay_all, spell_all, too_large};
 use std::alloc::Global;
+use verse_base::places::Place;
 use verse_base::refusals::{Front, Refusal, Rule};
 use verse_built::unbuilt;
 use verse_item_handles::items::ProgramTree;
 use verse_join::join;
-use verse_names::naming::name_program;
+use verse_sound::programs::{Checked, check_program};
+use verse_sound::sizes::{MOST_SIZE, program_size};
+use verse_tree::items::Tree;
+use verse_tree::tables::Names;
+
+/// E098: a program is too large.
+const TOO_LARGE: Rule = Rule(98);
 
 /// E099: a form is not built.
 const NOT_BUILT: Rule = Rule(99);
@@ -26,31 +36,79 @@ pub fn accepted_once()
     ensures { AcceptedOnce }
 {}
 
+/// A program that is accepted, with its tables and types.
+#[derive(Drop)]
+pub struct Accepted {
+    pub tree: ProgramTree,
+    pub checked: Checked,
+}
+
 /// The program in 1 to 16 files: the items of all files, in the order of the files, with all nodes
-/// numbered. It is refused at the first place, in the order of the layers, of the files, and of the
-/// places in a file, that breaks a rule.
-pub fn accept(alloc: Global, files: &[Vec<u8>]) -> Result<ProgramTree, Front>
+/// numbered, what its names stand for, and the types of its nodes. It is refused at the first place,
+/// in the order of the layers, of the files, and of the places in a file, that breaks a rule.
+pub fn accept(alloc: Global, files: &[Vec<u8>]) -> Result<Accepted, Front>
     requires { length files.now ≤ 16 }
-    ensures accepted { IfOk result (λ tree. Accepts (map (λ f. f.items) files.now) (map item_of tree.items)) }
-    ensures files { IfOk result (λ tree. tree.files ≡ length files.now) }
+    ensures accepted { IfOk result (λ a. Accepts (map (λ f. f.items) files.now) (map item_of a.tree.items)) }
+    ensures files { IfOk result (λ a. a.tree.files ≡ length files.now) }
+    ensures names { IfOk result (λ a. a.checked.names ≡ completed (map item_of a.tree.items)) }
+    ensures types { IfOk result (λ a. map ty_of a.checked.typed.types ≡ types_of (map item_of a.tree.items)) }
     ensures refused { (r : Refusal) → IsErrOf result (front.Refused r) → IsRefused (map (λ f. f.items) files.now) r }
     ensures listed { (r : Refusal) → IsErrOf result (front.Refused r) → IsSome (rule_text_of r.rule.0) }
 {
     let tree = read(alloc, files)?;
-    name_program(alloc, tree.get())?;
-    match unbuilt(tree.get().items.as_slice()) {
+    let checked = test(alloc, tree.get())?;
+    Ok(Accepted { tree, checked })
+}
+
+/// Tests the rules over a whole program: those of names, of types and effects, its size, and whether
+/// it is built.
+fn test(alloc: Global, tree: &Tree) -> Result<Checked, Front>
+    requires numbered { IsNumbered (map item_of tree.now.items) tree.now.nodes }
+    requires counted { tree.now.nodes ≡ program_nodes (map item_of tree.now.items) }
+    ensures fine { IfOk result (λ _. testing.makes (map item_of tree.now.items) (map item_of tree.now.items)) }
+    ensures names { IfOk result (λ c. c.names ≡ completed (map item_of tree.now.items)) }
+    ensures types { IfOk result (λ c. map ty_of c.typed.types ≡ types_of (map item_of tree.now.items)) }
+    ensures refused { (r : Refusal) → IsErrOf result (front.Refused r) → testing.refuses (map item_of tree.now.items) r }
+    ensures listed { (r : Refusal) → IsErrOf result (front.Refused r) → IsSome (rule_text_of r.rule.0) }
+{
+    let checked = check_program(alloc, tree)?;
+    bound(tree, &checked.names)?;
+    match unbuilt(tree.items.as_slice()) {
         Some(place) => Err(Front::Refused(Refusal {
             rule: NOT_BUILT,
             place,
         })),
-        None => Ok(tree),
+        None => Ok(checked),
     }
+}
+
+/// Refuses a program that is too large.
+fn bound(tree: &Tree, names: &Names) -> Result<(), Front>
+    requires counted { tree.now.nodes ≡ program_nodes (map item_of tree.now.items) }
+    requires names { names.now ≡ completed (map item_of tree.now.items) }
+    ensures fine { IfOk result (λ _. size_of (map item_of tree.now.items) ≤ most_size) }
+    ensures refused { (r : Refusal) → IsErrOf result (front.Refused r) → (most_size < size_of (map item_of tree.now.items)) × (r ≡ refusal 98 program_place) }
+    ensures listed { (r : Refusal) → IsErrOf result (front.Refused r) → IsSome (rule_text_of r.rule.0) }
+{
+    if program_size(tree, names)? <= MOST_SIZE {
+        return Ok(());
+    }
+    let place = Place {
+        file: 0,
+        line: 1,
+        col: 1,
+    };
+    Err(Front::Refused(Refusal {
+        rule: TOO_LARGE,
+        place,
+    }))
 }
 
 /// The program that the files spell.
 fn read(alloc: Global, files: &[Vec<u8>]) -> Result<ProgramTree, Front>
     requires { length files.now ≤ 16 }
     ensures numbered { IfOk result (λ tree. IsNumbered (map item_of tree.items) tree.nodes) }
+    ensures counted { IfOk result (λ tree. tree.nodes ≡ program_nodes (map item_of tree.items)) }
     ensures made { IfOk result (λ tree. to_joined.makes (map (λ f. f.items) files.now) (map item_of tree.items)) }
     ensures files { IfOk result (λ tree. tree.files ≡ length files.now) }
     ensures refused { (r : Refusal) → IsErrOf result (front.Refused r) → to_spelled.refuses (map (λ f. f.items) files.now) r }
