@@ -133,6 +133,13 @@ impl TraceBuf {
         };
     }
 
+    /// Closes all open marks and keeps the lines.
+    pub fn commit_all(&mut self)
+        ensures { self.new ≡ record self.old { marks = [] } }
+    {
+        self.marks.clear();
+    }
+
     /// Closes the newest mark and takes the lines back to it.
     pub fn rollback(&mut self)
         requires { self.old.marks ≢ [] }

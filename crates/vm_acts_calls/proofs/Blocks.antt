@@ -149,4 +149,4 @@ module _ {h : Kept} {tr : Trace} {l s n : ℕ} where
 
 -- a step was spent, and the task goes on
 pub spent_on : {u v : View} → Leads (spends going) u going v → Comes (spends going) did.On u v
-spent_on lead = comes_by lead (record { ends = λ a w x past. refl; ready = lead.ready })
+spent_on lead = comes_by lead (record { ends = λ a w x past. (refl, past); ready = lead.ready })

@@ -69,7 +69,7 @@ module _ {h : Kept} {tr : Trace} {l s n : ℕ} where
   opens_comes g vs [] gs r e = absurd (r.some refl)
   opens_comes g vs (f ∷ fs) gs r e =
       rw e (record {
-        ends = λ a w x past. ap (λ us. Next (machine w x (state_of a (at h tr l s n (f ∷ fs))) (life_from l) (vs ++ us) [] g.entry [] (frames_with (f ∷ fs) (memories a.past h.copies tr.marks)))) (units_same (g.locals - g.params));
+        ends = λ a w x past. (ap (λ us. Next (machine w x (state_of a (at h tr l s n (f ∷ fs))) (life_from l) (vs ++ us) [] g.entry [] (frames_with (f ∷ fs) (memories a.past h.copies tr.marks)))) (units_same (g.locals - g.params)), past);
         ready = ready_as (entered l g vs (f ∷ fs)) r (omega arith) (λ none. absurd (omega (arith, ap length none)));
       })
 

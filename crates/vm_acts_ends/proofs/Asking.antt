@@ -1,25 +1,24 @@
 -- One after the other, up to what is asked; and a task that no failure context and no deferred block holds.
-use Rattle.std.proofs.Common.{◌≡◌, ◌≢◌, ℕ, zero, suc, ◌+◌, ◌<◌, ◌≤◌, Bool, true, false, Result, Ok, Err, IfOk, IfSome, IfNone, Option, Some, None, List, [], ◌∷◌, length, map, refl, sym, ap, subst, ◌∙◌, arith}
+use Rattle.std.proofs.Common.{◌≡◌, ◌≢◌, ℕ, zero, suc, ◌+◌, true, false, IfSome, IfNone, Option, Some, None, List, [], ◌∷◌, length, map, refl, sym, ap, subst, ◌∙◌, arith}
 use Rattle.verse_value.specs.Val.{Val}
 use Rattle.verse_value.specs.declared.runs.Ending.TheVariants as ending
-use Rattle.verse_state.specs.State.{State, Memory}
-use Rattle.verse_machine.specs.Tasks.{Note, Who, World, Step, Frame}
-use Rattle.verse_machine.specs.Tasks as machine
+use Rattle.verse_state.specs.State.{Memory}
+use Rattle.verse_machine.specs.Tasks.{Frame}
 use Rattle.verse_machine.specs.Frames as m
-use Rattle.verse_machine.specs.Frames.{free, on_there}
+use Rattle.verse_machine.specs.Frames.{free}
 use Rattle.tx_heap.specs.State.{State as Kept}
 use Rattle.trace_buf.specs.Trace.{Trace}
 use Rattle.fiber.specs.Frames.{Handler, fits}
 use Rattle.vm_thread.specs.Framed.{Framed, place_of}
 use Rattle.vm_thread.specs.Calls.{permits, moved, pushed, with_stack, popped_from, popped, many_of, with_many, popped_many}
 use Rattle.vm_runner.specs.Operands.{two_from, popped_two}
-use Rattle.vm_thread.specs.Machine.{note_of, frame_with, frames_with, handlers_with, handlers_in, all_free, beyond}
+use Rattle.vm_thread.specs.Machine.{note_of, frames_with, handlers_with, handlers_in, all_free, beyond}
 use Rattle.vm_runner.specs.declared.runners.Did.{Did}
 use Rattle.vm_runner.specs.declared.runners.Did.TheVariants as did
-use Rattle.vm_runner.specs.Views.{View, Aside, IsPast, Ready, state_of, memories}
-use Rattle.vm_runner.specs.Doings.{Doing, spends}
-use Rattle.vm_runner.specs.Comes.{done, Ends, Comes, Leads}
-use Rattle.vm_runner.proofs.Steps.{at, stays, sticks, fits_in, ready_as}
+use Rattle.vm_runner.specs.Views.{View, Ready, state_of, memories}
+use Rattle.vm_runner.specs.Doings.{Doing}
+use Rattle.vm_runner.specs.Comes.{done, Comes, Leads}
+use Rattle.vm_runner.proofs.Steps.{at, stays, sticks, ready_as}
 use Rattle.vm_acts_ends.specs.declared.asked.Asked.{Asked}
 use Rattle.vm_acts_ends.specs.declared.asked.Asked.TheVariants as asked
 use Rattle.vm_acts_ends.specs.Asking.{AsksFor, Asks, Settled, IsFree}
@@ -29,10 +28,6 @@ asks_by {r = r} {z = z} lead more = record {
   asks = λ a w x past. subst (λ q. AsksFor q r a w x z) (sym (lead.same a w x past)) (more.asks a w x (lead.past a past));
   ready = more.ready;
 }
-
-pub ok_asks : {E : Type 0} {d e : Doing} {v u : View} (r : Result Asked E) (z : View) → Leads d v e u → IfOk r (λ k. Asks e k u z) → IfOk r (λ k. Asks d k v z)
-ok_asks (Ok k) z lead more = asks_by lead more
-ok_asks (Err x) z lead more = tt
 
 -- nothing is asked
 pub asks_nothing : {d : Doing} {v u : View} (r : Did) → Comes d r v u → Asks d (asked.Nothing r) v u
@@ -101,19 +96,6 @@ module _ {h : Kept} {tr : Trace} {l s n : ℕ} where
         asks = λ a w x past. subst (λ q. AsksFor q k a w x z) (ap (λ gs. done go a w x (at h tr l s n gs)) (sym is)) (more.asks a w x past);
         ready = more.ready;
       }
-
-  pub asks_spends_next : (go : Doing) (k : Asked) (z : View) (fs gs : List Framed) → fs ≢ [] → gs ≡ moved (place_of fs + 1) fs → Asks (spends go) k (at h tr l s n gs) z → Asks (spends (after_next go)) k (at h tr l s n fs) z
-  asks_spends_next go k z [] gs some e more = absurd (some refl)
-  asks_spends_next go k z (f ∷ fs) gs some e more =
-      let one : f.frame.place + 1 ≡ suc f.frame.place = omega arith in
-      let is : moved (suc f.frame.place) (f ∷ fs) ≡ gs = ap (λ q. moved q (f ∷ fs)) (sym one) ∙ sym e in
-      record {
-        asks = λ a w x past. subst (λ q. AsksFor q k a w x z) (ap (λ gs. done (spends go) a w x (at h tr l s n gs)) (sym is)) (more.asks a w x past);
-        ready = more.ready;
-      }
-
-  pub settled : (fs gs : List Framed) → Ready (at h tr l s n gs) → handlers_in fs ≡ 0 → gs ≡ fs → Settled (at h tr l s n gs)
-  settled fs gs r bare e = record { ready = r; bare = ap handlers_in e ∙ bare }
 
   pub settled_pushed : (v : Val) (fs gs : List Framed) → Ready (at h tr l s n fs) → handlers_in fs ≡ 0 → gs ≡ moved (place_of (pushed v fs) + 1) (pushed v fs) → Settled (at h tr l s n gs)
   settled_pushed v [] gs r bare e = absurd (r.some refl)

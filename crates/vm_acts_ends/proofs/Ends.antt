@@ -1,5 +1,5 @@
 -- Frames that end.
-use Rattle.std.proofs.Common.{◌≡◌, ◌≢◌, ℕ, zero, suc, ◌+◌, ◌<◌, ◌≤◌, Bool, true, false, cond, nat_eq, nat_lt, Option, Some, None, List, [], ◌∷◌, length, map, refl, sym, ap, subst, ◌∙◌, arith}
+use Rattle.std.proofs.Common.{◌≡◌, ◌≢◌, ℕ, zero, suc, Bool, true, false, cond, nat_eq, nat_lt, Option, Some, None, List, [], ◌∷◌, length, map, refl, sym, ap, subst, ◌∙◌, arith}
 use Rattle.std.proofs.lemmas.Bool.Decides.{nat_tests}
 use Rattle.verse_code.specs.declared.codes.Code.{Code}
 use Rattle.verse_code.specs.declared.operations.Op.TheVariants as op
@@ -7,10 +7,9 @@ use Rattle.verse_value.specs.Val.{Val}
 use Rattle.verse_value.specs.View.{val_of}
 use Rattle.verse_value.specs.declared.values.Value.{Value}
 use Rattle.verse_value.specs.declared.runs.Ending.TheVariants as ending
-use Rattle.verse_state.specs.State.{State, Memory}
+use Rattle.verse_state.specs.State.{Memory}
 use Rattle.verse_state.specs.Waits.{ltn}
-use Rattle.verse_machine.specs.Tasks.{Note, to, gone, Who, World, Step, Next, Frame}
-use Rattle.verse_machine.specs.Tasks as tasks
+use Rattle.verse_machine.specs.Tasks.{to, gone, Who, World}
 use Rattle.verse_machine.specs.Frames as m
 use Rattle.verse_machine.specs.Frames.{nothing, clean}
 use Rattle.verse_machine.specs.Ends.{returns, ends, cleared}
@@ -18,20 +17,19 @@ use Rattle.verse_machine.specs.Cancelling.{clears_frames}
 use Rattle.verse_machine.specs.Acts.{on_noted, on_note}
 use Rattle.tx_heap.specs.State.{State as Kept}
 use Rattle.trace_buf.specs.Trace.{Trace}
-use Rattle.verse_value.specs.Store.{Store}
 use Rattle.fiber.specs.Frames.{Handler, kept_noted}
 use Rattle.vm_thread.specs.Framed.{Framed, born_of, place_of, defers_of, noted_of}
 use Rattle.vm_thread.specs.Calls.{left_from, left, ended_from, ended}
-use Rattle.vm_thread.specs.Machine.{gone_note, note_of, life_of, frame_with, frames_with, handlers_with, handlers_in, beyond}
+use Rattle.vm_thread.specs.Machine.{note_of, life_of, frame_with, frames_with, handlers_with, beyond}
 use Rattle.vm_runner.specs.declared.runners.Did.TheVariants as did
-use Rattle.vm_runner.specs.Views.{View, Aside, IsPast, Ready, state_of, memories}
-use Rattle.vm_runner.specs.Doings.{Doing, acts, goes_to, on_frame}
+use Rattle.vm_runner.specs.Views.{Aside, Ready, state_of, memories}
+use Rattle.vm_runner.specs.Doings.{Doing, acts, goes_to}
 use Rattle.vm_runner.specs.Comes.{done, Comes, Leads}
 use Rattle.vm_runner.proofs.Steps.{at, stays, sticks, ready_as}
 use Rattle.vm_acts_ends.specs.declared.asked.Asked.TheVariants as asked
 use Rattle.vm_acts_ends.specs.declared.asked.Ended.{Ended}
 use Rattle.vm_acts_ends.specs.Asking.{Asks, Over, clearing_of}
-use Rattle.vm_acts_ends.proofs.Asking.{asks_nothing, asks_by}
+use Rattle.vm_acts_ends.proofs.Asking.{asks_nothing}
 
 -- the frame returns, or its part ends, with a value
 abbrev pub returning : Val → Doing

@@ -1,36 +1,35 @@
 -- Tasks that begin.
-use Rattle.std.proofs.Common.{◌≡◌, ◌≢◌, ℕ, zero, suc, ◌+◌, ◌-◌, ◌<◌, ◌≤◌, Bool, true, false, Option, Some, None, Result, IfOk, List, [], ◌∷◌, ◌++◌, length, map, option_map, slice_get, refl, sym, ap, subst, ◌∙◌, arith}
+use Rattle.std.proofs.Common.{◌≡◌, ◌≢◌, ℕ, zero, suc, ◌+◌, ◌≤◌, Option, Some, None, List, [], ◌∷◌, ◌++◌, length, option_map, slice_get, refl, sym, ap, subst, ◌∙◌, arith}
 use Rattle.verse_base.specs.declared.places.Place.{Place}
 use Rattle.verse_code.specs.declared.codes.Func.{Func}
 use Rattle.verse_code.specs.declared.codes.Code.{Code}
 use Rattle.verse_code.specs.declared.operations.Op.{Op}
-use Rattle.verse_code.specs.declared.operations.Op.TheVariants as op
-use Rattle.verse_value.specs.Val.{Val, unit}
+use Rattle.verse_value.specs.Val.{Val}
+use Rattle.verse_value.specs.View.{vals_of}
+use Rattle.verse_value.specs.declared.values.Value.{Value}
+use Rattle.std.specs.Global.{Vec}
 use Rattle.verse_value.specs.declared.runs.Ending.TheVariants as ending
-use Rattle.verse_state.specs.State.{State, spending, with_entry}
-use Rattle.verse_machine.specs.Tasks.{Who, World, world, spawning, branching, Step, Next, Over, Frame, thread, machine, life_from, root_named, child_named}
-use Rattle.verse_machine.specs.Tasks as tasks
-use Rattle.verse_machine.specs.Frames as m
+use Rattle.verse_state.specs.State.{State}
+use Rattle.verse_machine.specs.Tasks.{world, branching, Step, Next, thread, machine, life_from, child_named}
 use Rattle.verse_machine.specs.Frames.{on_there, on_many, on_top, method_of}
-use Rattle.verse_machine.specs.Acts.{place_at, spawns, frame, labels, label_of, on_label, after_arms, groups, kind_of}
+use Rattle.verse_machine.specs.Acts.{spawns, frame, labels, label_of, on_label, after_arms, groups, kind_of}
 use Rattle.tx_heap.specs.State.{State as Kept}
 use Rattle.trace_buf.specs.Trace.{Trace}
-use Rattle.fiber.specs.Calls as fiber
-use Rattle.vm_thread.specs.Framed.{Framed, place_of, locals_of}
-use Rattle.vm_thread.specs.Calls.{moved, entered, alone}
-use Rattle.vm_thread.specs.Machine.{frame_with, frames_with, handlers_with, handlers_in, beyond}
-use Rattle.vm_thread.specs.declared.threads.Thread.{Thread}
+use Rattle.vm_thread.specs.Framed.{Framed, place_of}
+use Rattle.vm_thread.specs.Calls.{moved}
+use Rattle.vm_thread.specs.Machine.{frame_with, frames_with, beyond}
 use Rattle.vm_runner.specs.declared.runners.Did.TheVariants as did
-use Rattle.vm_runner.specs.Views.{View, Aside, IsPast, Ready, state_of, memories}
+use Rattle.vm_runner.specs.Views.{View, Ready, state_of, memories}
 use Rattle.vm_runner.specs.Doings.{Doing, spends, popping_many}
-use Rattle.vm_runner.specs.Comes.{done, Comes, Leads}
+use Rattle.vm_runner.specs.Comes.{done, Leads}
 use Rattle.vm_runner.proofs.Steps.{at, stays, sticks}
 use Rattle.vm_acts_calls.specs.Calling.{chosen_of}
 use Rattle.vm_acts_ends.specs.declared.asked.Asked.{Asked}
 use Rattle.vm_acts_ends.specs.declared.asked.Asked.TheVariants as asked
 use Rattle.vm_acts_ends.specs.declared.asked.Arms.{Arms}
-use Rattle.vm_acts_ends.specs.Asking.{AsksFor, Asks, Settled, spawning_of, branching_of, arms_of, begins}
-use Rattle.vm_acts_ends.proofs.Asking.{asks_nothing, ok_asks, after_next}
+use Rattle.vm_acts_ends.specs.declared.asked.Call.{Call}
+use Rattle.vm_acts_ends.specs.Asking.{Asks, Settled, spawning_of, branching_of, arms_of}
+use Rattle.vm_acts_ends.proofs.Asking.{asks_nothing, asks_by, asks_next, asks_same, after_next}
 
 many_more : (k : ℕ) (st us : List Val) (s : State) (go : List Val → List Val → Step) → on_many k st us s (λ vs st. on_top st s (λ v st. go (v ∷ vs) st)) ≡ on_many (suc k) st us s go
 many_more zero [] us s go = refl
@@ -38,14 +37,12 @@ many_more zero (v ∷ st) us s go = refl
 many_more (suc k) [] us s go = refl
 many_more (suc k) (v ∷ st) us s go = many_more k st (v ∷ us) s go
 
-units_same : (n : ℕ) → m.units n ≡ fiber.units n
-units_same zero = refl
-units_same (suc n) = ap (λ us. unit ∷ us) (units_same n)
+-- a task of its own begins with a call
+abbrev pub begins : Func → List Val → Doing
+begins g vs = after_next (spawning_of g vs)
 
--- a task of its own begins with a frame of the function
-abbrev pub spawned : Func → List Val → Doing
-spawned g vs w x s f fs =
-    Next (machine (root_named s.clock.left (Some (length s.clock.results))) (world [] [] (spawning (thread w f fs) (length s.clock.results) x.pre x.post ∷ x.ups) x.trees) (with_entry s) (life_from s.clock.left) (m.locals_of g vs) [] g.entry [] [])
+abbrev pub called : Func → Vec Value → Call
+called g vs = record { func = g; args = vs }
 
 -- the method of the first value begins with all of them
 abbrev pub begins_method : Code → (i k : ℕ) → List Val → Doing
@@ -135,23 +132,7 @@ told_none items (Some v) r is e = absurd (cc)
 pub told_some : {V : Type 0} (items : V → List ℕ) (o : Option V) (v : V) (r : Option (List ℕ)) → o ≡ Some v → option_map items o ≡ r → Some (items v) ≡ r
 told_some items o v r is e = sym (ap (option_map items) is) ∙ e
 
--- the number of the task is that of before the step
-module _ (h : Kept) (tr : Trace) (s n : ℕ) where
-  begins_at : (l : ℕ) (g : Func) (vs : List Val) (f : Framed) (fs : List Framed) (a : Aside) (w : Who) (x : World) → done (begins g vs) a w x (at h tr l s n (f ∷ fs)) ≡ done (spends (after_next (spawned g vs))) a w x (at h tr l s n (f ∷ fs))
-  begins_at zero g vs f fs a w x = refl
-  begins_at (suc l) g vs f fs a w x = refl
-
-module _ (h : Kept) (tr : Trace) (l s n : ℕ) where
-  some_groups : (k : ℕ) (p : Place) (to : ℕ) (ls : List ℕ) → (length ls ≡ 0 → ⊥) → (f : Framed) (fs : List Framed) (a : Aside) (w : Who) (x : World) → groups (kind_of k) p ls to w x (state_of a (at h tr l s n (f ∷ fs))) (frame_with f (memories a.past h.copies tr.marks)).life f.frame.locals f.frame.stack (frame_with f (memories a.past h.copies tr.marks)).handlers (frames_with fs (beyond f.frame.handlers (memories a.past h.copies tr.marks))) ≡ done (arms_of k p ls) a w x (at h tr l s n (moved to (f ∷ fs)))
-  some_groups k p to [] some f fs a w x = absurd (some refl)
-  some_groups k p to (b ∷ ls) some f fs a w x = refl
-
 module _ {h : Kept} {tr : Trace} {l s n : ℕ} where
-  pub begins_asks : (g : Func) (vs : List Val) (k : Asked) (z : View) (fs : List Framed) → fs ≢ [] → Asks (spends (after_next (spawned g vs))) k (at h tr l s n fs) z → Asks (begins g vs) k (at h tr l s n fs) z
-  begins_asks g vs k z [] some more = absurd (some refl)
-  begins_asks g vs k z (f ∷ fs) some more =
-      record { asks = λ a w x past. subst (λ q. AsksFor q k a w x z) (sym (begins_at h tr s n l g vs f fs a w x)) (more.asks a w x past); ready = more.ready }
-
   pub method_leads : (c : Code) (i k : ℕ) (fs : List Framed) → Ready (at h tr l s n fs) → Leads (pops_method c i k) (at h tr l s n fs) (popping_many (suc k) (begins_method c i k)) (at h tr l s n fs)
   method_leads c i k [] r = absurd (r.some refl)
   method_leads c i k (f ∷ fs) r =
@@ -170,24 +151,22 @@ module _ {h : Kept} {tr : Trace} {l s n : ℕ} where
   pub method_stuck : {i : Kept} (c : Code) (j k : ℕ) (vs : List Val) (fs gs : List Framed) → i ≡ h → ((t : State) → t.memory.store ≡ h.cells → None ≡ chosen_of c j k vs t) → Asks (begins_method c j k vs) (asked.Nothing (did.Over ending.Stuck)) (at h tr l s n fs) (at i tr l s n gs)
   method_stuck c j k vs fs gs same is = subst (λ i. Asks (begins_method c j k vs) (asked.Nothing (did.Over ending.Stuck)) (at h tr l s n fs) (at i tr l s n gs)) (sym same) (method_none c j k vs fs gs is)
 
-  pub method_ok : {E : Type 0} {i : Kept} (c : Code) (j k : ℕ) (vs : List Val) (g : Func) (r : Result Asked E) (z : View) (fs : List Framed) → Ready (at h tr l s n fs) → i ≡ h → ((t : State) → t.memory.store ≡ h.cells → Some g ≡ chosen_of c j k vs t) → IfOk r (λ d. Asks (begins g vs) d (at i tr l s n fs) z) → IfOk r (λ d. Asks (begins_method c j k vs) d (at h tr l s n fs) z)
-  method_ok c j k vs g r z fs ready same is more = ok_asks r z (method_there c j k vs g fs ready is) (subst (λ i. IfOk r (λ d. Asks (begins g vs) d (at i tr l s n fs) z)) same more)
+  pub method_asks : {i : Kept} (c : Code) (j k : ℕ) (vs : List Val) (g : Func) (d : Asked) (z : View) (fs : List Framed) → Ready (at h tr l s n fs) → i ≡ h → ((t : State) → t.memory.store ≡ h.cells → Some g ≡ chosen_of c j k vs t) → Asks (begins g vs) d (at i tr l s n fs) z → Asks (begins_method c j k vs) d (at h tr l s n fs) z
+  method_asks c j k vs g d z fs ready same is more = asks_by (method_there c j k vs g fs ready is) (asks_same same more)
 
-  pub spawn_asks : (g : Func) (vs : List Val) (child : Thread) (fs : List Framed) → Settled (at h tr l s n fs) → child ≡ entered l g vs [] → Asks (spawned g vs) (asked.Spawn child) (at h tr l s n fs) (at h tr l s n fs)
-  spawn_asks g vs child [] r is = absurd (r.ready.some refl)
-  spawn_asks g vs child (f ∷ fs) r is =
-      record {
-        asks = λ a w x past. ap (λ us. Next (machine (root_named l (Some (length a.results))) (world [] [] (spawning (thread w (frame_with f (memories a.past h.copies tr.marks)) (frames_with fs (beyond f.frame.handlers (memories a.past h.copies tr.marks)))) (length a.results) x.pre x.post ∷ x.ups) x.trees) (with_entry (state_of a (at h tr l s n (f ∷ fs)))) (life_from l) (vs ++ us) [] g.entry [] [])) (units_same (g.locals - g.params)) ∙ ap (λ child. done (spawning_of child) a w x (at h tr l s n (f ∷ fs))) (sym is);
-        ready = r;
-      }
+  pub spawn_asks : (g : Func) (c : Call) (fs gs : List Framed) → fs ≢ [] → gs ≡ moved (place_of fs + 1) fs → Settled (at h tr l s n gs) → c.func ≡ g → Asks (begins g (vals_of c.args.items)) (asked.Spawn c) (at h tr l s n fs) (at h tr l s n gs)
+  spawn_asks g c fs gs some to settled e =
+      asks_next (spawning_of g (vals_of c.args.items)) (asked.Spawn c) (at h tr l s n gs) fs gs some to (record {
+        asks = λ a w x past. ap (λ g. done (spawning_of g (vals_of c.args.items)) a w x (at h tr l s n gs)) (sym e);
+        ready = settled;
+      })
 
-  pub branch_asks : (label q : ℕ) (child : Thread) (fs gs : List Framed) → Ready (at h tr l s n fs) → q ≡ place_of fs + 1 → child ≡ alone l q (locals_of fs) → gs ≡ moved label fs → Settled (at h tr l s n gs) → Asks (branched label) (asked.Branch child) (at h tr l s n fs) (at h tr l s n gs)
-  branch_asks label q child [] gs r next is to settled = absurd (r.some refl)
-  branch_asks label q child (f ∷ fs) gs r next is to settled =
+  pub branch_asks : (label q : ℕ) (fs gs : List Framed) → Ready (at h tr l s n fs) → q ≡ place_of fs + 1 → gs ≡ moved label fs → Settled (at h tr l s n gs) → Asks (spends (branched label)) (asked.Branch q) (at h tr l s n fs) (at h tr l s n gs)
+  branch_asks label q [] gs r next to settled = absurd (r.some refl)
+  branch_asks label q (f ∷ fs) gs r next to settled =
       let one : q ≡ suc f.frame.place = omega (arith, next) in
-      let same : alone l (suc f.frame.place) f.frame.locals ≡ child = ap (λ q. alone l q f.frame.locals) (sym one) ∙ sym is in
       record {
-        asks = λ a w x past. ap (λ child. done (branching_of child) a w x (at h tr l s n (moved label (f ∷ fs)))) same ∙ ap (λ gs. done (branching_of child) a w x (at h tr l s n gs)) (sym to);
+        asks = λ a w x past. ap (λ q. done (branching_of q) a w x (at h tr l s n (moved label (f ∷ fs)))) (sym one) ∙ ap (λ gs. done (branching_of q) a w x (at h tr l s n gs)) (sym to);
         ready = settled;
       }
 
@@ -206,9 +185,9 @@ module _ {h : Kept} {tr : Trace} {l s n : ℕ} where
       let there : labels c.ops (suc f.frame.place) count ≡ Some [] = ap (λ q. labels c.ops q count) (sym one) ∙ sym is in
       asks_nothing _ (sticks (grouped c k count p) (f ∷ fs) gs (λ a w x. ap (λ o. on_there o (state_of a (at h tr l s n (f ∷ fs))) (λ ls. groups (kind_of k) p ls (after_arms (suc f.frame.place) count) w x (state_of a (at h tr l s n (f ∷ fs))) (frame_with f (memories a.past h.copies tr.marks)).life f.frame.locals f.frame.stack (frame_with f (memories a.past h.copies tr.marks)).handlers (frames_with fs (beyond f.frame.handlers (memories a.past h.copies tr.marks))))) there))
 
-  pub group_asks : (c : Code) (k count q to : ℕ) (p : Place) (arms : Arms) (fs gs : List Framed) → Ready (at h tr l s n fs) → q ≡ place_of fs + 1 → Some arms.labels.items ≡ labels c.ops q count → arms.kind ≡ k → arms.place ≡ p → (length arms.labels.items ≡ 0 → ⊥) → to ≡ q + count → gs ≡ moved to fs → Settled (at h tr l s n gs) → Asks (grouped c k count p) (asked.Arms arms) (at h tr l s n fs) (at h tr l s n gs)
-  group_asks c k count q to p arms [] gs r next is same_kind same_place some there e settled = absurd (r.some refl)
-  group_asks c k count q to p arms (f ∷ fs) gs r next is same_kind same_place some there e settled =
+  pub group_asks : (c : Code) (k count q to : ℕ) (p : Place) (arms : Arms) (fs gs : List Framed) → Ready (at h tr l s n fs) → q ≡ place_of fs + 1 → Some arms.labels.items ≡ labels c.ops q count → arms.kind ≡ k → arms.place ≡ p → to ≡ q + count → gs ≡ moved to fs → Settled (at h tr l s n gs) → Asks (grouped c k count p) (asked.Arms arms) (at h tr l s n fs) (at h tr l s n gs)
+  group_asks c k count q to p arms [] gs r next is same_kind same_place there e settled = absurd (r.some refl)
+  group_asks c k count q to p arms (f ∷ fs) gs r next is same_kind same_place there e settled =
       let one : q ≡ suc f.frame.place = omega (arith, next) in
       let found : labels c.ops (suc f.frame.place) count ≡ Some arms.labels.items = ap (λ q. labels c.ops q count) (sym one) ∙ sym is in
       let place : after_arms (suc f.frame.place) count ≡ to = let more = after_is (suc f.frame.place) count in omega (arith, more, one, there) in
@@ -217,6 +196,6 @@ module _ {h : Kept} {tr : Trace} {l s n : ℕ} where
             let st = state_of a (at h tr l s n (f ∷ fs)) in
             let g = frame_with f (memories a.past h.copies tr.marks) in
             let bl = frames_with fs (beyond f.frame.handlers (memories a.past h.copies tr.marks)) in
-            ap (λ o. on_there o st (λ ls. groups (kind_of k) p ls (after_arms (suc f.frame.place) count) w x st g.life f.frame.locals f.frame.stack g.handlers bl)) found ∙ (ap (λ q. groups (kind_of k) p arms.labels.items q w x st g.life f.frame.locals f.frame.stack g.handlers bl) place ∙ (some_groups h tr l s n k p to arms.labels.items some f fs a w x ∙ (ap (λ k. done (arms_of k p arms.labels.items) a w x (at h tr l s n (moved to (f ∷ fs)))) (sym same_kind) ∙ (ap (λ p. done (arms_of arms.kind p arms.labels.items) a w x (at h tr l s n (moved to (f ∷ fs)))) (sym same_place) ∙ ap (λ gs. done (arms_of arms.kind arms.place arms.labels.items) a w x (at h tr l s n gs)) (sym e)))));
+            ap (λ o. on_there o st (λ ls. groups (kind_of k) p ls (after_arms (suc f.frame.place) count) w x st g.life f.frame.locals f.frame.stack g.handlers bl)) found ∙ (ap (λ q. groups (kind_of k) p arms.labels.items q w x st g.life f.frame.locals f.frame.stack g.handlers bl) place ∙ (ap (λ k. done (arms_of k p arms.labels.items) a w x (at h tr l s n (moved to (f ∷ fs)))) (sym same_kind) ∙ (ap (λ p. done (arms_of arms.kind p arms.labels.items) a w x (at h tr l s n (moved to (f ∷ fs)))) (sym same_place) ∙ ap (λ gs. done (arms_of arms.kind arms.place arms.labels.items) a w x (at h tr l s n gs)) (sym e))));
         ready = settled;
       }

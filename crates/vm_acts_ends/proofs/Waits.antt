@@ -1,16 +1,13 @@
 -- A task that is suspended, and one that signals.
-use Rattle.std.proofs.Common.{◌≡◌, ◌≢◌, ℕ, zero, suc, ◌+◌, ◌<◌, Bool, true, false, Option, Some, None, List, [], ◌∷◌, length, refl, sym, ap, subst, ◌∙◌, arith}
-use Rattle.verse_code.specs.declared.codes.Code.{Code}
-use Rattle.verse_code.specs.declared.operations.Op.TheVariants as op
+use Rattle.std.proofs.Common.{◌≡◌, ◌≢◌, ℕ, suc, ◌+◌, Some, None, List, [], ◌∷◌, refl, sym, ap, subst, ◌∙◌, arith}
 use Rattle.verse_value.specs.Val.{Val, unit}
 use Rattle.verse_value.specs.View.{val_of}
 use Rattle.verse_value.specs.declared.values.Value.{Value}
-use Rattle.verse_value.specs.Answer.{gives}
 use Rattle.verse_value.specs.declared.runs.Ending.TheVariants as ending
 use Rattle.verse_state.specs.State.{State, signalled}
 use Rattle.verse_state.specs.Waits.{till, never, heard, nth}
-use Rattle.verse_state.specs.Effects.{event_of, task_of, signal_sent}
-use Rattle.verse_machine.specs.Tasks.{Who, World, Step, Next, Frame, thread}
+use Rattle.verse_state.specs.Effects.{event_of, signal_sent}
+use Rattle.verse_machine.specs.Tasks.{Who, World, Next, thread}
 use Rattle.verse_machine.specs.Frames as m
 use Rattle.verse_machine.specs.Frames.{on_there, answered}
 use Rattle.verse_machine.specs.Ends.{suspends}
@@ -18,16 +15,16 @@ use Rattle.verse_machine.specs.Acts.{awaits}
 use Rattle.tx_heap.specs.State.{State as Kept}
 use Rattle.trace_buf.specs.Trace.{Trace}
 use Rattle.vm_thread.specs.Framed.{Framed, place_of}
-use Rattle.vm_thread.specs.Calls.{permits, moved, pushed}
-use Rattle.vm_thread.specs.Machine.{frame_with, frames_with, handlers_with, handlers_in, beyond}
+use Rattle.vm_thread.specs.Calls.{moved, pushed}
+use Rattle.vm_thread.specs.Machine.{frame_with, frames_with, handlers_in, beyond}
 use Rattle.vm_runner.specs.declared.runners.Did.TheVariants as did
-use Rattle.vm_runner.specs.Views.{View, Aside, IsPast, Ready, state_of, memories}
-use Rattle.vm_runner.specs.Doings.{Doing, acts, popping, popping_two, with_one}
-use Rattle.vm_runner.specs.Comes.{done, Comes, Leads}
+use Rattle.vm_runner.specs.Views.{Aside, Ready, state_of, memories}
+use Rattle.vm_runner.specs.Doings.{Doing}
+use Rattle.vm_runner.specs.Comes.{done, Leads}
 use Rattle.vm_runner.proofs.Steps.{at, stays, sticks, fits_in}
 use Rattle.vm_acts_ends.specs.declared.asked.Asked.TheVariants as asked
 use Rattle.vm_acts_ends.specs.Asking.{Asks, Settled}
-use Rattle.vm_acts_ends.proofs.Asking.{asks_nothing, when_free, after_next, bare_permits}
+use Rattle.vm_acts_ends.proofs.Asking.{asks_nothing, bare_permits}
 
 abbrev pub sleeping : ℕ → Doing
 sleeping n w x s f fs = suspends (till (s.clock.now + n)) (thread w f fs) x s

@@ -1,12 +1,12 @@
 //! What an operation asks of the machine.
 
 use verse_base::places::Place;
+use verse_code::codes::Func;
 use verse_value::values::Value;
 use vm_runner::runners::Did;
-use vm_thread::threads::Thread;
 
-/// What an operation asks of the machine. The task's frames, the store, the trace and the steps are
-/// then as they are to be: a task that is suspended or waits goes on at its frame's place.
+/// What an operation asks of the machine. The task's frames are then as they are to be: a task that
+/// is suspended or waits goes on at its frame's place. Store, trace and steps are as they were.
 #[derive(Drop)]
 pub enum Asked {
     /// Nothing: the task goes on with its next operation, or the run is over.
@@ -22,10 +22,10 @@ pub enum Asked {
     AwaitEvent(u32),
     /// The event of this cell is signalled with the value, and the task goes on.
     Signal(u32, Value),
-    /// A spawned task begins, with these frames.
-    Spawn(Thread),
-    /// A task behind begins, with these frames.
-    Branch(Thread),
+    /// A task of its own begins with a call, for a step.
+    Spawn(Call),
+    /// A task behind begins at this place, for a step, with a copy of the locals.
+    Branch(u32),
     /// The arms of a group begin.
     Arms(Arms),
     /// The top frame has returned the value; the frame below goes on with it when what the top
@@ -37,6 +37,13 @@ pub enum Asked {
     Close(Ended),
     /// A deferred block of a frame that is being cancelled is over.
     Clear,
+}
+
+/// A function and as many arguments as it has parameters.
+#[derive(Drop)]
+pub struct Call {
+    pub func: Func,
+    pub args: Vec<Value>,
 }
 
 /// The arms of a group.

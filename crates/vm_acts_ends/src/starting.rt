@@ -1,32 +1,29 @@
 //! Tasks that begin.
 
-ghost use Rattle.std.specs.Prelude.{◌≡◌, ◌<◌, ◌≤◌, IfOk, length, option_map, slice_get};
+ghost use Rattle.std.specs.Prelude.{◌≡◌, ◌<◌, ◌≤◌, IfOk, option_map, slice_get};
 ghost use Rattle.verse_code.specs.Validity.{Valid};
 ghost use Rattle.verse_code.specs.declared.codes.Code.{Code};
 ghost use Rattle.verse_code.specs.declared.operations.Op.TheVariants as op;
 ghost use Rattle.verse_machine.specs.Acts.{labels, label_of};
-ghost use Rattle.verse_value.specs.View.{vals_of};
 ghost use Rattle.vm_thread.specs.Framed.{place_of};
 ghost use Rattle.vm_runner.specs.Views.{Ready};
 ghost use Rattle.vm_runner.specs.Runners.{view_of};
 ghost use Rattle.vm_runner.specs.Doings.{acts};
-ghost use Rattle.vm_acts_ends.specs.Asking.{Asks, IsFree, begins};
+ghost use Rattle.vm_acts_ends.specs.Asking.{Asks};
+ghost use Rattle.vm_acts_ends.specs.Leaving.{Leaves};
 
-use crate::asked::{Arms, Asked};
-use crate::going::{go_next, go_to, spend_step};
+use crate::asked::{Arms, Asked, Call};
+use crate::going::{go_next, go_to};
 use std::alloc::Global;
 use tx_heap::heaps::Heap;
 use verse_base::refusals::Memory;
-use verse_code::codes::{Code, Func};
+use verse_code::codes::Code;
 use verse_code::operations::Op;
 use verse_value::runs::Ending;
-use verse_value::values::Value;
 use vm_acts_calls::methods::chosen;
 use vm_runner::runners::{Did, Runner};
-use vm_thread::threads::Thread;
 
-/// Pops the arguments of the function of this number and spends a step; a task begins with a frame
-/// for it.
+/// Pops the arguments of the function of this number; a task begins with a call of it.
 pub fn spawn<H: Heap>(
     alloc: Global,
     run: &mut Runner<H>,
@@ -36,7 +33,8 @@ pub fn spawn<H: Heap>(
     requires ready { Ready (view_of H.state run.old) }
     requires inner { place_of run.old.thread < 4294967295 }
     requires valid { Valid code.now }
-    ensures { IfOk result (λ k. Asks (acts code.now (op.Spawn func)) k (view_of H.state run.old) (view_of H.state run.new)) }
+    ensures asks { IfOk result (λ k. Asks (acts code.now (op.Spawn func)) k (view_of H.state run.old) (view_of H.state run.new)) }
+    ensures leaves { IfOk result (λ k. Leaves k (view_of H.state run.old) (view_of H.state run.new)) }
 {
     if !run.thread.is_free() {
         return Ok(Asked::Nothing(Did::Over(Ending::Stuck)));
@@ -47,11 +45,12 @@ pub fn spawn<H: Heap>(
     let Some(args) = run.thread.pop_many(alloc, func.params as u64)? else {
         return Ok(Asked::Nothing(Did::Over(Ending::Stuck)));
     };
-    begin(alloc, run, func, args)
+    go_next(&mut run.thread);
+    Ok(Asked::Spawn(Call { func: *func, args }))
 }
 
-/// Pops so many arguments and an object and spends a step; a task begins with a frame for the method
-/// of this number of the object's class.
+/// Pops so many arguments and an object; a task begins with a call of the method of this number of
+/// the object's class.
 pub fn spawn_method<H: Heap>(
     alloc: Global,
     run: &mut Runner<H>,
@@ -62,7 +61,8 @@ pub fn spawn_method<H: Heap>(
     requires ready { Ready (view_of H.state run.old) }
     requires inner { place_of run.old.thread < 4294967295 }
     requires valid { Valid code.now }
-    ensures { IfOk result (λ k. Asks (acts code.now (op.SpawnMethod method count)) k (view_of H.state run.old) (view_of H.state run.new)) }
+    ensures asks { IfOk result (λ k. Asks (acts code.now (op.SpawnMethod method count)) k (view_of H.state run.old) (view_of H.state run.new)) }
+    ensures leaves { IfOk result (λ k. Leaves k (view_of H.state run.old) (view_of H.state run.new)) }
 {
     if !run.thread.is_free() {
         return Ok(Asked::Nothing(Did::Over(Ending::Stuck)));
@@ -73,48 +73,24 @@ pub fn spawn_method<H: Heap>(
     let Some(func) = chosen(&mut run.heap, code, method, count, args.as_slice()) else {
         return Ok(Asked::Nothing(Did::Over(Ending::Stuck)));
     };
-    begin(alloc, run, &func, args)
-}
-
-// Spends a step; a task begins with a frame of the function.
-fn begin<H: Heap>(
-    alloc: Global,
-    run: &mut Runner<H>,
-    func: &Func,
-    args: Vec<Value>,
-) -> Result<Asked, Memory>
-    requires ready { Ready (view_of H.state run.old) }
-    requires inner { place_of run.old.thread < 4294967295 }
-    requires free { IsFree run.old.thread }
-    requires params { length args.items ≡ func.now.params }
-    requires locals { func.now.params ≤ func.now.locals }
-    ensures { IfOk result (λ k. Asks (begins func.now (vals_of args.items)) k (view_of H.state run.old) (view_of H.state run.new)) }
-{
     go_next(&mut run.thread);
-    if !spend_step(run) {
-        return Ok(Asked::Nothing(Did::Over(Ending::Steps)));
-    }
-    let spawned = Thread::begin(alloc, func, args, run.left)?;
-    Ok(Asked::Spawn(spawned))
+    Ok(Asked::Spawn(Call { func, args }))
 }
 
-/// Spends a step; a task behind begins at the next place, with a copy of the locals, and the task
-/// goes on at the label.
-pub fn branch<H: Heap>(alloc: Global, run: &mut Runner<H>, label: u32) -> Result<Asked, Memory>
+/// A task behind begins at the next place, with a copy of the locals, and the task goes on at the
+/// label. Takes no memory.
+pub fn branch<H: Heap>(run: &mut Runner<H>, label: u32) -> Asked
     requires ready { Ready (view_of H.state run.old) }
     requires inner { place_of run.old.thread < 4294967295 }
-    ensures { (c : Code) → IfOk result (λ k. Asks (acts c (op.Branch label)) k (view_of H.state run.old) (view_of H.state run.new)) }
+    ensures asks { (c : Code) → Asks (acts c (op.Branch label)) result (view_of H.state run.old) (view_of H.state run.new) }
+    ensures leaves { Leaves result (view_of H.state run.old) (view_of H.state run.new) }
 {
     if !run.thread.is_free() {
-        return Ok(Asked::Nothing(Did::Over(Ending::Stuck)));
+        return Asked::Nothing(Did::Over(Ending::Stuck));
     }
     let body = run.thread.place() + 1;
-    if !spend_step(run) {
-        return Ok(Asked::Nothing(Did::Over(Ending::Steps)));
-    }
-    let behind = run.thread.copy_at(alloc, body, run.left)?;
     go_to(&mut run.thread, label);
-    Ok(Asked::Branch(behind))
+    Asked::Branch(body)
 }
 
 /// The arms of the operations that follow begin, and the task waits behind them.
@@ -127,7 +103,8 @@ pub fn begin_arms<H: Heap>(
     requires ready { Ready (view_of H.state run.old) }
     requires inner { place_of run.old.thread < 4294967295 }
     requires valid { Valid code.now }
-    ensures { IfOk result (λ k. Asks (acts code.now (op.Group group.kind group.arms group.place)) k (view_of H.state run.old) (view_of H.state run.new)) }
+    ensures asks { IfOk result (λ k. Asks (acts code.now (op.Group group.kind group.arms group.place)) k (view_of H.state run.old) (view_of H.state run.new)) }
+    ensures leaves { IfOk result (λ k. Leaves k (view_of H.state run.old) (view_of H.state run.new)) }
 {
     if !run.thread.is_free() {
         return Ok(Asked::Nothing(Did::Over(Ending::Stuck)));

@@ -11,6 +11,7 @@ ghost use Rattle.vm_runner.specs.Views.{Ready};
 ghost use Rattle.vm_runner.specs.Runners.{view_of};
 ghost use Rattle.vm_runner.specs.Doings.{acts};
 ghost use Rattle.vm_acts_ends.specs.Asking.{Asks};
+ghost use Rattle.vm_acts_ends.specs.Leaving.{Leaves};
 
 use crate::asked::Asked;
 use crate::going::go_next;
@@ -26,7 +27,8 @@ use vm_runner::runners::{Did, Runner};
 pub fn sleep<H: Heap>(run: &mut Runner<H>, duration: u32) -> Result<Asked, Memory>
     requires ready { Ready (view_of H.state run.old) }
     requires inner { place_of run.old.thread < 4294967295 }
-    ensures { (c : Code) → IfOk result (λ k. Asks (acts c (op.Sleep duration)) k (view_of H.state run.old) (view_of H.state run.new)) }
+    ensures asks { (c : Code) → IfOk result (λ k. Asks (acts c (op.Sleep duration)) k (view_of H.state run.old) (view_of H.state run.new)) }
+    ensures leaves { IfOk result (λ k. Leaves k (view_of H.state run.old) (view_of H.state run.new)) }
 {
     if !run.thread.is_free() {
         return Ok(Asked::Nothing(Did::Over(Ending::Stuck)));
@@ -42,7 +44,8 @@ pub fn sleep<H: Heap>(run: &mut Runner<H>, duration: u32) -> Result<Asked, Memor
 pub fn sleep_forever<H: Heap>(run: &mut Runner<H>) -> Asked
     requires ready { Ready (view_of H.state run.old) }
     requires inner { place_of run.old.thread < 4294967295 }
-    ensures { (c : Code) → Asks (acts c op.Forever) result (view_of H.state run.old) (view_of H.state run.new) }
+    ensures asks { (c : Code) → Asks (acts c op.Forever) result (view_of H.state run.old) (view_of H.state run.new) }
+    ensures leaves { Leaves result (view_of H.state run.old) (view_of H.state run.new) }
 {
     if !run.thread.is_free() {
         return Asked::Nothing(Did::Over(Ending::Stuck));
@@ -55,7 +58,8 @@ pub fn sleep_forever<H: Heap>(run: &mut Runner<H>) -> Asked
 pub fn await_task<H: Heap>(run: &mut Runner<H>) -> Asked
     requires ready { Ready (view_of H.state run.old) }
     requires inner { place_of run.old.thread < 4294967295 }
-    ensures { (c : Code) → Asks (acts c op.AwaitTask) result (view_of H.state run.old) (view_of H.state run.new) }
+    ensures asks { (c : Code) → Asks (acts c op.AwaitTask) result (view_of H.state run.old) (view_of H.state run.new) }
+    ensures leaves { Leaves result (view_of H.state run.old) (view_of H.state run.new) }
 {
     if !run.thread.is_free() {
         return Asked::Nothing(Did::Over(Ending::Stuck));
@@ -74,7 +78,8 @@ pub fn await_task<H: Heap>(run: &mut Runner<H>) -> Asked
 pub fn await_event<H: Heap>(run: &mut Runner<H>) -> Asked
     requires ready { Ready (view_of H.state run.old) }
     requires inner { place_of run.old.thread < 4294967295 }
-    ensures { (c : Code) → Asks (acts c op.AwaitEvent) result (view_of H.state run.old) (view_of H.state run.new) }
+    ensures asks { (c : Code) → Asks (acts c op.AwaitEvent) result (view_of H.state run.old) (view_of H.state run.new) }
+    ensures leaves { Leaves result (view_of H.state run.old) (view_of H.state run.new) }
 {
     if !run.thread.is_free() {
         return Asked::Nothing(Did::Over(Ending::Stuck));
@@ -93,7 +98,8 @@ pub fn await_event<H: Heap>(run: &mut Runner<H>) -> Asked
 pub fn signal<H: Heap>(run: &mut Runner<H>) -> Result<Asked, Memory>
     requires ready { Ready (view_of H.state run.old) }
     requires inner { place_of run.old.thread < 4294967295 }
-    ensures { (c : Code) → IfOk result (λ k. Asks (acts c op.Signal) k (view_of H.state run.old) (view_of H.state run.new)) }
+    ensures asks { (c : Code) → IfOk result (λ k. Asks (acts c op.Signal) k (view_of H.state run.old) (view_of H.state run.new)) }
+    ensures leaves { IfOk result (λ k. Leaves k (view_of H.state run.old) (view_of H.state run.new)) }
 {
     if !run.thread.is_free() {
         return Ok(Asked::Nothing(Did::Over(Ending::Stuck)));

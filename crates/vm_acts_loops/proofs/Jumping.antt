@@ -149,7 +149,7 @@ false_apart false u v e same is = absurd (let so = same is in cc)
 
 -- a step was spent, and the task goes on
 pub spent_on : {u v : View} → Leads (spends going) u going v → Comes (spends going) did.On u v
-spent_on lead = comes_by lead (record { ends = λ a w x past. refl; ready = lead.ready })
+spent_on lead = comes_by lead (record { ends = λ a w x past. (refl, past); ready = lead.ready })
 
 -- the next local
 

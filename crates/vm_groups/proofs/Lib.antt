@@ -2,3 +2,4 @@ pub mod Gave
 pub mod Standing
 pub mod Settling
 pub mod Racing
+pub mod Downs

@@ -48,7 +48,7 @@ module _ {W : Type 0} (pending : W → List Pending) where
   pub hand_live : (b : Begins) (v : View) (t : Tasks W) → IsTree t.tree → Hand pending b v t → IsLive b.id t.tree
   hand_live b v t nested h = live_stands t.tree (map id_of (ups_of t.ups.items)) b.id h.who (Some (map part_of b.arms.items)) h.world nested h.standing.stands
 
-  group_free : (id : ℕ) (w : Who) (gs : List Part) (a : Aside) (o : World) (v : View) (t : Tasks W) → IsTree t.tree → Standing pending (held id w (Some gs) ∷ []) a o v t → Standing pending (held id w None ∷ []) a o v t
+  pub group_free : (id : ℕ) (w : Who) (gs : List Part) (a : Aside) (o : World) (v : View) (t : Tasks W) → IsTree t.tree → Standing pending (held id w (Some gs) ∷ []) a o v t → Standing pending (held id w None ∷ []) a o v t
   group_free id w gs a o v t nested s = record {
     clock = s.clock;
     stands = group_over (slot_of frames_in) t.tree (map id_of (ups_of t.ups.items)) id w (Some gs) o s.stands nested;

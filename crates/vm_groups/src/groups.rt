@@ -3,6 +3,7 @@
 ghost use Rattle.std.specs.Prelude.{◌≡◌, IfOk};
 ghost use Rattle.verse_value.specs.View.{val_of};
 ghost use Rattle.vm_tasks.specs.declared.slots.Kind.TheVariants.{All, First, Rush};
+ghost use Rattle.vm_world.specs.declared.tasks.Went.TheVariants.{Down};
 ghost use Rattle.vm_runner.specs.Runners.{view_of};
 ghost use Rattle.vm_groups.specs.Groups.{Hand, Settles, NextArm, ArmEnded, InGroup, CancelsArms, StandsThere};
 
@@ -24,14 +25,15 @@ use vm_world::moves::resume;
 use vm_world::tasks::{After, Begins, Tasks, Went};
 
 /// The next arm of a group begins; or each has begun, and the task goes on with a value or stands at
-/// its group.
+/// its group. Where no task runs then, the same are above.
 pub fn next_arm<H: Heap, W: Waits>(
     run: &mut Runner<H>,
     tasks: &mut Tasks<W>,
     begins: Begins,
 ) -> Result<Went, Memory>
     requires { Hand W.pending begins (view_of H.state run.old) tasks.old }
-    ensures { IfOk result (λ r. NextArm W.pending begins r (view_of H.state run.old) tasks.old (view_of H.state run.new) tasks.new) }
+    ensures next { IfOk result (λ r. NextArm W.pending begins r (view_of H.state run.old) tasks.old (view_of H.state run.new) tasks.new) }
+    ensures above { IfOk result (λ r. r ≡ Down → tasks.new.ups ≡ tasks.old.ups) }
 {
     tasks.tree.is_nested();
     let mut begins = begins;
@@ -56,14 +58,16 @@ pub fn arm_ended<H: Heap, W: Waits>(
     }
 }
 
-/// The task goes on with the value of its group, or stands at the group.
+/// The task goes on with the value of its group, or stands at the group. Where no task runs then, the
+/// same are above.
 pub fn settle<H: Heap, W: Waits>(
     run: &mut Runner<H>,
     tasks: &mut Tasks<W>,
     begins: Begins,
 ) -> Result<Went, Memory>
     requires { Hand W.pending begins (view_of H.state run.old) tasks.old }
-    ensures { IfOk result (λ r. Settles W.pending begins r (view_of H.state run.old) tasks.old (view_of H.state run.new) tasks.new) }
+    ensures settles { IfOk result (λ r. Settles W.pending begins r (view_of H.state run.old) tasks.old (view_of H.state run.new) tasks.new) }
+    ensures above { IfOk result (λ r. r ≡ Down → tasks.new.ups ≡ tasks.old.ups) }
 {
     match begins.kind {
         Kind::All => settle_all(run, tasks, begins),
@@ -79,7 +83,8 @@ fn settle_all<H: Heap, W: Waits>(
 ) -> Result<Went, Memory>
     requires hand { Hand W.pending begins (view_of H.state run.old) tasks.old }
     requires kind { begins.kind ≡ All }
-    ensures { IfOk result (λ r. Settles W.pending begins r (view_of H.state run.old) tasks.old (view_of H.state run.new) tasks.new) }
+    ensures settles { IfOk result (λ r. Settles W.pending begins r (view_of H.state run.old) tasks.old (view_of H.state run.new) tasks.new) }
+    ensures above { IfOk result (λ r. r ≡ Down → tasks.new.ups ≡ tasks.old.ups) }
 {
     if !all_gave(begins.arms.as_slice()) {
         return Ok(stand(run, tasks, begins));
@@ -102,7 +107,8 @@ fn settle_first<H: Heap, W: Waits>(
 ) -> Result<Went, Memory>
     requires hand { Hand W.pending begins (view_of H.state run.old) tasks.old }
     requires kind { begins.kind ≡ First }
-    ensures { IfOk result (λ r. Settles W.pending begins r (view_of H.state run.old) tasks.old (view_of H.state run.new) tasks.new) }
+    ensures settles { IfOk result (λ r. Settles W.pending begins r (view_of H.state run.old) tasks.old (view_of H.state run.new) tasks.new) }
+    ensures above { IfOk result (λ r. r ≡ Down → tasks.new.ups ≡ tasks.old.ups) }
 {
     if !one_gave(begins.arms.as_slice()) {
         return Ok(stand(run, tasks, begins));
@@ -120,7 +126,8 @@ fn settle_rush<H: Heap, W: Waits>(
 ) -> Result<Went, Memory>
     requires hand { Hand W.pending begins (view_of H.state run.old) tasks.old }
     requires kind { begins.kind ≡ Rush }
-    ensures { IfOk result (λ r. Settles W.pending begins r (view_of H.state run.old) tasks.old (view_of H.state run.new) tasks.new) }
+    ensures settles { IfOk result (λ r. Settles W.pending begins r (view_of H.state run.old) tasks.old (view_of H.state run.new) tasks.new) }
+    ensures above { IfOk result (λ r. r ≡ Down → tasks.new.ups ≡ tasks.old.ups) }
 {
     if !one_gave(begins.arms.as_slice()) {
         return Ok(stand(run, tasks, begins));
@@ -163,7 +170,8 @@ fn cancel_arms<H: Heap, W: Waits>(
 /// The task stands at its group.
 pub fn stand<H: Heap, W: Waits>(run: &Runner<H>, tasks: &mut Tasks<W>, begins: Begins) -> Went
     requires { Hand W.pending begins (view_of H.state run.now) tasks.old }
-    ensures { StandsThere W.pending begins result (view_of H.state run.now) tasks.old tasks.new }
+    ensures stands { StandsThere W.pending begins result (view_of H.state run.now) tasks.old tasks.new }
+    ensures above { tasks.new.ups ≡ tasks.old.ups }
 {
     let _ = &run.left;
     let Begins {

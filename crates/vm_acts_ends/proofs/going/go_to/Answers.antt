@@ -1,5 +1,4 @@
-use Rattle.std.proofs.Common.{◌≡◌, suc, ◌+◌, Some, None, [], true, false, length, slice_get, refl, sym, ap, subst, ◌∙◌, arith, rules}
-use Rattle.vm_thread.specs.Calls.{permits}
+use Rattle.std.proofs.Common.{◌≡◌, false, rules}
 use Rattle.vm_acts_ends.proofs.Asking.{free_permits}
 use Rattle.vm_acts_ends.proofs.going.go_to.Goals as goal
 

@@ -1,5 +1,5 @@
-use Rattle.std.proofs.Common.{◌≡◌, suc, ◌+◌, ◌-◌, ◌<◌, Some, None, [], ◌∷◌, ◌++◌, slice_get, sym, ap, subst, ◌∙◌, arith, rules}
-use Rattle.verse_machine.specs.Acts.{labels, label_of}
+use Rattle.std.proofs.Common.{◌≡◌, suc, ◌+◌, ◌-◌, ◌<◌, [], ◌∷◌, ◌++◌, sym, subst, ◌∙◌, arith, rules}
+use Rattle.verse_machine.specs.Acts.{labels}
 use Rattle.vm_acts_ends.proofs.Starts.{onto, labels_stop, labels_step}
 use Rattle.vm_acts_ends.proofs.starting.labels_at.Goals as goal
 

@@ -1,0 +1,4 @@
+pub mod Names
+pub mod Following
+pub mod Returning
+pub mod Overs

@@ -1,0 +1,3 @@
+pub mod Above
+pub mod Sleeping
+pub mod Giving

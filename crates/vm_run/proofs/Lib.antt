@@ -1,0 +1,7 @@
+pub mod Belonging
+pub mod Carrying
+pub mod Reaching
+pub mod Standing
+pub mod Draining
+pub mod Running
+pub mod Writing

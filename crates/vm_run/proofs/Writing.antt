@@ -1,0 +1,26 @@
+-- A call whose lines are drained, wherever the machine stands.
+use Rattle.std.proofs.Common.{◌≡◌, suc, List, [], Option, sym, subst}
+use Rattle.verse_code.specs.declared.codes.Code.{Code}
+use Rattle.verse_value.specs.declared.runs.Ending.{Ending}
+use Rattle.sim_clock.specs.declared.waits.Pending.{Pending}
+use Rattle.trace_buf.specs.Trace.{Trace, drained}
+use Rattle.tx_heap.specs.State.{State as Kept}
+use Rattle.vm_run.specs.declared.machines.Phase.TheVariants as phase
+use Rattle.vm_run.specs.declared.machines.Vm.{Vm}
+use Rattle.vm_run.specs.Standing.{Belongs, stands, lost}
+use Rattle.vm_run.specs.Turning.{lines_after}
+use Rattle.vm_run.proofs.Draining.{with_trace, drained_at, none_kept}
+use Rattle.vm_run.proofs.Running.{TurnsInto}
+
+module _ {H W : Type 0} (state : H → Kept) (pending : W → List Pending) (c : Code) where
+  pub drained_belongs : (m n : Vm H W) (o : Option Ending) (t : Trace) → Belongs state pending c m → (m.phase ≡ phase.Lost → ⊥) → TurnsInto state pending c m o n → t ≡ drained n.run.trace → Belongs state pending c (with_trace state pending n t)
+  drained_belongs m n o t (stands ns steps until k past at) not turns e =
+      stands ns steps until (suc k) (lines_after c ns steps until k) (drained_at state pending c ns steps until k past n o t e (turns ns steps until k past at))
+  drained_belongs m n o t (lost is) not turns e = absurd (not is)
+
+  pub drained_kept : (m n : Vm H W) (o : Option Ending) (t : Trace) → Belongs state pending c m → (m.phase ≡ phase.Lost → ⊥) → TurnsInto state pending c m o n → t ≡ drained n.run.trace → t.kept ≡ []
+  drained_kept m n o t (stands ns steps until k past at) not turns e = none_kept state pending c ns steps until k past n o t e (turns ns steps until k past at)
+  drained_kept m n o t (lost is) not turns e = absurd (not is)
+
+  pub still_belongs : (n : Vm H W) (t : Trace) → Belongs state pending c n → t ≡ n.run.trace → Belongs state pending c (with_trace state pending n t)
+  still_belongs n t b e = subst (λ u. Belongs state pending c (with_trace state pending n u)) (sym e) b

@@ -1,0 +1,5 @@
+pub mod Standing
+pub mod Turning
+pub mod Carrying
+pub mod Closing
+pub mod Reaching

@@ -1,0 +1,103 @@
+-- When a machine stands for the run of its code after so many calls.
+use Rattle.std.specs.Prelude.{◌≡◌, ◌≤◌, ℕ, zero, suc, ℤ, List, [], ◌++◌, length, map, Option, Some, None}
+use Rattle.verse_code.specs.declared.codes.Code.{Code}
+use Rattle.verse_value.specs.Val.{int, array, vals}
+use Rattle.verse_value.specs.View.{val_of}
+use Rattle.verse_value.specs.Runs.{Line, Run}
+use Rattle.verse_value.specs.declared.runs.Ending.{Ending}
+use Rattle.verse_state.specs.State.{State, begun}
+use Rattle.verse_state.specs.Turns.{Stage, going, closed, broken, amiss, run, run_closed}
+use Rattle.verse_machine.specs.Tasks.{tree_waits}
+use Rattle.verse_machine.specs.Runs.{Forest, mach_after}
+use Rattle.sim_clock.specs.declared.waits.Pending.{Pending}
+use Rattle.tx_heap.specs.State.{State as Kept}
+use Rattle.vm_runner.specs.Views.{View, Aside, line_of, state_of}
+use Rattle.vm_runner.specs.Runners.{view_of}
+use Rattle.vm_world.specs.Going.{Resting}
+use Rattle.vm_wakes.specs.Starts.{Fresh, IsNew}
+use Rattle.vm_run.specs.declared.machines.Vm.{Vm}
+use Rattle.vm_run.specs.declared.machines.Phase.TheVariants as phase
+
+-- the memory, the moment and the steps of a state, of whose lines these were drained; no mark is open
+pub record Shows (s : State) (past : List Line) (v : View) : Type 0 where
+  pub trace : s.memory.trace ≡ past ++ map line_of v.trace.kept
+  pub store : s.memory.store ≡ v.heap.cells
+  pub moment : s.clock.now ≡ v.moment
+  pub steps : s.clock.spent ≡ v.spent
+  pub copies : v.heap.copies ≡ []
+  pub marks : v.trace.marks ≡ []
+
+module _ {H W : Type 0} where
+  -- it has the bounds, and they and the inputs are within the limits
+  pub record IsBound (ns : List ℤ) (steps until : ℕ) (m : Vm H W) : Type 0 where
+    pub steps_are : m.bounds.steps ≡ steps
+    pub until_is : m.bounds.until ≡ until
+    pub few_inputs : length ns ≤ 1000
+    pub few_steps : steps ≤ 100000000
+    pub near : until ≤ 1000000000000
+
+module _ {H W : Type 0} (state : H → Kept) (pending : W → List Pending) where
+  -- how many waits are live, where that counts
+  abbrev pub LiveIs : Option ℕ → Vm H W → Type 0
+  LiveIs None m = Unit {0}
+  LiveIs (Some live) m = live ≡ length (pending m.tasks.gone.waits)
+
+  -- the run is over: it has the ending of a run, its trace, of which these lines were drained, and its store
+  pub record IsEnd (r : Run) (past : List Line) (m : Vm H W) : Type 0 where
+    pub ended : m.phase ≡ phase.Ended r.ending
+    pub trace : r.trace ≡ past ++ map line_of m.run.trace.kept
+    pub store : r.store ≡ (state m.run.heap).cells
+    pub moment : r.now ≡ m.run.moment
+    pub steps : r.steps ≡ m.run.spent
+    pub live : LiveIs r.live m
+    pub copies : (state m.run.heap).copies ≡ []
+    pub marks : m.run.trace.marks ≡ []
+
+  -- the tasks of these trees are suspended
+  pub record IsResting (s : State) (trees : Forest) (past : List Line) (m : Vm H W) : Type 0 where
+    pub aside : Aside
+    pub same : aside.past ≡ past
+    pub is : s ≡ state_of aside (view_of state m.run)
+    pub resting : Resting pending aside trees (view_of state m.run) m.tasks
+
+  -- between two turns
+  pub record IsBetween (s : State) (trees : Forest) (past : List Line) (m : Vm H W) : Type 0 where
+    pub between : m.phase ≡ phase.Between
+    pub rests : IsResting s trees past m
+    pub shows : Shows s past (view_of state m.run)
+
+  -- the run is over before a turn
+  pub record IsClosed (e : Ending) (s : State) (trees : Forest) (past : List Line) (m : Vm H W) : Type 0 where
+    pub rests : IsResting s trees past m
+    pub end : IsEnd (run_closed e s (length (tree_waits trees))) past m
+
+  abbrev pub Holds : Stage Forest → List Line → Vm H W → Type 0
+  Holds (going s trees) past m = IsBetween s trees past m
+  Holds (closed e s trees) past m = IsClosed e s trees past m
+  Holds (broken e s) past m = IsEnd (run s e None) past m
+  Holds (amiss s) past m = ⊥
+
+  -- nothing has begun: it has the inputs and all steps
+  pub record IsUnbegun (ns : List ℤ) (steps : ℕ) (past : List Line) (m : Vm H W) : Type 0 where
+    pub unbegun : m.phase ≡ phase.Unbegun
+    pub none : past ≡ []
+    pub inputs : val_of m.inputs ≡ array (vals (map int ns))
+    pub left : m.run.left ≡ steps
+    pub fresh : Fresh (view_of state m.run)
+    pub new : IsNew pending m.tasks
+    pub shows : Shows (begun steps) past (view_of state m.run)
+
+  -- what it holds after so many calls: the first starts `Main`, and each further one takes a turn
+  abbrev pub HoldsAfter : Code → List ℤ → (steps until k : ℕ) → List Line → Vm H W → Type 0
+  HoldsAfter c ns steps until zero past m = IsUnbegun ns steps past m
+  HoldsAfter c ns steps until (suc k) past m = Holds (mach_after c ns steps until k) past m
+
+  -- it stands for the run of a code with these inputs and bounds after so many calls, and these lines were drained
+  pub record At (c : Code) (ns : List ℤ) (steps until k : ℕ) (past : List Line) (m : Vm H W) : Type 0 where
+    pub bound : IsBound ns steps until m
+    pub holds : HoldsAfter c ns steps until k past m
+
+  -- it stands for some run of the code, or there was no memory for it
+  pub data Belongs (c : Code) (m : Vm H W) : Type 0 where
+    stands : (ns : List ℤ) (steps until k : ℕ) (past : List Line) → At c ns steps until k past m → Belongs c m
+    lost : m.phase ≡ phase.Lost → Belongs c m

@@ -1,0 +1,62 @@
+//! What an operation asks is served.
+
+ghost use Rattle.std.specs.Prelude.{◌≡◌, IfOk};
+ghost use Rattle.verse_machine.specs.Acts.{kind_of as kind_meant};
+ghost use Rattle.vm_runner.specs.Runners.{view_of};
+ghost use Rattle.vm_tasks.specs.View.{kind_of};
+ghost use Rattle.vm_step.specs.Steps.{IsAsked, Serves};
+
+use sim_clock::waits::{WaitKind, Waits};
+use tx_heap::heaps::Heap;
+use verse_base::refusals::Memory;
+use vm_acts_ends::asked::Asked;
+use vm_begins::begins::{branch, spawn};
+use vm_begins::groups::group;
+use vm_ends::ends::{block_ended, closed, finished, returned};
+use vm_rests::asleep::suspend;
+use vm_rests::results::await_task;
+use vm_runner::runners::{Did, Runner};
+use vm_tasks::slots::Kind;
+use vm_wakes::signals::signal;
+use vm_world::tasks::{Tasks, Went};
+
+/// Serves what an operation asks, as it has left the task that runs.
+pub fn serve<H: Heap, W: Waits>(
+    run: &mut Runner<H>,
+    tasks: &mut Tasks<W>,
+    asked: Asked,
+) -> Result<Went, Memory>
+    requires { IsAsked W.pending asked (view_of H.state run.old) tasks.old }
+    ensures { IfOk result (λ r. Serves W.pending asked r (view_of H.state run.old) tasks.old (view_of H.state run.new) tasks.new) }
+{
+    match asked {
+        Asked::Nothing(Did::On) => Ok(Went::On),
+        Asked::Nothing(Did::Over(ending)) => Ok(Went::Over(ending)),
+        Asked::SleepUntil(moment) => suspend(run, tasks, WaitKind::At(moment)),
+        Asked::SleepForever => suspend(run, tasks, WaitKind::Never),
+        Asked::AwaitTask(entry) => await_task(run, tasks, entry),
+        Asked::AwaitEvent(event) => suspend(run, tasks, WaitKind::Event(event)),
+        Asked::Signal(event, value) => signal(run, tasks, event, value),
+        Asked::Spawn(call) => {
+            let func = call.func;
+            spawn(run, tasks, &func, call.args)
+        }
+        Asked::Branch(place) => branch(run, tasks, place),
+        Asked::Arms(arms) => group(run, tasks, group_kind(arms.kind), arms.place, arms.labels),
+        Asked::Return(ended) => returned(run, tasks, ended.born, ended.value),
+        Asked::Finish(ended) => finished(run, tasks, ended.born, ended.value),
+        Asked::Close(ended) => closed(run, tasks, ended.born, ended.value),
+        Asked::Clear => block_ended(run, tasks),
+    }
+}
+
+// The kind of a group by its number.
+fn group_kind(number: u32) -> Kind
+    ensures { kind_of result ≡ kind_meant number }
+{
+    match number {
+        0 => Kind::All,
+        1 => Kind::First,
+        _ => Kind::Rush,
+    }
+}

@@ -1,0 +1,5 @@
+pub mod Signalling
+pub mod Telling
+pub mod Waking
+pub mod Turning
+pub mod Starting

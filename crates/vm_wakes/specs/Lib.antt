@@ -1,0 +1,4 @@
+pub mod Signals
+pub mod Values
+pub mod Turns
+pub mod Starts
