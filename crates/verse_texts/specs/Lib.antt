@@ -1,2 +1,4 @@
 pub mod Endings
 pub mod Refusals
+pub mod Images
+pub mod Streams

@@ -1,7 +1,7 @@
-//! The last line of a run.
+//! The last line of a run, and the status that goes with it.
 ghost use Rattle.std.specs.Prelude.{◌≡◌, ◌++◌, IfOk, OnOk};
 ghost use Rattle.verse_state.specs.Texts.{ending_line, ending_name, error_name, live_text, place_text};
-ghost use Rattle.verse_texts.specs.Endings.{ended, live_of};
+ghost use Rattle.verse_texts.specs.Endings.{ended, ending_status, live_of};
 ghost use Rattle.verse_value.specs.declared.runs.Ending.TheVariants as ending;
 
 use std::alloc::Global;
@@ -33,6 +33,18 @@ pub fn ending_text(
     push_live(ending, live, &mut out)?;
     out.push(b'\n')?;
     Ok(out)
+}
+
+/// The status that goes with an ending.
+pub fn status_of(ending: Ending) -> u8
+    ensures { result ≡ ending_status ending }
+{
+    match ending {
+        Ending::Done => 0,
+        Ending::Waiting | Ending::Until | Ending::Steps => 3,
+        Ending::Error(_, _) => 4,
+        Ending::Stuck => 8,
+    }
 }
 
 fn push_name(ending: Ending, files: u32, out: &mut Vec<u8>) -> Result<(), Memory>

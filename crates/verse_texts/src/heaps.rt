@@ -1,6 +1,7 @@
 //! The lines of a run's cells.
-ghost use Rattle.std.specs.Prelude.{◌≡◌, ◌++◌, OnOk};
+ghost use Rattle.std.specs.Prelude.{◌≡◌, ◌++◌, ◌∷◌, OnOk, decimal};
 ghost use Rattle.verse_state.specs.Texts.{cell_line, kind_text, slots_text};
+ghost use Rattle.verse_value.specs.Texts.{text_of};
 ghost use Rattle.verse_value.specs.View.{val_of, vals_of};
 
 use verse_base::refusals::Memory;
@@ -18,13 +19,28 @@ pub fn cell_line(
 ) -> Result<(), Memory>
     ensures { OnOk result (out.new.items ≡ out.old.items ++ cell_line address (record { kind = kind; slots = vals_of slots.now })) }
 {
-    out.push(b'@')?;
-    natural(u64::from(address), out)?;
-    out.push(b' ')?;
-    push_kind(kind, out)?;
+    cell_name(address, kind, out)?;
     push_slots(slots, out)?;
     out.push(b'\n')?;
     Ok(())
+}
+
+/// Appends how the line of a cell begins: its address, and what it is.
+pub fn cell_name(address: u32, kind: CellKind, out: &mut Vec<u8>) -> Result<(), Memory>
+    ensures { OnOk result (out.new.items ≡ out.old.items ++ 64 ∷ (decimal address ++ 32 ∷ kind_text kind)) }
+{
+    out.push(b'@')?;
+    natural(u64::from(address), out)?;
+    out.push(b' ')?;
+    push_kind(kind, out)
+}
+
+/// Appends what a slot holds, behind a blank.
+pub fn slot_text(slot: &Value, out: &mut Vec<u8>) -> Result<(), Memory>
+    ensures { OnOk result (out.new.items ≡ out.old.items ++ 32 ∷ text_of (val_of slot.now)) }
+{
+    out.push(b' ')?;
+    text(slot, out)
 }
 
 fn push_kind(kind: CellKind, out: &mut Vec<u8>) -> Result<(), Memory>
@@ -45,8 +61,7 @@ fn push_slots(slots: &[Value], out: &mut Vec<u8>) -> Result<(), Memory>
     ensures { OnOk result (out.new.items ≡ out.old.items ++ slots_text (vals_of slots.now)) }
 {
     for slot in slots {
-        out.push(b' ')?;
-        text(slot, out)?;
+        slot_text(slot, out)?;
     }
     Ok(())
 }

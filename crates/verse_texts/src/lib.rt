@@ -1,9 +1,10 @@
-//! What is written of a run and of a refusal.
+//! What is written of a run, of a refusal, and of bytes that are no image.
 //!
 //! To be read in this order: `endings`, the last line of a run; `heaps`, the lines of its cells;
-//! `refusals`.
+//! `refusals`; `images`. `Streams` of specs says what is written of a run while it goes on.
 #![tactic(auto)]
 
 pub mod endings;
 pub mod heaps;
+pub mod images;
 pub mod refusals;

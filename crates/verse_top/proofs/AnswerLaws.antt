@@ -7,7 +7,7 @@ use Rattle.verse_tree.specs.ItemTree.{ItemTree}
 use Rattle.verse_built.specs.Texts.{texts_of}
 use Rattle.verse_state.specs.Texts.{run_text}
 use Rattle.verse_texts.specs.Refusals.{refusal_line}
-use Rattle.verse_words.specs.Words.{Command, run, check, files_of, Options}
+use Rattle.verse_words.specs.Words.{Command, run, exec, check, files_of, Options}
 use Rattle.verse_words.specs.Requests.{AsksFor, AsksForRun, names_of, options_with}
 use Rattle.verse_words.specs.declared.commands.Request.{Request}
 use Rattle.verse_words.specs.declared.commands.Request.TheVariants as request
@@ -16,32 +16,39 @@ use Rattle.verse_accept.specs.Fronts.{Accepts, IsRefused, front_end, refusal}
 use Rattle.verse_accept.proofs.Answered.{one_front_end}
 use Rattle.verse_top.specs.Loading.{AreLoaded, IsTooLarge}
 use Rattle.verse_top.specs.Meaning.{mean}
-use Rattle.verse_top.specs.Statuses.{ending_status}
-use Rattle.verse_top.specs.Answers.{Answers, too_large, refused, checked, ran, ok_line, AnsweredOnce}
-use Rattle.verse_top.proofs.LoadLaws.{as_many, loaded_once, loaded_or_large, large_once}
+use Rattle.verse_texts.specs.Endings.{ending_status}
+use Rattle.verse_top.specs.Answers.{Answers, too_large, refused, checked, ran, executed, ok_line, AnsweredOnce}
+use Rattle.verse_top.specs.Programs.{IsForProgram, IsProgram}
+use Rattle.verse_exec.specs.Executions.{Executes}
+use Rattle.verse_exec.proofs.Executions.{once as executed_once}
+use Rattle.verse_top.proofs.LoadLaws.{as_many, loaded_once, loaded_or_large, large_once, read_once}
 
 -- ---- one answer
 
 pub once : AnsweredOnce
-once held c s t x y (too_large d n p) (too_large e m q) =
+once held c s t x y (too_large d n g p) (too_large e m h q) =
     (refl, ap (λ (k : ℕ). refusal_line (files_of c) (refusal 2 (first_place k))) (large_once held (files_of c) 0 n m p q))
-once held c s t x y (too_large d n p) (refused e files r l q) = absurd (loaded_or_large held (files_of c) files 0 n l p)
-once held c s t x y (too_large d n p) (checked names files is l q) = absurd (loaded_or_large held names files 0 n l p)
-once held c s t x y (too_large d n p) (ran names o files is l q) = absurd (loaded_or_large held names files 0 n l p)
-once held c s t x y (refused e files r l q) (too_large d n p) = absurd (loaded_or_large held (files_of c) files 0 n l p)
-once held c s t x y (checked names files is l q) (too_large d n p) = absurd (loaded_or_large held names files 0 n l p)
-once held c s t x y (ran names o files is l q) (too_large d n p) = absurd (loaded_or_large held names files 0 n l p)
-once held c s t x y (refused d files r l p) (refused e others u k q) =
+once held c s t x y (too_large d n g p) (refused e files r h l q) = absurd (loaded_or_large held (files_of c) files 0 n l p)
+once held c s t x y (too_large d n g p) (checked names files is l q) = absurd (loaded_or_large held names files 0 n l p)
+once held c s t x y (too_large d n g p) (ran names o files is l q) = absurd (loaded_or_large held names files 0 n l p)
+once held c s t x y (too_large d n g p) (executed name o bytes u z l q) = absurd g
+once held c s t x y (refused e files r g l q) (too_large d n h p) = absurd (loaded_or_large held (files_of c) files 0 n l p)
+once held c s t x y (checked names files is l q) (too_large d n h p) = absurd (loaded_or_large held names files 0 n l p)
+once held c s t x y (ran names o files is l q) (too_large d n h p) = absurd (loaded_or_large held names files 0 n l p)
+once held c s t x y (executed name o bytes u z l q) (too_large d n h p) = absurd h
+once held c s t x y (refused d files r g l p) (refused e others u h k q) =
     let same = loaded_once held (files_of c) files others l k in
     (refl, ap (λ (v : Refusal). refusal_line (files_of c) v) (one_front_end.refusal others r u (subst (λ fs. IsRefused fs r) same p) q))
-once held c s t x y (refused d files r l p) (checked names others is k q) =
+once held c s t x y (refused d files r g l p) (checked names others is k q) =
     let same = loaded_once held names files others l k in absurd (one_front_end.apart others is r q (subst (λ fs. IsRefused fs r) same p))
-once held c s t x y (refused d files r l p) (ran names o others is k q) =
+once held c s t x y (refused d files r g l p) (ran names o others is k q) =
     let same = loaded_once held names files others l k in absurd (one_front_end.apart others is r q (subst (λ fs. IsRefused fs r) same p))
-once held c s t x y (checked names others is k q) (refused d files r l p) =
+once held c s t x y (refused d files r g l p) (executed name o bytes u z k q) = absurd g
+once held c s t x y (checked names others is k q) (refused d files r g l p) =
     let same = loaded_once held names files others l k in absurd (one_front_end.apart others is r q (subst (λ fs. IsRefused fs r) same p))
-once held c s t x y (ran names o others is k q) (refused d files r l p) =
+once held c s t x y (ran names o others is k q) (refused d files r g l p) =
     let same = loaded_once held names files others l k in absurd (one_front_end.apart others is r q (subst (λ fs. IsRefused fs r) same p))
+once held c s t x y (executed name o bytes u z k q) (refused d files r g l p) = absurd g
 once held c s t x y (checked names files is l p) (checked other others js k q) = (refl, refl)
 once held c s t x y (ran names o files is l p) (ran other u others js k q) =
     let same = loaded_once held names files others l k in
@@ -49,6 +56,8 @@ once held c s t x y (ran names o files is l p) (ran other u others js k q) =
       ap (λ (ks : List ItemTree). ending_status (mean (texts_of ks) o.steps).ending) items,
       ap (λ (ks : List ItemTree). run_text (mean (texts_of ks) o.steps) o.heap (length names)) items,
     )
+once held c s t x y (executed name o bytes u z l p) (executed other v others w k m q) =
+    let same = read_once held name bytes others l m in executed_once others o s t x y (subst (λ (bs : List ℕ). Executes bs o s x) same p) q
 
 -- ---- the ways to an answer, with equations in place of indices
 
@@ -57,19 +66,25 @@ along held c s t x y e f h = rw (e, f) h
 
 pub asks_for_files : (q : Request) (c : Command) → AsksFor q c → files_of c ≡ names_of q
 asks_for_files (request.Run r) c a = ap files_of a.is
+asks_for_files (request.Exec r) c a = ap files_of a.is ∙ sym a.one
 asks_for_files (request.Check files) c a = ap files_of a
 
-pub answers_refused : (held : Holding) (q : Request) (c : Command) (names files : List (List ℕ)) (s : ℕ) (x : List ℕ) (r : Refusal) → AsksFor q c → names ≡ names_of q →
-    s ≡ 1 → x ≡ refusal_line names r → AreLoaded held (files_of c) files → IsRefused files r → Answers held c s x
-answers_refused held q c names files s x r a n e f l p =
-    along held c s 1 x (refusal_line (files_of c) r) e (f ∙ ap (λ ns. refusal_line ns r) (n ∙ sym (asks_for_files q c a))) (refused c files r l p)
+pub asks_for_program : (q : Request) (c : Command) → IsForProgram q → AsksFor q c → IsProgram c
+asks_for_program (request.Run r) c p a = subst IsProgram (sym a.is) tt
+asks_for_program (request.Exec r) c p a = absurd p
+asks_for_program (request.Check files) c p a = subst IsProgram (sym a) tt
 
-pub answers_large : (held : Holding) (q : Request) (c : Command) (names : List (List ℕ)) (file s : ℕ) (x : List ℕ) → AsksFor q c → names ≡ names_of q →
+pub answers_refused : (held : Holding) (q : Request) (c : Command) (names files : List (List ℕ)) (s : ℕ) (x : List ℕ) (r : Refusal) → IsForProgram q → AsksFor q c → names ≡ names_of q →
+    s ≡ 1 → x ≡ refusal_line names r → AreLoaded held (files_of c) files → IsRefused files r → Answers held c s x
+answers_refused held q c names files s x r g a n e f l p =
+    along held c s 1 x (refusal_line (files_of c) r) e (f ∙ ap (λ ns. refusal_line ns r) (n ∙ sym (asks_for_files q c a))) (refused c files r (asks_for_program q c g a) l p)
+
+pub answers_large : (held : Holding) (q : Request) (c : Command) (names : List (List ℕ)) (file s : ℕ) (x : List ℕ) → IsForProgram q → AsksFor q c → names ≡ names_of q →
     s ≡ 1 → x ≡ refusal_line names (refusal 2 (first_place file)) → IsTooLarge held 0 names file → Answers held c s x
-answers_large held q c names file s x a n e f p =
+answers_large held q c names file s x g a n e f p =
     let same : names ≡ files_of c = n ∙ sym (asks_for_files q c a) in
     along held c s 1 x (refusal_line (files_of c) (refusal 2 (first_place file))) e (f ∙ ap (λ ns. refusal_line ns (refusal 2 (first_place file))) same)
-    (too_large c file (subst (λ ns. IsTooLarge held 0 ns file) same p))
+    (too_large c file (asks_for_program q c g a) (subst (λ ns. IsTooLarge held 0 ns file) same p))
 
 pub answers_checked : (held : Holding) (c : Command) (names files : List (List ℕ)) (is : List ItemTree) (s : ℕ) (x : List ℕ) → c ≡ check names →
     s ≡ 0 → x ≡ ok_line → AreLoaded held (files_of c) files → Accepts files is → Answers held c s x

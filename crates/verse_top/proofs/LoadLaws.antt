@@ -3,19 +3,33 @@ use Rattle.std.proofs.Common.{◌≡◌, ◌⊎◌, ℕ, suc, ◌<◌, ◌≤◌
 use Rattle.std.proofs.lemmas.Option.{same_Some}
 use Rattle.verse_base.specs.declared.limits.TheConstants.{MOST_FILE_BYTES}
 use Rattle.verse_outside.specs.Held.{Holding, Holds, Lacks, Loads}
-use Rattle.verse_top.specs.Loading.{AreHeld, AreLoaded, IsAbsent, IsTooLarge, most_bytes}
+use Rattle.verse_top.specs.Loading.{AreHeld, AreLoaded, IsAbsent, IsRead, IsTooLarge, most_bytes}
 
 abbrev Telling : Type 0
 Telling = List ℕ → Option (List ℕ)
 
+module _ (most : ℕ) where
+  load_once_of : (held : Telling) (name a b : List ℕ) → Loads (Some held) name most a → Loads (Some held) name most b → a ≡ b
+  load_once_of held name a b x y =
+      let same : x.0 ≡ y.0 = same_Some x.0 y.0 (sym x.1 ∙ y.1) in
+      x.2 ∙ ap (λ all. take most all) same ∙ sym y.2
+
+  load_or_lack_of : (held : Holding) (name a : List ℕ) → Loads held name most a → Lacks held name → ⊥
+  load_or_lack_of None name a x y = y
+  load_or_lack_of (Some held) name a x y = cc (x.1, y)
+
 load_once : (held : Telling) (name a b : List ℕ) → Loads (Some held) name most_bytes a → Loads (Some held) name most_bytes b → a ≡ b
-load_once held name a b x y =
-    let same : x.0 ≡ y.0 = same_Some x.0 y.0 (sym x.1 ∙ y.1) in
-    x.2 ∙ ap (λ all. take most_bytes all) same ∙ sym y.2
+load_once held name a b x y = load_once_of most_bytes held name a b x y
 
 load_or_lack : (held : Holding) (name a : List ℕ) → Loads held name most_bytes a → Lacks held name → ⊥
-load_or_lack None name a x y = y
-load_or_lack (Some held) name a x y = cc (x.1, y)
+load_or_lack held name a x y = load_or_lack_of most_bytes held name a x y
+
+pub read_once : (held : Telling) (name a b : List ℕ) → IsRead (Some held) name a → IsRead (Some held) name b → a ≡ b
+read_once held name a b x y = load_once_of 18446744073709551615 held name a b x y
+
+pub absent_or_read : (held : Holding) (file a name : List ℕ) → IsRead held file a → IsAbsent held (file ∷ []) name → ⊥
+absent_or_read held file a name x (inl lacks) = load_or_lack_of 18446744073709551615 held file a x lacks.0
+absent_or_read held file a name x (inr (b, more)) = more.1.1
 
 hold_or_lack : (held : Holding) (name a : List ℕ) → Holds held name a → Lacks held name → ⊥
 hold_or_lack None name a x y = y

@@ -1,5 +1,5 @@
 -- What the top call answers: a status and the text that is written.
-use Rattle.std.specs.Prelude.{◌≡◌, ◌≢◌, ◌⊎◌, ℕ, List, ◌++◌, length, Option, Some, codes}
+use Rattle.std.specs.Prelude.{◌≡◌, ◌≢◌, ◌⊎◌, ℕ, List, [], ◌++◌, length, Option, Some, codes}
 use Rattle.verse_base.specs.declared.refusals.Refusal.{Refusal}
 use Rattle.verse_lex.specs.Cut.{first_place}
 use Rattle.verse_outside.specs.Causes.{Rose}
@@ -8,11 +8,13 @@ use Rattle.verse_tree.specs.ItemTree.{ItemTree}
 use Rattle.verse_built.specs.Texts.{texts_of}
 use Rattle.verse_state.specs.Texts.{run_text}
 use Rattle.verse_texts.specs.Refusals.{refusal_line}
-use Rattle.verse_words.specs.Words.{Command, run, check, files_of, Options, Says}
+use Rattle.verse_exec.specs.Executions.{Executes, ExecutesSoFar}
+use Rattle.verse_words.specs.Words.{Command, run, exec, check, files_of, Options, Says}
 use Rattle.verse_accept.specs.Fronts.{Accepts, IsRefused, refusal}
-use Rattle.verse_top.specs.Loading.{AreLoaded, IsAbsent, IsAmong, IsTooLarge}
+use Rattle.verse_top.specs.Loading.{AreLoaded, IsAbsent, IsAmong, IsRead, IsTooLarge}
+use Rattle.verse_top.specs.Programs.{IsProgram}
 use Rattle.verse_top.specs.Meaning.{mean}
-use Rattle.verse_top.specs.Statuses.{ending_status}
+use Rattle.verse_texts.specs.Endings.{ending_status}
 
 abbrev pub words_line : List ℕ
 words_line = codes "= words\n"
@@ -28,13 +30,21 @@ ok_line = codes "= ok\n"
 
 -- the status and the text for a command over what is held
 pub data Answers (held : Holding) : Command → ℕ → List ℕ → Type 0 where
-  too_large : (c : Command) (file : ℕ) → IsTooLarge held 0 (files_of c) file →
+  too_large : (c : Command) (file : ℕ) → IsProgram c → IsTooLarge held 0 (files_of c) file →
       Answers held c 1 (refusal_line (files_of c) (refusal 2 (first_place file)))
-  refused : (c : Command) (files : List (List ℕ)) (r : Refusal) → AreLoaded held (files_of c) files → IsRefused files r →
+  refused : (c : Command) (files : List (List ℕ)) (r : Refusal) → IsProgram c → AreLoaded held (files_of c) files → IsRefused files r →
       Answers held c 1 (refusal_line (files_of c) r)
   checked : (names files : List (List ℕ)) (is : List ItemTree) → AreLoaded held names files → Accepts files is → Answers held (check names) 0 ok_line
   ran : (names : List (List ℕ)) (o : Options) (files : List (List ℕ)) (is : List ItemTree) → AreLoaded held names files → Accepts files is →
       Answers held (run names o) (ending_status (mean (texts_of is) o.steps).ending) (run_text (mean (texts_of is) o.steps) o.heap (length names))
+  executed : (name : List ℕ) (o : Options) (bytes : List ℕ) (status : ℕ) (text : List ℕ) → IsRead held name bytes → Executes bytes o status text →
+      Answers held (exec name o) status text
+
+-- What may have been written for a command where memory ran out: of a run that is written as it goes on some of its text, and otherwise
+-- nothing.
+pub data Begins (held : Holding) : Command → List ℕ → Type 0 where
+  nothing : (c : Command) → Begins held c []
+  executing : (name : List ℕ) (o : Options) (bytes text : List ℕ) → IsRead held name bytes → ExecutesSoFar bytes o text → Begins held (exec name o) text
 
 -- the command has this answer over the files, and its text was written
 pub record Answered (words : List (List ℕ)) (held : Holding) (status : ℕ) (old new : Option (List ℕ)) : Type 0 where
@@ -57,11 +67,19 @@ pub record NotRead (words : List (List ℕ)) (held : Holding) (before now : ℕ)
   pub unread : Unread command held before now name
   pub written : new ≡ with_more old (read_line name)
 
+-- the line that there is no memory was written, behind what the command begins with
+pub record NoMemory (words : List (List ℕ)) (held : Holding) (old new : Option (List ℕ)) : Type 0 where
+  pub command : Command
+  pub text : List ℕ
+  pub says : Says words command
+  pub begins : Begins held command text
+  pub written : new ≡ with_more old (text ++ memory_line)
+
 -- the texts that may be written for these words over these files, whose count of faults rose or not
 pub data MayWrite (words : List (List ℕ)) (held : Holding) (before now : ℕ) : List ℕ → Type 0 where
   no_command : ((c : Command) → Says words c → ⊥) → MayWrite words held before now words_line
   not_read : (c : Command) (name : List ℕ) → Says words c → Unread c held before now name → MayWrite words held before now (read_line name)
-  no_memory : (c : Command) → Says words c → MayWrite words held before now memory_line
+  no_memory : (c : Command) (text : List ℕ) → Says words c → Begins held c text → MayWrite words held before now (text ++ memory_line)
   answer : (c : Command) (status : ℕ) (text : List ℕ) → Says words c → Answers held c status text → MayWrite words held before now text
 
 -- the sink failed, and took a prefix of a text that may be written
@@ -85,3 +103,16 @@ Finishes status text result before now old new =
 abbrev pub Replies : Command → Holding → (before now status : ℕ) → List ℕ → Type 0
 Replies c held before now status text =
     Answers held c status text ⊎ ((status ≡ 6) × ((name : List ℕ) × ((text ≡ read_line name) × Unread c held before now name)))
+
+-- what comes of a command: its reply, a want of memory, or a fault of the sink
+pub data Told (c : Command) (held : Holding) (files_before files_now before now status : ℕ) (old new : Option (List ℕ)) : Type 0 where
+  whole : (text : List ℕ) → Replies c held files_before files_now status text → new ≡ with_more old text →
+      Told c held files_before files_now before now status old new
+  without : (text : List ℕ) → Begins held c text → status ≡ 5 → new ≡ with_more old (text ++ memory_line) →
+      Told c held files_before files_now before now status old new
+  cut : (text : List ℕ) → (((s : ℕ) × Replies c held files_before files_now s text) ⊎ ((begun : List ℕ) × Begins held c begun × (text ≡ begun ++ memory_line))) →
+      status ≡ 7 → Rose before now → TookPrefix old text new → Told c held files_before files_now before now status old new
+
+-- this answer and no other
+abbrev pub IsAnswer : ℕ → List ℕ → ℕ → List ℕ → Type 0
+IsAnswer status text s t = (s ≡ status) × (t ≡ text)

@@ -1,5 +1,5 @@
 pub mod Meaning
-pub mod Statuses
+pub mod Programs
 pub mod Loading
 pub mod Loaded
 pub mod Answers

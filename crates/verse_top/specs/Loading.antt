@@ -1,4 +1,4 @@
--- What comes of loading the files of a program one after another.
+-- What comes of loading the files of a program one after another, and another file whole.
 use Rattle.std.specs.Prelude.{◌≡◌, ◌⊎◌, ℕ, suc, ◌+◌, ◌<◌, ◌≤◌, List, [], ◌∷◌, length}
 use Rattle.verse_base.specs.declared.limits.TheConstants.{MOST_FILE_BYTES}
 use Rattle.verse_outside.specs.Held.{Holding, Holds, Lacks, Loads}
@@ -31,6 +31,10 @@ module _ (held : Holding) where
   abbrev pub AreHeld : List (List ℕ) → Type 0
   AreHeld [] = Unit {0}
   AreHeld (f ∷ fs) = ((all : List ℕ) × Holds held f all) × AreHeld fs
+
+-- a file that is no program is loaded whole
+abbrev pub IsRead : Holding → (name bytes : List ℕ) → Type 0
+IsRead held name bytes = Loads held name 18446744073709551615 bytes
 
 abbrev pub IsAmong : List ℕ → List (List ℕ) → Type 0
 IsAmong name [] = ⊥

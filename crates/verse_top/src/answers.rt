@@ -1,4 +1,4 @@
-//! What a command answers over the files that it names.
+//! What a command answers over the files of a program.
 
 ghost use Rattle.std.specs.Prelude.{◌≡◌, ◌++◌, ◌⊎◌, ◌≤◌, ℕ, Bool, List, IfOk, IsSome, OnOk, length, map, string_bytes};
 ghost use Rattle.verse_base.specs.RuleText.{rule_text_of};
@@ -13,10 +13,11 @@ ghost use Rattle.verse_words.specs.Requests.{AsksFor, AsksForRun};
 ghost use Rattle.verse_top.specs.Answers.{AnsweredOnce, Answers, ok_line};
 ghost use Rattle.verse_top.specs.Loading.{AreLoaded};
 ghost use Rattle.verse_top.specs.Meaning.{mean};
-ghost use Rattle.verse_top.specs.Statuses.{ending_status};
+ghost use Rattle.verse_top.specs.Programs.{IsForProgram};
+ghost use Rattle.verse_texts.specs.Endings.{ending_status};
 
 use std::alloc::Global;
-use verse_accept::accept;
+use verse_accept::{Accepted, accept};
 use verse_base::places::Place;
 use verse_base::refusals::{Front, Memory, Refusal, Rule};
 use verse_base::texts::trace_line;
@@ -43,18 +44,19 @@ pub fn answered_once()
     ensures { AnsweredOnce }
 {}
 
-/// What the request answers, where its files hold these bytes.
+/// What the request answers, where the files of its program hold these bytes.
 #[tactic(auto, using(crate::proofs::AnswerLaws::answers_refused))]
 pub(crate) fn answer_to(
     alloc: Global,
     request: Request<'_>,
     files: &[Vec<u8>],
 ) -> Result<Answer, Memory>
-    requires { length files.now ≤ 16 }
+    requires program { IsForProgram request }
+    requires few { length files.now ≤ 16 }
     ensures { IfOk result (λ a. (held : Holding) (c : Command) → AsksFor request.entry c → AreLoaded held (files_of c) (map (λ f. f.items) files.now) → Answers held c a.status a.text.items) }
 {
     match accept(alloc, files) {
-        Ok(tree) => accepted(alloc, request, tree),
+        Ok(Accepted { tree, .. }) => accepted(alloc, request, tree),
         Err(Front::Refused(refusal)) => refused(alloc, request.files(), refusal),
         Err(Front::Memory) => Err(Memory),
     }
@@ -63,11 +65,13 @@ pub(crate) fn answer_to(
 /// What the request answers to an accepted program.
 #[tactic(auto, using(crate::proofs::AnswerLaws::answers_checked))]
 fn accepted(alloc: Global, request: Request<'_>, tree: ProgramTree) -> Result<Answer, Memory>
+    requires { IsForProgram request }
     ensures { IfOk result (λ a. (held : Holding) (c : Command) (files : List (List ℕ)) → AsksFor request.entry c → AreLoaded held (files_of c) files → Accepts files (map item_of tree.items)
         → tree.files ≡ length files → Answers held c a.status a.text.items) }
 {
     match request {
         Request::Run(running) => run(alloc, running, tree),
+        Request::Exec(_) => unreachable!(),
         Request::Check(_) => Ok(checked(alloc)?),
     }
 }

@@ -1,15 +1,22 @@
-ghost use Rattle.std.specs.Prelude.{◌≡◌, ◌≢◌, ◌⊎◌, ◌≤◌, ℕ, List, IfOk, OnOk, map, string_bytes};
+//! The top call.
+
+ghost use Rattle.std.specs.Prelude.{◌≡◌, ◌≢◌, ◌⊎◌, ◌≤◌, ℕ, List, IfOk, map, string_bytes};
 ghost use Rattle.verse_outside.specs.Causes.{Rose};
 ghost use Rattle.verse_outside.specs.Held.{with_more};
 ghost use Rattle.verse_words.specs.Words.{AreFiles, Command, files_of, Says};
 ghost use Rattle.verse_words.specs.Requests.{AsksFor, names_of};
-ghost use Rattle.verse_top.specs.Answers.{Answered, CutShort, Finishes, NotRead, Replies, memory_line, read_line, words_line};
+ghost use Rattle.verse_exec.specs.Leaving.{Leaves};
+ghost use Rattle.verse_top.specs.Answers.{Answered, Begins, CutShort, Finishes, NoMemory, NotRead, Replies, Told, words_line};
 ghost use Rattle.verse_top.specs.Loading.{AreHeld, IsAbsent};
+ghost use Rattle.verse_top.specs.Programs.{IsForProgram};
 
 use crate::answers::{Answer, answer_to, too_large};
+use crate::executing::execute;
 use crate::loading::{Loading, load_all};
+use crate::writing::{not_read, write_answer};
 use std::alloc::Global;
 use verse_base::refusals::Memory;
+use verse_exec::stops::Stop;
 use verse_outside::files::Files;
 use verse_outside::sinks::{Sink, write_all};
 use verse_words::commands::{Request, find_request};
@@ -26,7 +33,7 @@ pub fn verse<F: Files, S: Sink>(alloc: Global, words: &[String], files: &mut F, 
     ensures not_read { result ≡ 6 → NotRead (map string_bytes words.now) (F.holds files.old) (F.faults files.old) (F.faults files.new) (S.taken out.old) (S.taken out.new) }
     ensures absent { (c : Command) (name : List ℕ) → Says (map string_bytes words.now) c → IsAbsent (F.holds files.old) (files_of c) name → (result ≡ 6) ⊎ (result ≡ 5) ⊎ (result ≡ 7) }
     // 5 is want of memory; 7 only for a fault of the sink, which took a prefix.
-    ensures memory { result ≡ 5 → ((c : Command) × Says (map string_bytes words.now) c) × (S.taken out.new ≡ with_more (S.taken out.old) memory_line) }
+    ensures memory { result ≡ 5 → NoMemory (map string_bytes words.now) (F.holds files.old) (S.taken out.old) (S.taken out.new) }
     ensures cut_short { result ≡ 7 → CutShort (map string_bytes words.now) (F.holds files.old) (F.faults files.old) (F.faults files.new) (S.faults out.old) (S.faults out.new) (S.taken out.old) (S.taken out.new) }
     // With no fault, files that are held have their whole answer, or want of memory.
     ensures complete { (c : Command) → Says (map string_bytes words.now) c → AreHeld (F.holds files.old) (files_of c)
@@ -39,10 +46,61 @@ pub fn verse<F: Files, S: Sink>(alloc: Global, words: &[String], files: &mut F, 
     let Some(request) = find_request(words) else {
         return finish(out, b"= words\n", 2);
     };
-    match reply(alloc, request, files) {
-        Ok(answer) => finish(out, answer.text.as_slice(), answer.status),
-        Err(Memory) => finish(out, b"= memory\n", 5),
+    tell(alloc, request, files, out)
+}
+
+/// Answers the request, with a line at the end where there is no memory.
+fn tell<F: Files, S: Sink>(alloc: Global, request: Request<'_>, files: &mut F, out: &mut S) -> u8
+    requires files { AreFiles (names_of request) }
+    requires asks { (c : Command) × AsksFor request c }
+    ensures told { (c : Command) → AsksFor request.entry c → Told c (F.holds files.old) (F.faults files.old) (F.faults files.new) (S.faults out.old) (S.faults out.new) result (S.taken out.old) (S.taken out.new) }
+    ensures same_files { F.holds files.new ≡ F.holds files.old }
+    ensures file_faults { F.faults files.old ≤ F.faults files.new }
+    ensures sink_faults { S.faults out.old ≤ S.faults out.new }
+{
+    match answer(alloc, request, files, out) {
+        Ok(status) => status,
+        Err(Stop::Memory) => finish(out, b"= memory\n", 5),
+        Err(Stop::Failed) => 7,
     }
+}
+
+/// Answers the request: one case for each command that is written as it goes on.
+fn answer<F: Files, S: Sink>(
+    alloc: Global,
+    request: Request<'_>,
+    files: &mut F,
+    out: &mut S,
+) -> Result<u8, Stop>
+    requires files { AreFiles (names_of request) }
+    requires asks { (c : Command) × AsksFor request c }
+    ensures leaves { (c : Command) → AsksFor request.entry c → Leaves (Replies c (F.holds files.old) (F.faults files.old) (F.faults files.new)) (Begins (F.holds files.old) c) (S.faults out.old) (S.faults out.new) (S.taken out.old) (S.taken out.new) result }
+    ensures same_files { F.holds files.new ≡ F.holds files.old }
+    ensures file_faults { F.faults files.old ≤ F.faults files.new }
+    ensures sink_faults { S.faults out.old ≤ S.faults out.new }
+{
+    match request {
+        Request::Exec(running) => execute(alloc, running, files, out),
+        Request::Run(_) | Request::Check(_) => answer_whole(alloc, request, files, out),
+    }
+}
+
+/// Answers a request over the files of a program, all at once.
+fn answer_whole<F: Files, S: Sink>(
+    alloc: Global,
+    request: Request<'_>,
+    files: &mut F,
+    out: &mut S,
+) -> Result<u8, Stop>
+    requires program { IsForProgram request }
+    requires files { AreFiles (names_of request) }
+    ensures leaves { (c : Command) → AsksFor request.entry c → Leaves (Replies c (F.holds files.old) (F.faults files.old) (F.faults files.new)) (Begins (F.holds files.old) c) (S.faults out.old) (S.faults out.new) (S.taken out.old) (S.taken out.new) result }
+    ensures same_files { F.holds files.new ≡ F.holds files.old }
+    ensures file_faults { F.faults files.old ≤ F.faults files.new }
+    ensures sink_faults { S.faults out.old ≤ S.faults out.new }
+{
+    let reply = reply(alloc, request, files)?;
+    write_answer(reply, out)
 }
 
 /// Writes the whole text and answers the status, or 7.
@@ -58,7 +116,8 @@ fn finish<S: Sink>(out: &mut S, text: &[u8], status: u8) -> u8
 
 /// Loads the files and answers the request.
 fn reply<F: Files>(alloc: Global, request: Request<'_>, files: &mut F) -> Result<Answer, Memory>
-    requires { AreFiles (names_of request) }
+    requires program { IsForProgram request }
+    requires files { AreFiles (names_of request) }
     ensures replies { IfOk result (λ a. (c : Command) → AsksFor request.entry c → Replies c (F.holds files.old) (F.faults files.old) (F.faults files.new) a.status a.text.items) }
     ensures same { F.holds files.new ≡ F.holds files.old }
     ensures later { F.faults files.old ≤ F.faults files.new }
@@ -69,14 +128,4 @@ fn reply<F: Files>(alloc: Global, request: Request<'_>, files: &mut F) -> Result
         Loading::TooLarge(file) => too_large(alloc, names, file),
         Loading::Failed(file) => not_read(alloc, names[file as usize].as_str()),
     }
-}
-
-fn not_read(alloc: Global, file: &str) -> Result<Answer, Memory>
-    ensures { IfOk result (λ a. (a.status ≡ 6) × (a.text.items ≡ read_line file.now)) }
-{
-    let mut text = Vec::new(alloc);
-    text.extend_from_slice(b"= read ")?;
-    text.extend_from_slice(file.as_bytes())?;
-    text.push(b'\n')?;
-    Ok(Answer { status: 6, text })
 }

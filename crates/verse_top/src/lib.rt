@@ -1,12 +1,14 @@
 //! All that the program does, as one call.
 //!
-//! To be read in this order: `call`, the top call; `answers`, what a command answers; `loading`,
-//! its files.
+//! To be read in this order: `call`, the top call; `answers`, what a command answers over a program;
+//! `loading`, its files; `writing`, what is written at once; `executing`, the run of an image.
 #![tactic(auto)]
 
 pub mod answers;
 mod call;
+mod executing;
 mod loading;
+mod writing;
 
 pub use call::verse;
 pub use verse_texts::endings::ending_text;

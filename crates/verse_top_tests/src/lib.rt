@@ -1,6 +1,8 @@
-//! The tests of the top call, and of the words of a command line.
+//! The tests of the top call, of images, and of the words of a command line.
 #![tactic(auto)]
 
+#[cfg(test)]
+mod images_tests;
 pub mod telling;
 #[cfg(test)]
 mod tests;

@@ -3,6 +3,7 @@ use std::alloc::Global;
 use std::test::Fail;
 use verse_base::places::Place;
 use verse_base::refusals::Kind;
+use verse_base::texts::natural;
 use verse_outside::memory_files::MemFiles;
 use verse_outside::memory_sinks::MemSink;
 use verse_top::answers::answered_once;
@@ -50,8 +51,41 @@ const ROWS: &str =
 1`run a.verse`a.verse=Main():void = { X := 1; X := 2 }`1:25 E040 name already defined~
 1`check a.verse`a.verse=Main():void =~    if (X := 1) {}~    X`3:5 E041 unknown name~
 1`run a.verse b.verse`a.verse=Main():void = G()|b.verse=G():void = H()`b.verse:1:12 E041 unknown name~
-1`run a.verse`a.verse=Main():void =~    Print(\"a\", \"b\")`2:10 E099 not built yet~
+1`run a.verse`a.verse=Main():void =~    Print(\"a\", \"b\")`2:10 E052 wrong number of arguments~
 1`run a.verse`a.verse=Main():void =~    Print(\"a{1}\")`2:14 E099 not built yet~
+1`check a.verse`a.verse=Main():void = { X:int = \"a\" }`1:25 E050 types do not match~
+1`check a.verse`a.verse=Main():void = { X := 1; X() }`1:26 E051 cannot be called~
+1`check a.verse`a.verse=F(X:int):void = {}; Main():void = F()`1:36 E052 wrong number of arguments~
+1`check a.verse`a.verse=c := class {}; Main():void = { X := c{}; if (X = X) {} }`1:48 E053 cannot be compared~
+1`check a.verse`a.verse=Main():void = { X := 1; set X = 2 }`1:25 E054 cannot be set~
+1`check a.verse`a.verse=c := class { N:int }; Main():void = { X := c{} }`1:44 E055 field without a value~
+1`check a.verse`a.verse=c := class {}; Main():void = { X := c{}; Y := X.N }`1:48 E056 no such member~
+1`check a.verse`a.verse=Main()<suspends>:void = sync { Sleep(1.0) }`1:25 E057 needs two expressions~
+1`check a.verse`a.verse=Main():void = case (1) { 1 => 2 }`1:15 E058 case not covered~
+1`check a.verse`a.verse=Main():void = { X := 1/2 }`1:23 E059 quotient outside Floor or Ceil~
+1`check a.verse`a.verse=Main():void = { A := array{1}; X := A[0] }`1:38 E060 can fail outside a failure context~
+1`check a.verse`a.verse=G():int = 1; Main():void = { if (G() = 1) {} }`1:35 E061 cannot be undone here~
+1`check a.verse`a.verse=Main():void = Sleep(1.0)`1:15 E062 suspends outside an async context~
+1`check a.verse`a.verse=Main()<suspends>:void = { if (Sleep(1.0)) {} }`1:31 E063 suspends in a failure context~
+1`check a.verse`a.verse=F()<decides>:int = 1; Main():void = {}`1:1 E064 specifiers do not fit~
+1`check a.verse`a.verse=F()<computes>:void = { var X:int = 1 }; Main():void = {}`1:24 E065 effect not allowed in computes~
+1`check a.verse`a.verse=Main():void = { if (return) {} }`1:21 E066 leaves a failure context or an arm~
+1`check a.verse`a.verse=F()<transacts><decides>:void = {}; Main():void = { if (F()) {} }`1:57 E067 wrong kind of brackets~
+1`check a.verse`a.verse=Main()<suspends>:void = { loop { branch { Sleep(1.0) } } }`1:34 E068 rush or branch in a loop~
+1`check a.verse`a.verse=Main():void = { X:[][][][][][][][][][][][][][][][][][][][][][][][][][][][][][][][]int = array{} }`1:17 E070 type nested too deeply~
+1`run a.verse`a.verse=Main():void =~    A := array{1}~    X := A[0]`3:11 E060 can fail outside a failure context~
+1`run a.verse`a.verse=Main()<suspends>:void =~    if (Sleep(1.0)) {}`2:9 E063 suspends in a failure context~
+1`run a.verse`a.verse=G():int = 1~Main():void =~    for (I := 1..2, G() = 1) {}`3:22 E061 cannot be undone here~
+1`check a.verse`a.verse=Main():void =~    var X:int = \"a\"`2:17 E050 types do not match~
+1`check a.verse`a.verse=c := class:~    N:int~Main():void =~    X := c{}`4:10 E055 field without a value~
+1`check a.verse`a.verse=Main()<suspends>:void =~    sync:~        Sleep(1.0)`2:5 E057 needs two expressions~
+1`check a.verse`a.verse=F()<computes>:void =~    var X:int = 1~Main():void = {}`2:5 E065 effect not allowed in computes~
+1`check a.verse`a.verse=Main()<suspends>:void =~    loop:~        branch:~            Sleep(1.0)`3:9 E068 rush or branch in a loop~
+1`check a.verse`a.verse=Main():void = { X := 1; set X = \"a\" }`1:25 E050 types do not match~
+1`check a.verse`a.verse=Main():void = { X := 1 + \"a\"; Y }`1:31 E041 unknown name~
+1`check a.verse b.verse`a.verse=Main():void = {}|b.verse=G():int = \"a\"`b.verse:1:11 E050 types do not match~
+1`check a.verse`a.verse=c := class { F()<transacts><decides>:int = 1 }; Main():void = { X := c{}; X.F[] }`1:78 E060 can fail outside a failure context~
+1`check a.verse`a.verse=c := class { F():int = 1 }; Main():void = { X := c{}; if (X.F() = 1) {} }`1:62 E061 cannot be undone here~
 2``a.verse=Main():void =~    Print(\"hi\")~`= words~
 2`run`a.verse=Main():void =~    Print(\"hi\")~`= words~
 2`run -x`a.verse=Main():void =~    Print(\"hi\")~`= words~
@@ -66,6 +100,12 @@ const ROWS: &str =
 1`check a.verse`a.verse=Main():void = 1`1:15 E099 not built yet~
 1`check a.verse`a.verse=Main():void = 1 2`1:17 E030 unexpected token~
 6`check x`a.verse=Main():void =~    Print(\"hi\")~`= read x~
+6`exec x`a.verse=Main():void =~    Print(\"hi\")~`= read x~
+1`exec a.verse`a.verse=Main():void =~    Print(\"hi\")~`= image I1 0~
+1`exec a --heap`a=`= image I3 0~
+2`exec a a`a=`= words~
+2`exec a --heap --heap`a=`= words~
+2`exec`a=`= words~
 2`check a.verse --heap`a.verse=Main():void =~    Print(\"hi\")~`= words~
 2`check`a.verse=Main():void =~    Print(\"hi\")~`= words~
 0`check a b`a=|b=Main():void =~    Print(\"hi\")~`= ok~
@@ -132,7 +172,7 @@ fn rows_are_told(rt: HostRuntime) -> Result<(), Fail> {
         assert_eq!(rt; out.taken(), lines(alloc, text)?.as_slice(), "{row}");
         count = count.saturating_add(1);
     }
-    assert_eq!(rt; count, 71);
+    assert_eq!(rt; count, 110);
     Ok(())
 }
 
@@ -166,6 +206,40 @@ fn faults_and_great_files(rt: HostRuntime) -> Result<(), Fail> {
     let mut out = MemSink::new(alloc, 1000, 1000)?;
     assert_eq!(rt; told(alloc, command.as_slice(), &mut great, &mut out), 1);
     assert_eq!(rt; out.taken(), b"b:1:1 E002 file too large\n".as_slice());
+    Ok(())
+}
+
+/// A class of 4100 fields, and a `Main` that makes so many of it.
+fn many_instances(alloc: Global, count: u64) -> Result<Vec<u8>, Fail> {
+    let mut text = Vec::new(alloc);
+    text.extend_from_slice(b"c := class:\n")?;
+    for i in 0..4100u64 {
+        text.extend_from_slice(b"    F")?;
+        natural(i, &mut text)?;
+        text.extend_from_slice(b":int = 0\n")?;
+    }
+    text.extend_from_slice(b"Main():void =\n")?;
+    for _i in 0..count {
+        text.extend_from_slice(b"    c{}\n")?;
+    }
+    Ok(text)
+}
+
+#[test]
+fn great_programs_are_told(rt: HostRuntime) -> Result<(), Fail> {
+    let alloc = rt.alloc();
+    let mut files = MemFiles::new(alloc);
+    files.add("a", many_instances(alloc, 1024)?.as_slice())?;
+    files.add("b", many_instances(alloc, 1000)?.as_slice())?;
+    let mut out = MemSink::new(alloc, 1000, 1000)?;
+    let command = words(alloc, "check a")?;
+    assert_eq!(rt; told(alloc, command.as_slice(), &mut files, &mut out), 1);
+    let command = words(alloc, "run b")?;
+    assert_eq!(rt; told(alloc, command.as_slice(), &mut files, &mut out), 1);
+    assert_eq!(rt;
+        out.taken(),
+        b"1:1 E098 program too large\n2:14 E099 not built yet\n".as_slice()
+    );
     Ok(())
 }
 

@@ -1,8 +1,11 @@
+ghost use Rattle.std.specs.Prelude.{ℤ, List, option_copied};
+ghost use Rattle.verse_words.specs.Words.{Inputs};
+
 use std::alloc::{AllocError, Global};
 use std::test::Fail;
 use verse_base::refusals::Memory;
 use verse_base::texts::decimal;
-use verse_words::commands::{Request, find_request, words_fit, words_say_once};
+use verse_words::commands::{Request, Running, find_request, words_fit, words_say_once};
 
 // the words, then a bar and what they ask for: the command and its files; of a run the steps, the
 // horizon, whether the heap is written, and the word of `--in`, or `-` where it is not given; `none`
@@ -10,7 +13,16 @@ use verse_words::commands::{Request, find_request, words_fit, words_say_once};
 const CASES: &str = "| none
 run | none
 run a.verse | run a.verse 10000000 1000000000000 - -
-exec a.verse | none
+exec a.verse | exec a.verse 10000000 1000000000000 - -
+exec | none
+exec -x | none
+exec a b | none
+exec --heap a | none
+exec a --heap b | none
+exec a --steps 5 --in 1,-2 --heap --until 7 | exec a 5 7 heap 1,-2
+exec a --steps 5 --steps 5 | none
+exec a --in 1,,2 | none
+exec a --until 1000000000001 | none
 check a.verse | check a.verse
 build a.verse | none
 load 5 | none
@@ -146,6 +158,15 @@ fn number(word: Option<&str>) -> Option<u64> {
     word.and_then(|word| word.parse::<u64>().ok())
 }
 
+// What Main is given.
+fn inputs_of(alloc: Global, running: Running<'_>) -> Result<Vec<u8>, Fail>
+    requires { (ns : List ℤ) × Inputs (option_copied running.inputs) ns }
+{
+    let ints = running.ints(alloc).map_err(|_| "memory")?;
+    let ints = listed(alloc, &ints).map_err(|_| "memory")?;
+    Ok(ints)
+}
+
 #[test]
 fn words_are_read(rt: HostRuntime) -> Result<(), Fail> {
     let alloc = rt.alloc();
@@ -164,22 +185,24 @@ fn words_are_read(rt: HostRuntime) -> Result<(), Fail> {
         assert!(rt; words_fit(&words), "{line}");
         let files = joined(alloc, request.files())?;
         assert_eq!(rt; expected.next().ok_or("files")?, files.as_str(), "{line}");
-        let Request::Run(running) = request else {
-            assert_eq!(rt; command, "check", "{line}");
-            continue;
+        let (name, running, ints) = match request {
+            Request::Run(running) => ("run", running, inputs_of(alloc, running)?),
+            Request::Exec(running) => ("exec", running, inputs_of(alloc, running)?),
+            Request::Check(_) => {
+                assert_eq!(rt; command, "check", "{line}");
+                continue;
+            }
         };
-        assert_eq!(rt; command, "run", "{line}");
+        assert_eq!(rt; command, name, "{line}");
         assert_eq!(rt; number(expected.next()), Some(running.steps), "{line}");
         assert_eq!(rt; number(expected.next()), Some(running.until), "{line}");
         assert_eq!(rt; expected.next() == Some("heap"), running.heap, "{line}");
         let given = expected.next().ok_or("inputs")?;
-        let ints = running.ints(alloc).map_err(|_| "memory")?;
-        let ints = listed(alloc, &ints).map_err(|_| "memory")?;
         assert_eq!(rt; running.inputs.is_some(), given != "-", "{line}");
         let given = plain(alloc, if given == "-" { "''" } else { given })?;
         assert_eq!(rt; ints.as_slice(), given.as_bytes(), "{line}");
     }
-    assert_eq!(rt; count, 82);
+    assert_eq!(rt; count, 91);
     words_say_once();
     Ok(())
 }

@@ -1,14 +1,14 @@
 -- The words are one command.
-use Rattle.std.proofs.Common.{◌≡◌, ◌≢◌, ◌↔◌, ℕ, ℤ, Option, Some, None, List, [], ◌∷◌, ◌++◌, codes, refl, sym, ap, ◌∙◌, subst, ◌≤◌, length, unwrap_or, Result, Ok, Err, IfOk, false, map, string_bytes, option_copied, append-nil}
+use Rattle.std.proofs.Common.{◌≡◌, ◌≢◌, ◌↔◌, ℕ, ℤ, Option, Some, None, List, [], ◌∷◌, ◌++◌, codes, refl, sym, ap, ◌∙◌, subst, ◌≤◌, length, unwrap_or, Result, Ok, Err, IfOk, false, map, string_bytes, option_copied, append-nil, arith, zero, suc, ◌<◌}
 use Rattle.std.specs.Str.{bytes_eq}
 use Rattle.std.proofs.lemmas.Slice.Eq.{bytes_eq-Decides}
-use Rattle.verse_words.specs.Words.{AreFiles, Command, EachIsFile, Given, Gives, Inputs, IsIntList, SayOnce, Says, listed, no_options, not_given, Options, options_of, run, check, says_run, says_check}
-use Rattle.verse_words.specs.Requests.{AsksFor, AsksForRun, BeginsWithNoFile, options_with}
+use Rattle.verse_words.specs.Words.{AreFiles, Command, EachIsFile, Given, Gives, Inputs, IsFile, IsIntList, SayOnce, Says, listed, no_options, not_given, Options, options_of, run, exec, check, says_run, says_exec, says_check}
+use Rattle.verse_words.specs.Requests.{AsksFor, AsksForExec, AsksForRun, BeginsWithNoFile, Gave, IsWithin, NoOptions, options_with}
 use Rattle.verse_words.specs.declared.commands.Request.TheVariants as request
 use Rattle.verse_words.specs.declared.commands.Running.{Running}
 use Rattle.verse_words.proofs.FileLemmas.{Same, options_begin, parted_once}
 use Rattle.verse_words.proofs.NumberLemmas.{Lists, list_once}
-use Rattle.verse_words.proofs.OptionLemmas.{gives_once}
+use Rattle.verse_words.proofs.OptionLemmas.{AtMost, given_within, gives_once}
 
 pub inputs_once : {word : Option (List ℕ)} {ns ms : List ℤ} → Inputs word ns → Inputs word ms → ns ≡ ms
 inputs_once not_given not_given = refl
@@ -32,6 +32,16 @@ pub record Runs (files options : List (List ℕ)) (c : Command) : Type 0 where
   pub lists : Inputs given.inputs ints
   pub runs : c ≡ run files (options_of given ints)
 
+-- the file and the options of the run of an image
+pub record Executes (files options : List (List ℕ)) (c : Command) : Type 0 where
+  pub file : List ℕ
+  pub one : files ≡ file ∷ []
+  pub given : Given
+  pub ints : List ℤ
+  pub gives : Gives no_options options given
+  pub lists : Inputs given.inputs ints
+  pub executes : c ≡ exec file (options_of given ints)
+
 pub record Checks (files options : List (List ℕ)) (c : Command) : Type 0 where
   pub are : AreFiles files
   pub none : options ≡ []
@@ -51,22 +61,46 @@ run_of {files = files} {options = options} (says_run {files = names} {words = be
       lists = lists;
       runs = ap (λ fs. run fs (options_of given ints)) same.files_are;
     }
+run_of {files = files} {options = options} (says_exec is gives lists) p = absurd (other_word (codes "exec") (codes "run") refl (cc p.is))
 run_of {files = files} {options = options} (says_check are) p = absurd (other_word (codes "check") (codes "run") refl (cc p.is))
+
+one_file : {file : List ℕ} → IsFile file → AreFiles (file ∷ [])
+one_file is = record { each = (is, tt); some = omega arith; few = omega arith }
+
+pub exec_of : {words files options : List (List ℕ)} {c : Command} → Says words c → Parted words (codes "exec") files options → Executes files options c
+exec_of {files = files} {options = options} (says_run are gives lists) p = absurd (other_word (codes "run") (codes "exec") refl (cc p.is))
+exec_of {files = files} {options = options} (says_exec {file = file} {words = behind} {g = given} {ns = ints} is gives lists) p =
+    let same = parted_once (file ∷ []) files behind options (one_file is).each p.each (options_begin gives) p.behind (cc p.is) in
+    record {
+      file = file;
+      one = sym same.files_are;
+      given = given;
+      ints = ints;
+      gives = subst (λ ws. Gives no_options ws given) same.words_are gives;
+      lists = lists;
+      executes = refl;
+    }
+exec_of {files = files} {options = options} (says_check are) p = absurd (other_word (codes "check") (codes "exec") refl (cc p.is))
 
 pub check_of : {words files options : List (List ℕ)} {c : Command} → Says words c → Parted words (codes "check") files options → Checks files options c
 check_of {files = files} {options = options} (says_run are gives lists) p = absurd (other_word (codes "run") (codes "check") refl (cc p.is))
+check_of {files = files} {options = options} (says_exec is gives lists) p = absurd (other_word (codes "exec") (codes "check") refl (cc p.is))
 check_of {files = files} {options = options} (says_check {files = names} are) p =
     let same = parted_once names files [] options are.each p.each tt p.behind (append-nil names ∙ cc p.is) in
     record { are = subst AreFiles same.files_are are; none = sym same.words_are; checks = ap check same.files_are }
 
 -- only these words begin a command
-pub neither : {words files options : List (List ℕ)} {c : Command} (word : List ℕ) → Says words c → Parted words word files options → word ≢ codes "run" → word ≢ codes "check" → ⊥
-neither word (says_run are gives lists) p r k = r (cc p.is)
-neither word (says_check are) p r k = k (cc p.is)
+pub none_other : {words files options : List (List ℕ)} {c : Command} (word : List ℕ) → Says words c → Parted words word files options →
+    word ≢ codes "run" → word ≢ codes "exec" → word ≢ codes "check" → ⊥
+none_other word (says_run are gives lists) p r x k = r (cc p.is)
+none_other word (says_exec is gives lists) p r x k = x (cc p.is)
+none_other word (says_check are) p r x k = k (cc p.is)
 
 pub files_are : {words files options : List (List ℕ)} {c : Command} (word : List ℕ) → Says words c → Parted words word files options → AreFiles files
 files_are {files = files} {options = options} word (says_run {files = names} {words = behind} are gives lists) p =
     subst AreFiles (parted_once names files behind options are.each p.each (options_begin gives) p.behind (cc p.is)).files_are are
+files_are {files = files} {options = options} word (says_exec {file = file} {words = behind} is gives lists) p =
+    subst AreFiles (parted_once (file ∷ []) files behind options (one_file is).each p.each (options_begin gives) p.behind (cc p.is)).files_are (one_file is)
 files_are {files = files} {options = options} word (says_check {files = names} are) p =
     subst AreFiles (parted_once names files [] options are.each p.each tt p.behind (append-nil names ∙ cc p.is)).files_are are
 
@@ -76,10 +110,20 @@ same_runs files options a b p q =
     let ints : p.ints ≡ q.ints = inputs_once p.lists (subst (λ g. Inputs g.inputs q.ints) given q.lists) in
     cc (p.runs, q.runs)
 
+same_executes : (files options : List (List ℕ)) (a b : Command) → Executes files options a → Executes files options b → a ≡ b
+same_executes files options a b p q =
+    let file : p.file ≡ q.file = cc (p.one, q.one) in
+    let given : q.given ≡ p.given = gives_once q.gives p.gives in
+    let ints : p.ints ≡ q.ints = inputs_once p.lists (subst (λ g. Inputs g.inputs q.ints) given q.lists) in
+    cc (p.executes, q.executes)
+
 pub say_once : SayOnce
 say_once words a b (says_run {files = files} {words = options} {g = given} {ns = ints} are gives lists) t =
     let own : Runs files options (run files (options_of given ints)) = record { are = are; given = given; ints = ints; gives = gives; lists = lists; runs = refl } in
     same_runs files options (run files (options_of given ints)) b own (run_of t (record { is = refl; each = are.each; behind = options_begin gives }))
+say_once words a b (says_exec {file = file} {words = options} {g = given} {ns = ints} is gives lists) t =
+    let own : Executes (file ∷ []) options (exec file (options_of given ints)) = record { file = file; one = refl; given = given; ints = ints; gives = gives; lists = lists; executes = refl } in
+    same_executes (file ∷ []) options (exec file (options_of given ints)) b own (exec_of t (record { is = refl; each = (one_file is).each; behind = options_begin gives }))
 say_once words a b (says_check {files = files} are) t =
     sym (check_of {options = []} t (record { is = ap (λ fs. codes "check" ∷ fs) (sym (append-nil files)); each = are.each; behind = tt })).checks
 
@@ -104,34 +148,73 @@ pub ok_then : {T E : Type 0} (r : Result T E) (P Q : T → Type 0) → ((x : T) 
 ok_then (Ok x) P Q f h = f x h
 ok_then (Err e) P Q f h = tt
 
--- the words of a run of these files
+-- the words of a command with these files and options
 abbrev pub run_words : List (List ℕ) → List (List ℕ) → List (List ℕ)
 run_words files options = codes "run" ∷ files ++ options
 
+abbrev pub exec_words : List (List ℕ) → List (List ℕ) → List (List ℕ)
+exec_words files options = codes "exec" ∷ files ++ options
+
+or_within : (most n : ℕ) (given : Option ℕ) → n ≤ most → AtMost most given → unwrap_or given n ≤ most
+or_within most n None low a = low
+or_within most n (Some m) low a = a
+
+kept_within : (words : List (List ℕ)) (r : Running) → Gave words r → IsWithin r
+kept_within words r g =
+    let within = given_within g.gives tt tt in
+    record {
+      steps = subst (λ (n : ℕ). n ≤ 100000000) (sym g.steps) (or_within 100000000 10000000 g.given.steps (omega arith) within.0);
+      until = subst (λ (n : ℕ). n ≤ 1000000000000) (sym g.until) (or_within 1000000000000 1000000000000 g.given.until (omega arith) within.1);
+    }
+
+-- the options that are kept are those that the words give
+given_with : (words : List (List ℕ)) (r : Running) (g : Gave words r) → options_of g.given g.ints ≡ options_with r g.ints
+given_with words r g = cc (g.steps, g.until, g.heap)
+
 module _ (files options : List (List ℕ)) (are : AreFiles files) (behind : BeginsWithNoFile options) where
-  parted : Parted (run_words files options) (codes "run") files options
-  parted = record { is = refl; each = are.each; behind = behind }
+  parted_behind : (command : List ℕ) → Parted (command ∷ files ++ options) command files options
+  parted_behind command = record { is = refl; each = are.each; behind = behind }
 
-  -- no run, since the options are none
-  pub no_given : ((g : Given) → ¬ (Gives no_options options g)) → (c : Command) → ¬ (Says (run_words files options) c)
-  no_given none c s = let p = run_of s parted in none p.given p.gives
+  -- neither command, where the words give no options
+  pub no_run : NoOptions options → (c : Command) → ¬ (Says (run_words files options) c)
+  no_run none c s = let p = run_of s (parted_behind (codes "run")) in none p.given p.ints p.gives p.lists
 
-  -- nor where the word of the inputs lists none
-  pub no_inputs : (given : Given) → Gives no_options options given → ((ns : List ℤ) → ¬ (Inputs given.inputs ns)) → (c : Command) → ¬ (Says (run_words files options) c)
-  no_inputs given gives none c s =
-      let p = run_of s parted in
-      let same : p.given ≡ given = gives_once p.gives gives in
-      none p.ints (subst (λ g. Inputs g.inputs p.ints) same p.lists)
+  pub no_exec : NoOptions options → (c : Command) → ¬ (Says (exec_words files options) c)
+  no_exec none c s = let p = exec_of s (parted_behind (codes "exec")) in none p.given p.ints p.gives p.lists
 
-  pub is_run : (given : Given) → Gives no_options options given → (ns : List ℤ) × Inputs given.inputs ns → (r : Running) → map string_bytes r.files.now ≡ files →
-      r.steps ≡ unwrap_or given.steps 10000000 → r.until ≡ unwrap_or given.until 1000000000000 → option_copied r.inputs ≡ given.inputs → r.heap ≡ given.heap →
-      (c : Command) × Says (run_words files options) c × AsksForRun r c
-  is_run given gives (ns, lists) r named steps until inputs heap =
-      let same : options_of given ns ≡ options_with r ns = cc in (
-        run files (options_of given ns),
-        says_run are gives lists,
-        record { ints = ns; lists = subst (λ (i : Option (List ℕ)). Inputs i ns) (sym inputs) lists; is = cc (named, same) },
+  -- there is one file
+  pub not_one : 1 < length files → (c : Command) → ¬ (Says (exec_words files options) c)
+  not_one more c s = let p = exec_of s (parted_behind (codes "exec")) in let one = ap length p.one in omega arith
+
+  pub is_run : (r : Running) → Gave options r → map string_bytes r.files.now ≡ files → (c : Command) × Says (run_words files options) c × AsksForRun r c
+  is_run r g named =
+      let same = given_with options r g in (
+        run files (options_of g.given g.ints),
+        says_run are g.gives g.lists,
+        record { within = kept_within options r g; ints = g.ints; lists = subst (λ (i : Option (List ℕ)). Inputs i g.ints) (sym g.inputs) g.lists; is = cc (named, same) },
       )
+
+is_one : (files : List (List ℕ)) → AreFiles files → length files ≤ 1 → (file : List ℕ) × (files ≡ file ∷ []) × IsFile file
+is_one [] are few = let some = are.some in absurd (omega arith)
+is_one (f ∷ []) are few = (f, refl, are.each.0)
+is_one (f ∷ g ∷ gs) are few = absurd (omega arith)
+
+pub is_exec : (files options : List (List ℕ)) → AreFiles files → length files ≤ 1 → (r : Running) → Gave options r → map string_bytes r.files.now ≡ files →
+    (c : Command) × Says (exec_words files options) c × AsksForExec r c
+is_exec files options are few r g named =
+    let one = is_one files are few in
+    let same = given_with options r g in (
+      exec one.0 (options_of g.given g.ints),
+      subst (λ (fs : List (List ℕ)). Says (exec_words fs options) (exec one.0 (options_of g.given g.ints))) (sym one.1) (says_exec one.2 g.gives g.lists),
+      record {
+        within = kept_within options r g;
+        file = one.0;
+        one = named ∙ one.1;
+        ints = g.ints;
+        lists = subst (λ (i : Option (List ℕ)). Inputs i g.ints) (sym g.inputs) g.lists;
+        is = cc same;
+      },
+    )
 
 -- the words of a check of these files
 abbrev pub check_words : List (List ℕ) → List (List ℕ) → List (List ℕ)

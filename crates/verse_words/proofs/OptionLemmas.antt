@@ -1,5 +1,5 @@
 -- What the first words give, and that words give the options in one way.
-use Rattle.std.proofs.Common.{◌≡◌, ℕ, true, false, Some, None, List, [], ◌∷◌, codes, refl, sym, ◌∙◌, ap, subst, arith, length, map}
+use Rattle.std.proofs.Common.{◌≡◌, ℕ, ◌≤◌, true, false, Option, Some, None, List, [], ◌∷◌, codes, refl, sym, ◌∙◌, ap, subst, arith, length, map}
 use Rattle.verse_words.specs.Words.{Given, Gives, IsNumber, none_left, steps, until, inputs, heap}
 use Rattle.verse_words.specs.Settings.{Continues}
 use Rattle.verse_words.proofs.NumberLemmas.{number_once}
@@ -169,3 +169,16 @@ on_heap g now word left w fresh e h = (
 pub all_taken : {A : Type 0} → (text : A → List ℕ) (g now : Given) (words : Words) (left : List A) → length left ≡ 0 → Continues g words now (map text left) → Gives g words now
 all_taken text g now words [] e on = (on now).1 none_left
 all_taken text g now words (a ∷ left) e on = absurd (omega arith)
+
+abbrev pub AtMost : ℕ → Option ℕ → Type 0
+AtMost most None = Unit {0}
+AtMost most (Some n) = n ≤ most
+
+-- each number that is given is within its limit
+pub given_within : {g h : Given} {words : List (List ℕ)} → Gives g words h → AtMost 100000000 g.steps → AtMost 1000000000000 g.until →
+    AtMost 100000000 h.steps × AtMost 1000000000000 h.until
+given_within none_left a b = (a, b)
+given_within (steps n fresh number on) a b = given_within on number.within b
+given_within (until n fresh number on) a b = given_within on a number.within
+given_within (inputs fresh on) a b = given_within on a b
+given_within (heap fresh on) a b = given_within on a b

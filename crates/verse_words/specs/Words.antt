@@ -16,12 +16,15 @@ pub record Options : Type 0 where
 pub data Command : Type 0 where
   -- runs the program in the files of these names
   run : (files : List (List ℕ)) → Options → Command
+  -- runs the machine of the image in this file
+  exec : (file : List ℕ) → Options → Command
   -- tells whether the program in these files is accepted
   check : (files : List (List ℕ)) → Command
 
 -- the names of a command's files
 abbrev pub files_of : Command → List (List ℕ)
 files_of (run files o) = files
+files_of (exec file o) = file ∷ []
 files_of (check files) = files
 
 -- a file's name is not empty and does not begin with `-`
@@ -93,6 +96,8 @@ options_of g ns = record {
 pub data Says : List (List ℕ) → Command → Type 0 where
   says_run : {files words : List (List ℕ)} {g : Given} {ns : List ℤ} → AreFiles files → Gives no_options words g → Inputs g.inputs ns →
       Says (codes "run" ∷ files ++ words) (run files (options_of g ns))
+  says_exec : {file : List ℕ} {words : List (List ℕ)} {g : Given} {ns : List ℤ} → IsFile file → Gives no_options words g → Inputs g.inputs ns →
+      Says (codes "exec" ∷ file ∷ words) (exec file (options_of g ns))
   says_check : {files : List (List ℕ)} → AreFiles files → Says (codes "check" ∷ files) (check files)
 
 -- no words are two commands

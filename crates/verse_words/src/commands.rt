@@ -1,7 +1,7 @@
 //! What a command line asks for.
 ghost use Rattle.std.specs.Prelude.{◌≡◌, ◌≤◌, ◌↔◌, ◌∷◌, ◌++◌, ℤ, codes, length, List, IfOk, IfSome, IsTrue, MatchOption, map, string_bytes, option_copied};
 ghost use Rattle.verse_words.specs.Words.{AreFiles, Command, EachIsFile, Inputs, IsFile, SayOnce, Says};
-ghost use Rattle.verse_words.specs.Requests.{AsksFor, BeginsWithNoFile, names_of};
+ghost use Rattle.verse_words.specs.Requests.{AsksFor, BeginsWithNoFile, Gave, NoOptions, names_of};
 
 use crate::numbers::{inputs, is, lists_inputs};
 use crate::options::all_options;
@@ -20,11 +20,13 @@ const DEFAULT_UNTIL: u64 = 1000000000000;
 pub enum Request<'a> {
     /// That a program is run.
     Run(Running<'a>),
+    /// That the machine of an image is run: there is one file.
+    Exec(Running<'a>),
     /// Whether the program in these files is accepted.
     Check(&'a [String]),
 }
 
-/// A program that is to be run: the names of its files, and its inputs by the word that lists them.
+/// What is to be run: the names of its files, and its inputs by the word that lists them.
 #[derive(Clone, Copy)]
 pub struct Running<'a> {
     pub files: &'a [String],
@@ -35,12 +37,12 @@ pub struct Running<'a> {
 }
 
 impl<'a> Request<'a> {
-    /// The names of the program's files: 1 to 16, where words ask for this.
+    /// The names of the files: 1 to 16, where words ask for this.
     pub fn files(&self) -> &'a [String]
         ensures { map string_bytes result.now ≡ names_of self.now }
     {
         match self {
-            Request::Run(running) => running.files,
+            Request::Run(running) | Request::Exec(running) => running.files,
             Request::Check(files) => files,
         }
     }
@@ -85,6 +87,8 @@ pub fn find_request(words: &[String]) -> Option<Request<'_>>
     let command = command.as_str();
     if is(command, "run") {
         run(files, options)
+    } else if is(command, "exec") {
+        exec(files, options)
     } else if is(command, "check") {
         check(files, options)
     } else {
@@ -120,17 +124,39 @@ fn run<'a>(files: &'a [String], options: &'a [String]) -> Option<Request<'a>>
         (λ r. (c : Command) × Says (codes "run" ∷ map string_bytes files.now ++ map string_bytes options.now) c × AsksFor r c) }
     ensures files { IfSome result (λ r. AreFiles (names_of r)) }
 {
+    Some(Request::Run(with_options(files, options)?))
+}
+
+/// The run of the image in the one file that the options behind it ask for.
+fn exec<'a>(files: &'a [String], options: &'a [String]) -> Option<Request<'a>>
+    requires are { AreFiles (map string_bytes files.now) }
+    requires behind { BeginsWithNoFile (map string_bytes options.now) }
+    ensures asks { MatchOption result ((c : Command) → ¬ (Says (codes "exec" ∷ map string_bytes files.now ++ map string_bytes options.now) c))
+        (λ r. (c : Command) × Says (codes "exec" ∷ map string_bytes files.now ++ map string_bytes options.now) c × AsksFor r c) }
+    ensures files { IfSome result (λ r. AreFiles (names_of r)) }
+{
+    if files.len() > 1 {
+        return None;
+    }
+    Some(Request::Exec(with_options(files, options)?))
+}
+
+/// These files with the options of a run.
+fn with_options<'a>(files: &'a [String], options: &'a [String]) -> Option<Running<'a>>
+    ensures gives { MatchOption result (NoOptions (map string_bytes options.now)) (λ r. Gave (map string_bytes options.now) r) }
+    ensures files { IfSome result (λ r. map string_bytes r.files.now ≡ map string_bytes files.now) }
+{
     let given = all_options(options)?;
     if !fit_inputs(given.inputs) {
         return None;
     }
-    Some(Request::Run(Running {
+    Some(Running {
         files,
         steps: given.steps.unwrap_or(DEFAULT_STEPS),
         until: given.until.unwrap_or(DEFAULT_UNTIL),
         inputs: given.inputs,
         heap: given.heap,
-    }))
+    })
 }
 
 /// The check of these files, where nothing is behind them.

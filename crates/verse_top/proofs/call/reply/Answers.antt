@@ -11,13 +11,13 @@ use Rattle.verse_top.proofs.LoadLaws.{as_many}
 use Rattle.verse_top.proofs.LoadSteps.{among_at, name_at}
 use Rattle.verse_top.proofs.call.reply.Goals as goal
 
-pub answer_to-requires : goal.answer_to-requires
-answer_to-requires g c =
+pub answer_to-requires-clause-few : goal.answer_to-requires-clause-few
+answer_to-requires-clause-few g c =
     let names = map string_bytes c.files-names.result.now in
     let held = g.F.Files.holds c.args.files.now in
     let comes : Comes held (g.F.Files.faults c.args.files.now) (g.F.Files.faults c.load_all.new.files) names (l.All c.in-All.loaded) = subst (λ (x : Loading). Comes held (g.F.Files.faults c.args.files.now) (g.F.Files.faults c.load_all.new.files) names x) c.in-All.is c.in_ok-loaded.ensures.comes in
     let many = as_many held names (map (λ f. f.items) c.in-All.loaded.items) comes in
-    let few : length names ≤ 16 = subst (λ (ns : List (List ℕ)). length ns ≤ 16) (sym c.files-names.ensures) c.requires.few in
+    let few : length names ≤ 16 = subst (λ (ns : List (List ℕ)). length ns ≤ 16) (sym c.files-names.ensures) c.requires.files.few in
     let count = length-map c.in-All.loaded.items (λ f. f.items) in
     let same = ap length c.as_slice.ensures.value in
     omega arith
@@ -27,7 +27,7 @@ returns-in-TooLarge-clause-replies g c =
     let names = map string_bytes c.files-names.result.now in
     let held = g.F.Files.holds c.args.files.now in
     let comes : Comes held (g.F.Files.faults c.args.files.now) (g.F.Files.faults c.load_all.new.files) names (l.TooLarge c.in-TooLarge.file) = subst (λ (x : Loading). Comes held (g.F.Files.faults c.args.files.now) (g.F.Files.faults c.load_all.new.files) names x) c.in-TooLarge.is c.in_ok-loaded.ensures.comes in
-    ok_then c.too_large.result _ _ (λ a told d asks. inl (answers_large held c.args.request d names c.in-TooLarge.file a.status a.text.items asks c.files-names.ensures told.0 told.1 comes)) c.too_large.ensures
+    ok_then c.too_large.result _ _ (λ a told d asks. inl (answers_large held c.args.request d names c.in-TooLarge.file a.status a.text.items c.requires.program asks c.files-names.ensures told.0 told.1 comes)) c.too_large.ensures
 
 pub returns-in-Failed-clause-replies : goal.returns-in-Failed-clause-replies
 returns-in-Failed-clause-replies g c =

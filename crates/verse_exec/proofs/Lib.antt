@@ -1,0 +1,8 @@
+pub mod Takes
+pub mod HeapLines
+pub mod Inside
+pub mod InsideRuns
+pub mod TurnLemmas
+pub mod Leaving
+pub mod StreamLemmas
+pub mod Executions

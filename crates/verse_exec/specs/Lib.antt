@@ -1,0 +1,6 @@
+pub mod Leaving
+pub mod Executions
+pub mod Asking
+pub mod Cells
+pub mod Turns
+pub mod Endings

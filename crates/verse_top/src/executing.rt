@@ -1,0 +1,65 @@
+//! The run of an image.
+
+ghost use Rattle.std.specs.Prelude.{◌≡◌, ◌≤◌, ℕ, ℤ, List, length, option_copied};
+ghost use Rattle.verse_outside.specs.Causes.{Rose};
+ghost use Rattle.verse_outside.specs.Held.{Lacks};
+ghost use Rattle.verse_words.specs.Words.{Command, Inputs};
+ghost use Rattle.verse_words.specs.Requests.{AsksForExec, IsWithin, options_with};
+ghost use Rattle.verse_exec.specs.Executions.{Executes, ExecutesSoFar, IsNothing};
+ghost use Rattle.verse_exec.specs.Leaving.{Leaves};
+ghost use Rattle.verse_top.specs.Answers.{Begins, IsAnswer, Replies, read_line};
+
+use crate::writing::{not_read, write_answer};
+use std::alloc::Global;
+use verse_exec::asking::Asked;
+use verse_exec::executing::exec;
+use verse_exec::stops::Stop;
+use verse_outside::files::{Files, LoadFault};
+use verse_outside::sinks::Sink;
+use verse_words::commands::Running;
+
+/// Loads the file whole, and runs the image that its bytes are.
+pub(crate) fn execute<F: Files, S: Sink>(
+    alloc: Global,
+    running: Running<'_>,
+    files: &mut F,
+    out: &mut S,
+) -> Result<u8, Stop>
+    requires { (c : Command) × AsksForExec running c }
+    ensures leaves { (c : Command) → AsksForExec running.entry c → Leaves (Replies c (F.holds files.old) (F.faults files.old) (F.faults files.new)) (Begins (F.holds files.old) c) (S.faults out.old) (S.faults out.new) (S.taken out.old) (S.taken out.new) result }
+    ensures same_files { F.holds files.new ≡ F.holds files.old }
+    ensures file_faults { F.faults files.old ≤ F.faults files.new }
+    ensures sink_faults { S.faults out.old ≤ S.faults out.new }
+{
+    let name = running.files[0].as_str();
+    match files.load(alloc, name, usize::MAX) {
+        Ok(bytes) => run_image(alloc, running, bytes.as_slice(), out),
+        Err(LoadFault::Failed) => {
+            let answer = not_read(alloc, name)?;
+            write_answer(answer, out)
+        }
+        Err(LoadFault::Memory) => Err(Stop::Memory),
+    }
+}
+
+/// Runs the image that these bytes are, as the words ask for it.
+fn run_image<S: Sink>(
+    alloc: Global,
+    running: Running<'_>,
+    bytes: &[u8],
+    out: &mut S,
+) -> Result<u8, Stop>
+    requires within { IsWithin running }
+    requires lists { (ns : List ℤ) × Inputs (option_copied running.inputs) ns }
+    ensures leaves { (ns : List ℤ) → Inputs (option_copied running.entry.inputs) ns → Leaves (Executes bytes.now (options_with running.entry ns)) (ExecutesSoFar bytes.now (options_with running.entry ns)) (S.faults out.old) (S.faults out.new) (S.taken out.old) (S.taken out.new) result }
+    ensures later { S.faults out.old ≤ S.faults out.new }
+{
+    let inputs = running.ints(alloc)?;
+    let asked = Asked {
+        inputs: inputs.as_slice(),
+        steps: running.steps,
+        until: running.until,
+        heap: running.heap,
+    };
+    exec(alloc, bytes, asked, out)
+}
