@@ -179,12 +179,8 @@ def short_examples():
     print(f"{waiting} of {total} short examples need a form that is not built")
 
 
-NOT_REPORTED = "so E050 to E068, E070 and E098 are not reported"
-
-
 def refused_examples():
-    """Each example of the table of refusals, through the program. While the document says that the rules of types and
-    effects are not reported, they must be E099."""
+    """Each example of the table of refusals, through the program."""
     language = text_of("docs/LANGUAGE.md")
     rows = re.findall(r"(?m)^\| E(\d{3}) ([^|]*?) \| [^|]* \| `([^|]*)` \| (\d+:\d+) \|$", section(language, "All refusals"))
     check(len(rows) >= 36, "docs/LANGUAGE.md, All refusals: this check can read too few examples")
@@ -194,8 +190,7 @@ def refused_examples():
             with open(file, "w", encoding="utf-8") as out:
                 out.write(example)
             ran = subprocess.run([PROGRAM, "run", file], capture_output=True, text=True, stdin=subprocess.DEVNULL, timeout=60)
-            later = NOT_REPORTED in language and "050" <= number <= "098" and number != "069"
-            wanted = r"\d+:\d+ E099 not built yet\n" if later else re.escape(f"{place} E{number} {text}\n")
+            wanted = re.escape(f"{place} E{number} {text}\n")
             what = f"docs/LANGUAGE.md, All refusals: the example of E{number} writes {ran.stdout.strip()}"
             check(ran.returncode == 1 and re.fullmatch(wanted, ran.stdout) is not None, what)
 

@@ -1,7 +1,8 @@
 #!/usr/bin/env bash
 # Runs each example through the proved program. examples/NAME.out has what must be written, and in its last line
 # the status; NAME.args has words behind the file, one a line. A name in examples/not_built.txt needs a form that
-# is not built: it must be refused with E099, and be taken off the list as soon as it is not.
+# is not built: it must be refused with E099, and be taken off the list as soon as it is not. NAME.image is the
+# image of a program: it must write the same.
 set -u
 cd "$(dirname "$0")/../.." || exit 2
 program=$(scripts/checked_program) || { echo 'examples check failed: no program to run them'; echo '0 passed, 1 failed'; exit 1; }
@@ -14,11 +15,11 @@ wrong() {
   [ -z "${2-}" ] || printf '%s\n' "$2" | head -n 12
 }
 
-# What the program writes for an example, and its status in the last line.
-run_of() {
+# What the program writes for an example by this command and of this file, and its status in the last line.
+written() {
   local words=()
   [ ! -f "examples/$1.args" ] || mapfile -t words < "examples/$1.args"
-  timeout 60 "$program" run "examples/$1.verse" "${words[@]}" < /dev/null
+  timeout 60 "$program" "$2" "examples/$1.$3" "${words[@]}" < /dev/null
   echo "status $?"
 }
 
@@ -29,7 +30,7 @@ is_not_built() { [[ $1 =~ ^[0-9]+:[0-9]+\ E099\ not\ built\ yet$'\n'status\ 1$ ]
 for file in examples/*.verse; do
   name=$(basename "$file" .verse)
   [ -f "examples/$name.out" ] || { wrong "$file has no .out file"; continue; }
-  got=$(run_of "$name")
+  got=$(written "$name" run verse)
   if is_listed "$name"; then
     if is_not_built "$got"; then
       passed=$((passed + 1))
@@ -46,10 +47,20 @@ for file in examples/*.verse; do
   rm -f /tmp/examples-check.$$
 done
 
+for file in examples/*.image; do
+  name=$(basename "$file" .image)
+  if diff <(written "$name" exec image) "examples/$name.out" > /tmp/examples-check.$$; then
+    passed=$((passed + 1))
+  else
+    wrong "$file does not write examples/$name.out (> is wanted)" "$(cat /tmp/examples-check.$$)"
+  fi
+  rm -f /tmp/examples-check.$$
+done
+
 while IFS= read -r name; do
   [ -f "examples/$name.verse" ] || wrong "examples/not_built.txt names $name, which is no example"
 done < examples/not_built.txt
-for file in examples/*.out examples/*.args; do
+for file in examples/*.out examples/*.args examples/*.image; do
   [ -f "${file%.*}.verse" ] || wrong "$file belongs to no example"
 done
 

@@ -20,9 +20,10 @@ handles_are_none() { [ "$(cat HANDLES)" = 'Handles allowed: none.' ]; }
 
 crates() { grep -v '^#' crates.txt | cut -d: -f1 | cut -d' ' -f1; }
 
-each_crate_has_edits() {
+each_crate_has_wrong_bodies() {
   for name in $(crates); do
-    [ -f "crates/$name/src/main.rt" ] || compgen -G "crates/$name/must-fail/*.edit" > /dev/null || { echo "$name"; return 1; }
+    [ -f "crates/$name/src/main.rt" ] || compgen -G "crates/$name/must-fail/*.edit" > /dev/null ||
+      compgen -G "crates/$name/wrong-bodies/*.edit" > /dev/null || { echo "$name"; return 1; }
   done
 }
 
@@ -51,7 +52,7 @@ examples_are_named() {
 }
 
 check handles_are_none
-check each_crate_has_edits
+check each_crate_has_wrong_bodies
 check each_crate_is_described
 check files_are_short
 check no_hole_is_left
