@@ -1,5 +1,5 @@
 -- An arm and a task behind, as they begin.
-use Rattle.std.proofs.Common.{◌≡◌, ◌≢◌, ℕ, suc, ◌+◌, ◌≤◌, true, List, [], ◌∷◌, map, reverse, Some, None, refl, sym, ap, subst, ◌∙◌, arith}
+use Rattle.std.proofs.Common.{◌≡◌, ◌≢◌, ℕ, suc, ◌≤◌, true, List, [], ◌∷◌, map, reverse, Some, None, refl, sym, ap, subst, ◌∙◌, arith}
 use Rattle.std.specs.Global.{Vec}
 use Rattle.task_tree.specs.Tasks.{Task}
 use Rattle.verse_value.specs.Val.{Val}
@@ -7,7 +7,6 @@ use Rattle.verse_value.specs.declared.runs.Ending.TheVariants as ending
 use Rattle.verse_state.specs.State.{State, spending, stepped}
 use Rattle.verse_machine.specs.Tasks as m
 use Rattle.verse_machine.specs.Tasks.{Who, World, world, Step, Next, Over, machine, life_from, child_named, begins, branching, thread}
-use Rattle.verse_machine.specs.Ends.{next_arm}
 use Rattle.sim_clock.specs.declared.waits.Pending.{Pending}
 use Rattle.vm_table.specs.Slots.{held}
 use Rattle.vm_table.specs.Standing.{Stands}
@@ -17,10 +16,9 @@ use Rattle.vm_table.proofs.Wakings.{added_waits}
 use Rattle.vm_thread.specs.Framed.{Framed, locals_of}
 use Rattle.vm_thread.specs.Calls.{alone}
 use Rattle.vm_thread.specs.Machine.{frames_with, all_free}
-use Rattle.vm_runner.specs.Views.{View, Aside, state_of, frames_of}
+use Rattle.vm_runner.specs.Views.{View, Aside, state_of}
 use Rattle.vm_runner.specs.Doings.{on_frame, going}
 use Rattle.vm_runner.specs.Comes.{done}
-use Rattle.vm_tasks.specs.declared.slots.Root.{Root}
 use Rattle.vm_tasks.specs.declared.slots.Root.TheVariants.{Part as APart}
 use Rattle.vm_tasks.specs.View.{slot_of, kind_of, part_of}
 use Rattle.vm_tasks.specs.Begun.{Begun, new_slot, role_under}
@@ -31,15 +29,16 @@ use Rattle.vm_world.specs.declared.tasks.Tasks.{Tasks}
 use Rattle.vm_world.specs.declared.tasks.Up.{Up}
 use Rattle.vm_world.specs.declared.tasks.Up.TheVariants as up
 use Rattle.vm_world.specs.declared.tasks.Went.TheVariants as went
-use Rattle.vm_world.specs.Frames.{frames_in, threaded, Suspended}
+use Rattle.vm_world.specs.Frames.{frames_in, threaded}
 use Rattle.vm_world.specs.Ups.{ups_of, id_of, UpsAre, begins_up, branching_up}
-use Rattle.vm_world.specs.Standing.{Tree, Fine, Clocked, Standing, Bare}
+use Rattle.vm_world.specs.Standing.{Tree, Clocked, Standing, Bare}
 use Rattle.vm_world.specs.Going.{Scene, Going}
-use Rattle.vm_world.specs.Meets.{GoesOn, Ends, Comes}
+use Rattle.vm_world.specs.Meets.{GoesOn, Ends}
 use Rattle.vm_world.proofs.Free.{bare_of, frames_bare}
 use Rattle.vm_world.proofs.Fines.{fine_less, fine_earlier, fine_added, fine_at}
+use Rattle.vm_world.proofs.Untold.{untold_added}
 use Rattle.vm_world.proofs.Running.{own_of, own_goes, suspended_of}
-use Rattle.vm_begins.specs.Doings.{branches_at, branches}
+use Rattle.vm_begins.specs.Doings.{branches}
 use Rattle.vm_begins.specs.Arms.{BeginsArm}
 
 pub frame_locals : (fs : List Framed) → (frames_in fs).0.locals ≡ locals_of fs
@@ -48,11 +47,11 @@ frame_locals (f ∷ fs) = refl
 
 module _ {W : Type 0} (pending : W → List Pending) where
   -- a step is spent, and a task is added
-  pub added_clock : (a : Aside) (v : View) (t : Tasks W) (own : List Framed) (left spent id k : ℕ) (parent : _) (root : Root) (tree : Tree) (ups : Vec Up) → v.left ≡ suc left → Begun t.tree tree parent id left root → Clocked pending a v t →
+  pub added_clock : (a : Aside) (v : View) (t : Tasks W) (own : List Framed) (left spent id k : ℕ) (parent : _) (tree : Tree) (ups : Vec Up) → v.left ≡ suc left → Begun t.tree tree parent id left APart → Clocked pending a v t →
       Clocked pending a (record v { frames = own; left = left; spent = spent }) (record t { tree = tree; ups = ups; id = k })
-  added_clock a v t own left spent id k parent root tree ups less b c =
+  added_clock a v t own left spent id k parent tree ups less b c =
       let le : left ≤ v.left = omega (arith, less) in
-      let u : Task _ = record { number = id; parent = parent; role = role_under parent; item = new_slot left root } in
+      let u : Task _ = record { number = id; parent = parent; role = role_under parent; item = new_slot left APart } in
       record {
         past = c.past;
         next = c.next;
@@ -61,6 +60,7 @@ module _ {W : Type 0} (pending : W → List Pending) where
         timed = subst (λ z. Timed z (pending t.gone.waits) (state_of a (record v { frames = own; left = left; spent = spent }))) (sym (added_waits (slot_of frames_in) t.tree tree u b.added refl))
             (same_timed (sleeping (slot_of frames_in) t.tree) (pending t.gone.waits) (state_of a v) (state_of a (record v { frames = own; left = left; spent = spent })) refl refl refl c.timed);
         fine = fine_added left t.tree tree u b.added (record { number = omega arith; since = omega arith; held = tt }) (fine_less v.left left t.tree le c.fine);
+        untold = untold_added t.results.items t.tree tree u b.added (λ P. tt) c.untold;
       }
 
   -- no step is left
@@ -92,7 +92,7 @@ module _ {W : Type 0} (pending : W → List Pending) where
           let at = world o.pre o.post (up_it ∷ o.ups) o.trees in
           let lt : suc left ≤ v.left = omega (arith, less) in
           let standing : Standing pending (held id (child_named w left) None ∷ []) a at (next_view (locals_of b.thread)) next_tasks = record {
-            clock = added_clock a v t (alone left label (locals_of b.thread)) left (suc v.spent) id id (Some b.id) APart tree ups less begun s.clock;
+            clock = added_clock a v t (alone left label (locals_of b.thread)) left (suc v.spent) id id (Some b.id) tree ups less begun s.clock;
             stands = subst (λ us. Stands (slot_of frames_in) tree (map id_of us) (held id (child_named w left) None ∷ []) at) (sym are)
                 (stands_so frames_in (map id_of (ups_of t.ups.items)) x (kind_of b.kind) b.place gs (reverse b.labels.items) o (fine_earlier v.left left t.tree (omega (arith, lt)) s.clock.fine)
                 (λ u it. let since = (fine_at v.left b.id t.tree u it s.clock.fine).since in omega (arith, since, lt)) s.stands);
@@ -126,7 +126,7 @@ module _ {W : Type 0} (pending : W → List Pending) where
         let at = world o.pre o.post (up_it ∷ o.ups) o.trees in
         let lt : suc left ≤ v.left = omega (arith, less) in
         let standing : Standing pending (held id (child_named w left) None ∷ []) a at (next_view (locals_of v.frames)) next_tasks = record {
-          clock = added_clock a v t (alone left label (locals_of v.frames)) left (suc v.spent) id id (Some t.id) APart tree ups less begun s.clock;
+          clock = added_clock a v t (alone left label (locals_of v.frames)) left (suc v.spent) id id (Some t.id) tree ups less begun s.clock;
           stands = subst (λ us. Stands (slot_of frames_in) tree (map id_of us) (held id (child_named w left) None ∷ []) at) (sym are)
               (stands_so frames_in (map id_of (ups_of t.ups.items)) (threaded w v.frames) o (fine_earlier v.left left t.tree (omega (arith, lt)) s.clock.fine) s.stands);
           ups = subst (λ us. UpsAre us (up_it ∷ o.ups)) (sym are) (branching_up t.id v.frames w sus s.ups);

@@ -2,7 +2,7 @@
 use Rattle.std.proofs.Common.{◌≡◌, ◌≢◌, ℕ, suc, ◌+◌, true, Result, Ok, Err, IfOk, List, [], ◌∷◌, ◌++◌, length, map, reverse, Option, Some, None, refl, sym, ap, subst, ◌∙◌, arith}
 use Rattle.std.specs.Global.{Vec}
 use Rattle.std.proofs.lemmas.List.{reverse-reverse, reverse-append}
-use Rattle.task_tree.specs.Tasks.{IsLive, task_at}
+use Rattle.task_tree.specs.Tasks.{IsLive}
 use Rattle.task_tree.specs.Nested.{IsTree}
 use Rattle.verse_code.specs.declared.codes.Func.{Func}
 use Rattle.verse_value.specs.Val.{Val}
@@ -16,9 +16,8 @@ use Rattle.sim_clock.specs.declared.waits.Pending.{Pending}
 use Rattle.vm_thread.specs.Framed.{Framed, locals_of}
 use Rattle.vm_thread.specs.Calls.{alone, entered}
 use Rattle.vm_thread.specs.Machine.{frame_with, frames_with, beyond, all_free}
-use Rattle.vm_runner.specs.Views.{View, Aside, Ready, state_of, frames_of}
-use Rattle.vm_runner.specs.Doings.{Doing, on_frame}
-use Rattle.vm_runner.specs.Comes.{done}
+use Rattle.vm_runner.specs.Views.{View, Aside, state_of}
+use Rattle.vm_runner.specs.Doings.{on_frame}
 use Rattle.vm_tasks.specs.declared.slots.Root.TheVariants.{Part as APart, Spawned}
 use Rattle.vm_tasks.specs.Begun.{Begun, Grouped}
 use Rattle.vm_tasks.specs.Standing.{Branches}
@@ -33,9 +32,9 @@ use Rattle.vm_world.specs.declared.tasks.Went.TheVariants as went
 use Rattle.vm_world.specs.Frames.{threaded}
 use Rattle.vm_world.specs.Ups.{ups_of, id_of}
 use Rattle.vm_tasks.specs.View.{kind_of, part_of}
-use Rattle.vm_world.specs.Standing.{Tree, Bare}
-use Rattle.vm_world.specs.Going.{Scene, Going, Goes}
-use Rattle.vm_world.specs.Meets.{GoesOn, Ends, Comes}
+use Rattle.vm_world.specs.Standing.{Tree}
+use Rattle.vm_world.specs.Going.{Scene, Goes}
+use Rattle.vm_world.specs.Meets.{Comes}
 use Rattle.vm_world.proofs.Free.{bare_of, frames_bare}
 use Rattle.vm_begins.specs.Doings.{branches_at, branches, spawns_task, begins_group}
 use Rattle.vm_begins.specs.Arms.{BeginsArm}

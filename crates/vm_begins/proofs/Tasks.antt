@@ -1,17 +1,15 @@
 -- A spawned task and a group, as they begin.
-use Rattle.std.proofs.Common.{◌≡◌, ◌≢◌, ℕ, zero, suc, ◌+◌, ◌≤◌, ◌-◌, true, List, [], ◌∷◌, ◌++◌, length, map, reverse, Option, Some, None, option_map, refl, sym, ap, subst, ◌∙◌, arith}
+use Rattle.std.proofs.Common.{◌≡◌, ◌≢◌, ℕ, zero, suc, ◌≤◌, ◌-◌, true, List, [], ◌∷◌, ◌++◌, length, map, reverse, Option, Some, None, option_map, refl, sym, ap, subst, ◌∙◌, arith}
 use Rattle.std.specs.Global.{Vec}
-use Rattle.std.proofs.lemmas.List.{reverse-append}
-use Rattle.task_tree.specs.Tasks.{Task, task_at, with_item}
+use Rattle.task_tree.specs.Tasks.{Task}
 use Rattle.task_tree.specs.Nested.{IsTree}
 use Rattle.verse_code.specs.declared.codes.Func.{Func}
 use Rattle.verse_value.specs.Val.{Val, unit}
 use Rattle.verse_value.specs.declared.runs.Ending.TheVariants as ending
-use Rattle.verse_state.specs.State.{State, Given, spending, stepped, with_entry}
+use Rattle.verse_state.specs.State.{State, spending, stepped, with_entry}
 use Rattle.verse_machine.specs.Tasks as m
 use Rattle.verse_machine.specs.Tasks.{Who, World, world, Step, Next, Over, machine, life_from, root_named, spawning, thread}
 use Rattle.verse_machine.specs.Frames as frames
-use Rattle.verse_machine.specs.Acts.{spawns}
 use Rattle.verse_machine.specs.Ends.{next_arm}
 use Rattle.sim_clock.specs.declared.waits.Pending.{Pending}
 use Rattle.vm_table.specs.Slots.{held}
@@ -20,10 +18,10 @@ use Rattle.vm_table.specs.Clocks.{sleeping, Timed}
 use Rattle.vm_table.proofs.Ticks.{same_timed, entry_timed}
 use Rattle.vm_table.proofs.Wakings.{added_waits, item_waits}
 use Rattle.fiber.specs.Calls as fiber
-use Rattle.vm_thread.specs.Framed.{Framed, locals_of}
+use Rattle.vm_thread.specs.Framed.{Framed}
 use Rattle.vm_thread.specs.Calls.{entered}
 use Rattle.vm_thread.specs.Machine.{frames_with, all_free}
-use Rattle.vm_runner.specs.Views.{View, Aside, state_of, frames_of}
+use Rattle.vm_runner.specs.Views.{View, Aside, state_of}
 use Rattle.vm_runner.specs.Doings.{on_frame, going}
 use Rattle.vm_runner.specs.Comes.{done}
 use Rattle.vm_tasks.specs.declared.slots.Slot.{Slot}
@@ -37,13 +35,14 @@ use Rattle.vm_world.specs.declared.tasks.Up.{Up}
 use Rattle.vm_world.specs.declared.tasks.Up.TheVariants as up
 use Rattle.vm_world.specs.Frames.{frames_in, threaded, Suspended}
 use Rattle.vm_world.specs.Ups.{ups_of, id_of, UpsAre, spawning_up}
-use Rattle.vm_world.specs.Standing.{Tree, AllFine, given_of, Clocked, Standing, Bare}
-use Rattle.vm_world.specs.Going.{Scene, Going, Own}
+use Rattle.vm_world.specs.Standing.{Tree, AllFine, Untold, given_of, Clocked, Standing, Bare}
+use Rattle.vm_world.specs.Going.{Scene, Going}
 use Rattle.vm_world.specs.declared.tasks.Begins.{Begins}
 use Rattle.vm_world.specs.declared.tasks.Went.{Went}
 use Rattle.vm_world.specs.Meets.{GoesOn, MovesOn, Comes}
 use Rattle.vm_world.proofs.Free.{bare_of, frames_bare}
 use Rattle.vm_world.proofs.Fines.{fine_less, fine_added, fine_at, fine_item, fine_none_later}
+use Rattle.vm_world.proofs.Untold.{untold_item, untold_spawned}
 use Rattle.vm_world.proofs.Running.{own_of, own_goes, suspended_of, on_meets}
 use Rattle.vm_begins.specs.Doings.{spawns_task, begins_group}
 use Rattle.vm_begins.specs.Arms.{BeginsArm}
@@ -72,8 +71,8 @@ module _ {W : Type 0} (pending : W → List Pending) where
     abbrev spawn_tasks : Tasks W
     spawn_tasks = record t { tree = tree; ups = ups; id = id; results = results }
 
-    spawn_clock : (a : Aside) → v.left ≡ suc left → Begun t.tree tree None id left (Spawned entry) → results.items ≡ t.results.items ++ None ∷ [] → Clocked pending a v t → Clocked pending (with_none a) spawn_view spawn_tasks
-    spawn_clock a less b more c =
+    spawn_clock : (a : Aside) → v.left ≡ suc left → Begun t.tree tree None id left (Spawned entry) → entry ≡ length t.results.items → results.items ≡ t.results.items ++ None ∷ [] → Clocked pending a v t → Clocked pending (with_none a) spawn_view spawn_tasks
+    spawn_clock a less b number more c =
         let le : left ≤ v.left = omega (arith, less) in
         let u : Task _ = record { number = id; parent = None; role = role_under None; item = new_slot left (Spawned entry) } in
         record {
@@ -84,6 +83,7 @@ module _ {W : Type 0} (pending : W → List Pending) where
           timed = subst (λ z. Timed z (pending t.gone.waits) (state_of (with_none a) spawn_view)) (sym (added_waits (slot_of frames_in) t.tree tree u b.added refl))
               (same_timed (sleeping (slot_of frames_in) t.tree) (pending t.gone.waits) (with_entry (state_of a v)) (state_of (with_none a) spawn_view) refl refl refl (entry_timed (sleeping (slot_of frames_in) t.tree) (pending t.gone.waits) (state_of a v) c.timed));
           fine = fine_added left t.tree tree u b.added (record { number = omega arith; since = omega arith; held = tt }) (fine_less v.left left t.tree le c.fine);
+          untold = subst (λ z. Untold z tree) (sym more) (untold_spawned t.results.items t.tree tree u entry b.added refl number c.untold);
         }
 
     pub spawn_begun : (scene : Scene) → Going pending scene v t → all_free (frames_with v.frames []) ≡ true → v.left ≡ suc left → entry ≡ length t.results.items → Begun t.tree tree None id left (Spawned entry) → changes.Spawns t.tree tree id left entry →
@@ -100,7 +100,7 @@ module _ {W : Type 0} (pending : W → List Pending) where
         let at = world [] [] (up_it ∷ o.ups) o.trees in
         let mine = root_named left (Some entry) in
         let standing : Standing pending (held id mine None ∷ []) (with_none a) at spawn_view spawn_tasks = record {
-          clock = spawn_clock a less begun more s.clock;
+          clock = spawn_clock a less begun number more s.clock;
           stands = subst (λ us. Stands (slot_of frames_in) tree (map id_of us) (held id mine None ∷ []) at) (sym are) (stands_so frames_in (map id_of (ups_of t.ups.items)) t.id (threaded w v.frames) o s.stands);
           ups = subst (λ us. UpsAre us (up_it ∷ o.ups)) (sym are) (spawning_up t.id v.frames entry w o.pre o.post sus s.ups);
           still = s.still;
@@ -148,6 +148,7 @@ module _ {W : Type 0} (pending : W → List Pending) where
           signals = s.clock.signals;
           timed = subst (λ z. Timed z (pending t.gone.waits) (state_of a v)) (sym waits) s.clock.timed;
           fine = subst (λ z. AllFine v.left z) (sym g.is) (fine_item v.left t.id t.tree g.task item nested g.at_it (record { number = fine.number; since = omega arith; held = fine.held }) s.clock.fine);
+          untold = subst (λ z. Untold t.results.items z) (sym g.is) (untold_item t.results.items t.id t.tree g.task item nested g.at_it refl s.clock.untold);
         };
         stands = begins frames_in (map id_of (ups_of t.ups.items)) w o (fine_none_later v.left t.tree s.clock.fine) s.stands;
         ups = s.ups;

@@ -1,5 +1,5 @@
 -- The next arm of a group.
-use Rattle.std.specs.Prelude.{◌≡◌, ℕ, List, [], ◌∷◌, map, reverse, Some}
+use Rattle.std.specs.Prelude.{ℕ, List, [], ◌∷◌, map, reverse, Some}
 use Rattle.verse_machine.specs.Tasks as m
 use Rattle.verse_machine.specs.Tasks.{Who, World, Step}
 use Rattle.verse_machine.specs.Ends.{next_arm}

@@ -1,5 +1,5 @@
 -- One cancelled task after the other.
-use Rattle.std.proofs.Common.{◌≡◌, ◌≢◌, ◌≤◌, ℕ, ◌+◌, List, [], ◌∷◌, ◌++◌, map, reverse, refl, sym, ap, subst, ◌∙◌}
+use Rattle.std.proofs.Common.{◌≡◌, ◌≢◌, ◌≤◌, ◌+◌, List, [], ◌∷◌, ◌++◌, map, reverse, refl, sym, ap, subst, ◌∙◌}
 use Rattle.std.specs.Global.{Vec}
 use Rattle.std.proofs.lemmas.List.{reverse-append}
 use Rattle.verse_value.specs.declared.runs.Ending.{Ending}
@@ -16,7 +16,7 @@ use Rattle.vm_world.specs.declared.tasks.Went.TheVariants as went
 use Rattle.vm_world.specs.Frames.{parted, frames_in, Unguarded, AllUnguarded}
 use Rattle.vm_world.specs.Standing.{Bare}
 use Rattle.vm_world.specs.Going.{frames_at}
-use Rattle.vm_clears.specs.Clears.{ClearsFrames, Begun, AllTo, ClearsAll}
+use Rattle.vm_clears.specs.Clears.{ClearsFrames, AllTo, ClearsAll}
 
 pub all_but : (fss : List (List Framed)) (fs : List Framed) → AllUnguarded (fss ++ fs ∷ []) → AllUnguarded fss × Unguarded fs
 all_but [] fs u = (tt, u.0)

@@ -1,5 +1,5 @@
 -- The frames of a cancelled task go, and its deferred blocks run.
-use Rattle.std.proofs.Common.{◌≡◌, ◌≢◌, inl, inr, ℕ, zero, suc, ◌+◌, ◌<◌, ◌≤◌, Bool, true, false, List, [], ◌∷◌, length, map, Option, Some, None, refl, sym, ap, subst, ◌∙◌, arith}
+use Rattle.std.proofs.Common.{◌≡◌, ◌≢◌, inl, ℕ, suc, ◌+◌, ◌<◌, Bool, true, false, List, [], ◌∷◌, length, map, Option, Some, None, refl, sym, ap, subst, ◌∙◌, arith}
 use Rattle.verse_value.specs.declared.runs.Ending.TheVariants as ending
 use Rattle.verse_state.specs.State.{Memory, State, spending}
 use Rattle.verse_machine.specs.Tasks as m
@@ -9,15 +9,13 @@ use Rattle.fiber.specs.Frames.{Handler, fits, kept_defers}
 use Rattle.vm_thread.specs.Framed.{Framed, defers_of, handlers_of}
 use Rattle.vm_thread.specs.Calls.{left, left_from, permits, moved, taken, taken_from}
 use Rattle.vm_thread.specs.Machine.{gone_note, note_of, frame_with, frames_with, handlers_with, handlers_in, beyond, all_free}
-use Rattle.vm_runner.specs.Views.{View, Aside, Ready, state_of, frames_of, memories}
+use Rattle.vm_runner.specs.Views.{View, Aside, state_of, frames_of, memories}
 use Rattle.vm_runner.specs.Doings.{on_frame, going}
-use Rattle.vm_runner.specs.Comes.{done}
 use Rattle.vm_world.specs.declared.tasks.Went.{Went}
 use Rattle.vm_world.specs.declared.tasks.Went.TheVariants as went
 use Rattle.vm_world.specs.Frames.{Unguarded, GoneFirst, EachKeeps, Closing}
-use Rattle.vm_world.specs.Standing.{Bare}
 use Rattle.vm_world.proofs.Free.{free_parts, no_handlers}
-use Rattle.vm_clears.specs.Clears.{Runs, ClearsTo, ClearsFrames}
+use Rattle.vm_clears.specs.Clears.{ClearsTo, ClearsFrames}
 
 -- the handlers of a task that is suspended
 

@@ -1,13 +1,11 @@
 -- What is cancelled on both sides, and the blocks that run then.
-use Rattle.std.proofs.Common.{◌≡◌, inl, inr, ℕ, ◌≤◌, Bool, true, false, List, [], ◌∷◌, ◌++◌, map, reverse, Option, Some, None, refl, sym, ap, subst, ◌∙◌, arith}
+use Rattle.std.proofs.Common.{◌≡◌, inl, inr, ℕ, Bool, true, false, List, [], ◌∷◌, ◌++◌, map, reverse, Option, Some, None, refl, sym, ap, subst, ◌∙◌}
 use Rattle.std.specs.Global.{Vec}
 use Rattle.std.proofs.lemmas.List.{reverse-reverse, reverse-append}
-use Rattle.task_tree.specs.Tasks.{Task, task_at, HasNoChild}
-use Rattle.verse_value.specs.declared.runs.Ending.{Ending}
-use Rattle.verse_state.specs.State.{State}
+use Rattle.task_tree.specs.Tasks.{Task}
 use Rattle.verse_machine.specs.Tasks as m
 use Rattle.verse_machine.specs.Tasks.{Who, Part, clearing, World, world, since, beneath_arms}
-use Rattle.verse_machine.specs.Cancelling.{world_without, cancelled, clears}
+use Rattle.verse_machine.specs.Cancelling.{world_without, clears}
 use Rattle.verse_machine.specs.Ends.{follows}
 use Rattle.sim_clock.specs.declared.waits.Pending.{Pending}
 use Rattle.vm_table.specs.Slots.{held}
@@ -32,11 +30,12 @@ use Rattle.vm_world.specs.declared.tasks.After.{After}
 use Rattle.vm_world.specs.declared.tasks.Went.{Went}
 use Rattle.vm_world.specs.declared.tasks.Went.TheVariants as went
 use Rattle.vm_world.specs.Frames.{frames_in, Unguarded, AllUnguarded}
-use Rattle.vm_world.specs.Ups.{ups_of, id_of, UpsAre, IsAfter}
+use Rattle.vm_world.specs.Ups.{ups_of, UpsAre, IsAfter}
 use Rattle.vm_world.specs.Standing.{Tree, ids, Fine, HeldFine, AllFine, Clocked, Standing, Bare}
-use Rattle.vm_world.specs.Going.{Scene, NothingUnder, Clearing, frames_at}
-use Rattle.vm_world.specs.Meets.{GoesOn, Ends}
+use Rattle.vm_world.specs.Going.{NothingUnder, Clearing}
+use Rattle.vm_world.specs.Meets.{GoesOn}
 use Rattle.vm_world.proofs.Fines.{fine_less}
+use Rattle.vm_world.proofs.Untold.{untold_kept}
 use Rattle.vm_clears.specs.Clears.{Runs, Begun, AllTo, ClearsAll}
 use Rattle.vm_clears.specs.Cancels.{Cancelled, Cancels, Follows, BlocksTo, RunsBlocks}
 use Rattle.vm_clears.proofs.Under.{closed_since, closed_arms, nothing_under, later_under}
@@ -101,6 +100,7 @@ module _ {W : Type 0} (pending : W → List Pending) where
             signals = s.clock.signals;
             timed = c.timed (state_of a v) s.clock.timed;
             fine = fine_of v.left tree (λ u i. fine_in v.left t.tree u s.clock.fine (each.tasks u i));
+            untold = untold_kept t.results.items t.tree tree each.tasks s.clock.untold;
           };
           stands = c.stands;
           ups = s.ups;
@@ -131,6 +131,7 @@ module _ {W : Type 0} (pending : W → List Pending) where
           signals = c.signals;
           timed = same_timed (sleeping (slot_of frames_in) t.tree) (pending t.gone.waits) (state_of a v) (state_of a (record v { frames = u.frames; left = u.left; spent = u.spent })) refl refl refl c.timed;
           fine = fine_less v.left u.left t.tree r.fewer c.fine;
+          untold = c.untold;
         } in
         subst (λ z. Clocked pending a z (record with_after { gone = record t.gone { frames = fss } })) (sym r.still) again
 
@@ -172,7 +173,7 @@ module _ {W : Type 0} (pending : W → List Pending) where
         let whole : Follows pending id after (clears (follows f) f todo o (state_of a v)) f a o v (record with_after { gone = record t.gone { frames = s.gone.frames } }) = record {
           is = b.0;
           standing = record {
-            clock = record { past = c.past; next = c.next; results = c.results; signals = c.signals; timed = c.timed; fine = c.fine };
+            clock = record { past = c.past; next = c.next; results = c.results; signals = c.signals; timed = c.timed; fine = c.fine; untold = c.untold };
             stands = st;
             ups = us;
             still = refl;

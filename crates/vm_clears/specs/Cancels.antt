@@ -1,7 +1,6 @@
 -- What a task has begun is cancelled.
 use Rattle.std.specs.Prelude.{◌≡◌, ◌≤◌, ℕ, Bool, List, [], ◌∷◌, map, reverse, Option, Some, None}
 use Rattle.task_tree.specs.Tasks.{Task, task_at, HasNoChild}
-use Rattle.verse_value.specs.declared.runs.Ending.{Ending}
 use Rattle.verse_machine.specs.Tasks as m
 use Rattle.verse_machine.specs.Tasks.{Who, Part, World, Step, Over, since, beneath_arms}
 use Rattle.verse_machine.specs.Cancelling.{world_without, cancelled, clears}
@@ -19,7 +18,7 @@ use Rattle.vm_world.specs.declared.tasks.Went.{Went}
 use Rattle.vm_world.specs.declared.tasks.Went.TheVariants as went
 use Rattle.vm_world.specs.Frames.{frames_in, AllUnguarded}
 use Rattle.vm_world.specs.Ups.{ups_of, UpsAre, IsAfter}
-use Rattle.vm_world.specs.Standing.{Tree, ids, Clocked, Standing, Bare}
+use Rattle.vm_world.specs.Standing.{ids, Clocked, Standing, Bare}
 use Rattle.vm_world.specs.Going.{NothingUnder, frames_at}
 use Rattle.vm_world.specs.Meets.{GoesOn, Ends}
 

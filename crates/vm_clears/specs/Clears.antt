@@ -1,6 +1,5 @@
 -- Deferred blocks of cancelled tasks.
-use Rattle.std.specs.Prelude.{◌≡◌, ◌≤◌, ℕ, List, [], ◌∷◌, ◌++◌, map, reverse, Some}
-use Rattle.verse_value.specs.declared.runs.Ending.{Ending}
+use Rattle.std.specs.Prelude.{◌≡◌, ◌≤◌, List, [], ◌∷◌, ◌++◌, map, reverse}
 use Rattle.verse_machine.specs.Tasks as m
 use Rattle.verse_machine.specs.Tasks.{Frame, Who, clearing, World, world, Step, Over}
 use Rattle.verse_machine.specs.Cancelling.{clears_frames, clears}

@@ -1,10 +1,13 @@
 -- Where nothing is cancelled.
-use Rattle.std.proofs.Common.{◌≡◌, ℕ, Bool, true, false, cond, List, [], ◌∷◌, ◌++◌, map, refl, sym, ap, ◌∙◌}
+use Rattle.std.proofs.Common.{◌≡◌, ℕ, Bool, true, false, cond, List, [], ◌∷◌, ◌++◌, map, reverse, refl, sym, ap, ◌∙◌}
+use Rattle.std.proofs.lemmas.List.{reverse-reverse}
 use Rattle.verse_state.specs.Waits.{eqn}
 use Rattle.verse_machine.specs.Tasks as m
 use Rattle.verse_machine.specs.Tasks.{World, world, starts, since}
 use Rattle.verse_machine.specs.Cancelling.{without, world_without, inserted, gone_before, gone_behind, cancelled}
 use Rattle.verse_machine.specs.Tasks.{Frame}
+use Rattle.vm_thread.specs.Framed.{Framed}
+use Rattle.vm_world.specs.Frames.{frames_in}
 use Rattle.vm_world.specs.Going.{NoneBeneath, frames_at}
 
 none_since : (a : List ℕ) (n : ℕ) (x : List ℕ) → starts a x ≡ false → since a n x ≡ false
@@ -78,6 +81,13 @@ none_cancelled a n o x y = ap (λ z. z ++ gone_behind (since a n) o.post) (befor
 no_tasks : (ts : List m.Task) → map frames_at ts ≡ [] → ts ≡ []
 no_tasks [] e = refl
 no_tasks (t ∷ ts) e = absurd (cc)
+
+no_frames : (fss : List (List Framed)) → map frames_in fss ≡ [] → fss ≡ []
+no_frames [] e = refl
+no_frames (fs ∷ fss) e = absurd (cc)
+
+pub none_to_clear : (ts : List m.Task) (fss : List (List Framed)) → map frames_in (reverse fss) ≡ map frames_at ts → ts ≡ [] → fss ≡ []
+none_to_clear ts fss e none = sym (reverse-reverse fss) ∙ ap (λ z. reverse z) (no_frames (reverse fss) (e ∙ ap (λ z. map frames_at z) none))
 
 pub none_kept : (ts : List m.Task) (fs : List (Frame × List Frame)) → fs ≡ map frames_at ts → fs ≡ [] → ts ≡ []
 none_kept ts fs e none = no_tasks ts (sym e ∙ none)

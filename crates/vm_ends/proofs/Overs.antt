@@ -178,6 +178,7 @@ module _ {W : Type 0} (pending : W → List Pending) where
           signals = c.signals;
           timed = same_timed (sleeping (slot_of frames_in) t.tree) (pending t.gone.waits) (state_of a v) (state_of a (record empty_view { frames = u.frames; left = u.left; spent = u.spent })) refl refl refl c.timed;
           fine = fine_less v.left u.left t.tree r.fewer c.fine;
+          untold = c.untold;
         } in
         subst (λ z. Clocked pending a z t) (sym r.still) again
 
@@ -236,7 +237,7 @@ module _ {W : Type 0} (pending : W → List Pending) where
         whole : Cleared pending t.id after h.follows h.todo m.aside (world m.world.pre m.world.post h.ups m.world.trees) empty_view (record t { after = None })
         whole = record {
           bare = bare_view m h;
-          clock = record { past = h.clock.past; next = h.clock.next; results = h.clock.results; signals = h.clock.signals; timed = h.clock.timed; fine = h.clock.fine };
+          clock = record { past = h.clock.past; next = h.clock.next; results = h.clock.results; signals = h.clock.signals; timed = h.clock.timed; fine = h.clock.fine; untold = h.clock.untold };
           stands = record { others = st.others; planted = st.planted; chain = st.chain; others_are = st.others_are };
           ups = h.waiting;
           todo_is = h.todo_is;

@@ -1,5 +1,5 @@
 -- The top frame has returned.
-use Rattle.std.proofs.Common.{◌≡◌, ◌≢◌, ◌⊎◌, inl, inr, ℕ, true, false, Result, Ok, Err, IfOk, List, [], ◌∷◌, map, reverse, Option, Some, None, is_some, refl, sym, ap, subst, ◌∙◌}
+use Rattle.std.proofs.Common.{◌≡◌, ◌≢◌, ◌⊎◌, inl, inr, ℕ, Bool, true, false, Result, Ok, Err, IfOk, List, [], ◌∷◌, map, reverse, Option, Some, None, is_some, refl, sym, ap, subst, ◌∙◌}
 use Rattle.verse_value.specs.Val.{Val}
 use Rattle.verse_value.specs.View.{val_of}
 use Rattle.verse_value.specs.declared.values.Value.{Value}
@@ -13,7 +13,7 @@ use Rattle.vm_table.specs.Standing.{Stands}
 use Rattle.vm_thread.specs.Framed.{Framed}
 use Rattle.vm_thread.specs.Calls.{pushed}
 use Rattle.vm_thread.specs.Machine.{frames_with, handlers_in, all_free}
-use Rattle.vm_runner.specs.Views.{View, Aside, Ready, state_of, memories}
+use Rattle.vm_runner.specs.Views.{View, Aside, Ready, state_of, frames_of, memories}
 use Rattle.vm_runner.specs.Doings.{on_frame, going}
 use Rattle.vm_runner.specs.Comes.{done}
 use Rattle.vm_acts_ends.specs.Asking.{returning_of}
@@ -27,12 +27,12 @@ use Rattle.vm_world.specs.Ups.{ups_of, id_of, resuming_after}
 use Rattle.vm_world.specs.Standing.{Clocked}
 use Rattle.vm_world.specs.Going.{Scene, Own, Clearing}
 use Rattle.vm_world.specs.Meets.{GoesOn, Meets}
-use Rattle.vm_world.proofs.Free.{bare_of, frames_bare}
+use Rattle.vm_world.proofs.Free.{bound_guarded, free_any, bare_of, frames_bare}
 use Rattle.vm_world.proofs.Running.{own_of, suspended_of, reclocked}
 use Rattle.vm_clears.specs.Cancels.{Cancels}
 use Rattle.vm_ends.specs.Follows.{Cleared, IsCleared, Unwinds}
 use Rattle.vm_ends.specs.Ends.{Returning, IsReturning, Returned}
-use Rattle.vm_ends.proofs.Names.{world_stays, none_cancelled, none_kept}
+use Rattle.vm_ends.proofs.Names.{world_stays, none_cancelled, none_to_clear, none_kept}
 
 -- one operand more
 
@@ -191,9 +191,21 @@ module _ {W : Type 0} (pending : W → List Pending) where
 
   -- something was cancelled
 
-  module _ (born : ℕ) (x : Value) (v : View) (t s : Tasks W) (c : Cancels pending t.id born t s) (free : all_free (frames_with v.frames []) ≡ true) (gs : List Framed) where
+  -- a frame above one with a handler or a noted place had begun nothing
+  not_bound : (born : ℕ) (m : Scene) (v : View) (t s : Tasks W) (b : Bool) → all_free (frames_of m.aside v) ≡ b → is_some t.after ≡ false → Cancels pending t.id born t s → s.gone.frames.items ≢ [] → Returning pending born m v t → b ≡ true
+  not_bound born m v t s true is not c some h = refl
+  not_bound born m v t s false is not c some h =
+      let own = own_here born m v t not h in
+      let k = c.scope m.aside m.who None m.world v own.standing in
+      absurd (some (none_to_clear (cancelled (since m.who.path born) m.world) s.gone.frames.items k.todo_is (h.calm (bound_guarded (frames_of m.aside v) is))))
+
+  module _ (born : ℕ) (x : Value) (v : View) (t s : Tasks W) (c : Cancels pending t.id born t s) (not : is_some t.after ≡ false) (some : s.gone.frames.items ≢ []) (gs : List Framed) where
+    free_here : (m : Scene) → Returning pending born m v t → all_free (frames_with v.frames []) ≡ true
+    free_here m h = free_any v.frames [] (memories m.aside.past v.heap.copies v.trace.marks) ∙ not_bound born m v t s (all_free (frames_of m.aside v)) refl not c some h
+
     to_clear : (m : Scene) → Returning pending born m v t → Cleared pending t.id (Resuming v.frames x) (resuming (threaded m.who v.frames) (val_of x)) (cancelled (since m.who.path born) m.world) m.aside (world_without (since m.who.path born) m.world) (record v { frames = gs }) s
     to_clear m h =
+        let free = free_here m h in
         let own = own_of pending m v t h.going free in
         let k = c.scope m.aside m.who None m.world v own.standing in
         let b = bare_of v h.going.ready free in
@@ -223,6 +235,7 @@ module _ {W : Type 0} (pending : W → List Pending) where
     returned_unwinds (Err e) fs u z same k = tt
     returned_unwinds (Ok r) fs u z same k = record {
       meets = λ m h.
+          let free = free_here m h in
           let l : Unwinds pending t.id (Resuming v.frames x) r (record v { frames = gs }) s u z = subst (λ y. Unwinds pending t.id (Resuming y x) r (record v { frames = gs }) s u z) same k in
           let b = bare_of v h.going.ready free in
           let w = m.who in

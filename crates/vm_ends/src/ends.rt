@@ -22,7 +22,6 @@ use vm_world::tasks::{After, Tasks, Went};
 
 /// The top frame has returned the value and is off. What the task has begun since that frame
 /// began, when `born` steps were left, is cancelled, and the frame below goes on with the value.
-/// Memory is wanting too where something is cancelled while a place is noted in a frame below.
 pub fn returned<H: Heap, W: Waits>(
     run: &mut Runner<H>,
     tasks: &mut Tasks<W>,
@@ -42,9 +41,6 @@ pub fn returned<H: Heap, W: Waits>(
         tasks.id = id;
         run.thread.push(value)?;
         return Ok(Went::On);
-    }
-    if !run.thread.is_free() {
-        return Err(Memory);
     }
     let thread = mem::replace(&mut run.thread, Thread::empty(tasks.alloc));
     unwind(run, tasks, id, After::Resuming(thread, value))

@@ -1,15 +1,12 @@
 -- The arms of a group are cancelled, and its task goes on.
-use Rattle.std.proofs.Common.{◌≡◌, ◌≢◌, ℕ, Result, Ok, Err, IfOk, List, [], ◌∷◌, map, reverse, Option, Some, None, IsSome, option_map, refl, sym, ap, subst, ◌∙◌}
+use Rattle.std.proofs.Common.{◌≡◌, ℕ, Result, Ok, Err, IfOk, List, [], ◌∷◌, map, Option, Some, None, IsSome, option_map, refl, sym, ap, subst, ◌∙◌}
 use Rattle.task_tree.specs.Tasks.{Task, task_at, IsLive}
 use Rattle.task_tree.specs.Nested.{IsTree}
-use Rattle.verse_value.specs.Val.{Val}
 use Rattle.verse_value.specs.View.{val_of}
 use Rattle.verse_value.specs.declared.values.Value.{Value}
-use Rattle.verse_state.specs.State.{State}
-use Rattle.verse_machine.specs.Tasks as m
-use Rattle.verse_machine.specs.Tasks.{Who, Part, World, Step, resuming, beneath_arms}
-use Rattle.verse_machine.specs.Cancelling.{world_without, cancelled, cancels, clears}
-use Rattle.verse_machine.specs.Ends.{resumes, follows}
+use Rattle.verse_machine.specs.Tasks.{Who, Part, World, resuming, beneath_arms}
+use Rattle.verse_machine.specs.Cancelling.{world_without, cancelled, cancels}
+use Rattle.verse_machine.specs.Ends.{resumes}
 use Rattle.sim_clock.specs.declared.waits.Pending.{Pending}
 use Rattle.vm_table.specs.Slots.{held}
 use Rattle.vm_table.proofs.Steps.{group_over}
@@ -28,7 +25,7 @@ use Rattle.vm_world.specs.Standing.{Standing, Bare}
 use Rattle.vm_world.specs.Meets.{MovesOn}
 use Rattle.vm_world.specs.Moving.{Resumes}
 use Rattle.vm_world.proofs.Seated.{live_stands}
-use Rattle.vm_clears.specs.Cancels.{Cancelled, Cancels, Follows, BlocksTo, RunsBlocks}
+use Rattle.vm_clears.specs.Cancels.{Cancels, BlocksTo, RunsBlocks}
 use Rattle.vm_groups.specs.Groups.{InGroup, CancelsArms}
 
 module _ {W : Type 0} (pending : W → List Pending) where

@@ -1,11 +1,10 @@
 -- A task at its group: it goes on with a value, or stands there.
-use Rattle.std.proofs.Common.{◌≡◌, ◌≢◌, ◌⊎◌, inl, inr, ℕ, Bool, true, false, Result, Ok, Err, IfOk, List, [], ◌∷◌, ◌++◌, map, reverse, Option, Some, None, option_map, is_some, refl, sym, ap, subst, ◌∙◌}
-use Rattle.task_tree.specs.Tasks.{Task, task_at, IsLive}
+use Rattle.std.proofs.Common.{◌≡◌, ◌≢◌, ◌⊎◌, inl, inr, ℕ, true, false, Result, Ok, Err, IfOk, List, [], ◌∷◌, map, reverse, Option, Some, None, is_some, refl, sym, ap, subst, ◌∙◌}
+use Rattle.task_tree.specs.Tasks.{IsLive}
 use Rattle.task_tree.specs.Nested.{IsTree}
-use Rattle.verse_base.specs.declared.places.Place.{Place}
 use Rattle.verse_base.specs.declared.refusals.Kind as fault
 use Rattle.verse_value.specs.Val.{Val}
-use Rattle.verse_value.specs.Answer.{Answer, gives, fails, error, stuck}
+use Rattle.verse_value.specs.Answer.{gives, fails, error, stuck}
 use Rattle.verse_value.specs.Operations.{tuple_of}
 use Rattle.verse_value.specs.declared.runs.Ending.TheVariants as ending
 use Rattle.verse_state.specs.State.{State}
@@ -17,7 +16,6 @@ use Rattle.verse_machine.specs.Ends.{resumes, all_did, first_did, tupled, or_sta
 use Rattle.sim_clock.specs.declared.waits.Pending.{Pending}
 use Rattle.vm_table.specs.Slots.{held}
 use Rattle.vm_table.proofs.Steps.{group_over}
-use Rattle.vm_thread.specs.Framed.{Framed}
 use Rattle.vm_runner.specs.Views.{View, Aside, state_of}
 use Rattle.vm_tasks.specs.View.{slot_of, kind_of, part_of}
 use Rattle.vm_tasks.specs.declared.slots.Kind.{Kind}
@@ -26,15 +24,15 @@ use Rattle.vm_world.specs.declared.tasks.Begins.{Begins}
 use Rattle.vm_world.specs.declared.tasks.Tasks.{Tasks}
 use Rattle.vm_world.specs.declared.tasks.Went.{Went}
 use Rattle.vm_world.specs.declared.tasks.Went.TheVariants as went
-use Rattle.vm_world.specs.Frames.{frames_in, threaded, Suspended}
+use Rattle.vm_world.specs.Frames.{frames_in, threaded}
 use Rattle.vm_world.specs.Ups.{ups_of, id_of}
-use Rattle.vm_world.specs.Standing.{Standing, Bare}
-use Rattle.vm_world.specs.Meets.{Moves, MovesOn, Ends}
+use Rattle.vm_world.specs.Standing.{Standing}
+use Rattle.vm_world.specs.Meets.{Moves, MovesOn}
 use Rattle.vm_world.specs.Moving.{Resumes}
 use Rattle.vm_world.proofs.Running.{on_moves}
 use Rattle.vm_world.proofs.Seated.{live_stands}
 use Rattle.vm_begins.specs.Arms.{BeginsArm}
-use Rattle.vm_groups.specs.Groups.{on_rest, Hand, Settles, NextArm, ArmEnded, StandsThere, InGroup, CancelsArms}
+use Rattle.vm_groups.specs.Groups.{on_rest, Hand, Settles, NextArm, ArmEnded, StandsThere, CancelsArms}
 
 not_some : {A : Type 0} (o : Option A) → is_some o ≡ false → o ≡ None
 not_some None e = refl

@@ -1,36 +1,26 @@
 -- A task that stands at its group.
-use Rattle.std.proofs.Common.{◌≡◌, ◌≢◌, ℕ, true, List, [], ◌∷◌, ◌++◌, map, reverse, Option, Some, None, refl, sym, ap, subst, ◌∙◌}
-use Rattle.std.specs.Global.{Vec}
+use Rattle.std.proofs.Common.{ℕ, List, [], ◌∷◌, map, Some, refl, sym, subst}
 use Rattle.task_tree.specs.Nested.{IsTree}
-use Rattle.verse_value.specs.Val.{Val, unit}
-use Rattle.verse_value.specs.Val as val
-use Rattle.verse_value.specs.Runs.{Line}
-use Rattle.verse_state.specs.State.{State}
 use Rattle.verse_machine.specs.Tasks as m
 use Rattle.verse_machine.specs.Tasks.{Who, Part, Trees, World, world, Step, onto, among, planted, begins, branching, spawning}
-use Rattle.verse_machine.specs.Ends.{rested}
 use Rattle.sim_clock.specs.declared.waits.Pending.{Pending}
 use Rattle.vm_table.specs.Slots.{held}
-use Rattle.vm_table.specs.Standing.{Stands, Rests, ups_entries}
-use Rattle.vm_table.specs.Clocks.{sleeping, Timed}
-use Rattle.vm_table.proofs.Overs.{turn_over, plants}
+use Rattle.vm_table.specs.Clocks.{Timed}
 use Rattle.vm_thread.specs.Framed.{Framed}
 use Rattle.vm_runner.specs.Views.{View, Aside, state_of}
-use Rattle.vm_tasks.specs.declared.slots.Held.{Held}
 use Rattle.vm_tasks.specs.declared.slots.Held.TheVariants.{AtGroup}
 use Rattle.vm_tasks.specs.declared.slots.Group.{Group}
-use Rattle.vm_tasks.specs.View.{slot_of, kind_of, part_of}
+use Rattle.vm_tasks.specs.View.{kind_of, part_of}
 use Rattle.vm_tasks.specs.Begun.{Reheld}
 use Rattle.vm_tasks.specs.Standing.{SetsDown}
 use Rattle.vm_world.specs.declared.tasks.Begins.{Begins}
 use Rattle.vm_world.specs.declared.tasks.Tasks.{Tasks}
-use Rattle.vm_world.specs.declared.tasks.Up.{Up}
-use Rattle.vm_world.specs.declared.tasks.Up.TheVariants as up
 use Rattle.vm_world.specs.Frames.{frames_in, threaded, Suspended}
-use Rattle.vm_world.specs.Ups.{ups_of, id_of, UpsAre, no_ups, begins_up, branching_up, spawning_up}
-use Rattle.vm_world.specs.Standing.{Tree, Clocked, Standing, Bare}
-use Rattle.vm_world.specs.Meets.{Lies, TurnsOver}
+use Rattle.vm_world.specs.Ups.{ups_of, id_of}
+use Rattle.vm_world.specs.Standing.{Tree, Standing, Bare}
+use Rattle.vm_world.specs.Meets.{Lies}
 use Rattle.vm_world.proofs.Seated.{seat, same_waits, machine_waits, fine_reheld}
+use Rattle.vm_world.proofs.Untold.{untold_reheld}
 use Rattle.vm_world.specs.declared.tasks.Went.TheVariants as went
 use Rattle.vm_groups.specs.Groups.{on_rest, StandsThere}
 
@@ -54,6 +44,7 @@ module _ {W : Type 0} (pending : W → List Pending) where
             signals = s.clock.signals;
             timed = subst (λ z. Timed z (pending t.gone.waits) (state_of a v)) (sym (same_waits t.tree tree id (AtGroup fs g) nested r (λ xs. machine_waits id _ xs here.by) (λ xs. refl))) s.clock.timed;
             fine = fine_reheld v.left t.tree tree id (AtGroup fs g) nested r (subst (λ n. Suspended n fs) (sym here.number) sus) s.clock.fine;
+            untold = untold_reheld t.results.items t.tree tree id (AtGroup fs g) nested r s.clock.untold;
           };
           stands = down frames_in (map id_of (ups_of t.ups.items)) w (Some gs) o (frames_in fs).0 (frames_in fs).1 (m.group (kind_of g.kind) g.place gs) refl (λ n b k. k) s.stands;
           ups = s.ups;

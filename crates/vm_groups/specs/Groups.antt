@@ -1,6 +1,5 @@
 -- What a task does at its group.
-use Rattle.std.specs.Prelude.{◌≡◌, ℕ, List, [], ◌∷◌, ◌++◌, map, reverse, Some, None}
-use Rattle.verse_value.specs.Runs.{Line}
+use Rattle.std.specs.Prelude.{ℕ, List, [], ◌∷◌, map, reverse, Some}
 use Rattle.verse_state.specs.State.{State}
 use Rattle.verse_machine.specs.Tasks as m
 use Rattle.verse_machine.specs.Tasks.{Who, resuming, World, world, Step, beneath_arms}
@@ -13,11 +12,9 @@ use Rattle.vm_table.specs.Slots.{held}
 use Rattle.vm_runner.specs.Views.{View, Aside, state_of}
 use Rattle.vm_tasks.specs.View.{kind_of, part_of}
 use Rattle.vm_world.specs.declared.tasks.Begins.{Begins}
-use Rattle.vm_world.specs.declared.tasks.Up.{Up}
 use Rattle.vm_world.specs.declared.tasks.Tasks.{Tasks}
 use Rattle.vm_world.specs.declared.tasks.Went.{Went}
 use Rattle.vm_world.specs.Frames.{threaded, Suspended}
-use Rattle.vm_world.specs.Ups.{ups_of}
 use Rattle.vm_world.specs.Standing.{Standing, Bare}
 use Rattle.vm_world.specs.Meets.{MovesOn, Moves}
 

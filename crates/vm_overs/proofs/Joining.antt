@@ -36,6 +36,7 @@ use Rattle.vm_world.specs.Standing.{Tree, HeldFine, Standing, Bare}
 use Rattle.vm_world.specs.Meets.{Meets}
 use Rattle.vm_world.proofs.Fines.{fine_at}
 use Rattle.vm_world.proofs.Seated.{seat, same_waits, fine_reheld}
+use Rattle.vm_world.proofs.Untold.{untold_reheld}
 use Rattle.vm_groups.specs.Groups.{on_rest, Hand}
 use Rattle.vm_overs.specs.Arms.{has_run}
 use Rattle.vm_overs.specs.Groups.{SettlesOn}
@@ -157,6 +158,7 @@ module _ {W : Type 0} (pending : W → List Pending) where
               signals = h.clock.signals;
               timed = subst (λ z. Timed z (pending t.gone.waits) s) (sym (same_waits t.tree tree id ByMachine nested r (λ ys. group_waits id r.task.item.held fs g ys here2) (λ ys. refl))) h.clock.timed;
               fine = fine_reheld v.left t.tree tree id ByMachine nested r tt h.clock.fine;
+              untold = untold_reheld t.results.items t.tree tree id ByMachine nested r h.clock.untold;
             };
             stands = record { others = two.others; planted = two.planted; chain = two.chain; others_are = two.others_are };
             ups = subst (λ z. UpsAre z []) (sym none) no_ups;

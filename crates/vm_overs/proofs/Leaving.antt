@@ -23,18 +23,19 @@ use Rattle.vm_world.specs.declared.tasks.Up.{Up}
 use Rattle.vm_world.specs.declared.tasks.Tasks.{Tasks}
 use Rattle.vm_world.specs.Frames.{frames_in}
 use Rattle.vm_world.specs.Ups.{ups_of, id_of, UpsAre, no_ups, begins_up, branching_up, spawning_up}
-use Rattle.vm_world.specs.Standing.{Tree, ids, AllFine, Clocked, Standing}
+use Rattle.vm_world.specs.Standing.{Tree, ids, AllFine, Untold, Clocked, Standing}
 use Rattle.vm_world.proofs.Ends.{last_first}
 use Rattle.vm_world.proofs.Fines.{fine_without}
+use Rattle.vm_world.proofs.Untold.{untold_without}
 use Rattle.vm_world.proofs.Seated.{Seat, seat, live_stands}
 use Rattle.vm_overs.specs.Overs.{Parent, Lone, Gone, Joining}
 
-record Here (tree : Tree) (id : ℕ) (w : Who) : Type 0 where
-  task : Task (Slot (List Framed))
-  at_it : task_at id tree ≡ Some task
-  seated : Seat task w
+pub record Here (tree : Tree) (id : ℕ) (w : Who) : Type 0 where
+  pub task : Task (Slot (List Framed))
+  pub at_it : task_at id tree ≡ Some task
+  pub seated : Seat task w
 
-here : (tree : Tree) (ids : List ℕ) (id : ℕ) (w : Who) (arms : Option (List Part)) (o : World) → IsTree tree → Stands (slot_of frames_in) tree ids (held id w arms ∷ []) o → Here tree id w
+pub here : (tree : Tree) (ids : List ℕ) (id : ℕ) (w : Who) (arms : Option (List Part)) (o : World) → IsTree tree → Stands (slot_of frames_in) tree ids (held id w arms ∷ []) o → Here tree id w
 here tree ids id w arms o nested s =
     let p = running_spot (slot_of frames_in) tree ids (held id w arms) o s in
     let h = is_held (slot_of frames_in) p.task.number id (slot_of frames_in p.task.item).held w arms p.good.0.shows in
@@ -103,6 +104,7 @@ module _ {W : Type 0} (pending : W → List Pending) where
           signals = s.clock.signals;
           timed = subst (λ z. Timed z (pending t.gone.waits) (state_of a v)) (sym waits) s.clock.timed;
           fine = subst (λ z. AllFine v.left z) (sym is) (fine_without v.left t.id t.tree s.clock.fine);
+          untold = subst (λ z. Untold t.results.items z) (sym is) (untold_without t.results.items t.id t.tree s.clock.untold);
         }
 
     pub gone_of : (up : Up) (a : Aside) (w : Who) (o : World) (v : View) → t.ups.items ≡ ups.items ++ up ∷ [] → Lone pending a w o v t → Gone pending up a w o v left_tasks

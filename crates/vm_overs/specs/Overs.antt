@@ -62,7 +62,27 @@ module _ {W : Type 0} (pending : W → List Pending) where
     pub here : Lone aside who world v t
     pub role : who.role ≡ root entry
 
-  -- it is gone from the tree, and the nearest above is taken off
+  -- it is gone from the tree
+  pub record Off (a : Aside) (w : Who) (o : World) (v : View) (t : Tasks W) : Type 0 where
+    pub tree : Tree
+    pub id : ℕ
+    pub ended : Ended tree t.tree id
+    pub stands : Stands (slot_of frames_in) tree (ids t) (held id w None ∷ []) o
+    pub ups : UpsAre (ups_of t.ups.items) o.ups
+    pub clock : Clocked pending a v t
+    pub still : t.after ≡ None
+    pub none : t.gone.frames.items ≡ []
+    pub bare : Bare v
+
+  pub record IsOffRoot (v : View) (t : Tasks W) : Type 0 where
+    pub aside : Aside
+    pub who : Who
+    pub entry : Option ℕ
+    pub world : World
+    pub here : Off aside who world v t
+    pub role : who.role ≡ root entry
+
+  -- and the nearest above is taken off
   pub record Gone (up : Up) (a : Aside) (w : Who) (o : World) (v : View) (t : Tasks W) : Type 0 where
     pub tree : Tree
     pub id : ℕ
@@ -119,7 +139,7 @@ module _ {W : Type 0} (pending : W → List Pending) where
     pub meets : (a : Aside) (w : Who) (entry : Option ℕ) (o : World) → Lone a w o v t → w.role ≡ root entry → Meets pending (role_ends (root entry) w x o (with_result entry x (state_of a v))) a.past r u s
 
   pub record RootLeaves (r : Went) (v : View) (t : Tasks W) (u : View) (s : Tasks W) : Type 0 where
-    pub meets : (a : Aside) (w : Who) (entry : Option ℕ) (o : World) → Lone a w o v t → w.role ≡ root entry → Meets pending (root_ends o.pre o.post o.ups o.trees (state_of a v)) a.past r u s
+    pub meets : (a : Aside) (w : Who) (entry : Option ℕ) (o : World) → Off a w o v t → w.role ≡ root entry → Meets pending (root_ends o.pre o.post o.ups o.trees (state_of a v)) a.past r u s
 
   pub record RootGone (up : Up) (r : Went) (v : View) (t : Tasks W) (u : View) (s : Tasks W) : Type 0 where
     pub meets : (a : Aside) (w : Who) (entry : Option ℕ) (o : World) → Gone up a w o v t → w.role ≡ root entry → Meets pending (root_ends o.pre o.post o.ups o.trees (state_of a v)) a.past r u s

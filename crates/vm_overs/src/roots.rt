@@ -5,7 +5,7 @@ ghost use Rattle.verse_value.specs.View.{val_of};
 ghost use Rattle.task_tree.specs.Tasks.{IsLive, task_at};
 ghost use Rattle.vm_runner.specs.Runners.{view_of};
 ghost use Rattle.vm_tasks.specs.View.{role_of};
-ghost use Rattle.vm_overs.specs.Overs.{is_part, IsLoneRoot, IsGoneRoot, RootOver, RootLeaves, RootGone};
+ghost use Rattle.vm_overs.specs.Overs.{is_part, IsLoneRoot, IsOffRoot, IsGoneRoot, RootOver, RootLeaves, RootGone};
 
 use sim_clock::waits::Waits;
 use task_tree::tree::TaskTree;
@@ -44,8 +44,8 @@ fn root_of(tree: &TaskTree<Slot<Thread>>, id: usize) -> Root
     }
 }
 
-/// The running task is one of its own, is over with the value, and has no children. Those that
-/// await a spawned task are woken.
+/// The running task is one of its own, is over with the value, and has no children. It goes from
+/// the tree, and those that await a spawned task are woken.
 pub fn root_over<H: Heap, W: Waits>(
     run: &mut Runner<H>,
     tasks: &mut Tasks<W>,
@@ -55,9 +55,11 @@ pub fn root_over<H: Heap, W: Waits>(
     ensures { IfOk result (λ r. RootOver W.pending (val_of value) r (view_of H.state run.old) tasks.old (view_of H.state run.new) tasks.new) }
 {
     tasks.tree.is_nested();
-    match root_of(&tasks.tree, tasks.id) {
+    let root = root_of(&tasks.tree, tasks.id);
+    let _ = finish(&mut tasks.tree, tasks.id);
+    match root {
         Root::Spawned(entry) => {
-            give(run, tasks, entry, value)?;
+            give(run, tasks, entry, value);
             leave_root(run, tasks)
         }
         Root::Main => leave_root(run, tasks),
@@ -65,14 +67,12 @@ pub fn root_over<H: Heap, W: Waits>(
     }
 }
 
-/// The task that has spawned this one goes on; where this one was suspended before, the turn is
-/// over.
+/// The task is gone: the one that has spawned it goes on; where it was suspended before, the turn
+/// is over.
 fn leave_root<H: Heap, W: Waits>(run: &mut Runner<H>, tasks: &mut Tasks<W>) -> Result<Went, Memory>
-    requires { IsLoneRoot W.pending (view_of H.state run.old) tasks.old }
+    requires { IsOffRoot W.pending (view_of H.state run.old) tasks.old }
     ensures { IfOk result (λ r. RootLeaves W.pending r (view_of H.state run.old) tasks.old (view_of H.state run.new) tasks.new) }
 {
-    tasks.tree.is_nested();
-    let _ = finish(&mut tasks.tree, tasks.id);
     match tasks.ups.pop() {
         Some(up) => root_gone(run, tasks, up),
         None => Ok(Went::Down),

@@ -137,7 +137,7 @@ module _ {W : Type 0} (pending : W → List Pending) where
   with_ups t ups = record t { ups = ups }
 
   clock_of : (a : Aside) (v : View) (t : Tasks W) (ups : Vec Up) → Clocked pending a v (with_ups t ups) → Clocked pending a v t
-  clock_of a v t ups c = record { past = c.past; next = c.next; results = c.results; signals = c.signals; timed = c.timed; fine = c.fine }
+  clock_of a v t ups c = record { past = c.past; next = c.next; results = c.results; signals = c.signals; timed = c.timed; fine = c.fine; untold = c.untold }
 
   -- the world without it
 
@@ -355,7 +355,7 @@ module _ {W : Type 0} (pending : W → List Pending) where
           trees = among (onto o.pre o.post) o.trees;
           same = refl;
           resting = record {
-            clock = record { past = c.past; next = c.next; results = c.results; signals = c.signals; timed = c.timed; fine = c.fine };
+            clock = record { past = c.past; next = c.next; results = c.results; signals = c.signals; timed = c.timed; fine = c.fine; untold = c.untold };
             rests = turn_over (slot_of frames_in) t.tree (map id_of (ups_of t.ups.items)) o.pre o.post o.trees (subst (λ z. Stands (slot_of frames_in) t.tree (map id_of (ups_of t.ups.items)) [] (world o.pre o.post z o.trees)) empty st.stands);
             bare = bare;
             no_ups = still;

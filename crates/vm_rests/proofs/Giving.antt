@@ -28,14 +28,15 @@ use Rattle.vm_world.specs.declared.tasks.Tasks.{Tasks}
 use Rattle.vm_world.specs.declared.tasks.Went.{Went}
 use Rattle.vm_world.specs.declared.tasks.Went.TheVariants as went
 use Rattle.vm_world.specs.Frames.{frames_in, threaded}
-use Rattle.vm_world.specs.Standing.{given_of}
+use Rattle.vm_world.specs.Standing.{Untold, given_of}
 use Rattle.vm_world.specs.Going.{Goes}
 use Rattle.vm_world.specs.Meets.{MovesOn, Meets, Comes}
 use Rattle.vm_world.specs.Moving.{Resumes}
 use Rattle.vm_world.proofs.Free.{bare_of, frames_bare}
+use Rattle.vm_world.proofs.Untold.{untold_told}
 use Rattle.vm_world.proofs.Running.{own_of, suspended_of, reclocked, on_meets}
 use Rattle.vm_rests.specs.Asleep.{suspending, awaiting}
-use Rattle.vm_rests.specs.Results.{shown, values_in, Gives}
+use Rattle.vm_rests.specs.Results.{shown, values_in, IsOver, Gives}
 use Rattle.vm_rests.proofs.Sleeping.{result_at}
 
 map_set : {A B : Type 0} (f : A → B) (xs : List A) (n : ℕ) (y : A) → map f (set_at xs n y) ≡ set_at (map f xs) n (f y)
@@ -80,11 +81,11 @@ gave_of : (k : Option (Option Value)) (v : Value) (o : Option (Option Given)) �
 gave_of k v o is e = known_gave (val_of v) o (sym (ap (λ z. shown z) is) ∙ e)
 
 module _ {W : Type 0} (pending : W → List Pending) where
-  pub gives_so : (v : View) (t : Tasks W) (entry : ℕ) (g : Given) (results : Vec (Option Given)) (waits : W) → g.moment ≡ v.moment → nth t.results.items entry ≡ Some None → results.items ≡ set_at t.results.items entry (Some g) →
+  pub gives_so : (v : View) (t : Tasks W) (entry : ℕ) (g : Given) (results : Vec (Option Given)) (waits : W) → g.moment ≡ v.moment → IsOver entry t → results.items ≡ set_at t.results.items entry (Some g) →
       pending waits ≡ woken (OnTask entry) (record { at = v.moment; cause = 0 }) (pending t.gone.waits) → Gives pending entry (val_of g.value) v t (record t { gone = record t.gone { waits = waits }; results = results })
-  gives_so v t entry g results waits now unset put woke = record {
+  gives_so v t entry g results waits now over put woke = record {
     clock = λ a c.
-        let known : nth a.results entry ≡ Some None = result_at a.results t.results.items entry c.results ∙ ap (λ o. option_map (λ o. option_map given_of o) o) unset in
+        let known : nth a.results entry ≡ Some None = result_at a.results t.results.items entry c.results ∙ ap (λ o. option_map (λ o. option_map given_of o) o) over.unset in
         let told : given_of g ≡ record { value = val_of g.value; moment = v.moment } = ap (λ n. record { value = val_of g.value; moment = n }) now in
         record {
           past = c.past;
@@ -95,6 +96,7 @@ module _ {W : Type 0} (pending : W → List Pending) where
           signals = c.signals;
           timed = subst (λ ps. Timed (sleeping (slot_of frames_in) t.tree) ps (with_result (Some entry) (val_of g.value) (state_of a v))) (sym woke) (result_timed (sleeping (slot_of frames_in) t.tree) (pending t.gone.waits) (state_of a v) entry (val_of g.value) known c.timed);
           fine = c.fine;
+          untold = subst (λ z. Untold z t.tree) (sym put) (untold_told t.results.items t.tree entry (Some g) over.none c.untold);
         };
     still = refl;
   }

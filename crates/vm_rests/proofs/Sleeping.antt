@@ -34,6 +34,7 @@ use Rattle.vm_world.specs.Meets.{Meets, Comes}
 use Rattle.vm_world.proofs.Free.{bare_of, frames_bare}
 use Rattle.vm_world.proofs.Running.{own_of, suspended_of}
 use Rattle.vm_world.proofs.Seated.{seat, fine_reheld}
+use Rattle.vm_world.proofs.Untold.{untold_reheld}
 use Rattle.vm_rests.specs.Rests.{Idle, RestsTo}
 use Rattle.vm_rests.specs.Asleep.{suspending, IsOpen}
 
@@ -92,6 +93,7 @@ module _ {W : Type 0} (pending : W → List Pending) where
             signals = c.signals;
             timed = falls_asleep_so pending t.tree tree t.gone (record t.gone { waits = waits }) t.id t.next kind v.frames nested r more frames_in (map id_of (ups_of t.ups.items)) w o (state_of a v) s.stands (sym c.next) (untold kind a v t unset_one c.results) c.timed;
             fine = fine_reheld v.left t.tree tree t.id (Asleep v.frames t.next kind) nested r (subst (λ n. Suspended n v.frames) (sym here.number) sus) c.fine;
+            untold = untold_reheld t.results.items t.tree tree t.id (Asleep v.frames t.next kind) nested r c.untold;
           };
           stands = subst (λ n. Stands (slot_of frames_in) tree (map id_of (ups_of t.ups.items)) [] (world (record { thread = threaded w v.frames; rest = asleep (record { number = n; cause = cause_of kind }) } ∷ o.pre) o.post o.ups o.trees)) (sym c.next) it;
           ups = s.ups;

@@ -4,11 +4,12 @@ use Rattle.verse_value.specs.Val.{Val}
 use Rattle.verse_value.specs.View.{val_of}
 use Rattle.verse_value.specs.declared.values.Value.{Value}
 use Rattle.verse_state.specs.State.{set_at}
+use Rattle.verse_state.specs.Waits.{nth}
 use Rattle.sim_clock.specs.declared.waits.Pending.{Pending}
 use Rattle.vm_runner.specs.Views.{View, Aside}
 use Rattle.vm_world.specs.declared.tasks.Given.{Given}
 use Rattle.vm_world.specs.declared.tasks.Tasks.{Tasks}
-use Rattle.vm_world.specs.Standing.{Clocked}
+use Rattle.vm_world.specs.Standing.{NoneOf, Clocked}
 
 -- with a result, as of a moment: the state is then `with_result`
 abbrev pub result_in : ℕ → Val → ℕ → Aside → Aside
@@ -24,6 +25,11 @@ abbrev pub values_in : Option (Option Given) → Option (Option Val)
 values_in None = None
 values_in (Some None) = Some None
 values_in (Some (Some g)) = Some (Some (val_of g.value))
+
+-- the task of an entry, which has given nothing yet, is gone
+pub record IsOver {W : Type 0} (entry : ℕ) (t : Tasks W) : Type 0 where
+  pub unset : nth t.results.items entry ≡ Some None
+  pub none : NoneOf entry t.tree
 
 module _ {W : Type 0} (pending : W → List Pending) where
   -- the clock has the result, those that await it are woken, and all else is as it was

@@ -1,6 +1,6 @@
 //! What spawned tasks give.
 
-ghost use Rattle.std.specs.Prelude.{◌≡◌, true, [], IfOk, OnOk, Some, None};
+ghost use Rattle.std.specs.Prelude.{◌≡◌, true, [], IfOk, Some, None};
 ghost use Rattle.verse_value.specs.View.{val_of};
 ghost use Rattle.verse_state.specs.State.{set_at};
 ghost use Rattle.verse_state.specs.Waits.{nth};
@@ -9,7 +9,7 @@ ghost use Rattle.vm_runner.specs.Runners.{view_of};
 ghost use Rattle.vm_world.specs.Going.{Goes};
 ghost use Rattle.vm_world.specs.Meets.{Comes};
 ghost use Rattle.vm_rests.specs.Asleep.{awaiting};
-ghost use Rattle.vm_rests.specs.Results.{shown, values_in, Gives};
+ghost use Rattle.vm_rests.specs.Results.{shown, values_in, IsOver, Gives};
 
 use crate::asleep::suspend;
 use sim_clock::waits::{WaitKind, Waits};
@@ -24,35 +24,23 @@ use vm_thread::threads::Thread;
 use vm_world::moves::resume;
 use vm_world::tasks::{Given, Tasks, Went};
 
-/// The task of an entry has given a value, now: those that await it are woken. Memory is wanting too
-/// where it has given one before, or there is no such entry; neither is so while the task is live.
-pub fn give<H: Heap, W: Waits>(
-    run: &Runner<H>,
-    tasks: &mut Tasks<W>,
-    entry: u32,
-    value: Value,
-) -> Result<(), Memory>
-    ensures { OnOk result (Gives W.pending entry (val_of value) (view_of H.state run.now) tasks.old tasks.new) }
+/// The task of an entry is over with a value, now: those that await it are woken.
+pub fn give<H: Heap, W: Waits>(run: &Runner<H>, tasks: &mut Tasks<W>, entry: u32, value: Value)
+    requires { IsOver entry tasks.old }
+    ensures { Gives W.pending entry (val_of value) (view_of H.state run.now) tasks.old tasks.new }
 {
     let moment = run.moment;
     let given = Given { value, moment };
-    put_result(&mut tasks.results, entry as usize, given)?;
+    put_result(&mut tasks.results, entry as usize, given);
     tasks.gone.waits.wake_task(entry, moment);
-    Ok(())
 }
 
-/// The result of an entry that has none. Memory is said to be wanting where it has one, or there is
-/// no such entry.
-fn put_result(results: &mut Vec<Option<Given>>, entry: usize, given: Given) -> Result<(), Memory>
-    ensures unset { OnOk result (nth results.old.items entry ≡ Some None) }
-    ensures put { OnOk result (results.new.items ≡ set_at results.old.items entry (Some given)) }
+/// The result of an entry that has none.
+fn put_result(results: &mut Vec<Option<Given>>, entry: usize, given: Given)
+    requires { nth results.old.items entry ≡ Some None }
+    ensures { results.new.items ≡ set_at results.old.items entry (Some given) }
 {
-    match results.get(entry) {
-        Some(None) => {}
-        _ => return Err(Memory),
-    }
     results[entry] = Some(given);
-    Ok(())
 }
 
 /// The running task goes on with the result of the task of an entry, or it is suspended until there

@@ -62,6 +62,7 @@ module _ {W : Type 0} (pending : W → List Pending) where
               (ap (λ z. z ++ val_of x ∷ []) c.signals ∙ (sym (map_append val_of t.signals.items (x ∷ [])) ∙ ap (λ z. map val_of z) (sym more)));
           timed = subst (λ ps. Timed (sleeping (slot_of frames_in) t.tree) ps (signalled event (val_of x) (state_of a v))) same (signal_timed (sleeping (slot_of frames_in) t.tree) (pending t.gone.waits) (state_of a v) event (val_of x) c.timed);
           fine = c.fine;
+          untold = c.untold;
         }
 
     abbrev told_scene : Scene → Scene

@@ -30,7 +30,7 @@ use Rattle.vm_world.specs.declared.tasks.Tasks.{Tasks}
 use Rattle.vm_world.specs.declared.tasks.Went.TheVariants as went
 use Rattle.vm_world.specs.Frames.{frames_in}
 use Rattle.vm_world.specs.Ups.{ups_of, id_of, UpsAre, no_ups}
-use Rattle.vm_world.specs.Standing.{Tree, given_of, AllFine, Standing}
+use Rattle.vm_world.specs.Standing.{Tree, given_of, AllFine, Untold, Standing}
 use Rattle.vm_world.proofs.Running.{own_goes}
 use Rattle.vm_wakes.specs.Starts.{IsNew, Fresh, MainStarts}
 
@@ -138,6 +138,7 @@ module _ {W : Type 0} (pending : W → List Pending) where
               signals = tt;
             }));
             fine = subst (λ z. AllFine left z) (sym tree_is) (record { number = omega arith; since = omega arith; held = tt }, tt);
+            untold = subst (λ z. Untold t.results.items z) (sym tree_is) (record { number = λ e. e; all = (tt, tt) });
           };
           stands = main_stands;
           ups = subst (λ us. UpsAre us []) (sym (ap (λ z. ups_of z) new.ups)) no_ups;

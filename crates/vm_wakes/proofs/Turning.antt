@@ -139,6 +139,7 @@ module _ {W : Type 0} (pending : W → List Pending) where
               signals = c.signals;
               timed = same_timed (sleeping (slot_of frames_in) t.tree) (pending t.gone.waits) (state_of a v) (state_of a turn_view) refl refl refl c.timed;
               fine = fine_less v.left left t.tree le c.fine;
+              untold = c.untold;
             }
 
         turn_bare : Bare v → Bare turn_view

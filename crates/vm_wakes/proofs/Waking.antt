@@ -38,6 +38,7 @@ use Rattle.vm_world.specs.Meets.{MovesOn}
 use Rattle.vm_world.specs.Moving.{Resumes}
 use Rattle.vm_world.proofs.Fines.{fine_at}
 use Rattle.vm_world.proofs.Seated.{seat, fine_reheld}
+use Rattle.vm_world.proofs.Untold.{untold_reheld}
 use Rattle.vm_wakes.specs.Values.{value_at, IsValue}
 use Rattle.vm_wakes.specs.Turns.{RunsNow, CanWake, WakesNext}
 use Rattle.vm_wakes.proofs.Telling.{value_is}
@@ -156,6 +157,7 @@ module _ {W : Type 0} (pending : W → List Pending) where
           timed = subst (λ ps. Timed (sleeping (slot_of frames_in) new) ps (state_of a v)) (sym (gone ∙ ap (λ i. removed i (pending t.gone.waits)) (sym own)))
               (removed_timed (sleeping (slot_of frames_in) t.tree) (sleeping (slot_of frames_in) new) (pending t.gone.waits) (state_of a v) e.task (record { number = n; cause = cause_of kind }) iw.first iw.last were are c.timed);
           fine = fine_reheld v.left t.tree new e.task ByMachine nested re tt c.fine;
+          untold = untold_reheld t.results.items t.tree new e.task ByMachine nested re c.untold;
         }
 
     pub wakes_to : {E : Type 0} (d : Result Went E) (u : View) (s : Tasks W) → IsTree new → IsValue woken_tasks kind e.cause x → IfOk d (λ r. Resumes pending e.task fs x r v woken_tasks u s) → IfOk d (λ r. WakesNext pending e r v t u s)

@@ -1,11 +1,11 @@
 -- What holds of the tasks of a tree one by one.
-use Rattle.std.proofs.Common.{◌≡◌, ℕ, ◌<◌, ◌≤◌, List, [], ◌∷◌, ◌++◌, Some, None, refl, sym, ap, subst, ◌∙◌, arith}
+use Rattle.std.proofs.Common.{◌≡◌, ℕ, ◌<◌, ◌≤◌, List, [], ◌∷◌, ◌++◌, Some, sym, ap, subst, ◌∙◌, arith}
 use Rattle.task_tree.specs.Tasks.{Task, task_at, with_item, without}
 use Rattle.task_tree.specs.Nested.{IsTree, Distinct}
 use Rattle.task_tree.specs.Removing.{Added}
 use Rattle.task_tree.proofs.Standing.{found, beside, changed_here}
 use Rattle.vm_thread.specs.Framed.{Framed}
-use Rattle.vm_table.proofs.Lists.{Each, each_append, each_parts, each_weaker}
+use Rattle.vm_table.proofs.Lists.{Each, each_append, each_parts}
 use Rattle.vm_tasks.specs.declared.slots.Slot.{Slot}
 use Rattle.vm_tasks.specs.View.{slot_of}
 use Rattle.vm_tasks.specs.Standing.{AllEarlier, NoneLater}

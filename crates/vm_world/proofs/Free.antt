@@ -1,5 +1,5 @@
 -- Frames without handlers and noted places.
-use Rattle.std.proofs.Common.{◌≡◌, inl, inr, ℕ, ◌+◌, Bool, true, false, List, [], ◌∷◌, length, map, refl, sym, ap, subst, ◌∙◌, arith}
+use Rattle.std.proofs.Common.{◌≡◌, inl, inr, ℕ, true, false, List, [], ◌∷◌, length, map, refl, sym, ap, subst, ◌∙◌, arith}
 use Rattle.verse_value.specs.Val.{Val}
 use Rattle.verse_state.specs.State.{Memory}
 use Rattle.verse_machine.specs.Tasks.{Note, Handler, Frame}
@@ -7,7 +7,7 @@ use Rattle.verse_machine.specs.Frames.{free}
 use Rattle.fiber.specs.Frames as fiber
 use Rattle.vm_thread.specs.Framed.{Framed}
 use Rattle.vm_thread.specs.Calls.{pushed}
-use Rattle.vm_thread.specs.Machine.{note_of, handlers_with, frames_with, handlers_in, outer, beyond, all_free}
+use Rattle.vm_thread.specs.Machine.{note_of, handlers_with, frames_with, handlers_in, beyond, all_free}
 use Rattle.vm_runner.specs.Views.{View, Aside, Ready, frames_of, memories}
 use Rattle.vm_world.specs.Frames.{birth, birth_of, NotGone, GoneFirst, EachKeeps, NoneGone, Closing, holds, is_guarded, AllAbove}
 use Rattle.vm_world.specs.Standing.{Bare}
@@ -46,7 +46,19 @@ free_stays (f ∷ fs) e =
 pub free_unguarded : (fs : List Frame) → all_free fs ≡ true → is_guarded fs ≡ false
 free_unguarded [] e = refl
 free_unguarded (f ∷ fs) e =
-    let p = free_parts f.handlers f.life.noted fs e in ap (λ hs. holds hs (is_guarded fs)) p.0 ∙ free_unguarded fs p.2
+    let p = free_parts f.handlers f.life.noted fs e in ap (λ hs. holds hs f.life.noted (is_guarded fs)) p.0 ∙ (ap (λ ns. holds [] ns (is_guarded fs)) p.1 ∙ free_unguarded fs p.2)
+
+-- and where they are not free, one of them is guarded
+
+held_fast : (hs : List Handler) (ns : List Note) (fs : List Frame) → free hs ns fs ≡ false → (all_free fs ≡ false → is_guarded fs ≡ true) → holds hs ns (is_guarded fs) ≡ true
+held_fast (h ∷ hs) ns fs e below = refl
+held_fast [] (n ∷ ns) fs e below = refl
+held_fast [] [] [] e below = absurd (cc)
+held_fast [] [] (f ∷ fs) e below = below e
+
+pub bound_guarded : (fs : List Frame) → all_free fs ≡ false → is_guarded fs ≡ true
+bound_guarded [] e = absurd (cc)
+bound_guarded (f ∷ fs) e = held_fast f.handlers f.life.noted fs e (bound_guarded fs)
 
 pub free_calm : (P : ℕ → Type 0) (fs : List Frame) → all_free fs ≡ true → AllAbove P fs
 free_calm P [] e = tt
@@ -54,6 +66,21 @@ free_calm P (f ∷ fs) e =
     let p = free_parts f.handlers f.life.noted fs e in
     let un : is_guarded fs ≡ false = free_unguarded fs p.2 in
     (λ g. absurd (cc), free_calm P fs p.2)
+
+-- copies that are kept make none free, and none bound
+
+pub free_below : (bl : List Frame) → free [] [] bl ≡ all_free bl
+free_below [] = refl
+free_below (f ∷ fs) = refl
+
+free_top : (born : ℕ) (hs : List fiber.Handler) (ns : List ℕ) (ms ks : List Memory) (xs ys : List Frame) → all_free xs ≡ all_free ys → free (handlers_with born hs ms) (map note_of ns) xs ≡ free (handlers_with born hs ks) (map note_of ns) ys
+free_top born (h ∷ hs) ns ms ks xs ys e = refl
+free_top born [] (n ∷ ns) ms ks xs ys e = refl
+free_top born [] [] ms ks xs ys e = free_below xs ∙ (e ∙ sym (free_below ys))
+
+pub free_any : (fs : List Framed) (ms ks : List Memory) → all_free (frames_with fs ms) ≡ all_free (frames_with fs ks)
+free_any [] ms ks = refl
+free_any (f ∷ fs) ms ks = free_top f.born f.frame.handlers f.frame.noted ms ks (frames_with fs (beyond f.frame.handlers ms)) (frames_with fs (beyond f.frame.handlers ks)) (free_any fs (beyond f.frame.handlers ms) (beyond f.frame.handlers ks))
 
 pub birth_with : (fs : List Framed) (ms : List Memory) → birth_of (frames_with fs ms) ≡ birth fs
 birth_with [] ms = refl

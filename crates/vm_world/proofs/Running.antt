@@ -1,26 +1,23 @@
 -- A task runs in frames that have no handlers.
-use Rattle.std.proofs.Common.{◌≡◌, ◌≢◌, inl, inr, ℕ, true, List, [], ◌∷◌, None, length, refl, sym, ap, subst, ◌∙◌, arith}
+use Rattle.std.proofs.Common.{◌≡◌, ◌≢◌, inl, inr, ℕ, true, List, [], ◌∷◌, None, length, refl, sym, ap, subst, ◌∙◌}
 use Rattle.verse_value.specs.Val.{Val}
-use Rattle.verse_state.specs.State.{Memory, State}
+use Rattle.verse_state.specs.State.{Memory}
 use Rattle.verse_machine.specs.Tasks.{Who, World, since}
 use Rattle.verse_machine.specs.Ends.{resumes}
 use Rattle.verse_machine.specs.Cancelling.{cancelled}
 use Rattle.verse_machine.specs.Tasks as m
 use Rattle.sim_clock.specs.declared.waits.Pending.{Pending}
 use Rattle.vm_table.specs.Slots.{held}
-use Rattle.vm_table.proofs.Ticks.{same_timed}
-use Rattle.vm_table.specs.Clocks.{sleeping}
 use Rattle.vm_thread.specs.Framed.{Framed}
 use Rattle.vm_thread.specs.Calls.{pushed}
-use Rattle.vm_thread.specs.Machine.{frames_with, handlers_in, all_free, beyond}
+use Rattle.vm_thread.specs.Machine.{frames_with, all_free}
 use Rattle.vm_runner.specs.Views.{View, Aside, Ready, state_of, frames_of, memories}
 use Rattle.vm_runner.specs.Doings.{on_frame, going}
 use Rattle.vm_runner.specs.Comes.{done}
-use Rattle.vm_tasks.specs.View.{slot_of}
 use Rattle.vm_world.specs.declared.tasks.Tasks.{Tasks}
-use Rattle.vm_world.specs.Frames.{frames_in, threaded, birth, birth_of, Suspended, NoneGone, AllAbove}
+use Rattle.vm_world.specs.Frames.{threaded, birth, birth_of, Suspended, NoneGone, AllAbove}
 use Rattle.vm_world.specs.Standing.{Clocked, Standing, Bare}
-use Rattle.vm_world.specs.Going.{Scene, Own, Clearing, Going}
+use Rattle.vm_world.specs.Going.{Scene, Own, Going}
 use Rattle.verse_value.specs.Runs.{Line}
 use Rattle.vm_world.specs.declared.tasks.Went.{Went}
 use Rattle.vm_world.specs.Meets.{GoesOn, MovesOn, Moves, Meets}
@@ -67,7 +64,7 @@ module _ {W : Type 0} (pending : W → List Pending) where
 
   -- the frames of the task that runs, and its number, are no matter of the clock
   pub reclocked : (a : Aside) (v : View) (t : Tasks W) (fs : List Framed) (id : ℕ) → Clocked pending a v t → Clocked pending a (record v { frames = fs }) (record t { id = id })
-  reclocked a v t fs id c = record { past = c.past; next = c.next; results = c.results; signals = c.signals; timed = c.timed; fine = c.fine }
+  reclocked a v t fs id c = record { past = c.past; next = c.next; results = c.results; signals = c.signals; timed = c.timed; fine = c.fine; untold = c.untold }
 
   done_pushed : (a : Aside) (w : Who) (o : World) (v : View) (x : Val) (fs : List Framed) → Bare v → fs ≢ [] →
       resumes (threaded w fs) x o (state_of a v) ≡ done going a w o (record v { frames = pushed x fs })

@@ -23,7 +23,7 @@ use Rattle.vm_world.specs.declared.tasks.Tasks.{Tasks}
 use Rattle.vm_world.specs.Frames.{frames_in}
 use Rattle.vm_world.specs.Ups.{ups_of, id_of}
 use Rattle.vm_world.specs.Going.{Goes}
-use Rattle.vm_world.specs.Standing.{Tree, Fine, HeldFine, AllFine}
+use Rattle.vm_world.specs.Standing.{Tree, HeldFine, AllFine}
 use Rattle.vm_world.proofs.Fines.{fine_at, fine_item}
 use Rattle.vm_world.proofs.Running.{own_of}
 

@@ -1,5 +1,5 @@
 -- The frames of a task in the machine's definition, and what holds of them between two operations.
-use Rattle.std.specs.Prelude.{◌≡◌, ◌≢◌, ◌⊎◌, ℕ, List, [], ◌∷◌, Bool, true, false, cond}
+use Rattle.std.specs.Prelude.{◌≡◌, ◌≢◌, ◌⊎◌, ℕ, List, [], ◌∷◌, Bool, true, false}
 use Rattle.verse_machine.specs.Tasks.{Note, to, gone, Handler, Frame, Who, Thread, thread}
 use Rattle.vm_thread.specs.Framed.{Framed}
 use Rattle.vm_thread.specs.Machine.{frames_with, all_free, no_frame}
@@ -68,15 +68,17 @@ abbrev pub Closing : List Frame → Type 0
 Closing [] = ⊥
 Closing (f ∷ fs) = (Noted GoneFirst f × (all_free fs ≡ true)) ⊎ (Noted NotGone f × Closing fs)
 
-abbrev pub holds : List Handler → Bool → Bool
-holds [] rest = rest
-holds (h ∷ hs) rest = true
+abbrev pub holds : List Handler → List Note → Bool → Bool
+holds (h ∷ hs) ns rest = true
+holds [] (n ∷ ns) rest = true
+holds [] [] rest = rest
 
+-- one of the frames has a handler or a noted place
 abbrev pub is_guarded : List Frame → Bool
 is_guarded [] = false
-is_guarded (f ∷ fs) = holds f.handlers (is_guarded fs)
+is_guarded (f ∷ fs) = holds f.handlers f.life.noted (is_guarded fs)
 
--- of the births of all frames above one that has a handler
+-- of the births of all frames above one that has a handler or a noted place
 abbrev pub AllAbove : (ℕ → Type 0) → List Frame → Type 0
 AllAbove P [] = Unit {0}
 AllAbove P (f ∷ fs) = (is_guarded fs ≡ true → P f.life.born) × AllAbove P fs

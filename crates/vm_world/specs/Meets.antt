@@ -1,6 +1,5 @@
 -- What a call comes to in the machine's definition.
-use Rattle.std.specs.Prelude.{◌≡◌, List, [], ◌∷◌}
-use Rattle.verse_state.specs.State.{State}
+use Rattle.std.specs.Prelude.{◌≡◌, List, []}
 use Rattle.verse_value.specs.declared.runs.Ending.{Ending}
 use Rattle.verse_value.specs.Runs.{Line}
 use Rattle.verse_machine.specs.Tasks as m

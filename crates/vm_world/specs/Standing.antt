@@ -1,13 +1,11 @@
 -- When tasks stand for those of the machine's definition.
 use Rattle.std.specs.Prelude.{◌≡◌, ◌≤◌, ℕ, ◌+◌, List, [], ◌∷◌, map, Option, Some, None, option_map}
 use Rattle.task_tree.specs.Tasks.{Task}
-use Rattle.verse_value.specs.Val.{Val}
 use Rattle.verse_value.specs.View.{val_of}
-use Rattle.verse_value.specs.declared.values.Value.{Value}
 use Rattle.verse_state.specs.State.{Signal}
 use Rattle.verse_state.specs.State as state
-use Rattle.verse_machine.specs.Tasks as m
-use Rattle.verse_machine.specs.Tasks.{Frame, World}
+use Rattle.verse_state.specs.Waits.{nth}
+use Rattle.verse_machine.specs.Tasks.{World}
 use Rattle.sim_clock.specs.declared.waits.Pending.{Pending}
 use Rattle.vm_table.specs.Slots.{Entry}
 use Rattle.vm_table.specs.Standing.{Stands}
@@ -15,6 +13,8 @@ use Rattle.vm_table.specs.Clocks.{sleeping, Timed}
 use Rattle.vm_thread.specs.Framed.{Framed}
 use Rattle.vm_runner.specs.Views.{View, Aside, IsPast, state_of}
 use Rattle.vm_tasks.specs.declared.slots.Slot.{Slot}
+use Rattle.vm_tasks.specs.declared.slots.Root.{Root}
+use Rattle.vm_tasks.specs.declared.slots.Root.TheVariants.{Part as APart, Main, Spawned}
 use Rattle.vm_tasks.specs.declared.slots.Held.{Held}
 use Rattle.vm_tasks.specs.declared.slots.Held.TheVariants.{ByMachine, Asleep, AtGroup}
 use Rattle.vm_tasks.specs.View.{slot_of}
@@ -46,6 +46,27 @@ abbrev pub AllFine : ℕ → Tree → Type 0
 AllFine left [] = Unit {0}
 AllFine left (t ∷ ts) = Fine left t.item × AllFine left ts
 
+-- of the entry of a spawned task
+abbrev pub OfEntry : (ℕ → Type 0) → Root → Type 0
+OfEntry P APart = Unit {0}
+OfEntry P Main = Unit {0}
+OfEntry P (Spawned entry) = P entry
+
+abbrev pub AllUntold : List (Option Given) → (ℕ → ℕ) → Tree → Type 0
+AllUntold results number [] = Unit {0}
+AllUntold results number (t ∷ ts) = OfEntry (λ entry. (nth results entry ≡ Some None) × (number entry ≡ t.number)) t.item.root × AllUntold results number ts
+
+-- spawned tasks that are live have given nothing yet, and no two of them are of one entry
+pub record Untold (results : List (Option Given)) (tree : Tree) : Type 0 where
+  -- of an entry the number of its task in the tree
+  pub number : ℕ → ℕ
+  pub all : AllUntold results number tree
+
+-- no live task is of the entry
+abbrev pub NoneOf : ℕ → Tree → Type 0
+NoneOf entry [] = Unit {0}
+NoneOf entry (t ∷ ts) = (t.item.root ≡ Spawned entry → ⊥) × NoneOf entry ts
+
 module _ {W : Type 0} where
   abbrev pub ids : Tasks W → List ℕ
   ids t = map id_of (ups_of t.ups.items)
@@ -59,6 +80,7 @@ module _ {W : Type 0} where
       pub signals : map (λ (g : Signal). g.given.value) a.signals ≡ map val_of t.signals.items
       pub timed : Timed (sleeping (slot_of frames_in) t.tree) (pending t.gone.waits) (state_of a v)
       pub fine : AllFine v.left t.tree
+      pub untold : Untold t.results.items t.tree
 
     -- nothing is being cancelled; these entries are of the tasks that neither wait nor are above one that runs
     pub record Standing (run : List Entry) (a : Aside) (o : World) (v : View) (t : Tasks W) : Type 0 where

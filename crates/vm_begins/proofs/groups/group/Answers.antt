@@ -1,4 +1,4 @@
-use Rattle.std.proofs.Common.{◌≡◌, [], List, refl, ◌∙◌, rules}
+use Rattle.std.proofs.Common.{◌≡◌, [], refl, ◌∙◌, rules}
 use Rattle.vm_world.proofs.Seated.{live_here}
 use Rattle.vm_begins.proofs.Coming.{no_arms, group_live, arm_ok}
 use Rattle.vm_begins.proofs.groups.group.Goals as goal

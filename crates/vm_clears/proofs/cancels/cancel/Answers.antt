@@ -1,4 +1,3 @@
-use Rattle.std.proofs.Common.{refl}
 use Rattle.vm_clears.proofs.Cancelling.{cancels_so}
 use Rattle.vm_clears.proofs.cancels.cancel.Goals as goal
 

@@ -1,4 +1,3 @@
-use Rattle.std.proofs.Common.{sym}
 use Rattle.vm_clears.proofs.All.{one_gone, not_down, next_unguarded, still_same, steps_still}
 use Rattle.vm_clears.proofs.clears.clear.Goals as goal
 

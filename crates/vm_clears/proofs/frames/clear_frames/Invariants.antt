@@ -1,4 +1,4 @@
-use Rattle.std.proofs.Common.{List, length}
+use Rattle.std.proofs.Common.{length}
 use Rattle.vm_runner.specs.Runners.{view_of}
 use Rattle.vm_runner.specs.Views.{View}
 use Rattle.vm_world.specs.declared.tasks.Went.{Went}

@@ -1,4 +1,4 @@
-use Rattle.std.proofs.Common.{◌≡◌, true, [], length, sym, ◌∙◌, rules}
+use Rattle.std.proofs.Common.{◌≡◌, ◌≢◌, [], length, sym, ◌∙◌, rules}
 use Rattle.std.proofs.lemmas.List.{nil_from_length}
 use Rattle.verse_value.specs.View.{val_of}
 use Rattle.vm_runner.specs.Runners.{view_of}
@@ -21,11 +21,11 @@ returns-then-is_empty g c =
 
 pub unwind-requires : goal.unwind-requires
 unwind-requires g c =
-    let free : c.is_free.result ≡ true = search rules in
-    is_cleared g.W.Waits.pending c.args.born c.args.value (view_of g.H.Heap.state c.args.run.now) c.args.tasks.now c.cancel.new.tasks c.in_ok-cancel.ensures (sym (c.is_free.ensures []) ∙ free) _ _ c.replace-thread.ensures.value c.requires
+    let some : c.cancel.new.tasks.gone.frames.items ≢ [] = λ e. (search rules) in
+    is_cleared g.W.Waits.pending c.args.born c.args.value (view_of g.H.Heap.state c.args.run.now) c.args.tasks.now c.cancel.new.tasks c.in_ok-cancel.ensures (sym c.is_some.ensures ∙ c.if-is_some.false) some _ _ c.replace-thread.ensures.value c.requires
 
 pub returns : goal.returns
 returns g c =
-    let free : c.is_free.result ≡ true = search rules in
-    returned_unwinds g.W.Waits.pending c.args.born c.args.value (view_of g.H.Heap.state c.args.run.now) c.args.tasks.now c.cancel.new.tasks c.in_ok-cancel.ensures (sym (c.is_free.ensures []) ∙ free) _ c.unwind.result _ _ _ c.replace-thread.ensures.value
+    let some : c.cancel.new.tasks.gone.frames.items ≢ [] = λ e. (search rules) in
+    returned_unwinds g.W.Waits.pending c.args.born c.args.value (view_of g.H.Heap.state c.args.run.now) c.args.tasks.now c.cancel.new.tasks c.in_ok-cancel.ensures (sym c.is_some.ensures ∙ c.if-is_some.false) some _ c.unwind.result _ _ _ c.replace-thread.ensures.value
     c.unwind.ensures

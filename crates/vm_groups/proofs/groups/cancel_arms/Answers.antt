@@ -1,4 +1,4 @@
-use Rattle.std.proofs.Common.{◌≡◌, Some, None, sym, ap, subst, ◌∙◌}
+use Rattle.std.proofs.Common.{Some, sym, ap, ◌∙◌}
 use Rattle.std.specs.Option.{option_copied}
 use Rattle.vm_runner.specs.Runners.{view_of}
 use Rattle.vm_groups.proofs.Racing.{group_live, live_none, began_of, arms_unguarded, race_runs, race_resumes, resumes_as}

@@ -3,4 +3,4 @@ use Rattle.vm_rests.proofs.Giving.{gives_so}
 use Rattle.vm_rests.proofs.results.give.Goals as goal
 
 pub returns : goal.returns
-returns g c = gives_so g.W.Waits.pending _ _ _ _ _ _ refl c.in_ok-put_result.ensures.unset c.in_ok-put_result.ensures.put c.wake_task.ensures
+returns g c = gives_so g.W.Waits.pending _ _ _ _ _ _ refl c.requires c.put_result.ensures c.wake_task.ensures

@@ -1,4 +1,3 @@
-use Rattle.std.proofs.Common.{sym, subst}
 use Rattle.vm_world.proofs.Running.{resumed_by}
 use Rattle.vm_world.proofs.moves.resume.Goals as goal
 
