@@ -114,6 +114,7 @@ module _ {H W : Type 0} (state : H → Kept) (pending : W → List Pending) wher
             signals = k.clock.signals;
             timed = same_timed (sleeping (slot_of frames_in) m.tasks.tree) (pending m.tasks.gone.waits) (state_of h.aside v) (state_of a u) refl refl refl k.clock.timed;
             fine = k.clock.fine;
+            untold = k.clock.untold;
           };
           rests = k.rests;
           bare = record { copies = k.bare.copies; marks = ap (λ (t : Trace). t.marks) e ∙ marks_gone m.run.trace none; steps = k.bare.steps };

@@ -9,7 +9,7 @@ ghost use Rattle.vm_run.specs.Reaching.{IsWholly, Follows, CanBegin, Begins, Can
 
 use crate::closing::close;
 use crate::machines::{Bounds, Phase};
-use crate::operations::{carry, room_for};
+use crate::operations::carry;
 use sim_clock::waits::Waits;
 use tx_heap::heaps::Heap;
 use verse_base::refusals::Memory;
@@ -77,8 +77,7 @@ fn follow<H: Heap, W: Waits>(
     requires whole { IsWholly W.pending code.now steps (view_of H.state run.old) tasks.old }
     ensures { IfOk result (λ p. Follows W.pending code.now steps p (view_of H.state run.old) tasks.old (view_of H.state run.new) tasks.new) }
 {
-    let most = room_for(code, steps);
-    match carry(run, tasks, code, most)? {
+    match carry(run, tasks, code, steps)? {
         Went::On => unreachable!(),
         Went::Over(ending) => {
             close(run);
