@@ -1,8 +1,10 @@
 //! Every kind of value through every call.
 
+use crate::handles::{Slot, Stack, Table, made};
 use crate::making::{nested, one_entry, pair, path_to};
 use crate::tables::{CHANGES, READS, SAME, VALUES, WRITES};
 use crate::using::{change_back, read};
+use crate::words::{path, value, values};
 use std::alloc::Global;
 use std::test::Fail;
 use verse_base::refusals::Kind;
@@ -15,164 +17,11 @@ use verse_value::sizes::{cell_weight, is_fit, levels, weight};
 use verse_value::values::{Entries, Parts, Value, copy_all};
 use verse_write::paths::Path;
 use verse_write::writes::{
-    Mode, Undo, WriteFault, store, store_logged, take_back, write, write_logged,
+    Mode, Undo, WriteFault, Written, store, store_logged, take_back, write, write_logged,
 };
 
-fn top(stack: &mut Vec<Value>) -> Result<Value, Fail> {
-    let value = stack.pop().ok_or("a value is missing")?;
-    Ok(value)
-}
-
-fn text_value(alloc: Global, bytes: &[u8]) -> Result<Value, Fail> {
-    let mut parts = Parts::new(alloc);
-    for byte in bytes {
-        parts.push(Value::Char(*byte))?;
-    }
-    Ok(Value::Array(Box::new(alloc, parts)?))
-}
-
-fn enum_value(numbers: &str) -> Result<Value, Fail> {
-    let (of, at) = numbers.split_once(".").ok_or("two numbers")?;
-    let of = of.parse::<u32>()?;
-    let at = at.parse::<u32>()?;
-    Ok(Value::Enum(of, at))
-}
-
-fn char_value(number: &str) -> Result<Value, Fail> {
-    let byte = number.parse::<u8>()?;
-    Ok(Value::Char(byte))
-}
-
-fn int_value(number: &str) -> Result<Value, Fail> {
-    let n = number.parse::<i64>()?;
-    Ok(Value::Int(n))
-}
-
-fn numbered(word: &str) -> Result<Value, Fail> {
-    if let Some(numbers) = word.strip_prefix("#") {
-        return enum_value(numbers);
-    }
-    if let Some(number) = word.strip_prefix("c") {
-        return char_value(number);
-    }
-    int_value(word)
-}
-
-fn reference(word: &str) -> Result<Option<Value>, Fail> {
-    if let Some(number) = word.strip_prefix("@") {
-        let number = number.parse::<u32>()?;
-        return Ok(Some(Value::Obj(number)));
-    }
-    if let Some(number) = word.strip_prefix("!") {
-        let number = number.parse::<u32>()?;
-        return Ok(Some(Value::Event(number)));
-    }
-    if let Some(number) = word.strip_prefix("~") {
-        let number = number.parse::<u32>()?;
-        return Ok(Some(Value::Task(number)));
-    }
-    Ok(None)
-}
-
-fn named(alloc: Global, word: &str) -> Result<Option<Value>, Fail> {
-    let value = match word.as_bytes() {
-        b"()" => Value::default(),
-        b"false" => Value::False,
-        b"true" => Value::True,
-        b"[" => Value::array(alloc, Vec::new(alloc))?,
-        b"(" => Value::tuple(alloc, Vec::new(alloc))?,
-        b"{" => Value::map(alloc, Entries::new(alloc))?,
-        _ => return Ok(None),
-    };
-    Ok(Some(value))
-}
-
-fn single(alloc: Global, word: &str) -> Result<Value, Fail> {
-    if let Some(value) = named(alloc, word)? {
-        return Ok(value);
-    }
-    if let Some(letters) = word.strip_prefix("\"") {
-        return text_value(alloc, letters.as_bytes());
-    }
-    if let Some(value) = reference(word)? {
-        return Ok(value);
-    }
-    numbered(word)
-}
-
-fn with_part(whole: Value, part: Value) -> Result<Value, Fail> {
-    match whole {
-        Value::Array(mut parts) => {
-            parts.push(part)?;
-            Ok(Value::Array(parts))
-        }
-        Value::Tuple(mut parts) => {
-            parts.push(part)?;
-            Ok(Value::Tuple(parts))
-        }
-        _ => Err(Fail::from("a value with parts")),
-    }
-}
-
-fn with_entry(whole: Value, key: Key, value: Value) -> Result<Value, Fail> {
-    match whole {
-        Value::Map(mut entries) => {
-            entries.insert(key, value)?;
-            Ok(Value::Map(entries))
-        }
-        _ => Err(Fail::from("a map")),
-    }
-}
-
-fn add_part(stack: &mut Vec<Value>) -> Result<Value, Fail> {
-    let part = top(stack)?;
-    let whole = top(stack)?;
-    with_part(whole, part)
-}
-
-fn add_entry(alloc: Global, stack: &mut Vec<Value>) -> Result<Value, Fail> {
-    let value = top(stack)?;
-    let index = top(stack)?;
-    let whole = top(stack)?;
-    match key_from(alloc, &index)? {
-        Some(key) => with_entry(whole, key, value),
-        None => Err(Fail::from("a key")),
-    }
-}
-
-fn option_of(alloc: Global, stack: &mut Vec<Value>) -> Result<Value, Fail> {
-    let part = top(stack)?;
-    let option = Value::option(alloc, part)?;
-    Ok(option)
-}
-
-fn read_word(alloc: Global, stack: &mut Vec<Value>, word: &str) -> Result<(), Fail> {
-    let value = match word.as_bytes() {
-        b"," => add_part(stack)?,
-        b":" => add_entry(alloc, stack)?,
-        b"?" => option_of(alloc, stack)?,
-        _ => single(alloc, word)?,
-    };
-    stack.push(value)?;
-    Ok(())
-}
-
-fn values(alloc: Global, words: &str) -> Result<Vec<Value>, Fail> {
-    let mut stack = Vec::new(alloc);
-    for word in words.split_whitespace() {
-        read_word(alloc, &mut stack, word)?;
-    }
-    Ok(stack)
-}
-
-fn value(alloc: Global, words: &str) -> Result<Value, Fail> {
-    let mut stack = values(alloc, words)?;
-    top(&mut stack)
-}
-
-fn path(alloc: Global, words: &str) -> Result<Path, Fail> {
-    let stack = values(alloc, words)?;
-    Path::from_vec(stack).copy(alloc).map_err(Fail::from)
+fn int(n: i64) -> Slot {
+    Slot::new(Value::Int(n))
 }
 
 fn shown(alloc: Global, value: &Value) -> Result<String, Fail> {
@@ -185,8 +34,8 @@ fn shown(alloc: Global, value: &Value) -> Result<String, Fail> {
 fn shown_as_key(alloc: Global, value: &Value) -> Result<String, Fail> {
     match key_from(alloc, value)? {
         Some(key) => {
-            let map = one_entry(alloc, key, Value::Unit)?;
-            shown(alloc, &map)
+            let map = made(one_entry(alloc, key, Value::Unit))?;
+            shown(alloc, map.get())
         }
         None => Ok(format!(in alloc; "-")?),
     }
@@ -206,13 +55,13 @@ fn values_are_described(rt: HostRuntime) -> Result<(), Fail> {
     let mut count = 0u64;
     for line in VALUES.lines() {
         let (words, expected) = line.split_once(" | ").ok_or("a line has two parts")?;
-        let value = value(alloc, words)?;
-        let found = described(alloc, &value)?;
+        let slot = value(alloc, words)?;
+        let found = described(alloc, slot.get())?;
         assert_eq!(rt; found.as_str(), expected, "{line}");
-        let copy = value.copy(alloc)?;
-        let found = described(alloc, &copy)?;
+        let copy = made(slot.get().copy(alloc))?;
+        let found = described(alloc, copy.get())?;
         assert_eq!(rt; found.as_str(), expected, "the copy of {line}");
-        assert!(rt; is_fit(&value), "{line}");
+        assert!(rt; is_fit(slot.get()), "{line}");
         count = count.saturating_add(1);
     }
     assert_eq!(rt; count, 53);
@@ -220,12 +69,11 @@ fn values_are_described(rt: HostRuntime) -> Result<(), Fail> {
     Ok(())
 }
 
-fn all_values(alloc: Global) -> Result<Vec<Value>, Fail> {
-    let mut all = Vec::new(alloc);
+fn all_values(alloc: Global) -> Result<Stack, Fail> {
+    let mut all = Stack::new(Vec::new(alloc));
     for line in VALUES.lines() {
         let (words, _) = line.split_once(" | ").ok_or("a line has two parts")?;
-        let value = value(alloc, words)?;
-        all.push(value)?;
+        all.push(value(alloc, words)?)?;
     }
     Ok(all)
 }
@@ -245,9 +93,9 @@ fn count_equal(all: &[Value], value: &Value) -> u64 {
 fn values_are_equal_to_themselves_alone(rt: HostRuntime) -> Result<(), Fail> {
     let alloc = rt.alloc();
     let all = all_values(alloc)?;
-    let copies = copy_all(alloc, all.as_slice())?;
-    assert_eq!(rt; copies.len(), 53);
-    for (one, copy) in all.iter().zip(copies.iter()) {
+    let copies = Stack::new(copy_all(alloc, all.as_slice())?);
+    assert_eq!(rt; copies.as_slice().len(), 53);
+    for (one, copy) in all.as_slice().iter().zip(copies.as_slice().iter()) {
         assert!(rt; equal(one, copy));
         assert_eq!(rt; count_equal(all.as_slice(), copy), 1);
     }
@@ -255,7 +103,7 @@ fn values_are_equal_to_themselves_alone(rt: HostRuntime) -> Result<(), Fail> {
         let (first, second) = line.split_once(" | ").ok_or("a line has two parts")?;
         let first = value(alloc, first)?;
         let second = value(alloc, second)?;
-        assert!(rt; equal(&first, &second), "{line}");
+        assert!(rt; equal(first.get(), second.get()), "{line}");
     }
     Ok(())
 }
@@ -301,9 +149,9 @@ fn parts_are_read(rt: HostRuntime) -> Result<(), Fail> {
         let (index, expected) = rest.split_once(" | ").ok_or("a line has three parts")?;
         let whole = value(alloc, words)?;
         let index = value(alloc, index)?;
-        let found = step_name(alloc, find(&whole, &index))?;
+        let found = step_name(alloc, find(whole.get(), index.get()))?;
         assert_eq!(rt; found.as_str(), expected, "{line}");
-        let found = found_name(alloc, read(&whole, &index))?;
+        let found = found_name(alloc, read(whole.get(), index.get()))?;
         assert_eq!(rt; found.as_str(), at_name(expected), "{line}");
         count = count.saturating_add(1);
     }
@@ -332,17 +180,30 @@ fn fault_name(fault: WriteFault) -> &'static str {
     }
 }
 
+fn write_slot(
+    alloc: Global,
+    slot: &mut Value,
+    path: &Path,
+    mode: Mode,
+    value: Slot,
+) -> Result<Slot, WriteFault> {
+    match write(alloc, slot, path, mode, value.into_value()) {
+        Ok(value) => Ok(Slot::new(value)),
+        Err(fault) => Err(fault),
+    }
+}
+
 fn written(
     alloc: Global,
     slot: &mut Value,
     path: &Path,
     mode: Mode,
-    value: Value,
+    value: Slot,
 ) -> Result<String, Fail> {
-    match write(alloc, slot, path, mode, value) {
+    match write_slot(alloc, slot, path, mode, value) {
         Ok(value) => {
             let slot = shown(alloc, slot)?;
-            let value = shown(alloc, &value)?;
+            let value = shown(alloc, value.get())?;
             Ok(format!(in alloc; "{slot}, {value}")?)
         }
         Err(fault) => Ok(format!(in alloc; "{}", fault_name(fault))?),
@@ -355,13 +216,15 @@ fn is_taken_back(
     slot: &mut Value,
     path: &Path,
     mode: Mode,
-    value: Value,
+    value: Slot,
 ) -> Result<bool, Fail> {
-    let before = slot.copy(alloc)?;
-    if let Ok(written) = write_logged(alloc, slot, path, mode, value) {
-        take_back(slot, path, written.undo);
+    let before = made(slot.copy(alloc))?;
+    if let Ok(written) = write_logged(alloc, slot, path, mode, value.into_value()) {
+        let Written { value, undo } = written;
+        let _value = Slot::new(value);
+        take_back(slot, path, undo);
     }
-    Ok(equal(slot, &before))
+    Ok(equal(slot, before.get()))
 }
 
 // What a line of the table of writes comes to.
@@ -374,10 +237,10 @@ fn outcome(alloc: Global, line: &str) -> Result<String, Fail> {
     let mode = mode(name)?;
     let first = value(alloc, words)?;
     let second = value(alloc, words)?;
-    if !is_taken_back(alloc, &mut slot, &to, mode, first)? {
+    if !is_taken_back(alloc, slot.get_mut(), &to, mode, first)? {
         return Err(Fail::from("the slot is not as it was"));
     }
-    written(alloc, &mut slot, &to, mode, second)
+    written(alloc, slot.get_mut(), &to, mode, second)
 }
 
 #[test]
@@ -403,129 +266,135 @@ fn long_key(alloc: Global, count: u32) -> Result<Key, Fail> {
     Ok(Key::Text(Bytes::from_vec(bytes)))
 }
 
-fn set(alloc: Global, slot: &mut Value, value: Value) -> &'static str {
-    let here = Path::new(alloc);
-    match write(alloc, slot, &here, Mode::Set, value) {
+// What a write comes to.
+fn ending(alloc: Global, slot: &mut Value, path: &Path, mode: Mode, value: Slot) -> &'static str {
+    match write_slot(alloc, slot, path, mode, value) {
         Ok(_) => "ok",
         Err(fault) => fault_name(fault),
     }
 }
 
-fn join(alloc: Global, slot: &mut Value, more: Value) -> &'static str {
+fn set(alloc: Global, slot: &mut Slot, value: Slot) -> &'static str {
     let here = Path::new(alloc);
-    match write(alloc, slot, &here, Mode::Add, more) {
-        Ok(_) => "ok",
-        Err(fault) => fault_name(fault),
-    }
+    ending(alloc, slot.get_mut(), &here, Mode::Set, value)
+}
+
+fn join(alloc: Global, slot: &mut Slot, more: Slot) -> &'static str {
+    let here = Path::new(alloc);
+    ending(alloc, slot.get_mut(), &here, Mode::Add, more)
+}
+
+fn unit_in_options(alloc: Global, count: u32) -> Result<Slot, Fail> {
+    made(nested(alloc, Value::Unit, count))
 }
 
 #[test]
 fn two_hundred_levels_are_the_most(rt: HostRuntime) -> Result<(), Fail> {
     let alloc = rt.alloc();
-    let mut slot = Value::Unit;
-    let deep = nested(alloc, Value::Unit, 199)?;
-    assert_eq!(rt; levels(&deep), 200);
-    assert!(rt; is_fit(&deep));
+    let mut slot = Slot::new(Value::Unit);
+    let deep = unit_in_options(alloc, 199)?;
+    assert_eq!(rt; levels(deep.get()), 200);
+    assert!(rt; is_fit(deep.get()));
     assert_eq!(rt; set(alloc, &mut slot, deep), "ok");
-    assert_eq!(rt; levels(&slot), 200);
-    let deeper = nested(alloc, Value::Unit, 200)?;
-    assert_eq!(rt; levels(&deeper), 201);
-    assert!(rt; !is_fit(&deeper));
+    assert_eq!(rt; levels(slot.get()), 200);
+    let deeper = unit_in_options(alloc, 200)?;
+    assert_eq!(rt; levels(deeper.get()), 201);
+    assert!(rt; !is_fit(deeper.get()));
     assert_eq!(rt; set(alloc, &mut slot, deeper), "size");
-    assert_eq!(rt; levels(&slot), 200);
+    assert_eq!(rt; levels(slot.get()), 200);
     Ok(())
 }
 
-fn set_second(alloc: Global, slot: &mut Value, value: Value) -> Result<&'static str, Fail> {
+fn set_second(alloc: Global, slot: &mut Slot, value: Slot) -> Result<&'static str, Fail> {
     let second = path_to(alloc, Value::Int(1))?;
-    match write(alloc, slot, &second, Mode::Set, value) {
-        Ok(_) => Ok("ok"),
-        Err(fault) => Ok(fault_name(fault)),
-    }
+    Ok(ending(alloc, slot.get_mut(), &second, Mode::Set, value))
 }
 
 #[test]
 fn a_part_may_make_two_hundred_levels(rt: HostRuntime) -> Result<(), Fail> {
     let alloc = rt.alloc();
-    let mut slot = pair(alloc, Value::Unit, Value::Unit)?;
-    let deep = nested(alloc, Value::Unit, 198)?;
+    let mut slot = made(pair(alloc, Value::Unit, Value::Unit))?;
+    let deep = unit_in_options(alloc, 198)?;
     assert_eq!(rt; set_second(alloc, &mut slot, deep)?, "ok");
-    assert_eq!(rt; levels(&slot), 200);
-    let mut slot = pair(alloc, Value::True, Value::False)?;
-    let deeper = nested(alloc, Value::Unit, 199)?;
+    assert_eq!(rt; levels(slot.get()), 200);
+    let mut slot = made(pair(alloc, Value::True, Value::False))?;
+    let deeper = unit_in_options(alloc, 199)?;
     assert_eq!(rt; set_second(alloc, &mut slot, deeper)?, "size");
-    assert_eq!(rt; shown(alloc, &slot)?.as_str(), "array{true, false}");
+    assert_eq!(rt; shown(alloc, slot.get())?.as_str(), "array{true, false}");
     Ok(())
 }
 
 // A map of this weight, from 3 on, whose key is a long text.
-fn heavy(alloc: Global, weight: u32) -> Result<Value, Fail> {
+fn heavy(alloc: Global, weight: u32) -> Result<Slot, Fail> {
     let key = long_key(alloc, weight.saturating_sub(3))?;
-    let map = one_entry(alloc, key, Value::Unit)?;
-    Ok(map)
+    made(one_entry(alloc, key, Value::Unit))
 }
 
 #[test]
 fn a_key_may_weigh_four_million(rt: HostRuntime) -> Result<(), Fail> {
     let alloc = rt.alloc();
-    let mut slot = Value::Unit;
+    let mut slot = Slot::new(Value::Unit);
     let most = heavy(alloc, 4000000)?;
-    assert_eq!(rt; weight(&most), 4000000);
-    assert!(rt; is_fit(&most));
+    assert_eq!(rt; weight(most.get()), 4000000);
+    assert!(rt; is_fit(most.get()));
     assert_eq!(rt; set(alloc, &mut slot, most), "ok");
-    assert_eq!(rt; weight(&slot), 4000000);
+    assert_eq!(rt; weight(slot.get()), 4000000);
     let heavier = heavy(alloc, 4000001)?;
-    assert_eq!(rt; weight(&heavier), 4000001);
-    assert!(rt; !is_fit(&heavier));
+    assert_eq!(rt; weight(heavier.get()), 4000001);
+    assert!(rt; !is_fit(heavier.get()));
     assert_eq!(rt; set(alloc, &mut slot, heavier), "size");
-    assert_eq!(rt; weight(&slot), 4000000);
+    assert_eq!(rt; weight(slot.get()), 4000000);
     Ok(())
 }
 
 // An array of one value.
-fn alone(alloc: Global, value: Value) -> Result<Value, Fail> {
+fn alone(alloc: Global, value: Slot) -> Result<Slot, Fail> {
     let mut parts = Parts::new(alloc);
-    parts.push(value)?;
-    Ok(Value::Array(Box::new(alloc, parts)?))
+    parts.push(value.into_value())?;
+    Ok(Slot::new(Value::Array(Box::new(alloc, parts)?)))
 }
 
 #[test]
 fn an_array_may_weigh_four_million(rt: HostRuntime) -> Result<(), Fail> {
     let alloc = rt.alloc();
     let mut slot = alone(alloc, heavy(alloc, 2000000)?)?;
-    assert_eq!(rt; weight(&slot), 2000001);
+    assert_eq!(rt; weight(slot.get()), 2000001);
     let more = alone(alloc, heavy(alloc, 1999999)?)?;
     assert_eq!(rt; join(alloc, &mut slot, more), "ok");
-    assert_eq!(rt; weight(&slot), 4000000);
-    let one = alone(alloc, Value::Unit)?;
+    assert_eq!(rt; weight(slot.get()), 4000000);
+    let one = alone(alloc, Slot::new(Value::Unit))?;
     assert_eq!(rt; join(alloc, &mut slot, one), "size");
-    assert_eq!(rt; weight(&slot), 4000000);
-    assert_eq!(rt; join(alloc, &mut slot, Value::Int(1)), "stuck");
+    assert_eq!(rt; weight(slot.get()), 4000000);
+    assert_eq!(rt; join(alloc, &mut slot, int(1)), "stuck");
     Ok(())
 }
 
+// A map of this weight, from 5 on, with one entry at 1.
+fn heavy_map(alloc: Global, weight: u32) -> Result<Slot, Fail> {
+    let value = heavy(alloc, weight.saturating_sub(2))?;
+    made(one_entry(alloc, Key::Int(1), value.into_value()))
+}
+
 // What adding the key 2 with unit to a map comes to.
-fn grown(alloc: Global, slot: &mut Value) -> Result<&'static str, Fail> {
+fn grown(alloc: Global, slot: &mut Slot) -> Result<&'static str, Fail> {
     let new = path_to(alloc, Value::Int(2))?;
-    match write(alloc, slot, &new, Mode::Set, Value::Unit) {
-        Ok(_) => Ok("ok"),
-        Err(fault) => Ok(fault_name(fault)),
-    }
+    let unit = Slot::new(Value::Unit);
+    Ok(ending(alloc, slot.get_mut(), &new, Mode::Set, unit))
 }
 
 #[test]
 fn a_new_key_may_make_four_million(rt: HostRuntime) -> Result<(), Fail> {
     let alloc = rt.alloc();
-    let mut slot = one_entry(alloc, Key::Int(1), heavy(alloc, 3999996)?)?;
-    assert_eq!(rt; weight(&slot), 3999998);
+    let mut slot = heavy_map(alloc, 3999998)?;
+    assert_eq!(rt; weight(slot.get()), 3999998);
     assert_eq!(rt; grown(alloc, &mut slot)?, "ok");
-    assert_eq!(rt; weight(&slot), 4000000);
-    let mut slot = one_entry(alloc, Key::Int(1), heavy(alloc, 3999997)?)?;
-    assert_eq!(rt; weight(&slot), 3999999);
+    assert_eq!(rt; weight(slot.get()), 4000000);
+    let mut slot = heavy_map(alloc, 3999999)?;
+    assert_eq!(rt; weight(slot.get()), 3999999);
     assert_eq!(rt; grown(alloc, &mut slot)?, "size");
-    assert_eq!(rt; weight(&slot), 3999999);
-    assert!(rt; matches!(find(&slot, &Value::Int(2)), Step::Absent));
-    assert!(rt; matches!(find(&slot, &Value::Int(1)), Step::Part(_)));
+    assert_eq!(rt; weight(slot.get()), 3999999);
+    assert!(rt; matches!(find(slot.get(), int(2).get()), Step::Absent));
+    assert!(rt; matches!(find(slot.get(), int(1).get()), Step::Part(_)));
     Ok(())
 }
 
@@ -533,18 +402,18 @@ fn a_new_key_may_make_four_million(rt: HostRuntime) -> Result<(), Fail> {
 fn is_changed_back(
     alloc: Global,
     slot: &mut Value,
-    index: Value,
-    value: Value,
+    index: Slot,
+    value: Slot,
 ) -> Result<bool, Fail> {
-    let before = slot.copy(alloc)?;
+    let before = made(slot.copy(alloc))?;
     let here = Path::new(alloc);
-    let to = path_to(alloc, index)?;
-    let written = write_logged(alloc, slot, &to, Mode::Set, value)?;
-    if equal(slot, &before) {
-        return Ok(false);
-    }
-    change_back(slot, &to, &here, written.undo);
-    Ok(equal(slot, &before))
+    let to = path_to(alloc, index.into_value())?;
+    let written = write_logged(alloc, slot, &to, Mode::Set, value.into_value())?;
+    let Written { value, undo } = written;
+    let _value = Slot::new(value);
+    let is_changed = !equal(slot, before.get());
+    change_back(slot, &to, &here, undo);
+    Ok(is_changed && equal(slot, before.get()))
 }
 
 #[test]
@@ -554,7 +423,8 @@ fn changes_are_undone_in_place(rt: HostRuntime) -> Result<(), Fail> {
         let (words, index) = line.split_once(" | ").ok_or("a line has two parts")?;
         let mut slot = value(alloc, words)?;
         let index = value(alloc, index)?;
-        let same = is_changed_back(alloc, &mut slot, index, Value::True)?;
+        let new = Slot::new(Value::True);
+        let same = is_changed_back(alloc, slot.get_mut(), index, new)?;
         assert!(rt; same, "{line}");
     }
     Ok(())
@@ -586,18 +456,18 @@ fn cells_weigh_one_more_than_their_slots(rt: HostRuntime) -> Result<(), Fail> {
 #[test]
 fn parts_are_lists(rt: HostRuntime) -> Result<(), Fail> {
     let alloc = rt.alloc();
-    let mut parts = Parts::from_vec(values(alloc, "1 2 3")?);
+    let mut parts = Parts::from_vec(values(alloc, "1 2 3")?.into_vec());
     assert_eq!(rt; parts.len(), 3);
     if 1 < parts.len() {
-        let old = parts.replace(1, Value::True);
-        assert!(rt; equal(&old, &Value::Int(2)));
+        let old = Slot::new(parts.replace(1, Value::True));
+        assert!(rt; equal(old.get(), int(2).get()));
     }
     assert!(rt; parts.part(3).is_none());
-    parts.append(Parts::from_vec(values(alloc, "4 5")?))?;
+    parts.append(Parts::from_vec(values(alloc, "4 5")?.into_vec()))?;
     parts.truncate(4);
-    let tuple = Value::tuple(alloc, parts.into_vec())?;
-    assert_eq!(rt; shown(alloc, &tuple)?.as_str(), "(1, true, 3, 4)");
-    assert_eq!(rt; weight(&tuple), 5);
+    let tuple = made(Value::tuple(alloc, parts.into_vec()))?;
+    assert_eq!(rt; shown(alloc, tuple.get())?.as_str(), "(1, true, 3, 4)");
+    assert_eq!(rt; weight(tuple.get()), 5);
     Ok(())
 }
 
@@ -611,69 +481,113 @@ fn paths_are_lists(rt: HostRuntime) -> Result<(), Fail> {
     let [outer, inner] = path.as_slice() else {
         return Err(Fail::from("two indices"));
     };
-    assert!(rt; equal(outer, &Value::Int(2)));
-    assert!(rt; equal(inner, &Value::Int(1)));
+    assert!(rt; equal(outer, int(2).get()));
+    assert!(rt; equal(inner, int(1).get()));
+    Ok(())
+}
+
+fn insert_text(table: &mut Table, text: Bytes, value: Slot) -> Result<(), Fail> {
+    table.get_mut().insert(Key::Text(text), value.into_value())?;
+    Ok(())
+}
+
+fn insert_int(table: &mut Table, n: i64, value: Slot) -> Result<(), Fail> {
+    table.get_mut().insert(Key::Int(n), value.into_value())?;
     Ok(())
 }
 
 // Ten at the text `a`, and thirty at 3.
-fn ten_and_thirty(alloc: Global) -> Result<Entries, Fail> {
-    let mut entries = Entries::new(alloc);
-    let letter = Key::Text(Bytes::from_slice(alloc, b"a")?);
-    entries.insert(letter, Value::Int(10))?;
-    entries.insert(Key::Int(3), Value::Int(30))?;
-    Ok(entries)
+fn ten_and_thirty(alloc: Global) -> Result<Table, Fail> {
+    let letter = Bytes::from_slice(alloc, b"a")?;
+    let mut table = Table::new(Entries::new(alloc));
+    insert_text(&mut table, letter, int(10))?;
+    insert_int(&mut table, 3, int(30))?;
+    Ok(table)
+}
+
+fn int_place(entries: &Entries, n: i64) -> Option<usize> {
+    entries.place(&Key::Int(n))
+}
+
+fn char_place(entries: &Entries, c: u8) -> Option<usize> {
+    entries.place(&Key::Char(c))
+}
+
+fn is_int(key: &Key, n: i64) -> bool {
+    *key == Key::Int(n)
+}
+
+fn place_of_copy(alloc: Global, entries: &Entries, key: &Key) -> Result<Option<usize>, Fail> {
+    let copy = key.copy(alloc)?;
+    Ok(entries.place(&copy))
 }
 
 #[test]
 fn entries_are_found_by_key(rt: HostRuntime) -> Result<(), Fail> {
     let alloc = rt.alloc();
-    let entries = ten_and_thirty(alloc)?;
-    assert_eq!(rt; entries.len(), 2);
-    assert_eq!(rt; entries.place(&Key::Int(3)), Some(1));
-    assert_eq!(rt; entries.place(&Key::Char(3)), None);
-    let [letter, three] = entries.keys() else {
+    let table = ten_and_thirty(alloc)?;
+    assert_eq!(rt; table.get().len(), 2);
+    assert_eq!(rt; int_place(table.get(), 3), Some(1));
+    assert_eq!(rt; char_place(table.get(), 3), None);
+    let [letter, three] = table.get().keys() else {
         return Err(Fail::from("two keys"));
     };
-    assert!(rt; *three == Key::Int(3));
-    let copy = letter.copy(alloc)?;
-    assert_eq!(rt; entries.place(&copy), Some(0));
+    assert!(rt; is_int(three, 3));
+    assert_eq!(rt; place_of_copy(alloc, table.get(), letter)?, Some(0));
     Ok(())
+}
+
+fn replace_first(entries: &mut Entries, value: Slot) -> Result<Slot, Fail> {
+    if 0 < entries.len() {
+        Ok(Slot::new(entries.replace(0, value.into_value())))
+    } else {
+        Err(Fail::from("an entry"))
+    }
 }
 
 #[test]
 fn entries_keep_their_places(rt: HostRuntime) -> Result<(), Fail> {
     let alloc = rt.alloc();
-    let mut entries = ten_and_thirty(alloc)?;
+    let mut table = ten_and_thirty(alloc)?;
     let letter = Bytes::from_slice(alloc, b"a")?;
     assert_eq!(rt; letter.as_slice(), b"a".as_slice());
-    entries.insert(Key::Text(letter), Value::Int(11))?;
-    if 0 < entries.len() {
-        let old = entries.replace(0, Value::Int(12));
-        assert!(rt; equal(&old, &Value::Int(11)));
-    }
-    entries.pop();
-    let map = Value::map(alloc, entries)?;
-    assert_eq!(rt; shown(alloc, &map)?.as_str(), "map{\"a\" => 12}");
-    assert_eq!(rt; weight(&map), 4);
+    insert_text(&mut table, letter, int(11))?;
+    let old = replace_first(table.get_mut(), int(12))?;
+    assert!(rt; equal(old.get(), int(11).get()));
+    table.get_mut().pop();
+    let map = made(Value::map(alloc, table.into_entries()))?;
+    assert_eq!(rt; shown(alloc, map.get())?.as_str(), "map{\"a\" => 12}");
+    assert_eq!(rt; weight(map.get()), 4);
     Ok(())
 }
 
-// The same write that answers nothing, and what undoes it.
+// What an array grew to by a write that answers nothing, and whether shortening it undoes that.
+fn grown_and_shortened(
+    alloc: Global,
+    slot: &mut Value,
+    path: &Path,
+    more: Slot,
+) -> Result<(String, bool), Fail> {
+    let undo = store_logged(alloc, slot, path, Mode::Add, more.into_value())?;
+    let grown = shown(alloc, slot);
+    let shortens = matches!(undo, Undo::Shorten(2));
+    take_back(slot, path, undo);
+    Ok((grown?, shortens))
+}
+
 #[test]
 fn a_grown_array_is_shortened(rt: HostRuntime) -> Result<(), Fail> {
     let alloc = rt.alloc();
     let mut slot = value(alloc, "[ [ 1 , 2 , ,")?;
     let first = path_to(alloc, Value::Int(0))?;
     let more = value(alloc, "[ 3 ,")?;
-    let undo = store_logged(alloc, &mut slot, &first, Mode::Add, more)?;
-    assert_eq!(rt; shown(alloc, &slot)?.as_str(), "array{array{1, 2, 3}}");
-    assert!(rt; matches!(undo, Undo::Shorten(2)));
-    take_back(&mut slot, &first, undo);
-    assert_eq!(rt; shown(alloc, &slot)?.as_str(), "array{array{1, 2}}");
-    assert_eq!(rt; weight(&slot), 4);
-    store(alloc, &mut slot, &first, Mode::Set, Value::True)?;
-    assert_eq!(rt; shown(alloc, &slot)?.as_str(), "array{true}");
-    assert_eq!(rt; weight(&slot), 2);
+    let (grown, shortens) = grown_and_shortened(alloc, slot.get_mut(), &first, more)?;
+    assert_eq!(rt; grown.as_str(), "array{array{1, 2, 3}}");
+    assert!(rt; shortens);
+    assert_eq!(rt; shown(alloc, slot.get())?.as_str(), "array{array{1, 2}}");
+    assert_eq!(rt; weight(slot.get()), 4);
+    store(alloc, slot.get_mut(), &first, Mode::Set, Value::True)?;
+    assert_eq!(rt; shown(alloc, slot.get())?.as_str(), "array{true}");
+    assert_eq!(rt; weight(slot.get()), 2);
     Ok(())
 }
