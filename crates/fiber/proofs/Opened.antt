@@ -24,10 +24,12 @@ with_more : (hs : List (Head Value)) (xs ys : List Value) → with_locals ys (wi
 with_more [] xs ys = refl
 with_more (h ∷ hs) xs ys = rw (grouped h.locals xs ys) refl
 
-pub filled_more : (hs gs fs : List (Head Value)) (xs : List Value) (n : ℕ) → gs ≡ with_locals (xs ++ unit_values n) hs → fs ≡ with_locals (value.Unit ∷ []) gs → fs ≡ with_locals (xs ++ unit_values (n + 1)) hs
+pub filled_more : (hs gs fs : List (Head Value)) (xs : List Value) (n : ℕ) → gs ≡ with_locals (xs ++ unit_values n) hs →
+    fs ≡ with_locals (value.Unit ∷ []) gs → fs ≡ with_locals (xs ++ unit_values (n + 1)) hs
 filled_more hs gs fs xs n e f =
     let next : n + 1 ≡ suc n = omega arith in
-    rw next (f ∙ ap (with_locals (value.Unit ∷ [])) e ∙ with_more hs (xs ++ unit_values n) (value.Unit ∷ []) ∙ ap (λ k. with_locals k hs) (grouped xs (unit_values n) (value.Unit ∷ []) ∙ ap (λ k. xs ++ k) (units_end n)))
+    rw next (f ∙ ap (with_locals (value.Unit ∷ [])) e ∙ with_more hs (xs ++ unit_values n) (value.Unit ∷ []) ∙
+    ap (λ k. with_locals k hs) (grouped xs (unit_values n) (value.Unit ∷ []) ∙ ap (λ k. xs ++ k) (units_end n)))
 
 pub same_below : (hs gs : List (Head Value)) (xs : List Value) → gs ≡ with_locals xs hs → below gs ≡ below hs
 same_below [] gs xs e = rw e refl
@@ -41,16 +43,24 @@ unit_vals : (n : ℕ) → vals_of (unit_values n) ≡ units n
 unit_vals zero = refl
 unit_vals (suc n) = ap (λ k. unit ∷ k) (unit_vals n)
 
-pub opened_in : (hs gs : List (Head Value)) (ls zs : List (Level Value)) (fs : List Frame) (p n : ℕ) (xs : List Value) → frames hs ls ≡ fs → gs ≡ with_locals (xs ++ unit_values n) (new_head p ∷ hs) → zs ≡ empty_level ∷ ls → frames gs zs ≡ bare p (vals_of xs ++ units n) ∷ fs
+pub opened_in : (hs gs : List (Head Value)) (ls zs : List (Level Value)) (fs : List Frame) (p n : ℕ) (xs : List Value) → frames hs ls ≡ fs →
+    gs ≡ with_locals (xs ++ unit_values n) (new_head p ∷ hs) → zs ≡ empty_level ∷ ls → frames gs zs ≡ bare p (vals_of xs ++ units n) ∷ fs
 opened_in hs gs ls zs fs p n xs are e f =
-    let locals : vals_of (xs ++ unit_values n) ≡ vals_of xs ++ units n = map-append val_of xs (unit_values n) ∙ ap (λ k. vals_of xs ++ k) (unit_vals n) in
+    let locals : vals_of (xs ++ unit_values n) ≡ vals_of xs ++ units n =
+    map-append val_of xs (unit_values n) ∙ ap (λ k. vals_of xs ++ k) (unit_vals n) in
     rw (← are, e, f, locals) refl
 
-pub opened_high : (hs gs : List (Head Value)) (ls zs : List (Level Value)) (p n : ℕ) (xs : List Value) → length ls ≡ height hs → gs ≡ with_locals (xs ++ unit_values n) (new_head p ∷ hs) → zs ≡ empty_level ∷ ls → (length zs ≡ height gs) × (length gs ≡ suc (length hs))
+pub opened_high : (hs gs : List (Head Value)) (ls zs : List (Level Value)) (p n : ℕ) (xs : List Value) → length ls ≡ height hs →
+    gs ≡ with_locals (xs ++ unit_values n) (new_head p ∷ hs) → zs ≡ empty_level ∷ ls →
+    (length zs ≡ height gs) × (length gs ≡ suc (length hs))
 opened_high hs gs ls zs p n xs high e f = rw (e, f) (omega (arith, high), refl)
 
-pub added_in : (hs gs : List (Head Value)) (ls zs : List (Level Value)) (fs : List Frame) (p : ℕ) (xs os : List Value) (ds : List ℕ) → frames hs ls ≡ fs → gs ≡ with_locals (xs ++ unit_values 0) (new_head p ∷ hs) → zs ≡ full_level os ds ∷ ls → frames gs zs ≡ added p (vals_of xs) (vals_of (reverse os)) (reverse ds) fs
+pub added_in : (hs gs : List (Head Value)) (ls zs : List (Level Value)) (fs : List Frame) (p : ℕ) (xs os : List Value) (ds : List ℕ) →
+    frames hs ls ≡ fs → gs ≡ with_locals (xs ++ unit_values 0) (new_head p ∷ hs) → zs ≡ full_level os ds ∷ ls →
+    frames gs zs ≡ added p (vals_of xs) (vals_of (reverse os)) (reverse ds) fs
 added_in hs gs ls zs fs p xs os ds are e f = rw (← are, e, f, nothing_more xs, nothing_more (reverse ds)) refl
 
-pub added_high : (hs gs : List (Head Value)) (ls zs : List (Level Value)) (p : ℕ) (xs os : List Value) (ds : List ℕ) → length ls ≡ height hs → gs ≡ with_locals (xs ++ unit_values 0) (new_head p ∷ hs) → zs ≡ full_level os ds ∷ ls → (length zs ≡ height gs) × (length gs ≡ suc (length hs))
+pub added_high : (hs gs : List (Head Value)) (ls zs : List (Level Value)) (p : ℕ) (xs os : List Value) (ds : List ℕ) →
+    length ls ≡ height hs → gs ≡ with_locals (xs ++ unit_values 0) (new_head p ∷ hs) → zs ≡ full_level os ds ∷ ls →
+    (length zs ≡ height gs) × (length gs ≡ suc (length hs))
 added_high hs gs ls zs p xs os ds high e f = rw (e, f) (omega (arith, high), refl)

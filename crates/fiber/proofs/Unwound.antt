@@ -17,7 +17,8 @@ pub guarded_some : (fs : List Frame) → is_guarded fs ≡ true → fs ≢ []
 guarded_some [] sure none = true≢false (sym sure)
 guarded_some (f ∷ fs) sure none = absurd (omega (arith, ap length none))
 
-to_none : (hs : List Handler) (f : Frame) (fs : List Frame) (rest : Bool) (under : Option (ℕ × List Frame)) → has_handler hs rest ≡ false → (rest ≡ false → under ≡ None) → unwound_to hs f fs under ≡ None
+to_none : (hs : List Handler) (f : Frame) (fs : List Frame) (rest : Bool) (under : Option (ℕ × List Frame)) → has_handler hs rest ≡ false →
+    (rest ≡ false → under ≡ None) → unwound_to hs f fs under ≡ None
 to_none [] f fs rest under not_so next = next not_so
 to_none (h ∷ hs) f fs rest under not_so next = absurd (true≢false not_so)
 

@@ -1,10 +1,15 @@
 //! The frames of a task, and what the machine does with them.
 
-ghost use Rattle.std.specs.Prelude.{◌≡◌, ◌≢◌, ◌≤◌, ◌<◌, [], ◌∷◌, ◌++◌, true, false, Some, None, OnOk, OnErr, IfOk, IfErr, IfSome, IfNone, length, reverse, slice_get, option_map, ◌-◌};
+ghost use Rattle.std.specs.Prelude.{◌≡◌, ◌≢◌, ◌≤◌, ◌<◌, [], ◌∷◌, ◌++◌, true, false, Some, None};
+ghost use Rattle.std.specs.Prelude.{OnOk, OnErr, IfOk, IfErr, IfSome, IfNone, length, reverse};
+ghost use Rattle.std.specs.Prelude.{slice_get, option_map, ◌-◌};
 ghost use Rattle.verse_value.specs.View.{val_of, vals_of};
 ghost use Rattle.fiber_stacks.specs.Levels.{below};
-ghost use Rattle.fiber.specs.Frames.{Frame, fits, place_of, locals_of, handlers_of, defers_of, noted_of, is_guarded, is_closing, kept_defers};
-ghost use Rattle.fiber.specs.Calls.{units, bare, added, frame_at, entered, pushed, popped, left, gone_to, with_local, guarded, released, unwound, deferred, taken, ended};
+ghost use Rattle.fiber.specs.Frames.{Frame, fits, place_of, locals_of, handlers_of, defers_of};
+ghost use Rattle.fiber.specs.Frames.{noted_of, is_guarded, is_closing, kept_defers};
+ghost use Rattle.fiber.specs.Calls.{units, bare, added, frame_at, entered, pushed, popped, left};
+ghost use Rattle.fiber.specs.Calls.{gone_to, with_local, guarded, released, unwound, deferred};
+ghost use Rattle.fiber.specs.Calls.{taken, ended};
 
 use crate::bounding::all_permit;
 use crate::opening;
@@ -73,7 +78,9 @@ impl Fiber {
         stack: Vec<Value>,
         defers: Vec<u32>,
     ) -> Result<Fiber, Memory>
-        ensures { IfOk result (λ f. f ≡ added place (vals_of locals.items) (vals_of (reverse stack.items)) (reverse defers.items) []) }
+        ensures { IfOk result (λ f. f ≡
+            added place (vals_of locals.items) (vals_of (reverse stack.items))
+            (reverse defers.items) []) }
     {
         let mut fiber = Fiber::empty(alloc);
         fiber.add_frame(place, locals, stack, defers)?;
@@ -107,7 +114,8 @@ impl Fiber {
     /// A frame on top, with locals and so many blank ones behind them.
     fn open(&mut self, place: u32, locals: Vec<Value>, blanks: u32) -> Result<(), Memory>
         requires { length self.old < 4294967295 }
-        ensures ok { OnOk result (self.new ≡ bare place (vals_of locals.items ++ units blanks) ∷ self.old) }
+        ensures ok { OnOk result (self.new ≡
+            bare place (vals_of locals.items ++ units blanks) ∷ self.old) }
         ensures err { OnErr result (self.new ≡ self.old) }
     {
         self.levels.open()?;
@@ -127,7 +135,9 @@ impl Fiber {
         defers: Vec<u32>,
     ) -> Result<(), Memory>
         requires { length self.old < 4294967295 }
-        ensures ok { OnOk result (self.new ≡ added place (vals_of locals.items) (vals_of (reverse stack.items)) (reverse defers.items) self.old) }
+        ensures ok { OnOk result (self.new ≡
+            added place (vals_of locals.items) (vals_of (reverse stack.items))
+            (reverse defers.items) self.old) }
         ensures err { OnErr result (self.new ≡ self.old) }
     {
         self.levels.add(stack, defers)?;
@@ -244,7 +254,8 @@ impl Fiber {
     /// A local; None where there is no such local.
     pub fn local(&self, local: u32) -> Option<&Value>
         requires { self.now ≢ [] }
-        ensures some { IfSome result (λ v. slice_get (locals_of self.now) local ≡ Some (val_of v.now)) }
+        ensures some { IfSome result (λ v. slice_get (locals_of self.now) local ≡
+            Some (val_of v.now)) }
         ensures none { IfNone result (slice_get (locals_of self.now) local ≡ None) }
     {
         self.heads.locals().get(local as usize)
@@ -449,7 +460,8 @@ impl Fiber {
     /// Its locals.
     pub fn frame_locals(&self, i: u32) -> &[Value]
         requires { i < length self.now }
-        ensures { option_map (λ (f : Frame). f.locals) (frame_at i self.now) ≡ Some (vals_of result.now) }
+        ensures { option_map (λ (f : Frame). f.locals) (frame_at i self.now) ≡
+            Some (vals_of result.now) }
     {
         self.heads.locals_at(self.from(i))
     }
@@ -457,7 +469,8 @@ impl Fiber {
     /// Its operands above its innermost handler, the newest last.
     pub fn frame_stack(&self, i: u32) -> &[Value]
         requires { i < length self.now }
-        ensures { option_map (λ (f : Frame). f.stack) (frame_at i self.now) ≡ Some (vals_of (reverse result.now)) }
+        ensures { option_map (λ (f : Frame). f.stack) (frame_at i self.now) ≡
+            Some (vals_of (reverse result.now)) }
     {
         let above = self.heads.height(self.from(i) - 1);
         self.levels.operands_at(above + 1)
@@ -466,7 +479,8 @@ impl Fiber {
     /// Its deferred blocks, the newest last.
     pub fn frame_defers(&self, i: u32) -> &[u32]
         requires { i < length self.now }
-        ensures { option_map (λ (f : Frame). f.defers) (frame_at i self.now) ≡ Some (reverse result.now) }
+        ensures { option_map (λ (f : Frame). f.defers) (frame_at i self.now) ≡
+            Some (reverse result.now) }
     {
         let from = self.from(i);
         let above = self.heads.height(from - 1);

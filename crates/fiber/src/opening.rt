@@ -16,7 +16,8 @@ pub fn open(
     locals: Vec<Value>,
     units: u32,
 ) -> Result<(), Memory>
-    ensures ok { OnOk result (heads.new ≡ with_locals (locals.items ++ unit_values units) (new_head place ∷ heads.old)) }
+    ensures ok { OnOk result (heads.new ≡ with_locals (locals.items ++ unit_values units)
+        (new_head place ∷ heads.old)) }
     ensures err { OnErr result (heads.new ≡ heads.old) }
 {
     heads.open(place)?;
@@ -31,7 +32,8 @@ pub fn open(
 #[tactic(auto, using(crate::proofs::Opened::filled_none, crate::proofs::Opened::filled_more, crate::proofs::Opened::same_below, crate::proofs::Opened::still_some))]
 fn fill(heads: &mut Heads<Value>, locals: Vec<Value>, units: u32) -> Result<(), Memory>
     requires { heads.old ≢ [] }
-    ensures ok { OnOk result (heads.new ≡ with_locals (locals.items ++ unit_values units) heads.old) }
+    ensures ok { OnOk result (heads.new ≡
+        with_locals (locals.items ++ unit_values units) heads.old) }
     ensures beneath { below heads.new ≡ below heads.old }
     ensures some { heads.new ≢ [] }
 {

@@ -1,8 +1,11 @@
 //! The places, locals and bounds of a task's frames.
 
-ghost use Rattle.std.specs.Prelude.{◌≡◌, ◌≢◌, ◌≤◌, ◌<◌, ◌-◌, ◌∷◌, ◌++◌, [], OnOk, OnErr, IfSome, IfNone, Some, length, take, reverse, slice_get, option_map};
+ghost use Rattle.std.specs.Prelude.{◌≡◌, ◌≢◌, ◌≤◌, ◌<◌, ◌-◌, ◌∷◌, ◌++◌, [], OnOk, OnErr, IfSome};
+ghost use Rattle.std.specs.Prelude.{IfNone, Some, length, take, reverse, slice_get, option_map};
 ghost use Rattle.fiber_stacks.specs.Levels.{below};
-ghost use Rattle.fiber_stacks.specs.Heads.{Head, new_head, with_place, with_local, with_locals, with_bounds, place_on, locals_on, bounds_on, any_bounds, height};
+ghost use Rattle.fiber_stacks.specs.Heads.{Head, new_head, with_place, with_local, with_locals};
+ghost use Rattle.fiber_stacks.specs.Heads.{with_bounds, place_on, locals_on, bounds_on, any_bounds};
+ghost use Rattle.fiber_stacks.specs.Heads.{height};
 
 use crate::layers::{Layers, item, keep, last, take_last};
 use crate::levels::open_two;
@@ -165,7 +168,8 @@ impl<T: Drop> Heads<T> {
     pub fn place_at(&self, count: usize) -> u32
         requires some { 0 < count }
         requires few { count ≤ length self.now }
-        ensures { option_map (λ (h : Head T). h.place) (slice_get self.now (count - 1)) ≡ Some result }
+        ensures { option_map (λ (h : Head T). h.place) (slice_get self.now (count - 1)) ≡
+            Some result }
     {
         match item(&self.places, self.places.len() - count) {
             Some(place) => place,
@@ -177,7 +181,8 @@ impl<T: Drop> Heads<T> {
     pub fn locals_at(&self, count: usize) -> &[T]
         requires some { 0 < count }
         requires few { count ≤ length self.now }
-        ensures { option_map (λ (h : Head T). h.locals) (slice_get self.now (count - 1)) ≡ Some result.now }
+        ensures { option_map (λ (h : Head T). h.locals) (slice_get self.now (count - 1)) ≡
+            Some result.now }
     {
         self.locals.span(count - 1, count)
     }

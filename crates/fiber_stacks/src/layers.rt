@@ -1,7 +1,10 @@
 //! Lists one on another, in one list.
 
-ghost use Rattle.std.specs.Prelude.{◌≡◌, ◌≢◌, ◌≤◌, ◌<◌, ◌+◌, ◌-◌, ◌∷◌, ◌++◌, [], ℕ, List, OnOk, OnErr, IfSome, IfNone, length, take, drop, reverse, slice_get, nat_lt, Some, None, vec_capacity};
-ghost use Rattle.fiber_stacks.specs.Layers.{opened, closed, top, joined, grown, with_at, total, flat};
+ghost use Rattle.std.specs.Prelude.{◌≡◌, ◌≢◌, ◌≤◌, ◌<◌, ◌+◌, ◌-◌, ◌∷◌, ◌++◌, [], ℕ, List, OnOk};
+ghost use Rattle.std.specs.Prelude.{OnErr, IfSome, IfNone, length, take, drop, reverse, slice_get};
+ghost use Rattle.std.specs.Prelude.{nat_lt, Some, None, vec_capacity};
+ghost use Rattle.fiber_stacks.specs.Layers.{opened, closed, top, joined, grown, with_at, total};
+ghost use Rattle.fiber_stacks.specs.Layers.{flat};
 
 use std::alloc::Global;
 use std::marker::Model;

@@ -1,8 +1,12 @@
 //! The operands, deferred blocks and noted places of a task's frames.
 
-ghost use Rattle.std.specs.Prelude.{◌≡◌, ◌≢◌, ◌≤◌, ◌<◌, ◌-◌, ◌∷◌, [], OnOk, OnErr, IfSome, IfNone, length, drop, reverse};
+ghost use Rattle.std.specs.Prelude.{◌≡◌, ◌≢◌, ◌≤◌, ◌<◌, ◌-◌, ◌∷◌, [], OnOk, OnErr, IfSome, IfNone};
+ghost use Rattle.std.specs.Prelude.{length, drop, reverse};
 ghost use Rattle.fiber_stacks.specs.Layers.{opened};
-ghost use Rattle.fiber_stacks.specs.Levels.{empty_level, full_level, filled, below, merged, with_operand, with_defer, with_note, Takes, operands_on, defers_on, noted_on, defers_in, noted_in, any_noted};
+ghost use Rattle.fiber_stacks.specs.Levels.{empty_level, full_level, filled, below, merged};
+ghost use Rattle.fiber_stacks.specs.Levels.{with_operand, with_defer, with_note, Takes};
+ghost use Rattle.fiber_stacks.specs.Levels.{operands_on, defers_on, noted_on, defers_in, noted_in};
+ghost use Rattle.fiber_stacks.specs.Levels.{any_noted};
 
 use crate::layers::Layers;
 use std::alloc::Global;

@@ -1,10 +1,12 @@
 -- What an edit of pairs in order changes.
-use Rattle.std.proofs.Common.{◌≡◌, ℕ, zero, suc, eqb, ◌<◌, ◌≤◌, ◌+◌, ◌-◌, ◌⊎◌, inl, inr, Bool, true, false, ◌&&◌, ◌||◌, List, [], ◌∷◌, length, refl, sym, ap, subst, ◌∙◌, arith}
+use Rattle.std.proofs.Common.{◌≡◌, ℕ, zero, suc, eqb, ◌<◌, ◌≤◌, ◌+◌, ◌-◌, ◌⊎◌, inl, inr, Bool, true, false, ◌&&◌, ◌||◌, List, [], ◌∷◌}
+use Rattle.std.proofs.Common.{length, refl, sym, ap, subst, ◌∙◌, arith}
 use Rattle.std.specs.List.{insert, remove}
 use Rattle.std.proofs.lemmas.Bool.{cases_lt}
 use mathlib.Core.Bool.{false≢true}
 use Rattle.std.proofs.lemmas.Bool.Decides.{nat_tests}
-use Rattle.std.proofs.lemmas.List.Edits.{length-insert, get_or-insert_below, get_or-insert_at, get_or-insert_above, length-remove, get_or-remove_below, get_or-remove_above}
+use Rattle.std.proofs.lemmas.List.Edits.{length-insert, get_or-insert_below, get_or-insert_at, get_or-insert_above, length-remove}
+use Rattle.std.proofs.lemmas.List.Edits.{get_or-remove_below, get_or-remove_above}
 use Rattle.sim_clock.specs.Marked.{comes_first, Marks, IsLeast}
 use Rattle.sim_clock.specs.Queued.{has_in, pair_at, InOrder, IsPlace, IsGap}
 
@@ -15,7 +17,8 @@ has_insert : (ps : List (ℕ × ℕ)) (i : ℕ) (p : ℕ × ℕ) (x m : ℕ) →
 has_insert [] zero p x m = refl
 has_insert [] (suc i) p x m = refl
 has_insert (q ∷ ps) zero p x m = refl
-has_insert (q ∷ ps) (suc i) p x m = ap (λ b. is_pair q x m || b) (has_insert ps i p x m) ∙ swapped (is_pair q x m) (is_pair p x m) (has_in ps x m)
+has_insert (q ∷ ps) (suc i) p x m = ap (λ b. is_pair q x m || b) (has_insert ps i p x m) ∙
+    swapped (is_pair q x m) (is_pair p x m) (has_in ps x m)
   where
     swapped : (a b c : Bool) → (a || (b || c)) ≡ (b || (a || c))
     swapped true true c = refl
@@ -32,7 +35,8 @@ has_remove (q ∷ ps) (suc i) x m other = ap (λ b. is_pair q x m || b) (has_rem
 has_place : (ps : List (ℕ × ℕ)) (i x m : ℕ) → i < length ps → is_pair (pair_at ps i) x m ≡ true → has_in ps x m ≡ true
 has_place [] i x m within same = absurd (omega (arith, within))
 has_place (q ∷ ps) zero x m within same = ap (λ b. b || has_in ps x m) same
-has_place (q ∷ ps) (suc i) x m within same = ap (λ b. is_pair q x m || b) (has_place ps i x m (omega (arith, within)) same) ∙ always (is_pair q x m)
+has_place (q ∷ ps) (suc i) x m within same = ap (λ b. is_pair q x m || b) (has_place ps i x m (omega (arith, within)) same) ∙
+    always (is_pair q x m)
   where
     always : (a : Bool) → (a || true) ≡ true
     always true = refl
@@ -63,7 +67,8 @@ module _ (ps : List (ℕ × ℕ)) (a n i : ℕ) (gap : IsGap ps a n i) where
 
 module _ (ps : List (ℕ × ℕ)) (a n i : ℕ) (place : IsPlace ps a n i) where
   pub marked : Marks (has_in ps) (has_in ps) a n true
-  marked x m = let there = has_place ps i a n place.within (grind (arith, nat_tests, place.first, place.second)) in grind (arith, nat_tests, there)
+  marked x m = let there = has_place ps i a n place.within (grind (arith, nat_tests, place.first, place.second)) in
+      grind (arith, nat_tests, there)
 
 first_after : (a n b m c k : ℕ) → comes_first a n b m ≡ true → comes_first b m c k ≡ true → comes_first a n c k ≡ true
 first_after a n b m c k h g = grind (arith, nat_tests)
@@ -78,7 +83,9 @@ module _ (ps : List (ℕ × ℕ)) (order : InOrder ps) (a n i : ℕ) (gap : IsGa
       let all = length-insert ps i (a, n) gap.within in
       let below : (l : ℕ) → l < i → pair_at qs l ≡ pair_at ps l = λ l h. get_or-insert_below ps i (a, n) (0, 0) l h gap.within in
       let here : (l : ℕ) → l ≡ i → pair_at qs l ≡ (a, n) = λ l h. rw h (get_or-insert_at ps i (a, n) (0, 0) gap.within) in
-      let above : (l : ℕ) → i < l → pair_at qs l ≡ pair_at ps (l - 1) = λ l h. subst (λ q. pair_at qs q ≡ pair_at ps (l - 1)) {x = l - 1 + 1} (omega arith) (get_or-insert_above ps i (a, n) (0, 0) (l - 1) (omega arith) gap.within) in
+      let above : (l : ℕ) → i < l → pair_at qs l ≡ pair_at ps (l - 1) =
+      λ l h. subst (λ q. pair_at qs q ≡ pair_at ps (l - 1)) {x = l - 1 + 1} (omega arith)
+      (get_or-insert_above ps i (a, n) (0, 0) (l - 1) (omega arith) gap.within) in
       elim (cases_lt k i) [
         | inl k_below ↦ rw (below j (omega arith), below k k_below) (order j k lt (omega arith))
         | inr k_from ↦ elim (cases_lt j i) [

@@ -1,6 +1,7 @@
 -- Which of several waits is due first.
 use native.Mathlib.Numerals.{unary_clauses}
-use Rattle.std.proofs.Common.{◌≡◌, ℕ, zero, suc, ◌+◌, ◌<◌, ◌⊎◌, inl, inr, Bool, true, false, IsTrue, if◌then◌else◌, List, [], ◌∷◌, drop, length, get_or, slice_get, Option, Some, None, refl, sym, ◌∙◌, ap, arith}
+use Rattle.std.proofs.Common.{◌≡◌, ℕ, zero, suc, ◌+◌, ◌<◌, ◌⊎◌, inl, inr, Bool, true, false, IsTrue, if◌then◌else◌, List, [], ◌∷◌, drop}
+use Rattle.std.proofs.Common.{length, get_or, slice_get, Option, Some, None, refl, sym, ◌∙◌, ap, arith}
 use Rattle.std.proofs.Math.Seq.{drop-cons}
 use Rattle.std.proofs.lemmas.Bool.Decides.{nat_tests}
 use Rattle.std.proofs.lemmas.Option.{none-some, same_Some}
@@ -22,7 +23,8 @@ earlier_assoc (Some d) (Some e) (Some f) = grind (arith, nat_tests)
 pub first_due_step : (ps : List Pending) (i : ℕ) (d : Pending) (found : Option Due) → i < length ps →
     earlier (earlier found (due_of (get_or ps i d))) (first_due (drop (i + 1) ps)) ≡ earlier found (first_due (drop i ps))
 first_due_step ps i d found lt =
-    simp unary_clauses (earlier_assoc found (due_of (get_or ps i d)) (first_due (drop (suc i) ps)) ∙ ap (λ qs. earlier found (first_due qs)) (sym (drop-cons ps i d lt)))
+    simp unary_clauses (earlier_assoc found (due_of (get_or ps i d)) (first_due (drop (suc i) ps)) ∙
+    ap (λ qs. earlier found (first_due qs)) (sym (drop-cons ps i d lt)))
 
 -- the one that comes before all others
 
@@ -48,7 +50,8 @@ takes_right d (Some e) (inr same) = either (comes_before d e)
     either true = refl
     either false = ap Some same
 
-all_after : (d : Due) (ps : List Pending) → ((i : ℕ) (p : Pending) → slice_get ps i ≡ Some p → ComesAfter d (due_of p)) → ComesAfter d (first_due ps)
+all_after : (d : Due) (ps : List Pending) → ((i : ℕ) (p : Pending) → slice_get ps i ≡ Some p → ComesAfter d (due_of p)) →
+    ComesAfter d (first_due ps)
 all_after d [] after = tt
 all_after d (p ∷ ps) after = of_both (due_of p) (first_due ps) (after 0 p refl) (all_after d ps (λ i q h. after (suc i) q h))
   where
@@ -61,10 +64,12 @@ all_after d (p ∷ ps) after = of_both (due_of p) (first_due ps) (after 0 p refl
     of_both (Some e) None left right = left
     of_both (Some e) (Some f) left right = of_one (comes_before f e) e f left right
 
-pub first_due_is : (ps : List Pending) (k : ℕ) (p : Pending) (d : Due) → slice_get ps k ≡ Some p → due_of p ≡ Some d → ((i : ℕ) (q : Pending) → slice_get ps i ≡ Some q → ComesAfter d (due_of q)) → first_due ps ≡ Some d
+pub first_due_is : (ps : List Pending) (k : ℕ) (p : Pending) (d : Due) → slice_get ps k ≡ Some p → due_of p ≡ Some d →
+    ((i : ℕ) (q : Pending) → slice_get ps i ≡ Some q → ComesAfter d (due_of q)) → first_due ps ≡ Some d
 first_due_is [] k p d there due after = absurd (none-some p there)
 first_due_is (q ∷ ps) zero p d there due after =
-    ap (λ o. earlier o (first_due ps)) (ap due_of (same_Some q p there) ∙ due) ∙ keeps_left d (first_due ps) (all_after d ps (λ i r h. after (suc i) r h))
+    ap (λ o. earlier o (first_due ps)) (ap due_of (same_Some q p there) ∙ due) ∙
+    keeps_left d (first_due ps) (all_after d ps (λ i r h. after (suc i) r h))
 first_due_is (q ∷ ps) (suc k) p d there due after =
     ap (earlier (due_of q)) (first_due_is ps k p d there due (λ i r h. after (suc i) r h)) ∙ takes_right d (due_of q) (after 0 q refl)
 

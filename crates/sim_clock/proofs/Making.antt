@@ -9,7 +9,8 @@ after_push : (cs : List Call) (c : Call) (ps : List Pending) → after_all (cs +
 after_push [] c ps = refl
 after_push (x ∷ cs) c ps = after_push cs c (after x ps)
 
-module _ (cs : List Call) (i : ℕ) (d : Call) (within : i < length cs) (now new : List Pending) (goes : new ≡ after (get_or cs i d) now) where
+module _ (cs : List Call) (i : ℕ) (d : Call) (within : i < length cs) (now new : List Pending)
+    (goes : new ≡ after (get_or cs i d) now) where
   pub allowed_next : AllAllowed (drop i cs) now → AllAllowed (drop (i + 1) cs) new
   allowed_next all =
       let P : List Call → Type 0 = λ l. AllAllowed l now in
@@ -22,4 +23,5 @@ module _ (cs : List Call) (i : ℕ) (d : Call) (within : i < length cs) (now new
 
   pub made_next : (first : List Pending) → now ≡ after_all (take i cs) first → new ≡ after_all (take (i + 1) cs) first
   made_next first made =
-      goes ∙ ap (after (get_or cs i d)) made ∙ sym (after_push (take i cs) (get_or cs i d) first) ∙ sym (ap (λ (l : List Call). after_all l first) (take_more cs i d within))
+      goes ∙ ap (after (get_or cs i d)) made ∙ sym (after_push (take i cs) (get_or cs i d) first) ∙
+      sym (ap (λ (l : List Call). after_all l first) (take_more cs i d within))

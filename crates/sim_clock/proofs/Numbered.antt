@@ -1,5 +1,6 @@
 -- Waits kept under their numbers, as a list and by look-ups.
-use Rattle.std.proofs.Common.{◌≡◌, ℕ, eqb, ◌<◌, ◌⊎◌, inl, inr, Bool, true, false, cond, if◌then◌else◌, List, [], ◌∷◌, ◌++◌, Some, None, refl, sym, ap, subst, ◌∙◌, arith}
+use Rattle.std.proofs.Common.{◌≡◌, ℕ, eqb, ◌<◌, ◌⊎◌, inl, inr, Bool, true, false, cond, if◌then◌else◌, List, [], ◌∷◌, ◌++◌, Some, None}
+use Rattle.std.proofs.Common.{refl, sym, ap, subst, ◌∙◌, arith}
 use mathlib.Core.Bool.{false≢true}
 use Rattle.std.specs.Cmp.{nat_cmp_is}
 use Rattle.std.specs.Ordering.{nat_cmp, is_eq}
@@ -18,7 +19,8 @@ number_above : (n k : ℕ) → k < n → nat_cmp n k ≡ Greater
 number_above n k h = sym (nat_cmp_is n k Greater h)
 
 -- the greatest number comes last
-pub entries_pushed : (es : List (ℕ × Pending)) (n : ℕ) (p : Pending) → AllKept es → IsAboveAll n (values_of es) → insert_entry nat_cmp es n p ≡ es ++ (n, p) ∷ []
+pub entries_pushed : (es : List (ℕ × Pending)) (n : ℕ) (p : Pending) → AllKept es → IsAboveAll n (values_of es) →
+    insert_entry nat_cmp es n p ≡ es ++ (n, p) ∷ []
 entries_pushed [] n p kept above = refl
 entries_pushed (e ∷ es) n p kept above =
     let below : e.0 < n = omega (arith, kept.0, above.0) in
@@ -31,7 +33,8 @@ absent_above (e ∷ es) n kept above =
     let below : e.0 < n = omega (arith, kept.0, above.0) in
     rw (number_above n e.0 below) (absent_above es n kept.2 above.1)
 
-pub kept_pushed : (es : List (ℕ × Pending)) (n : ℕ) (p : Pending) → AllKept es → p.wait.number ≡ n → IsGiven p.wait.kind p.wake → AllKept (es ++ (n, p) ∷ [])
+pub kept_pushed : (es : List (ℕ × Pending)) (n : ℕ) (p : Pending) → AllKept es → p.wait.number ≡ n → IsGiven p.wait.kind p.wake →
+    AllKept (es ++ (n, p) ∷ [])
 kept_pushed [] n p kept number given = (number, given, tt)
 kept_pushed (e ∷ es) n p kept number given = (kept.0, kept.1, kept_pushed es n p kept.2 number given)
 
@@ -39,12 +42,14 @@ pub values_pushed : (es : List (ℕ × Pending)) (n : ℕ) (p : Pending) → val
 values_pushed [] n p = refl
 values_pushed (e ∷ es) n p = ap (λ ps. e.1 ∷ ps) (values_pushed es n p)
 
-pub values_removed : (es : List (ℕ × Pending)) (n : ℕ) → AllKept es → values_of (remove_entry (is_at (nat_cmp n)) es) ≡ removed n (values_of es)
+pub values_removed : (es : List (ℕ × Pending)) (n : ℕ) → AllKept es →
+    values_of (remove_entry (is_at (nat_cmp n)) es) ≡ removed n (values_of es)
 values_removed [] n kept = refl
 values_removed (e ∷ es) n kept =
     either (is_eq (nat_cmp n e.0)) (eqb e.1.wait.number n) (number_tied n e.0 ∙ ap (λ k. eqb k n) (sym kept.0)) (values_removed es n kept.2)
   where
-    either : (b c : Bool) → b ≡ c → values_of (remove_entry (is_at (nat_cmp n)) es) ≡ removed n (values_of es) → values_of (cond b es (e ∷ remove_entry (is_at (nat_cmp n)) es)) ≡ (if c then values_of es else e.1 ∷ removed n (values_of es))
+    either : (b c : Bool) → b ≡ c → values_of (remove_entry (is_at (nat_cmp n)) es) ≡ removed n (values_of es) →
+        values_of (cond b es (e ∷ remove_entry (is_at (nat_cmp n)) es)) ≡ (if c then values_of es else e.1 ∷ removed n (values_of es))
     either true true same rest = refl
     either false false same rest = ap (λ ps. e.1 ∷ ps) rest
     either true false same rest = absurd (false≢true (sym same))
@@ -63,7 +68,8 @@ cases_of true = inl refl
 cases_of false = inr refl
 
 -- a wait that is found is kept
-pub kept_found : (es : List (ℕ × Pending)) (test : ℕ → Bool) (p : Pending) → AllKept es → lookup test es ≡ Some p → (test p.wait.number ≡ true) × IsGiven p.wait.kind p.wake
+pub kept_found : (es : List (ℕ × Pending)) (test : ℕ → Bool) (p : Pending) → AllKept es → lookup test es ≡ Some p →
+    (test p.wait.number ≡ true) × IsGiven p.wait.kind p.wake
 kept_found [] test p kept found = absurd (none-some p found)
 kept_found (e ∷ es) test p kept found = elim (cases_of (test e.0)) [
   | inl here ↦

@@ -17,7 +17,8 @@ rank a n b m = if comes_first a n b m then 0 else if comes_first b m a n then 2 
 pub ranks : (a n b m : ℕ) → ordering_index (pair_cmp (a, n) (b, m)) ≡ rank a n b m
 ranks a n b m = by_ranked _ _ _ (nat_cmp a b) (ranked a b _ refl)
     (λ o h. rw o (grind (arith, nat_tests)))
-    (λ o h. rw o (by_ranked _ _ _ (nat_cmp n m) (ranked n m _ refl) (λ q k. rw q (grind (arith, nat_tests))) (λ q k. rw q (grind (arith, nat_tests))) (λ q k. rw q (grind (arith, nat_tests)))))
+    (λ o h. rw o (by_ranked _ _ _ (nat_cmp n m) (ranked n m _ refl) (λ q k. rw q (grind (arith, nat_tests)))
+    (λ q k. rw q (grind (arith, nat_tests))) (λ q k. rw q (grind (arith, nat_tests)))))
     (λ o h. rw o (grind (arith, nat_tests)))
 
 -- pairs in order rise against any pair
@@ -33,12 +34,14 @@ greater_first a n b m h = let e : 2 ≡ rank a n b m = sym (ap ordering_index h)
 module _ (ps : List (ℕ × ℕ)) (order : InOrder ps) (a n : ℕ) where
   ranks_rise : IsNonDecreasingBy (λ y. ordering_index (pair_cmp y (a, n))) ps
   ranks_rise = IsNonDecreasingBy-from_default (λ y. ordering_index (pair_cmp y (a, n))) ps (0, 0) (λ i j le within. elim (cases_lt i j) [
-    | inl lt ↦ rw (ranks (pair_at ps i).0 (pair_at ps i).1 a n, ranks (pair_at ps j).0 (pair_at ps j).1 a n) (rises _ _ _ _ a n (order i j lt within))
+    | inl lt ↦ rw (ranks (pair_at ps i).0 (pair_at ps i).1 a n, ranks (pair_at ps j).0 (pair_at ps j).1 a n)
+        (rises _ _ _ _ a n (order i j lt within))
     | inr ge ↦ let same : i ≡ j = omega arith in rw same (omega arith)
   ])
 
   -- where the search finds nothing, the pair would stand at its answer
-  pub gap_from_search : (r : Result ℕ ℕ) → IsSearchInRange r (length ps) → IsBinarySearchResult (λ y. pair_cmp y (a, n)) ps r → IfErr r (IsGap ps a n)
+  pub gap_from_search : (r : Result ℕ ℕ) → IsSearchInRange r (length ps) → IsBinarySearchResult (λ y. pair_cmp y (a, n)) ps r →
+      IfErr r (IsGap ps a n)
   gap_from_search (Ok i) within result = tt
   gap_from_search (Err i) within parted = record {
     within = within;

@@ -1,5 +1,6 @@
 -- The index tells where each wait stands, also after one enters, leaves or moves.
-use Rattle.std.proofs.Common.{◌≡◌, ℕ, eqb, ◌⊎◌, inl, inr, Bool, true, false, ◌&&◌, cond, if◌then◌else◌, Option, Some, None, refl, ap, ◌∙◌, arith}
+use Rattle.std.proofs.Common.{◌≡◌, ℕ, eqb, ◌⊎◌, inl, inr, Bool, true, false, ◌&&◌, cond, if◌then◌else◌, Option, Some, None, refl, ap, ◌∙◌}
+use Rattle.std.proofs.Common.{arith}
 use mathlib.Core.Bool.{false≢true}
 use Rattle.std.proofs.lemmas.Bool.Decides.{nat_tests}
 use Rattle.sim_clock.specs.declared.waits.Pending.{Pending}
@@ -40,9 +41,11 @@ module _ (h g : Where → ℕ → Bool) (old new : ℕ → Option Pending) (n : 
   here : (there : Option Pending) → Changed old new n there → (m : ℕ) → eqb m n ≡ true → new m ≡ there
   here there changed m same = changed m ∙ ap (λ b. cond b there (old m)) (number_tied n m ∙ same)
 
-  pub entering : (p : Pending) → old n ≡ None → Changed old new n (Some p) → Stands h g (where_of p) n true → (w : Where) (m : ℕ) → g w m ≡ stands_at (new m) w
+  pub entering : (p : Pending) → old n ≡ None → Changed old new n (Some p) → Stands h g (where_of p) n true → (w : Where) (m : ℕ) →
+      g w m ≡ stands_at (new m) w
   entering p absent changed stands w m = elim (number_cases m n) [
-    | inl same ↦ rw (stands w m, here (Some p) changed m same.1, same.1) (either (same_place w (where_of p)) (placed w m ∙ ap (λ o. stands_at o w) (ap old same.0 ∙ absent)))
+    | inl same ↦ rw (stands w m, here (Some p) changed m same.1, same.1)
+        (either (same_place w (where_of p)) (placed w m ∙ ap (λ o. stands_at o w) (ap old same.0 ∙ absent)))
     | inr other ↦ rw (stands w m, apart (Some p) changed m other, other) (neither (same_place w (where_of p)) (placed w m))
   ]
     where
@@ -54,9 +57,11 @@ module _ (h g : Where → ℕ → Bool) (old new : ℕ → Option Pending) (n : 
       neither true e = e
       neither false e = e
 
-  pub leaving : (p : Pending) → old n ≡ Some p → Changed old new n None → Stands h g (where_of p) n false → (w : Where) (m : ℕ) → g w m ≡ stands_at (new m) w
+  pub leaving : (p : Pending) → old n ≡ Some p → Changed old new n None → Stands h g (where_of p) n false → (w : Where) (m : ℕ) →
+      g w m ≡ stands_at (new m) w
   leaving p found changed stands w m = elim (number_cases m n) [
-    | inl same ↦ rw (stands w m, here None changed m same.1, same.1) (either (same_place w (where_of p)) (placed w m ∙ ap (λ o. stands_at o w) (ap old same.0 ∙ found)))
+    | inl same ↦ rw (stands w m, here None changed m same.1, same.1)
+        (either (same_place w (where_of p)) (placed w m ∙ ap (λ o. stands_at o w) (ap old same.0 ∙ found)))
     | inr other ↦ rw (stands w m, apart None changed m other, other) (neither (same_place w (where_of p)) (placed w m))
   ]
     where
@@ -68,12 +73,16 @@ module _ (h g : Where → ℕ → Bool) (old new : ℕ → Option Pending) (n : 
       neither true e = e
       neither false e = e
 
-  pub moving : (place : Where) (at : ℕ) (p : Pending) → where_of p ≡ Woken at → ((w : Where) → stands_at (old n) w ≡ same_place w place) → Changed old new n (Some p) →
-      ((w : Where) (m : ℕ) → g w m ≡ (if same_place w (Woken at) && eqb m n then true else if same_place w place && eqb m n then false else h w m)) →
+  pub moving : (place : Where) (at : ℕ) (p : Pending) → where_of p ≡ Woken at → ((w : Where) → stands_at (old n) w ≡ same_place w place) →
+      Changed old new n (Some p) →
+      ((w : Where) (m : ℕ) → g w m ≡ (if same_place w (Woken at) && eqb m n then true else if same_place w place && eqb m n then false else
+      h w m)) →
       (w : Where) (m : ℕ) → g w m ≡ stands_at (new m) w
   moving place at p there was changed moved w m = elim (number_cases m n) [
-    | inl same ↦ rw (moved w m, here (Some p) changed m same.1, same.1, there) (either (same_place w (Woken at)) (same_place w place) (placed w m ∙ ap (λ o. stands_at o w) (ap old same.0) ∙ was w))
-    | inr other ↦ rw (moved w m, apart (Some p) changed m other, other) (neither (same_place w (Woken at)) (same_place w place) (placed w m))
+    | inl same ↦ rw (moved w m, here (Some p) changed m same.1, same.1, there)
+        (either (same_place w (Woken at)) (same_place w place) (placed w m ∙ ap (λ o. stands_at o w) (ap old same.0) ∙ was w))
+    | inr other ↦ rw (moved w m, apart (Some p) changed m other, other)
+        (neither (same_place w (Woken at)) (same_place w place) (placed w m))
   ]
     where
       either : (b c : Bool) → h w m ≡ c → (if b && true then true else if c && true then false else h w m) ≡ b
@@ -81,7 +90,8 @@ module _ (h g : Where → ℕ → Bool) (old new : ℕ → Option Pending) (n : 
       either false true e = refl
       either false false e = e
 
-      neither : (b c : Bool) → h w m ≡ stands_at (old m) w → (if b && false then true else if c && false then false else h w m) ≡ stands_at (old m) w
+      neither : (b c : Bool) → h w m ≡ stands_at (old m) w → (if b && false then true else if c && false then false else h w m) ≡
+          stands_at (old m) w
       neither true true e = e
       neither true false e = e
       neither false true e = e

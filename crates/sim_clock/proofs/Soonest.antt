@@ -1,5 +1,6 @@
 -- The least moment of an index is that of the wait that is due first.
-use Rattle.std.proofs.Common.{◌≡◌, ℕ, zero, suc, eqb, inl, inr, Bool, true, false, ◌||◌, List, [], ◌∷◌, slice_get, Option, Some, None, refl, sym, ◌∙◌, ap, arith}
+use Rattle.std.proofs.Common.{◌≡◌, ℕ, zero, suc, eqb, inl, inr, Bool, true, false, ◌||◌, List, [], ◌∷◌, slice_get, Option, Some, None, refl}
+use Rattle.std.proofs.Common.{sym, ◌∙◌, ap, arith}
 use mathlib.Core.Bool.{false≢true}
 use Rattle.std.specs.Ordering.{nat_cmp}
 use Rattle.std.specs.BTreeMap.{BTreeMap, is_at, values}
@@ -31,14 +32,18 @@ abbrev stands_with : WaitKind → Option Wake → ℕ → Bool
 stands_with kind o at = same_place (Timed at) (place_of kind o) || same_place (Woken at) (place_of kind o)
 
 has_its_moment : (kind : WaitKind) (o : Option Wake) (wake : Wake) → IsGiven kind o → o ≡ Some wake → stands_with kind o wake.at ≡ true
-has_its_moment (At t) o wake given is = let same : t ≡ wake.at = ap (λ (w : Wake). w.at) (same_Some _ wake (sym given ∙ is)) in grind (arith, nat_tests)
+has_its_moment (At t) o wake given is = let same : t ≡ wake.at = ap (λ (w : Wake). w.at) (same_Some _ wake (sym given ∙ is)) in
+    grind (arith, nat_tests)
 has_its_moment Never o wake given is = absurd (none-some wake (sym given ∙ is))
 has_its_moment (Task t) None wake given is = absurd (none-some wake is)
-has_its_moment (Task t) (Some v) wake given is = let same : v.at ≡ wake.at = ap (λ (w : Wake). w.at) (same_Some v wake is) in grind (arith, nat_tests)
+has_its_moment (Task t) (Some v) wake given is = let same : v.at ≡ wake.at = ap (λ (w : Wake). w.at) (same_Some v wake is) in
+    grind (arith, nat_tests)
 has_its_moment (Event c) None wake given is = absurd (none-some wake is)
-has_its_moment (Event c) (Some v) wake given is = let same : v.at ≡ wake.at = ap (λ (w : Wake). w.at) (same_Some v wake is) in grind (arith, nat_tests)
+has_its_moment (Event c) (Some v) wake given is = let same : v.at ≡ wake.at = ap (λ (w : Wake). w.at) (same_Some v wake is) in
+    grind (arith, nat_tests)
 
-its_moment : (kind : WaitKind) (o : Option Wake) (at : ℕ) → IsGiven kind o → stands_with kind o at ≡ true → (wake : Wake) × (o ≡ Some wake) × (wake.at ≡ at)
+its_moment : (kind : WaitKind) (o : Option Wake) (at : ℕ) → IsGiven kind o → stands_with kind o at ≡ true →
+    (wake : Wake) × (o ≡ Some wake) × (wake.at ≡ at)
 its_moment (At t) o at given stands = (record { at = t; cause = 0 }, given, grind (arith, nat_tests))
 its_moment Never o at given stands = absurd (false≢true stands)
 its_moment (Task t) None at given stands = absurd (false≢true stands)
@@ -48,7 +53,8 @@ its_moment (Event c) (Some v) at given stands = (v, refl, grind (arith, nat_test
 
 -- the waits as a list
 
-value_entry : (es : List (ℕ × Pending)) (i : ℕ) (p : Pending) → slice_get (values_of es) i ≡ Some p → (k : ℕ) × (slice_get es i ≡ Some (k, p))
+value_entry : (es : List (ℕ × Pending)) (i : ℕ) (p : Pending) → slice_get (values_of es) i ≡ Some p →
+    (k : ℕ) × (slice_get es i ≡ Some (k, p))
 value_entry [] i p there = absurd (none-some p there)
 value_entry (e ∷ es) zero p there = (e.0, ap (λ q. Some (e.0, q)) (same_Some e.1 p there))
 value_entry (e ∷ es) (suc i) p there = value_entry es i p there
@@ -62,7 +68,8 @@ module _ (m : BTreeMap ℕ Pending) (i : Index) (indexed : IsIndexed m i) where
   -- a wait that is found has its number, and the index tells its moment
   number_is : (n : ℕ) (p : Pending) → at_number m n ≡ Some p → p.wait.number ≡ n
   number_is n p found =
-      let tied : eqb p.wait.number n ≡ true = sym (number_tied n p.wait.number) ∙ (kept_found m.entries (is_at (nat_cmp n)) p indexed.kept found).0 in
+      let tied : eqb p.wait.number n ≡ true = sym (number_tied n p.wait.number) ∙
+      (kept_found m.entries (is_at (nat_cmp n)) p indexed.kept found).0 in
       grind (arith, nat_tests)
 
   given_is : (n : ℕ) (p : Pending) → at_number m n ≡ Some p → IsGiven p.wait.kind p.wake
@@ -82,7 +89,8 @@ module _ (m : BTreeMap ℕ Pending) (i : Index) (indexed : IsIndexed m i) where
   pub none_is_due : ((at n : ℕ) → has_moment (holds i) at n ≡ false) → first_due (values m) ≡ None
   none_is_due none = none_due (values m) (λ k p there.
       let found = in_list k p there in
-      no_wake p.wake (λ wake is. false≢true (sym (none wake.at p.wait.number) ∙ moment_is wake.at p.wait.number p found ∙ has_its_moment p.wait.kind p.wake wake (given_is p.wait.number p found) is)) p.wait)
+      no_wake p.wake (λ wake is. false≢true (sym (none wake.at p.wait.number) ∙ moment_is wake.at p.wait.number p found ∙
+      has_its_moment p.wait.kind p.wake wake (given_is p.wait.number p found) is)) p.wait)
     where
       no_wake : (o : Option Wake) → ((wake : Wake) → o ≡ Some wake → ⊥) → (w : Wait) → due_from w o ≡ None
       no_wake None none w = refl
@@ -106,7 +114,8 @@ module _ (m : BTreeMap ℕ Pending) (i : Index) (indexed : IsIndexed m i) where
     its_due = ap (due_from p.wait) the_wake.1
 
     -- another that is due comes after it
-    other_after : (q : Pending) → at_number m q.wait.number ≡ Some q → (o : Option Wake) → q.wake ≡ o → ComesAfter the_due (due_from q.wait o)
+    other_after : (q : Pending) → at_number m q.wait.number ≡ Some q → (o : Option Wake) → q.wake ≡ o →
+        ComesAfter the_due (due_from q.wait o)
     unfolding the_due
     other_after q other None is = tt
     other_after q other (Some wake) is =
@@ -118,11 +127,13 @@ module _ (m : BTreeMap ℕ Pending) (i : Index) (indexed : IsIndexed m i) where
           | inr tied ↦
               let same : q.wait.number ≡ n = grind (arith, nat_tests, not_before, tied) in
               let one : q ≡ p = same_Some q p (sym other ∙ ap (at_number m) same ∙ found) in
-              let due : Some (record { at = wake.at; number = q.wait.number; task = q.wait.task; cause = wake.cause }) ≡ Some the_due = sym (ap (due_from q.wait) is) ∙ ap due_of one ∙ its_due in
+              let due : Some (record { at = wake.at; number = q.wait.number; task = q.wait.task; cause = wake.cause }) ≡ Some the_due =
+              sym (ap (due_from q.wait) is) ∙ ap due_of one ∙ its_due in
               inr (same_Some _ _ due)
         ]
 
     pub least_is_first : due_of p ≡ first_due (values m)
     least_is_first =
         let place = place_from_lookup (is_at (nat_cmp n)) m.entries p found in
-        its_due ∙ sym (first_due_is (values m) place.0 p the_due (entry_value m.entries place.0 place.1 p place.2) its_due (λ k q there. other_after q (in_list k q there) q.wake refl))
+        its_due ∙ sym (first_due_is (values m) place.0 p the_due (entry_value m.entries place.0 place.1 p place.2) its_due
+        (λ k q there. other_after q (in_list k q there) q.wake refl))

@@ -7,4 +7,5 @@ pub mapped_more : {X : Type 0} (f : X → X) (xs : List X) (i : ℕ) (d : X) →
     set (map f (take i xs) ++ drop i xs) i (f (get_or (map f (take i xs) ++ drop i xs) i d)) ≡ map f (take (i + 1) xs) ++ drop (i + 1) xs
 mapped_more f [] i d lt = absurd (omega arith)
 mapped_more f (x ∷ xs) zero d lt = refl
-mapped_more f (x ∷ xs) (suc i) d lt = let more = simp unary_clauses at (mapped_more f xs i d (omega arith)) in simp unary_clauses (ap (λ ys. f x ∷ ys) more)
+mapped_more f (x ∷ xs) (suc i) d lt = let more = simp unary_clauses at (mapped_more f xs i d (omega arith)) in
+    simp unary_clauses (ap (λ ys. f x ∷ ys) more)

@@ -1,6 +1,7 @@
 //! The numbers of waits by the places where they stand.
 
-ghost use Rattle.std.specs.Prelude.{◌≡◌, ◌≤◌, ◌<◌, ◌+◌, ℕ, nat_eq, Bool, true, false, ◌&&◌, if◌then◌else◌, OnOk, OnErr, IfSome, IfNone, length};
+ghost use Rattle.std.specs.Prelude.{◌≡◌, ◌≤◌, ◌<◌, ◌+◌, ℕ, nat_eq, Bool, true, false, ◌&&◌};
+ghost use Rattle.std.specs.Prelude.{if◌then◌else◌, OnOk, OnErr, IfSome, IfNone, length};
 ghost use Rattle.std.specs.BTreeSet.{btree_set_len};
 ghost use Rattle.sim_clock.specs.Places.{Stands, IsAsleep, same_place, has_moment};
 ghost use Rattle.sim_clock.specs.Marked.{IsLeast, comes_first};
@@ -62,7 +63,9 @@ impl Index {
 
     /// Room for one more that can be woken.
     fn reserve(&mut self) -> Result<(), Memory>
-        ensures room { OnOk result (length self.new.woken.pairs + btree_set_len self.new.on_events.set + btree_set_len self.new.on_tasks.set + 1 ≤ self.new.woken.room) }
+        ensures room { OnOk result (length self.new.woken.pairs +
+            btree_set_len self.new.on_events.set + btree_set_len self.new.on_tasks.set + 1 ≤
+            self.new.woken.room) }
         ensures same { (w : Where) (m : ℕ) → holds self.new w m ≡ holds self.old w m }
     {
         let asleep = self.on_events.len() + self.on_tasks.len();
@@ -86,7 +89,9 @@ impl Index {
     pub fn wake(&mut self, place: Where, number: u64, at: u64)
         requires asleep { IsAsleep place }
         requires there { holds self.old place number ≡ true }
-        ensures moved { (w : Where) (m : ℕ) → holds self.new w m ≡ (if same_place w (Woken at) && nat_eq m number then true else if same_place w place && nat_eq m number then false else holds self.old w m) }
+        ensures moved { (w : Where) (m : ℕ) →
+            holds self.new w m ≡ (if same_place w (Woken at) && nat_eq m number then true else if
+            same_place w place && nat_eq m number then false else holds self.old w m) }
         ensures less { asleep_count self.new + 1 ≡ asleep_count self.old }
     {
         match place {

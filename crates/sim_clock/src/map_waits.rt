@@ -136,9 +136,12 @@ fn wake_all(pending: &mut BTreeMap<u64, Pending>, index: &mut Index, place: Wher
 
 /// Gives the wait with this number its moment.
 fn stir(pending: &mut BTreeMap<u64, Pending>, number: u64, wake: Wake)
-    ensures entries { (p : Pending) → at_number pending.old number ≡ Some p → pending.new.entries ≡ set_value (is_at (nat_cmp number)) pending.old.entries (stirred p wake) }
+    ensures entries { (p : Pending) → at_number pending.old number ≡ Some p →
+        pending.new.entries ≡ set_value (is_at (nat_cmp number)) pending.old.entries
+        (stirred p wake) }
     ensures ordered { IsOrdered nat_cmp pending.new }
-    ensures changed { (p : Pending) → at_number pending.old number ≡ Some p → Changed (at_number pending.old) (at_number pending.new) number (Some (stirred p wake)) }
+    ensures changed { (p : Pending) → at_number pending.old number ≡ Some p →
+        Changed (at_number pending.old) (at_number pending.new) number (Some (stirred p wake)) }
 {
     if let Some(pending) = pending.get_mut(&number) {
         pending.wake = Some(wake);

@@ -1,7 +1,8 @@
 //! When one wait is due, and which of two is due first.
 
 ghost use Rattle.std.specs.Prelude.{◌≡◌, ◌↔◌, IsTrue};
-ghost use Rattle.sim_clock.specs.Pending.{given, waits_alike, woken_one, due_of, comes_before, earlier};
+ghost use Rattle.sim_clock.specs.Pending.{given, waits_alike, woken_one, due_of, comes_before};
+ghost use Rattle.sim_clock.specs.Pending.{earlier};
 
 use crate::waits::{Due, Pending, WaitKind, Wake};
 

@@ -1,6 +1,7 @@
 //! A set of pairs of numbers in order.
 
-ghost use Rattle.std.specs.Prelude.{◌≡◌, ◌≤◌, ◌<◌, ◌+◌, ℕ, Bool, true, false, not, OnOk, OnErr, IfSome, IfNone, IfOk};
+ghost use Rattle.std.specs.Prelude.{◌≡◌, ◌≤◌, ◌<◌, ◌+◌, ℕ, Bool, true, false, not, OnOk, OnErr};
+ghost use Rattle.std.specs.Prelude.{IfSome, IfNone, IfOk};
 ghost use Rattle.std.specs.BTreeSet.{btree_set_len, IsUnchanged};
 ghost use Rattle.sim_clock.specs.Marked.{has, Marks, IsLeast};
 
@@ -45,7 +46,8 @@ impl Pairs {
     pub fn remove(&mut self, first: u64, second: u64)
         ensures marks { Marks (has self.old.set) (has self.new.set) first second false }
         ensures len { btree_set_len self.new.set ≤ btree_set_len self.old.set }
-        ensures less { has self.old.set first second ≡ true → btree_set_len self.new.set + 1 ≡ btree_set_len self.old.set }
+        ensures less { has self.old.set first second ≡ true →
+            btree_set_len self.new.set + 1 ≡ btree_set_len self.old.set }
     {
         let _ = self.set.remove(&(first, second));
     }

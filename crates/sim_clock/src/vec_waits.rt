@@ -37,7 +37,8 @@ impl VecWaits {
 
 /// Where the wait with this number stands.
 fn place_of(all: &[Pending], number: u64) -> Option<usize>
-    ensures there { IfSome result (λ at. (at < length all.now) × (removed number all.now ≡ remove all.now at)) }
+    ensures there { IfSome result (λ at. (at < length all.now) ×
+        (removed number all.now ≡ remove all.now at)) }
     ensures nowhere { IfNone result (removed number all.now ≡ all.now) }
 {
     for (at, pending) in all.iter().enumerate() {

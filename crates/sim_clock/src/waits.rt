@@ -78,11 +78,13 @@ pub trait Waits {
     /// Gives each wait on the event in this cell that has no moment the moment `now`, with the
     /// signal as its cause.
     fn wake_event(&mut self, cell: u32, signal: u64, now: u64)
-        ensures { pending self.new ≡ woken (kind.Event cell) (record { at = now; cause = signal }) (pending self.old) };
+        ensures { pending self.new ≡ woken (kind.Event cell) (record { at = now; cause = signal })
+            (pending self.old) };
 
     /// Gives each wait on the end of this spawned task that has no moment the moment `now`.
     fn wake_task(&mut self, task: u32, now: u64)
-        ensures { pending self.new ≡ woken (kind.Task task) (record { at = now; cause = 0 }) (pending self.old) };
+        ensures { pending self.new ≡ woken (kind.Task task) (record { at = now; cause = 0 })
+            (pending self.old) };
 
     /// How many waits there are.
     fn len(&self) -> u64

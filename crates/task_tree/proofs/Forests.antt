@@ -3,7 +3,8 @@ use Rattle.std.proofs.Common.{◌≡◌, ◌⊎◌, inl, inr, ℕ, true, List, [
 use Rattle.std.proofs.lemmas.List.{append-nil}
 use Rattle.task_tree.specs.Tasks.{Task, task_at, youngest, suits, or_else}
 use Rattle.task_tree.specs.Nested.{Forest, no_tasks, a_task, Distinct}
-use Rattle.task_tree.proofs.Standing.{never, inner, here, append_at, task_or, absent_parts, absent_head, distinct_parts, apart, in_first, in_second, cut, youngest_append, no_child_both, youngest_other, youngest_same, some_child, else_none}
+use Rattle.task_tree.proofs.Standing.{never, inner, here, append_at, task_or, absent_parts, absent_head, distinct_parts, apart, in_first}
+use Rattle.task_tree.proofs.Standing.{in_second, cut, youngest_append, no_child_both, youngest_other, youngest_same, some_child, else_none}
 
 abbrev pub IsThere : {T : Type 0} → ℕ → List (Task T) → Type 0
 IsThere {T} n ts = (t : Task T) × (task_at n ts ≡ Some t)
@@ -25,14 +26,16 @@ module _ {T : Type 0} where
   forest_append a b (a_task t kids rest was parent role below more) g =
       a_task t kids (rest ++ b) (ap (λ xs. xs ++ b) was ∙ append_assoc (t ∷ kids) rest b) parent role below (forest_append rest b more g)
 
-  pub forest_one : (p : Option ℕ) (t : Task T) (kids : List (Task T)) → t.parent ≡ p → suits p t.role ≡ true → Forest (Some t.number) kids → Forest p (t ∷ kids)
+  pub forest_one : (p : Option ℕ) (t : Task T) (kids : List (Task T)) → t.parent ≡ p → suits p t.role ≡ true → Forest (Some t.number) kids →
+      Forest p (t ∷ kids)
   forest_one p t kids parent role below = a_task t kids [] (sym (append-nil (t ∷ kids))) parent role below no_tasks
 
   -- only tasks of a forest have children in it
   pub outsiders : (p : Option ℕ) (ts : List (Task T)) → Forest p ts → (q : Option ℕ) → (p ≡ q → ⊥) → Outside q ts → youngest q ts ≡ None
   outsiders p ts no_tasks q d out = refl
   outsiders p ts (a_task t kids rest was parent role below more) q d out =
-      let absent : (n : ℕ) → q ≡ Some n → (t.number ≡ n → ⊥) × (task_at n (kids ++ rest) ≡ None) = λ n e. absent_head n t (kids ++ rest) (sym (ap (task_at n) was) ∙ out n e) in
+      let absent : (n : ℕ) → q ≡ Some n → (t.number ≡ n → ⊥) × (task_at n (kids ++ rest) ≡ None) =
+      λ n e. absent_head n t (kids ++ rest) (sym (ap (task_at n) was) ∙ out n e) in
       let in_kids : Outside q kids = λ n e. (absent_parts n kids rest (absent n e).1).0 in
       let in_rest : Outside q rest = λ n e. (absent_parts n kids rest (absent n e).1).1 in
       let none_kids = outsiders (Some t.number) kids below q (λ e. (absent t.number (sym e)).0 refl) in_kids in
@@ -56,7 +59,8 @@ module _ {T : Type 0} where
     pub around : (others : List (Task T)) → Forest t.parent others → Forest top (front ++ (others ++ (younger ++ outer)))
     pub above : (t.parent ≡ top) ⊎ ((n : ℕ) × (t.parent ≡ Some n) × IsThere n front)
 
-  pub place : (top : Option ℕ) (ts front : List (Task T)) (t : Task T) (behind : List (Task T)) → Forest top ts → Distinct ts → Outside top ts → ts ≡ front ++ t ∷ behind → Place top front t behind
+  pub place : (top : Option ℕ) (ts front : List (Task T)) (t : Task T) (behind : List (Task T)) → Forest top ts → Distinct ts →
+      Outside top ts → ts ≡ front ++ t ∷ behind → Place top front t behind
   place top ts front t behind no_tasks d out e = absurd (no_split front t behind e)
   place top ts [] t behind (a_task u kids rest was parent role below more) d out e =
       let both : u ∷ (kids ++ rest) ≡ t ∷ behind = sym was ∙ e in
@@ -72,7 +76,8 @@ module _ {T : Type 0} where
         beneath = subst (λ (v : Task T). Forest (Some v.number) kids) same below;
         siblings = subst (λ p. Forest p rest) (sym own) more;
         no_more = refl;
-        around = λ others f. forest_append others (rest ++ []) (subst (λ p. Forest p others) own f) (subst (λ xs. Forest top xs) (sym (append-nil rest)) more);
+        around = λ others f. forest_append others (rest ++ []) (subst (λ p. Forest p others) own f)
+            (subst (λ xs. Forest top xs) (sym (append-nil rest)) more);
         above = inl own;
       }
   place top ts (v ∷ vs) t behind (a_task u kids rest was parent role below more) d out e =
@@ -83,18 +88,31 @@ module _ {T : Type 0} where
       let parts = distinct_parts kids rest distinct.1 in
       elim (cut kids rest vs t behind tails) [
         | in_first m p q ↦
-            let r = place (Some u.number) kids vs t m below parts.0 (λ n h. subst (λ k. task_at k kids ≡ None) (inner h) (absent_parts u.number kids rest distinct.0).0) p in
+            let r = place (Some u.number) kids vs t m below parts.0
+            (λ n h. subst (λ k. task_at k kids ≡ None) (inner h) (absent_parts u.number kids rest distinct.0).0) p in
             let there : (n : ℕ) → IsThere n ts → top ≡ Some n → ⊥ = λ n h g. never (sym (out n g) ∙ h.1) in
             let up : (n : ℕ) × (t.parent ≡ Some n) × IsThere n (u ∷ vs) × (task_at n rest ≡ None) × IsThere n ts =
             elim r.above [
-              | inl g ↦ (u.number, g, (u, here u.number u vs refl), (absent_parts u.number kids rest distinct.0).1, (u, ap (task_at u.number) was ∙ here u.number u (kids ++ rest) refl))
+              | inl g ↦ (
+                u.number,
+                g,
+                (u, here u.number u vs refl),
+                (absent_parts u.number kids rest distinct.0).1,
+                (u, ap (task_at u.number) was ∙ here u.number u (kids ++ rest) refl),
+              )
               | inr h ↦
-                  let k : IsThere h.0 kids = (h.2.0, ap (task_at h.0) p ∙ (append_at h.0 vs (t ∷ m) ∙ ap (λ o. task_or o (task_at h.0 (t ∷ m))) h.2.1)) in
+                  let k : IsThere h.0 kids = (
+                    h.2.0,
+                    ap (task_at h.0) p ∙
+                        (append_at h.0 vs (t ∷ m) ∙ ap (λ o. task_or o (task_at h.0 (t ∷ m))) h.2.1),
+                  ) in
                   let l : task_at h.0 (kids ++ rest) ≡ Some k.0 = append_at h.0 kids rest ∙ ap (λ o. task_or o (task_at h.0 rest)) k.1 in
                   let w = there_behind h.0 (u ∷ []) (kids ++ rest) (k.0, l) in
                   (h.0, h.1, there_behind h.0 (u ∷ []) vs h.2, apart kids rest h.0 k.0 distinct.1 k.1, (w.0, ap (task_at h.0) was ∙ w.1))
             ] in
-            let none_rest : youngest t.parent rest ≡ None = outsiders top rest more t.parent (λ g. there up.0 up.4 (g ∙ up.1)) (λ n h. subst (λ k. task_at k rest ≡ None) (inner (sym up.1 ∙ h)) up.3) in
+            let none_rest : youngest t.parent rest ≡ None =
+            outsiders top rest more t.parent (λ g. there up.0 up.4 (g ∙ up.1))
+            (λ n h. subst (λ k. task_at k rest ≡ None) (inner (sym up.1 ∙ h)) up.3) in
             record {
               kids = r.kids;
               younger = r.younger;
@@ -105,11 +123,14 @@ module _ {T : Type 0} where
               siblings = r.siblings;
               no_more = no_child_both t.parent r.outer rest r.no_more none_rest;
               around = λ others f.
-                  a_task u (vs ++ (others ++ (r.younger ++ r.outer))) rest (ap (λ w. w ∷ (vs ++ (others ++ (r.younger ++ (r.outer ++ rest))))) (sym same) ∙ simp append_assoc) parent role (r.around others f) more;
+                  a_task u (vs ++ (others ++ (r.younger ++ r.outer))) rest
+                  (ap (λ w. w ∷ (vs ++ (others ++ (r.younger ++ (r.outer ++ rest))))) (sym same) ∙ simp append_assoc) parent role
+                  (r.around others f) more;
               above = inr (up.0, up.1, subst (λ w. IsThere up.0 (w ∷ vs)) same up.2);
             }
         | in_second m p q ↦
-            let r = place top rest m t behind more parts.1 (λ n h. (absent_parts n kids rest (absent_head n u (kids ++ rest) (sym (ap (task_at n) was) ∙ out n h)).1).1) p in
+            let r = place top rest m t behind more parts.1
+            (λ n h. (absent_parts n kids rest (absent_head n u (kids ++ rest) (sym (ap (task_at n) was) ∙ out n h)).1).1) p in
             record {
               kids = r.kids;
               younger = r.younger;
@@ -120,7 +141,10 @@ module _ {T : Type 0} where
               siblings = r.siblings;
               no_more = r.no_more;
               around = λ others f.
-                  a_task u kids (m ++ (others ++ (r.younger ++ r.outer))) (ap (λ w. w ∷ (vs ++ (others ++ (r.younger ++ r.outer)))) (sym same) ∙ (ap (λ xs. u ∷ (xs ++ (others ++ (r.younger ++ r.outer)))) q ∙ simp append_assoc)) parent role below (r.around others f);
+                  a_task u kids (m ++ (others ++ (r.younger ++ r.outer)))
+                  (ap (λ w. w ∷ (vs ++ (others ++ (r.younger ++ r.outer)))) (sym same) ∙
+                  (ap (λ xs. u ∷ (xs ++ (others ++ (r.younger ++ r.outer)))) q ∙ simp append_assoc)) parent role below
+                  (r.around others f);
               above = elim r.above [
                 | inl g ↦ inl g
                 | inr h ↦ inr (h.0, h.1, subst (λ xs. IsThere h.0 (v ∷ xs)) (sym q) (there_behind h.0 (v ∷ kids) m h.2))
@@ -145,15 +169,21 @@ module _ {T : Type 0} where
     pub beneath : Forest (Some task.number) kids
     pub before : Forest p front
 
-  pub last_of : (p : Option ℕ) (ts : List (Task T)) (n : ℕ) → Forest p ts → Distinct ts → Outside p ts → youngest p ts ≡ Some n → LastOf p ts n
+  pub last_of : (p : Option ℕ) (ts : List (Task T)) (n : ℕ) → Forest p ts → Distinct ts → Outside p ts → youngest p ts ≡ Some n →
+      LastOf p ts n
   last_of p ts n no_tasks d out e = absurd (never e)
   last_of p ts n (a_task u kids rest was parent role below more) d out e =
       let distinct : Distinct (u ∷ (kids ++ rest)) = subst Distinct was d in
       let parts = distinct_parts kids rest distinct.1 in
-      let absent : (m : ℕ) → p ≡ Some m → (u.number ≡ m → ⊥) × (task_at m (kids ++ rest) ≡ None) = λ m h. absent_head m u (kids ++ rest) (sym (ap (task_at m) was) ∙ out m h) in
-      let none_kids : youngest p kids ≡ None = outsiders (Some u.number) kids below p (λ g. (absent u.number (sym g)).0 refl) (λ m h. (absent_parts m kids rest (absent m h).1).0) in
+      let absent : (m : ℕ) → p ≡ Some m → (u.number ≡ m → ⊥) × (task_at m (kids ++ rest) ≡ None) =
+      λ m h. absent_head m u (kids ++ rest) (sym (ap (task_at m) was) ∙ out m h) in
+      let none_kids : youngest p kids ≡ None =
+      outsiders (Some u.number) kids below p (λ g. (absent u.number (sym g)).0 refl)
+      (λ m h. (absent_parts m kids rest (absent m h).1).0) in
       let whole : or_else (youngest p rest) (Some u.number) ≡ Some n =
-      sym (ap (λ o. or_else o (Some u.number)) (youngest_append p kids rest ∙ (ap (λ o. or_else (youngest p rest) o) none_kids ∙ else_none (youngest p rest)))) ∙ (sym (youngest_same p u (kids ++ rest) (sym parent)) ∙ (sym (ap (youngest p) was) ∙ e)) in
+      sym (ap (λ o. or_else o (Some u.number))
+      (youngest_append p kids rest ∙ (ap (λ o. or_else (youngest p rest) o) none_kids ∙ else_none (youngest p rest)))) ∙
+      (sym (youngest_same p u (kids ++ rest) (sym parent)) ∙ (sym (ap (youngest p) was) ∙ e)) in
       let later : (m : ℕ) → youngest p rest ≡ Some m → LastOf p ts n = λ m h.
       let r = last_of p rest m more parts.1 (λ k g. (absent_parts k kids rest (absent k g).1).1) h in
       let same : m ≡ n = inner (sym (ap (λ o. or_else o (Some u.number)) h) ∙ whole) in
@@ -183,6 +213,7 @@ module _ {T : Type 0} where
       } in
       pick (youngest p rest) refl later only
     where
-      pick : (o : Option ℕ) → youngest p rest ≡ o → ((m : ℕ) → youngest p rest ≡ Some m → LastOf p ts n) → (youngest p rest ≡ None → LastOf p ts n) → LastOf p ts n
+      pick : (o : Option ℕ) → youngest p rest ≡ o → ((m : ℕ) → youngest p rest ≡ Some m → LastOf p ts n) →
+          (youngest p rest ≡ None → LastOf p ts n) → LastOf p ts n
       pick None h later only = only h
       pick (Some m) h later only = later m h

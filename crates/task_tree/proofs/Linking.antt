@@ -1,5 +1,6 @@
 -- What the nodes of tasks tell.
-use Rattle.std.proofs.Common.{◌≡◌, inl, inr, ◌↔◌, ℕ, true, false, Bool, IsTrue, List, [], ◌∷◌, ◌++◌, length, Option, Some, None, IsSome, is_some, option_map, refl, sym, ap, subst, ◌∙◌, append_assoc}
+use Rattle.std.proofs.Common.{◌≡◌, inl, inr, ◌↔◌, ℕ, true, false, Bool, IsTrue, List, [], ◌∷◌, ◌++◌, length, Option, Some, None, IsSome}
+use Rattle.std.proofs.Common.{is_some, option_map, refl, sym, ap, subst, ◌∙◌, append_assoc}
 use Rattle.std.proofs.lemmas.Bool.{ne_eqb}
 use Rattle.std.proofs.Common.{Bor, option_copied, count_by, slice_index_or}
 use mathlib.Core.Bool.{false≢true}
@@ -10,7 +11,8 @@ use Rattle.task_tree.specs.Tasks.{Task, task_at, youngest, after, first, or_else
 use Rattle.task_tree.specs.Nested.{no_tasks, Distinct, IsTree}
 use Rattle.task_tree.specs.Links.{Linked, Whole, node_at, task_of, last}
 use Rattle.task_tree.specs.View.{walk}
-use Rattle.task_tree.proofs.Standing.{At, found, never, inner, absent_parts, absent_head, absent_then, beside, after_at, no_child_parts, youngest_append, youngest_other, else_none}
+use Rattle.task_tree.proofs.Standing.{At, found, never, inner, absent_parts, absent_head, absent_then, beside, after_at, no_child_parts}
+use Rattle.task_tree.proofs.Standing.{youngest_append, youngest_other, else_none}
 use Rattle.task_tree.proofs.Forests.{Place, place, outsiders, no_split}
 
 pub tested : {A : Type 0} (b : Bool) (o : Option A) → IsTrue b ↔ IsSome o → b ≡ is_some o
@@ -58,13 +60,16 @@ module _ {T : Type 0} where
       further_after : (n : ℕ) (t : Task T) (ts : List (Task T)) → (t.number ≡ n → ⊥) → after n (t ∷ ts) ≡ after n ts
       further_after n t ts d = rw (ne_eqb t.number n d) refl
 
-  pub after_is : (nodes : Slab (Node T)) (ts : List (Task T)) (n : ℕ) → Linked nodes ts → leads (λ l. l.behind) (links_in (get nodes n)) ≡ after n ts
+  pub after_is : (nodes : Slab (Node T)) (ts : List (Task T)) (n : ℕ) → Linked nodes ts →
+      leads (λ l. l.behind) (links_in (get nodes n)) ≡ after n ts
   after_is nodes ts n linked =
       elim (reads nodes ts n linked) [
         | not_live e g ↦ ap (λ o. leads (λ l. l.behind) (links_in o)) g ∙ sym (after_absent n ts e)
         | is_live t e a g ↦
-            let behind : after t.number (a.front ++ t ∷ a.back) ≡ first a.back = after_at a.front a.back t (subst (λ m. task_at m a.front ≡ None) (sym a.number) a.absent) in
-            ap (λ o. leads (λ l. l.behind) (links_in o)) g ∙ sym (ap (after n) a.was ∙ (ap (λ m. after m (a.front ++ t ∷ a.back)) (sym a.number) ∙ behind))
+            let behind : after t.number (a.front ++ t ∷ a.back) ≡ first a.back =
+            after_at a.front a.back t (subst (λ m. task_at m a.front ≡ None) (sym a.number) a.absent) in
+            ap (λ o. leads (λ l. l.behind) (links_in o)) g ∙
+            sym (ap (after n) a.was ∙ (ap (λ m. after m (a.front ++ t ∷ a.back)) (sym a.number) ∙ behind))
       ]
 
   -- no task is its own parent
@@ -78,24 +83,34 @@ module _ {T : Type 0} where
       ]
 
   -- a task's children stand beneath it
-  pub children : (ts front : List (Task T)) (t : Task T) (back : List (Task T)) → IsTree ts → ts ≡ front ++ t ∷ back → (p : Place None front t back) →
-      (youngest (Some t.number) front ≡ None) × (youngest (Some t.number) (p.younger ++ p.outer) ≡ None) × (youngest (Some t.number) ts ≡ youngest (Some t.number) p.kids) × (youngest (Some t.number) back ≡ youngest (Some t.number) p.kids)
+  pub children : (ts front : List (Task T)) (t : Task T) (back : List (Task T)) → IsTree ts → ts ≡ front ++ t ∷ back →
+      (p : Place None front t back) →
+      (youngest (Some t.number) front ≡ None) × (youngest (Some t.number) (p.younger ++ p.outer) ≡ None) ×
+      (youngest (Some t.number) ts ≡ youngest (Some t.number) p.kids) ×
+      (youngest (Some t.number) back ≡ youngest (Some t.number) p.kids)
   children ts front t back tree was p =
       let q = Some t.number in
       let rest = p.younger ++ p.outer in
       let alone = beside front back t (subst Distinct was tree.distinct) in
-      let absent : task_at t.number rest ≡ None = (absent_parts t.number p.kids rest (subst (λ xs. task_at t.number xs ≡ None) p.was alone.1)).1 in
+      let absent : task_at t.number rest ≡ None =
+      (absent_parts t.number p.kids rest (subst (λ xs. task_at t.number xs ≡ None) p.was alone.1)).1 in
       let absent_all : task_at t.number (front ++ rest) ≡ None = absent_then t.number front rest alone.0 ∙ absent in
-      let none = no_child_parts q front rest (outsiders None (front ++ rest) (p.around [] no_tasks) q (λ e. never e) (λ n e. subst (λ m. task_at m (front ++ rest) ≡ None) (inner e) absent_all)) in
-      let in_back : youngest q back ≡ youngest q p.kids = ap (youngest q) p.was ∙ (youngest_append q p.kids rest ∙ ap (λ o. or_else o (youngest q p.kids)) none.1) in
+      let none = no_child_parts q front rest (outsiders None (front ++ rest) (p.around [] no_tasks) q (λ e. never e)
+      (λ n e. subst (λ m. task_at m (front ++ rest) ≡ None) (inner e) absent_all)) in
+      let in_back : youngest q back ≡ youngest q p.kids =
+      ap (youngest q) p.was ∙ (youngest_append q p.kids rest ∙ ap (λ o. or_else o (youngest q p.kids)) none.1) in
       let in_all : youngest q ts ≡ youngest q p.kids =
-      ap (youngest q) was ∙ (youngest_append q front (t ∷ back) ∙ (ap (λ o. or_else (youngest q (t ∷ back)) o) none.0 ∙ (else_none (youngest q (t ∷ back)) ∙ (youngest_other q t back (not_own ts front back t tree was) ∙ in_back)))) in
+      ap (youngest q) was ∙ (youngest_append q front (t ∷ back) ∙
+      (ap (λ o. or_else (youngest q (t ∷ back)) o) none.0 ∙
+      (else_none (youngest q (t ∷ back)) ∙ (youngest_other q t back (not_own ts front back t tree was) ∙ in_back)))) in
       (none.0, none.1, in_all, in_back)
 
-  pub youngest_is : (nodes : Slab (Node T)) (ts : List (Task T)) (n : ℕ) → IsTree ts → Linked nodes ts → leads (λ l. l.youngest) (links_in (get nodes n)) ≡ youngest (Some n) ts
+  pub youngest_is : (nodes : Slab (Node T)) (ts : List (Task T)) (n : ℕ) → IsTree ts → Linked nodes ts →
+      leads (λ l. l.youngest) (links_in (get nodes n)) ≡ youngest (Some n) ts
   youngest_is nodes ts n tree linked =
       elim (reads nodes ts n linked) [
-        | not_live e g ↦ ap (λ o. leads (λ l. l.youngest) (links_in o)) g ∙ sym (outsiders None ts tree.forest (Some n) (λ h. never h) (λ m h. subst (λ k. task_at k ts ≡ None) (inner h) e))
+        | not_live e g ↦ ap (λ o. leads (λ l. l.youngest) (links_in o)) g ∙
+            sym (outsiders None ts tree.forest (Some n) (λ h. never h) (λ m h. subst (λ k. task_at k ts ≡ None) (inner h) e))
         | is_live t e a g ↦
             let p = place None ts a.front t a.back tree.forest tree.distinct (λ m h. absurd (never h)) a.was in
             let c = children ts a.front t a.back tree a.was p in
@@ -104,28 +119,36 @@ module _ {T : Type 0} where
       ]
 
   -- a walk along the links gives the tasks
-  pub walk_all : (nodes : Slab (Node T)) (ts done left : List (Task T)) → Linked nodes ts → ts ≡ done ++ left → walk (length left) nodes (first left) ≡ left
+  pub walk_all : (nodes : Slab (Node T)) (ts done left : List (Task T)) → Linked nodes ts → ts ≡ done ++ left →
+      walk (length left) nodes (first left) ≡ left
   walk_all nodes ts done [] linked e = refl
   walk_all nodes ts done (t ∷ left) linked e =
-      let on : Option (Node T) → List (Task T) = λ o. elim o [ None ↦ [] | Some node ↦ task_of t.number node ∷ walk (length left) nodes node.links.behind ] in
-      ap on (linked.each done left t e) ∙ ap (λ us. t ∷ us) (walk_all nodes ts (done ++ t ∷ []) left linked (e ∙ sym (append_assoc done (t ∷ []) left)))
+      let on : Option (Node T) → List (Task T) =
+      λ o. elim o [ None ↦ [] | Some node ↦ task_of t.number node ∷ walk (length left) nodes node.links.behind ] in
+      ap on (linked.each done left t e) ∙ ap (λ us. t ∷ us)
+      (walk_all nodes ts (done ++ t ∷ []) left linked (e ∙ sym (append_assoc done (t ∷ []) left)))
 
-  pub walk_is : (nodes : Slab (Node T)) (head tail : Option ℕ) (ts : List (Task T)) → Whole nodes head tail ts → walk (slab_len nodes) nodes head ≡ ts
+  pub walk_is : (nodes : Slab (Node T)) (head tail : Option ℕ) (ts : List (Task T)) → Whole nodes head tail ts →
+      walk (slab_len nodes) nodes head ≡ ts
   walk_is nodes head tail ts w =
       ap (λ n. walk n nodes head) w.linked.count ∙ (ap (λ h. walk (length ts) nodes h) w.head_is ∙ walk_all nodes ts [] ts w.linked refl)
 
-  pub whole_walk : (nodes : Slab (Node T)) (head tail : Option ℕ) (ts : List (Task T)) → Whole nodes head tail ts → Whole nodes head tail (walk (slab_len nodes) nodes head)
+  pub whole_walk : (nodes : Slab (Node T)) (head tail : Option ℕ) (ts : List (Task T)) → Whole nodes head tail ts →
+      Whole nodes head tail (walk (slab_len nodes) nodes head)
   whole_walk nodes head tail ts w = subst (λ us. Whole nodes head tail us) (sym (walk_is nodes head tail ts w)) w
 
-  pub seen : (nodes : Slab (Node T)) (ts now : List (Task T)) (n : ℕ) → Linked nodes ts → ts ≡ now → (o p : Option (Bor (Node T))) → option_copied o ≡ get nodes n → o ≡ p → option_map (task_of n) (option_copied p) ≡ task_at n now
+  pub seen : (nodes : Slab (Node T)) (ts now : List (Task T)) (n : ℕ) → Linked nodes ts → ts ≡ now → (o p : Option (Bor (Node T))) →
+      option_copied o ≡ get nodes n → o ≡ p → option_map (task_of n) (option_copied p) ≡ task_at n now
   seen nodes ts now n linked view o p got is =
-      sym (ap (λ q. option_map (task_of n) (option_copied q)) is) ∙ (ap (option_map (task_of n)) got ∙ (one_map nodes ts n linked ∙ ap (task_at n) view))
+      sym (ap (λ q. option_map (task_of n) (option_copied q)) is) ∙
+      (ap (option_map (task_of n)) got ∙ (one_map nodes ts n linked ∙ ap (task_at n) view))
 
   there_is : (m : Option (Node T)) (o : Option (Task T)) (n : ℕ) → option_map (task_of n) m ≡ o → is_some m ≡ is_some o
   there_is None o n e = ap is_some e
   there_is (Some node) o n e = ap is_some e
 
-  pub live_is : (nodes : Slab (Node T)) (ts now : List (Task T)) (n : ℕ) → Linked nodes ts → ts ≡ now → is_some (get nodes n) ≡ is_some (task_at n now)
+  pub live_is : (nodes : Slab (Node T)) (ts now : List (Task T)) (n : ℕ) → Linked nodes ts → ts ≡ now →
+      is_some (get nodes n) ≡ is_some (task_at n now)
   live_is nodes ts now n linked view = there_is (get nodes n) (task_at n now) n (one_map nodes ts n linked ∙ ap (task_at n) view)
 
   abbrev pub parent_in : Option (Task T) → Option ℕ
@@ -142,21 +165,24 @@ module _ {T : Type 0} where
       not_nil : u ∷ ts ≡ [] → ⊥
       not_nil h = absurd (cc)
 
-  pub last_split : (front : List (Task T)) (n : ℕ) → last front ≡ Some n → (some : List (Task T)) × (t : Task T) × (front ≡ some ++ t ∷ []) × (t.number ≡ n)
+  pub last_split : (front : List (Task T)) (n : ℕ) → last front ≡ Some n →
+      (some : List (Task T)) × (t : Task T) × (front ≡ some ++ t ∷ []) × (t.number ≡ n)
   last_split [] n e = absurd (never e)
   last_split (t ∷ []) n e = ([], t, refl, inner e)
   last_split (t ∷ u ∷ ts) n e =
       let r = last_split (u ∷ ts) n e in
       (t ∷ r.0, r.1, ap (λ xs. t ∷ xs) r.2, r.3)
 
-  pub behind_is : (nodes : Slab (Node T)) (ts now : List (Task T)) (n : ℕ) (o : Option ℕ) → Linked nodes ts → ts ≡ now → o ≡ Some n → (front back : List (Task T)) → now ≡ front ++ back → o ≡ last front → leads (λ l. l.behind) (links_in (get nodes n)) ≡ first back
+  pub behind_is : (nodes : Slab (Node T)) (ts now : List (Task T)) (n : ℕ) (o : Option ℕ) → Linked nodes ts → ts ≡ now → o ≡ Some n →
+      (front back : List (Task T)) → now ≡ front ++ back → o ≡ last front → leads (λ l. l.behind) (links_in (get nodes n)) ≡ first back
   behind_is nodes ts now n o linked view is front back was end =
       let s = last_split front n (sym end ∙ is) in
       let place : ts ≡ s.0 ++ s.1 ∷ back = view ∙ (was ∙ (ap (λ xs. xs ++ back) s.2 ∙ append_assoc s.0 (s.1 ∷ []) back)) in
       let node = subst (λ m. get nodes m ≡ Some (node_at s.0 s.1 back)) s.3 (linked.each s.0 back s.1 place) in
       ap (λ o. leads (λ l. l.behind) (links_in o)) node
 
-  pub head_is : (head o : Option ℕ) (ts now : List (Task T)) → head ≡ first ts → ts ≡ now → o ≡ None → (front back : List (Task T)) → now ≡ front ++ back → o ≡ last front → head ≡ first back
+  pub head_is : (head o : Option ℕ) (ts now : List (Task T)) → head ≡ first ts → ts ≡ now → o ≡ None → (front back : List (Task T)) →
+      now ≡ front ++ back → o ≡ last front → head ≡ first back
   head_is head o ts now h view is front back was end =
       h ∙ (ap first (view ∙ was) ∙ ap (λ xs. first (xs ++ back)) (last_none front (sym end ∙ is)))
 
@@ -171,7 +197,8 @@ module _ {T : Type 0} where
         tail_is = refl;
       })
 
-  pub same_slots : (nodes next : Slab (Node T)) (head tail : Option ℕ) (ts : List (Task T)) → next.slots ≡ nodes.slots → Whole nodes head tail ts → Whole next head tail ts
+  pub same_slots : (nodes next : Slab (Node T)) (head tail : Option ℕ) (ts : List (Task T)) → next.slots ≡ nodes.slots →
+      Whole nodes head tail ts → Whole next head tail ts
   same_slots nodes next head tail ts e w =
       let at : (n : ℕ) → get next n ≡ get nodes n = λ n. ap (λ s. slice_index_or s n None) e in
       record {
@@ -185,5 +212,6 @@ module _ {T : Type 0} where
         tail_is = w.tail_is;
       }
 
-  pub fresh_is : (nodes : Slab (Node T)) (ts now : List (Task T)) (n : ℕ) → Linked nodes ts → ts ≡ now → get nodes n ≡ None → task_at n now ≡ None
+  pub fresh_is : (nodes : Slab (Node T)) (ts now : List (Task T)) (n : ℕ) → Linked nodes ts → ts ≡ now → get nodes n ≡ None →
+      task_at n now ≡ None
   fresh_is nodes ts now n linked view e = sym (ap (task_at n) view) ∙ (sym (one_map nodes ts n linked) ∙ ap (option_map (task_of n)) e)

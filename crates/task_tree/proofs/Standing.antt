@@ -1,5 +1,6 @@
 -- Where tasks stand in a list, and what stands next to them.
-use Rattle.std.proofs.Common.{◌≡◌, ◌⊎◌, inl, inr, ℕ, eqb, Bool, true, false, if◌then◌else◌, List, [], ◌∷◌, ◌++◌, Option, Some, None, refl, sym, ap, subst, ◌∙◌}
+use Rattle.std.proofs.Common.{◌≡◌, ◌⊎◌, inl, inr, ℕ, eqb, Bool, true, false, if◌then◌else◌, List, [], ◌∷◌, ◌++◌, Option, Some, None, refl}
+use Rattle.std.proofs.Common.{sym, ap, subst, ◌∙◌}
 use Rattle.std.proofs.lemmas.Bool.{cases_eq, eq-eqb, ne_eqb}
 use Rattle.std.proofs.lemmas.Option.{same_Some, none-some}
 use Rattle.task_tree.specs.Tasks.{Task, task_at, first, after, is_child, or_else, youngest, without, changed_at}
@@ -63,10 +64,24 @@ module _ {T : Type 0} where
       elim (cases_eq u.number n) [
         | inl same ↦
             let it : u ≡ t = inner (sym (here n u us same) ∙ e) in
-            record { front = []; back = us; was = ap (λ v. v ∷ us) it; number = ap (λ (v : Task T). v.number) (sym it) ∙ same; absent = refl }
+            record {
+              front = [];
+              back = us;
+              was = ap (λ v. v ∷ us) it;
+              number = ap (λ (v : Task T). v.number) (sym it) ∙ same;
+              absent =
+                  refl;
+            }
         | inr differs ↦
             let a = found n us t (sym (further n u us differs) ∙ e) in
-            record { front = u ∷ a.front; back = a.back; was = ap (λ vs. u ∷ vs) a.was; number = a.number; absent = further n u a.front differs ∙ a.absent }
+            record {
+              front = u ∷ a.front;
+              back = a.back;
+              was = ap (λ vs. u ∷ vs) a.was;
+              number = a.number;
+              absent =
+                  further n u a.front differs ∙ a.absent;
+            }
       ]
 
   abbrev pub task_or : Option (Task T) → Option (Task T) → Option (Task T)
@@ -77,7 +92,8 @@ module _ {T : Type 0} where
   append_at n [] b = refl
   append_at n (t ∷ ts) b = pick (eqb t.number n) (append_at n ts b)
     where
-      pick : (c : Bool) → task_at n (ts ++ b) ≡ task_or (task_at n ts) (task_at n b) → (if c then Some t else task_at n (ts ++ b)) ≡ task_or (if c then Some t else task_at n ts) (task_at n b)
+      pick : (c : Bool) → task_at n (ts ++ b) ≡ task_or (task_at n ts) (task_at n b) →
+          (if c then Some t else task_at n (ts ++ b)) ≡ task_or (if c then Some t else task_at n ts) (task_at n b)
       pick true e = refl
       pick false e = e
 
@@ -165,7 +181,8 @@ module _ {T : Type 0} where
         | in_second m p q ↦ in_second m p (ap (λ w. w ∷ vs) (sym same) ∙ ap (λ ws. u ∷ ws) q)
       ]
 
-  pub without_at : (front back : List (Task T)) (t : Task T) → task_at t.number front ≡ None → without t.number (front ++ t ∷ back) ≡ front ++ back
+  pub without_at : (front back : List (Task T)) (t : Task T) → task_at t.number front ≡ None →
+      without t.number (front ++ t ∷ back) ≡ front ++ back
   without_at [] back t e = rw (eq-eqb t.number t.number refl) refl
   without_at (u ∷ us) back t e =
       let h = absent_head t.number u us e in
@@ -177,7 +194,8 @@ module _ {T : Type 0} where
       let h = absent_head t.number u us e in
       rw (ne_eqb u.number t.number h.0) (after_at us back t h.1)
 
-  pub changed_here : (front back : List (Task T)) (t : Task T) (f : Task T → Task T) → task_at t.number front ≡ None → changed_at t.number f (front ++ t ∷ back) ≡ front ++ f t ∷ back
+  pub changed_here : (front back : List (Task T)) (t : Task T) (f : Task T → Task T) → task_at t.number front ≡ None →
+      changed_at t.number f (front ++ t ∷ back) ≡ front ++ f t ∷ back
   changed_here [] back t f e = rw (eq-eqb t.number t.number refl) refl
   changed_here (u ∷ us) back t f e =
       let h = absent_head t.number u us e in
@@ -197,9 +215,11 @@ module _ {T : Type 0} where
   no_child_both p a b e f = youngest_append p a b ∙ ap (λ o. or_else o (youngest p a)) f ∙ e
 
   pub youngest_other : (p : Option ℕ) (t : Task T) (ts : List (Task T)) → (p ≡ t.parent → ⊥) → youngest p (t ∷ ts) ≡ youngest p ts
-  youngest_other p t ts d = ap (λ c. or_else (youngest p ts) (if c then Some t.number else None)) (child_other p t.parent d) ∙ else_none (youngest p ts)
+  youngest_other p t ts d = ap (λ c. or_else (youngest p ts) (if c then Some t.number else None)) (child_other p t.parent d) ∙
+      else_none (youngest p ts)
 
-  pub youngest_same : (p : Option ℕ) (t : Task T) (ts : List (Task T)) → p ≡ t.parent → youngest p (t ∷ ts) ≡ or_else (youngest p ts) (Some t.number)
+  pub youngest_same : (p : Option ℕ) (t : Task T) (ts : List (Task T)) → p ≡ t.parent →
+      youngest p (t ∷ ts) ≡ or_else (youngest p ts) (Some t.number)
   youngest_same p t ts e = ap (λ c. or_else (youngest p ts) (if c then Some t.number else None)) (child_same p t.parent e)
 
   -- a child is no stranger

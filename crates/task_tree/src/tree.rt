@@ -1,10 +1,13 @@
 //! A tree of tasks.
 
-ghost use Rattle.std.specs.Prelude.{◌≡◌, eqb, if◌then◌else◌, true, List, [], ◌∷◌, ◌++◌, None, Some, IfOk, OnOk, OnErr, IfErr, is_some, option_map, option_copied};
+ghost use Rattle.std.specs.Prelude.{◌≡◌, eqb, if◌then◌else◌, true, List, [], ◌∷◌, ◌++◌, None, Some};
+ghost use Rattle.std.specs.Prelude.{IfOk, OnOk, OnErr, IfErr, is_some, option_map, option_copied};
 ghost use Rattle.std.specs.Option.{option_copied_mut};
 ghost use Rattle.std.specs.Borrow.{sem};
 ghost use Rattle.task_tree.specs.declared.tasks.Role.TheVariants as role;
-ghost use Rattle.task_tree.specs.Tasks.{Task, task_at, IsLive, IsArm, IsPossible, suits, HasNoChild, first, after, youngest, without, with_role, finished, is_behind, parent_at};
+ghost use Rattle.task_tree.specs.Tasks.{Task, task_at, IsLive, IsArm, IsPossible, suits};
+ghost use Rattle.task_tree.specs.Tasks.{HasNoChild, first, after, youngest, without, with_role};
+ghost use Rattle.task_tree.specs.Tasks.{finished, is_behind, parent_at};
 ghost use Rattle.task_tree.specs.Nested.{IsTree};
 ghost use Rattle.task_tree.specs.Removing.{Cancels, CancelsBehind, Added, StandsTogether, Visited};
 ghost use Rattle.task_tree.specs.Links.{last, task_of};
@@ -152,7 +155,9 @@ impl<T> TaskTree<T> {
         requires parent { IsPossible parent self.old }
         requires role { suits parent role ≡ true }
         ensures fresh { IfOk result (λ n. task_at n self.old ≡ None) }
-        ensures added { IfOk result (λ n. Added (record { number = n; parent = parent; role = role; item = item }) self.old self.new) }
+        ensures added { IfOk result
+            (λ n. Added (record { number = n; parent = parent; role = role; item = item }) self.old
+            self.new) }
         ensures same { OnErr result (self.new ≡ self.old) }
         ensures item { IfErr result (λ e. e.1 ≡ item) }
     {
@@ -215,7 +220,8 @@ impl<T> TaskTree<T> {
     /// before earlier ones, and of each task after those that it encloses.
     pub fn cancel<V: Visit<T>>(&mut self, id: usize, visit: &mut V)
         requires { IsLive id self.old }
-        ensures { (gone : List (Task T)) × Cancels id self.old gone self.new × Visited V.leaves visit.old gone visit.new }
+        ensures { (gone : List (Task T)) × Cancels id self.old gone self.new ×
+            Visited V.leaves visit.old gone visit.new }
     {
         let mut next = Some(self.end_below(id));
         'tasks: while let Some(at) = next {
@@ -229,7 +235,8 @@ impl<T> TaskTree<T> {
     /// there are `depth` frames, the last one first.
     pub fn cancel_behind<V: Visit<T>>(&mut self, id: usize, depth: u32, visit: &mut V)
         requires { IsLive id self.old }
-        ensures { (gone : List (Task T)) × CancelsBehind id depth self.old gone self.new × Visited V.leaves visit.old gone visit.new }
+        ensures { (gone : List (Task T)) × CancelsBehind id depth self.old gone self.new ×
+            Visited V.leaves visit.old gone visit.new }
     {
         let mut next = self.youngest_child(id);
         'children: while let Some(child) = next {
@@ -250,27 +257,31 @@ impl<T> TaskTree<T> {
     }
 
     fn older(&self, id: usize) -> Option<usize>
-        ensures { (front back : List (Task T)) (t : Task T) → self.now ≡ front ++ t ∷ back → t.number ≡ id → result ≡ youngest t.parent front }
+        ensures { (front back : List (Task T)) (t : Task T) → self.now ≡ front ++ t ∷ back →
+            t.number ≡ id → result ≡ youngest t.parent front }
     {
         links_at(&self.nodes, id)?.older
     }
 
     fn before(&self, id: usize) -> Option<usize>
-        ensures { (front back : List (Task T)) (t : Task T) → self.now ≡ front ++ t ∷ back → t.number ≡ id → result ≡ last front }
+        ensures { (front back : List (Task T)) (t : Task T) → self.now ≡ front ++ t ∷ back →
+            t.number ≡ id → result ≡ last front }
     {
         links_at(&self.nodes, id)?.before
     }
 
     /// The task before this one, unless this is the top one.
     fn before_within(&self, id: usize, top: usize) -> Option<usize>
-        ensures { (front back : List (Task T)) (t : Task T) → self.now ≡ front ++ t ∷ back → t.number ≡ id → result ≡ (if eqb id top then None else last front) }
+        ensures { (front back : List (Task T)) (t : Task T) → self.now ≡ front ++ t ∷ back →
+            t.number ≡ id → result ≡ (if eqb id top then None else last front) }
     {
         if id == top { None } else { self.before(id) }
     }
 
     /// The task behind this one, or the first.
     fn behind(&self, before: Option<usize>) -> Option<usize>
-        ensures { (front back : List (Task T)) → self.now ≡ front ++ back → before ≡ last front → result ≡ first back }
+        ensures { (front back : List (Task T)) → self.now ≡ front ++ back → before ≡ last front →
+            result ≡ first back }
     {
         match before {
             Some(id) => links_at(&self.nodes, id)?.behind,

@@ -1,5 +1,6 @@
 -- Bytes that pass to a sink one after another.
-use Rattle.std.proofs.Common.{◌≡◌, ℕ, ◌+◌, ◌<◌, ◌≤◌, List, [], ◌∷◌, ◌++◌, Option, Result, Ok, Err, OnErr, length, take, drop, get_or, ap, sym, ◌∙◌, append_assoc, arith, append-nil, length-append, subst}
+use Rattle.std.proofs.Common.{◌≡◌, ℕ, ◌+◌, ◌<◌, ◌≤◌, List, [], ◌∷◌, ◌++◌, Option, Result, Ok, Err, OnErr, length, take, drop, get_or, ap}
+use Rattle.std.proofs.Common.{sym, ◌∙◌, append_assoc, arith, append-nil, length-append, subst}
 use Rattle.std.specs.List.{flat_map}
 use Rattle.std.proofs.lemmas.Grind.{flat_map-append}
 use Rattle.std.proofs.lemmas.List.{take_more, take-append-drop}
@@ -18,7 +19,8 @@ joined : (h0 h1 a b x y r : List ℕ) → a ++ h1 ≡ h0 ++ x → b ++ r ≡ h1 
 joined h0 h1 a b x y r e f =
     append_assoc a b r ∙ ap (λ l. a ++ l) f ∙ sym (append_assoc a h1 y) ∙ ap (λ l. l ++ y) e ∙ append_assoc h0 x y
 
-pub passed_then : {t0 t1 t2 : Option (List ℕ)} {h0 h1 h2 x y : List ℕ} → Passed t0 h0 x t1 h1 → Passed t1 h1 y t2 h2 → Passed t0 h0 (x ++ y) t2 h2
+pub passed_then : {t0 t1 t2 : Option (List ℕ)} {h0 h1 h2 x y : List ℕ} → Passed t0 h0 x t1 h1 → Passed t1 h1 y t2 h2 →
+    Passed t0 h0 (x ++ y) t2 h2
 passed_then {t0 = t0} {h0 = h0} {h1 = h1} {h2 = h2} {x = x} {y = y} p q = record {
   sent = p.sent ++ q.sent;
   taken = q.taken ∙ ap (λ t. with_more t q.sent) p.taken ∙ more_twice t0 p.sent q.sent;
@@ -69,26 +71,37 @@ passed_part {t0 = t0} {t2 = t2} {x = x} p q =
     stopped_took (subst (λ ys. Stopped t0 [] ys t2) (append-nil x) stopped)
 
 -- the elements up to i, each as its bytes, and then that of i
-more_at : {A : Type 0} (f : A → List ℕ) (xs : List A) (i : ℕ) (d : A) → i < length xs → flat_map f (take (i + 1) xs) ≡ flat_map f (take i xs) ++ f (get_or xs i d)
+more_at : {A : Type 0} (f : A → List ℕ) (xs : List A) (i : ℕ) (d : A) → i < length xs →
+    flat_map f (take (i + 1) xs) ≡ flat_map f (take i xs) ++ f (get_or xs i d)
 more_at f xs i d h =
     ap (flat_map f) (take_more xs i d h) ∙ flat_map-append f (take i xs) (get_or xs i d ∷ [])
     ∙ ap (λ l. flat_map f (take i xs) ++ l) (append-nil (f (get_or xs i d)))
 
-pub passed_at : {A : Type 0} {t0 t1 t2 : Option (List ℕ)} {h0 h1 h2 : List ℕ} (f : A → List ℕ) (xs : List A) (i : ℕ) (d : A) → i < length xs → Passed t0 h0 (flat_map f (take i xs)) t1 h1 → Passed t1 h1 (f (get_or xs i d)) t2 h2 → Passed t0 h0 (flat_map f (take (i + 1) xs)) t2 h2
-passed_at {t0 = t0} {t2 = t2} {h0 = h0} {h2 = h2} f xs i d h p q = subst (λ ys. Passed t0 h0 ys t2 h2) (sym (more_at f xs i d h)) (passed_then p q)
+pub passed_at : {A : Type 0} {t0 t1 t2 : Option (List ℕ)} {h0 h1 h2 : List ℕ} (f : A → List ℕ) (xs : List A) (i : ℕ) (d : A) →
+    i < length xs → Passed t0 h0 (flat_map f (take i xs)) t1 h1 → Passed t1 h1 (f (get_or xs i d)) t2 h2 →
+    Passed t0 h0 (flat_map f (take (i + 1) xs)) t2 h2
+passed_at {t0 = t0} {t2 = t2} {h0 = h0} {h2 = h2} f xs i d h p q =
+    subst (λ ys. Passed t0 h0 ys t2 h2) (sym (more_at f xs i d h)) (passed_then p q)
 
-pub stopped_at : {A : Type 0} {t0 t1 t2 : Option (List ℕ)} {h0 h1 : List ℕ} (f : A → List ℕ) (xs : List A) (i : ℕ) (d : A) → i < length xs → Passed t0 h0 (flat_map f (take i xs)) t1 h1 → Stopped t1 h1 (f (get_or xs i d)) t2 → Stopped t0 h0 (flat_map f xs) t2
+pub stopped_at : {A : Type 0} {t0 t1 t2 : Option (List ℕ)} {h0 h1 : List ℕ} (f : A → List ℕ) (xs : List A) (i : ℕ) (d : A) → i < length xs →
+    Passed t0 h0 (flat_map f (take i xs)) t1 h1 → Stopped t1 h1 (f (get_or xs i d)) t2 → Stopped t0 h0 (flat_map f xs) t2
 stopped_at {t0 = t0} {t2 = t2} {h0 = h0} f xs i d h p q =
-    let whole : flat_map f (take (i + 1) xs) ++ flat_map f (drop (i + 1) xs) ≡ flat_map f xs = sym (flat_map-append f (take (i + 1) xs) (drop (i + 1) xs)) ∙ ap (flat_map f) (take-append-drop (i + 1) xs) in
-    let stopped : Stopped t0 h0 ((flat_map f (take i xs) ++ f (get_or xs i d)) ++ flat_map f (drop (i + 1) xs)) t2 = stopped_before (stopped_then p q) (flat_map f (drop (i + 1) xs)) in
+    let whole : flat_map f (take (i + 1) xs) ++ flat_map f (drop (i + 1) xs) ≡ flat_map f xs =
+    sym (flat_map-append f (take (i + 1) xs) (drop (i + 1) xs)) ∙ ap (flat_map f) (take-append-drop (i + 1) xs) in
+    let stopped : Stopped t0 h0 ((flat_map f (take i xs) ++ f (get_or xs i d)) ++ flat_map f (drop (i + 1) xs)) t2 =
+    stopped_before (stopped_then p q) (flat_map f (drop (i + 1) xs)) in
     subst (λ ys. Stopped t0 h0 ys t2) (ap (λ ys. ys ++ flat_map f (drop (i + 1) xs)) (sym (more_at f xs i d h)) ∙ whole) stopped
 
 -- the bytes up to i, and then that at i
-pub passed_byte : {t0 t1 t2 : Option (List ℕ)} {h0 h1 h2 : List ℕ} (xs : List ℕ) (i d : ℕ) → i < length xs → Passed t0 h0 (take i xs) t1 h1 → Passed t1 h1 (get_or xs i d ∷ []) t2 h2 → Passed t0 h0 (take (i + 1) xs) t2 h2
-passed_byte {t0 = t0} {t2 = t2} {h0 = h0} {h2 = h2} xs i d h p q = subst (λ ys. Passed t0 h0 ys t2 h2) (sym (take_more xs i d h)) (passed_then p q)
+pub passed_byte : {t0 t1 t2 : Option (List ℕ)} {h0 h1 h2 : List ℕ} (xs : List ℕ) (i d : ℕ) → i < length xs →
+    Passed t0 h0 (take i xs) t1 h1 → Passed t1 h1 (get_or xs i d ∷ []) t2 h2 → Passed t0 h0 (take (i + 1) xs) t2 h2
+passed_byte {t0 = t0} {t2 = t2} {h0 = h0} {h2 = h2} xs i d h p q =
+    subst (λ ys. Passed t0 h0 ys t2 h2) (sym (take_more xs i d h)) (passed_then p q)
 
-pub stopped_byte : {t0 t1 t2 : Option (List ℕ)} {h0 h1 : List ℕ} (xs : List ℕ) (i d : ℕ) → i < length xs → Passed t0 h0 (take i xs) t1 h1 → Stopped t1 h1 (get_or xs i d ∷ []) t2 → Stopped t0 h0 xs t2
+pub stopped_byte : {t0 t1 t2 : Option (List ℕ)} {h0 h1 : List ℕ} (xs : List ℕ) (i d : ℕ) → i < length xs → Passed t0 h0 (take i xs) t1 h1 →
+    Stopped t1 h1 (get_or xs i d ∷ []) t2 → Stopped t0 h0 xs t2
 stopped_byte {t0 = t0} {t2 = t2} {h0 = h0} xs i d h p q =
     let whole : take (i + 1) xs ++ drop (i + 1) xs ≡ xs = take-append-drop (i + 1) xs in
-    let stopped : Stopped t0 h0 ((take i xs ++ get_or xs i d ∷ []) ++ drop (i + 1) xs) t2 = stopped_before (stopped_then p q) (drop (i + 1) xs) in
+    let stopped : Stopped t0 h0 ((take i xs ++ get_or xs i d ∷ []) ++ drop (i + 1) xs) t2 =
+    stopped_before (stopped_then p q) (drop (i + 1) xs) in
     subst (λ ys. Stopped t0 h0 ys t2) (ap (λ ys. ys ++ drop (i + 1) xs) (sym (take_more xs i d h)) ∙ whole) stopped

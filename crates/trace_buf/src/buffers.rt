@@ -1,8 +1,10 @@
-ghost use Rattle.std.specs.Prelude.{◌≡◌, ◌≢◌, ◌+◌, ◌<◌, ◌≤◌, ◌↔◌, [], ◌∷◌, IsErrOf, OnErr, OnOk, length, take};
+ghost use Rattle.std.specs.Prelude.{◌≡◌, ◌≢◌, ◌+◌, ◌<◌, ◌≤◌, ◌↔◌, [], ◌∷◌, IsErrOf, OnErr, OnOk};
+ghost use Rattle.std.specs.Prelude.{length, take};
 ghost use Rattle.verse_base.specs.TraceLine.{line_bytes};
 ghost use Rattle.verse_outside.specs.Causes.{Rose};
 ghost use Rattle.verse_outside.specs.Held.{TookPrefix, with_more};
-ghost use Rattle.trace_buf.specs.Trace.{Trace, committed, drained, marked, outside, printed, printed_size, rolled_back, with_line};
+ghost use Rattle.trace_buf.specs.Trace.{Trace, committed, drained, marked, outside, printed};
+ghost use Rattle.trace_buf.specs.Trace.{printed_size, rolled_back, with_line};
 ghost use Rattle.trace_buf.specs.declared.buffers.LineFault.TheVariants as fault;
 
 use crate::lines::{Kept, front, remove_front, write_lines};
@@ -90,7 +92,8 @@ impl TraceBuf {
     /// printed bytes, the drained ones counted, would pass 16777216.
     pub fn line(&mut self, now: u64, text: &[u8]) -> Result<(), LineFault>
         ensures added { OnOk result (self.new ≡ with_line self.old now text.now) }
-        ensures full { IsErrOf result LineFault.Full ↔ (16777216 < printed_size self.old + length (line_bytes now text.now)) }
+        ensures full { IsErrOf result LineFault.Full ↔
+            (16777216 < printed_size self.old + length (line_bytes now text.now)) }
         ensures refused { OnErr result (self.new ≡ self.old) }
     {
         let size = line_size(now, text);
@@ -154,9 +157,12 @@ impl TraceBuf {
 
     /// How far the lines go that stand outside every open mark.
     fn settled(&self) -> Mark
-        ensures lines { result.lines ≡ self.now.lines + length (outside self.now.kept self.now.marks) }
-        ensures bytes { result.bytes ≡ self.now.bytes + length (printed (outside self.now.kept self.now.marks)) }
-        ensures front { outside self.now.kept self.now.marks ≡ take (length (outside self.now.kept self.now.marks)) self.now.kept }
+        ensures lines { result.lines ≡
+            self.now.lines + length (outside self.now.kept self.now.marks) }
+        ensures bytes { result.bytes ≡
+            self.now.bytes + length (printed (outside self.now.kept self.now.marks)) }
+        ensures front { outside self.now.kept self.now.marks ≡
+            take (length (outside self.now.kept self.now.marks)) self.now.kept }
     {
         match self.marks.first() {
             Some(oldest) => *oldest,
@@ -168,8 +174,12 @@ impl TraceBuf {
     /// comes only where the sink's count rose, a prefix of them was taken.
     pub fn drain<S: Sink>(&mut self, out: &mut S) -> Result<(), Failed>
         ensures drained { OnOk result (self.new ≡ drained self.old) }
-        ensures written { OnOk result (S.taken out.new ≡ with_more (S.taken out.old) (printed (outside self.old.kept self.old.marks))) }
-        ensures part { OnErr result (TookPrefix (S.taken out.old) (printed (outside self.old.kept self.old.marks)) (S.taken out.new)) }
+        ensures written { OnOk result
+            (S.taken out.new ≡ with_more (S.taken out.old)
+            (printed (outside self.old.kept self.old.marks))) }
+        ensures part { OnErr result
+            (TookPrefix (S.taken out.old) (printed (outside self.old.kept self.old.marks))
+            (S.taken out.new)) }
         ensures kept { OnErr result (self.new ≡ self.old) }
         ensures later { S.faults out.old ≤ S.faults out.new }
         ensures failed { OnErr result (Rose (S.faults out.old) (S.faults out.new)) }

@@ -1,4 +1,5 @@
-ghost use Rattle.std.specs.Prelude.{◌≡◌, ◌≤◌, ◌<◌, ◌++◌, ◌∷◌, [], OnErr, OnOk, length, map, drop, take};
+ghost use Rattle.std.specs.Prelude.{◌≡◌, ◌≤◌, ◌<◌, ◌++◌, ◌∷◌, [], OnErr, OnOk, length, map, drop};
+ghost use Rattle.std.specs.Prelude.{take};
 ghost use Rattle.verse_base.specs.TraceLine.{escaped, escaped_byte, line_bytes};
 ghost use Rattle.verse_outside.specs.Causes.{Rose};
 ghost use Rattle.verse_outside.specs.Held.{TookPrefix, with_more};
@@ -18,8 +19,10 @@ pub(crate) struct Kept {
 }
 
 fn put_escaped<S: Sink>(out: &mut S, piece: &mut Piece, byte: u8) -> Result<(), Failed>
-    ensures passed { OnOk result (Passed (S.taken out.old) piece.old (escaped_byte byte) (S.taken out.new) piece.new) }
-    ensures stopped { OnErr result (Stopped (S.taken out.old) piece.old (escaped_byte byte) (S.taken out.new)) }
+    ensures passed { OnOk result
+        (Passed (S.taken out.old) piece.old (escaped_byte byte) (S.taken out.new) piece.new) }
+    ensures stopped { OnErr result
+        (Stopped (S.taken out.old) piece.old (escaped_byte byte) (S.taken out.new)) }
     ensures later { S.faults out.old ≤ S.faults out.new }
     ensures failed { OnErr result (Rose (S.faults out.old) (S.faults out.new)) }
 {
@@ -31,8 +34,10 @@ fn put_escaped<S: Sink>(out: &mut S, piece: &mut Piece, byte: u8) -> Result<(), 
 }
 
 fn put_text<S: Sink>(out: &mut S, piece: &mut Piece, text: &[u8]) -> Result<(), Failed>
-    ensures passed { OnOk result (Passed (S.taken out.old) piece.old (escaped text.now) (S.taken out.new) piece.new) }
-    ensures stopped { OnErr result (Stopped (S.taken out.old) piece.old (escaped text.now) (S.taken out.new)) }
+    ensures passed { OnOk result
+        (Passed (S.taken out.old) piece.old (escaped text.now) (S.taken out.new) piece.new) }
+    ensures stopped { OnErr result
+        (Stopped (S.taken out.old) piece.old (escaped text.now) (S.taken out.new)) }
     ensures later { S.faults out.old ≤ S.faults out.new }
     ensures failed { OnErr result (Rose (S.faults out.old) (S.faults out.new)) }
 {
@@ -43,8 +48,10 @@ fn put_text<S: Sink>(out: &mut S, piece: &mut Piece, text: &[u8]) -> Result<(), 
 }
 
 fn put_line<S: Sink>(out: &mut S, piece: &mut Piece, now: u64, text: &[u8]) -> Result<(), Failed>
-    ensures passed { OnOk result (Passed (S.taken out.old) piece.old (line_bytes now text.now) (S.taken out.new) piece.new) }
-    ensures stopped { OnErr result (Stopped (S.taken out.old) piece.old (line_bytes now text.now) (S.taken out.new)) }
+    ensures passed { OnOk result
+        (Passed (S.taken out.old) piece.old (line_bytes now text.now) (S.taken out.new) piece.new) }
+    ensures stopped { OnErr result
+        (Stopped (S.taken out.old) piece.old (line_bytes now text.now) (S.taken out.new)) }
     ensures later { S.faults out.old ≤ S.faults out.new }
     ensures failed { OnErr result (Rose (S.faults out.old) (S.faults out.new)) }
 {
@@ -57,8 +64,11 @@ fn put_line<S: Sink>(out: &mut S, piece: &mut Piece, now: u64, text: &[u8]) -> R
 }
 
 fn put_lines<S: Sink>(out: &mut S, piece: &mut Piece, lines: &[Kept]) -> Result<(), Failed>
-    ensures passed { OnOk result (Passed (S.taken out.old) piece.old (printed (map line_of lines.now)) (S.taken out.new) piece.new) }
-    ensures stopped { OnErr result (Stopped (S.taken out.old) piece.old (printed (map line_of lines.now)) (S.taken out.new)) }
+    ensures passed { OnOk result
+        (Passed (S.taken out.old) piece.old (printed (map line_of lines.now))
+        (S.taken out.new) piece.new) }
+    ensures stopped { OnErr result
+        (Stopped (S.taken out.old) piece.old (printed (map line_of lines.now)) (S.taken out.new)) }
     ensures later { S.faults out.old ≤ S.faults out.new }
     ensures failed { OnErr result (Rose (S.faults out.old) (S.faults out.new)) }
 {
@@ -70,8 +80,10 @@ fn put_lines<S: Sink>(out: &mut S, piece: &mut Piece, lines: &[Kept]) -> Result<
 
 /// Writes the lines' printed form, in pieces of at most 4096 bytes.
 pub(crate) fn write_lines<S: Sink>(out: &mut S, lines: &[Kept]) -> Result<(), Failed>
-    ensures whole { OnOk result (S.taken out.new ≡ with_more (S.taken out.old) (printed (map line_of lines.now))) }
-    ensures part { OnErr result (TookPrefix (S.taken out.old) (printed (map line_of lines.now)) (S.taken out.new)) }
+    ensures whole { OnOk result (S.taken out.new ≡
+        with_more (S.taken out.old) (printed (map line_of lines.now))) }
+    ensures part { OnErr result (TookPrefix (S.taken out.old) (printed (map line_of lines.now))
+        (S.taken out.new)) }
     ensures later { S.faults out.old ≤ S.faults out.new }
     ensures failed { OnErr result (Rose (S.faults out.old) (S.faults out.new)) }
 {

@@ -1,4 +1,5 @@
-ghost use Rattle.std.specs.Prelude.{◌≡◌, ◌+◌, ◌<◌, ◌≤◌, ◌↔◌, ◌++◌, ◌∷◌, [], ℕ, List, IsTrue, OnErr, OnOk, length, take};
+ghost use Rattle.std.specs.Prelude.{◌≡◌, ◌+◌, ◌<◌, ◌≤◌, ◌↔◌, ◌++◌, ◌∷◌, [], ℕ, List, IsTrue, OnErr};
+ghost use Rattle.std.specs.Prelude.{OnOk, length, take};
 ghost use Rattle.verse_outside.specs.Causes.{Rose};
 ghost use Rattle.verse_outside.specs.Held.{TookPrefix, with_more};
 ghost use Rattle.trace_buf.specs.Passing.{Passed, Stopped};
@@ -72,8 +73,10 @@ pub(crate) fn flush<S: Sink>(out: &mut S, piece: &mut Piece) -> Result<(), Faile
 }
 
 pub(crate) fn put<S: Sink>(out: &mut S, piece: &mut Piece, byte: u8) -> Result<(), Failed>
-    ensures passed { OnOk result (Passed (S.taken out.old) piece.old (byte ∷ []) (S.taken out.new) piece.new) }
-    ensures stopped { OnErr result (Stopped (S.taken out.old) piece.old (byte ∷ []) (S.taken out.new)) }
+    ensures passed { OnOk result
+        (Passed (S.taken out.old) piece.old (byte ∷ []) (S.taken out.new) piece.new) }
+    ensures stopped { OnErr result
+        (Stopped (S.taken out.old) piece.old (byte ∷ []) (S.taken out.new)) }
     ensures later { S.faults out.old ≤ S.faults out.new }
     ensures failed { OnErr result (Rose (S.faults out.old) (S.faults out.new)) }
 {
@@ -85,8 +88,10 @@ pub(crate) fn put<S: Sink>(out: &mut S, piece: &mut Piece, byte: u8) -> Result<(
 }
 
 pub(crate) fn put_bytes<S: Sink>(out: &mut S, piece: &mut Piece, bytes: &[u8]) -> Result<(), Failed>
-    ensures passed { OnOk result (Passed (S.taken out.old) piece.old bytes.now (S.taken out.new) piece.new) }
-    ensures stopped { OnErr result (Stopped (S.taken out.old) piece.old bytes.now (S.taken out.new)) }
+    ensures passed { OnOk result
+        (Passed (S.taken out.old) piece.old bytes.now (S.taken out.new) piece.new) }
+    ensures stopped { OnErr result
+        (Stopped (S.taken out.old) piece.old bytes.now (S.taken out.new)) }
     ensures later { S.faults out.old ≤ S.faults out.new }
     ensures failed { OnErr result (Rose (S.faults out.old) (S.faults out.new)) }
 {

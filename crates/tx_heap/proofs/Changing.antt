@@ -13,11 +13,13 @@ use Rattle.verse_cells.proofs.Stored.{slot_stored, stored_back}
 use Rattle.tx_heap.specs.Undo.{back, changed, CanGoBack, UndoneBy}
 use Rattle.tx_heap.specs.declared.entries.Entry.TheVariants as entry
 
-pub set_goes : (cells after : Store) (at : Address) (old : Value) (value : Val) → after ≡ stored cells at.cell at.slot value → slot_of cells at.cell at.slot ≡ Some (val_of old) → back (entry.Slot at old) after ≡ cells
+pub set_goes : (cells after : Store) (at : Address) (old : Value) (value : Val) → after ≡ stored cells at.cell at.slot value →
+    slot_of cells at.cell at.slot ≡ Some (val_of old) → back (entry.Slot at old) after ≡ cells
 set_goes cells after at old value e there =
     ap (λ (s : Store). stored s at.cell at.slot (val_of old)) e ∙ stored_back cells at.cell at.slot (val_of old) value there
 
-pub set_can : (cells after : Store) (at : Address) (old : Value) (value : Val) → after ≡ stored cells at.cell at.slot value → slot_of cells at.cell at.slot ≡ Some (val_of old) → CanGoBack (entry.Slot at old) after
+pub set_can : (cells after : Store) (at : Address) (old : Value) (value : Val) → after ≡ stored cells at.cell at.slot value →
+    slot_of cells at.cell at.slot ≡ Some (val_of old) → CanGoBack (entry.Slot at old) after
 set_can cells after at old value e there =
     let P : Option Val → Type 0 = λ o. IsSome o in
     subst P (sym (ap (λ (s : Store). slot_of s at.cell at.slot) e ∙ slot_stored cells at.cell at.slot (val_of old) value there)) refl
@@ -28,28 +30,37 @@ push_goes cells after c e = ap (back entry.Added) e ∙ take_at cells (c ∷ [])
 pub push_can : (cells after : Store) (c : Cell) → after ≡ with_cell cells c → CanGoBack entry.Added after
 push_can cells after c e = omega (arith, ap length e, length_push cells c)
 
-written_there : (at : Address) (path : List Val) (undo : Undo) (before after : Store) → (w : InCell at.cell at.slot (UndoneBy path undo) before after) → slot_of after at.cell at.slot ≡ Some w.to
+written_there : (at : Address) (path : List Val) (undo : Undo) (before after : Store) →
+    (w : InCell at.cell at.slot (UndoneBy path undo) before after) → slot_of after at.cell at.slot ≡ Some w.to
 written_there at path undo before after w =
     ap (λ (s : Store). slot_of s at.cell at.slot) w.cells ∙ slot_stored before at.cell at.slot w.from w.to w.there
 
-written_goes : (at : Address) (path : List Val) (undo : Undo) (before after : Store) → InCell at.cell at.slot (UndoneBy path undo) before after → changed (slot_of after at.cell at.slot) at (undone path undo) after ≡ before
+written_goes : (at : Address) (path : List Val) (undo : Undo) (before after : Store) →
+    InCell at.cell at.slot (UndoneBy path undo) before after → changed (slot_of after at.cell at.slot) at (undone path undo) after ≡ before
 written_goes at path undo before after w =
-    ap (λ (o : Option Val). changed o at (undone path undo) after) (written_there at path undo before after w) ∙ (ap (λ (v : Val). stored after at.cell at.slot v) w.goes.back ∙ (ap (λ (s : Store). stored s at.cell at.slot w.from) w.cells ∙ stored_back before at.cell at.slot w.from w.to w.there))
+    ap (λ (o : Option Val). changed o at (undone path undo) after) (written_there at path undo before after w) ∙
+    (ap (λ (v : Val). stored after at.cell at.slot v) w.goes.back ∙
+    (ap (λ (s : Store). stored s at.cell at.slot w.from) w.cells ∙ stored_back before at.cell at.slot w.from w.to w.there))
 
-written_can : (at : Address) (path : List Val) (undo : Undo) (before after : Store) → InCell at.cell at.slot (UndoneBy path undo) before after → CanUndoIn path undo (slot_of after at.cell at.slot)
+written_can : (at : Address) (path : List Val) (undo : Undo) (before after : Store) →
+    InCell at.cell at.slot (UndoneBy path undo) before after → CanUndoIn path undo (slot_of after at.cell at.slot)
 written_can at path undo before after w =
     subst (CanUndoIn path undo) (sym (written_there at path undo before after w)) w.goes.can_undo
 
-pub write_goes : (at : Address) (path kept : List Value) (undo : Undo) (before after : Store) → vals_of kept ≡ vals_of path → InCell at.cell at.slot (UndoneBy (vals_of path) undo) before after → back (entry.Part at kept undo) after ≡ before
+pub write_goes : (at : Address) (path kept : List Value) (undo : Undo) (before after : Store) → vals_of kept ≡ vals_of path →
+    InCell at.cell at.slot (UndoneBy (vals_of path) undo) before after → back (entry.Part at kept undo) after ≡ before
 write_goes at path kept undo before after same w =
     let P : List Val → Type 0 = λ p. changed (slot_of after at.cell at.slot) at (undone p undo) after ≡ before in
     subst P (sym same) (written_goes at (vals_of path) undo before after w)
 
-pub write_can : (at : Address) (path kept : List Value) (undo : Undo) (before after : Store) → vals_of kept ≡ vals_of path → InCell at.cell at.slot (UndoneBy (vals_of path) undo) before after → CanGoBack (entry.Part at kept undo) after
+pub write_can : (at : Address) (path kept : List Value) (undo : Undo) (before after : Store) → vals_of kept ≡ vals_of path →
+    InCell at.cell at.slot (UndoneBy (vals_of path) undo) before after → CanGoBack (entry.Part at kept undo) after
 write_can at path kept undo before after same w =
     let P : List Val → Type 0 = λ p. CanUndoIn p undo (slot_of after at.cell at.slot) in
     subst P (sym same) (written_can at (vals_of path) undo before after w)
 
-pub taken_back : (at : Address) (path : List Value) (undo : Undo) (before after : Store) → InCell at.cell at.slot (IsUndone (vals_of path) undo) before after → after ≡ back (entry.Part at path undo) before
+pub taken_back : (at : Address) (path : List Value) (undo : Undo) (before after : Store) →
+    InCell at.cell at.slot (IsUndone (vals_of path) undo) before after → after ≡ back (entry.Part at path undo) before
 taken_back at path undo before after w =
-    w.cells ∙ (ap (λ (v : Val). stored before at.cell at.slot v) w.goes ∙ sym (ap (λ (o : Option Val). changed o at (undone (vals_of path) undo) before) w.there))
+    w.cells ∙ (ap (λ (v : Val). stored before at.cell at.slot v) w.goes ∙
+    sym (ap (λ (o : Option Val). changed o at (undone (vals_of path) undo) before) w.there))

@@ -1,5 +1,6 @@
 -- The limit of the store, from the weight that is spare.
-use Rattle.std.proofs.Common.{◌≡◌, ◌≤◌, ◌+◌, ◌-◌, min, ℕ, Bool, true, false, List, Option, Some, None, Result, Ok, Err, refl, sym, ap, ◌∙◌, arith, if◌then◌else◌}
+use Rattle.std.proofs.Common.{◌≡◌, ◌≤◌, ◌+◌, ◌-◌, min, ℕ, Bool, true, false, List, Option, Some, None, Result, Ok, Err, refl, sym, ap, ◌∙◌}
+use Rattle.std.proofs.Common.{arith, if◌then◌else◌}
 use Rattle.std.specs.Prelude.{nat_le}
 use Rattle.std.proofs.lemmas.Bool.{le-leb, leb-true}
 use Rattle.verse_base.specs.declared.refusals.Kind.TheVariants as kind
@@ -36,11 +37,14 @@ abbrev pub in_cells : Store → ℕ → ℕ → Result (Val × Val) WriteFault �
 in_cells cells cell slot (Ok w) = Ok (stored cells cell slot w.0, w.1)
 in_cells cells cell slot (Err fault) = Err fault
 
-in_cells_if : (cells : Store) (cell slot : ℕ) (w : Val × Val) (b : Bool) → (if b then Ok (stored cells cell slot w.0, w.1) else Err (Fault kind.Store)) ≡ in_cells cells cell slot (if b then Ok w else Err (Fault kind.Store))
+in_cells_if : (cells : Store) (cell slot : ℕ) (w : Val × Val) (b : Bool) →
+    (if b then Ok (stored cells cell slot w.0, w.1) else Err (Fault kind.Store)) ≡
+    in_cells cells cell slot (if b then Ok w else Err (Fault kind.Store))
 in_cells_if cells cell slot w true = refl
 in_cells_if cells cell slot w false = refl
 
-light_spare : (cells : Store) (cell slot weight : ℕ) (from to : Val) → IsWeighed weight cells → slot_of cells cell slot ≡ Some from → nat_le (store_weight (stored cells cell slot to)) 16000000 ≡ nat_le (weight_of to) (weight_of from + (16000000 - weight))
+light_spare : (cells : Store) (cell slot weight : ℕ) (from to : Val) → IsWeighed weight cells → slot_of cells cell slot ≡ Some from →
+    nat_le (store_weight (stored cells cell slot to)) 16000000 ≡ nat_le (weight_of to) (weight_of from + (16000000 - weight))
 light_spare cells cell slot weight from to w there =
     let sum = store_weight_stored cells cell slot from to there in
     let part = slot_weight cells cell slot from there in
@@ -48,43 +52,59 @@ light_spare cells cell slot weight from to w there =
     (λ h. omega (arith, h, sum, part, w.sum, w.light))
     (λ h. omega (arith, h, sum, part, w.sum, w.light))
 
-with_written_spared : (cells : Store) (cell slot weight : ℕ) (from : Val) (o : Result (Val × Val) WriteFault) → IsWeighed weight cells → slot_of cells cell slot ≡ Some from → with_written cells cell slot o ≡ in_cells cells cell slot (spared (16000000 - weight) from o)
+with_written_spared : (cells : Store) (cell slot weight : ℕ) (from : Val) (o : Result (Val × Val) WriteFault) → IsWeighed weight cells →
+    slot_of cells cell slot ≡ Some from → with_written cells cell slot o ≡ in_cells cells cell slot (spared (16000000 - weight) from o)
 with_written_spared cells cell slot weight from (Err fault) w there = refl
 with_written_spared cells cell slot weight from (Ok v) w there =
-    ap (λ (b : Bool). if b then Ok (stored cells cell slot v.0, v.1) else Err (Fault kind.Store)) (light_spare cells cell slot weight from v.0 w there) ∙ in_cells_if cells cell slot v _
+    ap (λ (b : Bool). if b then Ok (stored cells cell slot v.0, v.1) else Err (Fault kind.Store))
+    (light_spare cells cell slot weight from v.0 w there) ∙ in_cells_if cells cell slot v _
 
-written_spared : (cells : Store) (cell slot weight : ℕ) (path : List Val) (mode : Mode) (value : Val) (o : Option Val) → IsWeighed weight cells → slot_of cells cell slot ≡ o → written_from cells cell slot path mode value o ≡ in_cells cells cell slot (slot_written (16000000 - weight) path mode value o)
+written_spared : (cells : Store) (cell slot weight : ℕ) (path : List Val) (mode : Mode) (value : Val) (o : Option Val) →
+    IsWeighed weight cells → slot_of cells cell slot ≡ o →
+    written_from cells cell slot path mode value o ≡ in_cells cells cell slot (slot_written (16000000 - weight) path mode value o)
 written_spared cells cell slot weight path mode value None w there = refl
 written_spared cells cell slot weight path mode value (Some from) w there =
     with_written_spared cells cell slot weight from (written path mode value from) w there
 
-pub cells_written_spared : (cells : Store) (cell slot weight : ℕ) (path : List Val) (mode : Mode) (value : Val) → IsWeighed weight cells → cells_written cells cell slot path mode value ≡ in_cells cells cell slot (slot_written (16000000 - weight) path mode value (slot_of cells cell slot))
-cells_written_spared cells cell slot weight path mode value w = written_spared cells cell slot weight path mode value (slot_of cells cell slot) w refl
+pub cells_written_spared : (cells : Store) (cell slot weight : ℕ) (path : List Val) (mode : Mode) (value : Val) → IsWeighed weight cells →
+    cells_written cells cell slot path mode value ≡
+    in_cells cells cell slot (slot_written (16000000 - weight) path mode value (slot_of cells cell slot))
+cells_written_spared cells cell slot weight path mode value w =
+    written_spared cells cell slot weight path mode value (slot_of cells cell slot) w refl
 
 -- a write within the spare weight is one within the limit
-pub write_lands : (cells after : Store) (cell slot weight : ℕ) (path : List Val) (mode : Mode) (value : Val) (wanted : Wanted) (change : Change) → IsWeighed weight cells → InCell cell slot (IsWrite (16000000 - weight) path mode value wanted change) cells after → Lands wanted (cells_written cells cell slot path mode value) after change.value
+pub write_lands : (cells after : Store) (cell slot weight : ℕ) (path : List Val) (mode : Mode) (value : Val) (wanted : Wanted)
+    (change : Change) → IsWeighed weight cells → InCell cell slot (IsWrite (16000000 - weight) path mode value wanted change) cells after →
+    Lands wanted (cells_written cells cell slot path mode value) after change.value
 write_lands cells after cell slot weight path mode value wanted change weighed w =
     let gives = ap (slot_written (16000000 - weight) path mode value) w.there ∙ w.goes.gives in
     record {
       wrote = w.goes.wrote;
-      is = cells_written_spared cells cell slot weight path mode value weighed ∙ (ap (in_cells cells cell slot) gives ∙ ap (λ (s : Store). Ok (s, w.goes.wrote)) (sym w.cells));
+      is = cells_written_spared cells cell slot weight path mode value weighed ∙
+          (ap (in_cells cells cell slot) gives ∙ ap (λ (s : Store). Ok (s, w.goes.wrote)) (sym w.cells));
       answers = w.goes.answers;
     }
 
-explains_same : {V W : Type 0} (o : Result V WriteFault) (p : Result W WriteFault) (fault : WriteFault) → (o ≡ Err fault → p ≡ Err fault) → Explains o fault → Explains p fault
+explains_same : {V W : Type 0} (o : Result V WriteFault) (p : Result W WriteFault) (fault : WriteFault) → (o ≡ Err fault → p ≡ Err fault) →
+    Explains o fault → Explains p fault
 explains_same o p Memory f h = tt
 explains_same o p Fail f h = f h
 explains_same o p (Fault k) f h = f h
 explains_same o p Stuck f h = f h
 
-pub fault_lands : (cells : Store) (cell slot weight : ℕ) (path : List Val) (mode : Mode) (value : Val) (fault : WriteFault) → IsWeighed weight cells → Explains (slot_written (16000000 - weight) path mode value (slot_of cells cell slot)) fault → Explains (cells_written cells cell slot path mode value) fault
+pub fault_lands : (cells : Store) (cell slot weight : ℕ) (path : List Val) (mode : Mode) (value : Val) (fault : WriteFault) →
+    IsWeighed weight cells → Explains (slot_written (16000000 - weight) path mode value (slot_of cells cell slot)) fault →
+    Explains (cells_written cells cell slot path mode value) fault
 fault_lands cells cell slot weight path mode value fault weighed h =
-    explains_same (slot_written (16000000 - weight) path mode value (slot_of cells cell slot)) (cells_written cells cell slot path mode value) fault
+    explains_same (slot_written (16000000 - weight) path mode value (slot_of cells cell slot))
+    (cells_written cells cell slot path mode value) fault
     (λ e. cells_written_spared cells cell slot weight path mode value weighed ∙ ap (in_cells cells cell slot) e)
     h
 
 -- what undoes the write
-pub write_undone : (cells after : Store) (cell slot spare : ℕ) (path : List Val) (mode : Mode) (value : Val) (wanted : Wanted) (change : Change) → InCell cell slot (IsWrite spare path mode value wanted change) cells after → InCell cell slot (UndoneBy path change.undo) cells after
+pub write_undone : (cells after : Store) (cell slot spare : ℕ) (path : List Val) (mode : Mode) (value : Val) (wanted : Wanted)
+    (change : Change) → InCell cell slot (IsWrite spare path mode value wanted change) cells after →
+    InCell cell slot (UndoneBy path change.undo) cells after
 write_undone cells after cell slot spare path mode value wanted change w = record {
   from = w.from;
   to = w.to;
@@ -99,7 +119,10 @@ pub record Reweighs (weight before after : ℕ) (cells : Store) : Type 0 where
   pub light : weight + after ≤ 16000000 + before
   pub weighed : (sum : ℕ) → sum + before ≡ weight + after → IsWeighed sum cells
 
-pub reweighs : (weight before after : ℕ) (cells new : Store) (cell slot : ℕ) (from to : Val) → IsWeighed weight cells → slot_of cells cell slot ≡ Some from → before ≡ min (weight_of from) 18446744073709551615 → after ≡ min (weight_of to) 18446744073709551615 → new ≡ stored cells cell slot to → store_weight (stored cells cell slot to) ≤ 16000000 → Reweighs weight before after new
+pub reweighs : (weight before after : ℕ) (cells new : Store) (cell slot : ℕ) (from to : Val) → IsWeighed weight cells →
+    slot_of cells cell slot ≡ Some from → before ≡ min (weight_of from) 18446744073709551615 →
+    after ≡ min (weight_of to) 18446744073709551615 → new ≡ stored cells cell slot to →
+    store_weight (stored cells cell slot to) ≤ 16000000 → Reweighs weight before after new
 reweighs weight before after cells new cell slot from to w there is_before is_after is light =
     let sum = store_weight_stored cells cell slot from to there in
     let part = slot_weight cells cell slot from there in
@@ -116,18 +139,22 @@ reweighs weight before after cells new cell slot from to w there is_before is_af
       };
     }
 
-spared_within : (spare : ℕ) (from : Val) (w : Val × Val) (to value : Val) (b : Bool) → nat_le (weight_of w.0) (weight_of from + spare) ≡ b → (if b then Ok w else Err (Fault kind.Store)) ≡ Ok (to, value) → weight_of to ≤ weight_of from + spare
+spared_within : (spare : ℕ) (from : Val) (w : Val × Val) (to value : Val) (b : Bool) → nat_le (weight_of w.0) (weight_of from + spare) ≡ b →
+    (if b then Ok w else Err (Fault kind.Store)) ≡ Ok (to, value) → weight_of to ≤ weight_of from + spare
 spared_within spare from w to value true h e =
     let same : w ≡ (to, value) = cc in
     let le = leb-true (weight_of w.0) (weight_of from + spare) h in
     omega (arith, le, ap (λ (x : Val × Val). weight_of x.0) same)
 spared_within spare from w to value false h e = cc
 
-spared_light : (spare : ℕ) (from to value : Val) (o : Result (Val × Val) WriteFault) → spared spare from o ≡ Ok (to, value) → weight_of to ≤ weight_of from + spare
+spared_light : (spare : ℕ) (from to value : Val) (o : Result (Val × Val) WriteFault) → spared spare from o ≡ Ok (to, value) →
+    weight_of to ≤ weight_of from + spare
 spared_light spare from to value (Err fault) e = cc
 spared_light spare from to value (Ok w) e = spared_within spare from w to value _ refl e
 
-pub write_reweighs : (weight : ℕ) (cells new : Store) (cell slot : ℕ) (path : List Val) (mode : Mode) (value : Val) (wanted : Wanted) (change : Change) → IsWeighed weight cells → InCell cell slot (IsWrite (16000000 - weight) path mode value wanted change) cells new → Reweighs weight change.before change.after new
+pub write_reweighs : (weight : ℕ) (cells new : Store) (cell slot : ℕ) (path : List Val) (mode : Mode) (value : Val) (wanted : Wanted)
+    (change : Change) → IsWeighed weight cells → InCell cell slot (IsWrite (16000000 - weight) path mode value wanted change) cells new →
+    Reweighs weight change.before change.after new
 write_reweighs weight cells new cell slot path mode value wanted change weighed w =
     let sum = store_weight_stored cells cell slot w.from w.to w.there in
     let part = slot_weight cells cell slot w.from w.there in
@@ -140,7 +167,8 @@ pub record Grows (weight more : ℕ) (cells : Store) : Type 0 where
   pub light : weight + more ≤ 16000000
   pub weighed : (sum : ℕ) → sum ≡ weight + more → IsWeighed sum cells
 
-pub grows : (weight more : ℕ) (cells new : Store) (c : Cell) → IsWeighed weight cells → more ≡ min (cell_weight c) 18446744073709551615 → new ≡ with_cell cells c → store_weight (with_cell cells c) ≤ 16000000 → Grows weight more new
+pub grows : (weight more : ℕ) (cells new : Store) (c : Cell) → IsWeighed weight cells → more ≡ min (cell_weight c) 18446744073709551615 →
+    new ≡ with_cell cells c → store_weight (with_cell cells c) ≤ 16000000 → Grows weight more new
 grows weight more cells new c w is_more is light =
     let sum = store_weight_push cells c in
     let all = ap store_weight is in
@@ -151,18 +179,26 @@ grows weight more cells new c w is_more is light =
     }
 
 -- what the slots of a new cell weigh
-pub slots_weight : (kind : CellKind) (vs ws : List Value) (n : ℕ) → vs ≡ ws → n ≡ min (1 + weights (vals (vals_of vs))) 18446744073709551615 → n ≡ min (cell_weight (new_cell kind (vals_of ws))) 18446744073709551615
+pub slots_weight : (kind : CellKind) (vs ws : List Value) (n : ℕ) → vs ≡ ws →
+    n ≡ min (1 + weights (vals (vals_of vs))) 18446744073709551615 → n ≡ min (cell_weight (new_cell kind (vals_of ws))) 18446744073709551615
 slots_weight kind vs ws n same e = e ∙ ap (λ (xs : List Value). min (1 + weights (vals (vals_of xs))) 18446744073709551615) same
 
 -- whether a change keeps the limit, as the weights tell
 
-pub add_keeps : (cells : Store) (c : Cell) (weight more sum : ℕ) → weight ≡ store_weight cells → more ≡ min (cell_weight c) 18446744073709551615 → sum ≡ min (weight + more) 18446744073709551615 → sum ≤ 16000000 → IsLight (with_cell cells c)
+pub add_keeps : (cells : Store) (c : Cell) (weight more sum : ℕ) → weight ≡ store_weight cells →
+    more ≡ min (cell_weight c) 18446744073709551615 → sum ≡ min (weight + more) 18446744073709551615 → sum ≤ 16000000 →
+    IsLight (with_cell cells c)
 add_keeps cells c weight more sum w m s h = omega (arith, store_weight_push cells c, w, m, s, h)
 
-pub add_kept : (cells : Store) (c : Cell) (weight more sum : ℕ) → weight ≡ store_weight cells → more ≡ min (cell_weight c) 18446744073709551615 → sum ≡ min (weight + more) 18446744073709551615 → IsLight (with_cell cells c) → sum ≤ 16000000
+pub add_kept : (cells : Store) (c : Cell) (weight more sum : ℕ) → weight ≡ store_weight cells →
+    more ≡ min (cell_weight c) 18446744073709551615 → sum ≡ min (weight + more) 18446744073709551615 → IsLight (with_cell cells c) →
+    sum ≤ 16000000
 add_kept cells c weight more sum w m s h = omega (arith, store_weight_push cells c, w, m, s, h)
 
-pub set_keeps : (cells : Store) (cell slot : ℕ) (from to : Val) (weight before after sum : ℕ) → slot_of cells cell slot ≡ Some from → weight ≡ store_weight cells → store_weight cells ≤ 16000000 → before ≡ min (weight_of from) 18446744073709551615 → after ≡ min (weight_of to) 18446744073709551615 → sum ≡ min (weight - before + after) 18446744073709551615 → sum ≤ 16000000 → IsLight (stored cells cell slot to)
+pub set_keeps : (cells : Store) (cell slot : ℕ) (from to : Val) (weight before after sum : ℕ) → slot_of cells cell slot ≡ Some from →
+    weight ≡ store_weight cells → store_weight cells ≤ 16000000 → before ≡ min (weight_of from) 18446744073709551615 →
+    after ≡ min (weight_of to) 18446744073709551615 → sum ≡ min (weight - before + after) 18446744073709551615 → sum ≤ 16000000 →
+    IsLight (stored cells cell slot to)
 set_keeps cells cell slot from to weight before after sum there w light b a s h =
     let part = slot_weight cells cell slot from there in
     let old : before ≡ weight_of from = omega (arith, b, part, light) in
@@ -170,7 +206,10 @@ set_keeps cells cell slot from to weight before after sum there w light b a s h 
     let new : after ≡ weight_of to = omega (arith, a, small) in
     omega (arith, store_weight_stored cells cell slot from to there, part, old, new, small, w)
 
-pub set_kept : (cells : Store) (cell slot : ℕ) (from to : Val) (weight before after sum : ℕ) → slot_of cells cell slot ≡ Some from → weight ≡ store_weight cells → store_weight cells ≤ 16000000 → before ≡ min (weight_of from) 18446744073709551615 → after ≡ min (weight_of to) 18446744073709551615 → sum ≡ min (weight - before + after) 18446744073709551615 → IsLight (stored cells cell slot to) → sum ≤ 16000000
+pub set_kept : (cells : Store) (cell slot : ℕ) (from to : Val) (weight before after sum : ℕ) → slot_of cells cell slot ≡ Some from →
+    weight ≡ store_weight cells → store_weight cells ≤ 16000000 → before ≡ min (weight_of from) 18446744073709551615 →
+    after ≡ min (weight_of to) 18446744073709551615 → sum ≡ min (weight - before + after) 18446744073709551615 →
+    IsLight (stored cells cell slot to) → sum ≤ 16000000
 set_kept cells cell slot from to weight before after sum there w light b a s h =
     let part = slot_weight cells cell slot from there in
     let all = store_weight_stored cells cell slot from to there in

@@ -1,4 +1,5 @@
-ghost use Rattle.std.specs.Prelude.{◌≡◌, ◌↔◌, ◌<◌, length, if◌then◌else◌, IsTrue, IsSome, IfOk, OnOk, OnErr};
+ghost use Rattle.std.specs.Prelude.{◌≡◌, ◌↔◌, ◌<◌, length, if◌then◌else◌, IsTrue, IsSome, IfOk};
+ghost use Rattle.std.specs.Prelude.{OnOk, OnErr};
 ghost use Rattle.verse_value.specs.View.{val_of, vals_of};
 ghost use Rattle.verse_value.specs.Store.{slot_of, stored, with_cell};
 ghost use Rattle.tx_heap.specs.State.{new_cell, IsLight};
@@ -85,7 +86,8 @@ pub fn make_both<H: Heap>(
 ) -> Result<bool, Memory>
     requires { H.state heap.old ≡ state_of copies.old }
     ensures made { IfOk result (λ made. IsTrue made ↔ Allowed call.now (H.state heap.old)) }
-    ensures heap { IfOk result (λ made. H.state heap.new ≡ (if made then after call.now (H.state heap.old) else H.state heap.old)) }
+    ensures heap { IfOk result (λ made. H.state heap.new ≡
+        (if made then after call.now (H.state heap.old) else H.state heap.old)) }
     ensures copies { OnOk result (state_of copies.new ≡ H.state heap.new) }
 {
     let may = may_make(copies, call);
@@ -109,13 +111,15 @@ fn may_make(copies: &CopyHeap, call: &Call) -> bool
 }
 
 fn may_add(copies: &CopyHeap, kind: CellKind, slots: &[Value]) -> bool
-    ensures { IsTrue result ↔ ((length (state_of copies.now).cells < 4294967295) × IsLight (with_cell (state_of copies.now).cells (new_cell kind (vals_of slots.now)))) }
+    ensures { IsTrue result ↔ ((length (state_of copies.now).cells < 4294967295) ×
+        IsLight (with_cell (state_of copies.now).cells (new_cell kind (vals_of slots.now)))) }
 {
     copies.len() < u32::MAX && copies.has_room(slots)
 }
 
 fn may_set(copies: &CopyHeap, cell: u32, slot: u32, value: &Value) -> bool
-    ensures { IsTrue result ↔ (IsSome (slot_of (state_of copies.now).cells cell slot) × IsLight (stored (state_of copies.now).cells cell slot (val_of value.now))) }
+    ensures { IsTrue result ↔ (IsSome (slot_of (state_of copies.now).cells cell slot) ×
+        IsLight (stored (state_of copies.now).cells cell slot (val_of value.now))) }
 {
     match copies.find(cell, slot) {
         Some(old) => {

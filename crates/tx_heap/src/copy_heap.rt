@@ -36,7 +36,8 @@ impl CopyHeap {
 
     /// What a slot holds, where the cell and the slot are there. Takes no memory.
     pub fn find(&self, cell: u32, slot: u32) -> Option<&Value>
-        ensures { MatchOption result (slot_of (state_of self.now).cells cell slot ≡ None) (λ v. slot_of (state_of self.now).cells cell slot ≡ Some (val_of v.now)) }
+        ensures { MatchOption result (slot_of (state_of self.now).cells cell slot ≡ None)
+            (λ v. slot_of (state_of self.now).cells cell slot ≡ Some (val_of v.now)) }
     {
         self.cells.find(cell, slot)
     }

@@ -1,11 +1,13 @@
-ghost use Rattle.std.specs.Prelude.{◌≡◌, ◌<◌, ◌≢◌, ◌↔◌, IsTrue, ℕ, List, [], ◌∷◌, IsSome, IfOk, IfErr, OnOk, OnErr, length, slice_get, option_map, Some, Ok};
+ghost use Rattle.std.specs.Prelude.{◌≡◌, ◌<◌, ◌≢◌, ◌↔◌, IsTrue, ℕ, List, [], ◌∷◌, IsSome, IfOk};
+ghost use Rattle.std.specs.Prelude.{IfErr, OnOk, OnErr, length, slice_get, option_map, Some, Ok};
 ghost use Rattle.std.specs.Borrow.{sem};
 ghost use Rattle.verse_value.specs.declared.runs.CellKind.{CellKind};
 ghost use Rattle.std.specs.Io.BufRead.{Rests};
 ghost use Rattle.verse_value.specs.View.{val_of, vals_of};
 ghost use Rattle.verse_value.specs.Store.{Cell, slot_of, stored, with_cell, store_weight};
 ghost use Rattle.verse_write.specs.Writes.{Explains};
-ghost use Rattle.tx_heap.specs.State.{State, new_cell, with_new, with_slot, marked, committed, rolled_back, IsLight};
+ghost use Rattle.tx_heap.specs.State.{State, new_cell, with_new, with_slot, marked, committed};
+ghost use Rattle.tx_heap.specs.State.{rolled_back, IsLight};
 ghost use Rattle.tx_heap.specs.Outcomes.{cells_written, cells_after, Lands};
 ghost use Rattle.tx_heap.specs.Dues.{Raised, Joined, TakenOff, Spent};
 
@@ -35,9 +37,11 @@ pub trait Heap {
     /// one they weigh at most 16000000 in all.
     fn alloc_cell(&mut self, kind: CellKind, slots: Vec<Value>) -> Result<u32, Memory>
         requires fewer { length (state self.old).cells < 4294967295 }
-        requires light { IsLight (with_cell (state self.old).cells (new_cell kind (vals_of slots.items))) }
+        requires light { IsLight (with_cell (state self.old).cells
+            (new_cell kind (vals_of slots.items))) }
         ensures address { IfOk result (λ n. n ≡ length (state self.old).cells) }
-        ensures ok { OnOk result (state self.new ≡ with_new (state self.old) (new_cell kind (vals_of slots.items))) }
+        ensures ok { OnOk result (state self.new ≡
+            with_new (state self.old) (new_cell kind (vals_of slots.items))) }
         ensures err { OnErr result (state self.new ≡ state self.old) }
         ensures due { OnOk result (Raised 1 (dues self.old) (dues self.new)) }
         ensures same_dues { OnErr result (dues self.new ≡ dues self.old) };
@@ -47,7 +51,8 @@ pub trait Heap {
     fn set(&mut self, cell: u32, slot: u32, value: Value) -> Result<(), Memory>
         requires there { IsSome (slot_of (state self.old).cells cell slot) }
         requires light { IsLight (stored (state self.old).cells cell slot (val_of value)) }
-        ensures ok { OnOk result (state self.new ≡ with_slot (state self.old) cell slot (val_of value)) }
+        ensures ok { OnOk result (state self.new ≡ with_slot (state self.old) cell slot
+            (val_of value)) }
         ensures err { OnErr result (state self.new ≡ state self.old) }
         ensures due { OnOk result (Raised 2 (dues self.old) (dues self.new)) }
         ensures same_dues { OnErr result (dues self.new ≡ dues self.old) };
@@ -66,9 +71,13 @@ pub trait Heap {
         wanted: Wanted,
     ) -> Result<Option<Value>, WriteFault>
         requires { IsSome (slot_of (state self.old).cells at.cell at.slot) }
-        ensures ok { IfOk result (Lands wanted (cells_written (state self.old).cells at.cell at.slot (vals_of path.now) mode (val_of value)) (state self.new).cells) }
+        ensures ok { IfOk result (Lands wanted
+            (cells_written (state self.old).cells at.cell at.slot (vals_of path.now) mode
+            (val_of value)) (state self.new).cells) }
         ensures copies { (state self.new).copies ≡ (state self.old).copies }
-        ensures fault { IfErr result (Explains (cells_written (state self.old).cells at.cell at.slot (vals_of path.now) mode (val_of value))) }
+        ensures fault { IfErr result
+            (Explains (cells_written (state self.old).cells at.cell at.slot (vals_of path.now) mode
+            (val_of value))) }
         ensures err { OnErr result (state self.new ≡ state self.old) }
         ensures due { OnOk result (Raised 2 (dues self.old) (dues self.new)) }
         ensures same_dues { OnErr result (dues self.new ≡ dues self.old) };
@@ -83,9 +92,12 @@ pub trait Heap {
         value: Value,
     ) -> Result<Value, WriteFault>
         requires { IsSome (slot_of (state self.old).cells cell slot) }
-        ensures ok { IfOk result (λ v. cells_written (state self.old).cells cell slot (vals_of path.now) mode (val_of value) ≡ Ok ((state self.new).cells, val_of v)) }
+        ensures ok { IfOk result (λ v. cells_written (state self.old).cells cell slot
+            (vals_of path.now) mode (val_of value) ≡ Ok ((state self.new).cells, val_of v)) }
         ensures copies { (state self.new).copies ≡ (state self.old).copies }
-        ensures fault { IfErr result (Explains (cells_written (state self.old).cells cell slot (vals_of path.now) mode (val_of value))) }
+        ensures fault { IfErr result
+            (Explains (cells_written (state self.old).cells cell slot (vals_of path.now) mode
+            (val_of value))) }
         ensures err { OnErr result (state self.new ≡ state self.old) }
         ensures due { OnOk result (Raised 2 (dues self.old) (dues self.new)) }
         ensures same_dues { OnErr result (dues self.new ≡ dues self.old) }
@@ -108,9 +120,13 @@ pub trait Heap {
         value: Value,
     ) -> Result<(), WriteFault>
         requires { IsSome (slot_of (state self.old).cells cell slot) }
-        ensures ok { OnOk result (cells_after (cells_written (state self.old).cells cell slot (vals_of path.now) mode (val_of value)) ≡ Some (state self.new).cells) }
+        ensures ok { OnOk result (cells_after
+            (cells_written (state self.old).cells cell slot (vals_of path.now) mode
+            (val_of value)) ≡ Some (state self.new).cells) }
         ensures copies { (state self.new).copies ≡ (state self.old).copies }
-        ensures fault { IfErr result (Explains (cells_written (state self.old).cells cell slot (vals_of path.now) mode (val_of value))) }
+        ensures fault { IfErr result
+            (Explains (cells_written (state self.old).cells cell slot (vals_of path.now) mode
+            (val_of value))) }
         ensures err { OnErr result (state self.new ≡ state self.old) }
         ensures due { OnOk result (Raised 2 (dues self.old) (dues self.new)) }
         ensures same_dues { OnErr result (dues self.new ≡ dues self.old) }
@@ -126,12 +142,14 @@ pub trait Heap {
     fn get(&mut self, cell: u32, slot: u32) -> &Value
         requires { IsSome (slot_of (state self.old).cells cell slot) }
         ensures value { slot_of (state self.old).cells cell slot ≡ Some (val_of result.now) }
-        ensures* same { sem 𝓛 (Rests Self.row self.entry (λ n. (state n ≡ state self.entry.now) × (dues n ≡ dues self.entry.now))) };
+        ensures* same { sem 𝓛 (Rests Self.row self.entry (λ n. (state n ≡ state self.entry.now) ×
+            (dues n ≡ dues self.entry.now))) };
 
     /// What a cell is. It is there. Takes no memory.
     fn kind(&mut self, cell: u32) -> CellKind
         requires { cell < length (state self.old).cells }
-        ensures kind { option_map (λ (c : Cell). c.kind) (slice_get (state self.old).cells cell) ≡ Some result }
+        ensures kind { option_map (λ (c : Cell). c.kind) (slice_get (state self.old).cells cell) ≡
+            Some result }
         ensures same { state self.new ≡ state self.old }
         ensures same_dues { dues self.new ≡ dues self.old };
 
@@ -168,7 +186,9 @@ pub trait Heap {
     /// Whether a cell with these slots may be added: whether the cells then weigh at most 16000000 in
     /// all.
     fn has_room(&self, slots: &[Value]) -> bool
-        ensures { (kind : CellKind) → (IsTrue result ↔ IsLight (with_cell (state self.now).cells (new_cell kind (vals_of slots.now)))) }
+        ensures { (kind : CellKind) →
+            (IsTrue result ↔ IsLight (with_cell (state self.now).cells
+            (new_cell kind (vals_of slots.now)))) }
     {
         self.weight().saturating_add(cell_weight(slots)) <= MOST_WEIGHT
     }

@@ -1,4 +1,5 @@
-ghost use Rattle.std.specs.Prelude.{◌≡◌, ◌<◌, ◌≤◌, ◌+◌, [], ◌∷◌, length, drop, IsSome, Some, Ok, IfOk, IfErr, OnOk, OnErr, slice_get, option_map};
+ghost use Rattle.std.specs.Prelude.{◌≡◌, ◌<◌, ◌≤◌, ◌+◌, [], ◌∷◌, length, drop, IsSome, Some, Ok};
+ghost use Rattle.std.specs.Prelude.{IfOk, IfErr, OnOk, OnErr, slice_get, option_map};
 ghost use Rattle.std.specs.Borrow.{sem};
 ghost use Rattle.verse_value.specs.View.{val_of, vals_of};
 ghost use Rattle.verse_value.specs.Store as store;
@@ -93,7 +94,8 @@ impl LightCells {
     /// What a cell is. It is there.
     pub fn kind(&mut self, cell: u32) -> CellKind
         requires { cell < length (store_of self.old) }
-        ensures kind { option_map (λ (c : store.Cell). c.kind) (slice_get (store_of self.old) cell) ≡ Some result }
+        ensures kind { option_map (λ (c : store.Cell). c.kind)
+            (slice_get (store_of self.old) cell) ≡ Some result }
         ensures same { self.new ≡ touched self.old }
     {
         self.cells.kind(cell)
@@ -102,9 +104,11 @@ impl LightCells {
     /// Adds a cell, and answers its address.
     pub fn push(&mut self, kind: CellKind, slots: Vec<Value>) -> Result<u32, Memory>
         requires fewer { length (store_of self.old) < 4294967295 }
-        requires light { IsLight (with_cell (store_of self.old) (new_cell kind (vals_of slots.items))) }
+        requires light { IsLight (with_cell (store_of self.old)
+            (new_cell kind (vals_of slots.items))) }
         ensures address { IfOk result (λ n. n ≡ length (store_of self.old)) }
-        ensures ok { OnOk result (store_of self.new ≡ with_cell (store_of self.old) (new_cell kind (vals_of slots.items))) }
+        ensures ok { OnOk result (store_of self.new ≡
+            with_cell (store_of self.old) (new_cell kind (vals_of slots.items))) }
         ensures err { OnErr result (store_of self.new ≡ store_of self.old) }
     {
         let more = cell_weight(slots.as_slice());
@@ -139,9 +143,14 @@ impl LightCells {
         wanted: Wanted,
     ) -> Result<Change, WriteFault>
         requires { IsSome (slot_of (store_of self.old) at.cell at.slot) }
-        ensures ok { IfOk result (λ w. Lands wanted (cells_written (store_of self.old) at.cell at.slot (vals_of path.now) mode (val_of value)) (store_of self.new) w.value) }
-        ensures undo { IfOk result (λ w. InCell at.cell at.slot (UndoneBy (vals_of path.now) w.undo) (store_of self.old) (store_of self.new)) }
-        ensures fault { IfErr result (Explains (cells_written (store_of self.old) at.cell at.slot (vals_of path.now) mode (val_of value))) }
+        ensures ok { IfOk result (λ w.
+            Lands wanted (cells_written (store_of self.old) at.cell at.slot (vals_of path.now) mode
+            (val_of value)) (store_of self.new) w.value) }
+        ensures undo { IfOk result (λ w. InCell at.cell at.slot (UndoneBy (vals_of path.now) w.undo)
+            (store_of self.old) (store_of self.new)) }
+        ensures fault { IfErr result
+            (Explains (cells_written (store_of self.old) at.cell at.slot (vals_of path.now) mode
+            (val_of value))) }
         ensures same { OnErr result (store_of self.new ≡ store_of self.old) }
     {
         let spare = MOST_WEIGHT - self.weight;
@@ -156,7 +165,8 @@ impl LightCells {
     pub fn rewind(&mut self, log: &mut Vec<Entry>, mark: Mark)
         requires within { mark.start ≤ length log.old.items }
         requires undoable { Undoable log.old.items (store_of self.old) }
-        requires weight { IsWeighed mark.weight (rewound (drop mark.start log.old.items) (store_of self.old)) }
+        requires weight { IsWeighed mark.weight
+            (rewound (drop mark.start log.old.items) (store_of self.old)) }
         ensures left { length log.new.items ≡ mark.start }
         ensures undone { Undoing mark.start log.old.items self.old log.new.items self.new }
     {

@@ -1,4 +1,6 @@
-ghost use Rattle.std.specs.Prelude.{◌≡◌, ◌<◌, ◌+◌, ◌≤◌, [], length, IsSome, None, Some, MatchOption, Ok, IfOk, IfErr, OnOk, OnErr, slice_get, option_map};
+ghost use Rattle.std.specs.Prelude.{◌≡◌, ◌<◌, ◌+◌, ◌≤◌, [], length, IsSome, None, Some};
+ghost use Rattle.std.specs.Prelude.{MatchOption, Ok, IfOk, IfErr, OnOk, OnErr, slice_get};
+ghost use Rattle.std.specs.Prelude.{option_map};
 ghost use Rattle.verse_value.specs.View.{val_of, vals_of};
 ghost use Rattle.verse_value.specs.Store as store;
 ghost use Rattle.verse_value.specs.Store.{slot_of, stored, with_cell, store_weight};
@@ -79,7 +81,8 @@ impl LightList {
 
     /// What a slot holds, where the cell and the slot are there.
     pub fn find(&self, cell: u32, slot: u32) -> Option<&Value>
-        ensures { MatchOption result (slot_of (cells_of self.now) cell slot ≡ None) (λ v. slot_of (cells_of self.now) cell slot ≡ Some (val_of v.now)) }
+        ensures { MatchOption result (slot_of (cells_of self.now) cell slot ≡ None)
+            (λ v. slot_of (cells_of self.now) cell slot ≡ Some (val_of v.now)) }
     {
         find_slot(self.cells.as_slice(), cell, slot)
     }
@@ -87,7 +90,8 @@ impl LightList {
     /// What a cell is. It is there.
     pub fn kind(&self, cell: u32) -> CellKind
         requires { cell < length (cells_of self.now) }
-        ensures { option_map (λ (c : store.Cell). c.kind) (slice_get (cells_of self.now) cell) ≡ Some result }
+        ensures { option_map (λ (c : store.Cell). c.kind) (slice_get (cells_of self.now) cell) ≡
+            Some result }
     {
         self.cells[cell as usize].kind
     }
@@ -95,9 +99,11 @@ impl LightList {
     /// Adds a cell, and answers its address.
     pub fn push(&mut self, kind: CellKind, slots: Vec<Value>) -> Result<u32, Memory>
         requires fewer { length (cells_of self.old) < 4294967295 }
-        requires light { IsLight (with_cell (cells_of self.old) (new_cell kind (vals_of slots.items))) }
+        requires light { IsLight (with_cell (cells_of self.old)
+            (new_cell kind (vals_of slots.items))) }
         ensures address { IfOk result (λ n. n ≡ length (cells_of self.old)) }
-        ensures ok { OnOk result (cells_of self.new ≡ with_cell (cells_of self.old) (new_cell kind (vals_of slots.items))) }
+        ensures ok { OnOk result (cells_of self.new ≡
+            with_cell (cells_of self.old) (new_cell kind (vals_of slots.items))) }
         ensures err { OnErr result (cells_of self.new ≡ cells_of self.old) }
     {
         let more = cell_weight(slots.as_slice());
@@ -133,8 +139,12 @@ impl LightList {
         wanted: Wanted,
     ) -> Result<Option<Value>, WriteFault>
         requires { IsSome (slot_of (cells_of self.old) at.cell at.slot) }
-        ensures ok { IfOk result (Lands wanted (cells_written (cells_of self.old) at.cell at.slot (vals_of path.now) mode (val_of value)) (cells_of self.new)) }
-        ensures fault { IfErr result (Explains (cells_written (cells_of self.old) at.cell at.slot (vals_of path.now) mode (val_of value))) }
+        ensures ok { IfOk result (Lands wanted
+            (cells_written (cells_of self.old) at.cell at.slot (vals_of path.now) mode
+            (val_of value)) (cells_of self.new)) }
+        ensures fault { IfErr result
+            (Explains (cells_written (cells_of self.old) at.cell at.slot (vals_of path.now) mode
+            (val_of value))) }
         ensures same { OnErr result (cells_of self.new ≡ cells_of self.old) }
     {
         let spare = MOST_WEIGHT - self.weight;

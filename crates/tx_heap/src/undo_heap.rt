@@ -35,7 +35,12 @@ impl Model for UndoHeap {
 
     ghost coded = { Prim.hlevel (codes, c.the_row.coded, e.the_row.coded, m.the_row.coded) };
 
-    ghost view = { λ h. record { held = h.cells; log = h.log.items; marks = reverse h.marks.items } };
+    ghost view = { λ h. record {
+      held = h.cells;
+      log = h.log.items;
+      marks =
+          reverse h.marks.items;
+    } };
 
     ghost invariant = { λ h. IsWhole h.log.items (reverse h.marks.items) (store_of h.cells) };
 }
@@ -43,7 +48,12 @@ impl Model for UndoHeap {
 impl UndoHeap {
     /// No cells, no access, and no mark. Takes no memory.
     pub fn new(alloc: Global) -> UndoHeap
-        ensures { result ≡ record { held = record { cells = []; accesses = 0 }; log = []; marks = [] } }
+        ensures { result ≡ record {
+          held = record { cells = []; accesses = 0 };
+          log = [];
+          marks =
+              [];
+        } }
     {
         UndoHeap {
             alloc,

@@ -24,7 +24,8 @@ use verse_write::writes::{Mode, WriteFault};
 
 /// A variable that holds 1, at the address 0.
 fn one_variable(alloc: Global) -> Result<Cells, Memory>
-    ensures { IfOk result (λ c. store_of c ≡ record { kind = kind.Var; slots = v.int (pos 1) ∷ [] } ∷ []) }
+    ensures { IfOk result (λ c. store_of c ≡
+        record { kind = kind.Var; slots = v.int (pos 1) ∷ [] } ∷ []) }
 {
     let mut cells = Cells::new(alloc);
     let mut slots = Vec::new(alloc);

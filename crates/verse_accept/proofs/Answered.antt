@@ -18,7 +18,8 @@ use Rattle.verse_names.specs.Breaking.{NamesBreak}
 use Rattle.verse_sound.proofs.Once.{mistyped_breaks, mistyped_once}
 use Rattle.verse_built.specs.Built.{first_unbuilt}
 use Rattle.verse_accept.specs.Stages.{OneResult, followed, in_turn}
-use Rattle.verse_accept.specs.Fronts.{Cut, Laid, sized, cutting, laying, spelling, joining, naming, typing, bounding, building, testing, to_sized, to_cut, to_laid, to_spelled, to_joined, front_end, IsStuck, tok_place, refusal}
+use Rattle.verse_accept.specs.Fronts.{Cut, Laid, sized, cutting, laying, spelling, joining, naming, typing, bounding, building, testing}
+use Rattle.verse_accept.specs.Fronts.{to_sized, to_cut, to_laid, to_spelled, to_joined, front_end, IsStuck, tok_place, refusal}
 use Rattle.verse_accept.proofs.OneByOne.{one_followed, one_in_turn}
 use Rattle.verse_accept.proofs.StuckToks.{stuck_once, stuck_or_spelled}
 
@@ -50,7 +51,8 @@ one_laying file = record {
 }
 
 same_stop : (file : ℕ) (bytes : List ℕ) (ks : List Tok) (i j : ℕ) (r q : Refusal) → IsStuck ks i → IsStuck ks j →
-    r ≡ refusal (stop_rule (ahead (drop i ks))) (tok_place file bytes ks i) → q ≡ refusal (stop_rule (ahead (drop j ks))) (tok_place file bytes ks j) → r ≡ q
+    r ≡ refusal (stop_rule (ahead (drop i ks))) (tok_place file bytes ks i) →
+    q ≡ refusal (stop_rule (ahead (drop j ks))) (tok_place file bytes ks j) → r ≡ q
 same_stop file bytes ks i j r q x y e f =
     e ∙ ap (λ (n : ℕ). refusal (stop_rule (ahead (drop n ks))) (tok_place file bytes ks n)) (stuck_once ks i j x y) ∙ sym f
 
@@ -89,7 +91,8 @@ one_bounding = record {
   apart = λ a b r x y. let small = x.1 in let large = y.0 in omega arith;
 }
 
-same_place : (is : List ItemTree) (p q : Place) (r u : Refusal) → first_unbuilt (program_order is) ≡ Some p → first_unbuilt (program_order is) ≡ Some q → r ≡ refusal 99 p → u ≡ refusal 99 q → r ≡ u
+same_place : (is : List ItemTree) (p q : Place) (r u : Refusal) → first_unbuilt (program_order is) ≡ Some p →
+    first_unbuilt (program_order is) ≡ Some q → r ≡ refusal 99 p → u ≡ refusal 99 q → r ≡ u
 same_place is p q r u e f g h = g ∙ ap (λ (x : Place). refusal 99 x) (same_Some p q (sym e ∙ f)) ∙ sym h
 
 built_or_not : (is : List ItemTree) (p : Place) → first_unbuilt (program_order is) ≡ None → first_unbuilt (program_order is) ≡ Some p → ⊥

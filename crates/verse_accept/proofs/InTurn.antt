@@ -1,5 +1,6 @@
 -- A layer over the files in turn: what was done and what is left are all.
-use Rattle.std.proofs.Common.{◌+◌, ◌≤◌, ◌<◌, zero, length, arith, ◌∙◌, ap, ◌≡◌, ℕ, suc, List, [], ◌∷◌, ◌++◌, refl, sym, subst, inl, inr, append_assoc, append-nil, map, drop, slice_index_or}
+use Rattle.std.proofs.Common.{◌+◌, ◌≤◌, ◌<◌, zero, length, arith, ◌∙◌, ap, ◌≡◌, ℕ, suc, List, [], ◌∷◌, ◌++◌, refl, sym, subst, inl, inr}
+use Rattle.std.proofs.Common.{append_assoc, append-nil, map, drop, slice_index_or}
 use Rattle.std.proofs.lemmas.List.{map-append}
 use Rattle.verse_base.specs.declared.refusals.Refusal.{Refusal}
 use Rattle.verse_accept.specs.Stages.{Stage, makes_each, refuses_first}
@@ -24,7 +25,8 @@ module _ {A B : Type 0} (s : ℕ → Stage A B) where
     refuses = λ r y. g.refuses r (inr (b, x, y));
   }
 
-  pub goes_wrong : {all : List A} {n : ℕ} {a : A} {rest : List A} {made : List B} {r : Refusal} → Goes all n (a ∷ rest) made → (s n).refuses a r →
+  pub goes_wrong : {all : List A} {n : ℕ} {a : A} {rest : List A} {made : List B} {r : Refusal} → Goes all n (a ∷ rest) made →
+      (s n).refuses a r →
       refuses_first s 0 all r
   goes_wrong {r = r} g x = g.refuses r (inl x)
 
@@ -48,7 +50,8 @@ module _ {A B : Type 0} (s : ℕ → Stage A B) (P : A → Type 0) (Q : B → Ty
   pub stands_first : (all : List A) → Each P all → Stands all 0 0 all []
   stands_first all ready = record { at = refl; goes = goes_first s all; ready = ready; done = tt; count = refl }
 
-  pub stands_on : (all : List A) (i n j m : ℕ) (rest more : List A) (made longer : List B) (a : A) (b : B) → Stands all i n rest made → rest ≡ a ∷ more →
+  pub stands_on : (all : List A) (i n j m : ℕ) (rest more : List A) (made longer : List B) (a : A) (b : B) → Stands all i n rest made →
+      rest ≡ a ∷ more →
       longer ≡ made ++ b ∷ [] → j ≡ i + 1 → m ≡ n + 1 → (s n).makes a b → Q b → Stands all j m more longer
   stands_on all i n j m rest more made longer a b x e f g h makes good =
       let next : m ≡ suc n = omega arith in
@@ -65,11 +68,13 @@ module _ {A B : Type 0} (s : ℕ → Stage A B) (P : A → Type 0) (Q : B → Ty
         count = omega arith;
       }
 
-  pub stands_wrong : (all : List A) (i n : ℕ) (rest more : List A) (made : List B) (a : A) (r : Refusal) → Stands all i n rest made → rest ≡ a ∷ more →
+  pub stands_wrong : (all : List A) (i n : ℕ) (rest more : List A) (made : List B) (a : A) (r : Refusal) → Stands all i n rest made →
+      rest ≡ a ∷ more →
       (s n).refuses a r → refuses_first s 0 all r
   stands_wrong all i n rest more made a r x e wrong = goes_wrong s (subst (λ t. Goes s all n t made) e x.goes) wrong
 
-  pub stands_ready : (all : List A) (i n : ℕ) (rest more : List A) (made : List B) (a : A) → Stands all i n rest made → rest ≡ a ∷ more → P a
+  pub stands_ready : (all : List A) (i n : ℕ) (rest more : List A) (made : List B) (a : A) → Stands all i n rest made → rest ≡ a ∷ more →
+      P a
   stands_ready all i n rest more made a x e = (subst (Each P) e x.ready).0
 
   pub stands_end : (all : List A) (i n : ℕ) (rest : List A) (made : List B) → Stands all i n rest made → rest ≡ [] → makes_each s 0 all made
@@ -85,7 +90,8 @@ pub record Sized (all : List (List ℕ)) (number : ℕ) (rest : List (List ℕ))
 pub sized_first : (all : List (List ℕ)) → Sized all 0 all
 sized_first all = record { refuses = λ r x. x; makes = λ x. x; small = λ x. x }
 
-pub sized_on : (all rest more : List (List ℕ)) (n m : ℕ) (bytes : List ℕ) → Sized all n rest → rest ≡ bytes ∷ more → m ≡ n + 1 → length bytes ≤ MOST_FILE_BYTES →
+pub sized_on : (all rest more : List (List ℕ)) (n m : ℕ) (bytes : List ℕ) → Sized all n rest → rest ≡ bytes ∷ more → m ≡ n + 1 →
+    length bytes ≤ MOST_FILE_BYTES →
     Sized all m more
 sized_on all rest more n m bytes x e h small =
     let next : suc n ≡ m = omega arith in
@@ -95,23 +101,28 @@ sized_on all rest more n m bytes x e h small =
       small = λ y. x.small (subst (Each IsSmall) (sym e) (small, y));
     })
 
-pub sized_wrong : (all rest more : List (List ℕ)) (n : ℕ) (bytes : List ℕ) → Sized all n rest → rest ≡ bytes ∷ more → MOST_FILE_BYTES < length bytes →
+pub sized_wrong : (all rest more : List (List ℕ)) (n : ℕ) (bytes : List ℕ) → Sized all n rest → rest ≡ bytes ∷ more →
+    MOST_FILE_BYTES < length bytes →
     refuses_first sized 0 all (refusal 2 (first_place n))
-sized_wrong all rest more n bytes x e big = x.refuses _ (subst (λ fs. refuses_first sized n fs (refusal 2 (first_place n))) (sym e) (inl (big, refl)))
+sized_wrong all rest more n bytes x e big =
+    x.refuses _ (subst (λ fs. refuses_first sized n fs (refusal 2 (first_place n))) (sym e) (inl (big, refl)))
 
 pub sized_end : (all rest : List (List ℕ)) (n : ℕ) → Sized all n rest → rest ≡ [] → makes_each sized 0 all all × Each IsSmall all
 sized_end all rest n x e = (x.makes (subst (λ fs. makes_each sized n fs fs) (sym e) tt), x.small (subst (Each IsSmall) (sym e) tt))
 
 -- ---- lists of files
 
-further : {A B : Type 0} (f : A → B) (xs : List A) (i : ℕ) (x : A) → i < length xs → x ≡ slice_index_or xs i x → map f (drop i xs) ≡ f x ∷ map f (drop (suc i) xs)
+further : {A B : Type 0} (f : A → B) (xs : List A) (i : ℕ) (x : A) → i < length xs → x ≡ slice_index_or xs i x →
+    map f (drop i xs) ≡ f x ∷ map f (drop (suc i) xs)
 further f [] i x low e = absurd (omega arith)
 further f (y ∷ ys) zero x low e = ap (λ z. f z ∷ map f ys) (sym e)
 further f (y ∷ ys) (suc i) x low e = further f ys i x (omega arith) e
 
 -- the file of an index is the first of those that are left there
-pub next_file : {A B : Type 0} (f : A → B) (xs : List A) (i : ℕ) (x : A) → i < length xs → x ≡ slice_index_or xs i x → map f (drop i xs) ≡ f x ∷ map f (drop (i + 1) xs)
-next_file f xs i x low e = let next : suc i ≡ i + 1 = omega arith in subst (λ j. map f (drop i xs) ≡ f x ∷ map f (drop j xs)) next (further f xs i x low e)
+pub next_file : {A B : Type 0} (f : A → B) (xs : List A) (i : ℕ) (x : A) → i < length xs → x ≡ slice_index_or xs i x →
+    map f (drop i xs) ≡ f x ∷ map f (drop (i + 1) xs)
+next_file f xs i x low e = let next : suc i ≡ i + 1 = omega arith in
+    subst (λ j. map f (drop i xs) ≡ f x ∷ map f (drop j xs)) next (further f xs i x low e)
 
 pub no_file : {A B : Type 0} (f : A → B) (xs : List A) (i : ℕ) → length xs ≤ i → map f (drop i xs) ≡ []
 no_file f [] zero low = refl

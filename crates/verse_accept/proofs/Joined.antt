@@ -14,7 +14,8 @@ both_nodes [] js = omega arith
 both_nodes (i ∷ is) js = let rest = both_nodes is js in omega arith
 
 -- files of few nodes have few nodes together
-few_each : (files : List (List Item)) → Each HasFewNodes (map file_items files) → items_nodes (joined files) ≤ length files * (4 * MOST_FILE_BYTES)
+few_each : (files : List (List Item)) → Each HasFewNodes (map file_items files) →
+    items_nodes (joined files) ≤ length files * (4 * MOST_FILE_BYTES)
 few_each [] e = omega arith
 few_each (f ∷ fs) e =
     let rest = few_each fs e.1 in
@@ -22,7 +23,8 @@ few_each (f ∷ fs) e =
     let first = e.0 in
     omega arith
 
-pub few_nodes : (files : List (List Item)) → Each HasFewNodes (map file_items files) → length files ≤ 16 → program_nodes (joined files) < 4294967295
+pub few_nodes : (files : List (List Item)) → Each HasFewNodes (map file_items files) → length files ≤ 16 →
+    program_nodes (joined files) < 4294967295
 few_nodes files e few = let all = few_each files e in omega arith
 
 pub all_joined : (files : List (List Item)) → all_items (map file_items files) ≡ joined files

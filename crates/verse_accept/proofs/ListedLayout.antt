@@ -10,7 +10,8 @@ use Rattle.verse_layout.specs.declared.toks.TokKind.{TokKind}
 use Rattle.verse_layout.specs.declared.toks.TokKind.TheVariants as k
 use Rattle.verse_layout.specs.declared.frames.Spot.{Spot}
 use Rattle.verse_layout.specs.Cells.{Cell}
-use Rattle.verse_layout.specs.Refusals.{BreaksAt, wrong_brace, wrong_bracket, wrong_line, no_block, BreaksEnd, open_bracket, no_block_behind, Refuses, at_token, at_file_end, too_deep, IsRefused}
+use Rattle.verse_layout.specs.Refusals.{BreaksAt, wrong_brace, wrong_bracket, wrong_line, no_block, BreaksEnd, open_bracket}
+use Rattle.verse_layout.specs.Refusals.{no_block_behind, Refuses, at_token, at_file_end, too_deep, IsRefused}
 use Rattle.verse_expr.specs.Faults.{stop_rule}
 use Rattle.verse_accept.proofs.ListedTokens.{Listed}
 

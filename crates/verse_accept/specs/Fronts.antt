@@ -115,7 +115,8 @@ bounding = record {
 abbrev pub building : Stage (List ItemTree) (List ItemTree)
 building = record {
   makes = λ (is : List ItemTree) (js : List ItemTree). (js ≡ is) × (first_unbuilt (program_order is) ≡ None);
-  refuses = λ (is : List ItemTree) (r : Refusal). (place : Place) × (first_unbuilt (program_order is) ≡ Some place) × (r ≡ refusal 99 place);
+  refuses = λ (is : List ItemTree) (r : Refusal). (place : Place) × (first_unbuilt (program_order is) ≡ Some place) ×
+      (r ≡ refusal 99 place);
 }
 
 -- the rules over the whole program, one group behind the other

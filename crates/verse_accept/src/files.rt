@@ -44,8 +44,10 @@ pub(crate) fn cut<'a>(alloc: Global, file: u32, bytes: &'a [u8]) -> Result<CutFi
     requires { length bytes.now ≤ MOST_FILE_BYTES }
     ensures made { IfOk result (λ c. (cutting file).makes bytes.now (cut_of c)) }
     ensures ready { IfOk result (λ c. CanBeLaid (cut_of c)) }
-    ensures refused { (r : Refusal) → IsErrOf result (front.Refused r) → (cutting file).refuses bytes.now r }
-    ensures listed { (r : Refusal) → IsErrOf result (front.Refused r) → IsSome (rule_text_of r.rule.0) }
+    ensures refused { (r : Refusal) → IsErrOf result (front.Refused r) →
+        (cutting file).refuses bytes.now r }
+    ensures listed { (r : Refusal) → IsErrOf result (front.Refused r) →
+        IsSome (rule_text_of r.rule.0) }
 {
     let tokens = lex(alloc, file, bytes)?;
     Ok(CutFile { bytes, tokens })
@@ -55,10 +57,13 @@ pub(crate) fn cut<'a>(alloc: Global, file: u32, bytes: &'a [u8]) -> Result<CutFi
 #[tactic(auto, using(crate::proofs::ListedLayout::listed_layout))]
 pub(crate) fn lay<'a>(alloc: Global, cut: &CutFile<'a>) -> Result<LaidFile<'a>, Front>
     requires { CanBeLaid (cut_of cut.now) }
-    ensures made { IfOk result (λ l. (file : ℕ) → (laying file).makes (cut_of cut.now) (laid_of l)) }
+    ensures made { IfOk result (λ l. (file : ℕ) →
+        (laying file).makes (cut_of cut.now) (laid_of l)) }
     ensures ready { IfOk result (λ l. CanBeRead (laid_of l)) }
-    ensures refused { (r : Refusal) → IsErrOf result (front.Refused r) → (file : ℕ) → (laying file).refuses (cut_of cut.now) r }
-    ensures listed { (r : Refusal) → IsErrOf result (front.Refused r) → IsSome (rule_text_of r.rule.0) }
+    ensures refused { (r : Refusal) → IsErrOf result (front.Refused r) → (file : ℕ) →
+        (laying file).refuses (cut_of cut.now) r }
+    ensures listed { (r : Refusal) → IsErrOf result (front.Refused r) →
+        IsSome (rule_text_of r.rule.0) }
 {
     let bytes = cut.bytes;
     let toks = layout(alloc, bytes, cut.tokens.as_slice())?;
@@ -68,10 +73,13 @@ pub(crate) fn lay<'a>(alloc: Global, cut: &CutFile<'a>) -> Result<LaidFile<'a>, 
 /// The items that the toks of the file of this number spell.
 pub(crate) fn spell(alloc: Global, file: u32, laid: &LaidFile<'_>) -> Result<ItemTrees, Front>
     requires { CanBeRead (laid_of laid.now) }
-    ensures made { IfOk result (λ items. (spelling file).makes (laid_of laid.now) (map item_of items)) }
+    ensures made { IfOk result (λ items. (spelling file).makes (laid_of laid.now)
+        (map item_of items)) }
     ensures few { IfOk result (λ items. items_nodes (map item_of items) ≤ 4 * MOST_FILE_BYTES) }
-    ensures refused { (r : Refusal) → IsErrOf result (front.Refused r) → (spelling file).refuses (laid_of laid.now) r }
-    ensures listed { (r : Refusal) → IsErrOf result (front.Refused r) → IsSome (rule_text_of r.rule.0) }
+    ensures refused { (r : Refusal) → IsErrOf result (front.Refused r) →
+        (spelling file).refuses (laid_of laid.now) r }
+    ensures listed { (r : Refusal) → IsErrOf result (front.Refused r) →
+        IsSome (rule_text_of r.rule.0) }
 {
     match parse(alloc, laid.bytes, laid.toks.as_slice()) {
         Ok(items) => Ok(items),

@@ -11,7 +11,8 @@ ghost use Rattle.verse_tree.specs.PostOrder.{program_place};
 ghost use Rattle.verse_items.specs.Nodes.{IsNumbered};
 ghost use Rattle.verse_sound.specs.Sound.{completed, most_size, size_of, types_of};
 ghost use Rattle.verse_types.specs.Types.{ty_of};
-ghost use Rattle.verse_accept.specs.Fronts.{Accepts, AcceptedOnce, IsRefused, refusal, testing, to_spelled, to_joined};
+ghost use Rattle.verse_accept.specs.Fronts.{Accepts, AcceptedOnce, IsRefused, refusal, testing};
+ghost use Rattle.verse_accept.specs.Fronts.{to_spelled, to_joined};
 
 use crate::turns::{cut_all, lay_all, spell_all, too_large};
 use std::alloc::Global;
@@ -48,12 +49,16 @@ pub struct Accepted {
 /// in the order of the layers, of the files, and of the places in a file, that breaks a rule.
 pub fn accept(alloc: Global, files: &[Vec<u8>]) -> Result<Accepted, Front>
     requires { length files.now ≤ 16 }
-    ensures accepted { IfOk result (λ a. Accepts (map (λ f. f.items) files.now) (map item_of a.tree.items)) }
+    ensures accepted { IfOk result
+        (λ a. Accepts (map (λ f. f.items) files.now) (map item_of a.tree.items)) }
     ensures files { IfOk result (λ a. a.tree.files ≡ length files.now) }
     ensures names { IfOk result (λ a. a.checked.names ≡ completed (map item_of a.tree.items)) }
-    ensures types { IfOk result (λ a. map ty_of a.checked.typed.types ≡ types_of (map item_of a.tree.items)) }
-    ensures refused { (r : Refusal) → IsErrOf result (front.Refused r) → IsRefused (map (λ f. f.items) files.now) r }
-    ensures listed { (r : Refusal) → IsErrOf result (front.Refused r) → IsSome (rule_text_of r.rule.0) }
+    ensures types { IfOk result (λ a. map ty_of a.checked.typed.types ≡
+        types_of (map item_of a.tree.items)) }
+    ensures refused { (r : Refusal) → IsErrOf result (front.Refused r) →
+        IsRefused (map (λ f. f.items) files.now) r }
+    ensures listed { (r : Refusal) → IsErrOf result (front.Refused r) →
+        IsSome (rule_text_of r.rule.0) }
 {
     let tree = read(alloc, files)?;
     let checked = test(alloc, tree.get())?;
@@ -65,11 +70,15 @@ pub fn accept(alloc: Global, files: &[Vec<u8>]) -> Result<Accepted, Front>
 fn test(alloc: Global, tree: &Tree) -> Result<Checked, Front>
     requires numbered { IsNumbered (map item_of tree.now.items) tree.now.nodes }
     requires counted { tree.now.nodes ≡ program_nodes (map item_of tree.now.items) }
-    ensures fine { IfOk result (λ _. testing.makes (map item_of tree.now.items) (map item_of tree.now.items)) }
+    ensures fine { IfOk result (λ _. testing.makes (map item_of tree.now.items)
+        (map item_of tree.now.items)) }
     ensures names { IfOk result (λ c. c.names ≡ completed (map item_of tree.now.items)) }
-    ensures types { IfOk result (λ c. map ty_of c.typed.types ≡ types_of (map item_of tree.now.items)) }
-    ensures refused { (r : Refusal) → IsErrOf result (front.Refused r) → testing.refuses (map item_of tree.now.items) r }
-    ensures listed { (r : Refusal) → IsErrOf result (front.Refused r) → IsSome (rule_text_of r.rule.0) }
+    ensures types { IfOk result (λ c. map ty_of c.typed.types ≡
+        types_of (map item_of tree.now.items)) }
+    ensures refused { (r : Refusal) → IsErrOf result (front.Refused r) →
+        testing.refuses (map item_of tree.now.items) r }
+    ensures listed { (r : Refusal) → IsErrOf result (front.Refused r) →
+        IsSome (rule_text_of r.rule.0) }
 {
     let checked = check_program(alloc, tree)?;
     bound(tree, &checked.names)?;
@@ -87,8 +96,10 @@ fn bound(tree: &Tree, names: &Names) -> Result<(), Front>
     requires counted { tree.now.nodes ≡ program_nodes (map item_of tree.now.items) }
     requires names { names.now ≡ completed (map item_of tree.now.items) }
     ensures fine { IfOk result (λ _. size_of (map item_of tree.now.items) ≤ most_size) }
-    ensures refused { (r : Refusal) → IsErrOf result (front.Refused r) → (most_size < size_of (map item_of tree.now.items)) × (r ≡ refusal 98 program_place) }
-    ensures listed { (r : Refusal) → IsErrOf result (front.Refused r) → IsSome (rule_text_of r.rule.0) }
+    ensures refused { (r : Refusal) → IsErrOf result (front.Refused r) →
+        (most_size < size_of (map item_of tree.now.items)) × (r ≡ refusal 98 program_place) }
+    ensures listed { (r : Refusal) → IsErrOf result (front.Refused r) →
+        IsSome (rule_text_of r.rule.0) }
 {
     if program_size(tree, names)? <= MOST_SIZE {
         return Ok(());
@@ -109,10 +120,13 @@ fn read(alloc: Global, files: &[Vec<u8>]) -> Result<ProgramTree, Front>
     requires { length files.now ≤ 16 }
     ensures numbered { IfOk result (λ tree. IsNumbered (map item_of tree.items) tree.nodes) }
     ensures counted { IfOk result (λ tree. tree.nodes ≡ program_nodes (map item_of tree.items)) }
-    ensures made { IfOk result (λ tree. to_joined.makes (map (λ f. f.items) files.now) (map item_of tree.items)) }
+    ensures made { IfOk result (λ tree. to_joined.makes (map (λ f. f.items) files.now)
+        (map item_of tree.items)) }
     ensures files { IfOk result (λ tree. tree.files ≡ length files.now) }
-    ensures refused { (r : Refusal) → IsErrOf result (front.Refused r) → to_spelled.refuses (map (λ f. f.items) files.now) r }
-    ensures listed { (r : Refusal) → IsErrOf result (front.Refused r) → IsSome (rule_text_of r.rule.0) }
+    ensures refused { (r : Refusal) → IsErrOf result (front.Refused r) →
+        to_spelled.refuses (map (λ f. f.items) files.now) r }
+    ensures listed { (r : Refusal) → IsErrOf result (front.Refused r) →
+        IsSome (rule_text_of r.rule.0) }
 {
     if let Some(refusal) = too_large(files) {
         return Err(Front::Refused(refusal));

@@ -27,7 +27,8 @@ pub(crate) fn too_large(files: &[Vec<u8>]) -> Option<Refusal>
     requires { length files.now ≤ 16 }
     ensures refused { IfSome result (λ r. refuses_first sized 0 (map (λ f. f.items) files.now) r) }
     ensures listed { IfSome result (λ r. IsSome (rule_text_of r.rule.0)) }
-    ensures small { IfNone result (makes_each sized 0 (map (λ f. f.items) files.now) (map (λ f. f.items) files.now)) }
+    ensures small { IfNone result
+        (makes_each sized 0 (map (λ f. f.items) files.now) (map (λ f. f.items) files.now)) }
     ensures each { IfNone result (Each IsSmall (map (λ f. f.items) files.now)) }
 {
     let mut number = 0;
@@ -52,11 +53,14 @@ pub(crate) fn too_large(files: &[Vec<u8>]) -> Option<Refusal>
 pub(crate) fn cut_all<'a>(alloc: Global, files: &'a [Vec<u8>]) -> Result<Vec<CutFile<'a>>, Front>
     requires few { length files.now ≤ 16 }
     requires small { Each IsSmall (map (λ f. f.items) files.now) }
-    ensures made { IfOk result (λ cuts. makes_each cutting 0 (map (λ f. f.items) files.now) (map cut_of cuts.items)) }
+    ensures made { IfOk result (λ cuts. makes_each cutting 0 (map (λ f. f.items) files.now)
+        (map cut_of cuts.items)) }
     ensures ready { IfOk result (λ cuts. Each CanBeLaid (map cut_of cuts.items)) }
     ensures count { IfOk result (λ cuts. length cuts.items ≡ length files.now) }
-    ensures refused { (r : Refusal) → IsErrOf result (front.Refused r) → refuses_first cutting 0 (map (λ f. f.items) files.now) r }
-    ensures listed { (r : Refusal) → IsErrOf result (front.Refused r) → IsSome (rule_text_of r.rule.0) }
+    ensures refused { (r : Refusal) → IsErrOf result (front.Refused r) →
+        refuses_first cutting 0 (map (λ f. f.items) files.now) r }
+    ensures listed { (r : Refusal) → IsErrOf result (front.Refused r) →
+        IsSome (rule_text_of r.rule.0) }
 {
     let mut cuts = Vec::new(alloc);
     let mut number = 0;
@@ -72,11 +76,14 @@ pub(crate) fn cut_all<'a>(alloc: Global, files: &'a [Vec<u8>]) -> Result<Vec<Cut
 pub(crate) fn lay_all<'a>(alloc: Global, cuts: &[CutFile<'a>]) -> Result<Vec<LaidFile<'a>>, Front>
     requires few { length cuts.now ≤ 16 }
     requires ready { Each CanBeLaid (map cut_of cuts.now) }
-    ensures made { IfOk result (λ laid. makes_each laying 0 (map cut_of cuts.now) (map laid_of laid.items)) }
+    ensures made { IfOk result (λ laid. makes_each laying 0 (map cut_of cuts.now)
+        (map laid_of laid.items)) }
     ensures ready { IfOk result (λ laid. Each CanBeRead (map laid_of laid.items)) }
     ensures count { IfOk result (λ laid. length laid.items ≡ length cuts.now) }
-    ensures refused { (r : Refusal) → IsErrOf result (front.Refused r) → refuses_first laying 0 (map cut_of cuts.now) r }
-    ensures listed { (r : Refusal) → IsErrOf result (front.Refused r) → IsSome (rule_text_of r.rule.0) }
+    ensures refused { (r : Refusal) → IsErrOf result (front.Refused r) →
+        refuses_first laying 0 (map cut_of cuts.now) r }
+    ensures listed { (r : Refusal) → IsErrOf result (front.Refused r) →
+        IsSome (rule_text_of r.rule.0) }
 {
     let mut laid = Vec::new(alloc);
     for file in cuts {
@@ -90,11 +97,14 @@ pub(crate) fn lay_all<'a>(alloc: Global, cuts: &[CutFile<'a>]) -> Result<Vec<Lai
 pub(crate) fn spell_all(alloc: Global, laid: &[LaidFile<'_>]) -> Result<Vec<ItemTrees>, Front>
     requires few { length laid.now ≤ 16 }
     requires ready { Each CanBeRead (map laid_of laid.now) }
-    ensures made { IfOk result (λ files. makes_each spelling 0 (map laid_of laid.now) (map file_items files.items)) }
+    ensures made { IfOk result (λ files. makes_each spelling 0 (map laid_of laid.now)
+        (map file_items files.items)) }
     ensures few { IfOk result (λ files. Each HasFewNodes (map file_items files.items)) }
     ensures count { IfOk result (λ files. length files.items ≡ length laid.now) }
-    ensures refused { (r : Refusal) → IsErrOf result (front.Refused r) → refuses_first spelling 0 (map laid_of laid.now) r }
-    ensures listed { (r : Refusal) → IsErrOf result (front.Refused r) → IsSome (rule_text_of r.rule.0) }
+    ensures refused { (r : Refusal) → IsErrOf result (front.Refused r) →
+        refuses_first spelling 0 (map laid_of laid.now) r }
+    ensures listed { (r : Refusal) → IsErrOf result (front.Refused r) →
+        IsSome (rule_text_of r.rule.0) }
 {
     let mut files = Vec::new(alloc);
     let mut number = 0;

@@ -1,6 +1,7 @@
 -- Quotients one step apart, and rounding by the Euclidean quotient.
 use Rattle.std.specs.Int.RustNames.{int_lt}
-use Rattle.std.proofs.Common.{true, false, ◌≡◌, ◌≢◌, ℕ, zero, suc, ◌+◌, ◌-◌, ◌*◌, ◌/◌, ◌%◌, ◌<◌, ℤ, pos, negsuc, ◌+ℤ◌, ◌-ℤ◌, neg_ℤ, refl, sym, ap, ◌∙◌, arith}
+use Rattle.std.proofs.Common.{true, false, ◌≡◌, ◌≢◌, ℕ, zero, suc, ◌+◌, ◌-◌, ◌*◌, ◌/◌, ◌%◌, ◌<◌, ℤ, pos, negsuc, ◌+ℤ◌, ◌-ℤ◌, neg_ℤ, refl}
+use Rattle.std.proofs.Common.{sym, ap, ◌∙◌, arith}
 use Rattle.std.proofs.lemmas.Nat.{div-add-mod', div-mul-add}
 use Rattle.std.proofs.lemmas.Int.{ints}
 use Rattle.std.proofs.Math.Nat.{zero-div}
@@ -85,7 +86,8 @@ ceil_whole (negsuc n) m h =
     let none : suc m - 1 - n % suc m ≡ 0 = pos_injective _ _ h in
     rw (next_whole n m (omega (arith, below, none))) refl
 
-pub ceil_more : (a : ℤ) (m : ℕ) → int_rem_euclid a (pos (suc m)) ≢ pos 0 → ceil_quotient a (pos (suc m)) ≡ int_div_euclid a (pos (suc m)) +ℤ pos 1
+pub ceil_more : (a : ℤ) (m : ℕ) → int_rem_euclid a (pos (suc m)) ≢ pos 0 →
+    ceil_quotient a (pos (suc m)) ≡ int_div_euclid a (pos (suc m)) +ℤ pos 1
 ceil_more (pos zero) m h = absurd (h (ap pos (omega arith)))
 ceil_more (pos (suc n)) m h =
     let within : n % suc m ≢ m = not_last_rem n m (λ e. h (ap pos e)) in

@@ -1,5 +1,6 @@
 -- What the Euclidean quotient and remainder are, in the words of the definitions.
-use Rattle.std.proofs.Common.{◌≡◌, ◌≢◌, ℕ, zero, suc, ◌+◌, ◌-◌, ◌*◌, ◌/◌, ◌%◌, ◌<◌, ℤ, pos, negsuc, ◌+ℤ◌, ◌-ℤ◌, ◌*ℤ◌, neg_ℤ, FitsSigned, of_z, w64, ◌^◌, refl, ap, arith, sym, ◌∙◌}
+use Rattle.std.proofs.Common.{◌≡◌, ◌≢◌, ℕ, zero, suc, ◌+◌, ◌-◌, ◌*◌, ◌/◌, ◌%◌, ◌<◌, ℤ, pos, negsuc, ◌+ℤ◌, ◌-ℤ◌, ◌*ℤ◌, neg_ℤ, FitsSigned}
+use Rattle.std.proofs.Common.{of_z, w64, ◌^◌, refl, ap, arith, sym, ◌∙◌}
 use Rattle.std.proofs.lemmas.Nat.{div-add-mod'}
 use Rattle.std.proofs.lemmas.Int.{ints}
 use Rattle.std.proofs.Math.IntN.{negsuc-*ℤ-pos, pos-*ℤ-negsuc, negsuc-*ℤ-negsuc, zero-*ℤ, neg_ℤ-neg_ℤ}
@@ -99,7 +100,13 @@ rounds_up : (a : ℤ) (d : ℕ) → 0 < d → IsCeil a d (ceil_quotient a (pos d
 rounds_up a d positive = mirrored a d (floor_quotient (neg_ℤ a) (pos d)) (rounds_down (neg_ℤ a) d positive)
 
 pub rounds : RoundsDownAndUp
-rounds = record { down = rounds_down; up = rounds_up; down_signs = both_signs; up_signs = λ a b nonzero. ap neg_ℤ (both_signs (neg_ℤ a) b nonzero) }
+rounds = record {
+  down = rounds_down;
+  up = rounds_up;
+  down_signs = both_signs;
+  up_signs =
+      λ a b nonzero. ap neg_ℤ (both_signs (neg_ℤ a) b nonzero);
+}
 
 pub minus_one : (b : ℤ) → FitsSigned w64 b → of_z w64 b ≡ 2 ^ 64 - 1 → b ≡ negsuc 0
 minus_one (pos n) fits e = absurd (omega (arith, fits.sfits))

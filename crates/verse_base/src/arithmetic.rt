@@ -1,10 +1,12 @@
 //! Exact arithmetic of 64-bit integers.
 
-ghost use Rattle.std.specs.Prelude.{◌≡◌, ◌≢◌, pos, ◌+ℤ◌, ◌-ℤ◌, ◌*ℤ◌, neg_ℤ, IsSome, IfSome, FitsSigned};
+ghost use Rattle.std.specs.Prelude.{◌≡◌, ◌≢◌, pos, ◌+ℤ◌, ◌-ℤ◌, ◌*ℤ◌, neg_ℤ, IsSome, IfSome};
+ghost use Rattle.std.specs.Prelude.{FitsSigned};
 ghost use Rattle.std.specs.Bool.{OnTrue, OnFalse};
 ghost use Rattle.std.specs.Int.{w64, int_div_euclid, int_rem_euclid, NotMinOverMinusOne};
 ghost use Rattle.std.specs.Option.{SomeIff};
-ghost use Rattle.verse_base.specs.Quotients.{floor_quotient, ceil_quotient, IsResidue, RoundsDownAndUp};
+ghost use Rattle.verse_base.specs.Quotients.{floor_quotient, ceil_quotient, IsResidue};
+ghost use Rattle.verse_base.specs.Quotients.{RoundsDownAndUp};
 
 /// The exact sum, or None exactly where it leaves the range of an int.
 pub fn add(a: i64, b: i64) -> Option<i64>

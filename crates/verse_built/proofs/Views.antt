@@ -1,7 +1,8 @@
 -- What the structs of the trees stand for, by their fields.
 use Rattle.std.proofs.Common.{◌≡◌, map, option_map, rules}
 use Rattle.verse_tree.specs.Tree.{tree}
-use Rattle.verse_tree.specs.View.{written_of, tree_of, shape_of, two_of, typed_value_of, if_of, applied_of, for_of, cases_of, hole_of, pair_of, given_of}
+use Rattle.verse_tree.specs.View.{written_of, tree_of, shape_of, two_of, typed_value_of, if_of, applied_of, for_of, cases_of, hole_of}
+use Rattle.verse_tree.specs.View.{pair_of, given_of}
 use Rattle.verse_tree.specs.TypeView.{map_of}
 use Rattle.verse_tree.specs.declared.types.MapTy.{MapTy}
 use Rattle.verse_tree.specs.declared.exprs.Two.{Two, out-Two}
@@ -26,7 +27,12 @@ two_parts x = search (rules, the_lemmas)
 pub typed_parts : (x : TypedValue) → typed_value_of x ≡ (written_of (out-TypedValue x).ty, tree_of (out-TypedValue x).value)
 typed_parts x = search (rules, the_lemmas)
 
-pub if_parts : (x : IfParts) → if_of x ≡ record { conditions = map tree_of (out-IfParts x).conditions; taken = tree_of (out-IfParts x).then; otherwise = option_map tree_of (out-IfParts x).otherwise }
+pub if_parts : (x : IfParts) → if_of x ≡ record {
+  conditions = map tree_of (out-IfParts x).conditions;
+  taken =
+      tree_of (out-IfParts x).then;
+  otherwise = option_map tree_of (out-IfParts x).otherwise;
+}
 if_parts x = search (rules, the_lemmas)
 
 pub applied_parts : (x : Applied) → applied_of x ≡ (tree_of (out-Applied x).callee, map tree_of (out-Applied x).args)

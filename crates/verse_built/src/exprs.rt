@@ -2,8 +2,12 @@
 
 ghost use Rattle.std.specs.Prelude.{◌≡◌, ◌++◌, map};
 ghost use Rattle.std.specs.Option.{option_map};
-ghost use Rattle.verse_tree.specs.View.{shape_of, tree_of, trees, holes, hole_of, pairs, pair_of, givens, given_of, applied_of, cases_of, if_of, for_of, two_of, typed_value_of};
-ghost use Rattle.verse_tree.specs.PostOrder.{post_order, parts, trees_order, holes_order, pairs_order, givens_order, default_order, written_order};
+ghost use Rattle.verse_tree.specs.View.{shape_of, tree_of, trees, holes, hole_of, pairs, pair_of};
+ghost use Rattle.verse_tree.specs.View.{givens, given_of, applied_of, cases_of, if_of, for_of};
+ghost use Rattle.verse_tree.specs.View.{two_of, typed_value_of};
+ghost use Rattle.verse_tree.specs.PostOrder.{post_order, parts, trees_order, holes_order};
+ghost use Rattle.verse_tree.specs.PostOrder.{pairs_order, givens_order, default_order};
+ghost use Rattle.verse_tree.specs.PostOrder.{written_order};
 ghost use Rattle.verse_built.specs.Built.{first_unbuilt};
 
 use crate::forms::is_built_form;
@@ -114,7 +118,8 @@ fn in_other(other: &Option<Boxed<Expr>>) -> Option<Place>
 #[cycle(exprs)]
 #[tactic(auto, using(crate::proofs::Appends::first_append, crate::proofs::Views::two_parts))]
 fn in_two(two: &Two) -> Option<Place>
-    ensures { result ≡ first_unbuilt (post_order (two_of two.now).0 ++ post_order (two_of two.now).1) }
+    ensures { result ≡ first_unbuilt (post_order (two_of two.now).0 ++
+        post_order (two_of two.now).1) }
 {
     match in_expr(two.left.get()) {
         Some(place) => Some(place),
@@ -125,7 +130,8 @@ fn in_two(two: &Two) -> Option<Place>
 #[cycle(exprs)]
 #[tactic(auto, using(crate::proofs::Appends::first_append, crate::proofs::Views::typed_parts))]
 fn in_typed(typed: &TypedValue) -> Option<Place>
-    ensures { result ≡ first_unbuilt (written_order (typed_value_of typed.now).0 ++ post_order (typed_value_of typed.now).1) }
+    ensures { result ≡ first_unbuilt (written_order (typed_value_of typed.now).0 ++
+        post_order (typed_value_of typed.now).1) }
 {
     match in_type(&typed.ty) {
         Some(place) => Some(place),
@@ -136,7 +142,8 @@ fn in_typed(typed: &TypedValue) -> Option<Place>
 #[cycle(exprs)]
 #[tactic(auto, using(crate::proofs::Appends::first_append, crate::proofs::Views::if_parts))]
 fn in_if(choice: &IfParts) -> Option<Place>
-    ensures { result ≡ first_unbuilt (trees_order (trees (if_of choice.now).conditions) ++ post_order (if_of choice.now).taken ++ default_order (if_of choice.now).otherwise) }
+    ensures { result ≡ first_unbuilt (trees_order (trees (if_of choice.now).conditions) ++
+        post_order (if_of choice.now).taken ++ default_order (if_of choice.now).otherwise) }
 {
     if let Some(place) = in_all(choice.conditions.as_slice()) {
         return Some(place);
@@ -150,7 +157,8 @@ fn in_if(choice: &IfParts) -> Option<Place>
 #[cycle(exprs)]
 #[tactic(auto, using(crate::proofs::Appends::first_append, crate::proofs::Views::applied_parts))]
 fn in_applied(applied: &Applied) -> Option<Place>
-    ensures { result ≡ first_unbuilt (post_order (applied_of applied.now).0 ++ trees_order (trees (applied_of applied.now).1)) }
+    ensures { result ≡ first_unbuilt (post_order (applied_of applied.now).0 ++
+        trees_order (trees (applied_of applied.now).1)) }
 {
     match in_expr(applied.callee.get()) {
         Some(place) => Some(place),
@@ -193,7 +201,8 @@ fn in_pairs(all: &[Pair]) -> Option<Place>
 #[cycle(exprs)]
 #[tactic(auto, using(crate::proofs::Appends::first_append, crate::proofs::Views::pair_parts))]
 fn in_pair(pair: &Pair) -> Option<Place>
-    ensures { result ≡ first_unbuilt (post_order (pair_of pair.now).0 ++ post_order (pair_of pair.now).1) }
+    ensures { result ≡ first_unbuilt (post_order (pair_of pair.now).0 ++
+        post_order (pair_of pair.now).1) }
 {
     match in_expr(pair.key.get()) {
         Some(place) => Some(place),
@@ -225,7 +234,8 @@ fn in_value(given: &Given) -> Option<Place>
 #[cycle(exprs)]
 #[tactic(auto, using(crate::proofs::Appends::first_append, crate::proofs::Views::for_parts))]
 fn in_for(each: &ForParts) -> Option<Place>
-    ensures { result ≡ first_unbuilt (trees_order (trees (for_of each.now).0) ++ post_order (for_of each.now).1) }
+    ensures { result ≡ first_unbuilt (trees_order (trees (for_of each.now).0) ++
+        post_order (for_of each.now).1) }
 {
     match in_all(each.clauses.as_slice()) {
         Some(place) => Some(place),
@@ -236,7 +246,8 @@ fn in_for(each: &ForParts) -> Option<Place>
 #[cycle(exprs)]
 #[tactic(auto, using(crate::proofs::Appends::first_append, crate::proofs::Views::cases_parts))]
 fn in_cases(cases: &Cases) -> Option<Place>
-    ensures { result ≡ first_unbuilt (post_order (cases_of cases.now).0 ++ trees_order (trees (cases_of cases.now).1)) }
+    ensures { result ≡ first_unbuilt (post_order (cases_of cases.now).0 ++
+        trees_order (trees (cases_of cases.now).1)) }
 {
     match in_expr(cases.subject.get()) {
         Some(place) => Some(place),

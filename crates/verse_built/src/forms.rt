@@ -3,7 +3,10 @@
 ghost use Rattle.std.specs.Prelude.{◌≡◌, ◌&&◌, map};
 ghost use Rattle.verse_tree.specs.View.{written_of, shape_of, tree_of, trees, applied_of};
 ghost use Rattle.verse_tree.specs.ItemView.{spec_of, param_of, fun_of, item_of};
-ghost use Rattle.verse_built.specs.Built.{is_print, is_main, names_print, is_text, no_exprs, are_text, is_call, are_calls, is_block, is_void, no_specs, no_params, is_built_shape, is_built_fun, is_one};
+ghost use Rattle.verse_built.specs.Built.{is_print, is_main, names_print, is_text, no_exprs};
+ghost use Rattle.verse_built.specs.Built.{are_text, is_call, are_calls, is_block, is_void};
+ghost use Rattle.verse_built.specs.Built.{no_specs, no_params, is_built_shape, is_built_fun};
+ghost use Rattle.verse_built.specs.Built.{is_one};
 
 use verse_tree::exprs::{Applied, Expr, Form};
 use verse_tree::items::{Fun, Item, Param, Spec};
@@ -96,7 +99,8 @@ fn no_params(params: &[Param]) -> bool
 
 /// Whether it calls the name `Print` with one text.
 fn prints(applied: &Applied) -> bool
-    ensures { result ≡ names_print (applied_of applied.now).0 && are_text (trees (applied_of applied.now).1) }
+    ensures { result ≡ names_print (applied_of applied.now).0 && are_text
+        (trees (applied_of applied.now).1) }
 {
     names_print(applied.callee.get()) && are_text(applied.args.as_slice())
 }

@@ -5,7 +5,9 @@ ghost use Rattle.std.specs.Option.{option_map};
 ghost use Rattle.verse_tree.specs.View.{tree_of};
 ghost use Rattle.verse_tree.specs.ItemTree.{function};
 ghost use Rattle.verse_tree.specs.ItemView.{field_of, param_of, fun_of, member_of, item_of};
-ghost use Rattle.verse_tree.specs.PostOrder.{default_order, param_order, params_order, fun_parts, field_parts, member_order, members_order, item_order, items_order, program_order};
+ghost use Rattle.verse_tree.specs.PostOrder.{default_order, param_order, params_order, fun_parts};
+ghost use Rattle.verse_tree.specs.PostOrder.{field_parts, member_order, members_order, item_order};
+ghost use Rattle.verse_tree.specs.PostOrder.{items_order, program_order};
 ghost use Rattle.verse_built.specs.Built.{first_unbuilt};
 
 use crate::exprs::in_expr;

@@ -3,7 +3,8 @@
 ghost use Rattle.std.specs.Prelude.{◌≡◌, ◌++◌, map, IfOk, OnOk};
 ghost use Rattle.verse_tree.specs.View.{tree_of, trees};
 ghost use Rattle.verse_tree.specs.ItemView.{item_of};
-ghost use Rattle.verse_built.specs.Texts.{texts_of, item_texts, body_texts, calls_texts, call_texts, arg_texts, text_of};
+ghost use Rattle.verse_built.specs.Texts.{texts_of, item_texts, body_texts, calls_texts};
+ghost use Rattle.verse_built.specs.Texts.{call_texts, arg_texts, text_of};
 
 use sqlite_items::Items;
 use std::alloc::Global;
@@ -35,7 +36,8 @@ fn body(alloc: Global, expr: &Expr, texts: &mut Vec<Text>) -> Result<(), Memory>
 }
 
 fn all_calls(alloc: Global, exprs: &[Expr], texts: &mut Vec<Text>) -> Result<(), Memory>
-    ensures { OnOk result (texts.new.items ≡ texts.old.items ++ calls_texts (trees (map tree_of exprs.now))) }
+    ensures { OnOk result (texts.new.items ≡ texts.old.items ++
+        calls_texts (trees (map tree_of exprs.now))) }
 {
     for expr in exprs {
         call(alloc, expr, texts)?;
@@ -53,7 +55,8 @@ fn call(alloc: Global, expr: &Expr, texts: &mut Vec<Text>) -> Result<(), Memory>
 }
 
 fn all_args(alloc: Global, args: &[Expr], texts: &mut Vec<Text>) -> Result<(), Memory>
-    ensures { OnOk result (texts.new.items ≡ texts.old.items ++ arg_texts (trees (map tree_of args.now))) }
+    ensures { OnOk result (texts.new.items ≡ texts.old.items ++
+        arg_texts (trees (map tree_of args.now))) }
 {
     for arg in args {
         push_text(alloc, arg, texts)?;

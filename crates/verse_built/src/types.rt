@@ -28,7 +28,8 @@ pub(crate) fn in_type(ty: &TyExpr) -> Option<Place>
 #[cycle(types)]
 #[tactic(auto, using(crate::proofs::Appends::first_append, crate::proofs::Views::mapty_parts))]
 fn in_map(parts: &MapTy) -> Option<Place>
-    ensures { result ≡ first_unbuilt (written_order (map_of parts.now).0 ++ written_order (map_of parts.now).1) }
+    ensures { result ≡ first_unbuilt (written_order (map_of parts.now).0 ++
+        written_order (map_of parts.now).1) }
 {
     match in_type(parts.key.get()) {
         Some(place) => Some(place),

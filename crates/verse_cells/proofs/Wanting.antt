@@ -16,7 +16,8 @@ abbrev ok_of : Val → Val → Result (Val × Val) WriteFault
 ok_of to v = Ok (to, v)
 
 -- a write of which nothing is handed back
-pub wrote_nothing : (wanted : Wanted) (r : Result (Val × Val) WriteFault) (to : Val) → wanted ≡ Nothing → slot_after r ≡ Some to → (v : Val) × (r ≡ Ok (to, v)) × IsWanted wanted None v
+pub wrote_nothing : (wanted : Wanted) (r : Result (Val × Val) WriteFault) (to : Val) → wanted ≡ Nothing → slot_after r ≡ Some to →
+    (v : Val) × (r ≡ Ok (to, v)) × IsWanted wanted None v
 wrote_nothing Copy r to e h = cc
 wrote_nothing Nothing (Err fault) to e h = cc
 wrote_nothing Nothing (Ok (new, v)) to e h = (v, cc, refl)
@@ -30,7 +31,10 @@ spared_ok spare from to v le =
     ap (λ (b : Bool). if b then ok_of to v else Err (Fault kind.Store)) (le-leb (weight_of to) (weight_of from + spare) le)
 
 -- a write after which the slot weighs no more than what is spare
-pub spared_written : (spare before after sum : ℕ) (path : List Val) (mode : Mode) (value from to v : Val) → written path mode value from ≡ Ok (to, v) → before ≡ min (weight_of from) 18446744073709551615 → after ≡ min (weight_of to) 18446744073709551615 → sum ≡ min (before + spare) 18446744073709551615 → after ≤ sum → spared spare from (written path mode value from) ≡ Ok (to, v)
+pub spared_written : (spare before after sum : ℕ) (path : List Val) (mode : Mode) (value from to v : Val) →
+    written path mode value from ≡ Ok (to, v) → before ≡ min (weight_of from) 18446744073709551615 →
+    after ≡ min (weight_of to) 18446744073709551615 → sum ≡ min (before + spare) 18446744073709551615 → after ≤ sum →
+    spared spare from (written path mode value from) ≡ Ok (to, v)
 spared_written spare before after sum path mode value from to v e b a s le =
     let light = written_light path mode value from to v e in
     ap (spared spare from) e ∙ spared_ok spare from to v (omega (arith, light, b, a, s, le))

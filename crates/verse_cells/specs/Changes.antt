@@ -1,5 +1,6 @@
 -- Changes of one slot.
-use Rattle.std.specs.Prelude.{◌≡◌, ℕ, ◌+◌, min, nat_le, List, take, length, ◌-◌, Option, Some, None, option_map, Result, Ok, Err, if◌then◌else◌, slice_get, slice_set}
+use Rattle.std.specs.Prelude.{◌≡◌, ℕ, ◌+◌, min, nat_le, List, take, length, ◌-◌, Option, Some, None, option_map, Result, Ok, Err}
+use Rattle.std.specs.Prelude.{if◌then◌else◌, slice_get, slice_set}
 use Rattle.verse_base.specs.declared.refusals.Kind.TheVariants as kind
 use Rattle.verse_value.specs.Val.{Val}
 use Rattle.verse_value.specs.View.{val_of}
@@ -31,7 +32,8 @@ IsWanted Copy copy wrote = option_map val_of copy ≡ Some wrote
 IsWanted Nothing copy wrote = copy ≡ None
 
 -- what a write hands out where the slot went from one value to another
-pub record IsWrite (spare : ℕ) (path : List Val) (mode : Mode) (value : Val) (wanted : Wanted) (change : Change) (from to : Val) : Type 0 where
+pub record IsWrite (spare : ℕ) (path : List Val) (mode : Mode) (value : Val) (wanted : Wanted) (change : Change) (from to : Val) :
+    Type 0 where
   pub wrote : Val
   pub gives : spared spare from (written path mode value from) ≡ Ok (to, wrote)
   pub answers : IsWanted wanted change.value wrote

@@ -1,4 +1,5 @@
-ghost use Rattle.std.specs.Prelude.{◌≡◌, ◌<◌, ◌≤◌, [], length, IsSome, Some, IfOk, IfErr, OnOk, OnErr, slice_get, option_map};
+ghost use Rattle.std.specs.Prelude.{◌≡◌, ◌<◌, ◌≤◌, [], length, IsSome, Some, IfOk, IfErr, OnOk};
+ghost use Rattle.std.specs.Prelude.{OnErr, slice_get, option_map};
 ghost use Rattle.std.specs.Borrow.{sem};
 ghost use Rattle.verse_value.specs.View.{val_of, vals_of};
 ghost use Rattle.verse_value.specs.Store as store;
@@ -6,7 +7,8 @@ ghost use Rattle.verse_value.specs.Store.{slot_of, stored, with_cell};
 ghost use Rattle.verse_write.specs.Writes.{Explains};
 ghost use Rattle.verse_cells.specs.View.{cell_of};
 ghost use Rattle.verse_cells.specs.Held.{store_of, counted, touched};
-ghost use Rattle.verse_cells.specs.Changes.{slot_written, IsWrite, IsUndone, InCell, CanUndoIn, without_last};
+ghost use Rattle.verse_cells.specs.Changes.{slot_written, IsWrite, IsUndone, InCell, CanUndoIn};
+ghost use Rattle.verse_cells.specs.Changes.{without_last};
 ghost use Rattle.verse_cells.specs.Rests.{RestsTouched};
 
 use crate::lists::Slots;
@@ -80,7 +82,8 @@ impl Cells {
     /// What a cell is. It is there. Counts one access and takes no memory.
     pub fn kind(&mut self, cell: u32) -> CellKind
         requires { cell < length (store_of self.old) }
-        ensures kind { option_map (λ (c : store.Cell). c.kind) (slice_get (store_of self.old) cell) ≡ Some result }
+        ensures kind { option_map (λ (c : store.Cell). c.kind)
+            (slice_get (store_of self.old) cell) ≡ Some result }
         ensures same { self.new ≡ touched self.old }
     {
         self.count();
@@ -112,8 +115,12 @@ impl Cells {
         wanted: Wanted,
     ) -> Result<Change, WriteFault>
         requires { IsSome (slot_of (store_of self.old) at.cell at.slot) }
-        ensures ok { IfOk result (λ c. InCell at.cell at.slot (IsWrite spare (vals_of path.now) mode (val_of value) wanted c) (store_of self.old) (store_of self.new)) }
-        ensures fault { IfErr result (Explains (slot_written spare (vals_of path.now) mode (val_of value) (slot_of (store_of self.old) at.cell at.slot))) }
+        ensures ok { IfOk result (λ c.
+            InCell at.cell at.slot (IsWrite spare (vals_of path.now) mode (val_of value) wanted c)
+            (store_of self.old) (store_of self.new)) }
+        ensures fault { IfErr result
+            (Explains (slot_written spare (vals_of path.now) mode (val_of value)
+            (slot_of (store_of self.old) at.cell at.slot))) }
         ensures same { OnErr result (store_of self.new ≡ store_of self.old) }
         ensures count { self.new.accesses ≡ counted self.old.accesses }
     {
@@ -134,7 +141,8 @@ impl Cells {
     /// memory.
     pub fn take_back(&mut self, at: Address, path: &Path, undo: Undo)
         requires { CanUndoIn (vals_of path.now) undo (slot_of (store_of self.old) at.cell at.slot) }
-        ensures slot { InCell at.cell at.slot (IsUndone (vals_of path.now) undo) (store_of self.old) (store_of self.new) }
+        ensures slot { InCell at.cell at.slot (IsUndone (vals_of path.now) undo) (store_of self.old)
+            (store_of self.new) }
         ensures count { self.new.accesses ≡ counted self.old.accesses }
     {
         self.count();
@@ -146,7 +154,8 @@ impl Cells {
     pub fn push(&mut self, kind: CellKind, slots: Vec<Value>) -> Result<u32, Memory>
         requires { length (store_of self.old) < 4294967295 }
         ensures address { IfOk result (λ n. n ≡ length (store_of self.old)) }
-        ensures ok { OnOk result (store_of self.new ≡ with_cell (store_of self.old) (record { kind = kind; slots = vals_of slots.items })) }
+        ensures ok { OnOk result (store_of self.new ≡
+            with_cell (store_of self.old) (record { kind = kind; slots = vals_of slots.items })) }
         ensures err { OnErr result (store_of self.new ≡ store_of self.old) }
         ensures count { self.new.accesses ≡ counted self.old.accesses }
     {

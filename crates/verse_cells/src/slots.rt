@@ -1,10 +1,12 @@
-ghost use Rattle.std.specs.Prelude.{◌≡◌, ◌<◌, Ok, length, IsSome, None, Some, MatchOption, IfOk, IfErr, OnErr, slice_get, slice_set};
+ghost use Rattle.std.specs.Prelude.{◌≡◌, ◌<◌, Ok, length, IsSome, None, Some, MatchOption, IfOk};
+ghost use Rattle.std.specs.Prelude.{IfErr, OnErr, slice_get, slice_set};
 ghost use Rattle.verse_value.specs.View.{val_of, vals_of};
 ghost use Rattle.verse_value.specs.Store.{slot_of, stored};
 ghost use Rattle.verse_value.specs.Val.{Val};
 ghost use Rattle.verse_write.specs.Writes.{written, undone, CanUndo, Explains};
 ghost use Rattle.verse_cells.specs.View.{cells_of};
-ghost use Rattle.verse_cells.specs.Changes.{IsWanted, spared, slot_written, IsWrite, IsUndone, InSlot, InCell, CanUndoIn};
+ghost use Rattle.verse_cells.specs.Changes.{IsWanted, spared, slot_written, IsWrite, IsUndone};
+ghost use Rattle.verse_cells.specs.Changes.{InSlot, InCell, CanUndoIn};
 
 use crate::lists::Slots;
 use std::alloc::Global;
@@ -60,7 +62,8 @@ pub fn slot_at(cells: &[Cell], cell: u32, slot: u32) -> &Value
 
 /// What a slot holds, where the cell and the slot are there.
 pub fn find_slot(cells: &[Cell], cell: u32, slot: u32) -> Option<&Value>
-    ensures { MatchOption result (slot_of (cells_of cells.now) cell slot ≡ None) (λ v. slot_of (cells_of cells.now) cell slot ≡ Some (val_of v.now)) }
+    ensures { MatchOption result (slot_of (cells_of cells.now) cell slot ≡ None)
+        (λ v. slot_of (cells_of cells.now) cell slot ≡ Some (val_of v.now)) }
 {
     match cells.get(cell as usize) {
         Some(cell) => cell.slots.as_slice().get(slot as usize),
@@ -102,8 +105,12 @@ pub fn write_at(
     wanted: Wanted,
 ) -> Result<Change, WriteFault>
     requires { IsSome (slot_of (cells_of cells.old) at.cell at.slot) }
-    ensures ok { IfOk result (λ c. InCell at.cell at.slot (IsWrite spare (vals_of path.now) mode (val_of value) wanted c) (cells_of cells.old) (cells_of cells.new)) }
-    ensures fault { IfErr result (Explains (slot_written spare (vals_of path.now) mode (val_of value) (slot_of (cells_of cells.old) at.cell at.slot))) }
+    ensures ok { IfOk result (λ c.
+        InCell at.cell at.slot (IsWrite spare (vals_of path.now) mode (val_of value) wanted c)
+        (cells_of cells.old) (cells_of cells.new)) }
+    ensures fault { IfErr result
+        (Explains (slot_written spare (vals_of path.now) mode (val_of value)
+        (slot_of (cells_of cells.old) at.cell at.slot))) }
     ensures same { OnErr result (cells_of cells.new ≡ cells_of cells.old) }
 {
     let slots = &mut cells[at.cell as usize].slots;
@@ -121,8 +128,12 @@ fn write_part(
     wanted: Wanted,
 ) -> Result<Change, WriteFault>
     requires { slot < length slots.old }
-    ensures ok { IfOk result (λ c. InSlot slot (IsWrite spare (vals_of path.now) mode (val_of value) wanted c) (vals_of slots.old) (vals_of slots.new)) }
-    ensures fault { IfErr result (Explains (slot_written spare (vals_of path.now) mode (val_of value) (slice_get (vals_of slots.old) slot))) }
+    ensures ok { IfOk result (λ c.
+        InSlot slot (IsWrite spare (vals_of path.now) mode (val_of value) wanted c)
+        (vals_of slots.old) (vals_of slots.new)) }
+    ensures fault { IfErr result
+        (Explains (slot_written spare (vals_of path.now) mode (val_of value)
+        (slice_get (vals_of slots.old) slot))) }
     ensures same { OnErr result (vals_of slots.new ≡ vals_of slots.old) }
 {
     write_value(
@@ -145,8 +156,11 @@ fn write_value(
     spare: u64,
     wanted: Wanted,
 ) -> Result<Change, WriteFault>
-    ensures ok { IfOk result (λ c. IsWrite spare (vals_of path.now) mode (val_of value) wanted c (val_of slot.old) (val_of slot.new)) }
-    ensures fault { IfErr result (Explains (spared spare (val_of slot.old) (written (vals_of path.now) mode (val_of value) (val_of slot.old)))) }
+    ensures ok { IfOk result (λ c. IsWrite spare (vals_of path.now) mode (val_of value) wanted c
+        (val_of slot.old) (val_of slot.new)) }
+    ensures fault { IfErr result
+        (Explains (spared spare (val_of slot.old)
+        (written (vals_of path.now) mode (val_of value) (val_of slot.old)))) }
     ensures same { OnErr result (val_of slot.new ≡ val_of slot.old) }
 {
     let before = weight(slot);
@@ -173,11 +187,15 @@ fn write_wanted(
     value: Value,
     wanted: Wanted,
 ) -> Result<(Option<Value>, Undo), WriteFault>
-    ensures ok { IfOk result (λ r. (v : Val) × (written (vals_of path.now) mode (val_of value) (val_of slot.old) ≡ Ok (val_of slot.new, v)) × IsWanted wanted r.0 v) }
-    ensures fault { IfErr result (Explains (written (vals_of path.now) mode (val_of value) (val_of slot.old))) }
+    ensures ok { IfOk result (λ r. (v : Val) ×
+        (written (vals_of path.now) mode (val_of value) (val_of slot.old) ≡
+        Ok (val_of slot.new, v)) × IsWanted wanted r.0 v) }
+    ensures fault { IfErr result
+        (Explains (written (vals_of path.now) mode (val_of value) (val_of slot.old))) }
     ensures same { OnErr result (val_of slot.new ≡ val_of slot.old) }
     ensures can_undo { IfOk result (λ r. CanUndo (vals_of path.now) r.1 (val_of slot.new)) }
-    ensures undo { IfOk result (λ r. undone (vals_of path.now) r.1 (val_of slot.new) ≡ val_of slot.old) }
+    ensures undo { IfOk result (λ r. undone (vals_of path.now) r.1 (val_of slot.new) ≡
+        val_of slot.old) }
 {
     match wanted {
         Wanted::Copy => {
@@ -194,14 +212,16 @@ fn write_wanted(
 /// Undoes a write at the path in the slot where it was made. Takes no memory.
 pub fn take_back(cells: &mut [Cell], at: Address, path: &Path, undo: Undo)
     requires { CanUndoIn (vals_of path.now) undo (slot_of (cells_of cells.old) at.cell at.slot) }
-    ensures { InCell at.cell at.slot (IsUndone (vals_of path.now) undo) (cells_of cells.old) (cells_of cells.new) }
+    ensures { InCell at.cell at.slot (IsUndone (vals_of path.now) undo) (cells_of cells.old)
+        (cells_of cells.new) }
 {
     take_back_part(&mut cells[at.cell as usize].slots, at.slot, path, undo);
 }
 
 fn take_back_part(slots: &mut Slots<Value>, slot: u32, path: &Path, undo: Undo)
     requires { CanUndoIn (vals_of path.now) undo (slice_get (vals_of slots.old) slot) }
-    ensures { InSlot slot (IsUndone (vals_of path.now) undo) (vals_of slots.old) (vals_of slots.new) }
+    ensures { InSlot slot (IsUndone (vals_of path.now) undo) (vals_of slots.old)
+        (vals_of slots.new) }
 {
     writes::take_back(slots.part_mut(slot as usize), path, undo);
 }

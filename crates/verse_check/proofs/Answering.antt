@@ -15,7 +15,8 @@ use Rattle.verse_walk.proofs.Order.{numbers_rise}
 use Rattle.verse_outline.specs.Known.{known}
 use Rattle.verse_outline.specs.Lines.{Members}
 use Rattle.verse_rows.specs.Facts.{World, Facts, class_members, enum_values, world_of}
-use Rattle.verse_rows.specs.Steps.{Sight, facts, own_rules, rules_at, type_by, own, serves_as, cut, served, judge, step, Breaks, begun, seen}
+use Rattle.verse_rows.specs.Steps.{Sight, facts, own_rules, rules_at, type_by, own, serves_as, cut, served, judge, step, Breaks, begun}
+use Rattle.verse_rows.specs.Steps.{seen}
 use Rattle.verse_check.specs.Checking.{world_by, all_seen, TellsTypes}
 
 cut_code : (t : Ty) (o : Option ℕ) → (cut t o).code ≡ o
@@ -28,7 +29,8 @@ served_code false t rs = refl
 
 -- the code of a node is that of the first of its rules that is broken
 judged_code : (f : Facts) (v : Node) → (judge f v).code ≡ first_true (rules_at f v)
-judged_code f v = served_code (serves_as f v.around.used v.what (own f v).ty) (type_by f v.number v.what) (own_rules f v.around v.number v.what)
+judged_code f v = served_code (serves_as f v.around.used v.what (own f v).ty) (type_by f v.number v.what)
+    (own_rules f v.around v.number v.what)
 
 -- the rules of a node have rising codes
 ascending : (f : Facts) (w : Around) (n : ℕ) (x : What) (b : Bool) → ascends ((50, b) ∷ own_rules f w n x) ≡ true
@@ -42,19 +44,23 @@ ascending f w n (type_name x) b = refl
 finds : (k : World) (v : Node) (x : Sight) → Finds (Breaks k v x) (judge (facts k x) v).code
 finds k v x =
     let f = facts k x in
-    subst (Finds (Breaks k v x)) (sym (judged_code f v)) (first_finds (rules_at f v) (ascending f v.around v.number v.what (not (serves_as f v.around.used v.what (own f v).ty))))
+    subst (Finds (Breaks k v x)) (sym (judged_code f v))
+    (first_finds (rules_at f v) (ascending f v.around v.number v.what (not (serves_as f v.around.used v.what (own f v).ty))))
 
 pub answers : (k : Names) (is : List ItemTree) → AreNumbered is → TellsTypes k is (all_seen k is).fault
 unfolding step
 answers k is h =
     let w = world_of k is in
     let vs = items_nodes is in (
-      least_kept number_of place_of (step w) (Breaks w) (λ v x. (judge (facts w x) v).code) (finds w) (λ x. x.fault) (λ v x. refl) vs begun (numbers_rise is h) refl,
-      placed_kept number_of place_of (step w) (Breaks w) (λ v x. (judge (facts w x) v).code) (finds w) (λ x. x.fault) (λ v x. refl) vs begun refl,
+      least_kept number_of place_of (step w) (Breaks w) (λ v x. (judge (facts w x) v).code) (finds w) (λ x. x.fault) (λ v x. refl) vs begun
+          (numbers_rise is h) refl,
+      placed_kept number_of place_of (step w) (Breaks w) (λ v x. (judge (facts w x) v).code) (finds w) (λ x. x.fault)
+          (λ v x. refl) vs begun refl,
     )
 
 -- the same tables find the same
-pub sees : (k : Names) (is : List ItemTree) (x : Sight) (ms : List Members) (vs : List (List Bytes)) → x ≡ seen (world_by k ms vs) (items_nodes is) → ms ≡ class_members (known is) → vs ≡ enum_values is →
+pub sees : (k : Names) (is : List ItemTree) (x : Sight) (ms : List Members) (vs : List (List Bytes)) →
+    x ≡ seen (world_by k ms vs) (items_nodes is) → ms ≡ class_members (known is) → vs ≡ enum_values is →
     x ≡ all_seen k is
 sees k is x ms vs h e g =
     h

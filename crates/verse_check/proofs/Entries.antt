@@ -27,7 +27,8 @@ from_start : (i : ℕ) → 0 + i ≡ i
 from_start i = omega arith
 
 -- a node behind changes no entry
-kept : (k : World) (vs : List Node) (x : Sight) (n : ℕ) (t : Ty) → slice_get x.types n ≡ Some t → slice_get (each (step k) vs x).types n ≡ Some t
+kept : (k : World) (vs : List Node) (x : Sight) (n : ℕ) (t : Ty) → slice_get x.types n ≡ Some t →
+    slice_get (each (step k) vs x).types n ≡ Some t
 unfolding step
 kept k [] x n t h = h
 kept k (v ∷ vs) x n t h = kept k vs (step k v x) n t (get_more x.types (judge (facts k x) v).ty t n h)
@@ -37,16 +38,19 @@ entry : (k : World) (vs : List Node) (x : Sight) (i : ℕ) (v : Node) → slice_
 unfolding step
 entry k [] x i v h = cc
 entry k (w ∷ vs) x zero v h =
-    subst (λ (y : Node). slice_get (each (step k) vs (step k w x)).types (length x.types + 0) ≡ Some (judge (facts k x) y).ty) (same_Some w v h) (
+    subst (λ (y : Node). slice_get (each (step k) vs (step k w x)).types (length x.types + 0) ≡ Some (judge (facts k x) y).ty)
+    (same_Some w v h) (
     subst (λ (n : ℕ). slice_get (each (step k) vs (step k w x)).types n ≡ Some (judge (facts k x) w).ty) (omega arith) (
     kept k vs (step k w x) (length x.types) (judge (facts k x) w).ty (get_last x.types (judge (facts k x) w).ty)
     )
     )
 entry k (w ∷ vs) x (suc i) v h =
-    subst (λ (n : ℕ). slice_get (each (step k) vs (step k w x)).types n ≡ Some (judge (facts k (each (step k) (take i vs) (step k w x))) v).ty) (one_more x.types (judge (facts k x) w).ty i)
+    subst (λ (n : ℕ). slice_get (each (step k) vs (step k w x)).types n ≡
+    Some (judge (facts k (each (step k) (take i vs) (step k w x))) v).ty) (one_more x.types (judge (facts k x) w).ty i)
     (entry k vs (step k w x) i v h)
 
 pub entries : (k : Names) (is : List ItemTree) → AreTypesOf k is (all_seen k is).types
 entries k is i v h =
-    subst (λ (n : ℕ). slice_get (all_seen k is).types n ≡ Some (judge (facts (world_of k is) (seen (world_of k is) (take i (items_nodes is)))) v).ty) (from_start i)
+    subst (λ (n : ℕ). slice_get (all_seen k is).types n ≡
+    Some (judge (facts (world_of k is) (seen (world_of k is) (take i (items_nodes is)))) v).ty) (from_start i)
     (entry (world_of k is) (items_nodes is) begun i v h)

@@ -16,11 +16,13 @@ ghost use Rattle.verse_walk.specs.Order.{AreNumbered};
 ghost use Rattle.verse_walk.specs.Passes.{tree_node};
 ghost use Rattle.verse_walk.specs.Through.{through_items};
 ghost use Rattle.verse_walk.specs.Views.{around_of};
-ghost use Rattle.verse_rows.specs.Steps.{Sight, seen, facts, shape_ref, shape_defines, noted, step, begun};
+ghost use Rattle.verse_rows.specs.Steps.{Sight, seen, facts, shape_ref, shape_defines, noted, step};
+ghost use Rattle.verse_rows.specs.Steps.{begun};
 ghost use Rattle.verse_judging.specs.Codes.{of_expression};
 ghost use Rattle.verse_rows.specs.Facts.{named_ref};
 ghost use Rattle.verse_rows.specs.Views.{world_of, judged_of, names_of};
-ghost use Rattle.verse_check.specs.Checking.{world_by, all_seen, AreTypesOf, TypesBreak, TellsTypes, IsLeastMistyped};
+ghost use Rattle.verse_check.specs.Checking.{world_by, all_seen, AreTypesOf, TypesBreak};
+ghost use Rattle.verse_check.specs.Checking.{TellsTypes, IsLeastMistyped};
 ghost use Rattle.verse_check.specs.Views.{sight_of};
 
 use crate::seen::Seen;
@@ -62,7 +64,13 @@ impl<'a> TypesPass<'a> {
         place: Place,
         form: &Form,
     ) -> Result<(), Memory>
-        ensures { OnOk result (sight_of seen.new ≡ noted number place (of_expression (facts (world_of self.now.world.now) (sight_of seen.old)) (around_of around.entry) number (shape_of form.now)) (shape_ref (facts (world_of self.now.world.now) (sight_of seen.old)) number (shape_of form.now)) (shape_defines (shape_of form.now)) (sight_of seen.old).left (sight_of seen.old)) }
+        ensures { OnOk result (sight_of seen.new ≡
+            noted number place (of_expression
+            (facts (world_of self.now.world.now) (sight_of seen.old))
+            (around_of around.entry) number (shape_of form.now))
+            (shape_ref (facts (world_of self.now.world.now) (sight_of seen.old)) number
+            (shape_of form.now)) (shape_defines (shape_of form.now)) (sight_of seen.old).left
+            (sight_of seen.old)) }
     {
         let facts = seen.facts(self.world);
         let judged = judge_expr(&facts, around, number, form)?;
@@ -79,21 +87,29 @@ impl<'a> TypesPass<'a> {
         place: Place,
         form: &Form,
     ) -> Result<(), Memory>
-        ensures { OnOk result (sight_of seen.new ≡ step (world_of self.now.world.now) (node number place (around_of around.entry) (expression (shape_of form.now))) (sight_of seen.old)) }
+        ensures { OnOk result (sight_of seen.new ≡
+            step (world_of self.now.world.now)
+            (node number place (around_of around.entry) (expression (shape_of form.now)))
+            (sight_of seen.old)) }
     {
         self.add_form(seen, around, number, place, form)?;
         seen.leave(loop_left(around, form))
     }
 
     fn note_expr(&self, seen: &mut Seen, around: Around<'_>, expr: &Expr) -> Result<(), Memory>
-        ensures { OnOk result (sight_of seen.new ≡ step (world_of self.now.world.now) (tree_node (around_of around.entry) (tree_of expr.now)) (sight_of seen.old)) }
+        ensures { OnOk result (sight_of seen.new ≡
+            step (world_of self.now.world.now)
+            (tree_node (around_of around.entry) (tree_of expr.now)) (sight_of seen.old)) }
     {
         self.note_form(seen, around, expr.node, expr.place, &expr.form)
     }
 
     /// Adds what is no expression.
     fn add(&self, seen: &mut Seen, node: u32, place: Place, judged: Judged) -> Result<(), Memory>
-        ensures { OnOk result (sight_of seen.new ≡ noted node place (judged_of judged) (named_ref (facts (world_of self.now.world.now) (sight_of seen.old)) node) false (sight_of seen.old).left (sight_of seen.old)) }
+        ensures { OnOk result (sight_of seen.new ≡
+            noted node place (judged_of judged)
+            (named_ref (facts (world_of self.now.world.now) (sight_of seen.old)) node) false
+            (sight_of seen.old).left (sight_of seen.old)) }
     {
         let refers = seen.facts(self.world).named_ref(node);
         seen.add(node, place, judged, refers, false)
@@ -101,7 +117,10 @@ impl<'a> TypesPass<'a> {
 
     #[tactic(auto, unfolding(verse_rows::specs::Steps::step))]
     fn note_item(&self, seen: &mut Seen, around: Around<'_>, item: &Item) -> Result<(), Memory>
-        ensures { OnOk result (sight_of seen.new ≡ step (world_of self.now.world.now) (record (item_node (item_of item.now)) { around = around_of around.entry }) (sight_of seen.old)) }
+        ensures { OnOk result (sight_of seen.new ≡
+            step (world_of self.now.world.now)
+            (record (item_node (item_of item.now)) { around = around_of around.entry })
+            (sight_of seen.old)) }
     {
         let judged = judge_item(&seen.facts(self.world), item)?;
         match item {
@@ -119,7 +138,10 @@ impl<'a> TypesPass<'a> {
         around: Around<'_>,
         member: &Member,
     ) -> Result<(), Memory>
-        ensures { OnOk result (sight_of seen.new ≡ step (world_of self.now.world.now) (record (member_node (member_of member.now)) { around = around_of around.entry }) (sight_of seen.old)) }
+        ensures { OnOk result (sight_of seen.new ≡
+            step (world_of self.now.world.now)
+            (record (member_node (member_of member.now)) { around = around_of around.entry })
+            (sight_of seen.old)) }
     {
         let judged = judge_member(&seen.facts(self.world), member)?;
         match member {
@@ -130,7 +152,10 @@ impl<'a> TypesPass<'a> {
 
     #[tactic(auto, unfolding(verse_rows::specs::Steps::step))]
     fn note_param(&self, seen: &mut Seen, around: Around<'_>, param: &Param) -> Result<(), Memory>
-        ensures { OnOk result (sight_of seen.new ≡ step (world_of self.now.world.now) (record (param_node (param_of param.now)) { around = around_of around.entry }) (sight_of seen.old)) }
+        ensures { OnOk result (sight_of seen.new ≡
+            step (world_of self.now.world.now)
+            (record (param_node (param_of param.now)) { around = around_of around.entry })
+            (sight_of seen.old)) }
     {
         let judged = judge_param(&seen.facts(self.world), param)?;
         self.add(seen, param.node, param.place, judged)
@@ -138,7 +163,10 @@ impl<'a> TypesPass<'a> {
 
     #[tactic(auto, unfolding(verse_rows::specs::Steps::step))]
     fn note_name(&self, seen: &mut Seen, around: Around<'_>, name: &TyName) -> Result<(), Memory>
-        ensures { OnOk result (sight_of seen.new ≡ step (world_of self.now.world.now) (node name.now.node name.now.place (around_of around.entry) (type_name name.now.name)) (sight_of seen.old)) }
+        ensures { OnOk result (sight_of seen.new ≡
+            step (world_of self.now.world.now)
+            (node name.now.node name.now.place (around_of around.entry) (type_name name.now.name))
+            (sight_of seen.old)) }
     {
         let judged = judge_name(&seen.facts(self.world), name.node);
         self.add(seen, name.node, name.place, judged)
@@ -190,11 +218,15 @@ pub struct Checked {
 /// of types that one of them breaks, E050 to E059 or E070, or none. Want of memory alone is an error.
 pub fn look(alloc: Global, tree: &Tree, names: &Names) -> Result<Found, Memory>
     requires numbered { AreNumbered (map item_of tree.now.items) }
-    ensures types { IfOk result (λ l. map ty_of l.types ≡ (all_seen names.now (map item_of tree.now.items)).types) }
-    ensures refs { IfOk result (λ l. l.refs ≡ (all_seen names.now (map item_of tree.now.items)).refs) }
-    ensures vars { IfOk result (λ l. l.vars ≡ (all_seen names.now (map item_of tree.now.items)).vars) }
+    ensures types { IfOk result (λ l. map ty_of l.types ≡
+        (all_seen names.now (map item_of tree.now.items)).types) }
+    ensures refs { IfOk result (λ l. l.refs ≡
+        (all_seen names.now (map item_of tree.now.items)).refs) }
+    ensures vars { IfOk result (λ l. l.vars ≡
+        (all_seen names.now (map item_of tree.now.items)).vars) }
     ensures fault { IfOk result (λ l. TellsTypes names.now (map item_of tree.now.items) l.fault) }
-    ensures judged { IfOk result (λ l. AreTypesOf names.now (map item_of tree.now.items) (map ty_of l.types)) }
+    ensures judged { IfOk result
+        (λ l. AreTypesOf names.now (map item_of tree.now.items) (map ty_of l.types)) }
 {
     let seen = see(alloc, tree, names)?;
     let Seen {
@@ -216,11 +248,17 @@ pub fn look(alloc: Global, tree: &Tree, names: &Names) -> Result<Found, Memory>
 /// refusal for the least rule of types that one of them breaks, E050 to E059 or E070.
 pub fn check(alloc: Global, tree: &Tree, names: &Names) -> Result<Checked, Front>
     requires numbered { AreNumbered (map item_of tree.now.items) }
-    ensures types { IfOk result (λ c. map ty_of c.types ≡ (all_seen names.now (map item_of tree.now.items)).types) }
-    ensures refs { IfOk result (λ c. c.refs ≡ (all_seen names.now (map item_of tree.now.items)).refs) }
-    ensures judged { IfOk result (λ c. AreTypesOf names.now (map item_of tree.now.items) (map ty_of c.types)) }
-    ensures fine { IfOk result (λ _. (n c : ℕ) → TypesBreak names.now (map item_of tree.now.items) n c → ⊥) }
-    ensures refused { (r : Refusal) → IsErrOf result (front.Refused r) → (f : Fault) × IsLeastMistyped names.now (map item_of tree.now.items) f × (refusal_of f ≡ r) }
+    ensures types { IfOk result (λ c. map ty_of c.types ≡
+        (all_seen names.now (map item_of tree.now.items)).types) }
+    ensures refs { IfOk result (λ c. c.refs ≡
+        (all_seen names.now (map item_of tree.now.items)).refs) }
+    ensures judged { IfOk result
+        (λ c. AreTypesOf names.now (map item_of tree.now.items) (map ty_of c.types)) }
+    ensures fine { IfOk result (λ _. (n c : ℕ) →
+        TypesBreak names.now (map item_of tree.now.items) n c → ⊥) }
+    ensures refused { (r : Refusal) → IsErrOf result (front.Refused r) →
+        (f : Fault) × IsLeastMistyped names.now (map item_of tree.now.items) f ×
+        (refusal_of f ≡ r) }
 {
     let found = look(alloc, tree, names)?;
     let Found {
@@ -257,7 +295,9 @@ fn see_by(
     members: &[Members<'_>],
     values: &[NameSet<'_>],
 ) -> Result<Seen, Memory>
-    ensures { IfOk result (λ s. sight_of s ≡ seen (world_by names.now (map members_view members.now) (map names_of values.now)) (items_nodes (map item_of items.now))) }
+    ensures { IfOk result (λ s. sight_of s ≡
+        seen (world_by names.now (map members_view members.now) (map names_of values.now))
+        (items_nodes (map item_of items.now))) }
 {
     let world = World {
         alloc,
@@ -271,7 +311,8 @@ fn see_by(
 }
 
 fn see_in(alloc: Global, items: &[Item], world: &World<'_>) -> Result<Seen, Memory>
-    ensures { IfOk result (λ s. sight_of s ≡ through_items (step (world_of world.now)) (map item_of items.now) begun) }
+    ensures { IfOk result (λ s. sight_of s ≡ through_items (step (world_of world.now))
+        (map item_of items.now) begun) }
 {
     let mut seen = Seen::new(alloc);
     walk_items(&TypesPass { world }, &mut seen, items)?;

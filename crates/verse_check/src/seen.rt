@@ -59,7 +59,8 @@ impl Seen {
 
     /// Adds the loop that a node leaves.
     pub fn leave(&mut self, left: Option<u32>) -> Result<(), Memory>
-        ensures { OnOk result (sight_of self.new ≡ record (sight_of self.old) { left = s.with_loop left (sight_of self.old).left }) }
+        ensures { OnOk result (sight_of self.new ≡
+            record (sight_of self.old) { left = s.with_loop left (sight_of self.old).left }) }
     {
         match left {
             None => Ok(()),
@@ -76,7 +77,9 @@ impl Seen {
         refers: Option<Ref>,
         defines: bool,
     ) -> Result<(), Memory>
-        ensures { OnOk result (sight_of self.new ≡ s.noted node place (judged_of judged) refers defines (sight_of self.old).left (sight_of self.old)) }
+        ensures { OnOk result (sight_of self.new ≡
+            s.noted node place (judged_of judged) refers defines (sight_of self.old).left
+            (sight_of self.old)) }
     {
         let Judged { ty, code } = judged;
         self.types.push(ty)?;

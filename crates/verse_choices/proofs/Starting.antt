@@ -100,5 +100,6 @@ return_start k h = start_is k stmt.Return h
 pub break_start : (k : TokKind) → stmt_start k ≡ Some stmt.Break → k ≡ word w.Break
 break_start k h = start_is k stmt.Break h
 
-pub left_at : (b : List ℕ) (k : Tok) (rest : List Tok) → stmt_start k.kind ≡ Some stmt.Break → Control b (k ∷ rest) (at k t.Shape.break_form) rest
+pub left_at : (b : List ℕ) (k : Tok) (rest : List Tok) → stmt_start k.kind ≡ Some stmt.Break →
+    Control b (k ∷ rest) (at k t.Shape.break_form) rest
 left_at b k rest h = break_form (break_start k.kind h)

@@ -30,12 +30,15 @@ pub fn set<'t, F: Fn(Global, &[u8], Phrase, &[Tok]) -> Result<(Tree, usize), Rea
     tok: Tok,
     toks: &'t [Tok],
 ) -> Result<(Tree, &'t [Tok]), ReadFault>
-    requires nests { Nests reader.now.bytes.now reader.now.most (F.pre reader.now.nested) (F.post reader.now.nested) }
+    requires nests { Nests reader.now.bytes.now reader.now.most (F.pre reader.now.nested)
+        (F.post reader.now.nested) }
     requires fewer { length toks.now < reader.now.most }
     requires start { stmt_start tok.kind ≡ Some StmtStart.Set }
-    ensures spelled { IfOk result (λ r. Control reader.now.bytes.now (tok ∷ toks.now) (tree_of r.0) r.1.now) }
+    ensures spelled { IfOk result
+        (λ r. Control reader.now.bytes.now (tok ∷ toks.now) (tree_of r.0) r.1.now) }
     ensures eats { IfOk result (λ r. EatsRule set_rest toks.now r.1.now) }
-    ensures sticks { (left : ℕ) → IsErrOf result (read_fault.Stuck left) → SticksRule set_rest toks.now left }
+    ensures sticks { (left : ℕ) → IsErrOf result (read_fault.Stuck left) →
+        SticksRule set_rest toks.now left }
     ensures shorter { IfOk result (λ r. length r.1.now < length toks.now) }
 {
     let (target, rest) = reader.inner(Phrase::Postfix, toks)?;
@@ -52,11 +55,14 @@ fn written<'t, F: Fn(Global, &[u8], Phrase, &[Tok]) -> Result<(Tree, usize), Rea
     reader: &Reader<'_, F>,
     toks: &'t [Tok],
 ) -> Result<((Assign, Tree), &'t [Tok]), ReadFault>
-    requires nests { Nests reader.now.bytes.now reader.now.most (F.pre reader.now.nested) (F.post reader.now.nested) }
+    requires nests { Nests reader.now.bytes.now reader.now.most (F.pre reader.now.nested)
+        (F.post reader.now.nested) }
     requires fewer { length toks.now < reader.now.most }
-    ensures spelled { IfOk result (λ r. Writes reader.now.bytes.now toks.now r.0.0 (tree_of r.0.1) r.1.now) }
+    ensures spelled { IfOk result
+        (λ r. Writes reader.now.bytes.now toks.now r.0.0 (tree_of r.0.1) r.1.now) }
     ensures eats { IfOk result (λ r. Eats write_symbols toks.now r.1.now) }
-    ensures sticks { (left : ℕ) → IsErrOf result (read_fault.Stuck left) → Sticks write_symbols toks.now left }
+    ensures sticks { (left : ℕ) → IsErrOf result (read_fault.Stuck left) →
+        Sticks write_symbols toks.now left }
     ensures shorter { IfOk result (λ r. length r.1.now < length toks.now) }
 {
     let ((_, mode), rest) = assign(toks)?;
@@ -71,12 +77,15 @@ pub fn returned<'t, F: Fn(Global, &[u8], Phrase, &[Tok]) -> Result<(Tree, usize)
     tok: Tok,
     toks: &'t [Tok],
 ) -> Result<(Tree, &'t [Tok]), ReadFault>
-    requires nests { Nests reader.now.bytes.now reader.now.most (F.pre reader.now.nested) (F.post reader.now.nested) }
+    requires nests { Nests reader.now.bytes.now reader.now.most (F.pre reader.now.nested)
+        (F.post reader.now.nested) }
     requires fewer { length toks.now < reader.now.most }
     requires start { stmt_start tok.kind ≡ Some StmtStart.Return }
-    ensures spelled { IfOk result (λ r. Control reader.now.bytes.now (tok ∷ toks.now) (tree_of r.0) r.1.now) }
+    ensures spelled { IfOk result
+        (λ r. Control reader.now.bytes.now (tok ∷ toks.now) (tree_of r.0) r.1.now) }
     ensures eats { IfOk result (λ r. EatsRule return_value toks.now r.1.now) }
-    ensures sticks { (left : ℕ) → IsErrOf result (read_fault.Stuck left) → SticksRule return_value toks.now left }
+    ensures sticks { (left : ℕ) → IsErrOf result (read_fault.Stuck left) →
+        SticksRule return_value toks.now left }
     ensures shorter { IfOk result (λ r. length r.1.now ≤ length toks.now) }
 {
     if begins(toks) {
@@ -92,7 +101,8 @@ fn assign<'t>(toks: &'t [Tok]) -> Result<((Tok, Assign), &'t [Tok]), ReadFault>
     ensures found { IfOk result (λ r. toks.now ≡ r.0.0 ∷ r.1.now) }
     ensures mode { IfOk result (λ r. assign_at r.0.0.kind ≡ Some r.0.1) }
     ensures eats { IfOk result (λ r. EatsRule assign toks.now r.1.now) }
-    ensures sticks { (left : ℕ) → IsErrOf result (read_fault.Stuck left) → SticksRule assign toks.now left }
+    ensures sticks { (left : ℕ) → IsErrOf result (read_fault.Stuck left) →
+        SticksRule assign toks.now left }
     ensures shorter { IfOk result (λ r. length r.1.now < length toks.now) }
 {
     let Some((tok, rest)) = next(toks) else {

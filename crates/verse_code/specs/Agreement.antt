@@ -16,7 +16,8 @@ filled p s.Integer = os.Integer p.integer
 filled p (s.One k) = os.One (record { 0 = k; 1 = p.a })
 filled p (s.Two k l) = os.Two (record { 0 = k; 1 = p.a }) (record { 0 = l; 1 = p.b })
 filled p (s.Three k l m) = os.Three (record { 0 = k; 1 = p.a }) (record { 0 = l; 1 = p.b }) (record { 0 = m; 1 = p.c })
-filled p (s.Four k l m n) = os.Four (record { 0 = k; 1 = p.a }) (record { 0 = l; 1 = p.b }) (record { 0 = m; 1 = p.c }) (record { 0 = n; 1 = p.d })
+filled p (s.Four k l m n) = os.Four (record { 0 = k; 1 = p.a }) (record { 0 = l; 1 = p.b }) (record { 0 = m; 1 = p.c })
+    (record { 0 = n; 1 = p.d })
 
 -- the shape of operands
 abbrev pub shape_for : Operands → Shape

@@ -31,6 +31,8 @@ unfolding step
 answers k is h =
     let vs = items_nodes is in
     subst (λ (x : Seen). Answers k vs x.fault) (sym (through_items_nodes (step k) is begun)) (
-      least_kept number_of place_of (step k) (Breaks k) (λ v x. first_true (rules_at k x.vars v)) (finds k) (λ x. x.fault) (λ v x. refl) vs begun (numbers_rise is h) refl,
-      placed_kept number_of place_of (step k) (Breaks k) (λ v x. first_true (rules_at k x.vars v)) (finds k) (λ x. x.fault) (λ v x. refl) vs begun refl,
+      least_kept number_of place_of (step k) (Breaks k) (λ v x. first_true (rules_at k x.vars v)) (finds k) (λ x. x.fault)
+          (λ v x. refl) vs begun (numbers_rise is h) refl,
+      placed_kept number_of place_of (step k) (Breaks k) (λ v x. first_true (rules_at k x.vars v)) (finds k) (λ x. x.fault)
+          (λ v x. refl) vs begun refl,
     )

@@ -2,7 +2,8 @@
 use Rattle.std.specs.Prelude.{Bool, true, cond, not, ◌&&◌, ◌||◌, List, [], ◌∷◌, codes}
 use Rattle.std.specs.Str.{bytes_eq}
 use Rattle.verse_tree.specs.Tree.{Bytes}
-use Rattle.verse_tree.specs.ItemTree.{SpecTree, FieldTree, FunTree, MemberTree, field, method, ItemTree, using, enumeration, class, function}
+use Rattle.verse_tree.specs.ItemTree.{SpecTree, FieldTree, FunTree, MemberTree, field, method, ItemTree, using, enumeration, class}
+use Rattle.verse_tree.specs.ItemTree.{function}
 use Rattle.verse_tree.specs.declared.tables.Effects.{Effects}
 use Rattle.verse_walk.specs.Specifiers.{writes, written_effects}
 use Rattle.verse_effects.specs.declared.specifiers.Spot.{Spot}
@@ -19,7 +20,8 @@ abbrev pub is_unique : Bytes → Bool
 is_unique x = bytes_eq x (codes "unique")
 
 abbrev pub is_effect : Bytes → Bool
-is_effect x = bytes_eq x (codes "computes") || bytes_eq x (codes "transacts") || bytes_eq x (codes "decides") || bytes_eq x (codes "suspends")
+is_effect x = bytes_eq x (codes "computes") || bytes_eq x (codes "transacts") || bytes_eq x (codes "decides") || bytes_eq x
+    (codes "suspends")
 
 -- a specifier may stand here
 abbrev pub belongs : Spot → Bytes → Bool
@@ -38,10 +40,12 @@ at_most_once x [] = true
 at_most_once x (y ∷ ys) = cond (bytes_eq y.name x) (not (writes x ys)) (at_most_once x ys)
 
 abbrev pub names_once : List SpecTree → Bool
-names_once ss = at_most_once (codes "public") ss && at_most_once (codes "private") ss && at_most_once (codes "protected") ss && at_most_once (codes "internal") ss && at_most_once (codes "override") ss
+names_once ss = at_most_once (codes "public") ss && at_most_once (codes "private") ss && at_most_once (codes "protected") ss && at_most_once
+    (codes "internal") ss && at_most_once (codes "override") ss
 
 abbrev pub effects_once : List SpecTree → Bool
-effects_once ss = at_most_once (codes "computes") ss && at_most_once (codes "transacts") ss && at_most_once (codes "decides") ss && at_most_once (codes "suspends") ss
+effects_once ss = at_most_once (codes "computes") ss && at_most_once (codes "transacts") ss && at_most_once
+    (codes "decides") ss && at_most_once (codes "suspends") ss
 
 -- none of those that may stand here stands twice
 abbrev pub all_once : Spot → List SpecTree → Bool

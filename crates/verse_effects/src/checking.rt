@@ -57,7 +57,9 @@ impl Seen {
 impl<'a> EffectsPass<'a> {
     #[tactic(auto, unfolding(crate::specs::Rules::step))]
     fn note_expr(&self, seen: &mut Seen, around: Around<'_>, expr: &Expr) -> Result<(), Memory>
-        ensures { OnOk result (seen.new ≡ step self.now.names.now (tree_node (around_of around.entry) (tree_of expr.now)) seen.old) }
+        ensures { OnOk result (seen.new ≡
+            step self.now.names.now (tree_node (around_of around.entry) (tree_of expr.now))
+            seen.old) }
     {
         let code = expression_code(
             self.names,
@@ -73,7 +75,9 @@ impl<'a> EffectsPass<'a> {
 impl<'a> EffectsPass<'a> {
     #[tactic(auto, unfolding(crate::specs::Rules::step))]
     fn note_item(&self, seen: &mut Seen, around: Around<'_>, item: &Item) -> Result<(), Memory>
-        ensures { OnOk result (seen.new ≡ step self.now.names.now (record (item_node (item_of item.now)) { around = around_of around.entry }) seen.old) }
+        ensures { OnOk result (seen.new ≡
+            step self.now.names.now (record
+            (item_node (item_of item.now)) { around = around_of around.entry }) seen.old) }
     {
         let code = item_code(item);
         match item {
@@ -91,7 +95,9 @@ impl<'a> EffectsPass<'a> {
         around: Around<'_>,
         member: &Member,
     ) -> Result<(), Memory>
-        ensures { OnOk result (seen.new ≡ step self.now.names.now (record (member_node (member_of member.now)) { around = around_of around.entry }) seen.old) }
+        ensures { OnOk result (seen.new ≡
+            step self.now.names.now (record (member_node (member_of member.now))
+            { around = around_of around.entry }) seen.old) }
     {
         let code = member_code(member);
         match member {
@@ -136,15 +142,19 @@ pub fn least_fault(alloc: Global, tree: &Tree, names: &Names) -> Result<Option<F
 /// nodes breaks.
 pub fn effects(alloc: Global, tree: &Tree, names: &Names) -> Result<(), Front>
     requires numbered { AreNumbered (map item_of tree.now.items) }
-    ensures fine { IfOk result (λ _. (n c : ℕ) → BreaksAt names.now (items_nodes (map item_of tree.now.items)) n c → ⊥) }
-    ensures refused { (r : Refusal) → IsErrOf result (front.Refused r) → (f : Fault) × IsLeastBroken names.now (items_nodes (map item_of tree.now.items)) f × (refusal_of f ≡ r) }
+    ensures fine { IfOk result (λ _. (n c : ℕ) →
+        BreaksAt names.now (items_nodes (map item_of tree.now.items)) n c → ⊥) }
+    ensures refused { (r : Refusal) → IsErrOf result (front.Refused r) →
+        (f : Fault) × IsLeastBroken names.now (items_nodes (map item_of tree.now.items)) f ×
+        (refusal_of f ≡ r) }
 {
     let fault = least_fault(alloc, tree, names)?;
     refused_for(fault)
 }
 
 fn see(alloc: Global, tree: &Tree, names: &Names) -> Result<Seen, Memory>
-    ensures { IfOk result (λ s. s ≡ through_items (step names.now) (map item_of tree.now.items) begun) }
+    ensures { IfOk result (λ s. s ≡
+        through_items (step names.now) (map item_of tree.now.items) begun) }
 {
     let mut seen = Seen {
         vars: Items::new(alloc),

@@ -190,7 +190,8 @@ fn is_shared(names: &Names, what: Option<Ref>) -> bool
 
 /// Whether a form does more than compute.
 pub fn does_touch(names: &Names, vars: &[bool], around: Around<'_>, node: u32, form: &Form) -> bool
-    ensures { result ≡ f.touches names.now vars.now (around_of around.entry) node (shape_of form.now) }
+    ensures { result ≡ f.touches names.now vars.now (around_of around.entry) node
+        (shape_of form.now) }
 {
     match form {
         Form::Set(_, _) => true,

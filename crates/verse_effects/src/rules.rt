@@ -42,7 +42,8 @@ fn suspends_tried(names: &Names, around: Around<'_>, form: &Form) -> bool
 }
 
 fn computes_more(names: &Names, vars: &[bool], around: Around<'_>, node: u32, form: &Form) -> bool
-    ensures { result ≡ r.computes_more names.now vars.now (around_of around.entry) node (shape_of form.now) }
+    ensures { result ≡ r.computes_more names.now vars.now (around_of around.entry) node
+        (shape_of form.now) }
 {
     around.owner.effects.computes && does_touch(names, vars, around, node, form)
 }
@@ -61,7 +62,8 @@ pub fn expression_code(
     node: u32,
     form: &Form,
 ) -> Option<u16>
-    ensures { result ≡ first_true (r.expression_rules names.now vars.now (around_of around.entry) node (shape_of form.now)) }
+    ensures { result ≡ first_true
+        (r.expression_rules names.now vars.now (around_of around.entry) node (shape_of form.now)) }
 {
     if fails_uncaught(names, around, form) {
         Some(60)

@@ -29,7 +29,8 @@ once bytes o s t x y (no_image rule left e) (no_image role less f) =
     (refl, ap (λ (k : Flaw). image_line k.rule (length bytes - k.left)) same)
 
 -- a fault that is told is that of the bytes
-pub executes_fault : (bytes : List ℕ) (o : Options) (rule at left s : ℕ) (t : List ℕ) → image_at bytes ≡ Err (flaw rule left) → at ≡ length bytes - left →
+pub executes_fault : (bytes : List ℕ) (o : Options) (rule at left s : ℕ) (t : List ℕ) → image_at bytes ≡ Err (flaw rule left) →
+    at ≡ length bytes - left →
     IsFault rule at s t → Executes bytes o s t
 executes_fault bytes o rule at left s t e f p =
     let text : t ≡ image_line rule (length bytes - left) = p.1 ∙ ap (image_line rule) f in

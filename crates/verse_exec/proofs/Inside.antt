@@ -12,19 +12,29 @@ use Rattle.verse_code.specs.declared.codes.Code.{Code}
 use Rattle.verse_value.specs.Val.{Val, unit, falsity, truth, int, char, enum, object, event, task, some, array, mapping, tuple}
 use Rattle.verse_value.specs.Answer.{Answer, gives, fails, error, stuck}
 use Rattle.verse_value.specs.Equality.{val_eq}
-use Rattle.verse_value.specs.Operations.{text_val, sum_of, difference_of, product_of, negation_of, floor_of, ceil_of, modulo_of, concat_of, join_of, less_of, at_most_of, greater_of, at_least_of, equal_of, unequal_of, array_of, map_of, tuple_of, option_of, query_of, item_of, at_of, length_of, append_of}
+use Rattle.verse_value.specs.Operations.{text_val, sum_of, difference_of, product_of, negation_of, floor_of, ceil_of, modulo_of, concat_of}
+use Rattle.verse_value.specs.Operations.{join_of, less_of, at_most_of, greater_of, at_least_of, equal_of, unequal_of, array_of, map_of}
+use Rattle.verse_value.specs.Operations.{tuple_of, option_of, query_of, item_of, at_of, length_of, append_of}
 use Rattle.verse_value.specs.declared.runs.Ending.{Ending}
 use Rattle.verse_value.specs.declared.runs.Ending.TheVariants as ending
 use Rattle.verse_state.specs.State.{State, Given, restored, spending, with_result, drawn}
 use Rattle.verse_state.specs.Waits.{Cause, waiting, after, done, heard, never, has, ltn, nth}
 use Rattle.verse_state.specs.Turns.{Kind, all_of, first_of, rush_of}
-use Rattle.verse_state.specs.Effects.{Effect, still, variable_made, object_made, event_made, slot_read, slot_written, line_printed, event_of, task_of, signal_sent}
+use Rattle.verse_state.specs.Effects.{Effect, still, variable_made, object_made, event_made, slot_read, slot_written, line_printed}
+use Rattle.verse_state.specs.Effects.{event_of, task_of, signal_sent}
 use Rattle.verse_machine.specs.Tasks as t
-use Rattle.verse_machine.specs.Tasks.{Life, Handler, Frame, Note, to, gone, Role, root, part, Who, Part, did, runs, Rest, asleep, group, Thread, thread, Task, After, resuming, closing, finishing, Up, begins, branching, spawning, clearing, Trees, World, world, Step, Next, Over, Turn, onto, among, same_path, since, beneath_arms, waits_of}
-use Rattle.verse_machine.specs.Frames.{on_top, on_two, on_many, on_there, only_where, fits, goes, failing, faulting, answered, answered_to, enters, method_of, free, nothing, clean, kept_defers, kept_noted, put}
+use Rattle.verse_machine.specs.Tasks.{Life, Handler, Frame, Note, to, gone, Role, root, part, Who, Part, did, runs, Rest, asleep, group}
+use Rattle.verse_machine.specs.Tasks.{Thread, thread, Task, After, resuming, closing, finishing, Up, begins, branching, spawning, clearing}
+use Rattle.verse_machine.specs.Tasks.{Trees, World, world, Step, Next, Over, Turn, onto, among, same_path, since, beneath_arms, waits_of}
+use Rattle.verse_machine.specs.Frames.{on_top, on_two, on_many, on_there, only_where, fits, goes, failing, faulting, answered, answered_to}
+use Rattle.verse_machine.specs.Frames.{enters, method_of, free, nothing, clean, kept_defers, kept_noted, put}
 use Rattle.verse_machine.specs.Cancelling.{world_without, cancelled, on_deferred, clears_frame, clears_frames, clears, cancels}
-use Rattle.verse_machine.specs.Ends.{resumes, all_did, first_did, tupled, or_stands, grouped, next_arm, arm_did, rested, suspends, is_run, with_did, joined, climbs, part_ends, root_ends, role_ends, ends_role, ends, returns_role, returns, follows, cleared, is_asleep, woken, woken_in}
-use Rattle.verse_machine.specs.Acts.{Taken, ended, takes, unfit, taken_from, takes_step, place_at, mode_of, kind_of, paired, on_domain, on_int, awaits, spawns, labels, after_arms, groups, on_noted, on_defer, on_note, frame, unary, binary, collects, leaves, on_handler, act}
+use Rattle.verse_machine.specs.Ends.{resumes, all_did, first_did, tupled, or_stands, grouped, next_arm, arm_did, rested, suspends, is_run}
+use Rattle.verse_machine.specs.Ends.{with_did, joined, climbs, part_ends, root_ends, role_ends, ends_role, ends, returns_role, returns}
+use Rattle.verse_machine.specs.Ends.{follows, cleared, is_asleep, woken, woken_in}
+use Rattle.verse_machine.specs.Acts.{Taken, ended, takes, unfit, taken_from, takes_step, place_at, mode_of, kind_of, paired, on_domain}
+use Rattle.verse_machine.specs.Acts.{on_int, awaits, spawns, labels, after_arms, groups, on_noted, on_defer, on_note, frame, unary, binary}
+use Rattle.verse_machine.specs.Acts.{collects, leaves, on_handler, act}
 
 abbrev pub IsInner : Ending → Type 0
 IsInner ending.Done = ⊥
@@ -164,7 +174,8 @@ arm_did_in rush_of p gs ls y pre post us trees s stands h = next_arm_in rush_of 
 rested_in : (pre post : List Task) (us : List Up) (trees : Trees) (s : State) → Inside (rested pre post us trees s)
 rested_in pre post [] trees s = is_in tt
 rested_in pre post (begins x k p gs n ls ∷ us) trees s =
-    next_arm_in k p (gs ++ runs n ∷ []) ls x pre post us trees s (λ y. rested (y ∷ pre) post us trees s) (λ y. rested_in (y ∷ pre) post us trees s)
+    next_arm_in k p (gs ++ runs n ∷ []) ls x pre post us trees s (λ y. rested (y ∷ pre) post us trees s)
+    (λ y. rested_in (y ∷ pre) post us trees s)
 rested_in pre post (branching x ∷ us) trees s = is_in tt
 rested_in pre post (spawning x entry ps qs ∷ us) trees s = is_in tt
 rested_in pre post (clearing a ts ∷ us) trees s = is_in tt
@@ -172,23 +183,27 @@ rested_in pre post (clearing a ts ∷ us) trees s = is_in tt
 suspends_in : (cause : Cause) (y : Thread) (x : World) (s : State) → Inside (suspends cause y x s)
 suspends_in cause y x s = rested_in _ x.post x.ups x.trees (drawn s)
 
-joined_in : (n : ℕ) (v : Val) (r : Rest) (y : Task) (pre post : List Task) (trees : Trees) (s : State) → Inside (joined n v r y pre post trees s)
+joined_in : (n : ℕ) (v : Val) (r : Rest) (y : Task) (pre post : List Task) (trees : Trees) (s : State) →
+    Inside (joined n v r y pre post trees s)
 joined_in n v (asleep w) y pre post trees s = is_in tt
 joined_in n v (group k p gs) y pre post trees s =
     cond_both (is_run n gs) _ _ Inside
-    (λ e. grouped_in k p (with_did n v gs) y.thread (world pre post [] trees) s (λ y. rested (y ∷ pre) post [] trees s) (λ y. rested_in (y ∷ pre) post [] trees s))
+    (λ e. grouped_in k p (with_did n v gs) y.thread (world pre post [] trees) s (λ y. rested (y ∷ pre) post [] trees s)
+    (λ y. rested_in (y ∷ pre) post [] trees s))
     (λ e. is_in tt)
 
 climbs_in : (up : List ℕ) (n : ℕ) (v : Val) (pre post : List Task) (trees : Trees) (s : State) → Inside (climbs up n v pre post trees s)
 climbs_in up n v pre [] trees s = is_in tt
 climbs_in up n v pre (y ∷ post) trees s =
-    cond_both (same_path up y.thread.who.path) _ _ Inside (λ e. joined_in n v y.rest y pre post trees s) (λ e. climbs_in up n v (y ∷ pre) post trees s)
+    cond_both (same_path up y.thread.who.path) _ _ Inside (λ e. joined_in n v y.rest y pre post trees s)
+    (λ e. climbs_in up n v (y ∷ pre) post trees s)
 
 part_ends_in : (up : List ℕ) (n : ℕ) (v : Val) (pre post : List Task) (us : List Up) (trees : Trees) (s : State) →
     Inside (part_ends up n v pre post us trees s)
 part_ends_in up n v pre post [] trees s = climbs_in up n v pre post trees s
 part_ends_in up n v pre post (begins x k p gs m ls ∷ us) trees s =
-    arm_did_in k p (gs ++ did v ∷ []) ls x pre post us trees s (λ y. rested (y ∷ pre) post us trees s) (λ y. rested_in (y ∷ pre) post us trees s)
+    arm_did_in k p (gs ++ did v ∷ []) ls x pre post us trees s (λ y. rested (y ∷ pre) post us trees s)
+    (λ y. rested_in (y ∷ pre) post us trees s)
 part_ends_in up n v pre post (branching x ∷ us) trees s = is_in tt
 part_ends_in up n v pre post (spawning x entry ps qs ∷ us) trees s = is_in tt
 part_ends_in up n v pre post (clearing a ts ∷ us) trees s = is_in tt
@@ -218,7 +233,8 @@ returns_role_in (root entry) w x born v s =
     cancels_in _ (finishing w entry v) (since w.path born) x s (λ x s. role_ends_in (root entry) w v x (with_result entry v s))
 returns_role_in part w x born v s = is_in tt
 
-returns_in : (w : Who) (x : World) (born : ℕ) (v : Val) (s : State) (hs : List Handler) (bl : List Frame) → Inside (returns w x born v s hs bl)
+returns_in : (w : Who) (x : World) (born : ℕ) (v : Val) (s : State) (hs : List Handler) (bl : List Frame) →
+    Inside (returns w x born v s hs bl)
 returns_in w x born v s (h ∷ hs) bl = is_in tt
 returns_in w x born v s [] [] = returns_role_in w.role w x born v s
 returns_in w x born v s [] (f ∷ bl) = cancels_in _ (resuming (thread w f bl) v) (since w.path born) x s (λ x s. is_in tt)
@@ -251,7 +267,8 @@ takes_in : (t : Taken) (l d label : ℕ) (w : Who) (x : World) (s : State) (g : 
     (bl : List Frame) → Inside (takes_step t l d label w x s g ls st pc hs bl)
 takes_in ended l d label w x s g ls st pc hs bl = goes_in w x s s g ls st (suc pc) hs bl
 takes_in (takes v k n y) l d label w x s g ls st pc hs bl =
-    where_in (fits hs label) s _ (spending_in s.clock.left s _ (λ u. there_in (put ls d v) s _ (λ ls. there_in (put ls (suc d) k) s _ (λ ls. there_in (put ls _ y) s _ (λ ls. is_in tt)))))
+    where_in (fits hs label) s _ (spending_in s.clock.left s _
+    (λ u. there_in (put ls d v) s _ (λ ls. there_in (put ls (suc d) k) s _ (λ ls. there_in (put ls _ y) s _ (λ ls. is_in tt)))))
 takes_in unfit l d label w x s g ls st pc hs bl = is_in tt
 
 domain_in : (v : Val) (s : State) (q : Step) → Inside q → Inside (on_domain v s q)
@@ -297,7 +314,8 @@ groups_in : (k : Kind) (p : Place) (ls : List ℕ) (q : ℕ) (w : Who) (x : Worl
 groups_in k p [] q w x s g vs st hs bl = is_in tt
 groups_in k p (l ∷ ls) q w x s g vs st hs bl = next_arm_in k p [] (l ∷ ls) _ x.pre x.post x.ups x.trees s (λ y. t.stuck s) (λ y. is_in tt)
 
-noted_in : (ns : List Note) (s : State) (go : Note → List Note → Step) → ((n : Note) (ns : List Note) → Inside (go n ns)) → Inside (on_noted ns s go)
+noted_in : (ns : List Note) (s : State) (go : Note → List Note → Step) → ((n : Note) (ns : List Note) → Inside (go n ns)) →
+    Inside (on_noted ns s go)
 noted_in [] s go h = is_in tt
 noted_in (n ∷ ns) s go h = h n ns
 
@@ -339,7 +357,8 @@ module _ (c : Code) (w : Who) (x : World) (s : State) (g : Life) (pc : ℕ) (hs 
   collects_in : (n : ℕ) (f : List Val → Answer Val) (p : Option Place) (ls st : List Val) → Inside (collects n f p w x s g ls st pc hs bl)
   collects_in n f p ls st = many_in n st [] s _ (λ vs st. answer_in p (still (f vs) s) ls st)
 
-  top_answer : (f : Val → Effect) (p : Option Place) (ls st : List Val) → Inside (on_top st s (λ a st. answered p (f a) w x s g ls st pc hs bl))
+  top_answer : (f : Val → Effect) (p : Option Place) (ls st : List Val) →
+      Inside (on_top st s (λ a st. answered p (f a) w x s g ls st pc hs bl))
   top_answer f p ls st = top_in st s _ (λ a st. answer_in p (f a) ls st)
 
   pub act_in : (op : Op) (ls st : List Val) → Inside (act c op w x s g ls st pc hs bl)
@@ -379,50 +398,71 @@ module _ (c : Code) (w : Who) (x : World) (s : State) (g : Life) (pc : ℕ) (hs 
   act_in (o.New p) ls st = top_answer (λ v. variable_made v s) (place_at c p) ls st
   act_in (o.Load n) ls st = top_answer (λ v. slot_read n v s) None ls st
   act_in (o.Store n i m p) ls st =
-      top_in st s _ (λ v st. many_in i st [] s _ (λ path st. top_answer (λ cell. slot_written n path (mode_of m) v cell s) (place_at c p) ls st))
+      top_in st s _ (λ v st. many_in i st [] s _
+      (λ path st. top_answer (λ cell. slot_written n path (mode_of m) v cell s) (place_at c p) ls st))
   act_in (o.Object n p) ls st =
-      there_in (slice_get c.classes n) s _ (λ (k : Class). many_in k.slots st [] s _ (λ vs st. answer_in (place_at c p) (object_made n vs s) ls st))
+      there_in (slice_get c.classes n) s _ (λ (k : Class).
+      many_in k.slots st [] s _ (λ vs st. answer_in (place_at c p) (object_made n vs s) ls st))
   act_in (o.Event p) ls st = answer_in (place_at c p) (event_made s) ls st
   act_in (o.Jump l) ls st = goes_in w x s s g ls st l hs bl
   act_in (o.Same l) ls st = two_in st s _ (λ a b st. goes_in w x s s g ls st (cond (val_eq a b) (suc pc) l) hs bl)
   act_in (o.Again l) ls st = where_in (fits hs l) s _ (spending_in s.clock.left s _ (λ u. is_in tt))
-  act_in (o.Try l) ls st = goes_in w x s s g ls [] (suc pc) (record { made = pc; label = l; stack = st; memory = s.memory; life = g } ∷ hs) bl
+  act_in (o.Try l) ls st = goes_in w x s s g ls [] (suc pc) (record { made = pc; label = l; stack = st; memory = s.memory; life = g } ∷ hs)
+      bl
   act_in o.Commit ls st = handler_in hs s _ (λ h hs. goes_in w x s s g ls (st ++ h.stack) (suc pc) hs bl)
   act_in o.Undo ls st = handler_in hs s _ (λ h hs. goes_in w x s (restored h.memory s) g ls (st ++ h.stack) (suc pc) hs bl)
   act_in o.Fail ls st = failing_in w x s ls hs bl
   act_in (o.Call n) ls st =
-      there_in (slice_get c.functions n) s _ (λ (f : Func). many_in f.params st [] s _ (λ vs st. where_in (fits hs (suc pc)) s _ (enters_in f vs w x s (frame g ls st (suc pc) hs ∷ bl))))
+      there_in (slice_get c.functions n) s _ (λ (f : Func).
+      many_in f.params st [] s _ (λ vs st. where_in (fits hs (suc pc)) s _ (enters_in f vs w x s (frame g ls st (suc pc) hs ∷ bl))))
   act_in (o.Method n m) ls st =
-      many_in m st [] s _ (λ vs st. top_in st s _ (λ v st. there_in (method_of c n m v s) s _ (λ f. where_in (fits hs (suc pc)) s _ (enters_in f (v ∷ vs) w x s (frame g ls st (suc pc) hs ∷ bl)))))
+      many_in m st [] s _ (λ vs st. top_in st s _
+      (λ v st. there_in (method_of c n m v s) s _
+      (λ f. where_in (fits hs (suc pc)) s _ (enters_in f (v ∷ vs) w x s (frame g ls st (suc pc) hs ∷ bl)))))
   act_in o.Return ls st = top_in st s _ (λ v st. clean_in g s _ (returns_in w x g.born v s hs bl))
   act_in (o.Each l) ls st =
-      top_in st s _ (λ v st. domain_in v s _ (there_in (put ls l v) s _ (λ ls. there_in (put ls (suc l) (int (pos 0))) s _ (λ ls. on_in ls st))))
+      top_in st s _ (λ v st. domain_in v s _ (there_in (put ls l v) s _
+      (λ ls. there_in (put ls (suc l) (int (pos 0))) s _ (λ ls. on_in ls st))))
   act_in (o.Range l) ls st =
-      two_in st s _ (λ a b st. int_in a s _ (int_in b s _ (there_in (put ls l a) s _ (λ ls. there_in (put ls (suc l) b) s _ (λ ls. on_in ls st)))))
+      two_in st s _ (λ a b st. int_in a s _ (int_in b s _
+      (there_in (put ls l a) s _ (λ ls. there_in (put ls (suc l) b) s _ (λ ls. on_in ls st)))))
   act_in (o.Take l d label) ls st =
-      there_in (nth ls l) s _ (λ a. there_in (nth ls (suc l)) s _ (λ b. there_in (nth ls d) s _ (λ y. there_in (nth ls (suc d)) s _ (λ z. takes_in (taken_from a b) l d label w x s g ls st pc hs bl))))
+      there_in (nth ls l) s _ (λ a. there_in (nth ls (suc l)) s _
+      (λ b. there_in (nth ls d) s _ (λ y. there_in (nth ls (suc d)) s _
+      (λ z. takes_in (taken_from a b) l d label w x s g ls st pc hs bl))))
   act_in (o.Append l p) ls st =
       top_in st s _ (λ v st. there_in (nth ls l) s _ (λ a. answered_to_in (place_at c p) l (append_of a v) w x s g ls st pc hs bl))
   act_in (o.Print p) ls st = top_answer (λ v. line_printed v s) (place_at c p) ls st
   act_in (o.Sleep n) ls st = where_in (free hs g.noted bl) s _ (suspends_in (after n s) (thread w (frame g ls st (suc pc) hs) bl) x s)
   act_in o.Forever ls st = where_in (free hs g.noted bl) s _ (suspends_in never (thread w (frame g ls st (suc pc) hs) bl) x s)
   act_in o.AwaitTask ls st =
-      where_in (free hs g.noted bl) s _ (top_in st s _ (λ v st. there_in (task_of v) s _ (λ entry. awaits_in (nth s.clock.results entry) entry (thread w (frame g ls st (suc pc) hs) bl) x s)))
+      where_in (free hs g.noted bl) s _ (top_in st s _
+      (λ v st. there_in (task_of v) s _ (λ entry.
+      awaits_in (nth s.clock.results entry) entry (thread w (frame g ls st (suc pc) hs) bl) x s)))
   act_in o.AwaitEvent ls st =
-      where_in (free hs g.noted bl) s _ (top_in st s _ (λ v st. there_in (event_of v s) s _ (λ e. suspends_in (heard e) (thread w (frame g ls st (suc pc) hs) bl) x s)))
-  act_in o.Signal ls st = where_in (free hs g.noted bl) s _ (two_in st s _ (λ e v st. answer_in None (signal_sent (event_of e s) v s) ls st))
+      where_in (free hs g.noted bl) s _ (top_in st s _
+      (λ v st. there_in (event_of v s) s _ (λ e. suspends_in (heard e) (thread w (frame g ls st (suc pc) hs) bl) x s)))
+  act_in o.Signal ls st = where_in (free hs g.noted bl) s _
+      (two_in st s _ (λ e v st. answer_in None (signal_sent (event_of e s) v s) ls st))
   act_in (o.Spawn n) ls st =
-      where_in (free hs g.noted bl) s _ (there_in (slice_get c.functions n) s _ (λ (f : Func). many_in f.params st [] s _ (λ vs st. spawns_in f vs (thread w (frame g ls st (suc pc) hs) bl) x s)))
+      where_in (free hs g.noted bl) s _ (there_in (slice_get c.functions n) s _
+      (λ (f : Func). many_in f.params st [] s _ (λ vs st. spawns_in f vs (thread w (frame g ls st (suc pc) hs) bl) x s)))
   act_in (o.SpawnMethod n m) ls st =
-      where_in (free hs g.noted bl) s _ (many_in m st [] s _ (λ vs st. top_in st s _ (λ v st. there_in (method_of c n m v s) s _ (λ f. spawns_in f (v ∷ vs) (thread w (frame g ls st (suc pc) hs) bl) x s))))
+      where_in (free hs g.noted bl) s _ (many_in m st [] s _
+      (λ vs st. top_in st s _ (λ v st. there_in (method_of c n m v s) s _
+      (λ f. spawns_in f (v ∷ vs) (thread w (frame g ls st (suc pc) hs) bl) x s))))
   act_in (o.Group k m p) ls st =
-      where_in (free hs g.noted bl) s _ (there_in (place_at c p) s _ (λ q. there_in (labels c.ops (suc pc) m) s _ (λ ks. groups_in (kind_of k) q ks (after_arms (suc pc) m) w x s g ls st hs bl)))
+      where_in (free hs g.noted bl) s _ (there_in (place_at c p) s _
+      (λ q. there_in (labels c.ops (suc pc) m) s _ (λ ks. groups_in (kind_of k) q ks (after_arms (suc pc) m) w x s g ls st hs bl)))
   act_in (o.Arm l) ls st = is_in tt
   act_in (o.Branch l) ls st = where_in (free hs g.noted bl) s _ (spending_in s.clock.left s _ (λ u. is_in tt))
   act_in o.ArmEnd ls st = top_in st s _ (λ v st. clean_in g s _ (ends_in w x g.born v s hs bl))
   act_in (o.Defer l) ls st = goes_in w x s s (record g { defers = suc pc ∷ g.defers }) ls st l hs bl
   act_in (o.Leave n) ls st =
-      where_in (not (ltn (length g.defers) n)) s _ (where_in (not (ltn n (kept_defers hs))) s _ (leaves_in (ltn n (length g.defers)) w x s g ls st pc hs bl))
+      where_in (not (ltn (length g.defers) n)) s _
+      (where_in (not (ltn n (kept_defers hs))) s _ (leaves_in (ltn n (length g.defers)) w x s g ls st pc hs bl))
   act_in o.DeferEnd ls st =
-      where_in (ltn (kept_noted hs) (length g.noted)) s _ (noted_in g.noted s _ (λ y ns. note_in y _ _ (λ q. goes_in w x s s (record g { noted = ns }) ls st q hs bl)
-      (frames_in (λ s. cleared x.ups x.pre x.post x.trees s) w x s (frame (record g { noted = ns }) ls st pc hs ∷ bl) (λ s. cleared_in x.ups x.pre x.post x.trees s))))
+      where_in (ltn (kept_noted hs) (length g.noted)) s _
+      (noted_in g.noted s _ (λ y ns. note_in y _ _ (λ q. goes_in w x s s (record g { noted = ns }) ls st q hs bl)
+      (frames_in (λ s. cleared x.ups x.pre x.post x.trees s) w x s (frame (record g { noted = ns }) ls st pc hs ∷ bl)
+      (λ s. cleared_in x.ups x.pre x.post x.trees s))))

@@ -122,7 +122,8 @@ live_is c ns steps until n b = live_right (mach_after c ns steps until (suc step
 
 -- ---- cells
 
-closed_belongs : (cs : List Class) (e : Ending) (s : State) (n : ℕ) → StoreBelongs cs s.memory.store → StoreBelongs cs (run_closed e s n).store
+closed_belongs : (cs : List Class) (e : Ending) (s : State) (n : ℕ) → StoreBelongs cs s.memory.store →
+    StoreBelongs cs (run_closed e s n).store
 closed_belongs cs ending.Done s n a = a
 closed_belongs cs ending.Waiting s n a = a
 closed_belongs cs ending.Until s n a = a
@@ -137,4 +138,5 @@ store_belongs cs (broken e s) a = a
 store_belongs cs (amiss s) a = a
 
 pub cells_belong : RunBelongs → (c : Code) (ns : List ℤ) (steps until : ℕ) → StoreBelongs c.classes (mach c ns steps until).store
-cells_belong belongs c ns steps until = store_belongs c.classes (mach_after c ns steps until (suc steps)) (belongs c ns steps until (suc steps))
+cells_belong belongs c ns steps until = store_belongs c.classes (mach_after c ns steps until (suc steps))
+    (belongs c ns steps until (suc steps))

@@ -18,7 +18,8 @@ pub leaves_as : (W V : ℕ → List ℕ → Type 0) (P Q : List ℕ → Type 0) 
     ((s : ℕ) (t : List ℕ) → W s t → V s t) → ((t : List ℕ) → P t → Q t) → Leaves W P before now old new r → Leaves V Q before now old new r
 leaves_as W V P Q before now old new (Ok s) f h x = (x.0, (f s x.0 x.1.0, x.1.1))
 leaves_as W V P Q before now old new (Err s) f h x =
-    stopped_as P (Either W P) Q (Either V Q) before now old new s h (λ t e. elim e [ inl w ↦ inl (w.0, f w.0 t w.1) | inr p ↦ inr (h t p) ]) x
+    stopped_as P (Either W P) Q (Either V Q) before now old new s h (λ t e. elim e [ inl w ↦ inl (w.0, f w.0 t w.1) | inr p ↦ inr (h t p) ])
+    x
 
 -- nothing was written, for want of memory
 pub leaves_nothing : (W : ℕ → List ℕ → Type 0) (P : List ℕ → Type 0) (before now : ℕ) (old new : Option (List ℕ)) → P [] → new ≡ old →

@@ -1,5 +1,6 @@
 -- The parts of a run that is written as it goes on.
-use Rattle.std.proofs.Common.{◌≡◌, ◌⊎◌, ℕ, ◌≤◌, List, [], ◌++◌, Bool, true, false, cond, Option, Result, Ok, Err, IfOk, IfErr, OnOk, inl, inr, length, take, refl, sym, ap, subst, ◌∙◌, arith}
+use Rattle.std.proofs.Common.{◌≡◌, ◌⊎◌, ℕ, ◌≤◌, List, [], ◌++◌, Bool, true, false, cond, Option, Result, Ok, Err, IfOk, IfErr, OnOk, inl}
+use Rattle.std.proofs.Common.{inr, length, take, refl, sym, ap, subst, ◌∙◌, arith}
 use Rattle.std.proofs.lemmas.List.{take_all}
 use Rattle.verse_outside.specs.Causes.{Rose}
 use Rattle.verse_outside.specs.Held.{TookPrefix, with_more}
@@ -27,7 +28,8 @@ pub all_lines : (asked : Bool) (cells : Store) → FirstLines asked cells (cond 
 all_lines true cells = (length cells, ap (heap_lines 0) (sym (take_all (length cells) cells (omega arith))))
 all_lines false cells = (0, refl)
 
-ending_same : (files : ℕ) (r : Run) (e : Ending) (now steps live : ℕ) → e ≡ r.ending → now ≡ r.now → steps ≡ r.steps → r.live ≡ live_of r.ending live →
+ending_same : (files : ℕ) (r : Run) (e : Ending) (now steps live : ℕ) → e ≡ r.ending → now ≡ r.now → steps ≡ r.steps →
+    r.live ≡ live_of r.ending live →
     ending_line files (ended e now steps live) ≡ ending_line files r
 ending_same files r e now steps live a b d l = rw (a, b, d, sym l) refl
 
@@ -46,14 +48,17 @@ module _ (c : Code) (o : Options) (last : Last) (cells : Store) (tells : Tells (
       ∙ ap (λ (l : List ℕ). cond o.heap (heap_lines 0 (run_with c o).store) [] ++ l)
       (ending_same c.files (run_with c o) last.ending last.now last.steps last.live tells.ending tells.moment tells.steps tells.live)
 
-  module _ (before at now : ℕ) (old mid new : Option (List ℕ)) (low : before ≤ at) (trace : mid ≡ with_more old (printed (run_with c o).trace)) where
+  module _ (before at now : ℕ) (old mid new : Option (List ℕ)) (low : before ≤ at)
+      (trace : mid ≡ with_more old (printed (run_with c o).trace)) where
     first_of : (t : List ℕ) → FirstLines o.heap cells t → RunsSoFar c o (printed (run_with c o).trace ++ t)
     first_of t f =
         let same : lines_so_far (run_with c o) o.heap f.0 ≡ printed (run_with c o).trace ++ t =
-        ap (λ (s : Store). printed (run_with c o).trace ++ lines_of o.heap s f.0) (sym tells.store) ∙ ap (λ (l : List ℕ). printed (run_with c o).trace ++ l) (sym f.1) in
+        ap (λ (s : Store). printed (run_with c o).trace ++ lines_of o.heap s f.0) (sym tells.store) ∙
+        ap (λ (l : List ℕ). printed (run_with c o).trace ++ l) (sym f.1) in
         subst (RunsSoFar c o) same (lines f.0)
 
-    front_of : (t : List ℕ) → FrontOf o.heap cells c.files (last_run last) t → Either (Runs c o) (RunsSoFar c o) (printed (run_with c o).trace ++ t)
+    front_of : (t : List ℕ) → FrontOf o.heap cells c.files (last_run last) t →
+        Either (Runs c o) (RunsSoFar c o) (printed (run_with c o).trace ++ t)
     front_of t (inl f) = inr (first_of t f)
     front_of t (inr e) = inl (
       ending_status (run_with c o).ending,

@@ -1,5 +1,6 @@
 -- What a sink has taken, piece after piece.
-use Rattle.std.proofs.Common.{◌≡◌, ℕ, ◌+◌, ◌<◌, ◌≤◌, List, [], ◌++◌, Option, Some, None, inl, inr, length, take, ap, sym, ◌∙◌, refl, append-nil, length-append, arith}
+use Rattle.std.proofs.Common.{◌≡◌, ℕ, ◌+◌, ◌<◌, ◌≤◌, List, [], ◌++◌, Option, Some, None, inl, inr, length, take, ap, sym, ◌∙◌, refl}
+use Rattle.std.proofs.Common.{append-nil, length-append, arith}
 use Rattle.std.proofs.Math.Seq.{take-append-add, take-append-le}
 use Rattle.verse_outside.specs.Causes.{Rose}
 use Rattle.verse_outside.specs.Held.{TookPrefix, with_more}
@@ -10,11 +11,13 @@ more_nothing None = refl
 more_nothing (Some bytes) = ap (λ x. Some x) (append-nil bytes)
 
 -- a whole piece, and then another
-pub more_then : (old mid new : Option (List ℕ)) (a b : List ℕ) → mid ≡ with_more old a → new ≡ with_more mid b → new ≡ with_more old (a ++ b)
+pub more_then : (old mid new : Option (List ℕ)) (a b : List ℕ) → mid ≡ with_more old a → new ≡ with_more mid b →
+    new ≡ with_more old (a ++ b)
 more_then old mid new a b e f = f ∙ ap (λ t. with_more t b) e ∙ more_twice old a b
 
 -- a whole piece, and then a prefix of another
-pub took_behind : (old mid new : Option (List ℕ)) (a b : List ℕ) → mid ≡ with_more old a → TookPrefix mid b new → TookPrefix old (a ++ b) new
+pub took_behind : (old mid new : Option (List ℕ)) (a b : List ℕ) → mid ≡ with_more old a → TookPrefix mid b new →
+    TookPrefix old (a ++ b) new
 took_behind old mid new a b e p =
     let within = p.1 in
     let all = length-append a b in (

@@ -1,5 +1,6 @@
 -- A run turn after turn, written as it goes on.
-use Rattle.std.proofs.Common.{◌≡◌, ℕ, zero, suc, ◌+◌, ◌≤◌, List, [], ◌∷◌, ◌++◌, Option, Some, None, map, length, refl, ap, sym, subst, ◌∙◌, append-nil, arith}
+use Rattle.std.proofs.Common.{◌≡◌, ℕ, zero, suc, ◌+◌, ◌≤◌, List, [], ◌∷◌, ◌++◌, Option, Some, None, map, length, refl, ap, sym, subst, ◌∙◌}
+use Rattle.std.proofs.Common.{append-nil, arith}
 use Rattle.std.specs.Prelude.{ℤ}
 use Rattle.std.specs.List.{flat_map}
 use Rattle.std.proofs.lemmas.Grind.{flat_map-append}
@@ -56,12 +57,15 @@ module _ (c : Code) (o : Options) where
   so_far _ _ unbegun = nothing
   so_far _ _ (begun k none) = subst (RunsSoFar c o) (sym (lines_text k)) (turns k)
 
-  none_ended : (turn : ℕ) (past : List Line) → Written c o turn past → (k : ℕ) → turn ≡ suc k → ending_in (mach_after c o.inputs o.steps o.until k) ≡ None
+  none_ended : (turn : ℕ) (past : List Line) → Written c o turn past → (k : ℕ) → turn ≡ suc k →
+      ending_in (mach_after c o.inputs o.steps o.until k) ≡ None
   none_ended _ _ unbegun k e = absurd (cc)
-  none_ended _ _ (begun j none) k e = let same : j ≡ k = cc in subst (λ i. ending_in (mach_after c o.inputs o.steps o.until i) ≡ None) same none
+  none_ended _ _ (begun j none) k e = let same : j ≡ k = cc in
+      subst (λ i. ending_in (mach_after c o.inputs o.steps o.until i) ≡ None) same none
 
 module _ {H W : Type 0} (state : H → Kept) (pending : W → List Pending) (c : Code) (o : Options) where
-  pub reached_first : (m : Vm H W) (old : Option (List ℕ)) → At state pending c o.inputs o.steps o.until 0 [] m → Reached state pending c o 0 old old m
+  pub reached_first : (m : Vm H W) (old : Option (List ℕ)) → At state pending c o.inputs o.steps o.until 0 [] m →
+      Reached state pending c o 0 old old m
   reached_first m old at = record { past = []; written = unbegun; at = at; taken = sym (more_nothing old) }
 
   pub belongs_first : (m : Vm H W) → At state pending c o.inputs o.steps o.until 0 [] m → Belongs state pending c m
@@ -74,7 +78,8 @@ module _ {H W : Type 0} (state : H → Kept) (pending : W → List Pending) (c :
         more_then old mid new (printed r.past) (printed t.took.more) r.taken t.took.taken
         ∙ ap (with_more old) (sym (printed_more r.past t.took.more) ∙ ap printed (sym t.took.all_are))
 
-    pub reached_next : TurnedTo state pending c o.inputs o.steps o.until turn r.past None mid new n → Reached state pending c o (turn + 1) old new n
+    pub reached_next : TurnedTo state pending c o.inputs o.steps o.until turn r.past None mid new n →
+        Reached state pending c o (turn + 1) old new n
     reached_next t =
         let next : suc turn ≡ turn + 1 = omega arith in
         let reached : Reached state pending c o (suc turn) old new n = record {
@@ -90,7 +95,8 @@ module _ {H W : Type 0} (state : H → Kept) (pending : W → List Pending) (c :
     ended_at e t none =
         let is : IsEnd state pending (run_with c o) (lines_after c o.inputs o.steps o.until turn) n = t.turned.over.1 in
         let lines : lines_after c o.inputs o.steps o.until turn ≡ (run_with c o).trace =
-        sym (is.trace ∙ ap (λ ks. lines_after c o.inputs o.steps o.until turn ++ map line_of ks) none ∙ append-nil (lines_after c o.inputs o.steps o.until turn)) in
+        sym (is.trace ∙ ap (λ ks. lines_after c o.inputs o.steps o.until turn ++ map line_of ks) none ∙
+        append-nil (lines_after c o.inputs o.steps o.until turn)) in
         record {
           ending = t.turned.over.0;
           shown = record { store = is.store; moment = is.moment; steps = is.steps; live = is.live };
@@ -100,7 +106,8 @@ module _ {H W : Type 0} (state : H → Kept) (pending : W → List Pending) (c :
     pub stops_without : new ≡ mid → Wrote (RunsSoFar c o) old new
     stops_without e = (printed r.past, (so_far c o turn r.past r.written, e ∙ r.taken))
 
-    pub stops_within : (before at now : ℕ) → before ≤ at → Rose at now → TookPart r.past (lines_after c o.inputs o.steps o.until turn) mid new →
+    pub stops_within : (before at now : ℕ) → before ≤ at → Rose at now →
+        TookPart r.past (lines_after c o.inputs o.steps o.until turn) mid new →
         Stopped (RunsSoFar c o) (RunsSoFar c o) before now old new stop.Failed
     stops_within before at now low rose p =
         let text : printed r.past ++ printed p.more ≡ trace_text (mach_after c o.inputs o.steps o.until turn) =
@@ -122,14 +129,16 @@ module _ {H W : Type 0} (state : H → Kept) (pending : W → List Pending) (c :
     stops_by before at now fault.Failed low memory rose part = stops_within before at now low (rose refl) (part refl)
 
   -- a run is over before there are more turns than steps
-  pub never_reached : RunsEnd → (turn : ℕ) (old new : Option (List ℕ)) (m : Vm H W) → Valid c → turn ≡ o.steps + 2 → Reached state pending c o turn old new m → ⊥
+  pub never_reached : RunsEnd → (turn : ℕ) (old new : Option (List ℕ)) (m : Vm H W) → Valid c → turn ≡ o.steps + 2 →
+      Reached state pending c o turn old new m → ⊥
   never_reached ends turn old new m valid e r =
       let last : turn ≡ suc (suc o.steps) = omega arith in
       over_ends (mach_after c o.inputs o.steps o.until (suc o.steps)) (ends c o.inputs o.steps o.until valid).over
       (none_ended c o turn r.past r.written (suc o.steps) last)
 
 -- how many waits a machine has is how many are left, where that counts
-pub counts_of : {H W : Type 0} (state : H → Kept) (pending : W → List Pending) (m : Vm H W) (live : Option ℕ) (n : ℕ) → n ≡ length (pending m.tasks.gone.waits) →
+pub counts_of : {H W : Type 0} (state : H → Kept) (pending : W → List Pending) (m : Vm H W) (live : Option ℕ) (n : ℕ) →
+    n ≡ length (pending m.tasks.gone.waits) →
     LiveIs state pending live m → Counts live n
 counts_of state pending m None n e l = tt
 counts_of state pending m (Some live) n e l = l ∙ sym e

@@ -23,6 +23,7 @@ abbrev pub Either : (Whole : ℕ → List ℕ → Type 0) → (SoFar : List ℕ 
 Either Whole SoFar text = ((status : ℕ) × Whole status text) ⊎ SoFar text
 
 -- the whole text was written, or it stopped within it
-abbrev pub Leaves : (Whole : ℕ → List ℕ → Type 0) → (SoFar : List ℕ → Type 0) → (before now : ℕ) → (old new : Option (List ℕ)) → Result ℕ Stop → Type 0
+abbrev pub Leaves : (Whole : ℕ → List ℕ → Type 0) → (SoFar : List ℕ → Type 0) → (before now : ℕ) → (old new : Option (List ℕ)) →
+    Result ℕ Stop → Type 0
 Leaves Whole SoFar before now old new (Ok status) = Wrote (Whole status) old new
 Leaves Whole SoFar before now old new (Err s) = Stopped SoFar (Either Whole SoFar) before now old new s

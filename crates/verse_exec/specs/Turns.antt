@@ -26,7 +26,8 @@ stop_of turn.Failed = stop.Failed
 -- the lines that are written after so many calls, of which none ended the run
 pub data Written (c : Code) (o : Options) : ℕ → List Line → Type 0 where
   unbegun : Written c o 0 []
-  begun : (k : ℕ) → ending_in (mach_after c o.inputs o.steps o.until k) ≡ None → Written c o (suc k) (lines_after c o.inputs o.steps o.until k)
+  begun : (k : ℕ) → ending_in (mach_after c o.inputs o.steps o.until k) ≡ None →
+      Written c o (suc k) (lines_after c o.inputs o.steps o.until k)
 
 module _ {H W : Type 0} (state : H → Kept) (pending : W → List Pending) (c : Code) (o : Options) where
   -- the machine stands after so many calls, and their lines are written

@@ -4,7 +4,8 @@ ghost use Rattle.std.specs.Prelude.{◌≡◌, ◌≤◌, ℕ};
 ghost use Rattle.verse_image.specs.Reading.{flaw, image_at};
 ghost use Rattle.verse_exec.specs.Asking.{options_of};
 ghost use Rattle.verse_exec.specs.Endings.{IsWithin};
-ghost use Rattle.verse_exec.specs.Executions.{ExecutedOnce, Executes, ExecutesSoFar, IsFault, IsNothing};
+ghost use Rattle.verse_exec.specs.Executions.{ExecutedOnce, Executes, ExecutesSoFar, IsFault};
+ghost use Rattle.verse_exec.specs.Executions.{IsNothing};
 ghost use Rattle.verse_exec.specs.Leaving.{Leaves};
 
 use crate::asking::Asked;
@@ -27,7 +28,9 @@ pub fn executed_once()
 /// status. What is written of a run is written as it goes on.
 pub fn exec<S: Sink>(alloc: Global, bytes: &[u8], asked: Asked<'_>, out: &mut S) -> Result<u8, Stop>
     requires within { IsWithin (options_of asked) }
-    ensures leaves { Leaves (Executes bytes.now (options_of asked.entry)) (ExecutesSoFar bytes.now (options_of asked.entry)) (S.faults out.old) (S.faults out.new) (S.taken out.old) (S.taken out.new) result }
+    ensures leaves { Leaves (Executes bytes.now (options_of asked.entry))
+        (ExecutesSoFar bytes.now (options_of asked.entry)) (S.faults out.old) (S.faults out.new)
+        (S.taken out.old) (S.taken out.new) result }
     ensures later { S.faults out.old ≤ S.faults out.new }
 {
     match decode(alloc, bytes) {
@@ -42,7 +45,8 @@ pub fn exec<S: Sink>(alloc: Global, bytes: &[u8], asked: Asked<'_>, out: &mut S)
 
 /// Tells which rule fails, and where.
 fn no_image<S: Sink>(alloc: Global, rule: u8, at: usize, out: &mut S) -> Result<u8, Stop>
-    ensures leaves { Leaves (IsFault rule at) IsNothing (S.faults out.old) (S.faults out.new) (S.taken out.old) (S.taken out.new) result }
+    ensures leaves { Leaves (IsFault rule at) IsNothing (S.faults out.old) (S.faults out.new)
+        (S.taken out.old) (S.taken out.new) result }
     ensures later { S.faults out.old ≤ S.faults out.new }
 {
     let line = image_text(alloc, rule, at)?;

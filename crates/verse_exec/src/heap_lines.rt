@@ -1,6 +1,7 @@
 //! The lines of the heap.
 
-ghost use Rattle.std.specs.Prelude.{◌≡◌, ◌≤◌, ◌<◌, ◌++◌, ℕ, true, Some, IfOk, IfErr, OnOk, IsErrOf, length};
+ghost use Rattle.std.specs.Prelude.{◌≡◌, ◌≤◌, ◌<◌, ◌++◌, ℕ, true, Some, IfOk, IfErr, OnOk, IsErrOf};
+ghost use Rattle.std.specs.Prelude.{length};
 ghost use Rattle.verse_outside.specs.Causes.{Rose};
 ghost use Rattle.verse_outside.specs.Held.{TookPrefix, with_more};
 ghost use Rattle.verse_state.specs.Texts.{cell_line, heap_lines, slots_text};
@@ -26,8 +27,12 @@ pub(crate) fn write_heap<H: Heap, S: Sink>(
     out: &mut S,
 ) -> Result<(), Stop>
     requires belongs { StoreBelongs code.now.classes (H.state heap.old).cells }
-    ensures whole { OnOk result (S.taken out.new ≡ with_more (S.taken out.old) (heap_lines 0 (H.state heap.old).cells)) }
-    ensures stopped { IfErr result (Stopped (FirstLines true (H.state heap.old).cells) (FirstLines true (H.state heap.old).cells) (S.faults out.old) (S.faults out.new) (S.taken out.old) (S.taken out.new)) }
+    ensures whole { OnOk result (S.taken out.new ≡
+        with_more (S.taken out.old) (heap_lines 0 (H.state heap.old).cells)) }
+    ensures stopped { IfErr result
+        (Stopped (FirstLines true (H.state heap.old).cells)
+        (FirstLines true (H.state heap.old).cells) (S.faults out.old) (S.faults out.new)
+        (S.taken out.old) (S.taken out.new)) }
     ensures later { S.faults out.old ≤ S.faults out.new }
 {
     let count = heap.len();
@@ -46,9 +51,13 @@ fn write_cell<H: Heap, S: Sink>(
 ) -> Result<(), Stop>
     requires there { address < length (H.state heap.old).cells }
     requires belongs { StoreBelongs code.now.classes (H.state heap.old).cells }
-    ensures whole { OnOk result (S.taken out.new ≡ with_more (S.taken out.old) (cell_line address (cell_at (H.state heap.old).cells address))) }
+    ensures whole { OnOk result (S.taken out.new ≡
+        with_more (S.taken out.old)
+        (cell_line address (cell_at (H.state heap.old).cells address))) }
     ensures memory { IsErrOf result stop.Memory → S.taken out.new ≡ S.taken out.old }
-    ensures part { IsErrOf result stop.Failed → TookPrefix (S.taken out.old) (cell_line address (cell_at (H.state heap.old).cells address)) (S.taken out.new) }
+    ensures part { IsErrOf result stop.Failed →
+        TookPrefix (S.taken out.old) (cell_line address (cell_at (H.state heap.old).cells address))
+        (S.taken out.new) }
     ensures failed { IsErrOf result stop.Failed → Rose (S.faults out.old) (S.faults out.new) }
     ensures later { S.faults out.old ≤ S.faults out.new }
     ensures same { H.state heap.new ≡ H.state heap.old }
@@ -67,7 +76,8 @@ fn line_of<H: Heap>(
 ) -> Result<Vec<u8>, Memory>
     requires there { address < length (H.state heap.old).cells }
     requires belongs { StoreBelongs code.now.classes (H.state heap.old).cells }
-    ensures line { IfOk result (λ v. v.items ≡ cell_line address (cell_at (H.state heap.old).cells address)) }
+    ensures line { IfOk result (λ v. v.items ≡
+        cell_line address (cell_at (H.state heap.old).cells address)) }
     ensures same { H.state heap.new ≡ H.state heap.old }
 {
     let mut line = Vec::new(alloc);
@@ -80,7 +90,8 @@ fn line_of<H: Heap>(
 
 fn push_slots<H: Heap>(heap: &mut H, cell: u32, count: u32, out: &mut Vec<u8>) -> Result<(), Memory>
     requires { length (cell_at (H.state heap.old).cells cell).slots ≡ count }
-    ensures slots { OnOk result (out.new.items ≡ out.old.items ++ slots_text (cell_at (H.state heap.old).cells cell).slots) }
+    ensures slots { OnOk result (out.new.items ≡ out.old.items ++
+        slots_text (cell_at (H.state heap.old).cells cell).slots) }
     ensures same { H.state heap.new ≡ H.state heap.old }
 {
     'slots: for slot in 0..count {

@@ -41,7 +41,9 @@ pub(crate) fn stream<H: Heap + Drop, W: Waits + Drop, S: Sink>(
     requires heap { H.state heap ≡ empty }
     requires waits { W.pending waits ≡ [] }
     requires within { IsWithin (options_of asked) }
-    ensures leaves { Leaves (Runs code.now (options_of asked.entry)) (RunsSoFar code.now (options_of asked.entry)) (S.faults out.old) (S.faults out.new) (S.taken out.old) (S.taken out.new) result }
+    ensures leaves { Leaves (Runs code.now (options_of asked.entry))
+        (RunsSoFar code.now (options_of asked.entry)) (S.faults out.old) (S.faults out.new)
+        (S.taken out.old) (S.taken out.new) result }
     ensures later { S.faults out.old ≤ S.faults out.new }
 {
     let bounds = Bounds {
@@ -83,8 +85,13 @@ fn write_rest<H: Heap, S: Sink>(
 ) -> Result<u8, Stop>
     requires belongs { StoreBelongs code.now.classes (H.state heap.old).cells }
     ensures status { IfOk result (λ s. s ≡ ending_status last.ending) }
-    ensures whole { OnOk result (S.taken out.new ≡ with_more (S.taken out.old) (rest_text lines (H.state heap.old).cells code.now.files (last_run last))) }
-    ensures stopped { IfErr result (Stopped (FirstLines lines (H.state heap.old).cells) (FrontOf lines (H.state heap.old).cells code.now.files (last_run last)) (S.faults out.old) (S.faults out.new) (S.taken out.old) (S.taken out.new)) }
+    ensures whole { OnOk result (S.taken out.new ≡
+        with_more (S.taken out.old)
+        (rest_text lines (H.state heap.old).cells code.now.files (last_run last))) }
+    ensures stopped { IfErr result
+        (Stopped (FirstLines lines (H.state heap.old).cells)
+        (FrontOf lines (H.state heap.old).cells code.now.files (last_run last)) (S.faults out.old)
+        (S.faults out.new) (S.taken out.old) (S.taken out.new)) }
     ensures later { S.faults out.old ≤ S.faults out.new }
 {
     write_lines(alloc, code, heap, lines, out)?;
@@ -109,8 +116,12 @@ fn write_lines<H: Heap, S: Sink>(
     out: &mut S,
 ) -> Result<(), Stop>
     requires belongs { StoreBelongs code.now.classes (H.state heap.old).cells }
-    ensures whole { OnOk result (S.taken out.new ≡ with_more (S.taken out.old) (cond lines (heap_lines 0 (H.state heap.old).cells) [])) }
-    ensures stopped { IfErr result (Stopped (FirstLines lines (H.state heap.old).cells) (FirstLines lines (H.state heap.old).cells) (S.faults out.old) (S.faults out.new) (S.taken out.old) (S.taken out.new)) }
+    ensures whole { OnOk result (S.taken out.new ≡
+        with_more (S.taken out.old) (cond lines (heap_lines 0 (H.state heap.old).cells) [])) }
+    ensures stopped { IfErr result
+        (Stopped (FirstLines lines (H.state heap.old).cells)
+        (FirstLines lines (H.state heap.old).cells) (S.faults out.old) (S.faults out.new)
+        (S.taken out.old) (S.taken out.new)) }
     ensures later { S.faults out.old ≤ S.faults out.new }
 {
     if lines {

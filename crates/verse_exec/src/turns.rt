@@ -24,8 +24,12 @@ pub(crate) fn all_turns<H: Heap + Drop, W: Waits + Drop, S: Sink>(
 ) -> Result<Ending, Stop>
     requires valid { Valid code.now }
     requires few { steps ≤ 100000000 }
-    requires begun { (o : Options) × (o.steps ≡ steps) × At H.state W.pending code.now o.inputs o.steps o.until 0 [] vm.old }
-    ensures goes { (o : Options) → o.steps ≡ steps → At H.state W.pending code.now o.inputs o.steps o.until 0 [] vm.old → Goes H.state W.pending code.now o (S.faults out.old) (S.faults out.new) (S.taken out.old) (S.taken out.new) vm.new result }
+    requires begun { (o : Options) × (o.steps ≡ steps) ×
+        At H.state W.pending code.now o.inputs o.steps o.until 0 [] vm.old }
+    ensures goes { (o : Options) → o.steps ≡ steps →
+        At H.state W.pending code.now o.inputs o.steps o.until 0 [] vm.old →
+        Goes H.state W.pending code.now o (S.faults out.old) (S.faults out.new) (S.taken out.old)
+        (S.taken out.new) vm.new result }
     ensures later { S.faults out.old ≤ S.faults out.new }
 {
     runs_end();

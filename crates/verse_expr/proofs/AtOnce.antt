@@ -1,5 +1,6 @@
 -- A rule that reads nothing at the end of the toks sticks at no tok at once.
-use Rattle.std.proofs.Common.{◌≡◌, ◌≢◌, ℕ, ◌≤◌, Bool, true, false, if◌then◌else◌, List, [], ◌∷◌, Option, Some, None, length, refl, ap, subst, ◌∙◌, arith}
+use Rattle.std.proofs.Common.{◌≡◌, ◌≢◌, ℕ, ◌≤◌, Bool, true, false, if◌then◌else◌, List, [], ◌∷◌, Option, Some, None, length, refl, ap}
+use Rattle.std.proofs.Common.{subst, ◌∙◌, arith}
 use Rattle.std.specs.Option.{is_some}
 use Rattle.verse_lex.specs.declared.tokens.Word.TheVariants as w
 use Rattle.verse_lex.specs.declared.tokens.Mark.TheVariants as m
@@ -19,8 +20,19 @@ use Rattle.verse_grammar.specs.declared.starts.PrimaryStart.{PrimaryStart}
 use Rattle.verse_grammar.specs.declared.starts.PrimaryStart.TheVariants as primary
 use Rattle.verse_grammar.specs.declared.starts.PostfixStart.{PostfixStart}
 use Rattle.verse_grammar.specs.declared.starts.PostfixStart.TheVariants as postfix
-use Rattle.verse_grammar.specs.Symbols.{Rule, Symbol, a, rule, Move, takes, becomes, refuses, first_as, first_is, predict, by_primary, by_chain_tail, by_comparison_tail, by_postfix_tail, a_type, bracket_rest, tuple_rest, types, types_tail, bracket_type, bracket_type_rest, stmt_name, typed_value, set_rest, assign, return_value, an_if, taken, otherwise, comparison_tail, postfix_tail, hole_rest, name_rest, givens_until, given, givens_tail, round_rest, pairs_until, pair, pairs_tail, clauses, case_rest, duration, generator_rest, entries_rest, clause_name, clause_value, range_rest, an_int, program, items_tail, an_item, using_rest, dotted, dots_tail, path_tail, specs, item_rest, enum_or_class, enum_rest, values_until, values_tail, class_rest, parent, members_until, members_tail, member, member_rest, field_rest, default, fun_rest, params_until, param, params_tail, phrase, chain_tail, row_tail, closed, until}
-use Rattle.verse_grammar.specs.Reading.{Eats, eats_tok, eats_rule, EatsRule, eats_takes, eats_becomes, Sticks, sticks_here, sticks_behind_tok, sticks_in_rule, sticks_behind_rule, SticksRule, sticks_refused, sticks_takes, sticks_becomes}
+use Rattle.verse_grammar.specs.Symbols.{Rule, Symbol, a, rule, Move, takes, becomes, refuses, first_as, first_is, predict, by_primary}
+use Rattle.verse_grammar.specs.Symbols.{by_chain_tail, by_comparison_tail, by_postfix_tail, a_type, bracket_rest, tuple_rest, types}
+use Rattle.verse_grammar.specs.Symbols.{types_tail, bracket_type, bracket_type_rest, stmt_name, typed_value, set_rest, assign, return_value}
+use Rattle.verse_grammar.specs.Symbols.{an_if, taken, otherwise, comparison_tail, postfix_tail, hole_rest, name_rest, givens_until, given}
+use Rattle.verse_grammar.specs.Symbols.{givens_tail, round_rest, pairs_until, pair, pairs_tail, clauses, case_rest, duration}
+use Rattle.verse_grammar.specs.Symbols.{generator_rest, entries_rest, clause_name, clause_value, range_rest, an_int, program, items_tail}
+use Rattle.verse_grammar.specs.Symbols.{an_item, using_rest, dotted, dots_tail, path_tail, specs, item_rest, enum_or_class, enum_rest}
+use Rattle.verse_grammar.specs.Symbols.{values_until, values_tail, class_rest, parent, members_until, members_tail, member, member_rest}
+use Rattle.verse_grammar.specs.Symbols.{field_rest, default, fun_rest, params_until, param, params_tail, phrase, chain_tail, row_tail}
+use Rattle.verse_grammar.specs.Symbols.{closed, until}
+use Rattle.verse_grammar.specs.Reading.{Eats, eats_tok, eats_rule, EatsRule, eats_takes, eats_becomes, Sticks, sticks_here}
+use Rattle.verse_grammar.specs.Reading.{sticks_behind_tok, sticks_in_rule, sticks_behind_rule, SticksRule, sticks_refused, sticks_takes}
+use Rattle.verse_grammar.specs.Reading.{sticks_becomes}
 use Rattle.verse_grammar.proofs.Sights.{same_kind, seen}
 use Rattle.verse_grammar.proofs.Moves.{becomes_becomes, takes_becomes, takes_refuses, becomes_refuses}
 use Rattle.verse_grammar.proofs.Local.{rule_within}
@@ -210,8 +222,10 @@ one_more f g ks = calms_rule (f ks) g
 behind_a_sum : Calms (rule comparison_tail ∷ rule (chain_tail p.And) ∷ rule (chain_tail p.Or) ∷ [])
 behind_a_sum = one_more comparison_tail_calm (one_more (chain_tail_calm p.And) (one_more (chain_tail_calm p.Or) calms_none))
 
-behind_a_name : Calms (rule name_rest ∷ rule postfix_tail ∷ rule (chain_tail p.Product) ∷ rule (chain_tail p.Sum) ∷ rule comparison_tail ∷ rule (chain_tail p.And) ∷ rule (chain_tail p.Or) ∷ [])
-behind_a_name = one_more name_rest_calm (one_more postfix_tail_calm (one_more (chain_tail_calm p.Product) (one_more (chain_tail_calm p.Sum) behind_a_sum)))
+behind_a_name : Calms (rule name_rest ∷ rule postfix_tail ∷ rule (chain_tail p.Product) ∷ rule
+    (chain_tail p.Sum) ∷ rule comparison_tail ∷ rule (chain_tail p.And) ∷ rule (chain_tail p.Or) ∷ [])
+behind_a_name = one_more name_rest_calm (one_more postfix_tail_calm
+    (one_more (chain_tail_calm p.Product) (one_more (chain_tail_calm p.Sum) behind_a_sum)))
 
 seen_ahead : (kind : TokKind) (ks : List Tok) → sees kind ks ≡ true → ahead ks ≡ Some kind
 seen_ahead kind [] h = absurd (cc)
@@ -220,7 +234,8 @@ seen_ahead kind (k ∷ ks) h = ap Some (same_kind k.kind kind h)
 abbrev CalmIf : List Tok → Bool → Move → Move → Type 0
 CalmIf ks x M N = (r : Rule) → predict r ks ≡ (if x then M else N) → CalmAt ks r
 
-calm_cases : {ks : List Tok} {M N : Move} (x : Bool) → (x ≡ true → (r : Rule) → predict r ks ≡ M → CalmAt ks r) → ((r : Rule) → predict r ks ≡ N → CalmAt ks r) → CalmIf ks x M N
+calm_cases : {ks : List Tok} {M N : Move} (x : Bool) → (x ≡ true → (r : Rule) → predict r ks ≡ M → CalmAt ks r) →
+    ((r : Rule) → predict r ks ≡ N → CalmAt ks r) → CalmIf ks x M N
 calm_cases true f g r e = f refl r e
 calm_cases false f g r e = g r e
 
@@ -230,13 +245,15 @@ colon_taken ks h = calm_becomes refl (calms_tok (seen_ahead (mark m.Colon) ks h)
 stmt_name_calm : Calm stmt_name
 stmt_name_calm ks =
     calm_cases (sees (mark m.Define) ks) (λ h r e. calm_takes e)
-    (calm_cases (sees (mark m.Colon) ks) (λ h r e. calm_becomes e (calms_rule (colon_taken ks h) calms_none)) (λ r e. calm_becomes e (behind_a_name ks)))
+    (calm_cases (sees (mark m.Colon) ks) (λ h r e. calm_becomes e (calms_rule (colon_taken ks h) calms_none))
+    (λ r e. calm_becomes e (behind_a_name ks)))
     stmt_name refl
 
 clause_name_calm : Calm clause_name
 clause_name_calm ks =
     calm_cases (sees (mark m.Colon) ks) (λ h r e. calm_takes e)
-    (calm_cases (sees (mark m.Arrow) ks) (λ h r e. calm_takes e) (calm_cases (sees (mark m.Define) ks) (λ h r e. calm_takes e) (λ r e. calm_becomes e (behind_a_name ks))))
+    (calm_cases (sees (mark m.Arrow) ks) (λ h r e. calm_takes e)
+    (calm_cases (sees (mark m.Define) ks) (λ h r e. calm_takes e) (λ r e. calm_becomes e (behind_a_name ks))))
     clause_name refl
 
 range_rest_calm : Calm range_rest
@@ -282,12 +299,15 @@ begin_of (tok.Plain (token.Word w.Not)) h = by_not refl
 begin_of (tok.Plain (token.Mark m.Minus)) h = by_minus refl
 begin_of k h = by_primary_form h
 
-chain_calm : (ks : List Tok) (q : Phrase) (s : Rule) → predict (phrase q) ks ≡ becomes (rule s ∷ rule (chain_tail q) ∷ []) → CalmAt ks s → CalmAt ks (phrase q)
+chain_calm : (ks : List Tok) (q : Phrase) (s : Rule) → predict (phrase q) ks ≡ becomes (rule s ∷ rule (chain_tail q) ∷ []) → CalmAt ks s →
+    CalmAt ks (phrase q)
 chain_calm ks q s e f = calm_becomes e (calms_rule f (one_more (chain_tail_calm q) calms_none))
 
 expr_of_or : (ks : List Tok) → CalmAt ks (phrase p.Or) → CalmAt ks (phrase p.Expr)
 expr_of_or ks f =
-    calm_cases (sees (word w.If) ks) (λ h r e. calm_becomes e (calms_rule (calm_becomes refl (calms_tok (seen_ahead (word w.If) ks h))) calms_none)) (λ r e. calm_becomes e (calms_rule f calms_none)) (phrase p.Expr) refl
+    calm_cases (sees (word w.If) ks) (λ h r e.
+    calm_becomes e (calms_rule (calm_becomes refl (calms_tok (seen_ahead (word w.If) ks h))) calms_none))
+    (λ r e. calm_becomes e (calms_rule f calms_none)) (phrase p.Expr) refl
 
 expr_of_not : (ks : List Tok) → CalmAt ks (phrase p.Not) → CalmAt ks (phrase p.Expr)
 expr_of_not ks f = expr_of_or ks (chain_calm ks p.Or (phrase p.And) refl (chain_calm ks p.And (phrase p.Not) refl f))
@@ -299,7 +319,8 @@ not_of_minus ks f =
     calm_cases (sees (word w.Not) ks) (λ e r i. calm_takes i) (λ r i. calm_becomes i (calms_rule h calms_none)) (phrase p.Not) refl
 
 minus_of_postfix : (ks : List Tok) → CalmAt ks (phrase p.Postfix) → CalmAt ks (phrase p.Minus)
-minus_of_postfix ks f = calm_cases (sees (mark m.Minus) ks) (λ e r i. calm_takes i) (λ r i. calm_becomes i (calms_rule f calms_none)) (phrase p.Minus) refl
+minus_of_postfix ks f = calm_cases (sees (mark m.Minus) ks) (λ e r i. calm_takes i) (λ r i. calm_becomes i (calms_rule f calms_none))
+    (phrase p.Minus) refl
 
 when_true : (r : Rule) (ks : List Tok) (M N : Move) (x : Bool) → x ≡ true → predict r ks ≡ (if x then M else N) → predict r ks ≡ M
 when_true r ks M N true h g = g
@@ -310,14 +331,17 @@ is_seen kind k ks h = seen kind k ks h
 
 expr_begun : (k : Tok) (ks : List Tok) → Begin k.kind → CalmAt (k ∷ ks) (phrase p.Expr)
 expr_begun k ks (by_if e) =
-    let g : predict (phrase p.Expr) (k ∷ ks) ≡ becomes (rule an_if ∷ []) = when_true (phrase p.Expr) (k ∷ ks) _ _ (sees (word w.If) (k ∷ ks)) (is_seen (word w.If) k ks e) refl in
+    let g : predict (phrase p.Expr) (k ∷ ks) ≡ becomes (rule an_if ∷ []) =
+    when_true (phrase p.Expr) (k ∷ ks) _ _ (sees (word w.If) (k ∷ ks)) (is_seen (word w.If) k ks e) refl in
     let f : CalmAt (k ∷ ks) an_if = calm_becomes refl (calms_tok (ap Some e)) in
     calm_becomes g (calms_rule f calms_none)
 expr_begun k ks (by_not e) =
-    let g : predict (phrase p.Not) (k ∷ ks) ≡ takes (rule (phrase p.Not) ∷ []) = when_true (phrase p.Not) (k ∷ ks) _ _ (sees (word w.Not) (k ∷ ks)) (is_seen (word w.Not) k ks e) refl in
+    let g : predict (phrase p.Not) (k ∷ ks) ≡ takes (rule (phrase p.Not) ∷ []) =
+    when_true (phrase p.Not) (k ∷ ks) _ _ (sees (word w.Not) (k ∷ ks)) (is_seen (word w.Not) k ks e) refl in
     expr_of_not (k ∷ ks) (calm_takes g)
 expr_begun k ks (by_minus e) =
-    let g : predict (phrase p.Minus) (k ∷ ks) ≡ takes (rule (phrase p.Minus) ∷ []) = when_true (phrase p.Minus) (k ∷ ks) _ _ (sees (mark m.Minus) (k ∷ ks)) (is_seen (mark m.Minus) k ks e) refl in
+    let g : predict (phrase p.Minus) (k ∷ ks) ≡ takes (rule (phrase p.Minus) ∷ []) =
+    when_true (phrase p.Minus) (k ∷ ks) _ _ (sees (mark m.Minus) (k ∷ ks)) (is_seen (mark m.Minus) k ks e) refl in
     expr_of_not (k ∷ ks) (not_of_minus (k ∷ ks) (calm_takes g))
 expr_begun k ks (by_primary_form e) =
     let f : CalmAt (k ∷ ks) (phrase p.Primary) = calm_by refl (primary_takes (primary_start k.kind) e) in
@@ -330,7 +354,8 @@ expr_first (k ∷ ks) h = expr_begun k ks (begin_of k.kind h)
 
 return_value_calm : Calm return_value
 return_value_calm ks =
-    calm_cases (first_is begins_expr ks) (λ h r e. calm_becomes e (calms_rule (expr_first ks h) calms_none)) (λ r e. calm_becomes e (calms_none ks)) return_value refl
+    calm_cases (first_is begins_expr ks) (λ h r e. calm_becomes e (calms_rule (expr_first ks h) calms_none))
+    (λ r e. calm_becomes e (calms_none ks)) return_value refl
 
 -- a rule that sticks at the first tok reads nothing at the end
 abbrev AtOnce : Rule → Type 0

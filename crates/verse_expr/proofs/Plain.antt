@@ -3,7 +3,8 @@ use Rattle.std.proofs.Common.{◌≡◌, ◌≢◌, ℤ, Bool, true, false, if�
 use Rattle.verse_grammar.specs.Codes.{sees}
 use Rattle.verse_grammar.specs.Toks.{word, mark}
 use Rattle.verse_grammar.specs.Exprs.{chain_operator}
-use Rattle.verse_grammar.specs.Starts.{type_start, primary_start, postfix_start, stmt_start, pattern_start, item_start, comparison_at, assign_at, duration_at, int_at, begins_expr}
+use Rattle.verse_grammar.specs.Starts.{type_start, primary_start, postfix_start, stmt_start, pattern_start, item_start, comparison_at}
+use Rattle.verse_grammar.specs.Starts.{assign_at, duration_at, int_at, begins_expr}
 use Rattle.verse_lex.specs.declared.tokens.Word.TheVariants as w
 use Rattle.verse_lex.specs.declared.tokens.Mark.TheVariants as m
 use Rattle.verse_lex.specs.declared.tokens.TokenKind.TheVariants as token
@@ -27,7 +28,17 @@ use Rattle.verse_grammar.specs.declared.starts.PatternStart.{PatternStart}
 use Rattle.verse_grammar.specs.declared.starts.PatternStart.TheVariants as pattern
 use Rattle.verse_grammar.specs.declared.starts.ItemStart.{ItemStart}
 use Rattle.verse_grammar.specs.declared.starts.ItemStart.TheVariants as item
-use Rattle.verse_grammar.specs.Symbols.{Rule, Symbol, a, rule, Move, takes, becomes, refuses, first_as, first_is, predict, by_a_type, by_stmt, by_primary, by_clause, by_pattern, by_assign, by_comparison_tail, by_postfix_tail, by_duration, by_an_int, by_an_item, by_chain_tail, a_type, bracket_rest, tuple_rest, types, types_tail, bracket_type, bracket_type_rest, stmt_name, typed_value, set_rest, assign, return_value, an_if, taken, otherwise, comparison_tail, postfix_tail, hole_rest, name_rest, givens_until, given, givens_tail, round_rest, pairs_until, pair, pairs_tail, clauses, case_rest, duration, generator_rest, entries_rest, clause_name, clause_value, range_rest, an_int, program, items_tail, an_item, using_rest, dotted, dots_tail, path_tail, specs, item_rest, enum_or_class, enum_rest, values_until, values_tail, class_rest, parent, members_until, members_tail, member, member_rest, field_rest, default, fun_rest, params_until, param, params_tail, phrase, chain_tail, row_tail, closed, until}
+use Rattle.verse_grammar.specs.Symbols.{Rule, Symbol, a, rule, Move, takes, becomes, refuses, first_as, first_is, predict, by_a_type}
+use Rattle.verse_grammar.specs.Symbols.{by_stmt, by_primary, by_clause, by_pattern, by_assign, by_comparison_tail, by_postfix_tail}
+use Rattle.verse_grammar.specs.Symbols.{by_duration, by_an_int, by_an_item, by_chain_tail, a_type, bracket_rest, tuple_rest, types}
+use Rattle.verse_grammar.specs.Symbols.{types_tail, bracket_type, bracket_type_rest, stmt_name, typed_value, set_rest, assign, return_value}
+use Rattle.verse_grammar.specs.Symbols.{an_if, taken, otherwise, comparison_tail, postfix_tail, hole_rest, name_rest, givens_until, given}
+use Rattle.verse_grammar.specs.Symbols.{givens_tail, round_rest, pairs_until, pair, pairs_tail, clauses, case_rest, duration}
+use Rattle.verse_grammar.specs.Symbols.{generator_rest, entries_rest, clause_name, clause_value, range_rest, an_int, program, items_tail}
+use Rattle.verse_grammar.specs.Symbols.{an_item, using_rest, dotted, dots_tail, path_tail, specs, item_rest, enum_or_class, enum_rest}
+use Rattle.verse_grammar.specs.Symbols.{values_until, values_tail, class_rest, parent, members_until, members_tail, member, member_rest}
+use Rattle.verse_grammar.specs.Symbols.{field_rest, default, fun_rest, params_until, param, params_tail, phrase, chain_tail, row_tail}
+use Rattle.verse_grammar.specs.Symbols.{closed, until}
 
 abbrev is_program : Rule → Bool
 is_program program = true
@@ -200,9 +211,11 @@ plain_predict pairs_tail ks = plain_if _ _ (sees tok.Sep ks) refl refl
 plain_predict clauses ks = refl
 plain_predict case_rest ks = refl
 plain_predict duration ks = plain_duration (first_as duration_at ks)
-plain_predict generator_rest ks = plain_if _ _ (sees (mark m.Colon) ks) refl (plain_if _ _ (sees (mark m.Arrow) ks) refl (plain_if _ _ (sees (mark m.Define) ks) refl refl))
+plain_predict generator_rest ks = plain_if _ _ (sees (mark m.Colon) ks) refl
+    (plain_if _ _ (sees (mark m.Arrow) ks) refl (plain_if _ _ (sees (mark m.Define) ks) refl refl))
 plain_predict entries_rest ks = refl
-plain_predict clause_name ks = plain_if _ _ (sees (mark m.Colon) ks) refl (plain_if _ _ (sees (mark m.Arrow) ks) refl (plain_if _ _ (sees (mark m.Define) ks) refl refl))
+plain_predict clause_name ks = plain_if _ _ (sees (mark m.Colon) ks) refl
+    (plain_if _ _ (sees (mark m.Arrow) ks) refl (plain_if _ _ (sees (mark m.Define) ks) refl refl))
 plain_predict clause_value ks = plain_if _ _ (sees (word w.If) ks) refl (plain_if _ _ (sees (word w.Not) ks) refl refl)
 plain_predict range_rest ks = plain_if _ _ (sees (mark m.DotDot) ks) refl refl
 plain_predict an_int ks = plain_an_int (first_as int_at ks)

@@ -1,10 +1,13 @@
 -- What a rule leaves is the end of what it was given.
-use Rattle.std.proofs.Common.{◌≡◌, ℕ, ◌+◌, ◌-◌, ◌≤◌, List, [], ◌∷◌, ◌++◌, length, drop, refl, sym, ap, subst, ◌∙◌, append_assoc, arith, length-append, length-drop}
+use Rattle.std.proofs.Common.{◌≡◌, ℕ, ◌+◌, ◌-◌, ◌≤◌, List, [], ◌∷◌, ◌++◌, length, drop, refl, sym, ap, subst, ◌∙◌, append_assoc, arith}
+use Rattle.std.proofs.Common.{length-append, length-drop}
 use Rattle.std.proofs.Math.Seq.{drop-append_seam}
 use Rattle.std.proofs.lemmas.List.{drop-drop}
 use Rattle.verse_layout.specs.declared.toks.Tok.{Tok}
 use Rattle.verse_grammar.specs.Symbols.{Rule, Symbol}
-use Rattle.verse_grammar.specs.Reading.{Eats, EatsRule, Sticks, SticksRule, eats_none, eats_tok, eats_rule, eats_takes, eats_becomes, sticks_here, sticks_behind_tok, sticks_in_rule, sticks_behind_rule, sticks_refused, sticks_takes, sticks_becomes}
+use Rattle.verse_grammar.specs.Reading.{Eats, EatsRule, Sticks, SticksRule, eats_none, eats_tok, eats_rule, eats_takes, eats_becomes}
+use Rattle.verse_grammar.specs.Reading.{sticks_here, sticks_behind_tok, sticks_in_rule, sticks_behind_rule, sticks_refused, sticks_takes}
+use Rattle.verse_grammar.specs.Reading.{sticks_becomes}
 
 record Front (ks rest : List Tok) : Type 0 where
   front : List Tok
@@ -60,7 +63,8 @@ mutual
   stuck_within r ks left (sticks_becomes h x) = stuck_inside _ ks left x
 
 -- the same behind an index
-pub suffix_at : {r : Rule} (ks rest : List Tok) (at : ℕ) → at ≤ length ks → EatsRule r (drop at ks) rest → drop (length ks - length rest) ks ≡ rest
+pub suffix_at : {r : Rule} (ks rest : List Tok) (at : ℕ) → at ≤ length ks → EatsRule r (drop at ks) rest →
+    drop (length ks - length rest) ks ≡ rest
 suffix_at {r} ks rest at h e =
     let s : drop (length (drop at ks) - length rest) (drop at ks) ≡ rest = suffix e in
     let j : length rest ≤ length (drop at ks) = shorter (eaten_rule e) in

@@ -23,9 +23,12 @@ pub enum ParseFault {
 /// The fault of toks of which a reader left some: with the first of those, or the end, nothing goes on.
 pub fn fault_of(toks: &[Tok], why: ReadFault) -> ParseFault
     requires within { (left : ℕ) → why ≡ read_fault.Stuck left → left ≤ length toks.now }
-    ensures left { (index : ℕ) (rule : Rule) → result ≡ fault.At index rule → why ≡ read_fault.Stuck (length toks.now - index) }
-    ensures within { (index : ℕ) (rule : Rule) → result ≡ fault.At index rule → index ≤ length toks.now }
-    ensures rule { (index : ℕ) (rule : Rule) → result ≡ fault.At index rule → rule.0 ≡ stop_rule (ahead (drop index toks.now)) }
+    ensures left { (index : ℕ) (rule : Rule) → result ≡ fault.At index rule →
+        why ≡ read_fault.Stuck (length toks.now - index) }
+    ensures within { (index : ℕ) (rule : Rule) → result ≡ fault.At index rule →
+        index ≤ length toks.now }
+    ensures rule { (index : ℕ) (rule : Rule) → result ≡ fault.At index rule →
+        rule.0 ≡ stop_rule (ahead (drop index toks.now)) }
     ensures memory { result ≡ fault.Memory → why ≡ read_fault.Memory }
 {
     match why {

@@ -31,11 +31,14 @@ fn phrase_of<'t, F: Fn(Global, &[u8], Phrase, &[Tok]) -> Result<(Tree, usize), R
     what: Phrase,
     toks: &'t [Tok],
 ) -> Result<(Tree, &'t [Tok]), ReadFault>
-    requires nests { Nests reader.now.bytes.now reader.now.most (F.pre reader.now.nested) (F.post reader.now.nested) }
+    requires nests { Nests reader.now.bytes.now reader.now.most (F.pre reader.now.nested)
+        (F.post reader.now.nested) }
     requires within { length toks.now ≤ reader.now.most }
-    ensures spelled { IfOk result (λ r. Reads reader.now.bytes.now what toks.now (tree_of r.0) r.1.now) }
+    ensures spelled { IfOk result
+        (λ r. Reads reader.now.bytes.now what toks.now (tree_of r.0) r.1.now) }
     ensures eats { IfOk result (λ r. EatsRule (phrase what) toks.now r.1.now) }
-    ensures sticks { (left : ℕ) → IsErrOf result (read_fault.Stuck left) → SticksRule (phrase what) toks.now left }
+    ensures sticks { (left : ℕ) → IsErrOf result (read_fault.Stuck left) →
+        SticksRule (phrase what) toks.now left }
     ensures shorter { IfOk result (λ r. length r.1.now < length toks.now) }
 {
     match what {
@@ -69,7 +72,8 @@ pub fn phrase_at(
     toks: &[Tok],
 ) -> Result<(Tree, usize), ReadFault>
     ensures read { IfOk result (IsRead bytes.now what toks.now) }
-    ensures sticks { (left : ℕ) → IsErrOf result (read_fault.Stuck left) → SticksRule (phrase what) toks.now left }
+    ensures sticks { (left : ℕ) → IsErrOf result (read_fault.Stuck left) →
+        SticksRule (phrase what) toks.now left }
 {
     let reader = Reader {
         alloc,
@@ -90,7 +94,8 @@ pub fn read<'t>(
 ) -> Result<(Tree, &'t [Tok]), ReadFault>
     ensures spelled { IfOk result (λ r. Reads bytes.now what toks.now (tree_of r.0) r.1.now) }
     ensures eats { IfOk result (λ r. EatsRule (phrase what) toks.now r.1.now) }
-    ensures sticks { (left : ℕ) → IsErrOf result (read_fault.Stuck left) → SticksRule (phrase what) toks.now left }
+    ensures sticks { (left : ℕ) → IsErrOf result (read_fault.Stuck left) →
+        SticksRule (phrase what) toks.now left }
     ensures shorter { IfOk result (λ r. length r.1.now < length toks.now) }
 {
     let (expr, count) = phrase_at(alloc, bytes, what, toks)?;

@@ -40,14 +40,22 @@ pub fn ty(
     at: usize,
 ) -> Result<(Written, usize), ParseFault>
     requires { at ≤ length toks.now }
-    ensures spelled { IfOk result (λ r. IsType bytes.now (drop at toks.now) (written_of r.0) (drop r.1 toks.now)) }
+    ensures spelled { IfOk result
+        (λ r. IsType bytes.now (drop at toks.now) (written_of r.0) (drop r.1 toks.now)) }
     ensures behind { IfOk result (λ r. (at < r.1) × (r.1 ≤ length toks.now)) }
-    ensures once { IfOk result (λ r. (v : t.Written) (rest : List Tok) → IsType bytes.now (drop at toks.now) v rest → (v ≡ written_of r.0) × (rest ≡ drop r.1 toks.now)) }
-    ensures greatest { IfOk result (λ r. r.1 < length toks.now → Begins whole.a_type (take (r.1 - at + 1) (drop at toks.now)) → ⊥) }
-    ensures stops { (index : ℕ) (rule : Rule) → IsErrOf result (fault.At index rule) → Stops whole.a_type (drop at toks.now) (index - at) }
-    ensures none { (index : ℕ) (rule : Rule) → IsErrOf result (fault.At index rule) → (v : t.Written) (rest : List Tok) → IsType bytes.now (drop at toks.now) v rest → ⊥ }
-    ensures within { (index : ℕ) (rule : Rule) → IsErrOf result (fault.At index rule) → (at ≤ index) × (index ≤ length toks.now) }
-    ensures rule { (index : ℕ) (rule : Rule) → IsErrOf result (fault.At index rule) → rule.0 ≡ stop_rule (ahead (drop index toks.now)) }
+    ensures once { IfOk result (λ r. (v : t.Written) (rest : List Tok) →
+        IsType bytes.now (drop at toks.now) v rest →
+        (v ≡ written_of r.0) × (rest ≡ drop r.1 toks.now)) }
+    ensures greatest { IfOk result (λ r. r.1 < length toks.now →
+        Begins whole.a_type (take (r.1 - at + 1) (drop at toks.now)) → ⊥) }
+    ensures stops { (index : ℕ) (rule : Rule) → IsErrOf result (fault.At index rule) →
+        Stops whole.a_type (drop at toks.now) (index - at) }
+    ensures none { (index : ℕ) (rule : Rule) → IsErrOf result (fault.At index rule) →
+        (v : t.Written) (rest : List Tok) → IsType bytes.now (drop at toks.now) v rest → ⊥ }
+    ensures within { (index : ℕ) (rule : Rule) → IsErrOf result (fault.At index rule) →
+        (at ≤ index) × (index ≤ length toks.now) }
+    ensures rule { (index : ℕ) (rule : Rule) → IsErrOf result (fault.At index rule) →
+        rule.0 ≡ stop_rule (ahead (drop index toks.now)) }
 {
     type_from(alloc, bytes, toks, at)
 }
@@ -65,14 +73,21 @@ pub fn expr(
     at: usize,
 ) -> Result<(Tree, usize), ParseFault>
     requires { at ≤ length toks.now }
-    ensures spelled { IfOk result (λ r. Reads bytes.now Phrase.Expr (drop at toks.now) (tree_of r.0) (drop r.1 toks.now)) }
+    ensures spelled { IfOk result (λ r. Reads bytes.now Phrase.Expr (drop at toks.now) (tree_of r.0)
+        (drop r.1 toks.now)) }
     ensures behind { IfOk result (λ r. (at < r.1) × (r.1 ≤ length toks.now)) }
-    ensures once { IfOk result (λ r. (u : t.Tree) → Reads bytes.now Phrase.Expr (take (r.1 - at) (drop at toks.now)) u [] → u ≡ tree_of r.0) }
-    ensures greatest { IfOk result (λ r. r.1 < length toks.now → Begins (whole.a_phrase Phrase.Expr) (take (r.1 - at + 1) (drop at toks.now)) → ⊥) }
-    ensures none { (index : ℕ) (rule : Rule) → IsErrOf result (fault.At index rule) → IsWhole (whole.a_phrase Phrase.Expr) (take (index - at) (drop at toks.now)) → ⊥ }
-    ensures stops { (index : ℕ) (rule : Rule) → IsErrOf result (fault.At index rule) → Stops (whole.a_phrase Phrase.Expr) (drop at toks.now) (index - at) }
-    ensures within { (index : ℕ) (rule : Rule) → IsErrOf result (fault.At index rule) → (at ≤ index) × (index ≤ length toks.now) }
-    ensures rule { (index : ℕ) (rule : Rule) → IsErrOf result (fault.At index rule) → rule.0 ≡ stop_rule (ahead (drop index toks.now)) }
+    ensures once { IfOk result (λ r. (u : t.Tree) →
+        Reads bytes.now Phrase.Expr (take (r.1 - at) (drop at toks.now)) u [] → u ≡ tree_of r.0) }
+    ensures greatest { IfOk result (λ r. r.1 < length toks.now →
+        Begins (whole.a_phrase Phrase.Expr) (take (r.1 - at + 1) (drop at toks.now)) → ⊥) }
+    ensures none { (index : ℕ) (rule : Rule) → IsErrOf result (fault.At index rule) →
+        IsWhole (whole.a_phrase Phrase.Expr) (take (index - at) (drop at toks.now)) → ⊥ }
+    ensures stops { (index : ℕ) (rule : Rule) → IsErrOf result (fault.At index rule) →
+        Stops (whole.a_phrase Phrase.Expr) (drop at toks.now) (index - at) }
+    ensures within { (index : ℕ) (rule : Rule) → IsErrOf result (fault.At index rule) →
+        (at ≤ index) × (index ≤ length toks.now) }
+    ensures rule { (index : ℕ) (rule : Rule) → IsErrOf result (fault.At index rule) →
+        rule.0 ≡ stop_rule (ahead (drop index toks.now)) }
 {
     phrase_from(alloc, bytes, Phrase::Expr, toks, at)
 }
@@ -90,14 +105,21 @@ pub fn block(
     at: usize,
 ) -> Result<(Tree, usize), ParseFault>
     requires { at ≤ length toks.now }
-    ensures spelled { IfOk result (λ r. Reads bytes.now Phrase.Block (drop at toks.now) (tree_of r.0) (drop r.1 toks.now)) }
+    ensures spelled { IfOk result
+        (λ r. Reads bytes.now Phrase.Block (drop at toks.now) (tree_of r.0) (drop r.1 toks.now)) }
     ensures behind { IfOk result (λ r. (at < r.1) × (r.1 ≤ length toks.now)) }
-    ensures once { IfOk result (λ r. (u : t.Tree) → Reads bytes.now Phrase.Block (take (r.1 - at) (drop at toks.now)) u [] → u ≡ tree_of r.0) }
-    ensures greatest { IfOk result (λ r. r.1 < length toks.now → Begins (whole.a_phrase Phrase.Block) (take (r.1 - at + 1) (drop at toks.now)) → ⊥) }
-    ensures none { (index : ℕ) (rule : Rule) → IsErrOf result (fault.At index rule) → IsWhole (whole.a_phrase Phrase.Block) (take (index - at) (drop at toks.now)) → ⊥ }
-    ensures stops { (index : ℕ) (rule : Rule) → IsErrOf result (fault.At index rule) → Stops (whole.a_phrase Phrase.Block) (drop at toks.now) (index - at) }
-    ensures within { (index : ℕ) (rule : Rule) → IsErrOf result (fault.At index rule) → (at ≤ index) × (index ≤ length toks.now) }
-    ensures rule { (index : ℕ) (rule : Rule) → IsErrOf result (fault.At index rule) → rule.0 ≡ stop_rule (ahead (drop index toks.now)) }
+    ensures once { IfOk result (λ r. (u : t.Tree) →
+        Reads bytes.now Phrase.Block (take (r.1 - at) (drop at toks.now)) u [] → u ≡ tree_of r.0) }
+    ensures greatest { IfOk result (λ r. r.1 < length toks.now →
+        Begins (whole.a_phrase Phrase.Block) (take (r.1 - at + 1) (drop at toks.now)) → ⊥) }
+    ensures none { (index : ℕ) (rule : Rule) → IsErrOf result (fault.At index rule) →
+        IsWhole (whole.a_phrase Phrase.Block) (take (index - at) (drop at toks.now)) → ⊥ }
+    ensures stops { (index : ℕ) (rule : Rule) → IsErrOf result (fault.At index rule) →
+        Stops (whole.a_phrase Phrase.Block) (drop at toks.now) (index - at) }
+    ensures within { (index : ℕ) (rule : Rule) → IsErrOf result (fault.At index rule) →
+        (at ≤ index) × (index ≤ length toks.now) }
+    ensures rule { (index : ℕ) (rule : Rule) → IsErrOf result (fault.At index rule) →
+        rule.0 ≡ stop_rule (ahead (drop index toks.now)) }
 {
     phrase_from(alloc, bytes, Phrase::Block, toks, at)
 }
@@ -111,12 +133,16 @@ fn type_from(
     at: usize,
 ) -> Result<(Written, usize), ParseFault>
     requires { at ≤ length toks.now }
-    ensures spelled { IfOk result (λ r. IsType bytes.now (drop at toks.now) (written_of r.0) (drop r.1 toks.now)) }
+    ensures spelled { IfOk result
+        (λ r. IsType bytes.now (drop at toks.now) (written_of r.0) (drop r.1 toks.now)) }
     ensures eats { IfOk result (λ r. EatsRule a_type (drop at toks.now) (drop r.1 toks.now)) }
     ensures behind { IfOk result (λ r. (at < r.1) × (r.1 ≤ length toks.now)) }
-    ensures stuck { (index : ℕ) (rule : Rule) → IsErrOf result (fault.At index rule) → SticksRule a_type (drop at toks.now) (length toks.now - index) }
-    ensures within { (index : ℕ) (rule : Rule) → IsErrOf result (fault.At index rule) → (at ≤ index) × (index ≤ length toks.now) }
-    ensures rule { (index : ℕ) (rule : Rule) → IsErrOf result (fault.At index rule) → rule.0 ≡ stop_rule (ahead (drop index toks.now)) }
+    ensures stuck { (index : ℕ) (rule : Rule) → IsErrOf result (fault.At index rule) →
+        SticksRule a_type (drop at toks.now) (length toks.now - index) }
+    ensures within { (index : ℕ) (rule : Rule) → IsErrOf result (fault.At index rule) →
+        (at ≤ index) × (index ≤ length toks.now) }
+    ensures rule { (index : ℕ) (rule : Rule) → IsErrOf result (fault.At index rule) →
+        rule.0 ≡ stop_rule (ahead (drop index toks.now)) }
 {
     match type_at(alloc, bytes, behind(toks, at)) {
         Ok((ty, rest)) => Ok((ty, toks.len() - rest.len())),
@@ -134,12 +160,17 @@ fn phrase_from(
     at: usize,
 ) -> Result<(Tree, usize), ParseFault>
     requires { at ≤ length toks.now }
-    ensures spelled { IfOk result (λ r. Reads bytes.now what (drop at toks.now) (tree_of r.0) (drop r.1 toks.now)) }
-    ensures eats { IfOk result (λ r. EatsRule (phrase what) (drop at toks.now) (drop r.1 toks.now)) }
+    ensures spelled { IfOk result
+        (λ r. Reads bytes.now what (drop at toks.now) (tree_of r.0) (drop r.1 toks.now)) }
+    ensures eats { IfOk result (λ r. EatsRule (phrase what) (drop at toks.now)
+        (drop r.1 toks.now)) }
     ensures behind { IfOk result (λ r. (at < r.1) × (r.1 ≤ length toks.now)) }
-    ensures stuck { (index : ℕ) (rule : Rule) → IsErrOf result (fault.At index rule) → SticksRule (phrase what) (drop at toks.now) (length toks.now - index) }
-    ensures within { (index : ℕ) (rule : Rule) → IsErrOf result (fault.At index rule) → (at ≤ index) × (index ≤ length toks.now) }
-    ensures rule { (index : ℕ) (rule : Rule) → IsErrOf result (fault.At index rule) → rule.0 ≡ stop_rule (ahead (drop index toks.now)) }
+    ensures stuck { (index : ℕ) (rule : Rule) → IsErrOf result (fault.At index rule) →
+        SticksRule (phrase what) (drop at toks.now) (length toks.now - index) }
+    ensures within { (index : ℕ) (rule : Rule) → IsErrOf result (fault.At index rule) →
+        (at ≤ index) × (index ≤ length toks.now) }
+    ensures rule { (index : ℕ) (rule : Rule) → IsErrOf result (fault.At index rule) →
+        rule.0 ≡ stop_rule (ahead (drop index toks.now)) }
 {
     match read(alloc, bytes, what, behind(toks, at)) {
         Ok((expr, rest)) => Ok((expr, toks.len() - rest.len())),

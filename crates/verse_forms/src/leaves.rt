@@ -44,9 +44,11 @@ pub fn leaf_form<'t, F: Fn(Global, &[u8], Phrase, &[Tok]) -> Result<(Tree, usize
     toks: &'t [Tok],
 ) -> Result<(Tree, &'t [Tok]), ReadFault>
     requires start { primary_start tok.kind ≡ Some (leaf_start leaf) }
-    ensures spelled { IfOk result (λ r. Reads reader.now.bytes.now Phrase.Primary (tok ∷ toks.now) (tree_of r.0) r.1.now) }
+    ensures spelled { IfOk result (λ r. Reads reader.now.bytes.now Phrase.Primary (tok ∷ toks.now)
+        (tree_of r.0) r.1.now) }
     ensures eats { IfOk result (λ r. EatsRule (phrase Phrase.Primary) (tok ∷ toks.now) r.1.now) }
-    ensures sticks { (left : ℕ) → IsErrOf result (read_fault.Stuck left) → SticksRule (phrase Phrase.Primary) (tok ∷ toks.now) left }
+    ensures sticks { (left : ℕ) → IsErrOf result (read_fault.Stuck left) →
+        SticksRule (phrase Phrase.Primary) (tok ∷ toks.now) left }
     ensures shorter { IfOk result (λ r. length r.1.now ≤ length toks.now) }
 {
     Ok((leaf_node(reader.alloc, reader.bytes, leaf, tok)?, toks))

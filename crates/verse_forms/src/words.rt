@@ -9,7 +9,8 @@ ghost use Rattle.verse_grammar.specs.Starts.{primary_start};
 ghost use Rattle.verse_grammar.specs.Symbols.{phrase};
 ghost use Rattle.verse_grammar.specs.Reading.{EatsRule, SticksRule};
 ghost use Rattle.verse_grammar.specs.declared.phrases.Phrase.{Phrase};
-ghost use Rattle.verse_forms.specs.Words.{list_start, list_rule, list_shape, IsList, body_start, body_shape};
+ghost use Rattle.verse_forms.specs.Words.{list_start, list_rule, list_shape, IsList, body_start};
+ghost use Rattle.verse_forms.specs.Words.{body_shape};
 ghost use Rattle.verse_reading.specs.Nests.{Nests};
 ghost use Rattle.verse_reading.specs.declared.steps.ReadFault.TheVariants as read_fault;
 
@@ -51,12 +52,15 @@ pub fn list_form<'t, F: Fn(Global, &[u8], Phrase, &[Tok]) -> Result<(Tree, usize
     tok: Tok,
     toks: &'t [Tok],
 ) -> Result<(Tree, &'t [Tok]), ReadFault>
-    requires nests { Nests reader.now.bytes.now reader.now.most (F.pre reader.now.nested) (F.post reader.now.nested) }
+    requires nests { Nests reader.now.bytes.now reader.now.most (F.pre reader.now.nested)
+        (F.post reader.now.nested) }
     requires fewer { length toks.now < reader.now.most }
     requires start { primary_start tok.kind ≡ Some (list_start word) }
-    ensures spelled { IfOk result (λ r. Reads reader.now.bytes.now Phrase.Primary (tok ∷ toks.now) (tree_of r.0) r.1.now) }
+    ensures spelled { IfOk result (λ r. Reads reader.now.bytes.now Phrase.Primary (tok ∷ toks.now)
+        (tree_of r.0) r.1.now) }
     ensures eats { IfOk result (λ r. EatsRule (phrase Phrase.Primary) (tok ∷ toks.now) r.1.now) }
-    ensures sticks { (left : ℕ) → IsErrOf result (read_fault.Stuck left) → SticksRule (phrase Phrase.Primary) (tok ∷ toks.now) left }
+    ensures sticks { (left : ℕ) → IsErrOf result (read_fault.Stuck left) →
+        SticksRule (phrase Phrase.Primary) (tok ∷ toks.now) left }
     ensures shorter { IfOk result (λ r. length r.1.now ≤ length toks.now) }
 {
     let (_, behind) = expect(toks, Fixed::Open)?;
@@ -70,11 +74,14 @@ fn list_behind<'t, F: Fn(Global, &[u8], Phrase, &[Tok]) -> Result<(Tree, usize),
     word: ListWord,
     toks: &'t [Tok],
 ) -> Result<(Trees, &'t [Tok]), ReadFault>
-    requires nests { Nests reader.now.bytes.now reader.now.most (F.pre reader.now.nested) (F.post reader.now.nested) }
+    requires nests { Nests reader.now.bytes.now reader.now.most (F.pre reader.now.nested)
+        (F.post reader.now.nested) }
     requires fewer { length toks.now < reader.now.most }
-    ensures spelled { IfOk result (λ r. IsList reader.now.bytes.now word toks.now (map tree_of r.0) r.1.now) }
+    ensures spelled { IfOk result
+        (λ r. IsList reader.now.bytes.now word toks.now (map tree_of r.0) r.1.now) }
     ensures eats { IfOk result (λ r. EatsRule (list_rule word) toks.now r.1.now) }
-    ensures sticks { (left : ℕ) → IsErrOf result (read_fault.Stuck left) → SticksRule (list_rule word) toks.now left }
+    ensures sticks { (left : ℕ) → IsErrOf result (read_fault.Stuck left) →
+        SticksRule (list_rule word) toks.now left }
     ensures shorter { IfOk result (λ r. length r.1.now < length toks.now) }
 {
     match word {
@@ -89,7 +96,8 @@ fn list_behind<'t, F: Fn(Global, &[u8], Phrase, &[Tok]) -> Result<(Tree, usize),
 
 /// The node of a word with a list.
 fn list_node(alloc: Global, word: ListWord, place: Place, parts: Trees) -> Result<Tree, Memory>
-    ensures { IfOk result (λ r. tree_of r ≡ tree 0 place (list_shape word (trees (map tree_of parts)))) }
+    ensures { IfOk result (λ r. tree_of r ≡
+        tree 0 place (list_shape word (trees (map tree_of parts)))) }
 {
     match word {
         ListWord::Array => literals::array(alloc, place, parts),
@@ -109,12 +117,15 @@ pub fn body_form<'t, F: Fn(Global, &[u8], Phrase, &[Tok]) -> Result<(Tree, usize
     tok: Tok,
     toks: &'t [Tok],
 ) -> Result<(Tree, &'t [Tok]), ReadFault>
-    requires nests { Nests reader.now.bytes.now reader.now.most (F.pre reader.now.nested) (F.post reader.now.nested) }
+    requires nests { Nests reader.now.bytes.now reader.now.most (F.pre reader.now.nested)
+        (F.post reader.now.nested) }
     requires fewer { length toks.now < reader.now.most }
     requires start { primary_start tok.kind ≡ Some (body_start word) }
-    ensures spelled { IfOk result (λ r. Reads reader.now.bytes.now Phrase.Primary (tok ∷ toks.now) (tree_of r.0) r.1.now) }
+    ensures spelled { IfOk result (λ r. Reads reader.now.bytes.now Phrase.Primary (tok ∷ toks.now)
+        (tree_of r.0) r.1.now) }
     ensures eats { IfOk result (λ r. EatsRule (phrase Phrase.Primary) (tok ∷ toks.now) r.1.now) }
-    ensures sticks { (left : ℕ) → IsErrOf result (read_fault.Stuck left) → SticksRule (phrase Phrase.Primary) (tok ∷ toks.now) left }
+    ensures sticks { (left : ℕ) → IsErrOf result (read_fault.Stuck left) →
+        SticksRule (phrase Phrase.Primary) (tok ∷ toks.now) left }
     ensures shorter { IfOk result (λ r. length r.1.now ≤ length toks.now) }
 {
     let (body, rest) = reader.inner(Phrase::Block, toks)?;

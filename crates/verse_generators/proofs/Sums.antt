@@ -7,7 +7,8 @@ use Rattle.verse_grammar.specs.declared.phrases.Phrase.TheVariants as p
 use Rattle.verse_levels.specs.Compares.{Compares, alone, with_another}
 use Rattle.verse_generators.specs.Behind.{ExprBehind, behind}
 
-compared : {b : List ℕ} {ks ls rest : List Tok} {e f : Tree} → Reads b p.Sum ks e ls → Compares b e ls f rest → Reads b p.Comparison ks f rest
+compared : {b : List ℕ} {ks ls rest : List Tok} {e f : Tree} → Reads b p.Sum ks e ls → Compares b e ls f rest →
+    Reads b p.Comparison ks f rest
 compared s alone = comparison_sum s
 compared s (with_another h r) = comparison_two s h r
 

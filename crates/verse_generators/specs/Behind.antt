@@ -11,7 +11,8 @@ use Rattle.verse_levels.specs.Compares.{Compares}
 
 -- behind a sum: a comparison, and what `and` and then `or` join to it
 pub data ExprBehind (b : List ℕ) (left : Tree) : List Tok → Tree → List Tok → Type 0 where
-  behind : {ks ls ms rest : List Tok} {e f g : Tree} → Compares b left ks e ls → Chain b p.And e ls f ms → Chain b p.Or f ms g rest → ExprBehind b left ks g rest
+  behind : {ks ls ms rest : List Tok} {e f g : Tree} → Compares b left ks e ls → Chain b p.And e ls f ms → Chain b p.Or f ms g rest →
+      ExprBehind b left ks g rest
 
 -- behind the start of a range: its end
 pub data EndsRange (b : List ℕ) : List Tok → Tree → List Tok → Type 0 where

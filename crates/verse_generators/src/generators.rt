@@ -7,7 +7,8 @@ ghost use Rattle.verse_lex.specs.declared.tokens.Word.TheVariants as w;
 ghost use Rattle.verse_tree.specs.View.{tree_of};
 ghost use Rattle.verse_grammar.specs.Exprs.{Reads};
 ghost use Rattle.verse_grammar.specs.Toks.{ahead, mark, name, word};
-ghost use Rattle.verse_grammar.specs.Symbols.{phrase, generator_rest, entries_rest, clause_value, range_rest};
+ghost use Rattle.verse_grammar.specs.Symbols.{phrase, generator_rest, entries_rest, clause_value};
+ghost use Rattle.verse_grammar.specs.Symbols.{range_rest};
 ghost use Rattle.verse_grammar.specs.Starts.{stmt_start};
 ghost use Rattle.verse_grammar.specs.Reading.{Eats, EatsRule, Sticks, SticksRule};
 ghost use Rattle.verse_grammar.specs.declared.phrases.Phrase.{Phrase};
@@ -35,11 +36,14 @@ pub fn generator<'t, F: Fn(Global, &[u8], Phrase, &[Tok]) -> Result<(Tree, usize
     reader: &Reader<'_, F>,
     toks: &'t [Tok],
 ) -> Result<(Tree, &'t [Tok]), ReadFault>
-    requires nests { Nests reader.now.bytes.now reader.now.most (F.pre reader.now.nested) (F.post reader.now.nested) }
+    requires nests { Nests reader.now.bytes.now reader.now.most (F.pre reader.now.nested)
+        (F.post reader.now.nested) }
     requires within { length toks.now ≤ reader.now.most }
-    ensures spelled { IfOk result (λ r. Reads reader.now.bytes.now Phrase.Generator toks.now (tree_of r.0) r.1.now) }
+    ensures spelled { IfOk result
+        (λ r. Reads reader.now.bytes.now Phrase.Generator toks.now (tree_of r.0) r.1.now) }
     ensures eats { IfOk result (λ r. EatsRule (phrase Phrase.Generator) toks.now r.1.now) }
-    ensures sticks { (left : ℕ) → IsErrOf result (read_fault.Stuck left) → SticksRule (phrase Phrase.Generator) toks.now left }
+    ensures sticks { (left : ℕ) → IsErrOf result (read_fault.Stuck left) →
+        SticksRule (phrase Phrase.Generator) toks.now left }
     ensures shorter { IfOk result (λ r. length r.1.now < length toks.now) }
 {
     let (tok, rest) = expect(toks, Fixed::Name)?;
@@ -53,12 +57,15 @@ fn generated<'t, F: Fn(Global, &[u8], Phrase, &[Tok]) -> Result<(Tree, usize), R
     tok: Tok,
     toks: &'t [Tok],
 ) -> Result<(Tree, &'t [Tok]), ReadFault>
-    requires nests { Nests reader.now.bytes.now reader.now.most (F.pre reader.now.nested) (F.post reader.now.nested) }
+    requires nests { Nests reader.now.bytes.now reader.now.most (F.pre reader.now.nested)
+        (F.post reader.now.nested) }
     requires fewer { length toks.now < reader.now.most }
     requires start { tok.kind ≡ name }
-    ensures spelled { IfOk result (λ r. Reads reader.now.bytes.now Phrase.Generator (tok ∷ toks.now) (tree_of r.0) r.1.now) }
+    ensures spelled { IfOk result (λ r. Reads reader.now.bytes.now Phrase.Generator (tok ∷ toks.now)
+        (tree_of r.0) r.1.now) }
     ensures eats { IfOk result (λ r. EatsRule generator_rest toks.now r.1.now) }
-    ensures sticks { (left : ℕ) → IsErrOf result (read_fault.Stuck left) → SticksRule generator_rest toks.now left }
+    ensures sticks { (left : ℕ) → IsErrOf result (read_fault.Stuck left) →
+        SticksRule generator_rest toks.now left }
     ensures shorter { IfOk result (λ r. length r.1.now < length toks.now) }
 {
     if let Some((colon, rest)) = take(toks, Fixed::Colon) {
@@ -81,13 +88,17 @@ fn elements<'t, F: Fn(Global, &[u8], Phrase, &[Tok]) -> Result<(Tree, usize), Re
     colon: Tok,
     toks: &'t [Tok],
 ) -> Result<(Tree, &'t [Tok]), ReadFault>
-    requires nests { Nests reader.now.bytes.now reader.now.most (F.pre reader.now.nested) (F.post reader.now.nested) }
+    requires nests { Nests reader.now.bytes.now reader.now.most (F.pre reader.now.nested)
+        (F.post reader.now.nested) }
     requires fewer { length toks.now < reader.now.most }
     requires start { tok.kind ≡ name }
     requires colon { colon.kind ≡ mark m.Colon }
-    ensures spelled { IfOk result (λ r. Reads reader.now.bytes.now Phrase.Generator (tok ∷ colon ∷ toks.now) (tree_of r.0) r.1.now) }
+    ensures spelled { IfOk result
+        (λ r. Reads reader.now.bytes.now Phrase.Generator (tok ∷ colon ∷ toks.now)
+        (tree_of r.0) r.1.now) }
     ensures eats { IfOk result (λ r. EatsRule (phrase Phrase.Sum) toks.now r.1.now) }
-    ensures sticks { (left : ℕ) → IsErrOf result (read_fault.Stuck left) → SticksRule (phrase Phrase.Sum) toks.now left }
+    ensures sticks { (left : ℕ) → IsErrOf result (read_fault.Stuck left) →
+        SticksRule (phrase Phrase.Sum) toks.now left }
     ensures shorter { IfOk result (λ r. length r.1.now < length toks.now) }
 {
     let name = name_of(reader.alloc, reader.bytes, tok)?;
@@ -106,13 +117,17 @@ fn entries<'t, F: Fn(Global, &[u8], Phrase, &[Tok]) -> Result<(Tree, usize), Rea
     arrow: Tok,
     toks: &'t [Tok],
 ) -> Result<(Tree, &'t [Tok]), ReadFault>
-    requires nests { Nests reader.now.bytes.now reader.now.most (F.pre reader.now.nested) (F.post reader.now.nested) }
+    requires nests { Nests reader.now.bytes.now reader.now.most (F.pre reader.now.nested)
+        (F.post reader.now.nested) }
     requires fewer { length toks.now < reader.now.most }
     requires start { tok.kind ≡ name }
     requires arrow { arrow.kind ≡ mark m.Arrow }
-    ensures spelled { IfOk result (λ r. Reads reader.now.bytes.now Phrase.Generator (tok ∷ arrow ∷ toks.now) (tree_of r.0) r.1.now) }
+    ensures spelled { IfOk result
+        (λ r. Reads reader.now.bytes.now Phrase.Generator (tok ∷ arrow ∷ toks.now)
+        (tree_of r.0) r.1.now) }
     ensures eats { IfOk result (λ r. EatsRule entries_rest toks.now r.1.now) }
-    ensures sticks { (left : ℕ) → IsErrOf result (read_fault.Stuck left) → SticksRule entries_rest toks.now left }
+    ensures sticks { (left : ℕ) → IsErrOf result (read_fault.Stuck left) →
+        SticksRule entries_rest toks.now left }
     ensures shorter { IfOk result (λ r. length r.1.now < length toks.now) }
 {
     let (second, rest) = expect(toks, Fixed::Name)?;
@@ -128,14 +143,18 @@ fn entries_of<'t, F: Fn(Global, &[u8], Phrase, &[Tok]) -> Result<(Tree, usize), 
     second: Tok,
     toks: &'t [Tok],
 ) -> Result<(Tree, &'t [Tok]), ReadFault>
-    requires nests { Nests reader.now.bytes.now reader.now.most (F.pre reader.now.nested) (F.post reader.now.nested) }
+    requires nests { Nests reader.now.bytes.now reader.now.most (F.pre reader.now.nested)
+        (F.post reader.now.nested) }
     requires fewer { length toks.now < reader.now.most }
     requires start { tok.kind ≡ name }
     requires arrow { arrow.kind ≡ mark m.Arrow }
     requires second { second.kind ≡ name }
-    ensures spelled { IfOk result (λ r. Reads reader.now.bytes.now Phrase.Generator (tok ∷ arrow ∷ second ∷ toks.now) (tree_of r.0) r.1.now) }
+    ensures spelled { IfOk result
+        (λ r. Reads reader.now.bytes.now Phrase.Generator (tok ∷ arrow ∷ second ∷ toks.now)
+        (tree_of r.0) r.1.now) }
     ensures eats { IfOk result (λ r. EatsRule entries_rest (second ∷ toks.now) r.1.now) }
-    ensures sticks { (left : ℕ) → IsErrOf result (read_fault.Stuck left) → SticksRule entries_rest (second ∷ toks.now) left }
+    ensures sticks { (left : ℕ) → IsErrOf result (read_fault.Stuck left) →
+        SticksRule entries_rest (second ∷ toks.now) left }
     ensures shorter { IfOk result (λ r. length r.1.now < length toks.now) }
 {
     let (_, rest) = expect(toks, Fixed::Colon)?;
@@ -156,13 +175,17 @@ fn range<'t, F: Fn(Global, &[u8], Phrase, &[Tok]) -> Result<(Tree, usize), ReadF
     define: Tok,
     toks: &'t [Tok],
 ) -> Result<(Tree, &'t [Tok]), ReadFault>
-    requires nests { Nests reader.now.bytes.now reader.now.most (F.pre reader.now.nested) (F.post reader.now.nested) }
+    requires nests { Nests reader.now.bytes.now reader.now.most (F.pre reader.now.nested)
+        (F.post reader.now.nested) }
     requires fewer { length toks.now < reader.now.most }
     requires start { tok.kind ≡ name }
     requires define { define.kind ≡ mark m.Define }
-    ensures spelled { IfOk result (λ r. Reads reader.now.bytes.now Phrase.Generator (tok ∷ define ∷ toks.now) (tree_of r.0) r.1.now) }
+    ensures spelled { IfOk result
+        (λ r. Reads reader.now.bytes.now Phrase.Generator (tok ∷ define ∷ toks.now)
+        (tree_of r.0) r.1.now) }
     ensures eats { IfOk result (λ r. EatsRule generator_rest (define ∷ toks.now) r.1.now) }
-    ensures sticks { (left : ℕ) → IsErrOf result (read_fault.Stuck left) → SticksRule generator_rest (define ∷ toks.now) left }
+    ensures sticks { (left : ℕ) → IsErrOf result (read_fault.Stuck left) →
+        SticksRule generator_rest (define ∷ toks.now) left }
     ensures shorter { IfOk result (λ r. length r.1.now < length toks.now) }
 {
     let name = name_of(reader.alloc, reader.bytes, tok)?;
@@ -180,11 +203,14 @@ fn highest<'t, F: Fn(Global, &[u8], Phrase, &[Tok]) -> Result<(Tree, usize), Rea
     reader: &Reader<'_, F>,
     toks: &'t [Tok],
 ) -> Result<(Tree, &'t [Tok]), ReadFault>
-    requires nests { Nests reader.now.bytes.now reader.now.most (F.pre reader.now.nested) (F.post reader.now.nested) }
+    requires nests { Nests reader.now.bytes.now reader.now.most (F.pre reader.now.nested)
+        (F.post reader.now.nested) }
     requires fewer { length toks.now < reader.now.most }
-    ensures spelled { IfOk result (λ r. EndsRange reader.now.bytes.now toks.now (tree_of r.0) r.1.now) }
+    ensures spelled { IfOk result
+        (λ r. EndsRange reader.now.bytes.now toks.now (tree_of r.0) r.1.now) }
     ensures eats { IfOk result (λ r. Eats end_symbols toks.now r.1.now) }
-    ensures sticks { (left : ℕ) → IsErrOf result (read_fault.Stuck left) → Sticks end_symbols toks.now left }
+    ensures sticks { (left : ℕ) → IsErrOf result (read_fault.Stuck left) →
+        Sticks end_symbols toks.now left }
     ensures shorter { IfOk result (λ r. length r.1.now < length toks.now) }
 {
     let (_, rest) = expect(toks, Fixed::DotDot)?;
@@ -197,11 +223,14 @@ pub fn clause<'t, F: Fn(Global, &[u8], Phrase, &[Tok]) -> Result<(Tree, usize), 
     reader: &Reader<'_, F>,
     toks: &'t [Tok],
 ) -> Result<(Tree, &'t [Tok]), ReadFault>
-    requires nests { Nests reader.now.bytes.now reader.now.most (F.pre reader.now.nested) (F.post reader.now.nested) }
+    requires nests { Nests reader.now.bytes.now reader.now.most (F.pre reader.now.nested)
+        (F.post reader.now.nested) }
     requires within { length toks.now ≤ reader.now.most }
-    ensures spelled { IfOk result (λ r. Reads reader.now.bytes.now Phrase.Clause toks.now (tree_of r.0) r.1.now) }
+    ensures spelled { IfOk result
+        (λ r. Reads reader.now.bytes.now Phrase.Clause toks.now (tree_of r.0) r.1.now) }
     ensures eats { IfOk result (λ r. EatsRule (phrase Phrase.Clause) toks.now r.1.now) }
-    ensures sticks { (left : ℕ) → IsErrOf result (read_fault.Stuck left) → SticksRule (phrase Phrase.Clause) toks.now left }
+    ensures sticks { (left : ℕ) → IsErrOf result (read_fault.Stuck left) →
+        SticksRule (phrase Phrase.Clause) toks.now left }
     ensures shorter { IfOk result (λ r. length r.1.now < length toks.now) }
 {
     let Some((tok, rest)) = next(toks) else {
@@ -225,13 +254,16 @@ fn named_clause<'t, F: Fn(Global, &[u8], Phrase, &[Tok]) -> Result<(Tree, usize)
     toks: &'t [Tok],
     all: &'t [Tok],
 ) -> Result<(Tree, &'t [Tok]), ReadFault>
-    requires nests { Nests reader.now.bytes.now reader.now.most (F.pre reader.now.nested) (F.post reader.now.nested) }
+    requires nests { Nests reader.now.bytes.now reader.now.most (F.pre reader.now.nested)
+        (F.post reader.now.nested) }
     requires fewer { length toks.now < reader.now.most }
     requires start { stmt_start tok.kind ≡ Some StmtStart.Name }
     requires all { all.now ≡ tok ∷ toks.now }
-    ensures spelled { IfOk result (λ r. Reads reader.now.bytes.now Phrase.Clause (tok ∷ toks.now) (tree_of r.0) r.1.now) }
+    ensures spelled { IfOk result
+        (λ r. Reads reader.now.bytes.now Phrase.Clause (tok ∷ toks.now) (tree_of r.0) r.1.now) }
     ensures eats { IfOk result (λ r. EatsRule (phrase Phrase.Clause) (tok ∷ toks.now) r.1.now) }
-    ensures sticks { (left : ℕ) → IsErrOf result (read_fault.Stuck left) → SticksRule (phrase Phrase.Clause) (tok ∷ toks.now) left }
+    ensures sticks { (left : ℕ) → IsErrOf result (read_fault.Stuck left) →
+        SticksRule (phrase Phrase.Clause) (tok ∷ toks.now) left }
     ensures shorter { IfOk result (λ r. length r.1.now < length all.now) }
 {
     if let Some((define, rest)) = take(toks, Fixed::Define) {
@@ -254,13 +286,17 @@ fn defined_clause<'t, F: Fn(Global, &[u8], Phrase, &[Tok]) -> Result<(Tree, usiz
     define: Tok,
     toks: &'t [Tok],
 ) -> Result<(Tree, &'t [Tok]), ReadFault>
-    requires nests { Nests reader.now.bytes.now reader.now.most (F.pre reader.now.nested) (F.post reader.now.nested) }
+    requires nests { Nests reader.now.bytes.now reader.now.most (F.pre reader.now.nested)
+        (F.post reader.now.nested) }
     requires fewer { length toks.now < reader.now.most }
     requires start { tok.kind ≡ name }
     requires define { define.kind ≡ mark m.Define }
-    ensures spelled { IfOk result (λ r. Reads reader.now.bytes.now Phrase.Clause (tok ∷ define ∷ toks.now) (tree_of r.0) r.1.now) }
+    ensures spelled { IfOk result
+        (λ r. Reads reader.now.bytes.now Phrase.Clause (tok ∷ define ∷ toks.now)
+        (tree_of r.0) r.1.now) }
     ensures eats { IfOk result (λ r. EatsRule clause_value toks.now r.1.now) }
-    ensures sticks { (left : ℕ) → IsErrOf result (read_fault.Stuck left) → SticksRule clause_value toks.now left }
+    ensures sticks { (left : ℕ) → IsErrOf result (read_fault.Stuck left) →
+        SticksRule clause_value toks.now left }
     ensures shorter { IfOk result (λ r. length r.1.now < length toks.now) }
 {
     if let Some((word, rest)) = take(toks, Fixed::If) {
@@ -285,14 +321,18 @@ fn denied_clause<'t, F: Fn(Global, &[u8], Phrase, &[Tok]) -> Result<(Tree, usize
     define: Tok,
     toks: &'t [Tok],
 ) -> Result<(Tree, &'t [Tok]), ReadFault>
-    requires nests { Nests reader.now.bytes.now reader.now.most (F.pre reader.now.nested) (F.post reader.now.nested) }
+    requires nests { Nests reader.now.bytes.now reader.now.most (F.pre reader.now.nested)
+        (F.post reader.now.nested) }
     requires fewer { length toks.now < reader.now.most }
     requires start { tok.kind ≡ name }
     requires define { define.kind ≡ mark m.Define }
     requires word { ahead toks.now ≡ Some (word w.Not) }
-    ensures spelled { IfOk result (λ r. Reads reader.now.bytes.now Phrase.Clause (tok ∷ define ∷ toks.now) (tree_of r.0) r.1.now) }
+    ensures spelled { IfOk result
+        (λ r. Reads reader.now.bytes.now Phrase.Clause (tok ∷ define ∷ toks.now)
+        (tree_of r.0) r.1.now) }
     ensures eats { IfOk result (λ r. EatsRule clause_value toks.now r.1.now) }
-    ensures sticks { (left : ℕ) → IsErrOf result (read_fault.Stuck left) → SticksRule clause_value toks.now left }
+    ensures sticks { (left : ℕ) → IsErrOf result (read_fault.Stuck left) →
+        SticksRule clause_value toks.now left }
     ensures shorter { IfOk result (λ r. length r.1.now < length toks.now) }
 {
     let name = name_of(reader.alloc, reader.bytes, tok)?;
@@ -311,15 +351,19 @@ fn sum_clause<'t, F: Fn(Global, &[u8], Phrase, &[Tok]) -> Result<(Tree, usize), 
     define: Tok,
     toks: &'t [Tok],
 ) -> Result<(Tree, &'t [Tok]), ReadFault>
-    requires nests { Nests reader.now.bytes.now reader.now.most (F.pre reader.now.nested) (F.post reader.now.nested) }
+    requires nests { Nests reader.now.bytes.now reader.now.most (F.pre reader.now.nested)
+        (F.post reader.now.nested) }
     requires fewer { length toks.now < reader.now.most }
     requires start { tok.kind ≡ name }
     requires define { define.kind ≡ mark m.Define }
     requires no_if { ahead toks.now ≢ Some (word w.If) }
     requires no_not { ahead toks.now ≢ Some (word w.Not) }
-    ensures spelled { IfOk result (λ r. Reads reader.now.bytes.now Phrase.Clause (tok ∷ define ∷ toks.now) (tree_of r.0) r.1.now) }
+    ensures spelled { IfOk result
+        (λ r. Reads reader.now.bytes.now Phrase.Clause (tok ∷ define ∷ toks.now)
+        (tree_of r.0) r.1.now) }
     ensures eats { IfOk result (λ r. EatsRule clause_value toks.now r.1.now) }
-    ensures sticks { (left : ℕ) → IsErrOf result (read_fault.Stuck left) → SticksRule clause_value toks.now left }
+    ensures sticks { (left : ℕ) → IsErrOf result (read_fault.Stuck left) →
+        SticksRule clause_value toks.now left }
     ensures shorter { IfOk result (λ r. length r.1.now < length toks.now) }
 {
     let name = name_of(reader.alloc, reader.bytes, tok)?;
@@ -349,12 +393,15 @@ fn behind_sum<'t, F: Fn(Global, &[u8], Phrase, &[Tok]) -> Result<(Tree, usize), 
     left: Tree,
     toks: &'t [Tok],
 ) -> Result<(Tree, &'t [Tok]), ReadFault>
-    requires nests { Nests reader.now.bytes.now reader.now.most (F.pre reader.now.nested) (F.post reader.now.nested) }
+    requires nests { Nests reader.now.bytes.now reader.now.most (F.pre reader.now.nested)
+        (F.post reader.now.nested) }
     requires fewer { length toks.now < reader.now.most }
     requires other { ahead toks.now ≢ Some (mark m.DotDot) }
-    ensures spelled { IfOk result (λ r. ExprBehind reader.now.bytes.now (tree_of left) toks.now (tree_of r.0) r.1.now) }
+    ensures spelled { IfOk result
+        (λ r. ExprBehind reader.now.bytes.now (tree_of left) toks.now (tree_of r.0) r.1.now) }
     ensures eats { IfOk result (λ r. EatsRule range_rest toks.now r.1.now) }
-    ensures sticks { (left : ℕ) → IsErrOf result (read_fault.Stuck left) → SticksRule range_rest toks.now left }
+    ensures sticks { (left : ℕ) → IsErrOf result (read_fault.Stuck left) →
+        SticksRule range_rest toks.now left }
     ensures shorter { IfOk result (λ r. length r.1.now ≤ length toks.now) }
 {
     let (compared, rest) = comparison_tail(reader, left, toks)?;

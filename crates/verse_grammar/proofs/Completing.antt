@@ -8,12 +8,40 @@ use Rattle.verse_grammar.specs.Begins.{Whole, a_type, a_phrase, a_program, IsWho
 use Rattle.verse_grammar.specs.Wholes.{rule_of}
 use Rattle.verse_grammar.specs.Symbols.{Rule, Symbol, Move, a, rule, predict, takes, becomes, refuses}
 use Rattle.verse_grammar.specs.Symbols as s
-use Rattle.verse_grammar.specs.Reading.{Eats, eats_none, eats_tok, eats_rule, EatsRule, eats_takes, eats_becomes, Sticks, sticks_here, sticks_behind_tok, sticks_in_rule, sticks_behind_rule, SticksRule, sticks_refused, sticks_takes, sticks_becomes}
+use Rattle.verse_grammar.specs.Reading.{Eats, eats_none, eats_tok, eats_rule, EatsRule, eats_takes, eats_becomes, Sticks, sticks_here}
+use Rattle.verse_grammar.specs.Reading.{sticks_behind_tok, sticks_in_rule, sticks_behind_rule, SticksRule, sticks_refused, sticks_takes}
+use Rattle.verse_grammar.specs.Reading.{sticks_becomes}
 use Rattle.verse_grammar.specs.BeginsLaws.{StuckBegins, EatenIsWhole}
 use Rattle.verse_grammar.proofs.CompletingMeanings.{Means, MeansAll, means_none, means_tok, means_rule, given_all, Sound, Readable, a_tok}
-use Rattle.verse_grammar.proofs.CompletingTypes.{a_type_sound, bracket_rest_sound, tuple_rest_sound, types_sound, types_tail_sound, bracket_type_sound, bracket_type_rest_sound, read_a_type, read_bracket_rest, read_tuple_rest, read_types, read_types_tail, read_bracket_type, read_bracket_type_rest}
-use Rattle.verse_grammar.proofs.CompletingExprs.{stmt_name_sound, typed_value_sound, set_rest_sound, assign_sound, return_value_sound, an_if_sound, taken_sound, otherwise_sound, comparison_tail_sound, postfix_tail_sound, hole_rest_sound, name_rest_sound, givens_until_sound, given_sound, givens_tail_sound, round_rest_sound, pairs_until_sound, pair_sound, pairs_tail_sound, clauses_sound, case_rest_sound, duration_sound, generator_rest_sound, entries_rest_sound, clause_name_sound, clause_value_sound, range_rest_sound, an_int_sound, read_stmt_name, read_typed_value, read_set_rest, read_assign, read_return_value, read_an_if, read_taken, read_otherwise, read_comparison_tail, read_postfix_tail, read_hole_rest, read_name_rest, read_givens_until, read_given, read_givens_tail, read_round_rest, read_pairs_until, read_pair, read_pairs_tail, read_clauses, read_case_rest, read_duration, read_generator_rest, read_entries_rest, read_clause_name, read_clause_value, read_range_rest, read_an_int, read_phrase, block_sound, part_sound, stmt_sound, body_sound, expr_sound, or_sound, and_sound, not_sound, comparison_sound, sum_sound, product_sound, minus_sound, postfix_sound, primary_sound, generator_sound, clause_sound, arm_sound, pattern_sound, chain_tail_sound, row_tail_sound, closed_sound, until_sound, read_chain_tail, read_row_tail, read_closed, read_until}
-use Rattle.verse_grammar.proofs.CompletingItems.{program_sound, items_tail_sound, an_item_sound, using_rest_sound, dotted_sound, dots_tail_sound, path_tail_sound, specs_sound, item_rest_sound, enum_or_class_sound, enum_rest_sound, values_until_sound, values_tail_sound, class_rest_sound, parent_sound, members_until_sound, members_tail_sound, member_sound, member_rest_sound, field_rest_sound, default_sound, fun_rest_sound, params_until_sound, param_sound, params_tail_sound, read_program, read_items_tail, read_an_item, read_using_rest, read_dotted, read_dots_tail, read_path_tail, read_specs, read_item_rest, read_enum_or_class, read_enum_rest, read_values_until, read_values_tail, read_class_rest, read_parent, read_members_until, read_members_tail, read_member, read_member_rest, read_field_rest, read_default, read_fun_rest, read_params_until, read_param, read_params_tail}
+use Rattle.verse_grammar.proofs.CompletingTypes.{a_type_sound, bracket_rest_sound, tuple_rest_sound, types_sound, types_tail_sound}
+use Rattle.verse_grammar.proofs.CompletingTypes.{bracket_type_sound, bracket_type_rest_sound, read_a_type, read_bracket_rest}
+use Rattle.verse_grammar.proofs.CompletingTypes.{read_tuple_rest, read_types, read_types_tail, read_bracket_type, read_bracket_type_rest}
+use Rattle.verse_grammar.proofs.CompletingExprs.{stmt_name_sound, typed_value_sound, set_rest_sound, assign_sound, return_value_sound}
+use Rattle.verse_grammar.proofs.CompletingExprs.{an_if_sound, taken_sound, otherwise_sound, comparison_tail_sound, postfix_tail_sound}
+use Rattle.verse_grammar.proofs.CompletingExprs.{hole_rest_sound, name_rest_sound, givens_until_sound, given_sound, givens_tail_sound}
+use Rattle.verse_grammar.proofs.CompletingExprs.{round_rest_sound, pairs_until_sound, pair_sound, pairs_tail_sound, clauses_sound}
+use Rattle.verse_grammar.proofs.CompletingExprs.{case_rest_sound, duration_sound, generator_rest_sound, entries_rest_sound}
+use Rattle.verse_grammar.proofs.CompletingExprs.{clause_name_sound, clause_value_sound, range_rest_sound, an_int_sound, read_stmt_name}
+use Rattle.verse_grammar.proofs.CompletingExprs.{read_typed_value, read_set_rest, read_assign, read_return_value, read_an_if, read_taken}
+use Rattle.verse_grammar.proofs.CompletingExprs.{read_otherwise, read_comparison_tail, read_postfix_tail, read_hole_rest, read_name_rest}
+use Rattle.verse_grammar.proofs.CompletingExprs.{read_givens_until, read_given, read_givens_tail, read_round_rest, read_pairs_until}
+use Rattle.verse_grammar.proofs.CompletingExprs.{read_pair, read_pairs_tail, read_clauses, read_case_rest, read_duration}
+use Rattle.verse_grammar.proofs.CompletingExprs.{read_generator_rest, read_entries_rest, read_clause_name, read_clause_value}
+use Rattle.verse_grammar.proofs.CompletingExprs.{read_range_rest, read_an_int, read_phrase, block_sound, part_sound, stmt_sound, body_sound}
+use Rattle.verse_grammar.proofs.CompletingExprs.{expr_sound, or_sound, and_sound, not_sound, comparison_sound, sum_sound, product_sound}
+use Rattle.verse_grammar.proofs.CompletingExprs.{minus_sound, postfix_sound, primary_sound, generator_sound, clause_sound, arm_sound}
+use Rattle.verse_grammar.proofs.CompletingExprs.{pattern_sound, chain_tail_sound, row_tail_sound, closed_sound, until_sound}
+use Rattle.verse_grammar.proofs.CompletingExprs.{read_chain_tail, read_row_tail, read_closed, read_until}
+use Rattle.verse_grammar.proofs.CompletingItems.{program_sound, items_tail_sound, an_item_sound, using_rest_sound, dotted_sound}
+use Rattle.verse_grammar.proofs.CompletingItems.{dots_tail_sound, path_tail_sound, specs_sound, item_rest_sound, enum_or_class_sound}
+use Rattle.verse_grammar.proofs.CompletingItems.{enum_rest_sound, values_until_sound, values_tail_sound, class_rest_sound, parent_sound}
+use Rattle.verse_grammar.proofs.CompletingItems.{members_until_sound, members_tail_sound, member_sound, member_rest_sound, field_rest_sound}
+use Rattle.verse_grammar.proofs.CompletingItems.{default_sound, fun_rest_sound, params_until_sound, param_sound, params_tail_sound}
+use Rattle.verse_grammar.proofs.CompletingItems.{read_program, read_items_tail, read_an_item, read_using_rest, read_dotted, read_dots_tail}
+use Rattle.verse_grammar.proofs.CompletingItems.{read_path_tail, read_specs, read_item_rest, read_enum_or_class, read_enum_rest}
+use Rattle.verse_grammar.proofs.CompletingItems.{read_values_until, read_values_tail, read_class_rest, read_parent, read_members_until}
+use Rattle.verse_grammar.proofs.CompletingItems.{read_members_tail, read_member, read_member_rest, read_field_rest, read_default}
+use Rattle.verse_grammar.proofs.CompletingItems.{read_fun_rest, read_params_until, read_param, read_params_tail}
 
 -- each move is right
 sound : (b : List ℕ) (r : Rule) (ks : List Tok) → Sound b r ks (predict r ks)
@@ -174,10 +202,13 @@ all_readable b (a kind ∷ Xs) rest = let x = all_readable b Xs rest in (a_tok k
 all_readable b (rule r ∷ Xs) rest = let x = all_readable b Xs rest in let y = readable b r x.0 in (y.0, means_rule y.1 x.1)
 
 -- by what a rule takes or becomes it stands for, also where other toks follow
-by_takes : (b : List ℕ) (r : Rule) (k : Tok) (ks : List Tok) (Ys : List Symbol) → predict r (k ∷ ks) ≡ takes Ys → (ms rest : List Tok) → MeansAll b Ys ms rest → Means b r (k ∷ ms) rest
-by_takes b r k ks Ys h ms rest x = given_all b Ys (λ is more. Means b r (k ∷ is) more) ms rest (subst (λ (M : Move). Sound b r (k ∷ ks) M) h (sound b r (k ∷ ks))) x
+by_takes : (b : List ℕ) (r : Rule) (k : Tok) (ks : List Tok) (Ys : List Symbol) → predict r (k ∷ ks) ≡ takes Ys → (ms rest : List Tok) →
+    MeansAll b Ys ms rest → Means b r (k ∷ ms) rest
+by_takes b r k ks Ys h ms rest x = given_all b Ys (λ is more. Means b r (k ∷ is) more) ms rest
+    (subst (λ (M : Move). Sound b r (k ∷ ks) M) h (sound b r (k ∷ ks))) x
 
-by_becomes : (b : List ℕ) (r : Rule) (ks : List Tok) (Ys : List Symbol) → predict r ks ≡ becomes Ys → (ms rest : List Tok) → MeansAll b Ys ms rest → Means b r ms rest
+by_becomes : (b : List ℕ) (r : Rule) (ks : List Tok) (Ys : List Symbol) → predict r ks ≡ becomes Ys → (ms rest : List Tok) →
+    MeansAll b Ys ms rest → Means b r ms rest
 by_becomes b r ks Ys h ms rest x = given_all b Ys (Means b r) ms rest (subst (λ (M : Move). Sound b r ks M) h (sound b r ks)) x
 
 -- the toks that were read, with whatever follows
@@ -191,22 +222,30 @@ record One (b : List ℕ) (r : Rule) (ks ls : List Tok) : Type 0 where
   parts : ks ≡ front ++ ls
   means : (ms : List Tok) → Means b r (front ++ ms) ms
 
-rule_all : {b : List ℕ} {r : Rule} {Xs : List Symbol} {ks ls rest : List Tok} → One b r ks ls → All b Xs ls rest → All b (rule r ∷ Xs) ks rest
+rule_all : {b : List ℕ} {r : Rule} {Xs : List Symbol} {ks ls rest : List Tok} → One b r ks ls → All b Xs ls rest →
+    All b (rule r ∷ Xs) ks rest
 rule_all {b = b} {r = r} {Xs = Xs} {rest = rest} i j = record {
   front = i.front ++ j.front;
   parts = i.parts ∙ ap (λ (z : List Tok). i.front ++ z) j.parts ∙ sym (append_assoc i.front j.front rest);
-  means = λ ms. subst (λ (z : List Tok). MeansAll b (rule r ∷ Xs) z ms) (sym (append_assoc i.front j.front ms)) (means_rule (i.means (j.front ++ ms)) (j.means ms));
+  means = λ ms. subst (λ (z : List Tok). MeansAll b (rule r ∷ Xs) z ms) (sym (append_assoc i.front j.front ms))
+      (means_rule (i.means (j.front ++ ms)) (j.means ms));
 }
 
 mutual
   eaten_all : {Xs : List Symbol} {ks ls : List Tok} → Eats Xs ks ls → (b : List ℕ) → All b Xs ks ls
   eaten_all eats_none b = record { front = []; parts = refl; means = λ ms. means_none }
-  eaten_all (eats_tok {k = k} h x) b = let i = eaten_all x b in record { front = k ∷ i.front; parts = ap (λ (z : List Tok). k ∷ z) i.parts; means = λ ms. means_tok h (i.means ms) }
+  eaten_all (eats_tok {k = k} h x) b = let i = eaten_all x b in
+      record { front = k ∷ i.front; parts = ap (λ (z : List Tok). k ∷ z) i.parts; means = λ ms. means_tok h (i.means ms) }
   eaten_all (eats_rule d x) b = rule_all (eaten_one d b) (eaten_all x b)
 
   eaten_one : {r : Rule} {ks ls : List Tok} → EatsRule r ks ls → (b : List ℕ) → One b r ks ls
   eaten_one (eats_takes {r = r} {Ys = Ys} {k = k} {ks = ks} h x) b = let i = eaten_all x b in
-      record { front = k ∷ i.front; parts = ap (λ (z : List Tok). k ∷ z) i.parts; means = λ ms. by_takes b r k ks Ys h (i.front ++ ms) ms (i.means ms) }
+      record {
+        front = k ∷ i.front;
+        parts = ap (λ (z : List Tok). k ∷ z) i.parts;
+        means =
+            λ ms. by_takes b r k ks Ys h (i.front ++ ms) ms (i.means ms);
+      }
   eaten_one (eats_becomes {r = r} {Ys = Ys} {ks = ks} h x) b = let i = eaten_all x b in
       record { front = i.front; parts = i.parts; means = λ ms. by_becomes b r ks Ys h (i.front ++ ms) ms (i.means ms) }
 
@@ -220,12 +259,29 @@ record Halted (ks : List Tok) (left : ℕ) (P : List Tok → List Tok → Type 0
   means : (rest : List Tok) → P (front ++ behind rest) rest
 
 halted_here : (b : List ℕ) (Xs : List Symbol) (ks : List Tok) → Halted ks (length ks) (MeansAll b Xs)
-halted_here b Xs ks = record { front = []; back = ks; parts = refl; count = refl; behind = λ rest. (all_readable b Xs rest).0; means = λ rest. (all_readable b Xs rest).1 }
+halted_here b Xs ks = record {
+  front = [];
+  back = ks;
+  parts = refl;
+  count = refl;
+  behind = λ rest. (all_readable b Xs rest).0;
+  means =
+      λ rest. (all_readable b Xs rest).1;
+}
 
 halted_refused : (b : List ℕ) (r : Rule) (ks : List Tok) → Halted ks (length ks) (Means b r)
-halted_refused b r ks = record { front = []; back = ks; parts = refl; count = refl; behind = λ rest. (readable b r rest).0; means = λ rest. (readable b r rest).1 }
+halted_refused b r ks = record {
+  front = [];
+  back = ks;
+  parts = refl;
+  count = refl;
+  behind = λ rest. (readable b r rest).0;
+  means =
+      λ rest. (readable b r rest).1;
+}
 
-halted_in : (b : List ℕ) (r : Rule) (Xs : List Symbol) (ks : List Tok) (left : ℕ) → Halted ks left (Means b r) → Halted ks left (MeansAll b (rule r ∷ Xs))
+halted_in : (b : List ℕ) (r : Rule) (Xs : List Symbol) (ks : List Tok) (left : ℕ) → Halted ks left (Means b r) →
+    Halted ks left (MeansAll b (rule r ∷ Xs))
 halted_in b r Xs ks left i = record {
   front = i.front;
   back = i.back;
@@ -235,23 +291,34 @@ halted_in b r Xs ks left i = record {
   means = λ rest. means_rule (i.means (all_readable b Xs rest).0) (all_readable b Xs rest).1;
 }
 
-halted_behind : (b : List ℕ) (r : Rule) (Xs : List Symbol) (ks ls : List Tok) (left : ℕ) → One b r ks ls → Halted ls left (MeansAll b Xs) → Halted ks left (MeansAll b (rule r ∷ Xs))
+halted_behind : (b : List ℕ) (r : Rule) (Xs : List Symbol) (ks ls : List Tok) (left : ℕ) → One b r ks ls → Halted ls left (MeansAll b Xs) →
+    Halted ks left (MeansAll b (rule r ∷ Xs))
 halted_behind b r Xs ks ls left i j = record {
   front = i.front ++ j.front;
   back = j.back;
   parts = i.parts ∙ ap (λ (z : List Tok). i.front ++ z) j.parts ∙ sym (append_assoc i.front j.front j.back);
   count = j.count;
   behind = j.behind;
-  means = λ rest. subst (λ (z : List Tok). MeansAll b (rule r ∷ Xs) z rest) (sym (append_assoc i.front j.front (j.behind rest))) (means_rule (i.means (j.front ++ j.behind rest)) (j.means rest));
+  means = λ rest. subst (λ (z : List Tok). MeansAll b (rule r ∷ Xs) z rest) (sym (append_assoc i.front j.front (j.behind rest)))
+      (means_rule (i.means (j.front ++ j.behind rest)) (j.means rest));
 }
 
 mutual
   stuck_all : {Xs : List Symbol} {ks : List Tok} {left : ℕ} → Sticks Xs ks left → (b : List ℕ) → Halted ks left (MeansAll b Xs)
   stuck_all (sticks_here {kind = kind} {Xs = Xs} {ks = ks} n) b = halted_here b (a kind ∷ Xs) ks
   stuck_all (sticks_behind_tok {k = k} h x) b = let i = stuck_all x b in
-      record { front = k ∷ i.front; back = i.back; parts = ap (λ (z : List Tok). k ∷ z) i.parts; count = i.count; behind = i.behind; means = λ rest. means_tok h (i.means rest) }
+      record {
+        front = k ∷ i.front;
+        back = i.back;
+        parts = ap (λ (z : List Tok). k ∷ z) i.parts;
+        count = i.count;
+        behind = i.behind;
+        means =
+            λ rest. means_tok h (i.means rest);
+      }
   stuck_all (sticks_in_rule {r = r} {Xs = Xs} {ks = ks} {left = left} x) b = halted_in b r Xs ks left (stuck_one x b)
-  stuck_all (sticks_behind_rule {r = r} {Xs = Xs} {ks = ks} {ls = ls} {left = left} d x) b = halted_behind b r Xs ks ls left (eaten_one d b) (stuck_all x b)
+  stuck_all (sticks_behind_rule {r = r} {Xs = Xs} {ks = ks} {ls = ls} {left = left} d x) b =
+      halted_behind b r Xs ks ls left (eaten_one d b) (stuck_all x b)
 
   stuck_one : {r : Rule} {ks : List Tok} {left : ℕ} → SticksRule r ks left → (b : List ℕ) → Halted ks left (Means b r)
   stuck_one (sticks_refused {r = r} {ks = ks} h) b = halted_refused b r ks
@@ -265,7 +332,15 @@ mutual
         means = λ rest. by_takes b r k ks Ys h (i.front ++ i.behind rest) rest (i.means rest);
       }
   stuck_one (sticks_becomes {r = r} {Ys = Ys} {ks = ks} h x) b = let i = stuck_all x b in
-      record { front = i.front; back = i.back; parts = i.parts; count = i.count; behind = i.behind; means = λ rest. by_becomes b r ks Ys h (i.front ++ i.behind rest) rest (i.means rest) }
+      record {
+        front = i.front;
+        back = i.back;
+        parts = i.parts;
+        count = i.count;
+        behind = i.behind;
+        means =
+            λ rest. by_becomes b r ks Ys h (i.front ++ i.behind rest) rest (i.means rest);
+      }
 
 -- wholes
 whole_of : (b : List ℕ) (whole : Whole) (ks : List Tok) → Means b (rule_of whole) ks [] → IsWhole whole ks
@@ -289,7 +364,8 @@ stuck_begins whole ks left x =
       all = i.front ++ i.behind [];
       behind = kinds (i.behind []);
       is_whole = whole_of [] whole (i.front ++ i.behind []) (i.means []);
-      begins = kinds_append i.front (i.behind []) ∙ ap (λ (z : List Tok). kinds z ++ kinds (i.behind [])) (sym (front_taken i.front i.back ks left i.parts i.count));
+      begins = kinds_append i.front (i.behind []) ∙ ap (λ (z : List Tok). kinds z ++ kinds (i.behind []))
+          (sym (front_taken i.front i.back ks left i.parts i.count));
     }
 
 no_kinds : (ks : List TokKind) → ks ++ [] ≡ ks
@@ -303,10 +379,12 @@ right_none (k ∷ ks) = ap (λ (z : List Tok). k ∷ z) (right_none ks)
 pub eaten_is_whole : EatenIsWhole
 eaten_is_whole whole ks rest x =
     let i : One [] (rule_of whole) ks rest = eaten_one x [] in
-    let h : i.front ++ [] ≡ take (length ks - length rest) ks = right_none i.front ∙ sym (front_taken i.front rest ks (length rest) i.parts refl) in
+    let h : i.front ++ [] ≡ take (length ks - length rest) ks =
+    right_none i.front ∙ sym (front_taken i.front rest ks (length rest) i.parts refl) in
     subst (IsWhole whole) h (whole_of [] whole (i.front ++ []) (i.means []))
 
-pub eaten_begins : (whole : Whole) (ks rest : List Tok) → EatsRule (rule_of whole) ks rest → Begins whole (take (length ks - length rest) ks)
+pub eaten_begins : (whole : Whole) (ks rest : List Tok) → EatsRule (rule_of whole) ks rest →
+    Begins whole (take (length ks - length rest) ks)
 eaten_begins whole ks rest x = record {
   all = take (length ks - length rest) ks;
   behind = [];

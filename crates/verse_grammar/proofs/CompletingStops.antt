@@ -22,23 +22,28 @@ heads e = cc
 tails : {j k : TokKind} {js ks : List TokKind} → j ∷ js ≡ k ∷ ks → js ≡ ks
 tails e = cc
 
-agree_of : (ks ls : List Tok) (behind : List TokKind) (left n : ℕ) → n + left ≡ length ks → n < length ks → kinds ls ≡ kinds (take (suc n) ks) ++ behind → Agree left ks ls
+agree_of : (ks ls : List Tok) (behind : List TokKind) (left n : ℕ) → n + left ≡ length ks → n < length ks →
+    kinds ls ≡ kinds (take (suc n) ks) ++ behind → Agree left ks ls
 agree_of [] ls behind left n e h i = absurd (omega arith)
 agree_of (k ∷ ks) [] behind left zero e h i = absurd (cc)
 agree_of (k ∷ ks) [] behind left (suc n) e h i = absurd (cc)
 agree_of (k ∷ ks) (l ∷ ls) behind left zero e h i = agree_last (omega arith) (ap Some (heads i))
-agree_of (k ∷ ks) (l ∷ ls) behind left (suc n) e h i = agree_more (heads i) (agree_of ks ls behind left n (omega arith) (omega arith) (tails i))
+agree_of (k ∷ ks) (l ∷ ls) behind left (suc n) e h i =
+    agree_more (heads i) (agree_of ks ls behind left n (omega arith) (omega arith) (tails i))
 
 -- a whole that the first toks begin, one more than are read, agrees with them
-agree_beyond : (whole : Whole) (ks : List Tok) (left : ℕ) → left ≤ length ks → length ks - left < length ks → (begun : Begins whole (take (length ks - left + 1) ks)) → Agree left ks begun.all
+agree_beyond : (whole : Whole) (ks : List Tok) (left : ℕ) → left ≤ length ks → length ks - left < length ks →
+    (begun : Begins whole (take (length ks - left + 1) ks)) → Agree left ks begun.all
 agree_beyond whole ks left h i begun =
     let e : length ks - left + 1 ≡ suc (length ks - left) = omega arith in
-    agree_of ks begun.all begun.behind left (length ks - left) (omega arith) i (subst (λ (n : ℕ). kinds begun.all ≡ kinds (take n ks) ++ begun.behind) e begun.begins)
+    agree_of ks begun.all begun.behind left (length ks - left) (omega arith) i
+    (subst (λ (n : ℕ). kinds begun.all ≡ kinds (take n ks) ++ begun.behind) e begun.begins)
 
 pub stuck_stops : StuckStops
 stuck_stops whole ks left x = record {
   before = stuck_begins whole ks left x;
-  beyond = λ h begun. stuck_for_good (rule_of whole) ks begun.all left x (agree_beyond whole ks left (sticks_rule_within x) h begun) (whole_eaten begun.is_whole);
+  beyond = λ h begun. stuck_for_good (rule_of whole) ks begun.all left x (agree_beyond whole ks left (sticks_rule_within x) h begun)
+      (whole_eaten begun.is_whole);
   ended = λ h whole_is. not_both (whole_eaten whole_is) x;
 }
 
@@ -48,6 +53,7 @@ none_left h = cc
 pub left_stops : LeftStops
 left_stops whole k ks rest x = record {
   before = eaten_begins whole ks (k ∷ rest) x;
-  beyond = λ h begun. left_for_good (rule_of whole) ks begun.all k rest x (agree_beyond whole ks (length (k ∷ rest)) (rule_within x) h begun) (whole_eaten begun.is_whole);
+  beyond = λ h begun. left_for_good (rule_of whole) ks begun.all k rest x
+      (agree_beyond whole ks (length (k ∷ rest)) (rule_within x) h begun) (whole_eaten begun.is_whole);
   ended = λ h whole_is. none_left (same_rest x (whole_eaten whole_is));
 }

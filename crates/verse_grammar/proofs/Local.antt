@@ -4,8 +4,18 @@ use Rattle.verse_layout.specs.declared.toks.TokKind.{TokKind}
 use Rattle.verse_layout.specs.declared.toks.Tok.{Tok}
 use Rattle.verse_grammar.specs.Toks.{ahead}
 use Rattle.verse_grammar.specs.declared.phrases.Phrase.TheVariants as p
-use Rattle.verse_grammar.specs.Symbols.{Rule, Symbol, a, rule, predict, takes, becomes, refuses, a_type, bracket_rest, tuple_rest, types, types_tail, bracket_type, bracket_type_rest, stmt_name, typed_value, set_rest, assign, return_value, an_if, taken, otherwise, comparison_tail, postfix_tail, hole_rest, name_rest, givens_until, given, givens_tail, round_rest, pairs_until, pair, pairs_tail, clauses, case_rest, duration, generator_rest, entries_rest, clause_name, clause_value, range_rest, an_int, program, items_tail, an_item, using_rest, dotted, dots_tail, path_tail, specs, item_rest, enum_or_class, enum_rest, values_until, values_tail, class_rest, parent, members_until, members_tail, member, member_rest, field_rest, default, fun_rest, params_until, param, params_tail, phrase, chain_tail, row_tail, closed, until}
-use Rattle.verse_grammar.specs.Reading.{Eats, eats_none, eats_tok, eats_rule, EatsRule, eats_takes, eats_becomes, Sticks, sticks_here, sticks_behind_tok, sticks_in_rule, sticks_behind_rule, SticksRule, sticks_refused, sticks_takes, sticks_becomes}
+use Rattle.verse_grammar.specs.Symbols.{Rule, Symbol, a, rule, predict, takes, becomes, refuses, a_type, bracket_rest, tuple_rest, types}
+use Rattle.verse_grammar.specs.Symbols.{types_tail, bracket_type, bracket_type_rest, stmt_name, typed_value, set_rest, assign, return_value}
+use Rattle.verse_grammar.specs.Symbols.{an_if, taken, otherwise, comparison_tail, postfix_tail, hole_rest, name_rest, givens_until, given}
+use Rattle.verse_grammar.specs.Symbols.{givens_tail, round_rest, pairs_until, pair, pairs_tail, clauses, case_rest, duration}
+use Rattle.verse_grammar.specs.Symbols.{generator_rest, entries_rest, clause_name, clause_value, range_rest, an_int, program, items_tail}
+use Rattle.verse_grammar.specs.Symbols.{an_item, using_rest, dotted, dots_tail, path_tail, specs, item_rest, enum_or_class, enum_rest}
+use Rattle.verse_grammar.specs.Symbols.{values_until, values_tail, class_rest, parent, members_until, members_tail, member, member_rest}
+use Rattle.verse_grammar.specs.Symbols.{field_rest, default, fun_rest, params_until, param, params_tail, phrase, chain_tail, row_tail}
+use Rattle.verse_grammar.specs.Symbols.{closed, until}
+use Rattle.verse_grammar.specs.Reading.{Eats, eats_none, eats_tok, eats_rule, EatsRule, eats_takes, eats_becomes, Sticks, sticks_here}
+use Rattle.verse_grammar.specs.Reading.{sticks_behind_tok, sticks_in_rule, sticks_behind_rule, SticksRule, sticks_refused, sticks_takes}
+use Rattle.verse_grammar.specs.Reading.{sticks_becomes}
 use Rattle.verse_grammar.proofs.Moves.{takes_takes, becomes_becomes, takes_becomes, takes_refuses, becomes_refuses}
 use Rattle.verse_grammar.specs.BeginsLaws.{Agree, agree_last, agree_more, SticksAt, ReadsOneWay, ReadsLocally}
 
@@ -117,12 +127,14 @@ none_case : {ks : List Tok} {o : Out} → Run [] ks o → o ≡ upto ks
 none_case (eaten eats_none) = refl
 none_case (stuck x) = elim x [ ]
 
-tok_case : {kind : TokKind} {Xs : List Symbol} {k : Tok} {ks : List Tok} {o q : Out} → k.kind ≡ kind → ((o : Out) → Run Xs ks o → o ≡ q) → Run (a kind ∷ Xs) (k ∷ ks) o → o ≡ q
+tok_case : {kind : TokKind} {Xs : List Symbol} {k : Tok} {ks : List Tok} {o q : Out} → k.kind ≡ kind → ((o : Out) → Run Xs ks o → o ≡ q) →
+    Run (a kind ∷ Xs) (k ∷ ks) o → o ≡ q
 tok_case e f (eaten (eats_tok h x)) = f _ (eaten x)
 tok_case e f (stuck (sticks_here n)) = absurd (n (ap Some e))
 tok_case e f (stuck (sticks_behind_tok h x)) = f _ (stuck x)
 
-off_case : {kind : TokKind} {Xs : List Symbol} {ks : List Tok} {o : Out} → ahead ks ≢ Some kind → Run (a kind ∷ Xs) ks o → o ≡ at (length ks)
+off_case : {kind : TokKind} {Xs : List Symbol} {ks : List Tok} {o : Out} → ahead ks ≢ Some kind → Run (a kind ∷ Xs) ks o →
+    o ≡ at (length ks)
 off_case n (eaten (eats_tok h x)) = absurd (n (ap Some h))
 off_case n (stuck (sticks_here m)) = refl
 off_case n (stuck (sticks_behind_tok h x)) = absurd (n (ap Some h))
@@ -133,29 +145,39 @@ same_upto h = cc
 upto_at : {ls : List Tok} {n : ℕ} → upto ls ≡ at n → ⊥
 upto_at h = cc
 
-rule_case : {r : Rule} {Xs : List Symbol} {ks ls : List Tok} {o q : Out} → ((o : Out) → RunRule r ks o → o ≡ upto ls) → ((o : Out) → Run Xs ls o → o ≡ q) → Run (rule r ∷ Xs) ks o → o ≡ q
-rule_case {Xs = Xs} f g (eaten {ls = rest} (eats_rule x y)) = g _ (eaten (subst (λ (z : List Tok). Eats Xs z rest) (same_upto (f _ (rule_eaten x))) y))
+rule_case : {r : Rule} {Xs : List Symbol} {ks ls : List Tok} {o q : Out} → ((o : Out) → RunRule r ks o → o ≡ upto ls) →
+    ((o : Out) → Run Xs ls o → o ≡ q) → Run (rule r ∷ Xs) ks o → o ≡ q
+rule_case {Xs = Xs} f g (eaten {ls = rest} (eats_rule x y)) =
+    g _ (eaten (subst (λ (z : List Tok). Eats Xs z rest) (same_upto (f _ (rule_eaten x))) y))
 rule_case f g (stuck (sticks_in_rule x)) = absurd (upto_at (sym (f _ (rule_stuck x))))
-rule_case {Xs = Xs} f g (stuck {left = left} (sticks_behind_rule x y)) = g _ (stuck (subst (λ (z : List Tok). Sticks Xs z left) (same_upto (f _ (rule_eaten x))) y))
+rule_case {Xs = Xs} f g (stuck {left = left} (sticks_behind_rule x y)) =
+    g _ (stuck (subst (λ (z : List Tok). Sticks Xs z left) (same_upto (f _ (rule_eaten x))) y))
 
-rule_off : {r : Rule} {Xs : List Symbol} {ks : List Tok} {o : Out} {n : ℕ} → ((o : Out) → RunRule r ks o → o ≡ at n) → Run (rule r ∷ Xs) ks o → o ≡ at n
+rule_off : {r : Rule} {Xs : List Symbol} {ks : List Tok} {o : Out} {n : ℕ} → ((o : Out) → RunRule r ks o → o ≡ at n) →
+    Run (rule r ∷ Xs) ks o → o ≡ at n
 rule_off f (eaten (eats_rule x y)) = absurd (upto_at (f _ (rule_eaten x)))
 rule_off f (stuck (sticks_in_rule x)) = f _ (rule_stuck x)
 rule_off f (stuck (sticks_behind_rule x y)) = absurd (upto_at (f _ (rule_eaten x)))
 
-takes_case : {r : Rule} {Ys : List Symbol} {k : Tok} {ks : List Tok} {o q : Out} → predict r (k ∷ ks) ≡ takes Ys → ((o : Out) → Run Ys ks o → o ≡ q) → RunRule r (k ∷ ks) o → o ≡ q
-takes_case {ks = ks} e f (rule_eaten {ls = rest} (eats_takes h x)) = f _ (eaten (subst (λ (Xs : List Symbol). Eats Xs ks rest) (takes_takes h e) x))
+takes_case : {r : Rule} {Ys : List Symbol} {k : Tok} {ks : List Tok} {o q : Out} → predict r (k ∷ ks) ≡ takes Ys →
+    ((o : Out) → Run Ys ks o → o ≡ q) → RunRule r (k ∷ ks) o → o ≡ q
+takes_case {ks = ks} e f (rule_eaten {ls = rest} (eats_takes h x)) =
+    f _ (eaten (subst (λ (Xs : List Symbol). Eats Xs ks rest) (takes_takes h e) x))
 takes_case e f (rule_eaten (eats_becomes h x)) = absurd (takes_becomes e h)
 takes_case e f (rule_stuck (sticks_refused h)) = absurd (takes_refuses e h)
-takes_case {ks = ks} e f (rule_stuck {left = left} (sticks_takes h x)) = f _ (stuck (subst (λ (Xs : List Symbol). Sticks Xs ks left) (takes_takes h e) x))
+takes_case {ks = ks} e f (rule_stuck {left = left} (sticks_takes h x)) =
+    f _ (stuck (subst (λ (Xs : List Symbol). Sticks Xs ks left) (takes_takes h e) x))
 takes_case e f (rule_stuck (sticks_becomes h x)) = absurd (takes_becomes e h)
 
-becomes_case : {r : Rule} {Ys : List Symbol} {ks : List Tok} {o q : Out} → predict r ks ≡ becomes Ys → ((o : Out) → Run Ys ks o → o ≡ q) → RunRule r ks o → o ≡ q
+becomes_case : {r : Rule} {Ys : List Symbol} {ks : List Tok} {o q : Out} → predict r ks ≡ becomes Ys → ((o : Out) → Run Ys ks o → o ≡ q) →
+    RunRule r ks o → o ≡ q
 becomes_case e f (rule_eaten (eats_takes h x)) = absurd (takes_becomes h e)
-becomes_case {ks = ks} e f (rule_eaten {ls = rest} (eats_becomes h x)) = f _ (eaten (subst (λ (Xs : List Symbol). Eats Xs ks rest) (becomes_becomes h e) x))
+becomes_case {ks = ks} e f (rule_eaten {ls = rest} (eats_becomes h x)) =
+    f _ (eaten (subst (λ (Xs : List Symbol). Eats Xs ks rest) (becomes_becomes h e) x))
 becomes_case e f (rule_stuck (sticks_refused h)) = absurd (becomes_refuses e h)
 becomes_case e f (rule_stuck (sticks_takes h x)) = absurd (takes_becomes h e)
-becomes_case {ks = ks} e f (rule_stuck {left = left} (sticks_becomes h x)) = f _ (stuck (subst (λ (Xs : List Symbol). Sticks Xs ks left) (becomes_becomes h e) x))
+becomes_case {ks = ks} e f (rule_stuck {left = left} (sticks_becomes h x)) =
+    f _ (stuck (subst (λ (Xs : List Symbol). Sticks Xs ks left) (becomes_becomes h e) x))
 
 refuses_case : {r : Rule} {ks : List Tok} {o : Out} → predict r ks ≡ refuses → RunRule r ks o → o ≡ at (length ks)
 refuses_case e (rule_eaten (eats_takes h x)) = absurd (takes_refuses h e)
@@ -242,17 +264,27 @@ record RuleAlike (stop : ℕ) (r : Rule) (ks rest ls : List Tok) : Type 0 where
   agree : Agree stop rest behind
   count : length ls + length rest ≡ length ks + length behind
 
-alike_tok : {stop : ℕ} {kind : TokKind} {Xs : List Symbol} {k : Tok} {ks rest ls : List Tok} → k.kind ≡ kind → ((ms : List Tok) → Agree stop ks ms → EatsAlike stop Xs ks rest ms) →
+alike_tok : {stop : ℕ} {kind : TokKind} {Xs : List Symbol} {k : Tok} {ks rest ls : List Tok} → k.kind ≡ kind →
+    ((ms : List Tok) → Agree stop ks ms → EatsAlike stop Xs ks rest ms) →
     Step stop k ks ls → EatsAlike stop (a kind ∷ Xs) (k ∷ ks) rest ls
-alike_tok e f (step_on {ls = ms} h g) = let i = f ms g in record { behind = i.behind; eats = eats_tok (sym h ∙ e) i.eats; agree = i.agree; count = omega (arith, i.count) }
+alike_tok e f (step_on {ls = ms} h g) = let i = f ms g in
+    record { behind = i.behind; eats = eats_tok (sym h ∙ e) i.eats; agree = i.agree; count = omega (arith, i.count) }
 
-alike_takes : {stop : ℕ} {r : Rule} {Ys : List Symbol} {k : Tok} {ks rest ls : List Tok} → predict r (k ∷ ks) ≡ takes Ys → ((ms : List Tok) → Agree stop ks ms → EatsAlike stop Ys ks rest ms) →
+alike_takes : {stop : ℕ} {r : Rule} {Ys : List Symbol} {k : Tok} {ks rest ls : List Tok} → predict r (k ∷ ks) ≡ takes Ys →
+    ((ms : List Tok) → Agree stop ks ms → EatsAlike stop Ys ks rest ms) →
     Step stop k ks ls → RuleAlike stop r (k ∷ ks) rest ls
 alike_takes {r = r} {k = k} {ks = ks} e f (step_on {l = l} {ls = ms} h g) =
-    let i = f ms g in record { behind = i.behind; eats = eats_takes (sym (same_move r k l ks ms h) ∙ e) i.eats; agree = i.agree; count = omega (arith, i.count) }
+    let i = f ms g in record {
+      behind = i.behind;
+      eats = eats_takes (sym (same_move r k l ks ms h) ∙ e) i.eats;
+      agree = i.agree;
+      count =
+          omega (arith, i.count);
+    }
 
 mutual
-  eats_alike : {Xs : List Symbol} {ks rest : List Tok} → Eats Xs ks rest → (stop : ℕ) (ls : List Tok) → stop ≤ length rest → Agree stop ks ls → EatsAlike stop Xs ks rest ls
+  eats_alike : {Xs : List Symbol} {ks rest : List Tok} → Eats Xs ks rest → (stop : ℕ) (ls : List Tok) → stop ≤ length rest →
+      Agree stop ks ls → EatsAlike stop Xs ks rest ls
   eats_alike eats_none stop ls n g = record { behind = ls; eats = eats_none; agree = g; count = omega arith }
   eats_alike (eats_tok e x) stop ls n g = let i = eats_within x in alike_tok e (λ ms z. eats_alike x stop ms n z) (step (omega arith) g)
   eats_alike (eats_rule d x) stop ls n g =
@@ -261,11 +293,18 @@ mutual
       let j = eats_alike x stop i.behind n i.agree in
       record { behind = j.behind; eats = eats_rule i.eats j.eats; agree = j.agree; count = omega (arith, i.count, j.count) }
 
-  rule_alike : {r : Rule} {ks rest : List Tok} → EatsRule r ks rest → (stop : ℕ) (ls : List Tok) → stop ≤ length rest → Agree stop ks ls → RuleAlike stop r ks rest ls
+  rule_alike : {r : Rule} {ks rest : List Tok} → EatsRule r ks rest → (stop : ℕ) (ls : List Tok) → stop ≤ length rest → Agree stop ks ls →
+      RuleAlike stop r ks rest ls
   rule_alike (eats_takes e x) stop ls n g = let i = eats_within x in alike_takes e (λ ms z. eats_alike x stop ms n z) (step (omega arith) g)
   rule_alike (eats_becomes {r = r} {ks = ks} e x) stop ls n g =
       let i = eats_alike x stop ls n g in
-      record { behind = i.behind; eats = eats_becomes (sym (predict_ahead r ks ls (agree_ahead g)) ∙ e) i.eats; agree = i.agree; count = i.count }
+      record {
+        behind = i.behind;
+        eats = eats_becomes (sym (predict_ahead r ks ls (agree_ahead g)) ∙ e) i.eats;
+        agree = i.agree;
+        count =
+            i.count;
+      }
 
 record SticksAlike (left : ℕ) (Xs : List Symbol) (ks ls : List Tok) : Type 0 where
   more : ℕ
@@ -277,45 +316,75 @@ record StuckAlike (left : ℕ) (r : Rule) (ks ls : List Tok) : Type 0 where
   sticks : SticksRule r ls more
   count : length ls + left ≡ length ks + more
 
-stuck_tok : {left : ℕ} {kind : TokKind} {Xs : List Symbol} {k : Tok} {ks ls : List Tok} → k.kind ≡ kind → ((ms : List Tok) → Agree left ks ms → SticksAlike left Xs ks ms) →
+stuck_tok : {left : ℕ} {kind : TokKind} {Xs : List Symbol} {k : Tok} {ks ls : List Tok} → k.kind ≡ kind →
+    ((ms : List Tok) → Agree left ks ms → SticksAlike left Xs ks ms) →
     Step left k ks ls → SticksAlike left (a kind ∷ Xs) (k ∷ ks) ls
-stuck_tok e f (step_on {ls = ms} h g) = let i = f ms g in record { more = i.more; sticks = sticks_behind_tok (sym h ∙ e) i.sticks; count = omega (arith, i.count) }
+stuck_tok e f (step_on {ls = ms} h g) = let i = f ms g in
+    record { more = i.more; sticks = sticks_behind_tok (sym h ∙ e) i.sticks; count = omega (arith, i.count) }
 
-stuck_takes : {left : ℕ} {r : Rule} {Ys : List Symbol} {k : Tok} {ks ls : List Tok} → predict r (k ∷ ks) ≡ takes Ys → ((ms : List Tok) → Agree left ks ms → SticksAlike left Ys ks ms) →
+stuck_takes : {left : ℕ} {r : Rule} {Ys : List Symbol} {k : Tok} {ks ls : List Tok} → predict r (k ∷ ks) ≡ takes Ys →
+    ((ms : List Tok) → Agree left ks ms → SticksAlike left Ys ks ms) →
     Step left k ks ls → StuckAlike left r (k ∷ ks) ls
 stuck_takes {r = r} {k = k} {ks = ks} e f (step_on {l = l} {ls = ms} h g) =
-    let i = f ms g in record { more = i.more; sticks = sticks_takes (sym (same_move r k l ks ms h) ∙ e) i.sticks; count = omega (arith, i.count) }
+    let i = f ms g in record {
+      more = i.more;
+      sticks = sticks_takes (sym (same_move r k l ks ms h) ∙ e) i.sticks;
+      count =
+          omega (arith, i.count);
+    }
 
 mutual
-  sticks_alike : {Xs : List Symbol} {ks : List Tok} {left : ℕ} → Sticks Xs ks left → (ls : List Tok) → Agree left ks ls → SticksAlike left Xs ks ls
+  sticks_alike : {Xs : List Symbol} {ks : List Tok} {left : ℕ} → Sticks Xs ks left → (ls : List Tok) → Agree left ks ls →
+      SticksAlike left Xs ks ls
   sticks_alike (sticks_here n) ls g = record { more = length ls; sticks = sticks_here (λ e. n (agree_ahead g ∙ e)); count = omega arith }
   sticks_alike (sticks_behind_tok e x) ls g = stuck_tok e (λ ms z. sticks_alike x ms z) (step (sticks_within x) g)
-  sticks_alike (sticks_in_rule x) ls g = let i = stuck_alike x ls g in record { more = i.more; sticks = sticks_in_rule i.sticks; count = i.count }
+  sticks_alike (sticks_in_rule x) ls g = let i = stuck_alike x ls g in
+      record { more = i.more; sticks = sticks_in_rule i.sticks; count = i.count }
   sticks_alike (sticks_behind_rule {left = left} d x) ls g =
       let i = rule_alike d left ls (sticks_within x) g in
       let j = sticks_alike x i.behind i.agree in
       record { more = j.more; sticks = sticks_behind_rule i.eats j.sticks; count = omega (arith, i.count, j.count) }
 
   stuck_alike : {r : Rule} {ks : List Tok} {left : ℕ} → SticksRule r ks left → (ls : List Tok) → Agree left ks ls → StuckAlike left r ks ls
-  stuck_alike (sticks_refused {r = r} {ks = ks} e) ls g = record { more = length ls; sticks = sticks_refused (sym (predict_ahead r ks ls (agree_ahead g)) ∙ e); count = omega arith }
+  stuck_alike (sticks_refused {r = r} {ks = ks} e) ls g =
+      record { more = length ls; sticks = sticks_refused (sym (predict_ahead r ks ls (agree_ahead g)) ∙ e); count = omega arith }
   stuck_alike (sticks_takes e x) ls g = stuck_takes e (λ ms z. sticks_alike x ms z) (step (sticks_within x) g)
   stuck_alike (sticks_becomes {r = r} {ks = ks} e x) ls g =
-      let i = sticks_alike x ls g in record { more = i.more; sticks = sticks_becomes (sym (predict_ahead r ks ls (agree_ahead g)) ∙ e) i.sticks; count = i.count }
+      let i = sticks_alike x ls g in record {
+        more = i.more;
+        sticks =
+            sticks_becomes (sym (predict_ahead r ks ls (agree_ahead g)) ∙ e) i.sticks;
+        count = i.count;
+      }
 
-pub sticks_again : (r : Rule) (ks ls : List Tok) (index left : ℕ) → SticksRule r ks left → index + left ≡ length ks → Agree left ks ls → SticksAt r ls index
-sticks_again r ks ls index left x e g = let i = stuck_alike x ls g in record { left = i.more; sticks = i.sticks; count = omega (arith, i.count) }
+pub sticks_again : (r : Rule) (ks ls : List Tok) (index left : ℕ) → SticksRule r ks left → index + left ≡ length ks → Agree left ks ls →
+    SticksAt r ls index
+sticks_again r ks ls index left x e g = let i = stuck_alike x ls g in
+    record { left = i.more; sticks = i.sticks; count = omega (arith, i.count) }
 
 pub stuck_for_good : (r : Rule) (ks ls : List Tok) (left : ℕ) → SticksRule r ks left → Agree left ks ls → EatsRule r ls [] → ⊥
 stuck_for_good r ks ls left x g y = let i = stuck_alike x ls g in not_both y i.sticks
 
 agree_none : {k : Tok} {rest behind : List Tok} → Agree (length (k ∷ rest)) (k ∷ rest) behind → behind ≡ [] → ⊥
-agree_none {k = k} {rest = rest} {behind = behind} g e = let h : ahead (k ∷ rest) ≡ ahead behind = agree_ahead g in let f : Some k.kind ≡ None = h ∙ ap ahead e in absurd (cc)
+agree_none {k = k} {rest = rest} {behind = behind} g e = let h : ahead (k ∷ rest) ≡ ahead behind = agree_ahead g in
+    let f : Some k.kind ≡ None = h ∙ ap ahead e in absurd (cc)
 
-pub left_for_good : (r : Rule) (ks ls : List Tok) (k : Tok) (rest : List Tok) → EatsRule r ks (k ∷ rest) → Agree (length (k ∷ rest)) ks ls → EatsRule r ls [] → ⊥
+pub left_for_good : (r : Rule) (ks ls : List Tok) (k : Tok) (rest : List Tok) → EatsRule r ks (k ∷ rest) → Agree (length (k ∷ rest)) ks ls →
+    EatsRule r ls [] → ⊥
 left_for_good r ks ls k rest x g y = let i = rule_alike x (length (k ∷ rest)) ls (omega arith) g in agree_none i.agree (same_rest i.eats y)
 
 pub reads_one_way : ReadsOneWay
-reads_one_way r ks = record { eaten = λ ls ms x y. same_rest x y; stuck = λ left more x y. same_left x y; either = λ ls left x y. not_both x y }
+reads_one_way r ks = record {
+  eaten = λ ls ms x y. same_rest x y;
+  stuck = λ left more x y. same_left x y;
+  either =
+      λ ls left x y. not_both x y;
+}
 
 pub reads_locally : ReadsLocally
-reads_locally r ks = record { sticks = λ index left ls x e g. sticks_again r ks ls index left x e g; stuck = λ left ls x g y. stuck_for_good r ks ls left x g y; left = λ k rest ls x g y. left_for_good r ks ls k rest x g y }
+reads_locally r ks = record {
+  sticks = λ index left ls x e g. sticks_again r ks ls index left x e g;
+  stuck =
+      λ left ls x g y. stuck_for_good r ks ls left x g y;
+  left = λ k rest ls x g y. left_for_good r ks ls k rest x g y;
+}

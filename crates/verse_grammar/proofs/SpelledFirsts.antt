@@ -92,11 +92,13 @@ opens (x.Reads.falsehood_pattern h0) = rise_bound _
 opens (x.Reads.any_pattern h0) = rise_bound _
 opens (x.Reads.enum_pattern h0 h1 h2) = rise_bound _
 
-pub row_opens : {b : List ℕ} {q : Phrase} {s : TokKind} {ks rest : List Tok} {es : List Tree} → Row b q s ks es rest → rise_ahead (ahead ks) ≤ top q
+pub row_opens : {b : List ℕ} {q : Phrase} {s : TokKind} {ks rest : List Tok} {es : List Tree} → Row b q s ks es rest →
+    rise_ahead (ahead ks) ≤ top q
 row_opens (x.Row.row_one d) = opens d
 row_opens (x.Row.row_more r h d) = row_opens r
 
-pub closed_opens : {b : List ℕ} {q : Phrase} {s c : TokKind} {ks rest : List Tok} {es : List Tree} → Closed b q s c ks es rest → rise_ahead (ahead ks) ≤ top q
+pub closed_opens : {b : List ℕ} {q : Phrase} {s c : TokKind} {ks rest : List Tok} {es : List Tree} → Closed b q s c ks es rest →
+    rise_ahead (ahead ks) ≤ top q
 closed_opens (x.Closed.closed r h) = row_opens r
 
 pub pair_row_opens : {b : List ℕ} {ks rest : List Tok} {ps : List (Tree × Tree)} → PairRow b ks ps rest → rise_ahead (ahead ks) ≤ 3

@@ -12,7 +12,8 @@ use Rattle.verse_tree.specs.declared.exprs.Assign.{Assign}
 use Rattle.verse_tree.specs.declared.exprs.Comparison.{Comparison}
 use Rattle.verse_tree.specs.declared.exprs.Operator.{Operator}
 use Rattle.verse_grammar.specs.Toks.{mark, name, ahead}
-use Rattle.verse_grammar.specs.Starts.{type_start, primary_start, primary_word, postfix_start, stmt_start, comparison_at, assign_at, begins_expr, sum_operator, product_operator}
+use Rattle.verse_grammar.specs.Starts.{type_start, primary_start, primary_word, postfix_start, stmt_start, comparison_at, assign_at}
+use Rattle.verse_grammar.specs.Starts.{begins_expr, sum_operator, product_operator}
 use Rattle.verse_grammar.specs.Exprs.{chain_operator, operand}
 use Rattle.verse_grammar.specs.Symbols.{first_as, first_is}
 use Rattle.verse_grammar.specs.Follows.{rank, rank_ahead, needs, rise, rise_ahead}

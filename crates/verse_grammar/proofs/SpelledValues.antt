@@ -1,5 +1,6 @@
 -- Predictive reading with values: what each rule makes of the values of its parts, and that the toks settle it.
-use Rattle.std.proofs.Common.{◌≡◌, ℕ, ℤ, pos, true, false, if◌then◌else◌, List, [], ◌∷◌, ◌++◌, Option, Some, None, refl, sym, ap, subst, ◌∙◌}
+use Rattle.std.proofs.Common.{◌≡◌, ℕ, ℤ, pos, true, false, if◌then◌else◌, List, [], ◌∷◌, ◌++◌, Option, Some, None, refl, sym, ap, subst}
+use Rattle.std.proofs.Common.{◌∙◌}
 use Rattle.verse_lex.specs.declared.tokens.Word.TheVariants as w
 use Rattle.verse_lex.specs.declared.tokens.Mark.TheVariants as m
 use Rattle.verse_layout.specs.declared.toks.TokKind.{TokKind}
@@ -7,7 +8,8 @@ use Rattle.verse_layout.specs.declared.toks.Tok.{Tok}
 use Rattle.verse_base.specs.declared.places.Place.{Place}
 use Rattle.verse_tree.specs.Tree.{Bytes, Written, named, Tree, tree, Shape}
 use Rattle.verse_tree.specs.Tree as t
-use Rattle.verse_tree.specs.ItemTree.{SpecTree, ParamTree, FunTree, MemberTree, field, method, ItemTree, using, enumeration, class, function}
+use Rattle.verse_tree.specs.ItemTree.{SpecTree, ParamTree, FunTree, MemberTree, field, method, ItemTree, using, enumeration, class}
+use Rattle.verse_tree.specs.ItemTree.{function}
 use Rattle.verse_tree.specs.View.{writtens, trees, holes, pairs, givens}
 use Rattle.verse_tree.specs.declared.exprs.Assign.{Assign}
 use Rattle.verse_tree.specs.declared.exprs.Assign.TheVariants as assigns
@@ -15,7 +17,8 @@ use Rattle.verse_tree.specs.declared.exprs.Comparison.{Comparison}
 use Rattle.verse_tree.specs.declared.exprs.Operator.{Operator}
 use Rattle.verse_grammar.specs.Toks.{word, mark, name_at, text_at}
 use Rattle.verse_grammar.specs.Codes.{sees, is_same}
-use Rattle.verse_grammar.specs.Starts.{type_start, primary_start, postfix_start, stmt_start, pattern_start, item_start, comparison_at, assign_at, duration_at, int_at, begins_expr}
+use Rattle.verse_grammar.specs.Starts.{type_start, primary_start, postfix_start, stmt_start, pattern_start, item_start, comparison_at}
+use Rattle.verse_grammar.specs.Starts.{assign_at, duration_at, int_at, begins_expr}
 use Rattle.verse_grammar.specs.Exprs.{at, event_at, chain_operator}
 use Rattle.verse_grammar.specs.declared.phrases.Phrase.TheVariants as p
 use Rattle.verse_grammar.specs.declared.starts.Duration.{Duration}
@@ -32,7 +35,15 @@ use Rattle.verse_grammar.specs.declared.starts.PatternStart.{PatternStart}
 use Rattle.verse_grammar.specs.declared.starts.PatternStart.TheVariants as pattern
 use Rattle.verse_grammar.specs.declared.starts.ItemStart.{ItemStart}
 use Rattle.verse_grammar.specs.declared.starts.ItemStart.TheVariants as item
-use Rattle.verse_grammar.specs.Symbols.{Rule, Symbol, a, rule, Move, takes, becomes, predict, first_is, a_type, bracket_rest, tuple_rest, types, types_tail, bracket_type, bracket_type_rest, stmt_name, typed_value, set_rest, assign, return_value, an_if, taken, otherwise, comparison_tail, postfix_tail, hole_rest, name_rest, givens_until, given, givens_tail, round_rest, pairs_until, pair, pairs_tail, clauses, case_rest, duration, generator_rest, entries_rest, clause_name, clause_value, range_rest, an_int, program, items_tail, an_item, using_rest, dotted, dots_tail, path_tail, specs, item_rest, enum_or_class, enum_rest, values_until, values_tail, class_rest, parent, members_until, members_tail, member, member_rest, field_rest, default, fun_rest, params_until, param, params_tail, phrase, chain_tail, row_tail, closed, until}
+use Rattle.verse_grammar.specs.Symbols.{Rule, Symbol, a, rule, Move, takes, becomes, predict, first_is, a_type, bracket_rest, tuple_rest}
+use Rattle.verse_grammar.specs.Symbols.{types, types_tail, bracket_type, bracket_type_rest, stmt_name, typed_value, set_rest, assign}
+use Rattle.verse_grammar.specs.Symbols.{return_value, an_if, taken, otherwise, comparison_tail, postfix_tail, hole_rest, name_rest}
+use Rattle.verse_grammar.specs.Symbols.{givens_until, given, givens_tail, round_rest, pairs_until, pair, pairs_tail, clauses, case_rest}
+use Rattle.verse_grammar.specs.Symbols.{duration, generator_rest, entries_rest, clause_name, clause_value, range_rest, an_int, program}
+use Rattle.verse_grammar.specs.Symbols.{items_tail, an_item, using_rest, dotted, dots_tail, path_tail, specs, item_rest, enum_or_class}
+use Rattle.verse_grammar.specs.Symbols.{enum_rest, values_until, values_tail, class_rest, parent, members_until, members_tail, member}
+use Rattle.verse_grammar.specs.Symbols.{member_rest, field_rest, default, fun_rest, params_until, param, params_tail, phrase, chain_tail}
+use Rattle.verse_grammar.specs.Symbols.{row_tail, closed, until}
 use Rattle.verse_grammar.specs.Reading.{Eats, EatsRule, eats_none, eats_tok, eats_rule, eats_takes, eats_becomes}
 
 -- what a rule stands for; where a rule ends what another began, a function of that
@@ -261,7 +272,17 @@ member_by f (v_tok k) ss = as_member_named f k ss
 member_by f _ ss = no_member
 
 abbrev pub field_by : List ℕ → Tok → List SpecTree → Val → List SpecTree → Val → MemberTree
-field_by b k vs (v_tok n) ss f = field (record { number = 0; place = k.place; is_var = true; var_specs = vs; name = name_at b n; specs = ss; written = field_type f; default = field_default f })
+field_by b k vs (v_tok n) ss f = field (record {
+  number = 0;
+  place = k.place;
+  is_var = true;
+  var_specs = vs;
+  name = name_at b n;
+  specs = ss;
+  written = field_type f;
+  default =
+      field_default f;
+})
 field_by b k vs _ ss f = no_member
 
 abbrev pub event_value : Option Written → Written
@@ -416,7 +437,8 @@ act_takes b path_tail k vs = v_path (as_names (v0 vs) ∷ as_path (v1 vs))
 act_takes b specs k vs = v_specs (tok_spec b (v0 vs) ∷ as_specs (v2 vs))
 act_takes b item_rest k vs = v0 vs
 act_takes b enum_or_class k vs =
-    if is_same k.kind (word w.Enum) then v_item_named (λ n ss. enumeration (record { number = 0; place = n.place; name = name_at b n; specs = ss; values = as_names (v0 vs) })) else v0 vs
+    if is_same k.kind (word w.Enum) then v_item_named
+    (λ n ss. enumeration (record { number = 0; place = n.place; name = name_at b n; specs = ss; values = as_names (v0 vs) })) else v0 vs
 act_takes b values_until k vs = v_names []
 act_takes b values_tail k vs = v_names (tok_name b (v0 vs) ∷ as_names (v1 vs))
 act_takes b parent k vs = v_maybe_name (Some (tok_name b (v0 vs)))
@@ -438,7 +460,8 @@ if_value k cs e (Some f) = at_tok k (t.Shape.if_else (trees cs) e f)
 
 -- a name and the tails behind it
 abbrev pub by_name : List Val → Tok → Tree
-by_name vs n = as_after (v6 vs) (as_after (v5 vs) (as_after (v4 vs) (as_after (v3 vs) (as_after (v2 vs) (as_after (v1 vs) (as_named (v0 vs) n))))))
+by_name vs n = as_after (v6 vs) (as_after (v5 vs)
+    (as_after (v4 vs) (as_after (v3 vs) (as_after (v2 vs) (as_after (v1 vs) (as_named (v0 vs) n))))))
 
 -- what a rule that becomes symbols stands for
 abbrev pub act_becomes : List ℕ → Rule → List Tok → List Val → Val
@@ -459,10 +482,12 @@ act_becomes b (phrase p.Generator) ks vs = v_tree (named_by (v1 vs) (v0 vs))
 act_becomes b (phrase p.Arm) ks vs = v_tree (arm_value ks (as_tree (v0 vs)) (as_tree (v2 vs)))
 act_becomes b (phrase q) ks vs = v_tree (as_tree (v0 vs))
 act_becomes b stmt_name ks vs =
-    if sees (mark m.Colon) ks then v_named (λ n. at n (t.Shape.typed (name_at b n) (typed_as (v0 vs)) (typed_value_of (v0 vs)))) else v_named (by_name vs)
+    if sees (mark m.Colon) ks then v_named (λ n. at n (t.Shape.typed (name_at b n) (typed_as (v0 vs)) (typed_value_of (v0 vs)))) else
+    v_named (by_name vs)
 act_becomes b typed_value ks vs = v_typed (as_type (v1 vs)) (as_tree (v3 vs))
 act_becomes b set_rest ks vs = v_shape (t.Shape.assignment (as_assign (v1 vs)) (as_tree (v0 vs)) (as_tree (v2 vs)))
-act_becomes b return_value ks vs = if first_is begins_expr ks then v_shape (t.Shape.returned (as_tree (v0 vs))) else v_shape t.Shape.returned_unit
+act_becomes b return_value ks vs = if first_is begins_expr ks then v_shape
+    (t.Shape.returned (as_tree (v0 vs))) else v_shape t.Shape.returned_unit
 act_becomes b an_if ks vs = v_tree (if_value (v0 vs) (as_trees (v2 vs)) (as_tree (v3 vs)) (as_maybe_tree (v4 vs)))
 act_becomes b taken ks vs = v0 vs
 act_becomes b otherwise ks vs = v_maybe_tree None
@@ -489,7 +514,8 @@ act_becomes b clause_value ks vs =
     if sees (word w.If) ks then v_named (λ n. at n (t.Shape.definition (name_at b n) (as_tree (v0 vs))))
     else (if sees (word w.Not) ks then v_named (λ n. at n (t.Shape.definition (name_at b n) (as_tree (v0 vs))))
     else v_named (λ n. as_clause (v1 vs) n (as_tree (v0 vs))))
-act_becomes b range_rest ks vs = v_clause (λ n e. at n (t.Shape.definition (name_at b n) (as_after (v2 vs) (as_after (v1 vs) (as_after (v0 vs) e)))))
+act_becomes b range_rest ks vs = v_clause (λ n e.
+    at n (t.Shape.definition (name_at b n) (as_after (v2 vs) (as_after (v1 vs) (as_after (v0 vs) e)))))
 act_becomes b program ks vs = v_items (as_items (v0 vs) ++ as_items (v1 vs))
 act_becomes b items_tail ks vs = v_items []
 act_becomes b using_rest ks vs = v_path (as_names (v2 vs) ∷ as_path (v3 vs))
@@ -501,17 +527,48 @@ act_becomes b item_rest ks vs = v_item_named (λ n ss. function (as_fun (v0 vs) 
 act_becomes b enum_rest ks vs = v1 vs
 act_becomes b values_until ks vs = v_names (tok_name b (v0 vs) ∷ as_names (v1 vs))
 act_becomes b values_tail ks vs = v_names []
-act_becomes b class_rest ks vs = v_item_named (λ n ss. class (record { number = 0; place = n.place; name = name_at b n; specs = ss; class_specs = as_specs (v0 vs); parent = as_maybe_name (v1 vs); members = as_members (v3 vs) }))
+act_becomes b class_rest ks vs = v_item_named
+    (λ n ss. class (record {
+      number = 0;
+      place = n.place;
+      name = name_at b n;
+      specs = ss;
+      class_specs = as_specs (v0 vs);
+      parent =
+          as_maybe_name (v1 vs);
+      members = as_members (v3 vs);
+    }))
 act_becomes b parent ks vs = v_maybe_name None
 act_becomes b members_until ks vs = v_members (as_members (v0 vs) ++ as_members (v1 vs))
 act_becomes b members_tail ks vs = v_members []
 act_becomes b member ks vs = v_members (member_by (v2 vs) (v0 vs) (as_specs (v1 vs)) ∷ [])
 act_becomes b member_rest ks vs =
     if sees (mark m.RoundOpen) ks then v_member_named (λ n ss. method (as_fun (v0 vs) n ss))
-    else v_member_named (λ n ss. field (record { number = 0; place = n.place; is_var = false; var_specs = []; name = name_at b n; specs = ss; written = field_type (v0 vs); default = field_default (v0 vs) }))
+    else v_member_named (λ n ss. field (record {
+      number = 0;
+      place = n.place;
+      is_var = false;
+      var_specs = [];
+      name = name_at b n;
+      specs = ss;
+      written =
+          field_type (v0 vs);
+      default = field_default (v0 vs);
+    }))
 act_becomes b field_rest ks vs = v_field (as_type (v1 vs)) (as_maybe_tree (v2 vs))
 act_becomes b default ks vs = v_maybe_tree None
-act_becomes b fun_rest ks vs = v_fun (λ n ss. record { number = 0; place = n.place; name = name_at b n; specs = ss; params = as_params (v1 vs); effects = as_specs (v2 vs); written = as_type (v4 vs); body = as_tree (v6 vs) })
+act_becomes b fun_rest ks vs = v_fun (λ n ss.
+    record {
+      number = 0;
+      place = n.place;
+      name = name_at b n;
+      specs = ss;
+      params = as_params (v1 vs);
+      effects = as_specs (v2 vs);
+      written =
+          as_type (v4 vs);
+      body = as_tree (v6 vs);
+    })
 act_becomes b params_until ks vs = v_params (as_params (v0 vs) ++ as_params (v1 vs))
 act_becomes b param ks vs = v_params (tok_param b (v0 vs) (as_type (v2 vs)) ∷ [])
 act_becomes b params_tail ks vs = v_params []
@@ -521,12 +578,16 @@ mutual
   -- these symbols read the toks up to the rest, and have these values
   pub data GivesAll (b : List ℕ) : List Symbol → List Tok → List Val → List Tok → Type 0 where
     gives_none : {ks : List Tok} → GivesAll b [] ks [] ks
-    gives_tok : {kind : TokKind} {Xs : List Symbol} {k : Tok} {ks rest : List Tok} {vs : List Val} → k.kind ≡ kind → GivesAll b Xs ks vs rest → GivesAll b (a kind ∷ Xs) (k ∷ ks) (v_tok k ∷ vs) rest
-    gives_rule : {r : Rule} {Xs : List Symbol} {ks ls rest : List Tok} {v : Val} {vs : List Val} → Gives b r ks v ls → GivesAll b Xs ls vs rest → GivesAll b (rule r ∷ Xs) ks (v ∷ vs) rest
+    gives_tok : {kind : TokKind} {Xs : List Symbol} {k : Tok} {ks rest : List Tok} {vs : List Val} → k.kind ≡ kind →
+        GivesAll b Xs ks vs rest → GivesAll b (a kind ∷ Xs) (k ∷ ks) (v_tok k ∷ vs) rest
+    gives_rule : {r : Rule} {Xs : List Symbol} {ks ls rest : List Tok} {v : Val} {vs : List Val} → Gives b r ks v ls →
+        GivesAll b Xs ls vs rest → GivesAll b (rule r ∷ Xs) ks (v ∷ vs) rest
 
   pub data Gives (b : List ℕ) : Rule → List Tok → Val → List Tok → Type 0 where
-    gives_takes : {r : Rule} {Ys : List Symbol} {k : Tok} {ks rest : List Tok} {vs : List Val} {v : Val} → predict r (k ∷ ks) ≡ takes Ys → GivesAll b Ys ks vs rest → act_takes b r k vs ≡ v → Gives b r (k ∷ ks) v rest
-    gives_becomes : {r : Rule} {Ys : List Symbol} {ks rest : List Tok} {vs : List Val} {v : Val} → predict r ks ≡ becomes Ys → GivesAll b Ys ks vs rest → act_becomes b r ks vs ≡ v → Gives b r ks v rest
+    gives_takes : {r : Rule} {Ys : List Symbol} {k : Tok} {ks rest : List Tok} {vs : List Val} {v : Val} → predict r (k ∷ ks) ≡ takes Ys →
+        GivesAll b Ys ks vs rest → act_takes b r k vs ≡ v → Gives b r (k ∷ ks) v rest
+    gives_becomes : {r : Rule} {Ys : List Symbol} {ks rest : List Tok} {vs : List Val} {v : Val} → predict r ks ≡ becomes Ys →
+        GivesAll b Ys ks vs rest → act_becomes b r ks vs ≡ v → Gives b r ks v rest
 
 -- without the values
 mutual
@@ -555,7 +616,8 @@ becomes_same h g = cc
 
 -- the toks settle the values and the rest
 mutual
-  pub same_value : {b : List ℕ} {r : Rule} {ks rest end : List Tok} {v u : Val} → Gives b r ks v rest → Gives b r ks u end → Same v u rest end
+  pub same_value : {b : List ℕ} {r : Rule} {ks rest end : List Tok} {v u : Val} → Gives b r ks v rest → Gives b r ks u end →
+      Same v u rest end
   same_value {b = b} {r = r} {end = end} (gives_takes {Ys = Ys} {k = k} {ks = ks} {vs = vs} h g q) (gives_takes {Ys = Zs} {vs = us} i f p) =
       let s : Zs ≡ Ys = takes_same h i in
       let d : SameAll vs us _ end = same_values g (subst (λ (Xs : List Symbol). GivesAll b Xs ks us end) s f) in
@@ -567,9 +629,11 @@ mutual
       let d : SameAll vs us _ end = same_values g (subst (λ (Xs : List Symbol). GivesAll b Xs ks us end) s f) in
       record { value = sym q ∙ ap (act_becomes b r ks) d.values ∙ p; behind = d.behind }
 
-  same_values : {b : List ℕ} {Xs : List Symbol} {ks rest end : List Tok} {vs us : List Val} → GivesAll b Xs ks vs rest → GivesAll b Xs ks us end → SameAll vs us rest end
+  same_values : {b : List ℕ} {Xs : List Symbol} {ks rest end : List Tok} {vs us : List Val} → GivesAll b Xs ks vs rest →
+      GivesAll b Xs ks us end → SameAll vs us rest end
   same_values gives_none gives_none = record { values = refl; behind = refl }
-  same_values (gives_tok {k = k} h g) (gives_tok i f) = let d = same_values g f in record { values = ap (λ vs. v_tok k ∷ vs) d.values; behind = d.behind }
+  same_values (gives_tok {k = k} h g) (gives_tok i f) = let d = same_values g f in
+      record { values = ap (λ vs. v_tok k ∷ vs) d.values; behind = d.behind }
   same_values {b = b} {end = end} (gives_rule {Xs = Xs} {ls = ls} {v = v} {vs = vs} r g) (gives_rule {ls = ms} {v = u} {vs = us} s f) =
       let d : Same v u ls ms = same_value r s in
       let e : SameAll vs us _ end = same_values g (subst (λ (ns : List Tok). GivesAll b Xs ns us end) (sym d.behind) f) in

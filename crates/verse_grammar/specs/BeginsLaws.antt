@@ -49,4 +49,5 @@ abbrev pub StuckStops : Type 0
 StuckStops = (whole : Whole) (ks : List Tok) (left : ℕ) → SticksRule (rule_of whole) ks left → Stops whole ks (length ks - left)
 
 abbrev pub LeftStops : Type 0
-LeftStops = (whole : Whole) (k : Tok) (ks rest : List Tok) → EatsRule (rule_of whole) ks (k ∷ rest) → Stops whole ks (length ks - length (k ∷ rest))
+LeftStops = (whole : Whole) (k : Tok) (ks rest : List Tok) → EatsRule (rule_of whole) ks (k ∷ rest) →
+    Stops whole ks (length ks - length (k ∷ rest))

@@ -14,7 +14,8 @@ use Rattle.verse_grammar.specs.declared.phrases.Phrase.{Phrase}
 
 -- a phrase, up to a tok that may follow it
 abbrev pub PhraseEaten : Type 0
-PhraseEaten = (b : List ℕ) (q : Phrase) (ks rest : List Tok) (t : Tree) → Reads b q ks t rest → may_follow q (ahead rest) ≡ true → EatsRule (phrase q) ks rest
+PhraseEaten = (b : List ℕ) (q : Phrase) (ks rest : List Tok) (t : Tree) → Reads b q ks t rest → may_follow q (ahead rest) ≡ true →
+    EatsRule (phrase q) ks rest
 
 -- a phrase up to the end
 abbrev pub SpelledEaten : Type 0
@@ -29,7 +30,8 @@ ProgramEaten = (b : List ℕ) (ks : List Tok) (is : List ItemTree) → Program b
 
 -- the toks settle the tree with its places and numbers, and where the phrase ends
 abbrev pub OnePhrase : Type 0
-OnePhrase = (b : List ℕ) (q : Phrase) (ks rest end : List Tok) (t u : Tree) → Reads b q ks t rest → may_follow q (ahead rest) ≡ true → Reads b q ks u end → may_follow q (ahead end) ≡ true → (t ≡ u) × (rest ≡ end)
+OnePhrase = (b : List ℕ) (q : Phrase) (ks rest end : List Tok) (t u : Tree) → Reads b q ks t rest → may_follow q (ahead rest) ≡ true →
+    Reads b q ks u end → may_follow q (ahead end) ≡ true → (t ≡ u) × (rest ≡ end)
 
 abbrev pub OneTree : Type 0
 OneTree = (b : List ℕ) (q : Phrase) (ks : List Tok) (t u : Tree) → Reads b q ks t [] → Reads b q ks u [] → t ≡ u

@@ -12,7 +12,8 @@ use Rattle.verse_tree.specs.declared.exprs.Comparison.{Comparison}
 use Rattle.verse_tree.specs.declared.exprs.Operator.{Operator}
 use Rattle.verse_grammar.specs.Toks.{word, mark, name}
 use Rattle.verse_grammar.specs.Codes.{sees}
-use Rattle.verse_grammar.specs.Starts.{type_start, primary_start, postfix_start, stmt_start, pattern_start, item_start, comparison_at, assign_at, duration_at, int_at, begins_expr}
+use Rattle.verse_grammar.specs.Starts.{type_start, primary_start, postfix_start, stmt_start, pattern_start, item_start, comparison_at}
+use Rattle.verse_grammar.specs.Starts.{assign_at, duration_at, int_at, begins_expr}
 use Rattle.verse_grammar.specs.Exprs.{chain_operator, operand}
 use Rattle.verse_grammar.specs.declared.phrases.Phrase.{Phrase}
 use Rattle.verse_grammar.specs.declared.phrases.Phrase.TheVariants as p
@@ -170,7 +171,8 @@ by_an_item (Some item.Name) = takes (rule specs ∷ rule item_rest ∷ [])
 -- what a rule does before these toks
 abbrev pub predict : Rule → List Tok → Move
 predict a_type ks = by_a_type (first_as type_start ks)
-predict bracket_rest ks = if sees (mark m.SquareClose) ks then takes (rule a_type ∷ []) else (becomes (rule a_type ∷ a (mark m.SquareClose) ∷ rule a_type ∷ []))
+predict bracket_rest ks = if sees (mark m.SquareClose) ks then takes (rule a_type ∷ []) else
+    (becomes (rule a_type ∷ a (mark m.SquareClose) ∷ rule a_type ∷ []))
 predict tuple_rest ks = becomes (a (mark m.RoundOpen) ∷ rule a_type ∷ a (mark m.Comma) ∷ rule types ∷ a (mark m.RoundClose) ∷ [])
 predict types ks = becomes (rule a_type ∷ rule types_tail ∷ [])
 predict types_tail ks = if sees (mark m.Comma) ks then takes (rule a_type ∷ rule types_tail ∷ []) else (becomes [])
@@ -187,19 +189,24 @@ predict (phrase p.Not) ks = if sees (word w.Not) ks then takes (rule (phrase p.N
 predict (phrase p.Comparison) ks = becomes (rule (phrase p.Sum) ∷ rule comparison_tail ∷ [])
 predict (phrase p.Sum) ks = becomes (rule (phrase p.Product) ∷ rule (chain_tail p.Sum) ∷ [])
 predict (phrase p.Product) ks = becomes (rule (phrase p.Minus) ∷ rule (chain_tail p.Product) ∷ [])
-predict (phrase p.Minus) ks = if sees (mark m.Minus) ks then takes (rule (phrase p.Minus) ∷ []) else (becomes (rule (phrase p.Postfix) ∷ []))
+predict (phrase p.Minus) ks = if sees (mark m.Minus) ks then takes (rule (phrase p.Minus) ∷ []) else
+    (becomes (rule (phrase p.Postfix) ∷ []))
 predict (phrase p.Postfix) ks = becomes (rule (phrase p.Primary) ∷ rule postfix_tail ∷ [])
 predict (phrase p.Primary) ks = by_primary (first_as primary_start ks)
 predict (phrase p.Generator) ks = becomes (a name ∷ rule generator_rest ∷ [])
 predict (phrase p.Clause) ks = by_clause (first_as stmt_start ks)
 predict (phrase p.Arm) ks = becomes (rule (phrase p.Pattern) ∷ a (mark m.FatArrow) ∷ rule (phrase p.Body) ∷ [])
 predict (phrase p.Pattern) ks = by_pattern (first_as pattern_start ks)
-predict stmt_name ks = if sees (mark m.Define) ks then takes (rule (phrase p.Expr) ∷ []) else (if sees (mark m.Colon) ks then becomes (rule typed_value ∷ []) else (becomes (rule name_rest ∷ rule postfix_tail ∷ rule (chain_tail p.Product) ∷ rule (chain_tail p.Sum) ∷ rule comparison_tail ∷ rule (chain_tail p.And) ∷ rule (chain_tail p.Or) ∷ [])))
+predict stmt_name ks = if sees (mark m.Define) ks then takes (rule (phrase p.Expr) ∷ []) else
+    (if sees (mark m.Colon) ks then becomes (rule typed_value ∷ []) else
+    (becomes (rule name_rest ∷ rule postfix_tail ∷ rule (chain_tail p.Product) ∷ rule (chain_tail p.Sum) ∷ rule comparison_tail ∷ rule
+    (chain_tail p.And) ∷ rule (chain_tail p.Or) ∷ [])))
 predict typed_value ks = becomes (a (mark m.Colon) ∷ rule a_type ∷ a (mark m.Equals) ∷ rule (phrase p.Expr) ∷ [])
 predict set_rest ks = becomes (rule (phrase p.Postfix) ∷ rule assign ∷ rule (phrase p.Expr) ∷ [])
 predict assign ks = by_assign (first_as assign_at ks)
 predict return_value ks = if first_is begins_expr ks then becomes (rule (phrase p.Expr) ∷ []) else becomes []
-predict an_if ks = becomes (a (word w.If) ∷ a (mark m.RoundOpen) ∷ rule (closed p.Stmt (mark m.Comma) (mark m.RoundClose)) ∷ rule taken ∷ rule otherwise ∷ [])
+predict an_if ks = becomes (a (word w.If) ∷ a (mark m.RoundOpen) ∷ rule (closed p.Stmt (mark m.Comma) (mark m.RoundClose)) ∷ rule
+    taken ∷ rule otherwise ∷ [])
 predict taken ks = if sees (word w.Then) ks then takes (rule (phrase p.Or) ∷ []) else (becomes (rule (phrase p.Block) ∷ []))
 predict otherwise ks = if sees (word w.Else) ks then takes (rule (phrase p.Body) ∷ []) else (becomes [])
 predict (chain_tail q) ks = by_chain_tail q (first_as (chain_operator q) ks)
@@ -208,23 +215,34 @@ predict postfix_tail ks = by_postfix_tail (first_as postfix_start ks)
 predict (row_tail q s) ks = if sees s ks then takes (rule (phrase q) ∷ rule (row_tail q s) ∷ []) else (becomes [])
 predict (closed q s c) ks = becomes (rule (phrase q) ∷ rule (row_tail q s) ∷ a c ∷ [])
 predict (until q s c) ks = if sees c ks then takes [] else (becomes (rule (closed q s c) ∷ []))
-predict hole_rest ks = if sees (tok.Plain token.TextMid) ks then takes (rule (phrase p.Expr) ∷ rule hole_rest ∷ []) else (becomes (a (tok.Plain token.TextClose) ∷ []))
+predict hole_rest ks = if sees (tok.Plain token.TextMid) ks then takes (rule (phrase p.Expr) ∷ rule hole_rest ∷ []) else
+    (becomes (a (tok.Plain token.TextClose) ∷ []))
 predict name_rest ks = if sees tok.Open ks then takes (rule givens_until ∷ []) else (becomes [])
 predict givens_until ks = if sees tok.Close ks then takes [] else (becomes (rule given ∷ rule givens_tail ∷ a tok.Close ∷ []))
 predict given ks = becomes (a name ∷ a (mark m.Define) ∷ rule (phrase p.Expr) ∷ [])
 predict givens_tail ks = if sees tok.Sep ks then takes (rule given ∷ rule givens_tail ∷ []) else (becomes [])
-predict round_rest ks = if sees (mark m.Comma) ks then takes (rule (closed p.Expr (mark m.Comma) (mark m.RoundClose)) ∷ []) else (becomes (a (mark m.RoundClose) ∷ []))
+predict round_rest ks = if sees (mark m.Comma) ks then takes (rule (closed p.Expr (mark m.Comma) (mark m.RoundClose)) ∷ []) else
+    (becomes (a (mark m.RoundClose) ∷ []))
 predict pairs_until ks = if sees tok.Close ks then takes [] else (becomes (rule pair ∷ rule pairs_tail ∷ a tok.Close ∷ []))
 predict pair ks = becomes (rule (phrase p.Expr) ∷ a (mark m.FatArrow) ∷ rule (phrase p.Expr) ∷ [])
 predict pairs_tail ks = if sees tok.Sep ks then takes (rule pair ∷ rule pairs_tail ∷ []) else (becomes [])
 predict clauses ks = becomes (rule (phrase p.Generator) ∷ rule (row_tail p.Clause (mark m.Comma)) ∷ a (mark m.RoundClose) ∷ [])
-predict case_rest ks = becomes (a (mark m.RoundOpen) ∷ rule (phrase p.Expr) ∷ a (mark m.RoundClose) ∷ a tok.Open ∷ rule (closed p.Arm tok.Sep tok.Close) ∷ [])
+predict case_rest ks = becomes (a (mark m.RoundOpen) ∷ rule (phrase p.Expr) ∷ a (mark m.RoundClose) ∷ a tok.Open ∷ rule
+    (closed p.Arm tok.Sep tok.Close) ∷ [])
 predict duration ks = by_duration (first_as duration_at ks)
-predict generator_rest ks = if sees (mark m.Colon) ks then takes (rule (phrase p.Sum) ∷ []) else (if sees (mark m.Arrow) ks then takes (rule entries_rest ∷ []) else (if sees (mark m.Define) ks then takes (rule (phrase p.Sum) ∷ a (mark m.DotDot) ∷ rule (phrase p.Sum) ∷ []) else refuses))
+predict generator_rest ks = if sees (mark m.Colon) ks then takes (rule (phrase p.Sum) ∷ []) else
+    (if sees (mark m.Arrow) ks then takes (rule entries_rest ∷ []) else
+    (if sees (mark m.Define) ks then takes (rule (phrase p.Sum) ∷ a (mark m.DotDot) ∷ rule (phrase p.Sum) ∷ []) else refuses))
 predict entries_rest ks = becomes (a name ∷ a (mark m.Colon) ∷ rule (phrase p.Sum) ∷ [])
-predict clause_name ks = if sees (mark m.Colon) ks then takes (rule (phrase p.Sum) ∷ []) else (if sees (mark m.Arrow) ks then takes (rule entries_rest ∷ []) else (if sees (mark m.Define) ks then takes (rule clause_value ∷ []) else (becomes (rule name_rest ∷ rule postfix_tail ∷ rule (chain_tail p.Product) ∷ rule (chain_tail p.Sum) ∷ rule comparison_tail ∷ rule (chain_tail p.And) ∷ rule (chain_tail p.Or) ∷ []))))
-predict clause_value ks = if sees (word w.If) ks then becomes (rule an_if ∷ []) else (if sees (word w.Not) ks then becomes (rule (phrase p.Or) ∷ []) else (becomes (rule (phrase p.Sum) ∷ rule range_rest ∷ [])))
-predict range_rest ks = if sees (mark m.DotDot) ks then takes (rule (phrase p.Sum) ∷ []) else (becomes (rule comparison_tail ∷ rule (chain_tail p.And) ∷ rule (chain_tail p.Or) ∷ []))
+predict clause_name ks = if sees (mark m.Colon) ks then takes (rule (phrase p.Sum) ∷ []) else
+    (if sees (mark m.Arrow) ks then takes (rule entries_rest ∷ []) else
+    (if sees (mark m.Define) ks then takes (rule clause_value ∷ []) else
+    (becomes (rule name_rest ∷ rule postfix_tail ∷ rule (chain_tail p.Product) ∷ rule (chain_tail p.Sum) ∷ rule comparison_tail ∷ rule
+    (chain_tail p.And) ∷ rule (chain_tail p.Or) ∷ []))))
+predict clause_value ks = if sees (word w.If) ks then becomes (rule an_if ∷ []) else
+    (if sees (word w.Not) ks then becomes (rule (phrase p.Or) ∷ []) else (becomes (rule (phrase p.Sum) ∷ rule range_rest ∷ [])))
+predict range_rest ks = if sees (mark m.DotDot) ks then takes (rule (phrase p.Sum) ∷ []) else
+    (becomes (rule comparison_tail ∷ rule (chain_tail p.And) ∷ rule (chain_tail p.Or) ∷ []))
 predict an_int ks = by_an_int (first_as int_at ks)
 predict program [] = becomes []
 predict program (k ∷ ks) = becomes (rule an_item ∷ rule items_tail ∷ [])
@@ -236,7 +254,8 @@ predict dots_tail ks = if sees (mark m.Dot) ks then takes (a name ∷ rule dots_
 predict path_tail ks = if sees (mark m.Slash) ks then takes (rule dotted ∷ rule path_tail ∷ []) else (becomes [])
 predict specs ks = if sees (mark m.Below) ks then takes (a name ∷ a (mark m.Above) ∷ rule specs ∷ []) else (becomes [])
 predict item_rest ks = if sees (mark m.Define) ks then takes (rule enum_or_class ∷ []) else (becomes (rule fun_rest ∷ []))
-predict enum_or_class ks = if sees (word w.Enum) ks then takes (rule enum_rest ∷ []) else (if sees (word w.Class) ks then takes (rule class_rest ∷ []) else refuses)
+predict enum_or_class ks = if sees (word w.Enum) ks then takes (rule enum_rest ∷ []) else
+    (if sees (word w.Class) ks then takes (rule class_rest ∷ []) else refuses)
 predict enum_rest ks = becomes (a tok.Open ∷ rule values_until ∷ [])
 predict values_until ks = if sees tok.Close ks then takes [] else (becomes (a name ∷ rule values_tail ∷ a tok.Close ∷ []))
 predict values_tail ks = if sees tok.Sep ks then takes (a name ∷ rule values_tail ∷ []) else (becomes [])
@@ -244,11 +263,14 @@ predict class_rest ks = becomes (rule specs ∷ rule parent ∷ a tok.Open ∷ r
 predict parent ks = if sees (mark m.RoundOpen) ks then takes (a name ∷ a (mark m.RoundClose) ∷ []) else (becomes [])
 predict members_until ks = if sees tok.Close ks then takes [] else (becomes (rule member ∷ rule members_tail ∷ a tok.Close ∷ []))
 predict members_tail ks = if sees tok.Sep ks then takes (rule member ∷ rule members_tail ∷ []) else (becomes [])
-predict member ks = if sees (word w.Var) ks then takes (rule specs ∷ a name ∷ rule specs ∷ rule field_rest ∷ []) else (becomes (a name ∷ rule specs ∷ rule member_rest ∷ []))
+predict member ks = if sees (word w.Var) ks then takes (rule specs ∷ a name ∷ rule specs ∷ rule field_rest ∷ []) else
+    (becomes (a name ∷ rule specs ∷ rule member_rest ∷ []))
 predict member_rest ks = if sees (mark m.RoundOpen) ks then becomes (rule fun_rest ∷ []) else (becomes (rule field_rest ∷ []))
 predict field_rest ks = becomes (a (mark m.Colon) ∷ rule a_type ∷ rule default ∷ [])
 predict default ks = if sees (mark m.Equals) ks then takes (rule (phrase p.Expr) ∷ []) else (becomes [])
-predict fun_rest ks = becomes (a (mark m.RoundOpen) ∷ rule params_until ∷ rule specs ∷ a (mark m.Colon) ∷ rule a_type ∷ a (mark m.Equals) ∷ rule (phrase p.Body) ∷ [])
-predict params_until ks = if sees (mark m.RoundClose) ks then takes [] else (becomes (rule param ∷ rule params_tail ∷ a (mark m.RoundClose) ∷ []))
+predict fun_rest ks = becomes (a (mark m.RoundOpen) ∷ rule params_until ∷ rule specs ∷ a (mark m.Colon) ∷ rule a_type ∷ a
+    (mark m.Equals) ∷ rule (phrase p.Body) ∷ [])
+predict params_until ks = if sees (mark m.RoundClose) ks then takes [] else
+    (becomes (rule param ∷ rule params_tail ∷ a (mark m.RoundClose) ∷ []))
 predict param ks = becomes (a name ∷ a (mark m.Colon) ∷ rule a_type ∷ [])
 predict params_tail ks = if sees (mark m.Comma) ks then takes (rule param ∷ rule params_tail ∷ []) else (becomes [])

@@ -1,6 +1,7 @@
 //! Laws of predictive reading.
 
-ghost use Rattle.verse_grammar.specs.BeginsLaws.{EatenIsWhole, LeftStops, ReadsLocally, ReadsOneWay, StuckBegins, StuckStops};
+ghost use Rattle.verse_grammar.specs.BeginsLaws.{EatenIsWhole, LeftStops, ReadsLocally};
+ghost use Rattle.verse_grammar.specs.BeginsLaws.{ReadsOneWay, StuckBegins, StuckStops};
 
 /// A rule reads given toks in at most one way, and does not both read them and stick.
 pub fn reads_one_way()

@@ -1,6 +1,8 @@
 //! Laws of what is spelled: the predictive rules read it, and it is spelled by its toks alone.
 
-ghost use Rattle.verse_grammar.specs.SpelledLaws.{OnePhrase, OneProgram, OneTree, OneType, PhraseEaten, ProgramEaten, SpelledEaten, TypeEaten};
+ghost use Rattle.verse_grammar.specs.SpelledLaws.{OnePhrase, OneProgram, OneTree, OneType};
+ghost use Rattle.verse_grammar.specs.SpelledLaws.{PhraseEaten, ProgramEaten, SpelledEaten};
+ghost use Rattle.verse_grammar.specs.SpelledLaws.{TypeEaten};
 
 /// The predictive rules read each phrase up to a tok that may follow it, or up to the end.
 pub fn phrases_eaten()

@@ -1,7 +1,11 @@
 //! What the first tok of a phrase says of it.
 
 ghost use Rattle.std.specs.Prelude.{◌≡◌};
-ghost use Rattle.verse_grammar.specs.Starts.{type_start, primary_start, primary_word, postfix_start, stmt_start, pattern_start, item_start, sum_operator, product_operator, comparison_at, assign_at, duration_at, int_at, begins_expr, fixed_at, fixed_mark};
+ghost use Rattle.verse_grammar.specs.Starts.{type_start, primary_start, primary_word};
+ghost use Rattle.verse_grammar.specs.Starts.{postfix_start, stmt_start, pattern_start, item_start};
+ghost use Rattle.verse_grammar.specs.Starts.{sum_operator, product_operator, comparison_at};
+ghost use Rattle.verse_grammar.specs.Starts.{assign_at, duration_at, int_at, begins_expr, fixed_at};
+ghost use Rattle.verse_grammar.specs.Starts.{fixed_mark};
 
 use verse_layout::toks::TokKind;
 use verse_lex::tokens::{Mark, TokenKind, Word};

@@ -45,7 +45,8 @@ impl Holes {
 
     /// Adds a hole with the text behind it.
     pub fn push(&mut self, value: Tree, behind: Text) -> Result<(), AllocError>
-        ensures ok { OnOk result (map hole_of self.new ≡ map hole_of self.old ++ (tree_of value, behind) ∷ []) }
+        ensures ok { OnOk result (map hole_of self.new ≡ map hole_of self.old ++
+            (tree_of value, behind) ∷ []) }
         ensures err { OnErr result (self.new ≡ self.old) }
     {
         self.holes.push(hole(value, behind))
@@ -94,7 +95,8 @@ impl Pairs {
 
     /// Adds a key with its value.
     pub fn push(&mut self, key: Tree, value: Tree) -> Result<(), AllocError>
-        ensures ok { OnOk result (map pair_of self.new ≡ map pair_of self.old ++ (tree_of key, tree_of value) ∷ []) }
+        ensures ok { OnOk result (map pair_of self.new ≡ map pair_of self.old ++
+            (tree_of key, tree_of value) ∷ []) }
         ensures err { OnErr result (self.new ≡ self.old) }
     {
         self.pairs.push(pair(key, value))
@@ -143,7 +145,8 @@ impl Givens {
 
     /// Adds a field with its value.
     pub fn push(&mut self, name: Name, value: Tree) -> Result<(), AllocError>
-        ensures ok { OnOk result (map given_of self.new ≡ map given_of self.old ++ (name, tree_of value) ∷ []) }
+        ensures ok { OnOk result (map given_of self.new ≡ map given_of self.old ++
+            (name, tree_of value) ∷ []) }
         ensures err { OnErr result (self.new ≡ self.old) }
     {
         self.givens.push(given(name, value))

@@ -1,11 +1,13 @@
 -- A number that is read is spelled so, and what is spelled so is read.
-use Rattle.std.proofs.Common.{◌≡◌, ℕ, zero, suc, ◌+◌, ◌-◌, ◌*◌, ◌/◌, ◌%◌, ◌<◌, ◌≤◌, ℤ, pos, negsuc, Bool, true, false, cond, ltb, leb, ◌&&◌, inl, inr, List, [], ◌∷◌, length, get_or, Result, Ok, Err, refl, sym, ap, subst, ◌∙◌, arith}
+use Rattle.std.proofs.Common.{◌≡◌, ℕ, zero, suc, ◌+◌, ◌-◌, ◌*◌, ◌/◌, ◌%◌, ◌<◌, ◌≤◌, ℤ, pos, negsuc, Bool, true, false, cond, ltb, leb, ◌&&◌}
+use Rattle.std.proofs.Common.{inl, inr, List, [], ◌∷◌, length, get_or, Result, Ok, Err, refl, sym, ap, subst, ◌∙◌, arith}
 use Rattle.std.proofs.lemmas.Bool.{cases_lt, ltb-true, leb-true, lt-ltb, le-ltb, le-leb, and_parts}
 use Rattle.verse_image.specs.declared.faults.Flaw.{Flaw}
 use Rattle.verse_image.specs.Format.{Field, Spelled, one_byte, more_bytes, SignedSpelled, one_signed, more_signed, below, number, integer}
 use Rattle.verse_image.specs.Format as format
 use Rattle.verse_image.specs.Numbers.{IsBytes, room, signed_room, ReadIsSpelled, SpelledIsRead, SignedIsSpelled, SignedIsRead}
-use Rattle.verse_image.specs.Reading.{◌>>=◌, flaw, digits_at, with_high, number_at, within_at, seven_bits, signed_digits_at, signed_with_high, with_sign, integer_at}
+use Rattle.verse_image.specs.Reading.{◌>>=◌, flaw, digits_at, with_high, number_at, within_at, seven_bits, signed_digits_at}
+use Rattle.verse_image.specs.Reading.{signed_with_high, with_sign, integer_at}
 
 pub rest_bytes : (b : ℕ) (bytes : List ℕ) → IsBytes (b ∷ bytes) → IsBytes bytes
 rest_bytes b bytes h i = h (suc i)
@@ -33,7 +35,8 @@ pub record Takes (P : Field) (bytes rest : List ℕ) : Type 0 where
 
 -- ---- numbers
 
-digits_more : (most end left b : ℕ) (tail : List ℕ) → 128 ≤ b → digits_at (suc most) end left (b ∷ tail) ≡ (digits_at most end left tail >>= with_high end left b)
+digits_more : (most end left b : ℕ) (tail : List ℕ) → 128 ≤ b →
+    digits_at (suc most) end left (b ∷ tail) ≡ (digits_at most end left tail >>= with_high end left b)
 unfolding digits_at
 digits_more most end left b tail le = let e : ltb b 128 ≡ false = le-ltb b 128 le in rw e refl
 
@@ -44,7 +47,8 @@ digits_one most end left b tail lt = let e : ltb b 128 ≡ true = lt-ltb b 128 l
 abbrev Digits : ℕ → List ℕ → ℕ × List ℕ → Type 0
 Digits end bytes x = Takes (below end x.0) bytes x.1
 
-digits_joined : (end left b : ℕ) (tail : List ℕ) (high : ℕ × List ℕ) (x : ℕ × List ℕ) → IsBytes (b ∷ tail) → 128 ≤ b → Digits end tail high → with_high end left b high ≡ Ok x → Digits end (b ∷ tail) x
+digits_joined : (end left b : ℕ) (tail : List ℕ) (high : ℕ × List ℕ) (x : ℕ × List ℕ) → IsBytes (b ∷ tail) → 128 ≤ b →
+    Digits end tail high → with_high end left b high ≡ Ok x → Digits end (b ∷ tail) x
 digits_joined end left b tail high x fits le ih e =
     let g = test_ok (ltb 0 high.0 && ltb (b - 128 + 128 * high.0) end) (flaw 4 left) (b - 128 + 128 * high.0, high.1) x e in
     let parts = and_parts _ _ g.0 in
@@ -57,19 +61,22 @@ digits_joined end left b tail high x fits le ih e =
     let whole : Spelled n (b ∷ tail) high.1 = more_bytes (omega arith) low (subst (λ (k : ℕ). Spelled k tail high.1) up ih.spelled.1) in
     subst (Digits end (b ∷ tail)) g.1 (record { spelled = (omega arith, whole); fits = ih.fits })
 
-pub digits_take : (most end left : ℕ) (bytes : List ℕ) (x : ℕ × List ℕ) → 128 ≤ end → IsBytes bytes → digits_at most end left bytes ≡ Ok x → Digits end bytes x
+pub digits_take : (most end left : ℕ) (bytes : List ℕ) (x : ℕ × List ℕ) → 128 ≤ end → IsBytes bytes → digits_at most end left bytes ≡ Ok x →
+    Digits end bytes x
 unfolding digits_at
 digits_take zero end left bytes x from fits e = absurd cc
 digits_take (suc most) end left [] x from fits e = absurd cc
 digits_take (suc most) end left (b ∷ tail) x from fits e =
     elim (cases_lt b 128) [
-      | inl lt ↦ subst (Digits end (b ∷ tail)) (ok_is (b, tail) x (sym (digits_one most end left b tail lt) ∙ e)) (record { spelled = (omega arith, one_byte lt); fits = rest_bytes b tail fits })
+      | inl lt ↦ subst (Digits end (b ∷ tail)) (ok_is (b, tail) x (sym (digits_one most end left b tail lt) ∙ e))
+          (record { spelled = (omega arith, one_byte lt); fits = rest_bytes b tail fits })
       | inr le ↦
           let p = bind_ok (digits_at most end left tail) (with_high end left b) x (sym (digits_more most end left b tail le) ∙ e) in
           digits_joined end left b tail p.0 x fits le (digits_take most end left tail p.0 from (rest_bytes b tail fits) p.1) p.2
     ]
 
-digits_again : (k end left : ℕ) {n : ℕ} {bytes rest : List ℕ} → Spelled n bytes rest → n < room k → n < end → digits_at (suc k) end left bytes ≡ Ok (n, rest)
+digits_again : (k end left : ℕ) {n : ℕ} {bytes rest : List ℕ} → Spelled n bytes rest → n < room k → n < end →
+    digits_at (suc k) end left bytes ≡ Ok (n, rest)
 digits_again k end left (one_byte {n = n} {rest = rest} lt) small fits = digits_one k end left n rest lt
 digits_again zero end left (more_bytes le e s) small fits = absurd (omega arith)
 digits_again (suc k) end left (more_bytes {n = n} {b = b} {bytes = bytes} {rest = rest} le e s) small fits =
@@ -89,15 +96,18 @@ pub number_again : (n : ℕ) (bytes rest : List ℕ) → number n bytes rest →
 unfolding number_at
 number_again n bytes rest h = digits_again 4 4294967296 (length bytes) h.1 (omega (arith, h.0)) (omega (arith, h.0))
 
-pub within_take : (least end : ℕ) (bytes : List ℕ) (x : ℕ × List ℕ) → IsBytes bytes → within_at least end bytes ≡ Ok x → Takes (number x.0) bytes x.1 × (least ≤ x.0) × (x.0 < end)
+pub within_take : (least end : ℕ) (bytes : List ℕ) (x : ℕ × List ℕ) → IsBytes bytes → within_at least end bytes ≡ Ok x →
+    Takes (number x.0) bytes x.1 × (least ≤ x.0) × (x.0 < end)
 unfolding within_at
 within_take least end bytes x fits e =
     let p = bind_ok (number_at bytes) (λ n. cond (leb least n.0 && ltb n.0 end) (Ok n) (Err (flaw 5 (length bytes)))) x e in
     let g = test_ok (leb least p.0.0 && ltb p.0.0 end) (flaw 5 (length bytes)) p.0 x p.2 in
     let parts = and_parts _ _ g.0 in
-    subst (λ (y : ℕ × List ℕ). Takes (number y.0) bytes y.1 × (least ≤ y.0) × (y.0 < end)) g.1 (number_take bytes p.0 fits p.1, leb-true _ _ parts.0, ltb-true _ _ parts.1)
+    subst (λ (y : ℕ × List ℕ). Takes (number y.0) bytes y.1 × (least ≤ y.0) × (y.0 < end)) g.1
+    (number_take bytes p.0 fits p.1, leb-true _ _ parts.0, ltb-true _ _ parts.1)
 
-pub within_again : (least end n : ℕ) (bytes rest : List ℕ) → number n bytes rest → least ≤ n → n < end → within_at least end bytes ≡ Ok (n, rest)
+pub within_again : (least end n : ℕ) (bytes rest : List ℕ) → number n bytes rest → least ≤ n → n < end →
+    within_at least end bytes ≡ Ok (n, rest)
 unfolding within_at
 within_again least end n bytes rest h low high =
     let one : leb least n ≡ true = le-leb _ _ low in
@@ -128,14 +138,16 @@ signed_one : (most end left b : ℕ) (tail : List ℕ) → b < 64 → signed_dig
 unfolding signed_digits_at
 signed_one most end left b tail lt = let e : ltb b 64 ≡ true = lt-ltb b 64 lt in rw e refl
 
-signed_two : (most end left b : ℕ) (tail : List ℕ) → 64 ≤ b → b < 128 → signed_digits_at (suc most) end left (b ∷ tail) ≡ Ok ((true, 127 - b), tail)
+signed_two : (most end left b : ℕ) (tail : List ℕ) → 64 ≤ b → b < 128 →
+    signed_digits_at (suc most) end left (b ∷ tail) ≡ Ok ((true, 127 - b), tail)
 unfolding signed_digits_at
 signed_two most end left b tail le lt =
     let d : ltb b 64 ≡ false = le-ltb b 64 le in
     let e : ltb b 128 ≡ true = lt-ltb b 128 lt in
     rw (d, e) refl
 
-signed_rest : (most end left b : ℕ) (tail : List ℕ) → 128 ≤ b → signed_digits_at (suc most) end left (b ∷ tail) ≡ (signed_digits_at most end left tail >>= signed_with_high end left b)
+signed_rest : (most end left b : ℕ) (tail : List ℕ) → 128 ≤ b →
+    signed_digits_at (suc most) end left (b ∷ tail) ≡ (signed_digits_at most end left tail >>= signed_with_high end left b)
 unfolding signed_digits_at
 signed_rest most end left b tail le =
     let d : ltb b 64 ≡ false = le-ltb b 64 (omega arith) in
@@ -147,7 +159,9 @@ pub record SignedTakes (end : ℕ) (bytes : List ℕ) (x : (Bool × ℕ) × List
   pub size : x.0.1 < end
   pub fits : IsBytes x.1
 
-signed_joined : (end left b : ℕ) (tail : List ℕ) (negative : Bool) (high : ℕ) (rest : List ℕ) (x : (Bool × ℕ) × List ℕ) → IsBytes (b ∷ tail) → 128 ≤ b → SignedTakes end tail ((negative, high), rest) → signed_with_high end left b ((negative, high), rest) ≡ Ok x → SignedTakes end (b ∷ tail) x
+signed_joined : (end left b : ℕ) (tail : List ℕ) (negative : Bool) (high : ℕ) (rest : List ℕ) (x : (Bool × ℕ) × List ℕ) →
+    IsBytes (b ∷ tail) → 128 ≤ b → SignedTakes end tail ((negative, high), rest) → signed_with_high end left b ((negative, high), rest) ≡
+    Ok x → SignedTakes end (b ∷ tail) x
 signed_joined end left b tail negative high rest x fits le ih e =
     let bits = seven_bits negative (b - 128) in
     let size = high * 128 + bits in
@@ -160,39 +174,51 @@ signed_joined end left b tail negative high rest x fits le ih e =
     let bits_most : format.seven_bits negative (b - 128) ≤ 127 = turned_bound negative (b - 128) (omega arith) in
     let low : size % 128 ≡ bits = omega arith in
     let up : high ≡ size / 128 = omega arith in
-    let back : format.seven_bits negative (size % 128) ≡ b - 128 = ap (format.seven_bits negative) (low ∙ bits_is) ∙ turned_back negative (b - 128) (omega arith) in
-    let whole : SignedSpelled negative size (b ∷ tail) rest = more_signed some (omega arith) (subst (λ (k : ℕ). SignedSpelled negative k tail rest) up ih.spelled) in
+    let back : format.seven_bits negative (size % 128) ≡ b - 128 =
+    ap (format.seven_bits negative) (low ∙ bits_is) ∙ turned_back negative (b - 128) (omega arith) in
+    let whole : SignedSpelled negative size (b ∷ tail) rest =
+    more_signed some (omega arith) (subst (λ (k : ℕ). SignedSpelled negative k tail rest) up ih.spelled) in
     subst (SignedTakes end (b ∷ tail)) g.1 (record { spelled = whole; size = small; fits = ih.fits })
 
-pub signed_take : (most end left : ℕ) (bytes : List ℕ) (x : (Bool × ℕ) × List ℕ) → 64 ≤ end → IsBytes bytes → signed_digits_at most end left bytes ≡ Ok x → SignedTakes end bytes x
+pub signed_take : (most end left : ℕ) (bytes : List ℕ) (x : (Bool × ℕ) × List ℕ) → 64 ≤ end → IsBytes bytes →
+    signed_digits_at most end left bytes ≡ Ok x → SignedTakes end bytes x
 unfolding signed_digits_at
 signed_take zero end left bytes x from fits e = absurd cc
 signed_take (suc most) end left [] x from fits e = absurd cc
 signed_take (suc most) end left (b ∷ tail) x from fits e =
     elim (cases_lt b 64) [
-      | inl lt ↦ subst (SignedTakes end (b ∷ tail)) (ok_is ((false, b), tail) x (sym (signed_one most end left b tail lt) ∙ e)) (record { spelled = one_signed lt refl; size = omega arith; fits = rest_bytes b tail fits })
+      | inl lt ↦ subst (SignedTakes end (b ∷ tail)) (ok_is ((false, b), tail) x (sym (signed_one most end left b tail lt) ∙ e))
+          (record { spelled = one_signed lt refl; size = omega arith; fits = rest_bytes b tail fits })
       | inr ge ↦ elim (cases_lt b 128) [
-        | inl lt ↦ subst (SignedTakes end (b ∷ tail)) (ok_is ((true, 127 - b), tail) x (sym (signed_two most end left b tail ge lt) ∙ e)) (record { spelled = one_signed (omega arith) (omega arith); size = omega arith; fits = rest_bytes b tail fits })
+        | inl lt ↦ subst (SignedTakes end (b ∷ tail)) (ok_is ((true, 127 - b), tail) x (sym (signed_two most end left b tail ge lt) ∙ e))
+            (record { spelled = one_signed (omega arith) (omega arith); size = omega arith; fits = rest_bytes b tail fits })
         | inr le ↦
-            let p = bind_ok (signed_digits_at most end left tail) (signed_with_high end left b) x (sym (signed_rest most end left b tail le) ∙ e) in
-            signed_joined end left b tail p.0.0.0 p.0.0.1 p.0.1 x fits le (signed_take most end left tail p.0 from (rest_bytes b tail fits) p.1) p.2
+            let p = bind_ok (signed_digits_at most end left tail) (signed_with_high end left b) x
+            (sym (signed_rest most end left b tail le) ∙ e) in
+            signed_joined end left b tail p.0.0.0 p.0.0.1 p.0.1 x fits le
+            (signed_take most end left tail p.0 from (rest_bytes b tail fits) p.1) p.2
       ]
     ]
 
-signed_last_again : (k end left : ℕ) (negative : Bool) (size b : ℕ) (rest : List ℕ) → size < 64 → b ≡ format.seven_bits negative size → signed_digits_at (suc k) end left (b ∷ rest) ≡ Ok ((negative, size), rest)
+signed_last_again : (k end left : ℕ) (negative : Bool) (size b : ℕ) (rest : List ℕ) → size < 64 → b ≡ format.seven_bits negative size →
+    signed_digits_at (suc k) end left (b ∷ rest) ≡ Ok ((negative, size), rest)
 signed_last_again k end left false size b rest lt e = rw e (signed_one k end left size rest lt)
 signed_last_again k end left true size b rest lt e =
     let back : 127 - b ≡ size = omega arith in
     signed_two k end left b rest (omega arith) (omega arith) ∙ rw back refl
 
-signed_again : (k end left : ℕ) {negative : Bool} {size : ℕ} {bytes rest : List ℕ} → SignedSpelled negative size bytes rest → size < signed_room k → size < end → signed_digits_at (suc k) end left bytes ≡ Ok ((negative, size), rest)
-signed_again k end left (one_signed {negative = negative} {size = size} {b = b} {rest = rest} lt e) small fits = signed_last_again k end left negative size b rest lt e
+signed_again : (k end left : ℕ) {negative : Bool} {size : ℕ} {bytes rest : List ℕ} → SignedSpelled negative size bytes rest →
+    size < signed_room k → size < end → signed_digits_at (suc k) end left bytes ≡ Ok ((negative, size), rest)
+signed_again k end left (one_signed {negative = negative} {size = size} {b = b} {rest = rest} lt e) small fits =
+    signed_last_again k end left negative size b rest lt e
 signed_again zero end left (more_signed le e s) small fits = absurd (omega arith)
 signed_again (suc k) end left (more_signed {negative = negative} {size = size} {b = b} {bytes = bytes} {rest = rest} le e s) small fits =
-    let ih : signed_digits_at (suc k) end left bytes ≡ Ok ((negative, size / 128), rest) = signed_again k end left s (omega arith) (omega arith) in
+    let ih : signed_digits_at (suc k) end left bytes ≡ Ok ((negative, size / 128), rest) =
+    signed_again k end left s (omega arith) (omega arith) in
     let most : format.seven_bits negative (size % 128) ≤ 127 = turned_bound negative (size % 128) (omega arith) in
     let bits : b - 128 ≡ format.seven_bits negative (size % 128) = omega arith in
-    let low : seven_bits negative (b - 128) ≡ size % 128 = seven_same negative (b - 128) ∙ ap (format.seven_bits negative) bits ∙ turned_back negative (size % 128) (omega arith) in
+    let low : seven_bits negative (b - 128) ≡ size % 128 = seven_same negative (b - 128) ∙ ap (format.seven_bits negative) bits ∙
+    turned_back negative (size % 128) (omega arith) in
     let value : size / 128 * 128 + seven_bits negative (b - 128) ≡ size = omega arith in
     let one : leb 64 size ≡ true = le-leb _ _ le in
     let two : ltb size end ≡ true = lt-ltb _ _ fits in
@@ -202,18 +228,23 @@ pub integer_take : (bytes : List ℕ) (x : ℤ × List ℕ) → IsBytes bytes �
 unfolding integer_at
 integer_take bytes x fits e =
     let p = bind_ok (signed_digits_at 10 9223372036854775808 (length bytes) bytes) (λ n. Ok (with_sign n.0.0 n.0.1, n.1)) x e in
-    subst (λ (y : ℤ × List ℕ). Takes (integer y.0) bytes y.1) (ok_is _ x p.2) (integer_from bytes p.0.0.0 p.0.0.1 p.0.1 (signed_take 10 9223372036854775808 (length bytes) bytes p.0 (omega arith) fits p.1))
+    subst (λ (y : ℤ × List ℕ). Takes (integer y.0) bytes y.1) (ok_is _ x p.2)
+    (integer_from bytes p.0.0.0 p.0.0.1 p.0.1 (signed_take 10 9223372036854775808 (length bytes) bytes p.0 (omega arith) fits p.1))
   where
-    integer_from : (bytes : List ℕ) (negative : Bool) (size : ℕ) (rest : List ℕ) → SignedTakes 9223372036854775808 bytes ((negative, size), rest) → Takes (integer (with_sign negative size)) bytes rest
+    integer_from : (bytes : List ℕ) (negative : Bool) (size : ℕ) (rest : List ℕ) →
+        SignedTakes 9223372036854775808 bytes ((negative, size), rest) → Takes (integer (with_sign negative size)) bytes rest
     integer_from bytes false size rest t = record { spelled = (omega (arith, t.size), t.spelled); fits = t.fits }
     integer_from bytes true size rest t = record { spelled = (omega (arith, t.size), t.spelled); fits = t.fits }
 
 pub integer_again : (n : ℤ) (bytes rest : List ℕ) → integer n bytes rest → integer_at bytes ≡ Ok (n, rest)
 unfolding integer_at
-integer_again (pos n) bytes rest h = rw (signed_again 9 9223372036854775808 (length bytes) h.1 (omega (arith, h.0)) (omega (arith, h.0))) refl
-integer_again (negsuc n) bytes rest h = rw (signed_again 9 9223372036854775808 (length bytes) h.1 (omega (arith, h.0)) (omega (arith, h.0))) refl
+integer_again (pos n) bytes rest h = rw (signed_again 9 9223372036854775808 (length bytes) h.1 (omega (arith, h.0)) (omega (arith, h.0)))
+    refl
+integer_again (negsuc n) bytes rest h = rw (signed_again 9 9223372036854775808 (length bytes) h.1 (omega (arith, h.0)) (omega (arith, h.0)))
+    refl
 
-pub signed_once : {negative : Bool} {size : ℕ} {a b rest : List ℕ} → SignedSpelled negative size a rest → SignedSpelled negative size b rest → a ≡ b
+pub signed_once : {negative : Bool} {size : ℕ} {a b rest : List ℕ} → SignedSpelled negative size a rest →
+    SignedSpelled negative size b rest → a ≡ b
 signed_once (one_signed lt e) (one_signed lt' e') = cc
 signed_once (one_signed lt e) (more_signed le e' s) = absurd (omega arith)
 signed_once (more_signed le e s) (one_signed lt e') = absurd (omega arith)

@@ -30,7 +30,8 @@ pub versioned : (code : Code) → IsVersion (version_of code) code
 versioned code = elim (which code.ops) [ inl h ↦ inl (h.0, All-from_recursion IsFirst code.ops h.1) | inr h ↦ inr h ]
 
 -- what is written onto nothing is the image
-pub image_from : (code : Code) (a b : List ℕ) → a ≡ [] → Valid code → Writes (fields (version_of code) code) a b → Image (version_of code) code b
+pub image_from : (code : Code) (a b : List ℕ) → a ≡ [] → Valid code → Writes (fields (version_of code) code) a b →
+    Image (version_of code) code b
 image_from code a b e valid p =
     let whole : b ≡ p.0 = p.1 ∙ ap (λ (w : List ℕ). w ++ p.0) e in
     record {

@@ -1,8 +1,10 @@
 -- Writing one field after another.
-use Rattle.std.proofs.Common.{◌≡◌, ℕ, ◌+◌, ◌/◌, ◌%◌, ◌<◌, ◌≤◌, Bool, List, [], ◌∷◌, ◌++◌, length, drop, get_or, refl, sym, ap, subst, ◌∙◌, append_assoc}
+use Rattle.std.proofs.Common.{◌≡◌, ℕ, ◌+◌, ◌/◌, ◌%◌, ◌<◌, ◌≤◌, Bool, List, [], ◌∷◌, ◌++◌, length, drop, get_or, refl, sym, ap, subst, ◌∙◌}
+use Rattle.std.proofs.Common.{append_assoc}
 use Rattle.std.proofs.lemmas.List.{append-nil, drop_more}
 use Rattle.std.proofs.Math.ListN.{drop_of_length-le}
-use Rattle.verse_image.specs.Format.{Field, ◌⨾◌, nothing, plain, each, Spelled, one_byte, more_bytes, SignedSpelled, one_signed, more_signed, seven_bits}
+use Rattle.verse_image.specs.Format.{Field, ◌⨾◌, nothing, plain, each, Spelled, one_byte, more_bytes, SignedSpelled, one_signed}
+use Rattle.verse_image.specs.Format.{more_signed, seven_bits}
 use Rattle.verse_image.specs.Writing.{Writes}
 
 pub writes_then : (P Q : Field) (a b c : List ℕ) → Writes P a b → Writes Q b c → Writes (P ⨾ Q) a c
@@ -27,10 +29,12 @@ pub writes_last : (n : ℕ) (a : List ℕ) → n < 128 → Writes (Spelled n) a 
 writes_last n a lt = (n ∷ [], refl, λ rest. one_byte lt)
 
 -- a byte of a number, and then what is left of it
-pub writes_more : (n b : ℕ) (a c : List ℕ) → 128 ≤ n → b ≡ 128 + n % 128 → Writes (Spelled (n / 128)) (a ++ b ∷ []) c → Writes (Spelled n) a c
+pub writes_more : (n b : ℕ) (a c : List ℕ) → 128 ≤ n → b ≡ 128 + n % 128 → Writes (Spelled (n / 128)) (a ++ b ∷ []) c →
+    Writes (Spelled n) a c
 writes_more n b a c le e p = (b ∷ p.0, p.1 ∙ append_assoc a (b ∷ []) p.0, λ rest. more_bytes le e (p.2 rest))
 
-pub writes_signed_last : (negative : Bool) (n b : ℕ) (a : List ℕ) → n < 64 → b ≡ seven_bits negative n → Writes (SignedSpelled negative n) a (a ++ b ∷ [])
+pub writes_signed_last : (negative : Bool) (n b : ℕ) (a : List ℕ) → n < 64 → b ≡ seven_bits negative n →
+    Writes (SignedSpelled negative n) a (a ++ b ∷ [])
 writes_signed_last negative n b a lt e = (b ∷ [], refl, λ rest. one_signed lt e)
 
 pub writes_signed_more : (negative : Bool) (n b : ℕ) (a c : List ℕ) → 64 ≤ n → b ≡ 128 + seven_bits negative (n % 128) →
@@ -53,5 +57,6 @@ writes_end f xs k a le =
 pub writes_three : (P Q R : Field) (a b c d : List ℕ) → Writes P a b → Writes Q b c → Writes R c d → Writes (P ⨾ Q ⨾ R) a d
 writes_three P Q R a b c d p q r = writes_then (P ⨾ Q) R a c d (writes_then P Q a b c p q) r
 
-pub writes_four : (P Q R S : Field) (a b c d e : List ℕ) → Writes P a b → Writes Q b c → Writes R c d → Writes S d e → Writes (P ⨾ Q ⨾ R ⨾ S) a e
+pub writes_four : (P Q R S : Field) (a b c d e : List ℕ) → Writes P a b → Writes Q b c → Writes R c d → Writes S d e →
+    Writes (P ⨾ Q ⨾ R ⨾ S) a e
 writes_four P Q R S a b c d e p q r s = writes_then (P ⨾ Q ⨾ R) S a d e (writes_three P Q R a b c d p q r) s

@@ -14,7 +14,8 @@ FrontOf rule (Err g) = g ≡ flaw 3 0
 
 abbrev pub FrontHasNoFault : Type 0
 FrontHasNoFault = (bytes : List ℕ) (f : Flaw) → image_at bytes ≡ Err f →
-    (f ≡ flaw 3 0) ⊎ ((f.left ≤ length bytes) × ((front behind : List ℕ) → bytes ≡ front ++ behind → length behind ≡ f.left → FrontOf f.rule (image_at front)))
+    (f ≡ flaw 3 0) ⊎ ((f.left ≤ length bytes) × ((front behind : List ℕ) → bytes ≡ front ++ behind → length behind ≡ f.left →
+    FrontOf f.rule (image_at front)))
 
 -- a fault that is answered: its rule is I3, or what stands before its offset has no fault but that it ends
 abbrev pub NoneBefore : List ℕ → Result Code ImageFault → Type 0

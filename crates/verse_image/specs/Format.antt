@@ -1,5 +1,6 @@
 -- The format of an image, field by field.
-use Rattle.std.specs.Prelude.{◌≡◌, ℕ, ◌+◌, ◌-◌, ◌/◌, ◌%◌, ◌<◌, ◌≤◌, ℤ, pos, negsuc, Bool, true, false, ◌⊎◌, List, [], ◌∷◌, ◌++◌, length, All, nat_le, if◌then◌else◌}
+use Rattle.std.specs.Prelude.{◌≡◌, ℕ, ◌+◌, ◌-◌, ◌/◌, ◌%◌, ◌<◌, ◌≤◌, ℤ, pos, negsuc, Bool, true, false, ◌⊎◌, List, [], ◌∷◌, ◌++◌, length}
+use Rattle.std.specs.Prelude.{All, nat_le, if◌then◌else◌}
 use Rattle.verse_base.specs.declared.places.Place.{Place}
 use Rattle.verse_code.specs.declared.operands.Operand.{Operand}
 use Rattle.verse_code.specs.declared.operands.Operands.{Operands}
@@ -27,7 +28,8 @@ seven_bits true bits = 127 - bits
 -- A size below 64 is one byte. Any other is a byte with its low seven bits and 128 more, and then the
 -- size without them. The bits of a negative number are turned over.
 pub data SignedSpelled : Bool → ℕ → List ℕ → List ℕ → Type 0 where
-  one_signed : {negative : Bool} {size b : ℕ} {rest : List ℕ} → size < 64 → b ≡ seven_bits negative size → SignedSpelled negative size (b ∷ rest) rest
+  one_signed : {negative : Bool} {size b : ℕ} {rest : List ℕ} → size < 64 → b ≡ seven_bits negative size →
+      SignedSpelled negative size (b ∷ rest) rest
   more_signed : {negative : Bool} {size b : ℕ} {bytes rest : List ℕ} → 64 ≤ size → b ≡ 128 + seven_bits negative (size % 128) →
       SignedSpelled negative (size / 128) bytes rest → SignedSpelled negative size (b ∷ bytes) rest
 

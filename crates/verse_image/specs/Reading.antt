@@ -1,5 +1,6 @@
 -- Reading an image from left to right, up to the first failing place.
-use Rattle.std.specs.Prelude.{◌≡◌, ℕ, zero, suc, ◌+◌, ◌-◌, ◌*◌, ℤ, pos, negsuc, Bool, true, false, ◌&&◌, ◌||◌, nat_lt, nat_le, ◌==◌, List, [], ◌∷◌, length, take, drop, Option, Some, None, slice_get, Result, Ok, Err, if◌then◌else◌}
+use Rattle.std.specs.Prelude.{◌≡◌, ℕ, zero, suc, ◌+◌, ◌-◌, ◌*◌, ℤ, pos, negsuc, Bool, true, false, ◌&&◌, ◌||◌, nat_lt, nat_le, ◌==◌, List}
+use Rattle.std.specs.Prelude.{[], ◌∷◌, length, take, drop, Option, Some, None, slice_get, Result, Ok, Err, if◌then◌else◌}
 use Rattle.verse_base.specs.declared.places.Place.{Place}
 use Rattle.verse_code.specs.declared.operands.OperandKind.{OperandKind}
 use Rattle.verse_code.specs.declared.operations.Op.{Op}
@@ -56,7 +57,8 @@ with_high end left b high =
 -- a number of at most so many bytes, below end
 unfoldable pub digits_at : ℕ → ℕ → ℕ → Reader ℕ
 digits_at zero end left bytes = Err (flaw 4 left)
-digits_at (suc most) end left bytes = byte_at bytes >>= λ b. if nat_lt b.0 128 then Ok b else (digits_at most end left b.1 >>= with_high end left b.0)
+digits_at (suc most) end left bytes = byte_at bytes >>= λ b.
+    if nat_lt b.0 128 then Ok b else (digits_at most end left b.1 >>= with_high end left b.0)
 
 unfoldable pub number_at : Reader ℕ
 number_at bytes = digits_at 5 4294967296 (length bytes) bytes

@@ -4,7 +4,8 @@ ghost use Rattle.std.specs.Prelude.{◌≡◌, ◌≤◌, ℕ, IfOk, Ok, length}
 ghost use Rattle.verse_code.specs.declared.codes.Code.{Code};
 ghost use Rattle.verse_image.specs.Faults.{NoneBefore};
 ghost use Rattle.verse_image.specs.Format.{mark, Image};
-ghost use Rattle.verse_image.specs.Reading.{Gives, letter_at, mark_at, version_at, top_of, head_at, sizes_with, code_with, ended, image_at, Tells};
+ghost use Rattle.verse_image.specs.Reading.{Gives, letter_at, mark_at, version_at, top_of, head_at};
+ghost use Rattle.verse_image.specs.Reading.{sizes_with, code_with, ended, image_at, Tells};
 
 use crate::faults::{ImageFault, ReadFault};
 use crate::numbers::{bad, byte, within};
@@ -137,7 +138,8 @@ pub fn decode(alloc: Global, bytes: &[u8]) -> Result<Code, ImageFault>
     // What is read is spelled so.
     ensures found { IfOk result (λ code. (version : ℕ) × Image version code bytes.now) }
     // What is spelled so is read, unless memory runs out.
-    ensures only { (version : ℕ) (code : Code) → Image version code bytes.now → Tells bytes.now result (Ok code) }
+    ensures only { (version : ℕ) (code : Code) → Image version code bytes.now →
+        Tells bytes.now result (Ok code) }
     // Which fault it is.
     ensures exact { Tells bytes.now result (image_at bytes.now) }
     // What stands before it has no fault.

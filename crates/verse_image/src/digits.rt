@@ -1,7 +1,8 @@
 //! Numbers are written.
 
 ghost use Rattle.std.specs.Prelude.{◌≡◌, ◌≤◌, OnOk};
-ghost use Rattle.verse_image.specs.Format.{byte, plain, number, integer, Spelled, SignedSpelled, seven_bits};
+ghost use Rattle.verse_image.specs.Format.{byte, plain, number, integer, Spelled, SignedSpelled};
+ghost use Rattle.verse_image.specs.Format.{seven_bits};
 ghost use Rattle.verse_image.specs.Writing.{Writes};
 
 use verse_base::refusals::Memory;

@@ -2,7 +2,8 @@
 
 ghost use Rattle.std.specs.Prelude.{◌≡◌, ◌≤◌, length, All, OnOk, IfOk};
 ghost use Rattle.verse_code.specs.Validity.{IsText, IsClass, Valid};
-ghost use Rattle.verse_image.specs.Format.{number, text, place, function, class, table, operation, each, head, tables, Image, version_for, version_of};
+ghost use Rattle.verse_image.specs.Format.{number, text, place, function, class, table, operation};
+ghost use Rattle.verse_image.specs.Format.{each, head, tables, Image, version_for, version_of};
 ghost use Rattle.verse_image.specs.Writing.{Writes};
 
 use crate::digits::{push_byte, push_bytes, push_number};

@@ -1,7 +1,8 @@
 //! Numbers are read.
 
 ghost use Rattle.std.specs.Prelude.{◌≡◌, ◌<◌, ◌≤◌, length, Ok, IfOk};
-ghost use Rattle.verse_image.specs.Reading.{Gives, flaw, byte_at, digits_at, number_at, within_at, seven_bits, signed_digits_at, integer_at};
+ghost use Rattle.verse_image.specs.Reading.{Gives, flaw, byte_at, digits_at, number_at, within_at};
+ghost use Rattle.verse_image.specs.Reading.{seven_bits, signed_digits_at, integer_at};
 
 use crate::faults::{Flaw, ReadFault};
 
@@ -57,7 +58,8 @@ fn digits(most: u8, end: u64, left: usize, bytes: &[u8]) -> Result<(u64, &[u8]),
 /// A number below `end`, of at most `most` bytes.
 pub fn number_below(most: u8, end: u64, bytes: &[u8]) -> Result<(u64, &[u8]), ReadFault>
     requires { 128 ≤ end }
-    ensures reads { Gives (λ x. (x.0, x.1.now)) result (digits_at most end (length bytes.now) bytes.now) }
+    ensures reads { Gives (λ x. (x.0, x.1.now)) result
+        (digits_at most end (length bytes.now) bytes.now) }
     ensures within { IfOk result (λ x. x.0 < end) }
 {
     digits(most, end, bytes.len(), bytes)
@@ -100,7 +102,8 @@ fn signed_digits(
     bytes: &[u8],
 ) -> Result<(bool, u64, &[u8]), ReadFault>
     requires { 64 ≤ end }
-    ensures reads { Gives (λ x. ((x.0, x.1), x.2.now)) result (signed_digits_at most end left bytes.now) }
+    ensures reads { Gives (λ x. ((x.0, x.1), x.2.now)) result
+        (signed_digits_at most end left bytes.now) }
     ensures within { IfOk result (λ x. x.1 < end) }
 {
     if most == 0 {
@@ -127,7 +130,8 @@ fn signed_digits(
 /// A number with a sign, its size below `end`, of at most `most` bytes: whether it is negative, and its size.
 pub fn signed_below(most: u8, end: u64, bytes: &[u8]) -> Result<(bool, u64, &[u8]), ReadFault>
     requires { 64 ≤ end }
-    ensures reads { Gives (λ x. ((x.0, x.1), x.2.now)) result (signed_digits_at most end (length bytes.now) bytes.now) }
+    ensures reads { Gives (λ x. ((x.0, x.1), x.2.now)) result
+        (signed_digits_at most end (length bytes.now) bytes.now) }
     ensures within { IfOk result (λ x. x.1 < end) }
 {
     signed_digits(most, end, bytes.len(), bytes)

@@ -4,7 +4,8 @@
 
 ghost use Rattle.std.specs.Prelude.{◌≡◌, ◌≤◌, length, OnOk};
 ghost use Rattle.verse_code.specs.Validity.{IsText, IsClass};
-ghost use Rattle.verse_image.specs.Format.{number, text, place, flag, function, table, class, operand, operands, operation};
+ghost use Rattle.verse_image.specs.Format.{number, text, place, flag, function, table, class};
+ghost use Rattle.verse_image.specs.Format.{operand, operands, operation};
 ghost use Rattle.verse_image.specs.Writing.{Writes};
 
 use crate::digits::{push_byte, push_bytes, push_integer, push_number};

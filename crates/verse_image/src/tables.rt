@@ -1,7 +1,9 @@
 //! Tables are read.
 
 ghost use Rattle.std.specs.Prelude.{◌≡◌, Ok, slice_get};
-ghost use Rattle.verse_image.specs.Reading.{Gives, number_at, within_at, many_at, table_at, text_at, place_at, function_at, class_at, main_at, may_begin, tables_at};
+ghost use Rattle.verse_image.specs.Reading.{Gives, number_at, within_at, many_at, table_at};
+ghost use Rattle.verse_image.specs.Reading.{text_at, place_at, function_at, class_at, main_at};
+ghost use Rattle.verse_image.specs.Reading.{may_begin, tables_at};
 
 use crate::faults::ReadFault;
 use crate::fields::{function, place, text};

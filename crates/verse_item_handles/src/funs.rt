@@ -47,7 +47,8 @@ impl Drop for ParamTree {
 
 impl ParamTree {
     pub fn new(node: u32, place: Place, name: Name, ty: Written) -> ParamTree
-        ensures { param_of result ≡ record { number = node; place = place; name = name; written = written_of ty } }
+        ensures { param_of result ≡
+            record { number = node; place = place; name = name; written = written_of ty } }
     {
         ParamTree {
             param: Param {
@@ -148,7 +149,18 @@ impl FunTree {
         ty: Written,
         body: Tree,
     ) -> FunTree
-        ensures { fun_of result ≡ record { number = head.node; place = head.place; name = head.name; specs = map spec_of head.specs; params = map param_of params; effects = map spec_of effects; written = written_of ty; body = tree_of body } }
+        ensures { fun_of result ≡ record {
+          number = head.node;
+          place = head.place;
+          name =
+              head.name;
+          specs = map spec_of head.specs;
+          params = map param_of params;
+          effects =
+              map spec_of effects;
+          written = written_of ty;
+          body = tree_of body;
+        } }
     {
         let Head {
             node,

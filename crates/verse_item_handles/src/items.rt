@@ -39,7 +39,8 @@ impl Drop for ItemTree {
 impl ItemTree {
     /// `using` with its path.
     pub fn using(node: u32, place: Place, path: Items<Items<Name>>) -> ItemTree
-        ensures { item_of result ≡ t.ItemTree.using (record { number = node; place = place; path = path }) }
+        ensures { item_of result ≡ t.ItemTree.using
+            (record { number = node; place = place; path = path }) }
     {
         ItemTree {
             item: Item::Using(Using { node, place, path }),
@@ -47,7 +48,15 @@ impl ItemTree {
     }
 
     pub fn enumeration(head: Head, values: Items<Name>) -> ItemTree
-        ensures { item_of result ≡ t.ItemTree.enumeration (record { number = head.node; place = head.place; name = head.name; specs = map spec_of head.specs; values = values }) }
+        ensures { item_of result ≡ t.ItemTree.enumeration
+            (record {
+              number = head.node;
+              place = head.place;
+              name = head.name;
+              specs =
+                  map spec_of head.specs;
+              values = values;
+            }) }
     {
         let Head {
             node,
@@ -73,7 +82,18 @@ impl ItemTree {
         parent: Option<Name>,
         members: MemberTrees,
     ) -> ItemTree
-        ensures { item_of result ≡ t.ItemTree.class (record { number = head.node; place = head.place; name = head.name; specs = map spec_of head.specs; class_specs = map spec_of class_specs; parent = parent; members = map member_of members }) }
+        ensures { item_of result ≡ t.ItemTree.class
+            (record {
+              number = head.node;
+              place = head.place;
+              name = head.name;
+              specs =
+                  map spec_of head.specs;
+              class_specs = map spec_of class_specs;
+              parent =
+                  parent;
+              members = map member_of members;
+            }) }
     {
         let Head {
             node,

@@ -41,7 +41,19 @@ impl Drop for MemberTree {
 impl MemberTree {
     /// A field without `var`, with its default where it has one.
     pub fn field(alloc: Global, head: Head, ty: Written, default: Option<Tree>) -> MemberTree
-        ensures { member_of result ≡ t.MemberTree.field (record { number = head.node; place = head.place; is_var = false; var_specs = []; name = head.name; specs = map spec_of head.specs; written = written_of ty; default = option_map tree_of default }) }
+        ensures { member_of result ≡
+            t.MemberTree.field (record {
+              number = head.node;
+              place = head.place;
+              is_var = false;
+              var_specs = [];
+              name =
+                  head.name;
+              specs = map spec_of head.specs;
+              written = written_of ty;
+              default =
+                  option_map tree_of default;
+            }) }
     {
         member_field(head, false, Items::new(alloc), ty, default)
     }
@@ -53,7 +65,19 @@ impl MemberTree {
         ty: Written,
         default: Option<Tree>,
     ) -> MemberTree
-        ensures { member_of result ≡ t.MemberTree.field (record { number = head.node; place = head.place; is_var = true; var_specs = map spec_of var_specs; name = head.name; specs = map spec_of head.specs; written = written_of ty; default = option_map tree_of default }) }
+        ensures { member_of result ≡
+            t.MemberTree.field (record {
+              number = head.node;
+              place = head.place;
+              is_var = true;
+              var_specs =
+                  map spec_of var_specs;
+              name = head.name;
+              specs = map spec_of head.specs;
+              written =
+                  written_of ty;
+              default = option_map tree_of default;
+            }) }
     {
         member_field(head, true, var_specs, ty, default)
     }
@@ -83,7 +107,19 @@ pub fn member_field(
     ty: Written,
     default: Option<Tree>,
 ) -> MemberTree
-    ensures { member_of result ≡ t.MemberTree.field (record { number = head.node; place = head.place; is_var = is_var; var_specs = map spec_of var_specs; name = head.name; specs = map spec_of head.specs; written = written_of ty; default = option_map tree_of default }) }
+    ensures { member_of result ≡
+        t.MemberTree.field (record {
+          number = head.node;
+          place = head.place;
+          is_var =
+              is_var;
+          var_specs = map spec_of var_specs;
+          name = head.name;
+          specs =
+              map spec_of head.specs;
+          written = written_of ty;
+          default = option_map tree_of default;
+        }) }
 {
     let Head {
         node,

@@ -14,8 +14,11 @@ use Rattle.verse_outline.specs.declared.counting.Counts.{Counts}
 use Rattle.verse_outline.specs.Known.{Known}
 use Rattle.verse_outline.specs.Lines.{Home, home}
 use Rattle.verse_items.specs.Rules.{rules_at, quiet, field, method, class, function, program}
-use Rattle.verse_items.specs.Nodes.{Declared, number_of, place_of, one, quiet_node, written_declared, writtens_declared, param_declared, params_declared, fun_declared, field_declared, member_declared, members_declared, item_declared, items_declared, program_declared, fault_of, keep_fault, Breaks}
-use Rattle.verse_items.specs.Faults.{written_fault, writtens_fault, params_fault, fun_fault, member_fault, members_fault, item_fault, items_fault, program_fault}
+use Rattle.verse_items.specs.Nodes.{Declared, number_of, place_of, one, quiet_node, written_declared, writtens_declared, param_declared}
+use Rattle.verse_items.specs.Nodes.{params_declared, fun_declared, field_declared, member_declared, members_declared, item_declared}
+use Rattle.verse_items.specs.Nodes.{items_declared, program_declared, fault_of, keep_fault, Breaks}
+use Rattle.verse_items.specs.Faults.{written_fault, writtens_fault, params_fault, fun_fault, member_fault, members_fault, item_fault}
+use Rattle.verse_items.specs.Faults.{items_fault, program_fault}
 
 first_none : (o : Option Fault) → first o None ≡ o
 first_none None = refl
@@ -68,14 +71,16 @@ module _ (k : Known) where
     writtens_is (more_writtens w ws) = both (written_declared w) (writtens_declared ws) (written_is w) (writtens_is ws)
 
   param_is : (p : ParamTree) → written_fault k p.written ≡ faults (param_declared p)
-  param_is p = sym (first_none (written_fault k p.written)) ∙ both {a = written_fault k p.written} {b = None} (written_declared p.written) (one p.number p.place quiet) (written_is p.written) refl
+  param_is p = sym (first_none (written_fault k p.written)) ∙ both {a = written_fault k p.written} {b = None} (written_declared p.written)
+      (one p.number p.place quiet) (written_is p.written) refl
 
   params_is : (ps : List ParamTree) → params_fault k ps ≡ faults (params_declared ps)
   params_is [] = refl
   params_is (p ∷ ps) = both (param_declared p) (params_declared ps) (param_is p) (params_is ps)
 
   fun_is : (f : FunTree) → fun_fault k f ≡ faults (fun_declared f)
-  fun_is f = and_quiet (params_declared f.params ++ written_declared f.written) (post_order f.body) (both (params_declared f.params) (written_declared f.written) (params_is f.params) (written_is f.written))
+  fun_is f = and_quiet (params_declared f.params ++ written_declared f.written) (post_order f.body)
+      (both (params_declared f.params) (written_declared f.written) (params_is f.params) (written_is f.written))
 
   field_is : (d : FieldTree) → written_fault k d.written ≡ faults (field_declared d)
   field_is d = and_quiet (written_declared d.written) (default_order d.default) (written_is d.written)
@@ -86,12 +91,14 @@ module _ (k : Known) where
 
   members_is : (h : Home) (n : ℕ) (ms : List MemberTree) → members_fault k h n ms ≡ faults (members_declared h n ms)
   members_is h n [] = refl
-  members_is h n (m ∷ ms) = both (member_declared h n m) (members_declared h (fun_after m n) ms) (member_is h n m) (members_is h (fun_after m n) ms)
+  members_is h n (m ∷ ms) = both (member_declared h n m) (members_declared h (fun_after m n) ms) (member_is h n m)
+      (members_is h (fun_after m n) ms)
 
   item_is : (it : ItemTree) (n : Counts) → item_fault k it n ≡ faults (item_declared k it n)
   item_is (i.ItemTree.using u) n = refl
   item_is (i.ItemTree.enumeration e) n = sym (first_none _)
-  item_is (i.ItemTree.class c) n = both (members_declared (home k n.classes c.members) n.funs c.members) (one c.number c.place (class n.classes c)) (members_is (home k n.classes c.members) n.funs c.members) (sym (first_none _))
+  item_is (i.ItemTree.class c) n = both (members_declared (home k n.classes c.members) n.funs c.members)
+      (one c.number c.place (class n.classes c)) (members_is (home k n.classes c.members) n.funs c.members) (sym (first_none _))
   item_is (i.ItemTree.function f) n = both (fun_declared f) (one f.number f.place (function n.funs f)) (fun_is f) (sym (first_none _))
 
   items_is : (is : List Counted) → items_fault k is ≡ faults (items_declared k is)
@@ -99,7 +106,8 @@ module _ (k : Known) where
   items_is (j ∷ is) = both (item_declared k j.item j.before) (items_declared k is) (item_is j.item j.before) (items_is is)
 
   pub program_is : (is : List ItemTree) → program_fault k (length (items_order is)) is ≡ faults (program_declared k is)
-  program_is is = both (items_declared k k.items) (one (length (items_order is)) program_place (program is)) (items_is k.items) (sym (first_none _))
+  program_is is = both (items_declared k k.items) (one (length (items_order is)) program_place (program is)) (items_is k.items)
+      (sym (first_none _))
 
   kept : (vs : List Declared) (o : Option Fault) → each (keep_fault k) vs o ≡ first o (faults vs)
   unfolding keep_fault
@@ -111,16 +119,21 @@ module _ (k : Known) where
 
   told : (vs : List Declared) → InOrder number_of vs → Told number_of (keep_fault k) (Breaks k) vs None (each (keep_fault k) vs None)
   unfolding keep_fault
-  told vs o = least_kept number_of place_of (keep_fault k) (Breaks k) (λ v s. first_true (rules_at k v.subject)) finds (λ s. s) (λ v s. refl) vs None o refl
+  told vs o = least_kept number_of place_of (keep_fault k) (Breaks k) (λ v s. first_true (rules_at k v.subject)) finds (λ s. s)
+      (λ v s. refl) vs None o refl
 
   -- the first fault of the items is the least of all
-  pub items_told : (is : List ItemTree) → InOrder number_of (program_declared k is) → Told number_of (keep_fault k) (Breaks k) (program_declared k is) None (program_fault k (length (items_order is)) is)
-  items_told is o = subst (Told number_of (keep_fault k) (Breaks k) (program_declared k is) None) (kept (program_declared k is) None ∙ sym (program_is is)) (told (program_declared k is) o)
+  pub items_told : (is : List ItemTree) → InOrder number_of (program_declared k is) →
+      Told number_of (keep_fault k) (Breaks k) (program_declared k is) None (program_fault k (length (items_order is)) is)
+  items_told is o = subst (Told number_of (keep_fault k) (Breaks k) (program_declared k is) None) (kept (program_declared k is) None ∙
+      sym (program_is is)) (told (program_declared k is) o)
 
   placed : (vs : List Declared) → Placed number_of place_of vs (each (keep_fault k) vs None)
   unfolding keep_fault
-  placed vs = placed_kept number_of place_of (keep_fault k) (Breaks k) (λ v s. first_true (rules_at k v.subject)) finds (λ s. s) (λ v s. refl) vs None refl
+  placed vs = placed_kept number_of place_of (keep_fault k) (Breaks k) (λ v s. first_true (rules_at k v.subject)) finds (λ s. s)
+      (λ v s. refl) vs None refl
 
   -- and stands at one of the nodes
   pub items_placed : (is : List ItemTree) → Placed number_of place_of (program_declared k is) (program_fault k (length (items_order is)) is)
-  items_placed is = subst (Placed number_of place_of (program_declared k is)) (kept (program_declared k is) None ∙ sym (program_is is)) (placed (program_declared k is))
+  items_placed is = subst (Placed number_of place_of (program_declared k is)) (kept (program_declared k is) None ∙ sym (program_is is))
+      (placed (program_declared k is))

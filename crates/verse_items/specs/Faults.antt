@@ -59,7 +59,8 @@ members_fault k h n [] = None
 members_fault k h n (m ∷ ms) = first (member_fault k h n m) (members_fault k h (fun_after m n) ms)
 
 abbrev pub class_fault : Known → ClassTree → Counts → Option Fault
-class_fault k c n = first (members_fault k (home k n.classes c.members) n.funs c.members) (subject_fault k c.number c.place (class n.classes c))
+class_fault k c n = first (members_fault k (home k n.classes c.members) n.funs c.members)
+    (subject_fault k c.number c.place (class n.classes c))
 
 abbrev pub function_fault : Known → FunTree → Counts → Option Fault
 function_fault k f n = first (fun_fault k f) (subject_fault k f.number f.place (function n.funs f))

@@ -79,7 +79,8 @@ members_declared h n (m ∷ ms) = member_declared h n m ++ members_declared h (f
 abbrev pub item_declared : Known → ItemTree → Counts → List Declared
 item_declared k (i.ItemTree.using u) n = one u.number u.place quiet
 item_declared k (i.ItemTree.enumeration e) n = one e.number e.place (enumeration e)
-item_declared k (i.ItemTree.class c) n = members_declared (home k n.classes c.members) n.funs c.members ++ one c.number c.place (class n.classes c)
+item_declared k (i.ItemTree.class c) n = members_declared (home k n.classes c.members) n.funs c.members ++
+    one c.number c.place (class n.classes c)
 item_declared k (i.ItemTree.function f) n = fun_declared f ++ one f.number f.place (function n.funs f)
 
 abbrev pub items_declared : Known → List Counted → List Declared

@@ -1,5 +1,6 @@
 -- The rules of items and members, each a test at one node.
-use Rattle.std.specs.Prelude.{ℕ, Bool, true, false, cond, ◌&&◌, ◌||◌, not, List, [], ◌∷◌, Option, Some, None, is_some, is_none, slice_get, codes}
+use Rattle.std.specs.Prelude.{ℕ, Bool, true, false, cond, ◌&&◌, ◌||◌, not, List, [], ◌∷◌, Option, Some, None, is_some, is_none, slice_get}
+use Rattle.std.specs.Prelude.{codes}
 use Rattle.std.specs.Str.{bytes_eq}
 use Rattle.verse_tree.specs.Tree.{Bytes}
 use Rattle.verse_tree.specs.ItemTree.{FieldTree, FunTree, EnumTree, ClassTree, ItemTree}
@@ -127,7 +128,8 @@ is_same_mark true b = b
 is_same_mark false b = not b
 
 abbrev pub has_same_effects : Effects → Effects → Bool
-has_same_effects e f = is_same_mark e.computes f.computes && (is_same_mark e.transacts f.transacts && (is_same_mark e.decides f.decides && is_same_mark e.suspends f.suspends))
+has_same_effects e f = is_same_mark e.computes f.computes &&
+    (is_same_mark e.transacts f.transacts && (is_same_mark e.decides f.decides && is_same_mark e.suspends f.suspends))
 
 -- a method has the parameter types and the effects of another one, and its result fits that one's
 abbrev pub fits_over : List Class → Function → Function → Bool

@@ -49,7 +49,8 @@ pub fn define(alloc: Global, tree: &Tree) -> Result<Tables, Front>
     requires numbered { IsNumbered (map item_of tree.now.items) tree.now.nodes }
     ensures tables { IfOk result (λ t. tables_of t ≡ tables (map item_of tree.now.items)) }
     ensures fine { IfOk result (λ _. (n c : ℕ) → ItemsBreak (map item_of tree.now.items) n c → ⊥) }
-    ensures refused { (r : Refusal) → IsErrOf result (front.Refused r) → IsLeastRefusal (map item_of tree.now.items) r }
+    ensures refused { (r : Refusal) → IsErrOf result (front.Refused r) →
+        IsLeastRefusal (map item_of tree.now.items) r }
 {
     let facts = know(alloc, tree.items.as_slice())?;
     let fault = least_fault(alloc, &facts, tree)?;

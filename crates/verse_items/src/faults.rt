@@ -3,7 +3,8 @@
 ghost use Rattle.std.specs.Prelude.{◌≡◌, map, IfOk};
 ghost use Rattle.verse_tree.specs.View.{written_of, writtens};
 ghost use Rattle.verse_tree.specs.TypeView as written;
-ghost use Rattle.verse_tree.specs.ItemView.{param_of, fun_of, field_of, member_of, class_of, item_of};
+ghost use Rattle.verse_tree.specs.ItemView.{param_of, fun_of, field_of, member_of, class_of};
+ghost use Rattle.verse_tree.specs.ItemView.{item_of};
 ghost use Rattle.verse_least.specs.Least.{first};
 ghost use Rattle.verse_outline.specs.Counting.{counted_of};
 ghost use Rattle.verse_outline.specs.Known.{known_of};
@@ -50,7 +51,9 @@ fn written_fault(known: &Known, ty: &TyExpr) -> Option<Fault>
 
 #[cycle(written)]
 fn map_fault(known: &Known, parts: &MapTy) -> Option<Fault>
-    ensures { result ≡ first (faults.written_fault (known_of known.now) (written.map_of parts.now).0) (faults.written_fault (known_of known.now) (written.map_of parts.now).1) }
+    ensures { result ≡ first (faults.written_fault (known_of known.now)
+        (written.map_of parts.now).0)
+        (faults.written_fault (known_of known.now) (written.map_of parts.now).1) }
 {
     keep_first(
         written_fault(known, parts.key.get()),
@@ -60,7 +63,8 @@ fn map_fault(known: &Known, parts: &MapTy) -> Option<Fault>
 
 #[cycle(written)]
 fn writtens_fault(known: &Known, parts: &[TyExpr]) -> Option<Fault>
-    ensures { result ≡ faults.writtens_fault (known_of known.now) (writtens (map written_of parts.now)) }
+    ensures { result ≡ faults.writtens_fault (known_of known.now)
+        (writtens (map written_of parts.now)) }
 {
     'parts: for part in parts {
         if let Some(fault) = written_fault(known, part) {
@@ -91,7 +95,8 @@ fn fun_fault(known: &Known, fun: &Fun) -> Option<Fault>
 }
 
 fn field_fault(known: &Known, home: &Home, field: &Field) -> Option<Fault>
-    ensures { result ≡ faults.field_fault (known_of known.now) (home_of home.now) (field_of field.now) }
+    ensures { result ≡ faults.field_fault (known_of known.now) (home_of home.now)
+        (field_of field.now) }
 {
     keep_first(
         written_fault(known, &field.ty),
@@ -100,7 +105,8 @@ fn field_fault(known: &Known, home: &Home, field: &Field) -> Option<Fault>
 }
 
 fn method_fault(known: &Known, home: &Home, number: u32, fun: &Fun) -> Option<Fault>
-    ensures { result ≡ faults.method_fault (known_of known.now) (home_of home.now) number (fun_of fun.now) }
+    ensures { result ≡ faults.method_fault (known_of known.now) (home_of home.now) number
+        (fun_of fun.now) }
 {
     keep_first(
         fun_fault(known, fun),
@@ -109,7 +115,8 @@ fn method_fault(known: &Known, home: &Home, number: u32, fun: &Fun) -> Option<Fa
 }
 
 fn member_fault(known: &Known, home: &Home, number: u32, member: &Member) -> Option<Fault>
-    ensures { result ≡ faults.member_fault (known_of known.now) (home_of home.now) number (member_of member.now) }
+    ensures { result ≡ faults.member_fault (known_of known.now) (home_of home.now) number
+        (member_of member.now) }
 {
     match member {
         Member::Field(field) => field_fault(known, home, field),
@@ -123,7 +130,8 @@ fn members_fault(
     number: u32,
     members: &[Member],
 ) -> Result<Option<Fault>, Memory>
-    ensures { IfOk result (λ r. r ≡ faults.members_fault (known_of known.now) (home_of home.now) number (map member_of members.now)) }
+    ensures { IfOk result (λ r. r ≡ faults.members_fault (known_of known.now)
+        (home_of home.now) number (map member_of members.now)) }
 {
     let mut at = number;
     'members: for member in members {
@@ -142,7 +150,9 @@ fn home_fault<'a>(
     at: Counts,
     members: &'a [Member],
 ) -> Result<Option<Fault>, Memory>
-    ensures { IfOk result (λ r. r ≡ faults.members_fault (known_of known.now) (home (known_of known.now) at.classes (map member_of members.now)) at.funs (map member_of members.now)) }
+    ensures { IfOk result (λ r. r ≡ faults.members_fault (known_of known.now)
+        (home (known_of known.now) at.classes (map member_of members.now)) at.funs
+        (map member_of members.now)) }
 {
     if members.is_empty() {
         return Ok(None);
@@ -157,7 +167,8 @@ fn class_fault<'a>(
     at: Counts,
     class: &'a ClassItem,
 ) -> Result<Option<Fault>, Memory>
-    ensures { IfOk result (λ r. r ≡ faults.class_fault (known_of known.now) (class_of class.now) at) }
+    ensures { IfOk result (λ r. r ≡ faults.class_fault (known_of known.now)
+        (class_of class.now) at) }
 {
     let inner = home_fault(alloc, known, at, class.members.as_slice())?;
     let code = class_code(known, at.classes, class);
@@ -197,7 +208,8 @@ fn items_fault<'a>(
     known: &Known<'a>,
     items: &[Counted<'a>],
 ) -> Result<Option<Fault>, Memory>
-    ensures { IfOk result (λ r. r ≡ faults.items_fault (known_of known.now) (map counted_of items.now)) }
+    ensures { IfOk result (λ r. r ≡ faults.items_fault (known_of known.now)
+        (map counted_of items.now)) }
 {
     'items: for item in items {
         if let Some(fault) = item_fault(alloc, known, item.before, item.item)? {
@@ -214,7 +226,8 @@ pub fn program_fault<'a>(
     last: u32,
     items: &'a [Item],
 ) -> Result<Option<Fault>, Memory>
-    ensures { IfOk result (λ r. r ≡ faults.program_fault (known_of known.now) last (map item_of items.now)) }
+    ensures { IfOk result (λ r. r ≡ faults.program_fault (known_of known.now) last
+        (map item_of items.now)) }
 {
     let inner = items_fault(alloc, known, &known.items)?;
     let place = Place {

@@ -58,7 +58,8 @@ fn is_marked(specs: &[Spec]) -> bool
 
 /// The rule that a name in a type breaks.
 pub fn type_name_code(known: &Known, name: &[u8]) -> Option<u16>
-    ensures { result ≡ first_true (rules.rules_at (known_of known.now) (rules.Subject.type_name name.now)) }
+    ensures { result ≡ first_true
+        (rules.rules_at (known_of known.now) (rules.Subject.type_name name.now)) }
 {
     if known.index.types.has(name) {
         None
@@ -78,7 +79,9 @@ fn is_field_defined(known: &Known, home: &Home, name: &[u8]) -> bool
 
 /// The least rule that a field breaks.
 pub fn field_code(known: &Known, home: &Home, field: &Field) -> Option<u16>
-    ensures { result ≡ first_true (rules.rules_at (known_of known.now) (rules.Subject.field (home_of home.now) (field_of field.now))) }
+    ensures { result ≡ first_true
+        (rules.rules_at (known_of known.now)
+        (rules.Subject.field (home_of home.now) (field_of field.now))) }
 {
     if is_field_defined(known, home, field.name.as_slice()) {
         return Some(DEFINED);
@@ -130,7 +133,8 @@ fn are_same(types: &[Ty], others: &[Ty]) -> bool
 }
 
 fn can_override(known: &Known, fun: &FunInfo, other: &FunInfo) -> bool
-    ensures { result ≡ rules.fits_over (known_of known.now).outline (function_of fun.now) (function_of other.now) }
+    ensures { result ≡ rules.fits_over (known_of known.now).outline (function_of fun.now)
+        (function_of other.now) }
 {
     are_same(fun.params.as_slice(), other.params.as_slice())
         && has_same_effects(&fun.effects, &other.effects)
@@ -163,7 +167,9 @@ fn misses_override(known: &Known, marked: bool, fun: u32, above: Option<Ref>) ->
 
 /// The least rule that a method breaks, by the number of its function.
 pub fn method_code(known: &Known, home: &Home, number: u32, fun: &Fun) -> Option<u16>
-    ensures { result ≡ first_true (rules.rules_at (known_of known.now) (rules.Subject.method (home_of home.now) number (fun_of fun.now))) }
+    ensures { result ≡ first_true
+        (rules.rules_at (known_of known.now)
+        (rules.Subject.method (home_of home.now) number (fun_of fun.now))) }
 {
     let name = fun.name.as_slice();
     if is_method_defined(known, home, name) {
@@ -194,7 +200,9 @@ fn any_again(alloc: Global, values: &[Name]) -> Result<bool, Memory>
 
 /// The least rule that an enum breaks.
 pub fn enum_code(alloc: Global, known: &Known, item: &EnumItem) -> Result<Option<u16>, Memory>
-    ensures { IfOk result (λ r. r ≡ first_true (rules.rules_at (known_of known.now) (rules.Subject.enumeration (enum_of item.now)))) }
+    ensures { IfOk result (λ r. r ≡
+        first_true (rules.rules_at (known_of known.now)
+        (rules.Subject.enumeration (enum_of item.now)))) }
 {
     let again = any_again(alloc, item.values.as_slice())?;
     if is_doubled(known, item.name.as_slice()) || again {
@@ -216,7 +224,8 @@ fn lacks_parent(known: &Known, name: &Option<Name>) -> bool
 }
 
 fn is_circular(known: &Known, number: u32) -> bool
-    ensures { result ≡ rules.leads_to (known_of known.now).outline number (fitting.parent_of (known_of known.now).outline number) }
+    ensures { result ≡ rules.leads_to (known_of known.now).outline number
+        (fitting.parent_of (known_of known.now).outline number) }
 {
     match parent(known.outline.as_slice(), number) {
         None => false,
@@ -226,7 +235,8 @@ fn is_circular(known: &Known, number: u32) -> bool
 
 /// The least rule that a class breaks, by its number.
 pub fn class_code(known: &Known, number: u32, class: &ClassItem) -> Option<u16>
-    ensures { result ≡ first_true (rules.rules_at (known_of known.now) (rules.Subject.class number (class_of class.now))) }
+    ensures { result ≡ first_true
+        (rules.rules_at (known_of known.now) (rules.Subject.class number (class_of class.now))) }
 {
     if is_doubled(known, class.name.as_slice()) {
         return Some(DEFINED);
@@ -271,7 +281,8 @@ fn has_main(items: &[Item]) -> bool
 
 /// The rule that a program breaks, as its node stands for it.
 pub fn program_code(known: &Known, items: &[Item]) -> Option<u16>
-    ensures { result ≡ first_true (rules.rules_at (known_of known.now) (rules.Subject.program (map item_of items.now))) }
+    ensures { result ≡ first_true
+        (rules.rules_at (known_of known.now) (rules.Subject.program (map item_of items.now))) }
 {
     let _items = known.items.len();
     if has_main(items) { None } else { Some(NO_MAIN) }
@@ -313,7 +324,8 @@ fn can_start(functions: &Items<FunInfo>, number: u32) -> bool
 
 /// The least rule that a function breaks that is no method, by its number.
 pub fn function_code(known: &Known, number: u32, fun: &Fun) -> Option<u16>
-    ensures { result ≡ first_true (rules.rules_at (known_of known.now) (rules.Subject.function number (fun_of fun.now))) }
+    ensures { result ≡ first_true
+        (rules.rules_at (known_of known.now) (rules.Subject.function number (fun_of fun.now))) }
 {
     let name = fun.name.as_slice();
     if is_doubled(known, name) {

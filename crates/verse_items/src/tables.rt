@@ -1,6 +1,7 @@
 //! The tables of functions, classes and enums.
 
-ghost use Rattle.std.specs.Prelude.{◌≡◌, ◌++◌, ◌+◌, [], map, length, option_map, IfOk, OnOk, slice_get};
+ghost use Rattle.std.specs.Prelude.{◌≡◌, ◌++◌, ◌+◌, [], map, length, option_map, IfOk, OnOk};
+ghost use Rattle.std.specs.Prelude.{slice_get};
 ghost use Rattle.verse_tree.specs.View.{tree_of};
 ghost use Rattle.verse_tree.specs.ItemView.{member_of, item_of};
 ghost use Rattle.verse_tree.specs.ItemView as view;
@@ -41,7 +42,8 @@ fn default_number(default: &Option<Boxed<Expr>>) -> Option<u32>
 }
 
 fn field_info(alloc: Global, types: &Dict, field: &Field) -> Result<FieldInfo, Memory>
-    ensures { IfOk result (λ f. field_of f ≡ tables.field_info (table_of types.now) (view.field_of field.now)) }
+    ensures { IfOk result (λ f. field_of f ≡ tables.field_info (table_of types.now)
+        (view.field_of field.now)) }
 {
     let ty = spelled(alloc, types, &field.ty)?;
     Ok(FieldInfo {
@@ -57,7 +59,8 @@ fn add_field(
     found: &mut Items<FieldInfo>,
     member: &Member,
 ) -> Result<(), Memory>
-    ensures { OnOk result (map field_of found.new ≡ map field_of found.old ++ tables.member_fields (table_of types.now) (member_of member.now)) }
+    ensures { OnOk result (map field_of found.new ≡ map field_of found.old ++
+        tables.member_fields (table_of types.now) (member_of member.now)) }
 {
     match member {
         Member::Field(field) => {
@@ -74,7 +77,8 @@ fn add_fields(
     found: &mut Items<FieldInfo>,
     members: &[Member],
 ) -> Result<(), Memory>
-    ensures { OnOk result (map field_of found.new ≡ map field_of found.old ++ tables.own_fields (table_of types.now) (map member_of members.now)) }
+    ensures { OnOk result (map field_of found.new ≡ map field_of found.old ++
+        tables.own_fields (table_of types.now) (map member_of members.now)) }
 {
     'members: for member in members {
         add_field(alloc, types, found, member)?;
@@ -83,7 +87,8 @@ fn add_fields(
 }
 
 fn members_at<'a>(notes: &[Note<'a>], at: u32) -> &'a [Member]
-    ensures { map member_of result.now ≡ tables.note_members (slice_get (map note_of notes.now) at) }
+    ensures { map member_of result.now ≡
+        tables.note_members (slice_get (map note_of notes.now) at) }
 {
     match notes.get(at as usize) {
         None => &[],
@@ -98,7 +103,8 @@ fn fields_of(
     notes: &[Note],
     line: &mut Items<u32>,
 ) -> Result<Items<FieldInfo>, Memory>
-    ensures { IfOk result (λ r. map field_of r ≡ tables.fields_of (table_of types.now) (map note_of notes.now) line.old) }
+    ensures { IfOk result (λ r. map field_of r ≡
+        tables.fields_of (table_of types.now) (map note_of notes.now) line.old) }
 {
     let mut found = Items::new(alloc);
     'classes: while let Some(at) = line.pop() {
@@ -139,7 +145,8 @@ fn class_table(
     class: u32,
     outline: &ClassInfo,
 ) -> Result<ClassInfo, Memory>
-    ensures { IfOk result (λ r. class_of r ≡ tables.class_table (known_of known.now) class (class_of outline.now)) }
+    ensures { IfOk result (λ r. class_of r ≡ tables.class_table (known_of known.now) class
+        (class_of outline.now)) }
 {
     let mut line = line_of(alloc, known.outline.as_slice(), class)?;
     let fields = fields_of(alloc, &known.index.types, &known.notes, &mut line)?;

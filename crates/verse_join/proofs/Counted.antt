@@ -1,12 +1,17 @@
 -- Numbering leaves the count of nodes.
 use Rattle.std.proofs.Common.{◌≡◌, ℕ, ◌+◌, List, [], ◌∷◌, Option, Some, None, map, refl, sym, ap, ◌∙◌, arith}
-use Rattle.verse_tree.specs.Tree.{Written, Writtens, no_writtens, more_writtens, Tree, tree, Shape, Trees, no_trees, more_trees, Holes, no_holes, more_holes, Pairs, no_pairs, more_pairs, Givens, no_givens, more_givens}
+use Rattle.verse_tree.specs.Tree.{Written, Writtens, no_writtens, more_writtens, Tree, tree, Shape, Trees, no_trees, more_trees, Holes}
+use Rattle.verse_tree.specs.Tree.{no_holes, more_holes, Pairs, no_pairs, more_pairs, Givens, no_givens, more_givens}
 use Rattle.verse_tree.specs.Tree as t
 use Rattle.verse_tree.specs.ItemTree.{FieldTree, ParamTree, FunTree, MemberTree, ItemTree}
 use Rattle.verse_tree.specs.ItemTree as i
 use Rattle.verse_tree.specs.ItemView.{item_of}
 use Rattle.verse_tree.specs.declared.items.Item.{Item}
-use Rattle.verse_tree.specs.Numbering.{written_nodes, written_numbered, writtens_nodes, writtens_numbered, nodes, numbered, shape_nodes, shape_numbered, trees_nodes, trees_numbered, holes_nodes, holes_numbered, pairs_nodes, pairs_numbered, givens_nodes, givens_numbered, list_nodes, list_numbered, default_nodes, default_numbered, field_nodes, field_numbered, param_nodes, param_numbered, fun_nodes, fun_numbered, member_nodes, member_numbered, item_nodes, item_numbered, items_numbered, program_nodes}
+use Rattle.verse_tree.specs.Numbering.{written_nodes, written_numbered, writtens_nodes, writtens_numbered, nodes, numbered, shape_nodes}
+use Rattle.verse_tree.specs.Numbering.{shape_numbered, trees_nodes, trees_numbered, holes_nodes, holes_numbered, pairs_nodes}
+use Rattle.verse_tree.specs.Numbering.{pairs_numbered, givens_nodes, givens_numbered, list_nodes, list_numbered, default_nodes}
+use Rattle.verse_tree.specs.Numbering.{default_numbered, field_nodes, field_numbered, param_nodes, param_numbered, fun_nodes, fun_numbered}
+use Rattle.verse_tree.specs.Numbering.{member_nodes, member_numbered, item_nodes, item_numbered, items_numbered, program_nodes}
 
 mutual
   same_written : (w : Written) (n : ℕ) → written_nodes (written_numbered w n) ≡ written_nodes w
@@ -42,7 +47,8 @@ mutual
   same_parts (t.Shape.returned a) n = same_nodes a n
   same_parts t.Shape.returned_unit n = refl
   same_parts t.Shape.break_form n = refl
-  same_parts (t.Shape.if_else ts a b) n = let i = same_trees ts n in let j = same_nodes a (n + trees_nodes ts) in let k = same_nodes b (n + trees_nodes ts + nodes a) in omega (arith, i, j, k)
+  same_parts (t.Shape.if_else ts a b) n = let i = same_trees ts n in let j = same_nodes a (n + trees_nodes ts) in let k =
+      same_nodes b (n + trees_nodes ts + nodes a) in omega (arith, i, j, k)
   same_parts (t.Shape.if_alone ts a) n = let i = same_trees ts n in let j = same_nodes a (n + trees_nodes ts) in omega (arith, i, j)
   same_parts (t.Shape.chained x a b) n = let i = same_nodes a n in let j = same_nodes b (n + nodes a) in omega (arith, i, j)
   same_parts (t.Shape.compared x a b) n = let i = same_nodes a n in let j = same_nodes b (n + nodes a) in omega (arith, i, j)
@@ -102,13 +108,15 @@ mutual
 
   same_pairs : (ps : Pairs) (n : ℕ) → pairs_nodes (pairs_numbered ps n) ≡ pairs_nodes ps
   same_pairs no_pairs n = refl
-  same_pairs (more_pairs a b ps) n = let i = same_nodes a n in let j = same_nodes b (n + nodes a) in let k = same_pairs ps (n + (nodes a + nodes b)) in omega (arith, i, j, k)
+  same_pairs (more_pairs a b ps) n = let i = same_nodes a n in let j = same_nodes b (n + nodes a) in let k =
+      same_pairs ps (n + (nodes a + nodes b)) in omega (arith, i, j, k)
 
   same_givens : (gs : Givens) (n : ℕ) → givens_nodes (givens_numbered gs n) ≡ givens_nodes gs
   same_givens no_givens n = refl
   same_givens (more_givens x a gs) n = let i = same_nodes a n in let j = same_givens gs (n + nodes a) in omega (arith, i, j)
 
-same_list : {X : Type 0} (step : X → ℕ → X) (size : X → ℕ) → ((x : X) (n : ℕ) → size (step x n) ≡ size x) → (xs : List X) (n : ℕ) → list_nodes size (list_numbered step size xs n) ≡ list_nodes size xs
+same_list : {X : Type 0} (step : X → ℕ → X) (size : X → ℕ) → ((x : X) (n : ℕ) → size (step x n) ≡ size x) → (xs : List X) (n : ℕ) →
+    list_nodes size (list_numbered step size xs n) ≡ list_nodes size xs
 same_list step size f [] n = refl
 same_list step size f (x ∷ xs) n = let i = f x n in let j = same_list step size f xs (n + size x) in omega (arith, i, j)
 
@@ -143,5 +151,6 @@ same_item (i.ItemTree.function f) n = same_fun f n
 same_program : (is : List ItemTree) (n : ℕ) → program_nodes (items_numbered is n) ≡ program_nodes is
 same_program is n = ap (λ k. k + 1) (same_list item_numbered item_nodes same_item is n)
 
-pub counted : (all : List ItemTree) (items : List Item) (count : ℕ) → map item_of items ≡ items_numbered all 0 → count ≡ program_nodes all → count ≡ program_nodes (map item_of items)
+pub counted : (all : List ItemTree) (items : List Item) (count : ℕ) → map item_of items ≡ items_numbered all 0 → count ≡ program_nodes all →
+    count ≡ program_nodes (map item_of items)
 counted all items count e n = n ∙ sym (same_program all 0) ∙ ap program_nodes (sym e)

@@ -4,8 +4,14 @@ ghost use Rattle.std.specs.Prelude.{◌≡◌, ◌≤◌, ◌+◌, map, IfOk};
 ghost use Rattle.std.specs.Option.{option_map};
 ghost use Rattle.verse_tree.specs.ItemTree as t;
 ghost use Rattle.verse_tree.specs.View.{tree_of};
-ghost use Rattle.verse_tree.specs.ItemView.{using_of, enum_of, field_of, param_of, fun_of, member_of, class_of, item_of};
-ghost use Rattle.verse_tree.specs.Numbering.{list_nodes, list_numbered, default_nodes, default_numbered, using_numbered, enum_numbered, field_nodes, field_numbered, param_nodes, param_numbered, fun_nodes, fun_numbered, member_nodes, member_numbered, class_nodes, class_numbered, item_nodes, item_numbered};
+ghost use Rattle.verse_tree.specs.ItemView.{using_of, enum_of, field_of, param_of, fun_of};
+ghost use Rattle.verse_tree.specs.ItemView.{member_of, class_of, item_of};
+ghost use Rattle.verse_tree.specs.Numbering.{list_nodes, list_numbered, default_nodes};
+ghost use Rattle.verse_tree.specs.Numbering.{default_numbered, using_numbered, enum_numbered};
+ghost use Rattle.verse_tree.specs.Numbering.{field_nodes, field_numbered, param_nodes};
+ghost use Rattle.verse_tree.specs.Numbering.{param_numbered, fun_nodes, fun_numbered, member_nodes};
+ghost use Rattle.verse_tree.specs.Numbering.{member_numbered, class_nodes, class_numbered};
+ghost use Rattle.verse_tree.specs.Numbering.{item_nodes, item_numbered};
 
 use sqlite_items::Boxed;
 use std::alloc::Global;
@@ -27,7 +33,9 @@ use verse_tree::names::Name;
 /// A copy of the items with their nodes numbered from `next` on, and the number behind the last.
 pub fn number_items(alloc: Global, parts: &[Item], next: u32) -> Result<(ItemTrees, u32), Memory>
     requires fits { next + list_nodes item_nodes (map item_of parts.now) ≤ 4294967295 }
-    ensures numbered { IfOk result (λ r. map item_of r.0 ≡ list_numbered item_numbered item_nodes (map item_of parts.now) next) }
+    ensures numbered { IfOk result
+        (λ r. map item_of r.0 ≡ list_numbered item_numbered item_nodes
+        (map item_of parts.now) next) }
     ensures behind { IfOk result (λ r. r.1 ≡ next + list_nodes item_nodes (map item_of parts.now)) }
 {
     let mut done = ItemTrees::new(alloc);
@@ -74,14 +82,16 @@ fn head(alloc: Global, node: u32, place: Place, name: &Name, specs: &[Spec]) -> 
 }
 
 fn number_using(alloc: Global, item: &Using, node: u32) -> Result<ItemTree, Memory>
-    ensures { IfOk result (λ r. item_of r ≡ t.ItemTree.using (using_numbered (using_of item.now) node)) }
+    ensures { IfOk result (λ r. item_of r ≡
+        t.ItemTree.using (using_numbered (using_of item.now) node)) }
 {
     let path = copied_path(alloc, item.path.as_slice())?;
     Ok(ItemTree::using(node, item.place, path))
 }
 
 fn number_enum(alloc: Global, item: &EnumItem, node: u32) -> Result<ItemTree, Memory>
-    ensures { IfOk result (λ r. item_of r ≡ t.ItemTree.enumeration (enum_numbered (enum_of item.now) node)) }
+    ensures { IfOk result (λ r. item_of r ≡
+        t.ItemTree.enumeration (enum_numbered (enum_of item.now) node)) }
 {
     let values = copied_names(alloc, item.values.as_slice())?;
     let head = head(alloc, node, item.place, &item.name, item.specs.as_slice())?;
@@ -90,7 +100,8 @@ fn number_enum(alloc: Global, item: &EnumItem, node: u32) -> Result<ItemTree, Me
 
 fn number_class(alloc: Global, class: &ClassItem, next: u32) -> Result<(ItemTree, u32), Memory>
     requires fits { next + class_nodes (class_of class.now) ≤ 4294967295 }
-    ensures numbered { IfOk result (λ r. item_of r.0 ≡ t.ItemTree.class (class_numbered (class_of class.now) next)) }
+    ensures numbered { IfOk result
+        (λ r. item_of r.0 ≡ t.ItemTree.class (class_numbered (class_of class.now) next)) }
     ensures behind { IfOk result (λ r. r.1 ≡ next + class_nodes (class_of class.now)) }
 {
     let class_specs = copied_specs(alloc, class.class_specs.as_slice())?;
@@ -111,8 +122,10 @@ fn number_class(alloc: Global, class: &ClassItem, next: u32) -> Result<(ItemTree
 
 fn number_members(alloc: Global, parts: &[Member], next: u32) -> Result<(MemberTrees, u32), Memory>
     requires fits { next + list_nodes member_nodes (map member_of parts.now) ≤ 4294967295 }
-    ensures numbered { IfOk result (λ r. map member_of r.0 ≡ list_numbered member_numbered member_nodes (map member_of parts.now) next) }
-    ensures behind { IfOk result (λ r. r.1 ≡ next + list_nodes member_nodes (map member_of parts.now)) }
+    ensures numbered { IfOk result (λ r. map member_of r.0 ≡
+        list_numbered member_numbered member_nodes (map member_of parts.now) next) }
+    ensures behind { IfOk result
+        (λ r. r.1 ≡ next + list_nodes member_nodes (map member_of parts.now)) }
 {
     let mut done = MemberTrees::new(alloc);
     let mut at = next;
@@ -126,7 +139,8 @@ fn number_members(alloc: Global, parts: &[Member], next: u32) -> Result<(MemberT
 
 fn number_member(alloc: Global, member: &Member, next: u32) -> Result<(MemberTree, u32), Memory>
     requires fits { next + member_nodes (member_of member.now) ≤ 4294967295 }
-    ensures numbered { IfOk result (λ r. member_of r.0 ≡ member_numbered (member_of member.now) next) }
+    ensures numbered { IfOk result
+        (λ r. member_of r.0 ≡ member_numbered (member_of member.now) next) }
     ensures behind { IfOk result (λ r. r.1 ≡ next + member_nodes (member_of member.now)) }
 {
     match member {
@@ -140,7 +154,8 @@ fn number_member(alloc: Global, member: &Member, next: u32) -> Result<(MemberTre
 
 fn number_field(alloc: Global, field: &Field, next: u32) -> Result<(MemberTree, u32), Memory>
     requires fits { next + field_nodes (field_of field.now) ≤ 4294967295 }
-    ensures numbered { IfOk result (λ r. member_of r.0 ≡ t.MemberTree.field (field_numbered (field_of field.now) next)) }
+    ensures numbered { IfOk result
+        (λ r. member_of r.0 ≡ t.MemberTree.field (field_numbered (field_of field.now) next)) }
     ensures behind { IfOk result (λ r. r.1 ≡ next + field_nodes (field_of field.now)) }
 {
     let (ty, middle) = number_type(alloc, &field.ty, next)?;
@@ -165,8 +180,10 @@ fn number_default(
     next: u32,
 ) -> Result<(Option<Tree>, u32), Memory>
     requires fits { next + default_nodes (option_map tree_of default.now) ≤ 4294967295 }
-    ensures numbered { IfOk result (λ r. option_map tree_of r.0 ≡ default_numbered (option_map tree_of default.now) next) }
-    ensures behind { IfOk result (λ r. r.1 ≡ next + default_nodes (option_map tree_of default.now)) }
+    ensures numbered { IfOk result (λ r. option_map tree_of r.0 ≡
+        default_numbered (option_map tree_of default.now) next) }
+    ensures behind { IfOk result
+        (λ r. r.1 ≡ next + default_nodes (option_map tree_of default.now)) }
 {
     match default {
         None => Ok((None, next)),
@@ -192,8 +209,10 @@ fn number_fun(alloc: Global, fun: &Fun, next: u32) -> Result<(FunTree, u32), Mem
 
 fn number_params(alloc: Global, parts: &[Param], next: u32) -> Result<(ParamTrees, u32), Memory>
     requires fits { next + list_nodes param_nodes (map param_of parts.now) ≤ 4294967295 }
-    ensures numbered { IfOk result (λ r. map param_of r.0 ≡ list_numbered param_numbered param_nodes (map param_of parts.now) next) }
-    ensures behind { IfOk result (λ r. r.1 ≡ next + list_nodes param_nodes (map param_of parts.now)) }
+    ensures numbered { IfOk result (λ r. map param_of r.0 ≡ list_numbered param_numbered param_nodes
+        (map param_of parts.now) next) }
+    ensures behind { IfOk result
+        (λ r. r.1 ≡ next + list_nodes param_nodes (map param_of parts.now)) }
 {
     let mut done = ParamTrees::new(alloc);
     let mut at = next;

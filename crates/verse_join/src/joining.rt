@@ -21,7 +21,8 @@ use verse_item_handles::items::{ItemTrees, ProgramTree};
 pub fn join(alloc: Global, files: Vec<ItemTrees>) -> Result<ProgramTree, Memory>
     requires nodes { program_nodes (joined files.items) < 4294967295 }
     requires files { length files.items ≤ 4294967295 }
-    ensures items { IfOk result (λ tree. map item_of tree.items ≡ items_numbered (joined files.items) 0) }
+    ensures items { IfOk result (λ tree. map item_of tree.items ≡
+        items_numbered (joined files.items) 0) }
     ensures files { IfOk result (λ tree. tree.files ≡ length files.items) }
     ensures nodes { IfOk result (λ tree. tree.nodes ≡ program_nodes (joined files.items)) }
     ensures counted { IfOk result (λ tree. tree.nodes ≡ program_nodes (map item_of tree.items)) }
@@ -33,7 +34,8 @@ pub fn join(alloc: Global, files: Vec<ItemTrees>) -> Result<ProgramTree, Memory>
 fn join_files(alloc: Global, files: Vec<ItemTrees>) -> Result<ProgramTree, Memory>
     requires nodes { program_nodes (joined files.items) < 4294967295 }
     requires files { length files.items ≤ 4294967295 }
-    ensures items { IfOk result (λ tree. map item_of tree.items ≡ items_numbered (joined files.items) 0) }
+    ensures items { IfOk result (λ tree. map item_of tree.items ≡
+        items_numbered (joined files.items) 0) }
     ensures files { IfOk result (λ tree. tree.files ≡ length files.items) }
     ensures nodes { IfOk result (λ tree. tree.nodes ≡ program_nodes (joined files.items)) }
 {

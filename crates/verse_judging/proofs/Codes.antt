@@ -6,7 +6,8 @@ use Rattle.verse_walk.specs.Around.{Around}
 use Rattle.verse_rows.specs.Facts.{Facts}
 use Rattle.verse_rows.specs.Rows.{row}
 use Rattle.verse_rows.specs.Steps.{form_rules, expression_rules}
-use Rattle.verse_rows.specs.TypeRules.{mismatched, uncallable, miscounted, incomparable, unsettable, lacking, memberless, alone, uncovered, unrounded, is_keyless, is_too_deep}
+use Rattle.verse_rows.specs.TypeRules.{mismatched, uncallable, miscounted, incomparable, unsettable, lacking, memberless, alone, uncovered}
+use Rattle.verse_rows.specs.TypeRules.{unrounded, is_keyless, is_too_deep}
 use Rattle.verse_judging.specs.Codes.{least_code, code_with}
 
 in_order : (a b c d p e f g h i j q : Bool) →
@@ -31,7 +32,9 @@ in_order false false false false false false false false false true j q = refl
 in_order false false false false false false false false false false true q = refl
 in_order false false false false false false false false false false false q = refl
 
-pub expression_code : (f : Facts) (w : Around) (n : ℕ) (x : Shape) → first_true (expression_rules f w n x) ≡ code_with (first_true (form_rules f w n x)) (row f n x)
+pub expression_code : (f : Facts) (w : Around) (n : ℕ) (x : Shape) →
+    first_true (expression_rules f w n x) ≡ code_with (first_true (form_rules f w n x)) (row f n x)
 expression_code f w n x =
-    in_order (mismatched f w n x) (uncallable f w n x) (miscounted f x) (incomparable f x) (is_keyless (row f n x)) (unsettable f x) (lacking f n x)
+    in_order (mismatched f w n x) (uncallable f w n x) (miscounted f x) (incomparable f x) (is_keyless (row f n x)) (unsettable f x)
+    (lacking f n x)
     (memberless f w n x) (alone x) (uncovered f x) (unrounded f w x) (is_too_deep (row f n x))

@@ -13,7 +13,8 @@ made_by f n gs = record {
   code =
       cond (not (on_class (named_ref f n) (λ c. givens_fit f c gs))) (Some 50) (
       cond (not (is_class (named_ref f n))) (Some 51) (
-      cond (not (on_class (named_ref f n) (λ c. has_all f c gs))) (Some 55) (cond (not (on_class (named_ref f n) (λ c. are_fields f c gs))) (Some 56) None)
+      cond (not (on_class (named_ref f n) (λ c. has_all f c gs))) (Some 55)
+      (cond (not (on_class (named_ref f n) (λ c. are_fields f c gs))) (Some 56) None)
       )
       );
 }

@@ -35,7 +35,8 @@ pub fn judge_form(
     node: u32,
     form: &Form,
 ) -> Result<Judged, Memory>
-    ensures { IfOk result (λ j. judged_of j ≡ formed (facts_of facts.now) (around_of around.entry) node (shape_of form.now)) }
+    ensures { IfOk result (λ j. judged_of j ≡
+        formed (facts_of facts.now) (around_of around.entry) node (shape_of form.now)) }
 {
     match form {
         Form::Block(parts) => last_type(facts, parts.as_slice()),

@@ -76,7 +76,8 @@ pub fn judge_type(ty: Ty) -> Judged
 
 /// A form that breaks at most these rules and those of its type.
 pub fn with_type_rules(found: Judged) -> Judged
-    ensures { judged_of result ≡ s.cut (judged_of found).ty (c.code_with (judged_of found).code (judged_of found).ty) }
+    ensures { judged_of result ≡
+        s.cut (judged_of found).ty (c.code_with (judged_of found).code (judged_of found).ty) }
 {
     let Judged { ty, code } = found;
     let code = code_with(code, &ty);

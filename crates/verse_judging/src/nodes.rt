@@ -33,7 +33,8 @@ fn judge_alone(
     node: u32,
     form: &Form,
 ) -> Result<Judged, Memory>
-    ensures { IfOk result (λ j. judged_of j ≡ c.of_form (facts_of facts.now) (around_of around.entry) node (shape_of form.now)) }
+    ensures { IfOk result (λ j. judged_of j ≡
+        c.of_form (facts_of facts.now) (around_of around.entry) node (shape_of form.now)) }
 {
     Ok(with_type_rules(judge_form(facts, around, node, form)?))
 }
@@ -45,7 +46,8 @@ pub fn judge_expr(
     node: u32,
     form: &Form,
 ) -> Result<Judged, Memory>
-    ensures { IfOk result (λ j. judged_of j ≡ c.of_expression (facts_of facts.now) (around_of around.entry) node (shape_of form.now)) }
+    ensures { IfOk result (λ j. judged_of j ≡
+        c.of_expression (facts_of facts.now) (around_of around.entry) node (shape_of form.now)) }
 {
     let found = judge_alone(facts, around, node, form)?;
     serve(facts, around.used, found)
@@ -53,7 +55,8 @@ pub fn judge_expr(
 
 /// The type of an item, which is that of a function's result.
 pub fn judge_item(facts: &Facts<'_>, item: &Item) -> Result<Judged, Memory>
-    ensures { IfOk result (λ j. judged_of j ≡ c.of_type (s.item_type (facts_of facts.now) (item_of item.now))) }
+    ensures { IfOk result (λ j. judged_of j ≡
+        c.of_type (s.item_type (facts_of facts.now) (item_of item.now))) }
 {
     match item {
         Item::Using(_) => Ok(judge_type(Ty::Void)),
@@ -65,7 +68,8 @@ pub fn judge_item(facts: &Facts<'_>, item: &Item) -> Result<Judged, Memory>
 
 /// The type of a field, or of a method's result.
 pub fn judge_member(facts: &Facts<'_>, member: &Member) -> Result<Judged, Memory>
-    ensures { IfOk result (λ j. judged_of j ≡ c.of_type (s.member_type (facts_of facts.now) (member_of member.now))) }
+    ensures { IfOk result (λ j. judged_of j ≡
+        c.of_type (s.member_type (facts_of facts.now) (member_of member.now))) }
 {
     match member {
         Member::Field(field) => Ok(judge_type(spelled(facts, &field.ty)?)),
@@ -75,7 +79,8 @@ pub fn judge_member(facts: &Facts<'_>, member: &Member) -> Result<Judged, Memory
 
 /// The type of a parameter.
 pub fn judge_param(facts: &Facts<'_>, param: &Param) -> Result<Judged, Memory>
-    ensures { IfOk result (λ j. judged_of j ≡ c.of_type (rows.spelled (facts_of facts.now) (param_of param.now).written)) }
+    ensures { IfOk result (λ j. judged_of j ≡
+        c.of_type (rows.spelled (facts_of facts.now) (param_of param.now).written)) }
 {
     Ok(judge_type(spelled(facts, &param.ty)?))
 }

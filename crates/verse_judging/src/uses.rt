@@ -22,7 +22,8 @@ use verse_types::fitting::does_fit;
 use verse_walk::arounds::Used;
 
 fn does_fit_written(facts: &Facts<'_>, ty: &Ty, written: &TyExpr) -> Result<bool, Memory>
-    ensures { IfOk result (λ b. b ≡ fits (classes (facts_of facts.now)) (ty_of ty.now) (rows.spelled (facts_of facts.now) (written_of written.now))) }
+    ensures { IfOk result (λ b. b ≡ fits (classes (facts_of facts.now)) (ty_of ty.now)
+        (rows.spelled (facts_of facts.now) (written_of written.now))) }
 {
     let wanted = spelled(facts, written)?;
     Ok(does_fit(facts.classes(), ty, &wanted))
@@ -39,7 +40,8 @@ fn params_at<'a>(facts: &Facts<'a>, callee: u32) -> &'a [Ty]
 }
 
 fn does_fit_param(facts: &Facts<'_>, ty: &Ty, param: Option<&Ty>) -> bool
-    ensures { result ≡ s.fits_param (facts_of facts.now) (ty_of ty.now) (option_copied param.entry) }
+    ensures { result ≡ s.fits_param (facts_of facts.now) (ty_of ty.now)
+        (option_copied param.entry) }
 {
     match param {
         None => true,
@@ -48,7 +50,8 @@ fn does_fit_param(facts: &Facts<'_>, ty: &Ty, param: Option<&Ty>) -> bool
 }
 
 fn does_serve(facts: &Facts<'_>, used: Used<'_>, ty: &Ty) -> Result<bool, Memory>
-    ensures { IfOk result (λ b. b ≡ s.serves (facts_of facts.now) (used_of used.entry) (ty_of ty.now)) }
+    ensures { IfOk result (λ b. b ≡ s.serves (facts_of facts.now) (used_of used.entry)
+        (ty_of ty.now)) }
 {
     match used {
         Used::Value(written) => does_fit_written(facts, ty, written),
@@ -75,7 +78,8 @@ fn served(serves: bool, found: Judged) -> Judged
 
 /// What is found of a value that is used so.
 pub fn serve(facts: &Facts<'_>, used: Used<'_>, found: Judged) -> Result<Judged, Memory>
-    ensures { IfOk result (λ j. judged_of j ≡ c.of_used (facts_of facts.now) (used_of used.entry) (judged_of found)) }
+    ensures { IfOk result (λ j. judged_of j ≡ c.of_used (facts_of facts.now) (used_of used.entry)
+        (judged_of found)) }
 {
     let serves = does_serve(facts, used, &found.ty)?;
     Ok(served(serves, found))

@@ -1,5 +1,6 @@
 -- The walk's answer is the layout.
-use Rattle.std.proofs.Common.{◌≡◌, ◌≤◌, Bool, true, false, List, [], ◌∷◌, ℕ, Option, Some, None, Result, Ok, Err, IfOk, refl, sym, ◌∙◌, ap, subst, nat_le}
+use Rattle.std.proofs.Common.{◌≡◌, ◌≤◌, Bool, true, false, List, [], ◌∷◌, ℕ, Option, Some, None, Result, Ok, Err, IfOk, refl, sym, ◌∙◌, ap}
+use Rattle.std.proofs.Common.{subst, nat_le}
 use Rattle.std.proofs.lemmas.Bool.{leb-true, le-leb}
 use Rattle.verse_base.specs.declared.refusals.Refusal.{Refusal}
 use Rattle.verse_lex.specs.declared.tokens.Token.{Token}
@@ -44,24 +45,34 @@ bounded_ok s [] None js e = record { stops = refl; toks = sym (ok_is e); within 
 bounded_ok s [] (Some r) js e = absurd (cc)
 bounded_ok s (k ∷ ks) stop js e = by_test (at_most (load (after_tok k s))) refl (λ ls g. bounded_ok (after_tok k s) ks stop ls g)
   where
-    by_test : (b : Bool) → at_most (load (after_tok k s)) ≡ b → ((ls : List Tok) → bounded (after_tok k s) ks stop ≡ Ok ls → Judged (after_tok k s) ks stop ls) → Judged s (k ∷ ks) stop js
+    by_test : (b : Bool) → at_most (load (after_tok k s)) ≡ b →
+        ((ls : List Tok) → bounded (after_tok k s) ks stop ≡ Ok ls → Judged (after_tok k s) ks stop ls) → Judged s (k ∷ ks) stop js
     by_test true h more =
         let x = front_ok k (bounded (after_tok k s) ks stop) js (sym (if_true _ _ _ h) ∙ e) in
         let y = more x.0 x.1 in
         record { stops = y.stops; toks = x.2 ∙ ap (λ z. k ∷ z) y.toks; within = (below _ h, y.within) }
-    by_test false h more = let g = sym (if_false (at_most (load (after_tok k s))) (with_front (k ∷ []) (bounded (after_tok k s) ks stop)) (Err (refusal NESTING k.place)) h) ∙ e in absurd (cc)
+    by_test false h more = let g = sym (if_false (at_most (load (after_tok k s))) (with_front (k ∷ []) (bounded (after_tok k s) ks stop))
+        (Err (refusal NESTING k.place)) h) ∙ e in absurd (cc)
 
 pub bounded_within : (s : Counts) (ks : List Tok) → IsWithin s ks → bounded s ks None ≡ Ok ks
 bounded_within s [] w = refl
 bounded_within s (k ∷ ks) w = if_true _ _ _ (test _ w.0) ∙ ap (with_front (k ∷ [])) (bounded_within (after_tok k s) ks w.1)
 
-pub layout_of : (bytes : List ℕ) (tokens : List Token) (ks : List Tok) → walk_answer (end_of bytes tokens) (cells_of bytes tokens) ≡ Ok ks → IsLayout bytes tokens ks
+pub layout_of : (bytes : List ℕ) (tokens : List Token) (ks : List Tok) → walk_answer (end_of bytes tokens) (cells_of bytes tokens) ≡ Ok ks →
+    IsLayout bytes tokens ks
 layout_of bytes tokens ks e =
     let x = walk (end_of bytes tokens) file_start (cells_of bytes tokens) in
     let y = bounded_ok at_start (spaced false None x.written) x.stop ks e in
-    record { written = x.written; block = file_sound (end_of bytes tokens) (cells_of bytes tokens) y.stops; written_out = subst (Spaced x.written) (sym y.toks) (is_spaced x.written); within = subst (IsWithin at_start) (sym y.toks) y.within }
+    record {
+      written = x.written;
+      block = file_sound (end_of bytes tokens) (cells_of bytes tokens) y.stops;
+      written_out =
+          subst (Spaced x.written) (sym y.toks) (is_spaced x.written);
+      within = subst (IsWithin at_start) (sym y.toks) y.within;
+    }
 
-pub of_layout : (bytes : List ℕ) (tokens : List Token) (ks : List Tok) → IsLayout bytes tokens ks → walk_answer (end_of bytes tokens) (cells_of bytes tokens) ≡ Ok ks
+pub of_layout : (bytes : List ℕ) (tokens : List Token) (ks : List Tok) → IsLayout bytes tokens ks →
+    walk_answer (end_of bytes tokens) (cells_of bytes tokens) ≡ Ok ks
 of_layout bytes tokens ks l =
     let kept = spaced_is l.written_out in
     ap (λ (x : Walk). bounded at_start (spaced false None x.written) x.stop) (file_walk l.block)
@@ -70,7 +81,8 @@ of_layout bytes tokens ks l =
 pub one_layout : OneLayout
 one_layout bytes tokens ks js x y = ok_is (sym (of_layout bytes tokens ks x) ∙ of_layout bytes tokens js y)
 
-pub no_layout : (bytes : List ℕ) (tokens : List Token) (r : Refusal) (ks : List Tok) → walk_answer (end_of bytes tokens) (cells_of bytes tokens) ≡ Err r → IsLayout bytes tokens ks → ⊥
+pub no_layout : (bytes : List ℕ) (tokens : List Token) (r : Refusal) (ks : List Tok) →
+    walk_answer (end_of bytes tokens) (cells_of bytes tokens) ≡ Err r → IsLayout bytes tokens ks → ⊥
 no_layout bytes tokens r ks e l = let f = of_layout bytes tokens ks l in absurd (cc)
 
 pub on_ok : {T E : Type 0} {P Q : T → Type 0} (r : Result T E) → ((x : T) → P x → Q x) → IfOk r P → IfOk r Q

@@ -1,5 +1,6 @@
 -- Every place that a walk reaches goes on to a file's end, by tokens at any offset.
-use Rattle.std.proofs.Common.{◌≡◌, Bool, true, false, ◌&&◌, List, [], ◌∷◌, ◌++◌, ℕ, Option, Some, None, refl, sym, ◌∙◌, ap, subst, if◌then◌else◌, is_some, length, nat_lt, arith, length-append}
+use Rattle.std.proofs.Common.{◌≡◌, Bool, true, false, ◌&&◌, List, [], ◌∷◌, ◌++◌, ℕ, Option, Some, None, refl, sym, ◌∙◌, ap, subst}
+use Rattle.std.proofs.Common.{if◌then◌else◌, is_some, length, nat_lt, arith, length-append}
 use Rattle.std.proofs.Math.Seq.{take-append_seam}
 use Rattle.std.proofs.lemmas.Bool.{lt-ltb}
 use Rattle.verse_lex.specs.declared.tokens.TokenKind.{TokenKind}
@@ -12,7 +13,8 @@ use Rattle.verse_layout.specs.declared.roles.Region.TheVariants as region
 use Rattle.verse_layout.specs.Roles.{role_of, has_lines, in_braces, is_same_region}
 use Rattle.verse_layout.specs.Cells.{Cell, ends_line, is_same, is_front, is_proper}
 use Rattle.verse_layout.specs.Blocks.{ends_block}
-use Rattle.verse_layout.specs.Frames.{Open, Context, Walk, walk, region_at, closes, innermost, at_end, is_block, block_in, line_start, file_start}
+use Rattle.verse_layout.specs.Frames.{Open, Context, Walk, walk, region_at, closes, innermost, at_end, is_block, block_in, line_start}
+use Rattle.verse_layout.specs.Frames.{file_start}
 use Rattle.verse_layout.proofs.Walks.{at_line, go, if_true, if_false, no_start, brace_start, go_on, same_self}
 use Rattle.verse_layout.proofs.Complete.{closes_token, go_close, no_line, Heads, go_again, go_indent, block_is, block_braces}
 use Rattle.verse_layout.proofs.Nests.{Nested, nested_file, nested_block, nested_bracket}
@@ -22,7 +24,17 @@ use Rattle.verse_layout.proofs.Outcomes.{Fine}
 -- the offset of the tokens
 module _ (n : ℕ) where
   abbrev a_cell : TokenKind → Option (List ℕ) → Cell
-  a_cell kind line = record { token = record { kind = kind; start = n; end = n; place = record { file = 0; line = 0; col = 0 }; indent = None }; line = line }
+  a_cell kind line = record {
+    token = record {
+      kind = kind;
+      start = n;
+      end = n;
+      place = record { file = 0; line = 0; col = 0 };
+      indent =
+          None;
+    };
+    line = line;
+  }
 
   -- the token that closes what is open there
   abbrev closer : Region → List Cell
@@ -80,12 +92,17 @@ module _ (n : ℕ) where
   no_such region.Square a b c d = cc
   no_such region.Hole a b c d = cc
 
-  out_facts : (fs : List Open) → Nested fs → has_lines (region_at fs) ≡ true → in_braces (region_at fs) ≡ false → (innermost fs ≡ None) × (closers fs ≡ [])
+  out_facts : (fs : List Open) → Nested fs → has_lines (region_at fs) ≡ true → in_braces (region_at fs) ≡ false →
+      (innermost fs ≡ None) × (closers fs ≡ [])
   out_facts [] n e g = (refl, refl)
-  out_facts (f ∷ fs) (nested_file x) e g = (if_true (is_same_region f.region region.File) None _ (ap (λ r. is_same_region r region.File) x), ap (λ r. closer r ++ []) x)
+  out_facts (f ∷ fs) (nested_file x) e g = (
+    if_true (is_same_region f.region region.File) None _ (ap (λ r. is_same_region r region.File) x),
+    ap (λ r. closer r ++ []) x,
+  )
   out_facts (f ∷ fs) (nested_block x l b n) e g =
       let rest = out_facts fs n l (sym b ∙ g) in (
-        if_false (is_same_region f.region region.File) None _ (block_no_file f.region x) ∙ if_true (is_block f.region) (innermost fs) (Some f.place) x ∙ rest.0,
+        if_false (is_same_region f.region region.File) None _ (block_no_file f.region x) ∙
+            if_true (is_block f.region) (innermost fs) (Some f.place) x ∙ rest.0,
         ap (λ cs. cs ++ closers fs) (block_closer f.region x) ∙ rest.1,
       )
   out_facts (f ∷ fs) (nested_bracket x y n) e g = absurd (no_such f.region x y e g)
@@ -121,19 +138,22 @@ module _ (n : ℕ) where
   same_block region.Hole s a b = absurd (cc)
 
   -- where a block stands, its end closes it
-  block_ends : (b : Bool) (i : List ℕ) (fs : List Open) → Nested fs → has_lines (region_at fs) ≡ true → in_braces (region_at fs) ≡ b → ends_block b i (closers fs) ≡ true
+  block_ends : (b : Bool) (i : List ℕ) (fs : List Open) → Nested fs → has_lines (region_at fs) ≡ true → in_braces (region_at fs) ≡ b →
+      ends_block b i (closers fs) ≡ true
   block_ends true i fs n e g = let x = in_facts fs n g in ap (ends_block true i) x.are
   block_ends false i fs n e g = let x = out_facts fs n e g in ap (ends_block false i) x.1
 
   Closed : Spot → List Open → Type 0
   Closed end fs = (h : List ℕ) → (go end h fs (closers fs)).stop ≡ None
 
-  round_closed : (end : Spot) (f g : Open) (fs : List Open) (h : List ℕ) (r : Region) (c : Cell) → f.region ≡ r → has_lines r ≡ false → role_of c.token.kind ≡ role.Closes r → closer r ≡ c ∷ [] →
+  round_closed : (end : Spot) (f g : Open) (fs : List Open) (h : List ℕ) (r : Region) (c : Cell) → f.region ≡ r → has_lines r ≡ false →
+      role_of c.token.kind ≡ role.Closes r → closer r ≡ c ∷ [] →
       (go end f.text (g ∷ fs) (closers (g ∷ fs))).stop ≡ None → (go end h (f ∷ g ∷ fs) (closers (f ∷ g ∷ fs))).stop ≡ None
   round_closed end f g fs h r c e l p q s =
       let cs = closers (g ∷ fs) in
       let toks : closers (f ∷ g ∷ fs) ≡ c ∷ cs = ap (λ x. closer x ++ cs) e ∙ ap (λ x. x ++ cs) q in
-      let there = go_on end h f (g ∷ fs) c cs (no_start f (g ∷ fs) c (ap has_lines e ∙ l)) ∙ closes_token end h f g fs c cs (p ∙ ap role.Closes (sym e)) in
+      let there = go_on end h f (g ∷ fs) c cs (no_start f (g ∷ fs) c (ap has_lines e ∙ l)) ∙
+      closes_token end h f g fs c cs (p ∙ ap role.Closes (sym e)) in
       ap (λ x. (go end h (f ∷ g ∷ fs) x).stop) toks ∙ ap (λ (x : Walk). x.stop) there ∙ s
 
   brace_closed : (end : Spot) (f g : Open) (fs : List Open) (h : List ℕ) → f.region ≡ region.Brace →
@@ -145,7 +165,8 @@ module _ (n : ℕ) where
       let there = go_on end h f (g ∷ fs) c cs (brace_start (f ∷ g ∷ fs) c refl) ∙ closes_token end h f g fs c cs (ap role.Closes (sym e)) in
       ap (λ x. (go end h (f ∷ g ∷ fs) x).stop) toks ∙ ap (λ (x : Walk). x.stop) there ∙ s
 
-  bracket_closed : (end : Spot) (f g : Open) (fs : List Open) (h : List ℕ) (r : Region) → f.region ≡ r → is_block r ≡ false → is_same_region r region.File ≡ false →
+  bracket_closed : (end : Spot) (f g : Open) (fs : List Open) (h : List ℕ) (r : Region) → f.region ≡ r → is_block r ≡ false →
+      is_same_region r region.File ≡ false →
       (go end f.text (g ∷ fs) (closers (g ∷ fs))).stop ≡ None → (go end h (f ∷ g ∷ fs) (closers (f ∷ g ∷ fs))).stop ≡ None
   bracket_closed end f g fs h region.Round e a b s = round_closed end f g fs h region.Round _ e refl refl refl s
   bracket_closed end f g fs h region.Square e a b s = round_closed end f g fs h region.Square _ e refl refl refl s
@@ -159,18 +180,22 @@ module _ (n : ℕ) where
   all_closed end [] n h = absurd (elim n [ ])
   all_closed end (f ∷ fs) (nested_file x) h =
       let facts = out_facts (f ∷ []) (nested_file x) (ap has_lines x) (ap in_braces x) in
-      ap (λ cs. (go end h (f ∷ []) cs).stop) facts.1 ∙ ap (λ p. (at_end p end (at_line false h (f ∷ []))).stop) facts.0 ∙ closes_stop end (f ∷ [])
+      ap (λ cs. (go end h (f ∷ []) cs).stop) facts.1 ∙ ap (λ p. (at_end p end (at_line false h (f ∷ []))).stop) facts.0 ∙
+      closes_stop end (f ∷ [])
   all_closed end (f ∷ []) (nested_bracket x y n) h = absurd (elim n [ ])
   all_closed end (f ∷ g ∷ fs) (nested_bracket x y n) h = bracket_closed end f g fs h f.region refl x y (all_closed end (g ∷ fs) n f.text)
   all_closed end (f ∷ []) (nested_block x l b n) h = absurd (elim n [ ])
   all_closed end (f ∷ g ∷ fs) (nested_block x l b n) h =
       let inner : Open = record { region = block_in g.region; text = f.text; place = f.place } in
-      let same : f ≡ inner = ap (λ r. let o : Open = record { region = r; text = f.text; place = f.place } in o) (same_block f.region g.region x b) in
+      let same : f ≡ inner = ap (λ r. let o : Open = record { region = r; text = f.text; place = f.place } in
+      o) (same_block f.region g.region x b) in
       let cs = closers (g ∷ fs) in
       let toks : closers (f ∷ g ∷ fs) ≡ cs = ap (λ y. y ++ cs) (block_closer f.region x) in
       let free : in_braces g.region ≡ false → innermost (g ∷ fs) ≡ None = λ e. (out_facts (g ∷ fs) n l e).0 in
-      let there = go_close end f.text h f.text (in_braces g.region) g fs f.place cs l refl free (block_ends (in_braces g.region) f.text (g ∷ fs) n l refl) in
-      ap (λ y. (go end h (f ∷ g ∷ fs) y).stop) toks ∙ ap (λ o. (go end h (o ∷ g ∷ fs) cs).stop) same ∙ ap (λ (y : Walk). y.stop) there ∙ all_closed end (g ∷ fs) n f.text
+      let there = go_close end f.text h f.text (in_braces g.region) g fs f.place cs l refl free
+      (block_ends (in_braces g.region) f.text (g ∷ fs) n l refl) in
+      ap (λ y. (go end h (f ∷ g ∷ fs) y).stop) toks ∙ ap (λ o. (go end h (o ∷ g ∷ fs) cs).stop) same ∙ ap (λ (y : Walk). y.stop) there ∙
+      all_closed end (g ∷ fs) n f.text
 
   -- a name, which begins a line or not
   abbrev a_name : Option (List ℕ) → Cell
@@ -179,7 +204,8 @@ module _ (n : ℕ) where
   -- a longer indentation
   deeper : (h : List ℕ) → is_proper h (h ++ 32 ∷ []) ≡ true
   deeper h =
-      let longer : nat_lt (length h) (length (h ++ 32 ∷ [])) ≡ true = lt-ltb (length h) (length (h ++ 32 ∷ [])) (let e = length-append h (32 ∷ []) in omega arith) in
+      let longer : nat_lt (length h) (length (h ++ 32 ∷ [])) ≡ true =
+      lt-ltb (length h) (length (h ++ 32 ∷ [])) (let e = length-append h (32 ∷ []) in omega arith) in
       let front : is_front h (h ++ 32 ∷ []) ≡ true = ap (is_same h) (take-append_seam h (32 ∷ [])) ∙ same_self h in
       ap (λ b. b && is_front h (h ++ 32 ∷ [])) longer ∙ front
 
@@ -190,7 +216,8 @@ module _ (n : ℕ) where
     pub starts : AllStart rest
     pub well : (end : Spot) → (walk end g rest).stop ≡ None
 
-  mid_ends : (h : List ℕ) (f : Open) (fs : List Open) (line : Option (List ℕ)) → Nested (f ∷ fs) → line_start (f ∷ fs) (a_name line) ≡ None → Ends (at_line false h (f ∷ fs)) (is_some line)
+  mid_ends : (h : List ℕ) (f : Open) (fs : List Open) (line : Option (List ℕ)) → Nested (f ∷ fs) →
+      line_start (f ∷ fs) (a_name line) ≡ None → Ends (at_line false h (f ∷ fs)) (is_some line)
   mid_ends h f fs line n e = record {
     rest = a_name line ∷ closers (f ∷ fs);
     first = refl;
@@ -204,11 +231,14 @@ module _ (n : ℕ) where
     first = refl;
     starts = (refl, closers_start (f ∷ fs));
     well = λ end.
-        let x : Heads f.text (a_name (Some f.text) ∷ closers (f ∷ fs)) = record { first = a_name (Some f.text); rest = closers (f ∷ fs); cs_are = refl; line_is = refl; brace = refl; bracket = refl } in
-        ap (λ (y : Walk). y.stop) (go_again end h f fs f.text (a_name (Some f.text) ∷ closers (f ∷ fs)) e refl x) ∙ all_closed end (f ∷ fs) n f.text;
+        let x : Heads f.text (a_name (Some f.text) ∷ closers (f ∷ fs)) =
+        record { first = a_name (Some f.text); rest = closers (f ∷ fs); cs_are = refl; line_is = refl; brace = refl; bracket = refl } in
+        ap (λ (y : Walk). y.stop) (go_again end h f fs f.text (a_name (Some f.text) ∷ closers (f ∷ fs)) e refl x) ∙
+        all_closed end (f ∷ fs) n f.text;
   }
 
-  block_ends_well : (h : List ℕ) (f : Open) (fs : List Open) → Nested (f ∷ fs) → has_lines f.region ≡ true → Ends (at_line true h (f ∷ fs)) true
+  block_ends_well : (h : List ℕ) (f : Open) (fs : List Open) → Nested (f ∷ fs) → has_lines f.region ≡ true →
+      Ends (at_line true h (f ∷ fs)) true
   block_ends_well h f fs n e =
       let j = h ++ 32 ∷ [] in
       let c = a_name (Some j) in
@@ -219,14 +249,18 @@ module _ (n : ℕ) where
         first = refl;
         starts = (refl, closers_start (g ∷ f ∷ fs));
         well = λ end.
-            let x : Heads j (c ∷ closers (g ∷ f ∷ fs)) = record { first = c; rest = closers (g ∷ f ∷ fs); cs_are = refl; line_is = refl; brace = refl; bracket = refl } in
-            ap (λ (y : Walk). y.stop) (go_indent end h j f fs (c ∷ closers (g ∷ f ∷ fs)) e (deeper h) x) ∙ all_closed end (g ∷ f ∷ fs) nested j;
+            let x : Heads j (c ∷ closers (g ∷ f ∷ fs)) =
+            record { first = c; rest = closers (g ∷ f ∷ fs); cs_are = refl; line_is = refl; brace = refl; bracket = refl } in
+            ap (λ (y : Walk). y.stop) (go_indent end h j f fs (c ∷ closers (g ∷ f ∷ fs)) e (deeper h) x) ∙
+            all_closed end (g ∷ f ∷ fs) nested j;
       }
 
   -- every place ends well
-  pub ends_well : (o : Bool) (h : List ℕ) (fs : List Open) (begins : Bool) → Fine (at_line o h fs) → (o ≡ true → begins ≡ true) → Ends (at_line o h fs) begins
+  pub ends_well : (o : Bool) (h : List ℕ) (fs : List Open) (begins : Bool) → Fine (at_line o h fs) → (o ≡ true → begins ≡ true) →
+      Ends (at_line o h fs) begins
   ends_well o h [] begins f p = absurd (elim (f.nested) [ ])
-  ends_well true h (f ∷ fs) begins x p = subst (Ends (at_line true h (f ∷ fs))) (sym (p refl)) (block_ends_well h f fs x.nested (x.lines refl))
+  ends_well true h (f ∷ fs) begins x p = subst (Ends (at_line true h (f ∷ fs))) (sym (p refl))
+      (block_ends_well h f fs x.nested (x.lines refl))
   ends_well false h (f ∷ fs) false x p = mid_ends h f fs None x.nested (no_line (f ∷ fs) (a_name None) refl)
   ends_well false h (f ∷ fs) true x p = by_lines (has_lines f.region) refl
     where

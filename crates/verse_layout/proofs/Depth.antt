@@ -1,5 +1,6 @@
 -- Toks that bring the load above its bound, and those that cannot.
-use Rattle.std.proofs.Common.{◌≡◌, ◌<◌, ◌≤◌, ◌+◌, ◌⊎◌, inl, inr, Bool, true, false, not, ◌&&◌, List, [], ◌∷◌, ◌++◌, ℕ, Option, Some, None, refl, sym, ◌∙◌, ap, subst, append_assoc, arith, nat_le, if◌then◌else◌}
+use Rattle.std.proofs.Common.{◌≡◌, ◌<◌, ◌≤◌, ◌+◌, ◌⊎◌, inl, inr, Bool, true, false, not, ◌&&◌, List, [], ◌∷◌, ◌++◌, ℕ, Option, Some, None}
+use Rattle.std.proofs.Common.{refl, sym, ◌∙◌, ap, subst, append_assoc, arith, nat_le, if◌then◌else◌}
 use Rattle.std.proofs.lemmas.Bool.{leb-true, leb-false}
 use Rattle.verse_base.specs.declared.limits.TheConstants.{MOST_LOAD}
 use Rattle.verse_base.specs.declared.refusals.Refusal.{Refusal}
@@ -48,7 +49,8 @@ moved_positive Ends s p = by_outer s.outer p.outer
     by_outer (c ∷ cs) a = record { inner = a.0; outer = a.1 }
 moved_positive ResetsHole s p = by_hole s.inner.is_hole
   where
-    by_hole : (b : Bool) → Positive (if b then record { inner = reset s.inner; outer = s.outer } else record { inner = s.inner; outer = reset_hole s.outer })
+    by_hole : (b : Bool) → Positive (if b then record { inner = reset s.inner; outer = s.outer } else
+        record { inner = s.inner; outer = reset_hole s.outer })
     by_hole true = record { inner = omega arith; outer = p.outer }
     by_hole false = record { inner = p.inner; outer = hole_some s.outer p.outer }
 
@@ -136,7 +138,16 @@ deep_front ks js r light d = by_split (splits d.before (d.tok ∷ d.behind) ks j
     by_rest [] e f = absurd (heavy [] d.behind (sym f))
     by_rest (m ∷ ms) e f =
         let same : m ≡ d.tok = cc in
-        record { before = d.before; tok = d.tok; behind = ms; split = e ∙ ap (λ x. d.before ++ x ∷ ms) same; within = d.within; above = d.above; refused = d.refused }
+        record {
+          before = d.before;
+          tok = d.tok;
+          behind = ms;
+          split = e ∙ ap (λ x. d.before ++ x ∷ ms) same;
+          within = d.within;
+          above =
+              d.above;
+          refused = d.refused;
+        }
 
     by_split : Splits d.before (d.tok ∷ d.behind) ks js → IsTooDeep at_start ks r
     by_split (first_shorter ms e f) = by_rest ms e f
@@ -161,11 +172,21 @@ judged s (k ∷ ks) = by_test (nat_le (load (after_tok k s)) MOST_LOAD) refl (ju
   where
     by_rest : load (after_tok k s) ≤ MOST_LOAD → Judged (after_tok k s) ks → Judged s (k ∷ ks)
     by_rest h (all_within w) = all_within (h, w)
-    by_rest h (one_deep r d) = one_deep r (record { before = k ∷ d.before; tok = d.tok; behind = d.behind; split = ap (λ y. k ∷ y) d.split; within = (h, d.within); above = d.above; refused = d.refused })
+    by_rest h (one_deep r d) = one_deep r (record {
+      before = k ∷ d.before;
+      tok = d.tok;
+      behind = d.behind;
+      split = ap (λ y. k ∷ y) d.split;
+      within = (h, d.within);
+      above =
+          d.above;
+      refused = d.refused;
+    })
 
     by_test : (b : Bool) → nat_le (load (after_tok k s)) MOST_LOAD ≡ b → Judged (after_tok k s) ks → Judged s (k ∷ ks)
     by_test true h more = by_rest (leb-true _ MOST_LOAD h) more
-    by_test false h more = one_deep (refusal NESTING k.place) (record { before = []; tok = k; behind = ks; split = refl; within = tt; above = leb-false _ MOST_LOAD h; refused = refl })
+    by_test false h more = one_deep (refusal NESTING k.place)
+        (record { before = []; tok = k; behind = ks; split = refl; within = tt; above = leb-false _ MOST_LOAD h; refused = refl })
 
 -- a Sep, or a tok at this offset
 abbrev pub Stands : ℕ → Tok → Type 0
@@ -190,7 +211,8 @@ spaced_at n can w [] a b = tt
 spaced_at n can w (sep s ∷ us) a b = spaced_at n can (first_sep w s) us (first_waits w s a b.0.1) b.1
 spaced_at n can w (no_sep ∷ us) a b = spaced_at n can None us tt b.1
 spaced_at n can w (tok k ∷ us) a b =
-    each_append (Stands n) (kept_sep (can && not (is_close k.kind)) w) _ (kept_stands n (can && not (is_close k.kind)) w a) (inr b.0, spaced_at n (not (is_open k.kind)) None us tt b.1)
+    each_append (Stands n) (kept_sep (can && not (is_close k.kind)) w) _ (kept_stands n (can && not (is_close k.kind)) w a)
+    (inr b.0, spaced_at n (not (is_open k.kind)) None us tt b.1)
 
 -- where a tok of these stands
 data Where (k : Tok) (ks bs before : List Tok) : Type 0 where
@@ -209,13 +231,17 @@ where_is k ks bs before behind e = by_split (splits ks bs before (k ∷ behind) 
     by_split (first_longer ms f g) = by_rest ms f g
 
 -- Two lists go on in different ways behind the same toks: what both begin with is within the load where those toks are.
-pub both_within : (ks front ls ls' bs bs' : List Tok) → IsWithin at_start front → Each (Stands 0) bs → Each (Stands 1) bs' → front ++ bs ≡ ks ++ ls → front ++ bs' ≡ ks ++ ls' → IsWithin at_start ks
+pub both_within : (ks front ls ls' bs bs' : List Tok) → IsWithin at_start front → Each (Stands 0) bs → Each (Stands 1) bs' →
+    front ++ bs ≡ ks ++ ls → front ++ bs' ≡ ks ++ ls' → IsWithin at_start ks
 both_within ks front ls ls' bs bs' w a b e f = by_judged (judged at_start ks)
   where
     no_tok : (r : Refusal) (d : IsTooDeep at_start ks r) → Where d.tok front bs d.before → Where d.tok front bs' d.before → ⊥
-    no_tok r d (in_first ms g) y = let h = within_at at_start d.before ms d.tok (subst (IsWithin at_start) g w) in let over = d.above in omega arith
-    no_tok r d (in_second ms ns g) (in_first ls g') = let h = within_at at_start d.before ls d.tok (subst (IsWithin at_start) g' w) in let over = d.above in omega arith
-    no_tok r d (in_second ms ns g) (in_second ms' ns' g') = by_stands (each_at (Stands 0) bs ms ns d.tok a g) (each_at (Stands 1) bs' ms' ns' d.tok b g')
+    no_tok r d (in_first ms g) y = let h = within_at at_start d.before ms d.tok (subst (IsWithin at_start) g w) in let over = d.above in
+        omega arith
+    no_tok r d (in_second ms ns g) (in_first ls g') = let h = within_at at_start d.before ls d.tok (subst (IsWithin at_start) g' w) in
+        let over = d.above in omega arith
+    no_tok r d (in_second ms ns g) (in_second ms' ns' g') =
+        by_stands (each_at (Stands 0) bs ms ns d.tok a g) (each_at (Stands 1) bs' ms' ns' d.tok b g')
       where
         by_stands : Stands 0 d.tok → Stands 1 d.tok → ⊥
         by_stands (inl s) y = not_deep d.before d.tok d.within (inr s) d.above
@@ -228,4 +254,5 @@ both_within ks front ls ls' bs bs' w a b e f = by_judged (judged at_start ks)
     by_judged : Judged at_start ks → IsWithin at_start ks
     by_judged (all_within x) = x
     by_judged (one_deep r d) =
-        absurd (no_tok r d (where_is d.tok front bs d.before (d.behind ++ ls) (e ∙ whole r d ls)) (where_is d.tok front bs' d.before (d.behind ++ ls') (f ∙ whole r d ls')))
+        absurd (no_tok r d (where_is d.tok front bs d.before (d.behind ++ ls) (e ∙ whole r d ls))
+        (where_is d.tok front bs' d.before (d.behind ++ ls') (f ∙ whole r d ls')))

@@ -36,16 +36,21 @@ blanks_ok len at bs e = let h = run_within is_blank bs in (omega arith, omega ar
 behind : (bytes bs : List ℕ) (at count : ℕ) → bs ≡ drop at bytes → drop count bs ≡ drop (at + count) bytes
 behind bytes bs at count e = ap (drop count) e ∙ drop-drop count at bytes
 
-cut_lies : {here there : Cursor} {bs cs : List ℕ} {ts : List Token} → Cuts here bs ts there cs → (bytes : List ℕ) (from : ℕ) → bs ≡ drop here.at bytes → LineOk (length bytes) here.at here.line → Rise from ts (length bytes) → All (Lies bytes) ts
+cut_lies : {here there : Cursor} {bs cs : List ℕ} {ts : List Token} → Cuts here bs ts there cs → (bytes : List ℕ) (from : ℕ) →
+    bs ≡ drop here.at bytes → LineOk (length bytes) here.at here.line → Rise from ts (length bytes) → All (Lies bytes) ts
 cut_lies cuts_none bytes from e l r = All-nil (Lies bytes)
 cut_lies (cuts_separator {here = here} {bs = bs} {count = count} p c) bytes from e l r =
     cut_lies c bytes from (behind bytes bs here.at count e) (later (length bytes) here.at (here.at + count) here.line (omega arith) l) r
 cut_lies (cuts_line {here = here} {bs = bs} {count = count} p c) bytes from e l r =
     let d = behind bytes bs here.at count e in
-    cut_lies c bytes from d (blanks_ok (length bytes) (here.at + count) (drop count bs) (ap length d ∙ length-drop (here.at + count) bytes)) r
+    cut_lies c bytes from d (blanks_ok (length bytes) (here.at + count) (drop count bs) (ap length d ∙ length-drop (here.at + count) bytes))
+    r
 cut_lies (cuts_token {here = here} {bs = bs} {ts = ts} {kind = kind} {count = count} p c) bytes from e l r =
     let h = rise_end (here.at + count) ts (length bytes) r.2 in
-    All-cons (Lies bytes) (token here kind count) ts (token_lies bytes here.at (token here kind count) l (omega arith)) (cut_lies c bytes (here.at + count) (behind bytes bs here.at count e) tt r.2)
+    All-cons (Lies bytes) (token here kind count) ts (token_lies bytes here.at (token here kind count) l (omega arith))
+    (cut_lies c bytes (here.at + count) (behind bytes bs here.at count e) tt r.2)
 
-pub lexed_lie : (file : ℕ) (bytes : List ℕ) (tokens : List Token) → AreTokens file bytes tokens → Rise 0 tokens (length bytes) → All (Lies bytes) tokens
-lexed_lie file bytes tokens t r = cut_lies t.cut bytes 0 refl (blanks_ok (length bytes) (mark_len bytes) (body bytes) (length-drop (mark_len bytes) bytes)) r
+pub lexed_lie : (file : ℕ) (bytes : List ℕ) (tokens : List Token) → AreTokens file bytes tokens → Rise 0 tokens (length bytes) →
+    All (Lies bytes) tokens
+lexed_lie file bytes tokens t r = cut_lies t.cut bytes 0 refl
+    (blanks_ok (length bytes) (mark_len bytes) (body bytes) (length-drop (mark_len bytes) bytes)) r

@@ -78,13 +78,15 @@ ends_closed (balanced_pair {o = o} c {cs = cs} {ds = ds} p b q d) (m ∷ ms) es 
     let tail : cs ++ c ∷ ds ≡ ms ++ es = cc in
     by_split (λ ns f. ends_closed b ms ns f) (λ ns f. ends_closed d ns es f) (splits cs (c ∷ ds) ms es tail)
   where
-    by_behind : ((ns : List Cell) → ds ≡ ns ++ es → opened es ≤ closed es) → (ns : List Cell) → ms ≡ cs ++ ns → c ∷ ds ≡ ns ++ es → opened es ≤ closed es
+    by_behind : ((ns : List Cell) → ds ≡ ns ++ es → opened es ≤ closed es) → (ns : List Cell) → ms ≡ cs ++ ns → c ∷ ds ≡ ns ++ es →
+        opened es ≤ closed es
     by_behind more [] f g =
         let h = even d in let c1 = ap opens_one q in let c2 = ap closes_one q in
         let x = ap opened g in let y = ap closed g in omega arith
     by_behind more (n ∷ ns) f g = let tail : ds ≡ ns ++ es = cc in more ns tail
 
-    by_split : ((ns : List Cell) → cs ≡ ms ++ ns → opened ns ≤ closed ns) → ((ns : List Cell) → ds ≡ ns ++ es → opened es ≤ closed es) → Splits cs (c ∷ ds) ms es → opened es ≤ closed es
+    by_split : ((ns : List Cell) → cs ≡ ms ++ ns → opened ns ≤ closed ns) → ((ns : List Cell) → ds ≡ ns ++ es → opened es ≤ closed es) →
+        Splits cs (c ∷ ds) ms es → opened es ≤ closed es
     by_split inner more (first_shorter ns f g) = by_behind more ns f g
     by_split inner more (first_longer ns f g) =
         let h = inner ns f in let k = even d in
@@ -112,15 +114,18 @@ pub one_innermost : (cs : List Cell) (o p : Cell) (r s : Region) → IsInnermost
 one_innermost cs o p r s i j = by_split (splits i.before (o ∷ i.inside) j.before (p ∷ j.inside) (sym i.split ∙ j.split))
   where
     same : o ≡ p → SameBracket o p r s
-    same e = let f : role.Opens r ≡ role.Opens s = sym i.opens ∙ ap (λ (c : Cell). role_of c.token.kind) e ∙ j.opens in record { cell = e; region = cc }
+    same e = let f : role.Opens r ≡ role.Opens s = sym i.opens ∙ ap (λ (c : Cell). role_of c.token.kind) e ∙ j.opens in
+        record { cell = e; region = cc }
 
     by_shorter : (ms : List Cell) → o ∷ i.inside ≡ ms ++ p ∷ j.inside → SameBracket o p r s
     by_shorter [] f = same (cc)
-    by_shorter (m ∷ ms) f = let tail : i.inside ≡ ms ++ p ∷ j.inside = cc in absurd (none_open ms j.inside p s i.balanced tail j.opens j.balanced)
+    by_shorter (m ∷ ms) f = let tail : i.inside ≡ ms ++ p ∷ j.inside = cc in
+        absurd (none_open ms j.inside p s i.balanced tail j.opens j.balanced)
 
     by_longer : (ms : List Cell) → p ∷ j.inside ≡ ms ++ o ∷ i.inside → SameBracket o p r s
     by_longer [] f = same (cc)
-    by_longer (m ∷ ms) f = let tail : j.inside ≡ ms ++ o ∷ i.inside = cc in absurd (none_open ms i.inside o r j.balanced tail i.opens i.balanced)
+    by_longer (m ∷ ms) f = let tail : j.inside ≡ ms ++ o ∷ i.inside = cc in
+        absurd (none_open ms i.inside o r j.balanced tail i.opens i.balanced)
 
     by_split : Splits i.before (o ∷ i.inside) j.before (p ∷ j.inside) → SameBracket o p r s
     by_split (first_shorter ms e f) = by_shorter ms f
@@ -135,7 +140,8 @@ balanced_append {ds = es} (balanced_pair {o = o} c {cs = cs} {ds = ds} p b q d) 
 -- The frames of brackets are those of the brackets that are open behind the tokens, the innermost first.
 pub data Reflects : List Cell → List Open → Type 0 where
   reflects_none : {cs : List Cell} → Balanced cs → Reflects cs []
-  reflects_bracket : {cs inside : List Cell} (o : Cell) {f : Open} {fs : List Open} → Reflects cs fs → role_of o.token.kind ≡ role.Opens f.region →
+  reflects_bracket : {cs inside : List Cell} (o : Cell) {f : Open} {fs : List Open} → Reflects cs fs →
+      role_of o.token.kind ≡ role.Opens f.region →
       f.place ≡ o.token.place → Balanced inside → Reflects (cs ++ o ∷ inside) (f ∷ fs)
 
 pub reflects_more : {cs : List Cell} {fs : List Open} (ms : List Cell) → Reflects cs fs → Balanced ms → Reflects (cs ++ ms) fs
@@ -149,12 +155,14 @@ pub data Moves (c : Cell) (fs : List Open) : List Open → Type 0 where
   moves_open : (f : Open) → role_of c.token.kind ≡ role.Opens f.region → f.place ≡ c.token.place → Moves c fs (f ∷ fs)
   moves_close : (f : Open) (gs : List Open) → fs ≡ f ∷ gs → role_of c.token.kind ≡ role.Closes f.region → Moves c fs gs
 
-reflects_closed : {cs : List Cell} {hs : List Open} (c : Cell) (f : Open) (fs : List Open) → hs ≡ f ∷ fs → Reflects cs hs → role_of c.token.kind ≡ role.Closes f.region → Reflects (cs ++ c ∷ []) fs
+reflects_closed : {cs : List Cell} {hs : List Open} (c : Cell) (f : Open) (fs : List Open) → hs ≡ f ∷ fs → Reflects cs hs →
+    role_of c.token.kind ≡ role.Closes f.region → Reflects (cs ++ c ∷ []) fs
 reflects_closed c f fs e (reflects_none b) q = absurd (cc)
 reflects_closed c f fs e (reflects_bracket {cs = cs} {inside = inside} o {f = g} {fs = gs} r p s b) q =
     let head : g ≡ f = cc in
     let tail : gs ≡ fs = cc in
-    let there : Balanced (o ∷ (inside ++ c ∷ [])) = balanced_pair c p b (q ∙ ap (λ (x : Open). role.Closes x.region) (sym head)) balanced_none in
+    let there : Balanced (o ∷ (inside ++ c ∷ [])) =
+    balanced_pair c p b (q ∙ ap (λ (x : Open). role.Closes x.region) (sym head)) balanced_none in
     subst (Reflects ((cs ++ o ∷ inside) ++ c ∷ [])) tail
     (subst (λ zs. Reflects zs gs) (sym (append_assoc cs (o ∷ inside) (c ∷ []))) (reflects_more (o ∷ (inside ++ c ∷ [])) r there))
 
@@ -173,7 +181,8 @@ pub found : {cs : List Cell} {hs : List Open} (f : Open) (fs : List Open) → hs
 found f fs e (reflects_none b) = absurd (cc)
 found f fs e (reflects_bracket {cs = cs} {inside = inside} o {f = g} r p q b) =
     let head : g ≡ f = cc in
-    subst (Found (cs ++ o ∷ inside)) head (record { cell = o; innermost = record { before = cs; inside = inside; split = refl; opens = p; balanced = b }; place = q })
+    subst (Found (cs ++ o ∷ inside)) head (record
+    { cell = o; innermost = record { before = cs; inside = inside; split = refl; opens = p; balanced = b }; place = q })
 
 pub none_found : {cs : List Cell} {hs : List Open} → hs ≡ [] → Reflects cs hs → Balanced cs
 none_found e (reflects_none b) = b

@@ -1,7 +1,9 @@
 -- What the toks of a writing are, as a function of it.
-use Rattle.std.proofs.Common.{◌≡◌, Bool, true, false, not, ◌&&◌, ◌||◌, if◌then◌else◌, List, [], ◌∷◌, ◌++◌, Option, Some, None, refl, sym, ◌∙◌, ap, subst, append_assoc, append-nil}
+use Rattle.std.proofs.Common.{◌≡◌, Bool, true, false, not, ◌&&◌, ◌||◌, if◌then◌else◌, List, [], ◌∷◌, ◌++◌, Option, Some, None, refl, sym}
+use Rattle.std.proofs.Common.{◌∙◌, ap, subst, append_assoc, append-nil}
 use Rattle.verse_layout.specs.declared.toks.Tok.{Tok}
-use Rattle.verse_layout.specs.Written.{Written, tok, sep, no_sep, is_open, is_close, is_gap, has_no_sep, gap_sep, sep_between, SpacedBehind, last_gap, next_tok, Spaced, only_gap, first_tok}
+use Rattle.verse_layout.specs.Written.{Written, tok, sep, no_sep, is_open, is_close, is_gap, has_no_sep, gap_sep, sep_between, SpacedBehind}
+use Rattle.verse_layout.specs.Written.{last_gap, next_tok, Spaced, only_gap, first_tok}
 use Rattle.verse_layout.specs.Answers.{first_sep, kept_sep, spaced}
 
 abbrev listed : Option Tok → List Tok
@@ -62,7 +64,8 @@ spaced_tok can w (sep s ∷ gap) k ws g = spaced_tok can (first_sep w s) gap k w
 spaced_tok can w (no_sep ∷ gap) k ws g = spaced_tok can None gap k ws g
 spaced_tok can w (tok j ∷ gap) k ws g = absurd (cc)
 
-sep_is : (j : Tok) (gap : List Written) (k : Tok) → is_gap gap ≡ true → sep_between j gap k ≡ kept_sep (not (is_open j.kind) && not (is_close k.kind)) (waits None gap)
+sep_is : (j : Tok) (gap : List Written) (k : Tok) → is_gap gap ≡ true →
+    sep_between j gap k ≡ kept_sep (not (is_open j.kind) && not (is_close k.kind)) (waits None gap)
 sep_is j gap k g = between (is_open j.kind) (is_close k.kind) (waits None gap) (gap_sep gap) (gap_none gap g)
 
 behind_is : {j : Tok} {ws : List Written} {ks : List Tok} → SpacedBehind j ws ks → ks ≡ spaced (not (is_open j.kind)) None ws
@@ -97,18 +100,22 @@ waits_no_sep v (sep r ∷ gap) = waits_no_sep (first_sep v r) gap
 waits_no_sep v (no_sep ∷ gap) = waits_no_sep None gap
 waits_no_sep v (tok k ∷ gap) = waits_no_sep None gap
 
-from_gap : (j : Tok) (gap ws : List Written) → is_gap gap ≡ true → SpacedBehind j (gap ++ ws) (spaced (not (is_open j.kind)) (waits None gap) ws)
+from_gap : (j : Tok) (gap ws : List Written) → is_gap gap ≡ true →
+    SpacedBehind j (gap ++ ws) (spaced (not (is_open j.kind)) (waits None gap) ws)
 from_gap j gap [] g = subst (λ us. SpacedBehind j us []) (sym (append-nil gap)) (last_gap g)
 from_gap j gap (sep s ∷ ws) g =
     let more = from_gap j (gap ++ sep s ∷ []) ws (gap_more gap (sep s) g refl) in
     subst (λ w. SpacedBehind j (gap ++ sep s ∷ ws) (spaced (not (is_open j.kind)) w ws)) (waits_sep None gap s)
-    (subst (λ us. SpacedBehind j us (spaced (not (is_open j.kind)) (waits None (gap ++ sep s ∷ [])) ws)) (append_assoc gap (sep s ∷ []) ws) more)
+    (subst (λ us. SpacedBehind j us (spaced (not (is_open j.kind)) (waits None (gap ++ sep s ∷ [])) ws))
+    (append_assoc gap (sep s ∷ []) ws) more)
 from_gap j gap (no_sep ∷ ws) g =
     let more = from_gap j (gap ++ no_sep ∷ []) ws (gap_more gap no_sep g refl) in
     subst (λ w. SpacedBehind j (gap ++ no_sep ∷ ws) (spaced (not (is_open j.kind)) w ws)) (waits_no_sep None gap)
-    (subst (λ us. SpacedBehind j us (spaced (not (is_open j.kind)) (waits None (gap ++ no_sep ∷ [])) ws)) (append_assoc gap (no_sep ∷ []) ws) more)
+    (subst (λ us. SpacedBehind j us (spaced (not (is_open j.kind)) (waits None (gap ++ no_sep ∷ [])) ws))
+    (append_assoc gap (no_sep ∷ []) ws) more)
 from_gap j gap (tok k ∷ ws) g =
-    subst (λ xs. SpacedBehind j (gap ++ tok k ∷ ws) (xs ++ k ∷ spaced (not (is_open k.kind)) None ws)) (sep_is j gap k g) (next_tok gap g (from_gap k [] ws refl))
+    subst (λ xs. SpacedBehind j (gap ++ tok k ∷ ws) (xs ++ k ∷ spaced (not (is_open k.kind)) None ws)) (sep_is j gap k g)
+    (next_tok gap g (from_gap k [] ws refl))
 
 first_gap : (gap ws : List Written) → is_gap gap ≡ true → Spaced (gap ++ ws) (spaced false (waits None gap) ws)
 first_gap gap [] g = subst (λ us. Spaced us []) (sym (append-nil gap)) (only_gap g)
@@ -121,12 +128,14 @@ first_gap gap (no_sep ∷ ws) g =
     subst (λ w. Spaced (gap ++ no_sep ∷ ws) (spaced false w ws)) (waits_no_sep None gap)
     (subst (λ us. Spaced us (spaced false (waits None (gap ++ no_sep ∷ [])) ws)) (append_assoc gap (no_sep ∷ []) ws) more)
 first_gap gap (tok k ∷ ws) g =
-    subst (λ xs. Spaced (gap ++ tok k ∷ ws) (xs ++ k ∷ spaced (not (is_open k.kind)) None ws)) (sym (kept_false (waits None gap))) (first_tok gap g (from_gap k [] ws refl))
+    subst (λ xs. Spaced (gap ++ tok k ∷ ws) (xs ++ k ∷ spaced (not (is_open k.kind)) None ws)) (sym (kept_false (waits None gap)))
+    (first_tok gap g (from_gap k [] ws refl))
 
 pub is_spaced : (ws : List Written) → Spaced ws (spaced false None ws)
 is_spaced ws = first_gap [] ws refl
 
-pub spaced_append : (can : Bool) (w : Option Tok) (ws us : List Written) → spaced can w (ws ++ us) ≡ spaced can w ws ++ spaced (can_behind can ws) (waits w ws) us
+pub spaced_append : (can : Bool) (w : Option Tok) (ws us : List Written) →
+    spaced can w (ws ++ us) ≡ spaced can w ws ++ spaced (can_behind can ws) (waits w ws) us
 spaced_append can w [] us = refl
 spaced_append can w (sep s ∷ ws) us = spaced_append can (first_sep w s) ws us
 spaced_append can w (no_sep ∷ ws) us = spaced_append can None ws us

@@ -28,7 +28,8 @@ same_tail : (cs rest others : List Cell) (c : Cell) → SameLine (c ∷ cs) rest
 same_tail [] rest others c e = tt
 same_tail (d ∷ cs) rest others c e = e
 
-pub reach_walk : {h g : Context} {cs others : List Cell} {ws : List Written} → Reach h cs others g ws → (end : Spot) (rest : List Cell) → SameLine cs rest others →
+pub reach_walk : {h g : Context} {cs others : List Cell} {ws : List Written} → Reach h cs others g ws → (end : Spot) (rest : List Cell) →
+    SameLine cs rest others →
     walk end h (cs ++ rest) ≡ front ws (walk end g rest)
 reach_walk reach_none end rest e = refl
 reach_walk {h = h} {g = g} (reach_more {c = c} {cs = cs} {others = others} {ws = ws} ends ok same p r) end rest e =
@@ -41,10 +42,12 @@ pub reach_fine : {h g : Context} {cs others : List Cell} {ws : List Written} →
 reach_fine reach_none f = f
 reach_fine (reach_more ends ok same p r) f = reach_fine r p.fine
 
-pub reach_reflects : {h g : Context} {cs others : List Cell} {ws : List Written} (past : List Cell) → Reach h cs others g ws → Reflects past (brackets h.frames) → Reflects (past ++ cs) (brackets g.frames)
+pub reach_reflects : {h g : Context} {cs others : List Cell} {ws : List Written} (past : List Cell) → Reach h cs others g ws →
+    Reflects past (brackets h.frames) → Reflects (past ++ cs) (brackets g.frames)
 reach_reflects past (reach_none {h = h}) f = subst (λ zs. Reflects zs (brackets h.frames)) (sym (append-nil past)) f
 reach_reflects {g = g} past (reach_more {c = c} {cs = cs} ends ok same p r) f =
-    subst (λ zs. Reflects zs (brackets g.frames)) (append_assoc past (c ∷ []) cs) (reach_reflects (past ++ c ∷ []) r (reflects_moved c f p.moves))
+    subst (λ zs. Reflects zs (brackets g.frames)) (append_assoc past (c ∷ []) cs)
+    (reach_reflects (past ++ c ∷ []) r (reflects_moved c f p.moves))
 
 -- the last of these tokens is an opener
 pub record LastOpens (cs : List Cell) : Type 0 where
@@ -57,13 +60,17 @@ pub record Opener (cs others : List Cell) : Type 0 where
   pub line : ends_line others ≡ true
   pub last : LastOpens cs
 
-pub reach_opened : {h g : Context} {cs others : List Cell} {ws : List Written} (past : List Cell) → Reach h cs others g ws → (h.opened ≡ true → (ends_line (cs ++ others) ≡ true) × LastOpens past) →
+pub reach_opened : {h g : Context} {cs others : List Cell} {ws : List Written} (past : List Cell) → Reach h cs others g ws →
+    (h.opened ≡ true → (ends_line (cs ++ others) ≡ true) × LastOpens past) →
     g.opened ≡ true → Opener (past ++ cs) others
 reach_opened past (reach_none {h = h} {others = others}) f o =
     let x = f o in record { line = x.0; last = subst LastOpens (sym (append-nil past)) x.1 }
 reach_opened past (reach_more {c = c} {cs = cs} {others = others} ends ok same p r) f o =
     subst (λ zs. Opener zs others) (append_assoc past (c ∷ []) cs)
-    (reach_opened (past ++ c ∷ []) r (λ q. (sym same ∙ (p.opens q).0, record { before = past; last = c; split = refl; opener = (p.opens q).1 })) o)
+    (reach_opened (past ++ c ∷ []) r (λ q. (
+      sym same ∙ (p.opens q).0,
+      record { before = past; last = c; split = refl; opener = (p.opens q).1 },
+    )) o)
 
 -- where a walk stops: the tokens before, the token, its rule and the reason
 pub record Stop (h : Context) (cs : List Cell) : Type 0 where
@@ -84,9 +91,24 @@ pub data Traced (h : Context) (cs : List Cell) : Type 0 where
   stopped : Stop h cs → Traced h cs
   walked : (g : Context) (ws : List Written) → Reach h cs [] g ws → Traced h cs
 
-step_traced : (h : Context) (c : Cell) (cs : List Cell) → Both c (stands h c) h (λ ends go. step h c ends go) → ((g : Context) → Fine g → Traced g cs) → Traced h (c ∷ cs)
+step_traced : (h : Context) (c : Cell) (cs : List Cell) → Both c (stands h c) h (λ ends go. step h c ends go) →
+    ((g : Context) → Fine g → Traced g cs) → Traced h (c ∷ cs)
 step_traced h c cs (stop_both rule vs r e a s) more =
-    stopped (record { before = []; behind = cs; c = c; place = h; ws = []; split = refl; reach = reach_none; rule = rule; vs = vs; reason = r; ending = e; stops = s })
+    stopped (record {
+      before = [];
+      behind = cs;
+      c = c;
+      place = h;
+      ws = [];
+      split = refl;
+      reach = reach_none;
+      rule = rule;
+      vs = vs;
+      reason =
+          r;
+      ending = e;
+      stops = s;
+    })
 step_traced h c cs (pass_both p) more = by_rest (more y.there y.fine)
   where
     y : Passes (ends_line cs) c (stands h c) h (λ go. step h c (ends_line cs) go)
@@ -124,15 +146,18 @@ pub record Continues (before others : List Cell) (g : Context) (n : ℕ) : Type 
   pub starts : AllStart n rest
   pub well : (end : Spot) → (walk end g rest).stop ≡ None
 
-by_ends : {before others : List Cell} {g : Context} {n : ℕ} {b : Bool} → (Ends n g b) → ((rest : List Cell) → ends_line rest ≡ b → SameLine before rest others) → Continues before others g n
+by_ends : {before others : List Cell} {g : Context} {n : ℕ} {b : Bool} → (Ends n g b) →
+    ((rest : List Cell) → ends_line rest ≡ b → SameLine before rest others) → Continues before others g n
 by_ends x e = record { rest = x.rest; line = e x.rest x.first; starts = x.starts; well = x.well }
 
 -- every place that is reached goes on
-pub reach_goes : {cs others : List Cell} {g : Context} {ws : List Written} (n : ℕ) → Reach file_start cs others g ws → Continues cs others g n
+pub reach_goes : {cs others : List Cell} {g : Context} {ws : List Written} (n : ℕ) → Reach file_start cs others g ws →
+    Continues cs others g n
 reach_goes n (reach_none {others = others}) = by_ends {before = []} {others = others} (file_start_ends n) (λ rest e. tt)
 reach_goes {g = g} n (reach_more {c = c} {cs = cs} {others = others} ends ok same p r) =
     by_ends {before = c ∷ cs} {others = others}
-    (ends_well n g.opened g.line g.frames (ends_line others) (reach_fine r p.fine) (λ o. (reach_opened [] (reach_more ends ok same p r) (λ q. absurd (let x : false ≡ true = q in cc)) o).line))
+    (ends_well n g.opened g.line g.frames (ends_line others) (reach_fine r p.fine)
+    (λ o. (reach_opened [] (reach_more ends ok same p r) (λ q. absurd (let x : false ≡ true = q in cc)) o).line))
     (λ rest e. e)
 
 pub reach_file : {cs others : List Cell} {g : Context} {ws : List Written} → Reach file_start cs others g ws → GoesOn cs others

@@ -1,5 +1,6 @@
 -- Words about walks: what is written before one, and where a walk stands.
-use Rattle.std.proofs.Common.{◌≡◌, Bool, true, false, not, ◌||◌, List, [], ◌∷◌, ◌++◌, ℕ, None, refl, sym, ◌∙◌, ap, append_assoc, if◌then◌else◌}
+use Rattle.std.proofs.Common.{◌≡◌, Bool, true, false, not, ◌||◌, List, [], ◌∷◌, ◌++◌, ℕ, None, refl, sym, ◌∙◌, ap, append_assoc}
+use Rattle.std.proofs.Common.{if◌then◌else◌}
 use Rattle.std.specs.Cmp.Lexicographic.{other_text}
 use Rattle.verse_layout.specs.declared.frames.Spot.{Spot}
 use Rattle.verse_layout.specs.declared.roles.Region.{Region}
@@ -75,9 +76,12 @@ brace_start fs c e = ap (λ b. if not (has_lines (region_at fs)) || b then None 
     by_test true = refl
     by_test false = refl
 
-pub line_begins : (f : Open) (fs : List Open) (c : Cell) → has_lines f.region ≡ true → is_brace_close (role_of c.token.kind) ≡ false → line_start (f ∷ fs) c ≡ c.line
-line_begins f fs c e g = ap (λ b. if not b || is_brace_close (role_of c.token.kind) then None else c.line) e ∙ ap (λ b. if b then None else c.line) g
+pub line_begins : (f : Open) (fs : List Open) (c : Cell) → has_lines f.region ≡ true → is_brace_close (role_of c.token.kind) ≡ false →
+    line_start (f ∷ fs) c ≡ c.line
+line_begins f fs c e g = ap (λ b. if not b || is_brace_close (role_of c.token.kind) then None else c.line) e ∙
+    ap (λ b. if b then None else c.line) g
 
 -- a token that begins no line
-pub go_on : (end : Spot) (h : List ℕ) (f : Open) (fs : List Open) (c : Cell) (cs : List Cell) → line_start (f ∷ fs) c ≡ None → go end h (f ∷ fs) (c ∷ cs) ≡ go_token end h (f ∷ fs) (c ∷ cs)
+pub go_on : (end : Spot) (h : List ℕ) (f : Open) (fs : List Open) (c : Cell) (cs : List Cell) → line_start (f ∷ fs) c ≡ None →
+    go end h (f ∷ fs) (c ∷ cs) ≡ go_token end h (f ∷ fs) (c ∷ cs)
 go_on end h f fs c cs e = rw e refl

@@ -80,7 +80,8 @@ mutual
         role_of o.token.kind ≡ role.Opens r → has_lines r ≡ false → Inside end h cs ws (c ∷ ds) → role_of c.token.kind ≡ role.Closes r →
         Bracket end h (o ∷ cs) (tok (passed o.token) ∷ (ws ++ tok (passed c.token) ∷ [])) ds
     braces : {end : Spot} {h : List ℕ} {o c : Cell} {cs ds es : List Cell} {ws vs : List Written} →
-        role_of o.token.kind ≡ role.Opens region.Brace → Rest end true h cs ws ds → Lines end ds vs (c ∷ es) → role_of c.token.kind ≡ role.Closes region.Brace →
+        role_of o.token.kind ≡ role.Opens region.Brace → Rest end true h cs ws ds → Lines end ds vs (c ∷ es) →
+        role_of c.token.kind ≡ role.Closes region.Brace →
         Bracket end h (o ∷ cs) (tok (tok_as t.Open o.token) ∷ (ws ++ (vs ++ tok (tok_as t.Close c.token) ∷ []))) es
 
   -- a token of a line, or a bracket in it
@@ -98,7 +99,8 @@ mutual
         Part end b h cs ws ds → Rest end b h ds vs es → Body end b h cs (ws ++ vs) es
     body_block : {end : Spot} {b : Bool} {h j : List ℕ} {c : Cell} {cs ds : List Cell} {ws : List Written} →
         is_opener (role_of c.token.kind) ≡ true → ends_line cs ≡ true → is_proper h j ≡ true → Block end b j cs ws ds →
-        Body end b h (c ∷ cs) (opener (role_of c.token.kind) c.token ++ open_at (spot_at end cs) ∷ (ws ++ close_at (spot_at end ds) ∷ [])) ds
+        Body end b h (c ∷ cs) (opener (role_of c.token.kind) c.token ++ open_at (spot_at end cs) ∷ (ws ++ close_at (spot_at end ds) ∷ []))
+        ds
 
   -- the further tokens of a line, which begin none
   pub data Rest : Spot → Bool → List ℕ → List Cell → List Written → List Cell → Type 0 where

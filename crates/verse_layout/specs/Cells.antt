@@ -1,5 +1,6 @@
 -- A file's tokens with its lines: each token knows the indentation of the line that it begins.
-use Rattle.std.specs.Prelude.{ℕ, ◌≤◌, Bool, true, ◌&&◌, nat_eq, nat_lt, List, [], ◌∷◌, map, length, Option, IfSome, option_map, is_some, slice_range}
+use Rattle.std.specs.Prelude.{ℕ, ◌≤◌, Bool, true, ◌&&◌, nat_eq, nat_lt, List, [], ◌∷◌, map, length, Option, IfSome, option_map, is_some}
+use Rattle.std.specs.Prelude.{slice_range}
 use Rattle.std.specs.List.{starts_with}
 use Rattle.std.specs.Cmp.Lexicographic.{pointwise}
 use Rattle.verse_lex.specs.declared.tokens.Token.{Token}

@@ -73,12 +73,18 @@ leave (f ∷ fs) token text go =
 abbrev pub begin_block : Context → Token → List ℕ → (Context → Walk) → Walk
 begin_block h token text go =
     write (tok (mark_at t.Open (spot_of token)))
-    (write (line_sep token) (go (record { opened = false; line = text; frames = record { region = block_in (region_at h.frames); text = text; place = token.place } ∷ h.frames })))
+    (write (line_sep token) (go (record {
+      opened = false;
+      line = text;
+      frames =
+          record { region = block_in (region_at h.frames); text = text; place = token.place } ∷ h.frames;
+    })))
 
 -- a line behind an opener is the first of its block
 abbrev pub indent : Context → Token → List ℕ → (Context → Walk) → Walk
 indent h token text go =
-    if is_proper h.line text then (if is_bracket_close (role_of token.kind) then refuse BRACKET token.place else begin_block h token text go)
+    if is_proper h.line text then (if is_bracket_close (role_of token.kind) then refuse BRACKET token.place else begin_block h token text
+    go)
     else refuse INDENTATION token.place
 
 -- what stands before a token that begins a line
@@ -113,7 +119,8 @@ abbrev pub close : Region → List Open → Token → (Context → Walk) → Wal
 close r [] token go = refuse BRACKET token.place
 close r (f ∷ fs) token go =
     if is_same_region f.region r then write (tok (closed_as r token)) (go (record { opened = false; line = f.text; frames = fs }))
-    else (if is_same_region r region.Brace && is_same_region f.region region.BraceBlock then write (close_at (spot_of token)) (close r fs token go)
+    else (if is_same_region r region.Brace && is_same_region f.region region.BraceBlock then write (close_at (spot_of token))
+    (close r fs token go)
     else refuse BRACKET token.place)
 
 abbrev pub stay : Bool → Context → Context
@@ -121,7 +128,8 @@ stay opened h = record { opened = opened; line = h.line; frames = h.frames }
 
 abbrev pub open_bracket : Region → Context → Token → (Context → Walk) → Walk
 open_bracket r h token go =
-    write (tok (opened_as r token)) (go (record { opened = false; line = h.line; frames = record { region = r; text = h.line; place = token.place } ∷ h.frames }))
+    write (tok (opened_as r token)) (go (record
+    { opened = false; line = h.line; frames = record { region = r; text = h.line; place = token.place } ∷ h.frames }))
 
 abbrev pub divided : Bool → Token → Written
 divided divides token = if divides then sep (tok_as t.Sep token) else tok (passed token)

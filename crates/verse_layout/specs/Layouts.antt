@@ -40,4 +40,5 @@ HasLayout bytes tokens = (ks : List Tok) × IsLayout bytes tokens ks
 
 -- the tokens of a file have their indentations within its bytes
 abbrev pub LexedLie : Type 0
-LexedLie = (file : ℕ) (bytes : List ℕ) (tokens : List Token) → AreTokens file bytes tokens → Rise 0 tokens (length bytes) → All (Lies bytes) tokens
+LexedLie = (file : ℕ) (bytes : List ℕ) (tokens : List Token) → AreTokens file bytes tokens → Rise 0 tokens (length bytes) →
+    All (Lies bytes) tokens

@@ -56,8 +56,10 @@ fn ends_line(tokens: &[Token]) -> bool
 fn walk(alloc: Global, bytes: &[u8], tokens: &[Token]) -> Result<Vec<Tok>, Front>
     requires size { length bytes.now ≤ MOST_FILE_BYTES }
     requires lines { All (Lies bytes.now) tokens.now }
-    ensures toks { IfOk result (λ toks. walk_answer (end_of bytes.now tokens.now) (cells_of bytes.now tokens.now) ≡ Ok toks.items) }
-    ensures refused { (r : Refusal) → IsErrOf result (front.Refused r) → walk_answer (end_of bytes.now tokens.now) (cells_of bytes.now tokens.now) ≡ Err r }
+    ensures toks { IfOk result (λ toks. walk_answer (end_of bytes.now tokens.now)
+        (cells_of bytes.now tokens.now) ≡ Ok toks.items) }
+    ensures refused { (r : Refusal) → IsErrOf result (front.Refused r) →
+        walk_answer (end_of bytes.now tokens.now) (cells_of bytes.now tokens.now) ≡ Err r }
 {
     let end = end_of(bytes, tokens);
     let mut writer = Writer::start(alloc);
@@ -87,8 +89,10 @@ pub fn layout(alloc: Global, bytes: &[u8], tokens: &[Token]) -> Result<Vec<Tok>,
     requires lines { All (Lies bytes.now) tokens.now }
     ensures toks { IfOk result (λ toks. IsLayout bytes.now tokens.now toks.items) }
     ensures few { IfOk result (λ toks. length toks.items ≤ 4 * length tokens.now) }
-    ensures exact { (r : Refusal) → IsErrOf result (front.Refused r) → IsRefused bytes.now tokens.now r }
-    ensures none { (r : Refusal) → IsErrOf result (front.Refused r) → (ks : List Tok) → IsLayout bytes.now tokens.now ks → ⊥ }
+    ensures exact { (r : Refusal) → IsErrOf result (front.Refused r) →
+        IsRefused bytes.now tokens.now r }
+    ensures none { (r : Refusal) → IsErrOf result (front.Refused r) → (ks : List Tok) →
+        IsLayout bytes.now tokens.now ks → ⊥ }
 {
     walk(alloc, bytes, tokens)
 }

@@ -1,11 +1,14 @@
 //! The nesting load of a list of toks.
 
-ghost use Rattle.std.specs.Prelude.{◌≡◌, ◌<◌, ◌≤◌, ◌+◌, IfOk, IfSome, length, reverse, slice_set, slice_get, Some};
+ghost use Rattle.std.specs.Prelude.{◌≡◌, ◌<◌, ◌≤◌, ◌+◌, IfOk, IfSome, length, reverse, slice_set};
+ghost use Rattle.std.specs.Prelude.{slice_get, Some};
 ghost use Rattle.verse_base.specs.declared.limits.TheConstants.{MOST_LOAD};
 ghost use Rattle.verse_layout.specs.Weights.{weight_of, word_weight, mark_weight};
 ghost use Rattle.verse_layout.specs.declared.loads.Count.{Count};
-ghost use Rattle.verse_layout.specs.declared.loads.Weight.TheVariants.{Adds, Begins, Ends, Resets, ResetsHole};
-ghost use Rattle.verse_layout.specs.Loads.{moved, at_start, sum_of, reset, reset_hole, open_counts, Notes};
+ghost use Rattle.verse_layout.specs.declared.loads.Weight.TheVariants.{Adds, Begins, Ends, Resets};
+ghost use Rattle.verse_layout.specs.declared.loads.Weight.TheVariants.{ResetsHole};
+ghost use Rattle.verse_layout.specs.Loads.{moved, at_start, sum_of, reset, reset_hole, open_counts};
+ghost use Rattle.verse_layout.specs.Loads.{Notes};
 
 use crate::toks::TokKind;
 use std::alloc::{AllocError, Global};
@@ -86,9 +89,12 @@ pub fn weight_of(kind: TokKind) -> Weight
 fn last_hole(frames: &[Count]) -> Option<usize>
     ensures none { result ≡ None → reset_hole (reverse frames.now) ≡ reverse frames.now }
     ensures within { IfSome result (λ i. i < length frames.now) }
-    ensures found { IfSome result (λ i. (c : Count) → slice_get frames.now i ≡ Some c → reset_hole (reverse frames.now) ≡ reverse (slice_set frames.now i (reset c))) }
-    ensures sum { IfSome result (λ i. (c : Count) → slice_get frames.now i ≡ Some c → sum_of (reset_hole (reverse frames.now)) + c.count ≡ sum_of (reverse frames.now) + 1) }
-    ensures least { IfSome result (λ i. (c : Count) → slice_get frames.now i ≡ Some c → c.count ≤ sum_of (reverse frames.now)) }
+    ensures found { IfSome result (λ i. (c : Count) → slice_get frames.now i ≡ Some c →
+        reset_hole (reverse frames.now) ≡ reverse (slice_set frames.now i (reset c))) }
+    ensures sum { IfSome result (λ i. (c : Count) → slice_get frames.now i ≡ Some c →
+        sum_of (reset_hole (reverse frames.now)) + c.count ≡ sum_of (reverse frames.now) + 1) }
+    ensures least { IfSome result (λ i. (c : Count) → slice_get frames.now i ≡ Some c →
+        c.count ≤ sum_of (reverse frames.now)) }
 {
     'frames: for i in (0..frames.len()).rev() {
         if frames[i].is_hole {
@@ -103,9 +109,11 @@ fn reset_last_hole(frames: &mut [Count], sum: u32) -> Option<u32>
     requires within { sum_of (reverse frames.old) ≤ sum }
     requires small { sum ≤ MOST_LOAD }
     ensures ok { IfSome result (λ s. reverse frames.new ≡ reset_hole (reverse frames.old)) }
-    ensures sum { IfSome result (λ s. s + sum_of (reverse frames.old) ≡ sum + sum_of (reset_hole (reverse frames.old))) }
+    ensures sum { IfSome result (λ s. s + sum_of (reverse frames.old) ≡
+        sum + sum_of (reset_hole (reverse frames.old))) }
     ensures few { IfSome result (λ s. s ≤ MOST_LOAD) }
-    ensures many { result ≡ None → MOST_LOAD + sum_of (reverse frames.old) < sum + sum_of (reset_hole (reverse frames.old)) }
+    ensures many { result ≡ None →
+        MOST_LOAD + sum_of (reverse frames.old) < sum + sum_of (reset_hole (reverse frames.old)) }
     ensures same { result ≡ None → frames.new ≡ frames.old }
 {
     let Some(at) = last_hole(frames) else {
@@ -150,7 +158,8 @@ impl Load {
 
     /// Adds 1 to the innermost count, if the load allows it.
     fn add(&mut self) -> bool
-        ensures { Notes result (moved Adds (open_counts self.old.inner self.old.outer.items)) (open_counts self.new.inner self.new.outer.items) }
+        ensures { Notes result (moved Adds (open_counts self.old.inner self.old.outer.items))
+            (open_counts self.new.inner self.new.outer.items) }
     {
         if self.sum >= MOST_LOAD {
             return false;
@@ -162,7 +171,10 @@ impl Load {
 
     /// Adds 1 to the innermost count and begins a frame, if the load allows it.
     fn begin(&mut self, is_hole: bool) -> Result<bool, AllocError>
-        ensures { IfOk result (λ is_within. Notes is_within (moved (Begins is_hole) (open_counts self.old.inner self.old.outer.items)) (open_counts self.new.inner self.new.outer.items)) }
+        ensures { IfOk result (λ is_within.
+            Notes is_within (moved (Begins is_hole)
+            (open_counts self.old.inner self.old.outer.items))
+            (open_counts self.new.inner self.new.outer.items)) }
     {
         if self.sum + 2 > MOST_LOAD {
             return Ok(false);
@@ -179,7 +191,8 @@ impl Load {
 
     /// Ends the innermost frame.
     fn end(&mut self)
-        ensures { open_counts self.new.inner self.new.outer.items ≡ moved Ends (open_counts self.old.inner self.old.outer.items) }
+        ensures { open_counts self.new.inner self.new.outer.items ≡
+            moved Ends (open_counts self.old.inner self.old.outer.items) }
     {
         if let Some(around) = self.outer.pop() {
             self.sum -= self.inner.count;
@@ -189,7 +202,8 @@ impl Load {
 
     /// Sets the innermost count to 1.
     fn reset(&mut self) -> bool
-        ensures { Notes result (moved Resets (open_counts self.old.inner self.old.outer.items)) (open_counts self.new.inner self.new.outer.items) }
+        ensures { Notes result (moved Resets (open_counts self.old.inner self.old.outer.items))
+            (open_counts self.new.inner self.new.outer.items) }
     {
         let sum = self.sum - self.inner.count + 1;
         if sum > MOST_LOAD {
@@ -202,7 +216,8 @@ impl Load {
 
     /// Sets the count of the innermost hole to 1.
     fn reset_hole(&mut self) -> bool
-        ensures { Notes result (moved ResetsHole (open_counts self.old.inner self.old.outer.items)) (open_counts self.new.inner self.new.outer.items) }
+        ensures { Notes result (moved ResetsHole (open_counts self.old.inner self.old.outer.items))
+            (open_counts self.new.inner self.new.outer.items) }
     {
         if self.inner.is_hole {
             return self.reset();
@@ -216,7 +231,10 @@ impl Load {
 
     /// Notes a tok, and says whether the load is still within its bound.
     pub fn note(&mut self, kind: TokKind) -> Result<bool, AllocError>
-        ensures { IfOk result (λ is_within. Notes is_within (moved (weight_of kind) (open_counts self.old.inner self.old.outer.items)) (open_counts self.new.inner self.new.outer.items)) }
+        ensures { IfOk result (λ is_within.
+            Notes is_within (moved (weight_of kind)
+            (open_counts self.old.inner self.old.outer.items))
+            (open_counts self.new.inner self.new.outer.items)) }
     {
         match weight_of(kind) {
             Weight::Keeps => Ok(true),

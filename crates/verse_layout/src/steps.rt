@@ -7,7 +7,11 @@ ghost use Rattle.verse_base.specs.declared.refusals.Front.TheVariants as front;
 ghost use Rattle.verse_layout.specs.declared.toks.TokKind.TheVariants as t;
 ghost use Rattle.verse_layout.specs.Roles.{role_of};
 ghost use Rattle.verse_layout.specs.Cells.{Lies, cell_of, spot_of, mark_at, tok_as, passed};
-ghost use Rattle.verse_layout.specs.Frames.{Open, Context, Walk, leave, begin_block, indent, lead, follow, close, on_token, before_token, begins_none, line_start, opened_as, closed_as, open_bracket, divided, after_colon, closes, innermost, at_end, no_more, step, write, refuse};
+ghost use Rattle.verse_layout.specs.Frames.{Open, Context, Walk, leave, begin_block, indent, lead};
+ghost use Rattle.verse_layout.specs.Frames.{follow, close, on_token, before_token, begins_none};
+ghost use Rattle.verse_layout.specs.Frames.{line_start, opened_as, closed_as, open_bracket};
+ghost use Rattle.verse_layout.specs.Frames.{divided, after_colon, closes, innermost, at_end};
+ghost use Rattle.verse_layout.specs.Frames.{no_more, step, write, refuse};
 ghost use Rattle.verse_layout.specs.Blocks.{line_sep, close_at};
 ghost use Rattle.verse_layout.specs.Written.{Written, tok};
 ghost use Rattle.verse_layout.specs.Rests.{rest_of};
@@ -50,9 +54,16 @@ fn tok_as(kind: TokKind, token: &Token) -> Tok
 
 /// Writes a mark that no byte spells.
 fn put_mark(writer: &mut Writer, kind: TokKind, token: &Token) -> Result<(), Front>
-    ensures ok { OnOk result ((x : Walk) → rest_of writer.new x ≡ rest_of writer.old (write (tok (mark_at kind (spot_of token.now))) x)) }
-    ensures refused { (r : Refusal) → IsErrOf result (front.Refused r) → (ws : List Written) (stop : Option Refusal) →
-        rest_of writer.old (record { written = tok (mark_at kind (spot_of token.now)) ∷ ws; stop = stop }) ≡ Err r }
+    ensures ok { OnOk result ((x : Walk) →
+        rest_of writer.new x ≡ rest_of writer.old
+        (write (tok (mark_at kind (spot_of token.now))) x)) }
+    ensures refused { (r : Refusal) → IsErrOf result (front.Refused r) →
+        (ws : List Written) (stop : Option Refusal) →
+        rest_of writer.old (record {
+          written = tok (mark_at kind (spot_of token.now)) ∷ ws;
+          stop =
+              stop;
+        }) ≡ Err r }
 {
     writer.put(mark_at(kind, token))
 }
@@ -66,8 +77,10 @@ fn passed(token: &Token) -> Tok
 
 /// Passes the token on.
 fn pass(writer: &mut Writer, token: &Token) -> Result<(), Front>
-    ensures ok { OnOk result ((x : Walk) → rest_of writer.new x ≡ rest_of writer.old (write (tok (passed token.now)) x)) }
-    ensures refused { (r : Refusal) → IsErrOf result (front.Refused r) → (ws : List Written) (stop : Option Refusal) →
+    ensures ok { OnOk result ((x : Walk) →
+        rest_of writer.new x ≡ rest_of writer.old (write (tok (passed token.now)) x)) }
+    ensures refused { (r : Refusal) → IsErrOf result (front.Refused r) →
+        (ws : List Written) (stop : Option Refusal) →
         rest_of writer.old (record { written = tok (passed token.now) ∷ ws; stop = stop }) ≡ Err r }
 {
     writer.put(passed(token))
@@ -97,18 +110,30 @@ fn closed_as(region: Region, token: &Token) -> Tok
 
 /// Writes an opening bracket.
 fn put_opening(writer: &mut Writer, region: Region, token: &Token) -> Result<(), Front>
-    ensures ok { OnOk result ((x : Walk) → rest_of writer.new x ≡ rest_of writer.old (write (tok (opened_as region token.now)) x)) }
-    ensures refused { (r : Refusal) → IsErrOf result (front.Refused r) → (ws : List Written) (stop : Option Refusal) →
-        rest_of writer.old (record { written = tok (opened_as region token.now) ∷ ws; stop = stop }) ≡ Err r }
+    ensures ok { OnOk result ((x : Walk) →
+        rest_of writer.new x ≡ rest_of writer.old (write (tok (opened_as region token.now)) x)) }
+    ensures refused { (r : Refusal) → IsErrOf result (front.Refused r) →
+        (ws : List Written) (stop : Option Refusal) →
+        rest_of writer.old (record {
+          written = tok (opened_as region token.now) ∷ ws;
+          stop =
+              stop;
+        }) ≡ Err r }
 {
     writer.put(opened_as(region, token))
 }
 
 /// Writes a closing bracket.
 fn put_closing(writer: &mut Writer, region: Region, token: &Token) -> Result<(), Front>
-    ensures ok { OnOk result ((x : Walk) → rest_of writer.new x ≡ rest_of writer.old (write (tok (closed_as region token.now)) x)) }
-    ensures refused { (r : Refusal) → IsErrOf result (front.Refused r) → (ws : List Written) (stop : Option Refusal) →
-        rest_of writer.old (record { written = tok (closed_as region token.now) ∷ ws; stop = stop }) ≡ Err r }
+    ensures ok { OnOk result ((x : Walk) →
+        rest_of writer.new x ≡ rest_of writer.old (write (tok (closed_as region token.now)) x)) }
+    ensures refused { (r : Refusal) → IsErrOf result (front.Refused r) →
+        (ws : List Written) (stop : Option Refusal) →
+        rest_of writer.old (record {
+          written = tok (closed_as region token.now) ∷ ws;
+          stop =
+              stop;
+        }) ≡ Err r }
 {
     writer.put(closed_as(region, token))
 }
@@ -121,7 +146,8 @@ fn leave<'a>(
     text: &'a [u8],
 ) -> Result<(), Front>
     ensures ok { OnOk result ((go : List Open → Walk) →
-        rest_of writer.new (go (stack frames.new.items)) ≡ rest_of writer.old (leave (stack frames.old.items) token.now text.now go)) }
+        rest_of writer.new (go (stack frames.new.items)) ≡
+        rest_of writer.old (leave (stack frames.old.items) token.now text.now go)) }
     ensures refused { (r : Refusal) → IsErrOf result (front.Refused r) → (go : List Open → Walk) →
         rest_of writer.old (leave (stack frames.old.items) token.now text.now go) ≡ Err r }
 {
@@ -147,7 +173,8 @@ fn leave<'a>(
 
 /// Wants what separates a line from the one before.
 fn want_line(writer: &mut Writer, token: &Token)
-    ensures { (x : Walk) → rest_of writer.new x ≡ rest_of writer.old (write (line_sep token.now) x) }
+    ensures { (x : Walk) → rest_of writer.new x ≡
+        rest_of writer.old (write (line_sep token.now) x) }
 {
     if is_else(token.kind) {
         writer.want_none();
@@ -158,9 +185,16 @@ fn want_line(writer: &mut Writer, token: &Token)
 
 /// Writes the Open of an indented block, and what separates its first line from it.
 fn put_open(writer: &mut Writer, token: &Token) -> Result<(), Front>
-    ensures ok { OnOk result ((x : Walk) → rest_of writer.new x ≡ rest_of writer.old (write (tok (mark_at t.Open (spot_of token.now))) (write (line_sep token.now) x))) }
-    ensures refused { (r : Refusal) → IsErrOf result (front.Refused r) → (ws : List Written) (stop : Option Refusal) →
-        rest_of writer.old (record { written = tok (mark_at t.Open (spot_of token.now)) ∷ ws; stop = stop }) ≡ Err r }
+    ensures ok { OnOk result ((x : Walk) →
+        rest_of writer.new x ≡ rest_of writer.old
+        (write (tok (mark_at t.Open (spot_of token.now))) (write (line_sep token.now) x))) }
+    ensures refused { (r : Refusal) → IsErrOf result (front.Refused r) →
+        (ws : List Written) (stop : Option Refusal) →
+        rest_of writer.old (record {
+          written = tok (mark_at t.Open (spot_of token.now)) ∷ ws;
+          stop =
+              stop;
+        }) ≡ Err r }
 {
     put_mark(writer, TokKind::Open, token)?;
     want_line(writer, token);
@@ -174,8 +208,11 @@ fn begin_block<'a>(
     token: &Token,
     text: &'a [u8],
 ) -> Result<(), Front>
-    ensures ok { OnOk result ((go : Context → Walk) → rest_of writer.new (go (context_of state.new)) ≡ rest_of writer.old (begin_block (context_of state.old) token.now text.now go)) }
-    ensures refused { (r : Refusal) → IsErrOf result (front.Refused r) → (go : Context → Walk) → rest_of writer.old (begin_block (context_of state.old) token.now text.now go) ≡ Err r }
+    ensures ok { OnOk result ((go : Context → Walk) →
+        rest_of writer.new (go (context_of state.new)) ≡
+        rest_of writer.old (begin_block (context_of state.old) token.now text.now go)) }
+    ensures refused { (r : Refusal) → IsErrOf result (front.Refused r) → (go : Context → Walk) →
+        rest_of writer.old (begin_block (context_of state.old) token.now text.now go) ≡ Err r }
 {
     let region = block_in(region_at(state.frames.as_slice()));
     put_open(writer, token)?;
@@ -196,8 +233,11 @@ fn indent<'a>(
     token: &Token,
     text: &'a [u8],
 ) -> Result<(), Front>
-    ensures ok { OnOk result ((go : Context → Walk) → rest_of writer.new (go (context_of state.new)) ≡ rest_of writer.old (indent (context_of state.old) token.now text.now go)) }
-    ensures refused { (r : Refusal) → IsErrOf result (front.Refused r) → (go : Context → Walk) → rest_of writer.old (indent (context_of state.old) token.now text.now go) ≡ Err r }
+    ensures ok { OnOk result ((go : Context → Walk) →
+        rest_of writer.new (go (context_of state.new)) ≡
+        rest_of writer.old (indent (context_of state.old) token.now text.now go)) }
+    ensures refused { (r : Refusal) → IsErrOf result (front.Refused r) → (go : Context → Walk) →
+        rest_of writer.old (indent (context_of state.old) token.now text.now go) ≡ Err r }
 {
     if !is_proper(state.line, text) {
         return Err(refused(INDENTATION, token.place));
@@ -215,8 +255,11 @@ fn lead<'a>(
     token: &Token,
     text: &'a [u8],
 ) -> Result<(), Front>
-    ensures ok { OnOk result ((go : Context → Walk) → rest_of writer.new (go (context_of state.new)) ≡ rest_of writer.old (lead (context_of state.old) token.now text.now go)) }
-    ensures refused { (r : Refusal) → IsErrOf result (front.Refused r) → (go : Context → Walk) → rest_of writer.old (lead (context_of state.old) token.now text.now go) ≡ Err r }
+    ensures ok { OnOk result ((go : Context → Walk) →
+        rest_of writer.new (go (context_of state.new)) ≡
+        rest_of writer.old (lead (context_of state.old) token.now text.now go)) }
+    ensures refused { (r : Refusal) → IsErrOf result (front.Refused r) → (go : Context → Walk) →
+        rest_of writer.old (lead (context_of state.old) token.now text.now go) ≡ Err r }
 {
     if state.is_opened {
         return indent(writer, state, token, text);
@@ -229,8 +272,10 @@ fn lead<'a>(
 
 /// Refuses a token behind an opener that begins no line.
 fn follow(state: &State, token: &Token) -> Result<(), Front>
-    ensures ok { OnOk result ((go : Context → Walk) → follow (context_of state.now) token.now go ≡ go (context_of state.now)) }
-    ensures refused { (r : Refusal) → IsErrOf result (front.Refused r) → (go : Context → Walk) → follow (context_of state.now) token.now go ≡ refuse r.rule r.place }
+    ensures ok { OnOk result ((go : Context → Walk) → follow (context_of state.now) token.now go ≡
+        go (context_of state.now)) }
+    ensures refused { (r : Refusal) → IsErrOf result (front.Refused r) → (go : Context → Walk) →
+        follow (context_of state.now) token.now go ≡ refuse r.rule r.place }
 {
     if !state.is_opened && !state.frames.is_empty() {
         return Ok(());
@@ -248,8 +293,11 @@ fn close<'a>(
     token: &Token,
 ) -> Result<&'a [u8], Front>
     ensures ok { IfOk result (λ text. (go : Context → Walk) →
-        rest_of writer.new (go (record { opened = false; line = text.now; frames = stack frames.new.items })) ≡ rest_of writer.old (close region (stack frames.old.items) token.now go)) }
-    ensures refused { (r : Refusal) → IsErrOf result (front.Refused r) → (go : Context → Walk) → rest_of writer.old (close region (stack frames.old.items) token.now go) ≡ Err r }
+        rest_of writer.new (go (record
+        { opened = false; line = text.now; frames = stack frames.new.items })) ≡
+        rest_of writer.old (close region (stack frames.old.items) token.now go)) }
+    ensures refused { (r : Refusal) → IsErrOf result (front.Refused r) → (go : Context → Walk) →
+        rest_of writer.old (close region (stack frames.old.items) token.now go) ≡ Err r }
 {
     'closing: loop {
         let Some(frame) = frames.pop() else {
@@ -284,9 +332,13 @@ fn before_token<'a>(
 ) -> Result<(), Front>
     requires { Lies bytes.now token.now }
     ensures ok { OnOk result ((go : Context → Walk) → rest_of writer.new (go (context_of state.new))
-        ≡ rest_of writer.old (before_token (line_start (stack state.old.frames.items) (cell_of bytes.now token.now)) (context_of state.old) token.now go)) }
+        ≡ rest_of writer.old (before_token
+        (line_start (stack state.old.frames.items) (cell_of bytes.now token.now))
+        (context_of state.old) token.now go)) }
     ensures refused { (r : Refusal) → IsErrOf result (front.Refused r) → (go : Context → Walk) →
-        rest_of writer.old (before_token (line_start (stack state.old.frames.items) (cell_of bytes.now token.now)) (context_of state.old) token.now go) ≡ Err r }
+        rest_of writer.old (before_token
+        (line_start (stack state.old.frames.items) (cell_of bytes.now token.now))
+        (context_of state.old) token.now go) ≡ Err r }
 {
     if begins_none(state, token) {
         return follow(state, token);
@@ -304,8 +356,11 @@ fn open_bracket<'a>(
     region: Region,
     token: &Token,
 ) -> Result<(), Front>
-    ensures ok { OnOk result ((go : Context → Walk) → rest_of writer.new (go (context_of state.new)) ≡ rest_of writer.old (open_bracket region (context_of state.old) token.now go)) }
-    ensures refused { (r : Refusal) → IsErrOf result (front.Refused r) → (go : Context → Walk) → rest_of writer.old (open_bracket region (context_of state.old) token.now go) ≡ Err r }
+    ensures ok { OnOk result ((go : Context → Walk) →
+        rest_of writer.new (go (context_of state.new)) ≡
+        rest_of writer.old (open_bracket region (context_of state.old) token.now go)) }
+    ensures refused { (r : Refusal) → IsErrOf result (front.Refused r) → (go : Context → Walk) →
+        rest_of writer.old (open_bracket region (context_of state.old) token.now go) ≡ Err r }
 {
     put_opening(writer, region, token)?;
     state.frames.push(Frame {
@@ -324,8 +379,11 @@ fn close_bracket<'a>(
     region: Region,
     token: &Token,
 ) -> Result<(), Front>
-    ensures ok { OnOk result ((go : Context → Walk) → rest_of writer.new (go (context_of state.new)) ≡ rest_of writer.old (close region (context_of state.old).frames token.now go)) }
-    ensures refused { (r : Refusal) → IsErrOf result (front.Refused r) → (go : Context → Walk) → rest_of writer.old (close region (context_of state.old).frames token.now go) ≡ Err r }
+    ensures ok { OnOk result ((go : Context → Walk) →
+        rest_of writer.new (go (context_of state.new)) ≡
+        rest_of writer.old (close region (context_of state.old).frames token.now go)) }
+    ensures refused { (r : Refusal) → IsErrOf result (front.Refused r) → (go : Context → Walk) →
+        rest_of writer.old (close region (context_of state.old).frames token.now go) ≡ Err r }
 {
     let line = close(writer, &mut state.frames, region, token)?;
     state.is_opened = false;
@@ -335,9 +393,12 @@ fn close_bracket<'a>(
 
 /// Wants a Sep for the token if it divides, and passes it on otherwise.
 fn divide(writer: &mut Writer, divides: bool, token: &Token) -> Result<(), Front>
-    ensures ok { OnOk result ((x : Walk) → rest_of writer.new x ≡ rest_of writer.old (write (divided divides token.now) x)) }
-    ensures refused { (r : Refusal) → IsErrOf result (front.Refused r) → (ws : List Written) (stop : Option Refusal) →
-        rest_of writer.old (record { written = divided divides token.now ∷ ws; stop = stop }) ≡ Err r }
+    ensures ok { OnOk result ((x : Walk) →
+        rest_of writer.new x ≡ rest_of writer.old (write (divided divides token.now) x)) }
+    ensures refused { (r : Refusal) → IsErrOf result (front.Refused r) →
+        (ws : List Written) (stop : Option Refusal) →
+        rest_of writer.old (record { written = divided divides token.now ∷ ws; stop = stop }) ≡
+        Err r }
 {
     if divides {
         writer.want(tok_as(TokKind::Sep, token));
@@ -348,7 +409,8 @@ fn divide(writer: &mut Writer, divides: bool, token: &Token) -> Result<(), Front
 
 /// Passes a `:` on, unless it opens a block.
 fn colon(writer: &mut Writer, opens: bool, token: &Token) -> Result<(), Front>
-    ensures ok { OnOk result ((x : Walk) → rest_of writer.new x ≡ rest_of writer.old (after_colon opens token.now x)) }
+    ensures ok { OnOk result ((x : Walk) →
+        rest_of writer.new x ≡ rest_of writer.old (after_colon opens token.now x)) }
     ensures refused { (r : Refusal) → IsErrOf result (front.Refused r) → (x : Walk) →
         rest_of writer.old (after_colon opens token.now x) ≡ Err r }
 {
@@ -365,8 +427,11 @@ fn on_token<'a>(
     token: &Token,
     ends: bool,
 ) -> Result<(), Front>
-    ensures ok { OnOk result ((go : Context → Walk) → rest_of writer.new (go (context_of state.new)) ≡ rest_of writer.old (on_token ends (context_of state.old) token.now go)) }
-    ensures refused { (r : Refusal) → IsErrOf result (front.Refused r) → (go : Context → Walk) → rest_of writer.old (on_token ends (context_of state.old) token.now go) ≡ Err r }
+    ensures ok { OnOk result ((go : Context → Walk) →
+        rest_of writer.new (go (context_of state.new)) ≡
+        rest_of writer.old (on_token ends (context_of state.old) token.now go)) }
+    ensures refused { (r : Refusal) → IsErrOf result (front.Refused r) → (go : Context → Walk) →
+        rest_of writer.old (on_token ends (context_of state.old) token.now go) ≡ Err r }
 {
     let region = region_at(state.frames.as_slice());
     let opens = has_lines(region) && ends;
@@ -403,8 +468,10 @@ fn on_token<'a>(
 
 /// Writes the end of an indented block at the file's end.
 fn put_end(writer: &mut Writer, end: Spot) -> Result<(), Front>
-    ensures ok { OnOk result ((x : Walk) → rest_of writer.new x ≡ rest_of writer.old (write (close_at end) x)) }
-    ensures refused { (r : Refusal) → IsErrOf result (front.Refused r) → (ws : List Written) (stop : Option Refusal) →
+    ensures ok { OnOk result ((x : Walk) →
+        rest_of writer.new x ≡ rest_of writer.old (write (close_at end) x)) }
+    ensures refused { (r : Refusal) → IsErrOf result (front.Refused r) →
+        (ws : List Written) (stop : Option Refusal) →
         rest_of writer.old (record { written = close_at end ∷ ws; stop = stop }) ≡ Err r }
 {
     writer.put(Tok {
@@ -417,8 +484,10 @@ fn put_end(writer: &mut Writer, end: Spot) -> Result<(), Front>
 
 /// Closes the blocks that are open at the file's end.
 fn close_all(writer: &mut Writer, frames: &mut Vec<Frame>, end: Spot) -> Result<(), Front>
-    ensures ok { OnOk result (rest_of writer.new no_more ≡ rest_of writer.old (closes end (stack frames.old.items))) }
-    ensures refused { (r : Refusal) → IsErrOf result (front.Refused r) → rest_of writer.old (closes end (stack frames.old.items)) ≡ Err r }
+    ensures ok { OnOk result (rest_of writer.new no_more ≡
+        rest_of writer.old (closes end (stack frames.old.items))) }
+    ensures refused { (r : Refusal) → IsErrOf result (front.Refused r) →
+        rest_of writer.old (closes end (stack frames.old.items)) ≡ Err r }
 {
     'closing: while let Some(frame) = frames.pop() {
         if !is_block(frame.region) {
@@ -431,8 +500,12 @@ fn close_all(writer: &mut Writer, frames: &mut Vec<Frame>, end: Spot) -> Result<
 
 /// Refuses a file that ends in a bracket or behind an opener, and closes its blocks otherwise.
 pub fn at_end(writer: &mut Writer, state: &mut State, end: Spot) -> Result<(), Front>
-    ensures ok { OnOk result (rest_of writer.new no_more ≡ rest_of writer.old (at_end (innermost (stack state.old.frames.items)) end (context_of state.old))) }
-    ensures refused { (r : Refusal) → IsErrOf result (front.Refused r) → rest_of writer.old (at_end (innermost (stack state.old.frames.items)) end (context_of state.old)) ≡ Err r }
+    ensures ok { OnOk result (rest_of writer.new no_more ≡
+        rest_of writer.old (at_end (innermost (stack state.old.frames.items)) end
+        (context_of state.old))) }
+    ensures refused { (r : Refusal) → IsErrOf result (front.Refused r) →
+        rest_of writer.old (at_end (innermost (stack state.old.frames.items)) end
+        (context_of state.old)) ≡ Err r }
 {
     if let Some(place) = innermost(state.frames.as_slice()) {
         return Err(refused(BRACKET, place));
@@ -455,7 +528,8 @@ pub fn step<'a>(
     ensures ok { OnOk result ((go : Context → Walk) → rest_of writer.new (go (context_of state.new))
         ≡ rest_of writer.old (step (context_of state.old) (cell_of bytes.now token.now) ends go)) }
     ensures refused { (r : Refusal) → IsErrOf result (front.Refused r) → (go : Context → Walk) →
-        rest_of writer.old (step (context_of state.old) (cell_of bytes.now token.now) ends go) ≡ Err r }
+        rest_of writer.old (step (context_of state.old) (cell_of bytes.now token.now) ends go) ≡
+        Err r }
 {
     before_token(writer, state, bytes, token)?;
     on_token(writer, state, token, ends)

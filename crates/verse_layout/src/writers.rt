@@ -1,6 +1,7 @@
 //! Toks are written, with a Sep only where one stands, and within the load.
 
-ghost use Rattle.std.specs.Prelude.{◌≡◌, ◌∷◌, ◌++◌, not, ◌&&◌, false, List, Option, OnOk, IfOk, None, Some, Err};
+ghost use Rattle.std.specs.Prelude.{◌≡◌, ◌∷◌, ◌++◌, not, ◌&&◌, false, List, Option, OnOk, IfOk};
+ghost use Rattle.std.specs.Prelude.{None, Some, Err};
 ghost use Rattle.std.specs.Result.{IsErrOf};
 ghost use Rattle.verse_base.specs.declared.refusals.Refusal.{Refusal};
 ghost use Rattle.verse_base.specs.declared.refusals.Front.TheVariants as front;
@@ -51,9 +52,13 @@ impl Output {
     fn put(&mut self, next: Tok) -> Result<(), Front>
         ensures ok { OnOk result ((ks : List Tok) (stop : Option Refusal) →
             with_front self.new.toks.items (bounded (open_counts self.new.load.inner self.new.load.outer.items) ks stop)
-            ≡ with_front self.old.toks.items (bounded (open_counts self.old.load.inner self.old.load.outer.items) (next ∷ ks) stop)) }
-        ensures refused { (r : Refusal) → IsErrOf result (front.Refused r) → (ks : List Tok) (stop : Option Refusal) →
-            bounded (open_counts self.old.load.inner self.old.load.outer.items) (next ∷ ks) stop ≡ Err r }
+            ≡ with_front self.old.toks.items
+            (bounded (open_counts self.old.load.inner self.old.load.outer.items)
+            (next ∷ ks) stop)) }
+        ensures refused { (r : Refusal) → IsErrOf result (front.Refused r) →
+            (ks : List Tok) (stop : Option Refusal) →
+            bounded (open_counts self.old.load.inner self.old.load.outer.items) (next ∷ ks) stop ≡
+            Err r }
     {
         if !self.load.note(next.kind)? {
             return Err(refused(NESTING, next.place));
@@ -75,7 +80,8 @@ pub struct Writer {
 impl Writer {
     /// A writer that has written nothing.
     pub fn start(alloc: Global) -> Writer
-        ensures { (x : Walk) → rest_of result x ≡ bounded at_start (spaced false None x.written) x.stop }
+        ensures { (x : Walk) → rest_of result x ≡
+            bounded at_start (spaced false None x.written) x.stop }
     {
         let output = Output {
             toks: Vec::new(alloc),
@@ -92,9 +98,15 @@ impl Writer {
     fn part(&mut self, kind: TokKind) -> Result<(), Front>
         ensures ok { OnOk result ((ks : List Tok) (stop : Option Refusal) →
             with_front self.new.output.toks.items (bounded (open_counts self.new.output.load.inner self.new.output.load.outer.items) ks stop)
-            ≡ with_front self.old.output.toks.items (bounded (open_counts self.old.output.load.inner self.old.output.load.outer.items) (kept_sep (self.old.can_separate && not (is_close kind)) self.old.waiting ++ ks) stop)) }
-        ensures refused { (r : Refusal) → IsErrOf result (front.Refused r) → (ks : List Tok) (stop : Option Refusal) →
-            bounded (open_counts self.old.output.load.inner self.old.output.load.outer.items) (kept_sep (self.old.can_separate && not (is_close kind)) self.old.waiting ++ ks) stop ≡ Err r }
+            ≡ with_front self.old.output.toks.items
+            (bounded (open_counts self.old.output.load.inner self.old.output.load.outer.items)
+            (kept_sep (self.old.can_separate && not (is_close kind)) self.old.waiting ++
+            ks) stop)) }
+        ensures refused { (r : Refusal) → IsErrOf result (front.Refused r) →
+            (ks : List Tok) (stop : Option Refusal) →
+            bounded (open_counts self.old.output.load.inner self.old.output.load.outer.items)
+            (kept_sep (self.old.can_separate && not (is_close kind)) self.old.waiting ++ ks) stop ≡
+            Err r }
     {
         if self.can_separate
             && !is_close(kind)
@@ -107,8 +119,10 @@ impl Writer {
 
     /// Writes a tok, behind the Sep that waits.
     pub fn put(&mut self, next: Tok) -> Result<(), Front>
-        ensures ok { OnOk result ((x : Walk) → rest_of self.new x ≡ rest_of self.old (after_tok next x)) }
-        ensures refused { (r : Refusal) → IsErrOf result (front.Refused r) → (ws : List Written) (stop : Option Refusal) →
+        ensures ok { OnOk result ((x : Walk) →
+            rest_of self.new x ≡ rest_of self.old (after_tok next x)) }
+        ensures refused { (r : Refusal) → IsErrOf result (front.Refused r) →
+            (ws : List Written) (stop : Option Refusal) →
             rest_of self.old (record { written = tok next ∷ ws; stop = stop }) ≡ Err r }
     {
         self.part(next.kind)?;

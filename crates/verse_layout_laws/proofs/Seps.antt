@@ -9,8 +9,11 @@ use Rattle.verse_layout.specs.declared.roles.Role.{Role}
 use Rattle.verse_layout.specs.declared.roles.Role.TheVariants as role
 use Rattle.verse_layout.specs.Roles.{role_of, is_else}
 use Rattle.verse_layout.specs.Cells.{Cell, spot_of, mark_at}
-use Rattle.verse_layout.specs.Written.{Written, tok, sep, no_sep, is_open, is_close, is_gap, has_no_sep, gap_sep, sep_between, SpacedBehind, last_gap, next_tok, Spaced, only_gap, first_tok}
-use Rattle.verse_layout.specs.Blocks.{opener, line_sep, Inside, inside_end, inside_token, inside_bracket, Bracket, round, braces, Part, part_token, part_sep, part_bracket, Body, body_part, body_block, Rest, rest_end, rest_more, Line, line, Block, block_last, block_more, Lines, lines_end, lines_more, IsFile, no_tokens, one_block}
+use Rattle.verse_layout.specs.Written.{Written, tok, sep, no_sep, is_open, is_close, is_gap, has_no_sep, gap_sep, sep_between, SpacedBehind}
+use Rattle.verse_layout.specs.Written.{last_gap, next_tok, Spaced, only_gap, first_tok}
+use Rattle.verse_layout.specs.Blocks.{opener, line_sep, Inside, inside_end, inside_token, inside_bracket, Bracket, round, braces, Part}
+use Rattle.verse_layout.specs.Blocks.{part_token, part_sep, part_bracket, Body, body_part, body_block, Rest, rest_end, rest_more, Line}
+use Rattle.verse_layout.specs.Blocks.{line, Block, block_last, block_more, Lines, lines_end, lines_more, IsFile, no_tokens, one_block}
 use Rattle.verse_layout.specs.Layouts.{IsLayout}
 use Rattle.verse_layout_laws.specs.Laws.{is_sep, Separates, SepsStand}
 
@@ -61,7 +64,8 @@ mutual
   body_seps : {end : Spot} {b : Bool} {h : List ℕ} {cs ds : List Cell} {ws : List Written} → Body end b h cs ws ds → NoSeps ws
   body_seps (body_part {ws = ws} {vs = vs} p r) = seps_append ws vs (part_seps p) (rest_seps r)
   body_seps (body_block {c = c} {ws = ws} p q s k) =
-      seps_append (opener (role_of c.token.kind) c.token) _ (opener_seps (role_of c.token.kind) c.token) (refl, seps_append ws _ (block_seps k) (refl, tt))
+      seps_append (opener (role_of c.token.kind) c.token) _ (opener_seps (role_of c.token.kind) c.token)
+      (refl, seps_append ws _ (block_seps k) (refl, tt))
 
   rest_seps : {end : Spot} {b : Bool} {h : List ℕ} {cs ds : List Cell} {ws : List Written} → Rest end b h cs ws ds → NoSeps ws
   rest_seps rest_end = tt
@@ -104,7 +108,8 @@ one_of_gap (sep s ∷ ws) = by_else (has_no_sep ws) (one_of_gap ws)
 middle : (j k : Tok) (gap : List Written) → Middle j k (sep_between j gap k)
 middle j k gap = by_kinds (is_open j.kind) (is_close k.kind) refl refl (one_of_gap gap)
   where
-    by_kinds : (o c : Bool) → is_open j.kind ≡ o → is_close k.kind ≡ c → AtMostOne (gap_sep gap) → Middle j k (if o || c then [] else gap_sep gap)
+    by_kinds : (o c : Bool) → is_open j.kind ≡ o → is_close k.kind ≡ c → AtMostOne (gap_sep gap) →
+        Middle j k (if o || c then [] else gap_sep gap)
     by_kinds true c p q x = nothing refl
     by_kinds false true p q x = nothing refl
     by_kinds false false p q (none e) = nothing e
@@ -136,7 +141,8 @@ tok_seps (no_sep ∷ gap) k ws a = tok_seps gap k ws a
 no_such : (j s : Tok) → j ≡ s → is_sep j.kind ≡ false → s.kind ≡ t.Sep → ⊥
 no_such j s e p q = let x = ap is_sep q in let y = ap (λ (z : Tok). is_sep z.kind) e in cc
 
-stand_more : (j k : Tok) (ms ks : List Tok) → Middle j k ms → is_sep j.kind ≡ false → is_sep k.kind ≡ false → Stand (k ∷ ks) → Stand (j ∷ (ms ++ k ∷ ks))
+stand_more : (j k : Tok) (ms ks : List Tok) → Middle j k ms → is_sep j.kind ≡ false → is_sep k.kind ≡ false → Stand (k ∷ ks) →
+    Stand (j ∷ (ms ++ k ∷ ks))
 stand_more j k ms ks m p q more [] behind s e x = absurd (no_such j s (cc) p x)
 stand_more j k ms ks (nothing z) p q more (b ∷ before) behind s e x =
     let tail : ms ++ k ∷ ks ≡ before ++ s ∷ behind = cc in

@@ -53,6 +53,7 @@ module _ (P Q : ℕ → ℕ → Type 0) where
           least n c (inr b) = k.1 n c b
 
 -- the fault that a pass tells leads what is broken in it
-pub leads : {N S : Type 0} (number : N → ℕ) (step : N → S → S) (Breaks : N → S → ℕ → Type 0) (vs : List N) (s : S) (o : Option Fault) → Told number step Breaks vs s o → Leads (Broken number step Breaks vs s) o
+pub leads : {N S : Type 0} (number : N → ℕ) (step : N → S → S) (Breaks : N → S → ℕ → Type 0) (vs : List N) (s : S) (o : Option Fault) →
+    Told number step Breaks vs s o → Leads (Broken number step Breaks vs s) o
 leads number step Breaks vs s None h = h
 leads number step Breaks vs s (Some f) h = (h.broken, h.least)

@@ -13,7 +13,8 @@ module _ (P : ℕ → Type 0) where
   held_code (r ∷ rs) c a this = a.0
   held_code (r ∷ rs) c a (other h) = held_code rs c a.1 h
 
-  module _ {N S : Type 0} (number : N → ℕ) (step : N → S → S) (Breaks : N → S → ℕ → Type 0) (each : (v : N) (s : S) (c : ℕ) → Breaks v s c → P c) where
+  module _ {N S : Type 0} (number : N → ℕ) (step : N → S → S) (Breaks : N → S → ℕ → Type 0) (each : (v : N) (s : S) (c : ℕ) → Breaks v s c →
+      P c) where
     pub broken_code : (vs : List N) (s : S) (n c : ℕ) → Broken number step Breaks vs s n c → P c
     broken_code [] s n c b = elim b [ ]
     broken_code (v ∷ vs) s n c (here b) = each v s c b

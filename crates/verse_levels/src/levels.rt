@@ -52,7 +52,8 @@ fn operand(level: Phrase) -> Phrase
 
 /// The operator at the front with its tok, and the toks behind it.
 fn operator_ahead(level: Phrase, toks: &[Tok]) -> Option<(Operator, Tok, &[Tok])>
-    ensures { MatchOption result (first_as (chain_operator level) toks.now ≡ None) (λ r. (toks.now ≡ r.1 ∷ r.2.now) × (chain_operator level r.1.kind ≡ Some r.0)) }
+    ensures { MatchOption result (first_as (chain_operator level) toks.now ≡ None)
+        (λ r. (toks.now ≡ r.1 ∷ r.2.now) × (chain_operator level r.1.kind ≡ Some r.0)) }
 {
     let (tok, behind) = next(toks)?;
     let operator = chain_operator(level, tok.kind)?;
@@ -61,7 +62,8 @@ fn operator_ahead(level: Phrase, toks: &[Tok]) -> Option<(Operator, Tok, &[Tok])
 
 /// The comparison at the front with its tok, and the toks behind it.
 fn comparison_ahead(toks: &[Tok]) -> Option<(Comparison, Tok, &[Tok])>
-    ensures { MatchOption result (first_as comparison_at toks.now ≡ None) (λ r. (toks.now ≡ r.1 ∷ r.2.now) × (comparison_at r.1.kind ≡ Some r.0)) }
+    ensures { MatchOption result (first_as comparison_at toks.now ≡ None)
+        (λ r. (toks.now ≡ r.1 ∷ r.2.now) × (comparison_at r.1.kind ≡ Some r.0)) }
 {
     let (tok, behind) = next(toks)?;
     let comparison = comparison_at(tok.kind)?;
@@ -76,11 +78,14 @@ pub fn chain_tail<'t, F: Fn(Global, &[u8], Phrase, &[Tok]) -> Result<(Tree, usiz
     left: Tree,
     toks: &'t [Tok],
 ) -> Result<(Tree, &'t [Tok]), ReadFault>
-    requires nests { Nests reader.now.bytes.now reader.now.most (F.pre reader.now.nested) (F.post reader.now.nested) }
+    requires nests { Nests reader.now.bytes.now reader.now.most (F.pre reader.now.nested)
+        (F.post reader.now.nested) }
     requires fewer { length toks.now < reader.now.most }
-    ensures spelled { IfOk result (λ r. Chain reader.now.bytes.now level (tree_of left) toks.now (tree_of r.0) r.1.now) }
+    ensures spelled { IfOk result
+        (λ r. Chain reader.now.bytes.now level (tree_of left) toks.now (tree_of r.0) r.1.now) }
     ensures eats { IfOk result (λ r. EatsRule (chain_tail level) toks.now r.1.now) }
-    ensures sticks { (left : ℕ) → IsErrOf result (read_fault.Stuck left) → SticksRule (chain_tail level) toks.now left }
+    ensures sticks { (left : ℕ) → IsErrOf result (read_fault.Stuck left) →
+        SticksRule (chain_tail level) toks.now left }
     ensures shorter { IfOk result (λ r. length r.1.now ≤ length toks.now) }
 {
     let mut tree = left;
@@ -99,11 +104,14 @@ pub fn ors<'t, F: Fn(Global, &[u8], Phrase, &[Tok]) -> Result<(Tree, usize), Rea
     reader: &Reader<'_, F>,
     toks: &'t [Tok],
 ) -> Result<(Tree, &'t [Tok]), ReadFault>
-    requires nests { Nests reader.now.bytes.now reader.now.most (F.pre reader.now.nested) (F.post reader.now.nested) }
+    requires nests { Nests reader.now.bytes.now reader.now.most (F.pre reader.now.nested)
+        (F.post reader.now.nested) }
     requires within { length toks.now ≤ reader.now.most }
-    ensures spelled { IfOk result (λ r. Reads reader.now.bytes.now Phrase.Or toks.now (tree_of r.0) r.1.now) }
+    ensures spelled { IfOk result
+        (λ r. Reads reader.now.bytes.now Phrase.Or toks.now (tree_of r.0) r.1.now) }
     ensures eats { IfOk result (λ r. EatsRule (phrase Phrase.Or) toks.now r.1.now) }
-    ensures sticks { (left : ℕ) → IsErrOf result (read_fault.Stuck left) → SticksRule (phrase Phrase.Or) toks.now left }
+    ensures sticks { (left : ℕ) → IsErrOf result (read_fault.Stuck left) →
+        SticksRule (phrase Phrase.Or) toks.now left }
     ensures shorter { IfOk result (λ r. length r.1.now < length toks.now) }
 {
     let (first, rest) = ands(reader, toks)?;
@@ -116,11 +124,14 @@ pub fn ands<'t, F: Fn(Global, &[u8], Phrase, &[Tok]) -> Result<(Tree, usize), Re
     reader: &Reader<'_, F>,
     toks: &'t [Tok],
 ) -> Result<(Tree, &'t [Tok]), ReadFault>
-    requires nests { Nests reader.now.bytes.now reader.now.most (F.pre reader.now.nested) (F.post reader.now.nested) }
+    requires nests { Nests reader.now.bytes.now reader.now.most (F.pre reader.now.nested)
+        (F.post reader.now.nested) }
     requires within { length toks.now ≤ reader.now.most }
-    ensures spelled { IfOk result (λ r. Reads reader.now.bytes.now Phrase.And toks.now (tree_of r.0) r.1.now) }
+    ensures spelled { IfOk result
+        (λ r. Reads reader.now.bytes.now Phrase.And toks.now (tree_of r.0) r.1.now) }
     ensures eats { IfOk result (λ r. EatsRule (phrase Phrase.And) toks.now r.1.now) }
-    ensures sticks { (left : ℕ) → IsErrOf result (read_fault.Stuck left) → SticksRule (phrase Phrase.And) toks.now left }
+    ensures sticks { (left : ℕ) → IsErrOf result (read_fault.Stuck left) →
+        SticksRule (phrase Phrase.And) toks.now left }
     ensures shorter { IfOk result (λ r. length r.1.now < length toks.now) }
 {
     let (first, rest) = negated(reader, toks)?;
@@ -133,11 +144,14 @@ pub fn sum<'t, F: Fn(Global, &[u8], Phrase, &[Tok]) -> Result<(Tree, usize), Rea
     reader: &Reader<'_, F>,
     toks: &'t [Tok],
 ) -> Result<(Tree, &'t [Tok]), ReadFault>
-    requires nests { Nests reader.now.bytes.now reader.now.most (F.pre reader.now.nested) (F.post reader.now.nested) }
+    requires nests { Nests reader.now.bytes.now reader.now.most (F.pre reader.now.nested)
+        (F.post reader.now.nested) }
     requires within { length toks.now ≤ reader.now.most }
-    ensures spelled { IfOk result (λ r. Reads reader.now.bytes.now Phrase.Sum toks.now (tree_of r.0) r.1.now) }
+    ensures spelled { IfOk result
+        (λ r. Reads reader.now.bytes.now Phrase.Sum toks.now (tree_of r.0) r.1.now) }
     ensures eats { IfOk result (λ r. EatsRule (phrase Phrase.Sum) toks.now r.1.now) }
-    ensures sticks { (left : ℕ) → IsErrOf result (read_fault.Stuck left) → SticksRule (phrase Phrase.Sum) toks.now left }
+    ensures sticks { (left : ℕ) → IsErrOf result (read_fault.Stuck left) →
+        SticksRule (phrase Phrase.Sum) toks.now left }
     ensures shorter { IfOk result (λ r. length r.1.now < length toks.now) }
 {
     let (first, rest) = product(reader, toks)?;
@@ -150,11 +164,14 @@ pub fn product<'t, F: Fn(Global, &[u8], Phrase, &[Tok]) -> Result<(Tree, usize),
     reader: &Reader<'_, F>,
     toks: &'t [Tok],
 ) -> Result<(Tree, &'t [Tok]), ReadFault>
-    requires nests { Nests reader.now.bytes.now reader.now.most (F.pre reader.now.nested) (F.post reader.now.nested) }
+    requires nests { Nests reader.now.bytes.now reader.now.most (F.pre reader.now.nested)
+        (F.post reader.now.nested) }
     requires within { length toks.now ≤ reader.now.most }
-    ensures spelled { IfOk result (λ r. Reads reader.now.bytes.now Phrase.Product toks.now (tree_of r.0) r.1.now) }
+    ensures spelled { IfOk result
+        (λ r. Reads reader.now.bytes.now Phrase.Product toks.now (tree_of r.0) r.1.now) }
     ensures eats { IfOk result (λ r. EatsRule (phrase Phrase.Product) toks.now r.1.now) }
-    ensures sticks { (left : ℕ) → IsErrOf result (read_fault.Stuck left) → SticksRule (phrase Phrase.Product) toks.now left }
+    ensures sticks { (left : ℕ) → IsErrOf result (read_fault.Stuck left) →
+        SticksRule (phrase Phrase.Product) toks.now left }
     ensures shorter { IfOk result (λ r. length r.1.now < length toks.now) }
 {
     let (first, rest) = negative(reader, toks)?;
@@ -167,11 +184,14 @@ pub fn negated<'t, F: Fn(Global, &[u8], Phrase, &[Tok]) -> Result<(Tree, usize),
     reader: &Reader<'_, F>,
     toks: &'t [Tok],
 ) -> Result<(Tree, &'t [Tok]), ReadFault>
-    requires nests { Nests reader.now.bytes.now reader.now.most (F.pre reader.now.nested) (F.post reader.now.nested) }
+    requires nests { Nests reader.now.bytes.now reader.now.most (F.pre reader.now.nested)
+        (F.post reader.now.nested) }
     requires within { length toks.now ≤ reader.now.most }
-    ensures spelled { IfOk result (λ r. Reads reader.now.bytes.now Phrase.Not toks.now (tree_of r.0) r.1.now) }
+    ensures spelled { IfOk result
+        (λ r. Reads reader.now.bytes.now Phrase.Not toks.now (tree_of r.0) r.1.now) }
     ensures eats { IfOk result (λ r. EatsRule (phrase Phrase.Not) toks.now r.1.now) }
-    ensures sticks { (left : ℕ) → IsErrOf result (read_fault.Stuck left) → SticksRule (phrase Phrase.Not) toks.now left }
+    ensures sticks { (left : ℕ) → IsErrOf result (read_fault.Stuck left) →
+        SticksRule (phrase Phrase.Not) toks.now left }
     ensures shorter { IfOk result (λ r. length r.1.now < length toks.now) }
 {
     match take(toks, Fixed::Not) {
@@ -189,11 +209,14 @@ pub fn comparison<'t, F: Fn(Global, &[u8], Phrase, &[Tok]) -> Result<(Tree, usiz
     reader: &Reader<'_, F>,
     toks: &'t [Tok],
 ) -> Result<(Tree, &'t [Tok]), ReadFault>
-    requires nests { Nests reader.now.bytes.now reader.now.most (F.pre reader.now.nested) (F.post reader.now.nested) }
+    requires nests { Nests reader.now.bytes.now reader.now.most (F.pre reader.now.nested)
+        (F.post reader.now.nested) }
     requires within { length toks.now ≤ reader.now.most }
-    ensures spelled { IfOk result (λ r. Reads reader.now.bytes.now Phrase.Comparison toks.now (tree_of r.0) r.1.now) }
+    ensures spelled { IfOk result
+        (λ r. Reads reader.now.bytes.now Phrase.Comparison toks.now (tree_of r.0) r.1.now) }
     ensures eats { IfOk result (λ r. EatsRule (phrase Phrase.Comparison) toks.now r.1.now) }
-    ensures sticks { (left : ℕ) → IsErrOf result (read_fault.Stuck left) → SticksRule (phrase Phrase.Comparison) toks.now left }
+    ensures sticks { (left : ℕ) → IsErrOf result (read_fault.Stuck left) →
+        SticksRule (phrase Phrase.Comparison) toks.now left }
     ensures shorter { IfOk result (λ r. length r.1.now < length toks.now) }
 {
     let (left, rest) = sum(reader, toks)?;
@@ -206,11 +229,14 @@ pub fn comparison_tail<
     't,
     F: Fn(Global, &[u8], Phrase, &[Tok]) -> Result<(Tree, usize), ReadFault>,
 >(reader: &Reader<'_, F>, left: Tree, toks: &'t [Tok]) -> Result<(Tree, &'t [Tok]), ReadFault>
-    requires nests { Nests reader.now.bytes.now reader.now.most (F.pre reader.now.nested) (F.post reader.now.nested) }
+    requires nests { Nests reader.now.bytes.now reader.now.most (F.pre reader.now.nested)
+        (F.post reader.now.nested) }
     requires fewer { length toks.now < reader.now.most }
-    ensures spelled { IfOk result (λ r. Compares reader.now.bytes.now (tree_of left) toks.now (tree_of r.0) r.1.now) }
+    ensures spelled { IfOk result
+        (λ r. Compares reader.now.bytes.now (tree_of left) toks.now (tree_of r.0) r.1.now) }
     ensures eats { IfOk result (λ r. EatsRule comparison_tail toks.now r.1.now) }
-    ensures sticks { (left : ℕ) → IsErrOf result (read_fault.Stuck left) → SticksRule comparison_tail toks.now left }
+    ensures sticks { (left : ℕ) → IsErrOf result (read_fault.Stuck left) →
+        SticksRule comparison_tail toks.now left }
     ensures shorter { IfOk result (λ r. length r.1.now ≤ length toks.now) }
 {
     match comparison_ahead(toks) {
@@ -231,11 +257,14 @@ pub fn negative<'t, F: Fn(Global, &[u8], Phrase, &[Tok]) -> Result<(Tree, usize)
     reader: &Reader<'_, F>,
     toks: &'t [Tok],
 ) -> Result<(Tree, &'t [Tok]), ReadFault>
-    requires nests { Nests reader.now.bytes.now reader.now.most (F.pre reader.now.nested) (F.post reader.now.nested) }
+    requires nests { Nests reader.now.bytes.now reader.now.most (F.pre reader.now.nested)
+        (F.post reader.now.nested) }
     requires within { length toks.now ≤ reader.now.most }
-    ensures spelled { IfOk result (λ r. Reads reader.now.bytes.now Phrase.Minus toks.now (tree_of r.0) r.1.now) }
+    ensures spelled { IfOk result
+        (λ r. Reads reader.now.bytes.now Phrase.Minus toks.now (tree_of r.0) r.1.now) }
     ensures eats { IfOk result (λ r. EatsRule (phrase Phrase.Minus) toks.now r.1.now) }
-    ensures sticks { (left : ℕ) → IsErrOf result (read_fault.Stuck left) → SticksRule (phrase Phrase.Minus) toks.now left }
+    ensures sticks { (left : ℕ) → IsErrOf result (read_fault.Stuck left) →
+        SticksRule (phrase Phrase.Minus) toks.now left }
     ensures shorter { IfOk result (λ r. length r.1.now < length toks.now) }
 {
     match take(toks, Fixed::Minus) {

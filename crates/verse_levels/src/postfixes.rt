@@ -42,7 +42,8 @@ enum Suffix {
 
 /// The beginning of a postfix at the front with its tok, and the toks behind it.
 fn postfix_ahead(toks: &[Tok]) -> Option<(PostfixStart, Tok, &[Tok])>
-    ensures { MatchOption result (first_as postfix_start toks.now ≡ None) (λ r. (toks.now ≡ r.1 ∷ r.2.now) × (postfix_start r.1.kind ≡ Some r.0)) }
+    ensures { MatchOption result (first_as postfix_start toks.now ≡ None)
+        (λ r. (toks.now ≡ r.1 ∷ r.2.now) × (postfix_start r.1.kind ≡ Some r.0)) }
 {
     let (tok, behind) = next(toks)?;
     let start = postfix_start(tok.kind)?;
@@ -55,11 +56,14 @@ pub fn postfix<'t, F: Fn(Global, &[u8], Phrase, &[Tok]) -> Result<(Tree, usize),
     reader: &Reader<'_, F>,
     toks: &'t [Tok],
 ) -> Result<(Tree, &'t [Tok]), ReadFault>
-    requires nests { Nests reader.now.bytes.now reader.now.most (F.pre reader.now.nested) (F.post reader.now.nested) }
+    requires nests { Nests reader.now.bytes.now reader.now.most (F.pre reader.now.nested)
+        (F.post reader.now.nested) }
     requires within { length toks.now ≤ reader.now.most }
-    ensures spelled { IfOk result (λ r. Reads reader.now.bytes.now Phrase.Postfix toks.now (tree_of r.0) r.1.now) }
+    ensures spelled { IfOk result
+        (λ r. Reads reader.now.bytes.now Phrase.Postfix toks.now (tree_of r.0) r.1.now) }
     ensures eats { IfOk result (λ r. EatsRule (phrase Phrase.Postfix) toks.now r.1.now) }
-    ensures sticks { (left : ℕ) → IsErrOf result (read_fault.Stuck left) → SticksRule (phrase Phrase.Postfix) toks.now left }
+    ensures sticks { (left : ℕ) → IsErrOf result (read_fault.Stuck left) →
+        SticksRule (phrase Phrase.Postfix) toks.now left }
     ensures shorter { IfOk result (λ r. length r.1.now < length toks.now) }
 {
     let (primary, rest) = primary(reader, toks)?;
@@ -73,11 +77,14 @@ pub fn postfix_tail<'t, F: Fn(Global, &[u8], Phrase, &[Tok]) -> Result<(Tree, us
     object: Tree,
     toks: &'t [Tok],
 ) -> Result<(Tree, &'t [Tok]), ReadFault>
-    requires nests { Nests reader.now.bytes.now reader.now.most (F.pre reader.now.nested) (F.post reader.now.nested) }
+    requires nests { Nests reader.now.bytes.now reader.now.most (F.pre reader.now.nested)
+        (F.post reader.now.nested) }
     requires fewer { length toks.now < reader.now.most }
-    ensures spelled { IfOk result (λ r. Postfixes reader.now.bytes.now (tree_of object) toks.now (tree_of r.0) r.1.now) }
+    ensures spelled { IfOk result
+        (λ r. Postfixes reader.now.bytes.now (tree_of object) toks.now (tree_of r.0) r.1.now) }
     ensures eats { IfOk result (λ r. EatsRule postfix_tail toks.now r.1.now) }
-    ensures sticks { (left : ℕ) → IsErrOf result (read_fault.Stuck left) → SticksRule postfix_tail toks.now left }
+    ensures sticks { (left : ℕ) → IsErrOf result (read_fault.Stuck left) →
+        SticksRule postfix_tail toks.now left }
     ensures shorter { IfOk result (λ r. length r.1.now ≤ length toks.now) }
 {
     let mut tree = object;
@@ -109,11 +116,14 @@ fn suffix_behind<'t, F: Fn(Global, &[u8], Phrase, &[Tok]) -> Result<(Tree, usize
     start: PostfixStart,
     toks: &'t [Tok],
 ) -> Result<(Suffix, &'t [Tok]), ReadFault>
-    requires nests { Nests reader.now.bytes.now reader.now.most (F.pre reader.now.nested) (F.post reader.now.nested) }
+    requires nests { Nests reader.now.bytes.now reader.now.most (F.pre reader.now.nested)
+        (F.post reader.now.nested) }
     requires fewer { length toks.now < reader.now.most }
-    ensures spelled { IfOk result (λ r. OnePostfix reader.now.bytes.now start toks.now r.0 r.1.now) }
+    ensures spelled { IfOk result
+        (λ r. OnePostfix reader.now.bytes.now start toks.now r.0 r.1.now) }
     ensures eats { IfOk result (λ r. PostfixEats start toks.now r.1.now) }
-    ensures sticks { (left : ℕ) → IsErrOf result (read_fault.Stuck left) → PostfixSticks start toks.now left }
+    ensures sticks { (left : ℕ) → IsErrOf result (read_fault.Stuck left) →
+        PostfixSticks start toks.now left }
     ensures shorter { IfOk result (λ r. length r.1.now ≤ length toks.now) }
 {
     match start {
@@ -130,11 +140,14 @@ fn called<'t, F: Fn(Global, &[u8], Phrase, &[Tok]) -> Result<(Tree, usize), Read
     reader: &Reader<'_, F>,
     toks: &'t [Tok],
 ) -> Result<(Suffix, &'t [Tok]), ReadFault>
-    requires nests { Nests reader.now.bytes.now reader.now.most (F.pre reader.now.nested) (F.post reader.now.nested) }
+    requires nests { Nests reader.now.bytes.now reader.now.most (F.pre reader.now.nested)
+        (F.post reader.now.nested) }
     requires fewer { length toks.now < reader.now.most }
-    ensures spelled { IfOk result (λ r. OnePostfix reader.now.bytes.now PostfixStart.Round toks.now r.0 r.1.now) }
+    ensures spelled { IfOk result
+        (λ r. OnePostfix reader.now.bytes.now PostfixStart.Round toks.now r.0 r.1.now) }
     ensures eats { IfOk result (λ r. PostfixEats PostfixStart.Round toks.now r.1.now) }
-    ensures sticks { (left : ℕ) → IsErrOf result (read_fault.Stuck left) → PostfixSticks PostfixStart.Round toks.now left }
+    ensures sticks { (left : ℕ) → IsErrOf result (read_fault.Stuck left) →
+        PostfixSticks PostfixStart.Round toks.now left }
     ensures shorter { IfOk result (λ r. length r.1.now ≤ length toks.now) }
 {
     let (args, rest) = reader.until(Phrase::Expr, Fixed::Comma, Fixed::RoundClose, toks)?;
@@ -147,11 +160,14 @@ fn indexed<'t, F: Fn(Global, &[u8], Phrase, &[Tok]) -> Result<(Tree, usize), Rea
     reader: &Reader<'_, F>,
     toks: &'t [Tok],
 ) -> Result<(Suffix, &'t [Tok]), ReadFault>
-    requires nests { Nests reader.now.bytes.now reader.now.most (F.pre reader.now.nested) (F.post reader.now.nested) }
+    requires nests { Nests reader.now.bytes.now reader.now.most (F.pre reader.now.nested)
+        (F.post reader.now.nested) }
     requires fewer { length toks.now < reader.now.most }
-    ensures spelled { IfOk result (λ r. OnePostfix reader.now.bytes.now PostfixStart.Square toks.now r.0 r.1.now) }
+    ensures spelled { IfOk result
+        (λ r. OnePostfix reader.now.bytes.now PostfixStart.Square toks.now r.0 r.1.now) }
     ensures eats { IfOk result (λ r. PostfixEats PostfixStart.Square toks.now r.1.now) }
-    ensures sticks { (left : ℕ) → IsErrOf result (read_fault.Stuck left) → PostfixSticks PostfixStart.Square toks.now left }
+    ensures sticks { (left : ℕ) → IsErrOf result (read_fault.Stuck left) →
+        PostfixSticks PostfixStart.Square toks.now left }
     ensures shorter { IfOk result (λ r. length r.1.now ≤ length toks.now) }
 {
     let (args, rest) = reader.until(Phrase::Expr, Fixed::Comma, Fixed::SquareClose, toks)?;
@@ -164,9 +180,11 @@ fn member<'t, F: Fn(Global, &[u8], Phrase, &[Tok]) -> Result<(Tree, usize), Read
     reader: &Reader<'_, F>,
     toks: &'t [Tok],
 ) -> Result<(Suffix, &'t [Tok]), ReadFault>
-    ensures spelled { IfOk result (λ r. OnePostfix reader.now.bytes.now PostfixStart.Dot toks.now r.0 r.1.now) }
+    ensures spelled { IfOk result
+        (λ r. OnePostfix reader.now.bytes.now PostfixStart.Dot toks.now r.0 r.1.now) }
     ensures eats { IfOk result (λ r. PostfixEats PostfixStart.Dot toks.now r.1.now) }
-    ensures sticks { (left : ℕ) → IsErrOf result (read_fault.Stuck left) → PostfixSticks PostfixStart.Dot toks.now left }
+    ensures sticks { (left : ℕ) → IsErrOf result (read_fault.Stuck left) →
+        PostfixSticks PostfixStart.Dot toks.now left }
     ensures shorter { IfOk result (λ r. length r.1.now ≤ length toks.now) }
 {
     let Some((field, rest)) = take(toks, Fixed::Name) else {

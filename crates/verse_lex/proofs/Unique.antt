@@ -1,11 +1,13 @@
 -- At most one cut goes as far as it can.
-use Rattle.std.proofs.Common.{◌≡◌, ℕ, ◌<◌, ◌⊎◌, inl, inr, Bool, true, false, List, [], ◌∷◌, length, drop, Some, None, refl, sym, ◌∙◌, subst, ap}
+use Rattle.std.proofs.Common.{◌≡◌, ℕ, ◌<◌, ◌⊎◌, inl, inr, Bool, true, false, List, [], ◌∷◌, length, drop, Some, None, refl, sym, ◌∙◌, subst}
+use Rattle.std.proofs.Common.{ap}
 use Rattle.std.proofs.Math.Seq.{take-length}
 use Rattle.std.proofs.lemmas.Bool.{cases_order}
 use Rattle.std.specs.Str.{IsUtf8, IsValidUpTo}
 use Rattle.verse_base.specs.declared.refusals.Refusal.{Refusal}
 use Rattle.verse_lex.specs.Pieces.{piece_at}
-use Rattle.verse_lex.specs.Cut.{Cuts, cuts_none, cuts_separator, cuts_line, cuts_token, in_hole, past, past_line, past_token, token, place_at, refusal_of, no_text, no_piece, OneCut, OneRefusal, CutOrRefused}
+use Rattle.verse_lex.specs.Cut.{Cuts, cuts_none, cuts_separator, cuts_line, cuts_token, in_hole, past, past_line, past_token, token}
+use Rattle.verse_lex.specs.Cut.{place_at, refusal_of, no_text, no_piece, OneCut, OneRefusal, CutOrRefused}
 use Rattle.verse_lex.specs.declared.tokens.TokenKind.{TokenKind}
 use Rattle.verse_lex.specs.declared.tokens.Token.{Token}
 use Rattle.verse_lex.specs.declared.pieces.Next.{Next}
@@ -24,9 +26,12 @@ goes_on n.HoleEnd = false
 -- what a cut begins with
 data Begins (here : Cursor) (bs : List ℕ) (ts : List Token) (there : Cursor) (cs : List ℕ) : Type 0 where
   nothing : ts ≡ [] → here ≡ there → bs ≡ cs → Begins here bs ts there cs
-  a_separator : (count : ℕ) → piece_at (in_hole here) bs ≡ n.Separator count → Cuts (past here count bs) (drop count bs) ts there cs → Begins here bs ts there cs
-  a_line : (count : ℕ) → piece_at (in_hole here) bs ≡ n.LineEnd count → Cuts (past_line here count bs) (drop count bs) ts there cs → Begins here bs ts there cs
-  a_token : (kind : TokenKind) (count : ℕ) (us : List Token) → piece_at (in_hole here) bs ≡ n.Token kind count → ts ≡ token here kind count ∷ us →
+  a_separator : (count : ℕ) → piece_at (in_hole here) bs ≡ n.Separator count → Cuts (past here count bs) (drop count bs) ts there cs →
+      Begins here bs ts there cs
+  a_line : (count : ℕ) → piece_at (in_hole here) bs ≡ n.LineEnd count → Cuts (past_line here count bs) (drop count bs) ts there cs →
+      Begins here bs ts there cs
+  a_token : (kind : TokenKind) (count : ℕ) (us : List Token) → piece_at (in_hole here) bs ≡ n.Token kind count →
+      ts ≡ token here kind count ∷ us →
       Cuts (past_token here kind count bs) (drop count bs) us there cs → Begins here bs ts there cs
 
 begins : {here there : Cursor} {bs cs : List ℕ} {ts : List Token} → Cuts here bs ts there cs → Begins here bs ts there cs
@@ -59,7 +64,8 @@ end_case s (a_separator count h r) = absurd (separates _ count h s)
 end_case s (a_line count h r) = absurd (ends_line _ count h s)
 end_case s (a_token kind count us h e r) = absurd (is_token _ kind count h s)
 
-separator_case : {a b c : Cursor} {xs bs cs : List ℕ} {ts us : List Token} (count : ℕ) → piece_at (in_hole a) xs ≡ n.Separator count → Stuck c cs →
+separator_case : {a b c : Cursor} {xs bs cs : List ℕ} {ts us : List Token} (count : ℕ) → piece_at (in_hole a) xs ≡ n.Separator count →
+    Stuck c cs →
     ((vs : List Token) → Cuts (past a count xs) (drop count xs) vs c cs → Same ts vs b c bs cs) → Begins a xs us c cs → Same ts us b c bs cs
 separator_case {a = a} {xs = xs} count h s more (nothing e f g) = absurd (separates _ count h (rw (f, g) s))
 separator_case {a = a} {c = c} {xs = xs} {cs = cs} {us = us} count h s more (a_separator other i r) =
@@ -68,25 +74,30 @@ separator_case count h s more (a_line other i r) = absurd (cc)
 separator_case count h s more (a_token kind other vs i e r) = absurd (cc)
 
 line_case : {a b c : Cursor} {xs bs cs : List ℕ} {ts us : List Token} (count : ℕ) → piece_at (in_hole a) xs ≡ n.LineEnd count → Stuck c cs →
-    ((vs : List Token) → Cuts (past_line a count xs) (drop count xs) vs c cs → Same ts vs b c bs cs) → Begins a xs us c cs → Same ts us b c bs cs
+    ((vs : List Token) → Cuts (past_line a count xs) (drop count xs) vs c cs → Same ts vs b c bs cs) → Begins a xs us c cs →
+    Same ts us b c bs cs
 line_case {a = a} {xs = xs} count h s more (nothing e f g) = absurd (ends_line _ count h (rw (f, g) s))
 line_case count h s more (a_separator other i r) = absurd (cc)
 line_case {a = a} {c = c} {xs = xs} {cs = cs} {us = us} count h s more (a_line other i r) =
     let same : other ≡ count = cc in more us (subst (λ k. Cuts (past_line a k xs) (drop k xs) us c cs) same r)
 line_case count h s more (a_token kind other vs i e r) = absurd (cc)
 
-token_case : {a b c : Cursor} {xs bs cs : List ℕ} {ts us : List Token} (kind : TokenKind) (count : ℕ) → piece_at (in_hole a) xs ≡ n.Token kind count → Stuck c cs →
-    ((vs : List Token) → Cuts (past_token a kind count xs) (drop count xs) vs c cs → Same ts vs b c bs cs) → Begins a xs us c cs → Same (token a kind count ∷ ts) us b c bs cs
+token_case : {a b c : Cursor} {xs bs cs : List ℕ} {ts us : List Token} (kind : TokenKind) (count : ℕ) →
+    piece_at (in_hole a) xs ≡ n.Token kind count → Stuck c cs →
+    ((vs : List Token) → Cuts (past_token a kind count xs) (drop count xs) vs c cs → Same ts vs b c bs cs) → Begins a xs us c cs →
+    Same (token a kind count ∷ ts) us b c bs cs
 token_case kind count h s more (nothing e f g) = absurd (is_token _ kind count h (rw (f, g) s))
 token_case kind count h s more (a_separator other i r) = absurd (cc)
 token_case kind count h s more (a_line other i r) = absurd (cc)
 token_case {a = a} {c = c} {xs = xs} {cs = cs} kind count h s more (a_token sort other vs i e r) =
     let same : other ≡ count = cc in
     let alike : sort ≡ kind = cc in
-    let all = more vs (subst (λ k. Cuts (past_token a kind k xs) (drop k xs) vs c cs) same (subst (λ k. Cuts (past_token a k other xs) (drop other xs) vs c cs) alike r)) in
+    let all = more vs (subst (λ k. Cuts (past_token a kind k xs) (drop k xs) vs c cs) same
+    (subst (λ k. Cuts (past_token a k other xs) (drop other xs) vs c cs) alike r)) in
     record { tokens = rw (e, same, alike, all.tokens) refl; there = all.there; behind = all.behind }
 
-same : {a b c : Cursor} {xs bs cs : List ℕ} {ts us : List Token} → Cuts a xs ts b bs → Stuck b bs → Cuts a xs us c cs → Stuck c cs → Same ts us b c bs cs
+same : {a b c : Cursor} {xs bs cs : List ℕ} {ts us : List Token} → Cuts a xs ts b bs → Stuck b bs → Cuts a xs us c cs → Stuck c cs →
+    Same ts us b c bs cs
 same cuts_none s q t = end_case s (begins q)
 same (cuts_separator {count = count} h r) s q t = separator_case count h t (λ vs p. same r s p t) (begins q)
 same (cuts_line {count = count} h r) s q t = line_case count h t (λ vs p. same r s p t) (begins q)
@@ -122,7 +133,8 @@ same_offset bs m k v w = by_order (cases_order m k)
     by_order (inr (inr h)) = absurd (w.longest m h v.front)
 
 pub one_refusal : OneRefusal
-one_refusal file bs r s (no_text {offset = m} v e) (no_text {offset = k} w f) = e ∙ ap (λ i. record { rule = NOT_UTF8; place = place_at file bs i }) (same_offset bs m k v w) ∙ sym f
+one_refusal file bs r s (no_text {offset = m} v e) (no_text {offset = k} w f) =
+    e ∙ ap (λ i. record { rule = NOT_UTF8; place = place_at file bs i }) (same_offset bs m k v w) ∙ sym f
 one_refusal file bs r s (no_text {offset = m} v e) (no_piece u cut broken) = absurd (malformed bs m v u)
 one_refusal file bs r s (no_piece u cut broken) (no_text {offset = m} v e) = absurd (malformed bs m v u)
 one_refusal file bs r s (no_piece {there = a} {behind = xs} u cut broken) (no_piece {there = b} {behind = ys} w tuc nekorb) =

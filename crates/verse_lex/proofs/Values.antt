@@ -1,5 +1,6 @@
 -- The numbers that digits spell.
-use Rattle.std.proofs.Common.{◌≡◌, ℕ, zero, suc, ◌+◌, ◌-◌, ◌*◌, ◌^◌, ◌<◌, ◌≤◌, List, [], ◌∷◌, ◌++◌, length, drop, get_or, refl, ap, arith, drop-cons}
+use Rattle.std.proofs.Common.{◌≡◌, ℕ, zero, suc, ◌+◌, ◌-◌, ◌*◌, ◌^◌, ◌<◌, ◌≤◌, List, [], ◌∷◌, ◌++◌, length, drop, get_or, refl, ap, arith}
+use Rattle.std.proofs.Common.{drop-cons}
 use Rattle.std.proofs.Math.Nat.{mul-le-mul_left, pow-suc}
 use Rattle.verse_lex.specs.Numbers.{decimal_on, decimal, hexadecimal_on, hex_value, thousandths}
 
@@ -33,11 +34,17 @@ scaled_least n k = omega (arith, mul-le-mul_left n (one_le-pow k))
 -- a number whose digits before the point are too many is too large
 pub too_long : (whole fraction : List ℕ) → 2 ^ 63 ≤ decimal_on 0 whole → 1000000000 < thousandths whole fraction
 too_long whole fraction h =
-    omega (arith, scaled_least (decimal (whole ++ fraction)) (3 - length fraction), decimal_on-append 0 whole fraction, decimal_least (decimal_on 0 whole) fraction)
+    omega (
+      arith,
+      scaled_least (decimal (whole ++ fraction)) (3 - length fraction),
+      decimal_on-append 0 whole fraction,
+      decimal_least (decimal_on 0 whole) fraction,
+    )
 
 pub too_large : (whole fraction : List ℕ) → 2 ^ 63 ≤ decimal_on (decimal_on 0 whole) fraction → 1000000000 < thousandths whole fraction
 too_large whole fraction h =
     omega (arith, scaled_least (decimal (whole ++ fraction)) (3 - length fraction), decimal_on-append 0 whole fraction)
 
-pub thousandths_is : (whole fraction : List ℕ) → thousandths whole fraction ≡ decimal_on (decimal_on 0 whole) fraction * 10 ^ (3 - length fraction)
+pub thousandths_is : (whole fraction : List ℕ) →
+    thousandths whole fraction ≡ decimal_on (decimal_on 0 whole) fraction * 10 ^ (3 - length fraction)
 thousandths_is whole fraction = ap (λ n. n * 10 ^ (3 - length fraction)) (decimal_on-append 0 whole fraction)

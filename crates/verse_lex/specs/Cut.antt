@@ -1,5 +1,6 @@
 -- A file's bytes are cut into pieces.
-use Rattle.std.specs.Prelude.{◌≡◌, ℕ, ◌+◌, ◌-◌, ◌≤◌, ◌<◌, Bool, ◌==◌, ◌&&◌, if◌then◌else◌, List, [], ◌∷◌, length, take, drop, Option, Some, None, is_some}
+use Rattle.std.specs.Prelude.{◌≡◌, ℕ, ◌+◌, ◌-◌, ◌≤◌, ◌<◌, Bool, ◌==◌, ◌&&◌, if◌then◌else◌, List, [], ◌∷◌, length, take, drop, Option, Some}
+use Rattle.std.specs.Prelude.{None, is_some}
 use Rattle.std.specs.Str.{IsUtf8, IsValidUpTo}
 use Rattle.verse_base.specs.declared.places.Place.{Place}
 use Rattle.verse_base.specs.declared.refusals.Refusal.{Refusal}
@@ -113,7 +114,8 @@ refusal_of here bs n.HoleEnd = Some (record { rule = TEXT_END; place = opening h
 
 -- a byte begins no character, or else the first place where no piece goes on breaks a rule
 pub data IsRefused (file : ℕ) (bs : List ℕ) (refusal : Refusal) : Type 0 where
-  no_text : {offset : ℕ} → IsValidUpTo bs offset → refusal ≡ record { rule = NOT_UTF8; place = place_at file bs offset } → IsRefused file bs refusal
+  no_text : {offset : ℕ} → IsValidUpTo bs offset → refusal ≡ record { rule = NOT_UTF8; place = place_at file bs offset } →
+      IsRefused file bs refusal
   no_piece : {before : List Token} {there : Cursor} {behind : List ℕ} →
       IsUtf8 bs → Cuts (start file bs) (body bs) before there behind →
       refusal_of there behind (piece_at (in_hole there) behind) ≡ Some refusal → IsRefused file bs refusal

@@ -1,6 +1,8 @@
 -- What begins at a place.
-use Rattle.std.specs.Prelude.{ℕ, ◌+◌, ◌<◌, ◌^◌, Bool, ◌==◌, ◌&&◌, ◌||◌, ◌≤◌, not, if◌then◌else◌, List, [], ◌∷◌, length, take, drop, Option, Some, None, nat_le, nat_lt, pos, slice_get}
-use Rattle.verse_lex.specs.Bytes.{in_name, in_line, is_digit, is_hex_digit, is_blank, letter_at, digit_at, hex_digit_at, is_letter, is_at, run}
+use Rattle.std.specs.Prelude.{ℕ, ◌+◌, ◌<◌, ◌^◌, Bool, ◌==◌, ◌&&◌, ◌||◌, ◌≤◌, not, if◌then◌else◌, List, [], ◌∷◌, length, take, drop, Option}
+use Rattle.std.specs.Prelude.{Some, None, nat_le, nat_lt, pos, slice_get}
+use Rattle.verse_lex.specs.Bytes.{in_name, in_line, is_digit, is_hex_digit, is_blank, letter_at, digit_at, hex_digit_at, is_letter, is_at}
+use Rattle.verse_lex.specs.Bytes.{run}
 use Rattle.verse_lex.specs.Words.{name_kind, look_up}
 use Rattle.verse_lex.specs.Marks.{doubles, singles}
 use Rattle.verse_lex.specs.Numbers.{decimal, hexadecimal, thousandths}

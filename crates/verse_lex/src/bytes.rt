@@ -1,7 +1,8 @@
 //! Classes of bytes, and runs of them.
 
 ghost use Rattle.std.specs.Prelude.{◌≡◌, ◌∷◌, [], ◌≤◌, length, drop, MatchOption};
-ghost use Rattle.verse_lex.specs.Bytes.{is_letter, is_digit, is_hex_digit, in_name, is_blank, in_line, letter_at, digit_at, hex_digit_at, is_at, run};
+ghost use Rattle.verse_lex.specs.Bytes.{is_letter, is_digit, is_hex_digit, in_name, is_blank};
+ghost use Rattle.verse_lex.specs.Bytes.{in_line, letter_at, digit_at, hex_digit_at, is_at, run};
 
 /// A letter or `_`.
 pub fn is_letter(b: u8) -> bool

@@ -1,7 +1,8 @@
 //! Where the lexer is in a file, and how it goes on.
 
 ghost use Rattle.std.specs.Prelude.{◌≡◌, ◌+◌, ◌<◌, ◌≤◌, ◌^◌, length, drop};
-ghost use Rattle.verse_lex.specs.Cut.{in_hole, past, past_line, past_token, token, opening, hole_after, indentation, IsBounded};
+ghost use Rattle.verse_lex.specs.Cut.{in_hole, past, past_line, past_token, token, opening};
+ghost use Rattle.verse_lex.specs.Cut.{hole_after, indentation, IsBounded};
 
 use crate::bytes::{behind, blanks_len};
 use crate::places::after;

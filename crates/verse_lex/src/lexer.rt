@@ -5,7 +5,8 @@ ghost use Rattle.std.specs.Result.{IsErrOf};
 ghost use Rattle.std.specs.Str.{IsUtf8};
 ghost use Rattle.verse_base.specs.declared.refusals.Refusal.{Refusal};
 ghost use Rattle.verse_base.specs.declared.refusals.Front.TheVariants as front;
-ghost use Rattle.verse_lex.specs.Cut.{start, body, AreTokens, IsRefused, IsBounded, Rise, OneCut, OneRefusal, CutOrRefused};
+ghost use Rattle.verse_lex.specs.Cut.{start, body, AreTokens, IsRefused, IsBounded, Rise, OneCut};
+ghost use Rattle.verse_lex.specs.Cut.{OneRefusal, CutOrRefused};
 
 use crate::bytes::behind;
 use crate::cursors::{Cursor, indentation};
@@ -22,7 +23,8 @@ pub fn lex(alloc: Global, file: u32, bytes: &[u8]) -> Result<Vec<Token>, Front>
     requires { length bytes.now ≤ MOST_FILE_BYTES }
     ensures tokens { IfOk result (λ tokens. AreTokens file bytes.now tokens.items) }
     ensures spans { IfOk result (λ tokens. Rise 0 tokens.items (length bytes.now)) }
-    ensures refused { (refusal : Refusal) → IsErrOf result (Front.Refused refusal) → IsRefused file bytes.now refusal }
+    ensures refused { (refusal : Refusal) → IsErrOf result (Front.Refused refusal) →
+        IsRefused file bytes.now refusal }
 {
     if let Some(offset) = malformed(bytes) {
         return Err(Front::Refused(Refusal {
@@ -40,7 +42,8 @@ fn cut(alloc: Global, file: u32, bytes: &[u8]) -> Result<Vec<Token>, Front>
     requires text { IsUtf8 bytes.now }
     ensures tokens { IfOk result (λ tokens. AreTokens file bytes.now tokens.items) }
     ensures spans { IfOk result (λ tokens. Rise 0 tokens.items (length bytes.now)) }
-    ensures refused { (refusal : Refusal) → IsErrOf result (Front.Refused refusal) → IsRefused file bytes.now refusal }
+    ensures refused { (refusal : Refusal) → IsErrOf result (Front.Refused refusal) →
+        IsRefused file bytes.now refusal }
 {
     let mut tokens = Vec::new(alloc);
     let mut here = start(file, bytes);

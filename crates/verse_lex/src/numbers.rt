@@ -12,7 +12,8 @@ const LIMIT: u128 = 0x8000_0000_0000_0000;
 #[tactic(auto, using(crate::proofs::Values::decimal_reached))]
 pub fn decimal_on(start: u64, digits: &[u8]) -> Option<u64>
     requires { start < 2 ^ 63 }
-    ensures { MatchOption result (2 ^ 63 ≤ decimal_on start digits.now) (λ n. (n ≡ decimal_on start digits.now) × (n < 2 ^ 63)) }
+    ensures { MatchOption result (2 ^ 63 ≤ decimal_on start digits.now)
+        (λ n. (n ≡ decimal_on start digits.now) × (n < 2 ^ 63)) }
 {
     let mut value = start;
     'digits: for digit in digits {
@@ -41,7 +42,8 @@ pub fn hex_value(digit: u8) -> u8
 /// The number that hexadecimal digits spell, if it is below 2 to the power of 63.
 #[tactic(auto, using(crate::proofs::Values::hexadecimal_reached))]
 pub fn hexadecimal(digits: &[u8]) -> Option<u64>
-    ensures { MatchOption result (2 ^ 63 ≤ hexadecimal digits.now) (λ n. (n ≡ hexadecimal digits.now) × (n < 2 ^ 63)) }
+    ensures { MatchOption result (2 ^ 63 ≤ hexadecimal digits.now)
+        (λ n. (n ≡ hexadecimal digits.now) × (n < 2 ^ 63)) }
 {
     let mut value = 0u64;
     'digits: for digit in digits {
@@ -73,7 +75,8 @@ pub fn in_thousandths(number: u64, decimals: usize) -> u128
 #[tactic(auto, using(crate::proofs::Values::too_long, crate::proofs::Values::too_large, crate::proofs::Values::thousandths_is))]
 pub fn thousandths(whole: &[u8], fraction: &[u8]) -> Option<u64>
     requires { length fraction.now ≤ 3 }
-    ensures { MatchOption result (1000000000 < thousandths whole.now fraction.now) (λ n. (n ≡ thousandths whole.now fraction.now) × (n ≤ 1000000000)) }
+    ensures { MatchOption result (1000000000 < thousandths whole.now fraction.now)
+        (λ n. (n ≡ thousandths whole.now fraction.now) × (n ≤ 1000000000)) }
 {
     let front = decimal_on(0, whole)?;
     let number = decimal_on(front, fraction)?;

@@ -2,7 +2,12 @@
 
 ghost use Rattle.std.specs.Prelude.{◌≡◌, ◌+◌, ◌<◌, ◌≤◌, ◌∷◌, [], length, true, slice_get};
 ghost use Rattle.verse_lex.specs.Bytes.{digit_at, letter_at, is_at};
-ghost use Rattle.verse_lex.specs.Pieces.{mark, name, ended, is_hexadecimal, has_fraction, hexadecimal_number, fractional_number, number, literal_end, literal_escape, escape_of, in_literal, literal, text, text_on, comment, begins_comment, is_lone_at, line_comment, common, carriage_return, next_plain, breaks_hole, next_hole, piece_at, Within};
+ghost use Rattle.verse_lex.specs.Pieces.{mark, name, ended, is_hexadecimal, has_fraction};
+ghost use Rattle.verse_lex.specs.Pieces.{hexadecimal_number, fractional_number, number};
+ghost use Rattle.verse_lex.specs.Pieces.{literal_end, literal_escape, escape_of, in_literal};
+ghost use Rattle.verse_lex.specs.Pieces.{literal, text, text_on, comment, begins_comment};
+ghost use Rattle.verse_lex.specs.Pieces.{is_lone_at, line_comment, common, carriage_return};
+ghost use Rattle.verse_lex.specs.Pieces.{next_plain, breaks_hole, next_hole, piece_at, Within};
 
 use crate::bytes::{
     digit_at, digits_len, first, hex_digit_at, hex_digits_len, is_at, is_blank, is_digit,

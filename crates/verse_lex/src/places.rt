@@ -2,7 +2,8 @@
 
 ghost use Rattle.std.specs.Prelude.{◌≡◌, ◌+◌, ◌<◌, ◌≤◌, ◌^◌, length, MatchOption};
 ghost use Rattle.std.specs.Str.{IsUtf8, IsValidUpTo};
-ghost use Rattle.verse_lex.specs.Cut.{next_place, after, mark_len, body, first_place, place_at, IsNear};
+ghost use Rattle.verse_lex.specs.Cut.{next_place, after, mark_len, body, first_place, place_at};
+ghost use Rattle.verse_lex.specs.Cut.{IsNear};
 
 use crate::bytes::is_at;
 use verse_base::limits::MOST_FILE_BYTES;

@@ -1,5 +1,6 @@
 -- Each spelling, by itself, is read as what it spells.
-use Rattle.std.proofs.Common.{◌≡◌, ℕ, suc, ◌+◌, ◌==◌, ◌&&◌, ◌||◌, Bool, true, false, List, [], ◌∷◌, ◌++◌, Option, Some, None, length, take, drop, if◌then◌else◌, refl, sym, ◌∙◌, not, ap, arith, subst, append-nil, length-append}
+use Rattle.std.proofs.Common.{◌≡◌, ℕ, suc, ◌+◌, ◌==◌, ◌&&◌, ◌||◌, Bool, true, false, List, [], ◌∷◌, ◌++◌, Option, Some, None, length, take}
+use Rattle.std.proofs.Common.{drop, if◌then◌else◌, refl, sym, ◌∙◌, not, ap, arith, subst, append-nil, length-append}
 use Rattle.std.specs.Prelude.{◌^◌, pos, slice_get, nat_le, nat_lt, nat_eq}
 use Rattle.std.specs.Cmp.Lexicographic.{pointwise}
 use Rattle.std.proofs.Math.Seq.{take-length}
@@ -10,7 +11,8 @@ use Rattle.verse_lex.specs.Marks.{doubles, singles}
 use Rattle.verse_lex.specs.Numbers.{decimal, hexadecimal, thousandths}
 use Rattle.verse_lex.specs.Texts.{text_chars}
 use Rattle.verse_lex.specs.Comments.{closing}
-use Rattle.verse_lex.specs.Pieces.{piece_at, number, hexadecimal_number, fractional_number, integer, ended, duration, is_lone_at, is_hexadecimal, has_fraction}
+use Rattle.verse_lex.specs.Pieces.{piece_at, number, hexadecimal_number, fractional_number, integer, ended, duration, is_lone_at}
+use Rattle.verse_lex.specs.Pieces.{is_hexadecimal, has_fraction}
 use Rattle.verse_lex_laws.specs.Spelling as s
 use Rattle.verse_lex_laws.specs.Spelling.{all_pass, Body, Chars, Number, Piece, Spells, next_of, SpelledAlone, OnePiece}
 use Rattle.verse_base.specs.declared.refusals.Rule.{Rule}
@@ -51,25 +53,31 @@ not_at_end cs b = ap (λ x. is_byte x b) (get_end cs)
 ended_alone : (cs : List ℕ) (kind : TokenKind) → ended cs kind (length cs) ≡ n.Token kind (length cs)
 ended_alone cs kind = if_false (letter_at cs (length cs)) (n.Bad UNEXPECTED (length cs)) (n.Token kind (length cs)) (no_letter_end cs)
 
-integer_alone : (cs : List ℕ) (value : ℕ) → integer cs value (length cs) ≡ outcome (s.integer_rule value) (k.Int (pos value)) false (length cs)
+integer_alone : (cs : List ℕ) (value : ℕ) →
+    integer cs value (length cs) ≡ outcome (s.integer_rule value) (k.Int (pos value)) false (length cs)
 integer_alone cs value = by_rule (nat_le (2 ^ 63) value)
   where
-    by_rule : (v : Bool) → (if v then n.Bad INTEGER 0 else ended cs (k.Int (pos value)) (length cs)) ≡ outcome (if v then Some INTEGER else None) (k.Int (pos value)) false (length cs)
+    by_rule : (v : Bool) → (if v then n.Bad INTEGER 0 else ended cs (k.Int (pos value)) (length cs)) ≡
+        outcome (if v then Some INTEGER else None) (k.Int (pos value)) false (length cs)
     by_rule true = refl
     by_rule false = ended_alone cs (k.Int (pos value))
 
 duration_alone : (cs whole decimals : List ℕ) →
-    duration cs whole decimals (length cs) ≡ outcome (s.duration_rule decimals (thousandths whole decimals)) (k.Dec (thousandths whole decimals)) false (length cs)
+    duration cs whole decimals (length cs) ≡ outcome (s.duration_rule decimals (thousandths whole decimals))
+    (k.Dec (thousandths whole decimals)) false (length cs)
 duration_alone cs whole decimals = by_rule (nat_lt 3 (length decimals) || nat_lt 1000000000 (thousandths whole decimals))
   where
-    by_rule : (v : Bool) → (if v then n.Bad DURATION 0 else ended cs (k.Dec (thousandths whole decimals)) (length cs)) ≡ outcome (if v then Some DURATION else None) (k.Dec (thousandths whole decimals)) false (length cs)
+    by_rule : (v : Bool) → (if v then n.Bad DURATION 0 else ended cs (k.Dec (thousandths whole decimals)) (length cs)) ≡
+        outcome (if v then Some DURATION else None) (k.Dec (thousandths whole decimals)) false (length cs)
     by_rule true = refl
     by_rule false = ended_alone cs (k.Dec (thousandths whole decimals))
 
-name_alone : (within : Bool) (b : ℕ) (cs : List ℕ) → is_letter b ≡ true → all_pass in_name cs ≡ true → piece_at within (b ∷ cs) ≡ n.Token (name_kind (b ∷ cs)) (length (b ∷ cs))
+name_alone : (within : Bool) (b : ℕ) (cs : List ℕ) → is_letter b ≡ true → all_pass in_name cs ≡ true →
+    piece_at within (b ∷ cs) ≡ n.Token (name_kind (b ∷ cs)) (length (b ∷ cs))
 name_alone within b cs h all =
     let first : all_pass in_name (b ∷ cs) ≡ true = rw (h, all) refl in
-    at_letter within b cs h ∙ (ap (λ i. n.Token (name_kind (take i (b ∷ cs))) i) (run_all in_name (b ∷ cs) first) ∙ ap (λ x. n.Token (name_kind x) (length (b ∷ cs))) (take-length (b ∷ cs)))
+    at_letter within b cs h ∙ (ap (λ i. n.Token (name_kind (take i (b ∷ cs))) i) (run_all in_name (b ∷ cs) first) ∙
+    ap (λ x. n.Token (name_kind x) (length (b ∷ cs))) (take-length (b ∷ cs)))
 
 -- numbers
 second_no_hex : (b c : ℕ) (cs : List ℕ) → (c == 120) ≡ false → is_hexadecimal (b ∷ c ∷ cs) ≡ false
@@ -92,12 +100,17 @@ digits_alone : (within : Bool) (b : ℕ) (cs : List ℕ) → is_digit b ≡ true
 digits_alone within b cs h all =
     let first : all_pass is_digit (b ∷ cs) ≡ true = rw (h, all) refl in
     let count : run is_digit (b ∷ cs) ≡ length (b ∷ cs) = run_all is_digit (b ∷ cs) first in
-    let here : number (b ∷ cs) ≡ (if has_fraction (b ∷ cs) (run is_digit (b ∷ cs)) then fractional_number (b ∷ cs) (run is_digit (b ∷ cs)) else integer (b ∷ cs) (decimal (take (run is_digit (b ∷ cs)) (b ∷ cs))) (run is_digit (b ∷ cs))) =
+    let here : number (b ∷ cs) ≡ (if has_fraction (b ∷ cs) (run is_digit (b ∷ cs)) then fractional_number (b ∷ cs)
+    (run is_digit (b ∷ cs)) else integer (b ∷ cs) (decimal (take (run is_digit (b ∷ cs)) (b ∷ cs))) (run is_digit (b ∷ cs))) =
     if_false (is_hexadecimal (b ∷ cs)) (hexadecimal_number (b ∷ cs)) _ (digits_no_hex b cs all) in
-    let next : number (b ∷ cs) ≡ (if has_fraction (b ∷ cs) (length (b ∷ cs)) then fractional_number (b ∷ cs) (length (b ∷ cs)) else integer (b ∷ cs) (decimal (take (length (b ∷ cs)) (b ∷ cs))) (length (b ∷ cs))) =
-    here ∙ ap (λ i. if has_fraction (b ∷ cs) i then fractional_number (b ∷ cs) i else integer (b ∷ cs) (decimal (take i (b ∷ cs))) i) count in
-    let pointless : has_fraction (b ∷ cs) (length (b ∷ cs)) ≡ false = ap (λ v. v && digit_at (b ∷ cs) (length (b ∷ cs) + 1)) (not_at_end (b ∷ cs) 46) in
-    at_digit within b cs h ∙ (next ∙ (if_false (has_fraction (b ∷ cs) (length (b ∷ cs))) (fractional_number (b ∷ cs) (length (b ∷ cs))) _ pointless ∙
+    let next : number (b ∷ cs) ≡ (if has_fraction (b ∷ cs) (length (b ∷ cs)) then fractional_number (b ∷ cs) (length (b ∷ cs)) else integer
+    (b ∷ cs) (decimal (take (length (b ∷ cs)) (b ∷ cs))) (length (b ∷ cs))) =
+    here ∙ ap (λ i. if has_fraction (b ∷ cs) i then fractional_number (b ∷ cs) i else integer (b ∷ cs) (decimal (take i (b ∷ cs))) i) count
+    in
+    let pointless : has_fraction (b ∷ cs) (length (b ∷ cs)) ≡ false =
+    ap (λ v. v && digit_at (b ∷ cs) (length (b ∷ cs) + 1)) (not_at_end (b ∷ cs) 46) in
+    at_digit within b cs h ∙ (next ∙ (if_false (has_fraction (b ∷ cs) (length (b ∷ cs)))
+    (fractional_number (b ∷ cs) (length (b ∷ cs))) _ pointless ∙
     (ap (λ x. integer (b ∷ cs) (decimal x) (length (b ∷ cs))) (take-length (b ∷ cs)) ∙ integer_alone (b ∷ cs) (decimal (b ∷ cs)))))
 
 if_true : (v : Bool) (x y : Next) → v ≡ true → (if v then x else y) ≡ x
@@ -105,19 +118,23 @@ if_true true x y h = refl
 if_true false x y h = absurd (cc)
 
 hex_alone : (within : Bool) (d : ℕ) (ds : List ℕ) → is_hex_digit d ≡ true → all_pass is_hex_digit ds ≡ true →
-    piece_at within (48 ∷ 120 ∷ d ∷ ds) ≡ outcome (s.integer_rule (hexadecimal (d ∷ ds))) (k.Int (pos (hexadecimal (d ∷ ds)))) false (length (48 ∷ 120 ∷ d ∷ ds))
+    piece_at within (48 ∷ 120 ∷ d ∷ ds) ≡ outcome (s.integer_rule (hexadecimal (d ∷ ds))) (k.Int (pos (hexadecimal (d ∷ ds)))) false
+    (length (48 ∷ 120 ∷ d ∷ ds))
 hex_alone within d ds h all =
     let first : all_pass is_hex_digit (d ∷ ds) ≡ true = rw (h, all) refl in
     let short : run is_hex_digit (d ∷ ds) ≡ length (d ∷ ds) = run_all is_hex_digit (d ∷ ds) first in
     let count : length (d ∷ ds) + 2 ≡ length (48 ∷ 120 ∷ d ∷ ds) = omega arith in
-    let here : number (48 ∷ 120 ∷ d ∷ ds) ≡ hexadecimal_number (48 ∷ 120 ∷ d ∷ ds) = if_true (is_hexadecimal (48 ∷ 120 ∷ d ∷ ds)) (hexadecimal_number (48 ∷ 120 ∷ d ∷ ds)) _ h in
+    let here : number (48 ∷ 120 ∷ d ∷ ds) ≡ hexadecimal_number (48 ∷ 120 ∷ d ∷ ds) =
+    if_true (is_hexadecimal (48 ∷ 120 ∷ d ∷ ds)) (hexadecimal_number (48 ∷ 120 ∷ d ∷ ds)) _ h in
     at_digit within 48 (120 ∷ d ∷ ds) refl ∙ (here ∙
     (ap (λ i. integer (48 ∷ 120 ∷ d ∷ ds) (hexadecimal (take i (d ∷ ds))) (i + 2)) short ∙
     (ap (λ x. integer (48 ∷ 120 ∷ d ∷ ds) (hexadecimal x) (length (d ∷ ds) + 2)) (take-length (d ∷ ds)) ∙
     (ap (integer (48 ∷ 120 ∷ d ∷ ds) (hexadecimal (d ∷ ds))) count ∙ integer_alone (48 ∷ 120 ∷ d ∷ ds) (hexadecimal (d ∷ ds))))))
 
-fraction_alone : (within : Bool) (c d : ℕ) (cs ds : List ℕ) → is_digit c ≡ true → all_pass is_digit cs ≡ true → is_digit d ≡ true → all_pass is_digit ds ≡ true →
-    piece_at within ((c ∷ cs) ++ 46 ∷ d ∷ ds) ≡ outcome (s.duration_rule (d ∷ ds) (thousandths (c ∷ cs) (d ∷ ds))) (k.Dec (thousandths (c ∷ cs) (d ∷ ds))) false (length ((c ∷ cs) ++ 46 ∷ d ∷ ds))
+fraction_alone : (within : Bool) (c d : ℕ) (cs ds : List ℕ) → is_digit c ≡ true → all_pass is_digit cs ≡ true → is_digit d ≡ true →
+    all_pass is_digit ds ≡ true →
+    piece_at within ((c ∷ cs) ++ 46 ∷ d ∷ ds) ≡ outcome (s.duration_rule (d ∷ ds) (thousandths (c ∷ cs) (d ∷ ds)))
+    (k.Dec (thousandths (c ∷ cs) (d ∷ ds))) false (length ((c ∷ cs) ++ 46 ∷ d ∷ ds))
 fraction_alone within c d cs ds h all g each =
     let bs : List ℕ = (c ∷ cs) ++ 46 ∷ d ∷ ds in
     let front : all_pass is_digit (c ∷ cs) ≡ true = rw (h, all) refl in
@@ -128,20 +145,26 @@ fraction_alone within c d cs ds h all g each =
     let pointed : is_at ((c ∷ cs) ++ 46 ∷ d ∷ ds) (length (c ∷ cs)) 46 ≡ true = ap (λ x. is_byte x 46) (at_end (c ∷ cs) 46 (d ∷ ds)) in
     let digit : digit_at ((c ∷ cs) ++ 46 ∷ d ∷ ds) (length (c ∷ cs) + 1) ≡ true =
     ap (λ i. digit_at ((c ∷ cs) ++ 46 ∷ d ∷ ds) i) e ∙ (ap (passes is_digit) (behind_end (c ∷ cs) 46 d ds) ∙ g) in
-    let test : has_fraction ((c ∷ cs) ++ 46 ∷ d ∷ ds) (length (c ∷ cs)) ≡ true = ap (λ v. v && digit_at ((c ∷ cs) ++ 46 ∷ d ∷ ds) (length (c ∷ cs) + 1)) pointed ∙ digit in
-    let dropped : drop (length (c ∷ cs) + 1) ((c ∷ cs) ++ 46 ∷ d ∷ ds) ≡ d ∷ ds = ap (λ i. drop i ((c ∷ cs) ++ 46 ∷ d ∷ ds)) e ∙ drop_end (c ∷ cs) 46 (d ∷ ds) in
+    let test : has_fraction ((c ∷ cs) ++ 46 ∷ d ∷ ds) (length (c ∷ cs)) ≡ true =
+    ap (λ v. v && digit_at ((c ∷ cs) ++ 46 ∷ d ∷ ds) (length (c ∷ cs) + 1)) pointed ∙ digit in
+    let dropped : drop (length (c ∷ cs) + 1) ((c ∷ cs) ++ 46 ∷ d ∷ ds) ≡ d ∷ ds =
+    ap (λ i. drop i ((c ∷ cs) ++ 46 ∷ d ∷ ds)) e ∙ drop_end (c ∷ cs) 46 (d ∷ ds) in
     let before : take (length (c ∷ cs)) ((c ∷ cs) ++ 46 ∷ d ∷ ds) ≡ c ∷ cs = take_front (c ∷ cs) (46 ∷ d ∷ ds) in
-    let len : length (c ∷ cs) + 1 + length (d ∷ ds) ≡ length ((c ∷ cs) ++ 46 ∷ d ∷ ds) = omega (arith, length-append (c ∷ cs) (46 ∷ d ∷ ds)) in
+    let len : length (c ∷ cs) + 1 + length (d ∷ ds) ≡ length ((c ∷ cs) ++ 46 ∷ d ∷ ds) =
+    omega (arith, length-append (c ∷ cs) (46 ∷ d ∷ ds)) in
     let other : Next = integer bs (decimal (take (length (c ∷ cs)) bs)) (length (c ∷ cs)) in
-    let one : number bs ≡ (if has_fraction bs (run is_digit bs) then fractional_number bs (run is_digit bs) else integer bs (decimal (take (run is_digit bs) bs)) (run is_digit bs)) =
+    let one : number bs ≡ (if has_fraction bs (run is_digit bs) then fractional_number bs (run is_digit bs) else integer bs
+    (decimal (take (run is_digit bs) bs)) (run is_digit bs)) =
     if_false (is_hexadecimal bs) (hexadecimal_number bs) _ (point_no_hex c cs (d ∷ ds) all) in
     let two : number bs ≡ fractional_number bs (length (c ∷ cs)) =
-    one ∙ (ap (λ i. if has_fraction bs i then fractional_number bs i else integer bs (decimal (take i bs)) i) count ∙ if_true (has_fraction bs (length (c ∷ cs))) (fractional_number bs (length (c ∷ cs))) other test) in
+    one ∙ (ap (λ i. if has_fraction bs i then fractional_number bs i else integer bs (decimal (take i bs)) i) count ∙
+    if_true (has_fraction bs (length (c ∷ cs))) (fractional_number bs (length (c ∷ cs))) other test) in
     let three : fractional_number bs (length (c ∷ cs)) ≡ duration bs (c ∷ cs) (d ∷ ds) (length bs) =
     ap (λ x. duration bs (take (length (c ∷ cs)) bs) (take (run is_digit x) x) (length (c ∷ cs) + 1 + run is_digit x)) dropped ∙
     (ap (λ w. duration bs w (take (run is_digit (d ∷ ds)) (d ∷ ds)) (length (c ∷ cs) + 1 + run is_digit (d ∷ ds))) before ∙
     (ap (λ i. duration bs (c ∷ cs) (take i (d ∷ ds)) (length (c ∷ cs) + 1 + i)) short ∙
-    (ap (λ x. duration bs (c ∷ cs) x (length (c ∷ cs) + 1 + length (d ∷ ds))) (take-length (d ∷ ds)) ∙ ap (duration bs (c ∷ cs) (d ∷ ds)) len))) in
+    (ap (λ x. duration bs (c ∷ cs) x (length (c ∷ cs) + 1 + length (d ∷ ds))) (take-length (d ∷ ds)) ∙
+    ap (duration bs (c ∷ cs) (d ∷ ds)) len))) in
     at_digit within c (cs ++ 46 ∷ d ∷ ds) h ∙ (two ∙ (three ∙ duration_alone bs (c ∷ cs) (d ∷ ds)))
 
 -- texts
@@ -179,7 +202,8 @@ comment_alone cs r h =
 line_alone : (cs : List ℕ) → all_pass in_line cs ≡ true → piece_at false (35 ∷ cs) ≡ n.Separator (length (35 ∷ cs))
 line_alone cs all =
     let count : run in_line (35 ∷ cs) ≡ length (35 ∷ cs) = run_all in_line (35 ∷ cs) all in
-    let lone : is_lone_at (35 ∷ cs) (length (35 ∷ cs)) ≡ false = ap (λ v. v && not (is_at (35 ∷ cs) (length (35 ∷ cs) + 1) 10)) (not_at_end (35 ∷ cs) 13) in
+    let lone : is_lone_at (35 ∷ cs) (length (35 ∷ cs)) ≡ false =
+    ap (λ v. v && not (is_at (35 ∷ cs) (length (35 ∷ cs) + 1) 10)) (not_at_end (35 ∷ cs) 13) in
     ap (λ i. if is_lone_at (35 ∷ cs) i then n.Bad UNEXPECTED i else n.Separator i) count ∙
     if_false (is_lone_at (35 ∷ cs) (length (35 ∷ cs))) (n.Bad UNEXPECTED (length (35 ∷ cs))) (n.Separator (length (35 ∷ cs))) lone
 
@@ -193,23 +217,73 @@ found_row : {A : Type 0} (P : List ℕ → A → Type 0) (v : Bool) (x a : A) (m
 found_row P true x a more cs row same behind p h = let e : x ≡ a = cc in subst (P cs) e (subst (λ y. P y x) (same refl) p)
 found_row P false x a more cs row same behind p h = behind h
 
-found : {A : Type 0} (P : List ℕ → A → Type 0) (rows : List (List ℕ × A)) (cs : List ℕ) (a : A) → RowsHave P rows → look_up rows cs ≡ Some a → P cs a
+found : {A : Type 0} (P : List ℕ → A → Type 0) (rows : List (List ℕ × A)) (cs : List ℕ) (a : A) → RowsHave P rows →
+    look_up rows cs ≡ Some a → P cs a
 found P [] cs a all h = absurd (cc)
 found P (row ∷ rows) cs a all h =
-    found_row P (pointwise nat_eq cs row.0) row.1 a (look_up rows cs) cs row.0 (λ e. sym (pointwise_equal cs row.0 e)) (λ e. found P rows cs a all.1 e) all.0 h
+    found_row P (pointwise nat_eq cs row.0) row.1 a (look_up rows cs) cs row.0 (λ e. sym (pointwise_equal cs row.0 e))
+    (λ e. found P rows cs a all.1 e) all.0 h
 
 doubles_alone : (within : Bool) → RowsHave (λ cs m. piece_at within cs ≡ n.Token (k.Mark m) 2) doubles
 doubles_alone false = (refl, (refl, (refl, (refl, (refl, (refl, (refl, (refl, (refl, (refl, tt))))))))))
 doubles_alone true = (refl, (refl, (refl, (refl, (refl, (refl, (refl, (refl, (refl, (refl, tt))))))))))
 
 singles_alone : RowsHave (λ cs m. piece_at false cs ≡ n.Token (k.Mark m) 1) singles
-singles_alone = (refl, (refl, (refl, (refl, (refl, (refl, (refl, (refl, (refl, (refl, (refl, (refl, (refl, (refl, (refl, (refl, (refl, (refl, tt))))))))))))))))))
+singles_alone = (
+  refl,
+  (
+    refl,
+    (
+      refl,
+      (
+        refl,
+        (refl, (refl, (refl, (refl, (refl, (refl, (refl, (refl, (refl, (refl, (refl, (refl, (refl, (refl, tt)))))))))))))),
+      ),
+    ),
+  ),
+)
 
 singles_in_hole : RowsHave (λ cs m. is_at cs 0 123 ≡ false → is_at cs 0 125 ≡ false → piece_at true cs ≡ n.Token (k.Mark m) 1) singles
-singles_in_hole =
-    (λ g h. refl, (λ g h. refl, (λ g h. refl, (λ g h. refl, (λ g h. refl, (λ g h. refl, (λ g h. refl, (λ g h. refl, (λ g h. refl, (λ g h. refl, (λ g h. refl, (λ g h. refl, (λ g h. refl, (λ g h. refl, (λ g h. refl, (λ g h. absurd (cc), (λ g h. absurd (cc), (λ g h. refl, tt))))))))))))))))))
+singles_in_hole = (
+  λ g h. refl,
+  (
+    λ g h. refl,
+    (
+      λ g h. refl,
+      (
+        λ g h. refl,
+        (
+          λ g h. refl,
+          (
+            λ g h. refl,
+            (
+              λ g h. refl,
+              (
+                λ g h. refl,
+                (
+                  λ g h. refl,
+                  (
+                    λ g h. refl,
+                    (
+                      λ g h. refl,
+                      (
+                        λ g h. refl,
+                        (λ g h. refl, (λ g h. refl, (λ g h. refl, (λ g h. absurd (cc), (λ g h. absurd (cc), (λ g h. refl, tt)))))),
+                      ),
+                    ),
+                  ),
+                ),
+              ),
+            ),
+          ),
+        ),
+      ),
+    ),
+  ),
+)
 
-pub number_alone : (within : Bool) (cs : List ℕ) (kind : TokenKind) (rule : Option Rule) → Number cs kind rule → piece_at within cs ≡ outcome rule kind false (length cs)
+pub number_alone : (within : Bool) (cs : List ℕ) (kind : TokenKind) (rule : Option Rule) → Number cs kind rule →
+    piece_at within cs ≡ outcome rule kind false (length cs)
 number_alone within cs kind rule (s.digits b bs h all) = digits_alone within b bs h all
 number_alone within cs kind rule (s.hex_digits b bs h all) = hex_alone within b bs h all
 number_alone within cs kind rule (s.fraction b c bs es h all g each) = fraction_alone within b c bs es h all g each
@@ -222,16 +296,21 @@ spelled_alone within cs piece (s.line_comment {cs = bs} h) = line_alone bs h
 spelled_alone within cs piece (s.comment {cs = bs} r h) = comment_alone bs r h
 spelled_alone within cs piece (s.name {b = b} {cs = bs} h all) = name_alone within b bs h all
 spelled_alone within cs piece (s.number {kind = kind} h) = number_alone within cs kind None h
-spelled_alone within cs piece (s.literal {c = c} (s.literal_plain {b = b} h g)) = at_common within 39 (b ∷ 39 ∷ []) refl refl refl refl refl refl refl ∙ (rw (g, h) refl)
-spelled_alone within cs piece (s.literal {c = c} (s.literal_escaped {b = b} h)) = at_common within 39 (92 ∷ b ∷ 39 ∷ []) refl refl refl refl refl refl refl ∙ (rw h refl)
+spelled_alone within cs piece (s.literal {c = c} (s.literal_plain {b = b} h g)) =
+    at_common within 39 (b ∷ 39 ∷ []) refl refl refl refl refl refl refl ∙ (rw (g, h) refl)
+spelled_alone within cs piece (s.literal {c = c} (s.literal_escaped {b = b} h)) =
+    at_common within 39 (92 ∷ b ∷ 39 ∷ []) refl refl refl refl refl refl refl ∙ (rw h refl)
 spelled_alone within cs piece (s.text {cs = bs} {ms = ms} r) = text_alone bs ms r
 spelled_alone within cs piece (s.text_open {cs = bs} {ms = ms} r) = open_alone bs ms r
 spelled_alone within cs piece (s.text_mid {cs = bs} {ms = ms} r) = mid_alone bs ms r
 spelled_alone within cs piece (s.text_close {cs = bs} {ms = ms} r) = close_alone bs ms r
-spelled_alone within cs piece (s.double {mark = mark} h) = found (λ bs m. piece_at within bs ≡ n.Token (k.Mark m) 2) doubles cs mark (doubles_alone within) h
-spelled_alone within cs piece (s.single {mark = mark} h) = found (λ bs m. piece_at false bs ≡ n.Token (k.Mark m) 1) singles cs mark singles_alone h
+spelled_alone within cs piece (s.double {mark = mark} h) =
+    found (λ bs m. piece_at within bs ≡ n.Token (k.Mark m) 2) doubles cs mark (doubles_alone within) h
+spelled_alone within cs piece (s.single {mark = mark} h) =
+    found (λ bs m. piece_at false bs ≡ n.Token (k.Mark m) 1) singles cs mark singles_alone h
 spelled_alone within cs piece (s.single_in_hole {mark = mark} h g f) =
-    found (λ bs m. is_at bs 0 123 ≡ false → is_at bs 0 125 ≡ false → piece_at true bs ≡ n.Token (k.Mark m) 1) singles cs mark singles_in_hole h g f
+    found (λ bs m. is_at bs 0 123 ≡ false → is_at bs 0 125 ≡ false →
+    piece_at true bs ≡ n.Token (k.Mark m) 1) singles cs mark singles_in_hole h g f
 
 same_piece : (p q : Piece) (i : ℕ) → next_of p i ≡ next_of q i → p ≡ q
 same_piece s.separates s.separates i h = refl

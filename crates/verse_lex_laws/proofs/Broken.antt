@@ -1,5 +1,6 @@
 -- A rule is broken exactly where that is answered.
-use Rattle.std.proofs.Common.{◌≡◌, ℕ, suc, ◌+◌, ◌≤◌, ◌==◌, ◌&&◌, Bool, true, false, List, [], ◌∷◌, ◌++◌, Option, Some, None, length, refl, sym, ◌∙◌, not, ap, arith, subst, if◌then◌else◌}
+use Rattle.std.proofs.Common.{◌≡◌, ℕ, suc, ◌+◌, ◌≤◌, ◌==◌, ◌&&◌, Bool, true, false, List, [], ◌∷◌, ◌++◌, Option, Some, None, length, refl}
+use Rattle.std.proofs.Common.{sym, ◌∙◌, not, ap, arith, subst, if◌then◌else◌}
 use Rattle.std.specs.Prelude.{slice_get}
 use Rattle.verse_base.specs.declared.refusals.Rule.{Rule}
 use Rattle.verse_lex.specs.Bytes.{in_line, is_at, letter_at, run}
@@ -7,7 +8,8 @@ use Rattle.verse_lex.specs.Words.{look_up}
 use Rattle.verse_lex.specs.Marks.{doubles, singles}
 use Rattle.verse_lex.specs.Texts.{text_chars, further}
 use Rattle.verse_lex.specs.Comments.{closing}
-use Rattle.verse_lex.specs.Pieces.{piece_at, common, number, literal, literal_end, literal_escape, in_literal, mark_next, double_mark, escape_of, comment_next, is_lone_at, breaks_hole}
+use Rattle.verse_lex.specs.Pieces.{piece_at, common, number, literal, literal_end, literal_escape, in_literal, mark_next, double_mark}
+use Rattle.verse_lex.specs.Pieces.{escape_of, comment_next, is_lone_at, breaks_hole}
 use Rattle.verse_lex.specs.declared.rules.TheConstants.{UNEXPECTED, TEXT_END, COMMENT_END, CHARACTER}
 use Rattle.verse_lex.specs.declared.tokens.Mark.{Mark}
 use Rattle.verse_lex.specs.declared.tokens.TokenKind.{TokenKind}
@@ -19,7 +21,8 @@ use Rattle.verse_lex.specs.declared.comments.Close.TheVariants as close
 use Rattle.verse_lex.specs.declared.pieces.Next.{Next}
 use Rattle.verse_lex.specs.declared.pieces.Next.TheVariants as n
 use Rattle.verse_lex_laws.specs.Spelling as s
-use Rattle.verse_lex_laws.specs.Spelling.{all_pass, Chars, Number, Stops, NoBody, NoLiteral, NoEscape, LongestNumber, MeetsLone, IsStray, Breaks, Unended, EachBroken, EachUnended, OneBreak}
+use Rattle.verse_lex_laws.specs.Spelling.{all_pass, Chars, Number, Stops, NoBody, NoLiteral, NoEscape, LongestNumber, MeetsLone, IsStray}
+use Rattle.verse_lex_laws.specs.Spelling.{Breaks, Unended, EachBroken, EachUnended, OneBreak}
 use Rattle.verse_lex_laws.proofs.Runs.{equal, both, run_stops, AllRows, in_table}
 use Rattle.verse_lex_laws.proofs.Longest.{at_common, chars_end, number_first}
 use Rattle.verse_lex_laws.proofs.Parts.{comment_body, comment_lone, meets_lone}
@@ -48,13 +51,15 @@ no_double b c h = by_mark (look_up doubles (b ∷ c ∷ [])) refl
     by_mark None x = x
     by_mark (Some m) x = absurd (in_table FirstIsMark doubles (b ∷ c ∷ []) m double_first x h)
 
-stray_mark : (b : ℕ) (bs : List ℕ) → look_up singles (b ∷ []) ≡ None → mark_next (double_mark (b ∷ bs)) (look_up singles (b ∷ [])) ≡ n.Bad UNEXPECTED 0
+stray_mark : (b : ℕ) (bs : List ℕ) → look_up singles (b ∷ []) ≡ None → mark_next (double_mark (b ∷ bs)) (look_up singles (b ∷ [])) ≡
+    n.Bad UNEXPECTED 0
 stray_mark b [] h = ap (mark_next None) h
 stray_mark b (c ∷ bs) h = ap (λ x. mark_next x (look_up singles (b ∷ []))) (no_double b c h) ∙ ap (mark_next None) h
 
 stray_bad : (within : Bool) (b : ℕ) (bs : List ℕ) → IsStray b → piece_at within (b ∷ bs) ≡ n.Bad UNEXPECTED 0
 stray_bad within b bs x =
-    at_common within b bs x.line_feed x.carriage_return x.comment (not_mark b 60 _ x.mark refl) x.text (not_mark b 123 _ x.mark refl) (not_mark b 125 _ x.mark refl)
+    at_common within b bs x.line_feed x.carriage_return x.comment (not_mark b 60 _ x.mark refl) x.text (not_mark b 123 _ x.mark refl)
+    (not_mark b 125 _ x.mark refl)
     ∙ (rw (x.blank, x.letter, x.digit, x.quote) (stray_mark b bs x.mark))
 
 lone_bad : (within : Bool) (bs : List ℕ) → is_lone_at bs 0 ≡ true → piece_at within bs ≡ n.Bad UNEXPECTED 0
@@ -72,7 +77,8 @@ lone_bad within (b ∷ bs) h =
     by_hole true g = rw g refl
     by_hole false g = rw g refl
 
-line_bad : (cs ds : List ℕ) → all_pass in_line cs ≡ true → is_lone_at ds 0 ≡ true → piece_at false (35 ∷ (cs ++ ds)) ≡ n.Bad UNEXPECTED (1 + length cs)
+line_bad : (cs ds : List ℕ) → all_pass in_line cs ≡ true → is_lone_at ds 0 ≡ true →
+    piece_at false (35 ∷ (cs ++ ds)) ≡ n.Bad UNEXPECTED (1 + length cs)
 line_bad cs [] all h = absurd (cc)
 line_bad cs (d ∷ ds) all h =
     let f = both (d == 13) (not (is_at ds 0 10)) h in
@@ -82,15 +88,18 @@ line_bad cs (d ∷ ds) all h =
     let lone : is_lone_at (35 ∷ (cs ++ d ∷ ds)) (length (35 ∷ cs)) ≡ true = lone_shift (35 ∷ cs) (d ∷ ds) ∙ h in
     rw (count, lone) (ap (n.Bad UNEXPECTED) (omega arith))
 
-comment_lone_bad : (bs : List ℕ) (count : ℕ) → is_at bs 0 62 ≡ false → MeetsLone bs count → piece_at false (60 ∷ 35 ∷ bs) ≡ n.Bad UNEXPECTED (count + 2)
+comment_lone_bad : (bs : List ℕ) (count : ℕ) → is_at bs 0 62 ≡ false → MeetsLone bs count →
+    piece_at false (60 ∷ 35 ∷ bs) ≡ n.Bad UNEXPECTED (count + 2)
 comment_lone_bad bs count h m = rw (h, meets_lone m 0) refl
 
-comment_never : (bs : List ℕ) (x : Close) → closing 1 bs ≡ x → NoBody bs → ((count : ℕ) → MeetsLone bs count → ⊥) → closing 1 bs ≡ close.Never
+comment_never : (bs : List ℕ) (x : Close) → closing 1 bs ≡ x → NoBody bs → ((count : ℕ) → MeetsLone bs count → ⊥) →
+    closing 1 bs ≡ close.Never
 comment_never bs (close.Closed count) h none lone = let b = comment_body bs count h in absurd (none b.front b.behind b.whole b.body)
 comment_never bs (close.Lone count) h none lone = absurd (lone count (comment_lone bs count h))
 comment_never bs close.Never h none lone = h
 
-comment_bad : (bs : List ℕ) → is_at bs 0 62 ≡ false → NoBody bs → ((count : ℕ) → MeetsLone bs count → ⊥) → piece_at false (60 ∷ 35 ∷ bs) ≡ n.Bad COMMENT_END 0
+comment_bad : (bs : List ℕ) → is_at bs 0 62 ≡ false → NoBody bs → ((count : ℕ) → MeetsLone bs count → ⊥) →
+    piece_at false (60 ∷ 35 ∷ bs) ≡ n.Bad COMMENT_END 0
 comment_bad bs h none lone = rw (h, comment_never bs (closing 1 bs) refl none lone) refl
 
 -- numbers
@@ -116,7 +125,8 @@ record OneNumber (within : Bool) (cs ds : List ℕ) (kind : TokenKind) (rule : O
   alone : outcome rule kind false (length cs) ≡ outcome rule_there kind_there false (length cs)
   is : piece_at within (cs ++ ds) ≡ outcome rule_there kind_there (letter_at ds 0) (length cs)
 
-one_number : (within : Bool) (cs ds : List ℕ) (kind : TokenKind) (rule : Option Rule) → Number cs kind rule → LongestNumber (cs ++ ds) (length cs) → OneNumber within cs ds kind rule
+one_number : (within : Bool) (cs ds : List ℕ) (kind : TokenKind) (rule : Option Rule) → Number cs kind rule →
+    LongestNumber (cs ++ ds) (length cs) → OneNumber within cs ds kind rule
 one_number within cs ds kind rule h longest =
     let x = number_at cs ds kind rule h in
     let reach = x.longest cs ds kind rule refl h in
@@ -131,18 +141,22 @@ one_number within cs ds kind rule h longest =
           ∙ ap (λ y. outcome x.rule x.kind (letter_at ds 0) (length y)) (sym same.0);
     }
 
-letter_bad : (within : Bool) (cs ds : List ℕ) (kind : TokenKind) → letter_at ds 0 ≡ true → OneNumber within cs ds kind None → piece_at within (cs ++ ds) ≡ n.Bad UNEXPECTED (length cs)
+letter_bad : (within : Bool) (cs ds : List ℕ) (kind : TokenKind) → letter_at ds 0 ≡ true → OneNumber within cs ds kind None →
+    piece_at within (cs ++ ds) ≡ n.Bad UNEXPECTED (length cs)
 letter_bad within cs ds kind h x = by_rule x.rule_there x.alone x.is
   where
-    by_rule : (rule : Option Rule) → n.Token kind (length cs) ≡ outcome rule x.kind_there false (length cs) → piece_at within (cs ++ ds) ≡ outcome rule x.kind_there (letter_at ds 0) (length cs) →
+    by_rule : (rule : Option Rule) → n.Token kind (length cs) ≡ outcome rule x.kind_there false (length cs) →
+        piece_at within (cs ++ ds) ≡ outcome rule x.kind_there (letter_at ds 0) (length cs) →
         piece_at within (cs ++ ds) ≡ n.Bad UNEXPECTED (length cs)
     by_rule (Some rule) a is = absurd (cc)
     by_rule None a is = is ∙ ap (λ v. outcome None x.kind_there v (length cs)) h
 
-number_bad : (within : Bool) (cs ds : List ℕ) (kind : TokenKind) (rule : Rule) → OneNumber within cs ds kind (Some rule) → piece_at within (cs ++ ds) ≡ n.Bad rule 0
+number_bad : (within : Bool) (cs ds : List ℕ) (kind : TokenKind) (rule : Rule) → OneNumber within cs ds kind (Some rule) →
+    piece_at within (cs ++ ds) ≡ n.Bad rule 0
 number_bad within cs ds kind rule x = by_rule x.rule_there x.alone x.is
   where
-    by_rule : (other : Option Rule) → n.Bad rule 0 ≡ outcome other x.kind_there false (length cs) → piece_at within (cs ++ ds) ≡ outcome other x.kind_there (letter_at ds 0) (length cs) →
+    by_rule : (other : Option Rule) → n.Bad rule 0 ≡ outcome other x.kind_there false (length cs) →
+        piece_at within (cs ++ ds) ≡ outcome other x.kind_there (letter_at ds 0) (length cs) →
         piece_at within (cs ++ ds) ≡ n.Bad rule 0
     by_rule (Some other) a is = is ∙ sym a
     by_rule None a is = absurd (cc)
@@ -162,26 +176,32 @@ quote_first : (bs : List ℕ) → is_at bs 0 39 ≡ true → (ds : List ℕ) × 
 quote_first [] h = absurd (cc)
 quote_first (b ∷ bs) h = (bs, ap (λ x. x ∷ bs) (equal b 39 h))
 
-escape_bad : (bs : List ℕ) (o : Option ℕ) → escape_of (slice_get bs 0) ≡ o → NoLiteral (39 ∷ 92 ∷ bs) → (NoEscape (92 ∷ bs) → ⊥) → literal_escape (39 ∷ 92 ∷ bs) o ≡ n.Bad CHARACTER 0
+escape_bad : (bs : List ℕ) (o : Option ℕ) → escape_of (slice_get bs 0) ≡ o → NoLiteral (39 ∷ 92 ∷ bs) → (NoEscape (92 ∷ bs) → ⊥) →
+    literal_escape (39 ∷ 92 ∷ bs) o ≡ n.Bad CHARACTER 0
 escape_bad bs None h none good = absurd (good (record { behind = bs; whole = refl; none = h }))
 escape_bad [] (Some c) h none good = absurd (cc)
 escape_bad (b ∷ bs) (Some c) h none good =
-    end_bad (39 ∷ 92 ∷ b ∷ bs) c 3 (λ g. let x = quote_first bs g in none (39 ∷ 92 ∷ b ∷ 39 ∷ []) x.0 c (ap (λ y. 39 ∷ 92 ∷ b ∷ y) x.1) (s.literal_escaped h))
+    end_bad (39 ∷ 92 ∷ b ∷ bs) c 3 (λ g. let x = quote_first bs g in
+    none (39 ∷ 92 ∷ b ∷ 39 ∷ []) x.0 c (ap (λ y. 39 ∷ 92 ∷ b ∷ y) x.1) (s.literal_escaped h))
 
 literal_bad : (bs : List ℕ) → NoLiteral (39 ∷ bs) → (NoEscape bs → ⊥) → literal (39 ∷ bs) ≡ n.Bad CHARACTER 0
 literal_bad [] none good = refl
 literal_bad (b ∷ bs) none good = by_backslash (b == 92) refl
   where
-    by_plain : (v : Bool) → in_literal b ≡ v → (b == 92) ≡ false → (if v then literal_end (39 ∷ b ∷ bs) b 2 else n.Bad CHARACTER 0) ≡ n.Bad CHARACTER 0
+    by_plain : (v : Bool) → in_literal b ≡ v → (b == 92) ≡ false → (if v then literal_end (39 ∷ b ∷ bs) b 2 else n.Bad CHARACTER 0) ≡
+        n.Bad CHARACTER 0
     by_plain false g f = refl
-    by_plain true g f = end_bad (39 ∷ b ∷ bs) b 2 (λ q. let x = quote_first bs q in none (39 ∷ b ∷ 39 ∷ []) x.0 b (ap (λ y. 39 ∷ b ∷ y) x.1) (s.literal_plain g f))
+    by_plain true g f = end_bad (39 ∷ b ∷ bs) b 2 (λ q. let x = quote_first bs q in
+        none (39 ∷ b ∷ 39 ∷ []) x.0 b (ap (λ y. 39 ∷ b ∷ y) x.1) (s.literal_plain g f))
 
     by_backslash : (v : Bool) → (b == 92) ≡ v →
-        (if v then literal_escape (39 ∷ b ∷ bs) (escape_of (slice_get bs 0)) else (if in_literal b then literal_end (39 ∷ b ∷ bs) b 2 else n.Bad CHARACTER 0)) ≡ n.Bad CHARACTER 0
+        (if v then literal_escape (39 ∷ b ∷ bs) (escape_of (slice_get bs 0)) else
+        (if in_literal b then literal_end (39 ∷ b ∷ bs) b 2 else n.Bad CHARACTER 0)) ≡ n.Bad CHARACTER 0
     by_backslash true g =
         let same = equal b 92 g in
         subst (λ x. literal_escape (39 ∷ x ∷ bs) (escape_of (slice_get bs 0)) ≡ n.Bad CHARACTER 0) (sym same)
-        (escape_bad bs (escape_of (slice_get bs 0)) refl (subst (λ x. NoLiteral (39 ∷ x ∷ bs)) same none) (subst (λ x. NoEscape (x ∷ bs) → ⊥) same good))
+        (escape_bad bs (escape_of (slice_get bs 0)) refl (subst (λ x. NoLiteral (39 ∷ x ∷ bs)) same none)
+        (subst (λ x. NoEscape (x ∷ bs) → ⊥) same good))
     by_backslash false g = by_plain (in_literal b) refl g
 
 -- texts
@@ -209,10 +229,12 @@ stops_is s.return_end = refl
 text_ends : (cs ms ds : List ℕ) (ending : Ending) → Chars cs ms → Stops ds ending → text_chars (cs ++ ds) ≡ further (length cs) ending
 text_ends cs ms ds ending r h = chars_end cs ms ds r ∙ ap (further (length cs)) (stops_is h)
 
-text_bad : (cs ms ds : List ℕ) (rule : Rule) → Chars cs ms → Stops ds (e.Broken rule 0) → piece_at false (34 ∷ (cs ++ ds)) ≡ n.Bad rule (1 + length cs)
+text_bad : (cs ms ds : List ℕ) (rule : Rule) → Chars cs ms → Stops ds (e.Broken rule 0) →
+    piece_at false (34 ∷ (cs ++ ds)) ≡ n.Bad rule (1 + length cs)
 text_bad cs ms ds rule r h = rw (text_ends cs ms ds (e.Broken rule 0) r h) (ap (n.Bad rule) (omega arith))
 
-part_bad : (cs ms ds : List ℕ) (rule : Rule) → Chars cs ms → Stops ds (e.Broken rule 0) → piece_at true (125 ∷ (cs ++ ds)) ≡ n.Bad rule (1 + length cs)
+part_bad : (cs ms ds : List ℕ) (rule : Rule) → Chars cs ms → Stops ds (e.Broken rule 0) →
+    piece_at true (125 ∷ (cs ++ ds)) ≡ n.Bad rule (1 + length cs)
 part_bad cs ms ds rule r h = rw (text_ends cs ms ds (e.Broken rule 0) r h) (ap (n.Bad rule) (omega arith))
 
 text_unended : (cs ms ds : List ℕ) → Chars cs ms → Stops ds e.Line → piece_at false (34 ∷ (cs ++ ds)) ≡ n.Bad TEXT_END 0
@@ -227,8 +249,10 @@ each_broken within bs rule count (s.lone_return h) = lone_bad within bs h
 each_broken within bs rule count (s.lone_in_line cs ds all h) = line_bad cs ds all h
 each_broken within bs rule count (s.lone_in_comment {bs = cs} {count = i} h m) = comment_lone_bad cs i h m
 each_broken within bs rule count s.no_comment = refl
-each_broken within bs rule count (s.letter_behind {cs = cs} ds {kind = kind} h longest l) = letter_bad within cs ds kind l (one_number within cs ds kind None h longest)
-each_broken within bs rule count (s.broken_number {cs = cs} ds {kind = kind} h longest) = number_bad within cs ds kind rule (one_number within cs ds kind (Some rule) h longest)
+each_broken within bs rule count (s.letter_behind {cs = cs} ds {kind = kind} h longest l) =
+    letter_bad within cs ds kind l (one_number within cs ds kind None h longest)
+each_broken within bs rule count (s.broken_number {cs = cs} ds {kind = kind} h longest) =
+    number_bad within cs ds kind rule (one_number within cs ds kind (Some rule) h longest)
 each_broken within bs rule count (s.no_literal {bs = cs} none good) = at_quote within cs ∙ literal_bad cs none good
 each_broken within bs rule count (s.literal_escape {bs = cs} h) = at_quote within (92 ∷ cs) ∙ (rw h refl)
 each_broken within bs rule count (s.broken_text {cs = cs} {ms = ms} {ds = ds} r h) = text_bad cs ms ds rule r h
@@ -251,6 +275,7 @@ each_unended bs (s.unended_part {cs = cs} {ms = ms} {ds = ds} r h) = part_unende
 
 pub one_break : OneBreak
 one_break = record {
-  one = λ within bs rule other count offset x y. let e : n.Bad rule count ≡ n.Bad other offset = sym (each_broken within bs rule count x) ∙ each_broken within bs other offset y in (cc, cc);
+  one = λ within bs rule other count offset x y. let e : n.Bad rule count ≡ n.Bad other offset =
+      sym (each_broken within bs rule count x) ∙ each_broken within bs other offset y in (cc, cc);
   apart = λ bs rule count x y. let e : n.Bad rule count ≡ n.HoleEnd = sym (each_broken true bs rule count x) ∙ each_unended bs y in cc;
 }

@@ -1,5 +1,6 @@
 -- The tokens of a file are spelled by their bytes.
-use Rattle.std.proofs.Common.{◌≡◌, ℕ, suc, ◌+◌, ◌-◌, Bool, List, [], ◌∷◌, ◌++◌, length, take, drop, refl, sym, ◌∙◌, ap, arith, subst, append_assoc, length-append, length-take, take-append-drop}
+use Rattle.std.proofs.Common.{◌≡◌, ℕ, suc, ◌+◌, ◌-◌, Bool, List, [], ◌∷◌, ◌++◌, length, take, drop, refl, sym, ◌∙◌, ap, arith, subst}
+use Rattle.std.proofs.Common.{append_assoc, length-append, length-take, take-append-drop}
 use Rattle.verse_base.specs.declared.places.Place.{Place}
 use Rattle.verse_lex.specs.Pieces.{piece_at}
 use Rattle.verse_lex.specs.Contents.{unescaped, between}
@@ -27,27 +28,35 @@ record Upto (file : ℕ) (bytes mark : List ℕ) (here : Cursor) (rest : List �
   place : here.place ≡ after (first_place file) before
 
 -- a piece on
-passed : (file : ℕ) (bytes mark : List ℕ) (here there : Cursor) (rest : List ℕ) (piece : Piece) (within : Bool) (count : ℕ) → Upto file bytes mark here rest → BeginsWith within rest piece count →
+passed : (file : ℕ) (bytes mark : List ℕ) (here there : Cursor) (rest : List ℕ) (piece : Piece) (within : Bool) (count : ℕ) →
+    Upto file bytes mark here rest → BeginsWith within rest piece count →
     there.at ≡ here.at + count → there.place ≡ after here.place (take count rest) → Upto file bytes mark there (drop count rest)
 passed file bytes mark here there rest piece within count u b at place =
-    let taken : take count rest ≡ b.front = ap (λ i. take i rest) (sym b.len) ∙ (ap (take (length b.front)) b.whole ∙ take_front b.front b.behind) in
-    let dropped : drop count rest ≡ b.behind = ap (λ i. drop i rest) (sym b.len) ∙ (ap (drop (length b.front)) b.whole ∙ drop_front b.front b.behind) in
+    let taken : take count rest ≡ b.front = ap (λ i. take i rest) (sym b.len) ∙
+    (ap (take (length b.front)) b.whole ∙ take_front b.front b.behind) in
+    let dropped : drop count rest ≡ b.behind =
+    ap (λ i. drop i rest) (sym b.len) ∙ (ap (drop (length b.front)) b.whole ∙ drop_front b.front b.behind) in
     record {
       before = u.before ++ b.front;
-      whole = u.whole ∙ ap (λ x. mark ++ x) (ap (λ x. u.before ++ x) b.whole ∙ (sym (append_assoc u.before b.front b.behind) ∙ ap (λ x. (u.before ++ b.front) ++ x) (sym dropped)));
+      whole = u.whole ∙ ap (λ x. mark ++ x) (ap (λ x. u.before ++ x) b.whole ∙
+          (sym (append_assoc u.before b.front b.behind) ∙ ap (λ x. (u.before ++ b.front) ++ x) (sym dropped)));
       at = omega (arith, at, u.at, b.len, length-append u.before b.front);
-      place = place ∙ (ap (after here.place) taken ∙ (ap (λ p. after p b.front) u.place ∙ sym (after-append (first_place file) u.before b.front)));
+      place = place ∙ (ap (after here.place) taken ∙
+          (ap (λ p. after p b.front) u.place ∙ sym (after-append (first_place file) u.before b.front)));
     }
 
 begun : (within : Bool) (bs : List ℕ) (x : Next) → piece_at within bs ≡ x → Explains within bs x
 begun within bs x h = subst (Explains within bs) h (each_explained within bs)
 
-spelled_along : (file : ℕ) (bytes mark : List ℕ) {here there : Cursor} {bs cs : List ℕ} {ts : List Token} → length mark ≡ mark_len bytes → Cuts here bs ts there cs → Upto file bytes mark here bs → EachSpelled file bytes ts
+spelled_along : (file : ℕ) (bytes mark : List ℕ) {here there : Cursor} {bs cs : List ℕ} {ts : List Token} → length mark ≡ mark_len bytes →
+    Cuts here bs ts there cs → Upto file bytes mark here bs → EachSpelled file bytes ts
 spelled_along file bytes mark marked cuts_none u = tt
 spelled_along file bytes mark {here = here} {bs = bs} marked (cuts_separator {count = count} h r) u =
-    spelled_along file bytes mark marked r (passed file bytes mark here _ bs s.separates (in_hole here) count u (begun (in_hole here) bs (n.Separator count) h) refl refl)
+    spelled_along file bytes mark marked r (passed file bytes mark here _ bs s.separates (in_hole here) count u
+    (begun (in_hole here) bs (n.Separator count) h) refl refl)
 spelled_along file bytes mark {here = here} {bs = bs} marked (cuts_line {count = count} h r) u =
-    spelled_along file bytes mark marked r (passed file bytes mark here _ bs s.ends_line (in_hole here) count u (begun (in_hole here) bs (n.LineEnd count) h) refl refl)
+    spelled_along file bytes mark marked r (passed file bytes mark here _ bs s.ends_line (in_hole here) count u
+    (begun (in_hole here) bs (n.LineEnd count) h) refl refl)
 spelled_along file bytes mark {here = here} {bs = bs} marked (cuts_token {kind = kind} {count = count} h r) u =
     let b : BeginsWith (in_hole here) bs (s.is_token kind) count = begun (in_hole here) bs (n.Token kind count) h in (
       record {
@@ -89,5 +98,6 @@ texts_mean before behind cs ms q r t start stop h =
     let e : t.start + 1 ≡ suc (length before) = omega (arith, start) in
     ap (λ i. drop i (before ++ ((q ∷ (cs ++ r ∷ [])) ++ behind))) e ∙ drop_end before q ((cs ++ r ∷ []) ++ behind) in
     let taken : between (before ++ ((q ∷ (cs ++ r ∷ [])) ++ behind)) t.start t.end ≡ cs =
-    ap (take (t.end - t.start - 2)) inner ∙ (ap (λ i. take i ((cs ++ r ∷ []) ++ behind)) span ∙ (ap (take (length cs)) (append_assoc cs (r ∷ []) behind) ∙ take_front cs (r ∷ behind))) in
+    ap (take (t.end - t.start - 2)) inner ∙ (ap (λ i. take i ((cs ++ r ∷ []) ++ behind)) span ∙
+    (ap (take (length cs)) (append_assoc cs (r ∷ []) behind) ∙ take_front cs (r ∷ behind))) in
     ap unescaped taken ∙ chars_mean cs ms h

@@ -1,5 +1,6 @@
 -- Runs, texts and comments by their parts.
-use Rattle.std.proofs.Common.{◌≡◌, ℕ, zero, suc, ◌+◌, ◌==◌, ◌&&◌, Bool, true, false, List, [], ◌∷◌, ◌++◌, Option, Some, None, length, take, drop, if◌then◌else◌, refl, sym, ◌∙◌, ap, arith, subst, append_assoc, zero-add, append-nil, length-append, not}
+use Rattle.std.proofs.Common.{◌≡◌, ℕ, zero, suc, ◌+◌, ◌==◌, ◌&&◌, Bool, true, false, List, [], ◌∷◌, ◌++◌, Option, Some, None, length, take}
+use Rattle.std.proofs.Common.{drop, if◌then◌else◌, refl, sym, ◌∙◌, ap, arith, subst, append_assoc, zero-add, append-nil, length-append, not}
 use Rattle.std.proofs.Math.Nat.{suc-add}
 use Rattle.std.specs.Prelude.{slice_get}
 use Rattle.std.proofs.lemmas.List.Sums.{take_while-cons}
@@ -8,7 +9,8 @@ use Rattle.verse_lex.specs.Texts.{escape, text_chars, behind_backslash, if_escap
 use Rattle.verse_lex.specs.Comments.{closing, beyond, closes, opens, is_lone}
 use Rattle.verse_lex.specs.Pieces.{is_lone_at}
 use Rattle.verse_lex_laws.specs.Spelling as s
-use Rattle.verse_lex_laws.specs.Spelling.{all_pass, is_plain, Body, Chars, Literal, Number, Piece, Spells, Stops, NoBody, NoLiteral, LongestNumber, MeetsLone, IsStray, Breaks, Unended, BeginsWith, Explains, EachExplained}
+use Rattle.verse_lex_laws.specs.Spelling.{all_pass, is_plain, Body, Chars, Literal, Number, Piece, Spells, Stops, NoBody, NoLiteral}
+use Rattle.verse_lex_laws.specs.Spelling.{LongestNumber, MeetsLone, IsStray, Breaks, Unended, BeginsWith, Explains, EachExplained}
 use Rattle.verse_lex.specs.declared.rules.TheConstants.{UNEXPECTED, ESCAPE}
 use Rattle.verse_lex.specs.declared.texts.Ending.{Ending}
 use Rattle.verse_lex.specs.declared.texts.Ending.TheVariants as e
@@ -128,7 +130,8 @@ parts_return (b ∷ bs) true h =
     parts_here (13 ∷ b ∷ bs) e.Line (subst (λ x. Stops (13 ∷ x ∷ bs) e.Line) (sym same) s.return_end) refl
 parts_return bs false h = parts_here (13 ∷ bs) (e.Broken UNEXPECTED 0) (s.lone (rw h refl)) refl
 
-parts_escape : (b : ℕ) (bs : List ℕ) (x : Ending) (o : Option ℕ) → escape b ≡ o → Parts bs x → Parts (92 ∷ b ∷ bs) (if_escape o (further 2 x))
+parts_escape : (b : ℕ) (bs : List ℕ) (x : Ending) (o : Option ℕ) → escape b ≡ o → Parts bs x →
+    Parts (92 ∷ b ∷ bs) (if_escape o (further 2 x))
 parts_escape b bs x (Some c) h p = parts_escaped b c bs x h p
 parts_escape b bs x None h p = parts_here (92 ∷ b ∷ bs) (e.Broken ESCAPE 0) (s.no_escape h) refl
 
@@ -143,9 +146,11 @@ mutual
       let behind = escape_parts bs in
       if_parts (b ∷ bs) (b == 34) _ _ (λ t. at_byte b 34 bs (e.Quote 1) t (parts_here (34 ∷ bs) (e.Quote 1) s.quote refl)) (λ t1.
       if_parts (b ∷ bs) (b == 123) _ _ (λ t. at_byte b 123 bs (e.Brace 1) t (parts_here (123 ∷ bs) (e.Brace 1) s.hole refl)) (λ t2.
-      if_parts (b ∷ bs) (b == 125) _ _ (λ t. at_byte b 125 bs (e.Broken UNEXPECTED 0) t (parts_here (125 ∷ bs) (e.Broken UNEXPECTED 0) s.brace refl)) (λ t3.
+      if_parts (b ∷ bs) (b == 125) _ _ (λ t. at_byte b 125 bs (e.Broken UNEXPECTED 0) t
+      (parts_here (125 ∷ bs) (e.Broken UNEXPECTED 0) s.brace refl)) (λ t3.
       if_parts (b ∷ bs) (b == 10) _ _ (λ t. at_byte b 10 bs e.Line t (parts_here (10 ∷ bs) e.Line s.line_end refl)) (λ t4.
-      if_parts (b ∷ bs) (b == 13) _ _ (λ t. at_byte b 13 bs (if is_at bs 0 10 then e.Line else e.Broken UNEXPECTED 0) t (parts_return bs (is_at bs 0 10) refl)) (λ t5.
+      if_parts (b ∷ bs) (b == 13) _ _ (λ t. at_byte b 13 bs (if is_at bs 0 10 then e.Line else e.Broken UNEXPECTED 0) t
+      (parts_return bs (is_at bs 0 10) refl)) (λ t5.
       if_parts (b ∷ bs) (b == 92) _ _ (λ t. at_byte b 92 bs (behind_backslash bs) t behind) (λ t6.
       parts_plain b bs (text_chars bs) (rw (t1, t2, t3, t4, t5, t6) refl) more))))))
 
@@ -176,12 +181,21 @@ Closing depth bs (close.Closed count) = Front depth bs count
 Closing depth bs (close.Lone count) = Lones depth bs count
 Closing depth bs close.Never = Unit {0}
 
-if_closing : (depth : ℕ) (bs : List ℕ) (v : Bool) (x y : Close) → (v ≡ true → Closing depth bs x) → (v ≡ false → Closing depth bs y) → Closing depth bs (if v then x else y)
+if_closing : (depth : ℕ) (bs : List ℕ) (v : Bool) (x y : Close) → (v ≡ true → Closing depth bs x) → (v ≡ false → Closing depth bs y) →
+    Closing depth bs (if v then x else y)
 if_closing depth bs true x y h g = h refl
 if_closing depth bs false x y h g = g refl
 
 closed_end : (depth : ℕ) (bs : List ℕ) (x : Close) → Closing depth bs x → Closing (suc depth) (35 ∷ 62 ∷ bs) (beyond 2 x)
-closed_end depth bs (close.Closed count) f = record { front = 35 ∷ 62 ∷ f.front; behind = f.behind; whole = ap (λ y. 35 ∷ 62 ∷ y) f.whole; len = omega (arith, f.len); bodies = one_body s.ends f.bodies }
+closed_end depth bs (close.Closed count) f =
+    record {
+      front = 35 ∷ 62 ∷ f.front;
+      behind = f.behind;
+      whole = ap (λ y. 35 ∷ 62 ∷ y) f.whole;
+      len = omega (arith, f.len);
+      bodies =
+          one_body s.ends f.bodies;
+    }
 closed_end depth bs (close.Lone count) f = lone_later s.ends f
 closed_end depth bs close.Never f = tt
 
@@ -194,13 +208,22 @@ same_count {depth = depth} {bs = bs} i j e l = subst (Lones depth bs) e l
 
 open_lones : {depth : ℕ} {bs : List ℕ} {count : ℕ} → Lones (suc (suc depth)) bs count → Lones (suc depth) (60 ∷ 35 ∷ bs) (2 + count)
 open_lones (lone_now m) = lone_now (s.in_nested m)
-open_lones {depth = depth} (lone_later {cs = cs} r (lone_now {count = count} m)) = same_count _ _ (omega arith) (lone_now (s.past_nested r m))
+open_lones {depth = depth} (lone_later {cs = cs} r (lone_now {count = count} m)) =
+    same_count _ _ (omega arith) (lone_now (s.past_nested r m))
 open_lones {depth = depth} (lone_later {cs = cs} r (lone_later {cs = ds} {ds = es} {count = count} q l)) =
     let there = lone_later (s.nested r q) l in
-    same_count _ _ (omega (arith, length-append cs ds)) (subst (λ y. Lones (suc depth) y (length (60 ∷ 35 ∷ (cs ++ ds)) + count)) (ap (λ y. 60 ∷ 35 ∷ y) (append_assoc cs ds es)) there)
+    same_count _ _ (omega (arith, length-append cs ds))
+    (subst (λ y. Lones (suc depth) y (length (60 ∷ 35 ∷ (cs ++ ds)) + count)) (ap (λ y. 60 ∷ 35 ∷ y) (append_assoc cs ds es)) there)
 
 opened : (depth : ℕ) (bs : List ℕ) (x : Close) → Closing (suc (suc depth)) bs x → Closing (suc depth) (60 ∷ 35 ∷ bs) (beyond 2 x)
-opened depth bs (close.Closed count) f = record { front = 60 ∷ 35 ∷ f.front; behind = f.behind; whole = ap (λ y. 60 ∷ 35 ∷ y) f.whole; len = omega (arith, f.len); bodies = open_bodies f.bodies }
+opened depth bs (close.Closed count) f = record {
+  front = 60 ∷ 35 ∷ f.front;
+  behind = f.behind;
+  whole = ap (λ y. 60 ∷ 35 ∷ y) f.whole;
+  len =
+      omega (arith, f.len);
+  bodies = open_bodies f.bodies;
+}
 opened depth bs (close.Lone count) f = open_lones f
 opened depth bs close.Never f = tt
 
@@ -218,25 +241,40 @@ head_is b c bs cs h = cc
 
 body_more : (b c : ℕ) (bs cs es : List ℕ) → c ∷ bs ≡ cs ++ es → IsInside b c → Body cs → Body (b ∷ cs)
 body_more b c bs cs es e h s.ends = with_byte b 35 c (62 ∷ []) (head_is c 35 bs (62 ∷ es) e) h s.ends
-body_more b c bs cs es e h (s.nested {cs = xs} {ds = ys} r q) = with_byte b 60 c (35 ∷ (xs ++ ys)) (head_is c 60 bs (35 ∷ ((xs ++ ys) ++ es)) e) h (s.nested r q)
-body_more b c bs cs es e h (s.more {b = x} {c = y} {cs = xs} f g l r) = with_byte b x c (y ∷ xs) (head_is c x bs (y ∷ (xs ++ es)) e) h (s.more f g l r)
+body_more b c bs cs es e h (s.nested {cs = xs} {ds = ys} r q) =
+    with_byte b 60 c (35 ∷ (xs ++ ys)) (head_is c 60 bs (35 ∷ ((xs ++ ys) ++ es)) e) h (s.nested r q)
+body_more b c bs cs es e h (s.more {b = x} {c = y} {cs = xs} f g l r) =
+    with_byte b x c (y ∷ xs) (head_is c x bs (y ∷ (xs ++ es)) e) h (s.more f g l r)
 
-more_bodies : {depth : ℕ} {fs : List ℕ} (b c : ℕ) (bs es : List ℕ) → c ∷ bs ≡ fs ++ es → IsInside b c → Bodies (suc depth) fs → Bodies (suc depth) (b ∷ fs)
-more_bodies b c bs es e h (one_body {cs = cs} {ds = ds} r rest) = one_body (body_more b c bs cs (ds ++ es) (e ∙ append_assoc cs ds es) h r) rest
+more_bodies : {depth : ℕ} {fs : List ℕ} (b c : ℕ) (bs es : List ℕ) → c ∷ bs ≡ fs ++ es → IsInside b c → Bodies (suc depth) fs →
+    Bodies (suc depth) (b ∷ fs)
+more_bodies b c bs es e h (one_body {cs = cs} {ds = ds} r rest) =
+    one_body (body_more b c bs cs (ds ++ es) (e ∙ append_assoc cs ds es) h r) rest
 
-more_lones : {depth : ℕ} {count : ℕ} (b c : ℕ) (bs xs : List ℕ) → xs ≡ c ∷ bs → IsInside b c → Lones (suc depth) xs count → Lones (suc depth) (b ∷ c ∷ bs) (1 + count)
+more_lones : {depth : ℕ} {count : ℕ} (b c : ℕ) (bs xs : List ℕ) → xs ≡ c ∷ bs → IsInside b c → Lones (suc depth) xs count →
+    Lones (suc depth) (b ∷ c ∷ bs) (1 + count)
 more_lones {depth = depth} b c bs xs e h (lone_now {count = count} m) =
     lone_now (s.past_byte h.closed h.open_none h.lone (subst (λ y. MeetsLone y count) e m))
 more_lones {depth = depth} b c bs xs e h (lone_later {cs = cs} {ds = ds} {count = count} r l) =
     let there = lone_later (body_more b c bs cs ds (sym e) h r) l in
     same_count _ _ (omega arith) (subst (λ y. Lones (suc depth) (b ∷ y) (length (b ∷ cs) + count)) e there)
 
-one_more : (depth b c : ℕ) (bs : List ℕ) (x : Close) → IsInside b c → Closing (suc depth) (c ∷ bs) x → Closing (suc depth) (b ∷ c ∷ bs) (beyond 1 x)
-one_more depth b c bs (close.Closed count) h f = record { front = b ∷ f.front; behind = f.behind; whole = ap (λ y. b ∷ y) f.whole; len = omega (arith, f.len); bodies = more_bodies b c bs f.behind f.whole h f.bodies }
+one_more : (depth b c : ℕ) (bs : List ℕ) (x : Close) → IsInside b c → Closing (suc depth) (c ∷ bs) x →
+    Closing (suc depth) (b ∷ c ∷ bs) (beyond 1 x)
+one_more depth b c bs (close.Closed count) h f =
+    record {
+      front = b ∷ f.front;
+      behind = f.behind;
+      whole = ap (λ y. b ∷ y) f.whole;
+      len = omega (arith, f.len);
+      bodies =
+          more_bodies b c bs f.behind f.whole h f.bodies;
+    }
 one_more depth b c bs (close.Lone count) h f = more_lones b c bs (c ∷ bs) refl h f
 one_more depth b c bs close.Never h f = tt
 
-two_bytes : (b c x y : ℕ) (bs : List ℕ) (depth : ℕ) (z : Close) → ((b == x) && (c == y)) ≡ true → Closing depth (x ∷ y ∷ bs) z → Closing depth (b ∷ c ∷ bs) z
+two_bytes : (b c x y : ℕ) (bs : List ℕ) (depth : ℕ) (z : Close) → ((b == x) && (c == y)) ≡ true → Closing depth (x ∷ y ∷ bs) z →
+    Closing depth (b ∷ c ∷ bs) z
 two_bytes b c x y bs depth z h f =
     let g = both (b == x) (c == y) h in
     subst (λ i. Closing depth (i ∷ c ∷ bs) z) (sym (equal b x g.0)) (subst (λ i. Closing depth (x ∷ i ∷ bs) z) (sym (equal c y g.1)) f)
@@ -253,8 +291,11 @@ closing_parts (suc depth) (b ∷ c ∷ bs) =
     let ended = closing_parts depth bs in
     let deeper = closing_parts (suc (suc depth)) bs in
     let further_in = closing_parts (suc depth) (c ∷ bs) in
-    if_closing (suc depth) (b ∷ c ∷ bs) (closes b c) _ _ (λ t. two_bytes b c 35 62 bs (suc depth) (beyond 2 (closing depth bs)) t (closed_end depth bs (closing depth bs) ended)) (λ t1.
-    if_closing (suc depth) (b ∷ c ∷ bs) (opens b c) _ _ (λ t. two_bytes b c 60 35 bs (suc depth) (beyond 2 (closing (suc (suc depth)) bs)) t (opened depth bs (closing (suc (suc depth)) bs) deeper)) (λ t2.
+    if_closing (suc depth) (b ∷ c ∷ bs) (closes b c) _ _
+    (λ t. two_bytes b c 35 62 bs (suc depth) (beyond 2 (closing depth bs)) t (closed_end depth bs (closing depth bs) ended)) (λ t1.
+    if_closing (suc depth) (b ∷ c ∷ bs) (opens b c) _ _
+    (λ t. two_bytes b c 60 35 bs (suc depth) (beyond 2 (closing (suc (suc depth)) bs)) t
+    (opened depth bs (closing (suc (suc depth)) bs) deeper)) (λ t2.
     if_closing (suc depth) (b ∷ c ∷ bs) (is_lone b c) _ _ (λ t. lone_now (s.lone_here t)) (λ t3.
     one_more depth b c bs (closing (suc depth) (c ∷ bs)) (record { closed = t1; open_none = t2; lone = t3 }) further_in)))
 

@@ -1,5 +1,6 @@
 -- Tests of bytes, runs of bytes, and tables.
-use Rattle.std.proofs.Common.{◌≡◌, ℕ, suc, ◌≤◌, ◌==◌, ◌&&◌, Bool, true, false, List, [], ◌∷◌, ◌++◌, Option, Some, length, drop, if◌then◌else◌, refl, sym, arith, subst}
+use Rattle.std.proofs.Common.{◌≡◌, ℕ, suc, ◌≤◌, ◌==◌, ◌&&◌, Bool, true, false, List, [], ◌∷◌, ◌++◌, Option, Some, length, drop}
+use Rattle.std.proofs.Common.{if◌then◌else◌, refl, sym, arith, subst}
 use Rattle.std.specs.Prelude.{nat_eq, slice_get}
 use Rattle.std.specs.Cmp.Lexicographic.{pointwise}
 use Rattle.std.proofs.lemmas.List.Sums.{take_while-cons}
@@ -74,7 +75,9 @@ row_case : {A : Type 0} (P : List ℕ → Type 0) (v : Bool) (x a : A) (more : O
 row_case P true x a more s row same behind p h = subst P (same refl) p
 row_case P false x a more s row same behind p h = behind h
 
-pub in_table : {A : Type 0} (P : List ℕ → Type 0) (rows : List (List ℕ × A)) (s : List ℕ) (a : A) → AllRows P rows → look_up rows s ≡ Some a → P s
+pub in_table : {A : Type 0} (P : List ℕ → Type 0) (rows : List (List ℕ × A)) (s : List ℕ) (a : A) → AllRows P rows →
+    look_up rows s ≡ Some a → P s
 in_table P [] s a all h = absurd (cc)
 in_table P (row ∷ rows) s a all h =
-    row_case P (pointwise nat_eq s row.0) row.1 a (look_up rows s) s row.0 (λ e. sym (pointwise_equal s row.0 e)) (λ e. in_table P rows s a all.1 e) all.0 h
+    row_case P (pointwise nat_eq s row.0) row.1 a (look_up rows s) s row.0 (λ e. sym (pointwise_equal s row.0 e))
+    (λ e. in_table P rows s a all.1 e) all.0 h

@@ -1,5 +1,6 @@
 -- How the pieces are spelled, whatever follows them, and what breaks each rule.
-use Rattle.std.specs.Prelude.{◌≡◌, ℕ, ◌+◌, ◌≤◌, ◌^◌, Bool, true, false, not, ◌==◌, ◌&&◌, ◌||◌, if◌then◌else◌, nat_le, nat_lt, List, [], ◌∷◌, ◌++◌, length, Option, Some, None, pos, slice_get}
+use Rattle.std.specs.Prelude.{◌≡◌, ℕ, ◌+◌, ◌≤◌, ◌^◌, Bool, true, false, not, ◌==◌, ◌&&◌, ◌||◌, if◌then◌else◌, nat_le, nat_lt, List, [], ◌∷◌}
+use Rattle.std.specs.Prelude.{◌++◌, length, Option, Some, None, pos, slice_get}
 use Rattle.verse_base.specs.declared.refusals.Rule.{Rule}
 use Rattle.verse_lex.specs.Bytes.{is_letter, is_digit, is_hex_digit, in_name, is_blank, in_line, is_at, letter_at}
 use Rattle.verse_lex.specs.Words.{look_up, name_kind}
@@ -59,7 +60,8 @@ pub data Number : List ℕ → TokenKind → Option Rule → Type 0 where
       Number (d ∷ ds) (k.Int (pos (decimal (d ∷ ds)))) (integer_rule (decimal (d ∷ ds)))
   hex_digits : (d : ℕ) (ds : List ℕ) → is_hex_digit d ≡ true → all_pass is_hex_digit ds ≡ true →
       Number (48 ∷ 120 ∷ d ∷ ds) (k.Int (pos (hexadecimal (d ∷ ds)))) (integer_rule (hexadecimal (d ∷ ds)))
-  fraction : (c d : ℕ) (cs ds : List ℕ) → is_digit c ≡ true → all_pass is_digit cs ≡ true → is_digit d ≡ true → all_pass is_digit ds ≡ true →
+  fraction : (c d : ℕ) (cs ds : List ℕ) → is_digit c ≡ true → all_pass is_digit cs ≡ true → is_digit d ≡ true →
+      all_pass is_digit ds ≡ true →
       Number ((c ∷ cs) ++ 46 ∷ d ∷ ds) (k.Dec (thousandths (c ∷ cs) (d ∷ ds))) (duration_rule (d ∷ ds) (thousandths (c ∷ cs) (d ∷ ds)))
 
 pub data Piece : Type 0 where
@@ -74,16 +76,19 @@ pub data Spells : Bool → List ℕ → Piece → Type 0 where
   return_feed : Spells false (13 ∷ 10 ∷ []) ends_line
   line_comment : {cs : List ℕ} → all_pass in_line cs ≡ true → Spells false (35 ∷ cs) separates
   comment : {cs : List ℕ} → Body cs → is_at cs 0 62 ≡ false → Spells false (60 ∷ 35 ∷ cs) separates
-  name : {hole : Bool} {b : ℕ} {cs : List ℕ} → is_letter b ≡ true → all_pass in_name cs ≡ true → Spells hole (b ∷ cs) (is_token (name_kind (b ∷ cs)))
+  name : {hole : Bool} {b : ℕ} {cs : List ℕ} → is_letter b ≡ true → all_pass in_name cs ≡ true →
+      Spells hole (b ∷ cs) (is_token (name_kind (b ∷ cs)))
   number : {hole : Bool} {cs : List ℕ} {kind : TokenKind} → Number cs kind None → Spells hole cs (is_token kind)
   literal : {hole : Bool} {cs : List ℕ} {c : ℕ} → Literal cs c → Spells hole cs (is_token (k.Char c))
   text : {cs ms : List ℕ} → Chars cs ms → Spells false (34 ∷ (cs ++ 34 ∷ [])) (is_token k.Text)
   text_open : {cs ms : List ℕ} → Chars cs ms → Spells false (34 ∷ (cs ++ 123 ∷ [])) (is_token k.TextOpen)
   text_mid : {cs ms : List ℕ} → Chars cs ms → Spells true (125 ∷ (cs ++ 123 ∷ [])) (is_token k.TextMid)
   text_close : {cs ms : List ℕ} → Chars cs ms → Spells true (125 ∷ (cs ++ 34 ∷ [])) (is_token k.TextClose)
-  double : {hole : Bool} {b c : ℕ} {mark : Mark} → look_up doubles (b ∷ c ∷ []) ≡ Some mark → Spells hole (b ∷ c ∷ []) (is_token (k.Mark mark))
+  double : {hole : Bool} {b c : ℕ} {mark : Mark} → look_up doubles (b ∷ c ∷ []) ≡ Some mark →
+      Spells hole (b ∷ c ∷ []) (is_token (k.Mark mark))
   single : {b : ℕ} {mark : Mark} → look_up singles (b ∷ []) ≡ Some mark → Spells false (b ∷ []) (is_token (k.Mark mark))
-  single_in_hole : {b : ℕ} {mark : Mark} → look_up singles (b ∷ []) ≡ Some mark → (b == 123) ≡ false → (b == 125) ≡ false → Spells true (b ∷ []) (is_token (k.Mark mark))
+  single_in_hole : {b : ℕ} {mark : Mark} → look_up singles (b ∷ []) ≡ Some mark → (b == 123) ≡ false → (b == 125) ≡ false →
+      Spells true (b ∷ []) (is_token (k.Mark mark))
 
 -- what stands behind the characters of a text, and how that ends them
 pub data Stops : List ℕ → Ending → Type 0 where
@@ -105,7 +110,8 @@ pub data MeetsLone : List ℕ → ℕ → Type 0 where
   lone_here : {bs : List ℕ} → is_lone_at bs 0 ≡ true → MeetsLone bs 0
   in_nested : {bs : List ℕ} {count : ℕ} → MeetsLone bs count → MeetsLone (60 ∷ 35 ∷ bs) (2 + count)
   past_nested : {cs ds : List ℕ} {count : ℕ} → Body cs → MeetsLone ds count → MeetsLone (60 ∷ 35 ∷ (cs ++ ds)) (2 + length cs + count)
-  past_byte : {b c : ℕ} {bs : List ℕ} {count : ℕ} → closes b c ≡ false → opens b c ≡ false → is_lone b c ≡ false → MeetsLone (c ∷ bs) count →
+  past_byte : {b c : ℕ} {bs : List ℕ} {count : ℕ} → closes b c ≡ false → opens b c ≡ false → is_lone b c ≡ false →
+      MeetsLone (c ∷ bs) count →
       MeetsLone (b ∷ c ∷ bs) (1 + count)
 
 -- these bytes begin with a backslash that begins no escape
@@ -138,19 +144,26 @@ pub record IsStray (b : ℕ) : Type 0 where
 pub data Breaks : Bool → List ℕ → Rule → ℕ → Type 0 where
   stray : {within : Bool} {b : ℕ} {bs : List ℕ} → IsStray b → Breaks within (b ∷ bs) UNEXPECTED 0
   lone_return : {within : Bool} {bs : List ℕ} → is_lone_at bs 0 ≡ true → Breaks within bs UNEXPECTED 0
-  lone_in_line : (cs ds : List ℕ) → all_pass in_line cs ≡ true → is_lone_at ds 0 ≡ true → Breaks false (35 ∷ (cs ++ ds)) UNEXPECTED (1 + length cs)
-  lone_in_comment : {bs : List ℕ} {count : ℕ} → is_at bs 0 62 ≡ false → MeetsLone bs count → Breaks false (60 ∷ 35 ∷ bs) UNEXPECTED (count + 2)
+  lone_in_line : (cs ds : List ℕ) → all_pass in_line cs ≡ true → is_lone_at ds 0 ≡ true →
+      Breaks false (35 ∷ (cs ++ ds)) UNEXPECTED (1 + length cs)
+  lone_in_comment : {bs : List ℕ} {count : ℕ} → is_at bs 0 62 ≡ false → MeetsLone bs count →
+      Breaks false (60 ∷ 35 ∷ bs) UNEXPECTED (count + 2)
   no_comment : {bs : List ℕ} → Breaks false (60 ∷ 35 ∷ 62 ∷ bs) UNEXPECTED 0
-  letter_behind : {within : Bool} {cs : List ℕ} (ds : List ℕ) {kind : TokenKind} → Number cs kind None → LongestNumber (cs ++ ds) (length cs) → letter_at ds 0 ≡ true →
+  letter_behind : {within : Bool} {cs : List ℕ} (ds : List ℕ) {kind : TokenKind} → Number cs kind None →
+      LongestNumber (cs ++ ds) (length cs) → letter_at ds 0 ≡ true →
       Breaks within (cs ++ ds) UNEXPECTED (length cs)
-  broken_number : {within : Bool} {cs : List ℕ} (ds : List ℕ) {kind : TokenKind} {rule : Rule} → Number cs kind (Some rule) → LongestNumber (cs ++ ds) (length cs) →
+  broken_number : {within : Bool} {cs : List ℕ} (ds : List ℕ) {kind : TokenKind} {rule : Rule} → Number cs kind (Some rule) →
+      LongestNumber (cs ++ ds) (length cs) →
       Breaks within (cs ++ ds) rule 0
   no_literal : {within : Bool} {bs : List ℕ} → NoLiteral (39 ∷ bs) → (NoEscape bs → ⊥) → Breaks within (39 ∷ bs) CHARACTER 0
   literal_escape : {within : Bool} {bs : List ℕ} → escape_of (slice_get bs 0) ≡ None → Breaks within (39 ∷ 92 ∷ bs) ESCAPE 1
-  broken_text : {cs ms ds : List ℕ} {rule : Rule} → Chars cs ms → Stops ds (e.Broken rule 0) → Breaks false (34 ∷ (cs ++ ds)) rule (1 + length cs)
-  broken_part : {cs ms ds : List ℕ} {rule : Rule} → Chars cs ms → Stops ds (e.Broken rule 0) → Breaks true (125 ∷ (cs ++ ds)) rule (1 + length cs)
+  broken_text : {cs ms ds : List ℕ} {rule : Rule} → Chars cs ms → Stops ds (e.Broken rule 0) →
+      Breaks false (34 ∷ (cs ++ ds)) rule (1 + length cs)
+  broken_part : {cs ms ds : List ℕ} {rule : Rule} → Chars cs ms → Stops ds (e.Broken rule 0) →
+      Breaks true (125 ∷ (cs ++ ds)) rule (1 + length cs)
   unended_text : {cs ms ds : List ℕ} → Chars cs ms → Stops ds e.Line → Breaks false (34 ∷ (cs ++ ds)) TEXT_END 0
-  unended_comment : {bs : List ℕ} → is_at bs 0 62 ≡ false → NoBody bs → ((count : ℕ) → MeetsLone bs count → ⊥) → Breaks false (60 ∷ 35 ∷ bs) COMMENT_END 0
+  unended_comment : {bs : List ℕ} → is_at bs 0 62 ≡ false → NoBody bs → ((count : ℕ) → MeetsLone bs count → ⊥) →
+      Breaks false (60 ∷ 35 ∷ bs) COMMENT_END 0
 
 -- where the text round a hole does not end
 pub data Unended : List ℕ → Type 0 where
@@ -201,7 +214,8 @@ EachUnended = (bs : List ℕ) → Unended bs → piece_at true bs ≡ n.HoleEnd
 
 -- at a place at most one rule is broken, at one offset, and none where the text round a hole does not end
 pub record OneBreak : Type 0 where
-  pub one : (within : Bool) (bs : List ℕ) (rule other : Rule) (count offset : ℕ) → Breaks within bs rule count → Breaks within bs other offset →
+  pub one : (within : Bool) (bs : List ℕ) (rule other : Rule) (count offset : ℕ) → Breaks within bs rule count →
+      Breaks within bs other offset →
       (rule ≡ other) × (count ≡ offset)
   pub apart : (bs : List ℕ) (rule : Rule) (count : ℕ) → Breaks true bs rule count → Unended bs → ⊥
 
@@ -243,5 +257,6 @@ TokensSpelled = (file : ℕ) (bs : List ℕ) (ts : List Token) → AreTokens fil
 
 -- the bytes of a text token are what its characters stand for
 abbrev pub TextsMean : Type 0
-TextsMean = (before behind cs ms : List ℕ) (q r : ℕ) (t : Token) → t.start ≡ length before → t.end ≡ length before + length (q ∷ (cs ++ r ∷ [])) → Chars cs ms →
+TextsMean = (before behind cs ms : List ℕ) (q r : ℕ) (t : Token) → t.start ≡ length before →
+    t.end ≡ length before + length (q ∷ (cs ++ r ∷ [])) → Chars cs ms →
     text_of (before ++ ((q ∷ (cs ++ r ∷ [])) ++ behind)) t ≡ ms

@@ -1,7 +1,9 @@
 //! Laws of how tokens are spelled.
 
 ghost use Rattle.verse_lex_laws.specs.Indents.{TokensIndented};
-ghost use Rattle.verse_lex_laws.specs.Spelling.{NoneLonger, EachExplained, EachBroken, EachUnended, OneBreak, SpelledAlone, OnePiece, TokensSpelled, TextsMean};
+ghost use Rattle.verse_lex_laws.specs.Spelling.{NoneLonger, EachExplained, EachBroken, EachUnended};
+ghost use Rattle.verse_lex_laws.specs.Spelling.{OneBreak, SpelledAlone, OnePiece, TokensSpelled};
+ghost use Rattle.verse_lex_laws.specs.Spelling.{TextsMean};
 
 /// Each piece is spelled by its bytes, nothing longer is spelled at its place, and its bytes spell
 /// no other piece. Where no piece goes on, the rule is broken that is answered.

@@ -1,5 +1,6 @@
 -- Each operation keeps that a state belongs to its code.
-use Rattle.std.proofs.Common.{◌≡◌, ℕ, zero, suc, length, ◌+◌, List, [], ◌∷◌, Option, Some, None, Bool, true, false, cond, refl, sym, subst, arith, ap}
+use Rattle.std.proofs.Common.{◌≡◌, ℕ, zero, suc, length, ◌+◌, List, [], ◌∷◌, Option, Some, None, Bool, true, false, cond, refl, sym, subst}
+use Rattle.std.proofs.Common.{arith, ap}
 use Rattle.std.specs.Prelude.{pos, not, slice_get, slice_set, if◌then◌else◌}
 use Rattle.verse_base.specs.declared.places.Place.{Place}
 use Rattle.verse_base.specs.declared.refusals.Kind.{Kind as Error}
@@ -12,25 +13,33 @@ use Rattle.verse_value.specs.Val.{Val, unit, falsity, truth, int, char, enum, ob
 use Rattle.verse_value.specs.Keys.{bytes_of}
 use Rattle.verse_value.specs.Store.{Store}
 use Rattle.verse_value.specs.Answer.{Answer, gives, fails, error, stuck}
-use Rattle.verse_value.specs.Operations.{sum_of, difference_of, product_of, negation_of, floor_of, ceil_of, modulo_of, concat_of, join_of, less_of, at_most_of, greater_of, at_least_of, equal_of, unequal_of, array_of, map_of, tuple_of, option_of, query_of, item_of, at_of, length_of, append_of}
+use Rattle.verse_value.specs.Operations.{sum_of, difference_of, product_of, negation_of, floor_of, ceil_of, modulo_of, concat_of, join_of}
+use Rattle.verse_value.specs.Operations.{less_of, at_most_of, greater_of, at_least_of, equal_of, unequal_of, array_of, map_of, tuple_of}
+use Rattle.verse_value.specs.Operations.{option_of, query_of, item_of, at_of, length_of, append_of}
 use Rattle.verse_value.specs.Storing.{read_slot}
 use Rattle.verse_value.specs.declared.runs.Ending.TheVariants as ending
 use Rattle.verse_state.specs.State.{State, Given, spending, restored}
 use Rattle.verse_state.specs.Waits.{never, done, heard, after, ltn, nth}
-use Rattle.verse_state.specs.Effects.{Effect, still, added, variable_made, object_made, event_made, slot_read, changed, slot_written, text_printed, line_printed, event_of, task_of, signal_sent}
+use Rattle.verse_state.specs.Effects.{Effect, still, added, variable_made, object_made, event_made, slot_read, changed, slot_written}
+use Rattle.verse_state.specs.Effects.{text_printed, line_printed, event_of, task_of, signal_sent}
 use Rattle.verse_machine.specs.Tasks.{Life, Handler, Frame, Note, to, gone, Who, thread, World, Step, Next, Over, machine}
-use Rattle.verse_machine.specs.Frames.{on_top, on_two, on_many, on_there, only_where, put, fits, goes, failing, faulting, answered, answered_to, enters, method_of, free, nothing, kept_defers, kept_noted}
+use Rattle.verse_machine.specs.Frames.{on_top, on_two, on_many, on_there, only_where, put, fits, goes, failing, faulting, answered}
+use Rattle.verse_machine.specs.Frames.{answered_to, enters, method_of, free, nothing, kept_defers, kept_noted}
 use Rattle.verse_machine.specs.Cancelling.{clears_frames}
 use Rattle.verse_machine.specs.Ends.{cleared}
-use Rattle.verse_machine.specs.Acts.{place_at, mode_of, kind_of, paired, Taken, ended, takes, unfit, taken_from, takes_step, on_domain, on_int, awaits, spawns, labels, after_arms, groups, on_noted, on_defer, on_note, frame, unary, binary, collects, leaves, on_handler, act}
+use Rattle.verse_machine.specs.Acts.{place_at, mode_of, kind_of, paired, Taken, ended, takes, unfit, taken_from, takes_step, on_domain}
+use Rattle.verse_machine.specs.Acts.{on_int, awaits, spawns, labels, after_arms, groups, on_noted, on_defer, on_note, frame, unary, binary}
+use Rattle.verse_machine.specs.Acts.{collects, leaves, on_handler, act}
 use Rattle.std.proofs.lemmas.List.{length-set}
 use Rattle.verse_value.specs.Store.{Cell, with_cell, with_slot, with_cell_slot, stored, slot_of}
 use Rattle.verse_value.specs.Storing.{with_written, write_in}
 use Rattle.verse_value.specs.Operations.{write_at}
 use Rattle.verse_value.specs.declared.runs.CellKind.TheVariants as cell
 use Rattle.verse_value.specs.declared.modes.Mode.{Mode}
-use Rattle.verse_machine.specs.Belonging.{class_slots, slots_of, CellBelongs, StoreBelongs, StateBelongs, HandlersBelong, FramesBelong, WorldBelongs}
-use Rattle.verse_machine.proofs.BelongingEnds.{Low, over, others, spending_low, resumes_low, frames_low, next_low, suspends_low, ends_low, returns_low, cleared_low}
+use Rattle.verse_machine.specs.Belonging.{class_slots, slots_of, CellBelongs, StoreBelongs, StateBelongs, HandlersBelong, FramesBelong}
+use Rattle.verse_machine.specs.Belonging.{WorldBelongs}
+use Rattle.verse_machine.proofs.BelongingEnds.{Low, over, others, spending_low, resumes_low, frames_low, next_low, suspends_low, ends_low}
+use Rattle.verse_machine.proofs.BelongingEnds.{returns_low, cleared_low}
 
 module _ (cs : List Class) where
   abbrev pub Keeps : Effect → Type 0

@@ -11,10 +11,16 @@ use Rattle.verse_value.specs.declared.runs.Ending.TheVariants as ending
 use Rattle.verse_state.specs.State.{State, spending, stepped, with_result, drawn}
 use Rattle.verse_state.specs.Waits.{Cause, waiting, has}
 use Rattle.verse_state.specs.Turns.{Kind, all_of, first_of, rush_of}
-use Rattle.verse_machine.specs.Tasks.{Handler, Frame, Role, root, part, Who, Part, did, runs, Rest, asleep, group, Thread, thread, Task, After, resuming, closing, finishing, Up, begins, branching, spawning, clearing, Trees, World, world, Step, Over, Turn, onto, among, planted, starts, waits_of, same_path, since, beneath_arms}
-use Rattle.verse_machine.specs.Cancelling.{inserted, without, world_without, cancelled, on_deferred, clears_frame, clears_frames, clears, cancels, gone_before, gone_behind}
-use Rattle.verse_machine.specs.Ends.{resumes, all_did, first_did, tupled, or_stands, grouped, next_arm, arm_did, rested, suspends, is_run, with_did, joined, climbs, part_ends, root_ends, role_ends, ends_role, ends, returns_role, returns, follows, cleared, is_asleep, woken, woken_in}
-use Rattle.verse_machine.specs.Belonging.{StateBelongs, FrameBelongs, FramesBelong, ThreadBelongs, TasksBelong, TreesBelong, AfterBelongs, UpsBelong, WorldBelongs, StepBelongs}
+use Rattle.verse_machine.specs.Tasks.{Handler, Frame, Role, root, part, Who, Part, did, runs, Rest, asleep, group, Thread, thread, Task}
+use Rattle.verse_machine.specs.Tasks.{After, resuming, closing, finishing, Up, begins, branching, spawning, clearing, Trees, World, world}
+use Rattle.verse_machine.specs.Tasks.{Step, Over, Turn, onto, among, planted, starts, waits_of, same_path, since, beneath_arms}
+use Rattle.verse_machine.specs.Cancelling.{inserted, without, world_without, cancelled, on_deferred, clears_frame, clears_frames, clears}
+use Rattle.verse_machine.specs.Cancelling.{cancels, gone_before, gone_behind}
+use Rattle.verse_machine.specs.Ends.{resumes, all_did, first_did, tupled, or_stands, grouped, next_arm, arm_did, rested, suspends, is_run}
+use Rattle.verse_machine.specs.Ends.{with_did, joined, climbs, part_ends, root_ends, role_ends, ends_role, ends, returns_role, returns}
+use Rattle.verse_machine.specs.Ends.{follows, cleared, is_asleep, woken, woken_in}
+use Rattle.verse_machine.specs.Belonging.{StateBelongs, FrameBelongs, FramesBelong, ThreadBelongs, TasksBelong, TreesBelong, AfterBelongs}
+use Rattle.verse_machine.specs.Belonging.{UpsBelong, WorldBelongs, StepBelongs}
 
 module _ (cs : List Class) where
   abbrev pub Is : State → Type 0

@@ -61,7 +61,8 @@ pub fn join(left: Value, right: Value) -> Result<Value, WriteFault>
 /// A copy of the element of an array, or of the value at a key. `Fail`: the index is outside the
 /// array, or the map lacks the key. `Stuck`: the index doesn't go with the value.
 pub fn element(alloc: Global, v: &Value, index: &Value) -> Result<Value, WriteFault>
-    ensures ok { IfOk result (λ part. at_of (val_of v.now) (val_of index.now) ≡ gives (val_of part)) }
+    ensures ok { IfOk result (λ part. at_of (val_of v.now) (val_of index.now) ≡
+        gives (val_of part)) }
     ensures fault { IfErr result (Explains (result_of (at_of (val_of v.now) (val_of index.now)))) }
 {
     match find(v, index) {

@@ -1,7 +1,8 @@
 -- What evaluation leaves as it was: one line for each part of a form, and cancelling.
 use Rattle.std.proofs.Common.{ℕ, List, [], ◌∷◌, ◌++◌, Option, Some, None, Bool, true, false, refl, sym, subst}
 use Rattle.verse_base.specs.declared.places.Place.{Place}
-use Rattle.verse_tree.specs.Tree.{Bytes, Tree, tree, Shape, Trees, no_trees, more_trees, Holes, no_holes, more_holes, Givens, no_givens, more_givens}
+use Rattle.verse_tree.specs.Tree.{Bytes, Tree, tree, Shape, Trees, no_trees, more_trees, Holes, no_holes, more_holes, Givens, no_givens}
+use Rattle.verse_tree.specs.Tree.{more_givens}
 use Rattle.verse_tree.specs.Tree as t
 use Rattle.verse_tree.specs.declared.exprs.Operator.TheVariants as op
 use Rattle.verse_tree.specs.declared.tables.Ref.{Ref}
@@ -12,13 +13,27 @@ use Rattle.verse_state.specs.Waits.{never, after}
 use Rattle.verse_state.specs.Turns.{Kind, all_of, first_of, rush_of}
 use Rattle.verse_meaning.specs.Programs.{Program, ref_at}
 use Rattle.verse_meaning.specs.Residuals as form
-use Rattle.verse_meaning.specs.Residuals.{Env, Bound, constant, variable, Base, in_variable, in_self, in_object, Form, Binder, no_name, a_constant, a_variable, Generator, Values, Role, part, body, root, Residual, leaf, args, seq, deferred, looped, generated, called, arms, Scope, scope, Scopes, none, also, Arms, no_arms, gave, runs}
-use Rattle.verse_meaning.specs.Outcomes.{World, set_behind, Outcome, value, failed, returned, broke, halted, rests, TaskOutcome, ends, Went, went, quits, on_went_task, finished, not_given, all_gave, first_gave, with_arm}
+use Rattle.verse_meaning.specs.Residuals.{Env, Bound, constant, variable, Base, in_variable, in_self, in_object, Form, Binder, no_name}
+use Rattle.verse_meaning.specs.Residuals.{a_constant, a_variable, Generator, Values, Role, part, body, root, Residual, leaf, args, seq}
+use Rattle.verse_meaning.specs.Residuals.{deferred, looped, generated, called, arms, Scope, scope, Scopes, none, also, Arms, no_arms, gave}
+use Rattle.verse_meaning.specs.Residuals.{runs}
+use Rattle.verse_meaning.specs.Outcomes.{World, set_behind, Outcome, value, failed, returned, broke, halted, rests, TaskOutcome, ends, Went}
+use Rattle.verse_meaning.specs.Outcomes.{went, quits, on_went_task, finished, not_given, all_gave, first_gave, with_arm}
 use Rattle.verse_meaning.specs.Forms.{Deeper, look, this_of, values_of}
-use Rattle.verse_meaning.specs.Evaluating.{Statement, plain, defines, defers, generates, statement_of, Callee, alone, of_object, of_value, of_quotient, no_callee, spawned_callee, mode_of, on_bool, callee_of, base_of, enum_member, class_ref, pattern_fits, cancel_kids, cancel_own, cancel_scope_kids, cancel_scope_own, cancel_behind, cancel_arms, scope_ended, scope_returned, scope_end, or_stands, settled, arm_gave, begins_scope, stated, claused, generates_from, levelled, by_callee, named, member_form, membered, ev, ev_shape, statements, inner, inner_shape, all_args, holed, paired_args, given_args, quotient, quotient_tree, quotient_shape, targets, targets_shape, indices, clauses, level, chosen, arm_of, arm_of_shape, started, spawned, spawned_shape}
+use Rattle.verse_meaning.specs.Evaluating.{Statement, plain, defines, defers, generates, statement_of, Callee, alone, of_object, of_value}
+use Rattle.verse_meaning.specs.Evaluating.{of_quotient, no_callee, spawned_callee, mode_of, on_bool, callee_of, base_of, enum_member}
+use Rattle.verse_meaning.specs.Evaluating.{class_ref, pattern_fits, cancel_kids, cancel_own, cancel_scope_kids, cancel_scope_own}
+use Rattle.verse_meaning.specs.Evaluating.{cancel_behind, cancel_arms, scope_ended, scope_returned, scope_end, or_stands, settled, arm_gave}
+use Rattle.verse_meaning.specs.Evaluating.{begins_scope, stated, claused, generates_from, levelled, by_callee, named, member_form, membered}
+use Rattle.verse_meaning.specs.Evaluating.{ev, ev_shape, statements, inner, inner_shape, all_args, holed, paired_args, given_args, quotient}
+use Rattle.verse_meaning.specs.Evaluating.{quotient_tree, quotient_shape, targets, targets_shape, indices, clauses, level, chosen, arm_of}
+use Rattle.verse_meaning.specs.Evaluating.{arm_of_shape, started, spawned, spawned_shape}
 use Rattle.verse_meaning.specs.Laws.{Grown, Leaves, Apart, Keeps, KeepsTask}
-use Rattle.verse_meaning.proofs.Forms.{DeeperKeeps, still_memory, added_memory, read_bound_keeps, read_slot_keeps, apply_keeps, defined_keeps}
-use Rattle.verse_meaning.proofs.Keeping.{failed_keeps, leaves_same, leaves_then, valued_keeps, attempted_keeps, spends_keeps, there_keeps, known_keeps, told_keeps, outside_keeps, suspended_keeps, KeepsWent, dropped_keeps, went_on_keeps, on_went_keeps, closing_keeps, branch_keeps, armed_keeps, left_leaves}
+use Rattle.verse_meaning.proofs.Forms.{DeeperKeeps, still_memory, added_memory, read_bound_keeps, read_slot_keeps, apply_keeps}
+use Rattle.verse_meaning.proofs.Forms.{defined_keeps}
+use Rattle.verse_meaning.proofs.Keeping.{failed_keeps, leaves_same, leaves_then, valued_keeps, attempted_keeps, spends_keeps, there_keeps}
+use Rattle.verse_meaning.proofs.Keeping.{known_keeps, told_keeps, outside_keeps, suspended_keeps, KeepsWent, dropped_keeps, went_on_keeps}
+use Rattle.verse_meaning.proofs.Keeping.{on_went_keeps, closing_keeps, branch_keeps, armed_keeps, left_leaves}
 
 module _ (p : Program) (k : Deeper) (d : DeeperKeeps k) where
   mutual

@@ -18,9 +18,12 @@ use Rattle.verse_tree.specs.declared.exprs.Operator.TheVariants as op
 use Rattle.verse_tree.specs.declared.exprs.Comparison.TheVariants as cmp
 use Rattle.verse_state.specs.Turns.{waits_in}
 use Rattle.verse_meaning.specs.Programs.{Program}
-use Rattle.verse_meaning.specs.Outcomes.{valued, attempted, turned, dropped, on_went, went_on, on_went_task, closing, call_end, branch_started, task_started, armed, arm_came, arm_before, arms_came, element_came, element_before, behind_came, told, told_plain, if_there, if_known, outside, spends, suspended}
+use Rattle.verse_meaning.specs.Outcomes.{valued, attempted, turned, dropped, on_went, went_on, on_went_task, closing, call_end}
+use Rattle.verse_meaning.specs.Outcomes.{branch_started, task_started, armed, arm_came, arm_before, arms_came, element_came, element_before}
+use Rattle.verse_meaning.specs.Outcomes.{behind_came, told, told_plain, if_there, if_known, outside, spends, suspended}
 use Rattle.verse_meaning.specs.Forms.{defined}
-use Rattle.verse_meaning.specs.Evaluating.{scope_end, or_stands, settled, arm_gave, begins_scope, stated, claused, generates_from, levelled, by_callee, named, membered}
+use Rattle.verse_meaning.specs.Evaluating.{scope_end, or_stands, settled, arm_gave, begins_scope, stated, claused, generates_from, levelled}
+use Rattle.verse_meaning.specs.Evaluating.{by_callee, named, membered}
 use Rattle.verse_meaning.specs.Runs.{forest_leaves, in_env, on_next, main_found, main_spends, after, mean}
 
 at : ℕ → ℕ → Place

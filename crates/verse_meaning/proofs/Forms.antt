@@ -13,14 +13,21 @@ use Rattle.verse_value.specs.Storing.{read_slot, write_slot}
 use Rattle.verse_value.specs.declared.modes.Mode.{Mode}
 use Rattle.verse_state.specs.State.{State, Given}
 use Rattle.verse_state.specs.Waits.{done, heard, nth}
-use Rattle.verse_state.specs.Effects.{Effect, still, added, changed, slot_read, slot_written, text_printed, line_printed, class_of, event_of}
+use Rattle.verse_state.specs.Effects.{Effect, still, added, changed, slot_read, slot_written, text_printed, line_printed, class_of}
+use Rattle.verse_state.specs.Effects.{event_of}
 use Rattle.verse_meaning.specs.Programs.{Program, fields_of}
 use Rattle.verse_meaning.specs.Residuals as form
-use Rattle.verse_meaning.specs.Residuals.{Env, Bound, constant, variable, Base, in_variable, in_self, in_object, Form, Binder, no_name, a_constant, a_variable, Generator, Values, Role, part, body, root, Residual, leaf, args, seq, deferred, looped, generated, called, arms, Scope, scope, Scopes, none, also, Arms, no_arms, gave, runs}
+use Rattle.verse_meaning.specs.Residuals.{Env, Bound, constant, variable, Base, in_variable, in_self, in_object, Form, Binder, no_name}
+use Rattle.verse_meaning.specs.Residuals.{a_constant, a_variable, Generator, Values, Role, part, body, root, Residual, leaf, args, seq}
+use Rattle.verse_meaning.specs.Residuals.{deferred, looped, generated, called, arms, Scope, scope, Scopes, none, also, Arms, no_arms, gave}
+use Rattle.verse_meaning.specs.Residuals.{runs}
 use Rattle.verse_meaning.specs.Outcomes.{World, Outcome, value, failed, returned, broke, halted, rests, told_plain, if_there, suspended}
-use Rattle.verse_meaning.specs.Forms.{Deeper, look, this_of, cell_of, read_bound, read_slot_of, split_last, given_at, written_to, stored, field_filled, filled, method_found, method_called, method_spawned, task_awaited, awaited, signal_told, apply, defined}
+use Rattle.verse_meaning.specs.Forms.{Deeper, look, this_of, cell_of, read_bound, read_slot_of, split_last, given_at, written_to, stored}
+use Rattle.verse_meaning.specs.Forms.{field_filled, filled, method_found, method_called, method_spawned, task_awaited, awaited, signal_told}
+use Rattle.verse_meaning.specs.Forms.{apply, defined}
 use Rattle.verse_meaning.specs.Laws.{Keeps}
-use Rattle.verse_meaning.proofs.Keeping.{grown_same, extends_same, leaves_same, leaves_weak, valued_keeps, there_keeps, known_keeps, Memory, told_keeps, plain_keeps, outside_keeps, suspended_keeps}
+use Rattle.verse_meaning.proofs.Keeping.{grown_same, extends_same, leaves_same, leaves_weak, valued_keeps, there_keeps, known_keeps, Memory}
+use Rattle.verse_meaning.proofs.Keeping.{told_keeps, plain_keeps, outside_keeps, suspended_keeps}
 
 -- effects change the memory alone
 pub still_memory : (w : World) (a : Answer Val) → Memory true w (still a w.state)

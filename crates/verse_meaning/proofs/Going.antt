@@ -8,16 +8,22 @@ use Rattle.verse_state.specs.State.{with_entry}
 use Rattle.verse_state.specs.Waits.{has}
 use Rattle.verse_meaning.specs.Programs.{Program, fun_at}
 use Rattle.verse_meaning.specs.Residuals as form
-use Rattle.verse_meaning.specs.Residuals.{Env, Form, Generator, Values, Role, part, body, root, Residual, leaf, args, seq, deferred, looped, generated, called, arms, Scope, scope, Scopes, none, also, Arms, no_arms, gave, runs, scope_leaves, is_behind}
-use Rattle.verse_meaning.specs.Outcomes.{World, with_state, set_behind, Outcome, value, failed, returned, broke, halted, rests, TaskOutcome, ends, lost, stops, sleeps, BehindOutcome, stays, stops_behind, ArmsOutcome, stand, stops_arms, arm_came, arm_before, arms_came, element_came, element_before, behind_came}
+use Rattle.verse_meaning.specs.Residuals.{Env, Form, Generator, Values, Role, part, body, root, Residual, leaf, args, seq, deferred, looped}
+use Rattle.verse_meaning.specs.Residuals.{generated, called, arms, Scope, scope, Scopes, none, also, Arms, no_arms, gave, runs}
+use Rattle.verse_meaning.specs.Residuals.{scope_leaves, is_behind}
+use Rattle.verse_meaning.specs.Outcomes.{World, with_state, set_behind, Outcome, value, failed, returned, broke, halted, rests, TaskOutcome}
+use Rattle.verse_meaning.specs.Outcomes.{ends, lost, stops, sleeps, BehindOutcome, stays, stops_behind, ArmsOutcome, stand, stops_arms}
+use Rattle.verse_meaning.specs.Outcomes.{arm_came, arm_before, arms_came, element_came, element_before, behind_came}
 use Rattle.verse_meaning.specs.Forms.{Deeper, with_taken, next_value}
 use Rattle.verse_meaning.specs.Evaluating.{on_bool, ev}
 use Rattle.verse_meaning.specs.Resuming.{form_done, operands, taken, resume, resume_scope, resume_behind, resume_arms}
 use Rattle.verse_meaning.specs.Runs.{with_params, with_this, in_env, entered, on_next, deeper}
 use Rattle.verse_meaning.specs.Laws.{Apart, Keeps, KeepsTask}
-use Rattle.verse_meaning.proofs.Keeping.{grown_same, leaves_same, keeps_then, apart_leaves, task_then, valued_keeps, attempted_keeps, turned_keeps, spends_keeps, known_keeps, closing_keeps, call_end_keeps, task_keeps}
+use Rattle.verse_meaning.proofs.Keeping.{grown_same, leaves_same, keeps_then, apart_leaves, task_then, valued_keeps, attempted_keeps}
+use Rattle.verse_meaning.proofs.Keeping.{turned_keeps, spends_keeps, known_keeps, closing_keeps, call_end_keeps, task_keeps}
 use Rattle.verse_meaning.proofs.Forms.{DeeperKeeps, apply_keeps, defined_keeps}
-use Rattle.verse_meaning.proofs.Evaluating.{scope_keeps, quiet_scope, settled_keeps, ev_keeps, statements_keep, clauses_keep, level_keeps, chosen_keeps}
+use Rattle.verse_meaning.proofs.Evaluating.{scope_keeps, quiet_scope, settled_keeps, ev_keeps, statements_keep, clauses_keep, level_keeps}
+use Rattle.verse_meaning.proofs.Evaluating.{chosen_keeps}
 
 env_keeps : (m : Bool) (w : World) (e : Option Env) (go : Env → TaskOutcome) → ((e : Env) → KeepsTask m w (go e)) →
     KeepsTask m w (in_env e w go)

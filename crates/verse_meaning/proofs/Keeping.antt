@@ -7,7 +7,10 @@ use Rattle.verse_state.specs.State.{State, Clock, stepped, restored}
 use Rattle.verse_state.specs.Waits.{Cause}
 use Rattle.verse_state.specs.Effects.{Effect}
 use Rattle.verse_meaning.specs.Residuals.{Env, Residual, Scope, Scopes, none, also, Arms, no_arms, gave, runs, and_then}
-use Rattle.verse_meaning.specs.Outcomes.{World, with_state, leave, Outcome, value, failed, returned, broke, halted, rests, TaskOutcome, ends, lost, stops, sleeps, Went, went, quits, valued, attempted, turned, dropped, on_went, went_on, on_went_task, closing, call_end, branch_started, task_started, armed, told, told_plain, if_there, if_known, outside, spends, suspended, leave_all}
+use Rattle.verse_meaning.specs.Outcomes.{World, with_state, leave, Outcome, value, failed, returned, broke, halted, rests, TaskOutcome}
+use Rattle.verse_meaning.specs.Outcomes.{ends, lost, stops, sleeps, Went, went, quits, valued, attempted, turned, dropped, on_went, went_on}
+use Rattle.verse_meaning.specs.Outcomes.{on_went_task, closing, call_end, branch_started, task_started, armed, told, told_plain, if_there}
+use Rattle.verse_meaning.specs.Outcomes.{if_known, outside, spends, suspended, leave_all}
 use Rattle.verse_meaning.specs.Laws.{Calm, Grown, Extends, Leaves, LeavesClock, Apart, Keeps, KeepsTask}
 
 pub calm_same : {c : Clock} → Calm c c

@@ -6,13 +6,18 @@ use Rattle.verse_state.specs.State.{State}
 use Rattle.verse_state.specs.Waits.{has}
 use Rattle.verse_state.specs.Turns.{Stage, going, closed, broken, amiss, first_of}
 use Rattle.verse_meaning.specs.Programs.{Program}
-use Rattle.verse_meaning.specs.Residuals.{Env, Role, part, body, root, Residual, arms, Arms, Scope, scope, Scopes, none, also, scope_leaves, is_behind}
-use Rattle.verse_meaning.specs.Outcomes.{World, world, set_behind, Halt, fault, out, jammed, wrong, Outcome, value, failed, returned, broke, halted, rests, TaskOutcome, ends, lost, stops, sleeps, BehindOutcome, stays, stops_behind, ArmsOutcome, stand, stops_arms, Went, went, quits, element_came, element_before, behind_came, arms_came, on_went, on_went_task, not_given, attempted, first_gave}
+use Rattle.verse_meaning.specs.Residuals.{Env, Role, part, body, root, Residual, arms, Arms, Scope, scope, Scopes, none, also, scope_leaves}
+use Rattle.verse_meaning.specs.Residuals.{is_behind}
+use Rattle.verse_meaning.specs.Outcomes.{World, world, set_behind, Halt, fault, out, jammed, wrong, Outcome, value, failed, returned, broke}
+use Rattle.verse_meaning.specs.Outcomes.{halted, rests, TaskOutcome, ends, lost, stops, sleeps, BehindOutcome, stays, stops_behind}
+use Rattle.verse_meaning.specs.Outcomes.{ArmsOutcome, stand, stops_arms, Went, went, quits, element_came, element_before, behind_came}
+use Rattle.verse_meaning.specs.Outcomes.{arms_came, on_went, on_went_task, not_given, attempted, first_gave}
 use Rattle.verse_meaning.specs.Forms.{Deeper}
 use Rattle.verse_meaning.specs.Evaluating.{on_bool, scope_end, scope_returned, or_stands, settled, cancel_behind, cancel_arms}
 use Rattle.verse_meaning.specs.Resuming.{resume, resume_scope, resume_behind, resume_arms}
 use Rattle.verse_meaning.specs.Runs.{deeper, Forest, came, ended_by, woken}
-use Rattle.verse_meaning.specs.Laws.{Grown, Extends, Keeps, KeepsTask, by_test, Replaced, Behind, StandsBut, ScopeKeeps, BackgroundStays, AllBut, KeepsForest, ForestStays, RaceKeeps, RaceCancels, FailedContextLeaves, EvaluationKeeps}
+use Rattle.verse_meaning.specs.Laws.{Grown, Extends, Keeps, KeepsTask, by_test, Replaced, Behind, StandsBut, ScopeKeeps, BackgroundStays}
+use Rattle.verse_meaning.specs.Laws.{AllBut, KeepsForest, ForestStays, RaceKeeps, RaceCancels, FailedContextLeaves, EvaluationKeeps}
 use Rattle.verse_meaning.proofs.Keeping.{KeepsWent}
 use Rattle.verse_meaning.proofs.Forms.{DeeperKeeps}
 use Rattle.verse_meaning.proofs.Evaluating.{arms_keep, scope_keeps, ev_keeps, statements_keep}

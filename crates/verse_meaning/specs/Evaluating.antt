@@ -1,7 +1,8 @@
 -- What each form means: one case for each.
 use Rattle.std.specs.Prelude.{ℕ, zero, suc, neg_ℤ, List, [], ◌∷◌, ◌++◌, Option, Some, None, Bool, true, false, cond}
 use Rattle.verse_base.specs.declared.places.Place.{Place}
-use Rattle.verse_tree.specs.Tree.{Bytes, Tree, tree, Shape, Trees, no_trees, more_trees, Holes, no_holes, more_holes, Givens, no_givens, more_givens}
+use Rattle.verse_tree.specs.Tree.{Bytes, Tree, tree, Shape, Trees, no_trees, more_trees, Holes, no_holes, more_holes, Givens, no_givens}
+use Rattle.verse_tree.specs.Tree.{more_givens}
 use Rattle.verse_tree.specs.Tree as t
 use Rattle.verse_tree.specs.declared.exprs.Assign.{Assign}
 use Rattle.verse_tree.specs.declared.exprs.Assign.TheVariants as assign
@@ -16,10 +17,17 @@ use Rattle.verse_value.specs.declared.modes.Mode.TheVariants as mode
 use Rattle.verse_state.specs.Waits.{never, after}
 use Rattle.verse_state.specs.Turns.{Kind, all_of, first_of, rush_of}
 use Rattle.verse_state.specs.Effects.{still, event_made}
-use Rattle.verse_meaning.specs.Programs.{Program, same_name, ref_at, enum_value, pattern_value, trees_list, holes_list, pieces, pairs_list, givens_list, given_names}
+use Rattle.verse_meaning.specs.Programs.{Program, same_name, ref_at, enum_value, pattern_value, trees_list, holes_list, pieces, pairs_list}
+use Rattle.verse_meaning.specs.Programs.{givens_list, given_names}
 use Rattle.verse_meaning.specs.Residuals as form
-use Rattle.verse_meaning.specs.Residuals.{Env, Bound, constant, variable, Base, in_variable, in_self, in_object, Form, Binder, no_name, a_constant, a_variable, Generator, of_elements, of_entries, of_range, Values, Role, part, body, root, Residual, leaf, args, seq, deferred, looped, generated, called, arms, Scope, scope, Scopes, none, also, Arms, no_arms, gave, runs}
-use Rattle.verse_meaning.specs.Outcomes.{World, set_behind, Outcome, value, failed, returned, broke, halted, rests, TaskOutcome, ends, stops, sleeps, Went, went, wrong, valued, attempted, dropped, on_went, went_on, on_went_task, closing, branch_started, armed, told, if_there, if_known, outside, spends, suspended, finished, not_given, all_gave, first_gave, leave_all, with_arm}
+use Rattle.verse_meaning.specs.Residuals.{Env, Bound, constant, variable, Base, in_variable, in_self, in_object, Form, Binder, no_name}
+use Rattle.verse_meaning.specs.Residuals.{a_constant, a_variable, Generator, of_elements, of_entries, of_range, Values, Role, part, body}
+use Rattle.verse_meaning.specs.Residuals.{root, Residual, leaf, args, seq, deferred, looped, generated, called, arms, Scope, scope, Scopes}
+use Rattle.verse_meaning.specs.Residuals.{none, also, Arms, no_arms, gave, runs}
+use Rattle.verse_meaning.specs.Outcomes.{World, set_behind, Outcome, value, failed, returned, broke, halted, rests, TaskOutcome, ends}
+use Rattle.verse_meaning.specs.Outcomes.{stops, sleeps, Went, went, wrong, valued, attempted, dropped, on_went, went_on, on_went_task}
+use Rattle.verse_meaning.specs.Outcomes.{closing, branch_started, armed, told, if_there, if_known, outside, spends, suspended, finished}
+use Rattle.verse_meaning.specs.Outcomes.{not_given, all_gave, first_gave, leave_all, with_arm}
 use Rattle.verse_meaning.specs.Forms.{Deeper, look, this_of, read_bound, read_slot_of, with_taken, values_of, apply, defined}
 
 -- what a statement is, seen from the block or the conditions in which it stands

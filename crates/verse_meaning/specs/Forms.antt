@@ -8,18 +8,25 @@ use Rattle.verse_tree.specs.declared.exprs.Comparison.{Comparison}
 use Rattle.verse_tree.specs.declared.exprs.Comparison.TheVariants as c
 use Rattle.verse_tree.specs.declared.exprs.Operator.{Operator}
 use Rattle.verse_tree.specs.declared.exprs.Operator.TheVariants as op
-use Rattle.verse_value.specs.Val.{Val, Vals, no_vals, more_vals, Pairs, no_pairs, more_pairs, unit, int, object, task, array, mapping, tuple}
+use Rattle.verse_value.specs.Val.{Val, Vals, no_vals, more_vals, Pairs, no_pairs, more_pairs, unit, int, object, task, array, mapping}
+use Rattle.verse_value.specs.Val.{tuple}
 use Rattle.verse_value.specs.Keys.{key_val}
 use Rattle.verse_value.specs.Answer.{Answer, gives, stuck}
-use Rattle.verse_value.specs.Operations.{text_val, sum_of, difference_of, product_of, negation_of, floor_of, ceil_of, modulo_of, concat_of, join_of, less_of, at_most_of, greater_of, at_least_of, equal_of, unequal_of, array_of, map_of, tuple_of, query_of, item_of, at_of, length_of, append_of}
+use Rattle.verse_value.specs.Operations.{text_val, sum_of, difference_of, product_of, negation_of, floor_of, ceil_of, modulo_of, concat_of}
+use Rattle.verse_value.specs.Operations.{join_of, less_of, at_most_of, greater_of, at_least_of, equal_of, unequal_of, array_of, map_of}
+use Rattle.verse_value.specs.Operations.{tuple_of, query_of, item_of, at_of, length_of, append_of}
 use Rattle.verse_value.specs.declared.modes.Mode.{Mode}
 use Rattle.verse_state.specs.State.{Given}
 use Rattle.verse_state.specs.Waits.{done, heard, nth}
-use Rattle.verse_state.specs.Effects.{still, variable_made, object_made, slot_read, slot_written, line_printed, class_of, event_of, signal_sent}
+use Rattle.verse_state.specs.Effects.{still, variable_made, object_made, slot_read, slot_written, line_printed, class_of, event_of}
+use Rattle.verse_state.specs.Effects.{signal_sent}
 use Rattle.verse_meaning.specs.Programs.{Program, same_name, method_at, fields_of}
 use Rattle.verse_meaning.specs.Residuals as form
-use Rattle.verse_meaning.specs.Residuals.{Env, Binding, Bound, constant, variable, Base, in_variable, in_self, in_object, Form, Binder, no_name, a_constant, a_variable, Generator, of_elements, of_entries, of_range, Values, listed, between, Residual}
-use Rattle.verse_meaning.specs.Outcomes.{World, Outcome, value, returned, halted, wrong, jammed, valued, told, told_plain, if_there, if_known, outside, suspended}
+use Rattle.verse_meaning.specs.Residuals.{Env, Binding, Bound, constant, variable, Base, in_variable, in_self, in_object, Form, Binder}
+use Rattle.verse_meaning.specs.Residuals.{no_name, a_constant, a_variable, Generator, of_elements, of_entries, of_range, Values, listed}
+use Rattle.verse_meaning.specs.Residuals.{between, Residual}
+use Rattle.verse_meaning.specs.Outcomes.{World, Outcome, value, returned, halted, wrong, jammed, valued, told, told_plain, if_there}
+use Rattle.verse_meaning.specs.Outcomes.{if_known, outside, suspended}
 
 -- what is begun by a step: other trees, and other turns of one's own
 pub record Deeper : Type 0 where

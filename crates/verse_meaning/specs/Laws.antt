@@ -8,7 +8,8 @@ use Rattle.verse_state.specs.Waits.{has}
 use Rattle.verse_state.specs.Turns.{Stage, going, closed, broken, amiss, first_of}
 use Rattle.verse_meaning.specs.Programs.{Program}
 use Rattle.verse_meaning.specs.Residuals.{Env, Role, Residual, arms, Arms, Scope, scope, Scopes, none, also, scope_leaves, is_behind}
-use Rattle.verse_meaning.specs.Outcomes.{World, with_state, Outcome, value, failed, returned, broke, halted, rests, TaskOutcome, ends, lost, stops, sleeps, attempted, first_gave}
+use Rattle.verse_meaning.specs.Outcomes.{World, with_state, Outcome, value, failed, returned, broke, halted, rests, TaskOutcome, ends, lost}
+use Rattle.verse_meaning.specs.Outcomes.{stops, sleeps, attempted, first_gave}
 use Rattle.verse_meaning.specs.Evaluating.{ev, statements}
 use Rattle.verse_meaning.specs.Resuming.{resume, resume_scope}
 use Rattle.verse_meaning.specs.Runs.{deeper, Forest, woken}

@@ -7,7 +7,8 @@ use Rattle.verse_value.specs.Answer.{gives, fails, error, stuck}
 use Rattle.verse_state.specs.State.{State, spending, restored, with_result, drawn}
 use Rattle.verse_state.specs.Waits.{Cause, waiting}
 use Rattle.verse_state.specs.Effects.{Effect}
-use Rattle.verse_meaning.specs.Residuals.{Env, Role, part, body, root, Residual, leaf, called, Scope, scope, Scopes, also, Arms, no_arms, gave, runs, and_then}
+use Rattle.verse_meaning.specs.Residuals.{Env, Role, part, body, root, Residual, leaf, called, Scope, scope, Scopes, also, Arms, no_arms}
+use Rattle.verse_meaning.specs.Residuals.{gave, runs, and_then}
 
 -- the state, with what is in the background of the innermost task scope, and the tasks of the forest that are behind this one
 pub record World : Type 0 where

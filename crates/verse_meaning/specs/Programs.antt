@@ -1,8 +1,10 @@
 -- A program as its meaning sees it: the items of its files, and what its names stand for.
 use Rattle.std.specs.Prelude.{ℕ, zero, suc, ◌==◌, List, [], ◌∷◌, ◌++◌, length, Option, Some, None, Bool, true, false, cond, slice_get, map}
-use Rattle.verse_tree.specs.Tree.{Bytes, Tree, tree, Shape, Trees, no_trees, more_trees, Holes, no_holes, more_holes, Givens, no_givens, more_givens}
+use Rattle.verse_tree.specs.Tree.{Bytes, Tree, tree, Shape, Trees, no_trees, more_trees, Holes, no_holes, more_holes, Givens, no_givens}
+use Rattle.verse_tree.specs.Tree.{more_givens}
 use Rattle.verse_tree.specs.Tree as t
-use Rattle.verse_tree.specs.ItemTree.{EnumTree, FieldTree, FunTree, MemberTree, field, method, ClassTree, ItemTree, using, enumeration, class, function}
+use Rattle.verse_tree.specs.ItemTree.{EnumTree, FieldTree, FunTree, MemberTree, field, method, ClassTree, ItemTree, using, enumeration}
+use Rattle.verse_tree.specs.ItemTree.{class, function}
 use Rattle.verse_tree.specs.ItemView.{item_of}
 use Rattle.verse_tree.specs.declared.tables.FunInfo.{FunInfo}
 use Rattle.verse_tree.specs.declared.tables.ClassInfo.{ClassInfo}

@@ -6,8 +6,11 @@ use Rattle.verse_value.specs.Val.{Val, unit}
 use Rattle.verse_state.specs.Waits.{has}
 use Rattle.verse_meaning.specs.Programs.{Program}
 use Rattle.verse_meaning.specs.Residuals as form
-use Rattle.verse_meaning.specs.Residuals.{Env, Form, Generator, Residual, leaf, args, seq, deferred, looped, generated, called, arms, Scope, scope, Scopes, none, also, Arms, no_arms, gave, runs, scope_leaves, is_behind}
-use Rattle.verse_meaning.specs.Outcomes.{World, set_behind, Outcome, value, TaskOutcome, BehindOutcome, stays, ArmsOutcome, stops_arms, wrong, valued, attempted, turned, closing, call_end, arm_came, arm_before, arms_came, element_came, element_before, behind_came}
+use Rattle.verse_meaning.specs.Residuals.{Env, Form, Generator, Residual, leaf, args, seq, deferred, looped, generated, called, arms, Scope}
+use Rattle.verse_meaning.specs.Residuals.{scope, Scopes, none, also, Arms, no_arms, gave, runs, scope_leaves, is_behind}
+use Rattle.verse_meaning.specs.Outcomes.{World, set_behind, Outcome, value, TaskOutcome, BehindOutcome, stays, ArmsOutcome, stops_arms}
+use Rattle.verse_meaning.specs.Outcomes.{wrong, valued, attempted, turned, closing, call_end, arm_came, arm_before, arms_came, element_came}
+use Rattle.verse_meaning.specs.Outcomes.{element_before, behind_came}
 use Rattle.verse_meaning.specs.Forms.{Deeper, with_taken, apply, defined}
 use Rattle.verse_meaning.specs.Evaluating.{on_bool, scope_end, settled, ev, statements, clauses, level, chosen}
 

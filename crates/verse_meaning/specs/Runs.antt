@@ -9,7 +9,8 @@ use Rattle.verse_state.specs.Waits.{Wait, has}
 use Rattle.verse_state.specs.Turns.{Stage, going, broken, amiss, turn, turns, run_of}
 use Rattle.verse_meaning.specs.Programs.{Program, fun_at, main_in}
 use Rattle.verse_meaning.specs.Residuals.{Env, constant, Values, Role, body, root, Scope, none, scope_leaves}
-use Rattle.verse_meaning.specs.Outcomes.{World, world, with_state, set_behind, Halt, fault, out, jammed, wrong, Outcome, value, halted, TaskOutcome, ends, lost, stops, sleeps, valued, turned, call_end, task_started, if_known, spends}
+use Rattle.verse_meaning.specs.Outcomes.{World, world, with_state, set_behind, Halt, fault, out, jammed, wrong, Outcome, value, halted}
+use Rattle.verse_meaning.specs.Outcomes.{TaskOutcome, ends, lost, stops, sleeps, valued, turned, call_end, task_started, if_known, spends}
 use Rattle.verse_meaning.specs.Forms.{Deeper, bound_to, this_name, next_value}
 use Rattle.verse_meaning.specs.Evaluating.{on_bool, scope_end, ev}
 use Rattle.verse_meaning.specs.Resuming.{resume_scope}

@@ -15,7 +15,8 @@ use Rattle.verse_names.specs.Breaking.{NamesBreak, IsMisnamed}
 names_listed : (is : List ItemTree) (n c : ℕ) → NamesBreak is n c → IsSome (rule_text_of c)
 names_listed is n c (inl b) =
     broken_code (λ c. IsSome (rule_text_of c)) items.number_of (items.keep_fault (known is)) (items.Breaks (known is))
-    (λ v s c h. held_code (λ c. IsSome (rule_text_of c)) (items_rules.rules_at (known is) v.subject) c (refl, (refl, (refl, (refl, (refl, (refl, tt)))))) h)
+    (λ v s c h. held_code (λ c. IsSome (rule_text_of c)) (items_rules.rules_at (known is) v.subject) c
+    (refl, (refl, (refl, (refl, (refl, (refl, tt)))))) h)
     (items.program_declared (known is) is) None n c b
 names_listed is n c (inr b) =
     broken_code (λ c. IsSome (rule_text_of c)) bodies.number_of bodies.keep_fault bodies.Breaks

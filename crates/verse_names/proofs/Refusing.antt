@@ -22,7 +22,8 @@ placed_both is (Some f) (Some g) h k = by (is_before f g)
     by true = h
     by false = k
 
-pub misnamed : {T : Type 0} (is : List ItemTree) (o p : Option Fault) (f : Fault) (q r : Refusal) → Leads (ItemsBreak is) o → IsPlaced is o → Leads (BodiesBreak is) p → IsPlaced is p →
+pub misnamed : {T : Type 0} (is : List ItemTree) (o p : Option Fault) (f : Fault) (q r : Refusal) → Leads (ItemsBreak is) o →
+    IsPlaced is o → Leads (BodiesBreak is) p → IsPlaced is p →
     less_of o p ≡ Some f → q ≡ refusal_of f → IsErrOf {T = T} (Err (front.Refused q)) (front.Refused r) → IsMisnamed is r
 misnamed is o p f q r items items_placed bodies bodies_placed e told answered = record {
   fault = f;

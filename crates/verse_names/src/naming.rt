@@ -35,9 +35,11 @@ pub struct Named {
 pub fn name_program(alloc: Global, tree: &Tree) -> Result<Named, Front>
     requires numbered { IsNumbered (map item_of tree.now.items) tree.now.nodes }
     ensures tables { IfOk result (λ n. tables_of n.tables ≡ tables (map item_of tree.now.items)) }
-    ensures refs { IfOk result (λ n. n.refs ≡ map ref_of (program_visits (map item_of tree.now.items))) }
+    ensures refs { IfOk result (λ n. n.refs ≡
+        map ref_of (program_visits (map item_of tree.now.items))) }
     ensures fine { IfOk result (λ _. (n c : ℕ) → NamesBreak (map item_of tree.now.items) n c → ⊥) }
-    ensures refused { (r : Refusal) → IsErrOf result (front.Refused r) → IsMisnamed (map item_of tree.now.items) r }
+    ensures refused { (r : Refusal) → IsErrOf result (front.Refused r) →
+        IsMisnamed (map item_of tree.now.items) r }
 {
     let known = know(alloc, tree.items.as_slice())?;
     let scoped = name_bodies(alloc, &known, tree)?;

@@ -16,7 +16,8 @@ use verse_tree::names::Name;
 
 /// `for`
 pub fn for_form(alloc: Global, place: Place, clauses: Trees, body: Tree) -> Result<Tree, Memory>
-    ensures { IfOk result (λ r. tree_of r ≡ tree 0 place (t.Shape.for_form (trees (map tree_of clauses)) (tree_of body))) }
+    ensures { IfOk result (λ r. tree_of r ≡
+        tree 0 place (t.Shape.for_form (trees (map tree_of clauses)) (tree_of body))) }
 {
     node(alloc, place, Form::For(taking(clauses, body)))
 }
@@ -44,28 +45,32 @@ pub fn branch(alloc: Global, place: Place, body: Tree) -> Result<Tree, Memory>
 
 /// `sync`
 pub fn sync(alloc: Global, place: Place, arms: Trees) -> Result<Tree, Memory>
-    ensures { IfOk result (λ r. tree_of r ≡ tree 0 place (t.Shape.sync (trees (map tree_of arms)))) }
+    ensures { IfOk result (λ r. tree_of r ≡
+        tree 0 place (t.Shape.sync (trees (map tree_of arms)))) }
 {
     node(alloc, place, Form::Sync(arms.into_items()))
 }
 
 /// `race`
 pub fn race(alloc: Global, place: Place, arms: Trees) -> Result<Tree, Memory>
-    ensures { IfOk result (λ r. tree_of r ≡ tree 0 place (t.Shape.race (trees (map tree_of arms)))) }
+    ensures { IfOk result (λ r. tree_of r ≡
+        tree 0 place (t.Shape.race (trees (map tree_of arms)))) }
 {
     node(alloc, place, Form::Race(arms.into_items()))
 }
 
 /// `rush`
 pub fn rush(alloc: Global, place: Place, arms: Trees) -> Result<Tree, Memory>
-    ensures { IfOk result (λ r. tree_of r ≡ tree 0 place (t.Shape.rush (trees (map tree_of arms)))) }
+    ensures { IfOk result (λ r. tree_of r ≡
+        tree 0 place (t.Shape.rush (trees (map tree_of arms)))) }
 {
     node(alloc, place, Form::Rush(arms.into_items()))
 }
 
 /// `case`
 pub fn cases(alloc: Global, place: Place, subject: Tree, arms: Trees) -> Result<Tree, Memory>
-    ensures { IfOk result (λ r. tree_of r ≡ tree 0 place (t.Shape.cases (tree_of subject) (trees (map tree_of arms)))) }
+    ensures { IfOk result (λ r. tree_of r ≡
+        tree 0 place (t.Shape.cases (tree_of subject) (trees (map tree_of arms)))) }
 {
     node(alloc, place, Form::Case(choosing(subject, arms)))
 }
@@ -106,14 +111,16 @@ pub fn entries(
     value: Name,
     domain: Tree,
 ) -> Result<Tree, Memory>
-    ensures { IfOk result (λ r. tree_of r ≡ tree 0 place (t.Shape.entries key value (tree_of domain))) }
+    ensures { IfOk result (λ r. tree_of r ≡
+        tree 0 place (t.Shape.entries key value (tree_of domain))) }
 {
     node(alloc, place, Form::Entries(key, value, domain.into_boxed()))
 }
 
 /// `I := L..H`
 pub fn range(alloc: Global, place: Place, name: Name, low: Tree, high: Tree) -> Result<Tree, Memory>
-    ensures { IfOk result (λ r. tree_of r ≡ tree 0 place (t.Shape.range name (tree_of low) (tree_of high))) }
+    ensures { IfOk result (λ r. tree_of r ≡
+        tree 0 place (t.Shape.range name (tree_of low) (tree_of high))) }
 {
     node(alloc, place, Form::Range(name, two(low, high)))
 }

@@ -3,7 +3,8 @@
 ghost use Rattle.std.specs.Prelude.{◌≡◌, IfOk, map};
 ghost use Rattle.verse_tree.specs.Tree.{tree};
 ghost use Rattle.verse_tree.specs.Tree as t;
-ghost use Rattle.verse_tree.specs.View.{tree_of, trees, holes, pairs, givens, hole_of, pair_of, given_of, event_shape};
+ghost use Rattle.verse_tree.specs.View.{tree_of, trees, holes, pairs, givens, hole_of, pair_of};
+ghost use Rattle.verse_tree.specs.View.{given_of, event_shape};
 
 use crate::parts::optional;
 use std::alloc::Global;
@@ -39,7 +40,8 @@ pub fn text(alloc: Global, place: Place, bytes: Text) -> Result<Tree, Memory>
 
 /// A text with holes.
 pub fn text_holes(alloc: Global, place: Place, bytes: Text, parts: Holes) -> Result<Tree, Memory>
-    ensures { IfOk result (λ r. tree_of r ≡ tree 0 place (t.Shape.holes bytes (holes (map hole_of parts)))) }
+    ensures { IfOk result (λ r. tree_of r ≡
+        tree 0 place (t.Shape.holes bytes (holes (map hole_of parts)))) }
 {
     node(alloc, place, Form::Holes(bytes, parts.into_items()))
 }
@@ -74,42 +76,48 @@ pub fn name_alone(alloc: Global, place: Place, name: Name) -> Result<Tree, Memor
 
 /// Expressions in round brackets.
 pub fn tuple(alloc: Global, place: Place, parts: Trees) -> Result<Tree, Memory>
-    ensures { IfOk result (λ r. tree_of r ≡ tree 0 place (t.Shape.tuple (trees (map tree_of parts)))) }
+    ensures { IfOk result (λ r. tree_of r ≡
+        tree 0 place (t.Shape.tuple (trees (map tree_of parts)))) }
 {
     node(alloc, place, Form::Tuple(parts.into_items()))
 }
 
 /// `array{..}`
 pub fn array(alloc: Global, place: Place, parts: Trees) -> Result<Tree, Memory>
-    ensures { IfOk result (λ r. tree_of r ≡ tree 0 place (t.Shape.array (trees (map tree_of parts)))) }
+    ensures { IfOk result (λ r. tree_of r ≡
+        tree 0 place (t.Shape.array (trees (map tree_of parts)))) }
 {
     node(alloc, place, Form::Array(parts.into_items()))
 }
 
 /// `map{..}`
 pub fn mapping(alloc: Global, place: Place, parts: Pairs) -> Result<Tree, Memory>
-    ensures { IfOk result (λ r. tree_of r ≡ tree 0 place (t.Shape.mapping (pairs (map pair_of parts)))) }
+    ensures { IfOk result (λ r. tree_of r ≡
+        tree 0 place (t.Shape.mapping (pairs (map pair_of parts)))) }
 {
     node(alloc, place, Form::Map(parts.into_items()))
 }
 
 /// `option{..}`
 pub fn option(alloc: Global, place: Place, parts: Trees) -> Result<Tree, Memory>
-    ensures { IfOk result (λ r. tree_of r ≡ tree 0 place (t.Shape.option (trees (map tree_of parts)))) }
+    ensures { IfOk result (λ r. tree_of r ≡
+        tree 0 place (t.Shape.option (trees (map tree_of parts)))) }
 {
     node(alloc, place, Form::Option(parts.into_items()))
 }
 
 /// `logic{..}`
 pub fn logic(alloc: Global, place: Place, parts: Trees) -> Result<Tree, Memory>
-    ensures { IfOk result (λ r. tree_of r ≡ tree 0 place (t.Shape.logic (trees (map tree_of parts)))) }
+    ensures { IfOk result (λ r. tree_of r ≡
+        tree 0 place (t.Shape.logic (trees (map tree_of parts)))) }
 {
     node(alloc, place, Form::Logic(parts.into_items()))
 }
 
 /// `c{F := E}`
 pub fn instance(alloc: Global, place: Place, name: Name, parts: Givens) -> Result<Tree, Memory>
-    ensures { IfOk result (λ r. tree_of r ≡ tree 0 place (t.Shape.instance name (givens (map given_of parts)))) }
+    ensures { IfOk result (λ r. tree_of r ≡
+        tree 0 place (t.Shape.instance name (givens (map given_of parts)))) }
 {
     node(alloc, place, Form::Instance(name, parts.into_items()))
 }

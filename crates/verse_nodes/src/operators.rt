@@ -22,7 +22,8 @@ pub fn chained(
     left: Tree,
     right: Tree,
 ) -> Result<Tree, Memory>
-    ensures { IfOk result (λ r. tree_of r ≡ tree 0 place (t.Shape.chained operator (tree_of left) (tree_of right))) }
+    ensures { IfOk result (λ r. tree_of r ≡
+        tree 0 place (t.Shape.chained operator (tree_of left) (tree_of right))) }
 {
     node(alloc, place, Form::Chain(operator, two(left, right)))
 }
@@ -35,7 +36,8 @@ pub fn compared(
     left: Tree,
     right: Tree,
 ) -> Result<Tree, Memory>
-    ensures { IfOk result (λ r. tree_of r ≡ tree 0 place (t.Shape.compared comparison (tree_of left) (tree_of right))) }
+    ensures { IfOk result (λ r. tree_of r ≡
+        tree 0 place (t.Shape.compared comparison (tree_of left) (tree_of right))) }
 {
     node(alloc, place, Form::Compare(comparison, two(left, right)))
 }
@@ -56,14 +58,16 @@ pub fn minus(alloc: Global, place: Place, operand: Tree) -> Result<Tree, Memory>
 
 /// `E(F, G)`
 pub fn call(alloc: Global, place: Place, callee: Tree, args: Trees) -> Result<Tree, Memory>
-    ensures { IfOk result (λ r. tree_of r ≡ tree 0 place (t.Shape.call (tree_of callee) (trees (map tree_of args)))) }
+    ensures { IfOk result (λ r. tree_of r ≡
+        tree 0 place (t.Shape.call (tree_of callee) (trees (map tree_of args)))) }
 {
     node(alloc, place, Form::Call(applied(callee, args)))
 }
 
 /// `E[F, G]`
 pub fn index(alloc: Global, place: Place, callee: Tree, args: Trees) -> Result<Tree, Memory>
-    ensures { IfOk result (λ r. tree_of r ≡ tree 0 place (t.Shape.index (tree_of callee) (trees (map tree_of args)))) }
+    ensures { IfOk result (λ r. tree_of r ≡
+        tree 0 place (t.Shape.index (tree_of callee) (trees (map tree_of args)))) }
 {
     node(alloc, place, Form::Index(applied(callee, args)))
 }

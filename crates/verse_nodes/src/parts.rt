@@ -2,7 +2,8 @@
 
 ghost use Rattle.std.specs.Prelude.{◌≡◌, None, Some, map};
 ghost use Rattle.std.specs.Option.{option_map};
-ghost use Rattle.verse_tree.specs.View.{tree_of, written_of, shape_of, return_shape, applied_of, cases_of, if_of, for_of, two_of, typed_value_of};
+ghost use Rattle.verse_tree.specs.View.{tree_of, written_of, shape_of, return_shape, applied_of};
+ghost use Rattle.verse_tree.specs.View.{cases_of, if_of, for_of, two_of, typed_value_of};
 
 use sqlite_items::Boxed;
 use verse_handles::trees::{Tree, Trees};
@@ -32,7 +33,12 @@ pub fn with_type(ty: Written, value: Tree) -> TypedValue
 
 /// The parts of an `if` with an other part.
 pub fn alternative(conditions: Trees, taken: Tree, otherwise: Tree) -> IfParts
-    ensures { if_of result ≡ record { conditions = map tree_of conditions; taken = tree_of taken; otherwise = Some (tree_of otherwise) } }
+    ensures { if_of result ≡ record {
+      conditions = map tree_of conditions;
+      taken =
+          tree_of taken;
+      otherwise = Some (tree_of otherwise);
+    } }
 {
     IfParts {
         conditions: conditions.into_items(),
@@ -43,7 +49,12 @@ pub fn alternative(conditions: Trees, taken: Tree, otherwise: Tree) -> IfParts
 
 /// The parts of an `if` without one.
 pub fn single(conditions: Trees, taken: Tree) -> IfParts
-    ensures { if_of result ≡ record { conditions = map tree_of conditions; taken = tree_of taken; otherwise = None } }
+    ensures { if_of result ≡ record {
+      conditions = map tree_of conditions;
+      taken =
+          tree_of taken;
+      otherwise = None;
+    } }
 {
     IfParts {
         conditions: conditions.into_items(),

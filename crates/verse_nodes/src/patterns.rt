@@ -16,7 +16,8 @@ use verse_tree::names::{Name, Text};
 
 /// `P => E`
 pub fn arm(alloc: Global, place: Place, pattern: Tree, body: Tree) -> Result<Tree, Memory>
-    ensures { IfOk result (λ r. tree_of r ≡ tree 0 place (t.Shape.arm (tree_of pattern) (tree_of body))) }
+    ensures { IfOk result (λ r. tree_of r ≡
+        tree 0 place (t.Shape.arm (tree_of pattern) (tree_of body))) }
 {
     node(alloc, place, Form::Arm(two(pattern, body)))
 }

@@ -17,7 +17,8 @@ use verse_tree::names::Name;
 
 /// Statements between Open and Close.
 pub fn block(alloc: Global, place: Place, parts: Trees) -> Result<Tree, Memory>
-    ensures { IfOk result (λ r. tree_of r ≡ tree 0 place (t.Shape.block (trees (map tree_of parts)))) }
+    ensures { IfOk result (λ r. tree_of r ≡
+        tree 0 place (t.Shape.block (trees (map tree_of parts)))) }
 {
     node(alloc, place, Form::Block(parts.into_items()))
 }
@@ -31,7 +32,8 @@ pub fn defer(alloc: Global, place: Place, body: Tree) -> Result<Tree, Memory>
 
 /// `X := E`
 pub fn definition(alloc: Global, place: Place, name: Name, value: Tree) -> Result<Tree, Memory>
-    ensures { IfOk result (λ r. tree_of r ≡ tree 0 place (t.Shape.definition name (tree_of value))) }
+    ensures { IfOk result (λ r. tree_of r ≡
+        tree 0 place (t.Shape.definition name (tree_of value))) }
 {
     node(alloc, place, Form::Let(name, value.into_boxed()))
 }
@@ -44,7 +46,8 @@ pub fn typed(
     ty: Written,
     value: Tree,
 ) -> Result<Tree, Memory>
-    ensures { IfOk result (λ r. tree_of r ≡ tree 0 place (t.Shape.typed name (written_of ty) (tree_of value))) }
+    ensures { IfOk result (λ r. tree_of r ≡
+        tree 0 place (t.Shape.typed name (written_of ty) (tree_of value))) }
 {
     node(alloc, place, Form::Def(name, with_type(ty, value)))
 }
@@ -57,7 +60,8 @@ pub fn variable(
     ty: Written,
     value: Tree,
 ) -> Result<Tree, Memory>
-    ensures { IfOk result (λ r. tree_of r ≡ tree 0 place (t.Shape.variable name (written_of ty) (tree_of value))) }
+    ensures { IfOk result (λ r. tree_of r ≡
+        tree 0 place (t.Shape.variable name (written_of ty) (tree_of value))) }
 {
     node(alloc, place, Form::VarDef(name, with_type(ty, value)))
 }
@@ -70,7 +74,8 @@ pub fn assignment(
     target: Tree,
     value: Tree,
 ) -> Result<Tree, Memory>
-    ensures { IfOk result (λ r. tree_of r ≡ tree 0 place (t.Shape.assignment mode (tree_of target) (tree_of value))) }
+    ensures { IfOk result (λ r. tree_of r ≡
+        tree 0 place (t.Shape.assignment mode (tree_of target) (tree_of value))) }
 {
     node(alloc, place, Form::Set(mode, two(target, value)))
 }
@@ -104,7 +109,9 @@ pub fn if_else(
     taken: Tree,
     otherwise: Tree,
 ) -> Result<Tree, Memory>
-    ensures { IfOk result (λ r. tree_of r ≡ tree 0 place (t.Shape.if_else (trees (map tree_of conditions)) (tree_of taken) (tree_of otherwise))) }
+    ensures { IfOk result (λ r. tree_of r ≡
+        tree 0 place (t.Shape.if_else (trees (map tree_of conditions)) (tree_of taken)
+        (tree_of otherwise))) }
 {
     node(
         alloc,
@@ -115,7 +122,8 @@ pub fn if_else(
 
 /// `if` without an other part.
 pub fn if_alone(alloc: Global, place: Place, conditions: Trees, taken: Tree) -> Result<Tree, Memory>
-    ensures { IfOk result (λ r. tree_of r ≡ tree 0 place (t.Shape.if_alone (trees (map tree_of conditions)) (tree_of taken))) }
+    ensures { IfOk result (λ r. tree_of r ≡
+        tree 0 place (t.Shape.if_alone (trees (map tree_of conditions)) (tree_of taken))) }
 {
     node(alloc, place, Form::If(single(conditions, taken)))
 }

@@ -3,7 +3,8 @@
 ghost use Rattle.std.specs.Prelude.{◌≡◌, map};
 ghost use Rattle.verse_tree.specs.Tree as t;
 ghost use Rattle.verse_tree.specs.View.{tree_of, written_of, shape_of, trees};
-ghost use Rattle.verse_numbered_parts.specs.Kinds.{applied_shape, list_shape, named_shape, part_shape, two_shape, typed_shape};
+ghost use Rattle.verse_numbered_parts.specs.Kinds.{applied_shape, list_shape, named_shape};
+ghost use Rattle.verse_numbered_parts.specs.Kinds.{part_shape, two_shape, typed_shape};
 
 use verse_handles::trees::{Tree, Trees};
 use verse_handles::types::Written;

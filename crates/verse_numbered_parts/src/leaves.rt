@@ -50,7 +50,8 @@ pub fn number_text_pattern(
     next: u32,
 ) -> Result<(Tree, u32), Memory>
     requires fits { next + 1 ≤ 4294967295 }
-    ensures numbered { IfOk result (λ r. tree_of r.0 ≡ tree next place (t.Shape.text_pattern text.now)) }
+    ensures numbered { IfOk result
+        (λ r. tree_of r.0 ≡ tree next place (t.Shape.text_pattern text.now)) }
     ensures behind { IfOk result (λ r. r.1 ≡ next + 1) }
 {
     let text = copied(alloc, text)?;
@@ -81,7 +82,8 @@ pub fn number_enum_pattern(
     next: u32,
 ) -> Result<(Tree, u32), Memory>
     requires fits { next + 1 ≤ 4294967295 }
-    ensures numbered { IfOk result (λ r. tree_of r.0 ≡ tree next place (t.Shape.enum_pattern name.now value.now)) }
+    ensures numbered { IfOk result
+        (λ r. tree_of r.0 ≡ tree next place (t.Shape.enum_pattern name.now value.now)) }
     ensures behind { IfOk result (λ r. r.1 ≡ next + 1) }
 {
     let name = copied(alloc, name)?;
@@ -97,7 +99,9 @@ pub fn number_event(
     next: u32,
 ) -> Result<(Tree, u32), Memory>
     requires fits { next + (shape_nodes (event_shape ty.now) + 1) ≤ 4294967295 }
-    ensures numbered { IfOk result (λ r. tree_of r.0 ≡ tree (next + shape_nodes (event_shape ty.now)) place (shape_numbered (event_shape ty.now) next)) }
+    ensures numbered { IfOk result
+        (λ r. tree_of r.0 ≡ tree (next + shape_nodes (event_shape ty.now)) place
+        (shape_numbered (event_shape ty.now) next)) }
     ensures behind { IfOk result (λ r. r.1 ≡ next + (shape_nodes (event_shape ty.now) + 1)) }
 {
     match ty {

@@ -6,7 +6,8 @@ ghost use Rattle.verse_tree.specs.Tree.{named};
 ghost use Rattle.verse_tree.specs.Tree as t;
 ghost use Rattle.verse_tree.specs.View.{written_of, writtens, event_written};
 ghost use Rattle.verse_tree.specs.TypeView.{map_of};
-ghost use Rattle.verse_tree.specs.Numbering.{written_nodes, writtens_nodes, written_numbered, writtens_numbered};
+ghost use Rattle.verse_tree.specs.Numbering.{written_nodes, writtens_nodes, written_numbered};
+ghost use Rattle.verse_tree.specs.Numbering.{writtens_numbered};
 
 use crate::copies::copied;
 use sqlite_items::Boxed;
@@ -20,7 +21,8 @@ use verse_tree::types::{MapTy, TyExpr, TyName};
 #[cycle(number_type)]
 pub fn number_type(alloc: Global, ty: &TyExpr, next: u32) -> Result<(Written, u32), Memory>
     requires fits { next + written_nodes (written_of ty.now) ≤ 4294967295 }
-    ensures numbered { IfOk result (λ r. written_of r.0 ≡ written_numbered (written_of ty.now) next) }
+    ensures numbered { IfOk result
+        (λ r. written_of r.0 ≡ written_numbered (written_of ty.now) next) }
     ensures behind { IfOk result (λ r. r.1 ≡ next + written_nodes (written_of ty.now)) }
 {
     match ty {
@@ -71,9 +73,13 @@ fn number_event_type(
     ty: &Option<Boxed<TyExpr>>,
     next: u32,
 ) -> Result<(Written, u32), Memory>
-    requires fits { next + written_nodes (event_written (option_map written_of ty.now)) ≤ 4294967295 }
-    ensures numbered { IfOk result (λ r. written_of r.0 ≡ written_numbered (event_written (option_map written_of ty.now)) next) }
-    ensures behind { IfOk result (λ r. r.1 ≡ next + written_nodes (event_written (option_map written_of ty.now))) }
+    requires fits { next + written_nodes (event_written (option_map written_of ty.now)) ≤
+        4294967295 }
+    ensures numbered { IfOk result
+        (λ r. written_of r.0 ≡ written_numbered (event_written (option_map written_of ty.now))
+        next) }
+    ensures behind { IfOk result
+        (λ r. r.1 ≡ next + written_nodes (event_written (option_map written_of ty.now))) }
 {
     match ty {
         None => Ok((made::bare_event(), next)),
@@ -86,9 +92,14 @@ fn number_event_type(
 
 #[cycle(number_type)]
 fn number_map_type(alloc: Global, parts: &MapTy, next: u32) -> Result<(Written, u32), Memory>
-    requires fits { next + (written_nodes (map_of parts.now).0 + written_nodes (map_of parts.now).1) ≤ 4294967295 }
-    ensures numbered { IfOk result (λ r. written_of r.0 ≡ t.Written.map (written_numbered (map_of parts.now).0 next) (written_numbered (map_of parts.now).1 (next + written_nodes (map_of parts.now).0))) }
-    ensures behind { IfOk result (λ r. r.1 ≡ next + (written_nodes (map_of parts.now).0 + written_nodes (map_of parts.now).1)) }
+    requires fits { next + (written_nodes (map_of parts.now).0 + written_nodes
+        (map_of parts.now).1) ≤ 4294967295 }
+    ensures numbered { IfOk result
+        (λ r. written_of r.0 ≡ t.Written.map (written_numbered (map_of parts.now).0 next)
+        (written_numbered (map_of parts.now).1 (next + written_nodes (map_of parts.now).0))) }
+    ensures behind { IfOk result
+        (λ r. r.1 ≡ next + (written_nodes (map_of parts.now).0 + written_nodes
+        (map_of parts.now).1)) }
 {
     let (key, middle) = number_type(alloc, parts.key.get(), next)?;
     let (value, behind) = number_type(alloc, parts.value.get(), middle)?;
@@ -99,8 +110,10 @@ fn number_map_type(alloc: Global, parts: &MapTy, next: u32) -> Result<(Written, 
 #[tactic(auto, using(verse_tree::proofs::Lists::writtens_listed))]
 fn number_types(alloc: Global, parts: &[TyExpr], next: u32) -> Result<(Writtens, u32), Memory>
     requires fits { next + writtens_nodes (writtens (map written_of parts.now)) ≤ 4294967295 }
-    ensures numbered { IfOk result (λ r. writtens (map written_of r.0) ≡ writtens_numbered (writtens (map written_of parts.now)) next) }
-    ensures behind { IfOk result (λ r. r.1 ≡ next + writtens_nodes (writtens (map written_of parts.now))) }
+    ensures numbered { IfOk result (λ r. writtens (map written_of r.0) ≡
+        writtens_numbered (writtens (map written_of parts.now)) next) }
+    ensures behind { IfOk result
+        (λ r. r.1 ≡ next + writtens_nodes (writtens (map written_of parts.now))) }
 {
     let mut done = Writtens::new(alloc);
     let mut at = next;

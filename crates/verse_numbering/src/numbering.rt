@@ -3,11 +3,17 @@
 
 ghost use Rattle.std.specs.Prelude.{◌≡◌, ◌≤◌, ◌+◌, map, IfOk};
 ghost use Rattle.std.specs.Option.{option_map};
-ghost use Rattle.verse_tree.specs.View.{tree_of, shape_of, two_of, typed_value_of, if_of, applied_of, for_of, cases_of, hole_of, pair_of, given_of, trees, holes, pairs, givens, return_shape, if_shape};
-ghost use Rattle.verse_tree.specs.Numbering.{nodes, shape_nodes, trees_nodes, holes_nodes, pairs_nodes, givens_nodes, written_nodes, numbered, shape_numbered, trees_numbered, holes_numbered, pairs_numbered, givens_numbered, written_numbered};
+ghost use Rattle.verse_tree.specs.View.{tree_of, shape_of, two_of, typed_value_of, if_of};
+ghost use Rattle.verse_tree.specs.View.{applied_of, for_of, cases_of, hole_of, pair_of, given_of};
+ghost use Rattle.verse_tree.specs.View.{trees, holes, pairs, givens, return_shape, if_shape};
+ghost use Rattle.verse_tree.specs.Numbering.{nodes, shape_nodes, trees_nodes, holes_nodes};
+ghost use Rattle.verse_tree.specs.Numbering.{pairs_nodes, givens_nodes, written_nodes, numbered};
+ghost use Rattle.verse_tree.specs.Numbering.{shape_numbered, trees_numbered, holes_numbered};
+ghost use Rattle.verse_tree.specs.Numbering.{pairs_numbered, givens_numbered, written_numbered};
 ghost use Rattle.verse_tree.specs.Tree.{tree};
 ghost use Rattle.verse_tree.specs.Tree as t;
-ghost use Rattle.verse_numbered_parts.specs.Kinds.{applied_shape, list_shape, named_shape, part_shape, two_shape, typed_shape};
+ghost use Rattle.verse_numbered_parts.specs.Kinds.{applied_shape, list_shape, named_shape};
+ghost use Rattle.verse_numbered_parts.specs.Kinds.{part_shape, two_shape, typed_shape};
 
 use sqlite_items::Boxed;
 use std::alloc::Global;
@@ -44,7 +50,9 @@ pub fn number(alloc: Global, expr: &Expr, next: u32) -> Result<(Tree, u32), Memo
 #[tactic(auto, using(verse_tree::proofs::Leaves::sleep_nodes, verse_tree::proofs::Leaves::sleep_numbered))]
 fn number_form(alloc: Global, place: Place, form: &Form, next: u32) -> Result<(Tree, u32), Memory>
     requires fits { next + (shape_nodes (shape_of form.now) + 1) ≤ 4294967295 }
-    ensures numbered { IfOk result (λ r. tree_of r.0 ≡ tree (next + shape_nodes (shape_of form.now)) place (shape_numbered (shape_of form.now) next)) }
+    ensures numbered { IfOk result
+        (λ r. tree_of r.0 ≡ tree (next + shape_nodes (shape_of form.now)) place
+        (shape_numbered (shape_of form.now) next)) }
     ensures behind { IfOk result (λ r. r.1 ≡ next + (shape_nodes (shape_of form.now) + 1)) }
 {
     match form {
@@ -140,8 +148,11 @@ fn number_list(
     next: u32,
 ) -> Result<(Tree, u32), Memory>
     requires fits { next + (trees_nodes (trees (map tree_of parts.now)) + 1) ≤ 4294967295 }
-    ensures numbered { IfOk result (λ r. tree_of r.0 ≡ tree (next + trees_nodes (trees (map tree_of parts.now))) place (list_shape kind (trees_numbered (trees (map tree_of parts.now)) next))) }
-    ensures behind { IfOk result (λ r. r.1 ≡ next + (trees_nodes (trees (map tree_of parts.now)) + 1)) }
+    ensures numbered { IfOk result
+        (λ r. tree_of r.0 ≡ tree (next + trees_nodes (trees (map tree_of parts.now))) place
+        (list_shape kind (trees_numbered (trees (map tree_of parts.now)) next))) }
+    ensures behind { IfOk result
+        (λ r. r.1 ≡ next + (trees_nodes (trees (map tree_of parts.now)) + 1)) }
 {
     let (parts, behind) = number_all(alloc, parts, next)?;
     made(alloc, behind, place, list_form(kind, parts))
@@ -156,7 +167,8 @@ fn number_part(
     next: u32,
 ) -> Result<(Tree, u32), Memory>
     requires fits { next + (nodes (tree_of part.now) + 1) ≤ 4294967295 }
-    ensures numbered { IfOk result (λ r. tree_of r.0 ≡ tree (next + nodes (tree_of part.now)) place (part_shape kind (numbered (tree_of part.now) next))) }
+    ensures numbered { IfOk result (λ r. tree_of r.0 ≡ tree (next + nodes (tree_of part.now)) place
+        (part_shape kind (numbered (tree_of part.now) next))) }
     ensures behind { IfOk result (λ r. r.1 ≡ next + (nodes (tree_of part.now) + 1)) }
 {
     let (part, behind) = number(alloc, part.get(), next)?;
@@ -173,7 +185,8 @@ fn number_named(
     next: u32,
 ) -> Result<(Tree, u32), Memory>
     requires fits { next + (nodes (tree_of part.now) + 1) ≤ 4294967295 }
-    ensures numbered { IfOk result (λ r. tree_of r.0 ≡ tree (next + nodes (tree_of part.now)) place (named_shape kind name.now (numbered (tree_of part.now) next))) }
+    ensures numbered { IfOk result (λ r. tree_of r.0 ≡ tree (next + nodes (tree_of part.now)) place
+        (named_shape kind name.now (numbered (tree_of part.now) next))) }
     ensures behind { IfOk result (λ r. r.1 ≡ next + (nodes (tree_of part.now) + 1)) }
 {
     let (part, behind) = number(alloc, part.get(), next)?;
@@ -191,7 +204,8 @@ fn number_entries(
     next: u32,
 ) -> Result<(Tree, u32), Memory>
     requires fits { next + (nodes (tree_of part.now) + 1) ≤ 4294967295 }
-    ensures numbered { IfOk result (λ r. tree_of r.0 ≡ tree (next + nodes (tree_of part.now)) place (t.Shape.entries key.now value.now (numbered (tree_of part.now) next))) }
+    ensures numbered { IfOk result (λ r. tree_of r.0 ≡ tree (next + nodes (tree_of part.now)) place
+        (t.Shape.entries key.now value.now (numbered (tree_of part.now) next))) }
     ensures behind { IfOk result (λ r. r.1 ≡ next + (nodes (tree_of part.now) + 1)) }
 {
     let (part, behind) = number(alloc, part.get(), next)?;
@@ -213,9 +227,15 @@ fn number_two(
     parts: &Two,
     next: u32,
 ) -> Result<(Tree, u32), Memory>
-    requires fits { next + ((nodes (two_of parts.now).0 + nodes (two_of parts.now).1) + 1) ≤ 4294967295 }
-    ensures numbered { IfOk result (λ r. tree_of r.0 ≡ tree (next + ((nodes (two_of parts.now).0 + nodes (two_of parts.now).1))) place (two_shape kind (numbered (two_of parts.now).0 next) (numbered (two_of parts.now).1 (next + nodes (two_of parts.now).0)))) }
-    ensures behind { IfOk result (λ r. r.1 ≡ next + ((nodes (two_of parts.now).0 + nodes (two_of parts.now).1) + 1)) }
+    requires fits { next + ((nodes (two_of parts.now).0 + nodes (two_of parts.now).1) + 1) ≤
+        4294967295 }
+    ensures numbered { IfOk result
+        (λ r. tree_of r.0 ≡ tree (next +
+        ((nodes (two_of parts.now).0 + nodes (two_of parts.now).1))) place
+        (two_shape kind (numbered (two_of parts.now).0 next)
+        (numbered (two_of parts.now).1 (next + nodes (two_of parts.now).0)))) }
+    ensures behind { IfOk result
+        (λ r. r.1 ≡ next + ((nodes (two_of parts.now).0 + nodes (two_of parts.now).1) + 1)) }
 {
     let (left, middle) = number(alloc, parts.left.get(), next)?;
     let (right, behind) = number(alloc, parts.right.get(), middle)?;
@@ -230,9 +250,15 @@ fn number_range(
     parts: &Two,
     next: u32,
 ) -> Result<(Tree, u32), Memory>
-    requires fits { next + ((nodes (two_of parts.now).0 + nodes (two_of parts.now).1) + 1) ≤ 4294967295 }
-    ensures numbered { IfOk result (λ r. tree_of r.0 ≡ tree (next + ((nodes (two_of parts.now).0 + nodes (two_of parts.now).1))) place (t.Shape.range name.now (numbered (two_of parts.now).0 next) (numbered (two_of parts.now).1 (next + nodes (two_of parts.now).0)))) }
-    ensures behind { IfOk result (λ r. r.1 ≡ next + ((nodes (two_of parts.now).0 + nodes (two_of parts.now).1) + 1)) }
+    requires fits { next + ((nodes (two_of parts.now).0 + nodes (two_of parts.now).1) + 1) ≤
+        4294967295 }
+    ensures numbered { IfOk result
+        (λ r. tree_of r.0 ≡ tree (next +
+        ((nodes (two_of parts.now).0 + nodes (two_of parts.now).1))) place
+        (t.Shape.range name.now (numbered (two_of parts.now).0 next)
+        (numbered (two_of parts.now).1 (next + nodes (two_of parts.now).0)))) }
+    ensures behind { IfOk result
+        (λ r. r.1 ≡ next + ((nodes (two_of parts.now).0 + nodes (two_of parts.now).1) + 1)) }
 {
     let (low, middle) = number(alloc, parts.left.get(), next)?;
     let (high, behind) = number(alloc, parts.right.get(), middle)?;
@@ -249,9 +275,17 @@ fn number_typed(
     parts: &TypedValue,
     next: u32,
 ) -> Result<(Tree, u32), Memory>
-    requires fits { next + ((written_nodes (typed_value_of parts.now).0 + nodes (typed_value_of parts.now).1) + 1) ≤ 4294967295 }
-    ensures numbered { IfOk result (λ r. tree_of r.0 ≡ tree (next + ((written_nodes (typed_value_of parts.now).0 + nodes (typed_value_of parts.now).1))) place (typed_shape kind name.now (written_numbered (typed_value_of parts.now).0 next) (numbered (typed_value_of parts.now).1 (next + written_nodes (typed_value_of parts.now).0)))) }
-    ensures behind { IfOk result (λ r. r.1 ≡ next + ((written_nodes (typed_value_of parts.now).0 + nodes (typed_value_of parts.now).1) + 1)) }
+    requires fits { next + ((written_nodes (typed_value_of parts.now).0 + nodes
+        (typed_value_of parts.now).1) + 1) ≤ 4294967295 }
+    ensures numbered { IfOk result
+        (λ r. tree_of r.0 ≡ tree (next +
+        ((written_nodes (typed_value_of parts.now).0 + nodes (typed_value_of parts.now).1))) place
+        (typed_shape kind name.now (written_numbered (typed_value_of parts.now).0 next)
+        (numbered (typed_value_of parts.now).1
+        (next + written_nodes (typed_value_of parts.now).0)))) }
+    ensures behind { IfOk result
+        (λ r. r.1 ≡ next + ((written_nodes (typed_value_of parts.now).0 + nodes
+        (typed_value_of parts.now).1) + 1)) }
 {
     let (ty, middle) = number_type(alloc, &parts.ty, next)?;
     let (value, behind) = number(alloc, parts.value.get(), middle)?;
@@ -266,9 +300,13 @@ fn number_returned(
     part: &Option<Boxed<Expr>>,
     next: u32,
 ) -> Result<(Tree, u32), Memory>
-    requires fits { next + (shape_nodes (return_shape (option_map tree_of part.now)) + 1) ≤ 4294967295 }
-    ensures numbered { IfOk result (λ r. tree_of r.0 ≡ tree (next + shape_nodes (return_shape (option_map tree_of part.now))) place (shape_numbered (return_shape (option_map tree_of part.now)) next)) }
-    ensures behind { IfOk result (λ r. r.1 ≡ next + (shape_nodes (return_shape (option_map tree_of part.now)) + 1)) }
+    requires fits { next + (shape_nodes (return_shape (option_map tree_of part.now)) + 1) ≤
+        4294967295 }
+    ensures numbered { IfOk result
+        (λ r. tree_of r.0 ≡ tree (next + shape_nodes (return_shape (option_map tree_of part.now)))
+        place (shape_numbered (return_shape (option_map tree_of part.now)) next)) }
+    ensures behind { IfOk result
+        (λ r. r.1 ≡ next + (shape_nodes (return_shape (option_map tree_of part.now)) + 1)) }
 {
     match part {
         None => made(alloc, next, place, Form::Return(None)),
@@ -281,9 +319,19 @@ fn number_returned(
 
 #[cycle(number)]
 fn number_if(alloc: Global, place: Place, parts: &IfParts, next: u32) -> Result<(Tree, u32), Memory>
-    requires fits { next + (shape_nodes (if_shape (trees (if_of parts.now).conditions) (if_of parts.now).taken (if_of parts.now).otherwise) + 1) ≤ 4294967295 }
-    ensures numbered { IfOk result (λ r. tree_of r.0 ≡ tree (next + shape_nodes (if_shape (trees (if_of parts.now).conditions) (if_of parts.now).taken (if_of parts.now).otherwise)) place (shape_numbered (if_shape (trees (if_of parts.now).conditions) (if_of parts.now).taken (if_of parts.now).otherwise) next)) }
-    ensures behind { IfOk result (λ r. r.1 ≡ next + (shape_nodes (if_shape (trees (if_of parts.now).conditions) (if_of parts.now).taken (if_of parts.now).otherwise) + 1)) }
+    requires fits { next + (shape_nodes
+        (if_shape (trees (if_of parts.now).conditions) (if_of parts.now).taken
+        (if_of parts.now).otherwise) + 1) ≤ 4294967295 }
+    ensures numbered { IfOk result
+        (λ r. tree_of r.0 ≡ tree (next + shape_nodes
+        (if_shape (trees (if_of parts.now).conditions) (if_of parts.now).taken
+        (if_of parts.now).otherwise)) place
+        (shape_numbered (if_shape (trees (if_of parts.now).conditions) (if_of parts.now).taken
+        (if_of parts.now).otherwise) next)) }
+    ensures behind { IfOk result
+        (λ r. r.1 ≡ next + (shape_nodes
+        (if_shape (trees (if_of parts.now).conditions) (if_of parts.now).taken
+        (if_of parts.now).otherwise) + 1)) }
 {
     let (conditions, first) = number_all(alloc, parts.conditions.as_slice(), next)?;
     let (then, second) = number(alloc, parts.then.get(), first)?;
@@ -309,9 +357,17 @@ fn number_applied(
     parts: &Applied,
     next: u32,
 ) -> Result<(Tree, u32), Memory>
-    requires fits { next + ((nodes (applied_of parts.now).0 + trees_nodes (trees (applied_of parts.now).1)) + 1) ≤ 4294967295 }
-    ensures numbered { IfOk result (λ r. tree_of r.0 ≡ tree (next + ((nodes (applied_of parts.now).0 + trees_nodes (trees (applied_of parts.now).1)))) place (applied_shape kind (numbered (applied_of parts.now).0 next) (trees_numbered (trees (applied_of parts.now).1) (next + nodes (applied_of parts.now).0)))) }
-    ensures behind { IfOk result (λ r. r.1 ≡ next + ((nodes (applied_of parts.now).0 + trees_nodes (trees (applied_of parts.now).1)) + 1)) }
+    requires fits { next + ((nodes (applied_of parts.now).0 + trees_nodes
+        (trees (applied_of parts.now).1)) + 1) ≤ 4294967295 }
+    ensures numbered { IfOk result
+        (λ r. tree_of r.0 ≡ tree (next +
+        ((nodes (applied_of parts.now).0 + trees_nodes (trees (applied_of parts.now).1)))) place
+        (applied_shape kind (numbered (applied_of parts.now).0 next)
+        (trees_numbered (trees (applied_of parts.now).1)
+        (next + nodes (applied_of parts.now).0)))) }
+    ensures behind { IfOk result
+        (λ r. r.1 ≡ next + ((nodes (applied_of parts.now).0 + trees_nodes
+        (trees (applied_of parts.now).1)) + 1)) }
 {
     let (callee, middle) = number(alloc, parts.callee.get(), next)?;
     let (args, behind) = number_all(alloc, parts.args.as_slice(), middle)?;
@@ -325,9 +381,16 @@ fn number_for(
     parts: &ForParts,
     next: u32,
 ) -> Result<(Tree, u32), Memory>
-    requires fits { next + ((trees_nodes (trees (for_of parts.now).0) + nodes (for_of parts.now).1) + 1) ≤ 4294967295 }
-    ensures numbered { IfOk result (λ r. tree_of r.0 ≡ tree (next + ((trees_nodes (trees (for_of parts.now).0) + nodes (for_of parts.now).1))) place (t.Shape.for_form (trees_numbered (trees (for_of parts.now).0) next) (numbered (for_of parts.now).1 (next + trees_nodes (trees (for_of parts.now).0))))) }
-    ensures behind { IfOk result (λ r. r.1 ≡ next + ((trees_nodes (trees (for_of parts.now).0) + nodes (for_of parts.now).1) + 1)) }
+    requires fits { next + ((trees_nodes (trees (for_of parts.now).0) + nodes
+        (for_of parts.now).1) + 1) ≤ 4294967295 }
+    ensures numbered { IfOk result
+        (λ r. tree_of r.0 ≡ tree (next +
+        ((trees_nodes (trees (for_of parts.now).0) + nodes (for_of parts.now).1))) place
+        (t.Shape.for_form (trees_numbered (trees (for_of parts.now).0) next)
+        (numbered (for_of parts.now).1 (next + trees_nodes (trees (for_of parts.now).0))))) }
+    ensures behind { IfOk result
+        (λ r. r.1 ≡ next + ((trees_nodes (trees (for_of parts.now).0) + nodes
+        (for_of parts.now).1) + 1)) }
 {
     let (clauses, middle) = number_all(alloc, parts.clauses.as_slice(), next)?;
     let (body, behind) = number(alloc, parts.body.get(), middle)?;
@@ -341,9 +404,16 @@ fn number_cases(
     parts: &Cases,
     next: u32,
 ) -> Result<(Tree, u32), Memory>
-    requires fits { next + ((nodes (cases_of parts.now).0 + trees_nodes (trees (cases_of parts.now).1)) + 1) ≤ 4294967295 }
-    ensures numbered { IfOk result (λ r. tree_of r.0 ≡ tree (next + ((nodes (cases_of parts.now).0 + trees_nodes (trees (cases_of parts.now).1)))) place (t.Shape.cases (numbered (cases_of parts.now).0 next) (trees_numbered (trees (cases_of parts.now).1) (next + nodes (cases_of parts.now).0)))) }
-    ensures behind { IfOk result (λ r. r.1 ≡ next + ((nodes (cases_of parts.now).0 + trees_nodes (trees (cases_of parts.now).1)) + 1)) }
+    requires fits { next + ((nodes (cases_of parts.now).0 + trees_nodes
+        (trees (cases_of parts.now).1)) + 1) ≤ 4294967295 }
+    ensures numbered { IfOk result
+        (λ r. tree_of r.0 ≡ tree (next +
+        ((nodes (cases_of parts.now).0 + trees_nodes (trees (cases_of parts.now).1)))) place
+        (t.Shape.cases (numbered (cases_of parts.now).0 next)
+        (trees_numbered (trees (cases_of parts.now).1) (next + nodes (cases_of parts.now).0)))) }
+    ensures behind { IfOk result
+        (λ r. r.1 ≡ next + ((nodes (cases_of parts.now).0 + trees_nodes
+        (trees (cases_of parts.now).1)) + 1)) }
 {
     let (subject, middle) = number(alloc, parts.subject.get(), next)?;
     let (arms, behind) = number_all(alloc, parts.arms.as_slice(), middle)?;
@@ -354,7 +424,8 @@ fn number_cases(
 #[tactic(auto, using(verse_tree::proofs::Lists::trees_listed))]
 fn number_all(alloc: Global, parts: &[Expr], next: u32) -> Result<(Trees, u32), Memory>
     requires fits { next + trees_nodes (trees (map tree_of parts.now)) ≤ 4294967295 }
-    ensures numbered { IfOk result (λ r. trees (map tree_of r.0) ≡ trees_numbered (trees (map tree_of parts.now)) next) }
+    ensures numbered { IfOk result (λ r. trees (map tree_of r.0) ≡
+        trees_numbered (trees (map tree_of parts.now)) next) }
     ensures behind { IfOk result (λ r. r.1 ≡ next + trees_nodes (trees (map tree_of parts.now))) }
 {
     let mut done = Trees::new(alloc);
@@ -377,8 +448,11 @@ fn number_holes(
     next: u32,
 ) -> Result<(Tree, u32), Memory>
     requires fits { next + (holes_nodes (holes (map hole_of parts.now)) + 1) ≤ 4294967295 }
-    ensures numbered { IfOk result (λ r. tree_of r.0 ≡ tree (next + holes_nodes (holes (map hole_of parts.now))) place (t.Shape.holes text.now (holes_numbered (holes (map hole_of parts.now)) next))) }
-    ensures behind { IfOk result (λ r. r.1 ≡ next + (holes_nodes (holes (map hole_of parts.now)) + 1)) }
+    ensures numbered { IfOk result
+        (λ r. tree_of r.0 ≡ tree (next + holes_nodes (holes (map hole_of parts.now))) place
+        (t.Shape.holes text.now (holes_numbered (holes (map hole_of parts.now)) next))) }
+    ensures behind { IfOk result
+        (λ r. r.1 ≡ next + (holes_nodes (holes (map hole_of parts.now)) + 1)) }
 {
     let mut done = Holes::new(alloc);
     let mut at = next;
@@ -401,8 +475,11 @@ fn number_pairs(
     next: u32,
 ) -> Result<(Tree, u32), Memory>
     requires fits { next + (pairs_nodes (pairs (map pair_of parts.now)) + 1) ≤ 4294967295 }
-    ensures numbered { IfOk result (λ r. tree_of r.0 ≡ tree (next + pairs_nodes (pairs (map pair_of parts.now))) place (t.Shape.mapping (pairs_numbered (pairs (map pair_of parts.now)) next))) }
-    ensures behind { IfOk result (λ r. r.1 ≡ next + (pairs_nodes (pairs (map pair_of parts.now)) + 1)) }
+    ensures numbered { IfOk result
+        (λ r. tree_of r.0 ≡ tree (next + pairs_nodes (pairs (map pair_of parts.now))) place
+        (t.Shape.mapping (pairs_numbered (pairs (map pair_of parts.now)) next))) }
+    ensures behind { IfOk result
+        (λ r. r.1 ≡ next + (pairs_nodes (pairs (map pair_of parts.now)) + 1)) }
 {
     let mut done = Pairs::new(alloc);
     let mut at = next;
@@ -425,8 +502,11 @@ fn number_givens(
     next: u32,
 ) -> Result<(Tree, u32), Memory>
     requires fits { next + (givens_nodes (givens (map given_of parts.now)) + 1) ≤ 4294967295 }
-    ensures numbered { IfOk result (λ r. tree_of r.0 ≡ tree (next + givens_nodes (givens (map given_of parts.now))) place (t.Shape.instance name.now (givens_numbered (givens (map given_of parts.now)) next))) }
-    ensures behind { IfOk result (λ r. r.1 ≡ next + (givens_nodes (givens (map given_of parts.now)) + 1)) }
+    ensures numbered { IfOk result
+        (λ r. tree_of r.0 ≡ tree (next + givens_nodes (givens (map given_of parts.now))) place
+        (t.Shape.instance name.now (givens_numbered (givens (map given_of parts.now)) next))) }
+    ensures behind { IfOk result
+        (λ r. r.1 ≡ next + (givens_nodes (givens (map given_of parts.now)) + 1)) }
 {
     let mut done = Givens::new(alloc);
     let mut at = next;

@@ -1,5 +1,6 @@
 -- A map of names, read as a list.
-use Rattle.std.proofs.Common.{◌≡◌, ℕ, suc, ◌+◌, true, false, List, [], ◌∷◌, length, nat_lt, map, cond, bytes_eq, Bool, Option, position, refl, ap, sym, arith}
+use Rattle.std.proofs.Common.{◌≡◌, ℕ, suc, ◌+◌, true, false, List, [], ◌∷◌, length, nat_lt, map, cond, bytes_eq, Bool, Option, position}
+use Rattle.std.proofs.Common.{refl, ap, sym, arith}
 use Rattle.std.specs.Prelude.{Some, None}
 use Prim.Native.Nat.compare
 use Rattle.std.proofs.lemmas.Bool.Decides.{nat_tests}
@@ -19,11 +20,13 @@ module _ {V : Type 0} where
   look_map x [] = refl
   look_map x (e ∷ es) = ap (cond (bytes_eq x e.0.now) (Some e.1)) (look_map x es)
 
-  pub put_map : (x : Bor (List ℕ)) (v : V) (es : List (Bor (List ℕ) × V)) → map entry_of (insert_entry same_name es x v) ≡ put x.now v (map entry_of es)
+  pub put_map : (x : Bor (List ℕ)) (v : V) (es : List (Bor (List ℕ) × V)) →
+      map entry_of (insert_entry same_name es x v) ≡ put x.now v (map entry_of es)
   put_map x v [] = refl
   put_map x v (e ∷ es) = by (bytes_eq x.now e.0.now) refl (put_map x v es)
     where
-      by : (b : Bool) → bytes_eq x.now e.0.now ≡ b → map entry_of (insert_entry same_name es x v) ≡ put x.now v (map entry_of es) → map entry_of (insert_entry same_name (e ∷ es) x v) ≡ put x.now v (map entry_of (e ∷ es))
+      by : (b : Bool) → bytes_eq x.now e.0.now ≡ b → map entry_of (insert_entry same_name es x v) ≡ put x.now v (map entry_of es) →
+          map entry_of (insert_entry same_name (e ∷ es) x v) ≡ put x.now v (map entry_of (e ∷ es))
       by true p h = rw p refl
       by false p h = rw p (ap (λ l. entry_of e ∷ l) h)
 
@@ -53,7 +56,8 @@ module _ {V : Type 0} where
   place_map x [] = refl
   place_map x (e ∷ es) = by (bytes_eq x e.0.now) refl (place_map x es)
     where
-      by : (b : Bool) → bytes_eq x e.0.now ≡ b → place x (map entry_of es) ≡ position (λ k. bytes_eq x k.now) (keys_of es) → place x (map entry_of (e ∷ es)) ≡ position (λ k. bytes_eq x k.now) (keys_of (e ∷ es))
+      by : (b : Bool) → bytes_eq x e.0.now ≡ b → place x (map entry_of es) ≡ position (λ k. bytes_eq x k.now) (keys_of es) →
+          place x (map entry_of (e ∷ es)) ≡ position (λ k. bytes_eq x k.now) (keys_of (e ∷ es))
       by true p h = rw p (sym (ap (λ b. cond b (Some 0) None) (starts (length (keys_of es)))))
       by false p h =
           let n = position_or_len (λ k. bytes_eq x k.now) (keys_of es) in

@@ -7,7 +7,8 @@ use Rattle.verse_tree.specs.declared.tables.Ref.{Ref}
 use Rattle.verse_tree.specs.declared.tables.Ref.TheVariants as ref
 use Rattle.verse_tree.specs.declared.tables.Effects.{Effects}
 use Rattle.verse_tree.specs.declared.tables.FunInfo.{FunInfo}
-use Rattle.verse_types.specs.Types.{Ty, Tys, never, void, int, logic, char, string, enum, class, option, array, task, event, mapping, tuple, no_tys, more_tys, ty_of}
+use Rattle.verse_types.specs.Types.{Ty, Tys, never, void, int, logic, char, string, enum, class, option, array, task, event, mapping, tuple}
+use Rattle.verse_types.specs.Types.{no_tys, more_tys, ty_of}
 use Rattle.verse_outline.specs.Names.{Table, look}
 use Rattle.verse_outline.specs.Words.{effects_of}
 

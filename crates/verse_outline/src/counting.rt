@@ -2,7 +2,8 @@
 
 ghost use Rattle.std.specs.Prelude.{◌≡◌, ◌+◌, map, IfOk};
 ghost use Rattle.verse_tree.specs.ItemView.{item_of, member_of};
-ghost use Rattle.verse_outline.specs.Counting.{fun_after, funs_after, counts_after, counted, counted_of, no_counts};
+ghost use Rattle.verse_outline.specs.Counting.{fun_after, funs_after, counts_after, counted};
+ghost use Rattle.verse_outline.specs.Counting.{counted_of, no_counts};
 
 use std::alloc::Global;
 use verse_base::refusals::Memory;
@@ -85,7 +86,8 @@ fn counts_after(item: &Item, before: Counts) -> Result<Counts, Memory>
 /// The items, each with what stands before it.
 #[tactic(auto, using(crate::proofs::Lists::join_next))]
 pub fn count_items<'a>(alloc: Global, items: &'a [Item]) -> Result<Vec<Counted<'a>>, Memory>
-    ensures { IfOk result (λ r. map counted_of r.items ≡ counted no_counts (map item_of items.now)) }
+    ensures { IfOk result (λ r. map counted_of r.items ≡
+        counted no_counts (map item_of items.now)) }
 {
     let mut found = Vec::new(alloc);
     let mut before = Counts {

@@ -1,7 +1,8 @@
 //! Tables of names, looked up by hash.
 
 ghost use Rattle.std.specs.Prelude.{◌≡◌, [], map, length, take, OnOk, None, is_some};
-ghost use Rattle.verse_outline.specs.Names.{look, place, meanings, names, put, keep, keep_named, called, call_named, is_repeated};
+ghost use Rattle.verse_outline.specs.Names.{look, place, meanings, names, put, keep, keep_named};
+ghost use Rattle.verse_outline.specs.Names.{called, call_named, is_repeated};
 ghost use Rattle.verse_outline.specs.Views.{bytes_now, entry_of, table_of, roll_of};
 
 use indexmap::IndexMap;

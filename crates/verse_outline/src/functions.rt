@@ -7,7 +7,8 @@ ghost use Rattle.verse_tree.specs.ItemView.{fun_of, param_of};
 ghost use Rattle.verse_types.specs.Types.{ty_of, map_of, tys};
 ghost use Rattle.verse_outline.specs.Names.{look};
 ghost use Rattle.verse_outline.specs.Views.{table_of};
-ghost use Rattle.verse_outline.specs.Functions.{named_type, spelled, all_spelled, function_of, fun_function, param_type};
+ghost use Rattle.verse_outline.specs.Functions.{named_type, spelled, all_spelled, function_of};
+ghost use Rattle.verse_outline.specs.Functions.{fun_function, param_type};
 
 use crate::dictionaries::Dict;
 use crate::words::effects_of;
@@ -59,8 +60,10 @@ fn boxed(alloc: Global, types: &Dict, ty: &TyExpr) -> Result<Boxed<Ty>, Memory>
 
 #[cycle(spelled)]
 fn map_spelled(alloc: Global, types: &Dict, parts: &MapTy) -> Result<MapOf, Memory>
-    ensures key { IfOk result (λ t. (map_of t).0 ≡ spelled (table_of types.now) (written.map_of parts.now).0) }
-    ensures value { IfOk result (λ t. (map_of t).1 ≡ spelled (table_of types.now) (written.map_of parts.now).1) }
+    ensures key { IfOk result (λ t. (map_of t).0 ≡
+        spelled (table_of types.now) (written.map_of parts.now).0) }
+    ensures value { IfOk result (λ t. (map_of t).1 ≡
+        spelled (table_of types.now) (written.map_of parts.now).1) }
 {
     let key = boxed(alloc, types, parts.key.get())?;
     let value = boxed(alloc, types, parts.value.get())?;
@@ -70,14 +73,16 @@ fn map_spelled(alloc: Global, types: &Dict, parts: &MapTy) -> Result<MapOf, Memo
 #[cycle(spelled)]
 #[tactic(auto, using(crate::proofs::Spelling::all_spelled_map))]
 fn all_spelled(alloc: Global, types: &Dict, parts: &[TyExpr]) -> Result<Items<Ty>, Memory>
-    ensures { IfOk result (λ ts. tys (map ty_of ts) ≡ all_spelled (table_of types.now) (writtens (map written_of parts.now))) }
+    ensures { IfOk result (λ ts. tys (map ty_of ts) ≡
+        all_spelled (table_of types.now) (writtens (map written_of parts.now))) }
 {
     each_spelled(alloc, types, parts)
 }
 
 #[cycle(spelled)]
 fn each_spelled(alloc: Global, types: &Dict, parts: &[TyExpr]) -> Result<Items<Ty>, Memory>
-    ensures { IfOk result (λ ts. map ty_of ts ≡ map (spelled (table_of types.now)) (map written_of parts.now)) }
+    ensures { IfOk result (λ ts. map ty_of ts ≡
+        map (spelled (table_of types.now)) (map written_of parts.now)) }
 {
     let mut found = Items::new(alloc);
     'parts: for part in parts {
@@ -87,7 +92,8 @@ fn each_spelled(alloc: Global, types: &Dict, parts: &[TyExpr]) -> Result<Items<T
 }
 
 fn param_types(alloc: Global, types: &Dict, params: &[Param]) -> Result<Items<Ty>, Memory>
-    ensures { IfOk result (λ ts. map ty_of ts ≡ map (param_type (table_of types.now)) (map param_of params.now)) }
+    ensures { IfOk result (λ ts. map ty_of ts ≡
+        map (param_type (table_of types.now)) (map param_of params.now)) }
 {
     let mut found = Items::new(alloc);
     'params: for param in params {
@@ -98,7 +104,8 @@ fn param_types(alloc: Global, types: &Dict, params: &[Param]) -> Result<Items<Ty
 
 /// What is known of a function or a method.
 pub fn function(alloc: Global, types: &Dict, fun: &Fun) -> Result<FunInfo, Memory>
-    ensures { IfOk result (λ f. function_of f ≡ fun_function (table_of types.now) (fun_of fun.now)) }
+    ensures { IfOk result (λ f. function_of f ≡
+        fun_function (table_of types.now) (fun_of fun.now)) }
 {
     let params = param_types(alloc, types, fun.params.as_slice())?;
     let result = spelled(alloc, types, &fun.result)?;

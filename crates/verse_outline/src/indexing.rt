@@ -6,7 +6,8 @@ ghost use Rattle.verse_types.specs.Types.{class_of as info, classes_of};
 ghost use Rattle.verse_outline.specs.Names.{look, keep_named, call_named};
 ghost use Rattle.verse_outline.specs.Views.{table_of, roll_of};
 ghost use Rattle.verse_outline.specs.Counting.{counted_of, named_as, named_type_as, named_class_as};
-ghost use Rattle.verse_outline.specs.Known.{indexed, index_all, no_index, index_of, note_of, notes_in, notes, parent_number, outlined};
+ghost use Rattle.verse_outline.specs.Known.{indexed, index_all, no_index, index_of, note_of};
+ghost use Rattle.verse_outline.specs.Known.{notes_in, notes, parent_number, outlined};
 ghost use Rattle.verse_outline.specs.Naming.{named_of};
 
 use crate::counting::{Counted, Counts};
@@ -94,7 +95,8 @@ fn named_class_as<'a>(item: &'a Item, at: Counts) -> Option<Named<'a>>
 }
 
 fn keep_named<'a>(names: &mut Dict<'a>, named: Option<Named<'a>>) -> Result<(), Memory>
-    ensures { OnOk result (table_of names.new ≡ keep_named (option_map named_of named.entry) (table_of names.old)) }
+    ensures { OnOk result (table_of names.new ≡ keep_named (option_map named_of named.entry)
+        (table_of names.old)) }
 {
     match named {
         None => Ok(()),
@@ -103,7 +105,8 @@ fn keep_named<'a>(names: &mut Dict<'a>, named: Option<Named<'a>>) -> Result<(), 
 }
 
 fn call_named<'a>(names: &mut Calls<'a>, named: Option<Named<'a>>) -> Result<(), Memory>
-    ensures { OnOk result (roll_of names.new ≡ call_named (option_map named_of named.entry) (roll_of names.old)) }
+    ensures { OnOk result (roll_of names.new ≡ call_named (option_map named_of named.entry)
+        (roll_of names.old)) }
 {
     match named {
         None => Ok(()),
@@ -124,7 +127,8 @@ impl<'a> Index<'a> {
     }
 
     fn add(&mut self, item: &Counted<'a>) -> Result<(), Memory>
-        ensures { OnOk result (index_of self.new ≡ indexed (counted_of item.now) (index_of self.old)) }
+        ensures { OnOk result (index_of self.new ≡
+            indexed (counted_of item.now) (index_of self.old)) }
     {
         let named = named_as(item.item, item.before);
         keep_named(&mut self.items, named)?;
@@ -146,7 +150,8 @@ pub fn index_items<'a>(alloc: Global, items: &[Counted<'a>]) -> Result<Index<'a>
 }
 
 fn note_class<'a>(found: &mut Vec<Note<'a>>, item: &'a Item, at: Counts) -> Result<(), Memory>
-    ensures { OnOk result (map note_of found.new.items ≡ map note_of found.old.items ++ notes_in (item_of item.now) at) }
+    ensures { OnOk result (map note_of found.new.items ≡ map note_of found.old.items ++
+        notes_in (item_of item.now) at) }
 {
     match item {
         Item::Class(item) => {
@@ -196,7 +201,8 @@ fn outlined(alloc: Global, classes: &Dict, note: &Note) -> ClassInfo
 
 /// The classes with their parents, and without their members.
 pub fn outline(alloc: Global, classes: &Dict, notes: &[Note]) -> Result<Items<ClassInfo>, Memory>
-    ensures { IfOk result (λ r. classes_of r ≡ map (outlined (table_of classes.now)) (map note_of notes.now)) }
+    ensures { IfOk result (λ r. classes_of r ≡
+        map (outlined (table_of classes.now)) (map note_of notes.now)) }
 {
     let mut found = Items::new(alloc);
     'notes: for note in notes {

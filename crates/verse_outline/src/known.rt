@@ -5,7 +5,8 @@ ghost use Rattle.verse_tree.specs.ItemView.{item_of, member_of};
 ghost use Rattle.verse_outline.specs.Views.{table_of};
 ghost use Rattle.verse_outline.specs.Functions.{function_of};
 ghost use Rattle.verse_outline.specs.Counting.{counted_of};
-ghost use Rattle.verse_outline.specs.Known.{member_functions, members_functions, item_functions, functions, known, known_of};
+ghost use Rattle.verse_outline.specs.Known.{member_functions, members_functions, item_functions};
+ghost use Rattle.verse_outline.specs.Known.{functions, known, known_of};
 
 use crate::counting::{Counted, count_items};
 use crate::dictionaries::Dict;
@@ -36,7 +37,8 @@ fn add_member(
     found: &mut Items<FunInfo>,
     member: &Member,
 ) -> Result<(), Memory>
-    ensures { OnOk result (map function_of found.new ≡ map function_of found.old ++ member_functions (table_of types.now) (member_of member.now)) }
+    ensures { OnOk result (map function_of found.new ≡ map function_of found.old ++
+        member_functions (table_of types.now) (member_of member.now)) }
 {
     match member {
         Member::Field(_) => Ok(()),
@@ -53,7 +55,8 @@ fn add_members(
     found: &mut Items<FunInfo>,
     members: &[Member],
 ) -> Result<(), Memory>
-    ensures { OnOk result (map function_of found.new ≡ map function_of found.old ++ members_functions (table_of types.now) (map member_of members.now)) }
+    ensures { OnOk result (map function_of found.new ≡ map function_of found.old ++
+        members_functions (table_of types.now) (map member_of members.now)) }
 {
     'members: for member in members {
         add_member(alloc, types, found, member)?;
@@ -67,7 +70,8 @@ fn add_item(
     found: &mut Items<FunInfo>,
     item: &Item,
 ) -> Result<(), Memory>
-    ensures { OnOk result (map function_of found.new ≡ map function_of found.old ++ item_functions (table_of types.now) (item_of item.now)) }
+    ensures { OnOk result (map function_of found.new ≡ map function_of found.old ++
+        item_functions (table_of types.now) (item_of item.now)) }
 {
     match item {
         Item::Using(_) | Item::Enum(_) => Ok(()),
@@ -80,7 +84,8 @@ fn add_item(
 }
 
 fn functions(alloc: Global, types: &Dict, items: &[Counted]) -> Result<Items<FunInfo>, Memory>
-    ensures { IfOk result (λ r. map function_of r ≡ functions (table_of types.now) (map counted_of items.now)) }
+    ensures { IfOk result (λ r. map function_of r ≡
+        functions (table_of types.now) (map counted_of items.now)) }
 {
     let mut found = Items::new(alloc);
     'items: for item in items {

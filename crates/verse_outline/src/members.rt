@@ -7,7 +7,9 @@ ghost use Rattle.verse_outline.specs.Views.{roll_of};
 ghost use Rattle.verse_outline.specs.Names.{call_all};
 ghost use Rattle.verse_outline.specs.Known.{note_of, known_of};
 ghost use Rattle.verse_outline.specs.Lines as lines;
-ghost use Rattle.verse_outline.specs.Lines.{others, with_member, with_members, with_note, members_of, no_members, all_members, member_name, members_view, home_of};
+ghost use Rattle.verse_outline.specs.Lines.{others, with_member, with_members, with_note};
+ghost use Rattle.verse_outline.specs.Lines.{members_of, no_members, all_members, member_name};
+ghost use Rattle.verse_outline.specs.Lines.{members_view, home_of};
 
 use crate::counting::{fun_after, next};
 use crate::dictionaries::{Calls, Dict};
@@ -93,7 +95,8 @@ impl<'a> Members<'a> {
     }
 
     fn add_field(&mut self, class: u32, name: &'a [u8]) -> Result<(), Memory>
-        ensures { OnOk result (members_view self.new ≡ lines.with_field class name.now (members_view self.old)) }
+        ensures { OnOk result (members_view self.new ≡
+            lines.with_field class name.now (members_view self.old)) }
     {
         let place = self.count;
         self.count = next(place)?;
@@ -101,7 +104,8 @@ impl<'a> Members<'a> {
     }
 
     fn add_member(&mut self, class: u32, fun: u32, member: &'a Member) -> Result<(), Memory>
-        ensures { OnOk result (members_view self.new ≡ with_member class fun (member_of member.now) (members_view self.old)) }
+        ensures { OnOk result (members_view self.new ≡ with_member class fun (member_of member.now)
+            (members_view self.old)) }
     {
         match member {
             Member::Field(field) => self.add_field(class, field.name.as_slice()),
@@ -110,7 +114,8 @@ impl<'a> Members<'a> {
     }
 
     fn add_members(&mut self, class: u32, fun: u32, members: &'a [Member]) -> Result<(), Memory>
-        ensures { OnOk result (members_view self.new ≡ with_members class fun (map member_of members.now) (members_view self.old)) }
+        ensures { OnOk result (members_view self.new ≡
+            with_members class fun (map member_of members.now) (members_view self.old)) }
     {
         let mut at = fun;
         'members: for member in members {
@@ -121,7 +126,8 @@ impl<'a> Members<'a> {
     }
 
     fn add_note(&mut self, class: u32, notes: &[Note<'a>], at: u32) -> Result<(), Memory>
-        ensures { OnOk result (members_view self.new ≡ with_note class (slice_get (map note_of notes.now) at) (members_view self.old)) }
+        ensures { OnOk result (members_view self.new ≡
+            with_note class (slice_get (map note_of notes.now) at) (members_view self.old)) }
     {
         match notes.get(at as usize) {
             None => Ok(()),
@@ -138,7 +144,8 @@ fn members_of<'a>(
     class: u32,
     line: &mut Items<u32>,
 ) -> Result<Members<'a>, Memory>
-    ensures { IfOk result (λ m. members_view m ≡ members_of (map note_of notes.now) class line.old) }
+    ensures { IfOk result (λ m. members_view m ≡
+        members_of (map note_of notes.now) class line.old) }
 {
     let mut found = Members::new(alloc);
     'classes: while let Some(at) = line.pop() {
@@ -165,7 +172,8 @@ fn name_of(member: &Member) -> &[u8]
 }
 
 fn names_of<'a>(alloc: Global, members: &'a [Member]) -> Result<Calls<'a>, Memory>
-    ensures { IfOk result (λ r. roll_of r ≡ call_all (map member_name (map member_of members.now)) []) }
+    ensures { IfOk result (λ r. roll_of r ≡
+        call_all (map member_name (map member_of members.now)) []) }
 {
     let mut found = Calls::new(alloc);
     'members: for member in members {
@@ -181,7 +189,8 @@ pub fn make_home<'a>(
     class: u32,
     members: &'a [Member],
 ) -> Result<Home<'a>, Memory>
-    ensures { IfOk result (λ h. home_of h ≡ lines.home (known_of known.now) class (map member_of members.now)) }
+    ensures { IfOk result (λ h. home_of h ≡
+        lines.home (known_of known.now) class (map member_of members.now)) }
 {
     let own = names_of(alloc, members)?;
     let mut line = ancestors(alloc, known.outline.as_slice(), class)?;

@@ -50,6 +50,7 @@ pub trait Files {
         ensures bytes { IfOk result (λ v. Loads (holds self.old) name.now most v.items) }
         ensures later { faults self.old ≤ faults self.new }
         ensures calm { IsErrOf result LoadFault.Failed ⊎ (faults self.new ≡ faults self.old) }
-        ensures failed { IsErrOf result LoadFault.Failed → Rose (faults self.old) (faults self.new) ⊎ Lacks (holds self.old) name.now }
+        ensures failed { IsErrOf result LoadFault.Failed →
+            Rose (faults self.old) (faults self.new) ⊎ Lacks (holds self.old) name.now }
         ensures absent { Lacks (holds self.old) name.now → faults self.new ≡ faults self.old };
 }

@@ -1,6 +1,7 @@
 //! Files in memory.
 
-ghost use Rattle.std.specs.Prelude.{◌≡◌, ◌≢◌, ◌≤◌, ◌++◌, ◌∷◌, ◌⊎◌, [], ℕ, List, None, Some, IfOk, IsErrOf, IsTrue, OnErr, OnOk, length};
+ghost use Rattle.std.specs.Prelude.{◌≡◌, ◌≢◌, ◌≤◌, ◌++◌, ◌∷◌, ◌⊎◌, [], ℕ, List, None, Some, IfOk};
+ghost use Rattle.std.specs.Prelude.{IsErrOf, IsTrue, OnErr, OnOk, length};
 ghost use Rattle.verse_outside.specs.Causes.{Rose};
 ghost use Rattle.verse_outside.specs.Held.{Loads};
 ghost use Rattle.verse_outside.specs.Chosen.{counted, is_chosen};
@@ -42,8 +43,10 @@ impl MemFiles {
     /// Holds these bytes under the name from now on, in place of what the name held.
     pub fn add(&mut self, name: &str, bytes: &[u8]) -> Result<(), Memory>
         ensures added { OnOk result (held_in self.new name.now ≡ Some bytes.now) }
-        ensures others { OnOk result ((other : List ℕ) → other ≢ name.now → held_in self.new other ≡ held_in self.old other) }
-        ensures refused { OnErr result ((any : List ℕ) → held_in self.new any ≡ held_in self.old any) }
+        ensures others { OnOk result ((other : List ℕ) → other ≢ name.now →
+            held_in self.new other ≡ held_in self.old other) }
+        ensures refused { OnErr result ((any : List ℕ) →
+            held_in self.new any ≡ held_in self.old any) }
         ensures loads { loads_of self.new ≡ loads_of self.old }
         ensures failing { failing_loads self.new ≡ failing_loads self.old }
         ensures faults { load_faults self.new ≡ load_faults self.old }
@@ -56,7 +59,8 @@ impl MemFiles {
 
     /// The load of this number, counted from 0, is to fail. It is a fault where its name is held.
     pub fn fail_at(&mut self, call: u64) -> Result<(), Memory>
-        ensures failing { OnOk result (failing_loads self.new ≡ failing_loads self.old ++ call ∷ []) }
+        ensures failing { OnOk result (failing_loads self.new ≡ failing_loads self.old ++
+            call ∷ []) }
         ensures refused { OnErr result (failing_loads self.new ≡ failing_loads self.old) }
         ensures held { (name : List ℕ) → held_in self.new name ≡ held_in self.old name }
         ensures loads { loads_of self.new ≡ loads_of self.old }
@@ -78,11 +82,18 @@ impl Files for MemFiles {
         ensures within { IfOk result (λ v. length v.items ≤ most) }
         ensures bytes { IfOk result (λ v. Loads (Some (held_in self.old)) name.now most v.items) }
         ensures later { load_faults self.old ≤ load_faults self.new }
-        ensures failed { IsErrOf result LoadFault.Failed → Rose (load_faults self.old) (load_faults self.new) ⊎ (held_in self.old name.now ≡ None) }
-        ensures absent { held_in self.old name.now ≡ None → load_faults self.new ≡ load_faults self.old }
-        ensures chosen { IsTrue (is_chosen (failing_loads self.old) (loads_of self.old)) → IsErrOf result LoadFault.Failed }
-        ensures fault { IsErrOf result LoadFault.Failed → held_in self.old name.now ≢ None → IsTrue (is_chosen (failing_loads self.old) (loads_of self.old)) × (load_faults self.new ≡ counted (load_faults self.old)) }
-        ensures calm { IsErrOf result LoadFault.Failed ⊎ (load_faults self.new ≡ load_faults self.old) }
+        ensures failed { IsErrOf result LoadFault.Failed →
+            Rose (load_faults self.old) (load_faults self.new) ⊎
+            (held_in self.old name.now ≡ None) }
+        ensures absent { held_in self.old name.now ≡ None →
+            load_faults self.new ≡ load_faults self.old }
+        ensures chosen { IsTrue (is_chosen (failing_loads self.old) (loads_of self.old)) →
+            IsErrOf result LoadFault.Failed }
+        ensures fault { IsErrOf result LoadFault.Failed → held_in self.old name.now ≢ None →
+            IsTrue (is_chosen (failing_loads self.old) (loads_of self.old)) ×
+            (load_faults self.new ≡ counted (load_faults self.old)) }
+        ensures calm { IsErrOf result LoadFault.Failed ⊎
+            (load_faults self.new ≡ load_faults self.old) }
         ensures loads { loads_of self.new ≡ counted (loads_of self.old) }
         ensures failing { failing_loads self.new ≡ failing_loads self.old }
     {

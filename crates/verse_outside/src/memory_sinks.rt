@@ -1,6 +1,7 @@
 //! A sink in memory.
 
-ghost use Rattle.std.specs.Prelude.{◌≡◌, ◌<◌, ◌≤◌, ◌++◌, ◌∷◌, ◌⊎◌, [], IfOk, IsErr, IsTrue, OnErr, OnOk, Some, length, take};
+ghost use Rattle.std.specs.Prelude.{◌≡◌, ◌<◌, ◌≤◌, ◌++◌, ◌∷◌, ◌⊎◌, [], IfOk, IsErr, IsTrue, OnErr};
+ghost use Rattle.std.specs.Prelude.{OnOk, Some, length, take};
 ghost use Rattle.verse_outside.specs.Causes.{Rose};
 ghost use Rattle.verse_outside.specs.Chosen.{counted, is_chosen};
 ghost use Rattle.verse_outside.specs.Intake.{Intake, share};
@@ -38,7 +39,8 @@ impl MemSink {
     /// Room for `room` bytes, of which one write takes at most `most`.
     pub fn new(alloc: Global, room: usize, most: usize) -> Result<MemSink, Memory>
         requires { 0 < most }
-        ensures { IfOk result (λ s. s ≡ record { taken = []; writes = 0; failing = []; faults = 0; room = room; most = most }) }
+        ensures { IfOk result (λ s. s ≡
+            record { taken = []; writes = 0; failing = []; faults = 0; room = room; most = most }) }
     {
         Ok(MemSink {
             taken: Vec::with_capacity(alloc, room)?,
@@ -52,7 +54,8 @@ impl MemSink {
 
     /// The write of this number, counted from 0, is to fail.
     pub fn fail_at(&mut self, call: u64) -> Result<(), Memory>
-        ensures chosen { OnOk result (self.new ≡ record self.old { failing = self.old.failing ++ call ∷ [] }) }
+        ensures chosen { OnOk result
+            (self.new ≡ record self.old { failing = self.old.failing ++ call ∷ [] }) }
         ensures refused { OnErr result (self.new ≡ self.old) }
     {
         self.failing.push(call)?;
@@ -78,10 +81,21 @@ impl Sink for MemSink {
         ensures some { IfOk result (λ n. 0 < n) }
         ensures within { IfOk result (λ n. n ≤ length piece.now) }
         ensures amount { IfOk result (λ n. n ≡ share self.old (length piece.now)) }
-        ensures ok { IfOk result (λ n. self.new ≡ record self.old { taken = self.old.taken ++ take n piece.now; writes = counted self.old.writes }) }
-        ensures err { OnErr result (self.new ≡ record self.old { writes = counted self.old.writes; faults = counted self.old.faults }) }
+        ensures ok { IfOk result (λ n. self.new ≡
+            record self.old {
+              taken = self.old.taken ++ take n piece.now;
+              writes =
+                  counted self.old.writes;
+            }) }
+        ensures err { OnErr result (self.new ≡
+            record self.old {
+              writes = counted self.old.writes;
+              faults =
+                  counted self.old.faults;
+            }) }
         ensures chosen { IsTrue (is_chosen self.old.failing self.old.writes) → IsErr result }
-        ensures cause { IsErr result → IsTrue (is_chosen self.old.failing self.old.writes) ⊎ (share self.old (length piece.now) ≡ 0) }
+        ensures cause { IsErr result → IsTrue (is_chosen self.old.failing self.old.writes) ⊎
+            (share self.old (length piece.now) ≡ 0) }
         ensures failed { OnErr result (Rose self.old.faults self.new.faults) }
         ensures calm { IfOk result (λ _. self.new.faults ≡ self.old.faults) }
         ensures later { self.old.faults ≤ self.new.faults }

@@ -1,6 +1,7 @@
 //! Sinks that take bytes.
 
-ghost use Rattle.std.specs.Prelude.{◌≡◌, ◌<◌, ◌≤◌, ◌++◌, ℕ, List, Option, IfOk, OnOk, OnErr, length, take};
+ghost use Rattle.std.specs.Prelude.{◌≡◌, ◌<◌, ◌≤◌, ◌++◌, ℕ, List, Option, IfOk, OnOk, OnErr};
+ghost use Rattle.std.specs.Prelude.{length, take};
 ghost use Rattle.verse_outside.specs.Causes.{Rose};
 ghost use Rattle.verse_outside.specs.Held.{TookPrefix, with_more};
 
@@ -23,7 +24,8 @@ pub trait Sink {
         requires { 0 < length piece.now }
         ensures some { IfOk result (λ n. 0 < n) }
         ensures within { IfOk result (λ n. n ≤ length piece.now) }
-        ensures taken { IfOk result (λ n. taken self.new ≡ with_more (taken self.old) (take n piece.now)) }
+        ensures taken { IfOk result
+            (λ n. taken self.new ≡ with_more (taken self.old) (take n piece.now)) }
         ensures refused { OnErr result (taken self.new ≡ taken self.old) }
         ensures later { faults self.old ≤ faults self.new }
         ensures calm { IfOk result (λ _. faults self.new ≡ faults self.old) }

@@ -11,7 +11,8 @@ use Rattle.verse_grammar.proofs.SpelledLaws.{one_program}
 use Rattle.verse_grammar.proofs.Local.{rule_within, sticks_rule_within}
 use Rattle.verse_parse.specs.StopsWith.{StopsWith, stuck_inside, left_behind}
 
-behind_stops : (ks rest behind : List Tok) (k : Tok) → EatsRule program ks rest → rest ≡ k ∷ behind → Stops a_program ks (length ks - length rest)
+behind_stops : (ks rest behind : List Tok) (k : Tok) → EatsRule program ks rest → rest ≡ k ∷ behind →
+    Stops a_program ks (length ks - length rest)
 behind_stops ks rest behind k x e = rw e (left_stops a_program k ks behind (subst (λ (ls : List Tok). EatsRule program ks ls) e x))
 
 pub left_stops_program : (ks : List Tok) (left : ℕ) → StopsWith ks left → Stops a_program ks (length ks - left)
@@ -22,5 +23,6 @@ pub left_within : (ks : List Tok) (left : ℕ) → StopsWith ks left → left �
 left_within ks left (stuck_inside x) = sticks_rule_within x
 left_within ks left (left_behind x e h) = rw h (rule_within x)
 
-pub program_once : (b : List ℕ) (ks : List Tok) (is : List ItemTree) → Program b ks is [] → (js : List ItemTree) → Program b ks js [] → js ≡ is
+pub program_once : (b : List ℕ) (ks : List Tok) (is : List ItemTree) → Program b ks is [] → (js : List ItemTree) → Program b ks js [] →
+    js ≡ is
 program_once b ks is r js s = one_program b ks js is s r

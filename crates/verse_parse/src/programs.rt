@@ -34,11 +34,15 @@ use verse_reading::steps::{ReadFault, next, take};
 #[tactic(auto, using(crate::proofs::Stopping::left_stops_program, crate::proofs::Stopping::left_within, crate::proofs::Stopping::program_once, crate::proofs::Few::few_items))]
 pub fn parse(alloc: Global, bytes: &[u8], toks: &[Tok]) -> Result<ItemTrees, ParseFault>
     ensures spelled { IfOk result (λ items. Program bytes.now toks.now (map item_of items) []) }
-    ensures only { IfOk result (λ items. (is : List t.ItemTree) → Program bytes.now toks.now is [] → is ≡ map item_of items) }
+    ensures only { IfOk result (λ items. (is : List t.ItemTree) → Program bytes.now toks.now is [] →
+        is ≡ map item_of items) }
     ensures few { IfOk result (λ items. items_nodes (map item_of items) ≤ length toks.now) }
-    ensures stops { (index : ℕ) (rule : Rule) → IsErrOf result (fault.At index rule) → Stops a_program toks.now index }
-    ensures within { (index : ℕ) (rule : Rule) → IsErrOf result (fault.At index rule) → index ≤ length toks.now }
-    ensures rule { (index : ℕ) (rule : Rule) → IsErrOf result (fault.At index rule) → rule.0 ≡ stop_rule (ahead (drop index toks.now)) }
+    ensures stops { (index : ℕ) (rule : Rule) → IsErrOf result (fault.At index rule) →
+        Stops a_program toks.now index }
+    ensures within { (index : ℕ) (rule : Rule) → IsErrOf result (fault.At index rule) →
+        index ≤ length toks.now }
+    ensures rule { (index : ℕ) (rule : Rule) → IsErrOf result (fault.At index rule) →
+        rule.0 ≡ stop_rule (ahead (drop index toks.now)) }
 {
     match items(alloc, bytes, toks) {
         Ok(items) => Ok(items),
@@ -68,7 +72,8 @@ fn program<'t>(
 ) -> Result<(ItemTrees, &'t [Tok]), ReadFault>
     ensures spelled { IfOk result (λ r. Program bytes.now toks.now (map item_of r.0) r.1.now) }
     ensures eats { IfOk result (λ r. EatsRule rules_of.program toks.now r.1.now) }
-    ensures sticks { (left : ℕ) → IsErrOf result (read_fault.Stuck left) → SticksRule rules_of.program toks.now left }
+    ensures sticks { (left : ℕ) → IsErrOf result (read_fault.Stuck left) →
+        SticksRule rules_of.program toks.now left }
     ensures shorter { IfOk result (λ r. length r.1.now ≤ length toks.now) }
 {
     let Some((_first, _rest)) = next(toks) else {
@@ -90,7 +95,8 @@ fn item_row<'t>(
     requires begun { grammar.Item bytes.now start.now (item_of first) toks.now }
     ensures spelled { IfOk result (λ r. ItemRow bytes.now start.now (map item_of r.0) r.1.now) }
     ensures eats { IfOk result (λ r. EatsRule rules_of.items_tail toks.now r.1.now) }
-    ensures sticks { (left : ℕ) → IsErrOf result (read_fault.Stuck left) → SticksRule rules_of.items_tail toks.now left }
+    ensures sticks { (left : ℕ) → IsErrOf result (read_fault.Stuck left) →
+        SticksRule rules_of.items_tail toks.now left }
     ensures shorter { IfOk result (λ r. length r.1.now ≤ length toks.now) }
 {
     let mut items = ItemTrees::new(alloc);

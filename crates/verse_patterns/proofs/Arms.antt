@@ -13,5 +13,6 @@ pub sticks_arm_end : SticksRule (phrase p.Arm) [] 0
 sticks_arm_end = sticks_arm_1 0 [] sticks_pattern_end
 
 -- the place is that of its first tok
-pub arm_reads : {b : List ℕ} {k : Tok} {ks all rest : List Tok} {e : Tree} → all ≡ k ∷ ks → IsArm b k.place all e rest → Reads b p.Arm all e rest
+pub arm_reads : {b : List ℕ} {k : Tok} {ks all rest : List Tok} {e : Tree} → all ≡ k ∷ ks → IsArm b k.place all e rest →
+    Reads b p.Arm all e rest
 arm_reads q (is_arm r h s) = rw q (arm (rw q at r) h s)

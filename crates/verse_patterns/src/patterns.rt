@@ -31,9 +31,11 @@ pub fn pattern<'t, F: Fn(Global, &[u8], Phrase, &[Tok]) -> Result<(Tree, usize),
     reader: &Reader<'_, F>,
     toks: &'t [Tok],
 ) -> Result<(Tree, &'t [Tok]), ReadFault>
-    ensures spelled { IfOk result (λ r. Reads reader.now.bytes.now Phrase.Pattern toks.now (tree_of r.0) r.1.now) }
+    ensures spelled { IfOk result
+        (λ r. Reads reader.now.bytes.now Phrase.Pattern toks.now (tree_of r.0) r.1.now) }
     ensures eats { IfOk result (λ r. EatsRule (phrase Phrase.Pattern) toks.now r.1.now) }
-    ensures sticks { (left : ℕ) → IsErrOf result (read_fault.Stuck left) → SticksRule (phrase Phrase.Pattern) toks.now left }
+    ensures sticks { (left : ℕ) → IsErrOf result (read_fault.Stuck left) →
+        SticksRule (phrase Phrase.Pattern) toks.now left }
     ensures shorter { IfOk result (λ r. length r.1.now < length toks.now) }
 {
     match next(toks) {
@@ -54,9 +56,11 @@ fn pattern_from<'t, F: Fn(Global, &[u8], Phrase, &[Tok]) -> Result<(Tree, usize)
     toks: &'t [Tok],
 ) -> Result<(Tree, &'t [Tok]), ReadFault>
     requires start { pattern_start tok.kind ≡ Some start }
-    ensures spelled { IfOk result (λ r. Reads reader.now.bytes.now Phrase.Pattern (tok ∷ toks.now) (tree_of r.0) r.1.now) }
+    ensures spelled { IfOk result (λ r. Reads reader.now.bytes.now Phrase.Pattern (tok ∷ toks.now)
+        (tree_of r.0) r.1.now) }
     ensures eats { IfOk result (λ r. EatsRule (phrase Phrase.Pattern) (tok ∷ toks.now) r.1.now) }
-    ensures sticks { (left : ℕ) → IsErrOf result (read_fault.Stuck left) → SticksRule (phrase Phrase.Pattern) (tok ∷ toks.now) left }
+    ensures sticks { (left : ℕ) → IsErrOf result (read_fault.Stuck left) →
+        SticksRule (phrase Phrase.Pattern) (tok ∷ toks.now) left }
     ensures shorter { IfOk result (λ r. length r.1.now ≤ length toks.now) }
 {
     match start {
@@ -92,9 +96,11 @@ fn below_zero<'t, F: Fn(Global, &[u8], Phrase, &[Tok]) -> Result<(Tree, usize), 
     toks: &'t [Tok],
 ) -> Result<(Tree, &'t [Tok]), ReadFault>
     requires start { pattern_start tok.kind ≡ Some PatternStart.Minus }
-    ensures spelled { IfOk result (λ r. Reads reader.now.bytes.now Phrase.Pattern (tok ∷ toks.now) (tree_of r.0) r.1.now) }
+    ensures spelled { IfOk result (λ r. Reads reader.now.bytes.now Phrase.Pattern (tok ∷ toks.now)
+        (tree_of r.0) r.1.now) }
     ensures eats { IfOk result (λ r. EatsRule (phrase Phrase.Pattern) (tok ∷ toks.now) r.1.now) }
-    ensures sticks { (left : ℕ) → IsErrOf result (read_fault.Stuck left) → SticksRule (phrase Phrase.Pattern) (tok ∷ toks.now) left }
+    ensures sticks { (left : ℕ) → IsErrOf result (read_fault.Stuck left) →
+        SticksRule (phrase Phrase.Pattern) (tok ∷ toks.now) left }
     ensures shorter { IfOk result (λ r. length r.1.now ≤ length toks.now) }
 {
     match next(toks) {
@@ -117,9 +123,11 @@ fn enum_value<'t, F: Fn(Global, &[u8], Phrase, &[Tok]) -> Result<(Tree, usize), 
     toks: &'t [Tok],
 ) -> Result<(Tree, &'t [Tok]), ReadFault>
     requires start { pattern_start tok.kind ≡ Some PatternStart.Name }
-    ensures spelled { IfOk result (λ r. Reads reader.now.bytes.now Phrase.Pattern (tok ∷ toks.now) (tree_of r.0) r.1.now) }
+    ensures spelled { IfOk result (λ r. Reads reader.now.bytes.now Phrase.Pattern (tok ∷ toks.now)
+        (tree_of r.0) r.1.now) }
     ensures eats { IfOk result (λ r. EatsRule (phrase Phrase.Pattern) (tok ∷ toks.now) r.1.now) }
-    ensures sticks { (left : ℕ) → IsErrOf result (read_fault.Stuck left) → SticksRule (phrase Phrase.Pattern) (tok ∷ toks.now) left }
+    ensures sticks { (left : ℕ) → IsErrOf result (read_fault.Stuck left) →
+        SticksRule (phrase Phrase.Pattern) (tok ∷ toks.now) left }
     ensures shorter { IfOk result (λ r. length r.1.now ≤ length toks.now) }
 {
     let (_, behind) = expect(toks, Fixed::Dot)?;
@@ -138,11 +146,14 @@ pub fn arm<'t, F: Fn(Global, &[u8], Phrase, &[Tok]) -> Result<(Tree, usize), Rea
     reader: &Reader<'_, F>,
     toks: &'t [Tok],
 ) -> Result<(Tree, &'t [Tok]), ReadFault>
-    requires nests { Nests reader.now.bytes.now reader.now.most (F.pre reader.now.nested) (F.post reader.now.nested) }
+    requires nests { Nests reader.now.bytes.now reader.now.most (F.pre reader.now.nested)
+        (F.post reader.now.nested) }
     requires within { length toks.now ≤ reader.now.most }
-    ensures spelled { IfOk result (λ r. Reads reader.now.bytes.now Phrase.Arm toks.now (tree_of r.0) r.1.now) }
+    ensures spelled { IfOk result
+        (λ r. Reads reader.now.bytes.now Phrase.Arm toks.now (tree_of r.0) r.1.now) }
     ensures eats { IfOk result (λ r. EatsRule (phrase Phrase.Arm) toks.now r.1.now) }
-    ensures sticks { (left : ℕ) → IsErrOf result (read_fault.Stuck left) → SticksRule (phrase Phrase.Arm) toks.now left }
+    ensures sticks { (left : ℕ) → IsErrOf result (read_fault.Stuck left) →
+        SticksRule (phrase Phrase.Arm) toks.now left }
     ensures shorter { IfOk result (λ r. length r.1.now < length toks.now) }
 {
     match next(toks) {
@@ -158,11 +169,14 @@ fn arm_placed<'t, F: Fn(Global, &[u8], Phrase, &[Tok]) -> Result<(Tree, usize), 
     place: Place,
     toks: &'t [Tok],
 ) -> Result<(Tree, &'t [Tok]), ReadFault>
-    requires nests { Nests reader.now.bytes.now reader.now.most (F.pre reader.now.nested) (F.post reader.now.nested) }
+    requires nests { Nests reader.now.bytes.now reader.now.most (F.pre reader.now.nested)
+        (F.post reader.now.nested) }
     requires within { length toks.now ≤ reader.now.most }
-    ensures spelled { IfOk result (λ r. IsArm reader.now.bytes.now place toks.now (tree_of r.0) r.1.now) }
+    ensures spelled { IfOk result
+        (λ r. IsArm reader.now.bytes.now place toks.now (tree_of r.0) r.1.now) }
     ensures eats { IfOk result (λ r. EatsRule (phrase Phrase.Arm) toks.now r.1.now) }
-    ensures sticks { (left : ℕ) → IsErrOf result (read_fault.Stuck left) → SticksRule (phrase Phrase.Arm) toks.now left }
+    ensures sticks { (left : ℕ) → IsErrOf result (read_fault.Stuck left) →
+        SticksRule (phrase Phrase.Arm) toks.now left }
     ensures shorter { IfOk result (λ r. length r.1.now < length toks.now) }
 {
     let (pattern, behind) = pattern(reader, toks)?;
@@ -176,11 +190,14 @@ fn arm_body<'t, F: Fn(Global, &[u8], Phrase, &[Tok]) -> Result<(Tree, usize), Re
     reader: &Reader<'_, F>,
     toks: &'t [Tok],
 ) -> Result<(Tree, &'t [Tok]), ReadFault>
-    requires nests { Nests reader.now.bytes.now reader.now.most (F.pre reader.now.nested) (F.post reader.now.nested) }
+    requires nests { Nests reader.now.bytes.now reader.now.most (F.pre reader.now.nested)
+        (F.post reader.now.nested) }
     requires fewer { length toks.now < reader.now.most }
-    ensures spelled { IfOk result (λ r. IsArmRest reader.now.bytes.now toks.now (tree_of r.0) r.1.now) }
+    ensures spelled { IfOk result
+        (λ r. IsArmRest reader.now.bytes.now toks.now (tree_of r.0) r.1.now) }
     ensures eats { IfOk result (λ r. Eats arm_rest toks.now r.1.now) }
-    ensures sticks { (left : ℕ) → IsErrOf result (read_fault.Stuck left) → Sticks arm_rest toks.now left }
+    ensures sticks { (left : ℕ) → IsErrOf result (read_fault.Stuck left) →
+        Sticks arm_rest toks.now left }
     ensures shorter { IfOk result (λ r. length r.1.now < length toks.now) }
 {
     let (_, behind) = expect(toks, Fixed::FatArrow)?;

@@ -32,12 +32,15 @@ pub fn spawn<'t, F: Fn(Global, &[u8], Phrase, &[Tok]) -> Result<(Tree, usize), R
     tok: Tok,
     toks: &'t [Tok],
 ) -> Result<(Tree, &'t [Tok]), ReadFault>
-    requires nests { Nests reader.now.bytes.now reader.now.most (F.pre reader.now.nested) (F.post reader.now.nested) }
+    requires nests { Nests reader.now.bytes.now reader.now.most (F.pre reader.now.nested)
+        (F.post reader.now.nested) }
     requires fewer { length toks.now < reader.now.most }
     requires start { primary_start tok.kind ≡ Some PrimaryStart.Spawn }
-    ensures spelled { IfOk result (λ r. Reads reader.now.bytes.now Phrase.Primary (tok ∷ toks.now) (tree_of r.0) r.1.now) }
+    ensures spelled { IfOk result (λ r. Reads reader.now.bytes.now Phrase.Primary (tok ∷ toks.now)
+        (tree_of r.0) r.1.now) }
     ensures eats { IfOk result (λ r. EatsRule (phrase Phrase.Primary) (tok ∷ toks.now) r.1.now) }
-    ensures sticks { (left : ℕ) → IsErrOf result (read_fault.Stuck left) → SticksRule (phrase Phrase.Primary) (tok ∷ toks.now) left }
+    ensures sticks { (left : ℕ) → IsErrOf result (read_fault.Stuck left) →
+        SticksRule (phrase Phrase.Primary) (tok ∷ toks.now) left }
     ensures shorter { IfOk result (λ r. length r.1.now ≤ length toks.now) }
 {
     let (_, behind) = expect(toks, Fixed::Open)?;
@@ -58,12 +61,15 @@ pub fn mapping<'t, F: Fn(Global, &[u8], Phrase, &[Tok]) -> Result<(Tree, usize),
     tok: Tok,
     toks: &'t [Tok],
 ) -> Result<(Tree, &'t [Tok]), ReadFault>
-    requires nests { Nests reader.now.bytes.now reader.now.most (F.pre reader.now.nested) (F.post reader.now.nested) }
+    requires nests { Nests reader.now.bytes.now reader.now.most (F.pre reader.now.nested)
+        (F.post reader.now.nested) }
     requires fewer { length toks.now < reader.now.most }
     requires start { primary_start tok.kind ≡ Some PrimaryStart.Map }
-    ensures spelled { IfOk result (λ r. Reads reader.now.bytes.now Phrase.Primary (tok ∷ toks.now) (tree_of r.0) r.1.now) }
+    ensures spelled { IfOk result (λ r. Reads reader.now.bytes.now Phrase.Primary (tok ∷ toks.now)
+        (tree_of r.0) r.1.now) }
     ensures eats { IfOk result (λ r. EatsRule (phrase Phrase.Primary) (tok ∷ toks.now) r.1.now) }
-    ensures sticks { (left : ℕ) → IsErrOf result (read_fault.Stuck left) → SticksRule (phrase Phrase.Primary) (tok ∷ toks.now) left }
+    ensures sticks { (left : ℕ) → IsErrOf result (read_fault.Stuck left) →
+        SticksRule (phrase Phrase.Primary) (tok ∷ toks.now) left }
     ensures shorter { IfOk result (λ r. length r.1.now ≤ length toks.now) }
 {
     let (_, behind) = expect(toks, Fixed::Open)?;
@@ -77,11 +83,14 @@ fn pairs_until<'t, F: Fn(Global, &[u8], Phrase, &[Tok]) -> Result<(Tree, usize),
     reader: &Reader<'_, F>,
     toks: &'t [Tok],
 ) -> Result<(Pairs, &'t [Tok]), ReadFault>
-    requires nests { Nests reader.now.bytes.now reader.now.most (F.pre reader.now.nested) (F.post reader.now.nested) }
+    requires nests { Nests reader.now.bytes.now reader.now.most (F.pre reader.now.nested)
+        (F.post reader.now.nested) }
     requires fewer { length toks.now < reader.now.most }
-    ensures spelled { IfOk result (λ r. PairsUntil reader.now.bytes.now toks.now (map pair_of r.0) r.1.now) }
+    ensures spelled { IfOk result
+        (λ r. PairsUntil reader.now.bytes.now toks.now (map pair_of r.0) r.1.now) }
     ensures eats { IfOk result (λ r. EatsRule pairs_until toks.now r.1.now) }
-    ensures sticks { (left : ℕ) → IsErrOf result (read_fault.Stuck left) → SticksRule pairs_until toks.now left }
+    ensures sticks { (left : ℕ) → IsErrOf result (read_fault.Stuck left) →
+        SticksRule pairs_until toks.now left }
     ensures shorter { IfOk result (λ r. length r.1.now < length toks.now) }
 {
     match take(toks, Fixed::Close) {
@@ -96,12 +105,15 @@ fn pairs<'t, F: Fn(Global, &[u8], Phrase, &[Tok]) -> Result<(Tree, usize), ReadF
     reader: &Reader<'_, F>,
     toks: &'t [Tok],
 ) -> Result<(Pairs, &'t [Tok]), ReadFault>
-    requires nests { Nests reader.now.bytes.now reader.now.most (F.pre reader.now.nested) (F.post reader.now.nested) }
+    requires nests { Nests reader.now.bytes.now reader.now.most (F.pre reader.now.nested)
+        (F.post reader.now.nested) }
     requires fewer { length toks.now < reader.now.most }
     requires some { ahead toks.now ≢ Some (kind_of Fixed.Close) }
-    ensures spelled { IfOk result (λ r. PairsUntil reader.now.bytes.now toks.now (map pair_of r.0) r.1.now) }
+    ensures spelled { IfOk result
+        (λ r. PairsUntil reader.now.bytes.now toks.now (map pair_of r.0) r.1.now) }
     ensures eats { IfOk result (λ r. EatsRule pairs_until toks.now r.1.now) }
-    ensures sticks { (left : ℕ) → IsErrOf result (read_fault.Stuck left) → SticksRule pairs_until toks.now left }
+    ensures sticks { (left : ℕ) → IsErrOf result (read_fault.Stuck left) →
+        SticksRule pairs_until toks.now left }
     ensures shorter { IfOk result (λ r. length r.1.now < length toks.now) }
 {
     let ((key, value), after) = pair(reader, toks)?;
@@ -125,11 +137,14 @@ fn pair<'t, F: Fn(Global, &[u8], Phrase, &[Tok]) -> Result<(Tree, usize), ReadFa
     reader: &Reader<'_, F>,
     toks: &'t [Tok],
 ) -> Result<((Tree, Tree), &'t [Tok]), ReadFault>
-    requires nests { Nests reader.now.bytes.now reader.now.most (F.pre reader.now.nested) (F.post reader.now.nested) }
+    requires nests { Nests reader.now.bytes.now reader.now.most (F.pre reader.now.nested)
+        (F.post reader.now.nested) }
     requires fewer { length toks.now < reader.now.most }
-    ensures spelled { IfOk result (λ r. IsPair reader.now.bytes.now toks.now (tree_of r.0.0, tree_of r.0.1) r.1.now) }
+    ensures spelled { IfOk result
+        (λ r. IsPair reader.now.bytes.now toks.now (tree_of r.0.0, tree_of r.0.1) r.1.now) }
     ensures eats { IfOk result (λ r. EatsRule pair toks.now r.1.now) }
-    ensures sticks { (left : ℕ) → IsErrOf result (read_fault.Stuck left) → SticksRule pair toks.now left }
+    ensures sticks { (left : ℕ) → IsErrOf result (read_fault.Stuck left) →
+        SticksRule pair toks.now left }
     ensures shorter { IfOk result (λ r. length r.1.now < length toks.now) }
 {
     let (key, behind) = reader.inner(Phrase::Expr, toks)?;

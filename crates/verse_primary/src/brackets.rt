@@ -36,12 +36,15 @@ pub fn round<'t, F: Fn(Global, &[u8], Phrase, &[Tok]) -> Result<(Tree, usize), R
     tok: Tok,
     toks: &'t [Tok],
 ) -> Result<(Tree, &'t [Tok]), ReadFault>
-    requires nests { Nests reader.now.bytes.now reader.now.most (F.pre reader.now.nested) (F.post reader.now.nested) }
+    requires nests { Nests reader.now.bytes.now reader.now.most (F.pre reader.now.nested)
+        (F.post reader.now.nested) }
     requires fewer { length toks.now < reader.now.most }
     requires start { primary_start tok.kind ≡ Some PrimaryStart.Round }
-    ensures spelled { IfOk result (λ r. Reads reader.now.bytes.now Phrase.Primary (tok ∷ toks.now) (tree_of r.0) r.1.now) }
+    ensures spelled { IfOk result (λ r. Reads reader.now.bytes.now Phrase.Primary (tok ∷ toks.now)
+        (tree_of r.0) r.1.now) }
     ensures eats { IfOk result (λ r. EatsRule (phrase Phrase.Primary) (tok ∷ toks.now) r.1.now) }
-    ensures sticks { (left : ℕ) → IsErrOf result (read_fault.Stuck left) → SticksRule (phrase Phrase.Primary) (tok ∷ toks.now) left }
+    ensures sticks { (left : ℕ) → IsErrOf result (read_fault.Stuck left) →
+        SticksRule (phrase Phrase.Primary) (tok ∷ toks.now) left }
     ensures shorter { IfOk result (λ r. length r.1.now ≤ length toks.now) }
 {
     let (first, behind) = reader.inner(Phrase::Expr, toks)?;
@@ -55,11 +58,14 @@ fn others<'t, F: Fn(Global, &[u8], Phrase, &[Tok]) -> Result<(Tree, usize), Read
     reader: &Reader<'_, F>,
     toks: &'t [Tok],
 ) -> Result<(Option<Trees>, &'t [Tok]), ReadFault>
-    requires nests { Nests reader.now.bytes.now reader.now.most (F.pre reader.now.nested) (F.post reader.now.nested) }
+    requires nests { Nests reader.now.bytes.now reader.now.most (F.pre reader.now.nested)
+        (F.post reader.now.nested) }
     requires fewer { length toks.now < reader.now.most }
-    ensures spelled { IfOk result (λ r. RoundRest reader.now.bytes.now toks.now (option_map (map tree_of) r.0) r.1.now) }
+    ensures spelled { IfOk result
+        (λ r. RoundRest reader.now.bytes.now toks.now (option_map (map tree_of) r.0) r.1.now) }
     ensures eats { IfOk result (λ r. EatsRule round_rest toks.now r.1.now) }
-    ensures sticks { (left : ℕ) → IsErrOf result (read_fault.Stuck left) → SticksRule round_rest toks.now left }
+    ensures sticks { (left : ℕ) → IsErrOf result (read_fault.Stuck left) →
+        SticksRule round_rest toks.now left }
     ensures shorter { IfOk result (λ r. length r.1.now < length toks.now) }
 {
     match take(toks, Fixed::Comma) {
@@ -87,9 +93,11 @@ pub fn event<'t, F: Fn(Global, &[u8], Phrase, &[Tok]) -> Result<(Tree, usize), R
     toks: &'t [Tok],
 ) -> Result<(Tree, &'t [Tok]), ReadFault>
     requires start { primary_start tok.kind ≡ Some PrimaryStart.Event }
-    ensures spelled { IfOk result (λ r. Reads reader.now.bytes.now Phrase.Primary (tok ∷ toks.now) (tree_of r.0) r.1.now) }
+    ensures spelled { IfOk result (λ r. Reads reader.now.bytes.now Phrase.Primary (tok ∷ toks.now)
+        (tree_of r.0) r.1.now) }
     ensures eats { IfOk result (λ r. EatsRule (phrase Phrase.Primary) (tok ∷ toks.now) r.1.now) }
-    ensures sticks { (left : ℕ) → IsErrOf result (read_fault.Stuck left) → SticksRule (phrase Phrase.Primary) (tok ∷ toks.now) left }
+    ensures sticks { (left : ℕ) → IsErrOf result (read_fault.Stuck left) →
+        SticksRule (phrase Phrase.Primary) (tok ∷ toks.now) left }
     ensures shorter { IfOk result (λ r. length r.1.now ≤ length toks.now) }
 {
     let (ty, behind) = bracket_type(reader.alloc, reader.bytes, toks)?;
@@ -106,9 +114,11 @@ pub fn sleep<'t, F: Fn(Global, &[u8], Phrase, &[Tok]) -> Result<(Tree, usize), R
     toks: &'t [Tok],
 ) -> Result<(Tree, &'t [Tok]), ReadFault>
     requires start { primary_start tok.kind ≡ Some PrimaryStart.Sleep }
-    ensures spelled { IfOk result (λ r. Reads reader.now.bytes.now Phrase.Primary (tok ∷ toks.now) (tree_of r.0) r.1.now) }
+    ensures spelled { IfOk result (λ r. Reads reader.now.bytes.now Phrase.Primary (tok ∷ toks.now)
+        (tree_of r.0) r.1.now) }
     ensures eats { IfOk result (λ r. EatsRule (phrase Phrase.Primary) (tok ∷ toks.now) r.1.now) }
-    ensures sticks { (left : ℕ) → IsErrOf result (read_fault.Stuck left) → SticksRule (phrase Phrase.Primary) (tok ∷ toks.now) left }
+    ensures sticks { (left : ℕ) → IsErrOf result (read_fault.Stuck left) →
+        SticksRule (phrase Phrase.Primary) (tok ∷ toks.now) left }
     ensures shorter { IfOk result (λ r. length r.1.now ≤ length toks.now) }
 {
     let (_, behind) = expect(toks, Fixed::RoundOpen)?;
@@ -131,9 +141,11 @@ pub fn bracket_type<'t>(
     bytes: &[u8],
     toks: &'t [Tok],
 ) -> Result<(Option<Written>, &'t [Tok]), ReadFault>
-    ensures spelled { IfOk result (λ r. BracketType bytes.now toks.now (option_map written_of r.0) r.1.now) }
+    ensures spelled { IfOk result
+        (λ r. BracketType bytes.now toks.now (option_map written_of r.0) r.1.now) }
     ensures eats { IfOk result (λ r. EatsRule bracket_type toks.now r.1.now) }
-    ensures sticks { (left : ℕ) → IsErrOf result (read_fault.Stuck left) → SticksRule bracket_type toks.now left }
+    ensures sticks { (left : ℕ) → IsErrOf result (read_fault.Stuck left) →
+        SticksRule bracket_type toks.now left }
     ensures shorter { IfOk result (λ r. length r.1.now < length toks.now) }
 {
     let (_, behind) = expect(toks, Fixed::RoundOpen)?;
@@ -149,7 +161,8 @@ pub fn bracket_type<'t>(
 
 /// An expression by itself, or a tuple with others behind it.
 fn rounded(alloc: Global, place: Place, first: Tree, more: Option<Trees>) -> Result<Tree, Memory>
-    ensures { IfOk result (λ r. tree_of r ≡ rounded place (tree_of first) (option_map (map tree_of) more)) }
+    ensures { IfOk result (λ r. tree_of r ≡
+        rounded place (tree_of first) (option_map (map tree_of) more)) }
 {
     match more {
         Some(more) => literals::tuple(alloc, place, joined(alloc, first, more)?),

@@ -38,11 +38,14 @@ pub fn primary<'t, F: Fn(Global, &[u8], Phrase, &[Tok]) -> Result<(Tree, usize),
     reader: &Reader<'_, F>,
     toks: &'t [Tok],
 ) -> Result<(Tree, &'t [Tok]), ReadFault>
-    requires nests { Nests reader.now.bytes.now reader.now.most (F.pre reader.now.nested) (F.post reader.now.nested) }
+    requires nests { Nests reader.now.bytes.now reader.now.most (F.pre reader.now.nested)
+        (F.post reader.now.nested) }
     requires within { length toks.now ≤ reader.now.most }
-    ensures spelled { IfOk result (λ r. Reads reader.now.bytes.now Phrase.Primary toks.now (tree_of r.0) r.1.now) }
+    ensures spelled { IfOk result
+        (λ r. Reads reader.now.bytes.now Phrase.Primary toks.now (tree_of r.0) r.1.now) }
     ensures eats { IfOk result (λ r. EatsRule (phrase Phrase.Primary) toks.now r.1.now) }
-    ensures sticks { (left : ℕ) → IsErrOf result (read_fault.Stuck left) → SticksRule (phrase Phrase.Primary) toks.now left }
+    ensures sticks { (left : ℕ) → IsErrOf result (read_fault.Stuck left) →
+        SticksRule (phrase Phrase.Primary) toks.now left }
     ensures shorter { IfOk result (λ r. length r.1.now < length toks.now) }
 {
     match next(toks) {
@@ -61,12 +64,15 @@ fn primary_from<'t, F: Fn(Global, &[u8], Phrase, &[Tok]) -> Result<(Tree, usize)
     tok: Tok,
     toks: &'t [Tok],
 ) -> Result<(Tree, &'t [Tok]), ReadFault>
-    requires nests { Nests reader.now.bytes.now reader.now.most (F.pre reader.now.nested) (F.post reader.now.nested) }
+    requires nests { Nests reader.now.bytes.now reader.now.most (F.pre reader.now.nested)
+        (F.post reader.now.nested) }
     requires fewer { length toks.now < reader.now.most }
     requires start { primary_start tok.kind ≡ Some start }
-    ensures spelled { IfOk result (λ r. Reads reader.now.bytes.now Phrase.Primary (tok ∷ toks.now) (tree_of r.0) r.1.now) }
+    ensures spelled { IfOk result (λ r. Reads reader.now.bytes.now Phrase.Primary (tok ∷ toks.now)
+        (tree_of r.0) r.1.now) }
     ensures eats { IfOk result (λ r. EatsRule (phrase Phrase.Primary) (tok ∷ toks.now) r.1.now) }
-    ensures sticks { (left : ℕ) → IsErrOf result (read_fault.Stuck left) → SticksRule (phrase Phrase.Primary) (tok ∷ toks.now) left }
+    ensures sticks { (left : ℕ) → IsErrOf result (read_fault.Stuck left) →
+        SticksRule (phrase Phrase.Primary) (tok ∷ toks.now) left }
     ensures shorter { IfOk result (λ r. length r.1.now ≤ length toks.now) }
 {
     match start {
@@ -104,12 +110,15 @@ fn name_from<'t, F: Fn(Global, &[u8], Phrase, &[Tok]) -> Result<(Tree, usize), R
     tok: Tok,
     toks: &'t [Tok],
 ) -> Result<(Tree, &'t [Tok]), ReadFault>
-    requires nests { Nests reader.now.bytes.now reader.now.most (F.pre reader.now.nested) (F.post reader.now.nested) }
+    requires nests { Nests reader.now.bytes.now reader.now.most (F.pre reader.now.nested)
+        (F.post reader.now.nested) }
     requires fewer { length toks.now < reader.now.most }
     requires start { primary_start tok.kind ≡ Some PrimaryStart.Name }
-    ensures spelled { IfOk result (λ r. Reads reader.now.bytes.now Phrase.Primary (tok ∷ toks.now) (tree_of r.0) r.1.now) }
+    ensures spelled { IfOk result (λ r. Reads reader.now.bytes.now Phrase.Primary (tok ∷ toks.now)
+        (tree_of r.0) r.1.now) }
     ensures eats { IfOk result (λ r. EatsRule (phrase Phrase.Primary) (tok ∷ toks.now) r.1.now) }
-    ensures sticks { (left : ℕ) → IsErrOf result (read_fault.Stuck left) → SticksRule (phrase Phrase.Primary) (tok ∷ toks.now) left }
+    ensures sticks { (left : ℕ) → IsErrOf result (read_fault.Stuck left) →
+        SticksRule (phrase Phrase.Primary) (tok ∷ toks.now) left }
     ensures shorter { IfOk result (λ r. length r.1.now ≤ length toks.now) }
 {
     let name = name_of(reader.alloc, reader.bytes, tok)?;
@@ -131,11 +140,14 @@ fn givens_until<'t, F: Fn(Global, &[u8], Phrase, &[Tok]) -> Result<(Tree, usize)
     reader: &Reader<'_, F>,
     toks: &'t [Tok],
 ) -> Result<(Givens, &'t [Tok]), ReadFault>
-    requires nests { Nests reader.now.bytes.now reader.now.most (F.pre reader.now.nested) (F.post reader.now.nested) }
+    requires nests { Nests reader.now.bytes.now reader.now.most (F.pre reader.now.nested)
+        (F.post reader.now.nested) }
     requires fewer { length toks.now < reader.now.most }
-    ensures spelled { IfOk result (λ r. GivensUntil reader.now.bytes.now toks.now (map given_of r.0) r.1.now) }
+    ensures spelled { IfOk result
+        (λ r. GivensUntil reader.now.bytes.now toks.now (map given_of r.0) r.1.now) }
     ensures eats { IfOk result (λ r. EatsRule givens_until toks.now r.1.now) }
-    ensures sticks { (left : ℕ) → IsErrOf result (read_fault.Stuck left) → SticksRule givens_until toks.now left }
+    ensures sticks { (left : ℕ) → IsErrOf result (read_fault.Stuck left) →
+        SticksRule givens_until toks.now left }
     ensures shorter { IfOk result (λ r. length r.1.now < length toks.now) }
 {
     match take(toks, Fixed::Close) {
@@ -150,12 +162,15 @@ fn givens<'t, F: Fn(Global, &[u8], Phrase, &[Tok]) -> Result<(Tree, usize), Read
     reader: &Reader<'_, F>,
     toks: &'t [Tok],
 ) -> Result<(Givens, &'t [Tok]), ReadFault>
-    requires nests { Nests reader.now.bytes.now reader.now.most (F.pre reader.now.nested) (F.post reader.now.nested) }
+    requires nests { Nests reader.now.bytes.now reader.now.most (F.pre reader.now.nested)
+        (F.post reader.now.nested) }
     requires fewer { length toks.now < reader.now.most }
     requires some { ahead toks.now ≢ Some (kind_of Fixed.Close) }
-    ensures spelled { IfOk result (λ r. GivensUntil reader.now.bytes.now toks.now (map given_of r.0) r.1.now) }
+    ensures spelled { IfOk result
+        (λ r. GivensUntil reader.now.bytes.now toks.now (map given_of r.0) r.1.now) }
     ensures eats { IfOk result (λ r. EatsRule givens_until toks.now r.1.now) }
-    ensures sticks { (left : ℕ) → IsErrOf result (read_fault.Stuck left) → SticksRule givens_until toks.now left }
+    ensures sticks { (left : ℕ) → IsErrOf result (read_fault.Stuck left) →
+        SticksRule givens_until toks.now left }
     ensures shorter { IfOk result (λ r. length r.1.now < length toks.now) }
 {
     let ((name, value), after) = given(reader, toks)?;
@@ -179,11 +194,14 @@ fn given<'t, F: Fn(Global, &[u8], Phrase, &[Tok]) -> Result<(Tree, usize), ReadF
     reader: &Reader<'_, F>,
     toks: &'t [Tok],
 ) -> Result<((Name, Tree), &'t [Tok]), ReadFault>
-    requires nests { Nests reader.now.bytes.now reader.now.most (F.pre reader.now.nested) (F.post reader.now.nested) }
+    requires nests { Nests reader.now.bytes.now reader.now.most (F.pre reader.now.nested)
+        (F.post reader.now.nested) }
     requires fewer { length toks.now < reader.now.most }
-    ensures spelled { IfOk result (λ r. IsGiven reader.now.bytes.now toks.now (r.0.0, tree_of r.0.1) r.1.now) }
+    ensures spelled { IfOk result
+        (λ r. IsGiven reader.now.bytes.now toks.now (r.0.0, tree_of r.0.1) r.1.now) }
     ensures eats { IfOk result (λ r. EatsRule given toks.now r.1.now) }
-    ensures sticks { (left : ℕ) → IsErrOf result (read_fault.Stuck left) → SticksRule given toks.now left }
+    ensures sticks { (left : ℕ) → IsErrOf result (read_fault.Stuck left) →
+        SticksRule given toks.now left }
     ensures shorter { IfOk result (λ r. length r.1.now < length toks.now) }
 {
     let (field, behind) = expect(toks, Fixed::Name)?;
@@ -200,12 +218,15 @@ fn text_with_holes<'t, F: Fn(Global, &[u8], Phrase, &[Tok]) -> Result<(Tree, usi
     tok: Tok,
     toks: &'t [Tok],
 ) -> Result<(Tree, &'t [Tok]), ReadFault>
-    requires nests { Nests reader.now.bytes.now reader.now.most (F.pre reader.now.nested) (F.post reader.now.nested) }
+    requires nests { Nests reader.now.bytes.now reader.now.most (F.pre reader.now.nested)
+        (F.post reader.now.nested) }
     requires fewer { length toks.now < reader.now.most }
     requires start { primary_start tok.kind ≡ Some PrimaryStart.TextOpen }
-    ensures spelled { IfOk result (λ r. Reads reader.now.bytes.now Phrase.Primary (tok ∷ toks.now) (tree_of r.0) r.1.now) }
+    ensures spelled { IfOk result (λ r. Reads reader.now.bytes.now Phrase.Primary (tok ∷ toks.now)
+        (tree_of r.0) r.1.now) }
     ensures eats { IfOk result (λ r. EatsRule (phrase Phrase.Primary) (tok ∷ toks.now) r.1.now) }
-    ensures sticks { (left : ℕ) → IsErrOf result (read_fault.Stuck left) → SticksRule (phrase Phrase.Primary) (tok ∷ toks.now) left }
+    ensures sticks { (left : ℕ) → IsErrOf result (read_fault.Stuck left) →
+        SticksRule (phrase Phrase.Primary) (tok ∷ toks.now) left }
     ensures shorter { IfOk result (λ r. length r.1.now ≤ length toks.now) }
 {
     let bytes = text_of(reader.alloc, reader.bytes, tok)?;
@@ -223,12 +244,15 @@ fn holes<'t, F: Fn(Global, &[u8], Phrase, &[Tok]) -> Result<(Tree, usize), ReadF
     tok: Tok,
     toks: &'t [Tok],
 ) -> Result<(Holes, &'t [Tok]), ReadFault>
-    requires nests { Nests reader.now.bytes.now reader.now.most (F.pre reader.now.nested) (F.post reader.now.nested) }
+    requires nests { Nests reader.now.bytes.now reader.now.most (F.pre reader.now.nested)
+        (F.post reader.now.nested) }
     requires fewer { length toks.now < reader.now.most }
     requires start { primary_start tok.kind ≡ Some PrimaryStart.TextOpen }
-    ensures spelled { IfOk result (λ r. AreHoles reader.now.bytes.now toks.now (map hole_of r.0) r.1.now) }
+    ensures spelled { IfOk result
+        (λ r. AreHoles reader.now.bytes.now toks.now (map hole_of r.0) r.1.now) }
     ensures eats { IfOk result (λ r. EatsRule (phrase Phrase.Primary) (tok ∷ toks.now) r.1.now) }
-    ensures sticks { (left : ℕ) → IsErrOf result (read_fault.Stuck left) → SticksRule (phrase Phrase.Primary) (tok ∷ toks.now) left }
+    ensures sticks { (left : ℕ) → IsErrOf result (read_fault.Stuck left) →
+        SticksRule (phrase Phrase.Primary) (tok ∷ toks.now) left }
     ensures shorter { IfOk result (λ r. length r.1.now ≤ length toks.now) }
 {
     let (first, after) = reader.inner(Phrase::Expr, toks)?;

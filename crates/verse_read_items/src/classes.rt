@@ -41,9 +41,11 @@ pub fn class_rest<'t>(
     specs: Items<Spec>,
     toks: &'t [Tok],
 ) -> Result<(ItemTree, &'t [Tok]), ReadFault>
-    ensures spelled { IfOk result (λ r. ClassRest bytes.now tok (map spec_of specs) toks.now (item_of r.0) r.1.now) }
+    ensures spelled { IfOk result
+        (λ r. ClassRest bytes.now tok (map spec_of specs) toks.now (item_of r.0) r.1.now) }
     ensures eats { IfOk result (λ r. EatsRule rules_of.class_rest toks.now r.1.now) }
-    ensures sticks { (left : ℕ) → IsErrOf result (read_fault.Stuck left) → SticksRule rules_of.class_rest toks.now left }
+    ensures sticks { (left : ℕ) → IsErrOf result (read_fault.Stuck left) →
+        SticksRule rules_of.class_rest toks.now left }
     ensures shorter { IfOk result (λ r. length r.1.now < length toks.now) }
 {
     let (class_specs, rest) = specifiers(alloc, bytes, toks)?;
@@ -63,7 +65,8 @@ fn parent<'t>(
 ) -> Result<(Option<Name>, &'t [Tok]), ReadFault>
     ensures spelled { IfOk result (λ r. Parent bytes.now toks.now r.0 r.1.now) }
     ensures eats { IfOk result (λ r. EatsRule rules_of.parent toks.now r.1.now) }
-    ensures sticks { (left : ℕ) → IsErrOf result (read_fault.Stuck left) → SticksRule rules_of.parent toks.now left }
+    ensures sticks { (left : ℕ) → IsErrOf result (read_fault.Stuck left) →
+        SticksRule rules_of.parent toks.now left }
     ensures shorter { IfOk result (λ r. length r.1.now ≤ length toks.now) }
 {
     let Some((_bracket, rest)) = take(toks, Fixed::RoundOpen) else {
@@ -83,7 +86,8 @@ fn members<'t>(
 ) -> Result<(MemberTrees, &'t [Tok]), ReadFault>
     ensures spelled { IfOk result (λ r. Members bytes.now toks.now (map member_of r.0) r.1.now) }
     ensures eats { IfOk result (λ r. EatsRule rules_of.members_until toks.now r.1.now) }
-    ensures sticks { (left : ℕ) → IsErrOf result (read_fault.Stuck left) → SticksRule rules_of.members_until toks.now left }
+    ensures sticks { (left : ℕ) → IsErrOf result (read_fault.Stuck left) →
+        SticksRule rules_of.members_until toks.now left }
     ensures shorter { IfOk result (λ r. length r.1.now < length toks.now) }
 {
     if let Some((_close, rest)) = take(toks, Fixed::Close) {
@@ -107,7 +111,8 @@ fn member_row<'t>(
     requires begun { grammar.Member bytes.now start.now (member_of first) toks.now }
     ensures spelled { IfOk result (λ r. MemberRow bytes.now start.now (map member_of r.0) r.1.now) }
     ensures eats { IfOk result (λ r. EatsRule rules_of.members_tail toks.now r.1.now) }
-    ensures sticks { (left : ℕ) → IsErrOf result (read_fault.Stuck left) → SticksRule rules_of.members_tail toks.now left }
+    ensures sticks { (left : ℕ) → IsErrOf result (read_fault.Stuck left) →
+        SticksRule rules_of.members_tail toks.now left }
     ensures shorter { IfOk result (λ r. length r.1.now ≤ length toks.now) }
 {
     let mut members = MemberTrees::new(alloc);
@@ -132,7 +137,8 @@ fn member<'t>(
 ) -> Result<(MemberTree, &'t [Tok]), ReadFault>
     ensures spelled { IfOk result (λ r. grammar.Member bytes.now toks.now (member_of r.0) r.1.now) }
     ensures eats { IfOk result (λ r. EatsRule rules_of.member toks.now r.1.now) }
-    ensures sticks { (left : ℕ) → IsErrOf result (read_fault.Stuck left) → SticksRule rules_of.member toks.now left }
+    ensures sticks { (left : ℕ) → IsErrOf result (read_fault.Stuck left) →
+        SticksRule rules_of.member toks.now left }
     ensures shorter { IfOk result (λ r. length r.1.now < length toks.now) }
 {
     if let Some((tok, rest)) = take(toks, Fixed::Var) {
@@ -151,9 +157,11 @@ fn var_member<'t>(
     toks: &'t [Tok],
 ) -> Result<(MemberTree, &'t [Tok]), ReadFault>
     requires first { tok.kind ≡ word w.Var }
-    ensures spelled { IfOk result (λ r. grammar.Member bytes.now (tok ∷ toks.now) (member_of r.0) r.1.now) }
+    ensures spelled { IfOk result
+        (λ r. grammar.Member bytes.now (tok ∷ toks.now) (member_of r.0) r.1.now) }
     ensures eats { IfOk result (λ r. EatsRule rules_of.member (tok ∷ toks.now) r.1.now) }
-    ensures sticks { (left : ℕ) → IsErrOf result (read_fault.Stuck left) → SticksRule rules_of.member (tok ∷ toks.now) left }
+    ensures sticks { (left : ℕ) → IsErrOf result (read_fault.Stuck left) →
+        SticksRule rules_of.member (tok ∷ toks.now) left }
     ensures shorter { IfOk result (λ r. length r.1.now ≤ length toks.now) }
 {
     let (var_specs, rest) = specifiers(alloc, bytes, toks)?;
@@ -173,9 +181,11 @@ fn named_member<'t>(
     toks: &'t [Tok],
 ) -> Result<(MemberTree, &'t [Tok]), ReadFault>
     requires first { tok.kind ≡ name }
-    ensures spelled { IfOk result (λ r. grammar.Member bytes.now (tok ∷ toks.now) (member_of r.0) r.1.now) }
+    ensures spelled { IfOk result
+        (λ r. grammar.Member bytes.now (tok ∷ toks.now) (member_of r.0) r.1.now) }
     ensures eats { IfOk result (λ r. EatsRule rules_of.member (tok ∷ toks.now) r.1.now) }
-    ensures sticks { (left : ℕ) → IsErrOf result (read_fault.Stuck left) → SticksRule rules_of.member (tok ∷ toks.now) left }
+    ensures sticks { (left : ℕ) → IsErrOf result (read_fault.Stuck left) →
+        SticksRule rules_of.member (tok ∷ toks.now) left }
     ensures shorter { IfOk result (λ r. length r.1.now ≤ length toks.now) }
 {
     let (specs, rest) = specifiers(alloc, bytes, toks)?;
@@ -191,9 +201,11 @@ fn member_rest<'t>(
     specs: Items<Spec>,
     toks: &'t [Tok],
 ) -> Result<(MemberTree, &'t [Tok]), ReadFault>
-    ensures spelled { IfOk result (λ r. MemberRest bytes.now tok (map spec_of specs) toks.now (member_of r.0) r.1.now) }
+    ensures spelled { IfOk result
+        (λ r. MemberRest bytes.now tok (map spec_of specs) toks.now (member_of r.0) r.1.now) }
     ensures eats { IfOk result (λ r. EatsRule rules_of.member_rest toks.now r.1.now) }
-    ensures sticks { (left : ℕ) → IsErrOf result (read_fault.Stuck left) → SticksRule rules_of.member_rest toks.now left }
+    ensures sticks { (left : ℕ) → IsErrOf result (read_fault.Stuck left) →
+        SticksRule rules_of.member_rest toks.now left }
     ensures shorter { IfOk result (λ r. length r.1.now < length toks.now) }
 {
     match take(toks, Fixed::RoundOpen) {
@@ -211,9 +223,11 @@ fn method_rest<'t>(
     specs: Items<Spec>,
     toks: &'t [Tok],
 ) -> Result<(MemberTree, &'t [Tok]), ReadFault>
-    ensures spelled { IfOk result (λ r. MemberRest bytes.now tok (map spec_of specs) toks.now (member_of r.0) r.1.now) }
+    ensures spelled { IfOk result
+        (λ r. MemberRest bytes.now tok (map spec_of specs) toks.now (member_of r.0) r.1.now) }
     ensures eats { IfOk result (λ r. EatsRule rules_of.fun_rest toks.now r.1.now) }
-    ensures sticks { (left : ℕ) → IsErrOf result (read_fault.Stuck left) → SticksRule rules_of.fun_rest toks.now left }
+    ensures sticks { (left : ℕ) → IsErrOf result (read_fault.Stuck left) →
+        SticksRule rules_of.fun_rest toks.now left }
     ensures shorter { IfOk result (λ r. length r.1.now < length toks.now) }
 {
     let (fun, rest) = fun_rest(alloc, bytes, tok, specs, toks)?;
@@ -229,9 +243,11 @@ fn plain_rest<'t>(
     specs: Items<Spec>,
     toks: &'t [Tok],
 ) -> Result<(MemberTree, &'t [Tok]), ReadFault>
-    ensures spelled { IfOk result (λ r. MemberRest bytes.now tok (map spec_of specs) toks.now (member_of r.0) r.1.now) }
+    ensures spelled { IfOk result
+        (λ r. MemberRest bytes.now tok (map spec_of specs) toks.now (member_of r.0) r.1.now) }
     ensures eats { IfOk result (λ r. EatsRule rules_of.field_rest toks.now r.1.now) }
-    ensures sticks { (left : ℕ) → IsErrOf result (read_fault.Stuck left) → SticksRule rules_of.field_rest toks.now left }
+    ensures sticks { (left : ℕ) → IsErrOf result (read_fault.Stuck left) →
+        SticksRule rules_of.field_rest toks.now left }
     ensures shorter { IfOk result (λ r. length r.1.now < length toks.now) }
 {
     let (ty, default, rest) = field_rest(alloc, bytes, toks)?;
@@ -246,9 +262,11 @@ fn field_rest<'t>(
     bytes: &[u8],
     toks: &'t [Tok],
 ) -> Result<(Written, Option<Tree>, &'t [Tok]), ReadFault>
-    ensures spelled { IfOk result (λ r. FieldRest bytes.now toks.now (written_of r.0) (option_map tree_of r.1) r.2.now) }
+    ensures spelled { IfOk result
+        (λ r. FieldRest bytes.now toks.now (written_of r.0) (option_map tree_of r.1) r.2.now) }
     ensures eats { IfOk result (λ r. EatsRule rules_of.field_rest toks.now r.2.now) }
-    ensures sticks { (left : ℕ) → IsErrOf result (read_fault.Stuck left) → SticksRule rules_of.field_rest toks.now left }
+    ensures sticks { (left : ℕ) → IsErrOf result (read_fault.Stuck left) →
+        SticksRule rules_of.field_rest toks.now left }
     ensures shorter { IfOk result (λ r. length r.2.now < length toks.now) }
 {
     let (_colon, rest) = expect(toks, Fixed::Colon)?;
@@ -264,9 +282,11 @@ fn default_value<'t>(
     bytes: &[u8],
     toks: &'t [Tok],
 ) -> Result<(Option<Tree>, &'t [Tok]), ReadFault>
-    ensures spelled { IfOk result (λ r. Default bytes.now toks.now (option_map tree_of r.0) r.1.now) }
+    ensures spelled { IfOk result
+        (λ r. Default bytes.now toks.now (option_map tree_of r.0) r.1.now) }
     ensures eats { IfOk result (λ r. EatsRule rules_of.default toks.now r.1.now) }
-    ensures sticks { (left : ℕ) → IsErrOf result (read_fault.Stuck left) → SticksRule rules_of.default toks.now left }
+    ensures sticks { (left : ℕ) → IsErrOf result (read_fault.Stuck left) →
+        SticksRule rules_of.default toks.now left }
     ensures shorter { IfOk result (λ r. length r.1.now ≤ length toks.now) }
 {
     let Some((_equals, rest)) = take(toks, Fixed::Equals) else {

@@ -33,7 +33,8 @@ pub fn item<'t>(
 ) -> Result<(ItemTree, &'t [Tok]), ReadFault>
     ensures spelled { IfOk result (λ r. grammar.Item bytes.now toks.now (item_of r.0) r.1.now) }
     ensures eats { IfOk result (λ r. EatsRule rules_of.an_item toks.now r.1.now) }
-    ensures sticks { (left : ℕ) → IsErrOf result (read_fault.Stuck left) → SticksRule rules_of.an_item toks.now left }
+    ensures sticks { (left : ℕ) → IsErrOf result (read_fault.Stuck left) →
+        SticksRule rules_of.an_item toks.now left }
     ensures shorter { IfOk result (λ r. length r.1.now < length toks.now) }
 {
     let Some((tok, rest)) = next(toks) else {
@@ -55,9 +56,11 @@ fn using_at<'t>(
     toks: &'t [Tok],
 ) -> Result<(ItemTree, &'t [Tok]), ReadFault>
     requires first { item_start tok.kind ≡ Some begins.Using }
-    ensures spelled { IfOk result (λ r. grammar.Item bytes.now (tok ∷ toks.now) (item_of r.0) r.1.now) }
+    ensures spelled { IfOk result
+        (λ r. grammar.Item bytes.now (tok ∷ toks.now) (item_of r.0) r.1.now) }
     ensures eats { IfOk result (λ r. EatsRule rules_of.an_item (tok ∷ toks.now) r.1.now) }
-    ensures sticks { (left : ℕ) → IsErrOf result (read_fault.Stuck left) → SticksRule rules_of.an_item (tok ∷ toks.now) left }
+    ensures sticks { (left : ℕ) → IsErrOf result (read_fault.Stuck left) →
+        SticksRule rules_of.an_item (tok ∷ toks.now) left }
     ensures shorter { IfOk result (λ r. length r.1.now ≤ length toks.now) }
 {
     let (path, rest) = using_rest(alloc, bytes, toks)?;
@@ -73,7 +76,8 @@ fn using_rest<'t>(
 ) -> Result<(Items<Items<Name>>, &'t [Tok]), ReadFault>
     ensures spelled { IfOk result (λ r. UsingRest bytes.now toks.now r.0 r.1.now) }
     ensures eats { IfOk result (λ r. EatsRule rules_of.using_rest toks.now r.1.now) }
-    ensures sticks { (left : ℕ) → IsErrOf result (read_fault.Stuck left) → SticksRule rules_of.using_rest toks.now left }
+    ensures sticks { (left : ℕ) → IsErrOf result (read_fault.Stuck left) →
+        SticksRule rules_of.using_rest toks.now left }
     ensures shorter { IfOk result (λ r. length r.1.now < length toks.now) }
 {
     let (_open, start) = expect(toks, Fixed::Open)?;
@@ -93,9 +97,11 @@ fn named_item<'t>(
     toks: &'t [Tok],
 ) -> Result<(ItemTree, &'t [Tok]), ReadFault>
     requires first { item_start tok.kind ≡ Some begins.Name }
-    ensures spelled { IfOk result (λ r. grammar.Item bytes.now (tok ∷ toks.now) (item_of r.0) r.1.now) }
+    ensures spelled { IfOk result
+        (λ r. grammar.Item bytes.now (tok ∷ toks.now) (item_of r.0) r.1.now) }
     ensures eats { IfOk result (λ r. EatsRule rules_of.an_item (tok ∷ toks.now) r.1.now) }
-    ensures sticks { (left : ℕ) → IsErrOf result (read_fault.Stuck left) → SticksRule rules_of.an_item (tok ∷ toks.now) left }
+    ensures sticks { (left : ℕ) → IsErrOf result (read_fault.Stuck left) →
+        SticksRule rules_of.an_item (tok ∷ toks.now) left }
     ensures shorter { IfOk result (λ r. length r.1.now ≤ length toks.now) }
 {
     let (specs, rest) = specifiers(alloc, bytes, toks)?;
@@ -111,9 +117,11 @@ fn item_rest<'t>(
     specs: Items<Spec>,
     toks: &'t [Tok],
 ) -> Result<(ItemTree, &'t [Tok]), ReadFault>
-    ensures spelled { IfOk result (λ r. ItemRest bytes.now tok (map spec_of specs) toks.now (item_of r.0) r.1.now) }
+    ensures spelled { IfOk result
+        (λ r. ItemRest bytes.now tok (map spec_of specs) toks.now (item_of r.0) r.1.now) }
     ensures eats { IfOk result (λ r. EatsRule rules_of.item_rest toks.now r.1.now) }
-    ensures sticks { (left : ℕ) → IsErrOf result (read_fault.Stuck left) → SticksRule rules_of.item_rest toks.now left }
+    ensures sticks { (left : ℕ) → IsErrOf result (read_fault.Stuck left) →
+        SticksRule rules_of.item_rest toks.now left }
     ensures shorter { IfOk result (λ r. length r.1.now < length toks.now) }
 {
     match take(toks, Fixed::Define) {
@@ -134,9 +142,11 @@ fn defined<'t>(
     specs: Items<Spec>,
     toks: &'t [Tok],
 ) -> Result<(ItemTree, &'t [Tok]), ReadFault>
-    ensures spelled { IfOk result (λ r. Defined bytes.now tok (map spec_of specs) toks.now (item_of r.0) r.1.now) }
+    ensures spelled { IfOk result
+        (λ r. Defined bytes.now tok (map spec_of specs) toks.now (item_of r.0) r.1.now) }
     ensures eats { IfOk result (λ r. EatsRule rules_of.enum_or_class toks.now r.1.now) }
-    ensures sticks { (left : ℕ) → IsErrOf result (read_fault.Stuck left) → SticksRule rules_of.enum_or_class toks.now left }
+    ensures sticks { (left : ℕ) → IsErrOf result (read_fault.Stuck left) →
+        SticksRule rules_of.enum_or_class toks.now left }
     ensures shorter { IfOk result (λ r. length r.1.now < length toks.now) }
 {
     if let Some((_enum, rest)) = take(toks, Fixed::Enum) {

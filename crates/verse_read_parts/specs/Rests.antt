@@ -15,7 +15,8 @@ use Rattle.verse_grammar.specs.Items.{Specs, Path, Values, FunRest, Default, Mem
 
 -- what stands behind the parameters of a function: its effects, its type and its body
 pub data Signature (b : List ℕ) : List Tok → List SpecTree → Written → Tree → List Tok → Type 0 where
-  signature : {d q : Tok} {ks ls ms rest : List Tok} {es : List SpecTree} {u : Written} {e : Tree} → Specs b ks es (d ∷ ls) → d.kind ≡ mark m.Colon → IsType b ls u (q ∷ ms) → q.kind ≡ mark m.Equals →
+  signature : {d q : Tok} {ks ls ms rest : List Tok} {es : List SpecTree} {u : Written} {e : Tree} → Specs b ks es (d ∷ ls) →
+      d.kind ≡ mark m.Colon → IsType b ls u (q ∷ ms) → q.kind ≡ mark m.Equals →
       Reads b p.Body ms e rest → Signature b ks es u e rest
 
 -- the symbols of that part

@@ -30,9 +30,11 @@ pub fn enum_rest<'t>(
     specs: Items<Spec>,
     toks: &'t [Tok],
 ) -> Result<(ItemTree, &'t [Tok]), ReadFault>
-    ensures spelled { IfOk result (λ r. EnumRest bytes.now tok (map spec_of specs) toks.now (item_of r.0) r.1.now) }
+    ensures spelled { IfOk result
+        (λ r. EnumRest bytes.now tok (map spec_of specs) toks.now (item_of r.0) r.1.now) }
     ensures eats { IfOk result (λ r. EatsRule rules_of.enum_rest toks.now r.1.now) }
-    ensures sticks { (left : ℕ) → IsErrOf result (read_fault.Stuck left) → SticksRule rules_of.enum_rest toks.now left }
+    ensures sticks { (left : ℕ) → IsErrOf result (read_fault.Stuck left) →
+        SticksRule rules_of.enum_rest toks.now left }
     ensures shorter { IfOk result (λ r. length r.1.now < length toks.now) }
 {
     let (_braces, rest) = expect(toks, Fixed::Open)?;
@@ -50,7 +52,8 @@ fn values<'t>(
 ) -> Result<(Items<Name>, &'t [Tok]), ReadFault>
     ensures spelled { IfOk result (λ r. Values bytes.now toks.now r.0 r.1.now) }
     ensures eats { IfOk result (λ r. EatsRule rules_of.values_until toks.now r.1.now) }
-    ensures sticks { (left : ℕ) → IsErrOf result (read_fault.Stuck left) → SticksRule rules_of.values_until toks.now left }
+    ensures sticks { (left : ℕ) → IsErrOf result (read_fault.Stuck left) →
+        SticksRule rules_of.values_until toks.now left }
     ensures shorter { IfOk result (λ r. length r.1.now < length toks.now) }
 {
     if let Some((_close, rest)) = take(toks, Fixed::Close) {
@@ -73,7 +76,8 @@ fn value_row<'t>(
     requires first { tok.kind ≡ name }
     ensures spelled { IfOk result (λ r. ValueRow bytes.now (tok ∷ toks.now) r.0 r.1.now) }
     ensures eats { IfOk result (λ r. EatsRule rules_of.values_tail toks.now r.1.now) }
-    ensures sticks { (left : ℕ) → IsErrOf result (read_fault.Stuck left) → SticksRule rules_of.values_tail toks.now left }
+    ensures sticks { (left : ℕ) → IsErrOf result (read_fault.Stuck left) →
+        SticksRule rules_of.values_tail toks.now left }
     ensures shorter { IfOk result (λ r. length r.1.now ≤ length toks.now) }
 {
     let mut values = Items::new(alloc);

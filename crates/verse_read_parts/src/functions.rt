@@ -35,7 +35,8 @@ fn param<'t>(
 ) -> Result<(ParamTree, &'t [Tok]), ReadFault>
     ensures spelled { IfOk result (λ r. grammar.Param bytes.now toks.now (param_of r.0) r.1.now) }
     ensures eats { IfOk result (λ r. EatsRule rules_of.param toks.now r.1.now) }
-    ensures sticks { (left : ℕ) → IsErrOf result (read_fault.Stuck left) → SticksRule rules_of.param toks.now left }
+    ensures sticks { (left : ℕ) → IsErrOf result (read_fault.Stuck left) →
+        SticksRule rules_of.param toks.now left }
     ensures shorter { IfOk result (λ r. length r.1.now < length toks.now) }
 {
     let (tok, rest) = expect(toks, Fixed::Name)?;
@@ -54,7 +55,8 @@ fn params<'t>(
 ) -> Result<(ParamTrees, &'t [Tok]), ReadFault>
     ensures spelled { IfOk result (λ r. Params bytes.now toks.now (map param_of r.0) r.1.now) }
     ensures eats { IfOk result (λ r. EatsRule rules_of.params_until toks.now r.1.now) }
-    ensures sticks { (left : ℕ) → IsErrOf result (read_fault.Stuck left) → SticksRule rules_of.params_until toks.now left }
+    ensures sticks { (left : ℕ) → IsErrOf result (read_fault.Stuck left) →
+        SticksRule rules_of.params_until toks.now left }
     ensures shorter { IfOk result (λ r. length r.1.now < length toks.now) }
 {
     if let Some((_close, rest)) = take(toks, Fixed::RoundClose) {
@@ -78,7 +80,8 @@ fn param_row<'t>(
     requires begun { grammar.Param bytes.now start.now (param_of first) toks.now }
     ensures spelled { IfOk result (λ r. ParamRow bytes.now start.now (map param_of r.0) r.1.now) }
     ensures eats { IfOk result (λ r. EatsRule rules_of.params_tail toks.now r.1.now) }
-    ensures sticks { (left : ℕ) → IsErrOf result (read_fault.Stuck left) → SticksRule rules_of.params_tail toks.now left }
+    ensures sticks { (left : ℕ) → IsErrOf result (read_fault.Stuck left) →
+        SticksRule rules_of.params_tail toks.now left }
     ensures shorter { IfOk result (λ r. length r.1.now ≤ length toks.now) }
 {
     let mut params = ParamTrees::new(alloc);
@@ -103,9 +106,11 @@ pub fn fun_rest<'t>(
     specs: Items<Spec>,
     toks: &'t [Tok],
 ) -> Result<(FunTree, &'t [Tok]), ReadFault>
-    ensures spelled { IfOk result (λ r. FunRest bytes.now tok (map spec_of specs) toks.now (fun_of r.0) r.1.now) }
+    ensures spelled { IfOk result
+        (λ r. FunRest bytes.now tok (map spec_of specs) toks.now (fun_of r.0) r.1.now) }
     ensures eats { IfOk result (λ r. EatsRule rules_of.fun_rest toks.now r.1.now) }
-    ensures sticks { (left : ℕ) → IsErrOf result (read_fault.Stuck left) → SticksRule rules_of.fun_rest toks.now left }
+    ensures sticks { (left : ℕ) → IsErrOf result (read_fault.Stuck left) →
+        SticksRule rules_of.fun_rest toks.now left }
     ensures shorter { IfOk result (λ r. length r.1.now < length toks.now) }
 {
     let (_bracket, rest) = expect(toks, Fixed::RoundOpen)?;
@@ -122,9 +127,12 @@ fn signature<'t>(
     bytes: &[u8],
     toks: &'t [Tok],
 ) -> Result<(Items<Spec>, Written, Tree, &'t [Tok]), ReadFault>
-    ensures spelled { IfOk result (λ r. Signature bytes.now toks.now (map spec_of r.0) (written_of r.1) (tree_of r.2) r.3.now) }
+    ensures spelled { IfOk result
+        (λ r. Signature bytes.now toks.now (map spec_of r.0) (written_of r.1)
+        (tree_of r.2) r.3.now) }
     ensures eats { IfOk result (λ r. Eats signature_symbols toks.now r.3.now) }
-    ensures sticks { (left : ℕ) → IsErrOf result (read_fault.Stuck left) → Sticks signature_symbols toks.now left }
+    ensures sticks { (left : ℕ) → IsErrOf result (read_fault.Stuck left) →
+        Sticks signature_symbols toks.now left }
     ensures shorter { IfOk result (λ r. length r.3.now < length toks.now) }
 {
     let (effects, rest) = specifiers(alloc, bytes, toks)?;

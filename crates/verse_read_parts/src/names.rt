@@ -52,7 +52,8 @@ pub fn specifiers<'t>(
 ) -> Result<(Items<Spec>, &'t [Tok]), ReadFault>
     ensures spelled { IfOk result (λ r. Specs bytes.now toks.now (map spec_of r.0) r.1.now) }
     ensures eats { IfOk result (λ r. EatsRule rules_of.specs toks.now r.1.now) }
-    ensures sticks { (left : ℕ) → IsErrOf result (read_fault.Stuck left) → SticksRule rules_of.specs toks.now left }
+    ensures sticks { (left : ℕ) → IsErrOf result (read_fault.Stuck left) →
+        SticksRule rules_of.specs toks.now left }
     ensures shorter { IfOk result (λ r. length r.1.now ≤ length toks.now) }
 {
     let mut specs = Items::new(alloc);
@@ -77,7 +78,8 @@ pub fn dotted<'t>(
 ) -> Result<(Items<Name>, &'t [Tok]), ReadFault>
     ensures spelled { IfOk result (λ r. Dotted bytes.now toks.now r.0 r.1.now) }
     ensures eats { IfOk result (λ r. EatsRule rules_of.dotted toks.now r.1.now) }
-    ensures sticks { (left : ℕ) → IsErrOf result (read_fault.Stuck left) → SticksRule rules_of.dotted toks.now left }
+    ensures sticks { (left : ℕ) → IsErrOf result (read_fault.Stuck left) →
+        SticksRule rules_of.dotted toks.now left }
     ensures shorter { IfOk result (λ r. length r.1.now < length toks.now) }
 {
     let (tok, rest) = expect(toks, Fixed::Name)?;
@@ -95,7 +97,8 @@ fn dots<'t>(
     requires first { tok.kind ≡ name }
     ensures spelled { IfOk result (λ r. Dotted bytes.now (tok ∷ toks.now) r.0 r.1.now) }
     ensures eats { IfOk result (λ r. EatsRule rules_of.dots_tail toks.now r.1.now) }
-    ensures sticks { (left : ℕ) → IsErrOf result (read_fault.Stuck left) → SticksRule rules_of.dots_tail toks.now left }
+    ensures sticks { (left : ℕ) → IsErrOf result (read_fault.Stuck left) →
+        SticksRule rules_of.dots_tail toks.now left }
     ensures shorter { IfOk result (λ r. length r.1.now ≤ length toks.now) }
 {
     let mut names = Items::new(alloc);
@@ -123,7 +126,8 @@ pub fn path<'t>(
     requires begun { Path bytes.now start.now (first ∷ []) toks.now }
     ensures spelled { IfOk result (λ r. Path bytes.now start.now r.0 r.1.now) }
     ensures eats { IfOk result (λ r. EatsRule rules_of.path_tail toks.now r.1.now) }
-    ensures sticks { (left : ℕ) → IsErrOf result (read_fault.Stuck left) → SticksRule rules_of.path_tail toks.now left }
+    ensures sticks { (left : ℕ) → IsErrOf result (read_fault.Stuck left) →
+        SticksRule rules_of.path_tail toks.now left }
     ensures shorter { IfOk result (λ r. length r.1.now ≤ length toks.now) }
 {
     let mut parts = Items::new(alloc);

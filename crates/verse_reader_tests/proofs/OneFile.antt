@@ -13,7 +13,8 @@ nodes_together (i ∷ is) js = let h : items_nodes (is ++ js) ≡ items_nodes is
 pub one_file : (items : List Item) → items_nodes (map item_of items) ≤ 4000000000 → program_nodes (joined (items ∷ [])) < 4294967295
 one_file items h = let e = nodes_together (map item_of items) [] in omega (arith, e)
 
-pub two_files : (first second : List Item) → items_nodes (map item_of first) ≤ 2000000000 → items_nodes (map item_of second) ≤ 2000000000 → program_nodes (joined (first ∷ second ∷ [])) < 4294967295
+pub two_files : (first second : List Item) → items_nodes (map item_of first) ≤ 2000000000 → items_nodes (map item_of second) ≤ 2000000000 →
+    program_nodes (joined (first ∷ second ∷ [])) < 4294967295
 two_files first second h k =
     let e = nodes_together (map item_of first) (map item_of second ++ []) in
     let f = nodes_together (map item_of second) [] in

@@ -28,11 +28,16 @@ impl<'b, F: Fn(Global, &[u8], Phrase, &[Tok]) -> Result<(Tree, usize), ReadFault
         close: Fixed,
         toks: &'t [Tok],
     ) -> Result<(Trees, &'t [Tok]), ReadFault>
-        requires nests { Nests self.now.bytes.now self.now.most (F.pre self.now.nested) (F.post self.now.nested) }
+        requires nests { Nests self.now.bytes.now self.now.most (F.pre self.now.nested)
+            (F.post self.now.nested) }
         requires fewer { length toks.now < self.now.most }
-        ensures spelled { IfOk result (λ r. Closed self.now.bytes.now what (kind_of separator) (kind_of close) toks.now (map tree_of r.0) r.1.now) }
-        ensures eats { IfOk result (λ r. EatsRule (closed what (kind_of separator) (kind_of close)) toks.now r.1.now) }
-        ensures sticks { (left : ℕ) → IsErrOf result (read_fault.Stuck left) → SticksRule (closed what (kind_of separator) (kind_of close)) toks.now left }
+        ensures spelled { IfOk result
+            (λ r. Closed self.now.bytes.now what (kind_of separator) (kind_of close) toks.now
+            (map tree_of r.0) r.1.now) }
+        ensures eats { IfOk result (λ r.
+            EatsRule (closed what (kind_of separator) (kind_of close)) toks.now r.1.now) }
+        ensures sticks { (left : ℕ) → IsErrOf result (read_fault.Stuck left) →
+            SticksRule (closed what (kind_of separator) (kind_of close)) toks.now left }
         ensures shorter { IfOk result (λ r. length r.1.now < length toks.now) }
     {
         let (first, after) = self.inner(what, toks)?;
@@ -59,11 +64,16 @@ impl<'b, F: Fn(Global, &[u8], Phrase, &[Tok]) -> Result<(Tree, usize), ReadFault
         close: Fixed,
         toks: &'t [Tok],
     ) -> Result<(Trees, &'t [Tok]), ReadFault>
-        requires nests { Nests self.now.bytes.now self.now.most (F.pre self.now.nested) (F.post self.now.nested) }
+        requires nests { Nests self.now.bytes.now self.now.most (F.pre self.now.nested)
+            (F.post self.now.nested) }
         requires fewer { length toks.now < self.now.most }
-        ensures spelled { IfOk result (λ r. Until self.now.bytes.now what (kind_of separator) (kind_of close) toks.now (map tree_of r.0) r.1.now) }
-        ensures eats { IfOk result (λ r. EatsRule (until what (kind_of separator) (kind_of close)) toks.now r.1.now) }
-        ensures sticks { (left : ℕ) → IsErrOf result (read_fault.Stuck left) → SticksRule (until what (kind_of separator) (kind_of close)) toks.now left }
+        ensures spelled { IfOk result
+            (λ r. Until self.now.bytes.now what (kind_of separator) (kind_of close) toks.now
+            (map tree_of r.0) r.1.now) }
+        ensures eats { IfOk result (λ r.
+            EatsRule (until what (kind_of separator) (kind_of close)) toks.now r.1.now) }
+        ensures sticks { (left : ℕ) → IsErrOf result (read_fault.Stuck left) →
+            SticksRule (until what (kind_of separator) (kind_of close)) toks.now left }
         ensures shorter { IfOk result (λ r. length r.1.now < length toks.now) }
     {
         match take(toks, close) {

@@ -29,11 +29,14 @@ pub struct Reader<'b, F> {
 impl<'b, F: Fn(Global, &[u8], Phrase, &[Tok]) -> Result<(Tree, usize), ReadFault>> Reader<'b, F> {
     /// A phrase inside another.
     pub fn inner<'t>(&self, what: Phrase, toks: &'t [Tok]) -> Result<(Tree, &'t [Tok]), ReadFault>
-        requires nests { Nests self.now.bytes.now self.now.most (F.pre self.now.nested) (F.post self.now.nested) }
+        requires nests { Nests self.now.bytes.now self.now.most (F.pre self.now.nested)
+            (F.post self.now.nested) }
         requires fewer { length toks.now < self.now.most }
-        ensures spelled { IfOk result (λ r. Reads self.now.bytes.now what toks.now (tree_of r.0) r.1.now) }
+        ensures spelled { IfOk result
+            (λ r. Reads self.now.bytes.now what toks.now (tree_of r.0) r.1.now) }
         ensures eats { IfOk result (λ r. EatsRule (phrase what) toks.now r.1.now) }
-        ensures sticks { (left : ℕ) → IsErrOf result (read_fault.Stuck left) → SticksRule (phrase what) toks.now left }
+        ensures sticks { (left : ℕ) → IsErrOf result (read_fault.Stuck left) →
+            SticksRule (phrase what) toks.now left }
         ensures shorter { IfOk result (λ r. length r.1.now < length toks.now) }
     {
         let (expr, count) = (self.nested)(self.alloc, self.bytes, what, toks)?;

@@ -1,6 +1,7 @@
 //! How readers go over toks, and why they fail.
 
-ghost use Rattle.std.specs.Prelude.{◌≡◌, ◌≢◌, ◌≤◌, ◌∷◌, [], ℕ, Some, MatchOption, IfOk, length, drop};
+ghost use Rattle.std.specs.Prelude.{◌≡◌, ◌≢◌, ◌≤◌, ◌∷◌, [], ℕ, Some, MatchOption, IfOk, length};
+ghost use Rattle.std.specs.Prelude.{drop};
 ghost use Rattle.std.specs.Result.{IsErrOf};
 ghost use Rattle.verse_grammar.specs.Toks.{ahead};
 ghost use Rattle.verse_grammar.specs.Starts.{kind_of};
@@ -56,7 +57,8 @@ pub fn next(toks: &[Tok]) -> Option<(Tok, &[Tok])>
 /// The first tok and those behind it, where it is of this kind.
 #[tactic(auto, using(verse_grammar::proofs::Fixing::fixed_kind, crate::proofs::Taking::other_ahead, crate::proofs::Taking::none_ahead))]
 pub fn take(toks: &[Tok], what: Fixed) -> Option<(Tok, &[Tok])>
-    ensures { MatchOption result (ahead toks.now ≢ Some (kind_of what)) (λ r. (toks.now ≡ r.0 ∷ r.1.now) × (r.0.kind ≡ kind_of what)) }
+    ensures { MatchOption result (ahead toks.now ≢ Some (kind_of what))
+        (λ r. (toks.now ≡ r.0 ∷ r.1.now) × (r.0.kind ≡ kind_of what)) }
 {
     let (tok, rest) = next(toks)?;
     match fixed_at(tok.kind) {
@@ -70,7 +72,8 @@ pub fn expect(toks: &[Tok], what: Fixed) -> Result<(Tok, &[Tok]), ReadFault>
     ensures found { IfOk result (λ r. toks.now ≡ r.0 ∷ r.1.now) }
     ensures kind { IfOk result (λ r. r.0.kind ≡ kind_of what) }
     ensures left { (left : ℕ) → IsErrOf result (read_fault.Stuck left) → left ≡ length toks.now }
-    ensures other { (left : ℕ) → IsErrOf result (read_fault.Stuck left) → ahead toks.now ≢ Some (kind_of what) }
+    ensures other { (left : ℕ) → IsErrOf result (read_fault.Stuck left) →
+        ahead toks.now ≢ Some (kind_of what) }
     ensures needs_no_memory { IsErrOf result read_fault.Memory → ⊥ }
 {
     match take(toks, what) {

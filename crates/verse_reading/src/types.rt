@@ -34,7 +34,8 @@ pub fn type_at<'t>(
 ) -> Result<(Written, &'t [Tok]), ReadFault>
     ensures spelled { IfOk result (λ r. IsType bytes.now toks.now (written_of r.0) r.1.now) }
     ensures eats { IfOk result (λ r. EatsRule a_type toks.now r.1.now) }
-    ensures sticks { (left : ℕ) → IsErrOf result (read_fault.Stuck left) → SticksRule a_type toks.now left }
+    ensures sticks { (left : ℕ) → IsErrOf result (read_fault.Stuck left) →
+        SticksRule a_type toks.now left }
     ensures shorter { IfOk result (λ r. length r.1.now < length toks.now) }
 {
     let Some((tok, rest)) = next(toks) else {
@@ -66,9 +67,11 @@ fn option_type<'t>(
     toks: &'t [Tok],
 ) -> Result<(Written, &'t [Tok]), ReadFault>
     requires start { type_start tok.kind ≡ Some TypeStart.Option }
-    ensures spelled { IfOk result (λ r. IsType bytes.now (tok ∷ toks.now) (written_of r.0) r.1.now) }
+    ensures spelled { IfOk result
+        (λ r. IsType bytes.now (tok ∷ toks.now) (written_of r.0) r.1.now) }
     ensures eats { IfOk result (λ r. EatsRule a_type (tok ∷ toks.now) r.1.now) }
-    ensures sticks { (left : ℕ) → IsErrOf result (read_fault.Stuck left) → SticksRule a_type (tok ∷ toks.now) left }
+    ensures sticks { (left : ℕ) → IsErrOf result (read_fault.Stuck left) →
+        SticksRule a_type (tok ∷ toks.now) left }
     ensures shorter { IfOk result (λ r. length r.1.now < length toks.now) }
 {
     let (content, rest) = type_at(alloc, bytes, toks)?;
@@ -85,9 +88,11 @@ fn bracket_type<'t>(
     toks: &'t [Tok],
 ) -> Result<(Written, &'t [Tok]), ReadFault>
     requires start { type_start tok.kind ≡ Some TypeStart.Bracket }
-    ensures spelled { IfOk result (λ r. IsType bytes.now (tok ∷ toks.now) (written_of r.0) r.1.now) }
+    ensures spelled { IfOk result
+        (λ r. IsType bytes.now (tok ∷ toks.now) (written_of r.0) r.1.now) }
     ensures eats { IfOk result (λ r. EatsRule a_type (tok ∷ toks.now) r.1.now) }
-    ensures sticks { (left : ℕ) → IsErrOf result (read_fault.Stuck left) → SticksRule a_type (tok ∷ toks.now) left }
+    ensures sticks { (left : ℕ) → IsErrOf result (read_fault.Stuck left) →
+        SticksRule a_type (tok ∷ toks.now) left }
     ensures shorter { IfOk result (λ r. length r.1.now < length toks.now) }
 {
     match take(toks, Fixed::SquareClose) {
@@ -110,9 +115,11 @@ fn map_type<'t>(
 ) -> Result<(Written, &'t [Tok]), ReadFault>
     requires other { ahead toks.now ≢ Some (kind_of Fixed.SquareClose) }
     requires start { type_start tok.kind ≡ Some TypeStart.Bracket }
-    ensures spelled { IfOk result (λ r. IsType bytes.now (tok ∷ toks.now) (written_of r.0) r.1.now) }
+    ensures spelled { IfOk result
+        (λ r. IsType bytes.now (tok ∷ toks.now) (written_of r.0) r.1.now) }
     ensures eats { IfOk result (λ r. EatsRule a_type (tok ∷ toks.now) r.1.now) }
-    ensures sticks { (left : ℕ) → IsErrOf result (read_fault.Stuck left) → SticksRule a_type (tok ∷ toks.now) left }
+    ensures sticks { (left : ℕ) → IsErrOf result (read_fault.Stuck left) →
+        SticksRule a_type (tok ∷ toks.now) left }
     ensures shorter { IfOk result (λ r. length r.1.now < length toks.now) }
 {
     let (key, rest) = type_at(alloc, bytes, toks)?;
@@ -133,9 +140,11 @@ fn tuple_type<'t>(
     toks: &'t [Tok],
 ) -> Result<(Written, &'t [Tok]), ReadFault>
     requires start { type_start tok.kind ≡ Some TypeStart.Tuple }
-    ensures spelled { IfOk result (λ r. IsType bytes.now (tok ∷ toks.now) (written_of r.0) r.1.now) }
+    ensures spelled { IfOk result
+        (λ r. IsType bytes.now (tok ∷ toks.now) (written_of r.0) r.1.now) }
     ensures eats { IfOk result (λ r. EatsRule a_type (tok ∷ toks.now) r.1.now) }
-    ensures sticks { (left : ℕ) → IsErrOf result (read_fault.Stuck left) → SticksRule a_type (tok ∷ toks.now) left }
+    ensures sticks { (left : ℕ) → IsErrOf result (read_fault.Stuck left) →
+        SticksRule a_type (tok ∷ toks.now) left }
     ensures shorter { IfOk result (λ r. length r.1.now < length toks.now) }
 {
     let (_, rest) = expect(toks, Fixed::RoundOpen)?;
@@ -156,7 +165,8 @@ fn types<'t>(
 ) -> Result<(Writtens, &'t [Tok]), ReadFault>
     ensures spelled { IfOk result (λ r. AreTypes bytes.now toks.now (map written_of r.0) r.1.now) }
     ensures eats { IfOk result (λ r. EatsRule types toks.now r.1.now) }
-    ensures sticks { (left : ℕ) → IsErrOf result (read_fault.Stuck left) → SticksRule types toks.now left }
+    ensures sticks { (left : ℕ) → IsErrOf result (read_fault.Stuck left) →
+        SticksRule types toks.now left }
     ensures shorter { IfOk result (λ r. length r.1.now < length toks.now) }
 {
     let (first, after) = type_at(alloc, bytes, toks)?;
@@ -181,9 +191,11 @@ fn task_type<'t>(
     toks: &'t [Tok],
 ) -> Result<(Written, &'t [Tok]), ReadFault>
     requires start { type_start tok.kind ≡ Some TypeStart.Task }
-    ensures spelled { IfOk result (λ r. IsType bytes.now (tok ∷ toks.now) (written_of r.0) r.1.now) }
+    ensures spelled { IfOk result
+        (λ r. IsType bytes.now (tok ∷ toks.now) (written_of r.0) r.1.now) }
     ensures eats { IfOk result (λ r. EatsRule a_type (tok ∷ toks.now) r.1.now) }
-    ensures sticks { (left : ℕ) → IsErrOf result (read_fault.Stuck left) → SticksRule a_type (tok ∷ toks.now) left }
+    ensures sticks { (left : ℕ) → IsErrOf result (read_fault.Stuck left) →
+        SticksRule a_type (tok ∷ toks.now) left }
     ensures shorter { IfOk result (λ r. length r.1.now < length toks.now) }
 {
     let (_, rest) = expect(toks, Fixed::RoundOpen)?;
@@ -202,9 +214,11 @@ fn event_type<'t>(
     toks: &'t [Tok],
 ) -> Result<(Written, &'t [Tok]), ReadFault>
     requires start { type_start tok.kind ≡ Some TypeStart.Event }
-    ensures spelled { IfOk result (λ r. IsType bytes.now (tok ∷ toks.now) (written_of r.0) r.1.now) }
+    ensures spelled { IfOk result
+        (λ r. IsType bytes.now (tok ∷ toks.now) (written_of r.0) r.1.now) }
     ensures eats { IfOk result (λ r. EatsRule a_type (tok ∷ toks.now) r.1.now) }
-    ensures sticks { (left : ℕ) → IsErrOf result (read_fault.Stuck left) → SticksRule a_type (tok ∷ toks.now) left }
+    ensures sticks { (left : ℕ) → IsErrOf result (read_fault.Stuck left) →
+        SticksRule a_type (tok ∷ toks.now) left }
     ensures shorter { IfOk result (λ r. length r.1.now < length toks.now) }
 {
     let (_, rest) = expect(toks, Fixed::RoundOpen)?;

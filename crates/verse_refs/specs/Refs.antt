@@ -42,4 +42,5 @@ function_by k (Some r) = function_of k r
 
 -- `Print`, `Floor`, `Ceil` and `Mod` by their numbers
 abbrev pub builtin_by : ℕ → Option Builtin
-builtin_by i = cond (nat_eq i 0) (Some b.Print) (cond (nat_eq i 1) (Some b.Round) (cond (nat_eq i 2) (Some b.Round) (cond (nat_eq i 3) (Some b.Modulo) None)))
+builtin_by i = cond (nat_eq i 0) (Some b.Print)
+    (cond (nat_eq i 1) (Some b.Round) (cond (nat_eq i 2) (Some b.Round) (cond (nat_eq i 3) (Some b.Modulo) None)))

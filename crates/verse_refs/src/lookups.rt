@@ -25,7 +25,8 @@ fn method_in<'a>(names: &'a Names, class: &ClassInfo, method: u32) -> Option<&'a
 }
 
 fn method_at<'a>(names: &'a Names, class: u32, method: u32) -> Option<&'a FunInfo>
-    ensures { option_copied result ≡ r.method_in names.now method (slice_get names.now.classes class) }
+    ensures { option_copied result ≡
+        r.method_in names.now method (slice_get names.now.classes class) }
 {
     match names.classes.get(class as usize) {
         None => None,

@@ -10,7 +10,8 @@ pub any_name : (x : List ℕ) (ks : List (Bor (List ℕ))) → has_name x (map b
 any_name x [] = refl
 any_name x (k ∷ ks) = by (bytes_eq x k.now) refl (any_name x ks)
   where
-    by : (b : Bool) → bytes_eq x k.now ≡ b → has_name x (map bytes_of ks) ≡ list_any (λ k. bytes_eq x k.now) ks → has_name x (map bytes_of (k ∷ ks)) ≡ list_any (λ k. bytes_eq x k.now) (k ∷ ks)
+    by : (b : Bool) → bytes_eq x k.now ≡ b → has_name x (map bytes_of ks) ≡ list_any (λ k. bytes_eq x k.now) ks →
+        has_name x (map bytes_of (k ∷ ks)) ≡ list_any (λ k. bytes_eq x k.now) (k ∷ ks)
     by true e h = rw e refl
     by false e h = rw e h
 
@@ -26,10 +27,12 @@ map_behind : (ks : List (Bor (List ℕ))) (x : Bor (List ℕ)) → map bytes_of 
 map_behind [] x = refl
 map_behind (k ∷ ks) x = ap (λ l. k.now ∷ l) (map_behind ks x)
 
-pub insert_name : (x : Bor (List ℕ)) (ks : List (Bor (List ℕ))) → map bytes_of (insert_key (λ a b. bytes_eq a.now b.now) ks x) ≡ with_name x.now (map bytes_of ks)
+pub insert_name : (x : Bor (List ℕ)) (ks : List (Bor (List ℕ))) → map bytes_of (insert_key (λ a b. bytes_eq a.now b.now) ks x) ≡
+    with_name x.now (map bytes_of ks)
 insert_name x ks = by (list_any (λ k. bytes_eq x.now k.now) ks) refl
   where
-    by : (b : Bool) → list_any (λ k. bytes_eq x.now k.now) ks ≡ b → map bytes_of (insert_key (λ a b. bytes_eq a.now b.now) ks x) ≡ with_name x.now (map bytes_of ks)
+    by : (b : Bool) → list_any (λ k. bytes_eq x.now k.now) ks ≡ b → map bytes_of (insert_key (λ a b. bytes_eq a.now b.now) ks x) ≡
+        with_name x.now (map bytes_of ks)
     by true e = rw (any_name x.now ks, e) refl
     by false e = rw (any_name x.now ks, e) (map_behind ks x)
 

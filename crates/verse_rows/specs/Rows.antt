@@ -11,7 +11,8 @@ use Rattle.verse_walk.specs.Nodes.{number_of_tree}
 use Rattle.verse_rows.specs.Sets.{has_number}
 use Rattle.verse_rows.specs.Facts.{Facts, classes, named_ref, type_at, type_of}
 use Rattle.verse_rows.specs.Spelling.{spelled_by}
-use Rattle.verse_rows.specs.Parts.{types_of, joined, keys_from, values_from, last_type, chain_type, compared_type, assigned_type, queried_type}
+use Rattle.verse_rows.specs.Parts.{types_of, joined, keys_from, values_from, last_type, chain_type, compared_type, assigned_type}
+use Rattle.verse_rows.specs.Parts.{queried_type}
 use Rattle.verse_rows.specs.Members.{field_type, member_of, part_type, is_value}
 use Rattle.verse_rows.specs.Callees.{callee_of}
 use Rattle.verse_rows.specs.Calls.{call_type, index_type, content_of}

@@ -21,7 +21,8 @@ use Rattle.verse_rows.specs.Facts.{World, Facts, classes, named_ref, type_of}
 use Rattle.verse_rows.specs.Judgement.{Judgement}
 use Rattle.verse_rows.specs.Members.{member_ref}
 use Rattle.verse_rows.specs.Rows.{spelled, row}
-use Rattle.verse_rows.specs.TypeRules.{mismatched, uncallable, miscounted, incomparable, unsettable, lacking, memberless, alone, uncovered, unrounded, is_keyless, is_too_deep}
+use Rattle.verse_rows.specs.TypeRules.{mismatched, uncallable, miscounted, incomparable, unsettable, lacking, memberless, alone, uncovered}
+use Rattle.verse_rows.specs.TypeRules.{unrounded, is_keyless, is_too_deep}
 
 -- the rules of a form, the least code first
 abbrev pub form_rules : Facts → Around → ℕ → Shape → List (ℕ × Bool)
@@ -205,7 +206,8 @@ noted n p j r defines left x = record {
 }
 
 unfoldable pub step : World → Node → Sight → Sight
-step k v x = noted v.number v.place (judge (facts k x) v) (ref_by (facts k x) v.number v.what) (defines_variable v.what) (with_loop (loop_left v.around v.what) x.left) x
+step k v x = noted v.number v.place (judge (facts k x) v) (ref_by (facts k x) v.number v.what) (defines_variable v.what)
+    (with_loop (loop_left v.around v.what) x.left) x
 
 -- a node breaks the rule c
 abbrev pub Breaks : World → Node → Sight → ℕ → Type 0

@@ -14,10 +14,12 @@ use Rattle.verse_walk.specs.Around.{Used, free, callee, object, argument, value,
 use Rattle.verse_walk.specs.Nodes.{number_of_tree}
 use Rattle.verse_rows.specs.Facts.{Facts, classes, named_ref, type_of, var_at}
 use Rattle.verse_rows.specs.Keys.{has_keys}
-use Rattle.verse_rows.specs.Parts.{count, do_chain, is_quotient, is_equality, are_ints, is_int, have_equality, can_assign, can_query, have_texts}
+use Rattle.verse_rows.specs.Parts.{count, do_chain, is_quotient, is_equality, are_ints, is_int, have_equality, can_assign, can_query}
+use Rattle.verse_rows.specs.Parts.{have_texts}
 use Rattle.verse_rows.specs.Members.{is_var_field, member_of, may_stand, givens_fit, are_fields, has_all, is_value}
 use Rattle.verse_rows.specs.Callees.{callee_of}
-use Rattle.verse_rows.specs.Calls.{arguments_fit, indices_fit, call_wanted, index_wanted, are_wanted, can_call, can_stand_indexed, has_called_item, is_suspending}
+use Rattle.verse_rows.specs.Calls.{arguments_fit, indices_fit, call_wanted, index_wanted, are_wanted, can_call, can_stand_indexed}
+use Rattle.verse_rows.specs.Calls.{has_called_item, is_suspending}
 use Rattle.verse_rows.specs.Loops.{all_take}
 use Rattle.verse_rows.specs.Cases.{can_case, are_covered}
 use Rattle.verse_rows.specs.Rows.{spelled}

@@ -102,7 +102,8 @@ fn action_of<'a>(object: &'a Ty, name: &[u8], ty: &'a Ty) -> Callee<'a>
 }
 
 fn form_callee<'a>(facts: &Facts<'a>, form: &Form, ty: &'a Ty) -> Callee<'a>
-    ensures { callee_of result ≡ c.shape_callee (facts_of facts.now) (shape_of form.now) (ty_of ty.now) }
+    ensures { callee_of result ≡ c.shape_callee (facts_of facts.now) (shape_of form.now)
+        (ty_of ty.now) }
 {
     match form {
         Form::Member(object, name) => action_of(facts.type_of(object.get()), name.as_slice(), ty),
@@ -111,7 +112,8 @@ fn form_callee<'a>(facts: &Facts<'a>, form: &Form, ty: &'a Ty) -> Callee<'a>
 }
 
 fn callee_by<'a>(facts: &Facts<'a>, what: Ref, form: &Form, ty: &'a Ty) -> Callee<'a>
-    ensures { callee_of result ≡ c.callee_by (facts_of facts.now) (Some what) (shape_of form.now) (ty_of ty.now) }
+    ensures { callee_of result ≡ c.callee_by (facts_of facts.now) (Some what) (shape_of form.now)
+        (ty_of ty.now) }
 {
     match function_of(facts.world.names, what) {
         Some(function) => Callee::Function(function),

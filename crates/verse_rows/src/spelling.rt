@@ -58,8 +58,10 @@ fn boxed(alloc: Global, refs: &[Option<Ref>], ty: &TyExpr) -> Result<Boxed<Ty>, 
 
 #[cycle(spelled)]
 fn map_spelled(alloc: Global, refs: &[Option<Ref>], parts: &MapTy) -> Result<MapOf, Memory>
-    ensures key { IfOk result (λ t. (map_of t).0 ≡ spelled_by refs.now (written.map_of parts.now).0) }
-    ensures value { IfOk result (λ t. (map_of t).1 ≡ spelled_by refs.now (written.map_of parts.now).1) }
+    ensures key { IfOk result (λ t. (map_of t).0 ≡
+        spelled_by refs.now (written.map_of parts.now).0) }
+    ensures value { IfOk result (λ t. (map_of t).1 ≡
+        spelled_by refs.now (written.map_of parts.now).1) }
 {
     let key = boxed(alloc, refs, parts.key.get())?;
     let value = boxed(alloc, refs, parts.value.get())?;
@@ -69,14 +71,16 @@ fn map_spelled(alloc: Global, refs: &[Option<Ref>], parts: &MapTy) -> Result<Map
 #[cycle(spelled)]
 #[tactic(auto, using(crate::proofs::Spelled::all_spelled_map))]
 fn all_spelled(alloc: Global, refs: &[Option<Ref>], parts: &[TyExpr]) -> Result<Items<Ty>, Memory>
-    ensures { IfOk result (λ ts. tys (map ty_of ts) ≡ all_spelled_by refs.now (writtens (map written_of parts.now))) }
+    ensures { IfOk result (λ ts. tys (map ty_of ts) ≡
+        all_spelled_by refs.now (writtens (map written_of parts.now))) }
 {
     each_spelled(alloc, refs, parts)
 }
 
 #[cycle(spelled)]
 fn each_spelled(alloc: Global, refs: &[Option<Ref>], parts: &[TyExpr]) -> Result<Items<Ty>, Memory>
-    ensures { IfOk result (λ ts. map ty_of ts ≡ map (spelled_by refs.now) (map written_of parts.now)) }
+    ensures { IfOk result (λ ts. map ty_of ts ≡
+        map (spelled_by refs.now) (map written_of parts.now)) }
 {
     let mut found = Items::new(alloc);
     'parts: for part in parts {

@@ -1,6 +1,7 @@
 //! What built-in functions and brackets take.
 
-ghost use Rattle.std.specs.Prelude.{◌≡◌, ◌&&◌, map, not, cond, true, Some, None, option_map, option_copied};
+ghost use Rattle.std.specs.Prelude.{◌≡◌, ◌&&◌, map, not, cond, true, Some, None, option_map};
+ghost use Rattle.std.specs.Prelude.{option_copied};
 ghost use Rattle.verse_tree.specs.View.{tree_of, shape_of, trees};
 ghost use Rattle.verse_types.specs.Types.{ty_of, tys};
 ghost use Rattle.verse_types.specs.Types as t;
@@ -22,7 +23,8 @@ fn is_void(ty: &Ty) -> bool
 }
 
 fn would_fit(facts: &Facts<'_>, given: Option<&Ty>, wanted: &Ty) -> bool
-    ensures { result ≡ c.would_fit (facts_of facts.now) (option_map ty_of (option_copied given.entry)) (ty_of wanted.now) }
+    ensures { result ≡ c.would_fit (facts_of facts.now)
+        (option_map ty_of (option_copied given.entry)) (ty_of wanted.now) }
 {
     match given {
         None => true,
@@ -73,7 +75,9 @@ fn would_be_quotient(parts: &[Expr]) -> bool
 }
 
 fn would_signal(facts: &Facts<'_>, given: Option<&Ty>, wanted: &Ty) -> bool
-    ensures { result ≡ cond (p.is_void (ty_of wanted.now)) true (c.would_fit (facts_of facts.now) (option_map ty_of (option_copied given.entry)) (ty_of wanted.now)) }
+    ensures { result ≡ cond (p.is_void (ty_of wanted.now)) true
+        (c.would_fit (facts_of facts.now) (option_map ty_of (option_copied given.entry))
+        (ty_of wanted.now)) }
 {
     is_void(wanted) || would_fit(facts, given, wanted)
 }
@@ -82,7 +86,8 @@ fn would_signal(facts: &Facts<'_>, given: Option<&Ty>, wanted: &Ty) -> bool
 /// tested one by one. `text` is the type of texts.
 pub fn do_arguments_fit(facts: &Facts<'_>, text: &Ty, callee: Callee<'_>, parts: &[Expr]) -> bool
     requires { ty_of text.now ≡ t.string }
-    ensures { result ≡ c.arguments_fit (facts_of facts.now) (callee_of callee.entry) (trees (map tree_of parts.now)) }
+    ensures { result ≡ c.arguments_fit (facts_of facts.now) (callee_of callee.entry)
+        (trees (map tree_of parts.now)) }
 {
     match callee {
         Callee::Print => would_fit(facts, first_type(facts, parts), text),
@@ -96,7 +101,8 @@ pub fn do_arguments_fit(facts: &Facts<'_>, text: &Ty, callee: Callee<'_>, parts:
 }
 
 fn does_index_fit(facts: &Facts<'_>, container: &Ty, parts: &[Expr]) -> bool
-    ensures { result ≡ c.index_fits (facts_of facts.now) (ty_of container.now) (trees (map tree_of parts.now)) }
+    ensures { result ≡ c.index_fits (facts_of facts.now) (ty_of container.now)
+        (trees (map tree_of parts.now)) }
 {
     match container {
         Ty::Array(_) => would_be_int(first_type(facts, parts)),
@@ -106,7 +112,8 @@ fn does_index_fit(facts: &Facts<'_>, container: &Ty, parts: &[Expr]) -> bool
 }
 
 fn can_index(facts: &Facts<'_>, container: &Ty, parts: &[Expr]) -> bool
-    ensures { result ≡ c.can_index (facts_of facts.now) (ty_of container.now) (trees (map tree_of parts.now)) }
+    ensures { result ≡ c.can_index (facts_of facts.now) (ty_of container.now)
+        (trees (map tree_of parts.now)) }
 {
     match container {
         Ty::Never => true,
@@ -119,7 +126,8 @@ fn can_index(facts: &Facts<'_>, container: &Ty, parts: &[Expr]) -> bool
 /// The same behind square brackets, which are an index behind what is no function.
 pub fn do_indices_fit(facts: &Facts<'_>, text: &Ty, callee: Callee<'_>, parts: &[Expr]) -> bool
     requires { ty_of text.now ≡ t.string }
-    ensures { result ≡ c.indices_fit (facts_of facts.now) (callee_of callee.entry) (trees (map tree_of parts.now)) }
+    ensures { result ≡ c.indices_fit (facts_of facts.now) (callee_of callee.entry)
+        (trees (map tree_of parts.now)) }
 {
     match callee {
         Callee::Value(container) => can_index(facts, container, parts),
@@ -174,14 +182,16 @@ fn are_wanted(wanted: Option<usize>, given: usize) -> bool
 
 /// Whether as many arguments are given as a call takes.
 pub fn are_as_many(callee: Callee<'_>, parts: &[Expr]) -> bool
-    ensures { result ≡ c.are_wanted (c.call_wanted (callee_of callee.entry)) (p.count (trees (map tree_of parts.now))) }
+    ensures { result ≡ c.are_wanted (c.call_wanted (callee_of callee.entry))
+        (p.count (trees (map tree_of parts.now))) }
 {
     are_wanted(call_wanted(callee), count(parts))
 }
 
 /// The same behind square brackets.
 pub fn are_as_many_indices(callee: Callee<'_>, parts: &[Expr]) -> bool
-    ensures { result ≡ c.are_wanted (c.index_wanted (callee_of callee.entry)) (p.count (trees (map tree_of parts.now))) }
+    ensures { result ≡ c.are_wanted (c.index_wanted (callee_of callee.entry))
+        (p.count (trees (map tree_of parts.now))) }
 {
     are_wanted(index_wanted(callee), count(parts))
 }

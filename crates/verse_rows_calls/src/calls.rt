@@ -1,6 +1,7 @@
 //! Calls with round brackets and with square ones, and `spawn`.
 
-ghost use Rattle.std.specs.Prelude.{◌≡◌, ◌&&◌, map, not, cond, true, Some, None, IfOk, slice_get, option_map, option_copied};
+ghost use Rattle.std.specs.Prelude.{◌≡◌, ◌&&◌, map, not, cond, true, Some, None, IfOk, slice_get};
+ghost use Rattle.std.specs.Prelude.{option_map, option_copied};
 ghost use Rattle.verse_tree.specs.View.{tree_of, shape_of, trees, applied_of};
 ghost use Rattle.verse_types.specs.Types.{ty_of, tys};
 ghost use Rattle.verse_types.specs.Types as t;
@@ -62,7 +63,8 @@ fn ty_by(types: &[Ty], place: Option<usize>) -> Option<&Ty>
 
 /// The element of a tuple that the one argument names.
 fn named_item<'a>(types: &'a [Ty], parts: &[Expr]) -> Option<&'a Ty>
-    ensures { option_map ty_of (option_copied result) ≡ c.named_item (tys (map ty_of types.now)) (trees (map tree_of parts.now)) }
+    ensures { option_map ty_of (option_copied result) ≡ c.named_item (tys (map ty_of types.now))
+        (trees (map tree_of parts.now)) }
 {
     let Some((first, rest)) = parts.split_first() else {
         return None;
@@ -74,7 +76,8 @@ fn named_item<'a>(types: &'a [Ty], parts: &[Expr]) -> Option<&'a Ty>
 }
 
 fn item_of<'a>(ty: &'a Ty, parts: &[Expr]) -> Option<&'a Ty>
-    ensures { option_map ty_of (option_copied result) ≡ c.item_of (ty_of ty.now) (trees (map tree_of parts.now)) }
+    ensures { option_map ty_of (option_copied result) ≡
+        c.item_of (ty_of ty.now) (trees (map tree_of parts.now)) }
 {
     match ty {
         Ty::Tuple(types) => named_item(types.as_slice(), parts),
@@ -83,7 +86,8 @@ fn item_of<'a>(ty: &'a Ty, parts: &[Expr]) -> Option<&'a Ty>
 }
 
 fn item_type(alloc: Global, ty: &Ty, parts: &[Expr]) -> Result<Ty, Memory>
-    ensures { IfOk result (λ s. ty_of s ≡ or_never (c.item_of (ty_of ty.now) (trees (map tree_of parts.now)))) }
+    ensures { IfOk result (λ s. ty_of s ≡
+        or_never (c.item_of (ty_of ty.now) (trees (map tree_of parts.now)))) }
 {
     match item_of(ty, parts) {
         None => Ok(Ty::Never),
@@ -92,7 +96,8 @@ fn item_type(alloc: Global, ty: &Ty, parts: &[Expr]) -> Result<Ty, Memory>
 }
 
 fn element_type(alloc: Global, ty: &Ty, parts: &[Expr]) -> Result<Ty, Memory>
-    ensures { IfOk result (λ s. ty_of s ≡ c.element_of (ty_of ty.now) (p.count (trees (map tree_of parts.now)))) }
+    ensures { IfOk result (λ s. ty_of s ≡
+        c.element_of (ty_of ty.now) (p.count (trees (map tree_of parts.now)))) }
 {
     if count(parts) == 1 {
         content_of(alloc, ty)
@@ -102,7 +107,8 @@ fn element_type(alloc: Global, ty: &Ty, parts: &[Expr]) -> Result<Ty, Memory>
 }
 
 fn call_type(alloc: Global, callee: Callee<'_>, parts: &[Expr]) -> Result<Ty, Memory>
-    ensures { IfOk result (λ s. ty_of s ≡ c.call_type (callee_of callee.entry) (trees (map tree_of parts.now))) }
+    ensures { IfOk result (λ s. ty_of s ≡
+        c.call_type (callee_of callee.entry) (trees (map tree_of parts.now))) }
 {
     match callee {
         Callee::Function(function) => copied(alloc, &function.result),
@@ -117,7 +123,8 @@ fn call_type(alloc: Global, callee: Callee<'_>, parts: &[Expr]) -> Result<Ty, Me
 }
 
 fn index_type(alloc: Global, callee: Callee<'_>, parts: &[Expr]) -> Result<Ty, Memory>
-    ensures { IfOk result (λ s. ty_of s ≡ c.index_type (callee_of callee.entry) (trees (map tree_of parts.now))) }
+    ensures { IfOk result (λ s. ty_of s ≡
+        c.index_type (callee_of callee.entry) (trees (map tree_of parts.now))) }
 {
     match callee {
         Callee::Value(ty) => element_type(alloc, ty, parts),
@@ -169,7 +176,14 @@ fn has_called_item(callee: Callee<'_>, parts: &[Expr]) -> bool
 }
 
 fn call_code(facts: &Facts<'_>, callee: Callee<'_>, parts: &[Expr]) -> Result<Option<u16>, Memory>
-    ensures { IfOk result (λ o. o ≡ cond (not (c.arguments_fit (facts_of facts.now) (callee_of callee.entry) (trees (map tree_of parts.now)))) (Some 50) (cond (not (c.can_call (callee_of callee.entry))) (Some 51) (cond (not (c.are_wanted (c.call_wanted (callee_of callee.entry)) (p.count (trees (map tree_of parts.now))))) (Some 52) (cond (not (c.has_called_item (callee_of callee.entry) (trees (map tree_of parts.now)))) (Some 56) None)))) }
+    ensures { IfOk result (λ o. o ≡
+        cond (not (c.arguments_fit (facts_of facts.now) (callee_of callee.entry)
+        (trees (map tree_of parts.now)))) (Some 50)
+        (cond (not (c.can_call (callee_of callee.entry))) (Some 51)
+        (cond (not (c.are_wanted (c.call_wanted (callee_of callee.entry))
+        (p.count (trees (map tree_of parts.now))))) (Some 52)
+        (cond (not (c.has_called_item (callee_of callee.entry) (trees (map tree_of parts.now))))
+        (Some 56) None)))) }
 {
     let text = string(facts.world.alloc)?;
     if !do_arguments_fit(facts, &text, callee, parts) {
@@ -186,7 +200,12 @@ fn call_code(facts: &Facts<'_>, callee: Callee<'_>, parts: &[Expr]) -> Result<Op
 }
 
 fn index_code(facts: &Facts<'_>, callee: Callee<'_>, parts: &[Expr]) -> Result<Option<u16>, Memory>
-    ensures { IfOk result (λ o. o ≡ cond (not (c.indices_fit (facts_of facts.now) (callee_of callee.entry) (trees (map tree_of parts.now)))) (Some 50) (cond (not (c.can_stand_indexed (callee_of callee.entry))) (Some 51) (cond (not (c.are_wanted (c.index_wanted (callee_of callee.entry)) (p.count (trees (map tree_of parts.now))))) (Some 52) None))) }
+    ensures { IfOk result (λ o. o ≡
+        cond (not (c.indices_fit (facts_of facts.now) (callee_of callee.entry)
+        (trees (map tree_of parts.now)))) (Some 50)
+        (cond (not (c.can_stand_indexed (callee_of callee.entry))) (Some 51)
+        (cond (not (c.are_wanted (c.index_wanted (callee_of callee.entry))
+        (p.count (trees (map tree_of parts.now))))) (Some 52) None))) }
 {
     let text = string(facts.world.alloc)?;
     if !do_indices_fit(facts, &text, callee, parts) {
@@ -202,7 +221,22 @@ fn index_code(facts: &Facts<'_>, callee: Callee<'_>, parts: &[Expr]) -> Result<O
 
 /// `E(F, G)`.
 pub fn call(facts: &Facts<'_>, applied: &Applied) -> Result<Judged, Memory>
-    ensures { IfOk result (λ j. judged_of j ≡ record { ty = c.call_type (callees.callee_of (facts_of facts.now) (applied_of applied.now).0) (trees (applied_of applied.now).1); code = cond (not (c.arguments_fit (facts_of facts.now) (callees.callee_of (facts_of facts.now) (applied_of applied.now).0) (trees (applied_of applied.now).1))) (Some 50) (cond (not (c.can_call (callees.callee_of (facts_of facts.now) (applied_of applied.now).0))) (Some 51) (cond (not (c.are_wanted (c.call_wanted (callees.callee_of (facts_of facts.now) (applied_of applied.now).0)) (p.count (trees (applied_of applied.now).1)))) (Some 52) (cond (not (c.has_called_item (callees.callee_of (facts_of facts.now) (applied_of applied.now).0) (trees (applied_of applied.now).1))) (Some 56) None))) }) }
+    ensures { IfOk result (λ j. judged_of j ≡
+        record {
+          ty = c.call_type (callees.callee_of (facts_of facts.now)
+              (applied_of applied.now).0) (trees (applied_of applied.now).1);
+          code =
+              cond (not (c.arguments_fit (facts_of facts.now)
+              (callees.callee_of (facts_of facts.now) (applied_of applied.now).0)
+              (trees (applied_of applied.now).1))) (Some 50)
+              (cond (not (c.can_call (callees.callee_of (facts_of facts.now) (applied_of applied.now).0)))
+              (Some 51) (cond (not (c.are_wanted
+              (c.call_wanted (callees.callee_of (facts_of facts.now) (applied_of applied.now).0))
+              (p.count (trees (applied_of applied.now).1)))) (Some 52)
+              (cond (not (c.has_called_item
+              (callees.callee_of (facts_of facts.now) (applied_of applied.now).0)
+              (trees (applied_of applied.now).1))) (Some 56) None)));
+        }) }
 {
     let parts = applied.args.as_slice();
     let callee = make_callee(facts, applied.callee.get());
@@ -213,7 +247,20 @@ pub fn call(facts: &Facts<'_>, applied: &Applied) -> Result<Judged, Memory>
 
 /// `E[F, G]`.
 pub fn index(facts: &Facts<'_>, applied: &Applied) -> Result<Judged, Memory>
-    ensures { IfOk result (λ j. judged_of j ≡ record { ty = c.index_type (callees.callee_of (facts_of facts.now) (applied_of applied.now).0) (trees (applied_of applied.now).1); code = cond (not (c.indices_fit (facts_of facts.now) (callees.callee_of (facts_of facts.now) (applied_of applied.now).0) (trees (applied_of applied.now).1))) (Some 50) (cond (not (c.can_stand_indexed (callees.callee_of (facts_of facts.now) (applied_of applied.now).0))) (Some 51) (cond (not (c.are_wanted (c.index_wanted (callees.callee_of (facts_of facts.now) (applied_of applied.now).0)) (p.count (trees (applied_of applied.now).1)))) (Some 52) None)) }) }
+    ensures { IfOk result (λ j. judged_of j ≡
+        record {
+          ty = c.index_type (callees.callee_of (facts_of facts.now)
+              (applied_of applied.now).0) (trees (applied_of applied.now).1);
+          code =
+              cond (not (c.indices_fit (facts_of facts.now)
+              (callees.callee_of (facts_of facts.now) (applied_of applied.now).0)
+              (trees (applied_of applied.now).1))) (Some 50)
+              (cond (not (c.can_stand_indexed
+              (callees.callee_of (facts_of facts.now) (applied_of applied.now).0))) (Some 51)
+              (cond (not (c.are_wanted (c.index_wanted
+              (callees.callee_of (facts_of facts.now) (applied_of applied.now).0))
+              (p.count (trees (applied_of applied.now).1)))) (Some 52) None));
+        }) }
 {
     let parts = applied.args.as_slice();
     let callee = make_callee(facts, applied.callee.get());
@@ -240,7 +287,12 @@ fn can_be_spawned(facts: &Facts<'_>, part: &Expr) -> bool
 
 /// `spawn{E}`.
 pub fn spawn(facts: &Facts<'_>, part: &Expr) -> Result<Judged, Memory>
-    ensures { IfOk result (λ j. judged_of j ≡ record { ty = t.task (type_of (facts_of facts.now) (tree_of part.now)); code = cond (not (r.can_be_spawned (facts_of facts.now) (tree_of part.now))) (Some 51) None }) }
+    ensures { IfOk result (λ j. judged_of j ≡
+        record {
+          ty = t.task (type_of (facts_of facts.now) (tree_of part.now));
+          code =
+              cond (not (r.can_be_spawned (facts_of facts.now) (tree_of part.now))) (Some 51) None;
+        }) }
 {
     let alloc = facts.world.alloc;
     let content = copied(alloc, facts.type_of(part))?;

@@ -1,6 +1,7 @@
 //! Instances of classes.
 
-ghost use Rattle.std.specs.Prelude.{◌≡◌, ◌+◌, ◌&&◌, ◌||◌, [], map, not, cond, Some, None, IfOk, OnOk};
+ghost use Rattle.std.specs.Prelude.{◌≡◌, ◌+◌, ◌&&◌, ◌||◌, [], map, not, cond, Some, None, IfOk};
+ghost use Rattle.std.specs.Prelude.{OnOk};
 ghost use Rattle.verse_tree.specs.View.{given_of, givens};
 ghost use Rattle.verse_types.specs.Types.{ty_of};
 ghost use Rattle.verse_rows.specs.Facts.{named_ref};
@@ -74,7 +75,8 @@ fn add_place(places: &mut NumberSet, place: Option<u32>) -> Result<(), Memory>
 
 /// The places of the fields that are given.
 fn places(facts: &Facts<'_>, class: u32, parts: &[Given]) -> Result<NumberSet, Memory>
-    ensures { IfOk result (λ s. numbers_of s ≡ m.places_from (facts_of facts.now) class [] (givens (map given_of parts.now))) }
+    ensures { IfOk result (λ s. numbers_of s ≡ m.places_from (facts_of facts.now) class []
+        (givens (map given_of parts.now))) }
 {
     let mut found = NumberSet::new(facts.world.alloc);
     'parts: for part in parts {
@@ -117,14 +119,20 @@ fn fields_of<'a>(facts: &Facts<'a>, class: u32) -> &'a [FieldInfo]
 }
 
 fn has_all(facts: &Facts<'_>, class: u32, parts: &[Given]) -> Result<bool, Memory>
-    ensures { IfOk result (λ b. b ≡ m.has_all (facts_of facts.now) class (givens (map given_of parts.now))) }
+    ensures { IfOk result (λ b. b ≡
+        m.has_all (facts_of facts.now) class (givens (map given_of parts.now))) }
 {
     let given = places(facts, class, parts)?;
     are_all_given(&given, fields_of(facts, class))
 }
 
 fn class_code(facts: &Facts<'_>, class: u32, parts: &[Given]) -> Result<Option<u16>, Memory>
-    ensures { IfOk result (λ c. c ≡ cond (not (m.givens_fit (facts_of facts.now) class (givens (map given_of parts.now)))) (Some 50) (cond (not (m.has_all (facts_of facts.now) class (givens (map given_of parts.now)))) (Some 55) (cond (not (m.are_fields (facts_of facts.now) class (givens (map given_of parts.now)))) (Some 56) None))) }
+    ensures { IfOk result (λ c. c ≡
+        cond (not (m.givens_fit (facts_of facts.now) class (givens (map given_of parts.now))))
+        (Some 50) (cond (not (m.has_all (facts_of facts.now) class
+        (givens (map given_of parts.now)))) (Some 55)
+        (cond (not (m.are_fields (facts_of facts.now) class (givens (map given_of parts.now))))
+        (Some 56) None))) }
 {
     if !do_givens_fit(facts, class, parts) {
         return Ok(Some(50));
@@ -143,7 +151,15 @@ fn instance_code(
     what: Option<Ref>,
     parts: &[Given],
 ) -> Result<Option<u16>, Memory>
-    ensures { IfOk result (λ c. c ≡ cond (not (r.on_class what (λ d. m.givens_fit (facts_of facts.now) d (givens (map given_of parts.now))))) (Some 50) (cond (not (r.is_class what)) (Some 51) (cond (not (r.on_class what (λ d. m.has_all (facts_of facts.now) d (givens (map given_of parts.now))))) (Some 55) (cond (not (r.on_class what (λ d. m.are_fields (facts_of facts.now) d (givens (map given_of parts.now))))) (Some 56) None)))) }
+    ensures { IfOk result (λ c. c ≡
+        cond (not (r.on_class what (λ d.
+        m.givens_fit (facts_of facts.now) d (givens (map given_of parts.now))))) (Some 50)
+        (cond (not (r.is_class what)) (Some 51)
+        (cond (not (r.on_class what
+        (λ d. m.has_all (facts_of facts.now) d (givens (map given_of parts.now))))) (Some 55)
+        (cond (not (r.on_class what
+        (λ d. m.are_fields (facts_of facts.now) d (givens (map given_of parts.now)))))
+        (Some 56) None)))) }
 {
     match what {
         Some(Ref::Class(class)) => class_code(facts, class, parts),
@@ -153,7 +169,20 @@ fn instance_code(
 
 /// `c{F := E}`.
 pub fn instance(facts: &Facts<'_>, node: u32, parts: &[Given]) -> Result<Judged, Memory>
-    ensures { IfOk result (λ j. judged_of j ≡ record { ty = rows.class_type (named_ref (facts_of facts.now) node); code = cond (not (r.on_class (named_ref (facts_of facts.now) node) (λ d. m.givens_fit (facts_of facts.now) d (givens (map given_of parts.now))))) (Some 50) (cond (not (r.is_class (named_ref (facts_of facts.now) node))) (Some 51) (cond (not (r.on_class (named_ref (facts_of facts.now) node) (λ d. m.has_all (facts_of facts.now) d (givens (map given_of parts.now))))) (Some 55) (cond (not (r.on_class (named_ref (facts_of facts.now) node) (λ d. m.are_fields (facts_of facts.now) d (givens (map given_of parts.now))))) (Some 56) None))) }) }
+    ensures { IfOk result (λ j. judged_of j ≡
+        record {
+          ty = rows.class_type (named_ref (facts_of facts.now) node);
+          code =
+              cond (not (r.on_class (named_ref (facts_of facts.now) node)
+              (λ d. m.givens_fit (facts_of facts.now) d (givens (map given_of parts.now)))))
+              (Some 50)
+              (cond (not (r.is_class (named_ref (facts_of facts.now) node))) (Some 51)
+              (cond (not (r.on_class (named_ref (facts_of facts.now) node)
+              (λ d. m.has_all (facts_of facts.now) d (givens (map given_of parts.now))))) (Some 55)
+              (cond (not (r.on_class (named_ref (facts_of facts.now) node)
+              (λ d. m.are_fields (facts_of facts.now) d (givens (map given_of parts.now)))))
+              (Some 56) None)));
+        }) }
 {
     let what = facts.named_ref(node);
     let code = instance_code(facts, what, parts)?;

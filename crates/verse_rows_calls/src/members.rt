@@ -137,7 +137,8 @@ fn named_event(name: &[u8]) -> Member
 }
 
 fn type_member(facts: &Facts<'_>, object: &Ty, name: &[u8]) -> Result<Member, Memory>
-    ensures { IfOk result (λ p. view p ≡ m.type_member (facts_of facts.now) (ty_of object.now) name.now) }
+    ensures { IfOk result (λ p. view p ≡
+        m.type_member (facts_of facts.now) (ty_of object.now) name.now) }
 {
     match object {
         Ty::Never => Ok(Member::Part(Ty::Never)),
@@ -161,7 +162,10 @@ fn enum_member(facts: &Facts<'_>, of: u32, name: &[u8]) -> Member
 }
 
 fn member_of(facts: &Facts<'_>, object: &Expr, name: &[u8]) -> Result<Member, Memory>
-    ensures { IfOk result (λ p. view p ≡ m.member_of (facts_of facts.now) (ref_at (facts_of facts.now).refs (number_of_tree (tree_of object.now))) (type_of (facts_of facts.now) (tree_of object.now)) name.now) }
+    ensures { IfOk result (λ p. view p ≡
+        m.member_of (facts_of facts.now)
+        (ref_at (facts_of facts.now).refs (number_of_tree (tree_of object.now)))
+        (type_of (facts_of facts.now) (tree_of object.now)) name.now) }
 {
     match facts.ref_of(object.node) {
         Some(Ref::Enum(of)) => Ok(enum_member(facts, of, name)),
@@ -180,7 +184,12 @@ fn is_called(used: Used<'_>) -> bool
 }
 
 fn judge_member(called: bool, member: Member) -> Judged
-    ensures { judged_of result ≡ record { ty = m.part_type (view member); code = cond (not (m.may_stand called (view member))) (Some 56) None } }
+    ensures { judged_of result ≡
+        record {
+          ty = m.part_type (view member);
+          code =
+              cond (not (m.may_stand called (view member))) (Some 56) None;
+        } }
 {
     match member {
         Member::Part(ty) => tested(ty, false, 56),
@@ -196,7 +205,17 @@ pub fn member_form(
     object: &Expr,
     name: &[u8],
 ) -> Result<Judged, Memory>
-    ensures { IfOk result (λ j. judged_of j ≡ record { ty = m.part_type (m.member_of (facts_of facts.now) (ref_at (facts_of facts.now).refs (number_of_tree (tree_of object.now))) (type_of (facts_of facts.now) (tree_of object.now)) name.now); code = cond (not (m.may_stand (r.is_called (used_of used.entry)) (m.member_of (facts_of facts.now) (ref_at (facts_of facts.now).refs (number_of_tree (tree_of object.now))) (type_of (facts_of facts.now) (tree_of object.now)) name.now))) (Some 56) None }) }
+    ensures { IfOk result (λ j. judged_of j ≡
+        record {
+          ty = m.part_type (m.member_of (facts_of facts.now)
+              (ref_at (facts_of facts.now).refs (number_of_tree (tree_of object.now)))
+              (type_of (facts_of facts.now) (tree_of object.now)) name.now);
+          code =
+              cond (not (m.may_stand (r.is_called (used_of used.entry))
+              (m.member_of (facts_of facts.now)
+              (ref_at (facts_of facts.now).refs (number_of_tree (tree_of object.now)))
+              (type_of (facts_of facts.now) (tree_of object.now)) name.now))) (Some 56) None;
+        }) }
 {
     let found = member_of(facts, object, name)?;
     Ok(judge_member(is_called(used), found))

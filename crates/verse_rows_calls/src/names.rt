@@ -75,7 +75,13 @@ fn takes_item(used: Used<'_>, what: Option<Ref>) -> bool
 
 /// A name.
 pub fn name(facts: &Facts<'_>, used: Used<'_>, node: u32) -> Result<Judged, Memory>
-    ensures { IfOk result (λ j. judged_of j ≡ record { ty = rows.name_type (facts_of facts.now) (named_ref (facts_of facts.now) node); code = cond (not (r.has_value (named_ref (facts_of facts.now) node)) && not (r.takes_item (used_of used.entry) (named_ref (facts_of facts.now) node))) (Some 51) None }) }
+    ensures { IfOk result (λ j. judged_of j ≡
+        record {
+          ty = rows.name_type (facts_of facts.now) (named_ref (facts_of facts.now) node);
+          code = cond (not (r.has_value (named_ref (facts_of facts.now) node)) && not
+              (r.takes_item (used_of used.entry) (named_ref (facts_of facts.now) node)))
+              (Some 51) None;
+        }) }
 {
     let what = facts.named_ref(node);
     let ty = name_type(facts, what)?;

@@ -57,7 +57,8 @@ fn does_form_fit(facts: &Facts<'_>, subject: &Ty, form: &Form) -> bool
 
 /// Whether the pattern of each arm fits the subject.
 fn do_arms_fit(facts: &Facts<'_>, subject: &Ty, arms: &[Expr]) -> bool
-    ensures { result ≡ c.arms_fit (facts_of facts.now) (ty_of subject.now) (trees (map tree_of arms.now)) }
+    ensures { result ≡ c.arms_fit (facts_of facts.now) (ty_of subject.now)
+        (trees (map tree_of arms.now)) }
 {
     'arms: for arm in arms {
         if !does_form_fit(facts, subject, &arm.form) {
@@ -68,13 +69,15 @@ fn do_arms_fit(facts: &Facts<'_>, subject: &Ty, arms: &[Expr]) -> bool
 }
 
 fn can_case(facts: &Facts<'_>, subject: &Ty, arms: &[Expr]) -> bool
-    ensures { result ≡ c.can_case (facts_of facts.now) (ty_of subject.now) (trees (map tree_of arms.now)) }
+    ensures { result ≡ c.can_case (facts_of facts.now) (ty_of subject.now)
+        (trees (map tree_of arms.now)) }
 {
     is_subject(subject) && (is_never(subject) || do_arms_fit(facts, subject, arms))
 }
 
 fn case_type(facts: &Facts<'_>, subject: &Ty, arms: &[Expr]) -> Result<Ty, Memory>
-    ensures { IfOk result (λ t. ty_of t ≡ c.case_type (facts_of facts.now) (ty_of subject.now) (trees (map tree_of arms.now))) }
+    ensures { IfOk result (λ t. ty_of t ≡ c.case_type (facts_of facts.now) (ty_of subject.now)
+        (trees (map tree_of arms.now))) }
 {
     if is_never(subject) {
         return Ok(Ty::Never);
@@ -122,7 +125,8 @@ fn is_of_enum(of: u32, ty: &Ty) -> bool
 }
 
 fn add_value<'a>(names: &mut NameSet<'a>, is_wanted: bool, value: &'a [u8]) -> Result<(), Memory>
-    ensures { OnOk result (names_of names.new ≡ cond is_wanted (with_name value.now (names_of names.old)) (names_of names.old)) }
+    ensures { OnOk result (names_of names.new ≡
+        cond is_wanted (with_name value.now (names_of names.old)) (names_of names.old)) }
 {
     if is_wanted { names.add(value) } else { Ok(()) }
 }
@@ -134,7 +138,8 @@ fn add_pattern<'a>(
     form: &'a Form,
     names: &mut NameSet<'a>,
 ) -> Result<(), Memory>
-    ensures { OnOk result (names_of names.new ≡ c.with_valued (facts_of facts.now) of node (shape_of form.now) (names_of names.old)) }
+    ensures { OnOk result (names_of names.new ≡ c.with_valued (facts_of facts.now) of node
+        (shape_of form.now) (names_of names.old)) }
 {
     match form {
         Form::EnumPattern(_, value) => {
@@ -151,7 +156,8 @@ fn add_arm<'a>(
     form: &'a Form,
     names: &mut NameSet<'a>,
 ) -> Result<(), Memory>
-    ensures { OnOk result (names_of names.new ≡ c.with_shape (facts_of facts.now) of (shape_of form.now) (names_of names.old)) }
+    ensures { OnOk result (names_of names.new ≡
+        c.with_shape (facts_of facts.now) of (shape_of form.now) (names_of names.old)) }
 {
     match form {
         Form::Arm(arm) => {
@@ -164,7 +170,8 @@ fn add_arm<'a>(
 
 /// The values of an enum that the patterns name.
 fn named<'a>(facts: &Facts<'_>, of: u32, arms: &'a [Expr]) -> Result<NameSet<'a>, Memory>
-    ensures { IfOk result (λ s. names_of s ≡ c.named_from (facts_of facts.now) of [] (trees (map tree_of arms.now))) }
+    ensures { IfOk result (λ s. names_of s ≡ c.named_from (facts_of facts.now) of []
+        (trees (map tree_of arms.now))) }
 {
     let mut found = NameSet::new(facts.world.alloc);
     'arms: for arm in arms {
@@ -195,7 +202,8 @@ fn has_all(named: &NameSet<'_>, values: &[&[u8]]) -> bool
 
 /// Whether each value of the subject's enum has an arm.
 fn are_all_named(facts: &Facts<'_>, subject: &Ty, arms: &[Expr]) -> Result<bool, Memory>
-    ensures { IfOk result (λ b. b ≡ c.all_named (facts_of facts.now) (ty_of subject.now) (trees (map tree_of arms.now))) }
+    ensures { IfOk result (λ b. b ≡ c.all_named (facts_of facts.now) (ty_of subject.now)
+        (trees (map tree_of arms.now))) }
 {
     match subject {
         Ty::Enum(of) => {
@@ -207,7 +215,8 @@ fn are_all_named(facts: &Facts<'_>, subject: &Ty, arms: &[Expr]) -> Result<bool,
 }
 
 fn are_covered(facts: &Facts<'_>, subject: &Ty, arms: &[Expr]) -> Result<bool, Memory>
-    ensures { IfOk result (λ b. b ≡ c.are_covered (facts_of facts.now) (ty_of subject.now) (trees (map tree_of arms.now))) }
+    ensures { IfOk result (λ b. b ≡ c.are_covered (facts_of facts.now) (ty_of subject.now)
+        (trees (map tree_of arms.now))) }
 {
     if does_any_take_any(arms) {
         return Ok(true);
@@ -216,7 +225,11 @@ fn are_covered(facts: &Facts<'_>, subject: &Ty, arms: &[Expr]) -> Result<bool, M
 }
 
 fn case_code(facts: &Facts<'_>, subject: &Ty, arms: &[Expr]) -> Result<Option<u16>, Memory>
-    ensures { IfOk result (λ o. o ≡ cond (not (c.can_case (facts_of facts.now) (ty_of subject.now) (trees (map tree_of arms.now)))) (Some 50) (cond (not (c.are_covered (facts_of facts.now) (ty_of subject.now) (trees (map tree_of arms.now)))) (Some 58) None)) }
+    ensures { IfOk result (λ o. o ≡
+        cond (not (c.can_case (facts_of facts.now) (ty_of subject.now)
+        (trees (map tree_of arms.now)))) (Some 50)
+        (cond (not (c.are_covered (facts_of facts.now) (ty_of subject.now)
+        (trees (map tree_of arms.now)))) (Some 58) None)) }
 {
     if !can_case(facts, subject, arms) {
         return Ok(Some(50));
@@ -230,7 +243,17 @@ fn case_code(facts: &Facts<'_>, subject: &Ty, arms: &[Expr]) -> Result<Option<u1
 /// E050: a subject whose values have no patterns, or a pattern that does not fit the subject.
 /// E058: no arm takes any value, and the subject is of no enum or a value of its enum has no arm.
 pub fn case_form(facts: &Facts<'_>, parts: &Cases) -> Result<Judged, Memory>
-    ensures { IfOk result (λ j. judged_of j ≡ record { ty = c.case_type (facts_of facts.now) (type_of (facts_of facts.now) (cases_of parts.now).0) (trees (cases_of parts.now).1); code = cond (not (c.can_case (facts_of facts.now) (type_of (facts_of facts.now) (cases_of parts.now).0) (trees (cases_of parts.now).1))) (Some 50) (cond (not (c.are_covered (facts_of facts.now) (type_of (facts_of facts.now) (cases_of parts.now).0) (trees (cases_of parts.now).1))) (Some 58) None) }) }
+    ensures { IfOk result (λ j. judged_of j ≡
+        record {
+          ty = c.case_type (facts_of facts.now)
+              (type_of (facts_of facts.now) (cases_of parts.now).0) (trees (cases_of parts.now).1);
+          code =
+              cond (not (c.can_case (facts_of facts.now)
+              (type_of (facts_of facts.now) (cases_of parts.now).0) (trees (cases_of parts.now).1)))
+              (Some 50) (cond (not (c.are_covered (facts_of facts.now)
+              (type_of (facts_of facts.now) (cases_of parts.now).0) (trees (cases_of parts.now).1)))
+              (Some 58) None);
+        }) }
 {
     let subject = facts.type_of(parts.subject.get());
     let arms = parts.arms.as_slice();
@@ -243,7 +266,14 @@ pub fn case_form(facts: &Facts<'_>, parts: &Cases) -> Result<Judged, Memory>
 ///
 /// E056: E is no enum, or has no value v.
 pub fn enum_pattern(facts: &Facts<'_>, node: u32, value: &[u8]) -> Judged
-    ensures { judged_of result ≡ record { ty = value_type (facts_of facts.now) (named_ref (facts_of facts.now) node) value.now; code = cond (not (is_enum_value (facts_of facts.now) (named_ref (facts_of facts.now) node) value.now)) (Some 56) None } }
+    ensures { judged_of result ≡
+        record {
+          ty = value_type (facts_of facts.now) (named_ref (facts_of facts.now) node)
+              value.now;
+          code = cond (not
+              (is_enum_value (facts_of facts.now) (named_ref (facts_of facts.now) node) value.now))
+              (Some 56) None;
+        } }
 {
     let named = facts.named_ref(node);
     tested(

@@ -14,7 +14,8 @@ use verse_types::joining::join_of;
 
 /// An `if`: the join of both parts, and void where there is no other one.
 pub fn choice(facts: &Facts<'_>, parts: &IfParts) -> Result<Ty, Memory>
-    ensures { IfOk result (λ t. ty_of t ≡ choice_type (facts_of facts.now) (if_of parts.now).taken (if_of parts.now).otherwise) }
+    ensures { IfOk result (λ t. ty_of t ≡ choice_type (facts_of facts.now) (if_of parts.now).taken
+        (if_of parts.now).otherwise) }
 {
     match &parts.otherwise {
         None => Ok(Ty::Void),

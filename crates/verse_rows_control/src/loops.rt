@@ -40,7 +40,8 @@ fn form_takes(facts: &Facts<'_>, form: &Form) -> bool
 }
 
 fn ends_are_ints(facts: &Facts<'_>, ends: &Two) -> bool
-    ensures { result ≡ p.are_ints (type_of (facts_of facts.now) (two_of ends.now).0) (type_of (facts_of facts.now) (two_of ends.now).1) }
+    ensures { result ≡ p.are_ints (type_of (facts_of facts.now) (two_of ends.now).0)
+        (type_of (facts_of facts.now) (two_of ends.now).1) }
 {
     are_ints(
         facts.type_of(ends.left.get()),
@@ -70,7 +71,13 @@ fn array_of(alloc: Global, content: &Ty) -> Result<Ty, Memory>
 ///
 /// E050: a generator over what is no array and no map, or a range whose ends are no ints.
 pub fn for_form(facts: &Facts<'_>, parts: &ForParts) -> Result<Judged, Memory>
-    ensures { IfOk result (λ j. judged_of j ≡ record { ty = t.array (type_of (facts_of facts.now) (for_of parts.now).1); code = cond (not (l.all_take (facts_of facts.now) (trees (for_of parts.now).0))) (Some 50) None }) }
+    ensures { IfOk result (λ j. judged_of j ≡
+        record {
+          ty = t.array (type_of (facts_of facts.now) (for_of parts.now).1);
+          code =
+              cond (not (l.all_take (facts_of facts.now) (trees (for_of parts.now).0)))
+              (Some 50) None;
+        }) }
 {
     let ty = array_of(facts.world.alloc, facts.type_of(parts.body.get()))?;
     let broken = !do_all_take(facts, parts.clauses.as_slice());

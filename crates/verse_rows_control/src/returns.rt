@@ -21,7 +21,8 @@ use verse_walk::arounds::Around;
 
 /// Whether what is returned fits the result; in the default of a field there is none.
 fn does_fit_result(facts: &Facts<'_>, wanted: Option<&TyExpr>, ty: &Ty) -> Result<bool, Memory>
-    ensures { IfOk result (λ b. b ≡ fits_result (facts_of facts.now) (option_map now_written wanted.entry) (ty_of ty.now)) }
+    ensures { IfOk result (λ b. b ≡
+        fits_result (facts_of facts.now) (option_map now_written wanted.entry) (ty_of ty.now)) }
 {
     match wanted {
         None => Ok(true),
@@ -33,7 +34,13 @@ fn does_fit_result(facts: &Facts<'_>, wanted: Option<&TyExpr>, ty: &Ty) -> Resul
 }
 
 fn returning(facts: &Facts<'_>, wanted: Option<&TyExpr>, ty: &Ty) -> Result<Judged, Memory>
-    ensures { IfOk result (λ j. judged_of j ≡ record { ty = t.never; code = cond (not (fits_result (facts_of facts.now) (option_map now_written wanted.entry) (ty_of ty.now))) (Some 50) None }) }
+    ensures { IfOk result (λ j. judged_of j ≡
+        record {
+          ty = t.never;
+          code =
+              cond (not (fits_result (facts_of facts.now) (option_map now_written wanted.entry)
+              (ty_of ty.now))) (Some 50) None;
+        }) }
 {
     let does_fit = does_fit_result(facts, wanted, ty)?;
     Ok(tested(Ty::Never, !does_fit, 50))
@@ -43,7 +50,13 @@ fn returning(facts: &Facts<'_>, wanted: Option<&TyExpr>, ty: &Ty) -> Result<Judg
 ///
 /// E050: the value does not fit the result of the function.
 pub fn returned(facts: &Facts<'_>, around: Around<'_>, part: &Expr) -> Result<Judged, Memory>
-    ensures { IfOk result (λ j. judged_of j ≡ record { ty = t.never; code = cond (not (fits_result (facts_of facts.now) (around_of around.entry).owner.result (type_of (facts_of facts.now) (tree_of part.now)))) (Some 50) None }) }
+    ensures { IfOk result (λ j. judged_of j ≡
+        record {
+          ty = t.never;
+          code =
+              cond (not (fits_result (facts_of facts.now) (around_of around.entry).owner.result
+              (type_of (facts_of facts.now) (tree_of part.now)))) (Some 50) None;
+        }) }
 {
     returning(facts, around.owner.result, facts.type_of(part))
 }
@@ -52,7 +65,13 @@ pub fn returned(facts: &Facts<'_>, around: Around<'_>, part: &Expr) -> Result<Ju
 ///
 /// E050: void does not fit the result of the function.
 pub fn returned_unit(facts: &Facts<'_>, around: Around<'_>) -> Result<Judged, Memory>
-    ensures { IfOk result (λ j. judged_of j ≡ record { ty = t.never; code = cond (not (fits_result (facts_of facts.now) (around_of around.entry).owner.result t.void)) (Some 50) None }) }
+    ensures { IfOk result (λ j. judged_of j ≡
+        record {
+          ty = t.never;
+          code =
+              cond (not (fits_result (facts_of facts.now) (around_of around.entry).owner.result t.void))
+              (Some 50) None;
+        }) }
 {
     returning(facts, around.owner.result, &Ty::Void)
 }

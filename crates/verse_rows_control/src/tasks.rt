@@ -27,7 +27,11 @@ fn are_too_few(parts: &[Expr]) -> bool
 ///
 /// E057: fewer than two arms.
 pub fn sync(facts: &Facts<'_>, parts: &[Expr]) -> Result<Judged, Memory>
-    ensures { IfOk result (λ j. judged_of j ≡ record { ty = t.tuple (p.types_of (facts_of facts.now) (trees (map tree_of parts.now))); code = cond (is_alone (trees (map tree_of parts.now))) (Some 57) None }) }
+    ensures { IfOk result (λ j. judged_of j ≡
+        record {
+          ty = t.tuple (p.types_of (facts_of facts.now) (trees (map tree_of parts.now)));
+          code = cond (is_alone (trees (map tree_of parts.now))) (Some 57) None;
+        }) }
 {
     let ty = tuple(facts, parts)?;
     Ok(tested(ty, are_too_few(parts), 57))
@@ -37,7 +41,12 @@ pub fn sync(facts: &Facts<'_>, parts: &[Expr]) -> Result<Judged, Memory>
 ///
 /// E057: fewer than two arms.
 pub fn race(facts: &Facts<'_>, parts: &[Expr]) -> Result<Judged, Memory>
-    ensures { IfOk result (λ j. judged_of j ≡ record { ty = p.joined (facts_of facts.now) (trees (map tree_of parts.now)); code = cond (is_alone (trees (map tree_of parts.now))) (Some 57) None }) }
+    ensures { IfOk result (λ j. judged_of j ≡
+        record {
+          ty = p.joined (facts_of facts.now) (trees (map tree_of parts.now));
+          code =
+              cond (is_alone (trees (map tree_of parts.now))) (Some 57) None;
+        }) }
 {
     let ty = joined(facts, parts)?;
     Ok(tested(ty, are_too_few(parts), 57))

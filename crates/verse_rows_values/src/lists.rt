@@ -42,7 +42,13 @@ fn have_texts(facts: &Facts<'_>, text: &Ty, parts: &[Hole]) -> bool
 
 /// A text with holes.
 pub fn text_with_holes(facts: &Facts<'_>, parts: &[Hole]) -> Result<Judged, Memory>
-    ensures { IfOk result (λ j. judged_of j ≡ record { ty = t.string; code = cond (not (p.have_texts (facts_of facts.now) (holes (map hole_of parts.now)))) (Some 50) None }) }
+    ensures { IfOk result (λ j. judged_of j ≡
+        record {
+          ty = t.string;
+          code =
+              cond (not (p.have_texts (facts_of facts.now) (holes (map hole_of parts.now))))
+              (Some 50) None;
+        }) }
 {
     let text = string(facts.world.alloc)?;
     let broken = !have_texts(facts, &text, parts);
@@ -51,14 +57,16 @@ pub fn text_with_holes(facts: &Facts<'_>, parts: &[Hole]) -> Result<Judged, Memo
 
 /// `array{..}`.
 pub fn array(facts: &Facts<'_>, parts: &[Expr]) -> Result<Ty, Memory>
-    ensures { IfOk result (λ s. ty_of s ≡ t.array (p.joined (facts_of facts.now) (trees (map tree_of parts.now)))) }
+    ensures { IfOk result (λ s. ty_of s ≡
+        t.array (p.joined (facts_of facts.now) (trees (map tree_of parts.now)))) }
 {
     let content = joined(facts, parts)?;
     Ok(Ty::Array(Boxed::new(facts.world.alloc, content)?))
 }
 
 fn keys(facts: &Facts<'_>, parts: &[Pair]) -> Result<Ty, Memory>
-    ensures { IfOk result (λ s. ty_of s ≡ p.keys_from (facts_of facts.now) t.never (pairs (map pair_of parts.now))) }
+    ensures { IfOk result (λ s. ty_of s ≡ p.keys_from (facts_of facts.now) t.never
+        (pairs (map pair_of parts.now))) }
 {
     let alloc = facts.world.alloc;
     let mut ty = Ty::Never;
@@ -69,7 +77,8 @@ fn keys(facts: &Facts<'_>, parts: &[Pair]) -> Result<Ty, Memory>
 }
 
 fn values(facts: &Facts<'_>, parts: &[Pair]) -> Result<Ty, Memory>
-    ensures { IfOk result (λ s. ty_of s ≡ p.values_from (facts_of facts.now) t.never (pairs (map pair_of parts.now))) }
+    ensures { IfOk result (λ s. ty_of s ≡ p.values_from (facts_of facts.now) t.never
+        (pairs (map pair_of parts.now))) }
 {
     let alloc = facts.world.alloc;
     let mut ty = Ty::Never;
@@ -81,7 +90,9 @@ fn values(facts: &Facts<'_>, parts: &[Pair]) -> Result<Ty, Memory>
 
 /// `map{..}`.
 pub fn mapping(facts: &Facts<'_>, parts: &[Pair]) -> Result<Ty, Memory>
-    ensures { IfOk result (λ s. ty_of s ≡ t.mapping (p.keys_from (facts_of facts.now) t.never (pairs (map pair_of parts.now))) (p.values_from (facts_of facts.now) t.never (pairs (map pair_of parts.now)))) }
+    ensures { IfOk result (λ s. ty_of s ≡
+        t.mapping (p.keys_from (facts_of facts.now) t.never (pairs (map pair_of parts.now)))
+        (p.values_from (facts_of facts.now) t.never (pairs (map pair_of parts.now)))) }
 {
     let alloc = facts.world.alloc;
     let key = keys(facts, parts)?;

@@ -25,7 +25,8 @@ use verse_walk::arounds::Used;
 
 /// Whether the two can be added: ints, or two arrays.
 fn can_add(classes: &[ClassInfo], left: &Ty, right: &Ty) -> bool
-    ensures { result ≡ p.is_summed (p.sum_of (classes_of classes.now) (ty_of left.now) (ty_of right.now)) }
+    ensures { result ≡ p.is_summed
+        (p.sum_of (classes_of classes.now) (ty_of left.now) (ty_of right.now)) }
 {
     match (left, right) {
         (Ty::Int, Ty::Int) => true,
@@ -41,7 +42,8 @@ fn can_add(classes: &[ClassInfo], left: &Ty, right: &Ty) -> bool
 
 /// The type of a sum; never where the two cannot be added.
 fn sum(alloc: Global, classes: &[ClassInfo], left: &Ty, right: &Ty) -> Result<Ty, Memory>
-    ensures { IfOk result (λ s. ty_of s ≡ or_never (p.sum_of (classes_of classes.now) (ty_of left.now) (ty_of right.now))) }
+    ensures { IfOk result (λ s. ty_of s ≡
+        or_never (p.sum_of (classes_of classes.now) (ty_of left.now) (ty_of right.now))) }
 {
     match (left, right) {
         (Ty::Int, Ty::Int) => Ok(Ty::Int),
@@ -60,7 +62,8 @@ fn chain_type(
     left: &Ty,
     right: &Ty,
 ) -> Result<Ty, Memory>
-    ensures { IfOk result (λ s. ty_of s ≡ p.chain_type (classes_of classes.now) operator (ty_of left.now) (ty_of right.now)) }
+    ensures { IfOk result (λ s. ty_of s ≡ p.chain_type (classes_of classes.now) operator
+        (ty_of left.now) (ty_of right.now)) }
 {
     match operator {
         Operator::Or => join_of(alloc, classes, left, right),
@@ -73,7 +76,8 @@ fn chain_type(
 }
 
 fn do_chain(classes: &[ClassInfo], operator: Operator, left: &Ty, right: &Ty) -> bool
-    ensures { result ≡ p.do_chain (classes_of classes.now) operator (ty_of left.now) (ty_of right.now) }
+    ensures { result ≡ p.do_chain (classes_of classes.now) operator (ty_of left.now)
+        (ty_of right.now) }
 {
     match operator {
         Operator::Or => true,
@@ -129,7 +133,10 @@ fn chain_code(
     left: &Ty,
     right: &Ty,
 ) -> Option<u16>
-    ensures { result ≡ cond (not (p.do_chain (classes (facts_of facts.now)) operator (ty_of left.now) (ty_of right.now))) (Some 50) (cond (p.is_quotient operator && not (r.is_rounded (facts_of facts.now) (used_of used.entry))) (Some 59) None) }
+    ensures { result ≡ cond (not
+        (p.do_chain (classes (facts_of facts.now)) operator (ty_of left.now) (ty_of right.now)))
+        (Some 50) (cond (p.is_quotient operator && not
+        (r.is_rounded (facts_of facts.now) (used_of used.entry))) (Some 59) None) }
 {
     if !do_chain(facts.classes(), operator, left, right) {
         Some(50)
@@ -147,7 +154,18 @@ pub fn chain(
     operator: Operator,
     two: &Two,
 ) -> Result<Judged, Memory>
-    ensures { IfOk result (λ j. judged_of j ≡ record { ty = p.chain_type (classes (facts_of facts.now)) operator (type_of (facts_of facts.now) (two_of two.now).0) (type_of (facts_of facts.now) (two_of two.now).1); code = cond (not (p.do_chain (classes (facts_of facts.now)) operator (type_of (facts_of facts.now) (two_of two.now).0) (type_of (facts_of facts.now) (two_of two.now).1))) (Some 50) (cond (p.is_quotient operator && not (r.is_rounded (facts_of facts.now) (used_of used.entry))) (Some 59) None) }) }
+    ensures { IfOk result (λ j. judged_of j ≡
+        record {
+          ty = p.chain_type (classes (facts_of facts.now)) operator
+              (type_of (facts_of facts.now) (two_of two.now).0)
+              (type_of (facts_of facts.now) (two_of two.now).1);
+          code =
+              cond (not (p.do_chain (classes (facts_of facts.now)) operator
+              (type_of (facts_of facts.now) (two_of two.now).0)
+              (type_of (facts_of facts.now) (two_of two.now).1))) (Some 50)
+              (cond (p.is_quotient operator && not
+              (r.is_rounded (facts_of facts.now) (used_of used.entry))) (Some 59) None);
+        }) }
 {
     let left = facts.type_of(two.left.get());
     let right = facts.type_of(two.right.get());
@@ -175,14 +193,21 @@ fn have_equality(
     left: &Ty,
     right: &Ty,
 ) -> Result<bool, Memory>
-    ensures { IfOk result (λ b. b ≡ p.have_equality (classes_of classes.now) (ty_of left.now) (ty_of right.now)) }
+    ensures { IfOk result (λ b. b ≡ p.have_equality (classes_of classes.now) (ty_of left.now)
+        (ty_of right.now)) }
 {
     let joined = join_of(alloc, classes, left, right)?;
     Ok(is_comparable(classes, &joined))
 }
 
 fn equality(facts: &Facts<'_>, left: &Ty, right: &Ty) -> Result<Judged, Memory>
-    ensures { IfOk result (λ j. judged_of j ≡ record { ty = ty_of left.now; code = cond (not (p.have_equality (classes (facts_of facts.now)) (ty_of left.now) (ty_of right.now))) (Some 53) None }) }
+    ensures { IfOk result (λ j. judged_of j ≡
+        record {
+          ty = ty_of left.now;
+          code =
+              cond (not (p.have_equality (classes (facts_of facts.now)) (ty_of left.now)
+              (ty_of right.now))) (Some 53) None;
+        }) }
 {
     let alloc = facts.world.alloc;
     let broken = !have_equality(alloc, facts.classes(), left, right)?;
@@ -192,7 +217,17 @@ fn equality(facts: &Facts<'_>, left: &Ty, right: &Ty) -> Result<Judged, Memory>
 
 /// `E = F`, `E <> F`, `E < F`, `E <= F`, `E > F`, `E >= F`.
 pub fn comparison(facts: &Facts<'_>, comparison: Comparison, two: &Two) -> Result<Judged, Memory>
-    ensures { IfOk result (λ j. judged_of j ≡ record { ty = p.compared_type comparison (type_of (facts_of facts.now) (two_of two.now).0); code = cond (not (p.is_equality comparison) && not (p.are_ints (type_of (facts_of facts.now) (two_of two.now).0) (type_of (facts_of facts.now) (two_of two.now).1))) (Some 50) (cond (p.is_equality comparison && not (p.have_equality (classes (facts_of facts.now)) (type_of (facts_of facts.now) (two_of two.now).0) (type_of (facts_of facts.now) (two_of two.now).1))) (Some 53) None) }) }
+    ensures { IfOk result (λ j. judged_of j ≡
+        record {
+          ty = p.compared_type comparison (type_of (facts_of facts.now) (two_of two.now).0);
+          code = cond (not (p.is_equality comparison) && not
+              (p.are_ints (type_of (facts_of facts.now) (two_of two.now).0)
+              (type_of (facts_of facts.now) (two_of two.now).1))) (Some 50)
+              (cond (p.is_equality comparison && not
+              (p.have_equality (classes (facts_of facts.now))
+              (type_of (facts_of facts.now) (two_of two.now).0)
+              (type_of (facts_of facts.now) (two_of two.now).1))) (Some 53) None);
+        }) }
 {
     let left = facts.type_of(two.left.get());
     let right = facts.type_of(two.right.get());
@@ -205,7 +240,12 @@ pub fn comparison(facts: &Facts<'_>, comparison: Comparison, two: &Two) -> Resul
 
 /// `-E`.
 pub fn minus(facts: &Facts<'_>, part: &Expr) -> Judged
-    ensures { judged_of result ≡ record { ty = t.int; code = cond (not (p.is_int (type_of (facts_of facts.now) (tree_of part.now)))) (Some 50) None } }
+    ensures { judged_of result ≡
+        record {
+          ty = t.int;
+          code =
+              cond (not (p.is_int (type_of (facts_of facts.now) (tree_of part.now)))) (Some 50) None;
+        } }
 {
     tested(Ty::Int, !is_int(facts.type_of(part)), 50)
 }
@@ -217,7 +257,8 @@ fn assigned_type(
     place: &Ty,
     value: &Ty,
 ) -> Result<Ty, Memory>
-    ensures { IfOk result (λ s. ty_of s ≡ p.assigned_type (classes_of classes.now) assign (ty_of place.now) (ty_of value.now)) }
+    ensures { IfOk result (λ s. ty_of s ≡ p.assigned_type (classes_of classes.now) assign
+        (ty_of place.now) (ty_of value.now)) }
 {
     match assign {
         Assign::Set => copied(alloc, value),
@@ -228,7 +269,8 @@ fn assigned_type(
 }
 
 fn can_assign(classes: &[ClassInfo], assign: Assign, place: &Ty, value: &Ty) -> bool
-    ensures { result ≡ p.can_assign (classes_of classes.now) assign (ty_of place.now) (ty_of value.now) }
+    ensures { result ≡ p.can_assign (classes_of classes.now) assign (ty_of place.now)
+        (ty_of value.now) }
 {
     match assign {
         Assign::Set => does_fit(classes, value, place),
@@ -245,8 +287,10 @@ pub fn assigned(
     place: &Ty,
     value: &Ty,
 ) -> Result<(Ty, bool), Memory>
-    ensures ty { IfOk result (λ s. ty_of s.0 ≡ p.assigned_type (classes (facts_of facts.now)) assign (ty_of place.now) (ty_of value.now)) }
-    ensures can { IfOk result (λ s. s.1 ≡ p.can_assign (classes (facts_of facts.now)) assign (ty_of place.now) (ty_of value.now)) }
+    ensures ty { IfOk result (λ s. ty_of s.0 ≡ p.assigned_type (classes (facts_of facts.now)) assign
+        (ty_of place.now) (ty_of value.now)) }
+    ensures can { IfOk result (λ s. s.1 ≡ p.can_assign (classes (facts_of facts.now)) assign
+        (ty_of place.now) (ty_of value.now)) }
 {
     let classes = facts.classes();
     let ty = assigned_type(facts.world.alloc, classes, assign, place, value)?;

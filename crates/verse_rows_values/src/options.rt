@@ -20,7 +20,8 @@ use verse_types::joining::copied;
 
 /// `option{..}`.
 pub fn option(facts: &Facts<'_>, parts: &[Expr]) -> Result<Ty, Memory>
-    ensures { IfOk result (λ s. ty_of s ≡ t.option (p.last_type (facts_of facts.now) (trees (map tree_of parts.now)))) }
+    ensures { IfOk result (λ s. ty_of s ≡
+        t.option (p.last_type (facts_of facts.now) (trees (map tree_of parts.now)))) }
 {
     let content = last_type(facts, parts)?;
     Ok(Ty::Option(Boxed::new(facts.world.alloc, content)?))
@@ -44,7 +45,13 @@ fn queried_type(alloc: Global, ty: &Ty) -> Result<Ty, Memory>
 
 /// `E?`.
 pub fn query(facts: &Facts<'_>, part: &Expr) -> Result<Judged, Memory>
-    ensures { IfOk result (λ j. judged_of j ≡ record { ty = p.queried_type (type_of (facts_of facts.now) (tree_of part.now)); code = cond (not (p.can_query (type_of (facts_of facts.now) (tree_of part.now)))) (Some 50) None }) }
+    ensures { IfOk result (λ j. judged_of j ≡
+        record {
+          ty = p.queried_type (type_of (facts_of facts.now) (tree_of part.now));
+          code =
+              cond (not (p.can_query (type_of (facts_of facts.now) (tree_of part.now))))
+              (Some 50) None;
+        }) }
 {
     let content = facts.type_of(part);
     let ty = queried_type(facts.world.alloc, content)?;

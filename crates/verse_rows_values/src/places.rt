@@ -73,7 +73,18 @@ fn is_item(facts: &Facts<'_>, target: &Expr) -> bool
 
 /// `set P = E` and its kin.
 pub fn assignment(facts: &Facts<'_>, assign: Assign, two: &Two) -> Result<Judged, Memory>
-    ensures { IfOk result (λ j. judged_of j ≡ record { ty = p.assigned_type (classes (facts_of facts.now)) assign (type_of (facts_of facts.now) (two_of two.now).0) (type_of (facts_of facts.now) (two_of two.now).1); code = cond (not (r.is_item (facts_of facts.now) (two_of two.now).0) && not (p.can_assign (classes (facts_of facts.now)) assign (type_of (facts_of facts.now) (two_of two.now).0) (type_of (facts_of facts.now) (two_of two.now).1))) (Some 50) (cond (not (r.can_be_set (facts_of facts.now) (two_of two.now).0)) (Some 54) None) }) }
+    ensures { IfOk result (λ j. judged_of j ≡
+        record {
+          ty = p.assigned_type (classes (facts_of facts.now)) assign
+              (type_of (facts_of facts.now) (two_of two.now).0)
+              (type_of (facts_of facts.now) (two_of two.now).1);
+          code =
+              cond (not (r.is_item (facts_of facts.now) (two_of two.now).0) && not
+              (p.can_assign (classes (facts_of facts.now)) assign
+              (type_of (facts_of facts.now) (two_of two.now).0)
+              (type_of (facts_of facts.now) (two_of two.now).1))) (Some 50)
+              (cond (not (r.can_be_set (facts_of facts.now) (two_of two.now).0)) (Some 54) None);
+        }) }
 {
     let target = two.left.get();
     let place = facts.type_of(target);
@@ -84,7 +95,9 @@ pub fn assignment(facts: &Facts<'_>, assign: Assign, two: &Two) -> Result<Judged
 }
 
 fn assignment_code(facts: &Facts<'_>, target: &Expr, can: bool) -> Option<u16>
-    ensures { result ≡ cond (not (r.is_item (facts_of facts.now) (tree_of target.now)) && not can) (Some 50) (cond (not (r.can_be_set (facts_of facts.now) (tree_of target.now))) (Some 54) None) }
+    ensures { result ≡ cond (not (r.is_item (facts_of facts.now) (tree_of target.now)) && not can)
+        (Some 50) (cond (not (r.can_be_set (facts_of facts.now) (tree_of target.now)))
+        (Some 54) None) }
 {
     if !is_item(facts, target) && !can {
         Some(50)

@@ -15,7 +15,8 @@ nodes_together (i ∷ is) js = let h : items_nodes (is ++ js) ≡ items_nodes is
 pub one_file : (items : List Item) → items_nodes (map item_of items) ≤ 100000 → program_nodes (joined (items ∷ [])) < 4294967295
 one_file items h = let e = nodes_together (map item_of items) [] in omega (arith, e)
 
-pub counted : (files : List (List Item)) (is : List ItemTree) (n : ℕ) → is ≡ items_numbered (joined files) 0 → n ≡ program_nodes (joined files) → IsNumbered is n
+pub counted : (files : List (List Item)) (is : List ItemTree) (n : ℕ) → is ≡ items_numbered (joined files) 0 →
+    n ≡ program_nodes (joined files) → IsNumbered is n
 counted files is n e f = (joined files, e, f)
 
 pub numbered : (files : List (List Item)) (is : List ItemTree) → is ≡ items_numbered (joined files) 0 → AreNumbered is

@@ -2,10 +2,15 @@
 use Rattle.std.proofs.Common.{◌≡◌, ℕ, Bool, true, false, List, [], ◌∷◌, ◌++◌, map, length, Option, refl, ap, sym, ◌∙◌, append_assoc}
 use Rattle.std.specs.Prelude.{Some, None}
 use Rattle.verse_base.specs.declared.places.Place.{Place}
-use Rattle.verse_tree.specs.Tree.{Written, Writtens, no_writtens, more_writtens, Tree, tree, Shape, Trees, no_trees, more_trees, Holes, no_holes, more_holes, Pairs, no_pairs, more_pairs, Givens, no_givens, more_givens}
+use Rattle.verse_tree.specs.Tree.{Written, Writtens, no_writtens, more_writtens, Tree, tree, Shape, Trees, no_trees, more_trees, Holes}
+use Rattle.verse_tree.specs.Tree.{no_holes, more_holes, Pairs, no_pairs, more_pairs, Givens, no_givens, more_givens}
 use Rattle.verse_tree.specs.Tree as t
-use Rattle.verse_tree.specs.ItemTree.{FieldTree, ParamTree, FunTree, MemberTree, field, method, ItemTree, using, enumeration, class, function}
-use Rattle.verse_tree.specs.PostOrder.{Node, What, program, item, member, parameter, type_name, expression, node_at, written_order, writtens_order, post_order, parts, trees_order, holes_order, pairs_order, givens_order, default_order, params_order, fun_parts, field_parts, member_order, members_order, item_order, items_order, program_order, program_place}
+use Rattle.verse_tree.specs.ItemTree.{FieldTree, ParamTree, FunTree, MemberTree, field, method, ItemTree, using, enumeration, class}
+use Rattle.verse_tree.specs.ItemTree.{function}
+use Rattle.verse_tree.specs.PostOrder.{Node, What, program, item, member, parameter, type_name, expression, node_at, written_order}
+use Rattle.verse_tree.specs.PostOrder.{writtens_order, post_order, parts, trees_order, holes_order, pairs_order, givens_order}
+use Rattle.verse_tree.specs.PostOrder.{default_order, params_order, fun_parts, field_parts, member_order, members_order, item_order}
+use Rattle.verse_tree.specs.PostOrder.{items_order, program_order, program_place}
 use Rattle.verse_tree.specs.declared.exprs.Operator.{Operator}
 use Rattle.verse_tree.specs.declared.exprs.Operator.TheVariants as op
 use Rattle.verse_tree.specs.declared.tables.Ref.{Ref}
@@ -18,7 +23,9 @@ use Rattle.verse_outline.specs.Known.{Known, known}
 use Rattle.verse_scopes.specs.Visible.{World, inside, outside}
 use Rattle.verse_scopes.specs.Subjects.{Subject, quiet, defined, subject, refers, locals_behind, rules_at}
 use Rattle.verse_scopes.specs.Subjects as u
-use Rattle.verse_scopes.specs.Scopes.{apart, operand, through_written, through_writtens, through, through_parts, through_all, through_arms, through_holes, through_pairs, through_givens, through_params, through_fun, through_default, through_field, through_member, through_members, through_item, through_items, through_program}
+use Rattle.verse_scopes.specs.Scopes.{apart, operand, through_written, through_writtens, through, through_parts, through_all, through_arms}
+use Rattle.verse_scopes.specs.Scopes.{through_holes, through_pairs, through_givens, through_params, through_fun, through_default}
+use Rattle.verse_scopes.specs.Scopes.{through_field, through_member, through_members, through_item, through_items, through_program}
 use Rattle.verse_scopes.specs.Visits.{Visit, ref_of, Seen, visit, leave, keep_fault}
 use Rattle.verse_scopes.specs.Naming.{Naming, noted, cut, cut_back}
 use Rattle.verse_scopes.proofs.Adding.{Grown, grown_none, grown_on, grown_behind, take_grown}

@@ -19,7 +19,8 @@ use Rattle.verse_outline.specs.Known.{Known, known}
 use Rattle.verse_scopes.specs.Visible.{outside}
 use Rattle.verse_scopes.specs.Subjects.{quiet}
 use Rattle.verse_scopes.specs.Scopes.{through_items, through_program}
-use Rattle.verse_scopes.specs.Visits.{Visit, number_of, place_of, ref_of, rules_of, program_visits, nothing_seen, keep_fault, Breaks, NamesBreak, IsNumbered, IsPlaced}
+use Rattle.verse_scopes.specs.Visits.{Visit, number_of, place_of, ref_of, rules_of, program_visits, nothing_seen, keep_fault, Breaks}
+use Rattle.verse_scopes.specs.Visits.{NamesBreak, IsNumbered, IsPlaced}
 use Rattle.verse_scopes.specs.Naming.{Naming, noted, cut_back, nothing_named}
 use Rattle.verse_scopes.proofs.Agreeing.{visit_stands, node_stands, program_agrees}
 

@@ -6,7 +6,8 @@ ghost use Rattle.verse_tree.specs.PostOrder.{items_order};
 ghost use Rattle.verse_least.specs.Both.{Leads};
 ghost use Rattle.verse_outline.specs.Known.{known as facts_of, known_of};
 ghost use Rattle.verse_scopes.specs.Scopes.{through_program};
-ghost use Rattle.verse_scopes.specs.Visits.{ref_of, program_visits, NamesBreak, IsNumbered, IsPlaced};
+ghost use Rattle.verse_scopes.specs.Visits.{ref_of, program_visits, NamesBreak, IsNumbered};
+ghost use Rattle.verse_scopes.specs.Visits.{IsPlaced};
 ghost use Rattle.verse_scopes.specs.Naming.{noted, cut_back, nothing_named};
 ghost use Rattle.verse_scopes.specs.Views.{naming_of};
 
@@ -37,7 +38,8 @@ pub struct Scoped {
 pub fn name_bodies<'a>(alloc: Global, known: &Known<'a>, tree: &'a Tree) -> Result<Scoped, Memory>
     requires known { known_of known.now ≡ facts_of (map item_of tree.now.items) }
     requires numbered { IsNumbered (map item_of tree.now.items) tree.now.nodes }
-    ensures refs { IfOk result (λ r. r.refs ≡ map ref_of (program_visits (map item_of tree.now.items))) }
+    ensures refs { IfOk result (λ r. r.refs ≡
+        map ref_of (program_visits (map item_of tree.now.items))) }
     ensures least { IfOk result (λ r. Leads (NamesBreak (map item_of tree.now.items)) r.fault) }
     ensures placed { IfOk result (λ r. IsPlaced (map item_of tree.now.items) r.fault) }
 {
@@ -49,7 +51,8 @@ pub fn name_bodies<'a>(alloc: Global, known: &Known<'a>, tree: &'a Tree) -> Resu
 fn name<'a>(alloc: Global, known: &Known<'a>, tree: &'a Tree) -> Result<Naming<'a>, Memory>
     requires known { known_of known.now ≡ facts_of (map item_of tree.now.items) }
     requires numbered { IsNumbered (map item_of tree.now.items) tree.now.nodes }
-    ensures { IfOk result (λ x. naming_of x ≡ through_program noted cut_back (map item_of tree.now.items) nothing_named) }
+    ensures { IfOk result (λ x. naming_of x ≡
+        through_program noted cut_back (map item_of tree.now.items) nothing_named) }
 {
     let last = last_node(tree);
     let mut naming = Naming::new(alloc);

@@ -3,13 +3,16 @@
 ghost use Rattle.std.specs.Prelude.{◌≡◌, map, OnOk};
 ghost use Rattle.std.specs.Option.{option_map};
 ghost use Rattle.verse_tree.specs.View.{tree_of};
-ghost use Rattle.verse_tree.specs.ItemView.{param_of, fun_of, field_of, member_of, class_of, item_of};
+ghost use Rattle.verse_tree.specs.ItemView.{param_of, fun_of, field_of, member_of, class_of};
+ghost use Rattle.verse_tree.specs.ItemView.{item_of};
 ghost use Rattle.verse_tree.specs.PostOrder.{program_place};
 ghost use Rattle.verse_outline.specs.Counting.{counted_of};
 ghost use Rattle.verse_outline.specs.Known.{known_of};
 ghost use Rattle.verse_scopes.specs.Visible.{inside, outside};
 ghost use Rattle.verse_scopes.specs.Subjects.{quiet};
-ghost use Rattle.verse_scopes.specs.Scopes.{through_params, through_fun, through_default, through_field, through_member, through_members, through_item, through_items};
+ghost use Rattle.verse_scopes.specs.Scopes.{through_params, through_fun, through_default};
+ghost use Rattle.verse_scopes.specs.Scopes.{through_field, through_member, through_members};
+ghost use Rattle.verse_scopes.specs.Scopes.{through_item, through_items};
 ghost use Rattle.verse_scopes.specs.Naming.{noted, cut_back};
 ghost use Rattle.verse_scopes.specs.Views.{world_of, naming_of};
 
@@ -39,7 +42,9 @@ fn walk_params<'a>(
     world: &World<'_, 'a>,
     params: &'a [Param],
 ) -> Result<(), Memory>
-    ensures { OnOk result (naming_of naming.new ≡ through_params (noted (world_of world.now)) cut_back (map param_of params.now) (naming_of naming.old)) }
+    ensures { OnOk result (naming_of naming.new ≡
+        through_params (noted (world_of world.now)) cut_back (map param_of params.now)
+        (naming_of naming.old)) }
 {
     'params: for param in params {
         walk_type(naming, world, false, &param.ty)?;
@@ -49,7 +54,8 @@ fn walk_params<'a>(
 }
 
 fn walk_fun<'a>(naming: &mut Naming<'a>, world: &World<'_, 'a>, fun: &'a Fun) -> Result<(), Memory>
-    ensures { OnOk result (naming_of naming.new ≡ through_fun (noted (world_of world.now)) cut_back (fun_of fun.now) (naming_of naming.old)) }
+    ensures { OnOk result (naming_of naming.new ≡ through_fun (noted (world_of world.now)) cut_back
+        (fun_of fun.now) (naming_of naming.old)) }
 {
     let mark = naming.mark();
     walk_params(naming, world, fun.params.as_slice())?;
@@ -64,7 +70,9 @@ fn walk_default<'a>(
     world: &World<'_, 'a>,
     default: &'a Option<Boxed<Expr>>,
 ) -> Result<(), Memory>
-    ensures { OnOk result (naming_of naming.new ≡ through_default (noted (world_of world.now)) cut_back (option_map tree_of default.now) (naming_of naming.old)) }
+    ensures { OnOk result (naming_of naming.new ≡
+        through_default (noted (world_of world.now)) cut_back (option_map tree_of default.now)
+        (naming_of naming.old)) }
 {
     match default {
         None => Ok(()),
@@ -82,7 +90,9 @@ fn walk_field<'a>(
     world: &World<'_, 'a>,
     field: &'a Field,
 ) -> Result<(), Memory>
-    ensures { OnOk result (naming_of naming.new ≡ through_field (noted (world_of world.now)) cut_back (field_of field.now) (naming_of naming.old)) }
+    ensures { OnOk result (naming_of naming.new ≡
+        through_field (noted (world_of world.now)) cut_back (field_of field.now)
+        (naming_of naming.old)) }
 {
     walk_type(naming, world, false, &field.ty)?;
     walk_default(naming, world, &field.default)
@@ -95,7 +105,8 @@ fn walk_member<'a>(
     inner: &World<'_, 'a>,
     member: &'a Member,
 ) -> Result<(), Memory>
-    ensures { OnOk result (naming_of naming.new ≡ through_member noted cut_back (known_of known.now) (world_of outer.now) (world_of inner.now) (member_of member.now) (naming_of naming.old)) }
+    ensures { OnOk result (naming_of naming.new ≡ through_member noted cut_back (known_of known.now)
+        (world_of outer.now) (world_of inner.now) (member_of member.now) (naming_of naming.old)) }
 {
     match member {
         Member::Field(field) => {
@@ -116,7 +127,9 @@ fn walk_members<'a>(
     inner: &World<'_, 'a>,
     members: &'a [Member],
 ) -> Result<(), Memory>
-    ensures { OnOk result (naming_of naming.new ≡ through_members noted cut_back (known_of known.now) (world_of outer.now) (world_of inner.now) (map member_of members.now) (naming_of naming.old)) }
+    ensures { OnOk result (naming_of naming.new ≡
+        through_members noted cut_back (known_of known.now) (world_of outer.now)
+        (world_of inner.now) (map member_of members.now) (naming_of naming.old)) }
 {
     'members: for member in members {
         walk_member(naming, known, outer, inner, member)?;
@@ -133,7 +146,9 @@ fn walk_class<'a>(
     item: &'a ClassItem,
 ) -> Result<(), Memory>
     requires outside { world_of world.now ≡ outside (known_of known.now) }
-    ensures { OnOk result (naming_of naming.new ≡ through_members noted cut_back (known_of known.now) (outside (known_of known.now)) (inside (known_of known.now) number) (class_of item.now).members (naming_of naming.old)) }
+    ensures { OnOk result (naming_of naming.new ≡
+        through_members noted cut_back (known_of known.now) (outside (known_of known.now))
+        (inside (known_of known.now) number) (class_of item.now).members (naming_of naming.old)) }
 {
     let members = bare_members(alloc, known, number)?;
     let inner = World {
@@ -153,7 +168,8 @@ fn walk_item<'a>(
     counted: &Counted<'a>,
 ) -> Result<(), Memory>
     requires outside { world_of world.now ≡ outside (known_of known.now) }
-    ensures { OnOk result (naming_of naming.new ≡ through_item noted cut_back (known_of known.now) (counted_of counted.now).item (counted_of counted.now).before (naming_of naming.old)) }
+    ensures { OnOk result (naming_of naming.new ≡ through_item noted cut_back (known_of known.now)
+        (counted_of counted.now).item (counted_of counted.now).before (naming_of naming.old)) }
 {
     match counted.item {
         Item::Using(item) => naming.pass_by(world, item.node, item.place),
@@ -177,7 +193,8 @@ fn walk_items<'a>(
     items: &[Counted<'a>],
 ) -> Result<(), Memory>
     requires outside { world_of world.now ≡ outside (known_of known.now) }
-    ensures { OnOk result (naming_of naming.new ≡ through_items noted cut_back (known_of known.now) (map counted_of items.now) (naming_of naming.old)) }
+    ensures { OnOk result (naming_of naming.new ≡ through_items noted cut_back (known_of known.now)
+        (map counted_of items.now) (naming_of naming.old)) }
 {
     'items: for item in items {
         walk_item(alloc, naming, known, world, item)?;
@@ -192,7 +209,10 @@ pub fn walk_program<'a>(
     known: &Known<'a>,
     last: u32,
 ) -> Result<(), Memory>
-    ensures { OnOk result (naming_of naming.new ≡ noted (outside (known_of known.now)) last program_place quiet (through_items noted cut_back (known_of known.now) (known_of known.now).items (naming_of naming.old))) }
+    ensures { OnOk result (naming_of naming.new ≡
+        noted (outside (known_of known.now)) last program_place quiet
+        (through_items noted cut_back (known_of known.now) (known_of known.now).items
+        (naming_of naming.old))) }
 {
     let none = Dict::new(alloc);
     let world = World {

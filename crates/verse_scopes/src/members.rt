@@ -14,7 +14,8 @@ use verse_outline::members::{Members, all_members};
 use verse_tree::tables::Ref;
 
 fn add_methods<'a>(found: &mut Dict<'a>, class: u32, names: &[&'a [u8]]) -> Result<(), Memory>
-    ensures { OnOk result (table_of found.new ≡ with_methods class 0 (map bytes_now names.now) (table_of found.old)) }
+    ensures { OnOk result (table_of found.new ≡ with_methods class 0 (map bytes_now names.now)
+        (table_of found.old)) }
 {
     let mut place = 0u32;
     'names: for name in names {

@@ -1,13 +1,15 @@
 //! What is visible, and what is found at a node.
 
-ghost use Rattle.std.specs.Prelude.{◌≡◌, ◌++◌, ◌∷◌, [], cond, map, length, OnOk, IfOk, Some, None, is_some};
+ghost use Rattle.std.specs.Prelude.{◌≡◌, ◌++◌, ◌∷◌, [], cond, map, length, OnOk, IfOk, Some, None};
+ghost use Rattle.std.specs.Prelude.{is_some};
 ghost use Rattle.verse_least.specs.Least.{first, fault_at};
 ghost use Rattle.verse_outline.specs.Names.{any_again};
 ghost use Rattle.verse_outline.specs.Views.{table_of};
 ghost use Rattle.verse_tree.specs.View.{given_of, givens};
 ghost use Rattle.verse_tree.specs.declared.tables.Ref.TheVariants as ref;
 ghost use Rattle.verse_scopes.specs.Visible.{visible, visible_throughout, with_local};
-ghost use Rattle.verse_scopes.specs.Subjects.{quiet, type_name, this, used, instance, defined, both_defined, given_names, refers, rules_at};
+ghost use Rattle.verse_scopes.specs.Subjects.{quiet, type_name, this, used, instance, defined};
+ghost use Rattle.verse_scopes.specs.Subjects.{both_defined, given_names, refers, rules_at};
 ghost use Rattle.verse_scopes.specs.Naming.{noted, cut, nothing_named};
 ghost use Rattle.verse_scopes.specs.Views.{world_of, naming_of};
 
@@ -131,8 +133,16 @@ impl<'a> Naming<'a> {
 
     /// Defines a name unless it is visible; says whether it is.
     fn add(&mut self, world: &World<'_, 'a>, name: &'a [u8], to: Ref) -> Result<bool, Memory>
-        ensures again { IfOk result (λ r. r ≡ is_some (visible (world_of world.now) (naming_of self.old).locals name.now)) }
-        ensures added { OnOk result (naming_of self.new ≡ record { locals = with_local (world_of world.now) name.now to (naming_of self.old).locals; refs = (naming_of self.old).refs; fault = (naming_of self.old).fault }) }
+        ensures again { IfOk result
+            (λ r. r ≡ is_some (visible (world_of world.now) (naming_of self.old).locals name.now)) }
+        ensures added { OnOk result
+            (naming_of self.new ≡ record {
+              locals =
+                  with_local (world_of world.now) name.now to (naming_of self.old).locals;
+              refs =
+                  (naming_of self.old).refs;
+              fault = (naming_of self.old).fault;
+            }) }
     {
         match self.find(world, name) {
             Some(_) => Ok(true),
@@ -151,7 +161,14 @@ impl<'a> Naming<'a> {
         to: Option<Ref>,
         code: Option<u16>,
     ) -> Result<(), Memory>
-        ensures { OnOk result (naming_of self.new ≡ record { locals = (naming_of self.old).locals; refs = (naming_of self.old).refs ++ to ∷ []; fault = first (naming_of self.old).fault (fault_at node place code) }) }
+        ensures { OnOk result (naming_of self.new ≡
+            record {
+              locals = (naming_of self.old).locals;
+              refs =
+                  (naming_of self.old).refs ++ to ∷ [];
+              fault =
+                  first (naming_of self.old).fault (fault_at node place code);
+            }) }
     {
         self.fault = keep_first(self.fault, fault_for(node, place, code));
         self.refs.push(to)?;
@@ -161,7 +178,8 @@ impl<'a> Naming<'a> {
     /// A node that has to do with no name.
     #[tactic(auto, unfolding(crate::specs::Naming::noted))]
     pub fn pass_by(&mut self, world: &World<'_, 'a>, node: u32, place: Place) -> Result<(), Memory>
-        ensures { OnOk result (naming_of self.new ≡ noted (world_of world.now) node place quiet (naming_of self.old)) }
+        ensures { OnOk result (naming_of self.new ≡ noted (world_of world.now) node place quiet
+            (naming_of self.old)) }
     {
         self.note(node, place, None, None)
     }
@@ -176,7 +194,8 @@ impl<'a> Naming<'a> {
         place: Place,
         name: &[u8],
     ) -> Result<(), Memory>
-        ensures { OnOk result (naming_of self.new ≡ noted (world_of world.now) node place (type_name in_body name.now) (naming_of self.old)) }
+        ensures { OnOk result (naming_of self.new ≡ noted (world_of world.now) node place
+            (type_name in_body name.now) (naming_of self.old)) }
     {
         let found = world.types.find(name);
         let broken = in_body && found.is_none();
@@ -186,7 +205,8 @@ impl<'a> Naming<'a> {
     /// `Self`.
     #[tactic(auto, unfolding(crate::specs::Naming::noted))]
     pub fn use_this(&mut self, world: &World<'_, 'a>, node: u32, place: Place) -> Result<(), Memory>
-        ensures { OnOk result (naming_of self.new ≡ noted (world_of world.now) node place this (naming_of self.old)) }
+        ensures { OnOk result (naming_of self.new ≡ noted (world_of world.now) node place this
+            (naming_of self.old)) }
     {
         let found = world.this();
         self.note(node, place, found, code_where(found.is_none(), UNKNOWN))
@@ -201,7 +221,8 @@ impl<'a> Naming<'a> {
         place: Place,
         name: &[u8],
     ) -> Result<(), Memory>
-        ensures { OnOk result (naming_of self.new ≡ noted (world_of world.now) node place (used name.now) (naming_of self.old)) }
+        ensures { OnOk result (naming_of self.new ≡ noted (world_of world.now) node place
+            (used name.now) (naming_of self.old)) }
     {
         let found = self.find(world, name);
         self.note(node, place, found, code_where(found.is_none(), UNKNOWN))
@@ -217,7 +238,9 @@ impl<'a> Naming<'a> {
         name: &[u8],
         parts: &[Given],
     ) -> Result<(), Memory>
-        ensures { OnOk result (naming_of self.new ≡ noted (world_of world.now) node place (instance name.now (given_names (givens (map given_of parts.now)))) (naming_of self.old)) }
+        ensures { OnOk result (naming_of self.new ≡ noted (world_of world.now) node place
+            (instance name.now (given_names (givens (map given_of parts.now))))
+            (naming_of self.old)) }
     {
         let found = self.find(world, name);
         if is_given_twice(self.alloc, parts)? {
@@ -235,7 +258,8 @@ impl<'a> Naming<'a> {
         place: Place,
         name: &'a [u8],
     ) -> Result<(), Memory>
-        ensures { OnOk result (naming_of self.new ≡ noted (world_of world.now) node place (defined name.now (ref.Local node)) (naming_of self.old)) }
+        ensures { OnOk result (naming_of self.new ≡ noted (world_of world.now) node place
+            (defined name.now (ref.Local node)) (naming_of self.old)) }
     {
         let again = self.add(world, name, Ref::Local(node))?;
         self.note(node, place, None, code_where(again, DEFINED))
@@ -251,7 +275,8 @@ impl<'a> Naming<'a> {
         key: &'a [u8],
         value: &'a [u8],
     ) -> Result<(), Memory>
-        ensures { OnOk result (naming_of self.new ≡ noted (world_of world.now) node place (both_defined key.now (ref.Key node) value.now (ref.Local node)) (naming_of self.old)) }
+        ensures { OnOk result (naming_of self.new ≡ noted (world_of world.now) node place
+            (both_defined key.now (ref.Key node) value.now (ref.Local node)) (naming_of self.old)) }
     {
         let again = self.add(world, key, Ref::Key(node))?;
         let second = self.add(world, value, Ref::Local(node))?;

@@ -2,9 +2,14 @@
 
 ghost use Rattle.std.specs.Prelude.{◌≡◌, true, map, length, OnOk};
 ghost use Rattle.std.specs.Option.{option_map};
-ghost use Rattle.verse_tree.specs.View.{tree_of, shape_of, two_of, typed_value_of, if_of, applied_of, for_of, cases_of, hole_of, pair_of, given_of, trees, holes, pairs, givens, return_shape, if_shape, event_shape};
+ghost use Rattle.verse_tree.specs.View.{tree_of, shape_of, two_of, typed_value_of, if_of};
+ghost use Rattle.verse_tree.specs.View.{applied_of, for_of, cases_of, hole_of, pair_of, given_of};
+ghost use Rattle.verse_tree.specs.View.{trees, holes, pairs, givens, return_shape, if_shape};
+ghost use Rattle.verse_tree.specs.View.{event_shape};
 ghost use Rattle.verse_scopes.specs.Subjects.{subject};
-ghost use Rattle.verse_scopes.specs.Scopes.{apart, operand, through, through_parts, through_all, through_arms, through_holes, through_pairs, through_givens, through_written};
+ghost use Rattle.verse_scopes.specs.Scopes.{apart, operand, through, through_parts, through_all};
+ghost use Rattle.verse_scopes.specs.Scopes.{through_arms, through_holes, through_pairs};
+ghost use Rattle.verse_scopes.specs.Scopes.{through_givens, through_written};
 ghost use Rattle.verse_scopes.specs.Naming.{noted, cut_back};
 ghost use Rattle.verse_scopes.specs.Views.{world_of, naming_of};
 
@@ -22,7 +27,9 @@ fn note_expr<'a>(
     world: &World<'_, 'a>,
     expr: &'a Expr,
 ) -> Result<(), Memory>
-    ensures { OnOk result (naming_of naming.new ≡ noted (world_of world.now) expr.now.node expr.now.place (subject expr.now.node (shape_of expr.now.form)) (naming_of naming.old)) }
+    ensures { OnOk result (naming_of naming.new ≡
+        noted (world_of world.now) expr.now.node expr.now.place
+        (subject expr.now.node (shape_of expr.now.form)) (naming_of naming.old)) }
 {
     let node = expr.node;
     let place = expr.place;
@@ -52,7 +59,8 @@ pub fn walk<'a>(
     world: &World<'_, 'a>,
     expr: &'a Expr,
 ) -> Result<(), Memory>
-    ensures { OnOk result (naming_of naming.new ≡ through (noted (world_of world.now)) cut_back (tree_of expr.now) (naming_of naming.old)) }
+    ensures { OnOk result (naming_of naming.new ≡ through (noted (world_of world.now)) cut_back
+        (tree_of expr.now) (naming_of naming.old)) }
 {
     walk_form(naming, world, &expr.form)?;
     note_expr(naming, world, expr)
@@ -64,7 +72,9 @@ fn walk_form<'a>(
     world: &World<'_, 'a>,
     form: &'a Form,
 ) -> Result<(), Memory>
-    ensures { OnOk result (naming_of naming.new ≡ through_parts (noted (world_of world.now)) cut_back (shape_of form.now) (naming_of naming.old)) }
+    ensures { OnOk result (naming_of naming.new ≡
+        through_parts (noted (world_of world.now)) cut_back (shape_of form.now)
+        (naming_of naming.old)) }
 {
     match form {
         Form::Block(parts) => walk_block(naming, world, parts.as_slice()),
@@ -131,7 +141,9 @@ fn walk_block<'a>(
     world: &World<'_, 'a>,
     parts: &'a [Expr],
 ) -> Result<(), Memory>
-    ensures { OnOk result (naming_of naming.new ≡ apart cut_back (through_all (noted (world_of world.now)) cut_back (trees (map tree_of parts.now))) (naming_of naming.old)) }
+    ensures { OnOk result (naming_of naming.new ≡
+        apart cut_back (through_all (noted (world_of world.now)) cut_back
+        (trees (map tree_of parts.now))) (naming_of naming.old)) }
 {
     let mark = naming.mark();
     walk_all(naming, world, parts)?;
@@ -145,7 +157,9 @@ fn walk_apart<'a>(
     world: &World<'_, 'a>,
     expr: &'a Expr,
 ) -> Result<(), Memory>
-    ensures { OnOk result (naming_of naming.new ≡ apart cut_back (through (noted (world_of world.now)) cut_back (tree_of expr.now)) (naming_of naming.old)) }
+    ensures { OnOk result (naming_of naming.new ≡
+        apart cut_back (through (noted (world_of world.now)) cut_back (tree_of expr.now))
+        (naming_of naming.old)) }
 {
     let mark = naming.mark();
     walk(naming, world, expr)?;
@@ -160,7 +174,9 @@ fn walk_operand<'a>(
     operator: Operator,
     expr: &'a Expr,
 ) -> Result<(), Memory>
-    ensures { OnOk result (naming_of naming.new ≡ operand cut_back operator (through (noted (world_of world.now)) cut_back (tree_of expr.now)) (naming_of naming.old)) }
+    ensures { OnOk result (naming_of naming.new ≡
+        operand cut_back operator (through (noted (world_of world.now)) cut_back (tree_of expr.now))
+        (naming_of naming.old)) }
 {
     match operator {
         Operator::Or => walk_apart(naming, world, expr),
@@ -175,7 +191,10 @@ fn walk_chain<'a>(
     operator: Operator,
     two: &'a Two,
 ) -> Result<(), Memory>
-    ensures { OnOk result (naming_of naming.new ≡ operand cut_back operator (through (noted (world_of world.now)) cut_back (two_of two.now).1) (operand cut_back operator (through (noted (world_of world.now)) cut_back (two_of two.now).0) (naming_of naming.old))) }
+    ensures { OnOk result (naming_of naming.new ≡
+        operand cut_back operator (through (noted (world_of world.now)) cut_back (two_of two.now).1)
+        (operand cut_back operator (through (noted (world_of world.now)) cut_back
+        (two_of two.now).0) (naming_of naming.old))) }
 {
     walk_operand(naming, world, operator, two.left.get())?;
     walk_operand(naming, world, operator, two.right.get())
@@ -183,7 +202,9 @@ fn walk_chain<'a>(
 
 #[cycle(walk)]
 fn walk_two<'a>(naming: &mut Naming<'a>, world: &World<'_, 'a>, two: &'a Two) -> Result<(), Memory>
-    ensures { OnOk result (naming_of naming.new ≡ through (noted (world_of world.now)) cut_back (two_of two.now).1 (through (noted (world_of world.now)) cut_back (two_of two.now).0 (naming_of naming.old))) }
+    ensures { OnOk result (naming_of naming.new ≡ through (noted (world_of world.now)) cut_back
+        (two_of two.now).1 (through (noted (world_of world.now)) cut_back (two_of two.now).0
+        (naming_of naming.old))) }
 {
     walk(naming, world, two.left.get())?;
     walk(naming, world, two.right.get())
@@ -195,7 +216,10 @@ fn walk_typed<'a>(
     world: &World<'_, 'a>,
     typed: &'a TypedValue,
 ) -> Result<(), Memory>
-    ensures { OnOk result (naming_of naming.new ≡ through (noted (world_of world.now)) cut_back (typed_value_of typed.now).1 (through_written (noted (world_of world.now)) true (typed_value_of typed.now).0 (naming_of naming.old))) }
+    ensures { OnOk result (naming_of naming.new ≡ through (noted (world_of world.now)) cut_back
+        (typed_value_of typed.now).1
+        (through_written (noted (world_of world.now)) true (typed_value_of typed.now).0
+        (naming_of naming.old))) }
 {
     walk_type(naming, world, true, &typed.ty)?;
     walk(naming, world, typed.value.get())
@@ -207,7 +231,9 @@ fn walk_returned<'a>(
     world: &World<'_, 'a>,
     value: &'a Option<Boxed<Expr>>,
 ) -> Result<(), Memory>
-    ensures { OnOk result (naming_of naming.new ≡ through_parts (noted (world_of world.now)) cut_back (return_shape (option_map tree_of value.now)) (naming_of naming.old)) }
+    ensures { OnOk result (naming_of naming.new ≡
+        through_parts (noted (world_of world.now)) cut_back
+        (return_shape (option_map tree_of value.now)) (naming_of naming.old)) }
 {
     match value {
         None => Ok(()),
@@ -221,7 +247,10 @@ fn walk_if<'a>(
     world: &World<'_, 'a>,
     choice: &'a IfParts,
 ) -> Result<(), Memory>
-    ensures { OnOk result (naming_of naming.new ≡ through_parts (noted (world_of world.now)) cut_back (if_shape (trees (if_of choice.now).conditions) (if_of choice.now).taken (if_of choice.now).otherwise) (naming_of naming.old)) }
+    ensures { OnOk result (naming_of naming.new ≡
+        through_parts (noted (world_of world.now)) cut_back
+        (if_shape (trees (if_of choice.now).conditions) (if_of choice.now).taken
+        (if_of choice.now).otherwise) (naming_of naming.old)) }
 {
     let mark = naming.mark();
     walk_all(naming, world, choice.conditions.as_slice())?;
@@ -239,7 +268,10 @@ fn walk_applied<'a>(
     world: &World<'_, 'a>,
     applied: &'a Applied,
 ) -> Result<(), Memory>
-    ensures { OnOk result (naming_of naming.new ≡ through_all (noted (world_of world.now)) cut_back (trees (applied_of applied.now).1) (through (noted (world_of world.now)) cut_back (applied_of applied.now).0 (naming_of naming.old))) }
+    ensures { OnOk result (naming_of naming.new ≡ through_all (noted (world_of world.now)) cut_back
+        (trees (applied_of applied.now).1)
+        (through (noted (world_of world.now)) cut_back (applied_of applied.now).0
+        (naming_of naming.old))) }
 {
     walk(naming, world, applied.callee.get())?;
     walk_all(naming, world, applied.args.as_slice())
@@ -251,7 +283,11 @@ fn walk_for<'a>(
     world: &World<'_, 'a>,
     each: &'a ForParts,
 ) -> Result<(), Memory>
-    ensures { OnOk result (naming_of naming.new ≡ cut_back (naming_of naming.old) (through (noted (world_of world.now)) cut_back (for_of each.now).1 (through_all (noted (world_of world.now)) cut_back (trees (for_of each.now).0) (naming_of naming.old)))) }
+    ensures { OnOk result (naming_of naming.new ≡
+        cut_back (naming_of naming.old)
+        (through (noted (world_of world.now)) cut_back (for_of each.now).1
+        (through_all (noted (world_of world.now)) cut_back (trees (for_of each.now).0)
+        (naming_of naming.old)))) }
 {
     let mark = naming.mark();
     walk_all(naming, world, each.clauses.as_slice())?;
@@ -266,7 +302,10 @@ fn walk_cases<'a>(
     world: &World<'_, 'a>,
     cases: &'a Cases,
 ) -> Result<(), Memory>
-    ensures { OnOk result (naming_of naming.new ≡ through_arms (noted (world_of world.now)) cut_back (trees (cases_of cases.now).1) (through (noted (world_of world.now)) cut_back (cases_of cases.now).0 (naming_of naming.old))) }
+    ensures { OnOk result (naming_of naming.new ≡ through_arms (noted (world_of world.now)) cut_back
+        (trees (cases_of cases.now).1)
+        (through (noted (world_of world.now)) cut_back (cases_of cases.now).0
+        (naming_of naming.old))) }
 {
     walk(naming, world, cases.subject.get())?;
     walk_arms(naming, world, cases.arms.as_slice())
@@ -278,7 +317,8 @@ fn walk_all<'a>(
     world: &World<'_, 'a>,
     parts: &'a [Expr],
 ) -> Result<(), Memory>
-    ensures { OnOk result (naming_of naming.new ≡ through_all (noted (world_of world.now)) cut_back (trees (map tree_of parts.now)) (naming_of naming.old)) }
+    ensures { OnOk result (naming_of naming.new ≡ through_all (noted (world_of world.now)) cut_back
+        (trees (map tree_of parts.now)) (naming_of naming.old)) }
 {
     'parts: for part in parts {
         walk(naming, world, part)?;
@@ -292,7 +332,8 @@ fn walk_arms<'a>(
     world: &World<'_, 'a>,
     parts: &'a [Expr],
 ) -> Result<(), Memory>
-    ensures { OnOk result (naming_of naming.new ≡ through_arms (noted (world_of world.now)) cut_back (trees (map tree_of parts.now)) (naming_of naming.old)) }
+    ensures { OnOk result (naming_of naming.new ≡ through_arms (noted (world_of world.now)) cut_back
+        (trees (map tree_of parts.now)) (naming_of naming.old)) }
 {
     'parts: for part in parts {
         walk_apart(naming, world, part)?;
@@ -306,7 +347,9 @@ fn walk_holes<'a>(
     world: &World<'_, 'a>,
     parts: &'a [Hole],
 ) -> Result<(), Memory>
-    ensures { OnOk result (naming_of naming.new ≡ through_holes (noted (world_of world.now)) cut_back (holes (map hole_of parts.now)) (naming_of naming.old)) }
+    ensures { OnOk result (naming_of naming.new ≡
+        through_holes (noted (world_of world.now)) cut_back (holes (map hole_of parts.now))
+        (naming_of naming.old)) }
 {
     'parts: for part in parts {
         walk(naming, world, part.value.get())?;
@@ -320,7 +363,9 @@ fn walk_pairs<'a>(
     world: &World<'_, 'a>,
     parts: &'a [Pair],
 ) -> Result<(), Memory>
-    ensures { OnOk result (naming_of naming.new ≡ through_pairs (noted (world_of world.now)) cut_back (pairs (map pair_of parts.now)) (naming_of naming.old)) }
+    ensures { OnOk result (naming_of naming.new ≡
+        through_pairs (noted (world_of world.now)) cut_back (pairs (map pair_of parts.now))
+        (naming_of naming.old)) }
 {
     'parts: for part in parts {
         walk(naming, world, part.key.get())?;
@@ -335,7 +380,9 @@ fn walk_givens<'a>(
     world: &World<'_, 'a>,
     parts: &'a [Given],
 ) -> Result<(), Memory>
-    ensures { OnOk result (naming_of naming.new ≡ through_givens (noted (world_of world.now)) cut_back (givens (map given_of parts.now)) (naming_of naming.old)) }
+    ensures { OnOk result (naming_of naming.new ≡
+        through_givens (noted (world_of world.now)) cut_back (givens (map given_of parts.now))
+        (naming_of naming.old)) }
 {
     'parts: for part in parts {
         walk(naming, world, part.value.get())?;
@@ -348,7 +395,9 @@ fn walk_event<'a>(
     world: &World<'_, 'a>,
     ty: &Option<TyExpr>,
 ) -> Result<(), Memory>
-    ensures { OnOk result (naming_of naming.new ≡ through_parts (noted (world_of world.now)) cut_back (event_shape ty.now) (naming_of naming.old)) }
+    ensures { OnOk result (naming_of naming.new ≡
+        through_parts (noted (world_of world.now)) cut_back (event_shape ty.now)
+        (naming_of naming.old)) }
 {
     match ty {
         None => Ok(()),

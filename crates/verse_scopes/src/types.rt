@@ -20,7 +20,9 @@ pub fn walk_type<'a>(
     in_body: bool,
     ty: &TyExpr,
 ) -> Result<(), Memory>
-    ensures { OnOk result (naming_of naming.new ≡ through_written (noted (world_of world.now)) in_body (written_of ty.now) (naming_of naming.old)) }
+    ensures { OnOk result (naming_of naming.new ≡
+        through_written (noted (world_of world.now)) in_body (written_of ty.now)
+        (naming_of naming.old)) }
 {
     match ty {
         TyExpr::Int => Ok(()),
@@ -48,7 +50,10 @@ fn walk_map<'a>(
     in_body: bool,
     parts: &MapTy,
 ) -> Result<(), Memory>
-    ensures { OnOk result (naming_of naming.new ≡ through_written (noted (world_of world.now)) in_body (map_of parts.now).1 (through_written (noted (world_of world.now)) in_body (map_of parts.now).0 (naming_of naming.old))) }
+    ensures { OnOk result (naming_of naming.new ≡
+        through_written (noted (world_of world.now)) in_body (map_of parts.now).1
+        (through_written (noted (world_of world.now)) in_body (map_of parts.now).0
+        (naming_of naming.old))) }
 {
     walk_type(naming, world, in_body, parts.key.get())?;
     walk_type(naming, world, in_body, parts.value.get())
@@ -61,7 +66,9 @@ fn walk_types<'a>(
     in_body: bool,
     parts: &[TyExpr],
 ) -> Result<(), Memory>
-    ensures { OnOk result (naming_of naming.new ≡ through_writtens (noted (world_of world.now)) in_body (writtens (map written_of parts.now)) (naming_of naming.old)) }
+    ensures { OnOk result (naming_of naming.new ≡
+        through_writtens (noted (world_of world.now)) in_body (writtens (map written_of parts.now))
+        (naming_of naming.old)) }
 {
     'parts: for part in parts {
         walk_type(naming, world, in_body, part)?;

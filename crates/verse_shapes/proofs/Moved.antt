@@ -4,7 +4,10 @@ use Rattle.verse_layout.specs.declared.toks.TokKind.{TokKind}
 use Rattle.verse_tree.specs.Tree.{Bytes, Written, Tree, tree, Trees, no_trees, more_trees}
 use Rattle.verse_tree.specs.View.{writtens, trees, holes, pairs, givens}
 use Rattle.verse_tree.specs.declared.exprs.Operator.{Operator}
-use Rattle.verse_tree.specs.Shapes.{Sort, block_sort, defer_sort, typed_sort, action_sort, expression_sort, generator_sort, Stand, as_block, as_part, as_statement, as_body, as_expression, as_generator, as_clause, may_stand, WrittenShaped, AllWritten, SomeWritten, Shaped, AllShaped, SomeShaped, ClausesShaped, AllHoles, SomeHoles, PairsShaped, GivensShaped, AllOf}
+use Rattle.verse_tree.specs.Shapes.{Sort, block_sort, defer_sort, typed_sort, action_sort, expression_sort, generator_sort, Stand, as_block}
+use Rattle.verse_tree.specs.Shapes.{as_part, as_statement, as_body, as_expression, as_generator, as_clause, may_stand, WrittenShaped}
+use Rattle.verse_tree.specs.Shapes.{AllWritten, SomeWritten, Shaped, AllShaped, SomeShaped, ClausesShaped, AllHoles, SomeHoles, PairsShaped}
+use Rattle.verse_tree.specs.Shapes.{GivensShaped, AllOf}
 use Rattle.verse_grammar.specs.Exprs.{chain_operator, operand}
 use Rattle.verse_grammar.specs.declared.phrases.Phrase.{Phrase}
 use Rattle.verse_grammar.specs.declared.phrases.Phrase.TheVariants as p
@@ -49,7 +52,8 @@ operand_stand p.Sum k o h = refl
 operand_stand p.Product k o h = refl
 operand_stand _ k o h = absurd (cc)
 
-pub as_operand : (q : Phrase) (k : TokKind) (o : Operator) → chain_operator q k ≡ Some o → (e : Tree) → Shaped (stand_of (operand q)) e → Shaped as_expression e
+pub as_operand : (q : Phrase) (k : TokKind) (o : Operator) → chain_operator q k ≡ Some o → (e : Tree) → Shaped (stand_of (operand q)) e →
+    Shaped as_expression e
 as_operand q k o h e d = subst (λ (s : Stand). Shaped s e) (operand_stand q k o h) d
 
 pub all_more : (s : Stand) (es : List Tree) (e : Tree) → AllShaped s (trees es) → Shaped s e → AllShaped s (trees (es ++ e ∷ []))
@@ -68,19 +72,23 @@ pub clauses_more : (es : List Tree) (e : Tree) → ClausesShaped (trees es) → 
 clauses_more [] e h d = absurd h
 clauses_more (f ∷ fs) e h d = (h.0, all_more as_clause fs e h.1 d)
 
-pub holes_more : (hs : List (Tree × Bytes)) (h : Tree × Bytes) → AllHoles (holes hs) → Shaped as_expression h.0 → AllHoles (holes (hs ++ h ∷ []))
+pub holes_more : (hs : List (Tree × Bytes)) (h : Tree × Bytes) → AllHoles (holes hs) → Shaped as_expression h.0 →
+    AllHoles (holes (hs ++ h ∷ []))
 holes_more [] h a d = (d, tt)
 holes_more (g ∷ gs) h a d = (a.0, holes_more gs h a.1 d)
 
-pub some_holes : (hs : List (Tree × Bytes)) (h : Tree × Bytes) → AllHoles (holes hs) → Shaped as_expression h.0 → SomeHoles (holes (hs ++ h ∷ []))
+pub some_holes : (hs : List (Tree × Bytes)) (h : Tree × Bytes) → AllHoles (holes hs) → Shaped as_expression h.0 →
+    SomeHoles (holes (hs ++ h ∷ []))
 some_holes [] h a d = (d, tt)
 some_holes (g ∷ gs) h a d = (a.0, holes_more gs h a.1 d)
 
-pub pairs_more : (ps : List (Tree × Tree)) (q : Tree × Tree) → PairsShaped (pairs ps) → Shaped as_expression q.0 → Shaped as_expression q.1 → PairsShaped (pairs (ps ++ q ∷ []))
+pub pairs_more : (ps : List (Tree × Tree)) (q : Tree × Tree) → PairsShaped (pairs ps) → Shaped as_expression q.0 →
+    Shaped as_expression q.1 → PairsShaped (pairs (ps ++ q ∷ []))
 pairs_more [] q h d e = (d, e, tt)
 pairs_more (r ∷ rs) q h d e = (h.0, h.1, pairs_more rs q h.2 d e)
 
-pub givens_more : (gs : List (Bytes × Tree)) (g : Bytes × Tree) → GivensShaped (givens gs) → Shaped as_expression g.1 → GivensShaped (givens (gs ++ g ∷ []))
+pub givens_more : (gs : List (Bytes × Tree)) (g : Bytes × Tree) → GivensShaped (givens gs) → Shaped as_expression g.1 →
+    GivensShaped (givens (gs ++ g ∷ []))
 givens_more [] g h d = (d, tt)
 givens_more (f ∷ fs) g h d = (h.0, givens_more fs g h.1 d)
 
@@ -88,7 +96,8 @@ all_written_more : (ws : List Written) (w : Written) → AllWritten (writtens ws
 all_written_more [] w h d = (d, tt)
 all_written_more (v ∷ vs) w h d = (h.0, all_written_more vs w h.1 d)
 
-pub some_written_more : (ws : List Written) (w : Written) → SomeWritten (writtens ws) → WrittenShaped w → SomeWritten (writtens (ws ++ w ∷ []))
+pub some_written_more : (ws : List Written) (w : Written) → SomeWritten (writtens ws) → WrittenShaped w →
+    SomeWritten (writtens (ws ++ w ∷ []))
 some_written_more [] w h d = absurd h
 some_written_more (v ∷ vs) w h d = (h.0, all_written_more vs w h.1 d)
 

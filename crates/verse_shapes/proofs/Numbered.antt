@@ -1,11 +1,17 @@
 -- Numbering keeps the shapes of trees.
 use Rattle.std.proofs.Common.{◌≡◌, ℕ, ◌+◌, true, List, [], ◌∷◌, Option, Some, None, refl, sym, subst}
-use Rattle.verse_tree.specs.Tree.{Written, Writtens, no_writtens, more_writtens, Tree, tree, Shape, Trees, no_trees, more_trees, Holes, no_holes, more_holes, Pairs, no_pairs, more_pairs, Givens, no_givens, more_givens}
+use Rattle.verse_tree.specs.Tree.{Written, Writtens, no_writtens, more_writtens, Tree, tree, Shape, Trees, no_trees, more_trees, Holes}
+use Rattle.verse_tree.specs.Tree.{no_holes, more_holes, Pairs, no_pairs, more_pairs, Givens, no_givens, more_givens}
 use Rattle.verse_tree.specs.Tree as t
 use Rattle.verse_tree.specs.ItemTree.{FieldTree, ParamTree, FunTree, MemberTree, ItemTree}
 use Rattle.verse_tree.specs.ItemTree as i
-use Rattle.verse_tree.specs.Numbering.{written_nodes, written_numbered, writtens_numbered, nodes, numbered, shape_numbered, trees_nodes, trees_numbered, holes_numbered, pairs_numbered, givens_numbered, list_nodes, list_numbered, default_numbered, field_numbered, param_nodes, param_numbered, fun_numbered, member_nodes, member_numbered, item_nodes, item_numbered}
-use Rattle.verse_tree.specs.Shapes.{Sort, Stand, may_stand, sort, WrittenShaped, AllWritten, SomeWritten, TwoWritten, Shaped, PartsShaped, AllShaped, SomeShaped, TwoShaped, ClausesShaped, AllHoles, SomeHoles, PairsShaped, GivensShaped, AllOf, DefaultShaped, FieldShaped, ParamShaped, FunShaped, MemberShaped, ItemShaped}
+use Rattle.verse_tree.specs.Numbering.{written_nodes, written_numbered, writtens_numbered, nodes, numbered, shape_numbered, trees_nodes}
+use Rattle.verse_tree.specs.Numbering.{trees_numbered, holes_numbered, pairs_numbered, givens_numbered, list_nodes, list_numbered}
+use Rattle.verse_tree.specs.Numbering.{default_numbered, field_numbered, param_nodes, param_numbered, fun_numbered, member_nodes}
+use Rattle.verse_tree.specs.Numbering.{member_numbered, item_nodes, item_numbered}
+use Rattle.verse_tree.specs.Shapes.{Sort, Stand, may_stand, sort, WrittenShaped, AllWritten, SomeWritten, TwoWritten, Shaped, PartsShaped}
+use Rattle.verse_tree.specs.Shapes.{AllShaped, SomeShaped, TwoShaped, ClausesShaped, AllHoles, SomeHoles, PairsShaped, GivensShaped, AllOf}
+use Rattle.verse_tree.specs.Shapes.{DefaultShaped, FieldShaped, ParamShaped, FunShaped, MemberShaped, ItemShaped}
 use Rattle.verse_shapes.specs.ShapeLaws.{NumberingKeepsShapes}
 
 mutual
@@ -106,7 +112,8 @@ mutual
   parts_kept (t.Shape.variable x w a) n h = (written_kept w n h.0, kept _ a (n + written_nodes w) h.1)
   parts_kept (t.Shape.assignment x a b) n h = (kept _ a n h.0, kept _ b (n + nodes a) h.1)
   parts_kept (t.Shape.returned a) n h = kept _ a n h
-  parts_kept (t.Shape.if_else ts a b) n h = (some_kept _ ts n h.0, kept _ a (n + trees_nodes ts) h.1, kept _ b (n + trees_nodes ts + nodes a) h.2)
+  parts_kept (t.Shape.if_else ts a b) n h =
+      (some_kept _ ts n h.0, kept _ a (n + trees_nodes ts) h.1, kept _ b (n + trees_nodes ts + nodes a) h.2)
   parts_kept (t.Shape.if_alone ts a) n h = (some_kept _ ts n h.0, kept _ a (n + trees_nodes ts) h.1)
   parts_kept (t.Shape.chained x a b) n h = (kept _ a n h.0, kept _ b (n + nodes a) h.1)
   parts_kept (t.Shape.compared x a b) n h = (kept _ a n h.0, kept _ b (n + nodes a) h.1)
@@ -176,7 +183,8 @@ default_kept None n h = tt
 default_kept (Some a) n h = kept _ a n h
 
 -- each of a list is kept, whatever its number
-list_kept : {X : Type 0} (Each : X → Type 0) (step : X → ℕ → X) (size : X → ℕ) → ((x : X) (n : ℕ) → Each x → Each (step x n)) → (xs : List X) (n : ℕ) → AllOf Each xs → AllOf Each (list_numbered step size xs n)
+list_kept : {X : Type 0} (Each : X → Type 0) (step : X → ℕ → X) (size : X → ℕ) → ((x : X) (n : ℕ) → Each x → Each (step x n)) →
+    (xs : List X) (n : ℕ) → AllOf Each xs → AllOf Each (list_numbered step size xs n)
 list_kept Each step size f [] n h = tt
 list_kept Each step size f (x ∷ xs) n h = (f x n h.0, list_kept Each step size f xs (n + size x) h.1)
 
@@ -187,7 +195,11 @@ field_kept : (f : FieldTree) (n : ℕ) → FieldShaped f → FieldShaped (field_
 field_kept f n h = (written_kept f.written n h.0, default_kept f.default (n + written_nodes f.written) h.1)
 
 fun_kept : (f : FunTree) (n : ℕ) → FunShaped f → FunShaped (fun_numbered f n)
-fun_kept f n h = (list_kept ParamShaped param_numbered param_nodes param_kept f.params n h.0, written_kept f.written (n + list_nodes param_nodes f.params) h.1, kept _ f.body (n + list_nodes param_nodes f.params + written_nodes f.written) h.2)
+fun_kept f n h = (
+  list_kept ParamShaped param_numbered param_nodes param_kept f.params n h.0,
+  written_kept f.written (n + list_nodes param_nodes f.params) h.1,
+  kept _ f.body (n + list_nodes param_nodes f.params + written_nodes f.written) h.2,
+)
 
 member_kept : (m : MemberTree) (n : ℕ) → MemberShaped m → MemberShaped (member_numbered m n)
 member_kept (i.MemberTree.field f) n h = field_kept f n h

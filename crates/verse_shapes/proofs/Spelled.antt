@@ -4,14 +4,19 @@ use Rattle.verse_layout.specs.declared.toks.TokKind.{TokKind}
 use Rattle.verse_layout.specs.declared.toks.Tok.{Tok}
 use Rattle.verse_tree.specs.Tree.{Bytes, Written, Tree}
 use Rattle.verse_tree.specs.View.{writtens, trees, holes, pairs, givens}
-use Rattle.verse_tree.specs.Shapes.{Stand, action_sort, as_block, as_part, as_statement, as_body, as_expression, as_generator, as_clause, may_stand, WrittenShaped, SomeWritten, Shaped, AllShaped, SomeShaped, ClausesShaped, AllHoles, SomeHoles, PairsShaped, GivensShaped}
+use Rattle.verse_tree.specs.Shapes.{Stand, action_sort, as_block, as_part, as_statement, as_body, as_expression, as_generator, as_clause}
+use Rattle.verse_tree.specs.Shapes.{may_stand, WrittenShaped, SomeWritten, Shaped, AllShaped, SomeShaped, ClausesShaped, AllHoles}
+use Rattle.verse_tree.specs.Shapes.{SomeHoles, PairsShaped, GivensShaped}
 use Rattle.verse_grammar.specs.Types.{IsType, AreTypes}
 use Rattle.verse_grammar.specs.Types as y
-use Rattle.verse_grammar.specs.Exprs.{event_at, BracketType, Reads, TypedValue, Control, IsIf, Taken, Chain, Postfixes, Row, Closed, Until, HoleRow, AreHoles, PairRow, PairsUntil, GivenRow, GivensUntil, ClauseRow, Clauses}
+use Rattle.verse_grammar.specs.Exprs.{event_at, BracketType, Reads, TypedValue, Control, IsIf, Taken, Chain, Postfixes, Row, Closed, Until}
+use Rattle.verse_grammar.specs.Exprs.{HoleRow, AreHoles, PairRow, PairsUntil, GivenRow, GivensUntil, ClauseRow, Clauses}
 use Rattle.verse_grammar.specs.Exprs as x
 use Rattle.verse_grammar.specs.declared.phrases.Phrase.{Phrase}
 use Rattle.verse_shapes.specs.ShapeLaws.{stand_of}
-use Rattle.verse_shapes.proofs.Moved.{moved, statement_part, expression_statement, expression_body, block_body, generator_clause, expression_clause, as_operand, some_more, some_all, clauses_more, holes_more, some_holes, pairs_more, givens_more, some_written_more}
+use Rattle.verse_shapes.proofs.Moved.{moved, statement_part, expression_statement, expression_body, block_body, generator_clause}
+use Rattle.verse_shapes.proofs.Moved.{expression_clause, as_operand, some_more, some_all, clauses_more, holes_more, some_holes, pairs_more}
+use Rattle.verse_shapes.proofs.Moved.{givens_more, some_written_more}
 
 mutual
   pub shaped_type : {b : List ℕ} {ks rest : List Tok} {w : Written} → IsType b ks w rest → WrittenShaped w
@@ -33,7 +38,8 @@ mutual
   shaped_types (y.AreTypes.one_type d) = (shaped_type d, tt)
   shaped_types (y.AreTypes.more_types {ws = ws} {w = w} ds hs d) = some_written_more ws w (shaped_types ds) (shaped_type d)
 
-shaped_event : {b : List ℕ} {ks rest : List Tok} {u : Option Written} → BracketType b ks u rest → (k : Tok) → Shaped as_expression (event_at k u)
+shaped_event : {b : List ℕ} {ks rest : List Tok} {u : Option Written} → BracketType b ks u rest → (k : Tok) →
+    Shaped as_expression (event_at k u)
 shaped_event (x.BracketType.bracket_type ho d hc) k = (refl, shaped_type d)
 shaped_event (x.BracketType.no_bracket_type ho hc) k = (refl, tt)
 
@@ -106,10 +112,12 @@ mutual
   shaped (x.Reads.any_pattern h) = (refl, tt)
   shaped (x.Reads.enum_pattern h hd hv) = (refl, tt)
 
-  shaped_typed : {b : List ℕ} {ks rest : List Tok} {u : Written} {e : Tree} → TypedValue b ks u e rest → WrittenShaped u × Shaped as_expression e
+  shaped_typed : {b : List ℕ} {ks rest : List Tok} {u : Written} {e : Tree} → TypedValue b ks u e rest →
+      WrittenShaped u × Shaped as_expression e
   shaped_typed (x.TypedValue.typed_value h d hq e) = (shaped_type d, shaped e)
 
-  shaped_control : (s : Stand) → may_stand s action_sort ≡ true → {b : List ℕ} {ks rest : List Tok} {t : Tree} → Control b ks t rest → Shaped s t
+  shaped_control : (s : Stand) → may_stand s action_sort ≡ true → {b : List ℕ} {ks rest : List Tok} {t : Tree} → Control b ks t rest →
+      Shaped s t
   shaped_control s m (x.Control.assignment h d ho e) = (m, (shaped d, shaped e))
   shaped_control s m (x.Control.returned h d) = (m, shaped d)
   shaped_control s m (x.Control.returned_unit h) = (m, tt)
@@ -123,25 +131,31 @@ mutual
   shaped_taken {t = t} (x.Taken.taken_then h d) = moved as_expression as_body expression_body t (shaped d)
   shaped_taken {t = t} (x.Taken.taken_block d) = moved as_block as_body block_body t (shaped d)
 
-  shaped_chain : {b : List ℕ} {q : Phrase} {e f : Tree} {ks rest : List Tok} → Chain b q e ks f rest → Shaped as_expression e → Shaped as_expression f
+  shaped_chain : {b : List ℕ} {q : Phrase} {e f : Tree} {ks rest : List Tok} → Chain b q e ks f rest → Shaped as_expression e →
+      Shaped as_expression f
   shaped_chain x.Chain.chain_none d = d
-  shaped_chain {q = q} (x.Chain.chain_more {k = k} {o = o} {g = g} c h e) d = (refl, (shaped_chain c d, as_operand q k.kind o h g (shaped e)))
+  shaped_chain {q = q} (x.Chain.chain_more {k = k} {o = o} {g = g} c h e) d =
+      (refl, (shaped_chain c d, as_operand q k.kind o h g (shaped e)))
 
-  shaped_postfixes : {b : List ℕ} {e f : Tree} {ks rest : List Tok} → Postfixes b e ks f rest → Shaped as_expression e → Shaped as_expression f
+  shaped_postfixes : {b : List ℕ} {e f : Tree} {ks rest : List Tok} → Postfixes b e ks f rest → Shaped as_expression e →
+      Shaped as_expression f
   shaped_postfixes x.Postfixes.postfix_none d = d
   shaped_postfixes (x.Postfixes.postfix_call c h ds) d = (refl, (shaped_postfixes c d, shaped_until ds))
   shaped_postfixes (x.Postfixes.postfix_index c h ds) d = (refl, (shaped_postfixes c d, shaped_until ds))
   shaped_postfixes (x.Postfixes.postfix_member c h hn) d = (refl, shaped_postfixes c d)
   shaped_postfixes (x.Postfixes.postfix_query c h) d = (refl, shaped_postfixes c d)
 
-  shaped_row : {b : List ℕ} {q : Phrase} {s : TokKind} {ks rest : List Tok} {es : List Tree} → Row b q s ks es rest → SomeShaped (stand_of q) (trees es)
+  shaped_row : {b : List ℕ} {q : Phrase} {s : TokKind} {ks rest : List Tok} {es : List Tree} → Row b q s ks es rest →
+      SomeShaped (stand_of q) (trees es)
   shaped_row (x.Row.row_one d) = (shaped d, tt)
   shaped_row {q = q} (x.Row.row_more {es = es} {e = e} ds h d) = some_more (stand_of q) es e (shaped_row ds) (shaped d)
 
-  shaped_closed : {b : List ℕ} {q : Phrase} {s c : TokKind} {ks rest : List Tok} {es : List Tree} → Closed b q s c ks es rest → SomeShaped (stand_of q) (trees es)
+  shaped_closed : {b : List ℕ} {q : Phrase} {s c : TokKind} {ks rest : List Tok} {es : List Tree} → Closed b q s c ks es rest →
+      SomeShaped (stand_of q) (trees es)
   shaped_closed (x.Closed.closed ds h) = shaped_row ds
 
-  shaped_until : {b : List ℕ} {q : Phrase} {s c : TokKind} {ks rest : List Tok} {es : List Tree} → Until b q s c ks es rest → AllShaped (stand_of q) (trees es)
+  shaped_until : {b : List ℕ} {q : Phrase} {s c : TokKind} {ks rest : List Tok} {es : List Tree} → Until b q s c ks es rest →
+      AllShaped (stand_of q) (trees es)
   shaped_until (x.Until.until_none h) = tt
   shaped_until {q = q} {es = es} (x.Until.until_some ds) = some_all (stand_of q) (trees es) (shaped_closed ds)
 

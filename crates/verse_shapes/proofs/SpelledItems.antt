@@ -3,8 +3,10 @@ use Rattle.std.proofs.Common.{ℕ, List, [], ◌∷◌, ◌++◌, Option, refl}
 use Rattle.verse_layout.specs.declared.toks.Tok.{Tok}
 use Rattle.verse_tree.specs.Tree.{Bytes, Tree}
 use Rattle.verse_tree.specs.ItemTree.{SpecTree, FieldTree, ParamTree, FunTree, MemberTree, ItemTree}
-use Rattle.verse_tree.specs.Shapes.{AllOf, DefaultShaped, FieldShaped, ParamShaped, FunShaped, MemberShaped, DottedShaped, PathShaped, ItemShaped, ItemsShaped}
-use Rattle.verse_grammar.specs.Items.{Dotted, Path, Param, ParamRow, Params, FunRest, Fun, Default, Field, Member, MemberRow, Members, Item, ItemRow, Program}
+use Rattle.verse_tree.specs.Shapes.{AllOf, DefaultShaped, FieldShaped, ParamShaped, FunShaped, MemberShaped, DottedShaped, PathShaped}
+use Rattle.verse_tree.specs.Shapes.{ItemShaped, ItemsShaped}
+use Rattle.verse_grammar.specs.Items.{Dotted, Path, Param, ParamRow, Params, FunRest, Fun, Default, Field, Member, MemberRow, Members, Item}
+use Rattle.verse_grammar.specs.Items.{ItemRow, Program}
 use Rattle.verse_grammar.specs.Items as x
 use Rattle.verse_shapes.proofs.Moved.{all_of_more}
 use Rattle.verse_shapes.proofs.Spelled.{shaped_type, shaped}
@@ -56,7 +58,8 @@ shaped_member (x.Member.member_method d) = shaped_fun d
 
 shaped_member_row : {b : List ℕ} {ks rest : List Tok} {ms : List MemberTree} → MemberRow b ks ms rest → AllOf MemberShaped ms
 shaped_member_row (x.MemberRow.one_member d) = (shaped_member d, tt)
-shaped_member_row (x.MemberRow.more_members {x = m} {xs = ms} ds h d) = all_of_more MemberShaped ms m (shaped_member_row ds) (shaped_member d)
+shaped_member_row (x.MemberRow.more_members {x = m} {xs = ms} ds h d) =
+    all_of_more MemberShaped ms m (shaped_member_row ds) (shaped_member d)
 
 shaped_members : {b : List ℕ} {ks rest : List Tok} {ms : List MemberTree} → Members b ks ms rest → AllOf MemberShaped ms
 shaped_members (x.Members.no_members h) = tt

@@ -4,7 +4,8 @@ use Rattle.verse_layout.specs.declared.toks.Tok.{Tok}
 use Rattle.verse_tree.specs.Tree.{Written, Tree}
 use Rattle.verse_tree.specs.ItemTree.{ItemTree}
 use Rattle.verse_tree.specs.Numbering.{items_numbered}
-use Rattle.verse_tree.specs.Shapes.{Stand, as_block, as_part, as_statement, as_body, as_expression, as_generator, as_clause, as_arm, as_pattern, WrittenShaped, Shaped, ItemsShaped}
+use Rattle.verse_tree.specs.Shapes.{Stand, as_block, as_part, as_statement, as_body, as_expression, as_generator, as_clause, as_arm}
+use Rattle.verse_tree.specs.Shapes.{as_pattern, WrittenShaped, Shaped, ItemsShaped}
 use Rattle.verse_grammar.specs.Types.{IsType}
 use Rattle.verse_grammar.specs.Exprs.{Reads}
 use Rattle.verse_grammar.specs.Items.{Program}

@@ -1,6 +1,7 @@
 //! Laws of the shapes of trees, which nothing calls.
 
-ghost use Rattle.verse_shapes.specs.ShapeLaws.{NumberingKeepsShapes, PhrasesAreShaped, ProgramsAreShaped, TypesAreShaped};
+ghost use Rattle.verse_shapes.specs.ShapeLaws.{NumberingKeepsShapes, PhrasesAreShaped};
+ghost use Rattle.verse_shapes.specs.ShapeLaws.{ProgramsAreShaped, TypesAreShaped};
 
 /// Each phrase, type and program that toks spell has the shapes of the grammar.
 pub fn spelled_is_shaped()

@@ -37,7 +37,8 @@ all_come : (ds : List ((d : Made) × Comes d)) → all_made (tys (map ty_of (map
 all_come [] = refl
 all_come (d ∷ ds) = ap (λ t. t ∷ all_made (tys (map ty_of (map (λ e. e.0) ds)))) d.1 ∙ ap (λ ts. d.0 ∷ ts) (all_come ds)
 
-comes : (y : Ty-F ((d : Made) × Comes d) ((m : MapOf) × MapComes m)) → Comes (roll-Ty (map-Ty ((d : Made) × Comes d) ((m : MapOf) × MapComes m) Made MapOf (λ e. e.0) (λ e. e.0) y))
+comes : (y : Ty-F ((d : Made) × Comes d) ((m : MapOf) × MapComes m)) →
+    Comes (roll-Ty (map-Ty ((d : Made) × Comes d) ((m : MapOf) × MapComes m) Made MapOf (λ e. e.0) (λ e. e.0) y))
 comes layer.Never = ap made (one_layer layer.Never)
 comes layer.Nil = ap made (one_layer layer.Nil)
 comes layer.Void = ap made (one_layer layer.Void)
@@ -53,13 +54,16 @@ comes (layer.Tuple ds) = ap made (one_layer (layer.Tuple (map (λ e. e.0) ds))) 
 comes (layer.Task d) = ap made (one_layer (layer.Task d.0)) ∙ ap (λ t. roll-Ty (layer.Task t)) d.1
 comes (layer.Event d) = ap made (one_layer (layer.Event d.0)) ∙ ap (λ t. roll-Ty (layer.Event t)) d.1
 
-map_comes : (y : MapOf-F ((d : Made) × Comes d) ((m : MapOf) × MapComes m)) → MapComes (roll-MapOf (map-MapOf ((d : Made) × Comes d) ((m : MapOf) × MapComes m) Made MapOf (λ e. e.0) (λ e. e.0) y))
+map_comes : (y : MapOf-F ((d : Made) × Comes d) ((m : MapOf) × MapComes m)) →
+    MapComes (roll-MapOf (map-MapOf ((d : Made) × Comes d) ((m : MapOf) × MapComes m) Made MapOf (λ e. e.0) (λ e. e.0) y))
 map_comes y =
-    ap made_map (fold-roll-MapOf Ty (Ty × Ty) ty_step two_tys (map-MapOf ((d : Made) × Comes d) ((m : MapOf) × MapComes m) Made MapOf (λ e. e.0) (λ e. e.0) y))
+    ap made_map (fold-roll-MapOf Ty (Ty × Ty) ty_step two_tys
+    (map-MapOf ((d : Made) × Comes d) ((m : MapOf) × MapComes m) Made MapOf (λ e. e.0) (λ e. e.0) y))
     ∙ ap (λ t. made_pair t (made (ty_of y.value.0))) y.key.1 ∙ ap (λ t. made_pair y.key.0 t) y.value.1
 
 pub made_of : (d : Made) → made (ty_of d) ≡ d
-made_of = ind-Ty Comes MapComes (λ x y e. subst (λ z. Comes (roll-Ty z)) e (comes y)) (λ x y e. subst (λ z. MapComes (roll-MapOf z)) e (map_comes y))
+made_of = ind-Ty Comes MapComes (λ x y e. subst (λ z. Comes (roll-Ty z)) e (comes y))
+    (λ x y e. subst (λ z. MapComes (roll-MapOf z)) e (map_comes y))
 
 -- so tables that stand for the same are the same
 all_made_of : (ds : List Made) → map made (map ty_of ds) ≡ ds
@@ -68,7 +72,8 @@ all_made_of (d ∷ ds) = ap (λ t. t ∷ map made (map ty_of ds)) (made_of d) �
 
 function_made : (f : FunInfo) → made_function (function_of f) ≡ f
 function_made f =
-    ap (λ (ts : List Made). record { params = ts; result = made (ty_of f.result); effects = f.effects; item = f.item }) (all_made_of f.params)
+    ap (λ (ts : List Made). record { params = ts; result = made (ty_of f.result); effects = f.effects; item = f.item })
+    (all_made_of f.params)
     ∙ ap (λ (t : Made). record { params = f.params; result = t; effects = f.effects; item = f.item }) (made_of f.result)
 
 functions_made : (fs : List FunInfo) → map made_function (map function_of fs) ≡ fs
@@ -83,7 +88,8 @@ fields_made [] = refl
 fields_made (f ∷ fs) = ap (λ g. g ∷ map made_field (map field_of fs)) (field_made f) ∙ ap (λ gs. f ∷ gs) (fields_made fs)
 
 class_made : (c : ClassInfo) → made_class (class_of c) ≡ c
-class_made c = ap (λ (fs : List FieldInfo). record { parent = c.parent; is_unique = c.is_unique; fields = fs; methods = c.methods }) (fields_made c.fields)
+class_made c = ap (λ (fs : List FieldInfo). record { parent = c.parent; is_unique = c.is_unique; fields = fs; methods = c.methods })
+    (fields_made c.fields)
 
 classes_made : (cs : List ClassInfo) → map made_class (map class_of cs) ≡ cs
 classes_made [] = refl
@@ -93,12 +99,28 @@ abbrev names_of : MadeTables → List (Option Ref) → Names
 names_of t refs = record { funs = t.functions; classes = t.classes; enums = t.enums; refs = refs }
 
 -- tables that stand for those of a program, with what its nodes refer to, are what its names stand for
-pub names_made : (is : List ItemTree) (t : MadeTables) (refs : List (Option Ref)) → tables_of t ≡ tables is → refs ≡ map ref_of (program_visits is) → names_of t refs ≡ named is
+pub names_made : (is : List ItemTree) (t : MadeTables) (refs : List (Option Ref)) → tables_of t ≡ tables is →
+    refs ≡ map ref_of (program_visits is) → names_of t refs ≡ named is
 names_made is t refs e f =
-    let functions : t.functions ≡ map made_function (tables is).functions = sym (functions_made t.functions) ∙ ap (λ (ts : Tables). map made_function ts.functions) e in
-    let classes : t.classes ≡ map made_class (tables is).classes = sym (classes_made t.classes) ∙ ap (λ (ts : Tables). map made_class ts.classes) e in
+    let functions : t.functions ≡ map made_function (tables is).functions =
+    sym (functions_made t.functions) ∙ ap (λ (ts : Tables). map made_function ts.functions) e in
+    let classes : t.classes ≡ map made_class (tables is).classes =
+    sym (classes_made t.classes) ∙ ap (λ (ts : Tables). map made_class ts.classes) e in
     let enums : t.enums ≡ (tables is).enums = ap (λ (ts : Tables). ts.enums) e in
     ap (λ (fs : List FunInfo). record { funs = fs; classes = t.classes; enums = t.enums; refs = refs }) functions
-    ∙ ap (λ (cs : List ClassInfo). record { funs = map made_function (tables is).functions; classes = cs; enums = t.enums; refs = refs }) classes
-    ∙ ap (λ (es : List EnumInfo). record { funs = map made_function (tables is).functions; classes = map made_class (tables is).classes; enums = es; refs = refs }) enums
-    ∙ ap (λ (rs : List (Option Ref)). record { funs = map made_function (tables is).functions; classes = map made_class (tables is).classes; enums = (tables is).enums; refs = rs }) f
+    ∙ ap (λ (cs : List ClassInfo). record { funs = map made_function (tables is).functions; classes = cs; enums = t.enums; refs = refs })
+    classes
+    ∙ ap (λ (es : List EnumInfo). record {
+      funs = map made_function (tables is).functions;
+      classes =
+          map made_class (tables is).classes;
+      enums = es;
+      refs = refs;
+    }) enums
+    ∙ ap (λ (rs : List (Option Ref)). record {
+      funs = map made_function (tables is).functions;
+      classes =
+          map made_class (tables is).classes;
+      enums = (tables is).enums;
+      refs = rs;
+    }) f

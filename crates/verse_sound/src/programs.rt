@@ -10,7 +10,8 @@ ghost use Rattle.verse_least.specs.Both.{Leads};
 ghost use Rattle.verse_items.specs.Nodes.{IsNumbered, IsPlaced};
 ghost use Rattle.verse_names.specs.Breaking.{NamesBreak, IsMisnamed};
 ghost use Rattle.verse_sound.specs.Naming.{named};
-ghost use Rattle.verse_sound.specs.Sound.{BodiesBreak, IsSound, IsUnsound, SoundOnce, completed, types_of};
+ghost use Rattle.verse_sound.specs.Sound.{BodiesBreak, IsSound, IsUnsound, SoundOnce, completed};
+ghost use Rattle.verse_sound.specs.Sound.{types_of};
 
 use sqlite_items::Items;
 use std::alloc::Global;
@@ -43,9 +44,11 @@ pub fn sound_once()
 pub fn check_program(alloc: Global, tree: &Tree) -> Result<Checked, Front>
     requires numbered { IsNumbered (map item_of tree.now.items) tree.now.nodes }
     ensures names { IfOk result (λ c. c.names ≡ completed (map item_of tree.now.items)) }
-    ensures types { IfOk result (λ c. map ty_of c.typed.types ≡ types_of (map item_of tree.now.items)) }
+    ensures types { IfOk result (λ c. map ty_of c.typed.types ≡
+        types_of (map item_of tree.now.items)) }
     ensures fine { IfOk result (λ _. IsSound (map item_of tree.now.items)) }
-    ensures refused { (r : Refusal) → IsErrOf result (front.Refused r) → IsUnsound (map item_of tree.now.items) r }
+    ensures refused { (r : Refusal) → IsErrOf result (front.Refused r) →
+        IsUnsound (map item_of tree.now.items) r }
 {
     let names = name(alloc, tree)?;
     let judged = judge(alloc, tree, names)?;
@@ -61,7 +64,8 @@ fn name(alloc: Global, tree: &Tree) -> Result<Names, Front>
     requires numbered { IsNumbered (map item_of tree.now.items) tree.now.nodes }
     ensures names { IfOk result (λ k. k ≡ named (map item_of tree.now.items)) }
     ensures fine { IfOk result (λ _. (n c : ℕ) → NamesBreak (map item_of tree.now.items) n c → ⊥) }
-    ensures refused { (r : Refusal) → IsErrOf result (front.Refused r) → IsMisnamed (map item_of tree.now.items) r }
+    ensures refused { (r : Refusal) → IsErrOf result (front.Refused r) →
+        IsMisnamed (map item_of tree.now.items) r }
 {
     let named = name_program(alloc, tree)?;
     Ok(into_names(named))
@@ -73,7 +77,8 @@ fn judge(alloc: Global, tree: &Tree, names: Names) -> Result<(Checked, Option<Fa
     requires numbered { IsNumbered (map item_of tree.now.items) tree.now.nodes }
     requires names { names ≡ named (map item_of tree.now.items) }
     ensures names { IfOk result (λ r. r.0.names ≡ completed (map item_of tree.now.items)) }
-    ensures types { IfOk result (λ r. map ty_of r.0.typed.types ≡ types_of (map item_of tree.now.items)) }
+    ensures types { IfOk result (λ r. map ty_of r.0.typed.types ≡
+        types_of (map item_of tree.now.items)) }
     ensures least { IfOk result (λ r. Leads (BodiesBreak (map item_of tree.now.items)) r.1) }
     ensures placed { IfOk result (λ r. IsPlaced (map item_of tree.now.items) r.1) }
 {
@@ -91,7 +96,13 @@ fn judge(alloc: Global, tree: &Tree, names: Names) -> Result<(Checked, Option<Fa
 }
 
 fn into_names(named: Named) -> Names
-    ensures { result ≡ record { funs = named.tables.functions; classes = named.tables.classes; enums = named.tables.enums; refs = named.refs } }
+    ensures { result ≡ record {
+      funs = named.tables.functions;
+      classes =
+          named.tables.classes;
+      enums = named.tables.enums;
+      refs = named.refs;
+    } }
 {
     let Named { tables, refs } = named;
     let Tables {

@@ -64,7 +64,8 @@ fn form_adds(names: &Names, node: u32, form: &Form) -> u64
 }
 
 fn part_adds(names: &Names, around: Around<'_>, part: Part<'_>) -> u64
-    ensures { result ≡ what_adds names.now (part_node (around_of around.entry) part.entry).number (part_node (around_of around.entry) part.entry).what }
+    ensures { result ≡ what_adds names.now (part_node (around_of around.entry) part.entry).number
+        (part_node (around_of around.entry) part.entry).what }
 {
     match part {
         Part::Expr(expr) => form_adds(names, expr.node, &expr.form),
@@ -96,7 +97,9 @@ impl<'a> Pass for CountPass<'a> {
 /// number. Want of memory alone is an error.
 pub fn program_size(tree: &Tree, names: &Names) -> Result<u64, Memory>
     requires counted { tree.now.nodes ≡ program_nodes (map item_of tree.now.items) }
-    ensures { IfOk result (λ s. s ≡ min (16 * program_nodes (map item_of tree.now.items) + 4 * items_fields names.now (map item_of tree.now.items)) 18446744073709551615) }
+    ensures { IfOk result (λ s. s ≡
+        min (16 * program_nodes (map item_of tree.now.items) + 4 * items_fields names.now
+        (map item_of tree.now.items)) 18446744073709551615) }
 {
     let fields = fields_in(tree, names)?;
     let nodes = tree.nodes as u64;
@@ -109,14 +112,16 @@ pub fn sizes_agree()
 {}
 
 fn fields_in(tree: &Tree, names: &Names) -> Result<u64, Memory>
-    ensures { IfOk result (λ f. f ≡ min (items_fields names.now (map item_of tree.now.items)) 18446744073709551615) }
+    ensures { IfOk result (λ f. f ≡
+        min (items_fields names.now (map item_of tree.now.items)) 18446744073709551615) }
 {
     let fields = count_fields(tree, names)?;
     Ok(fields)
 }
 
 fn count_fields(tree: &Tree, names: &Names) -> Result<u64, Memory>
-    ensures { IfOk result (λ f. f ≡ through_items (counted names.now) (map item_of tree.now.items) 0) }
+    ensures { IfOk result (λ f. f ≡
+        through_items (counted names.now) (map item_of tree.now.items) 0) }
 {
     let mut count = Count { fields: 0 };
     walk_items(&CountPass { names }, &mut count, tree.items.as_slice())?;

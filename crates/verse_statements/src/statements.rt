@@ -34,11 +34,14 @@ pub fn stmt<'t, F: Fn(Global, &[u8], Phrase, &[Tok]) -> Result<(Tree, usize), Re
     reader: &Reader<'_, F>,
     toks: &'t [Tok],
 ) -> Result<(Tree, &'t [Tok]), ReadFault>
-    requires nests { Nests reader.now.bytes.now reader.now.most (F.pre reader.now.nested) (F.post reader.now.nested) }
+    requires nests { Nests reader.now.bytes.now reader.now.most (F.pre reader.now.nested)
+        (F.post reader.now.nested) }
     requires within { length toks.now ≤ reader.now.most }
-    ensures spelled { IfOk result (λ r. Reads reader.now.bytes.now Phrase.Stmt toks.now (tree_of r.0) r.1.now) }
+    ensures spelled { IfOk result
+        (λ r. Reads reader.now.bytes.now Phrase.Stmt toks.now (tree_of r.0) r.1.now) }
     ensures eats { IfOk result (λ r. EatsRule (phrase Phrase.Stmt) toks.now r.1.now) }
-    ensures sticks { (left : ℕ) → IsErrOf result (read_fault.Stuck left) → SticksRule (phrase Phrase.Stmt) toks.now left }
+    ensures sticks { (left : ℕ) → IsErrOf result (read_fault.Stuck left) →
+        SticksRule (phrase Phrase.Stmt) toks.now left }
     ensures shorter { IfOk result (λ r. length r.1.now < length toks.now) }
 {
     let Some((tok, rest)) = next(toks) else {
@@ -62,13 +65,16 @@ fn named_stmt<'t, F: Fn(Global, &[u8], Phrase, &[Tok]) -> Result<(Tree, usize), 
     toks: &'t [Tok],
     all: &'t [Tok],
 ) -> Result<(Tree, &'t [Tok]), ReadFault>
-    requires nests { Nests reader.now.bytes.now reader.now.most (F.pre reader.now.nested) (F.post reader.now.nested) }
+    requires nests { Nests reader.now.bytes.now reader.now.most (F.pre reader.now.nested)
+        (F.post reader.now.nested) }
     requires fewer { length toks.now < reader.now.most }
     requires start { stmt_start tok.kind ≡ Some StmtStart.Name }
     requires all { all.now ≡ tok ∷ toks.now }
-    ensures spelled { IfOk result (λ r. Reads reader.now.bytes.now Phrase.Stmt (tok ∷ toks.now) (tree_of r.0) r.1.now) }
+    ensures spelled { IfOk result
+        (λ r. Reads reader.now.bytes.now Phrase.Stmt (tok ∷ toks.now) (tree_of r.0) r.1.now) }
     ensures eats { IfOk result (λ r. EatsRule (phrase Phrase.Stmt) (tok ∷ toks.now) r.1.now) }
-    ensures sticks { (left : ℕ) → IsErrOf result (read_fault.Stuck left) → SticksRule (phrase Phrase.Stmt) (tok ∷ toks.now) left }
+    ensures sticks { (left : ℕ) → IsErrOf result (read_fault.Stuck left) →
+        SticksRule (phrase Phrase.Stmt) (tok ∷ toks.now) left }
     ensures shorter { IfOk result (λ r. length r.1.now < length all.now) }
 {
     if let Some((define, rest)) = take(toks, Fixed::Define) {
@@ -88,13 +94,18 @@ fn defined<'t, F: Fn(Global, &[u8], Phrase, &[Tok]) -> Result<(Tree, usize), Rea
     define: Tok,
     toks: &'t [Tok],
 ) -> Result<(Tree, &'t [Tok]), ReadFault>
-    requires nests { Nests reader.now.bytes.now reader.now.most (F.pre reader.now.nested) (F.post reader.now.nested) }
+    requires nests { Nests reader.now.bytes.now reader.now.most (F.pre reader.now.nested)
+        (F.post reader.now.nested) }
     requires fewer { length toks.now < reader.now.most }
     requires start { stmt_start tok.kind ≡ Some StmtStart.Name }
     requires define { define.kind ≡ mark m.Define }
-    ensures spelled { IfOk result (λ r. Reads reader.now.bytes.now Phrase.Stmt (tok ∷ define ∷ toks.now) (tree_of r.0) r.1.now) }
-    ensures eats { IfOk result (λ r. EatsRule (phrase Phrase.Stmt) (tok ∷ define ∷ toks.now) r.1.now) }
-    ensures sticks { (left : ℕ) → IsErrOf result (read_fault.Stuck left) → SticksRule (phrase Phrase.Stmt) (tok ∷ define ∷ toks.now) left }
+    ensures spelled { IfOk result
+        (λ r. Reads reader.now.bytes.now Phrase.Stmt (tok ∷ define ∷ toks.now)
+        (tree_of r.0) r.1.now) }
+    ensures eats { IfOk result (λ r.
+        EatsRule (phrase Phrase.Stmt) (tok ∷ define ∷ toks.now) r.1.now) }
+    ensures sticks { (left : ℕ) → IsErrOf result (read_fault.Stuck left) →
+        SticksRule (phrase Phrase.Stmt) (tok ∷ define ∷ toks.now) left }
     ensures shorter { IfOk result (λ r. length r.1.now < length toks.now) }
 {
     let name = name_of(reader.alloc, reader.bytes, tok)?;
@@ -113,13 +124,18 @@ fn typed<'t, F: Fn(Global, &[u8], Phrase, &[Tok]) -> Result<(Tree, usize), ReadF
     colon: Tok,
     toks: &'t [Tok],
 ) -> Result<(Tree, &'t [Tok]), ReadFault>
-    requires nests { Nests reader.now.bytes.now reader.now.most (F.pre reader.now.nested) (F.post reader.now.nested) }
+    requires nests { Nests reader.now.bytes.now reader.now.most (F.pre reader.now.nested)
+        (F.post reader.now.nested) }
     requires fewer { length toks.now < reader.now.most }
     requires start { stmt_start tok.kind ≡ Some StmtStart.Name }
     requires colon { colon.kind ≡ mark m.Colon }
-    ensures spelled { IfOk result (λ r. Reads reader.now.bytes.now Phrase.Stmt (tok ∷ colon ∷ toks.now) (tree_of r.0) r.1.now) }
-    ensures eats { IfOk result (λ r. EatsRule (phrase Phrase.Stmt) (tok ∷ colon ∷ toks.now) r.1.now) }
-    ensures sticks { (left : ℕ) → IsErrOf result (read_fault.Stuck left) → SticksRule (phrase Phrase.Stmt) (tok ∷ colon ∷ toks.now) left }
+    ensures spelled { IfOk result
+        (λ r. Reads reader.now.bytes.now Phrase.Stmt (tok ∷ colon ∷ toks.now)
+        (tree_of r.0) r.1.now) }
+    ensures eats { IfOk result (λ r.
+        EatsRule (phrase Phrase.Stmt) (tok ∷ colon ∷ toks.now) r.1.now) }
+    ensures sticks { (left : ℕ) → IsErrOf result (read_fault.Stuck left) →
+        SticksRule (phrase Phrase.Stmt) (tok ∷ colon ∷ toks.now) left }
     ensures shorter { IfOk result (λ r. length r.1.now < length toks.now) }
 {
     let name = name_of(reader.alloc, reader.bytes, tok)?;
@@ -137,12 +153,15 @@ fn variable<'t, F: Fn(Global, &[u8], Phrase, &[Tok]) -> Result<(Tree, usize), Re
     tok: Tok,
     toks: &'t [Tok],
 ) -> Result<(Tree, &'t [Tok]), ReadFault>
-    requires nests { Nests reader.now.bytes.now reader.now.most (F.pre reader.now.nested) (F.post reader.now.nested) }
+    requires nests { Nests reader.now.bytes.now reader.now.most (F.pre reader.now.nested)
+        (F.post reader.now.nested) }
     requires fewer { length toks.now < reader.now.most }
     requires start { stmt_start tok.kind ≡ Some StmtStart.Var }
-    ensures spelled { IfOk result (λ r. Reads reader.now.bytes.now Phrase.Stmt (tok ∷ toks.now) (tree_of r.0) r.1.now) }
+    ensures spelled { IfOk result
+        (λ r. Reads reader.now.bytes.now Phrase.Stmt (tok ∷ toks.now) (tree_of r.0) r.1.now) }
     ensures eats { IfOk result (λ r. EatsRule (phrase Phrase.Stmt) (tok ∷ toks.now) r.1.now) }
-    ensures sticks { (left : ℕ) → IsErrOf result (read_fault.Stuck left) → SticksRule (phrase Phrase.Stmt) (tok ∷ toks.now) left }
+    ensures sticks { (left : ℕ) → IsErrOf result (read_fault.Stuck left) →
+        SticksRule (phrase Phrase.Stmt) (tok ∷ toks.now) left }
     ensures shorter { IfOk result (λ r. length r.1.now < length toks.now) }
 {
     let (named, rest) = expect(toks, Fixed::Name)?;
@@ -162,12 +181,16 @@ fn typed_value<'t, F: Fn(Global, &[u8], Phrase, &[Tok]) -> Result<(Tree, usize),
     colon: Tok,
     toks: &'t [Tok],
 ) -> Result<((Written, Tree), &'t [Tok]), ReadFault>
-    requires nests { Nests reader.now.bytes.now reader.now.most (F.pre reader.now.nested) (F.post reader.now.nested) }
+    requires nests { Nests reader.now.bytes.now reader.now.most (F.pre reader.now.nested)
+        (F.post reader.now.nested) }
     requires fewer { length toks.now < reader.now.most }
     requires start { colon.kind ≡ mark m.Colon }
-    ensures spelled { IfOk result (λ r. TypedValue reader.now.bytes.now (colon ∷ toks.now) (written_of r.0.0) (tree_of r.0.1) r.1.now) }
+    ensures spelled { IfOk result
+        (λ r. TypedValue reader.now.bytes.now (colon ∷ toks.now) (written_of r.0.0)
+        (tree_of r.0.1) r.1.now) }
     ensures eats { IfOk result (λ r. EatsRule typed_value (colon ∷ toks.now) r.1.now) }
-    ensures sticks { (left : ℕ) → IsErrOf result (read_fault.Stuck left) → SticksRule typed_value (colon ∷ toks.now) left }
+    ensures sticks { (left : ℕ) → IsErrOf result (read_fault.Stuck left) →
+        SticksRule typed_value (colon ∷ toks.now) left }
     ensures shorter { IfOk result (λ r. length r.1.now < length toks.now) }
 {
     let (ty, rest) = type_at(reader.alloc, reader.bytes, toks)?;

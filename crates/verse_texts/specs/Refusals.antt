@@ -18,5 +18,6 @@ rule_code rule = codes "E0" ++ cond (nat_le 10 rule) (decimal rule) (codes "0" +
 -- its file and place, the rule and the rule's text
 abbrev pub refusal_line : List (List ℕ) → Refusal → List ℕ
 refusal_line names r =
-    file_before names r.place.file ++ (line_and_column r.place ++ (codes " " ++ (rule_code r.rule.0 ++ (codes " " ++ (unwrap_or (rule_text_of r.rule.0) []
+    file_before names r.place.file ++ (line_and_column r.place ++
+    (codes " " ++ (rule_code r.rule.0 ++ (codes " " ++ (unwrap_or (rule_text_of r.rule.0) []
     ++ 10 ∷ [])))))

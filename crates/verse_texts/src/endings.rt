@@ -1,6 +1,7 @@
 //! The last line of a run, and the status that goes with it.
 ghost use Rattle.std.specs.Prelude.{◌≡◌, ◌++◌, IfOk, OnOk};
-ghost use Rattle.verse_state.specs.Texts.{ending_line, ending_name, error_name, live_text, place_text};
+ghost use Rattle.verse_state.specs.Texts.{ending_line, ending_name, error_name, live_text};
+ghost use Rattle.verse_state.specs.Texts.{place_text};
 ghost use Rattle.verse_texts.specs.Endings.{ended, ending_status, live_of};
 ghost use Rattle.verse_value.specs.declared.runs.Ending.TheVariants as ending;
 
@@ -62,7 +63,8 @@ fn push_name(ending: Ending, files: u32, out: &mut Vec<u8>) -> Result<(), Memory
 }
 
 fn push_error(kind: Kind, place: Place, files: u32, out: &mut Vec<u8>) -> Result<(), Memory>
-    ensures { OnOk result (out.new.items ≡ out.old.items ++ ending_name files (ending.Error kind place)) }
+    ensures { OnOk result (out.new.items ≡ out.old.items ++
+        ending_name files (ending.Error kind place)) }
 {
     out.extend_from_slice(b"error ")?;
     out.extend_from_slice(kind_name(kind).as_bytes())?;

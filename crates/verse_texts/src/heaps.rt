@@ -17,7 +17,8 @@ pub fn cell_line(
     slots: &[Value],
     out: &mut Vec<u8>,
 ) -> Result<(), Memory>
-    ensures { OnOk result (out.new.items ≡ out.old.items ++ cell_line address (record { kind = kind; slots = vals_of slots.now })) }
+    ensures { OnOk result (out.new.items ≡ out.old.items ++
+        cell_line address (record { kind = kind; slots = vals_of slots.now })) }
 {
     cell_name(address, kind, out)?;
     push_slots(slots, out)?;
@@ -27,7 +28,8 @@ pub fn cell_line(
 
 /// Appends how the line of a cell begins: its address, and what it is.
 pub fn cell_name(address: u32, kind: CellKind, out: &mut Vec<u8>) -> Result<(), Memory>
-    ensures { OnOk result (out.new.items ≡ out.old.items ++ 64 ∷ (decimal address ++ 32 ∷ kind_text kind)) }
+    ensures { OnOk result (out.new.items ≡ out.old.items ++
+        64 ∷ (decimal address ++ 32 ∷ kind_text kind)) }
 {
     out.push(b'@')?;
     natural(u64::from(address), out)?;

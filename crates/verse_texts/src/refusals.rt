@@ -27,7 +27,8 @@ pub fn refusal_text(alloc: Global, names: &[String], refusal: Refusal) -> Result
 }
 
 fn push_file(names: &[String], file: u32, out: &mut Vec<u8>) -> Result<(), Memory>
-    ensures { OnOk result (out.new.items ≡ out.old.items ++ file_before (map string_bytes names.now) file) }
+    ensures { OnOk result (out.new.items ≡ out.old.items ++
+        file_before (map string_bytes names.now) file) }
 {
     if names.len() < 2 {
         return Ok(());

@@ -1,5 +1,6 @@
 -- The ways to an answer, and that there is one.
-use Rattle.std.proofs.Common.{◌≡◌, ℕ, zero, suc, Bool, true, false, List, Option, Some, length, refl, sym, ◌∙◌, ap, subst, map, string_bytes, Result, Ok, Err, IfOk}
+use Rattle.std.proofs.Common.{◌≡◌, ℕ, zero, suc, Bool, true, false, List, Option, Some, length, refl, sym, ◌∙◌, ap, subst, map}
+use Rattle.std.proofs.Common.{string_bytes, Result, Ok, Err, IfOk}
 use Rattle.verse_base.specs.declared.refusals.Refusal.{Refusal}
 use Rattle.verse_lex.specs.Cut.{first_place}
 use Rattle.verse_outside.specs.Held.{Holding}
@@ -74,24 +75,30 @@ asks_for_program (request.Run r) c p a = subst IsProgram (sym a.is) tt
 asks_for_program (request.Exec r) c p a = absurd p
 asks_for_program (request.Check files) c p a = subst IsProgram (sym a) tt
 
-pub answers_refused : (held : Holding) (q : Request) (c : Command) (names files : List (List ℕ)) (s : ℕ) (x : List ℕ) (r : Refusal) → IsForProgram q → AsksFor q c → names ≡ names_of q →
+pub answers_refused : (held : Holding) (q : Request) (c : Command) (names files : List (List ℕ)) (s : ℕ) (x : List ℕ) (r : Refusal) →
+    IsForProgram q → AsksFor q c → names ≡ names_of q →
     s ≡ 1 → x ≡ refusal_line names r → AreLoaded held (files_of c) files → IsRefused files r → Answers held c s x
 answers_refused held q c names files s x r g a n e f l p =
-    along held c s 1 x (refusal_line (files_of c) r) e (f ∙ ap (λ ns. refusal_line ns r) (n ∙ sym (asks_for_files q c a))) (refused c files r (asks_for_program q c g a) l p)
+    along held c s 1 x (refusal_line (files_of c) r) e (f ∙ ap (λ ns. refusal_line ns r) (n ∙ sym (asks_for_files q c a)))
+    (refused c files r (asks_for_program q c g a) l p)
 
-pub answers_large : (held : Holding) (q : Request) (c : Command) (names : List (List ℕ)) (file s : ℕ) (x : List ℕ) → IsForProgram q → AsksFor q c → names ≡ names_of q →
+pub answers_large : (held : Holding) (q : Request) (c : Command) (names : List (List ℕ)) (file s : ℕ) (x : List ℕ) → IsForProgram q →
+    AsksFor q c → names ≡ names_of q →
     s ≡ 1 → x ≡ refusal_line names (refusal 2 (first_place file)) → IsTooLarge held 0 names file → Answers held c s x
 answers_large held q c names file s x g a n e f p =
     let same : names ≡ files_of c = n ∙ sym (asks_for_files q c a) in
-    along held c s 1 x (refusal_line (files_of c) (refusal 2 (first_place file))) e (f ∙ ap (λ ns. refusal_line ns (refusal 2 (first_place file))) same)
+    along held c s 1 x (refusal_line (files_of c) (refusal 2 (first_place file))) e
+    (f ∙ ap (λ ns. refusal_line ns (refusal 2 (first_place file))) same)
     (too_large c file (asks_for_program q c g a) (subst (λ ns. IsTooLarge held 0 ns file) same p))
 
-pub answers_checked : (held : Holding) (c : Command) (names files : List (List ℕ)) (is : List ItemTree) (s : ℕ) (x : List ℕ) → c ≡ check names →
+pub answers_checked : (held : Holding) (c : Command) (names files : List (List ℕ)) (is : List ItemTree) (s : ℕ) (x : List ℕ) →
+    c ≡ check names →
     s ≡ 0 → x ≡ ok_line → AreLoaded held (files_of c) files → Accepts files is → Answers held c s x
 answers_checked held c names files is s x a e f l p =
     rw a (along held (check names) s 0 x ok_line e f (checked names files is (rw a at l) p))
 
-pub answers_ran : (held : Holding) (r : Running) (c : Command) (files : List (List ℕ)) (is : List ItemTree) (s count : ℕ) (x : List ℕ) → AsksForRun r c →
+pub answers_ran : (held : Holding) (r : Running) (c : Command) (files : List (List ℕ)) (is : List ItemTree) (s count : ℕ) (x : List ℕ) →
+    AsksForRun r c →
     AreLoaded held (files_of c) files → Accepts files is → count ≡ length files → s ≡ ending_status (mean (texts_of is) r.steps).ending →
     ((heap : Bool) → x ≡ run_text (mean (texts_of is) r.steps) heap count) → Answers held c s x
 answers_ran held r c files is s count x a l p n e f =
@@ -99,8 +106,10 @@ answers_ran held r c files is s count x a l p n e f =
     let names = map string_bytes r.files.now in
     let loaded : AreLoaded held names files = subst (λ (d : Command). AreLoaded held (files_of d) files) a.is l in
     let many : count ≡ length names = n ∙ sym (as_many held names files loaded) in
-    let text : x ≡ run_text (mean (texts_of is) r.steps) r.heap (length names) = f r.heap ∙ ap (λ k. run_text (mean (texts_of is) r.steps) r.heap k) many in
-    rw a.is (along held (run names o) s (ending_status (mean (texts_of is) r.steps).ending) x (run_text (mean (texts_of is) r.steps) r.heap (length names)) e text
+    let text : x ≡ run_text (mean (texts_of is) r.steps) r.heap (length names) =
+    f r.heap ∙ ap (λ k. run_text (mean (texts_of is) r.steps) r.heap k) many in
+    rw a.is (along held (run names o) s (ending_status (mean (texts_of is) r.steps).ending) x
+    (run_text (mean (texts_of is) r.steps) r.heap (length names)) e text
     (ran names o files is loaded p))
 
 -- ---- what holds of a result where there is one

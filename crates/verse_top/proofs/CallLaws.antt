@@ -16,7 +16,9 @@ use Rattle.verse_exec.specs.Leaving.{Leaves}
 use Rattle.verse_exec.proofs.Takes.{more_then, rose_from, took_behind, took_front}
 use Rattle.verse_top.specs.Loading.{AreHeld, IsAbsent}
 use Rattle.verse_top.specs.Meaning.{mean}
-use Rattle.verse_top.specs.Answers.{Answers, too_large, refused, checked, ran, executed, Answered, Begins, CutShort, Finishes, MayWrite, not_read, no_memory, answer, NoMemory, NotRead, Replies, Told, whole, without, cut, Unread, read_line, memory_line, words_line}
+use Rattle.verse_top.specs.Answers.{Answers, too_large, refused, checked, ran, executed, Answered, Begins, CutShort, Finishes, MayWrite}
+use Rattle.verse_top.specs.Answers.{not_read, no_memory, answer, NoMemory, NotRead, Replies, Told, whole, without, cut, Unread, read_line}
+use Rattle.verse_top.specs.Answers.{memory_line, words_line}
 use Rattle.verse_top.proofs.LoadLaws.{absent_or_loaded, absent_or_large, absent_or_read, held_or_absent}
 
 -- the statuses of answers
@@ -54,30 +56,36 @@ known_other s n four_known e = (λ f. cc, (λ f. cc, (λ f. cc, λ f. cc)))
 known_other s n eight_known e = (λ f. cc, (λ f. cc, (λ f. cc, λ f. cc)))
 
 -- where files are absent there is no answer
-answers_or_absent : {held : Holding} {c : Command} {s : ℕ} {t : List ℕ} → Answers held c s t → (name : List ℕ) → IsAbsent held (files_of c) name → ⊥
+answers_or_absent : {held : Holding} {c : Command} {s : ℕ} {t : List ℕ} → Answers held c s t → (name : List ℕ) →
+    IsAbsent held (files_of c) name → ⊥
 answers_or_absent {held = held} (too_large c file g p) name a = absent_or_large held (files_of c) 0 file name p a
 answers_or_absent {held = held} (refused c files r g l p) name a = absent_or_loaded held (files_of c) files name l a
 answers_or_absent {held = held} (checked names files is l p) name a = absent_or_loaded held names files name l a
 answers_or_absent {held = held} (ran names o files is l p) name a = absent_or_loaded held names files name l a
 answers_or_absent {held = held} (executed file o bytes s t l p) name a = absent_or_read held file bytes name l a
 
-pub cut_of : (words : List (List ℕ)) (held : Holding) (files_before files_now : ℕ) (text : List ℕ) (status result before now : ℕ) (old new : Option (List ℕ)) → status ≢ 7 →
-    MayWrite words held files_before files_now text → Finishes status text result before now old new → result ≡ 7 → CutShort words held files_before files_now before now old new
+pub cut_of : (words : List (List ℕ)) (held : Holding) (files_before files_now : ℕ) (text : List ℕ) (status result before now : ℕ)
+    (old new : Option (List ℕ)) → status ≢ 7 →
+    MayWrite words held files_before files_now text → Finishes status text result before now old new → result ≡ 7 →
+    CutShort words held files_before files_now before now old new
 cut_of words held files_before files_now text status result before now old new other may (inl all) e = absurd (other (sym all.0 ∙ e))
-cut_of words held files_before files_now text status result before now old new other may (inr part) e = record { text = text; may = may; cause = part.1.0; part = part.1.1 }
+cut_of words held files_before files_now text status result before now old new other may (inr part) e =
+    record { text = text; may = may; cause = part.1.0; part = part.1.1 }
 
 -- ---- what is left in the sink, and what is told
 
 module _ (c : Command) (held : Holding) (files_before files_now before : ℕ) (old : Option (List ℕ)) where
   pub told_whole : (now : ℕ) (new : Option (List ℕ)) (r : Result ℕ Stop) (status : ℕ) → r ≡ Ok status →
-      Leaves (Replies c held files_before files_now) (Begins held c) before now old new r → Told c held files_before files_now before now status old new
+      Leaves (Replies c held files_before files_now) (Begins held c) before now old new r →
+      Told c held files_before files_now before now status old new
   told_whole now new (Ok s) status e l =
       let same : s ≡ status = cc in
       subst (λ (n : ℕ). Told c held files_before files_now before now n old new) same (whole l.0 l.1.0 l.1.1)
   told_whole now new (Err s) status e l = absurd (cc)
 
   pub told_failed : (now : ℕ) (new : Option (List ℕ)) (r : Result ℕ Stop) → r ≡ Err stop.Failed →
-      Leaves (Replies c held files_before files_now) (Begins held c) before now old new r → Told c held files_before files_now before now 7 old new
+      Leaves (Replies c held files_before files_now) (Begins held c) before now old new r →
+      Told c held files_before files_now before now 7 old new
   told_failed now new (Ok s) e l = absurd (cc)
   told_failed now new (Err stop.Memory) e l = absurd (cc)
   told_failed now new (Err stop.Failed) e l = elim l.1.1.0 [
@@ -93,11 +101,13 @@ module _ (c : Command) (held : Holding) (files_before files_now before : ℕ) (o
   told_without at now mid new (Err stop.Memory) status e low l (inl all) =
       without l.0 l.1.0 all.0 (more_then old mid new l.0 memory_line l.1.1 all.1)
   told_without at now mid new (Err stop.Memory) status e low l (inr part) =
-      cut (l.0 ++ memory_line) (inr (l.0, l.1.0, refl)) part.0 (rose_from before at now low part.1.0) (took_behind old mid new l.0 memory_line l.1.1 part.1.1)
+      cut (l.0 ++ memory_line) (inr (l.0, l.1.0, refl)) part.0 (rose_from before at now low part.1.0)
+      (took_behind old mid new l.0 memory_line l.1.1 part.1.1)
 
 -- ---- what is told to the command that the words say
 
-module _ (words : List (List ℕ)) (held : Holding) (c : Command) (says : Says words c) (files_before files_now before now status : ℕ) (old new : Option (List ℕ))
+module _ (words : List (List ℕ)) (held : Holding) (c : Command) (says : Says words c) (files_before files_now before now status : ℕ)
+    (old new : Option (List ℕ))
     (told : Told c held files_before files_now before now status old new) where
   others : {n : ℕ} {text : List ℕ} → Replies c held files_before files_now n text → n ≢ 2 × (n ≢ 5 × n ≢ 7)
   others {n = n} (inl a) = let o = known_other n n (known a) refl in (o.0, (o.1.0, o.1.1.1))
@@ -129,7 +139,8 @@ module _ (words : List (List ℕ)) (held : Holding) (c : Command) (says : Says w
 
   may_write : (n : ℕ) (text : List ℕ) → Replies c held files_before files_now n text → MayWrite words held files_before files_now text
   may_write n text (inl a) = answer c n text says a
-  may_write n text (inr u) = subst (λ (t : List ℕ). MayWrite words held files_before files_now t) (sym u.1.1.0) (not_read c u.1.0 says u.1.1.1)
+  may_write n text (inr u) = subst (λ (t : List ℕ). MayWrite words held files_before files_now t) (sym u.1.1.0)
+      (not_read c u.1.0 says u.1.1.1)
 
   pub told_cut : status ≡ 7 → CutShort words held files_before files_now before now old new
   told_cut seven = elim told [
@@ -162,7 +173,8 @@ module _ (words : List (List ℕ)) (held : Holding) (c : Command) (says : Says w
     | cut text m e rose p ↦ absurd (cc)
   ]
 
-  pub told_absent : (d : Command) (name : List ℕ) → Says words d → IsAbsent held (files_of d) name → (status ≡ 6) ⊎ (status ≡ 5) ⊎ (status ≡ 7)
+  pub told_absent : (d : Command) (name : List ℕ) → Says words d → IsAbsent held (files_of d) name →
+      (status ≡ 6) ⊎ (status ≡ 5) ⊎ (status ≡ 7)
   told_absent d name said absent =
       let same : d ≡ c = say_once words d c said says in
       let gone : IsAbsent held (files_of c) name = subst (λ (y : Command). IsAbsent held (files_of y) name) same absent in
@@ -180,7 +192,8 @@ module _ (words : List (List ℕ)) (held : Holding) (c : Command) (says : Says w
       elim told [
         | whole text r e ↦ elim r [
           | inl a ↦ inr (record { command = c; text = text; says = says; answers = a; written = e })
-          | inr u ↦ let v : Unread c held files_before files_now u.1.0 = u.1.1.1 in elim v.cause [ inl rose ↦ absurd (calm rose) | inr absent ↦ absurd (held_or_absent held (files_of c) u.1.0 here absent) ]
+          | inr u ↦ let v : Unread c held files_before files_now u.1.0 = u.1.1.1 in
+              elim v.cause [ inl rose ↦ absurd (calm rose) | inr absent ↦ absurd (held_or_absent held (files_of c) u.1.0 here absent) ]
         ]
         | without text b e w ↦ inl e
         | cut text m e rose p ↦ absurd (sink_calm rose)

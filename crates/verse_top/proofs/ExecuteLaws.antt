@@ -1,5 +1,6 @@
 -- The run of an image as the answer to its command.
-use Rattle.std.proofs.Common.{◌≡◌, ◌⊎◌, ℕ, ◌≤◌, ℤ, List, [], ◌∷◌, map, string_bytes, option_copied, Option, Result, inl, inr, refl, sym, ap, subst, ◌∙◌, slice_index_or, length, ◌<◌, arith}
+use Rattle.std.proofs.Common.{◌≡◌, ◌⊎◌, ℕ, ◌≤◌, ℤ, List, [], ◌∷◌, map, string_bytes, option_copied, Option, Result, inl, inr, refl, sym, ap}
+use Rattle.std.proofs.Common.{subst, ◌∙◌, slice_index_or, length, ◌<◌, arith}
 use Rattle.verse_outside.specs.Causes.{Rose}
 use Rattle.verse_outside.specs.Held.{Holding, Lacks}
 use Rattle.verse_words.specs.Words.{Command, Inputs, exec, files_of, listed, not_given}
@@ -24,7 +25,8 @@ module _ (held : Holding) (files_before files_now before now : ℕ) (old new : O
       (λ t p. subst (λ (d : Command). Begins held d t) (sym a.is) (executing a.file o bytes t read p)) l
 
   -- the file was not read
-  pub leaves_unread : (running : Running) (c : Command) (a : AsksForExec running c) → Rose files_before files_now ⊎ Lacks held a.file → (status : ℕ) (text : List ℕ) →
+  pub leaves_unread : (running : Running) (c : Command) (a : AsksForExec running c) → Rose files_before files_now ⊎ Lacks held a.file →
+      (status : ℕ) (text : List ℕ) →
       status ≡ 6 → text ≡ read_line a.file → Leaves (IsAnswer status text) IsNothing before now old new r →
       Leaves (Replies c held files_before files_now) (Begins held c) before now old new r
   leaves_unread running c a cause status text e f l =
@@ -46,7 +48,8 @@ module _ (held : Holding) (files_before files_now before now : ℕ) (old new : O
       (λ t p. subst (Begins held c) (sym p) (nothing c)) l
 
 -- an answer that was written at once
-pub leaves_answer : (c : Command) (held : Holding) (files_before files_now before now : ℕ) (old new : Option (List ℕ)) (r : Result ℕ Stop) (status : ℕ) (text : List ℕ) →
+pub leaves_answer : (c : Command) (held : Holding) (files_before files_now before now : ℕ) (old new : Option (List ℕ)) (r : Result ℕ Stop)
+    (status : ℕ) (text : List ℕ) →
     Replies c held files_before files_now status text → Leaves (IsAnswer status text) IsNothing before now old new r →
     Leaves (Replies c held files_before files_now) (Begins held c) before now old new r
 leaves_answer c held files_before files_now before now old new r status text reply l =
@@ -58,7 +61,8 @@ pub some_file : (words : List (List ℕ)) (file : List ℕ) → words ≡ file �
 some_file [] file e = absurd (cc)
 some_file (w ∷ ws) file e = omega arith
 
-pub first_file : {A : Type 0} (text : A → List ℕ) (words : List A) (file : List ℕ) (d : A) → map text words ≡ file ∷ [] → d ≡ slice_index_or words 0 d → text d ≡ file
+pub first_file : {A : Type 0} (text : A → List ℕ) (words : List A) (file : List ℕ) (d : A) → map text words ≡ file ∷ [] →
+    d ≡ slice_index_or words 0 d → text d ≡ file
 first_file text [] file d e f = absurd (cc)
 first_file text (w ∷ ws) file d e f = let same : text w ≡ file = cc in ap text f ∙ same
 

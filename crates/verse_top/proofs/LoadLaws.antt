@@ -1,5 +1,6 @@
 -- Files that tell what they hold are loaded in one way.
-use Rattle.std.proofs.Common.{◌≡◌, ◌⊎◌, ℕ, suc, ◌<◌, ◌≤◌, List, [], ◌∷◌, length, Option, Some, None, inl, inr, refl, sym, ◌∙◌, ap, subst, take, arith}
+use Rattle.std.proofs.Common.{◌≡◌, ◌⊎◌, ℕ, suc, ◌<◌, ◌≤◌, List, [], ◌∷◌, length, Option, Some, None, inl, inr, refl, sym, ◌∙◌, ap, subst}
+use Rattle.std.proofs.Common.{take, arith}
 use Rattle.std.proofs.lemmas.Option.{same_Some}
 use Rattle.verse_base.specs.declared.limits.TheConstants.{MOST_FILE_BYTES}
 use Rattle.verse_outside.specs.Held.{Holding, Holds, Lacks, Loads}
@@ -40,7 +41,8 @@ small_or_large : (held : Telling) (name a b : List ℕ) → Loads (Some held) na
 small_or_large held name a b x y small large = let same = ap length (load_once held name a b x y) in omega arith
 
 module _ (held : Telling) where
-  pub loaded_once : (names files others : List (List ℕ)) → AreLoaded (Some held) names files → AreLoaded (Some held) names others → files ≡ others
+  pub loaded_once : (names files others : List (List ℕ)) → AreLoaded (Some held) names files → AreLoaded (Some held) names others →
+      files ≡ others
   loaded_once [] [] [] x y = refl
   loaded_once [] [] (b ∷ bs) x y = absurd y
   loaded_once [] (a ∷ as1) others x y = absurd x
@@ -48,13 +50,15 @@ module _ (held : Telling) where
   loaded_once (f ∷ fs) (a ∷ as1) [] x y = absurd y
   loaded_once (f ∷ fs) (a ∷ as1) (b ∷ bs) x y = cc (load_once held f a b x.0 y.0, loaded_once fs as1 bs x.1.1 y.1.1)
 
-  pub loaded_or_large : (names files : List (List ℕ)) (n file : ℕ) → AreLoaded (Some held) names files → IsTooLarge (Some held) n names file → ⊥
+  pub loaded_or_large : (names files : List (List ℕ)) (n file : ℕ) → AreLoaded (Some held) names files →
+      IsTooLarge (Some held) n names file → ⊥
   loaded_or_large [] files n file x y = y
   loaded_or_large (f ∷ fs) [] n file x y = x
   loaded_or_large (f ∷ fs) (a ∷ as1) n file x (b, (l, inl big)) = small_or_large held f a b x.0 l x.1.0 big.0
   loaded_or_large (f ∷ fs) (a ∷ as1) n file x (b, (l, inr more)) = loaded_or_large fs as1 (suc n) file x.1.1 more.1
 
-  pub large_once : (names : List (List ℕ)) (n file other : ℕ) → IsTooLarge (Some held) n names file → IsTooLarge (Some held) n names other → file ≡ other
+  pub large_once : (names : List (List ℕ)) (n file other : ℕ) → IsTooLarge (Some held) n names file → IsTooLarge (Some held) n names other →
+      file ≡ other
   large_once [] n file other x y = absurd x
   large_once (f ∷ fs) n file other (a, (k, inl big)) (b, (l, inl large)) = big.1 ∙ sym large.1
   large_once (f ∷ fs) n file other (a, (k, inl big)) (b, (l, inr more)) = absurd (small_or_large held f b a l k more.0 big.0)
@@ -67,7 +71,8 @@ as_many held [] (b ∷ bs) x = absurd x
 as_many held (f ∷ fs) [] x = absurd x
 as_many held (f ∷ fs) (b ∷ bs) x = ap suc (as_many held fs bs x.1.1)
 
-pub absent_or_loaded : (held : Holding) (names files : List (List ℕ)) (name : List ℕ) → AreLoaded held names files → IsAbsent held names name → ⊥
+pub absent_or_loaded : (held : Holding) (names files : List (List ℕ)) (name : List ℕ) → AreLoaded held names files →
+    IsAbsent held names name → ⊥
 absent_or_loaded held [] files name x y = y
 absent_or_loaded held (f ∷ fs) [] name x y = x
 absent_or_loaded held (f ∷ fs) (a ∷ as1) name x (inl lacks) = load_or_lack held f a x.0 lacks.0
@@ -79,12 +84,14 @@ absent_tells [] name y = y
 absent_tells (f ∷ fs) name (inl lacks) = lacks.0
 absent_tells (f ∷ fs) name (inr (b, more)) = absent_tells fs name more.1.1
 
-pub absent_or_large : (held : Holding) (names : List (List ℕ)) (n file : ℕ) (name : List ℕ) → IsTooLarge held n names file → IsAbsent held names name → ⊥
+pub absent_or_large : (held : Holding) (names : List (List ℕ)) (n file : ℕ) (name : List ℕ) → IsTooLarge held n names file →
+    IsAbsent held names name → ⊥
 absent_or_large None names n file name x y = absent_tells names name y
 absent_or_large (Some held) [] n file name x y = y
 absent_or_large (Some held) (f ∷ fs) n file name (a, (l, rest)) (inl lacks) = load_or_lack (Some held) f a l lacks.0
 absent_or_large (Some held) (f ∷ fs) n file name (a, (l, inl big)) (inr (b, more)) = small_or_large held f b a more.0 l more.1.0 big.0
-absent_or_large (Some held) (f ∷ fs) n file name (a, (l, inr less)) (inr (b, more)) = absent_or_large (Some held) fs (suc n) file name less.1 more.1.1
+absent_or_large (Some held) (f ∷ fs) n file name (a, (l, inr less)) (inr (b, more)) =
+    absent_or_large (Some held) fs (suc n) file name less.1 more.1.1
 
 pub held_or_absent : (held : Holding) (names : List (List ℕ)) (name : List ℕ) → AreHeld held names → IsAbsent held names name → ⊥
 held_or_absent held [] name x y = y

@@ -1,5 +1,6 @@
 -- Files are loaded one after another: what was loaded and what is left are all.
-use Rattle.std.proofs.Common.{◌≡◌, ◌⊎◌, ℕ, zero, suc, ◌+◌, ◌<◌, ◌≤◌, List, [], ◌∷◌, ◌++◌, length, map, slice_index_or, refl, sym, ◌∙◌, ap, subst, inl, inr, append_assoc, append-nil, arith}
+use Rattle.std.proofs.Common.{◌≡◌, ◌⊎◌, ℕ, zero, suc, ◌+◌, ◌<◌, ◌≤◌, List, [], ◌∷◌, ◌++◌, length, map, slice_index_or, refl, sym, ◌∙◌, ap}
+use Rattle.std.proofs.Common.{subst, inl, inr, append_assoc, append-nil, arith}
 use Rattle.verse_base.specs.declared.limits.TheConstants.{MOST_FILE_BYTES}
 use Rattle.verse_outside.specs.Causes.{Rose}
 use Rattle.verse_outside.specs.Held.{Holding, Lacks, Loads}
@@ -16,7 +17,8 @@ module _ (held : Holding) (names : List (List ℕ)) where
   pub loads_first : LoadsOn 0 0 names []
   loads_first = record { at = refl; all = λ bs x. x; large = λ file x. x; absent = λ name x. x }
 
-  pub loads_next : (i n j m : ℕ) (rest more loaded longer : List (List ℕ)) (f b : List ℕ) → LoadsOn i n rest loaded → rest ≡ f ∷ more → longer ≡ loaded ++ b ∷ [] →
+  pub loads_next : (i n j m : ℕ) (rest more loaded longer : List (List ℕ)) (f b : List ℕ) → LoadsOn i n rest loaded → rest ≡ f ∷ more →
+      longer ≡ loaded ++ b ∷ [] →
       j ≡ i + 1 → m ≡ n + 1 → Loads held f most_bytes b → length b ≤ MOST_FILE_BYTES → LoadsOn j m more longer
   loads_next i n j m rest more loaded longer f b x e g h k loads small =
       let at = x.at in
@@ -25,25 +27,30 @@ module _ (held : Holding) (names : List (List ℕ)) where
         at = omega arith;
         all = λ bs y. subst (λ fs. AreLoaded held names fs) (sym (append_assoc loaded (b ∷ []) bs) ∙ ap (λ fs. fs ++ bs) (sym g))
             (x.all (b ∷ bs) (subst (λ r. AreLoaded held r (b ∷ bs)) (sym e) (loads, (small, y))));
-        large = λ file y. x.large file (subst (λ r. IsTooLarge held n r file) (sym e) (b, (loads, inr (small, subst (λ o. IsTooLarge held o more file) (sym next) y))));
+        large = λ file y. x.large file (subst (λ r. IsTooLarge held n r file) (sym e)
+            (b, (loads, inr (small, subst (λ o. IsTooLarge held o more file) (sym next) y))));
         absent = λ name y. x.absent name (subst (λ r. IsAbsent held r name) (sym e) (inr (b, (loads, (small, y)))));
       }
 
-  pub loads_large : (i n : ℕ) (rest more loaded : List (List ℕ)) (f b : List ℕ) → LoadsOn i n rest loaded → rest ≡ f ∷ more → Loads held f most_bytes b →
+  pub loads_large : (i n : ℕ) (rest more loaded : List (List ℕ)) (f b : List ℕ) → LoadsOn i n rest loaded → rest ≡ f ∷ more →
+      Loads held f most_bytes b →
       MOST_FILE_BYTES < length b → IsTooLarge held 0 names n
   loads_large i n rest more loaded f b x e loads big = x.large n (subst (λ r. IsTooLarge held n r n) (sym e) (b, (loads, inl (big, refl))))
 
-  pub loads_absent : (i n : ℕ) (rest more loaded : List (List ℕ)) (f : List ℕ) → LoadsOn i n rest loaded → rest ≡ f ∷ more → Lacks held f → IsAbsent held names f
+  pub loads_absent : (i n : ℕ) (rest more loaded : List (List ℕ)) (f : List ℕ) → LoadsOn i n rest loaded → rest ≡ f ∷ more → Lacks held f →
+      IsAbsent held names f
   loads_absent i n rest more loaded f x e lacks = x.absent f (subst (λ r. IsAbsent held r f) (sym e) (inl (lacks, refl)))
 
   pub loads_all : (i n : ℕ) (rest loaded : List (List ℕ)) → LoadsOn i n rest loaded → rest ≡ [] → AreLoaded held names loaded
-  loads_all i n rest loaded x e = subst (λ fs. AreLoaded held names fs) (append-nil loaded) (x.all [] (subst (λ r. AreLoaded held r []) (sym e) tt))
+  loads_all i n rest loaded x e = subst (λ fs. AreLoaded held names fs) (append-nil loaded)
+      (x.all [] (subst (λ r. AreLoaded held r []) (sym e) tt))
 
 pub rose_from : (before mid now : ℕ) → before ≤ mid → Rose mid now → Rose before now
 rose_from before mid now low (inl up) = inl (omega arith)
 rose_from before mid now low (inr top) = inr top
 
-pub name_at : {A : Type 0} (text : A → List ℕ) (words : List A) (i : ℕ) (d : A) → i < length words → d ≡ slice_index_or words i d → slice_index_or (map text words) i [] ≡ text d
+pub name_at : {A : Type 0} (text : A → List ℕ) (words : List A) (i : ℕ) (d : A) → i < length words → d ≡ slice_index_or words i d →
+    slice_index_or (map text words) i [] ≡ text d
 name_at text [] i d low e = absurd (omega arith)
 name_at text (w ∷ ws) zero d low e = ap text (sym e)
 name_at text (w ∷ ws) (suc i) d low e = name_at text ws i d (omega arith) e

@@ -34,17 +34,21 @@ pub data Answers (held : Holding) : Command → ℕ → List ℕ → Type 0 wher
       Answers held c 1 (refusal_line (files_of c) (refusal 2 (first_place file)))
   refused : (c : Command) (files : List (List ℕ)) (r : Refusal) → IsProgram c → AreLoaded held (files_of c) files → IsRefused files r →
       Answers held c 1 (refusal_line (files_of c) r)
-  checked : (names files : List (List ℕ)) (is : List ItemTree) → AreLoaded held names files → Accepts files is → Answers held (check names) 0 ok_line
+  checked : (names files : List (List ℕ)) (is : List ItemTree) → AreLoaded held names files → Accepts files is →
+      Answers held (check names) 0 ok_line
   ran : (names : List (List ℕ)) (o : Options) (files : List (List ℕ)) (is : List ItemTree) → AreLoaded held names files → Accepts files is →
-      Answers held (run names o) (ending_status (mean (texts_of is) o.steps).ending) (run_text (mean (texts_of is) o.steps) o.heap (length names))
-  executed : (name : List ℕ) (o : Options) (bytes : List ℕ) (status : ℕ) (text : List ℕ) → IsRead held name bytes → Executes bytes o status text →
+      Answers held (run names o) (ending_status (mean (texts_of is) o.steps).ending)
+      (run_text (mean (texts_of is) o.steps) o.heap (length names))
+  executed : (name : List ℕ) (o : Options) (bytes : List ℕ) (status : ℕ) (text : List ℕ) → IsRead held name bytes →
+      Executes bytes o status text →
       Answers held (exec name o) status text
 
 -- What may have been written for a command where memory ran out: of a run that is written as it goes on some of its text, and otherwise
 -- nothing.
 pub data Begins (held : Holding) : Command → List ℕ → Type 0 where
   nothing : (c : Command) → Begins held c []
-  executing : (name : List ℕ) (o : Options) (bytes text : List ℕ) → IsRead held name bytes → ExecutesSoFar bytes o text → Begins held (exec name o) text
+  executing : (name : List ℕ) (o : Options) (bytes text : List ℕ) → IsRead held name bytes → ExecutesSoFar bytes o text →
+      Begins held (exec name o) text
 
 -- the command has this answer over the files, and its text was written
 pub record Answered (words : List (List ℕ)) (held : Holding) (status : ℕ) (old new : Option (List ℕ)) : Type 0 where
@@ -83,7 +87,8 @@ pub data MayWrite (words : List (List ℕ)) (held : Holding) (before now : ℕ) 
   answer : (c : Command) (status : ℕ) (text : List ℕ) → Says words c → Answers held c status text → MayWrite words held before now text
 
 -- the sink failed, and took a prefix of a text that may be written
-pub record CutShort (words : List (List ℕ)) (held : Holding) (files_before files_now before now : ℕ) (old new : Option (List ℕ)) : Type 0 where
+pub record CutShort (words : List (List ℕ)) (held : Holding) (files_before files_now before now : ℕ) (old new : Option (List ℕ)) :
+    Type 0 where
   pub text : List ℕ
   pub may : MayWrite words held files_before files_now text
   pub cause : Rose before now
@@ -91,7 +96,8 @@ pub record CutShort (words : List (List ℕ)) (held : Holding) (files_before fil
 
 -- over files that tell what they hold a command has one answer
 abbrev pub AnsweredOnce : Type 0
-AnsweredOnce = (held : List ℕ → Option (List ℕ)) (c : Command) (s t : ℕ) (x y : List ℕ) → Answers (Some held) c s x → Answers (Some held) c t y →
+AnsweredOnce = (held : List ℕ → Option (List ℕ)) (c : Command) (s t : ℕ) (x y : List ℕ) → Answers (Some held) c s x →
+    Answers (Some held) c t y →
     (s ≡ t) × (x ≡ y)
 
 -- the text was written whole and the status is the answer, or the sink failed and took a prefix of it
@@ -110,7 +116,8 @@ pub data Told (c : Command) (held : Holding) (files_before files_now before now 
       Told c held files_before files_now before now status old new
   without : (text : List ℕ) → Begins held c text → status ≡ 5 → new ≡ with_more old (text ++ memory_line) →
       Told c held files_before files_now before now status old new
-  cut : (text : List ℕ) → (((s : ℕ) × Replies c held files_before files_now s text) ⊎ ((begun : List ℕ) × Begins held c begun × (text ≡ begun ++ memory_line))) →
+  cut : (text : List ℕ) → (((s : ℕ) × Replies c held files_before files_now s text) ⊎
+      ((begun : List ℕ) × Begins held c begun × (text ≡ begun ++ memory_line))) →
       status ≡ 7 → Rose before now → TookPrefix old text new → Told c held files_before files_now before now status old new
 
 -- this answer and no other

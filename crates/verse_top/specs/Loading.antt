@@ -19,7 +19,8 @@ module _ (held : Holding) where
   abbrev pub IsTooLarge : ℕ → List (List ℕ) → ℕ → Type 0
   IsTooLarge n [] file = ⊥
   IsTooLarge n (f ∷ fs) file =
-      (b : List ℕ) × (Loads held f most_bytes b × (((MOST_FILE_BYTES < length b) × (file ≡ n)) ⊎ ((length b ≤ MOST_FILE_BYTES) × IsTooLarge (suc n) fs file)))
+      (b : List ℕ) × (Loads held f most_bytes b ×
+      (((MOST_FILE_BYTES < length b) × (file ≡ n)) ⊎ ((length b ≤ MOST_FILE_BYTES) × IsTooLarge (suc n) fs file)))
 
   -- the first name under which nothing is held; the files before it are loaded
   abbrev pub IsAbsent : List (List ℕ) → List ℕ → Type 0

@@ -1,6 +1,7 @@
 //! What a command answers over the files of a program.
 
-ghost use Rattle.std.specs.Prelude.{◌≡◌, ◌++◌, ◌⊎◌, ◌≤◌, ℕ, Bool, List, IfOk, IsSome, OnOk, length, map, string_bytes};
+ghost use Rattle.std.specs.Prelude.{◌≡◌, ◌++◌, ◌⊎◌, ◌≤◌, ℕ, Bool, List, IfOk, IsSome, OnOk, length};
+ghost use Rattle.std.specs.Prelude.{map, string_bytes};
 ghost use Rattle.verse_base.specs.RuleText.{rule_text_of};
 ghost use Rattle.verse_outside.specs.Held.{Holding};
 ghost use Rattle.verse_state.specs.Texts.{run_text};
@@ -53,7 +54,9 @@ pub(crate) fn answer_to(
 ) -> Result<Answer, Memory>
     requires program { IsForProgram request }
     requires few { length files.now ≤ 16 }
-    ensures { IfOk result (λ a. (held : Holding) (c : Command) → AsksFor request.entry c → AreLoaded held (files_of c) (map (λ f. f.items) files.now) → Answers held c a.status a.text.items) }
+    ensures { IfOk result (λ a. (held : Holding) (c : Command) → AsksFor request.entry c →
+        AreLoaded held (files_of c) (map (λ f. f.items) files.now) →
+        Answers held c a.status a.text.items) }
 {
     match accept(alloc, files) {
         Ok(Accepted { tree, .. }) => accepted(alloc, request, tree),
@@ -66,7 +69,9 @@ pub(crate) fn answer_to(
 #[tactic(auto, using(crate::proofs::AnswerLaws::answers_checked))]
 fn accepted(alloc: Global, request: Request<'_>, tree: ProgramTree) -> Result<Answer, Memory>
     requires { IsForProgram request }
-    ensures { IfOk result (λ a. (held : Holding) (c : Command) (files : List (List ℕ)) → AsksFor request.entry c → AreLoaded held (files_of c) files → Accepts files (map item_of tree.items)
+    ensures { IfOk result (λ a. (held : Holding) (c : Command) (files : List (List ℕ)) →
+        AsksFor request.entry c → AreLoaded held (files_of c) files →
+        Accepts files (map item_of tree.items)
         → tree.files ≡ length files → Answers held c a.status a.text.items) }
 {
     match request {
@@ -86,7 +91,9 @@ fn checked(alloc: Global) -> Result<Answer, Memory>
 
 /// The run of a program that prints texts.
 fn run(alloc: Global, running: Running<'_>, tree: ProgramTree) -> Result<Answer, Memory>
-    ensures { IfOk result (λ a. (held : Holding) (c : Command) (files : List (List ℕ)) → AsksForRun running.entry c → AreLoaded held (files_of c) files → Accepts files (map item_of tree.items)
+    ensures { IfOk result (λ a. (held : Holding) (c : Command) (files : List (List ℕ)) →
+        AsksForRun running.entry c → AreLoaded held (files_of c) files →
+        Accepts files (map item_of tree.items)
         → tree.files ≡ length files → Answers held c a.status a.text.items) }
 {
     let tree = tree.get();
@@ -96,7 +103,8 @@ fn run(alloc: Global, running: Running<'_>, tree: ProgramTree) -> Result<Answer,
 
 fn refused(alloc: Global, names: &[String], refusal: Refusal) -> Result<Answer, Memory>
     requires { IsSome (rule_text_of refusal.rule.0) }
-    ensures { IfOk result (λ a. (a.status ≡ 1) × (a.text.items ≡ refusal_line (map string_bytes names.now) refusal)) }
+    ensures { IfOk result (λ a. (a.status ≡ 1) ×
+        (a.text.items ≡ refusal_line (map string_bytes names.now) refusal)) }
 {
     let text = refusal_text(alloc, names, refusal)?;
     Ok(Answer { status: 1, text })
@@ -104,7 +112,8 @@ fn refused(alloc: Global, names: &[String], refusal: Refusal) -> Result<Answer, 
 
 /// The refusal of the file of this number, which is too large.
 pub(crate) fn too_large(alloc: Global, names: &[String], file: u32) -> Result<Answer, Memory>
-    ensures { IfOk result (λ a. (a.status ≡ 1) × (a.text.items ≡ refusal_line (map string_bytes names.now) (refusal 2 (first_place file)))) }
+    ensures { IfOk result (λ a. (a.status ≡ 1) ×
+        (a.text.items ≡ refusal_line (map string_bytes names.now) (refusal 2 (first_place file)))) }
 {
     let place = Place {
         file,
@@ -124,7 +133,8 @@ pub(crate) fn too_large(alloc: Global, names: &[String], file: u32) -> Result<An
 /// The run of a program in so many files that prints these texts and has no cells.
 fn run_texts(alloc: Global, texts: &[Text], steps: u64, files: u32) -> Result<Answer, Memory>
     ensures status { IfOk result (λ a. a.status ≡ ending_status (mean texts.now steps).ending) }
-    ensures text { IfOk result (λ a. (heap : Bool) → a.text.items ≡ run_text (mean texts.now steps) heap files) }
+    ensures text { IfOk result (λ a. (heap : Bool) →
+        a.text.items ≡ run_text (mean texts.now steps) heap files) }
 {
     if steps == 0 {
         let text = ending_text(alloc, Ending::Steps, files, 0, 0, 0)?;

@@ -6,7 +6,8 @@ ghost use Rattle.verse_outside.specs.Held.{with_more};
 ghost use Rattle.verse_words.specs.Words.{AreFiles, Command, files_of, Says};
 ghost use Rattle.verse_words.specs.Requests.{AsksFor, names_of};
 ghost use Rattle.verse_exec.specs.Leaving.{Leaves};
-ghost use Rattle.verse_top.specs.Answers.{Answered, Begins, CutShort, Finishes, NoMemory, NotRead, Replies, Told, words_line};
+ghost use Rattle.verse_top.specs.Answers.{Answered, Begins, CutShort, Finishes, NoMemory, NotRead};
+ghost use Rattle.verse_top.specs.Answers.{Replies, Told, words_line};
 ghost use Rattle.verse_top.specs.Loading.{AreHeld, IsAbsent};
 ghost use Rattle.verse_top.specs.Programs.{IsForProgram};
 
@@ -25,20 +26,36 @@ use verse_words::commands::{Request, find_request};
 /// it ends. What is written goes to `out` alone, refusals included.
 pub fn verse<F: Files, S: Sink>(alloc: Global, words: &[String], files: &mut F, out: &mut S) -> u8
     // The command's answer over what its files hold, and its whole text.
-    ensures answered { result ≢ 2 → result ≢ 5 → result ≢ 6 → result ≢ 7 → Answered (map string_bytes words.now) (F.holds files.old) result (S.taken out.old) (S.taken out.new) }
+    ensures answered { result ≢ 2 → result ≢ 5 → result ≢ 6 → result ≢ 7 →
+        Answered (map string_bytes words.now) (F.holds files.old) result (S.taken out.old)
+        (S.taken out.new) }
     // 2 exactly where the words are no command, unless the sink fails.
-    ensures wrong_words { result ≡ 2 → ((c : Command) → Says (map string_bytes words.now) c → ⊥) × (S.taken out.new ≡ with_more (S.taken out.old) words_line) }
-    ensures no_command { ((c : Command) → Says (map string_bytes words.now) c → ⊥) → (result ≡ 2) ⊎ (result ≡ 7) }
+    ensures wrong_words { result ≡ 2 → ((c : Command) → Says (map string_bytes words.now) c → ⊥) ×
+        (S.taken out.new ≡ with_more (S.taken out.old) words_line) }
+    ensures no_command { ((c : Command) → Says (map string_bytes words.now) c → ⊥) →
+        (result ≡ 2) ⊎ (result ≡ 7) }
     // 6 only for a fault of the files or the first file that is absent, and always for an absent one.
-    ensures not_read { result ≡ 6 → NotRead (map string_bytes words.now) (F.holds files.old) (F.faults files.old) (F.faults files.new) (S.taken out.old) (S.taken out.new) }
-    ensures absent { (c : Command) (name : List ℕ) → Says (map string_bytes words.now) c → IsAbsent (F.holds files.old) (files_of c) name → (result ≡ 6) ⊎ (result ≡ 5) ⊎ (result ≡ 7) }
+    ensures not_read { result ≡ 6 →
+        NotRead (map string_bytes words.now) (F.holds files.old) (F.faults files.old)
+        (F.faults files.new) (S.taken out.old) (S.taken out.new) }
+    ensures absent { (c : Command) (name : List ℕ) → Says (map string_bytes words.now) c →
+        IsAbsent (F.holds files.old) (files_of c) name →
+        (result ≡ 6) ⊎ (result ≡ 5) ⊎ (result ≡ 7) }
     // 5 is want of memory; 7 only for a fault of the sink, which took a prefix.
-    ensures memory { result ≡ 5 → NoMemory (map string_bytes words.now) (F.holds files.old) (S.taken out.old) (S.taken out.new) }
-    ensures cut_short { result ≡ 7 → CutShort (map string_bytes words.now) (F.holds files.old) (F.faults files.old) (F.faults files.new) (S.faults out.old) (S.faults out.new) (S.taken out.old) (S.taken out.new) }
+    ensures memory { result ≡ 5 →
+        NoMemory (map string_bytes words.now) (F.holds files.old) (S.taken out.old)
+        (S.taken out.new) }
+    ensures cut_short { result ≡ 7 →
+        CutShort (map string_bytes words.now) (F.holds files.old) (F.faults files.old)
+        (F.faults files.new) (S.faults out.old) (S.faults out.new) (S.taken out.old)
+        (S.taken out.new) }
     // With no fault, files that are held have their whole answer, or want of memory.
-    ensures complete { (c : Command) → Says (map string_bytes words.now) c → AreHeld (F.holds files.old) (files_of c)
-        → (Rose (F.faults files.old) (F.faults files.new) → ⊥) → (Rose (S.faults out.old) (S.faults out.new) → ⊥)
-        → (result ≡ 5) ⊎ Answered (map string_bytes words.now) (F.holds files.old) result (S.taken out.old) (S.taken out.new) }
+    ensures complete { (c : Command) → Says (map string_bytes words.now) c →
+        AreHeld (F.holds files.old) (files_of c)
+        → (Rose (F.faults files.old) (F.faults files.new) → ⊥) →
+        (Rose (S.faults out.old) (S.faults out.new) → ⊥)
+        → (result ≡ 5) ⊎ Answered (map string_bytes words.now) (F.holds files.old) result
+        (S.taken out.old) (S.taken out.new) }
     ensures same_files { F.holds files.new ≡ F.holds files.old }
     ensures file_faults { F.faults files.old ≤ F.faults files.new }
     ensures sink_faults { S.faults out.old ≤ S.faults out.new }
@@ -53,7 +70,9 @@ pub fn verse<F: Files, S: Sink>(alloc: Global, words: &[String], files: &mut F, 
 fn tell<F: Files, S: Sink>(alloc: Global, request: Request<'_>, files: &mut F, out: &mut S) -> u8
     requires files { AreFiles (names_of request) }
     requires asks { (c : Command) × AsksFor request c }
-    ensures told { (c : Command) → AsksFor request.entry c → Told c (F.holds files.old) (F.faults files.old) (F.faults files.new) (S.faults out.old) (S.faults out.new) result (S.taken out.old) (S.taken out.new) }
+    ensures told { (c : Command) → AsksFor request.entry c →
+        Told c (F.holds files.old) (F.faults files.old) (F.faults files.new) (S.faults out.old)
+        (S.faults out.new) result (S.taken out.old) (S.taken out.new) }
     ensures same_files { F.holds files.new ≡ F.holds files.old }
     ensures file_faults { F.faults files.old ≤ F.faults files.new }
     ensures sink_faults { S.faults out.old ≤ S.faults out.new }
@@ -74,7 +93,10 @@ fn answer<F: Files, S: Sink>(
 ) -> Result<u8, Stop>
     requires files { AreFiles (names_of request) }
     requires asks { (c : Command) × AsksFor request c }
-    ensures leaves { (c : Command) → AsksFor request.entry c → Leaves (Replies c (F.holds files.old) (F.faults files.old) (F.faults files.new)) (Begins (F.holds files.old) c) (S.faults out.old) (S.faults out.new) (S.taken out.old) (S.taken out.new) result }
+    ensures leaves { (c : Command) → AsksFor request.entry c →
+        Leaves (Replies c (F.holds files.old) (F.faults files.old) (F.faults files.new))
+        (Begins (F.holds files.old) c) (S.faults out.old) (S.faults out.new) (S.taken out.old)
+        (S.taken out.new) result }
     ensures same_files { F.holds files.new ≡ F.holds files.old }
     ensures file_faults { F.faults files.old ≤ F.faults files.new }
     ensures sink_faults { S.faults out.old ≤ S.faults out.new }
@@ -94,7 +116,10 @@ fn answer_whole<F: Files, S: Sink>(
 ) -> Result<u8, Stop>
     requires program { IsForProgram request }
     requires files { AreFiles (names_of request) }
-    ensures leaves { (c : Command) → AsksFor request.entry c → Leaves (Replies c (F.holds files.old) (F.faults files.old) (F.faults files.new)) (Begins (F.holds files.old) c) (S.faults out.old) (S.faults out.new) (S.taken out.old) (S.taken out.new) result }
+    ensures leaves { (c : Command) → AsksFor request.entry c →
+        Leaves (Replies c (F.holds files.old) (F.faults files.old) (F.faults files.new))
+        (Begins (F.holds files.old) c) (S.faults out.old) (S.faults out.new) (S.taken out.old)
+        (S.taken out.new) result }
     ensures same_files { F.holds files.new ≡ F.holds files.old }
     ensures file_faults { F.faults files.old ≤ F.faults files.new }
     ensures sink_faults { S.faults out.old ≤ S.faults out.new }
@@ -105,7 +130,8 @@ fn answer_whole<F: Files, S: Sink>(
 
 /// Writes the whole text and answers the status, or 7.
 fn finish<S: Sink>(out: &mut S, text: &[u8], status: u8) -> u8
-    ensures either { Finishes status text.now result (S.faults out.old) (S.faults out.new) (S.taken out.old) (S.taken out.new) }
+    ensures either { Finishes status text.now result (S.faults out.old) (S.faults out.new)
+        (S.taken out.old) (S.taken out.new) }
     ensures later { S.faults out.old ≤ S.faults out.new }
 {
     match write_all(out, text) {
@@ -118,7 +144,9 @@ fn finish<S: Sink>(out: &mut S, text: &[u8], status: u8) -> u8
 fn reply<F: Files>(alloc: Global, request: Request<'_>, files: &mut F) -> Result<Answer, Memory>
     requires program { IsForProgram request }
     requires files { AreFiles (names_of request) }
-    ensures replies { IfOk result (λ a. (c : Command) → AsksFor request.entry c → Replies c (F.holds files.old) (F.faults files.old) (F.faults files.new) a.status a.text.items) }
+    ensures replies { IfOk result (λ a. (c : Command) → AsksFor request.entry c →
+        Replies c (F.holds files.old) (F.faults files.old)
+        (F.faults files.new) a.status a.text.items) }
     ensures same { F.holds files.new ≡ F.holds files.old }
     ensures later { F.faults files.old ≤ F.faults files.new }
 {

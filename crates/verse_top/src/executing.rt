@@ -26,7 +26,10 @@ pub(crate) fn execute<F: Files, S: Sink>(
     out: &mut S,
 ) -> Result<u8, Stop>
     requires { (c : Command) × AsksForExec running c }
-    ensures leaves { (c : Command) → AsksForExec running.entry c → Leaves (Replies c (F.holds files.old) (F.faults files.old) (F.faults files.new)) (Begins (F.holds files.old) c) (S.faults out.old) (S.faults out.new) (S.taken out.old) (S.taken out.new) result }
+    ensures leaves { (c : Command) → AsksForExec running.entry c →
+        Leaves (Replies c (F.holds files.old) (F.faults files.old) (F.faults files.new))
+        (Begins (F.holds files.old) c) (S.faults out.old) (S.faults out.new) (S.taken out.old)
+        (S.taken out.new) result }
     ensures same_files { F.holds files.new ≡ F.holds files.old }
     ensures file_faults { F.faults files.old ≤ F.faults files.new }
     ensures sink_faults { S.faults out.old ≤ S.faults out.new }
@@ -51,7 +54,10 @@ fn run_image<S: Sink>(
 ) -> Result<u8, Stop>
     requires within { IsWithin running }
     requires lists { (ns : List ℤ) × Inputs (option_copied running.inputs) ns }
-    ensures leaves { (ns : List ℤ) → Inputs (option_copied running.entry.inputs) ns → Leaves (Executes bytes.now (options_with running.entry ns)) (ExecutesSoFar bytes.now (options_with running.entry ns)) (S.faults out.old) (S.faults out.new) (S.taken out.old) (S.taken out.new) result }
+    ensures leaves { (ns : List ℤ) → Inputs (option_copied running.entry.inputs) ns →
+        Leaves (Executes bytes.now (options_with running.entry ns))
+        (ExecutesSoFar bytes.now (options_with running.entry ns)) (S.faults out.old)
+        (S.faults out.new) (S.taken out.old) (S.taken out.new) result }
     ensures later { S.faults out.old ≤ S.faults out.new }
 {
     let inputs = running.ints(alloc)?;

@@ -26,7 +26,8 @@ pub(crate) fn load_all<F: Files>(
     files: &mut F,
 ) -> Result<Loading, Memory>
     requires { length names.now ≤ 16 }
-    ensures comes { IfOk result (λ l. Comes (F.holds files.old) (F.faults files.old) (F.faults files.new) (map string_bytes names.now) l) }
+    ensures comes { IfOk result (λ l. Comes (F.holds files.old) (F.faults files.old)
+        (F.faults files.new) (map string_bytes names.now) l) }
     ensures same { F.holds files.new ≡ F.holds files.old }
     ensures later { F.faults files.old ≤ F.faults files.new }
 {

@@ -13,7 +13,8 @@ use verse_outside::sinks::{Sink, write_all};
 
 /// Writes the text and answers the status.
 pub(crate) fn write_answer<S: Sink>(answer: Answer, out: &mut S) -> Result<u8, Stop>
-    ensures leaves { Leaves (IsAnswer answer.status answer.text.items) IsNothing (S.faults out.old) (S.faults out.new) (S.taken out.old) (S.taken out.new) result }
+    ensures leaves { Leaves (IsAnswer answer.status answer.text.items) IsNothing (S.faults out.old)
+        (S.faults out.new) (S.taken out.old) (S.taken out.new) result }
     ensures later { S.faults out.old ≤ S.faults out.new }
 {
     write_all(out, answer.text.as_slice())?;

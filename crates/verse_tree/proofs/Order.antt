@@ -1,13 +1,22 @@
 -- What is numbered has the numbers from the first on, and is the same but for them.
 use Rattle.std.proofs.Common.{◌≡◌, ℕ, suc, zero, ◌+◌, List, [], ◌∷◌, ◌++◌, map, length, Option, Some, None, refl, sym, ap, ◌∙◌, arith}
 use Rattle.std.specs.List.{range_with_len}
-use Rattle.verse_tree.specs.Tree.{Written, Writtens, no_writtens, more_writtens, Tree, tree, Shape, Trees, no_trees, more_trees, Holes, no_holes, more_holes, Pairs, no_pairs, more_pairs, Givens, no_givens, more_givens}
+use Rattle.verse_tree.specs.Tree.{Written, Writtens, no_writtens, more_writtens, Tree, tree, Shape, Trees, no_trees, more_trees, Holes}
+use Rattle.verse_tree.specs.Tree.{no_holes, more_holes, Pairs, no_pairs, more_pairs, Givens, no_givens, more_givens}
 use Rattle.verse_tree.specs.Tree as t
 use Rattle.verse_tree.specs.ItemTree.{FieldTree, ParamTree, FunTree, MemberTree, ItemTree}
 use Rattle.verse_tree.specs.ItemTree as i
-use Rattle.verse_tree.specs.Numbering.{written_nodes, writtens_nodes, nodes, shape_nodes, trees_nodes, holes_nodes, pairs_nodes, givens_nodes, written_numbered, writtens_numbered, numbered, shape_numbered, trees_numbered, holes_numbered, pairs_numbered, givens_numbered, list_nodes, list_numbered, default_nodes, default_numbered, field_numbered, param_nodes, param_numbered, fun_numbered, member_nodes, member_numbered, item_nodes, item_numbered, items_nodes, items_numbered}
-use Rattle.verse_tree.specs.PostOrder.{Node, written_order, writtens_order, post_order, parts, trees_order, holes_order, pairs_order, givens_order, default_order, field_parts, param_order, params_order, fun_parts, member_order, members_order, item_order, items_order}
-use Rattle.verse_tree.specs.Numbers.{numbers, written_cleared, writtens_cleared, cleared, shape_cleared, trees_cleared, holes_cleared, pairs_cleared, givens_cleared, default_cleared, field_cleared, param_cleared, fun_cleared, member_cleared, item_cleared, NumberedInOrder, ProgramInOrder, NumbersAlone}
+use Rattle.verse_tree.specs.Numbering.{written_nodes, writtens_nodes, nodes, shape_nodes, trees_nodes, holes_nodes, pairs_nodes}
+use Rattle.verse_tree.specs.Numbering.{givens_nodes, written_numbered, writtens_numbered, numbered, shape_numbered, trees_numbered}
+use Rattle.verse_tree.specs.Numbering.{holes_numbered, pairs_numbered, givens_numbered, list_nodes, list_numbered, default_nodes}
+use Rattle.verse_tree.specs.Numbering.{default_numbered, field_numbered, param_nodes, param_numbered, fun_numbered, member_nodes}
+use Rattle.verse_tree.specs.Numbering.{member_numbered, item_nodes, item_numbered, items_nodes, items_numbered}
+use Rattle.verse_tree.specs.PostOrder.{Node, written_order, writtens_order, post_order, parts, trees_order, holes_order, pairs_order}
+use Rattle.verse_tree.specs.PostOrder.{givens_order, default_order, field_parts, param_order, params_order, fun_parts, member_order}
+use Rattle.verse_tree.specs.PostOrder.{members_order, item_order, items_order}
+use Rattle.verse_tree.specs.Numbers.{numbers, written_cleared, writtens_cleared, cleared, shape_cleared, trees_cleared, holes_cleared}
+use Rattle.verse_tree.specs.Numbers.{pairs_cleared, givens_cleared, default_cleared, field_cleared, param_cleared, fun_cleared}
+use Rattle.verse_tree.specs.Numbers.{member_cleared, item_cleared, NumberedInOrder, ProgramInOrder, NumbersAlone}
 
 counted : (n a b : ℕ) → range_with_len n (a + b) ≡ range_with_len n a ++ range_with_len (n + a) b
 counted n zero b =
@@ -23,10 +32,12 @@ numbers_append : (l m : List Node) → numbers (l ++ m) ≡ numbers l ++ numbers
 numbers_append [] m = refl
 numbers_append (x ∷ l) m = ap (λ k. x.number ∷ k) (numbers_append l m)
 
-both : (l m : List Node) (n a b : ℕ) → numbers l ≡ range_with_len n a → numbers m ≡ range_with_len (n + a) b → numbers (l ++ m) ≡ range_with_len n (a + b)
+both : (l m : List Node) (n a b : ℕ) → numbers l ≡ range_with_len n a → numbers m ≡ range_with_len (n + a) b →
+    numbers (l ++ m) ≡ range_with_len n (a + b)
 both l m n a b e f = numbers_append l m ∙ ap (λ k. k ++ numbers m) e ∙ ap (λ k. range_with_len n a ++ k) f ∙ sym (counted n a b)
 
-all_three : (l m k : List Node) (n a b c : ℕ) → numbers l ≡ range_with_len n a → numbers m ≡ range_with_len (n + a) b → numbers k ≡ range_with_len (n + a + b) c → numbers (l ++ m ++ k) ≡ range_with_len n (a + (b + c))
+all_three : (l m k : List Node) (n a b c : ℕ) → numbers l ≡ range_with_len n a → numbers m ≡ range_with_len (n + a) b →
+    numbers k ≡ range_with_len (n + a + b) c → numbers (l ++ m ++ k) ≡ range_with_len n (a + (b + c))
 all_three l m k n a b c e f g =
     let at : n + a + b ≡ n + (a + b) = omega arith in
     let all : (a + b) + c ≡ a + (b + c) = omega arith in
@@ -48,15 +59,18 @@ mutual
   written_in_order (t.Written.named number place name) next = refl
   written_in_order (t.Written.option w) next = written_in_order w next
   written_in_order (t.Written.array w) next = written_in_order w next
-  written_in_order (t.Written.map w v) next = both _ _ next (written_nodes w) (written_nodes v) (written_in_order w next) (written_in_order v (next + written_nodes w))
+  written_in_order (t.Written.map w v) next =
+      both _ _ next (written_nodes w) (written_nodes v) (written_in_order w next) (written_in_order v (next + written_nodes w))
   written_in_order (t.Written.tuple ws) next = writtens_in_order ws next
   written_in_order (t.Written.task w) next = written_in_order w next
   written_in_order (t.Written.event w) next = written_in_order w next
   written_in_order t.Written.bare_event next = refl
 
-  writtens_in_order : (ws : Writtens) (next : ℕ) → numbers (writtens_order (writtens_numbered ws next)) ≡ range_with_len next (writtens_nodes ws)
+  writtens_in_order : (ws : Writtens) (next : ℕ) →
+      numbers (writtens_order (writtens_numbered ws next)) ≡ range_with_len next (writtens_nodes ws)
   writtens_in_order no_writtens next = refl
-  writtens_in_order (more_writtens w ws) next = both _ _ next (written_nodes w) (writtens_nodes ws) (written_in_order w next) (writtens_in_order ws (next + written_nodes w))
+  writtens_in_order (more_writtens w ws) next =
+      both _ _ next (written_nodes w) (writtens_nodes ws) (written_in_order w next) (writtens_in_order ws (next + written_nodes w))
 
 mutual
   in_order : (s : Tree) (next : ℕ) → numbers (post_order (numbered s next)) ≡ range_with_len next (nodes s)
@@ -66,14 +80,19 @@ mutual
   shape_in_order (t.Shape.block ts) next = trees_in_order ts next
   shape_in_order (t.Shape.defer a) next = in_order a next
   shape_in_order (t.Shape.definition x a) next = in_order a next
-  shape_in_order (t.Shape.typed x w a) next = both _ _ next (written_nodes w) (nodes a) (written_in_order w next) (in_order a (next + written_nodes w))
-  shape_in_order (t.Shape.variable x w a) next = both _ _ next (written_nodes w) (nodes a) (written_in_order w next) (in_order a (next + written_nodes w))
+  shape_in_order (t.Shape.typed x w a) next =
+      both _ _ next (written_nodes w) (nodes a) (written_in_order w next) (in_order a (next + written_nodes w))
+  shape_in_order (t.Shape.variable x w a) next =
+      both _ _ next (written_nodes w) (nodes a) (written_in_order w next) (in_order a (next + written_nodes w))
   shape_in_order (t.Shape.assignment x a b) next = both _ _ next (nodes a) (nodes b) (in_order a next) (in_order b (next + nodes a))
   shape_in_order (t.Shape.returned a) next = in_order a next
   shape_in_order t.Shape.returned_unit next = refl
   shape_in_order t.Shape.break_form next = refl
-  shape_in_order (t.Shape.if_else ts a b) next = all_three _ _ _ next (trees_nodes ts) (nodes a) (nodes b) (trees_in_order ts next) (in_order a (next + trees_nodes ts)) (in_order b (next + trees_nodes ts + nodes a))
-  shape_in_order (t.Shape.if_alone ts a) next = both _ _ next (trees_nodes ts) (nodes a) (trees_in_order ts next) (in_order a (next + trees_nodes ts))
+  shape_in_order (t.Shape.if_else ts a b) next =
+      all_three _ _ _ next (trees_nodes ts) (nodes a) (nodes b) (trees_in_order ts next) (in_order a (next + trees_nodes ts))
+      (in_order b (next + trees_nodes ts + nodes a))
+  shape_in_order (t.Shape.if_alone ts a) next =
+      both _ _ next (trees_nodes ts) (nodes a) (trees_in_order ts next) (in_order a (next + trees_nodes ts))
   shape_in_order (t.Shape.chained x a b) next = both _ _ next (nodes a) (nodes b) (in_order a next) (in_order b (next + nodes a))
   shape_in_order (t.Shape.compared x a b) next = both _ _ next (nodes a) (nodes b) (in_order a next) (in_order b (next + nodes a))
   shape_in_order (t.Shape.negation a) next = in_order a next
@@ -98,7 +117,8 @@ mutual
   shape_in_order (t.Shape.instance x gs) next = givens_in_order gs next
   shape_in_order (t.Shape.event w) next = written_in_order w next
   shape_in_order t.Shape.bare_event next = refl
-  shape_in_order (t.Shape.for_form ts a) next = both _ _ next (trees_nodes ts) (nodes a) (trees_in_order ts next) (in_order a (next + trees_nodes ts))
+  shape_in_order (t.Shape.for_form ts a) next =
+      both _ _ next (trees_nodes ts) (nodes a) (trees_in_order ts next) (in_order a (next + trees_nodes ts))
   shape_in_order (t.Shape.loop_form a) next = in_order a next
   shape_in_order (t.Shape.block_form a) next = in_order a next
   shape_in_order (t.Shape.branch a) next = in_order a next
@@ -132,11 +152,14 @@ mutual
 
   pairs_in_order : (ps : Pairs) (next : ℕ) → numbers (pairs_order (pairs_numbered ps next)) ≡ range_with_len next (pairs_nodes ps)
   pairs_in_order no_pairs next = refl
-  pairs_in_order (more_pairs a b ps) next = both _ _ next (nodes a + nodes b) (pairs_nodes ps) (both _ _ next (nodes a) (nodes b) (in_order a next) (in_order b (next + nodes a))) (pairs_in_order ps (next + (nodes a + nodes b)))
+  pairs_in_order (more_pairs a b ps) next =
+      both _ _ next (nodes a + nodes b) (pairs_nodes ps) (both _ _ next (nodes a) (nodes b) (in_order a next) (in_order b (next + nodes a)))
+      (pairs_in_order ps (next + (nodes a + nodes b)))
 
   givens_in_order : (gs : Givens) (next : ℕ) → numbers (givens_order (givens_numbered gs next)) ≡ range_with_len next (givens_nodes gs)
   givens_in_order no_givens next = refl
-  givens_in_order (more_givens x a gs) next = both _ _ next (nodes a) (givens_nodes gs) (in_order a next) (givens_in_order gs (next + nodes a))
+  givens_in_order (more_givens x a gs) next =
+      both _ _ next (nodes a) (givens_nodes gs) (in_order a next) (givens_in_order gs (next + nodes a))
 
 mutual
   written_kept : (w : Written) (next : ℕ) → written_cleared (written_numbered w next) ≡ written_cleared w
@@ -148,7 +171,8 @@ mutual
   written_kept (t.Written.named number place name) next = refl
   written_kept (t.Written.option w) next = ap (λ (k : Written). t.Written.option k) (written_kept w next)
   written_kept (t.Written.array w) next = ap (λ (k : Written). t.Written.array k) (written_kept w next)
-  written_kept (t.Written.map w v) next = ap_two (λ (k : Written) (l : Written). t.Written.map k l) (written_kept w next) (written_kept v (next + written_nodes w))
+  written_kept (t.Written.map w v) next = ap_two (λ (k : Written) (l : Written). t.Written.map k l) (written_kept w next)
+      (written_kept v (next + written_nodes w))
   written_kept (t.Written.tuple ws) next = ap (λ (k : Writtens). t.Written.tuple k) (writtens_kept ws next)
   written_kept (t.Written.task w) next = ap (λ (k : Written). t.Written.task k) (written_kept w next)
   written_kept (t.Written.event w) next = ap (λ (k : Written). t.Written.event k) (written_kept w next)
@@ -166,16 +190,23 @@ mutual
   shape_kept (t.Shape.block ts) next = ap (λ (k : Trees). t.Shape.block k) (trees_kept ts next)
   shape_kept (t.Shape.defer a) next = ap (λ (k : Tree). t.Shape.defer k) (kept a next)
   shape_kept (t.Shape.definition x a) next = ap (λ (k : Tree). t.Shape.definition x k) (kept a next)
-  shape_kept (t.Shape.typed x w a) next = ap_two (λ (k : Written) (l : Tree). t.Shape.typed x k l) (written_kept w next) (kept a (next + written_nodes w))
-  shape_kept (t.Shape.variable x w a) next = ap_two (λ (k : Written) (l : Tree). t.Shape.variable x k l) (written_kept w next) (kept a (next + written_nodes w))
-  shape_kept (t.Shape.assignment x a b) next = ap_two (λ (k : Tree) (l : Tree). t.Shape.assignment x k l) (kept a next) (kept b (next + nodes a))
+  shape_kept (t.Shape.typed x w a) next = ap_two (λ (k : Written) (l : Tree). t.Shape.typed x k l) (written_kept w next)
+      (kept a (next + written_nodes w))
+  shape_kept (t.Shape.variable x w a) next =
+      ap_two (λ (k : Written) (l : Tree). t.Shape.variable x k l) (written_kept w next) (kept a (next + written_nodes w))
+  shape_kept (t.Shape.assignment x a b) next =
+      ap_two (λ (k : Tree) (l : Tree). t.Shape.assignment x k l) (kept a next) (kept b (next + nodes a))
   shape_kept (t.Shape.returned a) next = ap (λ (k : Tree). t.Shape.returned k) (kept a next)
   shape_kept t.Shape.returned_unit next = refl
   shape_kept t.Shape.break_form next = refl
-  shape_kept (t.Shape.if_else ts a b) next = ap_three (λ (k : Trees) (l : Tree) (m : Tree). t.Shape.if_else k l m) (trees_kept ts next) (kept a (next + trees_nodes ts)) (kept b (next + trees_nodes ts + nodes a))
-  shape_kept (t.Shape.if_alone ts a) next = ap_two (λ (k : Trees) (l : Tree). t.Shape.if_alone k l) (trees_kept ts next) (kept a (next + trees_nodes ts))
+  shape_kept (t.Shape.if_else ts a b) next =
+      ap_three (λ (k : Trees) (l : Tree) (m : Tree). t.Shape.if_else k l m) (trees_kept ts next) (kept a (next + trees_nodes ts))
+      (kept b (next + trees_nodes ts + nodes a))
+  shape_kept (t.Shape.if_alone ts a) next =
+      ap_two (λ (k : Trees) (l : Tree). t.Shape.if_alone k l) (trees_kept ts next) (kept a (next + trees_nodes ts))
   shape_kept (t.Shape.chained x a b) next = ap_two (λ (k : Tree) (l : Tree). t.Shape.chained x k l) (kept a next) (kept b (next + nodes a))
-  shape_kept (t.Shape.compared x a b) next = ap_two (λ (k : Tree) (l : Tree). t.Shape.compared x k l) (kept a next) (kept b (next + nodes a))
+  shape_kept (t.Shape.compared x a b) next =
+      ap_two (λ (k : Tree) (l : Tree). t.Shape.compared x k l) (kept a next) (kept b (next + nodes a))
   shape_kept (t.Shape.negation a) next = ap (λ (k : Tree). t.Shape.negation k) (kept a next)
   shape_kept (t.Shape.minus a) next = ap (λ (k : Tree). t.Shape.minus k) (kept a next)
   shape_kept (t.Shape.call a ts) next = ap_two (λ (k : Tree) (l : Trees). t.Shape.call k l) (kept a next) (trees_kept ts (next + nodes a))
@@ -198,7 +229,8 @@ mutual
   shape_kept (t.Shape.instance x gs) next = ap (λ (k : Givens). t.Shape.instance x k) (givens_kept gs next)
   shape_kept (t.Shape.event w) next = ap (λ (k : Written). t.Shape.event k) (written_kept w next)
   shape_kept t.Shape.bare_event next = refl
-  shape_kept (t.Shape.for_form ts a) next = ap_two (λ (k : Trees) (l : Tree). t.Shape.for_form k l) (trees_kept ts next) (kept a (next + trees_nodes ts))
+  shape_kept (t.Shape.for_form ts a) next =
+      ap_two (λ (k : Trees) (l : Tree). t.Shape.for_form k l) (trees_kept ts next) (kept a (next + trees_nodes ts))
   shape_kept (t.Shape.loop_form a) next = ap (λ (k : Tree). t.Shape.loop_form k) (kept a next)
   shape_kept (t.Shape.block_form a) next = ap (λ (k : Tree). t.Shape.block_form k) (kept a next)
   shape_kept (t.Shape.branch a) next = ap (λ (k : Tree). t.Shape.branch k) (kept a next)
@@ -232,7 +264,8 @@ mutual
 
   pairs_kept : (ps : Pairs) (next : ℕ) → pairs_cleared (pairs_numbered ps next) ≡ pairs_cleared ps
   pairs_kept no_pairs next = refl
-  pairs_kept (more_pairs a b ps) next = ap_three more_pairs (kept a next) (kept b (next + nodes a)) (pairs_kept ps (next + (nodes a + nodes b)))
+  pairs_kept (more_pairs a b ps) next = ap_three more_pairs (kept a next) (kept b (next + nodes a))
+      (pairs_kept ps (next + (nodes a + nodes b)))
 
   givens_kept : (gs : Givens) (next : ℕ) → givens_cleared (givens_numbered gs next) ≡ givens_cleared gs
   givens_kept no_givens next = refl
@@ -240,7 +273,8 @@ mutual
 
 -- lists of what is in order itself
 module _ {X : Type 0} (step : X → ℕ → X) (size : X → ℕ) where
-  list_kept : {Y : Type 0} (clear : X → Y) → ((x : X) (next : ℕ) → clear (step x next) ≡ clear x) → (xs : List X) (next : ℕ) → map clear (list_numbered step size xs next) ≡ map clear xs
+  list_kept : {Y : Type 0} (clear : X → Y) → ((x : X) (next : ℕ) → clear (step x next) ≡ clear x) → (xs : List X) (next : ℕ) →
+      map clear (list_numbered step size xs next) ≡ map clear xs
   list_kept clear h [] next = refl
   list_kept clear h (x ∷ xs) next = ap_two (λ k l. k ∷ l) (h x next) (list_kept clear h xs (next + size x))
 
@@ -248,38 +282,50 @@ default_in_order : (o : Option Tree) (next : ℕ) → numbers (default_order (de
 default_in_order None next = refl
 default_in_order (Some a) next = in_order a next
 
-field_in_order : (f : FieldTree) (next : ℕ) → numbers (field_parts (field_numbered f next)) ≡ range_with_len next (written_nodes f.written + default_nodes f.default)
-field_in_order f next = both _ _ next (written_nodes f.written) (default_nodes f.default) (written_in_order f.written next) (default_in_order f.default (next + written_nodes f.written))
+field_in_order : (f : FieldTree) (next : ℕ) →
+    numbers (field_parts (field_numbered f next)) ≡ range_with_len next (written_nodes f.written + default_nodes f.default)
+field_in_order f next = both _ _ next (written_nodes f.written) (default_nodes f.default) (written_in_order f.written next)
+    (default_in_order f.default (next + written_nodes f.written))
 
 param_in_order : (p : ParamTree) (next : ℕ) → numbers (param_order (param_numbered p next)) ≡ range_with_len next (param_nodes p)
 param_in_order p next = both _ _ next (written_nodes p.written) 1 (written_in_order p.written next) refl
 
-params_in_order : (ps : List ParamTree) (next : ℕ) → numbers (params_order (list_numbered param_numbered param_nodes ps next)) ≡ range_with_len next (list_nodes param_nodes ps)
+params_in_order : (ps : List ParamTree) (next : ℕ) → numbers (params_order (list_numbered param_numbered param_nodes ps next)) ≡
+    range_with_len next (list_nodes param_nodes ps)
 params_in_order [] next = refl
-params_in_order (p ∷ ps) next = both _ _ next (param_nodes p) (list_nodes param_nodes ps) (param_in_order p next) (params_in_order ps (next + param_nodes p))
+params_in_order (p ∷ ps) next = both _ _ next (param_nodes p) (list_nodes param_nodes ps) (param_in_order p next)
+    (params_in_order ps (next + param_nodes p))
 
-fun_in_order : (f : FunTree) (next : ℕ) → numbers (fun_parts (fun_numbered f next)) ≡ range_with_len next (list_nodes param_nodes f.params + (written_nodes f.written + nodes f.body))
+fun_in_order : (f : FunTree) (next : ℕ) → numbers (fun_parts (fun_numbered f next)) ≡
+    range_with_len next (list_nodes param_nodes f.params + (written_nodes f.written + nodes f.body))
 fun_in_order f next =
     let behind = next + list_nodes param_nodes f.params in
-    all_three _ _ _ next (list_nodes param_nodes f.params) (written_nodes f.written) (nodes f.body) (params_in_order f.params next) (written_in_order f.written behind) (in_order f.body (behind + written_nodes f.written))
+    all_three _ _ _ next (list_nodes param_nodes f.params) (written_nodes f.written) (nodes f.body) (params_in_order f.params next)
+    (written_in_order f.written behind) (in_order f.body (behind + written_nodes f.written))
 
 member_in_order : (m : MemberTree) (next : ℕ) → numbers (member_order (member_numbered m next)) ≡ range_with_len next (member_nodes m)
-member_in_order (i.MemberTree.field f) next = both _ _ next (written_nodes f.written + default_nodes f.default) 1 (field_in_order f next) refl
-member_in_order (i.MemberTree.method f) next = both _ _ next (list_nodes param_nodes f.params + (written_nodes f.written + nodes f.body)) 1 (fun_in_order f next) refl
+member_in_order (i.MemberTree.field f) next =
+    both _ _ next (written_nodes f.written + default_nodes f.default) 1 (field_in_order f next) refl
+member_in_order (i.MemberTree.method f) next =
+    both _ _ next (list_nodes param_nodes f.params + (written_nodes f.written + nodes f.body)) 1 (fun_in_order f next) refl
 
-members_in_order : (ms : List MemberTree) (next : ℕ) → numbers (members_order (list_numbered member_numbered member_nodes ms next)) ≡ range_with_len next (list_nodes member_nodes ms)
+members_in_order : (ms : List MemberTree) (next : ℕ) → numbers (members_order (list_numbered member_numbered member_nodes ms next)) ≡
+    range_with_len next (list_nodes member_nodes ms)
 members_in_order [] next = refl
-members_in_order (m ∷ ms) next = both _ _ next (member_nodes m) (list_nodes member_nodes ms) (member_in_order m next) (members_in_order ms (next + member_nodes m))
+members_in_order (m ∷ ms) next = both _ _ next (member_nodes m) (list_nodes member_nodes ms) (member_in_order m next)
+    (members_in_order ms (next + member_nodes m))
 
 item_in_order : (x : ItemTree) (next : ℕ) → numbers (item_order (item_numbered x next)) ≡ range_with_len next (item_nodes x)
 item_in_order (i.ItemTree.using u) next = refl
 item_in_order (i.ItemTree.enumeration e) next = refl
 item_in_order (i.ItemTree.class c) next = both _ _ next (list_nodes member_nodes c.members) 1 (members_in_order c.members next) refl
-item_in_order (i.ItemTree.function f) next = both _ _ next (list_nodes param_nodes f.params + (written_nodes f.written + nodes f.body)) 1 (fun_in_order f next) refl
+item_in_order (i.ItemTree.function f) next =
+    both _ _ next (list_nodes param_nodes f.params + (written_nodes f.written + nodes f.body)) 1 (fun_in_order f next) refl
 
 pub items_in_order : NumberedInOrder
 items_in_order [] next = refl
-items_in_order (x ∷ xs) next = both _ _ next (item_nodes x) (items_nodes xs) (item_in_order x next) (items_in_order xs (next + item_nodes x))
+items_in_order (x ∷ xs) next = both _ _ next (item_nodes x) (items_nodes xs) (item_in_order x next)
+    (items_in_order xs (next + item_nodes x))
 
 numbers_length : (ns : List Node) → length (numbers ns) ≡ length ns
 numbers_length [] = refl
@@ -293,7 +339,8 @@ pub program_in_order : ProgramInOrder
 program_in_order items =
     let numbered_items = items_numbered items 0 in
     let before : numbers (items_order numbered_items) ≡ range_with_len 0 (items_nodes items) = items_in_order items 0 in
-    let last : length (items_order numbered_items) ≡ items_nodes items = sym (numbers_length (items_order numbered_items)) ∙ ap length before ∙ range_length 0 (items_nodes items) in
+    let last : length (items_order numbered_items) ≡ items_nodes items =
+    sym (numbers_length (items_order numbered_items)) ∙ ap length before ∙ range_length 0 (items_nodes items) in
     let behind : items_nodes items ≡ 0 + items_nodes items = omega arith in
     both _ _ 0 (items_nodes items) 1 before (ap (λ (n : ℕ). n ∷ []) (last ∙ behind))
 
@@ -302,7 +349,8 @@ default_kept None next = refl
 default_kept (Some a) next = ap Some (kept a next)
 
 field_kept : (f : FieldTree) (next : ℕ) → field_cleared (field_numbered f next) ≡ field_cleared f
-field_kept f next = ap_two (λ (w : Written) (d : Option Tree). record f { number = 0; written = w; default = d }) (written_kept f.written next) (default_kept f.default (next + written_nodes f.written))
+field_kept f next = ap_two (λ (w : Written) (d : Option Tree). record f { number = 0; written = w; default = d })
+    (written_kept f.written next) (default_kept f.default (next + written_nodes f.written))
 
 param_kept : (p : ParamTree) (next : ℕ) → param_cleared (param_numbered p next) ≡ param_cleared p
 param_kept p next = ap (λ (w : Written). record p { number = 0; written = w }) (written_kept p.written next)
@@ -320,7 +368,8 @@ member_kept (i.MemberTree.method f) next = ap i.MemberTree.method (fun_kept f ne
 item_kept : (x : ItemTree) (next : ℕ) → item_cleared (item_numbered x next) ≡ item_cleared x
 item_kept (i.ItemTree.using u) next = refl
 item_kept (i.ItemTree.enumeration e) next = refl
-item_kept (i.ItemTree.class c) next = ap (λ (ms : List MemberTree). i.ItemTree.class (record c { number = 0; members = ms })) (list_kept member_numbered member_nodes member_cleared member_kept c.members next)
+item_kept (i.ItemTree.class c) next = ap (λ (ms : List MemberTree). i.ItemTree.class (record c { number = 0; members = ms }))
+    (list_kept member_numbered member_nodes member_cleared member_kept c.members next)
 item_kept (i.ItemTree.function f) next = ap i.ItemTree.function (fun_kept f next)
 
 pub items_kept : NumbersAlone

@@ -1,7 +1,8 @@
 -- What an item of the code stands for.
 use Rattle.std.specs.Prelude.{List, map, Option}
 use Rattle.std.specs.Option.{option_map}
-use Rattle.verse_tree.specs.ItemTree.{SpecTree, UsingTree, EnumTree, FieldTree, ParamTree, FunTree, MemberTree, field, method, ClassTree, ItemTree, using, enumeration, class, function}
+use Rattle.verse_tree.specs.ItemTree.{SpecTree, UsingTree, EnumTree, FieldTree, ParamTree, FunTree, MemberTree, field, method, ClassTree}
+use Rattle.verse_tree.specs.ItemTree.{ItemTree, using, enumeration, class, function}
 use Rattle.verse_tree.specs.View.{written_of, tree_of}
 use Rattle.verse_tree.specs.declared.items.Spec.{Spec}
 use Rattle.verse_tree.specs.declared.items.Using.{Using}

@@ -1,6 +1,7 @@
 -- How the nodes of a program are numbered: parts before the whole, and from left to right.
 use Rattle.std.specs.Prelude.{ℕ, ◌+◌, List, [], ◌∷◌, Option, Some, None}
-use Rattle.verse_tree.specs.Tree.{Bytes, Written, Writtens, no_writtens, more_writtens, Tree, tree, Shape, Trees, no_trees, more_trees, Holes, no_holes, more_holes, Pairs, no_pairs, more_pairs, Givens, no_givens, more_givens}
+use Rattle.verse_tree.specs.Tree.{Bytes, Written, Writtens, no_writtens, more_writtens, Tree, tree, Shape, Trees, no_trees, more_trees}
+use Rattle.verse_tree.specs.Tree.{Holes, no_holes, more_holes, Pairs, no_pairs, more_pairs, Givens, no_givens, more_givens}
 use Rattle.verse_tree.specs.Tree as t
 use Rattle.verse_tree.specs.ItemTree.{UsingTree, EnumTree, FieldTree, ParamTree, FunTree, MemberTree, ClassTree, ItemTree}
 use Rattle.verse_tree.specs.ItemTree as i
@@ -144,7 +145,8 @@ abbrev mutual
   shape_numbered (t.Shape.returned a) next = t.Shape.returned (numbered a next)
   shape_numbered t.Shape.returned_unit next = t.Shape.returned_unit
   shape_numbered t.Shape.break_form next = t.Shape.break_form
-  shape_numbered (t.Shape.if_else ts a b) next = t.Shape.if_else (trees_numbered ts next) (numbered a (next + trees_nodes ts)) (numbered b (next + trees_nodes ts + nodes a))
+  shape_numbered (t.Shape.if_else ts a b) next =
+      t.Shape.if_else (trees_numbered ts next) (numbered a (next + trees_nodes ts)) (numbered b (next + trees_nodes ts + nodes a))
   shape_numbered (t.Shape.if_alone ts a) next = t.Shape.if_alone (trees_numbered ts next) (numbered a (next + trees_nodes ts))
   shape_numbered (t.Shape.chained x a b) next = t.Shape.chained x (numbered a next) (numbered b (next + nodes a))
   shape_numbered (t.Shape.compared x a b) next = t.Shape.compared x (numbered a next) (numbered b (next + nodes a))
@@ -204,7 +206,8 @@ abbrev mutual
 
   pub pairs_numbered : Pairs → ℕ → Pairs
   pairs_numbered no_pairs next = no_pairs
-  pairs_numbered (more_pairs a b ps) next = more_pairs (numbered a next) (numbered b (next + nodes a)) (pairs_numbered ps (next + (nodes a + nodes b)))
+  pairs_numbered (more_pairs a b ps) next =
+      more_pairs (numbered a next) (numbered b (next + nodes a)) (pairs_numbered ps (next + (nodes a + nodes b)))
 
   pub givens_numbered : Givens → ℕ → Givens
   givens_numbered no_givens next = no_givens

@@ -1,7 +1,8 @@
 -- The numbers of nodes, what a tree is but for them, and the laws of numbering.
 use Rattle.std.specs.Prelude.{◌≡◌, ℕ, List, Option, Some, None, map}
 use Rattle.std.specs.List.{range_with_len}
-use Rattle.verse_tree.specs.Tree.{Written, Writtens, no_writtens, more_writtens, Tree, tree, Shape, Trees, no_trees, more_trees, Holes, no_holes, more_holes, Pairs, no_pairs, more_pairs, Givens, no_givens, more_givens}
+use Rattle.verse_tree.specs.Tree.{Written, Writtens, no_writtens, more_writtens, Tree, tree, Shape, Trees, no_trees, more_trees, Holes}
+use Rattle.verse_tree.specs.Tree.{no_holes, more_holes, Pairs, no_pairs, more_pairs, Givens, no_givens, more_givens}
 use Rattle.verse_tree.specs.Tree as t
 use Rattle.verse_tree.specs.ItemTree.{FieldTree, ParamTree, FunTree, MemberTree, ItemTree}
 use Rattle.verse_tree.specs.ItemTree as i
@@ -138,7 +139,8 @@ item_cleared (i.ItemTree.function f) = i.ItemTree.function (fun_cleared f)
 
 -- the numbers of what is numbered from `next` on are `next` and those behind it, one for each node, in order
 abbrev pub NumberedInOrder : Type 0
-NumberedInOrder = (items : List ItemTree) (next : ℕ) → numbers (items_order (items_numbered items next)) ≡ range_with_len next (items_nodes items)
+NumberedInOrder = (items : List ItemTree) (next : ℕ) →
+    numbers (items_order (items_numbered items next)) ≡ range_with_len next (items_nodes items)
 
 -- and the program's own node, where its items are numbered from 0, has the last number
 abbrev pub ProgramInOrder : Type 0

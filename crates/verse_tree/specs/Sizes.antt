@@ -1,6 +1,7 @@
 -- The size of a program: 16 for each node, and 4 for each field of the class of each instance expression.
 use Rattle.std.specs.Prelude.{ℕ, ◌+◌, ◌*◌, List, length, map, slice_get, Option, Some, None}
-use Rattle.verse_tree.specs.Tree.{Tree, tree, Shape, Trees, no_trees, more_trees, Holes, no_holes, more_holes, Pairs, no_pairs, more_pairs, Givens, no_givens, more_givens}
+use Rattle.verse_tree.specs.Tree.{Tree, tree, Shape, Trees, no_trees, more_trees, Holes, no_holes, more_holes, Pairs, no_pairs, more_pairs}
+use Rattle.verse_tree.specs.Tree.{Givens, no_givens, more_givens}
 use Rattle.verse_tree.specs.Tree as t
 use Rattle.verse_tree.specs.ItemTree.{FieldTree, FunTree, MemberTree, ClassTree, ItemTree}
 use Rattle.verse_tree.specs.ItemTree as i

@@ -2,8 +2,12 @@
 
 ghost use Rattle.std.specs.Prelude.{◌≡◌, ◌+◌, min, map, slice_get};
 ghost use Rattle.std.specs.Option.{option_map};
-ghost use Rattle.verse_tree.specs.View.{tree_of, shape_of, two_of, typed_value_of, if_of, applied_of, for_of, cases_of, hole_of, pair_of, given_of, trees, holes, pairs, givens, return_shape, if_shape};
-ghost use Rattle.verse_tree.specs.Sizes.{class_fields, ref_fields, known_fields, fields_at, tree_fields, shape_fields, trees_fields, holes_fields, pairs_fields, givens_fields};
+ghost use Rattle.verse_tree.specs.View.{tree_of, shape_of, two_of, typed_value_of, if_of};
+ghost use Rattle.verse_tree.specs.View.{applied_of, for_of, cases_of, hole_of, pair_of, given_of};
+ghost use Rattle.verse_tree.specs.View.{trees, holes, pairs, givens, return_shape, if_shape};
+ghost use Rattle.verse_tree.specs.Sizes.{class_fields, ref_fields, known_fields, fields_at};
+ghost use Rattle.verse_tree.specs.Sizes.{tree_fields, shape_fields, trees_fields, holes_fields};
+ghost use Rattle.verse_tree.specs.Sizes.{pairs_fields, givens_fields};
 
 use crate::exprs::{
     Applied, Cases, Expr, ForParts, Form, Given, Hole, IfParts, Pair, Two, TypedValue,
@@ -58,7 +62,8 @@ fn instance_fields(names: &Names, node: u32) -> u64
 /// The fields of all instance expressions in a tree, or the largest number.
 #[cycle(fields)]
 pub fn fields_in(names: &Names, expr: &Expr) -> u64
-    ensures { result ≡ min (tree_fields (fields_at names.now) (tree_of expr.now)) 18446744073709551615 }
+    ensures { result ≡ min (tree_fields (fields_at names.now) (tree_of expr.now))
+        18446744073709551615 }
 {
     fields_in_form(names, expr.node, &expr.form)
 }
@@ -66,7 +71,8 @@ pub fn fields_in(names: &Names, expr: &Expr) -> u64
 #[cycle(fields)]
 #[tactic(auto, using(crate::proofs::Leaves::sleep_fields, crate::proofs::Leaves::event_fields))]
 fn fields_in_form(names: &Names, node: u32, form: &Form) -> u64
-    ensures { result ≡ min (shape_fields (fields_at names.now) node (shape_of form.now)) 18446744073709551615 }
+    ensures { result ≡ min (shape_fields (fields_at names.now) node (shape_of form.now))
+        18446744073709551615 }
 {
     match form {
         Form::Block(parts) => fields_in_all(names, parts.as_slice()),
@@ -131,7 +137,8 @@ fn fields_in_form(names: &Names, node: u32, form: &Form) -> u64
 
 #[cycle(fields)]
 fn fields_in_returned(names: &Names, value: &Option<Boxed<Expr>>) -> u64
-    ensures { result ≡ min (shape_fields (fields_at names.now) 0 (return_shape (option_map tree_of value.now))) 18446744073709551615 }
+    ensures { result ≡ min (shape_fields (fields_at names.now) 0
+        (return_shape (option_map tree_of value.now))) 18446744073709551615 }
 {
     match value {
         None => 0,
@@ -141,21 +148,25 @@ fn fields_in_returned(names: &Names, value: &Option<Boxed<Expr>>) -> u64
 
 #[cycle(fields)]
 fn fields_in_two(names: &Names, two: &Two) -> u64
-    ensures { result ≡ min (tree_fields (fields_at names.now) (two_of two.now).0 + tree_fields (fields_at names.now) (two_of two.now).1) 18446744073709551615 }
+    ensures { result ≡ min (tree_fields (fields_at names.now) (two_of two.now).0 + tree_fields
+        (fields_at names.now) (two_of two.now).1) 18446744073709551615 }
 {
     fields_in(names, two.left.get()).saturating_add(fields_in(names, two.right.get()))
 }
 
 #[cycle(fields)]
 fn fields_in_typed(names: &Names, typed: &TypedValue) -> u64
-    ensures { result ≡ min (tree_fields (fields_at names.now) (typed_value_of typed.now).1) 18446744073709551615 }
+    ensures { result ≡ min (tree_fields (fields_at names.now) (typed_value_of typed.now).1)
+        18446744073709551615 }
 {
     fields_in(names, typed.value.get())
 }
 
 #[cycle(fields)]
 fn fields_in_if(names: &Names, choice: &IfParts) -> u64
-    ensures { result ≡ min (shape_fields (fields_at names.now) 0 (if_shape (trees (if_of choice.now).conditions) (if_of choice.now).taken (if_of choice.now).otherwise)) 18446744073709551615 }
+    ensures { result ≡ min (shape_fields (fields_at names.now) 0
+        (if_shape (trees (if_of choice.now).conditions) (if_of choice.now).taken
+        (if_of choice.now).otherwise)) 18446744073709551615 }
 {
     let first = fields_in_all(names, choice.conditions.as_slice());
     let second = fields_in(names, choice.then.get());
@@ -170,7 +181,9 @@ fn fields_in_if(names: &Names, choice: &IfParts) -> u64
 
 #[cycle(fields)]
 fn fields_in_applied(names: &Names, applied: &Applied) -> u64
-    ensures { result ≡ min (tree_fields (fields_at names.now) (applied_of applied.now).0 + trees_fields (fields_at names.now) (trees (applied_of applied.now).1)) 18446744073709551615 }
+    ensures { result ≡ min (tree_fields (fields_at names.now) (applied_of applied.now).0 +
+        trees_fields (fields_at names.now)
+        (trees (applied_of applied.now).1)) 18446744073709551615 }
 {
     fields_in(names, applied.callee.get()).saturating_add(fields_in_all(
         names,
@@ -180,14 +193,16 @@ fn fields_in_applied(names: &Names, applied: &Applied) -> u64
 
 #[cycle(fields)]
 fn fields_in_for(names: &Names, each: &ForParts) -> u64
-    ensures { result ≡ min (trees_fields (fields_at names.now) (trees (for_of each.now).0) + tree_fields (fields_at names.now) (for_of each.now).1) 18446744073709551615 }
+    ensures { result ≡ min (trees_fields (fields_at names.now) (trees (for_of each.now).0) +
+        tree_fields (fields_at names.now) (for_of each.now).1) 18446744073709551615 }
 {
     fields_in_all(names, each.clauses.as_slice()).saturating_add(fields_in(names, each.body.get()))
 }
 
 #[cycle(fields)]
 fn fields_in_cases(names: &Names, cases: &Cases) -> u64
-    ensures { result ≡ min (tree_fields (fields_at names.now) (cases_of cases.now).0 + trees_fields (fields_at names.now) (trees (cases_of cases.now).1)) 18446744073709551615 }
+    ensures { result ≡ min (tree_fields (fields_at names.now) (cases_of cases.now).0 + trees_fields
+        (fields_at names.now) (trees (cases_of cases.now).1)) 18446744073709551615 }
 {
     fields_in(names, cases.subject.get()).saturating_add(fields_in_all(
         names,
@@ -197,7 +212,8 @@ fn fields_in_cases(names: &Names, cases: &Cases) -> u64
 
 #[cycle(fields)]
 fn fields_in_all(names: &Names, parts: &[Expr]) -> u64
-    ensures { result ≡ min (trees_fields (fields_at names.now) (trees (map tree_of parts.now))) 18446744073709551615 }
+    ensures { result ≡ min (trees_fields (fields_at names.now) (trees (map tree_of parts.now)))
+        18446744073709551615 }
 {
     let mut total = 0u64;
     'parts: for part in parts {
@@ -208,7 +224,8 @@ fn fields_in_all(names: &Names, parts: &[Expr]) -> u64
 
 #[cycle(fields)]
 fn fields_in_holes(names: &Names, parts: &[Hole]) -> u64
-    ensures { result ≡ min (holes_fields (fields_at names.now) (holes (map hole_of parts.now))) 18446744073709551615 }
+    ensures { result ≡ min (holes_fields (fields_at names.now) (holes (map hole_of parts.now)))
+        18446744073709551615 }
 {
     let mut total = 0u64;
     'parts: for part in parts {
@@ -219,7 +236,8 @@ fn fields_in_holes(names: &Names, parts: &[Hole]) -> u64
 
 #[cycle(fields)]
 fn fields_in_pairs(names: &Names, parts: &[Pair]) -> u64
-    ensures { result ≡ min (pairs_fields (fields_at names.now) (pairs (map pair_of parts.now))) 18446744073709551615 }
+    ensures { result ≡ min (pairs_fields (fields_at names.now) (pairs (map pair_of parts.now)))
+        18446744073709551615 }
 {
     let mut total = 0u64;
     'parts: for part in parts {
@@ -233,7 +251,8 @@ fn fields_in_pairs(names: &Names, parts: &[Pair]) -> u64
 
 #[cycle(fields)]
 fn fields_in_givens(names: &Names, parts: &[Given]) -> u64
-    ensures { result ≡ min (givens_fields (fields_at names.now) (givens (map given_of parts.now))) 18446744073709551615 }
+    ensures { result ≡ min (givens_fields (fields_at names.now) (givens (map given_of parts.now)))
+        18446744073709551615 }
 {
     let mut total = 0u64;
     'parts: for part in parts {

@@ -5,7 +5,8 @@ ghost use Rattle.std.specs.Option.{option_map};
 ghost use Rattle.verse_tree.specs.View.{tree_of};
 ghost use Rattle.verse_tree.specs.ItemView.{item_of, member_of};
 ghost use Rattle.verse_tree.specs.Numbering.{list_nodes, program_nodes};
-ghost use Rattle.verse_tree.specs.Sizes.{size_of, fields_at, default_fields, member_fields, item_fields};
+ghost use Rattle.verse_tree.specs.Sizes.{size_of, fields_at, default_fields, member_fields};
+ghost use Rattle.verse_tree.specs.Sizes.{item_fields};
 
 use crate::exprs::Expr;
 use crate::instance_fields::fields_in;
@@ -27,7 +28,8 @@ pub fn size(program: &Program) -> u64
 }
 
 fn fields_in_items(names: &Names, items: &[Item]) -> u64
-    ensures { result ≡ min (list_nodes (item_fields (fields_at names.now)) (map item_of items.now)) 18446744073709551615 }
+    ensures { result ≡ min (list_nodes (item_fields (fields_at names.now)) (map item_of items.now))
+        18446744073709551615 }
 {
     let mut total = 0u64;
     'items: for item in items {
@@ -37,7 +39,8 @@ fn fields_in_items(names: &Names, items: &[Item]) -> u64
 }
 
 fn fields_in_item(names: &Names, item: &Item) -> u64
-    ensures { result ≡ min (item_fields (fields_at names.now) (item_of item.now)) 18446744073709551615 }
+    ensures { result ≡ min (item_fields (fields_at names.now) (item_of item.now))
+        18446744073709551615 }
 {
     match item {
         Item::Using(_) => 0,
@@ -48,7 +51,8 @@ fn fields_in_item(names: &Names, item: &Item) -> u64
 }
 
 fn fields_in_members(names: &Names, members: &[Member]) -> u64
-    ensures { result ≡ min (list_nodes (member_fields (fields_at names.now)) (map member_of members.now)) 18446744073709551615 }
+    ensures { result ≡ min (list_nodes (member_fields (fields_at names.now))
+        (map member_of members.now)) 18446744073709551615 }
 {
     let mut total = 0u64;
     'members: for member in members {
@@ -58,7 +62,8 @@ fn fields_in_members(names: &Names, members: &[Member]) -> u64
 }
 
 fn fields_in_member(names: &Names, member: &Member) -> u64
-    ensures { result ≡ min (member_fields (fields_at names.now) (member_of member.now)) 18446744073709551615 }
+    ensures { result ≡ min (member_fields (fields_at names.now) (member_of member.now))
+        18446744073709551615 }
 {
     match member {
         Member::Field(field) => fields_in_default(names, &field.default),
@@ -67,7 +72,8 @@ fn fields_in_member(names: &Names, member: &Member) -> u64
 }
 
 fn fields_in_default(names: &Names, default: &Option<Boxed<Expr>>) -> u64
-    ensures { result ≡ min (default_fields (fields_at names.now) (option_map tree_of default.now)) 18446744073709551615 }
+    ensures { result ≡ min (default_fields (fields_at names.now) (option_map tree_of default.now))
+        18446744073709551615 }
 {
     match default {
         None => 0,

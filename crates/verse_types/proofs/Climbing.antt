@@ -20,7 +20,8 @@ module _ (cs : List Class) (test : ℕ → Bool) where
   here : (n c : ℕ) → test c ≡ true → first_above cs test (suc n) c ≡ Some c
   here n c h = rw h
 
-  pub one_up : (n i c p : ℕ) → i < n → test c ≡ false → parent_of cs c ≡ Some p → first_above cs test (n - i) c ≡ first_above cs test (n - (i + 1)) p
+  pub one_up : (n i c p : ℕ) → i < n → test c ≡ false → parent_of cs c ≡ Some p →
+      first_above cs test (n - i) c ≡ first_above cs test (n - (i + 1)) p
   one_up n i c p h k e = ap (λ m. first_above cs test m c) (down n i h) ∙ one (n - (i + 1)) c p k e
 
   pub at_top : (n i c : ℕ) → i < n → test c ≡ false → parent_of cs c ≡ None → first_above cs test (n - i) c ≡ None

@@ -1,6 +1,7 @@
 -- Which types fit which, and what two types join to.
 use Rattle.std.specs.Prelude.{ℕ, zero, suc, Bool, true, false, cond, nat_eq, ◌&&◌, List, length, Option, Some, None, is_some, slice_get}
-use Rattle.verse_types.specs.Types.{Ty, Tys, never, nil, void, int, logic, char, enum, class, option, array, task, event, mapping, tuple, no_tys, more_tys, Class}
+use Rattle.verse_types.specs.Types.{Ty, Tys, never, nil, void, int, logic, char, enum, class, option, array, task, event, mapping, tuple}
+use Rattle.verse_types.specs.Types.{no_tys, more_tys, Class}
 
 abbrev pub parent_in : Option Class → Option ℕ
 parent_in None = None

@@ -84,7 +84,8 @@ pub fn does_fit(classes: &[ClassInfo], ty: &Ty, other: &Ty) -> bool
 
 #[cycle(fit)]
 fn do_fit(classes: &[ClassInfo], types: &[Ty], others: &[Ty]) -> bool
-    ensures { result ≡ all_fit (classes_of classes.now) (tys (map ty_of types.now)) (tys (map ty_of others.now)) }
+    ensures { result ≡ all_fit (classes_of classes.now) (tys (map ty_of types.now))
+        (tys (map ty_of others.now)) }
 {
     let mut rest = others;
     for ty in types {

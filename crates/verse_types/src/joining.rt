@@ -64,7 +64,8 @@ fn all_copied(alloc: Global, types: &[Ty]) -> Result<Items<Ty>, Memory>
 /// The least type that both fit.
 #[cycle(join)]
 pub fn join_of(alloc: Global, classes: &[ClassInfo], ty: &Ty, other: &Ty) -> Result<Ty, Memory>
-    ensures { IfOk result (λ r. ty_of r ≡ join (classes_of classes.now) (ty_of ty.now) (ty_of other.now)) }
+    ensures { IfOk result (λ r. ty_of r ≡ join (classes_of classes.now) (ty_of ty.now)
+        (ty_of other.now)) }
 {
     if does_fit(classes, ty, other) {
         return copied(alloc, other);
@@ -95,7 +96,8 @@ pub fn join_of(alloc: Global, classes: &[ClassInfo], ty: &Ty, other: &Ty) -> Res
 
 #[cycle(join)]
 fn box_of(alloc: Global, classes: &[ClassInfo], ty: &Ty, other: &Ty) -> Result<Boxed<Ty>, Memory>
-    ensures { IfOk result (λ r. ty_of r ≡ join (classes_of classes.now) (ty_of ty.now) (ty_of other.now)) }
+    ensures { IfOk result (λ r. ty_of r ≡ join (classes_of classes.now) (ty_of ty.now)
+        (ty_of other.now)) }
 {
     Ok(Boxed::new(alloc, join_of(alloc, classes, ty, other)?)?)
 }
@@ -107,8 +109,10 @@ fn map_joined(
     map: &MapOf,
     other: &MapOf,
 ) -> Result<MapOf, Memory>
-    ensures key { IfOk result (λ r. (map_of r).0 ≡ join (classes_of classes.now) (map_of map.now).0 (map_of other.now).0) }
-    ensures value { IfOk result (λ r. (map_of r).1 ≡ join (classes_of classes.now) (map_of map.now).1 (map_of other.now).1) }
+    ensures key { IfOk result (λ r. (map_of r).0 ≡ join (classes_of classes.now) (map_of map.now).0
+        (map_of other.now).0) }
+    ensures value { IfOk result (λ r. (map_of r).1 ≡
+        join (classes_of classes.now) (map_of map.now).1 (map_of other.now).1) }
 {
     let key = box_of(alloc, classes, map.key.get(), other.key.get())?;
     let value = box_of(alloc, classes, map.value.get(), other.value.get())?;
@@ -123,7 +127,9 @@ fn all_joined(
     types: &[Ty],
     others: &[Ty],
 ) -> Result<Option<Items<Ty>>, Memory>
-    ensures { IfOk result (λ r. option_map (λ ts. tys (map ty_of ts)) r ≡ all_joined (classes_of classes.now) (tys (map ty_of types.now)) (tys (map ty_of others.now))) }
+    ensures { IfOk result (λ r. option_map (λ ts. tys (map ty_of ts)) r ≡
+        all_joined (classes_of classes.now) (tys (map ty_of types.now))
+        (tys (map ty_of others.now))) }
 {
     let mut joined = Items::new(alloc);
     let mut rest = others;

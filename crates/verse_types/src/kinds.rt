@@ -2,7 +2,8 @@
 
 ghost use Rattle.std.specs.Prelude.{◌≡◌, map, min};
 ghost use Rattle.verse_types.specs.Types.{ty_of, tys, classes_of};
-ghost use Rattle.verse_types.specs.Kinds.{is_key, is_comparable, all_comparable, levels, most_levels};
+ghost use Rattle.verse_types.specs.Kinds.{is_key, is_comparable, all_comparable, levels};
+ghost use Rattle.verse_types.specs.Kinds.{most_levels};
 
 use crate::classes::is_unique;
 use verse_tree::tables::{ClassInfo, Ty};

@@ -5,7 +5,8 @@ use lib.Pointwise.{bytes_decides}
 use Rattle.verse_value.specs.declared.keys.Key.{Key}
 use Rattle.verse_value.specs.declared.keys.Key.TheVariants as key
 use Rattle.verse_value.specs.Keys.{key_eq}
-use Rattle.verse_value.specs.Val.{Val, unit, falsity, truth, int, char, enum, object, event, task, some, array, mapping, tuple, Vals, no_vals, more_vals, Pairs, no_pairs, more_pairs}
+use Rattle.verse_value.specs.Val.{Val, unit, falsity, truth, int, char, enum, object, event, task, some, array, mapping, tuple, Vals}
+use Rattle.verse_value.specs.Val.{no_vals, more_vals, Pairs, no_pairs, more_pairs}
 use Rattle.verse_value.specs.Equality.{val_eq, vals_eq, pairs_eq, EqualityIsTested}
 
 left_true : (a b : Bool) → (a && b) ≡ true → a ≡ true
@@ -45,7 +46,8 @@ key_sound (key.Char n) (key.Text bs') h = absurd (cc)
 key_sound (key.Enum n i) (key.Int n') h = absurd (cc)
 key_sound (key.Enum n i) (key.Logic b') h = absurd (cc)
 key_sound (key.Enum n i) (key.Char n') h = absurd (cc)
-key_sound (key.Enum n i) (key.Enum n' i') h = λ j. key.Enum ((Decides-eqb n n').0 (left_true (n == n') (i == i') h) j) ((Decides-eqb i i').0 (right_true (n == n') (i == i') h) j)
+key_sound (key.Enum n i) (key.Enum n' i') h =
+    λ j. key.Enum ((Decides-eqb n n').0 (left_true (n == n') (i == i') h) j) ((Decides-eqb i i').0 (right_true (n == n') (i == i') h) j)
 key_sound (key.Enum n i) (key.Text bs') h = absurd (cc)
 key_sound (key.Text bs) (key.Int n') h = absurd (cc)
 key_sound (key.Text bs) (key.Logic b') h = absurd (cc)
@@ -133,7 +135,8 @@ mutual
   sound (enum n i) truth h = absurd (cc)
   sound (enum n i) (int n') h = absurd (cc)
   sound (enum n i) (char n') h = absurd (cc)
-  sound (enum n i) (enum n' i') h = λ j. enum ((Decides-eqb n n').0 (left_true (n == n') (i == i') h) j) ((Decides-eqb i i').0 (right_true (n == n') (i == i') h) j)
+  sound (enum n i) (enum n' i') h = λ j. enum ((Decides-eqb n n').0 (left_true (n == n') (i == i') h) j)
+      ((Decides-eqb i i').0 (right_true (n == n') (i == i') h) j)
   sound (enum n i) (object n') h = absurd (cc)
   sound (enum n i) (event n') h = absurd (cc)
   sound (enum n i) (task n') h = absurd (cc)
@@ -237,7 +240,9 @@ mutual
   vals_sound no_vals no_vals h = refl
   vals_sound no_vals (more_vals w ws) h = absurd (cc)
   vals_sound (more_vals v vs) no_vals h = absurd (cc)
-  vals_sound (more_vals v vs) (more_vals w ws) h = λ j. more_vals (sound v w (left_true (val_eq v w) (vals_eq vs ws) h) j) (vals_sound vs ws (right_true (val_eq v w) (vals_eq vs ws) h) j)
+  vals_sound (more_vals v vs) (more_vals w ws) h =
+      λ j. more_vals (sound v w (left_true (val_eq v w) (vals_eq vs ws) h) j)
+      (vals_sound vs ws (right_true (val_eq v w) (vals_eq vs ws) h) j)
 
   pairs_sound : (ps qs : Pairs) → pairs_eq ps qs ≡ true → ps ≡ qs
   pairs_sound no_pairs no_pairs h = refl
@@ -245,7 +250,9 @@ mutual
   pairs_sound (more_pairs k v ps) no_pairs h = absurd (cc)
   pairs_sound (more_pairs k v ps) (more_pairs l w qs) h =
       let first : (key_eq k l && val_eq v w) ≡ true = left_true (key_eq k l && val_eq v w) (pairs_eq ps qs) h in
-      λ j. more_pairs (key_sound k l (left_true (key_eq k l) (val_eq v w) first) j) (sound v w (right_true (key_eq k l) (val_eq v w) first) j) (pairs_sound ps qs (right_true (key_eq k l && val_eq v w) (pairs_eq ps qs) h) j)
+      λ j. more_pairs (key_sound k l (left_true (key_eq k l) (val_eq v w) first) j)
+      (sound v w (right_true (key_eq k l) (val_eq v w) first) j)
+      (pairs_sound ps qs (right_true (key_eq k l && val_eq v w) (pairs_eq ps qs) h) j)
 
 mutual
   pub val_same : (v : Val) → val_eq v v ≡ true
@@ -269,7 +276,8 @@ mutual
 
   pairs_same : (ps : Pairs) → pairs_eq ps ps ≡ true
   pairs_same no_pairs = refl
-  pairs_same (more_pairs k v ps) = both_true (key_eq k k && val_eq v v) (pairs_eq ps ps) (both_true (key_eq k k) (val_eq v v) (key_same k) (val_same v)) (pairs_same ps)
+  pairs_same (more_pairs k v ps) = both_true (key_eq k k && val_eq v v) (pairs_eq ps ps)
+      (both_true (key_eq k k) (val_eq v v) (key_same k) (val_same v)) (pairs_same ps)
 
 pub equality_is_tested : EqualityIsTested
 equality_is_tested a b = (sound a b, λ e. ap (val_eq a) (sym e) ∙ val_same a)

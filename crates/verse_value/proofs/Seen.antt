@@ -1,5 +1,6 @@
 -- What is seen of the parts of a value.
-use Rattle.std.proofs.Common.{◌≡◌, ℕ, zero, suc, ◌<◌, ◌≤◌, ◌-◌, List, [], ◌∷◌, ◌++◌, length, zip, slice_set, take, drop, get_or, Some, None, arith, refl, sym, ap, ◌∙◌}
+use Rattle.std.proofs.Common.{◌≡◌, ℕ, zero, suc, ◌<◌, ◌≤◌, ◌-◌, List, [], ◌∷◌, ◌++◌, length, zip, slice_set, take, drop, get_or, Some, None}
+use Rattle.std.proofs.Common.{arith, refl, sym, ap, ◌∙◌}
 use Rattle.verse_value.specs.declared.keys.Key.{Key}
 use Rattle.verse_value.specs.declared.values.Value.{Value}
 use Rattle.verse_value.specs.View.{val_of, vals_of}
@@ -79,14 +80,16 @@ sides (more_pairs k v ps) = ap (more_pairs k v) (sides ps)
 pub same_pairs : (ps qs : Pairs) → keys_in ps ≡ keys_in qs → vals_in ps ≡ vals_in qs → ps ≡ qs
 same_pairs ps qs p q = sym (sides ps) ∙ (λ i. side_by_side (p i) (q i)) ∙ sides qs
 
-pub pair_set_seen : (ks : List Key) (vs : List Value) (i : ℕ) (y : Value) → length vs ≡ length ks → pairs (zip ks (vals_of (slice_set vs i y))) ≡ pair_set (pairs (zip ks (vals_of vs))) i (val_of y)
+pub pair_set_seen : (ks : List Key) (vs : List Value) (i : ℕ) (y : Value) → length vs ≡ length ks →
+    pairs (zip ks (vals_of (slice_set vs i y))) ≡ pair_set (pairs (zip ks (vals_of vs))) i (val_of y)
 pair_set_seen [] [] i y long = refl
 pair_set_seen [] (v ∷ vs) i y long = absurd (omega arith)
 pair_set_seen (k ∷ ks) [] i y long = absurd (omega arith)
 pair_set_seen (k ∷ ks) (v ∷ vs) zero y long = refl
 pair_set_seen (k ∷ ks) (v ∷ vs) (suc i) y long = ap (more_pairs k (val_of v)) (pair_set_seen ks vs i y (omega arith))
 
-pub push_seen : (ks : List Key) (vs : List Value) (k : Key) (v : Value) → length vs ≡ length ks → pairs (zip (ks ++ k ∷ []) (vals_of (vs ++ v ∷ []))) ≡ with_last (pairs (zip ks (vals_of vs))) k (val_of v)
+pub push_seen : (ks : List Key) (vs : List Value) (k : Key) (v : Value) → length vs ≡ length ks →
+    pairs (zip (ks ++ k ∷ []) (vals_of (vs ++ v ∷ []))) ≡ with_last (pairs (zip ks (vals_of vs))) k (val_of v)
 push_seen [] [] k v long = refl
 push_seen [] (w ∷ vs) k v long = absurd (omega arith)
 push_seen (l ∷ ks) [] k v long = absurd (omega arith)
@@ -133,6 +136,7 @@ rest_all (suc n) (x ∷ xs) = ap (λ m. take m (drop n xs)) (omega arith) ∙ re
 pub as_many : (ks : List Key) (vs : List Value) (ps : Pairs) → ks ≡ keys_in ps → vals (vals_of vs) ≡ vals_in ps → length vs ≡ length ks
 as_many ks vs ps p q = count_is vs (vals_in ps) q ∙ count_in ps ∙ sym (key_count_in ps) ∙ ap length (sym p)
 
-pub zipped : (ks : List Key) (vs : List Value) (ps : Pairs) → ks ≡ keys_in ps → vals (vals_of vs) ≡ vals_in ps → pairs (zip ks (vals_of vs)) ≡ ps
+pub zipped : (ks : List Key) (vs : List Value) (ps : Pairs) → ks ≡ keys_in ps → vals (vals_of vs) ≡ vals_in ps →
+    pairs (zip ks (vals_of vs)) ≡ ps
 zipped ks vs ps p q =
     same_pairs (pairs (zip ks (vals_of vs))) ps (keys_seen ks vs (as_many ks vs ps p q) ∙ p) (vals_seen ks vs (as_many ks vs ps p q) ∙ q)

@@ -1,8 +1,10 @@
 -- What an index leads to, from the place that it tells.
-use Rattle.std.proofs.Common.{◌≡◌, ℕ, zero, suc, ◌≤◌, pos, negsuc, Bool, true, false, Option, Some, None, option_map, nat_lt, arith, refl, sym, ap, ◌∙◌}
+use Rattle.std.proofs.Common.{◌≡◌, ℕ, zero, suc, ◌≤◌, pos, negsuc, Bool, true, false, Option, Some, None, option_map, nat_lt, arith, refl}
+use Rattle.std.proofs.Common.{sym, ap, ◌∙◌}
 use Rattle.std.proofs.lemmas.Bool.Decides.{nat_tests}
 use Rattle.verse_value.specs.declared.keys.Key.{Key}
-use Rattle.verse_value.specs.Val.{Val, unit, falsity, truth, int, char, enum, object, event, task, some, array, mapping, tuple, Vals, no_vals, more_vals, Pairs, no_pairs, more_pairs}
+use Rattle.verse_value.specs.Val.{Val, unit, falsity, truth, int, char, enum, object, event, task, some, array, mapping, tuple, Vals}
+use Rattle.verse_value.specs.Val.{no_vals, more_vals, Pairs, no_pairs, more_pairs}
 use Rattle.verse_value.specs.Keys.{key_eq, at_key}
 use Rattle.verse_value.specs.Entries.{key_place}
 use Rattle.verse_value.specs.Parts.{keys_in, vals_in}
@@ -20,7 +22,8 @@ array_step vs None = misfit
 array_step vs (Some None) = outside
 array_step vs (Some (Some i)) = part_or outside (nth vs i)
 
-pos_step : (vs : Vals) (n : ℕ) (b : Bool) → nat_lt n (count vs) ≡ b → in_array vs (int (pos n)) ≡ array_step vs (option_map (place_in (count vs)) (int_of (int (pos n))))
+pos_step : (vs : Vals) (n : ℕ) (b : Bool) → nat_lt n (count vs) ≡ b →
+    in_array vs (int (pos n)) ≡ array_step vs (option_map (place_in (count vs)) (int_of (int (pos n))))
 pos_step vs n true h = rw h refl
 pos_step vs n false h =
     let outside_it : count vs ≤ n = grind (arith, nat_tests) in
@@ -42,7 +45,8 @@ by_place vs (array ws) = refl
 by_place vs (mapping ps) = refl
 by_place vs (tuple ws) = refl
 
-module _ (vs : Vals) (index : Val) (len : ℕ) (o : Option (Option ℕ)) (long : len ≡ count vs) (at : o ≡ option_map (place_in len) (int_of index)) where
+module _ (vs : Vals) (index : Val) (len : ℕ) (o : Option (Option ℕ)) (long : len ≡ count vs)
+    (at : o ≡ option_map (place_in len) (int_of index)) where
   pub array_is : array_step vs o ≡ in_array vs index
   array_is = ap (array_step vs) (at ∙ ap (λ n. option_map (place_in n) (int_of index)) long) ∙ sym (by_place vs index)
 
@@ -68,7 +72,9 @@ further : (k : Key) (v : Val) (ps : Pairs) (o : Option ℕ) → map_step ps (Som
 further k v ps None = refl
 further k v ps (Some i) = refl
 
-key_cases : (k l : Key) (v : Val) (ps : Pairs) (b : Bool) → key_eq k l ≡ b → part_or absent (at_key ps k) ≡ map_step ps (Some (key_place k (keys_in ps))) → part_or absent (at_key (more_pairs l v ps) k) ≡ map_step (more_pairs l v ps) (Some (key_place k (keys_in (more_pairs l v ps))))
+key_cases : (k l : Key) (v : Val) (ps : Pairs) (b : Bool) → key_eq k l ≡ b →
+    part_or absent (at_key ps k) ≡ map_step ps (Some (key_place k (keys_in ps))) →
+    part_or absent (at_key (more_pairs l v ps) k) ≡ map_step (more_pairs l v ps) (Some (key_place k (keys_in (more_pairs l v ps))))
 key_cases k l v ps true h rest = rw h refl
 key_cases k l v ps false h rest = rw h (rest ∙ further l v ps (key_place k (keys_in ps)))
 

@@ -32,7 +32,8 @@ pub parts_fall : (items : List Value) → max (most deep-Value items) 0 ≤ bulk
 parts_fall [] = omega arith
 parts_fall (v ∷ vs) = omega (arith, falls v, parts_fall vs)
 
-pub entries_fall : (ks : List Key) (vs : List Value) → length vs ≡ length ks → max (most deep-Value vs) 0 ≤ pair_bulks (pairs (zip ks (vals_of vs)))
+pub entries_fall : (ks : List Key) (vs : List Value) → length vs ≡ length ks →
+    max (most deep-Value vs) 0 ≤ pair_bulks (pairs (zip ks (vals_of vs)))
 entries_fall [] [] long = omega arith
 entries_fall [] (v ∷ vs) long = absurd (omega arith)
 entries_fall (k ∷ ks) [] long = absurd (omega arith)

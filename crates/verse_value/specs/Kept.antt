@@ -10,4 +10,5 @@ pub record Measures (size : Size) (weight levels : ℕ) : Type 0 where
 -- the size of a whole after one of its parts changed: `now` and `deep` are the parts' weight and their levels afterwards
 abbrev pub Resizes : Size → Size → Size → ℕ → ℕ → Size → Type 0
 Resizes whole before after now deep size =
-    (all old new high low top : ℕ) → Measures whole (1 + all) (1 + high) → Measures before old low → Measures after new top → now + old ≡ all + new → old ≤ all → deep ≤ max high top → Measures size (1 + now) (1 + deep)
+    (all old new high low top : ℕ) → Measures whole (1 + all) (1 + high) → Measures before old low → Measures after new top →
+    now + old ≡ all + new → old ≤ all → deep ≤ max high top → Measures size (1 + now) (1 + deep)

@@ -1,16 +1,19 @@
 -- What each operation does with values. Where causes stand together, stuck comes first, then a failure, then an error.
-use Rattle.std.specs.Prelude.{ℕ, zero, suc, nat_lt, ℤ, pos, negsuc, neg_ℤ, ◌+ℤ◌, ◌-ℤ◌, ◌*ℤ◌, Bool, not, List, [], ◌∷◌, ◌++◌, Option, Some, None, option_map, if◌then◌else◌}
+use Rattle.std.specs.Prelude.{ℕ, zero, suc, nat_lt, ℤ, pos, negsuc, neg_ℤ, ◌+ℤ◌, ◌-ℤ◌, ◌*ℤ◌, Bool, not, List, [], ◌∷◌, ◌++◌, Option, Some}
+use Rattle.std.specs.Prelude.{None, option_map, if◌then◌else◌}
 use Rattle.std.specs.Fmt.{signed_decimal}
 use Rattle.std.specs.Int.{int_rem_euclid}
 use Rattle.std.specs.Int.Signed.{lt_z}
 use Rattle.std.specs.Ordering.{int_eq}
 use Rattle.verse_base.specs.declared.refusals.Kind.TheVariants.{Overflow, Size}
 use Rattle.verse_base.specs.Quotients.{floor_quotient, ceil_quotient}
-use Rattle.verse_value.specs.Val.{Val, falsity, truth, int, char, some, array, mapping, tuple, Vals, no_vals, more_vals, vals, Pairs, no_pairs, more_pairs}
+use Rattle.verse_value.specs.Val.{Val, falsity, truth, int, char, some, array, mapping, tuple, Vals, no_vals, more_vals, vals, Pairs}
+use Rattle.verse_value.specs.Val.{no_pairs, more_pairs}
 use Rattle.verse_value.specs.Keys.{bytes_of, chars, key_eq, key_of, key_val}
 use Rattle.verse_value.specs.Sizes.{fits}
 use Rattle.verse_value.specs.Parts.{joined}
-use Rattle.verse_value.specs.Places.{Step, part, outside, absent, misfit, nth, step_in, End, there, new_key, nowhere, unfit, end_of, put, push, applied, path_to_map, last_key}
+use Rattle.verse_value.specs.Places.{Step, part, outside, absent, misfit, nth, step_in, End, there, new_key, nowhere, unfit, end_of, put}
+use Rattle.verse_value.specs.Places.{push, applied, path_to_map, last_key}
 use Rattle.verse_value.specs.Answer.{Answer, gives, fails, error, stuck, given_or}
 use Rattle.verse_value.specs.Equality.{val_eq}
 use Rattle.verse_value.specs.declared.keys.Key.{Key}

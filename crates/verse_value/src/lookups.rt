@@ -1,10 +1,12 @@
-ghost use Rattle.std.specs.Prelude.{◌≡◌, ◌≢◌, ◌↔◌, ◌<◌, Some, is_some, length, IsTrue, IfOk, IfSome, option_map};
+ghost use Rattle.std.specs.Prelude.{◌≡◌, ◌≢◌, ◌↔◌, ◌<◌, Some, is_some, length, IsTrue, IfOk};
+ghost use Rattle.std.specs.Prelude.{IfSome, option_map};
 ghost use Rattle.verse_value.specs.View.{val_of, vals_of};
 ghost use Rattle.verse_value.specs.Val.{array, vals};
 ghost use Rattle.verse_value.specs.Keys.{key_of, byte_of, bytes_of};
 ghost use Rattle.verse_value.specs.Entries.{key_place};
 ghost use Rattle.verse_value.specs.Parts.{keys_in};
-ghost use Rattle.verse_value.specs.Places.{step_in, in_array, in_map, found, misfit, int_of, place_in};
+ghost use Rattle.verse_value.specs.Places.{step_in, in_array, in_map, found, misfit, int_of};
+ghost use Rattle.verse_value.specs.Places.{place_in};
 ghost use Rattle.verse_value.specs.Lookups.{step_of};
 ghost use Rattle.verse_value.specs.declared.keys.Key.TheVariants as key;
 
@@ -71,7 +73,8 @@ fn in_entries<'a>(entries: &'a Entries, index: &Value) -> Step<'a>
 /// array or the map lacks the key.
 pub fn at<'a>(v: &'a Value, index: &Value) -> Option<&'a Value>
     requires { step_in (val_of v.now) (val_of index.now) ≢ misfit }
-    ensures { option_map (λ part. val_of part.now) result ≡ found (step_in (val_of v.now) (val_of index.now)) }
+    ensures { option_map (λ part. val_of part.now) result ≡
+        found (step_in (val_of v.now) (val_of index.now)) }
 {
     match find(v, index) {
         Step::Part(part) => Some(part),
@@ -100,7 +103,8 @@ fn array_place(len: usize, index: i64) -> Option<usize>
 /// Where the key that an index is stands in a map: `None` where it is no key, and `None` within where
 /// the map lacks it.
 pub fn map_place(entries: &Entries, index: &Value) -> Option<Option<usize>>
-    ensures { result ≡ option_map (λ k. key_place k (keys_in entries.now)) (key_of (val_of index.now)) }
+    ensures { result ≡ option_map (λ k. key_place k (keys_in entries.now))
+        (key_of (val_of index.now)) }
 {
     match index {
         Value::Int(n) => Some(entries.place(&Key::Int(*n))),
@@ -114,7 +118,8 @@ pub fn map_place(entries: &Entries, index: &Value) -> Option<Option<usize>>
 }
 
 fn text_place(keys: &[Key], parts: &[Value]) -> Option<Option<usize>>
-    ensures { result ≡ option_map (λ bytes. key_place (key.Text bytes) keys.now) (bytes_of (vals (vals_of parts.now))) }
+    ensures { result ≡ option_map (λ bytes. key_place (key.Text bytes) keys.now)
+        (bytes_of (vals (vals_of parts.now))) }
 {
     'keys: for i in 0..keys.len() {
         if is_text_key(&keys[i], parts) {
@@ -190,7 +195,8 @@ pub fn key_from(alloc: Global, value: &Value) -> Result<Option<Key>, Memory>
 
 /// The bytes of a list of chars alone, or `None` where another value is among them.
 pub fn text_bytes(alloc: Global, parts: &[Value]) -> Result<Option<Vec<u8>>, Memory>
-    ensures { IfOk result (λ o. option_map (λ bytes. bytes.items) o ≡ bytes_of (vals (vals_of parts.now))) }
+    ensures { IfOk result (λ o. option_map (λ bytes. bytes.items) o ≡
+        bytes_of (vals (vals_of parts.now))) }
 {
     let mut bytes = Vec::with_capacity(alloc, parts.len())?;
     'parts: for part in parts {

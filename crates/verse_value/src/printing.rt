@@ -1,8 +1,11 @@
-ghost use Rattle.std.specs.Prelude.{◌≡◌, ◌<◌, ◌++◌, [], ◌∷◌, Some, codes, decimal, length, zip, OnOk, OnErr};
+ghost use Rattle.std.specs.Prelude.{◌≡◌, ◌<◌, ◌++◌, [], ◌∷◌, Some, codes, decimal, length, zip};
+ghost use Rattle.std.specs.Prelude.{OnOk, OnErr};
 ghost use Rattle.verse_value.specs.Keys.{bytes_of};
 ghost use Rattle.verse_value.specs.View.{val_of, vals_of};
 ghost use Rattle.verse_value.specs.Val.{vals, pairs};
-ghost use Rattle.verse_value.specs.Texts.{text_of, list_text, pairs_text, array_text, map_text, entry_text, key_text, quoted, escaped, hex_digit, hex_pair, enum_text, char_text, plain, KeysAreValues};
+ghost use Rattle.verse_value.specs.Texts.{text_of, list_text, pairs_text, array_text, map_text};
+ghost use Rattle.verse_value.specs.Texts.{entry_text, key_text, quoted, escaped, hex_digit};
+ghost use Rattle.verse_value.specs.Texts.{hex_pair, enum_text, char_text, plain, KeysAreValues};
 
 use crate::keys::Key;
 use crate::lookups::text_bytes;
@@ -52,7 +55,8 @@ fn append(alloc: Global, v: &Value, out: &mut Vec<u8>) -> Result<(), Memory>
 
 #[cycle(append)]
 fn append_option(alloc: Global, part: &Value, out: &mut Vec<u8>) -> Result<(), Memory>
-    ensures { OnOk result (out.new.items ≡ out.old.items ++ (codes "option{" ++ (text_of (val_of part.now) ++ codes "}"))) }
+    ensures { OnOk result (out.new.items ≡ out.old.items ++
+        (codes "option{" ++ (text_of (val_of part.now) ++ codes "}"))) }
 {
     append_bytes(out, b"option{")?;
     append(alloc, part, out)?;
@@ -62,7 +66,8 @@ fn append_option(alloc: Global, part: &Value, out: &mut Vec<u8>) -> Result<(), M
 
 #[cycle(append)]
 fn append_tuple(alloc: Global, parts: &[Value], out: &mut Vec<u8>) -> Result<(), Memory>
-    ensures { OnOk result (out.new.items ≡ out.old.items ++ (codes "(" ++ (list_text (vals (vals_of parts.now)) ++ codes ")"))) }
+    ensures { OnOk result (out.new.items ≡ out.old.items ++
+        (codes "(" ++ (list_text (vals (vals_of parts.now)) ++ codes ")"))) }
 {
     append_bytes(out, b"(")?;
     append_list(alloc, parts, out)?;
@@ -72,7 +77,8 @@ fn append_tuple(alloc: Global, parts: &[Value], out: &mut Vec<u8>) -> Result<(),
 
 #[cycle(append)]
 fn append_array(alloc: Global, parts: &[Value], out: &mut Vec<u8>) -> Result<(), Memory>
-    ensures { OnOk result (out.new.items ≡ out.old.items ++ array_text (bytes_of (vals (vals_of parts.now))) (list_text (vals (vals_of parts.now)))) }
+    ensures { OnOk result (out.new.items ≡ out.old.items ++
+        array_text (bytes_of (vals (vals_of parts.now))) (list_text (vals (vals_of parts.now)))) }
 {
     if let Some(bytes) = text_bytes(alloc, parts)? {
         if !bytes.is_empty() {
@@ -119,7 +125,8 @@ fn append_entries(
     out: &mut Vec<u8>,
 ) -> Result<(), Memory>
     requires { length values.now ≡ length keys.now }
-    ensures { OnOk result (out.new.items ≡ out.old.items ++ pairs_text (pairs (zip keys.now (vals_of values.now)))) }
+    ensures { OnOk result (out.new.items ≡ out.old.items ++
+        pairs_text (pairs (zip keys.now (vals_of values.now)))) }
 {
     if values.is_empty() {
         return Ok(());
@@ -134,7 +141,8 @@ fn append_entries(
 
 #[cycle(append)]
 fn append_entry(alloc: Global, key: &Key, value: &Value, out: &mut Vec<u8>) -> Result<(), Memory>
-    ensures { OnOk result (out.new.items ≡ out.old.items ++ entry_text key.now (text_of (val_of value.now))) }
+    ensures { OnOk result (out.new.items ≡ out.old.items ++
+        entry_text key.now (text_of (val_of value.now))) }
 {
     append_key(out, key)?;
     append_bytes(out, b" => ")?;

@@ -1,8 +1,11 @@
-ghost use Rattle.std.specs.Prelude.{◌≡◌, ◌+◌, ◌<◌, ◌≤◌, ◌++◌, [], ◌∷◌, min, None, Some, pos, length, option_map, MatchOption, IfOk, IfSome, OnOk, OnErr};
+ghost use Rattle.std.specs.Prelude.{◌≡◌, ◌+◌, ◌<◌, ◌≤◌, ◌++◌, [], ◌∷◌, min, None, Some, pos};
+ghost use Rattle.std.specs.Prelude.{length, option_map, MatchOption, IfOk, IfSome, OnOk, OnErr};
 ghost use Rattle.indexmap.specs.IndexSet.{spare};
 ghost use Rattle.verse_value.specs.View.{val_of, vals_of};
-ghost use Rattle.verse_value.specs.Val.{vals, no_vals, more_vals, no_pairs, some, array, mapping, tuple};
-ghost use Rattle.verse_value.specs.Sizes.{weight_of, weights, pair_weights, key_weight, keys_weight, levels_of, most_levels, most_pair_levels};
+ghost use Rattle.verse_value.specs.Val.{vals, no_vals, more_vals, no_pairs, some, array, mapping};
+ghost use Rattle.verse_value.specs.Val.{tuple};
+ghost use Rattle.verse_value.specs.Sizes.{weight_of, weights, pair_weights, key_weight};
+ghost use Rattle.verse_value.specs.Sizes.{keys_weight, levels_of, most_levels, most_pair_levels};
 ghost use Rattle.verse_value.specs.Entries.{key_place};
 ghost use Rattle.verse_value.specs.Places.{nth, with_nth, with_last, without_last};
 ghost use Rattle.verse_value.specs.Parts.{first, keys_in, vals_in, pair_set, joined};
@@ -87,7 +90,8 @@ impl Model for Held {
 
     ghost view = { λ h. val_of h.part };
 
-    ghost invariant = { λ h. Measures h.size (1 + weight_of (val_of h.part)) (1 + levels_of (val_of h.part)) };
+    ghost invariant = { λ h. Measures h.size (1 + weight_of (val_of h.part))
+        (1 + levels_of (val_of h.part)) };
 
     ghost size = { bulk };
 
@@ -112,7 +116,8 @@ impl Model for Parts {
 
     ghost view = { λ p. vals (vals_of p.items.items) };
 
-    ghost invariant = { λ p. Measures p.size (1 + weights (vals (vals_of p.items.items))) (1 + most_levels (vals (vals_of p.items.items))) };
+    ghost invariant = { λ p. Measures p.size (1 + weights (vals (vals_of p.items.items)))
+        (1 + most_levels (vals (vals_of p.items.items))) };
 
     ghost size = { bulks };
 
@@ -138,7 +143,9 @@ impl Model for Entries {
 
     ghost view = { λ m. pairs (zip m.keys.keys (vals_of m.values.items)) };
 
-    ghost invariant = { λ m. (length m.values.items ≡ length m.keys.keys) × Measures m.size (1 + pair_weights (pairs (zip m.keys.keys (vals_of m.values.items)))) (1 + most_pair_levels (pairs (zip m.keys.keys (vals_of m.values.items)))) };
+    ghost invariant = { λ m. (length m.values.items ≡ length m.keys.keys) ×
+        Measures m.size (1 + pair_weights (pairs (zip m.keys.keys (vals_of m.values.items))))
+        (1 + most_pair_levels (pairs (zip m.keys.keys (vals_of m.values.items)))) };
 
     ghost size = { pair_bulks };
 
@@ -385,7 +392,8 @@ fn int_len(items: &Vec<Value>) -> i64
 }
 
 pub(crate) fn size_of_all(values: &[Value]) -> Size
-    ensures { Measures result (weights (vals (vals_of values.now))) (most_levels (vals (vals_of values.now))) }
+    ensures { Measures result (weights (vals (vals_of values.now)))
+        (most_levels (vals (vals_of values.now))) }
 {
     let mut sum = nothing();
     'values: for value in values {
@@ -395,7 +403,8 @@ pub(crate) fn size_of_all(values: &[Value]) -> Size
 }
 
 fn resized(whole: Size, before: Size, after: Size, items: &[Value]) -> Size
-    ensures { Resizes whole before after (weights (vals (vals_of items.now))) (most_levels (vals (vals_of items.now))) result }
+    ensures { Resizes whole before after (weights (vals (vals_of items.now)))
+        (most_levels (vals (vals_of items.now))) result }
 {
     match changed(whole, before, after) {
         Some(size) => size,
@@ -557,7 +566,8 @@ impl Entries {
 }
 
 fn size_of_entries(keys: &[Key], values: &[Value]) -> Size
-    ensures { Measures result (keys_weight keys.now + weights (vals (vals_of values.now))) (most_levels (vals (vals_of values.now))) }
+    ensures { Measures result (keys_weight keys.now + weights (vals (vals_of values.now)))
+        (most_levels (vals (vals_of values.now))) }
 {
     beside(size_of_keys(keys), size_of_all(values))
 }
@@ -592,7 +602,9 @@ fn entry_size(key: &Key, value: Size) -> Size
 }
 
 fn resized_map(whole: Size, before: Size, after: Size, keys: &[Key], values: &[Value]) -> Size
-    ensures { Resizes whole before after (keys_weight keys.now + weights (vals (vals_of values.now))) (most_levels (vals (vals_of values.now))) result }
+    ensures { Resizes whole before after
+        (keys_weight keys.now + weights (vals (vals_of values.now)))
+        (most_levels (vals (vals_of values.now))) result }
 {
     match changed(whole, before, after) {
         Some(size) => size,
@@ -622,7 +634,9 @@ fn add_key(keys: &mut IndexSet<Key>, key: Key)
 // Takes the last key and its value off, and answers their size.
 fn pop_last(keys: &mut IndexSet<Key>, values: &mut Vec<Value>) -> Option<Size>
     requires { length values.old.items ≡ length keys.old.keys }
-    ensures { MatchOption result ((keys.old.keys ≡ []) × (keys.new.keys ≡ []) × (values.old.items ≡ []) × (values.new.items ≡ [])) (λ size. TakenOff keys.old.keys keys.new.keys values.old.items values.new.items size) }
+    ensures { MatchOption result ((keys.old.keys ≡ []) × (keys.new.keys ≡ []) ×
+        (values.old.items ≡ []) × (values.new.items ≡ []))
+        (λ size. TakenOff keys.old.keys keys.new.keys values.old.items values.new.items size) }
 {
     match values.pop() {
         Some(value) => match keys.pop() {

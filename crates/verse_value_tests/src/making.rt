@@ -12,7 +12,8 @@ use verse_write::paths::Path;
 
 /// An array of two values.
 pub fn pair(alloc: Global, first: Value, second: Value) -> Result<Value, Memory>
-    ensures { IfOk result (λ v. val_of v ≡ array (more_vals (val_of first) (more_vals (val_of second) no_vals))) }
+    ensures { IfOk result (λ v. val_of v ≡
+        array (more_vals (val_of first) (more_vals (val_of second) no_vals))) }
 {
     let mut parts = Parts::new(alloc);
     parts.push(first)?;

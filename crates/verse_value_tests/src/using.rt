@@ -11,7 +11,9 @@ use verse_write::writes::Undo;
 
 /// What `at` reads; `None` exactly where the index doesn't go with the value.
 pub fn read<'a>(v: &'a Value, index: &Value) -> Option<Option<&'a Value>>
-    ensures { MatchOption result (step_in (val_of v.now) (val_of index.now) ≡ misfit) (λ o. option_map (λ part. val_of part.now) o ≡ found (step_in (val_of v.now) (val_of index.now))) }
+    ensures { MatchOption result (step_in (val_of v.now) (val_of index.now) ≡ misfit)
+        (λ o. option_map (λ part. val_of part.now) o ≡
+        found (step_in (val_of v.now) (val_of index.now))) }
 {
     match find(v, index) {
         Step::Misfit => None,

@@ -1,13 +1,16 @@
 -- The nodes of a program in written post-order, each with what stands round it.
 use Rattle.std.specs.Prelude.{ℕ, ◌+◌, List, [], ◌∷◌, ◌++◌, Option, Some, None}
 use Rattle.verse_base.specs.declared.places.Place.{Place}
-use Rattle.verse_tree.specs.Tree.{Bytes, Written, Writtens, no_writtens, more_writtens, Tree, tree, Shape, Trees, no_trees, more_trees, Holes, no_holes, more_holes, Pairs, no_pairs, more_pairs, Givens, no_givens, more_givens}
+use Rattle.verse_tree.specs.Tree.{Bytes, Written, Writtens, no_writtens, more_writtens, Tree, tree, Shape, Trees, no_trees, more_trees}
+use Rattle.verse_tree.specs.Tree.{Holes, no_holes, more_holes, Pairs, no_pairs, more_pairs, Givens, no_givens, more_givens}
 use Rattle.verse_tree.specs.Tree as t
-use Rattle.verse_tree.specs.ItemTree.{FieldTree, ParamTree, FunTree, MemberTree, field, method, ItemTree, using, enumeration, class, function}
+use Rattle.verse_tree.specs.ItemTree.{FieldTree, ParamTree, FunTree, MemberTree, field, method, ItemTree, using, enumeration, class}
+use Rattle.verse_tree.specs.ItemTree.{function}
 use Rattle.verse_tree.specs.PostOrder.{What, item, member, parameter, type_name, expression}
 use Rattle.verse_tree.specs.PostOrder as plain
 use Rattle.verse_walk.specs.Specifiers.{written_effects}
-use Rattle.verse_walk.specs.Around.{Around, value, callee, object, target, spawned, argument, outside, body_around, default_around, used_as, freely, caught, looped, repeated, armed, deferred, left_of, indexed}
+use Rattle.verse_walk.specs.Around.{Around, value, callee, object, target, spawned, argument, outside, body_around, default_around, used_as}
+use Rattle.verse_walk.specs.Around.{freely, caught, looped, repeated, armed, deferred, left_of, indexed}
 
 pub record Node : Type 0 where
   pub number : ℕ

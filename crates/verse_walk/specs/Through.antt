@@ -1,10 +1,13 @@
 -- What a step at each node in turn makes of a state: the recursion of Nodes with a state in the place of the list.
 use Rattle.std.specs.Prelude.{ℕ, ◌+◌, List, [], ◌∷◌, Option, Some, None}
-use Rattle.verse_tree.specs.Tree.{Bytes, Written, Writtens, no_writtens, more_writtens, Tree, tree, Shape, Trees, no_trees, more_trees, Holes, no_holes, more_holes, Pairs, no_pairs, more_pairs, Givens, no_givens, more_givens}
+use Rattle.verse_tree.specs.Tree.{Bytes, Written, Writtens, no_writtens, more_writtens, Tree, tree, Shape, Trees, no_trees, more_trees}
+use Rattle.verse_tree.specs.Tree.{Holes, no_holes, more_holes, Pairs, no_pairs, more_pairs, Givens, no_givens, more_givens}
 use Rattle.verse_tree.specs.Tree as t
-use Rattle.verse_tree.specs.ItemTree.{FieldTree, ParamTree, FunTree, MemberTree, field, method, ItemTree, using, enumeration, class, function}
+use Rattle.verse_tree.specs.ItemTree.{FieldTree, ParamTree, FunTree, MemberTree, field, method, ItemTree, using, enumeration, class}
+use Rattle.verse_tree.specs.ItemTree.{function}
 use Rattle.verse_tree.specs.PostOrder.{type_name, expression}
-use Rattle.verse_walk.specs.Around.{Around, value, callee, object, target, spawned, argument, outside, default_around, used_as, freely, caught, looped, repeated, armed, deferred, left_of, indexed}
+use Rattle.verse_walk.specs.Around.{Around, value, callee, object, target, spawned, argument, outside, default_around, used_as, freely}
+use Rattle.verse_walk.specs.Around.{caught, looped, repeated, armed, deferred, left_of, indexed}
 use Rattle.verse_walk.specs.Nodes.{Node, node, number_of_tree, round_body, param_node, member_node, item_node}
 
 module _ {S : Type 0} (step : Node → S → S) where

@@ -36,5 +36,6 @@ pub trait Pass {
 
     /// Does the step of a node. Want of memory alone is an error.
     fn note(&self, seen: &mut Self::Seen, around: Around<'_>, part: Part<'_>) -> Result<(), Memory>
-        ensures { OnOk result (sight seen.new ≡ step self.now (part_node (around_of around.entry) part.entry) (sight seen.old)) };
+        ensures { OnOk result (sight seen.new ≡
+            step self.now (part_node (around_of around.entry) part.entry) (sight seen.old)) };
 }

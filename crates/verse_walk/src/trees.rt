@@ -2,11 +2,16 @@
 
 ghost use Rattle.std.specs.Prelude.{◌≡◌, map, OnOk};
 ghost use Rattle.std.specs.Option.{option_map};
-ghost use Rattle.verse_tree.specs.View.{tree_of, shape_of, two_of, typed_value_of, if_of, applied_of, for_of, cases_of, hole_of, pair_of, given_of, trees, holes, pairs, givens, return_shape, if_shape, event_shape};
+ghost use Rattle.verse_tree.specs.View.{tree_of, shape_of, two_of, typed_value_of, if_of};
+ghost use Rattle.verse_tree.specs.View.{applied_of, for_of, cases_of, hole_of, pair_of, given_of};
+ghost use Rattle.verse_tree.specs.View.{trees, holes, pairs, givens, return_shape, if_shape};
+ghost use Rattle.verse_tree.specs.View.{event_shape};
 ghost use Rattle.verse_walk.specs.Around.{value, freely, caught, repeated};
 ghost use Rattle.verse_walk.specs.Around as w;
 ghost use Rattle.verse_walk.specs.Nodes.{number_of_tree};
-ghost use Rattle.verse_walk.specs.Through.{through, through_shape, through_trees, through_arguments, through_holes, through_pairs, through_givens, through_written};
+ghost use Rattle.verse_walk.specs.Through.{through, through_shape, through_trees};
+ghost use Rattle.verse_walk.specs.Through.{through_arguments, through_holes, through_pairs};
+ghost use Rattle.verse_walk.specs.Through.{through_givens, through_written};
 ghost use Rattle.verse_walk.specs.Views.{around_of};
 
 use crate::arounds::{Around, Used};
@@ -27,7 +32,8 @@ pub fn walk<'a, P: Pass>(
     around: Around<'a>,
     expr: &'a Expr,
 ) -> Result<(), Memory>
-    ensures { OnOk result (P.sight seen.new ≡ through (P.step pass.now) (around_of around.entry) (tree_of expr.now) (P.sight seen.old)) }
+    ensures { OnOk result (P.sight seen.new ≡ through (P.step pass.now) (around_of around.entry)
+        (tree_of expr.now) (P.sight seen.old)) }
 {
     walk_form(pass, seen, expr.node, around, &expr.form)?;
     pass.note(seen, around, Part::Expr(expr))
@@ -41,7 +47,8 @@ fn walk_form<'a, P: Pass>(
     around: Around<'a>,
     form: &'a Form,
 ) -> Result<(), Memory>
-    ensures { OnOk result (P.sight seen.new ≡ through_shape (P.step pass.now) number (around_of around.entry) (shape_of form.now) (P.sight seen.old)) }
+    ensures { OnOk result (P.sight seen.new ≡ through_shape (P.step pass.now) number
+        (around_of around.entry) (shape_of form.now) (P.sight seen.old)) }
 {
     let free = around.freely();
     match form {
@@ -113,7 +120,9 @@ fn walk_two<'a, P: Pass>(
     right: Around<'a>,
     two: &'a Two,
 ) -> Result<(), Memory>
-    ensures { OnOk result (P.sight seen.new ≡ through (P.step pass.now) (around_of right.entry) (two_of two.now).1 (through (P.step pass.now) (around_of left.entry) (two_of two.now).0 (P.sight seen.old))) }
+    ensures { OnOk result (P.sight seen.new ≡ through (P.step pass.now) (around_of right.entry)
+        (two_of two.now).1 (through (P.step pass.now) (around_of left.entry) (two_of two.now).0
+        (P.sight seen.old))) }
 {
     walk(pass, seen, left, two.left.get())?;
     walk(pass, seen, right, two.right.get())
@@ -126,7 +135,11 @@ fn walk_typed<'a, P: Pass>(
     around: Around<'a>,
     typed: &'a TypedValue,
 ) -> Result<(), Memory>
-    ensures { OnOk result (P.sight seen.new ≡ through (P.step pass.now) (w.used_as (value (typed_value_of typed.now).0) (around_of around.entry)) (typed_value_of typed.now).1 (through_written (P.step pass.now) (around_of around.entry) (typed_value_of typed.now).0 (P.sight seen.old))) }
+    ensures { OnOk result (P.sight seen.new ≡
+        through (P.step pass.now) (w.used_as (value (typed_value_of typed.now).0)
+        (around_of around.entry)) (typed_value_of typed.now).1
+        (through_written (P.step pass.now) (around_of around.entry) (typed_value_of typed.now).0
+        (P.sight seen.old))) }
 {
     walk_type(pass, seen, around, &typed.ty)?;
     walk(
@@ -144,7 +157,9 @@ fn walk_returned<'a, P: Pass>(
     around: Around<'a>,
     value: &'a Option<Boxed<Expr>>,
 ) -> Result<(), Memory>
-    ensures { OnOk result (P.sight seen.new ≡ through_shape (P.step pass.now) 0 (around_of around.entry) (return_shape (option_map tree_of value.now)) (P.sight seen.old)) }
+    ensures { OnOk result (P.sight seen.new ≡
+        through_shape (P.step pass.now) 0 (around_of around.entry)
+        (return_shape (option_map tree_of value.now)) (P.sight seen.old)) }
 {
     match value {
         None => Ok(()),
@@ -159,7 +174,10 @@ fn walk_if<'a, P: Pass>(
     around: Around<'a>,
     choice: &'a IfParts,
 ) -> Result<(), Memory>
-    ensures { OnOk result (P.sight seen.new ≡ through_shape (P.step pass.now) 0 (around_of around.entry) (if_shape (trees (if_of choice.now).conditions) (if_of choice.now).taken (if_of choice.now).otherwise) (P.sight seen.old)) }
+    ensures { OnOk result (P.sight seen.new ≡
+        through_shape (P.step pass.now) 0 (around_of around.entry)
+        (if_shape (trees (if_of choice.now).conditions) (if_of choice.now).taken
+        (if_of choice.now).otherwise) (P.sight seen.old)) }
 {
     walk_all(pass, seen, around.caught(), choice.conditions.as_slice())?;
     walk(pass, seen, around.freely(), choice.then.get())?;
@@ -177,7 +195,11 @@ fn walk_applied<'a, P: Pass>(
     around: Around<'a>,
     applied: &'a Applied,
 ) -> Result<(), Memory>
-    ensures { OnOk result (P.sight seen.new ≡ through_arguments (P.step pass.now) (around_of around.entry) (number_of_tree (applied_of applied.now).0) 0 (trees (applied_of applied.now).1) (through (P.step pass.now) (around_of round_callee.entry) (applied_of applied.now).0 (P.sight seen.old))) }
+    ensures { OnOk result (P.sight seen.new ≡
+        through_arguments (P.step pass.now) (around_of around.entry)
+        (number_of_tree (applied_of applied.now).0) 0 (trees (applied_of applied.now).1)
+        (through (P.step pass.now) (around_of round_callee.entry) (applied_of applied.now).0
+        (P.sight seen.old))) }
 {
     walk(pass, seen, round_callee, applied.callee.get())?;
     walk_arguments(
@@ -196,7 +218,10 @@ fn walk_for<'a, P: Pass>(
     around: Around<'a>,
     each: &'a ForParts,
 ) -> Result<(), Memory>
-    ensures { OnOk result (P.sight seen.new ≡ through (P.step pass.now) (repeated (around_of around.entry)) (for_of each.now).1 (through_trees (P.step pass.now) (caught (around_of around.entry)) (trees (for_of each.now).0) (P.sight seen.old))) }
+    ensures { OnOk result (P.sight seen.new ≡
+        through (P.step pass.now) (repeated (around_of around.entry)) (for_of each.now).1
+        (through_trees (P.step pass.now) (caught (around_of around.entry))
+        (trees (for_of each.now).0) (P.sight seen.old))) }
 {
     walk_all(pass, seen, around.caught(), each.clauses.as_slice())?;
     walk(pass, seen, around.repeated(), each.body.get())
@@ -209,7 +234,10 @@ fn walk_cases<'a, P: Pass>(
     around: Around<'a>,
     cases: &'a Cases,
 ) -> Result<(), Memory>
-    ensures { OnOk result (P.sight seen.new ≡ through_trees (P.step pass.now) (around_of around.entry) (trees (cases_of cases.now).1) (through (P.step pass.now) (around_of around.entry) (cases_of cases.now).0 (P.sight seen.old))) }
+    ensures { OnOk result (P.sight seen.new ≡
+        through_trees (P.step pass.now) (around_of around.entry) (trees (cases_of cases.now).1)
+        (through (P.step pass.now) (around_of around.entry) (cases_of cases.now).0
+        (P.sight seen.old))) }
 {
     walk(pass, seen, around, cases.subject.get())?;
     walk_all(pass, seen, around, cases.arms.as_slice())
@@ -222,7 +250,9 @@ fn walk_all<'a, P: Pass>(
     around: Around<'a>,
     parts: &'a [Expr],
 ) -> Result<(), Memory>
-    ensures { OnOk result (P.sight seen.new ≡ through_trees (P.step pass.now) (around_of around.entry) (trees (map tree_of parts.now)) (P.sight seen.old)) }
+    ensures { OnOk result (P.sight seen.new ≡
+        through_trees (P.step pass.now) (around_of around.entry) (trees (map tree_of parts.now))
+        (P.sight seen.old)) }
 {
     'parts: for part in parts {
         walk(pass, seen, around, part)?;
@@ -238,7 +268,9 @@ fn walk_arguments<'a, P: Pass>(
     callee: u32,
     parts: &'a [Expr],
 ) -> Result<(), Memory>
-    ensures { OnOk result (P.sight seen.new ≡ through_arguments (P.step pass.now) (around_of around.entry) callee 0 (trees (map tree_of parts.now)) (P.sight seen.old)) }
+    ensures { OnOk result (P.sight seen.new ≡
+        through_arguments (P.step pass.now) (around_of around.entry) callee 0
+        (trees (map tree_of parts.now)) (P.sight seen.old)) }
 {
     let mut place = 0usize;
     'parts: for part in parts {
@@ -260,7 +292,9 @@ fn walk_holes<'a, P: Pass>(
     around: Around<'a>,
     parts: &'a [Hole],
 ) -> Result<(), Memory>
-    ensures { OnOk result (P.sight seen.new ≡ through_holes (P.step pass.now) (around_of around.entry) (holes (map hole_of parts.now)) (P.sight seen.old)) }
+    ensures { OnOk result (P.sight seen.new ≡
+        through_holes (P.step pass.now) (around_of around.entry) (holes (map hole_of parts.now))
+        (P.sight seen.old)) }
 {
     'parts: for part in parts {
         walk(pass, seen, around, part.value.get())?;
@@ -275,7 +309,9 @@ fn walk_pairs<'a, P: Pass>(
     around: Around<'a>,
     parts: &'a [Pair],
 ) -> Result<(), Memory>
-    ensures { OnOk result (P.sight seen.new ≡ through_pairs (P.step pass.now) (around_of around.entry) (pairs (map pair_of parts.now)) (P.sight seen.old)) }
+    ensures { OnOk result (P.sight seen.new ≡
+        through_pairs (P.step pass.now) (around_of around.entry) (pairs (map pair_of parts.now))
+        (P.sight seen.old)) }
 {
     'parts: for part in parts {
         walk(pass, seen, around, part.key.get())?;
@@ -291,7 +327,9 @@ fn walk_givens<'a, P: Pass>(
     around: Around<'a>,
     parts: &'a [Given],
 ) -> Result<(), Memory>
-    ensures { OnOk result (P.sight seen.new ≡ through_givens (P.step pass.now) (around_of around.entry) (givens (map given_of parts.now)) (P.sight seen.old)) }
+    ensures { OnOk result (P.sight seen.new ≡
+        through_givens (P.step pass.now) (around_of around.entry) (givens (map given_of parts.now))
+        (P.sight seen.old)) }
 {
     'parts: for part in parts {
         walk(pass, seen, around, part.value.get())?;
@@ -306,7 +344,8 @@ fn walk_event<P: Pass>(
     around: Around<'_>,
     ty: &Option<TyExpr>,
 ) -> Result<(), Memory>
-    ensures { OnOk result (P.sight seen.new ≡ through_shape (P.step pass.now) number (around_of around.entry) (event_shape ty.now) (P.sight seen.old)) }
+    ensures { OnOk result (P.sight seen.new ≡ through_shape (P.step pass.now) number
+        (around_of around.entry) (event_shape ty.now) (P.sight seen.old)) }
 {
     match ty {
         None => Ok(()),

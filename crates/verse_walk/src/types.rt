@@ -20,7 +20,9 @@ pub fn walk_type<P: Pass>(
     around: Around<'_>,
     ty: &TyExpr,
 ) -> Result<(), Memory>
-    ensures { OnOk result (P.sight seen.new ≡ through_written (P.step pass.now) (around_of around.entry) (written_of ty.now) (P.sight seen.old)) }
+    ensures { OnOk result (P.sight seen.new ≡
+        through_written (P.step pass.now) (around_of around.entry) (written_of ty.now)
+        (P.sight seen.old)) }
 {
     match ty {
         TyExpr::Int => Ok(()),
@@ -46,7 +48,10 @@ fn walk_map<P: Pass>(
     around: Around<'_>,
     parts: &MapTy,
 ) -> Result<(), Memory>
-    ensures { OnOk result (P.sight seen.new ≡ through_written (P.step pass.now) (around_of around.entry) (map_of parts.now).1 (through_written (P.step pass.now) (around_of around.entry) (map_of parts.now).0 (P.sight seen.old))) }
+    ensures { OnOk result (P.sight seen.new ≡
+        through_written (P.step pass.now) (around_of around.entry) (map_of parts.now).1
+        (through_written (P.step pass.now) (around_of around.entry) (map_of parts.now).0
+        (P.sight seen.old))) }
 {
     walk_type(pass, seen, around, parts.key.get())?;
     walk_type(pass, seen, around, parts.value.get())
@@ -59,7 +64,9 @@ fn walk_types<P: Pass>(
     around: Around<'_>,
     parts: &[TyExpr],
 ) -> Result<(), Memory>
-    ensures { OnOk result (P.sight seen.new ≡ through_writtens (P.step pass.now) (around_of around.entry) (writtens (map written_of parts.now)) (P.sight seen.old)) }
+    ensures { OnOk result (P.sight seen.new ≡
+        through_writtens (P.step pass.now) (around_of around.entry)
+        (writtens (map written_of parts.now)) (P.sight seen.old)) }
 {
     'parts: for part in parts {
         walk_type(pass, seen, around, part)?;

@@ -1,5 +1,6 @@
 -- The words that name files, and those behind them, are parted in one way.
-use Rattle.std.proofs.Common.{◌≡◌, ◌≢◌, ◌↔◌, ℕ, List, [], ◌∷◌, ◌++◌, refl, ap, subst, sym, ◌≤◌, length, IsTrue, not, nat_eq, slice_index_or, arith, zero, suc, ◌<◌, ◌+◌, take, drop, map}
+use Rattle.std.proofs.Common.{◌≡◌, ◌≢◌, ◌↔◌, ℕ, List, [], ◌∷◌, ◌++◌, refl, ap, subst, sym, ◌≤◌, length, IsTrue, not, nat_eq, slice_index_or}
+use Rattle.std.proofs.Common.{arith, zero, suc, ◌<◌, ◌+◌, take, drop, map}
 use Rattle.verse_words.specs.Words.{EachIsFile, Given, Gives, IsFile, name, none_left, steps, until, inputs, heap}
 use Rattle.verse_words.specs.Requests.{BeginsWithNoFile}
 
@@ -28,7 +29,8 @@ pub record Same (files names options words : List (List ℕ)) : Type 0 where
   pub files_are : files ≡ names
   pub words_are : options ≡ words
 
-pub parted_once : (files names options words : List (List ℕ)) → EachIsFile files → EachIsFile names → BeginsWithNoFile options → BeginsWithNoFile words →
+pub parted_once : (files names options words : List (List ℕ)) → EachIsFile files → EachIsFile names → BeginsWithNoFile options →
+    BeginsWithNoFile words →
     files ++ options ≡ names ++ words → Same files names options words
 parted_once [] [] options words f g x y e = record { files_are = refl; words_are = e }
 parted_once [] (n ∷ ns) [] words f g x y e = cc
@@ -53,7 +55,8 @@ one_more text words n d low each f =
     let e : suc n ≡ n + 1 = omega arith in subst (λ m. EachIsFile (map text (take m words))) e (one_further text words n d low each f)
 
 -- the word at which they end names none
-pub ends_before : {A : Type 0} (text : A → List ℕ) (words : List A) (n : ℕ) (d : A) → n < length words → ¬ (IsFile (text (slice_index_or words n d))) →
+pub ends_before : {A : Type 0} (text : A → List ℕ) (words : List A) (n : ℕ) (d : A) → n < length words →
+    ¬ (IsFile (text (slice_index_or words n d))) →
     BeginsWithNoFile (map text (drop n words))
 ends_before text [] n d low f = absurd (omega arith)
 ends_before text (w ∷ ws) zero d low f = f

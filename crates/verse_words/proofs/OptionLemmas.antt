@@ -1,5 +1,6 @@
 -- What the first words give, and that words give the options in one way.
-use Rattle.std.proofs.Common.{◌≡◌, ℕ, ◌≤◌, true, false, Option, Some, None, List, [], ◌∷◌, codes, refl, sym, ◌∙◌, ap, subst, arith, length, map}
+use Rattle.std.proofs.Common.{◌≡◌, ℕ, ◌≤◌, true, false, Option, Some, None, List, [], ◌∷◌, codes, refl, sym, ◌∙◌, ap, subst, arith, length}
+use Rattle.std.proofs.Common.{map}
 use Rattle.verse_words.specs.Words.{Given, Gives, IsNumber, none_left, steps, until, inputs, heap}
 use Rattle.verse_words.specs.Settings.{Continues}
 use Rattle.verse_words.proofs.NumberLemmas.{number_once}
@@ -52,14 +53,17 @@ data First (g : Given) (word : List ℕ) (behind : Words) (h : Given) : Type 0 w
 first : {g h : Given} {words : Words} → Gives g words h → (word : List ℕ) (behind : Words) → words ≡ word ∷ behind → First g word behind h
 first none_left word behind e = cc
 first (steps {g = g} {h = h} {value = value} {words = words} n fresh number on) word behind e =
-    let p : Steps g behind h = record { value = value; words = words; n = n; is = cc; fresh = fresh; number = number; on = on } in first_steps (cc) p
+    let p : Steps g behind h = record { value = value; words = words; n = n; is = cc; fresh = fresh; number = number; on = on } in
+    first_steps (cc) p
 first (until {g = g} {h = h} {value = value} {words = words} n fresh number on) word behind e =
-    let p : Until g behind h = record { value = value; words = words; n = n; is = cc; fresh = fresh; number = number; on = on } in first_until (cc) p
+    let p : Until g behind h = record { value = value; words = words; n = n; is = cc; fresh = fresh; number = number; on = on } in
+    first_until (cc) p
 first (inputs {g = g} {h = h} {value = value} {words = words} fresh on) word behind e =
     let p : Inputs g behind h = record { value = value; words = words; is = cc; fresh = fresh; on = on } in first_inputs (cc) p
 first (heap {g = g} {h = h} {words = words} fresh on) word behind e =
     let same : words ≡ behind = cc in
-    let p : Heap g behind h = record { fresh = fresh; on = subst (λ ws. Gives (record g { heap = true }) ws h) same on } in first_heap (cc) p
+    let p : Heap g behind h = record { fresh = fresh; on = subst (λ ws. Gives (record g { heap = true }) ws h) same on } in
+    first_heap (cc) p
 
 at_steps : {g h : Given} {behind : Words} {word : List ℕ} → First g word behind h → word ≡ codes "--steps" → Steps g behind h
 at_steps (first_steps w p) e = p
@@ -100,22 +104,27 @@ gives_once {k = k} (steps {g = g} {value = value} {words = words} n fresh number
     let word : p.value ≡ value = cc in
     let same : p.n ≡ n = number_once 100000000 value p.n n (omega arith) (subst (λ w. IsNumber 100000000 w p.n) word p.number) number in
     let rest : p.words ≡ words = cc in
-    gives_once on (subst (λ ws. Gives (record g { steps = Some n }) ws k) rest (subst (λ m. Gives (record g { steps = Some m }) p.words k) same p.on))
+    gives_once on (subst (λ ws. Gives (record g { steps = Some n }) ws k) rest
+    (subst (λ m. Gives (record g { steps = Some m }) p.words k) same p.on))
 gives_once {k = k} (until {g = g} {value = value} {words = words} n fresh number on) other =
     let p = at_until (first other _ _ refl) refl in
     let word : p.value ≡ value = cc in
-    let same : p.n ≡ n = number_once 1000000000000 value p.n n (omega arith) (subst (λ w. IsNumber 1000000000000 w p.n) word p.number) number in
+    let same : p.n ≡ n = number_once 1000000000000 value p.n n (omega arith) (subst (λ w. IsNumber 1000000000000 w p.n) word p.number)
+    number in
     let rest : p.words ≡ words = cc in
-    gives_once on (subst (λ ws. Gives (record g { until = Some n }) ws k) rest (subst (λ m. Gives (record g { until = Some m }) p.words k) same p.on))
+    gives_once on (subst (λ ws. Gives (record g { until = Some n }) ws k) rest
+    (subst (λ m. Gives (record g { until = Some m }) p.words k) same p.on))
 gives_once {k = k} (inputs {g = g} {value = value} {words = words} fresh on) other =
     let p = at_inputs (first other _ _ refl) refl in
     let word : p.value ≡ value = cc in
     let rest : p.words ≡ words = cc in
-    gives_once on (subst (λ ws. Gives (record g { inputs = Some value }) ws k) rest (subst (λ w. Gives (record g { inputs = Some w }) p.words k) word p.on))
+    gives_once on (subst (λ ws. Gives (record g { inputs = Some value }) ws k) rest
+    (subst (λ w. Gives (record g { inputs = Some w }) p.words k) word p.on))
 gives_once (heap fresh on) other = let p = at_heap (first other _ _ refl) refl in gives_once on p.on
 
 -- the first word that is left is taken, with its value
-pub on_steps : (g now : Given) (word value : List ℕ) (behind left : Words) (n : ℕ) → word ≡ codes "--steps" → behind ≡ value ∷ left → g.steps ≡ None → IsNumber 100000000 value n → now ≡ record g { steps = Some n } → Continues g (word ∷ behind) now left
+pub on_steps : (g now : Given) (word value : List ℕ) (behind left : Words) (n : ℕ) → word ≡ codes "--steps" → behind ≡ value ∷ left →
+    g.steps ≡ None → IsNumber 100000000 value n → now ≡ record g { steps = Some n } → Continues g (word ∷ behind) now left
 on_steps g now word value behind left n w split fresh number e h = (
   λ (a : Gives g (word ∷ behind) h). (
       let p = at_steps (first a word behind refl) w in
@@ -129,12 +138,14 @@ on_steps g now word value behind left n w split fresh number e h = (
       subst (λ ws. Gives g ws h) words (steps n fresh number (subst (λ k. Gives k left h) e b))),
 )
 
-pub on_until : (g now : Given) (word value : List ℕ) (behind left : Words) (n : ℕ) → word ≡ codes "--until" → behind ≡ value ∷ left → g.until ≡ None → IsNumber 1000000000000 value n → now ≡ record g { until = Some n } → Continues g (word ∷ behind) now left
+pub on_until : (g now : Given) (word value : List ℕ) (behind left : Words) (n : ℕ) → word ≡ codes "--until" → behind ≡ value ∷ left →
+    g.until ≡ None → IsNumber 1000000000000 value n → now ≡ record g { until = Some n } → Continues g (word ∷ behind) now left
 on_until g now word value behind left n w split fresh number e h = (
   λ (a : Gives g (word ∷ behind) h). (
       let p = at_until (first a word behind refl) w in
       let same : p.value ≡ value = cc in
-      let m : p.n ≡ n = number_once 1000000000000 value p.n n (omega arith) (subst (λ v. IsNumber 1000000000000 v p.n) same p.number) number in
+      let m : p.n ≡ n = number_once 1000000000000 value p.n n (omega arith) (subst (λ v. IsNumber 1000000000000 v p.n) same p.number) number
+      in
       let rest : p.words ≡ left = cc in
       let given : record g { until = Some p.n } ≡ now = ap (λ k. record g { until = Some k }) m ∙ sym e in
       subst (λ k. Gives k left h) given (subst (λ ws. Gives (record g { until = Some p.n }) ws h) rest p.on)),
@@ -143,7 +154,8 @@ on_until g now word value behind left n w split fresh number e h = (
       subst (λ ws. Gives g ws h) words (until n fresh number (subst (λ k. Gives k left h) e b))),
 )
 
-pub on_inputs : (g now : Given) (word value : List ℕ) (behind left : Words) → word ≡ codes "--in" → behind ≡ value ∷ left → g.inputs ≡ None → now ≡ record g { inputs = Some value } → Continues g (word ∷ behind) now left
+pub on_inputs : (g now : Given) (word value : List ℕ) (behind left : Words) → word ≡ codes "--in" → behind ≡ value ∷ left →
+    g.inputs ≡ None → now ≡ record g { inputs = Some value } → Continues g (word ∷ behind) now left
 on_inputs g now word value behind left w split fresh e h = (
   λ (a : Gives g (word ∷ behind) h). (
       let p = at_inputs (first a word behind refl) w in
@@ -156,7 +168,8 @@ on_inputs g now word value behind left w split fresh e h = (
       subst (λ ws. Gives g ws h) words (inputs fresh (subst (λ k. Gives k left h) e b))),
 )
 
-pub on_heap : (g now : Given) (word : List ℕ) (left : Words) → word ≡ codes "--heap" → g.heap ≡ false → now ≡ record g { heap = true } → Continues g (word ∷ left) now left
+pub on_heap : (g now : Given) (word : List ℕ) (left : Words) → word ≡ codes "--heap" → g.heap ≡ false → now ≡ record g { heap = true } →
+    Continues g (word ∷ left) now left
 on_heap g now word left w fresh e h = (
   λ (a : Gives g (word ∷ left) h). (
       let p = at_heap (first a word left refl) w in
@@ -166,7 +179,8 @@ on_heap g now word left w fresh e h = (
 )
 
 -- no words are left
-pub all_taken : {A : Type 0} → (text : A → List ℕ) (g now : Given) (words : Words) (left : List A) → length left ≡ 0 → Continues g words now (map text left) → Gives g words now
+pub all_taken : {A : Type 0} → (text : A → List ℕ) (g now : Given) (words : Words) (left : List A) → length left ≡ 0 →
+    Continues g words now (map text left) → Gives g words now
 all_taken text g now words [] e on = (on now).1 none_left
 all_taken text g now words (a ∷ left) e on = absurd (omega arith)
 

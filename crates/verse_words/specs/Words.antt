@@ -1,5 +1,6 @@
 -- The words of a command line, and the command that they are.
-use Rattle.std.specs.Prelude.{◌≡◌, ◌≢◌, ℕ, ◌≤◌, ℤ, List, [], ◌∷◌, ◌++◌, Bool, true, false, Option, Some, None, unwrap_or, length, codes, decimal, FitsSigned}
+use Rattle.std.specs.Prelude.{◌≡◌, ◌≢◌, ℕ, ◌≤◌, ℤ, List, [], ◌∷◌, ◌++◌, Bool, true, false, Option, Some, None, unwrap_or, length, codes}
+use Rattle.std.specs.Prelude.{decimal, FitsSigned}
 use Rattle.std.specs.Fmt.{signed_decimal}
 use Rattle.std.specs.Int.{w64}
 
@@ -96,7 +97,8 @@ options_of g ns = record {
 pub data Says : List (List ℕ) → Command → Type 0 where
   says_run : {files words : List (List ℕ)} {g : Given} {ns : List ℤ} → AreFiles files → Gives no_options words g → Inputs g.inputs ns →
       Says (codes "run" ∷ files ++ words) (run files (options_of g ns))
-  says_exec : {file : List ℕ} {words : List (List ℕ)} {g : Given} {ns : List ℤ} → IsFile file → Gives no_options words g → Inputs g.inputs ns →
+  says_exec : {file : List ℕ} {words : List (List ℕ)} {g : Given} {ns : List ℤ} → IsFile file → Gives no_options words g →
+      Inputs g.inputs ns →
       Says (codes "exec" ∷ file ∷ words) (exec file (options_of g ns))
   says_check : {files : List (List ℕ)} → AreFiles files → Says (codes "check" ∷ files) (check files)
 

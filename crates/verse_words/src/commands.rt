@@ -1,6 +1,8 @@
 //! What a command line asks for.
-ghost use Rattle.std.specs.Prelude.{◌≡◌, ◌≤◌, ◌↔◌, ◌∷◌, ◌++◌, ℤ, codes, length, List, IfOk, IfSome, IsTrue, MatchOption, map, string_bytes, option_copied};
-ghost use Rattle.verse_words.specs.Words.{AreFiles, Command, EachIsFile, Inputs, IsFile, SayOnce, Says};
+ghost use Rattle.std.specs.Prelude.{◌≡◌, ◌≤◌, ◌↔◌, ◌∷◌, ◌++◌, ℤ, codes, length, List, IfOk, IfSome};
+ghost use Rattle.std.specs.Prelude.{IsTrue, MatchOption, map, string_bytes, option_copied};
+ghost use Rattle.verse_words.specs.Words.{AreFiles, Command, EachIsFile, Inputs, IsFile, SayOnce};
+ghost use Rattle.verse_words.specs.Words.{Says};
 ghost use Rattle.verse_words.specs.Requests.{AsksFor, BeginsWithNoFile, Gave, NoOptions, names_of};
 
 use crate::numbers::{inputs, is, lists_inputs};
@@ -120,7 +122,8 @@ fn split_files(words: &[String]) -> (&[String], &[String])
 fn run<'a>(files: &'a [String], options: &'a [String]) -> Option<Request<'a>>
     requires are { AreFiles (map string_bytes files.now) }
     requires behind { BeginsWithNoFile (map string_bytes options.now) }
-    ensures asks { MatchOption result ((c : Command) → ¬ (Says (codes "run" ∷ map string_bytes files.now ++ map string_bytes options.now) c))
+    ensures asks { MatchOption result ((c : Command) →
+        ¬ (Says (codes "run" ∷ map string_bytes files.now ++ map string_bytes options.now) c))
         (λ r. (c : Command) × Says (codes "run" ∷ map string_bytes files.now ++ map string_bytes options.now) c × AsksFor r c) }
     ensures files { IfSome result (λ r. AreFiles (names_of r)) }
 {
@@ -131,7 +134,8 @@ fn run<'a>(files: &'a [String], options: &'a [String]) -> Option<Request<'a>>
 fn exec<'a>(files: &'a [String], options: &'a [String]) -> Option<Request<'a>>
     requires are { AreFiles (map string_bytes files.now) }
     requires behind { BeginsWithNoFile (map string_bytes options.now) }
-    ensures asks { MatchOption result ((c : Command) → ¬ (Says (codes "exec" ∷ map string_bytes files.now ++ map string_bytes options.now) c))
+    ensures asks { MatchOption result ((c : Command) →
+        ¬ (Says (codes "exec" ∷ map string_bytes files.now ++ map string_bytes options.now) c))
         (λ r. (c : Command) × Says (codes "exec" ∷ map string_bytes files.now ++ map string_bytes options.now) c × AsksFor r c) }
     ensures files { IfSome result (λ r. AreFiles (names_of r)) }
 {
@@ -143,7 +147,8 @@ fn exec<'a>(files: &'a [String], options: &'a [String]) -> Option<Request<'a>>
 
 /// These files with the options of a run.
 fn with_options<'a>(files: &'a [String], options: &'a [String]) -> Option<Running<'a>>
-    ensures gives { MatchOption result (NoOptions (map string_bytes options.now)) (λ r. Gave (map string_bytes options.now) r) }
+    ensures gives { MatchOption result (NoOptions (map string_bytes options.now))
+        (λ r. Gave (map string_bytes options.now) r) }
     ensures files { IfSome result (λ r. map string_bytes r.files.now ≡ map string_bytes files.now) }
 {
     let given = all_options(options)?;
@@ -163,7 +168,8 @@ fn with_options<'a>(files: &'a [String], options: &'a [String]) -> Option<Runnin
 fn check<'a>(files: &'a [String], options: &'a [String]) -> Option<Request<'a>>
     requires are { AreFiles (map string_bytes files.now) }
     requires behind { BeginsWithNoFile (map string_bytes options.now) }
-    ensures asks { MatchOption result ((c : Command) → ¬ (Says (codes "check" ∷ map string_bytes files.now ++ map string_bytes options.now) c))
+    ensures asks { MatchOption result ((c : Command) →
+        ¬ (Says (codes "check" ∷ map string_bytes files.now ++ map string_bytes options.now) c))
         (λ r. (c : Command) × Says (codes "check" ∷ map string_bytes files.now ++ map string_bytes options.now) c × AsksFor r c) }
     ensures files { IfSome result (λ r. AreFiles (names_of r)) }
 {

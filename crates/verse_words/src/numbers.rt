@@ -19,7 +19,8 @@ pub(crate) fn is(word: &str, name: &str) -> bool
 
 /// The number of a word, at most `most`.
 pub(crate) fn number(word: &str, most: u64) -> Option<u64>
-    ensures { MatchOption result ((n : ℕ) → ¬ (IsNumber most word.now n)) (λ n. IsNumber most word.now n) }
+    ensures { MatchOption result ((n : ℕ) → ¬ (IsNumber most word.now n))
+        (λ n. IsNumber most word.now n) }
 {
     let Ok(number) = word.parse::<u64>() else {
         return None;

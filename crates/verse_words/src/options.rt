@@ -1,5 +1,6 @@
 //! The options of a command line, in any order, each at most once.
-ghost use Rattle.std.specs.Prelude.{◌≡◌, ℕ, List, false, true, map, string_bytes, ◌∷◌, ◌≤◌, length, IfSome, MatchOption, option_copied};
+ghost use Rattle.std.specs.Prelude.{◌≡◌, ℕ, List, false, true, map, string_bytes, ◌∷◌, ◌≤◌, length};
+ghost use Rattle.std.specs.Prelude.{IfSome, MatchOption, option_copied};
 ghost use Rattle.verse_words.specs.Words.{Gives, IsNumber, no_options};
 ghost use Rattle.verse_words.specs.Settings.{Continues, Wrong, given_of};
 
@@ -21,7 +22,8 @@ pub(crate) struct Settings<'a> {
 
 /// The options that all these words give.
 pub(crate) fn all_options(words: &[String]) -> Option<Settings<'_>>
-    ensures { MatchOption result (Wrong no_options (map string_bytes words.now)) (λ s. Gives no_options (map string_bytes words.now) (given_of s)) }
+    ensures { MatchOption result (Wrong no_options (map string_bytes words.now))
+        (λ s. Gives no_options (map string_bytes words.now) (given_of s)) }
 {
     let mut given = Settings {
         steps: None,
@@ -41,8 +43,10 @@ fn option<'a>(
     word: &str,
     behind: &'a [String],
 ) -> Option<(Settings<'a>, &'a [String])>
-    ensures gives { MatchOption result (Wrong (given_of given.entry) (word.now ∷ map string_bytes behind.now))
-        (λ r. Continues (given_of given.entry) (word.now ∷ map string_bytes behind.now) (given_of r.0) (map string_bytes r.1.now)) }
+    ensures gives { MatchOption result
+        (Wrong (given_of given.entry) (word.now ∷ map string_bytes behind.now))
+        (λ r. Continues (given_of given.entry) (word.now ∷ map string_bytes behind.now)
+        (given_of r.0) (map string_bytes r.1.now)) }
     ensures shorter { IfSome result (λ r. length r.1.now ≤ length behind.now) }
 {
     if is(word, "--heap") {
@@ -62,7 +66,8 @@ fn option<'a>(
 }
 
 fn heap<'a>(given: Settings<'a>) -> Option<Settings<'a>>
-    ensures { MatchOption result (¬ (given.entry.heap ≡ false)) (λ g. (given.entry.heap ≡ false) × (given_of g ≡ record (given_of given.entry) { heap = true })) }
+    ensures { MatchOption result (¬ (given.entry.heap ≡ false)) (λ g. (given.entry.heap ≡ false) ×
+        (given_of g ≡ record (given_of given.entry) { heap = true })) }
 {
     if given.heap {
         return None;
@@ -74,8 +79,10 @@ fn heap<'a>(given: Settings<'a>) -> Option<Settings<'a>>
 }
 
 fn steps<'a>(given: Settings<'a>, value: &str) -> Option<Settings<'a>>
-    ensures { MatchOption result ((n : ℕ) → given.entry.steps ≡ None → ¬ (IsNumber 100000000 value.now n))
-        (λ g. (n : ℕ) × (given.entry.steps ≡ None) × IsNumber 100000000 value.now n × (given_of g ≡ record (given_of given.entry) { steps = Some n })) }
+    ensures { MatchOption result ((n : ℕ) → given.entry.steps ≡ None →
+        ¬ (IsNumber 100000000 value.now n))
+        (λ g. (n : ℕ) × (given.entry.steps ≡ None) × IsNumber 100000000 value.now n ×
+        (given_of g ≡ record (given_of given.entry) { steps = Some n })) }
 {
     if given.steps.is_some() {
         return None;
@@ -88,8 +95,10 @@ fn steps<'a>(given: Settings<'a>, value: &str) -> Option<Settings<'a>>
 }
 
 fn until<'a>(given: Settings<'a>, value: &str) -> Option<Settings<'a>>
-    ensures { MatchOption result ((n : ℕ) → given.entry.until ≡ None → ¬ (IsNumber 1000000000000 value.now n))
-        (λ g. (n : ℕ) × (given.entry.until ≡ None) × IsNumber 1000000000000 value.now n × (given_of g ≡ record (given_of given.entry) { until = Some n })) }
+    ensures { MatchOption result ((n : ℕ) → given.entry.until ≡ None →
+        ¬ (IsNumber 1000000000000 value.now n))
+        (λ g. (n : ℕ) × (given.entry.until ≡ None) × IsNumber 1000000000000 value.now n ×
+        (given_of g ≡ record (given_of given.entry) { until = Some n })) }
 {
     if given.until.is_some() {
         return None;
@@ -103,7 +112,8 @@ fn until<'a>(given: Settings<'a>, value: &str) -> Option<Settings<'a>>
 
 fn inputs<'a>(given: Settings<'a>, value: &'a str) -> Option<Settings<'a>>
     ensures { MatchOption result (¬ (option_copied given.entry.inputs ≡ None))
-        (λ g. (option_copied given.entry.inputs ≡ None) × (given_of g ≡ record (given_of given.entry) { inputs = Some value.now })) }
+        (λ g. (option_copied given.entry.inputs ≡ None) ×
+        (given_of g ≡ record (given_of given.entry) { inputs = Some value.now })) }
 {
     if given.inputs.is_some() {
         return None;

@@ -41,7 +41,8 @@ fn value_names<'a>(alloc: Global, values: &'a [Name]) -> Result<NameSet<'a>, Mem
 }
 
 fn add_values<'a>(alloc: Global, found: &mut Vec<NameSet<'a>>, item: &'a Item) -> Result<(), Memory>
-    ensures { OnOk result (map names_of found.new.items ≡ map names_of found.old.items ++ f.item_values (item_of item.now)) }
+    ensures { OnOk result (map names_of found.new.items ≡ map names_of found.old.items ++
+        f.item_values (item_of item.now)) }
 {
     match item {
         Item::Enum(item) => {
@@ -96,8 +97,10 @@ impl<'a> Tables<'a> {
 
 /// The names of the members of all classes and of the values of all enums of a program.
 pub fn make_tables<'a>(alloc: Global, items: &'a [Item]) -> Result<Tables<'a>, Memory>
-    ensures members { IfOk result (λ t. map members_view t.members.items ≡ f.class_members (known (map item_of items.now))) }
-    ensures values { IfOk result (λ t. map names_of t.values.items ≡ f.enum_values (map item_of items.now)) }
+    ensures members { IfOk result (λ t. map members_view t.members.items ≡
+        f.class_members (known (map item_of items.now))) }
+    ensures values { IfOk result (λ t. map names_of t.values.items ≡
+        f.enum_values (map item_of items.now)) }
 {
     let known = know(alloc, items)?;
     let members = class_members(alloc, &known)?;

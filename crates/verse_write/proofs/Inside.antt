@@ -1,13 +1,16 @@
 -- A value with the part that an index leads to changed.
-use Rattle.std.proofs.Common.{◌≡◌, ℕ, zero, suc, ◌<◌, ℤ, pos, negsuc, Bool, true, false, ◌∷◌, Option, Some, None, option_map, nat_lt, arith, refl, sym, ap, subst, ◌∙◌}
+use Rattle.std.proofs.Common.{◌≡◌, ℕ, zero, suc, ◌<◌, ℤ, pos, negsuc, Bool, true, false, ◌∷◌, Option, Some, None, option_map, nat_lt, arith}
+use Rattle.std.proofs.Common.{refl, sym, ap, subst, ◌∙◌}
 use Rattle.std.proofs.lemmas.Bool.Decides.{nat_tests}
 use Rattle.verse_value.specs.declared.keys.Key.{Key}
-use Rattle.verse_value.specs.Val.{Val, unit, falsity, truth, int, char, enum, object, event, task, some, array, mapping, tuple, Vals, no_vals, more_vals, Pairs, no_pairs, more_pairs}
+use Rattle.verse_value.specs.Val.{Val, unit, falsity, truth, int, char, enum, object, event, task, some, array, mapping, tuple, Vals}
+use Rattle.verse_value.specs.Val.{no_vals, more_vals, Pairs, no_pairs, more_pairs}
 use Rattle.verse_value.specs.Keys.{key_eq, key_of, at_key}
 use Rattle.verse_value.specs.Entries.{key_place}
 use Rattle.verse_value.specs.Parts.{keys_in, vals_in, pair_set}
 use Rattle.verse_value.specs.Operations.{count, entry_count}
-use Rattle.verse_value.specs.Places.{Step, part, outside, absent, part_or, step_in, in_array, in_map, int_of, place_in, nth, with_nth, with_key, changed}
+use Rattle.verse_value.specs.Places.{Step, part, outside, absent, part_or, step_in, in_array, in_map, int_of, place_in, nth, with_nth}
+use Rattle.verse_value.specs.Places.{with_key, changed}
 use Rattle.verse_value.proofs.Steps.{not_first, below}
 use Rattle.verse_value.proofs.KeyPlaces.{place_within}
 use Rattle.verse_value.proofs.Seen.{key_count_in}
@@ -40,16 +43,21 @@ nth_count (more_vals v vs) (suc i) f = ap suc (nth_count vs i f)
 
 -- values by their keys
 module _ (k l : Key) (v : Val) (ps : Pairs) (x : Val) (f : Val → Val) where
-  key_changed_cases : (b : Bool) → key_eq k l ≡ b → (at_key ps k ≡ Some x → at_key (with_key ps k f) k ≡ Some (f x)) → at_key (more_pairs l v ps) k ≡ Some x → at_key (with_key (more_pairs l v ps) k f) k ≡ Some (f x)
+  key_changed_cases : (b : Bool) → key_eq k l ≡ b → (at_key ps k ≡ Some x → at_key (with_key ps k f) k ≡ Some (f x)) →
+      at_key (more_pairs l v ps) k ≡ Some x → at_key (with_key (more_pairs l v ps) k f) k ≡ Some (f x)
   key_changed_cases true h rest e = let g : Some v ≡ Some x = rw h at e in let same : v ≡ x = cc in rw (h, h) (ap (λ y. Some (f y)) same)
   key_changed_cases false h rest e = rw (h, h) (rest (rw h at e))
 
-  key_alike_cases : (g : Val → Val) (b : Bool) → key_eq k l ≡ b → (at_key ps k ≡ Some x → with_key ps k f ≡ with_key ps k g) → at_key (more_pairs l v ps) k ≡ Some x → f x ≡ g x → with_key (more_pairs l v ps) k f ≡ with_key (more_pairs l v ps) k g
-  key_alike_cases g true h rest e a = let d : Some v ≡ Some x = rw h at e in let same : v ≡ x = cc in rw h (ap (λ y. more_pairs l y ps) (ap f same ∙ a ∙ ap g (sym same)))
+  key_alike_cases : (g : Val → Val) (b : Bool) → key_eq k l ≡ b → (at_key ps k ≡ Some x → with_key ps k f ≡ with_key ps k g) →
+      at_key (more_pairs l v ps) k ≡ Some x → f x ≡ g x → with_key (more_pairs l v ps) k f ≡ with_key (more_pairs l v ps) k g
+  key_alike_cases g true h rest e a = let d : Some v ≡ Some x = rw h at e in let same : v ≡ x = cc in
+      rw h (ap (λ y. more_pairs l y ps) (ap f same ∙ a ∙ ap g (sym same)))
   key_alike_cases g false h rest e a = rw h (ap (more_pairs l v) (rest (rw h at e)))
 
-  key_kept_cases : (b : Bool) → key_eq k l ≡ b → (at_key ps k ≡ Some x → with_key ps k f ≡ ps) → at_key (more_pairs l v ps) k ≡ Some x → f x ≡ x → with_key (more_pairs l v ps) k f ≡ more_pairs l v ps
-  key_kept_cases true h rest e a = let d : Some v ≡ Some x = rw h at e in let same : v ≡ x = cc in rw h (ap (λ y. more_pairs l y ps) (ap f same ∙ a ∙ sym same))
+  key_kept_cases : (b : Bool) → key_eq k l ≡ b → (at_key ps k ≡ Some x → with_key ps k f ≡ ps) → at_key (more_pairs l v ps) k ≡ Some x →
+      f x ≡ x → with_key (more_pairs l v ps) k f ≡ more_pairs l v ps
+  key_kept_cases true h rest e a = let d : Some v ≡ Some x = rw h at e in let same : v ≡ x = cc in
+      rw h (ap (λ y. more_pairs l y ps) (ap f same ∙ a ∙ sym same))
   key_kept_cases false h rest e a = rw h (ap (more_pairs l v) (rest (rw h at e)))
 
 key_changed : (k : Key) (ps : Pairs) (x : Val) (f : Val → Val) → at_key ps k ≡ Some x → at_key (with_key ps k f) k ≡ Some (f x)
@@ -64,7 +72,9 @@ key_kept : (k : Key) (ps : Pairs) (x : Val) (f : Val → Val) → f x ≡ x → 
 key_kept k no_pairs x f a e = refl
 key_kept k (more_pairs l v ps) x f a e = key_kept_cases k l v ps x f (key_eq k l) refl (key_kept k ps x f a) e a
 
-key_twice_cases : (k l : Key) (v : Val) (ps : Pairs) (f g : Val → Val) (b : Bool) → key_eq k l ≡ b → with_key (with_key ps k f) k g ≡ with_key ps k (λ x. g (f x)) → with_key (with_key (more_pairs l v ps) k f) k g ≡ with_key (more_pairs l v ps) k (λ x. g (f x))
+key_twice_cases : (k l : Key) (v : Val) (ps : Pairs) (f g : Val → Val) (b : Bool) → key_eq k l ≡ b →
+    with_key (with_key ps k f) k g ≡ with_key ps k (λ x. g (f x)) →
+    with_key (with_key (more_pairs l v ps) k f) k g ≡ with_key (more_pairs l v ps) k (λ x. g (f x))
 key_twice_cases k l v ps f g true h rest = rw (h, h) refl
 key_twice_cases k l v ps f g false h rest = rw (h, h) (ap (more_pairs l v) rest)
 
@@ -128,8 +138,10 @@ map_inside ps index x k is e = record {
 }
 
 pub inside : (v index x : Val) → step_in v index ≡ part x → Inside v index x
-inside (array vs) index x e = let at : AtInt vs x index = at_int vs x index e in subst (λ (i : Val). Inside (array vs) i x) (sym at.1) (array_inside vs x at.0 at.2)
-inside (mapping ps) index x e = let at : AtKey ps x (key_of index) = at_some_key ps x (key_of index) e in map_inside ps index x at.0 at.1 at.2
+inside (array vs) index x e = let at : AtInt vs x index = at_int vs x index e in
+    subst (λ (i : Val). Inside (array vs) i x) (sym at.1) (array_inside vs x at.0 at.2)
+inside (mapping ps) index x e = let at : AtKey ps x (key_of index) = at_some_key ps x (key_of index) e in
+    map_inside ps index x at.0 at.1 at.2
 inside unit index x e = absurd (cc)
 inside falsity index x e = absurd (cc)
 inside truth index x e = absurd (cc)
@@ -156,7 +168,8 @@ place_some len (pos m) i e = cases (nat_lt m len) refl
     cases false h = absurd (let g : None ≡ Some i = rw h at e in cc)
 
 pub array_at : (index : Val) (len i : ℕ) → Some (Some i) ≡ option_map (place_in len) (int_of index) → (index ≡ int (pos i)) × (i < len)
-array_at (int n) len i e = let f : place_in len n ≡ Some i = cc in let g : (n ≡ pos i) × (i < len) = place_some len n i f in (ap int g.0, g.1)
+array_at (int n) len i e = let f : place_in len n ≡ Some i = cc in let g : (n ≡ pos i) × (i < len) = place_some len n i f in
+    (ap int g.0, g.1)
 array_at unit len i e = absurd (cc)
 array_at falsity len i e = absurd (cc)
 array_at truth len i e = absurd (cc)
@@ -170,7 +183,8 @@ array_at (array vs) len i e = absurd (cc)
 array_at (mapping ps) len i e = absurd (cc)
 array_at (tuple vs) len i e = absurd (cc)
 
-pub put_back : (vs : Vals) (index : Val) (i : ℕ) (x u w : Val) (f : Val → Val) → index ≡ int (pos i) → nth vs i ≡ Some x → w ≡ f x → array (with_nth (with_nth vs i (λ _. u)) i (λ _. w)) ≡ changed (array vs) index f
+pub put_back : (vs : Vals) (index : Val) (i : ℕ) (x u w : Val) (f : Val → Val) → index ≡ int (pos i) → nth vs i ≡ Some x → w ≡ f x →
+    array (with_nth (with_nth vs i (λ _. u)) i (λ _. w)) ≡ changed (array vs) index f
 put_back vs index i x u w f is e h =
     ap array (nth_twice vs i (λ _. u) (λ _. w) ∙ nth_alike vs i x (λ _. w) f e h) ∙ ap (λ (j : Val). changed (array vs) j f) (sym is)
 
@@ -182,21 +196,25 @@ array_leads vs index i x is e = ap (in_array vs) is ∙ ap (part_or outside) e
 
 -- the value at a key, taken out and another one put in
 module _ (k l : Key) (v : Val) (ps : Pairs) (w : Val) where
-  set_cases : (f : Val → Val) (x : Val) (b : Bool) (i : ℕ) → key_eq k l ≡ b → ((j : ℕ) → key_place k (keys_in ps) ≡ Some j → nth (vals_in ps) j ≡ Some x → pair_set ps j w ≡ with_key ps k f)
-      → key_place k (l ∷ keys_in ps) ≡ Some i → nth (more_vals v (vals_in ps)) i ≡ Some x → w ≡ f x → pair_set (more_pairs l v ps) i w ≡ with_key (more_pairs l v ps) k f
+  set_cases : (f : Val → Val) (x : Val) (b : Bool) (i : ℕ) → key_eq k l ≡ b →
+      ((j : ℕ) → key_place k (keys_in ps) ≡ Some j → nth (vals_in ps) j ≡ Some x → pair_set ps j w ≡ with_key ps k f)
+      → key_place k (l ∷ keys_in ps) ≡ Some i → nth (more_vals v (vals_in ps)) i ≡ Some x → w ≡ f x →
+      pair_set (more_pairs l v ps) i w ≡ with_key (more_pairs l v ps) k f
   set_cases f x true zero h rest e n g = let same : v ≡ x = cc in rw h (ap (λ y. more_pairs l y ps) (g ∙ ap f (sym same)))
   set_cases f x true (suc i) h rest e n g = absurd (let d : Some zero ≡ Some (suc i) = rw h at e in cc)
   set_cases f x false zero h rest e n g = absurd (not_first (key_place k (keys_in ps)) (rw h at e))
   set_cases f x false (suc i) h rest e n g = rw h (ap (more_pairs l v) (rest i (below (key_place k (keys_in ps)) i (rw h at e)) n))
 
-  at_cases : (x : Val) (b : Bool) (i : ℕ) → key_eq k l ≡ b → ((j : ℕ) → key_place k (keys_in ps) ≡ Some j → nth (vals_in ps) j ≡ Some x → at_key ps k ≡ Some x)
+  at_cases : (x : Val) (b : Bool) (i : ℕ) → key_eq k l ≡ b →
+      ((j : ℕ) → key_place k (keys_in ps) ≡ Some j → nth (vals_in ps) j ≡ Some x → at_key ps k ≡ Some x)
       → key_place k (l ∷ keys_in ps) ≡ Some i → nth (more_vals v (vals_in ps)) i ≡ Some x → at_key (more_pairs l v ps) k ≡ Some x
   at_cases x true zero h rest e n = rw h n
   at_cases x true (suc i) h rest e n = absurd (let d : Some zero ≡ Some (suc i) = rw h at e in cc)
   at_cases x false zero h rest e n = absurd (not_first (key_place k (keys_in ps)) (rw h at e))
   at_cases x false (suc i) h rest e n = rw h (rest i (below (key_place k (keys_in ps)) i (rw h at e)) n)
 
-pair_set_is : (k : Key) (ps : Pairs) (w x : Val) (f : Val → Val) → w ≡ f x → (i : ℕ) → key_place k (keys_in ps) ≡ Some i → nth (vals_in ps) i ≡ Some x → pair_set ps i w ≡ with_key ps k f
+pair_set_is : (k : Key) (ps : Pairs) (w x : Val) (f : Val → Val) → w ≡ f x → (i : ℕ) → key_place k (keys_in ps) ≡ Some i →
+    nth (vals_in ps) i ≡ Some x → pair_set ps i w ≡ with_key ps k f
 pair_set_is k no_pairs w x f g i e n = absurd (cc)
 pair_set_is k (more_pairs l v ps) w x f g i e n = set_cases k l v ps w f x (key_eq k l) i refl (pair_set_is k ps w x f g) e n g
 
@@ -226,17 +244,20 @@ pub key_at : (ps : Pairs) (i : ℕ) (o : Option Key) → Some (Some i) ≡ optio
 key_at ps i None e = absurd (cc)
 key_at ps i (Some k) e = let f : key_place k (keys_in ps) ≡ Some i = cc in (k, refl, f)
 
-pub map_leads : (ps : Pairs) (index : Val) (i : ℕ) (x : Val) → KeyAt ps i (key_of index) → nth (vals_in ps) i ≡ Some x → step_in (mapping ps) index ≡ part x
+pub map_leads : (ps : Pairs) (index : Val) (i : ℕ) (x : Val) → KeyAt ps i (key_of index) → nth (vals_in ps) i ≡ Some x →
+    step_in (mapping ps) index ≡ part x
 map_leads ps index i x at e = rw at.1 (ap (part_or absent) (at_place at.0 ps x i at.2 e))
 
-pub map_put_back : (ps : Pairs) (index : Val) (i : ℕ) (x u w : Val) (f : Val → Val) → KeyAt ps i (key_of index) → nth (vals_in ps) i ≡ Some x → w ≡ f x → mapping (pair_set (pair_set ps i u) i w) ≡ changed (mapping ps) index f
+pub map_put_back : (ps : Pairs) (index : Val) (i : ℕ) (x u w : Val) (f : Val → Val) → KeyAt ps i (key_of index) →
+    nth (vals_in ps) i ≡ Some x → w ≡ f x → mapping (pair_set (pair_set ps i u) i w) ≡ changed (mapping ps) index f
 map_put_back ps index i x u w f at e h = rw at.1 (ap mapping (pair_set_twice ps i u w ∙ pair_set_is at.0 ps w x f h i at.2 e))
 
 pub map_put_same : (ps : Pairs) (i : ℕ) (x u w : Val) → nth (vals_in ps) i ≡ Some x → w ≡ x → pair_set (pair_set ps i u) i w ≡ ps
 map_put_same ps i x u w e h = pair_set_twice ps i u w ∙ ap (pair_set ps i) h ∙ pair_set_kept ps i x e
 
 -- a key that is lacking has no place
-lacking_cases : (k l : Key) (v : Val) (ps : Pairs) (b : Bool) → key_eq k l ≡ b → (at_key ps k ≡ None → key_place k (keys_in ps) ≡ None) → at_key (more_pairs l v ps) k ≡ None → key_place k (l ∷ keys_in ps) ≡ None
+lacking_cases : (k l : Key) (v : Val) (ps : Pairs) (b : Bool) → key_eq k l ≡ b → (at_key ps k ≡ None → key_place k (keys_in ps) ≡ None) →
+    at_key (more_pairs l v ps) k ≡ None → key_place k (l ∷ keys_in ps) ≡ None
 lacking_cases k l v ps true h rest e = absurd (let g : Some v ≡ None = rw h at e in cc)
 lacking_cases k l v ps false h rest e = rw h (ap (option_map suc) (rest (rw h at e)))
 

@@ -44,7 +44,8 @@ pub record Wrote (path : List Val) (mode : Mode) (given before after : Val) : Ty
 -- what is written is a value in the old one's place, or parts added to it
 abbrev pub Makes : Mode → Val → Val → Made → Type 0
 Makes mode old value (made.Put new) = combined mode old value ≡ gives (val_of new)
-Makes mode old value (made.Grow len more) = (combined mode old value ≡ gives (grown (there old) more)) × (len ≡ parts_there (there old)) × IsArray old
+Makes mode old value (made.Grow len more) = (combined mode old value ≡ gives (grown (there old) more)) × (len ≡ parts_there (there old)) ×
+    IsArray old
 
 -- what undoes a write: an old value goes back to the end of the path, the last key of the path's map goes, or all parts of the path's array but the first go
 abbrev pub undone : List Val → Undo → Val → Val

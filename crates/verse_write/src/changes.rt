@@ -1,7 +1,8 @@
 ghost use Rattle.std.specs.Prelude.{◌≡◌, ◌∷◌, OnOk, OnErr, IfOk};
 ghost use Rattle.verse_value.specs.View.{val_of, vals_of};
 ghost use Rattle.verse_value.specs.Val.{array, mapping};
-ghost use Rattle.verse_value.specs.Places.{end_of, applied, Allows, put, push, pop, extend, shorten, there, changed_here};
+ghost use Rattle.verse_value.specs.Places.{end_of, applied, Allows, put, push, pop, extend};
+ghost use Rattle.verse_value.specs.Places.{shorten, there, changed_here};
 ghost use Rattle.verse_write.specs.Ends.{end_found};
 ghost use Rattle.verse_write.specs.Growing.{grown, parts_there};
 ghost use Rattle.verse_write.specs.Changes.{change_of, Replaced, TakesMemory};
@@ -57,8 +58,10 @@ pub(crate) fn apply(
     change: Change,
 ) -> Result<Option<Value>, Memory>
     requires { Allows (end_of (vals_of path.now) (val_of slot.old)) (change_of change) }
-    ensures ok { OnOk result (val_of slot.new ≡ applied (vals_of path.now) (change_of change) (val_of slot.old)) }
-    ensures old { IfOk result (λ old. Replaced (change_of change) old (end_of (vals_of path.now) (val_of slot.old))) }
+    ensures ok { OnOk result (val_of slot.new ≡ applied (vals_of path.now) (change_of change)
+        (val_of slot.old)) }
+    ensures old { IfOk result (λ old.
+        Replaced (change_of change) old (end_of (vals_of path.now) (val_of slot.old))) }
     ensures memory { OnErr result (TakesMemory (change_of change)) }
     ensures err { OnErr result (val_of slot.new ≡ val_of slot.old) }
 {
@@ -79,9 +82,13 @@ fn apply_to_part(
     path: &[Value],
     made: Change,
 ) -> Result<Option<Value>, Memory>
-    requires { Allows (end_of (val_of index.now ∷ vals_of path.now) (array parts.old)) (change_of made) }
-    ensures ok { OnOk result (array parts.new ≡ applied (val_of index.now ∷ vals_of path.now) (change_of made) (array parts.old)) }
-    ensures old { IfOk result (λ old. Replaced (change_of made) old (end_of (val_of index.now ∷ vals_of path.now) (array parts.old))) }
+    requires { Allows (end_of (val_of index.now ∷ vals_of path.now) (array parts.old))
+        (change_of made) }
+    ensures ok { OnOk result (array parts.new ≡ applied (val_of index.now ∷ vals_of path.now)
+        (change_of made) (array parts.old)) }
+    ensures old { IfOk result (λ old.
+        Replaced (change_of made) old
+        (end_of (val_of index.now ∷ vals_of path.now) (array parts.old))) }
     ensures memory { OnErr result (TakesMemory (change_of made)) }
     ensures err { OnErr result (parts.new ≡ parts.old) }
 {
@@ -104,9 +111,13 @@ fn apply_to_entry(
     path: &[Value],
     made: Change,
 ) -> Result<Option<Value>, Memory>
-    requires { Allows (end_of (val_of index.now ∷ vals_of path.now) (mapping entries.old)) (change_of made) }
-    ensures ok { OnOk result (mapping entries.new ≡ applied (val_of index.now ∷ vals_of path.now) (change_of made) (mapping entries.old)) }
-    ensures old { IfOk result (λ old. Replaced (change_of made) old (end_of (val_of index.now ∷ vals_of path.now) (mapping entries.old))) }
+    requires { Allows (end_of (val_of index.now ∷ vals_of path.now) (mapping entries.old))
+        (change_of made) }
+    ensures ok { OnOk result (mapping entries.new ≡ applied (val_of index.now ∷ vals_of path.now)
+        (change_of made) (mapping entries.old)) }
+    ensures old { IfOk result (λ old.
+        Replaced (change_of made) old
+        (end_of (val_of index.now ∷ vals_of path.now) (mapping entries.old))) }
     ensures memory { OnErr result (TakesMemory (change_of made)) }
     ensures err { OnErr result (entries.new ≡ entries.old) }
 {
@@ -152,7 +163,8 @@ fn apply_here(slot: &mut Value, change: Change) -> Result<Option<Value>, Memory>
 
 fn push_key(slot: &mut Value, key: Key, new: Value) -> Result<(), Memory>
     requires { Allows (there (val_of slot.old)) (push key (val_of new)) }
-    ensures ok { OnOk result (val_of slot.new ≡ changed_here (push key (val_of new)) (val_of slot.old)) }
+    ensures ok { OnOk result (val_of slot.new ≡
+        changed_here (push key (val_of new)) (val_of slot.old)) }
     ensures err { OnErr result (val_of slot.new ≡ val_of slot.old) }
 {
     match slot {
@@ -163,7 +175,8 @@ fn push_key(slot: &mut Value, key: Key, new: Value) -> Result<(), Memory>
 
 fn push_entry(entries: &mut Entries, key: Key, new: Value) -> Result<(), Memory>
     requires { Allows (there (mapping entries.old)) (push key (val_of new)) }
-    ensures ok { OnOk result (mapping entries.new ≡ changed_here (push key (val_of new)) (mapping entries.old)) }
+    ensures ok { OnOk result (mapping entries.new ≡
+        changed_here (push key (val_of new)) (mapping entries.old)) }
     ensures err { OnErr result (entries.new ≡ entries.old) }
 {
     entries.push(key, new)
@@ -200,19 +213,23 @@ fn shorten_here(slot: &mut Value, len: usize)
 /// Takes no memory.
 pub fn put_at(slot: &mut Value, path: &Path, value: Value) -> Value
     requires { Allows (end_of (vals_of path.now) (val_of slot.old)) (put (val_of value)) }
-    ensures new { val_of slot.new ≡ applied (vals_of path.now) (put (val_of value)) (val_of slot.old) }
+    ensures new { val_of slot.new ≡ applied (vals_of path.now) (put (val_of value))
+        (val_of slot.old) }
     ensures old { end_of (vals_of path.now) (val_of slot.old) ≡ there (val_of result) }
-    ensures back { applied (vals_of path.now) (put (val_of result)) (val_of slot.new) ≡ val_of slot.old }
+    ensures back { applied (vals_of path.now) (put (val_of result)) (val_of slot.new) ≡
+        val_of slot.old }
 {
     put(slot, path.as_slice(), value)
 }
 
 pub(crate) fn put(slot: &mut Value, path: &[Value], value: Value) -> Value
     requires { Allows (end_of (vals_of path.now) (val_of slot.old)) (put (val_of value)) }
-    ensures new { val_of slot.new ≡ applied (vals_of path.now) (put (val_of value)) (val_of slot.old) }
+    ensures new { val_of slot.new ≡ applied (vals_of path.now) (put (val_of value))
+        (val_of slot.old) }
     ensures old { end_of (vals_of path.now) (val_of slot.old) ≡ there (val_of result) }
     ensures there { end_of (vals_of path.now) (val_of slot.new) ≡ there (val_of value) }
-    ensures back { applied (vals_of path.now) (put (val_of result)) (val_of slot.new) ≡ val_of slot.old }
+    ensures back { applied (vals_of path.now) (put (val_of result)) (val_of slot.new) ≡
+        val_of slot.old }
 {
     match apply(slot, path, Change::Put(value)) {
         Ok(Some(old)) => old,
@@ -241,9 +258,11 @@ pub(crate) fn take_last(slot: &mut Value, path: &[Value])
 
 pub(crate) fn add_last(slot: &mut Value, path: &[Value], key: Key, new: Value) -> Result<(), Memory>
     requires { Allows (end_of (vals_of path.now) (val_of slot.old)) (push key (val_of new)) }
-    ensures ok { OnOk result (val_of slot.new ≡ applied (vals_of path.now) (push key (val_of new)) (val_of slot.old)) }
+    ensures ok { OnOk result (val_of slot.new ≡ applied (vals_of path.now) (push key (val_of new))
+        (val_of slot.old)) }
     ensures can_undo { OnOk result (Allows (end_of (vals_of path.now) (val_of slot.new)) pop) }
-    ensures undo { OnOk result (applied (vals_of path.now) pop (val_of slot.new) ≡ val_of slot.old) }
+    ensures undo { OnOk result (applied (vals_of path.now) pop (val_of slot.new) ≡
+        val_of slot.old) }
     ensures err { OnErr result (val_of slot.new ≡ val_of slot.old) }
 {
     let _ = apply(slot, path, Change::Push(key, new))?;
@@ -270,10 +289,17 @@ pub(crate) fn take_off(slot: &mut Value, path: &[Value], len: usize)
 
 pub(crate) fn grow(slot: &mut Value, path: &[Value], more: Parts) -> Result<(), Memory>
     requires { Allows (end_of (vals_of path.now) (val_of slot.old)) (extend more) }
-    ensures ok { OnOk result (val_of slot.new ≡ applied (vals_of path.now) (put (grown (end_of (vals_of path.now) (val_of slot.old)) more)) (val_of slot.old)) }
-    ensures there { OnOk result (end_of (vals_of path.now) (val_of slot.new) ≡ there (grown (end_of (vals_of path.now) (val_of slot.old)) more)) }
-    ensures can_undo { OnOk result (Allows (end_of (vals_of path.now) (val_of slot.new)) (shorten (parts_there (end_of (vals_of path.now) (val_of slot.old))))) }
-    ensures undo { OnOk result (applied (vals_of path.now) (shorten (parts_there (end_of (vals_of path.now) (val_of slot.old)))) (val_of slot.new) ≡ val_of slot.old) }
+    ensures ok { OnOk result (val_of slot.new ≡
+        applied (vals_of path.now) (put (grown (end_of (vals_of path.now) (val_of slot.old)) more))
+        (val_of slot.old)) }
+    ensures there { OnOk result (end_of (vals_of path.now) (val_of slot.new) ≡
+        there (grown (end_of (vals_of path.now) (val_of slot.old)) more)) }
+    ensures can_undo { OnOk result
+        (Allows (end_of (vals_of path.now) (val_of slot.new))
+        (shorten (parts_there (end_of (vals_of path.now) (val_of slot.old))))) }
+    ensures undo { OnOk result (applied (vals_of path.now)
+        (shorten (parts_there (end_of (vals_of path.now) (val_of slot.old)))) (val_of slot.new) ≡
+        val_of slot.old) }
     ensures err { OnErr result (val_of slot.new ≡ val_of slot.old) }
 {
     let _ = apply(slot, path, Change::Extend(more))?;

@@ -3,9 +3,11 @@ ghost use Rattle.verse_value.specs.View.{val_of, vals_of};
 ghost use Rattle.verse_value.specs.Val.{Val};
 ghost use Rattle.verse_value.specs.Answer.{gives};
 ghost use Rattle.verse_value.specs.Operations.{ranged, combined, sized_slot};
-ghost use Rattle.verse_value.specs.Places.{end_of, applied, Allows, put, push, pop, extend, there, new_key};
+ghost use Rattle.verse_value.specs.Places.{end_of, applied, Allows, put, push, pop, extend, there};
+ghost use Rattle.verse_value.specs.Places.{new_key};
 ghost use Rattle.verse_write.specs.Growing.{grown, parts_there};
-ghost use Rattle.verse_write.specs.Writes.{result_of, written, slot_after, Explains, Wrote, Makes, undone, CanUndo};
+ghost use Rattle.verse_write.specs.Writes.{result_of, written, slot_after, Explains, Wrote, Makes};
+ghost use Rattle.verse_write.specs.Writes.{undone, CanUndo};
 ghost use Rattle.verse_write.specs.declared.writes.WriteFault.TheVariants as fault;
 
 use crate::changes::{End, add_last, follow, grow, put, take_last, take_off};
@@ -99,8 +101,10 @@ pub fn write(
     mode: Mode,
     value: Value,
 ) -> Result<Value, WriteFault>
-    ensures ok { IfOk result (λ v. written (vals_of path.now) mode (val_of value) (val_of slot.old) ≡ Ok (val_of slot.new, val_of v)) }
-    ensures fault { IfErr result (Explains (written (vals_of path.now) mode (val_of value) (val_of slot.old))) }
+    ensures ok { IfOk result (λ v. written (vals_of path.now) mode (val_of value)
+        (val_of slot.old) ≡ Ok (val_of slot.new, val_of v)) }
+    ensures fault { IfErr result
+        (Explains (written (vals_of path.now) mode (val_of value) (val_of slot.old))) }
     ensures same { OnErr result (val_of slot.new ≡ val_of slot.old) }
 {
     let written = write_logged(alloc, slot, path, mode, value)?;
@@ -115,11 +119,14 @@ pub fn write_logged(
     mode: Mode,
     value: Value,
 ) -> Result<Written, WriteFault>
-    ensures ok { IfOk result (λ w. written (vals_of path.now) mode (val_of value) (val_of slot.old) ≡ Ok (val_of slot.new, val_of w.value)) }
-    ensures fault { IfErr result (Explains (written (vals_of path.now) mode (val_of value) (val_of slot.old))) }
+    ensures ok { IfOk result (λ w. written (vals_of path.now) mode (val_of value)
+        (val_of slot.old) ≡ Ok (val_of slot.new, val_of w.value)) }
+    ensures fault { IfErr result
+        (Explains (written (vals_of path.now) mode (val_of value) (val_of slot.old))) }
     ensures same { OnErr result (val_of slot.new ≡ val_of slot.old) }
     ensures can_undo { IfOk result (λ w. CanUndo (vals_of path.now) w.undo (val_of slot.new)) }
-    ensures undo { IfOk result (λ w. undone (vals_of path.now) w.undo (val_of slot.new) ≡ val_of slot.old) }
+    ensures undo { IfOk result (λ w. undone (vals_of path.now) w.undo (val_of slot.new) ≡
+        val_of slot.old) }
 {
     let undo = change(alloc, slot, path.as_slice(), mode, value)?;
     match copy_there(alloc, slot, path.as_slice()) {
@@ -139,8 +146,11 @@ pub fn store(
     mode: Mode,
     value: Value,
 ) -> Result<(), WriteFault>
-    ensures ok { OnOk result (slot_after (written (vals_of path.now) mode (val_of value) (val_of slot.old)) ≡ Some (val_of slot.new)) }
-    ensures fault { IfErr result (Explains (written (vals_of path.now) mode (val_of value) (val_of slot.old))) }
+    ensures ok { OnOk result (slot_after
+        (written (vals_of path.now) mode (val_of value) (val_of slot.old)) ≡
+        Some (val_of slot.new)) }
+    ensures fault { IfErr result
+        (Explains (written (vals_of path.now) mode (val_of value) (val_of slot.old))) }
     ensures same { OnErr result (val_of slot.new ≡ val_of slot.old) }
 {
     let _ = store_logged(alloc, slot, path, mode, value)?;
@@ -155,11 +165,15 @@ pub fn store_logged(
     mode: Mode,
     value: Value,
 ) -> Result<Undo, WriteFault>
-    ensures ok { OnOk result (slot_after (written (vals_of path.now) mode (val_of value) (val_of slot.old)) ≡ Some (val_of slot.new)) }
-    ensures fault { IfErr result (Explains (written (vals_of path.now) mode (val_of value) (val_of slot.old))) }
+    ensures ok { OnOk result (slot_after
+        (written (vals_of path.now) mode (val_of value) (val_of slot.old)) ≡
+        Some (val_of slot.new)) }
+    ensures fault { IfErr result
+        (Explains (written (vals_of path.now) mode (val_of value) (val_of slot.old))) }
     ensures same { OnErr result (val_of slot.new ≡ val_of slot.old) }
     ensures can_undo { IfOk result (λ u. CanUndo (vals_of path.now) u (val_of slot.new)) }
-    ensures undo { IfOk result (λ u. undone (vals_of path.now) u (val_of slot.new) ≡ val_of slot.old) }
+    ensures undo { IfOk result (λ u. undone (vals_of path.now) u (val_of slot.new) ≡
+        val_of slot.old) }
 {
     change(alloc, slot, path.as_slice(), mode, value)
 }
@@ -171,11 +185,14 @@ fn change(
     mode: Mode,
     value: Value,
 ) -> Result<Undo, WriteFault>
-    ensures ok { OnOk result (Wrote (vals_of path.now) mode (val_of value) (val_of slot.old) (val_of slot.new)) }
-    ensures fault { IfErr result (Explains (written (vals_of path.now) mode (val_of value) (val_of slot.old))) }
+    ensures ok { OnOk result (Wrote (vals_of path.now) mode (val_of value) (val_of slot.old)
+        (val_of slot.new)) }
+    ensures fault { IfErr result
+        (Explains (written (vals_of path.now) mode (val_of value) (val_of slot.old))) }
     ensures same { OnErr result (val_of slot.new ≡ val_of slot.old) }
     ensures can_undo { IfOk result (λ u. CanUndo (vals_of path.now) u (val_of slot.new)) }
-    ensures undo { IfOk result (λ u. undone (vals_of path.now) u (val_of slot.new) ≡ val_of slot.old) }
+    ensures undo { IfOk result (λ u. undone (vals_of path.now) u (val_of slot.new) ≡
+        val_of slot.old) }
 {
     match follow(slot, path) {
         End::There(old) => match make(old, mode, value)? {
@@ -204,12 +221,17 @@ fn copy_there(alloc: Global, slot: &Value, path: &[Value]) -> Result<Value, Memo
 
 fn overwrite(slot: &mut Value, path: &[Value], new: Value) -> Result<Undo, WriteFault>
     requires { Allows (end_of (vals_of path.now) (val_of slot.old)) (put (val_of new)) }
-    ensures ok { OnOk result (sized_slot (applied (vals_of path.now) (put (val_of new)) (val_of slot.old)) (val_of new) ≡ gives (val_of slot.new, val_of new)) }
+    ensures ok { OnOk result (sized_slot
+        (applied (vals_of path.now) (put (val_of new)) (val_of slot.old)) (val_of new) ≡
+        gives (val_of slot.new, val_of new)) }
     ensures leads { OnOk result (end_of (vals_of path.now) (val_of slot.new) ≡ there (val_of new)) }
-    ensures fault { IfErr result (Explains (result_of (sized_slot (applied (vals_of path.now) (put (val_of new)) (val_of slot.old)) (val_of new)))) }
+    ensures fault { IfErr result
+        (Explains (result_of (sized_slot
+        (applied (vals_of path.now) (put (val_of new)) (val_of slot.old)) (val_of new)))) }
     ensures same { OnErr result (val_of slot.new ≡ val_of slot.old) }
     ensures can_undo { IfOk result (λ u. CanUndo (vals_of path.now) u (val_of slot.new)) }
-    ensures undo { IfOk result (λ u. undone (vals_of path.now) u (val_of slot.new) ≡ val_of slot.old) }
+    ensures undo { IfOk result (λ u. undone (vals_of path.now) u (val_of slot.new) ≡
+        val_of slot.old) }
 {
     let old = put(slot, path, new);
     if is_fit(slot) {
@@ -222,12 +244,20 @@ fn overwrite(slot: &mut Value, path: &[Value], new: Value) -> Result<Undo, Write
 fn extend(slot: &mut Value, path: &[Value], len: usize, more: Parts) -> Result<Undo, WriteFault>
     requires allows { Allows (end_of (vals_of path.now) (val_of slot.old)) (extend more) }
     requires len { len ≡ parts_there (end_of (vals_of path.now) (val_of slot.old)) }
-    ensures ok { OnOk result (sized_slot (applied (vals_of path.now) (put (grown (end_of (vals_of path.now) (val_of slot.old)) more)) (val_of slot.old)) (grown (end_of (vals_of path.now) (val_of slot.old)) more) ≡ gives (val_of slot.new, grown (end_of (vals_of path.now) (val_of slot.old)) more)) }
-    ensures leads { OnOk result (end_of (vals_of path.now) (val_of slot.new) ≡ there (grown (end_of (vals_of path.now) (val_of slot.old)) more)) }
-    ensures fault { IfErr result (Explains (result_of (sized_slot (applied (vals_of path.now) (put (grown (end_of (vals_of path.now) (val_of slot.old)) more)) (val_of slot.old)) (grown (end_of (vals_of path.now) (val_of slot.old)) more)))) }
+    ensures ok { OnOk result (sized_slot
+        (applied (vals_of path.now) (put (grown (end_of (vals_of path.now) (val_of slot.old)) more))
+        (val_of slot.old)) (grown (end_of (vals_of path.now) (val_of slot.old)) more) ≡
+        gives (val_of slot.new, grown (end_of (vals_of path.now) (val_of slot.old)) more)) }
+    ensures leads { OnOk result (end_of (vals_of path.now) (val_of slot.new) ≡
+        there (grown (end_of (vals_of path.now) (val_of slot.old)) more)) }
+    ensures fault { IfErr result
+        (Explains (result_of (sized_slot
+        (applied (vals_of path.now) (put (grown (end_of (vals_of path.now) (val_of slot.old)) more))
+        (val_of slot.old)) (grown (end_of (vals_of path.now) (val_of slot.old)) more)))) }
     ensures same { OnErr result (val_of slot.new ≡ val_of slot.old) }
     ensures can_undo { IfOk result (λ u. CanUndo (vals_of path.now) u (val_of slot.new)) }
-    ensures undo { IfOk result (λ u. undone (vals_of path.now) u (val_of slot.new) ≡ val_of slot.old) }
+    ensures undo { IfOk result (λ u. undone (vals_of path.now) u (val_of slot.new) ≡
+        val_of slot.old) }
 {
     grow(slot, path, more)?;
     if is_fit(slot) {
@@ -239,11 +269,14 @@ fn extend(slot: &mut Value, path: &[Value], len: usize, more: Parts) -> Result<U
 
 fn add_key(alloc: Global, slot: &mut Value, path: &[Value], new: Value) -> Result<Undo, WriteFault>
     requires { end_of (vals_of path.now) (val_of slot.old) ≡ new_key }
-    ensures ok { OnOk result (Wrote (vals_of path.now) Mode.Set (val_of new) (val_of slot.old) (val_of slot.new)) }
-    ensures fault { IfErr result (Explains (written (vals_of path.now) Mode.Set (val_of new) (val_of slot.old))) }
+    ensures ok { OnOk result (Wrote (vals_of path.now) Mode.Set (val_of new) (val_of slot.old)
+        (val_of slot.new)) }
+    ensures fault { IfErr result
+        (Explains (written (vals_of path.now) Mode.Set (val_of new) (val_of slot.old))) }
     ensures same { OnErr result (val_of slot.new ≡ val_of slot.old) }
     ensures can_undo { IfOk result (λ u. CanUndo (vals_of path.now) u (val_of slot.new)) }
-    ensures undo { IfOk result (λ u. undone (vals_of path.now) u (val_of slot.new) ≡ val_of slot.old) }
+    ensures undo { IfOk result (λ u. undone (vals_of path.now) u (val_of slot.new) ≡
+        val_of slot.old) }
 {
     match path {
         [] => Err(WriteFault::Fail),
@@ -259,12 +292,18 @@ fn add_key(alloc: Global, slot: &mut Value, path: &[Value], new: Value) -> Resul
 
 fn add_at(slot: &mut Value, to_map: &[Value], key: Key, new: Value) -> Result<(), WriteFault>
     requires { Allows (end_of (vals_of to_map.now) (val_of slot.old)) (push key (val_of new)) }
-    ensures ok { OnOk result (sized_slot (applied (vals_of to_map.now) (push key (val_of new)) (val_of slot.old)) (val_of new) ≡ gives (val_of slot.new, val_of new)) }
-    ensures made { OnOk result (val_of slot.new ≡ applied (vals_of to_map.now) (push key (val_of new)) (val_of slot.old)) }
-    ensures fault { IfErr result (Explains (result_of (sized_slot (applied (vals_of to_map.now) (push key (val_of new)) (val_of slot.old)) (val_of new)))) }
+    ensures ok { OnOk result (sized_slot
+        (applied (vals_of to_map.now) (push key (val_of new)) (val_of slot.old)) (val_of new) ≡
+        gives (val_of slot.new, val_of new)) }
+    ensures made { OnOk result (val_of slot.new ≡
+        applied (vals_of to_map.now) (push key (val_of new)) (val_of slot.old)) }
+    ensures fault { IfErr result
+        (Explains (result_of (sized_slot
+        (applied (vals_of to_map.now) (push key (val_of new)) (val_of slot.old)) (val_of new)))) }
     ensures same { OnErr result (val_of slot.new ≡ val_of slot.old) }
     ensures can_undo { OnOk result (Allows (end_of (vals_of to_map.now) (val_of slot.new)) pop) }
-    ensures undo { OnOk result (applied (vals_of to_map.now) pop (val_of slot.new) ≡ val_of slot.old) }
+    ensures undo { OnOk result (applied (vals_of to_map.now) pop (val_of slot.new) ≡
+        val_of slot.old) }
 {
     add_last(slot, to_map, key, new)?;
     if is_fit(slot) {
@@ -276,7 +315,8 @@ fn add_at(slot: &mut Value, to_map: &[Value], key: Key, new: Value) -> Result<()
 
 fn make(old: &Value, mode: Mode, value: Value) -> Result<Made, WriteFault>
     ensures ok { IfOk result (Makes mode (val_of old.now) (val_of value)) }
-    ensures fault { IfErr result (Explains (result_of (combined mode (val_of old.now) (val_of value)))) }
+    ensures fault { IfErr result
+        (Explains (result_of (combined mode (val_of old.now) (val_of value)))) }
 {
     match mode {
         Mode::Set => Ok(Made::Put(value)),
@@ -288,7 +328,8 @@ fn make(old: &Value, mode: Mode, value: Value) -> Result<Made, WriteFault>
 
 fn added(old: &Value, value: Value) -> Result<Made, WriteFault>
     ensures ok { IfOk result (Makes Mode.Add (val_of old.now) (val_of value)) }
-    ensures fault { IfErr result (Explains (result_of (combined Mode.Add (val_of old.now) (val_of value)))) }
+    ensures fault { IfErr result
+        (Explains (result_of (combined Mode.Add (val_of old.now) (val_of value)))) }
 {
     match (old, value) {
         (Value::Int(a), Value::Int(b)) => Ok(Made::Put(sum(*a, b)?)),
@@ -299,7 +340,8 @@ fn added(old: &Value, value: Value) -> Result<Made, WriteFault>
 
 fn subtracted(old: &Value, value: Value) -> Result<Made, WriteFault>
     ensures ok { IfOk result (Makes Mode.Sub (val_of old.now) (val_of value)) }
-    ensures fault { IfErr result (Explains (result_of (combined Mode.Sub (val_of old.now) (val_of value)))) }
+    ensures fault { IfErr result
+        (Explains (result_of (combined Mode.Sub (val_of old.now) (val_of value)))) }
 {
     match (old, value) {
         (Value::Int(a), Value::Int(b)) => Ok(Made::Put(difference(*a, b)?)),
@@ -309,7 +351,8 @@ fn subtracted(old: &Value, value: Value) -> Result<Made, WriteFault>
 
 fn multiplied(old: &Value, value: Value) -> Result<Made, WriteFault>
     ensures ok { IfOk result (Makes Mode.Mul (val_of old.now) (val_of value)) }
-    ensures fault { IfErr result (Explains (result_of (combined Mode.Mul (val_of old.now) (val_of value)))) }
+    ensures fault { IfErr result
+        (Explains (result_of (combined Mode.Mul (val_of old.now) (val_of value)))) }
 {
     match (old, value) {
         (Value::Int(a), Value::Int(b)) => Ok(Made::Put(product(*a, b)?)),

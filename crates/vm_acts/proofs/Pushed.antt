@@ -6,5 +6,6 @@ use Rattle.vm_runner.specs.Views.{View}
 use Rattle.vm_runner.specs.Doings.{pushes}
 use Rattle.vm_runner.specs.Comes.{Comes}
 
-pub pushed_as : {E : Type 0} (r : Result Did E) (v w : Val) (u z : View) → v ≡ w → IfOk r (λ d. Comes (pushes v) d u z) → IfOk r (λ d. Comes (pushes w) d u z)
+pub pushed_as : {E : Type 0} (r : Result Did E) (v w : Val) (u z : View) → v ≡ w → IfOk r (λ d. Comes (pushes v) d u z) →
+    IfOk r (λ d. Comes (pushes w) d u z)
 pushed_as r v w u z e h = subst (λ x. IfOk r (λ d. Comes (pushes x) d u z)) e h

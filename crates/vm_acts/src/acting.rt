@@ -38,8 +38,10 @@ pub fn act<H: Heap>(
     requires valid { Valid code.now }
     requires char { FitsChar op }
     requires belongs { StoreBelongs code.now.classes (H.state run.old.heap).cells }
-    ensures asks { IfOk result (λ k. Asks (acts code.now op) k (view_of H.state run.old) (view_of H.state run.new)) }
-    ensures leaves { IfOk result (λ k. Leaves k (view_of H.state run.old) (view_of H.state run.new)) }
+    ensures asks { IfOk result (λ k. Asks (acts code.now op) k (view_of H.state run.old)
+        (view_of H.state run.new)) }
+    ensures leaves { IfOk result
+        (λ k. Leaves k (view_of H.state run.old) (view_of H.state run.new)) }
 {
     let did = match sort(op) {
         Sorted::Push(op) => push_act(alloc, run, code, op)?,

@@ -27,7 +27,8 @@ pub fn composite_act<H: Heap>(
 ) -> Result<Did, Memory>
     requires ready { Ready (view_of H.state run.old) }
     requires inner { place_of run.old.thread < 4294967295 }
-    ensures { IfOk result (λ d. Comes (acts code.now (composite_of op)) d (view_of H.state run.old) (view_of H.state run.new)) }
+    ensures { IfOk result (λ d. Comes (acts code.now (composite_of op)) d (view_of H.state run.old)
+        (view_of H.state run.new)) }
 {
     match op {
         CompositeOp::Concat(place) => concat(alloc, run, code, place),

@@ -32,7 +32,8 @@ pub fn control_act<H: Heap>(
     requires ready { Ready (view_of H.state run.old) }
     requires inner { place_of run.old.thread < 4294967295 }
     requires valid { Valid code.now }
-    ensures { IfOk result (λ d. Comes (acts code.now (control_of op)) d (view_of H.state run.old) (view_of H.state run.new)) }
+    ensures { IfOk result (λ d. Comes (acts code.now (control_of op)) d (view_of H.state run.old)
+        (view_of H.state run.new)) }
 {
     match op {
         ControlOp::Jump(label) => Ok(go(run, label)),

@@ -32,8 +32,10 @@ pub fn task_act<H: Heap>(
     requires ready { Ready (view_of H.state run.old) }
     requires inner { place_of run.old.thread < 4294967295 }
     requires valid { Valid code.now }
-    ensures asks { IfOk result (λ k. Asks (acts code.now (task_of op)) k (view_of H.state run.old) (view_of H.state run.new)) }
-    ensures leaves { IfOk result (λ k. Leaves k (view_of H.state run.old) (view_of H.state run.new)) }
+    ensures asks { IfOk result (λ k. Asks (acts code.now (task_of op)) k (view_of H.state run.old)
+        (view_of H.state run.new)) }
+    ensures leaves { IfOk result
+        (λ k. Leaves k (view_of H.state run.old) (view_of H.state run.new)) }
 {
     match op {
         TaskOp::Sleep(duration) => sleep(run, duration),

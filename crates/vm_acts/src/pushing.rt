@@ -30,7 +30,8 @@ pub fn push_act<H: Heap>(
     requires ready { Ready (view_of H.state run.old) }
     requires inner { place_of run.old.thread < 4294967295 }
     requires char { FitsChar (push_of op) }
-    ensures { IfOk result (λ d. Comes (acts code.now (push_of op)) d (view_of H.state run.old) (view_of H.state run.new)) }
+    ensures { IfOk result (λ d. Comes (acts code.now (push_of op)) d (view_of H.state run.old)
+        (view_of H.state run.new)) }
 {
     match op {
         PushOp::Int(value) => push_on(run, int_of(value)),

@@ -32,7 +32,8 @@ pub fn store_act<H: Heap>(
     requires ready { Ready (view_of H.state run.old) }
     requires inner { place_of run.old.thread < 4294967295 }
     requires belongs { StoreBelongs code.now.classes (H.state run.old.heap).cells }
-    ensures { IfOk result (λ d. Comes (acts code.now (store_of op)) d (view_of H.state run.old) (view_of H.state run.new)) }
+    ensures { IfOk result (λ d. Comes (acts code.now (store_of op)) d (view_of H.state run.old)
+        (view_of H.state run.new)) }
 {
     match op {
         StoreOp::New(place) => variable(alloc, run, code, place),

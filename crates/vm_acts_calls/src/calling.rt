@@ -31,7 +31,8 @@ pub fn call<H: Heap>(
     requires ready { Ready (view_of H.state run.old) }
     requires inner { place_of run.old.thread < 4294967295 }
     requires valid { Valid code.now }
-    ensures { IfOk result (λ d. Comes (acts code.now (op.Call func)) d (view_of H.state run.old) (view_of H.state run.new)) }
+    ensures { IfOk result (λ d. Comes (acts code.now (op.Call func)) d (view_of H.state run.old)
+        (view_of H.state run.new)) }
 {
     let Some(func) = code.functions.get(func as usize) else {
         return Ok(Did::Over(Ending::Stuck));
@@ -54,7 +55,8 @@ pub fn call_method<H: Heap>(
     requires ready { Ready (view_of H.state run.old) }
     requires inner { place_of run.old.thread < 4294967295 }
     requires valid { Valid code.now }
-    ensures { IfOk result (λ d. Comes (acts code.now (op.Method method count)) d (view_of H.state run.old) (view_of H.state run.new)) }
+    ensures { IfOk result (λ d. Comes (acts code.now (op.Method method count)) d
+        (view_of H.state run.old) (view_of H.state run.new)) }
 {
     let Some(args) = run.thread.pop_many(alloc, count as u64 + 1)? else {
         return Ok(Did::Over(Ending::Stuck));
@@ -71,7 +73,8 @@ fn enter<H: Heap>(run: &mut Runner<H>, func: &Func, args: Vec<Value>) -> Result<
     requires inner { place_of run.old.thread < 4294967295 }
     requires params { length args.items ≡ func.now.params }
     requires locals { func.now.params ≤ func.now.locals }
-    ensures { IfOk result (λ d. Comes (calls func.now (vals_of args.items)) d (view_of H.state run.old) (view_of H.state run.new)) }
+    ensures { IfOk result (λ d. Comes (calls func.now (vals_of args.items)) d
+        (view_of H.state run.old) (view_of H.state run.new)) }
 {
     let next = run.thread.place() + 1;
     if !run.thread.go(next) {

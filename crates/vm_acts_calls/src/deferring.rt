@@ -20,7 +20,9 @@ use vm_runner::spending::spend;
 pub fn defer<H: Heap>(run: &mut Runner<H>, label: u32) -> Result<Did, Memory>
     requires ready { Ready (view_of H.state run.old) }
     requires inner { place_of run.old.thread < 4294967295 }
-    ensures { (c : Code) → IfOk result (λ d. Comes (acts c (op.Defer label)) d (view_of H.state run.old) (view_of H.state run.new)) }
+    ensures { (c : Code) → IfOk result
+        (λ d. Comes (acts c (op.Defer label)) d (view_of H.state run.old)
+        (view_of H.state run.new)) }
 {
     let block = run.thread.place() + 1;
     run.thread.defer(block)?;
@@ -32,7 +34,8 @@ pub fn defer<H: Heap>(run: &mut Runner<H>, label: u32) -> Result<Did, Memory>
 pub fn leave<H: Heap>(run: &mut Runner<H>, count: u32) -> Did
     requires ready { Ready (view_of H.state run.old) }
     requires inner { place_of run.old.thread < 4294967295 }
-    ensures { (c : Code) → Comes (acts c (op.Leave count)) result (view_of H.state run.old) (view_of H.state run.new) }
+    ensures { (c : Code) → Comes (acts c (op.Leave count)) result (view_of H.state run.old)
+        (view_of H.state run.new) }
 {
     let count = count as u64;
     let blocks = run.thread.defers();

@@ -23,7 +23,8 @@ pub fn chosen<H: Heap>(
     values: &[Value],
 ) -> Option<Func>
     requires valid { Valid code.now }
-    ensures chosen { (s : State) → s.memory.store ≡ (H.state heap.old).cells → result ≡ chosen_of code.now method count (vals_of values.now) s }
+    ensures chosen { (s : State) → s.memory.store ≡ (H.state heap.old).cells →
+        result ≡ chosen_of code.now method count (vals_of values.now) s }
     ensures takes { IfSome result (λ f. f.params ≡ count + 1) }
     ensures locals { IfSome result (λ f. f.params ≤ f.locals) }
     ensures same { H.state heap.new ≡ H.state heap.old }
@@ -40,7 +41,8 @@ pub fn chosen<H: Heap>(
 
 // The class of an object.
 fn class_of<H: Heap>(heap: &mut H, value: &Value) -> Option<u32>
-    ensures class { (s : State) → s.memory.store ≡ (H.state heap.old).cells → result ≡ class_of (val_of value.now) s }
+    ensures class { (s : State) → s.memory.store ≡ (H.state heap.old).cells →
+        result ≡ class_of (val_of value.now) s }
     ensures same { H.state heap.new ≡ H.state heap.old }
 {
     let Value::Obj(cell) = value else {

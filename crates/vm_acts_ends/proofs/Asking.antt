@@ -1,5 +1,6 @@
 -- One after the other, up to what is asked; and a task that no failure context and no deferred block holds.
-use Rattle.std.proofs.Common.{◌≡◌, ◌≢◌, ℕ, zero, suc, ◌+◌, true, false, IfSome, IfNone, Option, Some, None, List, [], ◌∷◌, length, map, refl, sym, ap, subst, ◌∙◌, arith}
+use Rattle.std.proofs.Common.{◌≡◌, ◌≢◌, ℕ, zero, suc, ◌+◌, true, false, IfSome, IfNone, Option, Some, None, List, [], ◌∷◌, length, map}
+use Rattle.std.proofs.Common.{refl, sym, ap, subst, ◌∙◌, arith}
 use Rattle.verse_value.specs.Val.{Val}
 use Rattle.verse_value.specs.declared.runs.Ending.TheVariants as ending
 use Rattle.verse_state.specs.State.{Memory}
@@ -45,7 +46,9 @@ free_below : (bl : List Frame) → free [] [] bl ≡ all_free bl
 free_below [] = refl
 free_below (f ∷ fs) = refl
 
-bare_from : (hs : List Handler) (ns : List ℕ) (f : Framed) (fs : List Framed) (ms : List Memory) → free (handlers_with f.born hs ms) (map note_of ns) (frames_with fs (beyond hs ms)) ≡ true → (length hs ≡ 0) × (all_free (frames_with fs (beyond hs ms)) ≡ true)
+bare_from : (hs : List Handler) (ns : List ℕ) (f : Framed) (fs : List Framed) (ms : List Memory) →
+    free (handlers_with f.born hs ms) (map note_of ns) (frames_with fs (beyond hs ms)) ≡ true →
+    (length hs ≡ 0) × (all_free (frames_with fs (beyond hs ms)) ≡ true)
 bare_from [] [] f fs ms e = (refl, sym (free_below (frames_with fs ms)) ∙ e)
 bare_from [] (n ∷ ns) f fs ms e = absurd (cc)
 bare_from (h ∷ hs) ns f fs ms e = absurd (cc)
@@ -73,21 +76,27 @@ pub free_permits : (q : ℕ) (fs : List Framed) → IsFree fs → permits q fs �
 free_permits q fs e = bare_permits q fs (free_bare fs [] e)
 
 module _ {h : Kept} {tr : Trace} {l s n : ℕ} where
-  pub held_none : (go : Doing) (fs gs : List Framed) → ((ms : List Memory) → false ≡ all_free (frames_with fs ms)) → Asks (when_free go) (asked.Nothing (did.Over ending.Stuck)) (at h tr l s n fs) (at h tr l s n gs)
+  pub held_none : (go : Doing) (fs gs : List Framed) → ((ms : List Memory) → false ≡ all_free (frames_with fs ms)) →
+      Asks (when_free go) (asked.Nothing (did.Over ending.Stuck)) (at h tr l s n fs) (at h tr l s n gs)
   held_none go [] gs e = asks_nothing _ (sticks (when_free go) [] gs (λ a w x. refl))
   held_none go (f ∷ fs) gs e =
-      asks_nothing _ (sticks (when_free go) (f ∷ fs) gs (λ a w x. ap (λ b. m.only_where b (state_of a (at h tr l s n (f ∷ fs))) (done go a w x (at h tr l s n (f ∷ fs)))) (sym (e (memories a.past h.copies tr.marks)))))
+      asks_nothing _ (sticks (when_free go) (f ∷ fs) gs
+      (λ a w x. ap (λ b. m.only_where b (state_of a (at h tr l s n (f ∷ fs))) (done go a w x (at h tr l s n (f ∷ fs))))
+      (sym (e (memories a.past h.copies tr.marks)))))
 
-  pub free_leads : (go : Doing) (fs : List Framed) → Ready (at h tr l s n fs) → ((ms : List Memory) → true ≡ all_free (frames_with fs ms)) → Leads (when_free go) (at h tr l s n fs) go (at h tr l s n fs)
+  pub free_leads : (go : Doing) (fs : List Framed) → Ready (at h tr l s n fs) → ((ms : List Memory) → true ≡ all_free (frames_with fs ms)) →
+      Leads (when_free go) (at h tr l s n fs) go (at h tr l s n fs)
   free_leads go [] r e = absurd (r.some refl)
   free_leads go (f ∷ fs) r e =
-      stays r (λ a w x. ap (λ b. m.only_where b (state_of a (at h tr l s n (f ∷ fs))) (done go a w x (at h tr l s n (f ∷ fs)))) (sym (e (memories a.past h.copies tr.marks))))
+      stays r (λ a w x. ap (λ b. m.only_where b (state_of a (at h tr l s n (f ∷ fs))) (done go a w x (at h tr l s n (f ∷ fs))))
+      (sym (e (memories a.past h.copies tr.marks))))
 
   pub ready_moved : (q : ℕ) (fs gs : List Framed) → Ready (at h tr l s n fs) → gs ≡ moved q fs → Ready (at h tr l s n gs)
   ready_moved q [] gs r e = absurd (r.some refl)
   ready_moved q (f ∷ fs) gs r e = rw e (ready_as (moved q (f ∷ fs)) r refl (λ none. absurd (omega (arith, ap length none))))
 
-  pub asks_next : (go : Doing) (k : Asked) (z : View) (fs gs : List Framed) → fs ≢ [] → gs ≡ moved (place_of fs + 1) fs → Asks go k (at h tr l s n gs) z → Asks (after_next go) k (at h tr l s n fs) z
+  pub asks_next : (go : Doing) (k : Asked) (z : View) (fs gs : List Framed) → fs ≢ [] → gs ≡ moved (place_of fs + 1) fs →
+      Asks go k (at h tr l s n gs) z → Asks (after_next go) k (at h tr l s n fs) z
   asks_next go k z [] gs some e more = absurd (some refl)
   asks_next go k z (f ∷ fs) gs some e more =
       let one : f.frame.place + 1 ≡ suc f.frame.place = omega arith in
@@ -97,20 +106,27 @@ module _ {h : Kept} {tr : Trace} {l s n : ℕ} where
         ready = more.ready;
       }
 
-  pub settled_pushed : (v : Val) (fs gs : List Framed) → Ready (at h tr l s n fs) → handlers_in fs ≡ 0 → gs ≡ moved (place_of (pushed v fs) + 1) (pushed v fs) → Settled (at h tr l s n gs)
+  pub settled_pushed : (v : Val) (fs gs : List Framed) → Ready (at h tr l s n fs) → handlers_in fs ≡ 0 →
+      gs ≡ moved (place_of (pushed v fs) + 1) (pushed v fs) → Settled (at h tr l s n gs)
   settled_pushed v [] gs r bare e = absurd (r.some refl)
   settled_pushed v (f ∷ fs) gs r bare e =
-      rw e (record { ready = ready_as (moved (place_of (pushed v (f ∷ fs)) + 1) (pushed v (f ∷ fs))) r refl (λ none. absurd (omega (arith, ap length none))); bare = bare })
+      rw e (record {
+        ready = ready_as (moved (place_of (pushed v (f ∷ fs)) + 1) (pushed v (f ∷ fs))) r refl
+            (λ none. absurd (omega (arith, ap length none)));
+        bare = bare;
+      })
 
   -- where the code has left the store as it was
 
-  pub asks_same : {i : Kept} {d : Doing} {k : Asked} {z : View} {fs : List Framed} → i ≡ h → Asks d k (at i tr l s n fs) z → Asks d k (at h tr l s n fs) z
+  pub asks_same : {i : Kept} {d : Doing} {k : Asked} {z : View} {fs : List Framed} → i ≡ h → Asks d k (at i tr l s n fs) z →
+      Asks d k (at h tr l s n fs) z
   asks_same {d = d} {k = k} {z = z} {fs = fs} same more = subst (λ i. Asks d k (at i tr l s n fs) z) same more
 
   pub ready_same : {i : Kept} {fs : List Framed} → Ready (at h tr l s n fs) → i ≡ h → Ready (at i tr l s n fs)
   ready_same {fs = fs} r same = subst (λ i. Ready (at i tr l s n fs)) (sym same) r
 
-  pub settled_moved : (q : ℕ) (fs gs : List Framed) → Ready (at h tr l s n fs) → handlers_in fs ≡ 0 → gs ≡ moved q fs → Settled (at h tr l s n gs)
+  pub settled_moved : (q : ℕ) (fs gs : List Framed) → Ready (at h tr l s n fs) → handlers_in fs ≡ 0 → gs ≡ moved q fs →
+      Settled (at h tr l s n gs)
   settled_moved q [] gs r bare e = absurd (r.some refl)
   settled_moved q (f ∷ fs) gs r bare e = record { ready = ready_moved q (f ∷ fs) gs r e; bare = rw e bare }
 
@@ -131,7 +147,8 @@ pub popped_free : (v : Val) (fs gs : List Framed) → popped fs ≡ Some (v, gs)
 popped_free v [] gs e free = absurd (cc)
 popped_free v (f ∷ fs) gs e free = one_from f.frame.stack v f fs gs e free
 
-both_from : (st : List Val) (u v : Val) (f : Framed) (fs gs : List Framed) → two_from st f fs ≡ Some ((u, v), gs) → IsFree (f ∷ fs) → IsFree gs
+both_from : (st : List Val) (u v : Val) (f : Framed) (fs gs : List Framed) → two_from st f fs ≡ Some ((u, v), gs) → IsFree (f ∷ fs) →
+    IsFree gs
 both_from [] u v f fs gs e free = absurd (cc)
 both_from (b ∷ []) u v f fs gs e free = absurd (cc)
 both_from (b ∷ a ∷ st) u v f fs gs e free = free_from st f fs gs (ap rest_in e) free
@@ -140,7 +157,8 @@ pub two_free : (u v : Val) (fs gs : List Framed) → popped_two fs ≡ Some ((u,
 two_free u v [] gs e free = absurd (cc)
 two_free u v (f ∷ fs) gs e free = both_from f.frame.stack u v f fs gs e free
 
-many_from : (k : ℕ) (st us vs : List Val) (f : Framed) (fs gs : List Framed) → with_many (many_of k st us) f fs ≡ Some (vs, gs) → IsFree (f ∷ fs) → IsFree gs
+many_from : (k : ℕ) (st us vs : List Val) (f : Framed) (fs gs : List Framed) → with_many (many_of k st us) f fs ≡ Some (vs, gs) →
+    IsFree (f ∷ fs) → IsFree gs
 many_from zero st us vs f fs gs e free = free_from st f fs gs (ap rest_in e) free
 many_from (suc k) [] us vs f fs gs e free = absurd (cc)
 many_from (suc k) (u ∷ st) us vs f fs gs e free = many_from k st (u ∷ us) vs f fs gs e free

@@ -1,5 +1,6 @@
 -- How an operation leaves a task from which something is asked.
-use Rattle.std.proofs.Common.{◌≡◌, ◌≢◌, ℕ, zero, suc, Bool, true, Option, Some, None, List, [], ◌∷◌, length, map, refl, sym, ap, subst, ◌∙◌, arith}
+use Rattle.std.proofs.Common.{◌≡◌, ◌≢◌, ℕ, zero, suc, Bool, true, Option, Some, None, List, [], ◌∷◌, length, map, refl, sym, ap, subst, ◌∙◌}
+use Rattle.std.proofs.Common.{arith}
 use Rattle.verse_value.specs.Val.{Val}
 use Rattle.verse_machine.specs.Frames.{nothing}
 use Rattle.fiber.specs.Frames.{Handler}
@@ -51,7 +52,8 @@ pub like_two : (u v : Val) (fs gs : List Framed) → popped_two fs ≡ Some ((u,
 like_two u v [] gs e = absurd (cc)
 like_two u v (f ∷ fs) gs e = like_both f.frame.stack u v f fs gs e
 
-like_from : (k : ℕ) (st us vs : List Val) (f : Framed) (fs gs : List Framed) → with_many (many_of k st us) f fs ≡ Some (vs, gs) → Like (f ∷ fs) gs
+like_from : (k : ℕ) (st us vs : List Val) (f : Framed) (fs gs : List Framed) → with_many (many_of k st us) f fs ≡ Some (vs, gs) →
+    Like (f ∷ fs) gs
 like_from zero st us vs f fs gs e = like_with st f fs gs (ap rest_in e)
 like_from (suc k) [] us vs f fs gs e = absurd (cc)
 like_from (suc k) (u ∷ st) us vs f fs gs e = like_from k st (u ∷ us) vs f fs gs e
@@ -62,11 +64,13 @@ like_many k vs (f ∷ fs) gs e = like_from k f.frame.stack [] vs f fs gs e
 
 pub like_pushed : (v : Val) (fs gs : List Framed) → gs ≡ pushed v fs → Like fs gs
 like_pushed v [] gs e = subst (λ z. Like [] z) (sym e) (alike [])
-like_pushed v (f ∷ fs) gs e = subst (λ z. Like (f ∷ fs) z) (sym e) (record { births = refl; some = λ some. filled _ fs; free = λ free. free })
+like_pushed v (f ∷ fs) gs e = subst (λ z. Like (f ∷ fs) z) (sym e)
+    (record { births = refl; some = λ some. filled _ fs; free = λ free. free })
 
 pub like_moved : (q : ℕ) (fs gs : List Framed) → gs ≡ moved q fs → Like fs gs
 like_moved q [] gs e = subst (λ z. Like [] z) (sym e) (alike [])
-like_moved q (f ∷ fs) gs e = subst (λ z. Like (f ∷ fs) z) (sym e) (record { births = refl; some = λ some. filled _ fs; free = λ free. free })
+like_moved q (f ∷ fs) gs e = subst (λ z. Like (f ∷ fs) z) (sym e)
+    (record { births = refl; some = λ some. filled _ fs; free = λ free. free })
 
 pub settles : (v u : View) → Still v u → Like v.frames u.frames → IsFree v.frames → Settles v u
 settles v u still like free = record { still = still; was = free; free = like.free free; births = like.births }
@@ -90,7 +94,8 @@ no_handlers [] (f ∷ fs) gs b e = (refl, ap rest_in e)
 abbrev top_clean : Framed → Bool
 top_clean f = nothing f.frame.defers (map note_of f.frame.noted)
 
-returns_top : (v u : View) (e : Ended) (b : Bool) (f : Framed) (fs : List Framed) → Still v u → v.frames ≡ f ∷ fs → true ≡ top_clean f → left_from f.frame.handlers fs ≡ Some (b, u.frames) → f.born ≡ e.born → Returns e v u
+returns_top : (v u : View) (e : Ended) (b : Bool) (f : Framed) (fs : List Framed) → Still v u → v.frames ≡ f ∷ fs → true ≡ top_clean f →
+    left_from f.frame.handlers fs ≡ Some (b, u.frames) → f.born ≡ e.born → Returns e v u
 returns_top v u e b f fs still is clean gone born =
     let none = no_handlers f.frame.handlers fs u.frames b gone in
     record {
@@ -102,15 +107,21 @@ returns_top v u e b f fs still is clean gone born =
       clean = none_noted f.frame.defers f.frame.noted clean;
     }
 
-returns_from : (v u : View) (e : Ended) (x : Val) (b : Bool) (st : List Val) (f : Framed) (fs gs : List Framed) → Still v u → v.frames ≡ f ∷ fs → popped_from st f fs ≡ Some (x, gs) → true ≡ clean_of gs → left gs ≡ Some (b, u.frames) → e.born ≡ born_of gs → Returns e v u
+returns_from : (v u : View) (e : Ended) (x : Val) (b : Bool) (st : List Val) (f : Framed) (fs gs : List Framed) → Still v u →
+    v.frames ≡ f ∷ fs → popped_from st f fs ≡ Some (x, gs) → true ≡ clean_of gs → left gs ≡ Some (b, u.frames) → e.born ≡ born_of gs →
+    Returns e v u
 returns_from v u e x b [] f fs gs still is popped clean gone born = absurd (cc)
 returns_from v u e x b (y ∷ st) f fs gs still is popped clean gone born =
     let to : with_stack st f fs ≡ gs = ap rest_in popped in
-    returns_top v u e b f fs still is (subst (λ z. true ≡ clean_of z) (sym to) clean) (subst (λ z. left z ≡ Some (b, u.frames)) (sym to) gone) (subst (λ z. born_of z ≡ e.born) (sym to) (sym born))
+    returns_top v u e b f fs still is (subst (λ z. true ≡ clean_of z) (sym to) clean)
+    (subst (λ z. left z ≡ Some (b, u.frames)) (sym to) gone) (subst (λ z. born_of z ≡ e.born) (sym to) (sym born))
 
-returns_of : (v u : View) (e : Ended) (x : Val) (b : Bool) (zs gs : List Framed) → Still v u → v.frames ≡ zs → popped zs ≡ Some (x, gs) → true ≡ clean_of gs → left gs ≡ Some (b, u.frames) → e.born ≡ born_of gs → Returns e v u
+returns_of : (v u : View) (e : Ended) (x : Val) (b : Bool) (zs gs : List Framed) → Still v u → v.frames ≡ zs → popped zs ≡ Some (x, gs) →
+    true ≡ clean_of gs → left gs ≡ Some (b, u.frames) → e.born ≡ born_of gs → Returns e v u
 returns_of v u e x b [] gs still is popped clean gone born = absurd (cc)
-returns_of v u e x b (f ∷ fs) gs still is popped clean gone born = returns_from v u e x b f.frame.stack f fs gs still is popped clean gone born
+returns_of v u e x b (f ∷ fs) gs still is popped clean gone born =
+    returns_from v u e x b f.frame.stack f fs gs still is popped clean gone born
 
-pub returns : (v u : View) (e : Ended) (x : Val) (b : Bool) (gs : List Framed) → Still v u → popped v.frames ≡ Some (x, gs) → true ≡ clean_of gs → left gs ≡ Some (b, u.frames) → e.born ≡ born_of gs → Returns e v u
+pub returns : (v u : View) (e : Ended) (x : Val) (b : Bool) (gs : List Framed) → Still v u → popped v.frames ≡ Some (x, gs) →
+    true ≡ clean_of gs → left gs ≡ Some (b, u.frames) → e.born ≡ born_of gs → Returns e v u
 returns v u e x b gs still popped clean gone born = returns_of v u e x b v.frames gs still refl popped clean gone born

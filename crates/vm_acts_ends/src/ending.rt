@@ -20,7 +20,8 @@ use vm_thread::threads::GONE;
 /// Pops the result and leaves the frame. Takes no memory.
 pub fn give_back<H: Heap>(run: &mut Runner<H>) -> Asked
     requires ready { Ready (view_of H.state run.old) }
-    ensures asks { (c : Code) → Asks (acts c op.Return) result (view_of H.state run.old) (view_of H.state run.new) }
+    ensures asks { (c : Code) → Asks (acts c op.Return) result (view_of H.state run.old)
+        (view_of H.state run.new) }
     ensures leaves { Leaves result (view_of H.state run.old) (view_of H.state run.new) }
 {
     let Some(value) = run.thread.pop() else {
@@ -42,7 +43,8 @@ pub fn give_back<H: Heap>(run: &mut Runner<H>) -> Asked
 /// Pops the result; the arm or the task behind is over. Takes no memory.
 pub fn end_part<H: Heap>(run: &mut Runner<H>) -> Asked
     requires ready { Ready (view_of H.state run.old) }
-    ensures asks { (c : Code) → Asks (acts c op.ArmEnd) result (view_of H.state run.old) (view_of H.state run.new) }
+    ensures asks { (c : Code) → Asks (acts c op.ArmEnd) result (view_of H.state run.old)
+        (view_of H.state run.new) }
     ensures leaves { Leaves result (view_of H.state run.old) (view_of H.state run.new) }
 {
     let Some(value) = run.thread.pop() else {
@@ -65,7 +67,8 @@ pub fn end_part<H: Heap>(run: &mut Runner<H>) -> Asked
 /// memory.
 pub fn end_block<H: Heap>(run: &mut Runner<H>) -> Asked
     requires ready { Ready (view_of H.state run.old) }
-    ensures asks { (c : Code) → Asks (acts c op.DeferEnd) result (view_of H.state run.old) (view_of H.state run.new) }
+    ensures asks { (c : Code) → Asks (acts c op.DeferEnd) result (view_of H.state run.old)
+        (view_of H.state run.new) }
     ensures leaves { Leaves result (view_of H.state run.old) (view_of H.state run.new) }
 {
     let Some(place) = run.thread.end_defer() else {

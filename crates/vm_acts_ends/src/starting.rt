@@ -33,8 +33,10 @@ pub fn spawn<H: Heap>(
     requires ready { Ready (view_of H.state run.old) }
     requires inner { place_of run.old.thread < 4294967295 }
     requires valid { Valid code.now }
-    ensures asks { IfOk result (λ k. Asks (acts code.now (op.Spawn func)) k (view_of H.state run.old) (view_of H.state run.new)) }
-    ensures leaves { IfOk result (λ k. Leaves k (view_of H.state run.old) (view_of H.state run.new)) }
+    ensures asks { IfOk result (λ k. Asks (acts code.now (op.Spawn func)) k
+        (view_of H.state run.old) (view_of H.state run.new)) }
+    ensures leaves { IfOk result
+        (λ k. Leaves k (view_of H.state run.old) (view_of H.state run.new)) }
 {
     if !run.thread.is_free() {
         return Ok(Asked::Nothing(Did::Over(Ending::Stuck)));
@@ -61,8 +63,10 @@ pub fn spawn_method<H: Heap>(
     requires ready { Ready (view_of H.state run.old) }
     requires inner { place_of run.old.thread < 4294967295 }
     requires valid { Valid code.now }
-    ensures asks { IfOk result (λ k. Asks (acts code.now (op.SpawnMethod method count)) k (view_of H.state run.old) (view_of H.state run.new)) }
-    ensures leaves { IfOk result (λ k. Leaves k (view_of H.state run.old) (view_of H.state run.new)) }
+    ensures asks { IfOk result (λ k. Asks (acts code.now (op.SpawnMethod method count)) k
+        (view_of H.state run.old) (view_of H.state run.new)) }
+    ensures leaves { IfOk result
+        (λ k. Leaves k (view_of H.state run.old) (view_of H.state run.new)) }
 {
     if !run.thread.is_free() {
         return Ok(Asked::Nothing(Did::Over(Ending::Stuck)));
@@ -82,7 +86,8 @@ pub fn spawn_method<H: Heap>(
 pub fn branch<H: Heap>(run: &mut Runner<H>, label: u32) -> Asked
     requires ready { Ready (view_of H.state run.old) }
     requires inner { place_of run.old.thread < 4294967295 }
-    ensures asks { (c : Code) → Asks (acts c (op.Branch label)) result (view_of H.state run.old) (view_of H.state run.new) }
+    ensures asks { (c : Code) → Asks (acts c (op.Branch label)) result (view_of H.state run.old)
+        (view_of H.state run.new) }
     ensures leaves { Leaves result (view_of H.state run.old) (view_of H.state run.new) }
 {
     if !run.thread.is_free() {
@@ -103,8 +108,11 @@ pub fn begin_arms<H: Heap>(
     requires ready { Ready (view_of H.state run.old) }
     requires inner { place_of run.old.thread < 4294967295 }
     requires valid { Valid code.now }
-    ensures asks { IfOk result (λ k. Asks (acts code.now (op.Group group.kind group.arms group.place)) k (view_of H.state run.old) (view_of H.state run.new)) }
-    ensures leaves { IfOk result (λ k. Leaves k (view_of H.state run.old) (view_of H.state run.new)) }
+    ensures asks { IfOk result (λ k.
+        Asks (acts code.now (op.Group group.kind group.arms group.place)) k
+        (view_of H.state run.old) (view_of H.state run.new)) }
+    ensures leaves { IfOk result
+        (λ k. Leaves k (view_of H.state run.old) (view_of H.state run.new)) }
 {
     if !run.thread.is_free() {
         return Ok(Asked::Nothing(Did::Over(Ending::Stuck)));

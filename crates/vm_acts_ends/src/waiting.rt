@@ -27,8 +27,11 @@ use vm_runner::runners::{Did, Runner};
 pub fn sleep<H: Heap>(run: &mut Runner<H>, duration: u32) -> Result<Asked, Memory>
     requires ready { Ready (view_of H.state run.old) }
     requires inner { place_of run.old.thread < 4294967295 }
-    ensures asks { (c : Code) → IfOk result (λ k. Asks (acts c (op.Sleep duration)) k (view_of H.state run.old) (view_of H.state run.new)) }
-    ensures leaves { IfOk result (λ k. Leaves k (view_of H.state run.old) (view_of H.state run.new)) }
+    ensures asks { (c : Code) → IfOk result
+        (λ k. Asks (acts c (op.Sleep duration)) k (view_of H.state run.old)
+        (view_of H.state run.new)) }
+    ensures leaves { IfOk result
+        (λ k. Leaves k (view_of H.state run.old) (view_of H.state run.new)) }
 {
     if !run.thread.is_free() {
         return Ok(Asked::Nothing(Did::Over(Ending::Stuck)));
@@ -44,7 +47,8 @@ pub fn sleep<H: Heap>(run: &mut Runner<H>, duration: u32) -> Result<Asked, Memor
 pub fn sleep_forever<H: Heap>(run: &mut Runner<H>) -> Asked
     requires ready { Ready (view_of H.state run.old) }
     requires inner { place_of run.old.thread < 4294967295 }
-    ensures asks { (c : Code) → Asks (acts c op.Forever) result (view_of H.state run.old) (view_of H.state run.new) }
+    ensures asks { (c : Code) → Asks (acts c op.Forever) result (view_of H.state run.old)
+        (view_of H.state run.new) }
     ensures leaves { Leaves result (view_of H.state run.old) (view_of H.state run.new) }
 {
     if !run.thread.is_free() {
@@ -58,7 +62,8 @@ pub fn sleep_forever<H: Heap>(run: &mut Runner<H>) -> Asked
 pub fn await_task<H: Heap>(run: &mut Runner<H>) -> Asked
     requires ready { Ready (view_of H.state run.old) }
     requires inner { place_of run.old.thread < 4294967295 }
-    ensures asks { (c : Code) → Asks (acts c op.AwaitTask) result (view_of H.state run.old) (view_of H.state run.new) }
+    ensures asks { (c : Code) → Asks (acts c op.AwaitTask) result (view_of H.state run.old)
+        (view_of H.state run.new) }
     ensures leaves { Leaves result (view_of H.state run.old) (view_of H.state run.new) }
 {
     if !run.thread.is_free() {
@@ -78,7 +83,8 @@ pub fn await_task<H: Heap>(run: &mut Runner<H>) -> Asked
 pub fn await_event<H: Heap>(run: &mut Runner<H>) -> Asked
     requires ready { Ready (view_of H.state run.old) }
     requires inner { place_of run.old.thread < 4294967295 }
-    ensures asks { (c : Code) → Asks (acts c op.AwaitEvent) result (view_of H.state run.old) (view_of H.state run.new) }
+    ensures asks { (c : Code) → Asks (acts c op.AwaitEvent) result (view_of H.state run.old)
+        (view_of H.state run.new) }
     ensures leaves { Leaves result (view_of H.state run.old) (view_of H.state run.new) }
 {
     if !run.thread.is_free() {
@@ -98,8 +104,10 @@ pub fn await_event<H: Heap>(run: &mut Runner<H>) -> Asked
 pub fn signal<H: Heap>(run: &mut Runner<H>) -> Result<Asked, Memory>
     requires ready { Ready (view_of H.state run.old) }
     requires inner { place_of run.old.thread < 4294967295 }
-    ensures asks { (c : Code) → IfOk result (λ k. Asks (acts c op.Signal) k (view_of H.state run.old) (view_of H.state run.new)) }
-    ensures leaves { IfOk result (λ k. Leaves k (view_of H.state run.old) (view_of H.state run.new)) }
+    ensures asks { (c : Code) → IfOk result
+        (λ k. Asks (acts c op.Signal) k (view_of H.state run.old) (view_of H.state run.new)) }
+    ensures leaves { IfOk result
+        (λ k. Leaves k (view_of H.state run.old) (view_of H.state run.new)) }
 {
     if !run.thread.is_free() {
         return Ok(Asked::Nothing(Did::Over(Ending::Stuck)));
@@ -127,7 +135,8 @@ fn task_of(value: &Value) -> Option<u32>
 
 // The cell of an event.
 fn event_of<H: Heap>(heap: &mut H, value: &Value) -> Option<u32>
-    ensures event { (s : State) → s.memory.store ≡ (H.state heap.old).cells → result ≡ event_of (val_of value.now) s }
+    ensures event { (s : State) → s.memory.store ≡ (H.state heap.old).cells →
+        result ≡ event_of (val_of value.now) s }
     ensures same { H.state heap.new ≡ H.state heap.old }
 {
     let Value::Event(cell) = value else {

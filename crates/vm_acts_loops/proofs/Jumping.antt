@@ -1,5 +1,6 @@
 -- Jumps, and locals that a loop begins with.
-use Rattle.std.proofs.Common.{◌≡◌, ◌≢◌, ℕ, suc, ◌+◌, ◌<◌, ◌≤◌, Bool, true, false, cond, pos, List, [], ◌∷◌, length, refl, sym, ap, subst, ◌∙◌, arith}
+use Rattle.std.proofs.Common.{◌≡◌, ◌≢◌, ℕ, suc, ◌+◌, ◌<◌, ◌≤◌, Bool, true, false, cond, pos, List, [], ◌∷◌, length, refl, sym, ap, subst}
+use Rattle.std.proofs.Common.{◌∙◌, arith}
 use Rattle.verse_value.specs.Val.{Val, int}
 use Rattle.verse_value.specs.Val as val
 use Rattle.verse_value.specs.Equality.{val_eq}
@@ -84,64 +85,104 @@ nowhere true s = refl
 nowhere false s = refl
 
 module _ (h : Kept) (tr : Trace) (l s n : ℕ) where
-  range_at : (i : ℕ) (u v : Val) (f : Framed) (fs : List Framed) (a : Aside) (w : Who) (x : World) → done (range_of i u v) a w x (at h tr l s n (f ∷ fs)) ≡ m.only_where (is_int u) (state_of a (at h tr l s n (f ∷ fs))) (m.only_where (is_int v) (state_of a (at h tr l s n (f ∷ fs))) (done (putting i u (putting (suc i) v goes_on)) a w x (at h tr l s n (f ∷ fs))))
+  range_at : (i : ℕ) (u v : Val) (f : Framed) (fs : List Framed) (a : Aside) (w : Who) (x : World) →
+      done (range_of i u v) a w x (at h tr l s n (f ∷ fs)) ≡ m.only_where (is_int u) (state_of a (at h tr l s n (f ∷ fs)))
+      (m.only_where (is_int v) (state_of a (at h tr l s n (f ∷ fs)))
+      (done (putting i u (putting (suc i) v goes_on)) a w x (at h tr l s n (f ∷ fs))))
   range_at i u v f fs a w x =
       let st = state_of a (at h tr l s n (f ∷ fs)) in
       let go = done (putting i u (putting (suc i) v goes_on)) a w x (at h tr l s n (f ∷ fs)) in
       on_int_at u st (on_int v st go) ∙ ap (λ q. m.only_where (is_int u) st q) (on_int_at v st go)
 
 module _ {h : Kept} {tr : Trace} {l s n : ℕ} where
-  pub equal_leads : (label : ℕ) (a b : Val) (fs : List Framed) → Ready (at h tr l s n fs) → a ≡ b → Leads (compares label a b) (at h tr l s n fs) goes_on (at h tr l s n fs)
+  pub equal_leads : (label : ℕ) (a b : Val) (fs : List Framed) → Ready (at h tr l s n fs) → a ≡ b →
+      Leads (compares label a b) (at h tr l s n fs) goes_on (at h tr l s n fs)
   equal_leads label a b [] r e = absurd (r.some refl)
   equal_leads label a b (f ∷ fs) r e =
-      stays r (λ y w x. ap (λ t. m.goes w x (state_of y (at h tr l s n (f ∷ fs))) (state_of y (at h tr l s n (f ∷ fs))) (frame_with f (memories y.past h.copies tr.marks)).life f.frame.locals f.frame.stack (cond t (suc f.frame.place) label) (frame_with f (memories y.past h.copies tr.marks)).handlers (frames_with fs (beyond f.frame.handlers (memories y.past h.copies tr.marks)))) (same_is a b e))
+      stays r (λ y w x. ap (λ t. m.goes w x (state_of y (at h tr l s n (f ∷ fs))) (state_of y (at h tr l s n (f ∷ fs)))
+      (frame_with f (memories y.past h.copies tr.marks)).life f.frame.locals f.frame.stack (cond t (suc f.frame.place) label)
+      (frame_with f (memories y.past h.copies tr.marks)).handlers
+      (frames_with fs (beyond f.frame.handlers (memories y.past h.copies tr.marks)))) (same_is a b e))
 
-  pub unequal_leads : (label : ℕ) (a b : Val) (fs : List Framed) → Ready (at h tr l s n fs) → (a ≡ b → ⊥) → Leads (compares label a b) (at h tr l s n fs) (goes_to label) (at h tr l s n fs)
+  pub unequal_leads : (label : ℕ) (a b : Val) (fs : List Framed) → Ready (at h tr l s n fs) → (a ≡ b → ⊥) →
+      Leads (compares label a b) (at h tr l s n fs) (goes_to label) (at h tr l s n fs)
   unequal_leads label a b [] r e = absurd (r.some refl)
   unequal_leads label a b (f ∷ fs) r e =
-      stays r (λ y w x. ap (λ t. m.goes w x (state_of y (at h tr l s n (f ∷ fs))) (state_of y (at h tr l s n (f ∷ fs))) (frame_with f (memories y.past h.copies tr.marks)).life f.frame.locals f.frame.stack (cond t (suc f.frame.place) label) (frame_with f (memories y.past h.copies tr.marks)).handlers (frames_with fs (beyond f.frame.handlers (memories y.past h.copies tr.marks)))) (other_is a b e))
+      stays r (λ y w x. ap (λ t. m.goes w x (state_of y (at h tr l s n (f ∷ fs))) (state_of y (at h tr l s n (f ∷ fs)))
+      (frame_with f (memories y.past h.copies tr.marks)).life f.frame.locals f.frame.stack (cond t (suc f.frame.place) label)
+      (frame_with f (memories y.past h.copies tr.marks)).handlers
+      (frames_with fs (beyond f.frame.handlers (memories y.past h.copies tr.marks)))) (other_is a b e))
 
   -- the frame moves, and then the step is spent
 
-  pub spends_barred : (q : ℕ) (fs gs : List Framed) → permits q fs ≡ false → Comes (where_fits q (spends (moves q))) (did.Over ending.Stuck) (at h tr l s n fs) (at h tr l s n gs)
+  pub spends_barred : (q : ℕ) (fs gs : List Framed) → permits q fs ≡ false →
+      Comes (where_fits q (spends (moves q))) (did.Over ending.Stuck) (at h tr l s n fs) (at h tr l s n gs)
   spends_barred q fs gs e = fits_none (spends (moves q)) q fs gs e
 
   pub ready_moved : (q : ℕ) (fs gs : List Framed) → Ready (at h tr l s n fs) → gs ≡ moved q fs → Ready (at h tr l s n gs)
   ready_moved q [] gs r e = absurd (r.some refl)
   ready_moved q (f ∷ fs) gs r e = rw e (ready_as (moved q (f ∷ fs)) r refl (λ none. absurd (omega (arith, ap length none))))
 
-  pub spends_moved : (q : ℕ) (fs gs : List Framed) (d : Did) (z : View) → fs ≢ [] → permits q fs ≡ true → gs ≡ moved q fs → Comes (spends going) d (at h tr l s n gs) z → Comes (where_fits q (spends (moves q))) d (at h tr l s n fs) z
+  pub spends_moved : (q : ℕ) (fs gs : List Framed) (d : Did) (z : View) → fs ≢ [] → permits q fs ≡ true → gs ≡ moved q fs →
+      Comes (spends going) d (at h tr l s n gs) z → Comes (where_fits q (spends (moves q))) d (at h tr l s n fs) z
   spends_moved q [] gs d z some sure e comes = absurd (some refl)
   spends_moved q (f ∷ fs) gs d z some sure e comes =
       record {
-        ends = λ a w x past. subst (λ p. Ends p d a w x z) (sym (ap (λ b. m.only_where b (state_of a (at h tr l s n (f ∷ fs))) (done (spends (moves q)) a w x (at h tr l s n (f ∷ fs)))) (fits_in f.born f.frame.handlers (memories a.past h.copies tr.marks) q ∙ sure) ∙ ap (λ gs. done (spends going) a w x (at h tr l s n gs)) (sym e))) (comes.ends a w x past);
+        ends = λ a w x past. subst (λ p. Ends p d a w x z)
+            (sym (ap (λ b. m.only_where b (state_of a (at h tr l s n (f ∷ fs))) (done (spends (moves q)) a w x (at h tr l s n (f ∷ fs))))
+            (fits_in f.born f.frame.handlers (memories a.past h.copies tr.marks) q ∙ sure) ∙
+            ap (λ gs. done (spends going) a w x (at h tr l s n gs)) (sym e))) (comes.ends a w x past);
         ready = comes.ready;
       }
 
-  pub each_leads : (i : ℕ) (v : Val) (fs : List Framed) → Ready (at h tr l s n fs) → is_domain v ≡ true → Leads (each_of i v) (at h tr l s n fs) (putting i v (putting (suc i) (int (pos 0)) goes_on)) (at h tr l s n fs)
+  pub each_leads : (i : ℕ) (v : Val) (fs : List Framed) → Ready (at h tr l s n fs) → is_domain v ≡ true →
+      Leads (each_of i v) (at h tr l s n fs) (putting i v (putting (suc i) (int (pos 0)) goes_on)) (at h tr l s n fs)
   each_leads i v [] r e = absurd (r.some refl)
   each_leads i v (f ∷ fs) r e =
-      stays r (λ a w x. on_domain_at v (state_of a (at h tr l s n (f ∷ fs))) (done (putting i v (putting (suc i) (int (pos 0)) goes_on)) a w x (at h tr l s n (f ∷ fs))) ∙ ap (λ b. m.only_where b (state_of a (at h tr l s n (f ∷ fs))) (done (putting i v (putting (suc i) (int (pos 0)) goes_on)) a w x (at h tr l s n (f ∷ fs)))) e)
+      stays r (λ a w x. on_domain_at v (state_of a (at h tr l s n (f ∷ fs)))
+      (done (putting i v (putting (suc i) (int (pos 0)) goes_on)) a w x (at h tr l s n (f ∷ fs))) ∙
+      ap (λ b. m.only_where b (state_of a (at h tr l s n (f ∷ fs)))
+      (done (putting i v (putting (suc i) (int (pos 0)) goes_on)) a w x (at h tr l s n (f ∷ fs)))) e)
 
-  pub each_none : (i : ℕ) (v : Val) (fs gs : List Framed) → is_domain v ≡ false → Comes (each_of i v) (did.Over ending.Stuck) (at h tr l s n fs) (at h tr l s n gs)
+  pub each_none : (i : ℕ) (v : Val) (fs gs : List Framed) → is_domain v ≡ false →
+      Comes (each_of i v) (did.Over ending.Stuck) (at h tr l s n fs) (at h tr l s n gs)
   each_none i v [] gs e = sticks (each_of i v) [] gs (λ a w x. refl)
   each_none i v (f ∷ fs) gs e =
-      sticks (each_of i v) (f ∷ fs) gs (λ a w x. on_domain_at v (state_of a (at h tr l s n (f ∷ fs))) (done (putting i v (putting (suc i) (int (pos 0)) goes_on)) a w x (at h tr l s n (f ∷ fs))) ∙ ap (λ b. m.only_where b (state_of a (at h tr l s n (f ∷ fs))) (done (putting i v (putting (suc i) (int (pos 0)) goes_on)) a w x (at h tr l s n (f ∷ fs)))) e)
+      sticks (each_of i v) (f ∷ fs) gs (λ a w x.
+      on_domain_at v (state_of a (at h tr l s n (f ∷ fs)))
+      (done (putting i v (putting (suc i) (int (pos 0)) goes_on)) a w x (at h tr l s n (f ∷ fs))) ∙
+      ap (λ b. m.only_where b (state_of a (at h tr l s n (f ∷ fs)))
+      (done (putting i v (putting (suc i) (int (pos 0)) goes_on)) a w x (at h tr l s n (f ∷ fs)))) e)
 
-  pub range_leads : (i : ℕ) (u v : Val) (fs : List Framed) → Ready (at h tr l s n fs) → is_int u ≡ true → is_int v ≡ true → Leads (range_of i u v) (at h tr l s n fs) (putting i u (putting (suc i) v goes_on)) (at h tr l s n fs)
+  pub range_leads : (i : ℕ) (u v : Val) (fs : List Framed) → Ready (at h tr l s n fs) → is_int u ≡ true → is_int v ≡ true →
+      Leads (range_of i u v) (at h tr l s n fs) (putting i u (putting (suc i) v goes_on)) (at h tr l s n fs)
   range_leads i u v [] r e d = absurd (r.some refl)
   range_leads i u v (f ∷ fs) r e d =
-      stays r (λ a w x. range_at h tr l s n i u v f fs a w x ∙ (ap (λ b. m.only_where b (state_of a (at h tr l s n (f ∷ fs))) (m.only_where (is_int v) (state_of a (at h tr l s n (f ∷ fs))) (done (putting i u (putting (suc i) v goes_on)) a w x (at h tr l s n (f ∷ fs))))) e ∙ ap (λ b. m.only_where b (state_of a (at h tr l s n (f ∷ fs))) (done (putting i u (putting (suc i) v goes_on)) a w x (at h tr l s n (f ∷ fs)))) d))
+      stays r (λ a w x. range_at h tr l s n i u v f fs a w x ∙
+      (ap (λ b. m.only_where b (state_of a (at h tr l s n (f ∷ fs)))
+      (m.only_where (is_int v) (state_of a (at h tr l s n (f ∷ fs)))
+      (done (putting i u (putting (suc i) v goes_on)) a w x (at h tr l s n (f ∷ fs))))) e ∙
+      ap (λ b. m.only_where b (state_of a (at h tr l s n (f ∷ fs)))
+      (done (putting i u (putting (suc i) v goes_on)) a w x (at h tr l s n (f ∷ fs)))) d))
 
-  pub range_first : (i : ℕ) (u v : Val) (fs gs : List Framed) → is_int u ≡ false → Comes (range_of i u v) (did.Over ending.Stuck) (at h tr l s n fs) (at h tr l s n gs)
+  pub range_first : (i : ℕ) (u v : Val) (fs gs : List Framed) → is_int u ≡ false →
+      Comes (range_of i u v) (did.Over ending.Stuck) (at h tr l s n fs) (at h tr l s n gs)
   range_first i u v [] gs e = sticks (range_of i u v) [] gs (λ a w x. refl)
   range_first i u v (f ∷ fs) gs e =
-      sticks (range_of i u v) (f ∷ fs) gs (λ a w x. range_at h tr l s n i u v f fs a w x ∙ ap (λ b. m.only_where b (state_of a (at h tr l s n (f ∷ fs))) (m.only_where (is_int v) (state_of a (at h tr l s n (f ∷ fs))) (done (putting i u (putting (suc i) v goes_on)) a w x (at h tr l s n (f ∷ fs))))) e)
+      sticks (range_of i u v) (f ∷ fs) gs (λ a w x. range_at h tr l s n i u v f fs a w x ∙
+      ap (λ b. m.only_where b (state_of a (at h tr l s n (f ∷ fs)))
+      (m.only_where (is_int v) (state_of a (at h tr l s n (f ∷ fs)))
+      (done (putting i u (putting (suc i) v goes_on)) a w x (at h tr l s n (f ∷ fs))))) e)
 
-  pub range_second : (i : ℕ) (u v : Val) (fs gs : List Framed) → is_int v ≡ false → Comes (range_of i u v) (did.Over ending.Stuck) (at h tr l s n fs) (at h tr l s n gs)
+  pub range_second : (i : ℕ) (u v : Val) (fs gs : List Framed) → is_int v ≡ false →
+      Comes (range_of i u v) (did.Over ending.Stuck) (at h tr l s n fs) (at h tr l s n gs)
   range_second i u v [] gs e = sticks (range_of i u v) [] gs (λ a w x. refl)
   range_second i u v (f ∷ fs) gs e =
-      sticks (range_of i u v) (f ∷ fs) gs (λ a w x. range_at h tr l s n i u v f fs a w x ∙ (ap (λ b. m.only_where (is_int u) (state_of a (at h tr l s n (f ∷ fs))) (m.only_where b (state_of a (at h tr l s n (f ∷ fs))) (done (putting i u (putting (suc i) v goes_on)) a w x (at h tr l s n (f ∷ fs))))) e ∙ nowhere (is_int u) (state_of a (at h tr l s n (f ∷ fs)))))
+      sticks (range_of i u v) (f ∷ fs) gs (λ a w x. range_at h tr l s n i u v f fs a w x ∙
+      (ap (λ b. m.only_where (is_int u) (state_of a (at h tr l s n (f ∷ fs)))
+      (m.only_where b (state_of a (at h tr l s n (f ∷ fs)))
+      (done (putting i u (putting (suc i) v goes_on)) a w x (at h tr l s n (f ∷ fs))))) e ∙
+      nowhere (is_int u) (state_of a (at h tr l s n (f ∷ fs)))))
 
 pub false_apart : (b : Bool) (u v : Val) → b ≡ false → (u ≡ v → b ≡ true) → u ≡ v → ⊥
 false_apart true u v e same is = absurd (cc)

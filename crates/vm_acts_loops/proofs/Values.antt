@@ -17,7 +17,8 @@ key_place no_pairs i v e = absurd (cc)
 key_place (more_pairs l w ps) zero v e = omega arith
 key_place (more_pairs l w ps) (suc i) v e = omega (arith, key_place ps i v e)
 
-pub entry_is : (ps : Pairs) (i : ℕ) (k : Key) (v : Val) → nth (vals_in ps) i ≡ Some v → k ≡ get_or (keys_in ps) i k → nth_entry ps i ≡ Some (v, key_val k)
+pub entry_is : (ps : Pairs) (i : ℕ) (k : Key) (v : Val) → nth (vals_in ps) i ≡ Some v → k ≡ get_or (keys_in ps) i k →
+    nth_entry ps i ≡ Some (v, key_val k)
 entry_is no_pairs i k v e d = absurd (cc)
 entry_is (more_pairs l w ps) zero k v e d = let same : w ≡ v = cc in rw (same, d) refl
 entry_is (more_pairs l w ps) (suc i) k v e d = entry_is ps i k v e d

@@ -22,7 +22,8 @@ use vm_runner::runners::{Did, Runner};
 pub fn each<H: Heap>(run: &mut Runner<H>, local: u32) -> Did
     requires ready { Ready (view_of H.state run.old) }
     requires inner { place_of run.old.thread < 4294967295 }
-    ensures { (c : Code) → Comes (acts c (op.Each local)) result (view_of H.state run.old) (view_of H.state run.new) }
+    ensures { (c : Code) → Comes (acts c (op.Each local)) result (view_of H.state run.old)
+        (view_of H.state run.new) }
 {
     let Some(domain) = run.thread.pop() else {
         return Did::Over(Ending::Stuck);
@@ -37,7 +38,8 @@ pub fn each<H: Heap>(run: &mut Runner<H>, local: u32) -> Did
 pub fn range<H: Heap>(run: &mut Runner<H>, local: u32) -> Did
     requires ready { Ready (view_of H.state run.old) }
     requires inner { place_of run.old.thread < 4294967295 }
-    ensures { (c : Code) → Comes (acts c (op.Range local)) result (view_of H.state run.old) (view_of H.state run.new) }
+    ensures { (c : Code) → Comes (acts c (op.Range local)) result (view_of H.state run.old)
+        (view_of H.state run.new) }
 {
     let Some((low, high)) = pop_two(&mut run.thread) else {
         return Did::Over(Ending::Stuck);
@@ -55,7 +57,8 @@ pub fn range<H: Heap>(run: &mut Runner<H>, local: u32) -> Did
 fn put_both<H: Heap>(run: &mut Runner<H>, local: u32, first: Value, second: Value) -> Did
     requires ready { Ready (view_of H.state run.old) }
     requires inner { place_of run.old.thread < 4294967295 }
-    ensures { Comes (putting local (val_of first) (putting (suc local) (val_of second) goes_on)) result (view_of H.state run.old) (view_of H.state run.new) }
+    ensures { Comes (putting local (val_of first) (putting (suc local) (val_of second) goes_on))
+        result (view_of H.state run.old) (view_of H.state run.new) }
 {
     let local = local as usize;
     if !run.thread.has_local(local) {

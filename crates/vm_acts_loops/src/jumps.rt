@@ -21,7 +21,8 @@ use vm_runner::spending::spend;
 pub fn same<H: Heap>(run: &mut Runner<H>, label: u32) -> Did
     requires ready { Ready (view_of H.state run.old) }
     requires inner { place_of run.old.thread < 4294967295 }
-    ensures { (c : Code) → Comes (acts c (op.Same label)) result (view_of H.state run.old) (view_of H.state run.new) }
+    ensures { (c : Code) → Comes (acts c (op.Same label)) result (view_of H.state run.old)
+        (view_of H.state run.new) }
 {
     let Some((first, second)) = pop_two(&mut run.thread) else {
         return Did::Over(Ending::Stuck);
@@ -35,7 +36,8 @@ pub fn same<H: Heap>(run: &mut Runner<H>, label: u32) -> Did
 /// Spends a step and goes to the label. Takes no memory.
 pub fn again<H: Heap>(run: &mut Runner<H>, label: u32) -> Did
     requires ready { Ready (view_of H.state run.old) }
-    ensures { (c : Code) → Comes (acts c (op.Again label)) result (view_of H.state run.old) (view_of H.state run.new) }
+    ensures { (c : Code) → Comes (acts c (op.Again label)) result (view_of H.state run.old)
+        (view_of H.state run.new) }
 {
     if !run.thread.go(label) {
         return Did::Over(Ending::Stuck);

@@ -1,5 +1,6 @@
 -- A line of the trace.
-use Rattle.std.proofs.Common.{◌≡◌, ◌≢◌, ℕ, ◌+◌, ◌<◌, ◌≤◌, Bool, true, false, cond, nat_le, Option, Some, None, List, [], ◌∷◌, ◌++◌, length, map, refl, sym, ap, ◌∙◌, subst, append_assoc, length-append}
+use Rattle.std.proofs.Common.{◌≡◌, ◌≢◌, ℕ, ◌+◌, ◌<◌, ◌≤◌, Bool, true, false, cond, nat_le, Option, Some, None, List, [], ◌∷◌, ◌++◌, length}
+use Rattle.std.proofs.Common.{map, refl, sym, ap, ◌∙◌, subst, append_assoc, length-append}
 use Rattle.std.proofs.lemmas.Bool.{le-leb, lt-leb}
 use Rattle.std.proofs.lemmas.List.{map-append}
 use Rattle.verse_base.specs.TraceLine.{line_bytes}
@@ -47,36 +48,47 @@ kept_printed (k ∷ ks) = ap (λ bs. line_bytes k.0 k.1 ++ bs) (kept_printed ks)
 printed_both : (xs ys : List Line) → printed (xs ++ ys) ≡ printed xs ++ printed ys
 printed_both [] ys = refl
 printed_both (x ∷ xs) ys =
-    ap (λ bs. line_bytes x.moment x.bytes ++ bs) (printed_both xs ys) ∙ sym (append_assoc (line_bytes x.moment x.bytes) (printed xs) (printed ys))
+    ap (λ bs. line_bytes x.moment x.bytes ++ bs) (printed_both xs ys) ∙
+    sym (append_assoc (line_bytes x.moment x.bytes) (printed xs) (printed ys))
 
-size_is : (past : List Line) (ks : List (ℕ × List ℕ)) → length (printed (past ++ map line_of ks)) ≡ length (printed past) + length (trace.printed ks)
+size_is : (past : List Line) (ks : List (ℕ × List ℕ)) →
+    length (printed (past ++ map line_of ks)) ≡ length (printed past) + length (trace.printed ks)
 size_is past ks =
-    ap length (printed_both past (map line_of ks)) ∙ (length-append (printed past) (printed (map line_of ks)) ∙ ap (λ bs. length (printed past) + length bs) (kept_printed ks))
+    ap length (printed_both past (map line_of ks)) ∙
+    (length-append (printed past) (printed (map line_of ks)) ∙ ap (λ bs. length (printed past) + length bs) (kept_printed ks))
 
-more_is : (past : List Line) (ks : List (ℕ × List ℕ)) (k : ℕ × List ℕ) → (past ++ map line_of ks) ++ line_of k ∷ [] ≡ past ++ map line_of (ks ++ k ∷ [])
+more_is : (past : List Line) (ks : List (ℕ × List ℕ)) (k : ℕ × List ℕ) →
+    (past ++ map line_of ks) ++ line_of k ∷ [] ≡ past ++ map line_of (ks ++ k ∷ [])
 more_is past ks k = append_assoc past (map line_of ks) (line_of k ∷ []) ∙ ap (λ ls. past ++ ls) (sym (map-append line_of ks (k ∷ [])))
 
 abbrev with_trace : Kept → List Line → State → Effect
 with_trace h ls st = gives (unit, record st { memory = record { store = h.cells; trace = ls } })
 
 module _ (h : Kept) (tr : Trace) (l s n : ℕ) where
-  size_at : (fs : List Framed) (a : Aside) → IsPast a (at h tr l s n fs) → length (printed (state_of a (at h tr l s n fs)).memory.trace) ≡ printed_size tr
+  size_at : (fs : List Framed) (a : Aside) → IsPast a (at h tr l s n fs) → length (printed (state_of a (at h tr l s n fs)).memory.trace) ≡
+      printed_size tr
   size_at fs a past = size_is a.past tr.kept ∙ ap (λ k. k + length (trace.printed tr.kept)) past
 
-  pub told : (bytes : List ℕ) (fs : List Framed) → printed_size tr + length (line_bytes n bytes) ≤ 16777216 → (a : Aside) → IsPast a (at h tr l s n fs) → line_told bytes (state_of a (at h tr l s n fs)) ≡ gives (unit, state_of a (at h (trace.with_line tr n bytes) l s n fs))
+  pub told : (bytes : List ℕ) (fs : List Framed) → printed_size tr + length (line_bytes n bytes) ≤ 16777216 → (a : Aside) →
+      IsPast a (at h tr l s n fs) → line_told bytes (state_of a (at h tr l s n fs)) ≡
+      gives (unit, state_of a (at h (trace.with_line tr n bytes) l s n fs))
   told bytes fs most a past =
       let st = state_of a (at h tr l s n fs) in
       let size = size_at fs a past in
       let line : Line = record { moment = n; bytes = bytes } in
-      let few : nat_le (length (printed st.memory.trace) + length (line_bytes n bytes)) 16777216 ≡ true = le-leb _ _ (subst (λ k. k + length (line_bytes n bytes) ≤ 16777216) (sym size) most) in
-      ap (λ b. cond {A = Effect} b (gives (unit, with_line st line)) (error kind.Trace)) few ∙ ap (λ ls. with_trace h ls st) (more_is a.past tr.kept (n, bytes))
+      let few : nat_le (length (printed st.memory.trace) + length (line_bytes n bytes)) 16777216 ≡ true =
+      le-leb _ _ (subst (λ k. k + length (line_bytes n bytes) ≤ 16777216) (sym size) most) in
+      ap (λ b. cond {A = Effect} b (gives (unit, with_line st line)) (error kind.Trace)) few ∙
+      ap (λ ls. with_trace h ls st) (more_is a.past tr.kept (n, bytes))
 
-  pub full : (bytes : List ℕ) (fs : List Framed) → 16777216 < printed_size tr + length (line_bytes n bytes) → (a : Aside) → IsPast a (at h tr l s n fs) → line_told bytes (state_of a (at h tr l s n fs)) ≡ error kind.Trace
+  pub full : (bytes : List ℕ) (fs : List Framed) → 16777216 < printed_size tr + length (line_bytes n bytes) → (a : Aside) →
+      IsPast a (at h tr l s n fs) → line_told bytes (state_of a (at h tr l s n fs)) ≡ error kind.Trace
   full bytes fs more a past =
       let st = state_of a (at h tr l s n fs) in
       let size = size_at fs a past in
       let line : Line = record { moment = n; bytes = bytes } in
-      let many : nat_le (length (printed st.memory.trace) + length (line_bytes n bytes)) 16777216 ≡ false = lt-leb _ _ (subst (λ k. 16777216 < k + length (line_bytes n bytes)) (sym size) more) in
+      let many : nat_le (length (printed st.memory.trace) + length (line_bytes n bytes)) 16777216 ≡ false =
+      lt-leb _ _ (subst (λ k. 16777216 < k + length (line_bytes n bytes)) (sym size) more) in
       ap (λ b. cond {A = Effect} b (gives (unit, with_line st line)) (error kind.Trace)) many
 
 -- a line never fails
@@ -91,8 +103,12 @@ told_not_fails bytes s = told_or_full (nat_le (length (printed s.memory.trace) +
 -- a value that is printed, by its bytes
 
 module _ {h : Kept} {tr : Trace} {l s n : ℕ} where
-  pub print_stuck : (p : Option Place) (v : Val) (fs gs : List Framed) → Ready (at h tr l s n fs) → bytes_in v ≡ None → Comes (effects p (line_printed v)) (did.Over ending.Stuck) (at h tr l s n fs) (at h tr l s n gs)
-  print_stuck p v fs gs r none = effect_stuck p (line_printed v) fs gs r (λ a. told_by v (state_of a (at h tr l s n fs)) ∙ ap (λ o. text_printed o (state_of a (at h tr l s n fs))) none)
+  pub print_stuck : (p : Option Place) (v : Val) (fs gs : List Framed) → Ready (at h tr l s n fs) → bytes_in v ≡ None →
+      Comes (effects p (line_printed v)) (did.Over ending.Stuck) (at h tr l s n fs) (at h tr l s n gs)
+  print_stuck p v fs gs r none = effect_stuck p (line_printed v) fs gs r (λ a. told_by v (state_of a (at h tr l s n fs)) ∙
+      ap (λ o. text_printed o (state_of a (at h tr l s n fs))) none)
 
-  pub print_leads : (p : Option Place) (v : Val) (bytes : List ℕ) (fs : List Framed) → Ready (at h tr l s n fs) → bytes_in v ≡ Some bytes → Leads (effects p (line_printed v)) (at h tr l s n fs) (effects p (line_told bytes)) (at h tr l s n fs)
-  print_leads p v bytes fs r some = effects_lead p (line_printed v) (line_told bytes) fs r (λ a. told_by v (state_of a (at h tr l s n fs)) ∙ ap (λ o. text_printed o (state_of a (at h tr l s n fs))) some)
+  pub print_leads : (p : Option Place) (v : Val) (bytes : List ℕ) (fs : List Framed) → Ready (at h tr l s n fs) → bytes_in v ≡ Some bytes →
+      Leads (effects p (line_printed v)) (at h tr l s n fs) (effects p (line_told bytes)) (at h tr l s n fs)
+  print_leads p v bytes fs r some = effects_lead p (line_printed v) (line_told bytes) fs r (λ a. told_by v (state_of a (at h tr l s n fs)) ∙
+      ap (λ o. text_printed o (state_of a (at h tr l s n fs))) some)

@@ -30,7 +30,8 @@ pub fn variable<H: Heap>(
 ) -> Result<Did, Memory>
     requires ready { Ready (view_of H.state run.old) }
     requires inner { place_of run.old.thread < 4294967295 }
-    ensures { IfOk result (λ d. Comes (acts code.now (op.New place)) d (view_of H.state run.old) (view_of H.state run.new)) }
+    ensures { IfOk result (λ d. Comes (acts code.now (op.New place)) d (view_of H.state run.old)
+        (view_of H.state run.new)) }
 {
     let Some(value) = run.thread.pop() else {
         return Ok(Did::Over(Ending::Stuck));
@@ -51,7 +52,8 @@ pub fn object<H: Heap>(
 ) -> Result<Did, Memory>
     requires ready { Ready (view_of H.state run.old) }
     requires inner { place_of run.old.thread < 4294967295 }
-    ensures { IfOk result (λ d. Comes (acts code.now (op.Object class place)) d (view_of H.state run.old) (view_of H.state run.new)) }
+    ensures { IfOk result (λ d. Comes (acts code.now (op.Object class place)) d
+        (view_of H.state run.old) (view_of H.state run.new)) }
 {
     let Some(of) = code.classes.get(class as usize) else {
         return Ok(Did::Over(Ending::Stuck));
@@ -72,7 +74,8 @@ pub fn event<H: Heap>(
 ) -> Result<Did, Memory>
     requires ready { Ready (view_of H.state run.old) }
     requires inner { place_of run.old.thread < 4294967295 }
-    ensures { IfOk result (λ d. Comes (acts code.now (op.Event place)) d (view_of H.state run.old) (view_of H.state run.new)) }
+    ensures { IfOk result (λ d. Comes (acts code.now (op.Event place)) d (view_of H.state run.old)
+        (view_of H.state run.new)) }
 {
     add_cell(run, code, CellKind::Event, Vec::new(alloc), place)
 }
@@ -87,7 +90,9 @@ fn add_cell<H: Heap>(
 ) -> Result<Did, Memory>
     requires ready { Ready (view_of H.state run.old) }
     requires inner { place_of run.old.thread < 4294967295 }
-    ensures { IfOk result (λ d. Comes (effects (place_in code.now (Some place)) (cell_made kind (vals_of slots.items))) d (view_of H.state run.old) (view_of H.state run.new)) }
+    ensures { IfOk result (λ d. Comes
+        (effects (place_in code.now (Some place)) (cell_made kind (vals_of slots.items))) d
+        (view_of H.state run.old) (view_of H.state run.new)) }
 {
     let next = run.thread.place() + 1;
     if !run.thread.permits(next) {

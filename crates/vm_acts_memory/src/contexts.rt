@@ -20,7 +20,8 @@ use vm_runner::runners::{Did, Runner};
 pub fn begin_attempt<H: Heap>(run: &mut Runner<H>, label: u32) -> Result<Did, Memory>
     requires ready { Ready (view_of H.state run.old) }
     requires inner { place_of run.old.thread < 4294967295 }
-    ensures { (c : Code) → IfOk result (λ d. Comes (acts c (op.Try label)) d (view_of H.state run.old) (view_of H.state run.new)) }
+    ensures { (c : Code) → IfOk result
+        (λ d. Comes (acts c (op.Try label)) d (view_of H.state run.old) (view_of H.state run.new)) }
 {
     let made = run.thread.place();
     run.heap.mark()?;
@@ -34,7 +35,8 @@ pub fn begin_attempt<H: Heap>(run: &mut Runner<H>, label: u32) -> Result<Did, Me
 pub fn commit<H: Heap>(run: &mut Runner<H>) -> Did
     requires ready { Ready (view_of H.state run.old) }
     requires inner { place_of run.old.thread < 4294967295 }
-    ensures { (c : Code) → Comes (acts c op.Commit) result (view_of H.state run.old) (view_of H.state run.new) }
+    ensures { (c : Code) → Comes (acts c op.Commit) result (view_of H.state run.old)
+        (view_of H.state run.new) }
 {
     if !run.thread.release() {
         return Did::Over(Ending::Stuck);
@@ -49,7 +51,8 @@ pub fn commit<H: Heap>(run: &mut Runner<H>) -> Did
 pub fn undo<H: Heap>(run: &mut Runner<H>) -> Did
     requires ready { Ready (view_of H.state run.old) }
     requires inner { place_of run.old.thread < 4294967295 }
-    ensures { (c : Code) → Comes (acts c op.Undo) result (view_of H.state run.old) (view_of H.state run.new) }
+    ensures { (c : Code) → Comes (acts c op.Undo) result (view_of H.state run.old)
+        (view_of H.state run.new) }
 {
     if !run.thread.release() {
         return Did::Over(Ending::Stuck);

@@ -1,6 +1,7 @@
 //! A line of the trace.
 
-ghost use Rattle.std.specs.Prelude.{◌≡◌, ◌<◌, IfOk, IfSome, IfNone, option_map, List, ℕ, Some, None};
+ghost use Rattle.std.specs.Prelude.{◌≡◌, ◌<◌, IfOk, IfSome, IfNone, option_map, List, ℕ, Some};
+ghost use Rattle.std.specs.Prelude.{None};
 ghost use Rattle.verse_code.specs.declared.operations.Op.TheVariants as op;
 ghost use Rattle.verse_value.specs.View.{val_of};
 ghost use Rattle.vm_thread.specs.Framed.{place_of};
@@ -32,7 +33,8 @@ pub fn print<H: Heap>(
 ) -> Result<Did, Memory>
     requires ready { Ready (view_of H.state run.old) }
     requires inner { place_of run.old.thread < 4294967295 }
-    ensures { IfOk result (λ d. Comes (acts code.now (op.Print place)) d (view_of H.state run.old) (view_of H.state run.new)) }
+    ensures { IfOk result (λ d. Comes (acts code.now (op.Print place)) d (view_of H.state run.old)
+        (view_of H.state run.new)) }
 {
     let Some(value) = run.thread.pop() else {
         return Ok(Did::Over(Ending::Stuck));
@@ -57,7 +59,8 @@ fn bytes_of(alloc: Global, value: &Value) -> Result<Option<Vec<u8>>, Memory>
 fn tell<H: Heap>(run: &mut Runner<H>, code: &Code, bytes: &[u8], place: u32) -> Result<Did, Memory>
     requires ready { Ready (view_of H.state run.old) }
     requires inner { place_of run.old.thread < 4294967295 }
-    ensures { IfOk result (λ d. Comes (tells (place_in code.now (Some place)) bytes.now) d (view_of H.state run.old) (view_of H.state run.new)) }
+    ensures { IfOk result (λ d. Comes (tells (place_in code.now (Some place)) bytes.now) d
+        (view_of H.state run.old) (view_of H.state run.new)) }
 {
     let next = run.thread.place() + 1;
     if !run.thread.permits(next) {

@@ -32,7 +32,8 @@ pub fn load<H: Heap>(
     requires ready { Ready (view_of H.state run.old) }
     requires inner { place_of run.old.thread < 4294967295 }
     requires belongs { StoreBelongs code.now.classes (H.state run.old.heap).cells }
-    ensures { IfOk result (λ d. Comes (acts code.now (op.Load slot)) d (view_of H.state run.old) (view_of H.state run.new)) }
+    ensures { IfOk result (λ d. Comes (acts code.now (op.Load slot)) d (view_of H.state run.old)
+        (view_of H.state run.new)) }
 {
     let Some(value) = run.thread.pop() else {
         return Ok(Did::Over(Ending::Stuck));

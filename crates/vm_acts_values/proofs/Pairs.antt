@@ -16,9 +16,12 @@ pair_last : (ps : List (Value × Value)) (k v : Value) → pairs_of (ps ++ (k, v
 pair_last ps k v = map-append (λ p. (val_of p.0, val_of p.1)) ps ((k, v) ∷ [])
 
 -- one value more
-pub turned : (old new : List (Value × Value)) (key : Option Value) (value : Value) (next : Option Value) (vs : List Value) → Turns old new key value next → pairs_of new ++ paired (vals_of (held next ++ vs)) ≡ pairs_of old ++ paired (vals_of (held key ++ value ∷ vs))
+pub turned : (old new : List (Value × Value)) (key : Option Value) (value : Value) (next : Option Value) (vs : List Value) →
+    Turns old new key value next → pairs_of new ++ paired (vals_of (held next ++ vs)) ≡ pairs_of old ++
+    paired (vals_of (held key ++ value ∷ vs))
 turned old new (Some k) value next vs h =
-    rw (h.0, h.1) (ap (λ ps. ps ++ paired (vals_of vs)) (pair_last old k value) ∙ append_assoc (pairs_of old) ((val_of k, val_of value) ∷ []) (paired (vals_of vs)))
+    rw (h.0, h.1) (ap (λ ps. ps ++ paired (vals_of vs)) (pair_last old k value) ∙
+    append_assoc (pairs_of old) ((val_of k, val_of value) ∷ []) (paired (vals_of vs)))
 turned old new None value next vs h = rw (h.0, h.1) refl
 
 -- no value is left

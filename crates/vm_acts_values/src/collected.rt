@@ -35,7 +35,8 @@ pub fn join<H: Heap>(
 ) -> Result<Did, Memory>
     requires ready { Ready (view_of H.state run.old) }
     requires inner { place_of run.old.thread < 4294967295 }
-    ensures { IfOk result (λ d. Comes (acts code.now (op.Join count place)) d (view_of H.state run.old) (view_of H.state run.new)) }
+    ensures { IfOk result (λ d. Comes (acts code.now (op.Join count place)) d
+        (view_of H.state run.old) (view_of H.state run.new)) }
 {
     let Some(parts) = run.thread.pop_many(alloc, count as u64)? else {
         return Ok(Did::Over(Ending::Stuck));
@@ -53,7 +54,8 @@ pub fn array<H: Heap>(
 ) -> Result<Did, Memory>
     requires ready { Ready (view_of H.state run.old) }
     requires inner { place_of run.old.thread < 4294967295 }
-    ensures { IfOk result (λ d. Comes (acts code.now (op.Array count place)) d (view_of H.state run.old) (view_of H.state run.new)) }
+    ensures { IfOk result (λ d. Comes (acts code.now (op.Array count place)) d
+        (view_of H.state run.old) (view_of H.state run.new)) }
 {
     let Some(parts) = run.thread.pop_many(alloc, count as u64)? else {
         return Ok(Did::Over(Ending::Stuck));
@@ -71,7 +73,8 @@ pub fn tuple<H: Heap>(
 ) -> Result<Did, Memory>
     requires ready { Ready (view_of H.state run.old) }
     requires inner { place_of run.old.thread < 4294967295 }
-    ensures { IfOk result (λ d. Comes (acts code.now (op.Tuple count place)) d (view_of H.state run.old) (view_of H.state run.new)) }
+    ensures { IfOk result (λ d. Comes (acts code.now (op.Tuple count place)) d
+        (view_of H.state run.old) (view_of H.state run.new)) }
 {
     let Some(parts) = run.thread.pop_many(alloc, count as u64)? else {
         return Ok(Did::Over(Ending::Stuck));
@@ -90,7 +93,8 @@ pub fn map<H: Heap>(
 ) -> Result<Did, Memory>
     requires ready { Ready (view_of H.state run.old) }
     requires inner { place_of run.old.thread < 4294967295 }
-    ensures { IfOk result (λ d. Comes (acts code.now (op.Map count place)) d (view_of H.state run.old) (view_of H.state run.new)) }
+    ensures { IfOk result (λ d. Comes (acts code.now (op.Map count place)) d
+        (view_of H.state run.old) (view_of H.state run.new)) }
 {
     let Some(parts) = run.thread.pop_many(alloc, count as u64 + count as u64)? else {
         return Ok(Did::Over(Ending::Stuck));

@@ -24,7 +24,8 @@ use vm_runner::runners::{Did, Runner};
 pub fn equal<H: Heap>(run: &mut Runner<H>, code: &Code) -> Result<Did, Memory>
     requires ready { Ready (view_of H.state run.old) }
     requires inner { place_of run.old.thread < 4294967295 }
-    ensures { IfOk result (λ d. Comes (acts code.now op.Eq) d (view_of H.state run.old) (view_of H.state run.new)) }
+    ensures { IfOk result (λ d. Comes (acts code.now op.Eq) d (view_of H.state run.old)
+        (view_of H.state run.new)) }
 {
     let Some((first, second)) = pop_two(&mut run.thread) else {
         return Ok(Did::Over(Ending::Stuck));
@@ -36,7 +37,8 @@ pub fn equal<H: Heap>(run: &mut Runner<H>, code: &Code) -> Result<Did, Memory>
 pub fn unequal<H: Heap>(run: &mut Runner<H>, code: &Code) -> Result<Did, Memory>
     requires ready { Ready (view_of H.state run.old) }
     requires inner { place_of run.old.thread < 4294967295 }
-    ensures { IfOk result (λ d. Comes (acts code.now op.Ne) d (view_of H.state run.old) (view_of H.state run.new)) }
+    ensures { IfOk result (λ d. Comes (acts code.now op.Ne) d (view_of H.state run.old)
+        (view_of H.state run.new)) }
 {
     let Some((first, second)) = pop_two(&mut run.thread) else {
         return Ok(Did::Over(Ending::Stuck));
@@ -53,7 +55,8 @@ pub fn concat<H: Heap>(
 ) -> Result<Did, Memory>
     requires ready { Ready (view_of H.state run.old) }
     requires inner { place_of run.old.thread < 4294967295 }
-    ensures { IfOk result (λ d. Comes (acts code.now (op.Concat place)) d (view_of H.state run.old) (view_of H.state run.new)) }
+    ensures { IfOk result (λ d. Comes (acts code.now (op.Concat place)) d (view_of H.state run.old)
+        (view_of H.state run.new)) }
 {
     let Some((first, second)) = pop_two(&mut run.thread) else {
         return Ok(Did::Over(Ending::Stuck));
@@ -65,7 +68,8 @@ pub fn concat<H: Heap>(
 pub fn at<H: Heap>(alloc: Global, run: &mut Runner<H>, code: &Code) -> Result<Did, Memory>
     requires ready { Ready (view_of H.state run.old) }
     requires inner { place_of run.old.thread < 4294967295 }
-    ensures { IfOk result (λ d. Comes (acts code.now op.At) d (view_of H.state run.old) (view_of H.state run.new)) }
+    ensures { IfOk result (λ d. Comes (acts code.now op.At) d (view_of H.state run.old)
+        (view_of H.state run.new)) }
 {
     let Some((first, second)) = pop_two(&mut run.thread) else {
         return Ok(Did::Over(Ending::Stuck));
@@ -82,7 +86,8 @@ pub fn optional<H: Heap>(
 ) -> Result<Did, Memory>
     requires ready { Ready (view_of H.state run.old) }
     requires inner { place_of run.old.thread < 4294967295 }
-    ensures { IfOk result (λ d. Comes (acts code.now (op.Some place)) d (view_of H.state run.old) (view_of H.state run.new)) }
+    ensures { IfOk result (λ d. Comes (acts code.now (op.Some place)) d (view_of H.state run.old)
+        (view_of H.state run.new)) }
 {
     let Some(value) = run.thread.pop() else {
         return Ok(Did::Over(Ending::Stuck));
@@ -94,7 +99,8 @@ pub fn optional<H: Heap>(
 pub fn query<H: Heap>(run: &mut Runner<H>, code: &Code) -> Result<Did, Memory>
     requires ready { Ready (view_of H.state run.old) }
     requires inner { place_of run.old.thread < 4294967295 }
-    ensures { IfOk result (λ d. Comes (acts code.now op.Query) d (view_of H.state run.old) (view_of H.state run.new)) }
+    ensures { IfOk result (λ d. Comes (acts code.now op.Query) d (view_of H.state run.old)
+        (view_of H.state run.new)) }
 {
     let Some(value) = run.thread.pop() else {
         return Ok(Did::Over(Ending::Stuck));
@@ -106,7 +112,8 @@ pub fn query<H: Heap>(run: &mut Runner<H>, code: &Code) -> Result<Did, Memory>
 pub fn item<H: Heap>(run: &mut Runner<H>, code: &Code, at: u32) -> Result<Did, Memory>
     requires ready { Ready (view_of H.state run.old) }
     requires inner { place_of run.old.thread < 4294967295 }
-    ensures { IfOk result (λ d. Comes (acts code.now (op.Item at)) d (view_of H.state run.old) (view_of H.state run.new)) }
+    ensures { IfOk result (λ d. Comes (acts code.now (op.Item at)) d (view_of H.state run.old)
+        (view_of H.state run.new)) }
 {
     let Some(value) = run.thread.pop() else {
         return Ok(Did::Over(Ending::Stuck));
@@ -118,7 +125,8 @@ pub fn item<H: Heap>(run: &mut Runner<H>, code: &Code, at: u32) -> Result<Did, M
 pub fn length<H: Heap>(run: &mut Runner<H>, code: &Code) -> Result<Did, Memory>
     requires ready { Ready (view_of H.state run.old) }
     requires inner { place_of run.old.thread < 4294967295 }
-    ensures { IfOk result (λ d. Comes (acts code.now op.Length) d (view_of H.state run.old) (view_of H.state run.new)) }
+    ensures { IfOk result (λ d. Comes (acts code.now op.Length) d (view_of H.state run.old)
+        (view_of H.state run.new)) }
 {
     let Some(value) = run.thread.pop() else {
         return Ok(Did::Over(Ending::Stuck));

@@ -38,7 +38,8 @@ pub fn append<H: Heap>(
 ) -> Result<Did, Memory>
     requires ready { Ready (view_of H.state run.old) }
     requires inner { place_of run.old.thread < 4294967295 }
-    ensures { IfOk result (λ d. Comes (acts code.now (op.Append local place)) d (view_of H.state run.old) (view_of H.state run.new)) }
+    ensures { IfOk result (λ d. Comes (acts code.now (op.Append local place)) d
+        (view_of H.state run.old) (view_of H.state run.new)) }
 {
     let Some(value) = run.thread.pop() else {
         return Ok(Did::Over(Ending::Stuck));
@@ -73,7 +74,9 @@ fn settle<H: Heap>(
     requires ready { Ready (view_of H.state run.old) }
     requires inner { place_of run.old.thread < 4294967295 }
     requires there { target.local < length (locals_of run.old.thread) }
-    ensures { (a : Answer Val) (w : Val) → IsAnswerOrMemory a outcome → CannotFail a → IfOk result (λ d. Comes (answers_to (place_in code.now (Some target.place)) target.local a) d (holding target.local w (view_of H.state run.old)) (view_of H.state run.new)) }
+    ensures { (a : Answer Val) (w : Val) → IsAnswerOrMemory a outcome → CannotFail a →
+        IfOk result (λ d. Comes (answers_to (place_in code.now (Some target.place)) target.local a)
+        d (holding target.local w (view_of H.state run.old)) (view_of H.state run.new)) }
 {
     match outcome {
         Ok(value) => {

@@ -25,7 +25,8 @@ pub fn char<H: Heap>(run: &mut Runner<H>, code: u32) -> Result<Did, Memory>
     requires ready { Ready (view_of H.state run.old) }
     requires inner { place_of run.old.thread < 4294967295 }
     requires char { code ≤ 255 }
-    ensures { (c : Code) → IfOk result (λ d. Comes (acts c (op.Char code)) d (view_of H.state run.old) (view_of H.state run.new)) }
+    ensures { (c : Code) → IfOk result
+        (λ d. Comes (acts c (op.Char code)) d (view_of H.state run.old) (view_of H.state run.new)) }
 {
     push_on(run, Value::Char(code as u8))
 }
@@ -39,7 +40,8 @@ pub fn text<H: Heap>(
 ) -> Result<Did, Memory>
     requires ready { Ready (view_of H.state run.old) }
     requires inner { place_of run.old.thread < 4294967295 }
-    ensures { IfOk result (λ d. Comes (acts code.now (op.Text text)) d (view_of H.state run.old) (view_of H.state run.new)) }
+    ensures { IfOk result (λ d. Comes (acts code.now (op.Text text)) d (view_of H.state run.old)
+        (view_of H.state run.new)) }
 {
     let Some(bytes) = code.texts.get(text as usize) else {
         return Ok(Did::Over(Ending::Stuck));
@@ -51,7 +53,8 @@ pub fn text<H: Heap>(
 pub fn get<H: Heap>(alloc: Global, run: &mut Runner<H>, local: u32) -> Result<Did, Memory>
     requires ready { Ready (view_of H.state run.old) }
     requires inner { place_of run.old.thread < 4294967295 }
-    ensures { (c : Code) → IfOk result (λ d. Comes (acts c (op.Get local)) d (view_of H.state run.old) (view_of H.state run.new)) }
+    ensures { (c : Code) → IfOk result
+        (λ d. Comes (acts c (op.Get local)) d (view_of H.state run.old) (view_of H.state run.new)) }
 {
     let Some(value) = run.thread.local(local) else {
         return Ok(Did::Over(Ending::Stuck));
@@ -64,7 +67,8 @@ pub fn get<H: Heap>(alloc: Global, run: &mut Runner<H>, local: u32) -> Result<Di
 pub fn put<H: Heap>(run: &mut Runner<H>, local: u32) -> Did
     requires ready { Ready (view_of H.state run.old) }
     requires inner { place_of run.old.thread < 4294967295 }
-    ensures { (c : Code) → Comes (acts c (op.Put local)) result (view_of H.state run.old) (view_of H.state run.new) }
+    ensures { (c : Code) → Comes (acts c (op.Put local)) result (view_of H.state run.old)
+        (view_of H.state run.new) }
 {
     let Some(value) = run.thread.pop() else {
         return Did::Over(Ending::Stuck);
@@ -80,7 +84,8 @@ pub fn put<H: Heap>(run: &mut Runner<H>, local: u32) -> Did
 pub fn discard<H: Heap>(run: &mut Runner<H>) -> Did
     requires ready { Ready (view_of H.state run.old) }
     requires inner { place_of run.old.thread < 4294967295 }
-    ensures { (c : Code) → Comes (acts c op.Drop) result (view_of H.state run.old) (view_of H.state run.new) }
+    ensures { (c : Code) → Comes (acts c op.Drop) result (view_of H.state run.old)
+        (view_of H.state run.new) }
 {
     let Some(_value) = run.thread.pop() else {
         return Did::Over(Ending::Stuck);

@@ -23,7 +23,8 @@ use vm_runner::runners::{Did, Runner};
 pub fn add<H: Heap>(run: &mut Runner<H>, code: &Code, place: u32) -> Result<Did, Memory>
     requires ready { Ready (view_of H.state run.old) }
     requires inner { place_of run.old.thread < 4294967295 }
-    ensures { IfOk result (λ d. Comes (acts code.now (op.Add place)) d (view_of H.state run.old) (view_of H.state run.new)) }
+    ensures { IfOk result (λ d. Comes (acts code.now (op.Add place)) d (view_of H.state run.old)
+        (view_of H.state run.new)) }
 {
     let Some((first, second)) = pop_two(&mut run.thread) else {
         return Ok(Did::Over(Ending::Stuck));
@@ -35,7 +36,8 @@ pub fn add<H: Heap>(run: &mut Runner<H>, code: &Code, place: u32) -> Result<Did,
 pub fn sub<H: Heap>(run: &mut Runner<H>, code: &Code, place: u32) -> Result<Did, Memory>
     requires ready { Ready (view_of H.state run.old) }
     requires inner { place_of run.old.thread < 4294967295 }
-    ensures { IfOk result (λ d. Comes (acts code.now (op.Sub place)) d (view_of H.state run.old) (view_of H.state run.new)) }
+    ensures { IfOk result (λ d. Comes (acts code.now (op.Sub place)) d (view_of H.state run.old)
+        (view_of H.state run.new)) }
 {
     let Some((first, second)) = pop_two(&mut run.thread) else {
         return Ok(Did::Over(Ending::Stuck));
@@ -47,7 +49,8 @@ pub fn sub<H: Heap>(run: &mut Runner<H>, code: &Code, place: u32) -> Result<Did,
 pub fn mul<H: Heap>(run: &mut Runner<H>, code: &Code, place: u32) -> Result<Did, Memory>
     requires ready { Ready (view_of H.state run.old) }
     requires inner { place_of run.old.thread < 4294967295 }
-    ensures { IfOk result (λ d. Comes (acts code.now (op.Mul place)) d (view_of H.state run.old) (view_of H.state run.new)) }
+    ensures { IfOk result (λ d. Comes (acts code.now (op.Mul place)) d (view_of H.state run.old)
+        (view_of H.state run.new)) }
 {
     let Some((first, second)) = pop_two(&mut run.thread) else {
         return Ok(Did::Over(Ending::Stuck));
@@ -59,7 +62,8 @@ pub fn mul<H: Heap>(run: &mut Runner<H>, code: &Code, place: u32) -> Result<Did,
 pub fn floor<H: Heap>(run: &mut Runner<H>, code: &Code, place: u32) -> Result<Did, Memory>
     requires ready { Ready (view_of H.state run.old) }
     requires inner { place_of run.old.thread < 4294967295 }
-    ensures { IfOk result (λ d. Comes (acts code.now (op.Floor place)) d (view_of H.state run.old) (view_of H.state run.new)) }
+    ensures { IfOk result (λ d. Comes (acts code.now (op.Floor place)) d (view_of H.state run.old)
+        (view_of H.state run.new)) }
 {
     let Some((first, second)) = pop_two(&mut run.thread) else {
         return Ok(Did::Over(Ending::Stuck));
@@ -71,7 +75,8 @@ pub fn floor<H: Heap>(run: &mut Runner<H>, code: &Code, place: u32) -> Result<Di
 pub fn ceil<H: Heap>(run: &mut Runner<H>, code: &Code, place: u32) -> Result<Did, Memory>
     requires ready { Ready (view_of H.state run.old) }
     requires inner { place_of run.old.thread < 4294967295 }
-    ensures { IfOk result (λ d. Comes (acts code.now (op.Ceil place)) d (view_of H.state run.old) (view_of H.state run.new)) }
+    ensures { IfOk result (λ d. Comes (acts code.now (op.Ceil place)) d (view_of H.state run.old)
+        (view_of H.state run.new)) }
 {
     let Some((first, second)) = pop_two(&mut run.thread) else {
         return Ok(Did::Over(Ending::Stuck));
@@ -83,7 +88,8 @@ pub fn ceil<H: Heap>(run: &mut Runner<H>, code: &Code, place: u32) -> Result<Did
 pub fn modulo<H: Heap>(run: &mut Runner<H>, code: &Code) -> Result<Did, Memory>
     requires ready { Ready (view_of H.state run.old) }
     requires inner { place_of run.old.thread < 4294967295 }
-    ensures { IfOk result (λ d. Comes (acts code.now op.Mod) d (view_of H.state run.old) (view_of H.state run.new)) }
+    ensures { IfOk result (λ d. Comes (acts code.now op.Mod) d (view_of H.state run.old)
+        (view_of H.state run.new)) }
 {
     let Some((first, second)) = pop_two(&mut run.thread) else {
         return Ok(Did::Over(Ending::Stuck));
@@ -95,7 +101,8 @@ pub fn modulo<H: Heap>(run: &mut Runner<H>, code: &Code) -> Result<Did, Memory>
 pub fn less<H: Heap>(run: &mut Runner<H>, code: &Code) -> Result<Did, Memory>
     requires ready { Ready (view_of H.state run.old) }
     requires inner { place_of run.old.thread < 4294967295 }
-    ensures { IfOk result (λ d. Comes (acts code.now op.Lt) d (view_of H.state run.old) (view_of H.state run.new)) }
+    ensures { IfOk result (λ d. Comes (acts code.now op.Lt) d (view_of H.state run.old)
+        (view_of H.state run.new)) }
 {
     let Some((first, second)) = pop_two(&mut run.thread) else {
         return Ok(Did::Over(Ending::Stuck));
@@ -107,7 +114,8 @@ pub fn less<H: Heap>(run: &mut Runner<H>, code: &Code) -> Result<Did, Memory>
 pub fn at_most<H: Heap>(run: &mut Runner<H>, code: &Code) -> Result<Did, Memory>
     requires ready { Ready (view_of H.state run.old) }
     requires inner { place_of run.old.thread < 4294967295 }
-    ensures { IfOk result (λ d. Comes (acts code.now op.Le) d (view_of H.state run.old) (view_of H.state run.new)) }
+    ensures { IfOk result (λ d. Comes (acts code.now op.Le) d (view_of H.state run.old)
+        (view_of H.state run.new)) }
 {
     let Some((first, second)) = pop_two(&mut run.thread) else {
         return Ok(Did::Over(Ending::Stuck));
@@ -119,7 +127,8 @@ pub fn at_most<H: Heap>(run: &mut Runner<H>, code: &Code) -> Result<Did, Memory>
 pub fn greater<H: Heap>(run: &mut Runner<H>, code: &Code) -> Result<Did, Memory>
     requires ready { Ready (view_of H.state run.old) }
     requires inner { place_of run.old.thread < 4294967295 }
-    ensures { IfOk result (λ d. Comes (acts code.now op.Gt) d (view_of H.state run.old) (view_of H.state run.new)) }
+    ensures { IfOk result (λ d. Comes (acts code.now op.Gt) d (view_of H.state run.old)
+        (view_of H.state run.new)) }
 {
     let Some((first, second)) = pop_two(&mut run.thread) else {
         return Ok(Did::Over(Ending::Stuck));
@@ -131,7 +140,8 @@ pub fn greater<H: Heap>(run: &mut Runner<H>, code: &Code) -> Result<Did, Memory>
 pub fn at_least<H: Heap>(run: &mut Runner<H>, code: &Code) -> Result<Did, Memory>
     requires ready { Ready (view_of H.state run.old) }
     requires inner { place_of run.old.thread < 4294967295 }
-    ensures { IfOk result (λ d. Comes (acts code.now op.Ge) d (view_of H.state run.old) (view_of H.state run.new)) }
+    ensures { IfOk result (λ d. Comes (acts code.now op.Ge) d (view_of H.state run.old)
+        (view_of H.state run.new)) }
 {
     let Some((first, second)) = pop_two(&mut run.thread) else {
         return Ok(Did::Over(Ending::Stuck));
@@ -143,7 +153,8 @@ pub fn at_least<H: Heap>(run: &mut Runner<H>, code: &Code) -> Result<Did, Memory
 pub fn negate<H: Heap>(run: &mut Runner<H>, code: &Code, place: u32) -> Result<Did, Memory>
     requires ready { Ready (view_of H.state run.old) }
     requires inner { place_of run.old.thread < 4294967295 }
-    ensures { IfOk result (λ d. Comes (acts code.now (op.Neg place)) d (view_of H.state run.old) (view_of H.state run.new)) }
+    ensures { IfOk result (λ d. Comes (acts code.now (op.Neg place)) d (view_of H.state run.old)
+        (view_of H.state run.new)) }
 {
     let Some(value) = run.thread.pop() else {
         return Ok(Did::Over(Ending::Stuck));

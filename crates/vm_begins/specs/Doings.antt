@@ -11,7 +11,8 @@ use Rattle.vm_runner.specs.Doings.{Doing, spends}
 -- a task behind begins at a place
 abbrev pub branches_at : ℕ → Doing
 branches_at q w x s f fs =
-    Next (machine (child_named w s.clock.left) (world x.pre x.post (branching (thread w f fs) ∷ x.ups) x.trees) s (life_from s.clock.left) f.locals [] q [] [])
+    Next (machine (child_named w s.clock.left) (world x.pre x.post (branching (thread w f fs) ∷ x.ups) x.trees) s
+    (life_from s.clock.left) f.locals [] q [] [])
 
 abbrev pub branches : ℕ → Doing
 branches q = spends (branches_at q)

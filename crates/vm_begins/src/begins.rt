@@ -32,7 +32,8 @@ pub fn branch<H: Heap, W: Waits>(
 ) -> Result<Went, Memory>
     requires there { Goes W.pending (view_of H.state run.old) tasks.old }
     requires free { all_free (frames_with run.old.thread []) ≡ true }
-    ensures { IfOk result (λ r. Comes W.pending (branches at) r (view_of H.state run.old) tasks.old (view_of H.state run.new) tasks.new) }
+    ensures { IfOk result (λ r. Comes W.pending (branches at) r (view_of H.state run.old) tasks.old
+        (view_of H.state run.new) tasks.new) }
 {
     if run.left == 0 {
         return Ok(Went::Over(Ending::Steps));
@@ -61,7 +62,8 @@ pub fn spawn<H: Heap, W: Waits>(
     requires free { all_free (frames_with run.old.thread []) ≡ true }
     requires params { length args.items ≡ func.now.params }
     requires locals { func.now.params ≤ func.now.locals }
-    ensures { IfOk result (λ r. Comes W.pending (spawns_task func.now (vals_of args.items)) r (view_of H.state run.old) tasks.old (view_of H.state run.new) tasks.new) }
+    ensures { IfOk result (λ r. Comes W.pending (spawns_task func.now (vals_of args.items)) r
+        (view_of H.state run.old) tasks.old (view_of H.state run.new) tasks.new) }
 {
     if run.left == 0 {
         return Ok(Went::Over(Ending::Steps));
@@ -92,7 +94,8 @@ pub fn begin_arm<H: Heap, W: Waits>(
     requires live { IsLive begins.id tasks.old.tree }
     requires some { begins.thread ≢ [] }
     requires steps { run.old.left + run.old.spent ≤ 18446744073709551615 }
-    ensures { IfOk result (λ r. BeginsArm W.pending begins label r (view_of H.state run.old) tasks.old (view_of H.state run.new) tasks.new) }
+    ensures { IfOk result (λ r. BeginsArm W.pending begins label r
+        (view_of H.state run.old) tasks.old (view_of H.state run.new) tasks.new) }
 {
     if run.left == 0 {
         return Ok(Went::Over(Ending::Steps));

@@ -32,7 +32,8 @@ pub fn group<H: Heap, W: Waits>(
 ) -> Result<Went, Memory>
     requires there { Goes W.pending (view_of H.state run.old) tasks.old }
     requires free { all_free (frames_with run.old.thread []) ≡ true }
-    ensures { IfOk result (λ r. Comes W.pending (begins_group (kind_of kind) place labels.items) r (view_of H.state run.old) tasks.old (view_of H.state run.new) tasks.new) }
+    ensures { IfOk result (λ r. Comes W.pending (begins_group (kind_of kind) place labels.items) r
+        (view_of H.state run.old) tasks.old (view_of H.state run.new) tasks.new) }
 {
     let mut labels = labels;
     labels.reverse();

@@ -22,7 +22,8 @@ pub all_but : (fss : List (List Framed)) (fs : List Framed) → AllUnguarded (fs
 all_but [] fs u = (tt, u.0)
 all_but (gs ∷ fss) fs u = let k = all_but fss fs u.1 in ((u.0, k.0), k.1)
 
-last_first : (fss : List (List Framed)) (fs : List Framed) → map frames_in (reverse (fss ++ fs ∷ [])) ≡ frames_in fs ∷ map frames_in (reverse fss)
+last_first : (fss : List (List Framed)) (fs : List Framed) →
+    map frames_in (reverse (fss ++ fs ∷ [])) ≡ frames_in fs ∷ map frames_in (reverse fss)
 last_first fss fs = ap (λ z. map frames_in z) (reverse-append fss (fs ∷ []))
 
 -- the frames of the next one
@@ -41,7 +42,8 @@ some_with : (fs : List Framed) → fs ≢ [] → frames_with fs [] ≢ []
 some_with [] some e = some refl
 some_with (f ∷ fs) some e = absurd (cc)
 
-next_of : (fs : List Framed) (rest : List (List Framed)) (todo : List m.Task) → Unguarded fs → map frames_in (reverse (rest ++ fs ∷ [])) ≡ map frames_at todo → Next fs rest todo
+next_of : (fs : List Framed) (rest : List (List Framed)) (todo : List m.Task) → Unguarded fs →
+    map frames_in (reverse (rest ++ fs ∷ [])) ≡ map frames_at todo → Next fs rest todo
 next_of fs rest [] u e = let none : frames_in fs ∷ map frames_in (reverse rest) ≡ [] = sym (last_first fs_rest fs) ∙ e in absurd (cc)
   where
     fs_rest : List (List Framed)
@@ -61,27 +63,34 @@ module _ {W : Type 0} where
   abbrev pub with_frames : Tasks W → Vec (List Framed) → Tasks W
   with_frames t fss = record t { gone = record t.gone { frames = fss } }
 
-  pub none_left : (v : View) (t : Tasks W) (fss : Vec (List Framed)) → t.gone.frames.items ≡ [] → fss.items ≡ [] → ClearsAll went.Down v t v (with_frames t fss)
+  pub none_left : (v : View) (t : Tasks W) (fss : Vec (List Framed)) → t.gone.frames.items ≡ [] → fss.items ≡ [] →
+      ClearsAll went.Down v t v (with_frames t fss)
   none_left v t fss is are = record {
     clears = λ last after todo a o bare e.
         let none = no_more todo (ap (λ z. map frames_in (reverse z)) (sym is) ∙ e) in
         (ap (λ z. clears last after z o (state_of a v)) none, refl, are, refl);
   }
 
-  module _ (v : View) (t : Tasks W) (fs : List Framed) (fss : Vec (List Framed)) (is : t.gone.frames.items ≡ fss.items ++ fs ∷ []) (un : AllUnguarded t.gone.frames.items) where
+  module _ (v : View) (t : Tasks W) (fs : List Framed) (fss : Vec (List Framed)) (is : t.gone.frames.items ≡ fss.items ++ fs ∷ [])
+      (un : AllUnguarded t.gone.frames.items) where
     here : (todo : List m.Task) → map frames_in (reverse t.gone.frames.items) ≡ map frames_at todo → Next fs fss.items todo
-    here todo e = next_of fs fss.items todo (all_but fss.items fs (subst (λ z. AllUnguarded z) is un)).1 (ap (λ z. map frames_in (reverse z)) (sym is) ∙ e)
+    here todo e = next_of fs fss.items todo (all_but fss.items fs (subst (λ z. AllUnguarded z) is un)).1
+        (ap (λ z. map frames_in (reverse z)) (sym is) ∙ e)
 
     first_is : (last : World → State → Step) (after : m.After) (todo : List m.Task) (o : World) (s : State) (n : Next fs fss.items todo) →
-        clears last after todo o s ≡ clears_frames (λ s. clears last after n.later o s) n.it.thread.who (world o.pre o.post (clearing after n.later ∷ o.ups) o.trees) s (frames_with fs [])
+        clears last after todo o s ≡ clears_frames (λ s. clears last after n.later o s) n.it.thread.who
+        (world o.pre o.post (clearing after n.later ∷ o.ups) o.trees) s (frames_with fs [])
     first_is last after todo o s n =
-        ap (λ z. clears last after z o s) n.is ∙ ap (λ z. clears_frames (λ s. clears last after n.later o s) n.it.thread.who (world o.pre o.post (clearing after n.later ∷ o.ups) o.trees) s z) n.frames
+        ap (λ z. clears last after z o s) n.is ∙
+        ap (λ z. clears_frames (λ s. clears last after n.later o s) n.it.thread.who
+        (world o.pre o.post (clearing after n.later ∷ o.ups) o.trees) s z) n.frames
 
     pub block_runs : (u : View) → ClearsFrames fs went.On v u → ClearsAll went.On v t u (with_frames t fss)
     block_runs u c = record {
       clears = λ last after todo a o bare e.
           let n = here todo e in
-          let k = c.clears (λ s. clears last after n.later o s) a n.it.thread.who (world o.pre o.post (clearing after n.later ∷ o.ups) o.trees) bare in
+          let k = c.clears (λ s. clears last after n.later o s) a n.it.thread.who
+          (world o.pre o.post (clearing after n.later ∷ o.ups) o.trees) bare in
           record {
             who = n.it.thread.who;
             front = [];
@@ -101,23 +110,29 @@ module _ {W : Type 0} where
     out_of_steps u end s c = record {
       clears = λ last after todo a o bare e.
           let n = here todo e in
-          let k = c.clears (λ s. clears last after n.later o s) a n.it.thread.who (world o.pre o.post (clearing after n.later ∷ o.ups) o.trees) bare in
+          let k = c.clears (λ s. clears last after n.later o s) a n.it.thread.who
+          (world o.pre o.post (clearing after n.later ∷ o.ups) o.trees) bare in
           (first_is last after todo o (state_of a v) n ∙ k, c.still);
     }
 
-    pub one_gone : (r : Went) (v2 u : View) (s : Tasks W) → ClearsFrames fs went.Down v v2 → ClearsAll r v2 (with_frames t fss) u s → ClearsAll r v t u s
+    pub one_gone : (r : Went) (v2 u : View) (s : Tasks W) → ClearsFrames fs went.Down v v2 → ClearsAll r v2 (with_frames t fss) u s →
+        ClearsAll r v t u s
     one_gone r v2 u s c more = record { clears = λ last after todo a o bare e. go r last after todo a o bare e c more }
       where
-        go : (r : Went) (last : World → State → Step) (after : m.After) (todo : List m.Task) (a : Aside) (o : World) → Bare v → map frames_in (reverse t.gone.frames.items) ≡ map frames_at todo →
+        go : (r : Went) (last : World → State → Step) (after : m.After) (todo : List m.Task) (a : Aside) (o : World) → Bare v →
+            map frames_in (reverse t.gone.frames.items) ≡ map frames_at todo →
             ClearsFrames fs went.Down v v2 → ClearsAll r v2 (with_frames t fss) u s → AllTo last after todo r a o v t u s
         go r last after todo a o bare e c more =
             let n = here todo e in
-            let k = c.clears (λ s. clears last after n.later o s) a n.it.thread.who (world o.pre o.post (clearing after n.later ∷ o.ups) o.trees) bare in
-            let first : clears last after todo o (state_of a v) ≡ clears last after n.later o (state_of a v) = first_is last after todo o (state_of a v) n ∙ k in
+            let k = c.clears (λ s. clears last after n.later o s) a n.it.thread.who
+            (world o.pre o.post (clearing after n.later ∷ o.ups) o.trees) bare in
+            let first : clears last after todo o (state_of a v) ≡ clears last after n.later o (state_of a v) =
+            first_is last after todo o (state_of a v) n ∙ k in
             let same : ClearsAll r v (with_frames t fss) u s = subst (λ z. ClearsAll r z (with_frames t fss) u s) c.still more in
             on r last after todo a o n first (same.clears last after n.later a o bare n.later_is)
           where
-            on : (r : Went) (last : World → State → Step) (after : m.After) (todo : List m.Task) (a : Aside) (o : World) (n : Next fs fss.items todo) → clears last after todo o (state_of a v) ≡ clears last after n.later o (state_of a v) →
+            on : (r : Went) (last : World → State → Step) (after : m.After) (todo : List m.Task) (a : Aside) (o : World)
+                (n : Next fs fss.items todo) → clears last after todo o (state_of a v) ≡ clears last after n.later o (state_of a v) →
                 AllTo last after n.later r a o v (with_frames t fss) u s → AllTo last after todo r a o v t u s
             on went.On last after todo a o n first b = record {
               who = b.who;
@@ -141,11 +156,13 @@ module _ {W : Type 0} where
     not_down (went.Over e) u d c = out_of_steps u e (with_frames t fss) c
     not_down went.Down u d c = absurd (d refl)
 
-  pub next_unguarded : (t : Tasks W) (fs : List Framed) (fss : Vec (List Framed)) → t.gone.frames.items ≡ fss.items ++ fs ∷ [] → AllUnguarded t.gone.frames.items → AllUnguarded fss.items × Unguarded fs
+  pub next_unguarded : (t : Tasks W) (fs : List Framed) (fss : Vec (List Framed)) → t.gone.frames.items ≡ fss.items ++ fs ∷ [] →
+      AllUnguarded t.gone.frames.items → AllUnguarded fss.items × Unguarded fs
   next_unguarded t fs fss is un = all_but fss.items fs (subst (λ z. AllUnguarded z) is un)
 
 pub still_same : (fs : List Framed) (r : Went) (v u : View) → r ≡ went.Down → ClearsFrames fs r v u → ClearsFrames fs went.Down v u
 still_same fs r v u e c = subst (λ z. ClearsFrames fs z v u) e c
 
-pub steps_still : (fs : List Framed) (v u : View) → ClearsFrames fs went.Down v u → v.left + v.spent ≤ 18446744073709551615 → u.left + u.spent ≤ 18446744073709551615
+pub steps_still : (fs : List Framed) (v u : View) → ClearsFrames fs went.Down v u → v.left + v.spent ≤ 18446744073709551615 →
+    u.left + u.spent ≤ 18446744073709551615
 steps_still fs v u c most = subst (λ z. z.left + z.spent ≤ 18446744073709551615) (sym c.still) most

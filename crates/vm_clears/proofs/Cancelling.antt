@@ -1,5 +1,6 @@
 -- What is cancelled on both sides, and the blocks that run then.
-use Rattle.std.proofs.Common.{◌≡◌, inl, inr, ℕ, Bool, true, false, List, [], ◌∷◌, ◌++◌, map, reverse, Option, Some, None, refl, sym, ap, subst, ◌∙◌}
+use Rattle.std.proofs.Common.{◌≡◌, inl, inr, ℕ, Bool, true, false, List, [], ◌∷◌, ◌++◌, map, reverse, Option, Some, None, refl, sym, ap}
+use Rattle.std.proofs.Common.{subst, ◌∙◌}
 use Rattle.std.specs.Global.{Vec}
 use Rattle.std.proofs.lemmas.List.{reverse-reverse, reverse-append}
 use Rattle.task_tree.specs.Tasks.{Task}
@@ -75,15 +76,19 @@ unguarded_append (fs ∷ a) b x y = (x.0, unguarded_append a b x.1 y)
 
 unguarded_back : (fss : List (List Framed)) → AllUnguarded fss → AllUnguarded (reverse fss)
 unguarded_back [] u = tt
-unguarded_back (fs ∷ fss) u = subst (λ z. AllUnguarded z) (sym (reverse-append (fs ∷ []) fss)) (unguarded_append (reverse fss) (fs ∷ []) (unguarded_back fss u.1) (u.0, tt))
+unguarded_back (fs ∷ fss) u = subst (λ z. AllUnguarded z) (sym (reverse-append (fs ∷ []) fss))
+    (unguarded_append (reverse fss) (fs ∷ []) (unguarded_back fss u.1) (u.0, tt))
 
 module _ {W : Type 0} (pending : W → List Pending) where
-  module _ (t : Tasks W) (id bound : ℕ) (tree : Tree) (behind : Gone (List Framed) W) (back : Vec (List Framed)) (kept : behind.lost ≡ false) (turned : back.items ≡ reverse behind.frames.items) where
+  module _ (t : Tasks W) (id bound : ℕ) (tree : Tree) (behind : Gone (List Framed) W) (back : Vec (List Framed))
+      (kept : behind.lost ≡ false) (turned : back.items ≡ reverse behind.frames.items) where
     abbrev after_it : Tasks W
     after_it = record t { tree = tree; gone = record behind { frames = back } }
 
-    cancelled_so : (w : Who) (arms : Option (List Part)) (f : List ℕ → Bool) (a : Aside) (o : World) (v : View) → Standing pending (held id w arms ∷ []) a o v t → ((y x : List ℕ) → f y ≡ true → m.starts y x ≡ true → f x ≡ true) →
-        KeepsEach t.tree tree t.gone behind → CancelsAs pending frames_in t.tree tree t.gone behind (ids t) (held id w arms) o f → Cancelled pending id w arms f a o v after_it
+    cancelled_so : (w : Who) (arms : Option (List Part)) (f : List ℕ → Bool) (a : Aside) (o : World) (v : View) →
+        Standing pending (held id w arms ∷ []) a o v t → ((y x : List ℕ) → f y ≡ true → m.starts y x ≡ true → f x ≡ true) →
+        KeepsEach t.tree tree t.gone behind → CancelsAs pending frames_in t.tree tree t.gone behind (ids t) (held id w arms) o f →
+        Cancelled pending id w arms f a o v after_it
     cancelled_so w arms f a o v s closed each c =
         let was : (fs : List Framed) → In fs behind.frames.items → Unguarded fs = λ fs i.
         elim (each.frames kept fs i) [
@@ -91,7 +96,8 @@ module _ {W : Type 0} (pending : W → List Pending) where
           | inr k ↦ frames_fine k.0.item.number k.0.item.held fs (fine_in v.left t.tree k.0 s.clock.fine k.1).held k.2
         ] in
         let more = c.kept kept in
-        let all : reverse back.items ≡ more.0 = ap (λ z. reverse z) turned ∙ (reverse-reverse behind.frames.items ∙ (more.1 ∙ ap (λ z. z ++ more.0) s.none)) in
+        let all : reverse back.items ≡ more.0 =
+        ap (λ z. reverse z) turned ∙ (reverse-reverse behind.frames.items ∙ (more.1 ∙ ap (λ z. z ++ more.0) s.none)) in
         record {
           clock = record {
             past = s.clock.past;
@@ -110,11 +116,15 @@ module _ {W : Type 0} (pending : W → List Pending) where
           nothing_under = nothing_under f o closed;
         }
 
-    pub cancels_so : KeepsEach t.tree tree t.gone behind → CancelsScope pending id bound t.tree tree t.gone behind → CancelsArms pending id bound t.tree tree t.gone behind → IsAlone tree id bound → Cancels pending id bound t after_it
+    pub cancels_so : KeepsEach t.tree tree t.gone behind → CancelsScope pending id bound t.tree tree t.gone behind →
+        CancelsArms pending id bound t.tree tree t.gone behind → IsAlone tree id bound → Cancels pending id bound t after_it
     cancels_so each scope arms alone = record {
-      scope = λ a w parts o v s. cancelled_so w parts (since w.path bound) a o v s (closed_since w.path bound) each (scope frames_in (ids t) w parts o s.stands);
-      arms = λ a w gs o v is s. cancelled_so w (Some gs) (beneath_arms w.path gs) a o v s (closed_arms w.path gs) each (arms frames_in (ids t) w gs o is s.stands);
-      childless = λ a w parts o v le s. alone frames_in (ids t) w parts (world_without (since w.path bound) o) le (scope frames_in (ids t) w parts o s.stands).stands;
+      scope = λ a w parts o v s. cancelled_so w parts (since w.path bound) a o v s (closed_since w.path bound) each
+          (scope frames_in (ids t) w parts o s.stands);
+      arms = λ a w gs o v is s. cancelled_so w (Some gs) (beneath_arms w.path gs) a o v s (closed_arms w.path gs) each
+          (arms frames_in (ids t) w gs o is s.stands);
+      childless = λ a w parts o v le s. alone frames_in (ids t) w parts (world_without (since w.path bound) o) le
+          (scope frames_in (ids t) w parts o s.stands).stands;
     }
 
   -- the blocks of cancelled tasks
@@ -122,25 +132,31 @@ module _ {W : Type 0} (pending : W → List Pending) where
     abbrev with_after : Tasks W
     with_after = record t { id = id; after = Some after }
 
-    clocked : (a : Aside) (u : View) (fss : Vec (List Framed)) → Runs a v u → Clocked pending a v t → Clocked pending a u (record with_after { gone = record t.gone { frames = fss } })
+    clocked : (a : Aside) (u : View) (fss : Vec (List Framed)) → Runs a v u → Clocked pending a v t →
+        Clocked pending a u (record with_after { gone = record t.gone { frames = fss } })
     clocked a u fss r c =
-        let again : Clocked pending a (record v { frames = u.frames; left = u.left; spent = u.spent }) (record with_after { gone = record t.gone { frames = fss } }) = record {
+        let again : Clocked pending a (record v { frames = u.frames; left = u.left; spent = u.spent })
+        (record with_after { gone = record t.gone { frames = fss } }) = record {
           past = c.past;
           next = c.next;
           results = c.results;
           signals = c.signals;
-          timed = same_timed (sleeping (slot_of frames_in) t.tree) (pending t.gone.waits) (state_of a v) (state_of a (record v { frames = u.frames; left = u.left; spent = u.spent })) refl refl refl c.timed;
+          timed = same_timed (sleeping (slot_of frames_in) t.tree) (pending t.gone.waits) (state_of a v)
+              (state_of a (record v { frames = u.frames; left = u.left; spent = u.spent })) refl refl refl c.timed;
           fine = fine_less v.left u.left t.tree r.fewer c.fine;
           untold = c.untold;
         } in
         subst (λ z. Clocked pending a z (record with_after { gone = record t.gone { frames = fss } })) (sym r.still) again
 
-    began : (f : m.After) (todo : List m.Task) (a : Aside) (o : World) (u : View) (s : Tasks W) → Clocked pending a v t → Stands (slot_of frames_in) t.tree (ids t) (held id (who_after f) None ∷ []) o → UpsAre (ups_of t.ups.items) o.ups →
-        NothingUnder o todo → IsAfter t.tree id after f → Begun (follows f) f todo a o v with_after u s → GoesOn pending (clears (follows f) f todo o (state_of a v)) a.past u s
+    began : (f : m.After) (todo : List m.Task) (a : Aside) (o : World) (u : View) (s : Tasks W) → Clocked pending a v t →
+        Stands (slot_of frames_in) t.tree (ids t) (held id (who_after f) None ∷ []) o → UpsAre (ups_of t.ups.items) o.ups →
+        NothingUnder o todo → IsAfter t.tree id after f → Begun (follows f) f todo a o v with_after u s →
+        GoesOn pending (clears (follows f) f todo o (state_of a v)) a.past u s
     began f todo a o u s c st us n is b =
         let under = later_under o b.front b.it b.later (subst (λ z. NothingUnder o z) b.was n) in
         let at : World = world o.pre o.post (clearing f b.later ∷ o.ups) o.trees in
-        let whole : Clearing pending (record { aside = a; who = b.it.thread.who; world = at }) u (record with_after { gone = record t.gone { frames = s.gone.frames } }) = record {
+        let whole : Clearing pending (record { aside = a; who = b.it.thread.who; world = at }) u
+        (record with_after { gone = record t.gone { frames = s.gone.frames } }) = record {
           clock = clocked a u s.gone.frames b.runs c;
           after = after;
           follows = f;
@@ -161,19 +177,37 @@ module _ {W : Type 0} (pending : W → List Pending) where
         record {
           scene = record { aside = a; who = b.it.thread.who; world = at };
           same = refl;
-          goes = record { ready = b.runs.ready; runs = inr (subst (λ z. Clearing pending (record { aside = a; who = b.it.thread.who; world = at }) u z) (sym b.still) whole) };
+          goes = record {
+            ready = b.runs.ready;
+            runs =
+                inr (subst (λ z. Clearing pending (record { aside = a; who = b.it.thread.who; world = at }) u z) (sym b.still) whole);
+          };
           is = subst (λ z. clears (follows f) f todo o (state_of a v) ≡ done going a z at u) b.who_is b.is;
         }
 
-    to_blocks : (r : Went) (u : View) (s : Tasks W) (f : m.After) (todo : List m.Task) (a : Aside) (o : World) → Bare v → Clocked pending a v t → Stands (slot_of frames_in) t.tree (ids t) (held id (who_after f) None ∷ []) o → UpsAre (ups_of t.ups.items) o.ups →
-        NothingUnder o todo → IsAfter t.tree id after f → AllTo (follows f) f todo r a o v with_after u s → BlocksTo pending id after (clears (follows f) f todo o (state_of a v)) f r a o v t u s
+    to_blocks : (r : Went) (u : View) (s : Tasks W) (f : m.After) (todo : List m.Task) (a : Aside) (o : World) → Bare v →
+        Clocked pending a v t → Stands (slot_of frames_in) t.tree (ids t) (held id (who_after f) None ∷ []) o →
+        UpsAre (ups_of t.ups.items) o.ups →
+        NothingUnder o todo → IsAfter t.tree id after f → AllTo (follows f) f todo r a o v with_after u s →
+        BlocksTo pending id after (clears (follows f) f todo o (state_of a v)) f r a o v t u s
     to_blocks went.On u s f todo a o bare c st us n is b = began f todo a o u s c st us n is b
-    to_blocks (went.Over e) u s f todo a o bare c st us n is b = record { aside = a; same = refl; is = b.0 ∙ ap (λ z. m.Over e (state_of a z)) (sym b.1) }
+    to_blocks (went.Over e) u s f todo a o bare c st us n is b =
+        record { aside = a; same = refl; is = b.0 ∙ ap (λ z. m.Over e (state_of a z)) (sym b.1) }
     to_blocks went.Down u s f todo a o bare c st us n is b =
-        let whole : Follows pending id after (clears (follows f) f todo o (state_of a v)) f a o v (record with_after { gone = record t.gone { frames = s.gone.frames } }) = record {
+        let whole : Follows pending id after (clears (follows f) f todo o (state_of a v)) f a o v
+        (record with_after { gone = record t.gone { frames = s.gone.frames } }) = record {
           is = b.0;
           standing = record {
-            clock = record { past = c.past; next = c.next; results = c.results; signals = c.signals; timed = c.timed; fine = c.fine; untold = c.untold };
+            clock = record {
+              past = c.past;
+              next = c.next;
+              results = c.results;
+              signals = c.signals;
+              timed = c.timed;
+              fine =
+                  c.fine;
+              untold = c.untold;
+            };
             stands = st;
             ups = us;
             still = refl;

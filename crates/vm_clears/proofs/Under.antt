@@ -18,7 +18,8 @@ cond_true false c e = absurd (cc)
 pub closed_since : (a : List ℕ) (n : ℕ) → Closed (since a n)
 closed_since [] n [] x e s = absurd (cc)
 closed_since [] n (k ∷ y) [] e s = absurd (cc)
-closed_since [] n (k ∷ y) (j ∷ x) e s = let same : k ≡ j = eqn_is k j (cond_true (eqn k j) (starts y x) s).0 in subst (λ z. ltn z n ≡ true) same e
+closed_since [] n (k ∷ y) (j ∷ x) e s = let same : k ≡ j = eqn_is k j (cond_true (eqn k j) (starts y x) s).0 in
+    subst (λ z. ltn z n ≡ true) same e
 closed_since (i ∷ a) n [] x e s = absurd (cc)
 closed_since (i ∷ a) n (j ∷ y) [] e s = absurd (cc)
 closed_since (i ∷ a) n (j ∷ y) (l ∷ x) e s =
@@ -40,13 +41,15 @@ starts_on (i ∷ p) (j ∷ y) (l ∷ x) e s =
 pub closed_arms : (a : List ℕ) (gs : List Part) → Closed (beneath_arms a gs)
 closed_arms a [] y x e s = absurd (cc)
 closed_arms a (did v ∷ gs) y x e s = closed_arms a gs y x e s
-closed_arms a (runs n ∷ gs) y x e s = arms_go (a ++ n ∷ []) y x (beneath_arms a gs y) (beneath_arms a gs x) (starts (a ++ n ∷ []) y) refl e s (λ k. closed_arms a gs y x k s)
+closed_arms a (runs n ∷ gs) y x e s = arms_go (a ++ n ∷ []) y x (beneath_arms a gs y) (beneath_arms a gs x)
+    (starts (a ++ n ∷ []) y) refl e s (λ k. closed_arms a gs y x k s)
   where
     both : (b : Bool) → cond b true true ≡ true
     both true = refl
     both false = refl
 
-    arms_go : (p y x : List ℕ) (u v b : Bool) → starts p y ≡ b → cond b true u ≡ true → starts y x ≡ true → (u ≡ true → v ≡ true) → cond (starts p x) true v ≡ true
+    arms_go : (p y x : List ℕ) (u v b : Bool) → starts p y ≡ b → cond b true u ≡ true → starts y x ≡ true → (u ≡ true → v ≡ true) →
+        cond (starts p x) true v ≡ true
     arms_go p y x u v true is e s h = ap (λ b. cond b true v) (starts_on p y x is s)
     arms_go p y x u v false is e s h = ap (λ b. cond (starts p x) true b) (h e) ∙ both (starts p x)
 
@@ -58,16 +61,19 @@ Named f (t ∷ ts) = (f t.thread.who.path ≡ true) × Named f ts
 inserted_named : (f : List ℕ → Bool) (t : m.Task) (ts : List m.Task) → f t.thread.who.path ≡ true → Named f ts → Named f (inserted t ts)
 inserted_named f t [] e n = (e, tt)
 inserted_named f t (x ∷ xs) e n =
-    cond_both (starts t.thread.who.path x.thread.who.path) (x ∷ inserted t xs) (t ∷ x ∷ xs) (Named f) (λ k. (n.0, inserted_named f t xs e n.1)) (λ k. (e, n))
+    cond_both (starts t.thread.who.path x.thread.who.path) (x ∷ inserted t xs) (t ∷ x ∷ xs) (Named f)
+    (λ k. (n.0, inserted_named f t xs e n.1)) (λ k. (e, n))
 
 before_named : (f : List ℕ → Bool) (ts : List m.Task) → Named f (gone_before f ts)
 before_named f [] = tt
 before_named f (t ∷ ts) =
-    cond_both (f t.thread.who.path) (inserted t (gone_before f ts)) (gone_before f ts) (Named f) (λ e. inserted_named f t (gone_before f ts) e (before_named f ts)) (λ e. before_named f ts)
+    cond_both (f t.thread.who.path) (inserted t (gone_before f ts)) (gone_before f ts) (Named f)
+    (λ e. inserted_named f t (gone_before f ts) e (before_named f ts)) (λ e. before_named f ts)
 
 behind_named : (f : List ℕ → Bool) (ts : List m.Task) → Named f (gone_behind f ts)
 behind_named f [] = tt
-behind_named f (t ∷ ts) = cond_both (f t.thread.who.path) (t ∷ gone_behind f ts) (gone_behind f ts) (Named f) (λ e. (e, behind_named f ts)) (λ e. behind_named f ts)
+behind_named f (t ∷ ts) = cond_both (f t.thread.who.path) (t ∷ gone_behind f ts) (gone_behind f ts) (Named f) (λ e. (e, behind_named f ts))
+    (λ e. behind_named f ts)
 
 named_append : (f : List ℕ → Bool) (a b : List m.Task) → Named f a → Named f b → Named f (a ++ b)
 named_append f [] b x y = y
@@ -88,12 +94,18 @@ none_left f y (t ∷ ts) c e =
 
 nothing_of : (f : List ℕ → Bool) (o : World) (ts : List m.Task) → Closed f → Named f ts → NothingUnder (world_without f o) ts
 nothing_of f o [] c n = tt
-nothing_of f o (t ∷ ts) c n = (none_left f t.thread.who.path o.pre c n.0, none_left f t.thread.who.path o.post c n.0, nothing_of f o ts c n.1)
+nothing_of f o (t ∷ ts) c n = (
+  none_left f t.thread.who.path o.pre c n.0,
+  none_left f t.thread.who.path o.post c n.0,
+  nothing_of f o ts c n.1,
+)
 
 pub nothing_under : (f : List ℕ → Bool) (o : World) → Closed f → NothingUnder (world_without f o) (cancelled f o)
-nothing_under f o c = nothing_of f o (cancelled f o) c (named_append f (gone_before f o.pre) (gone_behind f o.post) (before_named f o.pre) (behind_named f o.post))
+nothing_under f o c = nothing_of f o (cancelled f o) c
+    (named_append f (gone_before f o.pre) (gone_behind f o.post) (before_named f o.pre) (behind_named f o.post))
 
 -- of those that are cancelled later, and of one of them
-pub later_under : (o : World) (front : List m.Task) (t : m.Task) (later : List m.Task) → NothingUnder o (front ++ t ∷ later) → NoneBeneath t.thread.who.path o.pre × NoneBeneath t.thread.who.path o.post × NothingUnder o later
+pub later_under : (o : World) (front : List m.Task) (t : m.Task) (later : List m.Task) → NothingUnder o (front ++ t ∷ later) →
+    NoneBeneath t.thread.who.path o.pre × NoneBeneath t.thread.who.path o.post × NothingUnder o later
 later_under o [] t later n = n
 later_under o (x ∷ front) t later n = later_under o front t later n.2

@@ -24,7 +24,8 @@ use Rattle.vm_world.specs.Meets.{GoesOn, Ends}
 
 module _ {W : Type 0} (pending : W → List Pending) where
   -- the tasks of such names are gone, and the frames of those are kept in the order in which they are cancelled
-  pub record Cancelled (id : ℕ) (w : Who) (arms : Option (List Part)) (f : List ℕ → Bool) (a : Aside) (o : World) (v : View) (s : Tasks W) : Type 0 where
+  pub record Cancelled (id : ℕ) (w : Who) (arms : Option (List Part)) (f : List ℕ → Bool) (a : Aside) (o : World) (v : View) (s : Tasks W) :
+      Type 0 where
     pub clock : Clocked pending a v s
     pub stands : Stands (slot_of frames_in) s.tree (ids s) (held id w arms ∷ []) (world_without f o)
     pub ups : UpsAre (ups_of s.ups.items) o.ups
@@ -34,10 +35,14 @@ module _ {W : Type 0} (pending : W → List Pending) where
     pub nothing_under : NothingUnder (world_without f o) (cancelled f o)
 
   pub record Cancels (id bound : ℕ) (t s : Tasks W) : Type 0 where
-    pub scope : (a : Aside) (w : Who) (arms : Option (List Part)) (o : World) (v : View) → Standing pending (held id w arms ∷ []) a o v t → Cancelled id w arms (since w.path bound) a o v s
-    pub arms : (a : Aside) (w : Who) (gs : List Part) (o : World) (v : View) → ((u : Task (Slot (List Framed))) → task_at id t.tree ≡ Some u → u.item.since ≡ bound) → Standing pending (held id w (Some gs) ∷ []) a o v t →
+    pub scope : (a : Aside) (w : Who) (arms : Option (List Part)) (o : World) (v : View) → Standing pending (held id w arms ∷ []) a o v t →
+        Cancelled id w arms (since w.path bound) a o v s
+    pub arms : (a : Aside) (w : Who) (gs : List Part) (o : World) (v : View) →
+        ((u : Task (Slot (List Framed))) → task_at id t.tree ≡ Some u → u.item.since ≡ bound) →
+        Standing pending (held id w (Some gs) ∷ []) a o v t →
         Cancelled id w (Some gs) (beneath_arms w.path gs) a o v s
-    pub childless : (a : Aside) (w : Who) (arms : Option (List Part)) (o : World) (v : View) → w.number ≤ bound → Standing pending (held id w arms ∷ []) a o v t → HasNoChild id s.tree
+    pub childless : (a : Aside) (w : Who) (arms : Option (List Part)) (o : World) (v : View) → w.number ≤ bound →
+        Standing pending (held id w arms ∷ []) a o v t → HasNoChild id s.tree
 
   -- no block is to run: what follows is known
   pub record Follows (id : ℕ) (after : After) (q : Step) (f : m.After) (a : Aside) (o : World) (v : View) (s : Tasks W) : Type 0 where
@@ -54,6 +59,8 @@ module _ {W : Type 0} (pending : W → List Pending) where
   BlocksTo id after q f went.Down a o v t u s = Follows id after q f a o u s
 
   pub record RunsBlocks (id : ℕ) (after : After) (r : Went) (v : View) (t : Tasks W) (u : View) (s : Tasks W) : Type 0 where
-    pub runs : (f : m.After) (todo : List m.Task) (a : Aside) (o : World) → Bare v → Clocked pending a v t → Stands (slot_of frames_in) t.tree (ids t) (held id (who_after f) None ∷ []) o → UpsAre (ups_of t.ups.items) o.ups →
-        map frames_in (reverse t.gone.frames.items) ≡ map frames_at todo → AllUnguarded t.gone.frames.items → NothingUnder o todo → IsAfter t.tree id after f →
+    pub runs : (f : m.After) (todo : List m.Task) (a : Aside) (o : World) → Bare v → Clocked pending a v t →
+        Stands (slot_of frames_in) t.tree (ids t) (held id (who_after f) None ∷ []) o → UpsAre (ups_of t.ups.items) o.ups →
+        map frames_in (reverse t.gone.frames.items) ≡ map frames_at todo → AllUnguarded t.gone.frames.items → NothingUnder o todo →
+        IsAfter t.tree id after f →
         BlocksTo id after (clears (follows f) f todo o (state_of a v)) f r a o v t u s

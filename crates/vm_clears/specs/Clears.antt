@@ -36,11 +36,13 @@ Still went.Down v u = u ≡ v
 
 pub record ClearsFrames (fs : List Framed) (r : Went) (v u : View) : Type 0 where
   pub still : Still r v u
-  pub clears : (next : State → Step) (a : Aside) (w : Who) (o : World) → Bare v → ClearsTo (clears_frames next w o (state_of a v) (frames_with fs [])) next r a w o v u
+  pub clears : (next : State → Step) (a : Aside) (w : Who) (o : World) → Bare v →
+      ClearsTo (clears_frames next w o (state_of a v) (frames_with fs [])) next r a w o v u
 
 module _ {W : Type 0} where
   -- what is still to be cancelled when the block of a task runs
-  pub record Begun (last : World → State → Step) (after : m.After) (todo : List m.Task) (a : Aside) (o : World) (v : View) (t : Tasks W) (u : View) (s : Tasks W) : Type 0 where
+  pub record Begun (last : World → State → Step) (after : m.After) (todo : List m.Task) (a : Aside) (o : World) (v : View) (t : Tasks W)
+      (u : View) (s : Tasks W) : Type 0 where
     pub who : Who
     pub front : List m.Task
     pub it : m.Task
@@ -56,7 +58,9 @@ module _ {W : Type 0} where
   abbrev pub AllTo : (World → State → Step) → m.After → List m.Task → Went → Aside → World → View → Tasks W → View → Tasks W → Type 0
   AllTo last after todo went.On a o v t u s = Begun last after todo a o v t u s
   AllTo last after todo (went.Over e) a o v t u s = (clears last after todo o (state_of a v) ≡ Over e (state_of a v)) × (u ≡ v)
-  AllTo last after todo went.Down a o v t u s = (clears last after todo o (state_of a v) ≡ last o (state_of a v)) × (u ≡ v) × (s.gone.frames.items ≡ []) × (s ≡ record t { gone = record t.gone { frames = s.gone.frames } })
+  AllTo last after todo went.Down a o v t u s = (clears last after todo o (state_of a v) ≡ last o (state_of a v)) × (u ≡ v) ×
+      (s.gone.frames.items ≡ []) × (s ≡ record t { gone = record t.gone { frames = s.gone.frames } })
 
   pub record ClearsAll (r : Went) (v : View) (t : Tasks W) (u : View) (s : Tasks W) : Type 0 where
-    pub clears : (last : World → State → Step) (after : m.After) (todo : List m.Task) (a : Aside) (o : World) → Bare v → map frames_in (reverse t.gone.frames.items) ≡ map frames_at todo → AllTo last after todo r a o v t u s
+    pub clears : (last : World → State → Step) (after : m.After) (todo : List m.Task) (a : Aside) (o : World) → Bare v →
+        map frames_in (reverse t.gone.frames.items) ≡ map frames_at todo → AllTo last after todo r a o v t u s

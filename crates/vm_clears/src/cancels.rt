@@ -37,7 +37,8 @@ pub fn run_blocks<H: Heap, W: Waits>(
 ) -> Went
     requires unguarded { AllUnguarded tasks.old.gone.frames.items }
     requires steps { run.old.left + run.old.spent ≤ 18446744073709551615 }
-    ensures blocks { RunsBlocks W.pending id after result (view_of H.state run.old) tasks.old (view_of H.state run.new) tasks.new }
+    ensures blocks { RunsBlocks W.pending id after result (view_of H.state run.old) tasks.old
+        (view_of H.state run.new) tasks.new }
     ensures after { tasks.new.after ≡ Some after }
 {
     tasks.id = id;

@@ -16,7 +16,8 @@ use vm_world::tasks::{Tasks, Went};
 pub fn clear<H: Heap, W: Waits>(run: &mut Runner<H>, tasks: &mut Tasks<W>) -> Went
     requires unguarded { AllUnguarded tasks.old.gone.frames.items }
     requires steps { run.old.left + run.old.spent ≤ 18446744073709551615 }
-    ensures blocks { ClearsAll result (view_of H.state run.old) tasks.old (view_of H.state run.new) tasks.new }
+    ensures blocks { ClearsAll result (view_of H.state run.old) tasks.old
+        (view_of H.state run.new) tasks.new }
     ensures after { tasks.new.after ≡ tasks.old.after }
 {
     'tasks: while let Some(thread) = tasks.gone.frames.pop() {

@@ -52,7 +52,8 @@ none_before : (f : List ℕ → Bool) (ts : List m.Task) → gone_before f ts �
 none_before f [] e = tt
 none_before f (t ∷ ts) e = go (f t.thread.who.path) refl e (λ k. none_before f ts k)
   where
-    go : (b : Bool) → f t.thread.who.path ≡ b → cond b (inserted t (gone_before f ts)) (gone_before f ts) ≡ [] → (gone_before f ts ≡ [] → NoneNamed f ts) → NoneNamed f (t ∷ ts)
+    go : (b : Bool) → f t.thread.who.path ≡ b → cond b (inserted t (gone_before f ts)) (gone_before f ts) ≡ [] →
+        (gone_before f ts ≡ [] → NoneNamed f ts) → NoneNamed f (t ∷ ts)
     go true is e h = absurd (inserted_some t (gone_before f ts) e)
     go false is e h = (is, h e)
 
@@ -60,7 +61,8 @@ none_behind : (f : List ℕ → Bool) (ts : List m.Task) → gone_behind f ts �
 none_behind f [] e = tt
 none_behind f (t ∷ ts) e = go (f t.thread.who.path) refl e (λ k. none_behind f ts k)
   where
-    go : (b : Bool) → f t.thread.who.path ≡ b → cond b (t ∷ gone_behind f ts) (gone_behind f ts) ≡ [] → (gone_behind f ts ≡ [] → NoneNamed f ts) → NoneNamed f (t ∷ ts)
+    go : (b : Bool) → f t.thread.who.path ≡ b → cond b (t ∷ gone_behind f ts) (gone_behind f ts) ≡ [] →
+        (gone_behind f ts ≡ [] → NoneNamed f ts) → NoneNamed f (t ∷ ts)
     go true is e h = absurd (cc)
     go false is e h = (is, h e)
 
@@ -72,11 +74,13 @@ none_parts (x ∷ a) b e = absurd (cc)
 pub world_stays : (f : List ℕ → Bool) (o : World) → cancelled f o ≡ [] → world_without f o ≡ o
 world_stays f o e =
     let p = none_parts (gone_before f o.pre) (gone_behind f o.post) e in
-    ap (λ z. world z (without f o.post) o.ups o.trees) (all_stay f o.pre (none_before f o.pre p.0)) ∙ ap (λ z. world o.pre z o.ups o.trees) (all_stay f o.post (none_behind f o.post p.1))
+    ap (λ z. world z (without f o.post) o.ups o.trees) (all_stay f o.pre (none_before f o.pre p.0)) ∙
+    ap (λ z. world o.pre z o.ups o.trees) (all_stay f o.post (none_behind f o.post p.1))
 
 -- nothing stands beneath the task
 pub none_cancelled : (a : List ℕ) (n : ℕ) (o : World) → NoneBeneath a o.pre → NoneBeneath a o.post → cancelled (since a n) o ≡ []
-none_cancelled a n o x y = ap (λ z. z ++ gone_behind (since a n) o.post) (before_none (since a n) o.pre (beneath_none a n o.pre x)) ∙ behind_none (since a n) o.post (beneath_none a n o.post y)
+none_cancelled a n o x y = ap (λ z. z ++ gone_behind (since a n) o.post) (before_none (since a n) o.pre (beneath_none a n o.pre x)) ∙
+    behind_none (since a n) o.post (beneath_none a n o.post y)
 
 no_tasks : (ts : List m.Task) → map frames_at ts ≡ [] → ts ≡ []
 no_tasks [] e = refl

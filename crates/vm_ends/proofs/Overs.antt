@@ -1,5 +1,6 @@
 -- A part or a root has ended; a deferred block of a cancelled task is over.
-use Rattle.std.proofs.Common.{◌≡◌, ◌≢◌, ◌≤◌, ◌+◌, inr, ℕ, Bool, true, false, Result, Ok, Err, IfOk, List, [], ◌∷◌, map, Option, Some, None, refl, sym, ap, subst, ◌∙◌}
+use Rattle.std.proofs.Common.{◌≡◌, ◌≢◌, ◌≤◌, ◌+◌, inr, ℕ, Bool, true, false, Result, Ok, Err, IfOk, List, [], ◌∷◌, map, Option, Some, None}
+use Rattle.std.proofs.Common.{refl, sym, ap, subst, ◌∙◌}
 use Rattle.task_tree.specs.Tasks.{Task, task_at, IsLive}
 use Rattle.task_tree.specs.Nested.{IsTree}
 use Rattle.task_tree.proofs.Standing.{inner}
@@ -53,9 +54,11 @@ root_is part p = absurd (cc)
 
 module _ {W : Type 0} (pending : W → List Pending) where
   pub ending_live : (born : ℕ) (v : View) (t : Tasks W) → IsTree t.tree → IsEnding pending born v t → IsLive t.id t.tree
-  ending_live born v t nested h = live_stands t.tree (map id_of (ups_of t.ups.items)) t.id h.scene.who None h.scene.world nested h.here.standing.stands
+  ending_live born v t nested h = live_stands t.tree (map id_of (ups_of t.ups.items)) t.id h.scene.who None h.scene.world nested
+      h.here.standing.stands
 
-  module _ (born : ℕ) (x : Value) (v : View) (t : Tasks W) (so : Bool) (nested : IsTree t.tree) (told : (z : Task (Slot (List Framed))) → task_at t.id t.tree ≡ Some z → so ≡ is_part (role_of z.item.root)) where
+  module _ (born : ℕ) (x : Value) (v : View) (t : Tasks W) (so : Bool) (nested : IsTree t.tree) (told : (z : Task (Slot (List Framed))) →
+      task_at t.id t.tree ≡ Some z → so ≡ is_part (role_of z.item.root)) where
     role_told : (m : Scene) → Ending pending born m v t → so ≡ is_part m.who.role
     role_told m h = standing_role pending m.aside m.who m.world v t is_part so nested told h.standing
 
@@ -63,12 +66,22 @@ module _ {W : Type 0} (pending : W → List Pending) where
 
     pub part_returns : (s : Tasks W) → so ≡ true → Finished pending born (val_of x) (went.Over ending.Stuck) v t v s
     part_returns s is = record {
-      meets = λ m h. record { aside = m.aside; same = refl; is = ap (λ r. returns_role r m.who m.world born (val_of x) (state_of m.aside v)) (part_is m.who.role (sym (role_told m h) ∙ is)) };
+      meets = λ m h. record {
+        aside = m.aside;
+        same = refl;
+        is =
+            ap (λ r. returns_role r m.who m.world born (val_of x) (state_of m.aside v)) (part_is m.who.role (sym (role_told m h) ∙ is));
+      };
     }
 
     pub root_ends_so : (s : Tasks W) → so ≡ false → Closed pending born (val_of x) (went.Over ending.Stuck) v t v s
     root_ends_so s is = record {
-      meets = λ m h. record { aside = m.aside; same = refl; is = ap (λ r. ends_role r m.who m.world born (val_of x) (state_of m.aside v)) (root_is m.who.role (sym (role_told m h) ∙ is)).1 };
+      meets = λ m h. record {
+        aside = m.aside;
+        same = refl;
+        is =
+            ap (λ r. ends_role r m.who m.world born (val_of x) (state_of m.aside v)) (root_is m.who.role (sym (role_told m h) ∙ is)).1;
+      };
     }
 
     -- what it has begun is cancelled
@@ -77,7 +90,9 @@ module _ {W : Type 0} (pending : W → List Pending) where
       bare_here : (m : Scene) → Ending pending born m v t → Bare v
       bare_here m h = record { copies = h.over.copies; marks = h.over.marks; steps = h.over.clock }
 
-      root_clears : (m : Scene) (e : Option ℕ) → m.who.role ≡ root e → Ending pending born m v t → Cleared pending t.id (Finishing x) (finishing m.who e (val_of x)) (cancelled (since m.who.path born) m.world) m.aside (world_without (since m.who.path born) m.world) v s
+      root_clears : (m : Scene) (e : Option ℕ) → m.who.role ≡ root e → Ending pending born m v t →
+          Cleared pending t.id (Finishing x) (finishing m.who e (val_of x)) (cancelled (since m.who.path born) m.world) m.aside
+          (world_without (since m.who.path born) m.world) v s
       root_clears m e role h =
           let k = c.scope m.aside m.who None m.world v h.standing in
           record {
@@ -91,7 +106,9 @@ module _ {W : Type 0} (pending : W → List Pending) where
             follows_is = finishing_after x m.who e role (c.childless m.aside m.who None m.world v h.young h.standing);
           }
 
-      part_clears : (m : Scene) → m.who.role ≡ part → Ending pending born m v t → Cleared pending t.id (Closing x) (closing m.who (val_of x)) (cancelled (since m.who.path born) m.world) m.aside (world_without (since m.who.path born) m.world) v s
+      part_clears : (m : Scene) → m.who.role ≡ part → Ending pending born m v t →
+          Cleared pending t.id (Closing x) (closing m.who (val_of x)) (cancelled (since m.who.path born) m.world) m.aside
+          (world_without (since m.who.path born) m.world) v s
       part_clears m role h =
           let k = c.scope m.aside m.who None m.world v h.standing in
           record {
@@ -109,24 +126,41 @@ module _ {W : Type 0} (pending : W → List Pending) where
       root_cleared is h =
           let m = h.scene in
           let r = root_is m.who.role (sym (role_told m h.here) ∙ is) in
-          record { follows = finishing m.who r.0 (val_of x); todo = cancelled (since m.who.path born) m.world; aside = m.aside; world = world_without (since m.who.path born) m.world; here = root_clears m r.0 r.1 h.here }
+          record {
+            follows = finishing m.who r.0 (val_of x);
+            todo = cancelled (since m.who.path born) m.world;
+            aside = m.aside;
+            world =
+                world_without (since m.who.path born) m.world;
+            here = root_clears m r.0 r.1 h.here;
+          }
 
       pub part_cleared : so ≡ true → IsEnding pending born v t → IsCleared pending t.id (Closing x) v s
       part_cleared is h =
           let m = h.scene in
           let r = part_is m.who.role (sym (role_told m h.here) ∙ is) in
-          record { follows = closing m.who (val_of x); todo = cancelled (since m.who.path born) m.world; aside = m.aside; world = world_without (since m.who.path born) m.world; here = part_clears m r h.here }
+          record {
+            follows = closing m.who (val_of x);
+            todo = cancelled (since m.who.path born) m.world;
+            aside = m.aside;
+            world =
+                world_without (since m.who.path born) m.world;
+            here = part_clears m r h.here;
+          }
 
-      pub root_unwinds : {E : Type 0} (d : Result Went E) (u : View) (z : Tasks W) → so ≡ false → IfOk d (λ r. Unwinds pending t.id (Finishing x) r v s u z) → IfOk d (λ r. Finished pending born (val_of x) r v t u z)
+      pub root_unwinds : {E : Type 0} (d : Result Went E) (u : View) (z : Tasks W) → so ≡ false →
+          IfOk d (λ r. Unwinds pending t.id (Finishing x) r v s u z) → IfOk d (λ r. Finished pending born (val_of x) r v t u z)
       root_unwinds (Err e) u z is k = tt
       root_unwinds (Ok q) u z is k = record {
         meets = λ m h.
             let r = root_is m.who.role (sym (role_told m h) ∙ is) in
             subst (λ y. Meets pending (returns_role y m.who m.world born (val_of x) (state_of m.aside v)) m.aside.past q u z) (sym r.1)
-            (k.meets (finishing m.who r.0 (val_of x)) (cancelled (since m.who.path born) m.world) m.aside (world_without (since m.who.path born) m.world) (root_clears m r.0 r.1 h));
+            (k.meets (finishing m.who r.0 (val_of x)) (cancelled (since m.who.path born) m.world) m.aside
+            (world_without (since m.who.path born) m.world) (root_clears m r.0 r.1 h));
       }
 
-      pub part_unwinds : {E : Type 0} (d : Result Went E) (u : View) (z : Tasks W) → so ≡ true → IfOk d (λ r. Unwinds pending t.id (Closing x) r v s u z) → IfOk d (λ r. Closed pending born (val_of x) r v t u z)
+      pub part_unwinds : {E : Type 0} (d : Result Went E) (u : View) (z : Tasks W) → so ≡ true →
+          IfOk d (λ r. Unwinds pending t.id (Closing x) r v s u z) → IfOk d (λ r. Closed pending born (val_of x) r v t u z)
       part_unwinds (Err e) u z is k = tt
       part_unwinds (Ok q) u z is k = record {
         meets = λ m h.
@@ -135,9 +169,11 @@ module _ {W : Type 0} (pending : W → List Pending) where
             let todo = cancelled f m.world in
             let o = world_without f m.world in
             let s = state_of m.aside v in
-            let to : Meets pending (clears (λ o s. role_ends m.who.role m.who (val_of x) o s) (closing m.who (val_of x)) todo o s) m.aside.past q u z = k.meets (closing m.who (val_of x)) todo m.aside o (part_clears m r h) in
+            let to : Meets pending (clears (λ o s. role_ends m.who.role m.who (val_of x) o s) (closing m.who (val_of x)) todo o s)
+            m.aside.past q u z = k.meets (closing m.who (val_of x)) todo m.aside o (part_clears m r h) in
             subst (λ y. Meets pending (ends_role y m.who m.world born (val_of x) s) m.aside.past q u z) (sym r)
-            (subst (λ y. Meets pending (clears (λ o s. role_ends y m.who (val_of x) o s) (closing m.who (val_of x)) todo o s) m.aside.past q u z) r to);
+            (subst (λ y. Meets pending (clears (λ o s. role_ends y m.who (val_of x) o s) (closing m.who (val_of x)) todo o s) m.aside.past q
+            u z) r to);
       }
 
   -- a deferred block is over
@@ -151,7 +187,9 @@ module _ {W : Type 0} (pending : W → List Pending) where
   pub never_done : (v : View) (t : Tasks W) → IsUnwinding pending v t → t.after ≡ None → ⊥
   never_done v t h e = let some : None ≡ Some h.here.after = sym e ∙ h.here.after_is in absurd (cc)
 
-  clears_is : (w : Who) (o : World) (s : State) (fs : List Framed) → fs ≢ [] → on_frame (frames_with fs []) s (clearing_of w o s) ≡ clears_frames (λ s. cleared o.ups o.pre o.post o.trees s) w o s (frames_with fs [])
+  clears_is : (w : Who) (o : World) (s : State) (fs : List Framed) → fs ≢ [] →
+      on_frame (frames_with fs []) s (clearing_of w o s) ≡ clears_frames (λ s. cleared o.ups o.pre o.post o.trees s) w o s
+      (frames_with fs [])
   clears_is w o s [] some = absurd (some refl)
   clears_is w o s (f ∷ fs) some = refl
 
@@ -162,12 +200,17 @@ module _ {W : Type 0} (pending : W → List Pending) where
     bare_view : (m : Scene) → Unwinding pending m v t → Bare empty_view
     bare_view m h = let b = bare_of v h.ready h.frames.free in record { copies = b.copies; marks = b.marks; steps = b.steps }
 
-    here_is : (m : Scene) → Unwinding pending m v t → done clearing_of m.aside m.who m.world v ≡ clears_frames (λ s. cleared m.world.ups m.world.pre m.world.post m.world.trees s) m.who m.world (state_of m.aside v) (frames_with fs [])
+    here_is : (m : Scene) → Unwinding pending m v t →
+        done clearing_of m.aside m.who m.world v ≡
+        clears_frames (λ s. cleared m.world.ups m.world.pre m.world.post m.world.trees s) m.who m.world (state_of m.aside v)
+        (frames_with fs [])
     here_is m h =
         let b = bare_of v h.ready h.frames.free in
         let s = state_of m.aside v in
         ap (λ z. on_frame z s (clearing_of m.who m.world s)) (frames_bare m.aside v b) ∙
-        (clears_is m.who m.world s v.frames h.frames.some ∙ ap (λ z. clears_frames (λ s. cleared m.world.ups m.world.pre m.world.post m.world.trees s) m.who m.world s (frames_with z [])) (sym same))
+        (clears_is m.who m.world s v.frames h.frames.some ∙
+        ap (λ z. clears_frames (λ s. cleared m.world.ups m.world.pre m.world.post m.world.trees s) m.who m.world s (frames_with z []))
+        (sym same))
 
     next_clock : (a : Aside) (u : View) → Runs a empty_view u → Clocked pending a v t → Clocked pending a u t
     next_clock a u r c =
@@ -176,7 +219,8 @@ module _ {W : Type 0} (pending : W → List Pending) where
           next = c.next;
           results = c.results;
           signals = c.signals;
-          timed = same_timed (sleeping (slot_of frames_in) t.tree) (pending t.gone.waits) (state_of a v) (state_of a (record empty_view { frames = u.frames; left = u.left; spent = u.spent })) refl refl refl c.timed;
+          timed = same_timed (sleeping (slot_of frames_in) t.tree) (pending t.gone.waits) (state_of a v)
+              (state_of a (record empty_view { frames = u.frames; left = u.left; spent = u.spent })) refl refl refl c.timed;
           fine = fine_less v.left u.left t.tree r.fewer c.fine;
           untold = c.untold;
         } in
@@ -222,22 +266,38 @@ module _ {W : Type 0} (pending : W → List Pending) where
           let o = m.world in record {
             aside = m.aside;
             same = refl;
-            is = here_is m h ∙ (k.clears (λ s. cleared o.ups o.pre o.post o.trees s) m.aside m.who o (bare_view m h) ∙ ap (λ (z : View). machine.Over e (state_of m.aside z)) (sym k.still));
+            is = here_is m h ∙ (k.clears (λ s. cleared o.ups o.pre o.post o.trees s) m.aside m.who o (bare_view m h) ∙
+                ap (λ (z : View). machine.Over e (state_of m.aside z)) (sym k.still));
           };
     }
     not_down went.Down u not k = absurd (not refl)
 
-    rest_clears : (m : Scene) (after : After) (y : Tasks W) (h : Unwinding pending m v t) → t.after ≡ Some after → y ≡ record t { after = None } →
+    rest_clears : (m : Scene) (after : After) (y : Tasks W) (h : Unwinding pending m v t) → t.after ≡ Some after →
+        y ≡ record t { after = None } →
         Cleared pending t.id after h.follows h.todo m.aside (world m.world.pre m.world.post h.ups m.world.trees) empty_view y
-    rest_clears m after y h was is = subst (λ z. Cleared pending t.id after h.follows h.todo m.aside (world m.world.pre m.world.post h.ups m.world.trees) empty_view z) (sym is) whole
+    rest_clears m after y h was is = subst (λ z.
+        Cleared pending t.id after h.follows h.todo m.aside (world m.world.pre m.world.post h.ups m.world.trees) empty_view z)
+        (sym is) whole
       where
-        st : Stands (slot_of frames_in) t.tree (t.id ∷ map id_of (ups_of t.ups.items)) [] (world m.world.pre m.world.post (clearing h.follows h.todo ∷ h.ups) m.world.trees)
-        st = subst (λ z. Stands (slot_of frames_in) t.tree (t.id ∷ map id_of (ups_of t.ups.items)) [] (world m.world.pre m.world.post z m.world.trees)) h.ups_are h.stands
+        st : Stands (slot_of frames_in) t.tree (t.id ∷ map id_of (ups_of t.ups.items)) []
+            (world m.world.pre m.world.post (clearing h.follows h.todo ∷ h.ups) m.world.trees)
+        st = subst (λ z. Stands (slot_of frames_in) t.tree (t.id ∷ map id_of (ups_of t.ups.items)) []
+            (world m.world.pre m.world.post z m.world.trees)) h.ups_are h.stands
 
-        whole : Cleared pending t.id after h.follows h.todo m.aside (world m.world.pre m.world.post h.ups m.world.trees) empty_view (record t { after = None })
+        whole : Cleared pending t.id after h.follows h.todo m.aside (world m.world.pre m.world.post h.ups m.world.trees) empty_view
+            (record t { after = None })
         whole = record {
           bare = bare_view m h;
-          clock = record { past = h.clock.past; next = h.clock.next; results = h.clock.results; signals = h.clock.signals; timed = h.clock.timed; fine = h.clock.fine; untold = h.clock.untold };
+          clock = record {
+            past = h.clock.past;
+            next = h.clock.next;
+            results = h.clock.results;
+            signals = h.clock.signals;
+            timed =
+                h.clock.timed;
+            fine = h.clock.fine;
+            untold = h.clock.untold;
+          };
           stands = record { others = st.others; planted = st.planted; chain = st.chain; others_are = st.others_are };
           ups = h.waiting;
           todo_is = h.todo_is;
@@ -246,14 +306,23 @@ module _ {W : Type 0} (pending : W → List Pending) where
           follows_is = subst (λ z. IsAfter t.tree t.id z h.follows) (inner (sym h.after_is ∙ was)) h.follows_is;
         }
 
-    pub next_cleared : (r : Went) (u : View) (after : After) (y : Tasks W) → r ≡ went.Down → ClearsFrames fs r empty_view u → t.after ≡ Some after → y ≡ record t { after = None } → IsUnwinding pending v t → IsCleared pending t.id after u y
+    pub next_cleared : (r : Went) (u : View) (after : After) (y : Tasks W) → r ≡ went.Down → ClearsFrames fs r empty_view u →
+        t.after ≡ Some after → y ≡ record t { after = None } → IsUnwinding pending v t → IsCleared pending t.id after u y
     next_cleared r u after y down k was is h =
         let d : ClearsFrames fs went.Down empty_view u = subst (λ z. ClearsFrames fs z empty_view u) down k in
         let m = h.scene in
         subst (λ z. IsCleared pending t.id after z y) (sym d.still)
-        (record { follows = h.here.follows; todo = h.here.todo; aside = m.aside; world = world m.world.pre m.world.post h.here.ups m.world.trees; here = rest_clears m after y h.here was is })
+        (record {
+          follows = h.here.follows;
+          todo = h.here.todo;
+          aside = m.aside;
+          world =
+              world m.world.pre m.world.post h.here.ups m.world.trees;
+          here = rest_clears m after y h.here was is;
+        })
 
-    pub next_unwinds : {E : Type 0} (e : Result Went E) (r : Went) (u u2 : View) (after : After) (y z : Tasks W) → r ≡ went.Down → ClearsFrames fs r empty_view u → t.after ≡ Some after → y ≡ record t { after = None } →
+    pub next_unwinds : {E : Type 0} (e : Result Went E) (r : Went) (u u2 : View) (after : After) (y z : Tasks W) → r ≡ went.Down →
+        ClearsFrames fs r empty_view u → t.after ≡ Some after → y ≡ record t { after = None } →
         IfOk e (λ q. Unwinds pending t.id after q u y u2 z) → IfOk e (λ q. Unwound pending q v t u2 z)
     next_unwinds (Err e) r u u2 after y z down k was is next = tt
     next_unwinds (Ok q) r u u2 after y z down k was is next = record {

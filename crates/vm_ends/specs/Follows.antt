@@ -37,7 +37,8 @@ module _ {W : Type 0} (pending : W → List Pending) where
     pub meets : (f : m.After) (a : Aside) (o : World) → AtEnd f a o v t → Meets pending (follows f o (state_of a v)) a.past r u s
 
   -- these are cancelled: they are off the tree, and their frames are kept
-  pub record Cleared (id : ℕ) (after : After) (f : m.After) (todo : List m.Task) (a : Aside) (o : World) (v : View) (t : Tasks W) : Type 0 where
+  pub record Cleared (id : ℕ) (after : After) (f : m.After) (todo : List m.Task) (a : Aside) (o : World) (v : View) (t : Tasks W) :
+      Type 0 where
     pub bare : Bare v
     pub clock : Clocked pending a v t
     pub stands : Stands (slot_of frames_in) t.tree (ids t) (held id (who_after f) None ∷ []) o
@@ -55,4 +56,5 @@ module _ {W : Type 0} (pending : W → List Pending) where
     pub here : Cleared id after follows todo aside world v t
 
   pub record Unwinds (id : ℕ) (after : After) (r : Went) (v : View) (t : Tasks W) (u : View) (s : Tasks W) : Type 0 where
-    pub meets : (f : m.After) (todo : List m.Task) (a : Aside) (o : World) → Cleared id after f todo a o v t → Meets pending (clears (follows f) f todo o (state_of a v)) a.past r u s
+    pub meets : (f : m.After) (todo : List m.Task) (a : Aside) (o : World) → Cleared id after f todo a o v t →
+        Meets pending (clears (follows f) f todo o (state_of a v)) a.past r u s

@@ -4,7 +4,8 @@ ghost use Rattle.std.specs.Prelude.{◌≡◌, ◌≢◌, [], IfOk, OnOk};
 ghost use Rattle.verse_value.specs.View.{val_of};
 ghost use Rattle.vm_thread.specs.Calls.{pushed};
 ghost use Rattle.vm_runner.specs.Runners.{view_of};
-ghost use Rattle.vm_ends.specs.Ends.{IsReturning, IsEnding, IsUnwinding, Returned, Finished, Closed, Unwound};
+ghost use Rattle.vm_ends.specs.Ends.{IsReturning, IsEnding, IsUnwinding, Returned, Finished};
+ghost use Rattle.vm_ends.specs.Ends.{Closed, Unwound};
 
 use crate::follows::unwind;
 use sim_clock::waits::Waits;
@@ -29,7 +30,8 @@ pub fn returned<H: Heap, W: Waits>(
     value: Value,
 ) -> Result<Went, Memory>
     requires { IsReturning W.pending born (view_of H.state run.old) tasks.old }
-    ensures { IfOk result (λ r. Returned W.pending born (val_of value) r (view_of H.state run.old) tasks.old (view_of H.state run.new) tasks.new) }
+    ensures { IfOk result (λ r. Returned W.pending born (val_of value) r
+        (view_of H.state run.old) tasks.old (view_of H.state run.new) tasks.new) }
 {
     if tasks.after.is_some() {
         run.thread.push(value)?;
@@ -55,7 +57,8 @@ pub fn finished<H: Heap, W: Waits>(
     value: Value,
 ) -> Result<Went, Memory>
     requires { IsEnding W.pending born (view_of H.state run.old) tasks.old }
-    ensures { IfOk result (λ r. Finished W.pending born (val_of value) r (view_of H.state run.old) tasks.old (view_of H.state run.new) tasks.new) }
+    ensures { IfOk result (λ r. Finished W.pending born (val_of value) r
+        (view_of H.state run.old) tasks.old (view_of H.state run.new) tasks.new) }
 {
     tasks.tree.is_nested();
     let id = tasks.id;
@@ -75,7 +78,8 @@ pub fn closed<H: Heap, W: Waits>(
     value: Value,
 ) -> Result<Went, Memory>
     requires { IsEnding W.pending born (view_of H.state run.old) tasks.old }
-    ensures { IfOk result (λ r. Closed W.pending born (val_of value) r (view_of H.state run.old) tasks.old (view_of H.state run.new) tasks.new) }
+    ensures { IfOk result (λ r. Closed W.pending born (val_of value) r
+        (view_of H.state run.old) tasks.old (view_of H.state run.new) tasks.new) }
 {
     tasks.tree.is_nested();
     let id = tasks.id;
@@ -94,7 +98,8 @@ pub fn block_ended<H: Heap, W: Waits>(
     tasks: &mut Tasks<W>,
 ) -> Result<Went, Memory>
     requires { IsUnwinding W.pending (view_of H.state run.old) tasks.old }
-    ensures { IfOk result (λ r. Unwound W.pending r (view_of H.state run.old) tasks.old (view_of H.state run.new) tasks.new) }
+    ensures { IfOk result (λ r. Unwound W.pending r (view_of H.state run.old) tasks.old
+        (view_of H.state run.new) tasks.new) }
 {
     let thread = mem::replace(&mut run.thread, Thread::empty(tasks.alloc));
     match clear_frames(run, thread) {

@@ -17,7 +17,8 @@ use vm_world::tasks::{After, Tasks, Went};
 /// All is cancelled that is to be: what follows for the task that has cancelled.
 fn follow<H: Heap, W: Waits>(run: &mut Runner<H>, tasks: &mut Tasks<W>) -> Result<Went, Memory>
     requires { IsAtEnd W.pending (view_of H.state run.old) tasks.old }
-    ensures { IfOk result (λ r. Follows W.pending r (view_of H.state run.old) tasks.old (view_of H.state run.new) tasks.new) }
+    ensures { IfOk result (λ r. Follows W.pending r (view_of H.state run.old) tasks.old
+        (view_of H.state run.new) tasks.new) }
 {
     let id = tasks.id;
     match tasks.after.take() {
@@ -37,7 +38,8 @@ pub fn unwind<H: Heap, W: Waits>(
     after: After,
 ) -> Result<Went, Memory>
     requires { IsCleared W.pending id after (view_of H.state run.old) tasks.old }
-    ensures { IfOk result (λ r. Unwinds W.pending id after r (view_of H.state run.old) tasks.old (view_of H.state run.new) tasks.new) }
+    ensures { IfOk result (λ r. Unwinds W.pending id after r (view_of H.state run.old) tasks.old
+        (view_of H.state run.new) tasks.new) }
 {
     match run_blocks(run, tasks, id, after) {
         Went::Down => follow(run, tasks),

@@ -41,11 +41,15 @@ first_past [] n o = refl
 first_past (did w ∷ gs) n o = refl
 first_past (runs k ∷ gs) n o = first_past gs n o
 
-pub first_did_last : (arms rest : List Arm) (v : Value) (o : Option Val) → arms ≡ rest ++ Did v ∷ [] → first_or (map part_of arms) o ≡ first_or (map part_of rest) (Some (val_of v))
-first_did_last arms rest v o e = ap (λ z. first_or (map part_of z) o) e ∙ (ap (λ z. first_or z o) (map_append rest (Did v ∷ [])) ∙ first_last (map part_of rest) (val_of v) o)
+pub first_did_last : (arms rest : List Arm) (v : Value) (o : Option Val) → arms ≡ rest ++ Did v ∷ [] →
+    first_or (map part_of arms) o ≡ first_or (map part_of rest) (Some (val_of v))
+first_did_last arms rest v o e = ap (λ z. first_or (map part_of z) o) e ∙
+    (ap (λ z. first_or z o) (map_append rest (Did v ∷ [])) ∙ first_last (map part_of rest) (val_of v) o)
 
-pub first_runs_last : (arms rest : List Arm) (n : ℕ) (o : Option Val) → arms ≡ rest ++ Runs n ∷ [] → first_or (map part_of arms) o ≡ first_or (map part_of rest) o
-first_runs_last arms rest n o e = ap (λ z. first_or (map part_of z) o) e ∙ (ap (λ z. first_or z o) (map_append rest (Runs n ∷ [])) ∙ first_past (map part_of rest) n o)
+pub first_runs_last : (arms rest : List Arm) (n : ℕ) (o : Option Val) → arms ≡ rest ++ Runs n ∷ [] →
+    first_or (map part_of arms) o ≡ first_or (map part_of rest) o
+first_runs_last arms rest n o e = ap (λ z. first_or (map part_of z) o) e ∙
+    (ap (λ z. first_or z o) (map_append rest (Runs n ∷ [])) ∙ first_past (map part_of rest) n o)
 
 -- the values of all, before others
 
@@ -63,7 +67,8 @@ behind_more v (Some us) vs = refl
 
 all_last : (gs : List Part) (v : Val) (vs : List Val) → with_more (all_did (gs ++ did v ∷ [])) vs ≡ with_more (all_did gs) (v ∷ vs)
 all_last [] v vs = refl
-all_last (did w ∷ gs) v vs = behind_more w (all_did (gs ++ did v ∷ [])) vs ∙ (ap (λ z. behind w z) (all_last gs v vs) ∙ sym (behind_more w (all_did gs) (v ∷ vs)))
+all_last (did w ∷ gs) v vs = behind_more w (all_did (gs ++ did v ∷ [])) vs ∙
+    (ap (λ z. behind w z) (all_last gs v vs) ∙ sym (behind_more w (all_did gs) (v ∷ vs)))
 all_last (runs n ∷ gs) v vs = refl
 
 all_not : (gs : List Part) (n : ℕ) → all_did (gs ++ runs n ∷ []) ≡ None
@@ -75,13 +80,17 @@ vals_append : (a b : List Value) → vals_of (a ++ b) ≡ vals_of a ++ vals_of b
 vals_append [] b = refl
 vals_append (x ∷ a) b = ap (λ w. val_of x ∷ w) (vals_append a b)
 
-pub all_did_last : (arms rest : List Arm) (v : Value) (values more : List Value) → arms ≡ rest ++ Did v ∷ [] → more ≡ values ++ v ∷ [] → with_more (all_did (map part_of arms)) (vals_of (reverse values)) ≡ with_more (all_did (map part_of rest)) (vals_of (reverse more))
+pub all_did_last : (arms rest : List Arm) (v : Value) (values more : List Value) → arms ≡ rest ++ Did v ∷ [] → more ≡ values ++ v ∷ [] →
+    with_more (all_did (map part_of arms)) (vals_of (reverse values)) ≡ with_more (all_did (map part_of rest)) (vals_of (reverse more))
 all_did_last arms rest v values more e is =
     ap (λ z. with_more (all_did (map part_of z)) (vals_of (reverse values))) e ∙
     (ap (λ z. with_more (all_did z) (vals_of (reverse values))) (map_append rest (Did v ∷ [])) ∙
-    (all_last (map part_of rest) (val_of v) (vals_of (reverse values)) ∙ ap (λ z. with_more (all_did (map part_of rest)) (vals_of z)) (sym (ap (λ z. reverse z) is ∙ reverse-append values (v ∷ [])))))
+    (all_last (map part_of rest) (val_of v) (vals_of (reverse values)) ∙ ap (λ z. with_more (all_did (map part_of rest)) (vals_of z))
+    (sym (ap (λ z. reverse z) is ∙ reverse-append values (v ∷ [])))))
 
-pub all_runs_last : (arms rest : List Arm) (n : ℕ) (values : List Value) (o : Option (List Val)) → arms ≡ rest ++ Runs n ∷ [] → with_more (all_did (map part_of arms)) (vals_of (reverse values)) ≡ o → o ≢ None → ⊥
+pub all_runs_last : (arms rest : List Arm) (n : ℕ) (values : List Value) (o : Option (List Val)) → arms ≡ rest ++ Runs n ∷ [] →
+    with_more (all_did (map part_of arms)) (vals_of (reverse values)) ≡ o → o ≢ None → ⊥
 all_runs_last arms rest n values o e is some =
     some (sym is ∙ (ap (λ z. with_more (all_did (map part_of z)) (vals_of (reverse values))) e ∙
-    (ap (λ z. with_more (all_did z) (vals_of (reverse values))) (map_append rest (Runs n ∷ [])) ∙ ap (λ z. with_more z (vals_of (reverse values))) (all_not (map part_of rest) n))))
+    (ap (λ z. with_more (all_did z) (vals_of (reverse values))) (map_append rest (Runs n ∷ [])) ∙
+    ap (λ z. with_more z (vals_of (reverse values))) (all_not (map part_of rest) n))))

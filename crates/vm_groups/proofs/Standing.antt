@@ -26,9 +26,12 @@ use Rattle.vm_groups.specs.Groups.{on_rest, StandsThere}
 
 module _ {W : Type 0} (pending : W → List Pending) where
   -- a task stands at its group
-  pub stands_there : (a : Aside) (w : Who) (o : World) (v : View) (t : Tasks W) (tree : Tree) (id : ℕ) (fs : List Framed) (g : Group) → IsTree t.tree → Reheld t.tree tree id (AtGroup fs g) → SetsDown t.tree tree id (AtGroup fs g) →
+  pub stands_there : (a : Aside) (w : Who) (o : World) (v : View) (t : Tasks W) (tree : Tree) (id : ℕ) (fs : List Framed) (g : Group) →
+      IsTree t.tree → Reheld t.tree tree id (AtGroup fs g) → SetsDown t.tree tree id (AtGroup fs g) →
       Standing pending (held id w (Some (map part_of g.arms.items)) ∷ []) a o v t → Bare v → Suspended w.number fs →
-      Lies pending (on_rest o (state_of a v) (record { thread = threaded w fs; rest = m.group (kind_of g.kind) g.place (map part_of g.arms.items) })) a.past v (record t { tree = tree })
+      Lies pending (on_rest o (state_of a v) (record
+      { thread = threaded w fs; rest = m.group (kind_of g.kind) g.place (map part_of g.arms.items) })) a.past v
+      (record t { tree = tree })
   stands_there a w o v t tree id fs g nested r down s bare sus =
       let here = seat t.tree (map id_of (ups_of t.ups.items)) id w (Some (map part_of g.arms.items)) o r.task nested s.stands r.at_it in
       let gs = map part_of g.arms.items in
@@ -42,11 +45,14 @@ module _ {W : Type 0} (pending : W → List Pending) where
             next = s.clock.next;
             results = s.clock.results;
             signals = s.clock.signals;
-            timed = subst (λ z. Timed z (pending t.gone.waits) (state_of a v)) (sym (same_waits t.tree tree id (AtGroup fs g) nested r (λ xs. machine_waits id _ xs here.by) (λ xs. refl))) s.clock.timed;
-            fine = fine_reheld v.left t.tree tree id (AtGroup fs g) nested r (subst (λ n. Suspended n fs) (sym here.number) sus) s.clock.fine;
+            timed = subst (λ z. Timed z (pending t.gone.waits) (state_of a v))
+                (sym (same_waits t.tree tree id (AtGroup fs g) nested r (λ xs. machine_waits id _ xs here.by) (λ xs. refl))) s.clock.timed;
+            fine = fine_reheld v.left t.tree tree id (AtGroup fs g) nested r (subst (λ n. Suspended n fs) (sym here.number) sus)
+                s.clock.fine;
             untold = untold_reheld t.results.items t.tree tree id (AtGroup fs g) nested r s.clock.untold;
           };
-          stands = down frames_in (map id_of (ups_of t.ups.items)) w (Some gs) o (frames_in fs).0 (frames_in fs).1 (m.group (kind_of g.kind) g.place gs) refl (λ n b k. k) s.stands;
+          stands = down frames_in (map id_of (ups_of t.ups.items)) w (Some gs) o (frames_in fs).0 (frames_in fs).1
+              (m.group (kind_of g.kind) g.place gs) refl (λ n b k. k) s.stands;
           ups = s.ups;
           still = s.still;
           none = s.none;
@@ -55,8 +61,11 @@ module _ {W : Type 0} (pending : W → List Pending) where
         is = refl;
       }
 
-  pub stands_so : (b : Begins) (v : View) (t : Tasks W) (tree : Tree) → IsTree t.tree → Reheld t.tree tree b.id (AtGroup b.thread (record { kind = b.kind; place = b.place; arms = b.arms })) → SetsDown t.tree tree b.id (AtGroup b.thread (record { kind = b.kind; place = b.place; arms = b.arms })) →
+  pub stands_so : (b : Begins) (v : View) (t : Tasks W) (tree : Tree) → IsTree t.tree →
+      Reheld t.tree tree b.id (AtGroup b.thread (record { kind = b.kind; place = b.place; arms = b.arms })) →
+      SetsDown t.tree tree b.id (AtGroup b.thread (record { kind = b.kind; place = b.place; arms = b.arms })) →
       StandsThere pending b went.Down v t (record t { tree = tree })
   stands_so b v t tree nested r down = record {
-    stands = λ a w o st bare sus. stands_there a w o v t tree b.id b.thread (record { kind = b.kind; place = b.place; arms = b.arms }) nested r down st bare sus;
+    stands = λ a w o st bare sus. stands_there a w o v t tree b.id b.thread (record { kind = b.kind; place = b.place; arms = b.arms })
+        nested r down st bare sus;
   }

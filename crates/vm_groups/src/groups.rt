@@ -5,7 +5,8 @@ ghost use Rattle.verse_value.specs.View.{val_of};
 ghost use Rattle.vm_tasks.specs.declared.slots.Kind.TheVariants.{All, First, Rush};
 ghost use Rattle.vm_world.specs.declared.tasks.Went.TheVariants.{Down};
 ghost use Rattle.vm_runner.specs.Runners.{view_of};
-ghost use Rattle.vm_groups.specs.Groups.{Hand, Settles, NextArm, ArmEnded, InGroup, CancelsArms, StandsThere};
+ghost use Rattle.vm_groups.specs.Groups.{Hand, Settles, NextArm, ArmEnded, InGroup, CancelsArms};
+ghost use Rattle.vm_groups.specs.Groups.{StandsThere};
 
 use crate::arms::{all_gave, first_value, one_gave, values_of};
 use sim_clock::waits::Waits;
@@ -32,7 +33,8 @@ pub fn next_arm<H: Heap, W: Waits>(
     begins: Begins,
 ) -> Result<Went, Memory>
     requires { Hand W.pending begins (view_of H.state run.old) tasks.old }
-    ensures next { IfOk result (λ r. NextArm W.pending begins r (view_of H.state run.old) tasks.old (view_of H.state run.new) tasks.new) }
+    ensures next { IfOk result (λ r. NextArm W.pending begins r (view_of H.state run.old) tasks.old
+        (view_of H.state run.new) tasks.new) }
     ensures above { IfOk result (λ r. r ≡ Down → tasks.new.ups ≡ tasks.old.ups) }
 {
     tasks.tree.is_nested();
@@ -50,7 +52,8 @@ pub fn arm_ended<H: Heap, W: Waits>(
     begins: Begins,
 ) -> Result<Went, Memory>
     requires { Hand W.pending begins (view_of H.state run.old) tasks.old }
-    ensures { IfOk result (λ r. ArmEnded W.pending begins r (view_of H.state run.old) tasks.old (view_of H.state run.new) tasks.new) }
+    ensures { IfOk result (λ r. ArmEnded W.pending begins r (view_of H.state run.old) tasks.old
+        (view_of H.state run.new) tasks.new) }
 {
     match begins.kind {
         Kind::First => settle(run, tasks, begins),
@@ -66,7 +69,9 @@ pub fn settle<H: Heap, W: Waits>(
     begins: Begins,
 ) -> Result<Went, Memory>
     requires { Hand W.pending begins (view_of H.state run.old) tasks.old }
-    ensures settles { IfOk result (λ r. Settles W.pending begins r (view_of H.state run.old) tasks.old (view_of H.state run.new) tasks.new) }
+    ensures settles { IfOk result
+        (λ r. Settles W.pending begins r (view_of H.state run.old) tasks.old
+        (view_of H.state run.new) tasks.new) }
     ensures above { IfOk result (λ r. r ≡ Down → tasks.new.ups ≡ tasks.old.ups) }
 {
     match begins.kind {
@@ -83,7 +88,9 @@ fn settle_all<H: Heap, W: Waits>(
 ) -> Result<Went, Memory>
     requires hand { Hand W.pending begins (view_of H.state run.old) tasks.old }
     requires kind { begins.kind ≡ All }
-    ensures settles { IfOk result (λ r. Settles W.pending begins r (view_of H.state run.old) tasks.old (view_of H.state run.new) tasks.new) }
+    ensures settles { IfOk result
+        (λ r. Settles W.pending begins r (view_of H.state run.old) tasks.old
+        (view_of H.state run.new) tasks.new) }
     ensures above { IfOk result (λ r. r ≡ Down → tasks.new.ups ≡ tasks.old.ups) }
 {
     if !all_gave(begins.arms.as_slice()) {
@@ -107,7 +114,9 @@ fn settle_first<H: Heap, W: Waits>(
 ) -> Result<Went, Memory>
     requires hand { Hand W.pending begins (view_of H.state run.old) tasks.old }
     requires kind { begins.kind ≡ First }
-    ensures settles { IfOk result (λ r. Settles W.pending begins r (view_of H.state run.old) tasks.old (view_of H.state run.new) tasks.new) }
+    ensures settles { IfOk result
+        (λ r. Settles W.pending begins r (view_of H.state run.old) tasks.old
+        (view_of H.state run.new) tasks.new) }
     ensures above { IfOk result (λ r. r ≡ Down → tasks.new.ups ≡ tasks.old.ups) }
 {
     if !one_gave(begins.arms.as_slice()) {
@@ -126,7 +135,9 @@ fn settle_rush<H: Heap, W: Waits>(
 ) -> Result<Went, Memory>
     requires hand { Hand W.pending begins (view_of H.state run.old) tasks.old }
     requires kind { begins.kind ≡ Rush }
-    ensures settles { IfOk result (λ r. Settles W.pending begins r (view_of H.state run.old) tasks.old (view_of H.state run.new) tasks.new) }
+    ensures settles { IfOk result
+        (λ r. Settles W.pending begins r (view_of H.state run.old) tasks.old
+        (view_of H.state run.new) tasks.new) }
     ensures above { IfOk result (λ r. r ≡ Down → tasks.new.ups ≡ tasks.old.ups) }
 {
     if !one_gave(begins.arms.as_slice()) {
@@ -148,7 +159,8 @@ fn cancel_arms<H: Heap, W: Waits>(
     value: Value,
 ) -> Result<Went, Memory>
     requires { InGroup W.pending id thread (view_of H.state run.old) tasks.old }
-    ensures { IfOk result (λ r. CancelsArms W.pending id thread (val_of value) r (view_of H.state run.old) tasks.old (view_of H.state run.new) tasks.new) }
+    ensures { IfOk result (λ r. CancelsArms W.pending id thread (val_of value) r
+        (view_of H.state run.old) tasks.old (view_of H.state run.new) tasks.new) }
 {
     tasks.tree.is_nested();
     let since = match tasks.tree.get(id) {
@@ -170,7 +182,8 @@ fn cancel_arms<H: Heap, W: Waits>(
 /// The task stands at its group.
 pub fn stand<H: Heap, W: Waits>(run: &Runner<H>, tasks: &mut Tasks<W>, begins: Begins) -> Went
     requires { Hand W.pending begins (view_of H.state run.now) tasks.old }
-    ensures stands { StandsThere W.pending begins result (view_of H.state run.now) tasks.old tasks.new }
+    ensures stands { StandsThere W.pending begins result
+        (view_of H.state run.now) tasks.old tasks.new }
     ensures above { tasks.new.ups ≡ tasks.old.ups }
 {
     let _ = &run.left;

@@ -5,7 +5,10 @@ ghost use Rattle.std.specs.Int.{w64, int_rem_euclid};
 ghost use Rattle.std.specs.Option.{SomeIff};
 ghost use Rattle.verse_value.specs.Val.{int};
 ghost use Rattle.verse_value.specs.View.{val_of};
-ghost use Rattle.verse_value.specs.Operations.{ranged, left_where, sum_of, difference_of, product_of, negation_of, floor_of, ceil_of, modulo_of, less_of, at_most_of, greater_of, at_least_of};
+ghost use Rattle.verse_value.specs.Operations.{ranged, left_where, sum_of, difference_of};
+ghost use Rattle.verse_value.specs.Operations.{product_of, negation_of, floor_of, ceil_of};
+ghost use Rattle.verse_value.specs.Operations.{modulo_of, less_of, at_most_of, greater_of};
+ghost use Rattle.verse_value.specs.Operations.{at_least_of};
 ghost use Rattle.vm_ops.specs.Answers.{IsAnswer};
 
 use crate::faults::OpFault;

@@ -4,7 +4,8 @@
 ghost use Rattle.std.specs.Prelude.{◌≡◌, Some, option_map, OnOk, IfOk, IfErr};
 ghost use Rattle.verse_value.specs.Val.{mapping};
 ghost use Rattle.verse_value.specs.View.{val_of, vals_of};
-ghost use Rattle.verse_value.specs.Operations.{sized, concat_of, append_of, array_of, tuple_of, option_of, map_of, with_entry};
+ghost use Rattle.verse_value.specs.Operations.{sized, concat_of, append_of, array_of, tuple_of};
+ghost use Rattle.verse_value.specs.Operations.{option_of, map_of, with_entry};
 ghost use Rattle.verse_value.specs.Keys.{key_of};
 ghost use Rattle.vm_ops.specs.Answers.{IsAnswerOrMemory, IsFaultOrMemory, IsMisfit};
 ghost use Rattle.vm_ops.specs.Lists.{pairs_of};
@@ -78,7 +79,8 @@ pub fn op_map(alloc: Global, pairs: Vec<(Value, Value)>) -> Result<Value, OpFaul
 }
 
 fn entries_of(alloc: Global, pairs: Vec<(Value, Value)>) -> Result<Entries, OpFault>
-    ensures made { IfOk result (λ entries. map_of (pairs_of pairs.items) ≡ sized (mapping entries)) }
+    ensures made { IfOk result (λ entries. map_of (pairs_of pairs.items) ≡
+        sized (mapping entries)) }
     ensures fault { IfErr result (IsFaultOrMemory (map_of (pairs_of pairs.items))) }
 {
     let mut entries = Entries::new(alloc);
@@ -89,7 +91,8 @@ fn entries_of(alloc: Global, pairs: Vec<(Value, Value)>) -> Result<Entries, OpFa
 }
 
 fn insert(alloc: Global, entries: &mut Entries, pair: (Value, Value)) -> Result<(), OpFault>
-    ensures ok { OnOk result (option_map (λ key. with_entry entries.old key (val_of pair.1)) (key_of (val_of pair.0)) ≡ Some entries.new) }
+    ensures ok { OnOk result (option_map (λ key. with_entry entries.old key (val_of pair.1))
+        (key_of (val_of pair.0)) ≡ Some entries.new) }
     ensures fault { IfErr result (IsMisfit (key_of (val_of pair.0))) }
 {
     let (key, value) = pair;

@@ -35,7 +35,8 @@ pub fn op_join(alloc: Global, parts: Vec<Value>) -> Result<Value, OpFault>
 
 // What the parts show, one after another.
 fn shown(alloc: Global, parts: &[Value]) -> Result<Vec<u8>, OpFault>
-    ensures shown { IfOk result (λ bytes. join_of (vals_of parts.now) ≡ sized (text_val bytes.items)) }
+    ensures shown { IfOk result (λ bytes. join_of (vals_of parts.now) ≡
+        sized (text_val bytes.items)) }
     ensures fault { IfErr result (IsFaultOrMemory (join_of (vals_of parts.now))) }
 {
     let mut bytes = Vec::new(alloc);
@@ -47,7 +48,8 @@ fn shown(alloc: Global, parts: &[Value]) -> Result<Vec<u8>, OpFault>
 
 // Appends what a part shows.
 fn show(alloc: Global, part: &Value, out: &mut Vec<u8>) -> Result<(), OpFault>
-    ensures ok { OnOk result (option_map (λ bytes. out.old.items ++ bytes) (hole_bytes (val_of part.now)) ≡ Some out.new.items) }
+    ensures ok { OnOk result (option_map (λ bytes. out.old.items ++ bytes)
+        (hole_bytes (val_of part.now)) ≡ Some out.new.items) }
     ensures fault { IfErr result (IsMisfit (hole_bytes (val_of part.now))) }
 {
     match part {
@@ -59,7 +61,8 @@ fn show(alloc: Global, part: &Value, out: &mut Vec<u8>) -> Result<(), OpFault>
 }
 
 fn show_chars(alloc: Global, parts: &[Value], out: &mut Vec<u8>) -> Result<(), OpFault>
-    ensures ok { OnOk result (option_map (λ bytes. out.old.items ++ bytes) (bytes_of (vals (vals_of parts.now))) ≡ Some out.new.items) }
+    ensures ok { OnOk result (option_map (λ bytes. out.old.items ++ bytes)
+        (bytes_of (vals (vals_of parts.now))) ≡ Some out.new.items) }
     ensures fault { IfErr result (IsMisfit (bytes_of (vals (vals_of parts.now)))) }
 {
     let Some(bytes) = text_bytes(alloc, parts)? else {

@@ -11,10 +11,12 @@ module _ {T : Type 0} where
       go None l e = absurd (cc)
       go (Some t) l e = absurd (cc)
 
-  pub item_is : (id : ℕ) (tree : List (Task T)) (s : T) (t : Task T) → Some s ≡ option_map (λ (t : Task T). t.item) (task_at id tree) → task_at id tree ≡ Some t → s ≡ t.item
+  pub item_is : (id : ℕ) (tree : List (Task T)) (s : T) (t : Task T) → Some s ≡ option_map (λ (t : Task T). t.item) (task_at id tree) →
+      task_at id tree ≡ Some t → s ≡ t.item
   item_is id tree s t e at = inner (e ∙ ap (λ o. option_map (λ (t : Task T). t.item) o) at)
 
-  pub part_is : {A : Type 0} (f : T → A) (id : ℕ) (tree : List (Task T)) (s : T) → Some s ≡ option_map (λ (t : Task T). t.item) (task_at id tree) → Some (f s) ≡ option_map (λ (t : Task T). f t.item) (task_at id tree)
+  pub part_is : {A : Type 0} (f : T → A) (id : ℕ) (tree : List (Task T)) (s : T) →
+      Some s ≡ option_map (λ (t : Task T). t.item) (task_at id tree) → Some (f s) ≡ option_map (λ (t : Task T). f t.item) (task_at id tree)
   part_is f id tree s e = ap (λ o. option_map f o) e ∙ go (task_at id tree)
     where
       go : (o : Option (Task T)) → option_map f (option_map (λ (t : Task T). t.item) o) ≡ option_map (λ (t : Task T). f t.item) o

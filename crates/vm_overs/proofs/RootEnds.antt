@@ -1,5 +1,6 @@
 -- Main or a spawned task is over.
-use Rattle.std.proofs.Common.{◌≡◌, ℕ, Result, Ok, Err, IfOk, List, [], ◌∷◌, ◌++◌, map, reverse, Option, Some, None, option_map, refl, sym, ap, subst, ◌∙◌}
+use Rattle.std.proofs.Common.{◌≡◌, ℕ, Result, Ok, Err, IfOk, List, [], ◌∷◌, ◌++◌, map, reverse, Option, Some, None, option_map, refl, sym}
+use Rattle.std.proofs.Common.{ap, subst, ◌∙◌}
 use Rattle.std.specs.Global.{Vec}
 use Rattle.task_tree.specs.Tasks.{Task, task_at, without, IsLive}
 use Rattle.task_tree.specs.Nested.{IsTree}
@@ -65,10 +66,20 @@ module _ {W : Type 0} (pending : W → List Pending) where
         }
 
     pub off_root : (v : View) → IsLoneRoot pending v t → IsOffRoot pending v off_tasks
-    off_root v h = record { aside = h.aside; who = h.who; entry = h.entry; world = h.world; here = off_of h.aside h.who h.world v h.here; role = h.role }
+    off_root v h = record {
+      aside = h.aside;
+      who = h.who;
+      entry = h.entry;
+      world = h.world;
+      here =
+          off_of h.aside h.who h.world v h.here;
+      role = h.role;
+    }
 
     -- a spawned one has given nothing yet
-    pub over_of : (r : Root) (entry : ℕ) (v : View) → Some r ≡ option_map (λ (y : Task (Slot (List Framed))). y.item.root) (task_at t.id t.tree) → r ≡ Spawned entry → IsLoneRoot pending v t → IsOver entry off_tasks
+    pub over_of : (r : Root) (entry : ℕ) (v : View) →
+        Some r ≡ option_map (λ (y : Task (Slot (List Framed))). y.item.root) (task_at t.id t.tree) → r ≡ Spawned entry →
+        IsLoneRoot pending v t → IsOver entry off_tasks
     over_of r entry v e spawned h =
         let s = h.here.standing in
         let k = here t.tree (map id_of (ups_of t.ups.items)) t.id h.who None h.world nested s.stands in
@@ -78,7 +89,8 @@ module _ {W : Type 0} (pending : W → List Pending) where
 
   -- it has given its value
 
-  off_given : (entry : ℕ) (x : Val) (a : Aside) (w : Who) (o : World) (v : View) (t s : Tasks W) → Gives pending entry x v t s → Off pending a w o v t → Off pending (result_in entry x v.moment a) w o v s
+  off_given : (entry : ℕ) (x : Val) (a : Aside) (w : Who) (o : World) (v : View) (t s : Tasks W) → Gives pending entry x v t s →
+      Off pending a w o v t → Off pending (result_in entry x v.moment a) w o v s
   off_given entry x a w o v t s g h =
       let b = result_in entry x v.moment a in
       let whole : Off pending b w o v (record t { gone = record t.gone { waits = s.gone.waits }; results = s.results }) = record {
@@ -94,7 +106,8 @@ module _ {W : Type 0} (pending : W → List Pending) where
       } in
       subst (λ z. Off pending b w o v z) (sym g.still) whole
 
-  pub still_off : (entry : ℕ) (x : Val) (v : View) (t s : Tasks W) → Gives pending entry x v t s → IsOffRoot pending v t → IsOffRoot pending v s
+  pub still_off : (entry : ℕ) (x : Val) (v : View) (t s : Tasks W) → Gives pending entry x v t s → IsOffRoot pending v t →
+      IsOffRoot pending v s
   still_off entry x v t s g h = record {
     aside = result_in entry x v.moment h.aside;
     who = h.who;
@@ -105,23 +118,29 @@ module _ {W : Type 0} (pending : W → List Pending) where
   }
 
   module _ (t : Tasks W) (tree : Tree) (nested : IsTree t.tree) (ended : Ended t.tree tree t.id) (is : tree ≡ without t.id t.tree) where
-    pub gives_leaves : {E : Type 0} (d : Result Went E) (r : Root) (entry : ℕ) (x : Val) (v u : View) (s z : Tasks W) → Some r ≡ option_map (λ (y : Task (Slot (List Framed))). y.item.root) (task_at t.id t.tree) → r ≡ Spawned entry → Gives pending entry x v (record t { tree = tree }) s →
+    pub gives_leaves : {E : Type 0} (d : Result Went E) (r : Root) (entry : ℕ) (x : Val) (v u : View) (s z : Tasks W) →
+        Some r ≡ option_map (λ (y : Task (Slot (List Framed))). y.item.root) (task_at t.id t.tree) → r ≡ Spawned entry →
+        Gives pending entry x v (record t { tree = tree }) s →
         IfOk d (λ q. RootLeaves pending q v s u z) → IfOk d (λ q. RootOver pending x q v t u z)
     gives_leaves (Err f) r entry x v u s z e spawned g k = tt
     gives_leaves (Ok q) r entry x v u s z e spawned g k = record {
       meets = λ a w n o h role.
-          let same : root (Some entry) ≡ root n = sym (ap (λ y. role_of y) spawned) ∙ (lone_role pending a w o v t r nested e h.standing ∙ role) in
+          let same : root (Some entry) ≡ root n =
+          sym (ap (λ y. role_of y) spawned) ∙ (lone_role pending a w o v t r nested e h.standing ∙ role) in
           let it : Some entry ≡ n = ap (λ y. entry_or n y) same in
           subst (λ y. Meets pending (root_ends o.pre o.post o.ups o.trees (with_result y x (state_of a v))) a.past q u z) it
-          (k.meets (result_in entry x v.moment a) w n o (off_given entry x a w o v (record t { tree = tree }) s g (off_of t tree nested ended is a w o v h)) role);
+          (k.meets (result_in entry x v.moment a) w n o
+          (off_given entry x a w o v (record t { tree = tree }) s g (off_of t tree nested ended is a w o v h)) role);
     }
 
-    pub main_leaves : {E : Type 0} (d : Result Went E) (r : Root) (x : Val) (v u : View) (z : Tasks W) → Some r ≡ option_map (λ (y : Task (Slot (List Framed))). y.item.root) (task_at t.id t.tree) → ((entry : ℕ) → r ≡ Spawned entry → ⊥) →
+    pub main_leaves : {E : Type 0} (d : Result Went E) (r : Root) (x : Val) (v u : View) (z : Tasks W) →
+        Some r ≡ option_map (λ (y : Task (Slot (List Framed))). y.item.root) (task_at t.id t.tree) → ((entry : ℕ) → r ≡ Spawned entry → ⊥) →
         IfOk d (λ q. RootLeaves pending q v (record t { tree = tree }) u z) → IfOk d (λ q. RootOver pending x q v t u z)
     main_leaves (Err f) r x v u z e not k = tt
     main_leaves (Ok q) r x v u z e not k = record {
       meets = λ a w n o h role.
-          subst (λ y. Meets pending (root_ends o.pre o.post o.ups o.trees (with_result y x (state_of a v))) a.past q u z) (no_entry r n not (lone_role pending a w o v t r nested e h.standing ∙ role))
+          subst (λ y. Meets pending (root_ends o.pre o.post o.ups o.trees (with_result y x (state_of a v))) a.past q u z)
+          (no_entry r n not (lone_role pending a w o v t r nested e h.standing ∙ role))
           (k.meets a w n o (off_of t tree nested ended is a w o v h) role);
     }
       where
@@ -137,9 +156,19 @@ module _ {W : Type 0} (pending : W → List Pending) where
     up_tasks = record t { ups = ups }
 
     clock_up : (a : Aside) (v : View) → Clocked pending a v t → Clocked pending a v up_tasks
-    clock_up a v c = record { past = c.past; next = c.next; results = c.results; signals = c.signals; timed = c.timed; fine = c.fine; untold = c.untold }
+    clock_up a v c = record {
+      past = c.past;
+      next = c.next;
+      results = c.results;
+      signals = c.signals;
+      timed = c.timed;
+      fine =
+          c.fine;
+      untold = c.untold;
+    }
 
-    next_gone : (up : Up) (a : Aside) (w : Who) (o : World) (v : View) → t.ups.items ≡ ups.items ++ up ∷ [] → Off pending a w o v t → Gone pending up a w o v up_tasks
+    next_gone : (up : Up) (a : Aside) (w : Who) (o : World) (v : View) → t.ups.items ≡ ups.items ++ up ∷ [] → Off pending a w o v t →
+        Gone pending up a w o v up_tasks
     next_gone up a w o v last h =
         let are : ups_of t.ups.items ≡ up ∷ ups_of ups.items = last_first ups.items t.ups.items up last in
         record {
@@ -155,9 +184,18 @@ module _ {W : Type 0} (pending : W → List Pending) where
         }
 
     pub gone_root : (up : Up) (v : View) → t.ups.items ≡ ups.items ++ up ∷ [] → IsOffRoot pending v t → IsGoneRoot pending up v up_tasks
-    gone_root up v last h = record { aside = h.aside; who = h.who; entry = h.entry; world = h.world; here = next_gone up h.aside h.who h.world v last h.here; role = h.role }
+    gone_root up v last h = record {
+      aside = h.aside;
+      who = h.who;
+      entry = h.entry;
+      world = h.world;
+      here =
+          next_gone up h.aside h.who h.world v last h.here;
+      role = h.role;
+    }
 
-    pub leaves_up : {E : Type 0} (d : Result Went E) (up : Up) (v u : View) (s : Tasks W) → t.ups.items ≡ ups.items ++ up ∷ [] → IfOk d (λ r. RootGone pending up r v up_tasks u s) → IfOk d (λ r. RootLeaves pending r v t u s)
+    pub leaves_up : {E : Type 0} (d : Result Went E) (up : Up) (v u : View) (s : Tasks W) → t.ups.items ≡ ups.items ++ up ∷ [] →
+        IfOk d (λ r. RootGone pending up r v up_tasks u s) → IfOk d (λ r. RootLeaves pending r v t u s)
     leaves_up (Err f) up v u s last k = tt
     leaves_up (Ok r) up v u s last k = record { meets = λ a w e o h role. k.meets a w e o (next_gone up a w o v last h) role }
 
@@ -172,7 +210,8 @@ module _ {W : Type 0} (pending : W → List Pending) where
             resting = record {
               clock = clock_up a v h.clock;
               rests = h.ended.alone frames_in (map id_of (ups_of t.ups.items)) w e o.pre o.post o.trees role
-                  (subst (λ us. Stands (slot_of frames_in) h.tree (map id_of (ups_of t.ups.items)) (held h.id w None ∷ []) (world o.pre o.post us o.trees)) no_one h.stands);
+                  (subst (λ us. Stands (slot_of frames_in) h.tree (map id_of (ups_of t.ups.items)) (held h.id w None ∷ [])
+                  (world o.pre o.post us o.trees)) no_one h.stands);
               bare = h.bare;
               no_ups = left;
               still = h.still;
@@ -182,7 +221,9 @@ module _ {W : Type 0} (pending : W → List Pending) where
           };
     }
 
-pub role_there : (id : ℕ) (tree : Tree) (t : Task (Slot (List Framed))) (r s : Root) → Some r ≡ option_map (λ (y : Task (Slot (List Framed))). y.item.root) (task_at id tree) → task_at id tree ≡ Some t → r ≡ s → role_of s ≡ role_of t.item.root
+pub role_there : (id : ℕ) (tree : Tree) (t : Task (Slot (List Framed))) (r s : Root) →
+    Some r ≡ option_map (λ (y : Task (Slot (List Framed))). y.item.root) (task_at id tree) → task_at id tree ≡ Some t → r ≡ s →
+    role_of s ≡ role_of t.item.root
 role_there id tree t r s e at is =
     let same : r ≡ t.item.root = inner (e ∙ ap (λ o. option_map (λ (y : Task (Slot (List Framed))). y.item.root) o) at) in
     ap (λ z. role_of z) (sym is ∙ same)

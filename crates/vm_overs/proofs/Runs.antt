@@ -1,5 +1,6 @@
 -- The arm of a group that is the task of a number, by its place.
-use Rattle.std.proofs.Common.{◌≡◌, ℕ, suc, ◌+◌, ◌<◌, Bool, true, false, cond, List, [], ◌∷◌, length, map, drop, get_or, add-one, Option, Some, None, is_some, refl, sym, ap, ◌∙◌, arith}
+use Rattle.std.proofs.Common.{◌≡◌, ℕ, suc, ◌+◌, ◌<◌, Bool, true, false, cond, List, [], ◌∷◌, length, map, drop, get_or, add-one, Option}
+use Rattle.std.proofs.Common.{Some, None, is_some, refl, sym, ap, ◌∙◌, arith}
 use Rattle.std.proofs.Math.ListN.{set}
 use Rattle.std.proofs.Math.Seq.{drop-cons}
 use Rattle.std.proofs.lemmas.List.{map-set, length-map}
@@ -23,18 +24,24 @@ eqn_no a b d = eqn_other b a (λ e. d (sym e))
 
 -- one arm after another
 
-next_at : (n at i : ℕ) (arms : List Arm) (arm : Arm) (b : Bool) → i < length arms → arm ≡ get_or arms i arm → b ≡ is_number n (part_of arm) →
+next_at : (n at i : ℕ) (arms : List Arm) (arm : Arm) (b : Bool) → i < length arms → arm ≡ get_or arms i arm →
+    b ≡ is_number n (part_of arm) →
     run_at n at (map part_of (drop i arms)) ≡ cond b (Some at) (run_at n (at + 1) (map part_of (drop (i + 1) arms)))
 next_at n at i arms arm b less is told =
     let one : drop (suc i) arms ≡ drop (i + 1) arms = rw add-one refl in
-    ap (λ z. run_at n at (map part_of z)) (drop-cons arms i arm less ∙ (ap (λ z. z ∷ drop (suc i) arms) (sym is) ∙ ap (λ z. arm ∷ z) one)) ∙ ap (λ z. cond z (Some at) (run_at n (at + 1) (map part_of (drop (i + 1) arms)))) (sym told)
+    ap (λ z. run_at n at (map part_of z)) (drop-cons arms i arm less ∙ (ap (λ z. z ∷ drop (suc i) arms) (sym is) ∙ ap (λ z. arm ∷ z) one)) ∙
+    ap (λ z. cond z (Some at) (run_at n (at + 1) (map part_of (drop (i + 1) arms)))) (sym told)
 
-pub found_at : (n at i : ℕ) (arms : List Arm) (arm : Arm) (b : Bool) → i < length arms → arm ≡ get_or arms i arm → b ≡ is_number n (part_of arm) → b ≡ true → run_at n at (map part_of (drop i arms)) ≡ Some at
-found_at n at i arms arm b less is told so = next_at n at i arms arm b less is told ∙ ap (λ z. cond z (Some at) (run_at n (at + 1) (map part_of (drop (i + 1) arms)))) so
+pub found_at : (n at i : ℕ) (arms : List Arm) (arm : Arm) (b : Bool) → i < length arms → arm ≡ get_or arms i arm →
+    b ≡ is_number n (part_of arm) → b ≡ true → run_at n at (map part_of (drop i arms)) ≡ Some at
+found_at n at i arms arm b less is told so =
+    next_at n at i arms arm b less is told ∙ ap (λ z. cond z (Some at) (run_at n (at + 1) (map part_of (drop (i + 1) arms)))) so
 
-pub passed_at : (n at i : ℕ) (arms : List Arm) (arm : Arm) (b : Bool) → i < length arms → arm ≡ get_or arms i arm → b ≡ is_number n (part_of arm) → b ≡ false →
+pub passed_at : (n at i : ℕ) (arms : List Arm) (arm : Arm) (b : Bool) → i < length arms → arm ≡ get_or arms i arm →
+    b ≡ is_number n (part_of arm) → b ≡ false →
     run_at n at (map part_of (drop i arms)) ≡ run_at n (at + 1) (map part_of (drop (i + 1) arms))
-passed_at n at i arms arm b less is told lacks = next_at n at i arms arm b less is told ∙ ap (λ z. cond z (Some at) (run_at n (at + 1) (map part_of (drop (i + 1) arms)))) lacks
+passed_at n at i arms arm b less is told lacks =
+    next_at n at i arms arm b less is told ∙ ap (λ z. cond z (Some at) (run_at n (at + 1) (map part_of (drop (i + 1) arms)))) lacks
 
 record Placed (n i at : ℕ) (gs : List Part) : Type 0 where
   k : ℕ
@@ -49,13 +56,28 @@ place_of n i at (did w ∷ gs) e =
     let p = place_of n (i + 1) at gs e in
     let is = p.is in
     let within = p.within in
-    record { k = suc p.k; is = omega (arith, is); within = omega (arith, within); gives = λ v. ap (λ z. did w ∷ z) (p.gives v); found = p.found }
+    record {
+      k = suc p.k;
+      is = omega (arith, is);
+      within = omega (arith, within);
+      gives = λ v. ap (λ z. did w ∷ z) (p.gives v);
+      found =
+          p.found;
+    }
 place_of n i at (runs m ∷ gs) e = go (eqn n m) refl e (λ h. place_of n (i + 1) at gs h)
   where
-    go : (b : Bool) → eqn n m ≡ b → cond b (Some i) (run_at n (i + 1) gs) ≡ Some at → (run_at n (i + 1) gs ≡ Some at → Placed n (i + 1) at gs) → Placed n i at (runs m ∷ gs)
+    go : (b : Bool) → eqn n m ≡ b → cond b (Some i) (run_at n (i + 1) gs) ≡ Some at →
+        (run_at n (i + 1) gs ≡ Some at → Placed n (i + 1) at gs) → Placed n i at (runs m ∷ gs)
     go true is h later =
         let same : i ≡ at = cc in
-        record { k = 0; is = omega (arith, same); within = omega arith; gives = λ v. sym (ap (λ b. cond b (did v ∷ gs) (runs m ∷ with_did n v gs)) is); found = ap (λ b. cond b true (is_run n gs)) is }
+        record {
+          k = 0;
+          is = omega (arith, same);
+          within = omega arith;
+          gives =
+              λ v. sym (ap (λ b. cond b (did v ∷ gs) (runs m ∷ with_did n v gs)) is);
+          found = ap (λ b. cond b true (is_run n gs)) is;
+        }
     go false is h later =
         let p = later h in
         let place = p.is in
@@ -77,7 +99,8 @@ absent n i [] e = record { gives = λ v. refl; found = refl }
 absent n i (did w ∷ gs) e = let p = absent n (i + 1) gs e in record { gives = λ v. ap (λ z. did w ∷ z) (p.gives v); found = p.found }
 absent n i (runs m ∷ gs) e = go (eqn n m) refl e (λ h. absent n (i + 1) gs h)
   where
-    go : (b : Bool) → eqn n m ≡ b → cond b (Some i) (run_at n (i + 1) gs) ≡ None → (run_at n (i + 1) gs ≡ None → Absent n gs) → Absent n (runs m ∷ gs)
+    go : (b : Bool) → eqn n m ≡ b → cond b (Some i) (run_at n (i + 1) gs) ≡ None → (run_at n (i + 1) gs ≡ None → Absent n gs) →
+        Absent n (runs m ∷ gs)
     go true is h later = absurd (cc)
     go false is h later =
         let p = later h in record {
@@ -93,7 +116,8 @@ within_arms n at arms e =
     let same = length-map arms part_of in
     omega (arith, is, within, same)
 
-pub arm_gives : (n at : ℕ) (arms : List Arm) (v : Value) → run_at n 0 (map part_of arms) ≡ Some at → map part_of (set arms at (Did v)) ≡ with_did n (val_of v) (map part_of arms)
+pub arm_gives : (n at : ℕ) (arms : List Arm) (v : Value) → run_at n 0 (map part_of arms) ≡ Some at →
+    map part_of (set arms at (Did v)) ≡ with_did n (val_of v) (map part_of arms)
 arm_gives n at arms v e =
     let p = place_of n 0 at (map part_of arms) e in
     let is = p.is in

@@ -37,8 +37,10 @@ pub record Parent (tree : Tree) (id : ℕ) (w : Who) (xs ys : List m.Task) (tree
   pub shows : Shows id (slot_of frames_in task.item).held (slept it)
   pub found : (x : Val) (s : State) → climbs w.up w.number x xs ys trees s ≡ joined w.number x it.rest it (passed earlier xs) later trees s
   pub stays : Rests (slot_of frames_in) tree (among (onto (passed earlier xs) (it ∷ later)) trees)
-  pub goes : (item : Slot (List Framed)) (x : Val) (gs : List Part) → slot_of frames_in item ≡ record (slot_of frames_in task.item) { held = by_machine } → arms_at it.rest ≡ Some gs →
-      Stands (slot_of frames_in) (with_item id tree item) [] (held id it.thread.who (Some (with_did w.number x gs)) ∷ []) (world (passed earlier xs) later [] trees)
+  pub goes : (item : Slot (List Framed)) (x : Val) (gs : List Part) →
+      slot_of frames_in item ≡ record (slot_of frames_in task.item) { held = by_machine } → arms_at it.rest ≡ Some gs →
+      Stands (slot_of frames_in) (with_item id tree item) [] (held id it.thread.who (Some (with_did w.number x gs)) ∷ [])
+      (world (passed earlier xs) later [] trees)
 
 module _ {W : Type 0} (pending : W → List Pending) where
   -- it stands in the tree still
@@ -126,20 +128,26 @@ module _ {W : Type 0} (pending : W → List Pending) where
 
   -- an arm or a task behind is over with the value
   pub record PartOver (x : Val) (r : Went) (v : View) (t : Tasks W) (u : View) (s : Tasks W) : Type 0 where
-    pub meets : (a : Aside) (w : Who) (o : World) → Lone a w o v t → w.role ≡ part → Meets pending (role_ends part w x o (state_of a v)) a.past r u s
+    pub meets : (a : Aside) (w : Who) (o : World) → Lone a w o v t → w.role ≡ part →
+        Meets pending (role_ends part w x o (state_of a v)) a.past r u s
 
   pub record PartGone (up : Up) (x : Val) (r : Went) (v : View) (t : Tasks W) (u : View) (s : Tasks W) : Type 0 where
-    pub meets : (a : Aside) (w : Who) (o : World) → Gone up a w o v t → Meets pending (part_ends w.up w.number x o.pre o.post o.ups o.trees (state_of a v)) a.past r u s
+    pub meets : (a : Aside) (w : Who) (o : World) → Gone up a w o v t →
+        Meets pending (part_ends w.up w.number x o.pre o.post o.ups o.trees (state_of a v)) a.past r u s
 
   pub record Joined (id number : ℕ) (x : Val) (r : Went) (v : View) (t : Tasks W) (u : View) (s : Tasks W) : Type 0 where
-    pub meets : (a : Aside) (w : Who) (o : World) → Joining id number a w o v t → Meets pending (climbs w.up w.number x o.pre o.post o.trees (state_of a v)) a.past r u s
+    pub meets : (a : Aside) (w : Who) (o : World) → Joining id number a w o v t →
+        Meets pending (climbs w.up w.number x o.pre o.post o.trees (state_of a v)) a.past r u s
 
   -- Main or a spawned task is over with the value
   pub record RootOver (x : Val) (r : Went) (v : View) (t : Tasks W) (u : View) (s : Tasks W) : Type 0 where
-    pub meets : (a : Aside) (w : Who) (entry : Option ℕ) (o : World) → Lone a w o v t → w.role ≡ root entry → Meets pending (role_ends (root entry) w x o (with_result entry x (state_of a v))) a.past r u s
+    pub meets : (a : Aside) (w : Who) (entry : Option ℕ) (o : World) → Lone a w o v t → w.role ≡ root entry →
+        Meets pending (role_ends (root entry) w x o (with_result entry x (state_of a v))) a.past r u s
 
   pub record RootLeaves (r : Went) (v : View) (t : Tasks W) (u : View) (s : Tasks W) : Type 0 where
-    pub meets : (a : Aside) (w : Who) (entry : Option ℕ) (o : World) → Off a w o v t → w.role ≡ root entry → Meets pending (root_ends o.pre o.post o.ups o.trees (state_of a v)) a.past r u s
+    pub meets : (a : Aside) (w : Who) (entry : Option ℕ) (o : World) → Off a w o v t → w.role ≡ root entry →
+        Meets pending (root_ends o.pre o.post o.ups o.trees (state_of a v)) a.past r u s
 
   pub record RootGone (up : Up) (r : Went) (v : View) (t : Tasks W) (u : View) (s : Tasks W) : Type 0 where
-    pub meets : (a : Aside) (w : Who) (entry : Option ℕ) (o : World) → Gone up a w o v t → w.role ≡ root entry → Meets pending (root_ends o.pre o.post o.ups o.trees (state_of a v)) a.past r u s
+    pub meets : (a : Aside) (w : Who) (entry : Option ℕ) (o : World) → Gone up a w o v t → w.role ≡ root entry →
+        Meets pending (root_ends o.pre o.post o.ups o.trees (state_of a v)) a.past r u s

@@ -49,7 +49,8 @@ fn run_at(arms: &[Arm], number: u64) -> Option<usize>
 
 /// The arm has given a value, where there is one. Takes no memory.
 pub fn give_arm(arms: &mut Vec<Arm>, number: u64, value: Value)
-    ensures { map part_of arms.new.items ≡ with_did number (val_of value) (map part_of arms.old.items) }
+    ensures { map part_of arms.new.items ≡
+        with_did number (val_of value) (map part_of arms.old.items) }
 {
     let Some(at) = run_at(arms.as_slice(), number) else {
         return;

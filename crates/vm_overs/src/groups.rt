@@ -20,7 +20,8 @@ fn rest_on<H: Heap, W: Waits>(
     went: Went,
 ) -> Result<Went, Memory>
     requires { IdleAt W.pending went (view_of H.state run.old) tasks.old }
-    ensures { IfOk result (λ r. RestsOn W.pending went r (view_of H.state run.old) tasks.old (view_of H.state run.new) tasks.new) }
+    ensures { IfOk result (λ r. RestsOn W.pending went r (view_of H.state run.old) tasks.old
+        (view_of H.state run.new) tasks.new) }
 {
     match went {
         Went::Down => rest(run, tasks),
@@ -35,7 +36,8 @@ pub fn settle_on<H: Heap, W: Waits>(
     begins: Begins,
 ) -> Result<Went, Memory>
     requires { Hand W.pending begins (view_of H.state run.old) tasks.old }
-    ensures { IfOk result (λ r. SettlesOn W.pending begins r (view_of H.state run.old) tasks.old (view_of H.state run.new) tasks.new) }
+    ensures { IfOk result (λ r. SettlesOn W.pending begins r (view_of H.state run.old) tasks.old
+        (view_of H.state run.new) tasks.new) }
 {
     let went = settle(run, tasks, begins)?;
     rest_on(run, tasks, went)
@@ -49,7 +51,8 @@ pub fn arm_ends_on<H: Heap, W: Waits>(
     begins: Begins,
 ) -> Result<Went, Memory>
     requires { Hand W.pending begins (view_of H.state run.old) tasks.old }
-    ensures { IfOk result (λ r. ArmEndsOn W.pending begins r (view_of H.state run.old) tasks.old (view_of H.state run.new) tasks.new) }
+    ensures { IfOk result (λ r. ArmEndsOn W.pending begins r (view_of H.state run.old) tasks.old
+        (view_of H.state run.new) tasks.new) }
 {
     let went = arm_ended(run, tasks, begins)?;
     rest_on(run, tasks, went)

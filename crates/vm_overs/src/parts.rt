@@ -30,7 +30,8 @@ pub fn part_over<H: Heap, W: Waits>(
     value: Value,
 ) -> Result<Went, Memory>
     requires { IsLonePart W.pending (view_of H.state run.old) tasks.old }
-    ensures { IfOk result (λ r. PartOver W.pending (val_of value) r (view_of H.state run.old) tasks.old (view_of H.state run.new) tasks.new) }
+    ensures { IfOk result (λ r. PartOver W.pending (val_of value) r
+        (view_of H.state run.old) tasks.old (view_of H.state run.new) tasks.new) }
 {
     tasks.tree.is_nested();
     let number = number_of(&tasks.tree, tasks.id);
@@ -63,7 +64,8 @@ fn part_gone<H: Heap, W: Waits>(
     value: Value,
 ) -> Result<Went, Memory>
     requires { IsGone W.pending up (view_of H.state run.old) tasks.old }
-    ensures { IfOk result (λ r. PartGone W.pending up (val_of value) r (view_of H.state run.old) tasks.old (view_of H.state run.new) tasks.new) }
+    ensures { IfOk result (λ r. PartGone W.pending up (val_of value) r
+        (view_of H.state run.old) tasks.old (view_of H.state run.new) tasks.new) }
 {
     match up {
         Up::Begins(begins) => {
@@ -86,7 +88,8 @@ fn join<H: Heap, W: Waits>(
     value: Value,
 ) -> Result<Went, Memory>
     requires { IsJoining W.pending parent number (view_of H.state run.old) tasks.old }
-    ensures { IfOk result (λ r. Joined W.pending parent number (val_of value) r (view_of H.state run.old) tasks.old (view_of H.state run.new) tasks.new) }
+    ensures { IfOk result (λ r. Joined W.pending parent number (val_of value) r
+        (view_of H.state run.old) tasks.old (view_of H.state run.new) tasks.new) }
 {
     tasks.tree.is_nested();
     if !awaits_arm(&tasks.tree, parent, number) {

@@ -5,7 +5,8 @@ ghost use Rattle.verse_value.specs.View.{val_of};
 ghost use Rattle.task_tree.specs.Tasks.{IsLive, task_at};
 ghost use Rattle.vm_runner.specs.Runners.{view_of};
 ghost use Rattle.vm_tasks.specs.View.{role_of};
-ghost use Rattle.vm_overs.specs.Overs.{is_part, IsLoneRoot, IsOffRoot, IsGoneRoot, RootOver, RootLeaves, RootGone};
+ghost use Rattle.vm_overs.specs.Overs.{is_part, IsLoneRoot, IsOffRoot, IsGoneRoot, RootOver};
+ghost use Rattle.vm_overs.specs.Overs.{RootLeaves, RootGone};
 
 use sim_clock::waits::Waits;
 use task_tree::tree::TaskTree;
@@ -52,7 +53,8 @@ pub fn root_over<H: Heap, W: Waits>(
     value: Value,
 ) -> Result<Went, Memory>
     requires { IsLoneRoot W.pending (view_of H.state run.old) tasks.old }
-    ensures { IfOk result (λ r. RootOver W.pending (val_of value) r (view_of H.state run.old) tasks.old (view_of H.state run.new) tasks.new) }
+    ensures { IfOk result (λ r. RootOver W.pending (val_of value) r
+        (view_of H.state run.old) tasks.old (view_of H.state run.new) tasks.new) }
 {
     tasks.tree.is_nested();
     let root = root_of(&tasks.tree, tasks.id);
@@ -71,7 +73,8 @@ pub fn root_over<H: Heap, W: Waits>(
 /// is over.
 fn leave_root<H: Heap, W: Waits>(run: &mut Runner<H>, tasks: &mut Tasks<W>) -> Result<Went, Memory>
     requires { IsOffRoot W.pending (view_of H.state run.old) tasks.old }
-    ensures { IfOk result (λ r. RootLeaves W.pending r (view_of H.state run.old) tasks.old (view_of H.state run.new) tasks.new) }
+    ensures { IfOk result (λ r. RootLeaves W.pending r (view_of H.state run.old) tasks.old
+        (view_of H.state run.new) tasks.new) }
 {
     match tasks.ups.pop() {
         Some(up) => root_gone(run, tasks, up),
@@ -86,7 +89,8 @@ fn root_gone<H: Heap, W: Waits>(
     up: Up,
 ) -> Result<Went, Memory>
     requires { IsGoneRoot W.pending up (view_of H.state run.old) tasks.old }
-    ensures { IfOk result (λ r. RootGone W.pending up r (view_of H.state run.old) tasks.old (view_of H.state run.new) tasks.new) }
+    ensures { IfOk result (λ r. RootGone W.pending up r (view_of H.state run.old) tasks.old
+        (view_of H.state run.new) tasks.new) }
 {
     match up {
         Up::Spawning(id, thread, entry) => resume(run, tasks, id, thread, Value::Task(entry)),

@@ -27,7 +27,8 @@ module _ {W : Type 0} (pending : W → List Pending) where
 
   -- from wherever no task runs
   pub record RestsTo (r : Went) (v : View) (t : Tasks W) (u : View) (s : Tasks W) : Type 0 where
-    pub rests : (a : Aside) (o : World) → Standing pending [] a o v t → Bare v → Meets pending (rested o.pre o.post o.ups o.trees (state_of a v)) a.past r u s
+    pub rests : (a : Aside) (o : World) → Standing pending [] a o v t → Bare v →
+        Meets pending (rested o.pre o.post o.ups o.trees (state_of a v)) a.past r u s
 
   -- with this one still above
   pub record Above (x : Up) (v : View) (t : Tasks W) : Type 0 where
@@ -36,7 +37,9 @@ module _ {W : Type 0} (pending : W → List Pending) where
     pub idle : Idle v (record t { ups = ups })
 
   pub record GoesUp (x : Up) (r : Went) (v : View) (t : Tasks W) (u : View) (s : Tasks W) : Type 0 where
-    pub goes : (ups : Vec Up) (a : Aside) (o : World) → ups_of ups.items ≡ x ∷ ups_of t.ups.items → Standing pending [] a o v (record t { ups = ups }) → Bare v → Moves pending (rested o.pre o.post o.ups o.trees (state_of a v)) a.past r u s
+    pub goes : (ups : Vec Up) (a : Aside) (o : World) → ups_of ups.items ≡ x ∷ ups_of t.ups.items →
+        Standing pending [] a o v (record t { ups = ups }) → Bare v →
+        Moves pending (rested o.pre o.post o.ups o.trees (state_of a v)) a.past r u s
 
   -- the task of a group, one of whose arms is suspended
   pub record AboveGroup (b : Begins) (v : View) (t : Tasks W) : Type 0 where
@@ -48,5 +51,8 @@ module _ {W : Type 0} (pending : W → List Pending) where
     pub suspended : Suspended who.number b.thread
 
   pub record GroupUp (b : Begins) (r : Went) (v : View) (t : Tasks W) (u : View) (s : Tasks W) : Type 0 where
-    pub goes : (a : Aside) (w : Who) (o : World) → Standing pending (held b.id w (Some (map part_of b.arms.items ++ runs b.number ∷ [])) ∷ []) a o v t → Bare v → Suspended w.number b.thread →
-        Moves pending (next_arm (kind_of b.kind) b.place (map part_of b.arms.items ++ runs b.number ∷ []) (reverse b.labels.items) (threaded w b.thread) o.pre o.post o.ups o.trees (state_of a v) (on_rest o (state_of a v))) a.past r u s
+    pub goes : (a : Aside) (w : Who) (o : World) →
+        Standing pending (held b.id w (Some (map part_of b.arms.items ++ runs b.number ∷ [])) ∷ []) a o v t → Bare v →
+        Suspended w.number b.thread →
+        Moves pending (next_arm (kind_of b.kind) b.place (map part_of b.arms.items ++ runs b.number ∷ []) (reverse b.labels.items)
+        (threaded w b.thread) o.pre o.post o.ups o.trees (state_of a v) (on_rest o (state_of a v))) a.past r u s

@@ -29,7 +29,8 @@ pub fn suspend<H: Heap, W: Waits>(
     requires there { Goes W.pending (view_of H.state run.old) tasks.old }
     requires free { all_free (frames_with run.old.thread []) ≡ true }
     requires untold { IsOpen kind tasks.old }
-    ensures { IfOk result (λ r. Comes W.pending (suspending (cause_of kind)) r (view_of H.state run.old) tasks.old (view_of H.state run.new) tasks.new) }
+    ensures { IfOk result (λ r. Comes W.pending (suspending (cause_of kind)) r
+        (view_of H.state run.old) tasks.old (view_of H.state run.new) tasks.new) }
 {
     let Some(next) = tasks.next.checked_add(1) else {
         return Err(Memory);

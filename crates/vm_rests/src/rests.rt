@@ -19,7 +19,8 @@ use vm_world::tasks::{Begins, Tasks, Up, Went};
 /// stands at its group the one above it; where there is none the turn is over.
 pub fn rest<H: Heap, W: Waits>(run: &mut Runner<H>, tasks: &mut Tasks<W>) -> Result<Went, Memory>
     requires { Idle W.pending (view_of H.state run.old) tasks.old }
-    ensures { IfOk result (λ r. RestsTo W.pending r (view_of H.state run.old) tasks.old (view_of H.state run.new) tasks.new) }
+    ensures { IfOk result (λ r. RestsTo W.pending r (view_of H.state run.old) tasks.old
+        (view_of H.state run.new) tasks.new) }
 {
     'above: while let Some(up) = tasks.ups.pop() {
         match go_up(run, tasks, up)? {
@@ -37,7 +38,8 @@ fn go_up<H: Heap, W: Waits>(
     up: Up,
 ) -> Result<Went, Memory>
     requires { Above W.pending up (view_of H.state run.old) tasks.old }
-    ensures goes { IfOk result (λ r. GoesUp W.pending up r (view_of H.state run.old) tasks.old (view_of H.state run.new) tasks.new) }
+    ensures goes { IfOk result (λ r. GoesUp W.pending up r (view_of H.state run.old) tasks.old
+        (view_of H.state run.new) tasks.new) }
     ensures above { IfOk result (λ r. r ≡ Down → tasks.new.ups ≡ tasks.old.ups) }
 {
     match up {
@@ -55,7 +57,8 @@ fn go_arms<H: Heap, W: Waits>(
     begins: Begins,
 ) -> Result<Went, Memory>
     requires { AboveGroup W.pending begins (view_of H.state run.old) tasks.old }
-    ensures goes { IfOk result (λ r. GroupUp W.pending begins r (view_of H.state run.old) tasks.old (view_of H.state run.new) tasks.new) }
+    ensures goes { IfOk result (λ r. GroupUp W.pending begins r (view_of H.state run.old) tasks.old
+        (view_of H.state run.new) tasks.new) }
     ensures above { IfOk result (λ r. r ≡ Down → tasks.new.ups ≡ tasks.old.ups) }
 {
     let mut begins = begins;

@@ -52,7 +52,8 @@ pub fn await_task<H: Heap, W: Waits>(
 ) -> Result<Went, Memory>
     requires there { Goes W.pending (view_of H.state run.old) tasks.old }
     requires free { all_free (frames_with run.old.thread []) ≡ true }
-    ensures { IfOk result (λ r. Comes W.pending (awaiting entry) r (view_of H.state run.old) tasks.old (view_of H.state run.new) tasks.new) }
+    ensures { IfOk result (λ r. Comes W.pending (awaiting entry) r
+        (view_of H.state run.old) tasks.old (view_of H.state run.new) tasks.new) }
 {
     let known = result_of(tasks.alloc, &tasks.results, entry as usize)?;
     match known {

@@ -1,5 +1,6 @@
 -- Lines that are drained.
-use Rattle.std.proofs.Common.{◌≡◌, ◌+◌, ℕ, suc, List, [], ◌∷◌, ◌++◌, length, map, drop, Option, Some, None, refl, sym, ap, subst, ◌∙◌, append_assoc, length-append, arith}
+use Rattle.std.proofs.Common.{◌≡◌, ◌+◌, ℕ, suc, List, [], ◌∷◌, ◌++◌, length, map, drop, Option, Some, None, refl, sym, ap, subst, ◌∙◌}
+use Rattle.std.proofs.Common.{append_assoc, length-append, arith}
 use Rattle.std.specs.Prelude.{ℤ, IfSome}
 use Rattle.std.proofs.lemmas.List.{append-nil, drop_all}
 use Rattle.verse_base.specs.TraceLine.{line_bytes}
@@ -34,11 +35,14 @@ kept_printed (k ∷ ks) = ap (λ bs. line_bytes k.0 k.1 ++ bs) (kept_printed ks)
 printed_both : (xs ys : List Line) → printed (xs ++ ys) ≡ printed xs ++ printed ys
 printed_both [] ys = refl
 printed_both (x ∷ xs) ys =
-    ap (λ bs. line_bytes x.moment x.bytes ++ bs) (printed_both xs ys) ∙ sym (append_assoc (line_bytes x.moment x.bytes) (printed xs) (printed ys))
+    ap (λ bs. line_bytes x.moment x.bytes ++ bs) (printed_both xs ys) ∙
+    sym (append_assoc (line_bytes x.moment x.bytes) (printed xs) (printed ys))
 
-size_is : (past : List Line) (ks : List (ℕ × List ℕ)) → length (printed (past ++ map line_of ks)) ≡ length (printed past) + length (trace.printed ks)
+size_is : (past : List Line) (ks : List (ℕ × List ℕ)) →
+    length (printed (past ++ map line_of ks)) ≡ length (printed past) + length (trace.printed ks)
 size_is past ks =
-    ap length (printed_both past (map line_of ks)) ∙ (length-append (printed past) (printed (map line_of ks)) ∙ ap (λ bs. length (printed past) + length bs) (kept_printed ks))
+    ap length (printed_both past (map line_of ks)) ∙
+    (length-append (printed past) (printed (map line_of ks)) ∙ ap (λ bs. length (printed past) + length bs) (kept_printed ks))
 
 -- where no mark is open
 kept_gone : (t : Trace) → t.marks ≡ [] → (drained t).kept ≡ []
@@ -63,20 +67,23 @@ module _ {H W : Type 0} (state : H → Kept) (pending : W → List Pending) wher
   no_marks (broken e s) past m h = h.marks
   no_marks (amiss s) past m h = absurd h
 
-  all_lines : (stage : Stage Forest) (past : List Line) (m : Vm H W) → Holds state pending stage past m → (state_in stage).memory.trace ≡ past ++ map line_of m.run.trace.kept
+  all_lines : (stage : Stage Forest) (past : List Line) (m : Vm H W) → Holds state pending stage past m →
+      (state_in stage).memory.trace ≡ past ++ map line_of m.run.trace.kept
   all_lines (going s trees) past m h = h.shows.trace
   all_lines (closed e s trees) past m h = sym (ap (λ (r : Run). r.trace) (counted e s (length (tree_waits trees))).is) ∙ h.end.trace
   all_lines (broken e s) past m h = h.trace
   all_lines (amiss s) past m h = absurd h
 
   nothing_more : (all : List Line) (t u : Trace) → t.marks ≡ [] → u ≡ drained t → all ≡ all ++ map line_of u.kept
-  nothing_more all t u none e = sym (append-nil all) ∙ ap (λ ks. all ++ map line_of ks) (sym (ap (λ (t : Trace). t.kept) e ∙ kept_gone t none))
+  nothing_more all t u none e = sym (append-nil all) ∙
+      ap (λ ks. all ++ map line_of ks) (sym (ap (λ (t : Trace). t.kept) e ∙ kept_gone t none))
 
   same_live : (live : Option ℕ) (m : Vm H W) (t : Trace) → LiveIs state pending live m → LiveIs state pending live (with_trace m t)
   same_live None m t h = tt
   same_live (Some n) m t h = h
 
-  drained_end : (r : Run) (past all : List Line) (m : Vm H W) (t : Trace) → t ≡ drained m.run.trace → all ≡ past ++ map line_of m.run.trace.kept → IsEnd state pending r past m → IsEnd state pending r all (with_trace m t)
+  drained_end : (r : Run) (past all : List Line) (m : Vm H W) (t : Trace) → t ≡ drained m.run.trace →
+      all ≡ past ++ map line_of m.run.trace.kept → IsEnd state pending r past m → IsEnd state pending r all (with_trace m t)
   drained_end r past all m t e is h = record {
     ended = h.ended;
     trace = h.trace ∙ (sym is ∙ nothing_more all m.run.trace t h.marks e);
@@ -91,7 +98,8 @@ module _ {H W : Type 0} (state : H → Kept) (pending : W → List Pending) wher
   abbrev with_lines : State → List Line → State
   with_lines s ls = record s { memory = record s.memory { trace = ls } }
 
-  drained_rests : (s : State) (trees : Forest) (past : List Line) (m : Vm H W) (t : Trace) → t ≡ drained m.run.trace → IsResting state pending s trees past m → IsResting state pending s trees s.memory.trace (with_trace m t)
+  drained_rests : (s : State) (trees : Forest) (past : List Line) (m : Vm H W) (t : Trace) → t ≡ drained m.run.trace →
+      IsResting state pending s trees past m → IsResting state pending s trees s.memory.trace (with_trace m t)
   drained_rests s trees past m t e h =
       let all = s.memory.trace in
       let a : Aside = record h.aside { past = all } in
@@ -108,23 +116,33 @@ module _ {H W : Type 0} (state : H → Kept) (pending : W → List Pending) wher
         is = h.is ∙ same;
         resting = record {
           clock = record {
-            past = ap (λ ls. length (printed ls)) (sym lines) ∙ (size_is h.aside.past m.run.trace.kept ∙ (ap (λ n. n + length (trace.printed m.run.trace.kept)) k.clock.past ∙ (sym (bytes_gone m.run.trace none) ∙ sym (ap (λ (t : Trace). t.bytes) e))));
+            past = ap (λ ls. length (printed ls)) (sym lines) ∙
+                (size_is h.aside.past m.run.trace.kept ∙
+                (ap (λ n. n + length (trace.printed m.run.trace.kept)) k.clock.past ∙
+                (sym (bytes_gone m.run.trace none) ∙ sym (ap (λ (t : Trace). t.bytes) e))));
             next = k.clock.next;
             results = k.clock.results;
             signals = k.clock.signals;
-            timed = same_timed (sleeping (slot_of frames_in) m.tasks.tree) (pending m.tasks.gone.waits) (state_of h.aside v) (state_of a u) refl refl refl k.clock.timed;
+            timed = same_timed (sleeping (slot_of frames_in) m.tasks.tree) (pending m.tasks.gone.waits) (state_of h.aside v)
+                (state_of a u) refl refl refl k.clock.timed;
             fine = k.clock.fine;
             untold = k.clock.untold;
           };
           rests = k.rests;
-          bare = record { copies = k.bare.copies; marks = ap (λ (t : Trace). t.marks) e ∙ marks_gone m.run.trace none; steps = k.bare.steps };
+          bare = record {
+            copies = k.bare.copies;
+            marks = ap (λ (t : Trace). t.marks) e ∙ marks_gone m.run.trace none;
+            steps =
+                k.bare.steps;
+          };
           no_ups = k.no_ups;
           still = k.still;
           none = k.none;
         };
       }
 
-  drained_shows : (s : State) (past : List Line) (m : Vm H W) (t : Trace) → t ≡ drained m.run.trace → Shows s past (view_of state m.run) → Shows s s.memory.trace (view_of state (record m.run { trace = t }))
+  drained_shows : (s : State) (past : List Line) (m : Vm H W) (t : Trace) → t ≡ drained m.run.trace → Shows s past (view_of state m.run) →
+      Shows s s.memory.trace (view_of state (record m.run { trace = t }))
   drained_shows s past m t e h = record {
     trace = nothing_more s.memory.trace m.run.trace t h.marks e;
     store = h.store;
@@ -134,8 +152,10 @@ module _ {H W : Type 0} (state : H → Kept) (pending : W → List Pending) wher
     marks = ap (λ (t : Trace). t.marks) e ∙ marks_gone m.run.trace h.marks;
   }
 
-  drained_holds : (stage : Stage Forest) (past : List Line) (m : Vm H W) (t : Trace) → t ≡ drained m.run.trace → Holds state pending stage past m → Holds state pending stage (state_in stage).memory.trace (with_trace m t)
-  drained_holds (going s trees) past m t e h = record { between = h.between; rests = drained_rests s trees past m t e h.rests; shows = drained_shows s past m t e h.shows }
+  drained_holds : (stage : Stage Forest) (past : List Line) (m : Vm H W) (t : Trace) → t ≡ drained m.run.trace →
+      Holds state pending stage past m → Holds state pending stage (state_in stage).memory.trace (with_trace m t)
+  drained_holds (going s trees) past m t e h =
+      record { between = h.between; rests = drained_rests s trees past m t e h.rests; shows = drained_shows s past m t e h.shows }
   drained_holds (closed f s trees) past m t e h = record {
     rests = drained_rests s trees past m t e h.rests;
     end = drained_end (run_closed f s (length (tree_waits trees))) past s.memory.trace m t e (all_lines (closed f s trees) past m h) h.end;
@@ -145,17 +165,34 @@ module _ {H W : Type 0} (state : H → Kept) (pending : W → List Pending) wher
 
   module _ (c : Code) (ns : List ℤ) (steps until k : ℕ) (past : List Line) (m : Vm H W) where
     same_bound : (t : Trace) → IsBound ns steps until m → IsBound ns steps until (with_trace m t)
-    same_bound t b = record { steps_are = b.steps_are; until_is = b.until_is; few_inputs = b.few_inputs; few_steps = b.few_steps; near = b.near }
+    same_bound t b = record {
+      steps_are = b.steps_are;
+      until_is = b.until_is;
+      few_inputs = b.few_inputs;
+      few_steps = b.few_steps;
+      near =
+          b.near;
+    }
 
-    still_over : (t : Trace) (o : Option Ending) → t ≡ drained m.run.trace → lines_after c ns steps until k ≡ past ++ map line_of m.run.trace.kept → IfSome o (λ e. (e ≡ (mach c ns steps until).ending) × IsEnd state pending (mach c ns steps until) past m) →
-        IfSome o (λ e. (e ≡ (mach c ns steps until).ending) × IsEnd state pending (mach c ns steps until) (lines_after c ns steps until k) (with_trace m t))
+    still_over : (t : Trace) (o : Option Ending) → t ≡ drained m.run.trace →
+        lines_after c ns steps until k ≡ past ++ map line_of m.run.trace.kept →
+        IfSome o (λ e. (e ≡ (mach c ns steps until).ending) × IsEnd state pending (mach c ns steps until) past m) →
+        IfSome o (λ e. (e ≡ (mach c ns steps until).ending) × IsEnd state pending (mach c ns steps until) (lines_after c ns steps until k)
+        (with_trace m t))
     still_over t None e is h = tt
     still_over t (Some f) e is h = (h.0, drained_end (mach c ns steps until) past (lines_after c ns steps until k) m t e is h.1)
 
-    pub drained_at : (o : Option Ending) (t : Trace) → t ≡ drained m.run.trace → Turned state pending c ns steps until k past o m → At state pending c ns steps until (suc k) (lines_after c ns steps until k) (with_trace m t)
-    drained_at o t e h = record { bound = same_bound t h.at.bound; holds = drained_holds (mach_after c ns steps until k) past m t e h.at.holds }
+    pub drained_at : (o : Option Ending) (t : Trace) → t ≡ drained m.run.trace → Turned state pending c ns steps until k past o m →
+        At state pending c ns steps until (suc k) (lines_after c ns steps until k) (with_trace m t)
+    drained_at o t e h = record {
+      bound = same_bound t h.at.bound;
+      holds =
+          drained_holds (mach_after c ns steps until k) past m t e h.at.holds;
+    }
 
-    pub turned_to : (o : Option Ending) (t : Trace) (old new : Option (List ℕ)) → t ≡ drained m.run.trace → new ≡ with_more old (trace.printed (outside m.run.trace.kept m.run.trace.marks)) → Turned state pending c ns steps until k past o m →
+    pub turned_to : (o : Option Ending) (t : Trace) (old new : Option (List ℕ)) → t ≡ drained m.run.trace →
+        new ≡ with_more old (trace.printed (outside m.run.trace.kept m.run.trace.marks)) →
+        Turned state pending c ns steps until k past o m →
         TurnedTo state pending c ns steps until k past o old new (with_trace m t)
     turned_to o t old new e took h =
         let all = all_lines (mach_after c ns steps until k) past m h.at.holds in
@@ -168,16 +205,21 @@ module _ {H W : Type 0} (state : H → Kept) (pending : W → List Pending) wher
           took = record {
             more = map line_of m.run.trace.kept;
             all_are = all;
-            taken = took ∙ ap (λ bs. with_more old bs) (outside_printed m.run.trace (no_marks (mach_after c ns steps until k) past m h.at.holds));
+            taken = took ∙ ap (λ bs. with_more old bs)
+                (outside_printed m.run.trace (no_marks (mach_after c ns steps until k) past m h.at.holds));
           };
         }
 
-    pub took_part : (o : Option Ending) (old new : Option (List ℕ)) → TookPrefix old (trace.printed (outside m.run.trace.kept m.run.trace.marks)) new → Turned state pending c ns steps until k past o m → TookPart past (lines_after c ns steps until k) old new
+    pub took_part : (o : Option Ending) (old new : Option (List ℕ)) →
+        TookPrefix old (trace.printed (outside m.run.trace.kept m.run.trace.marks)) new → Turned state pending c ns steps until k past o m →
+        TookPart past (lines_after c ns steps until k) old new
     took_part o old new took h = record {
       more = map line_of m.run.trace.kept;
       all_are = all_lines (mach_after c ns steps until k) past m h.at.holds;
-      taken = subst (λ bs. TookPrefix old bs new) (outside_printed m.run.trace (no_marks (mach_after c ns steps until k) past m h.at.holds)) took;
+      taken = subst (λ bs. TookPrefix old bs new) (outside_printed m.run.trace (no_marks (mach_after c ns steps until k) past m h.at.holds))
+          took;
     }
 
-    pub none_kept : (o : Option Ending) (t : Trace) → t ≡ drained m.run.trace → Turned state pending c ns steps until k past o m → t.kept ≡ []
+    pub none_kept : (o : Option Ending) (t : Trace) → t ≡ drained m.run.trace → Turned state pending c ns steps until k past o m →
+        t.kept ≡ []
     none_kept o t e h = ap (λ (t : Trace). t.kept) e ∙ kept_gone m.run.trace (no_marks (mach_after c ns steps until k) past m h.at.holds)

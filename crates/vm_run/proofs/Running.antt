@@ -20,7 +20,8 @@ module _ {H W : Type 0} (state : H → Kept) (pending : W → List Pending) (c :
   -- after so many calls that found no ending
   pub record Runs (n : ℕ) (old m : Vm H W) : Type 0 where
     pub belongs : Belongs state pending c m
-    pub at : (ns : List ℤ) (steps until k : ℕ) (past : List Line) → At state pending c ns steps until k past old → At state pending c ns steps until (k + n) past m
+    pub at : (ns : List ℤ) (steps until k : ℕ) (past : List Line) → At state pending c ns steps until k past old →
+        At state pending c ns steps until (k + n) past m
     pub going : 0 < n → m.phase ≡ phase.Between
     pub lost : old.phase ≡ phase.Lost → m.phase ≡ phase.Lost
 
@@ -34,7 +35,8 @@ module _ {H W : Type 0} (state : H → Kept) (pending : W → List Pending) (c :
 
   -- what a call answers, wherever the machine stands
   abbrev pub TurnsInto : Vm H W → Option Ending → Vm H W → Type 0
-  TurnsInto m o n = (ns : List ℤ) (steps until k : ℕ) (past : List Line) → At state pending c ns steps until k past m → Turned state pending c ns steps until k past o n
+  TurnsInto m o n = (ns : List ℤ) (steps until k : ℕ) (past : List Line) → At state pending c ns steps until k past m →
+      Turned state pending c ns steps until k past o n
 
   between : (m n : Vm H W) → Belongs state pending c m → TurnsInto m None n → (m.phase ≡ phase.Lost → ⊥) → n.phase ≡ phase.Between
   between m n (stands ns steps until k past at) turns not =
@@ -44,10 +46,12 @@ module _ {H W : Type 0} (state : H → Kept) (pending : W → List Pending) (c :
       none t = answers state pending (mach_after c ns steps until k) past n t.at.holds ∙ sym t.answer
   between m n (lost is) turns not = absurd (not is)
 
-  pub one_more : (k : ℕ) (old m n : Vm H W) → Runs k old m → TurnsInto m None n → Belongs state pending c n → (m.phase ≡ phase.Lost → ⊥) → Runs (k + 1) old n
+  pub one_more : (k : ℕ) (old m n : Vm H W) → Runs k old m → TurnsInto m None n → Belongs state pending c n → (m.phase ≡ phase.Lost → ⊥) →
+      Runs (k + 1) old n
   one_more k old m n r turns belongs not = record {
     belongs = belongs;
-    at = λ ns steps until j past at. subst (λ i. At state pending c ns steps until i past n) (omega arith) (turns ns steps until (j + k) past (r.at ns steps until j past at)).at;
+    at = λ ns steps until j past at. subst (λ i. At state pending c ns steps until i past n) (omega arith)
+        (turns ns steps until (j + k) past (r.at ns steps until j past at)).at;
     going = λ less. between m n r.belongs turns not;
     lost = λ is. absurd (not (r.lost is));
   }
@@ -57,19 +61,29 @@ module _ {H W : Type 0} (state : H → Kept) (pending : W → List Pending) (c :
       let far = r.at ns steps until k past at in
       let few = at.bound.few_steps in
       let index : k + 100000002 ≡ suc (suc steps + (k + 100000000 - steps)) = omega (arith, few) in
-      let h : HoldsAfter state pending c ns steps until (suc (suc steps + (k + 100000000 - steps))) past m = subst (λ i. HoldsAfter state pending c ns steps until i past m) index far.holds in
-      goes_on state pending (mach_after c ns steps until (suc steps + (k + 100000000 - steps))) past m h (r.going (omega arith)) (always_over c ns steps until ends stay valid (k + 100000000 - steps))
-  never_so_many ends stay valid old m (lost is) r = let a = r.lost is in let b : m.phase ≡ phase.Between = r.going (omega arith) in absurd (cc)
+      let h : HoldsAfter state pending c ns steps until (suc (suc steps + (k + 100000000 - steps))) past m =
+      subst (λ i. HoldsAfter state pending c ns steps until i past m) index far.holds in
+      goes_on state pending (mach_after c ns steps until (suc steps + (k + 100000000 - steps))) past m h (r.going (omega arith))
+      (always_over c ns steps until ends stay valid (k + 100000000 - steps))
+  never_so_many ends stay valid old m (lost is) r = let a = r.lost is in let b : m.phase ≡ phase.Between = r.going (omega arith) in
+      absurd (cc)
 
-  ran_by : RunsEnd → StaysOver → Valid c → (ns : List ℤ) (steps until k : ℕ) (past : List Line) (e : Ending) (n : Vm H W) → Turned state pending c ns steps until k past (Some e) n → Ran state pending c ns steps until past e n
+  ran_by : RunsEnd → StaysOver → Valid c → (ns : List ℤ) (steps until k : ℕ) (past : List Line) (e : Ending) (n : Vm H W) →
+      Turned state pending c ns steps until k past (Some e) n → Ran state pending c ns steps until past e n
   ran_by ends stay valid ns steps until k past e n t =
       let o = over_ends state pending (mach_after c ns steps until k) past n e t.at.holds (sym t.answer) in
       record {
-        at = record { bound = t.at.bound; holds = subst (λ z. Holds state pending z past n) (sym (over_same c ns steps until ends stay valid k o.0)) t.at.holds };
+        at = record {
+          bound = t.at.bound;
+          holds =
+              subst (λ z. Holds state pending z past n) (sym (over_same c ns steps until ends stay valid k o.0)) t.at.holds;
+        };
         answer = t.over.0;
         over = t.over.1;
       }
 
-  pub ran : RunsEnd → StaysOver → Valid c → (j : ℕ) (old m n : Vm H W) (e : Ending) → Runs j old m → TurnsInto m (Some e) n → (ns : List ℤ) (steps until k : ℕ) (past : List Line) → At state pending c ns steps until k past old → Ran state pending c ns steps until past e n
+  pub ran : RunsEnd → StaysOver → Valid c → (j : ℕ) (old m n : Vm H W) (e : Ending) → Runs j old m → TurnsInto m (Some e) n →
+      (ns : List ℤ) (steps until k : ℕ) (past : List Line) → At state pending c ns steps until k past old →
+      Ran state pending c ns steps until past e n
   ran ends stay valid j old m n e r turns ns steps until k past at =
       ran_by ends stay valid ns steps until (k + j) past e n (turns ns steps until (k + j) past (r.at ns steps until k past at))

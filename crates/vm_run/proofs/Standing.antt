@@ -1,5 +1,6 @@
 -- From one call to the next.
-use Rattle.std.proofs.Common.{◌≡◌, ◌≢◌, ◌≤◌, ◌+◌, ◌-◌, ◌⊎◌, inl, inr, ℕ, zero, suc, List, [], ◌++◌, length, map, Option, Some, None, refl, sym, ap, subst, ◌∙◌, arith}
+use Rattle.std.proofs.Common.{◌≡◌, ◌≢◌, ◌≤◌, ◌+◌, ◌-◌, ◌⊎◌, inl, inr, ℕ, zero, suc, List, [], ◌++◌, length, map, Option, Some, None, refl}
+use Rattle.std.proofs.Common.{sym, ap, subst, ◌∙◌, arith}
 use Rattle.std.specs.Prelude.{ℤ, IfSome}
 use Rattle.verse_code.specs.declared.codes.Code.{Code}
 use Rattle.verse_code.specs.Validity.{Valid}
@@ -49,12 +50,14 @@ either_way : (n m : ℕ) → (n + (m - n) ≡ m) ⊎ (m + (n - m) ≡ n)
 either_way n m = grind arith
 
 module _ (c : Code) (ns : List ℤ) (steps until : ℕ) where
-  pub over_same : RunsEnd → StaysOver → Valid c → (k : ℕ) → IsOver (mach_after c ns steps until k) → mach_after c ns steps until (suc steps) ≡ mach_after c ns steps until k
+  pub over_same : RunsEnd → StaysOver → Valid c → (k : ℕ) → IsOver (mach_after c ns steps until k) →
+      mach_after c ns steps until (suc steps) ≡ mach_after c ns steps until k
   over_same ends stay valid k over =
       elim (either_way k (suc steps)) [
         | inl e ↦ ap (λ n. mach_after c ns steps until n) (sym e) ∙ stay c ns steps until k (suc steps - k) over
         | inr e ↦
-            sym (stay c ns steps until (suc steps) (k - suc steps) (ends c ns steps until valid).over) ∙ ap (λ n. mach_after c ns steps until n) e
+            sym (stay c ns steps until (suc steps) (k - suc steps) (ends c ns steps until valid).over) ∙
+            ap (λ n. mach_after c ns steps until n) e
       ]
 
   pub always_over : RunsEnd → StaysOver → Valid c → (j : ℕ) → IsOver (mach_after c ns steps until (suc steps + j))
@@ -75,7 +78,8 @@ counted ending.Steps s n = record { live = None; is = refl; counts = inl refl }
 counted (ending.Error k p) s n = record { live = Some n; is = refl; counts = inr refl }
 counted ending.Stuck s n = record { live = Some n; is = refl; counts = inr refl }
 
-pub shows_of : (a : Aside) (s : State) (past : List Line) (v : View) → a.past ≡ past → s ≡ state_of a v → v.heap.copies ≡ [] → v.trace.marks ≡ [] → Shows s past v
+pub shows_of : (a : Aside) (s : State) (past : List Line) (v : View) → a.past ≡ past → s ≡ state_of a v → v.heap.copies ≡ [] →
+    v.trace.marks ≡ [] → Shows s past v
 shows_of a s past v same is copies marks = record {
   trace = ap (λ (u : State). u.memory.trace) is ∙ ap (λ ls. ls ++ map line_of v.trace.kept) same;
   store = ap (λ (u : State). u.memory.store) is;
@@ -86,11 +90,13 @@ shows_of a s past v same is copies marks = record {
 }
 
 module _ {H W : Type 0} (state : H → Kept) (pending : W → List Pending) where
-  live_counts : (live : Option ℕ) (n : ℕ) (m : Vm H W) → (live ≡ None) ⊎ (live ≡ Some n) → n ≡ length (pending m.tasks.gone.waits) → LiveIs state pending live m
+  live_counts : (live : Option ℕ) (n : ℕ) (m : Vm H W) → (live ≡ None) ⊎ (live ≡ Some n) → n ≡ length (pending m.tasks.gone.waits) →
+      LiveIs state pending live m
   live_counts live n m (inl e) is = rw e tt
   live_counts live n m (inr e) is = rw e is
 
-  end_of : (e : Ending) (s : State) (live : Option ℕ) (past : List Line) (m : Vm H W) → m.phase ≡ phase.Ended e → Shows s past (view_of state m.run) → LiveIs state pending live m → IsEnd state pending (run s e live) past m
+  end_of : (e : Ending) (s : State) (live : Option ℕ) (past : List Line) (m : Vm H W) → m.phase ≡ phase.Ended e →
+      Shows s past (view_of state m.run) → LiveIs state pending live m → IsEnd state pending (run s e live) past m
   end_of e s live past m ended h alive = record {
     ended = ended;
     trace = h.trace;
@@ -102,13 +108,15 @@ module _ {H W : Type 0} (state : H → Kept) (pending : W → List Pending) wher
     marks = h.marks;
   }
 
-  rests_of : (s : State) (trees : Forest) (past : List Line) (m : Vm H W) → Rested pending s trees past (view_of state m.run) m.tasks → IsResting state pending s trees past m
+  rests_of : (s : State) (trees : Forest) (past : List Line) (m : Vm H W) → Rested pending s trees past (view_of state m.run) m.tasks →
+      IsResting state pending s trees past m
   rests_of s trees past m r = record { aside = r.aside; same = r.same; is = r.is; resting = r.resting }
 
   shows_rested : (s : State) (trees : Forest) (past : List Line) (v : View) (t : Tasks W) → Rested pending s trees past v t → Shows s past v
   shows_rested s trees past v t r = shows_of r.aside s past v r.same r.is r.resting.bare.copies r.resting.bare.marks
 
-  pub holds_of : (stage : Stage Forest) (past : List Line) (m : Vm H W) → Reached pending stage past m.phase (view_of state m.run) m.tasks → Holds state pending stage past m
+  pub holds_of : (stage : Stage Forest) (past : List Line) (m : Vm H W) → Reached pending stage past m.phase (view_of state m.run) m.tasks →
+      Holds state pending stage past m
   holds_of (going s trees) past m (is, r) = record {
     between = is;
     rests = rests_of s trees past m r;
@@ -118,26 +126,32 @@ module _ {H W : Type 0} (state : H → Kept) (pending : W → List Pending) wher
       let k = counted e s (length (tree_waits trees)) in
       record {
         rests = rests_of s trees past m r;
-        end = subst (λ r. IsEnd state pending r past m) (sym k.is) (end_of e s k.live past m is (shows_rested s trees past (view_of state m.run) m.tasks r) (live_counts k.live (length (tree_waits trees)) m k.counts n));
+        end = subst (λ r. IsEnd state pending r past m) (sym k.is)
+            (end_of e s k.live past m is (shows_rested s trees past (view_of state m.run) m.tasks r)
+            (live_counts k.live (length (tree_waits trees)) m k.counts n));
       }
   holds_of (broken e s) past m (is, h) = end_of e s None past m is h tt
   holds_of (amiss s) past m r = r
 
   -- what is answered
-  pub answers : (stage : Stage Forest) (past : List Line) (m : Vm H W) → Holds state pending stage past m → ended_in m.phase ≡ ending_in stage
+  pub answers : (stage : Stage Forest) (past : List Line) (m : Vm H W) → Holds state pending stage past m →
+      ended_in m.phase ≡ ending_in stage
   answers (going s trees) past m h = ap ended_in h.between
-  answers (closed e s trees) past m h = ap ended_in h.end.ended ∙ ap (λ (r : Run). Some r.ending) (counted e s (length (tree_waits trees))).is
+  answers (closed e s trees) past m h = ap ended_in h.end.ended ∙
+      ap (λ (r : Run). Some r.ending) (counted e s (length (tree_waits trees))).is
   answers (broken e s) past m h = ap ended_in h.ended
   answers (amiss s) past m h = absurd h
 
   -- it has not ended
-  pub no_ending : (stage : Stage Forest) (past : List Line) (m : Vm H W) → Holds state pending stage past m → ended_in m.phase ≡ None → m.phase ≡ phase.Between
+  pub no_ending : (stage : Stage Forest) (past : List Line) (m : Vm H W) → Holds state pending stage past m → ended_in m.phase ≡ None →
+      m.phase ≡ phase.Between
   no_ending (going s trees) past m h none = h.between
   no_ending (closed e s trees) past m h none = let k = answers (closed e s trees) past m h in absurd (cc)
   no_ending (broken e s) past m h none = let k = answers (broken e s) past m h in absurd (cc)
   no_ending (amiss s) past m h none = absurd h
 
-  pub goes_on : (stage : Stage Forest) (past : List Line) (m : Vm H W) → Holds state pending stage past m → m.phase ≡ phase.Between → IsOver stage → ⊥
+  pub goes_on : (stage : Stage Forest) (past : List Line) (m : Vm H W) → Holds state pending stage past m → m.phase ≡ phase.Between →
+      IsOver stage → ⊥
   goes_on (going s trees) past m h is over = over
   goes_on (closed e s trees) past m h is over = let k = answers (closed e s trees) past m h in let b = ap ended_in is in absurd (cc)
   goes_on (broken e s) past m h is over = let k = answers (broken e s) past m h in let b = ap ended_in is in absurd (cc)
@@ -150,9 +164,12 @@ module _ {H W : Type 0} (state : H → Kept) (pending : W → List Pending) wher
   unbegun_not (amiss s) past m h is = h
 
   -- an ending
-  pub over_ends : (stage : Stage Forest) (past : List Line) (m : Vm H W) (e : Ending) → Holds state pending stage past m → ending_in stage ≡ Some e → IsOver stage × IsEnd state pending (run_of tree_waits stage) past m × (e ≡ (run_of tree_waits stage).ending)
+  pub over_ends : (stage : Stage Forest) (past : List Line) (m : Vm H W) (e : Ending) → Holds state pending stage past m →
+      ending_in stage ≡ Some e → IsOver stage × IsEnd state pending (run_of tree_waits stage) past m ×
+      (e ≡ (run_of tree_waits stage).ending)
   over_ends (going s trees) past m e h is = absurd (cc)
-  over_ends (closed f s trees) past m e h is = (tt, h.end, sym (some_same _ _ is) ∙ sym (ap (λ (r : Run). r.ending) (counted f s (length (tree_waits trees))).is))
+  over_ends (closed f s trees) past m e h is =
+      (tt, h.end, sym (some_same _ _ is) ∙ sym (ap (λ (r : Run). r.ending) (counted f s (length (tree_waits trees))).is))
     where
       some_same : (f g : Ending) → Some f ≡ Some g → f ≡ g
       some_same f g e = cc
@@ -167,7 +184,8 @@ module _ {H W : Type 0} (state : H → Kept) (pending : W → List Pending) wher
     few_steps m (stands ns steps until k past at) not = rw at.bound.steps_are at.bound.few_steps
     few_steps m (lost is) not = absurd (not is)
 
-    pub can_begin : RunsEnd → Valid c → (m : Vm H W) → Belongs state pending c m → m.phase ≡ phase.Unbegun → CanBegin pending c (val_of m.inputs) m.bounds.steps (view_of state m.run) m.tasks
+    pub can_begin : RunsEnd → Valid c → (m : Vm H W) → Belongs state pending c m → m.phase ≡ phase.Unbegun →
+        CanBegin pending c (val_of m.inputs) m.bounds.steps (view_of state m.run) m.tasks
     can_begin ends valid m (stands ns steps until zero past at) is =
         let b = at.bound in
         let h = at.holds in
@@ -179,12 +197,16 @@ module _ {H W : Type 0} (state : H → Kept) (pending : W → List Pending) wher
           new = h.new;
           whole = (ends c ns m.bounds.steps until valid).whole 0;
         }
-    can_begin ends valid m (stands ns steps until (suc k) past at) is = absurd (unbegun_not (mach_after c ns steps until k) past m at.holds is)
+    can_begin ends valid m (stands ns steps until (suc k) past at) is =
+        absurd (unbegun_not (mach_after c ns steps until k) past m at.holds is)
     can_begin ends valid m (lost l) is = absurd (cc)
 
-    turn_there : (ns : List ℤ) (steps until k : ℕ) (past : List Line) (m : Vm H W) (stage : Stage Forest) → RunsEnd → RunBelongs → Valid c → mach_after c ns steps until k ≡ stage → m.bounds.steps ≡ steps → m.bounds.until ≡ until → Holds state pending stage past m → m.phase ≡ phase.Between → CanTurn pending c m.bounds.steps m.bounds.until (view_of state m.run) m.tasks
+    turn_there : (ns : List ℤ) (steps until k : ℕ) (past : List Line) (m : Vm H W) (stage : Stage Forest) → RunsEnd → RunBelongs → Valid c →
+        mach_after c ns steps until k ≡ stage → m.bounds.steps ≡ steps → m.bounds.until ≡ until → Holds state pending stage past m →
+        m.phase ≡ phase.Between → CanTurn pending c m.bounds.steps m.bounds.until (view_of state m.run) m.tasks
     turn_there ns steps until k past m (going s trees) ends all valid e n u h is =
-        let one : mach_after c ns steps until (suc k) ≡ turn_taken c steps until s trees = one_turn (turn_taken c steps until) k (started c ns steps) ∙ ap (next (turn_taken c steps until)) e in
+        let one : mach_after c ns steps until (suc k) ≡ turn_taken c steps until s trees =
+        one_turn (turn_taken c steps until) k (started c ns steps) ∙ ap (next (turn_taken c steps until)) e in
         let here : StageBelongs c.classes (going s trees) = subst (λ z. StageBelongs c.classes z) e (all c ns steps until k) in
         record {
           aside = h.rests.aside;
@@ -194,22 +216,27 @@ module _ {H W : Type 0} (state : H → Kept) (pending : W → List Pending) wher
           trees_belong = here.1;
           whole = subst (λ k. IsWhole (turn_taken c k m.bounds.until (state_of h.rests.aside (view_of state m.run)) trees)) (sym n)
               (subst (λ j. IsWhole (turn_taken c steps j (state_of h.rests.aside (view_of state m.run)) trees)) (sym u)
-              (subst (λ z. IsWhole (turn_taken c steps until z trees)) h.rests.is (subst IsWhole one ((ends c ns steps until valid).whole (suc k)))));
+              (subst (λ z. IsWhole (turn_taken c steps until z trees)) h.rests.is
+              (subst IsWhole one ((ends c ns steps until valid).whole (suc k)))));
         }
     turn_there ns steps until k past m (closed f s trees) ends all valid e n u h is = absurd (goes_on (closed f s trees) past m h is tt)
     turn_there ns steps until k past m (broken f s) ends all valid e n u h is = absurd (goes_on (broken f s) past m h is tt)
     turn_there ns steps until k past m (amiss s) ends all valid e n u h is = absurd h
 
-    pub can_turn : RunsEnd → RunBelongs → Valid c → (m : Vm H W) → Belongs state pending c m → m.phase ≡ phase.Between → CanTurn pending c m.bounds.steps m.bounds.until (view_of state m.run) m.tasks
+    pub can_turn : RunsEnd → RunBelongs → Valid c → (m : Vm H W) → Belongs state pending c m → m.phase ≡ phase.Between →
+        CanTurn pending c m.bounds.steps m.bounds.until (view_of state m.run) m.tasks
     can_turn ends all valid m (stands ns steps until zero past at) is = let u = at.holds.unbegun in absurd (cc)
     can_turn ends all valid m (stands ns steps until (suc k) past at) is =
-        turn_there ns steps until k past m (mach_after c ns steps until k) ends all valid refl at.bound.steps_are at.bound.until_is at.holds is
+        turn_there ns steps until k past m (mach_after c ns steps until k) ends all valid refl at.bound.steps_are at.bound.until_is at.holds
+        is
     can_turn ends all valid m (lost l) is = absurd (cc)
 
     -- what a machine holds after its start, after a turn, and after a call that finds its run over
 
-    pub began : (ns : List ℤ) (steps until k : ℕ) (past : List Line) (m n : Vm H W) (p : Phase) → At state pending c ns steps until k past m → m.phase ≡ phase.Unbegun →
-        Begins pending c ns m.bounds.steps p (view_of state n.run) n.tasks → Holds state pending (mach_after c ns steps until k) past (record n { phase = p })
+    pub began : (ns : List ℤ) (steps until k : ℕ) (past : List Line) (m n : Vm H W) (p : Phase) →
+        At state pending c ns steps until k past m → m.phase ≡ phase.Unbegun →
+        Begins pending c ns m.bounds.steps p (view_of state n.run) n.tasks →
+        Holds state pending (mach_after c ns steps until k) past (record n { phase = p })
     began ns steps until zero past m n p at is r =
         let h = at.holds in
         subst (λ ls. Holds state pending (started c ns steps) ls (record n { phase = p })) (sym h.none)
@@ -217,41 +244,56 @@ module _ {H W : Type 0} (state : H → Kept) (pending : W → List Pending) wher
         (holds_of (started c ns m.bounds.steps) [] (record n { phase = p }) r.begins))
     began ns steps until (suc k) past m n p at is r = absurd (unbegun_not (mach_after c ns steps until k) past m at.holds is)
 
-    pub inputs_at : (ns : List ℤ) (steps until k : ℕ) (past : List Line) (m : Vm H W) → At state pending c ns steps until k past m → m.phase ≡ phase.Unbegun → val_of m.inputs ≡ array (vals (map int ns))
+    pub inputs_at : (ns : List ℤ) (steps until k : ℕ) (past : List Line) (m : Vm H W) → At state pending c ns steps until k past m →
+        m.phase ≡ phase.Unbegun → val_of m.inputs ≡ array (vals (map int ns))
     inputs_at ns steps until zero past m at is = at.holds.inputs
     inputs_at ns steps until (suc k) past m at is = absurd (unbegun_not (mach_after c ns steps until k) past m at.holds is)
 
-    turned_there : (ns : List ℤ) (steps until k : ℕ) (past : List Line) (m n : Vm H W) (p : Phase) (stage : Stage Forest) → mach_after c ns steps until k ≡ stage → m.bounds.steps ≡ steps → m.bounds.until ≡ until → Holds state pending stage past m →
-        m.phase ≡ phase.Between → Turns pending c m.bounds.steps m.bounds.until p (view_of state m.run) m.tasks (view_of state n.run) n.tasks → Holds state pending (mach_after c ns steps until (suc k)) past (record n { phase = p })
+    turned_there : (ns : List ℤ) (steps until k : ℕ) (past : List Line) (m n : Vm H W) (p : Phase) (stage : Stage Forest) →
+        mach_after c ns steps until k ≡ stage → m.bounds.steps ≡ steps → m.bounds.until ≡ until → Holds state pending stage past m →
+        m.phase ≡ phase.Between → Turns pending c m.bounds.steps m.bounds.until p (view_of state m.run) m.tasks
+        (view_of state n.run) n.tasks → Holds state pending (mach_after c ns steps until (suc k)) past (record n { phase = p })
     turned_there ns steps until k past m n p (going s trees) e b u h is r =
-        let one : mach_after c ns steps until (suc k) ≡ turn_taken c steps until s trees = one_turn (turn_taken c steps until) k (started c ns steps) ∙ ap (next (turn_taken c steps until)) e in
+        let one : mach_after c ns steps until (suc k) ≡ turn_taken c steps until s trees =
+        one_turn (turn_taken c steps until) k (started c ns steps) ∙ ap (next (turn_taken c steps until)) e in
         let it = record n { phase = p } in
         subst (λ z. Holds state pending z past it) (sym one)
         (subst (λ z. Holds state pending (turn_taken c steps until z trees) past it) (sym h.rests.is)
         (subst (λ j. Holds state pending (turn_taken c steps j (state_of h.rests.aside (view_of state m.run)) trees) past it) u
         (subst (λ k. Holds state pending (turn_taken c k m.bounds.until (state_of h.rests.aside (view_of state m.run)) trees) past it) b
-        (subst (λ ls. Holds state pending (turn_taken c m.bounds.steps m.bounds.until (state_of h.rests.aside (view_of state m.run)) trees) ls it) h.rests.same
-        (holds_of (turn_taken c m.bounds.steps m.bounds.until (state_of h.rests.aside (view_of state m.run)) trees) h.rests.aside.past it (r.turns h.rests.aside trees h.rests.resting))))))
+        (subst (λ ls. Holds state pending (turn_taken c m.bounds.steps m.bounds.until (state_of h.rests.aside (view_of state m.run)) trees)
+        ls it) h.rests.same
+        (holds_of (turn_taken c m.bounds.steps m.bounds.until (state_of h.rests.aside (view_of state m.run)) trees) h.rests.aside.past it
+        (r.turns h.rests.aside trees h.rests.resting))))))
     turned_there ns steps until k past m n p (closed f s trees) e b u h is r = absurd (goes_on (closed f s trees) past m h is tt)
     turned_there ns steps until k past m n p (broken f s) e b u h is r = absurd (goes_on (broken f s) past m h is tt)
     turned_there ns steps until k past m n p (amiss s) e b u h is r = absurd h
 
-    pub turned : (ns : List ℤ) (steps until k : ℕ) (past : List Line) (m n : Vm H W) (p : Phase) → At state pending c ns steps until k past m → m.phase ≡ phase.Between →
-        Turns pending c m.bounds.steps m.bounds.until p (view_of state m.run) m.tasks (view_of state n.run) n.tasks → Holds state pending (mach_after c ns steps until k) past (record n { phase = p })
+    pub turned : (ns : List ℤ) (steps until k : ℕ) (past : List Line) (m n : Vm H W) (p : Phase) →
+        At state pending c ns steps until k past m → m.phase ≡ phase.Between →
+        Turns pending c m.bounds.steps m.bounds.until p (view_of state m.run) m.tasks (view_of state n.run) n.tasks →
+        Holds state pending (mach_after c ns steps until k) past (record n { phase = p })
     turned ns steps until zero past m n p at is r = let u = at.holds.unbegun in absurd (cc)
-    turned ns steps until (suc k) past m n p at is r = turned_there ns steps until k past m n p (mach_after c ns steps until k) refl at.bound.steps_are at.bound.until_is at.holds is r
+    turned ns steps until (suc k) past m n p at is r =
+        turned_there ns steps until k past m n p (mach_after c ns steps until k) refl at.bound.steps_are at.bound.until_is at.holds is r
 
-    ended_there : (ns : List ℤ) (steps until k : ℕ) (past : List Line) (m : Vm H W) (e : Ending) (stage : Stage Forest) → mach_after c ns steps until k ≡ stage → Holds state pending stage past m → m.phase ≡ phase.Ended e → Holds state pending (mach_after c ns steps until (suc k)) past m
+    ended_there : (ns : List ℤ) (steps until k : ℕ) (past : List Line) (m : Vm H W) (e : Ending) (stage : Stage Forest) →
+        mach_after c ns steps until k ≡ stage → Holds state pending stage past m → m.phase ≡ phase.Ended e →
+        Holds state pending (mach_after c ns steps until (suc k)) past m
     ended_there ns steps until k past m e (going s trees) is h ended = let b = h.between in absurd (cc)
     ended_there ns steps until k past m e (closed f s trees) is h ended =
-        subst (λ z. Holds state pending z past m) (sym (one_turn (turn_taken c steps until) k (started c ns steps) ∙ ap (next (turn_taken c steps until)) is)) h
+        subst (λ z. Holds state pending z past m)
+        (sym (one_turn (turn_taken c steps until) k (started c ns steps) ∙ ap (next (turn_taken c steps until)) is)) h
     ended_there ns steps until k past m e (broken f s) is h ended =
-        subst (λ z. Holds state pending z past m) (sym (one_turn (turn_taken c steps until) k (started c ns steps) ∙ ap (next (turn_taken c steps until)) is)) h
+        subst (λ z. Holds state pending z past m)
+        (sym (one_turn (turn_taken c steps until) k (started c ns steps) ∙ ap (next (turn_taken c steps until)) is)) h
     ended_there ns steps until k past m e (amiss s) is h ended = absurd h
 
-    pub still_ended : (ns : List ℤ) (steps until k : ℕ) (past : List Line) (m : Vm H W) (e : Ending) → At state pending c ns steps until k past m → m.phase ≡ phase.Ended e → Holds state pending (mach_after c ns steps until k) past m
+    pub still_ended : (ns : List ℤ) (steps until k : ℕ) (past : List Line) (m : Vm H W) (e : Ending) →
+        At state pending c ns steps until k past m → m.phase ≡ phase.Ended e → Holds state pending (mach_after c ns steps until k) past m
     still_ended ns steps until zero past m e at is = let u = at.holds.unbegun in absurd (cc)
-    still_ended ns steps until (suc k) past m e at is = ended_there ns steps until k past m e (mach_after c ns steps until k) refl at.holds is
+    still_ended ns steps until (suc k) past m e at is =
+        ended_there ns steps until k past m e (mach_after c ns steps until k) refl at.holds is
 
     -- a call
 
@@ -264,19 +306,23 @@ module _ {H W : Type 0} (state : H → Kept) (pending : W → List Pending) wher
       near = b.near;
     }
 
-    pub over_of : RunsEnd → StaysOver → Valid c → (ns : List ℤ) (steps until k : ℕ) (past : List Line) (m : Vm H W) (e : Ending) → Holds state pending (mach_after c ns steps until k) past m → ending_in (mach_after c ns steps until k) ≡ Some e →
+    pub over_of : RunsEnd → StaysOver → Valid c → (ns : List ℤ) (steps until k : ℕ) (past : List Line) (m : Vm H W) (e : Ending) →
+        Holds state pending (mach_after c ns steps until k) past m → ending_in (mach_after c ns steps until k) ≡ Some e →
         (e ≡ (mach c ns steps until).ending) × IsEnd state pending (mach c ns steps until) past m
     over_of ends stay valid ns steps until k past m e h is =
         let r = over_ends (mach_after c ns steps until k) past m e h is in
-        let same : mach c ns steps until ≡ run_of tree_waits (mach_after c ns steps until k) = ap (run_of tree_waits) (over_same c ns steps until ends stay valid k r.0) in
+        let same : mach c ns steps until ≡ run_of tree_waits (mach_after c ns steps until k) =
+        ap (run_of tree_waits) (over_same c ns steps until ends stay valid k r.0) in
         (r.2 ∙ sym (ap (λ (r : Run). r.ending) same), subst (λ z. IsEnd state pending z past m) (sym same) r.1)
 
-    over_if : RunsEnd → StaysOver → Valid c → (ns : List ℤ) (steps until k : ℕ) (past : List Line) (m : Vm H W) (o : Option Ending) → Holds state pending (mach_after c ns steps until k) past m → o ≡ ending_in (mach_after c ns steps until k) →
+    over_if : RunsEnd → StaysOver → Valid c → (ns : List ℤ) (steps until k : ℕ) (past : List Line) (m : Vm H W) (o : Option Ending) →
+        Holds state pending (mach_after c ns steps until k) past m → o ≡ ending_in (mach_after c ns steps until k) →
         IfSome o (λ e. (e ≡ (mach c ns steps until).ending) × IsEnd state pending (mach c ns steps until) past m)
     over_if ends stay valid ns steps until k past m None h is = tt
     over_if ends stay valid ns steps until k past m (Some e) h is = over_of ends stay valid ns steps until k past m e h (sym is)
 
-    pub turned_by : RunsEnd → StaysOver → Valid c → (ns : List ℤ) (steps until k : ℕ) (past : List Line) (m n : Vm H W) → n.bounds ≡ m.bounds → At state pending c ns steps until k past m →
+    pub turned_by : RunsEnd → StaysOver → Valid c → (ns : List ℤ) (steps until k : ℕ) (past : List Line) (m n : Vm H W) →
+        n.bounds ≡ m.bounds → At state pending c ns steps until k past m →
         Holds state pending (mach_after c ns steps until k) past n → Turned state pending c ns steps until k past (ended_in n.phase) n
     turned_by ends stay valid ns steps until k past m n e at h = record {
       at = record { bound = same_bounds ns steps until m n e at.bound; holds = h };
@@ -284,10 +330,13 @@ module _ {H W : Type 0} (state : H → Kept) (pending : W → List Pending) wher
       over = over_if ends stay valid ns steps until k past n (ended_in n.phase) h (answers (mach_after c ns steps until k) past n h);
     }
 
-    pub belongs_still : (ns : List ℤ) (steps until k : ℕ) (past : List Line) (o : Option Ending) (n : Vm H W) → Turned state pending c ns steps until k past o n → Belongs state pending c n
+    pub belongs_still : (ns : List ℤ) (steps until k : ℕ) (past : List Line) (o : Option Ending) (n : Vm H W) →
+        Turned state pending c ns steps until k past o n → Belongs state pending c n
     belongs_still ns steps until k past o n t = stands ns steps until (suc k) past t.at
 
-    pub belongs_on : (o : Option Ending) (m n : Vm H W) → Belongs state pending c m → (m.phase ≡ phase.Lost → ⊥) → ((ns : List ℤ) (steps until k : ℕ) (past : List Line) → At state pending c ns steps until k past m → Turned state pending c ns steps until k past o n) →
+    pub belongs_on : (o : Option Ending) (m n : Vm H W) → Belongs state pending c m → (m.phase ≡ phase.Lost → ⊥) →
+        ((ns : List ℤ) (steps until k : ℕ) (past : List Line) → At state pending c ns steps until k past m →
+        Turned state pending c ns steps until k past o n) →
         Belongs state pending c n
     belongs_on o m n (stands ns steps until k past at) not turns = belongs_still ns steps until k past o n (turns ns steps until k past at)
     belongs_on o m n (lost is) not turns = absurd (not is)

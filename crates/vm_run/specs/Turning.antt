@@ -50,7 +50,8 @@ module _ {H W : Type 0} (state : H → Kept) (pending : W → List Pending) wher
     pub over : IfSome o (λ e. (e ≡ (mach c ns steps until).ending) × IsEnd state pending (mach c ns steps until) past m)
 
   -- it has gone on, and all lines are drained
-  pub record TurnedTo (c : Code) (ns : List ℤ) (steps until k : ℕ) (past : List Line) (o : Option Ending) (old new : Option (List ℕ)) (m : Vm H W) : Type 0 where
+  pub record TurnedTo (c : Code) (ns : List ℤ) (steps until k : ℕ) (past : List Line) (o : Option Ending) (old new : Option (List ℕ))
+      (m : Vm H W) : Type 0 where
     pub turned : Turned c ns steps until k (lines_after c ns steps until k) o m
     pub took : TookLines past (lines_after c ns steps until k) old new
 

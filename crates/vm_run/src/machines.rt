@@ -69,7 +69,8 @@ impl<H: Heap + Drop, W: Waits + Drop> Vm<H, W> {
         requires inputs { length inputs.now ≤ 1000 }
         requires steps { bounds.steps ≤ 100000000 }
         requires until { bounds.until ≤ 1000000000000 }
-        ensures { IfOk result (λ m. At H.state W.pending code.now inputs.now bounds.steps bounds.until 0 [] m) }
+        ensures { IfOk result (λ m.
+            At H.state W.pending code.now inputs.now bounds.steps bounds.until 0 [] m) }
     {
         let _ = code.main;
         let inputs = input_array(alloc, inputs)?;

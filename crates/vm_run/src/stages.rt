@@ -30,8 +30,11 @@ pub(crate) fn begin<H: Heap, W: Waits>(
 ) -> Result<Phase, Memory>
     requires valid { Valid code.now }
     requires few { steps ≤ 100000000 }
-    requires can { CanBegin W.pending code.now (val_of inputs) steps (view_of H.state run.old) tasks.old }
-    ensures { (ns : List ℤ) → val_of inputs ≡ array (vals (map int ns)) → IfOk result (λ p. Begins W.pending code.now ns steps p (view_of H.state run.new) tasks.new) }
+    requires can { CanBegin W.pending code.now (val_of inputs) steps
+        (view_of H.state run.old) tasks.old }
+    ensures { (ns : List ℤ) → val_of inputs ≡ array (vals (map int ns)) →
+        IfOk result (λ p. Begins W.pending code.now ns steps p
+        (view_of H.state run.new) tasks.new) }
 {
     let Some(main) = code.functions.get(code.main as usize) else {
         unreachable!()
@@ -55,8 +58,10 @@ pub(crate) fn go<H: Heap, W: Waits>(
 ) -> Result<Phase, Memory>
     requires valid { Valid code.now }
     requires few { bounds.steps ≤ 100000000 }
-    requires can { CanTurn W.pending code.now bounds.steps bounds.until (view_of H.state run.old) tasks.old }
-    ensures { IfOk result (λ p. Turns W.pending code.now bounds.steps bounds.until p (view_of H.state run.old) tasks.old (view_of H.state run.new) tasks.new) }
+    requires can { CanTurn W.pending code.now bounds.steps bounds.until
+        (view_of H.state run.old) tasks.old }
+    ensures { IfOk result (λ p. Turns W.pending code.now bounds.steps bounds.until p
+        (view_of H.state run.old) tasks.old (view_of H.state run.new) tasks.new) }
 {
     match take_turn(run, tasks, bounds.until)? {
         Went::On => follow(run, tasks, code, bounds.steps),
@@ -75,7 +80,8 @@ fn follow<H: Heap, W: Waits>(
     requires valid { Valid code.now }
     requires few { steps ≤ 100000000 }
     requires whole { IsWholly W.pending code.now steps (view_of H.state run.old) tasks.old }
-    ensures { IfOk result (λ p. Follows W.pending code.now steps p (view_of H.state run.old) tasks.old (view_of H.state run.new) tasks.new) }
+    ensures { IfOk result (λ p. Follows W.pending code.now steps p
+        (view_of H.state run.old) tasks.old (view_of H.state run.new) tasks.new) }
 {
     match carry(run, tasks, code, steps)? {
         Went::On => unreachable!(),

@@ -58,7 +58,9 @@ impl<H: Heap + Drop, W: Waits + Drop> Vm<H, W> {
     pub fn turn(&mut self, code: &Code) -> Result<Option<Ending>, Memory>
         requires valid { Valid code.now }
         requires belongs { Belongs H.state W.pending code.now self.old }
-        ensures turned { (ns : List ℤ) (steps until k : ℕ) (past : List Line) → At H.state W.pending code.now ns steps until k past self.old → IfOk result (λ o. Turned H.state W.pending code.now ns steps until k past o self.new) }
+        ensures turned { (ns : List ℤ) (steps until k : ℕ) (past : List Line) →
+            At H.state W.pending code.now ns steps until k past self.old →
+            IfOk result (λ o. Turned H.state W.pending code.now ns steps until k past o self.new) }
         ensures belongs { Belongs H.state W.pending code.now self.new }
         ensures lost { OnErr result (self.new.phase ≡ phase.Lost) }
         ensures still { self.old.phase ≡ phase.Lost → OnOk result ⊥ }
@@ -81,7 +83,10 @@ impl<H: Heap + Drop, W: Waits + Drop> Vm<H, W> {
     fn advance(&mut self, code: &Code) -> Result<Phase, Memory>
         requires valid { Valid code.now }
         requires belongs { Belongs H.state W.pending code.now self.old }
-        ensures reached { (ns : List ℤ) (steps until k : ℕ) (past : List Line) → At H.state W.pending code.now ns steps until k past self.old → IfOk result (λ p. Holds H.state W.pending (mach_after code.now ns steps until k) past (record self.new { phase = p })) }
+        ensures reached { (ns : List ℤ) (steps until k : ℕ) (past : List Line) →
+            At H.state W.pending code.now ns steps until k past self.old →
+            IfOk result (λ p. Holds H.state W.pending (mach_after code.now ns steps until k) past
+            (record self.new { phase = p })) }
         ensures bounds { self.new.bounds ≡ self.old.bounds }
         ensures still { self.old.phase ≡ phase.Lost → OnOk result ⊥ }
     {
@@ -113,9 +118,16 @@ impl<H: Heap + Drop, W: Waits + Drop> Vm<H, W> {
     ) -> Result<Option<Ending>, TurnFault>
         requires valid { Valid code.now }
         requires belongs { Belongs H.state W.pending code.now self.old }
-        ensures turned { (ns : List ℤ) (steps until k : ℕ) (past : List Line) → At H.state W.pending code.now ns steps until k past self.old → IfOk result (λ o. TurnedTo H.state W.pending code.now ns steps until k past o (S.taken out.old) (S.taken out.new) self.new) }
+        ensures turned { (ns : List ℤ) (steps until k : ℕ) (past : List Line) →
+            At H.state W.pending code.now ns steps until k past self.old →
+            IfOk result (λ o. TurnedTo H.state W.pending code.now ns steps until k past o
+            (S.taken out.old) (S.taken out.new) self.new) }
         ensures kept { OnOk result (self.new.run.trace.kept ≡ []) }
-        ensures part { (ns : List ℤ) (steps until k : ℕ) (past : List Line) → At H.state W.pending code.now ns steps until k past self.old → IsErrOf result fault.Failed → TookPart past (lines_after code.now ns steps until k) (S.taken out.old) (S.taken out.new) }
+        ensures part { (ns : List ℤ) (steps until k : ℕ) (past : List Line) →
+            At H.state W.pending code.now ns steps until k past self.old →
+            IsErrOf result fault.Failed →
+            TookPart past (lines_after code.now ns steps until k) (S.taken out.old)
+            (S.taken out.new) }
         ensures failed { IsErrOf result fault.Failed → Rose (S.faults out.old) (S.faults out.new) }
         ensures later { S.faults out.old ≤ S.faults out.new }
         ensures memory { IsErrOf result fault.Memory → S.taken out.new ≡ S.taken out.old }
@@ -132,7 +144,9 @@ impl<H: Heap + Drop, W: Waits + Drop> Vm<H, W> {
     pub fn run(&mut self, code: &Code) -> Result<Ending, Memory>
         requires valid { Valid code.now }
         requires belongs { Belongs H.state W.pending code.now self.old }
-        ensures ran { (ns : List ℤ) (steps until k : ℕ) (past : List Line) → At H.state W.pending code.now ns steps until k past self.old → IfOk result (λ e. Ran H.state W.pending code.now ns steps until past e self.new) }
+        ensures ran { (ns : List ℤ) (steps until k : ℕ) (past : List Line) →
+            At H.state W.pending code.now ns steps until k past self.old →
+            IfOk result (λ e. Ran H.state W.pending code.now ns steps until past e self.new) }
         ensures belongs { Belongs H.state W.pending code.now self.new }
         ensures lost { OnErr result (self.new.phase ≡ phase.Lost) }
         ensures still { self.old.phase ≡ phase.Lost → OnOk result ⊥ }

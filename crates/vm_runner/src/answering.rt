@@ -30,7 +30,9 @@ pub fn answer<H: Heap>(
 ) -> Result<Did, Memory>
     requires ready { Ready (view_of H.state run.old) }
     requires inner { place_of run.old.thread < 4294967295 }
-    ensures { (a : Answer Val) → IsAnswerOrMemory a outcome → IfOk result (λ d. Comes (answers (place_in code.now place) a) d (view_of H.state run.old) (view_of H.state run.new)) }
+    ensures { (a : Answer Val) → IsAnswerOrMemory a outcome →
+        IfOk result (λ d. Comes (answers (place_in code.now place) a) d (view_of H.state run.old)
+        (view_of H.state run.new)) }
 {
     match outcome {
         Ok(value) => push_on(run, value),
@@ -47,7 +49,9 @@ pub fn refuse<H: Heap>(
 ) -> Result<Did, Memory>
     requires ready { Ready (view_of H.state run.old) }
     requires inner { place_of run.old.thread < 4294967295 }
-    ensures { (a : Answer Val) → IsFaultOrMemory a fault → IfOk result (λ d. Comes (answers (place_in code.now place) a) d (view_of H.state run.old) (view_of H.state run.new)) }
+    ensures { (a : Answer Val) → IsFaultOrMemory a fault →
+        IfOk result (λ d. Comes (answers (place_in code.now place) a) d (view_of H.state run.old)
+        (view_of H.state run.new)) }
 {
     match fault {
         OpFault::Fail => Ok(fail(run)),
@@ -62,7 +66,8 @@ pub fn refuse<H: Heap>(
 pub fn raise<H: Heap>(run: &Runner<H>, code: &Code, place: Option<u32>, kind: Kind) -> Did
     requires ready { Ready (view_of H.state run.now) }
     requires inner { place_of run.now.thread < 4294967295 }
-    ensures { Comes (raises (place_in code.now place) kind) result (view_of H.state run.now) (view_of H.state run.now) }
+    ensures { Comes (raises (place_in code.now place) kind) result (view_of H.state run.now)
+        (view_of H.state run.now) }
 {
     let next = run.thread.place() + 1;
     if !run.thread.permits(next) {

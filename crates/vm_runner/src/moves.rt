@@ -40,7 +40,8 @@ pub fn go_on<H: Heap>(run: &mut Runner<H>) -> Did
 pub fn push_on<H: Heap>(run: &mut Runner<H>, value: Value) -> Result<Did, Memory>
     requires ready { Ready (view_of H.state run.old) }
     requires inner { place_of run.old.thread < 4294967295 }
-    ensures { IfOk result (λ d. Comes (pushes (val_of value)) d (view_of H.state run.old) (view_of H.state run.new)) }
+    ensures { IfOk result (λ d. Comes (pushes (val_of value)) d (view_of H.state run.old)
+        (view_of H.state run.new)) }
 {
     run.thread.push(value)?;
     Ok(go_on(run))

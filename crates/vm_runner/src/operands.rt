@@ -11,7 +11,8 @@ use vm_thread::threads::Thread;
 /// fewer, and then one may be gone. Takes no memory.
 pub fn pop_two(thread: &mut Thread) -> Option<(Value, Value)>
     requires { thread.old ≢ [] }
-    ensures some { IfSome result (λ p. popped_two thread.old ≡ Some ((val_of p.0, val_of p.1), thread.new)) }
+    ensures some { IfSome result (λ p. popped_two thread.old ≡
+        Some ((val_of p.0, val_of p.1), thread.new)) }
     ensures none { IfNone result (popped_two thread.old ≡ None) }
 {
     let second = thread.pop()?;

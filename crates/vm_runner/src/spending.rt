@@ -15,8 +15,11 @@ use tx_heap::heaps::Heap;
 /// memory.
 pub fn spend<H: Heap>(run: &mut Runner<H>) -> bool
     requires ready { Ready (view_of H.state run.old) }
-    ensures leads { result ≡ true → (go : Doing) → Leads (spends go) (view_of H.state run.old) go (view_of H.state run.new) }
-    ensures out { result ≡ false → (go : Doing) → Comes (spends go) (did.Over ending.Steps) (view_of H.state run.old) (view_of H.state run.new) }
+    ensures leads { result ≡ true → (go : Doing) →
+        Leads (spends go) (view_of H.state run.old) go (view_of H.state run.new) }
+    ensures out { result ≡ false → (go : Doing) →
+        Comes (spends go) (did.Over ending.Steps) (view_of H.state run.old)
+        (view_of H.state run.new) }
 {
     if run.left == 0 {
         return false;

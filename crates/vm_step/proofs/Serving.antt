@@ -1,5 +1,6 @@
 -- What is asked is served, and a step is served so.
-use Rattle.std.proofs.Common.{◌≡◌, ◌≢◌, ℕ, ◌<◌, Result, Ok, Err, IfOk, Option, Some, None, List, [], ◌∷◌, slice_get, refl, sym, ap, subst, ◌∙◌, arith}
+use Rattle.std.proofs.Common.{◌≡◌, ◌≢◌, ℕ, ◌<◌, Result, Ok, Err, IfOk, Option, Some, None, List, [], ◌∷◌, slice_get, refl, sym, ap, subst}
+use Rattle.std.proofs.Common.{◌∙◌, arith}
 use Rattle.std.proofs.lemmas.Option.{slice_get_within}
 use Rattle.std.proofs.lemmas.Bool.Decides.{nat_tests}
 use Rattle.task_tree.specs.Nested.{IsTree}
@@ -54,39 +55,57 @@ char_fits code at op valid there n is =
 module _ (code : Code) (a : Aside) (w : Who) (x : World) where
   steps_at : (v : View) (fs : List Framed) (o : Option Op) → fs ≢ [] → slice_get code.ops (place_of fs) ≡ o →
       on_frame (frames_with fs (memories a.past v.heap.copies v.trace.marks)) (state_of a v) (steps code w x (state_of a v)) ≡
-      on_there o (state_of a v) (λ op. on_frame (frames_with fs (memories a.past v.heap.copies v.trace.marks)) (state_of a v) (acts code op w x (state_of a v)))
+      on_there o (state_of a v) (λ op. on_frame (frames_with fs (memories a.past v.heap.copies v.trace.marks)) (state_of a v)
+      (acts code op w x (state_of a v)))
   steps_at v [] o some is = absurd (some refl)
   steps_at v (f ∷ fs) o some is =
-      ap (λ o. on_there o (state_of a v) (λ op. on_frame (frames_with (f ∷ fs) (memories a.past v.heap.copies v.trace.marks)) (state_of a v) (acts code op w x (state_of a v)))) is
+      ap (λ o. on_there o (state_of a v) (λ op. on_frame (frames_with (f ∷ fs) (memories a.past v.heap.copies v.trace.marks)) (state_of a v)
+      (acts code op w x (state_of a v)))) is
 
 module _ {W : Type 0} (pending : W → List Pending) where
   -- at the end of the code
-  pub step_none : (code : Code) (v : View) (t : Tasks W) → slice_get code.ops (place_of v.frames) ≡ None → Comes pending (steps code) (went.Over ending.Stuck) v t v t
+  pub step_none : (code : Code) (v : View) (t : Tasks W) → slice_get code.ops (place_of v.frames) ≡ None →
+      Comes pending (steps code) (went.Over ending.Stuck) v t v t
   step_none code v t none = record {
     comes = λ m g. record { aside = m.aside; same = refl; is = steps_at code m.aside m.who m.world v v.frames None g.ready.some none };
   }
 
-  pub asked_here : (code : Code) (op : Op) (k : Asked) (v u : View) (t : Tasks W) → IsTree t.tree → Goes pending v t → Asks (acts code op) k v u → Leaves k v u → IsAsked pending k u t
-  asked_here code op k v u t nested g asks leaves = record { scene = g.scene; starts = asked_starts pending code op k g.scene v u t nested g.going asks leaves }
+  pub asked_here : (code : Code) (op : Op) (k : Asked) (v u : View) (t : Tasks W) → IsTree t.tree → Goes pending v t →
+      Asks (acts code op) k v u → Leaves k v u → IsAsked pending k u t
+  asked_here code op k v u t nested g asks leaves =
+      record { scene = g.scene; starts = asked_starts pending code op k g.scene v u t nested g.going asks leaves }
 
-  step_some : (code : Code) (op : Op) (k : Asked) (r : Went) (v u z : View) (t s : Tasks W) → IsTree t.tree → slice_get code.ops (place_of v.frames) ≡ Some op → Asks (acts code op) k v u → Leaves k v u → Serves pending k r u t z s → Comes pending (steps code) r v t z s
+  step_some : (code : Code) (op : Op) (k : Asked) (r : Went) (v u z : View) (t s : Tasks W) → IsTree t.tree →
+      slice_get code.ops (place_of v.frames) ≡ Some op → Asks (acts code op) k v u → Leaves k v u → Serves pending k r u t z s →
+      Comes pending (steps code) r v t z s
   step_some code op k r v u z t s nested there asks leaves served = record {
     comes = λ m g.
         subst (λ q. Meets pending q m.aside.past r z s) (sym (steps_at code m.aside m.who m.world v v.frames (Some op) g.ready.some there))
-        (served.serves m (done (acts code op) m.aside m.who m.world v) (asked_starts pending code op k m v u t nested g asks leaves) (asks.asks m.aside m.who m.world (past_of pending m v t g)));
+        (served.serves m (done (acts code op) m.aside m.who m.world v) (asked_starts pending code op k m v u t nested g asks leaves)
+        (asks.asks m.aside m.who m.world (past_of pending m v t g)));
   }
 
-  pub step_ok : {E : Type 0} (code : Code) (op : Op) (k : Asked) (r : Result Went E) (v u z : View) (t s : Tasks W) → IsTree t.tree → slice_get code.ops (place_of v.frames) ≡ Some op → Asks (acts code op) k v u → Leaves k v u → IfOk r (λ w. Serves pending k w u t z s) →
+  pub step_ok : {E : Type 0} (code : Code) (op : Op) (k : Asked) (r : Result Went E) (v u z : View) (t s : Tasks W) → IsTree t.tree →
+      slice_get code.ops (place_of v.frames) ≡ Some op → Asks (acts code op) k v u → Leaves k v u →
+      IfOk r (λ w. Serves pending k w u t z s) →
       IfOk r (λ w. Comes pending (steps code) w v t z s)
-  step_ok code op k r v u z t s nested there asks leaves served = ok_map r (λ w h. step_some code op k w v u z t s nested there asks leaves h) served
+  step_ok code op k r v u z t s nested there asks leaves served =
+      ok_map r (λ w h. step_some code op k w v u z t s nested there asks leaves h) served
 
   -- a call serves what is asked
-  pub serves_by : {E : Type 0} (k : Asked) (d : Doing) (r : Result Went E) (v u : View) (t s : Tasks W) → ((m : Scene) → StartsAt pending k m v t → Going pending m v t) → ((m : Scene) (q : Step) → AsksFor q k m.aside m.who m.world v → q ≡ done d m.aside m.who m.world v) →
+  pub serves_by : {E : Type 0} (k : Asked) (d : Doing) (r : Result Went E) (v u : View) (t s : Tasks W) →
+      ((m : Scene) → StartsAt pending k m v t → Going pending m v t) →
+      ((m : Scene) (q : Step) → AsksFor q k m.aside m.who m.world v → q ≡ done d m.aside m.who m.world v) →
       IfOk r (λ w. Comes pending d w v t u s) → IfOk r (λ w. Serves pending k w v t u s)
   serves_by k d r v u t s going is h =
-      ok_map r (λ w c. record { serves = λ m q starts asks. subst (λ q. Meets pending q m.aside.past w u s) (sym (is m q asks)) (c.comes m (going m starts)) }) h
+      ok_map r (λ w c. record {
+        serves = λ m q starts asks. subst (λ q. Meets pending q m.aside.past w u s) (sym (is m q asks))
+            (c.comes m (going m starts));
+      }) h
 
   -- the arms of a group
-  pub group_serves : {E : Type 0} (r : Result Went E) (k : Kind) (g : Arms) (v u : View) (t s : Tasks W) → k ≡ kind_of g.kind → IfOk r (λ w. Comes pending (begins_group k g.place g.labels.items) w v t u s) → IfOk r (λ w. Serves pending (asked.Arms g) w v t u s)
+  pub group_serves : {E : Type 0} (r : Result Went E) (k : Kind) (g : Arms) (v u : View) (t s : Tasks W) → k ≡ kind_of g.kind →
+      IfOk r (λ w. Comes pending (begins_group k g.place g.labels.items) w v t u s) → IfOk r (λ w. Serves pending (asked.Arms g) w v t u s)
   group_serves r k g v u t s is h =
-      serves_by (asked.Arms g) (begins_group (kind_of g.kind) g.place g.labels.items) r v u t s (λ m f. f.going) (λ m q e. e) (subst (λ k. IfOk r (λ w. Comes pending (begins_group k g.place g.labels.items) w v t u s)) is h)
+      serves_by (asked.Arms g) (begins_group (kind_of g.kind) g.place g.labels.items) r v u t s (λ m f. f.going) (λ m q e. e)
+      (subst (λ k. IfOk r (λ w. Comes pending (begins_group k g.place g.labels.items) w v t u s)) is h)

@@ -27,7 +27,8 @@ pub fn serve<H: Heap, W: Waits>(
     asked: Asked,
 ) -> Result<Went, Memory>
     requires { IsAsked W.pending asked (view_of H.state run.old) tasks.old }
-    ensures { IfOk result (λ r. Serves W.pending asked r (view_of H.state run.old) tasks.old (view_of H.state run.new) tasks.new) }
+    ensures { IfOk result (λ r. Serves W.pending asked r (view_of H.state run.old) tasks.old
+        (view_of H.state run.new) tasks.new) }
 {
     match asked {
         Asked::Nothing(Did::On) => Ok(Went::On),

@@ -28,7 +28,8 @@ pub fn step<H: Heap, W: Waits>(
     requires there { Goes W.pending (view_of H.state run.old) tasks.old }
     requires valid { Valid code.now }
     requires belongs { StoreBelongs code.now.classes (H.state run.old.heap).cells }
-    ensures { IfOk result (λ r. Comes W.pending (steps code.now) r (view_of H.state run.old) tasks.old (view_of H.state run.new) tasks.new) }
+    ensures { IfOk result (λ r. Comes W.pending (steps code.now) r
+        (view_of H.state run.old) tasks.old (view_of H.state run.new) tasks.new) }
 {
     let Some(op) = code.ops.get(run.thread.place() as usize) else {
         return Ok(Went::Over(Ending::Stuck));

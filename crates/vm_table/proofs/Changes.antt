@@ -8,7 +8,8 @@ use Rattle.task_tree.specs.Removing as r
 use Rattle.task_tree.proofs.Standing.{changed_here, without_at, inner}
 use Rattle.task_tree.proofs.Ending.{block_children}
 use Rattle.task_tree.proofs.Under.{block_under, not_under}
-use Rattle.vm_table.specs.Slots.{Slot, Entry, path_of, who_of, named, Parent, no_parent, under, id_of, path_under, number_of, Armed, Seen, RoleFits, Shows}
+use Rattle.vm_table.specs.Slots.{Slot, Entry, path_of, who_of, named, Parent, no_parent, under, id_of, path_under, number_of, Armed, Seen}
+use Rattle.vm_table.specs.Slots.{RoleFits, Shows}
 use Rattle.vm_table.specs.Roses.{Rose, empty, node, pre, post, IsOne, pre_all, Good, GoodTrees}
 use Rattle.vm_table.specs.Standing.{Deal, Planted}
 use Rattle.vm_table.proofs.Lists.{Each, each_parts}
@@ -49,7 +50,8 @@ module _ {T : Type 0} where
   last_is P (y ∷ []) x p = p
   last_is P (y ∷ z ∷ zs) x p = last_is P (z ∷ zs) x p
 
-  stretch : (P : Task T → Type 0) (f b s k : List (Task T)) → LastIs P f → Each (λ x. P x → ⊥) b → Each P s → Each (λ x. P x → ⊥) k → f ++ b ≡ s ++ k → (f ≡ s) × (b ≡ k)
+  stretch : (P : Task T → Type 0) (f b s k : List (Task T)) → LastIs P f → Each (λ x. P x → ⊥) b → Each P s → Each (λ x. P x → ⊥) k →
+      f ++ b ≡ s ++ k → (f ≡ s) × (b ≡ k)
   stretch P [] b [] k l nb ps nk e = (refl, e)
   stretch P [] b (x ∷ s) k l nb ps nk e = absurd ((subst (λ w. Each (λ x. P x → ⊥) w) e nb).0 ps.0)
   stretch P (y ∷ []) b [] k l nb ps nk e = absurd ((subst (λ w. Each (λ x. P x → ⊥) w) (sym e) nk).0 l)
@@ -70,10 +72,12 @@ module _ {T : Type 0} where
       let r = stretch P (z ∷ f) b s k l nb ps.1 nk tails in
       (ap (λ w. w ∷ z ∷ f) same ∙ ap (λ w. x ∷ w) r.0, r.1)
 
-  pub stretch_behind : (P : Task T → Type 0) (f b a s k : List (Task T)) (x : Task T) → LastIs P f → Each (λ x. P x → ⊥) b → Each (λ x. P x → ⊥) a → Each P (x ∷ s) → Each (λ x. P x → ⊥) k →
+  pub stretch_behind : (P : Task T → Type 0) (f b a s k : List (Task T)) (x : Task T) → LastIs P f → Each (λ x. P x → ⊥) b →
+      Each (λ x. P x → ⊥) a → Each P (x ∷ s) → Each (λ x. P x → ⊥) k →
       f ++ b ≡ a ++ (x ∷ s ++ k) → (f ≡ a ++ x ∷ s) × (b ≡ k)
   stretch_behind P f b [] s k x l nb na ps nk e = stretch P f b (x ∷ s) k l nb ps nk e
-  stretch_behind P [] b (y ∷ a) s k x l nb na ps nk e = absurd ((each_parts (λ x. P x → ⊥) a (x ∷ s ++ k) ((subst (λ w. Each (λ x. P x → ⊥) w) e nb).1)).1.0 ps.0)
+  stretch_behind P [] b (y ∷ a) s k x l nb na ps nk e =
+      absurd ((each_parts (λ x. P x → ⊥) a (x ∷ s ++ k) ((subst (λ w. Each (λ x. P x → ⊥) w) e nb).1)).1.0 ps.0)
   stretch_behind P (z ∷ []) b (y ∷ a) s k x l nb na ps nk e = let same : z ≡ y = cc in absurd (na.0 (subst P same l))
   stretch_behind P (z ∷ u ∷ f) b (y ∷ a) s k x l nb na ps nk e =
       let same : z ≡ y = cc in let tails : (u ∷ f) ++ b ≡ a ++ (x ∷ s ++ k) = cc in
@@ -82,7 +86,8 @@ module _ {T : Type 0} where
 
 pub named_same : (a : List ℕ) (s u : Slot) → s.number ≡ u.number → s.role ≡ u.role → named a s ≡ named a u
 named_same a s u p q =
-    ap (λ n. record { path = a ++ n ∷ []; up = a; number = n; role = s.role }) p ∙ ap (λ c. record { path = a ++ u.number ∷ []; up = a; number = u.number; role = c }) q
+    ap (λ n. record { path = a ++ n ∷ []; up = a; number = n; role = s.role }) p ∙
+    ap (λ c. record { path = a ++ u.number ∷ []; up = a; number = u.number; role = c }) q
 
 module _ {T : Type 0} (slot : T → Slot) where
   -- of the numbers of siblings
@@ -95,7 +100,8 @@ module _ {T : Type 0} (slot : T → Slot) where
   tops_each P (node t e k r) l = (l.0, tops_each P r (each_parts (λ v. P (number_of slot v)) (pre k) (pre r) l.1).1)
 
   pub regood : (t u : Task T) (d e : Entry) (m : ℕ) (P : ℕ → Type 0) (k : Rose T) → t.number ≡ u.number → path_of d ≡ path_of e →
-      ((n : ℕ) → P n → Armed slot (under t d) n → Armed slot (under u e) n) → Tops P k → Good slot (under t d) m k → Good slot (under u e) m k
+      ((n : ℕ) → P n → Armed slot (under t d) n → Armed slot (under u e) n) → Tops P k → Good slot (under t d) m k →
+      Good slot (under u e) m k
   regood t u d e m P empty same path f l g = tt
   regood t u d e m P (node v x k w) same path f l g = (
     record {
@@ -112,7 +118,9 @@ module _ {T : Type 0} (slot : T → Slot) where
   )
 
   -- the same item, and another entry of the same name
-  abbrev pub reentered : {tasks : List (Task T)} {others : List (Rose T)} {a : List Entry} {e : Entry} {b : List Entry} (s : Spot slot tasks others a e b) (d : Entry) (P : ℕ → Type 0) → who_of d ≡ who_of e → Shows s.task.number (slot s.task.item).held d → Tops P s.kids →
+  abbrev pub reentered : {tasks : List (Task T)} {others : List (Rose T)} {a : List Entry} {e : Entry} {b : List Entry}
+      (s : Spot slot tasks others a e b) (d : Entry) (P : ℕ → Type 0) → who_of d ≡ who_of e →
+      Shows s.task.number (slot s.task.item).held d → Tops P s.kids →
       ((n : ℕ) → P n → Armed slot (under s.task e) n → Armed slot (under s.task d) n) → Spot slot tasks others a d b
   reentered {e = e} s d P who shows above arms =
       let seen : Seen slot (parent_at s.hole) s.task d = record {
@@ -133,7 +141,13 @@ module _ {T : Type 0} (slot : T → Slot) where
         last = s.last;
         one = one_node s.hole s.task s.task e d s.kids s.kids s.rest s.one;
         around = s.around;
-        good = (seen, s.good.1, regood s.task s.task e d (number_of slot s.task) P s.kids refl (ap (λ w. w.path) (sym who)) arms above s.good.2, s.good.3);
+        good = (
+          seen,
+          s.good.1,
+          regood s.task s.task e d (number_of slot s.task) P s.kids refl
+              (ap (λ w. w.path) (sym who)) arms above s.good.2,
+          s.good.3,
+        );
         good_others = s.good_others;
         dealt = s.dealt;
         left = s.left;
@@ -141,21 +155,26 @@ module _ {T : Type 0} (slot : T → Slot) where
         was = s.was;
       }
 
-  module _ {tasks : List (Task T)} {others : List (Rose T)} {a : List Entry} {e : Entry} {b : List Entry} (s : Spot slot tasks others a e b) (tree : IsTree tasks) where
+  module _ {tasks : List (Task T)} {others : List (Rose T)} {a : List Entry} {e : Entry} {b : List Entry} (s : Spot slot tasks others a e b)
+      (tree : IsTree tasks) where
     around_it : (d : Entry) → before s.hole ++ ((post s.kids ++ d ∷ post s.rest) ++ after s.hole) ≡ a ++ d ∷ b
     around_it d =
-        let e1 : before s.hole ++ ((post s.kids ++ d ∷ post s.rest) ++ after s.hole) ≡ (before s.hole ++ post s.kids) ++ d ∷ (post s.rest ++ after s.hole) = simp append_assoc in
+        let e1 : before s.hole ++ ((post s.kids ++ d ∷ post s.rest) ++ after s.hole) ≡ (before s.hole ++ post s.kids) ++
+        d ∷ (post s.rest ++ after s.hole) = simp append_assoc in
         e1 ∙ (ap (λ w. w ++ d ∷ (post s.rest ++ after s.hole)) (sym s.left) ∙ ap (λ w. a ++ d ∷ w) (sym s.right))
 
     -- the numbers of those beneath it, where those of all are bounded
     pub kids_each : (P : Task T → Type 0) → Each P tasks → Each P (s.task ∷ pre s.kids)
     kids_each P l =
         let all : Each P (fronts slot s ++ (s.task ∷ pre s.kids ++ (pre s.rest ++ backs slot s))) = subst (λ ts. Each P ts) s.was l in
-        (each_parts P (s.task ∷ pre s.kids) (pre s.rest ++ backs slot s) (each_parts P (fronts slot s) (s.task ∷ pre s.kids ++ (pre s.rest ++ backs slot s)) all).1).0
+        (each_parts P (s.task ∷ pre s.kids) (pre s.rest ++ backs slot s)
+        (each_parts P (fronts slot s) (s.task ∷ pre s.kids ++ (pre s.rest ++ backs slot s)) all).1).0
 
     -- another item, which stands for another entry
-    pub reseated : (item : T) (d : Entry) (P : ℕ → Type 0) → (slot item).number ≡ number_of slot s.task → (slot item).role ≡ (slot s.task.item).role → who_of d ≡ who_of e →
-        Shows s.task.number (slot item).held d → Tops P s.kids → ((n : ℕ) → P n → Armed slot (under s.task e) n → Armed slot (under (record s.task { item = item }) d) n) →
+    pub reseated : (item : T) (d : Entry) (P : ℕ → Type 0) → (slot item).number ≡ number_of slot s.task →
+        (slot item).role ≡ (slot s.task.item).role → who_of d ≡ who_of e →
+        Shows s.task.number (slot item).held d → Tops P s.kids →
+        ((n : ℕ) → P n → Armed slot (under s.task e) n → Armed slot (under (record s.task { item = item }) d) n) →
         Planted slot (with_item s.task.number tasks item) others (a ++ d ∷ b)
     reseated item d P number role who shows above arms =
         let u : Task T = record s.task { item = item } in
@@ -170,21 +189,36 @@ module _ {T : Type 0} (slot : T → Slot) where
           armed = subst (λ n. Armed slot q n) (sym number) s.good.0.armed;
         } in
         let below : Good slot (under u d) (number_of slot u) s.kids =
-        subst (λ n. Good slot (under u d) n s.kids) (sym number) (regood s.task u e d (number_of slot s.task) P s.kids refl (ap (λ w. w.path) (sym who)) arms above s.good.2) in
-        let good : Good slot q (most_at slot s.most s.hole) x = (seen, subst (λ n. n < most_at slot s.most s.hole) (sym number) s.good.1, below, subst (λ n. Good slot q n s.rest) (sym number) s.good.3) in
+        subst (λ n. Good slot (under u d) n s.kids) (sym number)
+        (regood s.task u e d (number_of slot s.task) P s.kids refl (ap (λ w. w.path) (sym who)) arms above s.good.2) in
+        let good : Good slot q (most_at slot s.most s.hole) x = (
+          seen,
+          subst (λ n. n < most_at slot s.most s.hole) (sym number) s.good.1,
+          below,
+          subst (λ n. Good slot q n s.rest) (sym number) s.good.3,
+        ) in
         let lists : with_item s.task.number tasks item ≡ fronts slot s ++ (pre x ++ backs slot s) =
         ap (λ ts. with_item s.task.number ts item) s.was ∙
-        (changed_here (fronts slot s) (pre s.kids ++ (pre s.rest ++ backs slot s)) s.task (λ t. record t { item = item }) (alone slot s tree).0 ∙ ap (λ w. fronts slot s ++ w) (sym (append_assoc (u ∷ pre s.kids) (pre s.rest) (backs slot s)))) in
+        (changed_here (fronts slot s) (pre s.kids ++ (pre s.rest ++ backs slot s)) s.task (λ t. record t { item = item })
+        (alone slot s tree).0 ∙ ap (λ w. fronts slot s ++ w) (sym (append_assoc (u ∷ pre s.kids) (pre s.rest) (backs slot s)))) in
         subst (λ es. Planted slot (with_item s.task.number tasks item) others es) (around_it d)
         (refill slot s (with_item s.task.number tasks item) x (one_node s.hole s.task u e d s.kids s.kids s.rest s.one) good lists)
 
     -- one more child
-    more_kids : (k : Rose T) (m : ℕ) (u : Task T) (d : Entry) (q : Parent T) → Good slot q m k → Seen slot q u d → number_of slot u < m → Each (λ v. number_of slot u < number_of slot v) (pre k) →
+    more_kids : (k : Rose T) (m : ℕ) (u : Task T) (d : Entry) (q : Parent T) → Good slot q m k → Seen slot q u d → number_of slot u < m →
+        Each (λ v. number_of slot u < number_of slot v) (pre k) →
         Good slot q m (join k (node u d empty empty))
     more_kids empty m u d q g seen l above = (seen, l, tt, tt)
-    more_kids (node v x k w) m u d q g seen l above = (g.0, g.1, g.2, more_kids w (number_of slot v) u d q g.3 seen above.0 (each_parts (λ v. number_of slot u < number_of slot v) (pre k) (pre w) above.1).1)
+    more_kids (node v x k w) m u d q g seen l above = (
+      g.0,
+      g.1,
+      g.2,
+      more_kids w (number_of slot v) u d q g.3 seen above.0
+          (each_parts (λ v. number_of slot u < number_of slot v) (pre k) (pre w) above.1).1,
+    )
 
-    pub grown : (u : Task T) (d : Entry) (new : List (Task T)) → Added u tasks new → u.parent ≡ Some s.task.number → Seen slot (under s.task e) u d →
+    pub grown : (u : Task T) (d : Entry) (new : List (Task T)) → Added u tasks new → u.parent ≡ Some s.task.number →
+        Seen slot (under s.task e) u d →
         Each (λ v. number_of slot u < number_of slot v) tasks → Planted slot new others (a ++ d ∷ e ∷ b)
     grown u d new added parent seen above =
         let x : Rose T = node s.task e (join s.kids (node u d empty empty)) s.rest in
@@ -194,17 +228,24 @@ module _ {T : Type 0} (slot : T → Slot) where
         let inside = block_under tasks n tree (block slot s) in
         let P : Task T → Type 0 = λ t. Under tasks n t.number in
         let last : LastIs P added.front = subst (λ w. LastIs P w) (sym end.0.is) (last_is P end.0.some end.0.last end.0.under) in
-        let both : added.front ++ added.back ≡ fronts slot s ++ (s.task ∷ pre s.kids ++ (pre s.rest ++ backs slot s)) = sym added.was ∙ s.was in
-        let places = stretch_behind P added.front added.back (fronts slot s) (pre s.kids) (pre s.rest ++ backs slot s) s.task last (each_same P added.back end.1) (each_same P (fronts slot s) out.0) (each_is P (s.task ∷ pre s.kids) inside) (each_same P (pre s.rest ++ backs slot s) out.1) both in
+        let both : added.front ++ added.back ≡ fronts slot s ++ (s.task ∷ pre s.kids ++ (pre s.rest ++ backs slot s)) =
+        sym added.was ∙ s.was in
+        let places = stretch_behind P added.front added.back (fronts slot s) (pre s.kids) (pre s.rest ++ backs slot s) s.task last
+        (each_same P added.back end.1) (each_same P (fronts slot s) out.0) (each_is P (s.task ∷ pre s.kids) inside)
+        (each_same P (pre s.rest ++ backs slot s) out.1) both in
         let old = kids_each (λ v. number_of slot u < number_of slot v) above in
-        let good : Good slot (parent_at s.hole) (most_at slot s.most s.hole) x = (s.good.0, s.good.1, more_kids s.kids (number_of slot s.task) u d (under s.task e) s.good.2 seen old.0 old.1, s.good.3) in
-        let e1 : (fronts slot s ++ s.task ∷ pre s.kids) ++ u ∷ (pre s.rest ++ backs slot s) ≡ fronts slot s ++ ((s.task ∷ (pre s.kids ++ u ∷ []) ++ pre s.rest) ++ backs slot s) = simp append_assoc in
+        let good : Good slot (parent_at s.hole) (most_at slot s.most s.hole) x =
+        (s.good.0, s.good.1, more_kids s.kids (number_of slot s.task) u d (under s.task e) s.good.2 seen old.0 old.1, s.good.3) in
+        let e1 : (fronts slot s ++ s.task ∷ pre s.kids) ++ u ∷ (pre s.rest ++ backs slot s) ≡ fronts slot s ++
+        ((s.task ∷ (pre s.kids ++ u ∷ []) ++ pre s.rest) ++ backs slot s) = simp append_assoc in
         let lists : new ≡ fronts slot s ++ (pre x ++ backs slot s) =
         added.is ∙ (ap (λ w. w ++ u ∷ added.back) places.0 ∙ (ap (λ w. (fronts slot s ++ s.task ∷ pre s.kids) ++ u ∷ w) places.1 ∙ (e1 ∙
         ap (λ w. fronts slot s ++ ((s.task ∷ w ++ pre s.rest) ++ backs slot s)) (sym (pre_join s.kids (node u d empty empty)))))) in
-        let e2 : before s.hole ++ (((post s.kids ++ d ∷ []) ++ e ∷ post s.rest) ++ after s.hole) ≡ (before s.hole ++ post s.kids) ++ d ∷ e ∷ (post s.rest ++ after s.hole) = simp append_assoc in
+        let e2 : before s.hole ++ (((post s.kids ++ d ∷ []) ++ e ∷ post s.rest) ++ after s.hole) ≡ (before s.hole ++ post s.kids) ++
+        d ∷ e ∷ (post s.rest ++ after s.hole) = simp append_assoc in
         let entries : before s.hole ++ (post x ++ after s.hole) ≡ a ++ d ∷ e ∷ b =
-        ap (λ w. before s.hole ++ ((w ++ e ∷ post s.rest) ++ after s.hole)) (post_join s.kids (node u d empty empty)) ∙ (e2 ∙ (ap (λ w. w ++ d ∷ e ∷ (post s.rest ++ after s.hole)) (sym s.left) ∙ ap (λ w. a ++ d ∷ e ∷ w) (sym s.right))) in
+        ap (λ w. before s.hole ++ ((w ++ e ∷ post s.rest) ++ after s.hole)) (post_join s.kids (node u d empty empty)) ∙
+        (e2 ∙ (ap (λ w. w ++ d ∷ e ∷ (post s.rest ++ after s.hole)) (sym s.left) ∙ ap (λ w. a ++ d ∷ e ∷ w) (sym s.right))) in
         subst (λ es. Planted slot new others es) entries
         (refill slot s new x (one_node s.hole s.task s.task e e s.kids (join s.kids (node u d empty empty)) s.rest s.one) good lists)
       where
@@ -221,7 +262,8 @@ module _ {T : Type 0} (slot : T → Slot) where
     childless none = (block_children tasks s.task.number tree (block slot s)).2 ∙ ap (λ k. youngest (Some s.task.number) (pre k)) none
 
     pub without_it : s.kids ≡ empty → without s.task.number tasks ≡ fronts slot s ++ (pre s.rest ++ backs slot s)
-    without_it none = ap (λ ts. without s.task.number ts) s.was ∙ (without_at (fronts slot s) (pre s.kids ++ (pre s.rest ++ backs slot s)) s.task (alone slot s tree).0 ∙
+    without_it none = ap (λ ts. without s.task.number ts) s.was ∙
+        (without_at (fronts slot s) (pre s.kids ++ (pre s.rest ++ backs slot s)) s.task (alone slot s tree).0 ∙
         ap (λ k. fronts slot s ++ (pre k ++ (pre s.rest ++ backs slot s))) none)
 
     pub one_less : (h : Hole T) (x y : Rose T) → (parent_at h ≡ no_parent → ⊥) → IsOne (fill h x) → IsOne (fill h y)
@@ -233,9 +275,11 @@ module _ {T : Type 0} (slot : T → Slot) where
     part_gone none inner =
         let gone : Planted slot (without s.task.number tasks) others (before s.hole ++ (post s.rest ++ after s.hole)) =
         refill slot s (without s.task.number tasks) s.rest (one_less s.hole (node s.task e s.kids s.rest) s.rest inner s.one)
-        (good_weaker slot (parent_at s.hole) (number_of slot s.task) (most_at slot s.most s.hole) s.rest (omega (arith, s.good.1)) s.good.3) (without_it none) in
+        (good_weaker slot (parent_at s.hole) (number_of slot s.task) (most_at slot s.most s.hole) s.rest (omega (arith, s.good.1)) s.good.3)
+        (without_it none) in
         let left : a ≡ before s.hole = s.left ∙ (ap (λ k. before s.hole ++ post k) none ∙ append-nil (before s.hole)) in
-        subst (λ es. Planted slot (without s.task.number tasks) others es) (ap (λ w. w ++ (post s.rest ++ after s.hole)) (sym left) ∙ ap (λ w. a ++ w) (sym s.right)) gone
+        subst (λ es. Planted slot (without s.task.number tasks) others es) (ap (λ w. w ++ (post s.rest ++ after s.hole)) (sym left) ∙
+        ap (λ w. a ++ w) (sym s.right)) gone
 
     -- or it was a tree by itself
     pub record RootGone : Type 0 where
@@ -254,7 +298,8 @@ module _ {T : Type 0} (slot : T → Slot) where
         record {
           roots = s.first ++ s.last;
           dealt = s.dealt;
-          tasks_are = without_it none ∙ (ap (λ h. (pre_all s.first ++ front h) ++ (pre s.rest ++ (back h ++ pre_all s.last))) is ∙ (ap (λ k. (pre_all s.first ++ []) ++ (pre k ++ ([] ++ pre_all s.last))) no_rest ∙
+          tasks_are = without_it none ∙ (ap (λ h. (pre_all s.first ++ front h) ++ (pre s.rest ++ (back h ++ pre_all s.last))) is ∙
+              (ap (λ k. (pre_all s.first ++ []) ++ (pre k ++ ([] ++ pre_all s.last))) no_rest ∙
               (ap (λ w. w ++ pre_all s.last) (append-nil (pre_all s.first)) ∙ sym (pre_all_append s.first s.last))));
           good = s.good_others;
           left = s.left ∙ (ap (λ k. before s.hole ++ post k) none ∙ ap (λ h. before h ++ []) is);
@@ -266,7 +311,8 @@ module _ {T : Type 0} (slot : T → Slot) where
         no_more (node t d l w) o = absurd o
 
   -- a tree more
-  pub sown : (tasks : List (Task T)) (others : List (Rose T)) (es : List Entry) (u : Task T) (d : Entry) (new : List (Task T)) → Planted slot tasks others es → Added u tasks new → u.parent ≡ None → Seen slot no_parent u d →
+  pub sown : (tasks : List (Task T)) (others : List (Rose T)) (es : List Entry) (u : Task T) (d : Entry) (new : List (Task T)) →
+      Planted slot tasks others es → Added u tasks new → u.parent ≡ None → Seen slot no_parent u d →
       (c : Rose T) × Planted slot new (c ∷ others) (d ∷ []) × (post c ≡ es)
   sown tasks others es u d new p added parent seen =
       let nothing : added.back ≡ [] = subst (λ q. IsEnd q tasks added.front added.back) parent added.behind in
@@ -277,7 +323,8 @@ module _ {T : Type 0} (slot : T → Slot) where
           current = tree;
           roots = p.roots ++ tree ∷ [];
           dealt = deal_first tree (p.current ∷ others) p.roots p.dealt;
-          tasks_are = added.is ∙ (ap (λ w. w ++ u ∷ added.back) front ∙ (ap (λ w. tasks ++ u ∷ w) nothing ∙ (ap (λ w. w ++ u ∷ []) p.tasks_are ∙ sym (pre_all_append p.roots (tree ∷ [])))));
+          tasks_are = added.is ∙ (ap (λ w. w ++ u ∷ added.back) front ∙
+              (ap (λ w. tasks ++ u ∷ w) nothing ∙ (ap (λ w. w ++ u ∷ []) p.tasks_are ∙ sym (pre_all_append p.roots (tree ∷ [])))));
           good = (record { one = tt; most = number_of slot u + 1; good = (seen, omega arith, tt, tt) }, p.good);
           current_is = refl;
         },

@@ -1,5 +1,6 @@
 -- To a task's parent, and to the task that a wait belongs to.
-use Rattle.std.proofs.Common.{◌≡◌, ℕ, ◌<◌, Bool, true, false, cond, List, [], ◌∷◌, ◌++◌, map, refl, sym, ap, subst, ◌∙◌, append_assoc, arith}
+use Rattle.std.proofs.Common.{◌≡◌, ℕ, ◌<◌, Bool, true, false, cond, List, [], ◌∷◌, ◌++◌, map, refl, sym, ap, subst, ◌∙◌, append_assoc}
+use Rattle.std.proofs.Common.{arith}
 use Rattle.std.proofs.lemmas.List.{append-nil}
 use Rattle.task_tree.specs.Tasks.{Task}
 use Rattle.verse_value.specs.Val.{Val}
@@ -13,7 +14,8 @@ use Rattle.vm_table.specs.Roses.{Rose, empty, node, pre, post, IsOne, pre_all, G
 use Rattle.vm_table.specs.Standing.{onto_entries, Shown, none_shown, empty_shown, tree_shown}
 use Rattle.vm_table.specs.Together.{passed}
 use Rattle.vm_table.proofs.Lists.{Each}
-use Rattle.vm_table.proofs.Holes.{Hole, top, beneath, behind, fill, front, back, before, after, parent_at, most_at, GoodHole, good_in, good_out, good_weaker}
+use Rattle.vm_table.proofs.Holes.{Hole, top, beneath, behind, fill, front, back, before, after, parent_at, most_at, GoodHole, good_in}
+use Rattle.vm_table.proofs.Holes.{good_out, good_weaker}
 use Rattle.vm_table.proofs.Spots.{join, post_join, pre_split, Spot, fronts, backs}
 use Rattle.vm_table.proofs.Changes.{Tops}
 
@@ -42,14 +44,25 @@ slept_cut (t ∷ ts) [] e b p = record { earlier = []; it = t; later = ts; is = 
 slept_cut (t ∷ ts) (x ∷ a) e b p =
     let same : slept t ≡ x = cc in let tails : map slept ts ≡ a ++ e ∷ b = cc in
     let r = slept_cut ts a e b tails in
-    record { earlier = t ∷ r.earlier; it = r.it; later = r.later; is = ap (λ w. t ∷ w) r.is; left = ap (λ w. slept t ∷ w) r.left ∙ ap (λ z. z ∷ a) same; entry = r.entry; right = r.right }
+    record {
+      earlier = t ∷ r.earlier;
+      it = r.it;
+      later = r.later;
+      is = ap (λ w. t ∷ w) r.is;
+      left =
+          ap (λ w. slept t ∷ w) r.left ∙ ap (λ z. z ∷ a) same;
+      entry = r.entry;
+      right = r.right;
+    }
 
 pub climbs_to : (up : List ℕ) (n : ℕ) (v : Val) (xs earlier : List m.Task) (y : m.Task) (later : List m.Task) (trees : Trees) (s : State) →
     Each (λ x. same_path up (path_of x) ≡ false) (map slept earlier) → same_path up y.thread.who.path ≡ true →
     climbs up n v xs (earlier ++ y ∷ later) trees s ≡ joined n v y.rest y (passed earlier xs) later trees s
-climbs_to up n v xs [] y later trees s h k = ap (λ b. cond b (joined n v y.rest y xs later trees s) (climbs up n v (y ∷ xs) later trees s)) k
+climbs_to up n v xs [] y later trees s h k =
+    ap (λ b. cond b (joined n v y.rest y xs later trees s) (climbs up n v (y ∷ xs) later trees s)) k
 climbs_to up n v xs (x ∷ earlier) y later trees s h k =
-    ap (λ b. cond b (joined n v x.rest x xs (earlier ++ y ∷ later) trees s) (climbs up n v (x ∷ xs) (earlier ++ y ∷ later) trees s)) h.0 ∙ climbs_to up n v (x ∷ xs) earlier y later trees s h.1 k
+    ap (λ b. cond b (joined n v x.rest x xs (earlier ++ y ∷ later) trees s) (climbs up n v (x ∷ xs) (earlier ++ y ∷ later) trees s)) h.0 ∙
+    climbs_to up n v (x ∷ xs) earlier y later trees s h.1 k
 
 -- the wait that is found first
 pub record Woken (n : ℕ) (v : Val) (first : List (List m.Task)) (tss : List (List m.Task)) (s : State) : Type 0 where
@@ -62,7 +75,8 @@ pub record Woken (n : ℕ) (v : Val) (first : List (List m.Task)) (tss : List (L
   pub is : tss ≡ before ++ (earlier ++ it ∷ later) ∷ behind
   pub asleep_is : it.rest ≡ asleep wait
   pub number : eqn n wait.number ≡ true
-  pub goes_on : woken_in n v first tss s ≡ resumes it.thread v (world (passed earlier []) later [] (record { before = first ++ before; behind = behind })) s
+  pub goes_on : woken_in n v first tss s ≡ resumes it.thread v
+      (world (passed earlier []) later [] (record { before = first ++ before; behind = behind })) s
 
 record WokenHere (n : ℕ) (v : Val) (xs ts : List m.Task) (trees : Trees) (s : State) : Type 0 where
   pub earlier : List m.Task
@@ -90,12 +104,14 @@ woken_here n v xs (t ∷ ts) trees s h = go t.rest refl (λ k. woken_here n v (t
       goes_on = pass (is_asleep n t.rest) other ∙ r.goes_on;
     }
       where
-        pass : (b : Bool) → cond b true false ≡ false → cond b (resumes t.thread v (world xs ts [] trees) s) (woken n v (t ∷ xs) ts trees s) ≡ woken n v (t ∷ xs) ts trees s
+        pass : (b : Bool) → cond b true false ≡ false →
+            cond b (resumes t.thread v (world xs ts [] trees) s) (woken n v (t ∷ xs) ts trees s) ≡ woken n v (t ∷ xs) ts trees s
         pass true e = absurd (cc)
         pass false e = refl
 
     go : (w : Rest) → t.rest ≡ w → (has n (waits_of ts) ≡ true → WokenHere n v (t ∷ xs) ts trees s) → WokenHere n v xs (t ∷ ts) trees s
-    go (group k p gs) e more = next (ap (λ w. cond (is_asleep n w) true false) e) (more (ap (λ w. has n (waits_with w (waits_of ts))) (sym e) ∙ h))
+    go (group k p gs) e more = next (ap (λ w. cond (is_asleep n w) true false) e)
+        (more (ap (λ w. has n (waits_with w (waits_of ts))) (sym e) ∙ h))
     go (asleep w) e more = at (eqn n w.number) refl
       where
         at : (b : Bool) → eqn n w.number ≡ b → WokenHere n v xs (t ∷ ts) trees s
@@ -107,7 +123,8 @@ woken_here n v xs (t ∷ ts) trees s h = go t.rest refl (λ k. woken_here n v (t
           is = refl;
           asleep_is = e;
           number = k;
-          goes_on = ap (λ b. cond b (resumes t.thread v (world xs ts [] trees) s) (woken n v (t ∷ xs) ts trees s)) (ap (λ r. is_asleep n r) e ∙ k);
+          goes_on = ap (λ b. cond b (resumes t.thread v (world xs ts [] trees) s) (woken n v (t ∷ xs) ts trees s))
+              (ap (λ r. is_asleep n r) e ∙ k);
         }
         at false k =
             next (ap (λ b. cond b true false) (ap (λ r. is_asleep n r) e ∙ k))
@@ -117,7 +134,8 @@ pub has_append : (n : ℕ) (a b : List Wait) → has n (a ++ b) ≡ cond (has n 
 has_append n [] b = refl
 has_append n (w ∷ a) b = go (eqn n w.number) (has_append n a b)
   where
-    go : (c : Bool) → has n (a ++ b) ≡ cond (has n a) true (has n b) → cond c true (has n (a ++ b)) ≡ cond (cond c true (has n a)) true (has n b)
+    go : (c : Bool) → has n (a ++ b) ≡ cond (has n a) true (has n b) →
+        cond c true (has n (a ++ b)) ≡ cond (cond c true (has n a)) true (has n b)
     go true e = refl
     go false e = e
 
@@ -125,7 +143,8 @@ pub woken_found : (n : ℕ) (v : Val) (first tss : List (List m.Task)) (s : Stat
 woken_found n v first [] s h = absurd (cc)
 woken_found n v first (ts ∷ tss) s h = go (has n (waits_of ts)) refl (λ k. woken_found n v (first ++ ts ∷ []) tss s k)
   where
-    go : (b : Bool) → has n (waits_of ts) ≡ b → (has n (tree_waits tss) ≡ true → Woken n v (first ++ ts ∷ []) tss s) → Woken n v first (ts ∷ tss) s
+    go : (b : Bool) → has n (waits_of ts) ≡ b → (has n (tree_waits tss) ≡ true → Woken n v (first ++ ts ∷ []) tss s) →
+        Woken n v first (ts ∷ tss) s
     go true e more =
         let r = woken_here n v [] ts (record { before = first; behind = tss }) s e in
         record {
@@ -138,8 +157,10 @@ woken_found n v first (ts ∷ tss) s h = go (has n (waits_of ts)) refl (λ k. wo
           is = ap (λ w. w ∷ tss) r.is;
           asleep_is = r.asleep_is;
           number = r.number;
-          goes_on = ap (λ b. cond b (woken n v [] ts (record { before = first; behind = tss }) s) (woken_in n v (first ++ ts ∷ []) tss s)) e ∙ (r.goes_on ∙
-              ap (λ w. resumes r.it.thread v (world (passed r.earlier []) r.later [] (record { before = w; behind = tss })) s) (sym (append-nil first)));
+          goes_on = ap (λ b. cond b (woken n v [] ts (record { before = first; behind = tss }) s) (woken_in n v (first ++ ts ∷ []) tss s))
+              e ∙ (r.goes_on ∙
+              ap (λ w. resumes r.it.thread v (world (passed r.earlier []) r.later [] (record { before = w; behind = tss })) s)
+              (sym (append-nil first)));
         }
     go false e more =
         let r = more (sym (ap (λ b. cond b true (has n (tree_waits tss))) e) ∙ (sym (has_append n (waits_of ts) (tree_waits tss)) ∙ h)) in
@@ -153,8 +174,10 @@ woken_found n v first (ts ∷ tss) s h = go (has n (waits_of ts)) refl (λ k. wo
           is = ap (λ w. ts ∷ w) r.is;
           asleep_is = r.asleep_is;
           number = r.number;
-          goes_on = ap (λ b. cond b (woken n v [] ts (record { before = first; behind = tss }) s) (woken_in n v (first ++ ts ∷ []) tss s)) e ∙ (r.goes_on ∙
-              ap (λ w. resumes r.it.thread v (world (passed r.earlier []) r.later [] (record { before = w; behind = r.behind })) s) (append_assoc first (ts ∷ []) r.before));
+          goes_on = ap (λ b. cond b (woken n v [] ts (record { before = first; behind = tss }) s) (woken_in n v (first ++ ts ∷ []) tss s))
+              e ∙ (r.goes_on ∙
+              ap (λ w. resumes r.it.thread v (world (passed r.earlier []) r.later [] (record { before = w; behind = r.behind })) s)
+              (append_assoc first (ts ∷ []) r.before));
         }
 
 module _ {T : Type 0} where
@@ -172,7 +195,8 @@ module _ {T : Type 0} where
 
   pub shown_cut : (cs : List (Rose T)) (xs ys : List (List Entry)) → Shown cs (xs ++ ys) → ShownCut cs xs ys
   shown_cut cs [] ys s = record { first = []; last = cs; is = refl; left = none_shown; right = s }
-  shown_cut cs (es ∷ xs) ys (empty_shown s) = let r = shown_cut cs xs ys s in record { first = r.first; last = r.last; is = r.is; left = empty_shown r.left; right = r.right }
+  shown_cut cs (es ∷ xs) ys (empty_shown s) = let r = shown_cut cs xs ys s in
+      record { first = r.first; last = r.last; is = r.is; left = empty_shown r.left; right = r.right }
   shown_cut cs (es ∷ xs) ys (tree_shown {c = c} {cs = ds} p s) =
       let r = shown_cut ds xs ys s in
       record { first = c ∷ r.first; last = r.last; is = ap (λ w. c ∷ w) r.is; left = tree_shown p r.left; right = r.right }
@@ -230,8 +254,11 @@ module _ {T : Type 0} where
         hole = o.hole;
         siblings = join o.siblings (node u d k empty);
         rest = o.rest;
-        filled = λ x. o.filled (node u d k x) ∙ ap (λ w. fill o.hole (node t e w o.rest)) (sym (join_assoc o.siblings (node u d k empty) x));
-        left = ap (λ w. w ++ (post k ++ d ∷ [])) o.left ∙ (append_assoc (before o.hole) (post o.siblings) (post k ++ d ∷ []) ∙ ap (λ w. before o.hole ++ w) (sym (post_join o.siblings (node u d k empty))));
+        filled = λ x. o.filled (node u d k x) ∙
+            ap (λ w. fill o.hole (node t e w o.rest)) (sym (join_assoc o.siblings (node u d k empty) x));
+        left = ap (λ w. w ++ (post k ++ d ∷ [])) o.left ∙
+            (append_assoc (before o.hole) (post o.siblings) (post k ++ d ∷ []) ∙
+            ap (λ w. before o.hole ++ w) (sym (post_join o.siblings (node u d k empty))));
         right = o.right;
         siblings_are = ap (λ w. join w (node u d k empty)) o.siblings_are;
       }
@@ -249,13 +276,17 @@ module _ {T : Type 0} (slot : T → Slot) where
   after_parent (behind h t e k) d b p = after_parent h d b p
 
   -- a task without children has gone, and its parent is looked at
-  abbrev pub above_gone : {tasks : List (Task T)} {others : List (Rose T)} {a : List Entry} {e : Entry} {b : List Entry} (s : Spot slot tasks others a e b) (t : Task T) (d : Entry) (new : List (Task T)) →
-      s.kids ≡ empty → parent_at s.hole ≡ under t d → IsOne (fill s.hole s.rest) → new ≡ fronts slot s ++ (pre s.rest ++ backs slot s) → (o : Over s.hole t d) →
+  abbrev pub above_gone : {tasks : List (Task T)} {others : List (Rose T)} {a : List Entry} {e : Entry} {b : List Entry}
+      (s : Spot slot tasks others a e b) (t : Task T) (d : Entry) (new : List (Task T)) →
+      s.kids ≡ empty → parent_at s.hole ≡ under t d → IsOne (fill s.hole s.rest) → new ≡ fronts slot s ++ (pre s.rest ++ backs slot s) →
+      (o : Over s.hole t d) →
       Spot slot new others (a ++ post s.rest) d (post o.rest ++ after o.hole)
   above_gone {a = a} {e = e} s t d new none up one is o =
       let x : Rose T = node t d (join o.siblings s.rest) o.rest in
       let filled = o.filled s.rest in
-      let good = good_out slot s.most s.hole s.rest s.around (good_weaker slot (parent_at s.hole) (number_of slot s.task) (most_at slot s.most s.hole) s.rest (omega (arith, s.good.1)) s.good.3) in
+      let good = good_out slot s.most s.hole s.rest s.around
+      (good_weaker slot (parent_at s.hole) (number_of slot s.task) (most_at slot s.most s.hole) s.rest
+      (omega (arith, s.good.1)) s.good.3) in
       let inside = good_in slot s.most o.hole x (subst (λ c. Good slot no_parent s.most c) filled good) in
       record {
         most = s.most;
@@ -271,8 +302,11 @@ module _ {T : Type 0} (slot : T → Slot) where
         good_others = s.good_others;
         dealt = s.dealt;
         left = ap (λ w. w ++ post s.rest) (s.left ∙ (ap (λ k. before s.hole ++ post k) none ∙ (append-nil (before s.hole) ∙ o.left))) ∙
-            (append_assoc (before o.hole) (post o.siblings) (post s.rest) ∙ ap (λ w. before o.hole ++ w) (sym (post_join o.siblings s.rest)));
+            (append_assoc (before o.hole) (post o.siblings) (post s.rest) ∙
+            ap (λ w. before o.hole ++ w) (sym (post_join o.siblings s.rest)));
         right = refl;
-        was = is ∙ (sym (pre_split s.first s.last s.hole s.rest) ∙ (ap (λ c. pre_all (s.first ++ c ∷ s.last)) filled ∙ (pre_split s.first s.last o.hole x ∙
-            ap (λ w. (pre_all s.first ++ front o.hole) ++ w) (append_assoc (t ∷ pre (join o.siblings s.rest)) (pre o.rest) (back o.hole ++ pre_all s.last)))));
+        was = is ∙ (sym (pre_split s.first s.last s.hole s.rest) ∙
+            (ap (λ c. pre_all (s.first ++ c ∷ s.last)) filled ∙ (pre_split s.first s.last o.hole x ∙
+            ap (λ w. (pre_all s.first ++ front o.hole) ++ w)
+            (append_assoc (t ∷ pre (join o.siblings s.rest)) (pre o.rest) (back o.hole ++ pre_all s.last)))));
       }

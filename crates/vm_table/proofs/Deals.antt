@@ -1,5 +1,6 @@
 -- Waits in two orders.
-use Rattle.std.proofs.Common.{◌≡◌, ℕ, Bool, true, false, cond, List, [], ◌∷◌, ◌++◌, map, length, Option, Some, None, refl, sym, ap, subst, ◌∙◌, append_assoc, arith, length-append}
+use Rattle.std.proofs.Common.{◌≡◌, ℕ, Bool, true, false, cond, List, [], ◌∷◌, ◌++◌, map, length, Option, Some, None, refl, sym, ap, subst}
+use Rattle.std.proofs.Common.{◌∙◌, append_assoc, arith, length-append}
 use Rattle.std.proofs.lemmas.Bool.Decides.{nat_tests}
 use Rattle.task_tree.specs.Tasks.{Task}
 use Rattle.verse_state.specs.State.{State, Given}
@@ -22,7 +23,8 @@ module _ {A : Type 0} where
   pub deal_append : (a b c d : List A) → Deal a b → Deal c d → Deal (a ++ c) (b ++ d)
   deal_append a b c d none_dealt k = k
   deal_append a b c d (one_dealt {x = x} {xs = xs} f g p h) k =
-      one_dealt f (g ++ d) (ap (λ w. w ++ d) p ∙ append_assoc f (x ∷ g) d) (subst (λ w. Deal (xs ++ c) w) (append_assoc f g d) (deal_append xs (f ++ g) c d h k))
+      one_dealt f (g ++ d) (ap (λ w. w ++ d) p ∙ append_assoc f (x ∷ g) d)
+      (subst (λ w. Deal (xs ++ c) w) (append_assoc f g d) (deal_append xs (f ++ g) c d h k))
 
   pub deal_same : (xs : List A) → Deal xs xs
   deal_same [] = none_dealt
@@ -50,7 +52,8 @@ abbrev pub Unlike : List Wait → Type 0
 Unlike [] = Unit {0}
 Unlike (w ∷ ws) = Each (λ v. v.number ≡ w.number → ⊥) ws × Unlike ws
 
-pub unlike_parts : (a : List Wait) (w : Wait) (b : List Wait) → Unlike (a ++ w ∷ b) → Each (λ v. v.number ≡ w.number → ⊥) (a ++ b) × Unlike (a ++ b)
+pub unlike_parts : (a : List Wait) (w : Wait) (b : List Wait) → Unlike (a ++ w ∷ b) →
+    Each (λ v. v.number ≡ w.number → ⊥) (a ++ b) × Unlike (a ++ b)
 unlike_parts [] w b u = u
 unlike_parts (v ∷ a) w b u =
     let r = unlike_parts a w b u.1 in
@@ -66,7 +69,8 @@ deal_unlike xs zs (one_dealt {x = x} {xs = ys} f g p h) u =
 pub deal_has : (n : ℕ) (xs zs : List Wait) → Deal xs zs → has n xs ≡ has n zs
 deal_has n xs zs none_dealt = refl
 deal_has n xs zs (one_dealt {x = x} {xs = ys} f g p h) =
-    ap (λ b. cond (eqn n x.number) true b) (deal_has n ys (f ++ g) h ∙ has_append n f g) ∙ (order (eqn n x.number) (has n f) (has n g) ∙ sym (ap (λ w. has n w) p ∙ has_append n f (x ∷ g)))
+    ap (λ b. cond (eqn n x.number) true b) (deal_has n ys (f ++ g) h ∙ has_append n f g) ∙
+    (order (eqn n x.number) (has n f) (has n g) ∙ sym (ap (λ w. has n w) p ∙ has_append n f (x ∷ g)))
   where
     order : (a b c : Bool) → cond a true (cond b true c) ≡ cond b true (cond a true c)
     order true true c = refl
@@ -78,7 +82,8 @@ pub sooner_swaps : (n k : ℕ) (g h : Given) (o : Option Due) → (n ≡ k → �
 sooner_swaps n k g h None d = grind (arith, nat_tests)
 sooner_swaps n k g h (Some e) d = grind (arith, nat_tests)
 
-sooner_of_swaps : (n k : ℕ) (a b : Option Given) (o : Option Due) → (n ≡ k → ⊥) → sooner_of n a (sooner_of k b o) ≡ sooner_of k b (sooner_of n a o)
+sooner_of_swaps : (n k : ℕ) (a b : Option Given) (o : Option Due) → (n ≡ k → ⊥) →
+    sooner_of n a (sooner_of k b o) ≡ sooner_of k b (sooner_of n a o)
 sooner_of_swaps n k None b o d = refl
 sooner_of_swaps n k (Some g) None o d = refl
 sooner_of_swaps n k (Some g) (Some h) o d = sooner_swaps n k g h o d
@@ -134,25 +139,32 @@ told_append (x ∷ a) b = ap (λ w. x.1 ∷ w) (told_append a b)
 module _ {T : Type 0} (slot : T → Slot) where
   pub sleeping_append : (a b : List (Task T)) → sleeping slot (a ++ b) ≡ sleeping slot a ++ sleeping slot b
   sleeping_append [] b = refl
-  sleeping_append (t ∷ a) b = ap (λ w. with_held t.number (slot t.item).held w) (sleeping_append a b) ∙ held_append t.number (slot t.item).held (sleeping slot a) (sleeping slot b)
+  sleeping_append (t ∷ a) b = ap (λ w. with_held t.number (slot t.item).held w) (sleeping_append a b) ∙
+      held_append t.number (slot t.item).held (sleeping slot a) (sleeping slot b)
 
   -- a task's own wait, if any, before others
-  one_more : (id : ℕ) (h : Held) (e : Entry) → Shows id h e → (a b : List Wait) (xs : List (ℕ × Wait)) → Deal (a ++ b) (waits_told xs) → Deal (a ++ with_entry e b) (waits_told (with_held id h xs))
+  one_more : (id : ℕ) (h : Held) (e : Entry) → Shows id h e → (a b : List Wait) (xs : List (ℕ × Wait)) → Deal (a ++ b) (waits_told xs) →
+      Deal (a ++ with_entry e b) (waits_told (with_held id h xs))
   one_more id by_machine (slept y) s a b xs d = absurd s
   one_more id by_machine (held i w arms) s a b xs d = d
   one_more id (by_itself f bl r) (held i w arms) s a b xs d = absurd s
-  one_more id (by_itself f bl r) (slept y) s a b xs d = subst (λ q. Deal (a ++ waits_with q b) (waits_told (with_rest id r xs))) (sym s.2) (go r)
+  one_more id (by_itself f bl r) (slept y) s a b xs d =
+      subst (λ q. Deal (a ++ waits_with q b) (waits_told (with_rest id r xs))) (sym s.2) (go r)
     where
       go : (r : Rest) → Deal (a ++ waits_with r b) (waits_told (with_rest id r xs))
       go (asleep w) = move w a b (w ∷ waits_told xs) (one_dealt [] (waits_told xs) refl d)
       go (group k p gs) = d
 
-  pub rose_deal : (q : Parent T) (most : ℕ) (c : Rose T) → Good slot q most c → Deal (waits_in (post c)) (waits_told (sleeping slot (pre c)))
+  pub rose_deal : (q : Parent T) (most : ℕ) (c : Rose T) → Good slot q most c →
+      Deal (waits_in (post c)) (waits_told (sleeping slot (pre c)))
   rose_deal q most empty g = none_dealt
   rose_deal q most (node t e k r) g =
-      let inner = deal_append (waits_in (post k)) (waits_told (sleeping slot (pre k))) (waits_in (post r)) (waits_told (sleeping slot (pre r))) (rose_deal (under t e) (number_of slot t) k g.2) (rose_deal q (number_of slot t) r g.3) in
+      let inner = deal_append (waits_in (post k)) (waits_told (sleeping slot (pre k))) (waits_in (post r))
+      (waits_told (sleeping slot (pre r))) (rose_deal (under t e) (number_of slot t) k g.2) (rose_deal q (number_of slot t) r g.3) in
       let both : Deal (waits_in (post k) ++ waits_in (post r)) (waits_told (sleeping slot (pre k ++ pre r))) =
-      subst (λ w. Deal (waits_in (post k) ++ waits_in (post r)) w) (sym (ap (λ w. waits_told w) (sleeping_append (pre k) (pre r)) ∙ told_append (sleeping slot (pre k)) (sleeping slot (pre r)))) inner in
+      subst (λ w. Deal (waits_in (post k) ++ waits_in (post r)) w)
+      (sym (ap (λ w. waits_told w) (sleeping_append (pre k) (pre r)) ∙ told_append (sleeping slot (pre k)) (sleeping slot (pre r))))
+      inner in
       subst (λ w. Deal w (waits_told (sleeping slot (t ∷ pre k ++ pre r)))) (sym (waits_append (post k) (e ∷ post r)))
       (one_more t.number (slot t.item).held e g.0.shows (waits_in (post k)) (waits_in (post r)) (sleeping slot (pre k ++ pre r)) both)
 
@@ -160,22 +172,30 @@ module _ {T : Type 0} (slot : T → Slot) where
   waits_all [] = []
   waits_all (c ∷ cs) = waits_in (post c) ++ waits_all cs
 
-  all_waits_append : (a b : List (Rose T)) → waits_told (sleeping slot (pre_all (a ++ b))) ≡ waits_told (sleeping slot (pre_all a)) ++ waits_told (sleeping slot (pre_all b))
-  all_waits_append a b = ap (λ ts. waits_told (sleeping slot ts)) (go a) ∙ (ap (λ w. waits_told w) (sleeping_append (pre_all a) (pre_all b)) ∙ told_append (sleeping slot (pre_all a)) (sleeping slot (pre_all b)))
+  all_waits_append : (a b : List (Rose T)) → waits_told (sleeping slot (pre_all (a ++ b))) ≡ waits_told (sleeping slot (pre_all a)) ++
+      waits_told (sleeping slot (pre_all b))
+  all_waits_append a b = ap (λ ts. waits_told (sleeping slot ts)) (go a) ∙
+      (ap (λ w. waits_told w) (sleeping_append (pre_all a) (pre_all b)) ∙
+      told_append (sleeping slot (pre_all a)) (sleeping slot (pre_all b)))
     where
       go : (a : List (Rose T)) → pre_all (a ++ b) ≡ pre_all a ++ pre_all b
       go [] = refl
       go (c ∷ a) = ap (λ w. pre c ++ w) (go a) ∙ sym (append_assoc (pre c) (pre_all a) (pre_all b))
 
-  pub trees_deal : (trees roots : List (Rose T)) → Deal trees roots → GoodTrees slot trees → Deal (waits_all trees) (waits_told (sleeping slot (pre_all roots)))
+  pub trees_deal : (trees roots : List (Rose T)) → Deal trees roots → GoodTrees slot trees →
+      Deal (waits_all trees) (waits_told (sleeping slot (pre_all roots)))
   trees_deal trees roots none_dealt g = none_dealt
   trees_deal trees roots (one_dealt {x = c} {xs = cs} f b p h) g =
       let told : List (Rose T) → List Wait = λ ws. waits_told (sleeping slot (pre_all ws)) in
       let mine : Deal (waits_in (post c)) (waits_told (sleeping slot (pre c))) = rose_deal no_parent g.0.most c g.0.good in
-      let rest : Deal (waits_all cs) (told f ++ told b) = subst (λ w. Deal (waits_all cs) w) (all_waits_append f b) (trees_deal cs (f ++ b) h g.1) in
+      let rest : Deal (waits_all cs) (told f ++ told b) =
+      subst (λ w. Deal (waits_all cs) w) (all_waits_append f b) (trees_deal cs (f ++ b) h g.1) in
       let whole : told roots ≡ told f ++ (waits_told (sleeping slot (pre c)) ++ told b) =
-      ap told p ∙ (all_waits_append f (c ∷ b) ∙ ap (λ w. told f ++ w) (ap (λ w. waits_told w) (sleeping_append (pre c) (pre_all b)) ∙ told_append (sleeping slot (pre c)) (sleeping slot (pre_all b)))) in
-      subst (λ w. Deal (waits_in (post c) ++ waits_all cs) w) (sym whole) (spread (waits_in (post c)) (waits_told (sleeping slot (pre c))) (waits_all cs) (told f) (told b) mine rest)
+      ap told p ∙ (all_waits_append f (c ∷ b) ∙
+      ap (λ w. told f ++ w) (ap (λ w. waits_told w) (sleeping_append (pre c) (pre_all b)) ∙
+      told_append (sleeping slot (pre c)) (sleeping slot (pre_all b)))) in
+      subst (λ w. Deal (waits_in (post c) ++ waits_all cs) w) (sym whole)
+      (spread (waits_in (post c)) (waits_told (sleeping slot (pre c))) (waits_all cs) (told f) (told b) mine rest)
     where
       spread : (a b xs f g : List Wait) → Deal a b → Deal xs (f ++ g) → Deal (a ++ xs) (f ++ (b ++ g))
       spread a b xs f g none_dealt d = d
@@ -190,7 +210,8 @@ module _ {T : Type 0} (slot : T → Slot) where
   shown_lists : (trees : List (Rose T)) (ess : List (List Entry)) → Shown trees ess → waits_all trees ≡ lists_waits ess
   shown_lists trees ess none_shown = refl
   shown_lists trees ess (empty_shown {ess = fs} s) = shown_lists trees fs s
-  shown_lists trees ess (tree_shown {cs = cs} {es = es} {ess = fs} p s) = ap (λ w. waits_in w ++ waits_all cs) p ∙ ap (λ w. waits_in es ++ w) (shown_lists cs fs s)
+  shown_lists trees ess (tree_shown {cs = cs} {es = es} {ess = fs} p s) =
+      ap (λ w. waits_in w ++ waits_all cs) p ∙ ap (λ w. waits_in es ++ w) (shown_lists cs fs s)
 
   pub shown_waits : (trees : List (Rose T)) (tss : List (List m.Task)) → Shown trees (trees_entries tss) → waits_all trees ≡ tree_waits tss
   shown_waits trees tss s = shown_lists trees (trees_entries tss) s ∙ go tss

@@ -1,5 +1,6 @@
 -- What the end of a task is in the definition, and a waking.
-use Rattle.std.proofs.Common.{◌≡◌, inl, inr, ℕ, ◌<◌, true, false, List, [], ◌∷◌, ◌++◌, map, Option, Some, None, refl, sym, ap, subst, ◌∙◌, append_assoc, arith}
+use Rattle.std.proofs.Common.{◌≡◌, inl, inr, ℕ, ◌<◌, true, false, List, [], ◌∷◌, ◌++◌, map, Option, Some, None, refl, sym, ap, subst, ◌∙◌}
+use Rattle.std.proofs.Common.{append_assoc, arith}
 use Rattle.std.proofs.lemmas.List.{append-nil}
 use Rattle.task_tree.specs.Tasks.{Task, task_at, with_item, without, HasNoChild}
 use Rattle.task_tree.specs.Nested.{IsTree}
@@ -9,11 +10,14 @@ use Rattle.verse_value.specs.Val.{Val}
 use Rattle.verse_state.specs.Waits.{ltn}
 use Rattle.verse_state.specs.Turns.{Kind}
 use Rattle.verse_machine.specs.Tasks as m
-use Rattle.verse_machine.specs.Tasks.{Role, root, part, Who, Part, did, runs, Rest, asleep, group, Thread, Up, begins, branching, spawning, clearing, Trees, World, world, onto, among, planted, same_path}
+use Rattle.verse_machine.specs.Tasks.{Role, root, part, Who, Part, did, runs, Rest, asleep, group, Thread, Up, begins, branching, spawning}
+use Rattle.verse_machine.specs.Tasks.{clearing, Trees, World, world, onto, among, planted, same_path}
 use Rattle.verse_machine.specs.Ends.{is_run, with_did, climbs}
-use Rattle.vm_table.specs.Slots.{Slot, by_machine, Entry, slept, held, who_of, path_of, arms_of, Parent, no_parent, under, id_of, path_under, number_of, ArmedBy, RoleFits, Shows}
+use Rattle.vm_table.specs.Slots.{Slot, by_machine, Entry, slept, held, who_of, path_of, arms_of, Parent, no_parent, under, id_of}
+use Rattle.vm_table.specs.Slots.{path_under, number_of, ArmedBy, RoleFits, Shows}
 use Rattle.vm_table.specs.Roses.{Rose, empty, node, post, IsOne, Good, GoodTrees}
-use Rattle.vm_table.specs.Standing.{onto_entries, trees_entries, ups_entries, ups_trees, Deal, Shown, empty_shown, tree_shown, Planted, Stands, Rests}
+use Rattle.vm_table.specs.Standing.{onto_entries, trees_entries, ups_entries, ups_trees, Deal, Shown, empty_shown, tree_shown, Planted}
+use Rattle.vm_table.specs.Standing.{Stands, Rests}
 use Rattle.vm_table.specs.Together.{passed, Joins}
 use Rattle.vm_table.proofs.Lists.{Each, each_weaker}
 use Rattle.vm_table.proofs.Paths.{same_self, same_beneath}
@@ -23,18 +27,24 @@ use Rattle.vm_table.proofs.Spots.{join, Spot}
 use Rattle.vm_table.proofs.Changes.{Tops, reseated, reentered, without_it, one_less, RootGone, root_gone}
 use Rattle.vm_table.proofs.Mirror.{onto_append}
 use Rattle.vm_table.proofs.Cancelled.{planted_of}
-use Rattle.vm_table.proofs.Climbing.{onto_passed, onto_slept, slept_cut, climbs_to, shown_append, shown_cut, siblings_tops, tops_join, Over, over, siblings_above, after_parent, above_gone}
+use Rattle.vm_table.proofs.Climbing.{onto_passed, onto_slept, slept_cut, climbs_to, shown_append, shown_cut, siblings_tops, tops_join, Over}
+use Rattle.vm_table.proofs.Climbing.{over, siblings_above, after_parent, above_gone}
 use Rattle.vm_table.proofs.Steps.{trees_append, is_run_more, is_run_did, is_run_with, at_spot, running_spot, is_held}
 use Rattle.vm_table.proofs.Overs.{shown_head, no_entries, no_kids, longer}
 
 module _ {T : Type 0} (slot : T → Slot) where
   -- the children that are left when one has gone have other numbers
-  others_differ : {tasks : List (Task T)} {others : List (Rose T)} {a : List Entry} {e : Entry} {b : List Entry} (s : Spot slot tasks others a e b) (t : Task T) (d : Entry) (o : Over s.hole t d) →
+  others_differ : {tasks : List (Task T)} {others : List (Rose T)} {a : List Entry} {e : Entry} {b : List Entry}
+      (s : Spot slot tasks others a e b) (t : Task T) (d : Entry) (o : Over s.hole t d) →
       Tops slot (λ c. c ≡ number_of slot s.task → ⊥) (join o.siblings s.rest)
   others_differ s t d o =
       let n = number_of slot s.task in
-      let earlier : Tops slot (λ c. n < c) o.siblings = subst (λ w. Tops slot (λ c. n < c) w) (sym o.siblings_are) (siblings_tops slot (λ c. n < c) s.hole (siblings_above slot s.most n s.hole s.around s.good.1)) in
-      tops_join slot (λ c. c ≡ n → ⊥) o.siblings s.rest (weaker (λ c. n < c) (λ c. c ≡ n → ⊥) o.siblings (λ c l p. omega (arith, l, p)) earlier) (less (parent_at s.hole) n s.rest s.good.3)
+      let earlier : Tops slot (λ c. n < c) o.siblings =
+      subst (λ w. Tops slot (λ c. n < c) w) (sym o.siblings_are)
+      (siblings_tops slot (λ c. n < c) s.hole (siblings_above slot s.most n s.hole s.around s.good.1)) in
+      tops_join slot (λ c. c ≡ n → ⊥) o.siblings s.rest
+      (weaker (λ c. n < c) (λ c. c ≡ n → ⊥) o.siblings (λ c l p. omega (arith, l, p)) earlier)
+      (less (parent_at s.hole) n s.rest s.good.3)
     where
       weaker : (P Q : ℕ → Type 0) (k : Rose T) → ((c : ℕ) → P c → Q c) → Tops slot P k → Tops slot Q k
       weaker P Q empty f h = tt
@@ -49,30 +59,39 @@ module _ {T : Type 0} (slot : T → Slot) where
           weaker2 i n l q (node t e k r) g = ((λ p. omega (arith, g.1, l, p)), weaker2 (number_of slot t) n (omega (arith, g.1, l)) q r g.3)
 
   -- where the task that began it is the next that stands, it has no later sibling
-  only_child : {tasks : List (Task T)} {others : List (Rose T)} {a : List Entry} {e : Entry} {d : Entry} {b : List Entry} (s : Spot slot tasks others a e (d ∷ b)) → (who_of e).up ≡ path_of d →
+  only_child : {tasks : List (Task T)} {others : List (Rose T)} {a : List Entry} {e : Entry} {d : Entry} {b : List Entry}
+      (s : Spot slot tasks others a e (d ∷ b)) → (who_of e).up ≡ path_of d →
       (s.rest ≡ empty) × ((t : Task T) × (parent_at s.hole ≡ under t d))
-  only_child {e = e} {d = d} {b = b} s up = go s.rest refl (all_below slot (parent_at s.hole) (number_of slot s.task) s.rest s.good.3) s.right
+  only_child {e = e} {d = d} {b = b} s up =
+      go s.rest refl (all_below slot (parent_at s.hole) (number_of slot s.task) s.rest s.good.3) s.right
     where
       name : path_of d ≡ path_under (parent_at s.hole)
       name = sym up ∙ ap (λ (w : Who). w.up) s.good.0.who
 
-      go : (k : Rose T) → s.rest ≡ k → Each (Below slot (parent_at s.hole) (number_of slot s.task)) (post k) → d ∷ b ≡ post s.rest ++ after s.hole → (s.rest ≡ empty) × ((t : Task T) × (parent_at s.hole ≡ under t d))
+      go : (k : Rose T) → s.rest ≡ k → Each (Below slot (parent_at s.hole) (number_of slot s.task)) (post k) →
+          d ∷ b ≡ post s.rest ++ after s.hole → (s.rest ≡ empty) × ((t : Task T) × (parent_at s.hole ≡ under t d))
       go empty is l p = (is, after_parent slot s.hole d b (p ∙ ap (λ k. post k ++ after s.hole) is))
-      go (node u x k r) is l p = absurd (first (post k) x (post r ++ after s.hole) (p ∙ (ap (λ w. post w ++ after s.hole) is ∙ append_assoc (post k) (x ∷ post r) (after s.hole))) (each_front (post k) x (post r) l))
+      go (node u x k r) is l p = absurd (first (post k) x (post r ++ after s.hole)
+          (p ∙ (ap (λ w. post w ++ after s.hole) is ∙ append_assoc (post k) (x ∷ post r) (after s.hole)))
+          (each_front (post k) x (post r) l))
         where
-          each_front : (k : List Entry) (x : Entry) (r : List Entry) → Each (Below slot (parent_at s.hole) (number_of slot s.task)) (k ++ x ∷ r) → Each (Below slot (parent_at s.hole) (number_of slot s.task)) (k ++ x ∷ [])
+          each_front : (k : List Entry) (x : Entry) (r : List Entry) →
+              Each (Below slot (parent_at s.hole) (number_of slot s.task)) (k ++ x ∷ r) →
+              Each (Below slot (parent_at s.hole) (number_of slot s.task)) (k ++ x ∷ [])
           each_front [] x r l = (l.0, tt)
           each_front (y ∷ k) x r l = (l.0, each_front k x r l.1)
 
           apart : (y : Entry) → d ≡ y → Below slot (parent_at s.hole) (number_of slot s.task) y → ⊥
           apart y same l = longer (path_under (parent_at s.hole)) l.number l.more (sym name ∙ (ap (λ z. path_of z) same ∙ l.path))
 
-          first : (k : List Entry) (x : Entry) (r : List Entry) → d ∷ b ≡ k ++ x ∷ r → Each (Below slot (parent_at s.hole) (number_of slot s.task)) (k ++ x ∷ []) → ⊥
+          first : (k : List Entry) (x : Entry) (r : List Entry) → d ∷ b ≡ k ++ x ∷ r →
+              Each (Below slot (parent_at s.hole) (number_of slot s.task)) (k ++ x ∷ []) → ⊥
           first [] x r p l = let same : d ≡ x = cc in apart x same l.0
           first (y ∷ k) x r p l = let same : d ≡ y = cc in apart y same l.0
 
   -- the part has gone, and the task that had begun it is seen
-  part_left : {tasks : List (Task T)} {others : List (Rose T)} {a : List Entry} {e : Entry} {d : Entry} {b : List Entry} (s : Spot slot tasks others a e (d ∷ b)) → IsTree tasks → s.kids ≡ empty → (who_of e).up ≡ path_of d →
+  part_left : {tasks : List (Task T)} {others : List (Rose T)} {a : List Entry} {e : Entry} {d : Entry} {b : List Entry}
+      (s : Spot slot tasks others a e (d ∷ b)) → IsTree tasks → s.kids ≡ empty → (who_of e).up ≡ path_of d →
       (p : Spot slot (without s.task.number tasks) others a d b) × Tops slot (λ c. c ≡ number_of slot s.task → ⊥) p.kids
   part_left {tasks = tasks} {others = others} {a = a} {e = e} {d = d} {b = b} s tree none up =
       let c = only_child s up in
@@ -113,8 +132,10 @@ module _ {T : Type 0} (slot : T → Slot) where
   all_tops (node t e k r) = (tt, all_tops r)
 
   -- an arm is over as it began
-  pub arm_over : (tasks : List (Task T)) (i j : ℕ) (ids : List ℕ) (w : Who) (x : Thread) (k : Kind) (place : Place) (gs : List Part) (n : ℕ) (ls : List ℕ) (us : List Up) (xs ys : List m.Task) (trees : Trees) (v : Val) →
-      Stands slot tasks (j ∷ ids) (held i w None ∷ []) (world xs ys (begins x k place gs n ls ∷ us) trees) → IsTree tasks → HasNoChild i tasks →
+  pub arm_over : (tasks : List (Task T)) (i j : ℕ) (ids : List ℕ) (w : Who) (x : Thread) (k : Kind) (place : Place) (gs : List Part) (n : ℕ)
+      (ls : List ℕ) (us : List Up) (xs ys : List m.Task) (trees : Trees) (v : Val) →
+      Stands slot tasks (j ∷ ids) (held i w None ∷ []) (world xs ys (begins x k place gs n ls ∷ us) trees) → IsTree tasks →
+      HasNoChild i tasks →
       Stands slot (without i tasks) ids (held j x.who (Some (gs ++ did v ∷ [])) ∷ []) (world xs ys us trees)
   arm_over tasks i j ids w x k place gs n ls us xs ys trees v s tree none =
       let o = world xs ys (begins x k place gs n ls ∷ us) trees in
@@ -125,18 +146,21 @@ module _ {T : Type 0} (slot : T → Slot) where
       let d : Entry = held j x.who (Some (gs ++ did v ∷ [])) in
       let b = ups_entries ids us ++ map slept ys in
       let number : number_of slot p.task ≡ n = sym (ap (λ (z : Who). z.number) p.good.0.who) ∙ s.chain.0.1 in
-      let q = reentered slot l.0 d (λ c. c ≡ n → ⊥) refl (subst (λ z. Shows l.0.task.number z d) (sym g.1) g.0) (subst (λ z. Tops slot (λ c. c ≡ z → ⊥) l.0.kids) number l.1)
+      let q = reentered slot l.0 d (λ c. c ≡ n → ⊥) refl (subst (λ z. Shows l.0.task.number z d) (sym g.1) g.0)
+      (subst (λ z. Tops slot (λ c. c ≡ z → ⊥) l.0.kids) number l.1)
       (λ c u a. a ∙ (is_run_more c n gs u ∙ sym (is_run_did c v gs))) in
       record {
         others = s.others;
         planted = subst (λ z. Planted slot (without z tasks) s.others (onto_entries xs (d ∷ b))) (sym h.0)
-            (subst (λ es. Planted slot (without p.task.number tasks) s.others es) (sym (onto_append xs [] (d ∷ b))) (planted_of slot (without p.task.number tasks) s.others (onto_entries xs []) d b q));
+            (subst (λ es. Planted slot (without p.task.number tasks) s.others es) (sym (onto_append xs [] (d ∷ b)))
+            (planted_of slot (without p.task.number tasks) s.others (onto_entries xs []) d b q));
         chain = s.chain.1;
         others_are = s.others_are;
       }
 
   -- a task behind is over as it began
-  pub behind_over : (tasks : List (Task T)) (i j : ℕ) (ids : List ℕ) (w : Who) (x : Thread) (us : List Up) (xs ys : List m.Task) (trees : Trees) →
+  pub behind_over : (tasks : List (Task T)) (i j : ℕ) (ids : List ℕ) (w : Who) (x : Thread) (us : List Up) (xs ys : List m.Task)
+      (trees : Trees) →
       Stands slot tasks (j ∷ ids) (held i w None ∷ []) (world xs ys (branching x ∷ us) trees) → IsTree tasks → HasNoChild i tasks →
       Stands slot (without i tasks) ids (held j x.who None ∷ []) (world xs ys us trees)
   behind_over tasks i j ids w x us xs ys trees s tree none =
@@ -149,12 +173,14 @@ module _ {T : Type 0} (slot : T → Slot) where
       record {
         others = s.others;
         planted = subst (λ z. Planted slot (without z tasks) s.others (onto_entries xs (d ∷ b))) (sym h.0)
-            (subst (λ es. Planted slot (without p.task.number tasks) s.others es) (sym (onto_append xs [] (d ∷ b))) (planted_of slot (without p.task.number tasks) s.others (onto_entries xs []) d b l.0));
+            (subst (λ es. Planted slot (without p.task.number tasks) s.others es) (sym (onto_append xs [] (d ∷ b)))
+            (planted_of slot (without p.task.number tasks) s.others (onto_entries xs []) d b l.0));
         chain = s.chain.1;
         others_are = s.others_are;
       }
 
-  pub joins : (tasks : List (Task T)) (ids : List ℕ) (i : ℕ) (w : Who) (xs ys : List m.Task) (trees : Trees) → Stands slot tasks ids (held i w None ∷ []) (world xs ys [] trees) →
+  pub joins : (tasks : List (Task T)) (ids : List ℕ) (i : ℕ) (w : Who) (xs ys : List m.Task) (trees : Trees) →
+      Stands slot tasks ids (held i w None ∷ []) (world xs ys [] trees) →
       IsTree tasks → IsTree (without i tasks) → HasNoChild i tasks → w.role ≡ part → Joins slot tasks i w xs ys trees
   joins tasks ids i w xs ys trees s tree tree2 none role =
       let o = world xs ys [] trees in
@@ -162,9 +188,12 @@ module _ {T : Type 0} (slot : T → Slot) where
       let h = is_held slot p.task.number i (slot p.task.item).held w None p.good.0.shows in
       at_parent p h.0 h.1 (parent_at p.hole) refl
     where
-      at_parent : (p : Spot slot tasks s.others (onto_entries xs []) (held i w None) (map slept ys)) → i ≡ p.task.number → (slot p.task.item).held ≡ by_machine →
+      at_parent : (p : Spot slot tasks s.others (onto_entries xs []) (held i w None) (map slept ys)) → i ≡ p.task.number →
+          (slot p.task.item).held ≡ by_machine →
           (q : Parent T) → parent_at p.hole ≡ q → Joins slot tasks i w xs ys trees
-      at_parent p same by no_parent is = absurd (subst (λ c. RoleFits None c) (sym (ap (λ (z : Who). z.role) p.good.0.who) ∙ role) (subst (λ q. RoleFits (id_of q) (slot p.task.item).role) is p.good.0.fits))
+      at_parent p same by no_parent is = absurd
+          (subst (λ c. RoleFits None c) (sym (ap (λ (z : Who). z.role) p.good.0.who) ∙ role)
+          (subst (λ q. RoleFits (id_of q) (slot p.task.item).role) is p.good.0.fits))
       at_parent p same by (under t d) is =
           let up = over p.hole t d is in
           let nokids = no_kids slot p tree i same none in
@@ -178,17 +207,22 @@ module _ {T : Type 0} (slot : T → Slot) where
           let others : Each (λ x. same_path w.up (path_of x) ≡ false) (map slept c.earlier) =
           subst (λ w2. Each (λ x. same_path w.up (path_of x) ≡ false) w2) (sym c.left)
           (each_weaker (Below slot (parent_at p.hole) (number_of slot p.task)) (λ x. same_path w.up (path_of x) ≡ false) (post p.rest)
-          (λ x b. ap (λ z. same_path w.up z) (b.path ∙ ap (λ z. z ++ b.number ∷ b.more) (sym (ap (λ (z : Who). z.up) p.good.0.who))) ∙ same_beneath w.up b.number b.more)
+          (λ x b. ap (λ z. same_path w.up z) (b.path ∙ ap (λ z. z ++ b.number ∷ b.more) (sym (ap (λ (z : Who). z.up) p.good.0.who))) ∙
+          same_beneath w.up b.number b.more)
           (all_below slot (parent_at p.hole) (number_of slot p.task) p.rest p.good.3)) in
-          let mine : same_path w.up c.it.thread.who.path ≡ true = ap (λ z. same_path w.up z) (ap (λ z. path_of z) c.entry ∙ sym above) ∙ same_self w.up in
+          let mine : same_path w.up c.it.thread.who.path ≡ true = ap (λ z. same_path w.up z) (ap (λ z. path_of z) c.entry ∙ sym above) ∙
+          same_self w.up in
           let differ = others_differ p t d up in
           let number : number_of slot p.task ≡ w.number = sym (ap (λ (z : Who). z.number) p.good.0.who) in
           let ts : without i tasks ≡ new = ap (λ n. without n tasks) same in
           let b2 = post up.rest ++ after up.hole in
           let flat : onto_entries (passed c.earlier xs) (slept c.it ∷ map slept c.later) ≡ (onto_entries xs [] ++ post p.rest) ++ d ∷ b2 =
-          onto_passed c.earlier xs (slept c.it ∷ map slept c.later) ∙ (onto_append xs [] (map slept c.earlier ++ slept c.it ∷ map slept c.later) ∙
-          (ap (λ z. onto_entries xs [] ++ (z ++ slept c.it ∷ map slept c.later)) c.left ∙ (ap (λ z. onto_entries xs [] ++ (post p.rest ++ z ∷ map slept c.later)) c.entry ∙
-          (ap (λ z. onto_entries xs [] ++ (post p.rest ++ d ∷ z)) c.right ∙ sym (append_assoc (onto_entries xs []) (post p.rest) (d ∷ b2)))))) in
+          onto_passed c.earlier xs (slept c.it ∷ map slept c.later) ∙
+          (onto_append xs [] (map slept c.earlier ++ slept c.it ∷ map slept c.later) ∙
+          (ap (λ z. onto_entries xs [] ++ (z ++ slept c.it ∷ map slept c.later)) c.left ∙
+          (ap (λ z. onto_entries xs [] ++ (post p.rest ++ z ∷ map slept c.later)) c.entry ∙
+          (ap (λ z. onto_entries xs [] ++ (post p.rest ++ d ∷ z)) c.right ∙
+          sym (append_assoc (onto_entries xs []) (post p.rest) (d ∷ b2)))))) in
           let still : Planted slot new s.others (onto_entries (passed c.earlier xs) (slept c.it ∷ map slept c.later)) =
           subst (λ es. Planted slot new s.others es) (sym flat) (planted_of slot new s.others (onto_entries xs [] ++ post p.rest) d b2 q) in
           record {
@@ -197,30 +231,41 @@ module _ {T : Type 0} (slot : T → Slot) where
             earlier = c.earlier;
             parent = c.it;
             later = c.later;
-            of_it = λ u at. ap (λ (z : Task T). z.parent) (inner_task u (sym at ∙ (ap (λ n. task_at n tasks) same ∙ at_spot slot p tree))) ∙ (p.good.0.parent ∙ ap (λ z. id_of z) is);
+            of_it = λ u at. ap (λ (z : Task T). z.parent) (inner_task u (sym at ∙ (ap (λ n. task_at n tasks) same ∙ at_spot slot p tree))) ∙
+                (p.good.0.parent ∙ ap (λ z. id_of z) is);
             at_it = ap (λ z. task_at t.number z) ts ∙ at_spot slot q (subst (λ z. IsTree z) ts tree2);
             shows = subst (λ z. Shows t.number (slot t.item).held z) (sym c.entry) q.good.0.shows;
-            found = λ v s. ap (λ z. climbs w.up w.number v xs z trees s) c.is ∙ climbs_to w.up w.number v xs c.earlier c.it c.later trees s others mine;
-            stays = rests (onto (passed c.earlier xs) (c.it ∷ c.later)) (without i tasks) s.others s.others_are (subst (λ z. Planted slot z s.others (map slept (onto (passed c.earlier xs) (c.it ∷ c.later)))) (sym ts)
+            found = λ v s. ap (λ z. climbs w.up w.number v xs z trees s) c.is ∙
+                climbs_to w.up w.number v xs c.earlier c.it c.later trees s others mine;
+            stays = rests (onto (passed c.earlier xs) (c.it ∷ c.later)) (without i tasks) s.others s.others_are
+                (subst (λ z. Planted slot z s.others (map slept (onto (passed c.earlier xs) (c.it ∷ c.later)))) (sym ts)
                 (subst (λ es. Planted slot new s.others es) (sym (onto_slept (passed c.earlier xs) (c.it ∷ c.later))) still));
             goes = λ item v gs it arms.
                 let e : Entry = held t.number c.it.thread.who (Some (with_did w.number v gs)) in
                 let up_it : Planted slot (with_item t.number new item) s.others ((onto_entries xs [] ++ post p.rest) ++ e ∷ b2) =
-                reseated slot q (subst (λ z. IsTree z) ts tree2) item e (λ c. c ≡ number_of slot p.task → ⊥) (ap (λ (z : Slot). z.number) it) (ap (λ (z : Slot). z.role) it) (ap (λ z. who_of z) c.entry)
+                reseated slot q (subst (λ z. IsTree z) ts tree2) item e (λ c. c ≡ number_of slot p.task →
+                ⊥) (ap (λ (z : Slot). z.number) it) (ap (λ (z : Slot). z.role) it) (ap (λ z. who_of z) c.entry)
                 (subst (λ z. Shows t.number z e) (sym (ap (λ (z : Slot). z.held) it)) refl) differ
-                (λ k u a. ap (λ z. ltn k z) (ap (λ (z : Slot). z.since) it) ∙ (armed_some k gs (ap (λ z. arms_of z) (sym c.entry) ∙ arms) a ∙ sym (is_run_with k w.number v gs (λ z. u (z ∙ sym number))))) in
+                (λ k u a. ap (λ z. ltn k z) (ap (λ (z : Slot). z.since) it) ∙
+                (armed_some k gs (ap (λ z. arms_of z) (sym c.entry) ∙ arms) a ∙
+                sym (is_run_with k w.number v gs (λ z. u (z ∙ sym number))))) in
                 let flat2 : onto_entries (passed c.earlier xs) (e ∷ map slept c.later) ≡ (onto_entries xs [] ++ post p.rest) ++ e ∷ b2 =
                 onto_passed c.earlier xs (e ∷ map slept c.later) ∙ (onto_append xs [] (map slept c.earlier ++ e ∷ map slept c.later) ∙
-                (ap (λ z. onto_entries xs [] ++ (z ++ e ∷ map slept c.later)) c.left ∙ (ap (λ z. onto_entries xs [] ++ (post p.rest ++ e ∷ z)) c.right ∙ sym (append_assoc (onto_entries xs []) (post p.rest) (e ∷ b2))))) in
+                (ap (λ z. onto_entries xs [] ++ (z ++ e ∷ map slept c.later)) c.left ∙
+                (ap (λ z. onto_entries xs [] ++ (post p.rest ++ e ∷ z)) c.right ∙
+                sym (append_assoc (onto_entries xs []) (post p.rest) (e ∷ b2))))) in
                 record {
                   others = s.others;
-                  planted = subst (λ z. Planted slot (with_item t.number z item) s.others (onto_entries (passed c.earlier xs) (e ∷ map slept c.later))) (sym ts) (subst (λ es. Planted slot (with_item t.number new item) s.others es) (sym flat2) up_it);
+                  planted = subst (λ z. Planted slot (with_item t.number z item) s.others
+                      (onto_entries (passed c.earlier xs) (e ∷ map slept c.later))) (sym ts)
+                      (subst (λ es. Planted slot (with_item t.number new item) s.others es) (sym flat2) up_it);
                   chain = (tt, tt);
                   others_are = s.others_are;
                 };
           }
         where
-          armed_some : (k : ℕ) (gs : List Part) → arms_of d ≡ Some gs → ArmedBy (slot t.item).since (arms_of d) k → ltn k (slot t.item).since ≡ is_run k gs
+          armed_some : (k : ℕ) (gs : List Part) → arms_of d ≡ Some gs → ArmedBy (slot t.item).since (arms_of d) k →
+              ltn k (slot t.item).since ≡ is_run k gs
           armed_some k gs e a = subst (λ z. ArmedBy (slot t.item).since z k) e a
 
           inner_task : (u : Task T) → Some u ≡ Some p.task → u ≡ p.task
@@ -229,10 +274,13 @@ module _ {T : Type 0} (slot : T → Slot) where
           not_under : (t : Task T) (d : Entry) → under t d ≡ no_parent → ⊥
           not_under t d h = absurd (cc)
 
-          rests : (ts : List m.Task) (new : List (Task T)) (others : List (Rose T)) → Shown others ([] ++ (trees_entries trees.before ++ trees_entries trees.behind)) → Planted slot new others (map slept ts) → Rests slot new (among ts trees)
+          rests : (ts : List m.Task) (new : List (Task T)) (others : List (Rose T)) →
+              Shown others ([] ++ (trees_entries trees.before ++ trees_entries trees.behind)) → Planted slot new others (map slept ts) →
+              Rests slot new (among ts trees)
           rests ts new others shown pl =
               let parts = shown_cut others (trees_entries trees.before) (trees_entries trees.behind) shown in
-              let good : GoodTrees slot (pl.current ∷ (parts.first ++ parts.last)) = subst (λ w. GoodTrees slot (pl.current ∷ w)) parts.is pl.good in
+              let good : GoodTrees slot (pl.current ∷ (parts.first ++ parts.last)) =
+              subst (λ w. GoodTrees slot (pl.current ∷ w)) parts.is pl.good in
               let both = good_parts slot parts.first parts.last good.1 in
               record {
                 trees = parts.first ++ pl.current ∷ parts.last;
@@ -240,20 +288,25 @@ module _ {T : Type 0} (slot : T → Slot) where
                 dealt = move pl.current parts.first parts.last pl.roots (subst (λ w. Deal (pl.current ∷ w) pl.roots) parts.is pl.dealt);
                 tasks_are = pl.tasks_are;
                 good = good_append slot parts.first (pl.current ∷ parts.last) both.0 (good.0, both.1);
-                trees_are = subst (λ w. Shown (parts.first ++ pl.current ∷ parts.last) w) (sym (trees_append trees.before (ts ∷ trees.behind))) (shown_append parts.left (tree_shown pl.current_is parts.right));
+                trees_are = subst (λ w. Shown (parts.first ++ pl.current ∷ parts.last) w)
+                    (sym (trees_append trees.before (ts ∷ trees.behind))) (shown_append parts.left (tree_shown pl.current_is parts.right));
               }
 
   -- Main or a spawned task is over
   top_of : (h : Hole T) (t : Task T) (e : Entry) (k r : Rose T) → parent_at h ≡ no_parent → IsOne (fill h (node t e k r)) → h ≡ top
   top_of top t e k r p one = refl
   top_of (beneath h u d w) t e k r p one = absurd (cc)
-  top_of (behind h u d l) t e k r p one = absurd (subst (λ z. IsOne (fill z (node u d l (node t e k r)))) (top_of h u d l (node t e k r) p one) one)
+  top_of (behind h u d l) t e k r p one = absurd
+      (subst (λ z. IsOne (fill z (node u d l (node t e k r)))) (top_of h u d l (node t e k r) p one) one)
 
-  root_spot : {tasks : List (Task T)} {others : List (Rose T)} {a : List Entry} {i : ℕ} {w : Who} {b : List Entry} (p : Spot slot tasks others a (held i w None) b) → (tree : IsTree tasks) → (entry : Option ℕ) → w.role ≡ root entry → p.kids ≡ empty → RootGone slot p tree
+  root_spot : {tasks : List (Task T)} {others : List (Rose T)} {a : List Entry} {i : ℕ} {w : Who} {b : List Entry}
+      (p : Spot slot tasks others a (held i w None) b) → (tree : IsTree tasks) → (entry : Option ℕ) → w.role ≡ root entry → p.kids ≡ empty →
+      RootGone slot p tree
   root_spot p tree entry role none = go (parent_at p.hole) refl
     where
       go : (q : Parent T) → parent_at p.hole ≡ q → RootGone slot p tree
-      go (under t d) is = absurd (subst (λ c. RoleFits (Some t.number) c) (sym (ap (λ (z : Who). z.role) p.good.0.who) ∙ role) (subst (λ q. RoleFits (id_of q) (slot p.task.item).role) is p.good.0.fits))
+      go (under t d) is = absurd (subst (λ c. RoleFits (Some t.number) c) (sym (ap (λ (z : Who). z.role) p.good.0.who) ∙ role)
+          (subst (λ q. RoleFits (id_of q) (slot p.task.item).role) is p.good.0.fits))
       go no_parent is = root_gone slot p tree none (top_of p.hole p.task _ p.kids p.rest is p.one)
 
   no_slept : (xs : List m.Task) → onto_entries xs [] ≡ [] → xs ≡ []
@@ -264,7 +317,8 @@ module _ {T : Type 0} (slot : T → Slot) where
   none_slept [] p = refl
   none_slept (y ∷ ys) p = absurd (cc)
 
-  pub root_over : (tasks : List (Task T)) (ids : List ℕ) (i : ℕ) (w : Who) (entry : Option ℕ) (xs ys : List m.Task) (trees : Trees) → Stands slot tasks ids (held i w None ∷ []) (world xs ys [] trees) → IsTree tasks →
+  pub root_over : (tasks : List (Task T)) (ids : List ℕ) (i : ℕ) (w : Who) (entry : Option ℕ) (xs ys : List m.Task) (trees : Trees) →
+      Stands slot tasks ids (held i w None ∷ []) (world xs ys [] trees) → IsTree tasks →
       HasNoChild i tasks → w.role ≡ root entry → Rests slot (without i tasks) (among (onto xs ys) trees)
   root_over tasks ids i w entry xs ys trees s tree none role =
       let o = world xs ys [] trees in
@@ -281,11 +335,14 @@ module _ {T : Type 0} (slot : T → Slot) where
         tasks_are = ap (λ n. without n tasks) h.0 ∙ g.tasks_are;
         good = g.good;
         trees_are = subst (λ w. Shown w (trees_entries (trees.before ++ [] ∷ trees.behind))) (sym parts.is)
-            (subst (λ w. Shown (parts.first ++ parts.last) w) (sym (trees_append trees.before ([] ∷ trees.behind))) (shown_append parts.left (empty_shown parts.right)));
+            (subst (λ w. Shown (parts.first ++ parts.last) w) (sym (trees_append trees.before ([] ∷ trees.behind)))
+            (shown_append parts.left (empty_shown parts.right)));
       })
 
-  pub spawned_over : (tasks : List (Task T)) (i j : ℕ) (ids : List ℕ) (w : Who) (x : Thread) (entry : Option ℕ) (number : ℕ) (xs ys ps qs : List m.Task) (us : List Up) (trees : Trees) →
-      Stands slot tasks (j ∷ ids) (held i w None ∷ []) (world xs ys (spawning x number ps qs ∷ us) trees) → IsTree tasks → HasNoChild i tasks → w.role ≡ root entry →
+  pub spawned_over : (tasks : List (Task T)) (i j : ℕ) (ids : List ℕ) (w : Who) (x : Thread) (entry : Option ℕ) (number : ℕ)
+      (xs ys ps qs : List m.Task) (us : List Up) (trees : Trees) →
+      Stands slot tasks (j ∷ ids) (held i w None ∷ []) (world xs ys (spawning x number ps qs ∷ us) trees) → IsTree tasks →
+      HasNoChild i tasks → w.role ≡ root entry →
       Stands slot (without i tasks) ids (held j x.who None ∷ []) (world ps qs us trees)
   spawned_over tasks i j ids w x entry number xs ys ps qs us trees s tree none role =
       let o = world xs ys (spawning x number ps qs ∷ us) trees in

@@ -65,12 +65,40 @@ module _ {T : Type 0} where
       elim (cut (post k) d (post r) a e b p) [
         | in_first m q s ↦
             let f = find (beneath h t d r) k a e m q in
-            record { hole = f.hole; task = f.task; kids = f.kids; rest = f.rest; is = f.is; left = f.left; right = f.right ∙ (sym (append_assoc m (d ∷ post r) (after h)) ∙ ap (λ xs. xs ++ after h) (sym s)) }
+            record {
+              hole = f.hole;
+              task = f.task;
+              kids = f.kids;
+              rest = f.rest;
+              is = f.is;
+              left = f.left;
+              right =
+                  f.right ∙ (sym (append_assoc m (d ∷ post r) (after h)) ∙ ap (λ xs. xs ++ after h) (sym s));
+            }
         | between q s u ↦
-            record { hole = h; task = t; kids = k; rest = r; is = ap (λ x. fill h (node t x k r)) (sym s); left = ap (λ xs. before h ++ xs) q; right = ap (λ xs. xs ++ after h) u }
+            record {
+              hole = h;
+              task = t;
+              kids = k;
+              rest = r;
+              is = ap (λ x. fill h (node t x k r)) (sym s);
+              left =
+                  ap (λ xs. before h ++ xs) q;
+              right = ap (λ xs. xs ++ after h) u;
+            }
         | in_second m q s ↦
             let f = find (behind h t d k) r m e b s in
-            record { hole = f.hole; task = f.task; kids = f.kids; rest = f.rest; is = f.is; left = f.left ∙ (append_assoc (before h) (post k ++ d ∷ []) m ∙ (ap (λ xs. before h ++ xs) (append_assoc (post k) (d ∷ []) m) ∙ ap (λ xs. before h ++ xs) (sym q))); right = f.right }
+            record {
+              hole = f.hole;
+              task = f.task;
+              kids = f.kids;
+              rest = f.rest;
+              is = f.is;
+              left =
+                  f.left ∙ (append_assoc (before h) (post k ++ d ∷ []) m ∙
+                  (ap (λ xs. before h ++ xs) (append_assoc (post k) (d ∷ []) m) ∙ ap (λ xs. before h ++ xs) (sym q)));
+              right = f.right;
+            }
       ]
 
   abbrev pub parent_at : Hole T → Parent T
@@ -91,12 +119,14 @@ module _ {T : Type 0} (slot : T → Slot) where
   GoodHole most (behind h t e k) =
       GoodHole most h × Seen slot (parent_at h) t e × (number_of slot t < most_at most h) × Good slot (under t e) (number_of slot t) k
 
-  pub good_in : (most : ℕ) (h : Hole T) (x : Rose T) → Good slot no_parent most (fill h x) → GoodHole most h × Good slot (parent_at h) (most_at most h) x
+  pub good_in : (most : ℕ) (h : Hole T) (x : Rose T) → Good slot no_parent most (fill h x) →
+      GoodHole most h × Good slot (parent_at h) (most_at most h) x
   good_in most top x g = (tt, g)
   good_in most (beneath h t e r) x g = let p = good_in most h (node t e x r) g in ((p.0, p.1.0, p.1.1, p.1.3), p.1.2)
   good_in most (behind h t e k) x g = let p = good_in most h (node t e k x) g in ((p.0, p.1.0, p.1.1, p.1.2), p.1.3)
 
-  pub good_out : (most : ℕ) (h : Hole T) (x : Rose T) → GoodHole most h → Good slot (parent_at h) (most_at most h) x → Good slot no_parent most (fill h x)
+  pub good_out : (most : ℕ) (h : Hole T) (x : Rose T) → GoodHole most h → Good slot (parent_at h) (most_at most h) x →
+      Good slot no_parent most (fill h x)
   good_out most top x p g = g
   good_out most (beneath h t e r) x p g = good_out most h (node t e x r) p.0 (p.1, p.2, g, p.3)
   good_out most (behind h t e k) x p g = good_out most h (node t e k x) p.0 (p.1, p.2, p.3, g)
@@ -123,12 +153,15 @@ module _ {T : Type 0} (slot : T → Slot) where
       (each_weaker (Below (under t e) (number_of slot t)) (Below q m) (post k) (λ x b. record {
         number = number_of slot t;
         more = b.number ∷ b.more;
-        path = b.path ∙ (ap (λ xs. xs ++ b.number ∷ b.more) (path_is q t e g.0) ∙ append_assoc (path_under q) (number_of slot t ∷ []) (b.number ∷ b.more));
+        path = b.path ∙ (ap (λ xs. xs ++ b.number ∷ b.more) (path_is q t e g.0) ∙
+            append_assoc (path_under q) (number_of slot t ∷ []) (b.number ∷ b.more));
         less = g.1;
         armed = g.0.armed;
       }) (all_below (under t e) (number_of slot t) k g.2)) (
         record { number = number_of slot t; more = []; path = path_is q t e g.0; less = g.1; armed = g.0.armed },
-        each_weaker (Below q (number_of slot t)) (Below q m) (post r) (λ x b. record { number = b.number; more = b.more; path = b.path; less = omega (arith, b.less, g.1); armed = b.armed }) (all_below q (number_of slot t) r g.3),
+        each_weaker (Below q (number_of slot t)) (Below q m) (post r)
+            (λ x b. record { number = b.number; more = b.more; path = b.path; less = omega (arith, b.less, g.1); armed = b.armed })
+            (all_below q (number_of slot t) r g.3),
       )
 
   differs : (n m : ℕ) → n < m → n ≡ m → ⊥
@@ -138,19 +171,22 @@ module _ {T : Type 0} (slot : T → Slot) where
   differs_too n m h e = omega (arith, h, e)
 
   -- what stands around a place is apart from what stands there
-  pub outside : (most : ℕ) (h : Hole T) (w : List ℕ) (n : ℕ) (more : List ℕ) → GoodHole most h → w ≡ path_under (parent_at h) ++ n ∷ more → n < most_at most h →
+  pub outside : (most : ℕ) (h : Hole T) (w : List ℕ) (n : ℕ) (more : List ℕ) → GoodHole most h → w ≡ path_under (parent_at h) ++ n ∷ more →
+      n < most_at most h →
       Each (λ e. Apart w (path_of e)) (before h) × Each (λ e. Apart w (path_of e)) (after h)
   outside most top w n more g p l = (tt, tt)
   outside most (beneath h t e r) w n more g p l =
       let up = path_is (parent_at h) t e g.1 in
-      let name : w ≡ path_under (parent_at h) ++ number_of slot t ∷ (n ∷ more) = p ∙ (ap (λ xs. xs ++ n ∷ more) up ∙ append_assoc (path_under (parent_at h)) (number_of slot t ∷ []) (n ∷ more)) in
+      let name : w ≡ path_under (parent_at h) ++ number_of slot t ∷ (n ∷ more) =
+      p ∙ (ap (λ xs. xs ++ n ∷ more) up ∙ append_assoc (path_under (parent_at h)) (number_of slot t ∷ []) (n ∷ more)) in
       let r0 = outside most h w (number_of slot t) (n ∷ more) g.0 name g.2 in (
         r0.0,
         (
           above n more p,
           each_append (λ x. Apart w (path_of x)) (post r) (after h)
               (each_weaker (Below (parent_at h) (number_of slot t)) (λ x. Apart w (path_of x)) (post r)
-              (λ x b. forks (path_under (parent_at h)) (number_of slot t) b.number (n ∷ more) b.more name b.path (differs_too (number_of slot t) b.number b.less))
+              (λ x b. forks (path_under (parent_at h)) (number_of slot t) b.number (n ∷ more) b.more name b.path
+              (differs_too (number_of slot t) b.number b.less))
               (all_below (parent_at h) (number_of slot t) r g.3))
               r0.1,
         ),
@@ -162,7 +198,8 @@ module _ {T : Type 0} (slot : T → Slot) where
             (each_append (λ x. Apart w (path_of x)) (post k) (e ∷ [])
             (each_weaker (Below (under t e) (number_of slot t)) (λ x. Apart w (path_of x)) (post k)
             (λ x b. forks (path_under (parent_at h)) n (number_of slot t) more (b.number ∷ b.more) p
-            (b.path ∙ (ap (λ xs. xs ++ b.number ∷ b.more) up ∙ append_assoc (path_under (parent_at h)) (number_of slot t ∷ []) (b.number ∷ b.more)))
+            (b.path ∙ (ap (λ xs. xs ++ b.number ∷ b.more) up ∙ append_assoc (path_under (parent_at h)) (number_of slot t ∷ [])
+            (b.number ∷ b.more)))
             (differs n (number_of slot t) l))
             (all_below (under t e) (number_of slot t) k g.3))
             (forks (path_under (parent_at h)) n (number_of slot t) more [] p up (differs n (number_of slot t) l), tt)),

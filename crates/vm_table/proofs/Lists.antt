@@ -30,8 +30,10 @@ module _ {A : Type 0} where
 
   pub cut : (a : List A) (y : A) (b front : List A) (x : A) (back : List A) → a ++ y ∷ b ≡ front ++ x ∷ back → Cut a y b front x back
   cut [] y b [] x back e = between refl (cc) (cc)
-  cut [] y b (z ∷ zs) x back e = let same : y ≡ z = cc in let tails : b ≡ zs ++ x ∷ back = cc in in_second zs (ap (λ w. w ∷ zs) (sym same)) tails
-  cut (u ∷ us) y b [] x back e = let same : u ≡ x = cc in let tails : us ++ y ∷ b ≡ back = cc in in_first us (ap (λ w. w ∷ us) same) (sym tails)
+  cut [] y b (z ∷ zs) x back e = let same : y ≡ z = cc in let tails : b ≡ zs ++ x ∷ back = cc in
+      in_second zs (ap (λ w. w ∷ zs) (sym same)) tails
+  cut (u ∷ us) y b [] x back e = let same : u ≡ x = cc in let tails : us ++ y ∷ b ≡ back = cc in
+      in_first us (ap (λ w. w ∷ us) same) (sym tails)
   cut (u ∷ us) y b (z ∷ zs) x back e =
       let same : u ≡ z = cc in
       let tails : us ++ y ∷ b ≡ zs ++ x ∷ back = cc in

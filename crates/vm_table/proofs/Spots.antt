@@ -9,7 +9,8 @@ use Rattle.task_tree.proofs.Standing.{beside}
 use Rattle.vm_table.specs.Slots.{Slot, Entry, no_parent, under, id_of, number_of}
 use Rattle.vm_table.specs.Roses.{Rose, empty, node, pre, post, IsOne, pre_all, Good, GoodTrees}
 use Rattle.vm_table.specs.Standing.{Deal, one_dealt, Planted}
-use Rattle.vm_table.proofs.Holes.{Hole, top, fill, front, back, before, after, pre_fill, post_fill, find, parent_at, most_at, GoodHole, good_in, good_out}
+use Rattle.vm_table.proofs.Holes.{Hole, top, fill, front, back, before, after, pre_fill, post_fill, find, parent_at, most_at, GoodHole}
+use Rattle.vm_table.proofs.Holes.{good_in, good_out}
 use Rattle.vm_table.proofs.Trees.{pre_all_append, good_parts, good_dealt, forest_of, forest_hole, forest_all}
 
 module _ {T : Type 0} where
@@ -29,7 +30,8 @@ module _ {T : Type 0} where
   pub pre_split : (first last : List (Rose T)) (h : Hole T) (x : Rose T) →
       pre_all (first ++ fill h x ∷ last) ≡ (pre_all first ++ front h) ++ (pre x ++ (back h ++ pre_all last))
   pre_split first last h x =
-      let e : pre_all first ++ ((front h ++ (pre x ++ back h)) ++ pre_all last) ≡ (pre_all first ++ front h) ++ (pre x ++ (back h ++ pre_all last)) = simp append_assoc in
+      let e : pre_all first ++ ((front h ++ (pre x ++ back h)) ++ pre_all last) ≡ (pre_all first ++ front h) ++
+      (pre x ++ (back h ++ pre_all last)) = simp append_assoc in
       pre_all_append first (fill h x ∷ last) ∙ (ap (λ w. pre_all first ++ (w ++ pre_all last)) (pre_fill h x) ∙ e)
 
 module _ {T : Type 0} (slot : T → Slot) where
@@ -50,13 +52,15 @@ module _ {T : Type 0} (slot : T → Slot) where
     pub right : b ≡ post rest ++ after hole
     pub was : tasks ≡ (pre_all first ++ front hole) ++ (task ∷ pre kids ++ (pre rest ++ (back hole ++ pre_all last)))
 
-  pub spot_of : (tasks : List (Task T)) (others : List (Rose T)) (a : List Entry) (e : Entry) (b : List Entry) → Planted slot tasks others (a ++ e ∷ b) → Spot tasks others a e b
+  pub spot_of : (tasks : List (Task T)) (others : List (Rose T)) (a : List Entry) (e : Entry) (b : List Entry) →
+      Planted slot tasks others (a ++ e ∷ b) → Spot tasks others a e b
   spot_of tasks others a e b p = go p.roots p.dealt p.tasks_are
     where
       go : (roots : List (Rose T)) → Deal (p.current ∷ others) roots → tasks ≡ pre_all roots → Spot tasks others a e b
       go roots (one_dealt first last q d) is =
           let f = find top p.current a e b p.current_is in
-          let inside = good_in slot p.good.0.most f.hole (node f.task e f.kids f.rest) (subst (λ c. Good slot no_parent p.good.0.most c) (sym f.is) p.good.0.good) in
+          let inside = good_in slot p.good.0.most f.hole (node f.task e f.kids f.rest)
+          (subst (λ c. Good slot no_parent p.good.0.most c) (sym f.is) p.good.0.good) in
           record {
             most = p.good.0.most;
             hole = f.hole;
@@ -72,11 +76,14 @@ module _ {T : Type 0} (slot : T → Slot) where
             dealt = d;
             left = sym f.left;
             right = sym (f.right ∙ append-nil b);
-            was = is ∙ (ap (λ w. pre_all w) q ∙ (ap (λ c. pre_all (first ++ c ∷ last)) (sym f.is) ∙ (pre_split first last f.hole (node f.task e f.kids f.rest) ∙
-                ap (λ w. (pre_all first ++ front f.hole) ++ w) (append_assoc (f.task ∷ pre f.kids) (pre f.rest) (back f.hole ++ pre_all last)))));
+            was = is ∙ (ap (λ w. pre_all w) q ∙ (ap (λ c. pre_all (first ++ c ∷ last)) (sym f.is) ∙
+                (pre_split first last f.hole (node f.task e f.kids f.rest) ∙
+                ap (λ w. (pre_all first ++ front f.hole) ++ w)
+                (append_assoc (f.task ∷ pre f.kids) (pre f.rest) (back f.hole ++ pre_all last)))));
           }
 
-  module _ {tasks : List (Task T)} {others : List (Rose T)} {a : List Entry} {e : Entry} {b : List Entry} (s : Spot tasks others a e b) where
+  module _ {tasks : List (Task T)} {others : List (Rose T)} {a : List Entry} {e : Entry} {b : List Entry}
+      (s : Spot tasks others a e b) where
     abbrev pub fronts : List (Task T)
     fronts = pre_all s.first ++ front s.hole
 
@@ -84,7 +91,8 @@ module _ {T : Type 0} (slot : T → Slot) where
     backs = back s.hole ++ pre_all s.last
 
     -- others in its place
-    pub refill : (new : List (Task T)) (x : Rose T) → IsOne (fill s.hole x) → Good slot (parent_at s.hole) (most_at slot s.most s.hole) x → new ≡ fronts ++ (pre x ++ backs) →
+    pub refill : (new : List (Task T)) (x : Rose T) → IsOne (fill s.hole x) → Good slot (parent_at s.hole) (most_at slot s.most s.hole) x →
+        new ≡ fronts ++ (pre x ++ backs) →
         Planted slot new others (before s.hole ++ (post x ++ after s.hole))
     refill new x one g is = record {
       current = fill s.hole x;
@@ -110,9 +118,13 @@ module _ {T : Type 0} (slot : T → Slot) where
           beneath = forest_of slot (under s.task e) (number_of slot s.task) s.kids s.good.2;
           around = λ xs f.
               let g : Forest (id_of (parent_at s.hole)) xs = subst (λ p. Forest p xs) s.good.0.parent f in
-              let here : Forest None (front s.hole ++ ((xs ++ pre s.rest) ++ back s.hole)) = forest_hole slot s.most s.hole (xs ++ pre s.rest) s.around (forest_append xs (pre s.rest) g (forest_of slot (parent_at s.hole) (number_of slot s.task) s.rest s.good.3)) in
+              let here : Forest None (front s.hole ++ ((xs ++ pre s.rest) ++ back s.hole)) =
+              forest_hole slot s.most s.hole (xs ++ pre s.rest) s.around
+              (forest_append xs (pre s.rest) g (forest_of slot (parent_at s.hole) (number_of slot s.task) s.rest s.good.3)) in
               let all : Forest None (pre_all s.first ++ ((front s.hole ++ ((xs ++ pre s.rest) ++ back s.hole)) ++ pre_all s.last)) =
-              forest_append (pre_all s.first) ((front s.hole ++ ((xs ++ pre s.rest) ++ back s.hole)) ++ pre_all s.last) (forest_all slot s.first parts.0) (forest_append (front s.hole ++ ((xs ++ pre s.rest) ++ back s.hole)) (pre_all s.last) here (forest_all slot s.last parts.1)) in
+              forest_append (pre_all s.first) ((front s.hole ++ ((xs ++ pre s.rest) ++ back s.hole)) ++ pre_all s.last)
+              (forest_all slot s.first parts.0) (forest_append (front s.hole ++ ((xs ++ pre s.rest) ++ back s.hole))
+              (pre_all s.last) here (forest_all slot s.last parts.1)) in
               subst (λ w. Forest None w) (simp append_assoc) all;
         }
 

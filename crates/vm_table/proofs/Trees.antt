@@ -32,7 +32,8 @@ module _ {A : Type 0} where
       elim (side f b g y c q) [
         | on_left m r s ↦
             one_dealt g (m ++ x ∷ b) (p ∙ (ap (λ w. w ++ x ∷ b) r ∙ append_assoc g (y ∷ m) (x ∷ b)))
-            (one_dealt (g ++ m) b (sym (append_assoc g m (x ∷ b))) (subst (λ w. Deal xs w) (ap (λ w. g ++ w) s ∙ sym (append_assoc g m b)) d))
+            (one_dealt (g ++ m) b (sym (append_assoc g m (x ∷ b)))
+            (subst (λ w. Deal xs w) (ap (λ w. g ++ w) s ∙ sym (append_assoc g m b)) d))
         | on_right m r s ↦
             one_dealt (f ++ x ∷ m) c (p ∙ (ap (λ w. f ++ x ∷ w) s ∙ sym (append_assoc f (x ∷ m) (y ∷ c))))
             (one_dealt f (m ++ c) (append_assoc f (x ∷ m) c) (subst (λ w. Deal xs w) (ap (λ w. w ++ c) r ∙ append_assoc f m c) d))
@@ -76,17 +77,21 @@ module _ {T : Type 0} (slot : T → Slot) where
   pub forest_of : (q : Parent T) (m : ℕ) (r : Rose T) → Good slot q m r → Forest (id_of q) (pre r)
   forest_of q m empty g = no_tasks
   forest_of q m (node t e k r) g =
-      a_task t (pre k) (pre r) refl g.0.parent (subst (λ p. suits p t.role ≡ true) g.0.parent g.0.suited) (forest_of (under t e) (number_of slot t) k g.2)
+      a_task t (pre k) (pre r) refl g.0.parent (subst (λ p. suits p t.role ≡ true) g.0.parent g.0.suited)
+      (forest_of (under t e) (number_of slot t) k g.2)
       (forest_of q (number_of slot t) r g.3)
 
-  pub forest_hole : (most : ℕ) (h : Hole T) (xs : List (Task T)) → GoodHole slot most h → Forest (id_of (parent_at h)) xs → Forest None (front h ++ (xs ++ back h))
+  pub forest_hole : (most : ℕ) (h : Hole T) (xs : List (Task T)) → GoodHole slot most h → Forest (id_of (parent_at h)) xs →
+      Forest None (front h ++ (xs ++ back h))
   forest_hole most top xs g f = subst (λ w. Forest None w) (sym (append-nil xs)) f
   forest_hole most (beneath h t e r) xs g f =
       subst (λ w. Forest None w) (simp append_assoc) (forest_hole most h (t ∷ xs ++ pre r) g.0
-      (a_task t xs (pre r) refl g.1.parent (subst (λ p. suits p t.role ≡ true) g.1.parent g.1.suited) f (forest_of (parent_at h) (number_of slot t) r g.3)))
+      (a_task t xs (pre r) refl g.1.parent (subst (λ p. suits p t.role ≡ true) g.1.parent g.1.suited) f
+      (forest_of (parent_at h) (number_of slot t) r g.3)))
   forest_hole most (behind h t e k) xs g f =
       subst (λ w. Forest None w) (simp append_assoc) (forest_hole most h (t ∷ pre k ++ xs) g.0
-      (a_task t (pre k) xs refl g.1.parent (subst (λ p. suits p t.role ≡ true) g.1.parent g.1.suited) (forest_of (under t e) (number_of slot t) k g.3) f))
+      (a_task t (pre k) xs refl g.1.parent (subst (λ p. suits p t.role ≡ true) g.1.parent g.1.suited)
+      (forest_of (under t e) (number_of slot t) k g.3) f))
 
   pub forest_all : (cs : List (Rose T)) → GoodTrees slot cs → Forest None (pre_all cs)
   forest_all [] g = no_tasks

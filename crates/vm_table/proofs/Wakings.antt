@@ -1,5 +1,6 @@
 -- A waking; and what each change of the tree leaves of waits and numbers.
-use Rattle.std.proofs.Common.{◌≡◌, inl, inr, ℕ, Bool, true, false, cond, eqb, if◌then◌else◌, List, [], ◌∷◌, ◌++◌, map, Some, None, refl, sym, ap, subst, ◌∙◌, append_assoc}
+use Rattle.std.proofs.Common.{◌≡◌, inl, inr, ℕ, Bool, true, false, cond, eqb, if◌then◌else◌, List, [], ◌∷◌, ◌++◌, map, Some, None, refl}
+use Rattle.std.proofs.Common.{sym, ap, subst, ◌∙◌, append_assoc}
 use Rattle.task_tree.specs.Tasks.{Task, task_at, with_item, without}
 use Rattle.task_tree.specs.Nested.{IsTree, Distinct}
 use Rattle.task_tree.specs.Removing.{Added}
@@ -35,63 +36,85 @@ module _ {T : Type 0} (slot : T → Slot) where
     pub were : sleeping slot tasks ≡ first ++ with_held id h last
     pub are : (item : T) → sleeping slot (with_item id tasks item) ≡ first ++ with_held id (slot item).held last
 
-  pub item_waits : (tasks : List (Task T)) (id : ℕ) (t : Task T) → IsTree tasks → task_at id tasks ≡ Some t → ItemWaits tasks id (slot t.item).held
+  pub item_waits : (tasks : List (Task T)) (id : ℕ) (t : Task T) → IsTree tasks → task_at id tasks ≡ Some t →
+      ItemWaits tasks id (slot t.item).held
   item_waits tasks id t tree at =
       let a = found id tasks t at in
       let alone = beside a.front a.back t (subst (λ ts. Distinct ts) a.was tree.distinct) in
       record {
         first = sleeping slot a.front;
         last = sleeping slot a.back;
-        were = ap (λ ts. sleeping slot ts) a.was ∙ (sleeping_append slot a.front (t ∷ a.back) ∙ ap (λ n. sleeping slot a.front ++ with_held n (slot t.item).held (sleeping slot a.back)) a.number);
-        are = λ item. ap (λ ts. sleeping slot ts) (ap (λ n. with_item n tasks item) (sym a.number) ∙ (ap (λ ts. with_item t.number ts item) a.was ∙ changed_here a.front a.back t (λ u. record u { item = item }) alone.0)) ∙
-            (sleeping_append slot a.front (record t { item = item } ∷ a.back) ∙ ap (λ n. sleeping slot a.front ++ with_held n (slot item).held (sleeping slot a.back)) a.number);
+        were = ap (λ ts. sleeping slot ts) a.was ∙
+            (sleeping_append slot a.front (t ∷ a.back) ∙
+            ap (λ n. sleeping slot a.front ++ with_held n (slot t.item).held (sleeping slot a.back)) a.number);
+        are = λ item. ap (λ ts. sleeping slot ts) (ap (λ n. with_item n tasks item) (sym a.number) ∙
+            (ap (λ ts. with_item t.number ts item) a.was ∙ changed_here a.front a.back t (λ u. record u { item = item }) alone.0)) ∙
+            (sleeping_append slot a.front (record t { item = item } ∷ a.back) ∙
+            ap (λ n. sleeping slot a.front ++ with_held n (slot item).held (sleeping slot a.back)) a.number);
       }
 
-  pub added_waits : (tasks new : List (Task T)) (u : Task T) → Added u tasks new → (slot u.item).held ≡ by_machine → sleeping slot new ≡ sleeping slot tasks
+  pub added_waits : (tasks new : List (Task T)) (u : Task T) → Added u tasks new → (slot u.item).held ≡ by_machine →
+      sleeping slot new ≡ sleeping slot tasks
   added_waits tasks new u a by =
-      ap (λ ts. sleeping slot ts) a.is ∙ (sleeping_append slot a.front (u ∷ a.back) ∙ (ap (λ h. sleeping slot a.front ++ with_held u.number h (sleeping slot a.back)) by ∙
+      ap (λ ts. sleeping slot ts) a.is ∙ (sleeping_append slot a.front (u ∷ a.back) ∙
+      (ap (λ h. sleeping slot a.front ++ with_held u.number h (sleeping slot a.back)) by ∙
       (sym (sleeping_append slot a.front a.back) ∙ ap (λ ts. sleeping slot ts) (sym a.was))))
 
-  pub without_waits : (tasks : List (Task T)) (id : ℕ) (t : Task T) → IsTree tasks → task_at id tasks ≡ Some t → (slot t.item).held ≡ by_machine → sleeping slot (without id tasks) ≡ sleeping slot tasks
+  pub without_waits : (tasks : List (Task T)) (id : ℕ) (t : Task T) → IsTree tasks → task_at id tasks ≡ Some t →
+      (slot t.item).held ≡ by_machine → sleeping slot (without id tasks) ≡ sleeping slot tasks
   without_waits tasks id t tree at by =
       let a = found id tasks t at in
       let alone = beside a.front a.back t (subst (λ ts. Distinct ts) a.was tree.distinct) in
-      let gone : without id tasks ≡ a.front ++ a.back = ap (λ n. without n tasks) (sym a.number) ∙ (ap (λ ts. without t.number ts) a.was ∙ without_at a.front a.back t alone.0) in
-      ap (λ ts. sleeping slot ts) gone ∙ (sleeping_append slot a.front a.back ∙ (ap (λ h. sleeping slot a.front ++ with_held t.number h (sleeping slot a.back)) (sym by) ∙
+      let gone : without id tasks ≡ a.front ++ a.back =
+      ap (λ n. without n tasks) (sym a.number) ∙ (ap (λ ts. without t.number ts) a.was ∙ without_at a.front a.back t alone.0) in
+      ap (λ ts. sleeping slot ts) gone ∙ (sleeping_append slot a.front a.back ∙
+      (ap (λ h. sleeping slot a.front ++ with_held t.number h (sleeping slot a.back)) (sym by) ∙
       (sym (sleeping_append slot a.front (t ∷ a.back)) ∙ ap (λ ts. sleeping slot ts) (sym a.was))))
 
-  stretch_gone : (f xs g : List (ℕ × Wait)) (ps : List Pending) (s : State) → Timed (f ++ (xs ++ g)) ps s → Timed (f ++ g) (all_removed xs ps) s
+  stretch_gone : (f xs g : List (ℕ × Wait)) (ps : List Pending) (s : State) → Timed (f ++ (xs ++ g)) ps s →
+      Timed (f ++ g) (all_removed xs ps) s
   stretch_gone f [] g ps s t = t
   stretch_gone f (x ∷ xs) g ps s t =
-      let mid : Timed ((f ++ x ∷ []) ++ g) (all_removed xs ps) s = stretch_gone (f ++ x ∷ []) xs g ps s (subst (λ z. Timed z ps s) (sym (append_assoc f (x ∷ []) (xs ++ g))) t) in
+      let mid : Timed ((f ++ x ∷ []) ++ g) (all_removed xs ps) s =
+      stretch_gone (f ++ x ∷ []) xs g ps s (subst (λ z. Timed z ps s) (sym (append_assoc f (x ∷ []) (xs ++ g))) t) in
       removed_timed ((f ++ x ∷ []) ++ g) (f ++ g) (all_removed xs ps) s x.0 x.1 f g (append_assoc f (x ∷ []) g) refl mid
 
   -- a stretch of tasks is gone, and their waits
-  pub stretch_timed : (tasks new first gone last : List (Task T)) (ps : List Pending) (s : State) → tasks ≡ first ++ (gone ++ last) → new ≡ first ++ last → Timed (sleeping slot tasks) ps s →
+  pub stretch_timed : (tasks new first gone last : List (Task T)) (ps : List Pending) (s : State) → tasks ≡ first ++ (gone ++ last) →
+      new ≡ first ++ last → Timed (sleeping slot tasks) ps s →
       Timed (sleeping slot new) (all_removed (sleeping slot gone) ps) s
   stretch_timed tasks new first gone last ps s were are t =
       let a = sleeping slot first in
       let b = sleeping slot gone in
       let c = sleeping slot last in
-      let before : sleeping slot tasks ≡ a ++ (b ++ c) = ap (λ ts. sleeping slot ts) were ∙ (sleeping_append slot first (gone ++ last) ∙ ap (λ w. a ++ w) (sleeping_append slot gone last)) in
+      let before : sleeping slot tasks ≡ a ++ (b ++ c) =
+      ap (λ ts. sleeping slot ts) were ∙ (sleeping_append slot first (gone ++ last) ∙ ap (λ w. a ++ w) (sleeping_append slot gone last))
+      in
       let behind : sleeping slot new ≡ a ++ c = ap (λ ts. sleeping slot ts) are ∙ sleeping_append slot first last in
       subst (λ z. Timed z (all_removed b ps) s) (sym behind) (stretch_gone a b c ps s (subst (λ z. Timed z ps s) before t))
 
   -- what holds of each task's number
-  pub item_each : (P : ℕ → Type 0) (tasks : List (Task T)) (id : ℕ) (t : Task T) (item : T) → IsTree tasks → task_at id tasks ≡ Some t → (slot item).number ≡ number_of slot t → Each (λ v. P (number_of slot v)) tasks → Each (λ v. P (number_of slot v)) (with_item id tasks item)
+  pub item_each : (P : ℕ → Type 0) (tasks : List (Task T)) (id : ℕ) (t : Task T) (item : T) → IsTree tasks → task_at id tasks ≡ Some t →
+      (slot item).number ≡ number_of slot t → Each (λ v. P (number_of slot v)) tasks →
+      Each (λ v. P (number_of slot v)) (with_item id tasks item)
   item_each P tasks id t item tree at same e =
       let a = found id tasks t at in
       let alone = beside a.front a.back t (subst (λ ts. Distinct ts) a.was tree.distinct) in
       let parts = each_parts (λ v. P (number_of slot v)) a.front (t ∷ a.back) (subst (λ w. Each (λ v. P (number_of slot v)) w) a.was e) in
-      let list : with_item id tasks item ≡ a.front ++ record t { item = item } ∷ a.back = ap (λ n. with_item n tasks item) (sym a.number) ∙ (ap (λ ts. with_item t.number ts item) a.was ∙ changed_here a.front a.back t (λ u. record u { item = item }) alone.0) in
-      subst (λ w. Each (λ v. P (number_of slot v)) w) (sym list) (each_append (λ v. P (number_of slot v)) a.front (record t { item = item } ∷ a.back) parts.0 (subst P (sym same) parts.1.0, parts.1.1))
+      let list : with_item id tasks item ≡ a.front ++ record t { item = item } ∷ a.back =
+      ap (λ n. with_item n tasks item) (sym a.number) ∙
+      (ap (λ ts. with_item t.number ts item) a.was ∙ changed_here a.front a.back t (λ u. record u { item = item }) alone.0) in
+      subst (λ w. Each (λ v. P (number_of slot v)) w) (sym list)
+      (each_append (λ v. P (number_of slot v)) a.front (record t { item = item } ∷ a.back) parts.0
+      (subst P (sym same) parts.1.0, parts.1.1))
 
   pub added_each : (P : Task T → Type 0) (tasks new : List (Task T)) (u : Task T) → Added u tasks new → P u → Each P tasks → Each P new
   added_each P tasks new u a p e =
       let parts = each_parts P a.front a.back (subst (λ w. Each P w) a.was e) in
       subst (λ w. Each P w) (sym a.is) (each_append P a.front (u ∷ a.back) parts.0 (p, parts.1))
 
-  pub stretch_each : (P : Task T → Type 0) (tasks new first gone last : List (Task T)) → tasks ≡ first ++ (gone ++ last) → new ≡ first ++ last → Each P tasks → Each P new
+  pub stretch_each : (P : Task T → Type 0) (tasks new first gone last : List (Task T)) → tasks ≡ first ++ (gone ++ last) →
+      new ≡ first ++ last → Each P tasks → Each P new
   stretch_each P tasks new first gone last were are e =
       let parts = each_parts P first (gone ++ last) (subst (λ w. Each P w) were e) in
       subst (λ w. Each P w) (sym are) (each_append P first last parts.0 (each_parts P gone last parts.1).1)
@@ -104,7 +127,8 @@ module _ {T : Type 0} (slot : T → Slot) where
       go true h = e.1
       go false h = (e.0, h)
 
-  is_asleep : (id : ℕ) (h : Held) (y : m.Task) (w : Wait) → Shows id h (slept y) → y.rest ≡ asleep w → (f : Frame) × (bl : List Frame) × (h ≡ by_itself f bl (asleep w)) × (y.thread.frame ≡ f) × (y.thread.below ≡ bl)
+  is_asleep : (id : ℕ) (h : Held) (y : m.Task) (w : Wait) → Shows id h (slept y) → y.rest ≡ asleep w →
+      (f : Frame) × (bl : List Frame) × (h ≡ by_itself f bl (asleep w)) × (y.thread.frame ≡ f) × (y.thread.below ≡ bl)
   is_asleep id by_machine y w s r = absurd s
   is_asleep id (by_itself f bl q) y w s r = (f, bl, ap (λ z. by_itself f bl z) (sym s.2 ∙ r), s.0, s.1)
 
@@ -124,17 +148,22 @@ module _ {T : Type 0} (slot : T → Slot) where
   all_tops empty = tt
   all_tops (node t e k r) = (tt, all_tops r)
 
-  pub wakes : (tasks : List (Task T)) (tss : List (List m.Task)) (ps : List Pending) (s : State) (d : Due) (e : ClockDue) (u : State) → Rests slot tasks tss → IsTree tasks → Timed (sleeping slot tasks) ps s → NextIs s ps d e → Wakes slot tasks tss s d e u
+  pub wakes : (tasks : List (Task T)) (tss : List (List m.Task)) (ps : List Pending) (s : State) (d : Due) (e : ClockDue) (u : State) →
+      Rests slot tasks tss → IsTree tasks → Timed (sleeping slot tasks) ps s → NextIs s ps d e → Wakes slot tasks tss s d e u
   wakes tasks tss ps s d e u r tree t n = here (woken_found d.number d.given.value [] tss u there)
     where
       there : has d.number (tree_waits tss) ≡ true
       there =
           deal_has d.number (tree_waits tss) (waits_told (sleeping slot tasks)) (live_waits slot tasks tss r) ∙
-          (deal_has d.number (waits_told (sleeping slot tasks)) (waits_told (told ps)) (told_deal slot (sleeping slot tasks) (told ps) t.each) ∙
-          (ap (λ k. has k (waits_told (told ps))) n.number ∙ (ap (λ z. has n.wait.wait.number (waits_told (told z))) n.is ∙ has_told n.front n.wait n.back)))
+          (deal_has d.number (waits_told (sleeping slot tasks)) (waits_told (told ps))
+          (told_deal slot (sleeping slot tasks) (told ps) t.each) ∙
+          (ap (λ k. has k (waits_told (told ps))) n.number ∙
+          (ap (λ z. has n.wait.wait.number (waits_told (told z))) n.is ∙ has_told n.front n.wait n.back)))
 
-      with_tree : (w : Woken d.number d.given.value [] tss u) → (parts : ShownCut r.trees (trees_entries w.before) (map slept (w.earlier ++ w.it ∷ w.later) ∷ trees_entries w.behind)) →
-          ((c : Rose T) × (ds : List (Rose T)) × (parts.last ≡ c ∷ ds) × (post c ≡ map slept (w.earlier ++ w.it ∷ w.later)) × Shown ds (trees_entries w.behind)) → Wakes slot tasks tss s d e u
+      with_tree : (w : Woken d.number d.given.value [] tss u) →
+          (parts : ShownCut r.trees (trees_entries w.before) (map slept (w.earlier ++ w.it ∷ w.later) ∷ trees_entries w.behind)) →
+          ((c : Rose T) × (ds : List (Rose T)) × (parts.last ≡ c ∷ ds) × (post c ≡ map slept (w.earlier ++ w.it ∷ w.later)) ×
+          Shown ds (trees_entries w.behind)) → Wakes slot tasks tss s d e u
       with_tree w parts k =
           let c = k.0 in
           let whole : r.trees ≡ parts.first ++ c ∷ k.1 = parts.is ∙ ap (λ z. parts.first ++ z) k.2 in
@@ -151,7 +180,8 @@ module _ {T : Type 0} (slot : T → Slot) where
           let h = is_asleep p.task.number (slot p.task.item).held w.it w.wait p.good.0.shows w.asleep_is in
           let there = at_spot slot p tree in
           let iw = item_waits tasks p.task.number p.task tree there in
-          let mine : sleeping slot tasks ≡ iw.first ++ (p.task.number, w.wait) ∷ iw.last = iw.were ∙ ap (λ z. iw.first ++ with_held p.task.number z iw.last) h.2 in
+          let mine : sleeping slot tasks ≡ iw.first ++ (p.task.number, w.wait) ∷ iw.last =
+          iw.were ∙ ap (λ z. iw.first ++ with_held p.task.number z iw.last) h.2 in
           let number : d.number ≡ w.wait.number = eqn_is d.number w.wait.number w.number in
           let same = task_is (sleeping slot tasks) ps s p.task.number w.wait iw.first iw.last d e mine t n number in
           let other : World = world (passed w.earlier []) w.later [] (record { before = w.before; behind = w.behind }) in
@@ -171,11 +201,14 @@ module _ {T : Type 0} (slot : T → Slot) where
             goes_on = w.goes_on;
             stands = λ item it.
                 let up : Entry = held p.task.number w.it.thread.who None in
-                let put : Planted slot (with_item p.task.number tasks item) (parts.first ++ k.1) (map slept w.earlier ++ up ∷ map slept w.later) =
-                reseated slot p tree item up (λ n. Unit {0}) (ap (λ (z : Slot). z.number) it) (ap (λ (z : Slot). z.role) it) refl (subst (λ z. Shows p.task.number z up) (sym (ap (λ (z : Slot). z.held) it)) refl) (all_tops p.kids) (λ n x k. tt) in
+                let put : Planted slot (with_item p.task.number tasks item) (parts.first ++ k.1)
+                (map slept w.earlier ++ up ∷ map slept w.later) =
+                reseated slot p tree item up (λ n. Unit {0}) (ap (λ (z : Slot). z.number) it) (ap (λ (z : Slot). z.role) it) refl
+                (subst (λ z. Shows p.task.number z up) (sym (ap (λ (z : Slot). z.held) it)) refl) (all_tops p.kids) (λ n x k. tt) in
                 subst (λ n. Stands slot (with_item n tasks item) [] (held n w.it.thread.who None ∷ []) other) (sym same.0) (record {
                   others = parts.first ++ k.1;
-                  planted = subst (λ es. Planted slot (with_item p.task.number tasks item) (parts.first ++ k.1) es) (sym (onto_passed w.earlier [] (up ∷ map slept w.later))) put;
+                  planted = subst (λ es. Planted slot (with_item p.task.number tasks item) (parts.first ++ k.1) es)
+                      (sym (onto_passed w.earlier [] (up ∷ map slept w.later))) put;
                   chain = (tt, tt);
                   others_are = shown_append parts.left k.4;
                 });
@@ -184,7 +217,8 @@ module _ {T : Type 0} (slot : T → Slot) where
       here : Woken d.number d.given.value [] tss u → Wakes slot tasks tss s d e u
       here w =
           let shown : Shown r.trees (trees_entries w.before ++ map slept (w.earlier ++ w.it ∷ w.later) ∷ trees_entries w.behind) =
-          subst (λ z. Shown r.trees z) (ap (λ z. trees_entries z) w.is ∙ trees_append w.before ((w.earlier ++ w.it ∷ w.later) ∷ w.behind)) r.trees_are in
+          subst (λ z. Shown r.trees z) (ap (λ z. trees_entries z) w.is ∙ trees_append w.before ((w.earlier ++ w.it ∷ w.later) ∷ w.behind))
+          r.trees_are in
           let parts = shown_cut r.trees (trees_entries w.before) (map slept (w.earlier ++ w.it ∷ w.later) ∷ trees_entries w.behind) shown in
           elim (shown_head parts.last (map slept (w.earlier ++ w.it ∷ w.later)) (trees_entries w.behind) parts.right) [
             | inl k ↦ absurd (filled w.earlier w.it w.later k.0)

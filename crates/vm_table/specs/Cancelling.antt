@@ -10,10 +10,13 @@ use Rattle.vm_table.specs.Roses.{Rose, empty, node}
 module _ {T : Type 0} (slot : T → Slot) where
   -- the children of a task with numbers below a bound go, the youngest first, each with all that it encloses
   pub data CancelsSince (id bound : ℕ) : List (Task T) → List (Task T) → List (Task T) → Type 0 where
-    none_younger : {ts : List (Task T)} → IsTree ts → ((c : ℕ) (u : Task T) → youngest (Some id) ts ≡ Some c → task_at c ts ≡ Some u → bound ≤ number_of slot u) →
+    none_younger : {ts : List (Task T)} → IsTree ts →
+        ((c : ℕ) (u : Task T) → youngest (Some id) ts ≡ Some c → task_at c ts ≡ Some u → bound ≤ number_of slot u) →
         CancelsSince id bound ts [] ts
-    one_younger : {ts all left : List (Task T)} (c : ℕ) (u : Task T) (gone mid later : List (Task T)) → IsTree ts → youngest (Some id) ts ≡ Some c → task_at c ts ≡ Some u →
-        number_of slot u < bound → Cancels c ts gone mid → CancelsSince id bound mid later left → all ≡ later ++ gone → CancelsSince id bound ts all left
+    one_younger : {ts all left : List (Task T)} (c : ℕ) (u : Task T) (gone mid later : List (Task T)) → IsTree ts →
+        youngest (Some id) ts ≡ Some c → task_at c ts ≡ Some u →
+        number_of slot u < bound → Cancels c ts gone mid → CancelsSince id bound mid later left → all ≡ later ++ gone →
+        CancelsSince id bound ts all left
 
   -- siblings from the first that began with a number below the bound, and those before it
   abbrev pub younger : ℕ → Rose T → Rose T

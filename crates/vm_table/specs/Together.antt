@@ -39,11 +39,14 @@ module _ {T : Type 0} (slot : T → Slot) where
     pub of_it : (u : Task T) → task_at i tasks ≡ Some u → u.parent ≡ Some id
     pub at_it : task_at id (without i tasks) ≡ Some task
     pub shows : Shows id (slot task.item).held (slept parent)
-    pub found : (v : Val) (s : State) → climbs w.up w.number v xs ys trees s ≡ joined w.number v parent.rest parent (passed earlier xs) later trees s
+    pub found : (v : Val) (s : State) → climbs w.up w.number v xs ys trees s ≡
+        joined w.number v parent.rest parent (passed earlier xs) later trees s
     -- it waits on, or goes on with its group
     pub stays : Rests slot (without i tasks) (among (onto (passed earlier xs) (parent ∷ later)) trees)
-    pub goes : (item : T) (v : Val) (gs : List Part) → slot item ≡ record (slot task.item) { held = by_machine } → arms_at parent.rest ≡ Some gs →
-        Stands slot (with_item id (without i tasks) item) [] (held id parent.thread.who (Some (with_did w.number v gs)) ∷ []) (world (passed earlier xs) later [] trees)
+    pub goes : (item : T) (v : Val) (gs : List Part) → slot item ≡ record (slot task.item) { held = by_machine } →
+        arms_at parent.rest ≡ Some gs →
+        Stands slot (with_item id (without i tasks) item) [] (held id parent.thread.who (Some (with_did w.number v gs)) ∷ [])
+        (world (passed earlier xs) later [] trees)
 
   -- the task whose wait is due
   pub record Wakes (tasks : List (Task T)) (tss : List (List m.Task)) (s : State) (d : Due) (e : ClockDue) (u : State) : Type 0 where
@@ -60,4 +63,5 @@ module _ {T : Type 0} (slot : T → Slot) where
     pub frame_is : it.thread.frame ≡ frame
     pub below_is : it.thread.below ≡ below
     pub goes_on : woken_in d.number d.given.value [] tss u ≡ resumes it.thread d.given.value other u
-    pub stands : (item : T) → slot item ≡ record (slot task.item) { held = by_machine } → Stands slot (with_item e.task tasks item) [] (held e.task it.thread.who None ∷ []) other
+    pub stands : (item : T) → slot item ≡ record (slot task.item) { held = by_machine } →
+        Stands slot (with_item e.task tasks item) [] (held e.task it.thread.who None ∷ []) other

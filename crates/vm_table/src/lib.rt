@@ -6,7 +6,8 @@
 //! `Overs`, `Endings` and `Wakings` have a lemma for each change, over all items.
 #![tactic(auto)]
 
-ghost use Rattle.vm_table.specs.Laws.{NextIsLeast, SignalsReach, ResultsReach, NextWakes, ScopesCancel, ArmsCancel, PartsJoin, TurnsRest};
+ghost use Rattle.vm_table.specs.Laws.{NextIsLeast, SignalsReach, ResultsReach, NextWakes};
+ghost use Rattle.vm_table.specs.Laws.{ScopesCancel, ArmsCancel, PartsJoin, TurnsRest};
 
 /// Of a clock the next wait is the least wait of the definition, and there are as many of both.
 pub fn next_is_least()

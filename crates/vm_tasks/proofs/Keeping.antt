@@ -17,24 +17,29 @@ in_either x (y ∷ a) b first_in = inl first_in
 in_either x (y ∷ a) b (later_in _ i) = elim (in_either x a b i) [ inl k ↦ inl (later_in y k) | inr k ↦ inr k ]
 
 module _ {F : Type 0} where
-  parts_gone : (R : Task (Slot F) → Type 0) (old gone left : List (Task (Slot F))) (t : Task (Slot F)) → Parts R old gone left → In t gone → In t old
+  parts_gone : (R : Task (Slot F) → Type 0) (old gone left : List (Task (Slot F))) (t : Task (Slot F)) → Parts R old gone left → In t gone →
+      In t old
   parts_gone R old gone left t all_parted i = i
   parts_gone R old gone left t (one_goes {old = xs} {gone = ys} {left = zs} u r q) first_in = first_in
   parts_gone R old gone left t (one_goes {old = xs} {gone = ys} {left = zs} u r q) (later_in _ i) = later_in u (parts_gone R xs ys zs t q i)
   parts_gone R old gone left t (one_stays {old = xs} {gone = ys} {left = zs} u r q) i = later_in u (parts_gone R xs ys zs t q i)
 
-  parts_left : (R : Task (Slot F) → Type 0) (old gone left : List (Task (Slot F))) (t : Task (Slot F)) → Parts R old gone left → In t left → In t old
+  parts_left : (R : Task (Slot F) → Type 0) (old gone left : List (Task (Slot F))) (t : Task (Slot F)) → Parts R old gone left → In t left →
+      In t old
   parts_left R old gone left t all_parted i = i
   parts_left R old gone left t (one_goes {old = xs} {gone = ys} {left = zs} u r q) i = later_in u (parts_left R xs ys zs t q i)
   parts_left R old gone left t (one_stays {old = xs} {gone = ys} {left = zs} u r q) first_in = first_in
-  parts_left R old gone left t (one_stays {old = xs} {gone = ys} {left = zs} u r q) (later_in _ i) = later_in u (parts_left R xs ys zs t q i)
+  parts_left R old gone left t (one_stays {old = xs} {gone = ys} {left = zs} u r q) (later_in _ i) =
+      later_in u (parts_left R xs ys zs t q i)
 
-  since_left : (slot : Slot F → table.Slot) (id bound : ℕ) (ts gone new : List (Task (Slot F))) (t : Task (Slot F)) → CancelsSince slot id bound ts gone new → In t new → In t ts
+  since_left : (slot : Slot F → table.Slot) (id bound : ℕ) (ts gone new : List (Task (Slot F))) (t : Task (Slot F)) →
+      CancelsSince slot id bound ts gone new → In t new → In t ts
   since_left slot id bound ts gone new t (none_younger tree none) i = i
   since_left slot id bound ts gone new t (one_younger c u first mid later tree young at less cancels more is) i =
       parts_left _ ts first mid t cancels (since_left slot id bound mid later new t more i)
 
-  since_gone : (slot : Slot F → table.Slot) (id bound : ℕ) (ts gone new : List (Task (Slot F))) (t : Task (Slot F)) → CancelsSince slot id bound ts gone new → In t gone → In t ts
+  since_gone : (slot : Slot F → table.Slot) (id bound : ℕ) (ts gone new : List (Task (Slot F))) (t : Task (Slot F)) →
+      CancelsSince slot id bound ts gone new → In t gone → In t ts
   since_gone slot id bound ts gone new t (none_younger tree none) i = elim i [ ]
   since_gone slot id bound ts gone new t (one_younger c u first mid later tree young at less cancels more is) i =
       elim (in_either t later first (subst (λ z. In t z) is i)) [
@@ -54,11 +59,13 @@ no_frames : {F : Type 0} → F → Frame × List Frame
 no_frames f = (record { life = record { born = 0; defers = []; noted = [] }; locals = []; stack = []; place = 0; handlers = [] }, [])
 
 module _ {F W : Type 0} (pending : W → List Pending) where
-  pub keeps_so : (id bound : ℕ) (old new : List (Task (Slot F))) (before behind : Gone F W) → Cleared pending id bound old new before behind → KeepsEach old new before behind
+  pub keeps_so : (id bound : ℕ) (old new : List (Task (Slot F))) (before behind : Gone F W) →
+      Cleared pending id bound old new before behind → KeepsEach old new before behind
   keeps_so id bound old new before behind c = record {
     tasks = λ t i. since_left _ id bound old c.gone new t (c.cancels no_frames) i;
     frames = λ l f i.
-        elim (in_either f before.frames.items (frames_back c.gone) (subst (λ z. In f z) (told_frames pending c.gone before behind c.told l).1 i)) [
+        elim (in_either f before.frames.items (frames_back c.gone)
+        (subst (λ z. In f z) (told_frames pending c.gone before behind c.told l).1 i)) [
           | inl k ↦ inl k
           | inr k ↦ let r = back_in f c.gone k in inr (r.0, since_gone _ id bound old c.gone new r.0 (c.cancels no_frames) r.1, r.2)
         ];

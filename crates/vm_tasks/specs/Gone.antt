@@ -42,7 +42,8 @@ module _ {F W : Type 0} where
   -- those that are left were there, and the frames that are kept are of tasks that were there
   pub record KeepsEach (old new : List (Task (Slot F))) (before behind : Gone F W) : Type 0 where
     pub tasks : (t : Task (Slot F)) → In t new → In t old
-    pub frames : behind.lost ≡ false → (f : F) → In f behind.frames.items → In f before.frames.items ⊎ ((t : Task (Slot F)) × In t old × In f (frames_in t.item.held))
+    pub frames : behind.lost ≡ false → (f : F) → In f behind.frames.items →
+        In f before.frames.items ⊎ ((t : Task (Slot F)) × In t old × In f (frames_in t.item.held))
 
 module _ {F W : Type 0} (pending : W → List Pending) where
   -- the wait is gone, and the frames stand behind those of tasks that were cancelled before, or some were lost

@@ -20,7 +20,9 @@ pub struct Gone<F, W> {
 impl<F: Drop, W> Gone<F, W> {
     fn keep(&mut self, frames: F)
         ensures waits { self.new.waits ≡ self.old.waits }
-        ensures kept { self.new.lost ≡ false → (self.old.lost ≡ false) × (self.new.frames.items ≡ self.old.frames.items ++ frames ∷ []) }
+        ensures kept { self.new.lost ≡ false →
+            (self.old.lost ≡ false) × (self.new.frames.items ≡ self.old.frames.items ++
+            frames ∷ []) }
     {
         if self.frames.push(frames).is_err() {
             self.lost = true;

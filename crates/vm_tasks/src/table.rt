@@ -1,6 +1,7 @@
 //! The changes of a tree of tasks, and what each is in the machine's definition.
 
-ghost use Rattle.std.specs.Prelude.{◌≡◌, IfSome, IfNone, IfOk, OnOk, OnErr, IfErr, Some, None, option_map};
+ghost use Rattle.std.specs.Prelude.{◌≡◌, IfSome, IfNone, IfOk, OnOk, OnErr, IfErr, Some, None};
+ghost use Rattle.std.specs.Prelude.{option_map};
 ghost use Rattle.task_tree.specs.Tasks.{IsLive, HasNoChild, task_at, parent_at, without};
 ghost use Rattle.task_tree.specs.Nested.{IsTree};
 ghost use Rattle.vm_tasks.specs.declared.slots.Root.TheVariants.{Part as APart, Spawned};
@@ -9,7 +10,8 @@ ghost use Rattle.vm_tasks.specs.Begun.{Begun, Reheld, Grouped};
 ghost use Rattle.vm_tasks.specs.Gone.{IsYounger, NoYounger, Cleared, KeepsEach};
 ghost use Rattle.vm_tasks.specs.Ending.{IsAlone, Ended, Wakes, FallsAsleep};
 ghost use Rattle.sim_clock.specs.Pending.{IsAboveAll};
-ghost use Rattle.vm_tasks.specs.Standing.{Branches, BeginsArm, Spawns, SetsDown, BeginsGroup, CancelsScope, CancelsArms};
+ghost use Rattle.vm_tasks.specs.Standing.{Branches, BeginsArm, Spawns, SetsDown, BeginsGroup};
+ghost use Rattle.vm_tasks.specs.Standing.{CancelsScope, CancelsArms};
 
 use crate::gone::Gone;
 use crate::slots::{Held, Root, Slot};
@@ -92,9 +94,12 @@ pub fn fall_asleep<F: Drop, W: Waits>(
 ) -> Result<(), (Memory, F)>
     requires live { IsLive wait.task tree.old }
     requires above { IsAboveAll wait.number (W.pending gone.old.waits) }
-    ensures slept { OnOk result (Reheld tree.old tree.new wait.task (Asleep frames wait.number wait.kind)) }
-    ensures down { OnOk result (SetsDown tree.old tree.new wait.task (Asleep frames wait.number wait.kind)) }
-    ensures timed { OnOk result (FallsAsleep W.pending tree.old tree.new gone.old gone.new wait.task wait.number wait.kind) }
+    ensures slept { OnOk result (Reheld tree.old tree.new wait.task
+        (Asleep frames wait.number wait.kind)) }
+    ensures down { OnOk result (SetsDown tree.old tree.new wait.task
+        (Asleep frames wait.number wait.kind)) }
+    ensures timed { OnOk result (FallsAsleep W.pending tree.old tree.new gone.old gone.new wait.task
+        wait.number wait.kind) }
     ensures same { OnErr result (tree.new ≡ tree.old) }
     ensures waits { OnErr result (W.pending gone.new.waits ≡ W.pending gone.old.waits) }
     ensures back { IfErr result (λ e. e.1 ≡ frames) }

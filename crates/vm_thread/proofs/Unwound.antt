@@ -1,5 +1,6 @@
 -- The innermost handler of all frames.
-use Rattle.std.proofs.Common.{◌≡◌, ◌≢◌, ℕ, ◌<◌, Bool, true, false, Option, Some, None, option_map, List, [], ◌∷◌, length, refl, sym, ap, ◌∙◌, arith}
+use Rattle.std.proofs.Common.{◌≡◌, ◌≢◌, ℕ, ◌<◌, Bool, true, false, Option, Some, None, option_map, List, [], ◌∷◌, length, refl, sym, ap}
+use Rattle.std.proofs.Common.{◌∙◌, arith}
 use Rattle.std.proofs.lemmas.Bool.{true≢false}
 use Rattle.fiber.specs.Frames.{Handler, Frame, has_handler}
 use Rattle.fiber.specs.Calls as fiber
@@ -20,7 +21,8 @@ record Skipped (hs : List Handler) (f : Framed) (fs gs : List Framed) : Type 0 w
 skipped_from : (hs : List Handler) (f : Framed) (fs gs : List Framed) (last : Bool) → left_from hs fs ≡ Some (last, gs) → Skipped hs f fs gs
 skipped_from (h ∷ hs) f fs gs last e = absurd (cc)
 skipped_from [] f [] gs last e = let same : [] ≡ gs = ap rest_in e in rw (← same) (record { unwinds = refl; guards = refl; size = refl })
-skipped_from [] f (k ∷ ks) gs last e = let same : k ∷ ks ≡ gs = ap rest_in e in rw (← same) (record { unwinds = refl; guards = refl; size = refl })
+skipped_from [] f (k ∷ ks) gs last e = let same : k ∷ ks ≡ gs = ap rest_in e in
+    rw (← same) (record { unwinds = refl; guards = refl; size = refl })
 
 pub skipped : (fs gs : List Framed) (last : Bool) → left fs ≡ Some (last, gs) → unwound gs ≡ unwound fs
 skipped [] gs last e = absurd (cc)
@@ -49,7 +51,8 @@ pub stays : (fs : List Framed) → is_guarded fs ≡ true → left fs ≡ None �
 stays [] sure e = absurd (true≢false (sym sure))
 stays (f ∷ fs) sure e = stays_from f.frame.handlers fs e
 
-to_none : (hs : List Handler) (f : Framed) (fs : List Framed) (rest : Bool) (under : Option (ℕ × List Framed)) → has_handler hs rest ≡ false → (rest ≡ false → under ≡ None) → unwound_to hs f fs under ≡ None
+to_none : (hs : List Handler) (f : Framed) (fs : List Framed) (rest : Bool) (under : Option (ℕ × List Framed)) →
+    has_handler hs rest ≡ false → (rest ≡ false → under ≡ None) → unwound_to hs f fs under ≡ None
 to_none [] f fs rest under not_so next = next not_so
 to_none (h ∷ hs) f fs rest under not_so next = absurd (true≢false not_so)
 
@@ -60,20 +63,25 @@ unguarded (f ∷ fs) not_so = to_none f.frame.handlers f fs (is_guarded fs) (unw
 -- back to a handler of the top frame
 
 module _ (bs : List ℕ) (f : Frame) (fs : List Frame) where
-  fallen_to : (hs : List Handler) (under : Option (ℕ × List Framed)) (below : Option (ℕ × List Frame)) → hs ≢ [] → unwound_to hs (record { born = top_birth bs; frame = f }) (framed (births_below bs) fs) under ≡ option_map (λ (x : ℕ × List Frame). (x.0, framed bs x.1)) (fiber.unwound_to hs f fs below)
+  fallen_to : (hs : List Handler) (under : Option (ℕ × List Framed)) (below : Option (ℕ × List Frame)) → hs ≢ [] →
+      unwound_to hs (record { born = top_birth bs; frame = f }) (framed (births_below bs) fs) under ≡
+      option_map (λ (x : ℕ × List Frame). (x.0, framed bs x.1)) (fiber.unwound_to hs f fs below)
   fallen_to [] under below some = absurd (some refl)
   fallen_to (h ∷ hs) under below some = refl
 
-fallen_of : (bs : List ℕ) (fs : List Frame) → handlers_of (framed bs fs) ≢ [] → unwound (framed bs fs) ≡ option_map (λ (x : ℕ × List Frame). (x.0, framed bs x.1)) (fiber.unwound fs)
+fallen_of : (bs : List ℕ) (fs : List Frame) → handlers_of (framed bs fs) ≢ [] →
+    unwound (framed bs fs) ≡ option_map (λ (x : ℕ × List Frame). (x.0, framed bs x.1)) (fiber.unwound fs)
 fallen_of bs [] some = absurd (some refl)
 fallen_of bs (f ∷ fs) some = fallen_to bs f fs f.handlers (unwound (framed (births_below bs) fs)) (fiber.unwound fs) some
 
-pub fallen_in : (bs : List ℕ) (fs gs : List Frame) (ks : List Framed) (label : ℕ) → framed bs fs ≡ ks → handlers_of ks ≢ [] → fiber.unwound fs ≡ Some (label, gs) → unwound ks ≡ Some (label, framed bs gs)
+pub fallen_in : (bs : List ℕ) (fs gs : List Frame) (ks : List Framed) (label : ℕ) → framed bs fs ≡ ks → handlers_of ks ≢ [] →
+    fiber.unwound fs ≡ Some (label, gs) → unwound ks ≡ Some (label, framed bs gs)
 fallen_in bs fs gs ks label are some e =
     let there : handlers_of (framed bs fs) ≢ [] = rw are some in
     rw (← are) (fallen_of bs fs there ∙ ap (option_map (λ (x : ℕ × List Frame). (x.0, framed bs x.1))) e)
 
-falls_to : (hs : List Handler) (f : Frame) (fs : List Frame) (below : Option (ℕ × List Frame)) → hs ≢ [] → fiber.unwound_to hs f fs below ≢ None
+falls_to : (hs : List Handler) (f : Frame) (fs : List Frame) (below : Option (ℕ × List Frame)) → hs ≢ [] →
+    fiber.unwound_to hs f fs below ≢ None
 falls_to [] f fs below some = absurd (some refl)
 falls_to (h ∷ hs) f fs below some = λ none. absurd (cc)
 

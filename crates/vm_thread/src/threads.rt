@@ -1,12 +1,17 @@
 //! The frames of a task, and what the machine does with them.
 
-ghost use Rattle.std.specs.Prelude.{ℕ, ◌≡◌, ◌≢◌, ◌<◌, ◌≤◌, [], ◌∷◌, ◌++◌, ◌+◌, vec_len, vec_capacity, true, false, Some, None, List, OnOk, OnErr, IfOk, IfErr, IfSome, IfNone, length, slice_get};
+ghost use Rattle.std.specs.Prelude.{ℕ, ◌≡◌, ◌≢◌, ◌<◌, ◌≤◌, [], ◌∷◌, ◌++◌, ◌+◌, vec_len};
+ghost use Rattle.std.specs.Prelude.{vec_capacity, true, false, Some, None, List, OnOk, OnErr, IfOk};
+ghost use Rattle.std.specs.Prelude.{IfErr, IfSome, IfNone, length, slice_get};
 ghost use Rattle.verse_value.specs.View.{val_of, vals_of};
 ghost use Rattle.verse_state.specs.State.{Memory as Kept};
 ghost use Rattle.verse_machine.specs.Frames.{nothing};
 ghost use Rattle.fiber.specs.Frames.{kept_defers};
-ghost use Rattle.vm_thread.specs.Framed.{is_guarded, born_of, place_of, locals_of, stack_of, handlers_of, defers_of, noted_of};
-ghost use Rattle.vm_thread.specs.Calls.{entered, alone, pushed, popped, popped_many, left, permits, moved, with_local, guarded, released, unwound, deferred, taken, ended};
+ghost use Rattle.vm_thread.specs.Framed.{is_guarded, born_of, place_of, locals_of, stack_of};
+ghost use Rattle.vm_thread.specs.Framed.{handlers_of, defers_of, noted_of};
+ghost use Rattle.vm_thread.specs.Calls.{entered, alone, pushed, popped, popped_many, left, permits};
+ghost use Rattle.vm_thread.specs.Calls.{moved, with_local, guarded, released, unwound, deferred};
+ghost use Rattle.vm_thread.specs.Calls.{taken, ended};
 ghost use Rattle.vm_thread.specs.Machine.{frames_with, all_free, life_of};
 
 use fiber::fibers::Fiber;
@@ -197,7 +202,8 @@ impl Thread {
     /// A local; None where there is no such local.
     pub fn local(&self, local: u32) -> Option<&Value>
         requires { self.now ≢ [] }
-        ensures some { IfSome result (λ v. slice_get (locals_of self.now) local ≡ Some (val_of v.now)) }
+        ensures some { IfSome result (λ v. slice_get (locals_of self.now) local ≡
+            Some (val_of v.now)) }
         ensures none { IfNone result (slice_get (locals_of self.now) local ≡ None) }
     {
         self.fiber.local(local)
@@ -220,7 +226,8 @@ impl Thread {
     /// where there are fewer, and then operands may be gone.
     pub fn pop_many(&mut self, alloc: Global, count: u64) -> Result<Option<Vec<Value>>, Memory>
         requires { self.old ≢ [] }
-        ensures some { IfOk result (λ o. IfSome o (λ vs. popped_many count [] self.old ≡ Some (vals_of vs.items, self.new))) }
+        ensures some { IfOk result (λ o.
+            IfSome o (λ vs. popped_many count [] self.old ≡ Some (vals_of vs.items, self.new))) }
         ensures none { IfOk result (λ o. IfNone o (popped_many count [] self.old ≡ None)) }
     {
         let mut taken = Vec::new(alloc);
@@ -341,7 +348,8 @@ impl Thread {
     /// Whether the frame has no deferred block and no noted place.
     pub fn is_clean(&self) -> bool
         requires { self.now ≢ [] }
-        ensures { result ≡ nothing (life_of 0 (defers_of self.now) (noted_of self.now)).defers (life_of 0 (defers_of self.now) (noted_of self.now)).noted }
+        ensures { result ≡ nothing (life_of 0 (defers_of self.now) (noted_of self.now)).defers
+            (life_of 0 (defers_of self.now) (noted_of self.now)).noted }
     {
         self.fiber.defers() == 0 && self.fiber.noted() == 0
     }

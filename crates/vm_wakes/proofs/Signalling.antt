@@ -40,7 +40,8 @@ abbrev signal_in : ℕ → Val → ℕ → Aside → Aside
 signal_in event x moment a = record a { signals = a.signals ++ signal_of event x a.next moment ∷ [] }
 
 module _ {W : Type 0} (pending : W → List Pending) where
-  module _ (v : View) (t : Tasks W) (event : ℕ) (x : Value) (values : Vec Value) (waits : W) (more : values.items ≡ t.signals.items ++ x ∷ [])
+  module _ (v : View) (t : Tasks W) (event : ℕ) (x : Value) (values : Vec Value) (waits : W) (more : values.items ≡ t.signals.items ++
+      x ∷ [])
       (woke : pending waits ≡ woken (Event event) (record { at = v.moment; cause = length t.signals.items }) (pending t.gone.waits)) where
     abbrev told_tasks : Tasks W
     told_tasks = record t { gone = record t.gone { waits = waits }; signals = values }
@@ -59,8 +60,10 @@ module _ {W : Type 0} (pending : W → List Pending) where
           next = c.next;
           results = c.results;
           signals = map_append (λ (g : Signal). g.given.value) a.signals (signal_of event (val_of x) a.next v.moment ∷ []) ∙
-              (ap (λ z. z ++ val_of x ∷ []) c.signals ∙ (sym (map_append val_of t.signals.items (x ∷ [])) ∙ ap (λ z. map val_of z) (sym more)));
-          timed = subst (λ ps. Timed (sleeping (slot_of frames_in) t.tree) ps (signalled event (val_of x) (state_of a v))) same (signal_timed (sleeping (slot_of frames_in) t.tree) (pending t.gone.waits) (state_of a v) event (val_of x) c.timed);
+              (ap (λ z. z ++ val_of x ∷ []) c.signals ∙
+              (sym (map_append val_of t.signals.items (x ∷ [])) ∙ ap (λ z. map val_of z) (sym more)));
+          timed = subst (λ ps. Timed (sleeping (slot_of frames_in) t.tree) ps (signalled event (val_of x) (state_of a v))) same
+              (signal_timed (sleeping (slot_of frames_in) t.tree) (pending t.gone.waits) (state_of a v) event (val_of x) c.timed);
           fine = c.fine;
           untold = c.untold;
         }
@@ -102,11 +105,19 @@ module _ {W : Type 0} (pending : W → List Pending) where
     going_told m g = record { ready = g.ready; runs = elim g.runs [ inl o ↦ inl (own_told m o) | inr c ↦ inr (clearing_told m c) ] }
 
     told_is : (fs : List Framed) (a : Aside) (w : Who) (o : World) → fs ≢ [] →
-        on_frame (frames_with fs (memories a.past v.heap.copies v.trace.marks)) (state_of a v) (signals event (val_of x) w o (state_of a v)) ≡ on_frame (frames_with fs (memories a.past v.heap.copies v.trace.marks)) (state_of (told_aside a) v) (going w o (state_of (told_aside a) v))
+        on_frame (frames_with fs (memories a.past v.heap.copies v.trace.marks)) (state_of a v)
+        (signals event (val_of x) w o (state_of a v)) ≡ on_frame (frames_with fs (memories a.past v.heap.copies v.trace.marks))
+        (state_of (told_aside a) v) (going w o (state_of (told_aside a) v))
     told_is [] a w o some = absurd (some refl)
     told_is (f ∷ fs) a w o some = refl
 
     pub signal_told : Comes pending (signals event (val_of x)) went.On v t v told_tasks
     signal_told = record {
-      comes = λ m g. record { scene = told_scene m; same = refl; goes = going_told m g; is = told_is v.frames m.aside m.who m.world g.ready.some };
+      comes = λ m g. record {
+        scene = told_scene m;
+        same = refl;
+        goes = going_told m g;
+        is =
+            told_is v.frames m.aside m.who m.world g.ready.some;
+      };
     }

@@ -1,5 +1,6 @@
 -- Main begins.
-use Rattle.std.proofs.Common.{◌≡◌, ℕ, zero, suc, ◌+◌, ◌-◌, ◌≤◌, ℤ, List, [], ◌∷◌, ◌++◌, map, None, option_map, refl, sym, ap, subst, ◌∙◌, arith}
+use Rattle.std.proofs.Common.{◌≡◌, ℕ, zero, suc, ◌+◌, ◌-◌, ◌≤◌, ℤ, List, [], ◌∷◌, ◌++◌, map, None, option_map, refl, sym, ap, subst, ◌∙◌}
+use Rattle.std.proofs.Common.{arith}
 use Rattle.std.proofs.lemmas.List.{append-nil}
 use Rattle.task_tree.specs.Tasks.{Task}
 use Rattle.verse_code.specs.declared.codes.Func.{Func}
@@ -65,23 +66,30 @@ state_begun v f =
     let spent = sym f.spent in
     let moment = sym f.moment in
     ap (λ z. record (begun v.left) { memory = record { store = z; trace = [] } }) cells ∙
-    (ap (λ z. record (begun v.left) { memory = record { store = v.heap.cells; trace = map (λ (l : ℕ × List ℕ). record { moment = l.0; bytes = l.1 }) z } }) kept ∙
+    (ap (λ z. record (begun v.left) {
+      memory =
+          record { store = v.heap.cells; trace = map (λ (l : ℕ × List ℕ). record { moment = l.0; bytes = l.1 }) z };
+    }) kept ∙
     (ap (λ n. at_clock n 0 (state_of nothing v)) spent ∙ ap (λ n. at_clock v.spent n (state_of nothing v)) moment))
 
 module _ {W : Type 0} (pending : W → List Pending) where
-  pub out_of_steps : (f : Func) (ns : List ℤ) (v : View) (t : Tasks W) → Fresh v → v.left ≡ 0 → MainStarts pending f ns (went.Over ending.Steps) v v t
+  pub out_of_steps : (f : Func) (ns : List ℤ) (v : View) (t : Tasks W) → Fresh v → v.left ≡ 0 →
+      MainStarts pending f ns (went.Over ending.Steps) v v t
   out_of_steps f ns v t fresh none = record {
     starts = record {
       aside = nothing;
       same = refl;
-      is = ap (λ s. main_starts ns s f) (state_begun v fresh) ∙ ap (λ n. spending n (state_of nothing v) (Over ending.Steps (state_of nothing v)) (begins f)) none;
+      is = ap (λ s. main_starts ns s f) (state_begun v fresh) ∙
+          ap (λ n. spending n (state_of nothing v) (Over ending.Steps (state_of nothing v)) (begins f)) none;
     };
   }
     where
       begins : Func → State → Step
-      begins f s = Next (machine (root_named s.clock.left None) alone_world s (life_from s.clock.left) (frames.locals_of f (inputs_of f.params ns)) [] f.entry [] [])
+      begins f s = Next (machine (root_named s.clock.left None) alone_world s (life_from s.clock.left)
+          (frames.locals_of f (inputs_of f.params ns)) [] f.entry [] [])
 
-  module _ (f : Func) (ns : List ℤ) (v : View) (t : Tasks W) (args : List Val) (left id : ℕ) (tree : Tree) (fresh : Fresh v) (new : IsNew pending t) (less : v.left ≡ suc left) (inputs : args ≡ inputs_of f.params ns)
+  module _ (f : Func) (ns : List ℤ) (v : View) (t : Tasks W) (args : List Val) (left id : ℕ) (tree : Tree) (fresh : Fresh v)
+      (new : IsNew pending t) (less : v.left ≡ suc left) (inputs : args ≡ inputs_of f.params ns)
       (begun_one : Begun t.tree tree None id left Main) where
     abbrev main_view : View
     main_view = record v { frames = entered left f args []; left = left; spent = suc v.spent }
@@ -106,7 +114,8 @@ module _ {W : Type 0} (pending : W → List Pending) where
     main_stands : Stands (slot_of frames_in) tree (map id_of (ups_of t.ups.items)) (entry ∷ []) alone_world
     main_stands =
         let c : Rose (Slot (List Framed)) = node main_task entry empty empty in
-        let seen : Seen (slot_of frames_in) no_parent main_task entry = record { parent = refl; suited = refl; fits = tt; who = refl; shows = refl; armed = tt } in
+        let seen : Seen (slot_of frames_in) no_parent main_task entry =
+        record { parent = refl; suited = refl; fits = tt; who = refl; shows = refl; armed = tt } in
         record {
           others = [];
           planted = record {
@@ -130,13 +139,14 @@ module _ {W : Type 0} (pending : W → List Pending) where
             next = sym new.next;
             results = sym (ap (λ z. map (λ o. option_map given_of o) z) new.results);
             signals = sym (ap (λ z. map val_of z) new.signals);
-            timed = subst (λ ps. Timed (sleeping (slot_of frames_in) tree) ps (state_of nothing main_view)) (sym new.waits) (subst (λ xs. Timed xs [] (state_of nothing main_view)) (sym waits) (record {
-              each = none_dealt;
-              timed = tt;
-              rising = tt;
-              under_next = tt;
-              signals = tt;
-            }));
+            timed = subst (λ ps. Timed (sleeping (slot_of frames_in) tree) ps (state_of nothing main_view)) (sym new.waits)
+                (subst (λ xs. Timed xs [] (state_of nothing main_view)) (sym waits) (record {
+                  each = none_dealt;
+                  timed = tt;
+                  rising = tt;
+                  under_next = tt;
+                  signals = tt;
+                }));
             fine = subst (λ z. AllFine left z) (sym tree_is) (record { number = omega arith; since = omega arith; held = tt }, tt);
             untold = subst (λ z. Untold t.results.items z) (sym tree_is) (record { number = λ e. e; all = (tt, tt) });
           };
@@ -150,9 +160,12 @@ module _ {W : Type 0} (pending : W → List Pending) where
     main_is =
         let ms : [] ≡ memories [] v.heap.copies v.trace.marks = sym (ap (λ c. memories [] c v.trace.marks) fresh.copies) in
         ap (λ s. main_starts ns s f) (state_begun v fresh) ∙
-        (ap (λ n. spending n (state_of nothing v) (Over ending.Steps (state_of nothing v)) (begins (frames.locals_of f (inputs_of f.params ns)))) less ∙
-        (ap (λ ls. begins ls (state_of nothing main_view)) (ap (λ vs. vs ++ frames.units (f.locals - f.params)) (sym inputs) ∙ ap (λ us. args ++ us) (sym (units_same (f.locals - f.params)))) ∙
-        ap (λ ms. on_frame (frames_with (entered left f args []) ms) (state_of nothing main_view) (going (root_named left None) alone_world (state_of nothing main_view))) ms))
+        (ap (λ n. spending n (state_of nothing v) (Over ending.Steps (state_of nothing v))
+        (begins (frames.locals_of f (inputs_of f.params ns)))) less ∙
+        (ap (λ ls. begins ls (state_of nothing main_view)) (ap (λ vs. vs ++ frames.units (f.locals - f.params)) (sym inputs) ∙
+        ap (λ us. args ++ us) (sym (units_same (f.locals - f.params)))) ∙
+        ap (λ ms. on_frame (frames_with (entered left f args []) ms) (state_of nothing main_view)
+        (going (root_named left None) alone_world (state_of nothing main_view))) ms))
       where
         begins : List Val → State → Step
         begins ls s = Next (machine (root_named s.clock.left None) alone_world s (life_from s.clock.left) ls [] f.entry [] [])
@@ -165,13 +178,17 @@ module _ {W : Type 0} (pending : W → List Pending) where
           starts = record {
             scene = record { aside = nothing; who = root_named left None; world = alone_world };
             same = refl;
-            goes = own_goes pending (record { aside = nothing; who = root_named left None; world = alone_world }) main_view main_tasks main_standing (record { copies = fresh.copies; marks = fresh.marks; steps = omega (arith, less, most, none) }) (λ e. absurd (cc)) refl refl;
+            goes = own_goes pending (record { aside = nothing; who = root_named left None; world = alone_world }) main_view main_tasks
+                main_standing (record { copies = fresh.copies; marks = fresh.marks; steps = omega (arith, less, most, none) })
+                (λ e. absurd (cc)) refl refl;
             is = main_is;
           };
         }
 
-    pub main_on : (gs : List Framed) (spent : ℕ) → gs ≡ entered left f args [] → spent ≡ v.spent + 1 → MainStarts pending f ns went.On v (record v { frames = gs; left = left; spent = spent }) main_tasks
+    pub main_on : (gs : List Framed) (spent : ℕ) → gs ≡ entered left f args [] → spent ≡ v.spent + 1 →
+        MainStarts pending f ns went.On v (record v { frames = gs; left = left; spent = spent }) main_tasks
     main_on gs spent e n =
         let k : spent ≡ suc v.spent = omega (arith, n) in
         subst (λ z. MainStarts pending f ns went.On v (record v { frames = z; left = left; spent = spent }) main_tasks) (sym e)
-        (subst (λ z. MainStarts pending f ns went.On v (record v { frames = entered left f args []; left = left; spent = z }) main_tasks) (sym k) main_goes)
+        (subst (λ z. MainStarts pending f ns went.On v (record v { frames = entered left f args []; left = left; spent = z }) main_tasks)
+        (sym k) main_goes)

@@ -23,17 +23,21 @@ nth_slice [] n = refl
 nth_slice (x ∷ xs) zero = refl
 nth_slice (x ∷ xs) (suc n) = nth_slice xs n
 
-given_value : (o : Option (Option given.Given)) → option_map (λ (g : Given). g.value) (given_by (option_map (λ o. option_map given_of o) o)) ≡ value_in o
+given_value : (o : Option (Option given.Given)) →
+    option_map (λ (g : Given). g.value) (given_by (option_map (λ o. option_map given_of o) o)) ≡ value_in o
 given_value None = refl
 given_value (Some None) = refl
 given_value (Some (Some g)) = refl
 
 module _ {W : Type 0} (pending : W → List Pending) where
-  pub value_is : (a : Aside) (v : View) (t : Tasks W) (kind : WaitKind) (cause : ℕ) → Clocked pending a v t → value_for (state_of a v) (cause_of kind) cause ≡ value_at t kind cause
+  pub value_is : (a : Aside) (v : View) (t : Tasks W) (kind : WaitKind) (cause : ℕ) → Clocked pending a v t →
+      value_for (state_of a v) (cause_of kind) cause ≡ value_at t kind cause
   value_is a v t (At moment) cause c = refl
   value_is a v t Never cause c = refl
   value_is a v t (OnTask entry) cause c =
       ap (λ z. option_map (λ (g : Given). g.value) (given_by (nth z entry))) c.results ∙
-      (ap (λ z. option_map (λ (g : Given). g.value) (given_by z)) (nth_map (λ o. option_map given_of o) t.results.items entry) ∙ given_value (nth t.results.items entry))
+      (ap (λ z. option_map (λ (g : Given). g.value) (given_by z)) (nth_map (λ o. option_map given_of o) t.results.items entry) ∙
+      given_value (nth t.results.items entry))
   value_is a v t (Event cell) cause c =
-      sym (nth_map (λ (g : Signal). g.given.value) a.signals cause) ∙ (ap (λ z. nth z cause) c.signals ∙ nth_map val_of t.signals.items cause)
+      sym (nth_map (λ (g : Signal). g.given.value) a.signals cause) ∙
+      (ap (λ z. nth z cause) c.signals ∙ nth_map val_of t.signals.items cause)

@@ -19,7 +19,8 @@ use Rattle.vm_world.specs.Going.{Resting}
 use Rattle.vm_world.specs.Meets.{GoesOn}
 
 -- the run is over before the turn
-pub record Closes {W : Type 0} (until : ℕ) (e : Ending) (a : Aside) (tss : Forest) (v : View) (t : Tasks W) (u : View) (s : Tasks W) : Type 0 where
+pub record Closes {W : Type 0} (until : ℕ) (e : Ending) (a : Aside) (tss : Forest) (v : View) (t : Tasks W) (u : View) (s : Tasks W) :
+    Type 0 where
   pub is : (go : Due → State → Stage Forest) → turn until (tree_waits tss) (state_of a v) tss go ≡ closed e (state_of a v) tss
   pub view : u ≡ v
   pub tasks : s ≡ t
@@ -62,4 +63,5 @@ module _ {W : Type 0} (pending : W → List Pending) where
     pub next : NextIs (state_of aside v) (pending t.gone.waits) due e
 
   pub record WakesNext (e : ClockDue) (r : Went) (v : View) (t : Tasks W) (u : View) (s : Tasks W) : Type 0 where
-    pub wakes : (a : Aside) (tss : Forest) (d : Due) → Resting pending a tss v t → NextIs (state_of a v) (pending t.gone.waits) d e → RunsNow (woken_in d.number d.given.value [] tss (state_of a v)) a.past r u s
+    pub wakes : (a : Aside) (tss : Forest) (d : Due) → Resting pending a tss v t → NextIs (state_of a v) (pending t.gone.waits) d e →
+        RunsNow (woken_in d.number d.given.value [] tss (state_of a v)) a.past r u s

@@ -21,7 +21,8 @@ pub fn signal<H: Heap, W: Waits>(
     event: u32,
     value: Value,
 ) -> Result<Went, Memory>
-    ensures { IfOk result (λ r. Comes W.pending (signals event (val_of value)) r (view_of H.state run.now) tasks.old (view_of H.state run.now) tasks.new) }
+    ensures { IfOk result (λ r. Comes W.pending (signals event (val_of value)) r
+        (view_of H.state run.now) tasks.old (view_of H.state run.now) tasks.new) }
 {
     let number = tasks.signals.len();
     tasks.signals.push(value)?;

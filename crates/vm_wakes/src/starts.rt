@@ -57,7 +57,9 @@ pub fn start_main<H: Heap, W: Waits>(
     requires new { IsNew W.pending tasks.old }
     requires params { func.now.params ≤ 1 }
     requires locals { func.now.params ≤ func.now.locals }
-    ensures { (ns : List ℤ) → val_of inputs ≡ array (vals (map int ns)) → IfOk result (λ r. MainStarts W.pending func.now ns r (view_of H.state run.old) (view_of H.state run.new) tasks.new) }
+    ensures { (ns : List ℤ) → val_of inputs ≡ array (vals (map int ns)) →
+        IfOk result (λ r. MainStarts W.pending func.now ns r (view_of H.state run.old)
+        (view_of H.state run.new) tasks.new) }
 {
     let args = main_args(tasks.alloc, func.params, inputs)?;
     if run.left == 0 {
@@ -77,7 +79,8 @@ pub fn start_main<H: Heap, W: Waits>(
 fn main_args(alloc: Global, params: u32, inputs: Value) -> Result<Vec<Value>, Memory>
     requires { params ≤ 1 }
     ensures count { IfOk result (λ vs. length vs.items ≡ params) }
-    ensures args { (ns : List ℤ) → val_of inputs ≡ array (vals (map int ns)) → IfOk result (λ vs. vals_of vs.items ≡ inputs_of params ns) }
+    ensures args { (ns : List ℤ) → val_of inputs ≡ array (vals (map int ns)) →
+        IfOk result (λ vs. vals_of vs.items ≡ inputs_of params ns) }
 {
     let mut args = Vec::new(alloc);
     if params == 1 {

@@ -24,7 +24,8 @@ pub fn take_turn<H: Heap, W: Waits>(
     until: u64,
 ) -> Result<Went, Memory>
     requires { Rested W.pending (view_of H.state run.old) tasks.old }
-    ensures { IfOk result (λ r. TakesTurn W.pending until r (view_of H.state run.old) tasks.old (view_of H.state run.new) tasks.new) }
+    ensures { IfOk result (λ r. TakesTurn W.pending until r (view_of H.state run.old) tasks.old
+        (view_of H.state run.new) tasks.new) }
 {
     if tasks.gone.waits.len() == 0 {
         return Ok(Went::Over(Ending::Done));
@@ -51,7 +52,8 @@ fn wake<H: Heap, W: Waits>(
     due: Due,
 ) -> Result<Went, Memory>
     requires { CanWake W.pending due (view_of H.state run.old) tasks.old }
-    ensures { IfOk result (λ r. WakesNext W.pending due r (view_of H.state run.old) tasks.old (view_of H.state run.new) tasks.new) }
+    ensures { IfOk result (λ r. WakesNext W.pending due r (view_of H.state run.old) tasks.old
+        (view_of H.state run.new) tasks.new) }
 {
     tasks.tree.is_nested();
     tasks.gone.waits.remove(due.number);

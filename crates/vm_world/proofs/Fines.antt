@@ -39,8 +39,10 @@ pub fine_none_later : (left : ℕ) (ts : Tree) → AllFine left ts → NoneLater
 fine_none_later left [] a = tt
 fine_none_later left (t ∷ ts) a = (a.0.number, fine_none_later left ts a.1)
 
-pub fine_added : (left : ℕ) (old new : Tree) (u : Task (Slot (List Framed))) → Added u old new → Fine left u.item → AllFine left old → AllFine left new
-fine_added left old new u added f a = all_fine left new (added_each (slot_of frames_in) (FineTask left) old new u added f (each_fine left old a))
+pub fine_added : (left : ℕ) (old new : Tree) (u : Task (Slot (List Framed))) → Added u old new → Fine left u.item → AllFine left old →
+    AllFine left new
+fine_added left old new u added f a = all_fine left new
+    (added_each (slot_of frames_in) (FineTask left) old new u added f (each_fine left old a))
 
 pub fine_without : (left id : ℕ) (ts : Tree) → AllFine left ts → AllFine left (without id ts)
 fine_without left id ts a = all_fine left (without id ts) (without_each (slot_of frames_in) (FineTask left) ts id (each_fine left ts a))
@@ -50,11 +52,14 @@ fine_at left id ts t at a =
     let p = found id ts t at in
     (each_parts (FineTask left) p.front (t ∷ p.back) (subst (λ w. Each (FineTask left) w) p.was (each_fine left ts a))).1.0
 
-pub fine_item : (left id : ℕ) (ts : Tree) (t : Task (Slot (List Framed))) (item : Slot (List Framed)) → IsTree ts → task_at id ts ≡ Some t → Fine left item → AllFine left ts → AllFine left (with_item id ts item)
+pub fine_item : (left id : ℕ) (ts : Tree) (t : Task (Slot (List Framed))) (item : Slot (List Framed)) → IsTree ts → task_at id ts ≡ Some t →
+    Fine left item → AllFine left ts → AllFine left (with_item id ts item)
 fine_item left id ts t item tree at f a =
     let p = found id ts t at in
     let alone = beside p.front p.back t (subst (λ z. Distinct z) p.was tree.distinct) in
     let parts = each_parts (FineTask left) p.front (t ∷ p.back) (subst (λ w. Each (FineTask left) w) p.was (each_fine left ts a)) in
     let list : with_item id ts item ≡ p.front ++ record t { item = item } ∷ p.back =
-    ap (λ n. with_item n ts item) (sym p.number) ∙ (ap (λ z. with_item t.number z item) p.was ∙ changed_here p.front p.back t (λ u. record u { item = item }) alone.0) in
-    subst (λ w. AllFine left w) (sym list) (all_fine left (p.front ++ record t { item = item } ∷ p.back) (each_append (FineTask left) p.front (record t { item = item } ∷ p.back) parts.0 (f, parts.1.1)))
+    ap (λ n. with_item n ts item) (sym p.number) ∙
+    (ap (λ z. with_item t.number z item) p.was ∙ changed_here p.front p.back t (λ u. record u { item = item }) alone.0) in
+    subst (λ w. AllFine left w) (sym list) (all_fine left (p.front ++ record t { item = item } ∷ p.back)
+    (each_append (FineTask left) p.front (record t { item = item } ∷ p.back) parts.0 (f, parts.1.1)))

@@ -12,7 +12,8 @@ use Rattle.vm_runner.specs.Views.{View, Aside, Ready, frames_of, memories}
 use Rattle.vm_world.specs.Frames.{birth, birth_of, NotGone, GoneFirst, EachKeeps, NoneGone, Closing, holds, is_guarded, AllAbove}
 use Rattle.vm_world.specs.Standing.{Bare}
 
-pub free_parts : (hs : List Handler) (ns : List Note) (fs : List Frame) → free hs ns fs ≡ true → (hs ≡ []) × (ns ≡ []) × (all_free fs ≡ true)
+pub free_parts : (hs : List Handler) (ns : List Note) (fs : List Frame) → free hs ns fs ≡ true →
+    (hs ≡ []) × (ns ≡ []) × (all_free fs ≡ true)
 free_parts (h ∷ hs) ns fs e = absurd (cc)
 free_parts [] (n ∷ ns) fs e = absurd (cc)
 free_parts [] [] [] e = (refl, refl, refl)
@@ -25,7 +26,8 @@ none_with born (h ∷ hs) ms e = absurd (cc)
 pub no_handlers : (fs : List Framed) (ms : List Memory) → all_free (frames_with fs ms) ≡ true → handlers_in fs ≡ 0
 no_handlers [] ms e = refl
 no_handlers (f ∷ fs) ms e =
-    let p = free_parts (handlers_with f.born f.frame.handlers ms) (map note_of f.frame.noted) (frames_with fs (beyond f.frame.handlers ms)) e in
+    let p = free_parts (handlers_with f.born f.frame.handlers ms) (map note_of f.frame.noted)
+    (frames_with fs (beyond f.frame.handlers ms)) e in
     omega (arith, none_with f.born f.frame.handlers ms p.0, no_handlers fs (beyond f.frame.handlers ms) p.2)
 
 pub closing_guarded : (fs : List Frame) → Closing fs → all_free fs ≡ true → ⊥
@@ -46,11 +48,13 @@ free_stays (f ∷ fs) e =
 pub free_unguarded : (fs : List Frame) → all_free fs ≡ true → is_guarded fs ≡ false
 free_unguarded [] e = refl
 free_unguarded (f ∷ fs) e =
-    let p = free_parts f.handlers f.life.noted fs e in ap (λ hs. holds hs f.life.noted (is_guarded fs)) p.0 ∙ (ap (λ ns. holds [] ns (is_guarded fs)) p.1 ∙ free_unguarded fs p.2)
+    let p = free_parts f.handlers f.life.noted fs e in ap (λ hs. holds hs f.life.noted (is_guarded fs)) p.0 ∙
+    (ap (λ ns. holds [] ns (is_guarded fs)) p.1 ∙ free_unguarded fs p.2)
 
 -- and where they are not free, one of them is guarded
 
-held_fast : (hs : List Handler) (ns : List Note) (fs : List Frame) → free hs ns fs ≡ false → (all_free fs ≡ false → is_guarded fs ≡ true) → holds hs ns (is_guarded fs) ≡ true
+held_fast : (hs : List Handler) (ns : List Note) (fs : List Frame) → free hs ns fs ≡ false → (all_free fs ≡ false → is_guarded fs ≡ true) →
+    holds hs ns (is_guarded fs) ≡ true
 held_fast (h ∷ hs) ns fs e below = refl
 held_fast [] (n ∷ ns) fs e below = refl
 held_fast [] [] [] e below = absurd (cc)
@@ -73,14 +77,16 @@ pub free_below : (bl : List Frame) → free [] [] bl ≡ all_free bl
 free_below [] = refl
 free_below (f ∷ fs) = refl
 
-free_top : (born : ℕ) (hs : List fiber.Handler) (ns : List ℕ) (ms ks : List Memory) (xs ys : List Frame) → all_free xs ≡ all_free ys → free (handlers_with born hs ms) (map note_of ns) xs ≡ free (handlers_with born hs ks) (map note_of ns) ys
+free_top : (born : ℕ) (hs : List fiber.Handler) (ns : List ℕ) (ms ks : List Memory) (xs ys : List Frame) → all_free xs ≡ all_free ys →
+    free (handlers_with born hs ms) (map note_of ns) xs ≡ free (handlers_with born hs ks) (map note_of ns) ys
 free_top born (h ∷ hs) ns ms ks xs ys e = refl
 free_top born [] (n ∷ ns) ms ks xs ys e = refl
 free_top born [] [] ms ks xs ys e = free_below xs ∙ (e ∙ sym (free_below ys))
 
 pub free_any : (fs : List Framed) (ms ks : List Memory) → all_free (frames_with fs ms) ≡ all_free (frames_with fs ks)
 free_any [] ms ks = refl
-free_any (f ∷ fs) ms ks = free_top f.born f.frame.handlers f.frame.noted ms ks (frames_with fs (beyond f.frame.handlers ms)) (frames_with fs (beyond f.frame.handlers ks)) (free_any fs (beyond f.frame.handlers ms) (beyond f.frame.handlers ks))
+free_any (f ∷ fs) ms ks = free_top f.born f.frame.handlers f.frame.noted ms ks (frames_with fs (beyond f.frame.handlers ms))
+    (frames_with fs (beyond f.frame.handlers ks)) (free_any fs (beyond f.frame.handlers ms) (beyond f.frame.handlers ks))
 
 pub birth_with : (fs : List Framed) (ms : List Memory) → birth_of (frames_with fs ms) ≡ birth fs
 birth_with [] ms = refl

@@ -15,4 +15,5 @@ use Rattle.vm_world.specs.Meets.{MovesOn}
 
 module _ {W : Type 0} (pending : W → List Pending) where
   pub record Resumes (id : ℕ) (fs : List Framed) (x : Val) (r : Went) (v : View) (t : Tasks W) (u : View) (s : Tasks W) : Type 0 where
-    pub resumes : (a : Aside) (w : Who) (o : World) → Standing pending (held id w None ∷ []) a o v t → Bare v → Suspended w.number fs → MovesOn pending (resumes (threaded w fs) x o (state_of a v)) a.past r u s
+    pub resumes : (a : Aside) (w : Who) (o : World) → Standing pending (held id w None ∷ []) a o v t → Bare v → Suspended w.number fs →
+        MovesOn pending (resumes (threaded w fs) x o (state_of a v)) a.past r u s

@@ -54,7 +54,8 @@ OfEntry P (Spawned entry) = P entry
 
 abbrev pub AllUntold : List (Option Given) → (ℕ → ℕ) → Tree → Type 0
 AllUntold results number [] = Unit {0}
-AllUntold results number (t ∷ ts) = OfEntry (λ entry. (nth results entry ≡ Some None) × (number entry ≡ t.number)) t.item.root × AllUntold results number ts
+AllUntold results number (t ∷ ts) = OfEntry (λ entry. (nth results entry ≡ Some None) × (number entry ≡ t.number)) t.item.root ×
+    AllUntold results number ts
 
 -- spawned tasks that are live have given nothing yet, and no two of them are of one entry
 pub record Untold (results : List (Option Given)) (tree : Tree) : Type 0 where

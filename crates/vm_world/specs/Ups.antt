@@ -29,14 +29,18 @@ begins_of w b = begins (threaded w b.thread) (kind_of b.kind) b.place (map part_
 
 pub data UpsAre : List Up → List m.Up → Type 0 where
   no_ups : UpsAre [] []
-  begins_up : {us : List Up} {ms : List m.Up} (b : Begins) (w : Who) → Suspended w.number b.thread → UpsAre us ms → UpsAre (up.Begins b ∷ us) (begins_of w b ∷ ms)
+  begins_up : {us : List Up} {ms : List m.Up} (b : Begins) (w : Who) → Suspended w.number b.thread → UpsAre us ms →
+      UpsAre (up.Begins b ∷ us) (begins_of w b ∷ ms)
   branching_up : {us : List Up} {ms : List m.Up} (id : ℕ) (fs : List Framed) (w : Who) → Suspended w.number fs → UpsAre us ms →
       UpsAre (up.Branching id fs ∷ us) (branching (threaded w fs) ∷ ms)
-  spawning_up : {us : List Up} {ms : List m.Up} (id : ℕ) (fs : List Framed) (entry : ℕ) (w : Who) (ps qs : List m.Task) → Suspended w.number fs → UpsAre us ms →
+  spawning_up : {us : List Up} {ms : List m.Up} (id : ℕ) (fs : List Framed) (entry : ℕ) (w : Who) (ps qs : List m.Task) →
+      Suspended w.number fs → UpsAre us ms →
       UpsAre (up.Spawning id fs entry ∷ us) (spawning (threaded w fs) entry ps qs ∷ ms)
 
 -- of the task that cancels, by its number in the tree; where it is over then, it has no children
 pub data IsAfter (tasks : List (Task (Slot (List Framed)))) (id : ℕ) : After → m.After → Type 0 where
-  resuming_after : (fs : List Framed) (v : Value) (w : Who) → Suspended w.number fs → IsAfter tasks id (Resuming fs v) (resuming (threaded w fs) (val_of v))
+  resuming_after : (fs : List Framed) (v : Value) (w : Who) → Suspended w.number fs →
+      IsAfter tasks id (Resuming fs v) (resuming (threaded w fs) (val_of v))
   closing_after : (v : Value) (w : Who) → w.role ≡ part → HasNoChild id tasks → IsAfter tasks id (Closing v) (closing w (val_of v))
-  finishing_after : (v : Value) (w : Who) (entry : Option ℕ) → w.role ≡ root entry → HasNoChild id tasks → IsAfter tasks id (Finishing v) (finishing w entry (val_of v))
+  finishing_after : (v : Value) (w : Who) (entry : Option ℕ) → w.role ≡ root entry → HasNoChild id tasks →
+      IsAfter tasks id (Finishing v) (finishing w entry (val_of v))

@@ -22,7 +22,8 @@ pub fn resume<H: Heap, W: Waits>(
     value: Value,
 ) -> Result<Went, Memory>
     requires { thread ≢ [] }
-    ensures { IfOk result (λ r. Resumes W.pending id thread (val_of value) r (view_of H.state run.old) tasks.old (view_of H.state run.new) tasks.new) }
+    ensures { IfOk result (λ r. Resumes W.pending id thread (val_of value) r
+        (view_of H.state run.old) tasks.old (view_of H.state run.new) tasks.new) }
 {
     let mut thread = thread;
     thread.push(value)?;

@@ -3,7 +3,8 @@ use Rattle.trace_buf.proofs.Passes.{on_err, passed_part, stopped_took}
 use Rattle.trace_buf.proofs.lines.write_lines.Goals as goal
 
 pub returns-in_err-put_lines-clause-part : goal.returns-in_err-put_lines-clause-part
-returns-in_err-put_lines-clause-part g c = on_err c.from_residual.result (stopped_took (rw c.new-piece.ensures at c.in_err-put_lines.ensures.stopped))
+returns-in_err-put_lines-clause-part g c =
+    on_err c.from_residual.result (stopped_took (rw c.new-piece.ensures at c.in_err-put_lines.ensures.stopped))
 
 pub returns-clause-part : goal.returns-clause-part
 returns-clause-part g c =

@@ -9,7 +9,13 @@ use Rattle.tx_heap.proofs.calls.may_set.Goals as goal
 
 pub overflow_sub-others : goal.overflow_sub-others
 overflow_sub-others c =
-    omega (arith, c.weight-in-Some.ensures, c.weight.ensures.sum, slot_weight (cells_of c.args.copies.now.cells) c.args.cell c.args.slot (val_of c.in-Some.old.now) c.in-Some.ensures)
+    omega (
+      arith,
+      c.weight-in-Some.ensures,
+      c.weight.ensures.sum,
+      slot_weight (cells_of c.args.copies.now.cells) c.args.cell c.args.slot
+          (val_of c.in-Some.old.now) c.in-Some.ensures,
+    )
 
 pub returns-in-Some : goal.returns-in-Some
 returns-in-Some c =
@@ -20,7 +26,11 @@ returns-in-Some c =
     let P : Option Val → Type 0 = λ o. IsSome o in (
       λ h. (
         subst P (sym c.in-Some.ensures) refl,
-        set_keeps cells c.args.cell c.args.slot from to c.weight.result c.weight-in-Some.result c.weight-in-Some-2.result sum c.in-Some.ensures c.weight.ensures.sum c.weight.ensures.light c.weight-in-Some.ensures c.weight-in-Some-2.ensures c.saturating_add.ensures (leb-true sum 16000000 h),
+        set_keeps cells c.args.cell c.args.slot from to c.weight.result c.weight-in-Some.result c.weight-in-Some-2.result sum
+            c.in-Some.ensures c.weight.ensures.sum c.weight.ensures.light c.weight-in-Some.ensures c.weight-in-Some-2.ensures
+            c.saturating_add.ensures (leb-true sum 16000000 h),
       ),
-      λ p. le-leb sum 16000000 (set_kept cells c.args.cell c.args.slot from to c.weight.result c.weight-in-Some.result c.weight-in-Some-2.result sum c.in-Some.ensures c.weight.ensures.sum c.weight.ensures.light c.weight-in-Some.ensures c.weight-in-Some-2.ensures c.saturating_add.ensures p.1),
+      λ p. le-leb sum 16000000 (set_kept cells c.args.cell c.args.slot from to c.weight.result c.weight-in-Some.result
+          c.weight-in-Some-2.result sum c.in-Some.ensures c.weight.ensures.sum c.weight.ensures.light c.weight-in-Some.ensures
+          c.weight-in-Some-2.ensures c.saturating_add.ensures p.1),
     )

@@ -14,4 +14,8 @@ returns-clause-accepted c = (
 pub returns-in_err-checked-clause-refused : goal.returns-in_err-checked-clause-refused
 returns-in_err-checked-clause-refused c r h =
     let refused : testing.refuses (map item_of c.get.result.now.items) r = c.in_err-checked.ensures.refused r (search rules) in
-    inr (map item_of c.in_ok-tree.tree.items, c.in_ok-tree.ensures.made, subst (λ (t : Tree). testing.refuses (map item_of t.items) r) c.get.ensures refused)
+    inr (
+      map item_of c.in_ok-tree.tree.items,
+      c.in_ok-tree.ensures.made,
+      subst (λ (t : Tree). testing.refuses (map item_of t.items) r) c.get.ensures refused,
+    )

@@ -24,9 +24,11 @@ returns-clause-made c = (
     (
       map cut_of c.in_ok-cuts.cuts.items,
       (map (λ f. f.items) c.args.files.now, c.in_default.ensures.small, c.in_ok-cuts.ensures.made),
-      subst (λ (xs : List CutFile). makes_each laying 0 (map cut_of xs) (map laid_of c.in_ok-laid.laid.items)) c.as_slice.ensures.value c.in_ok-laid.ensures.made,
+      subst (λ (xs : List CutFile). makes_each laying 0 (map cut_of xs) (map laid_of c.in_ok-laid.laid.items)) c.as_slice.ensures.value
+          c.in_ok-laid.ensures.made,
     ),
-    subst (λ (xs : List LaidFile). makes_each spelling 0 (map laid_of xs) (map file_items c.in_ok-items.items.items)) c.as_slice-2.ensures.value c.in_ok-items.ensures.made,
+    subst (λ (xs : List LaidFile). makes_each spelling 0 (map laid_of xs) (map file_items c.in_ok-items.items.items))
+        c.as_slice-2.ensures.value c.in_ok-items.ensures.made,
   ),
   c.in_ok-join.ensures.items ∙ ap (λ (is : List ItemTree). items_numbered is 0) (sym (all_joined c.in_ok-items.items.items)),
 )

@@ -5,10 +5,12 @@ use Rattle.verse_accept.proofs.Tested.{all_fine, unsound, too_large, not_built}
 use Rattle.verse_accept.proofs.programs.test.Goals as goal
 
 pub returns-in_err-checked-clause-refused : goal.returns-in_err-checked-clause-refused
-returns-in_err-checked-clause-refused c r h = unsound (map item_of c.args.tree.now.items) r (c.in_err-checked.ensures.refused r (search rules))
+returns-in_err-checked-clause-refused c r h =
+    unsound (map item_of c.args.tree.now.items) r (c.in_err-checked.ensures.refused r (search rules))
 
 pub returns-in_err-checked-clause-listed : goal.returns-in_err-checked-clause-listed
-returns-in_err-checked-clause-listed c r h = unsound_listed (map item_of c.args.tree.now.items) r (c.in_err-checked.ensures.refused r (search rules))
+returns-in_err-checked-clause-listed c r h =
+    unsound_listed (map item_of c.args.tree.now.items) r (c.in_err-checked.ensures.refused r (search rules))
 
 pub returns-in_err-bound-clause-refused : goal.returns-in_err-bound-clause-refused
 returns-in_err-bound-clause-refused c r h =
@@ -20,4 +22,5 @@ returns-in-None-clause-fine c =
 
 pub returns-in-Some-clause-refused : goal.returns-in-Some-clause-refused
 returns-in-Some-clause-refused c r h =
-    not_built (map item_of c.args.tree.now.items) r c.in_ok-checked.ensures.fine c.in_ok-bound.ensures.fine (c.in-Some.place, search rules, search rules)
+    not_built (map item_of c.args.tree.now.items) r c.in_ok-checked.ensures.fine c.in_ok-bound.ensures.fine
+    (c.in-Some.place, search rules, search rules)

@@ -8,4 +8,5 @@ use Rattle.verse_accept.proofs.turns.cut_all.Given as goal
 
 abbrev pub invariant-loop-file : goal.invariant-loop-file
 invariant-loop-file l =
-    Stands cutting IsSmall CanBeLaid (map (λ f. f.items) l.files) l.file-index l.number (map (λ f. f.items) (drop l.file-index l.files)) (map cut_of l.cuts.items)
+    Stands cutting IsSmall CanBeLaid (map (λ f. f.items) l.files) l.file-index l.number (map (λ f. f.items) (drop l.file-index l.files))
+    (map cut_of l.cuts.items)

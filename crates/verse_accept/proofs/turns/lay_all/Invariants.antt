@@ -8,4 +8,5 @@ use Rattle.verse_accept.proofs.turns.lay_all.Given as goal
 
 abbrev pub invariant-loop-file : goal.invariant-loop-file
 invariant-loop-file l =
-    Stands laying CanBeLaid CanBeRead (map cut_of l.cuts) l.file-index l.file-index (map cut_of (drop l.file-index l.cuts)) (map laid_of l.laid.items)
+    Stands laying CanBeLaid CanBeRead (map cut_of l.cuts) l.file-index l.file-index (map cut_of (drop l.file-index l.cuts))
+    (map laid_of l.laid.items)

@@ -9,4 +9,5 @@ use Rattle.verse_accept.proofs.turns.spell_all.Given as goal
 
 abbrev pub invariant-loop-file : goal.invariant-loop-file
 invariant-loop-file l =
-    Stands spelling CanBeRead HasFewNodes (map laid_of l.laid) l.file-index l.number (map laid_of (drop l.file-index l.laid)) (map file_items l.files.items)
+    Stands spelling CanBeRead HasFewNodes (map laid_of l.laid) l.file-index l.number (map laid_of (drop l.file-index l.laid))
+    (map file_items l.files.items)

@@ -5,4 +5,5 @@ use Rattle.verse_built.specs.Built.{first_unbuilt}
 use Rattle.verse_built.proofs.items.in_items.Given as goal
 
 abbrev pub invariant-loop-item : goal.invariant-loop-item
-invariant-loop-item l = first_unbuilt (items_order (map item_of (drop l.item-index l.items))) ≡ first_unbuilt (items_order (map item_of l.items))
+invariant-loop-item l = first_unbuilt (items_order (map item_of (drop l.item-index l.items))) ≡
+    first_unbuilt (items_order (map item_of l.items))

@@ -5,4 +5,5 @@ use Rattle.verse_built.specs.Built.{first_unbuilt}
 use Rattle.verse_built.proofs.types.+types.Given as goal
 
 abbrev pub invariant-in_types-loop-ty : goal.invariant-in_types-loop-ty
-invariant-in_types-loop-ty l = first_unbuilt (writtens_order (writtens (map written_of (drop l.ty-index l.types)))) ≡ first_unbuilt (writtens_order (writtens (map written_of l.types)))
+invariant-in_types-loop-ty l = first_unbuilt (writtens_order (writtens (map written_of (drop l.ty-index l.types)))) ≡
+    first_unbuilt (writtens_order (writtens (map written_of l.types)))

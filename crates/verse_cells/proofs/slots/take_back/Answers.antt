@@ -5,4 +5,6 @@ use Rattle.verse_cells.proofs.slots.take_back.Goals as goal
 
 pub returns : goal.returns
 returns c =
-    in_cell c.args.at.cell c.args.at.slot (IsUndone (vals_of c.args.path.now) c.args.undo) c.args.cells.now c.index-cells-at.result c.take_back_part.new.slots (cell_undo (vals_of c.args.path.now) c.args.undo c.args.cells.now c.args.at.cell c.args.at.slot c.requires) c.take_back_part.ensures
+    in_cell c.args.at.cell c.args.at.slot (IsUndone (vals_of c.args.path.now) c.args.undo) c.args.cells.now c.index-cells-at.result
+    c.take_back_part.new.slots (cell_undo (vals_of c.args.path.now) c.args.undo c.args.cells.now c.args.at.cell c.args.at.slot
+    c.requires) c.take_back_part.ensures

@@ -10,13 +10,16 @@ pub returns-clause-ok : goal.returns-clause-ok
 returns-clause-ok c =
     let there = cell_there c.args.cells.now c.args.at.cell c.args.at.slot c.requires in
     if_ok c.write_part.result
-    (λ ch h. in_cell c.args.at.cell c.args.at.slot (IsWrite c.args.spare (vals_of c.args.path.now) c.args.mode (val_of c.args.value) c.args.wanted ch) c.args.cells.now c.index-cells-at.result c.write_part.new.slots there h)
+    (λ ch h. in_cell c.args.at.cell c.args.at.slot
+    (IsWrite c.args.spare (vals_of c.args.path.now) c.args.mode (val_of c.args.value) c.args.wanted ch) c.args.cells.now
+    c.index-cells-at.result c.write_part.new.slots there h)
     c.write_part.ensures.ok
 
 pub returns-clause-fault : goal.returns-clause-fault
 returns-clause-fault c =
     let there = cell_there c.args.cells.now c.args.at.cell c.args.at.slot c.requires in
-    let P : Option Val → Type 0 = λ o. IfErr c.write_part.result (Explains (slot_written c.args.spare (vals_of c.args.path.now) c.args.mode (val_of c.args.value) o)) in
+    let P : Option Val → Type 0 = λ o. IfErr c.write_part.result
+    (Explains (slot_written c.args.spare (vals_of c.args.path.now) c.args.mode (val_of c.args.value) o)) in
     subst P (sym (read_slot c.args.cells.now c.args.at.cell c.args.at.slot c.index-cells-at.result there)) c.write_part.ensures.fault
 
 pub returns-clause-same : goal.returns-clause-same

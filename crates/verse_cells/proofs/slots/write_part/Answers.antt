@@ -9,12 +9,14 @@ use Rattle.verse_cells.proofs.slots.write_part.Goals as goal
 pub returns-clause-ok : goal.returns-clause-ok
 returns-clause-ok c =
     if_ok c.write_value.result
-    (λ ch h. in_slot c.args.slot (IsWrite c.args.spare (vals_of c.args.path.now) c.args.mode (val_of c.args.value) c.args.wanted ch) c.args.slots.now c.part_mut.result.now c.write_value.new.slot c.part_mut.ensures.value h)
+    (λ ch h. in_slot c.args.slot (IsWrite c.args.spare (vals_of c.args.path.now) c.args.mode (val_of c.args.value) c.args.wanted ch)
+    c.args.slots.now c.part_mut.result.now c.write_value.new.slot c.part_mut.ensures.value h)
     c.write_value.ensures.ok
 
 pub returns-clause-fault : goal.returns-clause-fault
 returns-clause-fault c =
-    let P : Option Val → Type 0 = λ o. IfErr c.write_value.result (Explains (slot_written c.args.spare (vals_of c.args.path.now) c.args.mode (val_of c.args.value) o)) in
+    let P : Option Val → Type 0 = λ o. IfErr c.write_value.result
+    (Explains (slot_written c.args.spare (vals_of c.args.path.now) c.args.mode (val_of c.args.value) o)) in
     subst P (sym (read_part c.args.slots.now c.args.slot c.part_mut.result.now c.part_mut.ensures.value)) c.write_value.ensures.fault
 
 pub returns-clause-same : goal.returns-clause-same

@@ -7,4 +7,5 @@ use Rattle.verse_exec.proofs.heap_lines.line_of.Goals as goal
 pub push_slots-requires : goal.push_slots-requires
 push_slots-requires g c =
     subst (λ h. length (cell_at h.cells c.args.address).slots ≡ c.slots_in.result) (sym c.kind-kind.ensures.same)
-    (slots_counted c.args.code.now.classes (g.H.Heap.state c.args.heap.now).cells c.args.address c.slots_in.result c.kind-kind.result c.requires.belongs c.requires.there c.kind-kind.ensures.kind c.slots_in.ensures)
+    (slots_counted c.args.code.now.classes (g.H.Heap.state c.args.heap.now).cells c.args.address c.slots_in.result c.kind-kind.result
+    c.requires.belongs c.requires.there c.kind-kind.ensures.kind c.slots_in.ensures)

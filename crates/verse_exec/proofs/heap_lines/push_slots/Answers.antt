@@ -10,5 +10,9 @@ pub slots-preserved : goal.slots-preserved
 slots-preserved g c =
     let cells = (g.H.Heap.state c.args.heap.now).cells in
     let same : g.H.Heap.state c.get.follows.lender-at-none ≡ g.H.Heap.state c.args.heap.now = search rules in
-    let value : slot_of cells c.args.cell c.slots.slot ≡ Some (val_of c.get.result.now) = subst (λ h. slot_of h.cells c.args.cell c.slots.slot ≡ Some (val_of c.get.result.now)) c.slots.invariant.0 c.get.ensures.value in
-    (same, slots_step _ c.slots.out.items c.slot_text.new.out.items (cell_at cells c.args.cell).slots c.slots.slot (val_of c.get.result.now) (sym (slot_is cells c.args.cell c.slots.slot) ∙ value) c.in_ok-slot_text.ensures c.slots.invariant.1)
+    let value : slot_of cells c.args.cell c.slots.slot ≡ Some (val_of c.get.result.now) =
+    subst (λ h. slot_of h.cells c.args.cell c.slots.slot ≡ Some (val_of c.get.result.now)) c.slots.invariant.0 c.get.ensures.value in (
+      same,
+      slots_step _ c.slots.out.items c.slot_text.new.out.items (cell_at cells c.args.cell).slots c.slots.slot (val_of c.get.result.now)
+          (sym (slot_is cells c.args.cell c.slots.slot) ∙ value) c.in_ok-slot_text.ensures c.slots.invariant.1,
+    )

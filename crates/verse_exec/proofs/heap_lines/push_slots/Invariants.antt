@@ -7,4 +7,5 @@ use Rattle.verse_exec.proofs.heap_lines.push_slots.Given as goal
 abbrev pub invariant-slots : goal.invariant-slots
 invariant-slots g l =
     (g.H.Heap.state l.heap ≡ g.H.Heap.state l.fn.heap)
-    × (l.out.items ++ slots_text (drop l.slot (cell_at (g.H.Heap.state l.fn.heap).cells l.cell).slots) ≡ l.fn.out.items ++ slots_text (cell_at (g.H.Heap.state l.fn.heap).cells l.cell).slots)
+    × (l.out.items ++ slots_text (drop l.slot (cell_at (g.H.Heap.state l.fn.heap).cells l.cell).slots) ≡ l.fn.out.items ++
+    slots_text (cell_at (g.H.Heap.state l.fn.heap).cells l.cell).slots)

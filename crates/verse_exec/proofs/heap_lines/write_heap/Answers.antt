@@ -12,9 +12,12 @@ pub cells-preserved : goal.cells-preserved
 cells-preserved g c =
     let cells = (g.H.Heap.state c.args.heap.now).cells in
     let low : c.cells.address < length cells = search rules in
-    let line = subst (λ h. g.S.Sink.taken c.write_cell.new.out ≡ with_more (g.S.Sink.taken c.cells.out) (cell_line c.cells.address (cell_at h.cells c.cells.address))) c.cells.invariant.0 c.in_ok-write_cell.ensures.whole in (
+    let line = subst (λ h. g.S.Sink.taken c.write_cell.new.out ≡
+    with_more (g.S.Sink.taken c.cells.out) (cell_line c.cells.address (cell_at h.cells c.cells.address))) c.cells.invariant.0
+    c.in_ok-write_cell.ensures.whole in (
       c.write_cell.ensures.same ∙ c.cells.invariant.0,
-      lines_step cells c.cells.address (g.S.Sink.taken c.args.out.now) (g.S.Sink.taken c.cells.out) (g.S.Sink.taken c.write_cell.new.out) low c.cells.invariant.1 line,
+      lines_step cells c.cells.address (g.S.Sink.taken c.args.out.now) (g.S.Sink.taken c.cells.out)
+          (g.S.Sink.taken c.write_cell.new.out) low c.cells.invariant.1 line,
       search rules,
     )
 
@@ -23,8 +26,15 @@ returns-in_err-write_cell-clause-stopped g c =
     let cells = (g.H.Heap.state c.args.heap.now).cells in
     let low : c.cells.address < length cells = search rules in
     let same = c.cells.invariant.0 in
-    let part = subst (λ h. c.write_cell.result ≡ Err stop.Failed → TookPrefix (g.S.Sink.taken c.cells.out) (cell_line c.cells.address (cell_at h.cells c.cells.address)) (g.S.Sink.taken c.write_cell.new.out)) same c.write_cell.ensures.part in
-    let stopped : Stopped (FirstLines true cells) (FirstLines true cells) (g.S.Sink.faults c.args.out.now) (g.S.Sink.faults c.write_cell.new.out) (g.S.Sink.taken c.args.out.now) (g.S.Sink.taken c.write_cell.new.out) c.in_err-write_cell.field-0.0 =
-    stops_at cells c.cells.address (g.S.Sink.faults c.args.out.now) (g.S.Sink.faults c.cells.out) (g.S.Sink.faults c.write_cell.new.out) (g.S.Sink.taken c.args.out.now) (g.S.Sink.taken c.cells.out) (g.S.Sink.taken c.write_cell.new.out) c.in_err-write_cell.field-0.0 low c.cells.invariant.1 c.cells.invariant.2
-    (λ e. c.write_cell.ensures.memory (c.in_err-write_cell.was ∙ ap Err e)) (λ e. part (c.in_err-write_cell.was ∙ ap Err e)) (λ e. c.write_cell.ensures.failed (c.in_err-write_cell.was ∙ ap Err e)) in
+    let part = subst (λ h. c.write_cell.result ≡ Err stop.Failed →
+    TookPrefix (g.S.Sink.taken c.cells.out) (cell_line c.cells.address (cell_at h.cells c.cells.address))
+    (g.S.Sink.taken c.write_cell.new.out)) same c.write_cell.ensures.part in
+    let stopped : Stopped (FirstLines true cells) (FirstLines true cells) (g.S.Sink.faults c.args.out.now)
+    (g.S.Sink.faults c.write_cell.new.out) (g.S.Sink.taken c.args.out.now)
+    (g.S.Sink.taken c.write_cell.new.out) c.in_err-write_cell.field-0.0 =
+    stops_at cells c.cells.address (g.S.Sink.faults c.args.out.now) (g.S.Sink.faults c.cells.out) (g.S.Sink.faults c.write_cell.new.out)
+    (g.S.Sink.taken c.args.out.now) (g.S.Sink.taken c.cells.out) (g.S.Sink.taken c.write_cell.new.out) c.in_err-write_cell.field-0.0 low
+    c.cells.invariant.1 c.cells.invariant.2
+    (λ e. c.write_cell.ensures.memory (c.in_err-write_cell.was ∙ ap Err e)) (λ e. part (c.in_err-write_cell.was ∙ ap Err e))
+    (λ e. c.write_cell.ensures.failed (c.in_err-write_cell.was ∙ ap Err e)) in
     search rules

@@ -8,4 +8,6 @@ use Rattle.verse_exec.proofs.streams.write_lines.Goals as goal
 pub returns-else-lines-clause-whole : goal.returns-else-lines-clause-whole
 returns-else-lines-clause-whole g c =
     let no : c.args.lines ≡ false = search rules in
-    subst (λ b. g.S.Sink.taken c.args.out.now ≡ with_more (g.S.Sink.taken c.args.out.now) (cond b (heap_lines 0 (g.H.Heap.state c.args.heap.now).cells) [])) (sym no) (sym (more_nothing (g.S.Sink.taken c.args.out.now)))
+    subst (λ b. g.S.Sink.taken c.args.out.now ≡
+    with_more (g.S.Sink.taken c.args.out.now) (cond b (heap_lines 0 (g.H.Heap.state c.args.heap.now).cells) [])) (sym no)
+    (sym (more_nothing (g.S.Sink.taken c.args.out.now)))

@@ -9,4 +9,5 @@ returns-clause-stops c = λ index rule bad.
 
 pub returns-clause-none : goal.returns-clause-none
 returns-clause-none c = λ index rule bad v rest r.
-    type_none c.args.bytes.now (drop c.args.at c.args.toks.now) (length c.args.toks.now - index) (c.type_from.ensures.stuck index rule bad) v rest r
+    type_none c.args.bytes.now (drop c.args.at c.args.toks.now) (length c.args.toks.now - index)
+    (c.type_from.ensures.stuck index rule bad) v rest r

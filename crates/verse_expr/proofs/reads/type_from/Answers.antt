@@ -24,4 +24,5 @@ pub returns-in-Err-clause-within : goal.returns-in-Err-clause-within
 returns-in-Err-clause-within c index rule bad =
     let i = c.fault_of.ensures.within index rule (cc) in
     let told = c.fault_of.ensures.left index rule (cc) in
-    index_within a_type c.args.toks.now c.args.at (length c.args.toks.now - index) index c.requires (omega (arith, i)) (rw c.behind.ensures at (c.in-Err.ensures.sticks (length c.args.toks.now - index) (ap Err told)))
+    index_within a_type c.args.toks.now c.args.at (length c.args.toks.now - index) index c.requires (omega (arith, i))
+    (rw c.behind.ensures at (c.in-Err.ensures.sticks (length c.args.toks.now - index) (ap Err told)))

@@ -7,4 +7,5 @@ pub returns-in_err-parts-clause-sticks : goal.returns-in_err-parts-clause-sticks
 returns-in_err-parts-clause-sticks g c = λ left bad.
     let p = err_from_is_err_and c.from_residual-in_err-parts.result c.from_residual-in_err-parts.ensures.1 in
     let told = same_fault _ _ (rw (p.1, p.2) at bad) in
-    rw c.in_ok-behind.ensures.found (list_stuck_inside c.args.word left _ _ _ c.requires.start c.in_ok-behind.ensures.kind (c.in_err-parts.ensures.sticks left told))
+    rw c.in_ok-behind.ensures.found (list_stuck_inside c.args.word left _ _ _ c.requires.start c.in_ok-behind.ensures.kind
+    (c.in_err-parts.ensures.sticks left told))

@@ -21,10 +21,12 @@ not_both r code f h k = let e : fine code ≡ Err f = sym h ∙ k in cc
 
 pub returns-in-Err-Bad-clause-only : goal.returns-in-Err-Bad-clause-only
 returns-in-Err-Bad-clause-only c = λ version code i.
-    absurd (not_both (image_at c.args.bytes.now) code c.in-Err-Bad.flaw (image_again version code c.args.bytes.now i) (rw c.in-Err-Bad.field-0-is at c.in-Err-Bad.ensures))
+    absurd (not_both (image_at c.args.bytes.now) code c.in-Err-Bad.flaw (image_again version code c.args.bytes.now i)
+    (rw c.in-Err-Bad.field-0-is at c.in-Err-Bad.ensures))
 
 pub returns-in-Err-Bad-clause-exact : goal.returns-in-Err-Bad-clause-exact
 returns-in-Err-Bad-clause-exact c = (c.in-Err-Bad.flaw.left, rw c.in-Err-Bad.field-0-is at c.in-Err-Bad.ensures, c.saturating_sub.ensures)
 
 pub returns-in-Err-Bad-clause-before : goal.returns-in-Err-Bad-clause-before
-returns-in-Err-Bad-clause-before c = none_before c.args.bytes.now c.in-Err-Bad.flaw c.saturating_sub.result (rw c.in-Err-Bad.field-0-is at c.in-Err-Bad.ensures) c.saturating_sub.ensures
+returns-in-Err-Bad-clause-before c = none_before c.args.bytes.now c.in-Err-Bad.flaw c.saturating_sub.result
+    (rw c.in-Err-Bad.field-0-is at c.in-Err-Bad.ensures) c.saturating_sub.ensures

@@ -5,7 +5,8 @@ use Rattle.verse_image.proofs.digits.push_signed.Given as goal
 
 -- what writes the rest of the number completes it
 abbrev pub invariant-digits : goal.invariant-digits
-invariant-digits l = (new : List ℕ) → Writes (SignedSpelled l.negative l.left) l.out.items new → Writes (SignedSpelled l.negative l.size) l.fn.out.items new
+invariant-digits l = (new : List ℕ) → Writes (SignedSpelled l.negative l.left) l.out.items new →
+    Writes (SignedSpelled l.negative l.size) l.fn.out.items new
 
 abbrev pub decreases-digits : goal.decreases-digits
 decreases-digits l = l.left

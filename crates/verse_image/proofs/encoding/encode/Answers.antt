@@ -12,8 +12,11 @@ returns c =
     let version : c.version_for-version.result ≡ version_of code = c.version_for-version.ensures ∙ ap version_for c.as_slice.ensures in
     let start : Writes (head (version_of code) code.files (length code.ops)) c.new-out.result.items c.push_head.new.out.items =
     subst (λ (n : ℕ). Writes (head (version_of code) code.files n) c.new-out.result.items c.push_head.new.out.items) c.len.ensures
-    (subst (λ (v : ℕ). Writes (head v code.files c.len.result) c.new-out.result.items c.push_head.new.out.items) version c.in_ok-push_head.ensures) in
+    (subst (λ (v : ℕ). Writes (head v code.files c.len.result) c.new-out.result.items c.push_head.new.out.items) version
+    c.in_ok-push_head.ensures) in
     let ops : Writes (each operation code.ops) c.push_tables.new.out.items c.push_operations.new.out.items =
-    subst (λ (xs : List Op). Writes (each operation xs) c.push_tables.new.out.items c.push_operations.new.out.items) c.as_slice-2.ensures c.in_ok-push_operations.ensures in
+    subst (λ (xs : List Op). Writes (each operation xs) c.push_tables.new.out.items c.push_operations.new.out.items) c.as_slice-2.ensures
+    c.in_ok-push_operations.ensures in
     image_from code c.new-out.result.items c.push_operations.new.out.items c.new-out.ensures.items c.requires
-    (writes_three (head (version_of code) code.files (length code.ops)) (tables code) (each operation code.ops) _ _ _ _ start c.in_ok-push_tables.ensures ops)
+    (writes_three (head (version_of code) code.files (length code.ops)) (tables code)
+    (each operation code.ops) _ _ _ _ start c.in_ok-push_tables.ensures ops)

@@ -4,11 +4,13 @@ use Rattle.verse_image.proofs.WritingLemmas.{writes_then, writes_entry, writes_e
 use Rattle.verse_image.proofs.encoding.push_functions.Goals as goal
 
 pub entries-init : goal.entries-init
-entries-init c = λ new w. writes_then (number (length c.args.functions.now)) (each function c.args.functions.now) _ _ _ c.in_ok-push_count.ensures w
+entries-init c = λ new w. writes_then (number (length c.args.functions.now))
+    (each function c.args.functions.now) _ _ _ c.in_ok-push_count.ensures w
 
 pub entries-preserved : goal.entries-preserved
 entries-preserved c = λ new w.
-    c.entries.invariant new (writes_entry function c.args.functions.now c.entries.function-index _ _ _ _ _ (omega arith) refl c.in_ok-push_function.ensures w)
+    c.entries.invariant new (writes_entry function c.args.functions.now c.entries.function-index _ _ _ _ _
+    (omega arith) refl c.in_ok-push_function.ensures w)
 
 pub returns : goal.returns
 returns c = c.entries.invariant _ (writes_end function c.args.functions.now c.entries.function-index _ (omega arith))

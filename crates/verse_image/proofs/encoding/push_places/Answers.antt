@@ -8,7 +8,8 @@ entries-init c = λ new w. writes_then (number (length c.args.places.now)) (each
 
 pub entries-preserved : goal.entries-preserved
 entries-preserved c = λ new w.
-    c.entries.invariant new (writes_entry place c.args.places.now c.entries.place-index _ _ _ _ _ (omega arith) refl c.in_ok-push_place.ensures w)
+    c.entries.invariant new (writes_entry place c.args.places.now c.entries.place-index _ _ _ _ _
+    (omega arith) refl c.in_ok-push_place.ensures w)
 
 pub returns : goal.returns
 returns c = c.entries.invariant _ (writes_end place c.args.places.now c.entries.place-index _ (omega arith))

@@ -10,4 +10,5 @@ returns-in_ok-push_operand-in-Three-3 c =
 pub returns-in_ok-push_operand-in-Four-4 : goal.returns-in_ok-push_operand-in-Four-4
 returns-in_ok-push_operand-in-Four-4 c =
     rw c.in-Four.is (writes_four (operand c.in-Four.a) (operand c.in-Four.b) (operand c.in-Four.c) (operand c.in-Four.d) _ _ _ _ _
-    c.in_ok-push_operand-in-Four.ensures c.in_ok-push_operand-in-Four-2.ensures c.in_ok-push_operand-in-Four-3.ensures c.in_ok-push_operand-in-Four-4.ensures)
+    c.in_ok-push_operand-in-Four.ensures c.in_ok-push_operand-in-Four-2.ensures c.in_ok-push_operand-in-Four-3.ensures
+    c.in_ok-push_operand-in-Four-4.ensures)

@@ -4,4 +4,5 @@ use Rattle.verse_image.proofs.ReadingSteps.{with_front}
 use Rattle.verse_image.proofs.tables.classes.Given as goal
 
 abbrev pub invariant-entries : goal.invariant-entries
-invariant-entries l = with_front l.entries (many_at (class_at l.functions) (l.count - l._i) l.rest) ≡ table_at (class_at l.functions) l.bytes
+invariant-entries l = with_front l.entries (many_at (class_at l.functions) (l.count - l._i) l.rest) ≡
+    table_at (class_at l.functions) l.bytes

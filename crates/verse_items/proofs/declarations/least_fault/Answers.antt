@@ -22,16 +22,19 @@ found o k last is js e items knows number =
 pub returns-clause-least : goal.returns-clause-least
 returns-clause-least c =
     let is = map item_of c.args.tree.now.items in
-    let e = found c.in_ok-fault.fault (known_of c.args.known.now) c.last_node-last.result is _ c.in_ok-fault.ensures (ap (map item_of) c.as_slice.ensures) c.requires.known c.last_node-last.ensures in
+    let e = found c.in_ok-fault.fault (known_of c.args.known.now) c.last_node-last.result is _ c.in_ok-fault.ensures
+    (ap (map item_of) c.as_slice.ensures) c.requires.known c.last_node-last.ensures in
     let rise = numbers_rise is c.args.tree.now.nodes c.requires.numbered in
     leads number_of (keep_fault (known is)) (Breaks (known is)) (program_declared (known is) is) None c.in_ok-fault.fault (
-    subst (Told number_of (keep_fault (known is)) (Breaks (known is)) (program_declared (known is) is) None) (sym e) (items_told (known is) is rise)
+    subst (Told number_of (keep_fault (known is)) (Breaks (known is)) (program_declared (known is) is) None) (sym e)
+    (items_told (known is) is rise)
     )
 
 pub returns-clause-placed : goal.returns-clause-placed
 returns-clause-placed c =
     let is = map item_of c.args.tree.now.items in
-    let e = found c.in_ok-fault.fault (known_of c.args.known.now) c.last_node-last.result is _ c.in_ok-fault.ensures (ap (map item_of) c.as_slice.ensures) c.requires.known c.last_node-last.ensures in
+    let e = found c.in_ok-fault.fault (known_of c.args.known.now) c.last_node-last.result is _ c.in_ok-fault.ensures
+    (ap (map item_of) c.as_slice.ensures) c.requires.known c.last_node-last.ensures in
     placed_there is c.args.tree.now.nodes c.in_ok-fault.fault c.requires.numbered (
     subst (Placed number_of place_of (program_declared (known is) is)) (sym e) (items_placed (known is) is)
     )

@@ -6,4 +6,5 @@ use Rattle.verse_items.proofs.faults.+written.Given as goal
 
 -- what is left decides
 abbrev pub invariant-writtens_fault-parts : goal.invariant-writtens_fault-parts
-invariant-writtens_fault-parts l = writtens_fault (known_of l.known) (writtens (map written_of (drop l.part-index l.parts))) ≡ writtens_fault (known_of l.known) (writtens (map written_of l.parts))
+invariant-writtens_fault-parts l = writtens_fault (known_of l.known) (writtens (map written_of (drop l.part-index l.parts))) ≡
+    writtens_fault (known_of l.known) (writtens (map written_of l.parts))

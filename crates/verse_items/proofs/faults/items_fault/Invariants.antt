@@ -6,4 +6,5 @@ use Rattle.verse_items.proofs.faults.items_fault.Given as goal
 
 -- what is left decides
 abbrev pub invariant-items : goal.invariant-items
-invariant-items l = items_fault (known_of l.known) (map counted_of (drop l.item-index l.items)) ≡ items_fault (known_of l.known) (map counted_of l.items)
+invariant-items l = items_fault (known_of l.known) (map counted_of (drop l.item-index l.items)) ≡
+    items_fault (known_of l.known) (map counted_of l.items)

@@ -7,4 +7,5 @@ use Rattle.verse_items.proofs.faults.members_fault.Given as goal
 
 -- what is left decides
 abbrev pub invariant-members : goal.invariant-members
-invariant-members l = members_fault (known_of l.known) (home_of l.home) l.at (map member_of (drop l.member-index l.members)) ≡ members_fault (known_of l.known) (home_of l.home) l.number (map member_of l.members)
+invariant-members l = members_fault (known_of l.known) (home_of l.home) l.at (map member_of (drop l.member-index l.members)) ≡
+    members_fault (known_of l.known) (home_of l.home) l.number (map member_of l.members)

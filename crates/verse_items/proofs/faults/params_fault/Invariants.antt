@@ -6,4 +6,5 @@ use Rattle.verse_items.proofs.faults.params_fault.Given as goal
 
 -- what is left decides
 abbrev pub invariant-params : goal.invariant-params
-invariant-params l = params_fault (known_of l.known) (map param_of (drop l.param-index l.params)) ≡ params_fault (known_of l.known) (map param_of l.params)
+invariant-params l = params_fault (known_of l.known) (map param_of (drop l.param-index l.params)) ≡
+    params_fault (known_of l.known) (map param_of l.params)

@@ -5,4 +5,5 @@ use Rattle.verse_items.proofs.rules.are_same.Given as goal
 
 -- what is left decides
 abbrev pub invariant-types : goal.invariant-types
-invariant-types l = all_same (tys (map ty_of (drop l.ty-index l.types))) (tys (map ty_of l.rest)) ≡ all_same (tys (map ty_of l.types)) (tys (map ty_of l.others))
+invariant-types l = all_same (tys (map ty_of (drop l.ty-index l.types))) (tys (map ty_of l.rest)) ≡
+    all_same (tys (map ty_of l.types)) (tys (map ty_of l.others))

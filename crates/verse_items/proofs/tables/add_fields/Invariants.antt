@@ -7,4 +7,5 @@ use Rattle.verse_items.proofs.tables.add_fields.Given as goal
 
 -- what is done and what is left are all
 abbrev pub invariant-members : goal.invariant-members
-invariant-members l = map field_of l.found ++ own_fields (table_of l.types) (map member_of (drop l.member-index l.members)) ≡ map field_of l.fn.found ++ own_fields (table_of l.types) (map member_of l.members)
+invariant-members l = map field_of l.found ++ own_fields (table_of l.types) (map member_of (drop l.member-index l.members)) ≡
+    map field_of l.fn.found ++ own_fields (table_of l.types) (map member_of l.members)

@@ -7,7 +7,8 @@ use Rattle.verse_items.proofs.tables.fields_of.Given as goal
 
 -- what is done and what is left are all
 abbrev pub invariant-classes : goal.invariant-classes
-invariant-classes l = map field_of l.found ++ fields_of (table_of l.types) (map note_of l.notes) l.line ≡ fields_of (table_of l.types) (map note_of l.notes) l.fn.line
+invariant-classes l = map field_of l.found ++ fields_of (table_of l.types) (map note_of l.notes) l.line ≡
+    fields_of (table_of l.types) (map note_of l.notes) l.fn.line
 
 abbrev pub decreases-classes : goal.decreases-classes
 decreases-classes l = length l.line

@@ -7,6 +7,7 @@ use Rattle.verse_join.specs.Joining.{joined}
 -- what is done, and what is left from the next number on, are all
 abbrev pub invariant-files : goal.invariant-files
 invariant-files l = record {
-  done : map item_of l.items ++ items_numbered (joined (drop l.file-index l.fn.files.items)) l.at ≡ items_numbered (joined l.fn.files.items) 0;
+  done : map item_of l.items ++ items_numbered (joined (drop l.file-index l.fn.files.items)) l.at ≡
+      items_numbered (joined l.fn.files.items) 0;
   count : l.at + items_nodes (joined (drop l.file-index l.fn.files.items)) ≡ items_nodes (joined l.fn.files.items);
 }

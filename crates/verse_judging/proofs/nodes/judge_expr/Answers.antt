@@ -7,4 +7,5 @@ use Rattle.verse_judging.specs.Codes.{of_used}
 use Rattle.verse_judging.proofs.nodes.judge_expr.Goals as goal
 
 pub returns : goal.returns
-returns c = subst (λ (k : Judgement). IfOk c.serve.result (λ j. judged_of j ≡ of_used (facts_of c.args.facts.now) (used_of c.args.around.used) k)) c.in_ok-found.ensures c.serve.ensures
+returns c = subst (λ (k : Judgement). IfOk c.serve.result
+    (λ j. judged_of j ≡ of_used (facts_of c.args.facts.now) (used_of c.args.around.used) k)) c.in_ok-found.ensures c.serve.ensures

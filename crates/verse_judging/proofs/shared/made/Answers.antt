@@ -8,4 +8,6 @@ use Rattle.verse_judging.proofs.shared.made.Goals as goal
 
 pub returns : goal.returns
 returns c =
-    subst (λ (gs : List Given). IfOk c.instance.result (λ j. judged_of j ≡ made_by (facts_of c.args.facts.now) c.args.node (givens (map given_of gs)))) c.as_slice.ensures c.instance.ensures
+    subst (λ (gs : List Given). IfOk c.instance.result
+    (λ j. judged_of j ≡ made_by (facts_of c.args.facts.now) c.args.node (givens (map given_of gs)))) c.as_slice.ensures
+    c.instance.ensures

@@ -7,7 +7,9 @@ pub returns-clause-toks : goal.returns-clause-toks
 returns-clause-toks c = on_ok c.walk.result (λ toks h. layout_of c.args.bytes.now c.args.tokens.now toks.items h) c.walk.ensures.toks
 
 pub returns-clause-few : goal.returns-clause-few
-returns-clause-few c = on_ok c.walk.result (λ toks h. few_toks c.args.bytes.now c.args.tokens.now toks.items (layout_of c.args.bytes.now c.args.tokens.now toks.items h)) c.walk.ensures.toks
+returns-clause-few c = on_ok c.walk.result
+    (λ toks h. few_toks c.args.bytes.now c.args.tokens.now toks.items (layout_of c.args.bytes.now c.args.tokens.now toks.items h))
+    c.walk.ensures.toks
 
 pub returns-clause-none : goal.returns-clause-none
 returns-clause-none c = λ r e ks l. no_layout c.args.bytes.now c.args.tokens.now r ks (c.walk.ensures.refused r e) l

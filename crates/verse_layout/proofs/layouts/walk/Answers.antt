@@ -16,7 +16,8 @@ returns-in_err-step-clause-refused c = λ r e.
     let go = λ (g : Context). walk end g (cells_of bytes c.in-Some.behind.now) in
     let split : c.tokens.rest.now ≡ c.in-Some.token.now ∷ c.in-Some.behind.now = search rules in
     let here = turn end (context_of c.tokens.state) bytes c.tokens.rest.now c.in-Some.token.now c.in-Some.behind.now split in
-    let there = ap (λ (b : Bool). rest_of c.tokens.writer (step (context_of c.tokens.state) (cell_of bytes c.in-Some.token.now) b go)) (c.ends_line.ensures bytes) in
+    let there = ap (λ (b : Bool). rest_of c.tokens.writer (step (context_of c.tokens.state) (cell_of bytes c.in-Some.token.now) b go))
+    (c.ends_line.ensures bytes) in
     sym c.tokens.invariant.answer ∙ ap (rest_of c.tokens.writer) here ∙ sym there ∙ c.in_err-step.ensures.refused r (search rules) go
 
 pub tokens-preserved : goal.tokens-preserved
@@ -26,7 +27,8 @@ tokens-preserved c =
     let go = λ (g : Context). walk end g (cells_of bytes c.in-Some.behind.now) in
     let split : c.tokens.rest.now ≡ c.in-Some.token.now ∷ c.in-Some.behind.now = search rules in
     let here = turn end (context_of c.tokens.state) bytes c.tokens.rest.now c.in-Some.token.now c.in-Some.behind.now split in
-    let there = ap (λ (b : Bool). rest_of c.tokens.writer (step (context_of c.tokens.state) (cell_of bytes c.in-Some.token.now) b go)) (c.ends_line.ensures bytes) in
+    let there = ap (λ (b : Bool). rest_of c.tokens.writer (step (context_of c.tokens.state) (cell_of bytes c.in-Some.token.now) b go))
+    (c.ends_line.ensures bytes) in
     record {
       lies = All-tail (Lies bytes) c.in-Some.token.now c.in-Some.behind.now (subst (All (Lies bytes)) split c.tokens.invariant.lies);
       answer = c.in_ok-step.ensures.ok go ∙ there ∙ sym (ap (rest_of c.tokens.writer) here) ∙ c.tokens.invariant.answer;

@@ -10,7 +10,8 @@ use Rattle.verse_layout.proofs.layouts.walk.Given as goal
 abbrev pub invariant-tokens : goal.invariant-tokens
 invariant-tokens l = record {
   lies : All (Lies l.bytes) l.rest;
-  answer : rest_of l.writer (walk (end_of l.bytes l.tokens) (context_of l.state) (cells_of l.bytes l.rest)) ≡ walk_answer (end_of l.bytes l.tokens) (cells_of l.bytes l.tokens);
+  answer : rest_of l.writer (walk (end_of l.bytes l.tokens) (context_of l.state) (cells_of l.bytes l.rest)) ≡
+      walk_answer (end_of l.bytes l.tokens) (cells_of l.bytes l.tokens);
 }
 
 abbrev pub decreases-tokens : goal.decreases-tokens

@@ -9,4 +9,5 @@ pub returns-in-Some-clause-refused : goal.returns-in-Some-clause-refused
 returns-in-Some-clause-refused c = λ r e go.
     let h = context_of c.args.state.now in
     let P : Option (List ℕ) → Type 0 = λ line. rest_of c.args.writer.now (before_token line h c.args.token.now go) ≡ Err r in
-    subst P (sym (line_there (stack c.args.state.now.frames.items) c.args.bytes.now c.args.token.now c.in-Some.from c.in-Some.to (sym c.if-begins_none.ensures) c.in-Some.is)) (c.lead.ensures.refused r e go)
+    subst P (sym (line_there (stack c.args.state.now.frames.items) c.args.bytes.now c.args.token.now c.in-Some.from c.in-Some.to
+    (sym c.if-begins_none.ensures) c.in-Some.is)) (c.lead.ensures.refused r e go)

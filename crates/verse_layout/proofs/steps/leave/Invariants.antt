@@ -6,7 +6,8 @@ use Rattle.verse_layout.proofs.steps.leave.Given as goal
 
 abbrev pub invariant-leaving : goal.invariant-leaving
 invariant-leaving l = (go : List Open → Walk) →
-    rest_of l.writer (leave (stack l.frames.items) l.token l.text go) ≡ rest_of l.fn.writer (leave (stack l.fn.frames.items) l.fn.token l.fn.text go)
+    rest_of l.writer (leave (stack l.frames.items) l.token l.text go) ≡
+    rest_of l.fn.writer (leave (stack l.fn.frames.items) l.fn.token l.fn.text go)
 
 abbrev pub decreases-leaving : goal.decreases-leaving
 decreases-leaving l = length l.frames.items

@@ -8,4 +8,5 @@ use Rattle.verse_making.proofs.making.text_value.Goals as goal
 pub returns : goal.returns
 returns c =
     let all : take c.bytes.byte-index c.args.bytes.now ≡ c.args.bytes.now = grind (arith, common_steps) in
-    if_ok c.array.result (λ v h. h ∙ ap array (ap vals (c.bytes.invariant ∙ ap (map char) all) ∙ chars_are c.args.bytes.now)) c.array.ensures
+    if_ok c.array.result (λ v h. h ∙ ap array (ap vals (c.bytes.invariant ∙ ap (map char) all) ∙ chars_are c.args.bytes.now))
+    c.array.ensures

@@ -5,4 +5,5 @@ use Rattle.verse_outline.proofs.counting.count_items.Given as goal
 
 -- what is done and what is left are all
 abbrev pub invariant-items : goal.invariant-items
-invariant-items l = map counted_of l.found.items ++ counted l.before (map item_of (drop l.item-index l.items)) ≡ counted no_counts (map item_of l.items)
+invariant-items l = map counted_of l.found.items ++ counted l.before (map item_of (drop l.item-index l.items)) ≡
+    counted no_counts (map item_of l.items)

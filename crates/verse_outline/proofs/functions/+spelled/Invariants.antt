@@ -7,4 +7,5 @@ use Rattle.verse_outline.proofs.functions.+spelled.Given as goal
 
 -- what is done and what is left are all
 abbrev pub invariant-each_spelled-parts : goal.invariant-each_spelled-parts
-invariant-each_spelled-parts l = map ty_of l.found ++ map (spelled (table_of l.types)) (map written_of (drop l.part-index l.parts)) ≡ map (spelled (table_of l.types)) (map written_of l.parts)
+invariant-each_spelled-parts l = map ty_of l.found ++ map (spelled (table_of l.types)) (map written_of (drop l.part-index l.parts)) ≡
+    map (spelled (table_of l.types)) (map written_of l.parts)

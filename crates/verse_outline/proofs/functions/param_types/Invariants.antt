@@ -7,4 +7,5 @@ use Rattle.verse_outline.proofs.functions.param_types.Given as goal
 
 -- what is done and what is left are all
 abbrev pub invariant-params : goal.invariant-params
-invariant-params l = map ty_of l.found ++ map (param_type (table_of l.types)) (map param_of (drop l.param-index l.params)) ≡ map (param_type (table_of l.types)) (map param_of l.params)
+invariant-params l = map ty_of l.found ++ map (param_type (table_of l.types)) (map param_of (drop l.param-index l.params)) ≡
+    map (param_type (table_of l.types)) (map param_of l.params)

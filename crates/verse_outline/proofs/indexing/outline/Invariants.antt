@@ -6,4 +6,5 @@ use Rattle.verse_outline.proofs.indexing.outline.Given as goal
 
 -- what is done and what is left are all
 abbrev pub invariant-notes : goal.invariant-notes
-invariant-notes l = classes_of l.found ++ map (outlined (table_of l.classes)) (map note_of (drop l.note-index l.notes)) ≡ map (outlined (table_of l.classes)) (map note_of l.notes)
+invariant-notes l = classes_of l.found ++ map (outlined (table_of l.classes)) (map note_of (drop l.note-index l.notes)) ≡
+    map (outlined (table_of l.classes)) (map note_of l.notes)

@@ -7,4 +7,5 @@ use Rattle.verse_outline.proofs.known.add_members.Given as goal
 
 -- what is done and what is left are all
 abbrev pub invariant-members : goal.invariant-members
-invariant-members l = map function_of l.found ++ members_functions (table_of l.types) (map member_of (drop l.member-index l.members)) ≡ map function_of l.fn.found ++ members_functions (table_of l.types) (map member_of l.members)
+invariant-members l = map function_of l.found ++ members_functions (table_of l.types) (map member_of (drop l.member-index l.members)) ≡
+    map function_of l.fn.found ++ members_functions (table_of l.types) (map member_of l.members)

@@ -7,4 +7,5 @@ use Rattle.verse_outline.proofs.known.functions.Given as goal
 
 -- what is done and what is left are all
 abbrev pub invariant-items : goal.invariant-items
-invariant-items l = map function_of l.found ++ functions (table_of l.types) (map counted_of (drop l.item-index l.items)) ≡ functions (table_of l.types) (map counted_of l.items)
+invariant-items l = map function_of l.found ++ functions (table_of l.types) (map counted_of (drop l.item-index l.items)) ≡
+    functions (table_of l.types) (map counted_of l.items)

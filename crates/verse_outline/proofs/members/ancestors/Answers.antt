@@ -14,4 +14,5 @@ steps-preserved c =
     let n = length cs in
     let h : c.steps._i < n = omega (arith, length-map c.args.outline.now class_of) in
     let e : parent_of cs c.steps.at ≡ Some c.in-Some-parent.up = sym c.parent-in-steps.ensures ∙ c.in-Some-parent.is in
-    ap (λ l. l ++ others d (line cs (n - (c.steps._i + 1)) c.in-Some-parent.up)) c.in_ok-push_other.ensures ∙ sym (other_up cs c.steps.found d n c.steps._i c.steps.at c.in-Some-parent.up h e) ∙ c.steps.invariant
+    ap (λ l. l ++ others d (line cs (n - (c.steps._i + 1)) c.in-Some-parent.up)) c.in_ok-push_other.ensures ∙
+    sym (other_up cs c.steps.found d n c.steps._i c.steps.at c.in-Some-parent.up h e) ∙ c.steps.invariant

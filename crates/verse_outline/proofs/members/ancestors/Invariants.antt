@@ -5,4 +5,5 @@ use Rattle.verse_outline.proofs.members.ancestors.Given as goal
 
 -- what is found and what is left to climb are all
 abbrev pub invariant-steps : goal.invariant-steps
-invariant-steps l = l.found ++ others l.class (line (classes_of l.outline) (length (classes_of l.outline) - l._i) l.at) ≡ ancestors (classes_of l.outline) l.class
+invariant-steps l = l.found ++ others l.class (line (classes_of l.outline) (length (classes_of l.outline) - l._i) l.at) ≡
+    ancestors (classes_of l.outline) l.class

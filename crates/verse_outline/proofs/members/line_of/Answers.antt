@@ -13,4 +13,5 @@ steps-preserved c =
     let n = length cs in
     let h : c.steps._i < n = omega (arith, length-map c.args.outline.now class_of) in
     let e : parent_of cs c.steps.at ≡ Some c.in-Some.up = sym c.parent.ensures ∙ c.in-Some.is in
-    ap (λ l. l ++ line cs (n - (c.steps._i + 1)) c.in-Some.up) c.in_ok-push.ensures.ok ∙ sym (up cs c.steps.found n c.steps._i c.steps.at c.in-Some.up h e) ∙ c.steps.invariant
+    ap (λ l. l ++ line cs (n - (c.steps._i + 1)) c.in-Some.up) c.in_ok-push.ensures.ok ∙
+    sym (up cs c.steps.found n c.steps._i c.steps.at c.in-Some.up h e) ∙ c.steps.invariant

@@ -5,7 +5,8 @@ use Rattle.verse_outline.proofs.members.members_of.Given as goal
 
 -- what is left, from here on, ends as all does from the start
 abbrev pub invariant-classes : goal.invariant-classes
-invariant-classes l = with_notes (map note_of l.notes) l.class l.line (members_view l.found) ≡ members_of (map note_of l.notes) l.class l.fn.line
+invariant-classes l = with_notes (map note_of l.notes) l.class l.line (members_view l.found) ≡
+    members_of (map note_of l.notes) l.class l.fn.line
 
 abbrev pub decreases-classes : goal.decreases-classes
 decreases-classes l = length l.line

@@ -7,4 +7,5 @@ use Rattle.verse_outline.proofs.members.names_of.Given as goal
 
 -- what is left, from here on, ends as all does from the start
 abbrev pub invariant-members : goal.invariant-members
-invariant-members l = call_all (map member_name (map member_of (drop l.member-index l.members))) (roll_of l.found) ≡ call_all (map member_name (map member_of l.members)) []
+invariant-members l = call_all (map member_name (map member_of (drop l.member-index l.members))) (roll_of l.found) ≡
+    call_all (map member_name (map member_of l.members)) []

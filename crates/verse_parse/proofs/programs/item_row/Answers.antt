@@ -4,7 +4,8 @@ use Rattle.verse_read_parts.proofs.Rows.{row_shorter}
 
 pub items-preserved : goal.items-preserved
 items-preserved c = record {
-  spelled = item_read _ _ _ _ _ _ _ _ _ c.items.invariant.spelled c.in-Some.ensures.0 c.in-Some.ensures.1 c.in_ok-next.ensures.spelled c.in_ok-push-2.ensures.ok;
+  spelled = item_read _ _ _ _ _ _ _ _ _ c.items.invariant.spelled c.in-Some.ensures.0 c.in-Some.ensures.1 c.in_ok-next.ensures.spelled
+      c.in_ok-push-2.ensures.ok;
   goes = item_goes _ _ _ _ _ c.items.invariant.goes c.in-Some.ensures.0 c.in-Some.ensures.1 c.in_ok-next.ensures.eats;
   shorter = row_shorter _ _ _ _ _ c.items.invariant.shorter c.in-Some.ensures.0 c.in_ok-next.ensures.shorter;
 }

@@ -13,4 +13,6 @@ returns-in-Err-clause-stops c index rule bad =
     let i = c.fault_of.ensures.within index rule (cc) in
     let told = c.fault_of.ensures.left index rule (cc) in
     let n : length c.args.toks.now - (length c.args.toks.now - index) ≡ index = omega (arith, i) in
-    subst (λ (k : ℕ). Stops a_program c.args.toks.now k) n (left_stops_program c.args.toks.now (length c.args.toks.now - index) (c.in-Err.ensures.stops (length c.args.toks.now - index) (ap Err told)))
+    subst (λ (k : ℕ). Stops a_program c.args.toks.now k) n
+    (left_stops_program c.args.toks.now (length c.args.toks.now - index)
+    (c.in-Err.ensures.stops (length c.args.toks.now - index) (ap Err told)))

@@ -7,7 +7,8 @@ use Rattle.verse_primary.proofs.PrimaryParts.{givens_next}
 
 pub more-preserved : goal.more-preserved
 more-preserved g c = record {
-  row = givens_next _ _ _ _ _ _ _ _ _ c.more.invariant.row c.in-Some.ensures.0 c.in-Some.ensures.1 c.in_ok-name-2.ensures.spelled c.in_ok-push-2.ensures.ok;
+  row = givens_next _ _ _ _ _ _ _ _ _ c.more.invariant.row c.in-Some.ensures.0 c.in-Some.ensures.1 c.in_ok-name-2.ensures.spelled
+      c.in_ok-push-2.ensures.ok;
   goes = goes_givens_by _ _ _ _ _ c.more.invariant.goes c.in-Some.ensures.0 c.in-Some.ensures.1 c.in_ok-name-2.ensures.eats;
   within = shorter_next _ _ _ _ _ c.in-Some.ensures.0 c.in_ok-name-2.ensures.shorter c.more.invariant.within;
 }
@@ -16,4 +17,5 @@ pub returns-in_err-name-2-clause-sticks : goal.returns-in_err-name-2-clause-stic
 returns-in_err-name-2-clause-sticks g c = λ left bad.
     let p = err_from_is_err_and c.from_residual-in_err-name-2.result c.from_residual-in_err-name-2.ensures.1 in
     let told = same_fault _ _ (rw (p.1, p.2) at bad) in
-    givens_stuck_between_by _ _ _ _ _ _ c.requires.some c.in_ok-name.ensures.eats c.more.invariant.goes c.in-Some.ensures.0 c.in-Some.ensures.1 (c.in_err-name-2.ensures.sticks left told)
+    givens_stuck_between_by _ _ _ _ _ _ c.requires.some c.in_ok-name.ensures.eats c.more.invariant.goes c.in-Some.ensures.0
+    c.in-Some.ensures.1 (c.in_err-name-2.ensures.sticks left told)

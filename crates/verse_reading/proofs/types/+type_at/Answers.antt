@@ -3,7 +3,8 @@ use Rattle.verse_reading.proofs.types.+type_at.Goals as goal
 
 pub types-more-preserved : goal.types-more-preserved
 types-more-preserved t c = record {
-  row = types_next _ _ _ _ _ _ _ _ _ c.more.invariant.row c.in-Some.ensures.0 c.in-Some.ensures.1 c.in_ok-part.ensures.spelled c.in_ok-push-2.ensures.ok;
+  row = types_next _ _ _ _ _ _ _ _ _ c.more.invariant.row c.in-Some.ensures.0 c.in-Some.ensures.1 c.in_ok-part.ensures.spelled
+      c.in_ok-push-2.ensures.ok;
   goes = goes_types_next _ _ _ _ _ c.more.invariant.goes c.in-Some.ensures.0 c.in-Some.ensures.1 c.in_ok-part.ensures.eats;
   within = shorter_next _ _ _ _ _ c.in-Some.ensures.0 c.in_ok-part.ensures.shorter c.more.invariant.within;
 }

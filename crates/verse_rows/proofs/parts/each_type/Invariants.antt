@@ -7,4 +7,5 @@ use Rattle.verse_rows.proofs.parts.each_type.Given as goal
 
 -- what is done and what is left are all
 abbrev pub invariant-parts : goal.invariant-parts
-invariant-parts l = map ty_of l.found ++ map (type_of (facts_of l.facts)) (map tree_of (drop l.part-index l.parts)) ≡ map (type_of (facts_of l.facts)) (map tree_of l.parts)
+invariant-parts l = map ty_of l.found ++ map (type_of (facts_of l.facts)) (map tree_of (drop l.part-index l.parts)) ≡
+    map (type_of (facts_of l.facts)) (map tree_of l.parts)

@@ -7,4 +7,5 @@ use Rattle.verse_rows.proofs.parts.joined.Given as goal
 
 -- the join so far with the rest is that of all
 abbrev pub invariant-parts : goal.invariant-parts
-invariant-parts l = joined_from (facts_of l.facts) (ty_of l.ty) (trees (map tree_of (drop l.part-index l.parts))) ≡ joined_from (facts_of l.facts) never (trees (map tree_of l.parts))
+invariant-parts l = joined_from (facts_of l.facts) (ty_of l.ty) (trees (map tree_of (drop l.part-index l.parts))) ≡
+    joined_from (facts_of l.facts) never (trees (map tree_of l.parts))

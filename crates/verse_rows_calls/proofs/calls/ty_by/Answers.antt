@@ -7,4 +7,5 @@ use Rattle.verse_rows_calls.proofs.calls.ty_by.Goals as goal
 
 pub returns-in-Some : goal.returns-in-Some
 returns-in-Some c =
-    ap (option_map ty_of) c.nth.ensures ∙ sym (get_ty c.args.types.now c.in-Some.place) ∙ ap (ty_by (tys (map ty_of c.args.types.now))) (sym c.in-Some.is)
+    ap (option_map ty_of) c.nth.ensures ∙ sym (get_ty c.args.types.now c.in-Some.place) ∙
+    ap (ty_by (tys (map ty_of c.args.types.now))) (sym c.in-Some.is)

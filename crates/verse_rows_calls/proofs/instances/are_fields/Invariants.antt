@@ -6,4 +6,5 @@ use Rattle.verse_rows_calls.proofs.instances.are_fields.Given as goal
 
 -- what is left gives the answer
 abbrev pub invariant-parts : goal.invariant-parts
-invariant-parts l = are_fields (facts_of l.facts) l.class (givens (map given_of (drop l.part-index l.parts))) ≡ are_fields (facts_of l.facts) l.class (givens (map given_of l.parts))
+invariant-parts l = are_fields (facts_of l.facts) l.class (givens (map given_of (drop l.part-index l.parts))) ≡
+    are_fields (facts_of l.facts) l.class (givens (map given_of l.parts))

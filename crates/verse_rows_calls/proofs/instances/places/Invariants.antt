@@ -6,4 +6,5 @@ use Rattle.verse_rows_calls.proofs.instances.places.Given as goal
 
 -- the places so far with those of the rest are all
 abbrev pub invariant-parts : goal.invariant-parts
-invariant-parts l = places_from (facts_of l.facts) l.class (numbers_of l.found) (givens (map given_of (drop l.part-index l.parts))) ≡ places_from (facts_of l.facts) l.class [] (givens (map given_of l.parts))
+invariant-parts l = places_from (facts_of l.facts) l.class (numbers_of l.found) (givens (map given_of (drop l.part-index l.parts))) ≡
+    places_from (facts_of l.facts) l.class [] (givens (map given_of l.parts))

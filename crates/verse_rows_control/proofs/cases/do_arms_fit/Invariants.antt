@@ -8,4 +8,5 @@ use Rattle.verse_rows_control.proofs.cases.do_arms_fit.Given as goal
 -- what is left gives the answer
 abbrev pub invariant-arms : goal.invariant-arms
 invariant-arms l =
-    arms_fit (facts_of l.facts) (ty_of l.subject) (trees (map tree_of (drop l.arm-index l.arms))) ≡ arms_fit (facts_of l.facts) (ty_of l.subject) (trees (map tree_of l.arms))
+    arms_fit (facts_of l.facts) (ty_of l.subject) (trees (map tree_of (drop l.arm-index l.arms))) ≡
+    arms_fit (facts_of l.facts) (ty_of l.subject) (trees (map tree_of l.arms))

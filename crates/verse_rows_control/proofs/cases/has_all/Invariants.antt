@@ -5,4 +5,5 @@ use Rattle.verse_rows_control.proofs.cases.has_all.Given as goal
 
 -- what is left gives the answer
 abbrev pub invariant-values : goal.invariant-values
-invariant-values l = has_names (map bytes_of (drop l.value-index l.values)) (names_of l.named) ≡ has_names (map bytes_of l.values) (names_of l.named)
+invariant-values l = has_names (map bytes_of (drop l.value-index l.values)) (names_of l.named) ≡
+    has_names (map bytes_of l.values) (names_of l.named)

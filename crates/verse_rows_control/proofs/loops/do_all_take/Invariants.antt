@@ -6,4 +6,5 @@ use Rattle.verse_rows_control.proofs.loops.do_all_take.Given as goal
 
 -- what is left gives the answer
 abbrev pub invariant-clauses : goal.invariant-clauses
-invariant-clauses l = all_take (facts_of l.facts) (trees (map tree_of (drop l.clause-index l.clauses))) ≡ all_take (facts_of l.facts) (trees (map tree_of l.clauses))
+invariant-clauses l = all_take (facts_of l.facts) (trees (map tree_of (drop l.clause-index l.clauses))) ≡
+    all_take (facts_of l.facts) (trees (map tree_of l.clauses))

@@ -6,4 +6,5 @@ use Rattle.verse_rows_values.proofs.lists.have_texts.Given as goal
 
 -- what is left gives the answer
 abbrev pub invariant-parts : goal.invariant-parts
-invariant-parts l = have_texts (facts_of l.facts) (holes (map hole_of (drop l.part-index l.parts))) ≡ have_texts (facts_of l.facts) (holes (map hole_of l.parts))
+invariant-parts l = have_texts (facts_of l.facts) (holes (map hole_of (drop l.part-index l.parts))) ≡
+    have_texts (facts_of l.facts) (holes (map hole_of l.parts))

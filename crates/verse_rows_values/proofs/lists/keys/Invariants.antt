@@ -7,4 +7,5 @@ use Rattle.verse_rows_values.proofs.lists.keys.Given as goal
 
 -- the join so far with the rest is that of all
 abbrev pub invariant-parts : goal.invariant-parts
-invariant-parts l = keys_from (facts_of l.facts) (ty_of l.ty) (pairs (map pair_of (drop l.part-index l.parts))) ≡ keys_from (facts_of l.facts) never (pairs (map pair_of l.parts))
+invariant-parts l = keys_from (facts_of l.facts) (ty_of l.ty) (pairs (map pair_of (drop l.part-index l.parts))) ≡
+    keys_from (facts_of l.facts) never (pairs (map pair_of l.parts))

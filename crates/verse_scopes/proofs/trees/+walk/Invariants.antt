@@ -30,4 +30,5 @@ invariant-walk_pairs-parts l =
 abbrev pub invariant-walk_givens-parts : goal.invariant-walk_givens-parts
 invariant-walk_givens-parts l =
     let ends = through_givens (noted (world_of l.world)) cut_back in
-    ends (givens (map given_of (drop l.part-index l.parts))) (naming_of l.naming) ≡ ends (givens (map given_of l.parts)) (naming_of l.fn.naming)
+    ends (givens (map given_of (drop l.part-index l.parts))) (naming_of l.naming) ≡
+    ends (givens (map given_of l.parts)) (naming_of l.fn.naming)

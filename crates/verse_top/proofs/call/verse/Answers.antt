@@ -14,34 +14,41 @@ returns-in_default-clause-cut_short g c e =
 pub returns-clause-answered : goal.returns-clause-answered
 returns-clause-answered g c =
     let said = c.in-Some.ensures.asks in
-    told_answered (map string_bytes c.args.words.now) (g.F.Files.holds c.args.files.now) said.0 said.1 _ _ _ _ c.tell.result _ _ (c.tell.ensures.told said.0 said.2)
+    told_answered (map string_bytes c.args.words.now) (g.F.Files.holds c.args.files.now) said.0 said.1 _ _ _ _ c.tell.result _ _
+    (c.tell.ensures.told said.0 said.2)
 
 pub returns-clause-wrong_words : goal.returns-clause-wrong_words
 returns-clause-wrong_words g c =
     let said = c.in-Some.ensures.asks in
-    told_wrong (map string_bytes c.args.words.now) (g.F.Files.holds c.args.files.now) said.0 said.1 _ _ _ _ c.tell.result _ _ (c.tell.ensures.told said.0 said.2)
+    told_wrong (map string_bytes c.args.words.now) (g.F.Files.holds c.args.files.now) said.0 said.1 _ _ _ _ c.tell.result _ _
+    (c.tell.ensures.told said.0 said.2)
 
 pub returns-clause-not_read : goal.returns-clause-not_read
 returns-clause-not_read g c =
     let said = c.in-Some.ensures.asks in
-    told_unread (map string_bytes c.args.words.now) (g.F.Files.holds c.args.files.now) said.0 said.1 _ _ _ _ c.tell.result _ _ (c.tell.ensures.told said.0 said.2)
+    told_unread (map string_bytes c.args.words.now) (g.F.Files.holds c.args.files.now) said.0 said.1 _ _ _ _ c.tell.result _ _
+    (c.tell.ensures.told said.0 said.2)
 
 pub returns-clause-absent : goal.returns-clause-absent
 returns-clause-absent g c =
     let said = c.in-Some.ensures.asks in
-    told_absent (map string_bytes c.args.words.now) (g.F.Files.holds c.args.files.now) said.0 said.1 _ _ _ _ c.tell.result _ _ (c.tell.ensures.told said.0 said.2)
+    told_absent (map string_bytes c.args.words.now) (g.F.Files.holds c.args.files.now) said.0 said.1 _ _ _ _ c.tell.result _ _
+    (c.tell.ensures.told said.0 said.2)
 
 pub returns-clause-memory : goal.returns-clause-memory
 returns-clause-memory g c =
     let said = c.in-Some.ensures.asks in
-    told_memory (map string_bytes c.args.words.now) (g.F.Files.holds c.args.files.now) said.0 said.1 _ _ _ _ c.tell.result _ _ (c.tell.ensures.told said.0 said.2)
+    told_memory (map string_bytes c.args.words.now) (g.F.Files.holds c.args.files.now) said.0 said.1 _ _ _ _ c.tell.result _ _
+    (c.tell.ensures.told said.0 said.2)
 
 pub returns-clause-cut_short : goal.returns-clause-cut_short
 returns-clause-cut_short g c =
     let said = c.in-Some.ensures.asks in
-    told_cut (map string_bytes c.args.words.now) (g.F.Files.holds c.args.files.now) said.0 said.1 _ _ _ _ c.tell.result _ _ (c.tell.ensures.told said.0 said.2)
+    told_cut (map string_bytes c.args.words.now) (g.F.Files.holds c.args.files.now) said.0 said.1 _ _ _ _ c.tell.result _ _
+    (c.tell.ensures.told said.0 said.2)
 
 pub returns-clause-complete : goal.returns-clause-complete
 returns-clause-complete g c =
     let said = c.in-Some.ensures.asks in
-    told_complete (map string_bytes c.args.words.now) (g.F.Files.holds c.args.files.now) said.0 said.1 _ _ _ _ c.tell.result _ _ (c.tell.ensures.told said.0 said.2)
+    told_complete (map string_bytes c.args.words.now) (g.F.Files.holds c.args.files.now) said.0 said.1 _ _ _ _ c.tell.result _ _
+    (c.tell.ensures.told said.0 said.2)

@@ -21,5 +21,7 @@ returns-in_err-inputs-clause-leaves g c ns lists =
 pub returns-clause-leaves : goal.returns-clause-leaves
 returns-clause-leaves g c ns lists =
     let same : c.as_slice.result.now ≡ ns = c.as_slice.ensures.value ∙ inputs_once c.in_ok-inputs.ensures lists in
-    subst (λ (xs : List ℤ). Leaves (Executes c.args.bytes.now (options_with c.args.running xs)) (ExecutesSoFar c.args.bytes.now (options_with c.args.running xs)) (g.S.Sink.faults c.args.out.now) (g.S.Sink.faults c.exec.new.out) (g.S.Sink.taken c.args.out.now) (g.S.Sink.taken c.exec.new.out) c.exec.result)
+    subst (λ (xs : List ℤ). Leaves (Executes c.args.bytes.now (options_with c.args.running xs))
+    (ExecutesSoFar c.args.bytes.now (options_with c.args.running xs)) (g.S.Sink.faults c.args.out.now) (g.S.Sink.faults c.exec.new.out)
+    (g.S.Sink.taken c.args.out.now) (g.S.Sink.taken c.exec.new.out) c.exec.result)
     same c.exec.ensures.leaves

@@ -12,9 +12,11 @@ loop-name-preserved g c =
     let held = g.F.Files.holds c.args.files.now in
     let loads : Loads held (string_bytes c.name-item.result) most_bytes c.in-Ok.bytes.items = search rules in
     let small : length c.in-Ok.bytes.items ≤ MOST_FILE_BYTES = search rules in (
-      loads_next held (map string_bytes c.args.names.now) c.loop-name.name-index c.loop-name.number _ _ _ _ _ _ (string_bytes c.name-item.result) c.in-Ok.bytes.items c.loop-name.invariant.0
+      loads_next held (map string_bytes c.args.names.now) c.loop-name.name-index c.loop-name.number _ _ _ _ _ _
+          (string_bytes c.name-item.result) c.in-Ok.bytes.items c.loop-name.invariant.0
           (next_file string_bytes c.args.names.now c.loop-name.name-index c.name-item.result c.loop-name-test.true c.name-item.is)
-          (pushed (λ f. f.items) c.loop-name.loaded.items c.push.new.self.items c.in-Ok.bytes c.in_ok-push-in-Ok-2.ensures.items) refl refl loads small,
+          (pushed (λ f. f.items) c.loop-name.loaded.items c.push.new.self.items c.in-Ok.bytes c.in_ok-push-in-Ok-2.ensures.items) refl refl
+          loads small,
       search rules,
       search rules,
     )
@@ -22,5 +24,6 @@ loop-name-preserved g c =
 pub returns-clause-comes : goal.returns-clause-comes
 returns-clause-comes g c =
     let low : length c.args.names.now ≤ c.loop-name.name-index = search rules in
-    loads_all (g.F.Files.holds c.args.files.now) (map string_bytes c.args.names.now) c.loop-name.name-index c.loop-name.number _ _ c.loop-name.invariant.0
+    loads_all (g.F.Files.holds c.args.files.now) (map string_bytes c.args.names.now) c.loop-name.name-index c.loop-name.number _ _
+    c.loop-name.invariant.0
     (no_file string_bytes c.args.names.now c.loop-name.name-index low)

@@ -6,4 +6,5 @@ use Rattle.verse_types.proofs.fitting.+same.Given as goal
 -- what is left of both gives the answer
 abbrev pub invariant-are_same-loop-ty : goal.invariant-are_same-loop-ty
 invariant-are_same-loop-ty l =
-    all_same (tys (map ty_of (drop l.ty-index l.types))) (tys (map ty_of l.rest)) ≡ all_same (tys (map ty_of l.types)) (tys (map ty_of l.others))
+    all_same (tys (map ty_of (drop l.ty-index l.types))) (tys (map ty_of l.rest)) ≡
+    all_same (tys (map ty_of l.types)) (tys (map ty_of l.others))

@@ -7,4 +7,5 @@ use Rattle.verse_types.proofs.joining.+join.Given as goal
 abbrev pub invariant-all_joined-loop-ty : goal.invariant-all_joined-loop-ty
 invariant-all_joined-loop-ty l =
     let cs = classes_of l.classes in
-    before l.joined (all_joined cs (tys (map ty_of (drop l.ty-index l.types))) (tys (map ty_of l.rest))) ≡ all_joined cs (tys (map ty_of l.types)) (tys (map ty_of l.others))
+    before l.joined (all_joined cs (tys (map ty_of (drop l.ty-index l.types))) (tys (map ty_of l.rest))) ≡
+    all_joined cs (tys (map ty_of l.types)) (tys (map ty_of l.others))

@@ -5,4 +5,5 @@ use Rattle.verse_types.proofs.kinds.+levels.Given as goal
 
 abbrev pub invariant-most_levels-loop-ty : goal.invariant-most_levels-loop-ty
 invariant-most_levels-loop-ty l =
-    max l.most (min (most_levels (tys (map ty_of (drop l.ty-index l.types)))) 4294967295) ≡ min (most_levels (tys (map ty_of l.types))) 4294967295
+    max l.most (min (most_levels (tys (map ty_of (drop l.ty-index l.types)))) 4294967295) ≡
+    min (most_levels (tys (map ty_of l.types))) 4294967295

@@ -8,11 +8,17 @@ use Rattle.verse_value.proofs.equality.+equal.Goals as goal
 
 -- lists of one value each are as long as one another
 pub equal_all-returns-then-xs-ys : goal.equal_all-returns-then-xs-ys
-equal_all-returns-then-xs-ys t c =
-    (λ h. cc, λ e. absurd (c.if-xs-ys.true (count_is c.args.xs.now (vals (vals_of c.args.ys.now)) e ∙ sym (count_is c.args.ys.now (vals (vals_of c.args.ys.now)) refl))))
+equal_all-returns-then-xs-ys t c = (
+  λ h. cc,
+  λ e. absurd (c.if-xs-ys.true (count_is c.args.xs.now (vals (vals_of c.args.ys.now)) e ∙
+      sym (count_is c.args.ys.now (vals (vals_of c.args.ys.now)) refl))),
+)
 
 pub equal_all-equal-requires : goal.equal_all-equal-requires
-equal_all-equal-requires t c = (omega (arith, item_bulk c.args.xs.now c.values.i c.index-xs-i.result c.values-test.true c.index-xs-i.is), tt)
+equal_all-equal-requires t c = (
+  omega (arith, item_bulk c.args.xs.now c.values.i c.index-xs-i.result c.values-test.true c.index-xs-i.is),
+  tt,
+)
 
 pub equal_maps-equal_all-requires : goal.equal_maps-equal_all-requires
 equal_maps-equal_all-requires t c = (omega (arith, ap bulks c.values.ensures, bulks_in c.args.xs.now), tt)

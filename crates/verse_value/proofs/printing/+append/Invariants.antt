@@ -30,7 +30,9 @@ abbrev pub decreases-append_entry : goal.decreases-append_entry
 decreases-append_entry l = 4 * bulk (val_of l.value.now) + 1
 
 abbrev pub invariant-append_list-parts : goal.invariant-append_list-parts
-invariant-append_list-parts l = l.out.items ++ rest_text (vals (vals_of (drop l.part-index l.rest))) ≡ l.initial.out.items ++ rest_text (vals (vals_of l.rest))
+invariant-append_list-parts l = l.out.items ++ rest_text (vals (vals_of (drop l.part-index l.rest))) ≡ l.initial.out.items ++
+    rest_text (vals (vals_of l.rest))
 
 abbrev pub invariant-append_entries-entries : goal.invariant-append_entries-entries
-invariant-append_entries-entries l = l.out.items ++ rest_pairs_text (pairs (zip (drop l.i l.keys) (vals_of (drop l.i l.values)))) ≡ l.initial.out.items ++ rest_pairs_text (pairs (zip (drop 1 l.keys) (vals_of (drop 1 l.values))))
+invariant-append_entries-entries l = l.out.items ++ rest_pairs_text (pairs (zip (drop l.i l.keys) (vals_of (drop l.i l.values)))) ≡
+    l.initial.out.items ++ rest_pairs_text (pairs (zip (drop 1 l.keys) (vals_of (drop 1 l.values))))

@@ -13,6 +13,7 @@ decreases-most_of l = bulks (vals (vals_of l.values.now))
 
 abbrev pub invariant-most_of-values : goal.invariant-most_of-values
 invariant-most_of-values l = record {
-  most : min (max l.most (most_levels (vals (vals_of (drop l.value-index l.values))))) 18446744073709551615 ≡ min (most_levels (vals (vals_of l.values))) 18446744073709551615;
+  most : min (max l.most (most_levels (vals (vals_of (drop l.value-index l.values))))) 18446744073709551615 ≡
+      min (most_levels (vals (vals_of l.values))) 18446744073709551615;
   fits : l.most ≤ 18446744073709551615;
 }

@@ -8,5 +8,6 @@ use Rattle.verse_value.proofs.sizes.map_fits.Goals as goal
 
 pub returns-else-size-le-MOST_LEVELS : goal.returns-else-size-le-MOST_LEVELS
 returns-else-size-le-MOST_LEVELS c =
-    let deep : most_levels (vals (vals_of c.values.result.now)) ≡ most_pair_levels c.args.entries.now = ap most_levels c.values.ensures ∙ sym (levels_in c.args.entries.now) in
+    let deep : most_levels (vals (vals_of c.values.result.now)) ≡ most_pair_levels c.args.entries.now =
+    ap most_levels c.values.ensures ∙ sym (levels_in c.args.entries.now) in
     grind (arith, nat_tests)

@@ -6,7 +6,9 @@ use Rattle.verse_value.proofs.values.size_of_all.Given as goal
 
 abbrev pub invariant-values : goal.invariant-values
 invariant-values l = record {
-  sum : min (l.sum.weight + weights (vals (vals_of (drop l.value-index l.values)))) 18446744073709551615 ≡ min (weights (vals (vals_of l.values))) 18446744073709551615;
+  sum : min (l.sum.weight + weights (vals (vals_of (drop l.value-index l.values)))) 18446744073709551615 ≡
+      min (weights (vals (vals_of l.values))) 18446744073709551615;
   fits : l.sum.weight ≤ 18446744073709551615;
-  most : min (most_levels (vals (vals_of l.values))) 18446744073709551615 ≤ max l.sum.levels (min (most_levels (vals (vals_of (drop l.value-index l.values)))) 18446744073709551615);
+  most : min (most_levels (vals (vals_of l.values))) 18446744073709551615 ≤ max l.sum.levels
+      (min (most_levels (vals (vals_of (drop l.value-index l.values)))) 18446744073709551615);
 }

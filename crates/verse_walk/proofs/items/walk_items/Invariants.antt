@@ -6,4 +6,5 @@ use Rattle.verse_walk.proofs.items.walk_items.Given as goal
 abbrev pub invariant-items : goal.invariant-items
 invariant-items g l =
     let step = g.P.Pass.step l.pass in
-    through_items step (map item_of (drop l.item-index l.items)) (g.P.Pass.sight l.seen) ≡ through_items step (map item_of l.items) (g.P.Pass.sight l.fn.seen)
+    through_items step (map item_of (drop l.item-index l.items)) (g.P.Pass.sight l.seen) ≡
+    through_items step (map item_of l.items) (g.P.Pass.sight l.fn.seen)

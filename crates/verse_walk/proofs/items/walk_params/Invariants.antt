@@ -6,4 +6,5 @@ use Rattle.verse_walk.proofs.items.walk_params.Given as goal
 abbrev pub invariant-params : goal.invariant-params
 invariant-params g l =
     let step = g.P.Pass.step l.pass in
-    through_params step (map param_of (drop l.param-index l.params)) (g.P.Pass.sight l.seen) ≡ through_params step (map param_of l.params) (g.P.Pass.sight l.fn.seen)
+    through_params step (map param_of (drop l.param-index l.params)) (g.P.Pass.sight l.seen) ≡
+    through_params step (map param_of l.params) (g.P.Pass.sight l.fn.seen)

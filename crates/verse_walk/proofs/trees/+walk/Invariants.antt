@@ -10,25 +10,29 @@ abbrev pub invariant-walk_all-parts : goal.invariant-walk_all-parts
 invariant-walk_all-parts g l =
     let w = around_of l.around in
     let step = g.P.Pass.step l.pass in
-    through_trees step w (trees (map tree_of (drop l.part-index l.parts))) (g.P.Pass.sight l.seen) ≡ through_trees step w (trees (map tree_of l.parts)) (g.P.Pass.sight l.fn.seen)
+    through_trees step w (trees (map tree_of (drop l.part-index l.parts))) (g.P.Pass.sight l.seen) ≡
+    through_trees step w (trees (map tree_of l.parts)) (g.P.Pass.sight l.fn.seen)
 
 abbrev pub invariant-walk_holes-parts : goal.invariant-walk_holes-parts
 invariant-walk_holes-parts g l =
     let w = around_of l.around in
     let step = g.P.Pass.step l.pass in
-    through_holes step w (holes (map hole_of (drop l.part-index l.parts))) (g.P.Pass.sight l.seen) ≡ through_holes step w (holes (map hole_of l.parts)) (g.P.Pass.sight l.fn.seen)
+    through_holes step w (holes (map hole_of (drop l.part-index l.parts))) (g.P.Pass.sight l.seen) ≡
+    through_holes step w (holes (map hole_of l.parts)) (g.P.Pass.sight l.fn.seen)
 
 abbrev pub invariant-walk_pairs-parts : goal.invariant-walk_pairs-parts
 invariant-walk_pairs-parts g l =
     let w = around_of l.around in
     let step = g.P.Pass.step l.pass in
-    through_pairs step w (pairs (map pair_of (drop l.part-index l.parts))) (g.P.Pass.sight l.seen) ≡ through_pairs step w (pairs (map pair_of l.parts)) (g.P.Pass.sight l.fn.seen)
+    through_pairs step w (pairs (map pair_of (drop l.part-index l.parts))) (g.P.Pass.sight l.seen) ≡
+    through_pairs step w (pairs (map pair_of l.parts)) (g.P.Pass.sight l.fn.seen)
 
 abbrev pub invariant-walk_givens-parts : goal.invariant-walk_givens-parts
 invariant-walk_givens-parts g l =
     let w = around_of l.around in
     let step = g.P.Pass.step l.pass in
-    through_givens step w (givens (map given_of (drop l.part-index l.parts))) (g.P.Pass.sight l.seen) ≡ through_givens step w (givens (map given_of l.parts)) (g.P.Pass.sight l.fn.seen)
+    through_givens step w (givens (map given_of (drop l.part-index l.parts))) (g.P.Pass.sight l.seen) ≡
+    through_givens step w (givens (map given_of l.parts)) (g.P.Pass.sight l.fn.seen)
 
 abbrev pub invariant-walk_arguments-parts : goal.invariant-walk_arguments-parts
 invariant-walk_arguments-parts g l =
@@ -36,5 +40,6 @@ invariant-walk_arguments-parts g l =
     let step = g.P.Pass.step l.pass in
     record {
       place : l.place ≡ l.part-index;
-      rest : through_arguments step w l.callee l.place (trees (map tree_of (drop l.part-index l.parts))) (g.P.Pass.sight l.seen) ≡ through_arguments step w l.callee 0 (trees (map tree_of l.parts)) (g.P.Pass.sight l.fn.seen);
+      rest : through_arguments step w l.callee l.place (trees (map tree_of (drop l.part-index l.parts))) (g.P.Pass.sight l.seen) ≡
+          through_arguments step w l.callee 0 (trees (map tree_of l.parts)) (g.P.Pass.sight l.fn.seen);
     }

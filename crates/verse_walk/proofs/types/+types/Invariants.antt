@@ -9,4 +9,5 @@ abbrev pub invariant-walk_types-parts : goal.invariant-walk_types-parts
 invariant-walk_types-parts g l =
     let w = around_of l.around in
     let step = g.P.Pass.step l.pass in
-    through_writtens step w (writtens (map written_of (drop l.part-index l.parts))) (g.P.Pass.sight l.seen) ≡ through_writtens step w (writtens (map written_of l.parts)) (g.P.Pass.sight l.fn.seen)
+    through_writtens step w (writtens (map written_of (drop l.part-index l.parts))) (g.P.Pass.sight l.seen) ≡
+    through_writtens step w (writtens (map written_of l.parts)) (g.P.Pass.sight l.fn.seen)

@@ -12,11 +12,13 @@ returns-then-files-gt1-clause-asks c =
 pub returns-in_err-with_options-clause-asks : goal.returns-in_err-with_options-clause-asks
 returns-in_err-with_options-clause-asks c =
     rw c.from_residual.ensures
-    (no_exec (map string_bytes c.args.files.now) (map string_bytes c.args.options.now) c.requires.are c.requires.behind c.in_err-with_options.ensures.gives)
+    (no_exec (map string_bytes c.args.files.now) (map string_bytes c.args.options.now) c.requires.are c.requires.behind
+    c.in_err-with_options.ensures.gives)
 
 pub returns-clause-asks : goal.returns-clause-asks
 returns-clause-asks c =
     let few : length c.args.files.now ≤ 1 = search rules in
     is_exec (map string_bytes c.args.files.now) (map string_bytes c.args.options.now) c.requires.are
-    (subst (λ (n : ℕ). n ≤ 1) (sym (length-map c.args.files.now string_bytes)) few) c.in_ok-with_options.field-0 c.in_ok-with_options.ensures.gives
+    (subst (λ (n : ℕ). n ≤ 1) (sym (length-map c.args.files.now string_bytes)) few) c.in_ok-with_options.field-0
+    c.in_ok-with_options.ensures.gives
     c.in_ok-with_options.ensures.files

@@ -8,7 +8,8 @@ returns-in_default c =
     let cut = cut_at c.loop-done.rest.now c.split_once.result c.split_once.ensures.cases in
     let at = rw c.in_default.is at cut in
     let low : 1 ≤ 1000 - c.loop-done._done = omega arith in
-    let end = lists_end (1000 - c.loop-done._done) c.args.word.now c.loop-done.rest.now c.int.result low at c.int.ensures c.loop-done.invariant.same in
+    let end = lists_end (1000 - c.loop-done._done) c.args.word.now c.loop-done.rest.now c.int.result low at c.int.ensures
+    c.loop-done.invariant.same in
     rw c.is_some.ensures end
 
 pub returns-then-is_none : goal.returns-then-is_none
@@ -17,7 +18,9 @@ returns-then-is_none c =
     let at = rw c.in-Some.is at cut in
     let none = none_read c.in-Some.first.now c.int-in-loop-done.result c.int-in-loop-done.ensures c.if-is_none.ensures in (
       λ (t : IsTrue false). absurd (cc),
-      λ (f : Lists 1000 c.args.word.now). absurd (lists_stop (1000 - c.loop-done._done) c.args.word.now c.loop-done.rest.now c.in-Some.first.now c.in-Some.others.now at.0 at.1 none c.loop-done.invariant.same f),
+      λ (f : Lists 1000 c.args.word.now). absurd
+          (lists_stop (1000 - c.loop-done._done) c.args.word.now c.loop-done.rest.now c.in-Some.first.now c.in-Some.others.now at.0 at.1
+          none c.loop-done.invariant.same f),
     )
 
 pub loop-done-preserved : goal.loop-done-preserved
@@ -27,5 +30,7 @@ loop-done-preserved c =
     let one = one_read c.in-Some.first.now c.int-in-loop-done.result c.int-in-loop-done.ensures c.if-is_none.ensures in
     record {
       text = search rules;
-      same = lists_on (1000 - c.loop-done._done) (1000 - (c.loop-done._done + 1)) (omega arith) c.args.word.now c.loop-done.rest.now c.in-Some.first.now c.in-Some.others.now at.0 at.1 one.0 one.1 c.loop-done.invariant.same;
+      same = lists_on (1000 - c.loop-done._done) (1000 - (c.loop-done._done + 1))
+          (omega arith) c.args.word.now c.loop-done.rest.now c.in-Some.first.now c.in-Some.others.now at.0 at.1 one.0 one.1
+          c.loop-done.invariant.same;
     }

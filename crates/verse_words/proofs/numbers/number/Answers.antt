@@ -4,7 +4,8 @@ use Rattle.verse_words.proofs.NumberLemmas.{number_reads}
 use Rattle.verse_words.proofs.numbers.number.Goals as goal
 
 pub returns-in_default : goal.returns-in_default
-returns-in_default c = λ n s. c.in_default.not-Ok n (number_reads c.args.most c.args.word.now c.parse.result (omega arith) c.parse.ensures.value.0 n s)
+returns-in_default c = λ n s. c.in_default.not-Ok n
+    (number_reads c.args.most c.args.word.now c.parse.result (omega arith) c.parse.ensures.value.0 n s)
 
 pub returns-then-number-most : goal.returns-then-number-most
 returns-then-number-most c = λ n s.

@@ -6,4 +6,5 @@ use Rattle.verse_words.proofs.OptionLemmas.{all_taken}
 use Rattle.verse_words.proofs.options.all_options.Goals as goal
 
 pub returns : goal.returns
-returns c = all_taken string_bytes no_options (given_of c.loop-word.given) (map string_bytes c.args.words.now) c.loop-word.rest.now c.in_default.ensures.cases c.loop-word.invariant
+returns c = all_taken string_bytes no_options (given_of c.loop-word.given) (map string_bytes c.args.words.now) c.loop-word.rest.now
+    c.in_default.ensures.cases c.loop-word.invariant

@@ -8,4 +8,5 @@ use Rattle.verse_worlds.proofs.tables.class_members.Given as goal
 -- what is done and what is left are all
 abbrev pub invariant-classes : goal.invariant-classes
 invariant-classes l =
-    map members_view l.found.items ++ members_from (known_of l.known) l.at (classes_of (drop l._class-index l.known.outline)) ≡ class_members (known_of l.known)
+    map members_view l.found.items ++ members_from (known_of l.known) l.at (classes_of (drop l._class-index l.known.outline)) ≡
+    class_members (known_of l.known)

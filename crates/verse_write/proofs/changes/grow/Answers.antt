@@ -3,13 +3,17 @@ use Rattle.verse_write.proofs.Along.{grown_can_be_taken, grown_taken_again, grow
 use Rattle.verse_write.proofs.changes.grow.Goals as goal
 
 pub returns-clause-ok : goal.returns-clause-ok
-returns-clause-ok c = grown_is (vals_of c.args.path.now) (val_of c.args.slot.now) (val_of c.apply.new.slot) c.args.more c.in_ok-apply.ensures.ok c.requires
+returns-clause-ok c = grown_is (vals_of c.args.path.now) (val_of c.args.slot.now)
+    (val_of c.apply.new.slot) c.args.more c.in_ok-apply.ensures.ok c.requires
 
 pub returns-clause-there : goal.returns-clause-there
-returns-clause-there c = grown_there (vals_of c.args.path.now) (val_of c.args.slot.now) (val_of c.apply.new.slot) c.args.more c.in_ok-apply.ensures.ok c.requires
+returns-clause-there c = grown_there (vals_of c.args.path.now) (val_of c.args.slot.now)
+    (val_of c.apply.new.slot) c.args.more c.in_ok-apply.ensures.ok c.requires
 
 pub returns-clause-can_undo : goal.returns-clause-can_undo
-returns-clause-can_undo c = grown_can_be_taken (vals_of c.args.path.now) (val_of c.args.slot.now) (val_of c.apply.new.slot) c.args.more c.in_ok-apply.ensures.ok c.requires
+returns-clause-can_undo c = grown_can_be_taken (vals_of c.args.path.now) (val_of c.args.slot.now)
+    (val_of c.apply.new.slot) c.args.more c.in_ok-apply.ensures.ok c.requires
 
 pub returns-clause-undo : goal.returns-clause-undo
-returns-clause-undo c = grown_taken_again (vals_of c.args.path.now) (val_of c.args.slot.now) (val_of c.apply.new.slot) c.args.more c.in_ok-apply.ensures.ok c.requires
+returns-clause-undo c = grown_taken_again (vals_of c.args.path.now) (val_of c.args.slot.now)
+    (val_of c.apply.new.slot) c.args.more c.in_ok-apply.ensures.ok c.requires

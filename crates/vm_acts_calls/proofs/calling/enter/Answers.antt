@@ -18,11 +18,14 @@ pub returns-then-not-spend : goal.returns-then-not-spend
 returns-then-not-spend g c =
     let sure : c.go.result ≡ true = search rules in
     let out : c.spend.result ≡ false = search rules in
-    calls_moved c.args.func.now (vals_of c.args.args.items) _ _ _ _ _ c.requires.ready.some (ap (λ k. k + 1) c.place-next.ensures) (sym c.go.ensures.test ∙ sure) (c.go.ensures.yes sure) (c.spend.ensures.out out (opens c.args.func.now (vals_of c.args.args.items)))
+    calls_moved c.args.func.now (vals_of c.args.args.items) _ _ _ _ _ c.requires.ready.some (ap (λ k. k + 1) c.place-next.ensures)
+    (sym c.go.ensures.test ∙ sure) (c.go.ensures.yes sure) (c.spend.ensures.out out (opens c.args.func.now (vals_of c.args.args.items)))
 
 pub returns : goal.returns
 returns g c =
     let sure : c.go.result ≡ true = search rules in
     let spent : c.spend.result ≡ true = search rules in
     let lead = c.spend.ensures.leads spent (opens c.args.func.now (vals_of c.args.args.items)) in
-    calls_moved c.args.func.now (vals_of c.args.args.items) _ _ _ _ _ c.requires.ready.some (ap (λ k. k + 1) c.place-next.ensures) (sym c.go.ensures.test ∙ sure) (c.go.ensures.yes sure) (comes_by lead (opens_comes c.args.func.now (vals_of c.args.args.items) _ _ lead.ready c.in_ok-enter.ensures.ok))
+    calls_moved c.args.func.now (vals_of c.args.args.items) _ _ _ _ _ c.requires.ready.some (ap (λ k. k + 1) c.place-next.ensures)
+    (sym c.go.ensures.test ∙ sure) (c.go.ensures.yes sure)
+    (comes_by lead (opens_comes c.args.func.now (vals_of c.args.args.items) _ _ lead.ready c.in_ok-enter.ensures.ok))

@@ -28,16 +28,20 @@ returns-then-not-last-clause-asks g c code =
     let popped = pop_leads closing _ _ _ c.requires.ready c.in-Some.ensures.some in
     let so : c.is_clean.result ≡ true = search rules in
     let is : c.in-Some-leave.last ≡ false = search rules in
-    asks_by popped (close_more (val_of c.in-Some.value) _ _ _ popped.ready.some (sym so ∙ c.is_clean.ensures) (c.in-Some-leave.ensures.some ∙ ap (λ b. Some (b, c.leave.new.self)) is))
+    asks_by popped (close_more (val_of c.in-Some.value) _ _ _ popped.ready.some (sym so ∙ c.is_clean.ensures)
+    (c.in-Some-leave.ensures.some ∙ ap (λ b. Some (b, c.leave.new.self)) is))
 
 pub returns-clause-asks : goal.returns-clause-asks
 returns-clause-asks g c code =
     let popped = pop_leads closing _ _ _ c.requires.ready c.in-Some.ensures.some in
     let so : c.is_clean.result ≡ true = search rules in
     let is : c.in-Some-leave.last ≡ true = search rules in
-    asks_by popped (close_last c.in-Some.value _ _ _ popped.ready (sym so ∙ c.is_clean.ensures) (c.in-Some-leave.ensures.some ∙ ap (λ b. Some (b, c.leave.new.self)) is) (ap (λ b. ended_with b c.in-Some.value) c.born-born.ensures))
+    asks_by popped (close_last c.in-Some.value _ _ _ popped.ready (sym so ∙ c.is_clean.ensures)
+    (c.in-Some-leave.ensures.some ∙ ap (λ b. Some (b, c.leave.new.self)) is)
+    (ap (λ b. ended_with b c.in-Some.value) c.born-born.ensures))
 
 pub returns-clause-leaves : goal.returns-clause-leaves
 returns-clause-leaves g c =
     let so : c.is_clean.result ≡ true = search rules in
-    returns _ _ _ (val_of c.in-Some.value) _ _ refl c.in-Some.ensures.some (sym so ∙ c.is_clean.ensures) c.in-Some-leave.ensures.some c.born-born.ensures
+    returns _ _ _ (val_of c.in-Some.value) _ _ refl c.in-Some.ensures.some (sym so ∙ c.is_clean.ensures) c.in-Some-leave.ensures.some
+    c.born-born.ensures

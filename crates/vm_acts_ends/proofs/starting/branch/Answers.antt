@@ -18,7 +18,9 @@ go_to-requires-clause-free g c =
 pub returns-clause-asks : goal.returns-clause-asks
 returns-clause-asks g c code =
     let so : c.is_free.result ≡ true = search rules in
-    asks_by (free_leads (spends (branched c.args.label)) _ c.requires.ready (λ ms. sym so ∙ c.is_free.ensures ms)) (branch_asks c.args.label _ _ _ c.requires.ready (ap (λ k. k + 1) c.place-body.ensures) c.go_to.ensures (settled_moved _ _ _ c.requires.ready (free_bare _ [] (sym (c.is_free.ensures []) ∙ so)) c.go_to.ensures))
+    asks_by (free_leads (spends (branched c.args.label)) _ c.requires.ready (λ ms. sym so ∙ c.is_free.ensures ms))
+    (branch_asks c.args.label _ _ _ c.requires.ready (ap (λ k. k + 1) c.place-body.ensures) c.go_to.ensures
+    (settled_moved _ _ _ c.requires.ready (free_bare _ [] (sym (c.is_free.ensures []) ∙ so)) c.go_to.ensures))
 
 pub returns-clause-leaves : goal.returns-clause-leaves
 returns-clause-leaves g c =

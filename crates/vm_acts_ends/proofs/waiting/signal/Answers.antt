@@ -1,5 +1,6 @@
 use Rattle.std.proofs.Common.{◌≡◌, ◌+◌, [], true, false, sym, ap, ◌∙◌, rules}
-use Rattle.vm_acts_ends.proofs.Asking.{asks_by, asks_nothing, held_none, free_leads, free_bare, asks_same, ready_same, pushed_free, settled_pushed, two_free}
+use Rattle.vm_acts_ends.proofs.Asking.{asks_by, asks_nothing, held_none, free_leads, free_bare, asks_same, ready_same, pushed_free}
+use Rattle.vm_acts_ends.proofs.Asking.{settled_pushed, two_free}
 use Rattle.vm_acts_ends.proofs.Waits.{signals, signals_stuck, signal_asks}
 use Rattle.vm_runner.proofs.Steps.{two_leads, two_none}
 use Rattle.vm_runner.specs.Doings.{popping_two}
@@ -19,13 +20,16 @@ returns-then-not-is_free-clause-asks g c code =
 pub returns-in_default-clause-asks : goal.returns-in_default-clause-asks
 returns-in_default-clause-asks g c code =
     let so : c.is_free.result ≡ true = search rules in
-    asks_by (free_leads (popping_two signals) _ c.requires.ready (λ ms. sym so ∙ c.is_free.ensures ms)) (asks_nothing _ (two_none signals _ _ c.in_default.ensures.none))
+    asks_by (free_leads (popping_two signals) _ c.requires.ready (λ ms. sym so ∙ c.is_free.ensures ms))
+    (asks_nothing _ (two_none signals _ _ c.in_default.ensures.none))
 
 pub returns-in_default-event_of-clause-asks : goal.returns-in_default-event_of-clause-asks
 returns-in_default-event_of-clause-asks g c code =
     let so : c.is_free.result ≡ true = search rules in
     let popped = two_leads signals _ _ _ _ c.requires.ready c.in-Some.ensures.some in
-    asks_by (free_leads (popping_two signals) _ c.requires.ready (λ ms. sym so ∙ c.is_free.ensures ms)) (asks_by popped (signals_stuck (val_of c.in-Some.event) (val_of c.in-Some.value) _ _ popped.ready c.event_of.ensures.same (λ t e. sym c.in_default-event_of.is ∙ c.event_of.ensures.event t e)))
+    asks_by (free_leads (popping_two signals) _ c.requires.ready (λ ms. sym so ∙ c.is_free.ensures ms))
+    (asks_by popped (signals_stuck (val_of c.in-Some.event) (val_of c.in-Some.value) _ _ popped.ready c.event_of.ensures.same
+    (λ t e. sym c.in_default-event_of.is ∙ c.event_of.ensures.event t e)))
 
 pub go_next-requires-clause-free : goal.go_next-requires-clause-free
 go_next-requires-clause-free g c =
@@ -38,9 +42,15 @@ returns-clause-asks g c code =
     let popped = two_leads signals _ _ _ _ c.requires.ready c.in-Some.ensures.some in
     let bare = free_bare _ [] (two_free _ _ _ _ c.in-Some.ensures.some (sym (c.is_free.ensures []) ∙ so)) in
     let to = c.go_next.ensures ∙ ap (λ gs. moved (place_of gs + 1) gs) c.in_ok-push.ensures.ok in
-    asks_by (free_leads (popping_two signals) _ c.requires.ready (λ ms. sym so ∙ c.is_free.ensures ms)) (asks_by popped (asks_same c.event_of.ensures.same (signal_asks (val_of c.in-Some.event) c.in-Some.value c.in-Some-event_of.event _ _ popped.ready.some bare (λ t e. sym c.in-Some-event_of.is ∙ c.event_of.ensures.event t (e ∙ ap (λ (k : Kept). k.cells) c.event_of.ensures.same)) to (settled_pushed unit _ _ (ready_same popped.ready c.event_of.ensures.same) bare to))))
+    asks_by (free_leads (popping_two signals) _ c.requires.ready (λ ms. sym so ∙ c.is_free.ensures ms))
+    (asks_by popped (asks_same c.event_of.ensures.same
+    (signal_asks (val_of c.in-Some.event) c.in-Some.value c.in-Some-event_of.event _ _ popped.ready.some bare
+    (λ t e. sym c.in-Some-event_of.is ∙ c.event_of.ensures.event t (e ∙ ap (λ (k : Kept). k.cells) c.event_of.ensures.same)) to
+    (settled_pushed unit _ _ (ready_same popped.ready c.event_of.ensures.same) bare to))))
 
 pub returns-clause-leaves : goal.returns-clause-leaves
 returns-clause-leaves g c =
     let so : c.is_free.result ≡ true = search rules in
-    settles _ _ (still_by c.event_of.ensures.same) (like_by (like_two _ _ _ _ c.in-Some.ensures.some) (like_by (like_pushed unit _ _ c.in_ok-push.ensures.ok) (like_moved _ _ _ c.go_next.ensures))) (sym (c.is_free.ensures []) ∙ so)
+    settles _ _ (still_by c.event_of.ensures.same)
+    (like_by (like_two _ _ _ _ c.in-Some.ensures.some)
+    (like_by (like_pushed unit _ _ c.in_ok-push.ensures.ok) (like_moved _ _ _ c.go_next.ensures))) (sym (c.is_free.ensures []) ∙ so)

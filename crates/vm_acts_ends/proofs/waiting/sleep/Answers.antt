@@ -18,7 +18,10 @@ pub returns-clause-asks : goal.returns-clause-asks
 returns-clause-asks g c code =
     let so : c.is_free.result ≡ true = search rules in
     let later : c.in-Some.moment ≡ c.args.run.now.moment + c.args.duration = search (rules, arith) in
-    asks_by (free_leads (after_next (sleeping c.args.duration)) _ c.requires.ready (λ ms. sym so ∙ c.is_free.ensures ms)) (asks_next (sleeping c.args.duration) _ _ _ _ c.requires.ready.some c.go_next.ensures (sleeping_asks c.args.duration _ _ (settled_moved _ _ _ c.requires.ready (free_bare _ [] (sym (c.is_free.ensures []) ∙ so)) c.go_next.ensures) later))
+    asks_by (free_leads (after_next (sleeping c.args.duration)) _ c.requires.ready (λ ms. sym so ∙ c.is_free.ensures ms))
+    (asks_next (sleeping c.args.duration) _ _ _ _ c.requires.ready.some c.go_next.ensures
+    (sleeping_asks c.args.duration _ _ (settled_moved _ _ _ c.requires.ready
+    (free_bare _ [] (sym (c.is_free.ensures []) ∙ so)) c.go_next.ensures) later))
 
 pub returns-clause-leaves : goal.returns-clause-leaves
 returns-clause-leaves g c =

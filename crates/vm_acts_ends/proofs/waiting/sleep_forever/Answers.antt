@@ -17,7 +17,9 @@ go_next-requires-clause-free g c =
 pub returns-clause-asks : goal.returns-clause-asks
 returns-clause-asks g c code =
     let so : c.is_free.result ≡ true = search rules in
-    asks_by (free_leads (after_next resting) _ c.requires.ready (λ ms. sym so ∙ c.is_free.ensures ms)) (asks_next resting _ _ _ _ c.requires.ready.some c.go_next.ensures (resting_asks _ (settled_moved _ _ _ c.requires.ready (free_bare _ [] (sym (c.is_free.ensures []) ∙ so)) c.go_next.ensures)))
+    asks_by (free_leads (after_next resting) _ c.requires.ready (λ ms. sym so ∙ c.is_free.ensures ms))
+    (asks_next resting _ _ _ _ c.requires.ready.some c.go_next.ensures
+    (resting_asks _ (settled_moved _ _ _ c.requires.ready (free_bare _ [] (sym (c.is_free.ensures []) ∙ so)) c.go_next.ensures)))
 
 pub returns-clause-leaves : goal.returns-clause-leaves
 returns-clause-leaves g c =

@@ -20,4 +20,5 @@ returns g c code =
     let so : c.is_int.result ≡ true = search rules in
     let also : c.is_int-2.result ≡ true = search rules in
     let popped = two_leads (range_of c.args.local) _ _ _ _ c.requires.ready c.in-Some.ensures.some in
-    comes_by popped (comes_by (range_leads c.args.local _ _ _ popped.ready (sym c.is_int.ensures ∙ so) (sym c.is_int-2.ensures ∙ also)) c.put_both.ensures)
+    comes_by popped (comes_by (range_leads c.args.local _ _ _ popped.ready (sym c.is_int.ensures ∙ so) (sym c.is_int-2.ensures ∙ also))
+    c.put_both.ensures)

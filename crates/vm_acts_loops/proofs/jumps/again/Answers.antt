@@ -17,10 +17,12 @@ pub returns-then-not-spend : goal.returns-then-not-spend
 returns-then-not-spend g c code =
     let sure : c.go.result ≡ true = search rules in
     let out : c.spend.result ≡ false = search rules in
-    spends_moved c.args.label _ _ _ _ c.requires.ready.some (sym c.go.ensures.test ∙ sure) (c.go.ensures.yes sure) (c.spend.ensures.out out going)
+    spends_moved c.args.label _ _ _ _ c.requires.ready.some (sym c.go.ensures.test ∙ sure) (c.go.ensures.yes sure)
+    (c.spend.ensures.out out going)
 
 pub returns : goal.returns
 returns g c code =
     let sure : c.go.result ≡ true = search rules in
     let spent : c.spend.result ≡ true = search rules in
-    spends_moved c.args.label _ _ _ _ c.requires.ready.some (sym c.go.ensures.test ∙ sure) (c.go.ensures.yes sure) (spent_on (c.spend.ensures.leads spent going))
+    spends_moved c.args.label _ _ _ _ c.requires.ready.some (sym c.go.ensures.test ∙ sure) (c.go.ensures.yes sure)
+    (spent_on (c.spend.ensures.leads spent going))

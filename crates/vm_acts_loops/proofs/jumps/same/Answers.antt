@@ -13,4 +13,5 @@ pub returns : goal.returns
 returns g c code =
     let not_so : c.equal.result ≡ false = search rules in
     let popped = two_leads (compares c.args.label) _ _ _ _ c.requires.ready c.in-Some.ensures.some in
-    comes_by popped (comes_by (unequal_leads c.args.label _ _ _ popped.ready (false_apart c.equal.result _ _ not_so c.equal.ensures.1)) c.go.ensures)
+    comes_by popped (comes_by (unequal_leads c.args.label _ _ _ popped.ready (false_apart c.equal.result _ _ not_so c.equal.ensures.1))
+    c.go.ensures)

@@ -9,7 +9,8 @@ use Rattle.vm_acts_loops.proofs.taking.go_with.Goals as goal
 pub returns-then-not-go : goal.returns-then-not-go
 returns-then-not-go g c t is =
     let not_so : c.go.result ≡ false = search rules in
-    turn_barred t _ _ _ _ c.args.turn.domain c.args.turn.value c.args.turn.label _ _ c.requires.ready is c.requires.domain c.requires.value c.requires.at (sym c.go.ensures.test ∙ not_so)
+    turn_barred t _ _ _ _ c.args.turn.domain c.args.turn.value c.args.turn.label _ _ c.requires.ready is c.requires.domain c.requires.value
+    c.requires.at (sym c.go.ensures.test ∙ not_so)
 
 pub write-requires-clause-some : goal.write-requires-clause-some
 write-requires-clause-some g c =
@@ -29,16 +30,29 @@ write-requires-clause-value g c =
 pub spend-requires : goal.spend-requires
 spend-requires g c =
     let sure : c.go.result ≡ true = search rules in
-    record { ready = ready_written _ _ _ _ c.args.turn.domain c.args.turn.value c.args.turn.label _ _ c.requires.ready (c.write.ensures ∙ ap (λ fs. with_local (c.args.turn.domain + c.args.next.at) (val_of c.args.next.then) (with_local (c.args.turn.value + 1) (val_of c.args.next.beside) (with_local c.args.turn.value (val_of c.args.next.value) fs))) (c.go.ensures.yes sure)) }
+    record {
+      ready = ready_written _ _ _ _ c.args.turn.domain c.args.turn.value c.args.turn.label _ _ c.requires.ready
+          (c.write.ensures ∙ ap (λ fs. with_local (c.args.turn.domain + c.args.next.at) (val_of c.args.next.then)
+          (with_local (c.args.turn.value + 1) (val_of c.args.next.beside) (with_local c.args.turn.value (val_of c.args.next.value) fs)))
+          (c.go.ensures.yes sure));
+    }
 
 pub returns-then-not-spend : goal.returns-then-not-spend
 returns-then-not-spend g c t is =
     let sure : c.go.result ≡ true = search rules in
     let out : c.spend.result ≡ false = search rules in
-    turn_comes t _ _ _ _ c.args.turn.domain c.args.turn.value c.args.turn.label _ _ _ _ c.requires.ready is c.requires.domain c.requires.value c.requires.at (sym c.go.ensures.test ∙ sure) (c.write.ensures ∙ ap (λ fs. with_local (c.args.turn.domain + c.args.next.at) (val_of c.args.next.then) (with_local (c.args.turn.value + 1) (val_of c.args.next.beside) (with_local c.args.turn.value (val_of c.args.next.value) fs))) (c.go.ensures.yes sure)) (c.spend.ensures.out out going)
+    turn_comes t _ _ _ _ c.args.turn.domain c.args.turn.value c.args.turn.label _ _ _ _ c.requires.ready is c.requires.domain
+    c.requires.value c.requires.at (sym c.go.ensures.test ∙ sure)
+    (c.write.ensures ∙ ap (λ fs. with_local (c.args.turn.domain + c.args.next.at) (val_of c.args.next.then)
+    (with_local (c.args.turn.value + 1) (val_of c.args.next.beside) (with_local c.args.turn.value (val_of c.args.next.value) fs)))
+    (c.go.ensures.yes sure)) (c.spend.ensures.out out going)
 
 pub returns : goal.returns
 returns g c t is =
     let sure : c.go.result ≡ true = search rules in
     let spent : c.spend.result ≡ true = search rules in
-    turn_comes t _ _ _ _ c.args.turn.domain c.args.turn.value c.args.turn.label _ _ _ _ c.requires.ready is c.requires.domain c.requires.value c.requires.at (sym c.go.ensures.test ∙ sure) (c.write.ensures ∙ ap (λ fs. with_local (c.args.turn.domain + c.args.next.at) (val_of c.args.next.then) (with_local (c.args.turn.value + 1) (val_of c.args.next.beside) (with_local c.args.turn.value (val_of c.args.next.value) fs))) (c.go.ensures.yes sure)) (spent_on (c.spend.ensures.leads spent going))
+    turn_comes t _ _ _ _ c.args.turn.domain c.args.turn.value c.args.turn.label _ _ _ _ c.requires.ready is c.requires.domain
+    c.requires.value c.requires.at (sym c.go.ensures.test ∙ sure)
+    (c.write.ensures ∙ ap (λ fs. with_local (c.args.turn.domain + c.args.next.at) (val_of c.args.next.then)
+    (with_local (c.args.turn.value + 1) (val_of c.args.next.beside) (with_local c.args.turn.value (val_of c.args.next.value) fs)))
+    (c.go.ensures.yes sure)) (spent_on (c.spend.ensures.leads spent going))

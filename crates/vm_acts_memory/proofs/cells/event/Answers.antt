@@ -6,4 +6,5 @@ use Rattle.vm_acts_memory.proofs.Stores.{made_as}
 use Rattle.vm_acts_memory.proofs.cells.event.Goals as goal
 
 pub returns : goal.returns
-returns g c = made_as (place_in c.args.code.now (Some c.args.place)) cell.Event _ _ _ _ _ (ap vals_of c.new.ensures.items) c.add_cell.ensures
+returns g c = made_as (place_in c.args.code.now (Some c.args.place)) cell.Event _ _ _ _ _
+    (ap vals_of c.new.ensures.items) c.add_cell.ensures

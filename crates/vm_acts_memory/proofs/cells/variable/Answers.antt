@@ -9,4 +9,6 @@ use Rattle.vm_acts_memory.proofs.cells.variable.Goals as goal
 
 pub returns : goal.returns
 returns g c =
-    ok_by _ _ (pop_leads (λ v. effects (place_in c.args.code.now (Some c.args.place)) (variable_made v)) _ _ _ c.requires.ready c.in-Some.ensures.some) (made_as (place_in c.args.code.now (Some c.args.place)) cell.Var _ _ _ _ _ (single _ _ _ c.in_ok-push.ensures.items c.new-slots.ensures.items) c.add_cell.ensures)
+    ok_by _ _ (pop_leads (λ v. effects (place_in c.args.code.now (Some c.args.place)) (variable_made v)) _ _ _ c.requires.ready
+    c.in-Some.ensures.some) (made_as (place_in c.args.code.now (Some c.args.place)) cell.Var _ _ _ _ _
+    (single _ _ _ c.in_ok-push.ensures.items c.new-slots.ensures.items) c.add_cell.ensures)

@@ -37,4 +37,5 @@ pub returns : goal.returns
 returns g c code =
     let so : c.release.result ≡ true = search rules in
     let sure : c.go.result ≡ true = search rules in
-    undo_sure code _ _ _ _ c.requires.ready (c.release.ensures.yes so) (ap (λ k. k + 1) c.place-next.ensures) (sym c.go.ensures.test ∙ sure) (c.go.ensures.yes sure) c.rollback.ensures.back c.rollback-2.ensures
+    undo_sure code _ _ _ _ c.requires.ready (c.release.ensures.yes so) (ap (λ k. k + 1) c.place-next.ensures) (sym c.go.ensures.test ∙ sure)
+    (c.go.ensures.yes sure) c.rollback.ensures.back c.rollback-2.ensures

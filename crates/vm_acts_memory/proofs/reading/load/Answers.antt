@@ -15,4 +15,7 @@ returns-in_default-cell_of g c =
 pub returns : goal.returns
 returns g c =
     let popped = pop_leads (λ v. effects None (slot_read c.args.slot v)) _ _ _ c.requires.ready c.in-Some.ensures.some in
-    ok_by _ _ popped (read_ok (val_of c.in-Some.value) c.in-Some-cell_of.cell c.args.slot _ _ _ popped.ready c.held_in-held.ensures.same (sym c.in-Some-cell_of.is ∙ c.cell_of.ensures) (c.answer.ensures (read_slot (g.H.Heap.state c.args.run.now.heap).cells c.in-Some-cell_of.cell c.args.slot) c.held_in-held.ensures.answers))
+    ok_by _ _ popped (read_ok (val_of c.in-Some.value) c.in-Some-cell_of.cell c.args.slot _ _ _ popped.ready c.held_in-held.ensures.same
+    (sym c.in-Some-cell_of.is ∙ c.cell_of.ensures)
+    (c.answer.ensures (read_slot (g.H.Heap.state c.args.run.now.heap).cells c.in-Some-cell_of.cell c.args.slot)
+    c.held_in-held.ensures.answers))

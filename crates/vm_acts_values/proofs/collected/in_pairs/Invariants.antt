@@ -7,5 +7,6 @@ use Rattle.vm_acts_values.proofs.Pairs.{held}
 use Rattle.vm_acts_values.proofs.collected.in_pairs.Given as goal
 
 abbrev pub invariant-values : goal.invariant-values
-invariant-values l = (pairs_of l.pairs.items ++ paired (vals_of (held l.key ++ into_iter_items l.value-iterator)) ≡ paired (vals_of l.fn.values.items))
+invariant-values l = (pairs_of l.pairs.items ++ paired (vals_of (held l.key ++ into_iter_items l.value-iterator)) ≡
+    paired (vals_of l.fn.values.items))
     × (into_iter_len l.value-iterator ≡ length (into_iter_items l.value-iterator))

@@ -6,4 +6,5 @@ use Rattle.vm_acts_values.proofs.Shapes.{one_comes}
 use Rattle.vm_acts_values.proofs.composites.optional.Goals as goal
 
 pub returns : goal.returns
-returns g c = one_comes option_of (place_in c.args.code.now (Some c.args.place)) _ _ _ _ _ c.requires.ready c.in-Some.ensures.some (c.answer.ensures (option_of (val_of c.in-Some.value)) c.op_some.ensures.answers)
+returns g c = one_comes option_of (place_in c.args.code.now (Some c.args.place)) _ _ _ _ _ c.requires.ready c.in-Some.ensures.some
+    (c.answer.ensures (option_of (val_of c.in-Some.value)) c.op_some.ensures.answers)

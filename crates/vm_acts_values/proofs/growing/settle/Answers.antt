@@ -9,9 +9,12 @@ use Rattle.vm_acts_values.proofs.growing.settle.Goals as goal
 
 pub returns-in-Ok : goal.returns-in-Ok
 returns-in-Ok g c a w is cannot =
-    comes_by (settles_gives (place_in c.args.code.now (Some c.args.target.place)) c.args.target.local a (val_of c.in-Ok.value) w _ _ c.requires.ready (subst (IsAnswerOrMemory a) c.in-Ok.is is) c.requires.there c.put_local.ensures.new) c.go_on.ensures
+    comes_by (settles_gives (place_in c.args.code.now (Some c.args.target.place)) c.args.target.local a
+    (val_of c.in-Ok.value) w _ _ c.requires.ready (subst (IsAnswerOrMemory a) c.in-Ok.is is) c.requires.there c.put_local.ensures.new)
+    c.go_on.ensures
 
 pub returns-in-Err-Fault : goal.returns-in-Err-Fault
 returns-in-Err-Fault g c a w is cannot =
     let e : c.args.outcome ≡ Err (fault.Fault c.in-Err-Fault.kind) = search rules in
-    settles_error (place_in c.args.code.now (Some c.args.target.place)) c.args.target.local a c.in-Err-Fault.kind w _ _ _ (subst (IsAnswerOrMemory a) e is) c.raise.ensures
+    settles_error (place_in c.args.code.now (Some c.args.target.place)) c.args.target.local a c.in-Err-Fault.kind w _ _ _
+    (subst (IsAnswerOrMemory a) e is) c.raise.ensures

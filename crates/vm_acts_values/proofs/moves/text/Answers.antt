@@ -8,4 +8,6 @@ use Rattle.vm_acts_values.proofs.moves.text.Goals as goal
 
 pub returns : goal.returns
 returns g c =
-    ok_by _ _ (one_leads (λ bytes. answers None (gives (text_val bytes))) _ _ _ c.requires.ready (sym c.in-Some.ensures.value)) (c.answer.ensures (gives (text_val c.in-Some.bytes.now)) (subst (λ bytes. IsAnswerOrMemory (gives (text_val bytes)) c.op_text.result) c.as_slice.ensures c.op_text.ensures.answers))
+    ok_by _ _ (one_leads (λ bytes. answers None (gives (text_val bytes))) _ _ _ c.requires.ready (sym c.in-Some.ensures.value))
+    (c.answer.ensures (gives (text_val c.in-Some.bytes.now))
+    (subst (λ bytes. IsAnswerOrMemory (gives (text_val bytes)) c.op_text.result) c.as_slice.ensures c.op_text.ensures.answers))

@@ -6,4 +6,5 @@ use Rattle.vm_acts_values.proofs.Shapes.{widened, two_comes}
 use Rattle.vm_acts_values.proofs.numbers.mul.Goals as goal
 
 pub returns : goal.returns
-returns g c = two_comes product_of (place_in c.args.code.now (Some c.args.place)) _ _ _ _ _ _ c.requires.ready c.in-Some.ensures.some (c.answer.ensures (product_of (val_of c.in-Some.first) (val_of c.in-Some.second)) (widened _ _ c.op_mul.ensures.answers))
+returns g c = two_comes product_of (place_in c.args.code.now (Some c.args.place)) _ _ _ _ _ _ c.requires.ready c.in-Some.ensures.some
+    (c.answer.ensures (product_of (val_of c.in-Some.first) (val_of c.in-Some.second)) (widened _ _ c.op_mul.ensures.answers))

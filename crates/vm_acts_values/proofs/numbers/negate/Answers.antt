@@ -6,4 +6,5 @@ use Rattle.vm_acts_values.proofs.Shapes.{widened, one_comes}
 use Rattle.vm_acts_values.proofs.numbers.negate.Goals as goal
 
 pub returns : goal.returns
-returns g c = one_comes negation_of (place_in c.args.code.now (Some c.args.place)) _ _ _ _ _ c.requires.ready c.in-Some.ensures.some (c.answer.ensures (negation_of (val_of c.in-Some.value)) (widened _ _ c.op_neg.ensures.answers))
+returns g c = one_comes negation_of (place_in c.args.code.now (Some c.args.place)) _ _ _ _ _ c.requires.ready c.in-Some.ensures.some
+    (c.answer.ensures (negation_of (val_of c.in-Some.value)) (widened _ _ c.op_neg.ensures.answers))

@@ -18,4 +18,5 @@ returns-then-run-eq0 g c = branch_out g.W.Waits.pending _ _ _ c.requires.free c.
 pub returns : goal.returns
 returns g c =
     let next : c.args.run.now.left ≡ suc (c.args.run.now.left - 1) = omega arith in
-    branch_on g.W.Waits.pending _ _ _ _ _ _ _ _ _ _ c.requires.free next refl (c.replace-parent.ensures.after ∙ c.in_ok-thread.ensures) c.in_ok-id.ensures.begun c.in_ok-id.ensures.branch c.replace-parent.ensures.value c.in_ok-push.ensures
+    branch_on g.W.Waits.pending _ _ _ _ _ _ _ _ _ _ c.requires.free next refl (c.replace-parent.ensures.after ∙ c.in_ok-thread.ensures)
+    c.in_ok-id.ensures.begun c.in_ok-id.ensures.branch c.replace-parent.ensures.value c.in_ok-push.ensures

@@ -13,9 +13,11 @@ begin_group-requires g c = live_here g.W.Waits.pending _ _ c.is_nested.ensures c
 
 pub begin_arm-requires-clause-live : goal.begin_arm-requires-clause-live
 begin_arm-requires-clause-live g c =
-    group_live g.W.Waits.pending _ _ _ c.is_nested.ensures c.is_nested-2.ensures c.requires.there c.requires.free c.begin_group.ensures.marked c.begin_group.ensures.group
+    group_live g.W.Waits.pending _ _ _ c.is_nested.ensures c.is_nested-2.ensures c.requires.there c.requires.free
+    c.begin_group.ensures.marked c.begin_group.ensures.group
 
 pub returns : goal.returns
 returns g c =
-    arm_ok g.W.Waits.pending _ _ _ _ _ _ _ _ _ _ _ c.is_nested.ensures c.requires.free c.begin_group.ensures.marked c.begin_group.ensures.group refl c.replace-thread.ensures.value c.new.ensures.items c.reverse.ensures.items c.in-Some.ensures.items
+    arm_ok g.W.Waits.pending _ _ _ _ _ _ _ _ _ _ _ c.is_nested.ensures c.requires.free c.begin_group.ensures.marked
+    c.begin_group.ensures.group refl c.replace-thread.ensures.value c.new.ensures.items c.reverse.ensures.items c.in-Some.ensures.items
     (c.replace-thread.ensures.after ∙ c.empty.ensures) c.begin_arm.ensures

@@ -11,4 +11,5 @@ take_defer-block-requires g c = some_block _ c.requires.unguarded c.requires.som
 pub returns : goal.returns
 returns g c =
     let next : c.args.run.now.left ≡ suc (c.args.run.now.left - 1) = omega arith in
-    block_begun _ _ _ _ _ _ _ c.requires.unguarded c.take_defer-block.ensures (sure_moved _ _ _ _ _ c.requires.unguarded c.take_defer-block.ensures c.go.ensures.test c.go.ensures.yes) next refl
+    block_begun _ _ _ _ _ _ _ c.requires.unguarded c.take_defer-block.ensures
+    (sure_moved _ _ _ _ _ c.requires.unguarded c.take_defer-block.ensures c.go.ensures.test c.go.ensures.yes) next refl

@@ -8,7 +8,8 @@ use Rattle.vm_clears.proofs.frames.clear_frames.Given as goal
 
 abbrev pub invariant-frames : goal.invariant-frames
 invariant-frames g l =
-    Unguarded l.thread × ((r : Went) (u : View) → ClearsFrames l.thread r (view_of g.H.Heap.state l.fn.run) u → ClearsFrames l.fn.thread r (view_of g.H.Heap.state l.fn.run) u)
+    Unguarded l.thread × ((r : Went) (u : View) → ClearsFrames l.thread r (view_of g.H.Heap.state l.fn.run) u →
+    ClearsFrames l.fn.thread r (view_of g.H.Heap.state l.fn.run) u)
 
 abbrev pub decreases-frames : goal.decreases-frames
 decreases-frames g l = length l.thread

@@ -9,14 +9,17 @@ is_part-requires g c = ending_live g.W.Waits.pending c.args.born _ c.args.tasks.
 pub returns-then-not-is_part : goal.returns-then-not-is_part
 returns-then-not-is_part g c =
     let not_so : c.is_part.result ≡ false = search rules in
-    root_ends_so g.W.Waits.pending c.args.born c.args.value (view_of g.H.Heap.state c.args.run.now) c.args.tasks.now c.is_part.result c.is_nested.ensures c.is_part.ensures _ not_so
+    root_ends_so g.W.Waits.pending c.args.born c.args.value (view_of g.H.Heap.state c.args.run.now) c.args.tasks.now c.is_part.result
+    c.is_nested.ensures c.is_part.ensures _ not_so
 
 pub unwind-requires : goal.unwind-requires
 unwind-requires g c =
     let so : c.is_part.result ≡ true = search rules in
-    part_cleared g.W.Waits.pending c.args.born c.args.value (view_of g.H.Heap.state c.args.run.now) c.args.tasks.now c.is_part.result c.is_nested.ensures c.is_part.ensures _ c.in_ok-cancel.ensures so c.requires
+    part_cleared g.W.Waits.pending c.args.born c.args.value (view_of g.H.Heap.state c.args.run.now) c.args.tasks.now c.is_part.result
+    c.is_nested.ensures c.is_part.ensures _ c.in_ok-cancel.ensures so c.requires
 
 pub returns : goal.returns
 returns g c =
     let so : c.is_part.result ≡ true = search rules in
-    part_unwinds g.W.Waits.pending c.args.born c.args.value (view_of g.H.Heap.state c.args.run.now) c.args.tasks.now c.is_part.result c.is_nested.ensures c.is_part.ensures _ c.in_ok-cancel.ensures c.unwind.result _ _ so c.unwind.ensures
+    part_unwinds g.W.Waits.pending c.args.born c.args.value (view_of g.H.Heap.state c.args.run.now) c.args.tasks.now c.is_part.result
+    c.is_nested.ensures c.is_part.ensures _ c.in_ok-cancel.ensures c.unwind.result _ _ so c.unwind.ensures

@@ -9,7 +9,8 @@ pub push-requires : goal.push-requires
 push-requires g c = returning_some g.W.Waits.pending c.args.born _ c.args.tasks.now c.requires
 
 pub returns-then-is_some : goal.returns-then-is_some
-returns-then-is_some g c = returned_clearing g.W.Waits.pending c.args.born (val_of c.args.value) (view_of g.H.Heap.state c.args.run.now) c.args.tasks.now _ (sym c.is_some.ensures ∙ c.if-is_some.true) c.in_ok-push.ensures.ok
+returns-then-is_some g c = returned_clearing g.W.Waits.pending c.args.born (val_of c.args.value)
+    (view_of g.H.Heap.state c.args.run.now) c.args.tasks.now _ (sym c.is_some.ensures ∙ c.if-is_some.true) c.in_ok-push.ensures.ok
 
 pub push-requires-then-is_empty : goal.push-requires-then-is_empty
 push-requires-then-is_empty g c = returning_some g.W.Waits.pending c.args.born _ c.args.tasks.now c.requires
@@ -17,15 +18,19 @@ push-requires-then-is_empty g c = returning_some g.W.Waits.pending c.args.born _
 pub returns-then-is_empty : goal.returns-then-is_empty
 returns-then-is_empty g c =
     let zero : length c.cancel.new.tasks.gone.frames.items ≡ 0 = search rules in
-    returned_none g.W.Waits.pending c.args.born (val_of c.args.value) (view_of g.H.Heap.state c.args.run.now) c.args.tasks.now c.cancel.new.tasks _ (sym c.is_some.ensures ∙ c.if-is_some.false) c.in_ok-cancel.ensures (nil_from_length c.cancel.new.tasks.gone.frames.items zero) c.in_ok-push-2.ensures.ok
+    returned_none g.W.Waits.pending c.args.born (val_of c.args.value) (view_of g.H.Heap.state c.args.run.now) c.args.tasks.now
+    c.cancel.new.tasks _ (sym c.is_some.ensures ∙ c.if-is_some.false) c.in_ok-cancel.ensures
+    (nil_from_length c.cancel.new.tasks.gone.frames.items zero) c.in_ok-push-2.ensures.ok
 
 pub unwind-requires : goal.unwind-requires
 unwind-requires g c =
     let some : c.cancel.new.tasks.gone.frames.items ≢ [] = λ e. (search rules) in
-    is_cleared g.W.Waits.pending c.args.born c.args.value (view_of g.H.Heap.state c.args.run.now) c.args.tasks.now c.cancel.new.tasks c.in_ok-cancel.ensures (sym c.is_some.ensures ∙ c.if-is_some.false) some _ _ c.replace-thread.ensures.value c.requires
+    is_cleared g.W.Waits.pending c.args.born c.args.value (view_of g.H.Heap.state c.args.run.now) c.args.tasks.now c.cancel.new.tasks
+    c.in_ok-cancel.ensures (sym c.is_some.ensures ∙ c.if-is_some.false) some _ _ c.replace-thread.ensures.value c.requires
 
 pub returns : goal.returns
 returns g c =
     let some : c.cancel.new.tasks.gone.frames.items ≢ [] = λ e. (search rules) in
-    returned_unwinds g.W.Waits.pending c.args.born c.args.value (view_of g.H.Heap.state c.args.run.now) c.args.tasks.now c.cancel.new.tasks c.in_ok-cancel.ensures (sym c.is_some.ensures ∙ c.if-is_some.false) some _ c.unwind.result _ _ _ c.replace-thread.ensures.value
+    returned_unwinds g.W.Waits.pending c.args.born c.args.value (view_of g.H.Heap.state c.args.run.now) c.args.tasks.now c.cancel.new.tasks
+    c.in_ok-cancel.ensures (sym c.is_some.ensures ∙ c.if-is_some.false) some _ c.unwind.result _ _ _ c.replace-thread.ensures.value
     c.unwind.ensures

@@ -10,4 +10,5 @@ unreachable-requires c = not_live c.args.id c.args.tree.now c.requires (sym (ap 
 
 pub returns : goal.returns
 returns c = λ t at.
-    c.has_arm.ensures ∙ ap (λ (z : Slot _). has_run c.args.number z.held) (item_is c.args.id c.args.tree.now c.in-Some.slot.now t (sym (ap (λ o. option_copied o) c.in-Some.is) ∙ c.get.ensures) at)
+    c.has_arm.ensures ∙ ap (λ (z : Slot _). has_run c.args.number z.held)
+    (item_is c.args.id c.args.tree.now c.in-Some.slot.now t (sym (ap (λ o. option_copied o) c.in-Some.is) ∙ c.get.ensures) at)

@@ -8,13 +8,20 @@ use Rattle.vm_overs.proofs.arms.give_arm.Goals as goal
 pub returns-in_default : goal.returns-in_default
 returns-in_default c =
     let none : c.run_at.result ≡ None = search rules in
-    no_arm c.args.number (map part_of c.args.arms.now.items) (val_of c.args.value) (ap (λ z. run_at c.args.number 0 (map part_of z)) (sym c.as_slice.ensures.value) ∙ (sym c.run_at.ensures ∙ none))
+    no_arm c.args.number (map part_of c.args.arms.now.items) (val_of c.args.value)
+    (ap (λ z. run_at c.args.number 0 (map part_of z)) (sym c.as_slice.ensures.value) ∙ (sym c.run_at.ensures ∙ none))
 
 pub index_mut-requires : goal.index_mut-requires
 index_mut-requires c =
-    omega (arith, within_arms c.args.number c.in-Some.at c.args.arms.now.items (ap (λ z. run_at c.args.number 0 (map part_of z)) (sym c.as_slice.ensures.value) ∙ (sym c.run_at.ensures ∙ c.in-Some.is)), c.args.arms.now.ok.0)
+    omega (
+      arith,
+      within_arms c.args.number c.in-Some.at c.args.arms.now.items
+          (ap (λ z. run_at c.args.number 0 (map part_of z)) (sym c.as_slice.ensures.value) ∙ (sym c.run_at.ensures ∙ c.in-Some.is)),
+      c.args.arms.now.ok.0,
+    )
 
 pub returns : goal.returns
 returns c =
     ap (λ z. map part_of (slice_set c.args.arms.now.items c.in-Some.at z)) c.replace.ensures.after ∙
-    arm_gives c.args.number c.in-Some.at c.args.arms.now.items c.args.value (ap (λ z. run_at c.args.number 0 (map part_of z)) (sym c.as_slice.ensures.value) ∙ (sym c.run_at.ensures ∙ c.in-Some.is))
+    arm_gives c.args.number c.in-Some.at c.args.arms.now.items c.args.value
+    (ap (λ z. run_at c.args.number 0 (map part_of z)) (sym c.as_slice.ensures.value) ∙ (sym c.run_at.ensures ∙ c.in-Some.is))

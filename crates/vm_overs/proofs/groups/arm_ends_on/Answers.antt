@@ -5,4 +5,5 @@ pub rest_on-requires : goal.rest_on-requires
 rest_on-requires g c = ended_idle g.W.Waits.pending c.in_ok-went.went c.args.begins _ _ _ _ c.requires c.in_ok-went.ensures
 
 pub returns : goal.returns
-returns g c = arm_ends_on g.W.Waits.pending c.rest_on.result c.in_ok-went.went c.args.begins _ _ _ _ _ _ c.in_ok-went.ensures c.rest_on.ensures
+returns g c = arm_ends_on g.W.Waits.pending c.rest_on.result c.in_ok-went.went c.args.begins _ _ _ _ _ _ c.in_ok-went.ensures
+    c.rest_on.ensures

@@ -8,4 +8,5 @@ pub unreachable-requires : goal.unreachable-requires
 unreachable-requires c = not_live c.args.id c.args.tree.now c.requires (sym (ap (λ o. option_copied o) c.in-None.is) ∙ c.get.ensures)
 
 pub returns : goal.returns
-returns c = part_is (λ (s : Slot _). s.number) c.args.id c.args.tree.now c.in-Some.slot.now (sym (ap (λ o. option_copied o) c.in-Some.is) ∙ c.get.ensures)
+returns c = part_is (λ (s : Slot _). s.number) c.args.id c.args.tree.now c.in-Some.slot.now (sym (ap (λ o. option_copied o) c.in-Some.is) ∙
+    c.get.ensures)

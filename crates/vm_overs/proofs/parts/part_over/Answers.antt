@@ -13,26 +13,32 @@ finish-parent-requires-clause-childless g c = c.requires.here.childless
 
 pub part_gone-requires : goal.part_gone-requires
 part_gone-requires g c =
-    gone_part g.W.Waits.pending c.args.tasks.now c.finish-parent.new.tree c.pop.new.self c.is_nested.ensures c.finish-parent.ensures.ended c.finish-parent.ensures.left c.in-Some.up _ c.in-Some.ensures.items c.requires
+    gone_part g.W.Waits.pending c.args.tasks.now c.finish-parent.new.tree c.pop.new.self c.is_nested.ensures c.finish-parent.ensures.ended
+    c.finish-parent.ensures.left c.in-Some.up _ c.in-Some.ensures.items c.requires
 
 pub returns-in-Some : goal.returns-in-Some
 returns-in-Some g c =
-    part_up g.W.Waits.pending c.args.tasks.now c.finish-parent.new.tree c.pop.new.self c.is_nested.ensures c.finish-parent.ensures.ended c.finish-parent.ensures.left c.part_gone.result c.in-Some.up _ _ _ _ c.in-Some.ensures.items c.part_gone.ensures
+    part_up g.W.Waits.pending c.args.tasks.now c.finish-parent.new.tree c.pop.new.self c.is_nested.ensures c.finish-parent.ensures.ended
+    c.finish-parent.ensures.left c.part_gone.result c.in-Some.up _ _ _ _ c.in-Some.ensures.items c.part_gone.ensures
 
 pub join-requires : goal.join-requires
 join-requires g c =
     let none : c.args.tasks.now.ups.items ≡ [] = search rules in
     let left : c.pop.new.self.items ≡ [] = search rules in
-    joining_part g.W.Waits.pending c.args.tasks.now c.finish-parent.new.tree c.pop.new.self c.is_nested.ensures c.finish-parent.ensures.ended c.finish-parent.ensures.left _ _ (sym c.in-Some-parent.is ∙ c.finish-parent.ensures.parent) c.number_of-number.ensures none left _ c.requires
+    joining_part g.W.Waits.pending c.args.tasks.now c.finish-parent.new.tree c.pop.new.self c.is_nested.ensures
+    c.finish-parent.ensures.ended c.finish-parent.ensures.left _ _ (sym c.in-Some-parent.is ∙ c.finish-parent.ensures.parent)
+    c.number_of-number.ensures none left _ c.requires
 
 pub unreachable-requires : goal.unreachable-requires
 unreachable-requires g c =
     let none : c.args.tasks.now.ups.items ≡ [] = search rules in
-    has_parent g.W.Waits.pending c.args.tasks.now c.finish-parent.new.tree c.pop.new.self c.is_nested.ensures c.finish-parent.ensures.ended c.finish-parent.ensures.left _ (sym c.in-None-parent.is ∙ c.finish-parent.ensures.parent) none c.requires
+    has_parent g.W.Waits.pending c.args.tasks.now c.finish-parent.new.tree c.pop.new.self c.is_nested.ensures c.finish-parent.ensures.ended
+    c.finish-parent.ensures.left _ (sym c.in-None-parent.is ∙ c.finish-parent.ensures.parent) none c.requires
 
 pub returns-in-Some-parent : goal.returns-in-Some-parent
 returns-in-Some-parent g c =
     let none : c.args.tasks.now.ups.items ≡ [] = search rules in
     let left : c.pop.new.self.items ≡ [] = search rules in
-    part_joins g.W.Waits.pending c.args.tasks.now c.finish-parent.new.tree c.pop.new.self c.is_nested.ensures c.finish-parent.ensures.ended c.finish-parent.ensures.left _ _ (sym c.in-Some-parent.is ∙ c.finish-parent.ensures.parent) c.number_of-number.ensures none left
+    part_joins g.W.Waits.pending c.args.tasks.now c.finish-parent.new.tree c.pop.new.self c.is_nested.ensures c.finish-parent.ensures.ended
+    c.finish-parent.ensures.left _ _ (sym c.in-Some-parent.is ∙ c.finish-parent.ensures.parent) c.number_of-number.ensures none left
     c.join.result _ _ _ _ c.join.ensures

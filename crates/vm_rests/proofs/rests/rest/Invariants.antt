@@ -8,7 +8,9 @@ use Rattle.vm_rests.proofs.rests.rest.Given as goal
 
 abbrev pub invariant-above : goal.invariant-above
 invariant-above g l =
-    Idle g.W.Waits.pending (view_of g.H.Heap.state l.run) l.tasks × ((r : Went) (u : View) (s : Tasks _) → RestsTo g.W.Waits.pending r (view_of g.H.Heap.state l.run) l.tasks u s → RestsTo g.W.Waits.pending r (view_of g.H.Heap.state l.fn.run) l.fn.tasks u s)
+    Idle g.W.Waits.pending (view_of g.H.Heap.state l.run) l.tasks × ((r : Went) (u : View) (s : Tasks _) →
+    RestsTo g.W.Waits.pending r (view_of g.H.Heap.state l.run) l.tasks u s →
+    RestsTo g.W.Waits.pending r (view_of g.H.Heap.state l.fn.run) l.fn.tasks u s)
 
 abbrev pub decreases-above : goal.decreases-above
 decreases-above g l = length l.tasks.ups.items

@@ -10,7 +10,8 @@ returns-then-not-permits g c =
 pub returns-in-Some : goal.returns-in-Some
 returns-in-Some g c =
     let sure : c.permits.result ≡ true = search rules in
-    raises_sure _ c.in-Some.place _ _ _ c.requires.ready.some (ap (λ k. k + 1) c.place-next.ensures) (sym c.permits.ensures ∙ sure) (sym c.in-Some.is ∙ c.place_at.ensures)
+    raises_sure _ c.in-Some.place _ _ _ c.requires.ready.some (ap (λ k. k + 1) c.place-next.ensures) (sym c.permits.ensures ∙ sure)
+    (sym c.in-Some.is ∙ c.place_at.ensures)
 
 pub returns-in-None : goal.returns-in-None
 returns-in-None g c = raises_nowhere _ _ _ (sym c.in-None.is ∙ c.place_at.ensures)

@@ -12,4 +12,5 @@ pub returns-in-Fault : goal.returns-in-Fault
 returns-in-Fault g c a is = refused _ a (answer.error c.in-Fault.kind) _ _ _ (subst (IsFaultOrMemory a) c.in-Fault.is is) c.raise.ensures
 
 pub returns-in-Stuck : goal.returns-in-Stuck
-returns-in-Stuck g c a is = refused _ a answer.stuck _ _ _ (subst (IsFaultOrMemory a) c.in-Stuck.is is) (stuck_answers _ _ (place_in c.args.code.now c.args.place))
+returns-in-Stuck g c a is = refused _ a answer.stuck _ _ _ (subst (IsFaultOrMemory a) c.in-Stuck.is is)
+    (stuck_answers _ _ (place_in c.args.code.now c.args.place))

@@ -22,4 +22,5 @@ rollback-requires-2 g c = marks_there _ _ _ c.requires.ready c.in-Some.ensures.s
 pub returns : goal.returns
 returns g c =
     let sure : c.go.result ≡ true = search rules in
-    fail_sure _ _ _ _ c.requires.ready c.in-Some.ensures.some (sym c.go.ensures.test ∙ sure) (c.go.ensures.yes sure) c.rollback.ensures.back c.rollback-2.ensures
+    fail_sure _ _ _ _ c.requires.ready c.in-Some.ensures.some (sym c.go.ensures.test ∙ sure)
+    (c.go.ensures.yes sure) c.rollback.ensures.back c.rollback-2.ensures

@@ -5,7 +5,8 @@ use Rattle.vm_step.proofs.steps.step.Goals as goal
 
 pub returns-in_default : goal.returns-in_default
 returns-in_default g c =
-    let none : slice_get c.args.code.now.ops (place_of c.args.run.now.thread) ≡ None = ap (λ k. slice_get c.args.code.now.ops k) (sym c.place.ensures) ∙ sym c.in_default.ensures.value in
+    let none : slice_get c.args.code.now.ops (place_of c.args.run.now.thread) ≡ None =
+    ap (λ k. slice_get c.args.code.now.ops k) (sym c.place.ensures) ∙ sym c.in_default.ensures.value in
     step_none g.W.Waits.pending c.args.code.now _ _ none
 
 pub act-requires-clause-char : goal.act-requires-clause-char
@@ -13,9 +14,12 @@ act-requires-clause-char g c = char_fits c.args.code.now c.place.result c.in-Som
 
 pub serve-requires : goal.serve-requires
 serve-requires g c =
-    asked_here g.W.Waits.pending c.args.code.now c.in-Some.op.now c.in_ok-asked.asked _ _ _ c.is_nested.ensures c.requires.there c.in_ok-asked.ensures.asks c.in_ok-asked.ensures.leaves
+    asked_here g.W.Waits.pending c.args.code.now c.in-Some.op.now c.in_ok-asked.asked _ _ _ c.is_nested.ensures c.requires.there
+    c.in_ok-asked.ensures.asks c.in_ok-asked.ensures.leaves
 
 pub returns : goal.returns
 returns g c =
-    let there : slice_get c.args.code.now.ops (place_of c.args.run.now.thread) ≡ Some c.in-Some.op.now = ap (λ k. slice_get c.args.code.now.ops k) (sym c.place.ensures) ∙ sym c.in-Some.ensures.value in
-    step_ok g.W.Waits.pending c.args.code.now c.in-Some.op.now c.in_ok-asked.asked c.serve.result _ _ _ _ _ c.is_nested.ensures there c.in_ok-asked.ensures.asks c.in_ok-asked.ensures.leaves c.serve.ensures
+    let there : slice_get c.args.code.now.ops (place_of c.args.run.now.thread) ≡ Some c.in-Some.op.now =
+    ap (λ k. slice_get c.args.code.now.ops k) (sym c.place.ensures) ∙ sym c.in-Some.ensures.value in
+    step_ok g.W.Waits.pending c.args.code.now c.in-Some.op.now c.in_ok-asked.asked c.serve.result _ _ _ _ _ c.is_nested.ensures there
+    c.in_ok-asked.ensures.asks c.in_ok-asked.ensures.leaves c.serve.ensures

@@ -4,13 +4,16 @@ use Rattle.vm_tasks.proofs.Keeping.{keeps_so}
 use Rattle.vm_tasks.proofs.table.cancel_since.Goals as goal
 
 pub returns-clause-scope : goal.returns-clause-scope
-returns-clause-scope g c = scope_so g.W.Waits.pending c.args.id c.args.bound c.args.tree.now c.clear_since.new.tree c.args.gone.now c.clear_since.new.gone c.clear_since.ensures.cleared
+returns-clause-scope g c = scope_so g.W.Waits.pending c.args.id c.args.bound c.args.tree.now c.clear_since.new.tree c.args.gone.now
+    c.clear_since.new.gone c.clear_since.ensures.cleared
 
 pub returns-clause-arms : goal.returns-clause-arms
-returns-clause-arms g c = arms_so g.W.Waits.pending c.args.id c.args.bound c.args.tree.now c.clear_since.new.tree c.args.gone.now c.clear_since.new.gone c.is_nested.ensures c.clear_since.ensures.cleared
+returns-clause-arms g c = arms_so g.W.Waits.pending c.args.id c.args.bound c.args.tree.now c.clear_since.new.tree c.args.gone.now
+    c.clear_since.new.gone c.is_nested.ensures c.clear_since.ensures.cleared
 
 pub returns-clause-alone : goal.returns-clause-alone
 returns-clause-alone g c = alone_so c.clear_since.new.tree c.args.id c.args.bound c.clear_since.ensures.nested c.clear_since.ensures.left
 
 pub returns-clause-each : goal.returns-clause-each
-returns-clause-each g c = keeps_so g.W.Waits.pending c.args.id c.args.bound c.args.tree.now c.clear_since.new.tree c.args.gone.now c.clear_since.new.gone c.clear_since.ensures.cleared
+returns-clause-each g c = keeps_so g.W.Waits.pending c.args.id c.args.bound c.args.tree.now c.clear_since.new.tree c.args.gone.now
+    c.clear_since.new.gone c.clear_since.ensures.cleared

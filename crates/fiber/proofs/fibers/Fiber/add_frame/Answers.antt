@@ -5,10 +5,12 @@ use Rattle.fiber.proofs.fibers.Fiber.add_frame.Goals as goal
 
 pub invariant_of-self-in_default : goal.invariant_of-self-in_default
 invariant_of-self-in_default c =
-    let all = added_high _ _ _ _ _ _ c.args.stack.items c.args.defers.items c.self.invariant.high c.in_default.ensures.ok c.in_ok-add.ensures.ok in
+    let all = added_high _ _ _ _ _ _ c.args.stack.items c.args.defers.items c.self.invariant.high c.in_default.ensures.ok
+    c.in_ok-add.ensures.ok in
     let size = size_in _ _ _ c.self.view_is in
     let few = c.requires in
     record { high = all.0; few = omega (arith, all.1, size, few) }
 
 pub returns-clause-ok : goal.returns-clause-ok
-returns-clause-ok c = added_in _ _ _ _ _ _ _ c.args.stack.items c.args.defers.items c.self.view_is c.in_default.ensures.ok c.in_ok-add.ensures.ok
+returns-clause-ok c = added_in _ _ _ _ _ _ _ c.args.stack.items c.args.defers.items c.self.view_is c.in_default.ensures.ok
+    c.in_ok-add.ensures.ok

@@ -2,7 +2,11 @@ use Rattle.fiber.proofs.Framed.{ended_case, ended_high, ended_none}
 use Rattle.fiber.proofs.fibers.Fiber.end_defer.Goals as goal
 
 pub invariant_of-self : goal.invariant_of-self
-invariant_of-self c = record { high = ended_high _ _ _ _ c.self.invariant.high c.take_note.ensures.some c.take_note.ensures.there c.take_note.ensures.same; few = c.self.invariant.few }
+invariant_of-self c = record {
+  high = ended_high _ _ _ _ c.self.invariant.high c.take_note.ensures.some c.take_note.ensures.there
+      c.take_note.ensures.same;
+  few = c.self.invariant.few;
+}
 
 pub returns-clause-some : goal.returns-clause-some
 returns-clause-some c = ended_case _ _ _ _ _ c.self.view_is c.self.invariant.high c.take_note.ensures.some c.take_note.ensures.there

@@ -28,8 +28,12 @@ defers_at-requires-clause-order c =
     omega (arith, all, c.height-above.ensures.all, c.height.ensures.all)
 
 pub defers_at-requires-clause-within : goal.defers_at-requires-clause-within
-defers_at-requires-clause-within c = rw c.height.ensures.all (through _ _ _ _ _ c.self.view_is c.requires c.from-from.ensures c.self.invariant.high)
+defers_at-requires-clause-within c = rw c.height.ensures.all
+    (through _ _ _ _ _ c.self.view_is c.requires c.from-from.ensures c.self.invariant.high)
 
 pub returns : goal.returns
 returns c =
-    defers_in_frame _ _ _ _ _ c.self.view_is c.requires c.from-from.ensures _ (c.defers_at.ensures ∙ ap (λ k. defers_in (k - c.height-above.result) (drop c.height-above.result c.self.inside.levels)) c.height.ensures.all ∙ ap (λ k. defers_in (height (take c.from-from.result c.self.inside.heads) - k) (drop k c.self.inside.levels)) c.height-above.ensures.all)
+    defers_in_frame _ _ _ _ _ c.self.view_is c.requires c.from-from.ensures _
+    (c.defers_at.ensures ∙ ap (λ k. defers_in (k - c.height-above.result) (drop c.height-above.result c.self.inside.levels))
+    c.height.ensures.all ∙ ap (λ k. defers_in (height (take c.from-from.result c.self.inside.heads) - k) (drop k c.self.inside.levels))
+    c.height-above.ensures.all)

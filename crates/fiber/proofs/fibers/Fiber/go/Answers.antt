@@ -11,10 +11,12 @@ returns-then-not-all_permit-clause-no c not_so =
 pub invariant_of-self : goal.invariant_of-self
 invariant_of-self c =
     let yes : c.all_permit.result ≡ true = search rules in
-    let all = gone_in _ _ _ _ _ c.self.view_is c.self.invariant.high c.requires (sym (ap (λ b. within b c.args.place) c.bounds.ensures) ∙ sym c.all_permit.ensures ∙ yes) c.set_place.ensures in
+    let all = gone_in _ _ _ _ _ c.self.view_is c.self.invariant.high c.requires (sym (ap (λ b. within b c.args.place) c.bounds.ensures) ∙
+    sym c.all_permit.ensures ∙ yes) c.set_place.ensures in
     record { high = all.1; few = rw all.2 c.self.invariant.few }
 
 pub returns-clause-yes : goal.returns-clause-yes
 returns-clause-yes c sure =
     let yes : c.all_permit.result ≡ true = search rules in
-    (gone_in _ _ _ _ _ c.self.view_is c.self.invariant.high c.requires (sym (ap (λ b. within b c.args.place) c.bounds.ensures) ∙ sym c.all_permit.ensures ∙ yes) c.set_place.ensures).0
+    (gone_in _ _ _ _ _ c.self.view_is c.self.invariant.high c.requires (sym (ap (λ b. within b c.args.place) c.bounds.ensures) ∙
+    sym c.all_permit.ensures ∙ yes) c.set_place.ensures).0

@@ -8,4 +8,5 @@ count-requires g c =
     omega (arith, size, c.requires.few, c.self.invariant.bounds)
 
 pub returns-clause-all : goal.returns-clause-all
-returns-clause-all g c = ap (λ k. c.args.count + k) c.count.ensures.all ∙ sym (height_in _ _ _ _ _ c.self.view_is c.self.invariant.bounds c.requires.few)
+returns-clause-all g c = ap (λ k. c.args.count + k) c.count.ensures.all ∙
+    sym (height_in _ _ _ _ _ c.self.view_is c.self.invariant.bounds c.requires.few)

@@ -8,4 +8,5 @@ span-requires-clause-within g c =
     omega (arith, size, c.requires.few, c.self.invariant.locals)
 
 pub returns : goal.returns
-returns g c = locals_got c.self.inside.places.items _ _ c.self.inside.bounds.lists _ c.self.view_is c.requires.some c.requires.few ∙ ap Some (sym c.span.ensures)
+returns g c = locals_got c.self.inside.places.items _ _ c.self.inside.bounds.lists _ c.self.view_is c.requires.some c.requires.few ∙
+    ap Some (sym c.span.ensures)

@@ -19,5 +19,6 @@ unreachable-requires g c =
 
 pub returns : goal.returns
 returns g c =
-    let there : slice_get c.self.inside.places.items (length c.self.inside.places.items - c.args.count) ≡ Some c.in-Some.place = search rules in
+    let there : slice_get c.self.inside.places.items (length c.self.inside.places.items - c.args.count) ≡ Some c.in-Some.place =
+    search rules in
     place_got _ _ _ _ _ _ c.self.view_is c.requires.some c.requires.few there

@@ -11,13 +11,15 @@ overflow_sub-len g c =
 
 pub overflow_sub-result : goal.overflow_sub-result
 overflow_sub-result g c =
-    let there : slice_get c.self.inside.bases.items (length c.self.inside.bases.items - c.args.lists) ≡ Some c.in-Some.base = search rules in
+    let there : slice_get c.self.inside.bases.items (length c.self.inside.bases.items - c.args.lists) ≡ Some c.in-Some.base =
+    search rules in
     let low = (count_in _ _ _ _ _ c.self.invariant (ap (λ l. l.lists) c.self.view_is) c.requires there).0 in
     search (rules, low)
 
 pub returns-in-Some-clause-all : goal.returns-in-Some-clause-all
 returns-in-Some-clause-all g c =
-    let there : slice_get c.self.inside.bases.items (length c.self.inside.bases.items - c.args.lists) ≡ Some c.in-Some.base = search rules in
+    let there : slice_get c.self.inside.bases.items (length c.self.inside.bases.items - c.args.lists) ≡ Some c.in-Some.base =
+    search rules in
     let sum = (count_in _ _ _ _ _ c.self.invariant (ap (λ l. l.lists) c.self.view_is) c.requires there).1 in
     rw sum (search rules)
 

@@ -27,7 +27,14 @@ returns g c =
     let all = span_within _ _ _ _ _ c.self.invariant (ap (λ l. l.lists) c.self.view_is) c.requires.order in
     let len : c.len.result ≡ length c.self.inside.items.items = search rules in
     let len2 : c.len-2.result ≡ length c.self.inside.items.items = search rules in
-    let end : c.len.result - c.count.result ≡ length c.self.inside.items.items - total (take c.args.over c.args.self.now.lists) = rw (len, c.count.ensures.all) refl in
-    let start : c.len-2.result - c.count-2.result ≡ length c.self.inside.items.items - total (take c.args.through c.args.self.now.lists) = rw (len2, c.count-2.ensures.all) refl in
-    let order : c.len-2.result - c.count-2.result ≤ c.len.result - c.count.result = omega (arith, all.0, all.1, len, len2, c.count.ensures.all, c.count-2.ensures.all) in
-    search (rules, span_in _ _ _ _ _ _ _ c.self.invariant (ap (λ l. l.lists) c.self.view_is) c.requires.order c.requires.within start end order)
+    let end : c.len.result - c.count.result ≡ length c.self.inside.items.items - total (take c.args.over c.args.self.now.lists) =
+    rw (len, c.count.ensures.all) refl in
+    let start : c.len-2.result - c.count-2.result ≡ length c.self.inside.items.items - total (take c.args.through c.args.self.now.lists) =
+    rw (len2, c.count-2.ensures.all) refl in
+    let order : c.len-2.result - c.count-2.result ≤ c.len.result - c.count.result =
+    omega (arith, all.0, all.1, len, len2, c.count.ensures.all, c.count-2.ensures.all) in
+    search (
+      rules,
+      span_in _ _ _ _ _ _ _ c.self.invariant (ap (λ l. l.lists) c.self.view_is) c.requires.order c.requires.within start end
+          order,
+    )

@@ -11,4 +11,5 @@ count-requires g c =
 pub returns : goal.returns
 returns g c =
     let size = size_in _ _ _ _ c.self.view_is in
-    c.count.ensures.all ∙ sym (defers_count _ _ _ c.self.inside.noted.lists c.self.invariant.defers (omega (arith, size, c.requires))) ∙ ap (λ l. length (defers_in c.args.count l)) c.self.view_is
+    c.count.ensures.all ∙ sym (defers_count _ _ _ c.self.inside.noted.lists c.self.invariant.defers (omega (arith, size, c.requires))) ∙
+    ap (λ l. length (defers_in c.args.count l)) c.self.view_is

@@ -10,4 +10,5 @@ span-requires-clause-within g c =
 pub returns : goal.returns
 returns g c =
     let size = size_in _ _ _ _ c.self.view_is in
-    ap reverse c.span.ensures ∙ defers_part _ _ _ _ _ _ c.self.view_is c.self.invariant.defers c.requires.order (omega (arith, size, c.requires.within))
+    ap reverse c.span.ensures ∙ defers_part _ _ _ _ _ _ c.self.view_is c.self.invariant.defers c.requires.order
+    (omega (arith, size, c.requires.within))

@@ -19,4 +19,5 @@ join-requires-3 g c =
 
 pub returns : goal.returns
 returns g c =
-    rw (c.join.ensures.lists, c.join-2.ensures.lists, c.join-3.ensures.lists) (merged_in _ _ _ _ c.self.view_is c.self.invariant.defers c.self.invariant.noted c.requires)
+    rw (c.join.ensures.lists, c.join-2.ensures.lists, c.join-3.ensures.lists)
+    (merged_in _ _ _ _ c.self.view_is c.self.invariant.defers c.self.invariant.noted c.requires)

@@ -11,4 +11,5 @@ count-requires g c =
 pub returns : goal.returns
 returns g c =
     let size = size_in _ _ _ _ c.self.view_is in
-    c.count.ensures.all ∙ sym (noted_count _ _ c.self.inside.defers.lists _ c.self.invariant.noted (omega (arith, size, c.requires))) ∙ ap (λ l. length (noted_in c.args.count l)) c.self.view_is
+    c.count.ensures.all ∙ sym (noted_count _ _ c.self.inside.defers.lists _ c.self.invariant.noted (omega (arith, size, c.requires))) ∙
+    ap (λ l. length (noted_in c.args.count l)) c.self.view_is

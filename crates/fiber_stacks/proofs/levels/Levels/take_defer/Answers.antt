@@ -7,4 +7,5 @@ returns-in_err-index-clause-none g c = search (rules, defers_none _ _ _ _ c.self
 
 pub returns-clause-some : goal.returns-clause-some
 returns-clause-some g c =
-    taken_in _ _ _ _ _ _ _ _ c.self.view_is c.self.invariant.defers c.self.invariant.noted c.in_ok-index.ensures.some c.in_ok-index.ensures.there c.add.ensures.lists
+    taken_in _ _ _ _ _ _ _ _ c.self.view_is c.self.invariant.defers c.self.invariant.noted c.in_ok-index.ensures.some
+    c.in_ok-index.ensures.there c.add.ensures.lists

@@ -11,7 +11,8 @@ invariant_of-self-in-Ok c =
     record {
       ordered = c.in-Ok.ensures.ordered;
       kept = rw (c.in-Ok.ensures.entries, pushed) (kept_pushed _ _ _ kept refl (rw c.given.ensures (given_is c.args.wait.kind)));
-      placed = entering _ _ _ _ c.args.wait.number c.self.invariant.placed _ (absent_above _ _ kept above) c.in-Ok.ensures.updates.0 (rw c.where_of-place.ensures at c.in_ok-insert.ensures.ok);
+      placed = entering _ _ _ _ c.args.wait.number c.self.invariant.placed _ (absent_above _ _ kept above) c.in-Ok.ensures.updates.0
+          (rw c.where_of-place.ensures at c.in_ok-insert.ensures.ok);
     }
 
 pub returns-in-Ok-clause-ok : goal.returns-in-Ok-clause-ok

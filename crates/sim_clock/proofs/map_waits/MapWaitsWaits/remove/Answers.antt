@@ -7,7 +7,8 @@ pub invariant_of-self : goal.invariant_of-self
 invariant_of-self c = record {
   ordered = c.in-Some.ensures.ordered;
   kept = rw c.in-Some.ensures.entries (kept_removed _ _ c.self.invariant.kept);
-  placed = leaving _ _ _ _ c.args.number c.self.invariant.placed c.in-Some.pending (sym c.in-Some.ensures.value) c.in-Some.ensures.updates.0 (rw c.where_of.ensures at c.remove-in-Some.ensures);
+  placed = leaving _ _ _ _ c.args.number c.self.invariant.placed c.in-Some.pending (sym c.in-Some.ensures.value) c.in-Some.ensures.updates.0
+      (rw c.where_of.ensures at c.remove-in-Some.ensures);
 }
 
 pub returns-in-Some : goal.returns-in-Some

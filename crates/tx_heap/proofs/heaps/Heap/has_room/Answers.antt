@@ -10,6 +10,8 @@ returns g c =
     let sum = c.saturating_add.result in
     λ kind.
     let cell = new_cell kind (vals_of c.args.slots.now) in (
-      λ h. add_keeps cells cell c.weight.result c.cell_weight.result sum c.weight.ensures.sum c.cell_weight.ensures c.saturating_add.ensures (leb-true sum 16000000 h),
-      λ p. le-leb sum 16000000 (add_kept cells cell c.weight.result c.cell_weight.result sum c.weight.ensures.sum c.cell_weight.ensures c.saturating_add.ensures p),
+      λ h. add_keeps cells cell c.weight.result c.cell_weight.result sum c.weight.ensures.sum c.cell_weight.ensures c.saturating_add.ensures
+          (leb-true sum 16000000 h),
+      λ p. le-leb sum 16000000 (add_kept cells cell c.weight.result c.cell_weight.result sum c.weight.ensures.sum c.cell_weight.ensures
+          c.saturating_add.ensures p),
     )

@@ -6,4 +6,11 @@ use Rattle.tx_heap.proofs.light_list.LightList.len.Goals as goal
 
 pub overflow_cast-result : goal.overflow_cast-result
 overflow_cast-result c =
-    omega (arith, c.len.ensures, length-map c.self.inside.cells.items cell_of, length_store_weight (cells_of c.self.inside.cells.items), c.self.invariant.sum, c.self.invariant.light)
+    omega (
+      arith,
+      c.len.ensures,
+      length-map c.self.inside.cells.items cell_of,
+      length_store_weight (cells_of c.self.inside.cells.items),
+      c.self.invariant.sum,
+      c.self.invariant.light,
+    )

@@ -15,7 +15,9 @@ invariant_of-self-2 c =
     let after = store_of c.push-2.new.self in
     let log : c.note.new.log.items ≡ c.self.inside.log.items ++ entry.Added ∷ [] = cc in
     let some : 0 < length c.self.inside.marks.items = search rules in
-    whole_noted c.self.inside.log.items c.note.new.log.items entry.Added before after (reverse c.self.inside.marks.items) log (reverse_some c.self.inside.marks.items some) (push_goes before after cell c.in_ok-address.ensures.ok) (push_can before after cell c.in_ok-address.ensures.ok) c.self.invariant
+    whole_noted c.self.inside.log.items c.note.new.log.items entry.Added before after (reverse c.self.inside.marks.items) log
+    (reverse_some c.self.inside.marks.items some) (push_goes before after cell c.in_ok-address.ensures.ok)
+    (push_can before after cell c.in_ok-address.ensures.ok) c.self.invariant
 
 pub returns-clause-ok : goal.returns-clause-ok
 returns-clause-ok c =
@@ -23,9 +25,12 @@ returns-clause-ok c =
     let before = store_of c.self.inside.cells in
     let after = store_of c.push-2.new.self in
     let log : c.note.new.log.items ≡ c.self.inside.log.items ++ entry.Added ∷ [] = cc in
-    state_push _ before after _ _ cell (ap state_of c.self.view_is) c.in_ok-address.ensures.ok (copies_noted c.self.inside.log.items c.note.new.log.items entry.Added before after (reverse c.self.inside.marks.items) log (push_goes before after cell c.in_ok-address.ensures.ok) c.self.invariant)
+    state_push _ before after _ _ cell (ap state_of c.self.view_is) c.in_ok-address.ensures.ok
+    (copies_noted c.self.inside.log.items c.note.new.log.items entry.Added before after (reverse c.self.inside.marks.items) log
+    (push_goes before after cell c.in_ok-address.ensures.ok) c.self.invariant)
 
 pub returns-clause-due : goal.returns-clause-due
 returns-clause-due c =
     let log : c.note.new.log.items ≡ c.self.inside.log.items ++ entry.Added ∷ [] = cc in
-    raised_noted 1 c.self.inside.log.items c.note.new.log.items entry.Added (reverse c.self.inside.marks.items) _ (ap dues_of c.self.view_is) log (omega arith)
+    raised_noted 1 c.self.inside.log.items c.note.new.log.items entry.Added (reverse c.self.inside.marks.items) _
+    (ap dues_of c.self.view_is) log (omega arith)

@@ -16,7 +16,10 @@ invariant_of-self-2 c =
     let after = store_of c.put-old.new.self in
     let log : c.note.new.log.items ≡ c.self.inside.log.items ++ entry.Slot at old ∷ [] = cc in
     let some : 0 < length c.self.inside.marks.items = search rules in
-    whole_noted c.self.inside.log.items c.note.new.log.items (entry.Slot at old) before after (reverse c.self.inside.marks.items) log (reverse_some c.self.inside.marks.items some) (set_goes before after at old (val_of c.args.value) c.put-old.ensures.new c.put-old.ensures.old) (set_can before after at old (val_of c.args.value) c.put-old.ensures.new c.put-old.ensures.old) c.self.invariant
+    whole_noted c.self.inside.log.items c.note.new.log.items (entry.Slot at old) before after (reverse c.self.inside.marks.items) log
+    (reverse_some c.self.inside.marks.items some)
+    (set_goes before after at old (val_of c.args.value) c.put-old.ensures.new c.put-old.ensures.old)
+    (set_can before after at old (val_of c.args.value) c.put-old.ensures.new c.put-old.ensures.old) c.self.invariant
 
 pub returns-clause-ok : goal.returns-clause-ok
 returns-clause-ok c =
@@ -25,11 +28,14 @@ returns-clause-ok c =
     let before = store_of c.self.inside.cells in
     let after = store_of c.put-old.new.self in
     let log : c.note.new.log.items ≡ c.self.inside.log.items ++ entry.Slot at old ∷ [] = cc in
-    state_set _ before after _ _ c.args.cell c.args.slot (val_of c.args.value) (ap state_of c.self.view_is) c.put-old.ensures.new (copies_noted c.self.inside.log.items c.note.new.log.items (entry.Slot at old) before after (reverse c.self.inside.marks.items) log (set_goes before after at old (val_of c.args.value) c.put-old.ensures.new c.put-old.ensures.old) c.self.invariant)
+    state_set _ before after _ _ c.args.cell c.args.slot (val_of c.args.value) (ap state_of c.self.view_is) c.put-old.ensures.new
+    (copies_noted c.self.inside.log.items c.note.new.log.items (entry.Slot at old) before after (reverse c.self.inside.marks.items) log
+    (set_goes before after at old (val_of c.args.value) c.put-old.ensures.new c.put-old.ensures.old) c.self.invariant)
 
 pub returns-clause-due : goal.returns-clause-due
 returns-clause-due c =
     let at : Address = record { cell = c.args.cell; slot = c.args.slot } in
     let old = c.put-old.result in
     let log : c.note.new.log.items ≡ c.self.inside.log.items ++ entry.Slot at old ∷ [] = cc in
-    raised_noted 2 c.self.inside.log.items c.note.new.log.items (entry.Slot at old) (reverse c.self.inside.marks.items) _ (ap dues_of c.self.view_is) log (omega arith)
+    raised_noted 2 c.self.inside.log.items c.note.new.log.items (entry.Slot at old) (reverse c.self.inside.marks.items) _
+    (ap dues_of c.self.view_is) log (omega arith)

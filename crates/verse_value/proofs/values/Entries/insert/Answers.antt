@@ -16,4 +16,5 @@ returns-in-Some-clause-ok c =
 
 pub returns-in-None-clause-ok : goal.returns-in-None-clause-ok
 returns-in-None-clause-ok c =
-    subst (λ (ps : Pairs). OnOk c.push.result (c.push.new.self ≡ ps)) (sym (with_entry_absent c.args.self.now c.args.key (val_of c.args.value) (sym c.in-None.ensures))) c.push.ensures.ok
+    subst (λ (ps : Pairs). OnOk c.push.result (c.push.new.self ≡ ps))
+    (sym (with_entry_absent c.args.self.now c.args.key (val_of c.args.value) (sym c.in-None.ensures))) c.push.ensures.ok

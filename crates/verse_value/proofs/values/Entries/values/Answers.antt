@@ -8,4 +8,5 @@ use Rattle.verse_value.proofs.values.Entries.values.Goals as goal
 
 pub returns : goal.returns
 returns c =
-    ap (λ (l : List Value). vals (vals_of l)) c.as_slice.ensures.value ∙ sym (vals_seen c.self.inside.keys.keys c.self.inside.values.items c.self.invariant.0) ∙ ap vals_in c.self.view_is
+    ap (λ (l : List Value). vals (vals_of l)) c.as_slice.ensures.value ∙
+    sym (vals_seen c.self.inside.keys.keys c.self.inside.values.items c.self.invariant.0) ∙ ap vals_in c.self.view_is

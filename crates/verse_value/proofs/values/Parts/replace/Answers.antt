@@ -12,17 +12,27 @@ index_mut-requires c = omega (arith, c.requires, count_is c.self.inside.items.it
 
 pub invariant_of-self : goal.invariant_of-self
 invariant_of-self c =
-    let within : c.args.at < length c.self.inside.items.items = omega (arith, c.requires, count_is c.self.inside.items.items c.args.self.now c.self.view_is) in
+    let within : c.args.at < length c.self.inside.items.items =
+    omega (arith, c.requires, count_is c.self.inside.items.items c.args.self.now c.self.view_is) in
     let here : Some (val_of c.replace-old.result) ≡ nth (vals (vals_of c.self.inside.items.items)) c.args.at =
-    ap (λ (v : Value). Some (val_of v)) c.replace-old.ensures.value ∙ nth_here c.self.inside.items.items c.args.at c.index_mut.result.now within c.index_mut.ensures.value in
-    set_kept c.self.inside.items.items (slice_set c.self.inside.items.items c.args.at c.replace-old.new.dest) c.self.inside.size c.size.result c.size-after.result c.resized-self-inside.result c.self.invariant c.as_slice.result.now c.as_slice.ensures.value c.resized-self-inside.ensures
-    c.args.at c.replace-old.result c.args.part (ap (λ (v : Value). slice_set c.self.inside.items.items c.args.at v) c.replace-old.ensures.after) here c.size.ensures c.size-after.ensures
+    ap (λ (v : Value). Some (val_of v)) c.replace-old.ensures.value ∙
+    nth_here c.self.inside.items.items c.args.at c.index_mut.result.now within c.index_mut.ensures.value in
+    set_kept c.self.inside.items.items (slice_set c.self.inside.items.items c.args.at c.replace-old.new.dest) c.self.inside.size
+    c.size.result c.size-after.result c.resized-self-inside.result c.self.invariant c.as_slice.result.now c.as_slice.ensures.value
+    c.resized-self-inside.ensures
+    c.args.at c.replace-old.result c.args.part
+    (ap (λ (v : Value). slice_set c.self.inside.items.items c.args.at v) c.replace-old.ensures.after) here c.size.ensures
+    c.size-after.ensures
 
 pub returns-clause-old : goal.returns-clause-old
 returns-clause-old c =
-    let within : c.args.at < length c.self.inside.items.items = omega (arith, c.requires, count_is c.self.inside.items.items c.args.self.now c.self.view_is) in
-    sym (ap (λ (v : Value). Some (val_of v)) c.replace-old.ensures.value ∙ nth_here c.self.inside.items.items c.args.at c.index_mut.result.now within c.index_mut.ensures.value ∙ ap (λ vs. nth vs c.args.at) c.self.view_is)
+    let within : c.args.at < length c.self.inside.items.items =
+    omega (arith, c.requires, count_is c.self.inside.items.items c.args.self.now c.self.view_is) in
+    sym (ap (λ (v : Value). Some (val_of v)) c.replace-old.ensures.value ∙
+    nth_here c.self.inside.items.items c.args.at c.index_mut.result.now within c.index_mut.ensures.value ∙
+    ap (λ vs. nth vs c.args.at) c.self.view_is)
 
 pub returns-clause-new : goal.returns-clause-new
 returns-clause-new c =
-    set_seen c.self.inside.items.items c.args.at c.replace-old.new.dest ∙ (λ i. with_nth (c.self.view_is i) c.args.at (λ _. val_of (c.replace-old.ensures.after i)))
+    set_seen c.self.inside.items.items c.args.at c.replace-old.new.dest ∙
+    (λ i. with_nth (c.self.view_is i) c.args.at (λ _. val_of (c.replace-old.ensures.after i)))
