@@ -60,7 +60,8 @@ pub trait Waits {
     ghost pending: { Self → List Pending };
 
     /// Adds a wait, whose number is above those of all waits. It is due at the moment of
-    /// `WaitKind::At`, and otherwise not before it is woken. Takes the room that a later wake needs.
+    /// `WaitKind::At`, and otherwise not before it is woken. Takes the room that a later wake
+    /// needs.
     fn add(&mut self, wait: Wait) -> Result<(), Memory>
         requires { IsAboveAll wait.number (pending self.old) }
         ensures ok { OnOk result (pending self.new ≡ added (pending self.old) wait) }

@@ -216,8 +216,8 @@ impl<T> TaskTree<T> {
         change_at(&mut self.nodes, Some(id), background);
     }
 
-    /// Removes a live task and all that it encloses, and tells the visitor of each: of later siblings
-    /// before earlier ones, and of each task after those that it encloses.
+    /// Removes a live task and all that it encloses, and tells the visitor of each: of later
+    /// siblings before earlier ones, and of each task after those that it encloses.
     pub fn cancel<V: Visit<T>>(&mut self, id: usize, visit: &mut V)
         requires { IsLive id self.old }
         ensures { (gone : List (Task T)) × Cancels id self.old gone self.new ×

@@ -11,8 +11,8 @@ use task_tree::tree::TaskTree;
 ///
 /// The items are 1, 2, .. as the tasks are added, and a task is named by its item. `r` adds a task
 /// without a parent, `a:1.0` one under 1 as its arm at place 0, `b:1.2` one in the background at
-/// depth 2, `f:1` finishes, `l:1.2` leaves behind at depth 2, `c:1` cancels, and `k:1.2` cancels what is
-/// in the background at depth 2.
+/// depth 2, `f:1` finishes, `l:1.2` leaves behind at depth 2, `c:1` cancels, and `k:1.2` cancels
+/// what is in the background at depth 2.
 const ROWS: &str = "\
 r = 1 -
 r r = 12 -

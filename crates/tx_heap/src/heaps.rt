@@ -57,8 +57,8 @@ pub trait Heap {
         ensures due { OnOk result (Raised 2 (dues self.old) (dues self.new)) }
         ensures same_dues { OnErr result (dues self.new ≡ dues self.old) };
 
-    /// Writes at a path in a slot, as `verse_write::writes::write` does, and hands back what is wanted
-    /// of the value written. The cell and the slot are there.
+    /// Writes at a path in a slot, as `verse_write::writes::write` does, and hands back what is
+    /// wanted of the value written. The cell and the slot are there.
     ///
     /// The refusals are those of that call, and last `Fault(Kind::Store)`, exactly where the cells
     /// would weigh more than 16000000 in all.
@@ -183,8 +183,8 @@ pub trait Heap {
         ensures sum { result ≡ store_weight (state self.now).cells }
         ensures light { IsLight (state self.now).cells };
 
-    /// Whether a cell with these slots may be added: whether the cells then weigh at most 16000000 in
-    /// all.
+    /// Whether a cell with these slots may be added: whether the cells then weigh at most 16000000
+    /// in all.
     fn has_room(&self, slots: &[Value]) -> bool
         ensures { (kind : CellKind) →
             (IsTrue result ↔ IsLight (with_cell (state self.now).cells

@@ -131,8 +131,8 @@ impl LightCells {
         old
     }
 
-    /// Writes at a path in a slot, where the sum stays within its limit, and hands back what is wanted
-    /// of the value written, and what undoes the write.
+    /// Writes at a path in a slot, where the sum stays within its limit, and hands back what is
+    /// wanted of the value written, and what undoes the write.
     pub fn write(
         &mut self,
         alloc: Global,

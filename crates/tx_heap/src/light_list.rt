@@ -127,8 +127,8 @@ impl LightList {
         self.weight = reweighed(self.weight, weight(&old), after);
     }
 
-    /// Writes at a path in a slot, where the sum stays within its limit, and hands back what is wanted
-    /// of the value written.
+    /// Writes at a path in a slot, where the sum stays within its limit, and hands back what is
+    /// wanted of the value written.
     pub fn write(
         &mut self,
         alloc: Global,

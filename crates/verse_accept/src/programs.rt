@@ -45,8 +45,9 @@ pub struct Accepted {
 }
 
 /// The program in 1 to 16 files: the items of all files, in the order of the files, with all nodes
-/// numbered, what its names stand for, and the types of its nodes. It is refused at the first place,
-/// in the order of the layers, of the files, and of the places in a file, that breaks a rule.
+/// numbered, what its names stand for, and the types of its nodes. It is refused at the first
+/// place, in the order of the layers, of the files, and of the places in a file, that breaks a
+/// rule.
 pub fn accept(alloc: Global, files: &[Vec<u8>]) -> Result<Accepted, Front>
     requires { length files.now ≤ 16 }
     ensures accepted { IfOk result
@@ -65,8 +66,8 @@ pub fn accept(alloc: Global, files: &[Vec<u8>]) -> Result<Accepted, Front>
     Ok(Accepted { tree, checked })
 }
 
-/// Tests the rules over a whole program: those of names, of types and effects, its size, and whether
-/// it is built.
+/// Tests the rules over a whole program: those of names, of types and effects, its size, and
+/// whether it is built.
 fn test(alloc: Global, tree: &Tree) -> Result<Checked, Front>
     requires numbered { IsNumbered (map item_of tree.now.items) tree.now.nodes }
     requires counted { tree.now.nodes ≡ program_nodes (map item_of tree.now.items) }

@@ -89,8 +89,8 @@ fn put_part(slots: &mut Slots<Value>, slot: u32, value: Value) -> Value
     mem::replace(slots.part_mut(slot as usize), value)
 }
 
-/// Writes at a path in a slot, as `verse_write::writes::write_logged` does, or, where no copy of the
-/// value written is wanted, as `store_logged`. The cell and the slot are there.
+/// Writes at a path in a slot, as `verse_write::writes::write_logged` does, or, where no copy of
+/// the value written is wanted, as `store_logged`. The cell and the slot are there.
 ///
 /// The refusals are those of that call, and then `Fault(Kind::Store)` where the slot would weigh
 /// more than `spare` above what it weighs. After each refusal the cells are unchanged.

@@ -215,7 +215,8 @@ pub struct Checked {
 
 /// What is found at the nodes of a program, whose names stand for this: their types, where what
 /// breaks a rule has the type never; what they refer to; which define variables; and the least rule
-/// of types that one of them breaks, E050 to E059 or E070, or none. Want of memory alone is an error.
+/// of types that one of them breaks, E050 to E059 or E070, or none. Want of memory alone is an
+/// error.
 pub fn look(alloc: Global, tree: &Tree, names: &Names) -> Result<Found, Memory>
     requires numbered { AreNumbered (map item_of tree.now.items) }
     ensures types { IfOk result (λ l. map ty_of l.types ≡

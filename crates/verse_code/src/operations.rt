@@ -81,8 +81,8 @@ pub enum Op {
     New(u32),
     /// 34: Pops a cell and pushes its slot of this number.
     Load(u32),
-    /// 35: Pops a value, as many indices as `indices` says, and a cell; writes into the slot of this
-    /// number in this mode (0 set, 1 add, 2 subtract, 3 multiply); pushes the value.
+    /// 35: Pops a value, as many indices as `indices` says, and a cell; writes into the slot of
+    /// this number in this mode (0 set, 1 add, 2 subtract, 3 multiply); pushes the value.
     Store {
         slot: u32,
         indices: u32,
@@ -109,7 +109,8 @@ pub enum Op {
     Fail,
     /// 45: Pops the arguments and calls the function.
     Call(u32),
-    /// 46: Calls the method of the first number, with as many arguments as the second says, of the object below them.
+    /// 46: Calls the method of the first number, with as many arguments as the second says, of the
+    /// object below them.
     Method(u32, u32),
     /// 47: Pops the result and leaves the frame.
     Return,
@@ -142,8 +143,8 @@ pub enum Op {
     Spawn(u32),
     /// 59: As `Method`, in a new task that runs at once.
     SpawnMethod(u32, u32),
-    /// 60: Begins as many arms as `arms` says, those of the `Arm` operations that follow; `kind` is 0
-    /// for sync, 1 for race, 2 for rush.
+    /// 60: Begins as many arms as `arms` says, those of the `Arm` operations that follow; `kind` is
+    /// 0 for sync, 1 for race, 2 for rush.
     Group {
         kind: u32,
         arms: u32,

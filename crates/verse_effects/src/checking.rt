@@ -138,8 +138,8 @@ pub fn least_fault(alloc: Global, tree: &Tree, names: &Names) -> Result<Option<F
     Ok(seen.fault)
 }
 
-/// Nothing, or the refusal of a program for the least rule of effects, E060 to E068, that one of its
-/// nodes breaks.
+/// Nothing, or the refusal of a program for the least rule of effects, E060 to E068, that one of
+/// its nodes breaks.
 pub fn effects(alloc: Global, tree: &Tree, names: &Names) -> Result<(), Front>
     requires numbered { AreNumbered (map item_of tree.now.items) }
     ensures fine { IfOk result (λ _. (n c : ℕ) →

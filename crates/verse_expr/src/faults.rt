@@ -20,7 +20,8 @@ pub enum ParseFault {
     At { index: usize, rule: Rule },
 }
 
-/// The fault of toks of which a reader left some: with the first of those, or the end, nothing goes on.
+/// The fault of toks of which a reader left some: with the first of those, or the end, nothing goes
+/// on.
 pub fn fault_of(toks: &[Tok], why: ReadFault) -> ParseFault
     requires within { (left : ℕ) → why ≡ read_fault.Stuck left → left ≤ length toks.now }
     ensures left { (index : ℕ) (rule : Rule) → result ≡ fault.At index rule →
@@ -41,8 +42,8 @@ pub fn fault_of(toks: &[Tok], why: ReadFault) -> ParseFault
     }
 }
 
-/// The rule that the tok of this index breaks, with which nothing goes on: E069 where it is left out
-/// of the language, and otherwise E030, at the end too.
+/// The rule that the tok of this index breaks, with which nothing goes on: E069 where it is left
+/// out of the language, and otherwise E030, at the end too.
 pub fn stop_rule(toks: &[Tok], index: usize) -> Rule
     requires { index ≤ length toks.now }
     ensures { result.0 ≡ stop_rule (ahead (drop index toks.now)) }

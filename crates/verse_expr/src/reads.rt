@@ -30,8 +30,8 @@ use verse_reading::types::type_at;
 /// The type at an index, and the index behind it.
 ///
 /// Where the toks from `at` on begin with a type, it is the answer, whatever follows. Otherwise the
-/// answer is `At` with the greatest index up to which they begin one, and with E069 where the tok of
-/// that index is left out of the language, and E030 where it is another or there is none.
+/// answer is `At` with the greatest index up to which they begin one, and with E069 where the tok
+/// of that index is left out of the language, and E030 where it is another or there is none.
 #[tactic(auto, using(crate::proofs::Ends::type_stops, crate::proofs::Ends::type_once, crate::proofs::Ends::type_greatest))]
 pub fn ty(
     alloc: Global,
@@ -62,9 +62,10 @@ pub fn ty(
 
 /// The expression at an index, and the index behind it.
 ///
-/// The answer is the greatest index up to which the toks from `at` on begin an expression: where they
-/// are one, its tree, and the toks from `at` to it spell no other; otherwise `At`, with E069 where the
-/// tok of that index is left out of the language, and E030 where it is another or there is none.
+/// The answer is the greatest index up to which the toks from `at` on begin an expression: where
+/// they are one, its tree, and the toks from `at` to it spell no other; otherwise `At`, with E069
+/// where the tok of that index is left out of the language, and E030 where it is another or there
+/// is none.
 #[tactic(auto, using(crate::proofs::Ends::phrase_stops, crate::proofs::Ends::phrase_refused, crate::proofs::Ends::phrase_greatest, crate::proofs::Alone::phrase_once))]
 pub fn expr(
     alloc: Global,

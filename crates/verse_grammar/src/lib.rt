@@ -1,8 +1,8 @@
 //! The grammar: which toks spell which trees, and what the next tok decides.
 //!
 //! To be read in this order: `phrases`, what the grammar speaks of; `starts`, what the first tok of
-//! a phrase says of it; `laws_spelled`, what is spelled is read, and spells one tree; `laws_begins`,
-//! where reading stops.
+//! a phrase says of it; `laws_spelled`, what is spelled is read, and spells one tree;
+//! `laws_begins`, where reading stops.
 #![tactic(auto)]
 
 pub mod laws_begins;

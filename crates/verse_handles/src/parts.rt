@@ -1,4 +1,5 @@
-//! Lists of parts that hold trees: holes of a text, pairs of a map, fields that an instance is given.
+//! Lists of parts that hold trees: holes of a text, pairs of a map, fields that an instance is
+//! given.
 
 ghost use Rattle.std.specs.Prelude.{◌≡◌, [], ◌∷◌, ◌++◌, OnOk, OnErr, map};
 ghost use Rattle.verse_tree.specs.View.{tree_of, hole_of, pair_of, given_of};

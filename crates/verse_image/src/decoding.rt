@@ -132,8 +132,8 @@ fn ended(code: Code, rest: &[u8]) -> Result<Code, ReadFault>
     }
 }
 
-/// The code that the bytes spell. Bytes that are no image are refused with the first failing place from
-/// the left.
+/// The code that the bytes spell. Bytes that are no image are refused with the first failing place
+/// from the left.
 pub fn decode(alloc: Global, bytes: &[u8]) -> Result<Code, ImageFault>
     // What is read is spelled so.
     ensures found { IfOk result (λ code. (version : ℕ) × Image version code bytes.now) }

@@ -32,8 +32,8 @@ pub fn bytes_behind()
         Image version code bytes → image_at (bytes ++ b ∷ more) ≡ Err (flaw 7 (length (b ∷ more))) }
 {}
 
-/// A fault is the first from the left: but for bytes that end too early, it stands as it is, at the same
-/// place and by the same rule, whatever follows.
+/// A fault is the first from the left: but for bytes that end too early, it stands as it is, at the
+/// same place and by the same rule, whatever follows.
 pub fn first_fault()
     ensures { (bytes : List ℕ) (b : ℕ) (more : List ℕ) (f : Flaw) → image_at bytes ≡ Err f →
         (f ≡ flaw 3 0) ⊎ (image_at (bytes ++ b ∷ more) ≡
@@ -46,8 +46,8 @@ pub fn front_has_no_fault()
     ensures { FrontHasNoFault }
 {}
 
-/// For every bound: a number that is read stands in its one shortest spelling and is below the bound, and
-/// one below it that its bytes can spell is read. So are numbers with a sign.
+/// For every bound: a number that is read stands in its one shortest spelling and is below the
+/// bound, and one below it that its bytes can spell is read. So are numbers with a sign.
 pub fn numbers_are_exact()
     ensures read_is_spelled { ReadIsSpelled }
     ensures spelled_is_read { SpelledIsRead }

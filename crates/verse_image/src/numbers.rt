@@ -127,7 +127,8 @@ fn signed_digits(
     }
 }
 
-/// A number with a sign, its size below `end`, of at most `most` bytes: whether it is negative, and its size.
+/// A number with a sign, its size below `end`, of at most `most` bytes: whether it is negative, and
+/// its size.
 pub fn signed_below(most: u8, end: u64, bytes: &[u8]) -> Result<(bool, u64, &[u8]), ReadFault>
     requires { 64 ≤ end }
     ensures reads { Gives (λ x. ((x.0, x.1), x.2.now)) result

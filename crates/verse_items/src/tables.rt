@@ -159,8 +159,8 @@ fn class_table(
     })
 }
 
-/// All classes, by their numbers. Where classes inherit in a circle, each has as many fields as there
-/// are classes times those of the circle.
+/// All classes, by their numbers. Where classes inherit in a circle, each has as many fields as
+/// there are classes times those of the circle.
 pub fn class_tables(alloc: Global, known: &Known) -> Result<Items<ClassInfo>, Memory>
     ensures { IfOk result (λ r. classes_of r ≡ tables.class_tables (known_of known.now)) }
 {

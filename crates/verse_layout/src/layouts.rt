@@ -81,9 +81,9 @@ fn walk(alloc: Global, bytes: &[u8], tokens: &[Token]) -> Result<Vec<Tok>, Front
 ///
 /// `bytes` is the file, of at most `MOST_FILE_BYTES` bytes, and `tokens` are its tokens. Refusals:
 /// E020 at a token that no line may have there, or at the end of a file whose last token is an
-/// opener; E021 at a closing bracket that closes none or, at the file's end, at the innermost bracket
-/// that is open; E022 at the first tok that brings the nesting load above `MOST_LOAD`. At one token
-/// E020 comes before E021. The list has at most four toks for each token.
+/// opener; E021 at a closing bracket that closes none or, at the file's end, at the innermost
+/// bracket that is open; E022 at the first tok that brings the nesting load above `MOST_LOAD`. At
+/// one token E020 comes before E021. The list has at most four toks for each token.
 pub fn layout(alloc: Global, bytes: &[u8], tokens: &[Token]) -> Result<Vec<Tok>, Front>
     requires size { length bytes.now ≤ MOST_FILE_BYTES }
     requires lines { All (Lies bytes.now) tokens.now }

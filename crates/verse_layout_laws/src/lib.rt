@@ -1,7 +1,7 @@
 //! Laws of the layout of tokens, and the tests of `verse_layout`.
 //!
-//! The laws stand in `laws`, and what they say in `specs/Laws`. Crates above cite `proofs/Unique`, its
-//! public lemmas.
+//! The laws stand in `laws`, and what they say in `specs/Laws`. Crates above cite `proofs/Unique`,
+//! its public lemmas.
 #![tactic(auto)]
 
 pub mod laws;

@@ -1,8 +1,8 @@
 //! Every rule and every refusal, over a small notation: a letter is a name and `e` an `else`, `.`
 //! stands for `=>`, `'`, `-` and `!` for the parts of a text with holes, `|` for a line's end, `_`
 //! for a blank and `>` for a tab; the other signs are marks. Behind `~` stands what is wanted: the
-//! toks, with an Open, a Sep and a Close as `<`, `/` and `>` and their places; or how many they are;
-//! or the refusal.
+//! toks, with an Open, a Sep and a Close as `<`, `/` and `>` and their places; or how many they
+//! are; or the refusal.
 
 ghost use Rattle.std.specs.Prelude.{◌≤◌, length, IsTrue};
 ghost use Rattle.std.specs.List.{All};

@@ -3,8 +3,8 @@
 //! To be read in this order: `tokens`, what is answered; `rules`, `bytes`, `words`, `marks`,
 //! `numbers`, `texts`, `comments`, of which pieces are made; `pieces`, what begins at a place;
 //! `places`, `cursors`, `lexer`, the cut of a file; `contents`, what a text stands for; `laws`.
-//! How each piece is spelled is said by `verse_lex_laws`. The public lemmas, which crates above cite,
-//! are `proofs/Unique`, `proofs/Bounds` and `proofs/Pushes`.
+//! How each piece is spelled is said by `verse_lex_laws`. The public lemmas, which crates above
+//! cite, are `proofs/Unique`, `proofs/Bounds` and `proofs/Pushes`.
 #![tactic(auto)]
 
 mod bytes;

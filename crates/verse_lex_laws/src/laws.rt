@@ -21,8 +21,8 @@ pub fn broken_rules()
     ensures one { OneBreak }
 {}
 
-/// A token of a file has an indentation exactly where it is the first of its line: the run of blanks
-/// with which that line begins.
+/// A token of a file has an indentation exactly where it is the first of its line: the run of
+/// blanks with which that line begins.
 pub fn indented_tokens()
     ensures { TokensIndented }
 {}

@@ -1,7 +1,7 @@
 //! How the tokens of a file are spelled, and what breaks each rule, as laws of `verse_lex`.
 //!
-//! The laws stand in `laws`, and what they say in `specs/Spelling` and `specs/Indents`. The tests of `verse_lex` are here
-//! too. Crates above cite `proofs/Spelled`, its public lemmas.
+//! The laws stand in `laws`, and what they say in `specs/Spelling` and `specs/Indents`. The tests
+//! of `verse_lex` are here too. Crates above cite `proofs/Spelled`, its public lemmas.
 #![tactic(auto)]
 
 pub mod laws;

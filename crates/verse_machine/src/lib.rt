@@ -1,6 +1,7 @@
-//! What a machine does with bytecode: its tasks, each operation, cancelling, and whole runs. Read the
-//! definitions in this order: `Tasks`, `Frames`, `Cancelling`, `Ends`, `Acts` (one case for each
-//! operation), `Runs`, `Belonging`, `Laws`. `Acts` in proofs shows that each operation lowers a weight.
+//! What a machine does with bytecode: its tasks, each operation, cancelling, and whole runs. Read
+//! the definitions in this order: `Tasks`, `Frames`, `Cancelling`, `Ends`, `Acts` (one case for
+//! each operation), `Runs`, `Belonging`, `Laws`. `Acts` in proofs shows that each operation lowers
+//! a weight.
 #![tactic(auto)]
 
 ghost use Rattle.verse_machine.specs.Belonging.{OperationKeeps, RunBelongs};

@@ -73,7 +73,8 @@ pub fn number_name(
     made(alloc, next, place, Form::Name(name))
 }
 
-/// A copy of a pattern that is a value of an enum, its number being `next`, and the number behind it.
+/// A copy of a pattern that is a value of an enum, its number being `next`, and the number behind
+/// it.
 pub fn number_enum_pattern(
     alloc: Global,
     place: Place,

@@ -90,8 +90,8 @@ impl<'a> Dict<'a> {
         }
     }
 
-    /// Lets go of all names but the first `count`; of all that are there where they are no more. Takes
-    /// no memory.
+    /// Lets go of all names but the first `count`; of all that are there where they are no more.
+    /// Takes no memory.
     pub fn cut(&mut self, count: usize)
         ensures { table_of self.new ≡ take count (table_of self.old) }
     {

@@ -16,7 +16,8 @@ c 9 -\n\
 b 9 second\n\
 a 9 hello\n";
 
-// The room, `most`, the write that fails, the piece, whether it was taken whole, and what was taken.
+// The room, `most`, the write that fails, the piece, whether it was taken whole, and what was
+// taken.
 const WRITES: &str = "9 9 9 hello whole hello\n\
 9 1 9 hello whole hello\n\
 9 2 2 hello part hell\n\

@@ -29,8 +29,8 @@ use verse_reading::steps::{ReadFault, next, take};
 ///
 /// They have no more nodes than there are toks, the program's own left out.
 /// Where the toks are no program, `At` has the greatest index up to which they begin one, with E069
-/// where the tok of that index is left out of the language, and E030 where it is another or there is
-/// none.
+/// where the tok of that index is left out of the language, and E030 where it is another or there
+/// is none.
 #[tactic(auto, using(crate::proofs::Stopping::left_stops_program, crate::proofs::Stopping::left_within, crate::proofs::Stopping::program_once, crate::proofs::Few::few_items))]
 pub fn parse(alloc: Global, bytes: &[u8], toks: &[Tok]) -> Result<ItemTrees, ParseFault>
     ensures spelled { IfOk result (λ items. Program bytes.now toks.now (map item_of items) []) }

@@ -1,4 +1,5 @@
--- How the parts of items are written that are no trees of their own. Each relation says that the toks begin with a part, what it stands for, and what is behind it; b is the file.
+-- How the parts of items are written that are no trees of their own. Each relation says that the toks begin with a part, what it stands
+-- for, and what is behind it; b is the file.
 use Rattle.std.specs.Prelude.{◌≡◌, ℕ, false, List, [], ◌∷◌, Option}
 use Rattle.verse_lex.specs.declared.tokens.Word.TheVariants as w
 use Rattle.verse_lex.specs.declared.tokens.Mark.TheVariants as m

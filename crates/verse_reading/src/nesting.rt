@@ -15,8 +15,8 @@ use verse_grammar::phrases::Phrase;
 use verse_handles::trees::Tree;
 use verse_layout::toks::Tok;
 
-/// Reads the phrases of a file; what is nested in one is read by `nested`, which answers the tree and
-/// how many toks it has.
+/// Reads the phrases of a file; what is nested in one is read by `nested`, which answers the tree
+/// and how many toks it has.
 #[derive(Clone, Copy)]
 pub struct Reader<'b, F> {
     pub alloc: Global,

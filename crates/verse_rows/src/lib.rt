@@ -3,8 +3,9 @@
 //! `verse_rows_calls` and `verse_rows_control` have a function for each form.
 //!
 //! To be read in this order: `sets`, sets of names and of numbers; `worlds`, the tables of a
-//! program; `facts`, what is known at a node; `spelling`, written types; `keys`, types whose maps have keys; `callees`, what is called;
-//! `judged`, a type with the rule that is broken; `parts`, the types of several parts.
+//! program; `facts`, what is known at a node; `spelling`, written types; `keys`, types whose maps
+//! have keys; `callees`, what is called; `judged`, a type with the rule that is broken; `parts`,
+//! the types of several parts.
 #![tactic(auto)]
 
 pub mod callees;

@@ -32,15 +32,15 @@ pub struct Checked {
     pub typed: Typed,
 }
 
-/// A program has at most one refusal for a rule of names, types or effects, and none where it breaks
-/// no such rule.
+/// A program has at most one refusal for a rule of names, types or effects, and none where it
+/// breaks no such rule.
 pub fn sound_once()
     ensures { SoundOnce }
 {}
 
-/// The tables and types of a program; or the refusal for the least rule of names that it breaks, E040
-/// to E045, or where it breaks none, for the least of types and effects, E050 to E068 and E070, at
-/// the place of its node.
+/// The tables and types of a program; or the refusal for the least rule of names that it breaks,
+/// E040 to E045, or where it breaks none, for the least of types and effects, E050 to E068 and
+/// E070, at the place of its node.
 pub fn check_program(alloc: Global, tree: &Tree) -> Result<Checked, Front>
     requires numbered { IsNumbered (map item_of tree.now.items) tree.now.nodes }
     ensures names { IfOk result (λ c. c.names ≡ completed (map item_of tree.now.items)) }
@@ -59,7 +59,8 @@ pub fn check_program(alloc: Global, tree: &Tree) -> Result<Checked, Front>
     }
 }
 
-/// What the names of a program stand for, or the refusal for the least rule of names that it breaks.
+/// What the names of a program stand for, or the refusal for the least rule of names that it
+/// breaks.
 fn name(alloc: Global, tree: &Tree) -> Result<Names, Front>
     requires numbered { IsNumbered (map item_of tree.now.items) tree.now.nodes }
     ensures names { IfOk result (λ k. k ≡ named (map item_of tree.now.items)) }

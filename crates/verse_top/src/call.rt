@@ -34,7 +34,8 @@ pub fn verse<F: Files, S: Sink>(alloc: Global, words: &[String], files: &mut F, 
         (S.taken out.new ≡ with_more (S.taken out.old) words_line) }
     ensures no_command { ((c : Command) → Says (map string_bytes words.now) c → ⊥) →
         (result ≡ 2) ⊎ (result ≡ 7) }
-    // 6 only for a fault of the files or the first file that is absent, and always for an absent one.
+    // 6 only for a fault of the files or the first file that is absent, and always for an absent
+    // one.
     ensures not_read { result ≡ 6 →
         NotRead (map string_bytes words.now) (F.holds files.old) (F.faults files.old)
         (F.faults files.new) (S.taken out.old) (S.taken out.new) }

@@ -1,7 +1,8 @@
 //! All that the program does, as one call.
 //!
-//! To be read in this order: `call`, the top call; `answers`, what a command answers over a program;
-//! `loading`, its files; `writing`, what is written at once; `executing`, the run of an image.
+//! To be read in this order: `call`, the top call; `answers`, what a command answers over a
+//! program; `loading`, its files; `writing`, what is written at once; `executing`, the run of an
+//! image.
 #![tactic(auto)]
 
 pub mod answers;

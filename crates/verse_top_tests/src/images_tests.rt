@@ -5,8 +5,8 @@ use verse_base::texts::natural;
 use verse_outside::memory_files::MemFiles;
 use verse_outside::memory_sinks::MemSink;
 
-// the status, the options, the bytes of the file `i` in hexadecimal, and what `exec i` writes with these
-// options; `~` is a line feed
+// the status, the options, the bytes of the file `i` in hexadecimal, and what `exec i` writes with
+// these options; `~` is a line feed
 const ROWS: &str =
     "0``5653494d010103010268690100020a01000000000000050034002f`0 hi~= done at 0 steps 1 live 0~
 0`--heap`5653494d01011c0204676f6e65026e6f0600020500030900031900040e00060f00060e010001000000000001210008000700220009291707000005230000000109050034020907002200000313092a05013403261b0700220012010434052f`0 1~@0 var 1~= done at 0 steps 1 live 0~

@@ -10,8 +10,8 @@ use verse_top::answers::answered_once;
 use verse_top::ending_text;
 use verse_value::runs::Ending;
 
-// the status, the words, the files as `NAME=TEXT` with bars between them, and what is written; `~` is a
-// line feed, `^` a tab and `!` the byte FF
+// the status, the words, the files as `NAME=TEXT` with bars between them, and what is written; `~`
+// is a line feed, `^` a tab and `!` the byte FF
 const ROWS: &str =
     "0`run a.verse`a.verse=Main():void =~    Print(\"hi\")~`0 hi~= done at 0 steps 1 live 0~
 0`run a.verse`a.verse=Main():void =~    Print(\"hi\")`0 hi~= done at 0 steps 1 live 0~

@@ -8,8 +8,9 @@ use verse_base::texts::decimal;
 use verse_words::commands::{Request, Running, find_request, words_fit, words_say_once};
 
 // the words, then a bar and what they ask for: the command and its files; of a run the steps, the
-// horizon, whether the heap is written, and the word of `--in`, or `-` where it is not given; `none`
-// where they are no command. `''` stands for the empty word, `COUNT*` for a list of that many zeros.
+// horizon, whether the heap is written, and the word of `--in`, or `-` where it is not given;
+// `none` where they are no command. `''` stands for the empty word, `COUNT*` for a list of that
+// many zeros.
 const CASES: &str = "| none
 run | none
 run a.verse | run a.verse 10000000 1000000000000 - -

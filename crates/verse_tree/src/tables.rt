@@ -1,4 +1,5 @@
-//! What is known of a program's names and types: tables beside the tree, by the numbers of its nodes.
+//! What is known of a program's names and types: tables beside the tree, by the numbers of its
+//! nodes.
 
 use sqlite_items::{Boxed, Items};
 
@@ -108,8 +109,8 @@ pub struct Names {
 }
 
 /// The types of a program's nodes, by their numbers. At the node of `K -> V : M` stands the type of
-/// V. That of K is int where M is an array, and the type of its keys where it is a map; the number of
-/// M is one less than that of the node.
+/// V. That of K is int where M is an array, and the type of its keys where it is a map; the number
+/// of M is one less than that of the node.
 #[derive(Drop)]
 pub struct Typed {
     pub types: Items<Ty>,

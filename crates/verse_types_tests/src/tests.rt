@@ -1,6 +1,7 @@
 //! Rows of types, each written behind its parts: `n` never, `f` that of `false`, `v` void, `i` int,
-//! `l` logic, `c` char, `E` an enum, `0` to `3` classes; behind one type `?` an option, `a` an array,
-//! `t` a task, `e` an event; behind two `m` a map and `p` a tuple; behind one `s` a tuple of it.
+//! `l` logic, `c` char, `E` an enum, `0` to `3` classes; behind one type `?` an option, `a` an
+//! array, `t` a task, `e` an event; behind two `m` a map and `p` a tuple; behind one `s` a tuple of
+//! it.
 //!
 //! Class 0 is a root, 1 and 2 inherit from 0, and 3 from 1. Class 2 is unique.
 

@@ -98,7 +98,8 @@ changed (array vs) index f = array (array_with vs index f)
 changed (mapping ps) index f = mapping (map_with ps (key_of index) f)
 changed v index f = v
 
--- another value in a value's place; a new key at the end of a map, or a map's last key taken off; parts at the end of an array, or all but its first parts taken off
+-- another value in a value's place; a new key at the end of a map, or a map's last key taken off; parts at the end of an array, or all but
+-- its first parts taken off
 pub data Change : Type 0 where
   put : Val → Change
   push : Key → Val → Change

@@ -1,4 +1,5 @@
-//! The values of a run, and what is done with them: equality, size, copies, reading, and their text.
+//! The values of a run, and what is done with them: equality, size, copies, reading, and their
+//! text.
 #![tactic(auto)]
 
 pub mod bytes;

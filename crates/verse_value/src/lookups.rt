@@ -100,8 +100,8 @@ fn array_place(len: usize, index: i64) -> Option<usize>
     if at < len { Some(at) } else { None }
 }
 
-/// Where the key that an index is stands in a map: `None` where it is no key, and `None` within where
-/// the map lacks it.
+/// Where the key that an index is stands in a map: `None` where it is no key, and `None` within
+/// where the map lacks it.
 pub fn map_place(entries: &Entries, index: &Value) -> Option<Option<usize>>
     ensures { result ≡ option_map (λ k. key_place k (keys_in entries.now))
         (key_of (val_of index.now)) }

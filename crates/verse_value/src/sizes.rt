@@ -30,8 +30,8 @@ pub fn cell_weight(slots: &[Value]) -> u64
 }
 
 /// How many levels a value has: an option with a value, an array, a map and a tuple 1 more than the
-/// deepest of their parts, every other value and every key 1. 18446744073709551615 where it is more.
-/// All parts are visited.
+/// deepest of their parts, every other value and every key 1. 18446744073709551615 where it is
+/// more. All parts are visited.
 #[cycle(levels)]
 pub fn levels(v: &Value) -> u64
     ensures { result ≡ min (levels_of (val_of v.now)) 18446744073709551615 }
@@ -56,8 +56,8 @@ fn most_of(values: &[Value]) -> u64
     most
 }
 
-/// Whether a value is no heavier and no deeper than a value of a run may be. Levels are counted only
-/// where the bound that is kept with the value is above 200.
+/// Whether a value is no heavier and no deeper than a value of a run may be. Levels are counted
+/// only where the bound that is kept with the value is above 200.
 pub fn is_fit(v: &Value) -> bool
     ensures { result ≡ fits (val_of v.now) }
 {

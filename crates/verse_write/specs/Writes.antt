@@ -47,7 +47,8 @@ Makes mode old value (made.Put new) = combined mode old value ≡ gives (val_of 
 Makes mode old value (made.Grow len more) = (combined mode old value ≡ gives (grown (there old) more)) × (len ≡ parts_there (there old)) ×
     IsArray old
 
--- what undoes a write: an old value goes back to the end of the path, the last key of the path's map goes, or all parts of the path's array but the first go
+-- what undoes a write: an old value goes back to the end of the path, the last key of the path's map goes, or all parts of the path's array
+-- but the first go
 abbrev pub undone : List Val → Undo → Val → Val
 undone path (Put old) slot = applied path (put (val_of old)) slot
 undone path DropLast slot = applied (path_to_map path) pop slot

@@ -68,8 +68,8 @@ impl Path {
         Ok(())
     }
 
-    /// Turns the indices round: those that were taken off a stack stand the innermost first. Takes no
-    /// memory.
+    /// Turns the indices round: those that were taken off a stack stand the innermost first. Takes
+    /// no memory.
     pub fn reverse(&mut self)
         ensures { self.new ≡ reverse self.old }
     {

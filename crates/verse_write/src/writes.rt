@@ -77,8 +77,8 @@ pub struct Written {
     pub undo: Undo,
 }
 
-// What is written: a value in the old one's place, or parts behind those that an array has, with how
-// many it has.
+// What is written: a value in the old one's place, or parts behind those that an array has, with
+// how many it has.
 #[derive(Drop)]
 pub(crate) enum Made {
     Put(Value),

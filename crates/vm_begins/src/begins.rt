@@ -23,8 +23,8 @@ use vm_thread::threads::Thread;
 use vm_world::tasks::{Begins, Tasks, Up, Went};
 use vm_world::ups::push;
 
-/// A task behind begins at a place, for a step, with a copy of the running task's locals. The run is
-/// over where no step is left.
+/// A task behind begins at a place, for a step, with a copy of the running task's locals. The run
+/// is over where no step is left.
 pub fn branch<H: Heap, W: Waits>(
     run: &mut Runner<H>,
     tasks: &mut Tasks<W>,
@@ -49,8 +49,8 @@ pub fn branch<H: Heap, W: Waits>(
     Ok(Went::On)
 }
 
-/// A task of the next entry begins, for a step, with a call of a function and as many arguments as it
-/// has parameters. The run is over where no step is left. Memory is wanting too where there are
+/// A task of the next entry begins, for a step, with a call of a function and as many arguments as
+/// it has parameters. The run is over where no step is left. Memory is wanting too where there are
 /// 4294967295 entries.
 pub fn spawn<H: Heap, W: Waits>(
     run: &mut Runner<H>,
@@ -83,8 +83,8 @@ pub fn spawn<H: Heap, W: Waits>(
     Ok(Went::On)
 }
 
-/// The next arm of a group begins at a label, for a step, with a copy of the locals of the task that
-/// begins it. The run is over where no step is left.
+/// The next arm of a group begins at a label, for a step, with a copy of the locals of the task
+/// that begins it. The run is over where no step is left.
 pub fn begin_arm<H: Heap, W: Waits>(
     run: &mut Runner<H>,
     tasks: &mut Tasks<W>,

@@ -21,8 +21,8 @@ use vm_tasks::table::begin_group;
 use vm_thread::threads::Thread;
 use vm_world::tasks::{Begins, Tasks, Went};
 
-/// A group of the running task begins, and its first arm runs. The arms begin at these labels; stuck
-/// where there are none.
+/// A group of the running task begins, and its first arm runs. The arms begin at these labels;
+/// stuck where there are none.
 pub fn group<H: Heap, W: Waits>(
     run: &mut Runner<H>,
     tasks: &mut Tasks<W>,

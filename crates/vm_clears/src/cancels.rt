@@ -13,9 +13,9 @@ use vm_runner::runners::Runner;
 use vm_tasks::table::cancel_since;
 use vm_world::tasks::{After, Tasks, Went};
 
-/// What a task of the tree has begun since so many steps were left goes from the tree, or the arms of
-/// its group by the steps that were left when the group began. The frames of these tasks are kept
-/// until their deferred blocks have run.
+/// What a task of the tree has begun since so many steps were left goes from the tree, or the arms
+/// of its group by the steps that were left when the group began. The frames of these tasks are
+/// kept until their deferred blocks have run.
 pub fn cancel<W: Waits>(tasks: &mut Tasks<W>, id: usize, bound: u64) -> Result<(), Memory>
     ensures { OnOk result (Cancels W.pending id bound tasks.old tasks.new) }
 {
@@ -27,8 +27,8 @@ pub fn cancel<W: Waits>(tasks: &mut Tasks<W>, id: usize, bound: u64) -> Result<(
     Ok(())
 }
 
-/// The deferred blocks of the cancelled tasks run, the first of them now, and then follows what is said
-/// for the task that cancels. Where there are none it is to follow at once.
+/// The deferred blocks of the cancelled tasks run, the first of them now, and then follows what is
+/// said for the task that cancels. Where there are none it is to follow at once.
 pub fn run_blocks<H: Heap, W: Waits>(
     run: &mut Runner<H>,
     tasks: &mut Tasks<W>,

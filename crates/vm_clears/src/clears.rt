@@ -11,8 +11,8 @@ use tx_heap::heaps::Heap;
 use vm_runner::runners::Runner;
 use vm_world::tasks::{Tasks, Went};
 
-/// The next deferred block of the cancelled tasks runs, or the run is over where no step is left for
-/// it, or none is left. Takes no memory.
+/// The next deferred block of the cancelled tasks runs, or the run is over where no step is left
+/// for it, or none is left. Takes no memory.
 pub fn clear<H: Heap, W: Waits>(run: &mut Runner<H>, tasks: &mut Tasks<W>) -> Went
     requires unguarded { AllUnguarded tasks.old.gone.frames.items }
     requires steps { run.old.left + run.old.spent ≤ 18446744073709551615 }

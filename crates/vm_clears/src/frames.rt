@@ -12,9 +12,9 @@ use vm_runner::runners::Runner;
 use vm_thread::threads::{GONE, Thread};
 use vm_world::tasks::Went;
 
-/// The frames of a cancelled task go, the top one first, each when its deferred blocks have run: the
-/// next block runs, or the run is over where no step is left for it, or all frames are gone. Takes
-/// no memory.
+/// The frames of a cancelled task go, the top one first, each when its deferred blocks have run:
+/// the next block runs, or the run is over where no step is left for it, or all frames are gone.
+/// Takes no memory.
 pub fn clear_frames<H: Heap>(run: &mut Runner<H>, thread: Thread) -> Went
     requires unguarded { Unguarded thread }
     requires steps { run.old.left + run.old.spent ≤ 18446744073709551615 }

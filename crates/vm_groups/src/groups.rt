@@ -25,8 +25,8 @@ use vm_thread::threads::Thread;
 use vm_world::moves::resume;
 use vm_world::tasks::{After, Begins, Tasks, Went};
 
-/// The next arm of a group begins; or each has begun, and the task goes on with a value or stands at
-/// its group. Where no task runs then, the same are above.
+/// The next arm of a group begins; or each has begun, and the task goes on with a value or stands
+/// at its group. Where no task runs then, the same are above.
 pub fn next_arm<H: Heap, W: Waits>(
     run: &mut Runner<H>,
     tasks: &mut Tasks<W>,
@@ -61,8 +61,8 @@ pub fn arm_ended<H: Heap, W: Waits>(
     }
 }
 
-/// The task goes on with the value of its group, or stands at the group. Where no task runs then, the
-/// same are above.
+/// The task goes on with the value of its group, or stands at the group. Where no task runs then,
+/// the same are above.
 pub fn settle<H: Heap, W: Waits>(
     run: &mut Runner<H>,
     tasks: &mut Tasks<W>,

@@ -32,8 +32,8 @@ fn sum(a: &Value, b: &Value) -> Result<Value, OpFault>
     }
 }
 
-/// The first int less the second. `Stuck`: one of them is no int. `Fault`: the difference leaves the
-/// range of int.
+/// The first int less the second. `Stuck`: one of them is no int. `Fault`: the difference leaves
+/// the range of int.
 pub fn op_sub(a: Value, b: Value) -> Result<Value, OpFault>
     ensures answers { IsAnswer (difference_of (val_of a) (val_of b)) result }
 {
@@ -49,8 +49,8 @@ fn difference(a: &Value, b: &Value) -> Result<Value, OpFault>
     }
 }
 
-/// The product of two ints. `Stuck`: one of them is no int. `Fault`: the product leaves the range of
-/// int.
+/// The product of two ints. `Stuck`: one of them is no int. `Fault`: the product leaves the range
+/// of int.
 pub fn op_mul(a: Value, b: Value) -> Result<Value, OpFault>
     ensures answers { IsAnswer (product_of (val_of a) (val_of b)) result }
 {
@@ -66,7 +66,8 @@ fn product(a: &Value, b: &Value) -> Result<Value, OpFault>
     }
 }
 
-/// An int with the other sign. `Stuck`: it is no int. `Fault`: the negation leaves the range of int.
+/// An int with the other sign. `Stuck`: it is no int. `Fault`: the negation leaves the range of
+/// int.
 pub fn op_neg(a: Value) -> Result<Value, OpFault>
     ensures answers { IsAnswer (negation_of (val_of a)) result }
 {
@@ -100,8 +101,8 @@ fn floor(a: &Value, b: &Value) -> Result<Value, OpFault>
     }
 }
 
-/// The quotient of a dividend and a divisor, rounded up. `Stuck`: one of them is no int. `Fail`: the
-/// divisor is 0. `Fault`: the quotient leaves the range of int.
+/// The quotient of a dividend and a divisor, rounded up. `Stuck`: one of them is no int. `Fail`:
+/// the divisor is 0. `Fault`: the quotient leaves the range of int.
 pub fn op_ceil(a: Value, b: Value) -> Result<Value, OpFault>
     ensures answers { IsAnswer (ceil_of (val_of a) (val_of b)) result }
 {
@@ -118,8 +119,8 @@ fn ceil(a: &Value, b: &Value) -> Result<Value, OpFault>
     }
 }
 
-/// The remainder of a dividend and a divisor: from 0 on, below the divisor's absolute value. `Stuck`:
-/// one of them is no int. `Fail`: the divisor is 0.
+/// The remainder of a dividend and a divisor: from 0 on, below the divisor's absolute value.
+/// `Stuck`: one of them is no int. `Fail`: the divisor is 0.
 pub fn op_mod(a: Value, b: Value) -> Result<Value, OpFault>
     ensures answers { IsAnswer (modulo_of (val_of a) (val_of b)) result }
 {

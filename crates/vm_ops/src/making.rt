@@ -45,7 +45,8 @@ pub fn op_append(_alloc: Global, array: Value, value: Value) -> Result<Value, Op
     }
 }
 
-/// An array of these values. `Fault`: it would weigh more than 4000000 or have more than 200 levels.
+/// An array of these values. `Fault`: it would weigh more than 4000000 or have more than 200
+/// levels.
 pub fn op_array(parts: Vec<Value>) -> Result<Value, OpFault>
     ensures answers { IsAnswerOrMemory (array_of (vals_of parts.items)) result }
 {
@@ -68,9 +69,9 @@ pub fn op_some(alloc: Global, a: Value) -> Result<Value, OpFault>
     fitting(Value::option(alloc, a)?)
 }
 
-/// A map from keys with their values, in order: a key that comes again keeps its place and takes the
-/// later value. `Stuck`: a value in a key's place is no key. `Fault`: the map would weigh more than
-/// 4000000 or have more than 200 levels.
+/// A map from keys with their values, in order: a key that comes again keeps its place and takes
+/// the later value. `Stuck`: a value in a key's place is no key. `Fault`: the map would weigh more
+/// than 4000000 or have more than 200 levels.
 pub fn op_map(alloc: Global, pairs: Vec<(Value, Value)>) -> Result<Value, OpFault>
     ensures answers { IsAnswerOrMemory (map_of (pairs_of pairs.items)) result }
 {

@@ -78,8 +78,8 @@ fn taken(parts: &mut Parts, at: usize) -> Result<Value, OpFault>
     }
 }
 
-/// The element of an array at an int, or the value of a map at a key. `Stuck`: the index does not go
-/// with the container. `Fail`: the index is outside the array, or the map lacks the key.
+/// The element of an array at an int, or the value of a map at a key. `Stuck`: the index does not
+/// go with the container. `Fail`: the index is outside the array, or the map lacks the key.
 pub fn at<'a>(container: &'a Value, index: &Value) -> Result<&'a Value, OpFault>
     ensures answers { IsLent (at_of (val_of container.now) (val_of index.now)) result }
 {

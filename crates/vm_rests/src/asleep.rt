@@ -19,8 +19,8 @@ use vm_tasks::table::set_down;
 use vm_thread::threads::Thread;
 use vm_world::tasks::{Tasks, Went};
 
-/// The running task is suspended, and those above it go on. Memory is wanting too where no number is
-/// left for the next wait.
+/// The running task is suspended, and those above it go on. Memory is wanting too where no number
+/// is left for the next wait.
 pub fn suspend<H: Heap, W: Waits>(
     run: &mut Runner<H>,
     tasks: &mut Tasks<W>,

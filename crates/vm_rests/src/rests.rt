@@ -49,8 +49,8 @@ fn go_up<H: Heap, W: Waits>(
     }
 }
 
-/// The arm that ran is suspended: the next one begins, or the group has a value, or the task stands at
-/// its group.
+/// The arm that ran is suspended: the next one begins, or the group has a value, or the task stands
+/// at its group.
 fn go_arms<H: Heap, W: Waits>(
     run: &mut Runner<H>,
     tasks: &mut Tasks<W>,

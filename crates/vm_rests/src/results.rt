@@ -66,8 +66,8 @@ pub fn await_task<H: Heap, W: Waits>(
     }
 }
 
-/// The result of an entry: None where there is no such entry, and Some(None) where its task has given
-/// no value.
+/// The result of an entry: None where there is no such entry, and Some(None) where its task has
+/// given no value.
 fn result_of(
     alloc: Global,
     results: &Vec<Option<Given>>,

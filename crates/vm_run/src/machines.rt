@@ -53,8 +53,8 @@ pub struct Vm<H, W> {
 }
 
 impl<H: Heap + Drop, W: Waits + Drop> Vm<H, W> {
-    /// A machine of which nothing has begun, over an empty heap and no waits. There are at most 1000
-    /// inputs; steps are at most 100000000, and the horizon is at most 1000000000000.
+    /// A machine of which nothing has begun, over an empty heap and no waits. There are at most
+    /// 1000 inputs; steps are at most 100000000, and the horizon is at most 1000000000000.
     pub fn new(
         alloc: Global,
         code: &Code,

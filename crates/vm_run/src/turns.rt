@@ -109,8 +109,9 @@ impl<H: Heap + Drop, W: Waits + Drop> Vm<H, W> {
         }
     }
 
-    /// Takes one turn as `turn` does, and then drains the trace. After `Memory` nothing was taken in
-    /// this call. `Failed` comes only where the count of the sink rose, and then a prefix was taken.
+    /// Takes one turn as `turn` does, and then drains the trace. After `Memory` nothing was taken
+    /// in this call. `Failed` comes only where the count of the sink rose, and then a prefix was
+    /// taken.
     pub fn turn_to<S: Sink>(
         &mut self,
         code: &Code,

@@ -10,9 +10,9 @@ use tx_heap::heaps::Heap;
 use verse_value::runs::Ending;
 
 /// Back to the innermost handler of all frames: the frames above are left, the store and the trace
-/// become what they were at its mark, and its frame goes on at its label. Stuck, with store and trace
-/// as they are, where no frame has a handler, and where another handler of its frame forbids the
-/// label. Takes no memory.
+/// become what they were at its mark, and its frame goes on at its label. Stuck, with store and
+/// trace as they are, where no frame has a handler, and where another handler of its frame forbids
+/// the label. Takes no memory.
 pub fn fail<H: Heap>(run: &mut Runner<H>) -> Did
     requires ready { Ready (view_of H.state run.old) }
     ensures { Comes fails result (view_of H.state run.old) (view_of H.state run.new) }

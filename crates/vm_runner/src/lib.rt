@@ -1,8 +1,9 @@
 //! A machine's task that runs, and the ways in which its operations go on.
 //!
 //! To be read in this order: `runners`, what the task works on; `operands`, how operands are taken
-//! off; `moves`, to another place; `spending`, a step; `failing`, back to a handler; `answering`, with what an operation
-//! on values answers. `Views` and `Doings` of specs say what these are in the machine's definition.
+//! off; `moves`, to another place; `spending`, a step; `failing`, back to a handler; `answering`,
+//! with what an operation on values answers. `Views` and `Doings` of specs say what these are in
+//! the machine's definition.
 #![tactic(auto)]
 
 pub mod answering;

@@ -1,5 +1,5 @@
-//! When a tree of tasks and a clock's waits stand for the tasks of the machine's definition, and that
-//! each change of the tree is then one of the definition. Read the definitions in this order:
+//! When a tree of tasks and a clock's waits stand for the tasks of the machine's definition, and
+//! that each change of the tree is then one of the definition. Read the definitions in this order:
 //! `Slots`, what a task of the tree keeps; `Roses`, tasks that enclose tasks, in both orders;
 //! `Standing`, when a tree stands for a world; `Cancelling` and `Told`, which tasks are cancelled;
 //! `Clocks`, waits and when they are due; `Together`, what both come to; `Laws`. In proofs `Steps`,

@@ -13,8 +13,8 @@ use verse_value::values::Value;
 use vm_runner::runners::Runner;
 use vm_world::tasks::{Tasks, Went};
 
-/// The event of a cell is signalled with a value, and the running task goes on. Those that await the
-/// event are woken.
+/// The event of a cell is signalled with a value, and the running task goes on. Those that await
+/// the event are woken.
 pub fn signal<H: Heap, W: Waits>(
     run: &Runner<H>,
     tasks: &mut Tasks<W>,

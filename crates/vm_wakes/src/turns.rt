@@ -15,9 +15,9 @@ use vm_tasks::table::take_up;
 use vm_world::moves::resume;
 use vm_world::tasks::{Tasks, Went};
 
-/// Between two turns: the task whose wait is due next goes on, for a step and in that moment. The run
-/// is over, and nothing is changed, where no task waits (Done), none ever goes on (Waiting), the wait
-/// is due after `until` (Until), or no step is left (Steps).
+/// Between two turns: the task whose wait is due next goes on, for a step and in that moment. The
+/// run is over, and nothing is changed, where no task waits (Done), none ever goes on (Waiting),
+/// the wait is due after `until` (Until), or no step is left (Steps).
 pub fn take_turn<H: Heap, W: Waits>(
     run: &mut Runner<H>,
     tasks: &mut Tasks<W>,

@@ -9,8 +9,8 @@ use verse_base::refusals::Memory;
 use verse_value::values::Value;
 use vm_world::tasks::Tasks;
 
-/// What a task goes on with whose wait was of this kind, by what woke it: unit, the result of the task
-/// that it awaited, or the value of the signal with this number.
+/// What a task goes on with whose wait was of this kind, by what woke it: unit, the result of the
+/// task that it awaited, or the value of the signal with this number.
 pub fn value_of<W>(tasks: &Tasks<W>, kind: WaitKind, cause: u64) -> Result<Value, Memory>
     ensures { IfOk result (λ x. IsValue tasks.now kind cause (val_of x)) }
 {

@@ -31,7 +31,8 @@ pub struct Begins {
     pub labels: Vec<u32>,
 }
 
-/// A task that waits until the one that it has begun is suspended or over, by its number in the tree.
+/// A task that waits until the one that it has begun is suspended or over, by its number in the
+/// tree.
 #[derive(Drop)]
 pub enum Up {
     Begins(Begins),
@@ -58,8 +59,8 @@ pub enum After {
 pub struct Tasks<W> {
     pub alloc: Global,
     pub tree: TaskTree<Slot<Thread>>,
-    /// The waits; and the frames of cancelled tasks whose deferred blocks are still to run, the next
-    /// one last.
+    /// The waits; and the frames of cancelled tasks whose deferred blocks are still to run, the
+    /// next one last.
     pub gone: Gone<Thread, W>,
     /// Those that wait until the running task is suspended or over, the nearest one last.
     pub ups: Vec<Up>,
