@@ -20,7 +20,8 @@ pub struct Index {
     on_events: Pairs,
     on_tasks: Pairs,
     woken: Queue,
-    ghost room: { length woken.pairs + btree_set_len on_events.set + btree_set_len on_tasks.set ≤ woken.room },
+    ghost room: { length woken.pairs + btree_set_len on_events.set + btree_set_len on_tasks.set ≤
+        woken.room },
 }
 
 impl Index {

@@ -191,7 +191,8 @@ pub fn negative(facts: &Facts<'_>, part: &Expr) -> Result<Judged, Memory>
         record {
           ty = t.int;
           code =
-              cond (not (p.is_int (type_of (facts_of facts.now) (tree_of part.now)))) (Some 50) None;
+              cond (not (p.is_int (type_of (facts_of facts.now) (tree_of part.now))))
+              (Some 50) None;
         }) }
 {
     Ok(minus(facts, part))
@@ -212,7 +213,8 @@ pub fn value_pattern(facts: &Facts<'_>, node: u32, value: &[u8]) -> Result<Judge
           ty = rows.value_type (facts_of facts.now) (named_ref (facts_of facts.now) node)
               value.now;
           code = cond (not
-              (r.is_enum_value (facts_of facts.now) (named_ref (facts_of facts.now) node) value.now))
+              (r.is_enum_value (facts_of facts.now) (named_ref (facts_of facts.now) node)
+              value.now))
               (Some 56) None;
         }) }
 {

@@ -51,7 +51,8 @@ impl Output {
     /// Writes a tok; refuses one that brings the load above its bound.
     fn put(&mut self, next: Tok) -> Result<(), Front>
         ensures ok { OnOk result ((ks : List Tok) (stop : Option Refusal) →
-            with_front self.new.toks.items (bounded (open_counts self.new.load.inner self.new.load.outer.items) ks stop)
+            with_front self.new.toks.items
+            (bounded (open_counts self.new.load.inner self.new.load.outer.items) ks stop)
             ≡ with_front self.old.toks.items
             (bounded (open_counts self.old.load.inner self.old.load.outer.items)
             (next ∷ ks) stop)) }
@@ -97,7 +98,9 @@ impl Writer {
     /// Writes the Sep that waits, where one may stand before a tok of this kind.
     fn part(&mut self, kind: TokKind) -> Result<(), Front>
         ensures ok { OnOk result ((ks : List Tok) (stop : Option Refusal) →
-            with_front self.new.output.toks.items (bounded (open_counts self.new.output.load.inner self.new.output.load.outer.items) ks stop)
+            with_front self.new.output.toks.items
+            (bounded (open_counts self.new.output.load.inner self.new.output.load.outer.items) ks
+            stop)
             ≡ with_front self.old.output.toks.items
             (bounded (open_counts self.old.output.load.inner self.old.output.load.outer.items)
             (kept_sep (self.old.can_separate && not (is_close kind)) self.old.waiting ++

@@ -229,7 +229,8 @@ pub fn call(facts: &Facts<'_>, applied: &Applied) -> Result<Judged, Memory>
               cond (not (c.arguments_fit (facts_of facts.now)
               (callees.callee_of (facts_of facts.now) (applied_of applied.now).0)
               (trees (applied_of applied.now).1))) (Some 50)
-              (cond (not (c.can_call (callees.callee_of (facts_of facts.now) (applied_of applied.now).0)))
+              (cond (not (c.can_call (callees.callee_of (facts_of facts.now)
+              (applied_of applied.now).0)))
               (Some 51) (cond (not (c.are_wanted
               (c.call_wanted (callees.callee_of (facts_of facts.now) (applied_of applied.now).0))
               (p.count (trees (applied_of applied.now).1)))) (Some 52)

@@ -69,7 +69,8 @@ pub fn returned_unit(facts: &Facts<'_>, around: Around<'_>) -> Result<Judged, Me
         record {
           ty = t.never;
           code =
-              cond (not (fits_result (facts_of facts.now) (around_of around.entry).owner.result t.void))
+              cond (not (fits_result (facts_of facts.now) (around_of around.entry).owner.result
+              t.void))
               (Some 50) None;
         }) }
 {

@@ -244,7 +244,8 @@ pub fn minus(facts: &Facts<'_>, part: &Expr) -> Judged
         record {
           ty = t.int;
           code =
-              cond (not (p.is_int (type_of (facts_of facts.now) (tree_of part.now)))) (Some 50) None;
+              cond (not (p.is_int (type_of (facts_of facts.now) (tree_of part.now))))
+              (Some 50) None;
         } }
 {
     tested(Ty::Int, !is_int(facts.type_of(part)), 50)

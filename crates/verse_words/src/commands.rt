@@ -124,7 +124,8 @@ fn run<'a>(files: &'a [String], options: &'a [String]) -> Option<Request<'a>>
     requires behind { BeginsWithNoFile (map string_bytes options.now) }
     ensures asks { MatchOption result ((c : Command) →
         ¬ (Says (codes "run" ∷ map string_bytes files.now ++ map string_bytes options.now) c))
-        (λ r. (c : Command) × Says (codes "run" ∷ map string_bytes files.now ++ map string_bytes options.now) c × AsksFor r c) }
+        (λ r. (c : Command) × Says (codes "run" ∷ map string_bytes files.now ++
+        map string_bytes options.now) c × AsksFor r c) }
     ensures files { IfSome result (λ r. AreFiles (names_of r)) }
 {
     Some(Request::Run(with_options(files, options)?))
@@ -136,7 +137,8 @@ fn exec<'a>(files: &'a [String], options: &'a [String]) -> Option<Request<'a>>
     requires behind { BeginsWithNoFile (map string_bytes options.now) }
     ensures asks { MatchOption result ((c : Command) →
         ¬ (Says (codes "exec" ∷ map string_bytes files.now ++ map string_bytes options.now) c))
-        (λ r. (c : Command) × Says (codes "exec" ∷ map string_bytes files.now ++ map string_bytes options.now) c × AsksFor r c) }
+        (λ r. (c : Command) × Says (codes "exec" ∷ map string_bytes files.now ++
+        map string_bytes options.now) c × AsksFor r c) }
     ensures files { IfSome result (λ r. AreFiles (names_of r)) }
 {
     if files.len() > 1 {
@@ -170,7 +172,8 @@ fn check<'a>(files: &'a [String], options: &'a [String]) -> Option<Request<'a>>
     requires behind { BeginsWithNoFile (map string_bytes options.now) }
     ensures asks { MatchOption result ((c : Command) →
         ¬ (Says (codes "check" ∷ map string_bytes files.now ++ map string_bytes options.now) c))
-        (λ r. (c : Command) × Says (codes "check" ∷ map string_bytes files.now ++ map string_bytes options.now) c × AsksFor r c) }
+        (λ r. (c : Command) × Says (codes "check" ∷ map string_bytes files.now ++
+        map string_bytes options.now) c × AsksFor r c) }
     ensures files { IfSome result (λ r. AreFiles (names_of r)) }
 {
     if options.is_empty() {
