@@ -14,7 +14,8 @@ use Rattle.verse_grammar.specs.Reading.{EatsRule, SticksRule}
 use Rattle.verse_grammar.specs.declared.phrases.Phrase.TheVariants as p
 use Rattle.verse_grammar.specs.declared.starts.PrimaryStart.TheVariants as primary
 use Rattle.verse_grammar.proofs.Eating.{eats_primary_case, eats_case_rest}
-use Rattle.verse_grammar.proofs.Sticking.{sticks_primary_case_1, sticks_case_rest_5}
+use Rattle.verse_grammar.proofs.Sticking.{sticks_primary_case_1}
+use Rattle.verse_grammar.proofs.StickingParts.{sticks_case_rest_5}
 
 pub cases_by : {b : List ℕ} {k o c q : Tok} {ks mid ls rest : List Tok} {e : Tree} {es : List Tree} →
     primary_start k.kind ≡ Some primary.Case → o.kind ≡ mark m.RoundOpen → Reads b p.Expr ks e mid → mid ≡ c ∷ q ∷ ls →

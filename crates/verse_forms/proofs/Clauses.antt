@@ -11,7 +11,7 @@ use Rattle.verse_grammar.specs.Reading.{EatsRule, SticksRule}
 use Rattle.verse_grammar.specs.Loops.{Goes}
 use Rattle.verse_grammar.specs.declared.phrases.Phrase.TheVariants as p
 use Rattle.verse_grammar.proofs.Eating.{eats_clauses, eats_row_tail_other}
-use Rattle.verse_grammar.proofs.Sticking.{sticks_clauses_2, sticks_clauses_3, sticks_case_rest_3, sticks_case_rest_4}
+use Rattle.verse_grammar.proofs.StickingParts.{sticks_clauses_2, sticks_clauses_3, sticks_case_rest_3, sticks_case_rest_4}
 use Rattle.verse_grammar.proofs.Going.{stuck_row_tail_at_1, goes_row_tail_at}
 use Rattle.verse_forms.specs.Between.{SticksBetween, before_first, before_second}
 use Rattle.std.proofs.lemmas.List.{map-append}

@@ -16,8 +16,9 @@ use Rattle.verse_grammar.specs.Reading.{Eats, EatsRule, Sticks, SticksRule, eats
 use Rattle.verse_grammar.specs.Reading.{sticks_behind_tok, sticks_in_rule, sticks_behind_rule, sticks_takes}
 use Rattle.verse_grammar.proofs.Eating.{eats_clause_name, eats_clause_name_at1, eats_clause_name_at2, eats_clause_name_at3}
 use Rattle.verse_grammar.proofs.Eating.{eats_clause_value_at2}
-use Rattle.verse_grammar.proofs.Sticking.{sticks_clause_name_1, sticks_clause_name_at1_1, sticks_clause_name_at2_1}
-use Rattle.verse_grammar.proofs.Sticking.{sticks_clause_name_at3_1, sticks_clause_value_at2_1}
+use Rattle.verse_grammar.proofs.Sticking.{sticks_clause_name_1}
+use Rattle.verse_grammar.proofs.StickingParts.{sticks_clause_name_at1_1, sticks_clause_name_at2_1}
+use Rattle.verse_grammar.proofs.StickingParts.{sticks_clause_name_at3_1, sticks_clause_value_at2_1}
 use Rattle.verse_generators.specs.Behind.{EndsRange, ends, end_symbols}
 
 pub eats_clause_elements : (k o : Tok) (ks rest : List Tok) → stmt_start k.kind ≡ Some stmt.Name → o.kind ≡ mark m.Colon →

@@ -51,7 +51,7 @@ pub fn generator<'t, F: Fn(Global, &[u8], Phrase, &[Tok]) -> Result<(Tree, usize
 }
 
 /// What is behind the first name of a generator.
-#[tactic(auto, using(verse_grammar::proofs::Eating::eats_generator_rest_at1, verse_grammar::proofs::Eating::eats_generator_rest_at2, verse_grammar::proofs::Sticking::sticks_generator_rest_at1_1, verse_grammar::proofs::Sticking::sticks_generator_rest_at2_1, verse_grammar::proofs::Sticking::sticks_generator_rest_other))]
+#[tactic(auto, using(verse_grammar::proofs::Eating::eats_generator_rest_at1, verse_grammar::proofs::Eating::eats_generator_rest_at2, verse_grammar::proofs::StickingParts::sticks_generator_rest_at1_1, verse_grammar::proofs::StickingParts::sticks_generator_rest_at2_1, verse_grammar::proofs::StickingParts::sticks_generator_rest_other))]
 fn generated<'t, F: Fn(Global, &[u8], Phrase, &[Tok]) -> Result<(Tree, usize), ReadFault>>(
     reader: &Reader<'_, F>,
     tok: Tok,
@@ -110,7 +110,7 @@ fn elements<'t, F: Fn(Global, &[u8], Phrase, &[Tok]) -> Result<(Tree, usize), Re
 }
 
 /// What is behind `K ->`.
-#[tactic(auto, using(verse_grammar::proofs::Sticking::sticks_entries_rest_1))]
+#[tactic(auto, using(verse_grammar::proofs::StickingParts::sticks_entries_rest_1))]
 fn entries<'t, F: Fn(Global, &[u8], Phrase, &[Tok]) -> Result<(Tree, usize), ReadFault>>(
     reader: &Reader<'_, F>,
     tok: Tok,
@@ -135,7 +135,7 @@ fn entries<'t, F: Fn(Global, &[u8], Phrase, &[Tok]) -> Result<(Tree, usize), Rea
 }
 
 /// What is behind `K -> V`.
-#[tactic(auto, using(verse_grammar::specs::Exprs::entries, verse_grammar::proofs::Eating::eats_entries_rest, verse_grammar::proofs::Sticking::sticks_entries_rest_2, verse_grammar::proofs::Sticking::sticks_entries_rest_3))]
+#[tactic(auto, using(verse_grammar::specs::Exprs::entries, verse_grammar::proofs::Eating::eats_entries_rest, verse_grammar::proofs::StickingParts::sticks_entries_rest_2, verse_grammar::proofs::StickingParts::sticks_entries_rest_3))]
 fn entries_of<'t, F: Fn(Global, &[u8], Phrase, &[Tok]) -> Result<(Tree, usize), ReadFault>>(
     reader: &Reader<'_, F>,
     tok: Tok,
@@ -168,7 +168,7 @@ fn entries_of<'t, F: Fn(Global, &[u8], Phrase, &[Tok]) -> Result<(Tree, usize), 
 }
 
 /// What is behind `I :=` in a generator.
-#[tactic(auto, using(crate::proofs::Clausing::range_by, crate::proofs::Clausing::eats_range_by, crate::proofs::Clausing::sticks_range_by, verse_grammar::proofs::Sticking::sticks_generator_rest_at3_1))]
+#[tactic(auto, using(crate::proofs::Clausing::range_by, crate::proofs::Clausing::eats_range_by, crate::proofs::Clausing::sticks_range_by, verse_grammar::proofs::StickingParts::sticks_generator_rest_at3_1))]
 fn range<'t, F: Fn(Global, &[u8], Phrase, &[Tok]) -> Result<(Tree, usize), ReadFault>>(
     reader: &Reader<'_, F>,
     tok: Tok,
@@ -279,7 +279,7 @@ fn named_clause<'t, F: Fn(Global, &[u8], Phrase, &[Tok]) -> Result<(Tree, usize)
 }
 
 /// What is behind `X :=` in a clause.
-#[tactic(auto, using(verse_grammar::specs::Exprs::clause_definition, verse_grammar::specs::Exprs::expr_if, verse_grammar::proofs::Eating::eats_clause_value_at1, verse_grammar::proofs::Sticking::sticks_clause_value_at1_1))]
+#[tactic(auto, using(verse_grammar::specs::Exprs::clause_definition, verse_grammar::specs::Exprs::expr_if, verse_grammar::proofs::Eating::eats_clause_value_at1, verse_grammar::proofs::StickingParts::sticks_clause_value_at1_1))]
 fn defined_clause<'t, F: Fn(Global, &[u8], Phrase, &[Tok]) -> Result<(Tree, usize), ReadFault>>(
     reader: &Reader<'_, F>,
     tok: Tok,
@@ -344,7 +344,7 @@ fn denied_clause<'t, F: Fn(Global, &[u8], Phrase, &[Tok]) -> Result<(Tree, usize
 }
 
 /// What begins with a sum behind `X :=`: a range, or the value of a definition.
-#[tactic(auto, using(verse_grammar::specs::Exprs::range, verse_grammar::specs::Exprs::clause_generator, verse_grammar::specs::Exprs::clause_definition, crate::proofs::Sums::whole, verse_grammar::proofs::Eating::eats_clause_value_other, verse_grammar::proofs::Eating::eats_range_rest_at, verse_grammar::proofs::Sticking::sticks_clause_value_other_1, verse_grammar::proofs::Sticking::sticks_clause_value_other_2, verse_grammar::proofs::Sticking::sticks_range_rest_at_1))]
+#[tactic(auto, using(verse_grammar::specs::Exprs::range, verse_grammar::specs::Exprs::clause_generator, verse_grammar::specs::Exprs::clause_definition, crate::proofs::Sums::whole, verse_grammar::proofs::Eating::eats_clause_value_other, verse_grammar::proofs::Eating::eats_range_rest_at, verse_grammar::proofs::StickingParts::sticks_clause_value_other_1, verse_grammar::proofs::StickingParts::sticks_clause_value_other_2, verse_grammar::proofs::StickingParts::sticks_range_rest_at_1))]
 fn sum_clause<'t, F: Fn(Global, &[u8], Phrase, &[Tok]) -> Result<(Tree, usize), ReadFault>>(
     reader: &Reader<'_, F>,
     tok: Tok,
@@ -387,7 +387,7 @@ fn sum_clause<'t, F: Fn(Global, &[u8], Phrase, &[Tok]) -> Result<(Tree, usize), 
 }
 
 /// The rest of an expression behind the sum with which it begins.
-#[tactic(auto, using(crate::specs::Behind::behind, verse_grammar::proofs::Eating::eats_range_rest_other, verse_grammar::proofs::Sticking::sticks_range_rest_other_1, verse_grammar::proofs::Sticking::sticks_range_rest_other_2, verse_grammar::proofs::Sticking::sticks_range_rest_other_3))]
+#[tactic(auto, using(crate::specs::Behind::behind, verse_grammar::proofs::Eating::eats_range_rest_other, verse_grammar::proofs::StickingParts::sticks_range_rest_other_1, verse_grammar::proofs::StickingParts::sticks_range_rest_other_2, verse_grammar::proofs::StickingParts::sticks_range_rest_other_3))]
 fn behind_sum<'t, F: Fn(Global, &[u8], Phrase, &[Tok]) -> Result<(Tree, usize), ReadFault>>(
     reader: &Reader<'_, F>,
     left: Tree,

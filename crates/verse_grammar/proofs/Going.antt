@@ -36,12 +36,16 @@ use Rattle.verse_grammar.specs.Loops.{Goes}
 use Rattle.verse_grammar.proofs.Eating.{eats_a_type_option, eats_chain_tail_at, eats_givens_tail_at, eats_hole_rest_at, eats_minus_at}
 use Rattle.verse_grammar.proofs.Eating.{eats_not_at, eats_pairs_tail_at, eats_postfix_tail_dot, eats_postfix_tail_question}
 use Rattle.verse_grammar.proofs.Eating.{eats_postfix_tail_round, eats_postfix_tail_square, eats_row_tail_at, eats_types_tail_at}
-use Rattle.verse_grammar.proofs.Sticking.{sticks_a_type_option_1, sticks_chain_tail_at_1, sticks_chain_tail_at_2, sticks_givens_tail_at_1}
-use Rattle.verse_grammar.proofs.Sticking.{sticks_givens_tail_at_2, sticks_hole_rest_at_1, sticks_hole_rest_at_2, sticks_minus_at_1}
-use Rattle.verse_grammar.proofs.Sticking.{sticks_not_at_1, sticks_pairs_tail_at_1, sticks_pairs_tail_at_2, sticks_postfix_tail_dot_1}
-use Rattle.verse_grammar.proofs.Sticking.{sticks_postfix_tail_dot_2, sticks_postfix_tail_question_1, sticks_postfix_tail_round_1}
-use Rattle.verse_grammar.proofs.Sticking.{sticks_postfix_tail_round_2, sticks_postfix_tail_square_1, sticks_postfix_tail_square_2}
-use Rattle.verse_grammar.proofs.Sticking.{sticks_row_tail_at_1, sticks_row_tail_at_2, sticks_types_tail_at_1, sticks_types_tail_at_2}
+use Rattle.verse_grammar.proofs.Sticking.{sticks_a_type_option_1}
+use Rattle.verse_grammar.proofs.StickingParts.{sticks_chain_tail_at_1, sticks_chain_tail_at_2, sticks_givens_tail_at_1}
+use Rattle.verse_grammar.proofs.Sticking.{sticks_minus_at_1}
+use Rattle.verse_grammar.proofs.StickingParts.{sticks_givens_tail_at_2, sticks_hole_rest_at_1, sticks_hole_rest_at_2}
+use Rattle.verse_grammar.proofs.Sticking.{sticks_not_at_1}
+use Rattle.verse_grammar.proofs.StickingParts.{sticks_pairs_tail_at_1, sticks_pairs_tail_at_2, sticks_postfix_tail_dot_1}
+use Rattle.verse_grammar.proofs.StickingParts.{sticks_postfix_tail_dot_2, sticks_postfix_tail_question_1, sticks_postfix_tail_round_1}
+use Rattle.verse_grammar.proofs.StickingParts.{sticks_postfix_tail_round_2, sticks_postfix_tail_square_1, sticks_postfix_tail_square_2}
+use Rattle.verse_grammar.proofs.Sticking.{sticks_types_tail_at_1, sticks_types_tail_at_2}
+use Rattle.verse_grammar.proofs.StickingParts.{sticks_row_tail_at_1, sticks_row_tail_at_2}
 
 pub goes_start : (r : Rule) (ks : List Tok) → Goes r ks ks
 goes_start r ks = record { eats = λ rest e. e; sticks = λ left x. x }

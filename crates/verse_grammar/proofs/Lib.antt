@@ -2,6 +2,7 @@ pub mod Sights
 pub mod Fixing
 pub mod Eating
 pub mod Sticking
+pub mod StickingParts
 pub mod Going
 pub mod ByExpr
 pub mod SpelledValues

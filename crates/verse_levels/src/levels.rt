@@ -204,7 +204,7 @@ pub fn negated<'t, F: Fn(Global, &[u8], Phrase, &[Tok]) -> Result<(Tree, usize),
 }
 
 /// Two sums that are compared, or one.
-#[tactic(auto, using(crate::proofs::Comparing::compared_sums, verse_grammar::proofs::Eating::eats_comparison, verse_grammar::proofs::Sticking::sticks_comparison_1, verse_grammar::proofs::Sticking::sticks_comparison_2, verse_grammar::proofs::Sticking::sticks_comparison_tail_at_1))]
+#[tactic(auto, using(crate::proofs::Comparing::compared_sums, verse_grammar::proofs::Eating::eats_comparison, verse_grammar::proofs::Sticking::sticks_comparison_1, verse_grammar::proofs::Sticking::sticks_comparison_2, verse_grammar::proofs::StickingParts::sticks_comparison_tail_at_1))]
 pub fn comparison<'t, F: Fn(Global, &[u8], Phrase, &[Tok]) -> Result<(Tree, usize), ReadFault>>(
     reader: &Reader<'_, F>,
     toks: &'t [Tok],
@@ -224,7 +224,7 @@ pub fn comparison<'t, F: Fn(Global, &[u8], Phrase, &[Tok]) -> Result<(Tree, usiz
 }
 
 /// What a sum is compared with, if anything.
-#[tactic(auto, using(crate::specs::Compares::alone, crate::specs::Compares::with_another, verse_grammar::proofs::Eating::eats_comparison_tail_at, verse_grammar::proofs::Eating::eats_comparison_tail_other, verse_grammar::proofs::Sticking::sticks_comparison_tail_at_1))]
+#[tactic(auto, using(crate::specs::Compares::alone, crate::specs::Compares::with_another, verse_grammar::proofs::Eating::eats_comparison_tail_at, verse_grammar::proofs::Eating::eats_comparison_tail_other, verse_grammar::proofs::StickingParts::sticks_comparison_tail_at_1))]
 pub fn comparison_tail<
     't,
     F: Fn(Global, &[u8], Phrase, &[Tok]) -> Result<(Tree, usize), ReadFault>,

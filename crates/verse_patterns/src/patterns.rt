@@ -89,7 +89,7 @@ fn pattern_from<'t, F: Fn(Global, &[u8], Phrase, &[Tok]) -> Result<(Tree, usize)
 }
 
 /// `-n`
-#[tactic(auto, using(verse_grammar::specs::Exprs::minus_pattern, verse_grammar::proofs::Eating::eats_pattern_minus, verse_grammar::proofs::Eating::eats_an_int_at, verse_grammar::proofs::Sticking::sticks_pattern_minus_1, verse_grammar::proofs::Sticking::sticks_an_int_other, verse_grammar::proofs::Sticking::sticks_an_int_end))]
+#[tactic(auto, using(verse_grammar::specs::Exprs::minus_pattern, verse_grammar::proofs::Eating::eats_pattern_minus, verse_grammar::proofs::Eating::eats_an_int_at, verse_grammar::proofs::Sticking::sticks_pattern_minus_1, verse_grammar::proofs::StickingParts::sticks_an_int_other, verse_grammar::proofs::StickingParts::sticks_an_int_end))]
 fn below_zero<'t, F: Fn(Global, &[u8], Phrase, &[Tok]) -> Result<(Tree, usize), ReadFault>>(
     reader: &Reader<'_, F>,
     tok: Tok,

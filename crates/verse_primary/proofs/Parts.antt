@@ -22,8 +22,9 @@ use Rattle.verse_grammar.specs.declared.starts.Duration.TheVariants as duration
 use Rattle.verse_grammar.specs.declared.starts.PrimaryStart.TheVariants as primary
 use Rattle.verse_grammar.proofs.Eating.{eats_givens_until_other, eats_givens_tail_other, eats_pairs_until_other, eats_pairs_tail_other}
 use Rattle.verse_grammar.proofs.Eating.{eats_primary_textopen, eats_hole_rest_other, eats_pair, eats_primary_spawn}
-use Rattle.verse_grammar.proofs.Sticking.{sticks_givens_until_other_2, sticks_givens_until_other_3, sticks_pairs_until_other_2}
-use Rattle.verse_grammar.proofs.Sticking.{sticks_pairs_until_other_3, sticks_primary_textopen_2, sticks_hole_rest_other_1, sticks_pair_3}
+use Rattle.verse_grammar.proofs.StickingParts.{sticks_givens_until_other_2, sticks_givens_until_other_3, sticks_pairs_until_other_2}
+use Rattle.verse_grammar.proofs.Sticking.{sticks_primary_textopen_2}
+use Rattle.verse_grammar.proofs.StickingParts.{sticks_pairs_until_other_3, sticks_hole_rest_other_1, sticks_pair_3}
 use Rattle.verse_grammar.proofs.Going.{stuck_givens_tail_at_1, stuck_pairs_tail_at_1, stuck_hole_rest_at_1}
 use Rattle.verse_primary.specs.Parts.{IsGiven, is_given, IsPair, is_pair, slept}
 

@@ -100,7 +100,7 @@ fn pairs_until<'t, F: Fn(Global, &[u8], Phrase, &[Tok]) -> Result<(Tree, usize),
 }
 
 /// One key or more, up to Close.
-#[tactic(auto, using(crate::proofs::Parts::pair_row_one, verse_grammar::specs::Exprs::some_pairs, verse_grammar::proofs::Going::goes_start, crate::proofs::Parts::pairs_eaten, crate::proofs::Parts::pairs_stuck_between, crate::proofs::Parts::pairs_stuck_at_end, verse_grammar::proofs::Sticking::sticks_pairs_until_other_1))]
+#[tactic(auto, using(crate::proofs::Parts::pair_row_one, verse_grammar::specs::Exprs::some_pairs, verse_grammar::proofs::Going::goes_start, crate::proofs::Parts::pairs_eaten, crate::proofs::Parts::pairs_stuck_between, crate::proofs::Parts::pairs_stuck_at_end, verse_grammar::proofs::StickingParts::sticks_pairs_until_other_1))]
 fn pairs<'t, F: Fn(Global, &[u8], Phrase, &[Tok]) -> Result<(Tree, usize), ReadFault>>(
     reader: &Reader<'_, F>,
     toks: &'t [Tok],
@@ -132,7 +132,7 @@ fn pairs<'t, F: Fn(Global, &[u8], Phrase, &[Tok]) -> Result<(Tree, usize), ReadF
 }
 
 /// `K => V`
-#[tactic(auto, using(crate::proofs::Parts::pair_by, crate::proofs::Parts::eats_pair_by, verse_grammar::proofs::Sticking::sticks_pair_1, verse_grammar::proofs::Sticking::sticks_pair_2, crate::proofs::Parts::sticks_pair_by))]
+#[tactic(auto, using(crate::proofs::Parts::pair_by, crate::proofs::Parts::eats_pair_by, verse_grammar::proofs::StickingParts::sticks_pair_1, verse_grammar::proofs::StickingParts::sticks_pair_2, crate::proofs::Parts::sticks_pair_by))]
 fn pair<'t, F: Fn(Global, &[u8], Phrase, &[Tok]) -> Result<(Tree, usize), ReadFault>>(
     reader: &Reader<'_, F>,
     toks: &'t [Tok],

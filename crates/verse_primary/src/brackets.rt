@@ -53,7 +53,7 @@ pub fn round<'t, F: Fn(Global, &[u8], Phrase, &[Tok]) -> Result<(Tree, usize), R
 }
 
 /// What stands behind the first expression in round brackets: others behind a comma, or none.
-#[tactic(auto, using(crate::specs::Rounds::only_one, crate::specs::Rounds::several, verse_grammar::proofs::Eating::eats_round_rest_at, verse_grammar::proofs::Eating::eats_round_rest_other, verse_grammar::proofs::Sticking::sticks_round_rest_at_1, verse_grammar::proofs::Sticking::sticks_round_rest_other_1))]
+#[tactic(auto, using(crate::specs::Rounds::only_one, crate::specs::Rounds::several, verse_grammar::proofs::Eating::eats_round_rest_at, verse_grammar::proofs::Eating::eats_round_rest_other, verse_grammar::proofs::StickingParts::sticks_round_rest_at_1, verse_grammar::proofs::StickingParts::sticks_round_rest_other_1))]
 fn others<'t, F: Fn(Global, &[u8], Phrase, &[Tok]) -> Result<(Tree, usize), ReadFault>>(
     reader: &Reader<'_, F>,
     toks: &'t [Tok],
@@ -107,7 +107,7 @@ pub fn event<'t, F: Fn(Global, &[u8], Phrase, &[Tok]) -> Result<(Tree, usize), R
 }
 
 /// `Sleep(D)`
-#[tactic(auto, using(crate::proofs::Parts::sleep_reads, verse_grammar::proofs::Sticking::sticks_primary_sleep_1, verse_grammar::proofs::Sticking::sticks_primary_sleep_2, verse_grammar::proofs::Sticking::sticks_duration_other, verse_grammar::proofs::Sticking::sticks_duration_end))]
+#[tactic(auto, using(crate::proofs::Parts::sleep_reads, verse_grammar::proofs::Sticking::sticks_primary_sleep_1, verse_grammar::proofs::Sticking::sticks_primary_sleep_2, verse_grammar::proofs::StickingParts::sticks_duration_other, verse_grammar::proofs::StickingParts::sticks_duration_end))]
 pub fn sleep<'t, F: Fn(Global, &[u8], Phrase, &[Tok]) -> Result<(Tree, usize), ReadFault>>(
     reader: &Reader<'_, F>,
     tok: Tok,

@@ -104,7 +104,7 @@ fn primary_from<'t, F: Fn(Global, &[u8], Phrase, &[Tok]) -> Result<(Tree, usize)
 }
 
 /// A name, or an instance of a class.
-#[tactic(auto, using(verse_grammar::specs::Exprs::name_alone, verse_grammar::specs::Exprs::instance, verse_grammar::proofs::Eating::eats_primary_name, verse_grammar::proofs::Eating::eats_name_rest_at, verse_grammar::proofs::Eating::eats_name_rest_other, verse_grammar::proofs::Sticking::sticks_primary_name_1, verse_grammar::proofs::Sticking::sticks_name_rest_at_1))]
+#[tactic(auto, using(verse_grammar::specs::Exprs::name_alone, verse_grammar::specs::Exprs::instance, verse_grammar::proofs::Eating::eats_primary_name, verse_grammar::proofs::Eating::eats_name_rest_at, verse_grammar::proofs::Eating::eats_name_rest_other, verse_grammar::proofs::Sticking::sticks_primary_name_1, verse_grammar::proofs::StickingParts::sticks_name_rest_at_1))]
 fn name_from<'t, F: Fn(Global, &[u8], Phrase, &[Tok]) -> Result<(Tree, usize), ReadFault>>(
     reader: &Reader<'_, F>,
     tok: Tok,
@@ -157,7 +157,7 @@ fn givens_until<'t, F: Fn(Global, &[u8], Phrase, &[Tok]) -> Result<(Tree, usize)
 }
 
 /// One field or more, up to Close.
-#[tactic(auto, using(crate::proofs::Parts::given_row_one, crate::proofs::Repeats::some_givens_by, verse_grammar::proofs::Going::goes_start, crate::proofs::Repeats::givens_eaten_by, crate::proofs::Parts::givens_stuck_at_end, verse_grammar::proofs::Sticking::sticks_givens_until_other_1))]
+#[tactic(auto, using(crate::proofs::Parts::given_row_one, crate::proofs::Repeats::some_givens_by, verse_grammar::proofs::Going::goes_start, crate::proofs::Repeats::givens_eaten_by, crate::proofs::Parts::givens_stuck_at_end, verse_grammar::proofs::StickingParts::sticks_givens_until_other_1))]
 fn givens<'t, F: Fn(Global, &[u8], Phrase, &[Tok]) -> Result<(Tree, usize), ReadFault>>(
     reader: &Reader<'_, F>,
     toks: &'t [Tok],
@@ -189,7 +189,7 @@ fn givens<'t, F: Fn(Global, &[u8], Phrase, &[Tok]) -> Result<(Tree, usize), Read
 }
 
 /// `F := E`
-#[tactic(auto, using(crate::specs::Parts::is_given, verse_grammar::proofs::Eating::eats_given, verse_grammar::proofs::Sticking::sticks_given_1, verse_grammar::proofs::Sticking::sticks_given_2, verse_grammar::proofs::Sticking::sticks_given_3))]
+#[tactic(auto, using(crate::specs::Parts::is_given, verse_grammar::proofs::Eating::eats_given, verse_grammar::proofs::StickingParts::sticks_given_1, verse_grammar::proofs::StickingParts::sticks_given_2, verse_grammar::proofs::StickingParts::sticks_given_3))]
 fn given<'t, F: Fn(Global, &[u8], Phrase, &[Tok]) -> Result<(Tree, usize), ReadFault>>(
     reader: &Reader<'_, F>,
     toks: &'t [Tok],

@@ -12,7 +12,7 @@ use Rattle.verse_grammar.specs.Reading.{EatsRule, SticksRule}
 use Rattle.verse_grammar.specs.Loops.{Goes}
 use Rattle.verse_grammar.specs.declared.phrases.Phrase.{Phrase}
 use Rattle.verse_grammar.proofs.Eating.{eats_closed, eats_row_tail_other}
-use Rattle.verse_grammar.proofs.Sticking.{sticks_closed_2, sticks_closed_3}
+use Rattle.verse_grammar.proofs.StickingParts.{sticks_closed_2, sticks_closed_3}
 use Rattle.verse_grammar.proofs.Going.{goes_row_tail_at, stuck_row_tail_at_1}
 
 pub closed_eaten : (q : Phrase) (s c : TokKind) (k : Tok) (ks mid rest : List Tok) → EatsRule (phrase q) ks mid →
