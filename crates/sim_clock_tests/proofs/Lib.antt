@@ -1,1 +1,2 @@
 mod Above
+mod Rules

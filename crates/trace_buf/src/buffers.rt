@@ -1,3 +1,5 @@
+//! A trace that can be taken back to a mark and drained.
+
 ghost use Rattle.std.specs.Prelude.{◌≡◌, ◌≢◌, ◌+◌, ◌<◌, ◌≤◌, ◌↔◌, [], ◌∷◌, IsErrOf, OnErr, OnOk};
 ghost use Rattle.std.specs.Prelude.{length, take};
 ghost use Rattle.verse_base.specs.TraceLine.{line_bytes};

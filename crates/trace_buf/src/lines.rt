@@ -1,3 +1,5 @@
+//! The lines of a trace, and how they are printed.
+
 ghost use Rattle.std.specs.Prelude.{◌≡◌, ◌≤◌, ◌<◌, ◌++◌, ◌∷◌, [], OnErr, OnOk, length, map, drop};
 ghost use Rattle.std.specs.Prelude.{take};
 ghost use Rattle.verse_base.specs.TraceLine.{escaped, escaped_byte, line_bytes};

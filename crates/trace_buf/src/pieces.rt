@@ -1,3 +1,5 @@
+//! Bytes that are held back until they are written together.
+
 ghost use Rattle.std.specs.Prelude.{◌≡◌, ◌+◌, ◌<◌, ◌≤◌, ◌↔◌, ◌++◌, ◌∷◌, [], ℕ, List, IsTrue, OnErr};
 ghost use Rattle.std.specs.Prelude.{OnOk, length, take};
 ghost use Rattle.verse_outside.specs.Causes.{Rose};

@@ -1,3 +1,5 @@
+//! How many bytes a line prints.
+
 ghost use Rattle.std.specs.Prelude.{◌≡◌, ◌+◌, length, min};
 ghost use Rattle.verse_base.specs.TraceLine.{escaped, escaped_byte, line_bytes};
 

@@ -1,3 +1,5 @@
+//! Tests of traces.
+
 use crate::buffers::{LineFault, TraceBuf};
 use std::alloc::Global;
 use std::test::Fail;

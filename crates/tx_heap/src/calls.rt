@@ -1,3 +1,5 @@
+//! Calls on any heap, which do what they do to a heap that keeps copies.
+
 ghost use Rattle.std.specs.Prelude.{◌≡◌, ◌↔◌, ◌<◌, length, if◌then◌else◌, IsTrue, IsSome, IfOk};
 ghost use Rattle.std.specs.Prelude.{OnOk, OnErr};
 ghost use Rattle.verse_value.specs.View.{val_of, vals_of};

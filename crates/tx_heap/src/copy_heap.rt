@@ -1,3 +1,5 @@
+//! A heap that keeps copies of all cells.
+
 ghost use Rattle.std.specs.Prelude.{◌≡◌, None, Some, MatchOption};
 ghost use Rattle.verse_value.specs.View.{val_of};
 ghost use Rattle.verse_value.specs.Store.{slot_of};

@@ -1,3 +1,5 @@
+//! What undoes a change, and open marks.
+
 use verse_cells::slots::Address;
 use verse_value::values::Value;
 use verse_write::paths::Path;

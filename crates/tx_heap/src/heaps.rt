@@ -1,3 +1,5 @@
+//! What a heap is: cells whose changes since a mark can be undone.
+
 ghost use Rattle.std.specs.Prelude.{◌≡◌, ◌<◌, ◌≢◌, ◌↔◌, IsTrue, ℕ, List, [], ◌∷◌, IsSome, IfOk};
 ghost use Rattle.std.specs.Prelude.{IfErr, OnOk, OnErr, length, slice_get, option_map, Some, Ok};
 ghost use Rattle.std.specs.Borrow.{sem};

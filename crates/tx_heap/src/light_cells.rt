@@ -1,3 +1,5 @@
+//! Cells whose weight in all is bounded, and whose accesses are counted.
+
 ghost use Rattle.std.specs.Prelude.{◌≡◌, ◌<◌, ◌≤◌, ◌+◌, [], ◌∷◌, length, drop, IsSome, Some, Ok};
 ghost use Rattle.std.specs.Prelude.{IfOk, IfErr, OnOk, OnErr, slice_get, option_map};
 ghost use Rattle.std.specs.Borrow.{sem};

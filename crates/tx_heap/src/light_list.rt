@@ -1,3 +1,5 @@
+//! Cells whose weight in all is bounded.
+
 ghost use Rattle.std.specs.Prelude.{◌≡◌, ◌<◌, ◌+◌, ◌≤◌, [], length, IsSome, None, Some};
 ghost use Rattle.std.specs.Prelude.{MatchOption, Ok, IfOk, IfErr, OnOk, OnErr, slice_get};
 ghost use Rattle.std.specs.Prelude.{option_map};

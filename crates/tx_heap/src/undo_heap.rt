@@ -1,3 +1,5 @@
+//! A heap that keeps what undoes each change.
+
 ghost use Rattle.std.specs.Prelude.{◌≡◌, ◌≤◌, ◌+◌, [], ◌∷◌, ◌++◌, OnOk, vec_len, vec_capacity};
 
 use crate::entries::{Entry, Mark};

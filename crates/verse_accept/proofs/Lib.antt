@@ -7,3 +7,4 @@ pub mod Tested
 pub mod Answered
 pub mod InTurn
 pub mod Joined
+pub mod Rules

@@ -1,3 +1,5 @@
+//! Tests of arithmetic, texts and rules.
+
 use crate::arithmetic::{add, ceil_div, floor_div, modulo, mul, neg, quotients_round, sub};
 use crate::refusals::Rule;
 use crate::rule_texts::rule_text;

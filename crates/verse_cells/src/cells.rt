@@ -1,3 +1,5 @@
+//! The cells of a store, whose accesses are counted.
+
 ghost use Rattle.std.specs.Prelude.{◌≡◌, ◌<◌, ◌≤◌, [], length, IsSome, Some, IfOk, IfErr, OnOk};
 ghost use Rattle.std.specs.Prelude.{OnErr, slice_get, option_map};
 ghost use Rattle.std.specs.Borrow.{sem};

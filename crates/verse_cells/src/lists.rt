@@ -1,3 +1,5 @@
+//! The slots of one cell.
+
 ghost use Rattle.std.specs.Prelude.{◌≡◌, ◌<◌, Some, length, slice_get};
 ghost use Rattle.std.specs.Borrow.{sem};
 

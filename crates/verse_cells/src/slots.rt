@@ -1,3 +1,5 @@
+//! What stands in a slot of a cell, and writes in it.
+
 ghost use Rattle.std.specs.Prelude.{◌≡◌, ◌<◌, Ok, length, IsSome, None, Some, MatchOption, IfOk};
 ghost use Rattle.std.specs.Prelude.{IfErr, OnErr, slice_get, slice_set};
 ghost use Rattle.verse_value.specs.View.{val_of, vals_of};

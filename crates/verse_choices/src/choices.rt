@@ -23,7 +23,7 @@ use verse_reading::nesting::Reader;
 use verse_reading::steps::{ReadFault, expect, take};
 
 /// `if`, or what is joined by `or`.
-#[tactic(auto, using(verse_grammar::specs::Exprs::expr_if, verse_grammar::specs::Exprs::expr_or, verse_grammar::proofs::Eating::eats_expr_at, verse_grammar::proofs::Eating::eats_expr_other, verse_grammar::proofs::Sticking::sticks_expr_at_1, verse_grammar::proofs::Sticking::sticks_expr_other_1))]
+#[tactic(auto, using(crate::proofs::Rules::of_expr))]
 pub fn expr<'t, F: Fn(Global, &[u8], Phrase, &[Tok]) -> Result<(Tree, usize), ReadFault>>(
     reader: &Reader<'_, F>,
     toks: &'t [Tok],
@@ -45,7 +45,7 @@ pub fn expr<'t, F: Fn(Global, &[u8], Phrase, &[Tok]) -> Result<(Tree, usize), Re
 }
 
 /// What is behind `if`.
-#[tactic(auto, using(verse_grammar::specs::Exprs::if_else, verse_grammar::specs::Exprs::if_alone, verse_grammar::proofs::Eating::eats_an_if, verse_grammar::proofs::Eating::eats_otherwise_at, verse_grammar::proofs::Eating::eats_otherwise_other, verse_grammar::proofs::StickingParts::sticks_an_if_2, verse_grammar::proofs::StickingParts::sticks_an_if_3, verse_grammar::proofs::StickingParts::sticks_an_if_4, verse_grammar::proofs::StickingParts::sticks_an_if_5, verse_grammar::proofs::StickingParts::sticks_otherwise_at_1))]
+#[tactic(auto, using(crate::proofs::Rules::of_if_form))]
 pub fn if_form<'t, F: Fn(Global, &[u8], Phrase, &[Tok]) -> Result<(Tree, usize), ReadFault>>(
     reader: &Reader<'_, F>,
     tok: Tok,
@@ -81,7 +81,7 @@ pub fn if_form<'t, F: Fn(Global, &[u8], Phrase, &[Tok]) -> Result<(Tree, usize),
 }
 
 /// What an `if` comes to where its conditions hold.
-#[tactic(auto, using(verse_grammar::specs::Exprs::taken_then, verse_grammar::specs::Exprs::taken_block, verse_grammar::proofs::Eating::eats_taken_at, verse_grammar::proofs::Eating::eats_taken_other, verse_grammar::proofs::StickingParts::sticks_taken_at_1, verse_grammar::proofs::StickingParts::sticks_taken_other_1))]
+#[tactic(auto, using(crate::proofs::Rules::of_taken))]
 fn taken<'t, F: Fn(Global, &[u8], Phrase, &[Tok]) -> Result<(Tree, usize), ReadFault>>(
     reader: &Reader<'_, F>,
     toks: &'t [Tok],

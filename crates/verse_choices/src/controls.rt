@@ -24,7 +24,7 @@ use verse_reading::steps::{ReadFault, next};
 use verse_tree::exprs::Assign;
 
 /// What is behind `set`.
-#[tactic(auto, using(crate::proofs::Writing::set_by, crate::proofs::Writing::eats_set_by, crate::proofs::Writing::sticks_set_by, verse_grammar::proofs::StickingParts::sticks_set_rest_1))]
+#[tactic(auto, using(crate::proofs::Rules::of_set))]
 pub fn set<'t, F: Fn(Global, &[u8], Phrase, &[Tok]) -> Result<(Tree, usize), ReadFault>>(
     reader: &Reader<'_, F>,
     tok: Tok,
@@ -50,7 +50,7 @@ pub fn set<'t, F: Fn(Global, &[u8], Phrase, &[Tok]) -> Result<(Tree, usize), Rea
 }
 
 /// How a `set` writes, and the value.
-#[tactic(auto, using(crate::specs::Writing::writes, crate::proofs::Writing::eats_writes, crate::proofs::Writing::sticks_writes_1, crate::proofs::Writing::sticks_writes_2))]
+#[tactic(auto, using(crate::proofs::Rules::of_written))]
 fn written<'t, F: Fn(Global, &[u8], Phrase, &[Tok]) -> Result<(Tree, usize), ReadFault>>(
     reader: &Reader<'_, F>,
     toks: &'t [Tok],
@@ -71,7 +71,7 @@ fn written<'t, F: Fn(Global, &[u8], Phrase, &[Tok]) -> Result<(Tree, usize), Rea
 }
 
 /// What is behind `return`.
-#[tactic(auto, using(verse_grammar::specs::Exprs::returned, verse_grammar::specs::Exprs::returned_unit, verse_grammar::proofs::Eating::eats_return_value_at, verse_grammar::proofs::Eating::eats_return_value_other, verse_grammar::proofs::StickingParts::sticks_return_value_at_1, crate::proofs::Starting::return_start))]
+#[tactic(auto, using(crate::proofs::Rules::of_returned))]
 pub fn returned<'t, F: Fn(Global, &[u8], Phrase, &[Tok]) -> Result<(Tree, usize), ReadFault>>(
     reader: &Reader<'_, F>,
     tok: Tok,
@@ -96,7 +96,7 @@ pub fn returned<'t, F: Fn(Global, &[u8], Phrase, &[Tok]) -> Result<(Tree, usize)
 }
 
 /// How a `set` writes.
-#[tactic(auto, using(verse_grammar::proofs::Eating::eats_assign_at, verse_grammar::proofs::StickingParts::sticks_assign_other, verse_grammar::proofs::StickingParts::sticks_assign_end))]
+#[tactic(auto, using(crate::proofs::Rules::of_assign))]
 fn assign<'t>(toks: &'t [Tok]) -> Result<((Tok, Assign), &'t [Tok]), ReadFault>
     ensures found { IfOk result (λ r. toks.now ≡ r.0.0 ∷ r.1.now) }
     ensures mode { IfOk result (λ r. assign_at r.0.0.kind ≡ Some r.0.1) }

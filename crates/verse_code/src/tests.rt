@@ -1,3 +1,5 @@
+//! Tests of operations, their shapes and what suits them.
+
 use crate::codes::{Class, Code, Func};
 use crate::operands::{Operand, OperandKind};
 use crate::operations::Op;

@@ -5,3 +5,4 @@ pub mod Indices
 pub mod AtOnce
 pub mod Plain
 pub mod Cuts
+pub mod Rules

@@ -23,7 +23,7 @@ use verse_reading::nesting::Reader;
 use verse_reading::steps::{ReadFault, expect, take};
 
 /// `for`
-#[tactic(auto, using(verse_grammar::specs::Exprs::for_form, verse_grammar::proofs::Eating::eats_primary_for, verse_grammar::proofs::Sticking::sticks_primary_for_1, verse_grammar::proofs::Sticking::sticks_primary_for_2, verse_grammar::proofs::Sticking::sticks_primary_for_3))]
+#[tactic(auto, using(crate::proofs::Rules::of_for_form))]
 pub fn for_form<'t, F: Fn(Global, &[u8], Phrase, &[Tok]) -> Result<(Tree, usize), ReadFault>>(
     reader: &Reader<'_, F>,
     tok: Tok,
@@ -47,7 +47,7 @@ pub fn for_form<'t, F: Fn(Global, &[u8], Phrase, &[Tok]) -> Result<(Tree, usize)
 }
 
 /// A generator, and clauses behind it, up to the closing bracket.
-#[tactic(auto, using(verse_grammar::specs::Exprs::first_generator, verse_grammar::specs::Exprs::clauses, verse_grammar::proofs::Going::goes_start, crate::proofs::Clauses::clauses_eaten, crate::proofs::Clauses::clauses_stuck_between, crate::proofs::Clauses::clauses_stuck_at_end, verse_grammar::proofs::StickingParts::sticks_clauses_1))]
+#[tactic(auto, using(crate::proofs::Rules::of_clauses))]
 fn clauses<'t, F: Fn(Global, &[u8], Phrase, &[Tok]) -> Result<(Tree, usize), ReadFault>>(
     reader: &Reader<'_, F>,
     toks: &'t [Tok],
@@ -78,7 +78,7 @@ fn clauses<'t, F: Fn(Global, &[u8], Phrase, &[Tok]) -> Result<(Tree, usize), Rea
 }
 
 /// `case`
-#[tactic(auto, using(verse_grammar::proofs::Sticking::sticks_primary_case_1, verse_grammar::proofs::StickingParts::sticks_case_rest_1, verse_grammar::proofs::StickingParts::sticks_case_rest_2, crate::proofs::Clauses::case_stuck_behind))]
+#[tactic(auto, using(crate::proofs::Rules::of_cases))]
 pub fn cases<'t, F: Fn(Global, &[u8], Phrase, &[Tok]) -> Result<(Tree, usize), ReadFault>>(
     reader: &Reader<'_, F>,
     tok: Tok,

@@ -31,7 +31,7 @@ use verse_reading::spans::name_of;
 use verse_reading::steps::{ReadFault, expect, next, take};
 
 /// The first thing in the brackets of a `for`.
-#[tactic(auto, using(verse_grammar::proofs::Eating::eats_generator, verse_grammar::proofs::Sticking::sticks_generator_1, verse_grammar::proofs::Sticking::sticks_generator_2))]
+#[tactic(auto, using(crate::proofs::Rules::of_generator))]
 pub fn generator<'t, F: Fn(Global, &[u8], Phrase, &[Tok]) -> Result<(Tree, usize), ReadFault>>(
     reader: &Reader<'_, F>,
     toks: &'t [Tok],
@@ -51,7 +51,7 @@ pub fn generator<'t, F: Fn(Global, &[u8], Phrase, &[Tok]) -> Result<(Tree, usize
 }
 
 /// What is behind the first name of a generator.
-#[tactic(auto, using(verse_grammar::proofs::Eating::eats_generator_rest_at1, verse_grammar::proofs::Eating::eats_generator_rest_at2, verse_grammar::proofs::StickingParts::sticks_generator_rest_at1_1, verse_grammar::proofs::StickingParts::sticks_generator_rest_at2_1, verse_grammar::proofs::StickingParts::sticks_generator_rest_other))]
+#[tactic(auto, using(crate::proofs::Rules::of_generated))]
 fn generated<'t, F: Fn(Global, &[u8], Phrase, &[Tok]) -> Result<(Tree, usize), ReadFault>>(
     reader: &Reader<'_, F>,
     tok: Tok,
@@ -135,7 +135,7 @@ fn entries<'t, F: Fn(Global, &[u8], Phrase, &[Tok]) -> Result<(Tree, usize), Rea
 }
 
 /// What is behind `K -> V`.
-#[tactic(auto, using(verse_grammar::specs::Exprs::entries, verse_grammar::proofs::Eating::eats_entries_rest, verse_grammar::proofs::StickingParts::sticks_entries_rest_2, verse_grammar::proofs::StickingParts::sticks_entries_rest_3))]
+#[tactic(auto, using(crate::proofs::Rules::of_entries_of))]
 fn entries_of<'t, F: Fn(Global, &[u8], Phrase, &[Tok]) -> Result<(Tree, usize), ReadFault>>(
     reader: &Reader<'_, F>,
     tok: Tok,
@@ -168,7 +168,7 @@ fn entries_of<'t, F: Fn(Global, &[u8], Phrase, &[Tok]) -> Result<(Tree, usize), 
 }
 
 /// What is behind `I :=` in a generator.
-#[tactic(auto, using(crate::proofs::Clausing::range_by, crate::proofs::Clausing::eats_range_by, crate::proofs::Clausing::sticks_range_by, verse_grammar::proofs::StickingParts::sticks_generator_rest_at3_1))]
+#[tactic(auto, using(crate::proofs::Rules::of_range))]
 fn range<'t, F: Fn(Global, &[u8], Phrase, &[Tok]) -> Result<(Tree, usize), ReadFault>>(
     reader: &Reader<'_, F>,
     tok: Tok,
@@ -198,7 +198,7 @@ fn range<'t, F: Fn(Global, &[u8], Phrase, &[Tok]) -> Result<(Tree, usize), ReadF
 }
 
 /// `..`, and the end of a range.
-#[tactic(auto, using(crate::specs::Behind::ends, crate::proofs::Clausing::eats_ends, crate::proofs::Clausing::sticks_ends_1, crate::proofs::Clausing::sticks_ends_2))]
+#[tactic(auto, using(crate::proofs::Rules::of_highest))]
 fn highest<'t, F: Fn(Global, &[u8], Phrase, &[Tok]) -> Result<(Tree, usize), ReadFault>>(
     reader: &Reader<'_, F>,
     toks: &'t [Tok],
@@ -218,7 +218,7 @@ fn highest<'t, F: Fn(Global, &[u8], Phrase, &[Tok]) -> Result<(Tree, usize), Rea
 }
 
 /// What stands behind a generator.
-#[tactic(auto, using(verse_grammar::specs::Exprs::clause_control, verse_grammar::specs::Exprs::clause_expr, verse_choices::proofs::Starting::left_at, verse_grammar::proofs::Eating::eats_clause_set, verse_grammar::proofs::Eating::eats_clause_return, verse_grammar::proofs::Eating::eats_clause_break, verse_grammar::proofs::Eating::eats_clause_other, verse_grammar::proofs::Sticking::sticks_clause_var, verse_grammar::proofs::Sticking::sticks_clause_set_1, verse_grammar::proofs::Sticking::sticks_clause_return_1, verse_grammar::proofs::Sticking::sticks_clause_other_1))]
+#[tactic(auto, using(crate::proofs::Rules::of_clause))]
 pub fn clause<'t, F: Fn(Global, &[u8], Phrase, &[Tok]) -> Result<(Tree, usize), ReadFault>>(
     reader: &Reader<'_, F>,
     toks: &'t [Tok],
@@ -247,7 +247,7 @@ pub fn clause<'t, F: Fn(Global, &[u8], Phrase, &[Tok]) -> Result<(Tree, usize), 
 }
 
 /// A clause that begins with a name: a generator, a definition, or an expression.
-#[tactic(auto, using(verse_grammar::specs::Exprs::clause_expr, verse_grammar::specs::Exprs::clause_generator, verse_grammar::proofs::ByExpr::clause_by_expr, verse_grammar::proofs::ByExpr::clause_stuck_by_expr, crate::proofs::Clausing::eats_clause_elements, crate::proofs::Clausing::eats_clause_entries, crate::proofs::Clausing::eats_clause_defined, crate::proofs::Clausing::sticks_clause_elements, crate::proofs::Clausing::sticks_clause_entries, crate::proofs::Clausing::sticks_clause_defined, verse_choices::proofs::Starting::name_start))]
+#[tactic(auto, using(crate::proofs::Rules::of_named_clause))]
 fn named_clause<'t, F: Fn(Global, &[u8], Phrase, &[Tok]) -> Result<(Tree, usize), ReadFault>>(
     reader: &Reader<'_, F>,
     tok: Tok,
@@ -279,7 +279,7 @@ fn named_clause<'t, F: Fn(Global, &[u8], Phrase, &[Tok]) -> Result<(Tree, usize)
 }
 
 /// What is behind `X :=` in a clause.
-#[tactic(auto, using(verse_grammar::specs::Exprs::clause_definition, verse_grammar::specs::Exprs::expr_if, verse_grammar::proofs::Eating::eats_clause_value_at1, verse_grammar::proofs::StickingParts::sticks_clause_value_at1_1))]
+#[tactic(auto, using(crate::proofs::Rules::of_defined_clause))]
 fn defined_clause<'t, F: Fn(Global, &[u8], Phrase, &[Tok]) -> Result<(Tree, usize), ReadFault>>(
     reader: &Reader<'_, F>,
     tok: Tok,
@@ -314,7 +314,7 @@ fn defined_clause<'t, F: Fn(Global, &[u8], Phrase, &[Tok]) -> Result<(Tree, usiz
 }
 
 /// The value of a definition that begins with `not`.
-#[tactic(auto, using(verse_grammar::specs::Exprs::clause_definition, verse_grammar::specs::Exprs::expr_or, crate::proofs::Clausing::eats_value_not, crate::proofs::Clausing::sticks_value_not))]
+#[tactic(auto, using(crate::proofs::Rules::of_denied_clause))]
 fn denied_clause<'t, F: Fn(Global, &[u8], Phrase, &[Tok]) -> Result<(Tree, usize), ReadFault>>(
     reader: &Reader<'_, F>,
     tok: Tok,
@@ -344,7 +344,7 @@ fn denied_clause<'t, F: Fn(Global, &[u8], Phrase, &[Tok]) -> Result<(Tree, usize
 }
 
 /// What begins with a sum behind `X :=`: a range, or the value of a definition.
-#[tactic(auto, using(verse_grammar::specs::Exprs::range, verse_grammar::specs::Exprs::clause_generator, verse_grammar::specs::Exprs::clause_definition, crate::proofs::Sums::whole, verse_grammar::proofs::Eating::eats_clause_value_other, verse_grammar::proofs::Eating::eats_range_rest_at, verse_grammar::proofs::StickingParts::sticks_clause_value_other_1, verse_grammar::proofs::StickingParts::sticks_clause_value_other_2, verse_grammar::proofs::StickingParts::sticks_range_rest_at_1))]
+#[tactic(auto, using(crate::proofs::Rules::of_sum_clause))]
 fn sum_clause<'t, F: Fn(Global, &[u8], Phrase, &[Tok]) -> Result<(Tree, usize), ReadFault>>(
     reader: &Reader<'_, F>,
     tok: Tok,
@@ -387,7 +387,7 @@ fn sum_clause<'t, F: Fn(Global, &[u8], Phrase, &[Tok]) -> Result<(Tree, usize), 
 }
 
 /// The rest of an expression behind the sum with which it begins.
-#[tactic(auto, using(crate::specs::Behind::behind, verse_grammar::proofs::Eating::eats_range_rest_other, verse_grammar::proofs::StickingParts::sticks_range_rest_other_1, verse_grammar::proofs::StickingParts::sticks_range_rest_other_2, verse_grammar::proofs::StickingParts::sticks_range_rest_other_3))]
+#[tactic(auto, using(crate::proofs::Rules::of_behind_sum))]
 fn behind_sum<'t, F: Fn(Global, &[u8], Phrase, &[Tok]) -> Result<(Tree, usize), ReadFault>>(
     reader: &Reader<'_, F>,
     left: Tree,

@@ -1,3 +1,5 @@
+//! Tests of images.
+
 use crate::decoding::decode;
 use crate::encoding::encode;
 use crate::faults::ImageFault;

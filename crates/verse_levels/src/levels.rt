@@ -71,7 +71,7 @@ fn comparison_ahead(toks: &[Tok]) -> Option<(Comparison, Tok, &[Tok])>
 }
 
 /// Operands that are joined to the tree so far, from the left.
-#[tactic(auto, using(verse_grammar::specs::Exprs::chain_none, verse_grammar::proofs::Going::goes_start, verse_grammar::proofs::Going::goes_eats, crate::proofs::Chains::stuck_chain, verse_grammar::proofs::Eating::eats_chain_tail_other))]
+#[tactic(auto, using(crate::proofs::Rules::of_chain_tail))]
 pub fn chain_tail<'t, F: Fn(Global, &[u8], Phrase, &[Tok]) -> Result<(Tree, usize), ReadFault>>(
     reader: &Reader<'_, F>,
     level: Phrase,
@@ -99,7 +99,7 @@ pub fn chain_tail<'t, F: Fn(Global, &[u8], Phrase, &[Tok]) -> Result<(Tree, usiz
 }
 
 /// `E or F`, and what binds closer.
-#[tactic(auto, using(verse_grammar::specs::Exprs::or_chain, verse_grammar::proofs::Eating::eats_or, verse_grammar::proofs::Sticking::sticks_or_1, verse_grammar::proofs::Sticking::sticks_or_2))]
+#[tactic(auto, using(crate::proofs::Rules::of_ors))]
 pub fn ors<'t, F: Fn(Global, &[u8], Phrase, &[Tok]) -> Result<(Tree, usize), ReadFault>>(
     reader: &Reader<'_, F>,
     toks: &'t [Tok],
@@ -119,7 +119,7 @@ pub fn ors<'t, F: Fn(Global, &[u8], Phrase, &[Tok]) -> Result<(Tree, usize), Rea
 }
 
 /// `E and F`, and what binds closer.
-#[tactic(auto, using(verse_grammar::specs::Exprs::and_chain, verse_grammar::proofs::Eating::eats_and, verse_grammar::proofs::Sticking::sticks_and_1, verse_grammar::proofs::Sticking::sticks_and_2))]
+#[tactic(auto, using(crate::proofs::Rules::of_ands))]
 pub fn ands<'t, F: Fn(Global, &[u8], Phrase, &[Tok]) -> Result<(Tree, usize), ReadFault>>(
     reader: &Reader<'_, F>,
     toks: &'t [Tok],
@@ -139,7 +139,7 @@ pub fn ands<'t, F: Fn(Global, &[u8], Phrase, &[Tok]) -> Result<(Tree, usize), Re
 }
 
 /// `E + F` and `E - F`, and what binds closer.
-#[tactic(auto, using(verse_grammar::specs::Exprs::sum_chain, verse_grammar::proofs::Eating::eats_sum, verse_grammar::proofs::Sticking::sticks_sum_1, verse_grammar::proofs::Sticking::sticks_sum_2))]
+#[tactic(auto, using(crate::proofs::Rules::of_sum))]
 pub fn sum<'t, F: Fn(Global, &[u8], Phrase, &[Tok]) -> Result<(Tree, usize), ReadFault>>(
     reader: &Reader<'_, F>,
     toks: &'t [Tok],
@@ -159,7 +159,7 @@ pub fn sum<'t, F: Fn(Global, &[u8], Phrase, &[Tok]) -> Result<(Tree, usize), Rea
 }
 
 /// `E * F` and `E / F`, and what binds closer.
-#[tactic(auto, using(verse_grammar::specs::Exprs::product_chain, verse_grammar::proofs::Eating::eats_product, verse_grammar::proofs::Sticking::sticks_product_1, verse_grammar::proofs::Sticking::sticks_product_2))]
+#[tactic(auto, using(crate::proofs::Rules::of_product))]
 pub fn product<'t, F: Fn(Global, &[u8], Phrase, &[Tok]) -> Result<(Tree, usize), ReadFault>>(
     reader: &Reader<'_, F>,
     toks: &'t [Tok],
@@ -179,7 +179,7 @@ pub fn product<'t, F: Fn(Global, &[u8], Phrase, &[Tok]) -> Result<(Tree, usize),
 }
 
 /// `not E`, or a comparison.
-#[tactic(auto, using(verse_grammar::specs::Exprs::not_word, verse_grammar::specs::Exprs::not_comparison, verse_grammar::proofs::Eating::eats_not_at, verse_grammar::proofs::Eating::eats_not_other, verse_grammar::proofs::Sticking::sticks_not_at_1, verse_grammar::proofs::Sticking::sticks_not_other_1))]
+#[tactic(auto, using(crate::proofs::Rules::of_negated))]
 pub fn negated<'t, F: Fn(Global, &[u8], Phrase, &[Tok]) -> Result<(Tree, usize), ReadFault>>(
     reader: &Reader<'_, F>,
     toks: &'t [Tok],
@@ -204,7 +204,7 @@ pub fn negated<'t, F: Fn(Global, &[u8], Phrase, &[Tok]) -> Result<(Tree, usize),
 }
 
 /// Two sums that are compared, or one.
-#[tactic(auto, using(crate::proofs::Comparing::compared_sums, verse_grammar::proofs::Eating::eats_comparison, verse_grammar::proofs::Sticking::sticks_comparison_1, verse_grammar::proofs::Sticking::sticks_comparison_2, verse_grammar::proofs::StickingParts::sticks_comparison_tail_at_1))]
+#[tactic(auto, using(crate::proofs::Rules::of_comparison))]
 pub fn comparison<'t, F: Fn(Global, &[u8], Phrase, &[Tok]) -> Result<(Tree, usize), ReadFault>>(
     reader: &Reader<'_, F>,
     toks: &'t [Tok],
@@ -224,7 +224,7 @@ pub fn comparison<'t, F: Fn(Global, &[u8], Phrase, &[Tok]) -> Result<(Tree, usiz
 }
 
 /// What a sum is compared with, if anything.
-#[tactic(auto, using(crate::specs::Compares::alone, crate::specs::Compares::with_another, verse_grammar::proofs::Eating::eats_comparison_tail_at, verse_grammar::proofs::Eating::eats_comparison_tail_other, verse_grammar::proofs::StickingParts::sticks_comparison_tail_at_1))]
+#[tactic(auto, using(crate::proofs::Rules::of_comparison_tail))]
 pub fn comparison_tail<
     't,
     F: Fn(Global, &[u8], Phrase, &[Tok]) -> Result<(Tree, usize), ReadFault>,
@@ -252,7 +252,7 @@ pub fn comparison_tail<
 }
 
 /// `-E`, or a postfix.
-#[tactic(auto, using(verse_grammar::specs::Exprs::minus_mark, verse_grammar::specs::Exprs::minus_postfix, verse_grammar::proofs::Eating::eats_minus_at, verse_grammar::proofs::Eating::eats_minus_other, verse_grammar::proofs::Sticking::sticks_minus_at_1, verse_grammar::proofs::Sticking::sticks_minus_other_1))]
+#[tactic(auto, using(crate::proofs::Rules::of_negative))]
 pub fn negative<'t, F: Fn(Global, &[u8], Phrase, &[Tok]) -> Result<(Tree, usize), ReadFault>>(
     reader: &Reader<'_, F>,
     toks: &'t [Tok],

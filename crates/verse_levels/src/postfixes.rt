@@ -51,7 +51,7 @@ fn postfix_ahead(toks: &[Tok]) -> Option<(PostfixStart, Tok, &[Tok])>
 }
 
 /// A primary form with its postfixes.
-#[tactic(auto, using(verse_grammar::specs::Exprs::postfix_chain, verse_grammar::proofs::Eating::eats_postfix, verse_grammar::proofs::Sticking::sticks_postfix_1, verse_grammar::proofs::Sticking::sticks_postfix_2))]
+#[tactic(auto, using(crate::proofs::Rules::of_postfix))]
 pub fn postfix<'t, F: Fn(Global, &[u8], Phrase, &[Tok]) -> Result<(Tree, usize), ReadFault>>(
     reader: &Reader<'_, F>,
     toks: &'t [Tok],
@@ -71,7 +71,7 @@ pub fn postfix<'t, F: Fn(Global, &[u8], Phrase, &[Tok]) -> Result<(Tree, usize),
 }
 
 /// The postfixes of a tree, from the left.
-#[tactic(auto, using(verse_grammar::specs::Exprs::postfix_none, verse_grammar::proofs::Going::goes_start, verse_grammar::proofs::Going::goes_eats, verse_grammar::proofs::Eating::eats_postfix_tail_other, crate::proofs::Postfixed::stuck_postfix))]
+#[tactic(auto, using(crate::proofs::Rules::of_postfix_tail))]
 pub fn postfix_tail<'t, F: Fn(Global, &[u8], Phrase, &[Tok]) -> Result<(Tree, usize), ReadFault>>(
     reader: &Reader<'_, F>,
     object: Tree,
@@ -135,7 +135,7 @@ fn suffix_behind<'t, F: Fn(Global, &[u8], Phrase, &[Tok]) -> Result<(Tree, usize
 }
 
 /// The arguments of a call, behind the opening bracket.
-#[tactic(auto, using(crate::specs::Postfixing::one_call, crate::specs::Postfixing::eats_call, crate::specs::Postfixing::sticks_call))]
+#[tactic(auto, using(crate::proofs::Rules::of_called))]
 fn called<'t, F: Fn(Global, &[u8], Phrase, &[Tok]) -> Result<(Tree, usize), ReadFault>>(
     reader: &Reader<'_, F>,
     toks: &'t [Tok],
@@ -155,7 +155,7 @@ fn called<'t, F: Fn(Global, &[u8], Phrase, &[Tok]) -> Result<(Tree, usize), Read
 }
 
 /// The indices, behind the opening bracket.
-#[tactic(auto, using(crate::specs::Postfixing::one_index, crate::specs::Postfixing::eats_index, crate::specs::Postfixing::sticks_index))]
+#[tactic(auto, using(crate::proofs::Rules::of_indexed))]
 fn indexed<'t, F: Fn(Global, &[u8], Phrase, &[Tok]) -> Result<(Tree, usize), ReadFault>>(
     reader: &Reader<'_, F>,
     toks: &'t [Tok],
@@ -175,7 +175,7 @@ fn indexed<'t, F: Fn(Global, &[u8], Phrase, &[Tok]) -> Result<(Tree, usize), Rea
 }
 
 /// The name of a member, behind the dot.
-#[tactic(auto, using(crate::specs::Postfixing::one_member, crate::specs::Postfixing::eats_member, crate::specs::Postfixing::sticks_member))]
+#[tactic(auto, using(crate::proofs::Rules::of_member))]
 fn member<'t, F: Fn(Global, &[u8], Phrase, &[Tok]) -> Result<(Tree, usize), ReadFault>>(
     reader: &Reader<'_, F>,
     toks: &'t [Tok],

@@ -5,3 +5,4 @@ pub mod Nested
 pub mod Nearness
 pub mod Pushes
 pub mod Unique
+pub mod Rules

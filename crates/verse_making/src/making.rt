@@ -1,3 +1,5 @@
+//! Texts, keys, joined arrays and elements as values.
+
 ghost use Rattle.std.specs.Prelude.{◌≡◌, IfOk, IfErr};
 ghost use Rattle.verse_value.specs.View.{val_of, vals_of};
 ghost use Rattle.verse_value.specs.Keys.{key_val};

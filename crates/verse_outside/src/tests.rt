@@ -1,3 +1,5 @@
+//! Tests of files and sinks.
+
 use crate::files::{Files, LoadFault};
 use crate::memory_files::MemFiles;
 use crate::memory_sinks::MemSink;

@@ -31,7 +31,7 @@ use verse_reading::steps::{ReadFault, next, take};
 /// Where the toks are no program, `At` has the greatest index up to which they begin one, with E069
 /// where the tok of that index is left out of the language, and E030 where it is another or there
 /// is none.
-#[tactic(auto, using(crate::proofs::Stopping::left_stops_program, crate::proofs::Stopping::left_within, crate::proofs::Stopping::program_once, crate::proofs::Few::few_items))]
+#[tactic(auto, using(crate::proofs::Rules::of_parse))]
 pub fn parse(alloc: Global, bytes: &[u8], toks: &[Tok]) -> Result<ItemTrees, ParseFault>
     ensures spelled { IfOk result (λ items. Program bytes.now toks.now (map item_of items) []) }
     ensures only { IfOk result (λ items. (is : List t.ItemTree) → Program bytes.now toks.now is [] →
@@ -64,7 +64,7 @@ fn items(alloc: Global, bytes: &[u8], toks: &[Tok]) -> Result<ItemTrees, ReadFau
 }
 
 /// The items of a file, and the toks behind them.
-#[tactic(auto, using(verse_grammar::specs::Items::no_items, verse_grammar::specs::Items::some_items, verse_grammar::proofs::EatingItems::eats_program_end, crate::proofs::Spelled::program_eats, crate::proofs::Spelled::program_sticks_1, crate::proofs::Spelled::program_sticks_2))]
+#[tactic(auto, using(crate::proofs::Rules::of_program))]
 fn program<'t>(
     alloc: Global,
     bytes: &[u8],
@@ -84,7 +84,7 @@ fn program<'t>(
 }
 
 /// The items from the first on, which begins at `start`.
-#[tactic(auto, using(verse_grammar::specs::Items::one_item, verse_grammar::specs::Items::more_items, verse_grammar::proofs::EatingItems::eats_items_tail_other, verse_grammar::proofs::GoingItems::goes_items_tail_at, verse_grammar::proofs::GoingItems::stuck_items_tail_at_1, verse_grammar::proofs::Going::goes_start, verse_grammar::proofs::Going::goes_eats))]
+#[tactic(auto, using(crate::proofs::Rules::of_item_row))]
 fn item_row<'t>(
     alloc: Global,
     bytes: &[u8],

@@ -26,7 +26,7 @@ use verse_reading::spans::{name_of, text_of};
 use verse_reading::steps::{ReadFault, expect, next};
 
 /// A pattern.
-#[tactic(auto, using(verse_grammar::proofs::Sticking::sticks_pattern_other, verse_grammar::proofs::Sticking::sticks_pattern_end))]
+#[tactic(auto, using(crate::proofs::Rules::of_pattern))]
 pub fn pattern<'t, F: Fn(Global, &[u8], Phrase, &[Tok]) -> Result<(Tree, usize), ReadFault>>(
     reader: &Reader<'_, F>,
     toks: &'t [Tok],
@@ -48,7 +48,7 @@ pub fn pattern<'t, F: Fn(Global, &[u8], Phrase, &[Tok]) -> Result<(Tree, usize),
 }
 
 /// The pattern that begins with this tok.
-#[tactic(auto, using(verse_grammar::specs::Exprs::integer_pattern, verse_grammar::specs::Exprs::character_pattern, verse_grammar::specs::Exprs::text_pattern, verse_grammar::specs::Exprs::truth_pattern, verse_grammar::specs::Exprs::falsehood_pattern, verse_grammar::specs::Exprs::any_pattern, verse_grammar::proofs::Eating::eats_pattern_int, verse_grammar::proofs::Eating::eats_pattern_char, verse_grammar::proofs::Eating::eats_pattern_text, verse_grammar::proofs::Eating::eats_pattern_true, verse_grammar::proofs::Eating::eats_pattern_false, verse_grammar::proofs::Eating::eats_pattern_wild))]
+#[tactic(auto, using(crate::proofs::Rules::of_pattern_from))]
 fn pattern_from<'t, F: Fn(Global, &[u8], Phrase, &[Tok]) -> Result<(Tree, usize), ReadFault>>(
     reader: &Reader<'_, F>,
     start: PatternStart,
@@ -89,7 +89,7 @@ fn pattern_from<'t, F: Fn(Global, &[u8], Phrase, &[Tok]) -> Result<(Tree, usize)
 }
 
 /// `-n`
-#[tactic(auto, using(verse_grammar::specs::Exprs::minus_pattern, verse_grammar::proofs::Eating::eats_pattern_minus, verse_grammar::proofs::Eating::eats_an_int_at, verse_grammar::proofs::Sticking::sticks_pattern_minus_1, verse_grammar::proofs::StickingParts::sticks_an_int_other, verse_grammar::proofs::StickingParts::sticks_an_int_end))]
+#[tactic(auto, using(crate::proofs::Rules::of_below_zero))]
 fn below_zero<'t, F: Fn(Global, &[u8], Phrase, &[Tok]) -> Result<(Tree, usize), ReadFault>>(
     reader: &Reader<'_, F>,
     tok: Tok,
@@ -116,7 +116,7 @@ fn below_zero<'t, F: Fn(Global, &[u8], Phrase, &[Tok]) -> Result<(Tree, usize), 
 }
 
 /// `e.v`
-#[tactic(auto, using(verse_grammar::specs::Exprs::enum_pattern, verse_grammar::proofs::Eating::eats_pattern_name, verse_grammar::proofs::Sticking::sticks_pattern_name_1, verse_grammar::proofs::Sticking::sticks_pattern_name_2))]
+#[tactic(auto, using(crate::proofs::Rules::of_enum_value))]
 fn enum_value<'t, F: Fn(Global, &[u8], Phrase, &[Tok]) -> Result<(Tree, usize), ReadFault>>(
     reader: &Reader<'_, F>,
     tok: Tok,
@@ -163,7 +163,7 @@ pub fn arm<'t, F: Fn(Global, &[u8], Phrase, &[Tok]) -> Result<(Tree, usize), Rea
 }
 
 /// The same, with the place of its first tok.
-#[tactic(auto, using(crate::proofs::ArmRests::arm_joined, crate::proofs::ArmRests::eats_arm_joined, crate::proofs::ArmRests::sticks_arm_joined, verse_grammar::proofs::Sticking::sticks_arm_1))]
+#[tactic(auto, using(crate::proofs::Rules::of_arm_placed))]
 fn arm_placed<'t, F: Fn(Global, &[u8], Phrase, &[Tok]) -> Result<(Tree, usize), ReadFault>>(
     reader: &Reader<'_, F>,
     place: Place,
@@ -185,7 +185,7 @@ fn arm_placed<'t, F: Fn(Global, &[u8], Phrase, &[Tok]) -> Result<(Tree, usize), 
 }
 
 /// The arrow of an arm and its body.
-#[tactic(auto, using(crate::specs::ArmRests::behind_arrow, crate::proofs::ArmRests::eats_arm_rest, crate::proofs::ArmRests::sticks_arm_rest_1, crate::proofs::ArmRests::sticks_arm_rest_2))]
+#[tactic(auto, using(crate::proofs::Rules::of_arm_body))]
 fn arm_body<'t, F: Fn(Global, &[u8], Phrase, &[Tok]) -> Result<(Tree, usize), ReadFault>>(
     reader: &Reader<'_, F>,
     toks: &'t [Tok],

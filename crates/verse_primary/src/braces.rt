@@ -26,7 +26,7 @@ use verse_reading::nesting::Reader;
 use verse_reading::steps::{ReadFault, expect, take};
 
 /// `spawn{E}`
-#[tactic(auto, using(verse_grammar::proofs::Sticking::sticks_primary_spawn_1, verse_grammar::proofs::Sticking::sticks_primary_spawn_2, verse_grammar::proofs::Sticking::sticks_primary_spawn_3))]
+#[tactic(auto, using(crate::proofs::Rules::of_spawn))]
 pub fn spawn<'t, F: Fn(Global, &[u8], Phrase, &[Tok]) -> Result<(Tree, usize), ReadFault>>(
     reader: &Reader<'_, F>,
     tok: Tok,
@@ -55,7 +55,7 @@ pub fn spawn<'t, F: Fn(Global, &[u8], Phrase, &[Tok]) -> Result<(Tree, usize), R
 }
 
 /// `map{..}`
-#[tactic(auto, using(verse_grammar::specs::Exprs::mapping, verse_grammar::proofs::Eating::eats_primary_map, verse_grammar::proofs::Sticking::sticks_primary_map_1, verse_grammar::proofs::Sticking::sticks_primary_map_2))]
+#[tactic(auto, using(crate::proofs::Rules::of_mapping))]
 pub fn mapping<'t, F: Fn(Global, &[u8], Phrase, &[Tok]) -> Result<(Tree, usize), ReadFault>>(
     reader: &Reader<'_, F>,
     tok: Tok,
@@ -78,7 +78,7 @@ pub fn mapping<'t, F: Fn(Global, &[u8], Phrase, &[Tok]) -> Result<(Tree, usize),
 }
 
 /// The keys of a map with their values, up to Close.
-#[tactic(auto, using(verse_grammar::specs::Exprs::no_pairs, verse_grammar::proofs::Eating::eats_pairs_until_at))]
+#[tactic(auto, using(crate::proofs::Rules::of_pairs_until))]
 fn pairs_until<'t, F: Fn(Global, &[u8], Phrase, &[Tok]) -> Result<(Tree, usize), ReadFault>>(
     reader: &Reader<'_, F>,
     toks: &'t [Tok],
@@ -100,7 +100,7 @@ fn pairs_until<'t, F: Fn(Global, &[u8], Phrase, &[Tok]) -> Result<(Tree, usize),
 }
 
 /// One key or more, up to Close.
-#[tactic(auto, using(crate::proofs::Parts::pair_row_one, verse_grammar::specs::Exprs::some_pairs, verse_grammar::proofs::Going::goes_start, crate::proofs::Parts::pairs_eaten, crate::proofs::Parts::pairs_stuck_between, crate::proofs::Parts::pairs_stuck_at_end, verse_grammar::proofs::StickingParts::sticks_pairs_until_other_1))]
+#[tactic(auto, using(crate::proofs::Rules::of_pairs))]
 fn pairs<'t, F: Fn(Global, &[u8], Phrase, &[Tok]) -> Result<(Tree, usize), ReadFault>>(
     reader: &Reader<'_, F>,
     toks: &'t [Tok],
@@ -132,7 +132,7 @@ fn pairs<'t, F: Fn(Global, &[u8], Phrase, &[Tok]) -> Result<(Tree, usize), ReadF
 }
 
 /// `K => V`
-#[tactic(auto, using(crate::proofs::Parts::pair_by, crate::proofs::Parts::eats_pair_by, verse_grammar::proofs::StickingParts::sticks_pair_1, verse_grammar::proofs::StickingParts::sticks_pair_2, crate::proofs::Parts::sticks_pair_by))]
+#[tactic(auto, using(crate::proofs::Rules::of_pair))]
 fn pair<'t, F: Fn(Global, &[u8], Phrase, &[Tok]) -> Result<(Tree, usize), ReadFault>>(
     reader: &Reader<'_, F>,
     toks: &'t [Tok],

@@ -30,7 +30,7 @@ use verse_reading::steps::{ReadFault, expect, next, take};
 use verse_reading::types::type_at;
 
 /// An expression in round brackets, or a tuple.
-#[tactic(auto, using(crate::proofs::PrimaryParts::round_reads, verse_grammar::proofs::Eating::eats_primary_round, verse_grammar::proofs::Sticking::sticks_primary_round_1, verse_grammar::proofs::Sticking::sticks_primary_round_2))]
+#[tactic(auto, using(crate::proofs::Rules::of_round))]
 pub fn round<'t, F: Fn(Global, &[u8], Phrase, &[Tok]) -> Result<(Tree, usize), ReadFault>>(
     reader: &Reader<'_, F>,
     tok: Tok,
@@ -53,7 +53,7 @@ pub fn round<'t, F: Fn(Global, &[u8], Phrase, &[Tok]) -> Result<(Tree, usize), R
 }
 
 /// What stands behind the first expression in round brackets: others behind a comma, or none.
-#[tactic(auto, using(crate::specs::Rounds::only_one, crate::specs::Rounds::several, verse_grammar::proofs::Eating::eats_round_rest_at, verse_grammar::proofs::Eating::eats_round_rest_other, verse_grammar::proofs::StickingParts::sticks_round_rest_at_1, verse_grammar::proofs::StickingParts::sticks_round_rest_other_1))]
+#[tactic(auto, using(crate::proofs::Rules::of_others))]
 fn others<'t, F: Fn(Global, &[u8], Phrase, &[Tok]) -> Result<(Tree, usize), ReadFault>>(
     reader: &Reader<'_, F>,
     toks: &'t [Tok],
@@ -86,7 +86,7 @@ fn others<'t, F: Fn(Global, &[u8], Phrase, &[Tok]) -> Result<(Tree, usize), Read
 }
 
 /// `event(t){}`
-#[tactic(auto, using(verse_grammar::proofs::Sticking::sticks_primary_event_1, verse_grammar::proofs::Sticking::sticks_primary_event_2))]
+#[tactic(auto, using(crate::proofs::Rules::of_event))]
 pub fn event<'t, F: Fn(Global, &[u8], Phrase, &[Tok]) -> Result<(Tree, usize), ReadFault>>(
     reader: &Reader<'_, F>,
     tok: Tok,
@@ -107,7 +107,7 @@ pub fn event<'t, F: Fn(Global, &[u8], Phrase, &[Tok]) -> Result<(Tree, usize), R
 }
 
 /// `Sleep(D)`
-#[tactic(auto, using(crate::proofs::Parts::sleep_reads, verse_grammar::proofs::Sticking::sticks_primary_sleep_1, verse_grammar::proofs::Sticking::sticks_primary_sleep_2, verse_grammar::proofs::StickingParts::sticks_duration_other, verse_grammar::proofs::StickingParts::sticks_duration_end))]
+#[tactic(auto, using(crate::proofs::Rules::of_sleep))]
 pub fn sleep<'t, F: Fn(Global, &[u8], Phrase, &[Tok]) -> Result<(Tree, usize), ReadFault>>(
     reader: &Reader<'_, F>,
     tok: Tok,
@@ -135,7 +135,7 @@ pub fn sleep<'t, F: Fn(Global, &[u8], Phrase, &[Tok]) -> Result<(Tree, usize), R
 }
 
 /// A type in round brackets, or nothing in them.
-#[tactic(auto, using(verse_grammar::specs::Exprs::bracket_type, verse_grammar::specs::Exprs::no_bracket_type, verse_grammar::proofs::Eating::eats_bracket_type, verse_grammar::proofs::Eating::eats_bracket_type_rest_at, verse_grammar::proofs::Eating::eats_bracket_type_rest_other, verse_grammar::proofs::Sticking::sticks_bracket_type_1, verse_grammar::proofs::Sticking::sticks_bracket_type_2, verse_grammar::proofs::Sticking::sticks_bracket_type_rest_other_1, verse_grammar::proofs::Sticking::sticks_bracket_type_rest_other_2))]
+#[tactic(auto, using(crate::proofs::Rules::of_bracket_type))]
 pub fn bracket_type<'t>(
     alloc: Global,
     bytes: &[u8],

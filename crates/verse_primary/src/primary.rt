@@ -33,7 +33,7 @@ use verse_reading::steps::{ReadFault, expect, next, take};
 use verse_tree::names::Name;
 
 /// A primary form.
-#[tactic(auto, using(verse_grammar::proofs::Sticking::sticks_primary_other, verse_grammar::proofs::Sticking::sticks_primary_end))]
+#[tactic(auto, using(crate::proofs::Rules::of_primary))]
 pub fn primary<'t, F: Fn(Global, &[u8], Phrase, &[Tok]) -> Result<(Tree, usize), ReadFault>>(
     reader: &Reader<'_, F>,
     toks: &'t [Tok],
@@ -104,7 +104,7 @@ fn primary_from<'t, F: Fn(Global, &[u8], Phrase, &[Tok]) -> Result<(Tree, usize)
 }
 
 /// A name, or an instance of a class.
-#[tactic(auto, using(verse_grammar::specs::Exprs::name_alone, verse_grammar::specs::Exprs::instance, verse_grammar::proofs::Eating::eats_primary_name, verse_grammar::proofs::Eating::eats_name_rest_at, verse_grammar::proofs::Eating::eats_name_rest_other, verse_grammar::proofs::Sticking::sticks_primary_name_1, verse_grammar::proofs::StickingParts::sticks_name_rest_at_1))]
+#[tactic(auto, using(crate::proofs::Rules::of_name_from))]
 fn name_from<'t, F: Fn(Global, &[u8], Phrase, &[Tok]) -> Result<(Tree, usize), ReadFault>>(
     reader: &Reader<'_, F>,
     tok: Tok,
@@ -135,7 +135,7 @@ fn name_from<'t, F: Fn(Global, &[u8], Phrase, &[Tok]) -> Result<(Tree, usize), R
 }
 
 /// The fields that an instance is given, up to Close.
-#[tactic(auto, using(verse_grammar::specs::Exprs::no_givens, verse_grammar::proofs::Eating::eats_givens_until_at))]
+#[tactic(auto, using(crate::proofs::Rules::of_givens_until))]
 fn givens_until<'t, F: Fn(Global, &[u8], Phrase, &[Tok]) -> Result<(Tree, usize), ReadFault>>(
     reader: &Reader<'_, F>,
     toks: &'t [Tok],
@@ -157,7 +157,7 @@ fn givens_until<'t, F: Fn(Global, &[u8], Phrase, &[Tok]) -> Result<(Tree, usize)
 }
 
 /// One field or more, up to Close.
-#[tactic(auto, using(crate::proofs::Parts::given_row_one, crate::proofs::Repeats::some_givens_by, verse_grammar::proofs::Going::goes_start, crate::proofs::Repeats::givens_eaten_by, crate::proofs::Parts::givens_stuck_at_end, verse_grammar::proofs::StickingParts::sticks_givens_until_other_1))]
+#[tactic(auto, using(crate::proofs::Rules::of_givens))]
 fn givens<'t, F: Fn(Global, &[u8], Phrase, &[Tok]) -> Result<(Tree, usize), ReadFault>>(
     reader: &Reader<'_, F>,
     toks: &'t [Tok],
@@ -189,7 +189,7 @@ fn givens<'t, F: Fn(Global, &[u8], Phrase, &[Tok]) -> Result<(Tree, usize), Read
 }
 
 /// `F := E`
-#[tactic(auto, using(crate::specs::Parts::is_given, verse_grammar::proofs::Eating::eats_given, verse_grammar::proofs::StickingParts::sticks_given_1, verse_grammar::proofs::StickingParts::sticks_given_2, verse_grammar::proofs::StickingParts::sticks_given_3))]
+#[tactic(auto, using(crate::proofs::Rules::of_given))]
 fn given<'t, F: Fn(Global, &[u8], Phrase, &[Tok]) -> Result<(Tree, usize), ReadFault>>(
     reader: &Reader<'_, F>,
     toks: &'t [Tok],
@@ -238,7 +238,7 @@ fn text_with_holes<'t, F: Fn(Global, &[u8], Phrase, &[Tok]) -> Result<(Tree, usi
 }
 
 /// The holes of a text, each with the text behind it.
-#[tactic(auto, using(crate::proofs::PrimaryParts::holes_begun, crate::proofs::PrimaryParts::holes_last, verse_grammar::proofs::Going::goes_start, crate::proofs::Parts::holes_stuck_at_end, verse_grammar::proofs::Sticking::sticks_primary_textopen_1))]
+#[tactic(auto, using(crate::proofs::Rules::of_holes))]
 fn holes<'t, F: Fn(Global, &[u8], Phrase, &[Tok]) -> Result<(Tree, usize), ReadFault>>(
     reader: &Reader<'_, F>,
     tok: Tok,

@@ -33,7 +33,7 @@ use verse_tree::items::Spec;
 use verse_tree::names::Name;
 
 /// What stands behind `class`; `tok` is the class's name.
-#[tactic(auto, using(crate::specs::Rests::rest_of_class, verse_grammar::proofs::EatingItems::eats_class_rest, verse_grammar::proofs::StickingItems::sticks_class_rest_1, verse_grammar::proofs::StickingItems::sticks_class_rest_2, verse_grammar::proofs::StickingItems::sticks_class_rest_3, verse_grammar::proofs::StickingItems::sticks_class_rest_4))]
+#[tactic(auto, using(crate::proofs::Rules::of_class_rest))]
 pub fn class_rest<'t>(
     alloc: Global,
     bytes: &[u8],
@@ -57,7 +57,7 @@ pub fn class_rest<'t>(
 }
 
 /// The parent in round brackets, where there is one.
-#[tactic(auto, using(verse_grammar::specs::Items::no_parent, verse_grammar::specs::Items::parent, verse_grammar::proofs::EatingItems::eats_parent_at, verse_grammar::proofs::EatingItems::eats_parent_other, verse_grammar::proofs::StickingItems::sticks_parent_at_1, verse_grammar::proofs::StickingItems::sticks_parent_at_2))]
+#[tactic(auto, using(crate::proofs::Rules::of_parent))]
 fn parent<'t>(
     alloc: Global,
     bytes: &[u8],
@@ -78,7 +78,7 @@ fn parent<'t>(
 }
 
 /// Members up to the end of the block.
-#[tactic(auto, using(verse_grammar::specs::Items::no_members, verse_grammar::specs::Items::some_members, verse_grammar::proofs::EatingItems::eats_members_until_at, verse_grammar::proofs::EatingItems::eats_members_until_other, verse_grammar::proofs::StickingItems::sticks_members_until_other_1, verse_grammar::proofs::StickingItems::sticks_members_until_other_2, verse_grammar::proofs::StickingItems::sticks_members_until_other_3))]
+#[tactic(auto, using(crate::proofs::Rules::of_members))]
 fn members<'t>(
     alloc: Global,
     bytes: &[u8],
@@ -100,7 +100,7 @@ fn members<'t>(
 }
 
 /// The members from the first on, which begins at `start`.
-#[tactic(auto, using(verse_grammar::specs::Items::one_member, verse_grammar::specs::Items::more_members, verse_grammar::proofs::EatingItems::eats_members_tail_other, verse_grammar::proofs::GoingItems::goes_members_tail_at, verse_grammar::proofs::GoingItems::stuck_members_tail_at_1, verse_grammar::proofs::Going::goes_start, verse_grammar::proofs::Going::goes_eats))]
+#[tactic(auto, using(crate::proofs::Rules::of_member_row))]
 fn member_row<'t>(
     alloc: Global,
     bytes: &[u8],
@@ -149,7 +149,7 @@ fn member<'t>(
 }
 
 /// A field with the `var` that is `tok`.
-#[tactic(auto, using(crate::proofs::Wholes::var_whole, verse_grammar::proofs::EatingItems::eats_member_at, verse_grammar::proofs::StickingItems::sticks_member_at_1, verse_grammar::proofs::StickingItems::sticks_member_at_2, verse_grammar::proofs::StickingItems::sticks_member_at_3, verse_grammar::proofs::StickingItems::sticks_member_at_4))]
+#[tactic(auto, using(crate::proofs::Rules::of_var_member))]
 fn var_member<'t>(
     alloc: Global,
     bytes: &[u8],
@@ -173,7 +173,7 @@ fn var_member<'t>(
 }
 
 /// A field or a method with the name `tok`.
-#[tactic(auto, using(crate::proofs::Wholes::member_whole, crate::proofs::Wholes::named_eats, crate::proofs::Wholes::named_sticks_1, crate::proofs::Wholes::named_sticks_2))]
+#[tactic(auto, using(crate::proofs::Rules::of_named_member))]
 fn named_member<'t>(
     alloc: Global,
     bytes: &[u8],
@@ -193,7 +193,7 @@ fn named_member<'t>(
 }
 
 /// What stands behind the name `tok` and the specifiers of a member without `var`.
-#[tactic(auto, using(verse_grammar::proofs::EatingItems::eats_member_rest_other, verse_grammar::proofs::StickingItems::sticks_member_rest_other_1, crate::proofs::Wholes::method_eats, crate::proofs::Wholes::method_sticks))]
+#[tactic(auto, using(crate::proofs::Rules::of_member_rest))]
 fn member_rest<'t>(
     alloc: Global,
     bytes: &[u8],
@@ -256,7 +256,7 @@ fn plain_rest<'t>(
 }
 
 /// The type of a field, and its default where it has one.
-#[tactic(auto, using(crate::specs::Rests::type_and_default, verse_grammar::proofs::EatingItems::eats_field_rest, verse_grammar::proofs::StickingItems::sticks_field_rest_1, verse_grammar::proofs::StickingItems::sticks_field_rest_2, verse_grammar::proofs::StickingItems::sticks_field_rest_3))]
+#[tactic(auto, using(crate::proofs::Rules::of_field_rest))]
 fn field_rest<'t>(
     alloc: Global,
     bytes: &[u8],
@@ -276,7 +276,7 @@ fn field_rest<'t>(
 }
 
 /// The default behind `=`, where there is one.
-#[tactic(auto, using(verse_grammar::specs::Items::no_default, verse_grammar::specs::Items::default, verse_grammar::proofs::EatingItems::eats_default_at, verse_grammar::proofs::EatingItems::eats_default_other, verse_grammar::proofs::StickingItems::sticks_default_at_1))]
+#[tactic(auto, using(crate::proofs::Rules::of_default_value))]
 fn default_value<'t>(
     alloc: Global,
     bytes: &[u8],

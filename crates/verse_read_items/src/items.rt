@@ -25,7 +25,7 @@ use verse_tree::items::Spec;
 use verse_tree::names::Name;
 
 /// An item.
-#[tactic(auto, using(verse_grammar::proofs::StickingItems::sticks_an_item_other, verse_grammar::proofs::StickingItems::sticks_an_item_end))]
+#[tactic(auto, using(crate::proofs::Rules::of_item))]
 pub fn item<'t>(
     alloc: Global,
     bytes: &[u8],
@@ -48,7 +48,7 @@ pub fn item<'t>(
 }
 
 /// The `using` that begins with `tok`.
-#[tactic(auto, using(crate::proofs::Wholes::using_whole, verse_grammar::proofs::EatingItems::eats_an_item_using, verse_grammar::proofs::StickingItems::sticks_an_item_using_1))]
+#[tactic(auto, using(crate::proofs::Rules::of_using_at))]
 fn using_at<'t>(
     alloc: Global,
     bytes: &[u8],
@@ -68,7 +68,7 @@ fn using_at<'t>(
 }
 
 /// A path in braces.
-#[tactic(auto, using(crate::specs::Rests::braced_path, verse_grammar::specs::Items::one_part, verse_grammar::proofs::EatingItems::eats_using_rest, verse_grammar::proofs::StickingItems::sticks_using_rest_1, verse_grammar::proofs::StickingItems::sticks_using_rest_2, verse_grammar::proofs::StickingItems::sticks_using_rest_3, verse_grammar::proofs::StickingItems::sticks_using_rest_4, verse_grammar::proofs::StickingItems::sticks_using_rest_5))]
+#[tactic(auto, using(crate::proofs::Rules::of_using_rest))]
 fn using_rest<'t>(
     alloc: Global,
     bytes: &[u8],
@@ -89,7 +89,7 @@ fn using_rest<'t>(
 }
 
 /// The item with the name `tok`.
-#[tactic(auto, using(crate::proofs::Wholes::item_whole, verse_grammar::proofs::EatingItems::eats_an_item_name, verse_grammar::proofs::StickingItems::sticks_an_item_name_1, verse_grammar::proofs::StickingItems::sticks_an_item_name_2))]
+#[tactic(auto, using(crate::proofs::Rules::of_named_item))]
 fn named_item<'t>(
     alloc: Global,
     bytes: &[u8],
@@ -109,7 +109,7 @@ fn named_item<'t>(
 }
 
 /// What stands behind the name `tok` and the specifiers of an item.
-#[tactic(auto, using(crate::specs::Rests::rest_defined, crate::specs::Rests::rest_of_function, verse_grammar::proofs::EatingItems::eats_item_rest_at, verse_grammar::proofs::EatingItems::eats_item_rest_other, verse_grammar::proofs::StickingItems::sticks_item_rest_at_1, verse_grammar::proofs::StickingItems::sticks_item_rest_other_1))]
+#[tactic(auto, using(crate::proofs::Rules::of_item_rest))]
 fn item_rest<'t>(
     alloc: Global,
     bytes: &[u8],
@@ -134,7 +134,7 @@ fn item_rest<'t>(
 }
 
 /// What stands behind `:=`, an enum or a class; `tok` is its name.
-#[tactic(auto, using(crate::specs::Rests::defined_enum, crate::specs::Rests::defined_class, verse_grammar::proofs::EatingItems::eats_enum_or_class_at1, verse_grammar::proofs::EatingItems::eats_enum_or_class_at2, verse_grammar::proofs::StickingItems::sticks_enum_or_class_at1_1, verse_grammar::proofs::StickingItems::sticks_enum_or_class_at2_1, verse_grammar::proofs::StickingItems::sticks_enum_or_class_other))]
+#[tactic(auto, using(crate::proofs::Rules::of_defined))]
 fn defined<'t>(
     alloc: Global,
     bytes: &[u8],

@@ -1,3 +1,4 @@
 pub mod Steps
 pub mod Signatures
 pub mod Rows
+pub mod Rules

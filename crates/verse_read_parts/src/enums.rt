@@ -22,7 +22,7 @@ use verse_tree::items::Spec;
 use verse_tree::names::Name;
 
 /// What stands behind `enum`; `tok` is the enum's name.
-#[tactic(auto, using(crate::specs::Rests::rest_of_enum, verse_grammar::proofs::EatingItems::eats_enum_rest, verse_grammar::proofs::StickingItems::sticks_enum_rest_1, verse_grammar::proofs::StickingItems::sticks_enum_rest_2))]
+#[tactic(auto, using(crate::proofs::Rules::of_enum_rest))]
 pub fn enum_rest<'t>(
     alloc: Global,
     bytes: &[u8],
@@ -44,7 +44,7 @@ pub fn enum_rest<'t>(
 }
 
 /// Values up to the end of the block.
-#[tactic(auto, using(verse_grammar::specs::Items::no_values, verse_grammar::specs::Items::some_values, verse_grammar::proofs::EatingItems::eats_values_until_at, verse_grammar::proofs::EatingItems::eats_values_until_other, verse_grammar::proofs::StickingItems::sticks_values_until_other_1, verse_grammar::proofs::StickingItems::sticks_values_until_other_2, verse_grammar::proofs::StickingItems::sticks_values_until_other_3))]
+#[tactic(auto, using(crate::proofs::Rules::of_values))]
 fn values<'t>(
     alloc: Global,
     bytes: &[u8],
@@ -66,7 +66,7 @@ fn values<'t>(
 }
 
 /// A value and those behind it.
-#[tactic(auto, using(verse_grammar::specs::Items::one_value, verse_grammar::specs::Items::more_values, verse_grammar::proofs::EatingItems::eats_values_tail_other, verse_grammar::proofs::GoingItems::goes_values_tail_at, verse_grammar::proofs::GoingItems::stuck_values_tail_at_1, verse_grammar::proofs::Going::goes_start, verse_grammar::proofs::Going::goes_eats))]
+#[tactic(auto, using(crate::proofs::Rules::of_value_row))]
 fn value_row<'t>(
     alloc: Global,
     bytes: &[u8],

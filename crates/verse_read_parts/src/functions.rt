@@ -27,7 +27,7 @@ use verse_reading::types::type_at;
 use verse_tree::items::Spec;
 
 /// `X:t`
-#[tactic(auto, using(verse_grammar::specs::Items::param, verse_grammar::proofs::EatingItems::eats_param, verse_grammar::proofs::StickingItems::sticks_param_1, verse_grammar::proofs::StickingItems::sticks_param_2, verse_grammar::proofs::StickingItems::sticks_param_3))]
+#[tactic(auto, using(crate::proofs::Rules::of_param))]
 fn param<'t>(
     alloc: Global,
     bytes: &[u8],
@@ -47,7 +47,7 @@ fn param<'t>(
 }
 
 /// Parameters up to the closing bracket.
-#[tactic(auto, using(verse_grammar::specs::Items::no_params, verse_grammar::specs::Items::some_params, verse_grammar::proofs::EatingItems::eats_params_until_at, verse_grammar::proofs::EatingItems::eats_params_until_other, verse_grammar::proofs::StickingItems::sticks_params_until_other_1, verse_grammar::proofs::StickingItems::sticks_params_until_other_2, verse_grammar::proofs::StickingItems::sticks_params_until_other_3))]
+#[tactic(auto, using(crate::proofs::Rules::of_params))]
 fn params<'t>(
     alloc: Global,
     bytes: &[u8],
@@ -69,7 +69,7 @@ fn params<'t>(
 }
 
 /// The parameters from the first on, which begins at `start`.
-#[tactic(auto, using(verse_grammar::specs::Items::one_param, verse_grammar::specs::Items::more_params, verse_grammar::proofs::EatingItems::eats_params_tail_other, verse_grammar::proofs::GoingItems::goes_params_tail_at, verse_grammar::proofs::GoingItems::stuck_params_tail_at_1, verse_grammar::proofs::Going::goes_start, verse_grammar::proofs::Going::goes_eats, verse_grammar::proofs::Going::goes_sticks))]
+#[tactic(auto, using(crate::proofs::Rules::of_param_row))]
 fn param_row<'t>(
     alloc: Global,
     bytes: &[u8],
@@ -98,7 +98,7 @@ fn param_row<'t>(
 }
 
 /// What stands behind the name `tok` and the specifiers of a function.
-#[tactic(auto, using(crate::proofs::Signatures::fun_whole, crate::proofs::Signatures::eats_fun, crate::proofs::Signatures::sticks_fun_1, crate::proofs::Signatures::sticks_fun_2, crate::proofs::Signatures::sticks_fun_3))]
+#[tactic(auto, using(crate::proofs::Rules::of_fun_rest))]
 pub fn fun_rest<'t>(
     alloc: Global,
     bytes: &[u8],
@@ -121,7 +121,7 @@ pub fn fun_rest<'t>(
 }
 
 /// The effects of a function, its type and its body.
-#[tactic(auto, using(crate::specs::Rests::signature, crate::proofs::Signatures::eats_signature, crate::proofs::Signatures::sticks_signature_1, crate::proofs::Signatures::sticks_signature_2, crate::proofs::Signatures::sticks_signature_3, crate::proofs::Signatures::sticks_signature_4, crate::proofs::Signatures::sticks_signature_5))]
+#[tactic(auto, using(crate::proofs::Rules::of_signature))]
 fn signature<'t>(
     alloc: Global,
     bytes: &[u8],

@@ -44,7 +44,7 @@ pub fn head_at(place: Place, name: Name, specs: Items<Spec>) -> Head
 }
 
 /// Specifiers, as `<public><override>`.
-#[tactic(auto, using(verse_grammar::specs::Items::no_specs, verse_grammar::specs::Items::more_specs, verse_grammar::proofs::EatingItems::eats_specs_other, verse_grammar::proofs::GoingItems::goes_specs_at, verse_grammar::proofs::GoingItems::stuck_specs_at_1, verse_grammar::proofs::GoingItems::stuck_specs_at_2, verse_grammar::proofs::Going::goes_start, verse_grammar::proofs::Going::goes_eats))]
+#[tactic(auto, using(crate::proofs::Rules::of_specifiers))]
 pub fn specifiers<'t>(
     alloc: Global,
     bytes: &[u8],
@@ -70,7 +70,7 @@ pub fn specifiers<'t>(
 }
 
 /// Names with dots between them.
-#[tactic(auto, using(verse_grammar::proofs::EatingItems::eats_dotted, verse_grammar::proofs::StickingItems::sticks_dotted_1, verse_grammar::proofs::StickingItems::sticks_dotted_2))]
+#[tactic(auto, using(crate::proofs::Rules::of_dotted))]
 pub fn dotted<'t>(
     alloc: Global,
     bytes: &[u8],
@@ -87,7 +87,7 @@ pub fn dotted<'t>(
 }
 
 /// A name and those behind it.
-#[tactic(auto, using(verse_grammar::specs::Items::one_name, verse_grammar::specs::Items::more_names, verse_grammar::proofs::EatingItems::eats_dots_tail_other, verse_grammar::proofs::GoingItems::goes_dots_tail_at, verse_grammar::proofs::GoingItems::stuck_dots_tail_at_1, verse_grammar::proofs::Going::goes_start, verse_grammar::proofs::Going::goes_eats))]
+#[tactic(auto, using(crate::proofs::Rules::of_dots))]
 fn dots<'t>(
     alloc: Global,
     bytes: &[u8],
@@ -115,7 +115,7 @@ fn dots<'t>(
 }
 
 /// The parts of a path behind the first, which begins at `start`.
-#[tactic(auto, using(verse_grammar::specs::Items::more_parts, verse_grammar::proofs::EatingItems::eats_path_tail_other, verse_grammar::proofs::GoingItems::goes_path_tail_at, verse_grammar::proofs::GoingItems::stuck_path_tail_at_1, verse_grammar::proofs::Going::goes_start, verse_grammar::proofs::Going::goes_eats))]
+#[tactic(auto, using(crate::proofs::Rules::of_path))]
 pub fn path<'t>(
     alloc: Global,
     bytes: &[u8],

@@ -1,3 +1,5 @@
+//! Tests of the readers.
+
 ghost use Rattle.std.specs.Prelude.{◌≡◌, ◌≤◌, IfOk, length, map};
 ghost use Rattle.verse_tree.specs.ItemView.{item_of};
 ghost use Rattle.verse_tree.specs.Numbering.{items_nodes};

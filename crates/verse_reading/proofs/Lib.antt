@@ -2,3 +2,4 @@ pub mod Taking
 pub mod Faults
 pub mod TypeRows
 pub mod Rows
+pub mod Rules

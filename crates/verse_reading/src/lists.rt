@@ -20,7 +20,7 @@ use verse_layout::toks::Tok;
 
 impl<'b, F: Fn(Global, &[u8], Phrase, &[Tok]) -> Result<(Tree, usize), ReadFault>> Reader<'b, F> {
     /// One phrase or more, with a separator between them, up to a closing tok.
-    #[tactic(auto, using(verse_grammar::specs::Exprs::row_one, verse_grammar::specs::Exprs::row_more, verse_grammar::specs::Exprs::closed, verse_grammar::proofs::Going::goes_start, verse_grammar::proofs::Going::goes_row_tail_at, crate::proofs::Rows::closed_eaten, crate::proofs::Rows::closed_stuck_between, crate::proofs::Rows::closed_stuck_at_end, verse_grammar::proofs::StickingParts::sticks_closed_1))]
+    #[tactic(auto, using(crate::proofs::Rules::of_closed))]
     pub fn closed<'t>(
         &self,
         what: Phrase,
@@ -56,7 +56,7 @@ impl<'b, F: Fn(Global, &[u8], Phrase, &[Tok]) -> Result<(Tree, usize), ReadFault
     }
 
     /// No phrase or more, up to a closing tok.
-    #[tactic(auto, using(verse_grammar::specs::Exprs::until_none, verse_grammar::specs::Exprs::until_some, verse_grammar::proofs::Eating::eats_until_at, verse_grammar::proofs::Eating::eats_until_other, verse_grammar::proofs::StickingParts::sticks_until_other_1))]
+    #[tactic(auto, using(crate::proofs::Rules::of_until))]
     pub fn until<'t>(
         &self,
         what: Phrase,

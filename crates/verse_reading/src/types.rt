@@ -26,7 +26,7 @@ use verse_nodes::types::{
 
 /// A type.
 #[cycle(type_at)]
-#[tactic(auto, using(verse_grammar::specs::Types::type_int, verse_grammar::specs::Types::type_logic, verse_grammar::specs::Types::type_char, verse_grammar::specs::Types::type_string, verse_grammar::specs::Types::type_void, verse_grammar::specs::Types::type_name, verse_grammar::proofs::Eating::eats_a_type_int, verse_grammar::proofs::Eating::eats_a_type_logic, verse_grammar::proofs::Eating::eats_a_type_char, verse_grammar::proofs::Eating::eats_a_type_string, verse_grammar::proofs::Eating::eats_a_type_void, verse_grammar::proofs::Eating::eats_a_type_name, verse_grammar::proofs::Sticking::sticks_a_type_other, verse_grammar::proofs::Sticking::sticks_a_type_end))]
+#[tactic(auto, using(crate::proofs::Rules::of_type_at))]
 pub fn type_at<'t>(
     alloc: Global,
     bytes: &[u8],
@@ -59,7 +59,7 @@ pub fn type_at<'t>(
 
 /// `?t`, behind its mark.
 #[cycle(type_at)]
-#[tactic(auto, using(verse_grammar::specs::Types::type_option, verse_grammar::proofs::Eating::eats_a_type_option, verse_grammar::proofs::Sticking::sticks_a_type_option_1))]
+#[tactic(auto, using(crate::proofs::Rules::of_option_type))]
 fn option_type<'t>(
     alloc: Global,
     bytes: &[u8],
@@ -80,7 +80,7 @@ fn option_type<'t>(
 
 /// `[]t` and `[k]v`, behind the opening bracket.
 #[cycle(type_at)]
-#[tactic(auto, using(verse_grammar::specs::Types::type_array, verse_grammar::proofs::Eating::eats_a_type_bracket, verse_grammar::proofs::Sticking::sticks_a_type_bracket_1, verse_grammar::proofs::Eating::eats_bracket_rest_at, verse_grammar::proofs::Sticking::sticks_bracket_rest_at_1))]
+#[tactic(auto, using(crate::proofs::Rules::of_bracket_type))]
 fn bracket_type<'t>(
     alloc: Global,
     bytes: &[u8],
@@ -106,7 +106,7 @@ fn bracket_type<'t>(
 
 /// `[k]v`, behind the opening bracket.
 #[cycle(type_at)]
-#[tactic(auto, using(verse_grammar::specs::Types::type_map, verse_grammar::proofs::Eating::eats_a_type_bracket, verse_grammar::proofs::Sticking::sticks_a_type_bracket_1, verse_grammar::proofs::Eating::eats_bracket_rest_other, verse_grammar::proofs::Sticking::sticks_bracket_rest_other_1, crate::proofs::TypeRows::map_missing, verse_grammar::proofs::Sticking::sticks_bracket_rest_other_3))]
+#[tactic(auto, using(crate::proofs::Rules::of_map_type))]
 fn map_type<'t>(
     alloc: Global,
     bytes: &[u8],
@@ -132,7 +132,7 @@ fn map_type<'t>(
 
 /// `tuple(t, u)`, behind its word.
 #[cycle(type_at)]
-#[tactic(auto, using(verse_grammar::specs::Types::type_tuple, verse_grammar::proofs::Eating::eats_a_type_tuple, verse_grammar::proofs::Sticking::sticks_a_type_tuple_1, verse_grammar::proofs::Eating::eats_tuple_rest, verse_grammar::proofs::Sticking::sticks_tuple_rest_1, verse_grammar::proofs::Sticking::sticks_tuple_rest_2, verse_grammar::proofs::Sticking::sticks_tuple_rest_3, verse_grammar::proofs::Sticking::sticks_tuple_rest_4, verse_grammar::proofs::Sticking::sticks_tuple_rest_5))]
+#[tactic(auto, using(crate::proofs::Rules::of_tuple_type))]
 fn tuple_type<'t>(
     alloc: Global,
     bytes: &[u8],
@@ -157,7 +157,7 @@ fn tuple_type<'t>(
 
 /// Types with commas between them.
 #[cycle(type_at)]
-#[tactic(auto, using(verse_grammar::specs::Types::one_type, verse_grammar::specs::Types::more_types, verse_grammar::proofs::Going::goes_start, verse_grammar::proofs::Going::goes_types_tail_at, verse_grammar::proofs::Sticking::sticks_types_1, crate::proofs::TypeRows::types_eaten, crate::proofs::TypeRows::types_stuck))]
+#[tactic(auto, using(crate::proofs::Rules::of_types))]
 fn types<'t>(
     alloc: Global,
     bytes: &[u8],
@@ -183,7 +183,7 @@ fn types<'t>(
 
 /// `task(t)`, behind its word.
 #[cycle(type_at)]
-#[tactic(auto, using(verse_grammar::specs::Types::type_task, verse_grammar::proofs::Eating::eats_a_type_task, verse_grammar::proofs::Sticking::sticks_a_type_task_1, verse_grammar::proofs::Sticking::sticks_a_type_task_2, verse_grammar::proofs::Sticking::sticks_a_type_task_3))]
+#[tactic(auto, using(crate::proofs::Rules::of_task_type))]
 fn task_type<'t>(
     alloc: Global,
     bytes: &[u8],
@@ -206,7 +206,7 @@ fn task_type<'t>(
 
 /// `event(t)` and `event()`, behind their word.
 #[cycle(type_at)]
-#[tactic(auto, using(verse_grammar::specs::Types::type_event, verse_grammar::specs::Types::type_bare_event, verse_grammar::proofs::Eating::eats_a_type_event, verse_grammar::proofs::Sticking::sticks_a_type_event_1, verse_grammar::proofs::Eating::eats_bracket_type, verse_grammar::proofs::Sticking::sticks_bracket_type_1, verse_grammar::proofs::Sticking::sticks_bracket_type_2, verse_grammar::proofs::Eating::eats_bracket_type_rest_at, verse_grammar::proofs::Eating::eats_bracket_type_rest_other, verse_grammar::proofs::Sticking::sticks_bracket_type_rest_other_1, verse_grammar::proofs::Sticking::sticks_bracket_type_rest_other_2))]
+#[tactic(auto, using(crate::proofs::Rules::of_event_type))]
 fn event_type<'t>(
     alloc: Global,
     bytes: &[u8],

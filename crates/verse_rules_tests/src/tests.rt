@@ -1,3 +1,5 @@
+//! Tests of the rules, and of what tables hold.
+
 ghost use Rattle.std.specs.Prelude.{◌≤◌, IfOk, map};
 ghost use Rattle.verse_tree.specs.ItemView.{item_of};
 ghost use Rattle.verse_tree.specs.Numbering.{items_nodes};

@@ -22,7 +22,7 @@ use verse_reading::nesting::Reader;
 use verse_reading::steps::{ReadFault, expect, take};
 
 /// Open, parts and Close.
-#[tactic(auto, using(verse_grammar::specs::Exprs::block, verse_grammar::proofs::Eating::eats_block, verse_grammar::proofs::Sticking::sticks_block_1, verse_grammar::proofs::Sticking::sticks_block_2))]
+#[tactic(auto, using(crate::proofs::Rules::of_block))]
 pub fn block<'t, F: Fn(Global, &[u8], Phrase, &[Tok]) -> Result<(Tree, usize), ReadFault>>(
     reader: &Reader<'_, F>,
     toks: &'t [Tok],
@@ -43,7 +43,7 @@ pub fn block<'t, F: Fn(Global, &[u8], Phrase, &[Tok]) -> Result<(Tree, usize), R
 }
 
 /// `defer` and its block, or a statement.
-#[tactic(auto, using(verse_grammar::specs::Exprs::part_defer, verse_grammar::specs::Exprs::part_stmt, verse_grammar::proofs::Eating::eats_part_at, verse_grammar::proofs::Eating::eats_part_other, verse_grammar::proofs::Sticking::sticks_part_at_1, verse_grammar::proofs::Sticking::sticks_part_other_1))]
+#[tactic(auto, using(crate::proofs::Rules::of_part))]
 pub fn part<'t, F: Fn(Global, &[u8], Phrase, &[Tok]) -> Result<(Tree, usize), ReadFault>>(
     reader: &Reader<'_, F>,
     toks: &'t [Tok],
@@ -68,7 +68,7 @@ pub fn part<'t, F: Fn(Global, &[u8], Phrase, &[Tok]) -> Result<(Tree, usize), Re
 }
 
 /// A block or an expression.
-#[tactic(auto, using(verse_grammar::specs::Exprs::body_block, verse_grammar::specs::Exprs::body_expr, verse_grammar::proofs::Eating::eats_body_at, verse_grammar::proofs::Eating::eats_body_other, verse_grammar::proofs::Sticking::sticks_body_at_1, verse_grammar::proofs::Sticking::sticks_body_other_1))]
+#[tactic(auto, using(crate::proofs::Rules::of_body))]
 pub fn body<'t, F: Fn(Global, &[u8], Phrase, &[Tok]) -> Result<(Tree, usize), ReadFault>>(
     reader: &Reader<'_, F>,
     toks: &'t [Tok],

@@ -29,7 +29,7 @@ use verse_reading::steps::{ReadFault, expect, next, take};
 use verse_reading::types::type_at;
 
 /// A statement.
-#[tactic(auto, using(verse_grammar::specs::Exprs::stmt_control, verse_grammar::specs::Exprs::stmt_expr, verse_choices::proofs::Starting::left_at, verse_grammar::proofs::Eating::eats_stmt_set, verse_grammar::proofs::Eating::eats_stmt_return, verse_grammar::proofs::Eating::eats_stmt_break, verse_grammar::proofs::Eating::eats_stmt_other, verse_grammar::proofs::Sticking::sticks_stmt_set_1, verse_grammar::proofs::Sticking::sticks_stmt_return_1, verse_grammar::proofs::Sticking::sticks_stmt_other_1))]
+#[tactic(auto, using(crate::proofs::Rules::of_stmt))]
 pub fn stmt<'t, F: Fn(Global, &[u8], Phrase, &[Tok]) -> Result<(Tree, usize), ReadFault>>(
     reader: &Reader<'_, F>,
     toks: &'t [Tok],
@@ -58,7 +58,7 @@ pub fn stmt<'t, F: Fn(Global, &[u8], Phrase, &[Tok]) -> Result<(Tree, usize), Re
 }
 
 /// A statement that begins with a name: a definition, or an expression.
-#[tactic(auto, using(verse_grammar::specs::Exprs::stmt_expr, verse_grammar::proofs::ByExpr::stmt_by_expr, verse_grammar::proofs::ByExpr::stmt_stuck_by_expr, verse_choices::proofs::Starting::name_start))]
+#[tactic(auto, using(crate::proofs::Rules::of_named_stmt))]
 fn named_stmt<'t, F: Fn(Global, &[u8], Phrase, &[Tok]) -> Result<(Tree, usize), ReadFault>>(
     reader: &Reader<'_, F>,
     tok: Tok,
@@ -87,7 +87,7 @@ fn named_stmt<'t, F: Fn(Global, &[u8], Phrase, &[Tok]) -> Result<(Tree, usize), 
 }
 
 /// The value behind `X :=`.
-#[tactic(auto, using(verse_grammar::specs::Exprs::stmt_definition, verse_grammar::proofs::Eating::eats_stmt_name, verse_grammar::proofs::Eating::eats_stmt_name_at1, verse_grammar::proofs::Sticking::sticks_stmt_name_1, verse_grammar::proofs::StickingParts::sticks_stmt_name_at1_1, verse_choices::proofs::Starting::name_start))]
+#[tactic(auto, using(crate::proofs::Rules::of_defined))]
 fn defined<'t, F: Fn(Global, &[u8], Phrase, &[Tok]) -> Result<(Tree, usize), ReadFault>>(
     reader: &Reader<'_, F>,
     tok: Tok,
@@ -117,7 +117,7 @@ fn defined<'t, F: Fn(Global, &[u8], Phrase, &[Tok]) -> Result<(Tree, usize), Rea
 }
 
 /// What is behind `X` in `X:t = E`.
-#[tactic(auto, using(verse_grammar::specs::Exprs::stmt_typed, verse_grammar::proofs::Eating::eats_stmt_name, verse_grammar::proofs::Eating::eats_stmt_name_at2, verse_grammar::proofs::Sticking::sticks_stmt_name_1, verse_grammar::proofs::StickingParts::sticks_stmt_name_at2_1, verse_choices::proofs::Starting::name_start))]
+#[tactic(auto, using(crate::proofs::Rules::of_typed))]
 fn typed<'t, F: Fn(Global, &[u8], Phrase, &[Tok]) -> Result<(Tree, usize), ReadFault>>(
     reader: &Reader<'_, F>,
     tok: Tok,
@@ -147,7 +147,7 @@ fn typed<'t, F: Fn(Global, &[u8], Phrase, &[Tok]) -> Result<(Tree, usize), ReadF
 }
 
 /// What is behind `var`.
-#[tactic(auto, using(verse_grammar::specs::Exprs::stmt_variable, verse_grammar::proofs::Eating::eats_stmt_var, verse_grammar::proofs::Sticking::sticks_stmt_var_1, verse_grammar::proofs::Sticking::sticks_stmt_var_2, verse_grammar::proofs::StickingParts::sticks_typed_value_1, verse_choices::proofs::Starting::var_start))]
+#[tactic(auto, using(crate::proofs::Rules::of_variable))]
 fn variable<'t, F: Fn(Global, &[u8], Phrase, &[Tok]) -> Result<(Tree, usize), ReadFault>>(
     reader: &Reader<'_, F>,
     tok: Tok,
@@ -175,7 +175,7 @@ fn variable<'t, F: Fn(Global, &[u8], Phrase, &[Tok]) -> Result<(Tree, usize), Re
 }
 
 /// The type and the value behind a colon.
-#[tactic(auto, using(verse_grammar::specs::Exprs::typed_value, verse_grammar::proofs::Eating::eats_typed_value, verse_grammar::proofs::StickingParts::sticks_typed_value_2, verse_grammar::proofs::StickingParts::sticks_typed_value_3, verse_grammar::proofs::StickingParts::sticks_typed_value_4))]
+#[tactic(auto, using(crate::proofs::Rules::of_typed_value))]
 fn typed_value<'t, F: Fn(Global, &[u8], Phrase, &[Tok]) -> Result<(Tree, usize), ReadFault>>(
     reader: &Reader<'_, F>,
     colon: Tok,

@@ -1,3 +1,5 @@
+//! Tests of `exec`.
+
 use crate::telling::told;
 use std::alloc::Global;
 use std::test::Fail;

@@ -1,4 +1,7 @@
 //! The tests of the top call, of images, and of the words of a command line.
+//!
+//! To be read in this order: `telling`, what a call wrote and answered; `tests`, `run` and `check`;
+//! `images_tests`, `exec`; `words_tests`.
 #![tactic(auto)]
 
 #[cfg(test)]

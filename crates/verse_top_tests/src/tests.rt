@@ -1,3 +1,5 @@
+//! Tests of `run` and `check`.
+
 use crate::telling::told;
 use std::alloc::Global;
 use std::test::Fail;

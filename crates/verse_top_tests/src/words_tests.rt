@@ -1,3 +1,5 @@
+//! Tests of the words of a command line.
+
 ghost use Rattle.std.specs.Prelude.{ℤ, List, option_copied};
 ghost use Rattle.verse_words.specs.Words.{Inputs};
 

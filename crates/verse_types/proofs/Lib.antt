@@ -1,2 +1,3 @@
 mod Climbing
 mod Before
+mod Rules

@@ -1,4 +1,6 @@
 //! The tests of types.
+//!
+//! To be read in this order: `copying`, copies of types; `tests`.
 #![tactic(auto)]
 
 pub mod copying;

@@ -7,3 +7,4 @@ pub mod Stepping
 pub mod KeyLaws
 pub mod EqualityLaw
 pub mod Texts
+pub mod Rules

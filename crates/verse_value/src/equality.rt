@@ -1,3 +1,5 @@
+//! When two values are equal.
+
 ghost use Rattle.std.specs.Prelude.{◌≡◌, ◌↔◌, IsTrue};
 ghost use Rattle.verse_value.specs.View.{val_of, vals_of};
 ghost use Rattle.verse_value.specs.Val.{vals};

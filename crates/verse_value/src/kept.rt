@@ -1,3 +1,5 @@
+//! How much a value weighs and how deep it is, kept beside its parts.
+
 ghost use Rattle.std.specs.Prelude.{◌≡◌, ℕ, ◌+◌, ◌-◌, min, max, IfSome};
 ghost use Rattle.verse_value.specs.Kept.{Measures, Resizes};
 

@@ -1,5 +1,9 @@
 //! The values of a run, and what is done with them: equality, size, copies, reading, and their
 //! text.
+//!
+//! To be read in this order: `bytes`, `keys` and `kept`, what values are made of; `values`;
+//! `equality`, `sizes`, `lookups` and `printing`, what is asked of them; `modes` and `runs`, words
+//! for those above.
 #![tactic(auto)]
 
 pub mod bytes;

@@ -1,3 +1,5 @@
+//! What an index leads to in a value.
+
 ghost use Rattle.std.specs.Prelude.{◌≡◌, ◌≢◌, ◌↔◌, ◌<◌, Some, is_some, length, IsTrue, IfOk};
 ghost use Rattle.std.specs.Prelude.{IfSome, option_map};
 ghost use Rattle.verse_value.specs.View.{val_of, vals_of};
@@ -41,7 +43,7 @@ pub fn find<'a>(v: &'a Value, index: &Value) -> Step<'a>
     }
 }
 
-#[tactic(auto, using(crate::proofs::Stepping::array_part, crate::proofs::Stepping::array_past, crate::proofs::Stepping::array_none, crate::proofs::Stepping::array_misfit))]
+#[tactic(auto, using(crate::proofs::Rules::of_in_parts))]
 fn in_parts<'a>(parts: &'a Parts, index: &Value) -> Step<'a>
     ensures { step_of result ≡ in_array parts.now (val_of index.now) }
 {
@@ -55,7 +57,7 @@ fn in_parts<'a>(parts: &'a Parts, index: &Value) -> Step<'a>
     }
 }
 
-#[tactic(auto, using(crate::proofs::Stepping::map_part, crate::proofs::Stepping::map_past, crate::proofs::Stepping::map_none, crate::proofs::Stepping::map_misfit))]
+#[tactic(auto, using(crate::proofs::Rules::of_in_entries))]
 fn in_entries<'a>(entries: &'a Entries, index: &Value) -> Step<'a>
     ensures { step_of result ≡ in_map entries.now (key_of (val_of index.now)) }
 {

@@ -1,3 +1,5 @@
+//! How a write makes the new value from the old one.
+
 /// How a write makes the new value from the old one and the one given.
 #[derive(Clone, Copy, Debug, PartialEq, Eq)]
 pub enum Mode {

@@ -1,3 +1,5 @@
+//! The text of a value.
+
 ghost use Rattle.std.specs.Prelude.{◌≡◌, ◌<◌, ◌++◌, [], ◌∷◌, Some, codes, decimal, length, zip};
 ghost use Rattle.std.specs.Prelude.{OnOk, OnErr};
 ghost use Rattle.verse_value.specs.Keys.{bytes_of};

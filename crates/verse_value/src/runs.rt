@@ -1,3 +1,5 @@
+//! What a cell of the store is, and how a run ends.
+
 use verse_base::places::Place;
 use verse_base::refusals::Kind;
 

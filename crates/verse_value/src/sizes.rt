@@ -1,3 +1,5 @@
+//! How much a value weighs, how deep it is, and whether a run may have it.
+
 ghost use Rattle.std.specs.Prelude.{◌≡◌, ◌+◌, min};
 ghost use Rattle.verse_value.specs.View.{val_of, vals_of};
 ghost use Rattle.verse_value.specs.Val.{vals, some, array, mapping, tuple};

@@ -1,3 +1,5 @@
+//! Values, and their copies.
+
 ghost use Rattle.std.specs.Prelude.{◌≡◌, ◌+◌, ◌<◌, ◌≤◌, ◌++◌, [], ◌∷◌, min, None, Some, pos};
 ghost use Rattle.std.specs.Prelude.{length, option_map, MatchOption, IfOk, IfSome, OnOk, OnErr};
 ghost use Rattle.indexmap.specs.IndexSet.{spare};

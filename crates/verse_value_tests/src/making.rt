@@ -1,3 +1,5 @@
+//! Values for the tests.
+
 ghost use Rattle.std.specs.Prelude.{◌≡◌, [], ◌∷◌, ◌+◌, IfOk};
 ghost use Rattle.verse_value.specs.View.{val_of, vals_of};
 ghost use Rattle.verse_value.specs.Val.{array, mapping, no_vals, more_vals, no_pairs, more_pairs};

@@ -1,3 +1,5 @@
+//! Calls whose promise asks for something, behind a test of it.
+
 ghost use Rattle.std.specs.Prelude.{◌≡◌, [], MatchOption, option_map};
 ghost use Rattle.verse_value.specs.View.{val_of, vals_of};
 ghost use Rattle.verse_value.specs.Places.{step_in, misfit, found, path_to_map};

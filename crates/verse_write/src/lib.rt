@@ -1,4 +1,7 @@
 //! Writes along a path in a value, and what undoes them.
+//!
+//! To be read in this order: `paths`, where a write leads; `changes`, what it does there; `writes`,
+//! the whole of it.
 #![tactic(auto)]
 
 pub mod changes;

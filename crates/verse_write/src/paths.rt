@@ -1,3 +1,5 @@
+//! Paths: the indices of a place in a value.
+
 ghost use Rattle.std.specs.Prelude.{◌≡◌, [], ◌∷◌, ◌++◌, length, reverse, IfOk, OnOk, OnErr};
 ghost use Rattle.verse_value.specs.View.{vals_of};
 

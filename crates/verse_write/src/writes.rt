@@ -1,3 +1,5 @@
+//! Writes along a path in a value of a slot, with what undoes them.
+
 ghost use Rattle.std.specs.Prelude.{◌≡◌, ◌+ℤ◌, ◌-ℤ◌, ◌*ℤ◌, Ok, Some, IfOk, IfErr, OnOk, OnErr};
 ghost use Rattle.verse_value.specs.View.{val_of, vals_of};
 ghost use Rattle.verse_value.specs.Val.{Val};

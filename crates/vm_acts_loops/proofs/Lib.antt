@@ -1,3 +1,4 @@
 pub mod Jumping
 pub mod Values
 pub mod Turns
+pub mod Rules

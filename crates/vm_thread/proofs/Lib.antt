@@ -1,3 +1,4 @@
 mod Whole
 mod Popped
 mod Unwound
+mod Rules
