@@ -1,8 +1,8 @@
 //! The same calls on a fiber and on the model.
 
 use crate::calls::Call;
-use crate::driven;
 use crate::model::Model;
+use crate::{driven, playing};
 use fiber::fibers::Fiber;
 use std::alloc::Global;
 use verse_base::refusals::Memory;
@@ -73,9 +73,9 @@ impl Both {
         let mut modelled = Vec::new(self.alloc);
         told.push(driven::call_any(self.alloc, &mut self.fiber, call)?)?;
         modelled.push(self.model.call(call)?)?;
-        driven::seen(&self.fiber, &mut told)?;
+        playing::seen(&self.fiber, &mut told)?;
         self.model.seen(&mut modelled)?;
-        driven::shown(&self.fiber, &mut told)?;
+        playing::shown(&self.fiber, &mut told)?;
         self.model.shown(&mut modelled)?;
         Ok(told == modelled)
     }

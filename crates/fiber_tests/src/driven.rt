@@ -2,7 +2,7 @@
 
 ghost use Rattle.std.specs.Prelude.{◌≡◌, ◌≢◌, []};
 
-use crate::calls::{Call, ENTRY, LOCALS, MOST, NOTHING};
+use crate::calls::{Call, ENTRY, LOCALS, NOTHING};
 use fiber::fibers::Fiber;
 use std::alloc::Global;
 use verse_base::refusals::Memory;
@@ -24,12 +24,8 @@ fn told(answer: Option<u32>) -> i64 {
     }
 }
 
-/// A length, or `MOST`.
-pub fn told_length(length: u64) -> i64 {
-    length.min(MOST) as i64
-}
-
-fn truth(is: bool) -> i64 {
+/// 1 where it is so, and otherwise 0.
+pub fn truth(is: bool) -> i64 {
     if is { 1 } else { 0 }
 }
 
@@ -46,7 +42,8 @@ fn func() -> Func
     }
 }
 
-fn value(number: u32) -> Value {
+/// The value of this number.
+pub fn value(number: u32) -> Value {
     Value::Int(i64::from(number))
 }
 
@@ -136,145 +133,10 @@ fn call(alloc: Global, fiber: &mut Fiber, call: Call) -> Result<i64, Memory>
     }
 }
 
-/// What is seen of the frames: depth, place, two tests of all frames, three lengths, and the
-/// locals.
-pub fn seen(fiber: &Fiber, out: &mut Vec<i64>) -> Result<(), Memory> {
-    out.push(i64::from(fiber.depth()))?;
-    out.push(truth(fiber.guarded()))?;
-    out.push(truth(fiber.closing()))?;
-    if fiber.depth() == 0 {
-        return Ok(());
-    }
-    seen_on_top(fiber, out)
-}
-
-fn seen_on_top(fiber: &Fiber, out: &mut Vec<i64>) -> Result<(), Memory>
-    requires { fiber.now ≢ [] }
-{
-    out.push(i64::from(fiber.place()))?;
-    out.push(told_length(fiber.defers()))?;
-    out.push(told_length(fiber.noted()))?;
-    out.push(told_length(fiber.kept()))?;
-    'locals: for local in 0..LOCALS {
-        if let Some(value) = fiber.local(local) {
-            out.push(number(value))?;
-        }
-    }
-    Ok(())
-}
-
-/// All frames, the lowest first: the place, the locals, the operands above the innermost handler,
-/// and the deferred blocks.
-pub fn shown(fiber: &Fiber, out: &mut Vec<i64>) -> Result<(), Memory> {
-    'frames: for i in 0..fiber.depth() {
-        out.push(i64::from(fiber.frame_place(i)))?;
-        shown_values(fiber.frame_locals(i), out)?;
-        shown_values(fiber.frame_stack(i), out)?;
-        shown_numbers(fiber.frame_defers(i), out)?;
-    }
-    Ok(())
-}
-
-/// How many values there are, and their numbers.
-fn shown_values(values: &[Value], out: &mut Vec<i64>) -> Result<(), Memory> {
-    out.push(told_length(values.len() as u64))?;
-    'values: for value in values {
-        out.push(number(value))?;
-    }
-    Ok(())
-}
-
-/// How many numbers there are, and the numbers.
-pub fn shown_numbers(numbers: &[u32], out: &mut Vec<i64>) -> Result<(), Memory> {
-    out.push(told_length(numbers.len() as u64))?;
-    'numbers: for number in numbers {
-        out.push(i64::from(*number))?;
-    }
-    Ok(())
-}
-
-/// Two values.
-fn two_values(alloc: Global, first: u32, second: u32) -> Result<Vec<Value>, Memory> {
-    let mut values = Vec::new(alloc);
-    values.push(value(first))?;
-    values.push(value(second))?;
-    Ok(values)
-}
-
-/// Two numbers.
-fn two_numbers(alloc: Global, first: u32, second: u32) -> Result<Vec<u32>, Memory> {
-    let mut numbers = Vec::new(alloc);
-    numbers.push(first)?;
-    numbers.push(second)?;
-    Ok(numbers)
-}
-
-/// A fiber of two frames, with two locals, operands and deferred blocks each.
-fn rebuilt(alloc: Global) -> Result<Fiber, Memory> {
-    let locals = two_values(alloc, 1, 2)?;
-    let stack = two_values(alloc, 3, 4)?;
-    let mut fiber = Fiber::rebuilt(alloc, 9, locals, stack, two_numbers(alloc, 5, 6)?)?;
-    let locals = two_values(alloc, 11, 12)?;
-    let stack = two_values(alloc, 13, 14)?;
-    let defers = two_numbers(alloc, 15, 16)?;
-    if fiber.depth() < u32::MAX {
-        fiber.add_frame(19, locals, stack, defers)?;
-    }
-    Ok(fiber)
-}
-
 /// Does a call, where there is a frame, and tells its answer.
 pub fn call_any(alloc: Global, fiber: &mut Fiber, which: Call) -> Result<i64, Memory> {
     if fiber.depth() == 0 {
         return Ok(NOTHING);
     }
     call(alloc, fiber, which)
-}
-
-/// Does calls while there is a frame, and tells their answers.
-fn call_all(
-    alloc: Global,
-    fiber: &mut Fiber,
-    calls: &[Call],
-    told: &mut Vec<i64>,
-) -> Result<(), Memory> {
-    'calls: for which in calls {
-        told.push(call_any(alloc, fiber, *which)?)?;
-    }
-    Ok(())
-}
-
-/// Does calls on a fiber of one frame, and tells their answers and what is then seen.
-pub fn play(
-    alloc: Global,
-    calls: &[Call],
-    told: &mut Vec<i64>,
-    out: &mut Vec<i64>,
-) -> Result<(), Memory> {
-    let mut fiber = begin(alloc, 5)?;
-    call_all(alloc, &mut fiber, calls, told)?;
-    seen(&fiber, out)
-}
-
-/// What is seen of a copy.
-pub fn copied(alloc: Global, out: &mut Vec<i64>) -> Result<(), Memory> {
-    let mut fiber = begin(alloc, 5)?;
-    let _ = call_any(alloc, &mut fiber, Call::Set(1, 8))?;
-    if fiber.depth() == 0 {
-        return Ok(());
-    }
-    let copy = fiber.copy_at(alloc, 11)?;
-    seen(&copy, out)
-}
-
-/// Shows frames that are rebuilt, and does calls on them.
-pub fn play_rebuilt(
-    alloc: Global,
-    calls: &[Call],
-    told: &mut Vec<i64>,
-    out: &mut Vec<i64>,
-) -> Result<(), Memory> {
-    let mut fiber = rebuilt(alloc)?;
-    shown(&fiber, out)?;
-    call_all(alloc, &mut fiber, calls, told)
 }

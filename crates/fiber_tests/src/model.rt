@@ -1,7 +1,7 @@
 //! The frames of a task in plain lists.
 
 use crate::calls::{Call, ENTRY, NOTHING};
-use crate::driven::{shown_numbers, told_length};
+use crate::playing::{shown_numbers, told_length};
 use std::alloc::Global;
 use std::mem::replace;
 use verse_base::refusals::Memory;

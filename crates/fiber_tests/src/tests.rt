@@ -1,7 +1,7 @@
 //! Rows of calls, and drawn calls on a fiber and on the model.
 
 use crate::calls::Call;
-use crate::{both, driven};
+use crate::{both, playing};
 use std::alloc::Global;
 use std::test::Fail;
 
@@ -117,7 +117,7 @@ fn rows(rt: HostRuntime) -> Result<(), Fail> {
         let calls = calls(rt.alloc(), words)?;
         let mut told = Vec::new(rt.alloc());
         let mut seen = Vec::new(rt.alloc());
-        driven::play(rt.alloc(), &calls, &mut told, &mut seen)?;
+        playing::play(rt.alloc(), &calls, &mut told, &mut seen)?;
         assert_eq!(rt; told, numbers(rt.alloc(), answers)?, "{line}");
         assert_eq!(rt; seen, numbers(rt.alloc(), end)?, "{line}");
         count = count.saturating_add(1);
@@ -136,7 +136,7 @@ fn drawn_calls(rt: HostRuntime) -> Result<(), Fail> {
 #[test]
 fn a_copy(rt: HostRuntime) -> Result<(), Fail> {
     let mut seen = Vec::new(rt.alloc());
-    driven::copied(rt.alloc(), &mut seen)?;
+    playing::copied(rt.alloc(), &mut seen)?;
     assert_eq!(rt; seen, numbers(rt.alloc(), "1 0 0 11 0 0 0 5 8 -1")?);
     Ok(())
 }
@@ -146,7 +146,7 @@ fn rebuilt_frames(rt: HostRuntime) -> Result<(), Fail> {
     let calls = calls(rt.alloc(), "o. k.8 o. o. l. o. k.7 k.6 k.5 x.")?;
     let mut told = Vec::new(rt.alloc());
     let mut shown = Vec::new(rt.alloc());
-    driven::play_rebuilt(rt.alloc(), &calls, &mut told, &mut shown)?;
+    playing::play_rebuilt(rt.alloc(), &calls, &mut told, &mut shown)?;
     let expected = numbers(rt.alloc(), "9 2 1 2 2 3 4 2 5 6 19 2 11 12 2 13 14 2 15 16")?;
     assert_eq!(rt; shown, expected);
     let expected = numbers(rt.alloc(), "14 16 13 -1 0 4 6 5 -1 6")?;

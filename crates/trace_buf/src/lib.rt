@@ -8,5 +8,3 @@ pub mod buffers;
 mod lines;
 mod pieces;
 mod sizes;
-#[cfg(test)]
-mod tests;

@@ -9,6 +9,4 @@ pub mod limits;
 pub mod places;
 pub mod refusals;
 pub mod rule_texts;
-#[cfg(test)]
-mod tests;
 pub mod texts;

@@ -11,6 +11,4 @@ pub mod operands;
 pub mod operations;
 pub mod shapes;
 pub mod tables;
-#[cfg(test)]
-mod tests;
 pub mod validity;

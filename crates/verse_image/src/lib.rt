@@ -14,5 +14,3 @@ pub mod numbers;
 mod operations;
 mod pieces;
 mod tables;
-#[cfg(test)]
-mod tests;

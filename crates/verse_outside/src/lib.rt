@@ -11,5 +11,3 @@ pub mod memory_sinks;
 pub mod sinks;
 pub mod standard;
 pub mod sure;
-#[cfg(test)]
-mod tests;

@@ -1,14 +1,14 @@
 //! Tests of operations, their shapes and what suits them.
 
-use crate::codes::{Class, Code, Func};
-use crate::operands::{Operand, OperandKind};
-use crate::operations::Op;
-use crate::shapes::{Parts, make_op, shape_at};
-use crate::tables::Table;
-use crate::validity::{Sizes, all_suit, is_valid, suits_kind};
 use std::alloc::Global;
 use std::test::Fail;
 use verse_base::places::Place;
+use verse_code::codes::{Class, Code, Func};
+use verse_code::operands::{Operand, OperandKind};
+use verse_code::operations::Op;
+use verse_code::shapes::{Parts, make_op, shape_at};
+use verse_code::tables::Table;
+use verse_code::validity::{Sizes, all_suit, is_valid, suits_kind};
 
 /// The operations by their codes, made with the operands -5 or 1, 2, 3 and 4, and what these are.
 const OPERATIONS: &str = "\

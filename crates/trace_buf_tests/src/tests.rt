@@ -1,8 +1,9 @@
 //! Tests of traces.
 
-use crate::buffers::{LineFault, TraceBuf};
+use crate::taking_back::line_taken_back;
 use std::alloc::Global;
 use std::test::Fail;
+use trace_buf::buffers::{LineFault, TraceBuf};
 use verse_outside::memory_sinks::MemSink;
 use verse_outside::sinks::Sink;
 
@@ -79,6 +80,8 @@ fn full(rt: HostRuntime) -> Result<(), Fail> {
     assert!(rt; trace.line(10, text.as_slice()) == Err(LineFault::Full));
     assert!(rt; trace.line(0, text.as_slice()) == Ok(()));
     assert!(rt; trace.line(0, b"") == Err(LineFault::Full));
+    assert!(rt; trace.lines() == 16);
+    assert!(rt; line_taken_back(&mut trace, 0, b"") == Err(LineFault::Full));
     assert!(rt; trace.lines() == 16);
     Ok(())
 }

@@ -1,10 +1,10 @@
 //! Tests of arithmetic, texts and rules.
 
-use crate::arithmetic::{add, ceil_div, floor_div, modulo, mul, neg, quotients_round, sub};
-use crate::refusals::Rule;
-use crate::rule_texts::rule_text;
-use crate::texts::{decimal, natural, trace_line};
 use std::test::Fail;
+use verse_base::arithmetic::{add, ceil_div, floor_div, modulo, mul, neg, quotients_round, sub};
+use verse_base::refusals::Rule;
+use verse_base::rule_texts::rule_text;
+use verse_base::texts::{decimal, natural, trace_line};
 
 // operation, operands, and the answer, `-` where there is none
 const CASES: &str = "add 2 3 5

@@ -1,13 +1,13 @@
 //! Tests of files and sinks.
 
-use crate::files::{Files, LoadFault};
-use crate::memory_files::MemFiles;
-use crate::memory_sinks::MemSink;
-use crate::sinks::{Sink, write_all};
-use crate::standard::{StdFiles, StdSink};
-use crate::sure::{SureFiles, SureSink};
 use std::alloc::Global;
 use std::test::Fail;
+use verse_outside::files::{Files, LoadFault};
+use verse_outside::memory_files::MemFiles;
+use verse_outside::memory_sinks::MemSink;
+use verse_outside::sinks::{Sink, write_all};
+use verse_outside::standard::{StdFiles, StdSink};
+use verse_outside::sure::{SureFiles, SureSink};
 
 // The name, `most`, and the answer: the bytes, or `-`. The load of number 3 fails.
 const LOADS: &str = "a 5 hello\n\

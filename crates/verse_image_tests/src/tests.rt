@@ -1,11 +1,12 @@
 //! Tests of images.
 
-use crate::decoding::decode;
-use crate::encoding::encode;
-use crate::faults::ImageFault;
+use crate::again::read_again;
 use std::alloc::Global;
 use std::test::Fail;
 use verse_code::validity::is_valid;
+use verse_image::decoding::decode;
+use verse_image::encoding::encode;
+use verse_image::faults::ImageFault;
 
 /// Bytes in hex, and the operations that they spell or the fault.
 const ROWS: &str = "\
@@ -108,6 +109,8 @@ fn written_again(rt: HostRuntime) -> Result<(), Fail> {
         let bytes = bytes_of(alloc, hex)?;
         if let Ok(code) = decode(alloc, bytes.as_slice()) {
             let image = encode(alloc, &code).map_err(|_| "memory")?;
+            let read = read_again(alloc, &code).map_err(|_| "memory")?;
+            assert!(rt; read.ops.as_slice() == code.ops.as_slice());
             if bytes.as_slice() == image.as_slice() {
                 count = count.saturating_add(1);
             }
