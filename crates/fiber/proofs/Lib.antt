@@ -3,4 +3,4 @@ mod Opened
 mod Bounded
 mod Unwound
 mod Anywhere
-mod Rules
+mod RuleSets

@@ -348,7 +348,7 @@ impl Fiber {
     }
 
     /// Leaves the frames above the innermost handler.
-    #[tactic(auto, using(crate::proofs::Rules::of_leave_bare))]
+    #[tactic(auto, using(crate::proofs::RuleSets::of_leave_bare))]
     fn leave_bare(&mut self)
         requires { is_guarded self.old ≡ true }
         ensures same { unwound self.new ≡ unwound self.old }

@@ -29,7 +29,7 @@ pub fn open(
 }
 
 /// Puts locals, and so many units behind them, behind the locals of the top head.
-#[tactic(auto, using(crate::proofs::Rules::of_fill))]
+#[tactic(auto, using(crate::proofs::RuleSets::of_fill))]
 fn fill(heads: &mut Heads<Value>, locals: Vec<Value>, units: u32) -> Result<(), Memory>
     requires { heads.old ≢ [] }
     ensures ok { OnOk result (heads.new ≡

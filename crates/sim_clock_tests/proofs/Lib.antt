@@ -1,2 +1,2 @@
 mod Above
-mod Rules
+mod RuleSets

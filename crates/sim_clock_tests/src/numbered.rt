@@ -14,7 +14,7 @@ pub struct Numbered<W: Waits> {
     ghost above: { IsTrue (is_above_all next (W.pending waits)) },
 }
 
-#[tactic(auto, using(crate::proofs::Rules::of_new))]
+#[tactic(auto, using(crate::proofs::RuleSets::of_new))]
 impl<W: Waits> Numbered<W> {
     /// Takes waits that are none yet.
     pub fn new(waits: W) -> Numbered<W>

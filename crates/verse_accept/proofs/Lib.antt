@@ -7,4 +7,4 @@ pub mod Tested
 pub mod Answered
 pub mod InTurn
 pub mod Joined
-pub mod Rules
+pub mod RuleSets

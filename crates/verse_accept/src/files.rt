@@ -39,7 +39,7 @@ pub(crate) struct LaidFile<'a> {
 }
 
 /// Cuts the file of this number into tokens.
-#[tactic(auto, using(crate::proofs::Rules::of_cut))]
+#[tactic(auto, using(crate::proofs::RuleSets::of_cut))]
 pub(crate) fn cut<'a>(alloc: Global, file: u32, bytes: &'a [u8]) -> Result<CutFile<'a>, Front>
     requires { length bytes.now ≤ MOST_FILE_BYTES }
     ensures made { IfOk result (λ c. (cutting file).makes bytes.now (cut_of c)) }

@@ -4,13 +4,13 @@ use Rattle.verse_tree.specs.Tree.{Bytes, Tree, tree, Trees, no_trees, more_trees
 use Rattle.verse_tree.specs.Tree as t
 use Rattle.verse_tree.specs.ItemTree.{ItemTree, using, enumeration, class, function}
 
-abbrev pub text_of : Tree → List Bytes
-text_of (tree number place (t.Shape.text bs)) = bs ∷ []
-text_of (tree number place other) = []
+abbrev pub literal_text : Tree → List Bytes
+literal_text (tree number place (t.Shape.text bs)) = bs ∷ []
+literal_text (tree number place other) = []
 
 abbrev pub arg_texts : Trees → List Bytes
 arg_texts no_trees = []
-arg_texts (more_trees e es) = text_of e ++ arg_texts es
+arg_texts (more_trees e es) = literal_text e ++ arg_texts es
 
 -- a call prints the texts among its arguments
 abbrev pub call_texts : Tree → List Bytes

@@ -4,7 +4,7 @@ ghost use Rattle.std.specs.Prelude.{◌≡◌, ◌++◌, map, IfOk, OnOk};
 ghost use Rattle.verse_tree.specs.View.{tree_of, trees};
 ghost use Rattle.verse_tree.specs.ItemView.{item_of};
 ghost use Rattle.verse_built.specs.Texts.{texts_of, item_texts, body_texts, calls_texts};
-ghost use Rattle.verse_built.specs.Texts.{call_texts, arg_texts, text_of};
+ghost use Rattle.verse_built.specs.Texts.{call_texts, arg_texts, literal_text};
 
 use sqlite_items::Items;
 use std::alloc::Global;
@@ -65,7 +65,7 @@ fn all_args(alloc: Global, args: &[Expr], texts: &mut Vec<Text>) -> Result<(), M
 }
 
 fn push_text(alloc: Global, expr: &Expr, texts: &mut Vec<Text>) -> Result<(), Memory>
-    ensures { OnOk result (texts.new.items ≡ texts.old.items ++ text_of (tree_of expr.now)) }
+    ensures { OnOk result (texts.new.items ≡ texts.old.items ++ literal_text (tree_of expr.now)) }
 {
     if let Form::Text(bytes) = &expr.form {
         texts.push(Items::from_slice(alloc, bytes.as_slice())?)?;

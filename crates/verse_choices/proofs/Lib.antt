@@ -1,3 +1,3 @@
 pub mod Starting
 pub mod Writing
-pub mod Rules
+pub mod RuleSets

@@ -23,7 +23,7 @@ use verse_reading::nesting::Reader;
 use verse_reading::steps::{ReadFault, expect, take};
 
 /// `if`, or what is joined by `or`.
-#[tactic(auto, using(crate::proofs::Rules::of_expr))]
+#[tactic(auto, using(crate::proofs::RuleSets::of_expr))]
 pub fn expr<'t, F: Fn(Global, &[u8], Phrase, &[Tok]) -> Result<(Tree, usize), ReadFault>>(
     reader: &Reader<'_, F>,
     toks: &'t [Tok],
@@ -45,7 +45,7 @@ pub fn expr<'t, F: Fn(Global, &[u8], Phrase, &[Tok]) -> Result<(Tree, usize), Re
 }
 
 /// What is behind `if`.
-#[tactic(auto, using(crate::proofs::Rules::of_if_form))]
+#[tactic(auto, using(crate::proofs::RuleSets::of_if_form))]
 pub fn if_form<'t, F: Fn(Global, &[u8], Phrase, &[Tok]) -> Result<(Tree, usize), ReadFault>>(
     reader: &Reader<'_, F>,
     tok: Tok,
@@ -81,7 +81,7 @@ pub fn if_form<'t, F: Fn(Global, &[u8], Phrase, &[Tok]) -> Result<(Tree, usize),
 }
 
 /// What an `if` comes to where its conditions hold.
-#[tactic(auto, using(crate::proofs::Rules::of_taken))]
+#[tactic(auto, using(crate::proofs::RuleSets::of_taken))]
 fn taken<'t, F: Fn(Global, &[u8], Phrase, &[Tok]) -> Result<(Tree, usize), ReadFault>>(
     reader: &Reader<'_, F>,
     toks: &'t [Tok],

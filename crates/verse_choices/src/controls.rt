@@ -24,7 +24,7 @@ use verse_reading::steps::{ReadFault, next};
 use verse_tree::exprs::Assign;
 
 /// What is behind `set`.
-#[tactic(auto, using(crate::proofs::Rules::of_set))]
+#[tactic(auto, using(crate::proofs::RuleSets::of_set))]
 pub fn set<'t, F: Fn(Global, &[u8], Phrase, &[Tok]) -> Result<(Tree, usize), ReadFault>>(
     reader: &Reader<'_, F>,
     tok: Tok,
@@ -50,7 +50,7 @@ pub fn set<'t, F: Fn(Global, &[u8], Phrase, &[Tok]) -> Result<(Tree, usize), Rea
 }
 
 /// How a `set` writes, and the value.
-#[tactic(auto, using(crate::proofs::Rules::of_written))]
+#[tactic(auto, using(crate::proofs::RuleSets::of_written))]
 fn written<'t, F: Fn(Global, &[u8], Phrase, &[Tok]) -> Result<(Tree, usize), ReadFault>>(
     reader: &Reader<'_, F>,
     toks: &'t [Tok],
@@ -71,7 +71,7 @@ fn written<'t, F: Fn(Global, &[u8], Phrase, &[Tok]) -> Result<(Tree, usize), Rea
 }
 
 /// What is behind `return`.
-#[tactic(auto, using(crate::proofs::Rules::of_returned))]
+#[tactic(auto, using(crate::proofs::RuleSets::of_returned))]
 pub fn returned<'t, F: Fn(Global, &[u8], Phrase, &[Tok]) -> Result<(Tree, usize), ReadFault>>(
     reader: &Reader<'_, F>,
     tok: Tok,
@@ -96,7 +96,7 @@ pub fn returned<'t, F: Fn(Global, &[u8], Phrase, &[Tok]) -> Result<(Tree, usize)
 }
 
 /// How a `set` writes.
-#[tactic(auto, using(crate::proofs::Rules::of_assign))]
+#[tactic(auto, using(crate::proofs::RuleSets::of_assign))]
 fn assign<'t>(toks: &'t [Tok]) -> Result<((Tok, Assign), &'t [Tok]), ReadFault>
     ensures found { IfOk result (λ r. toks.now ≡ r.0.0 ∷ r.1.now) }
     ensures mode { IfOk result (λ r. assign_at r.0.0.kind ≡ Some r.0.1) }

@@ -5,4 +5,4 @@ pub mod Indices
 pub mod AtOnce
 pub mod Plain
 pub mod Cuts
-pub mod Rules
+pub mod RuleSets

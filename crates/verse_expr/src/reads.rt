@@ -32,7 +32,7 @@ use verse_reading::types::type_at;
 /// Where the toks from `at` on begin with a type, it is the answer, whatever follows. Otherwise the
 /// answer is `At` with the greatest index up to which they begin one, and with E069 where the tok
 /// of that index is left out of the language, and E030 where it is another or there is none.
-#[tactic(auto, using(crate::proofs::Rules::of_ty))]
+#[tactic(auto, using(crate::proofs::RuleSets::of_ty))]
 pub fn ty(
     alloc: Global,
     bytes: &[u8],
@@ -66,7 +66,7 @@ pub fn ty(
 /// they are one, its tree, and the toks from `at` to it spell no other; otherwise `At`, with E069
 /// where the tok of that index is left out of the language, and E030 where it is another or there
 /// is none.
-#[tactic(auto, using(crate::proofs::Rules::of_phrase))]
+#[tactic(auto, using(crate::proofs::RuleSets::of_phrase))]
 pub fn expr(
     alloc: Global,
     bytes: &[u8],
@@ -98,7 +98,7 @@ pub fn expr(
 /// The answer is the greatest index up to which the toks from `at` on begin a block: where they are
 /// one, its tree, and the toks from `at` to it spell no other; otherwise `At`, with E069 where the
 /// tok of that index is left out of the language, and E030 where it is another or there is none.
-#[tactic(auto, using(crate::proofs::Rules::of_phrase))]
+#[tactic(auto, using(crate::proofs::RuleSets::of_phrase))]
 pub fn block(
     alloc: Global,
     bytes: &[u8],
@@ -126,7 +126,7 @@ pub fn block(
 }
 
 /// The same, by what the rule of types reads.
-#[tactic(auto, using(crate::proofs::Rules::of_type_from))]
+#[tactic(auto, using(crate::proofs::RuleSets::of_type_from))]
 fn type_from(
     alloc: Global,
     bytes: &[u8],
@@ -152,7 +152,7 @@ fn type_from(
 }
 
 /// The phrase of this kind, by what its rule reads.
-#[tactic(auto, using(crate::proofs::Rules::of_phrase_from))]
+#[tactic(auto, using(crate::proofs::RuleSets::of_phrase_from))]
 fn phrase_from(
     alloc: Global,
     bytes: &[u8],

@@ -2,4 +2,4 @@ pub mod Clauses
 pub mod Cases
 pub mod LeafForms
 pub mod WordForms
-pub mod Rules
+pub mod RuleSets

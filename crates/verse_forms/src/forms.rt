@@ -23,7 +23,7 @@ use verse_reading::nesting::Reader;
 use verse_reading::steps::{ReadFault, expect, take};
 
 /// `for`
-#[tactic(auto, using(crate::proofs::Rules::of_for_form))]
+#[tactic(auto, using(crate::proofs::RuleSets::of_for_form))]
 pub fn for_form<'t, F: Fn(Global, &[u8], Phrase, &[Tok]) -> Result<(Tree, usize), ReadFault>>(
     reader: &Reader<'_, F>,
     tok: Tok,
@@ -47,7 +47,7 @@ pub fn for_form<'t, F: Fn(Global, &[u8], Phrase, &[Tok]) -> Result<(Tree, usize)
 }
 
 /// A generator, and clauses behind it, up to the closing bracket.
-#[tactic(auto, using(crate::proofs::Rules::of_clauses))]
+#[tactic(auto, using(crate::proofs::RuleSets::of_clauses))]
 fn clauses<'t, F: Fn(Global, &[u8], Phrase, &[Tok]) -> Result<(Tree, usize), ReadFault>>(
     reader: &Reader<'_, F>,
     toks: &'t [Tok],
@@ -78,7 +78,7 @@ fn clauses<'t, F: Fn(Global, &[u8], Phrase, &[Tok]) -> Result<(Tree, usize), Rea
 }
 
 /// `case`
-#[tactic(auto, using(crate::proofs::Rules::of_cases))]
+#[tactic(auto, using(crate::proofs::RuleSets::of_cases))]
 pub fn cases<'t, F: Fn(Global, &[u8], Phrase, &[Tok]) -> Result<(Tree, usize), ReadFault>>(
     reader: &Reader<'_, F>,
     tok: Tok,

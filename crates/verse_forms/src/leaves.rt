@@ -19,7 +19,7 @@ use verse_handles::trees::Tree;
 use verse_layout::toks::Tok;
 use verse_nodes::literals;
 use verse_reading::nesting::Reader;
-use verse_reading::spans::text_of;
+use verse_reading::spans::text_at;
 use verse_reading::steps::ReadFault;
 
 /// What one tok can be.
@@ -61,7 +61,7 @@ fn leaf_node(alloc: Global, bytes: &[u8], leaf: Leaf, tok: Tok) -> Result<Tree, 
     match leaf {
         Leaf::Int(value) => literals::integer(alloc, tok.place, value),
         Leaf::Char(value) => literals::character(alloc, tok.place, value),
-        Leaf::Text => literals::text(alloc, tok.place, text_of(alloc, bytes, tok)?),
+        Leaf::Text => literals::text(alloc, tok.place, text_at(alloc, bytes, tok)?),
         Leaf::True => literals::truth(alloc, tok.place),
         Leaf::False => literals::falsehood(alloc, tok.place),
         Leaf::This => literals::this(alloc, tok.place),

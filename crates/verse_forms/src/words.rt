@@ -45,7 +45,7 @@ pub enum BodyWord {
 }
 
 /// A word with a list in braces.
-#[tactic(auto, using(crate::proofs::Rules::of_list_form))]
+#[tactic(auto, using(crate::proofs::RuleSets::of_list_form))]
 pub fn list_form<'t, F: Fn(Global, &[u8], Phrase, &[Tok]) -> Result<(Tree, usize), ReadFault>>(
     reader: &Reader<'_, F>,
     word: ListWord,
@@ -110,7 +110,7 @@ fn list_node(alloc: Global, word: ListWord, place: Place, parts: Trees) -> Resul
 }
 
 /// A word with a block.
-#[tactic(auto, using(crate::proofs::Rules::of_body_form))]
+#[tactic(auto, using(crate::proofs::RuleSets::of_body_form))]
 pub fn body_form<'t, F: Fn(Global, &[u8], Phrase, &[Tok]) -> Result<(Tree, usize), ReadFault>>(
     reader: &Reader<'_, F>,
     word: BodyWord,

@@ -1,3 +1,3 @@
 pub mod Clausing
 pub mod Sums
-pub mod Rules
+pub mod RuleSets

@@ -27,11 +27,11 @@ use verse_layout::toks::Tok;
 use verse_levels::levels::{chain_tail, comparison_tail};
 use verse_nodes::{forms, statements};
 use verse_reading::nesting::Reader;
-use verse_reading::spans::name_of;
+use verse_reading::spans::name_at;
 use verse_reading::steps::{ReadFault, expect, next, take};
 
 /// The first thing in the brackets of a `for`.
-#[tactic(auto, using(crate::proofs::Rules::of_generator))]
+#[tactic(auto, using(crate::proofs::RuleSets::of_generator))]
 pub fn generator<'t, F: Fn(Global, &[u8], Phrase, &[Tok]) -> Result<(Tree, usize), ReadFault>>(
     reader: &Reader<'_, F>,
     toks: &'t [Tok],
@@ -51,7 +51,7 @@ pub fn generator<'t, F: Fn(Global, &[u8], Phrase, &[Tok]) -> Result<(Tree, usize
 }
 
 /// What is behind the first name of a generator.
-#[tactic(auto, using(crate::proofs::Rules::of_generated))]
+#[tactic(auto, using(crate::proofs::RuleSets::of_generated))]
 fn generated<'t, F: Fn(Global, &[u8], Phrase, &[Tok]) -> Result<(Tree, usize), ReadFault>>(
     reader: &Reader<'_, F>,
     tok: Tok,
@@ -101,7 +101,7 @@ fn elements<'t, F: Fn(Global, &[u8], Phrase, &[Tok]) -> Result<(Tree, usize), Re
         SticksRule (phrase Phrase.Sum) toks.now left }
     ensures shorter { IfOk result (λ r. length r.1.now < length toks.now) }
 {
-    let name = name_of(reader.alloc, reader.bytes, tok)?;
+    let name = name_at(reader.alloc, reader.bytes, tok)?;
     let (domain, rest) = reader.inner(Phrase::Sum, toks)?;
     Ok((
         forms::elements(reader.alloc, tok.place, name, domain)?,
@@ -135,7 +135,7 @@ fn entries<'t, F: Fn(Global, &[u8], Phrase, &[Tok]) -> Result<(Tree, usize), Rea
 }
 
 /// What is behind `K -> V`.
-#[tactic(auto, using(crate::proofs::Rules::of_entries_of))]
+#[tactic(auto, using(crate::proofs::RuleSets::of_entries_of))]
 fn entries_of<'t, F: Fn(Global, &[u8], Phrase, &[Tok]) -> Result<(Tree, usize), ReadFault>>(
     reader: &Reader<'_, F>,
     tok: Tok,
@@ -158,8 +158,8 @@ fn entries_of<'t, F: Fn(Global, &[u8], Phrase, &[Tok]) -> Result<(Tree, usize), 
     ensures shorter { IfOk result (λ r. length r.1.now < length toks.now) }
 {
     let (_, rest) = expect(toks, Fixed::Colon)?;
-    let key = name_of(reader.alloc, reader.bytes, tok)?;
-    let value = name_of(reader.alloc, reader.bytes, second)?;
+    let key = name_at(reader.alloc, reader.bytes, tok)?;
+    let value = name_at(reader.alloc, reader.bytes, second)?;
     let (domain, rest) = reader.inner(Phrase::Sum, rest)?;
     Ok((
         forms::entries(reader.alloc, tok.place, key, value, domain)?,
@@ -168,7 +168,7 @@ fn entries_of<'t, F: Fn(Global, &[u8], Phrase, &[Tok]) -> Result<(Tree, usize), 
 }
 
 /// What is behind `I :=` in a generator.
-#[tactic(auto, using(crate::proofs::Rules::of_range))]
+#[tactic(auto, using(crate::proofs::RuleSets::of_range))]
 fn range<'t, F: Fn(Global, &[u8], Phrase, &[Tok]) -> Result<(Tree, usize), ReadFault>>(
     reader: &Reader<'_, F>,
     tok: Tok,
@@ -188,7 +188,7 @@ fn range<'t, F: Fn(Global, &[u8], Phrase, &[Tok]) -> Result<(Tree, usize), ReadF
         SticksRule generator_rest (define ∷ toks.now) left }
     ensures shorter { IfOk result (λ r. length r.1.now < length toks.now) }
 {
-    let name = name_of(reader.alloc, reader.bytes, tok)?;
+    let name = name_at(reader.alloc, reader.bytes, tok)?;
     let (low, rest) = reader.inner(Phrase::Sum, toks)?;
     let (high, rest) = highest(reader, rest)?;
     Ok((
@@ -198,7 +198,7 @@ fn range<'t, F: Fn(Global, &[u8], Phrase, &[Tok]) -> Result<(Tree, usize), ReadF
 }
 
 /// `..`, and the end of a range.
-#[tactic(auto, using(crate::proofs::Rules::of_highest))]
+#[tactic(auto, using(crate::proofs::RuleSets::of_highest))]
 fn highest<'t, F: Fn(Global, &[u8], Phrase, &[Tok]) -> Result<(Tree, usize), ReadFault>>(
     reader: &Reader<'_, F>,
     toks: &'t [Tok],
@@ -218,7 +218,7 @@ fn highest<'t, F: Fn(Global, &[u8], Phrase, &[Tok]) -> Result<(Tree, usize), Rea
 }
 
 /// What stands behind a generator.
-#[tactic(auto, using(crate::proofs::Rules::of_clause))]
+#[tactic(auto, using(crate::proofs::RuleSets::of_clause))]
 pub fn clause<'t, F: Fn(Global, &[u8], Phrase, &[Tok]) -> Result<(Tree, usize), ReadFault>>(
     reader: &Reader<'_, F>,
     toks: &'t [Tok],
@@ -247,7 +247,7 @@ pub fn clause<'t, F: Fn(Global, &[u8], Phrase, &[Tok]) -> Result<(Tree, usize), 
 }
 
 /// A clause that begins with a name: a generator, a definition, or an expression.
-#[tactic(auto, using(crate::proofs::Rules::of_named_clause))]
+#[tactic(auto, using(crate::proofs::RuleSets::of_named_clause))]
 fn named_clause<'t, F: Fn(Global, &[u8], Phrase, &[Tok]) -> Result<(Tree, usize), ReadFault>>(
     reader: &Reader<'_, F>,
     tok: Tok,
@@ -279,7 +279,7 @@ fn named_clause<'t, F: Fn(Global, &[u8], Phrase, &[Tok]) -> Result<(Tree, usize)
 }
 
 /// What is behind `X :=` in a clause.
-#[tactic(auto, using(crate::proofs::Rules::of_defined_clause))]
+#[tactic(auto, using(crate::proofs::RuleSets::of_defined_clause))]
 fn defined_clause<'t, F: Fn(Global, &[u8], Phrase, &[Tok]) -> Result<(Tree, usize), ReadFault>>(
     reader: &Reader<'_, F>,
     tok: Tok,
@@ -300,7 +300,7 @@ fn defined_clause<'t, F: Fn(Global, &[u8], Phrase, &[Tok]) -> Result<(Tree, usiz
     ensures shorter { IfOk result (λ r. length r.1.now < length toks.now) }
 {
     if let Some((word, rest)) = take(toks, Fixed::If) {
-        let name = name_of(reader.alloc, reader.bytes, tok)?;
+        let name = name_at(reader.alloc, reader.bytes, tok)?;
         let (value, rest) = if_form(reader, word, rest)?;
         return Ok((
             statements::definition(reader.alloc, tok.place, name, value)?,
@@ -314,7 +314,7 @@ fn defined_clause<'t, F: Fn(Global, &[u8], Phrase, &[Tok]) -> Result<(Tree, usiz
 }
 
 /// The value of a definition that begins with `not`.
-#[tactic(auto, using(crate::proofs::Rules::of_denied_clause))]
+#[tactic(auto, using(crate::proofs::RuleSets::of_denied_clause))]
 fn denied_clause<'t, F: Fn(Global, &[u8], Phrase, &[Tok]) -> Result<(Tree, usize), ReadFault>>(
     reader: &Reader<'_, F>,
     tok: Tok,
@@ -335,7 +335,7 @@ fn denied_clause<'t, F: Fn(Global, &[u8], Phrase, &[Tok]) -> Result<(Tree, usize
         SticksRule clause_value toks.now left }
     ensures shorter { IfOk result (λ r. length r.1.now < length toks.now) }
 {
-    let name = name_of(reader.alloc, reader.bytes, tok)?;
+    let name = name_at(reader.alloc, reader.bytes, tok)?;
     let (value, rest) = reader.inner(Phrase::Or, toks)?;
     Ok((
         statements::definition(reader.alloc, tok.place, name, value)?,
@@ -344,7 +344,7 @@ fn denied_clause<'t, F: Fn(Global, &[u8], Phrase, &[Tok]) -> Result<(Tree, usize
 }
 
 /// What begins with a sum behind `X :=`: a range, or the value of a definition.
-#[tactic(auto, using(crate::proofs::Rules::of_sum_clause))]
+#[tactic(auto, using(crate::proofs::RuleSets::of_sum_clause))]
 fn sum_clause<'t, F: Fn(Global, &[u8], Phrase, &[Tok]) -> Result<(Tree, usize), ReadFault>>(
     reader: &Reader<'_, F>,
     tok: Tok,
@@ -366,7 +366,7 @@ fn sum_clause<'t, F: Fn(Global, &[u8], Phrase, &[Tok]) -> Result<(Tree, usize), 
         SticksRule clause_value toks.now left }
     ensures shorter { IfOk result (λ r. length r.1.now < length toks.now) }
 {
-    let name = name_of(reader.alloc, reader.bytes, tok)?;
+    let name = name_at(reader.alloc, reader.bytes, tok)?;
     let (low, rest) = reader.inner(Phrase::Sum, toks)?;
     match take(rest, Fixed::DotDot) {
         Some((_, rest)) => {
@@ -387,7 +387,7 @@ fn sum_clause<'t, F: Fn(Global, &[u8], Phrase, &[Tok]) -> Result<(Tree, usize), 
 }
 
 /// The rest of an expression behind the sum with which it begins.
-#[tactic(auto, using(crate::proofs::Rules::of_behind_sum))]
+#[tactic(auto, using(crate::proofs::RuleSets::of_behind_sum))]
 fn behind_sum<'t, F: Fn(Global, &[u8], Phrase, &[Tok]) -> Result<(Tree, usize), ReadFault>>(
     reader: &Reader<'_, F>,
     left: Tree,

@@ -7,4 +7,4 @@ pub mod OperationLaws
 pub mod ImageLaws
 pub mod Locality
 pub mod Fronts
-pub mod Rules
+pub mod RuleSets

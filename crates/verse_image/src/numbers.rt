@@ -32,7 +32,7 @@ pub fn byte(bytes: &[u8]) -> Result<(u8, &[u8]), ReadFault>
     }
 }
 
-#[tactic(auto, using(crate::proofs::Rules::of_digits))]
+#[tactic(auto, using(crate::proofs::RuleSets::of_digits))]
 fn digits(most: u8, end: u64, left: usize, bytes: &[u8]) -> Result<(u64, &[u8]), ReadFault>
     requires { 128 ≤ end }
     ensures reads { Gives (λ x. (x.0, x.1.now)) result (digits_at most end left bytes.now) }
@@ -94,7 +94,7 @@ fn seven_bits(negative: bool, bits: u8) -> u8
     if negative { 127 - bits } else { bits }
 }
 
-#[tactic(auto, using(crate::proofs::Rules::of_signed_digits))]
+#[tactic(auto, using(crate::proofs::RuleSets::of_signed_digits))]
 fn signed_digits(
     most: u8,
     end: u64,

@@ -1,4 +1,4 @@
 pub mod Chains
 pub mod Comparing
 pub mod Postfixed
-pub mod Rules
+pub mod RuleSets

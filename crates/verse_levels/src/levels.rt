@@ -71,7 +71,7 @@ fn comparison_ahead(toks: &[Tok]) -> Option<(Comparison, Tok, &[Tok])>
 }
 
 /// Operands that are joined to the tree so far, from the left.
-#[tactic(auto, using(crate::proofs::Rules::of_chain_tail))]
+#[tactic(auto, using(crate::proofs::RuleSets::of_chain_tail))]
 pub fn chain_tail<'t, F: Fn(Global, &[u8], Phrase, &[Tok]) -> Result<(Tree, usize), ReadFault>>(
     reader: &Reader<'_, F>,
     level: Phrase,
@@ -99,7 +99,7 @@ pub fn chain_tail<'t, F: Fn(Global, &[u8], Phrase, &[Tok]) -> Result<(Tree, usiz
 }
 
 /// `E or F`, and what binds closer.
-#[tactic(auto, using(crate::proofs::Rules::of_ors))]
+#[tactic(auto, using(crate::proofs::RuleSets::of_ors))]
 pub fn ors<'t, F: Fn(Global, &[u8], Phrase, &[Tok]) -> Result<(Tree, usize), ReadFault>>(
     reader: &Reader<'_, F>,
     toks: &'t [Tok],
@@ -119,7 +119,7 @@ pub fn ors<'t, F: Fn(Global, &[u8], Phrase, &[Tok]) -> Result<(Tree, usize), Rea
 }
 
 /// `E and F`, and what binds closer.
-#[tactic(auto, using(crate::proofs::Rules::of_ands))]
+#[tactic(auto, using(crate::proofs::RuleSets::of_ands))]
 pub fn ands<'t, F: Fn(Global, &[u8], Phrase, &[Tok]) -> Result<(Tree, usize), ReadFault>>(
     reader: &Reader<'_, F>,
     toks: &'t [Tok],
@@ -139,7 +139,7 @@ pub fn ands<'t, F: Fn(Global, &[u8], Phrase, &[Tok]) -> Result<(Tree, usize), Re
 }
 
 /// `E + F` and `E - F`, and what binds closer.
-#[tactic(auto, using(crate::proofs::Rules::of_sum))]
+#[tactic(auto, using(crate::proofs::RuleSets::of_sum))]
 pub fn sum<'t, F: Fn(Global, &[u8], Phrase, &[Tok]) -> Result<(Tree, usize), ReadFault>>(
     reader: &Reader<'_, F>,
     toks: &'t [Tok],
@@ -159,7 +159,7 @@ pub fn sum<'t, F: Fn(Global, &[u8], Phrase, &[Tok]) -> Result<(Tree, usize), Rea
 }
 
 /// `E * F` and `E / F`, and what binds closer.
-#[tactic(auto, using(crate::proofs::Rules::of_product))]
+#[tactic(auto, using(crate::proofs::RuleSets::of_product))]
 pub fn product<'t, F: Fn(Global, &[u8], Phrase, &[Tok]) -> Result<(Tree, usize), ReadFault>>(
     reader: &Reader<'_, F>,
     toks: &'t [Tok],
@@ -179,7 +179,7 @@ pub fn product<'t, F: Fn(Global, &[u8], Phrase, &[Tok]) -> Result<(Tree, usize),
 }
 
 /// `not E`, or a comparison.
-#[tactic(auto, using(crate::proofs::Rules::of_negated))]
+#[tactic(auto, using(crate::proofs::RuleSets::of_negated))]
 pub fn negated<'t, F: Fn(Global, &[u8], Phrase, &[Tok]) -> Result<(Tree, usize), ReadFault>>(
     reader: &Reader<'_, F>,
     toks: &'t [Tok],
@@ -204,7 +204,7 @@ pub fn negated<'t, F: Fn(Global, &[u8], Phrase, &[Tok]) -> Result<(Tree, usize),
 }
 
 /// Two sums that are compared, or one.
-#[tactic(auto, using(crate::proofs::Rules::of_comparison))]
+#[tactic(auto, using(crate::proofs::RuleSets::of_comparison))]
 pub fn comparison<'t, F: Fn(Global, &[u8], Phrase, &[Tok]) -> Result<(Tree, usize), ReadFault>>(
     reader: &Reader<'_, F>,
     toks: &'t [Tok],
@@ -224,7 +224,7 @@ pub fn comparison<'t, F: Fn(Global, &[u8], Phrase, &[Tok]) -> Result<(Tree, usiz
 }
 
 /// What a sum is compared with, if anything.
-#[tactic(auto, using(crate::proofs::Rules::of_comparison_tail))]
+#[tactic(auto, using(crate::proofs::RuleSets::of_comparison_tail))]
 pub fn comparison_tail<
     't,
     F: Fn(Global, &[u8], Phrase, &[Tok]) -> Result<(Tree, usize), ReadFault>,
@@ -252,7 +252,7 @@ pub fn comparison_tail<
 }
 
 /// `-E`, or a postfix.
-#[tactic(auto, using(crate::proofs::Rules::of_negative))]
+#[tactic(auto, using(crate::proofs::RuleSets::of_negative))]
 pub fn negative<'t, F: Fn(Global, &[u8], Phrase, &[Tok]) -> Result<(Tree, usize), ReadFault>>(
     reader: &Reader<'_, F>,
     toks: &'t [Tok],

@@ -23,7 +23,7 @@ use verse_layout::toks::Tok;
 use verse_nodes::operators;
 use verse_primary::primary::primary;
 use verse_reading::nesting::Reader;
-use verse_reading::spans::name_of;
+use verse_reading::spans::name_at;
 use verse_reading::steps::{ReadFault, next, take};
 use verse_tree::names::Name;
 
@@ -51,7 +51,7 @@ fn postfix_ahead(toks: &[Tok]) -> Option<(PostfixStart, Tok, &[Tok])>
 }
 
 /// A primary form with its postfixes.
-#[tactic(auto, using(crate::proofs::Rules::of_postfix))]
+#[tactic(auto, using(crate::proofs::RuleSets::of_postfix))]
 pub fn postfix<'t, F: Fn(Global, &[u8], Phrase, &[Tok]) -> Result<(Tree, usize), ReadFault>>(
     reader: &Reader<'_, F>,
     toks: &'t [Tok],
@@ -71,7 +71,7 @@ pub fn postfix<'t, F: Fn(Global, &[u8], Phrase, &[Tok]) -> Result<(Tree, usize),
 }
 
 /// The postfixes of a tree, from the left.
-#[tactic(auto, using(crate::proofs::Rules::of_postfix_tail))]
+#[tactic(auto, using(crate::proofs::RuleSets::of_postfix_tail))]
 pub fn postfix_tail<'t, F: Fn(Global, &[u8], Phrase, &[Tok]) -> Result<(Tree, usize), ReadFault>>(
     reader: &Reader<'_, F>,
     object: Tree,
@@ -135,7 +135,7 @@ fn suffix_behind<'t, F: Fn(Global, &[u8], Phrase, &[Tok]) -> Result<(Tree, usize
 }
 
 /// The arguments of a call, behind the opening bracket.
-#[tactic(auto, using(crate::proofs::Rules::of_called))]
+#[tactic(auto, using(crate::proofs::RuleSets::of_called))]
 fn called<'t, F: Fn(Global, &[u8], Phrase, &[Tok]) -> Result<(Tree, usize), ReadFault>>(
     reader: &Reader<'_, F>,
     toks: &'t [Tok],
@@ -155,7 +155,7 @@ fn called<'t, F: Fn(Global, &[u8], Phrase, &[Tok]) -> Result<(Tree, usize), Read
 }
 
 /// The indices, behind the opening bracket.
-#[tactic(auto, using(crate::proofs::Rules::of_indexed))]
+#[tactic(auto, using(crate::proofs::RuleSets::of_indexed))]
 fn indexed<'t, F: Fn(Global, &[u8], Phrase, &[Tok]) -> Result<(Tree, usize), ReadFault>>(
     reader: &Reader<'_, F>,
     toks: &'t [Tok],
@@ -175,7 +175,7 @@ fn indexed<'t, F: Fn(Global, &[u8], Phrase, &[Tok]) -> Result<(Tree, usize), Rea
 }
 
 /// The name of a member, behind the dot.
-#[tactic(auto, using(crate::proofs::Rules::of_member))]
+#[tactic(auto, using(crate::proofs::RuleSets::of_member))]
 fn member<'t, F: Fn(Global, &[u8], Phrase, &[Tok]) -> Result<(Tree, usize), ReadFault>>(
     reader: &Reader<'_, F>,
     toks: &'t [Tok],
@@ -191,7 +191,7 @@ fn member<'t, F: Fn(Global, &[u8], Phrase, &[Tok]) -> Result<(Tree, usize), Read
         return Err(ReadFault::Stuck(toks.len()));
     };
     Ok((
-        Suffix::Member(name_of(reader.alloc, reader.bytes, field)?),
+        Suffix::Member(name_at(reader.alloc, reader.bytes, field)?),
         rest,
     ))
 }

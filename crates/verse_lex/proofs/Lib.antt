@@ -5,4 +5,4 @@ pub mod Nested
 pub mod Nearness
 pub mod Pushes
 pub mod Unique
-pub mod Rules
+pub mod RuleSets

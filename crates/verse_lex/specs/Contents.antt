@@ -19,5 +19,5 @@ abbrev pub between : List ℕ → ℕ → ℕ → List ℕ
 between bs start end = take (end - start - 2) (drop (start + 1) bs)
 
 -- the bytes of a text token
-abbrev pub text_of : List ℕ → Token → List ℕ
-text_of bs token = unescaped (between bs token.start token.end)
+abbrev pub token_text : List ℕ → Token → List ℕ
+token_text bs token = unescaped (between bs token.start token.end)

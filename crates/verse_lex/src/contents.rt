@@ -1,7 +1,7 @@
 //! What the characters of a text stand for.
 
 ghost use Rattle.std.specs.Prelude.{◌≡◌, IfOk};
-ghost use Rattle.verse_lex.specs.Contents.{unescaped, between, text_of};
+ghost use Rattle.verse_lex.specs.Contents.{unescaped, between, token_text};
 
 use crate::bytes::first;
 use crate::texts::escape;
@@ -13,7 +13,7 @@ use verse_base::refusals::Memory;
 /// and braces, with each escape replaced by the byte that it stands for. Of another token it
 /// answers whatever stands between its first and its last byte.
 pub fn text_bytes(alloc: Global, bytes: &[u8], token: &Token) -> Result<Vec<u8>, Memory>
-    ensures { IfOk result (λ out. out.items ≡ text_of bytes.now token.now) }
+    ensures { IfOk result (λ out. out.items ≡ token_text bytes.now token.now) }
 {
     unescaped(alloc, between(bytes, token.start, token.end))
 }

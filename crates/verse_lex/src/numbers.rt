@@ -72,7 +72,7 @@ pub fn in_thousandths(number: u64, decimals: usize) -> u128
 
 /// A thousand times the number with these digits before and behind the point, if it is at most
 /// 1000000000.
-#[tactic(auto, using(crate::proofs::Rules::of_thousandths))]
+#[tactic(auto, using(crate::proofs::RuleSets::of_thousandths))]
 pub fn thousandths(whole: &[u8], fraction: &[u8]) -> Option<u64>
     requires { length fraction.now ≤ 3 }
     ensures { MatchOption result (1000000000 < thousandths whole.now fraction.now)

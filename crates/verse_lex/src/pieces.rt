@@ -115,7 +115,7 @@ pub fn hexadecimal_number(bytes: &[u8]) -> Next
 }
 
 /// Digits, a point and digits, the first so many before the point.
-#[tactic(auto, using(crate::proofs::Rules::of_fractional_number))]
+#[tactic(auto, using(crate::proofs::RuleSets::of_fractional_number))]
 pub fn fractional_number(bytes: &[u8], count: usize) -> Next
     requires { has_fraction bytes.now count ≡ true }
     ensures piece { result ≡ fractional_number bytes.now count }

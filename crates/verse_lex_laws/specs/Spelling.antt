@@ -9,7 +9,7 @@ use Rattle.verse_lex.specs.Numbers.{decimal, hexadecimal, thousandths}
 use Rattle.verse_lex.specs.Texts.{escape}
 use Rattle.verse_lex.specs.Comments.{closes, opens, is_lone}
 use Rattle.verse_lex.specs.Pieces.{escape_of, in_literal, is_lone_at, breaks_hole, piece_at}
-use Rattle.verse_lex.specs.Contents.{text_of}
+use Rattle.verse_lex.specs.Contents.{token_text}
 use Rattle.verse_lex.specs.Cut.{mark_len, first_place, after, AreTokens}
 use Rattle.verse_lex.specs.declared.tokens.Token.{Token}
 use Rattle.verse_lex.specs.declared.rules.TheConstants.{UNEXPECTED, TEXT_END, COMMENT_END, ESCAPE, INTEGER, DURATION, CHARACTER}
@@ -259,4 +259,4 @@ TokensSpelled = (file : ℕ) (bs : List ℕ) (ts : List Token) → AreTokens fil
 abbrev pub TextsMean : Type 0
 TextsMean = (before behind cs ms : List ℕ) (q r : ℕ) (t : Token) → t.start ≡ length before →
     t.end ≡ length before + length (q ∷ (cs ++ r ∷ [])) → Chars cs ms →
-    text_of (before ++ ((q ∷ (cs ++ r ∷ [])) ++ behind)) t ≡ ms
+    token_text (before ++ ((q ∷ (cs ++ r ∷ [])) ++ behind)) t ≡ ms

@@ -47,7 +47,7 @@ pub fn number(alloc: Global, expr: &Expr, next: u32) -> Result<(Tree, u32), Memo
 }
 
 #[cycle(number)]
-#[tactic(auto, using(crate::proofs::Rules::of_number_form))]
+#[tactic(auto, using(crate::proofs::RuleSets::of_number_form))]
 fn number_form(alloc: Global, place: Place, form: &Form, next: u32) -> Result<(Tree, u32), Memory>
     requires fits { next + (shape_nodes (shape_of form.now) + 1) ≤ 4294967295 }
     ensures numbered { IfOk result

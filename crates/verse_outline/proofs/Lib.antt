@@ -2,4 +2,4 @@ pub mod Looking
 pub mod Lists
 pub mod Spelling
 pub mod Climbing
-pub mod Rules
+pub mod RuleSets

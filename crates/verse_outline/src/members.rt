@@ -39,7 +39,7 @@ pub struct Home<'a> {
 }
 
 /// A class and its ancestors, the root last.
-#[tactic(auto, using(crate::proofs::Rules::of_line_of))]
+#[tactic(auto, using(crate::proofs::RuleSets::of_line_of))]
 pub fn line_of(alloc: Global, outline: &[ClassInfo], class: u32) -> Result<Items<u32>, Memory>
     ensures { IfOk result (λ r. r ≡ lines.line_of (classes_of outline.now) class) }
 {
@@ -65,7 +65,7 @@ fn push_other(found: &mut Items<u32>, class: u32, at: u32) -> Result<(), Memory>
 }
 
 /// The classes from which a class inherits, the nearest first, without the class itself.
-#[tactic(auto, using(crate::proofs::Rules::of_ancestors))]
+#[tactic(auto, using(crate::proofs::RuleSets::of_ancestors))]
 fn ancestors(alloc: Global, outline: &[ClassInfo], class: u32) -> Result<Items<u32>, Memory>
     ensures { IfOk result (λ r. r ≡ lines.ancestors (classes_of outline.now) class) }
 {

@@ -2,4 +2,4 @@ pub mod Spelled
 pub mod Stopping
 pub mod Rows
 pub mod Few
-pub mod Rules
+pub mod RuleSets

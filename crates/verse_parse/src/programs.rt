@@ -31,7 +31,7 @@ use verse_reading::steps::{ReadFault, next, take};
 /// Where the toks are no program, `At` has the greatest index up to which they begin one, with E069
 /// where the tok of that index is left out of the language, and E030 where it is another or there
 /// is none.
-#[tactic(auto, using(crate::proofs::Rules::of_parse))]
+#[tactic(auto, using(crate::proofs::RuleSets::of_parse))]
 pub fn parse(alloc: Global, bytes: &[u8], toks: &[Tok]) -> Result<ItemTrees, ParseFault>
     ensures spelled { IfOk result (λ items. Program bytes.now toks.now (map item_of items) []) }
     ensures only { IfOk result (λ items. (is : List t.ItemTree) → Program bytes.now toks.now is [] →
@@ -64,7 +64,7 @@ fn items(alloc: Global, bytes: &[u8], toks: &[Tok]) -> Result<ItemTrees, ReadFau
 }
 
 /// The items of a file, and the toks behind them.
-#[tactic(auto, using(crate::proofs::Rules::of_program))]
+#[tactic(auto, using(crate::proofs::RuleSets::of_program))]
 fn program<'t>(
     alloc: Global,
     bytes: &[u8],
@@ -84,7 +84,7 @@ fn program<'t>(
 }
 
 /// The items from the first on, which begins at `start`.
-#[tactic(auto, using(crate::proofs::Rules::of_item_row))]
+#[tactic(auto, using(crate::proofs::RuleSets::of_item_row))]
 fn item_row<'t>(
     alloc: Global,
     bytes: &[u8],

@@ -1,3 +1,3 @@
 pub mod Arms
 pub mod ArmRests
-pub mod Rules
+pub mod RuleSets

@@ -22,11 +22,11 @@ use verse_handles::trees::Tree;
 use verse_layout::toks::Tok;
 use verse_nodes::patterns;
 use verse_reading::nesting::Reader;
-use verse_reading::spans::{name_of, text_of};
+use verse_reading::spans::{name_at, text_at};
 use verse_reading::steps::{ReadFault, expect, next};
 
 /// A pattern.
-#[tactic(auto, using(crate::proofs::Rules::of_pattern))]
+#[tactic(auto, using(crate::proofs::RuleSets::of_pattern))]
 pub fn pattern<'t, F: Fn(Global, &[u8], Phrase, &[Tok]) -> Result<(Tree, usize), ReadFault>>(
     reader: &Reader<'_, F>,
     toks: &'t [Tok],
@@ -48,7 +48,7 @@ pub fn pattern<'t, F: Fn(Global, &[u8], Phrase, &[Tok]) -> Result<(Tree, usize),
 }
 
 /// The pattern that begins with this tok.
-#[tactic(auto, using(crate::proofs::Rules::of_pattern_from))]
+#[tactic(auto, using(crate::proofs::RuleSets::of_pattern_from))]
 fn pattern_from<'t, F: Fn(Global, &[u8], Phrase, &[Tok]) -> Result<(Tree, usize), ReadFault>>(
     reader: &Reader<'_, F>,
     start: PatternStart,
@@ -76,7 +76,7 @@ fn pattern_from<'t, F: Fn(Global, &[u8], Phrase, &[Tok]) -> Result<(Tree, usize)
             patterns::text_pattern(
                 reader.alloc,
                 tok.place,
-                text_of(reader.alloc, reader.bytes, tok)?,
+                text_at(reader.alloc, reader.bytes, tok)?,
             )?,
             toks,
         )),
@@ -89,7 +89,7 @@ fn pattern_from<'t, F: Fn(Global, &[u8], Phrase, &[Tok]) -> Result<(Tree, usize)
 }
 
 /// `-n`
-#[tactic(auto, using(crate::proofs::Rules::of_below_zero))]
+#[tactic(auto, using(crate::proofs::RuleSets::of_below_zero))]
 fn below_zero<'t, F: Fn(Global, &[u8], Phrase, &[Tok]) -> Result<(Tree, usize), ReadFault>>(
     reader: &Reader<'_, F>,
     tok: Tok,
@@ -116,7 +116,7 @@ fn below_zero<'t, F: Fn(Global, &[u8], Phrase, &[Tok]) -> Result<(Tree, usize), 
 }
 
 /// `e.v`
-#[tactic(auto, using(crate::proofs::Rules::of_enum_value))]
+#[tactic(auto, using(crate::proofs::RuleSets::of_enum_value))]
 fn enum_value<'t, F: Fn(Global, &[u8], Phrase, &[Tok]) -> Result<(Tree, usize), ReadFault>>(
     reader: &Reader<'_, F>,
     tok: Tok,
@@ -132,8 +132,8 @@ fn enum_value<'t, F: Fn(Global, &[u8], Phrase, &[Tok]) -> Result<(Tree, usize), 
 {
     let (_, behind) = expect(toks, Fixed::Dot)?;
     let (value, rest) = expect(behind, Fixed::Name)?;
-    let of = name_of(reader.alloc, reader.bytes, tok)?;
-    let value = name_of(reader.alloc, reader.bytes, value)?;
+    let of = name_at(reader.alloc, reader.bytes, tok)?;
+    let value = name_at(reader.alloc, reader.bytes, value)?;
     Ok((
         patterns::enum_pattern(reader.alloc, tok.place, of, value)?,
         rest,
@@ -163,7 +163,7 @@ pub fn arm<'t, F: Fn(Global, &[u8], Phrase, &[Tok]) -> Result<(Tree, usize), Rea
 }
 
 /// The same, with the place of its first tok.
-#[tactic(auto, using(crate::proofs::Rules::of_arm_placed))]
+#[tactic(auto, using(crate::proofs::RuleSets::of_arm_placed))]
 fn arm_placed<'t, F: Fn(Global, &[u8], Phrase, &[Tok]) -> Result<(Tree, usize), ReadFault>>(
     reader: &Reader<'_, F>,
     place: Place,
@@ -185,7 +185,7 @@ fn arm_placed<'t, F: Fn(Global, &[u8], Phrase, &[Tok]) -> Result<(Tree, usize), 
 }
 
 /// The arrow of an arm and its body.
-#[tactic(auto, using(crate::proofs::Rules::of_arm_body))]
+#[tactic(auto, using(crate::proofs::RuleSets::of_arm_body))]
 fn arm_body<'t, F: Fn(Global, &[u8], Phrase, &[Tok]) -> Result<(Tree, usize), ReadFault>>(
     reader: &Reader<'_, F>,
     toks: &'t [Tok],

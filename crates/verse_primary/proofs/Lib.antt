@@ -4,4 +4,4 @@ pub mod BracketEnds
 pub mod BraceParts
 pub mod PrimaryParts
 pub mod BracketStops
-pub mod Rules
+pub mod RuleSets

@@ -26,7 +26,7 @@ use verse_reading::nesting::Reader;
 use verse_reading::steps::{ReadFault, expect, take};
 
 /// `spawn{E}`
-#[tactic(auto, using(crate::proofs::Rules::of_spawn))]
+#[tactic(auto, using(crate::proofs::RuleSets::of_spawn))]
 pub fn spawn<'t, F: Fn(Global, &[u8], Phrase, &[Tok]) -> Result<(Tree, usize), ReadFault>>(
     reader: &Reader<'_, F>,
     tok: Tok,
@@ -55,7 +55,7 @@ pub fn spawn<'t, F: Fn(Global, &[u8], Phrase, &[Tok]) -> Result<(Tree, usize), R
 }
 
 /// `map{..}`
-#[tactic(auto, using(crate::proofs::Rules::of_mapping))]
+#[tactic(auto, using(crate::proofs::RuleSets::of_mapping))]
 pub fn mapping<'t, F: Fn(Global, &[u8], Phrase, &[Tok]) -> Result<(Tree, usize), ReadFault>>(
     reader: &Reader<'_, F>,
     tok: Tok,
@@ -78,7 +78,7 @@ pub fn mapping<'t, F: Fn(Global, &[u8], Phrase, &[Tok]) -> Result<(Tree, usize),
 }
 
 /// The keys of a map with their values, up to Close.
-#[tactic(auto, using(crate::proofs::Rules::of_pairs_until))]
+#[tactic(auto, using(crate::proofs::RuleSets::of_pairs_until))]
 fn pairs_until<'t, F: Fn(Global, &[u8], Phrase, &[Tok]) -> Result<(Tree, usize), ReadFault>>(
     reader: &Reader<'_, F>,
     toks: &'t [Tok],
@@ -100,7 +100,7 @@ fn pairs_until<'t, F: Fn(Global, &[u8], Phrase, &[Tok]) -> Result<(Tree, usize),
 }
 
 /// One key or more, up to Close.
-#[tactic(auto, using(crate::proofs::Rules::of_pairs))]
+#[tactic(auto, using(crate::proofs::RuleSets::of_pairs))]
 fn pairs<'t, F: Fn(Global, &[u8], Phrase, &[Tok]) -> Result<(Tree, usize), ReadFault>>(
     reader: &Reader<'_, F>,
     toks: &'t [Tok],
@@ -132,7 +132,7 @@ fn pairs<'t, F: Fn(Global, &[u8], Phrase, &[Tok]) -> Result<(Tree, usize), ReadF
 }
 
 /// `K => V`
-#[tactic(auto, using(crate::proofs::Rules::of_pair))]
+#[tactic(auto, using(crate::proofs::RuleSets::of_pair))]
 fn pair<'t, F: Fn(Global, &[u8], Phrase, &[Tok]) -> Result<(Tree, usize), ReadFault>>(
     reader: &Reader<'_, F>,
     toks: &'t [Tok],

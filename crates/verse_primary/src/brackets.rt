@@ -30,7 +30,7 @@ use verse_reading::steps::{ReadFault, expect, next, take};
 use verse_reading::types::type_at;
 
 /// An expression in round brackets, or a tuple.
-#[tactic(auto, using(crate::proofs::Rules::of_round))]
+#[tactic(auto, using(crate::proofs::RuleSets::of_round))]
 pub fn round<'t, F: Fn(Global, &[u8], Phrase, &[Tok]) -> Result<(Tree, usize), ReadFault>>(
     reader: &Reader<'_, F>,
     tok: Tok,
@@ -53,7 +53,7 @@ pub fn round<'t, F: Fn(Global, &[u8], Phrase, &[Tok]) -> Result<(Tree, usize), R
 }
 
 /// What stands behind the first expression in round brackets: others behind a comma, or none.
-#[tactic(auto, using(crate::proofs::Rules::of_others))]
+#[tactic(auto, using(crate::proofs::RuleSets::of_others))]
 fn others<'t, F: Fn(Global, &[u8], Phrase, &[Tok]) -> Result<(Tree, usize), ReadFault>>(
     reader: &Reader<'_, F>,
     toks: &'t [Tok],
@@ -86,7 +86,7 @@ fn others<'t, F: Fn(Global, &[u8], Phrase, &[Tok]) -> Result<(Tree, usize), Read
 }
 
 /// `event(t){}`
-#[tactic(auto, using(crate::proofs::Rules::of_event))]
+#[tactic(auto, using(crate::proofs::RuleSets::of_event))]
 pub fn event<'t, F: Fn(Global, &[u8], Phrase, &[Tok]) -> Result<(Tree, usize), ReadFault>>(
     reader: &Reader<'_, F>,
     tok: Tok,
@@ -107,7 +107,7 @@ pub fn event<'t, F: Fn(Global, &[u8], Phrase, &[Tok]) -> Result<(Tree, usize), R
 }
 
 /// `Sleep(D)`
-#[tactic(auto, using(crate::proofs::Rules::of_sleep))]
+#[tactic(auto, using(crate::proofs::RuleSets::of_sleep))]
 pub fn sleep<'t, F: Fn(Global, &[u8], Phrase, &[Tok]) -> Result<(Tree, usize), ReadFault>>(
     reader: &Reader<'_, F>,
     tok: Tok,
@@ -135,7 +135,7 @@ pub fn sleep<'t, F: Fn(Global, &[u8], Phrase, &[Tok]) -> Result<(Tree, usize), R
 }
 
 /// A type in round brackets, or nothing in them.
-#[tactic(auto, using(crate::proofs::Rules::of_bracket_type))]
+#[tactic(auto, using(crate::proofs::RuleSets::of_bracket_type))]
 pub fn bracket_type<'t>(
     alloc: Global,
     bytes: &[u8],

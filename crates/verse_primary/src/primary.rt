@@ -28,12 +28,12 @@ use verse_handles::trees::Tree;
 use verse_layout::toks::Tok;
 use verse_nodes::literals;
 use verse_reading::nesting::Reader;
-use verse_reading::spans::{name_of, text_of};
+use verse_reading::spans::{name_at, text_at};
 use verse_reading::steps::{ReadFault, expect, next, take};
 use verse_tree::names::Name;
 
 /// A primary form.
-#[tactic(auto, using(crate::proofs::Rules::of_primary))]
+#[tactic(auto, using(crate::proofs::RuleSets::of_primary))]
 pub fn primary<'t, F: Fn(Global, &[u8], Phrase, &[Tok]) -> Result<(Tree, usize), ReadFault>>(
     reader: &Reader<'_, F>,
     toks: &'t [Tok],
@@ -104,7 +104,7 @@ fn primary_from<'t, F: Fn(Global, &[u8], Phrase, &[Tok]) -> Result<(Tree, usize)
 }
 
 /// A name, or an instance of a class.
-#[tactic(auto, using(crate::proofs::Rules::of_name_from))]
+#[tactic(auto, using(crate::proofs::RuleSets::of_name_from))]
 fn name_from<'t, F: Fn(Global, &[u8], Phrase, &[Tok]) -> Result<(Tree, usize), ReadFault>>(
     reader: &Reader<'_, F>,
     tok: Tok,
@@ -121,7 +121,7 @@ fn name_from<'t, F: Fn(Global, &[u8], Phrase, &[Tok]) -> Result<(Tree, usize), R
         SticksRule (phrase Phrase.Primary) (tok ∷ toks.now) left }
     ensures shorter { IfOk result (λ r. length r.1.now ≤ length toks.now) }
 {
-    let name = name_of(reader.alloc, reader.bytes, tok)?;
+    let name = name_at(reader.alloc, reader.bytes, tok)?;
     match take(toks, Fixed::Open) {
         Some((_, behind)) => {
             let (parts, rest) = givens_until(reader, behind)?;
@@ -135,7 +135,7 @@ fn name_from<'t, F: Fn(Global, &[u8], Phrase, &[Tok]) -> Result<(Tree, usize), R
 }
 
 /// The fields that an instance is given, up to Close.
-#[tactic(auto, using(crate::proofs::Rules::of_givens_until))]
+#[tactic(auto, using(crate::proofs::RuleSets::of_givens_until))]
 fn givens_until<'t, F: Fn(Global, &[u8], Phrase, &[Tok]) -> Result<(Tree, usize), ReadFault>>(
     reader: &Reader<'_, F>,
     toks: &'t [Tok],
@@ -157,7 +157,7 @@ fn givens_until<'t, F: Fn(Global, &[u8], Phrase, &[Tok]) -> Result<(Tree, usize)
 }
 
 /// One field or more, up to Close.
-#[tactic(auto, using(crate::proofs::Rules::of_givens))]
+#[tactic(auto, using(crate::proofs::RuleSets::of_givens))]
 fn givens<'t, F: Fn(Global, &[u8], Phrase, &[Tok]) -> Result<(Tree, usize), ReadFault>>(
     reader: &Reader<'_, F>,
     toks: &'t [Tok],
@@ -189,7 +189,7 @@ fn givens<'t, F: Fn(Global, &[u8], Phrase, &[Tok]) -> Result<(Tree, usize), Read
 }
 
 /// `F := E`
-#[tactic(auto, using(crate::proofs::Rules::of_given))]
+#[tactic(auto, using(crate::proofs::RuleSets::of_given))]
 fn given<'t, F: Fn(Global, &[u8], Phrase, &[Tok]) -> Result<(Tree, usize), ReadFault>>(
     reader: &Reader<'_, F>,
     toks: &'t [Tok],
@@ -207,7 +207,7 @@ fn given<'t, F: Fn(Global, &[u8], Phrase, &[Tok]) -> Result<(Tree, usize), ReadF
     let (field, behind) = expect(toks, Fixed::Name)?;
     let (_, behind) = expect(behind, Fixed::Define)?;
     let (value, rest) = reader.inner(Phrase::Expr, behind)?;
-    let name = name_of(reader.alloc, reader.bytes, field)?;
+    let name = name_at(reader.alloc, reader.bytes, field)?;
     Ok(((name, value), rest))
 }
 
@@ -229,7 +229,7 @@ fn text_with_holes<'t, F: Fn(Global, &[u8], Phrase, &[Tok]) -> Result<(Tree, usi
         SticksRule (phrase Phrase.Primary) (tok ∷ toks.now) left }
     ensures shorter { IfOk result (λ r. length r.1.now ≤ length toks.now) }
 {
-    let bytes = text_of(reader.alloc, reader.bytes, tok)?;
+    let bytes = text_at(reader.alloc, reader.bytes, tok)?;
     let (parts, rest) = holes(reader, tok, toks)?;
     Ok((
         literals::text_holes(reader.alloc, tok.place, bytes, parts)?,
@@ -238,7 +238,7 @@ fn text_with_holes<'t, F: Fn(Global, &[u8], Phrase, &[Tok]) -> Result<(Tree, usi
 }
 
 /// The holes of a text, each with the text behind it.
-#[tactic(auto, using(crate::proofs::Rules::of_holes))]
+#[tactic(auto, using(crate::proofs::RuleSets::of_holes))]
 fn holes<'t, F: Fn(Global, &[u8], Phrase, &[Tok]) -> Result<(Tree, usize), ReadFault>>(
     reader: &Reader<'_, F>,
     tok: Tok,
@@ -260,14 +260,14 @@ fn holes<'t, F: Fn(Global, &[u8], Phrase, &[Tok]) -> Result<(Tree, usize), ReadF
     let mut value = first;
     let mut rest = after;
     'more: while let Some((part, behind)) = take(rest, Fixed::TextMid) {
-        parts.push(value, text_of(reader.alloc, reader.bytes, part)?)?;
+        parts.push(value, text_at(reader.alloc, reader.bytes, part)?)?;
         let (expr, left) = reader.inner(Phrase::Expr, behind)?;
         value = expr;
         rest = left;
     }
     match take(rest, Fixed::TextClose) {
         Some((part, rest)) => {
-            parts.push(value, text_of(reader.alloc, reader.bytes, part)?)?;
+            parts.push(value, text_at(reader.alloc, reader.bytes, part)?)?;
             Ok((parts, rest))
         }
         None => Err(ReadFault::Stuck(rest.len())),

@@ -1,3 +1,3 @@
 pub mod Wholes
 pub mod Rows
-pub mod Rules
+pub mod RuleSets

@@ -26,14 +26,14 @@ use verse_item_handles::members::{MemberTree, MemberTrees};
 use verse_layout::toks::Tok;
 use verse_read_parts::functions::fun_rest;
 use verse_read_parts::names::{head_at, specifiers};
-use verse_reading::spans::name_of;
+use verse_reading::spans::name_at;
 use verse_reading::steps::{ReadFault, expect, take};
 use verse_reading::types::type_at;
 use verse_tree::items::Spec;
 use verse_tree::names::Name;
 
 /// What stands behind `class`; `tok` is the class's name.
-#[tactic(auto, using(crate::proofs::Rules::of_class_rest))]
+#[tactic(auto, using(crate::proofs::RuleSets::of_class_rest))]
 pub fn class_rest<'t>(
     alloc: Global,
     bytes: &[u8],
@@ -52,12 +52,12 @@ pub fn class_rest<'t>(
     let (parent, rest) = parent(alloc, bytes, rest)?;
     let (_block, rest) = expect(rest, Fixed::Open)?;
     let (members, rest) = members(alloc, bytes, rest)?;
-    let head = head_at(tok.place, name_of(alloc, bytes, tok)?, specs);
+    let head = head_at(tok.place, name_at(alloc, bytes, tok)?, specs);
     Ok((ItemTree::class(head, class_specs, parent, members), rest))
 }
 
 /// The parent in round brackets, where there is one.
-#[tactic(auto, using(crate::proofs::Rules::of_parent))]
+#[tactic(auto, using(crate::proofs::RuleSets::of_parent))]
 fn parent<'t>(
     alloc: Global,
     bytes: &[u8],
@@ -74,11 +74,11 @@ fn parent<'t>(
     };
     let (tok, rest) = expect(rest, Fixed::Name)?;
     let (_bracket, rest) = expect(rest, Fixed::RoundClose)?;
-    Ok((Some(name_of(alloc, bytes, tok)?), rest))
+    Ok((Some(name_at(alloc, bytes, tok)?), rest))
 }
 
 /// Members up to the end of the block.
-#[tactic(auto, using(crate::proofs::Rules::of_members))]
+#[tactic(auto, using(crate::proofs::RuleSets::of_members))]
 fn members<'t>(
     alloc: Global,
     bytes: &[u8],
@@ -100,7 +100,7 @@ fn members<'t>(
 }
 
 /// The members from the first on, which begins at `start`.
-#[tactic(auto, using(crate::proofs::Rules::of_member_row))]
+#[tactic(auto, using(crate::proofs::RuleSets::of_member_row))]
 fn member_row<'t>(
     alloc: Global,
     bytes: &[u8],
@@ -149,7 +149,7 @@ fn member<'t>(
 }
 
 /// A field with the `var` that is `tok`.
-#[tactic(auto, using(crate::proofs::Rules::of_var_member))]
+#[tactic(auto, using(crate::proofs::RuleSets::of_var_member))]
 fn var_member<'t>(
     alloc: Global,
     bytes: &[u8],
@@ -168,12 +168,12 @@ fn var_member<'t>(
     let (name, rest) = expect(rest, Fixed::Name)?;
     let (specs, rest) = specifiers(alloc, bytes, rest)?;
     let (ty, default, rest) = field_rest(alloc, bytes, rest)?;
-    let head = head_at(tok.place, name_of(alloc, bytes, name)?, specs);
+    let head = head_at(tok.place, name_at(alloc, bytes, name)?, specs);
     Ok((MemberTree::var_field(head, var_specs, ty, default), rest))
 }
 
 /// A field or a method with the name `tok`.
-#[tactic(auto, using(crate::proofs::Rules::of_named_member))]
+#[tactic(auto, using(crate::proofs::RuleSets::of_named_member))]
 fn named_member<'t>(
     alloc: Global,
     bytes: &[u8],
@@ -193,7 +193,7 @@ fn named_member<'t>(
 }
 
 /// What stands behind the name `tok` and the specifiers of a member without `var`.
-#[tactic(auto, using(crate::proofs::Rules::of_member_rest))]
+#[tactic(auto, using(crate::proofs::RuleSets::of_member_rest))]
 fn member_rest<'t>(
     alloc: Global,
     bytes: &[u8],
@@ -251,12 +251,12 @@ fn plain_rest<'t>(
     ensures shorter { IfOk result (λ r. length r.1.now < length toks.now) }
 {
     let (ty, default, rest) = field_rest(alloc, bytes, toks)?;
-    let head = head_at(tok.place, name_of(alloc, bytes, tok)?, specs);
+    let head = head_at(tok.place, name_at(alloc, bytes, tok)?, specs);
     Ok((MemberTree::field(alloc, head, ty, default), rest))
 }
 
 /// The type of a field, and its default where it has one.
-#[tactic(auto, using(crate::proofs::Rules::of_field_rest))]
+#[tactic(auto, using(crate::proofs::RuleSets::of_field_rest))]
 fn field_rest<'t>(
     alloc: Global,
     bytes: &[u8],
@@ -276,7 +276,7 @@ fn field_rest<'t>(
 }
 
 /// The default behind `=`, where there is one.
-#[tactic(auto, using(crate::proofs::Rules::of_default_value))]
+#[tactic(auto, using(crate::proofs::RuleSets::of_default_value))]
 fn default_value<'t>(
     alloc: Global,
     bytes: &[u8],

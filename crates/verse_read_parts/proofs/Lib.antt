@@ -1,4 +1,4 @@
 pub mod Steps
 pub mod Signatures
 pub mod Rows
-pub mod Rules
+pub mod RuleSets

@@ -16,13 +16,13 @@ use std::alloc::Global;
 use verse_grammar::starts::Fixed;
 use verse_item_handles::items::ItemTree;
 use verse_layout::toks::Tok;
-use verse_reading::spans::name_of;
+use verse_reading::spans::name_at;
 use verse_reading::steps::{ReadFault, expect, take};
 use verse_tree::items::Spec;
 use verse_tree::names::Name;
 
 /// What stands behind `enum`; `tok` is the enum's name.
-#[tactic(auto, using(crate::proofs::Rules::of_enum_rest))]
+#[tactic(auto, using(crate::proofs::RuleSets::of_enum_rest))]
 pub fn enum_rest<'t>(
     alloc: Global,
     bytes: &[u8],
@@ -39,12 +39,12 @@ pub fn enum_rest<'t>(
 {
     let (_braces, rest) = expect(toks, Fixed::Open)?;
     let (values, rest) = values(alloc, bytes, rest)?;
-    let head = head_at(tok.place, name_of(alloc, bytes, tok)?, specs);
+    let head = head_at(tok.place, name_at(alloc, bytes, tok)?, specs);
     Ok((ItemTree::enumeration(head, values), rest))
 }
 
 /// Values up to the end of the block.
-#[tactic(auto, using(crate::proofs::Rules::of_values))]
+#[tactic(auto, using(crate::proofs::RuleSets::of_values))]
 fn values<'t>(
     alloc: Global,
     bytes: &[u8],
@@ -66,7 +66,7 @@ fn values<'t>(
 }
 
 /// A value and those behind it.
-#[tactic(auto, using(crate::proofs::Rules::of_value_row))]
+#[tactic(auto, using(crate::proofs::RuleSets::of_value_row))]
 fn value_row<'t>(
     alloc: Global,
     bytes: &[u8],
@@ -81,14 +81,14 @@ fn value_row<'t>(
     ensures shorter { IfOk result (λ r. length r.1.now ≤ length toks.now) }
 {
     let mut values = Items::new(alloc);
-    values.push(name_of(alloc, bytes, tok)?)?;
+    values.push(name_at(alloc, bytes, tok)?)?;
     let mut rest = toks;
     'values: loop {
         let Some((_sep, behind)) = take(rest, Fixed::Sep) else {
             return Ok((values, rest));
         };
         let (value, behind) = expect(behind, Fixed::Name)?;
-        values.push(name_of(alloc, bytes, value)?)?;
+        values.push(name_at(alloc, bytes, value)?)?;
         rest = behind;
     }
 }

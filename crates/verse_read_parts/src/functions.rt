@@ -21,13 +21,13 @@ use verse_handles::trees::Tree;
 use verse_handles::types::Written;
 use verse_item_handles::funs::{FunTree, ParamTree, ParamTrees};
 use verse_layout::toks::Tok;
-use verse_reading::spans::name_of;
+use verse_reading::spans::name_at;
 use verse_reading::steps::{ReadFault, expect, take};
 use verse_reading::types::type_at;
 use verse_tree::items::Spec;
 
 /// `X:t`
-#[tactic(auto, using(crate::proofs::Rules::of_param))]
+#[tactic(auto, using(crate::proofs::RuleSets::of_param))]
 fn param<'t>(
     alloc: Global,
     bytes: &[u8],
@@ -42,12 +42,12 @@ fn param<'t>(
     let (tok, rest) = expect(toks, Fixed::Name)?;
     let (_colon, rest) = expect(rest, Fixed::Colon)?;
     let (ty, rest) = type_at(alloc, bytes, rest)?;
-    let name = name_of(alloc, bytes, tok)?;
+    let name = name_at(alloc, bytes, tok)?;
     Ok((ParamTree::new(0, tok.place, name, ty), rest))
 }
 
 /// Parameters up to the closing bracket.
-#[tactic(auto, using(crate::proofs::Rules::of_params))]
+#[tactic(auto, using(crate::proofs::RuleSets::of_params))]
 fn params<'t>(
     alloc: Global,
     bytes: &[u8],
@@ -69,7 +69,7 @@ fn params<'t>(
 }
 
 /// The parameters from the first on, which begins at `start`.
-#[tactic(auto, using(crate::proofs::Rules::of_param_row))]
+#[tactic(auto, using(crate::proofs::RuleSets::of_param_row))]
 fn param_row<'t>(
     alloc: Global,
     bytes: &[u8],
@@ -98,7 +98,7 @@ fn param_row<'t>(
 }
 
 /// What stands behind the name `tok` and the specifiers of a function.
-#[tactic(auto, using(crate::proofs::Rules::of_fun_rest))]
+#[tactic(auto, using(crate::proofs::RuleSets::of_fun_rest))]
 pub fn fun_rest<'t>(
     alloc: Global,
     bytes: &[u8],
@@ -116,12 +116,12 @@ pub fn fun_rest<'t>(
     let (_bracket, rest) = expect(toks, Fixed::RoundOpen)?;
     let (params, rest) = params(alloc, bytes, rest)?;
     let (effects, ty, body, rest) = signature(alloc, bytes, rest)?;
-    let head = head_at(tok.place, name_of(alloc, bytes, tok)?, specs);
+    let head = head_at(tok.place, name_at(alloc, bytes, tok)?, specs);
     Ok((FunTree::new(head, params, effects, ty, body), rest))
 }
 
 /// The effects of a function, its type and its body.
-#[tactic(auto, using(crate::proofs::Rules::of_signature))]
+#[tactic(auto, using(crate::proofs::RuleSets::of_signature))]
 fn signature<'t>(
     alloc: Global,
     bytes: &[u8],

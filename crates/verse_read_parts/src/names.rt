@@ -16,7 +16,7 @@ use verse_base::places::Place;
 use verse_grammar::starts::Fixed;
 use verse_item_handles::funs::Head;
 use verse_layout::toks::Tok;
-use verse_reading::spans::name_of;
+use verse_reading::spans::name_at;
 use verse_reading::steps::{ReadFault, expect, take};
 use verse_tree::items::Spec;
 use verse_tree::names::Name;
@@ -44,7 +44,7 @@ pub fn head_at(place: Place, name: Name, specs: Items<Spec>) -> Head
 }
 
 /// Specifiers, as `<public><override>`.
-#[tactic(auto, using(crate::proofs::Rules::of_specifiers))]
+#[tactic(auto, using(crate::proofs::RuleSets::of_specifiers))]
 pub fn specifiers<'t>(
     alloc: Global,
     bytes: &[u8],
@@ -64,13 +64,13 @@ pub fn specifiers<'t>(
         };
         let (name, behind) = expect(behind, Fixed::Name)?;
         let (_above, behind) = expect(behind, Fixed::Above)?;
-        specs.push(spec(name.place, name_of(alloc, bytes, name)?))?;
+        specs.push(spec(name.place, name_at(alloc, bytes, name)?))?;
         rest = behind;
     }
 }
 
 /// Names with dots between them.
-#[tactic(auto, using(crate::proofs::Rules::of_dotted))]
+#[tactic(auto, using(crate::proofs::RuleSets::of_dotted))]
 pub fn dotted<'t>(
     alloc: Global,
     bytes: &[u8],
@@ -87,7 +87,7 @@ pub fn dotted<'t>(
 }
 
 /// A name and those behind it.
-#[tactic(auto, using(crate::proofs::Rules::of_dots))]
+#[tactic(auto, using(crate::proofs::RuleSets::of_dots))]
 fn dots<'t>(
     alloc: Global,
     bytes: &[u8],
@@ -102,20 +102,20 @@ fn dots<'t>(
     ensures shorter { IfOk result (λ r. length r.1.now ≤ length toks.now) }
 {
     let mut names = Items::new(alloc);
-    names.push(name_of(alloc, bytes, tok)?)?;
+    names.push(name_at(alloc, bytes, tok)?)?;
     let mut rest = toks;
     'names: loop {
         let Some((_dot, behind)) = take(rest, Fixed::Dot) else {
             return Ok((names, rest));
         };
         let (name, behind) = expect(behind, Fixed::Name)?;
-        names.push(name_of(alloc, bytes, name)?)?;
+        names.push(name_at(alloc, bytes, name)?)?;
         rest = behind;
     }
 }
 
 /// The parts of a path behind the first, which begins at `start`.
-#[tactic(auto, using(crate::proofs::Rules::of_path))]
+#[tactic(auto, using(crate::proofs::RuleSets::of_path))]
 pub fn path<'t>(
     alloc: Global,
     bytes: &[u8],

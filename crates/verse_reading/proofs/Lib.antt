@@ -2,4 +2,4 @@ pub mod Taking
 pub mod Faults
 pub mod TypeRows
 pub mod Rows
-pub mod Rules
+pub mod RuleSets

@@ -20,7 +20,7 @@ use verse_layout::toks::Tok;
 
 impl<'b, F: Fn(Global, &[u8], Phrase, &[Tok]) -> Result<(Tree, usize), ReadFault>> Reader<'b, F> {
     /// One phrase or more, with a separator between them, up to a closing tok.
-    #[tactic(auto, using(crate::proofs::Rules::of_closed))]
+    #[tactic(auto, using(crate::proofs::RuleSets::of_closed))]
     pub fn closed<'t>(
         &self,
         what: Phrase,
@@ -56,7 +56,7 @@ impl<'b, F: Fn(Global, &[u8], Phrase, &[Tok]) -> Result<(Tree, usize), ReadFault
     }
 
     /// No phrase or more, up to a closing tok.
-    #[tactic(auto, using(crate::proofs::Rules::of_until))]
+    #[tactic(auto, using(crate::proofs::RuleSets::of_until))]
     pub fn until<'t>(
         &self,
         what: Phrase,

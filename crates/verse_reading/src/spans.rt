@@ -12,14 +12,14 @@ use verse_lex::tokens::{Token, TokenKind};
 use verse_tree::names::{Name, Text};
 
 /// The bytes of a name.
-pub fn name_of(alloc: Global, bytes: &[u8], tok: Tok) -> Result<Name, Memory>
+pub fn name_at(alloc: Global, bytes: &[u8], tok: Tok) -> Result<Name, Memory>
     ensures { IfOk result (λ name. name ≡ name_at bytes.now tok) }
 {
     Ok(Items::from_slice(alloc, span(bytes, tok.start, tok.end))?)
 }
 
 /// The bytes of a text or of a part of one, with escapes replaced.
-pub fn text_of(alloc: Global, bytes: &[u8], tok: Tok) -> Result<Text, Memory>
+pub fn text_at(alloc: Global, bytes: &[u8], tok: Tok) -> Result<Text, Memory>
     ensures { IfOk result (λ text. text ≡ text_at bytes.now tok) }
 {
     let token = Token {

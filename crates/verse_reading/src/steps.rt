@@ -55,7 +55,7 @@ pub fn next(toks: &[Tok]) -> Option<(Tok, &[Tok])>
 }
 
 /// The first tok and those behind it, where it is of this kind.
-#[tactic(auto, using(crate::proofs::Rules::of_take))]
+#[tactic(auto, using(crate::proofs::RuleSets::of_take))]
 pub fn take(toks: &[Tok], what: Fixed) -> Option<(Tok, &[Tok])>
     ensures { MatchOption result (ahead toks.now ≢ Some (kind_of what))
         (λ r. (toks.now ≡ r.0 ∷ r.1.now) × (r.0.kind ≡ kind_of what)) }

@@ -12,7 +12,7 @@ ghost use Rattle.verse_grammar.specs.declared.starts.TypeStart.{TypeStart};
 ghost use Rattle.verse_grammar.specs.declared.starts.Fixed.{Fixed};
 ghost use Rattle.verse_reading.specs.declared.steps.ReadFault.TheVariants as read_fault;
 
-use crate::spans::name_of;
+use crate::spans::name_at;
 use crate::steps::{ReadFault, expect, next, take};
 use std::alloc::Global;
 use verse_base::refusals::Memory;
@@ -26,7 +26,7 @@ use verse_nodes::types::{
 
 /// A type.
 #[cycle(type_at)]
-#[tactic(auto, using(crate::proofs::Rules::of_type_at))]
+#[tactic(auto, using(crate::proofs::RuleSets::of_type_at))]
 pub fn type_at<'t>(
     alloc: Global,
     bytes: &[u8],
@@ -52,14 +52,14 @@ pub fn type_at<'t>(
         Some(TypeStart::Char) => Ok((char(), rest)),
         Some(TypeStart::String) => Ok((string(), rest)),
         Some(TypeStart::Void) => Ok((void(), rest)),
-        Some(TypeStart::Name) => Ok((named(tok.place, name_of(alloc, bytes, tok)?), rest)),
+        Some(TypeStart::Name) => Ok((named(tok.place, name_at(alloc, bytes, tok)?), rest)),
         None => Err(ReadFault::Stuck(toks.len())),
     }
 }
 
 /// `?t`, behind its mark.
 #[cycle(type_at)]
-#[tactic(auto, using(crate::proofs::Rules::of_option_type))]
+#[tactic(auto, using(crate::proofs::RuleSets::of_option_type))]
 fn option_type<'t>(
     alloc: Global,
     bytes: &[u8],
@@ -80,7 +80,7 @@ fn option_type<'t>(
 
 /// `[]t` and `[k]v`, behind the opening bracket.
 #[cycle(type_at)]
-#[tactic(auto, using(crate::proofs::Rules::of_bracket_type))]
+#[tactic(auto, using(crate::proofs::RuleSets::of_bracket_type))]
 fn bracket_type<'t>(
     alloc: Global,
     bytes: &[u8],
@@ -106,7 +106,7 @@ fn bracket_type<'t>(
 
 /// `[k]v`, behind the opening bracket.
 #[cycle(type_at)]
-#[tactic(auto, using(crate::proofs::Rules::of_map_type))]
+#[tactic(auto, using(crate::proofs::RuleSets::of_map_type))]
 fn map_type<'t>(
     alloc: Global,
     bytes: &[u8],
@@ -132,7 +132,7 @@ fn map_type<'t>(
 
 /// `tuple(t, u)`, behind its word.
 #[cycle(type_at)]
-#[tactic(auto, using(crate::proofs::Rules::of_tuple_type))]
+#[tactic(auto, using(crate::proofs::RuleSets::of_tuple_type))]
 fn tuple_type<'t>(
     alloc: Global,
     bytes: &[u8],
@@ -157,7 +157,7 @@ fn tuple_type<'t>(
 
 /// Types with commas between them.
 #[cycle(type_at)]
-#[tactic(auto, using(crate::proofs::Rules::of_types))]
+#[tactic(auto, using(crate::proofs::RuleSets::of_types))]
 fn types<'t>(
     alloc: Global,
     bytes: &[u8],
@@ -183,7 +183,7 @@ fn types<'t>(
 
 /// `task(t)`, behind its word.
 #[cycle(type_at)]
-#[tactic(auto, using(crate::proofs::Rules::of_task_type))]
+#[tactic(auto, using(crate::proofs::RuleSets::of_task_type))]
 fn task_type<'t>(
     alloc: Global,
     bytes: &[u8],
@@ -206,7 +206,7 @@ fn task_type<'t>(
 
 /// `event(t)` and `event()`, behind their word.
 #[cycle(type_at)]
-#[tactic(auto, using(crate::proofs::Rules::of_event_type))]
+#[tactic(auto, using(crate::proofs::RuleSets::of_event_type))]
 fn event_type<'t>(
     alloc: Global,
     bytes: &[u8],

@@ -1,3 +1,3 @@
 pub mod Lines
 pub mod OneFile
-pub mod Rules
+pub mod RuleSets

@@ -28,7 +28,7 @@ pub fn toks_of(alloc: Global, bytes: &[u8]) -> Result<Vec<Tok>, Front> {
 }
 
 /// The program of one file, its nodes numbered from 0.
-#[tactic(auto, using(crate::proofs::Rules::of_program_of))]
+#[tactic(auto, using(crate::proofs::RuleSets::of_program_of))]
 pub fn program_of(alloc: Global, items: ItemTrees) -> Result<ProgramTree, Memory>
     requires { items_nodes (map item_of items) ≤ 100000 }
     ensures counted { IfOk result (λ tree. IsNumbered (map item_of tree.items) tree.nodes) }

@@ -22,7 +22,7 @@ use verse_reading::nesting::Reader;
 use verse_reading::steps::{ReadFault, expect, take};
 
 /// Open, parts and Close.
-#[tactic(auto, using(crate::proofs::Rules::of_block))]
+#[tactic(auto, using(crate::proofs::RuleSets::of_block))]
 pub fn block<'t, F: Fn(Global, &[u8], Phrase, &[Tok]) -> Result<(Tree, usize), ReadFault>>(
     reader: &Reader<'_, F>,
     toks: &'t [Tok],
@@ -43,7 +43,7 @@ pub fn block<'t, F: Fn(Global, &[u8], Phrase, &[Tok]) -> Result<(Tree, usize), R
 }
 
 /// `defer` and its block, or a statement.
-#[tactic(auto, using(crate::proofs::Rules::of_part))]
+#[tactic(auto, using(crate::proofs::RuleSets::of_part))]
 pub fn part<'t, F: Fn(Global, &[u8], Phrase, &[Tok]) -> Result<(Tree, usize), ReadFault>>(
     reader: &Reader<'_, F>,
     toks: &'t [Tok],
@@ -68,7 +68,7 @@ pub fn part<'t, F: Fn(Global, &[u8], Phrase, &[Tok]) -> Result<(Tree, usize), Re
 }
 
 /// A block or an expression.
-#[tactic(auto, using(crate::proofs::Rules::of_body))]
+#[tactic(auto, using(crate::proofs::RuleSets::of_body))]
 pub fn body<'t, F: Fn(Global, &[u8], Phrase, &[Tok]) -> Result<(Tree, usize), ReadFault>>(
     reader: &Reader<'_, F>,
     toks: &'t [Tok],

@@ -24,12 +24,12 @@ use verse_handles::types::Written;
 use verse_layout::toks::Tok;
 use verse_nodes::statements;
 use verse_reading::nesting::Reader;
-use verse_reading::spans::name_of;
+use verse_reading::spans::name_at;
 use verse_reading::steps::{ReadFault, expect, next, take};
 use verse_reading::types::type_at;
 
 /// A statement.
-#[tactic(auto, using(crate::proofs::Rules::of_stmt))]
+#[tactic(auto, using(crate::proofs::RuleSets::of_stmt))]
 pub fn stmt<'t, F: Fn(Global, &[u8], Phrase, &[Tok]) -> Result<(Tree, usize), ReadFault>>(
     reader: &Reader<'_, F>,
     toks: &'t [Tok],
@@ -58,7 +58,7 @@ pub fn stmt<'t, F: Fn(Global, &[u8], Phrase, &[Tok]) -> Result<(Tree, usize), Re
 }
 
 /// A statement that begins with a name: a definition, or an expression.
-#[tactic(auto, using(crate::proofs::Rules::of_named_stmt))]
+#[tactic(auto, using(crate::proofs::RuleSets::of_named_stmt))]
 fn named_stmt<'t, F: Fn(Global, &[u8], Phrase, &[Tok]) -> Result<(Tree, usize), ReadFault>>(
     reader: &Reader<'_, F>,
     tok: Tok,
@@ -87,7 +87,7 @@ fn named_stmt<'t, F: Fn(Global, &[u8], Phrase, &[Tok]) -> Result<(Tree, usize), 
 }
 
 /// The value behind `X :=`.
-#[tactic(auto, using(crate::proofs::Rules::of_defined))]
+#[tactic(auto, using(crate::proofs::RuleSets::of_defined))]
 fn defined<'t, F: Fn(Global, &[u8], Phrase, &[Tok]) -> Result<(Tree, usize), ReadFault>>(
     reader: &Reader<'_, F>,
     tok: Tok,
@@ -108,7 +108,7 @@ fn defined<'t, F: Fn(Global, &[u8], Phrase, &[Tok]) -> Result<(Tree, usize), Rea
         SticksRule (phrase Phrase.Stmt) (tok ∷ define ∷ toks.now) left }
     ensures shorter { IfOk result (λ r. length r.1.now < length toks.now) }
 {
-    let name = name_of(reader.alloc, reader.bytes, tok)?;
+    let name = name_at(reader.alloc, reader.bytes, tok)?;
     let (value, rest) = reader.inner(Phrase::Expr, toks)?;
     Ok((
         statements::definition(reader.alloc, tok.place, name, value)?,
@@ -117,7 +117,7 @@ fn defined<'t, F: Fn(Global, &[u8], Phrase, &[Tok]) -> Result<(Tree, usize), Rea
 }
 
 /// What is behind `X` in `X:t = E`.
-#[tactic(auto, using(crate::proofs::Rules::of_typed))]
+#[tactic(auto, using(crate::proofs::RuleSets::of_typed))]
 fn typed<'t, F: Fn(Global, &[u8], Phrase, &[Tok]) -> Result<(Tree, usize), ReadFault>>(
     reader: &Reader<'_, F>,
     tok: Tok,
@@ -138,7 +138,7 @@ fn typed<'t, F: Fn(Global, &[u8], Phrase, &[Tok]) -> Result<(Tree, usize), ReadF
         SticksRule (phrase Phrase.Stmt) (tok ∷ colon ∷ toks.now) left }
     ensures shorter { IfOk result (λ r. length r.1.now < length toks.now) }
 {
-    let name = name_of(reader.alloc, reader.bytes, tok)?;
+    let name = name_at(reader.alloc, reader.bytes, tok)?;
     let ((ty, value), rest) = typed_value(reader, colon, toks)?;
     Ok((
         statements::typed(reader.alloc, tok.place, name, ty, value)?,
@@ -147,7 +147,7 @@ fn typed<'t, F: Fn(Global, &[u8], Phrase, &[Tok]) -> Result<(Tree, usize), ReadF
 }
 
 /// What is behind `var`.
-#[tactic(auto, using(crate::proofs::Rules::of_variable))]
+#[tactic(auto, using(crate::proofs::RuleSets::of_variable))]
 fn variable<'t, F: Fn(Global, &[u8], Phrase, &[Tok]) -> Result<(Tree, usize), ReadFault>>(
     reader: &Reader<'_, F>,
     tok: Tok,
@@ -166,7 +166,7 @@ fn variable<'t, F: Fn(Global, &[u8], Phrase, &[Tok]) -> Result<(Tree, usize), Re
 {
     let (named, rest) = expect(toks, Fixed::Name)?;
     let (colon, rest) = expect(rest, Fixed::Colon)?;
-    let name = name_of(reader.alloc, reader.bytes, named)?;
+    let name = name_at(reader.alloc, reader.bytes, named)?;
     let ((ty, value), rest) = typed_value(reader, colon, rest)?;
     Ok((
         statements::variable(reader.alloc, tok.place, name, ty, value)?,
@@ -175,7 +175,7 @@ fn variable<'t, F: Fn(Global, &[u8], Phrase, &[Tok]) -> Result<(Tree, usize), Re
 }
 
 /// The type and the value behind a colon.
-#[tactic(auto, using(crate::proofs::Rules::of_typed_value))]
+#[tactic(auto, using(crate::proofs::RuleSets::of_typed_value))]
 fn typed_value<'t, F: Fn(Global, &[u8], Phrase, &[Tok]) -> Result<(Tree, usize), ReadFault>>(
     reader: &Reader<'_, F>,
     colon: Tok,

@@ -1,3 +1,3 @@
 mod Climbing
 mod Before
-mod Rules
+mod RuleSets

@@ -18,7 +18,7 @@ pub fn parent(classes: &[ClassInfo], class: u32) -> Option<u32>
 }
 
 /// Whether a class is another one or inherits from it.
-#[tactic(auto, using(crate::proofs::Rules::of_climbing))]
+#[tactic(auto, using(crate::proofs::RuleSets::of_climbing))]
 pub fn does_inherit(classes: &[ClassInfo], class: u32, other: u32) -> bool
     ensures { result ≡ inherits (classes_of classes.now) class other }
 {
@@ -36,7 +36,7 @@ pub fn does_inherit(classes: &[ClassInfo], class: u32, other: u32) -> bool
 }
 
 /// The nearest common ancestor of two classes.
-#[tactic(auto, using(crate::proofs::Rules::of_climbing))]
+#[tactic(auto, using(crate::proofs::RuleSets::of_climbing))]
 pub fn common_ancestor(classes: &[ClassInfo], class: u32, other: u32) -> Option<u32>
     ensures { result ≡ common (classes_of classes.now) class other }
 {
@@ -54,7 +54,7 @@ pub fn common_ancestor(classes: &[ClassInfo], class: u32, other: u32) -> Option<
 }
 
 /// Whether a class or an ancestor of it is unique.
-#[tactic(auto, using(crate::proofs::Rules::of_climbing))]
+#[tactic(auto, using(crate::proofs::RuleSets::of_climbing))]
 pub fn is_unique(classes: &[ClassInfo], class: u32) -> bool
     ensures { result ≡ kinds.is_unique (classes_of classes.now) class }
 {

@@ -7,4 +7,4 @@ pub mod Stepping
 pub mod KeyLaws
 pub mod EqualityLaw
 pub mod Texts
-pub mod Rules
+pub mod RuleSets

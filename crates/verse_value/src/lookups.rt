@@ -43,7 +43,7 @@ pub fn find<'a>(v: &'a Value, index: &Value) -> Step<'a>
     }
 }
 
-#[tactic(auto, using(crate::proofs::Rules::of_in_parts))]
+#[tactic(auto, using(crate::proofs::RuleSets::of_in_parts))]
 fn in_parts<'a>(parts: &'a Parts, index: &Value) -> Step<'a>
     ensures { step_of result ≡ in_array parts.now (val_of index.now) }
 {
@@ -57,7 +57,7 @@ fn in_parts<'a>(parts: &'a Parts, index: &Value) -> Step<'a>
     }
 }
 
-#[tactic(auto, using(crate::proofs::Rules::of_in_entries))]
+#[tactic(auto, using(crate::proofs::RuleSets::of_in_entries))]
 fn in_entries<'a>(entries: &'a Entries, index: &Value) -> Step<'a>
     ensures { step_of result ≡ in_map entries.now (key_of (val_of index.now)) }
 {

@@ -1,4 +1,4 @@
 pub mod Jumping
 pub mod Values
 pub mod Turns
-pub mod Rules
+pub mod RuleSets

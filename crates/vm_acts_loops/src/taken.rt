@@ -87,7 +87,7 @@ fn of_map(alloc: Global, entries: &Entries, at: i64) -> Result<Taken, Memory>
 }
 
 // Copies of the value and of the key at a place of a map.
-#[tactic(auto, using(crate::proofs::Rules::of_entry_at))]
+#[tactic(auto, using(crate::proofs::RuleSets::of_entry_at))]
 fn entry_at(alloc: Global, entries: &Entries, at: usize) -> Result<Option<(Value, Value)>, Memory>
     ensures { IfOk result (λ o. option_map (λ p. (val_of p.0, val_of p.1)) o ≡
         nth_entry entries.now at) }

@@ -3,4 +3,4 @@ pub mod Standing
 pub mod Settling
 pub mod Racing
 pub mod Downs
-pub mod Rules
+pub mod RuleSets

@@ -36,7 +36,7 @@ pub fn one_gave(arms: &[Arm]) -> bool
 }
 
 /// The values of all arms, which have one each.
-#[tactic(auto, using(crate::proofs::Rules::of_values_of))]
+#[tactic(auto, using(crate::proofs::RuleSets::of_values_of))]
 pub fn values_of(alloc: Global, arms: Vec<Arm>) -> Result<Vec<Value>, Memory>
     requires { all_did (map part_of arms.items) ≢ None }
     ensures { IfOk result (λ vs. all_did (map part_of arms.items) ≡ Some (vals_of vs.items)) }
@@ -53,7 +53,7 @@ pub fn values_of(alloc: Global, arms: Vec<Arm>) -> Result<Vec<Value>, Memory>
 }
 
 /// The value of the first arm that has given one.
-#[tactic(auto, using(crate::proofs::Rules::of_first_value))]
+#[tactic(auto, using(crate::proofs::RuleSets::of_first_value))]
 pub fn first_value(arms: Vec<Arm>) -> Option<Value>
     ensures { option_map val_of result ≡ first_did (map part_of arms.items) }
 {

@@ -2,4 +2,4 @@ pub mod Equal
 pub mod Shown
 pub mod Entered
 pub mod Elements
-pub mod Rules
+pub mod RuleSets

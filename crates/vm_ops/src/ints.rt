@@ -206,7 +206,7 @@ fn at_least(a: &Value, b: &Value) -> Result<Value, OpFault>
 }
 
 // An int in its range, or K1.
-#[tactic(auto, using(crate::proofs::Rules::of_in_range))]
+#[tactic(auto, using(crate::proofs::RuleSets::of_in_range))]
 fn in_range(exact: Option<i64>) -> Result<Value, OpFault>
     ensures answers { (z : ℤ) → SomeIff exact (FitsSigned w64 z) z → IsAnswer (ranged z) result }
 {

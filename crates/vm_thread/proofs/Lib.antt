@@ -1,4 +1,4 @@
 mod Whole
 mod Popped
 mod Unwound
-mod Rules
+mod RuleSets

@@ -7,7 +7,7 @@ use Rattle.verse_primary.proofs.PrimaryParts.{holes_next}
 
 pub more-preserved : goal.more-preserved
 more-preserved g c = record {
-  row = holes_next _ _ _ _ _ _ _ _ _ _ _ c.more.invariant.row c.in-Some.ensures.0 c.in-Some.ensures.1 c.in_ok-text_of.ensures
+  row = holes_next _ _ _ _ _ _ _ _ _ _ _ c.more.invariant.row c.in-Some.ensures.0 c.in-Some.ensures.1 c.in_ok-text_at.ensures
       c.in_ok-push.ensures.ok c.in_ok-expr.ensures.spelled;
   goes = goes_holes_by _ _ _ _ _ c.more.invariant.goes c.in-Some.ensures.0 c.in-Some.ensures.1 c.in_ok-expr.ensures.eats;
   within = shorter_next _ _ _ _ _ c.in-Some.ensures.0 c.in_ok-expr.ensures.shorter c.more.invariant.within;
