@@ -2,6 +2,7 @@
 use Rattle.std.proofs.Common.{◌≡◌, ℕ, ◌+◌, ◌-◌, ◌≤◌, List, [], ◌∷◌, ◌++◌, length, take, drop, map, reverse, ap, sym, ◌∙◌, refl, arith}
 use Rattle.std.proofs.Common.{subst, Some, slice_get, append-nil}
 use Rattle.std.proofs.lemmas.List.{take-map, drop-map, map-append}
+use Rattle.verse_base.specs.declared.limits.TheConstants.{MOST_TRACE_BYTES}
 use Rattle.trace_buf.specs.declared.buffers.Mark.{Mark}
 use Rattle.trace_buf.specs.declared.buffers.TraceBuf.TheInside.{Inside}
 use Rattle.trace_buf.specs.declared.lines.Kept.{Kept}
@@ -76,7 +77,7 @@ rolled_view s m new items w e f =
 -- what holds of the newest mark
 pub record RollsBack (s : Inside) (m : Mark) (new : List Mark) (items : List Kept) : Type 0 where
   pub size : m.bytes ≡ s.drained_bytes + length (printed (map line_of items))
-  pub limit : m.bytes ≤ 16777216
+  pub limit : m.bytes ≤ MOST_TRACE_BYTES
   pub stands : Stands s.drained_lines s.drained_bytes (map line_of items) (reverse new)
 
 pub rolled_whole : (s : Inside) (m : Mark) (new : List Mark) (items : List Kept) → IsWhole s → s.marks.items ≡ new ++ m ∷ [] →

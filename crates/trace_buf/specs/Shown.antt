@@ -1,5 +1,6 @@
 -- How a trace is seen in a buffer.
 use Rattle.std.specs.Prelude.{◌≡◌, ℕ, ◌+◌, ◌-◌, ◌≤◌, List, [], ◌∷◌, length, map, take, reverse}
+use Rattle.verse_base.specs.declared.limits.TheConstants.{MOST_TRACE_BYTES}
 use Rattle.trace_buf.specs.declared.buffers.Mark.{Mark}
 use Rattle.trace_buf.specs.declared.buffers.TraceBuf.TheInside.{Inside}
 use Rattle.trace_buf.specs.Trace.{Trace, printed}
@@ -28,6 +29,6 @@ Stands gone bytes kept (m ∷ ms) =
 
 pub record IsWhole (s : Inside) : Type 0 where
   pub size : s.bytes ≡ s.drained_bytes + length (printed (map line_of s.lines.items))
-  pub limit : s.bytes ≤ 16777216
+  pub limit : s.bytes ≤ MOST_TRACE_BYTES
   pub few : s.drained_lines ≤ s.drained_bytes
   pub stands : Stands s.drained_lines s.drained_bytes (map line_of s.lines.items) (reverse s.marks.items)

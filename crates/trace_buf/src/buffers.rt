@@ -3,6 +3,7 @@
 ghost use Rattle.std.specs.Prelude.{◌≡◌, ◌≢◌, ◌+◌, ◌<◌, ◌≤◌, ◌↔◌, [], ◌∷◌, IsErrOf, OnErr, OnOk};
 ghost use Rattle.std.specs.Prelude.{length, take};
 ghost use Rattle.verse_base.specs.TraceLine.{line_bytes};
+ghost use Rattle.verse_base.specs.declared.limits.TheConstants.{MOST_TRACE_BYTES};
 ghost use Rattle.verse_outside.specs.Causes.{Rose};
 ghost use Rattle.verse_outside.specs.Held.{TookPrefix, with_more};
 ghost use Rattle.trace_buf.specs.Trace.{Trace, committed, drained, marked, outside, printed};
@@ -13,11 +14,9 @@ use crate::lines::{Kept, front, remove_front, write_lines};
 use crate::sizes::line_size;
 use std::alloc::{AllocError, AllocFailed, Global};
 use std::marker::Model;
+use verse_base::limits::MOST_TRACE_BYTES;
 use verse_base::refusals::Memory;
 use verse_outside::sinks::{Failed, Sink};
-
-/// The printed bytes that a trace may have, the drained ones counted.
-const LIMIT: u64 = 16_777_216;
 
 /// Why a line was not added.
 #[derive(Clone, Copy, Debug, PartialEq, Eq)]
@@ -95,11 +94,11 @@ impl TraceBuf {
     pub fn line(&mut self, now: u64, text: &[u8]) -> Result<(), LineFault>
         ensures added { OnOk result (self.new ≡ with_line self.old now text.now) }
         ensures full { IsErrOf result LineFault.Full ↔
-            (16777216 < printed_size self.old + length (line_bytes now text.now)) }
+            (MOST_TRACE_BYTES < printed_size self.old + length (line_bytes now text.now)) }
         ensures refused { OnErr result (self.new ≡ self.old) }
     {
         let size = line_size(now, text);
-        if size > LIMIT - self.bytes {
+        if size > MOST_TRACE_BYTES - self.bytes {
             return Err(LineFault::Full);
         }
         let text = Vec::from_slice(self.alloc, text)?;

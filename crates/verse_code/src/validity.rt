@@ -1,6 +1,7 @@
 //! When a code is valid.
 
 ghost use Rattle.std.specs.Prelude.{◌≡◌, ◌↔◌, ◌<◌, ◌≤◌, length, All, IsTrue};
+ghost use Rattle.verse_base.specs.declared.limits.TheConstants.{MOST_OPERATIONS};
 ghost use Rattle.verse_code.specs.Operations.{operands_of};
 ghost use Rattle.verse_code.specs.Validity.{
   suits_kind,
@@ -21,20 +22,17 @@ ghost use Rattle.verse_code.specs.Validity.{
 use crate::codes::{Class, Code, Func};
 use crate::operands::{Operand, OperandKind, Operands};
 use crate::tables::Table;
+use verse_base::limits::MOST_OPERATIONS;
 use verse_base::places::Place;
 
 /// The greatest number of files.
-pub const MAX_FILES: u32 = 16;
-/// The greatest number of operations.
-pub const MAX_OPERATIONS: usize = 16_777_216;
+pub const MOST_FILES: u32 = 16;
 /// The greatest length of a text, in bytes.
-pub const MAX_TEXT: usize = 3_999_999;
-/// The greatest number of locals of a function.
-pub const MAX_LOCALS: u32 = 16_777_216;
+pub const MOST_TEXT: usize = 3_999_999;
 /// The longest time that one operation waits, in milliseconds.
-pub const MAX_PAUSE: u32 = 1_000_000_000;
+pub const MOST_PAUSE: u32 = 1_000_000_000;
 /// The greatest count of a table, which is written as a number of 32 bits.
-pub const MAX_COUNT: usize = 4_294_967_295;
+pub const MOST_COUNT: usize = 4_294_967_295;
 
 /// How many there are of what operands name.
 #[derive(Clone, Copy, Debug, PartialEq, Eq)]
@@ -63,7 +61,7 @@ pub fn suits_kind(sizes: &Sizes, at: u32, kind: OperandKind, number: u32) -> boo
         OperandKind::Mode => number <= 3,
         OperandKind::Group => number <= 2,
         OperandKind::Arms => at as usize + index < sizes.ops,
-        OperandKind::Pause => number <= MAX_PAUSE,
+        OperandKind::Pause => number <= MOST_PAUSE,
     }
 }
 
@@ -107,18 +105,18 @@ pub fn is_valid(code: &Code) -> bool
 fn counts_are_valid(code: &Code) -> bool
     ensures { IsTrue result ↔ Counts code.now }
 {
-    (1..=MAX_FILES).contains(&code.files)
-        && (1..=MAX_OPERATIONS).contains(&code.ops.len())
-        && code.texts.len() <= MAX_COUNT
-        && code.places.len() <= MAX_COUNT
-        && code.functions.len() <= MAX_COUNT
-        && code.classes.len() <= MAX_COUNT
+    (1..=MOST_FILES).contains(&code.files)
+        && (1..=MOST_OPERATIONS).contains(&code.ops.len())
+        && code.texts.len() <= MOST_COUNT
+        && code.places.len() <= MOST_COUNT
+        && code.functions.len() <= MOST_COUNT
+        && code.classes.len() <= MOST_COUNT
 }
 
 fn texts_are_valid(texts: &[Table<u8>]) -> bool
     ensures { IsTrue result ↔ All IsText texts.now }
 {
-    texts.iter().all(|text| text.len() <= MAX_TEXT)
+    texts.iter().all(|text| text.len() <= MOST_TEXT)
 }
 
 fn places_are_valid(files: u32, places: &[Place]) -> bool
@@ -132,7 +130,7 @@ fn functions_are_valid(ops: usize, functions: &[Func]) -> bool
 {
     functions.iter().all(|function| {
         function.params <= function.locals
-            && function.locals <= MAX_LOCALS
+            && (function.locals as usize) <= MOST_OPERATIONS
             && (function.entry as usize) < ops
     })
 }
@@ -141,7 +139,7 @@ fn class_is_valid(functions: usize, class: &Class) -> bool
     ensures { IsTrue result ↔ IsClass functions class.now }
 {
     let methods = class.methods.as_slice();
-    methods.len() <= MAX_COUNT
+    methods.len() <= MOST_COUNT
         && methods
             .iter()
             .all(|function| (*function as usize) < functions)
@@ -175,7 +173,7 @@ fn sizes_of(code: &Code) -> Sizes
 }
 
 fn operations_are_valid(code: &Code) -> bool
-    requires { length code.now.ops ≤ MAX_OPERATIONS }
+    requires { length code.now.ops ≤ MOST_OPERATIONS }
     ensures { IsTrue result ↔ AreOperations code.now }
 {
     let sizes = sizes_of(code);

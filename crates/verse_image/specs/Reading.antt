@@ -11,6 +11,7 @@ use Rattle.verse_code.specs.declared.codes.Func.{Func}
 use Rattle.verse_code.specs.declared.codes.Class.{Class}
 use Rattle.verse_code.specs.declared.codes.Code.{Code}
 use Rattle.verse_code.specs.declared.validity.Sizes.{Sizes}
+use Rattle.verse_image.specs.declared.numbers.TheConstants.{NUMBER_END, FILES_END, OPERATIONS_END, TEXT_END}
 use Rattle.verse_code.specs.Forms.{Form, forms, shape_of, made}
 use Rattle.verse_code.specs.Validity.{suits_kind}
 use Rattle.verse_image.specs.declared.tables.Tables.{Tables}
@@ -107,20 +108,20 @@ table_at one bytes = do
 
 unfoldable pub text_at : Reader (List ℕ)
 text_at bytes = do
-  n ← within_at 0 4000000 bytes
+  n ← within_at 0 TEXT_END bytes
   if nat_lt (length n.1) n.0 then Err (flaw 3 0) else Ok (take n.0 n.1, drop n.0 n.1)
 
 unfoldable pub place_at : ℕ → Reader Place
 place_at files bytes = do
   file ← within_at 0 files bytes
-  line ← within_at 1 4294967296 file.1
-  col ← within_at 1 4294967296 line.1
+  line ← within_at 1 NUMBER_END file.1
+  col ← within_at 1 NUMBER_END line.1
   Ok (record { file = file.0; line = line.0; col = col.0 }, col.1)
 
 unfoldable pub function_at : ℕ → Reader Func
 function_at ops bytes = do
   params ← number_at bytes
-  locals ← within_at params.0 16777217 params.1
+  locals ← within_at params.0 OPERATIONS_END params.1
   entry ← within_at 0 ops locals.1
   suspends ← within_at 0 2 entry.1
   Ok (record { params = params.0; locals = locals.0; entry = entry.0; suspends = suspends.0 == 1 }, suspends.1)
@@ -216,8 +217,8 @@ unfoldable pub head_at : Reader (ℕ × ℕ × ℕ)
 head_at bytes = do
   behind ← mark_at mark (length bytes) bytes
   version ← version_at behind
-  files ← within_at 1 17 version.1
-  ops ← within_at 1 16777217 files.1
+  files ← within_at 1 FILES_END version.1
+  ops ← within_at 1 OPERATIONS_END files.1
   Ok ((version.0, files.0, ops.0), ops.1)
 
 unfoldable pub tables_at : ℕ → ℕ → Reader Tables

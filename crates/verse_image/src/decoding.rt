@@ -8,7 +8,7 @@ ghost use Rattle.verse_image.specs.Reading.{Gives, letter_at, mark_at, version_a
 ghost use Rattle.verse_image.specs.Reading.{sizes_with, code_with, ended, image_at, Tells};
 
 use crate::faults::{ImageFault, ReadFault};
-use crate::numbers::{bad, byte, within};
+use crate::numbers::{FILES_END, OPERATIONS_END, bad, byte, within};
 use crate::operations::operations;
 use crate::tables::{Tables, all_tables};
 use std::alloc::Global;
@@ -65,8 +65,8 @@ fn beginning(bytes: &[u8]) -> Result<(Head, &[u8]), ReadFault>
 {
     let rest = after_mark(bytes)?;
     let (version, rest) = version(rest)?;
-    let (files, rest) = within(1, 17, rest)?;
-    let (ops, rest) = within(1, 16_777_217, rest)?;
+    let (files, rest) = within(1, FILES_END, rest)?;
+    let (ops, rest) = within(1, OPERATIONS_END, rest)?;
     Ok((
         Head {
             version,

@@ -4,7 +4,7 @@ ghost use Rattle.std.specs.Prelude.{◌≡◌, Ok};
 ghost use Rattle.verse_image.specs.Reading.{Gives, text_at, place_at, function_at};
 
 use crate::faults::ReadFault;
-use crate::numbers::{bad, number, within};
+use crate::numbers::{NUMBER_END, OPERATIONS_END, TEXT_END, bad, number, within};
 use std::alloc::Global;
 use verse_base::places::Place;
 use verse_code::codes::Func;
@@ -15,7 +15,7 @@ use verse_code::tables::Table;
 pub fn text(alloc: Global, bytes: &[u8]) -> Result<(Table<u8>, &[u8]), ReadFault>
     ensures { Gives (λ x. (x.0, x.1.now)) result (text_at bytes.now) }
 {
-    let (count, rest) = within(0, 4_000_000, bytes)?;
+    let (count, rest) = within(0, TEXT_END, bytes)?;
     let count = count as usize;
     if rest.len() < count {
         return Err(bad(3, 0));
@@ -30,8 +30,8 @@ pub fn place(files: u32, bytes: &[u8]) -> Result<(Place, &[u8]), ReadFault>
     ensures { Gives (λ x. (x.0, x.1.now)) result (place_at files bytes.now) }
 {
     let (file, rest) = within(0, files as u64, bytes)?;
-    let (line, rest) = within(1, 4_294_967_296, rest)?;
-    let (col, rest) = within(1, 4_294_967_296, rest)?;
+    let (line, rest) = within(1, NUMBER_END, rest)?;
+    let (col, rest) = within(1, NUMBER_END, rest)?;
     Ok((Place { file, line, col }, rest))
 }
 
@@ -41,7 +41,7 @@ pub fn function(ops: u32, bytes: &[u8]) -> Result<(Func, &[u8]), ReadFault>
     ensures { Gives (λ x. (x.0, x.1.now)) result (function_at ops bytes.now) }
 {
     let (params, rest) = number(bytes)?;
-    let (locals, rest) = within(params, 16_777_217, rest)?;
+    let (locals, rest) = within(params, OPERATIONS_END, rest)?;
     let (entry, rest) = within(0, ops as u64, rest)?;
     let (suspends, rest) = within(0, 2, rest)?;
     let suspends = suspends == 1;

@@ -9,7 +9,13 @@ use crate::faults::{Flaw, ReadFault};
 /// The greatest number of bytes of a number.
 const NUMBER_BYTES: u8 = 5;
 /// What a number is below.
-const NUMBER_END: u64 = 4_294_967_296;
+pub const NUMBER_END: u64 = 4_294_967_296;
+/// What the number of files is below.
+pub const FILES_END: u64 = 17;
+/// What the number of operations is below, and that of the locals of a function.
+pub const OPERATIONS_END: u64 = 16_777_217;
+/// What the length of a text is below.
+pub const TEXT_END: u64 = 4_000_000;
 /// The greatest number of bytes of a number with a sign.
 const INTEGER_BYTES: u8 = 10;
 /// What the size of a number with a sign is below.

@@ -2,6 +2,7 @@
 use Rattle.std.specs.Prelude.{ℕ, ◌+◌, cond, nat_le, List, [], ◌∷◌, length, Option, Some, None, slice_get}
 use Rattle.std.specs.List.{flat_map}
 use Rattle.verse_base.specs.TraceLine.{line_bytes}
+use Rattle.verse_base.specs.declared.limits.TheConstants.{MOST_TRACE_BYTES}
 use Rattle.verse_base.specs.declared.refusals.Kind.TheVariants as kind
 use Rattle.verse_value.specs.Val.{Val, unit, object, event, task, array}
 use Rattle.verse_value.specs.Keys.{bytes_of}
@@ -65,7 +66,7 @@ printed lines = flat_map (λ (l : Line). line_bytes l.moment l.bytes) lines
 
 abbrev pub line_told : List ℕ → State → Effect
 line_told bytes s =
-    cond (nat_le (length (printed s.memory.trace) + length (line_bytes s.clock.now bytes)) 16777216) (gives (
+    cond (nat_le (length (printed s.memory.trace) + length (line_bytes s.clock.now bytes)) MOST_TRACE_BYTES) (gives (
       unit,
       with_line s (record {
         moment = s.clock.now;
