@@ -4,6 +4,7 @@ use Rattle.verse_base.specs.declared.refusals.Kind.TheVariants as kind
 use Rattle.verse_value.specs.Val.{Val}
 use Rattle.verse_value.specs.Store.{Store, slot_of, stored, store_weight}
 use Rattle.verse_value.specs.declared.values.Value.{Value}
+use Rattle.verse_value.specs.declared.sizes.TheConstants.{MOST_STORE_WEIGHT}
 use Rattle.verse_cells.specs.Changes.{IsWanted}
 use Rattle.verse_cells.specs.declared.slots.Wanted.{Wanted}
 use Rattle.verse_write.specs.Writes.{written}
@@ -13,7 +14,7 @@ use Rattle.verse_write.specs.declared.writes.WriteFault.TheVariants.{Fault, Stuc
 
 -- the limit of the store is looked at last
 abbrev pub limited : Store → Val → Result (Store × Val) WriteFault
-limited cells value = if nat_le (store_weight cells) 16000000 then Ok (cells, value) else Err (Fault kind.Store)
+limited cells value = if nat_le (store_weight cells) MOST_STORE_WEIGHT then Ok (cells, value) else Err (Fault kind.Store)
 
 abbrev pub with_written : Store → ℕ → ℕ → Result (Val × Val) WriteFault → Result (Store × Val) WriteFault
 with_written cells cell slot (Ok w) = limited (stored cells cell slot w.0) w.1

@@ -3,6 +3,7 @@ use Rattle.std.specs.Prelude.{ℕ, ◌≤◌, List, [], ◌∷◌}
 use Rattle.verse_value.specs.Val.{Val}
 use Rattle.verse_value.specs.Store.{Cell, Store, with_cell, stored, store_weight}
 use Rattle.verse_value.specs.declared.runs.CellKind.{CellKind}
+use Rattle.verse_value.specs.declared.sizes.TheConstants.{MOST_STORE_WEIGHT}
 
 pub record State : Type 0 where
   pub cells : Store
@@ -42,4 +43,4 @@ rolled_back s = back_to_newest s s.copies
 
 -- the sum of all weights is within the limit of a store
 abbrev pub IsLight : Store → Type 0
-IsLight cells = store_weight cells ≤ 16000000
+IsLight cells = store_weight cells ≤ MOST_STORE_WEIGHT

@@ -9,12 +9,12 @@ ghost use Rattle.tx_heap.specs.Copies.{state_of};
 ghost use Rattle.tx_heap.specs.Calls.{Allowed, AllAllowed, AfterSome, after, after_all};
 
 use crate::copy_heap::CopyHeap;
-use crate::heaps::{Heap, MOST_WEIGHT};
+use crate::heaps::Heap;
 use std::alloc::Global;
 use verse_base::refusals::Memory;
 use verse_cells::lists::Slots;
 use verse_value::runs::CellKind;
-use verse_value::sizes::weight;
+use verse_value::sizes::{MOST_STORE_WEIGHT, weight};
 use verse_value::values::{Value, copy_all};
 use verse_write::paths::Path;
 use verse_write::writes::{Mode, WriteFault};
@@ -126,7 +126,7 @@ fn may_set(copies: &CopyHeap, cell: u32, slot: u32, value: &Value) -> bool
     match copies.find(cell, slot) {
         Some(old) => {
             let others = copies.weight() - weight(old);
-            others.saturating_add(weight(value)) <= MOST_WEIGHT
+            others.saturating_add(weight(value)) <= MOST_STORE_WEIGHT
         }
         None => false,
     }

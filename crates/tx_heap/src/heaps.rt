@@ -16,13 +16,10 @@ ghost use Rattle.tx_heap.specs.Dues.{Raised, Joined, TakenOff, Spent};
 use verse_base::refusals::Memory;
 use verse_cells::slots::{Address, Wanted};
 use verse_value::runs::CellKind;
-use verse_value::sizes::cell_weight;
+use verse_value::sizes::{MOST_STORE_WEIGHT, cell_weight};
 use verse_value::values::Value;
 use verse_write::paths::Path;
 use verse_write::writes::{Mode, WriteFault};
-
-/// The greatest sum of the weights of all cells.
-pub const MOST_WEIGHT: u64 = 16000000;
 
 /// Cells by address from 0, whose changes since a mark can be undone. Marks nest.
 ///
@@ -192,7 +189,7 @@ pub trait Heap {
             (IsTrue result ↔ IsLight (with_cell (state self.now).cells
             (new_cell kind (vals_of slots.now)))) }
     {
-        self.weight().saturating_add(cell_weight(slots)) <= MOST_WEIGHT
+        self.weight().saturating_add(cell_weight(slots)) <= MOST_STORE_WEIGHT
     }
 
     /// How many marks are open.

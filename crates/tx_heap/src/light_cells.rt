@@ -16,7 +16,6 @@ ghost use Rattle.tx_heap.specs.Undo.{back, CanGoBack, Undoable, Undoing, UndoneB
 ghost use Rattle.tx_heap.specs.Rests.{RestsTouched};
 
 use crate::entries::{Entry, Mark};
-use crate::heaps::MOST_WEIGHT;
 use crate::light_list::reweighed;
 use std::alloc::Global;
 use std::marker::Model;
@@ -24,7 +23,7 @@ use verse_base::refusals::Memory;
 use verse_cells::cells::Cells;
 use verse_cells::slots::{Address, Change, Wanted};
 use verse_value::runs::CellKind;
-use verse_value::sizes::{cell_weight, weight};
+use verse_value::sizes::{MOST_STORE_WEIGHT, cell_weight, weight};
 use verse_value::values::Value;
 use verse_write::paths::Path;
 use verse_write::writes::{Mode, WriteFault};
@@ -155,7 +154,7 @@ impl LightCells {
             (val_of value))) }
         ensures same { OnErr result (store_of self.new ≡ store_of self.old) }
     {
-        let spare = MOST_WEIGHT - self.weight;
+        let spare = MOST_STORE_WEIGHT - self.weight;
         let change = self
             .cells
             .write(alloc, at, path, mode, value, spare, wanted)?;

@@ -6,19 +6,19 @@ ghost use Rattle.std.specs.Prelude.{option_map};
 ghost use Rattle.verse_value.specs.View.{val_of, vals_of};
 ghost use Rattle.verse_value.specs.Store as store;
 ghost use Rattle.verse_value.specs.Store.{slot_of, stored, with_cell, store_weight};
+ghost use Rattle.verse_value.specs.declared.sizes.TheConstants.{MOST_STORE_WEIGHT};
 ghost use Rattle.verse_write.specs.Writes.{Explains};
 ghost use Rattle.verse_cells.specs.View.{cells_of};
 ghost use Rattle.tx_heap.specs.State.{new_cell, IsLight};
 ghost use Rattle.tx_heap.specs.Outcomes.{cells_written, Lands};
 
-use crate::heaps::MOST_WEIGHT;
 use std::alloc::Global;
 use std::marker::Model;
 use verse_base::refusals::Memory;
 use verse_cells::lists::Slots;
 use verse_cells::slots::{Address, Cell, Wanted, copy_cells, find_slot, put, slot_at, write_at};
 use verse_value::runs::CellKind;
-use verse_value::sizes::{cell_weight, weight};
+use verse_value::sizes::{MOST_STORE_WEIGHT, cell_weight, weight};
 use verse_value::values::Value;
 use verse_write::paths::Path;
 use verse_write::writes::{Mode, WriteFault};
@@ -149,7 +149,7 @@ impl LightList {
             (val_of value))) }
         ensures same { OnErr result (cells_of self.new ≡ cells_of self.old) }
     {
-        let spare = MOST_WEIGHT - self.weight;
+        let spare = MOST_STORE_WEIGHT - self.weight;
         let change = write_at(
             alloc,
             self.cells.as_mut_slice(),
@@ -179,7 +179,7 @@ impl LightList {
 /// The sum where one part of it changes its weight.
 pub(crate) fn reweighed(sum: u64, before: u64, after: u64) -> u64
     requires within { before ≤ sum }
-    requires light { sum + after ≤ 16000000 + before }
+    requires light { sum + after ≤ MOST_STORE_WEIGHT + before }
     ensures { result + before ≡ sum + after }
 {
     sum - before + after

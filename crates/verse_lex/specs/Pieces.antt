@@ -8,6 +8,7 @@ use Rattle.verse_lex.specs.Marks.{doubles, singles}
 use Rattle.verse_lex.specs.Numbers.{decimal, hexadecimal, thousandths}
 use Rattle.verse_lex.specs.Texts.{escape, text_chars}
 use Rattle.verse_lex.specs.Comments.{closing}
+use Rattle.verse_lex.specs.declared.numbers.TheConstants.{MOST_DURATION}
 use Rattle.verse_lex.specs.declared.tokens.Mark.{Mark}
 use Rattle.verse_lex.specs.declared.tokens.TokenKind.{TokenKind}
 use Rattle.verse_lex.specs.declared.tokens.TokenKind.TheVariants as k
@@ -46,7 +47,7 @@ integer bs value n = if nat_le (2 ^ 63) value then Bad INTEGER 0 else ended bs (
 -- the digits before the point, and those behind it
 abbrev pub duration : List ℕ → List ℕ → List ℕ → ℕ → Next
 duration bs whole fraction n =
-    if nat_lt 3 (length fraction) || nat_lt 1000000000 (thousandths whole fraction) then Bad DURATION 0
+    if nat_lt 3 (length fraction) || nat_lt MOST_DURATION (thousandths whole fraction) then Bad DURATION 0
     else ended bs (k.Dec (thousandths whole fraction)) n
 
 -- `0x` and a hexadecimal digit

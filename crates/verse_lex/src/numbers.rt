@@ -8,6 +8,9 @@ use crate::bytes::is_digit;
 /// Numbers from here on are not told apart: 2 to the power of 63.
 const LIMIT: u128 = 0x8000_0000_0000_0000;
 
+/// The longest duration, in milliseconds.
+pub const MOST_DURATION: u128 = 1_000_000_000;
+
 /// The decimal number that goes on with these digits, if it is below 2 to the power of 63.
 #[tactic(auto, using(crate::proofs::Values::decimal_reached))]
 pub fn decimal_on(start: u64, digits: &[u8]) -> Option<u64>
@@ -75,13 +78,13 @@ pub fn in_thousandths(number: u64, decimals: usize) -> u128
 #[tactic(auto, using(crate::proofs::RuleSets::of_thousandths))]
 pub fn thousandths(whole: &[u8], fraction: &[u8]) -> Option<u64>
     requires { length fraction.now ≤ 3 }
-    ensures { MatchOption result (1000000000 < thousandths whole.now fraction.now)
-        (λ n. (n ≡ thousandths whole.now fraction.now) × (n ≤ 1000000000)) }
+    ensures { MatchOption result (MOST_DURATION < thousandths whole.now fraction.now)
+        (λ n. (n ≡ thousandths whole.now fraction.now) × (n ≤ MOST_DURATION)) }
 {
     let front = decimal_on(0, whole)?;
     let number = decimal_on(front, fraction)?;
     let value = in_thousandths(number, fraction.len());
-    if value > 1_000_000_000 {
+    if value > MOST_DURATION {
         None
     } else {
         Some(value as u64)

@@ -11,6 +11,7 @@ use Rattle.verse_lex.specs.Comments.{closes, opens, is_lone}
 use Rattle.verse_lex.specs.Pieces.{escape_of, in_literal, is_lone_at, breaks_hole, piece_at}
 use Rattle.verse_lex.specs.Contents.{token_text}
 use Rattle.verse_lex.specs.Cut.{mark_len, first_place, after, AreTokens}
+use Rattle.verse_lex.specs.declared.numbers.TheConstants.{MOST_DURATION}
 use Rattle.verse_lex.specs.declared.tokens.Token.{Token}
 use Rattle.verse_lex.specs.declared.rules.TheConstants.{UNEXPECTED, TEXT_END, COMMENT_END, ESCAPE, INTEGER, DURATION, CHARACTER}
 use Rattle.verse_lex.specs.declared.texts.Ending.{Ending}
@@ -52,7 +53,7 @@ integer_rule value = if nat_le (2 ^ 63) value then Some INTEGER else None
 
 -- the rule that a duration breaks, of these digits behind the point
 abbrev pub duration_rule : List ℕ → ℕ → Option Rule
-duration_rule fraction value = if nat_lt 3 (length fraction) || nat_lt 1000000000 value then Some DURATION else None
+duration_rule fraction value = if nat_lt 3 (length fraction) || nat_lt MOST_DURATION value then Some DURATION else None
 
 -- a number, and the rule that it breaks if it breaks one
 pub data Number : List ℕ → TokenKind → Option Rule → Type 0 where

@@ -5,6 +5,7 @@ use Rattle.verse_value.specs.Val.{Val}
 use Rattle.verse_value.specs.Store.{Cell, Store, slot_of, stored, with_cell, store_weight}
 use Rattle.verse_value.specs.Answer.{Answer, gives, fails, error, stuck, given_or}
 use Rattle.verse_value.specs.Operations.{write_at}
+use Rattle.verse_value.specs.declared.sizes.TheConstants.{MOST_STORE_WEIGHT}
 use Rattle.verse_value.specs.declared.modes.Mode.{Mode}
 
 -- what a slot holds; stuck where the cell or the slot is not there
@@ -13,11 +14,11 @@ read_slot store cell slot = given_or stuck (slot_of store cell slot)
 
 -- with one cell more, or K3
 abbrev pub add_cell : Store → Cell → Answer Store
-add_cell store c = if nat_le (store_weight (with_cell store c)) 16000000 then gives (with_cell store c) else error kind.Store
+add_cell store c = if nat_le (store_weight (with_cell store c)) MOST_STORE_WEIGHT then gives (with_cell store c) else error kind.Store
 
 -- the limit of the store is looked at last
 abbrev pub sized_store : Store → Val → Answer (Store × Val)
-sized_store store value = if nat_le (store_weight store) 16000000 then gives (store, value) else error kind.Store
+sized_store store value = if nat_le (store_weight store) MOST_STORE_WEIGHT then gives (store, value) else error kind.Store
 
 abbrev pub with_written : Store → ℕ → ℕ → Answer (Val × Val) → Answer (Store × Val)
 with_written store cell slot (gives w) = sized_store (stored store cell slot w.0) w.1

@@ -14,6 +14,9 @@ pub const MOST_WEIGHT: u64 = 4000000;
 /// The greatest number of levels of a value of a run.
 pub const MOST_LEVELS: u64 = 200;
 
+/// The greatest sum of the weights of all cells of a store.
+pub const MOST_STORE_WEIGHT: u64 = 16000000;
+
 /// How much a value weighs: a scalar, a reference, `false` and unit 1, every other value 1 and what
 /// its parts weigh, a text key of n bytes 1 + n. 18446744073709551615 where it is more. It is kept
 /// with the value, and not counted.
