@@ -2,6 +2,8 @@
 //!
 //! To be read in this order: `lists`, the slots of a cell; `slots`, what stands in one of them, and
 //! writes; `cells`, all of them by address.
+//!
+//! The public lemmas, which crates above cite, are those of `proofs/Weights` and `proofs/Stored`.
 #![tactic(auto)]
 
 pub mod cells;

@@ -2,6 +2,8 @@
 //!
 //! To be read in this order: `digits`, `pieces`, `encoding`, what is written; `faults`, `numbers`,
 //! `fields`, `tables`, `operations`, `decoding`, what is read; `laws`.
+//!
+//! The public lemmas, which crates above cite, are those of `proofs/ImageLaws`.
 #![tactic(auto)]
 
 pub mod decoding;

@@ -2,6 +2,8 @@
 //!
 //! To be read in this order: `files`, `sinks`; `chosen`, `memory_files`, `memory_sinks`, `sure`,
 //! `standard`, which are some of them.
+//!
+//! The public lemmas, which crates above cite, are those of `proofs/Taken`.
 #![tactic(auto)]
 
 mod chosen;

@@ -2,6 +2,8 @@
 //!
 //! To be read in this order: `choices`; `loops`; `cases`, patterns and what they cover; `tasks`;
 //! `returns`.
+//!
+//! The public lemmas, which crates above cite, are those of `proofs/Chosen`.
 #![tactic(auto)]
 
 pub mod cases;

@@ -4,6 +4,9 @@
 //! blocks, statements and expressions; `items`, what a file defines; `tables`, what names stand
 //! for and which types nodes have; `programs`, all three together; `laws`, what numbering means;
 //! `sizes`, the size of a program, over `instance_fields`.
+//!
+//! The public lemmas, which crates above cite, are those of `proofs/Lists`, `proofs/Order` and
+//! `proofs/Leaves`.
 #![tactic(auto)]
 
 pub mod exprs;

@@ -4,6 +4,9 @@
 //! To be read in this order: `bytes`, `keys` and `kept`, what values are made of; `values`;
 //! `equality`, `sizes`, `lookups` and `printing`, what is asked of them; `modes` and `runs`, words
 //! for those above.
+//!
+//! The public lemmas, which crates above cite, are those of `proofs/Steps`, `proofs/Seen`,
+//! `proofs/KeyPlaces`, `proofs/Stepping` and `proofs/EqualityLaw`.
 #![tactic(auto)]
 
 pub mod bytes;

@@ -2,6 +2,8 @@
 //!
 //! To be read in this order: `paths`, where a write leads; `changes`, what it does there; `writes`,
 //! the whole of it.
+//!
+//! The public lemmas, which crates above cite, are those of `proofs/Ints`.
 #![tactic(auto)]
 
 pub mod changes;

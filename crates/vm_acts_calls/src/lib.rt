@@ -4,6 +4,8 @@
 //! To be read in this order: `calling`, a new frame; `methods`, the method of an object;
 //! `deferring`, deferred blocks. Each call comes to what the machine's definition has for its
 //! operation.
+//!
+//! The public lemmas, which crates above cite, are those of `proofs/Choosing`.
 #![tactic(auto)]
 
 pub mod calling;

@@ -4,6 +4,8 @@
 //! task goes on at its group, or those above it do; `parts`, an arm or a task behind is over;
 //! `roots`, Main or a spawned task. `Arms`, `Groups` and `Overs` of specs say what these are in
 //! the machine's definition.
+//!
+//! The public lemmas, which crates above cite, are those of `proofs/Leaving`.
 #![tactic(auto)]
 
 pub mod arms;

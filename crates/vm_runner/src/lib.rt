@@ -4,6 +4,8 @@
 //! off; `moves`, to another place; `spending`, a step; `failing`, back to a handler; `answering`,
 //! with what an operation on values answers. `Views` and `Doings` of specs say what these are in
 //! the machine's definition.
+//!
+//! The public lemmas, which crates above cite, are those of `proofs/Steps`.
 #![tactic(auto)]
 
 pub mod answering;

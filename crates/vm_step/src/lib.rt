@@ -2,6 +2,8 @@
 //!
 //! To be read in this order: `served`, what an operation asks is served; `steps`, one operation.
 //! `Steps` of specs says what these are in the machine's definition.
+//!
+//! The public lemmas, which crates above cite, are those of `proofs/Starting`.
 #![tactic(auto)]
 
 pub mod served;

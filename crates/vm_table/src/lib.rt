@@ -4,6 +4,10 @@
 //! `Standing`, when a tree stands for a world; `Cancelling` and `Told`, which tasks are cancelled;
 //! `Clocks`, waits and when they are due; `Together`, what both come to; `Laws`. In proofs `Steps`,
 //! `Overs`, `Endings` and `Wakings` have a lemma for each change, over all items.
+//!
+//! The public lemmas, which crates above cite, are those of `proofs/Lists`, `proofs/Paths`,
+//! `proofs/Clocks`, `proofs/Ticks`, `proofs/Steps`, `proofs/Overs`, `proofs/Endings` and
+//! `proofs/Wakings`.
 #![tactic(auto)]
 
 ghost use Rattle.vm_table.specs.Laws.{NextIsLeast, SignalsReach, ResultsReach, NextWakes};

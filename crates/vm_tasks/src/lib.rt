@@ -2,6 +2,8 @@
 //!
 //! To be read in this order: `slots`, what the tree keeps of a task; `gone`, where the frames of
 //! cancelled tasks go; `table`, the changes of the tree.
+//!
+//! The public lemmas, which crates above cite, are those of `proofs/Endings`.
 #![tactic(auto)]
 
 pub mod gone;
