@@ -1,12 +1,13 @@
 //! The lines of a run's cells.
+
 ghost use Rattle.std.specs.Prelude.{◌≡◌, ◌++◌, ◌∷◌, OnOk, decimal};
 ghost use Rattle.verse_state.specs.Texts.{cell_line, kind_text, slots_text};
 ghost use Rattle.verse_value.specs.Texts.{text_of};
 ghost use Rattle.verse_value.specs.View.{val_of, vals_of};
 
+use crate::printing::text;
 use verse_base::refusals::Memory;
 use verse_base::texts::natural;
-use verse_value::printing::text;
 use verse_value::runs::CellKind;
 use verse_value::values::Value;
 

@@ -4,7 +4,5 @@ pub mod Sums
 pub mod KeyPlaces
 pub mod TextKeys
 pub mod Stepping
-pub mod KeyLaws
 pub mod EqualityLaw
-pub mod Texts
 pub mod RuleSets

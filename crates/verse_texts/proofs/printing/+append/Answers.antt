@@ -5,8 +5,8 @@ use Rattle.verse_value.specs.Val.{Pairs, vals}
 use Rattle.verse_value.specs.Bulk.{bulks}
 use Rattle.verse_value.specs.Texts.{pairs_text}
 use Rattle.verse_value.proofs.Seen.{item_bulk, bulks_in, rest_all, rest_bulks, as_many, zipped}
-use Rattle.verse_value.proofs.Texts.{three_parts}
-use Rattle.verse_value.proofs.printing.+append.Goals as goal
+use Rattle.verse_texts.proofs.Joined.{three_parts}
+use Rattle.verse_texts.proofs.printing.+append.Goals as goal
 
 pub append_entries-append_entry-requires-in-entries : goal.append_entries-append_entry-requires-in-entries
 append_entries-append_entry-requires-in-entries t c =

@@ -3,7 +3,7 @@ use Rattle.verse_value.specs.View.{val_of, vals_of}
 use Rattle.verse_value.specs.Bulk.{bulk, bulks, pair_bulks}
 use Rattle.verse_value.specs.Val.{vals, pairs}
 use Rattle.verse_value.specs.Texts.{rest_text, rest_pairs_text}
-use Rattle.verse_value.proofs.printing.+append.Given as goal
+use Rattle.verse_texts.proofs.printing.+append.Given as goal
 
 abbrev pub decreases-append : goal.decreases-append
 decreases-append l = 4 * bulk (val_of l.v.now)

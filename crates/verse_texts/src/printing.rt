@@ -9,12 +9,12 @@ ghost use Rattle.verse_value.specs.Texts.{text_of, list_text, pairs_text, array_
 ghost use Rattle.verse_value.specs.Texts.{entry_text, key_text, quoted, escaped, hex_digit};
 ghost use Rattle.verse_value.specs.Texts.{hex_pair, enum_text, char_text, plain, KeysAreValues};
 
-use crate::keys::Key;
-use crate::lookups::text_bytes;
-use crate::values::{Entries, Value};
 use std::alloc::Global;
 use verse_base::refusals::Memory;
 use verse_base::texts::{decimal, natural};
+use verse_value::keys::Key;
+use verse_value::lookups::text_bytes;
+use verse_value::values::{Entries, Value};
 
 /// A key is the value that it stands for, and is printed as that value.
 pub fn keys_are_values()
