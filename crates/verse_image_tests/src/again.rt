@@ -9,7 +9,7 @@ use verse_image::decoding::decode;
 use verse_image::encoding::encode;
 use verse_image::faults::ImageFault;
 
-/// What the image of a code spells: the code. `Memory` is the one fault that comes.
+/// The code that the image of a code is read as: where it is read, the same.
 pub fn read_again(alloc: Global, code: &Code) -> Result<Code, ImageFault>
     requires { Valid code.now }
     ensures { IfOk result (λ read. read ≡ code.now) }
