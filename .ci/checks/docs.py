@@ -125,7 +125,7 @@ def built_forms():
     shapes = shapes[0].split("\n")[1:] if shapes else []
     kinds = {name for line in shapes if not line.strip().startswith("--") for name in line.partition(":")[0].split()}
     kinds |= set(re.findall(r"(?m)^  (\w+) :", items.partition("pub data ItemTree")[2]))
-    built = text_of("crates/verse_built/specs/Built.antt")
+    built = text_of("crates/verse_accept_built/specs/Built.antt")
     cases = re.findall(r"(?m)^is_built_(?:shape|item) \(?(?:t\.Shape\.)?(\w+)[^=]*= (.*)$", built)
     is_built = {name: right.strip() != "false" for name, right in cases}
     other = is_built.pop("other", None)
@@ -135,7 +135,7 @@ def built_forms():
             failures.append(f"docs/LANGUAGE.md, What is built today: {kind} {'is no kind of node' if kind in told else 'is missing'}")
             continue
         now = is_built.get(kind, False)
-        check(told[kind] == now, f"docs/LANGUAGE.md, What is built today: {kind} is {'' if now else 'not '}built by verse_built/specs/Built.antt")
+        check(told[kind] == now, f"docs/LANGUAGE.md, What is built today: {kind} is {'' if now else 'not '}built by verse_accept_built/specs/Built.antt")
 
 
 def refusals():

@@ -4,9 +4,9 @@ use Rattle.std.proofs.lemmas.List.{length_push, take_at}
 use Rattle.verse_value.specs.Val.{Val}
 use Rattle.verse_value.specs.View.{val_of, vals_of}
 use Rattle.verse_value.specs.Store.{Cell, Store, slot_of, stored, with_cell}
-use Rattle.verse_write.specs.Writes.{undone}
+use Rattle.verse_value_writes.specs.Writes.{undone}
 use Rattle.verse_value.specs.declared.values.Value.{Value}
-use Rattle.verse_write.specs.declared.writes.Undo.{Undo}
+use Rattle.verse_value_writes.specs.declared.writes.Undo.{Undo}
 use Rattle.verse_cells.specs.Changes.{InCell, IsUndone, CanUndoIn}
 use Rattle.verse_cells.specs.declared.slots.Address.{Address}
 use Rattle.verse_cells.proofs.Stored.{slot_stored, stored_back}

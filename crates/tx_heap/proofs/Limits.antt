@@ -10,10 +10,11 @@ use Rattle.verse_value.specs.Sizes.{weight_of, weights}
 use Rattle.verse_value.specs.declared.values.Value.{Value}
 use Rattle.verse_value.specs.declared.runs.CellKind.{CellKind}
 use Rattle.verse_value.specs.Store.{Cell, Store, slot_of, stored, store_weight, cell_weight, with_cell}
-use Rattle.verse_write.specs.Writes.{written, Explains}
+use Rattle.verse_value_writes.specs.Writes.{written, Explains}
 use Rattle.verse_value.specs.declared.modes.Mode.{Mode}
-use Rattle.verse_write.specs.declared.writes.WriteFault.{WriteFault}
-use Rattle.verse_write.specs.declared.writes.WriteFault.TheVariants.{Memory, Fail, Fault, Stuck}
+use Rattle.verse_value_writes.specs.declared.writes.WriteFault.{WriteFault}
+use Rattle.verse_value_writes.specs.declared.writes.WriteFault.TheVariants.{Memory, Fail, Fault}
+use Rattle.verse_value_writes.specs.declared.writes.WriteFault.TheVariants.{Stuck}
 use Rattle.verse_cells.specs.Changes.{spared, slot_written, IsWrite, InCell}
 use Rattle.verse_cells.specs.declared.slots.Change.{Change}
 use Rattle.verse_cells.specs.declared.slots.Wanted.{Wanted}

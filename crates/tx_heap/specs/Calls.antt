@@ -3,7 +3,7 @@ use Rattle.std.specs.Prelude.{◌≡◌, ◌≢◌, ◌<◌, ◌≤◌, ℕ, Lis
 use Rattle.verse_value.specs.Val.{Val}
 use Rattle.verse_value.specs.View.{val_of, vals_of}
 use Rattle.verse_value.specs.Store.{Store, slot_of, stored, with_cell}
-use Rattle.verse_write.specs.declared.writes.WriteFault.{WriteFault}
+use Rattle.verse_value_writes.specs.declared.writes.WriteFault.{WriteFault}
 use Rattle.tx_heap.specs.State.{State, new_cell, with_new, with_slot, marked, committed, rolled_back, IsLight}
 use Rattle.tx_heap.specs.Outcomes.{cells_written}
 use Rattle.tx_heap.specs.declared.calls.Call.{Call}

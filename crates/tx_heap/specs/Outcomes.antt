@@ -7,10 +7,10 @@ use Rattle.verse_value.specs.declared.values.Value.{Value}
 use Rattle.verse_value.specs.declared.sizes.TheConstants.{MOST_STORE_WEIGHT}
 use Rattle.verse_cells.specs.Changes.{IsWanted}
 use Rattle.verse_cells.specs.declared.slots.Wanted.{Wanted}
-use Rattle.verse_write.specs.Writes.{written}
+use Rattle.verse_value_writes.specs.Writes.{written}
 use Rattle.verse_value.specs.declared.modes.Mode.{Mode}
-use Rattle.verse_write.specs.declared.writes.WriteFault.{WriteFault}
-use Rattle.verse_write.specs.declared.writes.WriteFault.TheVariants.{Fault, Stuck}
+use Rattle.verse_value_writes.specs.declared.writes.WriteFault.{WriteFault}
+use Rattle.verse_value_writes.specs.declared.writes.WriteFault.TheVariants.{Fault, Stuck}
 
 -- the limit of the store is looked at last
 abbrev pub limited : Store → Val → Result (Store × Val) WriteFault

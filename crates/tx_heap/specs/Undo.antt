@@ -3,8 +3,8 @@ use Rattle.std.specs.Prelude.{◌≡◌, Option, Some, None, IsSome, ◌<◌, �
 use Rattle.verse_value.specs.Val.{Val}
 use Rattle.verse_value.specs.View.{val_of, vals_of}
 use Rattle.verse_value.specs.Store.{Store, slot_of, stored}
-use Rattle.verse_write.specs.Writes.{undone, CanUndo}
-use Rattle.verse_write.specs.declared.writes.Undo.{Undo}
+use Rattle.verse_value_writes.specs.Writes.{undone, CanUndo}
+use Rattle.verse_value_writes.specs.declared.writes.Undo.{Undo}
 use Rattle.verse_cells.specs.declared.slots.Address.{Address}
 use Rattle.verse_cells.specs.Changes.{CanUndoIn, without_last}
 use Rattle.verse_cells.specs.Held.{Held, store_of}

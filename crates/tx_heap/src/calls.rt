@@ -16,8 +16,8 @@ use verse_cells::lists::Slots;
 use verse_value::runs::CellKind;
 use verse_value::sizes::{MOST_STORE_WEIGHT, weight};
 use verse_value::values::{Value, copy_all};
-use verse_write::paths::Path;
-use verse_write::writes::{Mode, WriteFault};
+use verse_value_writes::paths::Path;
+use verse_value_writes::writes::{Mode, WriteFault};
 
 /// A call that changes a heap.
 #[derive(Drop)]

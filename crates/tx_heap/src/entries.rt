@@ -2,8 +2,8 @@
 
 use verse_cells::slots::Address;
 use verse_value::values::Value;
-use verse_write::paths::Path;
-use verse_write::writes::Undo;
+use verse_value_writes::paths::Path;
+use verse_value_writes::writes::Undo;
 
 /// What undoes one change.
 #[derive(Drop)]

@@ -7,7 +7,7 @@ ghost use Rattle.verse_value.specs.declared.runs.CellKind.{CellKind};
 ghost use Rattle.std.specs.Io.BufRead.{Rests};
 ghost use Rattle.verse_value.specs.View.{val_of, vals_of};
 ghost use Rattle.verse_value.specs.Store.{Cell, slot_of, stored, with_cell, store_weight};
-ghost use Rattle.verse_write.specs.Writes.{Explains};
+ghost use Rattle.verse_value_writes.specs.Writes.{Explains};
 ghost use Rattle.tx_heap.specs.State.{State, new_cell, with_new, with_slot, marked, committed};
 ghost use Rattle.tx_heap.specs.State.{rolled_back, IsLight};
 ghost use Rattle.tx_heap.specs.Outcomes.{cells_written, cells_after, Lands};
@@ -18,8 +18,8 @@ use verse_cells::slots::{Address, Wanted};
 use verse_value::runs::CellKind;
 use verse_value::sizes::{MOST_STORE_WEIGHT, cell_weight};
 use verse_value::values::Value;
-use verse_write::paths::Path;
-use verse_write::writes::{Mode, WriteFault};
+use verse_value_writes::paths::Path;
+use verse_value_writes::writes::{Mode, WriteFault};
 
 /// Cells by address from 0, whose changes since a mark can be undone. Marks nest.
 ///
@@ -56,8 +56,8 @@ pub trait Heap {
         ensures due { OnOk result (Raised 2 (dues self.old) (dues self.new)) }
         ensures same_dues { OnErr result (dues self.new ≡ dues self.old) };
 
-    /// Writes at a path in a slot, as `verse_write::writes::write` does, and hands back what is
-    /// wanted of the value written. The cell and the slot are there.
+    /// Writes at a path in a slot, as `verse_value_writes::writes::write` does, and hands back what
+    /// is wanted of the value written. The cell and the slot are there.
     ///
     /// The refusals are those of that call, and last `Fault(Kind::Store)`, exactly where the cells
     /// would weigh more than 16000000 in all.

@@ -6,7 +6,7 @@ ghost use Rattle.std.specs.Borrow.{sem};
 ghost use Rattle.verse_value.specs.View.{val_of, vals_of};
 ghost use Rattle.verse_value.specs.Store as store;
 ghost use Rattle.verse_value.specs.Store.{slot_of, stored, with_cell, store_weight};
-ghost use Rattle.verse_write.specs.Writes.{Explains};
+ghost use Rattle.verse_value_writes.specs.Writes.{Explains};
 ghost use Rattle.verse_cells.specs.Changes.{InCell};
 ghost use Rattle.verse_cells.specs.Held.{store_of, touched};
 ghost use Rattle.tx_heap.specs.State.{new_cell, IsLight};
@@ -25,8 +25,8 @@ use verse_cells::slots::{Address, Change, Wanted};
 use verse_value::runs::CellKind;
 use verse_value::sizes::{MOST_STORE_WEIGHT, cell_weight, weight};
 use verse_value::values::Value;
-use verse_write::paths::Path;
-use verse_write::writes::{Mode, WriteFault};
+use verse_value_writes::paths::Path;
+use verse_value_writes::writes::{Mode, WriteFault};
 
 /// Counted cells with the sum of their weights, which is at most 16000000.
 #[derive(Drop)]

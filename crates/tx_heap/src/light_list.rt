@@ -7,7 +7,7 @@ ghost use Rattle.verse_value.specs.View.{val_of, vals_of};
 ghost use Rattle.verse_value.specs.Store as store;
 ghost use Rattle.verse_value.specs.Store.{slot_of, stored, with_cell, store_weight};
 ghost use Rattle.verse_value.specs.declared.sizes.TheConstants.{MOST_STORE_WEIGHT};
-ghost use Rattle.verse_write.specs.Writes.{Explains};
+ghost use Rattle.verse_value_writes.specs.Writes.{Explains};
 ghost use Rattle.verse_cells.specs.View.{cells_of};
 ghost use Rattle.tx_heap.specs.State.{new_cell, IsLight};
 ghost use Rattle.tx_heap.specs.Outcomes.{cells_written, Lands};
@@ -20,8 +20,8 @@ use verse_cells::slots::{Address, Cell, Wanted, copy_cells, find_slot, put, slot
 use verse_value::runs::CellKind;
 use verse_value::sizes::{MOST_STORE_WEIGHT, cell_weight, weight};
 use verse_value::values::Value;
-use verse_write::paths::Path;
-use verse_write::writes::{Mode, WriteFault};
+use verse_value_writes::paths::Path;
+use verse_value_writes::writes::{Mode, WriteFault};
 
 /// Cells with the sum of their weights, which is at most 16000000.
 #[derive(Drop)]

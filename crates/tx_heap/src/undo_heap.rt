@@ -11,8 +11,8 @@ use verse_base::refusals::Memory;
 use verse_cells::slots::{Address, Change, Wanted};
 use verse_value::runs::CellKind;
 use verse_value::values::Value;
-use verse_write::paths::Path;
-use verse_write::writes::{Mode, WriteFault};
+use verse_value_writes::paths::Path;
+use verse_value_writes::writes::{Mode, WriteFault};
 
 /// A heap that keeps what undoes each change since its oldest open mark.
 #[derive(Drop)]

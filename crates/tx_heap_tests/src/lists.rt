@@ -8,8 +8,8 @@ use verse_value::bytes::Bytes;
 use verse_value::keys::Key;
 use verse_value::runs::CellKind;
 use verse_value::values::{Entries, Value};
-use verse_write::paths::Path;
-use verse_write::writes::Mode;
+use verse_value_writes::paths::Path;
+use verse_value_writes::writes::Mode;
 
 /// Adds a variable.
 pub fn variable(alloc: Global, value: Value) -> Result<Call, Memory> {

@@ -19,8 +19,8 @@ use verse_cells::slots::{Address, Change, Wanted};
 use verse_value::equality::equal;
 use verse_value::runs::CellKind;
 use verse_value::values::Value;
-use verse_write::paths::Path;
-use verse_write::writes::{Mode, WriteFault};
+use verse_value_writes::paths::Path;
+use verse_value_writes::writes::{Mode, WriteFault};
 
 /// A variable that holds 1, at the address 0.
 fn one_variable(alloc: Global) -> Result<Cells, Memory>

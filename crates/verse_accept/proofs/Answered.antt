@@ -12,11 +12,11 @@ use Rattle.verse_tree.specs.ItemTree.{ItemTree}
 use Rattle.verse_tree.specs.PostOrder.{program_order}
 use Rattle.verse_grammar.specs.Toks.{ahead}
 use Rattle.verse_expr.specs.Faults.{stop_rule}
-use Rattle.verse_least.proofs.Refusals.{refused_once}
-use Rattle.verse_items.specs.Nodes.{places_in}
+use Rattle.verse_rules_least.proofs.Refusals.{refused_once}
+use Rattle.verse_names_items.specs.Nodes.{places_in}
 use Rattle.verse_names.specs.Breaking.{NamesBreak}
-use Rattle.verse_sound.proofs.Once.{mistyped_breaks, mistyped_once}
-use Rattle.verse_built.specs.Built.{first_unbuilt}
+use Rattle.verse_rules.proofs.Once.{mistyped_breaks, mistyped_once}
+use Rattle.verse_accept_built.specs.Built.{first_unbuilt}
 use Rattle.verse_accept.specs.Stages.{OneResult, followed, in_turn}
 use Rattle.verse_accept.specs.Fronts.{Cut, Laid, sized, cutting, laying, spelling, joining, naming, typing, bounding, building, testing}
 use Rattle.verse_accept.specs.Fronts.{to_sized, to_cut, to_laid, to_spelled, to_joined, front_end, IsStuck, tok_place, refusal}

@@ -3,8 +3,8 @@ use Rattle.std.proofs.Common.{◌≡◌, ◌≤◌, List, None, inl, inr, refl}
 use Rattle.verse_base.specs.declared.refusals.Refusal.{Refusal}
 use Rattle.verse_tree.specs.ItemTree.{ItemTree}
 use Rattle.verse_tree.specs.PostOrder.{program_order}
-use Rattle.verse_built.specs.Built.{first_unbuilt}
-use Rattle.verse_sound.specs.Sound.{IsSound, IsUnsound, size_of, most_size}
+use Rattle.verse_accept_built.specs.Built.{first_unbuilt}
+use Rattle.verse_rules.specs.Sound.{IsSound, IsUnsound, size_of, most_size}
 use Rattle.verse_accept.specs.Fronts.{bounding, building, testing}
 
 pub all_fine : (is : List ItemTree) → IsSound is → size_of is ≤ most_size → first_unbuilt (program_order is) ≡ None → testing.makes is is

@@ -19,8 +19,8 @@ use Rattle.verse_expr.specs.Faults.{stop_rule}
 use Rattle.verse_tree.specs.PostOrder.{program_order, program_place}
 use Rattle.verse_tree.specs.Numbering.{items_numbered}
 use Rattle.verse_names.specs.Breaking.{NamesBreak, IsMisnamed}
-use Rattle.verse_sound.specs.Sound.{BodiesBreak, IsMistyped, size_of, most_size}
-use Rattle.verse_built.specs.Built.{first_unbuilt}
+use Rattle.verse_rules.specs.Sound.{BodiesBreak, IsMistyped, size_of, most_size}
+use Rattle.verse_accept_built.specs.Built.{first_unbuilt}
 use Rattle.verse_accept.specs.Stages.{Stage, followed, in_turn, OneResult}
 
 -- the toks go on up to this one, or to their end, and not further

@@ -17,12 +17,12 @@ use verse_base::limits::MOST_FILE_BYTES;
 use verse_base::places::Place;
 use verse_base::refusals::{Front, Refusal};
 use verse_expr::faults::ParseFault;
-use verse_item_handles::items::ItemTrees;
 use verse_layout::layouts::layout;
 use verse_layout::toks::Tok;
 use verse_lex::tokens::Token;
 use verse_lex::{lex, place_at};
 use verse_parse::parse;
+use verse_tree_items::items::ItemTrees;
 
 /// A file that is cut into tokens.
 #[derive(Drop)]

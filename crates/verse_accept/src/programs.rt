@@ -8,23 +8,23 @@ ghost use Rattle.verse_base.specs.declared.refusals.Front.TheVariants as front;
 ghost use Rattle.verse_tree.specs.ItemView.{item_of};
 ghost use Rattle.verse_tree.specs.Numbering.{program_nodes};
 ghost use Rattle.verse_tree.specs.PostOrder.{program_place};
-ghost use Rattle.verse_items.specs.Nodes.{IsNumbered};
-ghost use Rattle.verse_sound.specs.Sound.{completed, most_size, size_of, types_of};
-ghost use Rattle.verse_types.specs.Types.{ty_of};
+ghost use Rattle.verse_names_items.specs.Nodes.{IsNumbered};
+ghost use Rattle.verse_rules.specs.Sound.{completed, most_size, size_of, types_of};
+ghost use Rattle.verse_rules_types.specs.Types.{ty_of};
 ghost use Rattle.verse_accept.specs.Fronts.{Accepts, AcceptedOnce, IsRefused, refusal, testing};
 ghost use Rattle.verse_accept.specs.Fronts.{to_spelled, to_joined};
 
 use crate::turns::{cut_all, lay_all, spell_all, too_large};
 use std::alloc::Global;
+use verse_accept_built::unbuilt;
 use verse_base::places::Place;
 use verse_base::refusals::{Front, Refusal, Rule};
-use verse_built::unbuilt;
-use verse_item_handles::items::ProgramTree;
 use verse_join::join;
-use verse_sound::programs::{Checked, check_program};
-use verse_sound::sizes::{MOST_SIZE, program_size};
+use verse_rules::programs::{Checked, check_program};
+use verse_rules::sizes::{MOST_SIZE, program_size};
 use verse_tree::items::Tree;
 use verse_tree::tables::Names;
+use verse_tree_items::items::ProgramTree;
 
 /// E098: a program is too large.
 const TOO_LARGE: Rule = Rule(98);

@@ -17,7 +17,7 @@ use std::alloc::Global;
 use verse_base::limits::MOST_FILE_BYTES;
 use verse_base::places::Place;
 use verse_base::refusals::{Front, Refusal, Rule};
-use verse_item_handles::items::ItemTrees;
+use verse_tree_items::items::ItemTrees;
 
 /// E002: a file has more bytes than a file may have.
 const TOO_LARGE: Rule = Rule(2);

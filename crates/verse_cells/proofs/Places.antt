@@ -11,7 +11,7 @@ use Rattle.verse_value.specs.Store as store
 use Rattle.verse_value.specs.Store.{Store, slot_of, stored, with_slot, with_cell_slot}
 use Rattle.verse_value.specs.declared.values.Value.{Value}
 use Rattle.verse_value.specs.declared.runs.CellKind.{CellKind}
-use Rattle.verse_write.specs.declared.writes.Undo.{Undo}
+use Rattle.verse_value_writes.specs.declared.writes.Undo.{Undo}
 use Rattle.verse_cells.specs.View.{cell_of, cells_of}
 use Rattle.verse_cells.specs.Changes.{InSlot, InCell, CanUndoIn}
 use Rattle.verse_cells.specs.declared.slots.Cell.{Cell}

@@ -5,9 +5,9 @@ use Rattle.verse_base.specs.declared.refusals.Kind.TheVariants as kind
 use Rattle.verse_value.specs.Val.{Val}
 use Rattle.verse_value.specs.Sizes.{weight_of}
 use Rattle.verse_value.specs.declared.modes.Mode.{Mode}
-use Rattle.verse_write.specs.Writes.{written, slot_after}
-use Rattle.verse_write.specs.declared.writes.WriteFault.{WriteFault}
-use Rattle.verse_write.specs.declared.writes.WriteFault.TheVariants.{Fault}
+use Rattle.verse_value_writes.specs.Writes.{written, slot_after}
+use Rattle.verse_value_writes.specs.declared.writes.WriteFault.{WriteFault}
+use Rattle.verse_value_writes.specs.declared.writes.WriteFault.TheVariants.{Fault}
 use Rattle.verse_cells.specs.Changes.{IsWanted, spared}
 use Rattle.verse_cells.specs.declared.slots.Wanted.{Wanted}
 use Rattle.verse_cells.specs.declared.slots.Wanted.TheVariants.{Copy, Nothing}

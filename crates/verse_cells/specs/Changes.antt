@@ -6,11 +6,11 @@ use Rattle.verse_value.specs.Val.{Val}
 use Rattle.verse_value.specs.View.{val_of}
 use Rattle.verse_value.specs.Sizes.{weight_of}
 use Rattle.verse_value.specs.Store.{Store, slot_of, stored}
-use Rattle.verse_write.specs.Writes.{written, undone, CanUndo}
+use Rattle.verse_value_writes.specs.Writes.{written, undone, CanUndo}
 use Rattle.verse_value.specs.declared.modes.Mode.{Mode}
-use Rattle.verse_write.specs.declared.writes.Undo.{Undo}
-use Rattle.verse_write.specs.declared.writes.WriteFault.{WriteFault}
-use Rattle.verse_write.specs.declared.writes.WriteFault.TheVariants.{Fault, Stuck}
+use Rattle.verse_value_writes.specs.declared.writes.Undo.{Undo}
+use Rattle.verse_value_writes.specs.declared.writes.WriteFault.{WriteFault}
+use Rattle.verse_value_writes.specs.declared.writes.WriteFault.TheVariants.{Fault, Stuck}
 use Rattle.verse_value.specs.declared.values.Value.{Value}
 use Rattle.verse_cells.specs.declared.slots.Change.{Change}
 use Rattle.verse_cells.specs.declared.slots.Wanted.{Wanted}

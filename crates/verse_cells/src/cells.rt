@@ -6,7 +6,7 @@ ghost use Rattle.std.specs.Borrow.{sem};
 ghost use Rattle.verse_value.specs.View.{val_of, vals_of};
 ghost use Rattle.verse_value.specs.Store as store;
 ghost use Rattle.verse_value.specs.Store.{slot_of, stored, with_cell};
-ghost use Rattle.verse_write.specs.Writes.{Explains};
+ghost use Rattle.verse_value_writes.specs.Writes.{Explains};
 ghost use Rattle.verse_cells.specs.View.{cell_of};
 ghost use Rattle.verse_cells.specs.Held.{store_of, counted, touched};
 ghost use Rattle.verse_cells.specs.Changes.{slot_written, IsWrite, IsUndone, InCell, CanUndoIn};
@@ -20,8 +20,8 @@ use std::marker::Model;
 use verse_base::refusals::Memory;
 use verse_value::runs::CellKind;
 use verse_value::values::Value;
-use verse_write::paths::Path;
-use verse_write::writes::{Mode, Undo, WriteFault};
+use verse_value_writes::paths::Path;
+use verse_value_writes::writes::{Mode, Undo, WriteFault};
 
 /// Cells by address from 0, and how often one of them was accessed. The count stands at
 /// 18446744073709551615.

@@ -5,7 +5,7 @@ ghost use Rattle.std.specs.Prelude.{IfErr, OnErr, slice_get, slice_set};
 ghost use Rattle.verse_value.specs.View.{val_of, vals_of};
 ghost use Rattle.verse_value.specs.Store.{slot_of, stored};
 ghost use Rattle.verse_value.specs.Val.{Val};
-ghost use Rattle.verse_write.specs.Writes.{written, undone, CanUndo, Explains};
+ghost use Rattle.verse_value_writes.specs.Writes.{written, undone, CanUndo, Explains};
 ghost use Rattle.verse_cells.specs.View.{cells_of};
 ghost use Rattle.verse_cells.specs.Changes.{IsWanted, spared, slot_written, IsWrite, IsUndone};
 ghost use Rattle.verse_cells.specs.Changes.{InSlot, InCell, CanUndoIn};
@@ -17,8 +17,10 @@ use verse_base::refusals::{Kind, Memory};
 use verse_value::runs::CellKind;
 use verse_value::sizes::weight;
 use verse_value::values::{Value, copy_all};
-use verse_write::paths::Path;
-use verse_write::writes::{self, Mode, Undo, WriteFault, Written, store_logged, write_logged};
+use verse_value_writes::paths::Path;
+use verse_value_writes::writes::{
+    self, Mode, Undo, WriteFault, Written, store_logged, write_logged,
+};
 
 /// A cell of a store: what it is, and what its slots hold.
 #[derive(Drop)]
@@ -91,8 +93,8 @@ fn put_part(slots: &mut Slots<Value>, slot: u32, value: Value) -> Value
     mem::replace(slots.part_mut(slot as usize), value)
 }
 
-/// Writes at a path in a slot, as `verse_write::writes::write_logged` does, or, where no copy of
-/// the value written is wanted, as `store_logged`. The cell and the slot are there.
+/// Writes at a path in a slot, as `verse_value_writes::writes::write_logged` does, or, where no
+/// copy of the value written is wanted, as `store_logged`. The cell and the slot are there.
 ///
 /// The refusals are those of that call, and then `Fault(Kind::Store)` where the slot would weigh
 /// more than `spare` above what it weighs. After each refusal the cells are unchanged.

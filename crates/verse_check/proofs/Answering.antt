@@ -5,18 +5,18 @@ use Rattle.verse_tree.specs.Tree.{Bytes}
 use Rattle.verse_tree.specs.ItemTree.{ItemTree}
 use Rattle.verse_tree.specs.PostOrder.{What, program, item, member, parameter, type_name, expression}
 use Rattle.verse_tree.specs.declared.tables.Names.{Names}
-use Rattle.verse_types.specs.Types.{Ty}
-use Rattle.verse_least.specs.Least.{Finds, first_true, ascends}
-use Rattle.verse_least.proofs.Least.{first_finds, least_kept, placed_kept}
-use Rattle.verse_walk.specs.Around.{Around}
-use Rattle.verse_walk.specs.Nodes.{Node, number_of, place_of, items_nodes}
-use Rattle.verse_walk.specs.Order.{AreNumbered}
-use Rattle.verse_walk.proofs.Order.{numbers_rise}
-use Rattle.verse_outline.specs.Known.{known}
-use Rattle.verse_outline.specs.Lines.{Members}
-use Rattle.verse_rows.specs.Facts.{World, Facts, class_members, enum_values, world_of}
-use Rattle.verse_rows.specs.Steps.{Sight, facts, own_rules, rules_at, type_by, own, serves_as, cut, served, judge, step, Breaks, begun}
-use Rattle.verse_rows.specs.Steps.{seen}
+use Rattle.verse_rules_types.specs.Types.{Ty}
+use Rattle.verse_rules_least.specs.Least.{Finds, first_true, ascends}
+use Rattle.verse_rules_least.proofs.Least.{first_finds, least_kept, placed_kept}
+use Rattle.verse_rules_walk.specs.Around.{Around}
+use Rattle.verse_rules_walk.specs.Nodes.{Node, number_of, place_of, items_nodes}
+use Rattle.verse_rules_walk.specs.Order.{AreNumbered}
+use Rattle.verse_rules_walk.proofs.Order.{numbers_rise}
+use Rattle.verse_names_declarations.specs.Known.{known}
+use Rattle.verse_names_declarations.specs.Lines.{Members}
+use Rattle.verse_check_typing.specs.Facts.{World, Facts, class_members, enum_values, world_of}
+use Rattle.verse_check_typing.specs.Steps.{Sight, facts, own_rules, rules_at, type_by, own, serves_as, cut, served, judge, step, Breaks, begun}
+use Rattle.verse_check_typing.specs.Steps.{seen}
 use Rattle.verse_check.specs.Checking.{world_by, all_seen, TellsTypes}
 
 cut_code : (t : Ty) (o : Option ℕ) → (cut t o).code ≡ o

@@ -4,11 +4,11 @@ use Rattle.std.specs.Prelude.{Some}
 use Rattle.std.proofs.lemmas.Option.{same_Some}
 use Rattle.verse_tree.specs.ItemTree.{ItemTree}
 use Rattle.verse_tree.specs.declared.tables.Names.{Names}
-use Rattle.verse_types.specs.Types.{Ty}
-use Rattle.verse_least.specs.Least.{each}
-use Rattle.verse_walk.specs.Nodes.{Node, items_nodes}
-use Rattle.verse_rows.specs.Facts.{World, world_of}
-use Rattle.verse_rows.specs.Steps.{Sight, facts, judge, step, begun, seen}
+use Rattle.verse_rules_types.specs.Types.{Ty}
+use Rattle.verse_rules_least.specs.Least.{each}
+use Rattle.verse_rules_walk.specs.Nodes.{Node, items_nodes}
+use Rattle.verse_check_typing.specs.Facts.{World, world_of}
+use Rattle.verse_check_typing.specs.Steps.{Sight, facts, judge, step, begun, seen}
 use Rattle.verse_check.specs.Checking.{all_seen, AreTypesOf}
 
 get_more : (ts : List Ty) (u t : Ty) (n : ℕ) → slice_get ts n ≡ Some t → slice_get (ts ++ u ∷ []) n ≡ Some t

@@ -3,12 +3,13 @@ use Rattle.std.specs.Prelude.{◌≡◌, ℕ, List, take, Option, Some, slice_ge
 use Rattle.verse_tree.specs.Tree.{Bytes}
 use Rattle.verse_tree.specs.ItemTree.{ItemTree}
 use Rattle.verse_tree.specs.declared.tables.Names.{Names}
-use Rattle.verse_types.specs.Types.{Ty}
-use Rattle.verse_least.specs.declared.faults.Fault.{Fault}
-use Rattle.verse_outline.specs.Lines.{Members}
-use Rattle.verse_walk.specs.Nodes.{Node, items_nodes}
-use Rattle.verse_rows.specs.Facts.{World, world_of}
-use Rattle.verse_rows.specs.Steps.{Sight, facts, judge, seen, BreaksAt, Answers, IsLeastBroken}
+use Rattle.verse_rules_types.specs.Types.{Ty}
+use Rattle.verse_rules_least.specs.declared.faults.Fault.{Fault}
+use Rattle.verse_names_declarations.specs.Lines.{Members}
+use Rattle.verse_rules_walk.specs.Nodes.{Node, items_nodes}
+use Rattle.verse_check_typing.specs.Facts.{World, world_of}
+use Rattle.verse_check_typing.specs.Steps.{Sight, facts, judge, seen, BreaksAt, Answers}
+use Rattle.verse_check_typing.specs.Steps.{IsLeastBroken}
 
 -- the tables of a program by their parts
 abbrev pub world_by : Names → List Members → List (List Bytes) → World

@@ -1,8 +1,8 @@
 -- What the pass has seen, as the definitions see it.
 use Rattle.std.specs.Prelude.{map}
-use Rattle.verse_types.specs.Types.{ty_of}
-use Rattle.verse_rows.specs.Steps.{Sight}
-use Rattle.verse_rows.specs.Views.{numbers_of}
+use Rattle.verse_rules_types.specs.Types.{ty_of}
+use Rattle.verse_check_typing.specs.Steps.{Sight}
+use Rattle.verse_check_typing.specs.Views.{numbers_of}
 use Rattle.verse_check.specs.declared.seen.Seen.{Seen}
 
 abbrev pub sight_of : Seen → Sight

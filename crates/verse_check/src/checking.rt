@@ -7,20 +7,22 @@ ghost use Rattle.verse_base.specs.declared.refusals.Front.TheVariants as front;
 ghost use Rattle.verse_tree.specs.View.{tree_of, shape_of};
 ghost use Rattle.verse_tree.specs.PostOrder.{type_name, expression};
 ghost use Rattle.verse_tree.specs.ItemView.{param_of, member_of, item_of};
-ghost use Rattle.verse_types.specs.Types.{ty_of};
-ghost use Rattle.verse_least.specs.declared.faults.Fault.{Fault};
-ghost use Rattle.verse_least.specs.Least.{refusal_of};
-ghost use Rattle.verse_outline.specs.Lines.{members_view};
-ghost use Rattle.verse_walk.specs.Nodes.{node, param_node, member_node, item_node, items_nodes};
-ghost use Rattle.verse_walk.specs.Order.{AreNumbered};
-ghost use Rattle.verse_walk.specs.Passes.{tree_node};
-ghost use Rattle.verse_walk.specs.Through.{through_items};
-ghost use Rattle.verse_walk.specs.Views.{around_of};
-ghost use Rattle.verse_rows.specs.Steps.{Sight, seen, facts, shape_ref, shape_defines, noted, step};
-ghost use Rattle.verse_rows.specs.Steps.{begun};
-ghost use Rattle.verse_judging.specs.Codes.{of_expression};
-ghost use Rattle.verse_rows.specs.Facts.{named_ref};
-ghost use Rattle.verse_rows.specs.Views.{world_of, judged_of, names_of};
+ghost use Rattle.verse_rules_types.specs.Types.{ty_of};
+ghost use Rattle.verse_rules_least.specs.declared.faults.Fault.{Fault};
+ghost use Rattle.verse_rules_least.specs.Least.{refusal_of};
+ghost use Rattle.verse_names_declarations.specs.Lines.{members_view};
+ghost use Rattle.verse_rules_walk.specs.Nodes.{node, param_node, member_node, item_node};
+ghost use Rattle.verse_rules_walk.specs.Nodes.{items_nodes};
+ghost use Rattle.verse_rules_walk.specs.Order.{AreNumbered};
+ghost use Rattle.verse_rules_walk.specs.Passes.{tree_node};
+ghost use Rattle.verse_rules_walk.specs.Through.{through_items};
+ghost use Rattle.verse_rules_walk.specs.Views.{around_of};
+ghost use Rattle.verse_check_typing.specs.Steps.{Sight, seen, facts, shape_ref, shape_defines};
+ghost use Rattle.verse_check_typing.specs.Steps.{noted, step};
+ghost use Rattle.verse_check_typing.specs.Steps.{begun};
+ghost use Rattle.verse_check_nodes.specs.Codes.{of_expression};
+ghost use Rattle.verse_check_typing.specs.Facts.{named_ref};
+ghost use Rattle.verse_check_typing.specs.Views.{world_of, judged_of, names_of};
 ghost use Rattle.verse_check.specs.Checking.{world_by, all_seen, AreTypesOf, TypesBreak};
 ghost use Rattle.verse_check.specs.Checking.{TellsTypes, IsLeastMistyped};
 ghost use Rattle.verse_check.specs.Views.{sight_of};
@@ -30,23 +32,23 @@ use sqlite_items::Items;
 use std::alloc::Global;
 use verse_base::places::Place;
 use verse_base::refusals::{Front, Memory};
-use verse_judging::nodes::{
+use verse_check_members::tables::make_tables;
+use verse_check_nodes::nodes::{
     defines_variable, form_ref, judge_expr, judge_item, judge_member, judge_name, judge_param,
     loop_left,
 };
-use verse_least::faults::{Fault, refusal};
-use verse_outline::members::Members;
-use verse_rows::judged::Judged;
-use verse_rows::sets::NameSet;
-use verse_rows::worlds::World;
+use verse_check_typing::judged::Judged;
+use verse_check_typing::sets::NameSet;
+use verse_check_typing::worlds::World;
+use verse_names_declarations::members::Members;
+use verse_rules_least::faults::{Fault, refusal};
+use verse_rules_walk::arounds::Around;
+use verse_rules_walk::items::walk_items;
+use verse_rules_walk::passes::{Part, Pass};
 use verse_tree::exprs::{Expr, Form};
 use verse_tree::items::{Item, Member, Param, Tree};
 use verse_tree::tables::{Names, Ref, Ty};
 use verse_tree::types::TyName;
-use verse_walk::arounds::Around;
-use verse_walk::items::walk_items;
-use verse_walk::passes::{Part, Pass};
-use verse_worlds::tables::make_tables;
 
 /// The pass: the tables of the program.
 #[derive(Drop)]
@@ -78,7 +80,7 @@ impl<'a> TypesPass<'a> {
         seen.add(number, place, judged, refers, defines_variable(form))
     }
 
-    #[tactic(auto, unfolding(verse_rows::specs::Steps::step))]
+    #[tactic(auto, unfolding(verse_check_typing::specs::Steps::step))]
     fn note_form(
         &self,
         seen: &mut Seen,
@@ -115,7 +117,7 @@ impl<'a> TypesPass<'a> {
         seen.add(node, place, judged, refers, false)
     }
 
-    #[tactic(auto, unfolding(verse_rows::specs::Steps::step))]
+    #[tactic(auto, unfolding(verse_check_typing::specs::Steps::step))]
     fn note_item(&self, seen: &mut Seen, around: Around<'_>, item: &Item) -> Result<(), Memory>
         ensures { OnOk result (sight_of seen.new ≡
             step (world_of self.now.world.now)
@@ -131,7 +133,7 @@ impl<'a> TypesPass<'a> {
         }
     }
 
-    #[tactic(auto, unfolding(verse_rows::specs::Steps::step))]
+    #[tactic(auto, unfolding(verse_check_typing::specs::Steps::step))]
     fn note_member(
         &self,
         seen: &mut Seen,
@@ -150,7 +152,7 @@ impl<'a> TypesPass<'a> {
         }
     }
 
-    #[tactic(auto, unfolding(verse_rows::specs::Steps::step))]
+    #[tactic(auto, unfolding(verse_check_typing::specs::Steps::step))]
     fn note_param(&self, seen: &mut Seen, around: Around<'_>, param: &Param) -> Result<(), Memory>
         ensures { OnOk result (sight_of seen.new ≡
             step (world_of self.now.world.now)
@@ -161,7 +163,7 @@ impl<'a> TypesPass<'a> {
         self.add(seen, param.node, param.place, judged)
     }
 
-    #[tactic(auto, unfolding(verse_rows::specs::Steps::step))]
+    #[tactic(auto, unfolding(verse_check_typing::specs::Steps::step))]
     fn note_name(&self, seen: &mut Seen, around: Around<'_>, name: &TyName) -> Result<(), Memory>
         ensures { OnOk result (sight_of seen.new ≡
             step (world_of self.now.world.now)

@@ -1,19 +1,19 @@
 //! What the pass has seen.
 
 ghost use Rattle.std.specs.Prelude.{◌≡◌, OnOk};
-ghost use Rattle.verse_rows.specs.Steps as s;
-ghost use Rattle.verse_rows.specs.Views.{world_of, facts_of, judged_of};
+ghost use Rattle.verse_check_typing.specs.Steps as s;
+ghost use Rattle.verse_check_typing.specs.Views.{world_of, facts_of, judged_of};
 ghost use Rattle.verse_check.specs.Views.{sight_of};
 
 use sqlite_items::Items;
 use std::alloc::Global;
 use verse_base::places::Place;
 use verse_base::refusals::Memory;
-use verse_least::faults::{Fault, fault_for, keep_first};
-use verse_rows::facts::Facts;
-use verse_rows::judged::Judged;
-use verse_rows::sets::NumberSet;
-use verse_rows::worlds::World;
+use verse_check_typing::facts::Facts;
+use verse_check_typing::judged::Judged;
+use verse_check_typing::sets::NumberSet;
+use verse_check_typing::worlds::World;
+use verse_rules_least::faults::{Fault, fault_for, keep_first};
 use verse_tree::tables::{Ref, Ty};
 
 /// What is found at the nodes so far, by their numbers.

@@ -3,14 +3,14 @@ use Rattle.std.proofs.Common.{◌≡◌, ℕ, Bool, true, List, refl, sym, subst
 use Rattle.verse_tree.specs.ItemTree.{ItemTree}
 use Rattle.verse_tree.specs.PostOrder.{What, program, item, member, parameter, type_name, expression}
 use Rattle.verse_tree.specs.declared.tables.Names.{Names}
-use Rattle.verse_least.specs.Least.{Finds, first_true, ascends}
-use Rattle.verse_least.proofs.Least.{first_finds, least_kept, placed_kept}
-use Rattle.verse_walk.specs.Around.{Around}
-use Rattle.verse_walk.specs.Nodes.{Node, number_of, place_of, items_nodes}
-use Rattle.verse_walk.specs.Order.{AreNumbered}
-use Rattle.verse_walk.specs.Through.{through_items}
-use Rattle.verse_walk.proofs.Through.{through_items_nodes}
-use Rattle.verse_walk.proofs.Order.{numbers_rise}
+use Rattle.verse_rules_least.specs.Least.{Finds, first_true, ascends}
+use Rattle.verse_rules_least.proofs.Least.{first_finds, least_kept, placed_kept}
+use Rattle.verse_rules_walk.specs.Around.{Around}
+use Rattle.verse_rules_walk.specs.Nodes.{Node, number_of, place_of, items_nodes}
+use Rattle.verse_rules_walk.specs.Order.{AreNumbered}
+use Rattle.verse_rules_walk.specs.Through.{through_items}
+use Rattle.verse_rules_walk.proofs.Through.{through_items_nodes}
+use Rattle.verse_rules_walk.proofs.Order.{numbers_rise}
 use Rattle.verse_effects.specs.Rules.{rules_of, rules_at, step, Breaks, begun, Answers}
 use Rattle.verse_effects.specs.declared.seen.Seen.{Seen}
 

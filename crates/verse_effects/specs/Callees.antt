@@ -9,7 +9,7 @@ use Rattle.verse_tree.specs.declared.tables.FunInfo.{FunInfo}
 use Rattle.verse_tree.specs.declared.tables.ClassInfo.{ClassInfo}
 use Rattle.verse_tree.specs.declared.tables.Ref.{Ref}
 use Rattle.verse_tree.specs.declared.tables.Ref.TheVariants as ref
-use Rattle.verse_walk.specs.Nodes.{number_of_tree}
+use Rattle.verse_rules_walk.specs.Nodes.{number_of_tree}
 use Rattle.verse_effects.specs.declared.callees.Callee.{Callee}
 use Rattle.verse_effects.specs.declared.callees.Callee.TheVariants as c
 

@@ -9,7 +9,7 @@ use Rattle.verse_tree.specs.declared.tables.Ref.{Ref}
 use Rattle.verse_tree.specs.declared.tables.Ref.TheVariants as ref
 use Rattle.verse_tree.specs.declared.exprs.Operator.{Operator}
 use Rattle.verse_tree.specs.declared.exprs.Operator.TheVariants as o
-use Rattle.verse_walk.specs.Around.{Used, free, callee, object, argument, value, target, base, spawned, Around}
+use Rattle.verse_rules_walk.specs.Around.{Used, free, callee, object, argument, value, target, base, spawned, Around}
 use Rattle.verse_effects.specs.Callees.{ref_at, callee_of, is_function, call_fails, call_lasts, call_suspends, call_touches}
 use Rattle.verse_effects.specs.declared.callees.Callee.{Callee}
 

@@ -5,10 +5,10 @@ use Rattle.verse_tree.specs.ItemTree.{MemberTree, ItemTree}
 use Rattle.verse_tree.specs.Tree.{Shape}
 use Rattle.verse_tree.specs.PostOrder.{What, program, item, member, parameter, type_name, expression}
 use Rattle.verse_tree.specs.declared.tables.Names.{Names}
-use Rattle.verse_least.specs.Least.{fault_at, first, first_true, Holds, Told, Placed, Broken, IsLeast, StandsAt}
-use Rattle.verse_least.specs.declared.faults.Fault.{Fault}
-use Rattle.verse_walk.specs.Around.{Around}
-use Rattle.verse_walk.specs.Nodes.{Node, number_of, place_of}
+use Rattle.verse_rules_least.specs.Least.{fault_at, first, first_true, Holds, Told, Placed, Broken, IsLeast, StandsAt}
+use Rattle.verse_rules_least.specs.declared.faults.Fault.{Fault}
+use Rattle.verse_rules_walk.specs.Around.{Around}
+use Rattle.verse_rules_walk.specs.Nodes.{Node, number_of, place_of}
 use Rattle.verse_effects.specs.Forms.{can_fail, cannot_undo, is_async, touches, leaves, wrong_brackets, goes_behind, defines_variable}
 use Rattle.verse_effects.specs.Specifiers.{item_fits, member_fits}
 use Rattle.verse_effects.specs.declared.seen.Seen.{Seen}

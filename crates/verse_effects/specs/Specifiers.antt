@@ -5,7 +5,7 @@ use Rattle.verse_tree.specs.Tree.{Bytes}
 use Rattle.verse_tree.specs.ItemTree.{SpecTree, FieldTree, FunTree, MemberTree, field, method, ItemTree, using, enumeration, class}
 use Rattle.verse_tree.specs.ItemTree.{function}
 use Rattle.verse_tree.specs.declared.tables.Effects.{Effects}
-use Rattle.verse_walk.specs.Specifiers.{writes, written_effects}
+use Rattle.verse_rules_walk.specs.Specifiers.{writes, written_effects}
 use Rattle.verse_effects.specs.declared.specifiers.Spot.{Spot}
 use Rattle.verse_effects.specs.declared.specifiers.Spot.TheVariants as s
 

@@ -6,13 +6,13 @@ ghost use Rattle.verse_base.specs.declared.refusals.Refusal.{Refusal};
 ghost use Rattle.verse_base.specs.declared.refusals.Front.TheVariants as front;
 ghost use Rattle.verse_tree.specs.View.{tree_of};
 ghost use Rattle.verse_tree.specs.ItemView.{param_of, member_of, item_of};
-ghost use Rattle.verse_least.specs.declared.faults.Fault.{Fault};
-ghost use Rattle.verse_least.specs.Least.{refusal_of};
-ghost use Rattle.verse_walk.specs.Nodes.{items_nodes, param_node, member_node, item_node};
-ghost use Rattle.verse_walk.specs.Order.{AreNumbered};
-ghost use Rattle.verse_walk.specs.Passes.{tree_node};
-ghost use Rattle.verse_walk.specs.Through.{through_items};
-ghost use Rattle.verse_walk.specs.Views.{around_of};
+ghost use Rattle.verse_rules_least.specs.declared.faults.Fault.{Fault};
+ghost use Rattle.verse_rules_least.specs.Least.{refusal_of};
+ghost use Rattle.verse_rules_walk.specs.Nodes.{items_nodes, param_node, member_node, item_node};
+ghost use Rattle.verse_rules_walk.specs.Order.{AreNumbered};
+ghost use Rattle.verse_rules_walk.specs.Passes.{tree_node};
+ghost use Rattle.verse_rules_walk.specs.Through.{through_items};
+ghost use Rattle.verse_rules_walk.specs.Views.{around_of};
 ghost use Rattle.verse_effects.specs.Rules.{noted, step, begun, BreaksAt, Answers, IsLeastBroken};
 ghost use Rattle.verse_effects.specs.declared.seen.Seen.{Seen as SeenValue};
 
@@ -23,14 +23,14 @@ use sqlite_items::Items;
 use std::alloc::Global;
 use verse_base::places::Place;
 use verse_base::refusals::{Front, Memory};
-use verse_least::faults::{Fault, fault_for, keep_first, refused_for};
+use verse_rules_least::faults::{Fault, fault_for, keep_first, refused_for};
+use verse_rules_walk::arounds::Around;
+use verse_rules_walk::items::walk_items;
+use verse_rules_walk::passes::{Part, Pass};
 use verse_tree::exprs::Expr;
 use verse_tree::items::{Item, Member, Param, Tree};
 use verse_tree::tables::Names;
 use verse_tree::types::TyName;
-use verse_walk::arounds::Around;
-use verse_walk::items::walk_items;
-use verse_walk::passes::{Part, Pass};
 
 /// The pass: what the names of the program stand for.
 #[derive(Drop)]

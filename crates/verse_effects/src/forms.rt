@@ -2,13 +2,13 @@
 
 ghost use Rattle.std.specs.Prelude.{◌≡◌, slice_get};
 ghost use Rattle.verse_tree.specs.View.{tree_of, shape_of};
-ghost use Rattle.verse_walk.specs.Views.{used_of, around_of};
+ghost use Rattle.verse_rules_walk.specs.Views.{used_of, around_of};
 ghost use Rattle.verse_effects.specs.Forms as f;
 
 use crate::callees::{Callee, callee_of, ref_at};
+use verse_rules_walk::arounds::{Around, Used};
 use verse_tree::exprs::{Expr, Form, Operator};
 use verse_tree::tables::{FieldInfo, Names, Ref};
-use verse_walk::arounds::{Around, Used};
 
 /// Whether a node is on the path of the target of a `set`.
 fn is_on_path(used: Used<'_>) -> bool

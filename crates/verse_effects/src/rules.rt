@@ -3,18 +3,18 @@
 ghost use Rattle.std.specs.Prelude.{◌≡◌};
 ghost use Rattle.verse_tree.specs.View.{shape_of};
 ghost use Rattle.verse_tree.specs.ItemView.{member_of, item_of};
-ghost use Rattle.verse_least.specs.Least.{first_true};
-ghost use Rattle.verse_walk.specs.Views.{around_of};
+ghost use Rattle.verse_rules_least.specs.Least.{first_true};
+ghost use Rattle.verse_rules_walk.specs.Views.{around_of};
 ghost use Rattle.verse_effects.specs.Rules as r;
 
 use crate::forms::{
     can_fail, cannot_undo, does_leave, does_touch, goes_behind, has_wrong_brackets, is_async,
 };
 use crate::specifiers::{does_item_fit, does_member_fit};
+use verse_rules_walk::arounds::Around;
 use verse_tree::exprs::Form;
 use verse_tree::items::{Item, Member};
 use verse_tree::tables::Names;
-use verse_walk::arounds::Around;
 
 fn fails_uncaught(names: &Names, around: Around<'_>, form: &Form) -> bool
     ensures { result ≡ r.fails_uncaught names.now (around_of around.entry) (shape_of form.now) }

@@ -1,7 +1,7 @@
 //! What the pass has seen.
 
 use sqlite_items::Items;
-use verse_least::faults::Fault;
+use verse_rules_least::faults::Fault;
 
 /// Which nodes define variables, by their numbers, and the first fault.
 #[derive(Drop)]

@@ -4,9 +4,9 @@ ghost use Rattle.std.specs.Prelude.{◌≡◌, map};
 ghost use Rattle.verse_tree.specs.ItemView.{spec_of, fun_of, field_of, member_of, item_of};
 ghost use Rattle.verse_effects.specs.Specifiers as s;
 
+use verse_rules_walk::arounds::{does_write, effects_written};
 use verse_tree::items::{Field, Fun, Item, Member, Spec};
 use verse_tree::tables::Effects;
-use verse_walk::arounds::{does_write, effects_written};
 
 /// Where a list of specifiers stands.
 #[derive(Clone, Copy)]

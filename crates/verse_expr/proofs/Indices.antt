@@ -8,7 +8,7 @@ use Rattle.verse_grammar.specs.Reading.{EatsRule, SticksRule}
 use Rattle.verse_grammar.specs.declared.phrases.Phrase.{Phrase}
 use Rattle.verse_tree.specs.View.{tree_of}
 use Rattle.verse_tree.specs.declared.exprs.Expr.{Expr}
-use Rattle.verse_reading.specs.Nests.{IsRead}
+use Rattle.verse_expr_reader.specs.Nests.{IsRead}
 use Rattle.verse_expr.proofs.Suffixes.{suffix, suffix_at, stuck_within}
 
 pub phrase_index : (b : List ℕ) (q : Phrase) (t : Tree) (ks rest : List Tok) (at : ℕ) → at ≤ length ks → Reads b q (drop at ks) t rest →

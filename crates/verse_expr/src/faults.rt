@@ -3,14 +3,14 @@
 ghost use Rattle.std.specs.Prelude.{◌≡◌, ◌≤◌, ◌-◌, ℕ, length, drop};
 ghost use Rattle.verse_base.specs.declared.refusals.Rule.{Rule};
 ghost use Rattle.verse_grammar.specs.Toks.{ahead};
-ghost use Rattle.verse_reading.specs.declared.steps.ReadFault.TheVariants as read_fault;
+ghost use Rattle.verse_expr_reader.specs.declared.steps.ReadFault.TheVariants as read_fault;
 ghost use Rattle.verse_expr.specs.Faults.{stop_rule};
 ghost use Rattle.verse_expr.specs.declared.faults.ParseFault.TheVariants as fault;
 
 use verse_base::refusals::Rule;
+use verse_expr_reader::steps::{ReadFault, next};
 use verse_layout::toks::{Tok, TokKind};
 use verse_lex::tokens::TokenKind;
-use verse_reading::steps::{ReadFault, next};
 
 /// Why there is no tree.
 #[derive(Clone, Copy, Debug, PartialEq, Eq)]

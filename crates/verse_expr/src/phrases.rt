@@ -7,23 +7,23 @@ ghost use Rattle.verse_grammar.specs.Exprs.{Reads};
 ghost use Rattle.verse_grammar.specs.Symbols.{phrase};
 ghost use Rattle.verse_grammar.specs.Reading.{EatsRule, SticksRule};
 ghost use Rattle.verse_grammar.specs.declared.phrases.Phrase.{Phrase};
-ghost use Rattle.verse_reading.specs.Nests.{Nests, IsRead};
-ghost use Rattle.verse_reading.specs.declared.steps.ReadFault.TheVariants as read_fault;
+ghost use Rattle.verse_expr_reader.specs.Nests.{Nests, IsRead};
+ghost use Rattle.verse_expr_reader.specs.declared.steps.ReadFault.TheVariants as read_fault;
 
 use std::alloc::Global;
-use verse_choices::choices;
-use verse_generators::generators::{clause, generator};
+use verse_expr_control::choices;
+use verse_expr_generators::generators::{clause, generator};
+use verse_expr_patterns::patterns::{arm, pattern};
+use verse_expr_precedence::levels::{ands, comparison, negated, negative, ors, product, sum};
+use verse_expr_precedence::postfixes::postfix;
+use verse_expr_primary::primary::primary;
+use verse_expr_reader::nesting::Reader;
+use verse_expr_reader::steps::ReadFault;
+use verse_expr_statements::blocks;
+use verse_expr_statements::statements::stmt;
 use verse_grammar::phrases::Phrase;
-use verse_handles::trees::Tree;
 use verse_layout::toks::Tok;
-use verse_levels::levels::{ands, comparison, negated, negative, ors, product, sum};
-use verse_levels::postfixes::postfix;
-use verse_patterns::patterns::{arm, pattern};
-use verse_primary::primary::primary;
-use verse_reading::nesting::Reader;
-use verse_reading::steps::ReadFault;
-use verse_statements::blocks;
-use verse_statements::statements::stmt;
+use verse_tree_handles::trees::Tree;
 
 /// A phrase of this kind.
 fn phrase_of<'t, F: Fn(Global, &[u8], Phrase, &[Tok]) -> Result<(Tree, usize), ReadFault>>(

@@ -20,12 +20,12 @@ ghost use Rattle.verse_expr.specs.declared.faults.ParseFault.TheVariants as faul
 use crate::faults::{ParseFault, fault_of};
 use crate::phrases::read;
 use std::alloc::Global;
+use verse_expr_reader::steps::behind;
+use verse_expr_reader::types::type_at;
 use verse_grammar::phrases::Phrase;
-use verse_handles::trees::Tree;
-use verse_handles::types::Written;
 use verse_layout::toks::Tok;
-use verse_reading::steps::behind;
-use verse_reading::types::type_at;
+use verse_tree_handles::trees::Tree;
+use verse_tree_handles::types::Written;
 
 /// The type at an index, and the index behind it.
 ///

@@ -17,18 +17,16 @@ use sqlite_items::Boxed;
 use std::alloc::Global;
 use verse_base::places::Place;
 use verse_base::refusals::Memory;
-use verse_handles::trees::Tree;
-use verse_item_handles::funs::{FunTree, Head, ParamTree, ParamTrees};
-use verse_item_handles::items::{ItemTree, ItemTrees};
-use verse_item_handles::members::{MemberTree, MemberTrees, member_field};
-use verse_numbered_parts::copies::{
-    copied, copied_names, copied_option, copied_path, copied_specs,
-};
-use verse_numbered_parts::type_numbering::number_type;
-use verse_numbering::numbering::number;
+use verse_join_exprs::numbering::number;
+use verse_join_parts::copies::{copied, copied_names, copied_option, copied_path, copied_specs};
+use verse_join_parts::type_numbering::number_type;
 use verse_tree::exprs::Expr;
 use verse_tree::items::{ClassItem, EnumItem, Field, Fun, Item, Member, Param, Spec, Using};
 use verse_tree::names::Name;
+use verse_tree_handles::trees::Tree;
+use verse_tree_items::funs::{FunTree, Head, ParamTree, ParamTrees};
+use verse_tree_items::items::{ItemTree, ItemTrees};
+use verse_tree_items::members::{MemberTree, MemberTrees, member_field};
 
 /// A copy of the items with their nodes numbered from `next` on, and the number behind the last.
 pub fn number_items(alloc: Global, parts: &[Item], next: u32) -> Result<(ItemTrees, u32), Memory>

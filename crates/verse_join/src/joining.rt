@@ -8,7 +8,7 @@ ghost use Rattle.verse_join.specs.Joining.{joined};
 use crate::item_numbering::number_items;
 use std::alloc::Global;
 use verse_base::refusals::Memory;
-use verse_item_handles::items::{ItemTrees, ProgramTree};
+use verse_tree_items::items::{ItemTrees, ProgramTree};
 
 /// The items of all files in the order of the files, with all nodes numbered from 0: parts before
 /// the whole, and from left to right. The program itself is the last node, so that its number is

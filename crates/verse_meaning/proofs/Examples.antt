@@ -7,7 +7,7 @@ use Rattle.verse_base.specs.declared.refusals.Kind.TheVariants as kind
 use Rattle.verse_value.specs.Val.{int, array, no_vals, more_vals}
 use Rattle.verse_value.specs.declared.runs.CellKind.TheVariants as cell
 use Rattle.verse_value.specs.declared.runs.Ending.TheVariants as ending
-use Rattle.verse_state.specs.Waits.{till, never}
+use Rattle.verse_meaning_state.specs.Waits.{till, never}
 use Rattle.verse_tree.specs.Tree.{Tree, tree, no_trees, more_trees, no_holes, more_holes, no_givens, more_givens}
 use Rattle.verse_tree.specs.Tree as t
 use Rattle.verse_tree.specs.ItemTree.{field, class, function}
@@ -16,7 +16,7 @@ use Rattle.verse_tree.specs.declared.tables.Ty.TheVariants as ty
 use Rattle.verse_tree.specs.declared.exprs.Assign.TheVariants as assign
 use Rattle.verse_tree.specs.declared.exprs.Operator.TheVariants as op
 use Rattle.verse_tree.specs.declared.exprs.Comparison.TheVariants as cmp
-use Rattle.verse_state.specs.Turns.{waits_in}
+use Rattle.verse_meaning_state.specs.Turns.{waits_in}
 use Rattle.verse_meaning.specs.Programs.{Program}
 use Rattle.verse_meaning.specs.Outcomes.{valued, attempted, turned, dropped, on_went, went_on, on_went_task, closing, call_end}
 use Rattle.verse_meaning.specs.Outcomes.{branch_started, task_started, armed, arm_came, arm_before, arms_came, element_came, element_before}

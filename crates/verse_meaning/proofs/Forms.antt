@@ -11,10 +11,10 @@ use Rattle.verse_value.specs.Store.{Store}
 use Rattle.verse_value.specs.Answer.{Answer, gives, fails, error, stuck}
 use Rattle.verse_value.specs.Storing.{read_slot, write_slot}
 use Rattle.verse_value.specs.declared.modes.Mode.{Mode}
-use Rattle.verse_state.specs.State.{State, Given}
-use Rattle.verse_state.specs.Waits.{done, heard, nth}
-use Rattle.verse_state.specs.Effects.{Effect, still, added, changed, slot_read, slot_written, text_printed, line_printed, class_of}
-use Rattle.verse_state.specs.Effects.{event_of}
+use Rattle.verse_meaning_state.specs.State.{State, Given}
+use Rattle.verse_meaning_state.specs.Waits.{done, heard, nth}
+use Rattle.verse_meaning_state.specs.Effects.{Effect, still, added, changed, slot_read, slot_written, text_printed, line_printed, class_of}
+use Rattle.verse_meaning_state.specs.Effects.{event_of}
 use Rattle.verse_meaning.specs.Programs.{Program, fields_of}
 use Rattle.verse_meaning.specs.Residuals as form
 use Rattle.verse_meaning.specs.Residuals.{Env, Bound, constant, variable, Base, in_variable, in_self, in_object, Form, Binder, no_name}

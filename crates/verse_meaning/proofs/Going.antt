@@ -4,8 +4,8 @@ use Rattle.verse_base.specs.declared.places.Place.{Place}
 use Rattle.verse_tree.specs.Tree.{Tree, Trees}
 use Rattle.verse_tree.specs.ItemTree.{FunTree}
 use Rattle.verse_value.specs.Val.{Val, unit}
-use Rattle.verse_state.specs.State.{with_entry}
-use Rattle.verse_state.specs.Waits.{has}
+use Rattle.verse_meaning_state.specs.State.{with_entry}
+use Rattle.verse_meaning_state.specs.Waits.{has}
 use Rattle.verse_meaning.specs.Programs.{Program, fun_at}
 use Rattle.verse_meaning.specs.Residuals as form
 use Rattle.verse_meaning.specs.Residuals.{Env, Form, Generator, Values, Role, part, body, root, Residual, leaf, args, seq, deferred, looped}

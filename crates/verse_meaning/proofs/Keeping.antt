@@ -3,9 +3,9 @@ use Rattle.std.proofs.Common.{◌≡◌, ℕ, zero, suc, List, [], ◌∷◌, �
 use Rattle.verse_base.specs.declared.places.Place.{Place}
 use Rattle.verse_value.specs.Val.{Val}
 use Rattle.verse_value.specs.Answer.{gives, fails, error, stuck}
-use Rattle.verse_state.specs.State.{State, Clock, stepped, restored}
-use Rattle.verse_state.specs.Waits.{Cause}
-use Rattle.verse_state.specs.Effects.{Effect}
+use Rattle.verse_meaning_state.specs.State.{State, Clock, stepped, restored}
+use Rattle.verse_meaning_state.specs.Waits.{Cause}
+use Rattle.verse_meaning_state.specs.Effects.{Effect}
 use Rattle.verse_meaning.specs.Residuals.{Env, Residual, Scope, Scopes, none, also, Arms, no_arms, gave, runs, and_then}
 use Rattle.verse_meaning.specs.Outcomes.{World, with_state, leave, Outcome, value, failed, returned, broke, halted, rests, TaskOutcome}
 use Rattle.verse_meaning.specs.Outcomes.{ends, lost, stops, sleeps, Went, went, quits, valued, attempted, turned, dropped, on_went, went_on}

@@ -2,9 +2,9 @@
 use Rattle.std.proofs.Common.{◌≡◌, ℕ, List, [], ◌∷◌, ◌++◌, Option, Some, None, Bool, true, false, refl, sym, subst, inl, inr}
 use Rattle.verse_base.specs.declared.places.Place.{Place}
 use Rattle.verse_value.specs.Val.{Val, unit}
-use Rattle.verse_state.specs.State.{State}
-use Rattle.verse_state.specs.Waits.{has}
-use Rattle.verse_state.specs.Turns.{Stage, going, closed, broken, amiss, first_of}
+use Rattle.verse_meaning_state.specs.State.{State}
+use Rattle.verse_meaning_state.specs.Waits.{has}
+use Rattle.verse_meaning_state.specs.Turns.{Stage, going, closed, broken, amiss, first_of}
 use Rattle.verse_meaning.specs.Programs.{Program}
 use Rattle.verse_meaning.specs.Residuals.{Env, Role, part, body, root, Residual, arms, Arms, Scope, scope, Scopes, none, also, scope_leaves}
 use Rattle.verse_meaning.specs.Residuals.{is_behind}

@@ -14,9 +14,9 @@ use Rattle.verse_value.specs.Operations.{text_val, tuple_of, option_of}
 use Rattle.verse_value.specs.Equality.{val_eq}
 use Rattle.verse_value.specs.declared.modes.Mode.{Mode}
 use Rattle.verse_value.specs.declared.modes.Mode.TheVariants as mode
-use Rattle.verse_state.specs.Waits.{never, after}
-use Rattle.verse_state.specs.Turns.{Kind, all_of, first_of, rush_of}
-use Rattle.verse_state.specs.Effects.{still, event_made}
+use Rattle.verse_meaning_state.specs.Waits.{never, after}
+use Rattle.verse_meaning_state.specs.Turns.{Kind, all_of, first_of, rush_of}
+use Rattle.verse_meaning_state.specs.Effects.{still, event_made}
 use Rattle.verse_meaning.specs.Programs.{Program, same_name, ref_at, enum_value, pattern_value, trees_list, holes_list, pieces, pairs_list}
 use Rattle.verse_meaning.specs.Programs.{givens_list, given_names}
 use Rattle.verse_meaning.specs.Residuals as form

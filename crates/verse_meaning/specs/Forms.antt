@@ -16,10 +16,10 @@ use Rattle.verse_value.specs.Operations.{text_val, sum_of, difference_of, produc
 use Rattle.verse_value.specs.Operations.{join_of, less_of, at_most_of, greater_of, at_least_of, equal_of, unequal_of, array_of, map_of}
 use Rattle.verse_value.specs.Operations.{tuple_of, query_of, item_of, at_of, length_of, append_of}
 use Rattle.verse_value.specs.declared.modes.Mode.{Mode}
-use Rattle.verse_state.specs.State.{Given}
-use Rattle.verse_state.specs.Waits.{done, heard, nth}
-use Rattle.verse_state.specs.Effects.{still, variable_made, object_made, slot_read, slot_written, line_printed, class_of, event_of}
-use Rattle.verse_state.specs.Effects.{signal_sent}
+use Rattle.verse_meaning_state.specs.State.{Given}
+use Rattle.verse_meaning_state.specs.Waits.{done, heard, nth}
+use Rattle.verse_meaning_state.specs.Effects.{still, variable_made, object_made, slot_read, slot_written, line_printed, class_of, event_of}
+use Rattle.verse_meaning_state.specs.Effects.{signal_sent}
 use Rattle.verse_meaning.specs.Programs.{Program, same_name, method_at, fields_of}
 use Rattle.verse_meaning.specs.Residuals as form
 use Rattle.verse_meaning.specs.Residuals.{Env, Binding, Bound, constant, variable, Base, in_variable, in_self, in_object, Form, Binder}

@@ -3,9 +3,9 @@ use Rattle.std.specs.Prelude.{◌≡◌, ◌⊎◌, ℕ, Bool, true, false, List
 use Rattle.verse_base.specs.declared.places.Place.{Place}
 use Rattle.verse_tree.specs.Tree.{Tree, Trees}
 use Rattle.verse_value.specs.Val.{Val, unit}
-use Rattle.verse_state.specs.State.{State, Clock}
-use Rattle.verse_state.specs.Waits.{has}
-use Rattle.verse_state.specs.Turns.{Stage, going, closed, broken, amiss, first_of}
+use Rattle.verse_meaning_state.specs.State.{State, Clock}
+use Rattle.verse_meaning_state.specs.Waits.{has}
+use Rattle.verse_meaning_state.specs.Turns.{Stage, going, closed, broken, amiss, first_of}
 use Rattle.verse_meaning.specs.Programs.{Program}
 use Rattle.verse_meaning.specs.Residuals.{Env, Role, Residual, arms, Arms, Scope, scope, Scopes, none, also, scope_leaves, is_behind}
 use Rattle.verse_meaning.specs.Outcomes.{World, with_state, Outcome, value, failed, returned, broke, halted, rests, TaskOutcome, ends, lost}

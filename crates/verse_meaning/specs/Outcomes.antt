@@ -4,9 +4,9 @@ use Rattle.verse_base.specs.declared.places.Place.{Place}
 use Rattle.verse_base.specs.declared.refusals.Kind.{Kind as Error}
 use Rattle.verse_value.specs.Val.{Val, unit}
 use Rattle.verse_value.specs.Answer.{gives, fails, error, stuck}
-use Rattle.verse_state.specs.State.{State, spending, restored, with_result, drawn}
-use Rattle.verse_state.specs.Waits.{Cause, waiting}
-use Rattle.verse_state.specs.Effects.{Effect}
+use Rattle.verse_meaning_state.specs.State.{State, spending, restored, with_result, drawn}
+use Rattle.verse_meaning_state.specs.Waits.{Cause, waiting}
+use Rattle.verse_meaning_state.specs.Effects.{Effect}
 use Rattle.verse_meaning.specs.Residuals.{Env, Role, part, body, root, Residual, leaf, called, Scope, scope, Scopes, also, Arms, no_arms}
 use Rattle.verse_meaning.specs.Residuals.{gave, runs, and_then}
 

@@ -12,7 +12,7 @@ use Rattle.verse_tree.specs.declared.tables.Names.{Names}
 use Rattle.verse_tree.specs.declared.tables.Ref.{Ref}
 use Rattle.verse_tree.specs.declared.programs.Program.{Program as Made}
 use Rattle.verse_value.specs.Val.{Val, enum}
-use Rattle.verse_state.specs.Waits.{nth}
+use Rattle.verse_meaning_state.specs.Waits.{nth}
 
 pub record Program : Type 0 where
   pub items : List ItemTree

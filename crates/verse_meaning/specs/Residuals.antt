@@ -6,8 +6,8 @@ use Rattle.verse_tree.specs.declared.exprs.Comparison.{Comparison}
 use Rattle.verse_tree.specs.declared.exprs.Operator.{Operator}
 use Rattle.verse_value.specs.Val.{Val}
 use Rattle.verse_value.specs.declared.modes.Mode.{Mode}
-use Rattle.verse_state.specs.Waits.{Wait, has}
-use Rattle.verse_state.specs.Turns.{Kind}
+use Rattle.verse_meaning_state.specs.Waits.{Wait, has}
+use Rattle.verse_meaning_state.specs.Turns.{Kind}
 
 -- what a name stands for: a value, or the cell of a variable
 pub data Bound : Type 0 where

@@ -3,7 +3,7 @@ use Rattle.std.specs.Prelude.{ℕ, List, [], ◌∷◌, ◌++◌, true, false}
 use Rattle.verse_base.specs.declared.places.Place.{Place}
 use Rattle.verse_tree.specs.Tree.{Tree, Trees}
 use Rattle.verse_value.specs.Val.{Val, unit}
-use Rattle.verse_state.specs.Waits.{has}
+use Rattle.verse_meaning_state.specs.Waits.{has}
 use Rattle.verse_meaning.specs.Programs.{Program}
 use Rattle.verse_meaning.specs.Residuals as form
 use Rattle.verse_meaning.specs.Residuals.{Env, Form, Generator, Residual, leaf, args, seq, deferred, looped, generated, called, arms, Scope}

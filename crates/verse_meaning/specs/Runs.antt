@@ -4,9 +4,9 @@ use Rattle.verse_tree.specs.ItemTree.{ParamTree, FunTree}
 use Rattle.verse_value.specs.Val.{Val, int, task, array, vals}
 use Rattle.verse_value.specs.Runs.{Run}
 use Rattle.verse_value.specs.declared.runs.Ending.TheVariants as ending
-use Rattle.verse_state.specs.State.{State, begun, spending, with_entry}
-use Rattle.verse_state.specs.Waits.{Wait, has}
-use Rattle.verse_state.specs.Turns.{Stage, going, broken, amiss, turn, turns, run_of}
+use Rattle.verse_meaning_state.specs.State.{State, begun, spending, with_entry}
+use Rattle.verse_meaning_state.specs.Waits.{Wait, has}
+use Rattle.verse_meaning_state.specs.Turns.{Stage, going, broken, amiss, turn, turns, run_of}
 use Rattle.verse_meaning.specs.Programs.{Program, fun_at, main_in}
 use Rattle.verse_meaning.specs.Residuals.{Env, constant, Values, Role, body, root, Scope, none, scope_leaves}
 use Rattle.verse_meaning.specs.Outcomes.{World, world, with_state, set_behind, Halt, fault, out, jammed, wrong, Outcome, value, halted}

@@ -5,11 +5,11 @@ use Rattle.std.specs.Option.{IsSome}
 use Rattle.verse_base.specs.declared.refusals.Refusal.{Refusal}
 use Rattle.verse_base.specs.RuleText.{rule_text_of}
 use Rattle.verse_tree.specs.ItemTree.{ItemTree}
-use Rattle.verse_least.proofs.Codes.{held_code, broken_code}
-use Rattle.verse_outline.specs.Known.{known}
-use Rattle.verse_items.specs.Nodes as items
-use Rattle.verse_items.specs.Rules as items_rules
-use Rattle.verse_scopes.specs.Visits as bodies
+use Rattle.verse_rules_least.proofs.Codes.{held_code, broken_code}
+use Rattle.verse_names_declarations.specs.Known.{known}
+use Rattle.verse_names_items.specs.Nodes as items
+use Rattle.verse_names_items.specs.Rules as items_rules
+use Rattle.verse_names_scopes.specs.Visits as bodies
 use Rattle.verse_names.specs.Breaking.{NamesBreak, IsMisnamed}
 
 names_listed : (is : List ItemTree) (n c : ℕ) → NamesBreak is n c → IsSome (rule_text_of c)

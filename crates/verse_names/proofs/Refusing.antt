@@ -5,12 +5,12 @@ use Rattle.std.specs.Result.{IsErrOf}
 use Rattle.verse_base.specs.declared.refusals.Front.TheVariants as front
 use Rattle.verse_base.specs.declared.refusals.Refusal.{Refusal}
 use Rattle.verse_tree.specs.ItemTree.{ItemTree}
-use Rattle.verse_least.specs.declared.faults.Fault.{Fault}
-use Rattle.verse_least.specs.Least.{refusal_of}
-use Rattle.verse_least.specs.Both.{is_before, less_of, Leads}
-use Rattle.verse_least.proofs.Both.{lead_both}
-use Rattle.verse_items.specs.Nodes.{ItemsBreak, IsPlaced}
-use Rattle.verse_scopes.specs.Visits.{NamesBreak as BodiesBreak}
+use Rattle.verse_rules_least.specs.declared.faults.Fault.{Fault}
+use Rattle.verse_rules_least.specs.Least.{refusal_of}
+use Rattle.verse_rules_least.specs.Both.{is_before, less_of, Leads}
+use Rattle.verse_rules_least.proofs.Both.{lead_both}
+use Rattle.verse_names_items.specs.Nodes.{ItemsBreak, IsPlaced}
+use Rattle.verse_names_scopes.specs.Visits.{NamesBreak as BodiesBreak}
 use Rattle.verse_names.specs.Breaking.{NamesBreak, IsMisnamed}
 
 placed_both : (is : List ItemTree) (o p : Option Fault) → IsPlaced is o → IsPlaced is p → IsPlaced is (less_of o p)

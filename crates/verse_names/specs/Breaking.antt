@@ -2,9 +2,9 @@
 use Rattle.std.specs.Prelude.{◌⊎◌, ℕ, List}
 use Rattle.verse_base.specs.declared.refusals.Refusal.{Refusal}
 use Rattle.verse_tree.specs.ItemTree.{ItemTree}
-use Rattle.verse_least.specs.Refusals.{IsRefusedFor}
-use Rattle.verse_items.specs.Nodes.{ItemsBreak, places_in}
-use Rattle.verse_scopes.specs.Visits.{NamesBreak as BodiesBreak}
+use Rattle.verse_rules_least.specs.Refusals.{IsRefusedFor}
+use Rattle.verse_names_items.specs.Nodes.{ItemsBreak, places_in}
+use Rattle.verse_names_scopes.specs.Visits.{NamesBreak as BodiesBreak}
 
 -- a node breaks a rule of names, by its number and the rule's code: at items, members and types, or at parameters and in bodies
 abbrev pub NamesBreak : List ItemTree → ℕ → ℕ → Type 0

@@ -5,19 +5,19 @@ ghost use Rattle.std.specs.Result.{IsErrOf};
 ghost use Rattle.verse_base.specs.declared.refusals.Refusal.{Refusal};
 ghost use Rattle.verse_base.specs.declared.refusals.Front.TheVariants as front;
 ghost use Rattle.verse_tree.specs.ItemView.{item_of};
-ghost use Rattle.verse_items.specs.Nodes.{IsNumbered};
-ghost use Rattle.verse_items.specs.Tables.{tables_of, tables};
-ghost use Rattle.verse_scopes.specs.Visits.{ref_of, program_visits};
+ghost use Rattle.verse_names_items.specs.Nodes.{IsNumbered};
+ghost use Rattle.verse_names_items.specs.Tables.{tables_of, tables};
+ghost use Rattle.verse_names_scopes.specs.Visits.{ref_of, program_visits};
 ghost use Rattle.verse_names.specs.Breaking.{NamesBreak, IsMisnamed};
 
 use sqlite_items::Items;
 use std::alloc::Global;
 use verse_base::refusals::{Front, Memory};
-use verse_items::declarations::{least_fault, tables_from};
-use verse_items::tables::Tables;
-use verse_least::faults::{lesser, refusal};
-use verse_outline::known::know;
-use verse_scopes::bodies::{Scoped, name_bodies};
+use verse_names_declarations::known::know;
+use verse_names_items::declarations::{least_fault, tables_from};
+use verse_names_items::tables::Tables;
+use verse_names_scopes::bodies::{Scoped, name_bodies};
+use verse_rules_least::faults::{lesser, refusal};
 use verse_tree::items::Tree;
 use verse_tree::tables::Ref;
 

@@ -10,7 +10,7 @@ use Rattle.verse_grammar.specs.Symbols as rules_of
 use Rattle.verse_grammar.specs.Reading.{EatsRule}
 use Rattle.verse_grammar.specs.Loops.{Goes}
 use Rattle.verse_grammar.proofs.GoingItems.{goes_items_tail_at}
-use Rattle.verse_read_parts.proofs.Steps.{map_snoc}
+use Rattle.verse_parse_parts.proofs.Steps.{map_snoc}
 
 pub item_read : (b : List ℕ) (ks rest r1 r2 : List Tok) (s : Tok) (xs ys : List Item) (x : Item) → ItemRow b ks (map item_of xs) rest →
     rest ≡ s ∷ r1 → s.kind ≡ tok.Sep → grammar.Item b r1 (item_of x) r2 → ys ≡ xs ++ x ∷ [] → ItemRow b ks (map item_of ys) r2

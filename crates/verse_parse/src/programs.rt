@@ -12,18 +12,18 @@ ghost use Rattle.verse_grammar.specs.Items as grammar;
 ghost use Rattle.verse_grammar.specs.Symbols as rules_of;
 ghost use Rattle.verse_grammar.specs.Reading.{EatsRule, SticksRule};
 ghost use Rattle.verse_grammar.specs.Begins.{Stops, a_program};
-ghost use Rattle.verse_reading.specs.declared.steps.ReadFault.TheVariants as read_fault;
+ghost use Rattle.verse_expr_reader.specs.declared.steps.ReadFault.TheVariants as read_fault;
 ghost use Rattle.verse_expr.specs.Faults.{stop_rule};
 ghost use Rattle.verse_expr.specs.declared.faults.ParseFault.TheVariants as fault;
 ghost use Rattle.verse_parse.specs.StopsWith.{StopsWith};
 
 use std::alloc::Global;
 use verse_expr::faults::{ParseFault, fault_of};
+use verse_expr_reader::steps::{ReadFault, next, take};
 use verse_grammar::starts::Fixed;
-use verse_item_handles::items::{ItemTree, ItemTrees};
 use verse_layout::toks::Tok;
-use verse_read_items::item;
-use verse_reading::steps::{ReadFault, next, take};
+use verse_parse_items::item;
+use verse_tree_items::items::{ItemTree, ItemTrees};
 
 /// The items that the toks of a file spell.
 ///

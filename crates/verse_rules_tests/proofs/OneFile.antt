@@ -4,9 +4,9 @@ use Rattle.verse_tree.specs.ItemTree.{ItemTree}
 use Rattle.verse_tree.specs.ItemView.{item_of}
 use Rattle.verse_tree.specs.Numbering.{items_nodes, item_nodes, items_numbered, program_nodes}
 use Rattle.verse_tree.specs.declared.items.Item.{Item}
-use Rattle.verse_walk.specs.Order.{AreNumbered}
+use Rattle.verse_rules_walk.specs.Order.{AreNumbered}
 use Rattle.verse_join.specs.Joining.{joined}
-use Rattle.verse_items.specs.Nodes.{IsNumbered}
+use Rattle.verse_names_items.specs.Nodes.{IsNumbered}
 
 nodes_together : (is js : List ItemTree) → items_nodes (is ++ js) ≡ items_nodes is + items_nodes js
 nodes_together [] js = omega arith

@@ -3,16 +3,16 @@
 ghost use Rattle.std.specs.Prelude.{◌≤◌, map, IfOk};
 ghost use Rattle.verse_tree.specs.ItemView.{item_of};
 ghost use Rattle.verse_tree.specs.Numbering.{items_nodes};
-ghost use Rattle.verse_walk.specs.Order.{AreNumbered};
-ghost use Rattle.verse_items.specs.Nodes.{IsNumbered};
+ghost use Rattle.verse_rules_walk.specs.Order.{AreNumbered};
+ghost use Rattle.verse_names_items.specs.Nodes.{IsNumbered};
 
 use std::alloc::Global;
 use verse_base::refusals::{Front, Memory};
-use verse_item_handles::items::{ItemTrees, ProgramTree};
 use verse_join::join;
 use verse_layout::layouts::layout;
 use verse_layout::toks::Tok;
 use verse_lex::lex;
+use verse_tree_items::items::{ItemTrees, ProgramTree};
 
 /// The most bytes that a row may have.
 pub const MOST_BYTES: usize = 10000;

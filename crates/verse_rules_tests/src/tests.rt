@@ -3,8 +3,8 @@
 ghost use Rattle.std.specs.Prelude.{◌≤◌, IfOk, map};
 ghost use Rattle.verse_tree.specs.ItemView.{item_of};
 ghost use Rattle.verse_tree.specs.Numbering.{items_nodes};
-ghost use Rattle.verse_walk.specs.Order.{AreNumbered};
-ghost use Rattle.verse_items.specs.Nodes.{IsNumbered};
+ghost use Rattle.verse_rules_walk.specs.Order.{AreNumbered};
+ghost use Rattle.verse_names_items.specs.Nodes.{IsNumbered};
 
 use crate::reading::{program_of, toks_of};
 use crate::tables::{EFFECTS, REFUSED, TABLES};
@@ -14,11 +14,11 @@ use std::alloc::Global;
 use std::test::Fail;
 use verse_base::refusals::{Front, Memory};
 use verse_effects::effects;
-use verse_item_handles::items::{ItemTrees, ProgramTree};
-use verse_items::declarations::define;
-use verse_items::tables::Tables;
+use verse_names_items::declarations::define;
+use verse_names_items::tables::Tables;
 use verse_parse::parse;
 use verse_tree::tables::{Names, Ref};
+use verse_tree_items::items::{ItemTrees, ProgramTree};
 
 // the items of a file
 fn items_of(alloc: Global, bytes: &[u8]) -> Result<ItemTrees, Fail>

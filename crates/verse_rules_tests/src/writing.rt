@@ -2,7 +2,7 @@
 
 use verse_base::refusals::Memory;
 use verse_base::texts::natural;
-use verse_items::tables::Tables;
+use verse_names_items::tables::Tables;
 use verse_tree::tables::{ClassInfo, Effects, FieldInfo, FunInfo, MapOf, Ty};
 
 fn number(out: &mut Vec<u8>, letter: u8, number: u32) -> Result<(), Memory> {

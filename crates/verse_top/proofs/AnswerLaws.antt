@@ -5,23 +5,23 @@ use Rattle.verse_base.specs.declared.refusals.Refusal.{Refusal}
 use Rattle.verse_lex.specs.Cut.{first_place}
 use Rattle.verse_outside.specs.Held.{Holding}
 use Rattle.verse_tree.specs.ItemTree.{ItemTree}
-use Rattle.verse_built.specs.Texts.{texts_of}
-use Rattle.verse_state.specs.Texts.{run_text}
-use Rattle.verse_texts.specs.Refusals.{refusal_line}
-use Rattle.verse_words.specs.Words.{Command, run, exec, check, files_of, Options}
-use Rattle.verse_words.specs.Requests.{AsksFor, AsksForRun, names_of, options_with}
-use Rattle.verse_words.specs.declared.commands.Request.{Request}
-use Rattle.verse_words.specs.declared.commands.Request.TheVariants as request
-use Rattle.verse_words.specs.declared.commands.Running.{Running}
+use Rattle.verse_accept_built.specs.Texts.{texts_of}
+use Rattle.verse_meaning_state.specs.Texts.{run_text}
+use Rattle.verse_top_texts.specs.Refusals.{refusal_line}
+use Rattle.verse_top_args.specs.Words.{Command, run, exec, check, files_of, Options}
+use Rattle.verse_top_args.specs.Requests.{AsksFor, AsksForRun, names_of, options_with}
+use Rattle.verse_top_args.specs.declared.commands.Request.{Request}
+use Rattle.verse_top_args.specs.declared.commands.Request.TheVariants as request
+use Rattle.verse_top_args.specs.declared.commands.Running.{Running}
 use Rattle.verse_accept.specs.Fronts.{Accepts, IsRefused, front_end, refusal}
 use Rattle.verse_accept.proofs.Answered.{one_front_end}
 use Rattle.verse_top.specs.Loading.{AreLoaded, IsTooLarge}
 use Rattle.verse_top.specs.Meaning.{mean}
-use Rattle.verse_texts.specs.Endings.{ending_status}
+use Rattle.verse_top_texts.specs.Endings.{ending_status}
 use Rattle.verse_top.specs.Answers.{Answers, too_large, refused, checked, ran, executed, ok_line, AnsweredOnce}
 use Rattle.verse_top.specs.Programs.{IsForProgram, IsProgram}
-use Rattle.verse_exec.specs.Executions.{Executes}
-use Rattle.verse_exec.proofs.Executions.{once as executed_once}
+use Rattle.verse_top_exec.specs.Executions.{Executes}
+use Rattle.verse_top_exec.proofs.Executions.{once as executed_once}
 use Rattle.verse_top.proofs.LoadLaws.{as_many, loaded_once, loaded_or_large, large_once, read_once}
 
 -- ---- one answer

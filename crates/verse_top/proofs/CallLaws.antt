@@ -2,18 +2,18 @@
 use Rattle.std.proofs.Common.{◌≡◌, ◌≢◌, ℕ, ◌≤◌, zero, suc, List, ◌++◌, Option, Result, Ok, Err, ◌⊎◌, inl, inr, refl, sym, ap, subst, ◌∙◌}
 use Rattle.verse_outside.specs.Causes.{Rose}
 use Rattle.verse_outside.specs.Held.{Holding, TookPrefix, with_more}
-use Rattle.verse_built.specs.Texts.{texts_of}
+use Rattle.verse_accept_built.specs.Texts.{texts_of}
 use Rattle.verse_value.specs.declared.runs.Ending.{Ending}
 use Rattle.verse_value.specs.declared.runs.Ending.TheVariants as ending
-use Rattle.verse_texts.specs.Endings.{ending_status}
-use Rattle.verse_words.specs.Words.{Command, Options, files_of, Says}
-use Rattle.verse_words.proofs.CommandLemmas.{say_once}
-use Rattle.verse_exec.specs.declared.stops.Stop.{Stop}
-use Rattle.verse_exec.specs.declared.stops.Stop.TheVariants as stop
-use Rattle.verse_exec.specs.Executions.{Executes, run_with}
-use Rattle.verse_exec.specs.Executions as x
-use Rattle.verse_exec.specs.Leaving.{Leaves}
-use Rattle.verse_exec.proofs.Takes.{more_then, rose_from, took_behind, took_front}
+use Rattle.verse_top_texts.specs.Endings.{ending_status}
+use Rattle.verse_top_args.specs.Words.{Command, Options, files_of, Says}
+use Rattle.verse_top_args.proofs.CommandLemmas.{say_once}
+use Rattle.verse_top_exec.specs.declared.stops.Stop.{Stop}
+use Rattle.verse_top_exec.specs.declared.stops.Stop.TheVariants as stop
+use Rattle.verse_top_exec.specs.Executions.{Executes, run_with}
+use Rattle.verse_top_exec.specs.Executions as x
+use Rattle.verse_top_exec.specs.Leaving.{Leaves}
+use Rattle.verse_top_exec.proofs.Takes.{more_then, rose_from, took_behind, took_front}
 use Rattle.verse_top.specs.Loading.{AreHeld, IsAbsent}
 use Rattle.verse_top.specs.Meaning.{mean}
 use Rattle.verse_top.specs.Answers.{Answers, too_large, refused, checked, ran, executed, Answered, Begins, CutShort, Finishes, MayWrite}

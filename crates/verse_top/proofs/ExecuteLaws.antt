@@ -3,13 +3,13 @@ use Rattle.std.proofs.Common.{◌≡◌, ◌⊎◌, ℕ, ◌≤◌, ℤ, List, [
 use Rattle.std.proofs.Common.{subst, ◌∙◌, slice_index_or, length, ◌<◌, arith}
 use Rattle.verse_outside.specs.Causes.{Rose}
 use Rattle.verse_outside.specs.Held.{Holding, Lacks}
-use Rattle.verse_words.specs.Words.{Command, Inputs, exec, files_of, listed, not_given}
-use Rattle.verse_words.specs.Requests.{AsksForExec, options_with}
-use Rattle.verse_words.specs.declared.commands.Running.{Running}
-use Rattle.verse_exec.specs.declared.stops.Stop.{Stop}
-use Rattle.verse_exec.specs.Executions.{Executes, ExecutesSoFar, IsNothing}
-use Rattle.verse_exec.specs.Leaving.{Leaves}
-use Rattle.verse_exec.proofs.Leaving.{leaves_as}
+use Rattle.verse_top_args.specs.Words.{Command, Inputs, exec, files_of, listed, not_given}
+use Rattle.verse_top_args.specs.Requests.{AsksForExec, options_with}
+use Rattle.verse_top_args.specs.declared.commands.Running.{Running}
+use Rattle.verse_top_exec.specs.declared.stops.Stop.{Stop}
+use Rattle.verse_top_exec.specs.Executions.{Executes, ExecutesSoFar, IsNothing}
+use Rattle.verse_top_exec.specs.Leaving.{Leaves}
+use Rattle.verse_top_exec.proofs.Leaving.{leaves_as}
 use Rattle.verse_top.specs.Loading.{IsRead}
 use Rattle.verse_top.specs.Answers.{Answers, Begins, IsAnswer, Replies, Unread, executed, executing, nothing, read_line}
 

@@ -5,16 +5,16 @@ use Rattle.verse_lex.specs.Cut.{first_place}
 use Rattle.verse_outside.specs.Causes.{Rose}
 use Rattle.verse_outside.specs.Held.{Holding, with_more, TookPrefix}
 use Rattle.verse_tree.specs.ItemTree.{ItemTree}
-use Rattle.verse_built.specs.Texts.{texts_of}
-use Rattle.verse_state.specs.Texts.{run_text}
-use Rattle.verse_texts.specs.Refusals.{refusal_line}
-use Rattle.verse_exec.specs.Executions.{Executes, ExecutesSoFar}
-use Rattle.verse_words.specs.Words.{Command, run, exec, check, files_of, Options, Says}
+use Rattle.verse_accept_built.specs.Texts.{texts_of}
+use Rattle.verse_meaning_state.specs.Texts.{run_text}
+use Rattle.verse_top_texts.specs.Refusals.{refusal_line}
+use Rattle.verse_top_exec.specs.Executions.{Executes, ExecutesSoFar}
+use Rattle.verse_top_args.specs.Words.{Command, run, exec, check, files_of, Options, Says}
 use Rattle.verse_accept.specs.Fronts.{Accepts, IsRefused, refusal}
 use Rattle.verse_top.specs.Loading.{AreLoaded, IsAbsent, IsAmong, IsRead, IsTooLarge}
 use Rattle.verse_top.specs.Programs.{IsProgram}
 use Rattle.verse_top.specs.Meaning.{mean}
-use Rattle.verse_texts.specs.Endings.{ending_status}
+use Rattle.verse_top_texts.specs.Endings.{ending_status}
 
 abbrev pub words_line : List ℕ
 words_line = codes "= words\n"

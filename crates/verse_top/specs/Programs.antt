@@ -1,7 +1,7 @@
 -- Which commands are over the files of a program.
-use Rattle.verse_words.specs.Words.{Command, run, exec, check}
-use Rattle.verse_words.specs.declared.commands.Request.{Request}
-use Rattle.verse_words.specs.declared.commands.Request.TheVariants as request
+use Rattle.verse_top_args.specs.Words.{Command, run, exec, check}
+use Rattle.verse_top_args.specs.declared.commands.Request.{Request}
+use Rattle.verse_top_args.specs.declared.commands.Request.TheVariants as request
 
 abbrev pub IsProgram : Command → Type 0
 IsProgram (run files o) = Unit {0}

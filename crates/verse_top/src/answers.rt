@@ -4,31 +4,31 @@ ghost use Rattle.std.specs.Prelude.{◌≡◌, ◌++◌, ◌⊎◌, ◌≤◌, �
 ghost use Rattle.std.specs.Prelude.{map, string_bytes};
 ghost use Rattle.verse_base.specs.RuleText.{rule_text_of};
 ghost use Rattle.verse_outside.specs.Held.{Holding};
-ghost use Rattle.verse_state.specs.Texts.{run_text};
-ghost use Rattle.verse_texts.specs.Refusals.{refusal_line};
+ghost use Rattle.verse_meaning_state.specs.Texts.{run_text};
+ghost use Rattle.verse_top_texts.specs.Refusals.{refusal_line};
 ghost use Rattle.verse_tree.specs.ItemView.{item_of};
-ghost use Rattle.verse_words.specs.Words.{Command, files_of};
+ghost use Rattle.verse_top_args.specs.Words.{Command, files_of};
 ghost use Rattle.verse_lex.specs.Cut.{first_place};
 ghost use Rattle.verse_accept.specs.Fronts.{Accepts, refusal};
-ghost use Rattle.verse_words.specs.Requests.{AsksFor, AsksForRun};
+ghost use Rattle.verse_top_args.specs.Requests.{AsksFor, AsksForRun};
 ghost use Rattle.verse_top.specs.Answers.{AnsweredOnce, Answers, ok_line};
 ghost use Rattle.verse_top.specs.Loading.{AreLoaded};
 ghost use Rattle.verse_top.specs.Meaning.{mean};
 ghost use Rattle.verse_top.specs.Programs.{IsForProgram};
-ghost use Rattle.verse_texts.specs.Endings.{ending_status};
+ghost use Rattle.verse_top_texts.specs.Endings.{ending_status};
 
 use std::alloc::Global;
 use verse_accept::{Accepted, accept};
+use verse_accept_built::printed;
 use verse_base::places::Place;
 use verse_base::refusals::{Front, Memory, Refusal, Rule};
 use verse_base::texts::trace_line;
-use verse_built::printed;
-use verse_item_handles::items::ProgramTree;
-use verse_texts::endings::ending_text;
-use verse_texts::refusals::refusal_text;
+use verse_top_args::commands::{Request, Running};
+use verse_top_texts::endings::ending_text;
+use verse_top_texts::refusals::refusal_text;
 use verse_tree::names::Text;
+use verse_tree_items::items::ProgramTree;
 use verse_value::runs::Ending;
-use verse_words::commands::{Request, Running};
 
 /// E002: a file has more bytes than a file may have.
 const TOO_LARGE: Rule = Rule(2);

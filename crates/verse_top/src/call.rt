@@ -3,9 +3,9 @@
 ghost use Rattle.std.specs.Prelude.{◌≡◌, ◌≢◌, ◌⊎◌, ◌≤◌, ℕ, List, IfOk, map, string_bytes};
 ghost use Rattle.verse_outside.specs.Causes.{Rose};
 ghost use Rattle.verse_outside.specs.Held.{with_more};
-ghost use Rattle.verse_words.specs.Words.{AreFiles, Command, files_of, Says};
-ghost use Rattle.verse_words.specs.Requests.{AsksFor, names_of};
-ghost use Rattle.verse_exec.specs.Leaving.{Leaves};
+ghost use Rattle.verse_top_args.specs.Words.{AreFiles, Command, files_of, Says};
+ghost use Rattle.verse_top_args.specs.Requests.{AsksFor, names_of};
+ghost use Rattle.verse_top_exec.specs.Leaving.{Leaves};
 ghost use Rattle.verse_top.specs.Answers.{Answered, Begins, CutShort, Finishes, NoMemory, NotRead};
 ghost use Rattle.verse_top.specs.Answers.{Replies, Told, words_line};
 ghost use Rattle.verse_top.specs.Loading.{AreHeld, IsAbsent};
@@ -17,10 +17,10 @@ use crate::loading::{Loading, load_all};
 use crate::writing::{not_read, write_answer};
 use std::alloc::Global;
 use verse_base::refusals::Memory;
-use verse_exec::stops::Stop;
 use verse_outside::files::Files;
 use verse_outside::sinks::{Sink, write_all};
-use verse_words::commands::{Request, find_request};
+use verse_top_args::commands::{Request, find_request};
+use verse_top_exec::stops::Stop;
 
 /// Does all that the program does for the words after its name, and answers the status with which
 /// it ends. What is written goes to `out` alone, refusals included.

@@ -3,20 +3,20 @@
 ghost use Rattle.std.specs.Prelude.{◌≡◌, ◌≤◌, ℕ, ℤ, List, length, option_copied};
 ghost use Rattle.verse_outside.specs.Causes.{Rose};
 ghost use Rattle.verse_outside.specs.Held.{Lacks};
-ghost use Rattle.verse_words.specs.Words.{Command, Inputs};
-ghost use Rattle.verse_words.specs.Requests.{AsksForExec, IsWithin, options_with};
-ghost use Rattle.verse_exec.specs.Executions.{Executes, ExecutesSoFar, IsNothing};
-ghost use Rattle.verse_exec.specs.Leaving.{Leaves};
+ghost use Rattle.verse_top_args.specs.Words.{Command, Inputs};
+ghost use Rattle.verse_top_args.specs.Requests.{AsksForExec, IsWithin, options_with};
+ghost use Rattle.verse_top_exec.specs.Executions.{Executes, ExecutesSoFar, IsNothing};
+ghost use Rattle.verse_top_exec.specs.Leaving.{Leaves};
 ghost use Rattle.verse_top.specs.Answers.{Begins, IsAnswer, Replies, read_line};
 
 use crate::writing::{not_read, write_answer};
 use std::alloc::Global;
-use verse_exec::asking::Asked;
-use verse_exec::executing::exec;
-use verse_exec::stops::Stop;
 use verse_outside::files::{Files, LoadFault};
 use verse_outside::sinks::Sink;
-use verse_words::commands::Running;
+use verse_top_args::commands::Running;
+use verse_top_exec::asking::Asked;
+use verse_top_exec::executing::exec;
+use verse_top_exec::stops::Stop;
 
 /// Loads the file whole, and runs the image that its bytes are.
 pub(crate) fn execute<F: Files, S: Sink>(

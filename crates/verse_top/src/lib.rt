@@ -12,5 +12,5 @@ mod loading;
 mod writing;
 
 pub use call::verse;
-pub use verse_texts::endings::ending_text;
-pub use verse_words::commands::words_fit;
+pub use verse_top_args::commands::words_fit;
+pub use verse_top_texts::endings::ending_text;

@@ -1,15 +1,15 @@
 //! Answers that are written all at once.
 
 ghost use Rattle.std.specs.Prelude.{◌≡◌, ◌≤◌, IfOk};
-ghost use Rattle.verse_exec.specs.Leaving.{Leaves};
-ghost use Rattle.verse_exec.specs.Executions.{IsNothing};
+ghost use Rattle.verse_top_exec.specs.Leaving.{Leaves};
+ghost use Rattle.verse_top_exec.specs.Executions.{IsNothing};
 ghost use Rattle.verse_top.specs.Answers.{IsAnswer, read_line};
 
 use crate::answers::Answer;
 use std::alloc::Global;
 use verse_base::refusals::Memory;
-use verse_exec::stops::Stop;
 use verse_outside::sinks::{Sink, write_all};
+use verse_top_exec::stops::Stop;
 
 /// Writes the text and answers the status.
 pub(crate) fn write_answer<S: Sink>(answer: Answer, out: &mut S) -> Result<u8, Stop>

@@ -1,7 +1,7 @@
 //! A command over files and a sink in memory.
 
 ghost use Rattle.std.specs.Prelude.{◌≡◌, ◌⊎◌, ℕ, List, map, string_bytes};
-ghost use Rattle.verse_words.specs.Words.{Command, Says};
+ghost use Rattle.verse_top_args.specs.Words.{Command, Says};
 
 use std::alloc::Global;
 use verse_outside::memory_files::MemFiles;

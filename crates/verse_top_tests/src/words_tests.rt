@@ -1,13 +1,13 @@
 //! Tests of the words of a command line.
 
 ghost use Rattle.std.specs.Prelude.{ℤ, List, option_copied};
-ghost use Rattle.verse_words.specs.Words.{Inputs};
+ghost use Rattle.verse_top_args.specs.Words.{Inputs};
 
 use std::alloc::{AllocError, Global};
 use std::test::Fail;
 use verse_base::refusals::Memory;
 use verse_base::texts::decimal;
-use verse_words::commands::{Request, Running, find_request, words_fit, words_say_once};
+use verse_top_args::commands::{Request, Running, find_request, words_fit, words_say_once};
 
 // the words, then a bar and what they ask for: the command and its files; of a run the steps, the
 // horizon, whether the heap is written, and the word of `--in`, or `-` where it is not given;

@@ -2,7 +2,7 @@
 //!
 //! To be read in this order: `bytes`, `keys` and `kept`, what values are made of; `values`;
 //! `equality`, `sizes` and `lookups`, what is asked of them; `modes` and `runs`, words for those
-//! above. What is written of a value is said in `specs/Texts`, and done by `verse_texts`.
+//! above. What is written of a value is said in `specs/Texts`, and done by `verse_top_texts`.
 //!
 //! The public lemmas, which crates above cite, are those of `proofs/Steps`, `proofs/Seen`,
 //! `proofs/KeyPlaces`, `proofs/Stepping` and `proofs/EqualityLaw`.

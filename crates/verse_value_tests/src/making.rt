@@ -10,7 +10,7 @@ use std::alloc::Global;
 use verse_base::refusals::Memory;
 use verse_value::keys::Key;
 use verse_value::values::{Entries, Parts, Value};
-use verse_write::paths::Path;
+use verse_value_writes::paths::Path;
 
 /// An array of two values.
 pub fn pair(alloc: Global, first: Value, second: Value) -> Result<Value, Memory>

@@ -8,15 +8,15 @@ use crate::words::{path, value, values};
 use std::alloc::Global;
 use std::test::Fail;
 use verse_base::refusals::Kind;
-use verse_texts::printing::{keys_are_values, text};
+use verse_top_texts::printing::{keys_are_values, text};
 use verse_value::bytes::Bytes;
 use verse_value::equality::equal;
 use verse_value::keys::Key;
 use verse_value::lookups::{Step, find, is_text, key_from, text_bytes};
 use verse_value::sizes::{cell_weight, is_fit, levels, weight};
 use verse_value::values::{Entries, Parts, Value, copy_all};
-use verse_write::paths::Path;
-use verse_write::writes::{
+use verse_value_writes::paths::Path;
+use verse_value_writes::writes::{
     Mode, Undo, WriteFault, Written, store, store_logged, take_back, write, write_logged,
 };
 

@@ -3,13 +3,13 @@
 ghost use Rattle.std.specs.Prelude.{◌≡◌, [], MatchOption, option_map};
 ghost use Rattle.verse_value.specs.View.{val_of, vals_of};
 ghost use Rattle.verse_value.specs.Places.{step_in, misfit, found, path_to_map};
-ghost use Rattle.verse_write.specs.Writes.{CanUndo, undone};
+ghost use Rattle.verse_value_writes.specs.Writes.{CanUndo, undone};
 
 use verse_value::lookups::{Step, at, find};
 use verse_value::values::Value;
-use verse_write::changes::{drop_last, put_at, shorten_at};
-use verse_write::paths::Path;
-use verse_write::writes::Undo;
+use verse_value_writes::changes::{drop_last, put_at, shorten_at};
+use verse_value_writes::paths::Path;
+use verse_value_writes::writes::Undo;
 
 /// What `at` reads; `None` exactly where the index doesn't go with the value.
 pub fn read<'a>(v: &'a Value, index: &Value) -> Option<Option<&'a Value>>

@@ -5,7 +5,7 @@ use std::alloc::Global;
 use std::test::Fail;
 use verse_value::lookups::key_from;
 use verse_value::values::{Entries, Parts, Value};
-use verse_write::paths::Path;
+use verse_value_writes::paths::Path;
 
 fn text_value(alloc: Global, bytes: &[u8]) -> Result<Slot, Fail> {
     let mut whole = made(Value::array(alloc, Vec::new(alloc)))?;

@@ -12,10 +12,10 @@ use crate::faults::OpFault;
 use std::alloc::Global;
 use verse_base::refusals::Kind;
 use verse_base::texts::decimal;
-use verse_making::making::text_value;
 use verse_value::lookups::text_bytes;
 use verse_value::sizes::MOST_WEIGHT;
 use verse_value::values::Value;
+use vm_ops_constructors::making::text_value;
 
 /// The value of a text: the array of its chars.
 pub fn op_text(alloc: Global, bytes: &[u8]) -> Result<Value, OpFault>

@@ -4,7 +4,7 @@ use crate::making::{nested, units};
 use std::alloc::Global;
 use std::test::Fail;
 use verse_base::refusals::Kind;
-use verse_texts::printing::text;
+use verse_top_texts::printing::text;
 use verse_value::sizes::{levels, weight};
 use verse_value::values::{Entries, Value};
 use vm_ops::equality::{op_eq, op_ne};

@@ -6,18 +6,18 @@ use Rattle.verse_code.specs.declared.codes.Code.{Code}
 use Rattle.verse_code.specs.declared.codes.Func.{Func}
 use Rattle.verse_value.specs.Val.{Val}
 use Rattle.verse_value.specs.declared.runs.Ending.TheVariants as ending
-use Rattle.verse_state.specs.State.{State, Memory, begun, spending, at_moment}
-use Rattle.verse_state.specs.Waits.{Wait, Due, least, has}
-use Rattle.verse_state.specs.Turns.{closed, amiss, turn, turn_at}
-use Rattle.verse_machine.specs.Tasks.{Task, Trees, Who, World, Step, waits_of}
-use Rattle.verse_machine.specs.Ends.{is_asleep, woken, woken_in}
-use Rattle.verse_machine.specs.Runs.{Forest, main_starts}
-use Rattle.verse_machine.specs.Belonging.{StoreBelongs, StateBelongs, TasksBelong, TreesBelong, StepBelongs, StageBelongs, OperationKeeps}
-use Rattle.vm_thread.specs.Framed.{Framed}
-use Rattle.vm_thread.specs.Machine.{frames_with}
-use Rattle.vm_runner.specs.Views.{View, Aside, state_of, memories}
-use Rattle.vm_runner.specs.Doings.{on_frame, going}
-use Rattle.vm_runner.specs.Comes.{done}
+use Rattle.verse_meaning_state.specs.State.{State, Memory, begun, spending, at_moment}
+use Rattle.verse_meaning_state.specs.Waits.{Wait, Due, least, has}
+use Rattle.verse_meaning_state.specs.Turns.{closed, amiss, turn, turn_at}
+use Rattle.verse_code_machine.specs.Tasks.{Task, Trees, Who, World, Step, waits_of}
+use Rattle.verse_code_machine.specs.Ends.{is_asleep, woken, woken_in}
+use Rattle.verse_code_machine.specs.Runs.{Forest, main_starts}
+use Rattle.verse_code_machine.specs.Belonging.{StoreBelongs, StateBelongs, TasksBelong, TreesBelong, StepBelongs, StageBelongs, OperationKeeps}
+use Rattle.vm_frames.specs.Framed.{Framed}
+use Rattle.vm_frames.specs.Machine.{frames_with}
+use Rattle.vm_running.specs.Views.{View, Aside, state_of, memories}
+use Rattle.vm_running.specs.Doings.{on_frame, going}
+use Rattle.vm_running.specs.Comes.{done}
 use Rattle.vm_step.specs.Steps.{steps}
 
 module _ (cs : List Class) where

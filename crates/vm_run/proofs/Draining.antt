@@ -8,21 +8,21 @@ use Rattle.verse_outside.specs.Held.{TookPrefix, with_more}
 use Rattle.verse_code.specs.declared.codes.Code.{Code}
 use Rattle.verse_value.specs.Runs.{Line, Run}
 use Rattle.verse_value.specs.declared.runs.Ending.{Ending}
-use Rattle.verse_state.specs.State.{State}
-use Rattle.verse_state.specs.Effects.{printed}
-use Rattle.verse_state.specs.Turns.{Stage, going, closed, broken, amiss, run_closed}
-use Rattle.verse_machine.specs.Tasks.{tree_waits}
-use Rattle.verse_machine.specs.Runs.{Forest, mach_after, mach}
+use Rattle.verse_meaning_state.specs.State.{State}
+use Rattle.verse_meaning_state.specs.Effects.{printed}
+use Rattle.verse_meaning_state.specs.Turns.{Stage, going, closed, broken, amiss, run_closed}
+use Rattle.verse_code_machine.specs.Tasks.{tree_waits}
+use Rattle.verse_code_machine.specs.Runs.{Forest, mach_after, mach}
 use Rattle.sim_clock.specs.declared.waits.Pending.{Pending}
 use Rattle.trace_buf.specs.Trace.{Trace, outside, drained}
 use Rattle.trace_buf.specs.Trace as trace
 use Rattle.tx_heap.specs.State.{State as Kept}
-use Rattle.vm_table.proofs.Ticks.{same_timed}
-use Rattle.vm_table.specs.Clocks.{sleeping}
-use Rattle.vm_runner.specs.Views.{Aside, line_of, state_of}
-use Rattle.vm_runner.specs.Runners.{view_of}
+use Rattle.vm_tasks_laws.proofs.Ticks.{same_timed}
+use Rattle.vm_tasks_laws.specs.Clocks.{sleeping}
+use Rattle.vm_running.specs.Views.{Aside, line_of, state_of}
+use Rattle.vm_running.specs.Runners.{view_of}
 use Rattle.vm_tasks.specs.View.{slot_of}
-use Rattle.vm_world.specs.Frames.{frames_in}
+use Rattle.vm_scheduler.specs.Frames.{frames_in}
 use Rattle.vm_run.specs.declared.machines.Vm.{Vm}
 use Rattle.vm_run.specs.Standing.{Shows, LiveIs, IsEnd, IsResting, Holds, IsBound, At}
 use Rattle.vm_run.specs.Turning.{state_in, lines_after, TookPart, Turned, TurnedTo}

@@ -5,8 +5,8 @@ use Rattle.verse_code.specs.declared.codes.Code.{Code}
 use Rattle.verse_code.specs.Validity.{Valid}
 use Rattle.verse_value.specs.Runs.{Line}
 use Rattle.verse_value.specs.declared.runs.Ending.{Ending}
-use Rattle.verse_machine.specs.Runs.{mach_after}
-use Rattle.verse_machine.specs.Laws.{RunsEnd, StaysOver}
+use Rattle.verse_code_machine.specs.Runs.{mach_after}
+use Rattle.verse_code_machine.specs.Laws.{RunsEnd, StaysOver}
 use Rattle.sim_clock.specs.declared.waits.Pending.{Pending}
 use Rattle.tx_heap.specs.State.{State as Kept}
 use Rattle.vm_run.specs.declared.machines.Phase.TheVariants as phase

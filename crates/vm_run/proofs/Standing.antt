@@ -9,17 +9,17 @@ use Rattle.verse_value.specs.Val.{int, array, vals}
 use Rattle.verse_value.specs.View.{val_of}
 use Rattle.verse_value.specs.declared.runs.Ending.{Ending}
 use Rattle.verse_value.specs.declared.runs.Ending.TheVariants as ending
-use Rattle.verse_state.specs.State.{State}
-use Rattle.verse_state.specs.Turns.{Stage, going, closed, broken, amiss, turns, run, run_closed, run_of}
-use Rattle.verse_machine.specs.Tasks.{tree_waits}
-use Rattle.verse_machine.specs.Runs.{Forest, turn_taken, started, mach_after, mach}
-use Rattle.verse_machine.specs.Belonging.{StateBelongs, StageBelongs, RunBelongs}
-use Rattle.verse_machine.specs.Laws.{IsWhole, IsOver, RunsEnd, StaysOver}
+use Rattle.verse_meaning_state.specs.State.{State}
+use Rattle.verse_meaning_state.specs.Turns.{Stage, going, closed, broken, amiss, turns, run, run_closed, run_of}
+use Rattle.verse_code_machine.specs.Tasks.{tree_waits}
+use Rattle.verse_code_machine.specs.Runs.{Forest, turn_taken, started, mach_after, mach}
+use Rattle.verse_code_machine.specs.Belonging.{StateBelongs, StageBelongs, RunBelongs}
+use Rattle.verse_code_machine.specs.Laws.{IsWhole, IsOver, RunsEnd, StaysOver}
 use Rattle.sim_clock.specs.declared.waits.Pending.{Pending}
 use Rattle.tx_heap.specs.State.{State as Kept}
-use Rattle.vm_runner.specs.Views.{View, Aside, line_of, state_of}
-use Rattle.vm_runner.specs.Runners.{view_of}
-use Rattle.vm_world.specs.declared.tasks.Tasks.{Tasks}
+use Rattle.vm_running.specs.Views.{View, Aside, line_of, state_of}
+use Rattle.vm_running.specs.Runners.{view_of}
+use Rattle.vm_scheduler.specs.declared.tasks.Tasks.{Tasks}
 use Rattle.vm_run.specs.declared.machines.Phase.{Phase}
 use Rattle.vm_run.specs.declared.machines.Phase.TheVariants as phase
 use Rattle.vm_run.specs.declared.machines.Vm.{Vm}

@@ -1,6 +1,6 @@
 -- Marks that are closed.
 use Rattle.std.specs.Prelude.{◌≡◌, []}
-use Rattle.vm_runner.specs.Views.{View}
+use Rattle.vm_running.specs.Views.{View}
 
 -- no mark is open, and all else is as it was
 pub record Closes (v u : View) : Type 0 where

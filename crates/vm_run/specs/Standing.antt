@@ -5,16 +5,16 @@ use Rattle.verse_value.specs.Val.{int, array, vals}
 use Rattle.verse_value.specs.View.{val_of}
 use Rattle.verse_value.specs.Runs.{Line, Run}
 use Rattle.verse_value.specs.declared.runs.Ending.{Ending}
-use Rattle.verse_state.specs.State.{State, begun}
-use Rattle.verse_state.specs.Turns.{Stage, going, closed, broken, amiss, run, run_closed}
-use Rattle.verse_machine.specs.Tasks.{tree_waits}
-use Rattle.verse_machine.specs.Runs.{Forest, mach_after}
+use Rattle.verse_meaning_state.specs.State.{State, begun}
+use Rattle.verse_meaning_state.specs.Turns.{Stage, going, closed, broken, amiss, run, run_closed}
+use Rattle.verse_code_machine.specs.Tasks.{tree_waits}
+use Rattle.verse_code_machine.specs.Runs.{Forest, mach_after}
 use Rattle.sim_clock.specs.declared.waits.Pending.{Pending}
 use Rattle.tx_heap.specs.State.{State as Kept}
-use Rattle.vm_runner.specs.Views.{View, Aside, line_of, state_of}
-use Rattle.vm_runner.specs.Runners.{view_of}
-use Rattle.vm_world.specs.Going.{Resting}
-use Rattle.vm_wakes.specs.Starts.{Fresh, IsNew}
+use Rattle.vm_running.specs.Views.{View, Aside, line_of, state_of}
+use Rattle.vm_running.specs.Runners.{view_of}
+use Rattle.vm_scheduler.specs.Going.{Resting}
+use Rattle.vm_wake.specs.Starts.{Fresh, IsNew}
 use Rattle.vm_run.specs.declared.machines.Vm.{Vm}
 use Rattle.vm_run.specs.declared.machines.Phase.TheVariants as phase
 

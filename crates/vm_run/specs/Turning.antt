@@ -4,10 +4,10 @@ use Rattle.verse_outside.specs.Held.{TookPrefix, with_more}
 use Rattle.verse_code.specs.declared.codes.Code.{Code}
 use Rattle.verse_value.specs.Runs.{Line}
 use Rattle.verse_value.specs.declared.runs.Ending.{Ending}
-use Rattle.verse_state.specs.State.{State}
-use Rattle.verse_state.specs.Effects.{printed}
-use Rattle.verse_state.specs.Turns.{Stage, going, closed, broken, amiss}
-use Rattle.verse_machine.specs.Runs.{Forest, mach_after, mach}
+use Rattle.verse_meaning_state.specs.State.{State}
+use Rattle.verse_meaning_state.specs.Effects.{printed}
+use Rattle.verse_meaning_state.specs.Turns.{Stage, going, closed, broken, amiss}
+use Rattle.verse_code_machine.specs.Runs.{Forest, mach_after, mach}
 use Rattle.sim_clock.specs.declared.waits.Pending.{Pending}
 use Rattle.tx_heap.specs.State.{State as Kept}
 use Rattle.vm_run.specs.declared.machines.Vm.{Vm}

@@ -1,11 +1,11 @@
 //! Open marks at the end of a run.
 
 ghost use Rattle.std.specs.Prelude.{◌≡◌, [], OnOk};
-ghost use Rattle.vm_runner.specs.Runners.{view_of};
+ghost use Rattle.vm_running.specs.Runners.{view_of};
 ghost use Rattle.vm_run.specs.Closing.{Closes};
 
 use tx_heap::heaps::Heap;
-use vm_runner::runners::Runner;
+use vm_running::runners::Runner;
 
 /// Closes all open marks, and keeps store and trace as they stand. Takes no memory.
 pub(crate) fn close<H: Heap>(run: &mut Runner<H>)

@@ -15,10 +15,10 @@ use verse_base::refusals::Memory;
 use verse_code::codes::Code;
 use verse_value::runs::Ending;
 use verse_value::values::Value;
-use vm_runner::runners::Runner;
-use vm_thread::threads::Thread;
-use vm_wakes::starts::no_tasks;
-use vm_world::tasks::Tasks;
+use vm_frames::threads::Thread;
+use vm_running::runners::Runner;
+use vm_scheduler::tasks::Tasks;
+use vm_wake::starts::no_tasks;
 
 /// How far a run may go: the steps that it may spend, and the last moment of a turn in
 /// milliseconds.

@@ -4,7 +4,7 @@ ghost use Rattle.std.specs.Prelude.{◌≡◌, ◌≤◌, ℕ, ℤ, List, map, I
 ghost use Rattle.verse_code.specs.Validity.{Valid};
 ghost use Rattle.verse_value.specs.Val.{int, array, vals};
 ghost use Rattle.verse_value.specs.View.{val_of};
-ghost use Rattle.vm_runner.specs.Runners.{view_of};
+ghost use Rattle.vm_running.specs.Runners.{view_of};
 ghost use Rattle.vm_run.specs.Reaching.{IsWholly, Follows, CanBegin, Begins, CanTurn, Turns};
 
 use crate::closing::close;
@@ -15,10 +15,10 @@ use tx_heap::heaps::Heap;
 use verse_base::refusals::Memory;
 use verse_code::codes::Code;
 use verse_value::values::Value;
-use vm_runner::runners::Runner;
-use vm_wakes::starts::start_main;
-use vm_wakes::turns::take_turn;
-use vm_world::tasks::{Tasks, Went};
+use vm_running::runners::Runner;
+use vm_scheduler::tasks::{Tasks, Went};
+use vm_wake::starts::start_main;
+use vm_wake::turns::take_turn;
 
 /// Main begins, and operations follow.
 pub(crate) fn begin<H: Heap, W: Waits>(

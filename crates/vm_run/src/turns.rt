@@ -7,7 +7,7 @@ ghost use Rattle.verse_value.specs.Runs.{Line};
 ghost use Rattle.vm_run.specs.declared.machines.Phase.TheVariants as phase;
 ghost use Rattle.vm_run.specs.declared.turns.TurnFault.TheVariants as fault;
 ghost use Rattle.vm_run.specs.Standing.{Holds, At, Belongs};
-ghost use Rattle.verse_machine.specs.Runs.{mach_after};
+ghost use Rattle.verse_code_machine.specs.Runs.{mach_after};
 ghost use Rattle.vm_run.specs.Reaching.{ended_in};
 ghost use Rattle.vm_run.specs.Turning.{lines_after, Turned, TookPart, TurnedTo, Ran};
 
@@ -18,7 +18,7 @@ use std::mem;
 use tx_heap::heaps::Heap;
 use verse_base::refusals::Memory;
 use verse_code::codes::Code;
-use verse_machine::{run_belongs, runs_end, stays_over};
+use verse_code_machine::{run_belongs, runs_end, stays_over};
 use verse_outside::sinks::{Failed, Sink};
 use verse_value::runs::Ending;
 use verse_value::values::Value;

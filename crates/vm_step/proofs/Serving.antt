@@ -9,28 +9,28 @@ use Rattle.verse_code.specs.declared.operations.Op.{Op}
 use Rattle.verse_code.specs.declared.operations.Op.TheVariants as o
 use Rattle.verse_code.specs.Validity.{Valid}
 use Rattle.verse_value.specs.declared.runs.Ending.TheVariants as ending
-use Rattle.verse_machine.specs.Tasks.{Who, World, Step}
-use Rattle.verse_machine.specs.Frames.{on_there}
-use Rattle.verse_machine.specs.Acts.{kind_of}
-use Rattle.verse_state.specs.Turns.{Kind}
+use Rattle.verse_code_machine.specs.Tasks.{Who, World, Step}
+use Rattle.verse_code_machine.specs.Frames.{on_there}
+use Rattle.verse_code_machine.specs.Acts.{kind_of}
+use Rattle.verse_meaning_state.specs.Turns.{Kind}
 use Rattle.sim_clock.specs.declared.waits.Pending.{Pending}
-use Rattle.vm_thread.specs.Framed.{Framed, place_of}
-use Rattle.vm_thread.specs.Machine.{frames_with}
-use Rattle.vm_runner.specs.Views.{View, Aside, state_of, memories}
-use Rattle.vm_runner.specs.Doings.{Doing, on_frame, acts}
-use Rattle.vm_runner.specs.Comes.{done}
-use Rattle.vm_acts_ends.specs.declared.asked.Asked.{Asked}
-use Rattle.vm_acts_ends.specs.declared.asked.Asked.TheVariants as asked
-use Rattle.vm_acts_ends.specs.declared.asked.Arms.{Arms}
-use Rattle.vm_acts_ends.specs.Asking.{AsksFor, Asks}
-use Rattle.vm_acts_ends.specs.Leaving.{Leaves}
-use Rattle.vm_acts.specs.Sorting.{FitsChar}
-use Rattle.vm_world.specs.declared.tasks.Tasks.{Tasks}
-use Rattle.vm_world.specs.declared.tasks.Went.{Went}
-use Rattle.vm_world.specs.declared.tasks.Went.TheVariants as went
-use Rattle.vm_world.specs.Going.{Scene, Going, Goes}
-use Rattle.vm_world.specs.Meets.{Meets, Comes}
-use Rattle.vm_begins.specs.Doings.{begins_group}
+use Rattle.vm_frames.specs.Framed.{Framed, place_of}
+use Rattle.vm_frames.specs.Machine.{frames_with}
+use Rattle.vm_running.specs.Views.{View, Aside, state_of, memories}
+use Rattle.vm_running.specs.Doings.{Doing, on_frame, acts}
+use Rattle.vm_running.specs.Comes.{done}
+use Rattle.vm_exec_tasks.specs.declared.asked.Asked.{Asked}
+use Rattle.vm_exec_tasks.specs.declared.asked.Asked.TheVariants as asked
+use Rattle.vm_exec_tasks.specs.declared.asked.Arms.{Arms}
+use Rattle.vm_exec_tasks.specs.Asking.{AsksFor, Asks}
+use Rattle.vm_exec_tasks.specs.Leaving.{Leaves}
+use Rattle.vm_exec.specs.Sorting.{FitsChar}
+use Rattle.vm_scheduler.specs.declared.tasks.Tasks.{Tasks}
+use Rattle.vm_scheduler.specs.declared.tasks.Went.{Went}
+use Rattle.vm_scheduler.specs.declared.tasks.Went.TheVariants as went
+use Rattle.vm_scheduler.specs.Going.{Scene, Going, Goes}
+use Rattle.vm_scheduler.specs.Meets.{Meets, Comes}
+use Rattle.vm_begin.specs.Doings.{begins_group}
 use Rattle.vm_step.specs.Steps.{steps, StartsAt, IsAsked, Serves}
 use Rattle.vm_step.proofs.Starting.{past_of, asked_starts}
 

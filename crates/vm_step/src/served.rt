@@ -1,24 +1,24 @@
 //! What an operation asks is served.
 
 ghost use Rattle.std.specs.Prelude.{◌≡◌, IfOk};
-ghost use Rattle.verse_machine.specs.Acts.{kind_of as kind_meant};
-ghost use Rattle.vm_runner.specs.Runners.{view_of};
+ghost use Rattle.verse_code_machine.specs.Acts.{kind_of as kind_meant};
+ghost use Rattle.vm_running.specs.Runners.{view_of};
 ghost use Rattle.vm_tasks.specs.View.{kind_of};
 ghost use Rattle.vm_step.specs.Steps.{IsAsked, Serves};
 
 use sim_clock::waits::{WaitKind, Waits};
 use tx_heap::heaps::Heap;
 use verse_base::refusals::Memory;
-use vm_acts_ends::asked::Asked;
-use vm_begins::begins::{branch, spawn};
-use vm_begins::groups::group;
-use vm_ends::ends::{block_ended, closed, finished, returned};
-use vm_rests::asleep::suspend;
-use vm_rests::results::await_task;
-use vm_runner::runners::{Did, Runner};
+use vm_begin::begins::{branch, spawn};
+use vm_begin::groups::group;
+use vm_exec_tasks::asked::Asked;
+use vm_return::ends::{block_ended, closed, finished, returned};
+use vm_running::runners::{Did, Runner};
+use vm_scheduler::tasks::{Tasks, Went};
+use vm_suspend::asleep::suspend;
+use vm_suspend::results::await_task;
 use vm_tasks::slots::Kind;
-use vm_wakes::signals::signal;
-use vm_world::tasks::{Tasks, Went};
+use vm_wake::signals::signal;
 
 /// Serves what an operation asks, as it has left the task that runs.
 pub fn serve<H: Heap, W: Waits>(

@@ -2,10 +2,10 @@
 
 ghost use Rattle.std.specs.Prelude.{IfOk};
 ghost use Rattle.verse_code.specs.Validity.{Valid};
-ghost use Rattle.verse_machine.specs.Belonging.{StoreBelongs};
-ghost use Rattle.vm_runner.specs.Runners.{view_of};
-ghost use Rattle.vm_world.specs.Going.{Goes};
-ghost use Rattle.vm_world.specs.Meets.{Comes};
+ghost use Rattle.verse_code_machine.specs.Belonging.{StoreBelongs};
+ghost use Rattle.vm_running.specs.Runners.{view_of};
+ghost use Rattle.vm_scheduler.specs.Going.{Goes};
+ghost use Rattle.vm_scheduler.specs.Meets.{Comes};
 ghost use Rattle.vm_step.specs.Steps.{steps};
 
 use crate::served::serve;
@@ -14,9 +14,9 @@ use tx_heap::heaps::Heap;
 use verse_base::refusals::Memory;
 use verse_code::codes::Code;
 use verse_value::runs::Ending;
-use vm_acts::acting::act;
-use vm_runner::runners::Runner;
-use vm_world::tasks::{Tasks, Went};
+use vm_exec::acting::act;
+use vm_running::runners::Runner;
+use vm_scheduler::tasks::{Tasks, Went};
 
 /// Carries out the next operation of the task that runs: a task goes on, the run is over, or the
 /// turn is over. Stuck at the end of the code.

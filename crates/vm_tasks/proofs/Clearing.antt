@@ -5,7 +5,7 @@ use Rattle.task_tree.specs.Nested.{IsTree, Under, itself}
 use Rattle.task_tree.specs.Removing.{Parts, all_parted, one_goes, one_stays, Cancels, Visited}
 use Rattle.task_tree.proofs.Standing.{found}
 use Rattle.sim_clock.specs.declared.waits.Pending.{Pending}
-use Rattle.vm_table.specs.Cancelling.{none_younger, one_younger}
+use Rattle.vm_tasks_laws.specs.Cancelling.{none_younger, one_younger}
 use Rattle.vm_tasks.specs.declared.slots.Slot.{Slot}
 use Rattle.vm_tasks.specs.declared.gone.Gone.{Gone}
 use Rattle.vm_tasks.specs.Gone.{IsYounger, NoYounger, Leaves, Cleared}

@@ -5,24 +5,24 @@ use Rattle.std.proofs.Common.{subst, ◌∙◌, arith}
 use Rattle.task_tree.specs.Tasks.{Task, task_at, with_item, without, HasNoChild}
 use Rattle.task_tree.specs.Nested.{IsTree}
 use Rattle.task_tree.proofs.Standing.{inner}
-use Rattle.verse_state.specs.State.{State, drawn}
-use Rattle.verse_state.specs.Waits.{Wait, Due}
-use Rattle.verse_machine.specs.Tasks as m
-use Rattle.verse_machine.specs.Tasks.{Frame, Who, Part, did, Rest, asleep, group, World}
-use Rattle.verse_machine.specs.Ends.{resumes, woken_in}
+use Rattle.verse_meaning_state.specs.State.{State, drawn}
+use Rattle.verse_meaning_state.specs.Waits.{Wait, Due}
+use Rattle.verse_code_machine.specs.Tasks as m
+use Rattle.verse_code_machine.specs.Tasks.{Frame, Who, Part, did, Rest, asleep, group, World}
+use Rattle.verse_code_machine.specs.Ends.{resumes, woken_in}
 use Rattle.sim_clock.specs.declared.waits.WaitKind.{WaitKind}
 use Rattle.sim_clock.specs.declared.waits.WaitKind.TheVariants.{At, Never, Task as OnTask, Event}
 use Rattle.sim_clock.specs.Pending.{added}
 use Rattle.sim_clock.specs.declared.waits.Pending.{Pending}
 use Rattle.sim_clock.specs.declared.waits.Due.{Due as ClockDue}
-use Rattle.vm_table.specs.Slots as table
-use Rattle.vm_table.specs.Standing.{Stands, Rests}
-use Rattle.vm_table.specs.Clocks.{cause_of, value_for, with_held, sleeping, Timed}
-use Rattle.vm_table.proofs.Overs.{has_none}
-use Rattle.vm_table.proofs.Endings.{arm_over, behind_over, joins, root_over, spawned_over}
-use Rattle.vm_table.proofs.Ticks.{IsNew, added_timed}
-use Rattle.vm_table.proofs.Steps.{running_spot, is_held, at_spot}
-use Rattle.vm_table.proofs.Wakings.{wakes, item_waits}
+use Rattle.vm_tasks_laws.specs.Slots as table
+use Rattle.vm_tasks_laws.specs.Standing.{Stands, Rests}
+use Rattle.vm_tasks_laws.specs.Clocks.{cause_of, value_for, with_held, sleeping, Timed}
+use Rattle.vm_tasks_laws.proofs.Overs.{has_none}
+use Rattle.vm_tasks_laws.proofs.Endings.{arm_over, behind_over, joins, root_over, spawned_over}
+use Rattle.vm_tasks_laws.proofs.Ticks.{IsNew, added_timed}
+use Rattle.vm_tasks_laws.proofs.Steps.{running_spot, is_held, at_spot}
+use Rattle.vm_tasks_laws.proofs.Wakings.{wakes, item_waits}
 use Rattle.vm_tasks.specs.declared.slots.Slot.{Slot}
 use Rattle.vm_tasks.specs.declared.slots.Held.{Held}
 use Rattle.vm_tasks.specs.declared.slots.Held.TheVariants.{ByMachine, Asleep, AtGroup}

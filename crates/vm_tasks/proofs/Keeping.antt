@@ -2,10 +2,10 @@
 use Rattle.std.proofs.Common.{◌≡◌, ◌⊎◌, inl, inr, ℕ, false, List, [], ◌∷◌, ◌++◌, subst}
 use Rattle.task_tree.specs.Tasks.{Task}
 use Rattle.task_tree.specs.Removing.{Parts, all_parted, one_goes, one_stays}
-use Rattle.verse_machine.specs.Tasks.{Frame}
+use Rattle.verse_code_machine.specs.Tasks.{Frame}
 use Rattle.sim_clock.specs.declared.waits.Pending.{Pending}
-use Rattle.vm_table.specs.Cancelling.{CancelsSince, none_younger, one_younger}
-use Rattle.vm_table.specs.Slots as table
+use Rattle.vm_tasks_laws.specs.Cancelling.{CancelsSince, none_younger, one_younger}
+use Rattle.vm_tasks_laws.specs.Slots as table
 use Rattle.vm_tasks.specs.declared.slots.Slot.{Slot}
 use Rattle.vm_tasks.specs.declared.gone.Gone.{Gone}
 use Rattle.vm_tasks.specs.Gone.{frames_in, In, first_in, later_in, Cleared, KeepsEach}

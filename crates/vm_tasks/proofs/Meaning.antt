@@ -5,21 +5,21 @@ use Rattle.task_tree.specs.Tasks.{Task}
 use Rattle.task_tree.specs.Nested.{IsTree}
 use Rattle.task_tree.specs.Removing.{Visited}
 use Rattle.task_tree.proofs.Standing.{inner}
-use Rattle.verse_state.specs.Waits.{Wait}
-use Rattle.verse_machine.specs.Tasks as m
-use Rattle.verse_machine.specs.Tasks.{Frame, Who, Part, Thread, World, since, beneath_arms}
-use Rattle.verse_machine.specs.Cancelling.{cancelled}
+use Rattle.verse_meaning_state.specs.Waits.{Wait}
+use Rattle.verse_code_machine.specs.Tasks as m
+use Rattle.verse_code_machine.specs.Tasks.{Frame, Who, Part, Thread, World, since, beneath_arms}
+use Rattle.verse_code_machine.specs.Cancelling.{cancelled}
 use Rattle.sim_clock.specs.declared.waits.Pending.{Pending}
-use Rattle.vm_table.specs.Slots as table
-use Rattle.vm_table.specs.Slots.{held, number_of}
-use Rattle.vm_table.specs.Standing.{Stands}
-use Rattle.vm_table.specs.Clocks.{sleeping, with_held, Timed, all_removed}
-use Rattle.vm_table.specs.Told.{AllPairs, IsTold, backwards}
-use Rattle.vm_table.specs.Together.{CancelledToo}
-use Rattle.vm_table.proofs.Lists.{Each}
-use Rattle.vm_table.proofs.Steps.{set_down, begins_group, branches, arm_begins}
-use Rattle.vm_table.proofs.Overs.{spawns_root, cancels_since, cancels_arms}
-use Rattle.vm_table.proofs.Wakings.{stretch_timed}
+use Rattle.vm_tasks_laws.specs.Slots as table
+use Rattle.vm_tasks_laws.specs.Slots.{held, number_of}
+use Rattle.vm_tasks_laws.specs.Standing.{Stands}
+use Rattle.vm_tasks_laws.specs.Clocks.{sleeping, with_held, Timed, all_removed}
+use Rattle.vm_tasks_laws.specs.Told.{AllPairs, IsTold, backwards}
+use Rattle.vm_tasks_laws.specs.Together.{CancelledToo}
+use Rattle.vm_tasks_laws.proofs.Lists.{Each}
+use Rattle.vm_tasks_laws.proofs.Steps.{set_down, begins_group, branches, arm_begins}
+use Rattle.vm_tasks_laws.proofs.Overs.{spawns_root, cancels_since, cancels_arms}
+use Rattle.vm_tasks_laws.proofs.Wakings.{stretch_timed}
 use Rattle.vm_tasks.specs.declared.slots.Slot.{Slot}
 use Rattle.vm_tasks.specs.declared.slots.Held.{Held}
 use Rattle.vm_tasks.specs.declared.slots.Held.TheVariants.{ByMachine, Asleep, AtGroup}

@@ -3,21 +3,21 @@ use Rattle.std.specs.Prelude.{◌≡◌, ◌≤◌, ℕ, List, [], ◌∷◌, �
 use Rattle.task_tree.specs.Tasks.{Task, HasNoChild}
 use Rattle.verse_base.specs.declared.places.Place.{Place}
 use Rattle.verse_value.specs.Val.{Val}
-use Rattle.verse_state.specs.State.{State, drawn}
-use Rattle.verse_state.specs.Waits.{Due, nth}
-use Rattle.verse_state.specs.Turns as turns
-use Rattle.verse_machine.specs.Tasks as m
-use Rattle.verse_machine.specs.Tasks.{Frame, root, part, Who, Part, did, Thread, Up, begins, branching, spawning, Trees, World, world, onto}
-use Rattle.verse_machine.specs.Tasks.{among}
-use Rattle.verse_machine.specs.Ends.{resumes, woken_in}
+use Rattle.verse_meaning_state.specs.State.{State, drawn}
+use Rattle.verse_meaning_state.specs.Waits.{Due, nth}
+use Rattle.verse_meaning_state.specs.Turns as turns
+use Rattle.verse_code_machine.specs.Tasks as m
+use Rattle.verse_code_machine.specs.Tasks.{Frame, root, part, Who, Part, did, Thread, Up, begins, branching, spawning, Trees, World, world, onto}
+use Rattle.verse_code_machine.specs.Tasks.{among}
+use Rattle.verse_code_machine.specs.Ends.{resumes, woken_in}
 use Rattle.sim_clock.specs.declared.waits.WaitKind.{WaitKind}
 use Rattle.sim_clock.specs.declared.waits.WaitKind.TheVariants.{At, Never, Task as OnTask, Event}
 use Rattle.sim_clock.specs.declared.waits.Pending.{Pending}
 use Rattle.sim_clock.specs.declared.waits.Due.{Due as ClockDue}
-use Rattle.vm_table.specs.Slots.{held}
-use Rattle.vm_table.specs.Standing.{Stands, Rests}
-use Rattle.vm_table.specs.Clocks.{cause_of, value_for, sleeping, Timed, NextIs}
-use Rattle.vm_table.specs.Together.{Joins}
+use Rattle.vm_tasks_laws.specs.Slots.{held}
+use Rattle.vm_tasks_laws.specs.Standing.{Stands, Rests}
+use Rattle.vm_tasks_laws.specs.Clocks.{cause_of, value_for, sleeping, Timed, NextIs}
+use Rattle.vm_tasks_laws.specs.Together.{Joins}
 use Rattle.vm_tasks.specs.declared.slots.Slot.{Slot}
 use Rattle.vm_tasks.specs.declared.slots.Held.{Held}
 use Rattle.vm_tasks.specs.declared.slots.Held.TheVariants.{Asleep}

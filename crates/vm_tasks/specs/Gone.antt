@@ -2,10 +2,10 @@
 use Rattle.std.specs.Prelude.{◌≡◌, ◌⊎◌, ◌<◌, ◌≤◌, ℕ, false, List, [], ◌∷◌, ◌++◌, Some}
 use Rattle.task_tree.specs.Tasks.{Task, task_at, youngest}
 use Rattle.task_tree.specs.Removing.{Visited}
-use Rattle.verse_machine.specs.Tasks.{Frame}
+use Rattle.verse_code_machine.specs.Tasks.{Frame}
 use Rattle.sim_clock.specs.declared.waits.Pending.{Pending}
 use Rattle.sim_clock.specs.Pending.{removed}
-use Rattle.vm_table.specs.Cancelling.{CancelsSince}
+use Rattle.vm_tasks_laws.specs.Cancelling.{CancelsSince}
 use Rattle.vm_tasks.specs.declared.slots.Slot.{Slot}
 use Rattle.vm_tasks.specs.declared.slots.Held.{Held}
 use Rattle.vm_tasks.specs.declared.slots.Held.TheVariants.{ByMachine, Asleep, AtGroup}

@@ -2,16 +2,16 @@
 use Rattle.std.specs.Prelude.{◌≡◌, ◌<◌, ◌≤◌, ℕ, Bool, false, List, [], ◌∷◌, ◌++◌, map, Option, Some, None}
 use Rattle.task_tree.specs.Tasks.{Task, task_at}
 use Rattle.verse_base.specs.declared.places.Place.{Place}
-use Rattle.verse_state.specs.State.{State}
-use Rattle.verse_state.specs.Turns as turns
-use Rattle.verse_machine.specs.Tasks as m
-use Rattle.verse_machine.specs.Tasks.{Frame, Who, Part, Rest, Thread, thread, begins, branching, spawning, World, world, child_named}
-use Rattle.verse_machine.specs.Tasks.{root_named, since, beneath_arms}
-use Rattle.verse_machine.specs.Cancelling.{world_without, cancelled}
+use Rattle.verse_meaning_state.specs.State.{State}
+use Rattle.verse_meaning_state.specs.Turns as turns
+use Rattle.verse_code_machine.specs.Tasks as m
+use Rattle.verse_code_machine.specs.Tasks.{Frame, Who, Part, Rest, Thread, thread, begins, branching, spawning, World, world, child_named}
+use Rattle.verse_code_machine.specs.Tasks.{root_named, since, beneath_arms}
+use Rattle.verse_code_machine.specs.Cancelling.{world_without, cancelled}
 use Rattle.sim_clock.specs.declared.waits.Pending.{Pending}
-use Rattle.vm_table.specs.Slots.{by_itself, Entry, held, arms_at, ArmedBy}
-use Rattle.vm_table.specs.Standing.{Stands}
-use Rattle.vm_table.specs.Clocks.{sleeping, Timed}
+use Rattle.vm_tasks_laws.specs.Slots.{by_itself, Entry, held, arms_at, ArmedBy}
+use Rattle.vm_tasks_laws.specs.Standing.{Stands}
+use Rattle.vm_tasks_laws.specs.Clocks.{sleeping, Timed}
 use Rattle.vm_tasks.specs.declared.slots.Slot.{Slot}
 use Rattle.vm_tasks.specs.declared.slots.Held.{Held}
 use Rattle.vm_tasks.specs.declared.gone.Gone.{Gone}

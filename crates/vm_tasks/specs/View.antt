@@ -1,10 +1,10 @@
 -- What a slot stands for, where `frames` are a task's frames in the machine's definition, the top one and those below it.
 use Rattle.std.specs.Prelude.{List, map, Some, None}
 use Rattle.verse_value.specs.View.{val_of}
-use Rattle.verse_state.specs.Turns as turns
-use Rattle.verse_machine.specs.Tasks.{Frame, Role, root, part, Part, did, runs, asleep, group}
-use Rattle.vm_table.specs.Slots as table
-use Rattle.vm_table.specs.Clocks.{cause_of}
+use Rattle.verse_meaning_state.specs.Turns as turns
+use Rattle.verse_code_machine.specs.Tasks.{Frame, Role, root, part, Part, did, runs, asleep, group}
+use Rattle.vm_tasks_laws.specs.Slots as table
+use Rattle.vm_tasks_laws.specs.Clocks.{cause_of}
 use Rattle.vm_tasks.specs.declared.slots.Slot.{Slot}
 use Rattle.vm_tasks.specs.declared.slots.Held.{Held}
 use Rattle.vm_tasks.specs.declared.slots.Held.TheVariants.{ByMachine, Asleep, AtGroup}

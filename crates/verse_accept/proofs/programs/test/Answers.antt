@@ -1,6 +1,6 @@
 use Rattle.std.proofs.Common.{map, rules}
 use Rattle.verse_tree.specs.ItemView.{item_of}
-use Rattle.verse_sound.proofs.Codes.{unsound_listed}
+use Rattle.verse_rules.proofs.Codes.{unsound_listed}
 use Rattle.verse_accept.proofs.Tested.{all_fine, unsound, too_large, not_built}
 use Rattle.verse_accept.proofs.programs.test.Goals as goal
 

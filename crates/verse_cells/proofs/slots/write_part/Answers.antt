@@ -1,7 +1,7 @@
 use Rattle.std.proofs.Common.{Option, IfErr, sym, subst}
 use Rattle.verse_value.specs.Val.{Val}
 use Rattle.verse_value.specs.View.{val_of, vals_of}
-use Rattle.verse_write.specs.Writes.{Explains}
+use Rattle.verse_value_writes.specs.Writes.{Explains}
 use Rattle.verse_cells.specs.Changes.{IsWrite, slot_written}
 use Rattle.verse_cells.proofs.Places.{if_ok, on_err, in_slot, same_slots, read_part}
 use Rattle.verse_cells.proofs.slots.write_part.Goals as goal

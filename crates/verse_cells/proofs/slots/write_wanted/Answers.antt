@@ -1,5 +1,5 @@
 use Rattle.verse_value.specs.View.{val_of, vals_of}
-use Rattle.verse_write.specs.Writes.{written}
+use Rattle.verse_value_writes.specs.Writes.{written}
 use Rattle.verse_cells.proofs.Wanting.{wrote_nothing}
 use Rattle.verse_cells.proofs.slots.write_wanted.Goals as goal
 

@@ -1,6 +1,6 @@
 use Rattle.std.proofs.Common.{map, ap, sym, subst}
 use Rattle.verse_tree.specs.ItemView.{item_of}
-use Rattle.verse_rows.specs.Steps.{Sight}
+use Rattle.verse_check_typing.specs.Steps.{Sight}
 use Rattle.verse_check.specs.Checking.{TellsTypes, AreTypesOf}
 use Rattle.verse_check.proofs.Answering.{answers}
 use Rattle.verse_check.proofs.Entries.{entries}

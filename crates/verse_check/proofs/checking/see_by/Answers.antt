@@ -1,9 +1,9 @@
 use Rattle.std.proofs.Common.{map, ◌∙◌}
 use Rattle.verse_tree.specs.ItemView.{item_of}
-use Rattle.verse_outline.specs.Lines.{members_view}
-use Rattle.verse_walk.proofs.Through.{through_items_nodes}
-use Rattle.verse_rows.specs.Steps.{step, begun}
-use Rattle.verse_rows.specs.Views.{names_of}
+use Rattle.verse_names_declarations.specs.Lines.{members_view}
+use Rattle.verse_rules_walk.proofs.Through.{through_items_nodes}
+use Rattle.verse_check_typing.specs.Steps.{step, begun}
+use Rattle.verse_check_typing.specs.Views.{names_of}
 use Rattle.verse_check.specs.Checking.{world_by}
 use Rattle.verse_check.proofs.checking.see_by.Goals as goal
 

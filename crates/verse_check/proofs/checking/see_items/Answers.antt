@@ -1,7 +1,7 @@
 use Rattle.std.proofs.Common.{map, ◌∙◌}
 use Rattle.verse_tree.specs.ItemView.{item_of}
-use Rattle.verse_outline.specs.Lines.{members_view}
-use Rattle.verse_rows.specs.Views.{names_of}
+use Rattle.verse_names_declarations.specs.Lines.{members_view}
+use Rattle.verse_check_typing.specs.Views.{names_of}
 use Rattle.verse_check.specs.Views.{sight_of}
 use Rattle.verse_check.proofs.Answering.{sees}
 use Rattle.verse_check.proofs.checking.see_items.Goals as goal

@@ -1,6 +1,6 @@
 use Rattle.std.proofs.Common.{map, sym, subst}
 use Rattle.verse_tree.specs.ItemView.{item_of}
-use Rattle.verse_walk.specs.Nodes.{items_nodes}
+use Rattle.verse_rules_walk.specs.Nodes.{items_nodes}
 use Rattle.verse_effects.specs.Rules.{Answers}
 use Rattle.verse_effects.specs.declared.seen.Seen.{Seen}
 use Rattle.verse_effects.proofs.Answering.{answers}

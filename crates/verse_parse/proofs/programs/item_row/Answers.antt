@@ -1,6 +1,6 @@
 use Rattle.verse_parse.proofs.programs.item_row.Goals as goal
 use Rattle.verse_parse.proofs.Rows.{item_read, item_goes}
-use Rattle.verse_read_parts.proofs.Rows.{row_shorter}
+use Rattle.verse_parse_parts.proofs.Rows.{row_shorter}
 
 pub items-preserved : goal.items-preserved
 items-preserved c = record {

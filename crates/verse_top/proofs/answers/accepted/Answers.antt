@@ -1,7 +1,7 @@
 use Rattle.std.proofs.Common.{map, string_bytes, subst}
 use Rattle.verse_tree.specs.ItemView.{item_of}
-use Rattle.verse_words.specs.Requests.{AsksFor}
-use Rattle.verse_words.specs.declared.commands.Request.{Request}
+use Rattle.verse_top_args.specs.Requests.{AsksFor}
+use Rattle.verse_top_args.specs.declared.commands.Request.{Request}
 use Rattle.verse_top.proofs.AnswerLaws.{answers_checked}
 use Rattle.verse_top.proofs.answers.accepted.Goals as goal
 

@@ -1,10 +1,10 @@
 use Rattle.std.proofs.Common.{◌≡◌, List, ℕ, map, ap, sym, ◌∙◌, rules}
 use Rattle.verse_tree.specs.ItemView.{item_of}
 use Rattle.verse_tree.specs.declared.items.Tree.{Tree}
-use Rattle.verse_built.specs.Texts.{texts_of}
-use Rattle.verse_state.specs.Texts.{run_text}
+use Rattle.verse_accept_built.specs.Texts.{texts_of}
+use Rattle.verse_meaning_state.specs.Texts.{run_text}
 use Rattle.verse_top.specs.Meaning.{mean}
-use Rattle.verse_texts.specs.Endings.{ending_status}
+use Rattle.verse_top_texts.specs.Endings.{ending_status}
 use Rattle.verse_top.proofs.AnswerLaws.{answers_ran, ok_both}
 use Rattle.verse_top.proofs.answers.run.Goals as goal
 

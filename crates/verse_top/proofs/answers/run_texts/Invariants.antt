@@ -1,6 +1,6 @@
 -- The lines so far and those that are left are the whole trace.
 use Rattle.std.proofs.Common.{◌≡◌, ◌++◌, drop}
-use Rattle.verse_state.specs.Effects.{printed as lines_printed}
+use Rattle.verse_meaning_state.specs.Effects.{printed as lines_printed}
 use Rattle.verse_top.specs.Meaning.{printed}
 use Rattle.verse_top.proofs.answers.run_texts.Given as goal
 

@@ -1,7 +1,7 @@
 -- One case for each command.
 use Rattle.std.proofs.Common.{◌≡◌, subst, sym}
-use Rattle.verse_words.specs.Requests.{AsksFor}
-use Rattle.verse_words.specs.declared.commands.Request.{Request}
+use Rattle.verse_top_args.specs.Requests.{AsksFor}
+use Rattle.verse_top_args.specs.declared.commands.Request.{Request}
 use Rattle.verse_top.proofs.call.answer.Goals as goal
 
 pub returns-in-Exec-clause-leaves : goal.returns-in-Exec-clause-leaves

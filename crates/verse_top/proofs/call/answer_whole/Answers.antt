@@ -1,8 +1,8 @@
 -- The reply, written at once.
 use Rattle.std.proofs.Common.{◌≡◌, refl}
-use Rattle.verse_exec.specs.declared.stops.Stop.TheVariants as stop
-use Rattle.verse_exec.specs.Leaving.{Leaves}
-use Rattle.verse_exec.proofs.Leaving.{at_error, leaves_nothing}
+use Rattle.verse_top_exec.specs.declared.stops.Stop.TheVariants as stop
+use Rattle.verse_top_exec.specs.Leaving.{Leaves}
+use Rattle.verse_top_exec.proofs.Leaving.{at_error, leaves_nothing}
 use Rattle.verse_top.specs.Answers.{Begins, Replies, nothing}
 use Rattle.verse_top.proofs.ExecuteLaws.{leaves_answer}
 use Rattle.verse_top.proofs.call.answer_whole.Goals as goal

@@ -1,6 +1,6 @@
 -- The status of a whole text, of want of memory, and of a fault.
 use Rattle.std.proofs.Common.{◌≡◌, Ok, Err, rules}
-use Rattle.verse_exec.specs.declared.stops.Stop.TheVariants as stop
+use Rattle.verse_top_exec.specs.declared.stops.Stop.TheVariants as stop
 use Rattle.verse_top.proofs.CallLaws.{told_failed, told_whole, told_without}
 use Rattle.verse_top.proofs.call.tell.Goals as goal
 

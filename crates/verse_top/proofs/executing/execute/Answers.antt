@@ -3,9 +3,9 @@ use Rattle.std.proofs.Common.{◌≡◌, ◌⊎◌, ℕ, List, Err, string_bytes
 use Rattle.verse_outside.specs.Causes.{Rose}
 use Rattle.verse_outside.specs.Held.{Lacks, Loads}
 use Rattle.verse_outside.specs.declared.files.LoadFault.TheVariants as fault
-use Rattle.verse_exec.specs.declared.stops.Stop.TheVariants as stop
-use Rattle.verse_exec.specs.Leaving.{Leaves}
-use Rattle.verse_exec.proofs.Leaving.{at_error, leaves_nothing}
+use Rattle.verse_top_exec.specs.declared.stops.Stop.TheVariants as stop
+use Rattle.verse_top_exec.specs.Leaving.{Leaves}
+use Rattle.verse_top_exec.proofs.Leaving.{at_error, leaves_nothing}
 use Rattle.verse_top.specs.Answers.{Begins, Replies, nothing, read_line}
 use Rattle.verse_top.specs.Loading.{IsRead}
 use Rattle.verse_top.proofs.ExecuteLaws.{first_file, leaves_executed, leaves_unread}

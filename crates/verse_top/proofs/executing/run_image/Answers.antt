@@ -1,11 +1,11 @@
 -- The inputs that the words list.
 use Rattle.std.proofs.Common.{◌≡◌, List, ℤ, refl, subst, ◌∙◌}
-use Rattle.verse_words.specs.Requests.{options_with}
-use Rattle.verse_words.proofs.CommandLemmas.{inputs_once}
-use Rattle.verse_exec.specs.declared.stops.Stop.TheVariants as stop
-use Rattle.verse_exec.specs.Executions.{Executes, ExecutesSoFar, nothing}
-use Rattle.verse_exec.specs.Leaving.{Leaves}
-use Rattle.verse_exec.proofs.Leaving.{at_error, leaves_nothing}
+use Rattle.verse_top_args.specs.Requests.{options_with}
+use Rattle.verse_top_args.proofs.CommandLemmas.{inputs_once}
+use Rattle.verse_top_exec.specs.declared.stops.Stop.TheVariants as stop
+use Rattle.verse_top_exec.specs.Executions.{Executes, ExecutesSoFar, nothing}
+use Rattle.verse_top_exec.specs.Leaving.{Leaves}
+use Rattle.verse_top_exec.proofs.Leaving.{at_error, leaves_nothing}
 use Rattle.verse_top.proofs.executing.run_image.Goals as goal
 
 pub returns-in_err-inputs-clause-leaves : goal.returns-in_err-inputs-clause-leaves

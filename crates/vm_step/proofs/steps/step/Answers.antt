@@ -1,5 +1,5 @@
 use Rattle.std.proofs.Common.{◌≡◌, Some, None, slice_get, sym, ap, ◌∙◌}
-use Rattle.vm_thread.specs.Framed.{place_of}
+use Rattle.vm_frames.specs.Framed.{place_of}
 use Rattle.vm_step.proofs.Serving.{char_fits, step_none, asked_here, step_ok}
 use Rattle.vm_step.proofs.steps.step.Goals as goal
 

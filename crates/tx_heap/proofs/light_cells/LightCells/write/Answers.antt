@@ -1,7 +1,7 @@
 use Rattle.std.proofs.Common.{subst}
 use Rattle.std.proofs.lemmas.Result.{err_from_is_err_and}
 use Rattle.verse_value.specs.View.{val_of, vals_of}
-use Rattle.verse_write.specs.Writes.{Explains}
+use Rattle.verse_value_writes.specs.Writes.{Explains}
 use Rattle.verse_cells.specs.Held.{Held, store_of}
 use Rattle.tx_heap.specs.Outcomes.{cells_written, Lands}
 use Rattle.tx_heap.proofs.Limits.{write_reweighs, write_lands, fault_lands}

@@ -2,7 +2,7 @@ use Rattle.std.proofs.Common.{◌≡◌, List, length, drop, sym, subst, ◌∙�
 use Rattle.std.proofs.lemmas.List.{take_at}
 use Rattle.std.proofs.lemmas.Result.{err_from_is_err_and}
 use Rattle.verse_value.specs.View.{val_of, vals_of}
-use Rattle.verse_write.specs.Writes.{Explains}
+use Rattle.verse_value_writes.specs.Writes.{Explains}
 use Rattle.verse_cells.specs.View.{cells_of}
 use Rattle.verse_cells.specs.declared.slots.Cell.{Cell}
 use Rattle.tx_heap.specs.Outcomes.{cells_written, Lands}

@@ -1,7 +1,7 @@
 use Rattle.std.proofs.Common.{sym, ap, subst, ◌∙◌}
 use Rattle.verse_value.specs.View.{val_of}
 use Rattle.verse_value.specs.declared.values.Value.{Value}
-use Rattle.vm_runner.specs.Runners.{view_of}
+use Rattle.vm_running.specs.Runners.{view_of}
 use Rattle.vm_run.specs.Reaching.{CanBegin}
 use Rattle.vm_run.proofs.Reaching.{ok_to}
 use Rattle.vm_run.proofs.Standing.{can_begin, can_turn, began, inputs_at, turned, still_ended}

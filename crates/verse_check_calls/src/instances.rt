@@ -1,0 +1,193 @@
+//! Instances of classes.
+
+ghost use Rattle.std.specs.Prelude.{◌≡◌, ◌+◌, ◌&&◌, ◌||◌, [], map, not, cond, Some, None, IfOk};
+ghost use Rattle.std.specs.Prelude.{OnOk};
+ghost use Rattle.verse_tree.specs.View.{given_of, givens};
+ghost use Rattle.verse_rules_types.specs.Types.{ty_of};
+ghost use Rattle.verse_check_typing.specs.Facts.{named_ref};
+ghost use Rattle.verse_check_typing.specs.Members as m;
+ghost use Rattle.verse_check_typing.specs.Rows as rows;
+ghost use Rattle.verse_check_typing.specs.TypeRules as r;
+ghost use Rattle.verse_check_typing.specs.Views.{facts_of, judged_of, numbers_of};
+
+use crate::members::field_by;
+use crate::names::class_type;
+use verse_base::refusals::Memory;
+use verse_check_typing::facts::Facts;
+use verse_check_typing::judged::Judged;
+use verse_check_typing::sets::NumberSet;
+use verse_rules_types::fitting::does_fit;
+use verse_tree::exprs::Given;
+use verse_tree::tables::{FieldInfo, Ref, Ty};
+
+fn does_fit_field(facts: &Facts<'_>, class: u32, ty: &Ty, place: Option<u32>) -> bool
+    ensures { result ≡ m.fits_field (facts_of facts.now) class (ty_of ty.now) place }
+{
+    match place {
+        None => true,
+        Some(place) => does_fit_at(facts, class, ty, place),
+    }
+}
+
+fn does_fit_at(facts: &Facts<'_>, class: u32, ty: &Ty, place: u32) -> bool
+    ensures { result ≡ m.fits_field (facts_of facts.now) class (ty_of ty.now) (Some place) }
+{
+    match facts.field_at(class, place) {
+        None => does_fit(facts.classes(), ty, &Ty::Never),
+        Some(info) => does_fit(facts.classes(), ty, &info.ty),
+    }
+}
+
+/// Whether each value fits its field, where there is a field of its name.
+fn do_givens_fit(facts: &Facts<'_>, class: u32, parts: &[Given]) -> bool
+    ensures { result ≡ m.givens_fit (facts_of facts.now) class (givens (map given_of parts.now)) }
+{
+    'parts: for part in parts {
+        let ty = facts.type_of(part.value.get());
+        let place = field_by(facts, class, part.name.as_slice());
+        if !does_fit_field(facts, class, ty, place) {
+            return false;
+        }
+    }
+    true
+}
+
+/// Whether each name is that of a field.
+fn are_fields(facts: &Facts<'_>, class: u32, parts: &[Given]) -> bool
+    ensures { result ≡ m.are_fields (facts_of facts.now) class (givens (map given_of parts.now)) }
+{
+    'parts: for part in parts {
+        if field_by(facts, class, part.name.as_slice()).is_none() {
+            return false;
+        }
+    }
+    true
+}
+
+fn add_place(places: &mut NumberSet, place: Option<u32>) -> Result<(), Memory>
+    ensures { OnOk result (numbers_of places.new ≡ m.with_place place (numbers_of places.old)) }
+{
+    match place {
+        None => Ok(()),
+        Some(place) => places.add(place),
+    }
+}
+
+/// The places of the fields that are given.
+fn places(facts: &Facts<'_>, class: u32, parts: &[Given]) -> Result<NumberSet, Memory>
+    ensures { IfOk result (λ s. numbers_of s ≡ m.places_from (facts_of facts.now) class []
+        (givens (map given_of parts.now))) }
+{
+    let mut found = NumberSet::new(facts.world.alloc);
+    'parts: for part in parts {
+        let place = field_by(facts, class, part.name.as_slice());
+        add_place(&mut found, place)?;
+    }
+    Ok(found)
+}
+
+/// Whether each field has a default or is given.
+fn are_all_given(given: &NumberSet, fields: &[FieldInfo]) -> Result<bool, Memory>
+    ensures { IfOk result (λ b. b ≡ m.all_given (numbers_of given.now) 0 fields.now) }
+{
+    let mut at = 0u32;
+    'fields: for field in fields {
+        if field.default.is_none() && !given.has(at) {
+            return Ok(false);
+        }
+        at = next(at)?;
+    }
+    Ok(true)
+}
+
+fn next(at: u32) -> Result<u32, Memory>
+    ensures { IfOk result (λ n. n ≡ at + 1) }
+{
+    match at.checked_add(1) {
+        None => Err(Memory),
+        Some(at) => Ok(at),
+    }
+}
+
+fn fields_of<'a>(facts: &Facts<'a>, class: u32) -> &'a [FieldInfo]
+    ensures { result.now ≡ m.fields_of (facts_of facts.now) class }
+{
+    match facts.classes().get(class as usize) {
+        None => &[],
+        Some(info) => info.fields.as_slice(),
+    }
+}
+
+fn has_all(facts: &Facts<'_>, class: u32, parts: &[Given]) -> Result<bool, Memory>
+    ensures { IfOk result (λ b. b ≡
+        m.has_all (facts_of facts.now) class (givens (map given_of parts.now))) }
+{
+    let given = places(facts, class, parts)?;
+    are_all_given(&given, fields_of(facts, class))
+}
+
+fn class_code(facts: &Facts<'_>, class: u32, parts: &[Given]) -> Result<Option<u16>, Memory>
+    ensures { IfOk result (λ c. c ≡
+        cond (not (m.givens_fit (facts_of facts.now) class (givens (map given_of parts.now))))
+        (Some 50) (cond (not (m.has_all (facts_of facts.now) class
+        (givens (map given_of parts.now)))) (Some 55)
+        (cond (not (m.are_fields (facts_of facts.now) class (givens (map given_of parts.now))))
+        (Some 56) None))) }
+{
+    if !do_givens_fit(facts, class, parts) {
+        return Ok(Some(50));
+    }
+    if !has_all(facts, class, parts)? {
+        return Ok(Some(55));
+    }
+    if !are_fields(facts, class, parts) {
+        return Ok(Some(56));
+    }
+    Ok(None)
+}
+
+fn instance_code(
+    facts: &Facts<'_>,
+    what: Option<Ref>,
+    parts: &[Given],
+) -> Result<Option<u16>, Memory>
+    ensures { IfOk result (λ c. c ≡
+        cond (not (r.on_class what (λ d.
+        m.givens_fit (facts_of facts.now) d (givens (map given_of parts.now))))) (Some 50)
+        (cond (not (r.is_class what)) (Some 51)
+        (cond (not (r.on_class what
+        (λ d. m.has_all (facts_of facts.now) d (givens (map given_of parts.now))))) (Some 55)
+        (cond (not (r.on_class what
+        (λ d. m.are_fields (facts_of facts.now) d (givens (map given_of parts.now)))))
+        (Some 56) None)))) }
+{
+    match what {
+        Some(Ref::Class(class)) => class_code(facts, class, parts),
+        _ => Ok(Some(51)),
+    }
+}
+
+/// `c{F := E}`.
+pub fn instance(facts: &Facts<'_>, node: u32, parts: &[Given]) -> Result<Judged, Memory>
+    ensures { IfOk result (λ j. judged_of j ≡
+        record {
+          ty = rows.class_type (named_ref (facts_of facts.now) node);
+          code =
+              cond (not (r.on_class (named_ref (facts_of facts.now) node)
+              (λ d. m.givens_fit (facts_of facts.now) d (givens (map given_of parts.now)))))
+              (Some 50)
+              (cond (not (r.is_class (named_ref (facts_of facts.now) node))) (Some 51)
+              (cond (not (r.on_class (named_ref (facts_of facts.now) node)
+              (λ d. m.has_all (facts_of facts.now) d (givens (map given_of parts.now))))) (Some 55)
+              (cond (not (r.on_class (named_ref (facts_of facts.now) node)
+              (λ d. m.are_fields (facts_of facts.now) d (givens (map given_of parts.now)))))
+              (Some 56) None)));
+        }) }
+{
+    let what = facts.named_ref(node);
+    let code = instance_code(facts, what, parts)?;
+    Ok(Judged {
+        ty: class_type(what),
+        code,
+    })
+}

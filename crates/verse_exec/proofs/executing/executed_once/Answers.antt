@@ -1,5 +1,0 @@
-use Rattle.verse_exec.proofs.Executions.{once}
-use Rattle.verse_exec.proofs.executing.executed_once.Goals as goal
-
-pub returns : goal.returns
-returns c = once

@@ -1,6 +1,0 @@
--- The options of a run, as they are asked for.
-use Rattle.verse_words.specs.Words.{Options}
-use Rattle.verse_exec.specs.declared.asking.Asked.{Asked}
-
-abbrev pub options_of : Asked → Options
-options_of a = record { steps = a.steps; until = a.until; inputs = a.inputs.now; heap = a.heap }

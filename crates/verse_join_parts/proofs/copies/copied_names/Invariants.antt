@@ -1,0 +1,5 @@
+use Rattle.std.proofs.Common.{◌≡◌, take}
+use Rattle.verse_join_parts.proofs.copies.copied_names.Given as goal
+
+abbrev pub invariant-names : goal.invariant-names
+invariant-names l = l.copies ≡ take l.name-index l.names

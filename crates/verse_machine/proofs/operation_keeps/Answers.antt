@@ -1,5 +1,0 @@
-use Rattle.verse_machine.proofs.BelongingRuns.{operation_keeps}
-use Rattle.verse_machine.proofs.operation_keeps.Goals as goal
-
-pub returns : goal.returns
-returns c = operation_keeps

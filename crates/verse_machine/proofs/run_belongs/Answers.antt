@@ -1,5 +1,0 @@
-use Rattle.verse_machine.proofs.BelongingRuns.{run_belongs}
-use Rattle.verse_machine.proofs.run_belongs.Goals as goal
-
-pub returns : goal.returns
-returns c = run_belongs

@@ -1,5 +1,0 @@
-use Rattle.verse_machine.proofs.Whole.{stays_over}
-use Rattle.verse_machine.proofs.stays_over.Goals as goal
-
-pub returns : goal.returns
-returns c = stays_over

@@ -1,5 +1,0 @@
-use Rattle.std.proofs.Common.{◌≡◌, take}
-use Rattle.verse_numbered_parts.proofs.copies.copied_specs.Given as goal
-
-abbrev pub invariant-specs : goal.invariant-specs
-invariant-specs l = l.copies ≡ take l.spec-index l.specs

@@ -1,9 +1,0 @@
-use Rattle.std.proofs.Common.{◌≡◌, drop, map}
-use Rattle.verse_rows.specs.Sets.{has_names}
-use Rattle.verse_rows.specs.Views.{bytes_of, names_of}
-use Rattle.verse_rows_control.proofs.cases.has_all.Given as goal
-
--- what is left gives the answer
-abbrev pub invariant-values : goal.invariant-values
-invariant-values l = has_names (map bytes_of (drop l.value-index l.values)) (names_of l.named) ≡
-    has_names (map bytes_of l.values) (names_of l.named)

@@ -1,0 +1,11 @@
+use Rattle.std.proofs.Common.{◌≡◌, ◌-◌, length}
+use Rattle.verse_rules_types.specs.Types.{classes_of}
+use Rattle.verse_rules_types.specs.Fitting.{first_above}
+use Rattle.verse_rules_types.specs.Kinds.{unique_at}
+use Rattle.verse_rules_types.proofs.classes.is_unique.Given as goal
+
+-- what is left to climb gives the answer
+abbrev pub invariant-steps : goal.invariant-steps
+invariant-steps l =
+    let cs = classes_of l.classes in
+    first_above cs (unique_at cs) (length cs - l._i) l.at ≡ first_above cs (unique_at cs) (length cs) l.class

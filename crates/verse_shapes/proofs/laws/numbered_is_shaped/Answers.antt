@@ -1,5 +1,0 @@
-use Rattle.verse_shapes.proofs.Numbered.{numbering_keeps}
-use Rattle.verse_shapes.proofs.laws.numbered_is_shaped.Goals as goal
-
-pub returns : goal.returns
-returns c = numbering_keeps

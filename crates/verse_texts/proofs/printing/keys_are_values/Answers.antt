@@ -1,5 +1,0 @@
-use Rattle.verse_texts.proofs.KeyLaws.{keys_are_values}
-use Rattle.verse_texts.proofs.printing.keys_are_values.Goals as goal
-
-pub returns : goal.returns
-returns c = keys_are_values

@@ -1,0 +1,204 @@
+//! What a command line asks for.
+ghost use Rattle.std.specs.Prelude.{◌≡◌, ◌≤◌, ◌↔◌, ◌∷◌, ◌++◌, ℤ, codes, length, List, IfOk, IfSome};
+ghost use Rattle.std.specs.Prelude.{IsTrue, MatchOption, map, string_bytes, option_copied};
+ghost use Rattle.verse_top_args.specs.Words.{AreFiles, Command, EachIsFile, Inputs, IsFile};
+ghost use Rattle.verse_top_args.specs.Words.{SayOnce};
+ghost use Rattle.verse_top_args.specs.Words.{Says};
+ghost use Rattle.verse_top_args.specs.Requests.{AsksFor, BeginsWithNoFile, Gave, NoOptions};
+ghost use Rattle.verse_top_args.specs.Requests.{names_of};
+
+use crate::numbers::{inputs, is, lists_inputs};
+use crate::options::all_options;
+use std::alloc::Global;
+use verse_base::refusals::Memory;
+
+/// The most files that a program may have.
+const MOST_FILES: usize = 16;
+/// The steps that a run may spend where the words don't say.
+const DEFAULT_STEPS: u64 = 10000000;
+/// The horizon of the clock where the words don't say, in milliseconds.
+const DEFAULT_UNTIL: u64 = 1000000000000;
+
+/// What the words after the program's name ask for.
+#[derive(Clone, Copy)]
+pub enum Request<'a> {
+    /// That a program is run.
+    Run(Running<'a>),
+    /// That the machine of an image is run: there is one file.
+    Exec(Running<'a>),
+    /// Whether the program in these files is accepted.
+    Check(&'a [String]),
+}
+
+/// What is to be run: the names of its files, and its inputs by the word that lists them.
+#[derive(Clone, Copy)]
+pub struct Running<'a> {
+    pub files: &'a [String],
+    pub steps: u64,
+    pub until: u64,
+    pub inputs: Option<&'a str>,
+    pub heap: bool,
+}
+
+impl<'a> Request<'a> {
+    /// The names of the files: 1 to 16, where words ask for this.
+    pub fn files(&self) -> &'a [String]
+        ensures { map string_bytes result.now ≡ names_of self.now }
+    {
+        match self {
+            Request::Run(running) | Request::Exec(running) => running.files,
+            Request::Check(files) => files,
+        }
+    }
+}
+
+impl Running<'_> {
+    /// What Main is given.
+    pub fn ints(&self, alloc: Global) -> Result<Vec<i64>, Memory>
+        requires { (ns : List ℤ) × Inputs (option_copied self.now.inputs) ns }
+        ensures { IfOk result (λ v. Inputs (option_copied self.now.inputs) v.items) }
+    {
+        match self.inputs {
+            Some(word) => inputs(alloc, word),
+            None => Ok(Vec::new(alloc)),
+        }
+    }
+}
+
+/// No words are two commands.
+pub fn words_say_once()
+    ensures { SayOnce }
+{}
+
+/// Whether these words, those after the program's name, are a command. Takes no memory.
+pub fn words_fit(words: &[String]) -> bool
+    ensures { IsTrue result ↔ ((c : Command) × Says (map string_bytes words.now) c) }
+{
+    find_request(words).is_some()
+}
+
+/// What these words ask for, or None exactly where they are no command. Takes no memory.
+pub fn find_request(words: &[String]) -> Option<Request<'_>>
+    ensures asks { MatchOption result ((c : Command) → ¬ (Says (map string_bytes words.now) c))
+        (λ r. (c : Command) × Says (map string_bytes words.now) c × AsksFor r c) }
+    ensures files { IfSome result (λ r. AreFiles (names_of r)) }
+{
+    let (command, behind) = words.split_first()?;
+    let (files, options) = split_files(behind);
+    if !is_program(files) {
+        return None;
+    }
+    let command = command.as_str();
+    if is(command, "run") {
+        run(files, options)
+    } else if is(command, "exec") {
+        exec(files, options)
+    } else if is(command, "check") {
+        check(files, options)
+    } else {
+        None
+    }
+}
+
+/// Whether there are as many files as a program may have.
+fn is_program(files: &[String]) -> bool
+    ensures { IsTrue result ↔ ((1 ≤ length files.now) × (length files.now ≤ 16)) }
+{
+    !files.is_empty() && files.len() <= MOST_FILES
+}
+
+/// The words that name files, up to the first that does not, and those behind them.
+fn split_files(words: &[String]) -> (&[String], &[String])
+    ensures parts { words.now ≡ result.0.now ++ result.1.now }
+    ensures files { EachIsFile (map string_bytes result.0.now) }
+    ensures behind { BeginsWithNoFile (map string_bytes result.1.now) }
+{
+    let mut count = 0;
+    'files: while count < words.len() && is_file(words[count].as_str()) {
+        count += 1;
+    }
+    words.split_at(count)
+}
+
+/// The run of these files that the options behind them ask for.
+fn run<'a>(files: &'a [String], options: &'a [String]) -> Option<Request<'a>>
+    requires are { AreFiles (map string_bytes files.now) }
+    requires behind { BeginsWithNoFile (map string_bytes options.now) }
+    ensures asks { MatchOption result ((c : Command) →
+        ¬ (Says (codes "run" ∷ map string_bytes files.now ++ map string_bytes options.now) c))
+        (λ r. (c : Command) × Says (codes "run" ∷ map string_bytes files.now ++
+        map string_bytes options.now) c × AsksFor r c) }
+    ensures files { IfSome result (λ r. AreFiles (names_of r)) }
+{
+    Some(Request::Run(with_options(files, options)?))
+}
+
+/// The run of the image in the one file that the options behind it ask for.
+fn exec<'a>(files: &'a [String], options: &'a [String]) -> Option<Request<'a>>
+    requires are { AreFiles (map string_bytes files.now) }
+    requires behind { BeginsWithNoFile (map string_bytes options.now) }
+    ensures asks { MatchOption result ((c : Command) →
+        ¬ (Says (codes "exec" ∷ map string_bytes files.now ++ map string_bytes options.now) c))
+        (λ r. (c : Command) × Says (codes "exec" ∷ map string_bytes files.now ++
+        map string_bytes options.now) c × AsksFor r c) }
+    ensures files { IfSome result (λ r. AreFiles (names_of r)) }
+{
+    if files.len() > 1 {
+        return None;
+    }
+    Some(Request::Exec(with_options(files, options)?))
+}
+
+/// These files with the options of a run.
+fn with_options<'a>(files: &'a [String], options: &'a [String]) -> Option<Running<'a>>
+    ensures gives { MatchOption result (NoOptions (map string_bytes options.now))
+        (λ r. Gave (map string_bytes options.now) r) }
+    ensures files { IfSome result (λ r. map string_bytes r.files.now ≡ map string_bytes files.now) }
+{
+    let given = all_options(options)?;
+    if !fit_inputs(given.inputs) {
+        return None;
+    }
+    Some(Running {
+        files,
+        steps: given.steps.unwrap_or(DEFAULT_STEPS),
+        until: given.until.unwrap_or(DEFAULT_UNTIL),
+        inputs: given.inputs,
+        heap: given.heap,
+    })
+}
+
+/// The check of these files, where nothing is behind them.
+fn check<'a>(files: &'a [String], options: &'a [String]) -> Option<Request<'a>>
+    requires are { AreFiles (map string_bytes files.now) }
+    requires behind { BeginsWithNoFile (map string_bytes options.now) }
+    ensures asks { MatchOption result ((c : Command) →
+        ¬ (Says (codes "check" ∷ map string_bytes files.now ++ map string_bytes options.now) c))
+        (λ r. (c : Command) × Says (codes "check" ∷ map string_bytes files.now ++
+        map string_bytes options.now) c × AsksFor r c) }
+    ensures files { IfSome result (λ r. AreFiles (names_of r)) }
+{
+    if options.is_empty() {
+        Some(Request::Check(files))
+    } else {
+        None
+    }
+}
+
+fn is_file(word: &str) -> bool
+    ensures { IsTrue result ↔ IsFile word.now }
+{
+    match word.as_bytes() {
+        [first, ..] => *first != b'-',
+        [] => false,
+    }
+}
+
+fn fit_inputs(inputs: Option<&str>) -> bool
+    ensures { IsTrue result ↔ ((ns : List ℤ) × Inputs (option_copied inputs.entry) ns) }
+{
+    match inputs {
+        Some(word) => lists_inputs(word),
+        None => true,
+    }
+}

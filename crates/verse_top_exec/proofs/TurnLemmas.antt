@@ -1,0 +1,144 @@
+-- A run turn after turn, written as it goes on.
+use Rattle.std.proofs.Common.{◌≡◌, ℕ, zero, suc, ◌+◌, ◌≤◌, List, [], ◌∷◌, ◌++◌, Option, Some, None, map, length, refl, ap, sym, subst, ◌∙◌}
+use Rattle.std.proofs.Common.{append-nil, arith}
+use Rattle.std.specs.Prelude.{ℤ}
+use Rattle.std.specs.List.{flat_map}
+use Rattle.std.proofs.lemmas.Grind.{flat_map-append}
+use Rattle.verse_base.specs.TraceLine.{line_bytes}
+use Rattle.verse_outside.specs.Causes.{Rose}
+use Rattle.verse_outside.specs.Held.{with_more, TookPrefix}
+use Rattle.verse_code.specs.declared.codes.Code.{Code}
+use Rattle.verse_code.specs.Validity.{Valid}
+use Rattle.verse_value.specs.Runs.{Line}
+use Rattle.verse_value.specs.declared.runs.Ending.{Ending}
+use Rattle.verse_meaning_state.specs.Turns.{Stage, going, closed, broken, amiss}
+use Rattle.verse_meaning_state.specs.Effects.{printed}
+use Rattle.verse_code_machine.specs.Laws.{IsOver, RunsEnd}
+use Rattle.verse_code_machine.specs.Runs.{Forest, mach_after, mach}
+use Rattle.sim_clock.specs.declared.waits.Pending.{Pending}
+use Rattle.tx_heap.specs.State.{State as Kept}
+use Rattle.vm_running.specs.Views.{line_of}
+use Rattle.verse_top_args.specs.Words.{Options}
+use Rattle.verse_top_texts.specs.Streams as s
+use Rattle.verse_top_texts.specs.Streams.{Streams, nothing, turns, trace_text}
+use Rattle.vm_run.specs.declared.machines.Vm.{Vm}
+use Rattle.vm_run.specs.Standing.{At, Belongs, stands, IsEnd, LiveIs}
+use Rattle.vm_run.specs.Turning as t
+use Rattle.vm_run.specs.Turning.{ending_in, lines_after, TookPart, TurnedTo}
+use Rattle.vm_run.specs.declared.turns.TurnFault.{TurnFault}
+use Rattle.vm_run.specs.declared.turns.TurnFault.TheVariants as fault
+use Rattle.verse_top_exec.specs.declared.stops.Stop.TheVariants as stop
+use Rattle.verse_top_exec.specs.Executions.{RunsSoFar, run_with}
+use Rattle.verse_top_exec.specs.Leaving.{Stopped, Wrote, WroteFront}
+use Rattle.verse_top_exec.specs.Turns.{Written, unbegun, begun, Reached, Shown, Ended, stop_of}
+use Rattle.verse_top_exec.proofs.InsideRuns.{Counts}
+use Rattle.verse_top_exec.proofs.Takes.{more_nothing, more_then, rose_from, took_behind}
+
+printed_more : (xs ys : List Line) → printed (xs ++ ys) ≡ printed xs ++ printed ys
+printed_more xs ys = flat_map-append (λ (l : Line). line_bytes l.moment l.bytes) xs ys
+
+same_state : (g : Stage Forest) → t.state_in g ≡ s.state_in g
+same_state (going u ts) = refl
+same_state (closed e u ts) = refl
+same_state (broken e u) = refl
+same_state (amiss u) = refl
+
+over_ends : (g : Stage Forest) → IsOver g → ending_in g ≡ None → ⊥
+over_ends (going u ts) o e = o
+over_ends (closed x u ts) o e = cc
+over_ends (broken x u) o e = cc
+over_ends (amiss u) o e = o
+
+module _ (c : Code) (o : Options) where
+  lines_text : (k : ℕ) → printed (lines_after c o.inputs o.steps o.until k) ≡ trace_text (mach_after c o.inputs o.steps o.until k)
+  lines_text k = ap (λ u. printed u.memory.trace) (same_state (mach_after c o.inputs o.steps o.until k))
+
+  so_far : (turn : ℕ) (past : List Line) → Written c o turn past → RunsSoFar c o (printed past)
+  so_far _ _ unbegun = nothing
+  so_far _ _ (begun k none) = subst (RunsSoFar c o) (sym (lines_text k)) (turns k)
+
+  none_ended : (turn : ℕ) (past : List Line) → Written c o turn past → (k : ℕ) → turn ≡ suc k →
+      ending_in (mach_after c o.inputs o.steps o.until k) ≡ None
+  none_ended _ _ unbegun k e = absurd (cc)
+  none_ended _ _ (begun j none) k e = let same : j ≡ k = cc in
+      subst (λ i. ending_in (mach_after c o.inputs o.steps o.until i) ≡ None) same none
+
+module _ {H W : Type 0} (state : H → Kept) (pending : W → List Pending) (c : Code) (o : Options) where
+  pub reached_first : (m : Vm H W) (old : Option (List ℕ)) → At state pending c o.inputs o.steps o.until 0 [] m →
+      Reached state pending c o 0 old old m
+  reached_first m old at = record { past = []; written = unbegun; at = at; taken = sym (more_nothing old) }
+
+  pub belongs_first : (m : Vm H W) → At state pending c o.inputs o.steps o.until 0 [] m → Belongs state pending c m
+  belongs_first m at = stands o.inputs o.steps o.until 0 [] at
+
+  module _ (turn : ℕ) (old mid new : Option (List ℕ)) (m n : Vm H W) (r : Reached state pending c o turn old mid m) where
+    after_turn : (e : Option Ending) → TurnedTo state pending c o.inputs o.steps o.until turn r.past e mid new n →
+        new ≡ with_more old (printed (lines_after c o.inputs o.steps o.until turn))
+    after_turn e t =
+        more_then old mid new (printed r.past) (printed t.took.more) r.taken t.took.taken
+        ∙ ap (with_more old) (sym (printed_more r.past t.took.more) ∙ ap printed (sym t.took.all_are))
+
+    pub reached_next : TurnedTo state pending c o.inputs o.steps o.until turn r.past None mid new n →
+        Reached state pending c o (turn + 1) old new n
+    reached_next t =
+        let next : suc turn ≡ turn + 1 = omega arith in
+        let reached : Reached state pending c o (suc turn) old new n = record {
+          past = lines_after c o.inputs o.steps o.until turn;
+          written = begun turn (sym t.turned.answer);
+          at = t.turned.at;
+          taken = after_turn None t;
+        } in
+        subst (λ k. Reached state pending c o k old new n) next reached
+
+    pub ended_at : (e : Ending) → TurnedTo state pending c o.inputs o.steps o.until turn r.past (Some e) mid new n → n.run.trace.kept ≡ [] →
+        Ended state pending c o e old new n
+    ended_at e t none =
+        let is : IsEnd state pending (run_with c o) (lines_after c o.inputs o.steps o.until turn) n = t.turned.over.1 in
+        let lines : lines_after c o.inputs o.steps o.until turn ≡ (run_with c o).trace =
+        sym (is.trace ∙ ap (λ ks. lines_after c o.inputs o.steps o.until turn ++ map line_of ks) none ∙
+        append-nil (lines_after c o.inputs o.steps o.until turn)) in
+        record {
+          ending = t.turned.over.0;
+          shown = record { store = is.store; moment = is.moment; steps = is.steps; live = is.live };
+          taken = after_turn (Some e) t ∙ ap (λ ls. with_more old (printed ls)) lines;
+        }
+
+    pub stops_without : new ≡ mid → Wrote (RunsSoFar c o) old new
+    stops_without e = (printed r.past, (so_far c o turn r.past r.written, e ∙ r.taken))
+
+    pub stops_within : (before at now : ℕ) → before ≤ at → Rose at now →
+        TookPart r.past (lines_after c o.inputs o.steps o.until turn) mid new →
+        Stopped (RunsSoFar c o) (RunsSoFar c o) before now old new stop.Failed
+    stops_within before at now low rose p =
+        let text : printed r.past ++ printed p.more ≡ trace_text (mach_after c o.inputs o.steps o.until turn) =
+        sym (printed_more r.past p.more) ∙ ap printed (sym p.all_are) ∙ lines_text c o turn in (
+          rose_from before at now low rose,
+          (
+            trace_text (mach_after c o.inputs o.steps o.until turn),
+            (
+              turns turn,
+              subst (λ (l : List ℕ). TookPrefix old l new) text (took_behind old mid new (printed r.past) (printed p.more) r.taken p.taken),
+            ),
+          ),
+        )
+
+    pub stops_by : (before at now : ℕ) (f : TurnFault) → before ≤ at → (f ≡ fault.Memory → new ≡ mid) → (f ≡ fault.Failed → Rose at now) →
+        (f ≡ fault.Failed → TookPart r.past (lines_after c o.inputs o.steps o.until turn) mid new) →
+        Stopped (RunsSoFar c o) (RunsSoFar c o) before now old new (stop_of f)
+    stops_by before at now fault.Memory low memory rose part = stops_without (memory refl)
+    stops_by before at now fault.Failed low memory rose part = stops_within before at now low (rose refl) (part refl)
+
+  -- a run is over before there are more turns than steps
+  pub never_reached : RunsEnd → (turn : ℕ) (old new : Option (List ℕ)) (m : Vm H W) → Valid c → turn ≡ o.steps + 2 →
+      Reached state pending c o turn old new m → ⊥
+  never_reached ends turn old new m valid e r =
+      let last : turn ≡ suc (suc o.steps) = omega arith in
+      over_ends (mach_after c o.inputs o.steps o.until (suc o.steps)) (ends c o.inputs o.steps o.until valid).over
+      (none_ended c o turn r.past r.written (suc o.steps) last)
+
+-- how many waits a machine has is how many are left, where that counts
+pub counts_of : {H W : Type 0} (state : H → Kept) (pending : W → List Pending) (m : Vm H W) (live : Option ℕ) (n : ℕ) →
+    n ≡ length (pending m.tasks.gone.waits) →
+    LiveIs state pending live m → Counts live n
+counts_of state pending m None n e l = tt
+counts_of state pending m (Some live) n e l = l ∙ sym e

@@ -1,0 +1,46 @@
+-- What is answered to the bytes of a file that is run as an image, and what of it may have been written.
+use Rattle.std.specs.Prelude.{◌≡◌, ℕ, ◌-◌, ℤ, List, [], length, Bool, Err}
+use Rattle.verse_code.specs.declared.codes.Code.{Code}
+use Rattle.verse_image.specs.Format.{Image}
+use Rattle.verse_image.specs.Reading.{flaw, image_at}
+use Rattle.verse_value.specs.Runs.{Run}
+use Rattle.verse_meaning_state.specs.Texts.{run_text}
+use Rattle.verse_code_machine.specs.Runs.{mach, mach_after}
+use Rattle.verse_top_texts.specs.Endings.{ending_status}
+use Rattle.verse_top_texts.specs.Images.{image_line}
+use Rattle.verse_top_texts.specs.Streams.{Streams}
+use Rattle.verse_top_args.specs.Words.{Options}
+
+-- the run of a code with these options
+abbrev pub run_with : Code → Options → Run
+run_with c o = mach c o.inputs o.steps o.until
+
+-- its text, and its status
+pub record Runs (c : Code) (o : Options) (status : ℕ) (text : List ℕ) : Type 0 where
+  pub status_is : status ≡ ending_status (run_with c o).ending
+  pub text_is : text ≡ run_text (run_with c o) o.heap c.files
+
+-- what may have been written of it
+abbrev pub RunsSoFar : Code → Options → List ℕ → Type 0
+RunsSoFar c o text = Streams (mach_after c o.inputs o.steps o.until) (run_with c o) o.heap text
+
+-- The bytes are the image of a code, which is run; or they are none, by the first failing place from the left.
+pub data Executes (bytes : List ℕ) (o : Options) : ℕ → List ℕ → Type 0 where
+  ran : (version : ℕ) (c : Code) (status : ℕ) (text : List ℕ) → Image version c bytes → Runs c o status text → Executes bytes o status text
+  no_image : (rule left : ℕ) → image_at bytes ≡ Err (flaw rule left) → Executes bytes o 1 (image_line rule (length bytes - left))
+
+-- what may have been written where memory ran out
+pub data ExecutesSoFar (bytes : List ℕ) (o : Options) : List ℕ → Type 0 where
+  nothing : ExecutesSoFar bytes o []
+  runs : (version : ℕ) (c : Code) (text : List ℕ) → Image version c bytes → RunsSoFar c o text → ExecutesSoFar bytes o text
+
+-- bytes have one answer
+abbrev pub ExecutedOnce : Type 0
+ExecutedOnce = (bytes : List ℕ) (o : Options) (s t : ℕ) (x y : List ℕ) → Executes bytes o s x → Executes bytes o t y → (s ≡ t) × (x ≡ y)
+
+-- the line that tells a fault
+abbrev pub IsFault : (rule at : ℕ) → ℕ → List ℕ → Type 0
+IsFault rule at status text = (status ≡ 1) × (text ≡ image_line rule at)
+
+abbrev pub IsNothing : List ℕ → Type 0
+IsNothing text = text ≡ []

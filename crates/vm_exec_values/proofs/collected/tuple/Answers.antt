@@ -1,0 +1,17 @@
+use Rattle.std.proofs.Common.{◌≡◌, Some, []}
+use Rattle.verse_value.specs.View.{vals_of}
+use Rattle.vm_frames.specs.Calls.{popped_many}
+use Rattle.vm_running.specs.Doings.{place_in}
+use Rattle.vm_exec_values.proofs.Shapes.{none_of, some_of, many_stuck, many_comes}
+use Rattle.verse_value.specs.Operations.{tuple_of}
+use Rattle.vm_exec_values.proofs.collected.tuple.Goals as goal
+
+pub returns-in_default : goal.returns-in_default
+returns-in_default g c = many_stuck c.args.count tuple_of (place_in c.args.code.now (Some c.args.place)) _ _
+    (none_of _ c.in_default.is c.in_ok-parts.ensures.none)
+
+pub returns : goal.returns
+returns g c =
+    many_comes c.args.count tuple_of (place_in c.args.code.now (Some c.args.place)) _ _ _ _ _ c.requires.ready
+    (some_of (λ vs. popped_many c.args.count [] c.args.run.now.thread ≡ Some (vals_of vs.items, c.pop_many.new.self)) _ _ c.in-Some.is
+    c.in_ok-parts.ensures.some) (c.answer.ensures (tuple_of (vals_of c.in-Some.parts.items)) c.op_tuple.ensures.answers)

@@ -1,0 +1,9 @@
+use Rattle.std.proofs.Common.{None}
+use Rattle.verse_value.specs.View.{val_of}
+use Rattle.verse_value.specs.Operations.{equal_of}
+use Rattle.vm_exec_values.proofs.Shapes.{widened, two_comes}
+use Rattle.vm_exec_values.proofs.composites.equal.Goals as goal
+
+pub returns : goal.returns
+returns g c = two_comes equal_of None _ _ _ _ _ _ c.requires.ready c.in-Some.ensures.some
+    (c.answer.ensures (equal_of (val_of c.in-Some.first) (val_of c.in-Some.second)) (widened _ _ c.op_eq.ensures.answers))

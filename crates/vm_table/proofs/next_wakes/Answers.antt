@@ -1,6 +1,0 @@
-use Rattle.vm_table.specs.Laws.{itself}
-use Rattle.vm_table.proofs.Wakings.{wakes}
-use Rattle.vm_table.proofs.next_wakes.Goals as goal
-
-pub returns : goal.returns
-returns c = λ tasks tss ps s d e u r t w n. wakes itself tasks tss ps s d e u r t w n

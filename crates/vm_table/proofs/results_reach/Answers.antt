@@ -1,5 +1,0 @@
-use Rattle.vm_table.proofs.Ticks.{result_timed}
-use Rattle.vm_table.proofs.results_reach.Goals as goal
-
-pub returns : goal.returns
-returns c = λ xs ps s e v n t. result_timed xs ps s e v n t

@@ -1,6 +1,0 @@
-use Rattle.std.proofs.Common.{◌∙◌}
-use Rattle.vm_thread.proofs.Whole.{guards_in}
-use Rattle.vm_thread.proofs.threads.Thread.is_guarded.Goals as goal
-
-pub returns : goal.returns
-returns c = c.guarded.ensures ∙ guards_in _ _ _ c.self.view_is

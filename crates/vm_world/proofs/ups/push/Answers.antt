@@ -1,5 +1,0 @@
-use Rattle.vm_world.proofs.Ends.{last_first}
-use Rattle.vm_world.proofs.ups.push.Goals as goal
-
-pub returns : goal.returns
-returns c = last_first c.args.ups.now.items _ _ c.in_ok-push.ensures.items
