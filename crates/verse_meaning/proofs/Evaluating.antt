@@ -1,5 +1,5 @@
 -- What evaluation leaves as it was: one line for each part of a form, and cancelling.
-use Rattle.std.proofs.Common.{ℕ, List, [], ◌∷◌, ◌++◌, Option, Some, None, Bool, true, false, refl, sym, subst}
+use Rattle.std.proofs.Common.{ℕ, List, [], ◌∷◌, ◌++◌, Option, Some, None, Bool, true, false, cond, refl, sym, subst}
 use Rattle.verse_base.specs.declared.places.Place.{Place}
 use Rattle.verse_tree.specs.Tree.{Bytes, Tree, tree, Shape, Trees, no_trees, more_trees, Holes, no_holes, more_holes, Givens, no_givens}
 use Rattle.verse_tree.specs.Tree.{more_givens}
@@ -15,14 +15,14 @@ use Rattle.verse_meaning.specs.Programs.{Program, ref_at}
 use Rattle.verse_meaning.specs.Residuals as form
 use Rattle.verse_meaning.specs.Residuals.{Env, Bound, constant, variable, Base, in_variable, in_self, in_object, Form, Binder, no_name}
 use Rattle.verse_meaning.specs.Residuals.{a_constant, a_variable, Generator, Values, Role, part, body, root, Residual, leaf, args, seq}
-use Rattle.verse_meaning.specs.Residuals.{deferred, looped, generated, called, arms, Scope, scope, Scopes, none, also, Arms, no_arms, gave}
+use Rattle.verse_meaning.specs.Residuals.{deferred, looped, filling, generated, called, arms, Scope, scope, Scopes, none, also, Arms, no_arms, gave}
 use Rattle.verse_meaning.specs.Residuals.{runs}
 use Rattle.verse_meaning.specs.Outcomes.{World, set_behind, Outcome, value, failed, returned, broke, halted, rests, TaskOutcome, ends, Went}
 use Rattle.verse_meaning.specs.Outcomes.{went, quits, on_went_task, finished, not_given, all_gave, first_gave, with_arm}
 use Rattle.verse_meaning.specs.Forms.{Deeper, look, this_of, values_of}
 use Rattle.verse_meaning.specs.Evaluating.{Statement, plain, defines, defers, generates, statement_of, Callee, alone, of_object, of_value}
 use Rattle.verse_meaning.specs.Evaluating.{of_quotient, no_callee, spawned_callee, mode_of, on_bool, callee_of, base_of, enum_member}
-use Rattle.verse_meaning.specs.Evaluating.{class_ref, pattern_fits, cancel_kids, cancel_own, cancel_scope_kids, cancel_scope_own}
+use Rattle.verse_meaning.specs.Evaluating.{picked, none_left, class_ref, pattern_fits, cancel_kids, cancel_own, cancel_scope_kids, cancel_scope_own}
 use Rattle.verse_meaning.specs.Evaluating.{cancel_behind, cancel_arms, scope_ended, scope_returned, scope_end, or_stands, settled, arm_gave}
 use Rattle.verse_meaning.specs.Evaluating.{begins_scope, stated, claused, generates_from, levelled, by_callee, named, member_form, membered}
 use Rattle.verse_meaning.specs.Evaluating.{ev, ev_shape, statements, inner, inner_shape, all_args, holed, paired_args, given_args, quotient}
@@ -31,7 +31,7 @@ use Rattle.verse_meaning.specs.Evaluating.{arm_of_shape, started, spawned, spawn
 use Rattle.verse_meaning.specs.Laws.{Grown, Leaves, Apart, Keeps, KeepsTask}
 use Rattle.verse_meaning.proofs.Forms.{DeeperKeeps, still_memory, added_memory, read_bound_keeps, read_slot_keeps, apply_keeps}
 use Rattle.verse_meaning.proofs.Forms.{defined_keeps}
-use Rattle.verse_meaning.proofs.Keeping.{failed_keeps, leaves_same, leaves_then, valued_keeps, attempted_keeps, spends_keeps, there_keeps}
+use Rattle.verse_meaning.proofs.Keeping.{undone_keeps, failed_keeps, leaves_same, leaves_then, valued_keeps, attempted_keeps, spends_keeps, there_keeps}
 use Rattle.verse_meaning.proofs.Keeping.{known_keeps, told_keeps, outside_keeps, suspended_keeps, KeepsWent, dropped_keeps, went_on_keeps}
 use Rattle.verse_meaning.proofs.Keeping.{on_went_keeps, closing_keeps, branch_keeps, armed_keeps, left_leaves}
 
@@ -43,6 +43,7 @@ module _ (p : Program) (k : Deeper) (d : DeeperKeeps k) where
     kids_keep (seq e b r left) w = kids_keep r w
     kids_keep (deferred e a r) w = kids_keep r w
     kids_keep (looped e a r) w = kids_keep r w
+    kids_keep (filling e c pl fs xs vs ss r) w = kids_keep r w
     kids_keep (generated e g cs a pl vs r) w = kids_keep r w
     kids_keep (called e s) w = scope_kids_keep s w
     kids_keep (arms kd pl e gs) w = arms_keep gs w
@@ -54,6 +55,7 @@ module _ (p : Program) (k : Deeper) (d : DeeperKeeps k) where
     own_keep (deferred e a r) w =
         went_on_keeps w (cancel_own p k r w) _ (own_keep r w) (λ u. dropped_keeps u (k.parts a e u) (d.parts a e u))
     own_keep (looped e a r) w = own_keep r w
+    own_keep (filling e c pl fs xs vs ss r) w = own_keep r w
     own_keep (generated e g cs a pl vs r) w = own_keep r w
     own_keep (called e s) w = scope_own_keep s w
     own_keep (arms kd pl e gs) w = leaves_same false w
@@ -247,7 +249,7 @@ module _ (p : Program) (k : Deeper) (d : DeeperKeeps k) where
     shape_keeps (t.Shape.if_alone cs a) n pl m e w =
         attempted_keeps m w _ _ _ (statements_keep cs false e unit w) (λ e v u h. ev_keeps a m e u) (λ u h. leaves_same m u)
     shape_keeps (t.Shape.negation a) n pl m e w =
-        attempted_keeps m w _ _ _ (ev_keeps a false e w) (λ e v u h. failed_keeps m u) (λ u h. leaves_same m u)
+        attempted_keeps m w _ _ _ (ev_keeps a false e w) (λ e v u h. undone_keeps m w.state.memory u) (λ u h. leaves_same m u)
     shape_keeps (t.Shape.option cs) n pl m e w =
         attempted_keeps m w _ _ _ (statements_keep cs false e unit w) (λ e1 v u h. told_keeps m u _ pl e (still_memory u _)) (λ u h.
         leaves_same m u)
@@ -261,7 +263,7 @@ module _ (p : Program) (k : Deeper) (d : DeeperKeeps k) where
     shape_keeps (t.Shape.chained op.Div a b) n pl m e w = tt
     shape_keeps (t.Shape.chained x a b) n pl m e w =
         valued_keeps m w _ _ _ (ev_keeps a m e w) (λ v u h. valued_keeps m u _ _ _ (ev_keeps b m e u) (λ y z h. apply_keeps p k d
-        (form.computing x pl) (v ∷ y ∷ []) m e z))
+        (form.computing x (p.is_array n) pl) (v ∷ y ∷ []) m e z))
     shape_keeps (t.Shape.compared x a b) n pl m e w =
         valued_keeps m w _ _ _ (ev_keeps a m e w) (λ v u h. valued_keeps m u _ _ _ (ev_keeps b m e u) (λ y z h. apply_keeps p k d
         (form.comparing x) (v ∷ y ∷ []) m e z))
@@ -270,11 +272,11 @@ module _ (p : Program) (k : Deeper) (d : DeeperKeeps k) where
     shape_keeps (t.Shape.query a) n pl m e w =
         valued_keeps m w _ _ _ (ev_keeps a m e w) (λ v u h. apply_keeps p k d form.querying (v ∷ []) m e u)
     shape_keeps (t.Shape.member a x) n pl m e w =
-        membered_keeps (enum_member p a x) m e w _ (valued_keeps m w _ _ _ (ev_keeps a m e w) (λ v u h. apply_keeps p k d (member_form p k
-        (ref_at p n) x) (v ∷ []) m e u))
-    shape_keeps (t.Shape.call a ts) n pl m e w = callee_keeps (callee_of p a form.picking pl) m w _ _ _ _ (λ f. args_keep ts f [] m e w)
+        membered_keeps (enum_member p a x) m e w _ (valued_keeps m w _ _ _ (ev_keeps a m e w) (λ v u h. apply_keeps p k d (member_form (ref_at p n)
+        x) (v ∷ []) m e u))
+    shape_keeps (t.Shape.call a ts) n pl m e w = callee_keeps (callee_of p a (picked ts) pl) m w _ _ _ _ (λ f. args_keep ts f [] m e w)
         (λ f. valued_keeps m w _ _ _ (inner_keeps a m e w) (λ v u h. args_keep ts f (v ∷ []) m e u)) (λ f. valued_keeps m w _ _ _
-        (ev_keeps a m e w) (λ v u h. args_keep ts f (v ∷ []) m e u)) (λ f. quotient_keeps ts f m e w)
+        (ev_keeps a m e w) (λ v u h. apply_keeps p k d f (v ∷ []) m e u)) (λ f. quotient_keeps ts f m e w)
     shape_keeps (t.Shape.index a ts) n pl m e w = callee_keeps (callee_of p a form.indexing pl) m w _ _ _ _ (λ f. args_keep ts f [] m e w)
         (λ f. valued_keeps m w _ _ _ (inner_keeps a m e w) (λ v u h. args_keep ts f (v ∷ []) m e u)) (λ f. valued_keeps m w _ _ _
         (ev_keeps a m e w) (λ v u h. args_keep ts f (v ∷ []) m e u)) (λ f. quotient_keeps ts f m e w)
@@ -389,16 +391,16 @@ module _ (p : Program) (k : Deeper) (d : DeeperKeeps k) where
 
     pub chosen_keeps : (ts : Trees) (v : Val) (m : Bool) (e : Env) (w : World) → Keeps m w (chosen p k ts v m e w)
     chosen_keeps no_trees v m e w = tt
-    chosen_keeps (more_trees a ts) v m e w = arm_keeps a v m e w _ (chosen_keeps ts v m e w)
+    chosen_keeps (more_trees a ts) v m e w = arm_keeps a (none_left ts) v m e w _ (chosen_keeps ts v m e w)
 
-    pub arm_keeps : (a : Tree) (v : Val) (m : Bool) (e : Env) (w : World) (go : World → Outcome) → Keeps m w (go w) →
-        Keeps m w (arm_of p k a v m e w go)
-    arm_keeps (tree n pl s) v m e w go g = arm_shape_keeps s v m e w go g
+    pub arm_keeps : (a : Tree) (last : Bool) (v : Val) (m : Bool) (e : Env) (w : World) (go : World → Outcome) → Keeps m w (go w) →
+        Keeps m w (arm_of p k a last v m e w go)
+    arm_keeps (tree n pl s) last v m e w go g = arm_shape_keeps s last v m e w go g
 
-    pub arm_shape_keeps : (s : Shape) (v : Val) (m : Bool) (e : Env) (w : World) (go : World → Outcome) → Keeps m w (go w) →
-        Keeps m w (arm_of_shape p k s v m e w go)
-    arm_shape_keeps (t.Shape.arm a b) v m e w go g = bool_keeps (pattern_fits p a v) m w _ _ (ev_keeps b m e w) g
-    arm_shape_keeps s v m e w go g = tt
+    pub arm_shape_keeps : (s : Shape) (last : Bool) (v : Val) (m : Bool) (e : Env) (w : World) (go : World → Outcome) → Keeps m w (go w) →
+        Keeps m w (arm_of_shape p k s last v m e w go)
+    arm_shape_keeps (t.Shape.arm a b) last v m e w go g = bool_keeps (cond last true (pattern_fits p a v)) m w _ _ (ev_keeps b m e w) g
+    arm_shape_keeps s last v m e w go g = tt
 
     pub started_keeps : (kd : Kind) (pl : Place) (ts : Trees) (e : Env) (gs : Arms) (w : World) → Keeps true w (started p k kd pl ts e gs w)
     started_keeps kd pl no_trees e gs w = settled_keeps kd pl e gs w
@@ -411,6 +413,6 @@ module _ (p : Program) (k : Deeper) (d : DeeperKeeps k) where
 
     pub spawn_shape_keeps : (s : Shape) (pl : Place) (m : Bool) (e : Env) (w : World) → Keeps m w (spawned_shape p k s pl m e w)
     spawn_shape_keeps (t.Shape.call a ts) pl m e w =
-        callee_keeps (spawned_callee (callee_of p a form.picking pl)) m w _ _ _ _ (λ f. args_keep ts f [] m e w)
+        callee_keeps (spawned_callee (callee_of p a (form.picking None) pl)) m w _ _ _ _ (λ f. args_keep ts f [] m e w)
         (λ f. valued_keeps m w _ _ _ (inner_keeps a m e w) (λ v u h. args_keep ts f (v ∷ []) m e u)) (λ f. tt) (λ f. tt)
     spawn_shape_keeps s pl m e w = tt

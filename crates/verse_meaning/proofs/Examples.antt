@@ -18,13 +18,13 @@ use Rattle.verse_tree.specs.declared.exprs.Operator.TheVariants as op
 use Rattle.verse_tree.specs.declared.exprs.Comparison.TheVariants as cmp
 use Rattle.verse_meaning_state.specs.Turns.{waits_in}
 use Rattle.verse_meaning.specs.Programs.{Program}
-use Rattle.verse_meaning.specs.Outcomes.{valued, attempted, turned, dropped, on_went, went_on, on_went_task, closing, call_end}
+use Rattle.verse_meaning.specs.Outcomes.{ran, valued, attempted, turned, dropped, on_went, went_on, on_went_task, closing, call_end}
 use Rattle.verse_meaning.specs.Outcomes.{branch_started, task_started, armed, arm_came, arm_before, arms_came, element_came, element_before}
 use Rattle.verse_meaning.specs.Outcomes.{behind_came, told, told_plain, if_there, if_known, outside, spends, suspended}
 use Rattle.verse_meaning.specs.Forms.{defined}
 use Rattle.verse_meaning.specs.Evaluating.{scope_end, or_stands, settled, arm_gave, begins_scope, stated, claused, generates_from, levelled}
 use Rattle.verse_meaning.specs.Evaluating.{by_callee, named, membered}
-use Rattle.verse_meaning.specs.Runs.{forest_leaves, in_env, on_next, main_found, main_spends, after, mean}
+use Rattle.verse_meaning.specs.Runs.{forest_leaves, main_bound, on_next, main_found, main_spends, after, mean}
 
 at : ℕ → ℕ → Place
 at l c = record { file = 0; line = l; col = c }
@@ -55,6 +55,8 @@ some_taken_program = record {
         no_trees)))) (tree 12 (at 3 59) (t.Shape.integer (pos 0))))) no_trees))) (tree 15 (at 3 62) (t.Shape.block (more_trees (tree 14
         (at 3 64) (t.Shape.name (codes "I"))) no_trees))))))) no_trees))));
   }) ∷ []);
+  is_array = λ n. false;
+  is_event = λ n. false;
   names = record {
     funs = (record {
       params = [];
@@ -89,10 +91,10 @@ some_taken : mean some_taken_program [] 100 1000000 ≡ record {
   steps = 5;
   live = Some 0;
 }
-unfolding at some_taken_program digits valued attempted turned dropped on_went went_on on_went_task closing call_end branch_started
+unfolding at some_taken_program digits valued attempted turned dropped on_went went_on on_went_task closing ran call_end branch_started
     task_started armed arm_came arm_before arms_came element_came element_before behind_came told told_plain if_there if_known outside
     spends suspended defined scope_end or_stands settled arm_gave begins_scope stated claused generates_from levelled by_callee named
-    membered in_env on_next main_found main_spends
+    membered main_bound on_next main_found main_spends
 some_taken = refl
 
 -- A runtime error in a failure context undoes nothing.
@@ -122,6 +124,8 @@ fault_inside_program = record {
         4 14) (t.Shape.call (tree 13 (at 4 9) (t.Shape.name (codes "Print"))) (more_trees (tree 14 (at 4 15) (t.Shape.text (codes
         "no"))) no_trees))) no_trees))))) no_trees))));
   }) ∷ []);
+  is_array = λ n. false;
+  is_event = λ n. false;
   names = record {
     funs = (record {
       params = [];
@@ -152,10 +156,10 @@ fault_inside : mean fault_inside_program [] 100 1000000 ≡ record {
   steps = 1;
   live = None;
 }
-unfolding at fault_inside_program digits valued attempted turned dropped on_went went_on on_went_task closing call_end branch_started
+unfolding at fault_inside_program digits valued attempted turned dropped on_went went_on on_went_task closing ran call_end branch_started
     task_started armed arm_came arm_before arms_came element_came element_before behind_came told told_plain if_there if_known outside
     spends suspended defined scope_end or_stands settled arm_gave begins_scope stated claused generates_from levelled by_callee named
-    membered in_env on_next main_found main_spends
+    membered main_bound on_next main_found main_spends
 fault_inside = refl
 
 -- The first arm that completes gives the value; the other is cancelled.
@@ -189,6 +193,8 @@ race_program = record {
         (more_trees (tree 15 (at 9 10) (t.Shape.call (tree 13 (at 9 5) (t.Shape.name (codes "Print"))) (more_trees (tree 14 (at 9 11)
         (t.Shape.text (codes "after"))) no_trees))) no_trees))));
   }) ∷ []);
+  is_array = λ n. false;
+  is_event = λ n. false;
   names = record {
     funs = (record {
       params = [];
@@ -222,9 +228,9 @@ race : mean race_program [] 100 1000000 ≡ record {
   steps = 4;
   live = Some 0;
 }
-unfolding at race_program digits valued attempted turned dropped on_went went_on on_went_task closing call_end branch_started task_started
+unfolding at race_program digits valued attempted turned dropped on_went went_on on_went_task closing ran call_end branch_started task_started
     armed arm_came arm_before arms_came element_came element_before behind_came told told_plain if_there if_known outside spends suspended
-    defined scope_end or_stands settled arm_gave begins_scope stated claused generates_from levelled by_callee named membered in_env
+    defined scope_end or_stands settled arm_gave begins_scope stated claused generates_from levelled by_callee named membered main_bound
     on_next main_found main_spends
 race = refl
 
@@ -257,6 +263,8 @@ rush_at_once_program = record {
         (t.Shape.call (tree 10 (at 7 5) (t.Shape.name (codes "Print"))) (more_trees (tree 11 (at 7 11) (t.Shape.text (codes "c")))
         no_trees))) (more_trees (tree 13 (at 8 5) (t.Shape.sleep 2000)) no_trees)))));
   }) ∷ []);
+  is_array = λ n. false;
+  is_event = λ n. false;
   names = record {
     funs = (record {
       params = [];
@@ -289,10 +297,10 @@ rush_at_once : mean rush_at_once_program [] 100 1000000 ≡ record {
   steps = 5;
   live = Some 0;
 }
-unfolding at rush_at_once_program digits valued attempted turned dropped on_went went_on on_went_task closing call_end branch_started
+unfolding at rush_at_once_program digits valued attempted turned dropped on_went went_on on_went_task closing ran call_end branch_started
     task_started armed arm_came arm_before arms_came element_came element_before behind_came told told_plain if_there if_known outside
     spends suspended defined scope_end or_stands settled arm_gave begins_scope stated claused generates_from levelled by_callee named
-    membered in_env on_next main_found main_spends
+    membered main_bound on_next main_found main_spends
 rush_at_once = refl
 
 -- What `rush` leaves is cancelled at the end of the call in which it stands.
@@ -337,6 +345,8 @@ scope_of_call_program = record {
             (t.Shape.call (tree 13 (at 10 5) (t.Shape.name (codes "Print"))) (more_trees (tree 14 (at 10 11) (t.Shape.text (codes "end")))
             no_trees))) no_trees)))));
       }) ∷ []);
+  is_array = λ n. false;
+  is_event = λ n. false;
   names = record {
     funs = (record {
       params = [];
@@ -378,10 +388,10 @@ scope_of_call : mean scope_of_call_program [] 100 1000000 ≡ record {
   steps = 6;
   live = Some 0;
 }
-unfolding at scope_of_call_program digits valued attempted turned dropped on_went went_on on_went_task closing call_end branch_started
+unfolding at scope_of_call_program digits valued attempted turned dropped on_went went_on on_went_task closing ran call_end branch_started
     task_started armed arm_came arm_before arms_came element_came element_before behind_came told told_plain if_there if_known outside
     spends suspended defined scope_end or_stands settled arm_gave begins_scope stated claused generates_from levelled by_callee named
-    membered in_env on_next main_found main_spends
+    membered main_bound on_next main_found main_spends
 scope_of_call = refl
 
 -- A finished task gives its result at once.
@@ -425,6 +435,8 @@ awaited_twice_program = record {
         (tree 19 (at 8 15) (t.Shape.chained op.Add (tree 17 (at 8 13) (t.Shape.name (codes "X"))) (tree 18 (at 8 17) (t.Shape.name
         (codes "Y"))))) [] no_holes))) no_trees))) no_trees))))));
   }) ∷ []);
+  is_array = λ n. false;
+  is_event = λ n. false;
   names = record {
     funs = (record {
       params = [];
@@ -465,10 +477,10 @@ awaited_twice : mean awaited_twice_program [] 100 1000000 ≡ record {
   steps = 4;
   live = Some 0;
 }
-unfolding at awaited_twice_program digits valued attempted turned dropped on_went went_on on_went_task closing call_end branch_started
+unfolding at awaited_twice_program digits valued attempted turned dropped on_went went_on on_went_task closing ran call_end branch_started
     task_started armed arm_came arm_before arms_came element_came element_before behind_came told told_plain if_there if_known outside
     spends suspended defined scope_end or_stands settled arm_gave begins_scope stated claused generates_from levelled by_callee named
-    membered in_env on_next main_found main_spends
+    membered main_bound on_next main_found main_spends
 awaited_twice = refl
 
 -- A cell that a failed context has made is dropped.
@@ -518,6 +530,8 @@ cells_dropped_program = record {
         no_trees)))) (more_trees (tree 15 (at 6 5) (t.Shape.variable (codes "B") t.Written.void (tree 14 (at 6 17) (t.Shape.integer
         (pos 2))))) no_trees)))));
   }) ∷ []);
+  is_array = λ n. false;
+  is_event = λ n. false;
   names = record {
     funs = (record {
       params = [];
@@ -555,10 +569,10 @@ cells_dropped : mean cells_dropped_program [] 100 1000000 ≡ record {
   steps = 1;
   live = Some 0;
 }
-unfolding at cells_dropped_program digits valued attempted turned dropped on_went went_on on_went_task closing call_end branch_started
+unfolding at cells_dropped_program digits valued attempted turned dropped on_went went_on on_went_task closing ran call_end branch_started
     task_started armed arm_came arm_before arms_came element_came element_before behind_came told told_plain if_there if_known outside
     spends suspended defined scope_end or_stands settled arm_gave begins_scope stated claused generates_from levelled by_callee named
-    membered in_env on_next main_found main_spends
+    membered main_bound on_next main_found main_spends
 cells_dropped = refl
 
 -- Later arms before earlier ones, and what a task encloses before it.
@@ -616,6 +630,8 @@ order_of_cancelling_program = record {
         14) (t.Shape.call (tree 22 (at 13 13) (t.Shape.name (codes "G"))) (more_trees (tree 23 (at 13 15) (t.Shape.integer (pos 2)))
         no_trees))) no_trees)))) (more_trees (tree 26 (at 14 9) (t.Shape.sleep 1000)) no_trees)))) no_trees)));
   }) ∷ []);
+  is_array = λ n. false;
+  is_event = λ n. false;
   names = record {
     funs = (record {
       params = [];
@@ -664,10 +680,10 @@ order_of_cancelling : mean order_of_cancelling_program [] 100 1000000 ≡ record
   steps = 14;
   live = Some 0;
 }
-unfolding at order_of_cancelling_program digits valued attempted turned dropped on_went went_on on_went_task closing call_end
+unfolding at order_of_cancelling_program digits valued attempted turned dropped on_went went_on on_went_task closing ran call_end
     branch_started task_started armed arm_came arm_before arms_came element_came element_before behind_came told told_plain if_there
     if_known outside spends suspended defined scope_end or_stands settled arm_gave begins_scope stated claused generates_from levelled
-    by_callee named membered in_env on_next main_found main_spends
+    by_callee named membered main_bound on_next main_found main_spends
 order_of_cancelling = refl
 
 -- What still waits at the horizon.
@@ -689,6 +705,8 @@ horizon_program = record {
         (t.Shape.sleep 1000)) (more_trees (tree 1 (at 2 24) (t.Shape.sleep 2000)) (more_trees (tree 2 (at 2 36) (t.Shape.sleep 3000))
         (more_trees (tree 3 (at 2 48) t.Shape.sleep_forever) no_trees)))))) no_trees)));
   }) ∷ []);
+  is_array = λ n. false;
+  is_event = λ n. false;
   names = record {
     funs = (record {
       params = [];
@@ -713,8 +731,8 @@ horizon : waits_in forest_leaves (after horizon_program [] 100 1000 101) ≡ (re
   number = 2;
   cause = (till 3000);
 } ∷ record { number = 3; cause = never } ∷ [])
-unfolding at horizon_program digits valued attempted turned dropped on_went went_on on_went_task closing call_end branch_started
+unfolding at horizon_program digits valued attempted turned dropped on_went went_on on_went_task closing ran call_end branch_started
     task_started armed arm_came arm_before arms_came element_came element_before behind_came told told_plain if_there if_known outside
     spends suspended defined scope_end or_stands settled arm_gave begins_scope stated claused generates_from levelled by_callee named
-    membered in_env on_next main_found main_spends
+    membered main_bound on_next main_found main_spends
 horizon = refl

@@ -13,11 +13,11 @@ use Rattle.verse_value.specs.Storing.{read_slot, write_slot}
 use Rattle.verse_value.specs.declared.modes.Mode.{Mode}
 use Rattle.verse_meaning_state.specs.State.{State, Given}
 use Rattle.verse_meaning_state.specs.Waits.{done, heard, nth}
-use Rattle.verse_meaning_state.specs.Effects.{Effect, still, added, changed, slot_read, slot_written, text_printed, line_printed, class_of}
+use Rattle.verse_meaning_state.specs.Effects.{task_of, Effect, still, added, changed, slot_read, slot_written, text_printed, line_printed, class_of}
 use Rattle.verse_meaning_state.specs.Effects.{event_of}
 use Rattle.verse_meaning.specs.Programs.{Program, fields_of}
 use Rattle.verse_meaning.specs.Residuals as form
-use Rattle.verse_meaning.specs.Residuals.{Env, Bound, constant, variable, Base, in_variable, in_self, in_object, Form, Binder, no_name}
+use Rattle.verse_meaning.specs.Residuals.{Env, Bound, constant, variable, Base, in_variable, in_self, in_object, nowhere, Form, Binder, no_name}
 use Rattle.verse_meaning.specs.Residuals.{a_constant, a_variable, Generator, Values, Role, part, body, root, Residual, leaf, args, seq}
 use Rattle.verse_meaning.specs.Residuals.{deferred, looped, generated, called, arms, Scope, scope, Scopes, none, also, Arms, no_arms, gave}
 use Rattle.verse_meaning.specs.Residuals.{runs}
@@ -120,6 +120,7 @@ pub record DeeperKeeps (k : Deeper) : Type 0 where
       Residual) (e : Env) (vs : Values) (so_far : Val) (w : World) → ((x : Val × Val) (a : Val) (u : World) → Keeps m u (go x a u)) →
       Keeps m w (k.takes go wrap e vs so_far w)
   pub parts : (a : Tree) (e : Env) (w : World) → Keeps false w (k.parts a e w)
+  pub defaults : (a : Tree) (m : Bool) (e : Env) (w : World) → Keeps m w (k.defaults a m e w)
 
 weak_keeps : (m : Bool) (w : World) (o : Outcome) → Keeps false w o → Keeps m w o
 weak_keeps true w (value e v u) a = leaves_weak true w u a
@@ -153,19 +154,19 @@ module _ (p : Program) (k : Deeper) (d : DeeperKeeps k) where
   stored_keeps (in_self slot) vs mode pl m e w = to_keeps (this_of e) slot vs mode pl m e w
   stored_keeps (in_object slot) [] mode pl m e w = tt
   stored_keeps (in_object slot) (o ∷ vs) mode pl m e w = to_keeps (Some o) slot vs mode pl m e w
+  stored_keeps nowhere vs mode pl m e w = tt
 
-  field_keeps : (v : Option Val) (a : Option Tree) (m : Bool) (w : World) (go : Val → World → Outcome) → ((v : Val) (u : World) →
-      Keeps m u (go v u)) → Keeps m w (field_filled p k v a w go)
-  field_keeps (Some v) a m w go f = f v w
-  field_keeps None None m w go f = tt
-  field_keeps None (Some a) m w go f =
-      valued_keeps m w (k.parts a [] w) (λ r. r) go (weak_keeps m w (k.parts a [] w) (d.parts a [] w)) (λ v u h. f v u)
+  field_keeps : (v : Option Val) (a : Option Tree) (m : Bool) (e : Env) (w : World) (wrap : Residual → Residual) (go : Val → World → Outcome) → ((v : Val) (u : World) →
+      Keeps m u (go v u)) → Keeps m w (field_filled p k v a m e w wrap go)
+  field_keeps (Some v) a m e w wrap go f = f v w
+  field_keeps None None m e w wrap go f = tt
+  field_keeps None (Some a) m e w wrap go f = valued_keeps m w (k.defaults a m e w) wrap go (d.defaults a m e w) (λ v u h. f v u)
 
-  filled_keeps : (fs : List FieldTree) (xs : List Bytes) (vs : List Val) (class : ℕ) (slots : List Val) (pl : Place) (m : Bool) (e : Env)
-      (w : World) → Keeps m w (filled p k fs xs vs class slots pl e w)
+  pub filled_keeps : (fs : List FieldTree) (xs : List Bytes) (vs : List Val) (class : ℕ) (slots : List Val) (pl : Place) (m : Bool) (e : Env)
+      (w : World) → Keeps m w (filled p k fs xs vs class slots pl m e w)
   filled_keeps [] xs vs class slots pl m e w = told_keeps m w _ pl e (added_memory w _ _)
   filled_keeps (f ∷ fs) xs vs class slots pl m e w =
-      field_keeps (given_at f.name xs vs) f.default m w _ (λ v u. filled_keeps fs xs vs class (slots ++ v ∷ []) pl m e u)
+      field_keeps (given_at f.name xs vs) f.default m e w _ _ (λ v u. filled_keeps fs xs vs class (slots ++ v ∷ []) pl m e u)
 
   called_keeps : (f : ℕ) (o : Val) (vs : List Val) (m : Bool) (e : Env) (w : World) → Keeps m w (method_called p k f o vs m e w)
   called_keeps f o vs m e w = there_keeps m w (method_found p k (class_of o w.state) f) _ (λ g. d.calls g (Some o) vs m e w)
@@ -181,27 +182,17 @@ module _ (p : Program) (k : Deeper) (d : DeeperKeeps k) where
   event_keeps : (c : Option ℕ) (e : Env) (w : World) → Keeps true w (if_there c w (λ c. suspended (heard c) e w))
   event_keeps c e w = there_keeps true w c _ (λ c. suspended_keeps (heard c) e w)
 
-  awaited_keeps : (v : Val) (e : Env) (w : World) → Keeps true w (awaited p k v e w)
-  awaited_keeps unit e w = event_keeps (event_of unit w.state) e w
-  awaited_keeps falsity e w = event_keeps (event_of falsity w.state) e w
-  awaited_keeps truth e w = event_keeps (event_of truth w.state) e w
-  awaited_keeps (int z) e w = event_keeps (event_of (int z) w.state) e w
-  awaited_keeps (char c) e w = event_keeps (event_of (char c) w.state) e w
-  awaited_keeps (enum a b) e w = event_keeps (event_of (enum a b) w.state) e w
-  awaited_keeps (object c) e w = event_keeps (event_of (object c) w.state) e w
-  awaited_keeps (event c) e w = event_keeps (event_of (event c) w.state) e w
-  awaited_keeps (task c) e w = task_awaited_keeps (nth w.state.clock.results c) c e w
-  awaited_keeps (some v) e w = event_keeps (event_of (some v) w.state) e w
-  awaited_keeps (array vs) e w = event_keeps (event_of (array vs) w.state) e w
-  awaited_keeps (mapping ps) e w = event_keeps (event_of (mapping ps) w.state) e w
-  awaited_keeps (tuple vs) e w = event_keeps (event_of (tuple vs) w.state) e w
+  awaited_keeps : (t : Bool) (v : Val) (e : Env) (w : World) → Keeps true w (awaited p k t v e w)
+  awaited_keeps true v e w = event_keeps (event_of v w.state) e w
+  awaited_keeps false v e w = there_keeps true w (task_of v) _ (λ entry. task_awaited_keeps (nth w.state.clock.results entry) entry e w)
 
   signal_keeps : (vs : List Val) (o : Val) (e : Env) (w : World) → Keeps true w (signal_told p k vs o e w)
   signal_keeps [] o e w = plain_true w _ e
-  signal_keeps (v ∷ vs) o e w = plain_true w _ e
+  signal_keeps (v ∷ []) o e w = plain_true w _ e
+  signal_keeps (v ∷ x ∷ vs) o e w = tt
 
   pub apply_keeps : (f : Form) (vs : List Val) (m : Bool) (e : Env) (w : World) → Keeps m w (apply p k f vs m e w)
-  apply_keeps (form.computing o pl) (a ∷ b ∷ []) m e w = told_keeps m w _ pl e (still_memory w _)
+  apply_keeps (form.computing o t pl) (a ∷ b ∷ []) m e w = told_keeps m w _ pl e (still_memory w _)
   apply_keeps (form.comparing o) (a ∷ b ∷ []) m e w = plain_keeps m w _ e (still_memory w _)
   apply_keeps (form.negating pl) (a ∷ []) m e w = told_keeps m w _ pl e (still_memory w _)
   apply_keeps form.querying (a ∷ []) m e w = plain_keeps m w _ e (still_memory w _)
@@ -211,7 +202,7 @@ module _ (p : Program) (k : Deeper) (d : DeeperKeeps k) where
   apply_keeps (form.making_array pl) vs m e w = told_keeps m w _ pl e (still_memory w _)
   apply_keeps (form.making_map pl) vs m e w = told_keeps m w _ pl e (still_memory w _)
   apply_keeps (form.joining xs pl) vs m e w = told_keeps m w _ pl e (still_memory w _)
-  apply_keeps form.picking (a ∷ int (pos n) ∷ []) m e w = plain_keeps m w _ e (still_memory w _)
+  apply_keeps (form.picking (Some n)) (a ∷ []) m e w = plain_keeps m w _ e (still_memory w _)
   apply_keeps form.indexing (a ∷ b ∷ []) m e w = plain_keeps m w _ e (still_memory w _)
   apply_keeps (form.calling f) vs m e w = d.calls f None vs m e w
   apply_keeps (form.calling_own f) vs m e w = known_keeps m w (this_of e) _ (λ o. called_keeps f o vs m e w)
@@ -220,7 +211,7 @@ module _ (p : Program) (k : Deeper) (d : DeeperKeeps k) where
   apply_keeps (form.flooring pl) (a ∷ b ∷ []) m e w = told_keeps m w _ pl e (still_memory w _)
   apply_keeps (form.ceiling pl) (a ∷ b ∷ []) m e w = told_keeps m w _ pl e (still_memory w _)
   apply_keeps form.taking_modulo (a ∷ b ∷ []) m e w = plain_keeps m w _ e (still_memory w _)
-  apply_keeps form.awaiting (a ∷ []) m e w = outside_keeps m w _ (λ h. awaited_keeps a e w)
+  apply_keeps (form.awaiting t) (a ∷ []) m e w = outside_keeps m w _ (λ h. awaited_keeps t a e w)
   apply_keeps form.signalling (o ∷ vs) m e w = outside_keeps m w _ (λ h. signal_keeps vs o e w)
   apply_keeps (form.spawning f) vs m e w = outside_keeps m w _ (λ h. d.spawns f None vs e w)
   apply_keeps (form.spawning_own f) vs m e w = outside_keeps m w _ (λ h. known_keeps true w (this_of e) _ (λ o. spawned_keeps f o vs e w))

@@ -8,41 +8,36 @@ use Rattle.verse_meaning_state.specs.State.{with_entry}
 use Rattle.verse_meaning_state.specs.Waits.{has}
 use Rattle.verse_meaning.specs.Programs.{Program, fun_at}
 use Rattle.verse_meaning.specs.Residuals as form
-use Rattle.verse_meaning.specs.Residuals.{Env, Form, Generator, Values, Role, part, body, root, Residual, leaf, args, seq, deferred, looped}
+use Rattle.verse_meaning.specs.Residuals.{Env, Form, Generator, Values, Role, part, body, root, Residual, leaf, args, seq, deferred, looped, filling}
 use Rattle.verse_meaning.specs.Residuals.{generated, called, arms, Scope, scope, Scopes, none, also, Arms, no_arms, gave, runs}
 use Rattle.verse_meaning.specs.Residuals.{scope_leaves, is_behind}
 use Rattle.verse_meaning.specs.Outcomes.{World, with_state, set_behind, Outcome, value, failed, returned, broke, halted, rests, TaskOutcome}
 use Rattle.verse_meaning.specs.Outcomes.{ends, lost, stops, sleeps, BehindOutcome, stays, stops_behind, ArmsOutcome, stand, stops_arms}
 use Rattle.verse_meaning.specs.Outcomes.{arm_came, arm_before, arms_came, element_came, element_before, behind_came}
 use Rattle.verse_meaning.specs.Forms.{Deeper, with_taken, next_value}
-use Rattle.verse_meaning.specs.Evaluating.{on_bool, ev}
+use Rattle.verse_meaning.specs.Evaluating.{on_bool, scope_end, ev}
 use Rattle.verse_meaning.specs.Resuming.{form_done, operands, taken, resume, resume_scope, resume_behind, resume_arms}
-use Rattle.verse_meaning.specs.Runs.{with_params, with_this, in_env, entered, on_next, deeper}
+use Rattle.verse_meaning.specs.Runs.{with_params, with_this, taking, entered, on_next, deeper}
 use Rattle.verse_meaning.specs.Laws.{Apart, Keeps, KeepsTask}
 use Rattle.verse_meaning.proofs.Keeping.{grown_same, leaves_same, keeps_then, apart_leaves, task_then, valued_keeps, attempted_keeps}
 use Rattle.verse_meaning.proofs.Keeping.{turned_keeps, spends_keeps, known_keeps, closing_keeps, call_end_keeps, task_keeps}
-use Rattle.verse_meaning.proofs.Forms.{DeeperKeeps, apply_keeps, defined_keeps}
+use Rattle.verse_meaning.proofs.Forms.{DeeperKeeps, filled_keeps, apply_keeps, defined_keeps}
 use Rattle.verse_meaning.proofs.Evaluating.{scope_keeps, quiet_scope, settled_keeps, ev_keeps, statements_keep, clauses_keep, level_keeps}
 use Rattle.verse_meaning.proofs.Evaluating.{chosen_keeps}
 
-env_keeps : (m : Bool) (w : World) (e : Option Env) (go : Env → TaskOutcome) → ((e : Env) → KeepsTask m w (go e)) →
-    KeepsTask m w (in_env e w go)
-unfolding in_env
-env_keeps m w None go f = tt
-env_keeps m w (Some e) go f = f e
+entered_keeps : (p : Program) (k : Deeper) (d : DeeperKeeps k) (q : Role) (f : FunTree) (e : Env) (w : World) → KeepsTask true w (entered p k q f e true w)
+entered_keeps p k d q f e w = scope_keeps p k d q w (ev p k f.body true e (set_behind w none)) (ev_keeps p k d f.body true e (set_behind w none))
 
-entered_keeps : (p : Program) (k : Deeper) (d : DeeperKeeps k) (q : Role) (f : FunTree) (o : Option Val) (vs : List Val) (w : World) →
-    KeepsTask true w (entered p k q f o vs true w)
-entered_keeps p k d q f o vs w =
-    env_keeps true w (with_params f.params vs (with_this o)) _ (λ e. scope_keeps p k d q w (ev p k f.body true e (set_behind w none))
-    (ev_keeps p k d f.body true e (set_behind w none)))
+called_keeps : (p : Program) (k : Deeper) (d : DeeperKeeps k) (f : FunTree) (e : Env) (m : Bool) (w : World) → KeepsTask m w (entered p k body f e m w)
+called_keeps p k d f e true w = entered_keeps p k d body f e w
+called_keeps p k d f e false w = quiet_scope p k d w (ev p k f.body false e (set_behind w none)) (ev_keeps p k d f.body false e (set_behind w none))
 
-called_keeps : (p : Program) (k : Deeper) (d : DeeperKeeps k) (f : FunTree) (o : Option Val) (vs : List Val) (m : Bool) (w : World) →
-    KeepsTask m w (entered p k body f o vs m w)
-called_keeps p k d f o vs true w = entered_keeps p k d body f o vs w
-called_keeps p k d f o vs false w =
-    env_keeps false w (with_params f.params vs (with_this o)) _ (λ e. quiet_scope p k d w (ev p k f.body false e (set_behind w none))
-    (ev_keeps p k d f.body false e (set_behind w none)))
+default_keeps : (p : Program) (k : Deeper) (d : DeeperKeeps k) (a : Tree) (m : Bool) (w : World) → KeepsTask m w (scope_end p k body w.behind (ev p k a m [] (set_behind w none)))
+default_keeps p k d a true w = scope_keeps p k d body w (ev p k a true [] (set_behind w none)) (ev_keeps p k d a true [] (set_behind w none))
+default_keeps p k d a false w = quiet_scope p k d w (ev p k a false [] (set_behind w none)) (ev_keeps p k d a false [] (set_behind w none))
+
+taking_keeps : (p : Program) (f : ℕ) (o : Option Val) (vs : List Val) (m : Bool) (w : World) (go : FunTree → Env → Outcome) → ((fn : FunTree) (e : Env) → Keeps m w (go fn e)) → Keeps m w (taking p f o vs w go)
+taking_keeps p f o vs m w go h = known_keeps m w (fun_at p f) _ (λ fn. known_keeps m w (with_params fn.params vs (with_this o)) _ (λ e. h fn e))
 
 next_keeps : (x : Option ((Val × Val) × Values)) (m : Bool) (w : World) (o : Outcome) (go : Val × Val → Values → Outcome) → Keeps m w o →
     ((v : Val × Val) (vs : Values) → Keeps m w (go v vs)) → Keeps m w (on_next x o go)
@@ -52,24 +47,26 @@ next_keeps (Some x) m w o go a f = f x.0 x.1
 
 pub deeper_keeps : (p : Program) (n : ℕ) → DeeperKeeps (deeper p n)
 deeper_keeps p zero = record {
-  calls = λ f o vs m e w. tt;
-  spawns = λ f o vs e w. tt;
+  calls = λ f o vs m e w. taking_keeps p f o vs m w _ (λ fn e1. tt);
+  spawns = λ f o vs e w. taking_keeps p f o vs true w _ (λ fn e1. tt);
   loops = λ m go wrap e w f. tt;
   takes = λ m go wrap e vs a w f. next_keeps (next_value vs) m w _ _ (leaves_same m w) (λ x left. tt);
   parts = λ a e w. tt;
+  defaults = λ a m e w. tt;
 }
 deeper_keeps p (suc n) = record {
-  calls = λ f o vs m e w. known_keeps m w (fun_at p f) _ (λ fn. spends_keeps m w w.state.clock.left _ (λ u h. call_end_keeps m u e
-      (entered p (deeper p n) body fn o vs m u) (called_keeps p (deeper p n) (deeper_keeps p n) fn o vs m u)));
-  spawns = λ f o vs e w. known_keeps true w (fun_at p f) _ (λ fn. spends_keeps true w w.state.clock.left _ (λ u h.
+  calls = λ f o vs m e w. taking_keeps p f o vs m w _ (λ fn e1. spends_keeps m w w.state.clock.left _ (λ u h. call_end_keeps m u e
+      (entered p (deeper p n) body fn e1 m u) (called_keeps p (deeper p n) (deeper_keeps p n) fn e1 m u)));
+  spawns = λ f o vs e w. taking_keeps p f o vs true w _ (λ fn e1. spends_keeps true w w.state.clock.left _ (λ u h.
       task_keeps u e _ _ (task_then true u (with_state u (with_entry u.state)) _ (refl, grown_same u.tasks) (entered_keeps p (deeper p n)
-      (deeper_keeps p n) (root (Some (length u.state.clock.results))) fn o vs (with_state u (with_entry u.state))))));
+      (deeper_keeps p n) (root (Some (length u.state.clock.results))) fn e1 (with_state u (with_entry u.state))))));
   loops = λ m go wrap e w f. spends_keeps m w w.state.clock.left _ (λ u h. turned_keeps m u (go u) wrap e _ (f u) (λ x h. (deeper_keeps p
       n).loops m go wrap e x f));
   takes = λ m go wrap e vs a w f. next_keeps (next_value vs) m w _ _ (leaves_same m w) (λ x left. spends_keeps m w w.state.clock.left _
       (λ u h.
       valued_keeps m u (go x a u) _ _ (f x a u) (λ b z h. (deeper_keeps p n).takes m go wrap e left b z f)));
   parts = λ a e w. spends_keeps false w w.state.clock.left _ (λ u h. ev_keeps p (deeper p n) (deeper_keeps p n) a false e u);
+  defaults = λ a m e w. spends_keeps m w w.state.clock.left _ (λ u h. call_end_keeps m u e _ (default_keeps p (deeper p n) (deeper_keeps p n) a m u));
 }
 
 bool_task : (b : Bool) (w : World) (f g : Bool → TaskOutcome) → KeepsTask true w (f true) → KeepsTask true w (g false) →
@@ -164,6 +161,7 @@ module _ (p : Program) (k : Deeper) (d : DeeperKeeps k) where
         valued_keeps true w _ _ _ (resume_keeps r n v w) (λ y u h. defined_keeps p k d b e y true u _ (λ e z x. statements_keep p k d left
         true e z x))
     resume_keeps (deferred e a r) n v w = closing_keeps true w _ _ _ e (resume_keeps r n v w) (λ u. d.parts a e u)
+    resume_keeps (filling e c pl fs xs vs ss r) n v w = valued_keeps true w _ _ _ (resume_keeps r n v w) (λ y u h. filled_keeps p k d fs xs vs c (ss ++ y ∷ []) pl true e u)
     resume_keeps (looped e a r) n v w =
         turned_keeps true w _ _ e _ (resume_keeps r n v w) (λ u h. d.loops true _ _ e u (λ z. ev_keeps p k d a true e z))
     resume_keeps (generated e g cs a pl vs r) n v w =

@@ -3,13 +3,13 @@ use Rattle.std.proofs.Common.{◌≡◌, ℕ, zero, suc, List, [], ◌∷◌, �
 use Rattle.verse_base.specs.declared.places.Place.{Place}
 use Rattle.verse_value.specs.Val.{Val}
 use Rattle.verse_value.specs.Answer.{gives, fails, error, stuck}
-use Rattle.verse_meaning_state.specs.State.{State, Clock, stepped, restored}
+use Rattle.verse_meaning_state.specs.State.{State, Memory as Kept, Clock, stepped, restored}
 use Rattle.verse_meaning_state.specs.Waits.{Cause}
 use Rattle.verse_meaning_state.specs.Effects.{Effect}
 use Rattle.verse_meaning.specs.Residuals.{Env, Residual, Scope, Scopes, none, also, Arms, no_arms, gave, runs, and_then}
 use Rattle.verse_meaning.specs.Outcomes.{World, with_state, leave, Outcome, value, failed, returned, broke, halted, rests, TaskOutcome}
 use Rattle.verse_meaning.specs.Outcomes.{ends, lost, stops, sleeps, Went, went, quits, valued, attempted, turned, dropped, on_went, went_on}
-use Rattle.verse_meaning.specs.Outcomes.{on_went_task, closing, call_end, branch_started, task_started, armed, told, told_plain, if_there}
+use Rattle.verse_meaning.specs.Outcomes.{on_went_task, ran, closing, call_end, branch_started, task_started, armed, told, told_plain, if_there}
 use Rattle.verse_meaning.specs.Outcomes.{if_known, outside, spends, suspended, leave_all}
 use Rattle.verse_meaning.specs.Laws.{Calm, Grown, Extends, Leaves, LeavesClock, Apart, Keeps, KeepsTask}
 
@@ -76,6 +76,9 @@ clock_weak false w s a = a
 
 pub failed_keeps : (m : Bool) (w : World) → Keeps m w (failed w.state)
 failed_keeps m w = clock_weak m w w.state calm_same
+
+pub undone_keeps : (m : Bool) (x : Kept) (w : World) → Keeps m w (failed (restored x w.state))
+undone_keeps m x w = clock_weak m w (restored x w.state) calm_same
 
 clock_then : (m : Bool) (w u : World) (s : State) → Leaves m w u → LeavesClock m u s → LeavesClock m w s
 clock_then true w u s a b = tt
@@ -236,19 +239,22 @@ unfolding on_went_task
 on_went_task_keeps m w (went u) go a f = f u a
 on_went_task_keeps m w (quits h) go a f = tt
 
+ran_keeps : (m : Bool) (w : World) (o : Outcome) (go : World → Outcome) → Keeps false w o → ((u : World) → Leaves m w u → Keeps m w (go u)) → Keeps m w (ran o go)
+unfolding ran
+ran_keeps m w (value e v u) go a f = f u (leaves_weak m w u a)
+ran_keeps m w (failed s) go a f = clock_weak m w s a
+ran_keeps m w (returned v u) go a f = tt
+ran_keeps m w (broke u) go a f = tt
+ran_keeps m w (halted h) go a f = tt
+ran_keeps m w (rests r u) go a f = cc
+
 pub closing_keeps : (m : Bool) (w : World) (o : Outcome) (run : World → Outcome) (wrap : Residual → Residual) (e : Env) → Keeps m w o →
     ((u : World) → Keeps false u (run u)) → Keeps m w (closing o run wrap e)
 unfolding closing
-closing_keeps m w (value e1 v u) run wrap e a f =
-    keeps_then m w u (on_went (dropped (run u)) (λ w. value e v w)) a (on_went_keeps m u (dropped (run u)) (λ w. value e v w)
-    (dropped_keeps u (run u) (f u)) (λ x h. h))
+closing_keeps m w (value e1 v u) run wrap e a f = keeps_then m w u (ran (run u) (λ w. value e v w)) a (ran_keeps m u (run u) (λ w. value e v w) (f u) (λ x h. h))
 closing_keeps m w (failed s) run wrap e a f = a
-closing_keeps m w (returned v u) run wrap e a f =
-    keeps_then m w u (on_went (dropped (run u)) (λ w. returned v w)) a (on_went_keeps m u (dropped (run u)) (λ w. returned v w)
-    (dropped_keeps u (run u) (f u)) (λ x h. h))
-closing_keeps m w (broke u) run wrap e a f =
-    keeps_then m w u (on_went (dropped (run u)) (λ w. broke w)) a (on_went_keeps m u (dropped (run u)) (λ w. broke w) (dropped_keeps u
-    (run u) (f u)) (λ x h. h))
+closing_keeps m w (returned v u) run wrap e a f = keeps_then m w u (ran (run u) (λ w. returned v w)) a (ran_keeps m u (run u) (λ w. returned v w) (f u) (λ x h. h))
+closing_keeps m w (broke u) run wrap e a f = keeps_then m w u (ran (run u) (λ w. broke w)) a (ran_keeps m u (run u) (λ w. broke w) (f u) (λ x h. h))
 closing_keeps m w (halted h) run wrap e a f = tt
 closing_keeps m w (rests r u) run wrap e a f = a
 

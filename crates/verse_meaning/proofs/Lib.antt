@@ -1,6 +1,6 @@
-mod Examples
 mod Keeping
 mod Forms
 mod Evaluating
 mod Going
 mod Standing
+mod Examples

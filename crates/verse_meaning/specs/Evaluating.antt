@@ -1,5 +1,5 @@
 -- What each form means: one case for each.
-use Rattle.std.specs.Prelude.{ℕ, zero, suc, neg_ℤ, List, [], ◌∷◌, ◌++◌, Option, Some, None, Bool, true, false, cond}
+use Rattle.std.specs.Prelude.{ℕ, zero, suc, pos, neg_ℤ, List, [], ◌∷◌, ◌++◌, Option, Some, None, Bool, true, false, cond}
 use Rattle.verse_base.specs.declared.places.Place.{Place}
 use Rattle.verse_tree.specs.Tree.{Bytes, Tree, tree, Shape, Trees, no_trees, more_trees, Holes, no_holes, more_holes, Givens, no_givens}
 use Rattle.verse_tree.specs.Tree.{more_givens}
@@ -14,15 +14,16 @@ use Rattle.verse_value.specs.Operations.{text_val, tuple_of, option_of}
 use Rattle.verse_value.specs.Equality.{val_eq}
 use Rattle.verse_value.specs.declared.modes.Mode.{Mode}
 use Rattle.verse_value.specs.declared.modes.Mode.TheVariants as mode
+use Rattle.verse_meaning_state.specs.State.{restored}
 use Rattle.verse_meaning_state.specs.Waits.{never, after}
 use Rattle.verse_meaning_state.specs.Turns.{Kind, all_of, first_of, rush_of}
 use Rattle.verse_meaning_state.specs.Effects.{still, event_made}
 use Rattle.verse_meaning.specs.Programs.{Program, same_name, ref_at, enum_value, pattern_value, trees_list, holes_list, pieces, pairs_list}
 use Rattle.verse_meaning.specs.Programs.{givens_list, given_names}
 use Rattle.verse_meaning.specs.Residuals as form
-use Rattle.verse_meaning.specs.Residuals.{Env, Bound, constant, variable, Base, in_variable, in_self, in_object, Form, Binder, no_name}
+use Rattle.verse_meaning.specs.Residuals.{Env, Bound, constant, variable, Base, in_variable, in_self, in_object, nowhere, Form, Binder, no_name}
 use Rattle.verse_meaning.specs.Residuals.{a_constant, a_variable, Generator, of_elements, of_entries, of_range, Values, Role, part, body}
-use Rattle.verse_meaning.specs.Residuals.{root, Residual, leaf, args, seq, deferred, looped, generated, called, arms, Scope, scope, Scopes}
+use Rattle.verse_meaning.specs.Residuals.{root, Residual, leaf, args, seq, deferred, looped, filling, generated, called, arms, Scope, scope, Scopes}
 use Rattle.verse_meaning.specs.Residuals.{none, also, Arms, no_arms, gave, runs}
 use Rattle.verse_meaning.specs.Outcomes.{World, set_behind, Outcome, value, failed, returned, broke, halted, rests, TaskOutcome, ends}
 use Rattle.verse_meaning.specs.Outcomes.{stops, sleeps, Went, went, wrong, valued, attempted, dropped, on_went, went_on, on_went_task}
@@ -82,11 +83,29 @@ signal_name = 83 ∷ 105 ∷ 103 ∷ 110 ∷ 97 ∷ 108 ∷ []
 abbrev pub length_name : Bytes
 length_name = 76 ∷ 101 ∷ 110 ∷ 103 ∷ 116 ∷ 104 ∷ []
 
-abbrev pub member_callee : Option Ref → Bytes → Form → Callee
-member_callee (Some (ref.Method c m)) x whole = of_object (form.calling_method m)
-member_callee (Some other) x whole = of_value whole
-member_callee None x whole =
-    cond (same_name x await_name) (of_object form.awaiting) (cond (same_name x signal_name) (of_object form.signalling) (of_value whole))
+abbrev pub member_callee : Option Ref → (of_event : Bool) → Bytes → Form → Callee
+member_callee (Some (ref.Method c m)) t x whole = of_object (form.calling_method m)
+member_callee (Some other) t x whole = of_value whole
+member_callee None t x whole =
+    cond (same_name x await_name) (of_object (form.awaiting t)) (cond (same_name x signal_name) (of_object form.signalling) (of_value whole))
+
+-- the form of a member that is no value of an enum
+abbrev pub member_form : Option Ref → Bytes → Form
+member_form (Some (ref.Field c slot)) x = form.reading slot
+member_form other x = cond (same_name x length_name) form.measuring form.defining
+
+-- the number that a literal is
+abbrev pub literal_of_shape : Shape → Option ℕ
+literal_of_shape (t.Shape.integer (pos n)) = Some n
+literal_of_shape s = None
+
+abbrev pub literal_of : Tree → Option ℕ
+literal_of (tree n pl s) = literal_of_shape s
+
+-- the form of `T(0)`
+abbrev pub picked : Trees → Form
+picked (more_trees a no_trees) = form.picking (literal_of a)
+picked ts = form.picking None
 
 abbrev pub spawned_form : Form → Form
 spawned_form (form.calling f) = form.spawning f
@@ -111,10 +130,17 @@ abbrev pub on_bool : {A : Type 0} → Bool → (Bool → A) → (Bool → A) →
 on_bool true yes_do no_do = yes_do true
 on_bool false yes_do no_do = no_do false
 
+abbrev pub none_left : Trees → Bool
+none_left no_trees = true
+none_left (more_trees a ts) = false
+
+abbrev pub number_of : Tree → ℕ
+number_of (tree n pl s) = n
+
 module _ (p : Program) where
   abbrev pub callee_of_shape : ℕ → Shape → Form → Place → Callee
   callee_of_shape n (t.Shape.name x) whole pl = named_callee (ref_at p n) whole pl
-  callee_of_shape n (t.Shape.member a x) whole pl = member_callee (ref_at p n) x whole
+  callee_of_shape n (t.Shape.member a x) whole pl = member_callee (ref_at p n) (p.is_event (number_of a)) x whole
   callee_of_shape n s whole pl = of_value whole
 
   -- pl is the place of the call
@@ -127,7 +153,7 @@ module _ (p : Program) where
 
   abbrev pub base_member : Option Ref → Base
   base_member (Some (ref.Field c slot)) = in_object slot
-  base_member other = in_variable []
+  base_member other = nowhere
 
   -- what the indices of a target of `set` lead from
   abbrev mutual
@@ -135,7 +161,7 @@ module _ (p : Program) where
     base_of_shape n (t.Shape.name x) = base_named (ref_at p n) x
     base_of_shape n (t.Shape.member a x) = base_member (ref_at p n)
     base_of_shape n (t.Shape.index a ts) = base_of a
-    base_of_shape n s = in_variable []
+    base_of_shape n s = nowhere
 
     pub base_of : Tree → Base
     base_of (tree n pl s) = base_of_shape n s
@@ -180,6 +206,7 @@ module _ (p : Program) (k : Deeper) where
     cancel_kids (seq e b r left) w = cancel_kids r w
     cancel_kids (deferred e d r) w = cancel_kids r w
     cancel_kids (looped e a r) w = cancel_kids r w
+    cancel_kids (filling e c pl fs xs vs ss r) w = cancel_kids r w
     cancel_kids (generated e g cs a pl vs r) w = cancel_kids r w
     cancel_kids (called e s) w = cancel_scope_kids s w
     cancel_kids (arms kd pl e gs) w = cancel_arms gs w
@@ -190,6 +217,7 @@ module _ (p : Program) (k : Deeper) where
     cancel_own (seq e b r left) w = cancel_own r w
     cancel_own (deferred e d r) w = went_on (cancel_own r w) (λ w. dropped (k.parts d e w))
     cancel_own (looped e a r) w = cancel_own r w
+    cancel_own (filling e c pl fs xs vs ss r) w = cancel_own r w
     cancel_own (generated e g cs a pl vs r) w = cancel_own r w
     cancel_own (called e s) w = cancel_scope_own s w
     cancel_own (arms kd pl e gs) w = went w
@@ -290,11 +318,6 @@ module _ (p : Program) (k : Deeper) where
   named (Some (ref.Field c slot)) x pl e w = read_slot_of (this_of e) slot pl e w
   named other x pl e w = read_bound (look x e) pl e w
 
-  -- the form of a member that is no value of an enum
-  abbrev pub member_form : Option Ref → Bytes → Form
-  member_form (Some (ref.Field c slot)) x = form.reading slot
-  member_form other x = cond (same_name x length_name) form.measuring form.defining
-
   unfoldable pub membered : Option Val → Env → World → (World → Outcome) → Outcome
   membered (Some v) e w go = value e v w
   membered None e w go = go w
@@ -321,7 +344,7 @@ module _ (p : Program) (k : Deeper) where
     -- failure contexts
     ev_shape (t.Shape.if_else cs a b) n pl m e w = attempted (statements cs false e unit w) w (λ e1 v w. ev a m e1 w) (λ w. ev b m e w)
     ev_shape (t.Shape.if_alone cs a) n pl m e w = attempted (statements cs false e unit w) w (λ e1 v w. ev a m e1 w) (λ w. value e unit w)
-    ev_shape (t.Shape.negation a) n pl m e w = attempted (ev a false e w) w (λ e1 v w. failed w.state) (λ w. value e unit w)
+    ev_shape (t.Shape.negation a) n pl m e w = attempted (ev a false e w) w (λ e1 v u. failed (restored w.state.memory u.state)) (λ w. value e unit w)
     ev_shape (t.Shape.option cs) n pl m e w =
         attempted (statements cs false e unit w) w (λ e1 v w. told (still (option_of v) w.state) pl e w) (λ w. value e falsity w)
     ev_shape (t.Shape.logic cs) n pl m e w = attempted (statements cs false e unit w) w (λ e1 v w. value e truth w) (λ w. value e falsity w)
@@ -332,8 +355,8 @@ module _ (p : Program) (k : Deeper) where
     -- operators
     ev_shape (t.Shape.chained op.Div a b) n pl m e w = halted (wrong w.state)
     ev_shape (t.Shape.chained x a b) n pl m e w =
-        valued (ev a m e w) (λ r. args e (form.computing x pl) [] r (b ∷ [])) (λ v w.
-        valued (ev b m e w) (λ r. args e (form.computing x pl) (v ∷ []) r []) (λ y w. apply p k (form.computing x pl) (v ∷ y ∷ []) m e w))
+        valued (ev a m e w) (λ r. args e (form.computing x (p.is_array n) pl) [] r (b ∷ [])) (λ v w.
+        valued (ev b m e w) (λ r. args e (form.computing x (p.is_array n) pl) (v ∷ []) r []) (λ y w. apply p k (form.computing x (p.is_array n) pl) (v ∷ y ∷ []) m e w))
     ev_shape (t.Shape.compared x a b) n pl m e w =
         valued (ev a m e w) (λ r. args e (form.comparing x) [] r (b ∷ [])) (λ v w.
         valued (ev b m e w) (λ r. args e (form.comparing x) (v ∷ []) r []) (λ y w. apply p k (form.comparing x) (v ∷ y ∷ []) m e w))
@@ -345,10 +368,10 @@ module _ (p : Program) (k : Deeper) where
     ev_shape (t.Shape.member a x) n pl m e w = membered (enum_member p a x) e w (λ w.
         valued (ev a m e w) (λ r. args e (member_form (ref_at p n) x) [] r []) (λ v w. apply p k (member_form (ref_at p n) x) (v ∷ []) m e
         w))
-    ev_shape (t.Shape.call a ts) n pl m e w = by_callee (callee_of p a form.picking pl) w
+    ev_shape (t.Shape.call a ts) n pl m e w = by_callee (callee_of p a (picked ts) pl) w
         (λ f w. all_args ts f [] m e w)
         (λ f w. valued (inner a m e w) (λ r. args e f [] r (trees_list ts)) (λ v w. all_args ts f (v ∷ []) m e w))
-        (λ f w. valued (ev a m e w) (λ r. args e f [] r (trees_list ts)) (λ v w. all_args ts f (v ∷ []) m e w))
+        (λ f w. valued (ev a m e w) (λ r. args e f [] r []) (λ v w. apply p k f (v ∷ []) m e w))
         (λ f w. quotient ts f m e w)
     ev_shape (t.Shape.index a ts) n pl m e w = by_callee (callee_of p a form.indexing pl) w
         (λ f w. all_args ts f [] m e w)
@@ -476,14 +499,14 @@ module _ (p : Program) (k : Deeper) where
     -- the first arm whose pattern fits
     pub chosen : Trees → Val → (m : Bool) → Env → World → Outcome
     chosen no_trees v m e w = halted (wrong w.state)
-    chosen (more_trees a ts) v m e w = arm_of a v m e w (λ w. chosen ts v m e w)
+    chosen (more_trees a ts) v m e w = arm_of a (none_left ts) v m e w (λ w. chosen ts v m e w)
 
-    pub arm_of : Tree → Val → (m : Bool) → Env → World → (World → Outcome) → Outcome
-    arm_of (tree n pl s) v m e w go = arm_of_shape s v m e w go
+    pub arm_of : Tree → (last : Bool) → Val → (m : Bool) → Env → World → (World → Outcome) → Outcome
+    arm_of (tree n pl s) last v m e w go = arm_of_shape s last v m e w go
 
-    pub arm_of_shape : Shape → Val → (m : Bool) → Env → World → (World → Outcome) → Outcome
-    arm_of_shape (t.Shape.arm a b) v m e w go = on_bool (pattern_fits p a v) (λ u. ev b m e w) (λ u. go w)
-    arm_of_shape s v m e w go = halted (wrong w.state)
+    pub arm_of_shape : Shape → (last : Bool) → Val → (m : Bool) → Env → World → (World → Outcome) → Outcome
+    arm_of_shape (t.Shape.arm a b) last v m e w go = on_bool (cond last true (pattern_fits p a v)) (λ u. ev b m e w) (λ u. go w)
+    arm_of_shape s last v m e w go = halted (wrong w.state)
 
     -- arms begin in written order
     pub started : Kind → Place → Trees → Env → Arms → World → Outcome
@@ -497,7 +520,7 @@ module _ (p : Program) (k : Deeper) where
     spawned (tree n pl s) m e w = spawned_shape s pl m e w
 
     pub spawned_shape : Shape → Place → (m : Bool) → Env → World → Outcome
-    spawned_shape (t.Shape.call a ts) pl m e w = by_callee (spawned_callee (callee_of p a form.picking pl)) w
+    spawned_shape (t.Shape.call a ts) pl m e w = by_callee (spawned_callee (callee_of p a (form.picking None) pl)) w
         (λ f w. all_args ts f [] m e w)
         (λ f w. valued (inner a m e w) (λ r. args e f [] r (trees_list ts)) (λ v w. all_args ts f (v ∷ []) m e w))
         (λ f w. halted (wrong w.state))

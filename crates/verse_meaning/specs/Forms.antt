@@ -1,5 +1,5 @@
 -- The forms with operands, applied to their operands' values.
-use Rattle.std.specs.Prelude.{ℕ, suc, pos, ◌+ℤ◌, int_le, List, [], ◌∷◌, ◌++◌, Option, Some, None, Bool, cond}
+use Rattle.std.specs.Prelude.{ℕ, suc, pos, ◌+ℤ◌, int_le, List, [], ◌∷◌, ◌++◌, Option, Some, None, Bool, true, false, cond}
 use Rattle.std.specs.Ordering.{int_eq}
 use Rattle.verse_base.specs.declared.places.Place.{Place}
 use Rattle.verse_tree.specs.Tree.{Bytes, Tree}
@@ -18,11 +18,11 @@ use Rattle.verse_value.specs.Operations.{tuple_of, query_of, item_of, at_of, len
 use Rattle.verse_value.specs.declared.modes.Mode.{Mode}
 use Rattle.verse_meaning_state.specs.State.{Given}
 use Rattle.verse_meaning_state.specs.Waits.{done, heard, nth}
-use Rattle.verse_meaning_state.specs.Effects.{still, variable_made, object_made, slot_read, slot_written, line_printed, class_of, event_of}
+use Rattle.verse_meaning_state.specs.Effects.{still, variable_made, object_made, slot_read, slot_written, line_printed, class_of, event_of, task_of}
 use Rattle.verse_meaning_state.specs.Effects.{signal_sent}
 use Rattle.verse_meaning.specs.Programs.{Program, same_name, method_at, fields_of}
 use Rattle.verse_meaning.specs.Residuals as form
-use Rattle.verse_meaning.specs.Residuals.{Env, Binding, Bound, constant, variable, Base, in_variable, in_self, in_object, Form, Binder}
+use Rattle.verse_meaning.specs.Residuals.{Env, Binding, Bound, constant, variable, Base, in_variable, in_self, in_object, nowhere, Form, Binder}
 use Rattle.verse_meaning.specs.Residuals.{no_name, a_constant, a_variable, Generator, of_elements, of_entries, of_range, Values, listed}
 use Rattle.verse_meaning.specs.Residuals.{between, Residual}
 use Rattle.verse_meaning.specs.Outcomes.{World, Outcome, value, returned, halted, wrong, jammed, valued, told, told_plain, if_there}
@@ -38,8 +38,10 @@ pub record Deeper : Type 0 where
   pub loops : (World → Outcome) → (Residual → Residual) → Env → World → Outcome
   -- the turns of a generator: what a value taken leads to with the results so far
   pub takes : (Val × Val → Val → World → Outcome) → (Values → Residual → Residual) → Env → Values → Val → World → Outcome
-  -- a default or a deferred block
+  -- a deferred block
   pub parts : Tree → Env → World → Outcome
+  -- a default, as a function without parameters
+  pub defaults : Tree → (m : Bool) → Env → World → Outcome
 
 abbrev pub bound_to : Bytes → Bound → Env → Env
 bound_to x b e = record { name = x; bound = b } ∷ e
@@ -80,17 +82,17 @@ read_slot_of None slot p e w = halted (wrong w.state)
 read_slot_of (Some v) slot p e w = told (slot_read slot v w.state) p e w
 
 -- `+` joins arrays and adds ints
-abbrev pub plus_of : Val → Val → Answer Val
-plus_of (array vs) b = concat_of (array vs) b
-plus_of a b = sum_of a b
+abbrev pub plus_of : (of_arrays : Bool) → Val → Val → Answer Val
+plus_of true a b = concat_of a b
+plus_of false a b = sum_of a b
 
-abbrev pub computed : Operator → Val → Val → Answer Val
-computed op.And a b = gives b
-computed op.Add a b = plus_of a b
-computed op.Sub a b = difference_of a b
-computed op.Mul a b = product_of a b
-computed op.Or a b = stuck
-computed op.Div a b = stuck
+abbrev pub computed : Operator → (of_arrays : Bool) → Val → Val → Answer Val
+computed op.And t a b = gives b
+computed op.Add t a b = plus_of t a b
+computed op.Sub t a b = difference_of a b
+computed op.Mul t a b = product_of a b
+computed op.Or t a b = stuck
+computed op.Div t a b = stuck
 
 abbrev pub compared : Comparison → Val → Val → Answer Val
 compared c.Equal a b = equal_of a b
@@ -106,11 +108,16 @@ paired [] = []
 paired (k ∷ []) = []
 paired (k ∷ v ∷ vs) = (k, v) ∷ paired vs
 
+-- a piece of a text, where it is not empty
+abbrev pub before_text : Bytes → List Val → List Val
+before_text [] vs = vs
+before_text (b ∷ bs) vs = text_val (b ∷ bs) ∷ vs
+
 -- the pieces of a text with its holes' values between them
 abbrev pub woven : List Bytes → List Val → List Val
 woven [] vs = []
-woven (x ∷ xs) [] = text_val x ∷ woven xs []
-woven (x ∷ xs) (v ∷ vs) = text_val x ∷ v ∷ woven xs vs
+woven (x ∷ xs) [] = before_text x (woven xs [])
+woven (x ∷ xs) (v ∷ vs) = before_text x (v ∷ woven xs vs)
 
 -- the last of a list, and those before it
 abbrev pub split_last : Val → List Val → List Val × Val
@@ -126,7 +133,7 @@ given_at x (y ∷ ys) (v ∷ vs) = cond (same_name x y) (Some v) (given_at x ys 
 -- a value that was taken, with its names
 abbrev pub with_taken : Generator → Val × Val → Env → Env
 with_taken (of_elements x) v e = bound_to x (constant v.0) e
-with_taken (of_entries k x) v e = bound_to x (constant v.0) (bound_to k (constant v.1) e)
+with_taken (of_entries k x) v e = bound_to k (constant v.1) (bound_to x (constant v.0) e)
 with_taken (of_range x) v e = bound_to x (constant v.0) e
 
 abbrev pub elements_from : ℕ → Vals → List (Val × Val)
@@ -171,17 +178,18 @@ module _ (p : Program) (k : Deeper) where
   stored (in_self slot) vs m pl e w = written_to (this_of e) slot vs m pl e w
   stored (in_object slot) [] m pl e w = halted (wrong w.state)
   stored (in_object slot) (o ∷ vs) m pl e w = written_to (Some o) slot vs m pl e w
+  stored nowhere vs m pl e w = halted (wrong w.state)
 
-  abbrev pub field_filled : Option Val → Option Tree → World → (Val → World → Outcome) → Outcome
-  field_filled (Some v) d w go = go v w
-  field_filled None None w go = halted (wrong w.state)
-  field_filled None (Some d) w go = valued (k.parts d [] w) (λ r. r) go
+  abbrev pub field_filled : Option Val → Option Tree → (m : Bool) → Env → World → (Residual → Residual) → (Val → World → Outcome) → Outcome
+  field_filled (Some v) d m e w wrap go = go v w
+  field_filled None None m e w wrap go = halted (wrong w.state)
+  field_filled None (Some d) m e w wrap go = valued (k.defaults d m e w) wrap go
 
   -- the fields that are not given are their defaults, in their order; then the object is made
-  abbrev pub filled : List FieldTree → List Bytes → List Val → (class : ℕ) → List Val → Place → Env → World → Outcome
-  filled [] xs vs class slots pl e w = told (object_made class slots w.state) pl e w
-  filled (f ∷ fs) xs vs class slots pl e w =
-      field_filled (given_at f.name xs vs) f.default w (λ v w. filled fs xs vs class (slots ++ v ∷ []) pl e w)
+  abbrev pub filled : List FieldTree → List Bytes → List Val → (class : ℕ) → List Val → Place → (m : Bool) → Env → World → Outcome
+  filled [] xs vs class slots pl m e w = told (object_made class slots w.state) pl e w
+  filled (f ∷ fs) xs vs class slots pl m e w =
+      field_filled (given_at f.name xs vs) f.default m e w (form.filling e class pl fs xs vs slots) (λ v w. filled fs xs vs class (slots ++ v ∷ []) pl m e w)
 
   -- a method of an object by its class
   abbrev pub method_found : Option ℕ → ℕ → Option ℕ
@@ -200,17 +208,18 @@ module _ (p : Program) (k : Deeper) where
   task_awaited (Some None) entry e w = suspended (done entry) e w
   task_awaited (Some (Some g)) entry e w = value e g.value w
 
-  abbrev pub awaited : Val → Env → World → Outcome
-  awaited (task entry) e w = task_awaited (nth w.state.clock.results entry) entry e w
-  awaited v e w = if_there (event_of v w.state) w (λ c. suspended (heard c) e w)
+  abbrev pub awaited : (of_event : Bool) → Val → Env → World → Outcome
+  awaited false v e w = if_there (task_of v) w (λ entry. task_awaited (nth w.state.clock.results entry) entry e w)
+  awaited true v e w = if_there (event_of v w.state) w (λ c. suspended (heard c) e w)
 
   abbrev pub signal_told : List Val → Val → Env → World → Outcome
   signal_told [] o e w = told_plain (signal_sent (event_of o w.state) unit w.state) e w
-  signal_told (v ∷ vs) o e w = told_plain (signal_sent (event_of o w.state) v w.state) e w
+  signal_told (v ∷ []) o e w = told_plain (signal_sent (event_of o w.state) v w.state) e w
+  signal_told (v ∷ x ∷ vs) o e w = halted (wrong w.state)
 
   -- m is true where no failure context is open in the task
   abbrev pub apply : Form → List Val → (m : Bool) → Env → World → Outcome
-  apply (form.computing o pl) (a ∷ b ∷ []) m e w = told (still (computed o a b) w.state) pl e w
+  apply (form.computing o t pl) (a ∷ b ∷ []) m e w = told (still (computed o t a b) w.state) pl e w
   apply (form.comparing o) (a ∷ b ∷ []) m e w = told_plain (still (compared o a b) w.state) e w
   apply (form.negating pl) (a ∷ []) m e w = told (still (negation_of a) w.state) pl e w
   apply form.querying (a ∷ []) m e w = told_plain (still (query_of a) w.state) e w
@@ -220,7 +229,7 @@ module _ (p : Program) (k : Deeper) where
   apply (form.making_array pl) vs m e w = told (still (array_of vs) w.state) pl e w
   apply (form.making_map pl) vs m e w = told (still (map_of (paired vs)) w.state) pl e w
   apply (form.joining xs pl) vs m e w = told (still (join_of (woven xs vs)) w.state) pl e w
-  apply form.picking (a ∷ int (pos n) ∷ []) m e w = told_plain (still (item_of a n) w.state) e w
+  apply (form.picking (Some n)) (a ∷ []) m e w = told_plain (still (item_of a n) w.state) e w
   apply form.indexing (a ∷ b ∷ []) m e w = told_plain (still (at_of a b) w.state) e w
   apply (form.calling f) vs m e w = k.calls f None vs m e w
   apply (form.calling_own f) vs m e w = if_known (this_of e) w (λ o. method_called f o vs m e w)
@@ -229,13 +238,13 @@ module _ (p : Program) (k : Deeper) where
   apply (form.flooring pl) (a ∷ b ∷ []) m e w = told (still (floor_of a b) w.state) pl e w
   apply (form.ceiling pl) (a ∷ b ∷ []) m e w = told (still (ceil_of a b) w.state) pl e w
   apply form.taking_modulo (a ∷ b ∷ []) m e w = told_plain (still (modulo_of a b) w.state) e w
-  apply form.awaiting (a ∷ []) m e w = outside m w (λ w. awaited a e w)
+  apply (form.awaiting t) (a ∷ []) m e w = outside m w (λ w. awaited t a e w)
   apply form.signalling (o ∷ vs) m e w = outside m w (λ w. signal_told vs o e w)
   apply (form.spawning f) vs m e w = outside m w (λ w. k.spawns f None vs e w)
   apply (form.spawning_own f) vs m e w = outside m w (λ w. if_known (this_of e) w (λ o. method_spawned f o vs e w))
   apply (form.spawning_method f) (o ∷ vs) m e w = outside m w (λ w. method_spawned f o vs e w)
   apply (form.storing b mode pl) vs m e w = stored b vs mode pl e w
-  apply (form.instancing class xs pl) vs m e w = filled (fields_of p class) xs vs class [] pl e w
+  apply (form.instancing class xs pl) vs m e w = filled (fields_of p class) xs vs class [] pl m e w
   apply form.defining (a ∷ []) m e w = value e a w
   apply (form.varying pl) (a ∷ []) m e w = valued (told (variable_made a w.state) pl e w) (λ r. r) (λ c w. value e a w)
   apply form.returning (a ∷ []) m e w = returned a w

@@ -122,12 +122,21 @@ unfoldable pub on_went_task : Went → (World → TaskOutcome) → TaskOutcome
 on_went_task (went w) go = go w
 on_went_task (quits h) go = stops h
 
+-- a deferred block has run as control leaves its block: its value is dropped, and where it fails, so does the block
+unfoldable pub ran : Outcome → (World → Outcome) → Outcome
+ran (value e v w) go = go w
+ran (failed s) go = failed s
+ran (returned v w) go = halted (wrong w.state)
+ran (broke w) go = halted (wrong w.state)
+ran (halted h) go = halted h
+ran (rests r w) go = halted (wrong w.state)
+
 -- control leaves a block that has reached a `defer`: at Value, Return and Break the deferred block runs, then that outcome
 unfoldable pub closing : Outcome → (World → Outcome) → (Residual → Residual) → Env → Outcome
-closing (value e1 v w) run wrap e = on_went (dropped (run w)) (λ w. value e v w)
+closing (value e1 v w) run wrap e = ran (run w) (λ w. value e v w)
 closing (failed s) run wrap e = failed s
-closing (returned v w) run wrap e = on_went (dropped (run w)) (λ w. returned v w)
-closing (broke w) run wrap e = on_went (dropped (run w)) (λ w. broke w)
+closing (returned v w) run wrap e = ran (run w) (λ w. returned v w)
+closing (broke w) run wrap e = ran (run w) (λ w. broke w)
 closing (halted h) run wrap e = halted h
 closing (rests r w) run wrap e = rests (wrap r) w
 

@@ -17,9 +17,12 @@ use Rattle.verse_meaning_state.specs.Waits.{nth}
 pub record Program : Type 0 where
   pub items : List ItemTree
   pub names : Names
+  -- whether the type of the node of a number is an array, or an event
+  pub is_array : ℕ → Bool
+  pub is_event : ℕ → Bool
 
-abbrev pub program_of : Made → Program
-program_of p = record { items = map item_of p.tree.items; names = p.names }
+abbrev pub program_of : Made → (ℕ → Bool) → (ℕ → Bool) → Program
+program_of p arrays events = record { items = map item_of p.tree.items; names = p.names; is_array = arrays; is_event = events }
 
 abbrev pub same_name : Bytes → Bytes → Bool
 same_name [] [] = true

@@ -1,6 +1,7 @@
 -- Residual trees: what is left of an evaluation that is suspended.
 use Rattle.std.specs.Prelude.{ℕ, ℤ, List, [], ◌∷◌, ◌++◌, Option, Bool, true, false, cond}
 use Rattle.verse_base.specs.declared.places.Place.{Place}
+use Rattle.verse_tree.specs.ItemTree.{FieldTree}
 use Rattle.verse_tree.specs.Tree.{Bytes, Tree, Trees}
 use Rattle.verse_tree.specs.declared.exprs.Comparison.{Comparison}
 use Rattle.verse_tree.specs.declared.exprs.Operator.{Operator}
@@ -22,15 +23,16 @@ pub record Binding : Type 0 where
 abbrev pub Env : Type 0
 Env = List Binding
 
--- what `set` writes to: a variable, a field of `Self`, a field of the object that is the first operand
+-- what `set` writes to: a variable, a field of `Self`, a field of the object that is the first operand, or nothing that can be written
 pub data Base : Type 0 where
   in_variable : Bytes → Base
   in_self : (slot : ℕ) → Base
   in_object : (slot : ℕ) → Base
+  nowhere : Base
 
 -- a form with operands, without them; a place is where its errors are
 pub data Form : Type 0 where
-  computing : Operator → Place → Form
+  computing : Operator → (of_arrays : Bool) → Place → Form
   comparing : Comparison → Form
   negating : Place → Form
   querying : Form
@@ -38,7 +40,8 @@ pub data Form : Type 0 where
   measuring : Form
   making_tuple making_array making_map : Place → Form
   joining : (pieces : List Bytes) → Place → Form
-  picking : Form
+  -- the element of a tuple, by the literal that is its number
+  picking : Option ℕ → Form
   indexing : Form
   -- a function; a method of `Self`; a method of the object that is the first operand
   calling : (function : ℕ) → Form
@@ -47,7 +50,8 @@ pub data Form : Type 0 where
   printing : Place → Form
   flooring ceiling : Place → Form
   taking_modulo : Form
-  awaiting signalling : Form
+  awaiting : (of_event : Bool) → Form
+  signalling : Form
   spawning : (function : ℕ) → Form
   spawning_own : (method : ℕ) → Form
   spawning_method : (method : ℕ) → Form
@@ -94,6 +98,8 @@ mutual
     -- a block with a deferred block that was reached, in the environment of its `defer`
     deferred : Env → Tree → Residual → Residual
     looped : Env → (body : Tree) → Residual → Residual
+    -- an instance: the fields left, the names and values given, and the slots so far
+    filling : Env → (class : ℕ) → Place → (left : List FieldTree) → (given : List Bytes) → (values slots : List Val) → Residual → Residual
     -- one generator of a `for`: the clauses behind it, the body, and the values not yet taken
     generated : Env → Generator → (clauses : Trees) → (body : Tree) → Place → Values → Residual → Residual
     called : Env → Scope → Residual
@@ -126,6 +132,7 @@ abbrev mutual
   leaves (seq e b r left) = leaves r
   leaves (deferred e d r) = leaves r
   leaves (looped e a r) = leaves r
+  leaves (filling e c pl fs xs vs ss r) = leaves r
   leaves (generated e g cs a p vs r) = leaves r
   leaves (called e s) = scope_leaves s
   leaves (arms k p e gs) = arms_leaves gs

@@ -6,12 +6,12 @@ use Rattle.verse_value.specs.Val.{Val, unit}
 use Rattle.verse_meaning_state.specs.Waits.{has}
 use Rattle.verse_meaning.specs.Programs.{Program}
 use Rattle.verse_meaning.specs.Residuals as form
-use Rattle.verse_meaning.specs.Residuals.{Env, Form, Generator, Residual, leaf, args, seq, deferred, looped, generated, called, arms, Scope}
+use Rattle.verse_meaning.specs.Residuals.{Env, Form, Generator, Residual, leaf, args, seq, deferred, looped, filling, generated, called, arms, Scope}
 use Rattle.verse_meaning.specs.Residuals.{scope, Scopes, none, also, Arms, no_arms, gave, runs, scope_leaves, is_behind}
 use Rattle.verse_meaning.specs.Outcomes.{World, set_behind, Outcome, value, TaskOutcome, BehindOutcome, stays, ArmsOutcome, stops_arms}
 use Rattle.verse_meaning.specs.Outcomes.{wrong, valued, attempted, turned, closing, call_end, arm_came, arm_before, arms_came, element_came}
 use Rattle.verse_meaning.specs.Outcomes.{element_before, behind_came}
-use Rattle.verse_meaning.specs.Forms.{Deeper, with_taken, apply, defined}
+use Rattle.verse_meaning.specs.Forms.{Deeper, with_taken, filled, apply, defined}
 use Rattle.verse_meaning.specs.Evaluating.{on_bool, scope_end, settled, ev, statements, clauses, level, chosen}
 
 module _ (p : Program) (k : Deeper) where
@@ -37,6 +37,7 @@ module _ (p : Program) (k : Deeper) where
     resume (seq e b r left) n v w =
         valued (resume r n v w) (λ r. seq e b r left) (λ v w. defined p k b e v w (λ e v w. statements p k left true e v w))
     resume (deferred e d r) n v w = closing (resume r n v w) (λ w. k.parts d e w) (deferred e d) e
+    resume (filling e c pl fs xs vs ss r) n v w = valued (resume r n v w) (filling e c pl fs xs vs ss) (λ v w. filled p k fs xs vs c (ss ++ v ∷ []) pl true e w)
     resume (looped e a r) n v w = turned (resume r n v w) (looped e a) e (λ w. k.loops (λ w. ev p k a true e w) (looped e a) e w)
     resume (generated e g cs a pl vs r) n v w =
         valued (resume r n v w) (generated e g cs a pl vs) (λ so_far w. k.takes (taken g cs a pl e) (λ vs r. generated e g cs a pl vs r) e

@@ -26,14 +26,13 @@ abbrev pub with_this : Option Val → Env
 with_this None = []
 with_this (Some o) = bound_to this_name (constant o) []
 
-unfoldable pub in_env : Option Env → World → (Env → TaskOutcome) → TaskOutcome
-in_env None w go = stops (wrong w.state)
-in_env (Some e) w go = go e
-
 -- The body of a function is a task scope with nothing behind it. In one that may not be suspended nothing ever is behind.
-abbrev pub entered : Program → Deeper → Role → FunTree → Option Val → List Val → Bool → World → TaskOutcome
-entered p k q f o vs m w =
-    in_env (with_params f.params vs (with_this o)) w (λ e. scope_end p k q w.behind (ev p k f.body m e (set_behind w none)))
+abbrev pub entered : Program → Deeper → Role → FunTree → Env → Bool → World → TaskOutcome
+entered p k q f e m w = scope_end p k q w.behind (ev p k f.body m e (set_behind w none))
+
+-- a function that is there and takes these arguments
+abbrev pub taking : Program → (function : ℕ) → Option Val → List Val → World → (FunTree → Env → Outcome) → Outcome
+taking p f o vs w go = if_known (fun_at p f) w (λ fn. if_known (with_params fn.params vs (with_this o)) w (λ e. go fn e))
 
 unfoldable pub on_next : Option ((Val × Val) × Values) → Outcome → (Val × Val → Values → Outcome) → Outcome
 on_next None ended go = ended
@@ -42,22 +41,23 @@ on_next (Some x) ended go = go x.0 x.1
 -- n is no less than the steps that are left
 abbrev pub deeper : Program → ℕ → Deeper
 deeper p zero = record {
-  calls = λ f o vs m e w. halted (out w.state);
-  spawns = λ f o vs e w. halted (out w.state);
+  calls = λ f o vs m e w. taking p f o vs w (λ fn e1. halted (out w.state));
+  spawns = λ f o vs e w. taking p f o vs w (λ fn e1. halted (out w.state));
   loops = λ go wrap e w. halted (out w.state);
   takes = λ go wrap e vs so_far w. on_next (next_value vs) (value e so_far w) (λ x left. halted (out w.state));
   parts = λ a e w. halted (out w.state);
+  defaults = λ a m e w. halted (out w.state);
 }
 deeper p (suc n) = record {
-  calls = λ f o vs m e w. if_known (fun_at p f) w (λ fn. spends w.state.clock.left w (λ w. call_end e (entered p (deeper p n) body fn o vs
-      m w)));
-  spawns = λ f o vs e w. if_known (fun_at p f) w (λ fn. spends w.state.clock.left w (λ w.
-      task_started e (task (length w.state.clock.results)) (entered p (deeper p n) (root (Some (length w.state.clock.results))) fn o vs
+  calls = λ f o vs m e w. taking p f o vs w (λ fn e1. spends w.state.clock.left w (λ w. call_end e (entered p (deeper p n) body fn e1 m w)));
+  spawns = λ f o vs e w. taking p f o vs w (λ fn e1. spends w.state.clock.left w (λ w.
+      task_started e (task (length w.state.clock.results)) (entered p (deeper p n) (root (Some (length w.state.clock.results))) fn e1
       true (with_state w (with_entry w.state)))));
   loops = λ go wrap e w. spends w.state.clock.left w (λ w. turned (go w) wrap e (λ w. (deeper p n).loops go wrap e w));
   takes = λ go wrap e vs so_far w. on_next (next_value vs) (value e so_far w) (λ x left. spends w.state.clock.left w (λ w.
       valued (go x so_far w) (wrap left) (λ so_far w. (deeper p n).takes go wrap e left so_far w)));
   parts = λ a e w. spends w.state.clock.left w (λ w. ev p (deeper p n) a false e w);
+  defaults = λ a m e w. spends w.state.clock.left w (λ w. call_end e (scope_end p (deeper p n) body w.behind (ev p (deeper p n) a m [] (set_behind w none))));
 }
 
 -- Main's residual, if it was suspended, and those of the spawned tasks in the order in which they were; nothing for one that has ended
@@ -102,13 +102,17 @@ unfoldable pub main_found : Option FunTree → State → (FunTree → Stage Fore
 main_found None s go = amiss s
 main_found (Some f) s go = go f
 
+unfoldable pub main_bound : Option Env → State → (Env → Stage Forest) → Stage Forest
+main_bound None s go = amiss s
+main_bound (Some e) s go = go e
+
 unfoldable pub main_spends : ℕ → State → (State → Stage Forest) → Stage Forest
 main_spends left s go = spending left s (broken ending.Steps s) go
 
 -- Main's start spends a step
 abbrev pub started : Program → List ℤ → (steps : ℕ) → Stage Forest
-started p ns steps = main_found (main_in p.items) (begun steps) (λ f. main_spends steps (begun steps) (λ s.
-    came [] (entered p (deeper p s.clock.left) (root None) f None (inputs_of f.params ns) true (world s none []))))
+started p ns steps = main_found (main_in p.items) (begun steps) (λ f. main_bound (with_params f.params (inputs_of f.params ns) []) (begun steps) (λ e.
+    main_spends steps (begun steps) (λ s. came [] (entered p (deeper p s.clock.left) (root None) f e true (world s none [])))))
 
 -- the state and the forest after Main's start and k turns, or as they were where the run ended before
 abbrev pub after : Program → List ℤ → (steps until k : ℕ) → Stage Forest
