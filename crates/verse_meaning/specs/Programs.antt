@@ -8,8 +8,11 @@ use Rattle.verse_tree.specs.ItemTree.{class, function}
 use Rattle.verse_tree.specs.ItemView.{item_of}
 use Rattle.verse_tree.specs.declared.tables.FunInfo.{FunInfo}
 use Rattle.verse_tree.specs.declared.tables.ClassInfo.{ClassInfo}
+use Rattle.verse_tree.specs.declared.tables.MapOf.{MapOf-F}
 use Rattle.verse_tree.specs.declared.tables.Names.{Names}
 use Rattle.verse_tree.specs.declared.tables.Ref.{Ref}
+use Rattle.verse_tree.specs.declared.tables.Ty.{Ty, Ty-F, fold-Ty}
+use Rattle.verse_tree.specs.declared.tables.Ty.TheOpen as ty
 use Rattle.verse_tree.specs.declared.programs.Program.{Program as Made}
 use Rattle.verse_value.specs.Val.{Val, enum}
 use Rattle.verse_meaning_state.specs.Waits.{nth}
@@ -21,8 +24,36 @@ pub record Program : Type 0 where
   pub is_array : ℕ → Bool
   pub is_event : ℕ → Bool
 
-abbrev pub program_of : Made → (ℕ → Bool) → (ℕ → Bool) → Program
-program_of p arrays events = record { items = map item_of p.tree.items; names = p.names; is_array = arrays; is_event = events }
+-- whether a type is an array, or an event
+abbrev pub array_step : Ty-F Bool Bool → Bool
+array_step (ty.Array t) = true
+array_step other = false
+
+abbrev pub event_step : Ty-F Bool Bool → Bool
+event_step (ty.Event t) = true
+event_step other = false
+
+abbrev pub no_map : MapOf-F Bool Bool → Bool
+no_map m = false
+
+abbrev pub is_array_type : Ty → Bool
+is_array_type = fold-Ty Bool Bool array_step no_map
+
+abbrev pub is_event_type : Ty → Bool
+is_event_type = fold-Ty Bool Bool event_step no_map
+
+-- of the node of a number, where it has a type
+abbrev pub of_type : (Ty → Bool) → Option Ty → Bool
+of_type is None = false
+of_type is (Some t) = is t
+
+abbrev pub program_of : Made → Program
+program_of p = record {
+  items = map item_of p.tree.items;
+  names = p.names;
+  is_array = λ n. of_type is_array_type (slice_get p.typed.types n);
+  is_event = λ n. of_type is_event_type (slice_get p.typed.types n);
+}
 
 abbrev pub same_name : Bytes → Bytes → Bool
 same_name [] [] = true
