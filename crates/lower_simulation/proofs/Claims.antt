@@ -1,5 +1,5 @@
 -- What the outcome of an expression means for a machine at its code.
-use Rattle.std.proofs.Common.{◌≡◌, ℕ, zero, suc, ◌-◌, ◌≤◌, ◌<◌, List, [], ◌∷◌, ◌++◌, length, Option, Some, Bool, true, false, sym, subst}
+use Rattle.std.proofs.Common.{◌≡◌, ℕ, zero, suc, ◌-◌, ◌≤◌, ◌<◌, List, [], ◌∷◌, ◌++◌, length, Option, Some, Bool, true, false}
 use Rattle.std.specs.Prelude.{slice_get}
 use Rattle.lower_code.specs.Scopes.{constant_at, variable_at, hidden, Scope as Names}
 use Rattle.verse_tree.specs.Tree.{Bytes}
@@ -21,10 +21,9 @@ use Rattle.verse_meaning.specs.Resuming.{resume, resume_scope}
 use Rattle.verse_meaning.specs.Runs.{deeper}
 use Rattle.verse_code_machine.specs.Tasks.{Life, life_from, Note, Handler, Frame, Who, Role, Task, After, clearing, Up, Trees, Machine, Step, Next, Over, Turn, machine, root_named, child_named, onto, planted, among, waits_of, tree_waits, starts, same_path}
 use Rattle.verse_code_machine.specs.Tasks as mt
-use Rattle.verse_code_machine.specs.Frames.{on_there, fits, failing, free, kept_defers}
+use Rattle.verse_code_machine.specs.Frames.{fits, failing, free}
 use Rattle.verse_code_machine.specs.Cancelling.{clears, clears_frames}
 use Rattle.verse_code_machine.specs.Ends.{rested, woken, climbs, follows}
-use Rattle.verse_code_machine.specs.Acts.{act}
 use Rattle.verse_code_machine.specs.Runs.{carried, turn_taken}
 use Rattle.verse_code_machine.specs.Laws.{IsWhole}
 use Rattle.lower_simulation.proofs.Paths.{Each, ordered}

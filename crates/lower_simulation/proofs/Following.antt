@@ -1,18 +1,14 @@
 -- What follows an outcome: runs, what has grown, what goes on with a value.
-use Rattle.std.proofs.Common.{◌≡◌, ℕ, zero, suc, ◌≤◌, ◌<◌, List, [], ◌∷◌, ◌++◌, Some, true, sym, subst, arith}
-use Rattle.std.specs.Prelude.{slice_get}
-use Rattle.verse_code.specs.declared.operations.Op.{Op}
+use Rattle.std.proofs.Common.{◌≡◌, ℕ, zero, suc, ◌≤◌, ◌<◌, List, true, sym, subst, arith}
 use Rattle.verse_value.specs.Val.{Val}
 use Rattle.verse_meaning_state.specs.Waits.{has}
-use Rattle.verse_meaning.specs.Residuals.{Env, Residual, Scopes, leaves, scope_leaves}
+use Rattle.verse_meaning.specs.Residuals.{Env, Residual, Scopes, leaves}
 use Rattle.verse_meaning.specs.Outcomes.{World, world, Outcome, value, failed, returned, broke, halted, rests, valued}
 use Rattle.verse_meaning.specs.Resuming.{resume}
 use Rattle.verse_meaning.specs.Runs.{deeper}
-use Rattle.verse_code_machine.specs.Tasks.{Life, Who, Task, Machine, Step, Next, child_named}
-use Rattle.verse_code_machine.specs.Frames.{on_there, free}
-use Rattle.verse_code_machine.specs.Acts.{act}
-use Rattle.verse_code_machine.specs.Runs.{step}
-use Rattle.lower_simulation.proofs.Claims.{Binds, Setting, Goal, Ends, Ctx, Around, around, at, Good, Keeps, Target, ScopeStands, Tasks, Stretch, RestAt, Grown, same_around, left_around, forked_around, kids_of, own_of, ParkedR, ParkedS, Goes, laid}
+use Rattle.verse_code_machine.specs.Tasks.{Life, Task, child_named}
+use Rattle.verse_code_machine.specs.Frames.{free}
+use Rattle.lower_simulation.proofs.Claims.{Binds, Setting, Goal, Ends, Ctx, Around, around, at, Good, Keeps, Target, ScopeStands, Tasks, Stretch, Grown, same_around, left_around, forked_around, kids_of, own_of, ParkedR, ParkedS, Goes, laid}
 use Rattle.lower_simulation.proofs.Going.{trans, grown_steps, shifted, stopped_as}
 
 -- the same around a context that has the same name, frames and steps

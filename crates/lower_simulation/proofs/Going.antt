@@ -2,17 +2,16 @@
 use Rattle.std.proofs.Common.{◌≡◌, ℕ, zero, suc, ◌≤◌, ◌<◌, List, [], ◌∷◌, ◌++◌, true, refl, sym, ap, ◌∙◌, subst, arith, append_assoc}
 use Rattle.verse_value.specs.Val.{Val}
 use Rattle.verse_meaning_state.specs.State.{State}
-use Rattle.verse_meaning_state.specs.Waits.{has}
 use Rattle.verse_code_machine.specs.Tasks.{Who, Task, Up, Trees, World, Step, root_named, child_named, starts}
 use Rattle.verse_code_machine.specs.Frames.{free}
 use Rattle.verse_code_machine.specs.Cancelling.{clears, clears_frames}
 use Rattle.verse_code_machine.specs.Ends.{follows}
-use Rattle.verse_meaning.specs.Residuals.{Env, Residual, Scope, Scopes, leaves}
-use Rattle.verse_meaning.specs.Outcomes.{World as Scene, world, Outcome, value, failed, returned, broke, halted, rests, TaskOutcome, ends, lost, stops, sleeps, Went, went, quits, went_on, on_went_task, on_went, valued}
+use Rattle.verse_meaning.specs.Residuals.{Env, Residual, Scope, Scopes}
+use Rattle.verse_meaning.specs.Outcomes.{World as Scene, world, Outcome, value, failed, returned, broke, halted, rests, TaskOutcome, ends, lost, stops, sleeps, Went, went, quits, went_on, on_went_task, on_went}
 use Rattle.verse_meaning.specs.Resuming.{resume, resume_scope}
 use Rattle.verse_meaning.specs.Runs.{deeper}
 use Rattle.lower_simulation.proofs.Paths.{Each, each_map, each_ordered, ordered, ordered_both, insert_last}
-use Rattle.lower_simulation.proofs.Claims.{Locals, Exit, Held, Target, Binds, laid, Agrees, Setting, Goal, Ends, Ctx, Around, world_of, around, at, in_frame, frame_of, Beside, Strict, Fine, Good, Keeps, Gone, Clears, in_clearing, Stopped, kids_of, own_of, all_of_scope, Tasks, ResidualStands, ScopeStands, RestAt, Stretch, Grown, same_around, left_around, forked_around, Planted, not_planted, one_planted, GoesWith, GoesScope, GoesTask, ParkedR, ParkedS, Goes, slots}
+use Rattle.lower_simulation.proofs.Claims.{Locals, Exit, Held, Target, Agrees, Setting, Goal, Ends, Ctx, Around, world_of, around, in_frame, frame_of, Beside, Strict, Fine, Good, Gone, Clears, in_clearing, Stopped, all_of_scope, Tasks, ResidualStands, ScopeStands, RestAt, Stretch, Grown, same_around, left_around, forked_around, Planted, not_planted, one_planted, GoesWith, GoesScope, GoesTask, ParkedR, ParkedS, Goes, slots}
 
 pub trans : {a b c : ℕ} → a ≤ b → b ≤ c → a ≤ c
 trans x y = omega arith

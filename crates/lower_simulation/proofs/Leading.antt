@@ -14,7 +14,7 @@ use Rattle.verse_meaning.specs.Resuming.{resume}
 use Rattle.verse_meaning.specs.Runs.{deeper}
 use Rattle.verse_code_machine.specs.Tasks.{Machine, Step, Next, Over}
 use Rattle.verse_code_machine.specs.Frames.{on_there, only_where, fits, failing, free, answered, faulting}
-use Rattle.lower_simulation.proofs.Claims.{Setting, Goal, Ends, Ctx, Around, at, Fine, Good, Target, on, Binds, Tasks, same_around, GoesHalt, Goes, laid, Locals, kids_of, own_of}
+use Rattle.lower_simulation.proofs.Claims.{Setting, Goal, Ends, Ctx, Around, at, Good, Target, on, Binds, Tasks, same_around, GoesHalt, Goes, laid, kids_of, own_of}
 use Rattle.lower_simulation.proofs.Steps.{act_at, does, over}
 use Rattle.lower_simulation.proofs.Going.{trans, le_self, kept}
 use Rattle.lower_simulation.proofs.Following.{value_step, value_parked}

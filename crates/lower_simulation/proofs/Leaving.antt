@@ -1,5 +1,5 @@
 -- Where a `return` and a `break` stand in the code, and where they are stuck.
-use Rattle.std.proofs.Common.{◌≡◌, ℕ, zero, suc, ◌-◌, ◌≤◌, List, [], ◌∷◌, length, Some, Bool, true, false, refl, sym, ap, ◌∙◌, subst, arith}
+use Rattle.std.proofs.Common.{◌≡◌, ℕ, suc, ◌-◌, ◌≤◌, List, length, Some, Bool, true, false, sym, ap, ◌∙◌, subst, arith}
 use Rattle.std.specs.Prelude.{not}
 use Rattle.verse_code.specs.declared.operations.Op.TheVariants as op
 use Rattle.verse_value.specs.Val.{Val}
@@ -8,7 +8,7 @@ use Rattle.verse_meaning_state.specs.State.{State}
 use Rattle.verse_meaning_state.specs.Waits.{ltn}
 use Rattle.verse_code_machine.specs.Frames.{fits, only_where, kept_defers}
 use Rattle.verse_code_machine.specs.Acts.{leaves}
-use Rattle.lower_code.specs.Pieces.{Spot, Maker, one, when_else, leave_loop}
+use Rattle.lower_code.specs.Pieces.{Spot, one, when_else, leave_loop}
 use Rattle.lower_code.specs.Scopes.{Scope as Names}
 use Rattle.lower_code.specs.declared.arounds.Around.{Around as Where}
 use Rattle.lower_code.specs.Arounds.{returning, breaking}

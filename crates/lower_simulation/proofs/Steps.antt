@@ -1,5 +1,5 @@
 -- One step of a run.
-use Rattle.std.proofs.Common.{◌≡◌, ℕ, suc, ◌≤◌, List, Some, sym, subst, arith}
+use Rattle.std.proofs.Common.{◌≡◌, suc, Some, sym, subst}
 use Rattle.std.specs.Prelude.{slice_get}
 use Rattle.verse_code.specs.declared.operations.Op.{Op}
 use Rattle.verse_code_machine.specs.Tasks.{Machine, Step, Next}

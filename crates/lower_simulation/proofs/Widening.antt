@@ -13,7 +13,7 @@ use Rattle.verse_code_machine.specs.Frames.{fits}
 use Rattle.lower_code.specs.Scopes.{Scope as Names}
 use Rattle.lower_simulation.proofs.Claims.{Setting, Goal, Ends, Ctx, Around, at, Good, Target, on, pushed, Shown, plainly, named_by, stored_in, keeping, of_env, paired, paired_env, Shows, Tasks, Locals, Holds, Low, Fits}
 use Rattle.lower_simulation.proofs.Leading.{LeadsTo}
-use Rattle.lower_simulation.proofs.Claims.{ParkedS, ParkedR, Goes, Binds, laid, Grown, Exit, around}
+use Rattle.lower_simulation.proofs.Claims.{ParkedS, ParkedR, Goes, Binds, laid, Grown, around}
 use Rattle.verse_code_machine.specs.Tasks.{Task}
 use Rattle.verse_meaning.specs.Outcomes.{world}
 use Rattle.lower_simulation.proofs.Going.{stopped_weaken}
