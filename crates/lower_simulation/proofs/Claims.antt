@@ -15,11 +15,14 @@ use Rattle.verse_meaning_state.specs.Waits.{Wait, has, nth}
 use Rattle.verse_meaning_state.specs.Turns.{Stage, going, closed, broken, amiss, turns}
 use Rattle.verse_meaning.specs.Programs.{Program}
 use Rattle.verse_meaning.specs.Residuals.{Env, Binding, constant, variable, Residual, Scope, Scopes, leaves, scope_leaves, and_then}
-use Rattle.verse_meaning.specs.Outcomes.{World, world, Went, went, quits, went_on, Halt, fault, out, jammed, wrong, Outcome, value, failed, returned, broke, halted, rests, TaskOutcome, ends, lost, stops, sleeps}
+use Rattle.verse_meaning.specs.Outcomes.{World, world, Went, went, quits, went_on, Halt, fault, out, jammed, wrong, Outcome, value, failed}
+use Rattle.verse_meaning.specs.Outcomes.{returned, broke, halted, rests, TaskOutcome, ends, lost, stops, sleeps}
 use Rattle.verse_meaning.specs.Evaluating.{cancel_kids, cancel_own, cancel_scope_kids, cancel_scope_own}
 use Rattle.verse_meaning.specs.Resuming.{resume, resume_scope}
 use Rattle.verse_meaning.specs.Runs.{deeper}
-use Rattle.verse_code_machine.specs.Tasks.{Life, life_from, Note, Handler, Frame, Who, Role, Task, After, clearing, Up, Trees, Machine, Step, Next, Over, Turn, machine, root_named, child_named, onto, planted, among, waits_of, tree_waits, starts, same_path}
+use Rattle.verse_code_machine.specs.Tasks.{Life, life_from, Note, Handler, Frame, Who, Role, Task, After, clearing, Up, Trees, Machine}
+use Rattle.verse_code_machine.specs.Tasks.{Step, Next, Over, Turn, machine, root_named, child_named, onto, planted, among, waits_of}
+use Rattle.verse_code_machine.specs.Tasks.{tree_waits, starts, same_path}
 use Rattle.verse_code_machine.specs.Tasks as mt
 use Rattle.verse_code_machine.specs.Frames.{fits, failing, free}
 use Rattle.verse_code_machine.specs.Cancelling.{clears, clears_frames}
@@ -57,7 +60,8 @@ pub record Goal : Type 0 where
 abbrev pub Agree : Setting → Goal → Step → Type 0
 Agree z g (Next m) = ⊥
 Agree z g (Over e s) = broke_off e s ≡ g.seen
-Agree z g (Turn s tss) = ((i : ℕ) → IsWhole (turns (turn_taken z.code z.steps z.until) i (going s tss))) → seen_of tree_waits (turns (turn_taken z.code z.steps z.until) g.turns (going s tss)) ≡ g.seen
+Agree z g (Turn s tss) = ((i : ℕ) → IsWhole (turns (turn_taken z.code z.steps z.until) i (going s tss))) →
+    seen_of tree_waits (turns (turn_taken z.code z.steps z.until) g.turns (going s tss)) ≡ g.seen
 
 -- the machine comes from the step q to what is seen
 pub record Ends (z : Setting) (q : Step) (g : Goal) : Type 0 where
@@ -162,7 +166,19 @@ at c o s ls st pc = Next (machine c.who o.world s c.life ls st pc c.handlers c.b
 
 -- the first frame of a task, or one above others
 abbrev pub in_frame : Env → Held → Who → ℕ → List Frame → Ctx
-in_frame e ss w g bl = record { env = e; held = ss.held; also = ss.also; size = ss.size; who = w; life = life_from g; handlers = []; below = bl; base = []; exit = no_loop 0; leave = with_return }
+in_frame e ss w g bl = record {
+  env = e;
+  held = ss.held;
+  also = ss.also;
+  size = ss.size;
+  who = w;
+  life = life_from g;
+  handlers = [];
+  below = bl;
+  base = [];
+  exit = no_loop 0;
+  leave = with_return;
+}
 
 abbrev pub frame_of : Ctx → List Val → List Val → ℕ → Frame
 frame_of c ls st p = record { life = c.life; locals = ls; stack = st; place = p; handlers = c.handlers }
@@ -317,7 +333,8 @@ left_at (no_return kept) = kept
 
 -- where a `return` has its value: before the Leave, or behind it where no block is to be left
 pub data Returns (z : Setting) (hs : List Handler) (g : Life) (x : Leave) (a : ℕ) : Type 0 where
-  return_leaves : fits hs a ≡ true → fits hs (suc a) ≡ true → Here z.code a (op.Leave (left_at x)) → Finishes z x (suc a) → Returns z hs g x a
+  return_leaves : fits hs a ≡ true → fits hs (suc a) ≡ true → Here z.code a (op.Leave (left_at x)) → Finishes z x (suc a) →
+      Returns z hs g x a
   return_now : length g.defers ≤ left_at x → Finishes z x a → Returns z hs g x a
 
 -- behind the Leave of a `break`: with d operands above the loop's, to the d-th last Drop; without a loop the code is stuck
@@ -332,7 +349,8 @@ kept_at (loop_at label drops kept) = kept
 
 -- where a `break` stands: before the Leave, or behind it where no block is to be left
 pub data Breaks (z : Setting) (hs : List Handler) (g : Life) (x : Exit) (base : List Val) (a : ℕ) (stk : List Val) : Type 0 where
-  break_leaves : fits hs a ≡ true → fits hs (suc a) ≡ true → Here z.code a (op.Leave (kept_at x)) → Onwards z x base (suc a) stk → Breaks z hs g x base a stk
+  break_leaves : fits hs a ≡ true → fits hs (suc a) ≡ true → Here z.code a (op.Leave (kept_at x)) → Onwards z x base (suc a) stk →
+      Breaks z hs g x base a stk
   break_now : length g.defers ≤ kept_at x → Onwards z x base a stk → Breaks z hs g x base a stk
 
 -- ---- what cancelling comes to
@@ -353,16 +371,21 @@ Others P o = Each P o.pre × Each P o.post
 
 -- these tasks, where they are cancelled, do q; the fuel is no less than the steps
 abbrev pub Clears : Setting → ℕ → (Task → Type 0) → List Task → (ℕ → World → Went) → Type 0
-Clears z m P xs q = (after : After) (todo : List Task) (o : mt.World) (w : World) (M : ℕ) (g : Goal) → w.state.clock.left ≤ m → w.state.clock.left ≤ M → Others P o →
-    Gone (q M w) w (λ u. Ends z (clears (follows after) after todo o u.state) g) g → Ends z (clears (follows after) after (xs ++ todo) o w.state) g
+Clears z m P xs q = (after : After) (todo : List Task) (o : mt.World) (w : World) (M : ℕ) (g : Goal) → w.state.clock.left ≤ m →
+    w.state.clock.left ≤ M → Others P o →
+    Gone (q M w) w (λ u. Ends z (clears (follows after) after todo o u.state) g) g →
+    Ends z (clears (follows after) after (xs ++ todo) o w.state) g
 
 abbrev pub in_clearing : mt.World → After → List Task → mt.World
 in_clearing o after todo = mt.world o.pre o.post (clearing after todo ∷ o.ups) o.trees
 
 -- the frames of a task, where it is cancelled, do q, down to the frame of the context
 abbrev pub Owns : Setting → ℕ → Ctx → List Frame → (ℕ → World → Went) → Type 0
-Owns z m c fs q = (after : After) (todo : List Task) (o : mt.World) (w : World) (M : ℕ) (g : Goal) → w.state.clock.left ≤ m → w.state.clock.left ≤ M → Others (Beside c.who.path) o →
-    Gone (q M w) w (λ u. (ls stk : List Val) (pl : ℕ) → Agrees (slots c) ls → Ends z (clears_frames (λ s. clears (follows after) after todo o s) c.who (in_clearing o after todo) u.state (frame_of c ls stk pl ∷ c.below)) g) g →
+Owns z m c fs q = (after : After) (todo : List Task) (o : mt.World) (w : World) (M : ℕ) (g : Goal) → w.state.clock.left ≤ m →
+    w.state.clock.left ≤ M → Others (Beside c.who.path) o →
+    Gone (q M w) w (λ u. (ls stk : List Val) (pl : ℕ) → Agrees (slots c) ls →
+    Ends z (clears_frames (λ s. clears (follows after) after todo o s) c.who (in_clearing o after todo) u.state
+    (frame_of c ls stk pl ∷ c.below)) g) g →
     Ends z (clears_frames (λ s. clears (follows after) after todo o s) c.who (in_clearing o after todo) w.state fs) g
 
 -- the tasks of a suspended task, where it is cancelled
@@ -382,7 +405,8 @@ abbrev pub own_of : Setting → Residual → ℕ → World → Went
 own_of z r M w = cancel_own z.program (deeper z.program M) r w
 
 abbrev pub all_of_scope : Setting → Scope → ℕ → World → Went
-all_of_scope z s M w = went_on (cancel_scope_kids z.program (deeper z.program M) s w) (λ u. cancel_scope_own z.program (deeper z.program M) s u)
+all_of_scope z s M w = went_on (cancel_scope_kids z.program (deeper z.program M) s w)
+    (λ u. cancel_scope_own z.program (deeper z.program M) s u)
 
 abbrev pub Tasks : Type 0
 Tasks = List (Option Scope)
@@ -405,35 +429,52 @@ pub record Stretch (P : ScopeStands) (z : Setting) (m own : ℕ) (s : Scope) (w 
   pub clears : Clears z m (Beside w.path) (ordered [] ts) (all_of_scope z s)
 
 -- what is around has grown, from o, b and f to o', b' and f', by what was left behind and what was spawned
-pub data Grown (P : ScopeStands) (z : Setting) (c : Ctx) (n' : ℕ) (o' : Around) (b' : Scopes) (f' : Tasks) : ℕ → Around → Scopes → Tasks → Type 0 where
+pub data Grown (P : ScopeStands) (z : Setting) (c : Ctx) (n' : ℕ) (o' : Around) (b' : Scopes) (f' : Tasks) : ℕ → Around → Scopes → Tasks →
+    Type 0 where
   same_around : {n : ℕ} → n' ≤ n → Grown P z c n' o' b' f' n o' b' f'
-  left_around : {n m : ℕ} {o : Around} {b : Scopes} {f : Tasks} (k : ℕ) (s : Scope) (ts : List Task) → free c.handlers c.life.noted c.below ≡ true → m ≤ n → k < o.own → k < c.life.born →
-      Stretch P z m k s (child_named c.who k) ts → Grown P z c n' o' b' f' m (lefts o k ts) (and_then b s) f → Grown P z c n' o' b' f' n o b f
-  forked_around : {n m : ℕ} {o : Around} {b : Scopes} {f : Tasks} (k : ℕ) (e : Option ℕ) (s : Scope) (ts : List Task) → free c.handlers c.life.noted c.below ≡ true → m ≤ n →
+  left_around : {n m : ℕ} {o : Around} {b : Scopes} {f : Tasks} (k : ℕ) (s : Scope) (ts : List Task) →
+      free c.handlers c.life.noted c.below ≡ true → m ≤ n → k < o.own → k < c.life.born →
+      Stretch P z m k s (child_named c.who k) ts → Grown P z c n' o' b' f' m (lefts o k ts) (and_then b s) f →
+      Grown P z c n' o' b' f' n o b f
+  forked_around : {n m : ℕ} {o : Around} {b : Scopes} {f : Tasks} (k : ℕ) (e : Option ℕ) (s : Scope) (ts : List Task) →
+      free c.handlers c.life.noted c.below ≡ true → m ≤ n →
       Stretch P z m k s (root_named k e) ts → Grown P z c n' o' b' f' m (forks o ts) b (f ++ Some s ∷ []) → Grown P z c n' o' b' f' n o b f
 
 -- only tasks of their own were begun; F where that may be
 pub data Planted (F : Type 0) (P : ScopeStands) (z : Setting) (n' : ℕ) (rs' : Trees) (f' : Tasks) : ℕ → Trees → Tasks → Type 0 where
   not_planted : {n : ℕ} → n' ≤ n → Planted F P z n' rs' f' n rs' f'
-  one_planted : {n m : ℕ} {rs : Trees} {f : Tasks} (k : ℕ) (e : Option ℕ) (s : Scope) (ts : List Task) → F → m ≤ n → Stretch P z m k s (root_named k e) ts →
+  one_planted : {n m : ℕ} {rs : Trees} {f : Tasks} (k : ℕ) (e : Option ℕ) (s : Scope) (ts : List Task) → F → m ≤ n →
+      Stretch P z m k s (root_named k e) ts →
       Planted F P z n' rs' f' m (planted rs ts) (f ++ Some s ∷ []) → Planted F P z n' rs' f' n rs f
 
 abbrev pub GoesWith : ResidualStands → ScopeStands → Setting → ℕ → Ctx → Around → Scopes → Tasks → Target → Goal → Outcome → Type 0
-GoesWith R P z n c o b f kt g (value e v w) = (m : ℕ) (o' : Around) → Grown P z c m o' w.behind w.tasks n o b f → (ls : List Val) → Good m c.who.path o' c.held c.also c.size w.state ls → Binds kt.shown c.held e v ls → Ends z (at c o' w.state ls (laid kt.lies v kt.stack) kt.place) g
-GoesWith R P z n c o b f kt g (failed s) = (m : ℕ) (o' : Around) (b' : Scopes) (f' : Tasks) → Grown P z c m o' b' f' n o b f → (ls : List Val) → Good m c.who.path o' c.held c.also c.size s ls → Ends z (failing c.who o'.world s ls c.handlers c.below) g
-GoesWith R P z n c o b f kt g (returned v w) = (m : ℕ) (o' : Around) → Grown P z c m o' w.behind w.tasks n o b f → (a : ℕ) (ls stk : List Val) → Returns z c.handlers c.life c.leave a →
+GoesWith R P z n c o b f kt g (value e v w) = (m : ℕ) (o' : Around) → Grown P z c m o' w.behind w.tasks n o b f → (ls : List Val) →
+    Good m c.who.path o' c.held c.also c.size w.state ls → Binds kt.shown c.held e v ls →
+    Ends z (at c o' w.state ls (laid kt.lies v kt.stack) kt.place) g
+GoesWith R P z n c o b f kt g (failed s) = (m : ℕ) (o' : Around) (b' : Scopes) (f' : Tasks) → Grown P z c m o' b' f' n o b f →
+    (ls : List Val) → Good m c.who.path o' c.held c.also c.size s ls → Ends z (failing c.who o'.world s ls c.handlers c.below) g
+GoesWith R P z n c o b f kt g (returned v w) = (m : ℕ) (o' : Around) → Grown P z c m o' w.behind w.tasks n o b f →
+    (a : ℕ) (ls stk : List Val) → Returns z c.handlers c.life c.leave a →
     Good m c.who.path o' c.held c.also c.size w.state ls → Ends z (at c o' w.state ls (v ∷ stk) a) g
-GoesWith R P z n c o b f kt g (broke w) = (m : ℕ) (o' : Around) → Grown P z c m o' w.behind w.tasks n o b f → (a : ℕ) (ls stk : List Val) → Breaks z c.handlers c.life c.exit c.base a stk → Good m c.who.path o' c.held c.also c.size w.state ls → Ends z (at c o' w.state ls stk a) g
+GoesWith R P z n c o b f kt g (broke w) = (m : ℕ) (o' : Around) → Grown P z c m o' w.behind w.tasks n o b f →
+    (a : ℕ) (ls stk : List Val) → Breaks z c.handlers c.life c.exit c.base a stk → Good m c.who.path o' c.held c.also c.size w.state ls →
+    Ends z (at c o' w.state ls stk a) g
 GoesWith R P z n c o b f kt g (halted h) = GoesHalt g h
-GoesWith R P z n c o b f kt g (rests r w) = (m : ℕ) (o' : Around) → Grown P z c m o' w.behind w.tasks n o b f → free c.handlers c.life.noted c.below ≡ true → Fine m c.who.path o' w.state → (ts : List Task) →
-    RestAt R z w.state.clock.left o'.own r c kt ts → Ends z (rested (onto ts o'.world.pre) o'.world.post o'.world.ups o'.world.trees w.state) g
+GoesWith R P z n c o b f kt g (rests r w) = (m : ℕ) (o' : Around) → Grown P z c m o' w.behind w.tasks n o b f →
+    free c.handlers c.life.noted c.below ≡ true → Fine m c.who.path o' w.state → (ts : List Task) →
+    RestAt R z w.state.clock.left o'.own r c kt ts → Ends z
+    (rested (onto ts o'.world.pre) o'.world.post o'.world.ups o'.world.trees w.state) g
 
 -- A scope leaves nothing in the background round it, b. `leave` is what the machine does at its value, `Kept` what is known of it asleep.
-abbrev pub GoesScope : Type 0 → ScopeStands → (Val → mt.World → State → Step) → (ℕ → ℕ → Scope → List Task → Type 0) → (State → Type 0) → Setting → ℕ → List ℕ → Around → Scopes → Tasks → Goal → TaskOutcome → Type 0
-GoesScope F P leave Kept Lost z n a o b f g (ends v x) = x.behind ≡ b → (m : ℕ) (rs : Trees) → Planted F P z m rs x.tasks n o.world.trees f → Fine m a (rooted_at o rs) x.state → Ends z (leave v (rooted_at o rs).world x.state) g
+abbrev pub GoesScope : Type 0 → ScopeStands → (Val → mt.World → State → Step) → (ℕ → ℕ → Scope → List Task → Type 0) → (State → Type 0) →
+    Setting → ℕ → List ℕ → Around → Scopes → Tasks → Goal → TaskOutcome → Type 0
+GoesScope F P leave Kept Lost z n a o b f g (ends v x) = x.behind ≡ b → (m : ℕ) (rs : Trees) →
+    Planted F P z m rs x.tasks n o.world.trees f → Fine m a (rooted_at o rs) x.state → Ends z (leave v (rooted_at o rs).world x.state) g
 GoesScope F P leave Kept Lost z n a o b f g (lost s) = Lost s
 GoesScope F P leave Kept Lost z n a o b f g (stops h) = GoesHalt g h
-GoesScope F P leave Kept Lost z n a o b f g (sleeps s x) = x.behind ≡ b → F → (m : ℕ) (rs : Trees) → Planted F P z m rs x.tasks n o.world.trees f → Fine m a (rooted_at o rs) x.state → (ts : List Task) → Kept x.state.clock.left o.own s ts →
+GoesScope F P leave Kept Lost z n a o b f g (sleeps s x) = x.behind ≡ b → F → (m : ℕ) (rs : Trees) →
+    Planted F P z m rs x.tasks n o.world.trees f → Fine m a (rooted_at o rs) x.state → (ts : List Task) →
+    Kept x.state.clock.left o.own s ts →
     Ends z (rested (onto ts o.world.pre) o.world.post o.world.ups rs x.state) g
 
 -- of a task of its own: an arm, a task behind, a spawned task, Main
@@ -441,7 +482,8 @@ abbrev pub role_over : Who → Val → mt.World → State → Step
 role_over w v o s = follows (mt.After.closing w v) o s
 
 abbrev pub GoesTask : ScopeStands → Setting → ℕ → Who → Around → Scopes → Tasks → Goal → TaskOutcome → Type 0
-GoesTask P z n w o b f g x = GoesScope (Unit {0}) P (role_over w) (λ m own s ts. Stretch P z m own s w ts) (λ s. broke_off ending.Stuck s ≡ g.seen) z n w.path o b f g x
+GoesTask P z n w o b f g x = GoesScope (Unit {0}) P (role_over w) (λ m own s ts. Stretch P z m own s w ts)
+    (λ s. broke_off ending.Stuck s ≡ g.seen) z n w.path o b f g x
 
 module _ (z : Setting) where
   -- j bounds the times that it is woken
@@ -449,14 +491,20 @@ module _ (z : Setting) where
     pub ParkedR : ℕ → ResidualStands
     ParkedR zero m q r c kt ts = Unit {0}
     ParkedR (suc j) m q r c kt ts =
-        (n : ℕ) (v : Val) (s : State) → has n (leaves r) ≡ true → s.clock.left ≤ m → (pre post : List Task) (rs : Trees) (b : Scopes) (f : Tasks) → Apart c.who.path (around pre post rs q) → (M : ℕ) → s.clock.left ≤ M →
-        (g : Goal) → GoesWith (ParkedR j) (ParkedS j) z s.clock.left c (around pre post rs q) b f kt g (resume z.program (deeper z.program M) r n v (world s b f)) → Ends z (woken n v pre (ts ++ post) rs s) g
+        (n : ℕ) (v : Val) (s : State) → has n (leaves r) ≡ true → s.clock.left ≤ m →
+        (pre post : List Task) (rs : Trees) (b : Scopes) (f : Tasks) → Apart c.who.path (around pre post rs q) → (M : ℕ) →
+        s.clock.left ≤ M →
+        (g : Goal) → GoesWith (ParkedR j) (ParkedS j) z s.clock.left c (around pre post rs q) b f kt g
+        (resume z.program (deeper z.program M) r n v (world s b f)) → Ends z (woken n v pre (ts ++ post) rs s) g
 
     pub ParkedS : ℕ → ScopeStands
     ParkedS zero m q x w ts = Unit {0}
     ParkedS (suc j) m q x w ts =
-        (n : ℕ) (v : Val) (s : State) → has n (scope_leaves x) ≡ true → s.clock.left ≤ m → (pre post : List Task) (rs : Trees) (b : Scopes) (f : Tasks) → Apart w.path (around pre post rs q) → (M : ℕ) → s.clock.left ≤ M →
-        (g : Goal) → GoesTask (ParkedS j) z s.clock.left w (around pre post rs q) b f g (resume_scope z.program (deeper z.program M) x n v (world s b f)) → Ends z (woken n v pre (ts ++ post) rs s) g
+        (n : ℕ) (v : Val) (s : State) → has n (scope_leaves x) ≡ true → s.clock.left ≤ m →
+        (pre post : List Task) (rs : Trees) (b : Scopes) (f : Tasks) → Apart w.path (around pre post rs q) → (M : ℕ) →
+        s.clock.left ≤ M →
+        (g : Goal) → GoesTask (ParkedS j) z s.clock.left w (around pre post rs q) b f g
+        (resume_scope z.program (deeper z.program M) x n v (world s b f)) → Ends z (woken n v pre (ts ++ post) rs s) g
 
   abbrev pub Goes : ℕ → ℕ → Ctx → Around → Scopes → Tasks → Target → Goal → Outcome → Type 0
   Goes j n c o b f kt g x = GoesWith (ParkedR j) (ParkedS j) z n c o b f kt g x

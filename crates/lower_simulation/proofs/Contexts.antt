@@ -40,10 +40,12 @@ running c x st = record c {
 }
 
 -- the innermost handler keeps no more deferred blocks than there are
-pub handled : {top : ℕ} {c : Ctx} {ss : Names} {out : Way} {a : Where} → Static top c ss out a → kept_defers c.handlers ≤ length c.life.defers
+pub handled : {top : ℕ} {c : Ctx} {ss : Names} {out : Way} {a : Where} → Static top c ss out a →
+    kept_defers c.handlers ≤ length c.life.defers
 handled h = trans h.breaks.handled h.breaks.there
 
-pub trying_static : {top : ℕ} {c : Ctx} {ss : Names} {out : Way} {a : Where} (s : State) (p l : ℕ) (st : List Val) → Static top c ss out a → Static top (trying c s p l st) ss out (enclosed a)
+pub trying_static : {top : ℕ} {c : Ctx} {ss : Names} {out : Way} {a : Where} (s : State) (p l : ℕ) (st : List Val) →
+    Static top c ss out a → Static top (trying c s p l st) ss out (enclosed a)
 trying_static s p l st h = record {
   fits = h.fits;
   low = h.low;
@@ -57,7 +59,8 @@ trying_static s p l st h = record {
   born = h.born;
 }
 
-pub looping_static : {top : ℕ} {c : Ctx} {ss : Names} {out : Way} {a : Where} (st : List Val) (way : Way) → Static top c ss out a → Static top (looping c st way.label way.most) ss way (looped a)
+pub looping_static : {top : ℕ} {c : Ctx} {ss : Names} {out : Way} {a : Where} (st : List Val) (way : Way) → Static top c ss out a →
+    Static top (looping c st way.label way.most) ss way (looped a)
 looping_static st way h = record {
   fits = h.fits;
   low = h.low;
@@ -71,7 +74,8 @@ looping_static st way h = record {
   born = h.born;
 }
 
-pub deferring_static : {top : ℕ} {c : Ctx} {ss : Names} {out : Way} {a : Where} (q : ℕ) → Static top c ss out a → Static top (deferring c q) ss out (arounds.deferring a)
+pub deferring_static : {top : ℕ} {c : Ctx} {ss : Names} {out : Way} {a : Where} (q : ℕ) → Static top c ss out a →
+    Static top (deferring c q) ss out (arounds.deferring a)
 deferring_static q h =
     let x = h.breaks.there in
     let y = h.returns.there in
@@ -89,7 +93,8 @@ deferring_static q h =
       born = h.born;
     }
 
-pub running_static : {top : ℕ} {c : Ctx} {ss : Names} {out : Way} {a : Where} (x : Note) (st : List Val) → Static top c ss out a → Static top (running c x st) ss out (enclosed a)
+pub running_static : {top : ℕ} {c : Ctx} {ss : Names} {out : Way} {a : Where} (x : Note) (st : List Val) → Static top c ss out a →
+    Static top (running c x st) ss out (enclosed a)
 running_static x st h =
     let n = h.noted in
     record {
@@ -106,7 +111,8 @@ running_static x st h =
     }
 
 -- in a frame of its own: a function, an arm, a task behind
-pub frame_static : {ss : Names} (out : Way) (e : Env) (held : Held) (w : Who) (g : ℕ) (bl : List Frame) → Fits ss e held.held → Low (length ss) held.held → Low (length ss) held.also → Static g (in_frame e held w g bl) ss out fresh
+pub frame_static : {ss : Names} (out : Way) (e : Env) (held : Held) (w : Who) (g : ℕ) (bl : List Frame) → Fits ss e held.held →
+    Low (length ss) held.held → Low (length ss) held.also → Static g (in_frame e held w g bl) ss out fresh
 frame_static out e held w g bl fs lo lo2 = record {
   fits = fs;
   low = lo;

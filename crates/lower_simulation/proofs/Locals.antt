@@ -1,5 +1,6 @@
 -- What the locals hold, and where names stand in them.
-use Rattle.std.proofs.Common.{◌≡◌, ℕ, zero, suc, ◌≤◌, ◌<◌, List, [], ◌∷◌, length, Option, Some, None, Bool, true, false, cond, refl, sym, ap, ◌∙◌, subst, arith}
+use Rattle.std.proofs.Common.{◌≡◌, ℕ, zero, suc, ◌≤◌, ◌<◌, List, [], ◌∷◌, length, Option, Some, None, Bool, true, false, cond, refl, sym}
+use Rattle.std.proofs.Common.{ap, ◌∙◌, subst, arith}
 use Rattle.verse_tree.specs.Tree.{Bytes}
 use Rattle.verse_value.specs.Val.{Val, object}
 use Rattle.verse_meaning_state.specs.Waits.{nth}
@@ -19,11 +20,13 @@ pub record PutIs (ls : List Val) (l : ℕ) (v : Val) : Type 0 where
   pub above : (k : ℕ) → l < k → nth locals k ≡ nth ls k
   pub sized : length locals ≡ length ls
 
-below_more : (x : Val) (xs locals : List Val) (l : ℕ) → ((k : ℕ) → k < l → nth locals k ≡ nth xs k) → (k : ℕ) → k < suc l → nth (x ∷ locals) k ≡ nth (x ∷ xs) k
+below_more : (x : Val) (xs locals : List Val) (l : ℕ) → ((k : ℕ) → k < l → nth locals k ≡ nth xs k) → (k : ℕ) → k < suc l →
+    nth (x ∷ locals) k ≡ nth (x ∷ xs) k
 below_more x xs locals l f zero h = refl
 below_more x xs locals l f (suc k) h = f k (omega (arith, h))
 
-above_more : (x : Val) (xs locals : List Val) (l : ℕ) → ((k : ℕ) → l < k → nth locals k ≡ nth xs k) → (k : ℕ) → suc l < k → nth (x ∷ locals) k ≡ nth (x ∷ xs) k
+above_more : (x : Val) (xs locals : List Val) (l : ℕ) → ((k : ℕ) → l < k → nth locals k ≡ nth xs k) → (k : ℕ) → suc l < k →
+    nth (x ∷ locals) k ≡ nth (x ∷ xs) k
 above_more x xs locals l f zero h = absurd (omega (arith, h))
 above_more x xs locals l f (suc k) h = f k (omega (arith, h))
 
@@ -33,10 +36,24 @@ above_here x v xs (suc k) h = refl
 
 pub puts : (ls : List Val) (l : ℕ) (v : Val) → l < length ls → PutIs ls l v
 puts [] l v lt = absurd (omega (arith, lt))
-puts (x ∷ xs) zero v lt = record { locals = v ∷ xs; is = refl; here = refl; below = λ k h. absurd (omega (arith, h)); above = above_here x v xs; sized = refl }
+puts (x ∷ xs) zero v lt = record {
+  locals = v ∷ xs;
+  is = refl;
+  here = refl;
+  below = λ k h. absurd (omega (arith, h));
+  above = above_here x v xs;
+  sized = refl;
+}
 puts (x ∷ xs) (suc l) v lt =
     let r = puts xs l v (omega (arith, lt)) in
-    record { locals = x ∷ r.locals; is = ap (behind x) r.is; here = r.here; below = below_more x xs r.locals l r.below; above = above_more x xs r.locals l r.above; sized = ap suc r.sized }
+    record {
+      locals = x ∷ r.locals;
+      is = ap (behind x) r.is;
+      here = r.here;
+      below = below_more x xs r.locals l r.below;
+      above = above_more x xs r.locals l r.above;
+      sized = ap suc r.sized;
+    }
 
 pub holds_put : (ks : Locals) (ls : List Val) (n l : ℕ) (v : Val) (r : PutIs ls l v) → Low n ks → n ≤ l → Holds ks ls → Holds ks r.locals
 holds_put [] ls n l v r lo le h = tt
@@ -55,9 +72,15 @@ fits_more x ks [] [] h = tt
 fits_more x ks [] (b ∷ e) h = h
 fits_more x ks (hidden ∷ ss) e h = fits_more x ks ss e h
 fits_more x ks (constant_at y ∷ ss) [] h = h
-fits_more x ks (constant_at y ∷ ss) (b ∷ e) h = (record { holds = h.0.holds; is = h.0.is; held = later_in h.0.held }, fits_more x ks ss e h.1)
+fits_more x ks (constant_at y ∷ ss) (b ∷ e) h = (
+  record { holds = h.0.holds; is = h.0.is; held = later_in h.0.held },
+  fits_more x ks ss e h.1,
+)
 fits_more x ks (variable_at y ∷ ss) [] h = h
-fits_more x ks (variable_at y ∷ ss) (b ∷ e) h = (record { cell = h.0.cell; is = h.0.is; held = later_in h.0.held }, fits_more x ks ss e h.1)
+fits_more x ks (variable_at y ∷ ss) (b ∷ e) h = (
+  record { cell = h.0.cell; is = h.0.is; held = later_in h.0.held },
+  fits_more x ks ss e h.1,
+)
 
 -- where a name is found
 abbrev pub Looked : Found → Option Bound → Locals → Type 0
@@ -65,11 +88,13 @@ Looked absent b ks = b ≡ None
 Looked (fixed l) b ks = (v : Val) × (b ≡ Some (constant v)) × In l v ks
 Looked (varies l) b ks = (c : ℕ) × (b ≡ Some (variable c)) × In l (object c) ks
 
-constant_looked : (ks : Locals) (t : Bool) (v : Val) (l : ℕ) (f : Found) (g : Option Bound) → In l v ks → Looked f g ks → Looked (cond t (fixed l) f) (cond t (Some (constant v)) g) ks
+constant_looked : (ks : Locals) (t : Bool) (v : Val) (l : ℕ) (f : Found) (g : Option Bound) → In l v ks → Looked f g ks →
+    Looked (cond t (fixed l) f) (cond t (Some (constant v)) g) ks
 constant_looked ks true v l f g h k = (v, refl, h)
 constant_looked ks false v l f g h k = k
 
-variable_looked : (ks : Locals) (t : Bool) (c : ℕ) (l : ℕ) (f : Found) (g : Option Bound) → In l (object c) ks → Looked f g ks → Looked (cond t (varies l) f) (cond t (Some (variable c)) g) ks
+variable_looked : (ks : Locals) (t : Bool) (c : ℕ) (l : ℕ) (f : Found) (g : Option Bound) → In l (object c) ks → Looked f g ks →
+    Looked (cond t (varies l) f) (cond t (Some (variable c)) g) ks
 variable_looked ks true c l f g h k = (c, refl, h)
 variable_looked ks false c l f g h k = k
 

@@ -110,7 +110,8 @@ starts_self [] = refl
 starts_self (i ∷ a) = subst (λ b. cond b (starts a a) false ≡ true) (sym (eqn_self i)) (starts_self a)
 
 -- not beneath any child below n
-begun_before : (b : Bool) (n : ℕ) (a x : List ℕ) → ((k : ℕ) → k < n → cond b (starts (a ++ k ∷ []) x) false ≡ false) → (((k : ℕ) → k < n → starts (a ++ k ∷ []) x ≡ false) → since a n x ≡ false) → cond b (since a n x) false ≡ false
+begun_before : (b : Bool) (n : ℕ) (a x : List ℕ) → ((k : ℕ) → k < n → cond b (starts (a ++ k ∷ []) x) false ≡ false) →
+    (((k : ℕ) → k < n → starts (a ++ k ∷ []) x ≡ false) → since a n x ≡ false) → cond b (since a n x) false ≡ false
 begun_before true n a x h f = f h
 begun_before false n a x h f = refl
 
@@ -186,11 +187,13 @@ without_none f (t ∷ ts) p =
 without_more : (f : List ℕ → Bool) (x : Task) (ts : List Task) → f x.thread.who.path ≡ true → without f (x ∷ ts) ≡ without f ts
 without_more f x ts p = subst (λ b. cond b (without f ts) (x ∷ without f ts) ≡ without f ts) (sym p) refl
 
-pub without_onto : (f : List ℕ → Bool) (xs ts : List Task) → Each (λ t. f t.thread.who.path ≡ true) xs → without f (onto xs ts) ≡ without f ts
+pub without_onto : (f : List ℕ → Bool) (xs ts : List Task) → Each (λ t. f t.thread.who.path ≡ true) xs →
+    without f (onto xs ts) ≡ without f ts
 without_onto f [] ts p = refl
 without_onto f (x ∷ xs) ts p = without_onto f xs (x ∷ ts) p.1 ∙ without_more f x ts p.0
 
-waits_first : (r : Rest) (xs ys : List Task) → waits_of (xs ++ ys) ≡ waits_of xs ++ waits_of ys → waits_with r (waits_of (xs ++ ys)) ≡ waits_with r (waits_of xs) ++ waits_of ys
+waits_first : (r : Rest) (xs ys : List Task) → waits_of (xs ++ ys) ≡ waits_of xs ++ waits_of ys → waits_with r (waits_of (xs ++ ys)) ≡
+    waits_with r (waits_of xs) ++ waits_of ys
 waits_first (asleep w) xs ys h = ap (λ z. w ∷ z) h
 waits_first (group k p gs) xs ys h = h
 
@@ -209,14 +212,16 @@ starts_through (i ∷ p) [] x h nb = cc
 starts_through (i ∷ p) (j ∷ t) [] h nb = refl
 starts_through (i ∷ p) (j ∷ t) (k ∷ x) h nb = starts_split (eqn i j) (starts p t) h (λ e f.
     let alike : i ≡ j = eqn_same i j e in
-    subst (λ z. cond (eqn z k) (starts t x) false ≡ false) alike (both_false (eqn i k) (starts p x) (starts t x) (λ nb. starts_through p t x f nb) nb))
+    subst (λ z. cond (eqn z k) (starts t x) false ≡ false) alike
+    (both_false (eqn i k) (starts p x) (starts t x) (λ nb. starts_through p t x f nb) nb))
 
 not_eqn : (k j l : ℕ) → cond (eqn k j) true false ≡ false → k ≡ l → eqn j l ≡ false
 not_eqn k j l h e = by (eqn j l) refl
   where
     by : (b : Bool) → eqn j l ≡ b → eqn j l ≡ false
     by false f = f
-    by true f = let s : j ≡ l = eqn_same j l f in let t : k ≡ j = e ∙ sym s in let u : cond (eqn k k) true false ≡ false = subst (λ z. cond (eqn k z) true false ≡ false) (sym t) h in let w = eqn_true k in cc
+    by true f = let s : j ≡ l = eqn_same j l f in let t : k ≡ j = e ∙ sym s in let u : cond (eqn k k) true false ≡
+        false = subst (λ z. cond (eqn k z) true false ≡ false) (sym t) h in let w = eqn_true k in cc
 
 first_false : (b p : Bool) → b ≡ false → cond b p false ≡ false
 first_false b p e = subst (λ z. cond z p false ≡ false) (sym e) refl
@@ -226,27 +231,32 @@ under true p e h = h
 under false p e h = cc
 
 -- strictly beneath a, and not beneath its child k, is no ancestor of what is beneath that child
-pub starts_beside : (a t x : List ℕ) (k : ℕ) → starts a t ≡ true → same_path a t ≡ false → starts (a ++ k ∷ []) t ≡ false → starts (a ++ k ∷ []) x ≡ true → starts t x ≡ false
+pub starts_beside : (a t x : List ℕ) (k : ℕ) → starts a t ≡ true → same_path a t ≡ false → starts (a ++ k ∷ []) t ≡ false →
+    starts (a ++ k ∷ []) x ≡ true → starts t x ≡ false
 starts_beside [] [] x k h s nb yb = cc
 starts_beside [] (j ∷ t) [] k h s nb yb = refl
 starts_beside [] (j ∷ t) (l ∷ x) k h s nb yb = first_false (eqn j l) (starts t x) (not_eqn k j l nb (of_eqn k l yb))
 starts_beside (i ∷ a) [] x k h s nb yb = cc
 starts_beside (i ∷ a) (j ∷ t) [] k h s nb yb = refl
-starts_beside (i ∷ a) (j ∷ t) (l ∷ x) k h s nb yb = starts_split (eqn i j) (starts a t) h (λ e h2. starts_split (eqn i l) (starts (a ++ k ∷ []) x) yb (λ e2 yy.
-    and_false (eqn j l) (starts t x) (starts_beside a t x k h2 (under (eqn i j) (same_path a t) e s) (under (eqn i j) (starts (a ++ k ∷ []) t) e nb) yy)))
+starts_beside (i ∷ a) (j ∷ t) (l ∷ x) k h s nb yb = starts_split (eqn i j) (starts a t) h
+    (λ e h2. starts_split (eqn i l) (starts (a ++ k ∷ []) x) yb (λ e2 yy.
+    and_false (eqn j l) (starts t x) (starts_beside a t x k h2 (under (eqn i j) (same_path a t) e s)
+    (under (eqn i j) (starts (a ++ k ∷ []) t) e nb) yy)))
 
 -- the order of cancelling
 pub ordered_both : (acc xs ys : List Task) → ordered acc (xs ++ ys) ≡ ordered (ordered acc xs) ys
 ordered_both acc [] ys = refl
 ordered_both acc (x ∷ xs) ys = ordered_both (inserted x acc) xs ys
 
-each_cond : (P : Task → Type 0) (b : Bool) (t x : Task) (xs ys : List Task) → P t → P x → Each P xs → Each P ys → Each P (cond b (x ∷ ys) (t ∷ x ∷ xs))
+each_cond : (P : Task → Type 0) (b : Bool) (t x : Task) (xs ys : List Task) → P t → P x → Each P xs → Each P ys →
+    Each P (cond b (x ∷ ys) (t ∷ x ∷ xs))
 each_cond P true t x xs ys p q r s = (q, s)
 each_cond P false t x xs ys p q r s = (p, (q, r))
 
 pub each_insert : (P : Task → Type 0) (t : Task) (xs : List Task) → P t → Each P xs → Each P (inserted t xs)
 each_insert P t [] p q = (p, tt)
-each_insert P t (x ∷ xs) p q = each_cond P (starts t.thread.who.path x.thread.who.path) t x xs (inserted t xs) p q.0 q.1 (each_insert P t xs p q.1)
+each_insert P t (x ∷ xs) p q = each_cond P (starts t.thread.who.path x.thread.who.path) t x xs (inserted t xs) p q.0 q.1
+    (each_insert P t xs p q.1)
 
 pub each_ordered : (P : Task → Type 0) (acc ts : List Task) → Each P acc → Each P ts → Each P (ordered acc ts)
 each_ordered P acc [] p q = p
@@ -258,7 +268,8 @@ each_if P false xs ys p q = q
 
 pub each_gone : (P : Task → Type 0) (f : List ℕ → Bool) (ts : List Task) → Each P ts → Each P (gone_before f ts)
 each_gone P f [] p = tt
-each_gone P f (t ∷ ts) p = each_if P (f t.thread.who.path) _ _ (each_insert P t (gone_before f ts) p.0 (each_gone P f ts p.1)) (each_gone P f ts p.1)
+each_gone P f (t ∷ ts) p = each_if P (f t.thread.who.path) _ _ (each_insert P t (gone_before f ts) p.0 (each_gone P f ts p.1))
+    (each_gone P f ts p.1)
 
 pub each_without : (P : Task → Type 0) (f : List ℕ → Bool) (ts : List Task) → Each P ts → Each P (without f ts)
 each_without P f [] p = tt
@@ -273,7 +284,8 @@ insert_on t [] [] h = refl
 insert_on t [] (y ∷ acc) h = subst (λ b. cond b (y ∷ inserted t acc) (t ∷ y ∷ acc) ≡ t ∷ y ∷ acc) (sym h.0) refl
 insert_on t (x ∷ xs) acc h = insert_by (starts t.thread.who.path x.thread.who.path) (insert_on t xs acc h)
   where
-    insert_by : (b : Bool) → inserted t (xs ++ acc) ≡ inserted t xs ++ acc → cond b (x ∷ inserted t (xs ++ acc)) (t ∷ x ∷ (xs ++ acc)) ≡ cond b (x ∷ inserted t xs) (t ∷ x ∷ xs) ++ acc
+    insert_by : (b : Bool) → inserted t (xs ++ acc) ≡ inserted t xs ++ acc → cond b (x ∷ inserted t (xs ++ acc)) (t ∷ x ∷ (xs ++ acc)) ≡
+        cond b (x ∷ inserted t xs) (t ∷ x ∷ xs) ++ acc
     insert_by true e = ap (λ z. x ∷ z) e
     insert_by false e = refl
 
@@ -284,13 +296,18 @@ ordered_on xs acc (t ∷ ts) h = ap (λ z. ordered z ts) (insert_on t xs acc h.0
 pub ordered_apart : (xs ys : List Task) → Each (NotOver (ordered [] xs)) ys → ordered [] (xs ++ ys) ≡ ordered [] ys ++ ordered [] xs
 ordered_apart xs ys h = ordered_both [] xs ys ∙ ordered_on [] (ordered [] xs) ys h
 
-pub insert_last : (t : Task) (xs : List Task) → Each (λ x. starts t.thread.who.path x.thread.who.path ≡ true) xs → inserted t xs ≡ xs ++ t ∷ []
+pub insert_last : (t : Task) (xs : List Task) → Each (λ x. starts t.thread.who.path x.thread.who.path ≡ true) xs →
+    inserted t xs ≡ xs ++ t ∷ []
 insert_last t [] h = refl
-insert_last t (x ∷ xs) h = subst (λ b. cond b (x ∷ inserted t xs) (t ∷ x ∷ xs) ≡ x ∷ (xs ++ t ∷ [])) (sym h.0) (ap (λ z. x ∷ z) (insert_last t xs h.1))
+insert_last t (x ∷ xs) h = subst (λ b. cond b (x ∷ inserted t xs) (t ∷ x ∷ xs) ≡ x ∷ (xs ++ t ∷ [])) (sym h.0)
+    (ap (λ z. x ∷ z) (insert_last t xs h.1))
 
-pub gone_onto : (f : List ℕ → Bool) (ts pre : List Task) → Each (λ t. f t.thread.who.path ≡ true) ts → gone_before f (onto ts pre) ≡ ordered (gone_before f pre) ts
+pub gone_onto : (f : List ℕ → Bool) (ts pre : List Task) → Each (λ t. f t.thread.who.path ≡ true) ts → gone_before f (onto ts pre) ≡
+    ordered (gone_before f pre) ts
 gone_onto f [] pre h = refl
-gone_onto f (t ∷ ts) pre h = gone_onto f ts (t ∷ pre) h.1 ∙ ap (λ z. ordered z ts) (subst (λ b. cond b (inserted t (gone_before f pre)) (gone_before f pre) ≡ inserted t (gone_before f pre)) (sym h.0) refl)
+gone_onto f (t ∷ ts) pre h = gone_onto f ts (t ∷ pre) h.1 ∙
+    ap (λ z. ordered z ts) (subst (λ b. cond b (inserted t (gone_before f pre)) (gone_before f pre) ≡ inserted t (gone_before f pre))
+    (sym h.0) refl)
 
 pub gone_none : (f : List ℕ → Bool) (ts : List Task) → Each (λ t. f t.thread.who.path ≡ false) ts → gone_before f ts ≡ []
 gone_none f [] h = refl

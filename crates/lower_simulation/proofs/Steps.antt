@@ -11,7 +11,8 @@ use Rattle.lower_simulation.proofs.Claims.{Setting, Goal, Agree, Ends, Here}
 abbrev pub act_at : Setting → Op → Machine → Step
 act_at z x y = act z.code x y.who y.world y.state y.frame.life y.frame.locals y.frame.stack y.frame.place y.frame.handlers y.below
 
-pub does : (z : Setting) (x : Op) (y : Machine) (g : Goal) → slice_get z.code.ops y.frame.place ≡ Some x → Ends z (act_at z x y) g → Ends z (Next y) g
+pub does : (z : Setting) (x : Op) (y : Machine) (g : Goal) → slice_get z.code.ops y.frame.place ≡ Some x → Ends z (act_at z x y) g →
+    Ends z (Next y) g
 does z x y g h k = record {
   fuel = suc k.fuel;
   good = subst (λ o. Agree z g (carried z.code k.fuel (on_there o y.state (λ x. act_at z x y)))) (sym h) k.good;
