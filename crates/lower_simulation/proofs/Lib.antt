@@ -1,0 +1,12 @@
+pub mod Paths
+pub mod Claims
+pub mod Steps
+pub mod Going
+pub mod Following
+pub mod Locals
+pub mod Leading
+pub mod Standing
+pub mod Widening
+pub mod Forms
+pub mod Contexts
+pub mod Leaving
