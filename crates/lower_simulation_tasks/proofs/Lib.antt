@@ -1,0 +1,5 @@
+pub mod Besides
+pub mod Scopes
+pub mod Roles
+pub mod Groups
+pub mod Starts

@@ -1,0 +1,2 @@
+//! The task side.
+#![tactic(auto)]
