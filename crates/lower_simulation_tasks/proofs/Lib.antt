@@ -3,3 +3,5 @@ pub mod Scopes
 pub mod Roles
 pub mod Groups
 pub mod Starts
+pub mod Waits
+pub mod Callees
