@@ -5,3 +5,4 @@ pub mod Groups
 pub mod Starts
 pub mod Waits
 pub mod Callees
+pub mod Begins
