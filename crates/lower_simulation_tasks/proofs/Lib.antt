@@ -6,3 +6,4 @@ pub mod Starts
 pub mod Waits
 pub mod Callees
 pub mod Begins
+pub mod Defers
