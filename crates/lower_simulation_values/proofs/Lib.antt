@@ -1,0 +1,5 @@
+pub mod Tables
+pub mod Operands
+pub mod Operators
+pub mod Names
+pub mod Members
