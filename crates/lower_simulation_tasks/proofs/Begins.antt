@@ -1,32 +1,31 @@
 -- Branches and groups: the forms that begin tasks, each in a frame of its own.
-use Rattle.std.proofs.Common.{◌≡◌, ℕ, suc, ◌≤◌, ◌<◌, List, [], ◌∷◌, ◌++◌, length, Some, Bool, true, refl, sym, ap, subst, arith}
-use Rattle.std.specs.Prelude.{slice_get}
+use Rattle.std.proofs.Common.{◌≡◌, ℕ, suc, ◌≤◌, ◌<◌, List, [], ◌∷◌, ◌++◌, length, Bool, true, refl, sym, ap, subst, arith}
 use Rattle.verse_base.specs.declared.places.Place.{Place}
 use Rattle.verse_tree.specs.Tree.{Tree, tree, Trees, no_trees, more_trees}
 use Rattle.verse_tree.specs.Tree as t
 use Rattle.verse_code.specs.declared.operations.Op.TheVariants as op
 use Rattle.verse_value.specs.Val.{Val}
-use Rattle.verse_meaning_state.specs.State.{State, stepped}
+use Rattle.verse_meaning_state.specs.State.{stepped}
 use Rattle.verse_meaning_state.specs.Turns.{Kind, all_of, first_of, rush_of}
 use Rattle.verse_meaning.specs.Residuals.{none, no_arms, part}
 use Rattle.verse_meaning.specs.Outcomes.{World, world, branch_started, set_behind, outside}
 use Rattle.verse_meaning.specs.Evaluating.{begins_scope, started, ev, scope_end}
 use Rattle.verse_meaning.specs.Runs.{deeper}
 use Rattle.verse_code_machine.specs.Tasks.{branching, thread, child_named}
-use Rattle.verse_code_machine.specs.Frames.{fits, free, on_there}
-use Rattle.verse_code_machine.specs.Acts.{groups, kind_of, labels, after_arms}
+use Rattle.verse_code_machine.specs.Frames.{fits, free}
+use Rattle.verse_code_machine.specs.Acts.{groups, kind_of, after_arms}
 use Rattle.lower_code.specs.Pieces.{Spot, Piece, past, next, one, arms_spot, ◌then◌}
 use Rattle.lower_code.specs.Scopes.{Scope as Names}
 use Rattle.lower_code.specs.declared.arounds.Around.{Around as Where}
 use Rattle.lower_code.specs.Arounds.{fresh}
 use Rattle.lower_code.specs.Lowering as low
 use Rattle.lower_code.specs.Lowering.{piece, how_many, grouped}
-use Rattle.lower_simulation.proofs.Claims.{Way, Setting, Goal, Ends, Ctx, Around, world_of, at, in_frame, frame_of, slots, Apart, Good, on}
+use Rattle.lower_simulation.proofs.Claims.{Way, Setting, Ends, Ctx, Around, world_of, at, in_frame, frame_of, slots, Apart, Good, on}
 use Rattle.lower_simulation.proofs.Claims.{Agrees, Here}
 use Rattle.lower_simulation.proofs.Going as going
 use Rattle.lower_simulation.proofs.Going.{agrees, trans, le_self}
 use Rattle.lower_simulation.proofs.Contexts.{frame_static}
-use Rattle.lower_simulation.proofs.Standing.{Stands, then_stand, op_stands, ahead_stand, group_stand, Group_at}
+use Rattle.lower_simulation.proofs.Standing.{Stands, then_stand, op_stands, ahead_stand, group_stand}
 use Rattle.lower_simulation.proofs.Widening.{jump_leads}
 use Rattle.lower_simulation.proofs.Leading.{LeadsTo, does_leads, there_leads, spends_leads}
 use Rattle.lower_simulation.proofs.Forms.{Static, EvLeads}

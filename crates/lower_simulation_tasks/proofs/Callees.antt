@@ -1,10 +1,8 @@
 -- Calls: what is to be shown of a form whose callee stands alone, and of one with an object; Await and Signal.
-use Rattle.std.proofs.Common.{◌≡◌, ℕ, zero, suc, ◌+◌, ◌≤◌, List, [], ◌∷◌, ◌++◌, length, Bool, true, false, refl, sym, ap, ◌∙◌, arith}
-use Rattle.std.proofs.Common.{append-nil, subst}
-use Rattle.verse_tree.specs.Tree.{Tree, Trees, no_trees, more_trees}
+use Rattle.std.proofs.Common.{◌≡◌, ℕ, zero, suc, ◌≤◌, List, [], ◌∷◌, length, Bool, true, false, refl, sym, arith}
+use Rattle.std.proofs.Common.{subst}
+use Rattle.verse_tree.specs.Tree.{Tree, Trees}
 use Rattle.verse_value.specs.Val.{Val, unit}
-use Rattle.verse_meaning_state.specs.State.{State}
-use Rattle.verse_meaning_state.specs.Effects.{event_of}
 use Rattle.verse_meaning.specs.Programs.{trees_list}
 use Rattle.verse_meaning.specs.Residuals as form
 use Rattle.verse_meaning.specs.Residuals.{Form, args, Scopes}
@@ -14,65 +12,33 @@ use Rattle.verse_meaning.specs.Evaluating.{inner, all_args}
 use Rattle.verse_meaning.specs.Resuming.{resume}
 use Rattle.verse_meaning.specs.Runs.{deeper}
 use Rattle.verse_code.specs.declared.operations.Op.TheVariants as op
-use Rattle.verse_code_machine.specs.Tasks.{Step}
-use Rattle.verse_code_machine.specs.Frames.{fits, free, on_many}
+use Rattle.verse_code_machine.specs.Frames.{fits, free}
 use Rattle.lower_code.specs.Pieces.{Spot, past, one, stuck, ◌then◌}
 use Rattle.lower_code.specs.Scopes.{Scope as Names}
 use Rattle.lower_code.specs.declared.arounds.Around.{Around as Where}
 use Rattle.lower_code.specs.Arounds.{up}
-use Rattle.lower_code.specs.Applied.{start, started, finish, signalling, with_none}
-use Rattle.lower_code.specs.Applied as applied
+use Rattle.lower_code.specs.Applied.{start, started, finish}
 use Rattle.lower_code.specs.Lowering as low
 use Rattle.lower_code.specs.Lowering.{piece, how_many, form_fits}
-use Rattle.lower_simulation.proofs.Claims.{Way, Setting, Ctx, Around, at, Good, Target, on, Above, Tasks}
+use Rattle.lower_simulation.proofs.Claims.{Way, Setting, Ctx, Around, at, Good, Target, on, Above}
 use Rattle.lower_simulation.proofs.Steps.{over}
 use Rattle.lower_simulation.proofs.Going.{trans}
-use Rattle.lower_simulation.proofs.Standing.{Stands, joined_stands, op_stands, then_stand}
+use Rattle.lower_simulation.proofs.Standing.{Stands, op_stands, then_stand}
 use Rattle.lower_simulation.proofs.Leading.{LeadsTo, value_leads, does_leads, open_leads}
-use Rattle.lower_simulation.proofs.Forms.{Static, EvLeads, All_lead, IsPlain, Operands_stand, operands_args, args_leads, stacked, on_one}
-use Rattle.lower_simulation.proofs.Forms.{op_leads, at_leads}
-use Rattle.lower_simulation_tasks.proofs.Waits.{outside_leads, await_leads, signal_leads}
+use Rattle.lower_simulation.proofs.Forms.{Static, All_lead, IsPlain, operands_args, args_leads, stacked, on_one}
+use Rattle.lower_simulation.proofs.Forms.{at_leads}
+use Rattle.lower_simulation_values.proofs.Operators.{args_stand}
+use Rattle.lower_simulation_values.proofs.Names.{stuck_leads}
+use Rattle.lower_simulation_tasks.proofs.Waits.{await_leads, signal_leads}
 
--- operands that are popped
-many : (ws st vs : List Val) (s : State) (go : List Val → List Val → Step) (n : ℕ) →
-    on_many (length ws + n) (stacked ws st) vs s go ≡ on_many n st (ws ++ vs) s go
-many [] st vs s go n = ap (λ x. on_many x st vs s go) (none_in n)
-  where
-    none_in : (b : ℕ) → 0 + b ≡ b
-    none_in b = omega arith
-many (w ∷ ws) st vs s go n = ap (λ x. on_many x (stacked ws (w ∷ st)) vs s go) (suc_in (length ws) n) ∙ many ws (w ∷ st) vs s go (suc n)
-  where
-    suc_in : (a b : ℕ) → suc a + b ≡ a + suc b
-    suc_in a b = omega arith
-
-pub popped : (n : ℕ) (ws st : List Val) (s : State) (go : List Val → List Val → Step) → length ws ≡ n →
-    on_many n (stacked ws st) [] s go ≡ go ws st
-popped n ws st s go h = ap (λ x. on_many x (stacked ws st) [] s go) (sym h ∙ no_more (length ws)) ∙ many ws st [] s go 0 ∙
-    ap (λ x. go x st) (append-nil ws)
-  where
-    no_more : (a : ℕ) → a ≡ a + 0
-    no_more a = omega arith
-
-module _ (z : Setting) where
-  pub many_leads : {j n : ℕ} {c : Ctx} {o : Around} {b : Scopes} {f : Tasks} {into : Target} {r : Outcome} {x : ℕ} {ws st : List Val}
-      (s : State) (go : List Val → List Val → Step) → length ws ≡ x → LeadsTo z j n c o b f (go ws st) into r →
-      LeadsTo z j n c o b f (on_many x (stacked ws st) [] s go) into r
-  many_leads {j} {n} {c} {o} {b} {f} {into} {r} {x} {ws} {st} s go h l = subst (λ u. LeadsTo z j n c o b f u into r)
-      (sym (popped x ws st s go h)) l
-
-  -- an operation that is always stuck
-  pub stuck_leads : {j n : ℕ} {c : Ctx} {o : Around} {y : World} {ls st : List Val} {size : ℕ} {out : Way} {s e : Spot} {into : Target} →
-      Stands z (fits c.handlers) size out s (stuck s) e →
-      LeadsTo z j n c o y.behind y.tasks (at c o y.state ls st s.at) into (halted (wrong y.state))
-  stuck_leads i = does_leads z (op_stands z i).is (record { go = λ g h. over _ h })
-
+module _ (z : Setting) (differ : ℕ → ℕ → Bool) (top : ℕ) where
   -- where the meaning is wrong, outside of failure contexts
   stuck_outside : {j n : ℕ} {c : Ctx} {o : Around} {y : World} {ls st : List Val} {size : ℕ} {out : Way} {s e : Spot} {into : Target}
       (w : Bool) (go : World → Outcome) → go y ≡ halted (wrong y.state) → Stands z (fits c.handlers) size out s (stuck s) e →
       LeadsTo z j n c o y.behind y.tasks (at c o y.state ls st s.at) into (outside w y go)
   unfolding outside
   stuck_outside {j} {n} {c} {o} {y} {ls} {st} {s = s} {into = into} true go h i =
-      subst (λ x. LeadsTo z j n c o y.behind y.tasks (at c o y.state ls st s.at) into x) (sym h) (stuck_leads i)
+      subst (λ x. LeadsTo z j n c o y.behind y.tasks (at c o y.state ls st s.at) into x) (sym h) (stuck_leads z differ top i)
   stuck_outside false go h i = does_leads z (op_stands z i).is (record { go = λ g h. over _ h })
 
 module _ (z : Setting) (differ : ℕ → ℕ → Bool) (top : ℕ) where
@@ -106,12 +72,6 @@ module _ (z : Setting) (differ : ℕ → ℕ → Bool) (top : ℕ) where
       (valued (inner z.program (deeper z.program M) b w c.env y) (λ r. args c.env f [] r (trees_list ts))
       (λ v y. all_args z.program (deeper z.program M) ts f (v ∷ []) w c.env y))
 
-  pub args_stand : (ts : Trees) (ss : Names) (a : Where) (ok : ℕ → Bool) (size : ℕ) (out : Way) (s e : Spot) →
-      Stands z ok size out s (low.args z.program differ ts ss a s) e → Operands_stand z differ top ts ss a ok size out s e
-  args_stand no_trees ss a ok size out s e i = i.ends
-  args_stand (more_trees x ts) ss a ok size out s e i =
-      let r = joined_stands z s e (piece z.program differ x ss a s) _ i in (r.0, args_stand ts ss (up a) ok size out _ e r.1)
-
   -- the form is applied, its operands above its object
   abbrev pub ObjectFinishes : Form → ℕ → Type 0
   ObjectFinishes f count = (v : Val) (ws : List Val) → length ws ≡ count → (s e : Spot) (out : Way) (w : Bool) (M j n : ℕ) (c : Ctx)
@@ -134,14 +94,14 @@ module _ (z : Setting) (differ : ℕ → ℕ → Bool) (top : ℕ) where
       (λ v w. operands_args z differ top ts f pf l (v ∷ []) c.env w i))
       (hb ss a s s1 out w M j n c o y ls st r.0 sc fw lt lM ab g)
       (λ w M j m fw le lM o v y ls g. args_leads z differ top ts hs f pf ss (up a) s1 s2 out w M j m c o y ls (v ∷ st) (v ∷ []) (on e.at st)
-      (args_stand ts ss (up a) (fits c.handlers) c.size out s1 s2 r2.0) (on_one sc) fw (trans le lt) lM ab g
+      (args_stand z differ top ts ss (up a) (fits c.handlers) c.size out s1 s2 r2.0) (on_one sc) fw (trans le lt) lM ab g
       (λ ws q w M i q' fw lq lM o y ls g. hf v ws q s2 e out w M i q' c o y ls st r2.1 fw (trans lq (trans le lt)) lM g))
 
   awaiting : (x : Bool) (count : ℕ) → ObjectFinishes (form.awaiting x) count
   awaiting x zero v [] q s e out w M j n c o y ls st i fw lt lM g = await_leads z x M w v y ls st i fw g
   awaiting x zero v (u ∷ ws) q s e out w M j n c o y ls st i fw lt lM g = absurd (omega (arith, q))
   awaiting x (suc k) v [] q s e out w M j n c o y ls st i fw lt lM g = absurd (omega (arith, q))
-  awaiting x (suc k) v (u ∷ ws) q s e out w M j n c o y ls st i fw lt lM g = stuck_leads z i
+  awaiting x (suc k) v (u ∷ ws) q s e out w M j n c o y ls st i fw lt lM g = stuck_leads z differ top i
 
   signalled : (count : ℕ) → ObjectFinishes form.signalling count
   signalled zero v [] q s e out w M j n c o y ls st i fw lt lM g =
@@ -154,7 +114,7 @@ module _ (z : Setting) (differ : ℕ → ℕ → Bool) (top : ℕ) where
   signalled (suc (suc k)) v [] q s e out w M j n c o y ls st i fw lt lM g = absurd (omega (arith, q))
   signalled (suc (suc k)) v (u ∷ []) q s e out w M j n c o y ls st i fw lt lM g = absurd (omega (arith, q))
   signalled (suc (suc k)) v (u ∷ (x ∷ ws)) q s e out w M j n c o y ls st i fw lt lM g =
-      stuck_outside z w (λ y. signal_told z.program (deeper z.program M) (u ∷ x ∷ ws) v c.env y) refl i
+      stuck_outside z differ top w (λ y. signal_told z.program (deeper z.program M) (u ∷ x ∷ ws) v c.env y) refl i
 
   -- Await of a task or of an event; with operands it is none
   pub await_object : (x : Bool) (b : Tree) (ts : Trees) → InnerLeads b → All_lead z differ top ts → ObjectLeads (form.awaiting x) b ts
