@@ -35,7 +35,7 @@ use Rattle.lower_simulation.proofs.Leaving.{return_stuck, break_stuck}
 use Rattle.lower_simulation.proofs.Leading.{LeadsTo}
 use Rattle.lower_simulation.proofs.Paths.{lt_false}
 
-not_free : (hs : List Handler) (x : Note) (xs : List Note) (bl : List Frame) → free hs (x ∷ xs) bl ≡ false
+pub not_free : (hs : List Handler) (x : Note) (xs : List Note) (bl : List Frame) → free hs (x ∷ xs) bl ≡ false
 not_free (h ∷ hs) x xs bl = refl
 not_free [] x xs bl = refl
 
