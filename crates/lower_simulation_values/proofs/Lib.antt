@@ -2,4 +2,6 @@ pub mod Tables
 pub mod Operands
 pub mod Operators
 pub mod Names
+pub mod Applied
+pub mod Callees
 pub mod Members
