@@ -1,0 +1,2 @@
+//! Runs.
+#![tactic(auto)]
