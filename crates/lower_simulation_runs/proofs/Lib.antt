@@ -1,3 +1,5 @@
 pub mod Runs
 pub mod Entering
 pub mod Starting
+pub mod Firm
+pub mod FirmForms
