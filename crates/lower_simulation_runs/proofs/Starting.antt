@@ -49,7 +49,7 @@ run_is waits (amiss s) = refl
 -- the whole run, from Main's start: after k turns both sides are seen alike
 module _ (z : Setting) (ns : List ℤ) (fn : FunTree) (fc : Func) (e : Env) (here_m : slice_get z.code.functions z.code.main ≡ Some fc)
     (here_p : main_in z.program.items ≡ Some fn) (same_inputs : inputs_m fc.params ns ≡ inputs_p fn.params ns)
-    (ps : with_params fn.params (inputs_p fn.params ns) [] ≡ Some e) (bd : BodyLeads z z.steps fn fc e (inputs_p fn.params ns)) where
+    (ps : with_params fn.params (inputs_p fn.params ns) [] ≡ Some e) (bd : BodyLeads z z.steps fn.body fc e (inputs_p fn.params ns)) where
   no_trees : Trees
   no_trees = record { before = []; behind = [] }
 
