@@ -3,3 +3,5 @@ pub mod Entering
 pub mod Starting
 pub mod Firm
 pub mod FirmForms
+pub mod Binding
+pub mod Standings
