@@ -5,3 +5,5 @@ pub mod Firm
 pub mod FirmForms
 pub mod Binding
 pub mod Standings
+pub mod Agreeing
+pub mod Bodies
