@@ -7,3 +7,4 @@ pub mod Binding
 pub mod Standings
 pub mod Agreeing
 pub mod Bodies
+pub mod Programs
