@@ -4,4 +4,5 @@ pub mod Operators
 pub mod Names
 pub mod Applied
 pub mod Callees
+pub mod Calls
 pub mod Members
