@@ -5,4 +5,5 @@ pub mod Names
 pub mod Applied
 pub mod Callees
 pub mod Calls
+pub mod Called
 pub mod Members
