@@ -6,4 +6,6 @@ pub mod Applied
 pub mod Callees
 pub mod Calls
 pub mod Called
+pub mod Texts
+pub mod Made
 pub mod Members
