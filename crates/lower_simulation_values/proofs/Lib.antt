@@ -8,4 +8,5 @@ pub mod Calls
 pub mod Called
 pub mod Texts
 pub mod Made
+pub mod Targets
 pub mod Members
