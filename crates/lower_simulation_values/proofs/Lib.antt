@@ -9,4 +9,5 @@ pub mod Called
 pub mod Texts
 pub mod Made
 pub mod Targets
+pub mod Writes
 pub mod Members
