@@ -4,4 +4,10 @@ pub mod Operators
 pub mod Names
 pub mod Applied
 pub mod Callees
+pub mod Calls
+pub mod Called
+pub mod Texts
+pub mod Made
+pub mod Targets
+pub mod Writes
 pub mod Members

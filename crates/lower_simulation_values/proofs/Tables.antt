@@ -1,12 +1,15 @@
 -- What the tables of the program and of the code say of functions, methods and classes, and what is claimed of their calls.
-use Rattle.std.proofs.Common.{◌≡◌, ℕ, suc, ◌≤◌, List, [], ◌∷◌, length, Option, Some, None, Bool, true}
+use Rattle.std.proofs.Common.{◌≡◌, ℕ, suc, ◌≤◌, List, [], ◌∷◌, length, Option, Some, None, Bool, true, false}
 use Rattle.std.specs.Prelude.{slice_get, map}
 use Rattle.verse_tree.specs.Tree.{Tree}
 use Rattle.verse_tree.specs.ItemTree.{FieldTree, FunTree}
 use Rattle.verse_tree.specs.declared.tables.Ref.TheVariants as ref
 use Rattle.verse_code.specs.declared.codes.Func.{Func}
 use Rattle.verse_code.specs.declared.codes.Class.{Class}
-use Rattle.verse_value.specs.Val.{Val}
+use Rattle.verse_code.specs.declared.operations.Op.TheVariants as op
+use Rattle.verse_value.specs.Val.{Val, event, task}
+use Rattle.verse_meaning.specs.Residuals as form
+use Rattle.verse_meaning.specs.Forms.{apply}
 use Rattle.verse_meaning.specs.Programs.{ref_at, fun_at, method_at, fields_of}
 use Rattle.verse_meaning.specs.Outcomes.{World}
 use Rattle.verse_meaning.specs.Runs.{deeper}
@@ -15,7 +18,7 @@ use Rattle.verse_code_machine.specs.Frames.{fits, free, enters}
 use Rattle.verse_code_machine.specs.Acts.{frame, spawns}
 use Rattle.lower_code.specs.Defaults.{default_number}
 use Rattle.lower_code.specs.Programs.{class_of}
-use Rattle.lower_simulation.proofs.Claims.{Setting, Ctx, Around, on, Good}
+use Rattle.lower_simulation.proofs.Claims.{Setting, Ctx, Around, at, on, Good, Here}
 use Rattle.lower_simulation.proofs.Leading.{LeadsTo}
 
 -- each of a list
@@ -106,3 +109,16 @@ module _ (z : Setting) (top : ℕ) where
 
   abbrev pub DefaultsLead : Type 0
   DefaultsLead = (c : ℕ) → Is_class z c → Every Default_leads (fields_of z.program c)
+
+  -- Await of a task and of an event
+  pub record AwaitsLead : Type 0 where
+    pub of_task : (entry : ℕ) (w : Bool) (M j n : ℕ) (c : Ctx) (o : Around) (y : World) (ls st : List Val) (a : ℕ) →
+        Here z.code a op.AwaitTask → free c.handlers c.life.noted c.below ≡ w → n ≤ top → n ≤ M →
+        Good n c.who.path o c.held c.also c.size y.state ls → LeadsTo z j n c o y.behind y.tasks
+        (at c o y.state ls (task entry ∷ st) a) (on (suc a) st)
+        (apply z.program (deeper z.program M) (form.awaiting false) (task entry ∷ []) w c.env y)
+    pub of_event : (e : ℕ) (w : Bool) (M j n : ℕ) (c : Ctx) (o : Around) (y : World) (ls st : List Val) (a : ℕ) →
+        Here z.code a op.AwaitEvent → free c.handlers c.life.noted c.below ≡ w → n ≤ top → n ≤ M →
+        Good n c.who.path o c.held c.also c.size y.state ls → LeadsTo z j n c o y.behind y.tasks
+        (at c o y.state ls (event e ∷ st) a) (on (suc a) st)
+        (apply z.program (deeper z.program M) (form.awaiting true) (event e ∷ []) w c.env y)
