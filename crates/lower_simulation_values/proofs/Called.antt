@@ -62,7 +62,7 @@ module _ (z : Setting) (differ : ℕ → ℕ → Bool) (top : ℕ) where
 
   -- ---- forms without an operand for the callee
 
-  alone_leads : (f : Form) → IsPlain z differ top f → (ts : Trees) → All_lead z differ top ts → (fit : Bool) →
+  pub alone_leads : (f : Form) → IsPlain z differ top f → (ts : Trees) → All_lead z differ top ts → (fit : Bool) →
       ((c : Ctx) (st : List Val) → Applied z differ top f [] (how_many ts) fit c st st) →
       Leads z differ top (λ ss a. nothing then low.args z.program differ ts ss a then finish f (how_many ts) fit)
       (λ w M e y. all_args z.program (deeper z.program M) ts f [] w e y)
@@ -105,7 +105,7 @@ module _ (z : Setting) (differ : ℕ → ℕ → Bool) (top : ℕ) where
 
   -- ---- events and tasks
 
-  outside_leads : {j n : ℕ} {c : Ctx} {o : Around} {b : form.Scopes} {f : Tasks} {into : Target} (w : Bool) (y : World) (go : World → Outcome)
+  pub outside_leads : {j n : ℕ} {c : Ctx} {o : Around} {b : form.Scopes} {f : Tasks} {into : Target} (w : Bool) (y : World) (go : World → Outcome)
       (q : Step) → free c.handlers c.life.noted c.below ≡ w → (free c.handlers c.life.noted c.below ≡ true → LeadsTo z j n c o b f q into (go y)) →
       LeadsTo z j n c o b f (only_where (free c.handlers c.life.noted c.below) y.state q) into (outside w y go)
   unfolding outside
@@ -118,7 +118,7 @@ module _ (z : Setting) (differ : ℕ → ℕ → Bool) (top : ℕ) where
   signal_calm (Some e) u y = refl
 
   -- what is stuck, where the meaning is wrong too
-  outside_stuck : {j n : ℕ} {c : Ctx} {o : Around} {y : World} {ls st : List Val} {size : ℕ} {out : Way} {s e : Spot} {into : Target} (w : Bool)
+  pub outside_stuck : {j n : ℕ} {c : Ctx} {o : Around} {y : World} {ls st : List Val} {size : ℕ} {out : Way} {s e : Spot} {into : Target} (w : Bool)
       (go : World → Outcome) → go y ≡ halted (wrong y.state) → Stands z (fits c.handlers) size out s (stuck s) e →
       LeadsTo z j n c o y.behind y.tasks (at c o y.state ls st s.at) into (outside w y go)
   unfolding outside
@@ -183,7 +183,7 @@ module _ (z : Setting) (differ : ℕ → ℕ → Bool) (top : ℕ) where
   abbrev Object_applied : Form → Trees → Type 0
   Object_applied f ts = (c : Ctx) (a : Val) (st : List Val) → Applied z differ top f (a ∷ []) (how_many ts) true c (a ∷ st) st
 
-  callee_leads : Tables z → CallsLead z top → AwaitsLead z top → (whole : Form) (pl : Place) (b : Tree) (ts : Trees)
+  pub callee_leads : Tables z → CallsLead z top → AwaitsLead z top → (whole : Form) (pl : Place) (b : Tree) (ts : Trees)
       (value_code : Form → Names → Where → Maker) (value_run : Form → Bool → ℕ → Env → World → Outcome) →
       Leads z differ top (value_code whole) (value_run whole) → Member_lead b → All_lead z differ top ts → Quotient_lead ts →
       (q : Callee) → Sort z whole pl b q → Leads z differ top (λ ss a. low.by_callee q
