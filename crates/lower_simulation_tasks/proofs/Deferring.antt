@@ -1,5 +1,5 @@
 -- A `defer` among the statements of a block.
-use Rattle.std.proofs.Common.{◌≡◌, ℕ, suc, ◌≤◌, List, [], ◌∷◌, length, Bool, true, false, refl, sym, subst, arith}
+use Rattle.std.proofs.Common.{◌≡◌, ℕ, suc, ◌≤◌, List, ◌∷◌, Bool, true, false, refl, arith}
 use Rattle.verse_base.specs.declared.places.Place.{Place}
 use Rattle.verse_tree.specs.Tree.{Tree, tree}
 use Rattle.verse_tree.specs.Tree as t
@@ -19,7 +19,7 @@ use Rattle.lower_simulation.proofs.Claims.{Way, Setting, Ctx, Around, at, Good, 
 use Rattle.lower_simulation.proofs.Going.{le_self}
 use Rattle.lower_simulation.proofs.Contexts.{deferring, running, running_static}
 use Rattle.lower_simulation.proofs.Standing.{Stands, past_le, then_stand, op_stands, ahead_stand}
-use Rattle.lower_simulation.proofs.Leading.{LeadsTo, does_leads, open_leads}
+use Rattle.lower_simulation.proofs.Leading.{LeadsTo, open_leads}
 use Rattle.lower_simulation.proofs.Forms.{Static, EvLeads, at_leads, start_leads}
 use Rattle.lower_simulation_tasks.proofs.Defers.{BlockLeads, defer_leads, not_free}
 

@@ -4,7 +4,6 @@ pub mod Roles
 pub mod Groups
 pub mod Starts
 pub mod Waits
-pub mod Callees
 pub mod Begins
 pub mod Defers
 pub mod Deferring

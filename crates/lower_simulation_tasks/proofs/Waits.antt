@@ -1,30 +1,26 @@
--- The forms that wait, and Signal: Sleep and Await of a task and of an event.
-use Rattle.std.proofs.Common.{◌≡◌, ℕ, suc, List, [], ◌∷◌, Option, Some, None, Bool, true, false, sym, subst}
+-- The forms that wait: Sleep, and Await of a task and of an event.
+use Rattle.std.proofs.Common.{◌≡◌, ℕ, List, Option, Some, None, Bool, true, false, sym, subst}
 use Rattle.verse_base.specs.declared.places.Place.{Place}
 use Rattle.verse_tree.specs.Tree.{Tree, tree, Trees}
 use Rattle.verse_tree.specs.Tree as t
-use Rattle.verse_value.specs.Val.{Val, unit}
+use Rattle.verse_value.specs.Val.{Val, task, event}
 use Rattle.verse_meaning_state.specs.Waits.{Cause, never, after, heard, nth}
-use Rattle.verse_meaning_state.specs.Effects.{event_of, task_of, signal_sent}
-use Rattle.verse_meaning.specs.Residuals as form
-use Rattle.verse_meaning.specs.Residuals.{Env, Scopes}
-use Rattle.verse_meaning.specs.Outcomes.{World, Outcome, outside, suspended, if_there, told_plain}
-use Rattle.verse_meaning.specs.Forms.{apply, awaited, task_awaited, signal_told}
+use Rattle.verse_meaning_state.specs.Effects.{event_of}
+use Rattle.verse_meaning.specs.Residuals.{Scopes}
+use Rattle.verse_meaning.specs.Outcomes.{World, Outcome, outside, suspended, if_there}
+use Rattle.verse_meaning.specs.Forms.{awaited, task_awaited}
 use Rattle.verse_meaning.specs.Runs.{deeper}
-use Rattle.verse_code.specs.declared.operations.Op.TheVariants as op
 use Rattle.verse_code_machine.specs.Tasks.{Step, thread}
-use Rattle.verse_code_machine.specs.Frames.{fits, free, on_there, only_where}
+use Rattle.verse_code_machine.specs.Frames.{free, on_there, only_where}
 use Rattle.verse_code_machine.specs.Ends.{suspends}
 use Rattle.verse_code_machine.specs.Acts.{awaits}
-use Rattle.lower_code.specs.Pieces.{Spot, one}
-use Rattle.lower_code.specs.Applied as applied
-use Rattle.lower_simulation.proofs.Claims.{Way, Setting, Ends, Ctx, Around, at, frame_of, Good, Target, on, Tasks}
+use Rattle.lower_simulation.proofs.Claims.{Setting, Ends, Ctx, Around, frame_of, Good, Target, on, Tasks}
 use Rattle.lower_simulation.proofs.Steps.{over}
 use Rattle.lower_simulation.proofs.Going.{agrees}
-use Rattle.lower_simulation.proofs.Standing.{Stands}
-use Rattle.lower_simulation.proofs.Leading.{LeadsTo, open_leads}
+use Rattle.lower_simulation.proofs.Leading.{LeadsTo, does_leads, open_leads}
 use Rattle.lower_simulation.proofs.Forms.{EvLeads, op_leads}
-use Rattle.lower_simulation_tasks.proofs.Starts.{suspended_goes, awaited_goes, heard_goes, signal_goes}
+use Rattle.lower_simulation_values.proofs.Tables.{AwaitsLead}
+use Rattle.lower_simulation_tasks.proofs.Starts.{suspended_goes, awaited_goes, heard_goes}
 
 module _ (z : Setting) where
   -- what is Stuck where a failure context is open
@@ -71,44 +67,15 @@ module _ (z : Setting) where
   }
 
   -- Await, behind its operand
-  pub await_leads : {j n : ℕ} {c : Ctx} {o : Around} {out : Way} {s e : Spot} (x : Bool) (M : ℕ) (w : Bool) (v : Val) (y : World)
-      (ls st : List Val) → Stands z (fits c.handlers) c.size out s (one (applied.awaiting x) s) e →
-      free c.handlers c.life.noted c.below ≡ w → Good n c.who.path o c.held c.also c.size y.state ls →
-      LeadsTo z j n c o y.behind y.tasks (at c o y.state ls (v ∷ st) s.at) (on e.at st)
-      (apply z.program (deeper z.program M) (form.awaiting x) (v ∷ []) w c.env y)
-  await_leads {c = c} true M w v y ls st i fw g = op_leads z i
-      (λ h. outside_leads w y (λ y. awaited z.program (deeper z.program M) true v c.env y) _ fw
-      (λ fr. event_leads (event_of v y.state) fr g))
-  await_leads {c = c} false M w v y ls st i fw g = op_leads z i
-      (λ h. outside_leads w y (λ y. awaited z.program (deeper z.program M) false v c.env y) _ fw
-      (λ fr. task_leads M (task_of v) fr g))
-
-  -- Signal, behind its event and a value; `vs` are the operands behind the event
-  abbrev Carries : List Val → Val → Type 0
-  Carries [] v = v ≡ unit
-  Carries (u ∷ []) v = u ≡ v
-  Carries (u ∷ (x ∷ vs)) v = ⊥
-
-  pub signal_leads : {j n : ℕ} {c : Ctx} {o : Around} {out : Way} {s e : Spot} (M : ℕ) (w : Bool) (x : Val) (vs : List Val) (v : Val)
-      (y : World) (ls st : List Val) → Carries vs v → Stands z (fits c.handlers) c.size out s (one op.Signal s) e →
-      free c.handlers c.life.noted c.below ≡ w → Good n c.who.path o c.held c.also c.size y.state ls →
-      LeadsTo z j n c o y.behind y.tasks (at c o y.state ls (v ∷ x ∷ st) s.at) (on e.at st)
-      (apply z.program (deeper z.program M) form.signalling (x ∷ vs) w c.env y)
-  signal_leads {j} {n} {c} {o} {s = s} M w x vs v y ls st h i fw g = op_leads z i
-      (λ b. outside_leads w y (λ y. signal_told z.program (deeper z.program M) vs x c.env y) _ fw
-      (λ fr. told vs h (record {
-        go = λ r k. let fi = g.fine in
-            signal_goes z c s.at st ls o.own fr (agrees g) j n o r y (event_of x y.state) v fi.steps fi.low fi.apart k b.fit;
-      })))
-    where
-      told : (vs : List Val) → Carries vs v → {q : Step} → LeadsTo z j n c o y.behind y.tasks q (on (suc s.at) st)
-          (told_plain (signal_sent (event_of x y.state) v y.state) c.env y) →
-          LeadsTo z j n c o y.behind y.tasks q (on (suc s.at) st) (signal_told z.program (deeper z.program M) vs x c.env y)
-      told [] h {q} l = subst (λ v. LeadsTo z j n c o y.behind y.tasks q (on (suc s.at) st)
-          (told_plain (signal_sent (event_of x y.state) v y.state) c.env y)) h l
-      told (u ∷ []) h {q} l = subst (λ v. LeadsTo z j n c o y.behind y.tasks q (on (suc s.at) st)
-          (told_plain (signal_sent (event_of x y.state) v y.state) c.env y)) (sym h) l
-      told (u ∷ (t ∷ vs)) h l = absurd h
+  pub awaits_lead : (top : ℕ) → AwaitsLead z top
+  awaits_lead top = record {
+    of_task = λ entry w M j n c o y ls st a h fw lt lM g. does_leads z h.is
+        (outside_leads w y (λ y. awaited z.program (deeper z.program M) false (task entry) c.env y) _ fw
+        (λ fr. task_leads M (Some entry) fr g));
+    of_event = λ e w M j n c o y ls st a h fw lt lM g. does_leads z h.is
+        (outside_leads w y (λ y. awaited z.program (deeper z.program M) true (event e) c.env y) _ fw
+        (λ fr. event_leads (event_of (event e) y.state) fr g));
+  }
 
   module _ (differ : ℕ → ℕ → Bool) (top : ℕ) where
     pub sleep_leads : (n : ℕ) (pl : Place) (d : ℕ) → EvLeads z differ top (tree n pl (t.Shape.sleep d))
