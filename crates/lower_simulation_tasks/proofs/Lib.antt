@@ -7,3 +7,4 @@ pub mod Waits
 pub mod Begins
 pub mod Defers
 pub mod Deferring
+pub mod Spawns
