@@ -54,7 +54,7 @@ pub record TablesAgree (p : Program) : Type 0 where
   -- each default of such a class stands behind all functions
   pub defaults : (n c : ℕ) → ref_at p n ≡ Some (ref.Class c) → Every (DefaultPlaced p) (fields_of p c)
 
-same_some : {A : Type 0} {a c : A} → Some a ≡ Some c → a ≡ c
+pub same_some : {A : Type 0} {a c : A} → Some a ≡ Some c → a ≡ c
 same_some e = cc
 
 pub every_map : {A : Type 0} (P Q : A → Type 0) (xs : List A) → ((x : A) → P x → Q x) → Every P xs → Every Q xs
@@ -68,7 +68,7 @@ every_at P (y ∷ xs) (suc i) x e h = every_at P xs i x e h.1
 
 -- ---- Main
 
-at_behind : {A : Type 0} (xs ys : List A) (y : A) (n : ℕ) → length xs ≡ n → slice_get (xs ++ (y ∷ ys)) n ≡ Some y
+pub at_behind : {A : Type 0} (xs ys : List A) (y : A) (n : ℕ) → length xs ≡ n → slice_get (xs ++ (y ∷ ys)) n ≡ Some y
 at_behind [] ys y zero h = refl
 at_behind [] ys y (suc n) h = absurd (omega (arith, h))
 at_behind (x ∷ xs) ys y zero h = absurd (omega (arith, h))

@@ -8,3 +8,4 @@ pub mod Standings
 pub mod Agreeing
 pub mod Bodies
 pub mod Programs
+pub mod Numbering
