@@ -27,7 +27,7 @@ use Rattle.lower_simulation_values.proofs.Tables.{Every, with_object, CallsLead,
 use Rattle.lower_simulation_runs.proofs.Entering.{BodyLeads, called_leads, started_leads, default_leads, by_bound}
 use Rattle.lower_simulation_runs.proofs.Binding.{Bound, object_scope, call_bound, can_bind, params_many, locals_many}
 use Rattle.lower_simulation_runs.proofs.Standings.{Stood}
-use Rattle.lower_simulation_runs.proofs.Agreeing.{AllStand, names_of, every_map}
+use Rattle.lower_simulation_runs.proofs.Placing.{AllStand, names_of, every_map}
 
 module _ (z : Setting) (differ : ℕ → ℕ → Bool) where
   -- the body of a function, from where its code stands

@@ -5,7 +5,7 @@ pub mod Firm
 pub mod FirmForms
 pub mod Binding
 pub mod Standings
-pub mod Agreeing
+pub mod Placing
+pub mod Numbering
 pub mod Bodies
 pub mod Programs
-pub mod Numbering

@@ -18,7 +18,7 @@ use Rattle.lower_code.specs.Scopes.{constant_at}
 use Rattle.lower_code.specs.Defaults.{with_default, with_defaults, defaults_in, field_place, default_number}
 use Rattle.lower_code.specs.Programs.{Body, body_of, methods_in, bodies_in, default_body, default_bodies, all_bodies}
 use Rattle.lower_simulation_values.proofs.Tables.{Every}
-use Rattle.lower_simulation_runs.proofs.Agreeing.{TablesAgree, ClassPlaced, DefaultPlaced, MethodPlaced, default_of, bodies, same_some, at_behind}
+use Rattle.lower_simulation_runs.proofs.Placing.{FunctionsPlaced, ClassPlaced, DefaultPlaced, MethodPlaced, default_of, bodies, same_some, at_behind}
 
 -- a function of the items, or a method of a class
 pub data Defined : Type 0 where
@@ -57,8 +57,8 @@ Distinct (n ∷ ns) = Absent n ns × Distinct ns
 abbrev pub field_number : FieldTree → ℕ
 field_number f = f.number
 
--- the tables of a program are made of its items
-pub record TablesOfItems (p : Program) : Type 0 where
+-- the tables of a program number the functions and methods of its items in their order
+pub record TablesAgree (p : Program) : Type 0 where
   -- the f-th function or method has the node that entry f of the table names
   pub numbers : map (λ (f : FunInfo). f.item) p.names.funs ≡ map number_in (defined_in p.items)
   pub distinct : Distinct (map number_in (defined_in p.items))
@@ -302,9 +302,9 @@ from_covered all cs zero (Some c) h k = k
 from_covered all cs (suc n) (Some c) h k = every_both (Covered all) (fields_from n cs (parent_of cs c.parent)) (own_fields c.members)
     (from_covered all cs n (parent_of cs c.parent) h (parent_covered all cs c.parent h)) k
 
--- ---- the tables agree
+-- ---- all of them
 
-module _ (p : Program) (made : TablesOfItems p) where
+module _ (p : Program) (made : TablesAgree p) where
   many_functions : length p.names.funs ≡ length (bodies_in p.items)
   many_functions = sym (length-map p.names.funs (λ (f : FunInfo). f.item)) ∙ ap (λ ns. length ns) made.numbers ∙
       length-map (defined_in p.items) number_in ∙ sym (length-map (defined_in p.items) body_in) ∙
@@ -329,8 +329,8 @@ module _ (p : Program) (made : TablesOfItems p) where
   every_placed [] h = tt
   every_placed (f ∷ fs) h = (default_placed f h.0, every_placed fs h.1)
 
-  pub tables_agree : TablesAgree p
-  tables_agree = record {
+  pub functions_placed : FunctionsPlaced p
+  functions_placed = record {
     functions = λ n f fn h e.
         let r = made.functions n f h in
         placed f (a_function r.0) r.1 ∙

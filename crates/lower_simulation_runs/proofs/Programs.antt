@@ -1,24 +1,28 @@
 -- A whole program: its run is seen alike in its meaning and in its code.
 use Rattle.std.proofs.Common.{◌≡◌, ℕ, zero, suc, ◌≤◌, List, [], ◌∷◌, length, Some, None, Bool, refl, sym, ap, ◌∙◌, subst, arith}
-use Rattle.std.specs.Prelude.{ℤ}
+use Rattle.std.specs.Prelude.{ℤ, slice_get}
 use Rattle.verse_tree.specs.Tree.{Tree}
 use Rattle.verse_tree.specs.ItemTree.{FunTree, ParamTree}
+use Rattle.verse_code.specs.declared.codes.Func.{Func}
 use Rattle.verse_code.specs.Validity.{Valid}
 use Rattle.verse_value.specs.Val.{Val}
 use Rattle.verse_meaning.specs.Programs.{Program, main_in}
-use Rattle.verse_meaning.specs.Runs.{forest_leaves, mean}
+use Rattle.verse_meaning.specs.Residuals.{Env}
+use Rattle.verse_meaning.specs.Runs.{forest_leaves, mean, with_params}
 use Rattle.verse_meaning.specs.Runs as meaning
 use Rattle.verse_code_machine.specs.Tasks.{tree_waits}
 use Rattle.verse_code_machine.specs.Runs.{mach_after, mach}
 use Rattle.verse_code_machine.specs.Runs as machine
 use Rattle.verse_code_machine.specs.Laws.{RunsEnd}
 use Rattle.lower_code.specs.Programs.{Body, code_of}
-use Rattle.lower_simulation.proofs.Claims.{seen_of}
+use Rattle.lower_simulation.proofs.Claims.{Setting, seen_of}
 use Rattle.lower_simulation_values.proofs.Tables.{Every}
+use Rattle.lower_simulation_runs.proofs.Entering.{BodyLeads}
 use Rattle.lower_simulation_runs.proofs.Starting.{runs_alike, runs_same}
 use Rattle.lower_simulation_runs.proofs.Binding.{call_bound, can_bind, params_many}
 use Rattle.lower_simulation_runs.proofs.Standings.{setting}
-use Rattle.lower_simulation_runs.proofs.Agreeing.{TablesAgree, bodies, all_stand, names_of}
+use Rattle.lower_simulation_runs.proofs.Placing.{bodies, all_stand, names_of}
+use Rattle.lower_simulation_runs.proofs.Numbering.{TablesAgree, functions_placed}
 use Rattle.lower_simulation_runs.proofs.Bodies.{FormsLead, claims, body_leads}
 
 -- Main is there, and takes no argument or the inputs
@@ -40,37 +44,46 @@ inputs_many (x ∷ xs) ns h = omega (arith, h)
 module _ (p : Program) (differ : ℕ → ℕ → Bool) (files steps until : ℕ) (agree : TablesAgree p) (main : HasMain p) (Fit : Tree → Type 0)
     (fit : Every (λ (b : Body). Fit b.body) (bodies p)) (forms : FormsLead (setting p differ files steps until) differ Fit)
     (ends : RunsEnd) (valid : Valid (code_of p differ files)) (ns : List ℤ) where
+  abbrev z : Setting
+  z = setting p differ files steps until
+
+  -- what is known of Main, with its inputs
+  record Begins : Type 0 where
+    func : Func
+    env : Env
+    is : slice_get z.code.functions z.code.main ≡ Some func
+    inputs : machine.inputs_of func.params ns ≡ meaning.inputs_of main.function.params ns
+    bound : with_params main.function.params (meaning.inputs_of main.function.params ns) [] ≡ Some env
+    body : BodyLeads z steps main.function.body func env (meaning.inputs_of main.function.params ns)
+
+  begins : Begins
+  begins =
+      let st = all_stand p differ files steps until (functions_placed p agree) Fit fit in
+      let fn : FunTree = main.function in
+      let m = st.main fn main.is in
+      let vs : List Val = meaning.inputs_of fn.params ns in
+      let many : length vs ≡ length fn.params = inputs_many fn.params ns main.few in
+      let e = can_bind fn.params vs [] many in
+      let pm = params_many fn.params [] in
+      let pa = m.2.params in
+      record {
+        func = m.0;
+        env = e.0;
+        is = m.1;
+        inputs = same_inputs fn.params m.0.params ns (omega (arith, pm, pa));
+        bound = e.1;
+        body = body_leads z differ steps fn.body m.0 (names_of fn None) e.0 vs
+            (λ t le. forms t (claims z differ Fit forms st t) fn.body m.3) m.2 (call_bound None fn.params vs e.0 m.0 e.1)
+            (omega (arith, many, pm, pa));
+      }
+
   -- after each number of turns the same is seen of both
   pub whole_alike : (k : ℕ) → seen_of tree_waits (mach_after (code_of p differ files) ns steps until k) ≡
       seen_of forest_leaves (meaning.after p ns steps until k)
-  whole_alike k =
-      let z = setting p differ files steps until in
-      let st = all_stand p differ files steps until agree Fit fit in
-      let fn : FunTree = main.function in
-      let m = st.main fn main.is in
-      let vs : List Val = meaning.inputs_of fn.params ns in
-      let many : length vs ≡ length fn.params = inputs_many fn.params ns main.few in
-      let e = can_bind fn.params vs [] many in
-      let pm = params_many fn.params [] in
-      let pa = m.2.params in
-      runs_alike z ns fn m.0 e.0 m.1 main.is (same_inputs fn.params m.0.params ns (omega (arith, pm, pa))) e.1
-      (body_leads z differ steps fn.body m.0 (names_of fn None) e.0 vs
-      (λ t le. forms t (claims z differ Fit forms st t) fn.body m.3) m.2 (call_bound None fn.params vs e.0 m.0 e.1) (omega (arith, many, pm, pa)))
-      ends valid k
+  whole_alike k = let b = begins in
+      runs_alike z ns main.function b.func b.env b.is main.is b.inputs b.bound b.body ends valid k
 
   -- and so they come to the same
   pub whole_same : mach (code_of p differ files) ns steps until ≡ mean p ns steps until
-  whole_same =
-      let z = setting p differ files steps until in
-      let st = all_stand p differ files steps until agree Fit fit in
-      let fn : FunTree = main.function in
-      let m = st.main fn main.is in
-      let vs : List Val = meaning.inputs_of fn.params ns in
-      let many : length vs ≡ length fn.params = inputs_many fn.params ns main.few in
-      let e = can_bind fn.params vs [] many in
-      let pm = params_many fn.params [] in
-      let pa = m.2.params in
-      runs_same z ns fn m.0 e.0 m.1 main.is (same_inputs fn.params m.0.params ns (omega (arith, pm, pa))) e.1
-      (body_leads z differ steps fn.body m.0 (names_of fn None) e.0 vs
-      (λ t le. forms t (claims z differ Fit forms st t) fn.body m.3) m.2 (call_bound None fn.params vs e.0 m.0 e.1) (omega (arith, many, pm, pa)))
-      ends valid
+  whole_same = let b = begins in
+      runs_same z ns main.function b.func b.env b.is main.is b.inputs b.bound b.body ends valid

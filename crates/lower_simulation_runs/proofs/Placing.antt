@@ -1,4 +1,4 @@
--- What ties the tables of a program to the order of its functions; and that the tables of its code then agree with them.
+-- Where functions, methods and defaults stand among the bodies of a program; and the tables of its code.
 use Rattle.std.proofs.Common.{◌≡◌, ℕ, zero, suc, ◌+◌, ◌≤◌, List, [], ◌∷◌, ◌++◌, length, map, Option, Some, None, Bool, true, false, cond, refl}
 use Rattle.std.proofs.Common.{sym, ap, ◌∙◌, subst, arith, append_assoc}
 use Rattle.std.specs.Prelude.{slice_get}
@@ -42,8 +42,8 @@ pub record ClassPlaced (p : Program) (c : ℕ) : Type 0 where
   pub is : slice_get p.names.classes c ≡ Some info
   pub many : length info.fields ≡ length (fields_of p c)
 
--- the tables of a program number its functions and methods in the order in which they stand among its items
-pub record TablesAgree (p : Program) : Type 0 where
+-- each function, method and default stands at the place of its number
+pub record FunctionsPlaced (p : Program) : Type 0 where
   -- what a name stands for as a function is one, at the place of its number
   pub functions : (n f : ℕ) (fn : FunTree) → ref_at p n ≡ Some (ref.Fun f) → fun_at p f ≡ Some fn →
       slice_get (bodies p) f ≡ Some (body_of [] fn)
@@ -129,7 +129,7 @@ class_at (x ∷ ks) (suc c) k h = class_at ks c k h
 func_is : {a c : Func} {r : Option Func} → r ≡ Some a → r ≡ Some c → a ≡ c
 func_is e h = cc
 
-module _ (p : Program) (differ : ℕ → ℕ → Bool) (files steps until : ℕ) (agree : TablesAgree p) where
+module _ (p : Program) (differ : ℕ → ℕ → Bool) (files steps until : ℕ) (agree : FunctionsPlaced p) where
   abbrev z : Setting
   z = setting p differ files steps until
 
