@@ -10,4 +10,5 @@ pub mod Texts
 pub mod Made
 pub mod Targets
 pub mod Writes
+pub mod Assigned
 pub mod Members
