@@ -11,4 +11,5 @@ pub mod Made
 pub mod Targets
 pub mod Writes
 pub mod Assigned
+pub mod Instances
 pub mod Members
