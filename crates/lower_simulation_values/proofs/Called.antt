@@ -62,7 +62,7 @@ module _ (z : Setting) (differ : ℕ → ℕ → Bool) (top : ℕ) where
 
   -- ---- forms without an operand for the callee
 
-  alone_leads : (f : Form) → IsPlain z differ top f → (ts : Trees) → All_lead z differ top ts → (fit : Bool) →
+  pub alone_leads : (f : Form) → IsPlain z differ top f → (ts : Trees) → All_lead z differ top ts → (fit : Bool) →
       ((c : Ctx) (st : List Val) → Applied z differ top f [] (how_many ts) fit c st st) →
       Leads z differ top (λ ss a. nothing then low.args z.program differ ts ss a then finish f (how_many ts) fit)
       (λ w M e y. all_args z.program (deeper z.program M) ts f [] w e y)
@@ -70,42 +70,42 @@ module _ (z : Setting) (differ : ℕ → ℕ → Bool) (top : ℕ) where
       let r = then_stand z s e nothing (low.args z.program differ ts ss a then finish f (how_many ts) fit) i in
       applied_leads z differ top f pf ts hs fit [] ss a s e out w M j n c o y ls st st (ha c st) r.1 sc fw lt lM ab g
 
-  own_leads : Tables z → CallsLead z top → (m : ℕ) (ts : Trees) → All_lead z differ top ts → Leads z differ top
+  -- a method of `Self`, which lies beneath the arguments, where it is
+  pub own_leads : (f : Form) → IsPlain z differ top f → (ts : Trees) → All_lead z differ top ts →
+      ((c : Ctx) (obj : Val) (st : List Val) → look this_name c.env ≡ Some (form.constant obj) →
+      Applied z differ top f [] (how_many ts) true c (obj ∷ st) st) →
+      ((c : Ctx) (below st : List Val) → constant_of (look this_name c.env) ≡ None →
+      Applied z differ top f [] (how_many ts) false c below st) → Leads z differ top
       (λ ss a. push_fixed (this_found ss) then low.args z.program differ ts ss (up a) then
-      finish (form.calling_own m) (how_many ts) (is_fixed (this_found ss)))
-      (λ w M e y. all_args z.program (deeper z.program M) ts (form.calling_own m) [] w e y)
-  own_leads tables calls m ts hs ss a s e out w M j n c o y ls st i sc fw lt lM ab g =
-      by (this_found ss) (look this_name c.env) refl (looked this_name c.held ss c.env sc.fits) i
+      finish f (how_many ts) (is_fixed (this_found ss))) (λ w M e y. all_args z.program (deeper z.program M) ts f [] w e y)
+  own_leads f pf ts hs there none ss a s e out w M j n c o y ls st i sc fw lt lM ab g =
+      by (this_found ss) (looked this_name c.held ss c.env sc.fits) i
     where
-      args_code : Found → Maker
-      args_code r = low.args z.program differ ts ss (up a) then finish (form.calling_own m) (how_many ts) (is_fixed r)
+      rest : Bool → Maker
+      rest t = low.args z.program differ ts ss (up a) then finish f (how_many ts) t
 
-      without : (x : Stands z (fits c.handlers) c.size out s ((one op.Unit then low.args z.program differ ts ss (up a) then
-          finish (form.calling_own m) (how_many ts) false) s) e) → constant_of (look this_name c.env) ≡ None →
-          LeadsTo z j n c o y.behind y.tasks (at c o y.state ls st s.at) (on e.at st)
-          (all_args z.program (deeper z.program M) ts (form.calling_own m) [] w c.env y)
+      without : Stands z (fits c.handlers) c.size out s ((one op.Unit then rest false) s) e → constant_of (look this_name c.env) ≡ None →
+          LeadsTo z j n c o y.behind y.tasks (at c o y.state ls st s.at) (on e.at st) (all_args z.program (deeper z.program M) ts f [] w c.env y)
       without x h =
-          let r = then_stand z s e (one op.Unit) (low.args z.program differ ts ss (up a) then finish (form.calling_own m) (how_many ts) false) x in
+          let r = then_stand z s e (one op.Unit) (rest false) x in
           does_leads z (op_stands z r.0).is (open_leads z _ (op_stands z r.0).fit
-          (applied_leads z differ top (form.calling_own m) (λ l vs e w. refl) ts hs false [] ss (up a) _ e out w M j n c o y ls (unit ∷ st) st
-          (own_wrong z differ top m (how_many ts) c (unit ∷ st) st h) r.1 (on_one sc) fw lt lM ab g))
+          (applied_leads z differ top f pf ts hs false [] ss (up a) _ e out w M j n c o y ls (unit ∷ st) st (none c (unit ∷ st) st h) r.1
+          (on_one sc) fw lt lM ab g))
 
-      by : (r : Found) (b : Option Bound) → look this_name c.env ≡ b → Looked r b c.held →
-          Stands z (fits c.handlers) c.size out s ((push_fixed r then low.args z.program differ ts ss (up a) then
-          finish (form.calling_own m) (how_many ts) (is_fixed r)) s) e → LeadsTo z j n c o y.behind y.tasks
-          (at c o y.state ls st s.at) (on e.at st) (all_args z.program (deeper z.program M) ts (form.calling_own m) [] w c.env y)
-      by (fixed l) b h k x =
-          let r = then_stand z s e (one (op.Get l)) (low.args z.program differ ts ss (up a) then
-          finish (form.calling_own m) (how_many ts) true) x in
+      by : (r : Found) → Looked r (look this_name c.env) c.held →
+          Stands z (fits c.handlers) c.size out s ((push_fixed r then rest (is_fixed r)) s) e → LeadsTo z j n c o y.behind y.tasks
+          (at c o y.state ls st s.at) (on e.at st) (all_args z.program (deeper z.program M) ts f [] w c.env y)
+      by (fixed l) k x =
+          let r = then_stand z s e (one (op.Get l)) (rest true) x in
           does_leads z (op_stands z r.0).is (there_leads z y.state _ (in_holds l k.0 ls k.2 g.holds) (open_leads z _ (op_stands z r.0).fit
-          (applied_leads z differ top (form.calling_own m) (λ l vs e w. refl) ts hs true [] ss (up a) _ e out w M j n c o y ls (k.0 ∷ st) st
-          (own_applied z differ top tables calls m (how_many ts) c k.0 st (h ∙ k.1)) r.1 (on_one sc) fw lt lM ab g)))
-      by (varies l) b h k x = without x (ap constant_of (h ∙ k.1))
-      by absent b h k x = without x (ap constant_of (h ∙ k))
+          (applied_leads z differ top f pf ts hs true [] ss (up a) _ e out w M j n c o y ls (k.0 ∷ st) st (there c k.0 st k.1) r.1 (on_one sc)
+          fw lt lM ab g)))
+      by (varies l) k x = without x (ap constant_of k.1)
+      by absent k x = without x (ap constant_of k)
 
   -- ---- events and tasks
 
-  outside_leads : {j n : ℕ} {c : Ctx} {o : Around} {b : form.Scopes} {f : Tasks} {into : Target} (w : Bool) (y : World) (go : World → Outcome)
+  pub outside_leads : {j n : ℕ} {c : Ctx} {o : Around} {b : form.Scopes} {f : Tasks} {into : Target} (w : Bool) (y : World) (go : World → Outcome)
       (q : Step) → free c.handlers c.life.noted c.below ≡ w → (free c.handlers c.life.noted c.below ≡ true → LeadsTo z j n c o b f q into (go y)) →
       LeadsTo z j n c o b f (only_where (free c.handlers c.life.noted c.below) y.state q) into (outside w y go)
   unfolding outside
@@ -118,14 +118,14 @@ module _ (z : Setting) (differ : ℕ → ℕ → Bool) (top : ℕ) where
   signal_calm (Some e) u y = refl
 
   -- what is stuck, where the meaning is wrong too
-  outside_stuck : {j n : ℕ} {c : Ctx} {o : Around} {y : World} {ls st : List Val} {size : ℕ} {out : Way} {s e : Spot} {into : Target} (w : Bool)
+  pub outside_stuck : {j n : ℕ} {c : Ctx} {o : Around} {y : World} {ls st : List Val} {size : ℕ} {out : Way} {s e : Spot} {into : Target} (w : Bool)
       (go : World → Outcome) → go y ≡ halted (wrong y.state) → Stands z (fits c.handlers) size out s (stuck s) e →
       LeadsTo z j n c o y.behind y.tasks (at c o y.state ls st s.at) into (outside w y go)
   unfolding outside
   outside_stuck true go h x = is_leads z h (stuck_leads z differ top x)
   outside_stuck false go h x = does_leads z (op_stands z x).is (record { go = λ g h. over _ h })
 
-  signalling_applied : (n : ℕ) (c : Ctx) (a : Val) (st : List Val) → Applied z differ top form.signalling (a ∷ []) n true c (a ∷ st) st
+  pub signalling_applied : (n : ℕ) (c : Ctx) (a : Val) (st : List Val) → Applied z differ top form.signalling (a ∷ []) n true c (a ∷ st) st
   signalling_applied zero c a st [] q = λ s e out w M j m o y ls x fw lt lM g.
       let r = then_stand z s e (one op.Unit) (one op.Signal) x in
       does_leads z (op_stands z r.0).is (open_leads z _ (op_stands z r.0).fit (op_leads z r.1 (λ k.
@@ -154,7 +154,7 @@ module _ (z : Setting) (differ : ℕ → ℕ → Bool) (top : ℕ) where
   await_done claim true c u st s e out w M j m o y ls x fw lt lM g = does_leads z (op_stands z x).is
       (outside_leads w y (λ y. awaited z.program (deeper z.program M) true u c.env y) _ fw (λ fr. record { go = λ g h. over _ h }))
 
-  awaiting_applied : AwaitsLead z top → (is_event : Bool) (n : ℕ) (c : Ctx) (a : Val) (st : List Val) →
+  pub awaiting_applied : AwaitsLead z top → (is_event : Bool) (n : ℕ) (c : Ctx) (a : Val) (st : List Val) →
       Applied z differ top (form.awaiting is_event) (a ∷ []) n true c (a ∷ st) st
   awaiting_applied claim is_event n c a st ws q = by_none z differ top (form.awaiting is_event) (a ∷ []) (one (awaiting is_event)) n ws q c
       (a ∷ st) st (await_done claim is_event c a st) (λ u us M w e y. refl)
@@ -199,7 +199,9 @@ module _ (z : Setting) (differ : ℕ → ℕ → Bool) (top : ℕ) where
   callee_leads tables calls aw whole pl b ts vc vr hv hm hs hq q (a_function f is) =
       alone_leads (form.calling f) (λ l vs e w. refl) ts hs (takes_params z.program differ (fun_at z.program f) (how_many ts))
       (λ c st. calling_applied z differ top tables calls f is (how_many ts) c st)
-  callee_leads tables calls aw whole pl b ts vc vr hv hm hs hq q (own_method m) = own_leads tables calls m ts hs
+  callee_leads tables calls aw whole pl b ts vc vr hv hm hs hq q (own_method m) = own_leads (form.calling_own m)
+      (λ l vs e w. refl) ts hs (λ c obj st h. own_applied z differ top tables calls m (how_many ts) c obj st h)
+      (λ c below st h. own_wrong z differ top m (how_many ts) c below st h)
   callee_leads tables calls aw whole pl b ts vc vr hv hm hs hq q prints = alone_leads (form.printing pl) (λ l vs e w. refl) ts hs true
       (λ c st. printing_applied z differ top pl (how_many ts) c st)
   callee_leads tables calls aw whole pl b ts vc vr hv hm hs hq q takes_modulo = alone_leads form.taking_modulo (λ l vs e w. refl) ts hs true

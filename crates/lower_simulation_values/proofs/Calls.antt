@@ -105,7 +105,7 @@ module _ (z : Setting) (differ : ℕ → ℕ → Bool) (top : ℕ) where
       by (Some fn) h x = fitting fn h (nat_eq (length fn.params) n) refl x
 
   -- the method of an object: a function in both tables, or none
-  method_leads : Tables z → (m : ℕ) (obj : Val) (ws : List Val) {j n : ℕ} {c : Ctx} {o : Around} {b : Scopes} {f : Tasks} {into : Target}
+  pub method_leads : Tables z → (m : ℕ) (obj : Val) (ws : List Val) {j n : ℕ} {c : Ctx} {o : Around} {b : Scopes} {f : Tasks} {into : Target}
       (y : World) (run : Func → Step) (go : ℕ → Outcome) →
       ((q : ℕ) (fn : FunTree) (fc : Func) → Is_method z q → fun_at z.program q ≡ Some fn → slice_get z.code.functions q ≡ Some fc →
       length ws ≡ length fn.params → LeadsTo z j n c o b f (run fc) into (go q)) →

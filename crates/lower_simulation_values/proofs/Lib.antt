@@ -12,4 +12,5 @@ pub mod Targets
 pub mod Writes
 pub mod Assigned
 pub mod Instances
+pub mod Spawned
 pub mod Members
