@@ -92,7 +92,7 @@ module _ (z : Setting) (differ : ℕ → ℕ → Bool) (top : ℕ) where
       LeadsTo z j m c o y.behind y.tasks (at c o y.state ls stk s.at) (on e.at st) (apply z.program (deeper z.program M) f vs w c.env y)
 
   pub wrong_done : (f : Form) (vs : List Val) (c : Ctx) (stk st : List Val) → Wrong f vs → Done f vs stuck c stk st
-  wrong_done f vs c stk st h s e out w M j m o y ls x fw lt lM g = is_leads z (h M w c.env y) (stuck_leads z differ top x)
+  wrong_done f vs c stk st h s e out w M j m o y ls x fw lt lM g = is_leads z (h M w c.env y) (stuck_leads z x)
 
   pub by_none : (f : Form) (vs : List Val) (x : Maker) (n : ℕ) (ws : List Val) → length ws ≡ n → (c : Ctx) (below st : List Val) →
       Done f vs x c below st → ((v : Val) (ws : List Val) → Wrong f (vs ++ v ∷ ws)) → Done f (vs ++ ws) (with_none n x) c (stacked ws below) st

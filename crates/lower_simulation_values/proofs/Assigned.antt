@@ -57,7 +57,7 @@ module _ (z : Setting) (differ : ℕ → ℕ → Bool) (top : ℕ) where
       subst (λ k. LeadsTo z j n c o y.behind y.tasks (at c o y.state ls k s.at) (on e.at st)
       (told (slot_written (slot_of base) (split_last u us).0 (mode_of x) (split_last u us).1 cell y.state) pl c.env y))
       (sym (stacked_last u us (cell ∷ st)))
-      (storing_leads z differ top x keep pl (slot_of base) i s.place (split_last u us).0 (split_last u us).1 cell (split_many u us ∙ q) r.0 sc
+      (storing_leads z x keep pl (slot_of base) i s.place (split_last u us).0 (split_last u us).1 cell (split_many u us ∙ q) r.0 sc
       r.1 g)
 
   -- behind all operands
@@ -74,7 +74,7 @@ module _ (z : Setting) (differ : ℕ → ℕ → Bool) (top : ℕ) where
       ((M : ℕ) (ws : List Val) (y : World) →
       stored z.program (deeper z.program M) (base_for r) ws (mode_of x) pl c.env y ≡ halted (wrong y.state)) →
       Written x keep pl r i ss false c below st out
-  unwritten x keep pl r i ss c below st out h ws q s e w M j m o y ls k g = is_leads z (h M ws y) (stuck_leads z differ top k)
+  unwritten x keep pl r i ss c below st out h ws q s e w M j m o y ls k g = is_leads z (h M ws y) (stuck_leads z k)
 
   -- the cell lies beneath the operands
   written_beneath : {a : Where} (x : Assign) (keep : Bool) (pl : Place) (r : Root) (i : ℕ) (ss : Names) (c : Ctx) (cell : Val) (st : List Val)

@@ -39,6 +39,25 @@ use Rattle.lower_simulation_values.proofs.Callees.{a_value, sort_of}
 use Rattle.lower_simulation_values.proofs.Calls.{calling_applied, method_applied, own_applied, own_wrong, printing_applied, modulo_applied}
 use Rattle.lower_simulation_values.proofs.Calls.{flooring_applied, ceiling_applied, indexing_applied, picking_done}
 
+module _ (z : Setting) where
+  -- ---- where no failure context is open
+
+  pub outside_leads : {j n : ℕ} {c : Ctx} {o : Around} {b : form.Scopes} {f : Tasks} {into : Target} (w : Bool) (y : World) (go : World → Outcome)
+      (q : Step) → free c.handlers c.life.noted c.below ≡ w → (free c.handlers c.life.noted c.below ≡ true → LeadsTo z j n c o b f q into (go y)) →
+      LeadsTo z j n c o b f (only_where (free c.handlers c.life.noted c.below) y.state q) into (outside w y go)
+  unfolding outside
+  outside_leads {c = c} true y go q fw h = open_leads z y.state fw (h fw)
+  outside_leads {j} {n} {c} {o} {b} {f} {into} false y go q fw h =
+      subst (λ t. LeadsTo z j n c o b f (only_where t y.state q) into (halted (jammed y.state))) (sym fw) (record { go = λ g k. over _ k })
+
+  -- what is stuck, where the meaning is wrong too
+  pub outside_stuck : {j n : ℕ} {c : Ctx} {o : Around} {y : World} {ls st : List Val} {size : ℕ} {out : Way} {s e : Spot} {into : Target} (w : Bool)
+      (go : World → Outcome) → go y ≡ halted (wrong y.state) → Stands z (fits c.handlers) size out s (stuck s) e →
+      LeadsTo z j n c o y.behind y.tasks (at c o y.state ls st s.at) into (outside w y go)
+  unfolding outside
+  outside_stuck true go h x = is_leads z h (stuck_leads z x)
+  outside_stuck false go h x = does_leads z (op_stands z x).is (record { go = λ g h. over _ h })
+
 module _ (z : Setting) (differ : ℕ → ℕ → Bool) (top : ℕ) where
   -- the object of a member
   abbrev pub Member_part : Shape → Type 0
@@ -105,42 +124,26 @@ module _ (z : Setting) (differ : ℕ → ℕ → Bool) (top : ℕ) where
 
   -- ---- events and tasks
 
-  pub outside_leads : {j n : ℕ} {c : Ctx} {o : Around} {b : form.Scopes} {f : Tasks} {into : Target} (w : Bool) (y : World) (go : World → Outcome)
-      (q : Step) → free c.handlers c.life.noted c.below ≡ w → (free c.handlers c.life.noted c.below ≡ true → LeadsTo z j n c o b f q into (go y)) →
-      LeadsTo z j n c o b f (only_where (free c.handlers c.life.noted c.below) y.state q) into (outside w y go)
-  unfolding outside
-  outside_leads {c = c} true y go q fw h = open_leads z y.state fw (h fw)
-  outside_leads {j} {n} {c} {o} {b} {f} {into} false y go q fw h =
-      subst (λ t. LeadsTo z j n c o b f (only_where t y.state q) into (halted (jammed y.state))) (sym fw) (record { go = λ g k. over _ k })
-
   signal_calm : (e : Option ℕ) (u : Val) (y : World) → Calmly z (signal_sent e u y.state) y.state
   signal_calm None u y = tt
   signal_calm (Some e) u y = refl
-
-  -- what is stuck, where the meaning is wrong too
-  pub outside_stuck : {j n : ℕ} {c : Ctx} {o : Around} {y : World} {ls st : List Val} {size : ℕ} {out : Way} {s e : Spot} {into : Target} (w : Bool)
-      (go : World → Outcome) → go y ≡ halted (wrong y.state) → Stands z (fits c.handlers) size out s (stuck s) e →
-      LeadsTo z j n c o y.behind y.tasks (at c o y.state ls st s.at) into (outside w y go)
-  unfolding outside
-  outside_stuck true go h x = is_leads z h (stuck_leads z differ top x)
-  outside_stuck false go h x = does_leads z (op_stands z x).is (record { go = λ g h. over _ h })
 
   pub signalling_applied : (n : ℕ) (c : Ctx) (a : Val) (st : List Val) → Applied z differ top form.signalling (a ∷ []) n true c (a ∷ st) st
   signalling_applied zero c a st [] q = λ s e out w M j m o y ls x fw lt lM g.
       let r = then_stand z s e (one op.Unit) (one op.Signal) x in
       does_leads z (op_stands z r.0).is (open_leads z _ (op_stands z r.0).fit (op_leads z r.1 (λ k.
-      outside_leads w y (λ y. signal_told z.program (deeper z.program M) [] a c.env y) _ fw (λ fr.
+      outside_leads z w y (λ y. signal_told z.program (deeper z.program M) [] a c.env y) _ fw (λ fr.
       told_plain_leads z (signal_sent (event_of a y.state) unit y.state) c.env k.fit (signal_calm (event_of a y.state) unit y) g))))
   signalling_applied zero c a st (u ∷ ws) q = absurd (omega (arith, q))
   signalling_applied (suc zero) c a st [] q = absurd (omega (arith, q))
   signalling_applied (suc zero) c a st (u ∷ []) q = λ s e out w M j m o y ls x fw lt lM g. op_leads z x (λ k.
-      outside_leads w y (λ y. signal_told z.program (deeper z.program M) (u ∷ []) a c.env y) _ fw (λ fr.
+      outside_leads z w y (λ y. signal_told z.program (deeper z.program M) (u ∷ []) a c.env y) _ fw (λ fr.
       told_plain_leads z (signal_sent (event_of a y.state) u y.state) c.env k.fit (signal_calm (event_of a y.state) u y) g))
   signalling_applied (suc zero) c a st (u ∷ (r ∷ ws)) q = absurd (omega (arith, q))
   signalling_applied (suc (suc n)) c a st [] q = absurd (omega (arith, q))
   signalling_applied (suc (suc n)) c a st (u ∷ []) q = absurd (omega (arith, q))
   signalling_applied (suc (suc n)) c a st (u ∷ (r ∷ ws)) q = λ s e out w M j m o y ls x fw lt lM g.
-      outside_stuck w (λ y. signal_told z.program (deeper z.program M) (u ∷ r ∷ ws) a c.env y) refl x
+      outside_stuck z w (λ y. signal_told z.program (deeper z.program M) (u ∷ r ∷ ws) a c.env y) refl x
 
   await_done : AwaitsLead z top → (is_event : Bool) (c : Ctx) (a : Val) (st : List Val) →
       Done z differ top (form.awaiting is_event) (a ∷ []) (one (awaiting is_event)) c (a ∷ st) st
@@ -150,9 +153,9 @@ module _ (z : Setting) (differ : ℕ → ℕ → Bool) (top : ℕ) where
   await_done claim true c (v.event entry) st s e out w M j m o y ls x fw lt lM g =
       end_leads z x.ends (claim.of_event entry w M j m c o y ls st s.at (record { is = (op_stands z x).is }) fw lt lM g)
   await_done claim false c u st s e out w M j m o y ls x fw lt lM g = does_leads z (op_stands z x).is
-      (outside_leads w y (λ y. awaited z.program (deeper z.program M) false u c.env y) _ fw (λ fr. record { go = λ g h. over _ h }))
+      (outside_leads z w y (λ y. awaited z.program (deeper z.program M) false u c.env y) _ fw (λ fr. record { go = λ g h. over _ h }))
   await_done claim true c u st s e out w M j m o y ls x fw lt lM g = does_leads z (op_stands z x).is
-      (outside_leads w y (λ y. awaited z.program (deeper z.program M) true u c.env y) _ fw (λ fr. record { go = λ g h. over _ h }))
+      (outside_leads z w y (λ y. awaited z.program (deeper z.program M) true u c.env y) _ fw (λ fr. record { go = λ g h. over _ h }))
 
   pub awaiting_applied : AwaitsLead z top → (is_event : Bool) (n : ℕ) (c : Ctx) (a : Val) (st : List Val) →
       Applied z differ top (form.awaiting is_event) (a ∷ []) n true c (a ∷ st) st
@@ -167,14 +170,14 @@ module _ (z : Setting) (differ : ℕ → ℕ → Bool) (top : ℕ) where
   quotient_leads : (f : Form) → IsPlain z differ top f → ((c : Ctx) (st : List Val) → Applied z differ top f [] 2 true c st st) →
       (ts : Trees) → Quotient_lead ts → Leads z differ top (λ ss a. low.quotient z.program differ ts ss a then finish f 2 true)
       (λ w M e y. quotient z.program (deeper z.program M) ts f w e y)
-  quotient_leads f pf ha no_trees h ss a s e out w M j n c o y ls st i sc fw lt lM ab g = stuck_leads z differ top
+  quotient_leads f pf ha no_trees h ss a s e out w M j n c o y ls st i sc fw lt lM ab g = stuck_leads z
       (then_stand z s e stuck (finish f 2 true) i).0
   quotient_leads f pf ha (more_trees (tree m pl (t.Shape.chained x b u)) ts) h ss a s e out w M j n c o y ls st i sc fw lt lM ab g =
       let r = then_stand z s e (piece z.program differ b ss a then piece z.program differ u ss (up a)) (finish f 2 true) i in
       let r2 = then_stand z s _ (piece z.program differ b ss a) (piece z.program differ u ss (up a)) r.0 in
       args_leads z differ top (more_trees b (more_trees u no_trees)) (h.0, (h.1, tt)) f pf ss a s _ out w M j n c o y ls st [] (on e.at st)
       (r2.0, (to_end r2.1, r2.1.ends)) sc fw lt lM ab g (λ ws q w M i m fw le lM o y ls g. ha c st ws q _ e out w M i m o y ls r.1 fw (trans le lt) lM g)
-  quotient_leads f pf ha (more_trees (tree m pl x) ts) h ss a s e out w M j n c o y ls st i sc fw lt lM ab g = stuck_leads z differ top
+  quotient_leads f pf ha (more_trees (tree m pl x) ts) h ss a s e out w M j n c o y ls st i sc fw lt lM ab g = stuck_leads z
       (then_stand z s e stuck (finish f 2 true) i).0
 
   -- ---- by what the callee stands for

@@ -115,7 +115,7 @@ module _ (z : Setting) (differ : ℕ → ℕ → Bool) (top : ℕ) where
       operand_leads z differ top f pf b hs.0 (givens_list gs) vs ss a s out w M j n c o y ls st into r.0 sc fw lt lM ab g
       (λ w M j k fw le lM o v y ls g.
       let q = puts ls l v (subst (λ n. l < n) (sym g.sized) p.1) in
-      let gd = good_put z differ top sc q g in
+      let gd = good_put sc q g in
       does_leads z p.0.is (there_leads z y.state _ q.is (open_leads z y.state p.0.fit
       (holding_leads z c c.env [] ((l, v) ∷ []) (in_turn z differ top f (vs ++ v ∷ []) (givens_list gs) w M c.env y)
       (given_leads gs hs.1 f pf (hidden ∷ ss) a (past m (put_away l m)) e out w M j k (giving c l (v ∷ [])) o y q.locals st (vs ++ v ∷ []) into
@@ -150,12 +150,12 @@ module _ (z : Setting) (differ : ℕ → ℕ → Bool) (top : ℕ) where
         by : (d : Option Tree) → f.default ≡ d → Stands z (fits c.handlers) c.size out s (field_op z.program differ None d f.number s) e →
             LeadsTo z j n c o y.behind y.tasks (at c o y.state ls0 st s.at) into (field_filled z.program (deeper z.program M) None d w c.env y
             (form.filling c.env class pl fs (given_names gs) vs slots) (λ v y. Filled fs (slots ++ v ∷ []) w M c.env y))
-        by None h x = stuck_leads z differ top x
+        by None h x = stuck_leads z x
         by (Some d) h x =
             let q = th d h in
             value_leads z (on (suc s.at) st) into _ (form.filling c.env class pl fs (given_names gs) vs slots)
             (λ w M v y. Filled fs (slots ++ v ∷ []) w M c.env y) fw lM (λ r. refl) (λ r M w. refl) (λ r M w. refl) (λ l r n v y. refl)
-            (does_leads z (op_stands z x).is (there_leads z y.state _ q.is (many_leads z differ top {ws = []} y.state _ (sym q.many)
+            (does_leads z (op_stands z x).is (there_leads z y.state _ q.is (many_leads z {ws = []} y.state _ (sym q.many)
             (open_leads z y.state (op_stands z x).fit
             (cl d q.func h q.is w M j n c o y ls0 st (suc s.at) fw lt lM (op_stands z x).fit g)))))
             (λ w M i m fw le lM o v y ls g. start_leads z x.ends (fin v w M i m fw le lM o y ls g))
@@ -205,8 +205,8 @@ module _ (z : Setting) (differ : ℕ → ℕ → Bool) (top : ℕ) where
       (λ ws q w M i n1 fw le lM o y ls g. fields_lead class pl gs ws l c.also q fs (tables.defaults class is) (defaults class is) []
       (giving c l ws) refl out m (past m (fields m)) w M i n1 o y ls st (on e.at st) r2.0 fw (trans le lt) lM g
       (λ us q1 w M i n2 fw lq lM o y ls g. op_leads z r2.1 (λ x. there_leads z y.state _ k.is
-      (many_leads z differ top y.state _ (q1 ∙ sym k.many)
-      (told_leads z (object_made class us y.state) pl c.env r2.1.places.0 x.fit (added_calm z differ top _ _ y.state) g))))))
+      (many_leads z y.state _ (q1 ∙ sym k.many)
+      (told_leads z (object_made class us y.state) pl c.env r2.1.places.0 x.fit (added_calm z _ _ y.state) g))))))
 
   pub instance_leads : Tables z → DefaultsLead z top → (n : ℕ) (pl : Place) (x : Bytes) (gs : Givens) → Givens_lead gs →
       EvLeads z differ top (tree n pl (t.Shape.instance x gs))
@@ -218,11 +218,11 @@ module _ (z : Setting) (differ : ℕ → ℕ → Bool) (top : ℕ) where
           (λ w M e y. if_known (class_ref z.program r) y
           (λ c. given_args z.program (deeper z.program M) gs (form.instancing c (given_names gs) pl) [] w e y))
       by (Some (ref.Class c)) h = class_leads tables defaults c (n, h) pl gs hs
-      by None h = λ ss a s e out w M j n c o y ls st i sc fw lt lM ab g. stuck_leads z differ top i
-      by (Some (ref.Field q u)) h = λ ss a s e out w M j n c o y ls st i sc fw lt lM ab g. stuck_leads z differ top i
-      by (Some (ref.Local q)) h = λ ss a s e out w M j n c o y ls st i sc fw lt lM ab g. stuck_leads z differ top i
-      by (Some (ref.Key q)) h = λ ss a s e out w M j n c o y ls st i sc fw lt lM ab g. stuck_leads z differ top i
-      by (Some (ref.Method q u)) h = λ ss a s e out w M j n c o y ls st i sc fw lt lM ab g. stuck_leads z differ top i
-      by (Some (ref.Fun q)) h = λ ss a s e out w M j n c o y ls st i sc fw lt lM ab g. stuck_leads z differ top i
-      by (Some (ref.Enum q)) h = λ ss a s e out w M j n c o y ls st i sc fw lt lM ab g. stuck_leads z differ top i
-      by (Some (ref.Builtin q)) h = λ ss a s e out w M j n c o y ls st i sc fw lt lM ab g. stuck_leads z differ top i
+      by None h = λ ss a s e out w M j n c o y ls st i sc fw lt lM ab g. stuck_leads z i
+      by (Some (ref.Field q u)) h = λ ss a s e out w M j n c o y ls st i sc fw lt lM ab g. stuck_leads z i
+      by (Some (ref.Local q)) h = λ ss a s e out w M j n c o y ls st i sc fw lt lM ab g. stuck_leads z i
+      by (Some (ref.Key q)) h = λ ss a s e out w M j n c o y ls st i sc fw lt lM ab g. stuck_leads z i
+      by (Some (ref.Method q u)) h = λ ss a s e out w M j n c o y ls st i sc fw lt lM ab g. stuck_leads z i
+      by (Some (ref.Fun q)) h = λ ss a s e out w M j n c o y ls st i sc fw lt lM ab g. stuck_leads z i
+      by (Some (ref.Enum q)) h = λ ss a s e out w M j n c o y ls st i sc fw lt lM ab g. stuck_leads z i
+      by (Some (ref.Builtin q)) h = λ ss a s e out w M j n c o y ls st i sc fw lt lM ab g. stuck_leads z i

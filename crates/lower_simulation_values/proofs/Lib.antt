@@ -2,6 +2,7 @@ pub mod Tables
 pub mod Operands
 pub mod Operators
 pub mod Names
+pub mod Unfit
 pub mod Applied
 pub mod Callees
 pub mod Calls

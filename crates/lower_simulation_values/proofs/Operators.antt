@@ -63,28 +63,12 @@ IsSum oper.And = ⊥
 IsSum oper.Or = ⊥
 IsSum oper.Div = ⊥
 
-module _ (z : Setting) (differ : ℕ → ℕ → Bool) (top : ℕ) where
+module _ (z : Setting) where
   pub many_leads : {j n : ℕ} {c : Ctx} {o : Around} {b : Scopes} {f : Tasks} {into : Target} {r : Outcome} {x : ℕ} {ws st : List Val}
       (s : State) (go : List Val → List Val → Step) → length ws ≡ x → LeadsTo z j n c o b f (go ws st) into r →
       LeadsTo z j n c o b f (on_many x (stacked ws st) [] s go) into r
   many_leads {j} {n} {c} {o} {b} {f} {into} {r} {x} {ws} {st} s go h l = subst (λ u. LeadsTo z j n c o b f u into r)
       (sym (popped x ws st s go h)) l
-
-  pub integer_leads : (n : ℕ) (pl : Place) (v : ℤ) → EvLeads z differ top (tree n pl (t.Shape.integer v))
-  integer_leads n pl v ss a s e out w M j m c o y ls st i sc fw lt lM ab g = op_leads z i (λ h. open_leads z _ h.fit (value_here z g))
-
-  pub character_leads : (n : ℕ) (pl : Place) (v : ℕ) → EvLeads z differ top (tree n pl (t.Shape.character v))
-  character_leads n pl v ss a s e out w M j m c o y ls st i sc fw lt lM ab g = op_leads z i (λ h. open_leads z _ h.fit (value_here z g))
-
-  pub truth_leads : (n : ℕ) (pl : Place) → EvLeads z differ top (tree n pl t.Shape.truth)
-  truth_leads n pl ss a s e out w M j m c o y ls st i sc fw lt lM ab g = op_leads z i (λ h. open_leads z _ h.fit (value_here z g))
-
-  pub falsehood_leads : (n : ℕ) (pl : Place) → EvLeads z differ top (tree n pl t.Shape.falsehood)
-  falsehood_leads n pl ss a s e out w M j m c o y ls st i sc fw lt lM ab g = op_leads z i (λ h. open_leads z _ h.fit (value_here z g))
-
-  pub text_leads : (n : ℕ) (pl : Place) (bs : Bytes) → EvLeads z differ top (tree n pl (t.Shape.text bs))
-  text_leads n pl bs ss a s e out w M j m c o y ls st i sc fw lt lM ab g = op_leads z i
-      (λ h. there_leads z y.state _ i.texts.0 (open_leads z _ h.fit (value_here z g)))
 
   -- the operation of an operator, on two operands; `and` has none, and its first operand is gone
   computed_leads : (q : Operator) (b : Bool) (pl : Place) (v u : Val) (s e : Spot) (out : Way) (j n : ℕ) (c : Ctx) (o : Around)
@@ -105,6 +89,29 @@ module _ (z : Setting) (differ : ℕ → ℕ → Bool) (top : ℕ) where
   computed_leads oper.Or b pl v u s e out j n c o y ls st env d i g = absurd d
   computed_leads oper.Div b pl v u s e out j n c o y ls st env d i g = absurd d
 
+  told_here : (pl : Place) (c : Ctx) (o : Around) (y : World) (ls st : List Val) (v : Val) (env : Env) (p i m : ℕ) →
+      Good m c.who.path o c.held c.also c.size y.state ls →
+      LeadsTo z i m c o y.behind y.tasks (at c o y.state ls (v ∷ st) p) (on p st) (told (still (gives v) y.state) pl env y)
+  unfolding told
+  told_here pl c o y ls st v env p i m g = value_here z g
+
+module _ (z : Setting) (differ : ℕ → ℕ → Bool) (top : ℕ) where
+  pub integer_leads : (n : ℕ) (pl : Place) (v : ℤ) → EvLeads z differ top (tree n pl (t.Shape.integer v))
+  integer_leads n pl v ss a s e out w M j m c o y ls st i sc fw lt lM ab g = op_leads z i (λ h. open_leads z _ h.fit (value_here z g))
+
+  pub character_leads : (n : ℕ) (pl : Place) (v : ℕ) → EvLeads z differ top (tree n pl (t.Shape.character v))
+  character_leads n pl v ss a s e out w M j m c o y ls st i sc fw lt lM ab g = op_leads z i (λ h. open_leads z _ h.fit (value_here z g))
+
+  pub truth_leads : (n : ℕ) (pl : Place) → EvLeads z differ top (tree n pl t.Shape.truth)
+  truth_leads n pl ss a s e out w M j m c o y ls st i sc fw lt lM ab g = op_leads z i (λ h. open_leads z _ h.fit (value_here z g))
+
+  pub falsehood_leads : (n : ℕ) (pl : Place) → EvLeads z differ top (tree n pl t.Shape.falsehood)
+  falsehood_leads n pl ss a s e out w M j m c o y ls st i sc fw lt lM ab g = op_leads z i (λ h. open_leads z _ h.fit (value_here z g))
+
+  pub text_leads : (n : ℕ) (pl : Place) (bs : Bytes) → EvLeads z differ top (tree n pl (t.Shape.text bs))
+  text_leads n pl bs ss a s e out w M j m c o y ls st i sc fw lt lM ab g = op_leads z i
+      (λ h. there_leads z y.state _ i.texts.0 (open_leads z _ h.fit (value_here z g)))
+
   sum_leads : (q : Operator) → IsSum q → (n : ℕ) (pl : Place) (x u : Tree) → EvLeads z differ top x → EvLeads z differ top u →
       (ss : Names) (a : Where) (s e : Spot) (out : Way) (w : Bool) (M j m : ℕ) (c : Ctx) (o : Around) (y : World) (ls st : List Val) →
       Stands z (fits c.handlers) c.size out s ((pc.◌then◌ (piece z.program differ x ss a)
@@ -121,7 +128,7 @@ module _ (z : Setting) (differ : ℕ → ℕ → Bool) (top : ℕ) where
       args_leads z differ top (more_trees x (more_trees u no_trees)) (hx, (hu, tt)) (form.computing q (z.program.is_array n) pl)
           (λ l vs e w. refl) ss a s _ out w M j m c o y ls st [] (on e.at st) (r.0, (r2.0, refl)) sc fw lt lM ab g
       (two_finish z differ top _ _ (λ v u w M i m fw le lM o y ls g.
-          computed_leads q (z.program.is_array n) pl v u _ e out i m c o y ls st c.env d r2.1 g))
+          computed_leads z q (z.program.is_array n) pl v u _ e out i m c o y ls st c.env d r2.1 g))
 
   pub added_leads : (n : ℕ) (pl : Place) (x u : Tree) → EvLeads z differ top x → EvLeads z differ top u →
       EvLeads z differ top (tree n pl (t.Shape.chained oper.Add x u))
@@ -134,12 +141,6 @@ module _ (z : Setting) (differ : ℕ → ℕ → Bool) (top : ℕ) where
   pub multiplied_leads : (n : ℕ) (pl : Place) (x u : Tree) → EvLeads z differ top x → EvLeads z differ top u →
       EvLeads z differ top (tree n pl (t.Shape.chained oper.Mul x u))
   multiplied_leads n pl x u hx hu = sum_leads oper.Mul tt n pl x u hx hu
-
-  told_here : (pl : Place) (c : Ctx) (o : Around) (y : World) (ls st : List Val) (v : Val) (env : Env) (p i m : ℕ) →
-      Good m c.who.path o c.held c.also c.size y.state ls →
-      LeadsTo z i m c o y.behind y.tasks (at c o y.state ls (v ∷ st) p) (on p st) (told (still (gives v) y.state) pl env y)
-  unfolding told
-  told_here pl c o y ls st v env p i m g = value_here z g
 
   pub both_leads : (n : ℕ) (pl : Place) (x u : Tree) → EvLeads z differ top x → EvLeads z differ top u →
       EvLeads z differ top (tree n pl (t.Shape.chained oper.And x u))
@@ -156,7 +157,7 @@ module _ (z : Setting) (differ : ℕ → ℕ → Bool) (top : ℕ) where
       value_leads z _ _ _ _ (λ w M v2 y. apply z.program (deeper z.program M) f (v ∷ v2 ∷ []) w c.env y) fw lM (λ r. refl)
           (λ r M w. refl) (λ r M w. refl) (λ l x n v y. refl)
       (hu ss a _ e out w M i m c o y ls st r2.1 sc fw (trans le lt) lM ab g)
-          (λ w M i m fw le lM o v2 y ls g. told_here pl c o y ls st v2 c.env e.at i m g))))
+          (λ w M i m fw le lM o v2 y ls g. told_here z pl c o y ls st v2 c.env e.at i m g))))
 
   -- operands as they stand in the code
   pub args_stand : (ts : Trees) (ss : Names) (a : Where) (ok : ℕ → Bool) (size : ℕ) (out : Way) (s e : Spot) →
@@ -171,7 +172,7 @@ module _ (z : Setting) (differ : ℕ → ℕ → Bool) (top : ℕ) where
       args_leads z differ top ts hs (form.making_tuple pl) (λ l vs e w. refl) ss a s _ out w M j m c o y ls st [] (on e.at st)
           (args_stand ts ss a (fits c.handlers) c.size out s _ r.0) sc fw lt lM ab g
       (λ ws q w M i m fw le lM o y ls g. op_leads z r.1 (λ h.
-          many_leads _ _ q (told_leads z (still (tuple_of ws) y.state) pl c.env r.1.places.0 h.fit
+          many_leads z _ _ q (told_leads z (still (tuple_of ws) y.state) pl c.env r.1.places.0 h.fit
           (still_calm z (tuple_of ws) y.state) g)))
 
   pub array_leads : (n : ℕ) (pl : Place) (ts : Trees) → All_lead z differ top ts → EvLeads z differ top (tree n pl (t.Shape.array ts))
@@ -180,5 +181,5 @@ module _ (z : Setting) (differ : ℕ → ℕ → Bool) (top : ℕ) where
       args_leads z differ top ts hs (form.making_array pl) (λ l vs e w. refl) ss a s _ out w M j m c o y ls st [] (on e.at st)
           (args_stand ts ss a (fits c.handlers) c.size out s _ r.0) sc fw lt lM ab g
       (λ ws q w M i m fw le lM o y ls g. op_leads z r.1 (λ h.
-          many_leads _ _ q (told_leads z (still (array_of ws) y.state) pl c.env r.1.places.0 h.fit
+          many_leads z _ _ q (told_leads z (still (array_of ws) y.state) pl c.env r.1.places.0 h.fit
           (still_calm z (array_of ws) y.state) g)))

@@ -59,16 +59,16 @@ module _ (z : Setting) (differ : ℕ → ℕ → Bool) (top : ℕ) where
       fitting fn h true h2 x =
           let th = tables.functions f is fn h in
           let many : length ws ≡ length fn.params = q ∙ sym (eqb-true (length fn.params) n h2) in
-          op_leads z x (λ k. outside_leads z differ top w y (λ y. (deeper z.program M).spawns f None ws c.env y) _ fw (λ fr.
-          there_leads z y.state _ th.is (many_leads z differ top _ _ (many ∙ sym th.many)
+          op_leads z x (λ k. outside_leads z w y (λ y. (deeper z.program M).spawns f None ws c.env y) _ fw (λ fr.
+          there_leads z y.state _ th.is (many_leads z _ _ (many ∙ sym th.many)
           (spawn f None fn th.func ws is h th.is many M j m c o y ls st (suc s.at) fr lt lM k.fit g))))
-      fitting fn h false h2 x = outside_stuck z differ top w (λ y. (deeper z.program M).spawns f None ws c.env y)
+      fitting fn h false h2 x = outside_stuck z w (λ y. (deeper z.program M).spawns f None ws c.env y)
           (spawns_wrong z f None ws y M c.env (other_many fn h (λ r. eqb-false (length fn.params) n h2 (sym r ∙ q)))) x
 
       by : (r : Option FunTree) → fun_at z.program f ≡ r → Stands z (fits c.handlers) c.size out s
           (when_else (takes_params z.program differ r n) (one (op.Spawn f)) s) e → LeadsTo z j m c o y.behind y.tasks
           (at c o y.state ls (stacked ws st) s.at) (on e.at st) (outside w y (λ y. (deeper z.program M).spawns f None ws c.env y))
-      by None h x = outside_stuck z differ top w (λ y. (deeper z.program M).spawns f None ws c.env y)
+      by None h x = outside_stuck z w (λ y. (deeper z.program M).spawns f None ws c.env y)
           (spawns_wrong z f None ws y M c.env (unknown h)) x
       by (Some fn) h x = fitting fn h (nat_eq (length fn.params) n) refl x
 
@@ -80,12 +80,12 @@ module _ (z : Setting) (differ : ℕ → ℕ → Bool) (top : ℕ) where
       (at c o y.state ls (stacked ws (obj ∷ st)) s.at) (on e.at st)
       (outside w y (λ y. method_spawned z.program (deeper z.program M) m obj ws c.env y))
   method_op_leads tables spawn m obj ws n q {s = s} w M j i c o y ls st x fw lt lM g =
-      op_leads z x (λ k. outside_leads z differ top w y (λ y. method_spawned z.program (deeper z.program M) m obj ws c.env y) _ fw (λ fr.
-      many_leads z differ top _ _ q (subst (λ n. LeadsTo z j i c o y.behind y.tasks
+      op_leads z x (λ k. outside_leads z w y (λ y. method_spawned z.program (deeper z.program M) m obj ws c.env y) _ fw (λ fr.
+      many_leads z _ _ q (subst (λ n. LeadsTo z j i c o y.behind y.tasks
       (on_there (method_of z.code m n obj y.state) y.state (λ (f : Func).
       spawns f (obj ∷ ws) (thread c.who (frame c.life ls st (suc s.at) c.handlers) c.below) o.world y.state)) (on (suc s.at) st)
       (method_spawned z.program (deeper z.program M) m obj ws c.env y)) q
-      (method_leads z differ top tables m obj ws y _ (λ f. (deeper z.program M).spawns f (Some obj) ws c.env y)
+      (method_leads z tables m obj ws y _ (λ f. (deeper z.program M).spawns f (Some obj) ws c.env y)
       (λ f fn fc is h1 h2 e. spawn f (Some obj) fn fc ws is h1 h2 e M j i c o y ls st (suc s.at) fr lt lM k.fit g)
       (λ f h. spawns_wrong z f (Some obj) ws y M c.env h)))))
 
@@ -100,7 +100,7 @@ module _ (z : Setting) (differ : ℕ → ℕ → Bool) (top : ℕ) where
   own_wrong : (m n : ℕ) (c : Ctx) (below st : List Val) → constant_of (look this_name c.env) ≡ None →
       Applied z differ top (form.spawning_own m) [] n false c below st
   unfolding if_known
-  own_wrong m n c below st h ws q s e out w M j i o y ls x fw lt lM g = outside_stuck z differ top w
+  own_wrong m n c below st h ws q s e out w M j i o y ls x fw lt lM g = outside_stuck z w
       (λ y. if_known (this_of c.env) y (λ u. method_spawned z.program (deeper z.program M) m u ws c.env y))
       (ap (λ b. if_known b y (λ u. method_spawned z.program (deeper z.program M) m u ws c.env y)) h) x
 
@@ -134,12 +134,12 @@ module _ (z : Setting) (differ : ℕ → ℕ → Bool) (top : ℕ) where
       (λ c a st. awaiting_applied z differ top aw is_event (how_many ts) c a st)
   callee_leads tables spawn aw whole pl b ts hm hs q (signals {b = x}) =
       first_leads z differ top form.signalling (λ l vs e w. refl) x hm ts hs (λ c a st. signalling_applied z differ top (how_many ts) c a st)
-  callee_leads tables spawn aw whole pl b ts hm hs q floors = λ ss a s e out w M j n c o y ls st i sc fw lt lM ab g. stuck_leads z differ top i
-  callee_leads tables spawn aw whole pl b ts hm hs q ceils = λ ss a s e out w M j n c o y ls st i sc fw lt lM ab g. stuck_leads z differ top i
-  callee_leads tables spawn aw whole pl b ts hm hs q a_value = λ ss a s e out w M j n c o y ls st i sc fw lt lM ab g. stuck_leads z differ top i
+  callee_leads tables spawn aw whole pl b ts hm hs q floors = λ ss a s e out w M j n c o y ls st i sc fw lt lM ab g. stuck_leads z i
+  callee_leads tables spawn aw whole pl b ts hm hs q ceils = λ ss a s e out w M j n c o y ls st i sc fw lt lM ab g. stuck_leads z i
+  callee_leads tables spawn aw whole pl b ts hm hs q a_value = λ ss a s e out w M j n c o y ls st i sc fw lt lM ab g. stuck_leads z i
 
   pub spawn_leads : Tables z → SpawnsLead z top → AwaitsLead z top → (n : ℕ) (pl : Place) (x : Tree) → Spawned_lead x →
       EvLeads z differ top (tree n pl (t.Shape.spawn x))
   spawn_leads tables spawn aw n pl (tree m q (t.Shape.call b ts)) h = callee_leads tables spawn aw (form.picking None) q b ts h.0 h.1
       (callee_of z.program b (form.picking None) q) (sort_of z (form.picking None) q b)
-  spawn_leads tables spawn aw n pl (tree m q s) h = λ ss a s1 e out w M j n1 c o y ls st i sc fw lt lM ab g. stuck_leads z differ top i
+  spawn_leads tables spawn aw n pl (tree m q s) h = λ ss a s1 e out w M j n1 c o y ls st i sc fw lt lM ab g. stuck_leads z i
