@@ -32,6 +32,7 @@ use Rattle.lower_simulation.proofs.Standing.{Stands, then_stand, op_stands, join
 use Rattle.lower_simulation.proofs.Leading.{LeadsTo, does_leads, open_leads, there_leads, is_leads, told_plain_leads, Calmly}
 use Rattle.lower_simulation.proofs.Forms.{Static, on_one, stacked, op_leads, end_leads, EvLeads, All_lead, IsPlain, args_leads, one_finish}
 use Rattle.lower_simulation_values.proofs.Names.{stuck_leads}
+use Rattle.lower_simulation_values.proofs.Operands.{to_end}
 use Rattle.lower_simulation_values.proofs.Tables.{Tables, CallsLead, AwaitsLead}
 use Rattle.lower_simulation_values.proofs.Applied.{Leads, Applied, Done, applied_leads, first_leads, by_none, wrong_done}
 use Rattle.lower_simulation_values.proofs.Callees.{Sort, a_function, own_method, prints, floors, ceils, takes_modulo, a_method, awaits, signals}
@@ -162,9 +163,6 @@ module _ (z : Setting) (differ : ℕ → ℕ → Bool) (top : ℕ) where
   awaiting_applied claim is_event n c a st ws q = by_none z differ top (form.awaiting is_event) (a ∷ []) (one (awaiting is_event)) n ws q c
       (a ∷ st) st (await_done claim is_event c a st) (λ u us M w e y. refl)
 
-  to_end : {ok : ℕ → Bool} {size : ℕ} {out : Way} {s e : Spot} {p : Piece} → Stands z ok size out s p e → Stands z ok size out s p (past s p)
-  to_end {ok} {size} {out} {s} {e} {p} i = subst (λ (x : Spot). Stands z ok size out s p x) (sym i.ends) i
-
   -- ---- the operands of a quotient, which are no argument of their own
 
   quotient_leads : (f : Form) → IsPlain z differ top f → ((c : Ctx) (st : List Val) → Applied z differ top f [] 2 true c st st) →
@@ -176,7 +174,7 @@ module _ (z : Setting) (differ : ℕ → ℕ → Bool) (top : ℕ) where
       let r = then_stand z s e (piece z.program differ b ss a then piece z.program differ u ss (up a)) (finish f 2 true) i in
       let r2 = then_stand z s _ (piece z.program differ b ss a) (piece z.program differ u ss (up a)) r.0 in
       args_leads z differ top (more_trees b (more_trees u no_trees)) (h.0, (h.1, tt)) f pf ss a s _ out w M j n c o y ls st [] (on e.at st)
-      (r2.0, (to_end r2.1, r2.1.ends)) sc fw lt lM ab g (λ ws q w M i m fw le lM o y ls g. ha c st ws q _ e out w M i m o y ls r.1 fw (trans le lt) lM g)
+      (r2.0, (to_end z r2.1, r2.1.ends)) sc fw lt lM ab g (λ ws q w M i m fw le lM o y ls g. ha c st ws q _ e out w M i m o y ls r.1 fw (trans le lt) lM g)
   quotient_leads f pf ha (more_trees (tree m pl x) ts) h ss a s e out w M j n c o y ls st i sc fw lt lM ab g = stuck_leads z
       (then_stand z s e stuck (finish f 2 true) i).0
 
