@@ -1,5 +1,5 @@
 -- Operands, and the form that is applied to them.
-use Rattle.std.proofs.Common.{◌≡◌, ℕ, zero, suc, ◌+◌, ◌≤◌, List, [], ◌∷◌, ◌++◌, length, Bool, true, false, refl, sym, subst, arith}
+use Rattle.std.proofs.Common.{◌≡◌, ℕ, zero, suc, ◌+◌, ◌≤◌, List, [], ◌∷◌, ◌++◌, length, Bool, true, false, refl, sym, subst, arith, append-nil}
 use Rattle.verse_base.specs.declared.places.Place.{Place}
 use Rattle.verse_tree.specs.Tree.{Tree, tree, Shape, Trees, no_trees, more_trees}
 use Rattle.verse_tree.specs.Tree as t
@@ -92,15 +92,11 @@ module _ (z : Setting) (differ : ℕ → ℕ → Bool) (top : ℕ) where
       LeadsTo z j m c o y.behind y.tasks (at c o y.state ls stk s.at) (on e.at st) (apply z.program (deeper z.program M) f vs w c.env y)
 
   pub wrong_done : (f : Form) (vs : List Val) (c : Ctx) (stk st : List Val) → Wrong f vs → Done f vs stuck c stk st
-  wrong_done f vs c stk st h s e out w M j m o y ls x fw lt lM g = is_leads z (h M w c.env y) (stuck_leads z differ top x)
+  wrong_done f vs c stk st h s e out w M j m o y ls x fw lt lM g = is_leads z (h M w c.env y) (stuck_leads z x)
 
   pub by_none : (f : Form) (vs : List Val) (x : Maker) (n : ℕ) (ws : List Val) → length ws ≡ n → (c : Ctx) (below st : List Val) →
       Done f vs x c below st → ((v : Val) (ws : List Val) → Wrong f (vs ++ v ∷ ws)) → Done f (vs ++ ws) (with_none n x) c (stacked ws below) st
-  by_none f vs x zero [] q c below st h more = subst (λ u. Done f u x c below st) (append_nothing vs) h
-    where
-      append_nothing : (vs : List Val) → vs ≡ vs ++ []
-      append_nothing [] = refl
-      append_nothing (v ∷ vs) = λ i. v ∷ append_nothing vs i
+  by_none f vs x zero [] q c below st h more = subst (λ u. Done f u x c below st) (sym (append-nil vs)) h
   by_none f vs x zero (v ∷ ws) q c below st h more = absurd (omega (arith, q))
   by_none f vs x (suc n) [] q c below st h more = absurd (omega (arith, q))
   by_none f vs x (suc n) (v ∷ ws) q c below st h more = wrong_done f (vs ++ v ∷ ws) c (stacked (v ∷ ws) below) st (more v ws)

@@ -32,12 +32,32 @@ use Rattle.lower_simulation.proofs.Standing.{Stands, then_stand, op_stands, join
 use Rattle.lower_simulation.proofs.Leading.{LeadsTo, does_leads, open_leads, there_leads, is_leads, told_plain_leads, Calmly}
 use Rattle.lower_simulation.proofs.Forms.{Static, on_one, stacked, op_leads, end_leads, EvLeads, All_lead, IsPlain, args_leads, one_finish}
 use Rattle.lower_simulation_values.proofs.Names.{stuck_leads}
+use Rattle.lower_simulation_values.proofs.Operands.{to_end}
 use Rattle.lower_simulation_values.proofs.Tables.{Tables, CallsLead, AwaitsLead}
 use Rattle.lower_simulation_values.proofs.Applied.{Leads, Applied, Done, applied_leads, first_leads, by_none, wrong_done}
 use Rattle.lower_simulation_values.proofs.Callees.{Sort, a_function, own_method, prints, floors, ceils, takes_modulo, a_method, awaits, signals}
 use Rattle.lower_simulation_values.proofs.Callees.{a_value, sort_of}
 use Rattle.lower_simulation_values.proofs.Calls.{calling_applied, method_applied, own_applied, own_wrong, printing_applied, modulo_applied}
 use Rattle.lower_simulation_values.proofs.Calls.{flooring_applied, ceiling_applied, indexing_applied, picking_done}
+
+module _ (z : Setting) where
+  -- ---- where no failure context is open
+
+  pub outside_leads : {j n : ℕ} {c : Ctx} {o : Around} {b : form.Scopes} {f : Tasks} {into : Target} (w : Bool) (y : World) (go : World → Outcome)
+      (q : Step) → free c.handlers c.life.noted c.below ≡ w → (free c.handlers c.life.noted c.below ≡ true → LeadsTo z j n c o b f q into (go y)) →
+      LeadsTo z j n c o b f (only_where (free c.handlers c.life.noted c.below) y.state q) into (outside w y go)
+  unfolding outside
+  outside_leads {c = c} true y go q fw h = open_leads z y.state fw (h fw)
+  outside_leads {j} {n} {c} {o} {b} {f} {into} false y go q fw h =
+      subst (λ t. LeadsTo z j n c o b f (only_where t y.state q) into (halted (jammed y.state))) (sym fw) (record { go = λ g k. over _ k })
+
+  -- what is stuck, where the meaning is wrong too
+  pub outside_stuck : {j n : ℕ} {c : Ctx} {o : Around} {y : World} {ls st : List Val} {size : ℕ} {out : Way} {s e : Spot} {into : Target} (w : Bool)
+      (go : World → Outcome) → go y ≡ halted (wrong y.state) → Stands z (fits c.handlers) size out s (stuck s) e →
+      LeadsTo z j n c o y.behind y.tasks (at c o y.state ls st s.at) into (outside w y go)
+  unfolding outside
+  outside_stuck true go h x = is_leads z h (stuck_leads z x)
+  outside_stuck false go h x = does_leads z (op_stands z x).is (record { go = λ g h. over _ h })
 
 module _ (z : Setting) (differ : ℕ → ℕ → Bool) (top : ℕ) where
   -- the object of a member
@@ -70,77 +90,61 @@ module _ (z : Setting) (differ : ℕ → ℕ → Bool) (top : ℕ) where
       let r = then_stand z s e nothing (low.args z.program differ ts ss a then finish f (how_many ts) fit) i in
       applied_leads z differ top f pf ts hs fit [] ss a s e out w M j n c o y ls st st (ha c st) r.1 sc fw lt lM ab g
 
-  own_leads : Tables z → CallsLead z top → (m : ℕ) (ts : Trees) → All_lead z differ top ts → Leads z differ top
+  -- a method of `Self`, which lies beneath the arguments, where it is
+  pub own_leads : (f : Form) → IsPlain z differ top f → (ts : Trees) → All_lead z differ top ts →
+      ((c : Ctx) (obj : Val) (st : List Val) → look this_name c.env ≡ Some (form.constant obj) →
+      Applied z differ top f [] (how_many ts) true c (obj ∷ st) st) →
+      ((c : Ctx) (below st : List Val) → constant_of (look this_name c.env) ≡ None →
+      Applied z differ top f [] (how_many ts) false c below st) → Leads z differ top
       (λ ss a. push_fixed (this_found ss) then low.args z.program differ ts ss (up a) then
-      finish (form.calling_own m) (how_many ts) (is_fixed (this_found ss)))
-      (λ w M e y. all_args z.program (deeper z.program M) ts (form.calling_own m) [] w e y)
-  own_leads tables calls m ts hs ss a s e out w M j n c o y ls st i sc fw lt lM ab g =
-      by (this_found ss) (look this_name c.env) refl (looked this_name c.held ss c.env sc.fits) i
+      finish f (how_many ts) (is_fixed (this_found ss))) (λ w M e y. all_args z.program (deeper z.program M) ts f [] w e y)
+  own_leads f pf ts hs there none ss a s e out w M j n c o y ls st i sc fw lt lM ab g =
+      by (this_found ss) (looked this_name c.held ss c.env sc.fits) i
     where
-      args_code : Found → Maker
-      args_code r = low.args z.program differ ts ss (up a) then finish (form.calling_own m) (how_many ts) (is_fixed r)
+      rest : Bool → Maker
+      rest t = low.args z.program differ ts ss (up a) then finish f (how_many ts) t
 
-      without : (x : Stands z (fits c.handlers) c.size out s ((one op.Unit then low.args z.program differ ts ss (up a) then
-          finish (form.calling_own m) (how_many ts) false) s) e) → constant_of (look this_name c.env) ≡ None →
-          LeadsTo z j n c o y.behind y.tasks (at c o y.state ls st s.at) (on e.at st)
-          (all_args z.program (deeper z.program M) ts (form.calling_own m) [] w c.env y)
+      without : Stands z (fits c.handlers) c.size out s ((one op.Unit then rest false) s) e → constant_of (look this_name c.env) ≡ None →
+          LeadsTo z j n c o y.behind y.tasks (at c o y.state ls st s.at) (on e.at st) (all_args z.program (deeper z.program M) ts f [] w c.env y)
       without x h =
-          let r = then_stand z s e (one op.Unit) (low.args z.program differ ts ss (up a) then finish (form.calling_own m) (how_many ts) false) x in
+          let r = then_stand z s e (one op.Unit) (rest false) x in
           does_leads z (op_stands z r.0).is (open_leads z _ (op_stands z r.0).fit
-          (applied_leads z differ top (form.calling_own m) (λ l vs e w. refl) ts hs false [] ss (up a) _ e out w M j n c o y ls (unit ∷ st) st
-          (own_wrong z differ top m (how_many ts) c (unit ∷ st) st h) r.1 (on_one sc) fw lt lM ab g))
+          (applied_leads z differ top f pf ts hs false [] ss (up a) _ e out w M j n c o y ls (unit ∷ st) st (none c (unit ∷ st) st h) r.1
+          (on_one sc) fw lt lM ab g))
 
-      by : (r : Found) (b : Option Bound) → look this_name c.env ≡ b → Looked r b c.held →
-          Stands z (fits c.handlers) c.size out s ((push_fixed r then low.args z.program differ ts ss (up a) then
-          finish (form.calling_own m) (how_many ts) (is_fixed r)) s) e → LeadsTo z j n c o y.behind y.tasks
-          (at c o y.state ls st s.at) (on e.at st) (all_args z.program (deeper z.program M) ts (form.calling_own m) [] w c.env y)
-      by (fixed l) b h k x =
-          let r = then_stand z s e (one (op.Get l)) (low.args z.program differ ts ss (up a) then
-          finish (form.calling_own m) (how_many ts) true) x in
+      by : (r : Found) → Looked r (look this_name c.env) c.held →
+          Stands z (fits c.handlers) c.size out s ((push_fixed r then rest (is_fixed r)) s) e → LeadsTo z j n c o y.behind y.tasks
+          (at c o y.state ls st s.at) (on e.at st) (all_args z.program (deeper z.program M) ts f [] w c.env y)
+      by (fixed l) k x =
+          let r = then_stand z s e (one (op.Get l)) (rest true) x in
           does_leads z (op_stands z r.0).is (there_leads z y.state _ (in_holds l k.0 ls k.2 g.holds) (open_leads z _ (op_stands z r.0).fit
-          (applied_leads z differ top (form.calling_own m) (λ l vs e w. refl) ts hs true [] ss (up a) _ e out w M j n c o y ls (k.0 ∷ st) st
-          (own_applied z differ top tables calls m (how_many ts) c k.0 st (h ∙ k.1)) r.1 (on_one sc) fw lt lM ab g)))
-      by (varies l) b h k x = without x (ap constant_of (h ∙ k.1))
-      by absent b h k x = without x (ap constant_of (h ∙ k))
+          (applied_leads z differ top f pf ts hs true [] ss (up a) _ e out w M j n c o y ls (k.0 ∷ st) st (there c k.0 st k.1) r.1 (on_one sc)
+          fw lt lM ab g)))
+      by (varies l) k x = without x (ap constant_of k.1)
+      by absent k x = without x (ap constant_of k)
 
   -- ---- events and tasks
-
-  pub outside_leads : {j n : ℕ} {c : Ctx} {o : Around} {b : form.Scopes} {f : Tasks} {into : Target} (w : Bool) (y : World) (go : World → Outcome)
-      (q : Step) → free c.handlers c.life.noted c.below ≡ w → (free c.handlers c.life.noted c.below ≡ true → LeadsTo z j n c o b f q into (go y)) →
-      LeadsTo z j n c o b f (only_where (free c.handlers c.life.noted c.below) y.state q) into (outside w y go)
-  unfolding outside
-  outside_leads {c = c} true y go q fw h = open_leads z y.state fw (h fw)
-  outside_leads {j} {n} {c} {o} {b} {f} {into} false y go q fw h =
-      subst (λ t. LeadsTo z j n c o b f (only_where t y.state q) into (halted (jammed y.state))) (sym fw) (record { go = λ g k. over _ k })
 
   signal_calm : (e : Option ℕ) (u : Val) (y : World) → Calmly z (signal_sent e u y.state) y.state
   signal_calm None u y = tt
   signal_calm (Some e) u y = refl
 
-  -- what is stuck, where the meaning is wrong too
-  pub outside_stuck : {j n : ℕ} {c : Ctx} {o : Around} {y : World} {ls st : List Val} {size : ℕ} {out : Way} {s e : Spot} {into : Target} (w : Bool)
-      (go : World → Outcome) → go y ≡ halted (wrong y.state) → Stands z (fits c.handlers) size out s (stuck s) e →
-      LeadsTo z j n c o y.behind y.tasks (at c o y.state ls st s.at) into (outside w y go)
-  unfolding outside
-  outside_stuck true go h x = is_leads z h (stuck_leads z differ top x)
-  outside_stuck false go h x = does_leads z (op_stands z x).is (record { go = λ g h. over _ h })
-
-  signalling_applied : (n : ℕ) (c : Ctx) (a : Val) (st : List Val) → Applied z differ top form.signalling (a ∷ []) n true c (a ∷ st) st
+  pub signalling_applied : (n : ℕ) (c : Ctx) (a : Val) (st : List Val) → Applied z differ top form.signalling (a ∷ []) n true c (a ∷ st) st
   signalling_applied zero c a st [] q = λ s e out w M j m o y ls x fw lt lM g.
       let r = then_stand z s e (one op.Unit) (one op.Signal) x in
       does_leads z (op_stands z r.0).is (open_leads z _ (op_stands z r.0).fit (op_leads z r.1 (λ k.
-      outside_leads w y (λ y. signal_told z.program (deeper z.program M) [] a c.env y) _ fw (λ fr.
+      outside_leads z w y (λ y. signal_told z.program (deeper z.program M) [] a c.env y) _ fw (λ fr.
       told_plain_leads z (signal_sent (event_of a y.state) unit y.state) c.env k.fit (signal_calm (event_of a y.state) unit y) g))))
   signalling_applied zero c a st (u ∷ ws) q = absurd (omega (arith, q))
   signalling_applied (suc zero) c a st [] q = absurd (omega (arith, q))
   signalling_applied (suc zero) c a st (u ∷ []) q = λ s e out w M j m o y ls x fw lt lM g. op_leads z x (λ k.
-      outside_leads w y (λ y. signal_told z.program (deeper z.program M) (u ∷ []) a c.env y) _ fw (λ fr.
+      outside_leads z w y (λ y. signal_told z.program (deeper z.program M) (u ∷ []) a c.env y) _ fw (λ fr.
       told_plain_leads z (signal_sent (event_of a y.state) u y.state) c.env k.fit (signal_calm (event_of a y.state) u y) g))
   signalling_applied (suc zero) c a st (u ∷ (r ∷ ws)) q = absurd (omega (arith, q))
   signalling_applied (suc (suc n)) c a st [] q = absurd (omega (arith, q))
   signalling_applied (suc (suc n)) c a st (u ∷ []) q = absurd (omega (arith, q))
   signalling_applied (suc (suc n)) c a st (u ∷ (r ∷ ws)) q = λ s e out w M j m o y ls x fw lt lM g.
-      outside_stuck w (λ y. signal_told z.program (deeper z.program M) (u ∷ r ∷ ws) a c.env y) refl x
+      outside_stuck z w (λ y. signal_told z.program (deeper z.program M) (u ∷ r ∷ ws) a c.env y) refl x
 
   await_done : AwaitsLead z top → (is_event : Bool) (c : Ctx) (a : Val) (st : List Val) →
       Done z differ top (form.awaiting is_event) (a ∷ []) (one (awaiting is_event)) c (a ∷ st) st
@@ -150,31 +154,28 @@ module _ (z : Setting) (differ : ℕ → ℕ → Bool) (top : ℕ) where
   await_done claim true c (v.event entry) st s e out w M j m o y ls x fw lt lM g =
       end_leads z x.ends (claim.of_event entry w M j m c o y ls st s.at (record { is = (op_stands z x).is }) fw lt lM g)
   await_done claim false c u st s e out w M j m o y ls x fw lt lM g = does_leads z (op_stands z x).is
-      (outside_leads w y (λ y. awaited z.program (deeper z.program M) false u c.env y) _ fw (λ fr. record { go = λ g h. over _ h }))
+      (outside_leads z w y (λ y. awaited z.program (deeper z.program M) false u c.env y) _ fw (λ fr. record { go = λ g h. over _ h }))
   await_done claim true c u st s e out w M j m o y ls x fw lt lM g = does_leads z (op_stands z x).is
-      (outside_leads w y (λ y. awaited z.program (deeper z.program M) true u c.env y) _ fw (λ fr. record { go = λ g h. over _ h }))
+      (outside_leads z w y (λ y. awaited z.program (deeper z.program M) true u c.env y) _ fw (λ fr. record { go = λ g h. over _ h }))
 
-  awaiting_applied : AwaitsLead z top → (is_event : Bool) (n : ℕ) (c : Ctx) (a : Val) (st : List Val) →
+  pub awaiting_applied : AwaitsLead z top → (is_event : Bool) (n : ℕ) (c : Ctx) (a : Val) (st : List Val) →
       Applied z differ top (form.awaiting is_event) (a ∷ []) n true c (a ∷ st) st
   awaiting_applied claim is_event n c a st ws q = by_none z differ top (form.awaiting is_event) (a ∷ []) (one (awaiting is_event)) n ws q c
       (a ∷ st) st (await_done claim is_event c a st) (λ u us M w e y. refl)
-
-  to_end : {ok : ℕ → Bool} {size : ℕ} {out : Way} {s e : Spot} {p : Piece} → Stands z ok size out s p e → Stands z ok size out s p (past s p)
-  to_end {ok} {size} {out} {s} {e} {p} i = subst (λ (x : Spot). Stands z ok size out s p x) (sym i.ends) i
 
   -- ---- the operands of a quotient, which are no argument of their own
 
   quotient_leads : (f : Form) → IsPlain z differ top f → ((c : Ctx) (st : List Val) → Applied z differ top f [] 2 true c st st) →
       (ts : Trees) → Quotient_lead ts → Leads z differ top (λ ss a. low.quotient z.program differ ts ss a then finish f 2 true)
       (λ w M e y. quotient z.program (deeper z.program M) ts f w e y)
-  quotient_leads f pf ha no_trees h ss a s e out w M j n c o y ls st i sc fw lt lM ab g = stuck_leads z differ top
+  quotient_leads f pf ha no_trees h ss a s e out w M j n c o y ls st i sc fw lt lM ab g = stuck_leads z
       (then_stand z s e stuck (finish f 2 true) i).0
   quotient_leads f pf ha (more_trees (tree m pl (t.Shape.chained x b u)) ts) h ss a s e out w M j n c o y ls st i sc fw lt lM ab g =
       let r = then_stand z s e (piece z.program differ b ss a then piece z.program differ u ss (up a)) (finish f 2 true) i in
       let r2 = then_stand z s _ (piece z.program differ b ss a) (piece z.program differ u ss (up a)) r.0 in
       args_leads z differ top (more_trees b (more_trees u no_trees)) (h.0, (h.1, tt)) f pf ss a s _ out w M j n c o y ls st [] (on e.at st)
-      (r2.0, (to_end r2.1, r2.1.ends)) sc fw lt lM ab g (λ ws q w M i m fw le lM o y ls g. ha c st ws q _ e out w M i m o y ls r.1 fw (trans le lt) lM g)
-  quotient_leads f pf ha (more_trees (tree m pl x) ts) h ss a s e out w M j n c o y ls st i sc fw lt lM ab g = stuck_leads z differ top
+      (r2.0, (to_end z r2.1, r2.1.ends)) sc fw lt lM ab g (λ ws q w M i m fw le lM o y ls g. ha c st ws q _ e out w M i m o y ls r.1 fw (trans le lt) lM g)
+  quotient_leads f pf ha (more_trees (tree m pl x) ts) h ss a s e out w M j n c o y ls st i sc fw lt lM ab g = stuck_leads z
       (then_stand z s e stuck (finish f 2 true) i).0
 
   -- ---- by what the callee stands for
@@ -183,7 +184,7 @@ module _ (z : Setting) (differ : ℕ → ℕ → Bool) (top : ℕ) where
   abbrev Object_applied : Form → Trees → Type 0
   Object_applied f ts = (c : Ctx) (a : Val) (st : List Val) → Applied z differ top f (a ∷ []) (how_many ts) true c (a ∷ st) st
 
-  pub callee_leads : Tables z → CallsLead z top → AwaitsLead z top → (whole : Form) (pl : Place) (b : Tree) (ts : Trees)
+  callee_leads : Tables z → CallsLead z top → AwaitsLead z top → (whole : Form) (pl : Place) (b : Tree) (ts : Trees)
       (value_code : Form → Names → Where → Maker) (value_run : Form → Bool → ℕ → Env → World → Outcome) →
       Leads z differ top (value_code whole) (value_run whole) → Member_lead b → All_lead z differ top ts → Quotient_lead ts →
       (q : Callee) → Sort z whole pl b q → Leads z differ top (λ ss a. low.by_callee q
@@ -199,7 +200,9 @@ module _ (z : Setting) (differ : ℕ → ℕ → Bool) (top : ℕ) where
   callee_leads tables calls aw whole pl b ts vc vr hv hm hs hq q (a_function f is) =
       alone_leads (form.calling f) (λ l vs e w. refl) ts hs (takes_params z.program differ (fun_at z.program f) (how_many ts))
       (λ c st. calling_applied z differ top tables calls f is (how_many ts) c st)
-  callee_leads tables calls aw whole pl b ts vc vr hv hm hs hq q (own_method m) = own_leads tables calls m ts hs
+  callee_leads tables calls aw whole pl b ts vc vr hv hm hs hq q (own_method m) = own_leads (form.calling_own m)
+      (λ l vs e w. refl) ts hs (λ c obj st h. own_applied z differ top tables calls m (how_many ts) c obj st h)
+      (λ c below st h. own_wrong z differ top m (how_many ts) c below st h)
   callee_leads tables calls aw whole pl b ts vc vr hv hm hs hq q prints = alone_leads (form.printing pl) (λ l vs e w. refl) ts hs true
       (λ c st. printing_applied z differ top pl (how_many ts) c st)
   callee_leads tables calls aw whole pl b ts vc vr hv hm hs hq q takes_modulo = alone_leads form.taking_modulo (λ l vs e w. refl) ts hs true

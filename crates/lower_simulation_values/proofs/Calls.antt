@@ -74,35 +74,13 @@ in_code : (fs : List Func) (m : ℕ) (k : Option Class) → mf.method_in fs m k 
 in_code fs m None = refl
 in_code fs m (Some k) = refl
 
-module _ (z : Setting) (differ : ℕ → ℕ → Bool) (top : ℕ) where
+module _ (z : Setting) where
   -- a call of what is no function
   misfit_leads : {j n : ℕ} {c : Ctx} {o : Around} {y : World} {ls st : List Val} {size : ℕ} {out : Way} {s e : Spot} {into : Target}
       (f : ℕ) (this : Option Val) (vs : List Val) (M : ℕ) (w : Bool) (env : Env) → Misfit z f this vs y →
       Stands z (fits c.handlers) size out s (stuck s) e → LeadsTo z j n c o y.behind y.tasks (at c o y.state ls st s.at) into
       ((deeper z.program M).calls f this vs w env y)
-  misfit_leads {y = y} f this vs M w env h x = is_leads z (calls_wrong z f this vs y M w env h) (stuck_leads z differ top x)
-
-  pub calling_applied : Tables z → CallsLead z top → (f : ℕ) → Is_function z f → (n : ℕ) (c : Ctx) (st : List Val) →
-      Applied z differ top (form.calling f) [] n (takes_params z.program differ (fun_at z.program f) n) c st st
-  calling_applied tables calls f is n c st ws q s e out w M j m o y ls x fw lt lM g = by (fun_at z.program f) refl x
-    where
-      fitting : (fn : FunTree) → fun_at z.program f ≡ Some fn → (b : Bool) → nat_eq (length fn.params) n ≡ b →
-          Stands z (fits c.handlers) c.size out s (when_else b (one (op.Call f)) s) e →
-          LeadsTo z j m c o y.behind y.tasks (at c o y.state ls (stacked ws st) s.at) (on e.at st)
-          ((deeper z.program M).calls f None ws w c.env y)
-      fitting fn h true h2 x =
-          let th = tables.functions f is fn h in
-          let many : length ws ≡ length fn.params = q ∙ sym (eqb-true (length fn.params) n h2) in
-          op_leads z x (λ k. there_leads z y.state _ th.is (many_leads z differ top _ _ (many ∙ sym th.many)
-          (open_leads z _ k.fit (calls f None fn th.func ws is h th.is many w M j m c o y ls st (suc s.at) fw lt lM k.fit g))))
-      fitting fn h false h2 x = misfit_leads f None ws M w c.env
-          (other_many fn h (λ r. eqb-false (length fn.params) n h2 (sym r ∙ q))) x
-
-      by : (r : Option FunTree) → fun_at z.program f ≡ r → Stands z (fits c.handlers) c.size out s
-          (when_else (takes_params z.program differ r n) (one (op.Call f)) s) e → LeadsTo z j m c o y.behind y.tasks
-          (at c o y.state ls (stacked ws st) s.at) (on e.at st) ((deeper z.program M).calls f None ws w c.env y)
-      by None h x = misfit_leads f None ws M w c.env (unknown h) x
-      by (Some fn) h x = fitting fn h (nat_eq (length fn.params) n) refl x
+  misfit_leads {y = y} f this vs M w env h x = is_leads z (calls_wrong z f this vs y M w env h) (stuck_leads z x)
 
   -- the method of an object: a function in both tables, or none
   pub method_leads : Tables z → (m : ℕ) (obj : Val) (ws : List Val) {j n : ℕ} {c : Ctx} {o : Around} {b : Scopes} {f : Tasks} {into : Target}
@@ -141,43 +119,6 @@ module _ (z : Setting) (differ : ℕ → ℕ → Bool) (top : ℕ) where
           (ap (λ cs. code_method (slice_get cs cl) m) tables.classes ∙ same_method z.program.names.classes cl m)))
           (found cl (method_at z.program cl m) refl)
 
-  -- Method, behind the object and the arguments
-  method_op_leads : Tables z → CallsLead z top → (m : ℕ) (obj : Val) (ws : List Val) (n : ℕ) → length ws ≡ n → {size : ℕ} {out : Way}
-      {s e : Spot} (w : Bool) (M j i : ℕ) (c : Ctx) (o : Around) (y : World) (ls st : List Val) →
-      Stands z (fits c.handlers) size out s (one (op.Method m n) s) e → free c.handlers c.life.noted c.below ≡ w → i ≤ top → i ≤ M →
-      Good i c.who.path o c.held c.also c.size y.state ls → LeadsTo z j i c o y.behind y.tasks
-      (at c o y.state ls (stacked ws (obj ∷ st)) s.at) (on e.at st) (method_called z.program (deeper z.program M) m obj ws w c.env y)
-  method_op_leads tables calls m obj ws n q {s = s} w M j i c o y ls st x fw lt lM g =
-      op_leads z x (λ k. many_leads z differ top _ _ q (subst (λ n. LeadsTo z j i c o y.behind y.tasks
-      (on_there (method_of z.code m n obj y.state) y.state (λ (f : Func). only_where (fits c.handlers (suc s.at)) y.state
-      (enters f (obj ∷ ws) c.who o.world y.state (frame c.life ls st (suc s.at) c.handlers ∷ c.below)))) (on (suc s.at) st)
-      (method_called z.program (deeper z.program M) m obj ws w c.env y)) q
-      (method_leads tables m obj ws y _ (λ f. (deeper z.program M).calls f (Some obj) ws w c.env y)
-      (λ f fn fc is h1 h2 e. open_leads z _ k.fit (calls f (Some obj) fn fc ws is h1 h2 e w M j i c o y ls st (suc s.at) fw lt lM k.fit g))
-      (λ f h. calls_wrong z f (Some obj) ws y M w c.env h))))
-
-  pub method_applied : Tables z → CallsLead z top → (m n : ℕ) (c : Ctx) (obj : Val) (st : List Val) →
-      Applied z differ top (form.calling_method m) (obj ∷ []) n true c (obj ∷ st) st
-  method_applied tables calls m n c obj st ws q s e out w M j i o y ls x fw lt lM g =
-      method_op_leads tables calls m obj ws n q w M j i c o y ls st x fw lt lM g
-
-  -- of `Self`
-  pub own_applied : Tables z → CallsLead z top → (m n : ℕ) (c : Ctx) (obj : Val) (st : List Val) →
-      look this_name c.env ≡ Some (form.constant obj) → Applied z differ top (form.calling_own m) [] n true c (obj ∷ st) st
-  unfolding if_known
-  own_applied tables calls m n c obj st h ws q s e out w M j i o y ls x fw lt lM g =
-      is_leads z (ap (λ b. if_known (constant_of b) y (λ u. method_called z.program (deeper z.program M) m u ws w c.env y)) h)
-      (method_op_leads tables calls m obj ws n q w M j i c o y ls st x fw lt lM g)
-
-  -- where there is no `Self`
-  pub own_wrong : (m n : ℕ) (c : Ctx) (below st : List Val) → constant_of (look this_name c.env) ≡ None →
-      Applied z differ top (form.calling_own m) [] n false c below st
-  unfolding if_known
-  own_wrong m n c below st h ws q s e out w M j i o y ls x fw lt lM g =
-      is_leads z (ap (λ b. if_known b y (λ u. method_called z.program (deeper z.program M) m u ws w c.env y)) h) (stuck_leads z differ top x)
-
-  -- ---- builtin functions
-
   -- a line is printed: the clock stays
   print_calm : (u : Val) (s : State) → Calmly z (line_printed u s) s
   print_calm (v.array vs) s = told_calm (bytes_of vs)
@@ -204,10 +145,70 @@ module _ (z : Setting) (differ : ℕ → ℕ → Bool) (top : ℕ) where
   print_calm (v.mapping x) s = tt
   print_calm (v.tuple x) s = tt
 
+module _ (z : Setting) (differ : ℕ → ℕ → Bool) (top : ℕ) where
+  pub calling_applied : Tables z → CallsLead z top → (f : ℕ) → Is_function z f → (n : ℕ) (c : Ctx) (st : List Val) →
+      Applied z differ top (form.calling f) [] n (takes_params z.program differ (fun_at z.program f) n) c st st
+  calling_applied tables calls f is n c st ws q s e out w M j m o y ls x fw lt lM g = by (fun_at z.program f) refl x
+    where
+      fitting : (fn : FunTree) → fun_at z.program f ≡ Some fn → (b : Bool) → nat_eq (length fn.params) n ≡ b →
+          Stands z (fits c.handlers) c.size out s (when_else b (one (op.Call f)) s) e →
+          LeadsTo z j m c o y.behind y.tasks (at c o y.state ls (stacked ws st) s.at) (on e.at st)
+          ((deeper z.program M).calls f None ws w c.env y)
+      fitting fn h true h2 x =
+          let th = tables.functions f is fn h in
+          let many : length ws ≡ length fn.params = q ∙ sym (eqb-true (length fn.params) n h2) in
+          op_leads z x (λ k. there_leads z y.state _ th.is (many_leads z _ _ (many ∙ sym th.many)
+          (open_leads z _ k.fit (calls f None fn th.func ws is h th.is many w M j m c o y ls st (suc s.at) fw lt lM k.fit g))))
+      fitting fn h false h2 x = misfit_leads z f None ws M w c.env
+          (other_many fn h (λ r. eqb-false (length fn.params) n h2 (sym r ∙ q))) x
+
+      by : (r : Option FunTree) → fun_at z.program f ≡ r → Stands z (fits c.handlers) c.size out s
+          (when_else (takes_params z.program differ r n) (one (op.Call f)) s) e → LeadsTo z j m c o y.behind y.tasks
+          (at c o y.state ls (stacked ws st) s.at) (on e.at st) ((deeper z.program M).calls f None ws w c.env y)
+      by None h x = misfit_leads z f None ws M w c.env (unknown h) x
+      by (Some fn) h x = fitting fn h (nat_eq (length fn.params) n) refl x
+
+  -- Method, behind the object and the arguments
+  method_op_leads : Tables z → CallsLead z top → (m : ℕ) (obj : Val) (ws : List Val) (n : ℕ) → length ws ≡ n → {size : ℕ} {out : Way}
+      {s e : Spot} (w : Bool) (M j i : ℕ) (c : Ctx) (o : Around) (y : World) (ls st : List Val) →
+      Stands z (fits c.handlers) size out s (one (op.Method m n) s) e → free c.handlers c.life.noted c.below ≡ w → i ≤ top → i ≤ M →
+      Good i c.who.path o c.held c.also c.size y.state ls → LeadsTo z j i c o y.behind y.tasks
+      (at c o y.state ls (stacked ws (obj ∷ st)) s.at) (on e.at st) (method_called z.program (deeper z.program M) m obj ws w c.env y)
+  method_op_leads tables calls m obj ws n q {s = s} w M j i c o y ls st x fw lt lM g =
+      op_leads z x (λ k. many_leads z _ _ q (subst (λ n. LeadsTo z j i c o y.behind y.tasks
+      (on_there (method_of z.code m n obj y.state) y.state (λ (f : Func). only_where (fits c.handlers (suc s.at)) y.state
+      (enters f (obj ∷ ws) c.who o.world y.state (frame c.life ls st (suc s.at) c.handlers ∷ c.below)))) (on (suc s.at) st)
+      (method_called z.program (deeper z.program M) m obj ws w c.env y)) q
+      (method_leads z tables m obj ws y _ (λ f. (deeper z.program M).calls f (Some obj) ws w c.env y)
+      (λ f fn fc is h1 h2 e. open_leads z _ k.fit (calls f (Some obj) fn fc ws is h1 h2 e w M j i c o y ls st (suc s.at) fw lt lM k.fit g))
+      (λ f h. calls_wrong z f (Some obj) ws y M w c.env h))))
+
+  pub method_applied : Tables z → CallsLead z top → (m n : ℕ) (c : Ctx) (obj : Val) (st : List Val) →
+      Applied z differ top (form.calling_method m) (obj ∷ []) n true c (obj ∷ st) st
+  method_applied tables calls m n c obj st ws q s e out w M j i o y ls x fw lt lM g =
+      method_op_leads tables calls m obj ws n q w M j i c o y ls st x fw lt lM g
+
+  -- of `Self`
+  pub own_applied : Tables z → CallsLead z top → (m n : ℕ) (c : Ctx) (obj : Val) (st : List Val) →
+      look this_name c.env ≡ Some (form.constant obj) → Applied z differ top (form.calling_own m) [] n true c (obj ∷ st) st
+  unfolding if_known
+  own_applied tables calls m n c obj st h ws q s e out w M j i o y ls x fw lt lM g =
+      is_leads z (ap (λ b. if_known (constant_of b) y (λ u. method_called z.program (deeper z.program M) m u ws w c.env y)) h)
+      (method_op_leads tables calls m obj ws n q w M j i c o y ls st x fw lt lM g)
+
+  -- where there is no `Self`
+  pub own_wrong : (m n : ℕ) (c : Ctx) (below st : List Val) → constant_of (look this_name c.env) ≡ None →
+      Applied z differ top (form.calling_own m) [] n false c below st
+  unfolding if_known
+  own_wrong m n c below st h ws q s e out w M j i o y ls x fw lt lM g =
+      is_leads z (ap (λ b. if_known b y (λ u. method_called z.program (deeper z.program M) m u ws w c.env y)) h) (stuck_leads z x)
+
+  -- ---- builtin functions
+
   pub printing_applied : (pl : Place) (n : ℕ) (c : Ctx) (st : List Val) → Applied z differ top (form.printing pl) [] n true c st st
   printing_applied pl n c st ws q = by_one z differ top (form.printing pl) [] _ n ws q c st st
       (λ u s e out w M j m o y ls x fw lt lM g. op_leads z x
-      (λ k. told_leads z (line_printed u y.state) pl c.env x.places.0 k.fit (print_calm u y.state) g))
+      (λ k. told_leads z (line_printed u y.state) pl c.env x.places.0 k.fit (print_calm z u y.state) g))
       (λ M w e y. refl) (λ u r us M w e y. refl)
 
   pub modulo_applied : (n : ℕ) (c : Ctx) (st : List Val) → Applied z differ top form.taking_modulo [] n true c st st

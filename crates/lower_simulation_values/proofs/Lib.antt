@@ -2,6 +2,7 @@ pub mod Tables
 pub mod Operands
 pub mod Operators
 pub mod Names
+pub mod Unfit
 pub mod Applied
 pub mod Callees
 pub mod Calls
@@ -10,4 +11,7 @@ pub mod Texts
 pub mod Made
 pub mod Targets
 pub mod Writes
+pub mod Assigned
+pub mod Instances
+pub mod Spawned
 pub mod Members

@@ -45,6 +45,14 @@ pairs_many (t.Pairs.more_pairs a b ps) = let h = pairs_many ps in let n : ℕ = 
     twice : (n m : ℕ) → n ≡ m + m → suc (suc n) ≡ suc m + suc m
     twice n m h = omega (arith, h)
 
+module _ (z : Setting) where
+  -- a new cell does not change the clock
+  pub added_calm : (a : Answer Store) (v : Val) (s : State) → Calmly z (added a v s) s
+  added_calm (gives x) v s = refl
+  added_calm fails v s = tt
+  added_calm (error k) v s = tt
+  added_calm stuck v s = tt
+
 module _ (z : Setting) (differ : ℕ → ℕ → Bool) (top : ℕ) where
   abbrev pub Pairs_lead : t.Pairs → Type 0
   Pairs_lead t.Pairs.no_pairs = Unit {0}
@@ -70,19 +78,12 @@ module _ (z : Setting) (differ : ℕ → ℕ → Bool) (top : ℕ) where
       (listed_leads z differ top (pairs_list ps) (each_leads ps hs) (form.making_map pl) (λ l vs e w. refl) ss a s _ out w M j m c o y ls st []
       (on e.at st) (pairs_stand ps ss a (fits c.handlers) c.size out s _ r.0) sc fw lt lM ab g
       (λ ws q w M i m fw le lM o y ls g. is_leads z (ap (λ u. told (still (map_of u) y.state) pl c.env y) (same_pairs ws))
-      (op_leads z r.1 (λ k. many_leads z differ top _ _ (q ∙ pairs_many ps)
+      (op_leads z r.1 (λ k. many_leads z _ _ (q ∙ pairs_many ps)
       (told_leads z (still (map_of (paired ws)) y.state) pl c.env r.1.places.0 k.fit (still_calm z (map_of (paired ws)) y.state) g)))))
-
-  -- a new cell does not change the clock
-  pub added_calm : (a : Answer Store) (v : Val) (s : State) → Calmly z (added a v s) s
-  added_calm (gives x) v s = refl
-  added_calm fails v s = tt
-  added_calm (error k) v s = tt
-  added_calm stuck v s = tt
 
   event_code : (n : ℕ) (pl : Place) → EvLeads z differ top (tree n pl t.Shape.bare_event)
   event_code n pl ss a s e out w M j m c o y ls st i sc fw lt lM ab g =
-      op_leads z i (λ k. told_leads z (event_made y.state) pl c.env i.places.0 k.fit (added_calm _ _ y.state) g)
+      op_leads z i (λ k. told_leads z (event_made y.state) pl c.env i.places.0 k.fit (added_calm z _ _ y.state) g)
 
   pub bare_event_leads : (n : ℕ) (pl : Place) → EvLeads z differ top (tree n pl t.Shape.bare_event)
   bare_event_leads n pl = event_code n pl

@@ -25,7 +25,7 @@ use Rattle.verse_meaning.specs.Runs.{deeper}
 use Rattle.verse_code_machine.specs.Frames.{fits, free, answered}
 use Rattle.lower_code.specs.Applied as applied
 use Rattle.lower_code.specs.Pieces as pc
-use Rattle.lower_code.specs.Pieces.{Spot, Piece, Maker, past, sure, joined_at}
+use Rattle.lower_code.specs.Pieces.{Spot, Maker, past, ◌then◌}
 use Rattle.lower_code.specs.Scopes.{constant_at, variable_at, hidden, Scope as Names, Found, fixed, varies, absent, find}
 use Rattle.lower_code.specs.declared.arounds.Around.{Around as Where}
 use Rattle.lower_code.specs.Arounds.{up, returning}
@@ -120,7 +120,7 @@ module _ (z : Setting) (differ : ℕ → ℕ → Bool) (top : ℕ) where
       form_done z.program (deeper z.program l) f vs e w ≡ apply z.program (deeper z.program l) f vs true e w) → One_applied f →
       (x : Tree) → EvLeads z differ top x →
       (ss : Names) (a : Where) (s e : Spot) (out : Way) (w : Bool) (M j m : ℕ) (c : Ctx) (o : Around) (y : World) (ls st : List Val) →
-      Stands z (fits c.handlers) c.size out s ((pc.◌then◌ (piece z.program differ x ss a) (applied.finish f 1 true)) s) e →
+      Stands z (fits c.handlers) c.size out s ((piece z.program differ x ss a then applied.finish f 1 true) s) e →
           Static top c ss out a → free c.handlers c.life.noted c.below ≡ w → m ≤ top → m ≤ M → Above a.height st c.base →
           Good m c.who.path o c.held c.also c.size y.state ls →
       LeadsTo z j m c o y.behind y.tasks (at c o y.state ls st s.at) (on e.at st)

@@ -33,17 +33,12 @@ use Rattle.verse_meaning.specs.Evaluating.{named}
 use Rattle.lower_code.specs.Scopes.{read_found, read_this, this_found, field_of_this}
 use Rattle.lower_simulation.proofs.Forms.{end_leads, op_leads, EvLeads}
 
-module _ (z : Setting) (differ : ℕ → ℕ → Bool) (top : ℕ) where
+module _ (z : Setting) where
   -- an operation that is always stuck
   pub stuck_leads : {j n : ℕ} {c : Ctx} {o : Around} {y : World} {ls st : List Val} {size : ℕ} {out : Way} {s e : Spot} {into : Target} →
       Stands z (fits c.handlers) size out s (pc.stuck s) e →
       LeadsTo z j n c o y.behind y.tasks (at c o y.state ls st s.at) into (halted (wrong y.state))
   stuck_leads i = does_leads z (op_stands z i).is (record { go = λ g h. over _ h })
-
-  pub jammed_leads : {j n : ℕ} {c : Ctx} {o : Around} {y : World} {ls st : List Val} {size : ℕ} {out : Way} {s e : Spot}
-      {into : Target} → Stands z (fits c.handlers) size out s (pc.stuck s) e →
-      LeadsTo z j n c o y.behind y.tasks (at c o y.state ls st s.at) into (halted (jammed y.state))
-  jammed_leads i = does_leads z (op_stands z i).is (record { go = λ g h. over _ h })
 
   -- what is read in a slot, where the operation has no place
   pub read_leads : {j n : ℕ} {c : Ctx} {o : Around} {y : World} {ls st : List Val} {p : ℕ} (r : Option Val) (pl : Place) (env : Env) →
@@ -130,26 +125,27 @@ module _ (z : Setting) (differ : ℕ → ℕ → Bool) (top : ℕ) where
       (λ b. LeadsTo z j n c o y.behind y.tasks (at c o y.state ls st s.at) (on e.at st) (read_slot_of (constant_of b) slot pl c.env y))
       (sym h.1) (stuck_leads i)
 
+module _ (z : Setting) (differ : ℕ → ℕ → Bool) (top : ℕ) where
   named_leads : {j n : ℕ} {c : Ctx} {o : Around} {y : World} {ls st : List Val} {out : Way} {s e : Spot} (M : ℕ) (r : Option Ref)
       (x : Bytes) (ss : Names) (pl : Place) → Stands z (fits c.handlers) c.size out s (low.named z.program differ r x ss s) e →
       Fits ss c.env c.held →
       Good n c.who.path o c.held c.also c.size y.state ls → LeadsTo z j n c o y.behind y.tasks (at c o y.state ls st s.at) (on e.at st)
           (named z.program (deeper z.program M) r x pl c.env y)
   unfolding named low.named
-  named_leads {c = c} M (Some (ref.Field q slot)) x ss pl i h g = own_field_leads slot (this_found ss) (look this_name c.env) pl i
+  named_leads {c = c} M (Some (ref.Field q slot)) x ss pl i h g = own_field_leads z slot (this_found ss) (look this_name c.env) pl i
       (looked this_name c.held ss c.env h) g
-  named_leads {c = c} M None x ss pl i h g = bound_leads (find x ss) (look x c.env) pl i (looked x c.held ss c.env h) g
-  named_leads {c = c} M (Some (ref.Local q)) x ss pl i h g = bound_leads (find x ss) (look x c.env) pl i (looked x c.held ss c.env h) g
-  named_leads {c = c} M (Some (ref.Key q)) x ss pl i h g = bound_leads (find x ss) (look x c.env) pl i (looked x c.held ss c.env h) g
-  named_leads {c = c} M (Some (ref.Method q u)) x ss pl i h g = bound_leads (find x ss) (look x c.env) pl i (looked x c.held ss c.env h) g
-  named_leads {c = c} M (Some (ref.Fun q)) x ss pl i h g = bound_leads (find x ss) (look x c.env) pl i (looked x c.held ss c.env h) g
-  named_leads {c = c} M (Some (ref.Class q)) x ss pl i h g = bound_leads (find x ss) (look x c.env) pl i (looked x c.held ss c.env h) g
-  named_leads {c = c} M (Some (ref.Enum q)) x ss pl i h g = bound_leads (find x ss) (look x c.env) pl i (looked x c.held ss c.env h) g
-  named_leads {c = c} M (Some (ref.Builtin q)) x ss pl i h g = bound_leads (find x ss) (look x c.env) pl i (looked x c.held ss c.env h) g
+  named_leads {c = c} M None x ss pl i h g = bound_leads z (find x ss) (look x c.env) pl i (looked x c.held ss c.env h) g
+  named_leads {c = c} M (Some (ref.Local q)) x ss pl i h g = bound_leads z (find x ss) (look x c.env) pl i (looked x c.held ss c.env h) g
+  named_leads {c = c} M (Some (ref.Key q)) x ss pl i h g = bound_leads z (find x ss) (look x c.env) pl i (looked x c.held ss c.env h) g
+  named_leads {c = c} M (Some (ref.Method q u)) x ss pl i h g = bound_leads z (find x ss) (look x c.env) pl i (looked x c.held ss c.env h) g
+  named_leads {c = c} M (Some (ref.Fun q)) x ss pl i h g = bound_leads z (find x ss) (look x c.env) pl i (looked x c.held ss c.env h) g
+  named_leads {c = c} M (Some (ref.Class q)) x ss pl i h g = bound_leads z (find x ss) (look x c.env) pl i (looked x c.held ss c.env h) g
+  named_leads {c = c} M (Some (ref.Enum q)) x ss pl i h g = bound_leads z (find x ss) (look x c.env) pl i (looked x c.held ss c.env h) g
+  named_leads {c = c} M (Some (ref.Builtin q)) x ss pl i h g = bound_leads z (find x ss) (look x c.env) pl i (looked x c.held ss c.env h) g
 
   pub name_leads : (n : ℕ) (pl : Place) (x : Bytes) → EvLeads z differ top (tree n pl (t.Shape.name x))
   name_leads n pl x ss a s e out w M j m c o y ls st i sc fw lt lM ab g = named_leads M (ref_at z.program n) x ss pl i sc.fits g
 
   pub self_leads : (n : ℕ) (pl : Place) → EvLeads z differ top (tree n pl t.Shape.this)
-  self_leads n pl ss a s e out w M j m c o y ls st i sc fw lt lM ab g = this_leads (this_found ss) (look this_name c.env) i
+  self_leads n pl ss a s e out w M j m c o y ls st i sc fw lt lM ab g = this_leads z (this_found ss) (look this_name c.env) i
       (looked this_name c.held ss c.env sc.fits) g

@@ -11,7 +11,7 @@ use Rattle.verse_meaning.specs.Evaluating.{ev, all_args, holed, paired_args, giv
 use Rattle.verse_meaning.specs.Resuming.{operands, resume}
 use Rattle.verse_meaning.specs.Runs.{deeper}
 use Rattle.verse_code_machine.specs.Frames.{fits, free}
-use Rattle.lower_code.specs.Pieces.{Spot, past}
+use Rattle.lower_code.specs.Pieces.{Spot, Piece, past}
 use Rattle.lower_code.specs.Scopes.{Scope as Names}
 use Rattle.lower_code.specs.declared.arounds.Around.{Around as Where}
 use Rattle.lower_code.specs.Arounds.{up}
@@ -22,6 +22,11 @@ use Rattle.lower_simulation.proofs.Standing.{Stands}
 use Rattle.lower_simulation.proofs.Leading.{LeadsTo, FormLeads, value_leads}
 use Rattle.lower_simulation.proofs.Forms.{Static, on_one, stacked, EvLeads, Finish_leads, IsPlain}
 use Rattle.lower_simulation_values.proofs.Tables.{Every}
+
+module _ (z : Setting) where
+  -- what stands, stands up to its own end
+  pub to_end : {ok : ℕ → Bool} {size : ℕ} {out : Way} {s e : Spot} {p : Piece} → Stands z ok size out s p e → Stands z ok size out s p (past s p)
+  to_end {ok} {size} {out} {s} {e} {p} i = subst (λ (x : Spot). Stands z ok size out s p x) (sym i.ends) i
 
 module _ (z : Setting) (differ : ℕ → ℕ → Bool) (top : ℕ) where
   -- the operands left, and then the form

@@ -24,7 +24,7 @@ use Rattle.lower_simulation.proofs.Claims.{Way, Setting, Here}
 use Rattle.lower_simulation.proofs.Standing.{Stands, then_stand, stuck_stand}
 use Rattle.lower_simulation.proofs.Forms.{EvLeads, All_lead}
 use Rattle.lower_simulation_values.proofs.Tables.{Every}
-use Rattle.lower_simulation_values.proofs.Operands.{in_turn, Listed}
+use Rattle.lower_simulation_values.proofs.Operands.{in_turn, Listed, to_end}
 
 -- what the indices lead from
 pub data Root : Type 0 where
@@ -183,9 +183,6 @@ module _ (z : Setting) (differ : ℕ → ℕ → Bool) (top : ℕ) where
       let r = then_stand z s e (piece z.program differ x ss a) (low.args z.program differ ts ss (up a)) i in
       (r.0, args_listed ts ss (up a) ok size out _ e r.1)
 
-  to_end : {ok : ℕ → Bool} {size : ℕ} {out : Way} {s e : Spot} {p : Piece} → Stands z ok size out s p e → Stands z ok size out s p (past s p)
-  to_end {ok} {size} {out} {s} {e} {p} i = subst (λ (x : Spot). Stands z ok size out s p x) (sym i.ends) i
-
   -- the code that finds the cell
   abbrev pub Root_stands : Root → Names → (ok : ℕ → Bool) → (size : ℕ) → (out : Way) → Spot → Type 0
   Root_stands (variable_root x) ss ok size out s = Stands z ok size out s (push_varies (find x ss) s) (past s (push_varies (find x ss) s))
@@ -196,10 +193,10 @@ module _ (z : Setting) (differ : ℕ → ℕ → Bool) (top : ℕ) where
   pub target_stand : {b : Tree} {r : Root} → Rooted b r → (ss : Names) (a : Where) (ok : ℕ → Bool) (size : ℕ) (out : Way) (s e : Spot) →
       Stands z ok size out s (low.target_piece z.program differ b (base_for r) ss a s) e →
       Root_stands r ss ok size out s × Listed z differ top (target_list b) ss (root_around r a) ok size out (root_spot r ss s) e
-  target_stand at_variable ss a ok size out s e i = (to_end i, i.ends)
-  target_stand at_self ss a ok size out s e i = (to_end i, i.ends)
-  target_stand at_object ss a ok size out s e i = (tt, (to_end i, i.ends))
-  target_stand at_none ss a ok size out s e i = (tt, (to_end i, i.ends))
+  target_stand at_variable ss a ok size out s e i = (to_end z i, i.ends)
+  target_stand at_self ss a ok size out s e i = (to_end z i, i.ends)
+  target_stand at_object ss a ok size out s e i = (tt, (to_end z i, i.ends))
+  target_stand at_none ss a ok size out s e i = (tt, (to_end z i, i.ends))
   target_stand (at_index {b = b} {ts} {r} p) ss a ok size out s e i =
       let q = then_stand z s e (low.target_piece z.program differ b (base_for r) ss a)
           (low.args z.program differ ts ss (up (raised (target_operands b) a))) i in

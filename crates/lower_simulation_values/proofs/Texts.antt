@@ -130,5 +130,5 @@ module _ (z : Setting) (differ : ℕ → ℕ → Bool) (top : ℕ) where
       (λ ws q w M i m fw le lM o y ls g. subst (λ u. LeadsTo z i m c o y.behind y.tasks (at c o y.state ls u (past s1 (code s1)).at) (on e.at st)
       (told (still (join_of (woven (bs ∷ pieces hs) ws)) y.state) pl c.env y)) (sym (text_beneath bs (beyond hs ws) st))
       (is_leads z (ap (λ u. told (still (join_of u) y.state) pl c.env y) (woven_is bs hs ws q))
-      (op_leads z r.1 (λ k. many_leads z differ top _ _ (text_many bs (beyond hs ws) (joined_parts hs) (beyond_many hs ws q))
+      (op_leads z r.1 (λ k. many_leads z _ _ (text_many bs (beyond hs ws) (joined_parts hs) (beyond_many hs ws q))
       (told_leads z (still (join_of (before_text bs (beyond hs ws))) y.state) pl c.env r.1.places.0 k.fit (still_calm z (join_of (before_text bs (beyond hs ws))) y.state) g)))))))

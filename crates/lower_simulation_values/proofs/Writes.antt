@@ -64,6 +64,16 @@ same_mode mode.Add = refl
 same_mode mode.Sub = refl
 same_mode mode.Mul = refl
 
+-- a local above those with names gets a value
+pub good_put : {top n : ℕ} {c : Ctx} {ss : Names} {out : Way} {a : Where} {o : Around} {s : State} {ls : List Val} {u : Val} → Static top c ss out a →
+    (r : PutIs ls (length ss) u) → Good n c.who.path o c.held c.also c.size s ls → Good n c.who.path o c.held c.also c.size s r.locals
+good_put {c = c} {ss} {ls = ls} {u} sc r g = record {
+  holds = holds_put c.held ls (length ss) (length ss) u r sc.low le_self g.holds;
+  besides = holds_put c.also ls (length ss) (length ss) u r sc.low_also le_self g.besides;
+  sized = r.sized ∙ g.sized;
+  fine = g.fine;
+}
+
 -- ---- a write with `=` gives the value written
 
 abbrev Writes : {A : Type 0} → Answer (A × Val) → Val → Type 0
@@ -116,7 +126,7 @@ set_writes slot path u (object c) s = changed_writes (write_slot s.memory.store 
     (in_writes s.memory.store c slot path u (slot_of s.memory.store c slot))
 set_writes slot path u cell s = tt
 
-module _ (z : Setting) (differ : ℕ → ℕ → Bool) (top : ℕ) where
+module _ (z : Setting) where
   changed_calm : (x : Answer (Store × Val)) (s : State) → Calmly z (changed x s) s
   changed_calm (gives x) s = refl
   changed_calm fails s = tt
@@ -127,23 +137,13 @@ module _ (z : Setting) (differ : ℕ → ℕ → Bool) (top : ℕ) where
   written_calm slot path m u (object c) s = changed_calm (write_slot s.memory.store c slot path m u) s
   written_calm slot path m u cell s = tt
 
-  -- a local above those with names gets a value
-  pub good_put : {n : ℕ} {c : Ctx} {ss : Names} {out : Way} {a : Where} {o : Around} {s : State} {ls : List Val} {u : Val} → Static top c ss out a →
-      (r : PutIs ls (length ss) u) → Good n c.who.path o c.held c.also c.size s ls → Good n c.who.path o c.held c.also c.size s r.locals
-  good_put {c = c} {ss} {ls = ls} {u} sc r g = record {
-    holds = holds_put c.held ls (length ss) (length ss) u r sc.low le_self g.holds;
-    besides = holds_put c.also ls (length ss) (length ss) u r sc.low_also le_self g.besides;
-    sized = r.sized ∙ g.sized;
-    fine = g.fine;
-  }
-
   -- the write alone
   store_leads : {j n : ℕ} {c : Ctx} {o : Around} {y : World} {ls st : List Val} {size : ℕ} {out : Way} {s e : Spot} (pl : Place) (m : Mode)
       (slot i p : ℕ) (path : List Val) (u cell : Val) → length path ≡ i → slice_get z.code.places p ≡ Some pl →
       Stands z (fits c.handlers) size out s (one (op.Store slot i (mode_number m) p) s) e →
       Good n c.who.path o c.held c.also c.size y.state ls → LeadsTo z j n c o y.behind y.tasks
       (at c o y.state ls (u ∷ stacked path (cell ∷ st)) s.at) (on e.at st) (told (slot_written slot path m u cell y.state) pl c.env y)
-  store_leads {j} {n} {c} {o} {y} {ls} {st} {s = s} pl m slot i p path u cell q hp x g = op_leads z x (λ k. many_leads z differ top _ _ q
+  store_leads {j} {n} {c} {o} {y} {ls} {st} {s = s} pl m slot i p path u cell q hp x g = op_leads z x (λ k. many_leads z _ _ q
       (subst (λ m1. LeadsTo z j n c o y.behind y.tasks (answered (slice_get z.code.places p) (slot_written slot path m1 u cell y.state) c.who
       o.world y.state c.life ls st s.at c.handlers c.below) (on (suc s.at) st) (told (slot_written slot path m u cell y.state) pl c.env y))
       (sym (same_mode m))
@@ -169,7 +169,7 @@ module _ (z : Setting) (differ : ℕ → ℕ → Bool) (top : ℕ) where
   kept_told stuck u env hu cm hp hf drop get there g = record { go = λ r h. over _ h }
 
   -- the value is kept, where the types differ
-  kept_leads : {j n : ℕ} {c : Ctx} {ss : Names} {out : Way} {a : Where} {o : Around} {y : World} {ls st : List Val} {s e : Spot} (pl : Place)
+  kept_leads : {top j n : ℕ} {c : Ctx} {ss : Names} {out : Way} {a : Where} {o : Around} {y : World} {ls st : List Val} {s e : Spot} (pl : Place)
       (slot i p : ℕ) (path : List Val) (u cell : Val) → length path ≡ i → slice_get z.code.places p ≡ Some pl → Static top c ss out a →
       Stands z (fits c.handlers) c.size out s (storing (op.Store slot i 0 p) true (length ss) s) e →
       Good n c.who.path o c.held c.also c.size y.state ls → LeadsTo z j n c o y.behind y.tasks
@@ -185,11 +185,11 @@ module _ (z : Setting) (differ : ℕ → ℕ → Bool) (top : ℕ) where
       let gd = good_put sc w g in
       end_leads z r3.1.ends (does_leads z k.put.is (there_leads z y.state _ w.is (open_leads z y.state k.put.fit
       (does_leads z k.get.is (there_leads z y.state _ w.here (open_leads z y.state k.get.fit
-      (does_leads z (op_stands z r2.0).is (many_leads z differ top y.state _ q
+      (does_leads z (op_stands z r2.0).is (many_leads z y.state _ q
       (kept_told (slot_written slot path mode.Set u cell y.state) u c.env (set_writes slot path u cell y.state)
       (written_calm slot path mode.Set u cell y.state) hp (op_stands z r2.0).fit (op_stands z r3.0) (op_stands z r3.1) w.here gd)))))))))
 
-  pub storing_leads : {j n : ℕ} {c : Ctx} {ss : Names} {out : Way} {a : Where} {o : Around} {y : World} {ls st : List Val} {s e : Spot}
+  pub storing_leads : {top j n : ℕ} {c : Ctx} {ss : Names} {out : Way} {a : Where} {o : Around} {y : World} {ls st : List Val} {s e : Spot}
       (x : Assign) (b : Bool) (pl : Place) (slot i p : ℕ) (path : List Val) (u cell : Val) → length path ≡ i →
       slice_get z.code.places p ≡ Some pl → Static top c ss out a → Stands z (fits c.handlers) c.size out s
       (storing (op.Store slot i (mode_number (mode_of x)) p) (keeps x b) (length ss) s) e →
