@@ -1,29 +1,26 @@
 -- Bodies, calls, spawned calls and defaults of a program, by the bound of the steps.
-use Rattle.std.proofs.Common.{◌≡◌, ℕ, zero, suc, ◌+◌, ◌≤◌, ◌<◌, List, [], ◌∷◌, length, Option, Some, None, Bool, refl, sym, ◌∙◌, subst, arith}
-use Rattle.std.specs.Prelude.{slice_get}
+use Rattle.std.proofs.Common.{◌≡◌, ℕ, ◌≤◌, ◌<◌, List, [], length, Option, Some, None, Bool, refl, sym, subst, arith}
 use Rattle.verse_tree.specs.Tree.{Tree}
-use Rattle.verse_tree.specs.ItemTree.{FieldTree, FunTree}
+use Rattle.verse_tree.specs.ItemTree.{FunTree}
 use Rattle.verse_code.specs.declared.codes.Func.{Func}
 use Rattle.verse_code.specs.declared.operations.Op.TheVariants as op
 use Rattle.verse_value.specs.Val.{Val}
 use Rattle.verse_meaning.specs.Programs.{fields_of}
 use Rattle.verse_meaning.specs.Residuals.{Env, none}
 use Rattle.verse_meaning.specs.Outcomes.{world}
-use Rattle.verse_meaning.specs.Evaluating.{ev}
-use Rattle.verse_meaning.specs.Runs.{deeper, with_this}
+use Rattle.verse_meaning.specs.Runs.{with_this}
 use Rattle.verse_code_machine.specs.Frames.{locals_of}
-use Rattle.lower_code.specs.Pieces.{past, one, ◌then◌}
+use Rattle.lower_code.specs.Pieces.{past, one}
 use Rattle.lower_code.specs.Scopes.{Scope as Names}
 use Rattle.lower_code.specs.Arounds.{fresh}
-use Rattle.lower_code.specs.Defaults.{default_number}
 use Rattle.lower_code.specs.Lowering.{piece}
-use Rattle.lower_simulation.proofs.Claims.{return_now, on, at, Setting, Ends, Held, in_frame}
+use Rattle.lower_simulation.proofs.Claims.{return_now, at, Setting, Ends, Held, in_frame}
 use Rattle.lower_simulation.proofs.Going.{le_self}
 use Rattle.lower_simulation.proofs.Going as going
 use Rattle.lower_simulation.proofs.Contexts.{frame_static}
 use Rattle.lower_simulation.proofs.Standing.{then_stand}
 use Rattle.lower_simulation.proofs.Forms.{EvLeads}
-use Rattle.lower_simulation_values.proofs.Tables.{Every, with_object, CallsLead, SpawnsLead, Default_leads, DefaultsLead}
+use Rattle.lower_simulation_values.proofs.Tables.{with_object, CallsLead, SpawnsLead, Default_leads, DefaultsLead}
 use Rattle.lower_simulation_runs.proofs.Entering.{BodyLeads, called_leads, started_leads, default_leads, by_bound}
 use Rattle.lower_simulation_runs.proofs.Binding.{Bound, object_scope, call_bound, can_bind, params_many, locals_many}
 use Rattle.lower_simulation_runs.proofs.Standings.{Stood}

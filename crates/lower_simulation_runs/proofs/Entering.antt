@@ -1,5 +1,5 @@
 -- Calls, spawned calls and defaults, from what the code of a body leads to.
-use Rattle.std.proofs.Common.{◌≡◌, ℕ, zero, suc, ◌≤◌, ◌<◌, List, [], ◌∷◌, Option, Some, None, Bool, true, refl, sym, ap, ◌∙◌, arith}
+use Rattle.std.proofs.Common.{◌≡◌, ℕ, zero, suc, ◌≤◌, ◌<◌, List, [], ◌∷◌, Option, Some, Bool, true, refl, sym, ap, ◌∙◌, arith}
 use Rattle.std.specs.Prelude.{length}
 use Rattle.verse_tree.specs.Tree.{Tree}
 use Rattle.verse_tree.specs.ItemTree.{FunTree}
@@ -8,14 +8,16 @@ use Rattle.verse_value.specs.Val.{Val, task}
 use Rattle.verse_meaning_state.specs.State.{State, with_entry, stepped}
 use Rattle.verse_meaning.specs.Programs.{fun_at}
 use Rattle.verse_meaning.specs.Residuals.{Env, body, root, none}
-use Rattle.verse_meaning.specs.Outcomes.{World, world, Outcome, halted, out, if_known, task_started, call_end, spends, with_state, set_behind}
+use Rattle.verse_meaning.specs.Outcomes.{World, world, Outcome, halted, out, if_known, task_started, call_end, spends, with_state}
+use Rattle.verse_meaning.specs.Outcomes.{set_behind}
 use Rattle.verse_meaning.specs.Evaluating.{ev, scope_end}
 use Rattle.verse_meaning.specs.Runs.{deeper, taking, entered, with_params, with_this}
 use Rattle.verse_code_machine.specs.Tasks.{spawning, Frame, Who, thread, Up, life_from, root_named}
 use Rattle.verse_code_machine.specs.Frames.{free, enters, locals_of}
 use Rattle.verse_code_machine.specs.Acts.{spawns}
-use Rattle.lower_simulation.proofs.Claims.{with_return, Returns, Held, on, Setting, Goal, Ends, Ctx, Around, world_of, at, in_frame, frame_of}
-use Rattle.lower_simulation.proofs.Claims.{Apart, Fine, Good, Tasks, Goes, slots}
+use Rattle.lower_simulation.proofs.Claims.{with_return, Returns, Held, on, Setting, Goal, Ends, Ctx, Around, world_of, at, in_frame}
+use Rattle.lower_simulation.proofs.Claims.{frame_of}
+use Rattle.lower_simulation.proofs.Claims.{Apart, Fine, Good, Tasks, Goes}
 use Rattle.lower_simulation.proofs.Going.{le_self, agrees}
 use Rattle.lower_simulation.proofs.Leading.{LeadsTo, spends_leads, no_steps, is_leads}
 use Rattle.lower_simulation_tasks.proofs.Besides.{clear_less}
@@ -41,7 +43,8 @@ module _ (z : Setting) (top : ℕ) (x : Tree) (fc : Func) (e : Env) (vs : List V
       (spends y.state.clock.left y (λ y. call_end c.env (scope_end z.program (deeper z.program M) body y.behind
       (ev z.program (deeper z.program M) x w e (set_behind y none)))))
   entering_leads {j} {n} {c} {o} {y} {ls} {st} {q} M w fw lt lM g = spends_leads z y.state.clock.left y _
-      (λ y. call_end c.env (scope_end z.program (deeper z.program M) body y.behind (ev z.program (deeper z.program M) x w e (set_behind y none))))
+      (λ y. call_end c.env (scope_end z.program (deeper z.program M) body y.behind
+      (ev z.program (deeper z.program M) x w e (set_behind y none))))
       (λ k eq. record {
         go = λ gl h.
             let fi = g.fine in
@@ -61,7 +64,8 @@ module _ (z : Setting) (top : ℕ) (x : Tree) (fc : Func) (e : Env) (vs : List V
               };
             })
             (call_goes z c k o.own kq e b.frame ls st q b.end (agrees g) (b.returns k) j k n o.world.pre o.world.post o.world.ups
-            o.world.trees y.behind y.tasks gl kn far M kM (ev z.program (deeper z.program M) x w e (world (stepped k y.state) none y.tasks)) h);
+            o.world.trees y.behind y.tasks gl kn far M kM (ev z.program (deeper z.program M) x w e
+            (world (stepped k y.state) none y.tasks)) h);
       })
 
   -- a task of its own

@@ -1,5 +1,5 @@
 -- Code that nothing leaves for a loop around it: each of its items is an operation; and how the combinators keep that.
-use Rattle.std.proofs.Common.{◌≡◌, ℕ, zero, suc, ◌≤◌, List, [], ◌∷◌, ◌++◌, map, Option, Some, None, Bool, true, false, refl, arith, subst, sym}
+use Rattle.std.proofs.Common.{◌≡◌, ℕ, zero, suc, List, [], ◌∷◌, ◌++◌, map, Some, None, Bool, true, false, refl}
 use Rattle.verse_base.specs.declared.places.Place.{Place}
 use Rattle.verse_tree.specs.Tree.{Bytes}
 use Rattle.verse_code.specs.declared.operations.Op.{Op}
@@ -9,9 +9,9 @@ use Rattle.verse_value.specs.Val.{Val}
 use Rattle.verse_meaning.specs.Residuals as form
 use Rattle.verse_meaning.specs.Residuals.{Form, Base, in_variable, in_self, in_object, nowhere, Binder, no_name, a_constant, a_variable}
 use Rattle.lower_code.specs.Pieces.{Spot, Item, sure, leaving, Piece, Maker, past, next, nothing, one, placed, numbering, texted, put_away}
-use Rattle.lower_code.specs.Pieces.{kept, stuck, when, when_else, ahead, either, closed, deepest, drops, closing_of, looping, turning, arms_at}
+use Rattle.lower_code.specs.Pieces.{kept, stuck, when, when_else, ahead, either, closed, deepest, drops, looping, turning, arms_at}
 use Rattle.lower_code.specs.Pieces.{using_locals, from_here, later, arms_spot, ◌then◌}
-use Rattle.lower_code.specs.Scopes.{Found, fixed, varies, absent, find, Scope, this_found, read_found, read_this, field_of_this, push_fixed}
+use Rattle.lower_code.specs.Scopes.{Found, fixed, varies, absent, Scope, this_found, read_found, read_this, field_of_this, push_fixed}
 use Rattle.lower_code.specs.Scopes.{push_varies}
 use Rattle.lower_code.specs.declared.arounds.Around.{Around}
 use Rattle.lower_code.specs.Arounds.{leaving_to, returning, breaking}

@@ -16,15 +16,17 @@ use Rattle.verse_meaning.specs.Residuals.{Form, Base, in_variable, in_self, in_o
 use Rattle.verse_meaning.specs.Evaluating.{Statement, statement_of, plain, defines, defers, generates, Callee, alone, of_object, of_value}
 use Rattle.verse_meaning.specs.Evaluating.{of_quotient, no_callee, none_left, number_of, picked, member_form, callee_of, spawned_callee}
 use Rattle.verse_meaning.specs.Evaluating.{base_of, mode_of, enum_member, class_ref}
-use Rattle.lower_code.specs.Pieces.{Maker, nothing, one, stuck, when, when_else, numbering, ahead, ◌then◌}
+use Rattle.lower_code.specs.Pieces.{Maker, when_else, numbering, ◌then◌}
 use Rattle.lower_code.specs.declared.arounds.Around.{Around}
 use Rattle.lower_code.specs.Scopes.{Scope, hidden, find, this_found}
-use Rattle.lower_code.specs.Arounds.{fresh, up, raised, looped, deferring, enclosed}
+use Rattle.lower_code.specs.Arounds.{fresh, up, raised, looped, enclosed}
 use Rattle.lower_code.specs.Applied.{finish, start, started, slot_of, mode_number, storing}
 use Rattle.lower_code.specs.Lowering as low
-use Rattle.lower_code.specs.Lowering.{how_many, is_text, any_defer, text_if, with_binder, with_generator, taking, scope_stated, scope_behind}
+use Rattle.lower_code.specs.Lowering.{how_many, is_text, any_defer, text_if, with_binder, with_generator, taking, scope_stated}
+use Rattle.lower_code.specs.Lowering.{scope_behind}
 use Rattle.lower_code.specs.Lowering.{enum_pattern, given_local}
-use Rattle.lower_simulation_runs.proofs.Firm.{Firm, and, one_firm, none_firm, stuck_firm, placed_firm, texted_firm, put_firm, numbering_firm}
+use Rattle.lower_simulation_runs.proofs.Firm.{Firm, and, one_firm, none_firm, stuck_firm, placed_firm, texted_firm, put_firm}
+use Rattle.lower_simulation_runs.proofs.Firm.{numbering_firm}
 use Rattle.lower_simulation_runs.proofs.Firm.{when_firm, else_firm, ahead_firm, either_firm, looping_firm, turning_firm, grouped_firm}
 use Rattle.lower_simulation_runs.proofs.Firm.{bind_firm, read_firm, this_firm, field_firm, push_fixed_firm, push_varies_firm, enum_firm}
 use Rattle.lower_simulation_runs.proofs.Firm.{returning_firm, breaking_firm, storing_firm, finish_firm, start_firm}
@@ -123,7 +125,8 @@ module _ (p : Program) (differ : ℕ → ℕ → Bool) where
   store_firm : (there : Bool) (pl : Place) (slot operands mode : ℕ) (stays : Bool) (l : ℕ) →
       Firm (when_else there (numbering pl (λ m. storing (o.Store slot operands mode m) stays l)))
   store_firm there pl slot operands mode stays l = else_firm there (numbering pl (λ m. storing (o.Store slot operands mode m) stays l))
-      (λ e. numbering_firm pl (λ m. storing (o.Store slot operands mode m) stays l) (λ m. storing_firm (o.Store slot operands mode m) stays l))
+      (λ e. numbering_firm pl (λ m. storing (o.Store slot operands mode m) stays l)
+      (λ m. storing_firm (o.Store slot operands mode m) stays l))
 
   stated_firm : (q : Statement) (sc : Scope) {whole inner : Maker} → Firm whole → Firm inner →
       Firm (low.stated p differ q sc whole inner)
@@ -276,7 +279,8 @@ module _ (p : Program) (differ : ℕ → ℕ → Bool) where
 
     pairs_firm : (ps : t.Pairs) (sc : Scope) (a : Around) → Loopless a → Firm (low.paired_args p differ ps sc a)
     pairs_firm t.Pairs.no_pairs sc a h = none_firm
-    pairs_firm (t.Pairs.more_pairs b c ps) sc a h = and (piece_firm b sc a h) (and (piece_firm c sc (up a) h) (pairs_firm ps sc (up (up a)) h))
+    pairs_firm (t.Pairs.more_pairs b c ps) sc a h = and (piece_firm b sc a h)
+        (and (piece_firm c sc (up a) h) (pairs_firm ps sc (up (up a)) h))
 
     givens_firm : (gs : Givens) (sc : Scope) (a : Around) → Loopless a → Firm (low.given_args p differ gs sc a)
     givens_firm no_givens sc a h = none_firm

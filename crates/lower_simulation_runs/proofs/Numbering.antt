@@ -1,24 +1,25 @@
 -- The numbers of functions, methods and defaults, from those of their nodes.
-use Rattle.std.proofs.Common.{◌≡◌, ℕ, zero, suc, ◌+◌, ◌≤◌, List, [], ◌∷◌, ◌++◌, length, map, Option, Some, None, Bool, true, false, cond, refl}
-use Rattle.std.proofs.Common.{sym, ap, ◌∙◌, subst, arith, append_assoc}
+use Rattle.std.proofs.Common.{◌≡◌, ℕ, zero, suc, List, [], ◌∷◌, ◌++◌, length, map, Option, Some, None, Bool, true, false, cond, refl}
+use Rattle.std.proofs.Common.{sym, ap, ◌∙◌, subst, append_assoc}
 use Rattle.std.specs.Prelude.{slice_get, ◌==◌}
 use Rattle.std.proofs.lemmas.Bool.{eq-eqb, eqb-true}
 use Rattle.std.proofs.lemmas.List.{length-map}
 use Rattle.verse_tree.specs.Tree.{Bytes, Tree}
-use Rattle.verse_tree.specs.ItemTree.{FieldTree, FunTree, MemberTree, field, method, ClassTree, ItemTree, using, enumeration, class, function}
+use Rattle.verse_tree.specs.ItemTree.{FieldTree, FunTree, MemberTree, field, method, ClassTree, ItemTree, using, enumeration, class}
+use Rattle.verse_tree.specs.ItemTree.{function}
 use Rattle.verse_tree.specs.declared.tables.FunInfo.{FunInfo}
-use Rattle.verse_tree.specs.declared.tables.ClassInfo.{ClassInfo}
 use Rattle.verse_tree.specs.declared.tables.Ref.TheVariants as ref
 use Rattle.verse_meaning_state.specs.Waits.{nth}
-use Rattle.verse_meaning.specs.Programs.{Program, ref_at, fun_at, fun_of_info, fun_numbered, method_numbered, method_at, or_else, fields_of}
+use Rattle.verse_meaning.specs.Programs.{Program, ref_at, fun_at, fun_of_info, fun_numbered, method_numbered, method_at, or_else}
+use Rattle.verse_meaning.specs.Programs.{fields_of}
 use Rattle.verse_meaning.specs.Programs.{fields_from, own_fields, parent_of, class_named, same_name}
 use Rattle.verse_meaning.specs.Programs as programs
 use Rattle.verse_meaning.specs.Forms.{this_name}
 use Rattle.lower_code.specs.Scopes.{constant_at}
-use Rattle.lower_code.specs.Defaults.{with_default, with_defaults, defaults_in, field_place, default_number}
-use Rattle.lower_code.specs.Programs.{Body, body_of, methods_in, bodies_in, default_body, default_bodies, all_bodies}
+use Rattle.lower_code.specs.Defaults.{with_default, with_defaults, defaults_in, field_place}
+use Rattle.lower_code.specs.Programs.{Body, body_of, methods_in, bodies_in, default_body, default_bodies}
 use Rattle.lower_simulation_values.proofs.Tables.{Every}
-use Rattle.lower_simulation_runs.proofs.Placing.{FunctionsPlaced, ClassPlaced, DefaultPlaced, MethodPlaced, default_of, bodies, same_some, at_behind}
+use Rattle.lower_simulation_runs.proofs.Placing.{FunctionsPlaced, ClassPlaced, DefaultPlaced, default_of, bodies, same_some, at_behind}
 
 -- a function of the items, or a method of a class
 pub data Defined : Type 0 where
@@ -258,9 +259,9 @@ classes_covered [] = tt
 classes_covered (using u ∷ is) = classes_covered is
 classes_covered (enumeration e ∷ is) = classes_covered is
 classes_covered (class c ∷ is) =
-    let own : List FieldTree = with_defaults (own_fields c.members) in
-    (
-      covered_map own (own ++ defaults_in is) (own_fields c.members) (λ f h. among_left (defaults_in is) h) (own_covered (own_fields c.members)),
+    let own : List FieldTree = with_defaults (own_fields c.members) in (
+      covered_map own (own ++ defaults_in is) (own_fields c.members) (λ f h. among_left (defaults_in is) h)
+          (own_covered (own_fields c.members)),
       rest own (programs.classes is) (classes_covered is),
     )
   where
@@ -282,7 +283,8 @@ nth_covered all [] n h = tt
 nth_covered all (c ∷ cs) zero h = h.0
 nth_covered all (c ∷ cs) (suc n) h = nth_covered all cs n h.1
 
-named_covered : (all : List FieldTree) (x : Bytes) (cs : List ClassTree) → Every (ClassCovered all) cs → ThereCovered all (class_named x cs)
+named_covered : (all : List FieldTree) (x : Bytes) (cs : List ClassTree) → Every (ClassCovered all) cs →
+    ThereCovered all (class_named x cs)
 named_covered all x [] h = tt
 named_covered all x (c ∷ cs) h = by (same_name x c.name) _ h.0 (named_covered all x cs h.1)
   where
@@ -322,7 +324,8 @@ module _ (p : Program) (made : TablesAgree p) where
       (ap (λ bs. slice_get bs f) (bodies_are p.items) ∙ map_at body_in (defined_in p.items) f d h)
 
   default_placed : (f : FieldTree) → Covered (defaults_in p.items) f → DefaultPlaced p f
-  default_placed f h d e = field_placed f (defaults_in p.items) d (bodies_in p.items) (length p.names.funs) (sym many_functions) (defaults_have p.items) made.fields e
+  default_placed f h d e = field_placed f (defaults_in p.items) d (bodies_in p.items) (length p.names.funs) (sym many_functions)
+      (defaults_have p.items) made.fields e
       (h d e)
 
   every_placed : (fs : List FieldTree) → Every (Covered (defaults_in p.items)) fs → Every (DefaultPlaced p) fs

@@ -1,5 +1,5 @@
 -- Where functions, methods and defaults stand among the bodies of a program; and the tables of its code.
-use Rattle.std.proofs.Common.{◌≡◌, ℕ, zero, suc, ◌+◌, ◌≤◌, List, [], ◌∷◌, ◌++◌, length, map, Option, Some, None, Bool, true, false, cond, refl}
+use Rattle.std.proofs.Common.{◌≡◌, ℕ, zero, suc, ◌+◌, List, [], ◌∷◌, ◌++◌, length, map, Option, Some, None, Bool, true, false, cond, refl}
 use Rattle.std.proofs.Common.{sym, ap, ◌∙◌, subst, arith, append_assoc}
 use Rattle.std.specs.Prelude.{slice_get}
 use Rattle.verse_tree.specs.Tree.{Tree}
@@ -12,9 +12,9 @@ use Rattle.verse_meaning.specs.Programs.{Program, ref_at, fun_at, method_at, fie
 use Rattle.verse_meaning.specs.Forms.{this_name}
 use Rattle.lower_code.specs.Scopes.{constant_at, Scope as Names}
 use Rattle.lower_code.specs.Defaults.{default_number, defaults_in}
-use Rattle.lower_code.specs.Programs.{Body, body_of, params_scope, methods_in, bodies_in, default_bodies, all_bodies, main_from, class_of, code_of}
+use Rattle.lower_code.specs.Programs.{Body, body_of, params_scope, methods_in, bodies_in, default_bodies, all_bodies, main_from, class_of}
 use Rattle.lower_simulation.proofs.Claims.{Setting}
-use Rattle.lower_simulation_values.proofs.Tables.{Every, Is_function, Is_method, Is_class, Called_as, There, Method_there, Class_there}
+use Rattle.lower_simulation_values.proofs.Tables.{Every, Is_class, Called_as, There}
 use Rattle.lower_simulation_values.proofs.Tables.{Default_there, Tables}
 use Rattle.lower_simulation_runs.proofs.Binding.{object_scope, params_many}
 use Rattle.lower_simulation_runs.proofs.Standings.{Stood, setting, function_stands}
@@ -150,7 +150,8 @@ module _ (p : Program) (differ : ℕ → ℕ → Bool) (files steps until : ℕ)
     methods = λ f is. let q = agree.methods is.0 is.1 f is.2 in record {
       function = q.function;
       is = q.is;
-      code = there f (body_of (constant_at this_name ∷ []) q.function) (suc (length q.function.params)) q.placed (one_object q.function.params);
+      code = there f (body_of (constant_at this_name ∷ []) q.function) (suc (length q.function.params)) q.placed
+          (one_object q.function.params);
     };
     classes = refl;
     instances = λ c is. let q = agree.classes is.0 c is.1 in
@@ -163,9 +164,10 @@ module _ (p : Program) (differ : ℕ → ℕ → Bool) (files steps until : ℕ)
     stood : (f : ℕ) (b : Body) (fc : Func) → slice_get (bodies p) f ≡ Some b → slice_get z.code.functions f ≡ Some fc →
         Stood z differ fc b.body b.scope × Fit b.body
     stood f b fc h e =
-        let r = function_stands p differ files steps until f b h in
-        (subst (λ (fc : Func). Stood z differ fc b.body b.scope) (func_is r.1 e) r.2,
-        every_at (λ (b : Body). Fit b.body) (bodies p) f b h fit)
+        let r = function_stands p differ files steps until f b h in (
+          subst (λ (fc : Func). Stood z differ fc b.body b.scope) (func_is r.1 e) r.2,
+          every_at (λ (b : Body). Fit b.body) (bodies p) f b h fit,
+        )
 
     fun_is : {a c : FunTree} {r : Option FunTree} → r ≡ Some a → r ≡ Some c → a ≡ c
     fun_is e h = cc

@@ -45,8 +45,13 @@ Trees_stand z j m (x ∷ xs) (t ∷ ts) = Asleep z j m x t × Trees_stand z j m 
 module _ (z : Setting) where
   tree_fewer : (j m n : ℕ) (x : Option Scope) (t : List Task) → n ≤ m → Asleep z j m x t → Asleep z j n x t
   tree_fewer j m n None t le h = h
-  tree_fewer j m n (Some s) t le h = record { number = h.number; entry = h.entry; most = h.most; bound = trans le h.bound;
-      stretch = h.stretch }
+  tree_fewer j m n (Some s) t le h = record {
+    number = h.number;
+    entry = h.entry;
+    most = h.most;
+    bound = trans le h.bound;
+    stretch = h.stretch;
+  }
 
   fewer : (j m n : ℕ) (xs : Tasks) (ts : List (List Task)) → n ≤ m → Trees_stand z j m xs ts → Trees_stand z j n xs ts
   fewer j m n [] [] le h = h
@@ -56,9 +61,14 @@ module _ (z : Setting) where
 
   tree_lower : (j m : ℕ) (x : Option Scope) (t : List Task) → Asleep z (suc j) m x t → Asleep z j m x t
   tree_lower j m None t h = h
-  tree_lower j m (Some s) t h = record { number = h.number; entry = h.entry; most = h.most; bound = h.bound;
-      stretch = stretch_map (ParkedS z (suc j)) (ParkedS z j) z h.most h.number s (root_named h.number h.entry) t
-      (lower_s z j h.most h.number s (root_named h.number h.entry) t) h.stretch }
+  tree_lower j m (Some s) t h = record {
+    number = h.number;
+    entry = h.entry;
+    most = h.most;
+    bound = h.bound;
+    stretch = stretch_map (ParkedS z (suc j)) (ParkedS z j) z h.most h.number s (root_named h.number h.entry) t
+        (lower_s z j h.most h.number s (root_named h.number h.entry) t) h.stretch;
+  }
 
   lowered : (j m : ℕ) (xs : Tasks) (ts : List (List Task)) → Trees_stand z (suc j) m xs ts → Trees_stand z j m xs ts
   lowered j m [] [] h = h
@@ -92,7 +102,7 @@ module _ (z : Setting) where
   planted_stand j n' rs' f' (not_planted {n = n} le) h = (refl, fewer j n n' f' rs'.behind le h)
   planted_stand j n' rs' f' (one_planted {n = n} {m} {rs} {f} k e s ts y le st p) h =
       planted_stand j n' rs' f' p (both_stand j m f (Some s ∷ []) rs.behind (ts ∷ []) (fewer j n m f rs.behind le h)
-          (record { number = k; entry = e; most = m; bound = le_self; stretch = st }, tt))
+      (record { number = k; entry = e; most = m; bound = le_self; stretch = st }, tt))
 
   abbrev pub take_m : State → List (List Task) → Stage (List (List Task))
   take_m s tss = turn_taken z.code z.steps z.until s tss
@@ -130,22 +140,23 @@ module _ (z : Setting) where
   came_goes j ih n k e before f rs h1 h2 (ends v x) = λ eb m rs' pl fi.
       let y = planted_stand j m rs' x.tasks pl h2 in
       over _ (λ whole. ih x.state (before ++ None ∷ x.tasks) (rs'.before ++ [] ∷ rs'.behind)
-          (both_stand j x.state.clock.left before (None ∷ x.tasks) rs'.before ([] ∷ rs'.behind)
+      (both_stand j x.state.clock.left before (None ∷ x.tasks) rs'.before ([] ∷ rs'.behind)
       (subst (λ u. Trees_stand z j x.state.clock.left before u) (sym y.0)
-          (fewer j n x.state.clock.left before rs.before (trans fi.steps (planted_steps (Unit {0}) (ParkedS z j) z m rs' x.tasks pl)) h1))
+      (fewer j n x.state.clock.left before rs.before (trans fi.steps (planted_steps (Unit {0}) (ParkedS z j) z m rs' x.tasks pl)) h1))
       (refl, fewer j m x.state.clock.left x.tasks rs'.behind fi.steps y.1)) whole)
   came_goes j ih n k e before f rs h1 h2 (lost s) = amiss_seen j s
   came_goes j ih n k e before f rs h1 h2 (stops h) = off_seen j h
   came_goes j ih n k e before f rs h1 h2 (sleeps s x) = λ eb y0 m rs' pl fi ts st.
       let y = planted_stand j m rs' x.tasks pl h2 in
       subst (λ u. Ends z (Turn x.state (rs'.before ++ u ∷ rs'.behind)) (goal_of j (came before (sleeps s x))))
-          (sym (onto_onto ts [] [] ∙ append-nil ts))
+      (sym (onto_onto ts [] [] ∙ append-nil ts))
       (over _ (λ whole. ih x.state (before ++ Some s ∷ x.tasks) (rs'.before ++ ts ∷ rs'.behind)
-          (both_stand j x.state.clock.left before (Some s ∷ x.tasks) rs'.before (ts ∷ rs'.behind)
+      (both_stand j x.state.clock.left before (Some s ∷ x.tasks) rs'.before (ts ∷ rs'.behind)
       (subst (λ u. Trees_stand z j x.state.clock.left before u) (sym y.0)
-          (fewer j n x.state.clock.left before rs.before (trans fi.steps (planted_steps (Unit {0}) (ParkedS z j) z m rs' x.tasks pl)) h1))
-      (record { number = k; entry = e; most = x.state.clock.left; bound = le_self; stretch = st },
-          fewer j m x.state.clock.left x.tasks rs'.behind fi.steps y.1)) whole))
+      (fewer j n x.state.clock.left before rs.before (trans fi.steps (planted_steps (Unit {0}) (ParkedS z j) z m rs' x.tasks pl)) h1)) (
+        record { number = k; entry = e; most = x.state.clock.left; bound = le_self; stretch = st },
+        fewer j m x.state.clock.left x.tasks rs'.behind fi.steps y.1,
+      )) whole))
 
   found : (j : ℕ) → Runs j → (n : ℕ) (v : Val) (s : State) (before xs : Tasks) (ts us : List (List Task)) →
       Trees_stand z j s.clock.left before ts → Trees_stand z (suc j) s.clock.left xs us →
@@ -155,30 +166,30 @@ module _ (z : Setting) where
   found j ih n v s before (x ∷ xs) ts [] h1 h2 = absurd h2
   found j ih n v s before (None ∷ xs) ts (t ∷ us) h1 h2 =
       subst (λ u. Ends z (cond (has n (waits_of u)) (woken n v [] u (record { before = ts; behind = us }) s)
-          (woken_in n v (ts ++ u ∷ []) us s)) (goal_of j (woken_p z.program n v (before ++ None ∷ []) xs s))) (sym h2.0)
+      (woken_in n v (ts ++ u ∷ []) us s)) (goal_of j (woken_p z.program n v (before ++ None ∷ []) xs s))) (sym h2.0)
       (found j ih n v s (before ++ None ∷ []) xs (ts ++ [] ∷ []) us
-          (both_stand j s.clock.left before (None ∷ []) ts ([] ∷ []) h1 (refl, tt)) h2.1)
+      (both_stand j s.clock.left before (None ∷ []) ts ([] ∷ []) h1 (refl, tt)) h2.1)
   found j ih n v s before (Some x ∷ xs) ts (t ∷ us) h1 h2 =
       let lv = h2.0 in let st = lv.stretch in let kp = st.keeps in
       subst (λ u. Ends z (cond (has n u) (woken n v [] t (record { before = ts; behind = us }) s) (woken_in n v (ts ++ t ∷ []) us s))
       (goal_of j (on_bool (has n (scope_leaves x)) (λ u. came before
-          (resume_scope z.program (deeper z.program s.clock.left) x n v (scene s none xs)))
-          (λ u. woken_p z.program n v (before ++ Some x ∷ []) xs s)))) (sym kp.waits)
+      (resume_scope z.program (deeper z.program s.clock.left) x n v (scene s none xs)))
+      (λ u. woken_p z.program n v (before ++ Some x ∷ []) xs s)))) (sym kp.waits)
       (by (has n (scope_leaves x)) refl (found j ih n v s (before ++ Some x ∷ []) xs (ts ++ t ∷ []) us
-          (both_stand j s.clock.left before (Some x ∷ []) ts (t ∷ []) h1 (tree_lower j s.clock.left (Some x) t h2.0, tt)) h2.1))
+      (both_stand j s.clock.left before (Some x ∷ []) ts (t ∷ []) h1 (tree_lower j s.clock.left (Some x) t h2.0, tt)) h2.1))
     where
       by : (y : Bool) → has n (scope_leaves x) ≡ y → Ends z (woken_in n v (ts ++ t ∷ []) us s)
           (goal_of j (woken_p z.program n v (before ++ Some x ∷ []) xs s)) →
           Ends z (cond y (woken n v [] t (record { before = ts; behind = us }) s) (woken_in n v (ts ++ t ∷ []) us s))
           (goal_of j (on_bool y (λ u. came before (resume_scope z.program (deeper z.program s.clock.left) x n v (scene s none xs)))
-              (λ u. woken_p z.program n v (before ++ Some x ∷ []) xs s)))
+          (λ u. woken_p z.program n v (before ++ Some x ∷ []) xs s)))
       by true e next = let lv = h2.0 in let st = lv.stretch in
           subst (λ u. Ends z (woken n v [] u (record { before = ts; behind = us }) s)
-              (goal_of j (came before (resume_scope z.program (deeper z.program s.clock.left) x n v (scene s none xs))))) (append-nil t)
+          (goal_of j (came before (resume_scope z.program (deeper z.program s.clock.left) x n v (scene s none xs))))) (append-nil t)
           (st.stands n v s e lv.bound [] [] (record { before = ts; behind = us }) none xs
-              (record { pre = tt; post = tt }) s.clock.left le_self _
+          (record { pre = tt; post = tt }) s.clock.left le_self _
           (came_goes j ih s.clock.left lv.number lv.entry before xs (record { before = ts; behind = us }) h1
-              (lowered j s.clock.left xs us h2.1) (resume_scope z.program (deeper z.program s.clock.left) x n v (scene s none xs))))
+          (lowered j s.clock.left xs us h2.1) (resume_scope z.program (deeper z.program s.clock.left) x n v (scene s none xs))))
       by false e next = next
 
   -- a turn that is over stays over with more operations
@@ -216,7 +227,7 @@ module _ (z : Setting) where
   ended_turn j g q e w =
       let k : ℕ = room z.code z.steps in
       let same : carried z.code k q ≡ carried z.code e.fuel q = sym (settles k (k + e.fuel) q (omega arith) (w 0)) ∙
-          longer e.fuel (k + e.fuel) q (goal_of j g) (omega arith) e.good in
+      longer e.fuel (k + e.fuel) q (goal_of j g) (omega arith) e.good in
       subst (λ u. seen_of tree_waits (turns take_m j (stage_of u)) ≡ seen_of forest_leaves (turns take_p j g)) (sym same)
       (last_seen j g (carried z.code e.fuel q) e.good (subst (λ u. (i : ℕ) → IsWhole (turns take_m i (stage_of u))) same w))
 
@@ -224,7 +235,7 @@ module _ (z : Setting) where
   module _ (j : ℕ) (s : State) (xs : Tasks) (ts : List (List Task)) (e : tree_waits ts ≡ forest_leaves xs)
       (go_m : Due → State → Stage (List (List Task))) (go_p : Due → State → Stage Forest)
       (both : (d : Due) (u : State) → u.clock.left ≤ s.clock.left → ((i : ℕ) → IsWhole (turns take_m i (go_m d u))) →
-          seen_of tree_waits (turns take_m j (go_m d u)) ≡ seen_of forest_leaves (turns take_p j (go_p d u))) where
+      seen_of tree_waits (turns take_m j (go_m d u)) ≡ seen_of forest_leaves (turns take_p j (go_p d u))) where
     closed_same : (x : Ending) (i : ℕ) → seen_of tree_waits (turns take_m i (closed x s ts)) ≡
         seen_of forest_leaves (turns take_p i (closed x s xs))
     closed_same x zero = ap (ended x s) e
@@ -233,7 +244,7 @@ module _ (z : Setting) where
     spent_same : (d : Due) (left : ℕ) → left ≡ s.clock.left →
         ((i : ℕ) → IsWhole (turns take_m i (spending left s (closed ending.Steps s ts) (λ s. go_m d (at_moment d.given.moment s))))) →
         seen_of tree_waits (turns take_m j (spending left s (closed ending.Steps s ts) (λ s. go_m d (at_moment d.given.moment s)))) ≡
-            seen_of forest_leaves (turns take_p j (spending left s (closed ending.Steps s xs) (λ s. go_p d (at_moment d.given.moment s))))
+        seen_of forest_leaves (turns take_p j (spending left s (closed ending.Steps s xs) (λ s. go_p d (at_moment d.given.moment s))))
     spent_same d zero l w = closed_same ending.Steps j
     spent_same d (suc k) l w = both d (at_moment d.given.moment (stepped k s)) (omega (arith, l)) w
 
@@ -247,9 +258,9 @@ module _ (z : Setting) where
             (cond b (closed ending.Until s ts) (spending s.clock.left s (closed ending.Steps s ts)
             (λ s. go_m d (at_moment d.given.moment s)))))) →
             seen_of tree_waits (turns take_m j (cond b (closed ending.Until s ts)
-                (spending s.clock.left s (closed ending.Steps s ts) (λ s. go_m d (at_moment d.given.moment s))))) ≡
+            (spending s.clock.left s (closed ending.Steps s ts) (λ s. go_m d (at_moment d.given.moment s))))) ≡
             seen_of forest_leaves (turns take_p j (cond b (closed ending.Until s xs)
-                (spending s.clock.left s (closed ending.Steps s xs) (λ s. go_p d (at_moment d.given.moment s)))))
+            (spending s.clock.left s (closed ending.Steps s xs) (λ s. go_p d (at_moment d.given.moment s)))))
         late true w = closed_same ending.Until j
         late false w = spent_same d s.clock.left refl w
 
@@ -264,9 +275,9 @@ module _ (z : Setting) where
   all_runs (suc j) s xs ts h w =
       let e = forest_waits (suc j) s.clock.left xs ts h in
       subst (λ ws. seen_of tree_waits (turns take_m j (take_m s ts)) ≡ seen_of forest_leaves
-          (turns take_p j (turn z.until ws s xs (λ due s. woken_p z.program due.number due.given.value [] xs s)))) e
+      (turns take_p j (turn z.until ws s xs (λ due s. woken_p z.program due.number due.given.value [] xs s)))) e
       (turn_same j s xs ts e (λ due s. stage_of (carried z.code (room z.code z.steps) (woken_in due.number due.given.value [] ts s)))
-          (λ due s. woken_p z.program due.number due.given.value [] xs s)
+      (λ due s. woken_p z.program due.number due.given.value [] xs s)
       (λ d u le w. ended_turn j (woken_p z.program d.number d.given.value [] xs u) (woken_in d.number d.given.value [] ts u)
-          (found j (all_runs j) d.number d.given.value u [] xs [] ts tt (fewer (suc j) s.clock.left u.clock.left xs ts le h)) w)
+      (found j (all_runs j) d.number d.given.value u [] xs [] ts tt (fewer (suc j) s.clock.left u.clock.left xs ts le h)) w)
       (tree_waits ts) (λ i. w (suc i)))

@@ -1,6 +1,6 @@
 -- The bodies of a program stand in its code.
-use Rattle.std.proofs.Common.{◌≡◌, ℕ, zero, suc, ◌≤◌, List, [], ◌∷◌, ◌++◌, length, map, Some, Bool, refl, sym, ap, ◌∙◌, subst, arith}
-use Rattle.std.specs.Prelude.{max, slice_get}
+use Rattle.std.proofs.Common.{◌≡◌, ℕ, zero, suc, ◌≤◌, List, [], ◌∷◌, ◌++◌, length, map, Some, Bool, refl, subst, arith}
+use Rattle.std.specs.Prelude.{slice_get}
 use Rattle.std.proofs.Math.Nat.{le-max_left, le-max_right}
 use Rattle.verse_tree.specs.Tree.{Tree}
 use Rattle.verse_code.specs.declared.operations.Op.{Op}
@@ -64,8 +64,7 @@ pub record Lies (c : Code) (s : Spot) (p : Piece) : Type 0 where
 
 pub lies_both : {c : Code} {s : Spot} (p q : Piece) → Lies c s (joined p q) → Lies c s p × Lies c (past s p) q
 lies_both {c} {s} p q h =
-    let r = lie_both c.ops p.items q.items s.at h.ops in
-    (
+    let r = lie_both c.ops p.items q.items s.at h.ops in (
       record {
         ops = r.0;
         places = entries_first c.places p.places q.places s.place h.places;
@@ -133,8 +132,12 @@ module _ (p : Program) (differ : ℕ → ℕ → Bool) (files steps until : ℕ)
   bodies_stand [] s h i b e = cc
   bodies_stand (x ∷ bs) s h zero b e =
       let q = body_piece p differ x s in
-      let r = lies_both q (bodies_from p differ bs (past s q)) h in
-      (func_of p differ s x q, refl, subst (λ (b : Body). Stood setting differ (func_of p differ s x q) b.body b.scope) (some_is e) (body_stands x s r.0))
+      let r = lies_both q (bodies_from p differ bs (past s q)) h in (
+        func_of p differ s x q,
+        refl,
+        subst (λ (b : Body). Stood setting differ (func_of p differ s x q) b.body b.scope) (some_is e)
+            (body_stands x s r.0),
+      )
     where
       some_is : {a c : Body} → Some a ≡ Some c → a ≡ c
       some_is e = cc

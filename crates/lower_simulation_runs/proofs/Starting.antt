@@ -54,9 +54,12 @@ module _ (z : Setting) (ns : List ℤ) (fn : FunTree) (fc : Func) (e : Env) (her
   no_trees = record { before = []; behind = [] }
 
   main_begins : (k : ℕ) → Ends z (main_starts ns (begun z.steps) fc)
-      (record { turns = k; seen = seen_of forest_leaves (turns (taken_p z.program z.until) k
-      (main_spends z.steps (begun z.steps) (λ s. came [] (entered z.program (deeper z.program s.clock.left) (r.root None) fn e true
-      (scene s none []))))) })
+      (record {
+        turns = k;
+        seen = seen_of forest_leaves (turns (taken_p z.program z.until) k
+            (main_spends z.steps (begun z.steps) (λ s. came [] (entered z.program (deeper z.program s.clock.left) (r.root None) fn e true
+            (scene s none [])))));
+      })
   unfolding main_spends
   main_begins k = by z.steps refl
     where
@@ -70,28 +73,34 @@ module _ (z : Setting) (ns : List ℤ) (fn : FunTree) (fc : Func) (e : Env) (her
       by : (n : ℕ) → n ≡ z.steps → Ends z (spending n (begun z.steps) (Over ending.Steps (begun z.steps))
           (λ s. Next (machine (root_named s.clock.left None) (world [] [] [] (record { before = []; behind = [] })) s
           (life_from s.clock.left) (locals_of fc (inputs_m fc.params ns)) [] fc.entry [] [])))
-          (record { turns = k; seen = seen_of forest_leaves (turns (taken_p z.program z.until) k
-              (main_spends n (begun z.steps) (λ s. came [] (entered z.program (deeper z.program s.clock.left) (r.root None) fn e true
-              (scene s none []))))) })
+          (record {
+            turns = k;
+            seen = seen_of forest_leaves (turns (taken_p z.program z.until) k
+                (main_spends n (begun z.steps) (λ s. came [] (entered z.program (deeper z.program s.clock.left) (r.root None) fn e true
+                (scene s none [])))));
+          })
       by zero eq = over _ (off_now ending.Steps (begun z.steps))
       by (suc n) eq =
           let s : State = stepped n (begun z.steps) in
-          let g : Goal = record { turns = k; seen = seen_of forest_leaves
-              (turns (taken_p z.program z.until) k (came [] (scope_end z.program (deeper z.program n) (r.root None) none
-              (ev z.program (deeper z.program n) fn.body true e (scene s none []))))) } in
+          let g : Goal = record {
+            turns = k;
+            seen = seen_of forest_leaves
+                (turns (taken_p z.program z.until) k (came [] (scope_end z.program (deeper z.program n) (r.root None) none
+                (ev z.program (deeper z.program n) fn.body true e (scene s none [])))));
+          } in
           subst (λ x. Ends z (Next (machine (root_named n None) (world [] [] [] (record { before = []; behind = [] })) s (life_from n)
-              (locals_of fc x) [] fc.entry [] [])) (record {
+          (locals_of fc x) [] fc.entry [] [])) (record {
             turns = k;
             seen = seen_of forest_leaves (turns (taken_p z.program z.until) k (came []
                 (entered z.program (deeper z.program n) (r.root None) fn e true (scene s none []))));
           })) (sym same_inputs)
           (bd.leads k n true (root_named n None) [] (world_of [] [] [] (record { before = []; behind = [] }) n) s [] g
-              (omega (arith, eq)) le_self refl (record { steps = le_self; low = le_self; apart = record { pre = tt; post = tt } })
+          (omega (arith, eq)) le_self refl (record { steps = le_self; low = le_self; apart = record { pre = tt; post = tt } })
           (root_goes z n None n e bd.frame bd.end (bd.returns n) k n [] [] [] (record { before = []; behind = [] }) none [] g
-              (record { pre = tt; post = tt }) n le_self (ev z.program (deeper z.program n) fn.body true e (scene s none []))
+          (record { pre = tt; post = tt }) n le_self (ev z.program (deeper z.program n) fn.body true e (scene s none []))
           (came_goes z k (all_runs z k) n n None [] [] (record { before = []; behind = [] }) tt tt
-              (scope_end z.program (deeper z.program n) (r.root None) none
-              (ev z.program (deeper z.program n) fn.body true e (scene s none []))))))
+          (scope_end z.program (deeper z.program n) (r.root None) none
+          (ev z.program (deeper z.program n) fn.body true e (scene s none []))))))
 
   pub seen_alike : ((i : ℕ) → IsWhole (mach_after z.code ns z.steps z.until i)) → (k : ℕ) →
       seen_of tree_waits (mach_after z.code ns z.steps z.until k) ≡ seen_of forest_leaves (after_p z.program ns z.steps z.until k)
@@ -100,21 +109,21 @@ module _ (z : Setting) (ns : List ℤ) (fn : FunTree) (fc : Func) (e : Env) (her
       let start_m : Option Func → Step = λ x. on_there x (begun z.steps) (λ f. main_starts ns (begun z.steps) f) in
       let q : Step = main_starts ns (begun z.steps) fc in
       let gp : Stage Forest = main_spends z.steps (begun z.steps)
-          (λ s. came [] (entered z.program (deeper z.program s.clock.left) (r.root None) fn e true (scene s none []))) in
+      (λ s. came [] (entered z.program (deeper z.program s.clock.left) (r.root None) fn e true (scene s none []))) in
       let same : start_m (slice_get z.code.functions z.code.main) ≡ q = ap start_m here_m in
       subst (λ x. seen_of tree_waits (mach_after z.code ns z.steps z.until k) ≡ seen_of forest_leaves
-          (turns (taken_p z.program z.until) k (main_found x (begun z.steps)
-          (λ f. main_bound (with_params f.params (inputs_p f.params ns) []) (begun z.steps) (λ e.
+      (turns (taken_p z.program z.until) k (main_found x (begun z.steps)
+      (λ f. main_bound (with_params f.params (inputs_p f.params ns) []) (begun z.steps) (λ e.
       main_spends z.steps (begun z.steps) (λ s. came [] (entered z.program (deeper z.program s.clock.left) (r.root None) f e true
-          (scene s none [])))))))) (sym here_p)
+      (scene s none [])))))))) (sym here_p)
       (subst (λ x. seen_of tree_waits (mach_after z.code ns z.steps z.until k) ≡ seen_of forest_leaves
-          (turns (taken_p z.program z.until) k (main_bound x (begun z.steps)
-          (λ e. main_spends z.steps (begun z.steps) (λ s. came []
-          (entered z.program (deeper z.program s.clock.left) (r.root None) fn e true (scene s none []))))))) (sym ps)
+      (turns (taken_p z.program z.until) k (main_bound x (begun z.steps)
+      (λ e. main_spends z.steps (begun z.steps) (λ s. came []
+      (entered z.program (deeper z.program s.clock.left) (r.root None) fn e true (scene s none []))))))) (sym ps)
       (subst (λ x. seen_of tree_waits (turns (take_m z) k (stage_of (carried z.code (room z.code z.steps) x))) ≡ seen_of forest_leaves
-          (turns (taken_p z.program z.until) k gp)) (sym same)
+      (turns (taken_p z.program z.until) k gp)) (sym same)
       (ended_turn z k gp q (main_begins k) (subst (λ x. (i : ℕ) →
-          IsWhole (turns (take_m z) i (stage_of (carried z.code (room z.code z.steps) x)))) same whole))))
+      IsWhole (turns (take_m z) i (stage_of (carried z.code (room z.code z.steps) x)))) same whole))))
 
   pub mach_is_mean : ((i : ℕ) → IsWhole (mach_after z.code ns z.steps z.until i)) → mach z.code ns z.steps z.until ≡
       mean z.program ns z.steps z.until
@@ -128,4 +137,3 @@ module _ (z : Setting) (ns : List ℤ) (fn : FunTree) (fc : Func) (e : Env) (her
 
   pub runs_same : RunsEnd → Valid z.code → mach z.code ns z.steps z.until ≡ mean z.program ns z.steps z.until
   runs_same law valid = let ends_so = law z.code ns z.steps z.until valid in mach_is_mean ends_so.whole
-

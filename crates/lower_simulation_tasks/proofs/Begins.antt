@@ -82,7 +82,8 @@ module _ (z : Setting) (differ : ℕ → ℕ → Bool) where
       let ap1 = fi.apart in
       let he : Here z.code q.at op.ArmEnd = record { is = (op_stands z r.1).is } in
       does_leads z u.begins (outside_leads z w y
-      (λ y. begins_scope z.program (deeper z.program M) y (λ y. ev z.program (deeper z.program M) x true c.env y) (branch_started c.env)) _ fw
+      (λ y. begins_scope z.program (deeper z.program M) y (λ y. ev z.program (deeper z.program M) x true c.env y)
+      (branch_started c.env)) _ fw
       (λ fr. spends_leads z y.state.clock.left y _
       (λ y. branch_started c.env (scope_end z.program (deeper z.program M) part y.behind
       (ev z.program (deeper z.program M) x true c.env (set_behind y none)))) (λ k eq. record {
@@ -121,8 +122,7 @@ module _ (z : Setting) (differ : ℕ → ℕ → Bool) where
       let f = piece z.program differ x ss fresh in
       let m = past s (f s) in
       let r = then_stand z s e (f then one op.ArmEnd) (low.task_arms z.program differ ts ss) i in
-      let b = then_stand z s (past s ((f then one op.ArmEnd) s)) f (one op.ArmEnd) r.0 in
-      (
+      let b = then_stand z s (past s ((f then one op.ArmEnd) s)) f (one op.ArmEnd) r.0 in (
         record {
           end = m.at;
           here = record { is = (op_stands z b.1).is };

@@ -51,6 +51,8 @@ module _ (z : Setting) (differ : ℕ → ℕ → Bool) (top : ℕ) where
       let leads : BlockLeads z c d (suc s.at) e.at top fb h1 drop.fit h2 sc.noted sc.breaks sc.returns =
       (λ j k M x stk lt lM o w ls g. hd ss (enclosed a) (next s) e out false M j k (running c x stk) o w ls stk r2.0
       (running_static x stk sc) (not_free c.handlers x c.life.noted c.below) lt lM refl g) in
-      defer_leads z c d (suc s.at) e.at top fb h1 drop.fit h2 sc.noted sc.breaks sc.returns leads p least st hl (record { handled = hi; there = omega (arith, lo, de) }) fp
-      j n M lt lM s.at l.at (record { is = v.begins }) (v.wide l.at (past_le s l (ahead op.Defer block s) refl) le_self) refl o y.state ls y.behind
+      defer_leads z c d (suc s.at) e.at top fb h1 drop.fit h2 sc.noted sc.breaks sc.returns leads p least st hl
+      (record { handled = hi; there = omega (arith, lo, de) }) fp
+      j n M lt lM s.at l.at (record { is = v.begins }) (v.wide l.at
+      (past_le s l (ahead op.Defer block s) refl) le_self) refl o y.state ls y.behind
       y.tasks u (at_leads z r.1 (λ b. open_leads z y.state b.fit (start_leads z r.1.ends h)))

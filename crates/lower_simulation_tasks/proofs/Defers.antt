@@ -128,22 +128,22 @@ module _ (z : Setting) (c : Ctx) (d : Tree) (q e n0 : ℕ) (fq : fits c.handlers
       (g : Goal) → ((s : State) (ls : List Val) → F s → Good k c.who.path o c.held c.also c.size s ls →
       Ends z (failing c.who o.world s ls c.handlers c.below) g) →
       ((u : Scene) (ls : List Val) → u.state.clock.left ≤ k → u.behind ≡ w.behind → u.tasks ≡ w.tasks →
-          Good k c.who.path o c.held c.also c.size u.state ls → K u → Ends z (at (running c x stk) o u.state ls stk (suc e)) g) →
-          (w0 : Scene) → k ≤ w0.state.clock.left → w.behind ≡ w0.behind → w.tasks ≡ w0.tasks → Blocked y w0 K F g →
+      Good k c.who.path o c.held c.also c.size u.state ls → K u → Ends z (at (running c x stk) o u.state ls stk (suc e)) g) →
+      (w0 : Scene) → k ≤ w0.state.clock.left → w.behind ≡ w0.behind → w.tasks ≡ w0.tasks → Blocked y w0 K F g →
       Goes z j k (running c x stk) o w.behind w.tasks (on e stk) g y
   block_goes j k o x stk (value e' v u) w K F g hf next w0 l0 eb0 et0 h = λ m o' gr ls gd bi.
       one oper.Drop (machine c.who o'.world u.state (running c x stk).life ls (v ∷ stk) e c.handlers c.below) hd
       (subst (λ y. Ends z (only_where y u.state (Next (machine c.who o'.world u.state (running c x stk).life ls stk
-          (suc e) c.handlers c.below))) g) (sym hfd)
+      (suc e) c.handlers c.below))) g) (sym hfd)
       (grown_none (PS j) z (running c x stk) (not_free c.handlers x c.life.noted c.below) m o' u.behind u.tasks gr (λ le eo eb et.
       let fi = gd.fine in let ag = (agrees gd) in
       subst (λ y. Ends z (Next (machine c.who y.world u.state (running c x stk).life ls stk (suc e) c.handlers c.below)) g) (sym eo)
       (next u ls (trans fi.steps le) eb et (subst (λ y. Good k c.who.path y c.held c.also c.size u.state ls) eo
-          (fresh (slots c) ag (lifted le fi))) (h (trans (trans fi.steps le) l0) (eb ∙ eb0) (et ∙ et0))))))
+      (fresh (slots c) ag (lifted le fi))) (h (trans (trans fi.steps le) l0) (eb ∙ eb0) (et ∙ et0))))))
   block_goes j k o x stk (failed s) w K F g hf next w0 l0 eb0 et0 h = λ m o' b' f' gr ls gd.
       grown_none (PS j) z (running c x stk) (not_free c.handlers x c.life.noted c.below) m o' b' f' gr (λ le eo eb et. let fi = gd.fine in
       subst (λ y. Ends z (failing c.who y.world s ls c.handlers c.below) g) (sym eo)
-          (hf s ls h (subst (λ y. Good k c.who.path y c.held c.also c.size s ls) eo (fresh (slots c) (agrees gd) (lifted le fi)))))
+      (hf s ls h (subst (λ y. Good k c.who.path y c.held c.also c.size s ls) eo (fresh (slots c) (agrees gd) (lifted le fi)))))
   block_goes j k o x stk (returned v u) w K F g hf next w0 l0 eb0 et0 h = λ m o' gr a ls sk re gd.
       return_stuck z (running c x stk) o' u.state ls (v ∷ sk) a g hd0 re h
   block_goes j k o x stk (broke u) w K F g hf next w0 l0 eb0 et0 h = λ m o' gr a ls sk br gd.
@@ -159,7 +159,7 @@ module _ (z : Setting) (c : Ctx) (d : Tree) (q e n0 : ℕ) (fq : fits c.handlers
   parts_cases : (M : ℕ) (w : Scene) (K : Scene → Type 0) (F : State → Type 0) (g : Goal) (run : State → Step) → w.state.clock.left ≤ M →
       Blocked ((deeper z.program M).parts d c.env w) w K F g →
       ((k i : ℕ) → w.state.clock.left ≡ suc k → k ≤ i → Blocked (body_of i (with_state w (stepped k w.state))) w K F g →
-          Ends z (run (stepped k w.state)) g) → Ends z (spending w.state.clock.left w.state (Over ending.Steps w.state) run) g
+      Ends z (run (stepped k w.state)) g) → Ends z (spending w.state.clock.left w.state (Over ending.Steps w.state) run) g
   unfolding spends
   parts_cases zero w K F g run lM h f = by w.state.clock.left refl
     where
@@ -179,40 +179,47 @@ module _ (z : Setting) (c : Ctx) (d : Tree) (q e n0 : ℕ) (fq : fits c.handlers
         (st : List Val) (ls : List Val) (g : Goal) → n ≤ n0 → n ≤ M → Here z.code p (oper.Leave i) → i ≤ length c.life.defers →
         kept_defers c.handlers ≤ i → fits c.handlers p ≡ true →
         Good n c.who.path o c.held c.also c.size w.state ls →
-            Blocked ((deeper z.program M).parts d c.env w) w (λ u. Goes z j n c o u.behind u.tasks (on a st) g (go u))
-            (λ s. Goes z j n c o w.behind w.tasks (on a st) g (failed s)) g →
+        Blocked ((deeper z.program M).parts d c.env w) w (λ u. Goes z j n c o u.behind u.tasks (on a st) g (go u))
+        (λ s. Goes z j n c o w.behind w.tasks (on a st) g (failed s)) g →
         ((u : Scene) (ls : List Val) → Good n c.who.path o c.held c.also c.size u.state ls →
-            Goes z j n c o u.behind u.tasks (on a st) g (go u) → Ends z (at c o u.state ls stk p) g) →
-            Ends z (at (deferring c q) o w.state ls stk p) g
+        Goes z j n c o u.behind u.tasks (on a st) g (go u) → Ends z (at c o u.state ls stk p) g) →
+        Ends z (at (deferring c q) o w.state ls stk p) g
     deferring_goes j n M p i o stk w go b f a st ls g ln lM hl li ki fp gd h next =
         let fi = gd.fine in let ag = (agrees gd) in
-        let m0 : Machine = record { who = c.who; world = o.world; state = w.state;
-            frame = record { life = (deferring c q).life; locals = ls; stack = stk; place = p; handlers = c.handlers };
-            below = c.below } in
+        let m0 : Machine = record {
+          who = c.who;
+          world = o.world;
+          state = w.state;
+          frame = record { life = (deferring c q).life; locals = ls; stack = stk; place = p; handlers = c.handlers };
+          below = c.below;
+        } in
         let rest1 : Step = spending w.state.clock.left w.state (Over ending.Steps w.state)
-            (λ u. Next (machine c.who o.world u (record { born = c.life.born; defers = c.life.defers;
-            noted = to p ∷ c.life.noted }) ls stk q c.handlers c.below)) in
+        (λ u. Next (machine c.who o.world u (record {
+          born = c.life.born;
+          defers = c.life.defers;
+          noted = to p ∷ c.life.noted;
+        }) ls stk q c.handlers c.below)) in
         one (oper.Leave i) m0 hl
         (subst (λ y. Ends z (only_where (not y) w.state (only_where (not (ltn i (kept_defers c.handlers))) w.state
-            (leaves (ltn i (suc (length c.life.defers))) c.who o.world w.state (deferring c q).life ls stk p c.handlers c.below))) g)
-            (sym (lt_false (suc (length c.life.defers)) i (λ x. omega (arith, x, li))))
+        (leaves (ltn i (suc (length c.life.defers))) c.who o.world w.state (deferring c q).life ls stk p c.handlers c.below))) g)
+        (sym (lt_false (suc (length c.life.defers)) i (λ x. omega (arith, x, li))))
         (subst (λ y. Ends z (only_where (not y) w.state (leaves (ltn i (suc (length c.life.defers))) c.who o.world w.state
-            (deferring c q).life ls stk p c.handlers c.below)) g) (sym (lt_false i (kept_defers c.handlers) (λ x. omega (arith, x, ki))))
+        (deferring c q).life ls stk p c.handlers c.below)) g) (sym (lt_false i (kept_defers c.handlers) (λ x. omega (arith, x, ki))))
         (subst (λ y. Ends z (leaves y c.who o.world w.state (deferring c q).life ls stk p c.handlers c.below) g)
-            (sym (ltn_less i (length c.life.defers) li))
+        (sym (ltn_less i (length c.life.defers) li))
         (subst (λ y. Ends z (only_where y w.state rest1) g) (sym fq)
         (parts_cases M w (λ u. Goes z j n c o u.behind u.tasks (on a st) g (go u))
-            (λ s. Goes z j n c o w.behind w.tasks (on a st) g (failed s)) g _ (trans fi.steps lM) h (λ k i' eq ki' h.
+        (λ s. Goes z j n c o w.behind w.tasks (on a st) g (failed s)) g _ (trans fi.steps lM) h (λ k i' eq ki' h.
         (bl j k i' (to p) stk (trans (less_of eq) (trans fi.steps ln)) ki' o (with_state w (stepped k w.state)) ls
-            (fresh (slots c) ag (record { steps = le_self; low = trans (less_of eq) fi.low; apart = fi.apart }))).go g
+        (fresh (slots c) ag (record { steps = le_self; low = trans (less_of eq) fi.low; apart = fi.apart }))).go g
         (block_goes j k o (to p) stk (body_of i' (with_state w (stepped k w.state))) (with_state w (stepped k w.state))
-            (λ u. Goes z j n c o u.behind u.tasks (on a st) g (go u)) (λ s. Goes z j n c o w.behind w.tasks (on a st) g (failed s)) g
-            (λ s ls y gd. y n o w.behind w.tasks (same_around le_self) ls (raise (trans (less_of eq) fi.steps) gd))
+        (λ u. Goes z j n c o u.behind u.tasks (on a st) g (go u)) (λ s. Goes z j n c o w.behind w.tasks (on a st) g (failed s)) g
+        (λ s ls y gd. y n o w.behind w.tasks (same_around le_self) ls (raise (trans (less_of eq) fi.steps) gd))
         (λ u ls l1 eb et gd z'. one oper.DeferEnd (machine c.who o.world u.state
-            (record { born = c.life.born; defers = c.life.defers; noted = to p ∷ c.life.noted }) ls stk (suc e) c.handlers c.below) he
+        (record { born = c.life.born; defers = c.life.defers; noted = to p ∷ c.life.noted }) ls stk (suc e) c.handlers c.below) he
         (subst (λ y. Ends z (only_where y u.state (only_where (fits c.handlers p) u.state
-            (Next (machine c.who o.world u.state c.life ls stk p c.handlers c.below)))) g)
-            (sym (ltn_less (kept_noted c.handlers) (length c.life.noted) kn))
+        (Next (machine c.who o.world u.state c.life ls stk p c.handlers c.below)))) g)
+        (sym (ltn_less (kept_noted c.handlers) (length c.life.noted) kn))
         (subst (λ y. Ends z (only_where y u.state (Next (machine c.who o.world u.state c.life ls stk p c.handlers c.below))) g) (sym fp)
         (next u ls (raise (trans (less_of eq) fi.steps) gd) z')))) w (less_of eq) refl refl h)))))))
       where
@@ -225,13 +232,13 @@ module _ (z : Setting) (c : Ctx) (d : Tree) (q e n0 : ℕ) (fq : fits c.handlers
         Goes z j m c o' u.behind u.tasks (on a st) g x
     after_same j n m o o' b f a st g w u x gr eb et k = shifted z j n m c o o' b u.behind f u.tasks (on a st) g x
         (subst (λ y. Grown (PS j) z c m o' y u.tasks n o b f) (sym eb)
-            (subst (λ y. Grown (PS j) z c m o' w.behind y n o b f) (sym et) gr)) k
+        (subst (λ y. Grown (PS j) z c m o' w.behind y n o b f) (sym et) gr)) k
 
     blocked_map : (j n m : ℕ) (o o' : Around) (b : Scopes) (f : Tasks) (a : ℕ) (st : List Val) (g : Goal) (w : Scene)
         (go : Scene → Outcome) (x : Outcome) → Grown (PS j) z c m o' w.behind w.tasks n o b f →
         Blocked x w (λ u. Goes z j n c o b f (on a st) g (go u)) (λ s. Goes z j n c o b f (on a st) g (failed s)) g →
-            Blocked x w (λ u. Goes z j m c o' u.behind u.tasks (on a st) g (go u))
-            (λ s. Goes z j m c o' w.behind w.tasks (on a st) g (failed s)) g
+        Blocked x w (λ u. Goes z j m c o' u.behind u.tasks (on a st) g (go u))
+        (λ s. Goes z j m c o' w.behind w.tasks (on a st) g (failed s)) g
     blocked_map j n m o o' b f a st g w go (value e v u) gr h = λ le eb et. after_same j n m o o' b f a st g w u (go u) gr eb et
         (h le eb et)
     blocked_map j n m o o' b f a st g w go (failed s) gr h = shifted z j n m c o o' b w.behind f w.tasks (on a st) g (failed s) gr h
@@ -259,22 +266,25 @@ module _ (z : Setting) (c : Ctx) (d : Tree) (q e n0 : ℕ) (fq : fits c.handlers
           let v0 : World = in_clearing o after todo in
           let next : State → Step = λ s. clears (follows after) after todo o s in
           parts_cases M u _ (λ s. broke_off ending.Stuck s ≡ g.seen) g
-              (λ s. Next (machine c.who v0 s (record { born = c.life.born; defers = c.life.defers;
-              noted = gone ∷ c.life.noted }) ls stk q [] c.below)) (trans lu lM)
-              (of_dropped ((deeper z.program M).parts d c.env u) u _ g h) (λ k i eq ki h.
+          (λ s. Next (machine c.who v0 s (record {
+            born = c.life.born;
+            defers = c.life.defers;
+            noted = gone ∷ c.life.noted;
+          }) ls stk q [] c.below)) (trans lu lM)
+          (of_dropped ((deeper z.program M).parts d c.env u) u _ g h) (λ k i eq ki h.
           subst (λ hs. Ends z (Next (machine c.who v0 (stepped k u.state)
-              (record { born = c.life.born; defers = c.life.defers; noted = gone ∷ c.life.noted }) ls stk q hs c.below)) g)
-              (no_handlers c.handlers c.life.noted c.below fr)
+          (record { born = c.life.born; defers = c.life.defers; noted = gone ∷ c.life.noted }) ls stk q hs c.below)) g)
+          (no_handlers c.handlers c.life.noted c.below fr)
           ((bl 0 k i gone stk (trans (less_of eq) (trans lu (trans le lm))) ki (record { world = v0; own = k })
-              (with_state u (stepped k u.state)) ls (fresh (slots c) ag
-              (record { steps = le_self; low = le_self; apart = apart_beside c.who.path v0 k far }))).go g
+          (with_state u (stepped k u.state)) ls (fresh (slots c) ag
+          (record { steps = le_self; low = le_self; apart = apart_beside c.who.path v0 k far }))).go g
           (block_goes 0 k (record { world = v0; own = k }) gone stk (body_of i (with_state u (stepped k u.state)))
-              (with_state u (stepped k u.state)) _ (λ s. broke_off ending.Stuck s ≡ g.seen) g
-              (λ s ls y gd. subst (λ q. Ends z q g) (sym (free_fails c.who v0 s ls c.handlers c.life.noted c.below fr)) (over _ y))
+          (with_state u (stepped k u.state)) _ (λ s. broke_off ending.Stuck s ≡ g.seen) g
+          (λ s ls y gd. subst (λ q. Ends z q g) (sym (free_fails c.who v0 s ls c.handlers c.life.noted c.below fr)) (over _ y))
           (λ y ls l1 eb et gd h. one oper.DeferEnd (machine c.who v0 y.state
-              (record { born = c.life.born; defers = c.life.defers; noted = gone ∷ c.life.noted }) ls stk (suc e) c.handlers c.below) he
+          (record { born = c.life.born; defers = c.life.defers; noted = gone ∷ c.life.noted }) ls stk (suc e) c.handlers c.below) he
           (subst (λ b. Ends z (only_where b y.state (clears_frames next c.who v0 y.state (frame_of c ls stk (suc e) ∷ c.below))) g)
-              (sym (ltn_less (kept_noted c.handlers) (length c.life.noted) kn))
+          (sym (ltn_less (kept_noted c.handlers) (length c.life.noted) kn))
           (h ls stk (suc e) ((agrees gd))))) u (less_of eq) refl refl h)))));
     }
       where
@@ -296,9 +306,9 @@ module _ (z : Setting) (c : Ctx) (d : Tree) (q e n0 : ℕ) (fq : fits c.handlers
           let gr' = grown_deferring (PS j) z c q m o' w.behind w.tasks gr in let mn = grown_steps (PS j) z c m o' w.behind w.tasks gr' in
           let fi = gd.fine in let ag = (agrees gd) in
           deferring_goes j m M a i o' (v ∷ st) w (λ u. value c.env v u) b f a st ls g (trans mn ln)
-              (trans mn lM) hl ki.there ki.handled fa (fresh (slots c) ag fi)
+          (trans mn lM) hl ki.there ki.handled fa (fresh (slots c) ag fi)
           (blocked_map j n m o o' b f a st g w (λ u. value c.env v u) ((deeper z.program M).parts d c.env w) gr'
-              (of_block z j n c o b f (on a st) g ((deeper z.program M).parts d c.env w) w (λ u. value c.env v u) k)
+          (of_block z j n c o b f (on a st) g ((deeper z.program M).parts d c.env w) w (λ u. value c.env v u) k)
           )
           (λ u ls gd h. h m o' (same_around le_self) ls gd tt)
       closing_step j n M ln lM pk o b f g (failed s) k = λ m o' b' f' gr ls gd.
@@ -306,9 +316,9 @@ module _ (z : Setting) (c : Ctx) (d : Tree) (q e n0 : ℕ) (fq : fits c.handlers
       closing_step j n M ln lM pk o b f g (returned v w) k = λ m o' gr p ls stk re gd.
           let gr' = grown_deferring (PS j) z c q m o' w.behind w.tasks gr in let mn = grown_steps (PS j) z c m o' w.behind w.tasks gr' in
           by re (λ f1 h1. deferring_goes j m M p (left_at c.leave) o' (v ∷ stk) w (λ u. returned v u) b f a st ls g (trans mn ln)
-              (trans mn lM) h1 kr.there kr.handled f1 gd
+          (trans mn lM) h1 kr.there kr.handled f1 gd
           (blocked_map j n m o o' b f a st g w (λ u. returned v u) ((deeper z.program M).parts d c.env w) gr'
-              (of_block z j n c o b f (on a st) g ((deeper z.program M).parts d c.env w) w (λ u. returned v u) k)
+          (of_block z j n c o b f (on a st) g ((deeper z.program M).parts d c.env w) w (λ u. returned v u) k)
           )
           (λ u ls gd h. h m o' (same_around le_self) p ls stk (again re) gd))
         where
@@ -323,9 +333,9 @@ module _ (z : Setting) (c : Ctx) (d : Tree) (q e n0 : ℕ) (fq : fits c.handlers
       closing_step j n M ln lM pk o b f g (broke w) k = λ m o' gr p ls stk br gd.
           let gr' = grown_deferring (PS j) z c q m o' w.behind w.tasks gr in let mn = grown_steps (PS j) z c m o' w.behind w.tasks gr' in
           by br (λ f1 h1. deferring_goes j m M p (kept_at c.exit) o' stk w (λ u. broke u) b f a st ls g (trans mn ln)
-              (trans mn lM) h1 kb.there kb.handled f1 gd
+          (trans mn lM) h1 kb.there kb.handled f1 gd
           (blocked_map j n m o o' b f a st g w (λ u. broke u) ((deeper z.program M).parts d c.env w) gr'
-              (of_block z j n c o b f (on a st) g ((deeper z.program M).parts d c.env w) w (λ u. broke u) k)
+          (of_block z j n c o b f (on a st) g ((deeper z.program M).parts d c.env w) w (λ u. broke u) k)
           )
           (λ u ls gd h. h m o' (same_around le_self) p ls stk (again br) gd))
         where
@@ -341,15 +351,18 @@ module _ (z : Setting) (c : Ctx) (d : Tree) (q e n0 : ℕ) (fq : fits c.handlers
       closing_step j n M ln lM pk o b f g (halted y) k = k
       closing_step j n M ln lM pk o b f g (rests r w) k = λ m o' gr fr fi ts y.
           let gr' = grown_deferring (PS j) z c q m o' w.behind w.tasks gr in let mn = grown_steps (PS j) z c m o' w.behind w.tasks gr' in
-          k m o' gr' fr fi ts (record { keeps = y.keeps; stands = pk fr w.state.clock.left o'.own r ts (trans fi.steps mn) y.stands;
-              stopped = stopped_closing w.state.clock.left (trans fi.steps (trans mn ln)) fr r ts y.stopped })
+          k m o' gr' fr fi ts (record {
+            keeps = y.keeps;
+            stands = pk fr w.state.clock.left o'.own r ts (trans fi.steps mn) y.stands;
+            stopped = stopped_closing w.state.clock.left (trans fi.steps (trans mn ln)) fr r ts y.stopped;
+          })
 
       closing_parked : (j : ℕ) → Parked_closing j
       closing_parked zero m own r ts lm k = tt
       closing_parked (suc j) m own r ts lm k = λ n v s hn lt pre post rs b f far M lM g y.
           k n v s hn lt pre post rs b f far M lM g
           (closing_step j s.clock.left M (trans lt lm) lM (λ fr m' own' r' ts' lt'. closing_parked j m' own' r' ts'
-              (trans lt' (trans lt lm))) (around pre post rs own) b f g (resume z.program (deeper z.program M) r n v (scene s b f)) y)
+          (trans lt' (trans lt lm))) (around pre post rs own) b f g (resume z.program (deeper z.program M) r n v (scene s b f)) y)
 
       -- a `defer` and what follows it, up to the Leave of its block
       pub defer_leads : (j n M : ℕ) → n ≤ n0 → n ≤ M → (i0 l : ℕ) → Here z.code i0 (oper.Defer l) → fits c.handlers l ≡ true →
@@ -360,7 +373,7 @@ module _ (z : Setting) (c : Ctx) (d : Tree) (q e n0 : ℕ) (fq : fits c.handlers
         go = λ g k. one (oper.Defer l) (machine c.who o.world s c.life ls st i0 c.handlers c.below) hdf
             (subst (λ y. Ends z (only_where y s (Next (machine c.who o.world s
             (record { born = c.life.born; defers = suc i0 ∷ c.life.defers; noted = c.life.noted }) ls st l c.handlers c.below))) g)
-                (sym fl)
+            (sym fl)
             (subst (λ y. Ends z (Next (machine c.who o.world s
             (record { born = c.life.born; defers = y ∷ c.life.defers; noted = c.life.noted }) ls st l c.handlers c.below)) g) eq
             (h.go g (closing_step j n M ln lM (λ fr m own r ts lm. closing_parked j m own r ts (trans lm ln)) o b f g x k))));

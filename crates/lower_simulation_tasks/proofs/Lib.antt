@@ -7,4 +7,3 @@ pub mod Waits
 pub mod Begins
 pub mod Defers
 pub mod Deferring
-pub mod Spawns
