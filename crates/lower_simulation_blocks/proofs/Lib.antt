@@ -1,3 +1,4 @@
 pub mod Failing
 pub mod Definitions
 pub mod Blocks
+pub mod Choices
