@@ -2,3 +2,4 @@ pub mod Failing
 pub mod Definitions
 pub mod Blocks
 pub mod Choices
+pub mod Loops
