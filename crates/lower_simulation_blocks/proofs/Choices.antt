@@ -65,10 +65,11 @@ module _ (z : Setting) (differ : ℕ → ℕ → Bool) (top : ℕ) where
       (ls st : List Val) →
       Stands z (fits c.handlers) c.size out s (either op.Try (low.statements z.program differ cs ss (enclosed a) then f2) u s) e →
       Static top c ss out a → n ≤ top → n ≤ M → Good n c.who.path o c.held c.also c.size y.state ls →
-      ((m : ℕ) → m ≤ n → (i l : ℕ) (o : Around) (s e1 : Spot) (env : Env) (v : Val) (w : World) (ls : List Val) →
-      Stands z (narrow (fits c.handlers) i l) c.size out s (f2 s) e1 → Good m c.who.path o c.held c.also c.size w.state ls →
+      ((m : ℕ) → m ≤ n → (i l : ℕ) (s e1 : Spot) (env : Env) (v : Val) (w : State) (ls : List Val) →
+      Stands z (narrow (fits c.handlers) i l) c.size out s (f2 s) e1 → Good m c.who.path o c.held c.also c.size w ls →
       Shows (scope_behind cs ss) c.held env ls →
-      LeadsTo z j m c o w.behind w.tasks (at (trying c y.state i l st) o w.state ls (v ∷ []) s.at) (on e1.at st) (yes_do env v w)) →
+      LeadsTo z j m c o y.behind y.tasks (at (trying c y.state i l st) o w ls (v ∷ []) s.at) (on e1.at st)
+      (yes_do env v (with_state y w))) →
       ((s : Spot) (v : State) (ls : List Val) → Stands z (fits c.handlers) c.size out s (u s) e →
       Good n c.who.path o c.held c.also c.size v ls →
       LeadsTo z j n c o y.behind y.tasks (at c o v ls st s.at) (on e.at st) (other (with_state y v))) →
@@ -86,8 +87,8 @@ module _ (z : Setting) (differ : ℕ → ℕ → Bool) (top : ℕ) where
       try_leads z {c = c} {into = on e.at st} s.at l y _ _ _ i1.begins (i1.first.fit (suc s.at) le_self v1) (i1.wide l (omega (arith, v1)) v0)
       (hc ss (enclosed a) (next s) _ out false M j n (trying c y.state s.at l st) o y ls [] r.0 (trying_static y.state s.at l st sc) refl lt
       lM refl g)
-      (λ k le o env x w ls g bs. jump_leads z c m.at e.at st _ i1.jump (i1.wide e.at (omega (arith, v0, v1)) le_self)
-      (go k le s.at l o _ m env x w ls r.1 g bs))
+      (λ k le env x w ls g bs. jump_leads z c m.at e.at st _ i1.jump (i1.wide e.at (omega (arith, v0, v1)) le_self)
+      (go k le s.at l _ m env x w ls r.1 g bs))
       (λ x ls g. rest _ x ls i1.rest g)
 
   -- the part that is taken where the conditions hold, and the other
@@ -110,14 +111,14 @@ module _ (z : Setting) (differ : ℕ → ℕ → Bool) (top : ℕ) where
       let body : Maker = piece z.program differ b us a in
       context_leads cs hc (one op.Drop then one op.Commit then body) u (λ e1 v y. ev z.program (deeper z.program M) b w e1 y) other ss a s e
       out M j n c o y ls st i sc lt lM g
-      (λ m le i l o s e1 env v w1 ls x g bs.
+      (λ m le i l s e1 env v w1 ls x g bs.
       let r = then_stand z s e1 (one op.Drop) (one op.Commit then body) x in
       let r2 = then_stand z (next s) e1 (one op.Commit) body r.1 in
       let drop = op_stands z r.0 in
       does_leads z drop.is (open_leads z _ drop.fit
       (commit_leads z y.state i l (op_stands z r2.0).is (op_stands z (widened z i l r2.0)).fit
       (holding_leads z c env bs.more [] _
-      (hb us a (next (next s)) e1 out w M j m (holding_all c env bs.more []) o w1 ls st (widened z i l r2.1)
+      (hb us a (next (next s)) e1 out w M j m (holding_all c env bs.more []) o (with_state y w1) ls st (widened z i l r2.1)
       (shown_static (longer cs ss) sc bs) fw (trans le lt) (trans le lM) ab
       (record { holds = bs.holds; besides = g.besides; sized = g.sized; fine = g.fine }))))))
       rest
@@ -139,13 +140,13 @@ module _ (z : Setting) (differ : ℕ → ℕ → Bool) (top : ℕ) where
   logic_leads n pl cs hc ss a s e out w M j m c o y ls st i sc fw lt lM ab g =
       context_leads cs hc (one op.Drop then one op.Commit then one op.True) (one op.False) (λ e1 v y. value c.env truth y)
       (λ y. value c.env falsity y) ss a s e out M j m c o y ls st i sc lt lM g
-      (λ m le i l o s e1 env v w1 ls x g bs.
+      (λ m le i l s e1 env v w1 ls x g bs.
       let r = then_stand z s e1 (one op.Drop) (one op.Commit then one op.True) x in
       let r2 = then_stand z (next s) e1 (one op.Commit) (one op.True) r.1 in
       let drop = op_stands z r.0 in
       does_leads z drop.is (open_leads z _ drop.fit
       (commit_leads z y.state i l (op_stands z r2.0).is (op_stands z (widened z i l r2.0)).fit
-      (op_leads z (widened z i l r2.1) (λ h. open_leads z _ h.fit (value_here z g))))))
+      (op_leads z (widened z i l r2.1) (λ h. open_leads z _ h.fit (value_here z {w = with_state y w1} g))))))
       (λ s v ls x g. op_leads z x (λ h. open_leads z _ h.fit (value_here z g)))
 
   pub option_leads : (n : ℕ) (pl : Place) (cs : Trees) → ConditionsLead z differ top cs →
@@ -153,10 +154,10 @@ module _ (z : Setting) (differ : ℕ → ℕ → Bool) (top : ℕ) where
   option_leads n pl cs hc ss a s e out w M j m c o y ls st i sc fw lt lM ab g =
       context_leads cs hc (one op.Commit then placed pl op.Some) (one op.False) (λ e1 v y. told (still (option_of v) y.state) pl c.env y)
       (λ y. value c.env falsity y) ss a s e out M j m c o y ls st i sc lt lM g
-      (λ m le i l o s e1 env v w1 ls x g bs.
+      (λ m le i l s e1 env v w1 ls x g bs.
       let r = then_stand z s e1 (one op.Commit) (placed pl op.Some) x in
       let some = placed_stand z pl op.Some (widened z i l r.1) in
       commit_leads z y.state i l (op_stands z r.0).is (op_stands z (widened z i l r.0)).fit
       (op_leads z (widened z i l r.1)
-      (λ h. told_leads z (still (option_of v) w1.state) pl c.env some.place h.fit (still_calm z (option_of v) w1.state) g)))
+      (λ h. told_leads z (still (option_of v) w1) pl {w = with_state y w1} c.env some.place h.fit (still_calm z (option_of v) w1) g)))
       (λ s v ls x g. op_leads z x (λ h. open_leads z _ h.fit (value_here z g)))

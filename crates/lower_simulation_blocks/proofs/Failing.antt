@@ -17,9 +17,10 @@ use Rattle.lower_code.specs.Arounds.{enclosed}
 use Rattle.lower_code.specs.Lowering.{piece}
 use Rattle.lower_simulation.proofs.Claims.{Setting, Ends, Ctx, Around, at, Good, Target, on, Tasks, Locals, Binds, laid, ParkedS, Grown}
 use Rattle.lower_simulation.proofs.Claims.{same_around, left_around, forked_around}
-use Rattle.lower_simulation.proofs.Going.{le_self, raise, kept, shifted, grown_steps}
-use Rattle.lower_simulation.proofs.Following.{grown_in}
-use Rattle.lower_simulation.proofs.Leading.{LeadsTo, does_leads, open_leads, value_here, fails_here}
+use Rattle.lower_simulation.proofs.Going.{le_self, raise, kept, shifted}
+use Rattle.verse_meaning.specs.Outcomes.{Halt, world, wrong}
+use Rattle.lower_simulation.proofs.Claims.{Goes}
+use Rattle.lower_simulation.proofs.Leading.{LeadsTo, is_leads, does_leads, open_leads, value_here, fails_here}
 use Rattle.lower_simulation.proofs.Standing.{past_le, joined_stands, op_stands, narrow, widened, narrow_stands, end_at, then_stand}
 use Rattle.lower_simulation.proofs.Standing.{either_stand, ahead_stand}
 use Rattle.lower_simulation.proofs.Forms.{start_leads, op_leads, EvLeads}
@@ -28,74 +29,98 @@ use Rattle.lower_simulation.proofs.Leaving.{return_stuck, break_stuck}
 use Rattle.lower_simulation.proofs.Widening.{holding_all}
 
 module _ (z : Setting) where
-  pub record Same_around (o' o : Around) (n' n : ℕ) : Type 0 where
+  pub record Same_around (o' o : Around) (b' b : Scopes) (f' f : Tasks) (n' n : ℕ) : Type 0 where
     pub around : o' ≡ o
+    pub behind : b' ≡ b
+    pub tasks : f' ≡ f
     pub le : n' ≤ n
 
   -- nothing grows while a failure context is open
   pub grown_none : (j : ℕ) (c : Ctx) {n' : ℕ} {o' : Around} {b' : Scopes} {f' : Tasks} {n : ℕ} {o : Around} {b : Scopes} {f : Tasks} →
-      free c.handlers c.life.noted c.below ≡ false → Grown (ParkedS z j) z c n' o' b' f' n o b f → Same_around o' o n' n
-  grown_none j c h (same_around lt) = record { around = refl; le = lt }
+      free c.handlers c.life.noted c.below ≡ false → Grown (ParkedS z j) z c n' o' b' f' n o b f → Same_around o' o b' b f' f n' n
+  grown_none j c h (same_around lt) = record { around = refl; behind = refl; tasks = refl; le = lt }
   grown_none j c h (left_around q s ts fr lt l1 l2 st g) = cc
   grown_none j c h (forked_around q e s ts fr lt st g) = cc
 
-  -- an attempt, within which more locals are held
-  pub attempt_more : {j n : ℕ} {c : Ctx} {o : Around} {q : Step} {a l : ℕ} {st : List Val} {from into : Target} (more : Locals) (y : World)
-      (x : Outcome) (yes_do : Env → Val → World → Outcome) (no_do : World → Outcome) → fits c.handlers l ≡ true →
+  -- what an attempt that began in a world makes of each outcome but a value; an attempt is not suspended
+  pub record Attempts (y : World) (make : Outcome → Outcome) (no_do : World → Outcome) : Type 0 where
+    pub fails : (s : State) → make (failed s) ≡ no_do (with_state y (restored y.state.memory s))
+    pub returns : (v : Val) (w : World) → make (returned v w) ≡ halted (wrong w.state)
+    pub breaks : (w : World) → make (broke w) ≡ halted (wrong w.state)
+    pub halts : (h : Halt) → make (halted h) ≡ halted h
+
+  attempts : (y : World) (yes_do : Env → Val → World → Outcome) (no_do : World → Outcome) →
+      Attempts y (λ x. attempted x y yes_do no_do) no_do
+  unfolding attempted
+  attempts y yes_do no_do = record { fails = λ s. refl; returns = λ v w. refl; breaks = λ w. refl; halts = λ h. refl }
+
+  -- where more is attempted behind a value
+  pub attempts_more : (y : World) (wrap : Residual → Residual) (go : Val → World → Outcome) (yes_do : Env → Val → World → Outcome)
+      (no_do : World → Outcome) → Attempts y (λ x. attempted (valued x wrap go) y yes_do no_do) no_do
+  unfolding attempted valued
+  attempts_more y wrap go yes_do no_do = record { fails = λ s. refl; returns = λ v w. refl; breaks = λ w. refl; halts = λ h. refl }
+
+  -- a part of an attempt that began in the world y, within which more locals are held
+  pub attempt_by : {j n : ℕ} {c : Ctx} {o : Around} {q : Step} {a l : ℕ} {st : List Val} {from into : Target} (more : Locals) (y : World)
+      (x : Outcome) (make : Outcome → Outcome) (no_do : World → Outcome) → Attempts y make no_do → fits c.handlers l ≡ true →
       LeadsTo z j n (holding_all (trying c y.state a l st) c.env [] more) o y.behind y.tasks q from x →
-      ((m : ℕ) → m ≤ n → (o : Around) (e : Env) (v : Val) (w : World) (ls : List Val) →
-      Good m c.who.path o c.held (more ++ c.also) c.size w.state ls → Binds from.shown c.held e v ls →
-      LeadsTo z j m c o w.behind w.tasks (at (trying c y.state a l st) o w.state ls (laid from.lies v from.stack) from.place) into
-      (yes_do e v w)) →
+      ((m : ℕ) → m ≤ n → (e : Env) (v : Val) (s : State) (ls : List Val) →
+      Good m c.who.path o c.held (more ++ c.also) c.size s ls → Binds from.shown c.held e v ls →
+      LeadsTo z j m c o y.behind y.tasks (at (trying c y.state a l st) o s ls (laid from.lies v from.stack) from.place) into
+      (make (value e v (with_state y s)))) →
       ((u : State) (ls : List Val) → Good n c.who.path o c.held (more ++ c.also) c.size u ls →
       LeadsTo z j n c o y.behind y.tasks (at c o u ls st l) into (no_do (with_state y u))) →
-      LeadsTo z j n c o y.behind y.tasks q into (attempted x y yes_do no_do)
-  unfolding attempted
-  attempt_more {j} {n} {c} {o} {q} {a} {l} {st} {from} {into} more y (value e v w) yes_do no_do fl h f g =
-      let d : Ctx = holding_all (trying c y.state a l st) c.env [] more in
-      record {
-        go = λ t k. h.go t (λ m o' gr ls gd bs. let r = grown_none j d refl gr in
-            (f m r.le o' e v w ls gd bs).go t (shifted z j n m c o o' y.behind w.behind y.tasks w.tasks into t (yes_do e v w)
-            (grown_in (ParkedS z j) z d c m o' w.behind w.tasks refl refl (λ fr. cc) gr) k));
-      }
-  attempt_more {j} {n} {c} {o} {q} {a} {l} {st} {from} {into} more y (failed s) yes_do no_do fl h f g = record {
-    go = λ t k. h.go t (λ m o' b' f' gr ls gd. let r = grown_none j (holding_all (trying c y.state a l st) c.env [] more) refl gr in
+      LeadsTo z j n c o y.behind y.tasks q into (make x)
+  attempt_by {j} {n} {c} {o} {q} {a} {l} {st} {from} {into} more y (value e v w) make no_do ht fl h f g = record {
+    go = λ t k. h.go t (λ m o' gr ls gd bs.
+        let r = grown_none j (holding_all (trying c y.state a l st) c.env [] more) refl gr in
+        subst (λ (x : Around). Ends z (at (trying c y.state a l st) x w.state ls (laid from.lies v from.stack) from.place) t) (sym r.around)
+        ((f m r.le e v w.state ls (subst (λ (x : Around). Good m c.who.path x c.held (more ++ c.also) c.size w.state ls) r.around gd) bs).go
+        t (shifted z j n m c o o y.behind y.behind y.tasks y.tasks into t (make (value e v (with_state y w.state))) (same_around r.le)
+        (subst (λ b. Goes z j n c o y.behind y.tasks into t (make (value e v (world w.state b y.tasks)))) r.behind
+        (subst (λ f. Goes z j n c o y.behind y.tasks into t (make (value e v (world w.state w.behind f)))) r.tasks k)))));
+  }
+  attempt_by {j} {n} {c} {o} {q} {a} {l} {st} {from} {into} more y (failed s) make no_do ht fl h f g = is_leads z (ht.fails s) (record {
+    go = λ t k. h.go t (λ m o' b' f' gr ls gd.
+        let r = grown_none j (holding_all (trying c y.state a l st) c.env [] more) refl gr in
         subst (λ u. Ends z (only_where u s (at c o' (restored y.state.memory s) ls st l)) t) (sym fl)
         (subst (λ (u : Around). Ends z (at c u (restored y.state.memory s) ls st l) t) (sym r.around)
         ((g (restored y.state.memory s) ls (raise r.le
         (kept (subst (λ (u : Around). Good m c.who.path u c.held (more ++ c.also) c.size s ls) r.around gd) le_self))).go t k)));
-  }
-  attempt_more {c = c} {a = a} {l} {st} more y (returned v w) yes_do no_do fl h f g = record {
+  })
+  attempt_by {c = c} {a = a} {l} {st} more y (returned v w) make no_do ht fl h f g = is_leads z (ht.returns v w) (record {
     go = λ t k. h.go t (λ m o' gr p ls stk r gd. return_stuck z (trying c y.state a l st) o' w.state ls (v ∷ stk) p t le_self r k);
-  }
-  attempt_more {c = c} {a = a} {l} {st} more y (broke w) yes_do no_do fl h f g = record {
+  })
+  attempt_by {c = c} {a = a} {l} {st} more y (broke w) make no_do ht fl h f g = is_leads z (ht.breaks w) (record {
     go = λ t k. h.go t (λ m o' gr p ls stk r gd. break_stuck z (trying c y.state a l st) [] o' w.state ls stk p t le_self r k);
-  }
-  attempt_more more y (halted x) yes_do no_do fl h f g = record { go = λ t k. h.go t k }
-  attempt_more more y (rests x w) yes_do no_do fl h f g = record { go = λ t k. h.go t (λ m o' gr fr. cc) }
+  })
+  attempt_by more y (halted x) make no_do ht fl h f g = is_leads z (ht.halts x) (record { go = λ t k. h.go t k })
+  attempt_by more y (rests x w) make no_do ht fl h f g = record { go = λ t k. h.go t (λ m o' gr fr. cc) }
 
   pub attempt_leads : {j n : ℕ} {c : Ctx} {o : Around} {q : Step} {a l : ℕ} {st : List Val} {from into : Target} (y : World) (x : Outcome)
       (yes_do : Env → Val → World → Outcome) (no_do : World → Outcome) → fits c.handlers l ≡ true →
       LeadsTo z j n (trying c y.state a l st) o y.behind y.tasks q from x →
-      ((m : ℕ) → m ≤ n → (o : Around) (e : Env) (v : Val) (w : World) (ls : List Val) →
-      Good m c.who.path o c.held c.also c.size w.state ls → Binds from.shown c.held e v ls →
-      LeadsTo z j m c o w.behind w.tasks (at (trying c y.state a l st) o w.state ls (laid from.lies v from.stack) from.place) into
-      (yes_do e v w)) →
+      ((m : ℕ) → m ≤ n → (e : Env) (v : Val) (s : State) (ls : List Val) →
+      Good m c.who.path o c.held c.also c.size s ls → Binds from.shown c.held e v ls →
+      LeadsTo z j m c o y.behind y.tasks (at (trying c y.state a l st) o s ls (laid from.lies v from.stack) from.place) into
+      (yes_do e v (with_state y s))) →
       ((u : State) (ls : List Val) → Good n c.who.path o c.held c.also c.size u ls →
       LeadsTo z j n c o y.behind y.tasks (at c o u ls st l) into (no_do (with_state y u))) →
       LeadsTo z j n c o y.behind y.tasks q into (attempted x y yes_do no_do)
+  unfolding attempted
   attempt_leads {c = c} {a = a} {l} {st} {from} {into} y x yes_do no_do fl h f g =
-      attempt_more {c = c} {a = a} {l = l} {st = st} {from = from} {into = into} [] y x yes_do no_do fl h f g
+      attempt_by {c = c} {a = a} {l = l} {st = st} {from = from} {into = into} [] y x (λ x. attempted x y yes_do no_do) no_do
+      (attempts y yes_do no_do) fl h f g
 
   -- Try, and what is attempted
   pub try_leads : {j n : ℕ} {c : Ctx} {o : Around} {ls st : List Val} {from into : Target} (a l : ℕ) (y : World) (x : Outcome)
       (yes_do : Env → Val → World → Outcome) (no_do : World → Outcome) → slice_get z.code.ops a ≡ Some (op.Try l) →
       narrow (fits c.handlers) a l (suc a) ≡ true → fits c.handlers l ≡ true →
       LeadsTo z j n (trying c y.state a l st) o y.behind y.tasks (at (trying c y.state a l st) o y.state ls [] (suc a)) from x →
-      ((m : ℕ) → m ≤ n → (o : Around) (e : Env) (v : Val) (w : World) (ls : List Val) →
-      Good m c.who.path o c.held c.also c.size w.state ls → Binds from.shown c.held e v ls →
-      LeadsTo z j m c o w.behind w.tasks (at (trying c y.state a l st) o w.state ls (laid from.lies v from.stack) from.place) into
-      (yes_do e v w)) →
+      ((m : ℕ) → m ≤ n → (e : Env) (v : Val) (s : State) (ls : List Val) →
+      Good m c.who.path o c.held c.also c.size s ls → Binds from.shown c.held e v ls →
+      LeadsTo z j m c o y.behind y.tasks (at (trying c y.state a l st) o s ls (laid from.lies v from.stack) from.place) into
+      (yes_do e v (with_state y s))) →
       ((u : State) (ls : List Val) → Good n c.who.path o c.held c.also c.size u ls →
       LeadsTo z j n c o y.behind y.tasks (at c o u ls st l) into (no_do (with_state y u))) →
       LeadsTo z j n c o y.behind y.tasks (at c o y.state ls st a) into (attempted x y yes_do no_do)
@@ -106,25 +131,6 @@ module _ (z : Setting) where
       {r : Outcome} (u : State) (a l : ℕ) → slice_get z.code.ops p ≡ Some op.Commit → fits c.handlers (suc p) ≡ true →
       LeadsTo z j n c o b f (at c o y ls (stk ++ st) (suc p)) into r → LeadsTo z j n c o b f (at (trying c u a l st) o y ls stk p) into r
   commit_leads u a l hb fi h = does_leads z hb (open_leads z _ fi h)
-
-  -- what goes on with a value where nothing is suspended
-  pub quiet_leads : {j n : ℕ} {c : Ctx} {o : Around} {b : Scopes} {f : Tasks} {q : Step} (from into : Target) (x : Outcome)
-      (wrap : Residual → Residual) (go : Val → World → Outcome) → free c.handlers c.life.noted c.below ≡ false →
-      LeadsTo z j n c o b f q from x →
-      ((m : ℕ) → m ≤ n → (o : Around) (e : Env) (v : Val) (w : World) (ls : List Val) →
-      Good m c.who.path o c.held c.also c.size w.state ls → Binds from.shown c.held e v ls →
-      LeadsTo z j m c o w.behind w.tasks (at c o w.state ls (laid from.lies v from.stack) from.place) into (go v w)) →
-      LeadsTo z j n c o b f q into (valued x wrap go)
-  unfolding valued
-  quiet_leads {j} {n} {c} {o} {b} {f} from into (value e v w) wrap go fr h k = record {
-    go = λ t u. h.go t (λ m o' gr ls gd bs. (k m (grown_steps (ParkedS z j) z c m o' w.behind w.tasks gr) o' e v w ls gd bs).go t
-        (shifted z j n m c o o' b w.behind f w.tasks into t (go v w) gr u));
-  }
-  quiet_leads from into (failed s) wrap go fr h k = record { go = λ t u. h.go t u }
-  quiet_leads from into (returned v w) wrap go fr h k = record { go = λ t u. h.go t u }
-  quiet_leads from into (broke w) wrap go fr h k = record { go = λ t u. h.go t u }
-  quiet_leads from into (halted x) wrap go fr h k = record { go = λ t u. h.go t u }
-  quiet_leads from into (rests x w) wrap go fr h k = record { go = λ t u. h.go t (λ m o' gr fe. cc) }
 
   module _ (differ : ℕ → ℕ → Bool) (top : ℕ) where
     pub or_leads : (n : ℕ) (pl : Place) (x u : Tree) → EvLeads z differ top x → EvLeads z differ top u →
@@ -140,8 +146,8 @@ module _ (z : Setting) where
         (i1.wide _ (omega (arith, v1)) v0)
         (hx ss (enclosed a) (next s) _ out false M j m (trying c y.state s.at _ st) o y ls [] r.0 (trying_static y.state s.at _ st sc) refl
         lt lM refl g)
-        (λ m le o env v u ls g bs. commit_leads y.state s.at _ (op_stands z r.1).is (op_stands z (widened z s.at _ r.1)).fit
-        (start_leads z r.1.ends (does_leads z i1.jump (open_leads z _ (i1.wide e.at (omega (arith, v0, v1)) le_self) (value_here z g)))))
+        (λ m le env v u ls g bs. commit_leads y.state s.at _ (op_stands z r.1).is (op_stands z (widened z s.at _ r.1)).fit
+        (start_leads z r.1.ends (does_leads z i1.jump (open_leads z _ (i1.wide e.at (omega (arith, v0, v1)) le_self) (value_here z {w = with_state y u} g)))))
         (λ u ls g. hu ss a _ e out w M j m c o (with_state y u) ls st i1.rest sc fw lt lM ab g)
 
     pub negation_leads : (n : ℕ) (pl : Place) (x : Tree) → EvLeads z differ top x → EvLeads z differ top (tree n pl (t.Shape.negation x))
@@ -165,7 +171,7 @@ module _ (z : Setting) where
         (i1.wide l (omega (arith, x1, x2)) le_self)
         (hx ss (enclosed a) (next s) _ out false M j m (trying c y.state s.at l st) o y ls [] n1 (trying_static y.state s.at l st sc) refl
         lt lM refl g)
-        (λ m le o env v u ls g bs. does_leads z (op_stands z n2).is (open_leads z _ (op_stands z n2).fit
+        (λ m le env v u ls g bs. does_leads z (op_stands z n2).is (open_leads z _ (op_stands z n2).fit
         (does_leads z (op_stands z n3).is (open_leads z _ (op_stands z n3).fit
-        (does_leads z r3.1.ops.0 (fails_here z {w = with_state u (restored y.state.memory u.state)} (kept g le_self)))))))
+        (does_leads z r3.1.ops.0 (fails_here z {w = with_state y (restored y.state.memory u)} (kept g le_self)))))))
         (λ u ls g. op_leads z r.1 (λ h. open_leads z _ h.fit (value_here z g)))
