@@ -24,12 +24,12 @@ use Rattle.lower_simulation.proofs.Claims.{same_around}
 use Rattle.lower_simulation.proofs.Going.{trans, le_self}
 use Rattle.lower_simulation.proofs.Leading.{LeadsTo, value_leads, does_leads, open_leads}
 use Rattle.lower_simulation.proofs.Standing.{Stands, op_stands, then_stand}
-use Rattle.lower_simulation.proofs.Widening.{from_leads, plain_leads, holding_all}
+use Rattle.lower_simulation.proofs.Widening.{from_leads, plain_leads, holding_all, holding_leads}
 use Rattle.lower_simulation.proofs.Forms.{Static, start_leads, at_leads, EvLeads}
 use Rattle.lower_simulation.proofs.Contexts.{deferring, deferring_static, handled}
 use Rattle.lower_simulation.proofs.Leaving.{leave_none}
 use Rattle.lower_simulation.proofs.Standing.{past_le, end_at}
-use Rattle.lower_simulation_blocks.proofs.Definitions.{bind_leads}
+use Rattle.lower_simulation_blocks.proofs.Definitions.{longer_bound, shown_static, shown_good, bind_leads}
 
 -- whether a statement defers, or one of those behind it
 abbrev pub defers_or : Statement → Bool → Bool
@@ -188,8 +188,10 @@ module _ (z : Setting) (differ : ℕ → ℕ → Bool) (top : ℕ) where
       (λ w M v y. defined z.program (deeper z.program M) b c.env v y (λ e v y. statements z.program (deeper z.program M) cs w e v y)) fw
       lM (λ r. refl) (λ r M w. refl) (λ r M w. refl) (λ l x n v y. refl)
       (hi ss a s _ out w M j n c o y ls st r.0 sc fw lt lM ab g)
-      (λ w M i n' fw le lM o v y ls g. bind_leads z b ss _ m M y v _ r.1 sc g (λ env more u ls sc g.
-      hc (scope_stated (defines b) ss) a m e out w M i n' (holding_all c env more []) o (with_state y u) ls st v hl i2 sc fw (trans le lt) lM ab g))
+      (λ w M i n' fw le lM o v y ls g. bind_leads z c b ss _ m M y v _ (λ x. x) (λ h. refl) r.1 sc g (λ env u ls bs hi g.
+      holding_leads z c env bs.more [] _
+      (hc (scope_stated (defines b) ss) a m e out w M i n' (holding_all c env bs.more []) o (with_state y u) ls st v hl i2
+      (shown_static (longer_bound b ss) sc bs) fw (trans le lt) lM ab (shown_good c bs g))))
   stated_leads (defers d) b cs hd hc ss a s m e out w M j n c o y ls st hl i i2 sc fw lt lM ab g =
       let k = hl refl in
       let le = k.there in

@@ -8,7 +8,7 @@ use Rattle.verse_value.specs.Val.{Val, unit, falsity, truth}
 use Rattle.verse_value.specs.Operations.{option_of}
 use Rattle.verse_meaning_state.specs.State.{State}
 use Rattle.verse_meaning_state.specs.Effects.{still}
-use Rattle.verse_meaning.specs.Residuals.{Env, no_name, a_constant, a_variable}
+use Rattle.verse_meaning.specs.Residuals.{Env}
 use Rattle.verse_meaning.specs.Outcomes.{World, with_state, Outcome, value, told, attempted}
 use Rattle.verse_meaning.specs.Evaluating.{ev, statements, Statement, plain, defines, defers, generates, statement_of}
 use Rattle.verse_meaning.specs.Runs.{deeper}
@@ -21,42 +21,25 @@ use Rattle.lower_code.specs.Lowering as low
 use Rattle.lower_code.specs.Lowering.{piece, scope_stated, scope_behind}
 use Rattle.lower_simulation.proofs.Claims.{Way, Setting, Ctx, Around, at, Good, on, Shows, Above}
 use Rattle.lower_simulation.proofs.Going.{trans, le_self}
-use Rattle.lower_simulation.proofs.Locals.{low_more}
 use Rattle.lower_simulation.proofs.Leading.{LeadsTo, does_leads, open_leads, value_here, told_leads, still_calm}
 use Rattle.lower_simulation.proofs.Standing.{Stands, op_stands, narrow, then_stand, placed_stand, widened, either_stand}
 use Rattle.lower_simulation.proofs.Widening.{holding_all, holding_leads, jump_leads}
 use Rattle.lower_simulation.proofs.Forms.{Static, op_leads, EvLeads}
 use Rattle.lower_simulation.proofs.Contexts.{trying, trying_static}
 use Rattle.lower_simulation_blocks.proofs.Failing.{try_leads, commit_leads}
+use Rattle.lower_simulation_blocks.proofs.Definitions.{longer_bound, shown_static, shown_good}
 use Rattle.lower_simulation_blocks.proofs.Blocks.{ConditionsLead}
 
 -- statements give names
 longer_by : (q : Statement) (ss : Names) → length ss ≤ length (scope_stated q ss)
 longer_by plain ss = le_self
-longer_by (defines no_name) ss = le_self
-longer_by (defines (a_constant x)) ss = omega arith
-longer_by (defines (a_variable x pl)) ss = omega arith
+longer_by (defines b) ss = longer_bound b ss
 longer_by (defers d) ss = le_self
 longer_by (generates g) ss = le_self
 
 longer : (cs : Trees) (ss : Names) → length ss ≤ length (scope_behind cs ss)
 longer no_trees ss = le_self
 longer (more_trees a cs) ss = trans (longer_by (statement_of a) ss) (longer cs (scope_stated (statement_of a) ss))
-
-shown_static : {top : ℕ} {c : Ctx} {ss us : Names} {out : Way} {a : Where} {e : Env} {ls : List Val} → length ss ≤ length us →
-    Static top c ss out a → (h : Shows us c.held e ls) → Static top (holding_all c e h.more []) us out a
-shown_static {c = c} {ss} {us} le sc h = record {
-  fits = h.fits;
-  low = h.low;
-  low_also = low_more (length ss) (length us) c.also le sc.low_also;
-  loops = sc.loops;
-  leaves = sc.leaves;
-  breaks = sc.breaks;
-  returns = sc.returns;
-  defers = sc.defers;
-  noted = sc.noted;
-  born = sc.born;
-}
 
 module _ (z : Setting) (differ : ℕ → ℕ → Bool) (top : ℕ) where
   -- Try L; conditions; what follows them in the failure context, up to its Commit and behind it; Jump M; L: the other; M is behind it
@@ -120,7 +103,7 @@ module _ (z : Setting) (differ : ℕ → ℕ → Bool) (top : ℕ) where
       (holding_leads z c env bs.more [] _
       (hb us a (next (next s)) e1 out w M j m (holding_all c env bs.more []) o (with_state y w1) ls st (widened z i l r2.1)
       (shown_static (longer cs ss) sc bs) fw (trans le lt) (trans le lM) ab
-      (record { holds = bs.holds; besides = g.besides; sized = g.sized; fine = g.fine }))))))
+      (shown_good c bs g))))))
       rest
 
   pub if_else_leads : (n : ℕ) (pl : Place) (cs : Trees) (b u : Tree) → ConditionsLead z differ top cs → EvLeads z differ top b →
