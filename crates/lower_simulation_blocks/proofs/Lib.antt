@@ -3,3 +3,5 @@ pub mod Definitions
 pub mod Blocks
 pub mod Choices
 pub mod Loops
+pub mod Domains
+pub mod Takes
