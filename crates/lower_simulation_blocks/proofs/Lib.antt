@@ -5,3 +5,4 @@ pub mod Choices
 pub mod Loops
 pub mod Domains
 pub mod Takes
+pub mod Generators
