@@ -17,7 +17,7 @@ use Rattle.lower_code.specs.Arounds.{enclosed}
 use Rattle.lower_code.specs.Lowering.{piece}
 use Rattle.lower_simulation.proofs.Claims.{Setting, Ends, Ctx, Around, at, Good, Target, on, Tasks, Locals, Binds, laid, ParkedS, Grown}
 use Rattle.lower_simulation.proofs.Claims.{same_around, left_around, forked_around}
-use Rattle.lower_simulation.proofs.Going.{le_self, raise, kept, shifted}
+use Rattle.lower_simulation.proofs.Going.{le_self, raise, kept, shifted, grown_steps}
 use Rattle.verse_meaning.specs.Outcomes.{Halt, world, wrong}
 use Rattle.lower_simulation.proofs.Claims.{Goes}
 use Rattle.lower_simulation.proofs.Leading.{LeadsTo, is_leads, does_leads, open_leads, value_here, fails_here}
@@ -131,6 +131,25 @@ module _ (z : Setting) where
       {r : Outcome} (u : State) (a l : ℕ) → slice_get z.code.ops p ≡ Some op.Commit → fits c.handlers (suc p) ≡ true →
       LeadsTo z j n c o b f (at c o y ls (stk ++ st) (suc p)) into r → LeadsTo z j n c o b f (at (trying c u a l st) o y ls stk p) into r
   commit_leads u a l hb fi h = does_leads z hb (open_leads z _ fi h)
+
+  -- what goes on with a value where nothing is suspended
+  pub quiet_leads : {j n : ℕ} {c : Ctx} {o : Around} {b : Scopes} {f : Tasks} {q : Step} (from into : Target) (x : Outcome)
+      (wrap : Residual → Residual) (go : Val → World → Outcome) → free c.handlers c.life.noted c.below ≡ false →
+      LeadsTo z j n c o b f q from x →
+      ((m : ℕ) → m ≤ n → (o : Around) (e : Env) (v : Val) (w : World) (ls : List Val) →
+      Good m c.who.path o c.held c.also c.size w.state ls → Binds from.shown c.held e v ls →
+      LeadsTo z j m c o w.behind w.tasks (at c o w.state ls (laid from.lies v from.stack) from.place) into (go v w)) →
+      LeadsTo z j n c o b f q into (valued x wrap go)
+  unfolding valued
+  quiet_leads {j} {n} {c} {o} {b} {f} from into (value e v w) wrap go fr h k = record {
+    go = λ t u. h.go t (λ m o' gr ls gd bs. (k m (grown_steps (ParkedS z j) z c m o' w.behind w.tasks gr) o' e v w ls gd bs).go t
+        (shifted z j n m c o o' b w.behind f w.tasks into t (go v w) gr u));
+  }
+  quiet_leads from into (failed s) wrap go fr h k = record { go = λ t u. h.go t u }
+  quiet_leads from into (returned v w) wrap go fr h k = record { go = λ t u. h.go t u }
+  quiet_leads from into (broke w) wrap go fr h k = record { go = λ t u. h.go t u }
+  quiet_leads from into (halted x) wrap go fr h k = record { go = λ t u. h.go t u }
+  quiet_leads from into (rests x w) wrap go fr h k = record { go = λ t u. h.go t (λ m o' gr fe. cc) }
 
   module _ (differ : ℕ → ℕ → Bool) (top : ℕ) where
     pub or_leads : (n : ℕ) (pl : Place) (x u : Tree) → EvLeads z differ top x → EvLeads z differ top u →

@@ -6,3 +6,4 @@ pub mod Loops
 pub mod Domains
 pub mod Takes
 pub mod Generators
+pub mod For

@@ -1,0 +1,214 @@
+-- `for`: its clauses in a failure context, its turns, its body.
+use Rattle.std.proofs.Common.{◌≡◌, ℕ, suc, ◌≤◌, ◌<◌, List, [], ◌∷◌, ◌++◌, length, Option, Some, None, Bool, true, false, refl, sym, ap}
+use Rattle.std.proofs.Common.{◌∙◌, subst, arith, ◌⊎◌, inl, inr}
+use Rattle.std.specs.Prelude.{slice_get}
+use Rattle.verse_base.specs.declared.places.Place.{Place}
+use Rattle.verse_tree.specs.Tree.{Bytes, Tree, tree, Trees, no_trees, more_trees}
+use Rattle.verse_tree.specs.Tree as t
+use Rattle.verse_code.specs.declared.operations.Op.TheVariants as op
+use Rattle.verse_value.specs.Val.{Val, unit, array, no_vals}
+use Rattle.verse_value.specs.Answer.{Answer, gives, fails, error, stuck as amiss}
+use Rattle.verse_value.specs.Operations.{append_of, array_of}
+use Rattle.verse_meaning_state.specs.State.{State}
+use Rattle.verse_meaning_state.specs.Waits.{nth}
+use Rattle.verse_meaning_state.specs.Effects.{still}
+use Rattle.verse_meaning.specs.Residuals as form
+use Rattle.verse_meaning.specs.Residuals.{Env, Residual, args, generated, Generator, of_elements, of_entries, of_range, Values}
+use Rattle.verse_meaning.specs.Outcomes.{World, with_state, Outcome, value, halted, wrong, valued, attempted, told, if_there}
+use Rattle.verse_meaning.specs.Forms.{apply, with_taken, values_of, defined}
+use Rattle.verse_meaning.specs.Evaluating.{ev, inner, clauses, level, claused, levelled, generates_from, Statement, plain, defines}
+use Rattle.verse_meaning.specs.Evaluating.{defers, generates, statement_of}
+use Rattle.verse_meaning.specs.Runs.{deeper}
+use Rattle.verse_code_machine.specs.Tasks.{machine}
+use Rattle.verse_code_machine.specs.Frames.{fits, free, only_where, on_there, answered, answered_to, faulting, put}
+use Rattle.verse_code_machine.specs.Acts.{place_at}
+use Rattle.lower_code.specs.Pieces.{Spot, Maker, next, past, one, put_away, numbering, ahead, turning, ◌then◌}
+use Rattle.lower_code.specs.Scopes.{hidden, Scope as Names}
+use Rattle.lower_code.specs.declared.arounds.Around.{Around as Where}
+use Rattle.lower_code.specs.Arounds.{up, enclosed}
+use Rattle.lower_code.specs.Lowering as low
+use Rattle.lower_code.specs.Lowering.{piece, bind, with_binder, with_generator, taking}
+use Rattle.lower_simulation.proofs.Claims.{Way, Setting, Ends, Ctx, Around, at, Good, Target, on, pushed, spread, laid, keeping, paired, Binds}
+use Rattle.lower_simulation.proofs.Claims.{Locals, Holds, Low, Above, same_around}
+use Rattle.lower_simulation.proofs.Steps.{does, over}
+use Rattle.lower_simulation.proofs.Going.{trans, le_self}
+use Rattle.lower_simulation.proofs.Locals.{PutIs, puts, holds_put, low_more}
+use Rattle.lower_simulation.proofs.Leading.{LeadsTo, shown_leads, does_leads, open_leads, there_leads, fails_here, is_leads}
+use Rattle.lower_simulation.proofs.Standing.{Stands, op_stands, end_at, past_le, then_stand, narrow_stands, narrowed, numbering_stand}
+use Rattle.lower_simulation.proofs.Standing.{put_stand, placed_stand, ahead_stand, turn_spot, Turning_at, turning_stand, behind_place}
+use Rattle.lower_simulation.proofs.Widening.{holding_all, holding_leads, from_leads}
+use Rattle.lower_simulation.proofs.Forms.{Static, on_one, end_leads, EvLeads}
+use Rattle.lower_simulation.proofs.Contexts.{trying, trying_static}
+use Rattle.lower_simulation_blocks.proofs.Failing.{attempts_more, attempt_by, commit_leads, quiet_leads}
+use Rattle.lower_simulation_blocks.proofs.Definitions.{High, longer_bound, shown_static, shown_good, bind_leads}
+use Rattle.lower_simulation_blocks.proofs.Blocks.{InnerLeads}
+use Rattle.lower_simulation_blocks.proofs.Domains.{Domain}
+use Rattle.lower_simulation_blocks.proofs.Takes.{stored, takes_leads}
+use Rattle.lower_simulation_blocks.proofs.Generators.{lies_of, shown_of, Drawn, four, generator_fits, generator_size, four_low, begin_leads}
+
+module _ (z : Setting) (differ : ℕ → ℕ → Bool) (top : ℕ) where
+  -- ---- what is to be shown of the clauses
+
+  -- of both ends of a range, one above the other
+  abbrev pub BothLead : Tree → Type 0
+  BothLead x = (ss : Names) (a : Where) (s e : Spot) (out : Way) (M j n : ℕ) (c : Ctx) (o : Around) (y : World) (ls st : List Val) →
+      Stands z (fits c.handlers) c.size out s (low.inner z.program differ x ss a s) e → Static top c ss out a →
+      free c.handlers c.life.noted c.below ≡ false → n ≤ top → n ≤ M → Above a.height st c.base →
+      Good n c.who.path o c.held c.also c.size y.state ls →
+      LeadsTo z j n c o y.behind y.tasks (at c o y.state ls st s.at)
+      (record { place = e.at; stack = st; lies = spread; shown = paired }) (inner z.program (deeper z.program M) x false c.env y)
+
+  pub both_lead : (n : ℕ) (pl : Place) (q : Bytes) (u u2 : Tree) → EvLeads z differ top u → EvLeads z differ top u2 →
+      BothLead (tree n pl (t.Shape.range q u u2))
+  both_lead n1 pl q u u2 h1 h2 ss a s e out M j n c o y ls st i sc fw lt lM ab g =
+      let f = piece z.program differ u ss a in
+      let m : Spot = past s (f s) in
+      let x = then_stand z s e f (piece z.program differ u2 ss (up a)) i in
+      let into : Target = record { place = e.at; stack = st; lies = spread; shown = paired } in
+      quiet_leads z {c = c} (on m.at st) into _ _ _ fw (h1 ss a s m out false M j n c o y ls st x.0 sc fw lt lM ab g)
+      (λ k le o e1 v1 w1 ls g bs. quiet_leads z {c = c} (on e.at (v1 ∷ st)) into _ _ _ fw
+      (h2 ss (up a) m e out false M j k c o w1 ls (v1 ∷ st) x.1 (on_one sc) fw (trans le lt) (trans le lM) ab g)
+      (λ m le o e2 v2 w2 ls g bs. record { go = λ t h. h m o (same_around le_self) ls g tt }))
+
+  -- of what a generator draws from
+  abbrev pub Drawn_lead : Generator → Tree → Type 0
+  Drawn_lead (of_elements q) x = InnerLeads z differ top x
+  Drawn_lead (of_entries k q) x = InnerLeads z differ top x
+  Drawn_lead (of_range q) x = BothLead x
+
+  drawn_leads : (g : Generator) (x : Tree) → Drawn_lead g x → (ss : Names) (a : Where) (s e : Spot) (out : Way) (M j n : ℕ) (c : Ctx)
+      (o : Around) (y : World) (ls st : List Val) →
+      Stands z (fits c.handlers) c.size out s (low.inner z.program differ x ss a s) e → Static top c ss out a →
+      free c.handlers c.life.noted c.below ≡ false → n ≤ top → n ≤ M → Above a.height st c.base →
+      Good n c.who.path o c.held c.also c.size y.state ls →
+      LeadsTo z j n c o y.behind y.tasks (at c o y.state ls st s.at)
+      (record { place = e.at; stack = st; lies = lies_of g; shown = shown_of g }) (inner z.program (deeper z.program M) x false c.env y)
+  drawn_leads (of_elements q) x h ss a s e out M = h ss a s e out false M
+  drawn_leads (of_entries k q) x h ss a s e out M = h ss a s e out false M
+  drawn_leads (of_range q) x h ss a s e out M = h ss a s e out M
+
+  drawn : (g : Generator) (held : Locals) (e : Env) (v : Val) (ls : List Val) → Binds (shown_of g) held e v ls → Drawn g v
+  drawn (of_elements q) held e v ls h = h
+  drawn (of_entries k q) held e v ls h = h
+  drawn (of_range q) held e v ls h = h
+
+  -- of a clause
+  abbrev pub Clause_lead : Statement → Tree → Type 0
+  Clause_lead plain x = EvLeads z differ top x
+  Clause_lead (defines d) x = InnerLeads z differ top x
+  Clause_lead (defers d) x = Unit {0}
+  Clause_lead (generates g) x = Drawn_lead g x
+
+  abbrev pub All_clauses : Trees → Type 0
+  All_clauses no_trees = Unit {0}
+  All_clauses (more_trees x cs) = Clause_lead (statement_of x) x × All_clauses cs
+
+  -- ---- a `for` with the body b, whose results are in local r
+  module _ (b : Tree) (hb : EvLeads z differ top b) (a : Where) (r pno : ℕ) (pl : Place) (hp : place_at z.code pno ≡ Some pl) where
+    abbrev body_code : Names → Maker
+    body_code ss = one op.Commit then piece z.program differ b ss a then one (op.Append r pno)
+
+    abbrev levels_code : Trees → Names → Maker
+    levels_code cs ss = low.levels z.program differ cs ss (enclosed a) body_code
+
+    abbrev run_body : ℕ → Bool → Env → World → Outcome
+    run_body M w e y = ev z.program (deeper z.program M) b w e y
+
+    abbrev level_of : Trees → ℕ → Bool → Env → Val → Val → World → Outcome
+    level_of cs M w e v so_far y = level z.program (deeper z.program M) cs b (run_body M w) pl e v so_far y
+
+    abbrev clauses_of : Trees → ℕ → Env → Val → World → Outcome
+    clauses_of cs M e last y = clauses z.program (deeper z.program M) cs false e last y
+
+    abbrev turn_of : ℕ → Bool → Env → Generator → Trees → Val × Val → Val → World → Outcome
+    turn_of M w e g cs x so_far y =
+        attempted (clauses_of cs M (with_taken g x e) unit y) y (λ e1 v y. level_of cs M w e1 v so_far y) (λ y. value e so_far y)
+
+    -- none of these locals is r
+    abbrev Other : Locals → Type 0
+    Other [] = Unit {0}
+    Other (x ∷ ks) = ((x.0 < r) ⊎ (r < x.0)) × Other ks
+
+    low_other : (ks : Locals) → Low r ks → Other ks
+    low_other [] h = tt
+    low_other (x ∷ ks) h = (inl h.0, low_other ks h.1)
+
+    high_other : (n : ℕ) (more ks : Locals) → r < n → High n more → Other ks → Other (more ++ ks)
+    high_other n [] ks lt h q = q
+    high_other n (x ∷ more) ks lt h q = (inr (let y = h.0 in omega (arith, lt, y)), high_other n more ks lt h.1 q)
+
+    other_put : (ks : Locals) (ls : List Val) (v : Val) (p : PutIs ls r v) → Other ks → Holds ks ls → Holds ks p.locals
+    other_put [] ls v p q h = tt
+    other_put (x ∷ ks) ls v p q h = (by_side q.0, other_put ks ls v p q.1 h.1)
+      where
+        by_side : (x.0 < r) ⊎ (r < x.0) → nth p.locals x.0 ≡ Some x.1
+        by_side (inl lt) = p.below x.0 lt ∙ h.0
+        by_side (inr lt) = p.above x.0 lt ∙ h.0
+
+    -- the results stay too
+    results_static : {c : Ctx} {ss : Names} {out : Way} {a : Where} (so_far : Val) → r < length ss → Static top c ss out a →
+        Static top (holding_all c c.env [] ((r, so_far) ∷ [])) ss out a
+    results_static so_far rl sc = record {
+      fits = sc.fits;
+      low = sc.low;
+      low_also = (rl, sc.low_also);
+      loops = sc.loops;
+      leaves = sc.leaves;
+      breaks = sc.breaks;
+      returns = sc.returns;
+      defers = sc.defers;
+      noted = sc.noted;
+      born = sc.born;
+    }
+
+    -- ---- the body, and its value
+
+    append_leads : {j n : ℕ} {c : Ctx} {o : Around} {ls st : List Val} {p : ℕ} {here : Option Place} (x : Answer Val) (y : World)
+        (env : Env) → here ≡ Some pl → fits c.handlers (suc p) ≡ true → r < c.size → Other c.held → Other c.also →
+        Good n c.who.path o c.held c.also c.size y.state ls →
+        LeadsTo z j n c o y.behind y.tasks (answered_to here r x c.who o.world y.state c.life ls st p c.handlers c.below)
+        (stored (suc p) st r []) (told (still x y.state) pl env y)
+    unfolding told
+    append_leads {n = n} {c} {o} {ls} (gives v) y env hh hf hr o1 o2 g =
+        let sz = g.sized in
+        let p1 = puts ls r v (omega (arith, hr, sz)) in
+        there_leads z y.state _ p1.is (open_leads z _ hf (record {
+          go = λ t h. h n o (same_around le_self) p1.locals (record {
+            holds = other_put c.held ls v p1 o1 g.holds;
+            besides = other_put c.also ls v p1 o2 g.besides;
+            sized = p1.sized ∙ g.sized;
+            fine = g.fine;
+          }) (p1.here, tt);
+        }))
+    append_leads fails y env hh hf hr o1 o2 g = fails_here z g
+    append_leads (error q) y env hh hf hr o1 o2 g =
+        open_leads z _ hf (record { go = λ t h. subst (λ x. Ends z (faulting x q y.state) t) (sym hh) (over _ h) })
+    append_leads amiss y env hh hf hr o1 o2 g = record { go = λ t h. over _ h }
+
+    -- behind the last clause, in the failure context
+    body_leads : (ss : Names) (m e : Spot) (out : Way) (w : Bool) (M j n : ℕ) (c : Ctx) (o : Around) (y : World) (ls st : List Val)
+        (so_far v : Val) (u : State) (a0 : ℕ) → Stands z (fits c.handlers) c.size out m (body_code ss m) e → Static top c ss out a →
+        r < length ss → r < c.size → free c.handlers c.life.noted c.below ≡ w → n ≤ top → n ≤ M → Above a.height st c.base →
+        Other c.held → Other c.also → Good n c.who.path o c.held ((r, so_far) ∷ c.also) c.size y.state ls →
+        LeadsTo z j n c o y.behind y.tasks (at (trying c u a0 e.at st) o y.state ls [] m.at) (stored e.at st r [])
+        (level_of no_trees M w c.env v so_far y)
+    body_leads ss m e out w M j n c o y ls st so_far v u a0 i sc rl rs fw lt lM ab o1 o2 g =
+        let f : Maker = piece z.program differ b ss a in
+        let i1 = then_stand z m e (one op.Commit) (f then one (op.Append r pno)) i in
+        let i2 = then_stand z (next m) e f (one (op.Append r pno)) i1.1 in
+        let p : Spot = past (next m) (f (next m)) in
+        let app = op_stands z i2.1 in
+        let c1 = holding_all c c.env [] ((r, so_far) ∷ []) in
+        let kept_in : Target = record { place = p.at; stack = st; lies = pushed; shown = keeping ((r, so_far) ∷ []) } in
+        let run : Outcome = ev z.program (deeper z.program M) b w c.env y in
+        let after : ℕ → Val → World → Outcome = λ M v y. apply z.program (deeper z.program M) (form.appending so_far pl) (v ∷ []) false
+            c.env y in
+        commit_leads z u a0 e.at (op_stands z i1.0).is (op_stands z i1.0).fit
+        (shown_leads z {c = c} kept_in (stored e.at st r []) run (λ x. args c.env (form.appending so_far pl) [] x []) (λ w M v y. after M v y)
+        fw lM (λ x. refl) (λ r M w. refl) (λ r M w. refl) (λ l x n v y. refl)
+        (holding_leads z c c.env [] ((r, so_far) ∷ []) _
+        (from_leads z c1 (on p.at st) kept_in (λ m o e v w ls gd bs g f. f (gd.besides.0, tt)) _
+        (hb ss a (next m) p out w M j n c1 o y ls st i2.0 (results_static so_far rl sc) fw lt lM ab g)))
+        (λ w M i1 m fr le lM o e1 v y ls gd bs. subst (λ (x : Spot). LeadsTo z i1 m c o y.behind y.tasks
+        (at c o y.state ls (v ∷ st) p.at) (stored x.at st r []) (after M v y)) i2.1.ends
+        (does_leads z app.is (there_leads z y.state _ bs.0 (append_leads (append_of so_far v) y c.env hp app.fit rs o1 o2 gd)))))
