@@ -212,3 +212,99 @@ module _ (z : Setting) (differ : ℕ → ℕ → Bool) (top : ℕ) where
         (λ w M i1 m fr le lM o e1 v y ls gd bs. subst (λ (x : Spot). LeadsTo z i1 m c o y.behind y.tasks
         (at c o y.state ls (v ∷ st) p.at) (stored x.at st r []) (after M v y)) i2.1.ends
         (does_leads z app.is (there_leads z y.state _ bs.0 (append_leads (append_of so_far v) y c.env hp app.fit rs o1 o2 gd)))))
+
+    -- ---- clauses
+
+    -- some operation stands for clauses
+    levels_more : (cs : Trees) (ok : ℕ → Bool) (size : ℕ) (out : Way) (ss : Names) (s e : Spot) →
+        Stands z ok size out s (levels_code cs ss s) e → s.at < e.at
+    unfolding low.claused
+    levels_more no_trees ok size out ss s e i =
+        let f : Maker = piece z.program differ b ss a then one (op.Append r pno) in
+        let i1 = then_stand z s e (one op.Commit) f i in
+        past_le (next s) e (f (next s)) i1.1.ends
+    levels_more (more_trees x cs) ok size out ss s e i = by (statement_of x) i
+      where
+        whole : Maker
+        whole = piece z.program differ x ss (enclosed a)
+
+        part : Maker
+        part = low.inner z.program differ x ss (enclosed a)
+
+        by : (q : Statement) → Stands z ok size out s (low.claused z.program differ q ss whole part (λ ss. levels_code cs ss) s) e →
+            s.at < e.at
+        by plain i =
+            let g : Maker = levels_code cs ss in
+            let m : Spot = past s (whole s) in
+            let r1 = then_stand z s e whole (one op.Drop then g) i in
+            let r2 = then_stand z m e (one op.Drop) g r1.1 in
+            let x1 = past_le s m (whole s) refl in
+            let x2 = past_le (next m) e (g (next m)) r2.1.ends in
+            omega (arith, x1, x2)
+        by (defines d) i =
+            let g : Maker = levels_code cs (with_binder d ss) in
+            let f : Maker = bind d (length ss) in
+            let m : Spot = past s (part s) in
+            let m2 : Spot = past m (f m) in
+            let r1 = then_stand z s e part (f then one op.Drop then g) i in
+            let r2 = then_stand z m e f (one op.Drop then g) r1.1 in
+            let r3 = then_stand z m2 e (one op.Drop) g r2.1 in
+            let x1 = past_le s m (part s) refl in
+            let x2 = past_le m m2 (f m) refl in
+            let x3 = past_le (next m2) e (g (next m2)) r3.1.ends in
+            omega (arith, x1, x2, x3)
+        by (defers d) i = let x = end_at z i in omega (arith, x)
+        by (generates q) i =
+            let g : Maker = levels_code cs (with_generator q ss) in
+            let m : Spot = past s (part s) in
+            let r1 = then_stand z s e part (turning (taking q (length ss)) (length ss) g) i in
+            let t1 = turning_stand z m e (taking q (length ss)) (length ss) g r1.1 in
+            let x1 = past_le s m (part s) refl in
+            let x2 = t1.order in
+            let x3 = t1.last in
+            omega (arith, x1, x2, x3)
+
+    -- what is to be shown of clauses with what follows them, in the failure context that began in y0 with the Try at a0: `code` are their
+    -- operations, `part` what they come to up to the next generator or to their end, `rest` what follows from there
+    abbrev Attempt_leads : (code : Names → Maker) → (part : ℕ → Env → Val → World → Outcome) →
+        (rest : ℕ → Bool → Env → Val → Val → World → Outcome) → Type 0
+    Attempt_leads code part rest = (ss : Names) (s e : Spot) (out : Way) (w : Bool) (M j n : ℕ) (c : Ctx) (o : Around) (y0 : World)
+        (u : State) (ls st : List Val) (so_far last : Val) (a0 : ℕ) (e2 : Env) →
+        Stands z (fits c.handlers) c.size out s (code ss s) e → a0 < s.at → Static top c ss out a → r < length ss → r < c.size →
+        free c.handlers c.life.noted c.below ≡ w → n ≤ top → n ≤ M → Above a.height st c.base → Other c.held → Other c.also →
+        Good n c.who.path o c.held ((r, so_far) ∷ c.also) c.size u ls →
+        LeadsTo z j n c o y0.behind y0.tasks (at (trying c y0.state a0 e.at st) o u ls [] s.at) (stored e.at st r [])
+        (attempted (part M c.env last (with_state y0 u)) y0 (λ e1 v y. rest M w e1 v so_far y) (λ y. value e2 so_far y))
+
+    abbrev Clauses_lead : Trees → Type 0
+    Clauses_lead cs = Attempt_leads (levels_code cs) (clauses_of cs) (level_of cs)
+
+    -- a turn: the Try at a0, the clauses, what follows them
+    abbrev Turn_lead : Trees → Type 0
+    Turn_lead cs = (ss : Names) (s e : Spot) (out : Way) (w : Bool) (M j n : ℕ) (c : Ctx) (o : Around) (y : World) (ls st : List Val)
+        (so_far : Val) (a0 : ℕ) (e2 : Env) → Stands z (fits c.handlers) c.size out s (levels_code cs ss s) e →
+        slice_get z.code.ops a0 ≡ Some (op.Try e.at) → suc a0 ≡ s.at → Static top c ss out a → r < length ss → r < c.size →
+        free c.handlers c.life.noted c.below ≡ w → n ≤ top → n ≤ M → Above a.height st c.base → nth ls r ≡ Some so_far → Other c.held →
+        Other c.also → Good n c.who.path o c.held c.also c.size y.state ls →
+        LeadsTo z j n c o y.behind y.tasks (at c o y.state ls st a0) (stored e.at st r [])
+        (attempted (clauses_of cs M c.env unit y) y (λ e1 v y. level_of cs M w e1 v so_far y) (λ y. value e2 so_far y))
+
+    turn_from : (cs : Trees) → Clauses_lead cs → Turn_lead cs
+    turn_from cs hc ss s e out w M j n c o y ls st so_far a0 e2 i ht ha sc rl rs fw lt lM ab hr o1 o2 g =
+        let x = levels_more cs (fits c.handlers) c.size out ss s e i in
+        let fi = narrowed s.at s.at a0 e.at i.fit le_self (omega (arith, x)) (omega (arith, ha)) x (suc a0) (omega (arith, ha))
+            (omega (arith, ha)) in
+        does_leads z ht (open_leads z _ fi (subst (λ (p : ℕ). LeadsTo z j n c o y.behind y.tasks
+        (at (trying c y.state a0 e.at st) o y.state ls [] p) (stored e.at st r [])
+        (attempted (clauses_of cs M c.env unit y) y (λ e1 v y. level_of cs M w e1 v so_far y) (λ y. value e2 so_far y))) (sym ha)
+        (hc ss s e out w M j n c o y y.state ls st so_far unit a0 e2 i (omega (arith, ha)) sc rl rs fw lt lM ab o1 o2
+        (record { holds = g.holds; besides = (hr, g.besides); sized = g.sized; fine = g.fine }))))
+
+    -- where a clause fails, the results are as they were
+    missed_leads : {j n : ℕ} {c : Ctx} {o : Around} {ls st : List Val} {p : ℕ} (y : World) (so_far : Val) (e2 : Env) →
+        Good n c.who.path o c.held ((r, so_far) ∷ c.also) c.size y.state ls →
+        LeadsTo z j n c o y.behind y.tasks (at c o y.state ls st p) (stored p st r []) (value e2 so_far y)
+    missed_leads {n = n} {o = o} {ls} y so_far e2 g = record {
+      go = λ t h. h n o (same_around le_self) ls
+          (record { holds = g.holds; besides = g.besides.1; sized = g.sized; fine = g.fine }) (g.besides.0, tt);
+    }
