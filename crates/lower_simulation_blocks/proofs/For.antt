@@ -308,3 +308,99 @@ module _ (z : Setting) (differ : ℕ → ℕ → Bool) (top : ℕ) where
       go = λ t h. h n o (same_around le_self) ls
           (record { holds = g.holds; besides = g.besides.1; sized = g.sized; fine = g.fine }) (g.besides.0, tt);
     }
+
+    -- ---- the turns of a generator, from the Commit behind what it draws from
+    module _ (g : Generator) (cs : Trees) (turn : Turn_lead cs) (ss : Names) (m e : Spot) (out : Way) (w0 : Bool) (M0 j0 n0 : ℕ) (c : Ctx)
+        (o0 : Around) (y0 : World) (ls0 st : List Val) (so_far0 : Val) (sc : Static top c ss out a) (rl : r < length ss) (rs : r < c.size)
+        (fw0 : free c.handlers c.life.noted c.below ≡ w0) (lt0 : n0 ≤ top) (lM0 : n0 ≤ M0) (ab : Above a.height st c.base)
+        (o1 : Other c.held) (o2 : Other c.also)
+        (t1 : Turning_at z (fits c.handlers) c.size out m (length ss) (taking g (length ss))
+        (levels_code cs (with_generator g ss) (turn_spot z m)) e)
+        (g0 : Good n0 c.who.path o0 c.held ((r, so_far0) ∷ c.also) c.size y0.state ls0) where
+      abbrev l : ℕ
+      l = length ss
+
+      abbrev end : Spot
+      end = past (turn_spot z m) (levels_code cs (with_generator g ss) (turn_spot z m))
+
+      abbrev wrap : Values → Residual → Residual
+      wrap vs x = generated c.env g cs b pl vs x
+
+      abbrev taken : ℕ → Bool → Val × Val → Val → World → Outcome
+      taken M w x so_far y = turn_of M w c.env g cs x so_far y
+
+      -- within a turn
+      abbrev d : (x1 x2 : Val) → Val × Val → Ctx
+      d x1 x2 x = holding_all c (with_taken g x c.env) (four l x1 x2 x) []
+
+      turn_static : (x1 x2 : Val) (x : Val × Val) → Static top (d x1 x2 x) (with_generator g ss) out a
+      turn_static x1 x2 x = record {
+        fits = generator_fits g x1 x2 x ss c.env c.held sc.fits;
+        low = subst (λ n. Low n (four l x1 x2 x ++ c.held)) (sym (generator_size g ss)) (four_low l x1 x2 x c.held sc.low);
+        low_also = subst (λ n. Low n c.also) (sym (generator_size g ss)) (low_more l (suc (suc (suc (suc l)))) c.also (omega arith) sc.low_also);
+        loops = sc.loops;
+        leaves = sc.leaves;
+        breaks = sc.breaks;
+        returns = sc.returns;
+        defers = sc.defers;
+        noted = sc.noted;
+        born = sc.born;
+      }
+
+      turn_leads : (w : Bool) (M j n : ℕ) → free c.handlers c.life.noted c.below ≡ w → n ≤ top → n ≤ M → (x1 x2 : Val) (x : Val × Val)
+          (so_far : Val) (o : Around) (y : World) (ls : List Val) → Good n c.who.path o c.held c.also c.size y.state ls →
+          Holds ((suc l, x2) ∷ (l, x1) ∷ []) ls → nth ls (suc (suc l)) ≡ Some x.0 → nth ls (suc (suc (suc l))) ≡ Some x.1 →
+          nth ls r ≡ Some so_far →
+          LeadsTo z j n c o y.behind y.tasks (at c o y.state ls st (suc (suc (suc m.at))))
+          (stored end.at st r ((suc l, x2) ∷ (l, x1) ∷ [])) (taken M w x so_far y)
+      turn_leads w M j n fw lt lM x1 x2 x so_far o y ls gd hab hx hk hr =
+          let rl4 : r < length (with_generator g ss) = subst (λ n. r < n) (sym (generator_size g ss)) (omega (arith, rl)) in
+          holding_leads z c (with_taken g x c.env) (four l x1 x2 x) [] _
+          (from_leads z (d x1 x2 x) (stored end.at st r []) (stored end.at st r ((suc l, x2) ∷ (l, x1) ∷ []))
+          (λ m o e v w ls gd bs g f. f (bs.0, (gd.holds.1.1.0, (gd.holds.1.1.1.0, tt)))) _
+          (turn (with_generator g ss) (turn_spot z m) end out w M j n (d x1 x2 x) o y ls st so_far (suc (suc (suc m.at))) c.env t1.inner
+          t1.tries refl (turn_static x1 x2 x) rl4 rs fw lt lM ab hr
+          (inr (omega (arith, rl)), (inr (omega (arith, rl)), (inr (omega (arith, rl)), (inr rl, o1)))) o2
+          (record { holds = (hk, (hx, (hab.0, (hab.1.0, gd.holds)))); besides = gd.besides; sized = gd.sized; fine = gd.fine })))
+
+      -- what is drawn from lies in its locals: the Jump to the Take, and the turns
+      domain_leads : (vs : Values) (x1 x2 : Val) → Domain vs x1 x2 → LeadsTo z j0 n0 c o0 y0.behind y0.tasks
+          (on_there (put ls0 l x1) y0.state (λ ls. on_there (put ls (suc l) x2) y0.state
+          (λ ls. only_where (fits c.handlers (suc (suc m.at))) y0.state (at c o0 y0.state ls st (suc (suc m.at))))))
+          (stored e.at st r []) ((deeper z.program M0).takes (taken M0 w0) wrap c.env vs so_far0 y0)
+      domain_leads vs x1 x2 dm =
+          let sz = g0.sized in
+          let rm = t1.room in
+          let u1 = t1.order in
+          let u2 = t1.last in
+          let p1 = puts ls0 l x1 (omega (arith, rm, sz)) in
+          let s1 = p1.sized in
+          let p2 = puts p1.locals (suc l) x2 (omega (arith, rm, sz, s1)) in
+          there_leads z y0.state _ p1.is (there_leads z y0.state _ p2.is
+          (open_leads z _ (t1.wide (suc (suc m.at)) (omega arith) (omega (arith, u1, u2)))
+          (does_leads z t1.jump (open_leads z _ (t1.wide end.at (omega (arith, u1)) (omega (arith, u2)))
+          (subst (λ x. LeadsTo z j0 n0 c o0 y0.behind y0.tasks (at c o0 y0.state p2.locals st end.at) (stored x st r [])
+          ((deeper z.program M0).takes (taken M0 w0) wrap c.env vs so_far0 y0)) u2
+          (takes_leads z top c r l end.at (suc (suc (suc m.at))) st t1.take
+          (t1.wide (suc (suc (suc m.at))) (omega arith) (omega (arith, u1, u2)))
+          (t1.wide (suc end.at) (omega (arith, u1)) (omega (arith, u2))) sc.low sc.low_also rl rm wrap (λ w M. taken M w) (λ vs x. refl)
+          (λ vs r M w. refl) (λ vs r M w. refl) (λ vs l1 x n v w. refl) turn_leads n0 w0 M0 M0 j0 n0 vs x1 x2 so_far0 o0 y0 p2.locals fw0
+          lt0 le_self lM0 lM0 dm (p2.here, (p2.below l (omega arith) ∙ p1.here, tt))
+          (p2.below r (omega (arith, rl)) ∙ p1.below r rl ∙ g0.besides.0)
+          (record {
+            holds = holds_put c.held p1.locals l (suc l) x2 p2 sc.low (omega arith) (holds_put c.held ls0 l l x1 p1 sc.low le_self g0.holds);
+            besides = holds_put c.also p1.locals l (suc l) x2 p2 sc.low_also (omega arith)
+                (holds_put c.also ls0 l l x1 p1 sc.low_also le_self g0.besides.1);
+            sized = p2.sized ∙ p1.sized ∙ g0.sized;
+            fine = g0.fine;
+          })))))))
+
+      drawn_turns : (dv : Val) → Drawn g dv → (u : State) (a0 : ℕ) → LeadsTo z j0 n0 c o0 y0.behind y0.tasks
+          (at (trying c u a0 e.at st) o0 y0.state ls0 (laid (lies_of g) dv []) m.at) (stored e.at st r [])
+          (if_there (values_of g dv) y0 (λ vs. (deeper z.program M0).takes (taken M0 w0) wrap c.env vs so_far0 y0))
+      drawn_turns dv hd u a0 =
+          let u1 = t1.order in
+          let u2 = t1.last in
+          does_leads z t1.commit (open_leads z _ (t1.wide (suc m.at) (omega arith) (omega (arith, u1, u2)))
+          (does_leads z t1.begins (begin_leads z j0 n0 c o0 y0 ls0 st (stored e.at st r []) l (suc m.at)
+          (λ vs. (deeper z.program M0).takes (taken M0 w0) wrap c.env vs so_far0 y0) g domain_leads dv hd)))
