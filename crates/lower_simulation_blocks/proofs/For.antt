@@ -404,3 +404,106 @@ module _ (z : Setting) (differ : ℕ → ℕ → Bool) (top : ℕ) where
           does_leads z t1.commit (open_leads z _ (t1.wide (suc m.at) (omega arith) (omega (arith, u1, u2)))
           (does_leads z t1.begins (begin_leads z j0 n0 c o0 y0 ls0 st (stored e.at st r []) l (suc m.at)
           (λ vs. (deeper z.program M0).takes (taken M0 w0) wrap c.env vs so_far0 y0) g domain_leads dv hd)))
+
+    -- ---- a clause, and those behind it
+
+    abbrev claused_code : Statement → Tree → Trees → Names → Maker
+    claused_code q x cs ss = low.claused z.program differ q ss (piece z.program differ x ss (enclosed a))
+        (low.inner z.program differ x ss (enclosed a)) (λ ss. levels_code cs ss)
+
+    abbrev claused_of : Statement → Tree → Trees → ℕ → Env → Val → World → Outcome
+    claused_of q x cs M e last y = claused z.program (deeper z.program M) q e y (λ y. ev z.program (deeper z.program M) x false e y)
+        (λ y. inner z.program (deeper z.program M) x false e y) (λ e v y. clauses_of cs M e v y)
+
+    abbrev levelled_of : Statement → Trees → ℕ → Bool → Env → Val → Val → World → Outcome
+    levelled_of q cs M w e v so_far y = levelled z.program (deeper z.program M) q v e so_far y (λ y. level_of cs M w e v so_far y)
+        (λ g x so_far y. turn_of M w e g cs x so_far y) (λ g vs x. generated e g cs b pl vs x)
+
+    clause_by : (q : Statement) (x : Tree) (cs : Trees) → Clause_lead q x → Clauses_lead cs →
+        Attempt_leads (claused_code q x cs) (claused_of q x cs) (levelled_of q cs)
+    unfolding claused levelled low.claused valued attempted generates_from
+    clause_by plain x cs hx hc ss s e out w M j n c o y0 u ls st so_far last a0 e2 i lo sc rl rs fw lt lM ab o1 o2 g =
+        let f : Maker = piece z.program differ x ss (enclosed a) in
+        let more : Maker = levels_code cs ss in
+        let m : Spot = past s (f s) in
+        let r1 = then_stand z s e f (one op.Drop then more) i in
+        let r2 = then_stand z m e (one op.Drop) more r1.1 in
+        let x1 = past_le s m (f s) refl in
+        let x2 = levels_more cs (fits c.handlers) c.size out ss (next m) e r2.1 in
+        let drop = op_stands z (narrow_stands z a0 e.at (omega (arith, lo, x1)) x2 r2.0) in
+        let d : Ctx = trying (holding_all c c.env [] ((r, so_far) ∷ [])) y0.state a0 e.at st in
+        attempt_by z {c = c} {a = a0} {l = e.at} {st = st} {from = on m.at []} {into = stored e.at st r []} ((r, so_far) ∷ []) y0
+        (ev z.program (deeper z.program M) x false c.env (with_state y0 u)) _ _
+        (attempts_more z y0 (λ r. r) (λ v y. clauses_of cs M c.env v y) (λ e1 v y. level_of cs M w e1 v so_far y) (λ y. value e2 so_far y))
+        (i.fit e.at (omega (arith, x1, x2)) le_self)
+        (hx ss (enclosed a) s m out false M j n d o (with_state y0 u) ls [] (narrow_stands z a0 e.at lo (omega (arith, x2)) r1.0)
+        (trying_static y0.state a0 e.at st (results_static so_far rl sc)) refl lt lM refl g)
+        (λ k le e1 v u ls gd bs. does_leads z drop.is (open_leads z _ drop.fit
+        (hc ss (next m) e out w M j k c o y0 u ls st so_far v a0 e2 r2.1 (omega (arith, lo, x1)) sc rl rs fw (trans le lt) (trans le lM) ab
+        o1 o2 gd)))
+        (λ u ls gd. missed_leads (with_state y0 u) so_far e2 gd)
+    clause_by (defers q) x cs hx hc ss s e out w M j n c o y0 u ls st so_far last a0 e2 i lo sc rl rs fw lt lM ab o1 o2 g =
+        does_leads z (op_stands z i).is (record { go = λ g h. over _ h })
+    clause_by (defines q) x cs hx hc ss s e out w M j n c o y0 u ls st so_far last a0 e2 i lo sc rl rs fw lt lM ab o1 o2 g =
+        let f : Maker = low.inner z.program differ x ss (enclosed a) in
+        let f2 : Maker = bind q (length ss) in
+        let us : Names = with_binder q ss in
+        let more : Maker = levels_code cs us in
+        let m : Spot = past s (f s) in
+        let m2 : Spot = past m (f2 m) in
+        let r1 = then_stand z s e f (f2 then one op.Drop then more) i in
+        let r2 = then_stand z m e f2 (one op.Drop then more) r1.1 in
+        let r3 = then_stand z m2 e (one op.Drop) more r2.1 in
+        let x1 = past_le s m (f s) refl in
+        let x2 = past_le m m2 (f2 m) refl in
+        let x3 = levels_more cs (fits c.handlers) c.size out us (next m2) e r3.1 in
+        let drop = op_stands z (narrow_stands z a0 e.at (omega (arith, lo, x1, x2)) x3 r3.0) in
+        let d : Ctx = trying (holding_all c c.env [] ((r, so_far) ∷ [])) y0.state a0 e.at st in
+        let sd : Static top d ss out (enclosed a) = trying_static y0.state a0 e.at st (results_static so_far rl sc) in
+        attempt_by z {c = c} {a = a0} {l = e.at} {st = st} {from = on m.at []} {into = stored e.at st r []} ((r, so_far) ∷ []) y0
+        (inner z.program (deeper z.program M) x false c.env (with_state y0 u)) _ _
+        (attempts_more z y0 (λ r. r)
+        (λ v y. defined z.program (deeper z.program M) q c.env v y (λ e v y. clauses_of cs M e v y))
+        (λ e1 v y. level_of cs M w e1 v so_far y) (λ y. value e2 so_far y))
+        (i.fit e.at (omega (arith, x1, x2, x3)) le_self)
+        (hx ss (enclosed a) s m out false M j n d o (with_state y0 u) ls [] (narrow_stands z a0 e.at lo (omega (arith, x2, x3)) r1.0) sd refl
+        lt lM refl g)
+        (λ k le e1 v u ls gd bs. bind_leads z d q ss m m2 M (with_state y0 u) v (λ e v y. clauses_of cs M e v y)
+        (λ x. attempted x y0 (λ e1 v y. level_of cs M w e1 v so_far y) (λ y. value e2 so_far y)) (λ h. refl)
+        (narrow_stands z a0 e.at (omega (arith, lo, x1)) (omega (arith, x3)) r2.0) sd gd
+        (λ env u ls bs hi gd. does_leads z drop.is (open_leads z _ drop.fit
+        (holding_leads z c env bs.more [] _
+        (hc us (next m2) e out w M j k (holding_all c env bs.more []) o y0 u ls st so_far v a0 e2 r3.1 (omega (arith, lo, x1, x2))
+        (shown_static (longer_bound q ss) sc bs) (let p = longer_bound q ss in omega (arith, rl, p)) rs fw (trans le lt) (trans le lM) ab
+        (high_other (length ss) bs.more c.held rl hi o1) o2 (shown_good d bs gd))))))
+        (λ u ls gd. missed_leads (with_state y0 u) so_far e2 gd)
+    clause_by (generates q) x cs hx hc ss s e out w M j n c o y0 u ls st so_far last a0 e2 i lo sc rl rs fw lt lM ab o1 o2 g =
+        let f : Maker = low.inner z.program differ x ss (enclosed a) in
+        let more : Maker = levels_code cs (with_generator q ss) in
+        let m : Spot = past s (f s) in
+        let r1 = then_stand z s e f (turning (taking q (length ss)) (length ss) more) i in
+        let t1 = turning_stand z m e (taking q (length ss)) (length ss) more r1.1 in
+        let x1 = past_le s m (f s) refl in
+        let x2 = t1.order in
+        let x3 = t1.last in
+        let d : Ctx = trying (holding_all c c.env [] ((r, so_far) ∷ [])) y0.state a0 e.at st in
+        let from : Target = record { place = m.at; stack = []; lies = lies_of q; shown = shown_of q } in
+        attempt_by z {c = c} {a = a0} {l = e.at} {st = st} {from = from} {into = stored e.at st r []} ((r, so_far) ∷ []) y0
+        (inner z.program (deeper z.program M) x false c.env (with_state y0 u)) _ _
+        (attempts_more z y0 (λ r. r) (λ v y. value c.env v y) (λ e1 v y. levelled_of (generates q) cs M w e1 v so_far y)
+        (λ y. value e2 so_far y))
+        (i.fit e.at (omega (arith, x1, x2, x3)) le_self)
+        (drawn_leads q x hx ss (enclosed a) s m out M j n d o (with_state y0 u) ls []
+        (narrow_stands z a0 e.at lo (omega (arith, x2, x3)) r1.0) (trying_static y0.state a0 e.at st (results_static so_far rl sc)) refl lt
+        lM refl g)
+        (λ k le e1 v u ls gd bs. drawn_turns q cs (turn_from cs hc) ss m e out w M j k c o (with_state y0 u) ls st so_far sc rl rs fw
+        (trans le lt) (trans le lM) ab o1 o2 t1 gd v (drawn q c.held e1 v ls bs) y0.state a0)
+        (λ u ls gd. missed_leads (with_state y0 u) so_far e2 gd)
+
+    pub clauses_lead : (cs : Trees) → All_clauses cs → Clauses_lead cs
+    unfolding attempted
+    clauses_lead no_trees h ss s e out w M j n c o y0 u ls st so_far last a0 e2 i lo sc rl rs fw lt lM ab o1 o2 g =
+        body_leads ss s e out w M j n c o (with_state y0 u) ls st so_far last y0.state a0 i sc rl rs fw lt lM ab o1 o2 g
+    clauses_lead (more_trees x cs) h ss s e out w M j n c o y0 u ls st so_far last a0 e2 i lo sc rl rs fw lt lM ab o1 o2 g =
+        clause_by (statement_of x) x cs h.0 (clauses_lead cs h.1) ss s e out w M j n c o y0 u ls st so_far last a0 e2 i lo sc rl rs fw lt lM
+        ab o1 o2 g
