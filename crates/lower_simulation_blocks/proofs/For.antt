@@ -507,3 +507,66 @@ module _ (z : Setting) (differ : ℕ → ℕ → Bool) (top : ℕ) where
     clauses_lead (more_trees x cs) h ss s e out w M j n c o y0 u ls st so_far last a0 e2 i lo sc rl rs fw lt lM ab o1 o2 g =
         clause_by (statement_of x) x cs h.0 (clauses_lead cs h.1) ss s e out w M j n c o y0 u ls st so_far last a0 e2 i lo sc rl rs fw lt lM
         ab o1 o2 g
+
+  -- ---- the whole
+
+  no_values : array_of [] ≡ gives (array no_vals)
+  no_values = refl
+
+  hidden_static : {c : Ctx} {ss : Names} {out : Way} {a : Where} → Static top c ss out a → Static top c (hidden ∷ ss) out a
+  hidden_static {c} {ss} sc = record {
+    fits = sc.fits;
+    low = low_more (length ss) (suc (length ss)) c.held (omega arith) sc.low;
+    low_also = low_more (length ss) (suc (length ss)) c.also (omega arith) sc.low_also;
+    loops = sc.loops;
+    leaves = sc.leaves;
+    breaks = sc.breaks;
+    returns = sc.returns;
+    defers = sc.defers;
+    noted = sc.noted;
+    born = sc.born;
+  }
+
+  pub for_leads : (n : ℕ) (pl : Place) (cs : Trees) (b : Tree) → All_clauses cs → EvLeads z differ top b →
+      EvLeads z differ top (tree n pl (t.Shape.for_form cs b))
+  for_leads n pl cs b hcs hb ss a s e out w M j m c o y ls st i sc fw lt lM ab g =
+      let l : ℕ = length ss in
+      let code : ℕ → Maker = λ m. low.levels z.program differ cs (hidden ∷ ss) (enclosed a)
+          (λ inside. one op.Commit then piece z.program differ b inside a then one (op.Append l m)) in
+      let f : Maker = code s.place in
+      let tried : Maker = ahead op.Try f in
+      let i1 = numbering_stand z s e pl
+          (λ m. one (op.Array 0 m) then put_away l then ahead op.Try (code m) then one (op.Get l)) i in
+      let s0 : Spot = behind_place z s in
+      let s1 : Spot = next (next s0) in
+      let e1 : Spot = past s1 (tried s1) in
+      let r1 = then_stand z s0 e (one (op.Array 0 s.place)) (put_away l then tried then one (op.Get l)) i1.1 in
+      let r2 = then_stand z (next s0) e (put_away l) (tried then one (op.Get l)) r1.1 in
+      let r3 = then_stand z s1 e tried (one (op.Get l)) r2.1 in
+      let made = op_stands z r1.0 in
+      let put = put_stand z l r2.0 in
+      let get = op_stands z r3.1 in
+      let i2 = ahead_stand z s1 e1 op.Try f r3.0 in
+      let rm = put.1 in
+      let sz = g.sized in
+      let none : Val = array no_vals in
+      let p1 = puts ls l none (omega (arith, rm, sz)) in
+      let lead = turn_from b hb a l s.place pl i1.0 cs (clauses_lead b hb a l s.place pl i1.0 cs hcs) in
+      does_leads z made.is (subst (λ (x : Answer Val). LeadsTo z j m c o y.behind y.tasks
+      (answered (place_at z.code s.place) (still x y.state) c.who o.world y.state c.life ls st s.at c.handlers c.below) (on e.at st)
+      (ev z.program (deeper z.program M) (tree n pl (t.Shape.for_form cs b)) w c.env y)) (sym no_values)
+      (open_leads z _ made.fit (does_leads z put.0.is (there_leads z y.state _ p1.is (open_leads z _ put.0.fit
+      (end_leads z r3.1.ends (from_leads z c (stored e1.at st l []) (on (suc e1.at) st)
+      (λ m o e v w ls gd bs g f. does z (op.Get l) _ g get.is
+      (subst (λ u. Ends z (on_there u w.state (λ v. only_where (fits c.handlers (suc e1.at)) w.state
+      (at c o w.state ls (v ∷ st) (suc e1.at)))) g) (sym bs.0)
+      (subst (λ t. Ends z (only_where t w.state (at c o w.state ls (v ∷ st) (suc e1.at))) g) (sym get.fit) (f tt)))) _
+      (lead (hidden ∷ ss) (next s1) e1 out w M j m c o y p1.locals st none s1.at c.env i2.inside i2.begins refl (hidden_static sc)
+      (omega arith) rm fw lt lM ab p1.here (low_other b hb a l s.place pl i1.0 c.held sc.low)
+      (low_other b hb a l s.place pl i1.0 c.also sc.low_also)
+      (record {
+        holds = holds_put c.held ls l l none p1 sc.low le_self g.holds;
+        besides = holds_put c.also ls l l none p1 sc.low_also le_self g.besides;
+        sized = p1.sized ∙ g.sized;
+        fine = g.fine;
+      })))))))))
