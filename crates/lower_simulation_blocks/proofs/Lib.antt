@@ -7,3 +7,4 @@ pub mod Domains
 pub mod Takes
 pub mod Generators
 pub mod For
+pub mod Cases
