@@ -1,5 +1,5 @@
 -- `for`: its clauses in a failure context, its turns, its body.
-use Rattle.std.proofs.Common.{◌≡◌, ℕ, suc, ◌≤◌, ◌<◌, List, [], ◌∷◌, ◌++◌, length, Option, Some, None, Bool, true, false, refl, sym, ap}
+use Rattle.std.proofs.Common.{◌≡◌, ℕ, suc, ◌≤◌, ◌<◌, List, [], ◌∷◌, ◌++◌, length, Option, Some, Bool, true, false, refl, sym}
 use Rattle.std.proofs.Common.{◌∙◌, subst, arith, ◌⊎◌, inl, inr}
 use Rattle.std.specs.Prelude.{slice_get}
 use Rattle.verse_base.specs.declared.places.Place.{Place}
@@ -14,15 +14,14 @@ use Rattle.verse_meaning_state.specs.Waits.{nth}
 use Rattle.verse_meaning_state.specs.Effects.{still}
 use Rattle.verse_meaning.specs.Residuals as form
 use Rattle.verse_meaning.specs.Residuals.{Env, Residual, args, generated, Generator, of_elements, of_entries, of_range, Values}
-use Rattle.verse_meaning.specs.Outcomes.{World, with_state, Outcome, value, halted, wrong, valued, attempted, told, if_there}
+use Rattle.verse_meaning.specs.Outcomes.{World, with_state, Outcome, value, valued, attempted, told, if_there}
 use Rattle.verse_meaning.specs.Forms.{apply, with_taken, values_of, defined}
 use Rattle.verse_meaning.specs.Evaluating.{ev, inner, clauses, level, claused, levelled, generates_from, Statement, plain, defines}
 use Rattle.verse_meaning.specs.Evaluating.{defers, generates, statement_of}
 use Rattle.verse_meaning.specs.Runs.{deeper}
-use Rattle.verse_code_machine.specs.Tasks.{machine}
 use Rattle.verse_code_machine.specs.Frames.{fits, free, only_where, on_there, answered, answered_to, faulting, put}
 use Rattle.verse_code_machine.specs.Acts.{place_at}
-use Rattle.lower_code.specs.Pieces.{Spot, Maker, next, past, one, put_away, numbering, ahead, turning, ◌then◌}
+use Rattle.lower_code.specs.Pieces.{Spot, Maker, next, past, one, put_away, ahead, turning, ◌then◌}
 use Rattle.lower_code.specs.Scopes.{hidden, Scope as Names}
 use Rattle.lower_code.specs.declared.arounds.Around.{Around as Where}
 use Rattle.lower_code.specs.Arounds.{up, enclosed}
@@ -33,9 +32,9 @@ use Rattle.lower_simulation.proofs.Claims.{Locals, Holds, Low, Above, same_aroun
 use Rattle.lower_simulation.proofs.Steps.{does, over}
 use Rattle.lower_simulation.proofs.Going.{trans, le_self}
 use Rattle.lower_simulation.proofs.Locals.{PutIs, puts, holds_put, low_more}
-use Rattle.lower_simulation.proofs.Leading.{LeadsTo, shown_leads, does_leads, open_leads, there_leads, fails_here, is_leads}
+use Rattle.lower_simulation.proofs.Leading.{LeadsTo, shown_leads, does_leads, open_leads, there_leads, fails_here}
 use Rattle.lower_simulation.proofs.Standing.{Stands, op_stands, end_at, past_le, then_stand, narrow_stands, narrowed, numbering_stand}
-use Rattle.lower_simulation.proofs.Standing.{put_stand, placed_stand, ahead_stand, turn_spot, Turning_at, turning_stand, behind_place}
+use Rattle.lower_simulation.proofs.Standing.{put_stand, ahead_stand, turn_spot, Turning_at, turning_stand, behind_place}
 use Rattle.lower_simulation.proofs.Widening.{holding_all, holding_leads, from_leads}
 use Rattle.lower_simulation.proofs.Forms.{Static, on_one, end_leads, EvLeads}
 use Rattle.lower_simulation.proofs.Contexts.{trying, trying_static}

@@ -8,3 +8,4 @@ pub mod Takes
 pub mod Generators
 pub mod For
 pub mod Cases
+pub mod Strays
