@@ -19,16 +19,15 @@ use Rattle.lower_code.specs.declared.arounds.Around.{Around as Where}
 use Rattle.lower_code.specs.Lowering as low
 use Rattle.lower_code.specs.Lowering.{piece, is_defer_shape, any_defer, scope_stated, scope_behind, around_stated, bind}
 use Rattle.lower_simulation.proofs.Steps.{over}
-use Rattle.lower_simulation.proofs.Claims.{Way, Setting, Ends, Ctx, Around, at, Good, Target, on, pushed, Shown, plainly, named_by, Here, Above, Tasks}
-use Rattle.lower_simulation.proofs.Claims.{same_around}
+use Rattle.lower_simulation.proofs.Claims.{Way, Setting, Ends, Ctx, Around, at, Good, Target, on, pushed, Shown, plainly, named_by, Here}
+use Rattle.lower_simulation.proofs.Claims.{Above, Tasks, same_around}
 use Rattle.lower_simulation.proofs.Going.{trans, le_self}
 use Rattle.lower_simulation.proofs.Leading.{LeadsTo, value_leads, does_leads, open_leads}
-use Rattle.lower_simulation.proofs.Standing.{Stands, op_stands, then_stand}
+use Rattle.lower_simulation.proofs.Standing.{Stands, op_stands, then_stand, past_le, end_at}
 use Rattle.lower_simulation.proofs.Widening.{from_leads, plain_leads, holding_all, holding_leads}
 use Rattle.lower_simulation.proofs.Forms.{Static, start_leads, at_leads, EvLeads}
 use Rattle.lower_simulation.proofs.Contexts.{deferring, deferring_static, handled}
 use Rattle.lower_simulation.proofs.Leaving.{leave_none}
-use Rattle.lower_simulation.proofs.Standing.{past_le, end_at}
 use Rattle.lower_simulation_blocks.proofs.Definitions.{longer_bound, shown_static, shown_good, bind_leads}
 
 -- whether a statement defers, or one of those behind it

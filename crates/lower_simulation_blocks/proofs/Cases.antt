@@ -21,8 +21,8 @@ use Rattle.verse_meaning.specs.Evaluating.{ev, chosen, arm_of, on_bool, none_lef
 use Rattle.verse_meaning.specs.Runs.{deeper}
 use Rattle.verse_code_machine.specs.Frames.{fits, free, only_where}
 use Rattle.lower_simulation.proofs.Steps.{act_at}
-use Rattle.lower_simulation.proofs.Forms.{machine_at}
-use Rattle.lower_simulation.proofs.Leading.{is_leads}
+use Rattle.lower_simulation.proofs.Forms.{machine_at, Static, start_leads, EvLeads}
+use Rattle.lower_simulation.proofs.Leading.{is_leads, LeadsTo, value_leads, does_leads, open_leads, there_leads}
 use Rattle.lower_code.specs.Pieces.{sure, Spot, Maker, next, past, one, texted, put_away, ahead, either, ◌then◌}
 use Rattle.lower_code.specs.Scopes.{hidden, Scope as Names}
 use Rattle.lower_code.specs.declared.arounds.Around.{Around as Where}
@@ -31,11 +31,9 @@ use Rattle.lower_code.specs.Lowering.{piece, pattern_op, enum_pattern}
 use Rattle.lower_simulation.proofs.Claims.{Way, Setting, Ctx, Around, at, Good, Target, on, Tasks, Above}
 use Rattle.lower_simulation.proofs.Going.{trans, le_self}
 use Rattle.lower_simulation.proofs.Locals.{puts, holds_put, low_more}
-use Rattle.lower_simulation.proofs.Leading.{LeadsTo, value_leads, does_leads, open_leads, there_leads}
 use Rattle.lower_simulation.proofs.Standing.{Stands, op_stands, then_stand, texted_stand, put_stand, ahead_stand, either_stand, widened}
 use Rattle.lower_simulation.proofs.Standing.{past_le}
 use Rattle.lower_simulation.proofs.Widening.{holding_all, holding_leads, jump_leads}
-use Rattle.lower_simulation.proofs.Forms.{Static, start_leads, EvLeads}
 use Rattle.lower_simulation_blocks.proofs.Blocks.{stuck_leads}
 
 -- ---- patterns

@@ -17,7 +17,7 @@ use Rattle.verse_meaning_state.specs.State.{State, with_store}
 use Rattle.verse_meaning_state.specs.Effects.{still, added}
 use Rattle.verse_meaning.specs.Residuals as form
 use Rattle.verse_meaning.specs.Residuals.{Env, constant, variable, args, Scopes, Binder, no_name, a_constant, a_variable}
-use Rattle.verse_meaning.specs.Outcomes.{World, with_state, Outcome, value, valued, told}
+use Rattle.verse_meaning.specs.Outcomes.{World, with_state, Outcome, value, valued, told, Halt, halted}
 use Rattle.verse_meaning.specs.Forms.{apply, defined, bound_to, variable_bound}
 use Rattle.verse_meaning.specs.Evaluating.{ev}
 use Rattle.verse_meaning.specs.Runs.{deeper}
@@ -28,15 +28,13 @@ use Rattle.lower_code.specs.declared.arounds.Around.{Around as Where}
 use Rattle.lower_code.specs.Lowering.{piece, bind, with_binder}
 use Rattle.lower_simulation.proofs.Steps.{over}
 use Rattle.lower_simulation.proofs.Claims.{Way, Setting, Ends, Ctx, Around, at, Good, Target, on, Tasks, Locals, Low, first_in, Above}
-use Rattle.verse_meaning.specs.Outcomes.{Halt, halted}
+use Rattle.lower_simulation.proofs.Claims.{Shows, Fits, Holds}
 use Rattle.verse_meaning_state.specs.Waits.{nth}
 use Rattle.verse_value.specs.declared.runs.CellKind.{CellKind}
-use Rattle.lower_simulation.proofs.Claims.{Shows, Fits, Holds}
-use Rattle.lower_simulation.proofs.Leading.{is_leads}
+use Rattle.lower_simulation.proofs.Leading.{is_leads, LeadsTo, value_leads, does_leads, open_leads, there_leads, value_here}
 use Rattle.lower_simulation.proofs.Going.{le_self}
 use Rattle.lower_simulation.proofs.Going as going
 use Rattle.lower_simulation.proofs.Locals.{puts, holds_put, low_more, fits_more}
-use Rattle.lower_simulation.proofs.Leading.{LeadsTo, value_leads, does_leads, open_leads, there_leads, value_here}
 use Rattle.lower_simulation.proofs.Standing.{Stands, op_stands, then_stand, placed_stand, kept_stand}
 use Rattle.lower_simulation.proofs.Widening.{holding_all}
 use Rattle.lower_simulation.proofs.Forms.{Static, EvLeads}

@@ -1,14 +1,12 @@
 -- The values of a domain, as the meaning and as the locals have them.
 use Rattle.std.proofs.Common.{◌≡◌, ℕ, ℤ, zero, suc, [], Option, Some, None, Bool, true, false, cond, refl, sym, subst}
-use Rattle.verse_value.specs.Val.{Val, unit, int}
-use Rattle.verse_value.specs.Answer.{fails}
+use Rattle.verse_value.specs.Val.{Val, unit, int, Vals, no_vals, more_vals, Pairs, no_pairs, more_pairs, array, mapping}
+use Rattle.verse_value.specs.Answer.{fails, given_or}
 use Rattle.std.specs.Prelude.{pos, ◌+ℤ◌, int_le, option_map}
 use Rattle.std.specs.Ordering.{int_eq}
-use Rattle.verse_value.specs.Val.{Vals, no_vals, more_vals, Pairs, no_pairs, more_pairs, array, mapping}
 use Rattle.verse_value.specs.Keys.{key_val}
 use Rattle.verse_value.specs.Places as pl
 use Rattle.verse_value.specs.Operations.{nth_entry}
-use Rattle.verse_value.specs.Answer.{given_or}
 use Rattle.verse_meaning.specs.Residuals.{Values, listed, between}
 use Rattle.verse_meaning.specs.Forms.{next_value, elements_from, entries_in}
 use Rattle.verse_code_machine.specs.Acts.{Taken, ended, takes, unfit, taken_at, taken_from}

@@ -10,16 +10,15 @@ use Rattle.verse_value.specs.Val.{Val}
 use Rattle.verse_meaning_state.specs.State.{State, restored}
 use Rattle.verse_meaning.specs.Residuals.{Env, Residual, Scopes}
 use Rattle.verse_meaning.specs.Outcomes.{World, with_state, Outcome, value, failed, returned, broke, halted, rests, attempted, valued}
+use Rattle.verse_meaning.specs.Outcomes.{Halt, world, wrong}
 use Rattle.verse_code_machine.specs.Tasks.{Step}
 use Rattle.verse_code_machine.specs.Frames.{fits, free, only_where}
 use Rattle.lower_code.specs.Pieces.{Spot, Maker, next, past, one, ahead, ◌then◌}
 use Rattle.lower_code.specs.Arounds.{enclosed}
 use Rattle.lower_code.specs.Lowering.{piece}
 use Rattle.lower_simulation.proofs.Claims.{Setting, Ends, Ctx, Around, at, Good, Target, on, Tasks, Locals, Binds, laid, ParkedS, Grown}
-use Rattle.lower_simulation.proofs.Claims.{same_around, left_around, forked_around}
+use Rattle.lower_simulation.proofs.Claims.{same_around, left_around, forked_around, Goes}
 use Rattle.lower_simulation.proofs.Going.{le_self, raise, kept, shifted, grown_steps}
-use Rattle.verse_meaning.specs.Outcomes.{Halt, world, wrong}
-use Rattle.lower_simulation.proofs.Claims.{Goes}
 use Rattle.lower_simulation.proofs.Leading.{LeadsTo, is_leads, does_leads, open_leads, value_here, fails_here}
 use Rattle.lower_simulation.proofs.Standing.{past_le, joined_stands, op_stands, narrow, widened, narrow_stands, end_at, then_stand}
 use Rattle.lower_simulation.proofs.Standing.{either_stand, ahead_stand}

@@ -1,6 +1,6 @@
 -- `for`: its clauses in a failure context, its turns, its body.
-use Rattle.std.proofs.Common.{◌≡◌, ℕ, suc, ◌≤◌, ◌<◌, List, [], ◌∷◌, ◌++◌, length, Option, Some, Bool, true, false, refl, sym}
-use Rattle.std.proofs.Common.{◌∙◌, subst, arith, ◌⊎◌, inl, inr}
+use Rattle.std.proofs.Common.{◌≡◌, ℕ, suc, ◌≤◌, ◌<◌, List, [], ◌∷◌, ◌++◌, length, Option, Some, Bool, true, false, refl, sym, ◌∙◌, subst}
+use Rattle.std.proofs.Common.{arith, ◌⊎◌, inl, inr}
 use Rattle.std.specs.Prelude.{slice_get}
 use Rattle.verse_base.specs.declared.places.Place.{Place}
 use Rattle.verse_tree.specs.Tree.{Bytes, Tree, tree, Trees, no_trees, more_trees}
@@ -27,8 +27,8 @@ use Rattle.lower_code.specs.declared.arounds.Around.{Around as Where}
 use Rattle.lower_code.specs.Arounds.{up, enclosed}
 use Rattle.lower_code.specs.Lowering as low
 use Rattle.lower_code.specs.Lowering.{piece, bind, with_binder, with_generator, taking}
-use Rattle.lower_simulation.proofs.Claims.{Way, Setting, Ends, Ctx, Around, at, Good, Target, on, pushed, spread, laid, keeping, paired, Binds}
-use Rattle.lower_simulation.proofs.Claims.{Locals, Holds, Low, Above, same_around}
+use Rattle.lower_simulation.proofs.Claims.{Way, Setting, Ends, Ctx, Around, at, Good, Target, on, pushed, spread, laid, keeping, paired}
+use Rattle.lower_simulation.proofs.Claims.{Binds, Locals, Holds, Low, Above, same_around}
 use Rattle.lower_simulation.proofs.Steps.{does, over}
 use Rattle.lower_simulation.proofs.Going.{trans, le_self}
 use Rattle.lower_simulation.proofs.Locals.{PutIs, puts, holds_put, low_more}
@@ -43,7 +43,8 @@ use Rattle.lower_simulation_blocks.proofs.Definitions.{High, longer_bound, shown
 use Rattle.lower_simulation_blocks.proofs.Blocks.{InnerLeads}
 use Rattle.lower_simulation_blocks.proofs.Domains.{Domain}
 use Rattle.lower_simulation_blocks.proofs.Takes.{stored, takes_leads}
-use Rattle.lower_simulation_blocks.proofs.Generators.{lies_of, shown_of, Drawn, four, generator_fits, generator_size, four_low, begin_leads}
+use Rattle.lower_simulation_blocks.proofs.Generators.{lies_of, shown_of, Drawn, four, generator_fits, generator_size, four_low}
+use Rattle.lower_simulation_blocks.proofs.Generators.{begin_leads}
 
 module _ (z : Setting) (differ : ℕ → ℕ → Bool) (top : ℕ) where
   -- ---- what is to be shown of the clauses
@@ -201,7 +202,7 @@ module _ (z : Setting) (differ : ℕ → ℕ → Bool) (top : ℕ) where
         let kept_in : Target = record { place = p.at; stack = st; lies = pushed; shown = keeping ((r, so_far) ∷ []) } in
         let run : Outcome = ev z.program (deeper z.program M) b w c.env y in
         let after : ℕ → Val → World → Outcome = λ M v y. apply z.program (deeper z.program M) (form.appending so_far pl) (v ∷ []) false
-            c.env y in
+        c.env y in
         commit_leads z u a0 e.at (op_stands z i1.0).is (op_stands z i1.0).fit
         (shown_leads z {c = c} kept_in (stored e.at st r []) run (λ x. args c.env (form.appending so_far pl) [] x []) (λ w M v y. after M v y)
         fw lM (λ x. refl) (λ r M w. refl) (λ r M w. refl) (λ l x n v y. refl)
@@ -292,7 +293,7 @@ module _ (z : Setting) (differ : ℕ → ℕ → Bool) (top : ℕ) where
     turn_from cs hc ss s e out w M j n c o y ls st so_far a0 e2 i ht ha sc rl rs fw lt lM ab hr o1 o2 g =
         let x = levels_more cs (fits c.handlers) c.size out ss s e i in
         let fi = narrowed s.at s.at a0 e.at i.fit le_self (omega (arith, x)) (omega (arith, ha)) x (suc a0) (omega (arith, ha))
-            (omega (arith, ha)) in
+        (omega (arith, ha)) in
         does_leads z ht (open_leads z _ fi (subst (λ (p : ℕ). LeadsTo z j n c o y.behind y.tasks
         (at (trying c y.state a0 e.at st) o y.state ls [] p) (stored e.at st r [])
         (attempted (clauses_of cs M c.env unit y) y (λ e1 v y. level_of cs M w e1 v so_far y) (λ y. value e2 so_far y))) (sym ha)
@@ -531,11 +532,11 @@ module _ (z : Setting) (differ : ℕ → ℕ → Bool) (top : ℕ) where
   for_leads n pl cs b hcs hb ss a s e out w M j m c o y ls st i sc fw lt lM ab g =
       let l : ℕ = length ss in
       let code : ℕ → Maker = λ m. low.levels z.program differ cs (hidden ∷ ss) (enclosed a)
-          (λ inside. one op.Commit then piece z.program differ b inside a then one (op.Append l m)) in
+      (λ inside. one op.Commit then piece z.program differ b inside a then one (op.Append l m)) in
       let f : Maker = code s.place in
       let tried : Maker = ahead op.Try f in
       let i1 = numbering_stand z s e pl
-          (λ m. one (op.Array 0 m) then put_away l then ahead op.Try (code m) then one (op.Get l)) i in
+      (λ m. one (op.Array 0 m) then put_away l then ahead op.Try (code m) then one (op.Get l)) i in
       let s0 : Spot = behind_place z s in
       let s1 : Spot = next (next s0) in
       let e1 : Spot = past s1 (tried s1) in

@@ -14,8 +14,8 @@ use Rattle.verse_code_machine.specs.Frames.{fits, only_where, on_there, put}
 use Rattle.verse_code_machine.specs.Acts.{on_int}
 use Rattle.lower_code.specs.Scopes.{Scope as Names}
 use Rattle.lower_code.specs.Lowering.{with_generator, taking}
-use Rattle.lower_simulation.proofs.Claims.{Setting, Ends, Ctx, Around, at, Target, Lies, pushed, spread, laid, Shown, plainly, paired, Pair}
-use Rattle.lower_simulation.proofs.Claims.{Locals, Low, Fits, first_in, later_in}
+use Rattle.lower_simulation.proofs.Claims.{Setting, Ends, Ctx, Around, at, Target, Lies, pushed, spread, laid, Shown, plainly, paired}
+use Rattle.lower_simulation.proofs.Claims.{Pair, Locals, Low, Fits, first_in, later_in}
 use Rattle.lower_simulation.proofs.Steps.{act_at, over}
 use Rattle.lower_simulation.proofs.Locals.{low_more, fits_more}
 use Rattle.lower_simulation.proofs.Leading.{LeadsTo, is_leads}

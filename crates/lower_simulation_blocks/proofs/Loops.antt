@@ -1,6 +1,6 @@
 -- Loops, and what leaves them.
-use Rattle.std.proofs.Common.{◌≡◌, ℕ, zero, suc, ◌-◌, ◌≤◌, List, [], ◌∷◌, length, Bool, true, false, nat_lt, refl, sym, ap, ◌∙◌}
-use Rattle.std.proofs.Common.{subst, arith}
+use Rattle.std.proofs.Common.{◌≡◌, ℕ, zero, suc, ◌-◌, ◌≤◌, List, [], ◌∷◌, length, Bool, true, false, nat_lt, refl, sym, ap, ◌∙◌, subst}
+use Rattle.std.proofs.Common.{arith}
 use Rattle.std.specs.Prelude.{slice_get, Some}
 use Rattle.std.proofs.lemmas.Bool.{ltb-true, ltb-false}
 use Rattle.verse_base.specs.declared.places.Place.{Place}
@@ -26,9 +26,9 @@ use Rattle.lower_code.specs.Arounds as arounds
 use Rattle.lower_code.specs.Arounds.{returning}
 use Rattle.lower_code.specs.Lowering.{piece}
 use Rattle.lower_code.proofs.Standing.{later_is}
-use Rattle.lower_simulation.proofs.Claims.{Way, Setting, Goal, Ends, loop_at, Ctx, Around, around, at, Good, Keeps, Target, on, Tasks, Above}
-use Rattle.lower_simulation.proofs.Claims.{Returns, Onwards, Breaks, break_leaves, break_now, kids_of, own_of, Grown, same_around, ParkedR}
-use Rattle.lower_simulation.proofs.Claims.{ParkedS, Goes}
+use Rattle.lower_simulation.proofs.Claims.{Way, Setting, Goal, Ends, loop_at, Ctx, Around, around, at, Good, Keeps, Target, on, Tasks}
+use Rattle.lower_simulation.proofs.Claims.{Above, Returns, Onwards, Breaks, break_leaves, break_now, kids_of, own_of, Grown, same_around}
+use Rattle.lower_simulation.proofs.Claims.{ParkedR, ParkedS, Goes}
 use Rattle.lower_simulation.proofs.Steps.{does}
 use Rattle.lower_simulation.proofs.Going.{trans, le_self, shifted, grown_steps, stopped_as, stopped_weaken}
 use Rattle.lower_simulation.proofs.Following.{grown_in}

@@ -1,7 +1,7 @@
 -- What is no form of its own, but stands in a block, in a `for` or in a `case`: both sides are stuck there.
 use Rattle.std.proofs.Common.{◌≡◌, ℕ, Bool, true, false, refl, subst}
 use Rattle.verse_base.specs.declared.places.Place.{Place}
-use Rattle.verse_tree.specs.Tree.{Tree, tree, Shape}
+use Rattle.verse_tree.specs.Tree.{tree, Shape}
 use Rattle.verse_tree.specs.Tree as t
 use Rattle.verse_meaning.specs.Residuals.{Env}
 use Rattle.verse_meaning.specs.Outcomes.{World, halted, wrong}

@@ -7,28 +7,21 @@ use Rattle.verse_value.specs.Val.{Val}
 use Rattle.verse_meaning_state.specs.State.{spending, stepped}
 use Rattle.verse_meaning_state.specs.Waits.{nth}
 use Rattle.verse_meaning.specs.Residuals as form
-use Rattle.verse_meaning.specs.Residuals.{Env, Form, Bound, constant, variable, Residual, args, seq, Scopes, Binder, no_name, a_constant}
-use Rattle.verse_meaning.specs.Residuals.{a_variable}
-use Rattle.verse_meaning.specs.Outcomes.{World, with_state, out as no_step, Outcome, value, halted, valued}
+use Rattle.verse_meaning.specs.Residuals.{Residual, Values}
+use Rattle.verse_meaning.specs.Outcomes.{World, with_state, out as no_step, Outcome, value, halted, valued, spends}
 use Rattle.verse_meaning.specs.Resuming.{resume}
-use Rattle.verse_meaning.specs.Runs.{deeper}
+use Rattle.verse_meaning.specs.Runs.{deeper, on_next}
 use Rattle.verse_code_machine.specs.Tasks.{Next, Over, machine}
-use Rattle.verse_code_machine.specs.Frames.{fits, free, put}
-use Rattle.lower_simulation.proofs.Claims.{kids_of, own_of, Setting, Ctx, Around, at, Good, Target, dropped, stored_in, Locals, Holds, Low}
-use Rattle.lower_simulation.proofs.Claims.{same_around}
-use Rattle.lower_simulation.proofs.Going.{le_self}
+use Rattle.verse_code_machine.specs.Frames.{fits, free, put, only_where, on_there}
+use Rattle.lower_simulation.proofs.Claims.{kids_of, own_of, Setting, Ctx, Around, at, Good, Target, dropped, stored_in, Locals, Holds}
+use Rattle.lower_simulation.proofs.Claims.{Low, same_around}
+use Rattle.lower_simulation.proofs.Going.{le_self, shifted}
 use Rattle.lower_simulation.proofs.Locals.{puts, holds_put}
-use Rattle.lower_simulation.proofs.Leading.{LeadsTo, does_leads, open_leads, there_leads}
-use Rattle.verse_meaning.specs.Residuals.{Values, listed, between}
+use Rattle.lower_simulation.proofs.Leading.{LeadsTo, does_leads, open_leads, there_leads, spends_leads, no_steps, is_leads}
 use Rattle.verse_meaning.specs.Forms.{next_value}
-use Rattle.verse_meaning.specs.Runs.{on_next}
-use Rattle.verse_code_machine.specs.Frames.{only_where, on_there}
 use Rattle.verse_value.specs.declared.runs.Ending.TheVariants as ending
-use Rattle.verse_meaning.specs.Outcomes.{spends}
 use Rattle.verse_code_machine.specs.Acts.{Taken, ended, takes, unfit, taken_from, takes_step}
-use Rattle.lower_simulation.proofs.Leading.{spends_leads, no_steps, is_leads}
 use Rattle.lower_simulation.proofs.Following.{value_step, value_parked}
-use Rattle.lower_simulation.proofs.Going.{shifted}
 use Rattle.lower_simulation_blocks.proofs.Domains.{Domain, Takes_next, domain_next}
 
 -- the value stands in a local, with others that stay
