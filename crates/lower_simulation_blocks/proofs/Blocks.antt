@@ -196,7 +196,13 @@ module _ (z : Setting) (differ : ℕ → ℕ → Bool) (top : ℕ) where
       let le = k.there in
       let a1 = around_stated z.program differ (defers d) a in
       let c1 = deferring c (suc s.at) in
-      let k1 : Leave_at z c.handlers a1 e.at = record { least = k.least; is = k.is; fit = k.fit; there = omega (arith, le); handled = k.handled } in
+      let k1 : Leave_at z c.handlers a1 e.at = record {
+        least = k.least;
+        is = k.is;
+        fit = k.fit;
+        there = omega (arith, le);
+        handled = k.handled;
+      } in
       hd ss a s m out M j n e.at c o y ls st _ i sc lt lM k g (shown_plainly z c1 e.at st (deferring_in cs) (scope_behind cs ss) _
       (hc ss a1 m e out w M j n c1 o y ls st unit (λ h. k1) i2 (deferring_static (suc s.at) sc) fw lt lM ab g))
   stated_leads (generates q) b cs hb hc ss a s m e out w M j n c o y ls st hl i i2 sc fw lt lM ab g = stuck_leads z i

@@ -88,7 +88,8 @@ module _ (z : Setting) where
   named_is x (Some e) h = value_is e x _ h
 
   -- one operation that pushes a value
-  pushed_leads : {j n size m : ℕ} {c : Ctx} {o : Around} {b : Scopes} {f : Tasks} {y : State} {ls st : List Val} {out : Way} {into : Target}
+  pushed_leads : {j n size m : ℕ} {c : Ctx} {o : Around} {b : Scopes} {f : Tasks} {y : State} {ls st : List Val} {out : Way}
+      {into : Target}
       {x : Outcome} {k : Op} {pls : List Place} {ts : List Bytes} (v : Val) (p e : Spot) →
       (i : Stands z (fits c.handlers) size out p (record { items = sure k ∷ []; places = pls; texts = ts; locals = m }) e) →
       act_at z k (machine_at c o y ls st p.at) ≡ only_where (fits c.handlers (suc p.at)) y (at c o y ls (v ∷ st) (suc p.at)) →

@@ -67,8 +67,10 @@ module _ (z : Setting) (differ : ℕ → ℕ → Bool) (top : ℕ) where
       let v0 = i1.order.0 in
       let v1 = i1.order.1 in
       let l : ℕ = suc m.at in
-      try_leads z {c = c} {into = on e.at st} s.at l y _ _ _ i1.begins (i1.first.fit (suc s.at) le_self v1) (i1.wide l (omega (arith, v1)) v0)
-      (hc ss (enclosed a) (next s) _ out false M j n (trying c y.state s.at l st) o y ls [] r.0 (trying_static y.state s.at l st sc) refl lt
+      try_leads z {c = c} {into = on e.at st} s.at l y _ _ _ i1.begins (i1.first.fit (suc s.at) le_self v1)
+      (i1.wide l (omega (arith, v1)) v0)
+      (hc ss (enclosed a) (next s) _ out false M j n (trying c y.state s.at l st) o y ls [] r.0
+      (trying_static y.state s.at l st sc) refl lt
       lM refl g)
       (λ k le env x w ls g bs. jump_leads z c m.at e.at st _ i1.jump (i1.wide e.at (omega (arith, v0, v1)) le_self)
       (go k le s.at l _ m env x w ls r.1 g bs))
@@ -92,7 +94,8 @@ module _ (z : Setting) (differ : ℕ → ℕ → Bool) (top : ℕ) where
   choice_leads cs hc b hb u other ss a s e out w M j n c o y ls st i sc fw lt lM ab g rest =
       let us : Names = scope_behind cs ss in
       let body : Maker = piece z.program differ b us a in
-      context_leads cs hc (one op.Drop then one op.Commit then body) u (λ e1 v y. ev z.program (deeper z.program M) b w e1 y) other ss a s e
+      context_leads cs hc (one op.Drop then one op.Commit then body) u
+      (λ e1 v y. ev z.program (deeper z.program M) b w e1 y) other ss a s e
       out M j n c o y ls st i sc lt lM g
       (λ m le i l s e1 env v w1 ls x g bs.
       let r = then_stand z s e1 (one op.Drop) (one op.Commit then body) x in
@@ -119,7 +122,8 @@ module _ (z : Setting) (differ : ℕ → ℕ → Bool) (top : ℕ) where
       choice_leads cs hc b hb (one op.Unit) (λ y. value c.env unit y) ss a s e out w M j m c o y ls st i sc fw lt lM ab g
       (λ s v ls i g. op_leads z i (λ h. open_leads z _ h.fit (value_here z g)))
 
-  pub logic_leads : (n : ℕ) (pl : Place) (cs : Trees) → ConditionsLead z differ top cs → EvLeads z differ top (tree n pl (t.Shape.logic cs))
+  pub logic_leads : (n : ℕ) (pl : Place) (cs : Trees) → ConditionsLead z differ top cs →
+      EvLeads z differ top (tree n pl (t.Shape.logic cs))
   logic_leads n pl cs hc ss a s e out w M j m c o y ls st i sc fw lt lM ab g =
       context_leads cs hc (one op.Drop then one op.Commit then one op.True) (one op.False) (λ e1 v y. value c.env truth y)
       (λ y. value c.env falsity y) ss a s e out M j m c o y ls st i sc lt lM g

@@ -73,8 +73,10 @@ module _ (z : Setting) where
   attempt_by {j} {n} {c} {o} {q} {a} {l} {st} {from} {into} more y (value e v w) make no_do ht fl h f g = record {
     go = λ t k. h.go t (λ m o' gr ls gd bs.
         let r = grown_none j (holding_all (trying c y.state a l st) c.env [] more) refl gr in
-        subst (λ (x : Around). Ends z (at (trying c y.state a l st) x w.state ls (laid from.lies v from.stack) from.place) t) (sym r.around)
-        ((f m r.le e v w.state ls (subst (λ (x : Around). Good m c.who.path x c.held (more ++ c.also) c.size w.state ls) r.around gd) bs).go
+        subst (λ (x : Around). Ends z (at (trying c y.state a l st) x w.state ls (laid from.lies v from.stack) from.place) t)
+        (sym r.around)
+        ((f m r.le e v w.state ls (subst (λ (x : Around). Good m c.who.path x c.held
+        (more ++ c.also) c.size w.state ls) r.around gd) bs).go
         t (shifted z j n m c o o y.behind y.behind y.tasks y.tasks into t (make (value e v (with_state y w.state))) (same_around r.le)
         (subst (λ b. Goes z j n c o y.behind y.tasks into t (make (value e v (world w.state b y.tasks)))) r.behind
         (subst (λ f. Goes z j n c o y.behind y.tasks into t (make (value e v (world w.state w.behind f)))) r.tasks k)))));
@@ -157,15 +159,18 @@ module _ (z : Setting) where
         let fx : Maker = piece z.program differ x ss (enclosed a) in
         let f : Maker = fx then one op.Commit in
         let i1 = either_stand z s e op.Try f (piece z.program differ u ss a) i in
-        let r = joined_stands z (next s) _ (fx (next s)) _ i1.first in
+        let m2 : Spot = past (next s) (f (next s)) in
+        let l : ℕ = suc m2.at in
+        let r = then_stand z (next s) m2 fx (one op.Commit) i1.first in
         let v0 = i1.order.0 in
         let v1 = i1.order.1 in
-        try_leads s.at (suc (past (next s) (f (next s))).at) y _ _ _ i1.begins (i1.first.fit (suc s.at) le_self v1)
-        (i1.wide _ (omega (arith, v1)) v0)
-        (hx ss (enclosed a) (next s) _ out false M j m (trying c y.state s.at _ st) o y ls [] r.0 (trying_static y.state s.at _ st sc) refl
+        try_leads {c = c} {into = on e.at st} s.at l y _ _ _ i1.begins (i1.first.fit (suc s.at) le_self v1)
+        (i1.wide l (omega (arith, v1)) v0)
+        (hx ss (enclosed a) (next s) _ out false M j m (trying c y.state s.at l st) o y ls [] r.0 (trying_static y.state s.at l st sc) refl
         lt lM refl g)
-        (λ m le env v u ls g bs. commit_leads y.state s.at _ (op_stands z r.1).is (op_stands z (widened z s.at _ r.1)).fit
-        (start_leads z r.1.ends (does_leads z i1.jump (open_leads z _ (i1.wide e.at (omega (arith, v0, v1)) le_self) (value_here z {w = with_state y u} g)))))
+        (λ m le env v u ls g bs. commit_leads y.state s.at l (op_stands z r.1).is (op_stands z (widened z s.at l r.1)).fit
+        (start_leads z r.1.ends (does_leads z i1.jump
+        (open_leads z _ (i1.wide e.at (omega (arith, v0, v1)) le_self) (value_here z {w = with_state y u} g)))))
         (λ u ls g. hu ss a _ e out w M j m c o (with_state y u) ls st i1.rest sc fw lt lM ab g)
 
     pub negation_leads : (n : ℕ) (pl : Place) (x : Tree) → EvLeads z differ top x → EvLeads z differ top (tree n pl (t.Shape.negation x))

@@ -204,7 +204,8 @@ module _ (z : Setting) (differ : ℕ → ℕ → Bool) (top : ℕ) where
         let after : ℕ → Val → World → Outcome = λ M v y. apply z.program (deeper z.program M) (form.appending so_far pl) (v ∷ []) false
         c.env y in
         commit_leads z u a0 e.at (op_stands z i1.0).is (op_stands z i1.0).fit
-        (shown_leads z {c = c} kept_in (stored e.at st r []) run (λ x. args c.env (form.appending so_far pl) [] x []) (λ w M v y. after M v y)
+        (shown_leads z {c = c} kept_in (stored e.at st r []) run (λ x. args c.env (form.appending so_far pl) [] x [])
+        (λ w M v y. after M v y)
         fw lM (λ x. refl) (λ r M w. refl) (λ r M w. refl) (λ l x n v y. refl)
         (holding_leads z c c.env [] ((r, so_far) ∷ []) _
         (from_leads z c1 (on p.at st) kept_in (λ m o e v w ls gd bs g f. f (gd.besides.0, tt)) _
@@ -337,7 +338,8 @@ module _ (z : Setting) (differ : ℕ → ℕ → Bool) (top : ℕ) where
       turn_static x1 x2 x = record {
         fits = generator_fits g x1 x2 x ss c.env c.held sc.fits;
         low = subst (λ n. Low n (four l x1 x2 x ++ c.held)) (sym (generator_size g ss)) (four_low l x1 x2 x c.held sc.low);
-        low_also = subst (λ n. Low n c.also) (sym (generator_size g ss)) (low_more l (suc (suc (suc (suc l)))) c.also (omega arith) sc.low_also);
+        low_also = subst (λ n. Low n c.also) (sym (generator_size g ss))
+            (low_more l (suc (suc (suc (suc l)))) c.also (omega arith) sc.low_also);
         loops = sc.loops;
         leaves = sc.leaves;
         breaks = sc.breaks;
@@ -388,7 +390,8 @@ module _ (z : Setting) (differ : ℕ → ℕ → Bool) (top : ℕ) where
           lt0 le_self lM0 lM0 dm (p2.here, (p2.below l (omega arith) ∙ p1.here, tt))
           (p2.below r (omega (arith, rl)) ∙ p1.below r rl ∙ g0.besides.0)
           (record {
-            holds = holds_put c.held p1.locals l (suc l) x2 p2 sc.low (omega arith) (holds_put c.held ls0 l l x1 p1 sc.low le_self g0.holds);
+            holds = holds_put c.held p1.locals l (suc l) x2 p2 sc.low (omega arith)
+                (holds_put c.held ls0 l l x1 p1 sc.low le_self g0.holds);
             besides = holds_put c.also p1.locals l (suc l) x2 p2 sc.low_also (omega arith)
                 (holds_put c.also ls0 l l x1 p1 sc.low_also le_self g0.besides.1);
             sized = p2.sized ∙ p1.sized ∙ g0.sized;
@@ -466,7 +469,8 @@ module _ (z : Setting) (differ : ℕ → ℕ → Bool) (top : ℕ) where
         (λ v y. defined z.program (deeper z.program M) q c.env v y (λ e v y. clauses_of cs M e v y))
         (λ e1 v y. level_of cs M w e1 v so_far y) (λ y. value e2 so_far y))
         (i.fit e.at (omega (arith, x1, x2, x3)) le_self)
-        (hx ss (enclosed a) s m out false M j n d o (with_state y0 u) ls [] (narrow_stands z a0 e.at lo (omega (arith, x2, x3)) r1.0) sd refl
+        (hx ss (enclosed a) s m out false M j n d o (with_state y0 u) ls []
+        (narrow_stands z a0 e.at lo (omega (arith, x2, x3)) r1.0) sd refl
         lt lM refl g)
         (λ k le e1 v u ls gd bs. bind_leads z d q ss m m2 M (with_state y0 u) v (λ e v y. clauses_of cs M e v y)
         (λ x. attempted x y0 (λ e1 v y. level_of cs M w e1 v so_far y) (λ y. value e2 so_far y)) (λ h. refl)
@@ -505,8 +509,8 @@ module _ (z : Setting) (differ : ℕ → ℕ → Bool) (top : ℕ) where
     clauses_lead no_trees h ss s e out w M j n c o y0 u ls st so_far last a0 e2 i lo sc rl rs fw lt lM ab o1 o2 g =
         body_leads ss s e out w M j n c o (with_state y0 u) ls st so_far last y0.state a0 i sc rl rs fw lt lM ab o1 o2 g
     clauses_lead (more_trees x cs) h ss s e out w M j n c o y0 u ls st so_far last a0 e2 i lo sc rl rs fw lt lM ab o1 o2 g =
-        clause_by (statement_of x) x cs h.0 (clauses_lead cs h.1) ss s e out w M j n c o y0 u ls st so_far last a0 e2 i lo sc rl rs fw lt lM
-        ab o1 o2 g
+        clause_by (statement_of x) x cs h.0 (clauses_lead cs h.1) ss s e out w M j n c o y0 u ls st so_far last a0 e2 i lo sc rl rs fw
+        lt lM ab o1 o2 g
 
   -- ---- the whole
 

@@ -181,7 +181,8 @@ module _ (z : Setting) where
 
     -- a turn leads on, where the Again does
     turn_leads : {j n : ℕ} {o : Around} {b : Scopes} {f : Tasks} {q : Step} (go : World → Outcome) (x : Outcome) →
-        ((m : ℕ) → m ≤ n → Turns j m go) → (free c.handlers c.life.noted c.below ≡ true → (l i m : ℕ) → m ≤ n → m ≤ l → Turns i m (again l)) →
+        ((m : ℕ) → m ≤ n → Turns j m go) → (free c.handlers c.life.noted c.below ≡ true → (l i m : ℕ) → m ≤ n → m ≤ l →
+        Turns i m (again l)) →
         LeadsTo z j n d o b f q (on a st) x → LeadsTo z j n c o b f q (on (suc l) st) (turned x wrap e0 go)
     turn_leads {j} {n} {o} {b} {f} go x h h2 k = record {
       go = λ g u. k.go g (turn_step j n (λ fr m q r ts le. turn_parked n h2 fr j m q r ts le) go h o b f g x u);
@@ -238,7 +239,8 @@ module _ (z : Setting) where
         (turned turn (looped c.env x) c.env (λ y. run w M u y))) i.last
         (less_leads _ (omega (arith, q, f)) (turn_leads c st e1.at way.label way.most out c.env (handled sc) i.drop i.ladder i.label
         (λ b lo hi. i.wide b (let v = i.order in omega (arith, lo, v)) (let v = i.last in omega (arith, hi, v))) (looped c.env x)
-        (λ l1 y. run true l1 l1 y) (λ r. refl) (λ r M w. refl) (λ r M w. refl) (λ l x n v w. refl) {j = j} {n = l} {o = o} {b = y1.behind} {f = y1.tasks}
+        (λ l1 y. run true l1 l1 y) (λ r. refl) (λ r M w. refl) (λ r M w. refl) (λ l x n v w. refl) {j = j} {n = l} {o = o}
+        {b = y1.behind} {f = y1.tasks}
         (λ y. run w M u y) turn
         (λ m le o w1 ls gd g2 k2. (again_leads x hx t ss a s e out w u M j m c o w1 ls st i sc fw (omega (arith, le, q, f, lt))
         (omega (arith, le, q, f, lt2)) (omega (arith, le, q, f, lu)) (omega (arith, le, q, f, lM)) gd).go g2
