@@ -8,4 +8,3 @@ pub mod Takes
 pub mod Generators
 pub mod For
 pub mod Cases
-pub mod Strays

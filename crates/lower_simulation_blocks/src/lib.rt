@@ -6,7 +6,7 @@
 //! statements in turn, blocks, conditions; `Choices`, `if`, `option` and `logic`; `Loops`, `loop`,
 //! `break` and `return`; `Domains`, the values that a generator draws from; `Takes`, its turns;
 //! `Generators`, how they begin, and its locals; `For`, clauses, turns and body of a `for`; `Cases`,
-//! patterns and the arms of a `case`; `Strays`, what is no form of its own.
+//! patterns and the arms of a `case`.
 //!
 //! All of these are public, for the crate that puts the forms together. What a `defer` with the
 //! statements behind it comes to is a premise here: `Defer_lead` in `Blocks`.
