@@ -1,0 +1,5 @@
+pub mod Lists
+pub mod Costs
+pub mod Kept
+pub mod Arms
+pub mod Leaves

@@ -1,0 +1,2 @@
+//! Laws of the code that lowering makes.
+#![tactic(auto)]
