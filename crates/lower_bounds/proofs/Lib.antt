@@ -3,3 +3,4 @@ pub mod Costs
 pub mod Kept
 pub mod Arms
 pub mod Leaves
+pub mod Statements
