@@ -51,8 +51,8 @@ module _ (p : Program) (differ : ℕ → ℕ → Bool) (Good : Node → Type 0) 
   pub record Kept (Site : Place → Type 0) (Piece : Bytes → Type 0) (Defers : Type 0) : Type 0 where
     pub wider : {k l h n i j m : ℕ} {f : Maker} → l ≤ i → h ≤ j → n ≤ m → Q k l h n f → Q k i j m f
     pub over : {k l h n i j m : ℕ} {f g : Maker} (d : ℕ) → Q k l h n f → Q k i j m g → j ≤ d + h → i ≤ d + n + l → Q k l h (d + n + m) (f then g)
-    -- e is how many operations the first has at most, where it is known better
-    pub above : {k l h n i j m e x : ℕ} {f g : Maker} → Q k l h n f → Q k l x e f → Q k i j m g → e + j ≤ n + h → i ≤ n + l → Q k l h (n + m) (f then g)
+    -- operands that lie there before may count as operations
+    pub lower : {k l h n x m : ℕ} {f : Maker} → n + x ≤ m + h → n ≤ m → Q k l x n f → Q k l h m f
     pub none : {k l h : ℕ} → Q k l h 0 nothing
     pub op : {k l h : ℕ} (op : Op) → IsBare op → Q k l h 1 (one op)
     pub op_with : {l h : ℕ} (m : ℕ) (op : Op) → Placed m op → Q (suc m) l h 1 (one op)

@@ -4,3 +4,4 @@ pub mod Kept
 pub mod Arms
 pub mod Leaves
 pub mod Statements
+pub mod Forms

@@ -1,5 +1,5 @@
 -- What is kept by statements, clauses, callees and the fields of an instance, where their parts keep it.
-use Rattle.std.proofs.Common.{◌≡◌, ℕ, zero, suc, ◌+◌, ◌≤◌, List, [], ◌∷◌, length, Bool, true, false, Option, Some, None, refl, arith, sym, true≢false, neg_ℤ}
+use Rattle.std.proofs.Common.{◌≡◌, ℕ, zero, suc, ◌+◌, ◌≤◌, List, [], ◌∷◌, length, Bool, true, false, Option, Some, None, refl, arith, sym, true≢false, neg_ℤ, cond}
 use Rattle.verse_base.specs.declared.places.Place.{Place}
 use Rattle.verse_tree.specs.Tree.{Bytes, Tree, tree, Shape, Trees, no_trees, more_trees, Givens}
 use Rattle.verse_tree.specs.Tree as t
@@ -15,7 +15,7 @@ use Rattle.verse_meaning.specs.Residuals as form
 use Rattle.verse_meaning.specs.Residuals.{Form, Binder, no_name, a_constant, a_variable, Generator, of_elements, of_entries, of_range}
 use Rattle.verse_meaning.specs.Evaluating.{Statement, statement_of, statement_of_shape, plain, defines, defers, generates, Callee, alone}
 use Rattle.verse_meaning.specs.Evaluating.{of_object, of_value, of_quotient, no_callee, builtin, named_callee, member_callee, callee_of, number_of, callee_of_shape, class_ref}
-use Rattle.verse_meaning.specs.Evaluating.{await_name, signal_name, length_name, member_form, spawned_form, spawned_callee}
+use Rattle.verse_meaning.specs.Evaluating.{await_name, signal_name, length_name, member_form, spawned_form, spawned_callee, picked}
 use Rattle.lower_code.specs.declared.arounds.Around.{Around}
 use Rattle.lower_code.specs.Pieces.{Maker, one, when, turning, ◌then◌}
 use Rattle.lower_code.specs.Scopes.{Scope}
@@ -229,13 +229,31 @@ module _ {p : Program} {differ : ℕ → ℕ → Bool} {Good : Node → Type 0} 
   member_form_fits (Some (ref.Field c n)) x = (tt, tt)
   member_form_fits r x = on_cond (λ f. FormFits q f × NoCall q f) (same_name x length_name) (tt, tt) (tt, tt)
 
-  pub called_kept : {k l h n : ℕ} {on_alone on_object on_value on_quotient : Form → Maker} (c : Callee) → CalleeFits c →
+  pub called_kept : {k l h : ℕ} (n : ℕ) {on_alone on_object on_value on_quotient : Form → Maker} (c : Callee) → CalleeFits c →
       ((f : Form) → FormFits q f → Q k l h (suc n) (on_alone f)) → ((f : Form) → FormFits q f → NoCall q f → Q k l h (suc n) (on_object f)) →
       ((f : Form) → FormFits q f → NoCall q f → Q k l h (suc n) (on_value f)) → ((f : Form) → FormFits q f → NoCall q f → Q k l h (suc n) (on_quotient f)) →
       Q k l h (suc n) (by_callee c on_alone on_object on_value on_quotient)
   unfolding by_callee
-  called_kept (alone f) s w x y z = w f s
-  called_kept (of_object f) s w x y z = x f s.0 s.1
-  called_kept (of_value f) s w x y z = y f s.0 s.1
-  called_kept (of_quotient f) s w x y z = z f s.0 s.1
-  called_kept no_callee s w x y z = more q (omega arith) q.stuck
+  called_kept n (alone f) s w x y z = w f s
+  called_kept n (of_object f) s w x y z = x f s.0 s.1
+  called_kept n (of_value f) s w x y z = y f s.0 s.1
+  called_kept n (of_quotient f) s w x y z = z f s.0 s.1
+  called_kept n no_callee s w x y z = more q (omega arith) q.stuck
+
+  pub picked_fits : (ts : Trees) → FormFits q (picked ts) × NoCall q (picked ts)
+  picked_fits no_trees = (tt, tt)
+  picked_fits (more_trees a no_trees) = (tt, tt)
+  picked_fits (more_trees a (more_trees b ts)) = (tt, tt)
+
+  -- a list of statements that defers
+  either_defers : (b c : Bool) → (b ≡ true → Defers) → (c ≡ true → Defers) → cond b true c ≡ true → Defers
+  either_defers true c f g e = f refl
+  either_defers false c f g e = g e
+
+  tree_defers : (b : Tree) → Each Good (post_order b) → is_defer b ≡ true → Defers
+  tree_defers (tree n pl s) g e = shape_defers n pl s (own Good n pl s g) e
+
+  pub any_defers : (cs : Trees) → Each Good (trees_order cs) → any_defer cs ≡ true → Defers
+  any_defers no_trees g e = elim (true≢false (sym e)) [ ]
+  any_defers (more_trees b cs) g e = either_defers (is_defer b) (any_defer cs) (tree_defers b (each_first Good (post_order b) (trees_order cs) g))
+      (any_defers cs (each_rest Good (post_order b) (trees_order cs) g)) e
