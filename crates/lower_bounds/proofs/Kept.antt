@@ -66,11 +66,11 @@ module _ (p : Program) (differ : ℕ → ℕ → Bool) (Good : Node → Type 0) 
     pub leave_loop : {k l h : ℕ} → Q k l h 1 (leave_loop h)
     pub leaving : {k l h : ℕ} (n : ℕ) (a : Around) → Plain a → Q k l h 1 (leaving_to n a)
     pub leave : {k l h : ℕ} (n : ℕ) → Defers → Q k l h 1 (one (o.Leave n))
-    pub deferred : {k l h n : ℕ} {f : Maker} → Defers → Q k l h n f → Q k l h (2 + n) (ahead o.Defer (f then one o.Drop then one o.DeferEnd))
+    pub deferred : {k l h n : ℕ} {f : Maker} → Defers → Q k l h n f → Q k l h (3 + n) (ahead o.Defer (f then one o.Drop then one o.DeferEnd))
     pub ahead : {k l h n : ℕ} {f : Maker} (op : ℕ → Op) → ((m : ℕ) → Leads m (op m)) → Q k l h n f → Q k l h (suc n) (ahead op f)
     pub either : {k l h n m : ℕ} {f g : Maker} (op : ℕ → Op) → ((m : ℕ) → Leads m (op m)) → Q k l h n f → Q k l h m g → Q k l h (2 + n + m) (either op f g)
     pub looping : {k l h n : ℕ} {f : Maker} → Q k l 0 n f → Q k l h (4 + n) (looping f)
-    pub turning : {k l h n i : ℕ} {f : Maker} (op : Op) → IsBare op → i ≤ 4 + l → Q k i h n f → Q k l h (5 + n) (turning op l f)
+    pub turning : {k l h n i : ℕ} {f : Maker} (op : Op) → IsBare op → i ≤ 4 + l → Q k i h n f → Q k l h (9 + n) (turning op l f)
     pub grouped : {k l h n : ℕ} (kind m : ℕ) (pl : Place) (begins : Spot → List ℕ) (arms : Maker) → kind ≤ 2 → Site pl →
         ((s : Spot) → length (begins s) ≡ m) → ((s : Spot) → Between (begins s) s.at (past s (arms s)).at) → Q k l 0 n arms →
         Q k l h (2 + m + n) (grouped kind m pl begins arms)

@@ -5,3 +5,4 @@ pub mod Arms
 pub mod Leaves
 pub mod Statements
 pub mod Forms
+pub mod Sizes

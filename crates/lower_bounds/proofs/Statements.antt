@@ -101,7 +101,7 @@ module _ {p : Program} {differ : ℕ → ℕ → Bool} {Good : Node → Type 0} 
 
   -- a clause of a `for`, with r for what is behind it
   pub taking_kept : {k h r : ℕ} {f : Maker} (g : Generator) (sc : Scope) → Q k (length (with_generator g sc)) h r f →
-      Q k (length sc) h (5 + r) (turning (taking g (length sc)) (length sc) f)
+      Q k (length sc) h (9 + r) (turning (taking g (length sc)) (length sc) f)
   taking_kept (of_elements x) sc y = q.turning (o.Each (length sc)) ((λ z at. refl), refl) (omega arith) y
   taking_kept (of_entries y x) sc z = q.turning (o.Each (length sc)) ((λ z at. refl), refl) (omega arith) z
   taking_kept (of_range x) sc y = q.turning (o.Range (length sc)) ((λ z at. refl), refl) (omega arith) y
