@@ -6,3 +6,6 @@ pub mod Leaves
 pub mod Statements
 pub mod Forms
 pub mod Sizes
+pub mod Tables
+pub mod Operands
+pub mod Validity
