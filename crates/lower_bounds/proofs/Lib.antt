@@ -9,3 +9,5 @@ pub mod Sizes
 pub mod Tables
 pub mod Operands
 pub mod Validity
+pub mod Bodies
+pub mod Whole

@@ -33,7 +33,7 @@ deepest_more [] ys = omega arith
 deepest_more (sure op ∷ xs) ys = deepest_more xs ys
 deepest_more (leaving n ∷ xs) ys = omega (arith, deepest_more xs ys)
 
-small_wider : {l h n i j m : ℕ} {f : Maker} → l ≤ i → h ≤ j → n ≤ m → Small l h n f → Small i j m f
+pub small_wider : {l h n i j m : ℕ} {f : Maker} → l ≤ i → h ≤ j → n ≤ m → Small l h n f → Small i j m f
 small_wider p q r x = record {
   few = λ s. omega (arith, r, x.few s);
   deep = λ s. omega (arith, q, r, x.deep s);
@@ -51,7 +51,7 @@ small_lower q r x = record {
   locals = λ s. omega (arith, r, x.locals s);
 }
 
-small_over : {l h n i j m : ℕ} {f g : Maker} (d : ℕ) → Small l h n f → Small i j m g → j ≤ d + h → i ≤ d + n + l → Small l h (d + n + m) (f then g)
+pub small_over : {l h n i j m : ℕ} {f g : Maker} (d : ℕ) → Small l h n f → Small i j m g → j ≤ d + h → i ≤ d + n + l → Small l h (d + n + m) (f then g)
 small_over {f = f} {g = g} d a b v w = record {
   few = λ s. let e = past s (f s) in omega (arith, length-append (f s).items (g e).items, a.few s, b.few e);
   deep = λ s. let e = past s (f s) in
@@ -61,10 +61,10 @@ small_over {f = f} {g = g} d a b v w = record {
   locals = λ s. omega (arith, a.locals s, b.locals (past s (f s)), w);
 }
 
-small_none : {l h : ℕ} → Small l h 0 nothing
+pub small_none : {l h : ℕ} → Small l h 0 nothing
 small_none = record { few = λ s. omega arith; deep = λ s. omega arith; places = λ s. omega arith; texts = λ s. omega arith; locals = λ s. omega arith }
 
-small_one : {l h : ℕ} (op : Op) → Small l h 1 (one op)
+pub small_one : {l h : ℕ} (op : Op) → Small l h 1 (one op)
 small_one op = record { few = λ s. omega arith; deep = λ s. omega arith; places = λ s. omega arith; texts = λ s. omega arith; locals = λ s. omega arith }
 
 small_stuck : {l h : ℕ} → Small l h 1 stuck
@@ -162,7 +162,7 @@ small_from x = record {
   locals = λ s. (x s.at).locals s;
 }
 
-small_both : {l h n m : ℕ} {f g : Maker} → Small l h n f → Small l h m g → Small l h (n + m) (f then g)
+pub small_both : {l h n m : ℕ} {f g : Maker} → Small l h n f → Small l h m g → Small l h (n + m) (f then g)
 small_both x y = small_wider (omega arith) (omega arith) (omega arith) (small_over 0 x y (omega arith) (omega arith))
 
 small_looping : {l h n : ℕ} {f : Maker} → Small l 0 n f → Small l h (4 + n) (looping f)
