@@ -24,7 +24,7 @@ use Rattle.lower_code.specs.Pieces.{Spot, Item, sure, leaving, Piece, Maker, beh
 use Rattle.lower_code.specs.Arounds.{fresh}
 use Rattle.lower_code.specs.Defaults.{defaults_in}
 use Rattle.lower_code.specs.Lowering.{piece}
-use Rattle.lower_code.specs.Programs.{Body, body_of, bodies_in, all_bodies, main_from, class_of, item_op, first_spot, body_piece, bodies_from, func_of}
+use Rattle.lower_code.specs.Programs.{Body, body_of, bodies_in, default_bodies, all_bodies, main_from, class_of, item_op, first_spot, body_piece, bodies_from, func_of}
 use Rattle.lower_code.specs.Programs.{funcs_from, whole, code_of}
 use Rattle.lower_code.proofs.Standing.{behind_more, behind_least}
 use Rattle.lower_bounds.specs.Programs.{size_of, FieldsAgree, NodeFits, MethodsFit, TablesAgree, CanBeLowered}
@@ -138,6 +138,11 @@ bodies_count : (fields : ℕ → ℕ) (bs : List Body) → length bs ≤ bodies_
 bodies_count fields [] = omega arith
 bodies_count fields (b ∷ bs) = omega (arith, bodies_count fields bs, cost_some fields b.body, cost_is fields b.body)
 
+each_get : {X : Type 0} (P : X → Type 0) (xs : List X) (n : ℕ) (x : X) → slice_get xs n ≡ Some x → Each P xs → P x
+each_get P [] n x e h = elim (none-some x e) [ ]
+each_get P (y ∷ xs) zero x e h = subst P (some_is e) h.0
+each_get P (y ∷ xs) (suc n) x e h = each_get P xs n x e h.1
+
 module _ (p : Program) (differ : ℕ → ℕ → Bool) (files : ℕ) (able : CanBeLowered p files) where
   -- the body of a function, with its Return
   body_suits : (b : Body) → BodyHas (NodeFits files) b → Suits files (functions_of p) (classes_of p) 0 (piece p differ b.body b.scope fresh)
@@ -186,5 +191,78 @@ module _ (p : Program) (differ : ℕ → ℕ → Bool) (files : ℕ) (able : Can
         funcs_fit bs (past s f) end far (omega (arith, le)),
       )
 
-  bodies : List Body
+  abbrev bodies : List Body
   bodies = all_bodies p.items
+
+  abbrev pub code : Code
+  code = code_of p differ files
+
+  cost_within : bodies_cost (fields_at p.names) bodies ≤ MOST_OPERATIONS
+  cost_within = omega (arith, all_cost (fields_at p.names) p.items, able.size)
+
+  nodes_fit : Each (BodyHas (NodeFits files)) bodies
+  nodes_fit = all_have (NodeFits files) p.items (all_each (NodeFits files) (items_order p.items) able.nodes)
+
+  ends : (past first_spot (whole p differ)).at ≡ length code.ops
+  ends = let e : length (whole p differ).items + 0 ≡ length (whole p differ).items = omega arith in
+      behind_length (whole p differ).items 0 ∙ e ∙ sym (map_length item_op (whole p differ).items)
+
+  calls_there : functions_of p ≤ length code.functions
+  calls_there = omega (arith, able.tables.functions, bodies_many p.items, funcs_length p differ bodies first_spot)
+
+  functions_fit : Each (IsFunction (length code.ops)) code.functions
+  functions_fit = funcs_fit bodies first_spot (length code.ops) (omega (arith, ends)) cost_within
+
+  all_within : Within (functions_of p) (classes_of p) (sizes_of code) (past first_spot (whole p differ))
+  all_within = record {
+    ops = omega (arith, ends);
+    places = omega (arith, behind_length (whole p differ).places 0);
+    texts = omega (arith, behind_length (whole p differ).texts 0);
+    calls = calls_there;
+    objects = omega (arith, map_length class_of p.names.classes);
+  }
+
+  -- Main, and that it is one of the functions
+  main_is : (f : Func) × (slice_get code.functions code.main ≡ Some f) × (f.params ≤ 1)
+  main_is =
+      let f = able.main.0 in
+      let at = main_at p.items 0 f able.main.1 in
+      let there = func_at p differ bodies first_spot at.0 (body_of [] f) (get_first (bodies_in p.items) (default_bodies (defaults_in p.items)) at.0 (body_of [] f) at.2) in
+      let number : at.0 ≡ code.main = omega (arith, at.1) in
+      (there.0, subst (λ n. slice_get code.functions n ≡ Some there.0) number there.1, omega (arith, there.2, params_many f.params [], able.main.2))
+
+  some_operation : 1 ≤ length code.ops
+  some_operation = omega (arith, (each_get (IsFunction (length code.ops)) code.functions code.main main_is.0 main_is.1 functions_fit).entry)
+
+  class_fits : (c : ClassInfo) → MethodsFit (length p.names.funs) c → IsClass (length code.functions) (class_of c)
+  class_fits c m = record {
+    count = m.count;
+    methods = All-weaker (λ f. f < length p.names.funs) (λ f. f < length code.functions) (λ f below. omega (arith, below, calls_there)) c.methods m.methods;
+  }
+
+  pub code_valid : Valid code
+  code_valid =
+      let small = code_small p differ able.tables.fields files in
+      record {
+        counts = record {
+          files = able.some;
+          ops = (some_operation, omega (arith, small.ops, able.size));
+          texts = omega (arith, small.texts, able.size);
+          places = omega (arith, small.places, able.size);
+          functions = omega (arith, funcs_length p differ bodies first_spot, bodies_count (fields_at p.names) bodies, cost_within);
+          classes = omega (arith, map_length class_of p.names.classes, able.tables.classes, classes_many p.items, able.size);
+        };
+        texts = each_all IsText code.texts (bodies_texts bodies nodes_fit first_spot);
+        places = each_all (IsPlace files) code.places (bodies_places bodies nodes_fit first_spot);
+        functions = each_all (IsFunction (length code.ops)) code.functions functions_fit;
+        classes = All-map (IsClass (length code.functions)) class_of p.names.classes
+            (All-weaker (MethodsFit (length p.names.funs)) (λ c. IsClass (length code.functions) (class_of c)) class_fits p.names.classes able.tables.methods);
+        main = main_is;
+        operations = λ at op e.
+            let here : at + 0 ≡ at = omega arith in
+            subst (λ n. Suit (sizes_of code) n op) here
+            (suit_at (sizes_of code) (whole p differ).items 0 at op e (bodies_suit bodies nodes_fit first_spot (sizes_of code) all_within));
+      }
+
+pub code_is_valid : CodeIsValid
+code_is_valid p differ files able = code_valid p differ files able
