@@ -1,6 +1,6 @@
 -- The bodies of a program: their nodes, their size, and which is Main.
 use Rattle.std.proofs.Common.{◌≡◌, ℕ, zero, suc, ◌+◌, ◌*◌, ◌<◌, ◌≤◌, List, [], ◌∷◌, ◌++◌, length, Bool, true, false, cond, Option, Some, None, refl, sym, ap, ◌∙◌}
-use Rattle.std.proofs.Common.{arith, slice_get, length-append, All}
+use Rattle.std.proofs.Common.{arith, slice_get, length-append, All, unwrap_or}
 use Rattle.std.proofs.lemmas.List.Elements.{All-head, All-tail}
 use Rattle.std.proofs.lemmas.Option.{none-some}
 use Rattle.verse_tree.specs.Tree.{Tree}
@@ -26,6 +26,9 @@ each_all P (x ∷ xs) h (suc k) d lt = each_all P xs h.1 k d (omega (arith, lt))
 pub all_each : {X : Type 0} (P : X → Type 0) (xs : List X) → All P xs → Each P xs
 all_each P [] h = tt
 all_each P (x ∷ xs) h = (All-head P x xs h, all_each P xs (All-tail P x xs h))
+
+pub some_is : {A : Type 0} {x y : A} → Some x ≡ Some y → x ≡ y
+some_is {x = x} e = ap (λ o. unwrap_or o x) e
 
 pub get_first : {X : Type 0} (xs ys : List X) (n : ℕ) (x : X) → slice_get xs n ≡ Some x → slice_get (xs ++ ys) n ≡ Some x
 get_first [] ys n x e = elim (none-some x e) [ ]

@@ -11,3 +11,4 @@ pub mod Operands
 pub mod Validity
 pub mod Bodies
 pub mod Whole
+pub mod Defers

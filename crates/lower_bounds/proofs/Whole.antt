@@ -1,6 +1,6 @@
 -- The code of a whole program is small and valid.
 use Rattle.std.proofs.Common.{◌≡◌, ℕ, zero, suc, ◌+◌, ◌*◌, ◌<◌, ◌≤◌, List, [], ◌∷◌, ◌++◌, map, length, max, Bool, true, Option, Some, None, refl, sym, ap, ◌∙◌}
-use Rattle.std.proofs.Common.{arith, slice_get, length-append, All, subst, unwrap_or}
+use Rattle.std.proofs.Common.{arith, slice_get, length-append, All, subst}
 use Rattle.std.proofs.lemmas.List.Elements.{All-weaker, All-map}
 use Rattle.std.proofs.lemmas.Option.{none-some}
 use Rattle.verse_base.specs.declared.limits.TheConstants.{MOST_OPERATIONS}
@@ -36,7 +36,7 @@ use Rattle.lower_bounds.proofs.Sizes.{Small, sizes_kept, small_wider, small_both
 use Rattle.lower_bounds.proofs.Tables.{class_is}
 use Rattle.lower_bounds.proofs.Operands.{Suit, AllSuit, Room, Suits, suit_joined}
 use Rattle.lower_bounds.proofs.Validity.{functions_of, classes_of, operands_kept}
-use Rattle.lower_bounds.proofs.Bodies.{each_all, all_each, get_first, params_many, BodyHas, all_have, bodies_cost, all_cost, classes_many, bodies_many, main_at}
+use Rattle.lower_bounds.proofs.Bodies.{each_all, all_each, get_first, params_many, BodyHas, all_have, bodies_cost, all_cost, classes_many, bodies_many, main_at, some_is}
 
 -- the fields of a class by the number of an instance's node
 known_class : (p : Program) (r : Option (Option Ref)) (c : ℕ) → known r ≡ Some (ref.Class c) → found_fields p.names r ≡ class_fields (slice_get p.names.classes c)
@@ -106,9 +106,6 @@ within_before e q r = record {
   calls = r.calls;
   objects = r.objects;
 }
-
-some_is : {A : Type 0} {x y : A} → Some x ≡ Some y → x ≡ y
-some_is {x = x} e = ap (λ o. unwrap_or o x) e
 
 -- an operation of a list whose operands suit
 suit_at : (z : Sizes) (is : List Item) (at i : ℕ) (op : Op) → slice_get (map item_op is) i ≡ Some op → AllSuit z is at → Suit z (i + at) op
