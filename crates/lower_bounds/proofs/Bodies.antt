@@ -1,19 +1,23 @@
 -- The bodies of a program: their nodes, their size, and which is Main.
-use Rattle.std.proofs.Common.{◌≡◌, ℕ, zero, suc, ◌+◌, ◌*◌, ◌<◌, ◌≤◌, List, [], ◌∷◌, ◌++◌, length, Bool, true, false, cond, Option, Some, None, refl, sym, ap, ◌∙◌}
+use Rattle.std.proofs.Common.{◌≡◌, ℕ, zero, suc, ◌+◌, ◌*◌, ◌≤◌, List, [], ◌∷◌, ◌++◌, length, Bool, true, false, cond, Option, Some, None}
+use Rattle.std.proofs.Common.{refl, ap, ◌∙◌}
 use Rattle.std.proofs.Common.{arith, slice_get, length-append, All, unwrap_or}
 use Rattle.std.proofs.lemmas.List.Elements.{All-head, All-tail}
 use Rattle.std.proofs.lemmas.Option.{none-some}
 use Rattle.verse_tree.specs.Tree.{Tree}
-use Rattle.verse_tree.specs.ItemTree.{FieldTree, FunTree, ParamTree, MemberTree, field, method, ItemTree, using, enumeration, class, function}
-use Rattle.verse_tree.specs.Numbering.{nodes, list_nodes, member_nodes, items_nodes, param_nodes, fun_nodes, field_nodes, default_nodes, item_nodes}
-use Rattle.verse_tree.specs.Sizes.{tree_fields, default_fields, member_fields, item_fields}
-use Rattle.verse_tree.specs.PostOrder.{Node, post_order, default_order, params_order, written_order, fun_parts, field_parts, member_order, members_order}
+use Rattle.verse_tree.specs.ItemTree.{FieldTree, FunTree, ParamTree, MemberTree, field, method, ItemTree, using, enumeration, class}
+use Rattle.verse_tree.specs.ItemTree.{function}
+use Rattle.verse_tree.specs.Numbering.{list_nodes, member_nodes, items_nodes, param_nodes, default_nodes}
+use Rattle.verse_tree.specs.Sizes.{default_fields, member_fields, item_fields}
+use Rattle.verse_tree.specs.PostOrder.{Node, post_order, default_order, params_order, written_order, fun_parts, field_parts, member_order}
+use Rattle.verse_tree.specs.PostOrder.{members_order}
 use Rattle.verse_tree.specs.PostOrder.{item_order, items_order, node_at, item, member}
-use Rattle.verse_meaning.specs.Programs.{Program, classes, own_fields, main_in, main_name, same_name}
+use Rattle.verse_meaning.specs.Programs.{classes, own_fields, main_in, main_name, same_name}
 use Rattle.verse_meaning.specs.Forms.{this_name}
 use Rattle.lower_code.specs.Scopes.{Scope, constant_at}
 use Rattle.lower_code.specs.Defaults.{with_default, with_defaults, defaults_in}
-use Rattle.lower_code.specs.Programs.{Body, body_of, params_scope, methods_in, bodies_in, default_body, default_bodies, all_bodies, main_from}
+use Rattle.lower_code.specs.Programs.{Body, body_of, params_scope, methods_in, bodies_in, default_body, default_bodies, all_bodies}
+use Rattle.lower_code.specs.Programs.{main_from}
 use Rattle.lower_bounds.proofs.Lists.{Each, each_first, each_rest, each_joined}
 use Rattle.lower_bounds.proofs.Costs.{weight}
 
@@ -37,7 +41,8 @@ get_first (y ∷ xs) ys (suc n) x e = get_first xs ys n x e
 
 get_rest : {X : Type 0} (xs ys : List X) (n : ℕ) → slice_get (xs ++ ys) (n + length xs) ≡ slice_get ys n
 get_rest [] ys n = let e : n + 0 ≡ n = omega arith in ap (slice_get ys) e
-get_rest (x ∷ xs) ys n = let e : n + length (x ∷ xs) ≡ suc (n + length xs) = omega arith in ap (slice_get (x ∷ xs ++ ys)) e ∙ get_rest xs ys n
+get_rest (x ∷ xs) ys n = let e : n + length (x ∷ xs) ≡ suc (n + length xs) = omega arith in ap
+    (slice_get (x ∷ xs ++ ys)) e ∙ get_rest xs ys n
 
 -- the parameters of a function
 pub params_many : (xs : List ParamTree) (sc : Scope) → length (params_scope xs sc) ≡ length xs + length sc
@@ -63,7 +68,8 @@ module _ (P : Node → Type 0) where
   methods_have [] h = tt
   methods_have (field f ∷ ms) h = methods_have ms (each_rest P (member_order (field f)) (members_order ms) h)
   methods_have (method f ∷ ms) h = (
-    fun_has f (each_first P (fun_parts f) (node_at f.number f.place (member (method f))) (each_first P (member_order (method f)) (members_order ms) h)),
+    fun_has f (each_first P (fun_parts f) (node_at f.number f.place (member (method f)))
+        (each_first P (member_order (method f)) (members_order ms) h)),
     methods_have ms (each_rest P (member_order (method f)) (members_order ms) h),
   )
 
@@ -72,7 +78,8 @@ module _ (P : Node → Type 0) where
   own_has (method f ∷ ms) h = own_has ms (each_rest P (member_order (method f)) (members_order ms) h)
   own_has (field f ∷ ms) h = (
     each_rest P (written_order f.written) (default_order f.default)
-    (each_first P (field_parts f) (node_at f.number f.place (member (field f))) (each_first P (member_order (field f)) (members_order ms) h)),
+        (each_first P (field_parts f) (node_at f.number f.place (member (field f)))
+        (each_first P (member_order (field f)) (members_order ms) h)),
     own_has ms (each_rest P (member_order (field f)) (members_order ms) h),
   )
 
@@ -82,17 +89,20 @@ module _ (P : Node → Type 0) where
 
   defaults_have : (fs : List FieldTree) → Each DefaultHas fs → Each DefaultHas (with_defaults fs)
   defaults_have [] h = tt
-  defaults_have (f ∷ fs) h = each_joined DefaultHas (with_default f f.default) (with_defaults fs) (one_has f f.default h.0) (defaults_have fs h.1)
+  defaults_have (f ∷ fs) h = each_joined DefaultHas (with_default f f.default) (with_defaults fs) (one_has f f.default h.0)
+      (defaults_have fs h.1)
 
   bodies_have : (is : List ItemTree) → Each P (items_order is) → Each BodyHas (bodies_in is)
   bodies_have [] h = tt
   bodies_have (using u ∷ is) h = bodies_have is (each_rest P (item_order (using u)) (items_order is) h)
   bodies_have (enumeration e ∷ is) h = bodies_have is (each_rest P (item_order (enumeration e)) (items_order is) h)
   bodies_have (class c ∷ is) h = each_joined BodyHas (methods_in c.members) (bodies_in is)
-      (methods_have c.members (each_first P (members_order c.members) (node_at c.number c.place (item (class c))) (each_first P (item_order (class c)) (items_order is) h)))
+      (methods_have c.members (each_first P (members_order c.members) (node_at c.number c.place (item (class c)))
+      (each_first P (item_order (class c)) (items_order is) h)))
       (bodies_have is (each_rest P (item_order (class c)) (items_order is) h))
   bodies_have (function f ∷ is) h = (
-    fun_has f (each_first P (fun_parts f) (node_at f.number f.place (item (function f))) (each_first P (item_order (function f)) (items_order is) h)),
+    fun_has f (each_first P (fun_parts f) (node_at f.number f.place (item (function f)))
+        (each_first P (item_order (function f)) (items_order is) h)),
     bodies_have is (each_rest P (item_order (function f)) (items_order is) h),
   )
 
@@ -103,7 +113,8 @@ module _ (P : Node → Type 0) where
   fields_have (function f ∷ is) h = fields_have is (each_rest P (item_order (function f)) (items_order is) h)
   fields_have (class c ∷ is) h = each_joined DefaultHas (with_defaults (own_fields c.members)) (defaults_in is)
       (defaults_have (own_fields c.members) (own_has c.members
-      (each_first P (members_order c.members) (node_at c.number c.place (item (class c))) (each_first P (item_order (class c)) (items_order is) h))))
+      (each_first P (members_order c.members) (node_at c.number c.place (item (class c)))
+      (each_first P (item_order (class c)) (items_order is) h))))
       (fields_have is (each_rest P (item_order (class c)) (items_order is) h))
 
   body_has : (d : Option Tree) → Each P (default_order d) → Each BodyHas (default_body d)
@@ -112,11 +123,13 @@ module _ (P : Node → Type 0) where
 
   default_bodies_have : (fs : List FieldTree) → Each DefaultHas fs → Each BodyHas (default_bodies fs)
   default_bodies_have [] h = tt
-  default_bodies_have (f ∷ fs) h = each_joined BodyHas (default_body f.default) (default_bodies fs) (body_has f.default h.0) (default_bodies_have fs h.1)
+  default_bodies_have (f ∷ fs) h = each_joined BodyHas (default_body f.default) (default_bodies fs) (body_has f.default h.0)
+      (default_bodies_have fs h.1)
 
   -- the nodes of all bodies are nodes of the items
   pub all_have : (is : List ItemTree) → Each P (items_order is) → Each BodyHas (all_bodies is)
-  all_have is h = each_joined BodyHas (bodies_in is) (default_bodies (defaults_in is)) (bodies_have is h) (default_bodies_have (defaults_in is) (fields_have is h))
+  all_have is h = each_joined BodyHas (bodies_in is) (default_bodies (defaults_in is)) (bodies_have is h)
+      (default_bodies_have (defaults_in is) (fields_have is h))
 
 -- size
 module _ (fields : ℕ → ℕ) where
@@ -133,11 +146,19 @@ module _ (fields : ℕ → ℕ) where
   default_cost None = omega arith
   default_cost (Some a) = omega arith
 
-  defaults_more : (fs gs : List FieldTree) → bodies_cost (default_bodies (fs ++ gs)) ≡ bodies_cost (default_bodies fs) + bodies_cost (default_bodies gs)
+  defaults_more : (fs gs : List FieldTree) → bodies_cost (default_bodies (fs ++ gs)) ≡ bodies_cost (default_bodies fs) + bodies_cost
+      (default_bodies gs)
   defaults_more [] gs = omega arith
-  defaults_more (f ∷ fs) gs = omega (arith, cost_more (default_body f.default) (default_bodies (fs ++ gs)), cost_more (default_body f.default) (default_bodies fs), defaults_more fs gs)
+  defaults_more (f ∷ fs) gs = omega (
+    arith,
+    cost_more (default_body f.default) (default_bodies (fs ++ gs)),
+    cost_more
+        (default_body f.default) (default_bodies fs),
+    defaults_more fs gs,
+  )
 
-  with_default_cost : (f : FieldTree) (d : Option Tree) → bodies_cost (default_bodies (with_default f d)) ≤ bodies_cost (default_body f.default)
+  with_default_cost : (f : FieldTree) (d : Option Tree) → bodies_cost (default_bodies (with_default f d)) ≤ bodies_cost
+      (default_body f.default)
   with_default_cost f None = omega arith
   with_default_cost f (Some a) = omega (arith, cost_more (default_body f.default) [])
 
@@ -189,13 +210,15 @@ with_default_each f (Some a) e = ((a, e), tt)
 
 with_defaults_each : (fs : List FieldTree) → Each HasDefault (with_defaults fs)
 with_defaults_each [] = tt
-with_defaults_each (f ∷ fs) = each_joined HasDefault (with_default f f.default) (with_defaults fs) (with_default_each f f.default refl) (with_defaults_each fs)
+with_defaults_each (f ∷ fs) = each_joined HasDefault (with_default f f.default) (with_defaults fs) (with_default_each f f.default refl)
+    (with_defaults_each fs)
 
 defaults_each : (is : List ItemTree) → Each HasDefault (defaults_in is)
 defaults_each [] = tt
 defaults_each (using u ∷ is) = defaults_each is
 defaults_each (enumeration e ∷ is) = defaults_each is
-defaults_each (class c ∷ is) = each_joined HasDefault (with_defaults (own_fields c.members)) (defaults_in is) (with_defaults_each (own_fields c.members)) (defaults_each is)
+defaults_each (class c ∷ is) = each_joined HasDefault (with_defaults (own_fields c.members)) (defaults_in is)
+    (with_defaults_each (own_fields c.members)) (defaults_each is)
 defaults_each (function f ∷ is) = defaults_each is
 
 default_bodies_many : (fs : List FieldTree) → Each HasDefault fs → length fs ≤ length (default_bodies fs)
@@ -208,7 +231,12 @@ default_bodies_many (f ∷ fs) h = omega (
 )
 
 pub bodies_many : (is : List ItemTree) → length (bodies_in is) + length (defaults_in is) ≤ length (all_bodies is)
-bodies_many is = omega (arith, length-append (bodies_in is) (default_bodies (defaults_in is)), default_bodies_many (defaults_in is) (defaults_each is))
+bodies_many is = omega (
+  arith,
+  length-append (bodies_in is) (default_bodies (defaults_in is)),
+  default_bodies_many (defaults_in is)
+      (defaults_each is),
+)
 
 abbrev main_body : Option FunTree → Option Body
 main_body None = None
@@ -230,4 +258,5 @@ main_at (enumeration x ∷ is) n f e = main_at is n f e
 main_at (class c ∷ is) n f e =
     let x = main_at is (n + length (methods_in c.members)) f e in
     (x.0 + length (methods_in c.members), omega (arith, x.1), get_rest (methods_in c.members) (bodies_in is) x.0 ∙ x.2)
-main_at (function g ∷ is) n f e = main_or (same_name g.name main_name) n (main_from (suc n) is) g f (bodies_in is) (main_in is) e (λ r. main_at is (suc n) f r)
+main_at (function g ∷ is) n f e = main_or (same_name g.name main_name) n (main_from (suc n) is) g f (bodies_in is) (main_in is) e
+    (λ r. main_at is (suc n) f r)

@@ -1,5 +1,5 @@
 -- How much of the size a tree has.
-use Rattle.std.proofs.Common.{◌≡◌, ℕ, zero, suc, ◌+◌, ◌*◌, ◌≤◌, arith}
+use Rattle.std.proofs.Common.{◌≡◌, ℕ, ◌+◌, ◌*◌, ◌≤◌, arith}
 use Rattle.verse_base.specs.declared.places.Place.{Place}
 use Rattle.verse_tree.specs.Tree.{Tree, tree, Shape, Trees, no_trees, more_trees, Holes, Pairs, Givens}
 use Rattle.verse_tree.specs.Tree as t
@@ -63,7 +63,8 @@ module _ (fields : ℕ → ℕ) where
     pub target_cost_is : (b : Tree) → target_cost b + target_operands b + 1 ≤ weight b
     target_cost_is (tree n pl s) = target_shape_cost_is n pl s
 
-    target_shape_cost_is : (n : ℕ) (pl : Place) (s : Shape) → target_cost (tree n pl s) + target_operands (tree n pl s) + 1 ≤ weight (tree n pl s)
+    target_shape_cost_is : (n : ℕ) (pl : Place) (s : Shape) → target_cost (tree n pl s) + target_operands (tree n pl s) + 1 ≤ weight
+        (tree n pl s)
     target_shape_cost_is n pl (t.Shape.member b x) = omega (arith, cost_is b)
     target_shape_cost_is n pl (t.Shape.index b ts) = omega (arith, target_cost_is b, operands_cost_is ts)
     target_shape_cost_is n pl s = omega arith

@@ -1,23 +1,25 @@
 -- A program without `defer` has none of its operations.
-use Rattle.std.proofs.Common.{◌≡◌, ℕ, zero, suc, ◌+◌, ◌<◌, ◌≤◌, List, [], ◌∷◌, ◌++◌, map, Bool, true, false, nat_lt, refl, sym, ap, ◌∙◌, arith, subst, ltb-true}
+use Rattle.std.proofs.Common.{◌≡◌, ℕ, zero, suc, ◌≤◌, List, [], ◌∷◌, map, Bool, true, false, nat_lt, refl, sym, ap, ◌∙◌, arith, subst}
+use Rattle.std.proofs.Common.{ltb-true}
 use Rattle.std.proofs.Common.{true≢false, le-ltb, slice_get, Option, Some, None, length}
 use Rattle.std.proofs.lemmas.Option.{none-some}
 use Rattle.verse_base.specs.declared.places.Place.{Place}
 use Rattle.verse_tree.specs.Tree.{Bytes, Tree, Holes, no_holes, more_holes}
 use Rattle.verse_tree.specs.Tree as t
-use Rattle.verse_tree.specs.PostOrder.{Node, items_order}
+use Rattle.verse_tree.specs.PostOrder.{items_order}
 use Rattle.verse_code.specs.declared.operations.Op.{Op}
 use Rattle.verse_code.specs.declared.operations.Op.TheVariants as o
 use Rattle.verse_code.specs.Operations as operations
 use Rattle.verse_meaning.specs.Programs.{Program, fields_of, ref_at}
 use Rattle.verse_meaning.specs.Evaluating.{class_ref}
 use Rattle.lower_code.specs.declared.arounds.Around.{Around}
-use Rattle.lower_code.specs.Pieces.{Spot, Item, sure, leaving, Piece, Maker, past, next, nothing, one, numbering, when, ahead, either, closing, from_here, looping}
+use Rattle.lower_code.specs.Pieces.{Spot, Item, sure, leaving, Piece, Maker, past, next, one, numbering, when, ahead, either, closing}
+use Rattle.lower_code.specs.Pieces.{from_here, looping}
 use Rattle.lower_code.specs.Pieces.{turning, using_locals, arms_at, arms_spot, closed, drops, deepest, later, ◌then◌}
 use Rattle.lower_code.specs.Arounds.{fresh, leaving_to}
 use Rattle.lower_code.specs.Defaults.{default_number}
-use Rattle.lower_code.specs.Lowering.{piece, grouped, default_op}
-use Rattle.lower_code.specs.Programs.{Body, all_bodies, item_op, first_spot, body_piece, bodies_from, whole}
+use Rattle.lower_code.specs.Lowering.{grouped, default_op}
+use Rattle.lower_code.specs.Programs.{Body, all_bodies, item_op, first_spot, bodies_from, whole}
 use Rattle.lower_bounds.specs.Laws.{HasNoDefer, DefersShow, FilesStand}
 use Rattle.lower_bounds.proofs.Lists.{Each, each_of, each_joined}
 use Rattle.lower_bounds.proofs.Kept.{Kept, IsLow, PiecesAre}
@@ -33,7 +35,10 @@ pub record Low (f : Maker) : Type 0 where
   pub low : (s : Spot) → Each IsLowItem (f s).items
 
 low_then : {f g : Maker} → Low f → Low g → Low (f then g)
-low_then {f = f} {g = g} x y = record { low = λ s. each_joined IsLowItem (f s).items (g (past s (f s))).items (x.low s) (y.low (past s (f s))) }
+low_then {f = f} {g = g} x y = record {
+  low = λ s. each_joined IsLowItem (f s).items (g (past s (f s))).items (x.low s)
+      (y.low (past s (f s)));
+}
 
 low_one : (op : Op) → IsLow op → Low (one op)
 low_one op h = record { low = λ s. (h, tt) }
@@ -69,21 +74,24 @@ low_closing {f = f} x = record {
   low = λ s.
       let p : Piece = f s in
       let out : ℕ = later (deepest p.items) (past s p).at in
-      each_joined IsLowItem (map (closed out) p.items) (drops (deepest p.items) (sure o.Unit ∷ [])) (closed_low out p.items (x.low s)) (drops_low (deepest p.items));
+      each_joined IsLowItem (map (closed out) p.items) (drops (deepest p.items) (sure o.Unit ∷ [])) (closed_low out p.items (x.low s))
+      (drops_low (deepest p.items));
 }
 
 low_from : {f : ℕ → Maker} → ((a : ℕ) → Low (f a)) → Low (from_here f)
 low_from x = record { low = λ s. (x s.at).low s }
 
 low_looping : {f : Maker} → Low f → Low (looping f)
-low_looping x = low_closing (low_from (λ a. low_then (low_ahead o.Jump (λ m. refl) (low_then x (low_one o.Drop refl))) (low_one (o.Again (suc a)) refl)))
+low_looping x = low_closing (low_from (λ a. low_then (low_ahead o.Jump (λ m. refl) (low_then x (low_one o.Drop refl)))
+    (low_one (o.Again (suc a)) refl)))
 
 low_using : (n : ℕ) → Low (using_locals n)
 low_using n = record { low = λ s. tt }
 
 low_turning : {f : Maker} (op : Op) (l : ℕ) → IsLow op → Low f → Low (turning op l f)
 low_turning op l h x = low_then (low_using (suc (suc (suc (suc l))))) (low_then (low_one o.Commit refl) (low_then (low_one op h)
-    (low_from (λ a. low_then (low_ahead o.Jump (λ m. refl) (low_ahead o.Try (λ m. refl) x)) (low_one (o.Take l (suc (suc l)) (suc a)) refl)))))
+    (low_from (λ a. low_then (low_ahead o.Jump (λ m. refl) (low_ahead o.Try (λ m. refl) x))
+    (low_one (o.Take l (suc (suc l)) (suc a)) refl)))))
 
 arms_low : (ls : List ℕ) (is : List Item) → Each IsLowItem is → Each IsLowItem (arms_at ls is)
 arms_low [] is h = h
@@ -159,7 +167,8 @@ module _ (p : Program) (differ : ℕ → ℕ → Bool) where
   bodies_low : (fields : ℕ → ℕ) → ((n c : ℕ) → class_ref p (ref_at p n) ≡ Some c → length (fields_of p c) ≤ fields n) → (bs : List Body) →
       Each (BodyHas HasNoDefer) bs → Low (bodies_from p differ bs)
   bodies_low fields few [] h = record { low = λ s. tt }
-  bodies_low fields few (b ∷ bs) h = low_then (low_then (piece_kept defers_kept fields few b.body h.0 0 b.scope fresh refl) (low_one o.Return refl)) (bodies_low fields few bs h.1)
+  bodies_low fields few (b ∷ bs) h = low_then (low_then (piece_kept defers_kept fields few b.body h.0 0 b.scope fresh refl)
+      (low_one o.Return refl)) (bodies_low fields few bs h.1)
 
 -- no size is asked for here
 abbrev class_count : Program → Option ℕ → ℕ
@@ -182,7 +191,8 @@ low_at (leaving n ∷ is) (suc i) op e h = low_at is i op e h.1
 
 pub defers_show : DefersShow
 defers_show p differ files none at op e = ltb-true (operations.code_of op) 64 (low_at (whole p differ).items at op e
-    ((bodies_low p differ (class_size p) (class_sized p) (all_bodies p.items) (all_have HasNoDefer p.items (all_each HasNoDefer (items_order p.items) none))).low first_spot))
+    ((bodies_low p differ (class_size p) (class_sized p) (all_bodies p.items)
+    (all_have HasNoDefer p.items (all_each HasNoDefer (items_order p.items) none))).low first_spot))
 
 pub files_stand : FilesStand
 files_stand p differ files = refl

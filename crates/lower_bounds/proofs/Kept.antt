@@ -1,9 +1,8 @@
 -- What the combinators keep: a property of makers that holds of the code of each form.
-use Rattle.std.proofs.Common.{◌≡◌, ℕ, zero, suc, ◌+◌, ◌<◌, ◌≤◌, ◌&&◌, List, [], ◌∷◌, length, Bool, true, nat_lt, Some}
+use Rattle.std.proofs.Common.{◌≡◌, ℕ, suc, ◌+◌, ◌≤◌, ◌&&◌, List, [], ◌∷◌, length, Bool, true, nat_lt, Some}
 use Rattle.verse_base.specs.declared.places.Place.{Place}
 use Rattle.verse_tree.specs.Tree.{Bytes, Tree, Holes, no_holes, more_holes}
 use Rattle.verse_tree.specs.Tree as t
-use Rattle.verse_tree.specs.ItemTree.{FieldTree}
 use Rattle.verse_tree.specs.PostOrder.{Node}
 use Rattle.verse_code.specs.declared.operations.Op.{Op}
 use Rattle.verse_code.specs.declared.operations.Op.TheVariants as o
@@ -45,12 +44,14 @@ abbrev pub PiecesAre : (Bytes → Type 0) → Holes → Type 0
 PiecesAre Piece no_holes = Unit {0}
 PiecesAre Piece (more_holes a bs hs) = Piece bs × PiecesAre Piece hs
 
--- Of makers that stand behind l locals, above h operands of their loop, where the places below k are there; with no more than n operations.
+-- Of makers that stand behind l locals, above h operands of their loop,
+-- where the places below k are there; with no more than n operations.
 -- Good is what nodes have, Plain what the surroundings have.
 module _ (p : Program) (differ : ℕ → ℕ → Bool) (Good : Node → Type 0) (Plain : Around → Type 0) (Q : (k l h n : ℕ) → Maker → Type 0) where
   pub record Kept (Site : Place → Type 0) (Piece : Bytes → Type 0) (Defers : Type 0) : Type 0 where
     pub wider : {k l h n i j m : ℕ} {f : Maker} → l ≤ i → h ≤ j → n ≤ m → Q k l h n f → Q k i j m f
-    pub over : {k l h n i j m : ℕ} {f g : Maker} (d : ℕ) → Q k l h n f → Q k i j m g → j ≤ d + h → i ≤ d + n + l → Q k l h (d + n + m) (f then g)
+    pub over : {k l h n i j m : ℕ} {f g : Maker} (d : ℕ) → Q k l h n f → Q k i j m g → j ≤ d + h → i ≤ d + n + l → Q k l h (d + n + m)
+        (f then g)
     -- operands that lie there before may count as operations
     pub lower : {k l h n x m : ℕ} {f : Maker} → n + x ≤ m + h → n ≤ m → Q k l x n f → Q k l h m f
     pub none : {k l h : ℕ} → Q k l h 0 nothing
@@ -60,15 +61,18 @@ module _ (p : Program) (differ : ℕ → ℕ → Bool) (Good : Node → Type 0) 
     pub when : {k l h n : ℕ} {f : Maker} (b : Bool) → (b ≡ true → Q k l h n f) → Q k l h n (when b f)
     pub object : {k l h : ℕ} (n c : ℕ) (pl : Place) → class_ref p (ref_at p n) ≡ Some c → Site pl → Q k l h 1 (placed pl (o.Object c))
     pub placed : {k l h : ℕ} (pl : Place) (op : ℕ → Op) → Site pl → ((m : ℕ) → Placed m (op m)) → Q k l h 1 (placed pl op)
-    pub numbering : {k l h n : ℕ} (pl : Place) (f : ℕ → Maker) → Site pl → ((m : ℕ) → Q (suc m) l h n (f m)) → Q k l h (suc n) (numbering pl f)
+    pub numbering : {k l h n : ℕ} (pl : Place) (f : ℕ → Maker) → Site pl → ((m : ℕ) → Q (suc m) l h n (f m)) → Q k l h (suc n)
+        (numbering pl f)
     pub texted : {k l h : ℕ} (bs : Bytes) → Piece bs → Q k l h 1 (texted bs)
     pub put_away : {k l h : ℕ} → Q k l h 1 (put_away l)
     pub leave_loop : {k l h : ℕ} → Q k l h 1 (leave_loop h)
     pub leaving : {k l h : ℕ} (n : ℕ) (a : Around) → Plain a → Q k l h 1 (leaving_to n a)
     pub leave : {k l h : ℕ} (n : ℕ) → Defers → Q k l h 1 (one (o.Leave n))
-    pub deferred : {k l h n : ℕ} {f : Maker} → Defers → Q k l h n f → Q k l h (3 + n) (ahead o.Defer (f then one o.Drop then one o.DeferEnd))
+    pub deferred : {k l h n : ℕ} {f : Maker} → Defers → Q k l h n f → Q k l h (3 + n)
+        (ahead o.Defer (f then one o.Drop then one o.DeferEnd))
     pub ahead : {k l h n : ℕ} {f : Maker} (op : ℕ → Op) → ((m : ℕ) → Leads m (op m)) → Q k l h n f → Q k l h (suc n) (ahead op f)
-    pub either : {k l h n m : ℕ} {f g : Maker} (op : ℕ → Op) → ((m : ℕ) → Leads m (op m)) → Q k l h n f → Q k l h m g → Q k l h (2 + n + m) (either op f g)
+    pub either : {k l h n m : ℕ} {f g : Maker} (op : ℕ → Op) → ((m : ℕ) → Leads m (op m)) → Q k l h n f → Q k l h m g → Q k l h
+        (2 + n + m) (either op f g)
     pub looping : {k l h n : ℕ} {f : Maker} → Q k l 0 n f → Q k l h (4 + n) (looping f)
     pub turning : {k l h n i : ℕ} {f : Maker} (op : Op) → IsBare op → i ≤ 4 + l → Q k i h n f → Q k l h (9 + n) (turning op l f)
     pub grouped : {k l h n : ℕ} (kind m : ℕ) (pl : Place) (begins : Spot → List ℕ) (arms : Maker) → kind ≤ 2 → Site pl →
@@ -81,7 +85,8 @@ module _ (p : Program) (differ : ℕ → ℕ → Bool) (Good : Node → Type 0) 
     -- nodes
     pub site : (v : Node) → Good v → Site v.place
     pub char : {k l h : ℕ} (n : ℕ) (pl : Place) (c : ℕ) → Good (node n pl (t.Shape.character c)) → Q k l h 1 (one (o.Char c))
-    pub char_pattern : {k l h : ℕ} (n : ℕ) (pl : Place) (c : ℕ) → Good (node n pl (t.Shape.character_pattern c)) → Q k l h 1 (one (o.Char c))
+    pub char_pattern : {k l h : ℕ} (n : ℕ) (pl : Place) (c : ℕ) → Good (node n pl (t.Shape.character_pattern c)) → Q k l h 1
+        (one (o.Char c))
     pub text : (n : ℕ) (pl : Place) (bs : Bytes) → Good (node n pl (t.Shape.text bs)) → Piece bs
     pub text_pattern : (n : ℕ) (pl : Place) (bs : Bytes) → Good (node n pl (t.Shape.text_pattern bs)) → Piece bs
     pub first_piece : (n : ℕ) (pl : Place) (bs : Bytes) (hs : Holes) → Good (node n pl (t.Shape.holes bs hs)) → Piece bs

@@ -1,40 +1,32 @@
 -- What is kept by the parts of the code that stand for no tree of their own.
-use Rattle.std.proofs.Common.{◌≡◌, ℕ, zero, suc, ◌+◌, ◌≤◌, List, [], ◌∷◌, length, Bool, true, false, Option, Some, None, refl, arith}
+use Rattle.std.proofs.Common.{◌≡◌, ℕ, zero, suc, ◌+◌, ◌≤◌, Bool, true, false, Option, Some, None, refl, arith}
 use Rattle.verse_base.specs.declared.places.Place.{Place}
-use Rattle.verse_tree.specs.Tree.{Bytes, Tree, tree, Shape, Trees, no_trees, more_trees, Givens}
-use Rattle.verse_tree.specs.Tree as t
-use Rattle.verse_tree.specs.ItemTree.{FieldTree}
-use Rattle.verse_tree.specs.PostOrder.{Node, trees_order, post_order}
+use Rattle.verse_tree.specs.Tree.{Bytes}
+use Rattle.verse_tree.specs.PostOrder.{Node}
 use Rattle.verse_tree.specs.declared.exprs.Comparison.{Comparison}
 use Rattle.verse_tree.specs.declared.exprs.Comparison.TheVariants as c
 use Rattle.verse_tree.specs.declared.exprs.Operator.{Operator}
 use Rattle.verse_tree.specs.declared.exprs.Operator.TheVariants as op
 use Rattle.verse_tree.specs.declared.tables.Ref.{Ref}
 use Rattle.verse_tree.specs.declared.tables.Ref.TheVariants as ref
-use Rattle.verse_code.specs.declared.operations.Op.{Op}
 use Rattle.verse_code.specs.declared.operations.Op.TheVariants as o
-use Rattle.verse_value.specs.Val.{Val, enum}
 use Rattle.verse_value.specs.declared.modes.Mode.{Mode}
 use Rattle.verse_value.specs.declared.modes.Mode.TheVariants as mode
-use Rattle.verse_meaning.specs.Programs.{Program, fun_at, fields_of, same_name, pattern_value}
+use Rattle.verse_meaning.specs.Programs.{Program, fun_at}
 use Rattle.verse_meaning.specs.Residuals as form
 use Rattle.verse_meaning.specs.Residuals.{Form, Base, in_variable, in_self, in_object, nowhere, Binder, no_name, a_constant, a_variable}
 use Rattle.verse_meaning.specs.Residuals.{Generator, of_elements, of_entries, of_range}
-use Rattle.verse_meaning.specs.Evaluating.{Statement, statement_of, statement_of_shape, plain, defines, defers, generates, Callee, alone}
-use Rattle.verse_meaning.specs.Evaluating.{of_object, of_value, of_quotient, no_callee, builtin, named_callee, member_callee, callee_of}
-use Rattle.verse_meaning.specs.Evaluating.{await_name, signal_name, length_name, member_form, spawned_form, spawned_callee}
 use Rattle.lower_code.specs.declared.arounds.Around.{Around}
-use Rattle.lower_code.specs.Pieces.{Maker, one, when, when_else, kept, turning, ◌then◌}
-use Rattle.lower_code.specs.Scopes.{Slot, Scope, Found, fixed, varies, absent, this_found, push_fixed, push_varies, read_found, read_this}
+use Rattle.lower_code.specs.Pieces.{Maker, one, when_else, kept, ◌then◌}
+use Rattle.lower_code.specs.Scopes.{Scope, Found, fixed, varies, absent, this_found, push_fixed, push_varies, read_found, read_this}
 use Rattle.lower_code.specs.Scopes.{field_of_this, find}
-use Rattle.lower_code.specs.Arounds.{up, raised, deferring, returning, breaking}
+use Rattle.lower_code.specs.Arounds.{returning, breaking}
 use Rattle.lower_code.specs.Applied.{computing, comparing, awaiting, with_none, with_one, with_two, signalling, finish, start, started}
 use Rattle.lower_code.specs.Applied.{storing, mode_number}
-use Rattle.lower_code.specs.Lowering.{takes_params, form_fits, by_callee, bind, with_binder, with_generator, taking, scope_stated, scope_behind}
-use Rattle.lower_code.specs.Lowering.{around_stated, stated, claused, base_code, field_op, field_ops, given_local, default_op, any_defer, is_defer}
-use Rattle.lower_code.specs.Lowering.{is_defer_shape, named, enum_op, enum_pattern, pattern_op}
-use Rattle.lower_bounds.proofs.Lists.{Each, each_first, each_rest, node, own, on_cond}
-use Rattle.lower_bounds.proofs.Kept.{Kept, IsBare, Placed}
+use Rattle.lower_code.specs.Lowering.{takes_params, form_fits}
+use Rattle.lower_code.specs.Lowering.{base_code}
+use Rattle.lower_code.specs.Lowering.{named}
+use Rattle.lower_bounds.proofs.Kept.{Kept, Placed}
 
 module _ {p : Program} {differ : ℕ → ℕ → Bool} {Good : Node → Type 0} {Plain : Around → Type 0} {Q : (k l h n : ℕ) → Maker → Type 0}
     {Site : Place → Type 0} {Piece : Bytes → Type 0} {Defers : Type 0} (q : Kept p differ Good Plain Q Site Piece Defers) where
@@ -239,7 +231,8 @@ module _ {p : Program} {differ : ℕ → ℕ → Bool} {Good : Node → Type 0} 
 
   -- what leaves a function or a loop
   pub returning_kept : {k l h : ℕ} (a : Around) → Plain a → Q k l h 3 (returning a)
-  returning_kept a x = more (omega arith) (and (q.leaving a.base a x) (when_else_kept a.may_return (λ e. q.op o.Return ((λ z at. refl), refl))))
+  returning_kept a x = more (omega arith) (and (q.leaving a.base a x) (when_else_kept a.may_return
+      (λ e. q.op o.Return ((λ z at. refl), refl))))
 
   pub breaking_kept : {k l : ℕ} (a : Around) → Plain a → Q k l a.height 3 (breaking a)
   breaking_kept a x = more (omega arith) (and (q.leaving a.floor a x) (when_else_kept a.in_loop (λ e. q.leave_loop)))

@@ -1,7 +1,7 @@
 -- What holds of each node of a tree, split as the tree is.
-use Rattle.std.proofs.Common.{◌≡◌, ℕ, List, [], ◌∷◌, ◌++◌, Bool, true, false, cond}
+use Rattle.std.proofs.Common.{ℕ, List, [], ◌∷◌, ◌++◌, Bool, true, false, cond}
 use Rattle.verse_base.specs.declared.places.Place.{Place}
-use Rattle.verse_tree.specs.Tree.{Tree, tree, Shape}
+use Rattle.verse_tree.specs.Tree.{tree, Shape}
 use Rattle.verse_tree.specs.PostOrder.{Node, expression, post_order, parts}
 
 abbrev pub Each : {X : Type 0} → (X → Type 0) → List X → Type 0

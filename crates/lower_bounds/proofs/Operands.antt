@@ -1,17 +1,18 @@
 -- The operands of a piece suit where it stands: labels lead ahead, or back for turns, and inside; what is named by number is there.
-use Rattle.std.proofs.Common.{◌≡◌, ℕ, zero, suc, ◌+◌, ◌-◌, ◌<◌, ◌≤◌, ◌&&◌, List, [], ◌∷◌, ◌++◌, map, length, max, Bool, true, false, nat_lt, nat_le, refl, sym, ap}
-use Rattle.std.proofs.Common.{◌∙◌, arith, subst, ap₂, lt-ltb, le-leb, Option, Some, None}
+use Rattle.std.proofs.Common.{◌≡◌, ℕ, zero, suc, ◌+◌, ◌-◌, ◌<◌, ◌≤◌, ◌&&◌, List, [], ◌∷◌, ◌++◌, map, length, Bool, true, false, nat_lt}
+use Rattle.std.proofs.Common.{nat_le, refl, sym, ap}
+use Rattle.std.proofs.Common.{◌∙◌, arith, subst, ap₂, lt-ltb, le-leb}
 use Rattle.verse_base.specs.declared.places.Place.{Place}
-use Rattle.verse_tree.specs.Tree.{Bytes, Tree, Holes, no_holes, more_holes}
-use Rattle.verse_tree.specs.Tree as t
+use Rattle.verse_tree.specs.Tree.{Bytes}
 use Rattle.verse_code.specs.declared.operations.Op.{Op}
 use Rattle.verse_code.specs.declared.operations.Op.TheVariants as o
 use Rattle.verse_code.specs.declared.validity.Sizes.{Sizes}
 use Rattle.verse_code.specs.Operations.{operands_of}
 use Rattle.verse_code.specs.Validity.{all_suit, IsPlace, IsText}
-use Rattle.lower_code.specs.declared.arounds.Around.{Around}
-use Rattle.lower_code.specs.Pieces.{Spot, Item, sure, leaving, Piece, Maker, behind, later, next, past, nothing, one, placed, numbering, texted, put_away}
-use Rattle.lower_code.specs.Pieces.{stuck, when, leave_loop, ahead, either, closing, from_here, looping, turning, using_locals, arms_at, arms_spot}
+use Rattle.lower_code.specs.Pieces.{Spot, Item, sure, leaving, Piece, Maker, behind, later, next, past, nothing, one, placed, numbering}
+use Rattle.lower_code.specs.Pieces.{texted, put_away}
+use Rattle.lower_code.specs.Pieces.{stuck, when, leave_loop, ahead, either, closing, from_here, looping, turning, using_locals, arms_at}
+use Rattle.lower_code.specs.Pieces.{arms_spot}
 use Rattle.lower_code.specs.Pieces.{closed, deepest, drops, ◌then◌}
 use Rattle.lower_code.specs.Lowering.{grouped}
 use Rattle.lower_code.proofs.Standing.{behind_more, behind_least, behind_closed, later_is}
@@ -53,7 +54,8 @@ module _ (files functions classes : ℕ) where
     pub places : (s : Spot) → Each (IsPlace files) (f s).places
     pub texts : (s : Spot) → Each IsText (f s).texts
 
-  room_before : {z : Sizes} (xs ys : Spot) → xs.at ≤ ys.at → xs.place ≤ ys.place → xs.text ≤ ys.text → Room functions classes z ys → Room functions classes z xs
+  room_before : {z : Sizes} (xs ys : Spot) → xs.at ≤ ys.at → xs.place ≤ ys.place → xs.text ≤ ys.text → Room functions classes z ys →
+      Room functions classes z xs
   room_before xs ys a b c r = record {
     ops = omega (arith, a, r.ops);
     places = omega (arith, b, r.places);
@@ -63,15 +65,18 @@ module _ (files functions classes : ℕ) where
   }
 
   -- behind both pieces
-  ends_behind : (z : Sizes) (s : Spot) (f g : Maker) → Room functions classes z (past s ((f then g) s)) → Room functions classes z (past (past s (f s)) (g (past s (f s))))
+  ends_behind : (z : Sizes) (s : Spot) (f g : Maker) → Room functions classes z (past s ((f then g) s)) → Room functions classes z
+      (past (past s (f s)) (g (past s (f s))))
   ends_behind z s f g r =
       let e = past s (f s) in
       let q = g e in
-      room_before (past e q) (past s ((f then g) s)) (omega (arith, behind_more (f s).items q.items s.at)) (omega (arith, behind_more (f s).places q.places s.place))
+      room_before (past e q) (past s ((f then g) s)) (omega (arith, behind_more (f s).items q.items s.at))
+      (omega (arith, behind_more (f s).places q.places s.place))
       (omega (arith, behind_more (f s).texts q.texts s.text)) r
 
   pub begins_before : (z : Sizes) (e : Spot) (q : Piece) → Room functions classes z (past e q) → Room functions classes z e
-  begins_before z e q r = room_before e (past e q) (behind_least q.items e.at) (behind_least q.places e.place) (behind_least q.texts e.text) r
+  begins_before z e q r = room_before e (past e q) (behind_least q.items e.at) (behind_least q.places e.place)
+      (behind_least q.texts e.text) r
 
   pub suits_then : {k : ℕ} {f g : Maker} → Suits k f → Suits k g → Suits k (f then g)
   suits_then {f = f} {g = g} x y = record {
@@ -93,7 +98,14 @@ module _ (files functions classes : ℕ) where
   suits_op_with m op h = record { operands = λ s z r b. (h.0 z s.at (lt-ltb m z.places b), tt); places = λ s. tt; texts = λ s. tt }
 
   pub suits_stuck : {k : ℕ} → Suits k stuck
-  suits_stuck = record { operands = λ s z r b. (ahead_suits s.at (suc s.at) z.ops (omega arith) r.ops, tt); places = λ s. tt; texts = λ s. tt }
+  suits_stuck = record {
+    operands = λ s z r b. (
+      ahead_suits s.at (suc s.at) z.ops (omega arith) r.ops,
+      tt,
+    );
+    places = λ s. tt;
+    texts = λ s. tt;
+  }
 
   pub suits_when : {k : ℕ} {f : Maker} (b : Bool) → (b ≡ true → Suits k f) → Suits k (when b f)
   suits_when true x = let y = x refl in record { operands = y.operands; places = y.places; texts = y.texts }
@@ -107,7 +119,8 @@ module _ (files functions classes : ℕ) where
     texts = λ s. tt;
   }
 
-  pub suits_numbering : {k : ℕ} (pl : Place) (f : ℕ → Maker) → IsPlace files pl → ((m : ℕ) → Suits (suc m) (f m)) → Suits k (numbering pl f)
+  pub suits_numbering : {k : ℕ} (pl : Place) (f : ℕ → Maker) → IsPlace files pl → ((m : ℕ) → Suits (suc m) (f m)) → Suits k
+      (numbering pl f)
   suits_numbering pl f site x = record {
     operands = λ s z r b.
         let e : Spot = record { at = s.at; place = suc s.place; text = s.text } in
@@ -128,8 +141,11 @@ module _ (files functions classes : ℕ) where
   pub suits_ahead : {k : ℕ} {f : Maker} (op : ℕ → Op) → ((m : ℕ) → LeadsOn m (op m)) → Suits k f → Suits k (ahead op f)
   suits_ahead {f = f} op leads x = record {
     operands = λ s z r b.
-        let e = (past (next s) (f (next s))).at in
-        (leads e z s.at (ahead_suits s.at e z.ops (omega (arith, behind_least (f (next s)).items (suc s.at))) r.ops), x.operands (next s) z r b);
+        let e = (past (next s) (f (next s))).at in (
+          leads e z s.at (ahead_suits s.at e z.ops (omega (arith, behind_least (f (next s)).items (suc s.at))) r.ops),
+          x.operands
+              (next s) z r b,
+        );
     places = λ s. x.places (next s);
     texts = λ s. x.texts (next s);
   }
@@ -146,17 +162,18 @@ module _ (files functions classes : ℕ) where
         let end : behind (p.items ++ js) (suc s.at) ≡ (past e q).at = behind_more p.items js (suc s.at) in
         let rest : Room functions classes z (past e q) = room_before (past e q) (past s (either op f g s)) (omega (arith, end))
         (omega (arith, behind_more p.places q.places s.place)) (omega (arith, behind_more p.texts q.texts s.text)) r in
-        let before : Room functions classes z (past (next s) p) = room_before (past (next s) p) e (omega arith) (omega arith) (omega arith) (begins_before z e q rest) in
-        (
+        let before : Room functions classes z (past (next s) p) = room_before (past (next s) p) e (omega arith) (omega arith)
+        (omega arith) (begins_before z e q rest) in (
           leads e.at z s.at (ahead_suits s.at e.at z.ops (omega (arith, low)) (omega (arith, high, rest.ops))),
           suit_joined z p.items js (suc s.at) (x.operands (next s) z before b)
-          (ahead_suits (past (next s) p).at (past e q).at z.ops (omega (arith, high)) rest.ops, y.operands e z rest b),
+              (ahead_suits (past (next s) p).at (past e q).at z.ops (omega (arith, high)) rest.ops, y.operands e z rest b),
         );
     places = λ s. each_joined (IsPlace files) (f (next s)).places _ (x.places (next s)) (y.places (next (past (next s) (f (next s)))));
     texts = λ s. each_joined IsText (f (next s)).texts _ (x.texts (next s)) (y.texts (next (past (next s) (f (next s)))));
   }
 
-  suit_closed : (z : Sizes) (out d : ℕ) (is : List Item) (at : ℕ) → behind is at + d ≤ out → out < z.ops → deepest is ≤ d → AllSuit z is at →
+  suit_closed : (z : Sizes) (out d : ℕ) (is : List Item) (at : ℕ) → behind is at + d ≤ out → out < z.ops → deepest is ≤ d →
+      AllSuit z is at →
       AllSuit z (map (closed out) is) at
   suit_closed z out d [] at l k m h = tt
   suit_closed z out d (sure op ∷ is) at l k m h = (h.0, suit_closed z out d is (suc at) l k m h.1)
@@ -186,7 +203,8 @@ module _ (files functions classes : ℕ) where
         let within : Room functions classes z (past s p) =
         room_before (past s p) (past s (closing f s)) (omega (arith, end, later_is d e)) (omega arith) (omega arith) r in
         suit_joined z (map (closed out) p.items) ds s.at
-        (suit_closed z out d p.items s.at (omega (arith, later_is d e)) (omega (arith, end, r.ops)) (omega arith) (x.operands s z within b)) (suit_drops z d _);
+        (suit_closed z out d p.items s.at (omega (arith, later_is d e)) (omega (arith, end, r.ops)) (omega arith)
+        (x.operands s z within b)) (suit_drops z d _);
     places = x.places;
     texts = x.texts;
   }
@@ -216,7 +234,8 @@ module _ (files functions classes : ℕ) where
   suits_using = record { operands = λ s z r b. tt; places = λ s. tt; texts = λ s. tt }
 
   pub suits_turning : {k : ℕ} {f : Maker} (op : Op) (l : ℕ) → IsBare op → Suits k f → Suits k (turning op l f)
-  suits_turning {f = f} op l bare x = suits_then suits_using (suits_then (suits_op o.Commit (λ z at c. refl)) (suits_then (suits_op op (λ z at c. bare.0 z at))
+  suits_turning {f = f} op l bare x = suits_then suits_using (suits_then (suits_op o.Commit (λ z at c. refl))
+      (suits_then (suits_op op (λ z at c. bare.0 z at))
       (suits_back {f = ahead o.Jump (ahead o.Try f)} (o.Take l (suc (suc l))) (λ z at l e. e)
       (λ s. omega (arith, behind_least (f (next (next s))).items (suc (suc s.at))))
       (suits_ahead o.Jump (λ m z at e. e) (suits_ahead o.Try (λ m z at e. e) x)))))
@@ -252,10 +271,15 @@ module _ (files functions classes : ℕ) where
         let first : suc (later (length ls) (suc s.at)) ≡ e.at = ap (λ n. suc (later n (suc s.at))) (many e) ∙ later_suc m (suc s.at) in
         let far : later m (suc (suc s.at)) ≡ m + suc (suc s.at) = later_is m (suc (suc s.at)) in
         let ends : behind (arms_at ls js) (suc s.at) ≡ end = behind_arms ls js (suc s.at) ∙ ap (behind p.items) first in
-        let room : Room functions classes z (past e p) = room_before (past e p) (past s (grouped kind m pl begins arms s)) (omega (arith, ends)) (omega arith) (omega arith) r in
-        let inside : AllSuit z js (later (length ls) (suc s.at)) =
-        (ahead_suits (later (length ls) (suc s.at)) end z.ops (omega (arith, first, low)) room.ops, subst (λ n. AllSuit z p.items n) (sym first) (x.operands e z room b)) in
-        let group : (nat_le kind 2 && nat_lt (s.at + m) z.ops && nat_lt s.place z.places) ≡ true = ap₂ ◌&&◌ (ap₂ ◌&&◌ (le-leb kind 2 small)
+        let room : Room functions classes z (past e p) = room_before (past e p) (past s (grouped kind m pl begins arms s))
+        (omega (arith, ends)) (omega arith) (omega arith) r in
+        let inside : AllSuit z js (later (length ls) (suc s.at)) = (
+          ahead_suits (later (length ls) (suc s.at)) end z.ops (omega (arith, first, low)) room.ops,
+          subst (λ n. AllSuit z p.items n)
+              (sym first) (x.operands e z room b),
+        ) in
+        let group : (nat_le kind 2 && nat_lt (s.at + m) z.ops && nat_lt s.place z.places) ≡ true = ap₂ ◌&&◌
+        (ap₂ ◌&&◌ (le-leb kind 2 small)
         (lt-ltb (s.at + m) z.ops (omega (arith, far, low, room.ops)))) (lt-ltb s.place z.places (begins_before z e p room).places) in
         (group, suit_arms z ls js (suc s.at) e.at end (within e) room.ops (omega (arith, first, later_is (length ls) (suc s.at))) inside);
     places = λ s. (site, x.places (arms_spot m s));

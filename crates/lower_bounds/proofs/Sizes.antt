@@ -1,25 +1,25 @@
 -- Pieces are small: how many operations, places, texts and locals they have.
-use Rattle.std.proofs.Common.{◌≡◌, ℕ, zero, suc, ◌+◌, ◌≤◌, List, [], ◌∷◌, ◌++◌, map, length, max, Bool, true, false, refl, ap, arith, length-append}
+use Rattle.std.proofs.Common.{◌≡◌, ℕ, zero, suc, ◌+◌, ◌≤◌, List, [], ◌∷◌, ◌++◌, map, length, max, Bool, true, false, refl, ap, arith}
+use Rattle.std.proofs.Common.{length-append}
 use Rattle.std.specs.Prelude.{Option, Some, None}
 use Rattle.verse_base.specs.declared.places.Place.{Place}
 use Rattle.verse_tree.specs.Tree.{Bytes, Tree, Holes, no_holes, more_holes}
-use Rattle.verse_tree.specs.ItemTree.{FieldTree}
-use Rattle.verse_tree.specs.PostOrder.{Node}
 use Rattle.verse_code.specs.declared.operations.Op.{Op}
 use Rattle.verse_code.specs.declared.operations.Op.TheVariants as o
 use Rattle.verse_meaning.specs.Programs.{Program, fields_of}
-use Rattle.lower_code.specs.declared.arounds.Around.{Around}
-use Rattle.lower_code.specs.Pieces.{Spot, Item, sure, leaving, Piece, Maker, later, next, past, nothing, one, placed, numbering, texted, put_away, stuck}
-use Rattle.lower_code.specs.Pieces.{when, leave_loop, ahead, either, closing, from_here, looping, turning, using_locals, arms_at, arms_spot}
+use Rattle.lower_code.specs.Pieces.{Spot, Item, sure, leaving, Maker, later, next, past, nothing, one, placed, numbering, texted}
+use Rattle.lower_code.specs.Pieces.{put_away, stuck}
+use Rattle.lower_code.specs.Pieces.{when, leave_loop, ahead, either, closing, from_here, looping, turning, using_locals, arms_at}
+use Rattle.lower_code.specs.Pieces.{arms_spot}
 use Rattle.lower_code.specs.Pieces.{closed, deepest, drops, ◌then◌}
-use Rattle.lower_code.specs.Arounds.{leaving_to}
 use Rattle.lower_code.specs.Defaults.{default_number}
 use Rattle.lower_code.specs.Lowering.{grouped, default_op}
 use Rattle.std.specs.Prelude.{nat_lt}
-use Rattle.lower_bounds.proofs.Lists.{Each, each_of}
+use Rattle.lower_bounds.proofs.Lists.{each_of}
 use Rattle.lower_bounds.proofs.Kept.{Kept, PiecesAre}
 
--- Behind l locals and h operands that lie there before: no more than n operations, and n + h together with the deepest operands that leave
+-- Behind l locals and h operands that lie there before: no more than n operations,
+-- and n + h together with the deepest operands that leave
 -- a loop; no more than n places and n texts, and n locals more.
 pub record Small (l h n : ℕ) (f : Maker) : Type 0 where
   pub few : (s : Spot) → length (f s).items ≤ n
@@ -51,7 +51,8 @@ small_lower q r x = record {
   locals = λ s. omega (arith, r, x.locals s);
 }
 
-pub small_over : {l h n i j m : ℕ} {f g : Maker} (d : ℕ) → Small l h n f → Small i j m g → j ≤ d + h → i ≤ d + n + l → Small l h (d + n + m) (f then g)
+pub small_over : {l h n i j m : ℕ} {f g : Maker} (d : ℕ) → Small l h n f → Small i j m g → j ≤ d + h → i ≤ d + n + l → Small l h
+    (d + n + m) (f then g)
 small_over {f = f} {g = g} d a b v w = record {
   few = λ s. let e = past s (f s) in omega (arith, length-append (f s).items (g e).items, a.few s, b.few e);
   deep = λ s. let e = past s (f s) in
@@ -62,20 +63,53 @@ small_over {f = f} {g = g} d a b v w = record {
 }
 
 pub small_none : {l h : ℕ} → Small l h 0 nothing
-small_none = record { few = λ s. omega arith; deep = λ s. omega arith; places = λ s. omega arith; texts = λ s. omega arith; locals = λ s. omega arith }
+small_none = record {
+  few = λ s. omega arith;
+  deep = λ s. omega arith;
+  places = λ s. omega arith;
+  texts = λ s. omega arith;
+  locals = λ s.
+      omega arith;
+}
 
 pub small_one : {l h : ℕ} (op : Op) → Small l h 1 (one op)
-small_one op = record { few = λ s. omega arith; deep = λ s. omega arith; places = λ s. omega arith; texts = λ s. omega arith; locals = λ s. omega arith }
+small_one op = record {
+  few = λ s. omega arith;
+  deep = λ s. omega arith;
+  places = λ s. omega arith;
+  texts = λ s. omega arith;
+  locals = λ
+      s. omega arith;
+}
 
 small_stuck : {l h : ℕ} → Small l h 1 stuck
-small_stuck = record { few = λ s. omega arith; deep = λ s. omega arith; places = λ s. omega arith; texts = λ s. omega arith; locals = λ s. omega arith }
+small_stuck = record {
+  few = λ s. omega arith;
+  deep = λ s. omega arith;
+  places = λ s. omega arith;
+  texts = λ s. omega arith;
+  locals = λ
+      s. omega arith;
+}
 
 small_when : {l h n : ℕ} {f : Maker} (b : Bool) → (b ≡ true → Small l h n f) → Small l h n (when b f)
 small_when true x = let y = x refl in record { few = y.few; deep = y.deep; places = y.places; texts = y.texts; locals = y.locals }
-small_when false x = record { few = λ s. omega arith; deep = λ s. omega arith; places = λ s. omega arith; texts = λ s. omega arith; locals = λ s. omega arith }
+small_when false x = record {
+  few = λ s. omega arith;
+  deep = λ s. omega arith;
+  places = λ s. omega arith;
+  texts = λ s. omega arith;
+  locals = λ s. omega arith;
+}
 
 small_placed : {l h : ℕ} (pl : Place) (op : ℕ → Op) → Small l h 1 (placed pl op)
-small_placed pl op = record { few = λ s. omega arith; deep = λ s. omega arith; places = λ s. omega arith; texts = λ s. omega arith; locals = λ s. omega arith }
+small_placed pl op = record {
+  few = λ s. omega arith;
+  deep = λ s. omega arith;
+  places = λ s. omega arith;
+  texts = λ s. omega arith;
+  locals = λ s. omega arith;
+}
 
 small_numbering : {l h n : ℕ} (pl : Place) (f : ℕ → Maker) → ((m : ℕ) → Small l h n (f m)) → Small l h (suc n) (numbering pl f)
 small_numbering pl f x = record {
@@ -87,13 +121,34 @@ small_numbering pl f x = record {
 }
 
 small_texted : {l h : ℕ} (bs : Bytes) → Small l h 1 (texted bs)
-small_texted bs = record { few = λ s. omega arith; deep = λ s. omega arith; places = λ s. omega arith; texts = λ s. omega arith; locals = λ s. omega arith }
+small_texted bs = record {
+  few = λ s. omega arith;
+  deep = λ s. omega arith;
+  places = λ s. omega arith;
+  texts = λ s. omega arith;
+  locals =
+      λ s. omega arith;
+}
 
 small_put_away : {l h : ℕ} → Small l h 1 (put_away l)
-small_put_away = record { few = λ s. omega arith; deep = λ s. omega arith; places = λ s. omega arith; texts = λ s. omega arith; locals = λ s. omega arith }
+small_put_away = record {
+  few = λ s. omega arith;
+  deep = λ s. omega arith;
+  places = λ s. omega arith;
+  texts = λ s. omega arith;
+  locals =
+      λ s. omega arith;
+}
 
 small_leave : {l h : ℕ} → Small l h 1 (leave_loop h)
-small_leave = record { few = λ s. omega arith; deep = λ s. omega arith; places = λ s. omega arith; texts = λ s. omega arith; locals = λ s. omega arith }
+small_leave = record {
+  few = λ s. omega arith;
+  deep = λ s. omega arith;
+  places = λ s. omega arith;
+  texts = λ s. omega arith;
+  locals = λ
+      s. omega arith;
+}
 
 small_ahead : {l h n : ℕ} {f : Maker} (op : ℕ → Op) → Small l h n f → Small l h (suc n) (ahead op f)
 small_ahead op x = record {
@@ -109,9 +164,28 @@ small_either {f = f} {g = g} op a b = record {
   few = λ s. let e = next (past (next s) (f (next s))) in let j : List Item = sure (o.Jump (past e (g e)).at) ∷ (g e).items in
       omega (arith, length-append (f (next s)).items j, a.few (next s), b.few e);
   deep = λ s. let e = next (past (next s) (f (next s))) in let j : List Item = sure (o.Jump (past e (g e)).at) ∷ (g e).items in
-      omega (arith, length-append (f (next s)).items j, deepest_more (f (next s)).items j, a.few (next s), b.few e, a.deep (next s), b.deep e);
-  places = λ s. let e = next (past (next s) (f (next s))) in omega (arith, length-append (f (next s)).places (g e).places, a.places (next s), b.places e);
-  texts = λ s. let e = next (past (next s) (f (next s))) in omega (arith, length-append (f (next s)).texts (g e).texts, a.texts (next s), b.texts e);
+      omega (
+        arith,
+        length-append (f (next s)).items j,
+        deepest_more (f (next s)).items j,
+        a.few (next s),
+        b.few e,
+        a.deep (next s),
+        b.deep e,
+      );
+  places = λ s. let e = next (past (next s) (f (next s))) in omega (
+    arith,
+    length-append (f (next s)).places (g e).places,
+    a.places
+        (next s),
+    b.places e,
+  );
+  texts = λ s. let e = next (past (next s) (f (next s))) in omega (
+    arith,
+    length-append (f (next s)).texts (g e).texts,
+    a.texts (next s),
+    b.texts e,
+  );
   locals = λ s. omega (arith, a.locals (next s), b.locals (next (past (next s) (f (next s)))));
 }
 
@@ -135,9 +209,11 @@ closed_length out (i ∷ is) = ap suc (closed_length out is)
 -- the Drops of a loop are no more than the operands that lie above those of the loop, each of a node
 small_closing : {l h n : ℕ} {f : Maker} → Small l 0 n f → Small l h (suc n) (closing f)
 small_closing {f = f} x = record {
-  few = λ s. let p = f s in let out = later (deepest p.items) (past s p).at in let d : List Item = drops (deepest p.items) (sure o.Unit ∷ []) in
+  few = λ s. let p = f s in let out = later (deepest p.items) (past s p).at in let d : List Item = drops (deepest p.items)
+      (sure o.Unit ∷ []) in
       omega (arith, length-append (map (closed out) p.items) d, closed_length out p.items, drops_length (deepest p.items), x.deep s);
-  deep = λ s. let p = f s in let out = later (deepest p.items) (past s p).at in let d : List Item = drops (deepest p.items) (sure o.Unit ∷ []) in
+  deep = λ s. let p = f s in let out = later (deepest p.items) (past s p).at in let d : List Item = drops (deepest p.items)
+      (sure o.Unit ∷ []) in
       omega (
         arith,
         length-append (map (closed out) p.items) d,
@@ -170,10 +246,18 @@ small_looping {l} {h} x = small_wider {l = l} {h = h} (omega arith) (omega arith
     (small_closing (small_from (λ a. small_both (small_ahead o.Jump (small_both x (small_one o.Drop))) (small_one (o.Again (suc a))))))
 
 small_using : {l h : ℕ} → Small l h 4 (using_locals (suc (suc (suc (suc l)))))
-small_using = record { few = λ s. omega arith; deep = λ s. omega arith; places = λ s. omega arith; texts = λ s. omega arith; locals = λ s. omega arith }
+small_using = record {
+  few = λ s. omega arith;
+  deep = λ s. omega arith;
+  places = λ s. omega arith;
+  texts = λ s. omega arith;
+  locals = λ
+      s. omega arith;
+}
 
 small_turning : {l h n i : ℕ} {f : Maker} (op : Op) → i ≤ 4 + l → Small i h n f → Small l h (9 + n) (turning op l f)
-small_turning {l} {h} {n} {i} op le x = small_wider {l = l} {h = h} (omega arith) (omega arith) (omega arith) (small_over {i = i} {j = h} 0 small_using
+small_turning {l} {h} {n} {i} op le x = small_wider {l = l} {h = h} (omega arith) (omega arith) (omega arith)
+    (small_over {i = i} {j = h} 0 small_using
     (small_both (small_one o.Commit) (small_both (small_one op) (small_from (λ a. small_both (small_ahead o.Jump (small_ahead o.Try x))
     (small_one (o.Take l (suc (suc l)) (suc a))))))) (omega arith) (omega (arith, le)))
 
@@ -225,7 +309,8 @@ sizes_kept p differ = record {
   leave_loop = small_leave;
   leaving = λ n a x. small_when (nat_lt n a.defers) (λ e. small_one (o.Leave n));
   leave = λ n x. small_one (o.Leave n);
-  deferred = λ d x. small_wider (omega arith) (omega arith) (omega arith) (small_ahead o.Defer (small_both x (small_both (small_one o.Drop) (small_one o.DeferEnd))));
+  deferred = λ d x. small_wider (omega arith) (omega arith) (omega arith) (small_ahead o.Defer
+      (small_both x (small_both (small_one o.Drop) (small_one o.DeferEnd))));
   ahead = λ op b x. small_ahead op x;
   either = λ op b x y. small_either op x y;
   looping = small_looping;

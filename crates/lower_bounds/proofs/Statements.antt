@@ -1,5 +1,6 @@
 -- What is kept by statements, clauses, callees and the fields of an instance, where their parts keep it.
-use Rattle.std.proofs.Common.{◌≡◌, ℕ, zero, suc, ◌+◌, ◌≤◌, List, [], ◌∷◌, length, Bool, true, false, Option, Some, None, refl, arith, sym, true≢false, neg_ℤ, cond}
+use Rattle.std.proofs.Common.{◌≡◌, ℕ, zero, suc, ◌+◌, ◌≤◌, List, [], ◌∷◌, length, Bool, true, false, Option, Some, None, refl, arith, sym}
+use Rattle.std.proofs.Common.{true≢false, neg_ℤ, cond}
 use Rattle.verse_base.specs.declared.places.Place.{Place}
 use Rattle.verse_tree.specs.Tree.{Bytes, Tree, tree, Shape, Trees, no_trees, more_trees, Givens}
 use Rattle.verse_tree.specs.Tree as t
@@ -10,21 +11,21 @@ use Rattle.verse_tree.specs.declared.tables.Ref.TheVariants as ref
 use Rattle.verse_code.specs.declared.operations.Op.TheVariants as o
 use Rattle.verse_value.specs.Val as v
 use Rattle.verse_value.specs.Val.{Val}
-use Rattle.verse_meaning.specs.Programs.{Program, fun_at, fields_of, same_name, pattern_value, ref_at}
+use Rattle.verse_meaning.specs.Programs.{Program, fields_of, same_name, pattern_value, ref_at}
 use Rattle.verse_meaning.specs.Residuals as form
 use Rattle.verse_meaning.specs.Residuals.{Form, Binder, no_name, a_constant, a_variable, Generator, of_elements, of_entries, of_range}
 use Rattle.verse_meaning.specs.Evaluating.{Statement, statement_of, statement_of_shape, plain, defines, defers, generates, Callee, alone}
-use Rattle.verse_meaning.specs.Evaluating.{of_object, of_value, of_quotient, no_callee, builtin, named_callee, member_callee, callee_of, number_of, callee_of_shape, class_ref}
+use Rattle.verse_meaning.specs.Evaluating.{of_object, of_value, of_quotient, no_callee, builtin, named_callee, member_callee, callee_of}
+use Rattle.verse_meaning.specs.Evaluating.{number_of, callee_of_shape, class_ref}
 use Rattle.verse_meaning.specs.Evaluating.{await_name, signal_name, length_name, member_form, spawned_form, spawned_callee, picked}
 use Rattle.lower_code.specs.declared.arounds.Around.{Around}
-use Rattle.lower_code.specs.Pieces.{Maker, one, when, turning, ◌then◌}
+use Rattle.lower_code.specs.Pieces.{Maker, turning}
 use Rattle.lower_code.specs.Scopes.{Scope}
-use Rattle.lower_code.specs.Arounds.{deferring}
 use Rattle.lower_code.specs.Lowering.{by_callee, bind, with_binder, with_generator, taking, scope_stated, scope_behind, how_many}
 use Rattle.lower_code.specs.Lowering.{around_stated, stated, claused, field_op, field_ops, given_local, default_op, any_defer, is_defer}
 use Rattle.lower_code.specs.Lowering.{is_defer_shape, enum_op, enum_pattern, pattern_op, membered, instance_of, arm_by, is_any, arm_of}
 use Rattle.lower_bounds.proofs.Lists.{Each, each_first, each_rest, node, own, on_cond}
-use Rattle.lower_bounds.proofs.Kept.{Kept, IsBare, Placed}
+use Rattle.lower_bounds.proofs.Kept.{Kept}
 use Rattle.lower_bounds.proofs.Leaves.{more, and, get, load, unit, drop, kept_kept, FormFits, NoCall}
 
 module _ {p : Program} {differ : ℕ → ℕ → Bool} {Good : Node → Type 0} {Plain : Around → Type 0} {Q : (k l h n : ℕ) → Maker → Type 0}
@@ -111,7 +112,8 @@ module _ {p : Program} {differ : ℕ → ℕ → Bool} {Good : Node → Type 0} 
       Q k (length sc) h (16 + n + r) (claused p differ s sc whole inner rest)
   unfolding claused
   claused_kept n plain sc f x y z = more q (omega arith) (and q x (and q (drop q) (z sc)))
-  claused_kept n (defines b) sc f x y z = more q (omega arith) (and q y (q.over 0 (bind_kept b f) (and q (drop q) (z (with_binder b sc))) (omega arith)
+  claused_kept n (defines b) sc f x y z = more q (omega arith) (and q y (q.over 0 (bind_kept b f) (and q (drop q) (z (with_binder b sc)))
+      (omega arith)
       (omega (arith, binder_grows b sc))))
   claused_kept n (defers d) sc f x y z = more q (omega arith) q.stuck
   claused_kept n (generates g) sc f x y z = more q (omega arith) (and q y (taking_kept g sc (z (with_generator g sc))))
@@ -148,7 +150,8 @@ module _ {p : Program} {differ : ℕ → ℕ → Bool} {Good : Node → Type 0} 
   arm_of_kept (tree i pl s) x last g y z = arm_by_kept i pl s x last (is_any p differ s) (own Good i pl s g) y z
 
   -- the fields of an instance
-  pub field_op_kept : {k l h : ℕ} (x : Option ℕ) (d : Option Tree) (f : ℕ) → Q k l h 1 (default_op p differ d f) → Q k l h 1 (field_op p differ x d f)
+  pub field_op_kept : {k l h : ℕ} (x : Option ℕ) (d : Option Tree) (f : ℕ) → Q k l h 1 (default_op p differ d f) → Q k l h 1
+      (field_op p differ x d f)
   field_op_kept None d f y = y
   field_op_kept (Some x) d f y = get q x
 
@@ -158,12 +161,14 @@ module _ {p : Program} {differ : ℕ → ℕ → Bool} {Good : Node → Type 0} 
   field_ops_kept (f ∷ fs) gs x y = more q (omega arith) (and q (field_op_kept (given_local f.name gs x) f.default f.number (y.0 _ _ _))
       (field_ops_kept fs gs x y.1))
 
-  pub instance_kept : {k l h m : ℕ} {given : Maker} (i n : ℕ) (c : Option ℕ) (pl : Place) (gs : Givens) (x : ℕ) → c ≡ class_ref p (ref_at p i) →
+  pub instance_kept : {k l h m : ℕ} {given : Maker} (i n : ℕ) (c : Option ℕ) (pl : Place) (gs : Givens) (x : ℕ) → c ≡ class_ref p
+      (ref_at p i) →
       ((c : ℕ) → class_ref p (ref_at p i) ≡ Some c → length (fields_of p c) ≤ n) → Site pl → Q k l h m given →
       Q k l h (2 + n + m) (instance_of p differ c pl gs x given)
   unfolding instance_of
   instance_kept i n None pl gs x e few s y = more q (omega arith) q.stuck
-  instance_kept i n (Some c) pl gs x e few s y = more q (omega (arith, few c (sym e))) (and q y (and q (field_ops_kept (fields_of p c) gs x (q.defaults c))
+  instance_kept i n (Some c) pl gs x e few s y = more q (omega (arith, few c (sym e)))
+      (and q y (and q (field_ops_kept (fields_of p c) gs x (q.defaults c))
       (q.object i c pl (sym e) s)))
 
   pub membered_kept : {k l h n : ℕ} {f : Maker} (w : Option Val) → Q k l h n f → Q k l h (suc n) (membered p differ w f)
@@ -185,7 +190,8 @@ module _ {p : Program} {differ : ℕ → ℕ → Bool} {Good : Node → Type 0} 
   builtin_fits (suc (suc zero)) pl s = (s, tt)
   builtin_fits (suc (suc (suc n))) pl s = tt
 
-  named_fits : (r : Option Ref) (whole : Form) (pl : Place) → Site pl → FormFits q whole × NoCall q whole → CalleeFits (named_callee r whole pl)
+  named_fits : (r : Option Ref) (whole : Form) (pl : Place) → Site pl → FormFits q whole × NoCall q whole → CalleeFits
+      (named_callee r whole pl)
   named_fits (Some (ref.Fun f)) whole pl s w = tt
   named_fits (Some (ref.Method c m)) whole pl s w = tt
   named_fits (Some (ref.Builtin b)) whole pl s w = builtin_fits b pl s
@@ -195,7 +201,8 @@ module _ {p : Program} {differ : ℕ → ℕ → Bool} {Good : Node → Type 0} 
       CalleeFits (member_callee r of_event x whole)
   member_fits (Some (ref.Method c m)) b x whole w = (tt, tt)
   member_fits (Some r) b x whole w = w
-  member_fits None b x whole w = on_cond CalleeFits (same_name x await_name) (tt, tt) (on_cond CalleeFits (same_name x signal_name) (tt, tt) w)
+  member_fits None b x whole w = on_cond CalleeFits (same_name x await_name) (tt, tt)
+      (on_cond CalleeFits (same_name x signal_name) (tt, tt) w)
 
   shape_callee_fits : (n : ℕ) (b : Shape) (whole : Form) (pl : Place) → Site pl → FormFits q whole × NoCall q whole →
       CalleeFits (callee_of_shape p n b whole pl)
@@ -203,7 +210,8 @@ module _ {p : Program} {differ : ℕ → ℕ → Bool} {Good : Node → Type 0} 
   shape_callee_fits n (t.Shape.member b x) whole pl s w = member_fits (ref_at p n) (p.is_event (number_of b)) x whole w
   shape_callee_fits n b whole pl s w = w
 
-  pub callee_fits : (b : Tree) (whole : Form) (pl : Place) → Site pl → FormFits q whole × NoCall q whole → CalleeFits (callee_of p b whole pl)
+  pub callee_fits : (b : Tree) (whole : Form) (pl : Place) → Site pl → FormFits q whole × NoCall q whole → CalleeFits
+      (callee_of p b whole pl)
   callee_fits (tree n i b) whole pl s w = shape_callee_fits n b whole pl s w
 
   spawned_fits : (f : Form) → FormFits q f → FormFits q (spawned_form f)
@@ -230,8 +238,10 @@ module _ {p : Program} {differ : ℕ → ℕ → Bool} {Good : Node → Type 0} 
   member_form_fits r x = on_cond (λ f. FormFits q f × NoCall q f) (same_name x length_name) (tt, tt) (tt, tt)
 
   pub called_kept : {k l h : ℕ} (n : ℕ) {on_alone on_object on_value on_quotient : Form → Maker} (c : Callee) → CalleeFits c →
-      ((f : Form) → FormFits q f → Q k l h (suc n) (on_alone f)) → ((f : Form) → FormFits q f → NoCall q f → Q k l h (suc n) (on_object f)) →
-      ((f : Form) → FormFits q f → NoCall q f → Q k l h (suc n) (on_value f)) → ((f : Form) → FormFits q f → NoCall q f → Q k l h (suc n) (on_quotient f)) →
+      ((f : Form) → FormFits q f → Q k l h (suc n) (on_alone f)) → ((f : Form) → FormFits q f → NoCall q f → Q k l h (suc n)
+      (on_object f)) →
+      ((f : Form) → FormFits q f → NoCall q f → Q k l h (suc n) (on_value f)) →
+      ((f : Form) → FormFits q f → NoCall q f → Q k l h (suc n) (on_quotient f)) →
       Q k l h (suc n) (by_callee c on_alone on_object on_value on_quotient)
   unfolding by_callee
   called_kept n (alone f) s w x y z = w f s
@@ -255,5 +265,6 @@ module _ {p : Program} {differ : ℕ → ℕ → Bool} {Good : Node → Type 0} 
 
   pub any_defers : (cs : Trees) → Each Good (trees_order cs) → any_defer cs ≡ true → Defers
   any_defers no_trees g e = elim (true≢false (sym e)) [ ]
-  any_defers (more_trees b cs) g e = either_defers (is_defer b) (any_defer cs) (tree_defers b (each_first Good (post_order b) (trees_order cs) g))
+  any_defers (more_trees b cs) g e = either_defers (is_defer b) (any_defer cs)
+      (tree_defers b (each_first Good (post_order b) (trees_order cs) g))
       (any_defers cs (each_rest Good (post_order b) (trees_order cs) g)) e

@@ -1,25 +1,29 @@
 -- What the code names by number is there: functions that are called, defaults of fields, classes of instances.
-use Rattle.std.proofs.Common.{◌≡◌, ℕ, zero, suc, ◌+◌, ◌<◌, ◌≤◌, ◌==◌, ◌⊎◌, List, [], ◌∷◌, ◌++◌, length, Bool, true, false, cond, Option, Some, None, refl, sym, ap, ◌∙◌}
-use Rattle.std.proofs.Common.{arith, slice_get, length-append, inl, inr, true≢false, eq-eqb, subst}
+use Rattle.std.proofs.Common.{◌≡◌, ℕ, zero, suc, ◌+◌, ◌<◌, ◌==◌, ◌⊎◌, List, [], ◌∷◌, ◌++◌, length, Bool, true, false, cond, Option, Some}
+use Rattle.std.proofs.Common.{None, refl, sym, ap}
+use Rattle.std.proofs.Common.{arith, slice_get, inl, inr, true≢false, eq-eqb}
 use Rattle.std.proofs.lemmas.Option.{slice_get_within, none-some}
 use Rattle.verse_tree.specs.Tree.{Bytes, Tree}
-use Rattle.verse_tree.specs.ItemTree.{FieldTree, FunTree, MemberTree, field, method, ClassTree, ItemTree, using, enumeration, class, function}
+use Rattle.verse_tree.specs.ItemTree.{FieldTree, ClassTree, ItemTree, using, enumeration, class, function}
 use Rattle.verse_tree.specs.declared.tables.FunInfo.{FunInfo}
 use Rattle.verse_tree.specs.declared.tables.Ref.{Ref}
 use Rattle.verse_tree.specs.declared.tables.Ref.TheVariants as ref
 use Rattle.verse_meaning_state.specs.Waits.{nth}
-use Rattle.verse_meaning.specs.Programs.{Program, fun_of_info, fun_at, classes, own_fields, fields_from, fields_of, parent_of, class_named, same_name}
+use Rattle.verse_meaning.specs.Programs.{Program, fun_of_info, fun_at, classes, own_fields, fields_from, fields_of, parent_of}
+use Rattle.verse_meaning.specs.Programs.{class_named, same_name}
 use Rattle.verse_meaning.specs.Evaluating.{class_ref}
 use Rattle.lower_code.specs.Defaults.{with_default, with_defaults, defaults_in, field_place, default_number}
 use Rattle.lower_code.specs.Lowering.{takes_params}
 use Rattle.lower_bounds.proofs.Lists.{Each, each_joined}
 
 -- a function that takes arguments is one of the table
-called_is : (p : Program) (differ : ℕ → ℕ → Bool) (i : Option FunInfo) (n : ℕ) → takes_params p differ (fun_of_info p.items i) n ≡ true → (x : FunInfo) × (i ≡ Some x)
+called_is : (p : Program) (differ : ℕ → ℕ → Bool) (i : Option FunInfo) (n : ℕ) → takes_params p differ (fun_of_info p.items i) n ≡ true →
+    (x : FunInfo) × (i ≡ Some x)
 called_is p differ None n e = elim (true≢false (sym e)) [ ]
 called_is p differ (Some x) n e = (x, refl)
 
-pub called_within : (p : Program) (differ : ℕ → ℕ → Bool) (f n : ℕ) → takes_params p differ (fun_at p f) n ≡ true → f < length p.names.funs
+pub called_within : (p : Program) (differ : ℕ → ℕ → Bool) (f n : ℕ) → takes_params p differ (fun_at p f) n ≡ true →
+    f < length p.names.funs
 called_within p differ f n e =
     let x = called_is p differ (slice_get p.names.funs f) n e in
     slice_get_within p.names.funs f x.0 x.1
@@ -47,7 +51,8 @@ cond_below false m n end g h = h
 pub place_within : (x : ℕ) (fs : List FieldTree) (n : ℕ) → Numbered x fs → field_place x fs n < n + length fs
 place_within x [] n h = elim h [ ]
 place_within x (f ∷ fs) n (inl e) = omega (arith, placed_from x f fs n e)
-place_within x (f ∷ fs) n (inr h) = cond_below (x == f.number) n (field_place x fs (suc n)) (n + length (f ∷ fs)) (omega arith) (omega (arith, place_within x fs (suc n) h))
+place_within x (f ∷ fs) n (inr h) = cond_below (x == f.number) n (field_place x fs (suc n)) (n + length (f ∷ fs)) (omega arith)
+    (omega (arith, place_within x fs (suc n) h))
 
 numbered_first : (x : ℕ) (fs gs : List FieldTree) → Numbered x fs → Numbered x (fs ++ gs)
 numbered_first x [] gs h = elim h [ ]
@@ -76,7 +81,8 @@ own_among ds (f ∷ fs) into = (
 abbrev OwnAmong : List FieldTree → ClassTree → Type 0
 OwnAmong ds c = Each (IsAmong ds) (own_fields c.members)
 
-classes_among : (ds : List FieldTree) (is : List ItemTree) → ((x : ℕ) → Numbered x (defaults_in is) → Numbered x ds) → Each (OwnAmong ds) (classes is)
+classes_among : (ds : List FieldTree) (is : List ItemTree) → ((x : ℕ) → Numbered x (defaults_in is) → Numbered x ds) → Each (OwnAmong ds)
+    (classes is)
 classes_among ds [] into = tt
 classes_among ds (using u ∷ is) into = classes_among ds is into
 classes_among ds (enumeration e ∷ is) into = classes_among ds is into
@@ -108,7 +114,8 @@ parent_there : (P : ClassTree → Type 0) (cs : List ClassTree) (x : Option Byte
 parent_there P cs None h = tt
 parent_there P cs (Some x) h = named_there P x cs h
 
-fields_among : (ds : List FieldTree) (n : ℕ) (cs : List ClassTree) (c : Option ClassTree) → Each (OwnAmong ds) cs → IfThere (OwnAmong ds) c →
+fields_among : (ds : List FieldTree) (n : ℕ) (cs : List ClassTree) (c : Option ClassTree) → Each (OwnAmong ds) cs → IfThere
+    (OwnAmong ds) c →
     Each (IsAmong ds) (fields_from n cs c)
 fields_among ds n cs None h k = tt
 fields_among ds zero cs (Some c) h k = k
@@ -122,5 +129,6 @@ fields_have p c =
     fields_among (defaults_in p.items) (length (classes p.items)) (classes p.items) (nth (classes p.items) c) h
     (nth_there (OwnAmong (defaults_in p.items)) (classes p.items) c h)
 
-pub default_within : (p : Program) (x : ℕ) → Numbered x (defaults_in p.items) → default_number p x < length p.names.funs + length (defaults_in p.items)
+pub default_within : (p : Program) (x : ℕ) → Numbered x (defaults_in p.items) → default_number p x < length p.names.funs + length
+    (defaults_in p.items)
 default_within p x h = place_within x (defaults_in p.items) (length p.names.funs) h

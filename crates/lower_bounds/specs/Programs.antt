@@ -1,11 +1,12 @@
--- What a program has whose code is small and valid: it speaks of the program's nodes and tables alone.
+-- What a program has whose code is small and valid: it speaks of the program's nodes and tables
+-- alone.
 use Rattle.std.specs.Prelude.{◌≡◌, ℕ, ◌+◌, ◌*◌, ◌<◌, ◌≤◌, length, slice_get, Some, All}
 use Rattle.verse_base.specs.declared.limits.TheConstants.{MOST_OPERATIONS}
 use Rattle.verse_tree.specs.Tree.{Shape, Holes, no_holes, more_holes}
 use Rattle.verse_tree.specs.Tree as t
 use Rattle.verse_tree.specs.ItemTree.{FunTree}
 use Rattle.verse_tree.specs.Numbering.{program_nodes}
-use Rattle.verse_tree.specs.PostOrder.{Node, What, program, item, member, parameter, type_name, expression, items_order}
+use Rattle.verse_tree.specs.PostOrder.{Node, What, expression, items_order}
 use Rattle.verse_tree.specs.Sizes.{class_fields, items_fields}
 use Rattle.verse_tree.specs.declared.tables.ClassInfo.{ClassInfo}
 use Rattle.verse_tree.specs.declared.tables.Ref.TheVariants as ref
@@ -63,8 +64,9 @@ pub record TablesAgree (p : Program) : Type 0 where
 abbrev pub HasMain : Program → Type 0
 HasMain p = (f : FunTree) × (main_in p.items ≡ Some f) × (length f.params ≤ 1)
 
+-- a program of so many files whose code is valid
 pub record CanBeLowered (p : Program) (files : ℕ) : Type 0 where
-  pub some : (1 ≤ files) × (files ≤ MOST_FILES)
+  pub count : (1 ≤ files) × (files ≤ MOST_FILES)
   pub size : size_of p ≤ MOST_OPERATIONS
   pub nodes : All (NodeFits files) (items_order p.items)
   pub tables : TablesAgree p

@@ -1,5 +1,5 @@
-//! Laws of the code that lowering makes: it is small, it is valid, and what it has of `defer` and of
-//! files. Read the definitions in this order: `Programs`, what is asked of a program; `Laws`.
+//! Laws of the code that lowering makes: it is small, it is valid, and what it has of `defer` and
+//! of files. Read the definitions in this order: `Programs`, what is asked of a program; `Laws`.
 //!
 //! In `proofs/`, `Kept` has what a property of stretches of code must keep, and `Forms` shows once,
 //! one clause a form, that the code of each form then has it. `Sizes`, `Operands` with `Validity`,
