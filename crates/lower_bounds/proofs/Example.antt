@@ -1,5 +1,5 @@
 -- A program that can be lowered: what is asked of programs can be met.
-use Rattle.std.proofs.Common.{◌≡◌, ℕ, zero, suc, ◌<◌, [], ◌∷◌, length, Option, None, Some, false, refl, ap, arith}
+use Rattle.std.proofs.Common.{◌≡◌, ℕ, zero, suc, ◌<◌, [], ◌∷◌, Option, None, Some, false, refl, ap, arith}
 use Rattle.std.specs.Prelude.{pos, codes}
 use Rattle.std.proofs.lemmas.Option.{none-some}
 use Rattle.verse_base.specs.declared.places.Place.{Place}

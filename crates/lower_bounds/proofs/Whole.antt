@@ -26,7 +26,7 @@ use Rattle.lower_code.specs.Programs.{bodies_from, func_of}
 use Rattle.lower_code.specs.Programs.{funcs_from, whole, code_of}
 use Rattle.lower_code.proofs.Standing.{behind_more, behind_least}
 use Rattle.lower_bounds.specs.Programs.{size_of, FieldsAgree, NodeFits, MethodsFit, CanBeLowered}
-use Rattle.lower_bounds.specs.Laws.{IsWithin, CodeIsSmall, CodeIsValid}
+use Rattle.lower_bounds.specs.Laws.{IsWithin, SizeStands, CodeIsSmall, CodeIsValid}
 use Rattle.lower_bounds.proofs.Lists.{Each, each_of, each_joined}
 use Rattle.lower_bounds.proofs.Costs.{weight, cost_is}
 use Rattle.lower_bounds.proofs.Forms.{piece_kept, cost_some}
@@ -82,6 +82,9 @@ module _ (p : Program) (differ : ℕ → ℕ → Bool) where
       places = omega (arith, all_small.places first_spot, all_cost (fields_at p.names) p.items);
       texts = omega (arith, all_small.texts first_spot, all_cost (fields_at p.names) p.items);
     }
+
+pub size_stands : SizeStands
+size_stands made = refl
 
 pub code_is_small : CodeIsSmall
 code_is_small p differ files agree = code_small p differ agree files

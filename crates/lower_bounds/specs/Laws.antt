@@ -2,14 +2,20 @@
 use Rattle.std.specs.Prelude.{◌≡◌, ℕ, ◌<◌, ◌≤◌, Bool, length, slice_get, Some, All}
 use Rattle.verse_tree.specs.Tree.{Shape}
 use Rattle.verse_tree.specs.Tree as t
+use Rattle.verse_tree.specs.Sizes as sizes
+use Rattle.verse_tree.specs.declared.programs.Program.{Program as Made}
 use Rattle.verse_tree.specs.PostOrder.{Node, expression, items_order}
 use Rattle.verse_code.specs.declared.codes.Code.{Code}
 use Rattle.verse_code.specs.declared.operations.Op.{Op}
 use Rattle.verse_code.specs.Operations as operations
 use Rattle.verse_code.specs.Validity.{Valid}
-use Rattle.verse_meaning.specs.Programs.{Program}
+use Rattle.verse_meaning.specs.Programs.{Program, program_of}
 use Rattle.lower_code.specs.Programs.{code_of}
 use Rattle.lower_bounds.specs.Programs.{size_of, FieldsAgree, CanBeLowered}
+
+-- the size that a program is measured by is the size that the checker measures
+abbrev pub SizeStands : Type 0
+SizeStands = (made : Made) → size_of (program_of made) ≡ sizes.size_of made
 
 -- neither its operations nor its tables of places and texts are more
 pub record IsWithin (size : ℕ) (code : Code) : Type 0 where

@@ -6,7 +6,18 @@
 //! and `Defers` are such properties; `Bodies` and `Whole` go from forms to programs.
 #![tactic(auto)]
 
-ghost use Rattle.lower_bounds.specs.Laws.{CodeIsSmall, CodeIsValid, DefersShow, FilesStand};
+ghost use Rattle.lower_bounds.specs.Laws.{
+  CodeIsSmall,
+  CodeIsValid,
+  DefersShow,
+  FilesStand,
+  SizeStands,
+};
+
+/// The size of a program in these laws is the size that `verse_tree` counts.
+pub fn size_stands()
+    ensures { SizeStands }
+{}
 
 /// The code of a program has no more operations, places and texts than the program's size.
 pub fn code_is_small()
