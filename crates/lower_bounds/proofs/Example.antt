@@ -95,13 +95,31 @@ pub can_be_lowered : CanBeLowered small_program 1
 can_be_lowered = record {
   count = (omega arith, omega arith);
   size = omega arith;
-  nodes = each_all (NodeFits 1) (items_order small_program.items)
-      (record { place = place_fits 1 12; what = tt }, (record { place = place_fits 1 4; what = tt }, (record { place = place_fits 0 0; what = tt }, (record { place = place_fits 3 4; what = tt }, (record { place = place_fits 3 4; what = tt }, (record { place = place_fits 2 0; what = tt }, tt))))));
+  nodes = each_all (NodeFits 1) (items_order small_program.items) (
+    record { place = place_fits 1 12; what = tt },
+    (
+      record { place = place_fits 1 4; what = tt },
+      (
+        record { place = place_fits 0 0; what = tt },
+        (
+          record { place = place_fits 3 4; what = tt },
+          (
+            record { place = place_fits 3 4; what = tt },
+            (
+              record { place = place_fits 2 0; what = tt },
+              tt,
+            ),
+          ),
+        ),
+      ),
+    ),
+  );
   tables = record {
     functions = refl;
     classes = refl;
     fields = fields_agree;
-    methods = each_all (MethodsFit 1) small_program.names.classes (record { count = omega arith; methods = each_all (λ f. f < 1) [] tt }, tt);
+    methods = each_all (MethodsFit 1) small_program.names.classes
+        (record { count = omega arith; methods = each_all (λ f. f < 1) [] tt }, tt);
     refs = refs_within;
   };
   main = (_, refl, omega arith);
