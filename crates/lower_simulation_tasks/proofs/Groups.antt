@@ -48,7 +48,8 @@ use Rattle.verse_code_machine.specs.Acts.{groups}
 use Rattle.lower_simulation_tasks.proofs.Roles.{part_goes}
 use Rattle.lower_simulation_tasks.proofs.Scopes.{beside_acc}
 
--- Arms on both sides: an arm has given a value, or it is the task of a number with all that it encloses. The numbers fall, from below hi down to lo.
+-- Arms on both sides: an arm has given a value, or it is the task of a number with all that it encloses. The numbers fall, from below hi down
+-- to lo.
 pub data Legs (P : ScopeStands) (z : Setting) (a : Who) (lo m : ℕ) : ℕ → Arms → List Part → List Task → Type 0 where
   no_leg : {hi : ℕ} → lo ≤ hi → Legs P z a lo m hi no_arms [] []
   gave_leg : {hi : ℕ} {gs : Arms} {ps : List Part} {ts : List Task} (v : Val) → Legs P z a lo m hi gs ps ts →
@@ -675,7 +676,9 @@ module _ (z : Setting) (c : Ctx) (kind : Kind) (pl : Place) (p : ℕ) (st ls : L
       w.state.clock.left ≤ n → w.state.clock.left ≤ M → Apart c.who.path (world_of pre post up rs q) →
       Goes z j n c (world_of pre post up rs q) w.behind w.tasks (on p st) g (settled z.program (deeper z.program M) kind pl c.env gs w) →
       Ends z (grouped kind pl ps mine (world (onto ts pre) post up rs) w.state (λ y. rested (y ∷ onto ts pre) post up rs w.state)) g
-  settled_here j M n pre post up rs g gs w ps ts lo lg tl tn tM far k = settled_goes z c pl p st ls q hi0 lq lb fr ag kind j n M pre post up rs g gs w ps ts lo lg tl tn tM far (λ y. rested (y ∷ onto ts pre) post up rs w.state)
+  settled_here j M n pre post up rs g gs w ps ts lo lg tl tn tM far k =
+      settled_goes z c pl p st ls q hi0 lq lb fr ag kind j n M pre post up rs g gs w ps ts lo lg tl tn tM far
+      (λ y. rested (y ∷ onto ts pre) post up rs w.state)
       (λ un k. rests_goes j (group_parked j) n pre post up rs g gs w ps ts lo lg tl tn far un k) k
 
   -- the group's kind says whether arms are begun behind one that has given a value
@@ -747,7 +750,8 @@ module _ (z : Setting) (c : Ctx) (kind : Kind) (pl : Place) (p : ℕ) (st ls : L
 
   starts_goes : (j M : ℕ) (as1 : tree.Trees) (es : List ℕ) → ArmsLead as1 es → Starts j M as1 es
   unfolding begins_scope
-  starts_goes j M tree.no_trees [] al n pre post up rs g gs w ps ts lo lg tl tn tM far h = settled_here j M n pre post up rs g gs w ps ts lo lg tl tn tM far h
+  starts_goes j M tree.no_trees [] al n pre post up rs g gs w ps ts lo lg tl tn tM far h =
+      settled_here j M n pre post up rs g gs w ps ts lo lg tl tn tM far h
   starts_goes j M tree.no_trees (l ∷ es) al n pre post up rs g gs w ps ts lo lg tl tn tM far h = absurd al
   starts_goes j M (tree.more_trees a as1) [] al n pre post up rs g gs w ps ts lo lg tl tn tM far h = absurd al
   starts_goes j M (tree.more_trees a as1) (l ∷ es) al n pre post up rs g gs w ps ts lo lg tl tn tM far h =

@@ -230,8 +230,8 @@ NoReturn part = Unit {0}
 NoReturn body = ⊥
 NoReturn (root e) = ⊥
 
--- A scope whole, in the first frame of a task or in the frame of a call; the task is w, the frame's number g. `after` is what the machine keeps
--- of what follows its end, `leave` what it does then, `Kept` what is known of the scope asleep.
+-- A scope whole, in the first frame of a task or in the frame of a call; the task is w, the frame's number g.
+-- `after` is what the machine keeps of what follows its end, `leave` what it does then, `Kept` what is known of the scope asleep.
 module _ (z : Setting) (w : Who) (g Q : ℕ) (lq : g ≤ Q) (e0 : Env) (ss : Held) (bl : List Frame) (q : Role) (F : Type 0)
     (after : Val → After) (leave : Val → World → State → Step) (Kept : ℕ → ℕ → ℕ → Scope → List Task → Type 0) (Lost : ℕ → World → Goal →
     State → Type 0) (a : ℕ)
