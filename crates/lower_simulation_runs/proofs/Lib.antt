@@ -8,4 +8,6 @@ pub mod Standings
 pub mod Placing
 pub mod Numbering
 pub mod Bodies
+pub mod Fitting
+pub mod Forms
 pub mod Programs
