@@ -21,8 +21,10 @@ use Rattle.lower_simulation_runs.proofs.Entering.{BodyLeads}
 use Rattle.lower_simulation_runs.proofs.Starting.{runs_alike, runs_same}
 use Rattle.lower_simulation_runs.proofs.Binding.{call_bound, can_bind, params_many}
 use Rattle.lower_simulation_runs.proofs.Standings.{setting}
-use Rattle.lower_simulation_runs.proofs.Placing.{bodies, all_stand, names_of}
+use Rattle.lower_simulation_runs.proofs.Placing.{FunctionsPlaced, AllStand, bodies, tables_hold, all_stand, names_of}
 use Rattle.lower_simulation_runs.proofs.Numbering.{TablesAgree, functions_placed}
+use Rattle.lower_simulation_runs.proofs.Fitting.{Fit}
+use Rattle.lower_simulation_runs.proofs.Forms.{forms_lead}
 use Rattle.lower_simulation_runs.proofs.Bodies.{FormsLead, claims, body_leads}
 
 -- Main is there, and takes no argument or the inputs
@@ -41,11 +43,19 @@ inputs_many : (xs : List ParamTree) (ns : List ℤ) → length xs ≤ 1 → leng
 inputs_many [] ns h = refl
 inputs_many (x ∷ xs) ns h = omega (arith, h)
 
-module _ (p : Program) (differ : ℕ → ℕ → Bool) (files steps until : ℕ) (agree : TablesAgree p) (main : HasMain p) (Fit : Tree → Type 0)
-    (fit : Every (λ (b : Body). Fit b.body) (bodies p)) (forms : FormsLead (setting p differ files steps until) differ Fit)
-    (ends : RunsEnd) (valid : Valid (code_of p differ files)) (ns : List ℤ) where
+module _ (p : Program) (differ : ℕ → ℕ → Bool) (files steps until : ℕ) (agree : TablesAgree p) (main : HasMain p)
+    (fit : Every (λ (b : Body). Fit p b.body) (bodies p)) (ends : RunsEnd) (valid : Valid (code_of p differ files)) (ns : List ℤ) where
   abbrev z : Setting
   z = setting p differ files steps until
+
+  placed : FunctionsPlaced p
+  placed = functions_placed p agree
+
+  stand : AllStand z differ (Fit p)
+  stand = all_stand p differ files steps until placed (Fit p) fit
+
+  forms : FormsLead z differ (Fit p)
+  forms = forms_lead z differ (tables_hold p differ files steps until placed)
 
   -- what is known of Main, with its inputs
   record Begins : Type 0 where
@@ -58,9 +68,8 @@ module _ (p : Program) (differ : ℕ → ℕ → Bool) (files steps until : ℕ)
 
   begins : Begins
   begins =
-      let st = all_stand p differ files steps until (functions_placed p agree) Fit fit in
       let fn : FunTree = main.function in
-      let m = st.main fn main.is in
+      let m = stand.main fn main.is in
       let vs : List Val = meaning.inputs_of fn.params ns in
       let many : length vs ≡ length fn.params = inputs_many fn.params ns main.few in
       let e = can_bind fn.params vs [] many in
@@ -73,7 +82,7 @@ module _ (p : Program) (differ : ℕ → ℕ → Bool) (files steps until : ℕ)
         inputs = same_inputs fn.params m.0.params ns (omega (arith, pm, pa));
         bound = e.1;
         body = body_leads z differ steps fn.body m.0 (names_of fn None) e.0 vs
-            (λ t le. forms t (claims z differ Fit forms st t) fn.body m.3) m.2 (call_bound None fn.params vs e.0 m.0 e.1)
+            (λ t le. forms t (claims z differ (Fit p) forms stand t) fn.body m.3) m.2 (call_bound None fn.params vs e.0 m.0 e.1)
             (omega (arith, many, pm, pa));
       }
 
