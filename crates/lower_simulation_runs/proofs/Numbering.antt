@@ -1,6 +1,7 @@
 -- The numbers of functions, methods and defaults, from those of their nodes.
-use Rattle.std.proofs.Common.{◌≡◌, ℕ, zero, suc, List, [], ◌∷◌, ◌++◌, length, map, Option, Some, None, Bool, true, false, cond, refl}
+use Rattle.std.proofs.Common.{◌≡◌, ℕ, zero, suc, ◌<◌, List, [], ◌∷◌, ◌++◌, length, map, Option, Some, None, Bool, true, false, cond, refl}
 use Rattle.std.proofs.Common.{sym, ap, ◌∙◌, subst, append_assoc}
+use Rattle.std.proofs.Common.{arith}
 use Rattle.std.specs.Prelude.{slice_get, ◌==◌}
 use Rattle.std.proofs.lemmas.Bool.{eq-eqb, eqb-true}
 use Rattle.std.proofs.lemmas.List.{length-map}
@@ -8,7 +9,9 @@ use Rattle.verse_tree.specs.Tree.{Bytes, Tree}
 use Rattle.verse_tree.specs.ItemTree.{FieldTree, FunTree, MemberTree, field, method, ClassTree, ItemTree, using, enumeration, class}
 use Rattle.verse_tree.specs.ItemTree.{function}
 use Rattle.verse_tree.specs.declared.tables.FunInfo.{FunInfo}
+use Rattle.verse_tree.specs.declared.tables.ClassInfo.{ClassInfo}
 use Rattle.verse_tree.specs.declared.tables.Ref.TheVariants as ref
+use Rattle.verse_tree.specs.Sizes.{class_fields}
 use Rattle.verse_meaning_state.specs.Waits.{nth}
 use Rattle.verse_meaning.specs.Programs.{Program, ref_at, fun_at, fun_of_info, fun_numbered, method_numbered, method_at, or_else}
 use Rattle.verse_meaning.specs.Programs.{fields_of}
@@ -18,6 +21,7 @@ use Rattle.verse_meaning.specs.Forms.{this_name}
 use Rattle.lower_code.specs.Scopes.{constant_at}
 use Rattle.lower_code.specs.Defaults.{with_default, with_defaults, defaults_in, field_place}
 use Rattle.lower_code.specs.Programs.{Body, body_of, methods_in, bodies_in, default_body, default_bodies}
+use Rattle.lower_bounds.specs.Programs.{TablesAgree}
 use Rattle.lower_simulation_values.proofs.Tables.{Every}
 use Rattle.lower_simulation_runs.proofs.Placing.{FunctionsPlaced, ClassPlaced, DefaultPlaced, default_of, bodies, same_some, at_behind}
 
@@ -59,7 +63,7 @@ abbrev pub field_number : FieldTree → ℕ
 field_number f = f.number
 
 -- the tables of a program number the functions and methods of its items in their order
-pub record TablesAgree (p : Program) : Type 0 where
+pub record NumbersAgree (p : Program) : Type 0 where
   -- the f-th function or method has the node that entry f of the table names
   pub numbers : map (λ (f : FunInfo). f.item) p.names.funs ≡ map number_in (defined_in p.items)
   pub distinct : Distinct (map number_in (defined_in p.items))
@@ -67,8 +71,6 @@ pub record TablesAgree (p : Program) : Type 0 where
   pub functions : (n f : ℕ) → ref_at p n ≡ Some (ref.Fun f) → (fn : FunTree) × (slice_get (defined_in p.items) f ≡ Some (a_function fn))
   -- the methods of a class are methods
   pub methods : (c m f : ℕ) → method_at p c m ≡ Some f → (fn : FunTree) × (slice_get (defined_in p.items) f ≡ Some (a_method fn))
-  -- what a name stands for as a class has an entry, with as many fields as the class
-  pub classes : (n c : ℕ) → ref_at p n ≡ Some (ref.Class c) → ClassPlaced p c
   -- the fields with defaults have nodes of their own
   pub fields : Distinct (map field_number (defaults_in p.items))
 
@@ -306,7 +308,17 @@ from_covered all cs (suc n) (Some c) h k = every_both (Covered all) (fields_from
 
 -- ---- all of them
 
-module _ (p : Program) (made : TablesAgree p) where
+class_placed : (p : Program) (c : ℕ) (r : Option ClassInfo) → slice_get p.names.classes c ≡ r → class_fields r ≡ length (fields_of p c) →
+    c < length p.names.classes → ClassPlaced p c
+class_placed p c None e h lt = absurd (none_there p.names.classes c lt e)
+  where
+    none_there : (xs : List ClassInfo) (c : ℕ) → c < length xs → slice_get xs c ≡ None → ⊥
+    none_there [] c lt e = absurd (omega (arith, lt))
+    none_there (x ∷ xs) zero lt e = cc
+    none_there (x ∷ xs) (suc c) lt e = none_there xs c (omega (arith, lt)) e
+class_placed p c (Some k) e h lt = record { info = k; is = e; many = h }
+
+module _ (p : Program) (tables : TablesAgree p) (made : NumbersAgree p) where
   many_functions : length p.names.funs ≡ length (bodies_in p.items)
   many_functions = sym (length-map p.names.funs (λ (f : FunInfo). f.item)) ∙ ap (λ ns. length ns) made.numbers ∙
       length-map (defined_in p.items) number_in ∙ sym (length-map (defined_in p.items) body_in) ∙
@@ -340,7 +352,7 @@ module _ (p : Program) (made : TablesAgree p) where
         ap (λ (fn : FunTree). Some (body_of [] fn)) (same_some (sym (found f (a_function r.0) r.1) ∙ e));
     methods = λ c m f h. let r = made.methods c m f h in
         record { function = r.0; is = found f (a_method r.0) r.1; placed = placed f (a_method r.0) r.1 };
-    classes = made.classes;
+    classes = λ n c h. class_placed p c (slice_get p.names.classes c) refl (tables.fields c) (tables.refs n c h);
     defaults = λ n c h. every_placed (fields_of p c) (from_covered (defaults_in p.items) (programs.classes p.items)
         (length (programs.classes p.items)) (nth (programs.classes p.items) c) (classes_covered p.items)
         (nth_covered (defaults_in p.items) (programs.classes p.items) c (classes_covered p.items)));

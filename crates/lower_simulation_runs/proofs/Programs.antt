@@ -1,7 +1,8 @@
 -- A whole program: its run is seen alike in its meaning and in its code.
 use Rattle.std.proofs.Common.{◌≡◌, ℕ, zero, suc, ◌≤◌, List, [], ◌∷◌, length, Some, None, Bool, refl, arith}
-use Rattle.std.specs.Prelude.{ℤ, slice_get}
+use Rattle.std.specs.Prelude.{ℤ, slice_get, All}
 use Rattle.verse_tree.specs.Tree.{Tree}
+use Rattle.verse_tree.specs.PostOrder.{items_order}
 use Rattle.verse_tree.specs.ItemTree.{FunTree, ParamTree}
 use Rattle.verse_code.specs.declared.codes.Func.{Func}
 use Rattle.verse_code.specs.Validity.{Valid}
@@ -15,6 +16,9 @@ use Rattle.verse_code_machine.specs.Runs.{mach_after, mach}
 use Rattle.verse_code_machine.specs.Runs as machine
 use Rattle.verse_code_machine.specs.Laws.{RunsEnd}
 use Rattle.lower_code.specs.Programs.{Body, code_of}
+use Rattle.lower_bounds.specs.Programs.{HasMain, CanBeLowered}
+use Rattle.lower_bounds.specs.Laws.{CodeIsValid}
+use Rattle.lower_bounds.proofs.Bodies.{all_each}
 use Rattle.lower_simulation.proofs.Claims.{Setting, seen_of}
 use Rattle.lower_simulation_values.proofs.Tables.{Every}
 use Rattle.lower_simulation_runs.proofs.Entering.{BodyLeads}
@@ -22,16 +26,16 @@ use Rattle.lower_simulation_runs.proofs.Starting.{runs_alike, runs_same}
 use Rattle.lower_simulation_runs.proofs.Binding.{call_bound, can_bind, params_many}
 use Rattle.lower_simulation_runs.proofs.Standings.{setting}
 use Rattle.lower_simulation_runs.proofs.Placing.{FunctionsPlaced, AllStand, bodies, tables_hold, all_stand, names_of}
-use Rattle.lower_simulation_runs.proofs.Numbering.{TablesAgree, functions_placed}
-use Rattle.lower_simulation_runs.proofs.Fitting.{Fit}
+use Rattle.lower_simulation_runs.proofs.Numbering.{NumbersAgree, functions_placed}
+use Rattle.lower_simulation_runs.proofs.Fitting.{Fit, NodeStands, bodies_fit}
 use Rattle.lower_simulation_runs.proofs.Forms.{forms_lead}
 use Rattle.lower_simulation_runs.proofs.Bodies.{FormsLead, claims, body_leads}
 
--- Main is there, and takes no argument or the inputs
-pub record HasMain (p : Program) : Type 0 where
-  pub function : FunTree
-  pub is : main_in p.items ≡ Some function
-  pub few : length function.params ≤ 1
+-- what is asked of a program: its code can be valid, its tables number its items, and each node has what is asked of it
+pub record CanBeFollowed (p : Program) (files : ℕ) : Type 0 where
+  pub lowered : CanBeLowered p files
+  pub numbers : NumbersAgree p
+  pub nodes : All (NodeStands p) (items_order p.items)
 
 same_inputs : (xs : List ParamTree) (n : ℕ) (ns : List ℤ) → n ≡ length xs → machine.inputs_of n ns ≡ meaning.inputs_of xs ns
 same_inputs [] zero ns h = refl
@@ -43,35 +47,41 @@ inputs_many : (xs : List ParamTree) (ns : List ℤ) → length xs ≤ 1 → leng
 inputs_many [] ns h = refl
 inputs_many (x ∷ xs) ns h = omega (arith, h)
 
-module _ (p : Program) (differ : ℕ → ℕ → Bool) (files steps until : ℕ) (agree : TablesAgree p) (main : HasMain p)
-    (fit : Every (λ (b : Body). Fit p b.body) (bodies p)) (ends : RunsEnd) (valid : Valid (code_of p differ files)) (ns : List ℤ) where
+module _ (p : Program) (differ : ℕ → ℕ → Bool) (files steps until : ℕ) (can : CanBeFollowed p files) (ends : RunsEnd) (valid : CodeIsValid)
+    (ns : List ℤ) where
   abbrev z : Setting
   z = setting p differ files steps until
 
   placed : FunctionsPlaced p
-  placed = functions_placed p agree
+  placed = functions_placed p can.lowered.tables can.numbers
 
   stand : AllStand z differ (Fit p)
-  stand = all_stand p differ files steps until placed (Fit p) fit
+  stand = all_stand p differ files steps until placed (Fit p) (bodies_fit p p.items (all_each (NodeStands p) (items_order p.items) can.nodes))
 
   forms : FormsLead z differ (Fit p)
   forms = forms_lead z differ (tables_hold p differ files steps until placed)
+
+  main : HasMain p
+  main = can.lowered.main
+
+  code_valid : Valid (code_of p differ files)
+  code_valid = valid p differ files can.lowered
 
   -- what is known of Main, with its inputs
   record Begins : Type 0 where
     func : Func
     env : Env
     is : slice_get z.code.functions z.code.main ≡ Some func
-    inputs : machine.inputs_of func.params ns ≡ meaning.inputs_of main.function.params ns
-    bound : with_params main.function.params (meaning.inputs_of main.function.params ns) [] ≡ Some env
-    body : BodyLeads z steps main.function.body func env (meaning.inputs_of main.function.params ns)
+    inputs : machine.inputs_of func.params ns ≡ meaning.inputs_of main.0.params ns
+    bound : with_params main.0.params (meaning.inputs_of main.0.params ns) [] ≡ Some env
+    body : BodyLeads z steps main.0.body func env (meaning.inputs_of main.0.params ns)
 
   begins : Begins
   begins =
-      let fn : FunTree = main.function in
-      let m = stand.main fn main.is in
+      let fn : FunTree = main.0 in
+      let m = stand.main fn main.1 in
       let vs : List Val = meaning.inputs_of fn.params ns in
-      let many : length vs ≡ length fn.params = inputs_many fn.params ns main.few in
+      let many : length vs ≡ length fn.params = inputs_many fn.params ns main.2 in
       let e = can_bind fn.params vs [] many in
       let pm = params_many fn.params [] in
       let pa = m.2.params in
@@ -90,9 +100,9 @@ module _ (p : Program) (differ : ℕ → ℕ → Bool) (files steps until : ℕ)
   pub whole_alike : (k : ℕ) → seen_of tree_waits (mach_after (code_of p differ files) ns steps until k) ≡
       seen_of forest_leaves (meaning.after p ns steps until k)
   whole_alike k = let b = begins in
-      runs_alike z ns main.function b.func b.env b.is main.is b.inputs b.bound b.body ends valid k
+      runs_alike z ns main.0 b.func b.env b.is main.1 b.inputs b.bound b.body ends code_valid k
 
   -- and so they come to the same
   pub whole_same : mach (code_of p differ files) ns steps until ≡ mean p ns steps until
   whole_same = let b = begins in
-      runs_same z ns main.function b.func b.env b.is main.is b.inputs b.bound b.body ends valid
+      runs_same z ns main.0 b.func b.env b.is main.1 b.inputs b.bound b.body ends code_valid
