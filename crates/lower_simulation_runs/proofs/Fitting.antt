@@ -12,39 +12,9 @@ use Rattle.lower_code.specs.Programs.{Body, all_bodies}
 use Rattle.lower_bounds.proofs.Lists.{Each, each_first, each_rest, own, inside}
 use Rattle.lower_bounds.proofs.Bodies.{all_have}
 use Rattle.lower_simulation_blocks.proofs.Cases.{has_value}
+use Rattle.lower_simulation_runs.specs.Programs.{ArmStands, ArmTreeStands, ArmsStand, ShapeStands, NodeStands}
 
 module _ (p : Program) where
-  -- a pattern that is tested stands for a value
-  abbrev pub ArmStands : Shape → Bool → Type 0
-  ArmStands (t.Shape.arm a b) last = last ≡ false → has_value p a ≡ true
-  ArmStands s last = Unit {0}
-
-  abbrev pub ArmTreeStands : Tree → Bool → Type 0
-  ArmTreeStands (tree n pl s) last = ArmStands s last
-
-  abbrev pub ArmsStand : Trees → Type 0
-  ArmsStand no_trees = Unit {0}
-  ArmsStand (more_trees b ts) = ArmTreeStands b (none_left ts) × ArmsStand ts
-
-  -- what is asked of a form beside its parts: no condition defers, a group has an arm, and patterns stand for values
-  abbrev pub ShapeStands : Shape → Type 0
-  ShapeStands (t.Shape.if_else cs b c) = any_defer cs ≡ false
-  ShapeStands (t.Shape.if_alone cs b) = any_defer cs ≡ false
-  ShapeStands (t.Shape.option cs) = any_defer cs ≡ false
-  ShapeStands (t.Shape.logic cs) = any_defer cs ≡ false
-  ShapeStands (t.Shape.sync ts) = none_left ts ≡ false
-  ShapeStands (t.Shape.race ts) = none_left ts ≡ false
-  ShapeStands (t.Shape.rush ts) = none_left ts ≡ false
-  ShapeStands (t.Shape.cases b ts) = ArmsStand ts
-  ShapeStands s = Unit {0}
-
-  abbrev pub WhatStands : What → Type 0
-  WhatStands (expression s) = ShapeStands s
-  WhatStands other = Unit {0}
-
-  abbrev pub NodeStands : Node → Type 0
-  NodeStands v = WhatStands v.what
-
   abbrev mutual
     pub Fit : Tree → Type 0
     Fit (tree n pl s) = Shape_fits s
@@ -118,64 +88,64 @@ module _ (p : Program) where
     Arm_shape_fits s last = Unit {0}
 
   mutual
-    pub nodes_fit : (b : Tree) → Each NodeStands (post_order b) → Fit b
-    nodes_fit (tree n pl s) h = shape_fits s (own NodeStands n pl s h) (inside NodeStands n pl s h)
+    pub nodes_fit : (b : Tree) → Each (NodeStands p) (post_order b) → Fit b
+    nodes_fit (tree n pl s) h = shape_fits s (own (NodeStands p) n pl s h) (inside (NodeStands p) n pl s h)
 
-    shape_fits : (s : Shape) → ShapeStands s → Each NodeStands (parts s) → Shape_fits s
+    shape_fits : (s : Shape) → ShapeStands p s → Each (NodeStands p) (parts s) → Shape_fits s
     shape_fits (t.Shape.block cs) v h = all_fit cs h
     shape_fits (t.Shape.defer b) v h = nodes_fit b h
     shape_fits (t.Shape.definition x b) v h = nodes_fit b h
-    shape_fits (t.Shape.typed x w b) v h = nodes_fit b (each_rest NodeStands (written_order w) (post_order b) h)
-    shape_fits (t.Shape.variable x w b) v h = nodes_fit b (each_rest NodeStands (written_order w) (post_order b) h)
+    shape_fits (t.Shape.typed x w b) v h = nodes_fit b (each_rest (NodeStands p) (written_order w) (post_order b) h)
+    shape_fits (t.Shape.variable x w b) v h = nodes_fit b (each_rest (NodeStands p) (written_order w) (post_order b) h)
     shape_fits (t.Shape.assignment x b c) v h = (
-      nodes_fit b (each_first NodeStands (post_order b) (post_order c) h),
-      nodes_fit c (each_rest NodeStands (post_order b) (post_order c) h),
+      nodes_fit b (each_first (NodeStands p) (post_order b) (post_order c) h),
+      nodes_fit c (each_rest (NodeStands p) (post_order b) (post_order c) h),
     )
     shape_fits (t.Shape.returned b) v h = nodes_fit b h
     shape_fits (t.Shape.if_else cs b c) v h =
-        let l = each_first NodeStands (trees_order cs ++ post_order b) (post_order c) h in
+        let l = each_first (NodeStands p) (trees_order cs ++ post_order b) (post_order c) h in
         (
           v,
-          all_fit cs (each_first NodeStands (trees_order cs) (post_order b) l),
-          nodes_fit b (each_rest NodeStands (trees_order cs) (post_order b) l),
-          nodes_fit c (each_rest NodeStands (trees_order cs ++ post_order b) (post_order c) h),
+          all_fit cs (each_first (NodeStands p) (trees_order cs) (post_order b) l),
+          nodes_fit b (each_rest (NodeStands p) (trees_order cs) (post_order b) l),
+          nodes_fit c (each_rest (NodeStands p) (trees_order cs ++ post_order b) (post_order c) h),
         )
     shape_fits (t.Shape.if_alone cs b) v h = (
       v,
-      all_fit cs (each_first NodeStands (trees_order cs) (post_order b) h),
-      nodes_fit b (each_rest NodeStands (trees_order cs) (post_order b) h),
+      all_fit cs (each_first (NodeStands p) (trees_order cs) (post_order b) h),
+      nodes_fit b (each_rest (NodeStands p) (trees_order cs) (post_order b) h),
     )
     shape_fits (t.Shape.option cs) v h = (v, all_fit cs h)
     shape_fits (t.Shape.logic cs) v h = (v, all_fit cs h)
     shape_fits (t.Shape.negation b) v h = nodes_fit b h
     shape_fits (t.Shape.for_form cs b) v h = (
-      all_fit cs (each_first NodeStands (trees_order cs) (post_order b) h),
-      nodes_fit b (each_rest NodeStands (trees_order cs) (post_order b) h),
+      all_fit cs (each_first (NodeStands p) (trees_order cs) (post_order b) h),
+      nodes_fit b (each_rest (NodeStands p) (trees_order cs) (post_order b) h),
     )
     shape_fits (t.Shape.elements x b) v h = nodes_fit b h
     shape_fits (t.Shape.entries x y b) v h = nodes_fit b h
     shape_fits (t.Shape.range x b c) v h = (
-      nodes_fit b (each_first NodeStands (post_order b) (post_order c) h),
-      nodes_fit c (each_rest NodeStands (post_order b) (post_order c) h),
+      nodes_fit b (each_first (NodeStands p) (post_order b) (post_order c) h),
+      nodes_fit c (each_rest (NodeStands p) (post_order b) (post_order c) h),
     )
     shape_fits (t.Shape.chained x b c) v h = (
-      nodes_fit b (each_first NodeStands (post_order b) (post_order c) h),
-      nodes_fit c (each_rest NodeStands (post_order b) (post_order c) h),
+      nodes_fit b (each_first (NodeStands p) (post_order b) (post_order c) h),
+      nodes_fit c (each_rest (NodeStands p) (post_order b) (post_order c) h),
     )
     shape_fits (t.Shape.compared x b c) v h = (
-      nodes_fit b (each_first NodeStands (post_order b) (post_order c) h),
-      nodes_fit c (each_rest NodeStands (post_order b) (post_order c) h),
+      nodes_fit b (each_first (NodeStands p) (post_order b) (post_order c) h),
+      nodes_fit c (each_rest (NodeStands p) (post_order b) (post_order c) h),
     )
     shape_fits (t.Shape.minus b) v h = nodes_fit b h
     shape_fits (t.Shape.query b) v h = nodes_fit b h
     shape_fits (t.Shape.member b x) v h = nodes_fit b h
     shape_fits (t.Shape.call b ts) v h = (
-      nodes_fit b (each_first NodeStands (post_order b) (trees_order ts) h),
-      all_fit ts (each_rest NodeStands (post_order b) (trees_order ts) h),
+      nodes_fit b (each_first (NodeStands p) (post_order b) (trees_order ts) h),
+      all_fit ts (each_rest (NodeStands p) (post_order b) (trees_order ts) h),
     )
     shape_fits (t.Shape.index b ts) v h = (
-      nodes_fit b (each_first NodeStands (post_order b) (trees_order ts) h),
-      all_fit ts (each_rest NodeStands (post_order b) (trees_order ts) h),
+      nodes_fit b (each_first (NodeStands p) (post_order b) (trees_order ts) h),
+      all_fit ts (each_rest (NodeStands p) (post_order b) (trees_order ts) h),
     )
     shape_fits (t.Shape.holes bs hs) v h = holes_fit hs h
     shape_fits (t.Shape.tuple ts) v h = all_fit ts h
@@ -185,8 +155,8 @@ module _ (p : Program) where
     shape_fits (t.Shape.loop_form b) v h = nodes_fit b h
     shape_fits (t.Shape.block_form b) v h = nodes_fit b h
     shape_fits (t.Shape.cases b ts) v h = (
-      nodes_fit b (each_first NodeStands (post_order b) (trees_order ts) h),
-      arms_fit ts v (each_rest NodeStands (post_order b) (trees_order ts) h),
+      nodes_fit b (each_first (NodeStands p) (post_order b) (trees_order ts) h),
+      arms_fit ts v (each_rest (NodeStands p) (post_order b) (trees_order ts) h),
     )
     shape_fits (t.Shape.branch b) v h = nodes_fit b h
     shape_fits (t.Shape.sync ts) v h = (v, all_fit ts h)
@@ -195,55 +165,55 @@ module _ (p : Program) where
     shape_fits (t.Shape.spawn b) v h = nodes_fit b h
     shape_fits s v h = tt
 
-    all_fit : (ts : Trees) → Each NodeStands (trees_order ts) → All_fit ts
+    all_fit : (ts : Trees) → Each (NodeStands p) (trees_order ts) → All_fit ts
     all_fit no_trees h = tt
     all_fit (more_trees b ts) h = (
-      nodes_fit b (each_first NodeStands (post_order b) (trees_order ts) h),
-      all_fit ts (each_rest NodeStands (post_order b) (trees_order ts) h),
+      nodes_fit b (each_first (NodeStands p) (post_order b) (trees_order ts) h),
+      all_fit ts (each_rest (NodeStands p) (post_order b) (trees_order ts) h),
     )
 
-    holes_fit : (hs : Holes) → Each NodeStands (holes_order hs) → Holes_fit hs
+    holes_fit : (hs : Holes) → Each (NodeStands p) (holes_order hs) → Holes_fit hs
     holes_fit no_holes h = tt
     holes_fit (more_holes b bs hs) h = (
-      nodes_fit b (each_first NodeStands (post_order b) (holes_order hs) h),
-      holes_fit hs (each_rest NodeStands (post_order b) (holes_order hs) h),
+      nodes_fit b (each_first (NodeStands p) (post_order b) (holes_order hs) h),
+      holes_fit hs (each_rest (NodeStands p) (post_order b) (holes_order hs) h),
     )
 
-    pairs_fit : (ps : t.Pairs) → Each NodeStands (pairs_order ps) → Pairs_fit ps
+    pairs_fit : (ps : t.Pairs) → Each (NodeStands p) (pairs_order ps) → Pairs_fit ps
     pairs_fit t.Pairs.no_pairs h = tt
     pairs_fit (t.Pairs.more_pairs b c ps) h =
-        let l = each_first NodeStands (post_order b ++ post_order c) (pairs_order ps) h in
+        let l = each_first (NodeStands p) (post_order b ++ post_order c) (pairs_order ps) h in
         (
-          nodes_fit b (each_first NodeStands (post_order b) (post_order c) l),
-          nodes_fit c (each_rest NodeStands (post_order b) (post_order c) l),
-          pairs_fit ps (each_rest NodeStands (post_order b ++ post_order c) (pairs_order ps) h),
+          nodes_fit b (each_first (NodeStands p) (post_order b) (post_order c) l),
+          nodes_fit c (each_rest (NodeStands p) (post_order b) (post_order c) l),
+          pairs_fit ps (each_rest (NodeStands p) (post_order b ++ post_order c) (pairs_order ps) h),
         )
 
-    givens_fit : (gs : Givens) → Each NodeStands (givens_order gs) → Givens_fit gs
+    givens_fit : (gs : Givens) → Each (NodeStands p) (givens_order gs) → Givens_fit gs
     givens_fit no_givens h = tt
     givens_fit (more_givens x b gs) h = (
-      nodes_fit b (each_first NodeStands (post_order b) (givens_order gs) h),
-      givens_fit gs (each_rest NodeStands (post_order b) (givens_order gs) h),
+      nodes_fit b (each_first (NodeStands p) (post_order b) (givens_order gs) h),
+      givens_fit gs (each_rest (NodeStands p) (post_order b) (givens_order gs) h),
     )
 
-    arms_fit : (ts : Trees) → ArmsStand ts → Each NodeStands (trees_order ts) → Arms_fit ts
+    arms_fit : (ts : Trees) → ArmsStand p ts → Each (NodeStands p) (trees_order ts) → Arms_fit ts
     arms_fit no_trees v h = tt
     arms_fit (more_trees b ts) v h = (
-      arm_fits b (none_left ts) v.0 (each_first NodeStands (post_order b) (trees_order ts) h),
-      arms_fit ts v.1 (each_rest NodeStands (post_order b) (trees_order ts) h),
+      arm_fits b (none_left ts) v.0 (each_first (NodeStands p) (post_order b) (trees_order ts) h),
+      arms_fit ts v.1 (each_rest (NodeStands p) (post_order b) (trees_order ts) h),
     )
 
-    arm_fits : (b : Tree) (last : Bool) → ArmTreeStands b last → Each NodeStands (post_order b) → Arm_fits b last
-    arm_fits (tree n pl s) last v h = arm_shape_fits s last v (inside NodeStands n pl s h)
+    arm_fits : (b : Tree) (last : Bool) → ArmTreeStands p b last → Each (NodeStands p) (post_order b) → Arm_fits b last
+    arm_fits (tree n pl s) last v h = arm_shape_fits s last v (inside (NodeStands p) n pl s h)
 
-    arm_shape_fits : (s : Shape) (last : Bool) → ArmStands s last → Each NodeStands (parts s) → Arm_shape_fits s last
-    arm_shape_fits (t.Shape.arm a b) last v h = (v, nodes_fit b (each_rest NodeStands (post_order a) (post_order b) h))
+    arm_shape_fits : (s : Shape) (last : Bool) → ArmStands p s last → Each (NodeStands p) (parts s) → Arm_shape_fits s last
+    arm_shape_fits (t.Shape.arm a b) last v h = (v, nodes_fit b (each_rest (NodeStands p) (post_order a) (post_order b) h))
     arm_shape_fits s last v h = tt
 
-  every_fits : (bs : List Body) → Each (λ (b : Body). Each NodeStands (post_order b.body)) bs → Each (λ (b : Body). Fit b.body) bs
+  every_fits : (bs : List Body) → Each (λ (b : Body). Each (NodeStands p) (post_order b.body)) bs → Each (λ (b : Body). Fit b.body) bs
   every_fits [] h = tt
   every_fits (b ∷ bs) h = (nodes_fit b.body h.0, every_fits bs h.1)
 
   -- the bodies of a program fit where its nodes have what is asked of them
-  pub bodies_fit : (is : List ItemTree) → Each NodeStands (items_order is) → Each (λ (b : Body). Fit b.body) (all_bodies is)
-  bodies_fit is h = every_fits (all_bodies is) (all_have NodeStands is h)
+  pub bodies_fit : (is : List ItemTree) → Each (NodeStands p) (items_order is) → Each (λ (b : Body). Fit b.body) (all_bodies is)
+  bodies_fit is h = every_fits (all_bodies is) (all_have (NodeStands p) is h)

@@ -23,56 +23,9 @@ use Rattle.lower_code.specs.Defaults.{with_default, with_defaults, defaults_in, 
 use Rattle.lower_code.specs.Programs.{Body, body_of, methods_in, bodies_in, default_body, default_bodies}
 use Rattle.lower_bounds.specs.Programs.{TablesAgree}
 use Rattle.lower_simulation_values.proofs.Tables.{Every}
+use Rattle.lower_simulation_runs.specs.Programs.{Defined, a_function, a_method, tree_in, number_in, methods_defined, defined_in, Absent, Distinct}
+use Rattle.lower_simulation_runs.specs.Programs.{field_number, NumbersAgree}
 use Rattle.lower_simulation_runs.proofs.Placing.{FunctionsPlaced, ClassPlaced, DefaultPlaced, default_of, bodies, same_some, at_behind}
-
--- a function of the items, or a method of a class
-pub data Defined : Type 0 where
-  a_function : FunTree → Defined
-  a_method : FunTree → Defined
-
-abbrev pub tree_in : Defined → FunTree
-tree_in (a_function f) = f
-tree_in (a_method f) = f
-
-abbrev pub number_in : Defined → ℕ
-number_in d = (tree_in d).number
-
-abbrev pub methods_defined : List MemberTree → List Defined
-methods_defined [] = []
-methods_defined (field f ∷ ms) = methods_defined ms
-methods_defined (method f ∷ ms) = a_method f ∷ methods_defined ms
-
--- functions and methods, in the order of the items
-abbrev pub defined_in : List ItemTree → List Defined
-defined_in [] = []
-defined_in (using u ∷ is) = defined_in is
-defined_in (enumeration e ∷ is) = defined_in is
-defined_in (class c ∷ is) = methods_defined c.members ++ defined_in is
-defined_in (function f ∷ is) = a_function f ∷ defined_in is
-
--- no number stands twice in a list
-abbrev pub Absent : ℕ → List ℕ → Type 0
-Absent n [] = Unit {0}
-Absent n (m ∷ ms) = (n ≡ m → ⊥) × Absent n ms
-
-abbrev pub Distinct : List ℕ → Type 0
-Distinct [] = Unit {0}
-Distinct (n ∷ ns) = Absent n ns × Distinct ns
-
-abbrev pub field_number : FieldTree → ℕ
-field_number f = f.number
-
--- the tables of a program number the functions and methods of its items in their order
-pub record NumbersAgree (p : Program) : Type 0 where
-  -- the f-th function or method has the node that entry f of the table names
-  pub numbers : map (λ (f : FunInfo). f.item) p.names.funs ≡ map number_in (defined_in p.items)
-  pub distinct : Distinct (map number_in (defined_in p.items))
-  -- what a name stands for as a function is one, and no method
-  pub functions : (n f : ℕ) → ref_at p n ≡ Some (ref.Fun f) → (fn : FunTree) × (slice_get (defined_in p.items) f ≡ Some (a_function fn))
-  -- the methods of a class are methods
-  pub methods : (c m f : ℕ) → method_at p c m ≡ Some f → (fn : FunTree) × (slice_get (defined_in p.items) f ≡ Some (a_method fn))
-  -- the fields with defaults have nodes of their own
-  pub fields : Distinct (map field_number (defaults_in p.items))
 
 -- ---- functions
 

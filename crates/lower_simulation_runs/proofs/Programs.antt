@@ -16,26 +16,22 @@ use Rattle.verse_code_machine.specs.Runs.{mach_after, mach}
 use Rattle.verse_code_machine.specs.Runs as machine
 use Rattle.verse_code_machine.specs.Laws.{RunsEnd}
 use Rattle.lower_code.specs.Programs.{Body, code_of}
-use Rattle.lower_bounds.specs.Programs.{HasMain, CanBeLowered}
+use Rattle.lower_bounds.specs.Programs.{HasMain}
 use Rattle.lower_bounds.specs.Laws.{CodeIsValid}
 use Rattle.lower_bounds.proofs.Bodies.{all_each}
 use Rattle.lower_simulation.proofs.Claims.{Setting, seen_of}
 use Rattle.lower_simulation_values.proofs.Tables.{Every}
+use Rattle.lower_simulation_runs.specs.Programs.{NodeStands, CanBeFollowed}
+use Rattle.lower_simulation_runs.specs.Laws.{CodeMeansTheSame}
 use Rattle.lower_simulation_runs.proofs.Entering.{BodyLeads}
 use Rattle.lower_simulation_runs.proofs.Starting.{runs_alike, runs_same}
 use Rattle.lower_simulation_runs.proofs.Binding.{call_bound, can_bind, params_many}
 use Rattle.lower_simulation_runs.proofs.Standings.{setting}
 use Rattle.lower_simulation_runs.proofs.Placing.{FunctionsPlaced, AllStand, bodies, tables_hold, all_stand, names_of}
-use Rattle.lower_simulation_runs.proofs.Numbering.{NumbersAgree, functions_placed}
-use Rattle.lower_simulation_runs.proofs.Fitting.{Fit, NodeStands, bodies_fit}
+use Rattle.lower_simulation_runs.proofs.Numbering.{functions_placed}
+use Rattle.lower_simulation_runs.proofs.Fitting.{Fit, bodies_fit}
 use Rattle.lower_simulation_runs.proofs.Forms.{forms_lead}
 use Rattle.lower_simulation_runs.proofs.Bodies.{FormsLead, claims, body_leads}
-
--- what is asked of a program: its code can be valid, its tables number its items, and each node has what is asked of it
-pub record CanBeFollowed (p : Program) (files : ℕ) : Type 0 where
-  pub lowered : CanBeLowered p files
-  pub numbers : NumbersAgree p
-  pub nodes : All (NodeStands p) (items_order p.items)
 
 same_inputs : (xs : List ParamTree) (n : ℕ) (ns : List ℤ) → n ≡ length xs → machine.inputs_of n ns ≡ meaning.inputs_of xs ns
 same_inputs [] zero ns h = refl
@@ -106,3 +102,6 @@ module _ (p : Program) (differ : ℕ → ℕ → Bool) (files steps until : ℕ)
   pub whole_same : mach (code_of p differ files) ns steps until ≡ mean p ns steps until
   whole_same = let b = begins in
       runs_same z ns main.0 b.func b.env b.is main.1 b.inputs b.bound b.body ends code_valid
+
+pub code_means_the_same : RunsEnd → CodeIsValid → CodeMeansTheSame
+code_means_the_same ends valid p differ files can ns steps until = whole_same p differ files steps until can ends valid ns

@@ -1,12 +1,24 @@
 //! The code of a program runs on the machine as the program means: from what is shown of the forms
-//! to whole runs.
+//! to whole runs. Read the definitions in this order: `Programs`, what is asked of a program; `Laws`.
 //!
-//! To be read in this order, in `proofs/`: `Runs`, the forest and its turns; `Entering`, calls and
-//! spawned calls from what bodies lead to; `Starting`, the run from Main; `Firm` and `FirmForms`, the
-//! code of a body leaves no loop around it; `Binding`, parameters with their arguments; `Standings`,
-//! where the bodies of a program stand in its code; `Placing`, where functions, methods and defaults
-//! stand among those bodies, and the tables of the code; `Numbering`, their numbers, from those of
-//! their nodes; `Bodies`, all bodies and calls by the bound of the steps; `Programs`, whole programs.
-//!
-//! All of these are public, for the laws of lowering.
+//! In `proofs/`: `Runs`, the forest and its turns; `Entering`, calls and spawned calls from what
+//! bodies lead to; `Starting`, the run from Main; `Firm` and `FirmForms`, the code of a body leaves
+//! no loop around it; `Binding`, parameters with their arguments; `Standings`, where the bodies of a
+//! program stand in its code; `Placing`, where functions, methods and defaults stand among those
+//! bodies, and the tables of the code; `Numbering`, their numbers, from those of their nodes;
+//! `Bodies`, all bodies and calls by the bound of the steps; `Fitting`, what is asked of trees;
+//! `Forms`, every form; `Programs`, whole programs.
 #![tactic(auto)]
+
+ghost use Rattle.lower_simulation_runs.specs.Laws.{CodeMeansTheSame};
+
+use lower_bounds::code_is_valid;
+use verse_code_machine::runs_end;
+
+/// The code of a program that can be followed does what the program means.
+pub fn code_means_the_same()
+    ensures { CodeMeansTheSame }
+{
+    runs_end();
+    code_is_valid();
+}

@@ -1,0 +1,12 @@
+-- The law of lowering: the code of a program does what the program means.
+use Rattle.std.specs.Prelude.{◌≡◌, ℕ, ℤ, List, Bool}
+use Rattle.verse_meaning.specs.Programs.{Program}
+use Rattle.verse_meaning.specs.Runs.{mean}
+use Rattle.verse_code_machine.specs.Runs.{mach}
+use Rattle.lower_code.specs.Programs.{code_of}
+use Rattle.lower_simulation_runs.specs.Programs.{CanBeFollowed}
+
+-- for all inputs and bounds the run of the code is the run that the program means
+abbrev pub CodeMeansTheSame : Type 0
+CodeMeansTheSame = (p : Program) (differ : ℕ → ℕ → Bool) (files : ℕ) → CanBeFollowed p files →
+    (ns : List ℤ) (steps until : ℕ) → mach (code_of p differ files) ns steps until ≡ mean p ns steps until
