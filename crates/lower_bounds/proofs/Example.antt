@@ -22,7 +22,7 @@ at l c = record { file = 0; line = suc l; col = suc c }
 --     N:int = 7
 -- Main():void =
 --     c{}
-abbrev small_program : Program
+abbrev pub small_program : Program
 small_program = record {
   items = class (record {
     number = 2;

@@ -12,4 +12,4 @@ pub mod Validity
 pub mod Bodies
 pub mod Whole
 pub mod Defers
-mod Example
+pub mod Example

@@ -11,3 +11,4 @@ pub mod Bodies
 pub mod Fitting
 pub mod Forms
 pub mod Programs
+mod Example
