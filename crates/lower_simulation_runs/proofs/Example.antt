@@ -1,9 +1,7 @@
 -- A program whose code does what it means: what is asked of programs can be met.
-use Rattle.std.proofs.Common.{◌≡◌, ℕ, zero, suc, [], ◌∷◌, Option, None, Some, refl}
+use Rattle.std.proofs.Common.{◌≡◌, ℕ, zero, suc, Some, refl}
 use Rattle.std.proofs.lemmas.Option.{none-some}
 use Rattle.verse_tree.specs.PostOrder.{items_order}
-use Rattle.verse_tree.specs.ItemTree.{FunTree}
-use Rattle.verse_tree.specs.declared.tables.Ref.{Ref}
 use Rattle.verse_tree.specs.declared.tables.Ref.TheVariants as ref
 use Rattle.verse_meaning.specs.Programs.{ref_at, method_at}
 use Rattle.lower_bounds.proofs.Bodies.{each_all}

@@ -1,9 +1,10 @@
 -- What is asked of the trees of a program, and that it is so where each node has what is asked of it.
 use Rattle.std.proofs.Common.{◌≡◌, List, [], ◌∷◌, ◌++◌, Bool, true, false}
-use Rattle.verse_tree.specs.Tree.{Tree, tree, Shape, Trees, no_trees, more_trees, Holes, no_holes, more_holes, Givens, no_givens, more_givens}
+use Rattle.verse_tree.specs.Tree.{Tree, tree, Shape, Trees, no_trees, more_trees, Holes, no_holes, more_holes, Givens, no_givens}
+use Rattle.verse_tree.specs.Tree.{more_givens}
 use Rattle.verse_tree.specs.Tree as t
 use Rattle.verse_tree.specs.ItemTree.{ItemTree}
-use Rattle.verse_tree.specs.PostOrder.{What, expression, Node, post_order, parts, trees_order, holes_order, pairs_order, givens_order}
+use Rattle.verse_tree.specs.PostOrder.{post_order, parts, trees_order, holes_order, pairs_order, givens_order}
 use Rattle.verse_tree.specs.PostOrder.{written_order, items_order}
 use Rattle.verse_meaning.specs.Programs.{Program}
 use Rattle.verse_meaning.specs.Evaluating.{none_left}
@@ -103,8 +104,7 @@ module _ (p : Program) where
     )
     shape_fits (t.Shape.returned b) v h = nodes_fit b h
     shape_fits (t.Shape.if_else cs b c) v h =
-        let l = each_first (NodeStands p) (trees_order cs ++ post_order b) (post_order c) h in
-        (
+        let l = each_first (NodeStands p) (trees_order cs ++ post_order b) (post_order c) h in (
           v,
           all_fit cs (each_first (NodeStands p) (trees_order cs) (post_order b) l),
           nodes_fit b (each_rest (NodeStands p) (trees_order cs) (post_order b) l),
@@ -182,8 +182,7 @@ module _ (p : Program) where
     pairs_fit : (ps : t.Pairs) → Each (NodeStands p) (pairs_order ps) → Pairs_fit ps
     pairs_fit t.Pairs.no_pairs h = tt
     pairs_fit (t.Pairs.more_pairs b c ps) h =
-        let l = each_first (NodeStands p) (post_order b ++ post_order c) (pairs_order ps) h in
-        (
+        let l = each_first (NodeStands p) (post_order b ++ post_order c) (pairs_order ps) h in (
           nodes_fit b (each_first (NodeStands p) (post_order b) (post_order c) l),
           nodes_fit c (each_rest (NodeStands p) (post_order b) (post_order c) l),
           pairs_fit ps (each_rest (NodeStands p) (post_order b ++ post_order c) (pairs_order ps) h),

@@ -1,9 +1,9 @@
 -- Every form: what a tree means, its code does.
-use Rattle.std.proofs.Common.{◌≡◌, ℕ, ◌≤◌, List, [], ◌∷◌, Bool, true, false}
+use Rattle.std.proofs.Common.{ℕ, ◌≤◌, Bool}
 use Rattle.verse_base.specs.declared.places.Place.{Place}
-use Rattle.verse_tree.specs.Tree.{Tree, tree, Shape, Trees, no_trees, more_trees, Holes, no_holes, more_holes, Givens, no_givens, more_givens}
+use Rattle.verse_tree.specs.Tree.{Tree, tree, Shape, Trees, no_trees, more_trees, Holes, no_holes, more_holes, Givens, no_givens}
+use Rattle.verse_tree.specs.Tree.{more_givens}
 use Rattle.verse_tree.specs.Tree as t
-use Rattle.verse_tree.specs.ItemTree.{FieldTree}
 use Rattle.verse_tree.specs.declared.exprs.Operator.TheVariants as oper
 use Rattle.verse_meaning.specs.Programs.{fields_of}
 use Rattle.verse_meaning.specs.Evaluating.{statement_of, none_left}
@@ -35,14 +35,16 @@ use Rattle.lower_simulation_blocks.proofs.For.{Clause_lead, All_clauses, both_le
 use Rattle.lower_simulation_blocks.proofs.Cases.{Arm_lead, Arms_lead, cases_leads}
 use Rattle.lower_simulation_runs.proofs.Placing.{every_map}
 use Rattle.lower_simulation_runs.proofs.Bodies.{Claims, FormsLead}
-use Rattle.lower_simulation_runs.proofs.Fitting.{Fit, Shape_fits, All_fit, Holes_fit, Pairs_fit, Givens_fit, Arms_fit, Arm_fits, Arm_shape_fits}
+use Rattle.lower_simulation_runs.proofs.Fitting.{Fit, Shape_fits, All_fit, Holes_fit, Pairs_fit, Givens_fit, Arms_fit, Arm_fits}
 
 module _ (z : Setting) (differ : ℕ → ℕ → Bool) where
   -- claims at a bound hold at those that are less
   pub claims_less : {top : ℕ} (t : ℕ) → t ≤ top → Claims z differ top → Claims z differ t
   claims_less {top} t le h = record {
-    calls = λ f this fn fc vs is h1 h2 e w M j n c o y ls st q fw lt. h.calls f this fn fc vs is h1 h2 e w M j n c o y ls st q fw (trans lt le);
-    spawns = λ f this fn fc vs is h1 h2 e M j n c o y ls st q fr lt. h.spawns f this fn fc vs is h1 h2 e M j n c o y ls st q fr (trans lt le);
+    calls = λ f this fn fc vs is h1 h2 e w M j n c o y ls st q fw lt. h.calls f this fn fc vs is h1 h2 e w M j n c o y ls st q fw
+        (trans lt le);
+    spawns = λ f this fn fc vs is h1 h2 e M j n c o y ls st q fr lt. h.spawns f this fn fc vs is h1 h2 e M j n c o y ls st q fr
+        (trans lt le);
     defaults = λ k is. every_map (Default_leads z top) (Default_leads z t) (fields_of z.program k)
         (λ f d a fc h1 h2 w M j n c o y ls st q fw lt. d a fc h1 h2 w M j n c o y ls st q fw (trans lt le)) (h.defaults k is);
   }
@@ -168,9 +170,12 @@ module _ (z : Setting) (differ : ℕ → ℕ → Bool) where
       -- tasks
       shape_leads (t.Shape.branch b) h n pl top k =
           branch_leads z differ top n pl b (λ t le. ev_leads b h t (claims_less t le k))
-      shape_leads (t.Shape.sync (more_trees b ts)) h n pl top k = sync_leads z differ top n pl b ts (tasks_lead (more_trees b ts) h.1 top k)
-      shape_leads (t.Shape.race (more_trees b ts)) h n pl top k = race_leads z differ top n pl b ts (tasks_lead (more_trees b ts) h.1 top k)
-      shape_leads (t.Shape.rush (more_trees b ts)) h n pl top k = rush_leads z differ top n pl b ts (tasks_lead (more_trees b ts) h.1 top k)
+      shape_leads (t.Shape.sync (more_trees b ts)) h n pl top k = sync_leads z differ top n pl b ts
+          (tasks_lead (more_trees b ts) h.1 top k)
+      shape_leads (t.Shape.race (more_trees b ts)) h n pl top k = race_leads z differ top n pl b ts
+          (tasks_lead (more_trees b ts) h.1 top k)
+      shape_leads (t.Shape.rush (more_trees b ts)) h n pl top k = rush_leads z differ top n pl b ts
+          (tasks_lead (more_trees b ts) h.1 top k)
       shape_leads (t.Shape.sync no_trees) h n pl top k = cc
       shape_leads (t.Shape.race no_trees) h n pl top k = cc
       shape_leads (t.Shape.rush no_trees) h n pl top k = cc

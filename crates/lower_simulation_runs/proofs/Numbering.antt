@@ -10,7 +10,6 @@ use Rattle.verse_tree.specs.ItemTree.{FieldTree, FunTree, MemberTree, field, met
 use Rattle.verse_tree.specs.ItemTree.{function}
 use Rattle.verse_tree.specs.declared.tables.FunInfo.{FunInfo}
 use Rattle.verse_tree.specs.declared.tables.ClassInfo.{ClassInfo}
-use Rattle.verse_tree.specs.declared.tables.Ref.TheVariants as ref
 use Rattle.verse_tree.specs.Sizes.{class_fields}
 use Rattle.verse_meaning_state.specs.Waits.{nth}
 use Rattle.verse_meaning.specs.Programs.{Program, ref_at, fun_at, fun_of_info, fun_numbered, method_numbered, method_at, or_else}
@@ -23,7 +22,8 @@ use Rattle.lower_code.specs.Defaults.{with_default, with_defaults, defaults_in, 
 use Rattle.lower_code.specs.Programs.{Body, body_of, methods_in, bodies_in, default_body, default_bodies}
 use Rattle.lower_bounds.specs.Programs.{TablesAgree}
 use Rattle.lower_simulation_values.proofs.Tables.{Every}
-use Rattle.lower_simulation_runs.specs.Programs.{Defined, a_function, a_method, tree_in, number_in, methods_defined, defined_in, Absent, Distinct}
+use Rattle.lower_simulation_runs.specs.Programs.{Defined, a_function, a_method, tree_in, number_in, methods_defined, defined_in, Absent}
+use Rattle.lower_simulation_runs.specs.Programs.{Distinct}
 use Rattle.lower_simulation_runs.specs.Programs.{field_number, NumbersAgree}
 use Rattle.lower_simulation_runs.proofs.Placing.{FunctionsPlaced, ClassPlaced, DefaultPlaced, default_of, bodies, same_some, at_behind}
 

@@ -1,13 +1,12 @@
 -- A whole program: its run is seen alike in its meaning and in its code.
 use Rattle.std.proofs.Common.{◌≡◌, ℕ, zero, suc, ◌≤◌, List, [], ◌∷◌, length, Some, None, Bool, refl, arith}
-use Rattle.std.specs.Prelude.{ℤ, slice_get, All}
-use Rattle.verse_tree.specs.Tree.{Tree}
+use Rattle.std.specs.Prelude.{ℤ, slice_get}
 use Rattle.verse_tree.specs.PostOrder.{items_order}
 use Rattle.verse_tree.specs.ItemTree.{FunTree, ParamTree}
 use Rattle.verse_code.specs.declared.codes.Func.{Func}
 use Rattle.verse_code.specs.Validity.{Valid}
 use Rattle.verse_value.specs.Val.{Val}
-use Rattle.verse_meaning.specs.Programs.{Program, main_in}
+use Rattle.verse_meaning.specs.Programs.{Program}
 use Rattle.verse_meaning.specs.Residuals.{Env}
 use Rattle.verse_meaning.specs.Runs.{forest_leaves, mean, with_params}
 use Rattle.verse_meaning.specs.Runs as meaning
@@ -15,19 +14,18 @@ use Rattle.verse_code_machine.specs.Tasks.{tree_waits}
 use Rattle.verse_code_machine.specs.Runs.{mach_after, mach}
 use Rattle.verse_code_machine.specs.Runs as machine
 use Rattle.verse_code_machine.specs.Laws.{RunsEnd}
-use Rattle.lower_code.specs.Programs.{Body, code_of}
+use Rattle.lower_code.specs.Programs.{code_of}
 use Rattle.lower_bounds.specs.Programs.{HasMain}
 use Rattle.lower_bounds.specs.Laws.{CodeIsValid}
 use Rattle.lower_bounds.proofs.Bodies.{all_each}
 use Rattle.lower_simulation.proofs.Claims.{Setting, seen_of}
-use Rattle.lower_simulation_values.proofs.Tables.{Every}
 use Rattle.lower_simulation_runs.specs.Programs.{NodeStands, CanBeFollowed}
 use Rattle.lower_simulation_runs.specs.Laws.{CodeMeansTheSame}
 use Rattle.lower_simulation_runs.proofs.Entering.{BodyLeads}
 use Rattle.lower_simulation_runs.proofs.Starting.{runs_alike, runs_same}
 use Rattle.lower_simulation_runs.proofs.Binding.{call_bound, can_bind, params_many}
 use Rattle.lower_simulation_runs.proofs.Standings.{setting}
-use Rattle.lower_simulation_runs.proofs.Placing.{FunctionsPlaced, AllStand, bodies, tables_hold, all_stand, names_of}
+use Rattle.lower_simulation_runs.proofs.Placing.{FunctionsPlaced, AllStand, tables_hold, all_stand, names_of}
 use Rattle.lower_simulation_runs.proofs.Numbering.{functions_placed}
 use Rattle.lower_simulation_runs.proofs.Fitting.{Fit, bodies_fit}
 use Rattle.lower_simulation_runs.proofs.Forms.{forms_lead}
@@ -52,7 +50,8 @@ module _ (p : Program) (differ : ℕ → ℕ → Bool) (files steps until : ℕ)
   placed = functions_placed p can.lowered.tables can.numbers
 
   stand : AllStand z differ (Fit p)
-  stand = all_stand p differ files steps until placed (Fit p) (bodies_fit p p.items (all_each (NodeStands p) (items_order p.items) can.nodes))
+  stand = all_stand p differ files steps until placed (Fit p)
+      (bodies_fit p p.items (all_each (NodeStands p) (items_order p.items) can.nodes))
 
   forms : FormsLead z differ (Fit p)
   forms = forms_lead z differ (tables_hold p differ files steps until placed)

@@ -9,4 +9,5 @@ use Rattle.lower_simulation_runs.specs.Programs.{CanBeFollowed}
 -- for all inputs and bounds the run of the code is the run that the program means
 abbrev pub CodeMeansTheSame : Type 0
 CodeMeansTheSame = (p : Program) (differ : ℕ → ℕ → Bool) (files : ℕ) → CanBeFollowed p files →
-    (ns : List ℤ) (steps until : ℕ) → mach (code_of p differ files) ns steps until ≡ mean p ns steps until
+    (ns : List ℤ) (steps until : ℕ) →
+    mach (code_of p differ files) ns steps until ≡ mean p ns steps until

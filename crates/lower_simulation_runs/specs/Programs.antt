@@ -1,8 +1,10 @@
 -- What is asked of a program, so that its code does what it means.
-use Rattle.std.specs.Prelude.{◌≡◌, ℕ, List, [], ◌∷◌, ◌++◌, map, Option, Some, None, Bool, true, false, slice_get, All}
+use Rattle.std.specs.Prelude.{◌≡◌, ℕ, List, [], ◌∷◌, ◌++◌, map, Option, Some, None, Bool, true}
+use Rattle.std.specs.Prelude.{false, slice_get, All}
 use Rattle.verse_tree.specs.Tree.{Tree, tree, Shape, Trees, no_trees, more_trees}
 use Rattle.verse_tree.specs.Tree as t
-use Rattle.verse_tree.specs.ItemTree.{FieldTree, FunTree, MemberTree, field, method, ItemTree, using, enumeration, class, function}
+use Rattle.verse_tree.specs.ItemTree.{FieldTree, FunTree, MemberTree, field, method, ItemTree}
+use Rattle.verse_tree.specs.ItemTree.{using, enumeration, class, function}
 use Rattle.verse_tree.specs.PostOrder.{What, expression, Node, items_order}
 use Rattle.verse_tree.specs.declared.tables.FunInfo.{FunInfo}
 use Rattle.verse_tree.specs.declared.tables.Ref.TheVariants as ref
@@ -58,9 +60,11 @@ pub record NumbersAgree (p : Program) : Type 0 where
   pub numbers : map (λ (f : FunInfo). f.item) p.names.funs ≡ map number_in (defined_in p.items)
   pub distinct : Distinct (map number_in (defined_in p.items))
   -- what a name stands for as a function is one, and no method
-  pub functions : (n f : ℕ) → ref_at p n ≡ Some (ref.Fun f) → (fn : FunTree) × (slice_get (defined_in p.items) f ≡ Some (a_function fn))
+  pub functions : (n f : ℕ) → ref_at p n ≡ Some (ref.Fun f) →
+      (fn : FunTree) × (slice_get (defined_in p.items) f ≡ Some (a_function fn))
   -- the methods of a class are methods
-  pub methods : (c m f : ℕ) → method_at p c m ≡ Some f → (fn : FunTree) × (slice_get (defined_in p.items) f ≡ Some (a_method fn))
+  pub methods : (c m f : ℕ) → method_at p c m ≡ Some f →
+      (fn : FunTree) × (slice_get (defined_in p.items) f ≡ Some (a_method fn))
   -- the fields with defaults have nodes of their own
   pub fields : Distinct (map field_number (defaults_in p.items))
 
@@ -98,7 +102,8 @@ module _ (p : Program) where
   ArmsStand no_trees = Unit {0}
   ArmsStand (more_trees b ts) = ArmTreeStands b (none_left ts) × ArmsStand ts
 
-  -- what is asked of a form beside its parts: no condition defers, a group has an arm, and patterns stand for values
+  -- what is asked of a form beside its parts: no condition defers, a group has an arm, and
+  -- patterns stand for values
   abbrev pub ShapeStands : Shape → Type 0
   ShapeStands (t.Shape.if_else cs b c) = any_defer cs ≡ false
   ShapeStands (t.Shape.if_alone cs b) = any_defer cs ≡ false
