@@ -9,6 +9,7 @@ pub mod Placing
 pub mod Numbering
 pub mod Bodies
 pub mod Fitting
+pub mod Shaping
 pub mod Forms
 pub mod Programs
 mod Example

@@ -7,7 +7,8 @@
 //! program stand in its code; `Placing`, where functions, methods and defaults stand among those
 //! bodies, and the tables of the code; `Numbering`, their numbers, from those of their nodes;
 //! `Bodies`, all bodies and calls by the bound of the steps; `Fitting`, what is asked of trees;
-//! `Forms`, every form; `Programs`, whole programs.
+//! `Shaping`, what of that the shapes of parsed trees give; `Forms`, every form; `Programs`, whole
+//! programs; `Example`, a program of which all that is asked holds.
 #![tactic(auto)]
 
 ghost use Rattle.lower_simulation_runs.specs.Laws.{CodeMeansTheSame};
