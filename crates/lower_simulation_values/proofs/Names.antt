@@ -12,7 +12,7 @@ use Rattle.verse_value.specs.Answer.{stuck as amiss}
 use Rattle.verse_meaning_state.specs.Effects.{still, slot_read}
 use Rattle.verse_meaning.specs.Programs.{ref_at}
 use Rattle.verse_meaning.specs.Residuals.{Env, Bound}
-use Rattle.verse_meaning.specs.Outcomes.{World, jammed, wrong, value, halted, told, if_known}
+use Rattle.verse_meaning.specs.Outcomes.{World, wrong, value, halted, told, if_known}
 use Rattle.verse_meaning.specs.Forms.{look, read_bound, read_slot_of}
 use Rattle.verse_meaning.specs.Runs.{deeper}
 use Rattle.verse_code_machine.specs.Frames.{fits, answered}
@@ -44,8 +44,8 @@ module _ (z : Setting) where
   pub read_leads : {j n : ℕ} {c : Ctx} {o : Around} {y : World} {ls st : List Val} {p : ℕ} (r : Option Val) (pl : Place) (env : Env) →
       fits c.handlers (suc p) ≡ true → Good n c.who.path o c.held c.also c.size y.state ls →
       LeadsTo z j n c o y.behind y.tasks (answered None (still
-          (given_or amiss r) y.state) c.who o.world y.state c.life ls st p c.handlers c.below) (on (suc p) st)
-          (told (still (given_or amiss r) y.state) pl env y)
+      (given_or amiss r) y.state) c.who o.world y.state c.life ls st p c.handlers c.below) (on (suc p) st)
+      (told (still (given_or amiss r) y.state) pl env y)
   unfolding told
   read_leads None pl env f g = record { go = λ g h. over _ h }
   read_leads (Some v) pl env f g = open_leads z _ f (value_here z g)
@@ -54,14 +54,18 @@ module _ (z : Setting) where
   pub two_stand : {ok : ℕ → Bool} {size n : ℕ} {out : Way} {s e : Spot} {x u : Op} → Stands z ok size out s (pc.plain (x ∷ u ∷ []) n) e →
       (Goes_on z ok s.at (suc s.at) x × Goes_on z ok (suc s.at) (suc (suc s.at)) u) × (pc.next (pc.next s) ≡ e)
   two_stand {s = s} {e} h =
-      let q = ap (λ (x : Spot). x.at) h.ends in
-      ((record { is = h.ops.0; fit = h.fit (suc s.at) (omega arith) (omega (arith, q)) },
-          record { is = h.ops.1.0; fit = h.fit (suc (suc s.at)) (omega arith) (omega (arith, q)) }), h.ends)
+      let q = ap (λ (x : Spot). x.at) h.ends in (
+        (
+          record { is = h.ops.0; fit = h.fit (suc s.at) (omega arith) (omega (arith, q)) },
+          record { is = h.ops.1.0; fit = h.fit (suc (suc s.at)) (omega arith) (omega (arith, q)) },
+        ),
+        h.ends,
+      )
 
   bound_leads : {j n : ℕ} {c : Ctx} {o : Around} {y : World} {ls st : List Val} {out : Way} {s e : Spot} (f : Found) (b : Option Bound)
       (pl : Place) → Stands z (fits c.handlers) c.size out s (read_found f s) e → Looked f b c.held →
       Good n c.who.path o c.held c.also c.size y.state ls → LeadsTo z j n c o y.behind y.tasks (at c o y.state ls st s.at) (on e.at st)
-          (read_bound b pl c.env y)
+      (read_bound b pl c.env y)
   bound_leads {j} {n} {c} {o} {y} {ls} {st} {out} {s} {e} absent b pl i h g = subst
       (λ b. LeadsTo z j n c o y.behind y.tasks (at c o y.state ls st s.at) (on e.at st) (read_bound b pl c.env y)) (sym h) (stuck_leads i)
   bound_leads {j} {n} {c} {o} {y} {ls} {st} {out} {s} {e} (fixed l) b pl i h g = subst
@@ -70,13 +74,13 @@ module _ (z : Setting) where
   bound_leads {j} {n} {c} {o} {y} {ls} {st} {out} {s} {e} (varies l) b pl i h g = subst
       (λ b. LeadsTo z j n c o y.behind y.tasks (at c o y.state ls st s.at) (on e.at st) (read_bound b pl c.env y)) (sym h.1)
       (let x = two_stand i in end_leads z x.1 (does_leads z x.0.0.is
-          (there_leads z y.state _ (in_holds l (object h.0) ls h.2 g.holds) (open_leads z _ x.0.0.fit
+      (there_leads z y.state _ (in_holds l (object h.0) ls h.2 g.holds) (open_leads z _ x.0.0.fit
       (does_leads z x.0.1.is (read_leads (slot_of y.state.memory.store h.0 0) pl c.env x.0.1.fit g))))))
 
   this_leads : {j n : ℕ} {c : Ctx} {o : Around} {y : World} {ls st : List Val} {out : Way} {s e : Spot} (f : Found) (b : Option Bound) →
       Stands z (fits c.handlers) c.size out s (read_this f s) e → Looked f b c.held →
       Good n c.who.path o c.held c.also c.size y.state ls → LeadsTo z j n c o y.behind y.tasks (at c o y.state ls st s.at) (on e.at st)
-          (if_known (constant_of b) y (λ v. value c.env v y))
+      (if_known (constant_of b) y (λ v. value c.env v y))
   unfolding if_known
   this_leads {j} {n} {c} {o} {y} {ls} {st} {out} {s} {e} absent b i h g = subst
       (λ b. LeadsTo z j n c o y.behind y.tasks (at c o y.state ls st s.at) (on e.at st)
@@ -95,23 +99,12 @@ module _ (z : Setting) where
       LeadsTo z j n c o y.behind y.tasks (answered None (slot_read slot v y.state) c.who o.world y.state c.life ls st p c.handlers c.below) (on (suc p) st) (told (slot_read slot v y.state) pl env y)
   unfolding told
   field_read {y = y} (object c) slot pl env f g = read_leads (slot_of y.state.memory.store c slot) pl env f g
-  field_read unit slot pl env f g = record { go = λ g h. over _ h }
-  field_read falsity slot pl env f g = record { go = λ g h. over _ h }
-  field_read truth slot pl env f g = record { go = λ g h. over _ h }
-  field_read (int x) slot pl env f g = record { go = λ g h. over _ h }
-  field_read (char x) slot pl env f g = record { go = λ g h. over _ h }
-  field_read (enum x u) slot pl env f g = record { go = λ g h. over _ h }
-  field_read (v.event x) slot pl env f g = record { go = λ g h. over _ h }
-  field_read (v.task x) slot pl env f g = record { go = λ g h. over _ h }
-  field_read (v.some x) slot pl env f g = record { go = λ g h. over _ h }
-  field_read (v.array x) slot pl env f g = record { go = λ g h. over _ h }
-  field_read (v.mapping x) slot pl env f g = record { go = λ g h. over _ h }
-  field_read (v.tuple x) slot pl env f g = record { go = λ g h. over _ h }
+  field_read v slot pl env f g = record { go = λ g h. over _ h }
 
   own_field_leads : {j n : ℕ} {c : Ctx} {o : Around} {y : World} {ls st : List Val} {out : Way} {s e : Spot} (slot : ℕ) (f : Found)
       (b : Option Bound) (pl : Place) → Stands z (fits c.handlers) c.size out s (field_of_this f slot s) e → Looked f b c.held →
       Good n c.who.path o c.held c.also c.size y.state ls → LeadsTo z j n c o y.behind y.tasks (at c o y.state ls st s.at) (on e.at st)
-          (read_slot_of (constant_of b) slot pl c.env y)
+      (read_slot_of (constant_of b) slot pl c.env y)
   own_field_leads {j} {n} {c} {o} {y} {ls} {st} {out} {s} {e} slot absent b pl i h g = subst
       (λ b. LeadsTo z j n c o y.behind y.tasks (at c o y.state ls st s.at) (on e.at st) (read_slot_of (constant_of b) slot pl c.env y))
       (sym h) (stuck_leads i)
@@ -119,7 +112,7 @@ module _ (z : Setting) where
       (λ b. LeadsTo z j n c o y.behind y.tasks (at c o y.state ls st s.at) (on e.at st) (read_slot_of (constant_of b) slot pl c.env y))
       (sym h.1)
       (let x = two_stand i in end_leads z x.1 (does_leads z x.0.0.is
-          (there_leads z y.state _ (in_holds l h.0 ls h.2 g.holds) (open_leads z _ x.0.0.fit
+      (there_leads z y.state _ (in_holds l h.0 ls h.2 g.holds) (open_leads z _ x.0.0.fit
       (does_leads z x.0.1.is (field_read h.0 slot pl c.env x.0.1.fit g))))))
   own_field_leads {j} {n} {c} {o} {y} {ls} {st} {out} {s} {e} slot (varies l) b pl i h g = subst
       (λ b. LeadsTo z j n c o y.behind y.tasks (at c o y.state ls st s.at) (on e.at st) (read_slot_of (constant_of b) slot pl c.env y))
@@ -130,18 +123,11 @@ module _ (z : Setting) (differ : ℕ → ℕ → Bool) (top : ℕ) where
       (x : Bytes) (ss : Names) (pl : Place) → Stands z (fits c.handlers) c.size out s (low.named z.program differ r x ss s) e →
       Fits ss c.env c.held →
       Good n c.who.path o c.held c.also c.size y.state ls → LeadsTo z j n c o y.behind y.tasks (at c o y.state ls st s.at) (on e.at st)
-          (named z.program (deeper z.program M) r x pl c.env y)
+      (named z.program (deeper z.program M) r x pl c.env y)
   unfolding named low.named
   named_leads {c = c} M (Some (ref.Field q slot)) x ss pl i h g = own_field_leads z slot (this_found ss) (look this_name c.env) pl i
       (looked this_name c.held ss c.env h) g
-  named_leads {c = c} M None x ss pl i h g = bound_leads z (find x ss) (look x c.env) pl i (looked x c.held ss c.env h) g
-  named_leads {c = c} M (Some (ref.Local q)) x ss pl i h g = bound_leads z (find x ss) (look x c.env) pl i (looked x c.held ss c.env h) g
-  named_leads {c = c} M (Some (ref.Key q)) x ss pl i h g = bound_leads z (find x ss) (look x c.env) pl i (looked x c.held ss c.env h) g
-  named_leads {c = c} M (Some (ref.Method q u)) x ss pl i h g = bound_leads z (find x ss) (look x c.env) pl i (looked x c.held ss c.env h) g
-  named_leads {c = c} M (Some (ref.Fun q)) x ss pl i h g = bound_leads z (find x ss) (look x c.env) pl i (looked x c.held ss c.env h) g
-  named_leads {c = c} M (Some (ref.Class q)) x ss pl i h g = bound_leads z (find x ss) (look x c.env) pl i (looked x c.held ss c.env h) g
-  named_leads {c = c} M (Some (ref.Enum q)) x ss pl i h g = bound_leads z (find x ss) (look x c.env) pl i (looked x c.held ss c.env h) g
-  named_leads {c = c} M (Some (ref.Builtin q)) x ss pl i h g = bound_leads z (find x ss) (look x c.env) pl i (looked x c.held ss c.env h) g
+  named_leads {c = c} M r x ss pl i h g = bound_leads z (find x ss) (look x c.env) pl i (looked x c.held ss c.env h) g
 
   pub name_leads : (n : ℕ) (pl : Place) (x : Bytes) → EvLeads z differ top (tree n pl (t.Shape.name x))
   name_leads n pl x ss a s e out w M j m c o y ls st i sc fw lt lM ab g = named_leads M (ref_at z.program n) x ss pl i sc.fits g
