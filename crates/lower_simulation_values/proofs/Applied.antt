@@ -96,37 +96,24 @@ module _ (z : Setting) (differ : ℕ → ℕ → Bool) (top : ℕ) where
       Done f vs x c below st → ((v : Val) (ws : List Val) → Wrong f (vs ++ v ∷ ws)) →
       Done f (vs ++ ws) (with_none n x) c (stacked ws below) st
   by_none f vs x zero [] q c below st h more = subst (λ u. Done f u x c below st) (sym (append-nil vs)) h
-  by_none f vs x zero (v ∷ ws) q c below st h more = absurd (omega (arith, q))
-  by_none f vs x (suc n) [] q c below st h more = absurd (omega (arith, q))
   by_none f vs x (suc n) (v ∷ ws) q c below st h more = wrong_done f (vs ++ v ∷ ws) c (stacked (v ∷ ws) below) st (more v ws)
+  by_none f vs x n ws q c below st h more = absurd (omega (arith, q))
 
   pub by_one : (f : Form) (vs : List Val) (x : Maker) (n : ℕ) (ws : List Val) → length ws ≡ n → (c : Ctx) (below st : List Val) →
       ((v : Val) → Done f (vs ++ v ∷ []) x c (v ∷ below) st) → Wrong f (vs ++ []) →
       ((v u : Val) (ws : List Val) → Wrong f (vs ++ v ∷ u ∷ ws)) → Done f (vs ++ ws) (with_one n x) c (stacked ws below) st
   by_one f vs x zero [] q c below st h w0 more = wrong_done f (vs ++ []) c below st w0
-  by_one f vs x zero (v ∷ ws) q c below st h w0 more = absurd (omega (arith, q))
-  by_one f vs x (suc zero) [] q c below st h w0 more = absurd (omega (arith, q))
   by_one f vs x (suc zero) (v ∷ []) q c below st h w0 more = h v
-  by_one f vs x (suc zero) (v ∷ (u ∷ ws)) q c below st h w0 more = absurd (omega (arith, q))
-  by_one f vs x (suc (suc n)) [] q c below st h w0 more = absurd (omega (arith, q))
-  by_one f vs x (suc (suc n)) (v ∷ []) q c below st h w0 more = absurd (omega (arith, q))
   by_one f vs x (suc (suc n)) (v ∷ (u ∷ ws)) q c below st h w0 more =
       wrong_done f (vs ++ v ∷ u ∷ ws) c (stacked (v ∷ u ∷ ws) below) st (more v u ws)
+  by_one f vs x n ws q c below st h w0 more = absurd (omega (arith, q))
 
   pub by_two : (f : Form) (x : Maker) (n : ℕ) (ws : List Val) → length ws ≡ n → (c : Ctx) (below st : List Val) →
       ((v u : Val) → Done f (v ∷ u ∷ []) x c (u ∷ v ∷ below) st) → Wrong f [] → ((v : Val) → Wrong f (v ∷ [])) →
       ((v u r : Val) (ws : List Val) → Wrong f (v ∷ u ∷ r ∷ ws)) → Done f ws (with_two n x) c (stacked ws below) st
   by_two f x zero [] q c below st h w0 w1 more = wrong_done f [] c below st w0
-  by_two f x zero (v ∷ ws) q c below st h w0 w1 more = absurd (omega (arith, q))
-  by_two f x (suc zero) [] q c below st h w0 w1 more = absurd (omega (arith, q))
   by_two f x (suc zero) (v ∷ []) q c below st h w0 w1 more = wrong_done f (v ∷ []) c (v ∷ below) st (w1 v)
-  by_two f x (suc zero) (v ∷ (u ∷ ws)) q c below st h w0 w1 more = absurd (omega (arith, q))
-  by_two f x (suc (suc zero)) [] q c below st h w0 w1 more = absurd (omega (arith, q))
-  by_two f x (suc (suc zero)) (v ∷ []) q c below st h w0 w1 more = absurd (omega (arith, q))
   by_two f x (suc (suc zero)) (v ∷ (u ∷ [])) q c below st h w0 w1 more = h v u
-  by_two f x (suc (suc zero)) (v ∷ (u ∷ (r ∷ ws))) q c below st h w0 w1 more = absurd (omega (arith, q))
-  by_two f x (suc (suc (suc n))) [] q c below st h w0 w1 more = absurd (omega (arith, q))
-  by_two f x (suc (suc (suc n))) (v ∷ []) q c below st h w0 w1 more = absurd (omega (arith, q))
-  by_two f x (suc (suc (suc n))) (v ∷ (u ∷ [])) q c below st h w0 w1 more = absurd (omega (arith, q))
   by_two f x (suc (suc (suc n))) (v ∷ (u ∷ (r ∷ ws))) q c below st h w0 w1 more =
       wrong_done f (v ∷ u ∷ r ∷ ws) c (stacked (v ∷ u ∷ r ∷ ws) below) st (more v u r ws)
+  by_two f x n ws q c below st h w0 w1 more = absurd (omega (arith, q))

@@ -141,16 +141,12 @@ module _ (z : Setting) (differ : ℕ → ℕ → Bool) (top : ℕ) where
       does_leads z (op_stands z r.0).is (open_leads z _ (op_stands z r.0).fit (op_leads z r.1 (λ k.
       outside_leads z w y (λ y. signal_told z.program (deeper z.program M) [] a c.env y) _ fw (λ fr.
       told_plain_leads z (signal_sent (event_of a y.state) unit y.state) c.env k.fit (signal_calm (event_of a y.state) unit y) g))))
-  signalling_applied zero c a st (u ∷ ws) q = absurd (omega (arith, q))
-  signalling_applied (suc zero) c a st [] q = absurd (omega (arith, q))
   signalling_applied (suc zero) c a st (u ∷ []) q = λ s e out w M j m o y ls x fw lt lM g. op_leads z x (λ k.
       outside_leads z w y (λ y. signal_told z.program (deeper z.program M) (u ∷ []) a c.env y) _ fw (λ fr.
       told_plain_leads z (signal_sent (event_of a y.state) u y.state) c.env k.fit (signal_calm (event_of a y.state) u y) g))
-  signalling_applied (suc zero) c a st (u ∷ (r ∷ ws)) q = absurd (omega (arith, q))
-  signalling_applied (suc (suc n)) c a st [] q = absurd (omega (arith, q))
-  signalling_applied (suc (suc n)) c a st (u ∷ []) q = absurd (omega (arith, q))
   signalling_applied (suc (suc n)) c a st (u ∷ (r ∷ ws)) q = λ s e out w M j m o y ls x fw lt lM g.
       outside_stuck z w (λ y. signal_told z.program (deeper z.program M) (u ∷ r ∷ ws) a c.env y) refl x
+  signalling_applied n c a st ws q = absurd (omega (arith, q))
 
   await_done : AwaitsLead z top → (is_event : Bool) (c : Ctx) (a : Val) (st : List Val) →
       Done z differ top (form.awaiting is_event) (a ∷ []) (one (awaiting is_event)) c (a ∷ st) st

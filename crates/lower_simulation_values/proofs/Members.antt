@@ -74,7 +74,9 @@ module _ (z : Setting) (differ : ℕ → ℕ → Bool) (top : ℕ) where
   -- what is read in a slot, of an operation without a place on both sides
   plain_read : {j n : ℕ} {c : Ctx} {o : Around} {y : World} {ls st : List Val} {p : ℕ} (u : Val) (slot : ℕ) (env : Env) →
       fits c.handlers (suc p) ≡ true → Good n c.who.path o c.held c.also c.size y.state ls →
-      LeadsTo z j n c o y.behind y.tasks (answered None (slot_read slot u y.state) c.who o.world y.state c.life ls st p c.handlers c.below) (on (suc p) st) (told_plain (slot_read slot u y.state) env y)
+      LeadsTo z j n c o y.behind y.tasks
+      (answered None (slot_read slot u y.state) c.who o.world y.state c.life ls st p c.handlers c.below) (on (suc p) st)
+      (told_plain (slot_read slot u y.state) env y)
   plain_read {y = y} u slot env f g = told_plain_leads z (slot_read slot u y.state) env f (read_calm u slot y.state) g
     where
       given_calm : (r : Option Val) (s : State) → Calmly z (still (given_or amiss r) s) s
@@ -127,15 +129,8 @@ module _ (z : Setting) (differ : ℕ → ℕ → Bool) (top : ℕ) where
   by_length false = ((λ l vs e w. refl), defining_applied)
 
   member_of : (r : Option Ref) (x : Bytes) → Member_of (member_form r x)
-  member_of None x = by_length (same_name x length_name)
   member_of (Some (ref.Field q slot)) x = ((λ l vs e w. refl), reading_applied slot)
-  member_of (Some (ref.Local q)) x = by_length (same_name x length_name)
-  member_of (Some (ref.Key q)) x = by_length (same_name x length_name)
-  member_of (Some (ref.Method q u)) x = by_length (same_name x length_name)
-  member_of (Some (ref.Fun q)) x = by_length (same_name x length_name)
-  member_of (Some (ref.Class q)) x = by_length (same_name x length_name)
-  member_of (Some (ref.Enum q)) x = by_length (same_name x length_name)
-  member_of (Some (ref.Builtin q)) x = by_length (same_name x length_name)
+  member_of r x = by_length (same_name x length_name)
 
   enum_leads : {j n : ℕ} {c : Ctx} {o : Around} {y : World} {ls st : List Val} {out : Way} {s e : Spot} (M : ℕ) (r : Option Val)
       (f : Maker) (go : World → Outcome) → IsEnum r → Stands z (fits c.handlers) c.size out s (low.membered z.program differ r f s) e →
@@ -157,15 +152,8 @@ module _ (z : Setting) (differ : ℕ → ℕ → Bool) (top : ℕ) where
   value_in_is e x (Some u) = enum_val_is e (place_of x u.values)
 
   is_enum_is : (r : Option Ref) (x : Bytes) → IsEnum (is_enum z.program r x)
-  is_enum_is None x = tt
   is_enum_is (Some (ref.Enum e)) x = value_in_is e x (nth (enums z.program.items) e)
-  is_enum_is (Some (ref.Field q u)) x = tt
-  is_enum_is (Some (ref.Local q)) x = tt
-  is_enum_is (Some (ref.Key q)) x = tt
-  is_enum_is (Some (ref.Method q u)) x = tt
-  is_enum_is (Some (ref.Fun q)) x = tt
-  is_enum_is (Some (ref.Class q)) x = tt
-  is_enum_is (Some (ref.Builtin q)) x = tt
+  is_enum_is r x = tt
 
   enum_member_is : (b : Tree) (x : Bytes) → IsEnum (enum_member z.program b x)
   enum_member_is (tree n pl s) x = is_enum_is (ref_at z.program n) x
