@@ -6,8 +6,7 @@ use Rattle.verse_tree.specs.Tree as t
 use Rattle.verse_tree.specs.declared.tables.Ref.{Ref}
 use Rattle.verse_tree.specs.declared.tables.Ref.TheVariants as ref
 use Rattle.verse_code.specs.declared.operations.Op.TheVariants as op
-use Rattle.verse_value.specs.Val as v
-use Rattle.verse_value.specs.Val.{Val, unit, falsity, truth, int, char, object, enum}
+use Rattle.verse_value.specs.Val.{Val, object, enum}
 use Rattle.verse_value.specs.Answer.{stuck as amiss}
 use Rattle.verse_meaning_state.specs.State.{State}
 use Rattle.verse_meaning_state.specs.Waits.{nth}

@@ -1,13 +1,11 @@
 -- Names.
-use Rattle.std.proofs.Common.{◌≡◌, ℕ, suc, List, [], ◌∷◌, Option, Some, None, Bool, true, sym, ap, subst, arith}
+use Rattle.std.proofs.Common.{◌≡◌, ℕ, suc, List, ◌∷◌, Option, Some, None, Bool, true, ap}
 use Rattle.verse_base.specs.declared.places.Place.{Place}
 use Rattle.verse_tree.specs.Tree.{Bytes, Tree, tree, Shape, Trees, no_trees, more_trees}
 use Rattle.verse_tree.specs.Tree as t
 use Rattle.verse_tree.specs.declared.tables.Ref.{Ref}
 use Rattle.verse_tree.specs.declared.tables.Ref.TheVariants as ref
-use Rattle.verse_code.specs.declared.operations.Op.{Op}
-use Rattle.verse_value.specs.Val as v
-use Rattle.verse_value.specs.Val.{Val, unit, falsity, truth, int, char, object, enum}
+use Rattle.verse_value.specs.Val.{Val, object}
 use Rattle.verse_value.specs.Answer.{stuck as amiss}
 use Rattle.verse_meaning_state.specs.Effects.{still, slot_read}
 use Rattle.verse_meaning.specs.Programs.{ref_at}
