@@ -16,7 +16,7 @@ use Rattle.verse_meaning.specs.Evaluating.{targets, base_of, mode_of, number_of}
 use Rattle.verse_meaning.specs.Runs.{deeper}
 use Rattle.verse_code_machine.specs.Frames.{fits, free}
 use Rattle.lower_code.specs.Applied.{storing, slot_of, mode_number}
-use Rattle.lower_code.specs.Pieces.{Spot, Maker, past, when_else, numbering, ◌then◌}
+use Rattle.lower_code.specs.Pieces.{Spot, Maker, past, next, one, when_else, numbering, ◌then◌}
 use Rattle.lower_code.specs.Scopes.{Scope as Names, Found, fixed, varies, absent, find, this_found, push_fixed, push_varies, is_fixed}
 use Rattle.lower_code.specs.Scopes.{is_varies}
 use Rattle.lower_code.specs.declared.arounds.Around.{Around as Where}
@@ -24,12 +24,12 @@ use Rattle.lower_code.specs.Arounds.{up, raised}
 use Rattle.lower_code.specs.Lowering as low
 use Rattle.lower_code.specs.Lowering.{piece, keeps, has_base, target_operands}
 use Rattle.lower_simulation.proofs.Steps.{over}
-use Rattle.lower_simulation.proofs.Claims.{Way, Setting, Ctx, Around, at, Good, on, Above}
-use Rattle.lower_simulation.proofs.Locals.{in_holds, Looked, looked}
+use Rattle.lower_simulation.proofs.Claims.{Way, Setting, Ctx, Around, at, Good, on, Above, In}
+use Rattle.lower_simulation.proofs.Locals.{Looked, looked}
 use Rattle.lower_simulation.proofs.Standing.{Stands, then_stand, op_stands, numbering_stand}
-use Rattle.lower_simulation.proofs.Leading.{LeadsTo, does_leads, open_leads, there_leads, is_leads}
+use Rattle.lower_simulation.proofs.Leading.{LeadsTo, does_leads, open_leads, is_leads}
 use Rattle.lower_simulation.proofs.Forms.{Static, on_one, stacked, EvLeads}
-use Rattle.lower_simulation_values.proofs.Names.{stuck_leads}
+use Rattle.lower_simulation_values.proofs.Names.{stuck_leads, get_leads}
 use Rattle.lower_simulation_values.proofs.Tables.{Every}
 use Rattle.lower_simulation_values.proofs.Operands.{in_turn, Listed, listed_leads}
 use Rattle.lower_simulation_values.proofs.Applied.{Leads}
@@ -119,59 +119,74 @@ module _ (z : Setting) (differ : ℕ → ℕ → Bool) (top : ℕ) where
       listed_leads z differ top xs hs (form.storing (base_for r) (mode_of x) pl) (λ l vs e w. refl) ss a s l out w M j n c o y ls below []
       (on e.at st) k.0 sc fw lt lM ab g (λ ws q w M i m fw le lM o y ls g. fin ws (q ∙ many) l e w M i m o y ls k.1 g)
 
+  -- a cell is there, and lies beneath the operands
+  with_cell : (x : Assign) (keep : Bool) (pl : Place) (r : Root) (xs : List Tree) (i l : ℕ) (cell : Val) →
+      Every (EvLeads z differ top) xs → length xs ≡ suc i → operands_of r i ≡ i → (ss : Names) (a : Where) (s m e : Spot) (out : Way)
+      (w : Bool) (M j n : ℕ) (c : Ctx) (o : Around) (y : World) (ls st : List Val) →
+      Stands z (fits c.handlers) c.size out s (one (op.Get l) s) (next s) → In l cell c.held →
+      ((M : ℕ) (ws : List Val) (y : World) → stored z.program (deeper z.program M) (base_for r) ws (mode_of x) pl c.env y ≡
+      written_to z.program (deeper z.program 0) (Some cell) (slot_of (base_for r)) ws (mode_of x) pl c.env y) →
+      From_root x keep pl r xs i ss true (up a) c (next s) m e out → Static top c ss out a → free c.handlers c.life.noted c.below ≡ w →
+      n ≤ top → n ≤ M → Above a.height st c.base → Good n c.who.path o c.held c.also c.size y.state ls →
+      LeadsTo z j n c o y.behind y.tasks (at c o y.state ls st s.at) (on e.at st)
+      (in_turn z differ top (form.storing (base_for r) (mode_of x) pl) [] xs w M c.env y)
+  with_cell x keep pl r xs i l cell hs many plain ss a s m e out w M j n c o y ls st b h eq k sc fw lt lM ab g =
+      get_leads z (op_stands z b) h g (operands_lead x keep pl r xs i hs (many ∙ ap suc (sym plain)) true ss (up a) (next s) m e out w M j n c
+      o y ls (cell ∷ st) st k (on_one sc) fw lt lM ab g (written_beneath x keep pl r i ss c cell st out plain sc eq))
+
+  -- there is none
+  without_cell : (x : Assign) (keep : Bool) (pl : Place) (r : Root) (xs : List Tree) (i : ℕ) →
+      Every (EvLeads z differ top) xs → length xs ≡ suc i → operands_of r i ≡ i → (ss : Names) (a : Where) (s m e : Spot) (out : Way)
+      (w : Bool) (M j n : ℕ) (c : Ctx) (o : Around) (y : World) (ls st : List Val) →
+      Stands z (fits c.handlers) c.size out s (one op.Unit s) (next s) →
+      ((M : ℕ) (ws : List Val) (y : World) →
+      stored z.program (deeper z.program M) (base_for r) ws (mode_of x) pl c.env y ≡ halted (wrong y.state)) →
+      From_root x keep pl r xs i ss false (up a) c (next s) m e out → Static top c ss out a → free c.handlers c.life.noted c.below ≡ w →
+      n ≤ top → n ≤ M → Above a.height st c.base → Good n c.who.path o c.held c.also c.size y.state ls →
+      LeadsTo z j n c o y.behind y.tasks (at c o y.state ls st s.at) (on e.at st)
+      (in_turn z differ top (form.storing (base_for r) (mode_of x) pl) [] xs w M c.env y)
+  without_cell x keep pl r xs i hs many plain ss a s m e out w M j n c o y ls st b eq k sc fw lt lM ab g =
+      does_leads z (op_stands z b).is (open_leads z y.state (op_stands z b).fit (operands_lead x keep pl r xs i hs (many ∙ ap suc (sym plain))
+      false ss (up a) (next s) m e out w M j n c o y ls (unit ∷ st) st k (on_one sc) fw lt lM ab g
+      (unwritten x keep pl r i ss c (unit ∷ st) st out eq)))
+
   variable_leads : (x : Assign) (keep : Bool) (pl : Place) (v : Bytes) (xs : List Tree) (i : ℕ) → Every (EvLeads z differ top) xs →
-      length xs ≡ suc i → (ss : Names) (a : Where) (s l e : Spot) (out : Way) (w : Bool) (M j n : ℕ) (c : Ctx) (o : Around) (y : World)
+      length xs ≡ suc i → (ss : Names) (a : Where) (s m e : Spot) (out : Way) (w : Bool) (M j n : ℕ) (c : Ctx) (o : Around) (y : World)
       (ls st : List Val) (r : Found) → Looked r (look v c.env) c.held →
       Stands z (fits c.handlers) c.size out s (push_varies r s) (past s (push_varies r s)) →
-      From_root x keep pl (variable_root v) xs i ss (is_varies r) (up a) c (past s (push_varies r s)) l e out → Static top c ss out a →
+      From_root x keep pl (variable_root v) xs i ss (is_varies r) (up a) c (past s (push_varies r s)) m e out → Static top c ss out a →
       free c.handlers c.life.noted c.below ≡ w → n ≤ top → n ≤ M → Above a.height st c.base →
       Good n c.who.path o c.held c.also c.size y.state ls → LeadsTo z j n c o y.behind y.tasks (at c o y.state ls st s.at) (on e.at st)
       (in_turn z differ top (form.storing (in_variable v) (mode_of x) pl) [] xs w M c.env y)
-  variable_leads x keep pl v xs i hs many ss a s l e out w M j n c o y ls st (varies q) h b k sc fw lt lM ab g =
-      does_leads z (op_stands z b).is (there_leads z y.state _ (in_holds q (object h.0) ls h.2 g.holds)
-      (open_leads z _ (op_stands z b).fit (operands_lead x keep pl (variable_root v) xs i hs many true ss (up a) _ l e out w M j n c o y ls
-      (object h.0 ∷ st) st k (on_one sc) fw lt lM ab g
-      (written_beneath x keep pl (variable_root v) i ss c (object h.0) st out refl sc (λ M ws y.
-      ap (λ (b : Option Bound). written_to z.program (deeper z.program 0) (cell_of b) 0 ws (mode_of x) pl c.env y) h.1)))))
-  variable_leads x keep pl v xs i hs many ss a s l e out w M j n c o y ls st (fixed q) h b k sc fw lt lM ab g =
-      does_leads z (op_stands z b).is (open_leads z _ (op_stands z b).fit
-      (operands_lead x keep pl (variable_root v) xs i hs many false ss (up a) _ l e out w M j n c o y ls (unit ∷ st) st k
-      (on_one sc) fw lt lM
-      ab g (unwritten x keep pl (variable_root v) i ss c (unit ∷ st) st out (λ M ws y.
-      ap (λ (b : Option Bound). written_to z.program (deeper z.program 0) (cell_of b) 0 ws (mode_of x) pl c.env y) h.1))))
-  variable_leads x keep pl v xs i hs many ss a s l e out w M j n c o y ls st absent h b k sc fw lt lM ab g =
-      does_leads z (op_stands z b).is (open_leads z _ (op_stands z b).fit
-      (operands_lead x keep pl (variable_root v) xs i hs many false ss (up a) _ l e out w M j n c o y ls (unit ∷ st) st k
-      (on_one sc) fw lt lM
-      ab g (unwritten x keep pl (variable_root v) i ss c (unit ∷ st) st out (λ M ws y.
-      ap (λ (b : Option Bound). written_to z.program (deeper z.program 0) (cell_of b) 0 ws (mode_of x) pl c.env y) h))))
+  variable_leads x keep pl v xs i hs many ss a s m e out w M j n c o y ls st (varies l) h b k sc fw lt lM ab g =
+      with_cell x keep pl (variable_root v) xs i l (object h.0) hs many refl ss a s m e out w M j n c o y ls st b h.2 (λ M ws y.
+      ap (λ (b : Option Bound). written_to z.program (deeper z.program 0) (cell_of b) 0 ws (mode_of x) pl c.env y) h.1) k sc fw lt lM ab g
+  variable_leads x keep pl v xs i hs many ss a s m e out w M j n c o y ls st (fixed l) h b k sc fw lt lM ab g =
+      without_cell x keep pl (variable_root v) xs i hs many refl ss a s m e out w M j n c o y ls st b (λ M ws y.
+      ap (λ (b : Option Bound). written_to z.program (deeper z.program 0) (cell_of b) 0 ws (mode_of x) pl c.env y) h.1) k sc fw lt lM ab g
+  variable_leads x keep pl v xs i hs many ss a s m e out w M j n c o y ls st absent h b k sc fw lt lM ab g =
+      without_cell x keep pl (variable_root v) xs i hs many refl ss a s m e out w M j n c o y ls st b (λ M ws y.
+      ap (λ (b : Option Bound). written_to z.program (deeper z.program 0) (cell_of b) 0 ws (mode_of x) pl c.env y) h) k sc fw lt lM ab g
 
   self_leads : (x : Assign) (keep : Bool) (pl : Place) (slot : ℕ) (xs : List Tree) (i : ℕ) → Every (EvLeads z differ top) xs →
-      length xs ≡ suc i → (ss : Names) (a : Where) (s l e : Spot) (out : Way) (w : Bool) (M j n : ℕ) (c : Ctx) (o : Around) (y : World)
+      length xs ≡ suc i → (ss : Names) (a : Where) (s m e : Spot) (out : Way) (w : Bool) (M j n : ℕ) (c : Ctx) (o : Around) (y : World)
       (ls st : List Val) (r : Found) → Looked r (look this_name c.env) c.held →
       Stands z (fits c.handlers) c.size out s (push_fixed r s) (past s (push_fixed r s)) →
-      From_root x keep pl (self_root slot) xs i ss (is_fixed r) (up a) c (past s (push_fixed r s)) l e out → Static top c ss out a →
+      From_root x keep pl (self_root slot) xs i ss (is_fixed r) (up a) c (past s (push_fixed r s)) m e out → Static top c ss out a →
       free c.handlers c.life.noted c.below ≡ w → n ≤ top → n ≤ M → Above a.height st c.base →
       Good n c.who.path o c.held c.also c.size y.state ls → LeadsTo z j n c o y.behind y.tasks (at c o y.state ls st s.at) (on e.at st)
       (in_turn z differ top (form.storing (in_self slot) (mode_of x) pl) [] xs w M c.env y)
-  self_leads x keep pl slot xs i hs many ss a s l e out w M j n c o y ls st (fixed q) h b k sc fw lt lM ab g =
-      does_leads z (op_stands z b).is (there_leads z y.state _ (in_holds q h.0 ls h.2 g.holds)
-      (open_leads z _ (op_stands z b).fit (operands_lead x keep pl (self_root slot) xs i hs many true ss (up a) _ l e out w M j n c o y ls
-      (h.0 ∷ st) st k (on_one sc) fw lt lM ab g
-      (written_beneath x keep pl (self_root slot) i ss c h.0 st out refl sc (λ M ws y.
-      ap (λ (b : Option Bound). written_to z.program (deeper z.program 0) (constant_of b) slot ws (mode_of x) pl c.env y) h.1)))))
-  self_leads x keep pl slot xs i hs many ss a s l e out w M j n c o y ls st (varies q) h b k sc fw lt lM ab g =
-      does_leads z (op_stands z b).is (open_leads z _ (op_stands z b).fit
-      (operands_lead x keep pl (self_root slot) xs i hs many false ss (up a) _ l e out w M j n c o y ls (unit ∷ st) st k
-      (on_one sc) fw lt lM
-      ab g (unwritten x keep pl (self_root slot) i ss c (unit ∷ st) st out (λ M ws y.
-      ap (λ (b : Option Bound). written_to z.program (deeper z.program 0) (constant_of b) slot ws (mode_of x) pl c.env y) h.1))))
-  self_leads x keep pl slot xs i hs many ss a s l e out w M j n c o y ls st absent h b k sc fw lt lM ab g =
-      does_leads z (op_stands z b).is (open_leads z _ (op_stands z b).fit
-      (operands_lead x keep pl (self_root slot) xs i hs many false ss (up a) _ l e out w M j n c o y ls (unit ∷ st) st k
-      (on_one sc) fw lt lM
-      ab g (unwritten x keep pl (self_root slot) i ss c (unit ∷ st) st out (λ M ws y.
-      ap (λ (b : Option Bound). written_to z.program (deeper z.program 0) (constant_of b) slot ws (mode_of x) pl c.env y) h))))
+  self_leads x keep pl slot xs i hs many ss a s m e out w M j n c o y ls st (fixed l) h b k sc fw lt lM ab g =
+      with_cell x keep pl (self_root slot) xs i l h.0 hs many refl ss a s m e out w M j n c o y ls st b h.2 (λ M ws y.
+      ap (λ (b : Option Bound). written_to z.program (deeper z.program 0) (constant_of b) slot ws (mode_of x) pl c.env y) h.1) k sc fw lt lM
+      ab g
+  self_leads x keep pl slot xs i hs many ss a s m e out w M j n c o y ls st (varies l) h b k sc fw lt lM ab g =
+      without_cell x keep pl (self_root slot) xs i hs many refl ss a s m e out w M j n c o y ls st b (λ M ws y.
+      ap (λ (b : Option Bound). written_to z.program (deeper z.program 0) (constant_of b) slot ws (mode_of x) pl c.env y) h.1) k sc fw lt lM
+      ab g
+  self_leads x keep pl slot xs i hs many ss a s m e out w M j n c o y ls st absent h b k sc fw lt lM ab g =
+      without_cell x keep pl (self_root slot) xs i hs many refl ss a s m e out w M j n c o y ls st b (λ M ws y.
+      ap (λ (b : Option Bound). written_to z.program (deeper z.program 0) (constant_of b) slot ws (mode_of x) pl c.env y) h) k sc fw lt lM ab g
 
   root_leads : (x : Assign) (keep : Bool) (pl : Place) (r : Root) (xs : List Tree) (i : ℕ) → Every (EvLeads z differ top) xs →
       length xs ≡ suc (operands_of r i) → (ss : Names) (a : Where) (s l e : Spot) (out : Way) (w : Bool) (M j n : ℕ) (c : Ctx) (o : Around)

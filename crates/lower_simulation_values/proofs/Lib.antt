@@ -3,10 +3,10 @@ pub mod Operands
 pub mod Names
 pub mod Unfit
 pub mod Operators
-pub mod Members
 pub mod Texts
 pub mod Made
 pub mod Applied
+pub mod Members
 pub mod Callees
 pub mod Calls
 pub mod Called

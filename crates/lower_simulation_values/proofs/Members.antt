@@ -1,11 +1,10 @@
--- Members and returns.
-use Rattle.std.proofs.Common.{◌≡◌, ℕ, suc, ◌≤◌, List, [], ◌∷◌, Option, Some, None, Bool, true, false, cond, refl}
+-- Members: values of an enum, fields, lengths, and values themselves.
+use Rattle.std.proofs.Common.{◌≡◌, ℕ, suc, List, [], ◌∷◌, Option, Some, None, Bool, true, false, cond, refl}
 use Rattle.verse_base.specs.declared.places.Place.{Place}
 use Rattle.verse_tree.specs.Tree.{Bytes, Tree, tree, Shape, Trees, no_trees, more_trees}
 use Rattle.verse_tree.specs.Tree as t
 use Rattle.verse_tree.specs.declared.tables.Ref.{Ref}
 use Rattle.verse_tree.specs.declared.tables.Ref.TheVariants as ref
-use Rattle.verse_code.specs.declared.operations.Op.TheVariants as op
 use Rattle.verse_value.specs.Val.{Val, object, enum}
 use Rattle.verse_value.specs.Answer.{stuck as amiss}
 use Rattle.verse_meaning_state.specs.State.{State}
@@ -15,33 +14,26 @@ use Rattle.verse_meaning.specs.Programs.{ref_at}
 use Rattle.verse_meaning.specs.Residuals as form
 use Rattle.verse_meaning.specs.Residuals.{Env, Form, Bound, constant, variable, Residual, args, seq, Scopes, Binder, no_name, a_constant}
 use Rattle.verse_meaning.specs.Residuals.{a_variable}
-use Rattle.verse_meaning.specs.Outcomes.{World, Outcome, returned, told_plain}
+use Rattle.verse_meaning.specs.Outcomes.{World, Outcome, told_plain}
 use Rattle.verse_meaning.specs.Forms.{apply}
 use Rattle.verse_meaning.specs.Evaluating.{all_args}
-use Rattle.verse_meaning.specs.Resuming.{form_done}
 use Rattle.verse_meaning.specs.Runs.{deeper}
-use Rattle.verse_code_machine.specs.Frames.{fits, free, answered}
+use Rattle.verse_code_machine.specs.Frames.{fits, answered}
 use Rattle.lower_code.specs.Applied as applied
-use Rattle.lower_code.specs.Pieces as pc
-use Rattle.lower_code.specs.Pieces.{Spot, Maker, past, ◌then◌}
-use Rattle.lower_code.specs.Scopes.{Scope as Names}
-use Rattle.lower_code.specs.declared.arounds.Around.{Around as Where}
-use Rattle.lower_code.specs.Arounds.{returning}
-use Rattle.lower_simulation.proofs.Leaving.{returning_stand}
+use Rattle.lower_code.specs.Pieces.{Spot, Maker, ◌then◌}
 use Rattle.lower_code.specs.Lowering.{piece, shape_piece, how_many}
 use Rattle.lower_code.specs.Lowering as low
-use Rattle.lower_simulation.proofs.Claims.{Way, Setting, Ctx, Around, at, Good, Target, on, Above, same_around}
-use Rattle.lower_simulation.proofs.Going.{le_self}
-use Rattle.lower_simulation.proofs.Standing.{Stands, op_stands}
-use Rattle.lower_simulation.proofs.Leading.{LeadsTo, value_leads, does_leads, open_leads, value_here, told_plain_leads, Calmly, still_calm}
+use Rattle.lower_simulation.proofs.Claims.{Way, Setting, Ctx, Around, at, Good, on}
+use Rattle.lower_simulation.proofs.Standing.{Stands}
+use Rattle.lower_simulation.proofs.Leading.{LeadsTo, open_leads, value_here, told_plain_leads, Calmly, still_calm}
 use Rattle.verse_value.specs.Operations.{length_of}
 use Rattle.verse_value.specs.Answer.{given_or}
 use Rattle.verse_value.specs.Store.{slot_of}
 use Rattle.verse_meaning.specs.Programs.{same_name, enum_val, value_in, place_of, enums}
 use Rattle.verse_tree.specs.ItemTree.{EnumTree}
 use Rattle.verse_meaning.specs.Evaluating.{enum_member, is_enum, member_form, membered, length_name}
-use Rattle.lower_simulation.proofs.Claims.{Returns}
-use Rattle.lower_simulation.proofs.Forms.{Static, start_leads, op_leads, EvLeads, args_leads, one_finish}
+use Rattle.lower_simulation.proofs.Forms.{IsPlain, start_leads, op_leads, EvLeads, args_leads, one_finish}
+use Rattle.lower_simulation_values.proofs.Applied.{Leads}
 use Rattle.lower_simulation.proofs.Standing.{then_stand}
 
 -- a value of an enum, where there is one
@@ -51,25 +43,6 @@ IsEnum (Some (enum a b)) = Unit {0}
 IsEnum (Some v) = ⊥
 
 module _ (z : Setting) (differ : ℕ → ℕ → Bool) (top : ℕ) where
-  gone_leads : {j n : ℕ} {c : Ctx} {o : Around} {y : World} {ls stk : List Val} {a : ℕ} {into : Target} {v : Val} →
-      Returns z c.handlers c.life c.leave a → Good n c.who.path o c.held c.also c.size y.state ls →
-      LeadsTo z j n c o y.behind y.tasks (at c o y.state ls (v ∷ stk) a) into (returned v y)
-  gone_leads {n = n} {o = o} {ls = ls} {stk} {a} r g = record { go = λ t h. h n o (same_around le_self) a ls stk r g }
-
-  pub returned_leads : (n : ℕ) (pl : Place) (x : Tree) → EvLeads z differ top x → EvLeads z differ top (tree n pl (t.Shape.returned x))
-  returned_leads n pl x hx ss a s e out w M j m c o y ls st i sc fw lt lM ab g =
-      let r = then_stand z s e (piece z.program differ x ss a) (returning a) i in
-      value_leads z (on (past s (piece z.program differ x ss a s)).at st) _ _ (λ r. args c.env form.returning [] r [])
-      (λ w M v y. returned v y)
-      fw lM (λ r. refl) (λ r M w. refl) (λ r M w. refl) (λ l x n v y. refl)
-      (hx ss a s _ out w M j m c o y ls st r.0 sc fw lt lM ab g) (λ w M i n fw le lM o v y ls g.
-      gone_leads (returning_stand z _ e sc r.1) g)
-
-  pub returned_unit_leads : (n : ℕ) (pl : Place) → EvLeads z differ top (tree n pl t.Shape.returned_unit)
-  returned_unit_leads n pl ss a s e out w M j m c o y ls st i sc fw lt lM ab g =
-      let r = then_stand z s e (pc.one op.Unit) (returning a) i in
-      does_leads z (op_stands z r.0).is (open_leads z _ (op_stands z r.0).fit (gone_leads (returning_stand z _ e sc r.1) g))
-
   -- what is read in a slot, of an operation without a place on both sides
   plain_read : {j n : ℕ} {c : Ctx} {o : Around} {y : World} {ls st : List Val} {p : ℕ} (u : Val) (slot : ℕ) (env : Env) →
       fits c.handlers (suc p) ≡ true → Good n c.who.path o c.held c.also c.size y.state ls →
@@ -103,15 +76,9 @@ module _ (z : Setting) (differ : ℕ → ℕ → Bool) (top : ℕ) where
   defining_applied v s e out w M i m c o y ls st x g = start_leads z x.ends (value_here z g)
 
   -- a form with one operand
-  one_leads : (f : Form) → ((l : ℕ) (vs : List Val) (e : Env) (w : World) →
-      form_done z.program (deeper z.program l) f vs e w ≡ apply z.program (deeper z.program l) f vs true e w) → One_applied f →
-      (x : Tree) → EvLeads z differ top x →
-      (ss : Names) (a : Where) (s e : Spot) (out : Way) (w : Bool) (M j m : ℕ) (c : Ctx) (o : Around) (y : World) (ls st : List Val) →
-      Stands z (fits c.handlers) c.size out s ((piece z.program differ x ss a then applied.finish f 1 true) s) e →
-      Static top c ss out a → free c.handlers c.life.noted c.below ≡ w → m ≤ top → m ≤ M → Above a.height st c.base →
-      Good m c.who.path o c.held c.also c.size y.state ls →
-      LeadsTo z j m c o y.behind y.tasks (at c o y.state ls st s.at) (on e.at st)
-      (all_args z.program (deeper z.program M) (more_trees x no_trees) f [] w c.env y)
+  one_leads : (f : Form) → IsPlain z differ top f → One_applied f → (x : Tree) → EvLeads z differ top x →
+      Leads z differ top (λ ss a. piece z.program differ x ss a then applied.finish f 1 true)
+      (λ w M e y. all_args z.program (deeper z.program M) (more_trees x no_trees) f [] w e y)
   one_leads f pf ha x hx ss a s e out w M j m c o y ls st i sc fw lt lM ab g =
       let r = then_stand z s e (piece z.program differ x ss a) (applied.finish f 1 true) i in
       args_leads z differ top (more_trees x no_trees) (hx, tt) f pf ss a s _ out w M j m c o y ls st [] (on e.at st)
@@ -120,8 +87,7 @@ module _ (z : Setting) (differ : ℕ → ℕ → Bool) (top : ℕ) where
 
   -- a member is a field, the length of an array or a map, or the value itself
   abbrev Member_of : Form → Type 0
-  Member_of f = ((l : ℕ) (vs : List Val) (e : Env) (w : World) → form_done z.program (deeper z.program l) f vs e w ≡ apply z.program
-      (deeper z.program l) f vs true e w) × One_applied f
+  Member_of f = IsPlain z differ top f × One_applied f
 
   by_length : (b : Bool) → Member_of (cond b form.measuring form.defining)
   by_length true = ((λ l vs e w. refl), measuring_applied)
