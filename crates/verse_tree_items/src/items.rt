@@ -236,4 +236,11 @@ impl ProgramTree {
     {
         &self.tree
     }
+
+    pub(crate) fn into_tree(self) -> Tree
+        ensures { result ≡ self }
+    {
+        let Self { tree } = self;
+        tree
+    }
 }
