@@ -131,7 +131,8 @@ module _ (z : Setting) (differ : ℕ → ℕ → Bool) (top : ℕ) where
       LeadsTo z j n c o y.behind y.tasks (at c o y.state ls st s.at) (on e.at st)
       (in_turn z differ top (form.storing (base_for r) (mode_of x) pl) [] xs w M c.env y)
   with_cell x keep pl r xs i l cell hs many plain ss a s m e out w M j n c o y ls st b h eq k sc fw lt lM ab g =
-      get_leads z (op_stands z b) h g (operands_lead x keep pl r xs i hs (many ∙ ap suc (sym plain)) true ss (up a) (next s) m e out w M j n c
+      get_leads z (op_stands z b) h g (operands_lead x keep pl r xs i hs (many ∙ ap suc (sym plain)) true ss (up a)
+      (next s) m e out w M j n c
       o y ls (cell ∷ st) st k (on_one sc) fw lt lM ab g (written_beneath x keep pl r i ss c cell st out plain sc eq))
 
   -- there is none
@@ -146,7 +147,8 @@ module _ (z : Setting) (differ : ℕ → ℕ → Bool) (top : ℕ) where
       LeadsTo z j n c o y.behind y.tasks (at c o y.state ls st s.at) (on e.at st)
       (in_turn z differ top (form.storing (base_for r) (mode_of x) pl) [] xs w M c.env y)
   without_cell x keep pl r xs i hs many plain ss a s m e out w M j n c o y ls st b eq k sc fw lt lM ab g =
-      does_leads z (op_stands z b).is (open_leads z y.state (op_stands z b).fit (operands_lead x keep pl r xs i hs (many ∙ ap suc (sym plain))
+      does_leads z (op_stands z b).is (open_leads z y.state (op_stands z b).fit
+      (operands_lead x keep pl r xs i hs (many ∙ ap suc (sym plain))
       false ss (up a) (next s) m e out w M j n c o y ls (unit ∷ st) st k (on_one sc) fw lt lM ab g
       (unwritten x keep pl r i ss c (unit ∷ st) st out eq)))
 
@@ -178,15 +180,18 @@ module _ (z : Setting) (differ : ℕ → ℕ → Bool) (top : ℕ) where
       (in_turn z differ top (form.storing (in_self slot) (mode_of x) pl) [] xs w M c.env y)
   self_leads x keep pl slot xs i hs many ss a s m e out w M j n c o y ls st (fixed l) h b k sc fw lt lM ab g =
       with_cell x keep pl (self_root slot) xs i l h.0 hs many refl ss a s m e out w M j n c o y ls st b h.2 (λ M ws y.
-      ap (λ (b : Option Bound). written_to z.program (deeper z.program 0) (constant_of b) slot ws (mode_of x) pl c.env y) h.1) k sc fw lt lM
+      ap (λ (b : Option Bound). written_to z.program (deeper z.program 0) (constant_of b) slot ws
+      (mode_of x) pl c.env y) h.1) k sc fw lt lM
       ab g
   self_leads x keep pl slot xs i hs many ss a s m e out w M j n c o y ls st (varies l) h b k sc fw lt lM ab g =
       without_cell x keep pl (self_root slot) xs i hs many refl ss a s m e out w M j n c o y ls st b (λ M ws y.
-      ap (λ (b : Option Bound). written_to z.program (deeper z.program 0) (constant_of b) slot ws (mode_of x) pl c.env y) h.1) k sc fw lt lM
+      ap (λ (b : Option Bound). written_to z.program (deeper z.program 0) (constant_of b) slot ws
+      (mode_of x) pl c.env y) h.1) k sc fw lt lM
       ab g
   self_leads x keep pl slot xs i hs many ss a s m e out w M j n c o y ls st absent h b k sc fw lt lM ab g =
       without_cell x keep pl (self_root slot) xs i hs many refl ss a s m e out w M j n c o y ls st b (λ M ws y.
-      ap (λ (b : Option Bound). written_to z.program (deeper z.program 0) (constant_of b) slot ws (mode_of x) pl c.env y) h) k sc fw lt lM ab g
+      ap (λ (b : Option Bound). written_to z.program (deeper z.program 0) (constant_of b) slot ws
+      (mode_of x) pl c.env y) h) k sc fw lt lM ab g
 
   root_leads : (x : Assign) (keep : Bool) (pl : Place) (r : Root) (xs : List Tree) (i : ℕ) → Every (EvLeads z differ top) xs →
       length xs ≡ suc (operands_of r i) → (ss : Names) (a : Where) (s l e : Spot) (out : Way) (w : Bool) (M j n : ℕ) (c : Ctx) (o : Around)
