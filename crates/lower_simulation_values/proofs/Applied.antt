@@ -1,21 +1,15 @@
 -- Operands, and the form that is applied to them.
-use Rattle.std.proofs.Common.{◌≡◌, ℕ, zero, suc, ◌+◌, ◌≤◌, List, [], ◌∷◌, ◌++◌, length, Bool, true, false, refl, sym, subst, arith, append-nil}
-use Rattle.verse_base.specs.declared.places.Place.{Place}
-use Rattle.verse_tree.specs.Tree.{Tree, tree, Shape, Trees, no_trees, more_trees}
-use Rattle.verse_tree.specs.Tree as t
+use Rattle.std.proofs.Common.{◌≡◌, ℕ, zero, suc, ◌≤◌, List, [], ◌∷◌, ◌++◌, length, Bool, true, sym, subst, arith, append-nil}
+use Rattle.verse_tree.specs.Tree.{Tree, Trees, more_trees}
 use Rattle.verse_value.specs.Val.{Val}
-use Rattle.verse_value.specs.Answer.{Answer}
-use Rattle.verse_meaning_state.specs.Effects.{still}
-use Rattle.verse_meaning.specs.Residuals as form
 use Rattle.verse_meaning.specs.Residuals.{Env, Form}
 use Rattle.verse_meaning.specs.Outcomes.{World, Outcome, halted, wrong}
 use Rattle.verse_meaning.specs.Forms.{apply}
-use Rattle.verse_meaning.specs.Evaluating as ev
 use Rattle.verse_meaning.specs.Evaluating.{all_args}
 use Rattle.verse_meaning.specs.Runs.{deeper}
 use Rattle.verse_code_machine.specs.Frames.{fits, free}
 use Rattle.lower_code.specs.Applied.{finish, with_none, with_one, with_two}
-use Rattle.lower_code.specs.Pieces.{Spot, Maker, past, ◌then◌, stuck}
+use Rattle.lower_code.specs.Pieces.{Spot, Maker, ◌then◌, stuck}
 use Rattle.lower_code.specs.Scopes.{Scope as Names}
 use Rattle.lower_code.specs.declared.arounds.Around.{Around as Where}
 use Rattle.lower_code.specs.Arounds.{up}
@@ -32,7 +26,8 @@ use Rattle.lower_simulation_values.proofs.Names.{stuck_leads}
 module _ (z : Setting) (differ : ℕ → ℕ → Bool) (top : ℕ) where
   -- what code leads to, for all names, arounds, spots and contexts; of the code of a tree it is `EvLeads`
   abbrev pub Leads : (Names → Where → Maker) → (Bool → ℕ → Env → World → Outcome) → Type 0
-  Leads f x = (ss : Names) (a : Where) (s e : Spot) (out : Way) (w : Bool) (M j n : ℕ) (c : Ctx) (o : Around) (y : World) (ls st : List Val) →
+  Leads f x = (ss : Names) (a : Where) (s e : Spot) (out : Way) (w : Bool) (M j n : ℕ) (c : Ctx) (o : Around) (y : World)
+      (ls st : List Val) →
       Stands z (fits c.handlers) c.size out s (f ss a s) e → Static top c ss out a → free c.handlers c.life.noted c.below ≡ w → n ≤ top →
       n ≤ M → Above a.height st c.base → Good n c.who.path o c.held c.also c.size y.state ls →
       LeadsTo z j n c o y.behind y.tasks (at c o y.state ls st s.at) (on e.at st) (x w M c.env y)
@@ -47,12 +42,14 @@ module _ (z : Setting) (differ : ℕ → ℕ → Bool) (top : ℕ) where
 
   -- operands beneath which the values vs lie already
   pub applied_leads : (f : Form) → IsPlain z differ top f → (ts : Trees) → All_lead z differ top ts → (fit : Bool) (vs : List Val)
-      (ss : Names) (a : Where) (s e : Spot) (out : Way) (w : Bool) (M j n : ℕ) (c : Ctx) (o : Around) (y : World) (ls below st : List Val) →
+      (ss : Names) (a : Where) (s e : Spot) (out : Way) (w : Bool) (M j n : ℕ) (c : Ctx) (o : Around) (y : World)
+      (ls below st : List Val) →
       Applied f vs (how_many ts) fit c below st →
       Stands z (fits c.handlers) c.size out s ((low.args z.program differ ts ss a then finish f (how_many ts) fit) s) e →
       Static top c ss out a → free c.handlers c.life.noted c.below ≡ w → n ≤ top → n ≤ M → Above a.height below c.base →
       Good n c.who.path o c.held c.also c.size y.state ls →
-      LeadsTo z j n c o y.behind y.tasks (at c o y.state ls below s.at) (on e.at st) (all_args z.program (deeper z.program M) ts f vs w c.env y)
+      LeadsTo z j n c o y.behind y.tasks (at c o y.state ls below s.at) (on e.at st)
+      (all_args z.program (deeper z.program M) ts f vs w c.env y)
   applied_leads f pf ts hs fit vs ss a s e out w M j n c o y ls below st ha i sc fw lt lM ab g =
       let r = then_stand z s e (low.args z.program differ ts ss a) (finish f (how_many ts) fit) i in
       args_leads z differ top ts hs f pf ss a s _ out w M j n c o y ls below vs (on e.at st)
@@ -65,7 +62,8 @@ module _ (z : Setting) (differ : ℕ → ℕ → Bool) (top : ℕ) where
       Leads (λ ss a. piece z.program differ b ss a then low.args z.program differ ts ss (up a) then finish f (how_many ts) true)
       (λ w M e y. all_args z.program (deeper z.program M) (more_trees b ts) f [] w e y)
   first_leads f pf b hb ts hs ha ss a s e out w M j n c o y ls st i sc fw lt lM ab g =
-      let r = then_stand z s e (piece z.program differ b ss a) (low.args z.program differ ts ss (up a) then finish f (how_many ts) true) i in
+      let r = then_stand z s e (piece z.program differ b ss a)
+      (low.args z.program differ ts ss (up a) then finish f (how_many ts) true) i in
       let r2 = then_stand z _ e (low.args z.program differ ts ss (up a)) (finish f (how_many ts) true) r.1 in
       args_leads z differ top (more_trees b ts) (hb, hs) f pf ss a s _ out w M j n c o y ls st [] (on e.at st)
       (r.0, args_stand z differ top ts ss (up a) (fits c.handlers) c.size out _ _ r2.0) sc fw lt lM ab g
@@ -95,39 +93,27 @@ module _ (z : Setting) (differ : ℕ → ℕ → Bool) (top : ℕ) where
   wrong_done f vs c stk st h s e out w M j m o y ls x fw lt lM g = is_leads z (h M w c.env y) (stuck_leads z x)
 
   pub by_none : (f : Form) (vs : List Val) (x : Maker) (n : ℕ) (ws : List Val) → length ws ≡ n → (c : Ctx) (below st : List Val) →
-      Done f vs x c below st → ((v : Val) (ws : List Val) → Wrong f (vs ++ v ∷ ws)) → Done f (vs ++ ws) (with_none n x) c (stacked ws below) st
+      Done f vs x c below st → ((v : Val) (ws : List Val) → Wrong f (vs ++ v ∷ ws)) →
+      Done f (vs ++ ws) (with_none n x) c (stacked ws below) st
   by_none f vs x zero [] q c below st h more = subst (λ u. Done f u x c below st) (sym (append-nil vs)) h
-  by_none f vs x zero (v ∷ ws) q c below st h more = absurd (omega (arith, q))
-  by_none f vs x (suc n) [] q c below st h more = absurd (omega (arith, q))
   by_none f vs x (suc n) (v ∷ ws) q c below st h more = wrong_done f (vs ++ v ∷ ws) c (stacked (v ∷ ws) below) st (more v ws)
+  by_none f vs x n ws q c below st h more = absurd (omega (arith, q))
 
   pub by_one : (f : Form) (vs : List Val) (x : Maker) (n : ℕ) (ws : List Val) → length ws ≡ n → (c : Ctx) (below st : List Val) →
       ((v : Val) → Done f (vs ++ v ∷ []) x c (v ∷ below) st) → Wrong f (vs ++ []) →
       ((v u : Val) (ws : List Val) → Wrong f (vs ++ v ∷ u ∷ ws)) → Done f (vs ++ ws) (with_one n x) c (stacked ws below) st
   by_one f vs x zero [] q c below st h w0 more = wrong_done f (vs ++ []) c below st w0
-  by_one f vs x zero (v ∷ ws) q c below st h w0 more = absurd (omega (arith, q))
-  by_one f vs x (suc zero) [] q c below st h w0 more = absurd (omega (arith, q))
   by_one f vs x (suc zero) (v ∷ []) q c below st h w0 more = h v
-  by_one f vs x (suc zero) (v ∷ (u ∷ ws)) q c below st h w0 more = absurd (omega (arith, q))
-  by_one f vs x (suc (suc n)) [] q c below st h w0 more = absurd (omega (arith, q))
-  by_one f vs x (suc (suc n)) (v ∷ []) q c below st h w0 more = absurd (omega (arith, q))
   by_one f vs x (suc (suc n)) (v ∷ (u ∷ ws)) q c below st h w0 more =
       wrong_done f (vs ++ v ∷ u ∷ ws) c (stacked (v ∷ u ∷ ws) below) st (more v u ws)
+  by_one f vs x n ws q c below st h w0 more = absurd (omega (arith, q))
 
   pub by_two : (f : Form) (x : Maker) (n : ℕ) (ws : List Val) → length ws ≡ n → (c : Ctx) (below st : List Val) →
       ((v u : Val) → Done f (v ∷ u ∷ []) x c (u ∷ v ∷ below) st) → Wrong f [] → ((v : Val) → Wrong f (v ∷ [])) →
       ((v u r : Val) (ws : List Val) → Wrong f (v ∷ u ∷ r ∷ ws)) → Done f ws (with_two n x) c (stacked ws below) st
   by_two f x zero [] q c below st h w0 w1 more = wrong_done f [] c below st w0
-  by_two f x zero (v ∷ ws) q c below st h w0 w1 more = absurd (omega (arith, q))
-  by_two f x (suc zero) [] q c below st h w0 w1 more = absurd (omega (arith, q))
   by_two f x (suc zero) (v ∷ []) q c below st h w0 w1 more = wrong_done f (v ∷ []) c (v ∷ below) st (w1 v)
-  by_two f x (suc zero) (v ∷ (u ∷ ws)) q c below st h w0 w1 more = absurd (omega (arith, q))
-  by_two f x (suc (suc zero)) [] q c below st h w0 w1 more = absurd (omega (arith, q))
-  by_two f x (suc (suc zero)) (v ∷ []) q c below st h w0 w1 more = absurd (omega (arith, q))
   by_two f x (suc (suc zero)) (v ∷ (u ∷ [])) q c below st h w0 w1 more = h v u
-  by_two f x (suc (suc zero)) (v ∷ (u ∷ (r ∷ ws))) q c below st h w0 w1 more = absurd (omega (arith, q))
-  by_two f x (suc (suc (suc n))) [] q c below st h w0 w1 more = absurd (omega (arith, q))
-  by_two f x (suc (suc (suc n))) (v ∷ []) q c below st h w0 w1 more = absurd (omega (arith, q))
-  by_two f x (suc (suc (suc n))) (v ∷ (u ∷ [])) q c below st h w0 w1 more = absurd (omega (arith, q))
   by_two f x (suc (suc (suc n))) (v ∷ (u ∷ (r ∷ ws))) q c below st h w0 w1 more =
       wrong_done f (v ∷ u ∷ r ∷ ws) c (stacked (v ∷ u ∷ r ∷ ws) below) st (more v u r ws)
+  by_two f x n ws q c below st h w0 w1 more = absurd (omega (arith, q))

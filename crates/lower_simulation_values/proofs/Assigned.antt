@@ -1,5 +1,5 @@
 -- `set`, from its target to the write.
-use Rattle.std.proofs.Common.{◌≡◌, ℕ, zero, suc, ◌≤◌, List, [], ◌∷◌, ◌++◌, length, Option, Some, None, Bool, true, false, refl, sym, ap, ◌∙◌, subst}
+use Rattle.std.proofs.Common.{◌≡◌, ℕ, suc, ◌≤◌, List, [], ◌∷◌, ◌++◌, length, Option, Some, Bool, true, false, refl, sym, ap, ◌∙◌, subst}
 use Rattle.std.proofs.Common.{arith}
 use Rattle.verse_base.specs.declared.places.Place.{Place}
 use Rattle.verse_tree.specs.Tree.{Bytes, Tree, tree}
@@ -16,26 +16,28 @@ use Rattle.verse_meaning.specs.Evaluating.{targets, base_of, mode_of, number_of}
 use Rattle.verse_meaning.specs.Runs.{deeper}
 use Rattle.verse_code_machine.specs.Frames.{fits, free}
 use Rattle.lower_code.specs.Applied.{storing, slot_of, mode_number}
-use Rattle.lower_code.specs.Pieces.{Spot, Maker, past, one, when_else, numbering, ◌then◌}
-use Rattle.lower_code.specs.Scopes.{Scope as Names, Found, fixed, varies, absent, find, this_found, push_fixed, push_varies, is_fixed, is_varies}
+use Rattle.lower_code.specs.Pieces.{Spot, Maker, past, next, one, when_else, numbering, ◌then◌}
+use Rattle.lower_code.specs.Scopes.{Scope as Names, Found, fixed, varies, absent, find, this_found, push_fixed, push_varies, is_fixed}
+use Rattle.lower_code.specs.Scopes.{is_varies}
 use Rattle.lower_code.specs.declared.arounds.Around.{Around as Where}
 use Rattle.lower_code.specs.Arounds.{up, raised}
 use Rattle.lower_code.specs.Lowering as low
 use Rattle.lower_code.specs.Lowering.{piece, keeps, has_base, target_operands}
 use Rattle.lower_simulation.proofs.Steps.{over}
-use Rattle.lower_simulation.proofs.Claims.{Way, Setting, Ctx, Around, at, Good, on, Above}
-use Rattle.lower_simulation.proofs.Going.{trans}
-use Rattle.lower_simulation.proofs.Locals.{in_holds, Looked, looked}
+use Rattle.lower_simulation.proofs.Claims.{Way, Setting, Ctx, Around, at, Good, on, Above, In}
+use Rattle.lower_simulation.proofs.Locals.{Looked, looked}
 use Rattle.lower_simulation.proofs.Standing.{Stands, then_stand, op_stands, numbering_stand}
-use Rattle.lower_simulation.proofs.Leading.{LeadsTo, does_leads, open_leads, there_leads, is_leads}
+use Rattle.lower_simulation.proofs.Leading.{LeadsTo, does_leads, open_leads, is_leads}
 use Rattle.lower_simulation.proofs.Forms.{Static, on_one, stacked, EvLeads}
-use Rattle.lower_simulation_values.proofs.Names.{stuck_leads}
+use Rattle.lower_simulation_values.proofs.Names.{stuck_leads, get_leads}
 use Rattle.lower_simulation_values.proofs.Tables.{Every}
 use Rattle.lower_simulation_values.proofs.Operands.{in_turn, Listed, listed_leads}
 use Rattle.lower_simulation_values.proofs.Applied.{Leads}
-use Rattle.lower_simulation_values.proofs.Targets.{Root, variable_root, self_root, object_root, no_root, base_for, Rooted, target_list, root_has}
+use Rattle.lower_simulation_values.proofs.Targets.{Root, variable_root, self_root, object_root, no_root, base_for, Rooted, target_list}
+use Rattle.lower_simulation_values.proofs.Targets.{root_has}
 use Rattle.lower_simulation_values.proofs.Targets.{root_around, operands_of, has_same, list_many, behind_target, Target_lead, target_each}
-use Rattle.lower_simulation_values.proofs.Targets.{listed_both, target_stand, targets_in_turn, Improper, proper, improper, Target_sort, sort_target}
+use Rattle.lower_simulation_values.proofs.Targets.{listed_both, target_stand, targets_in_turn, Improper, proper, improper, Target_sort}
+use Rattle.lower_simulation_values.proofs.Targets.{sort_target}
 use Rattle.lower_simulation_values.proofs.Targets.{root_spot, Root_stands}
 use Rattle.lower_simulation_values.proofs.Writes.{stacked_last, split_many, storing_leads}
 
@@ -46,7 +48,8 @@ module _ (z : Setting) (differ : ℕ → ℕ → Bool) (top : ℕ) where
       numbering pl (λ m. storing (op.Store (slot_of base) i (mode_number (mode_of x)) m) (keeps x keep) (length ss))
 
   -- the value is on top, beneath it the indices and the cell
-  write_leads : {j n : ℕ} {c : Ctx} {ss : Names} {out : Way} {a : Where} {o : Around} {y : World} {ls st : List Val} (s e : Spot) (x : Assign)
+  write_leads : {j n : ℕ} {c : Ctx} {ss : Names} {out : Way} {a : Where} {o : Around} {y : World} {ls st : List Val} (s e : Spot)
+      (x : Assign)
       (keep : Bool) (pl : Place) (base : Base) (i : ℕ) (cell u : Val) (us : List Val) → length us ≡ i → Static top c ss out a →
       Stands z (fits c.handlers) c.size out s (Write_code x keep pl base i ss s) e → Good n c.who.path o c.held c.also c.size y.state ls →
       LeadsTo z j n c o y.behind y.tasks (at c o y.state ls (stacked (u ∷ us) (cell ∷ st)) s.at) (on e.at st)
@@ -61,7 +64,8 @@ module _ (z : Setting) (differ : ℕ → ℕ → Bool) (top : ℕ) where
       r.1 g)
 
   -- behind all operands
-  abbrev Written : Assign → (keep : Bool) → Place → Root → (i : ℕ) → Names → (has : Bool) → (c : Ctx) → (below st : List Val) → Way → Type 0
+  abbrev Written : Assign → (keep : Bool) → Place → Root → (i : ℕ) → Names → (has : Bool) → (c : Ctx) → (below st : List Val) → Way →
+      Type 0
   Written x keep pl r i ss has c below st out = (ws : List Val) → length ws ≡ suc (operands_of r i) → (s e : Spot) (w : Bool) (M j m : ℕ)
       (o : Around) (y : World) (ls : List Val) →
       Stands z (fits c.handlers) c.size out s (when_else has (Write_code x keep pl (base_for r) i ss) s) e →
@@ -77,7 +81,8 @@ module _ (z : Setting) (differ : ℕ → ℕ → Bool) (top : ℕ) where
   unwritten x keep pl r i ss c below st out h ws q s e w M j m o y ls k g = is_leads z (h M ws y) (stuck_leads z k)
 
   -- the cell lies beneath the operands
-  written_beneath : {a : Where} (x : Assign) (keep : Bool) (pl : Place) (r : Root) (i : ℕ) (ss : Names) (c : Ctx) (cell : Val) (st : List Val)
+  written_beneath : {a : Where} (x : Assign) (keep : Bool) (pl : Place) (r : Root) (i : ℕ) (ss : Names) (c : Ctx) (cell : Val)
+      (st : List Val)
       (out : Way) → operands_of r i ≡ i → Static top c ss out a → ((M : ℕ) (ws : List Val) (y : World) →
       stored z.program (deeper z.program M) (base_for r) ws (mode_of x) pl c.env y ≡
       written_to z.program (deeper z.program 0) (Some cell) (slot_of (base_for r)) ws (mode_of x) pl c.env y) →
@@ -97,7 +102,8 @@ module _ (z : Setting) (differ : ℕ → ℕ → Bool) (top : ℕ) where
   -- ---- from the root on
 
   -- the operands from a spot on, and the write
-  abbrev From_root : Assign → (keep : Bool) → Place → Root → List Tree → (i : ℕ) → Names → (has : Bool) → Where → Ctx → (s m e : Spot) → Way →
+  abbrev From_root : Assign → (keep : Bool) → Place → Root → List Tree → (i : ℕ) → Names → (has : Bool) → Where → Ctx → (s m e : Spot) →
+      Way →
       Type 0
   From_root x keep pl r xs i ss has a c s m e out = Listed z differ top xs ss a (fits c.handlers) c.size out s m ×
       Stands z (fits c.handlers) c.size out m (when_else has (Write_code x keep pl (base_for r) i ss) m) e
@@ -113,55 +119,79 @@ module _ (z : Setting) (differ : ℕ → ℕ → Bool) (top : ℕ) where
       listed_leads z differ top xs hs (form.storing (base_for r) (mode_of x) pl) (λ l vs e w. refl) ss a s l out w M j n c o y ls below []
       (on e.at st) k.0 sc fw lt lM ab g (λ ws q w M i m fw le lM o y ls g. fin ws (q ∙ many) l e w M i m o y ls k.1 g)
 
+  -- a cell is there, and lies beneath the operands
+  with_cell : (x : Assign) (keep : Bool) (pl : Place) (r : Root) (xs : List Tree) (i l : ℕ) (cell : Val) →
+      Every (EvLeads z differ top) xs → length xs ≡ suc i → operands_of r i ≡ i → (ss : Names) (a : Where) (s m e : Spot) (out : Way)
+      (w : Bool) (M j n : ℕ) (c : Ctx) (o : Around) (y : World) (ls st : List Val) →
+      Stands z (fits c.handlers) c.size out s (one (op.Get l) s) (next s) → In l cell c.held →
+      ((M : ℕ) (ws : List Val) (y : World) → stored z.program (deeper z.program M) (base_for r) ws (mode_of x) pl c.env y ≡
+      written_to z.program (deeper z.program 0) (Some cell) (slot_of (base_for r)) ws (mode_of x) pl c.env y) →
+      From_root x keep pl r xs i ss true (up a) c (next s) m e out → Static top c ss out a → free c.handlers c.life.noted c.below ≡ w →
+      n ≤ top → n ≤ M → Above a.height st c.base → Good n c.who.path o c.held c.also c.size y.state ls →
+      LeadsTo z j n c o y.behind y.tasks (at c o y.state ls st s.at) (on e.at st)
+      (in_turn z differ top (form.storing (base_for r) (mode_of x) pl) [] xs w M c.env y)
+  with_cell x keep pl r xs i l cell hs many plain ss a s m e out w M j n c o y ls st b h eq k sc fw lt lM ab g =
+      get_leads z (op_stands z b) h g (operands_lead x keep pl r xs i hs (many ∙ ap suc (sym plain)) true ss (up a)
+      (next s) m e out w M j n c
+      o y ls (cell ∷ st) st k (on_one sc) fw lt lM ab g (written_beneath x keep pl r i ss c cell st out plain sc eq))
+
+  -- there is none
+  without_cell : (x : Assign) (keep : Bool) (pl : Place) (r : Root) (xs : List Tree) (i : ℕ) →
+      Every (EvLeads z differ top) xs → length xs ≡ suc i → operands_of r i ≡ i → (ss : Names) (a : Where) (s m e : Spot) (out : Way)
+      (w : Bool) (M j n : ℕ) (c : Ctx) (o : Around) (y : World) (ls st : List Val) →
+      Stands z (fits c.handlers) c.size out s (one op.Unit s) (next s) →
+      ((M : ℕ) (ws : List Val) (y : World) →
+      stored z.program (deeper z.program M) (base_for r) ws (mode_of x) pl c.env y ≡ halted (wrong y.state)) →
+      From_root x keep pl r xs i ss false (up a) c (next s) m e out → Static top c ss out a → free c.handlers c.life.noted c.below ≡ w →
+      n ≤ top → n ≤ M → Above a.height st c.base → Good n c.who.path o c.held c.also c.size y.state ls →
+      LeadsTo z j n c o y.behind y.tasks (at c o y.state ls st s.at) (on e.at st)
+      (in_turn z differ top (form.storing (base_for r) (mode_of x) pl) [] xs w M c.env y)
+  without_cell x keep pl r xs i hs many plain ss a s m e out w M j n c o y ls st b eq k sc fw lt lM ab g =
+      does_leads z (op_stands z b).is (open_leads z y.state (op_stands z b).fit
+      (operands_lead x keep pl r xs i hs (many ∙ ap suc (sym plain))
+      false ss (up a) (next s) m e out w M j n c o y ls (unit ∷ st) st k (on_one sc) fw lt lM ab g
+      (unwritten x keep pl r i ss c (unit ∷ st) st out eq)))
+
   variable_leads : (x : Assign) (keep : Bool) (pl : Place) (v : Bytes) (xs : List Tree) (i : ℕ) → Every (EvLeads z differ top) xs →
-      length xs ≡ suc i → (ss : Names) (a : Where) (s l e : Spot) (out : Way) (w : Bool) (M j n : ℕ) (c : Ctx) (o : Around) (y : World)
+      length xs ≡ suc i → (ss : Names) (a : Where) (s m e : Spot) (out : Way) (w : Bool) (M j n : ℕ) (c : Ctx) (o : Around) (y : World)
       (ls st : List Val) (r : Found) → Looked r (look v c.env) c.held →
       Stands z (fits c.handlers) c.size out s (push_varies r s) (past s (push_varies r s)) →
-      From_root x keep pl (variable_root v) xs i ss (is_varies r) (up a) c (past s (push_varies r s)) l e out → Static top c ss out a →
+      From_root x keep pl (variable_root v) xs i ss (is_varies r) (up a) c (past s (push_varies r s)) m e out → Static top c ss out a →
       free c.handlers c.life.noted c.below ≡ w → n ≤ top → n ≤ M → Above a.height st c.base →
       Good n c.who.path o c.held c.also c.size y.state ls → LeadsTo z j n c o y.behind y.tasks (at c o y.state ls st s.at) (on e.at st)
       (in_turn z differ top (form.storing (in_variable v) (mode_of x) pl) [] xs w M c.env y)
-  variable_leads x keep pl v xs i hs many ss a s l e out w M j n c o y ls st (varies q) h b k sc fw lt lM ab g =
-      does_leads z (op_stands z b).is (there_leads z y.state _ (in_holds q (object h.0) ls h.2 g.holds)
-      (open_leads z _ (op_stands z b).fit (operands_lead x keep pl (variable_root v) xs i hs many true ss (up a) _ l e out w M j n c o y ls
-      (object h.0 ∷ st) st k (on_one sc) fw lt lM ab g
-      (written_beneath x keep pl (variable_root v) i ss c (object h.0) st out refl sc (λ M ws y.
-      ap (λ (b : Option Bound). written_to z.program (deeper z.program 0) (cell_of b) 0 ws (mode_of x) pl c.env y) h.1)))))
-  variable_leads x keep pl v xs i hs many ss a s l e out w M j n c o y ls st (fixed q) h b k sc fw lt lM ab g =
-      does_leads z (op_stands z b).is (open_leads z _ (op_stands z b).fit
-      (operands_lead x keep pl (variable_root v) xs i hs many false ss (up a) _ l e out w M j n c o y ls (unit ∷ st) st k (on_one sc) fw lt lM
-      ab g (unwritten x keep pl (variable_root v) i ss c (unit ∷ st) st out (λ M ws y.
-      ap (λ (b : Option Bound). written_to z.program (deeper z.program 0) (cell_of b) 0 ws (mode_of x) pl c.env y) h.1))))
-  variable_leads x keep pl v xs i hs many ss a s l e out w M j n c o y ls st absent h b k sc fw lt lM ab g =
-      does_leads z (op_stands z b).is (open_leads z _ (op_stands z b).fit
-      (operands_lead x keep pl (variable_root v) xs i hs many false ss (up a) _ l e out w M j n c o y ls (unit ∷ st) st k (on_one sc) fw lt lM
-      ab g (unwritten x keep pl (variable_root v) i ss c (unit ∷ st) st out (λ M ws y.
-      ap (λ (b : Option Bound). written_to z.program (deeper z.program 0) (cell_of b) 0 ws (mode_of x) pl c.env y) h))))
+  variable_leads x keep pl v xs i hs many ss a s m e out w M j n c o y ls st (varies l) h b k sc fw lt lM ab g =
+      with_cell x keep pl (variable_root v) xs i l (object h.0) hs many refl ss a s m e out w M j n c o y ls st b h.2 (λ M ws y.
+      ap (λ (b : Option Bound). written_to z.program (deeper z.program 0) (cell_of b) 0 ws (mode_of x) pl c.env y) h.1) k sc fw lt lM ab g
+  variable_leads x keep pl v xs i hs many ss a s m e out w M j n c o y ls st (fixed l) h b k sc fw lt lM ab g =
+      without_cell x keep pl (variable_root v) xs i hs many refl ss a s m e out w M j n c o y ls st b (λ M ws y.
+      ap (λ (b : Option Bound). written_to z.program (deeper z.program 0) (cell_of b) 0 ws (mode_of x) pl c.env y) h.1) k sc fw lt lM ab g
+  variable_leads x keep pl v xs i hs many ss a s m e out w M j n c o y ls st absent h b k sc fw lt lM ab g =
+      without_cell x keep pl (variable_root v) xs i hs many refl ss a s m e out w M j n c o y ls st b (λ M ws y.
+      ap (λ (b : Option Bound). written_to z.program (deeper z.program 0) (cell_of b) 0 ws (mode_of x) pl c.env y) h) k sc fw lt lM ab g
 
   self_leads : (x : Assign) (keep : Bool) (pl : Place) (slot : ℕ) (xs : List Tree) (i : ℕ) → Every (EvLeads z differ top) xs →
-      length xs ≡ suc i → (ss : Names) (a : Where) (s l e : Spot) (out : Way) (w : Bool) (M j n : ℕ) (c : Ctx) (o : Around) (y : World)
+      length xs ≡ suc i → (ss : Names) (a : Where) (s m e : Spot) (out : Way) (w : Bool) (M j n : ℕ) (c : Ctx) (o : Around) (y : World)
       (ls st : List Val) (r : Found) → Looked r (look this_name c.env) c.held →
       Stands z (fits c.handlers) c.size out s (push_fixed r s) (past s (push_fixed r s)) →
-      From_root x keep pl (self_root slot) xs i ss (is_fixed r) (up a) c (past s (push_fixed r s)) l e out → Static top c ss out a →
+      From_root x keep pl (self_root slot) xs i ss (is_fixed r) (up a) c (past s (push_fixed r s)) m e out → Static top c ss out a →
       free c.handlers c.life.noted c.below ≡ w → n ≤ top → n ≤ M → Above a.height st c.base →
       Good n c.who.path o c.held c.also c.size y.state ls → LeadsTo z j n c o y.behind y.tasks (at c o y.state ls st s.at) (on e.at st)
       (in_turn z differ top (form.storing (in_self slot) (mode_of x) pl) [] xs w M c.env y)
-  self_leads x keep pl slot xs i hs many ss a s l e out w M j n c o y ls st (fixed q) h b k sc fw lt lM ab g =
-      does_leads z (op_stands z b).is (there_leads z y.state _ (in_holds q h.0 ls h.2 g.holds)
-      (open_leads z _ (op_stands z b).fit (operands_lead x keep pl (self_root slot) xs i hs many true ss (up a) _ l e out w M j n c o y ls
-      (h.0 ∷ st) st k (on_one sc) fw lt lM ab g
-      (written_beneath x keep pl (self_root slot) i ss c h.0 st out refl sc (λ M ws y.
-      ap (λ (b : Option Bound). written_to z.program (deeper z.program 0) (constant_of b) slot ws (mode_of x) pl c.env y) h.1)))))
-  self_leads x keep pl slot xs i hs many ss a s l e out w M j n c o y ls st (varies q) h b k sc fw lt lM ab g =
-      does_leads z (op_stands z b).is (open_leads z _ (op_stands z b).fit
-      (operands_lead x keep pl (self_root slot) xs i hs many false ss (up a) _ l e out w M j n c o y ls (unit ∷ st) st k (on_one sc) fw lt lM
-      ab g (unwritten x keep pl (self_root slot) i ss c (unit ∷ st) st out (λ M ws y.
-      ap (λ (b : Option Bound). written_to z.program (deeper z.program 0) (constant_of b) slot ws (mode_of x) pl c.env y) h.1))))
-  self_leads x keep pl slot xs i hs many ss a s l e out w M j n c o y ls st absent h b k sc fw lt lM ab g =
-      does_leads z (op_stands z b).is (open_leads z _ (op_stands z b).fit
-      (operands_lead x keep pl (self_root slot) xs i hs many false ss (up a) _ l e out w M j n c o y ls (unit ∷ st) st k (on_one sc) fw lt lM
-      ab g (unwritten x keep pl (self_root slot) i ss c (unit ∷ st) st out (λ M ws y.
-      ap (λ (b : Option Bound). written_to z.program (deeper z.program 0) (constant_of b) slot ws (mode_of x) pl c.env y) h))))
+  self_leads x keep pl slot xs i hs many ss a s m e out w M j n c o y ls st (fixed l) h b k sc fw lt lM ab g =
+      with_cell x keep pl (self_root slot) xs i l h.0 hs many refl ss a s m e out w M j n c o y ls st b h.2 (λ M ws y.
+      ap (λ (b : Option Bound). written_to z.program (deeper z.program 0) (constant_of b) slot ws
+      (mode_of x) pl c.env y) h.1) k sc fw lt lM
+      ab g
+  self_leads x keep pl slot xs i hs many ss a s m e out w M j n c o y ls st (varies l) h b k sc fw lt lM ab g =
+      without_cell x keep pl (self_root slot) xs i hs many refl ss a s m e out w M j n c o y ls st b (λ M ws y.
+      ap (λ (b : Option Bound). written_to z.program (deeper z.program 0) (constant_of b) slot ws
+      (mode_of x) pl c.env y) h.1) k sc fw lt lM
+      ab g
+  self_leads x keep pl slot xs i hs many ss a s m e out w M j n c o y ls st absent h b k sc fw lt lM ab g =
+      without_cell x keep pl (self_root slot) xs i hs many refl ss a s m e out w M j n c o y ls st b (λ M ws y.
+      ap (λ (b : Option Bound). written_to z.program (deeper z.program 0) (constant_of b) slot ws
+      (mode_of x) pl c.env y) h) k sc fw lt lM ab g
 
   root_leads : (x : Assign) (keep : Bool) (pl : Place) (r : Root) (xs : List Tree) (i : ℕ) → Every (EvLeads z differ top) xs →
       length xs ≡ suc (operands_of r i) → (ss : Names) (a : Where) (s l e : Spot) (out : Way) (w : Bool) (M j n : ℕ) (c : Ctx) (o : Around)
@@ -171,10 +201,12 @@ module _ (z : Setting) (differ : ℕ → ℕ → Bool) (top : ℕ) where
       Good n c.who.path o c.held c.also c.size y.state ls → LeadsTo z j n c o y.behind y.tasks (at c o y.state ls st s.at) (on e.at st)
       (in_turn z differ top (form.storing (base_for r) (mode_of x) pl) [] xs w M c.env y)
   root_leads x keep pl (variable_root v) xs i hs many ss a s l e out w M j n c o y ls st b k sc fw lt lM ab g =
-      variable_leads x keep pl v xs i hs many ss a s l e out w M j n c o y ls st (find v ss) (looked v c.held ss c.env sc.fits) b k sc fw lt lM
+      variable_leads x keep pl v xs i hs many ss a s l e out w M j n c o y ls st (find v ss)
+      (looked v c.held ss c.env sc.fits) b k sc fw lt lM
       ab g
   root_leads x keep pl (self_root slot) xs i hs many ss a s l e out w M j n c o y ls st b k sc fw lt lM ab g =
-      self_leads x keep pl slot xs i hs many ss a s l e out w M j n c o y ls st (this_found ss) (looked this_name c.held ss c.env sc.fits) b k
+      self_leads x keep pl slot xs i hs many ss a s l e out w M j n c o y ls st (this_found ss)
+      (looked this_name c.held ss c.env sc.fits) b k
       sc fw lt lM ab g
   root_leads x keep pl (object_root slot) xs i hs many ss a s l e out w M j n c o y ls st b k sc fw lt lM ab g =
       operands_lead x keep pl (object_root slot) xs i hs many true ss a s l e out w M j n c o y ls st st k sc fw lt lM ab g
@@ -210,9 +242,9 @@ module _ (z : Setting) (differ : ℕ → ℕ → Bool) (top : ℕ) where
       let q2 = then_stand z m e value write q.1 in
       let h = target_stand z differ top p ss a (fits c.handlers) c.size out s m q.0 in
       is_leads z (targets_in_turn z differ top p f (u ∷ []) w M c.env y)
-      (root_leads x keep pl r (target_list b ++ u ∷ []) k (target_each z differ top p hb u hu) (one_more (target_list b) u ∙ ap suc (list_many p))
-      ss a s (past m (value m)) e out w M j n c o y ls st h.0
-      (
+      (root_leads x keep pl r (target_list b ++ u ∷ []) k (target_each z differ top p hb u hu) (one_more (target_list b) u ∙
+      ap suc (list_many p))
+      ss a s (past m (value m)) e out w M j n c o y ls st h.0 (
         listed_both z differ top (target_list b) (u ∷ []) ss (root_around r a) (fits c.handlers) c.size out (root_spot r ss s) m
             (past m (value m)) h.1
             (subst (λ (x : Where). Listed z differ top (u ∷ []) ss x (fits c.handlers) c.size out m (past m (value m)))
@@ -224,8 +256,9 @@ module _ (z : Setting) (differ : ℕ → ℕ → Bool) (top : ℕ) where
   improper_leads : (x : Assign) (keep : Bool) (pl : Place) (b u : Tree) (base : Base) → Improper z differ top b base →
       Leads z differ top (Assign_code x keep pl b u base) (Assign_run x pl b u base)
   improper_leads x keep pl b u base h ss a s e out w M j n c o y ls st i sc fw lt lM ab g =
-      let q = then_stand z s e (low.target_piece z.program differ b base ss a) (piece z.program differ u ss (up (raised (target_operands b) a)) then
-          when_else (has_base z.program differ b base ss) (Write_code x keep pl base (target_operands b) ss)) i in
+      let q = then_stand z s e (low.target_piece z.program differ b base ss a)
+      (piece z.program differ u ss (up (raised (target_operands b) a)) then
+      when_else (has_base z.program differ b base ss) (Write_code x keep pl base (target_operands b) ss)) i in
       let k = h.code ss a s _ q.0 in
       is_leads z (h.run M (form.storing base (mode_of x) pl) (u ∷ []) w c.env y _) (does_leads z k.1.is (record { go = λ g h. over _ h }))
 

@@ -1,5 +1,5 @@
 -- Calls and indices, by what their callee stands for.
-use Rattle.std.proofs.Common.{◌≡◌, ℕ, zero, suc, ◌≤◌, List, [], ◌∷◌, length, Option, Some, None, Bool, true, false, refl, sym, ap, ◌∙◌, subst, arith}
+use Rattle.std.proofs.Common.{◌≡◌, ℕ, zero, suc, List, [], ◌∷◌, Option, Some, None, Bool, true, false, refl, sym, ap, subst, arith}
 use Rattle.verse_base.specs.declared.places.Place.{Place}
 use Rattle.verse_tree.specs.Tree.{Bytes, Tree, tree, Shape, Trees, no_trees, more_trees}
 use Rattle.verse_tree.specs.Tree as t
@@ -10,32 +10,33 @@ use Rattle.verse_meaning_state.specs.Effects.{signal_sent, event_of}
 use Rattle.verse_meaning.specs.Programs.{trees_list, fun_at}
 use Rattle.verse_meaning.specs.Residuals as form
 use Rattle.verse_meaning.specs.Residuals.{Env, Form, Bound, args}
-use Rattle.verse_meaning.specs.Outcomes.{World, Outcome, halted, jammed, wrong, valued, told_plain, if_there, outside}
-use Rattle.verse_meaning.specs.Forms.{apply, look, this_name, constant_of, awaited, signal_told}
+use Rattle.verse_meaning.specs.Outcomes.{World, Outcome, halted, jammed, wrong, valued, if_there, outside}
+use Rattle.verse_meaning.specs.Forms.{look, this_name, constant_of, awaited, signal_told}
 use Rattle.verse_meaning.specs.Evaluating as ev
 use Rattle.verse_meaning.specs.Evaluating.{all_args, quotient, picked, literal_of, Callee, by_callee, callee_of}
 use Rattle.verse_meaning.specs.Runs.{deeper}
 use Rattle.verse_code_machine.specs.Tasks.{Step}
 use Rattle.verse_code_machine.specs.Frames.{fits, free, only_where}
 use Rattle.lower_code.specs.Applied.{finish, start, started, awaiting}
-use Rattle.lower_code.specs.Pieces.{Spot, Piece, Maker, past, nothing, one, when_else, ◌then◌, stuck}
+use Rattle.lower_code.specs.Pieces.{Spot, Maker, nothing, one, ◌then◌, stuck}
 use Rattle.lower_code.specs.Scopes.{Scope as Names, Found, fixed, varies, absent, this_found, push_fixed, is_fixed}
 use Rattle.lower_code.specs.declared.arounds.Around.{Around as Where}
 use Rattle.lower_code.specs.Arounds.{up}
 use Rattle.lower_code.specs.Lowering as low
 use Rattle.lower_code.specs.Lowering.{piece, how_many, form_fits, takes_params}
 use Rattle.lower_simulation.proofs.Steps.{over}
-use Rattle.lower_simulation.proofs.Claims.{Way, Setting, Ctx, Around, at, Good, on, Tasks, Target}
+use Rattle.lower_simulation.proofs.Claims.{Way, Setting, Ctx, Around, at, on, Tasks, Target}
 use Rattle.lower_simulation.proofs.Going.{trans}
 use Rattle.lower_simulation.proofs.Locals.{in_holds, Looked, looked}
-use Rattle.lower_simulation.proofs.Standing.{Stands, then_stand, op_stands, joined_stands}
+use Rattle.lower_simulation.proofs.Standing.{Stands, then_stand, op_stands}
 use Rattle.lower_simulation.proofs.Leading.{LeadsTo, does_leads, open_leads, there_leads, is_leads, told_plain_leads, Calmly}
-use Rattle.lower_simulation.proofs.Forms.{Static, on_one, stacked, op_leads, end_leads, EvLeads, All_lead, IsPlain, args_leads, one_finish}
+use Rattle.lower_simulation.proofs.Forms.{on_one, op_leads, end_leads, EvLeads, All_lead, IsPlain, args_leads, one_finish}
 use Rattle.lower_simulation_values.proofs.Names.{stuck_leads}
 use Rattle.lower_simulation_values.proofs.Operands.{to_end}
 use Rattle.lower_simulation_values.proofs.Tables.{Tables, CallsLead, AwaitsLead}
-use Rattle.lower_simulation_values.proofs.Applied.{Leads, Applied, Done, applied_leads, first_leads, by_none, wrong_done}
-use Rattle.lower_simulation_values.proofs.Callees.{Sort, a_function, own_method, prints, floors, ceils, takes_modulo, a_method, awaits, signals}
+use Rattle.lower_simulation_values.proofs.Applied.{Leads, Applied, Done, applied_leads, first_leads, by_none}
+use Rattle.lower_simulation_values.proofs.Callees.{Sort, a_function, own_method, prints, floors, ceils, takes_modulo, a_method, awaits}
+use Rattle.lower_simulation_values.proofs.Callees.{signals}
 use Rattle.lower_simulation_values.proofs.Callees.{a_value, sort_of}
 use Rattle.lower_simulation_values.proofs.Calls.{calling_applied, method_applied, own_applied, own_wrong, printing_applied, modulo_applied}
 use Rattle.lower_simulation_values.proofs.Calls.{flooring_applied, ceiling_applied, indexing_applied, picking_done}
@@ -43,8 +44,10 @@ use Rattle.lower_simulation_values.proofs.Calls.{flooring_applied, ceiling_appli
 module _ (z : Setting) where
   -- ---- where no failure context is open
 
-  pub outside_leads : {j n : ℕ} {c : Ctx} {o : Around} {b : form.Scopes} {f : Tasks} {into : Target} (w : Bool) (y : World) (go : World → Outcome)
-      (q : Step) → free c.handlers c.life.noted c.below ≡ w → (free c.handlers c.life.noted c.below ≡ true → LeadsTo z j n c o b f q into (go y)) →
+  pub outside_leads : {j n : ℕ} {c : Ctx} {o : Around} {b : form.Scopes} {f : Tasks} {into : Target} (w : Bool) (y : World)
+      (go : World → Outcome)
+      (q : Step) → free c.handlers c.life.noted c.below ≡ w →
+      (free c.handlers c.life.noted c.below ≡ true → LeadsTo z j n c o b f q into (go y)) →
       LeadsTo z j n c o b f (only_where (free c.handlers c.life.noted c.below) y.state q) into (outside w y go)
   unfolding outside
   outside_leads {c = c} true y go q fw h = open_leads z y.state fw (h fw)
@@ -52,7 +55,8 @@ module _ (z : Setting) where
       subst (λ t. LeadsTo z j n c o b f (only_where t y.state q) into (halted (jammed y.state))) (sym fw) (record { go = λ g k. over _ k })
 
   -- what is stuck, where the meaning is wrong too
-  pub outside_stuck : {j n : ℕ} {c : Ctx} {o : Around} {y : World} {ls st : List Val} {size : ℕ} {out : Way} {s e : Spot} {into : Target} (w : Bool)
+  pub outside_stuck : {j n : ℕ} {c : Ctx} {o : Around} {y : World} {ls st : List Val} {size : ℕ} {out : Way} {s e : Spot} {into : Target}
+      (w : Bool)
       (go : World → Outcome) → go y ≡ halted (wrong y.state) → Stands z (fits c.handlers) size out s (stuck s) e →
       LeadsTo z j n c o y.behind y.tasks (at c o y.state ls st s.at) into (outside w y go)
   unfolding outside
@@ -105,7 +109,8 @@ module _ (z : Setting) (differ : ℕ → ℕ → Bool) (top : ℕ) where
       rest t = low.args z.program differ ts ss (up a) then finish f (how_many ts) t
 
       without : Stands z (fits c.handlers) c.size out s ((one op.Unit then rest false) s) e → constant_of (look this_name c.env) ≡ None →
-          LeadsTo z j n c o y.behind y.tasks (at c o y.state ls st s.at) (on e.at st) (all_args z.program (deeper z.program M) ts f [] w c.env y)
+          LeadsTo z j n c o y.behind y.tasks (at c o y.state ls st s.at) (on e.at st)
+          (all_args z.program (deeper z.program M) ts f [] w c.env y)
       without x h =
           let r = then_stand z s e (one op.Unit) (rest false) x in
           does_leads z (op_stands z r.0).is (open_leads z _ (op_stands z r.0).fit
@@ -118,7 +123,8 @@ module _ (z : Setting) (differ : ℕ → ℕ → Bool) (top : ℕ) where
       by (fixed l) k x =
           let r = then_stand z s e (one (op.Get l)) (rest true) x in
           does_leads z (op_stands z r.0).is (there_leads z y.state _ (in_holds l k.0 ls k.2 g.holds) (open_leads z _ (op_stands z r.0).fit
-          (applied_leads z differ top f pf ts hs true [] ss (up a) _ e out w M j n c o y ls (k.0 ∷ st) st (there c k.0 st k.1) r.1 (on_one sc)
+          (applied_leads z differ top f pf ts hs true [] ss (up a) _ e out w M j n c o y ls (k.0 ∷ st) st (there c k.0 st k.1) r.1
+          (on_one sc)
           fw lt lM ab g)))
       by (varies l) k x = without x (ap constant_of k.1)
       by absent k x = without x (ap constant_of k)
@@ -135,16 +141,12 @@ module _ (z : Setting) (differ : ℕ → ℕ → Bool) (top : ℕ) where
       does_leads z (op_stands z r.0).is (open_leads z _ (op_stands z r.0).fit (op_leads z r.1 (λ k.
       outside_leads z w y (λ y. signal_told z.program (deeper z.program M) [] a c.env y) _ fw (λ fr.
       told_plain_leads z (signal_sent (event_of a y.state) unit y.state) c.env k.fit (signal_calm (event_of a y.state) unit y) g))))
-  signalling_applied zero c a st (u ∷ ws) q = absurd (omega (arith, q))
-  signalling_applied (suc zero) c a st [] q = absurd (omega (arith, q))
   signalling_applied (suc zero) c a st (u ∷ []) q = λ s e out w M j m o y ls x fw lt lM g. op_leads z x (λ k.
       outside_leads z w y (λ y. signal_told z.program (deeper z.program M) (u ∷ []) a c.env y) _ fw (λ fr.
       told_plain_leads z (signal_sent (event_of a y.state) u y.state) c.env k.fit (signal_calm (event_of a y.state) u y) g))
-  signalling_applied (suc zero) c a st (u ∷ (r ∷ ws)) q = absurd (omega (arith, q))
-  signalling_applied (suc (suc n)) c a st [] q = absurd (omega (arith, q))
-  signalling_applied (suc (suc n)) c a st (u ∷ []) q = absurd (omega (arith, q))
   signalling_applied (suc (suc n)) c a st (u ∷ (r ∷ ws)) q = λ s e out w M j m o y ls x fw lt lM g.
       outside_stuck z w (λ y. signal_told z.program (deeper z.program M) (u ∷ r ∷ ws) a c.env y) refl x
+  signalling_applied n c a st ws q = absurd (omega (arith, q))
 
   await_done : AwaitsLead z top → (is_event : Bool) (c : Ctx) (a : Val) (st : List Val) →
       Done z differ top (form.awaiting is_event) (a ∷ []) (one (awaiting is_event)) c (a ∷ st) st
@@ -174,7 +176,8 @@ module _ (z : Setting) (differ : ℕ → ℕ → Bool) (top : ℕ) where
       let r = then_stand z s e (piece z.program differ b ss a then piece z.program differ u ss (up a)) (finish f 2 true) i in
       let r2 = then_stand z s _ (piece z.program differ b ss a) (piece z.program differ u ss (up a)) r.0 in
       args_leads z differ top (more_trees b (more_trees u no_trees)) (h.0, (h.1, tt)) f pf ss a s _ out w M j n c o y ls st [] (on e.at st)
-      (r2.0, (to_end z r2.1, r2.1.ends)) sc fw lt lM ab g (λ ws q w M i m fw le lM o y ls g. ha c st ws q _ e out w M i m o y ls r.1 fw (trans le lt) lM g)
+      (r2.0, (to_end z r2.1, r2.1.ends)) sc fw lt lM ab g (λ ws q w M i m fw le lM o y ls g. ha c st ws q _ e out w M i m o y ls r.1 fw
+      (trans le lt) lM g)
   quotient_leads f pf ha (more_trees (tree m pl x) ts) h ss a s e out w M j n c o y ls st i sc fw lt lM ab g = stuck_leads z
       (then_stand z s e stuck (finish f 2 true) i).0
 
@@ -205,7 +208,8 @@ module _ (z : Setting) (differ : ℕ → ℕ → Bool) (top : ℕ) where
       (λ c below st h. own_wrong z differ top m (how_many ts) c below st h)
   callee_leads tables calls aw whole pl b ts vc vr hv hm hs hq q prints = alone_leads (form.printing pl) (λ l vs e w. refl) ts hs true
       (λ c st. printing_applied z differ top pl (how_many ts) c st)
-  callee_leads tables calls aw whole pl b ts vc vr hv hm hs hq q takes_modulo = alone_leads form.taking_modulo (λ l vs e w. refl) ts hs true
+  callee_leads tables calls aw whole pl b ts vc vr hv hm hs hq q takes_modulo = alone_leads form.taking_modulo
+      (λ l vs e w. refl) ts hs true
       (λ c st. modulo_applied z differ top (how_many ts) c st)
   callee_leads tables calls aw whole pl b ts vc vr hv hm hs hq q floors = quotient_leads (form.flooring pl) (λ l vs e w. refl)
       (λ c st. flooring_applied z differ top pl c st) ts hq
@@ -250,5 +254,6 @@ module _ (z : Setting) (differ : ℕ → ℕ → Bool) (top : ℕ) where
   index_leads tables calls aw n pl b ts hb hm hs hq = callee_leads tables calls aw form.indexing pl b ts
       (λ f ss a. piece z.program differ b ss a then low.args z.program differ ts ss (up a) then finish f (how_many ts) true)
       (λ f w M e y. all_args z.program (deeper z.program M) (more_trees b ts) f [] w e y)
-      (first_leads z differ top form.indexing (λ l vs e w. refl) b hb ts hs (λ c a st. indexing_applied z differ top (how_many ts) c a st)) hm
+      (first_leads z differ top form.indexing (λ l vs e w. refl) b hb ts hs
+      (λ c a st. indexing_applied z differ top (how_many ts) c a st)) hm
       hs hq (callee_of z.program b form.indexing pl) (sort_of z form.indexing pl b)

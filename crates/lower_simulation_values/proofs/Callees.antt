@@ -1,7 +1,5 @@
 -- What a callee stands for, and calls that are wrong on both sides.
-use Rattle.std.proofs.Common.{◌≡◌, ℕ, zero, suc, List, [], ◌∷◌, length, Option, Some, None, Bool, true, false, cond, refl, sym, ap, ◌∙◌, subst}
-use Rattle.std.proofs.Common.{arith}
-use Rattle.std.specs.Prelude.{slice_get, map}
+use Rattle.std.proofs.Common.{◌≡◌, ℕ, zero, suc, List, [], ◌∷◌, length, Option, Some, None, Bool, true, false, cond, refl, ap, ◌∙◌}
 use Rattle.verse_base.specs.declared.places.Place.{Place}
 use Rattle.verse_tree.specs.Tree.{Bytes, Tree, tree, Shape}
 use Rattle.verse_tree.specs.Tree as t
@@ -13,11 +11,11 @@ use Rattle.verse_meaning.specs.Programs.{ref_at, fun_at, same_name}
 use Rattle.verse_meaning.specs.Residuals as form
 use Rattle.verse_meaning.specs.Residuals.{Env, Form}
 use Rattle.verse_meaning.specs.Outcomes.{World, Outcome, halted, wrong, if_known}
-use Rattle.verse_meaning.specs.Evaluating.{Callee, alone, of_object, of_value, of_quotient, named_callee, member_callee, builtin, callee_of}
+use Rattle.verse_meaning.specs.Evaluating.{Callee, alone, of_object, of_value, of_quotient, named_callee, member_callee, builtin}
+use Rattle.verse_meaning.specs.Evaluating.{callee_of}
 use Rattle.verse_meaning.specs.Evaluating.{await_name, signal_name, number_of}
 use Rattle.verse_meaning.specs.Runs.{deeper, taking, with_params, with_this}
 use Rattle.lower_simulation.proofs.Claims.{Setting}
-use Rattle.lower_simulation.proofs.Forms.{EvLeads}
 use Rattle.lower_simulation_values.proofs.Tables.{Is_function}
 
 -- what callees there are, of a tree; `whole` is the form where it is a value
@@ -46,12 +44,7 @@ module _ (z : Setting) (whole : Form) (pl : Place) where
   name_sort b n (Some (ref.Fun f)) h = a_function f (n, h)
   name_sort b n (Some (ref.Method c m)) h = own_method m
   name_sort b n (Some (ref.Builtin k)) h = builtin_sort b k
-  name_sort b n None h = a_value
-  name_sort b n (Some (ref.Field q u)) h = a_value
-  name_sort b n (Some (ref.Local q)) h = a_value
-  name_sort b n (Some (ref.Key q)) h = a_value
-  name_sort b n (Some (ref.Class q)) h = a_value
-  name_sort b n (Some (ref.Enum q)) h = a_value
+  name_sort b n r h = a_value
 
   by_name : (n : ℕ) (q : Place) (b : Tree) (x : Bytes) (is_event await signal : Bool) → Sort z whole pl (tree n q (t.Shape.member b x))
       (cond await (of_object (form.awaiting is_event)) (cond signal (of_object form.signalling) (of_value whole)))
@@ -63,13 +56,7 @@ module _ (z : Setting) (whole : Form) (pl : Place) where
       Sort z whole pl (tree n q (t.Shape.member b x)) (member_callee r is_event x whole)
   member_sort n q b x is_event (Some (ref.Method c m)) = a_method m
   member_sort n q b x is_event None = by_name n q b x is_event (same_name x await_name) (same_name x signal_name)
-  member_sort n q b x is_event (Some (ref.Fun f)) = a_value
-  member_sort n q b x is_event (Some (ref.Builtin k)) = a_value
-  member_sort n q b x is_event (Some (ref.Field c u)) = a_value
-  member_sort n q b x is_event (Some (ref.Local c)) = a_value
-  member_sort n q b x is_event (Some (ref.Key c)) = a_value
-  member_sort n q b x is_event (Some (ref.Class c)) = a_value
-  member_sort n q b x is_event (Some (ref.Enum c)) = a_value
+  member_sort n q b x is_event r = a_value
 
   pub sort_of : (b : Tree) → Sort z whole pl b (callee_of z.program b whole pl)
   sort_of (tree n q (t.Shape.name x)) = name_sort (tree n q (t.Shape.name x)) n (ref_at z.program n) refl

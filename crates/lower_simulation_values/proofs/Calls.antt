@@ -1,5 +1,5 @@
 -- The operations of calls, behind their operands.
-use Rattle.std.proofs.Common.{◌≡◌, ℕ, zero, suc, ◌+◌, ◌≤◌, List, [], ◌∷◌, ◌++◌, length, Option, Some, None, Bool, true, false, cond}
+use Rattle.std.proofs.Common.{◌≡◌, ℕ, zero, suc, ◌+◌, ◌≤◌, List, [], ◌∷◌, length, Option, Some, None, Bool, true, false, cond}
 use Rattle.std.proofs.Common.{refl, sym, ap, ◌∙◌, subst, arith}
 use Rattle.std.specs.Prelude.{slice_get, map, nat_eq, nat_le}
 use Rattle.std.proofs.lemmas.Bool.{eqb-true, eqb-false}
@@ -9,7 +9,6 @@ use Rattle.verse_base.specs.TraceLine.{line_bytes}
 use Rattle.verse_base.specs.declared.limits.TheConstants.{MOST_TRACE_BYTES}
 use Rattle.verse_tree.specs.ItemTree.{FunTree}
 use Rattle.verse_tree.specs.declared.tables.ClassInfo.{ClassInfo}
-use Rattle.verse_code.specs.declared.operations.Op.{Op}
 use Rattle.verse_code.specs.declared.operations.Op.TheVariants as op
 use Rattle.verse_code.specs.declared.codes.Func.{Func}
 use Rattle.verse_code.specs.declared.codes.Class.{Class}
@@ -20,33 +19,33 @@ use Rattle.verse_value.specs.Keys.{bytes_of}
 use Rattle.verse_value.specs.Operations.{modulo_of, item_of, at_of, floor_of, ceil_of}
 use Rattle.verse_meaning_state.specs.State.{State, with_line}
 use Rattle.verse_meaning_state.specs.Waits.{eqn}
-use Rattle.verse_meaning_state.specs.Effects.{still, line_printed, text_printed, printed, class_of, signal_sent, event_of}
+use Rattle.verse_meaning_state.specs.Effects.{still, line_printed, text_printed, printed, class_of}
 use Rattle.verse_meaning.specs.Programs.{fun_at, method_at, method_in}
 use Rattle.verse_meaning.specs.Residuals as form
 use Rattle.verse_meaning.specs.Residuals.{Env, Form, Scopes}
-use Rattle.verse_meaning.specs.Outcomes.{World, Outcome, halted, jammed, wrong, told_plain, if_there, if_known, outside}
-use Rattle.verse_meaning.specs.Forms.{apply, method_found, method_called, method_spawned, signal_told, look, this_of, this_name, constant_of}
+use Rattle.verse_meaning.specs.Outcomes.{World, Outcome, halted, wrong, if_there, if_known}
+use Rattle.verse_meaning.specs.Forms.{method_found, method_called, look, this_name, constant_of}
 use Rattle.verse_meaning.specs.Runs.{deeper}
-use Rattle.verse_code_machine.specs.Tasks.{Step, thread}
-use Rattle.verse_code_machine.specs.Frames.{fits, free, on_there, only_where, on_many, on_top, enters, taking, classed, method_of, numbered}
+use Rattle.verse_code_machine.specs.Tasks.{Step}
+use Rattle.verse_code_machine.specs.Frames.{fits, free, on_there, only_where, on_many, on_top, enters, taking, classed, method_of}
+use Rattle.verse_code_machine.specs.Frames.{numbered}
 use Rattle.verse_code_machine.specs.Frames as mf
-use Rattle.verse_code_machine.specs.Acts.{frame, spawns}
+use Rattle.verse_code_machine.specs.Acts.{frame}
 use Rattle.lower_code.specs.Applied.{finish}
-use Rattle.lower_code.specs.Pieces.{Spot, placed, one, when_else, stuck}
+use Rattle.lower_code.specs.Pieces.{Spot, one, when_else, stuck}
 use Rattle.lower_code.specs.Lowering.{takes_params}
 use Rattle.lower_code.specs.Programs as lp
 use Rattle.lower_simulation.proofs.Steps.{over}
-use Rattle.lower_simulation.proofs.Claims.{Way, Setting, Ctx, Around, at, Good, on, Tasks, Target, Goes_on}
-use Rattle.lower_simulation.proofs.Going.{trans}
-use Rattle.lower_simulation.proofs.Standing.{Stands, op_stands, placed_stand, then_stand}
-use Rattle.lower_simulation.proofs.Leading.{LeadsTo, does_leads, open_leads, there_leads, is_leads, told_leads, told_plain_leads, still_calm}
+use Rattle.lower_simulation.proofs.Claims.{Way, Setting, Ctx, Around, at, Good, on, Tasks, Target}
+use Rattle.lower_simulation.proofs.Standing.{Stands}
+use Rattle.lower_simulation.proofs.Leading.{LeadsTo, open_leads, there_leads, is_leads, told_leads, told_plain_leads, still_calm}
 use Rattle.lower_simulation.proofs.Leading.{Calmly}
-use Rattle.lower_simulation.proofs.Forms.{stacked, op_leads, end_leads}
+use Rattle.lower_simulation.proofs.Forms.{stacked, op_leads}
 use Rattle.lower_simulation_values.proofs.Operators.{many_leads}
 use Rattle.lower_simulation_values.proofs.Names.{stuck_leads}
 use Rattle.lower_simulation_values.proofs.Applied.{Applied, Done, by_one, by_two, wrong_done}
-use Rattle.lower_simulation_values.proofs.Tables.{Is_function, Is_method, Tables, CallsLead, SpawnsLead, with_object}
-use Rattle.lower_simulation_values.proofs.Callees.{Misfit, unknown, other_many, calls_wrong, spawns_wrong}
+use Rattle.lower_simulation_values.proofs.Tables.{Is_function, Is_method, Tables, CallsLead}
+use Rattle.lower_simulation_values.proofs.Callees.{Misfit, unknown, other_many, calls_wrong}
 
 eqn_is : (a b : ℕ) → eqn a b ≡ true → a ≡ b
 eqn_is zero zero e = refl
@@ -83,7 +82,8 @@ module _ (z : Setting) where
   misfit_leads {y = y} f this vs M w env h x = is_leads z (calls_wrong z f this vs y M w env h) (stuck_leads z x)
 
   -- the method of an object: a function in both tables, or none
-  pub method_leads : Tables z → (m : ℕ) (obj : Val) (ws : List Val) {j n : ℕ} {c : Ctx} {o : Around} {b : Scopes} {f : Tasks} {into : Target}
+  pub method_leads : Tables z → (m : ℕ) (obj : Val) (ws : List Val) {j n : ℕ} {c : Ctx} {o : Around} {b : Scopes} {f : Tasks}
+      {into : Target}
       (y : World) (run : Func → Step) (go : ℕ → Outcome) →
       ((q : ℕ) (fn : FunTree) (fc : Func) → Is_method z q → fun_at z.program q ≡ Some fn → slice_get z.code.functions q ≡ Some fc →
       length ws ≡ length fn.params → LeadsTo z j n c o b f (run fc) into (go q)) →
@@ -132,18 +132,7 @@ module _ (z : Setting) where
       told_calm (Some bs) = line_calm
           (nat_le (length (printed s.memory.trace) + length (line_bytes s.clock.now bs)) MOST_TRACE_BYTES)
           (with_line s (record { moment = s.clock.now; bytes = bs })) refl
-  print_calm unit s = tt
-  print_calm falsity s = tt
-  print_calm truth s = tt
-  print_calm (int x) s = tt
-  print_calm (char x) s = tt
-  print_calm (enum x u) s = tt
-  print_calm (object x) s = tt
-  print_calm (v.event x) s = tt
-  print_calm (v.task x) s = tt
-  print_calm (v.some x) s = tt
-  print_calm (v.mapping x) s = tt
-  print_calm (v.tuple x) s = tt
+  print_calm u s = tt
 
 module _ (z : Setting) (differ : ℕ → ℕ → Bool) (top : ℕ) where
   pub calling_applied : Tables z → CallsLead z top → (f : ℕ) → Is_function z f → (n : ℕ) (c : Ctx) (st : List Val) →

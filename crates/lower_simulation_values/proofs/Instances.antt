@@ -1,5 +1,6 @@
 -- Instances: the values that are given go into locals, then each field is read there or is its default.
-use Rattle.std.proofs.Common.{◌≡◌, ℕ, zero, suc, ◌≤◌, ◌<◌, List, [], ◌∷◌, ◌++◌, length, Option, Some, None, Bool, true, false, cond, refl, sym, ap, ◌∙◌}
+use Rattle.std.proofs.Common.{◌≡◌, ℕ, suc, ◌≤◌, ◌<◌, List, [], ◌∷◌, ◌++◌, length, Option, Some, None, Bool, true, false, cond, refl, sym}
+use Rattle.std.proofs.Common.{ap, ◌∙◌}
 use Rattle.std.proofs.Common.{subst, arith, append_assoc, append-nil}
 use Rattle.verse_base.specs.declared.places.Place.{Place}
 use Rattle.verse_tree.specs.Tree.{Bytes, Tree, tree, Givens, no_givens, more_givens}
@@ -14,20 +15,19 @@ use Rattle.verse_meaning_state.specs.Effects.{object_made}
 use Rattle.verse_meaning.specs.Programs.{same_name, ref_at, fields_of, givens_list, given_names}
 use Rattle.verse_meaning.specs.Residuals as form
 use Rattle.verse_meaning.specs.Residuals.{Env, Form}
-use Rattle.verse_meaning.specs.Outcomes.{World, Outcome, valued, told, if_known}
+use Rattle.verse_meaning.specs.Outcomes.{World, Outcome, told, if_known}
 use Rattle.verse_meaning.specs.Forms.{apply, given_at, field_filled, filled}
 use Rattle.verse_meaning.specs.Evaluating.{given_args, class_ref}
 use Rattle.verse_meaning.specs.Runs.{deeper}
 use Rattle.verse_code_machine.specs.Frames.{fits, free}
-use Rattle.lower_code.specs.Defaults.{default_number}
 use Rattle.lower_code.specs.Pieces.{Spot, Maker, past, placed, put_away, ◌then◌}
 use Rattle.lower_code.specs.Scopes.{hidden, Scope as Names}
 use Rattle.lower_code.specs.declared.arounds.Around.{Around as Where}
 use Rattle.lower_code.specs.Lowering as low
 use Rattle.lower_code.specs.Lowering.{piece, given_local, field_op, field_ops, instance_of}
-use Rattle.lower_simulation.proofs.Claims.{Way, Setting, Ctx, Around, at, Good, on, Target, Above, Locals, Holds, Low}
+use Rattle.lower_simulation.proofs.Claims.{Way, Setting, Ctx, Around, at, Good, on, Target, Above, Locals, Holds}
 use Rattle.lower_simulation.proofs.Going.{trans, le_self}
-use Rattle.lower_simulation.proofs.Locals.{PutIs, puts, holds_put, low_more}
+use Rattle.lower_simulation.proofs.Locals.{puts, low_more}
 use Rattle.lower_simulation.proofs.Standing.{Stands, then_stand, put_stand, op_stands}
 use Rattle.lower_simulation.proofs.Leading.{LeadsTo, value_leads, does_leads, open_leads, there_leads, is_leads, told_leads}
 use Rattle.lower_simulation.proofs.Widening.{holding_leads}
@@ -64,7 +64,8 @@ given_found : (x : Bytes) (gs : Givens) (l : ℕ) (vs : List Val) (ks : Locals) 
     Holds (stored_from l vs ks) ls → Given_as (given_local x gs l) (given_at x (given_names gs) vs) ls
 given_found x no_givens l vs ks ls q h = tt
 given_found x (more_givens y b gs) l [] ks ls q h = absurd (omega (arith, q))
-given_found x (more_givens y b gs) l (v ∷ vs) ks ls q h = by (same_name x y) (given_found x gs (suc l) vs ((l, v) ∷ ks) ls (omega (arith, q)) h)
+given_found x (more_givens y b gs) l (v ∷ vs) ks ls q h = by (same_name x y)
+    (given_found x gs (suc l) vs ((l, v) ∷ ks) ls (omega (arith, q)) h)
   where
     by : (t : Bool) → Given_as (given_local x gs (suc l)) (given_at x (given_names gs) vs) ls →
         Given_as (cond t (Some l) (given_local x gs (suc l))) (cond t (Some v) (given_at x (given_names gs) vs)) ls
@@ -96,7 +97,8 @@ module _ (z : Setting) (differ : ℕ → ℕ → Bool) (top : ℕ) where
       (w : Bool) (M j n : ℕ) (c : Ctx) (o : Around) (y : World) (ls st : List Val) (vs : List Val) (into : Target) →
       Stands z (fits c.handlers) c.size out s (low.given_args z.program differ gs ss a s) e → Static top c ss out a →
       free c.handlers c.life.noted c.below ≡ w → n ≤ top → n ≤ M → Above a.height st c.base →
-      Good n c.who.path o c.held c.also c.size y.state ls → ((ws : List Val) → length ws ≡ length (givens_list gs) → (w : Bool) (M i m : ℕ) →
+      Good n c.who.path o c.held c.also c.size y.state ls →
+      ((ws : List Val) → length ws ≡ length (givens_list gs) → (w : Bool) (M i m : ℕ) →
       free c.handlers c.life.noted c.below ≡ w → m ≤ n → m ≤ M → (o : Around) (y : World) (ls : List Val) →
       Good m c.who.path o c.held (stored_from (length ss) ws c.also) c.size y.state ls →
       LeadsTo z i m (giving c (length ss) ws) o y.behind y.tasks (at c o y.state ls st e.at) into
@@ -118,10 +120,12 @@ module _ (z : Setting) (differ : ℕ → ℕ → Bool) (top : ℕ) where
       let gd = good_put sc q g in
       does_leads z p.0.is (there_leads z y.state _ q.is (open_leads z y.state p.0.fit
       (holding_leads z c c.env [] ((l, v) ∷ []) (in_turn z differ top f (vs ++ v ∷ []) (givens_list gs) w M c.env y)
-      (given_leads gs hs.1 f pf (hidden ∷ ss) a (past m (put_away l m)) e out w M j k (giving c l (v ∷ [])) o y q.locals st (vs ++ v ∷ []) into
+      (given_leads gs hs.1 f pf (hidden ∷ ss) a (past m (put_away l m)) e out w M j k (giving c l (v ∷ [])) o y q.locals st
+      (vs ++ v ∷ []) into
       r2.1 (hidden_static v sc) fw (trans le lt) lM ab
       (record { holds = gd.holds; besides = (q.here, gd.besides); sized = gd.sized; fine = gd.fine })
-      (λ ws q1 w M i k2 fw lq lM o y ls g. subst (λ u. LeadsTo z i k2 (giving c l (v ∷ ws)) o y.behind y.tasks (at c o y.state ls st e.at) into
+      (λ ws q1 w M i k2 fw lq lM o y ls g. subst (λ u. LeadsTo z i k2 (giving c l (v ∷ ws)) o y.behind y.tasks
+      (at c o y.state ls st e.at) into
       (apply z.program (deeper z.program M) f u w c.env y)) (sym (append_assoc vs (v ∷ []) ws))
       (fin (v ∷ ws) (ap suc q1) w M i k2 fw (trans lq le) lM o y ls g)))))))
 
@@ -133,14 +137,16 @@ module _ (z : Setting) (differ : ℕ → ℕ → Bool) (top : ℕ) where
     Filled fs slots w M e y = filled z.program (deeper z.program M) fs (given_names gs) vs class slots pl w e y
 
     -- one field, and what follows
-    field_leads : (f : FieldTree) → Default_there z f → Default_leads z top f → (fs : List FieldTree) (slots : List Val) (c : Ctx) (ls0 : List Val)
+    field_leads : (f : FieldTree) → Default_there z f → Default_leads z top f → (fs : List FieldTree) (slots : List Val) (c : Ctx)
+        (ls0 : List Val)
         (p : Option ℕ) (u : Option Val) → Given_as p u ls0 → (out : Way) (s e : Spot) (w : Bool) (M j n : ℕ) (o : Around) (y : World)
         (st : List Val) (into : Target) → Stands z (fits c.handlers) c.size out s (field_op z.program differ p f.default f.number s) e →
         free c.handlers c.life.noted c.below ≡ w → n ≤ top → n ≤ M → Good n c.who.path o c.held c.also c.size y.state ls0 →
         ((v : Val) (w : Bool) (M i m : ℕ) → free c.handlers c.life.noted c.below ≡ w → m ≤ n → m ≤ M → (o : Around) (y : World)
         (ls : List Val) → Good m c.who.path o c.held c.also c.size y.state ls →
         LeadsTo z i m c o y.behind y.tasks (at c o y.state ls (v ∷ st) e.at) into (Filled fs (slots ++ v ∷ []) w M c.env y)) →
-        LeadsTo z j n c o y.behind y.tasks (at c o y.state ls0 st s.at) into (field_filled z.program (deeper z.program M) u f.default w c.env y
+        LeadsTo z j n c o y.behind y.tasks (at c o y.state ls0 st s.at) into
+        (field_filled z.program (deeper z.program M) u f.default w c.env y
         (form.filling c.env class pl fs (given_names gs) vs slots) (λ v y. Filled fs (slots ++ v ∷ []) w M c.env y))
     field_leads f th cl fs slots c ls0 (Some k) (Some v) h out s e w M j n o y st into i fw lt lM g fin =
         does_leads z (op_stands z i).is (there_leads z y.state _ h (open_leads z y.state (op_stands z i).fit
@@ -148,7 +154,8 @@ module _ (z : Setting) (differ : ℕ → ℕ → Bool) (top : ℕ) where
     field_leads f th cl fs slots c ls0 None None h out s e w M j n o y st into i fw lt lM g fin = by f.default refl i
       where
         by : (d : Option Tree) → f.default ≡ d → Stands z (fits c.handlers) c.size out s (field_op z.program differ None d f.number s) e →
-            LeadsTo z j n c o y.behind y.tasks (at c o y.state ls0 st s.at) into (field_filled z.program (deeper z.program M) None d w c.env y
+            LeadsTo z j n c o y.behind y.tasks (at c o y.state ls0 st s.at) into
+            (field_filled z.program (deeper z.program M) None d w c.env y
             (form.filling c.env class pl fs (given_names gs) vs slots) (λ v y. Filled fs (slots ++ v ∷ []) w M c.env y))
         by None h x = stuck_leads z x
         by (Some d) h x =
@@ -178,7 +185,8 @@ module _ (z : Setting) (differ : ℕ → ℕ → Bool) (top : ℕ) where
         let first : Maker = field_op z.program differ (given_local f.name gs l) f.default f.number in
         let r = then_stand z s e first (field_ops z.program differ fs gs l) i in
         field_leads f th.0 cl.0 fs slots c ls (given_local f.name gs l) (given_at f.name (given_names gs) vs)
-        (given_found f.name gs l vs ks ls given (subst (λ x. Holds x ls) ec g.besides)) out s (past s (first s)) w M j n o y st into r.0 fw lt lM g
+        (given_found f.name gs l vs ks ls given (subst (λ x. Holds x ls) ec g.besides)) out s
+        (past s (first s)) w M j n o y st into r.0 fw lt lM g
         (λ v w M i m fw le lM o y ls g. fields_lead fs th.1 cl.1 (slots ++ v ∷ []) c ec out _ e w M i m o y ls (v ∷ st) into r.1 fw
         (trans le lt) lM g (λ us q w M i k fw lq lM o y ls g. subst (λ x. LeadsTo z i k c o y.behind y.tasks
         (at c o y.state ls (stacked us (v ∷ st)) e.at) into (told (object_made class x y.state) pl c.env y))
@@ -186,7 +194,8 @@ module _ (z : Setting) (differ : ℕ → ℕ → Bool) (top : ℕ) where
 
   -- ---- the form
 
-  class_leads : Tables z → DefaultsLead z top → (class : ℕ) → Is_class z class → (pl : Place) (gs : Givens) → Givens_lead gs → Leads z differ top
+  class_leads : Tables z → DefaultsLead z top → (class : ℕ) → Is_class z class → (pl : Place) (gs : Givens) → Givens_lead gs →
+      Leads z differ top
       (λ ss a. low.given_args z.program differ gs ss a then
       field_ops z.program differ (fields_of z.program class) gs (length ss) then placed pl (op.Object class))
       (λ w M e y. given_args z.program (deeper z.program M) gs (form.instancing class (given_names gs) pl) [] w e y)
@@ -218,11 +227,4 @@ module _ (z : Setting) (differ : ℕ → ℕ → Bool) (top : ℕ) where
           (λ w M e y. if_known (class_ref z.program r) y
           (λ c. given_args z.program (deeper z.program M) gs (form.instancing c (given_names gs) pl) [] w e y))
       by (Some (ref.Class c)) h = class_leads tables defaults c (n, h) pl gs hs
-      by None h = λ ss a s e out w M j n c o y ls st i sc fw lt lM ab g. stuck_leads z i
-      by (Some (ref.Field q u)) h = λ ss a s e out w M j n c o y ls st i sc fw lt lM ab g. stuck_leads z i
-      by (Some (ref.Local q)) h = λ ss a s e out w M j n c o y ls st i sc fw lt lM ab g. stuck_leads z i
-      by (Some (ref.Key q)) h = λ ss a s e out w M j n c o y ls st i sc fw lt lM ab g. stuck_leads z i
-      by (Some (ref.Method q u)) h = λ ss a s e out w M j n c o y ls st i sc fw lt lM ab g. stuck_leads z i
-      by (Some (ref.Fun q)) h = λ ss a s e out w M j n c o y ls st i sc fw lt lM ab g. stuck_leads z i
-      by (Some (ref.Enum q)) h = λ ss a s e out w M j n c o y ls st i sc fw lt lM ab g. stuck_leads z i
-      by (Some (ref.Builtin q)) h = λ ss a s e out w M j n c o y ls st i sc fw lt lM ab g. stuck_leads z i
+      by r h = λ ss a s e out w M j n c o y ls st i sc fw lt lM ab g. stuck_leads z i

@@ -1,12 +1,11 @@
 -- Maps and events.
-use Rattle.std.proofs.Common.{◌≡◌, ℕ, zero, suc, ◌+◌, ◌≤◌, List, [], ◌∷◌, length, Bool, true, refl, ap, ◌∙◌, arith}
+use Rattle.std.proofs.Common.{◌≡◌, ℕ, suc, ◌+◌, List, [], ◌∷◌, length, Bool, true, refl, ap, ◌∙◌, arith}
 use Rattle.verse_base.specs.declared.places.Place.{Place}
 use Rattle.verse_tree.specs.Tree.{Tree, tree, Written}
 use Rattle.verse_tree.specs.Tree as t
 use Rattle.verse_value.specs.Val.{Val}
 use Rattle.verse_value.specs.Store.{Store}
 use Rattle.verse_value.specs.Answer.{Answer, gives, fails, error, stuck}
-use Rattle.verse_value.specs.Storing.{add_cell}
 use Rattle.verse_value.specs.Operations.{map_of}
 use Rattle.verse_meaning_state.specs.State.{State}
 use Rattle.verse_meaning_state.specs.Effects.{still, added, event_made}
@@ -17,7 +16,7 @@ use Rattle.verse_meaning.specs.Forms as mf
 use Rattle.verse_code_machine.specs.Acts.{paired}
 use Rattle.verse_code_machine.specs.Frames.{fits}
 use Rattle.lower_code.specs.Applied.{finish}
-use Rattle.lower_code.specs.Pieces.{Spot, past, ◌then◌}
+use Rattle.lower_code.specs.Pieces.{Spot, ◌then◌}
 use Rattle.lower_code.specs.Scopes.{Scope as Names}
 use Rattle.lower_code.specs.declared.arounds.Around.{Around as Where}
 use Rattle.lower_code.specs.Arounds.{up}
@@ -75,7 +74,8 @@ module _ (z : Setting) (differ : ℕ → ℕ → Bool) (top : ℕ) where
   mapping_leads n pl ps hs ss a s e out w M j m c o y ls st i sc fw lt lM ab g =
       let r = then_stand z s e (low.paired_args z.program differ ps ss a) (finish (form.making_map pl) (pairs_in ps) true) i in
       is_leads z (pairs_in_turn z differ top ps (form.making_map pl) [] w M c.env y)
-      (listed_leads z differ top (pairs_list ps) (each_leads ps hs) (form.making_map pl) (λ l vs e w. refl) ss a s _ out w M j m c o y ls st []
+      (listed_leads z differ top (pairs_list ps) (each_leads ps hs) (form.making_map pl)
+      (λ l vs e w. refl) ss a s _ out w M j m c o y ls st []
       (on e.at st) (pairs_stand ps ss a (fits c.handlers) c.size out s _ r.0) sc fw lt lM ab g
       (λ ws q w M i m fw le lM o y ls g. is_leads z (ap (λ u. told (still (map_of u) y.state) pl c.env y) (same_pairs ws))
       (op_leads z r.1 (λ k. many_leads z _ _ (q ∙ pairs_many ps)

@@ -1,14 +1,11 @@
--- Members and returns.
-use Rattle.std.proofs.Common.{◌≡◌, ℕ, zero, suc, ◌≤◌, List, [], ◌∷◌, length, Option, Some, None, Bool, true, false, cond, refl, sym, subst}
-use Rattle.std.proofs.Common.{arith}
+-- Members: values of an enum, fields, lengths, and values themselves.
+use Rattle.std.proofs.Common.{◌≡◌, ℕ, suc, List, [], ◌∷◌, Option, Some, None, Bool, true, false, cond, refl}
 use Rattle.verse_base.specs.declared.places.Place.{Place}
 use Rattle.verse_tree.specs.Tree.{Bytes, Tree, tree, Shape, Trees, no_trees, more_trees}
 use Rattle.verse_tree.specs.Tree as t
 use Rattle.verse_tree.specs.declared.tables.Ref.{Ref}
 use Rattle.verse_tree.specs.declared.tables.Ref.TheVariants as ref
-use Rattle.verse_code.specs.declared.operations.Op.TheVariants as op
-use Rattle.verse_value.specs.Val as v
-use Rattle.verse_value.specs.Val.{Val, unit, falsity, truth, int, char, object, enum}
+use Rattle.verse_value.specs.Val.{Val, object, enum}
 use Rattle.verse_value.specs.Answer.{stuck as amiss}
 use Rattle.verse_meaning_state.specs.State.{State}
 use Rattle.verse_meaning_state.specs.Waits.{nth}
@@ -17,36 +14,26 @@ use Rattle.verse_meaning.specs.Programs.{ref_at}
 use Rattle.verse_meaning.specs.Residuals as form
 use Rattle.verse_meaning.specs.Residuals.{Env, Form, Bound, constant, variable, Residual, args, seq, Scopes, Binder, no_name, a_constant}
 use Rattle.verse_meaning.specs.Residuals.{a_variable}
-use Rattle.verse_meaning.specs.Outcomes.{World, Outcome, returned, told_plain}
+use Rattle.verse_meaning.specs.Outcomes.{World, Outcome, told_plain}
 use Rattle.verse_meaning.specs.Forms.{apply}
 use Rattle.verse_meaning.specs.Evaluating.{all_args}
-use Rattle.verse_meaning.specs.Resuming.{form_done}
 use Rattle.verse_meaning.specs.Runs.{deeper}
-use Rattle.verse_code_machine.specs.Frames.{fits, free, answered}
+use Rattle.verse_code_machine.specs.Frames.{fits, answered}
 use Rattle.lower_code.specs.Applied as applied
-use Rattle.lower_code.specs.Pieces as pc
-use Rattle.lower_code.specs.Pieces.{Spot, Maker, past, ◌then◌}
-use Rattle.lower_code.specs.Scopes.{constant_at, variable_at, hidden, Scope as Names, Found, fixed, varies, absent, find}
-use Rattle.lower_code.specs.declared.arounds.Around.{Around as Where}
-use Rattle.lower_code.specs.Arounds.{up, returning}
-use Rattle.lower_simulation.proofs.Leaving.{returning_stand}
+use Rattle.lower_code.specs.Pieces.{Spot, Maker, ◌then◌}
 use Rattle.lower_code.specs.Lowering.{piece, shape_piece, how_many}
 use Rattle.lower_code.specs.Lowering as low
-use Rattle.lower_simulation.proofs.Claims.{Way, Setting, Ctx, Around, at, Good, Target, on, Above, same_around}
-use Rattle.lower_simulation.proofs.Going.{le_self}
-use Rattle.lower_simulation.proofs.Standing.{Stands, op_stands}
-use Rattle.lower_simulation.proofs.Leading.{LeadsTo, value_leads, does_leads, open_leads, value_here, told_plain_leads, Calmly, still_calm}
-use Rattle.std.specs.Prelude.{nat_lt}
-use Rattle.std.proofs.lemmas.Bool.{lt-ltb}
+use Rattle.lower_simulation.proofs.Claims.{Way, Setting, Ctx, Around, at, Good, on}
+use Rattle.lower_simulation.proofs.Standing.{Stands}
+use Rattle.lower_simulation.proofs.Leading.{LeadsTo, open_leads, value_here, told_plain_leads, Calmly, still_calm}
 use Rattle.verse_value.specs.Operations.{length_of}
 use Rattle.verse_value.specs.Answer.{given_or}
 use Rattle.verse_value.specs.Store.{slot_of}
 use Rattle.verse_meaning.specs.Programs.{same_name, enum_val, value_in, place_of, enums}
 use Rattle.verse_tree.specs.ItemTree.{EnumTree}
 use Rattle.verse_meaning.specs.Evaluating.{enum_member, is_enum, member_form, membered, length_name}
-use Rattle.verse_code_machine.specs.Tasks.{Life, Handler}
-use Rattle.lower_simulation.proofs.Claims.{with_return, Returns, return_leaves, return_now}
-use Rattle.lower_simulation.proofs.Forms.{Static, start_leads, op_leads, EvLeads, args_leads, one_finish}
+use Rattle.lower_simulation.proofs.Forms.{IsPlain, start_leads, op_leads, EvLeads, args_leads, one_finish}
+use Rattle.lower_simulation_values.proofs.Applied.{Leads}
 use Rattle.lower_simulation.proofs.Standing.{then_stand}
 
 -- a value of an enum, where there is one
@@ -56,28 +43,12 @@ IsEnum (Some (enum a b)) = Unit {0}
 IsEnum (Some v) = ⊥
 
 module _ (z : Setting) (differ : ℕ → ℕ → Bool) (top : ℕ) where
-  gone_leads : {j n : ℕ} {c : Ctx} {o : Around} {y : World} {ls stk : List Val} {a : ℕ} {into : Target} {v : Val} →
-      Returns z c.handlers c.life c.leave a → Good n c.who.path o c.held c.also c.size y.state ls →
-      LeadsTo z j n c o y.behind y.tasks (at c o y.state ls (v ∷ stk) a) into (returned v y)
-  gone_leads {n = n} {o = o} {ls = ls} {stk} {a} r g = record { go = λ t h. h n o (same_around le_self) a ls stk r g }
-
-  pub returned_leads : (n : ℕ) (pl : Place) (x : Tree) → EvLeads z differ top x → EvLeads z differ top (tree n pl (t.Shape.returned x))
-  returned_leads n pl x hx ss a s e out w M j m c o y ls st i sc fw lt lM ab g =
-      let r = then_stand z s e (piece z.program differ x ss a) (returning a) i in
-      value_leads z (on (past s (piece z.program differ x ss a s)).at st) _ _ (λ r. args c.env form.returning [] r []) (λ w M v y. returned v y)
-      fw lM (λ r. refl) (λ r M w. refl) (λ r M w. refl) (λ l x n v y. refl)
-      (hx ss a s _ out w M j m c o y ls st r.0 sc fw lt lM ab g) (λ w M i n fw le lM o v y ls g.
-      gone_leads (returning_stand z _ e sc r.1) g)
-
-  pub returned_unit_leads : (n : ℕ) (pl : Place) → EvLeads z differ top (tree n pl t.Shape.returned_unit)
-  returned_unit_leads n pl ss a s e out w M j m c o y ls st i sc fw lt lM ab g =
-      let r = then_stand z s e (pc.one op.Unit) (returning a) i in
-      does_leads z (op_stands z r.0).is (open_leads z _ (op_stands z r.0).fit (gone_leads (returning_stand z _ e sc r.1) g))
-
   -- what is read in a slot, of an operation without a place on both sides
   plain_read : {j n : ℕ} {c : Ctx} {o : Around} {y : World} {ls st : List Val} {p : ℕ} (u : Val) (slot : ℕ) (env : Env) →
       fits c.handlers (suc p) ≡ true → Good n c.who.path o c.held c.also c.size y.state ls →
-      LeadsTo z j n c o y.behind y.tasks (answered None (slot_read slot u y.state) c.who o.world y.state c.life ls st p c.handlers c.below) (on (suc p) st) (told_plain (slot_read slot u y.state) env y)
+      LeadsTo z j n c o y.behind y.tasks
+      (answered None (slot_read slot u y.state) c.who o.world y.state c.life ls st p c.handlers c.below) (on (suc p) st)
+      (told_plain (slot_read slot u y.state) env y)
   plain_read {y = y} u slot env f g = told_plain_leads z (slot_read slot u y.state) env f (read_calm u slot y.state) g
     where
       given_calm : (r : Option Val) (s : State) → Calmly z (still (given_or amiss r) s) s
@@ -86,24 +57,13 @@ module _ (z : Setting) (differ : ℕ → ℕ → Bool) (top : ℕ) where
 
       read_calm : (v : Val) (slot : ℕ) (s : State) → Calmly z (slot_read slot v s) s
       read_calm (object c) slot s = given_calm (slot_of s.memory.store c slot) s
-      read_calm unit slot s = tt
-      read_calm falsity slot s = tt
-      read_calm truth slot s = tt
-      read_calm (int x) slot s = tt
-      read_calm (char x) slot s = tt
-      read_calm (enum x u) slot s = tt
-      read_calm (v.event x) slot s = tt
-      read_calm (v.task x) slot s = tt
-      read_calm (v.some x) slot s = tt
-      read_calm (v.array x) slot s = tt
-      read_calm (v.mapping x) slot s = tt
-      read_calm (v.tuple x) slot s = tt
+      read_calm v slot s = tt
 
   abbrev One_applied : Form → Type 0
   One_applied f = (v : Val) (s e : Spot) (out : Way) (w : Bool) (M i m : ℕ) (c : Ctx) (o : Around) (y : World) (ls st : List Val) →
       Stands z (fits c.handlers) c.size out s (applied.finish f 1 true s) e → Good m c.who.path o c.held c.also c.size y.state ls →
       LeadsTo z i m c o y.behind y.tasks (at c o y.state ls (v ∷ st) s.at) (on e.at st)
-          (apply z.program (deeper z.program M) f (v ∷ []) w c.env y)
+      (apply z.program (deeper z.program M) f (v ∷ []) w c.env y)
 
   reading_applied : (slot : ℕ) → One_applied (form.reading slot)
   reading_applied slot v s e out w M i m c o y ls st x g = op_leads z x (λ h. plain_read v slot c.env h.fit g)
@@ -116,46 +76,32 @@ module _ (z : Setting) (differ : ℕ → ℕ → Bool) (top : ℕ) where
   defining_applied v s e out w M i m c o y ls st x g = start_leads z x.ends (value_here z g)
 
   -- a form with one operand
-  one_leads : (f : Form) → ((l : ℕ) (vs : List Val) (e : Env) (w : World) →
-      form_done z.program (deeper z.program l) f vs e w ≡ apply z.program (deeper z.program l) f vs true e w) → One_applied f →
-      (x : Tree) → EvLeads z differ top x →
-      (ss : Names) (a : Where) (s e : Spot) (out : Way) (w : Bool) (M j m : ℕ) (c : Ctx) (o : Around) (y : World) (ls st : List Val) →
-      Stands z (fits c.handlers) c.size out s ((piece z.program differ x ss a then applied.finish f 1 true) s) e →
-          Static top c ss out a → free c.handlers c.life.noted c.below ≡ w → m ≤ top → m ≤ M → Above a.height st c.base →
-          Good m c.who.path o c.held c.also c.size y.state ls →
-      LeadsTo z j m c o y.behind y.tasks (at c o y.state ls st s.at) (on e.at st)
-          (all_args z.program (deeper z.program M) (more_trees x no_trees) f [] w c.env y)
+  one_leads : (f : Form) → IsPlain z differ top f → One_applied f → (x : Tree) → EvLeads z differ top x →
+      Leads z differ top (λ ss a. piece z.program differ x ss a then applied.finish f 1 true)
+      (λ w M e y. all_args z.program (deeper z.program M) (more_trees x no_trees) f [] w e y)
   one_leads f pf ha x hx ss a s e out w M j m c o y ls st i sc fw lt lM ab g =
       let r = then_stand z s e (piece z.program differ x ss a) (applied.finish f 1 true) i in
       args_leads z differ top (more_trees x no_trees) (hx, tt) f pf ss a s _ out w M j m c o y ls st [] (on e.at st)
-          (r.0, refl) sc fw lt lM ab g
+      (r.0, refl) sc fw lt lM ab g
       (one_finish z differ top _ _ (λ v w M i m fw le lM o y ls g. ha v _ e out w M i m c o y ls st r.1 g))
 
   -- a member is a field, the length of an array or a map, or the value itself
   abbrev Member_of : Form → Type 0
-  Member_of f = ((l : ℕ) (vs : List Val) (e : Env) (w : World) → form_done z.program (deeper z.program l) f vs e w ≡ apply z.program
-      (deeper z.program l) f vs true e w) × One_applied f
+  Member_of f = IsPlain z differ top f × One_applied f
 
   by_length : (b : Bool) → Member_of (cond b form.measuring form.defining)
   by_length true = ((λ l vs e w. refl), measuring_applied)
   by_length false = ((λ l vs e w. refl), defining_applied)
 
   member_of : (r : Option Ref) (x : Bytes) → Member_of (member_form r x)
-  member_of None x = by_length (same_name x length_name)
   member_of (Some (ref.Field q slot)) x = ((λ l vs e w. refl), reading_applied slot)
-  member_of (Some (ref.Local q)) x = by_length (same_name x length_name)
-  member_of (Some (ref.Key q)) x = by_length (same_name x length_name)
-  member_of (Some (ref.Method q u)) x = by_length (same_name x length_name)
-  member_of (Some (ref.Fun q)) x = by_length (same_name x length_name)
-  member_of (Some (ref.Class q)) x = by_length (same_name x length_name)
-  member_of (Some (ref.Enum q)) x = by_length (same_name x length_name)
-  member_of (Some (ref.Builtin q)) x = by_length (same_name x length_name)
+  member_of r x = by_length (same_name x length_name)
 
   enum_leads : {j n : ℕ} {c : Ctx} {o : Around} {y : World} {ls st : List Val} {out : Way} {s e : Spot} (M : ℕ) (r : Option Val)
       (f : Maker) (go : World → Outcome) → IsEnum r → Stands z (fits c.handlers) c.size out s (low.membered z.program differ r f s) e →
       Good n c.who.path o c.held c.also c.size y.state ls →
       (Stands z (fits c.handlers) c.size out s (f s) e → LeadsTo z j n c o y.behind y.tasks (at c o y.state ls st s.at) (on e.at st)
-          (go y)) →
+      (go y)) →
       LeadsTo z j n c o y.behind y.tasks (at c o y.state ls st s.at) (on e.at st) (membered z.program (deeper z.program M) r c.env y go)
   unfolding membered low.membered
   enum_leads M None f go q i g h = h i
@@ -171,15 +117,8 @@ module _ (z : Setting) (differ : ℕ → ℕ → Bool) (top : ℕ) where
   value_in_is e x (Some u) = enum_val_is e (place_of x u.values)
 
   is_enum_is : (r : Option Ref) (x : Bytes) → IsEnum (is_enum z.program r x)
-  is_enum_is None x = tt
   is_enum_is (Some (ref.Enum e)) x = value_in_is e x (nth (enums z.program.items) e)
-  is_enum_is (Some (ref.Field q u)) x = tt
-  is_enum_is (Some (ref.Local q)) x = tt
-  is_enum_is (Some (ref.Key q)) x = tt
-  is_enum_is (Some (ref.Method q u)) x = tt
-  is_enum_is (Some (ref.Fun q)) x = tt
-  is_enum_is (Some (ref.Class q)) x = tt
-  is_enum_is (Some (ref.Builtin q)) x = tt
+  is_enum_is r x = tt
 
   enum_member_is : (b : Tree) (x : Bytes) → IsEnum (enum_member z.program b x)
   enum_member_is (tree n pl s) x = is_enum_is (ref_at z.program n) x
@@ -188,5 +127,6 @@ module _ (z : Setting) (differ : ℕ → ℕ → Bool) (top : ℕ) where
       EvLeads z differ top (tree n pl (t.Shape.member b x))
   member_leads n pl b x hb ss a s e out w M j m c o y ls st i sc fw lt lM ab g =
       enum_leads M (enum_member z.program b x) _ _ (enum_member_is b x) i g (λ i1.
-      one_leads (member_form (ref_at z.program n) x) (member_of (ref_at z.program n) x).0 (member_of (ref_at z.program n) x).1 b hb ss a s e
+      one_leads (member_form (ref_at z.program n) x) (member_of (ref_at z.program n) x).0
+      (member_of (ref_at z.program n) x).1 b hb ss a s e
       out w M j m c o y ls st i1 sc fw lt lM ab g)

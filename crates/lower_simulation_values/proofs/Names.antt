@@ -1,31 +1,29 @@
 -- Names.
-use Rattle.std.proofs.Common.{◌≡◌, ℕ, suc, List, [], ◌∷◌, Option, Some, None, Bool, true, sym, ap, subst, arith}
+use Rattle.std.proofs.Common.{◌≡◌, ℕ, suc, List, ◌∷◌, Option, Some, None, Bool, true, ap}
 use Rattle.verse_base.specs.declared.places.Place.{Place}
 use Rattle.verse_tree.specs.Tree.{Bytes, Tree, tree, Shape, Trees, no_trees, more_trees}
 use Rattle.verse_tree.specs.Tree as t
 use Rattle.verse_tree.specs.declared.tables.Ref.{Ref}
 use Rattle.verse_tree.specs.declared.tables.Ref.TheVariants as ref
-use Rattle.verse_code.specs.declared.operations.Op.{Op}
-use Rattle.verse_value.specs.Val as v
-use Rattle.verse_value.specs.Val.{Val, unit, falsity, truth, int, char, object, enum}
+use Rattle.verse_value.specs.Val.{Val, object}
 use Rattle.verse_value.specs.Answer.{stuck as amiss}
 use Rattle.verse_meaning_state.specs.Effects.{still, slot_read}
 use Rattle.verse_meaning.specs.Programs.{ref_at}
 use Rattle.verse_meaning.specs.Residuals.{Env, Bound}
-use Rattle.verse_meaning.specs.Outcomes.{World, jammed, wrong, value, halted, told, if_known}
+use Rattle.verse_meaning.specs.Outcomes.{World, Outcome, wrong, value, halted, told, if_known}
 use Rattle.verse_meaning.specs.Forms.{look, read_bound, read_slot_of}
 use Rattle.verse_meaning.specs.Runs.{deeper}
 use Rattle.verse_code_machine.specs.Frames.{fits, answered}
-use Rattle.lower_code.specs.Pieces as pc
-use Rattle.lower_code.specs.Pieces.{Spot, Piece, Maker, past, sure, joined_at}
+use Rattle.lower_code.specs.Pieces.{Spot, one, stuck}
 use Rattle.lower_code.specs.Scopes.{Scope as Names, Found, fixed, varies, absent, find}
 use Rattle.lower_code.specs.Lowering.{piece, shape_piece, how_many}
 use Rattle.lower_code.specs.Lowering as low
 use Rattle.lower_simulation.proofs.Steps.{over}
-use Rattle.lower_simulation.proofs.Claims.{Way, Setting, Ctx, Around, at, Good, Target, on, Goes_on, Fits}
+use Rattle.lower_simulation.proofs.Claims.{Way, Setting, Ctx, Around, at, Good, Target, on, Goes_on, Fits, In}
 use Rattle.lower_simulation.proofs.Locals.{in_holds, Looked, looked}
-use Rattle.lower_simulation.proofs.Standing.{Stands, op_stands}
-use Rattle.lower_simulation.proofs.Leading.{LeadsTo, does_leads, open_leads, there_leads, value_here}
+use Rattle.lower_simulation.proofs.Standing.{Stands, op_stands, then_stand}
+use Rattle.verse_code.specs.declared.operations.Op.TheVariants as op
+use Rattle.lower_simulation.proofs.Leading.{LeadsTo, is_leads, does_leads, open_leads, there_leads, value_here}
 use Rattle.verse_value.specs.Store.{slot_of}
 use Rattle.verse_value.specs.Answer.{given_or}
 use Rattle.verse_meaning.specs.Forms.{this_name, constant_of}
@@ -36,7 +34,7 @@ use Rattle.lower_simulation.proofs.Forms.{end_leads, op_leads, EvLeads}
 module _ (z : Setting) where
   -- an operation that is always stuck
   pub stuck_leads : {j n : ℕ} {c : Ctx} {o : Around} {y : World} {ls st : List Val} {size : ℕ} {out : Way} {s e : Spot} {into : Target} →
-      Stands z (fits c.handlers) size out s (pc.stuck s) e →
+      Stands z (fits c.handlers) size out s (stuck s) e →
       LeadsTo z j n c o y.behind y.tasks (at c o y.state ls st s.at) into (halted (wrong y.state))
   stuck_leads i = does_leads z (op_stands z i).is (record { go = λ g h. over _ h })
 
@@ -44,104 +42,76 @@ module _ (z : Setting) where
   pub read_leads : {j n : ℕ} {c : Ctx} {o : Around} {y : World} {ls st : List Val} {p : ℕ} (r : Option Val) (pl : Place) (env : Env) →
       fits c.handlers (suc p) ≡ true → Good n c.who.path o c.held c.also c.size y.state ls →
       LeadsTo z j n c o y.behind y.tasks (answered None (still
-          (given_or amiss r) y.state) c.who o.world y.state c.life ls st p c.handlers c.below) (on (suc p) st)
-          (told (still (given_or amiss r) y.state) pl env y)
+      (given_or amiss r) y.state) c.who o.world y.state c.life ls st p c.handlers c.below) (on (suc p) st)
+      (told (still (given_or amiss r) y.state) pl env y)
   unfolding told
   read_leads None pl env f g = record { go = λ g h. over _ h }
   read_leads (Some v) pl env f g = open_leads z _ f (value_here z g)
 
-  -- two operations, one behind the other
-  pub two_stand : {ok : ℕ → Bool} {size n : ℕ} {out : Way} {s e : Spot} {x u : Op} → Stands z ok size out s (pc.plain (x ∷ u ∷ []) n) e →
-      (Goes_on z ok s.at (suc s.at) x × Goes_on z ok (suc s.at) (suc (suc s.at)) u) × (pc.next (pc.next s) ≡ e)
-  two_stand {s = s} {e} h =
-      let q = ap (λ (x : Spot). x.at) h.ends in
-      ((record { is = h.ops.0; fit = h.fit (suc s.at) (omega arith) (omega (arith, q)) },
-          record { is = h.ops.1.0; fit = h.fit (suc (suc s.at)) (omega arith) (omega (arith, q)) }), h.ends)
+  -- a local that stays, on the stack
+  pub get_leads : {j n l a : ℕ} {c : Ctx} {o : Around} {y : World} {ls st : List Val} {into : Target} {v : Val} {x : Outcome} →
+      Goes_on z (fits c.handlers) a (suc a) (op.Get l) → In l v c.held → Good n c.who.path o c.held c.also c.size y.state ls →
+      LeadsTo z j n c o y.behind y.tasks (at c o y.state ls (v ∷ st) (suc a)) into x →
+      LeadsTo z j n c o y.behind y.tasks (at c o y.state ls st a) into x
+  get_leads {l = l} {y = y} {ls} {v = v} k h g rest = does_leads z k.is
+      (there_leads z y.state _ (in_holds l v ls h g.holds) (open_leads z y.state k.fit rest))
 
   bound_leads : {j n : ℕ} {c : Ctx} {o : Around} {y : World} {ls st : List Val} {out : Way} {s e : Spot} (f : Found) (b : Option Bound)
       (pl : Place) → Stands z (fits c.handlers) c.size out s (read_found f s) e → Looked f b c.held →
       Good n c.who.path o c.held c.also c.size y.state ls → LeadsTo z j n c o y.behind y.tasks (at c o y.state ls st s.at) (on e.at st)
-          (read_bound b pl c.env y)
-  bound_leads {j} {n} {c} {o} {y} {ls} {st} {out} {s} {e} absent b pl i h g = subst
-      (λ b. LeadsTo z j n c o y.behind y.tasks (at c o y.state ls st s.at) (on e.at st) (read_bound b pl c.env y)) (sym h) (stuck_leads i)
-  bound_leads {j} {n} {c} {o} {y} {ls} {st} {out} {s} {e} (fixed l) b pl i h g = subst
-      (λ b. LeadsTo z j n c o y.behind y.tasks (at c o y.state ls st s.at) (on e.at st) (read_bound b pl c.env y)) (sym h.1)
-      (op_leads z i (λ x. there_leads z y.state _ (in_holds l h.0 ls h.2 g.holds) (open_leads z _ x.fit (value_here z g))))
-  bound_leads {j} {n} {c} {o} {y} {ls} {st} {out} {s} {e} (varies l) b pl i h g = subst
-      (λ b. LeadsTo z j n c o y.behind y.tasks (at c o y.state ls st s.at) (on e.at st) (read_bound b pl c.env y)) (sym h.1)
-      (let x = two_stand i in end_leads z x.1 (does_leads z x.0.0.is
-          (there_leads z y.state _ (in_holds l (object h.0) ls h.2 g.holds) (open_leads z _ x.0.0.fit
-      (does_leads z x.0.1.is (read_leads (slot_of y.state.memory.store h.0 0) pl c.env x.0.1.fit g))))))
+      (read_bound b pl c.env y)
+  bound_leads {c = c} {y = y} absent b pl i h g = is_leads z (ap (λ b. read_bound b pl c.env y) h) (stuck_leads i)
+  bound_leads {c = c} {y = y} {s = s} (fixed l) b pl i h g = is_leads z (ap (λ b. read_bound b pl c.env y) h.1)
+      (end_leads z i.ends (get_leads (op_stands z i) h.2 g (value_here z g)))
+  bound_leads {c = c} {y = y} {s = s} {e} (varies l) b pl i h g =
+      let r = then_stand z s e (one (op.Get l)) (one (op.Load 0)) i in
+      is_leads z (ap (λ b. read_bound b pl c.env y) h.1) (get_leads (op_stands z r.0) h.2 g
+      (op_leads z r.1 (λ k. read_leads (slot_of y.state.memory.store h.0 0) pl c.env k.fit g)))
 
   this_leads : {j n : ℕ} {c : Ctx} {o : Around} {y : World} {ls st : List Val} {out : Way} {s e : Spot} (f : Found) (b : Option Bound) →
       Stands z (fits c.handlers) c.size out s (read_this f s) e → Looked f b c.held →
       Good n c.who.path o c.held c.also c.size y.state ls → LeadsTo z j n c o y.behind y.tasks (at c o y.state ls st s.at) (on e.at st)
-          (if_known (constant_of b) y (λ v. value c.env v y))
+      (if_known (constant_of b) y (λ v. value c.env v y))
   unfolding if_known
-  this_leads {j} {n} {c} {o} {y} {ls} {st} {out} {s} {e} absent b i h g = subst
-      (λ b. LeadsTo z j n c o y.behind y.tasks (at c o y.state ls st s.at) (on e.at st)
-      (if_known (constant_of b) y (λ v. value c.env v y))) (sym h) (stuck_leads i)
-  this_leads {j} {n} {c} {o} {y} {ls} {st} {out} {s} {e} (fixed l) b i h g = subst
-      (λ b. LeadsTo z j n c o y.behind y.tasks (at c o y.state ls st s.at) (on e.at st)
-      (if_known (constant_of b) y (λ v. value c.env v y))) (sym h.1)
-      (op_leads z i (λ x. there_leads z y.state _ (in_holds l h.0 ls h.2 g.holds) (open_leads z _ x.fit (value_here z g))))
-  this_leads {j} {n} {c} {o} {y} {ls} {st} {out} {s} {e} (varies l) b i h g = subst
-      (λ b. LeadsTo z j n c o y.behind y.tasks (at c o y.state ls st s.at) (on e.at st)
-      (if_known (constant_of b) y (λ v. value c.env v y))) (sym h.1) (stuck_leads i)
+  this_leads {c = c} {y = y} absent b i h g =
+      is_leads z (ap (λ b. if_known (constant_of b) y (λ v. value c.env v y)) h) (stuck_leads i)
+  this_leads {c = c} {y = y} {s = s} (fixed l) b i h g = is_leads z (ap (λ b. if_known (constant_of b) y (λ v. value c.env v y)) h.1)
+      (end_leads z i.ends (get_leads (op_stands z i) h.2 g (value_here z g)))
+  this_leads {c = c} {y = y} (varies l) b i h g =
+      is_leads z (ap (λ b. if_known (constant_of b) y (λ v. value c.env v y)) h.1) (stuck_leads i)
 
   -- a field of the object of the method; where the object is no object, its field is read of it
   field_read : {j n : ℕ} {c : Ctx} {o : Around} {y : World} {ls st : List Val} {p : ℕ} (v : Val) (slot : ℕ) (pl : Place) (env : Env) →
-      fits c.handlers (suc p) ≡ true → Good n c.who.path o c.held c.also c.size y.state ls →
-      LeadsTo z j n c o y.behind y.tasks (answered None (slot_read slot v y.state) c.who o.world y.state c.life ls st p c.handlers c.below) (on (suc p) st) (told (slot_read slot v y.state) pl env y)
+      fits c.handlers (suc p) ≡ true → Good n c.who.path o c.held c.also c.size y.state ls → LeadsTo z j n c o y.behind y.tasks
+      (answered None (slot_read slot v y.state) c.who o.world y.state c.life ls st p c.handlers c.below) (on (suc p) st)
+      (told (slot_read slot v y.state) pl env y)
   unfolding told
   field_read {y = y} (object c) slot pl env f g = read_leads (slot_of y.state.memory.store c slot) pl env f g
-  field_read unit slot pl env f g = record { go = λ g h. over _ h }
-  field_read falsity slot pl env f g = record { go = λ g h. over _ h }
-  field_read truth slot pl env f g = record { go = λ g h. over _ h }
-  field_read (int x) slot pl env f g = record { go = λ g h. over _ h }
-  field_read (char x) slot pl env f g = record { go = λ g h. over _ h }
-  field_read (enum x u) slot pl env f g = record { go = λ g h. over _ h }
-  field_read (v.event x) slot pl env f g = record { go = λ g h. over _ h }
-  field_read (v.task x) slot pl env f g = record { go = λ g h. over _ h }
-  field_read (v.some x) slot pl env f g = record { go = λ g h. over _ h }
-  field_read (v.array x) slot pl env f g = record { go = λ g h. over _ h }
-  field_read (v.mapping x) slot pl env f g = record { go = λ g h. over _ h }
-  field_read (v.tuple x) slot pl env f g = record { go = λ g h. over _ h }
+  field_read v slot pl env f g = record { go = λ g h. over _ h }
 
   own_field_leads : {j n : ℕ} {c : Ctx} {o : Around} {y : World} {ls st : List Val} {out : Way} {s e : Spot} (slot : ℕ) (f : Found)
       (b : Option Bound) (pl : Place) → Stands z (fits c.handlers) c.size out s (field_of_this f slot s) e → Looked f b c.held →
       Good n c.who.path o c.held c.also c.size y.state ls → LeadsTo z j n c o y.behind y.tasks (at c o y.state ls st s.at) (on e.at st)
-          (read_slot_of (constant_of b) slot pl c.env y)
-  own_field_leads {j} {n} {c} {o} {y} {ls} {st} {out} {s} {e} slot absent b pl i h g = subst
-      (λ b. LeadsTo z j n c o y.behind y.tasks (at c o y.state ls st s.at) (on e.at st) (read_slot_of (constant_of b) slot pl c.env y))
-      (sym h) (stuck_leads i)
-  own_field_leads {j} {n} {c} {o} {y} {ls} {st} {out} {s} {e} slot (fixed l) b pl i h g = subst
-      (λ b. LeadsTo z j n c o y.behind y.tasks (at c o y.state ls st s.at) (on e.at st) (read_slot_of (constant_of b) slot pl c.env y))
-      (sym h.1)
-      (let x = two_stand i in end_leads z x.1 (does_leads z x.0.0.is
-          (there_leads z y.state _ (in_holds l h.0 ls h.2 g.holds) (open_leads z _ x.0.0.fit
-      (does_leads z x.0.1.is (field_read h.0 slot pl c.env x.0.1.fit g))))))
-  own_field_leads {j} {n} {c} {o} {y} {ls} {st} {out} {s} {e} slot (varies l) b pl i h g = subst
-      (λ b. LeadsTo z j n c o y.behind y.tasks (at c o y.state ls st s.at) (on e.at st) (read_slot_of (constant_of b) slot pl c.env y))
-      (sym h.1) (stuck_leads i)
+      (read_slot_of (constant_of b) slot pl c.env y)
+  own_field_leads {c = c} {y = y} slot absent b pl i h g =
+      is_leads z (ap (λ b. read_slot_of (constant_of b) slot pl c.env y) h) (stuck_leads i)
+  own_field_leads {c = c} {y = y} {s = s} {e} slot (fixed l) b pl i h g =
+      let r = then_stand z s e (one (op.Get l)) (one (op.Load slot)) i in
+      is_leads z (ap (λ b. read_slot_of (constant_of b) slot pl c.env y) h.1) (get_leads (op_stands z r.0) h.2 g
+      (op_leads z r.1 (λ k. field_read h.0 slot pl c.env k.fit g)))
+  own_field_leads {c = c} {y = y} slot (varies l) b pl i h g =
+      is_leads z (ap (λ b. read_slot_of (constant_of b) slot pl c.env y) h.1) (stuck_leads i)
 
 module _ (z : Setting) (differ : ℕ → ℕ → Bool) (top : ℕ) where
   named_leads : {j n : ℕ} {c : Ctx} {o : Around} {y : World} {ls st : List Val} {out : Way} {s e : Spot} (M : ℕ) (r : Option Ref)
       (x : Bytes) (ss : Names) (pl : Place) → Stands z (fits c.handlers) c.size out s (low.named z.program differ r x ss s) e →
       Fits ss c.env c.held →
       Good n c.who.path o c.held c.also c.size y.state ls → LeadsTo z j n c o y.behind y.tasks (at c o y.state ls st s.at) (on e.at st)
-          (named z.program (deeper z.program M) r x pl c.env y)
+      (named z.program (deeper z.program M) r x pl c.env y)
   unfolding named low.named
   named_leads {c = c} M (Some (ref.Field q slot)) x ss pl i h g = own_field_leads z slot (this_found ss) (look this_name c.env) pl i
       (looked this_name c.held ss c.env h) g
-  named_leads {c = c} M None x ss pl i h g = bound_leads z (find x ss) (look x c.env) pl i (looked x c.held ss c.env h) g
-  named_leads {c = c} M (Some (ref.Local q)) x ss pl i h g = bound_leads z (find x ss) (look x c.env) pl i (looked x c.held ss c.env h) g
-  named_leads {c = c} M (Some (ref.Key q)) x ss pl i h g = bound_leads z (find x ss) (look x c.env) pl i (looked x c.held ss c.env h) g
-  named_leads {c = c} M (Some (ref.Method q u)) x ss pl i h g = bound_leads z (find x ss) (look x c.env) pl i (looked x c.held ss c.env h) g
-  named_leads {c = c} M (Some (ref.Fun q)) x ss pl i h g = bound_leads z (find x ss) (look x c.env) pl i (looked x c.held ss c.env h) g
-  named_leads {c = c} M (Some (ref.Class q)) x ss pl i h g = bound_leads z (find x ss) (look x c.env) pl i (looked x c.held ss c.env h) g
-  named_leads {c = c} M (Some (ref.Enum q)) x ss pl i h g = bound_leads z (find x ss) (look x c.env) pl i (looked x c.held ss c.env h) g
-  named_leads {c = c} M (Some (ref.Builtin q)) x ss pl i h g = bound_leads z (find x ss) (look x c.env) pl i (looked x c.held ss c.env h) g
+  named_leads {c = c} M r x ss pl i h g = bound_leads z (find x ss) (look x c.env) pl i (looked x c.held ss c.env h) g
 
   pub name_leads : (n : ℕ) (pl : Place) (x : Bytes) → EvLeads z differ top (tree n pl (t.Shape.name x))
   name_leads n pl x ss a s e out w M j m c o y ls st i sc fw lt lM ab g = named_leads M (ref_at z.program n) x ss pl i sc.fits g

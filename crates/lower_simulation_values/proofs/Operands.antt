@@ -1,13 +1,14 @@
 -- Operands in turn, whatever stands between them in the code.
-use Rattle.std.proofs.Common.{◌≡◌, ℕ, suc, ◌≤◌, List, [], ◌∷◌, ◌++◌, length, Bool, true, refl, sym, ap, ◌∙◌, subst, append_assoc, append-nil}
+use Rattle.std.proofs.Common.{◌≡◌, ℕ, suc, ◌≤◌, List, [], ◌∷◌, ◌++◌, length, Bool, true, refl, sym, ap, ◌∙◌, subst, append_assoc}
+use Rattle.std.proofs.Common.{append-nil}
 use Rattle.verse_tree.specs.Tree.{Tree, Trees, no_trees, more_trees, Holes, no_holes, more_holes, Givens, no_givens, more_givens}
 use Rattle.verse_tree.specs.Tree as t
 use Rattle.verse_value.specs.Val.{Val}
-use Rattle.verse_meaning.specs.Programs.{trees_list, holes_list, pairs_list, givens_list}
+use Rattle.verse_meaning.specs.Programs.{holes_list, pairs_list, givens_list}
 use Rattle.verse_meaning.specs.Residuals.{Env, Form, args}
 use Rattle.verse_meaning.specs.Outcomes.{World, Outcome, valued}
 use Rattle.verse_meaning.specs.Forms.{apply}
-use Rattle.verse_meaning.specs.Evaluating.{ev, all_args, holed, paired_args, given_args}
+use Rattle.verse_meaning.specs.Evaluating.{ev, holed, paired_args, given_args}
 use Rattle.verse_meaning.specs.Resuming.{operands, resume}
 use Rattle.verse_meaning.specs.Runs.{deeper}
 use Rattle.verse_code_machine.specs.Frames.{fits, free}
@@ -25,7 +26,8 @@ use Rattle.lower_simulation_values.proofs.Tables.{Every}
 
 module _ (z : Setting) where
   -- what stands, stands up to its own end
-  pub to_end : {ok : ℕ → Bool} {size : ℕ} {out : Way} {s e : Spot} {p : Piece} → Stands z ok size out s p e → Stands z ok size out s p (past s p)
+  pub to_end : {ok : ℕ → Bool} {size : ℕ} {out : Way} {s e : Spot} {p : Piece} → Stands z ok size out s p e →
+      Stands z ok size out s p (past s p)
   to_end {ok} {size} {out} {s} {e} {p} i = subst (λ (x : Spot). Stands z ok size out s p x) (sym i.ends) i
 
 module _ (z : Setting) (differ : ℕ → ℕ → Bool) (top : ℕ) where

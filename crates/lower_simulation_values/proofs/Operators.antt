@@ -21,9 +21,8 @@ use Rattle.verse_meaning.specs.Runs.{deeper}
 use Rattle.verse_code_machine.specs.Tasks.{Step}
 use Rattle.verse_code_machine.specs.Frames.{fits, free, on_many}
 use Rattle.lower_code.specs.Applied as applied
-use Rattle.lower_code.specs.Pieces as pc
 use Rattle.lower_code.specs.Pieces.{Spot, past, next, one, ◌then◌}
-use Rattle.lower_code.specs.Scopes.{constant_at, variable_at, hidden, Scope as Names, Found, fixed, varies, absent, find}
+use Rattle.lower_code.specs.Scopes.{Scope as Names}
 use Rattle.lower_code.specs.declared.arounds.Around.{Around as Where}
 use Rattle.lower_code.specs.Arounds.{up}
 use Rattle.lower_code.specs.Lowering.{piece, shape_piece, how_many}
@@ -74,9 +73,9 @@ module _ (z : Setting) where
   computed_leads : (q : Operator) (b : Bool) (pl : Place) (v u : Val) (s e : Spot) (out : Way) (j n : ℕ) (c : Ctx) (o : Around)
       (y : World) (ls st : List Val) (env : Env) →
       IsSum q → Stands z (fits c.handlers) c.size out s (applied.computing q pl b s) e →
-          Good n c.who.path o c.held c.also c.size y.state ls →
+      Good n c.who.path o c.held c.also c.size y.state ls →
       LeadsTo z j n c o y.behind y.tasks (at c o y.state ls (u ∷ v ∷ st) s.at) (on e.at st)
-          (told (still (computed q b v u) y.state) pl env y)
+      (told (still (computed q b v u) y.state) pl env y)
   computed_leads oper.Add true pl v u s e out j n c o y ls st env d i g = op_leads z i
       (λ h. told_leads z (still (concat_of v u) y.state) pl env i.places.0 h.fit (still_calm z (concat_of v u) y.state) g)
   computed_leads oper.Add false pl v u s e out j n c o y ls st env d i g = op_leads z i
@@ -117,18 +116,18 @@ module _ (z : Setting) (differ : ℕ → ℕ → Bool) (top : ℕ) where
       Stands z (fits c.handlers) c.size out s ((piece z.program differ x ss a then
       piece z.program differ u ss (up a) then applied.computing q pl (z.program.is_array n)) s) e → Static top c ss out a →
       free c.handlers c.life.noted c.below ≡ w → m ≤ top → m ≤ M → Above a.height st c.base →
-          Good m c.who.path o c.held c.also c.size y.state ls →
+      Good m c.who.path o c.held c.also c.size y.state ls →
       LeadsTo z j m c o y.behind y.tasks (at c o y.state ls st s.at) (on e.at st)
-          (all_args z.program (deeper z.program M) (more_trees x (more_trees u no_trees))
-          (form.computing q (z.program.is_array n) pl) [] w c.env y)
+      (all_args z.program (deeper z.program M) (more_trees x (more_trees u no_trees))
+      (form.computing q (z.program.is_array n) pl) [] w c.env y)
   sum_leads q d n pl x u hx hu ss a s e out w M j m c o y ls st i sc fw lt lM ab g =
       let p = piece z.program differ x ss a s in
       let r = joined_stands z s e p _ i in
       let r2 = joined_stands z (past s p) e (piece z.program differ u ss (up a) (past s p)) _ r.1 in
       args_leads z differ top (more_trees x (more_trees u no_trees)) (hx, (hu, tt)) (form.computing q (z.program.is_array n) pl)
-          (λ l vs e w. refl) ss a s _ out w M j m c o y ls st [] (on e.at st) (r.0, (r2.0, refl)) sc fw lt lM ab g
+      (λ l vs e w. refl) ss a s _ out w M j m c o y ls st [] (on e.at st) (r.0, (r2.0, refl)) sc fw lt lM ab g
       (two_finish z differ top _ _ (λ v u w M i m fw le lM o y ls g.
-          computed_leads z q (z.program.is_array n) pl v u _ e out i m c o y ls st c.env d r2.1 g))
+      computed_leads z q (z.program.is_array n) pl v u _ e out i m c o y ls st c.env d r2.1 g))
 
   pub added_leads : (n : ℕ) (pl : Place) (x u : Tree) → EvLeads z differ top x → EvLeads z differ top u →
       EvLeads z differ top (tree n pl (t.Shape.chained oper.Add x u))
@@ -153,7 +152,8 @@ module _ (z : Setting) (differ : ℕ → ℕ → Bool) (top : ℕ) where
       (λ w M v y. valued (ev z.program (deeper z.program M) u w c.env y) (λ r. args c.env f (v ∷ []) r [])
       (λ v2 y. apply z.program (deeper z.program M) f (v ∷ v2 ∷ []) w c.env y)) fw lM (λ r. refl) (λ r M w. refl) (λ r M w. refl)
       (λ l x n v y. refl) (hx ss a s m1 out w M j m c o y ls st r.0 sc fw lt lM ab g) (λ w M i m fw le lM o v y ls g.
-      at_leads z r2.0 (λ h. open_leads z y.state h.fit (value_leads z (on e.at st) (on e.at st) (ev z.program (deeper z.program M) u w c.env y)
+      at_leads z r2.0 (λ h. open_leads z y.state h.fit (value_leads z (on e.at st) (on e.at st)
+      (ev z.program (deeper z.program M) u w c.env y)
       (λ r. args c.env f (v ∷ []) r []) (λ w M v2 y. apply z.program (deeper z.program M) f (v ∷ v2 ∷ []) w c.env y) fw lM (λ r. refl)
       (λ r M w. refl) (λ r M w. refl) (λ l x n v y. refl) (hu ss a (next m1) e out w M i m c o y ls st r2.1 sc fw (trans le lt) lM ab g)
       (λ w M i m fw le lM o v2 y ls g. told_here z pl c o y ls st v2 c.env e.at i m g))))
@@ -163,7 +163,8 @@ module _ (z : Setting) (differ : ℕ → ℕ → Bool) (top : ℕ) where
       Stands z ok size out s (low.args z.program differ ts ss a s) e → Operands_stand z differ top ts ss a ok size out s e
   args_stand no_trees ss a ok size out s e i = i.ends
   args_stand (more_trees x ts) ss a ok size out s e i =
-      let r = then_stand z s e (piece z.program differ x ss a) (low.args z.program differ ts ss (up a)) i in (r.0, args_stand ts ss (up a) ok size out _ e r.1)
+      let r = then_stand z s e (piece z.program differ x ss a) (low.args z.program differ ts ss (up a)) i in
+      (r.0, args_stand ts ss (up a) ok size out _ e r.1)
 
   pub tuple_leads : (n : ℕ) (pl : Place) (ts : Trees) → All_lead z differ top ts → EvLeads z differ top (tree n pl (t.Shape.tuple ts))
   tuple_leads n pl ts hs ss a s e out w M j m c o y ls st i sc fw lt lM ab g =

@@ -1,5 +1,5 @@
 -- `spawn`: the call that a task of its own begins with.
-use Rattle.std.proofs.Common.{◌≡◌, ℕ, zero, suc, ◌≤◌, List, [], ◌∷◌, length, Option, Some, None, Bool, true, false, refl, sym, ap, ◌∙◌, subst}
+use Rattle.std.proofs.Common.{◌≡◌, ℕ, suc, ◌≤◌, List, [], ◌∷◌, length, Option, Some, None, Bool, true, false, refl, sym, ap, ◌∙◌, subst}
 use Rattle.std.specs.Prelude.{nat_eq}
 use Rattle.std.proofs.lemmas.Bool.{eqb-true, eqb-false}
 use Rattle.verse_base.specs.declared.places.Place.{Place}
@@ -12,7 +12,7 @@ use Rattle.verse_value.specs.Val.{Val}
 use Rattle.verse_meaning.specs.Programs.{fun_at, trees_list}
 use Rattle.verse_meaning.specs.Residuals as form
 use Rattle.verse_meaning.specs.Residuals.{Env, Form, args}
-use Rattle.verse_meaning.specs.Outcomes.{World, Outcome, halted, wrong, valued, if_known, outside}
+use Rattle.verse_meaning.specs.Outcomes.{World, halted, wrong, valued, if_known, outside}
 use Rattle.verse_meaning.specs.Forms.{look, this_name, this_of, constant_of, method_spawned}
 use Rattle.verse_meaning.specs.Evaluating as ev
 use Rattle.verse_meaning.specs.Evaluating.{all_args, Callee, by_callee, callee_of, spawned_callee}
@@ -33,7 +33,8 @@ use Rattle.lower_simulation_values.proofs.Operators.{many_leads}
 use Rattle.lower_simulation_values.proofs.Names.{stuck_leads}
 use Rattle.lower_simulation_values.proofs.Tables.{Is_function, Tables, SpawnsLead, AwaitsLead}
 use Rattle.lower_simulation_values.proofs.Applied.{Leads, Applied, first_leads}
-use Rattle.lower_simulation_values.proofs.Callees.{Sort, a_function, own_method, prints, floors, ceils, takes_modulo, a_method, awaits, signals}
+use Rattle.lower_simulation_values.proofs.Callees.{Sort, a_function, own_method, prints, floors, ceils, takes_modulo, a_method, awaits}
+use Rattle.lower_simulation_values.proofs.Callees.{signals}
 use Rattle.lower_simulation_values.proofs.Callees.{a_value, sort_of, unknown, other_many, spawns_wrong}
 use Rattle.lower_simulation_values.proofs.Calls.{method_leads, printing_applied, modulo_applied}
 use Rattle.lower_simulation_values.proofs.Called.{Member_lead, alone_leads, own_leads, outside_leads, outside_stuck, signalling_applied}
@@ -117,13 +118,15 @@ module _ (z : Setting) (differ : ℕ → ℕ → Bool) (top : ℕ) where
       (λ u y. all_args z.program (deeper z.program M) ts f (u ∷ []) w e y))
       (λ f y. halted (wrong y.state)) (λ f y. halted (wrong y.state)))
   unfolding by_callee low.by_callee
-  callee_leads tables spawn aw whole pl b ts hm hs q (a_function f is) = alone_leads z differ top (form.spawning f) (λ l vs e w. refl) ts hs
+  callee_leads tables spawn aw whole pl b ts hm hs q (a_function f is) = alone_leads z differ top (form.spawning f)
+      (λ l vs e w. refl) ts hs
       (takes_params z.program differ (fun_at z.program f) (how_many ts)) (λ c st. spawning_applied tables spawn f is (how_many ts) c st)
   callee_leads tables spawn aw whole pl b ts hm hs q (own_method m) = own_leads z differ top (form.spawning_own m) (λ l vs e w. refl) ts hs
       (λ c obj st h. own_applied tables spawn m (how_many ts) c obj st h) (λ c below st h. own_wrong m (how_many ts) c below st h)
   callee_leads tables spawn aw whole pl b ts hm hs q prints = alone_leads z differ top (form.printing pl) (λ l vs e w. refl) ts hs true
       (λ c st. printing_applied z differ top pl (how_many ts) c st)
-  callee_leads tables spawn aw whole pl b ts hm hs q takes_modulo = alone_leads z differ top form.taking_modulo (λ l vs e w. refl) ts hs true
+  callee_leads tables spawn aw whole pl b ts hm hs q takes_modulo = alone_leads z differ top form.taking_modulo
+      (λ l vs e w. refl) ts hs true
       (λ c st. modulo_applied z differ top (how_many ts) c st)
   callee_leads tables spawn aw whole pl b ts hm hs q (a_method {b = x} m) =
       first_leads z differ top (form.spawning_method m) (λ l vs e w. refl) x hm ts hs
@@ -133,7 +136,8 @@ module _ (z : Setting) (differ : ℕ → ℕ → Bool) (top : ℕ) where
       first_leads z differ top (form.awaiting is_event) (λ l vs e w. refl) x hm ts hs
       (λ c a st. awaiting_applied z differ top aw is_event (how_many ts) c a st)
   callee_leads tables spawn aw whole pl b ts hm hs q (signals {b = x}) =
-      first_leads z differ top form.signalling (λ l vs e w. refl) x hm ts hs (λ c a st. signalling_applied z differ top (how_many ts) c a st)
+      first_leads z differ top form.signalling (λ l vs e w. refl) x hm ts hs
+      (λ c a st. signalling_applied z differ top (how_many ts) c a st)
   callee_leads tables spawn aw whole pl b ts hm hs q floors = λ ss a s e out w M j n c o y ls st i sc fw lt lM ab g. stuck_leads z i
   callee_leads tables spawn aw whole pl b ts hm hs q ceils = λ ss a s e out w M j n c o y ls st i sc fw lt lM ab g. stuck_leads z i
   callee_leads tables spawn aw whole pl b ts hm hs q a_value = λ ss a s e out w M j n c o y ls st i sc fw lt lM ab g. stuck_leads z i

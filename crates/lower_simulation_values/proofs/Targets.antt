@@ -1,5 +1,6 @@
 -- What `set` writes to: the cell, and the indices that lead from it.
-use Rattle.std.proofs.Common.{◌≡◌, ℕ, zero, suc, ◌+◌, ◌≤◌, List, [], ◌∷◌, ◌++◌, length, Option, Some, None, Bool, true, false, refl, sym, ap, ◌∙◌, subst}
+use Rattle.std.proofs.Common.{◌≡◌, ℕ, zero, suc, ◌+◌, List, [], ◌∷◌, ◌++◌, length, Option, Some, Bool, true, false, refl, sym, ap}
+use Rattle.std.proofs.Common.{◌∙◌, subst}
 use Rattle.std.proofs.Common.{arith, append_assoc}
 use Rattle.verse_base.specs.declared.places.Place.{Place}
 use Rattle.verse_tree.specs.Tree.{Bytes, Tree, tree, Shape, Trees, no_trees, more_trees}
@@ -14,7 +15,7 @@ use Rattle.verse_meaning.specs.Outcomes.{World, Outcome, halted, wrong, valued}
 use Rattle.verse_meaning.specs.Evaluating as meaning
 use Rattle.verse_meaning.specs.Evaluating.{targets, indices, base_of, base_named, base_member}
 use Rattle.verse_meaning.specs.Runs.{deeper}
-use Rattle.lower_code.specs.Pieces.{Spot, Piece, Maker, past, nothing, ◌then◌}
+use Rattle.lower_code.specs.Pieces.{Spot, past}
 use Rattle.lower_code.specs.Scopes.{Scope as Names, find, this_found, push_fixed, push_varies, is_fixed, is_varies}
 use Rattle.lower_code.specs.declared.arounds.Around.{Around as Where}
 use Rattle.lower_code.specs.Arounds.{up, raised}
@@ -123,7 +124,8 @@ list_many at_self = refl
 list_many at_object = refl
 list_many at_none = refl
 list_many (at_index {b = b} {ts} {r} p) =
-    length_more (target_list b) (trees_list ts) ∙ both r (length (target_list b)) (length (trees_list ts)) (target_operands b) (how_many ts)
+    length_more (target_list b) (trees_list ts) ∙ both r (length (target_list b)) (length (trees_list ts)) (target_operands b)
+    (how_many ts)
     (list_many p) (trees_many ts)
   where
     both : (r : Root) (n m k l : ℕ) → n ≡ operands_of r k → m ≡ l → n + m ≡ operands_of r (l + k)
@@ -149,7 +151,8 @@ module _ (z : Setting) (differ : ℕ → ℕ → Bool) (top : ℕ) where
     pub Target_lead : Tree → Type 0
     Target_lead (tree n pl s) = Target_part s
 
-  every_both : (xs ys : List Tree) → Every (EvLeads z differ top) xs → Every (EvLeads z differ top) ys → Every (EvLeads z differ top) (xs ++ ys)
+  every_both : (xs ys : List Tree) → Every (EvLeads z differ top) xs → Every (EvLeads z differ top) ys →
+      Every (EvLeads z differ top) (xs ++ ys)
   every_both [] ys h k = k
   every_both (x ∷ xs) ys h k = (h.0, every_both xs ys h.1 k)
 
@@ -186,7 +189,8 @@ module _ (z : Setting) (differ : ℕ → ℕ → Bool) (top : ℕ) where
   -- the code that finds the cell
   abbrev pub Root_stands : Root → Names → (ok : ℕ → Bool) → (size : ℕ) → (out : Way) → Spot → Type 0
   Root_stands (variable_root x) ss ok size out s = Stands z ok size out s (push_varies (find x ss) s) (past s (push_varies (find x ss) s))
-  Root_stands (self_root n) ss ok size out s = Stands z ok size out s (push_fixed (this_found ss) s) (past s (push_fixed (this_found ss) s))
+  Root_stands (self_root n) ss ok size out s = Stands z ok size out s (push_fixed (this_found ss) s)
+      (past s (push_fixed (this_found ss) s))
   Root_stands (object_root n) ss ok size out s = Unit {0}
   Root_stands no_root ss ok size out s = Unit {0}
 
@@ -199,10 +203,9 @@ module _ (z : Setting) (differ : ℕ → ℕ → Bool) (top : ℕ) where
   target_stand at_none ss a ok size out s e i = (tt, (to_end z i, i.ends))
   target_stand (at_index {b = b} {ts} {r} p) ss a ok size out s e i =
       let q = then_stand z s e (low.target_piece z.program differ b (base_for r) ss a)
-          (low.args z.program differ ts ss (up (raised (target_operands b) a))) i in
+      (low.args z.program differ ts ss (up (raised (target_operands b) a))) i in
       let m : Spot = past s (low.target_piece z.program differ b (base_for r) ss a s) in
-      let h = target_stand p ss a ok size out s m q.0 in
-      (
+      let h = target_stand p ss a ok size out s m q.0 in (
         h.0,
         listed_both (target_list b) (trees_list ts) ss (root_around r a) ok size out (root_spot r ss s) m e h.1
             (subst (λ (x : Where). Listed z differ top (trees_list ts) ss x ok size out m e)
@@ -243,29 +246,16 @@ module _ (z : Setting) (differ : ℕ → ℕ → Bool) (top : ℕ) where
     proper : (r : Root) → Rooted b r → base_of z.program b ≡ base_for r → Target_sort b
     improper : Improper b (base_of z.program b) → Target_sort b
 
-  named_sort : (n : ℕ) (pl : Place) (x : Bytes) (r : Option Ref) → base_of z.program (tree n pl (t.Shape.name x)) ≡ base_named z.program r x →
+  named_sort : (n : ℕ) (pl : Place) (x : Bytes) (r : Option Ref) → base_of z.program (tree n pl (t.Shape.name x)) ≡
+      base_named z.program r x →
       Target_sort (tree n pl (t.Shape.name x))
   named_sort n pl x (Some (ref.Field c slot)) h = proper (self_root slot) at_self h
-  named_sort n pl x None h = proper (variable_root x) at_variable h
-  named_sort n pl x (Some (ref.Local q)) h = proper (variable_root x) at_variable h
-  named_sort n pl x (Some (ref.Key q)) h = proper (variable_root x) at_variable h
-  named_sort n pl x (Some (ref.Method q u)) h = proper (variable_root x) at_variable h
-  named_sort n pl x (Some (ref.Fun q)) h = proper (variable_root x) at_variable h
-  named_sort n pl x (Some (ref.Class q)) h = proper (variable_root x) at_variable h
-  named_sort n pl x (Some (ref.Enum q)) h = proper (variable_root x) at_variable h
-  named_sort n pl x (Some (ref.Builtin q)) h = proper (variable_root x) at_variable h
+  named_sort n pl x r h = proper (variable_root x) at_variable h
 
   member_sort : (n : ℕ) (pl : Place) (b : Tree) (x : Bytes) (r : Option Ref) →
       base_of z.program (tree n pl (t.Shape.member b x)) ≡ base_member z.program r → Target_sort (tree n pl (t.Shape.member b x))
   member_sort n pl b x (Some (ref.Field c slot)) h = proper (object_root slot) at_object h
-  member_sort n pl b x None h = proper no_root at_none h
-  member_sort n pl b x (Some (ref.Local q)) h = proper no_root at_none h
-  member_sort n pl b x (Some (ref.Key q)) h = proper no_root at_none h
-  member_sort n pl b x (Some (ref.Method q u)) h = proper no_root at_none h
-  member_sort n pl b x (Some (ref.Fun q)) h = proper no_root at_none h
-  member_sort n pl b x (Some (ref.Class q)) h = proper no_root at_none h
-  member_sort n pl b x (Some (ref.Enum q)) h = proper no_root at_none h
-  member_sort n pl b x (Some (ref.Builtin q)) h = proper no_root at_none h
+  member_sort n pl b x r h = proper no_root at_none h
 
   index_sort : (n : ℕ) (pl : Place) (b : Tree) (ts : Trees) → Target_sort b → Target_sort (tree n pl (t.Shape.index b ts))
   index_sort n pl b ts (proper r p h) = proper r (at_index p) h

@@ -1,11 +1,11 @@
 -- Texts with holes.
-use Rattle.std.proofs.Common.{◌≡◌, ℕ, zero, suc, ◌≤◌, List, [], ◌∷◌, ◌++◌, length, Bool, true, false, refl, sym, ap, subst, arith, append_assoc}
+use Rattle.std.proofs.Common.{◌≡◌, ℕ, suc, ◌≤◌, List, [], ◌∷◌, ◌++◌, length, Bool, true, false, refl, sym, ap, subst, arith, append_assoc}
 use Rattle.std.proofs.Common.{append-nil}
 use Rattle.verse_base.specs.declared.places.Place.{Place}
 use Rattle.verse_tree.specs.Tree.{Bytes, Tree, tree, Holes, no_holes, more_holes}
 use Rattle.verse_tree.specs.Tree as t
 use Rattle.verse_value.specs.Val.{Val}
-use Rattle.verse_value.specs.Operations.{text_val, join_of}
+use Rattle.verse_value.specs.Operations.{join_of}
 use Rattle.verse_meaning_state.specs.Effects.{still}
 use Rattle.verse_meaning.specs.Programs.{holes_list, pieces}
 use Rattle.verse_meaning.specs.Residuals as form
@@ -57,7 +57,8 @@ text_beneath [] us st = refl
 text_beneath (b ∷ bs) us st = refl
 
 -- a piece of the text lies on the operands, or not
-text_static : {top : ℕ} {c : Ctx} {ss : Names} {out : Way} {a : Where} (b : Bool) → Static top c ss out a → Static top c ss out (raised (one_if b 0) a)
+text_static : {top : ℕ} {c : Ctx} {ss : Names} {out : Way} {a : Where} (b : Bool) → Static top c ss out a →
+    Static top c ss out (raised (one_if b 0) a)
 text_static true h = on_one h
 text_static false h = h
 
@@ -92,11 +93,13 @@ module _ (z : Setting) (differ : ℕ → ℕ → Bool) (top : ℕ) where
       let p = texted_stand z (b ∷ bs) r.0 in
       does_leads z p.0.is (there_leads z y.state _ p.1 (open_leads z y.state p.0.fit (h _ r.1)))
 
-  holed_leads : (hs : Holes) → Holes_lead hs → (f : Form) → IsPlain z differ top f → (ss : Names) (a : Where) (s e : Spot) (out : Way) (w : Bool)
+  holed_leads : (hs : Holes) → Holes_lead hs → (f : Form) → IsPlain z differ top f → (ss : Names) (a : Where) (s e : Spot) (out : Way)
+      (w : Bool)
       (M j n : ℕ) (c : Ctx) (o : Around) (y : World) (ls st : List Val) (vs : List Val) (into : Target) →
       Stands z (fits c.handlers) c.size out s (low.holed z.program differ hs ss a s) e → Static top c ss out a →
       free c.handlers c.life.noted c.below ≡ w → n ≤ top → n ≤ M → Above a.height st c.base →
-      Good n c.who.path o c.held c.also c.size y.state ls → ((ws : List Val) → length ws ≡ length (holes_list hs) → (w : Bool) (M i m : ℕ) →
+      Good n c.who.path o c.held c.also c.size y.state ls →
+      ((ws : List Val) → length ws ≡ length (holes_list hs) → (w : Bool) (M i m : ℕ) →
       free c.handlers c.life.noted c.below ≡ w → m ≤ n → m ≤ M → (o : Around) (y : World) (ls : List Val) →
       Good m c.who.path o c.held c.also c.size y.state ls → LeadsTo z i m c o y.behind y.tasks
       (at c o y.state ls (stacked (beyond hs ws) st) e.at) into (apply z.program (deeper z.program M) f (vs ++ ws) w c.env y)) →
@@ -127,8 +130,10 @@ module _ (z : Setting) (differ : ℕ → ℕ → Bool) (top : ℕ) where
       let r = then_stand z s1 e code joins i1 in
       holed_leads hs hx f (λ l vs e w. refl) ss (raised (one_if (is_text bs) 0) a) s1 _ out w M j m c o y ls
       (stacked (before_text bs []) st) [] (on e.at st) r.0 (text_static (is_text bs) sc) fw lt lM (text_above bs a st c.base ab) g
-      (λ ws q w M i m fw le lM o y ls g. subst (λ u. LeadsTo z i m c o y.behind y.tasks (at c o y.state ls u (past s1 (code s1)).at) (on e.at st)
+      (λ ws q w M i m fw le lM o y ls g. subst (λ u. LeadsTo z i m c o y.behind y.tasks (at c o y.state ls u (past s1 (code s1)).at)
+      (on e.at st)
       (told (still (join_of (woven (bs ∷ pieces hs) ws)) y.state) pl c.env y)) (sym (text_beneath bs (beyond hs ws) st))
       (is_leads z (ap (λ u. told (still (join_of u) y.state) pl c.env y) (woven_is bs hs ws q))
       (op_leads z r.1 (λ k. many_leads z _ _ (text_many bs (beyond hs ws) (joined_parts hs) (beyond_many hs ws q))
-      (told_leads z (still (join_of (before_text bs (beyond hs ws))) y.state) pl c.env r.1.places.0 k.fit (still_calm z (join_of (before_text bs (beyond hs ws))) y.state) g)))))))
+      (told_leads z (still (join_of (before_text bs (beyond hs ws))) y.state) pl c.env r.1.places.0 k.fit
+      (still_calm z (join_of (before_text bs (beyond hs ws))) y.state) g)))))))

@@ -1,18 +1,15 @@
 -- `set`: a write, and the value that stays.
-use Rattle.std.proofs.Common.{◌≡◌, ℕ, zero, suc, ◌+◌, ◌≤◌, ◌<◌, List, [], ◌∷◌, ◌++◌, length, Option, Some, None, Bool, true, false, refl, sym, ap, ◌∙◌, subst}
-use Rattle.std.proofs.Common.{arith}
+use Rattle.std.proofs.Common.{◌≡◌, ℕ, suc, ◌≤◌, ◌<◌, List, [], ◌∷◌, length, Option, Some, None, Bool, true, false, refl, sym, ap, ◌∙◌}
+use Rattle.std.proofs.Common.{subst}
 use Rattle.std.specs.Prelude.{slice_get, nat_le, if◌then◌else◌}
 use Rattle.verse_base.specs.declared.places.Place.{Place}
-use Rattle.verse_tree.specs.Tree.{Bytes, Tree, tree}
-use Rattle.verse_tree.specs.Tree as t
 use Rattle.verse_tree.specs.declared.exprs.Assign.{Assign}
 use Rattle.verse_tree.specs.declared.exprs.Assign.TheVariants as assign
 use Rattle.verse_code.specs.declared.operations.Op.TheVariants as op
-use Rattle.verse_value.specs.Val as v
-use Rattle.verse_value.specs.Val.{Val, unit, object}
+use Rattle.verse_value.specs.Val.{Val, object}
 use Rattle.verse_value.specs.Store.{Store, slot_of, stored, store_weight}
 use Rattle.verse_value.specs.Answer.{Answer, gives, fails, error, stuck}
-use Rattle.verse_value.specs.Storing.{write_slot, write_in, with_written, sized_store}
+use Rattle.verse_value.specs.Storing.{write_slot, write_in, with_written}
 use Rattle.verse_value.specs.Operations as ops
 use Rattle.verse_value.specs.Sizes as sizes
 use Rattle.verse_value.specs.Places as places
@@ -27,23 +24,21 @@ use Rattle.verse_value.specs.declared.modes.Mode.{Mode}
 use Rattle.verse_value.specs.declared.modes.Mode.TheVariants as mode
 use Rattle.verse_meaning_state.specs.State.{State}
 use Rattle.verse_meaning_state.specs.Effects.{Effect, changed, slot_written}
-use Rattle.verse_meaning.specs.Residuals as form
-use Rattle.verse_meaning.specs.Residuals.{Env, Form, Base, in_variable, in_self, in_object, nowhere, args}
-use Rattle.verse_meaning.specs.Outcomes.{World, with_state, Outcome, value, halted, wrong, told}
-use Rattle.verse_meaning.specs.Forms.{apply, split_last}
+use Rattle.verse_meaning.specs.Residuals.{Env}
+use Rattle.verse_meaning.specs.Outcomes.{World, with_state, value, told}
+use Rattle.verse_meaning.specs.Forms.{split_last}
 use Rattle.verse_meaning.specs.Evaluating.{mode_of}
-use Rattle.verse_meaning.specs.Runs.{deeper}
-use Rattle.verse_code_machine.specs.Frames.{fits, free, answered, faulting}
+use Rattle.verse_code_machine.specs.Frames.{fits, answered, faulting}
 use Rattle.verse_code_machine.specs.Acts as acts
 use Rattle.lower_code.specs.Applied.{storing, mode_number}
-use Rattle.lower_code.specs.Pieces.{Spot, Maker, past, next, one, kept, numbering, ◌then◌}
+use Rattle.lower_code.specs.Pieces.{Spot, Maker, next, one, kept, ◌then◌}
 use Rattle.lower_code.specs.Lowering.{keeps}
 use Rattle.lower_simulation.proofs.Steps.{over}
-use Rattle.lower_simulation.proofs.Claims.{Way, Setting, Ends, Ctx, Around, at, Good, on, Low, Goes_on}
+use Rattle.lower_simulation.proofs.Claims.{Way, Setting, Ends, Ctx, Around, at, Good, on, Goes_on}
 use Rattle.lower_simulation.proofs.Going.{le_self, trans}
 use Rattle.lower_simulation.proofs.Going as going
 use Rattle.lower_simulation.proofs.Locals.{PutIs, puts, holds_put}
-use Rattle.lower_simulation.proofs.Standing.{Stands, then_stand, op_stands, kept_stand, numbering_stand, end_at}
+use Rattle.lower_simulation.proofs.Standing.{Stands, then_stand, op_stands, kept_stand}
 use Rattle.lower_simulation.proofs.Leading.{LeadsTo, does_leads, open_leads, there_leads, is_leads, told_leads, value_here, fails_here}
 use Rattle.lower_simulation.proofs.Leading.{Calmly}
 use Rattle.lower_simulation.proofs.Forms.{Static, stacked, op_leads, end_leads}
@@ -65,7 +60,8 @@ same_mode mode.Sub = refl
 same_mode mode.Mul = refl
 
 -- a local above those with names gets a value
-pub good_put : {top n : ℕ} {c : Ctx} {ss : Names} {out : Way} {a : Where} {o : Around} {s : State} {ls : List Val} {u : Val} → Static top c ss out a →
+pub good_put : {top n : ℕ} {c : Ctx} {ss : Names} {out : Way} {a : Where} {o : Around} {s : State} {ls : List Val} {u : Val} →
+    Static top c ss out a →
     (r : PutIs ls (length ss) u) → Good n c.who.path o c.held c.also c.size s ls → Good n c.who.path o c.held c.also c.size s r.locals
 good_put {c = c} {ss} {ls = ls} {u} sc r g = record {
   holds = holds_put c.held ls (length ss) (length ss) u r sc.low le_self g.holds;
@@ -144,7 +140,8 @@ module _ (z : Setting) where
       Good n c.who.path o c.held c.also c.size y.state ls → LeadsTo z j n c o y.behind y.tasks
       (at c o y.state ls (u ∷ stacked path (cell ∷ st)) s.at) (on e.at st) (told (slot_written slot path m u cell y.state) pl c.env y)
   store_leads {j} {n} {c} {o} {y} {ls} {st} {s = s} pl m slot i p path u cell q hp x g = op_leads z x (λ k. many_leads z _ _ q
-      (subst (λ m1. LeadsTo z j n c o y.behind y.tasks (answered (slice_get z.code.places p) (slot_written slot path m1 u cell y.state) c.who
+      (subst (λ m1. LeadsTo z j n c o y.behind y.tasks (answered (slice_get z.code.places p)
+      (slot_written slot path m1 u cell y.state) c.who
       o.world y.state c.life ls st s.at c.handlers c.below) (on (suc s.at) st) (told (slot_written slot path m u cell y.state) pl c.env y))
       (sym (same_mode m))
       (told_leads z (slot_written slot path m u cell y.state) pl c.env hp k.fit (written_calm slot path m u cell y.state) g)))
@@ -169,11 +166,13 @@ module _ (z : Setting) where
   kept_told stuck u env hu cm hp hf drop get there g = record { go = λ r h. over _ h }
 
   -- the value is kept, where the types differ
-  kept_leads : {top j n : ℕ} {c : Ctx} {ss : Names} {out : Way} {a : Where} {o : Around} {y : World} {ls st : List Val} {s e : Spot} (pl : Place)
+  kept_leads : {top j n : ℕ} {c : Ctx} {ss : Names} {out : Way} {a : Where} {o : Around} {y : World} {ls st : List Val} {s e : Spot}
+      (pl : Place)
       (slot i p : ℕ) (path : List Val) (u cell : Val) → length path ≡ i → slice_get z.code.places p ≡ Some pl → Static top c ss out a →
       Stands z (fits c.handlers) c.size out s (storing (op.Store slot i 0 p) true (length ss) s) e →
       Good n c.who.path o c.held c.also c.size y.state ls → LeadsTo z j n c o y.behind y.tasks
-      (at c o y.state ls (u ∷ stacked path (cell ∷ st)) s.at) (on e.at st) (told (slot_written slot path mode.Set u cell y.state) pl c.env y)
+      (at c o y.state ls (u ∷ stacked path (cell ∷ st)) s.at) (on e.at st)
+      (told (slot_written slot path mode.Set u cell y.state) pl c.env y)
   kept_leads {c = c} {ss} {y = y} {ls} {s = s} {e} pl slot i p path u cell q hp sc x g =
       let l : ℕ = length ss in
       let stores : Maker = one (op.Store slot i 0 p) in
@@ -194,7 +193,8 @@ module _ (z : Setting) where
       slice_get z.code.places p ≡ Some pl → Static top c ss out a → Stands z (fits c.handlers) c.size out s
       (storing (op.Store slot i (mode_number (mode_of x)) p) (keeps x b) (length ss) s) e →
       Good n c.who.path o c.held c.also c.size y.state ls → LeadsTo z j n c o y.behind y.tasks
-      (at c o y.state ls (u ∷ stacked path (cell ∷ st)) s.at) (on e.at st) (told (slot_written slot path (mode_of x) u cell y.state) pl c.env y)
+      (at c o y.state ls (u ∷ stacked path (cell ∷ st)) s.at) (on e.at st)
+      (told (slot_written slot path (mode_of x) u cell y.state) pl c.env y)
   storing_leads assign.Set true pl slot i p path u cell q hp sc x g = kept_leads pl slot i p path u cell q hp sc x g
   storing_leads assign.Set false pl slot i p path u cell q hp sc x g = store_leads pl mode.Set slot i p path u cell q hp x g
   storing_leads assign.Add b pl slot i p path u cell q hp sc x g = store_leads pl mode.Add slot i p path u cell q hp x g
