@@ -6,11 +6,13 @@ use Rattle.verse_tree.specs.Tree.{Tree, tree}
 use Rattle.verse_tree.specs.Tree as t
 use Rattle.verse_tree.specs.declared.exprs.Operator.TheVariants as oper
 use Rattle.verse_code.specs.declared.operations.Op.TheVariants as op
-use Rattle.verse_value.specs.Val.{Val}
+use Rattle.verse_value.specs.Val.{Val, unit}
 use Rattle.verse_meaning_state.specs.State.{State, restored}
 use Rattle.verse_meaning.specs.Residuals.{Env, Residual, Scopes}
 use Rattle.verse_meaning.specs.Outcomes.{World, with_state, Outcome, value, failed, returned, broke, halted, rests, attempted, valued}
 use Rattle.verse_meaning.specs.Outcomes.{Halt, world, wrong}
+use Rattle.verse_meaning.specs.Evaluating.{ev}
+use Rattle.verse_meaning.specs.Runs.{deeper}
 use Rattle.verse_code_machine.specs.Tasks.{Step}
 use Rattle.verse_code_machine.specs.Frames.{fits, free, only_where}
 use Rattle.lower_code.specs.Pieces.{Spot, Maker, next, past, one, ahead, ◌then◌}
@@ -20,8 +22,8 @@ use Rattle.lower_simulation.proofs.Claims.{Setting, Ends, Ctx, Around, at, Good,
 use Rattle.lower_simulation.proofs.Claims.{same_around, left_around, forked_around, Goes}
 use Rattle.lower_simulation.proofs.Going.{le_self, raise, kept, shifted, grown_steps}
 use Rattle.lower_simulation.proofs.Leading.{LeadsTo, is_leads, does_leads, open_leads, value_here, fails_here}
-use Rattle.lower_simulation.proofs.Standing.{past_le, joined_stands, op_stands, narrow, widened, narrow_stands, end_at, then_stand}
-use Rattle.lower_simulation.proofs.Standing.{either_stand, ahead_stand}
+use Rattle.lower_simulation.proofs.Standing.{past_le, op_stands, narrow, widened, narrow_stands, end_at, then_stand, either_stand}
+use Rattle.lower_simulation.proofs.Standing.{ahead_stand}
 use Rattle.lower_simulation.proofs.Forms.{start_leads, op_leads, EvLeads}
 use Rattle.lower_simulation.proofs.Contexts.{trying, trying_static}
 use Rattle.lower_simulation.proofs.Leaving.{return_stuck, break_stuck}
@@ -164,7 +166,8 @@ module _ (z : Setting) where
         let r = then_stand z (next s) m2 fx (one op.Commit) i1.first in
         let v0 = i1.order.0 in
         let v1 = i1.order.1 in
-        try_leads {c = c} {into = on e.at st} s.at l y _ _ _ i1.begins (i1.first.fit (suc s.at) le_self v1)
+        try_leads {c = c} {into = on e.at st} s.at l y (ev z.program (deeper z.program M) x false c.env y) (λ e1 v y. value c.env v y)
+        (λ y. ev z.program (deeper z.program M) u w c.env y) i1.begins (i1.first.fit (suc s.at) le_self v1)
         (i1.wide l (omega (arith, v1)) v0)
         (hx ss (enclosed a) (next s) _ out false M j m (trying c y.state s.at l st) o y ls [] r.0 (trying_static y.state s.at l st sc) refl
         lt lM refl g)
@@ -178,19 +181,21 @@ module _ (z : Setting) where
         let fx : Maker = piece z.program differ x ss (enclosed a) in
         let fails : Maker = one op.Undo then one op.Fail in
         let f : Maker = fx then one op.Drop then fails in
-        let r = joined_stands z s e (ahead op.Try f s) _ i in
-        let i1 = ahead_stand z s _ op.Try f r.0 in
-        let r1 = joined_stands z (next s) _ (fx (next s)) _ i1.inside in
+        let k : Spot = past s (ahead op.Try f s) in
+        let r = then_stand z s e (ahead op.Try f) (one op.Unit) i in
+        let i1 = ahead_stand z s k op.Try f r.0 in
+        let r1 = then_stand z (next s) k fx (one op.Drop then fails) i1.inside in
         let s2 : Spot = past (next s) (fx (next s)) in
-        let r2 = then_stand z s2 _ (one op.Drop) fails r1.1 in
-        let r3 = then_stand z (next s2) _ (one op.Undo) (one op.Fail) r2.1 in
+        let r2 = then_stand z s2 k (one op.Drop) fails r1.1 in
+        let r3 = then_stand z (next s2) k (one op.Undo) (one op.Fail) r2.1 in
         let x1 = past_le (next s) s2 (fx (next s)) refl in
         let x2 = end_at z r3.1 in
-        let l : ℕ = (past s (ahead op.Try f s)).at in
+        let l : ℕ = k.at in
         let n1 = narrow_stands z s.at l (omega arith) (omega (arith, x2)) r1.0 in
         let n2 = narrow_stands z s.at l (omega (arith, x1)) (omega (arith, x2)) r2.0 in
         let n3 = r3.0 in
-        try_leads {c = c} {into = on e.at st} s.at l y _ _ _ i1.begins (n1.fit (suc s.at) le_self x1)
+        try_leads {c = c} {into = on e.at st} s.at l y (ev z.program (deeper z.program M) x false c.env y)
+        (λ e1 v u. failed (restored y.state.memory u.state)) (λ y. value c.env unit y) i1.begins (n1.fit (suc s.at) le_self x1)
         (i1.wide l (omega (arith, x1, x2)) le_self)
         (hx ss (enclosed a) (next s) _ out false M j m (trying c y.state s.at l st) o y ls [] n1 (trying_static y.state s.at l st sc) refl
         lt lM refl g)

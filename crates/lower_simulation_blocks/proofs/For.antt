@@ -6,7 +6,7 @@ use Rattle.verse_base.specs.declared.places.Place.{Place}
 use Rattle.verse_tree.specs.Tree.{Bytes, Tree, tree, Trees, no_trees, more_trees}
 use Rattle.verse_tree.specs.Tree as t
 use Rattle.verse_code.specs.declared.operations.Op.TheVariants as op
-use Rattle.verse_value.specs.Val.{Val, unit, array, no_vals}
+use Rattle.verse_value.specs.Val.{Val, unit, tuple, array, more_vals, no_vals}
 use Rattle.verse_value.specs.Answer.{Answer, gives, fails, error, stuck as amiss}
 use Rattle.verse_value.specs.Operations.{append_of, array_of}
 use Rattle.verse_meaning_state.specs.State.{State}
@@ -61,12 +61,15 @@ module _ (z : Setting) (differ : ℕ → ℕ → Bool) (top : ℕ) where
   pub both_lead : (n : ℕ) (pl : Place) (q : Bytes) (u u2 : Tree) → EvLeads z differ top u → EvLeads z differ top u2 →
       BothLead (tree n pl (t.Shape.range q u u2))
   both_lead n1 pl q u u2 h1 h2 ss a s e out M j n c o y ls st i sc fw lt lM ab g =
-      let f = piece z.program differ u ss a in
+      let f : Maker = piece z.program differ u ss a in
       let m : Spot = past s (f s) in
       let x = then_stand z s e f (piece z.program differ u2 ss (up a)) i in
       let into : Target = record { place = e.at; stack = st; lies = spread; shown = paired } in
-      quiet_leads z {c = c} (on m.at st) into _ _ _ fw (h1 ss a s m out false M j n c o y ls st x.0 sc fw lt lM ab g)
-      (λ k le o e1 v1 w1 ls g bs. quiet_leads z {c = c} (on e.at (v1 ∷ st)) into _ _ _ fw
+      let ends : Val → Val → World → Outcome = λ v1 v2 y. value c.env (tuple (more_vals v1 (more_vals v2 no_vals))) y in
+      let other : World → Outcome = λ y. ev z.program (deeper z.program M) u2 false c.env y in
+      quiet_leads z {c = c} (on m.at st) into (ev z.program (deeper z.program M) u false c.env y) (λ r. r)
+      (λ v1 y. valued (other y) (λ r. r) (λ v2 y. ends v1 v2 y)) fw (h1 ss a s m out false M j n c o y ls st x.0 sc fw lt lM ab g)
+      (λ k le o e1 v1 w1 ls g bs. quiet_leads z {c = c} (on e.at (v1 ∷ st)) into (other w1) (λ r. r) (λ v2 y. ends v1 v2 y) fw
       (h2 ss (up a) m e out false M j k c o w1 ls (v1 ∷ st) x.1 (on_one sc) fw (trans le lt) (trans le lM) ab g)
       (λ m le o e2 v2 w2 ls g bs. record { go = λ t h. h m o (same_around le_self) ls g tt }))
 
