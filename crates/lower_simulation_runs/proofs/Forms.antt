@@ -22,7 +22,7 @@ use Rattle.lower_simulation_values.proofs.Targets.{Target_lead}
 use Rattle.lower_simulation_values.proofs.Assigned.{assignment_leads}
 use Rattle.lower_simulation_values.proofs.Instances.{Givens_lead, instance_leads}
 use Rattle.lower_simulation_values.proofs.Spawned.{Spawned_lead, spawn_leads}
-use Rattle.lower_simulation_values.proofs.Members.{returned_leads, returned_unit_leads, member_leads}
+use Rattle.lower_simulation_values.proofs.Members.{member_leads}
 use Rattle.lower_simulation_tasks.proofs.Waits.{sleep_leads, forever_leads, awaits_lead}
 use Rattle.lower_simulation_tasks.proofs.Begins.{AllArms, branch_leads, sync_leads, race_leads, rush_leads}
 use Rattle.lower_simulation_tasks.proofs.Deferring.{defer_lead}
@@ -30,7 +30,7 @@ use Rattle.lower_simulation_blocks.proofs.Failing.{or_leads, negation_leads}
 use Rattle.lower_simulation_blocks.proofs.Definitions.{definition_leads, typed_leads, variable_leads}
 use Rattle.lower_simulation_blocks.proofs.Blocks.{Statement_lead, All_state, conditions_lead, block_leads}
 use Rattle.lower_simulation_blocks.proofs.Choices.{if_else_leads, if_alone_leads, option_leads, logic_leads}
-use Rattle.lower_simulation_blocks.proofs.Loops.{loop_leads, break_leads}
+use Rattle.lower_simulation_blocks.proofs.Loops.{loop_leads, break_leads, returned_leads, returned_unit_leads}
 use Rattle.lower_simulation_blocks.proofs.For.{Clause_lead, All_clauses, both_lead, for_leads}
 use Rattle.lower_simulation_blocks.proofs.Cases.{Arm_lead, Arms_lead, cases_leads}
 use Rattle.lower_simulation_runs.proofs.Placing.{every_map}
