@@ -1,8 +1,8 @@
 -- The scope of the locals.
-use Rattle.std.proofs.Common.{◌≡◌, ℕ, suc, ◌+◌, ◌-◌, ◌<◌, List, [], ◌∷◌, ◌++◌, length, take, drop, Bool, true, false, cond, bytes_eq, refl, sym, ap, ◌∙◌, arith, length-append, length-take-le, take_all, get_or, Some, None}
+use Rattle.std.proofs.Common.{◌≡◌, ℕ, suc, ◌+◌, ◌-◌, ◌<◌, List, [], ◌∷◌, ◌++◌, length, take, drop, Bool, true, false, cond, refl, sym, ap, ◌∙◌, arith, length-append, length-take-le, take_all, get_or, Some, None}
 use Rattle.std.proofs.Math.Seq.{drop-append_seam}
 use Rattle.std.proofs.lemmas.List.{take_more}
-use Rattle.std.specs.Prelude.{◌==◌, ◌&&◌, ◌≤◌}
+use Rattle.std.specs.Prelude.{◌≤◌}
 use Rattle.verse_tree.specs.Tree.{Bytes}
 use Rattle.verse_meaning.specs.Programs.{same_name}
 use Rattle.lower_code.specs.Scopes as s
@@ -17,16 +17,6 @@ scope_more (y ∷ ys) x sc = scope_more ys x (slot_of y ∷ sc)
 pub scope_length : (xs : List Slot) (sc : Scope) → length (scope_from xs sc) ≡ length xs + length sc
 scope_length [] sc = omega arith
 scope_length (y ∷ ys) sc = omega (arith, scope_length ys (slot_of y ∷ sc))
-
-pub same_bytes : (x y : Bytes) → bytes_eq x y ≡ same_name x y
-same_bytes [] [] = refl
-same_bytes [] (c ∷ y) = refl
-same_bytes (b ∷ x) [] = refl
-same_bytes (b ∷ x) (c ∷ y) = rw (same_bytes x y) (by (b == c))
-  where
-    by : (s : Bool) → (s && same_name x y) ≡ cond s (same_name x y) false
-    by true = refl
-    by false = refl
 
 -- one slot less, where more than n are left
 pub cut_last : (n : ℕ) (x : s.Slot) (sc : Scope) → n < suc (length sc) → cut_to n (x ∷ sc) ≡ cut_to n sc

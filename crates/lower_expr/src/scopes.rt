@@ -2,9 +2,9 @@
 
 ghost use Rattle.std.specs.Prelude.{◌≡◌, ◌∷◌, [], length, OnOk, IfOk, option_map};
 ghost use Rattle.lower_code.specs.Scopes as s;
-ghost use Rattle.verse_meaning.specs.Programs.{same_name};
 ghost use Rattle.lower_expr.specs.Locals.{scope_of, slot_of, found_of, found_in, cut_to};
 
+use lower_lookup::names::is_same_name;
 use std::alloc::Global;
 use verse_base::limits::MOST_OPERATIONS;
 use verse_base::refusals::Memory;
@@ -36,14 +36,6 @@ pub enum Found {
 pub struct Scopes<'a> {
     /// The oldest first: the number of a slot is that of its local.
     slots: Vec<Slot<'a>>,
-}
-
-/// Whether two names are the same.
-#[tactic(auto, using(crate::proofs::Scoping::same_bytes))]
-fn is_same_name(name: &[u8], other: &[u8]) -> bool
-    ensures { result ≡ same_name name.now other.now }
-{
-    name == other
 }
 
 /// What a name stands for where this slot is in the local of this number, and it stands for that.
@@ -109,5 +101,12 @@ impl<'a> Scopes<'a> {
             }
         }
         Ok(Found::Absent)
+    }
+
+    /// What `Self` stands for.
+    pub fn this(&self) -> Result<Found, Memory>
+        ensures { IfOk result (λ found. found_of found ≡ s.this_found (scope_of self.now)) }
+    {
+        self.find(b"Self")
     }
 }
