@@ -1,9 +1,10 @@
 -- What the calls of failure contexts, loops and deferred blocks make of the code so far.
-use Rattle.std.specs.Prelude.{ℕ, suc, length}
+use Rattle.std.specs.Prelude.{ℕ, suc, List, [], ◌∷◌, length}
 use Rattle.verse_base.specs.declared.places.Place.{Place}
 use Rattle.verse_code.specs.declared.operations.Op.{Op}
 use Rattle.verse_code.specs.declared.operations.Op.TheVariants as o
 use Rattle.lower_expr.specs.Building.{Built, pushed, with_place, with_local, ended_here, loop_ended}
+use Rattle.lower_fail.specs.declared.loops.Turn.{Turn}
 
 -- a jump over what follows, at which the operation of index `begun` leads
 unfoldable pub other_begun : (begun : ℕ) → Built → Built
@@ -59,3 +60,12 @@ same_begun l b = pushed (o.Same 0) (pushed (o.Get l) b)
 -- Deferred blocks.
 unfoldable pub defer_ended : (begun : ℕ) → Built → Built
 defer_ended begun b = pushed o.Unit (ended_here begun (pushed o.DeferEnd (pushed o.Drop b)))
+
+-- Ends that are open, the outermost first: jumps that lead to one end, and generators.
+abbrev pub all_ended : List ℕ → Built → Built
+all_ended [] b = b
+all_ended (j ∷ js) b = ended_here j (all_ended js b)
+
+abbrev pub turns_closed : List Turn → Built → Built
+turns_closed [] b = b
+turns_closed (t ∷ ts) b = turns_ended t.begun t.local (turns_closed ts b)

@@ -31,6 +31,15 @@ pub struct ForMark {
     pub begun: u32,
 }
 
+/// A generator that has begun.
+#[derive(Clone, Copy, Debug)]
+pub struct Turn {
+    /// The index of the jump to where the next value is taken.
+    pub begun: u32,
+    /// The first of its four locals.
+    pub local: u32,
+}
+
 /// A loop begins.
 pub fn loop_begin(builder: &mut Builder) -> Result<LoopMark, Memory>
     ensures begun { IfOk result (λ mark. mark.begun ≡ length (built builder.old).ops) }
@@ -43,7 +52,7 @@ pub fn loop_begin(builder: &mut Builder) -> Result<LoopMark, Memory>
 }
 
 #[tactic(auto, unfolding(crate::specs::Attempts::turned))]
-fn turn(builder: &mut Builder, begun: u32) -> Result<(), Memory>
+fn turn_again(builder: &mut Builder, begun: u32) -> Result<(), Memory>
     ensures { OnOk result (built builder.new ≡ turned begun (built builder.old)) }
 {
     let body = next(begun)?;
@@ -58,7 +67,7 @@ pub fn loop_end(builder: &mut Builder, mark: LoopMark) -> Result<(), Memory>
     ensures { OnOk result (built builder.new ≡ loop_over mark.begun mark.exits
         (built builder.old)) }
 {
-    turn(builder, mark.begun)?;
+    turn_again(builder, mark.begun)?;
     builder.end_loop(mark.exits)
 }
 
@@ -80,10 +89,11 @@ pub fn for_begin(builder: &mut Builder, place: Place, local: u32) -> Result<ForM
 }
 
 /// A generator begins behind its domain, or behind both ends of its range; the first of its four
-/// locals is this one. The index of the jump to where the next value is taken.
+/// locals is this one.
 #[tactic(auto, unfolding(crate::specs::Attempts::turns_begun))]
-pub fn for_domain(builder: &mut Builder, op: Op, local: u32) -> Result<u32, Memory>
-    ensures begun { IfOk result (λ n. n ≡ length (pushed op (pushed o.Commit (with_local
+pub fn for_domain(builder: &mut Builder, op: Op, local: u32) -> Result<Turn, Memory>
+    ensures local { IfOk result (λ turn. turn.local ≡ local) }
+    ensures begun { IfOk result (λ turn. turn.begun ≡ length (pushed op (pushed o.Commit (with_local
         (suc (suc (suc local))) (built builder.old)))).ops) }
     ensures added { OnOk result (built builder.new ≡ turns_begun op local (built builder.old)) }
 {
@@ -93,7 +103,7 @@ pub fn for_domain(builder: &mut Builder, op: Op, local: u32) -> Result<u32, Memo
     builder.op(op)?;
     let begun = open(builder, Op::Jump(0))?;
     builder.op(Op::Try(0))?;
-    Ok(begun)
+    Ok(Turn { begun, local })
 }
 
 /// The clauses of a `for` hold: its body begins.
@@ -113,9 +123,11 @@ pub fn for_append(builder: &mut Builder, mark: ForMark, local: u32) -> Result<()
 
 /// A generator ends: its next value is taken.
 #[tactic(auto, unfolding(crate::specs::Attempts::turns_ended))]
-pub fn for_take(builder: &mut Builder, begun: u32, local: u32) -> Result<(), Memory>
-    ensures { OnOk result (built builder.new ≡ turns_ended begun local (built builder.old)) }
+pub fn for_take(builder: &mut Builder, turn: Turn) -> Result<(), Memory>
+    ensures { OnOk result (built builder.new ≡ turns_ended turn.begun turn.local
+        (built builder.old)) }
 {
+    let Turn { begun, local } = turn;
     let attempt = next(begun)?;
     let value = next(next(local)?)?;
     builder.end_here(attempt)?;
