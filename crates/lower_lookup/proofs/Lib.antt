@@ -1,0 +1,5 @@
+pub mod SameNames
+mod NoCallees
+mod NoBases
+mod PlainStatements
+mod RuleSets
