@@ -1,0 +1,5 @@
+mod Splitting
+mod Lines
+mod Placing
+mod Numbered
+mod RuleSets

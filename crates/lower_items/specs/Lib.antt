@@ -1,0 +1,5 @@
+pub mod Views
+pub mod Parts
+pub mod Fields
+pub mod Enums
+pub mod Params
