@@ -2,4 +2,5 @@ mod Splitting
 mod Lines
 mod Placing
 mod Numbered
+mod Finding
 mod RuleSets

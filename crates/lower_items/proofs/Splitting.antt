@@ -1,10 +1,10 @@
 -- The lists of a program, by one item or one member and what is behind it.
 use Rattle.std.proofs.Common.{◌≡◌, ℕ, ◌+◌, List, [], ◌∷◌, ◌++◌, length, true, false, cond, refl, ap, sym, ◌∙◌, arith}
 use Rattle.verse_tree.specs.ItemTree.{MemberTree, field, method, ItemTree, using, enumeration, class, function}
-use Rattle.verse_meaning.specs.Programs.{enums, classes, own_fields, same_name, main_name}
+use Rattle.verse_meaning.specs.Programs.{enums, own_fields, same_name, main_name}
 use Rattle.lower_code.specs.Defaults.{with_defaults, defaults_in}
 use Rattle.lower_code.specs.Programs.{methods_in, bodies_in, main_from}
-use Rattle.lower_items.specs.Parts.{enums_at, classes_at, fields_at, default_at, defaults_at, method_at, bodies_at, methods_behind}
+use Rattle.lower_items.specs.Parts.{enums_at, fields_at, default_at, defaults_at, method_at, bodies_at, methods_behind}
 use Rattle.lower_items.specs.Parts.{is_main, item_behind}
 
 module _ (is : List ItemTree) where
@@ -13,12 +13,6 @@ module _ (is : List ItemTree) where
   enums_split (enumeration e) = refl
   enums_split (class c) = refl
   enums_split (function f) = refl
-
-  pub classes_split : (i : ItemTree) → classes (i ∷ is) ≡ classes_at i ++ classes is
-  classes_split (using u) = refl
-  classes_split (enumeration e) = refl
-  classes_split (class c) = refl
-  classes_split (function f) = refl
 
   pub defaults_split : (i : ItemTree) → defaults_in (i ∷ is) ≡ defaults_at i ++ defaults_in is
   defaults_split (using u) = refl

@@ -1,5 +1,5 @@
 -- Classes with those above them.
-use Rattle.std.specs.Prelude.{ℕ, zero, suc, List, [], ◌∷◌, ◌++◌, Option, Some, None}
+use Rattle.std.specs.Prelude.{ℕ, zero, suc, ◌==◌, cond, List, [], ◌∷◌, ◌++◌, Option, Some, None}
 use Rattle.verse_tree.specs.ItemTree.{FieldTree, ClassTree}
 use Rattle.verse_meaning.specs.Programs.{own_fields, parent_of}
 
@@ -20,3 +20,11 @@ line (suc n) cs o = on_class o (λ c. c ∷ line n cs (parent_of cs c.parent))
 abbrev pub all_above : List ClassTree → List FieldTree
 all_above [] = []
 all_above (c ∷ cs) = all_above cs ++ own_fields c.members
+
+abbrev pub number_of_field : FieldTree → ℕ
+number_of_field f = f.number
+
+-- the place of a number among these, from n on
+abbrev pub place_among : ℕ → List ℕ → (n : ℕ) → ℕ
+place_among x [] n = n
+place_among x (y ∷ ys) n = cond (x == y) n (place_among x ys (suc n))

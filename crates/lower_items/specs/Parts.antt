@@ -1,6 +1,9 @@
 -- What one item, or one member, adds to the lists of a program.
-use Rattle.std.specs.Prelude.{ℕ, ◌+◌, List, [], ◌∷◌, Bool, false}
-use Rattle.verse_tree.specs.ItemTree.{EnumTree, FieldTree, MemberTree, field, method, ClassTree, ItemTree, using, enumeration, class, function}
+use Rattle.std.specs.Prelude.{ℕ, ◌+◌, List, [], ◌∷◌, ◌++◌, Bool, false}
+use Rattle.verse_tree.specs.ItemTree.{EnumTree, FieldTree, MemberTree, field, method, ItemTree, using, enumeration, class, function}
+use Rattle.verse_tree.specs.declared.items.Item.{Item}
+use Rattle.verse_tree.specs.declared.items.Item.TheVariants as item
+use Rattle.verse_tree.specs.declared.items.ClassItem.{ClassItem}
 use Rattle.verse_meaning.specs.Programs.{same_name, main_name, own_fields}
 use Rattle.verse_meaning.specs.Forms.{this_name}
 use Rattle.lower_code.specs.Scopes.{constant_at}
@@ -13,11 +16,16 @@ enums_at (enumeration e) = e ∷ []
 enums_at (class c) = []
 enums_at (function f) = []
 
-abbrev pub classes_at : ItemTree → List ClassTree
-classes_at (using u) = []
-classes_at (enumeration e) = []
-classes_at (class c) = c ∷ []
-classes_at (function f) = []
+-- classes, as the code has them
+abbrev pub made_class : Item → List ClassItem
+made_class (item.Using u) = []
+made_class (item.Enum e) = []
+made_class (item.Class c) = c ∷ []
+made_class (item.Fun f) = []
+
+abbrev pub made_classes : List Item → List ClassItem
+made_classes [] = []
+made_classes (i ∷ is) = made_class i ++ made_classes is
 
 abbrev pub fields_at : MemberTree → List FieldTree
 fields_at (field f) = f ∷ []

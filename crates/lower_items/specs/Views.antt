@@ -20,6 +20,9 @@ enum_now e = enum_of e.now
 abbrev pub class_now : Bor ClassItem → ClassTree
 class_now c = class_of c.now
 
+abbrev pub class_here : Bor ClassItem → ClassItem
+class_here c = c.now
+
 abbrev pub field_now : Bor Field → FieldTree
 field_now f = field_of f.now
 

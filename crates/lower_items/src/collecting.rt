@@ -2,10 +2,11 @@
 
 ghost use Rattle.std.specs.Prelude.{◌≡◌, ◌++◌, map, IfOk, OnOk};
 ghost use Rattle.verse_tree.specs.ItemView.{item_of, member_of, field_of};
-ghost use Rattle.verse_meaning.specs.Programs.{enums, classes, own_fields};
+ghost use Rattle.verse_meaning.specs.Programs.{enums, own_fields};
 ghost use Rattle.lower_code.specs.Defaults as d;
-ghost use Rattle.lower_items.specs.Views.{enum_now, class_now, field_now};
-ghost use Rattle.lower_items.specs.Parts.{enums_at, classes_at, fields_at, default_at, defaults_at};
+ghost use Rattle.lower_items.specs.Views.{enum_now, class_here, field_now};
+ghost use Rattle.lower_items.specs.Parts.{enums_at, fields_at, default_at, defaults_at};
+ghost use Rattle.lower_items.specs.Parts.{made_class, made_classes};
 
 use std::alloc::Global;
 use verse_base::refusals::Memory;
@@ -37,8 +38,8 @@ pub fn enums<'a>(alloc: Global, items: &'a [Item]) -> Result<Vec<&'a EnumItem>, 
 }
 
 fn add_class<'a>(found: &mut Vec<&'a ClassItem>, item: &'a Item) -> Result<(), Memory>
-    ensures { OnOk result (map class_now found.new.items ≡ map class_now found.old.items ++
-        classes_at (item_of item.now)) }
+    ensures { OnOk result (map class_here found.new.items ≡ map class_here found.old.items ++
+        made_class item.now) }
 {
     match item {
         Item::Class(item) => {
@@ -50,9 +51,8 @@ fn add_class<'a>(found: &mut Vec<&'a ClassItem>, item: &'a Item) -> Result<(), M
 }
 
 /// The classes, by their numbers.
-#[tactic(auto, using(crate::proofs::Splitting::classes_split))]
 pub fn classes<'a>(alloc: Global, items: &'a [Item]) -> Result<Vec<&'a ClassItem>, Memory>
-    ensures { IfOk result (λ r. map class_now r.items ≡ classes (map item_of items.now)) }
+    ensures { IfOk result (λ r. map class_here r.items ≡ made_classes items.now) }
 {
     let mut found = Vec::new(alloc);
     'items: for item in items {

@@ -7,9 +7,8 @@ ghost use Rattle.verse_tree.specs.ItemView.{class_of};
 ghost use Rattle.verse_meaning_state.specs.Waits.{nth};
 ghost use Rattle.verse_meaning.specs.Programs as p;
 ghost use Rattle.lower_code.specs.Lowering as l;
-ghost use Rattle.lower_code.specs.Defaults as d;
 ghost use Rattle.lower_items.specs.Views.{class_now, field_now, all_taken};
-ghost use Rattle.lower_items.specs.Fields.{line, last};
+ghost use Rattle.lower_items.specs.Fields.{line, last, number_of_field, place_among};
 
 use crate::collecting::add_fields;
 use crate::numbers::further;
@@ -132,13 +131,24 @@ pub fn given_local(parts: &[Given], name: &[u8], first: u32) -> Result<Option<u3
     Ok(None)
 }
 
-/// The place of the field whose node has a number among these, from `first` on.
-pub fn field_place(fields: &[&Field], node: u32, first: u32) -> Result<u32, Memory>
-    ensures { IfOk result (λ r. r ≡ d.field_place node (map field_now fields.now) first) }
+/// The numbers of the nodes of fields.
+pub fn nodes_of(alloc: Global, fields: &[&Field]) -> Result<Vec<u32>, Memory>
+    ensures { IfOk result (λ r. r.items ≡ map number_of_field (map field_now fields.now)) }
+{
+    let mut found = Vec::new(alloc);
+    'fields: for field in fields {
+        found.push(field.node)?;
+    }
+    Ok(found)
+}
+
+/// The place of a number among these, from `first` on.
+pub fn node_place(nodes: &[u32], node: u32, first: u32) -> Result<u32, Memory>
+    ensures { IfOk result (λ r. r ≡ place_among node nodes.now first) }
 {
     let mut at = first;
-    'fields: for field in fields {
-        if field.node == node {
+    'nodes: for other in nodes {
+        if *other == node {
             return Ok(at);
         }
         at = further(at)?;

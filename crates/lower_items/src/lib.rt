@@ -13,3 +13,4 @@ pub mod enums;
 pub mod fields;
 pub mod numbers;
 pub mod params;
+pub mod tables;
