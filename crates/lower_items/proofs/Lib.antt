@@ -1,6 +1,6 @@
 mod Splitting
 mod Lines
 mod Placing
-mod Numbered
+mod Noting
 mod Finding
 mod RuleSets

@@ -2,4 +2,5 @@ pub mod Views
 pub mod Parts
 pub mod Fields
 pub mod Enums
+pub mod Noted
 pub mod Params

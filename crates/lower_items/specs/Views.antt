@@ -2,12 +2,11 @@
 use Rattle.std.specs.Prelude.{List, [], ◌∷◌, ◌++◌, map, Bool, true, false}
 use denote.Ref.{Bor}
 use Rattle.verse_tree.specs.View.{tree_of}
-use Rattle.verse_tree.specs.ItemTree.{EnumTree, FieldTree, FunTree, ClassTree}
-use Rattle.verse_tree.specs.ItemView.{enum_of, field_of, fun_of, class_of, param_of}
+use Rattle.verse_tree.specs.ItemTree.{EnumTree, FieldTree, ClassTree}
+use Rattle.verse_tree.specs.ItemView.{enum_of, field_of, class_of, param_of}
 use Rattle.verse_tree.specs.declared.items.EnumItem.{EnumItem}
 use Rattle.verse_tree.specs.declared.items.ClassItem.{ClassItem}
 use Rattle.verse_tree.specs.declared.items.Field.{Field}
-use Rattle.verse_tree.specs.declared.items.Fun.{Fun}
 use Rattle.verse_meaning.specs.Programs.{own_fields}
 use Rattle.verse_meaning.specs.Forms.{this_name}
 use Rattle.lower_code.specs.Scopes.{Scope, constant_at}
@@ -30,9 +29,6 @@ field_now f = field_of f.now
 abbrev pub all_taken : List (Bor ClassItem) → List FieldTree
 all_taken [] = []
 all_taken (c ∷ cs) = all_taken cs ++ own_fields (class_of c.now).members
-
-abbrev pub fun_now : Bor Fun → FunTree
-fun_now f = fun_of f.now
 
 -- the object of a method is its first local
 abbrev pub this_scope : Bool → Scope

@@ -1,90 +1,87 @@
 //! How many parameters functions have.
 
-ghost use Rattle.std.specs.Prelude.{◌≡◌, map, IfOk, Some, slice_get};
-ghost use Rattle.std.specs.Option.{option_map};
+ghost use Rattle.std.specs.Prelude.{◌≡◌, [], map, IfOk, OnOk, slice_get};
 ghost use Rattle.verse_tree.specs.ItemView.{item_of, member_of, fun_of};
-ghost use Rattle.verse_meaning.specs.Programs as p;
-ghost use Rattle.lower_items.specs.Views.{fun_now};
-ghost use Rattle.lower_items.specs.Params.{at_member, at_item, count_at, is_count};
-ghost use Rattle.verse_tree.specs.ItemTree.{method};
+ghost use Rattle.lower_items.specs.Noted as n;
+ghost use Rattle.lower_items.specs.Noted.{entries_of};
+ghost use Rattle.lower_items.specs.Params.{count_at, found_at, is_count};
 
+use crate::noted::Noted;
 use std::alloc::Global;
 use verse_base::refusals::Memory;
 use verse_tree::items::{Fun, Item, Member};
 use verse_tree::tables::FunInfo;
 
-fn in_member<'a>(member: &'a Member, number: u32) -> Option<&'a Fun>
-    ensures { option_map fun_now result ≡ at_member number (member_of member.now) }
+fn note_fun(found: &mut Noted, fun: &Fun) -> Result<(), Memory>
+    ensures { OnOk result (entries_of found.new ≡
+        n.fun_noted (fun_of fun.now) (entries_of found.old)) }
+{
+    found.keep(fun.node, fun.params.len())
+}
+
+fn note_member(found: &mut Noted, member: &Member) -> Result<(), Memory>
+    ensures { OnOk result (entries_of found.new ≡
+        n.member_noted (member_of member.now) (entries_of found.old)) }
 {
     match member {
-        Member::Field(_) => None,
-        Member::Method(fun) => is_numbered(fun, number),
+        Member::Field(_) => Ok(()),
+        Member::Method(fun) => note_fun(found, fun),
     }
 }
 
-fn is_numbered<'a>(fun: &'a Fun, number: u32) -> Option<&'a Fun>
-    ensures { option_map fun_now result ≡ at_member number (method (fun_of fun.now)) }
-{
-    if fun.node == number { Some(fun) } else { None }
-}
-
-#[tactic(auto, using(crate::proofs::Numbered::method_split))]
-fn in_members<'a>(members: &'a [Member], number: u32) -> Option<&'a Fun>
-    ensures { option_map fun_now result ≡ p.method_numbered number (map member_of members.now) }
+fn note_members(found: &mut Noted, members: &[Member]) -> Result<(), Memory>
+    ensures { OnOk result (entries_of found.new ≡
+        n.members_noted (map member_of members.now) (entries_of found.old)) }
 {
     'members: for member in members {
-        if let Some(fun) = in_member(member, number) {
-            return Some(fun);
-        }
+        note_member(found, member)?;
     }
-    None
+    Ok(())
 }
 
-fn in_item<'a>(item: &'a Item, number: u32) -> Option<&'a Fun>
-    ensures { option_map fun_now result ≡ at_item number (item_of item.now) }
+fn note_item(found: &mut Noted, item: &Item) -> Result<(), Memory>
+    ensures { OnOk result (entries_of found.new ≡
+        n.item_noted (item_of item.now) (entries_of found.old)) }
 {
     match item {
-        Item::Using(_) | Item::Enum(_) => None,
-        Item::Class(class) => in_members(class.members.as_slice(), number),
-        Item::Fun(fun) => is_numbered(fun, number),
+        Item::Using(_) | Item::Enum(_) => Ok(()),
+        Item::Class(class) => note_members(found, class.members.as_slice()),
+        Item::Fun(fun) => note_fun(found, fun),
     }
 }
 
-/// The function or method whose node has a number.
-#[tactic(auto, using(crate::proofs::Numbered::fun_split))]
-pub fn fun_numbered<'a>(items: &'a [Item], number: u32) -> Option<&'a Fun>
-    ensures { option_map fun_now result ≡ p.fun_numbered number (map item_of items.now) }
+fn note_items(found: &mut Noted, items: &[Item]) -> Result<(), Memory>
+    ensures { OnOk result (entries_of found.new ≡
+        n.items_noted (map item_of items.now) (entries_of found.old)) }
 {
     'items: for item in items {
-        if let Some(fun) = in_item(item, number) {
-            return Some(fun);
-        }
+        note_item(found, item)?;
     }
-    None
+    Ok(())
 }
 
-fn count_of(items: &[Item], info: &FunInfo) -> Option<usize>
-    ensures { result ≡ count_at (map item_of items.now) info.now }
-{
-    match fun_numbered(items, info.item) {
-        None => None,
-        Some(fun) => Some(fun.params.len()),
-    }
-}
-
-/// The number of parameters of each function of a table.
-pub fn counts<'a>(
-    alloc: Global,
-    items: &'a [Item],
-    infos: &'a [FunInfo],
-) -> Result<Vec<Option<usize>>, Memory>
-    ensures { IfOk result (λ r. r.items ≡ map (count_at (map item_of items.now)) infos.now) }
+fn found_all(alloc: Global, noted: &Noted, infos: &[FunInfo]) -> Result<Vec<Option<usize>>, Memory>
+    ensures { IfOk result (λ r. r.items ≡ map (found_at (entries_of noted.now)) infos.now) }
 {
     let mut found = Vec::new(alloc);
     'infos: for info in infos {
-        found.push(count_of(items, info))?;
+        found.push(noted.find(info.item))?;
     }
     Ok(found)
+}
+
+/// The number of parameters of each function of a table.
+#[tactic(auto, using(crate::proofs::Noting::found_is))]
+pub fn counts(
+    alloc: Global,
+    items: &[Item],
+    infos: &[FunInfo],
+) -> Result<Vec<Option<usize>>, Memory>
+    ensures { IfOk result (λ r. r.items ≡ map (count_at (map item_of items.now)) infos.now) }
+{
+    let mut noted = Noted::new(alloc);
+    note_items(&mut noted, items)?;
+    found_all(alloc, &noted, infos)
 }
 
 /// Whether the function of a number has so many parameters.
