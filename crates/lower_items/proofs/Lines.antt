@@ -48,7 +48,8 @@ line_fields (suc n) cs None = refl
 line_fields (suc n) cs (Some c) = ap (λ l. l ++ own_fields c.members) (line_fields n cs (parent_of cs c.parent))
 
 -- the last class of a list comes first
-last_taken : (cs : List (Bor ClassItem)) (c : Bor ClassItem) → all_taken (cs ++ c ∷ []) ≡ own_fields (class_of c.now).members ++ all_taken cs
+last_taken : (cs : List (Bor ClassItem)) (c : Bor ClassItem) → all_taken (cs ++ c ∷ []) ≡
+    own_fields (class_of c.now).members ++ all_taken cs
 last_taken [] c = sym (append_nil (own_fields (class_of c.now).members))
 last_taken (d ∷ cs) c = ap (λ l. l ++ own_fields (class_of d.now).members) (last_taken cs c) ∙
     append_assoc (own_fields (class_of c.now).members) (all_taken cs) (own_fields (class_of d.now).members)

@@ -1,4 +1,4 @@
--- Numbers with what came first with each; and the functions of a program, by the numbers of their nodes.
+-- Numbers with what came first with each; and functions by the numbers of their nodes.
 use Rattle.std.specs.Prelude.{ℕ, nat_eq, cond, List, [], ◌∷◌, length, Option, Some, None}
 use Rattle.verse_tree.specs.ItemTree.{FunTree, MemberTree, field, method, ItemTree, using, enumeration, class, function}
 use Rattle.lower_items.specs.declared.noted.Noted.{Noted}

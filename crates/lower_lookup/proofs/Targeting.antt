@@ -45,10 +45,12 @@ target_event (Some w) = refl
 
 module _ (p : Program) (differ : ℕ → ℕ → Bool) (base : Base) (sc : Scope) where
   mutual
-    pub has_base_is : (a : Tree) → has_base p differ a base sc ≡ by_kind (kind_of a) (named_base p differ base sc) (member_base p differ base)
+    pub has_base_is : (a : Tree) → has_base p differ a base sc ≡
+        by_kind (kind_of a) (named_base p differ base sc) (member_base p differ base)
     has_base_is (tree n pl s) = has_shape s
 
-    has_shape : (s : Shape) → has_base_shape p differ s base sc ≡ by_kind (kind_of_shape s) (named_base p differ base sc) (member_base p differ base)
+    has_shape : (s : Shape) → has_base_shape p differ s base sc ≡
+        by_kind (kind_of_shape s) (named_base p differ base sc) (member_base p differ base)
     has_shape (t.Shape.block ts) = refl
     has_shape (t.Shape.defer a) = refl
     has_shape (t.Shape.definition x a) = refl

@@ -5,4 +5,5 @@ use Rattle.lower_items.proofs.bodies.methods_behind.Given as goal
 
 -- what is done and what is left are all
 abbrev pub invariant-members : goal.invariant-members
-invariant-members l = methods_behind (map member_of (drop l.member-index l.members)) l.at ≡ methods_behind (map member_of l.members) l.number
+invariant-members l = methods_behind (map member_of (drop l.member-index l.members)) l.at ≡
+    methods_behind (map member_of l.members) l.number

@@ -6,4 +6,5 @@ use Rattle.lower_items.proofs.enums.enum_place.Given as goal
 
 -- what is done and what is left are all
 abbrev pub invariant-enums : goal.invariant-enums
-invariant-enums l = place_from l.name (enum_names (map enum_now (drop l.item-index l.enums))) l.at ≡ place_from l.name (enum_names (map enum_now l.enums)) 0
+invariant-enums l = place_from l.name (enum_names (map enum_now (drop l.item-index l.enums))) l.at ≡
+    place_from l.name (enum_names (map enum_now l.enums)) 0

@@ -5,4 +5,5 @@ use Rattle.lower_items.proofs.fields.given_local.Given as goal
 
 -- what is done and what is left are all
 abbrev pub invariant-parts : goal.invariant-parts
-invariant-parts l = given_local l.name (givens (map given_of (drop l.part-index l.parts))) l.at ≡ given_local l.name (givens (map given_of l.parts)) l.first
+invariant-parts l = given_local l.name (givens (map given_of (drop l.part-index l.parts))) l.at ≡
+    given_local l.name (givens (map given_of l.parts)) l.first
