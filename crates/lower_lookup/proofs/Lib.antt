@@ -2,4 +2,5 @@ pub mod SameNames
 mod NoCallees
 mod NoBases
 mod PlainStatements
+pub mod Targeting
 mod RuleSets

@@ -1,5 +1,5 @@
 -- Names are the same where their bytes are.
-use Rattle.std.proofs.Common.{◌≡◌, ℕ, true, false, Bool, List, [], ◌∷◌, bytes_eq, nat_eq, cond, refl}
+use Rattle.std.proofs.Common.{◌≡◌, true, false, Bool, [], ◌∷◌, bytes_eq, cond, refl}
 use Rattle.std.specs.Prelude.{◌==◌, ◌&&◌}
 use Rattle.verse_tree.specs.Tree.{Bytes}
 use Rattle.verse_meaning.specs.Programs.{same_name}

@@ -3,3 +3,4 @@ pub mod Actions
 pub mod Callees
 pub mod Members
 pub mod Statements
+pub mod Targets
