@@ -8,6 +8,7 @@ import tempfile
 
 PROGRAM = sys.argv[1]
 DOCUMENTS = subprocess.run(["git", "ls-files", "*.md"], capture_output=True, text=True, check=True).stdout.split()
+GROUND = ("verse_base", "verse_outside")
 passed = 0
 failures = []
 
@@ -47,10 +48,11 @@ def outer(lines, path):
 
 
 def listed(name):
-    """The words and the output of an example."""
+    """The words and the output of an example; further files are those of examples/."""
     args = f"examples/{name}.args"
     words = text_of(args).split("\n")[:-1] if os.path.exists(args) else []
-    return words, text_of(f"examples/{name}.out").split("\n")[:-2]
+    words = [f"examples/{it}" if it.endswith(".verse") else it for it in words]
+    return words, text_of(f"examples/{name}.out").split("\n")[:-1]
 
 
 def shown_run(words, where):
@@ -114,6 +116,73 @@ def links():
 
 def section(text, heading):
     return re.split(r"(?m)^## ", text.split(f"\n## {heading}\n", 1)[1])[0] if f"\n## {heading}\n" in text else ""
+
+
+TIME = r"\d[\d.,]*(?: to [\d.,]+)? (?:second|minute|hour)s?"
+
+
+def times():
+    """The times that README.md says are those of TESTED.md, each said once."""
+    measured = re.findall(TIME, section(text_of("docs/TESTED.md"), "Times"))
+    told = re.findall(TIME, text_of("README.md"))
+    check(len(told) > 0, "README.md says no times that this check can read")
+    for time in told:
+        check(time in measured, f"README.md: {time} is none of the times of docs/TESTED.md")
+        check(told.count(time) == 1, f"README.md: {time} stands there twice")
+
+
+def crates():
+    """Each crate with all below it, as crates.txt has them."""
+    lines = re.findall(r"(?m)^(\w+)[^\n:]*:(.*)$", text_of("crates.txt"))
+    names = {name for name, _ in lines}
+    below = {}
+    for name, uses in lines:
+        direct = [it for it in uses.split() if it in names]
+        below[name] = set(direct).union(*(below.get(it, set()) for it in direct))
+    return below
+
+
+def named_in(label, below):
+    """The crates that a box of a picture names; `_x` stands behind the family of the one before it."""
+    found = []
+    for word in re.findall(r"\w+", label.replace("<br>", " ")):
+        if word.startswith("_") and found:
+            word = next((it for it in below if it.endswith(word) and it.split("_")[:2] == found[-1].split("_")[:2]), word)
+        if word in below:
+            found.append(word)
+    return found
+
+
+def pictures():
+    """The pictures of ARCHITECTURE.md: small, each arrow between crates as crates.txt has it, each crate of a
+    section that has one in it; and the longest chains."""
+    below, text = crates(), text_of("docs/ARCHITECTURE.md")
+    shown = set()
+    for line, info, lines in blocks(text):
+        if info != "mermaid":
+            continue
+        where = f"docs/ARCHITECTURE.md:{line}"
+        labels = dict(re.findall(r"(\w+)\[\"?([^\]\"]*)\"?\]", "\n".join(lines)))
+        check(len(labels) <= 20, f"{where}: this picture has {len(labels)} boxes")
+        boxes = {box: named_in(label, below) for box, label in labels.items()}
+        shown |= {crate for named in boxes.values() for crate in named}
+        for left, right in re.findall(r"(?m)^ *(\w+)(?:\[[^\]]*\])? --> (\w+)", "\n".join(lines)):
+            for crate in boxes.get(left, []):
+                stands = [it for it in boxes.get(right, []) if crate in below[it]]
+                check(stands or not boxes.get(right), f"{where}: what stands in {right} does not stand on {crate}")
+    for crate in below:
+        check(crate in shown or not re.match("verse_|vm_", crate) or crate.endswith("_tests") or crate in GROUND,
+              f"docs/ARCHITECTURE.md: {crate} is in no picture")
+    depth = {}
+    for crate in below:
+        depth[crate] = 1 + max((depth[it] for it in below[crate]), default=0)
+    deepest = max(depth.values(), default=0)
+    told = re.search(r"(?m)^\*\*The longest chain\*\* has (\d+) crates.*$", text)
+    check(told is not None and int(told[1]) == deepest, f"docs/ARCHITECTURE.md: the longest chain has {deepest} crates")
+    for chain in re.findall(r"(?:`\w+` ?){3,}", told[0] if told else ""):
+        named = re.findall(r"\w+", chain)
+        well = len(named) == deepest and all(low in below[high] for low, high in zip(named, named[1:]))
+        check(well, f"docs/ARCHITECTURE.md: {chain} is no longest chain")
 
 
 def built_forms():
@@ -250,6 +319,8 @@ def editors():
 
 parts_of_examples()
 links()
+times()
+pictures()
 built_forms()
 refusals()
 refused_examples()
