@@ -264,6 +264,63 @@ def refused_examples():
             check(ran.returncode == 1 and re.fullmatch(wanted, ran.stdout) is not None, what)
 
 
+def base_program():
+    """The program at whose end the examples of REFUSALS.md stand."""
+    return next((lines for _, info, lines in blocks(text_of("docs/REFUSALS.md")) if info == "verse"), [])
+
+
+def as_file(cell):
+    """The source of an example in a table: its lines are code, with <br> between them."""
+    lines = [it.strip()[1:-1] for it in cell.split("<br>")]
+    whole = any(re.search(r"(?i)main\(", it) for it in lines)
+    return "\n".join([*([] if whole else base_program()), *(it if whole else f"    {it}" for it in lines), ""])
+
+
+def checked(source, folder):
+    file = f"{folder}/example.verse"
+    with open(file, "w", encoding="utf-8") as out:
+        out.write(source)
+    ran = subprocess.run([PROGRAM, "check", file], capture_output=True, text=True, stdin=subprocess.DEVNULL, timeout=60)
+    return ran.stdout.rstrip("\n")
+
+
+def example_of_a_mistake(where, code, wrong, told_at, right, folder):
+    """The wrong one is refused with the code where it says, and the right one is accepted."""
+    source = as_file(wrong)
+    wrote = checked(source, folder)
+    found = re.fullmatch(r"(\d+):(\d+) (E\d{3}) .*", wrote)
+    line = source.split("\n")[int(found[1]) - 1].encode()[int(found[2]) - 1 :].decode("utf-8", "replace") if found else ""
+    well = found and found[3] == code and line.startswith(told_at.strip("`")) and told_at != "``"
+    check(well, f"{where}: {wrong} writes {wrote}, at `{line[:20]}`, and not {code} at {told_at}")
+    answer = checked(as_file(right), folder)
+    check(answer == "= ok" or re.fullmatch(r"\d+:\d+ E099 .*", answer), f"{where}: {right} writes {answer}")
+
+
+ROW = r"(?m)^\| (`.*`) \| {} \| (`.*`) \|$"
+
+
+def mended_examples():
+    """REFUSALS.md: a section for each code, and its examples; the habits in LANGUAGE.md."""
+    text, language = text_of("docs/REFUSALS.md"), text_of("docs/LANGUAGE.md")
+    told = dict(re.findall(r"(?m)^\| E(\d{3}) (.*?) \|", section(language, "All refusals")))
+    sections = dict(re.findall(r"(?m)^## E(\d{3}) (.*)$", text))
+    check(sections == told and told, f"docs/REFUSALS.md: its sections are others than the rows of All refusals: {set(told.items()) ^ set(sections.items())}")
+    with tempfile.TemporaryDirectory() as folder:
+        for number, name in sections.items():
+            part = section(text, f"E{number} {name}")
+            where = f"docs/REFUSALS.md, E{number}"
+            check(part.count("**Mend it:** ") == 1, f"{where}: it has no sentence that says how to mend it")
+            rows = re.findall(ROW.format("(`.*`)"), part)
+            check(len(rows) == part.count("\n| `") and (len(rows) >= 2 or "| Wrong |" not in part), f"{where}: it has too few examples")
+            for wrong, told_at, right in rows:
+                example_of_a_mistake(where, f"E{number}", wrong, told_at, right, folder)
+        part = section(language, "You write, it says")
+        rows = re.findall(ROW.format(r"(E\d{3}) at (`.*`)"), part)
+        check(len(rows) == part.count("\n| `") and len(rows) >= 30, "docs/LANGUAGE.md, You write, it says: this check can read too few rows")
+        for wrong, code, told_at, right in rows:
+            example_of_a_mistake("docs/LANGUAGE.md, You write, it says", code, wrong, told_at, right, folder)
+
+
 def spellings(enumeration):
     source = text_of("crates/verse_lex/src/tokens.rt")
     body = re.search(rf"pub enum {enumeration} \{{(.*?)\n\}}", source, re.S)
@@ -324,6 +381,7 @@ pictures()
 built_forms()
 refusals()
 refused_examples()
+mended_examples()
 short_examples()
 editors()
 for it in failures:
