@@ -340,6 +340,61 @@ def first_match(patterns, text, at=0):
     return None
 
 
+def flat(patterns, grammar):
+    for pattern in patterns:
+        named = grammar[pattern["include"][1:]] if "include" in pattern else pattern
+        if "begin" in named or "match" in named:
+            yield named
+        else:
+            yield from flat(named["patterns"], grammar)
+
+
+def scopes_of(text, patterns, grammar):
+    """As an editor does with one line without texts: each part with its scope."""
+    found, at = [], 0
+    patterns = [it for it in flat(patterns, grammar) if "match" in it]
+    while at < len(text):
+        match = pattern = None
+        for pattern in patterns:
+            match = re.compile(pattern["match"]).match(text, at)
+            if match and match.end() > at:
+                break
+            match = None
+        if not match:
+            at += 1
+            continue
+        if "name" in pattern:
+            found.append((match[0], pattern["name"]))
+        for number, capture in pattern.get("captures", {}).items():
+            part = match[int(number)] or ""
+            if "name" in capture:
+                found.append((part, capture["name"]))
+            if "patterns" in capture:
+                found += scopes_of(part, capture["patterns"], grammar)
+        at = match.end()
+    return found
+
+
+SCOPES = [
+    ("player := class<unique>(actor):", [("player", "entity.name.type.class.verse"), ("class", "storage.type.verse"), ("actor", "entity.other.inherited-class.verse")]),
+    ("color<public> := enum{red, green}", [("color", "entity.name.type.enum.verse"), ("<public>", "storage.modifier.specifier.verse")]),
+    ("Buy<public>(P:player, Of:[string]?int)<transacts><decides>:void =", [
+        ("Buy", "entity.name.function.definition.verse"), ("P", "variable.parameter.verse"), ("player", "entity.name.type.verse"),
+        ("Of", "variable.parameter.verse"), ("string", "storage.type.verse"), ("int", "storage.type.verse"),
+        ("<decides>", "storage.modifier.specifier.verse"), ("void", "storage.type.verse")]),
+    ("Add(A:tuple(int, int), B:int)<computes>:int = A(0) + B", [("Add", "entity.name.function.definition.verse"), ("B", "variable.parameter.verse"), ("A", "entity.name.function.call.verse")]),
+    ("    var Gold<public>:int = 5", [("var", "keyword.other.verse"), ("Gold", "variable.other.definition.verse"), ("int", "storage.type.verse")]),
+    ("    Hits:event(int) = event(int){}", [("Hits", "variable.other.definition.verse"), ("event", "storage.type.verse")]),
+    ("    Seen:[string]player = map{}", [("Seen", "variable.other.definition.verse"), ("player", "entity.name.type.verse")]),
+    ("    P := player{Name := N}", [("P", "variable.other.definition.verse"), ("player", "entity.name.type.instance.verse"), ("Name", "variable.other.definition.verse"), ("N", "variable.other.verse")]),
+    ("    if (Got := Ann.Buy[S, 5], X > 1):", [("if", "keyword.control.verse"), ("Got", "variable.other.definition.verse"), ("Buy", "entity.name.function.member.verse"), ("S", "variable.other.verse")]),
+    ("    set P.Gold -= Price", [("set", "keyword.control.verse"), ("Gold", "variable.other.member.verse"), ("Price", "variable.other.verse")]),
+    ("    for (I := 1..N, E : A) { Tell(E) }", [("for", "keyword.control.verse"), ("I", "variable.other.definition.verse"), ("N", "variable.other.verse"), ("E", "variable.other.verse"), ("Tell", "entity.name.function.call.verse")]),
+    ("    N := Rung.Await()", [("Await", "support.function.verse")]),
+    ("    else:", [("else", "keyword.control.verse")]),
+]
+
+
 def editors():
     grammar = json.loads(text_of("editors/verse.tmLanguage.json"))["repository"]
     words, marks = grammar["words"]["patterns"], grammar["marks"]["patterns"]
@@ -366,12 +421,33 @@ def editors():
     for mark in spellings("Mark"):
         match = first_match(marks, mark)
         check(match is not None and match[0] == mark, f"editors/verse.tmLanguage.json: the mark {mark} is read as {match}")
-    for name in ("package.json", "language-configuration.json", "tasks.json"):
-        json.loads(text_of(f"editors/{name}"))
-    matcher = json.loads(text_of("editors/package.json"))["contributes"]["problemMatchers"]
-    several, one = matcher[0]["pattern"], matcher[1]["pattern"][1]
-    check(re.search(several["regexp"], "b.verse:1:12 E041 unknown name") is not None, "editors/package.json: $verse reads no refusal")
-    check(re.search(one["regexp"], "2:28 E030 unexpected token") is not None, "editors/package.json: $verse-one-file reads no refusal")
+    configuration = json.loads(text_of("editors/language-configuration.json"))
+    opens = [it["beforeText"] for it in configuration["onEnterRules"] if it["action"]["indent"] == "indent"]
+    for line, is_opener in (("    if (X > 1):", True), ("Main():void =", True), ("    1 =>", True), ("    X := 5", False), ("    # so:", False), ("    if (X >=", False)):
+        check(any(re.search(it, line) for it in opens) == is_opener, f"editors/language-configuration.json: a line behind `{line}`")
+    check(re.fullmatch(configuration["wordPattern"], "Score_2") is not None, "editors/language-configuration.json: a name is no word")
+    json.loads(text_of("editors/package.json"))
+    matchers = {it["name"]: it for it in json.loads(text_of("editors/package.json"))["contributes"]["problemMatchers"]}
+    for name, refusal, severity in (
+        ("verse", "b.verse:1:12 E041 unknown name", "error"), ("verse-one-file", "2:28 E030 unexpected token", "error"),
+        ("verse-not-built", "b.verse:1:12 E099 not built yet", "info"), ("verse-one-file-not-built", "2:28 E099 not built yet", "info"),
+    ):
+        pattern = matchers[name]["pattern"]
+        pattern = pattern if isinstance(pattern, dict) else pattern[1]
+        reads = [it for it in ("E041", "E099") if re.search(pattern["regexp"], re.sub("E[0-9]{3}", it, refusal))]
+        well = reads == [re.search("E[0-9]{3}", refusal)[0].replace("E030", "E041")] and matchers[name]["severity"] == severity
+        check(well, f"editors/package.json: ${name} reads {reads}")
+    tasks = json.loads(text_of("editors/tasks.json"))["tasks"]
+    for task in tasks:
+        script = task["command"].replace("${config:verse.home}/", "")
+        check(os.access(script, os.X_OK), f"editors/tasks.json: {script} is no script of the repository")
+        for name in task["problemMatcher"]:
+            check(name[1:] in matchers, f"editors/tasks.json: there is no {name}")
+    for line, wanted in SCOPES:
+        found = scopes_of(line, [{"include": "#code"}], grammar)
+        for text, scope in wanted:
+            told = [name for part, name in found if part == text]
+            check(scope in told, f"editors/verse.tmLanguage.json: in `{line}` {text} is {told or 'nothing'}, and not {scope}")
 
 
 parts_of_examples()

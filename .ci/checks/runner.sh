@@ -310,6 +310,22 @@ rm "$tests/three.out"
 echo two > "$tests/not_built.txt"
 run_tests
 same 'verse-test: what runs is taken off the list' 1 "$(grep -c 'take two off not_built.txt' <<< "$wrote")"
+export VERSE=$room/writes
+in_folder "$tests" "$root/editors/watch" --once part.verse
+same 'editors/watch --once: the program of a part' "0 checking $tests/one.verse|check $tests/one.verse $tests/part.verse|one|checked" "$status $(paste -s -d '|' <<< "$wrote")"
+in_folder "$tests" "$root/editors/watch" --run one.verse
+same 'editors/watch --run: with its options' "0 run $tests/one.verse $tests/part.verse --in 1" "$status $(sed -n 2p <<< "$wrote")"
+"$root/editors/watch" "$tests" > "$room/watched" &
+watcher=$!
+for ((tries = 0; tries < 60; tries++)); do
+  echo "two $tries" > "$tests/two.verse"
+  sleep 0.2
+  ! grep -q "checking $tests/two.verse" "$room/watched" || break
+done
+kill "$watcher"
+wait "$watcher" 2> /dev/null
+same 'editors/watch FOLDER: what is saved is checked' "checking $tests/two.verse" "$(sort -u "$room/watched" | grep checking)"
+unset VERSE
 rm "$tests/not_built.txt" "$tests/one.args" "$tests/part.verse"
 printf '[run]\n[one.verse]\n' > "$tests/one.out"
 in_folder "$repo" ./verse-test --try tests one
