@@ -44,7 +44,7 @@ scripts/timeline one=examples/waves.out two=examples/runners.out three="$room/ho
 same 'timeline: the page loads nothing' '' "$(grep -oE '(src|href)=|https?://[^"]*' "$room/page.html" | grep -v 'http://www.w3.org/2000/svg')"
 
 browser=$(command -v chromium || command -v chromium-browser)
-if [ -n "$browser" ]; then
+if [ -n "$browser" ] && "$browser" --version > "$room/said" 2>&1; then
   # The page is driven as a reader would, and says in its title what it shows.
   cat > "$room/drive" <<'DRIVE'
 <script>
@@ -68,7 +68,7 @@ document.title = "told: " + told.join("; ");
 DRIVE
   sed -e "/<\/body>/{r $room/drive
 N}" "$room/page.html" > "$room/driven.html"
-  shown() { HOME=$room timeout 60 "$browser" --headless --no-sandbox --disable-gpu --user-data-dir="$room/profile" --window-size=1100,2400 --dump-dom "$1" 2> /dev/null; }
+  shown() { HOME=$room timeout 120 "$browser" --headless --no-sandbox --disable-gpu --user-data-dir="$room/profile" --window-size=1100,2400 --dump-dom "$1" 2> /dev/null; }
   title=$(shown "file://$room/driven.html" | grep -o '<title>told: [^<]*' | sed 's/.*told: //')
   lines=$(grep -c '^[0-9]' examples/waves.out)
   same 'timeline: the page in a browser' "whole=0 36500/drawn; in=9125 27375/drawn; right=13688 31938/drawn; all=0 36500/drawn; wheel=0 29200/drawn; key=0 36500/drawn; found=1; themes=dark light; rows=3 $lines 6 2; hostile=0" "$title"
