@@ -161,6 +161,9 @@ same 'a refusal is explained: the output is the program'"'"'s' '1 2:9 E030 unexp
 same 'and the source, the place and the cure are on standard error' $'  2 | \tif (X == 3) {}\n    | \t       ^\n  E030: equality is one `=`\n  more: docs/REFUSALS.md#e030-unexpected-token' "$said"
 VERSE_EXPLAIN=1 SAYS=$'e.verse:2:1 E060 can fail outside a failure context\n' STATUS=1 verse check a.verse e.verse
 same 'of several files the one that is named' 1 "$(grep -c 'put it into the condition' <<< "$said")"
+printf 'Main():void =\n    if (1 > 2) # a remark\n\n        Print("a")\n' > "$repo/f.verse"
+VERSE_EXPLAIN=1 SAYS=$'4:9 E020 bad indentation\n' STATUS=1 verse check f.verse
+same 'a block that nothing opened' 1 "$(grep -c 'the line before opens no block' <<< "$said")"
 VERSE_EXPLAIN=1 SAYS=$'0 hi\n= error K1 2:5 at 0 steps 1\n' STATUS=4 verse run e.verse
 same 'a runtime error is explained' '4 1' "$status $(grep -c '^  K1: ' <<< "$said")"
 VERSE_EXPLAIN=1 SAYS=$'no line end' verse run e.verse
