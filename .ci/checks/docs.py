@@ -315,8 +315,15 @@ def mended_examples():
         part = section(language, "You write, it says")
         rows = re.findall(ROW.format(r"(E\d{3}) at (`.*`)"), part)
         check(len(rows) == part.count("\n| `") and len(rows) >= 30, "docs/LANGUAGE.md, You write, it says: this check can read too few rows")
+        explain = {"__name__": "explain", "__file__": "scripts/explain"}
+        exec(compile(text_of("scripts/explain"), "scripts/explain", "exec"), explain)
         for wrong, code, told_at, right in rows:
             example_of_a_mistake("docs/LANGUAGE.md, You write, it says", code, wrong, told_at, right, folder)
+            lines = as_file(wrong).split("\n")
+            place = next((at for at in range(len(lines) - 1, -1, -1) if told_at[1:-1] in lines[at]), 0)
+            before, _, at = lines[place].rpartition(told_at[1:-1])
+            known = code != "E030" or explain["hint_of"](code, before, told_at[1:-1] + at, lines[place - 1])
+            check(known, f"scripts/explain: it has no sentence for {wrong}")
 
 
 def spellings(enumeration):
