@@ -30,9 +30,11 @@ each_crate_has_wrong_bodies() {
 each_crate_is_described() {
   for name in $(crates); do
     grep -q "\*\*$name\*\*" docs/ARCHITECTURE.md || { echo "$name is not in docs/ARCHITECTURE.md"; return 1; }
-    grep -q "$name" README.md || { echo "$name is not in README.md"; return 1; }
+    grep -qE "(^|[^_a-z])$name([^_a-z]|$)" README.md docs/PROVED.md docs/FIGURES.md || { echo "$name is not in docs/FIGURES.md"; return 1; }
   done
 }
+
+figures_are_those_of_the_crates() { scripts/figures check; }
 
 files_are_short() {
   local long
@@ -47,13 +49,14 @@ nothing_made_is_kept() { ! git ls-files | grep -E '(^|/)out/|BUILD\.bazel$'; }
 # The examples that the language's chapters show are those in examples/.
 examples_are_named() {
   for file in examples/*.verse; do
-    grep -rq "$(basename "$file")" README.md docs || { echo "$file is named nowhere"; return 1; }
+    grep -rq "$(basename "$file")" README.md docs examples/README.md || { echo "$file is named nowhere"; return 1; }
   done
 }
 
 check handles_are_none
 check each_crate_has_wrong_bodies
 check each_crate_is_described
+check figures_are_those_of_the_crates
 check files_are_short
 check no_hole_is_left
 check nothing_made_is_kept
