@@ -3,4 +3,8 @@ mod Forms
 mod Evaluating
 mod Going
 mod Standing
+mod Contexts
+mod Backwards
+mod Groups
 mod Examples
+mod TaskExamples
