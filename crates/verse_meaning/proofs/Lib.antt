@@ -6,5 +6,10 @@ mod Standing
 mod Contexts
 mod Backwards
 mod Groups
+mod Following
+mod FollowingForms
+mod FollowingEvaluating
+mod FollowingGoing
+mod Counting
 mod Examples
 mod TaskExamples

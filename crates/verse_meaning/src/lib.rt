@@ -1,6 +1,7 @@
 //! What a program means, by residual trees. Read the definitions in this order: `Programs`,
 //! `Residuals`, `Outcomes`, `Forms` (forms with operands, applied), `Evaluating` (one case for each
-//! form, starts, cancelling), `Resuming`, `Runs` (calls, the forest, turns, whole runs), `Laws`.
+//! form, starts, cancelling), `Resuming`, `Runs` (calls, the forest, turns, whole runs), `Laws`,
+//! `RunLaws`.
 #![tactic(auto)]
 
 ghost use Rattle.verse_meaning.specs.Laws.{
@@ -19,6 +20,7 @@ ghost use Rattle.verse_meaning.specs.Laws.{
   ScopesEnd,
   UnfinishedGoesOn,
 };
+ghost use Rattle.verse_meaning.specs.RunLaws.{LinesStay, StepsCounted};
 
 /// What is evaluated with a failure context open leaves the tasks, waits and signals of all others
 /// as they were, and only steps are gone from the clock; an attempt that fails goes on with the
@@ -102,4 +104,15 @@ pub fn unfinished_goes_on()
 /// goes on where it is woken.
 pub fn scopes_end()
     ensures { ScopesEnd }
+{}
+
+/// The steps that are left and those that are spent stand together, and those left never rise, over
+/// each evaluation, turn and run.
+pub fn steps_counted()
+    ensures { StepsCounted }
+{}
+
+/// The lines after a turn begin with those before it, and so after k turns with those after fewer.
+pub fn lines_stay()
+    ensures { LinesStay }
 {}
