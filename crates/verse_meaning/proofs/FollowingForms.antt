@@ -45,7 +45,7 @@ changed_writes s fails = tt
 changed_writes s (error k) = tt
 changed_writes s stuck = tt
 
-read_writes : (s : State) (slot : ℕ) (v : Val) → Writes s (slot_read slot v s)
+pub read_writes : (s : State) (slot : ℕ) (v : Val) → Writes s (slot_read slot v s)
 read_writes s slot unit = tt
 read_writes s slot falsity = tt
 read_writes s slot truth = tt
@@ -60,7 +60,7 @@ read_writes s slot (array vs) = tt
 read_writes s slot (mapping ps) = tt
 read_writes s slot (tuple vs) = tt
 
-written_writes : (s : State) (slot : ℕ) (path : List Val) (mode : Mode) (v c : Val) →
+pub written_writes : (s : State) (slot : ℕ) (path : List Val) (mode : Mode) (v c : Val) →
     Writes s (slot_written slot path mode v c s)
 written_writes s slot path mode x unit = tt
 written_writes s slot path mode x falsity = tt
@@ -85,7 +85,7 @@ text_writes : (s : State) (bytes : Option (List ℕ)) → Writes s (text_printed
 text_writes s None = tt
 text_writes s (Some bytes) = told_writes s _ _ _ refl (begins_more s.memory.trace _)
 
-printed_writes : (s : State) (v : Val) → Writes s (line_printed v s)
+pub printed_writes : (s : State) (v : Val) → Writes s (line_printed v s)
 printed_writes s unit = tt
 printed_writes s falsity = tt
 printed_writes s truth = tt

@@ -11,5 +11,8 @@ mod FollowingForms
 mod FollowingEvaluating
 mod FollowingGoing
 mod Counting
+mod Agreeing
+mod AgreeingForms
+mod AgreeingEvaluating
 mod Examples
 mod TaskExamples
