@@ -47,7 +47,7 @@ here w h = (steps_closed.same w.state, refl)
 further : (l : ℕ) (s u : State) → Within l s → StepsStand s u → Within l u
 further l s u h a = le_trans a.falls h
 
-behind_it : (l : ℕ) (s : State) (u : World) (o o' : Outcome) → Within l s → StepsStand s u.state → Agrees l u o o' → Alike s o o'
+pub behind_it : (l : ℕ) (s : State) (u : World) (o o' : Outcome) → Within l s → StepsStand s u.state → Agrees l u o o' → Alike s o o'
 behind_it l s u o o' h a f =
     (reaches_then steps_closed s u.state o a (f (further l s u.state h a)).0, (f (further l s u.state h a)).1)
 
@@ -250,11 +250,11 @@ unfolding spends
 none_spent zero w go h = refl
 none_spent (suc n) w go h = absurd (not-suc-le-zero h)
 
-pub none_left : (l : ℕ) (w : World) (go : World → Outcome) → l ≤ zero →
+pub no_step_left : (l : ℕ) (w : World) (go : World → Outcome) → l ≤ zero →
     Agrees l w (halted (out w.state)) (spends w.state.clock.left w go)
-none_left l w go b h = (steps_closed.same w.state, sym (none_spent w.state.clock.left w go (le_trans h b)))
+no_step_left l w go b h = (steps_closed.same w.state, sym (none_spent w.state.clock.left w go (le_trans h b)))
 
-pub none_right : (l : ℕ) (w : World) (go : World → Outcome) → l ≤ zero →
+pub no_step_right : (l : ℕ) (w : World) (go : World → Outcome) → l ≤ zero →
     Agrees l w (spends w.state.clock.left w go) (halted (out w.state))
-none_right l w go b h = subst (λ x. Alike w.state x (halted (out w.state))) (sym (none_spent w.state.clock.left w go (le_trans h b)))
+no_step_right l w go b h = subst (λ x. Alike w.state x (halted (out w.state))) (sym (none_spent w.state.clock.left w go (le_trans h b)))
     (steps_closed.same w.state, refl)

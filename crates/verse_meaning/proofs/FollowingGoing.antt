@@ -92,31 +92,31 @@ module _ {R : State → State → Type 0} (cl : Closed R) where
         (set_behind u none))));
   }
 
-  element_follow : (s : State) (o : TaskOutcome) (bs : Scopes) → ReachesTask R s o → ReachesBehind R s (element_came o bs)
+  pub element_follow : (s : State) (o : TaskOutcome) (bs : Scopes) → ReachesTask R s o → ReachesBehind R s (element_came o bs)
   unfolding element_came
   element_follow s (ends v u) bs a = a
   element_follow s (lost t) bs a = a
   element_follow s (stops h) bs a = a
   element_follow s (sleeps x u) bs a = a
 
-  before_follow : (s : State) (x : Scope) (o : BehindOutcome) → ReachesBehind R s o → ReachesBehind R s (element_before x o)
+  pub before_follow : (s : State) (x : Scope) (o : BehindOutcome) → ReachesBehind R s o → ReachesBehind R s (element_before x o)
   unfolding element_before
   before_follow s x (stays bs u) a = a
   before_follow s x (stops_behind h) a = a
 
-  behind_task : (s : State) (q : Role) (r : Residual) (o : BehindOutcome) → ReachesBehind R s o → ReachesTask R s (behind_came q r o)
+  pub behind_came_follow : (s : State) (q : Role) (r : Residual) (o : BehindOutcome) → ReachesBehind R s o → ReachesTask R s (behind_came q r o)
   unfolding behind_came
-  behind_task s q r (stays bs u) a = a
-  behind_task s q r (stops_behind h) a = a
+  behind_came_follow s q r (stays bs u) a = a
+  behind_came_follow s q r (stops_behind h) a = a
 
-  arm_came_follow : (s : State) (o : TaskOutcome) (gs : Arms) → ReachesTask R s o → ReachesArms R s (arm_came o gs)
+  pub arm_came_follow : (s : State) (o : TaskOutcome) (gs : Arms) → ReachesTask R s o → ReachesArms R s (arm_came o gs)
   unfolding arm_came
   arm_came_follow s (ends v u) gs a = a
   arm_came_follow s (lost t) gs a = a
   arm_came_follow s (stops h) gs a = a
   arm_came_follow s (sleeps x u) gs a = a
 
-  front_follow : (s : State) (f : Arms → Arms) (o : ArmsOutcome) → ReachesArms R s o → ReachesArms R s (arm_before f o)
+  pub front_follow : (s : State) (f : Arms → Arms) (o : ArmsOutcome) → ReachesArms R s o → ReachesArms R s (arm_before f o)
   unfolding arm_before
   front_follow s f (stand gs u) a = a
   front_follow s f (stops_arms h) a = a
@@ -163,7 +163,7 @@ module _ {R : State → State → Type 0} (cl : Closed R) (p : Program) (k : Dee
         arms_came_follow cl w.state _ _ (resume_arms_follow gs n v w) (λ gs u. settled_follow cl p k d kd pl e gs u)
 
     pub resume_scope_follow : (s : Scope) (n : ℕ) (v : Val) (w : World) → ReachesTask R w.state (resume_scope p k s n v w)
-    resume_scope_follow (scope q r bs) n v w = bool_task (is_behind n bs) R w.state _ _ (behind_task cl w.state q r _
+    resume_scope_follow (scope q r bs) n v w = bool_task (is_behind n bs) R w.state _ _ (behind_came_follow cl w.state q r _
         (resume_behind_follow bs n v w)) (scope_follow cl p k d w.state q w.behind (resume p k r n v (set_behind w bs)) (resume_follow r n
         v (set_behind w bs)))
 

@@ -14,5 +14,6 @@ mod Counting
 mod Agreeing
 mod AgreeingForms
 mod AgreeingEvaluating
+mod AgreeingGoing
 mod Examples
 mod TaskExamples

@@ -6,10 +6,10 @@ use Rattle.verse_value.specs.Val.{Val}
 use Rattle.verse_meaning_state.specs.Turns.{Stage, amiss, broken, closed, going}
 use Rattle.verse_meaning_state.specs.State.{State, begun}
 use Rattle.verse_meaning.specs.Programs.{Program}
-use Rattle.verse_meaning.specs.Residuals.{Env, Residual}
+use Rattle.verse_meaning.specs.Residuals.{Env, Residual, Scope}
 use Rattle.verse_meaning.specs.Outcomes.{Halt, Outcome, World, broke, failed, fault, halted, jammed, out, rests, returned, value, wrong}
 use Rattle.verse_meaning.specs.Evaluating.{ev}
-use Rattle.verse_meaning.specs.Resuming.{resume}
+use Rattle.verse_meaning.specs.Resuming.{resume, resume_scope}
 use Rattle.verse_meaning.specs.Runs.{Forest, after, deeper, turn_taken}
 
 abbrev pub halted_state : Halt → State
@@ -62,3 +62,13 @@ pub record LinesStand (p : Program) : Type 0 where
 
 abbrev pub LinesStay : Type 0
 LinesStay = (p : Program) → LinesStand p
+
+-- Every depth that is no less than the steps left comes to the same, so none is ever seen to end.
+pub record DepthsAgree (p : Program) : Type 0 where
+  pub evaluation : (n n' : ℕ) (a : Tree) (m : Bool) (e : Env) (w : World) → w.state.clock.left ≤ n → w.state.clock.left ≤ n' →
+      ev p (deeper p n) a m e w ≡ ev p (deeper p n') a m e w
+  pub going : (n n' : ℕ) (s : Scope) (i : ℕ) (v : Val) (w : World) → w.state.clock.left ≤ n → w.state.clock.left ≤ n' →
+      resume_scope p (deeper p n) s i v w ≡ resume_scope p (deeper p n') s i v w
+
+abbrev pub DepthEnough : Type 0
+DepthEnough = (p : Program) → DepthsAgree p

@@ -20,7 +20,7 @@ ghost use Rattle.verse_meaning.specs.Laws.{
   ScopesEnd,
   UnfinishedGoesOn,
 };
-ghost use Rattle.verse_meaning.specs.RunLaws.{LinesStay, StepsCounted};
+ghost use Rattle.verse_meaning.specs.RunLaws.{DepthEnough, LinesStay, StepsCounted};
 
 /// What is evaluated with a failure context open leaves the tasks, waits and signals of all others
 /// as they were, and only steps are gone from the clock; an attempt that fails goes on with the
@@ -115,4 +115,9 @@ pub fn steps_counted()
 /// The lines after a turn begin with those before it, and so after k turns with those after fewer.
 pub fn lines_stay()
     ensures { LinesStay }
+{}
+
+/// Each evaluation is the same at every depth that is no less than the steps that are left.
+pub fn depth_enough()
+    ensures { DepthEnough }
 {}
