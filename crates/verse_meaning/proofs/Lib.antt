@@ -15,5 +15,9 @@ mod Agreeing
 mod AgreeingForms
 mod AgreeingEvaluating
 mod AgreeingGoing
+mod Waiting
+mod WaitingForms
+mod WaitingEvaluating
+mod WaitingGoing
 mod Examples
 mod TaskExamples

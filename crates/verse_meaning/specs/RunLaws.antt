@@ -1,13 +1,15 @@
 -- What holds of steps and lines, of each evaluation, of turns and of whole runs.
-use Rattle.std.specs.Prelude.{◌≡◌, ℕ, suc, ◌+◌, ◌≤◌, ℤ, List, [], ◌∷◌, Bool}
+use Rattle.std.specs.Prelude.{Option, Some, None, ◌≡◌, ℕ, suc, ◌+◌, ◌≤◌, ℤ, List, [], ◌∷◌, Bool}
 use Rattle.verse_tree.specs.Tree.{Tree}
 use Rattle.verse_value.specs.Runs.{Line}
 use Rattle.verse_value.specs.Val.{Val}
-use Rattle.verse_meaning_state.specs.Turns.{Stage, amiss, broken, closed, going}
+use Rattle.verse_meaning_state.specs.Turns.{Stage, amiss, broken, closed, going, Kind, all_of, first_of, rush_of}
 use Rattle.verse_meaning_state.specs.State.{State, begun}
 use Rattle.verse_meaning.specs.Programs.{Program}
-use Rattle.verse_meaning.specs.Residuals.{Env, Residual, Scope}
+use Rattle.verse_meaning.specs.Residuals.{Env, Residual, Scope, Arms, Scopes, also, args, arms, called, deferred, filling, gave}
+use Rattle.verse_meaning.specs.Residuals.{generated, leaf, looped, no_arms, none, runs, scope, seq}
 use Rattle.verse_meaning.specs.Outcomes.{Halt, Outcome, World, broke, failed, fault, halted, jammed, out, rests, returned, value, wrong}
+use Rattle.verse_meaning.specs.Outcomes.{all_gave, first_gave}
 use Rattle.verse_meaning.specs.Evaluating.{ev}
 use Rattle.verse_meaning.specs.Resuming.{resume, resume_scope}
 use Rattle.verse_meaning.specs.Runs.{Forest, after, deeper, turn_taken}
@@ -72,3 +74,53 @@ pub record DepthsAgree (p : Program) : Type 0 where
 
 abbrev pub DepthEnough : Type 0
 DepthEnough = (p : Program) → DepthsAgree p
+
+-- what a group waits for has not come: all arms of a `sync`, the first of a `race` or a `rush`
+abbrev pub StillWaits : Kind → Arms → Type 0
+StillWaits all_of gs = all_gave gs ≡ None
+StillWaits first_of gs = first_gave gs ≡ None
+StillWaits rush_of gs = first_gave gs ≡ None
+
+-- every group of a residual, in its scopes and their backgrounds too
+abbrev mutual
+  pub Waiting : Residual → Type 0
+  Waiting (leaf x e) = Unit {0}
+  Waiting (args e f vs r left) = Waiting r
+  Waiting (seq e b r left) = Waiting r
+  Waiting (deferred e d r) = Waiting r
+  Waiting (looped e a r) = Waiting r
+  Waiting (filling e c pl fs xs vs ss r) = Waiting r
+  Waiting (generated e g cs a pl vs r) = Waiting r
+  Waiting (called e s) = ScopeWaits s
+  Waiting (arms kd pl e gs) = StillWaits kd gs × ArmsWait gs
+
+  pub ScopeWaits : Scope → Type 0
+  ScopeWaits (scope q r bs) = Waiting r × BehindWaits bs
+
+  pub BehindWaits : Scopes → Type 0
+  BehindWaits none = Unit {0}
+  BehindWaits (also s bs) = ScopeWaits s × BehindWaits bs
+
+  pub ArmsWait : Arms → Type 0
+  ArmsWait no_arms = Unit {0}
+  ArmsWait (gave v gs) = ArmsWait gs
+  ArmsWait (runs s gs) = ScopeWaits s × ArmsWait gs
+
+abbrev pub ForestWaits : List (Option Scope) → Type 0
+ForestWaits [] = Unit {0}
+ForestWaits (None ∷ fs) = ForestWaits fs
+ForestWaits (Some s ∷ fs) = ScopeWaits s × ForestWaits fs
+
+abbrev pub StageWaits : Stage Forest → Type 0
+StageWaits (going s fs) = ForestWaits fs
+StageWaits (closed e s fs) = ForestWaits fs
+StageWaits (broken e s) = Unit {0}
+StageWaits (amiss s) = Unit {0}
+
+-- between two turns no race and no rush has an arm with a value, and no sync has all
+pub record StatesWait (p : Program) : Type 0 where
+  pub turn : (until : ℕ) (s : State) (fs : Forest) → ForestWaits fs → StageWaits (turn_taken p until s fs)
+  pub run : (ns : List ℤ) (steps until k : ℕ) → StageWaits (after p ns steps until k)
+
+abbrev pub GroupsWait : Type 0
+GroupsWait = (p : Program) → StatesWait p

@@ -20,7 +20,7 @@ ghost use Rattle.verse_meaning.specs.Laws.{
   ScopesEnd,
   UnfinishedGoesOn,
 };
-ghost use Rattle.verse_meaning.specs.RunLaws.{DepthEnough, LinesStay, StepsCounted};
+ghost use Rattle.verse_meaning.specs.RunLaws.{DepthEnough, GroupsWait, LinesStay, StepsCounted};
 
 /// What is evaluated with a failure context open leaves the tasks, waits and signals of all others
 /// as they were, and only steps are gone from the clock; an attempt that fails goes on with the
@@ -120,4 +120,10 @@ pub fn lines_stay()
 /// Each evaluation is the same at every depth that is no less than the steps that are left.
 pub fn depth_enough()
     ensures { DepthEnough }
+{}
+
+/// Between two turns no race and no rush has an arm with a value, and no sync has the values of all
+/// its arms, in no task, scope or background.
+pub fn groups_wait()
+    ensures { GroupsWait }
 {}
