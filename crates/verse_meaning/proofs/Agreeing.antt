@@ -99,8 +99,11 @@ module _ (l : ℕ) where
   pub denied_agrees : (w : World) (e : Env) (o o' : Outcome) → Agrees l w o o' →
       Agrees l w (attempted o w (λ e1 v u. failed (restored w.state.memory u.state)) (λ u. value e unit u)) (attempted o' w (λ e1 v u.
       failed (restored w.state.memory u.state)) (λ u. value e unit u))
-  denied_agrees w e o o' a h = (denied_follow steps_closed w e o (a h).0, ap (λ x. attempted x w (λ e1 v u. failed (restored
-      w.state.memory u.state)) (λ u. value e unit u)) (a h).1)
+  denied_agrees w e o o' a h = (
+    denied_follow steps_closed w e o (a h).0,
+    ap (λ x. attempted x w (λ e1 v u. failed (restored
+        w.state.memory u.state)) (λ u. value e unit u)) (a h).1,
+  )
 
   turned_alike : (s : State) (o : Outcome) (wrap : Residual → Residual) (e : Env) (go go' : World → Outcome) → Within l s →
       Reaches StepsStand s o → ((u : World) → Agrees l u (go u) (go' u)) → Alike s (turned o wrap e go) (turned o wrap e go')
@@ -188,8 +191,11 @@ module _ (l : ℕ) where
       Alike w.state (spends left w go) (spends left w go')
   unfolding spends
   spends_from zero w go go' e h f = here w h
-  spends_from (suc n) w go go' e h f = (reaches_then steps_closed w.state (stepped n w.state) _ (steps_closed.spends_one n w.state e) (f n
-      h).0, (f n h).1)
+  spends_from (suc n) w go go' e h f = (
+    reaches_then steps_closed w.state (stepped n w.state) _ (steps_closed.spends_one n w.state e) (f n
+        h).0,
+    (f n h).1,
+  )
 
   -- a step is spent
   pub spends_less : (w : World) (go go' : World → Outcome) → ((n : ℕ) → suc n ≤ l → Alike (stepped n w.state) (go (with_state w (stepped n

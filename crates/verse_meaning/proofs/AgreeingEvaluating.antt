@@ -128,7 +128,8 @@ module _ (l : ℕ) (p : Program) (k k' : Deeper) (d : DeeperAgrees l k k') where
   stands_agrees (Some x) m w o o' go go' a f = f x
 
   -- a race cancels its other arms before its value is used
-  pub settled_agrees : (kd : Kind) (pl : Place) (e : Env) (gs : Arms) (w : World) → Agrees l w (settled p k kd pl e gs w) (settled p k' kd pl e gs w)
+  pub settled_agrees : (kd : Kind) (pl : Place) (e : Env) (gs : Arms) (w : World) → Agrees l w (settled p k kd pl e gs w) (settled p k' kd
+      pl e gs w)
   unfolding settled
   settled_agrees all_of pl e gs w =
       stands_agrees (all_gave gs) true w _ _ _ _ (here w) (λ vs. alike (told_follow steps_closed w _ pl e (still_writes w.state _)))
@@ -136,7 +137,8 @@ module _ (l : ℕ) (p : Program) (k k' : Deeper) (d : DeeperAgrees l k k') where
       stands_agrees (first_gave gs) true w _ _ _ _ (here w) (λ v. on_went_agrees l w _ _ _ _ (arms_agrees gs
       w) (λ u. here u))
   settled_agrees rush_of pl e gs w =
-      stands_agrees (first_gave gs) true w _ _ _ _ (here w) (λ v. alike (subst (λ x. StepsStand w.state x) (sym (left_state gs w)) (steps_closed.same w.state)))
+      stands_agrees (first_gave gs) true w _ _ _ _ (here w) (λ v. alike (subst (λ x. StepsStand w.state x) (sym (left_state gs w))
+      (steps_closed.same w.state)))
 
   gave_agrees : (kd : Kind) (pl : Place) (e : Env) (gs : Arms) (w : World) (go go' : World → Outcome) → Agrees l w (go w) (go' w) →
       Agrees l w (arm_gave p k kd pl e gs w go) (arm_gave p k' kd pl e gs w go')
@@ -146,27 +148,34 @@ module _ (l : ℕ) (p : Program) (k k' : Deeper) (d : DeeperAgrees l k k') where
   gave_agrees rush_of pl e gs w go go' a = a
 
   begins_agrees : (w : World) (run run' : World → Outcome) (go go' : TaskOutcome → Outcome) → ((u : World) → Agrees l u (run u) (run' u)) →
-      ((u : World) (o o' : TaskOutcome) → AgreesTask l u o o' → Agrees l u (go o) (go' o')) → Agrees l w (begins_scope p k w run go) (begins_scope p k' w run' go')
+      ((u : World) (o o' : TaskOutcome) → AgreesTask l u o o' → Agrees l u (go o) (go' o')) → Agrees l w (begins_scope p k w run go)
+      (begins_scope p k' w run' go')
   unfolding begins_scope
   begins_agrees w run run' go go' f g = spends_agrees l w _ _ (λ u. g u _ _ (scope_agrees u part u.behind (run (set_behind u none)) (run'
       (set_behind u none)) (f (set_behind u none))))
 
-  stated_agrees : (x : Statement) (e : Env) (left : Trees) (m : Bool) (w : World) (whole whole' inner inner' : World → Outcome) (go go' : Env → Val → World →
+  stated_agrees : (x : Statement) (e : Env) (left : Trees) (m : Bool) (w : World) (whole whole' inner inner' : World → Outcome) (go go' :
+      Env → Val → World →
       Outcome) → ((u : World) → Agrees l u (whole u) (whole' u)) → ((u : World) → Agrees l u (inner u) (inner' u)) →
-      ((e : Env) (v : Val) (u : World) → Agrees l u (go e v u) (go' e v u)) → Agrees l w (stated p k x e left w whole inner go) (stated p k' x e left w whole' inner' go')
+      ((e : Env) (v : Val) (u : World) → Agrees l u (go e v u) (go' e v u)) → Agrees l w (stated p k x e left w whole inner go) (stated p k'
+      x e left w whole' inner' go')
   unfolding stated
   stated_agrees plain e left m w whole whole' inner inner' go go' f g h = valued_agrees l w _ _ _ _ _ (f w) (λ v u. h e v u)
   stated_agrees (defines b) e left m w whole whole' inner inner' go go' f g h =
       valued_agrees l w _ _ _ _ _ (g w) (λ v u. defined_agrees l p k k' d b e v m u go go' h)
-  stated_agrees (defers a) e left m w whole whole' inner inner' go go' f g h = closing_agrees l w _ _ _ _ _ e (h e unit w) (λ u. d.parts a e u)
+  stated_agrees (defers a) e left m w whole whole' inner inner' go go' f g h = closing_agrees l w _ _ _ _ _ e (h e unit w) (λ u. d.parts a e
+      u)
   stated_agrees (generates x) e left m w whole whole' inner inner' go go' f g h = here w
 
-  claused_agrees : (x : Statement) (e : Env) (m : Bool) (w : World) (whole whole' inner inner' : World → Outcome) (go go' : Env → Val → World → Outcome) →
+  claused_agrees : (x : Statement) (e : Env) (m : Bool) (w : World) (whole whole' inner inner' : World → Outcome) (go go' : Env → Val →
+      World → Outcome) →
       ((u : World) → Agrees l u (whole u) (whole' u)) → ((u : World) → Agrees l u (inner u) (inner' u)) →
-      ((e : Env) (v : Val) (u : World) → Agrees l u (go e v u) (go' e v u)) → Agrees l w (claused p k x e w whole inner go) (claused p k' x e w whole' inner' go')
+      ((e : Env) (v : Val) (u : World) → Agrees l u (go e v u) (go' e v u)) → Agrees l w (claused p k x e w whole inner go) (claused p k' x
+      e w whole' inner' go')
   unfolding claused
   claused_agrees plain e m w whole whole' inner inner' go go' f g h = valued_agrees l w _ _ _ _ _ (f w) (λ v u. h e v u)
-  claused_agrees (defines b) e m w whole whole' inner inner' go go' f g h = valued_agrees l w _ _ _ _ _ (g w) (λ v u. defined_agrees l p k k' d b e v m u go go' h)
+  claused_agrees (defines b) e m w whole whole' inner inner' go go' f g h = valued_agrees l w _ _ _ _ _ (g w) (λ v u. defined_agrees l p k
+      k' d b e v m u go go' h)
   claused_agrees (defers a) e m w whole whole' inner inner' go go' f g h = here w
   claused_agrees (generates x) e m w whole whole' inner inner' go go' f g h = valued_agrees l w _ _ _ _ _ (g w) (λ v u. here u)
 
@@ -178,16 +187,20 @@ module _ (l : ℕ) (p : Program) (k k' : Deeper) (d : DeeperAgrees l k k') where
 
   levelled_agrees : (x : Statement) (v : Val) (e : Env) (so_far : Val) (m : Bool) (w : World) (on_go on_go' : World →
       Outcome) (taken taken' : Generator → Val × Val → Val → World → Outcome) (wrap : Generator → Values → Residual → Residual) →
-      Agrees l w (on_go w) (on_go' w) → ((g : Generator) (x : Val × Val) (a : Val) (u : World) → Agrees l u (taken g x a u) (taken' g x a u)) →
+      Agrees l w (on_go w) (on_go' w) → ((g : Generator) (x : Val × Val) (a : Val) (u : World) → Agrees l u (taken g x a u) (taken' g x a
+      u)) →
       Agrees l w (levelled p k x v e so_far w on_go taken wrap) (levelled p k' x v e so_far w on_go' taken' wrap)
   unfolding levelled
   levelled_agrees plain v e so_far m w on_go on_go' taken taken' wrap a f = a
   levelled_agrees (defines b) v e so_far m w on_go on_go' taken taken' wrap a f = a
   levelled_agrees (defers b) v e so_far m w on_go on_go' taken taken' wrap a f = here w
-  levelled_agrees (generates g) v e so_far m w on_go on_go' taken taken' wrap a f = from_agrees g v e so_far m w (taken g) (taken' g) (wrap g) (f g)
+  levelled_agrees (generates g) v e so_far m w on_go on_go' taken taken' wrap a f = from_agrees g v e so_far m w (taken g) (taken' g) (wrap
+      g) (f g)
 
-  callee_agrees : (c : Callee) (m : Bool) (w : World) (f1 f1' f2 f2' f3 f3' f4 f4' : Form → World → Outcome) → ((f : Form) → Agrees l w (f1 f w) (f1' f w)) →
-      ((f : Form) → Agrees l w (f2 f w) (f2' f w)) → ((f : Form) → Agrees l w (f3 f w) (f3' f w)) → ((f : Form) → Agrees l w (f4 f w) (f4' f w)) →
+  callee_agrees : (c : Callee) (m : Bool) (w : World) (f1 f1' f2 f2' f3 f3' f4 f4' : Form → World → Outcome) → ((f : Form) → Agrees l w (f1
+      f w) (f1' f w)) →
+      ((f : Form) → Agrees l w (f2 f w) (f2' f w)) → ((f : Form) → Agrees l w (f3 f w) (f3' f w)) → ((f : Form) → Agrees l w (f4 f w) (f4' f
+      w)) →
       Agrees l w (by_callee p k c w f1 f2 f3 f4) (by_callee p k' c w f1' f2' f3' f4')
   unfolding by_callee
   callee_agrees (alone f) m w f1 f1' f2 f2' f3 f3' f4 f4' a b c d = a f
@@ -196,7 +209,8 @@ module _ (l : ℕ) (p : Program) (k k' : Deeper) (d : DeeperAgrees l k k') where
   callee_agrees (of_quotient f) m w f1 f1' f2 f2' f3 f3' f4 f4' a b c d = d f
   callee_agrees no_callee m w f1 f1' f2 f2' f3 f3' f4 f4' a b c d = here w
 
-  named_agrees : (r : Option Ref) (x : Bytes) (pl : Place) (m : Bool) (e : Env) (w : World) → Agrees l w (named p k r x pl e w) (named p k' r x pl e w)
+  named_agrees : (r : Option Ref) (x : Bytes) (pl : Place) (m : Bool) (e : Env) (w : World) → Agrees l w (named p k r x pl e w) (named p k'
+      r x pl e w)
   unfolding named
   named_agrees (Some (ref.Field c slot)) x pl m e w = alike (read_slot_follow steps_closed (this_of e) slot pl m e w)
   named_agrees r x pl m e w = alike (read_bound_follow steps_closed (look x e) pl m e w)
@@ -207,7 +221,8 @@ module _ (l : ℕ) (p : Program) (k k' : Deeper) (d : DeeperAgrees l k k') where
   membered_agrees (Some v) m e w go go' a = here w
   membered_agrees None m e w go go' a = a
 
-  bool_agrees : (b : Bool) (m : Bool) (w : World) (f f' g g' : Bool → Outcome) → Agrees l w (f true) (f' true) → Agrees l w (g false) (g' false) →
+  bool_agrees : (b : Bool) (m : Bool) (w : World) (f f' g g' : Bool → Outcome) → Agrees l w (f true) (f' true) → Agrees l w (g false) (g'
+      false) →
       Agrees l w (on_bool b f g) (on_bool b f' g')
   bool_agrees true m w f f' g g' x y = x
   bool_agrees false m w f f' g g' x y = y
@@ -216,7 +231,8 @@ module _ (l : ℕ) (p : Program) (k k' : Deeper) (d : DeeperAgrees l k k') where
     pub ev_agrees : (a : Tree) (m : Bool) (e : Env) (w : World) → Agrees l w (ev p k a m e w) (ev p k' a m e w)
     ev_agrees (tree n pl s) m e w = shape_agrees s n pl m e w
 
-    pub shape_agrees : (s : Shape) (n : ℕ) (pl : Place) (m : Bool) (e : Env) (w : World) → Agrees l w (ev_shape p k s n pl m e w) (ev_shape p k' s n pl m e w)
+    pub shape_agrees : (s : Shape) (n : ℕ) (pl : Place) (m : Bool) (e : Env) (w : World) → Agrees l w (ev_shape p k s n pl m e w) (ev_shape
+        p k' s n pl m e w)
     shape_agrees (t.Shape.block cs) n pl m e w = statements_agrees cs m e unit w
     shape_agrees (t.Shape.defer a) n pl m e w = here w
     shape_agrees (t.Shape.definition x a) n pl m e w = valued_agrees l w _ _ _ _ _ (ev_agrees a m e w) (λ v u. here u)
@@ -224,7 +240,8 @@ module _ (l : ℕ) (p : Program) (k k' : Deeper) (d : DeeperAgrees l k k') where
     shape_agrees (t.Shape.variable x ty a) n pl m e w =
         valued_agrees l w _ _ _ _ _ (ev_agrees a m e w) (λ v u. apply_agrees l p k k' d (form.varying pl) (v ∷ []) m e u)
     shape_agrees (t.Shape.assignment x a b) n pl m e w =
-        targets_agrees a (form.storing (base_of p a) (mode_of x) pl) (b ∷ []) m e w _ _ (λ vs u. valued_agrees l u _ _ _ _ _ (ev_agrees b m e u)
+        targets_agrees a (form.storing (base_of p a) (mode_of x) pl) (b ∷ []) m e w _ _ (λ vs u. valued_agrees l u _ _ _ _ _ (ev_agrees b m
+        e u)
         (λ v z. apply_agrees l p k k' d (form.storing (base_of p a) (mode_of x) pl) (vs ++ v ∷ []) m e z))
     shape_agrees (t.Shape.returned a) n pl m e w = valued_agrees l w _ _ _ _ _ (ev_agrees a m e w) (λ v u. here u)
     shape_agrees t.Shape.returned_unit n pl m e w = here w
@@ -236,32 +253,39 @@ module _ (l : ℕ) (p : Program) (k k' : Deeper) (d : DeeperAgrees l k k') where
     shape_agrees (t.Shape.negation a) n pl m e w =
         denied_agrees l w e _ _ (ev_agrees a false e w)
     shape_agrees (t.Shape.option cs) n pl m e w =
-        attempted_agrees l w _ _ _ _ _ _ (statements_agrees cs false e unit w) (λ e1 v u. alike (told_follow steps_closed u _ pl e (still_writes u.state _))) (λ u. here u)
+        attempted_agrees l w _ _ _ _ _ _ (statements_agrees cs false e unit w) (λ e1 v u. alike (told_follow steps_closed u _ pl e
+        (still_writes u.state _))) (λ u. here u)
     shape_agrees (t.Shape.logic cs) n pl m e w =
         attempted_agrees l w _ _ _ _ _ _ (statements_agrees cs false e unit w) (λ e v u. here u) (λ u. here u)
     shape_agrees (t.Shape.chained op.Or a b) n pl m e w =
         attempted_agrees l w _ _ _ _ _ _ (ev_agrees a false e w) (λ e v u. here u) (λ u. ev_agrees b m e u)
     shape_agrees (t.Shape.for_form cs a) n pl m e w =
-        attempted_agrees l w _ _ _ _ _ _ (clauses_agrees cs false e unit w) (λ e1 v u. level_agrees cs a _ _ pl e1 v _ m u (λ e u. ev_agrees a m e
+        attempted_agrees l w _ _ _ _ _ _ (clauses_agrees cs false e unit w) (λ e1 v u. level_agrees cs a _ _ pl e1 v _ m u (λ e u. ev_agrees
+        a m e
         u)) (λ u. here u)
     shape_agrees (t.Shape.chained op.Div a b) n pl m e w = here w
     shape_agrees (t.Shape.chained x a b) n pl m e w =
-        valued_agrees l w _ _ _ _ _ (ev_agrees a m e w) (λ v u. valued_agrees l u _ _ _ _ _ (ev_agrees b m e u) (λ y z. apply_agrees l p k k' d
+        valued_agrees l w _ _ _ _ _ (ev_agrees a m e w) (λ v u. valued_agrees l u _ _ _ _ _ (ev_agrees b m e u) (λ y z. apply_agrees l p k
+        k' d
         (form.computing x (p.is_array n) pl) (v ∷ y ∷ []) m e z))
     shape_agrees (t.Shape.compared x a b) n pl m e w =
-        valued_agrees l w _ _ _ _ _ (ev_agrees a m e w) (λ v u. valued_agrees l u _ _ _ _ _ (ev_agrees b m e u) (λ y z. apply_agrees l p k k' d
+        valued_agrees l w _ _ _ _ _ (ev_agrees a m e w) (λ v u. valued_agrees l u _ _ _ _ _ (ev_agrees b m e u) (λ y z. apply_agrees l p k
+        k' d
         (form.comparing x) (v ∷ y ∷ []) m e z))
     shape_agrees (t.Shape.minus a) n pl m e w =
         valued_agrees l w _ _ _ _ _ (ev_agrees a m e w) (λ v u. apply_agrees l p k k' d (form.negating pl) (v ∷ []) m e u)
     shape_agrees (t.Shape.query a) n pl m e w =
         valued_agrees l w _ _ _ _ _ (ev_agrees a m e w) (λ v u. apply_agrees l p k k' d form.querying (v ∷ []) m e u)
     shape_agrees (t.Shape.member a x) n pl m e w =
-        membered_agrees (enum_member p a x) m e w _ _ (valued_agrees l w _ _ _ _ _ (ev_agrees a m e w) (λ v u. apply_agrees l p k k' d (member_form (ref_at p n)
+        membered_agrees (enum_member p a x) m e w _ _ (valued_agrees l w _ _ _ _ _ (ev_agrees a m e w) (λ v u. apply_agrees l p k k' d
+        (member_form (ref_at p n)
         x) (v ∷ []) m e u))
-    shape_agrees (t.Shape.call a ts) n pl m e w = callee_agrees (callee_of p a (picked ts) pl) m w _ _ _ _ _ _ _ _ (λ f. args_agrees ts f [] m e w)
+    shape_agrees (t.Shape.call a ts) n pl m e w = callee_agrees (callee_of p a (picked ts) pl) m w _ _ _ _ _ _ _ _ (λ f. args_agrees ts f []
+        m e w)
         (λ f. valued_agrees l w _ _ _ _ _ (inner_agrees a m e w) (λ v u. args_agrees ts f (v ∷ []) m e u)) (λ f. valued_agrees l w _ _ _ _ _
         (ev_agrees a m e w) (λ v u. apply_agrees l p k k' d f (v ∷ []) m e u)) (λ f. quotient_agrees ts f m e w)
-    shape_agrees (t.Shape.index a ts) n pl m e w = callee_agrees (callee_of p a form.indexing pl) m w _ _ _ _ _ _ _ _ (λ f. args_agrees ts f [] m e w)
+    shape_agrees (t.Shape.index a ts) n pl m e w = callee_agrees (callee_of p a form.indexing pl) m w _ _ _ _ _ _ _ _ (λ f. args_agrees ts f
+        [] m e w)
         (λ f. valued_agrees l w _ _ _ _ _ (inner_agrees a m e w) (λ v u. args_agrees ts f (v ∷ []) m e u)) (λ f. valued_agrees l w _ _ _ _ _
         (ev_agrees a m e w) (λ v u. args_agrees ts f (v ∷ []) m e u)) (λ f. quotient_agrees ts f m e w)
     shape_agrees (t.Shape.integer z) n pl m e w = here w
@@ -291,10 +315,12 @@ module _ (l : ℕ) (p : Program) (k k' : Deeper) (d : DeeperAgrees l k k') where
     shape_agrees t.Shape.sleep_forever n pl m e w = outside_agrees l m w _ _ (alike (suspended_follow steps_closed never e w))
     shape_agrees s n pl m e w = here w
 
-    pub statements_agrees : (cs : Trees) (m : Bool) (e : Env) (last : Val) (w : World) → Agrees l w (statements p k cs m e last w) (statements p k' cs m e last w)
+    pub statements_agrees : (cs : Trees) (m : Bool) (e : Env) (last : Val) (w : World) → Agrees l w (statements p k cs m e last w)
+        (statements p k' cs m e last w)
     statements_agrees no_trees m e last w = here w
     statements_agrees (more_trees a cs) m e last w =
-        stated_agrees (statement_of a) e cs m w _ _ _ _ _ _ (λ u. ev_agrees a m e u) (λ u. inner_agrees a m e u) (λ e v u. statements_agrees cs m e v
+        stated_agrees (statement_of a) e cs m w _ _ _ _ _ _ (λ u. ev_agrees a m e u) (λ u. inner_agrees a m e u) (λ e v u. statements_agrees
+        cs m e v
         u)
 
     pub inner_agrees : (a : Tree) (m : Bool) (e : Env) (w : World) → Agrees l w (inner p k a m e w) (inner p k' a m e w)
@@ -311,91 +337,120 @@ module _ (l : ℕ) (p : Program) (k k' : Deeper) (d : DeeperAgrees l k k') where
         valued_agrees l w _ _ _ _ _ (ev_agrees a m e w) (λ v u. valued_agrees l u _ _ _ _ _ (ev_agrees b m e u) (λ y z. here z))
     inner_shape_agrees s m e w = here w
 
-    pub args_agrees : (ts : Trees) (f : Form) (vs : List Val) (m : Bool) (e : Env) (w : World) → Agrees l w (all_args p k ts f vs m e w) (all_args p k' ts f vs m e w)
+    pub args_agrees : (ts : Trees) (f : Form) (vs : List Val) (m : Bool) (e : Env) (w : World) → Agrees l w (all_args p k ts f vs m e w)
+        (all_args p k' ts f vs m e w)
     args_agrees no_trees f vs m e w = apply_agrees l p k k' d f vs m e w
-    args_agrees (more_trees a ts) f vs m e w = valued_agrees l w _ _ _ _ _ (ev_agrees a m e w) (λ v u. args_agrees ts f (vs ++ v ∷ []) m e u)
+    args_agrees (more_trees a ts) f vs m e w = valued_agrees l w _ _ _ _ _ (ev_agrees a m e w) (λ v u. args_agrees ts f (vs ++ v ∷ []) m e
+        u)
 
-    pub holes_agrees : (hs : Holes) (f : Form) (vs : List Val) (m : Bool) (e : Env) (w : World) → Agrees l w (holed p k hs f vs m e w) (holed p k' hs f vs m e w)
+    pub holes_agrees : (hs : Holes) (f : Form) (vs : List Val) (m : Bool) (e : Env) (w : World) → Agrees l w (holed p k hs f vs m e w)
+        (holed p k' hs f vs m e w)
     holes_agrees no_holes f vs m e w = apply_agrees l p k k' d f vs m e w
-    holes_agrees (more_holes a bs hs) f vs m e w = valued_agrees l w _ _ _ _ _ (ev_agrees a m e w) (λ v u. holes_agrees hs f (vs ++ v ∷ []) m e u)
+    holes_agrees (more_holes a bs hs) f vs m e w = valued_agrees l w _ _ _ _ _ (ev_agrees a m e w) (λ v u. holes_agrees hs f (vs ++ v ∷ [])
+        m e u)
 
-    pub pairs_agrees : (ps : t.Pairs) (f : Form) (vs : List Val) (m : Bool) (e : Env) (w : World) → Agrees l w (paired_args p k ps f vs m e w) (paired_args p k' ps f vs m e w)
+    pub pairs_agrees : (ps : t.Pairs) (f : Form) (vs : List Val) (m : Bool) (e : Env) (w : World) → Agrees l w (paired_args p k ps f vs m e
+        w) (paired_args p k' ps f vs m e w)
     pairs_agrees t.Pairs.no_pairs f vs m e w = apply_agrees l p k k' d f vs m e w
     pairs_agrees (t.Pairs.more_pairs a b ps) f vs m e w =
-        valued_agrees l w _ _ _ _ _ (ev_agrees a m e w) (λ x u. valued_agrees l u _ _ _ _ _ (ev_agrees b m e u) (λ y z. pairs_agrees ps f (vs ++ x ∷
+        valued_agrees l w _ _ _ _ _ (ev_agrees a m e w) (λ x u. valued_agrees l u _ _ _ _ _ (ev_agrees b m e u) (λ y z. pairs_agrees ps f
+        (vs ++ x ∷
         y ∷ []) m e z))
 
-    pub givens_agrees : (gs : Givens) (f : Form) (vs : List Val) (m : Bool) (e : Env) (w : World) → Agrees l w (given_args p k gs f vs m e w) (given_args p k' gs f vs m e w)
+    pub givens_agrees : (gs : Givens) (f : Form) (vs : List Val) (m : Bool) (e : Env) (w : World) → Agrees l w (given_args p k gs f vs m e
+        w) (given_args p k' gs f vs m e w)
     givens_agrees no_givens f vs m e w = apply_agrees l p k k' d f vs m e w
-    givens_agrees (more_givens x a gs) f vs m e w = valued_agrees l w _ _ _ _ _ (ev_agrees a m e w) (λ v u. givens_agrees gs f (vs ++ v ∷ []) m e u)
+    givens_agrees (more_givens x a gs) f vs m e w = valued_agrees l w _ _ _ _ _ (ev_agrees a m e w) (λ v u. givens_agrees gs f (vs ++ v ∷
+        []) m e u)
 
-    pub quotient_agrees : (ts : Trees) (f : Form) (m : Bool) (e : Env) (w : World) → Agrees l w (quotient p k ts f m e w) (quotient p k' ts f m e w)
+    pub quotient_agrees : (ts : Trees) (f : Form) (m : Bool) (e : Env) (w : World) → Agrees l w (quotient p k ts f m e w) (quotient p k' ts
+        f m e w)
     quotient_agrees no_trees f m e w = here w
     quotient_agrees (more_trees a ts) f m e w = quotient_tree_agrees a f m e w
 
-    pub quotient_tree_agrees : (a : Tree) (f : Form) (m : Bool) (e : Env) (w : World) → Agrees l w (quotient_tree p k a f m e w) (quotient_tree p k' a f m e w)
+    pub quotient_tree_agrees : (a : Tree) (f : Form) (m : Bool) (e : Env) (w : World) → Agrees l w (quotient_tree p k a f m e w)
+        (quotient_tree p k' a f m e w)
     quotient_tree_agrees (tree n pl s) f m e w = quotient_shape_agrees s f m e w
 
-    pub quotient_shape_agrees : (s : Shape) (f : Form) (m : Bool) (e : Env) (w : World) → Agrees l w (quotient_shape p k s f m e w) (quotient_shape p k' s f m e w)
+    pub quotient_shape_agrees : (s : Shape) (f : Form) (m : Bool) (e : Env) (w : World) → Agrees l w (quotient_shape p k s f m e w)
+        (quotient_shape p k' s f m e w)
     quotient_shape_agrees (t.Shape.chained x a b) f m e w =
-        valued_agrees l w _ _ _ _ _ (ev_agrees a m e w) (λ v u. valued_agrees l u _ _ _ _ _ (ev_agrees b m e u) (λ y z. apply_agrees l p k k' d f (v ∷ y
+        valued_agrees l w _ _ _ _ _ (ev_agrees a m e w) (λ v u. valued_agrees l u _ _ _ _ _ (ev_agrees b m e u) (λ y z. apply_agrees l p k
+        k' d f (v ∷ y
         ∷ []) m e z))
     quotient_shape_agrees s f m e w = here w
 
     pub targets_agrees : (a : Tree) (f : Form) (left : List Tree) (m : Bool) (e : Env) (w : World) (go go' : List Val → World → Outcome) →
-        ((vs : List Val) (u : World) → Agrees l u (go vs u) (go' vs u)) → Agrees l w (targets p k a f left m e w go) (targets p k' a f left m e w go')
+        ((vs : List Val) (u : World) → Agrees l u (go vs u) (go' vs u)) → Agrees l w (targets p k a f left m e w go) (targets p k' a f left
+        m e w go')
     targets_agrees (tree n pl s) f left m e w go go' g = targets_shape_agrees s f left m e w go go' g
 
     pub targets_shape_agrees : (s : Shape) (f : Form) (left : List Tree) (m : Bool) (e : Env) (w : World) (go go' : List Val → World →
-        Outcome) → ((vs : List Val) (u : World) → Agrees l u (go vs u) (go' vs u)) → Agrees l w (targets_shape p k s f left m e w go) (targets_shape p k' s f left m e w go')
+        Outcome) → ((vs : List Val) (u : World) → Agrees l u (go vs u) (go' vs u)) → Agrees l w (targets_shape p k s f left m e w go)
+        (targets_shape p k' s f left m e w go')
     targets_shape_agrees (t.Shape.name x) f left m e w go go' g = g [] w
     targets_shape_agrees (t.Shape.member a x) f left m e w go go' g = valued_agrees l w _ _ _ _ _ (ev_agrees a m e w) (λ v u. g (v ∷ []) u)
-    targets_shape_agrees (t.Shape.index a ts) f left m e w go go' g = targets_agrees a f _ m e w _ _ (λ vs u. indices_agrees ts f vs left m e u go go' g)
+    targets_shape_agrees (t.Shape.index a ts) f left m e w go go' g = targets_agrees a f _ m e w _ _ (λ vs u. indices_agrees ts f vs left m
+        e u go go' g)
     targets_shape_agrees s f left m e w go go' g = here w
 
     pub indices_agrees : (ts : Trees) (f : Form) (vs : List Val) (left : List Tree) (m : Bool) (e : Env) (w : World) (go go' : List Val →
-        World → Outcome) → ((vs : List Val) (u : World) → Agrees l u (go vs u) (go' vs u)) → Agrees l w (indices p k ts f vs left m e w go) (indices p k' ts f vs left m e w go')
+        World → Outcome) → ((vs : List Val) (u : World) → Agrees l u (go vs u) (go' vs u)) → Agrees l w (indices p k ts f vs left m e w go)
+        (indices p k' ts f vs left m e w go')
     indices_agrees no_trees f vs left m e w go go' g = g vs w
     indices_agrees (more_trees a ts) f vs left m e w go go' g =
         valued_agrees l w _ _ _ _ _ (ev_agrees a m e w) (λ v u. indices_agrees ts f (vs ++ v ∷ []) left m e u go go' g)
 
-    pub clauses_agrees : (cs : Trees) (m : Bool) (e : Env) (last : Val) (w : World) → Agrees l w (clauses p k cs m e last w) (clauses p k' cs m e last w)
+    pub clauses_agrees : (cs : Trees) (m : Bool) (e : Env) (last : Val) (w : World) → Agrees l w (clauses p k cs m e last w) (clauses p k'
+        cs m e last w)
     clauses_agrees no_trees m e last w = here w
     clauses_agrees (more_trees a cs) m e last w =
-        claused_agrees (statement_of a) e m w _ _ _ _ _ _ (λ u. ev_agrees a m e u) (λ u. inner_agrees a m e u) (λ e v u. clauses_agrees cs m e v u)
+        claused_agrees (statement_of a) e m w _ _ _ _ _ _ (λ u. ev_agrees a m e u) (λ u. inner_agrees a m e u) (λ e v u. clauses_agrees cs m
+        e v u)
 
     pub level_agrees : (cs : Trees) (a : Tree) (run run' : Env → World →
-        Outcome) (pl : Place) (e : Env) (v so_far : Val) (m : Bool) (w : World) → ((e : Env) (u : World) → Agrees l u (run e u) (run' e u)) →
+        Outcome) (pl : Place) (e : Env) (v so_far : Val) (m : Bool) (w : World) → ((e : Env) (u : World) → Agrees l u (run e u) (run' e u))
+        →
         Agrees l w (level p k cs a run pl e v so_far w) (level p k' cs a run' pl e v so_far w)
-    level_agrees no_trees a run run' pl e v so_far m w f = valued_agrees l w _ _ _ _ _ (f e w) (λ y u. alike (told_follow steps_closed u _ pl e (still_writes u.state _)))
+    level_agrees no_trees a run run' pl e v so_far m w f = valued_agrees l w _ _ _ _ _ (f e w) (λ y u. alike (told_follow steps_closed u _
+        pl e (still_writes u.state _)))
     level_agrees (more_trees c cs) a run run' pl e v so_far m w f =
         levelled_agrees (statement_of c) v e so_far m w _ _ _ _ _ (level_agrees cs a run run' pl e v so_far m w f)
-        (λ g x so_far u. attempted_agrees l u _ _ _ _ _ _ (clauses_agrees cs false _ unit u) (λ e1 y z. level_agrees cs a run run' pl e1 y so_far m z
+        (λ g x so_far u. attempted_agrees l u _ _ _ _ _ _ (clauses_agrees cs false _ unit u) (λ e1 y z. level_agrees cs a run run' pl e1 y
+        so_far m z
         f) (λ z. here z))
 
-    pub chosen_agrees : (ts : Trees) (v : Val) (m : Bool) (e : Env) (w : World) → Agrees l w (chosen p k ts v m e w) (chosen p k' ts v m e w)
+    pub chosen_agrees : (ts : Trees) (v : Val) (m : Bool) (e : Env) (w : World) → Agrees l w (chosen p k ts v m e w) (chosen p k' ts v m e
+        w)
     chosen_agrees no_trees v m e w = here w
     chosen_agrees (more_trees a ts) v m e w = arm_agrees a (none_left ts) v m e w _ _ (chosen_agrees ts v m e w)
 
-    pub arm_agrees : (a : Tree) (last : Bool) (v : Val) (m : Bool) (e : Env) (w : World) (go go' : World → Outcome) → Agrees l w (go w) (go' w) →
+    pub arm_agrees : (a : Tree) (last : Bool) (v : Val) (m : Bool) (e : Env) (w : World) (go go' : World → Outcome) → Agrees l w (go w) (go'
+        w) →
         Agrees l w (arm_of p k a last v m e w go) (arm_of p k' a last v m e w go')
     arm_agrees (tree n pl s) last v m e w go go' g = arm_shape_agrees s last v m e w go go' g
 
-    pub arm_shape_agrees : (s : Shape) (last : Bool) (v : Val) (m : Bool) (e : Env) (w : World) (go go' : World → Outcome) → Agrees l w (go w) (go' w) →
+    pub arm_shape_agrees : (s : Shape) (last : Bool) (v : Val) (m : Bool) (e : Env) (w : World) (go go' : World → Outcome) → Agrees l w (go
+        w) (go' w) →
         Agrees l w (arm_of_shape p k s last v m e w go) (arm_of_shape p k' s last v m e w go')
-    arm_shape_agrees (t.Shape.arm a b) last v m e w go go' g = bool_agrees (cond last true (pattern_fits p a v)) m w _ _ _ _ (ev_agrees b m e w) g
+    arm_shape_agrees (t.Shape.arm a b) last v m e w go go' g = bool_agrees (cond last true (pattern_fits p a v)) m w _ _ _ _ (ev_agrees b m
+        e w) g
     arm_shape_agrees s last v m e w go go' g = here w
 
-    pub started_agrees : (kd : Kind) (pl : Place) (ts : Trees) (e : Env) (gs : Arms) (w : World) → Agrees l w (started p k kd pl ts e gs w) (started p k' kd pl ts e gs w)
+    pub started_agrees : (kd : Kind) (pl : Place) (ts : Trees) (e : Env) (gs : Arms) (w : World) → Agrees l w (started p k kd pl ts e gs w)
+        (started p k' kd pl ts e gs w)
     started_agrees kd pl no_trees e gs w = settled_agrees kd pl e gs w
-    started_agrees kd pl (more_trees a ts) e gs w = begins_agrees w _ _ _ _ (λ u. ev_agrees a true e u) (λ u o o' h. armed_agrees l u o o' _ _ _ _ h
-        (λ v z. gave_agrees kd pl e (with_arm gs (gave v no_arms)) z _ _ (started_agrees kd pl ts e (with_arm gs (gave v no_arms)) z)) (λ s z.
+    started_agrees kd pl (more_trees a ts) e gs w = begins_agrees w _ _ _ _ (λ u. ev_agrees a true e u) (λ u o o' h. armed_agrees l u o o' _
+        _ _ _ h
+        (λ v z. gave_agrees kd pl e (with_arm gs (gave v no_arms)) z _ _ (started_agrees kd pl ts e (with_arm gs (gave v no_arms)) z)) (λ s
+        z.
         started_agrees kd pl ts e (with_arm gs (runs s no_arms)) z))
 
     pub spawn_agrees : (a : Tree) (m : Bool) (e : Env) (w : World) → Agrees l w (spawned p k a m e w) (spawned p k' a m e w)
     spawn_agrees (tree n pl s) m e w = spawn_shape_agrees s pl m e w
 
-    pub spawn_shape_agrees : (s : Shape) (pl : Place) (m : Bool) (e : Env) (w : World) → Agrees l w (spawned_shape p k s pl m e w) (spawned_shape p k' s pl m e w)
+    pub spawn_shape_agrees : (s : Shape) (pl : Place) (m : Bool) (e : Env) (w : World) → Agrees l w (spawned_shape p k s pl m e w)
+        (spawned_shape p k' s pl m e w)
     spawn_shape_agrees (t.Shape.call a ts) pl m e w =
         callee_agrees (spawned_callee (callee_of p a (form.picking None) pl)) m w _ _ _ _ _ _ _ _ (λ f. args_agrees ts f [] m e w)
         (λ f. valued_agrees l w _ _ _ _ _ (inner_agrees a m e w) (λ v u. args_agrees ts f (v ∷ []) m e u)) (λ f. here w) (λ f. here w)

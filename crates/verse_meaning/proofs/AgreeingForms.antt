@@ -22,12 +22,15 @@ use Rattle.verse_meaning.proofs.Counting.{steps_closed}
 
 -- what is begun by a step
 pub record DeeperAgrees (l : ℕ) (k k' : Deeper) : Type 0 where
-  pub calls : (f : ℕ) (o : Option Val) (vs : List Val) (m : Bool) (e : Env) (w : World) → Agrees l w (k.calls f o vs m e w) (k'.calls f o vs m e w)
+  pub calls : (f : ℕ) (o : Option Val) (vs : List Val) (m : Bool) (e : Env) (w : World) → Agrees l w (k.calls f o vs m e w) (k'.calls f o vs
+      m e w)
   pub spawns : (f : ℕ) (o : Option Val) (vs : List Val) (e : Env) (w : World) → Agrees l w (k.spawns f o vs e w) (k'.spawns f o vs e w)
-  pub loops : (m : Bool) (go go' : World → Outcome) (wrap : Residual → Residual) (e : Env) (w : World) → ((u : World) → Agrees l u (go u) (go' u)) →
+  pub loops : (m : Bool) (go go' : World → Outcome) (wrap : Residual → Residual) (e : Env) (w : World) → ((u : World) → Agrees l u (go u)
+      (go' u)) →
       Agrees l w (k.loops go wrap e w) (k'.loops go' wrap e w)
   pub takes : (m : Bool) (go go' : Val × Val → Val → World → Outcome) (wrap : Values → Residual →
-      Residual) (e : Env) (vs : Values) (so_far : Val) (w : World) → ((x : Val × Val) (a : Val) (u : World) → Agrees l u (go x a u) (go' x a u)) →
+      Residual) (e : Env) (vs : Values) (so_far : Val) (w : World) → ((x : Val × Val) (a : Val) (u : World) → Agrees l u (go x a u) (go' x a
+      u)) →
       Agrees l w (k.takes go wrap e vs so_far w) (k'.takes go' wrap e vs so_far w)
   pub parts : (a : Tree) (e : Env) (w : World) → Agrees l w (k.parts a e w) (k'.parts a e w)
   pub defaults : (a : Tree) (m : Bool) (e : Env) (w : World) → Agrees l w (k.defaults a m e w) (k'.defaults a m e w)
@@ -48,30 +51,36 @@ module _ (l : ℕ) (p : Program) (k k' : Deeper) (d : DeeperAgrees l k k') where
   stored_agrees (in_object slot) (o ∷ vs) mode pl m e w = to_agrees (Some o) slot vs mode pl m e w
   stored_agrees nowhere vs mode pl m e w = here w
 
-  field_agrees : (v : Option Val) (a : Option Tree) (m : Bool) (e : Env) (w : World) (wrap : Residual → Residual) (go go' : Val → World → Outcome) → ((v : Val) (u : World) →
+  field_agrees : (v : Option Val) (a : Option Tree) (m : Bool) (e : Env) (w : World) (wrap : Residual → Residual) (go go' : Val → World →
+      Outcome) → ((v : Val) (u : World) →
       Agrees l u (go v u) (go' v u)) → Agrees l w (field_filled p k v a m e w wrap go) (field_filled p k' v a m e w wrap go')
   field_agrees (Some v) a m e w wrap go go' f = f v w
   field_agrees None None m e w wrap go go' f = here w
   field_agrees None (Some a) m e w wrap go go' f = valued_agrees l w _ _ wrap go go' (d.defaults a m e w) (λ v u. f v u)
 
-  pub filled_agrees : (fs : List FieldTree) (xs : List Bytes) (vs : List Val) (class : ℕ) (slots : List Val) (pl : Place) (m : Bool) (e : Env)
+  pub filled_agrees : (fs : List FieldTree) (xs : List Bytes) (vs : List Val) (class : ℕ) (slots : List Val) (pl : Place) (m : Bool) (e :
+      Env)
       (w : World) → Agrees l w (filled p k fs xs vs class slots pl m e w) (filled p k' fs xs vs class slots pl m e w)
   filled_agrees [] xs vs class slots pl m e w = alike (told_follow steps_closed w _ pl e (added_writes w.state _ _))
   filled_agrees (f ∷ fs) xs vs class slots pl m e w =
       field_agrees (given_at f.name xs vs) f.default m e w _ _ _ (λ v u. filled_agrees fs xs vs class (slots ++ v ∷ []) pl m e u)
 
-  called_agrees : (f : ℕ) (o : Val) (vs : List Val) (m : Bool) (e : Env) (w : World) → Agrees l w (method_called p k f o vs m e w) (method_called p k' f o vs m e w)
+  called_agrees : (f : ℕ) (o : Val) (vs : List Val) (m : Bool) (e : Env) (w : World) → Agrees l w (method_called p k f o vs m e w)
+      (method_called p k' f o vs m e w)
   called_agrees f o vs m e w = there_agrees l w (method_found p k (class_of o w.state) f) _ _ (λ g. d.calls g (Some o) vs m e w)
 
-  spawned_agrees : (f : ℕ) (o : Val) (vs : List Val) (e : Env) (w : World) → Agrees l w (method_spawned p k f o vs e w) (method_spawned p k' f o vs e w)
+  spawned_agrees : (f : ℕ) (o : Val) (vs : List Val) (e : Env) (w : World) → Agrees l w (method_spawned p k f o vs e w) (method_spawned p k'
+      f o vs e w)
   spawned_agrees f o vs e w = there_agrees l w (method_found p k (class_of o w.state) f) _ _ (λ g. d.spawns g (Some o) vs e w)
 
-  task_awaited_agrees : (r : Option (Option Given)) (entry : ℕ) (e : Env) (w : World) → Agrees l w (task_awaited p k r entry e w) (task_awaited p k' r entry e w)
+  task_awaited_agrees : (r : Option (Option Given)) (entry : ℕ) (e : Env) (w : World) → Agrees l w (task_awaited p k r entry e w)
+      (task_awaited p k' r entry e w)
   task_awaited_agrees None entry e w = here w
   task_awaited_agrees (Some None) entry e w = alike (suspended_follow steps_closed (done entry) e w)
   task_awaited_agrees (Some (Some g)) entry e w = here w
 
-  event_agrees : (c : Option ℕ) (e : Env) (w : World) → Agrees l w (if_there c w (λ c. suspended (heard c) e w)) (if_there c w (λ c. suspended (heard c) e w))
+  event_agrees : (c : Option ℕ) (e : Env) (w : World) → Agrees l w (if_there c w (λ c. suspended (heard c) e w)) (if_there c w (λ c.
+      suspended (heard c) e w))
   event_agrees c e w = there_agrees l w c _ _ (λ c. alike (suspended_follow steps_closed (heard c) e w))
 
   awaited_agrees : (t : Bool) (v : Val) (e : Env) (w : World) → Agrees l w (awaited p k t v e w) (awaited p k' t v e w)

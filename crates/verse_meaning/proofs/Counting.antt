@@ -1,5 +1,28 @@
 -- Steps and lines, of turns and whole runs.
-use Rattle.std.proofs.Common.{◌≡◌, ◌+◌, ◌≤◌, nat_lt, ℤ, ℕ, zero, suc, List, [], ◌∷◌, ◌++◌, Option, Some, None, Bool, true, false, cond, refl, sym, subst}
+use Rattle.std.proofs.Common.{
+  ◌≡◌,
+  ◌+◌,
+  ◌≤◌,
+  nat_lt,
+  ℤ,
+  ℕ,
+  zero,
+  suc,
+  List,
+  [],
+  ◌∷◌,
+  ◌++◌,
+  Option,
+  Some,
+  None,
+  Bool,
+  true,
+  false,
+  cond,
+  refl,
+  sym,
+  subst,
+}
 use Rattle.std.proofs.Math.Path.{ap, ◌∙◌}
 use Rattle.std.proofs.Math.Nat.{le_refl, le_trans, le-suc, add-suc, suc-add}
 use Rattle.verse_tree.specs.ItemTree.{FunTree}

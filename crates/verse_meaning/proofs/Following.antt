@@ -220,7 +220,8 @@ module _ {R : State → State → Type 0} (c : Closed R) where
       reaches_then s u.state (ran (run u) (λ w. value e v w)) a (ran_follow u.state (run u) (λ w. value e v w) (f u) (λ x. c.same x.state))
   closing_follow s (failed t) run wrap e a f = a
   closing_follow s (returned v u) run wrap e a f =
-      reaches_then s u.state (ran (run u) (λ w. returned v w)) a (ran_follow u.state (run u) (λ w. returned v w) (f u) (λ x. c.same x.state))
+      reaches_then s u.state (ran (run u) (λ w. returned v w)) a (ran_follow u.state (run u) (λ w. returned v w) (f u) (λ x. c.same
+      x.state))
   closing_follow s (broke u) run wrap e a f =
       reaches_then s u.state (ran (run u) (λ w. broke w)) a (ran_follow u.state (run u) (λ w. broke w) (f u) (λ x. c.same x.state))
   closing_follow s (halted h) run wrap e a f = a

@@ -70,14 +70,16 @@ module _ {R : State → State → Type 0} (cl : Closed R) (p : Program) (k : Dee
     pub behind_follow : (bs : Scopes) (w : World) → ReachesWent R w.state (cancel_behind p k bs w)
     behind_follow none w = cl.same w.state
     behind_follow (also s bs) w =
-        went_on_follow cl w.state (cancel_behind p k bs w) _ (behind_follow bs w) (λ u. went_on_follow cl u.state (cancel_scope_kids p k s u) _ (scope_kids_follow
+        went_on_follow cl w.state (cancel_behind p k bs w) _ (behind_follow bs w) (λ u. went_on_follow cl u.state (cancel_scope_kids p k s
+        u) _ (scope_kids_follow
         s u) (λ x. scope_own_follow s x))
 
     pub arms_follow : (gs : Arms) (w : World) → ReachesWent R w.state (cancel_arms p k gs w)
     arms_follow no_arms w = cl.same w.state
     arms_follow (gave v gs) w = arms_follow gs w
     arms_follow (runs s gs) w =
-        went_on_follow cl w.state (cancel_arms p k gs w) _ (arms_follow gs w) (λ u. went_on_follow cl u.state (cancel_scope_kids p k s u) _ (scope_kids_follow s
+        went_on_follow cl w.state (cancel_arms p k gs w) _ (arms_follow gs w) (λ u. went_on_follow cl u.state (cancel_scope_kids p k s u) _
+        (scope_kids_follow s
         u) (λ x. scope_own_follow s x))
 
   -- the end of a scope
@@ -163,7 +165,8 @@ module _ {R : State → State → Type 0} (cl : Closed R) (p : Program) (k : Dee
       ((e : Env) (v : Val) (u : World) → Reaches R u.state (go e v u)) → Reaches R w.state (claused p k x e w whole inner go)
   unfolding claused
   claused_follow plain e m w whole inner go f g h = valued_follow cl w.state (whole w) _ _ (f w) (λ v u. h e v u)
-  claused_follow (defines b) e m w whole inner go f g h = valued_follow cl w.state (inner w) _ _ (g w) (λ v u. defined_follow cl p k d b e v m u go h)
+  claused_follow (defines b) e m w whole inner go f g h = valued_follow cl w.state (inner w) _ _ (g w) (λ v u. defined_follow cl p k d b e v
+      m u go h)
   claused_follow (defers a) e m w whole inner go f g h = cl.same w.state
   claused_follow (generates x) e m w whole inner go f g h = valued_follow cl w.state (inner w) _ _ (g w) (λ v u. cl.same u.state)
 
@@ -221,7 +224,8 @@ module _ {R : State → State → Type 0} (cl : Closed R) (p : Program) (k : Dee
     shape_follow (t.Shape.variable x ty a) n pl m e w =
         valued_follow cl w.state _ _ _ (ev_follow a m e w) (λ v u. apply_follow cl p k d (form.varying pl) (v ∷ []) m e u)
     shape_follow (t.Shape.assignment x a b) n pl m e w =
-        targets_follow a (form.storing (base_of p a) (mode_of x) pl) (b ∷ []) m e w _ (λ vs u. valued_follow cl u.state _ _ _ (ev_follow b m e u)
+        targets_follow a (form.storing (base_of p a) (mode_of x) pl) (b ∷ []) m e w _ (λ vs u. valued_follow cl u.state _ _ _ (ev_follow b m
+        e u)
         (λ v z. apply_follow cl p k d (form.storing (base_of p a) (mode_of x) pl) (vs ++ v ∷ []) m e z))
     shape_follow (t.Shape.returned a) n pl m e w = valued_follow cl w.state _ _ _ (ev_follow a m e w) (λ v u. cl.same u.state)
     shape_follow t.Shape.returned_unit n pl m e w = cl.same w.state
@@ -233,7 +237,8 @@ module _ {R : State → State → Type 0} (cl : Closed R) (p : Program) (k : Dee
     shape_follow (t.Shape.negation a) n pl m e w =
         denied_follow cl w e _ (ev_follow a false e w)
     shape_follow (t.Shape.option cs) n pl m e w =
-        attempted_follow cl w _ _ _ (statements_follow cs false e unit w) (λ e1 v u. told_follow cl u _ pl e (still_writes u.state _)) (λ u. cl.same u.state)
+        attempted_follow cl w _ _ _ (statements_follow cs false e unit w) (λ e1 v u. told_follow cl u _ pl e (still_writes u.state _)) (λ u.
+        cl.same u.state)
     shape_follow (t.Shape.logic cs) n pl m e w =
         attempted_follow cl w _ _ _ (statements_follow cs false e unit w) (λ e v u. cl.same u.state) (λ u. cl.same u.state)
     shape_follow (t.Shape.chained op.Or a b) n pl m e w =
@@ -243,23 +248,29 @@ module _ {R : State → State → Type 0} (cl : Closed R) (p : Program) (k : Dee
         u)) (λ u. cl.same u.state)
     shape_follow (t.Shape.chained op.Div a b) n pl m e w = cl.same w.state
     shape_follow (t.Shape.chained x a b) n pl m e w =
-        valued_follow cl w.state _ _ _ (ev_follow a m e w) (λ v u. valued_follow cl u.state _ _ _ (ev_follow b m e u) (λ y z. apply_follow cl p k d
+        valued_follow cl w.state _ _ _ (ev_follow a m e w) (λ v u. valued_follow cl u.state _ _ _ (ev_follow b m e u) (λ y z. apply_follow
+        cl p k d
         (form.computing x (p.is_array n) pl) (v ∷ y ∷ []) m e z))
     shape_follow (t.Shape.compared x a b) n pl m e w =
-        valued_follow cl w.state _ _ _ (ev_follow a m e w) (λ v u. valued_follow cl u.state _ _ _ (ev_follow b m e u) (λ y z. apply_follow cl p k d
+        valued_follow cl w.state _ _ _ (ev_follow a m e w) (λ v u. valued_follow cl u.state _ _ _ (ev_follow b m e u) (λ y z. apply_follow
+        cl p k d
         (form.comparing x) (v ∷ y ∷ []) m e z))
     shape_follow (t.Shape.minus a) n pl m e w =
         valued_follow cl w.state _ _ _ (ev_follow a m e w) (λ v u. apply_follow cl p k d (form.negating pl) (v ∷ []) m e u)
     shape_follow (t.Shape.query a) n pl m e w =
         valued_follow cl w.state _ _ _ (ev_follow a m e w) (λ v u. apply_follow cl p k d form.querying (v ∷ []) m e u)
     shape_follow (t.Shape.member a x) n pl m e w =
-        membered_follow (enum_member p a x) m e w _ (valued_follow cl w.state _ _ _ (ev_follow a m e w) (λ v u. apply_follow cl p k d (member_form (ref_at p n)
+        membered_follow (enum_member p a x) m e w _ (valued_follow cl w.state _ _ _ (ev_follow a m e w) (λ v u. apply_follow cl p k d
+        (member_form (ref_at p n)
         x) (v ∷ []) m e u))
     shape_follow (t.Shape.call a ts) n pl m e w = callee_follow (callee_of p a (picked ts) pl) m w _ _ _ _ (λ f. args_follow ts f [] m e w)
-        (λ f. valued_follow cl w.state _ _ _ (inner_follow a m e w) (λ v u. args_follow ts f (v ∷ []) m e u)) (λ f. valued_follow cl w.state _ _ _
+        (λ f. valued_follow cl w.state _ _ _ (inner_follow a m e w) (λ v u. args_follow ts f (v ∷ []) m e u)) (λ f. valued_follow cl w.state
+        _ _ _
         (ev_follow a m e w) (λ v u. apply_follow cl p k d f (v ∷ []) m e u)) (λ f. quotient_follow ts f m e w)
-    shape_follow (t.Shape.index a ts) n pl m e w = callee_follow (callee_of p a form.indexing pl) m w _ _ _ _ (λ f. args_follow ts f [] m e w)
-        (λ f. valued_follow cl w.state _ _ _ (inner_follow a m e w) (λ v u. args_follow ts f (v ∷ []) m e u)) (λ f. valued_follow cl w.state _ _ _
+    shape_follow (t.Shape.index a ts) n pl m e w = callee_follow (callee_of p a form.indexing pl) m w _ _ _ _ (λ f. args_follow ts f [] m e
+        w)
+        (λ f. valued_follow cl w.state _ _ _ (inner_follow a m e w) (λ v u. args_follow ts f (v ∷ []) m e u)) (λ f. valued_follow cl w.state
+        _ _ _
         (ev_follow a m e w) (λ v u. args_follow ts f (v ∷ []) m e u)) (λ f. quotient_follow ts f m e w)
     shape_follow (t.Shape.integer z) n pl m e w = cl.same w.state
     shape_follow (t.Shape.character c) n pl m e w = cl.same w.state
@@ -291,7 +302,8 @@ module _ {R : State → State → Type 0} (cl : Closed R) (p : Program) (k : Dee
     pub statements_follow : (cs : Trees) (m : Bool) (e : Env) (last : Val) (w : World) → Reaches R w.state (statements p k cs m e last w)
     statements_follow no_trees m e last w = cl.same w.state
     statements_follow (more_trees a cs) m e last w =
-        stated_follow (statement_of a) e cs m w _ _ _ (λ u. ev_follow a m e u) (λ u. inner_follow a m e u) (λ e v u. statements_follow cs m e v
+        stated_follow (statement_of a) e cs m w _ _ _ (λ u. ev_follow a m e u) (λ u. inner_follow a m e u) (λ e v u. statements_follow cs m
+        e v
         u)
 
     pub inner_follow : (a : Tree) (m : Bool) (e : Env) (w : World) → Reaches R w.state (inner p k a m e w)
@@ -305,26 +317,35 @@ module _ {R : State → State → Type 0} (cl : Closed R) (p : Program) (k : Dee
     inner_shape_follow (t.Shape.elements x a) m e w = ev_follow a m e w
     inner_shape_follow (t.Shape.entries x y a) m e w = ev_follow a m e w
     inner_shape_follow (t.Shape.range x a b) m e w =
-        valued_follow cl w.state _ _ _ (ev_follow a m e w) (λ v u. valued_follow cl u.state _ _ _ (ev_follow b m e u) (λ y z. cl.same z.state))
+        valued_follow cl w.state _ _ _ (ev_follow a m e w) (λ v u. valued_follow cl u.state _ _ _ (ev_follow b m e u) (λ y z. cl.same
+        z.state))
     inner_shape_follow s m e w = cl.same w.state
 
-    pub args_follow : (ts : Trees) (f : Form) (vs : List Val) (m : Bool) (e : Env) (w : World) → Reaches R w.state (all_args p k ts f vs m e w)
+    pub args_follow : (ts : Trees) (f : Form) (vs : List Val) (m : Bool) (e : Env) (w : World) → Reaches R w.state (all_args p k ts f vs m e
+        w)
     args_follow no_trees f vs m e w = apply_follow cl p k d f vs m e w
-    args_follow (more_trees a ts) f vs m e w = valued_follow cl w.state _ _ _ (ev_follow a m e w) (λ v u. args_follow ts f (vs ++ v ∷ []) m e u)
+    args_follow (more_trees a ts) f vs m e w = valued_follow cl w.state _ _ _ (ev_follow a m e w) (λ v u. args_follow ts f (vs ++ v ∷ []) m
+        e u)
 
-    pub holes_follow : (hs : Holes) (f : Form) (vs : List Val) (m : Bool) (e : Env) (w : World) → Reaches R w.state (holed p k hs f vs m e w)
+    pub holes_follow : (hs : Holes) (f : Form) (vs : List Val) (m : Bool) (e : Env) (w : World) → Reaches R w.state (holed p k hs f vs m e
+        w)
     holes_follow no_holes f vs m e w = apply_follow cl p k d f vs m e w
-    holes_follow (more_holes a bs hs) f vs m e w = valued_follow cl w.state _ _ _ (ev_follow a m e w) (λ v u. holes_follow hs f (vs ++ v ∷ []) m e u)
+    holes_follow (more_holes a bs hs) f vs m e w = valued_follow cl w.state _ _ _ (ev_follow a m e w) (λ v u. holes_follow hs f (vs ++ v ∷
+        []) m e u)
 
-    pub pairs_follow : (ps : t.Pairs) (f : Form) (vs : List Val) (m : Bool) (e : Env) (w : World) → Reaches R w.state (paired_args p k ps f vs m e w)
+    pub pairs_follow : (ps : t.Pairs) (f : Form) (vs : List Val) (m : Bool) (e : Env) (w : World) → Reaches R w.state (paired_args p k ps f
+        vs m e w)
     pairs_follow t.Pairs.no_pairs f vs m e w = apply_follow cl p k d f vs m e w
     pairs_follow (t.Pairs.more_pairs a b ps) f vs m e w =
-        valued_follow cl w.state _ _ _ (ev_follow a m e w) (λ x u. valued_follow cl u.state _ _ _ (ev_follow b m e u) (λ y z. pairs_follow ps f (vs ++ x ∷
+        valued_follow cl w.state _ _ _ (ev_follow a m e w) (λ x u. valued_follow cl u.state _ _ _ (ev_follow b m e u) (λ y z. pairs_follow
+        ps f (vs ++ x ∷
         y ∷ []) m e z))
 
-    pub givens_follow : (gs : Givens) (f : Form) (vs : List Val) (m : Bool) (e : Env) (w : World) → Reaches R w.state (given_args p k gs f vs m e w)
+    pub givens_follow : (gs : Givens) (f : Form) (vs : List Val) (m : Bool) (e : Env) (w : World) → Reaches R w.state (given_args p k gs f
+        vs m e w)
     givens_follow no_givens f vs m e w = apply_follow cl p k d f vs m e w
-    givens_follow (more_givens x a gs) f vs m e w = valued_follow cl w.state _ _ _ (ev_follow a m e w) (λ v u. givens_follow gs f (vs ++ v ∷ []) m e u)
+    givens_follow (more_givens x a gs) f vs m e w = valued_follow cl w.state _ _ _ (ev_follow a m e w) (λ v u. givens_follow gs f (vs ++ v ∷
+        []) m e u)
 
     pub quotient_follow : (ts : Trees) (f : Form) (m : Bool) (e : Env) (w : World) → Reaches R w.state (quotient p k ts f m e w)
     quotient_follow no_trees f m e w = cl.same w.state
@@ -335,7 +356,8 @@ module _ {R : State → State → Type 0} (cl : Closed R) (p : Program) (k : Dee
 
     pub quotient_shape_follow : (s : Shape) (f : Form) (m : Bool) (e : Env) (w : World) → Reaches R w.state (quotient_shape p k s f m e w)
     quotient_shape_follow (t.Shape.chained x a b) f m e w =
-        valued_follow cl w.state _ _ _ (ev_follow a m e w) (λ v u. valued_follow cl u.state _ _ _ (ev_follow b m e u) (λ y z. apply_follow cl p k d f (v ∷ y
+        valued_follow cl w.state _ _ _ (ev_follow a m e w) (λ v u. valued_follow cl u.state _ _ _ (ev_follow b m e u) (λ y z. apply_follow
+        cl p k d f (v ∷ y
         ∷ []) m e z))
     quotient_shape_follow s f m e w = cl.same w.state
 
@@ -347,11 +369,13 @@ module _ {R : State → State → Type 0} (cl : Closed R) (p : Program) (k : Dee
         Outcome) → ((vs : List Val) (u : World) → Reaches R u.state (go vs u)) → Reaches R w.state (targets_shape p k s f left m e w go)
     targets_shape_follow (t.Shape.name x) f left m e w go g = g [] w
     targets_shape_follow (t.Shape.member a x) f left m e w go g = valued_follow cl w.state _ _ _ (ev_follow a m e w) (λ v u. g (v ∷ []) u)
-    targets_shape_follow (t.Shape.index a ts) f left m e w go g = targets_follow a f _ m e w _ (λ vs u. indices_follow ts f vs left m e u go g)
+    targets_shape_follow (t.Shape.index a ts) f left m e w go g = targets_follow a f _ m e w _ (λ vs u. indices_follow ts f vs left m e u go
+        g)
     targets_shape_follow s f left m e w go g = cl.same w.state
 
     pub indices_follow : (ts : Trees) (f : Form) (vs : List Val) (left : List Tree) (m : Bool) (e : Env) (w : World) (go : List Val →
-        World → Outcome) → ((vs : List Val) (u : World) → Reaches R u.state (go vs u)) → Reaches R w.state (indices p k ts f vs left m e w go)
+        World → Outcome) → ((vs : List Val) (u : World) → Reaches R u.state (go vs u)) → Reaches R w.state (indices p k ts f vs left m e w
+        go)
     indices_follow no_trees f vs left m e w go g = g vs w
     indices_follow (more_trees a ts) f vs left m e w go g =
         valued_follow cl w.state _ _ _ (ev_follow a m e w) (λ v u. indices_follow ts f (vs ++ v ∷ []) left m e u go g)
@@ -359,12 +383,14 @@ module _ {R : State → State → Type 0} (cl : Closed R) (p : Program) (k : Dee
     pub clauses_follow : (cs : Trees) (m : Bool) (e : Env) (last : Val) (w : World) → Reaches R w.state (clauses p k cs m e last w)
     clauses_follow no_trees m e last w = cl.same w.state
     clauses_follow (more_trees a cs) m e last w =
-        claused_follow (statement_of a) e m w _ _ _ (λ u. ev_follow a m e u) (λ u. inner_follow a m e u) (λ e v u. clauses_follow cs m e v u)
+        claused_follow (statement_of a) e m w _ _ _ (λ u. ev_follow a m e u) (λ u. inner_follow a m e u) (λ e v u. clauses_follow cs m e v
+        u)
 
     pub level_follow : (cs : Trees) (a : Tree) (run : Env → World →
         Outcome) (pl : Place) (e : Env) (v so_far : Val) (m : Bool) (w : World) → ((e : Env) (u : World) → Reaches R u.state (run e u)) →
         Reaches R w.state (level p k cs a run pl e v so_far w)
-    level_follow no_trees a run pl e v so_far m w f = valued_follow cl w.state _ _ _ (f e w) (λ y u. told_follow cl u _ pl e (still_writes u.state _))
+    level_follow no_trees a run pl e v so_far m w f = valued_follow cl w.state _ _ _ (f e w) (λ y u. told_follow cl u _ pl e (still_writes
+        u.state _))
     level_follow (more_trees c cs) a run pl e v so_far m w f =
         levelled_follow (statement_of c) v e so_far m w _ _ _ (level_follow cs a run pl e v so_far m w f)
         (λ g x so_far u. attempted_follow cl u _ _ _ (clauses_follow cs false _ unit u) (λ e1 y z. level_follow cs a run pl e1 y so_far m z
@@ -378,14 +404,17 @@ module _ {R : State → State → Type 0} (cl : Closed R) (p : Program) (k : Dee
         Reaches R w.state (arm_of p k a last v m e w go)
     arm_follow (tree n pl s) last v m e w go g = arm_shape_follow s last v m e w go g
 
-    pub arm_shape_follow : (s : Shape) (last : Bool) (v : Val) (m : Bool) (e : Env) (w : World) (go : World → Outcome) → Reaches R w.state (go w) →
+    pub arm_shape_follow : (s : Shape) (last : Bool) (v : Val) (m : Bool) (e : Env) (w : World) (go : World → Outcome) → Reaches R w.state
+        (go w) →
         Reaches R w.state (arm_of_shape p k s last v m e w go)
     arm_shape_follow (t.Shape.arm a b) last v m e w go g = bool_follow (cond last true (pattern_fits p a v)) m w _ _ (ev_follow b m e w) g
     arm_shape_follow s last v m e w go g = cl.same w.state
 
-    pub started_follow : (kd : Kind) (pl : Place) (ts : Trees) (e : Env) (gs : Arms) (w : World) → Reaches R w.state (started p k kd pl ts e gs w)
+    pub started_follow : (kd : Kind) (pl : Place) (ts : Trees) (e : Env) (gs : Arms) (w : World) → Reaches R w.state (started p k kd pl ts e
+        gs w)
     started_follow kd pl no_trees e gs w = settled_follow kd pl e gs w
-    started_follow kd pl (more_trees a ts) e gs w = begins_follow w _ _ (λ u. ev_follow a true e u) (λ u o h. armed_follow cl u.state o _ _ h
+    started_follow kd pl (more_trees a ts) e gs w = begins_follow w _ _ (λ u. ev_follow a true e u) (λ u o h. armed_follow cl u.state o _ _
+        h
         (λ v z. gave_follow kd pl e (with_arm gs (gave v no_arms)) z _ (started_follow kd pl ts e (with_arm gs (gave v no_arms)) z)) (λ s z.
         started_follow kd pl ts e (with_arm gs (runs s no_arms)) z))
 
@@ -395,5 +424,6 @@ module _ {R : State → State → Type 0} (cl : Closed R) (p : Program) (k : Dee
     pub spawn_shape_follow : (s : Shape) (pl : Place) (m : Bool) (e : Env) (w : World) → Reaches R w.state (spawned_shape p k s pl m e w)
     spawn_shape_follow (t.Shape.call a ts) pl m e w =
         callee_follow (spawned_callee (callee_of p a (form.picking None) pl)) m w _ _ _ _ (λ f. args_follow ts f [] m e w)
-        (λ f. valued_follow cl w.state _ _ _ (inner_follow a m e w) (λ v u. args_follow ts f (v ∷ []) m e u)) (λ f. cl.same w.state) (λ f. cl.same w.state)
+        (λ f. valued_follow cl w.state _ _ _ (inner_follow a m e w) (λ v u. args_follow ts f (v ∷ []) m e u)) (λ f. cl.same w.state) (λ f.
+        cl.same w.state)
     spawn_shape_follow s pl m e w = cl.same w.state

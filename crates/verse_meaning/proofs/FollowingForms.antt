@@ -104,10 +104,12 @@ printed_writes s (tuple vs) = tt
 pub record DeeperFollows (R : State → State → Type 0) (k : Deeper) : Type 0 where
   pub calls : (f : ℕ) (o : Option Val) (vs : List Val) (m : Bool) (e : Env) (w : World) → Reaches R w.state (k.calls f o vs m e w)
   pub spawns : (f : ℕ) (o : Option Val) (vs : List Val) (e : Env) (w : World) → Reaches R w.state (k.spawns f o vs e w)
-  pub loops : (m : Bool) (go : World → Outcome) (wrap : Residual → Residual) (e : Env) (w : World) → ((u : World) → Reaches R u.state (go u)) →
+  pub loops : (m : Bool) (go : World → Outcome) (wrap : Residual → Residual) (e : Env) (w : World) → ((u : World) → Reaches R u.state (go
+      u)) →
       Reaches R w.state (k.loops go wrap e w)
   pub takes : (m : Bool) (go : Val × Val → Val → World → Outcome) (wrap : Values → Residual →
-      Residual) (e : Env) (vs : Values) (so_far : Val) (w : World) → ((x : Val × Val) (a : Val) (u : World) → Reaches R u.state (go x a u)) →
+      Residual) (e : Env) (vs : Values) (so_far : Val) (w : World) → ((x : Val × Val) (a : Val) (u : World) → Reaches R u.state (go x a u))
+      →
       Reaches R w.state (k.takes go wrap e vs so_far w)
   pub parts : (a : Tree) (e : Env) (w : World) → Reaches R w.state (k.parts a e w)
   pub defaults : (a : Tree) (m : Bool) (e : Env) (w : World) → Reaches R w.state (k.defaults a m e w)
@@ -118,7 +120,8 @@ module _ {R : State → State → Type 0} (cl : Closed R) where
   read_bound_follow (Some (constant v)) pl m e w = cl.same w.state
   read_bound_follow (Some (variable c)) pl m e w = told_follow cl w _ pl e (read_writes w.state 0 (object c))
 
-  pub read_slot_follow : (o : Option Val) (slot : ℕ) (pl : Place) (m : Bool) (e : Env) (w : World) → Reaches R w.state (read_slot_of o slot pl e w)
+  pub read_slot_follow : (o : Option Val) (slot : ℕ) (pl : Place) (m : Bool) (e : Env) (w : World) → Reaches R w.state (read_slot_of o slot
+      pl e w)
   read_slot_follow None slot pl m e w = cl.same w.state
   read_slot_follow (Some v) slot pl m e w = told_follow cl w _ pl e (read_writes w.state slot v)
 
@@ -138,13 +141,15 @@ module _ {R : State → State → Type 0} (cl : Closed R) (p : Program) (k : Dee
   stored_follow (in_object slot) (o ∷ vs) mode pl m e w = to_follow (Some o) slot vs mode pl m e w
   stored_follow nowhere vs mode pl m e w = cl.same w.state
 
-  field_follow : (v : Option Val) (a : Option Tree) (m : Bool) (e : Env) (w : World) (wrap : Residual → Residual) (go : Val → World → Outcome) → ((v : Val) (u : World) →
+  field_follow : (v : Option Val) (a : Option Tree) (m : Bool) (e : Env) (w : World) (wrap : Residual → Residual) (go : Val → World →
+      Outcome) → ((v : Val) (u : World) →
       Reaches R u.state (go v u)) → Reaches R w.state (field_filled p k v a m e w wrap go)
   field_follow (Some v) a m e w wrap go f = f v w
   field_follow None None m e w wrap go f = cl.same w.state
   field_follow None (Some a) m e w wrap go f = valued_follow cl w.state (k.defaults a m e w) wrap go (d.defaults a m e w) (λ v u. f v u)
 
-  pub filled_follow : (fs : List FieldTree) (xs : List Bytes) (vs : List Val) (class : ℕ) (slots : List Val) (pl : Place) (m : Bool) (e : Env)
+  pub filled_follow : (fs : List FieldTree) (xs : List Bytes) (vs : List Val) (class : ℕ) (slots : List Val) (pl : Place) (m : Bool) (e :
+      Env)
       (w : World) → Reaches R w.state (filled p k fs xs vs class slots pl m e w)
   filled_follow [] xs vs class slots pl m e w = told_follow cl w _ pl e (added_writes w.state _ _)
   filled_follow (f ∷ fs) xs vs class slots pl m e w =

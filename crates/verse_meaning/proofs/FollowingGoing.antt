@@ -104,7 +104,8 @@ module _ {R : State → State → Type 0} (cl : Closed R) where
   before_follow s x (stays bs u) a = a
   before_follow s x (stops_behind h) a = a
 
-  pub behind_came_follow : (s : State) (q : Role) (r : Residual) (o : BehindOutcome) → ReachesBehind R s o → ReachesTask R s (behind_came q r o)
+  pub behind_came_follow : (s : State) (q : Role) (r : Residual) (o : BehindOutcome) → ReachesBehind R s o → ReachesTask R s (behind_came q
+      r o)
   unfolding behind_came
   behind_came_follow s q r (stays bs u) a = a
   behind_came_follow s q r (stops_behind h) a = a

@@ -138,8 +138,13 @@ module _ (p : Program) (k : Deeper) where
     woken = λ kd pl e gs hs n v w u h. ap (λ x. arms_came x (λ gs w. settled p k kd pl e gs w)) h;
     begun = λ kd pl e gs w. refl;
     arm_rests = arm_rests;
-    arm_ends = λ pl a ts e gs l v w u h f. (arm_ends all_of pl a ts e gs l v w u h f, (arm_ends first_of pl a ts e gs l v w u h f,
-        arm_ends rush_of pl a ts e gs l v w u h f));
+    arm_ends = λ pl a ts e gs l v w u h f. (
+      arm_ends all_of pl a ts e gs l v w u h f,
+      (
+        arm_ends first_of pl a ts e gs l v w u h f,
+        arm_ends rush_of pl a ts e gs l v w u h f,
+      ),
+    );
   }
 
 pub groups_settle : GroupsSettle

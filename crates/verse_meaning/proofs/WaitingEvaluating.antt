@@ -89,7 +89,10 @@ module _ (p : Program) (k : Deeper) (d : DeeperHolds k) where
 
   ended_holds : (q : Role) (outer : Scopes) (v : Val) (u : World) → BehindWaits outer → HoldsTask u (scope_ended p k q outer v u)
   ended_holds q outer v u b a =
-      on_went_task_out (cancel_behind p k u.behind u) _ (behind_holds u.behind u a) (λ x h. finished_waits q v (set_behind x outer) (b, h.1))
+      on_went_task_out (cancel_behind p k u.behind u) _ (behind_holds u.behind u a) (λ x h. finished_waits q v (set_behind x outer) (
+        b,
+        h.1,
+      ))
 
   returned_holds : (q : Role) (outer : Scopes) (v : Val) (u : World) → BehindWaits outer → HoldsTask u (scope_returned p k q outer v u)
   returned_holds part outer v u b a = tt
@@ -167,14 +170,16 @@ module _ (p : Program) (k : Deeper) (d : DeeperHolds k) where
   claused_holds (generates x) e m w whole inner go f g h = valued_holds w _ _ _ (λ r q. q) (g w) (λ v u h. h)
 
   from_holds : (g : Generator) (v : Val) (e : Env) (so_far : Val) (m : Bool) (w : World) (go : Val × Val → Val → World →
-      Outcome) (wrap : Values → Residual → Residual) → ((vs : Values) → Wraps (wrap vs)) → ((x : Val × Val) (a : Val) (u : World) → Holds u (go x a u)) →
+      Outcome) (wrap : Values → Residual → Residual) → ((vs : Values) → Wraps (wrap vs)) → ((x : Val × Val) (a : Val) (u : World) → Holds u
+      (go x a u)) →
       Holds w (generates_from p k g v e so_far w go wrap)
   unfolding generates_from
   from_holds g v e so_far m w go wrap b f = there_holds w (values_of g v) _ (λ vs. d.takes m go wrap e vs so_far w b f)
 
   levelled_holds : (x : Statement) (v : Val) (e : Env) (so_far : Val) (m : Bool) (w : World) (on_go : World →
       Outcome) (taken : Generator → Val × Val → Val → World → Outcome) (wrap : Generator → Values → Residual → Residual) →
-      ((g : Generator) (vs : Values) → Wraps (wrap g vs)) → Holds w (on_go w) → ((g : Generator) (x : Val × Val) (a : Val) (u : World) → Holds u (taken g x a u)) →
+      ((g : Generator) (vs : Values) → Wraps (wrap g vs)) → Holds w (on_go w) → ((g : Generator) (x : Val × Val) (a : Val) (u : World) →
+      Holds u (taken g x a u)) →
       Holds w (levelled p k x v e so_far w on_go taken wrap)
   unfolding levelled
   levelled_holds plain v e so_far m w on_go taken wrap q a f = a
@@ -220,7 +225,8 @@ module _ (p : Program) (k : Deeper) (d : DeeperHolds k) where
     shape_holds (t.Shape.variable x ty a) n pl m e w =
         valued_holds w _ _ _ (λ r q. q) (ev_holds a m e w) (λ v u. apply_holds p k d (form.varying pl) (v ∷ []) m e u)
     shape_holds (t.Shape.assignment x a b) n pl m e w =
-        targets_holds a (form.storing (base_of p a) (mode_of x) pl) (b ∷ []) m e w _ (λ vs u. valued_holds u _ _ _ (λ r q. q) (ev_holds b m e u)
+        targets_holds a (form.storing (base_of p a) (mode_of x) pl) (b ∷ []) m e w _ (λ vs u. valued_holds u _ _ _ (λ r q. q) (ev_holds b m
+        e u)
         (λ v z. apply_holds p k d (form.storing (base_of p a) (mode_of x) pl) (vs ++ v ∷ []) m e z))
     shape_holds (t.Shape.returned a) n pl m e w = valued_holds w _ _ _ (λ r q. q) (ev_holds a m e w) (λ v u h. h)
     shape_holds t.Shape.returned_unit n pl m e w = λ h. h
@@ -242,23 +248,28 @@ module _ (p : Program) (k : Deeper) (d : DeeperHolds k) where
         u)) (λ u h. h)
     shape_holds (t.Shape.chained op.Div a b) n pl m e w = λ h. tt
     shape_holds (t.Shape.chained x a b) n pl m e w =
-        valued_holds w _ _ _ (λ r q. q) (ev_holds a m e w) (λ v u. valued_holds u _ _ _ (λ r q. q) (ev_holds b m e u) (λ y z. apply_holds p k d
+        valued_holds w _ _ _ (λ r q. q) (ev_holds a m e w) (λ v u. valued_holds u _ _ _ (λ r q. q) (ev_holds b m e u) (λ y z. apply_holds p
+        k d
         (form.computing x (p.is_array n) pl) (v ∷ y ∷ []) m e z))
     shape_holds (t.Shape.compared x a b) n pl m e w =
-        valued_holds w _ _ _ (λ r q. q) (ev_holds a m e w) (λ v u. valued_holds u _ _ _ (λ r q. q) (ev_holds b m e u) (λ y z. apply_holds p k d
+        valued_holds w _ _ _ (λ r q. q) (ev_holds a m e w) (λ v u. valued_holds u _ _ _ (λ r q. q) (ev_holds b m e u) (λ y z. apply_holds p
+        k d
         (form.comparing x) (v ∷ y ∷ []) m e z))
     shape_holds (t.Shape.minus a) n pl m e w =
         valued_holds w _ _ _ (λ r q. q) (ev_holds a m e w) (λ v u. apply_holds p k d (form.negating pl) (v ∷ []) m e u)
     shape_holds (t.Shape.query a) n pl m e w =
         valued_holds w _ _ _ (λ r q. q) (ev_holds a m e w) (λ v u. apply_holds p k d form.querying (v ∷ []) m e u)
     shape_holds (t.Shape.member a x) n pl m e w =
-        membered_holds (enum_member p a x) m e w _ (valued_holds w _ _ _ (λ r q. q) (ev_holds a m e w) (λ v u. apply_holds p k d (member_form (ref_at p n)
+        membered_holds (enum_member p a x) m e w _ (valued_holds w _ _ _ (λ r q. q) (ev_holds a m e w) (λ v u. apply_holds p k d
+        (member_form (ref_at p n)
         x) (v ∷ []) m e u))
     shape_holds (t.Shape.call a ts) n pl m e w = callee_holds (callee_of p a (picked ts) pl) m w _ _ _ _ (λ f. args_holds ts f [] m e w)
-        (λ f. valued_holds w _ _ _ (λ r q. q) (inner_holds a m e w) (λ v u. args_holds ts f (v ∷ []) m e u)) (λ f. valued_holds w _ _ _ (λ r q. q)
+        (λ f. valued_holds w _ _ _ (λ r q. q) (inner_holds a m e w) (λ v u. args_holds ts f (v ∷ []) m e u)) (λ f. valued_holds w _ _ _ (λ r
+        q. q)
         (ev_holds a m e w) (λ v u. apply_holds p k d f (v ∷ []) m e u)) (λ f. quotient_holds ts f m e w)
     shape_holds (t.Shape.index a ts) n pl m e w = callee_holds (callee_of p a form.indexing pl) m w _ _ _ _ (λ f. args_holds ts f [] m e w)
-        (λ f. valued_holds w _ _ _ (λ r q. q) (inner_holds a m e w) (λ v u. args_holds ts f (v ∷ []) m e u)) (λ f. valued_holds w _ _ _ (λ r q. q)
+        (λ f. valued_holds w _ _ _ (λ r q. q) (inner_holds a m e w) (λ v u. args_holds ts f (v ∷ []) m e u)) (λ f. valued_holds w _ _ _ (λ r
+        q. q)
         (ev_holds a m e w) (λ v u. args_holds ts f (v ∷ []) m e u)) (λ f. quotient_holds ts f m e w)
     shape_holds (t.Shape.integer z) n pl m e w = λ h. h
     shape_holds (t.Shape.character c) n pl m e w = λ h. h
@@ -309,21 +320,25 @@ module _ (p : Program) (k : Deeper) (d : DeeperHolds k) where
 
     pub args_holds : (ts : Trees) (f : Form) (vs : List Val) (m : Bool) (e : Env) (w : World) → Holds w (all_args p k ts f vs m e w)
     args_holds no_trees f vs m e w = apply_holds p k d f vs m e w
-    args_holds (more_trees a ts) f vs m e w = valued_holds w _ _ _ (λ r q. q) (ev_holds a m e w) (λ v u. args_holds ts f (vs ++ v ∷ []) m e u)
+    args_holds (more_trees a ts) f vs m e w = valued_holds w _ _ _ (λ r q. q) (ev_holds a m e w) (λ v u. args_holds ts f (vs ++ v ∷ []) m e
+        u)
 
     pub holes_holds : (hs : Holes) (f : Form) (vs : List Val) (m : Bool) (e : Env) (w : World) → Holds w (holed p k hs f vs m e w)
     holes_holds no_holes f vs m e w = apply_holds p k d f vs m e w
-    holes_holds (more_holes a bs hs) f vs m e w = valued_holds w _ _ _ (λ r q. q) (ev_holds a m e w) (λ v u. holes_holds hs f (vs ++ v ∷ []) m e u)
+    holes_holds (more_holes a bs hs) f vs m e w = valued_holds w _ _ _ (λ r q. q) (ev_holds a m e w) (λ v u. holes_holds hs f (vs ++ v ∷ [])
+        m e u)
 
     pub pairs_holds : (ps : t.Pairs) (f : Form) (vs : List Val) (m : Bool) (e : Env) (w : World) → Holds w (paired_args p k ps f vs m e w)
     pairs_holds t.Pairs.no_pairs f vs m e w = apply_holds p k d f vs m e w
     pairs_holds (t.Pairs.more_pairs a b ps) f vs m e w =
-        valued_holds w _ _ _ (λ r q. q) (ev_holds a m e w) (λ x u. valued_holds u _ _ _ (λ r q. q) (ev_holds b m e u) (λ y z. pairs_holds ps f (vs ++ x ∷
+        valued_holds w _ _ _ (λ r q. q) (ev_holds a m e w) (λ x u. valued_holds u _ _ _ (λ r q. q) (ev_holds b m e u) (λ y z. pairs_holds ps
+        f (vs ++ x ∷
         y ∷ []) m e z))
 
     pub givens_holds : (gs : Givens) (f : Form) (vs : List Val) (m : Bool) (e : Env) (w : World) → Holds w (given_args p k gs f vs m e w)
     givens_holds no_givens f vs m e w = apply_holds p k d f vs m e w
-    givens_holds (more_givens x a gs) f vs m e w = valued_holds w _ _ _ (λ r q. q) (ev_holds a m e w) (λ v u. givens_holds gs f (vs ++ v ∷ []) m e u)
+    givens_holds (more_givens x a gs) f vs m e w = valued_holds w _ _ _ (λ r q. q) (ev_holds a m e w) (λ v u. givens_holds gs f (vs ++ v ∷
+        []) m e u)
 
     pub quotient_holds : (ts : Trees) (f : Form) (m : Bool) (e : Env) (w : World) → Holds w (quotient p k ts f m e w)
     quotient_holds no_trees f m e w = λ h. tt
@@ -334,7 +349,8 @@ module _ (p : Program) (k : Deeper) (d : DeeperHolds k) where
 
     pub quotient_shape_holds : (s : Shape) (f : Form) (m : Bool) (e : Env) (w : World) → Holds w (quotient_shape p k s f m e w)
     quotient_shape_holds (t.Shape.chained x a b) f m e w =
-        valued_holds w _ _ _ (λ r q. q) (ev_holds a m e w) (λ v u. valued_holds u _ _ _ (λ r q. q) (ev_holds b m e u) (λ y z. apply_holds p k d f (v ∷ y
+        valued_holds w _ _ _ (λ r q. q) (ev_holds a m e w) (λ v u. valued_holds u _ _ _ (λ r q. q) (ev_holds b m e u) (λ y z. apply_holds p
+        k d f (v ∷ y
         ∷ []) m e z))
     quotient_shape_holds s f m e w = λ h. tt
 
@@ -382,7 +398,8 @@ module _ (p : Program) (k : Deeper) (d : DeeperHolds k) where
     arm_shape_holds (t.Shape.arm a b) last v m e w go g = bool_holds (cond last true (pattern_fits p a v)) m w _ _ (ev_holds b m e w) g
     arm_shape_holds s last v m e w go g = λ h. tt
 
-    pub started_holds : (kd : Kind) (pl : Place) (ts : Trees) (e : Env) (gs : Arms) (w : World) → ArmsWait gs → Holds w (started p k kd pl ts e gs w)
+    pub started_holds : (kd : Kind) (pl : Place) (ts : Trees) (e : Env) (gs : Arms) (w : World) → ArmsWait gs → Holds w (started p k kd pl
+        ts e gs w)
     started_holds kd pl no_trees e gs w b = settled_holds kd pl e gs w b
     started_holds kd pl (more_trees a ts) e gs w b = begins_holds w _ _ (λ u. ev_holds a true e u) (λ u o h. armed_holds u o _ _ h
         (λ v z. gave_holds kd pl e (with_arm gs (gave v no_arms)) z _ (gave_waits gs v b) (started_holds kd pl ts e (with_arm gs (gave v

@@ -23,10 +23,12 @@ use Rattle.verse_meaning.proofs.Waiting.{valued_holds}
 pub record DeeperHolds (k : Deeper) : Type 0 where
   pub calls : (f : ℕ) (o : Option Val) (vs : List Val) (m : Bool) (e : Env) (w : World) → Holds w (k.calls f o vs m e w)
   pub spawns : (f : ℕ) (o : Option Val) (vs : List Val) (e : Env) (w : World) → Holds w (k.spawns f o vs e w)
-  pub loops : (m : Bool) (go : World → Outcome) (wrap : Residual → Residual) (e : Env) (w : World) → Wraps wrap → ((u : World) → Holds u (go u)) →
+  pub loops : (m : Bool) (go : World → Outcome) (wrap : Residual → Residual) (e : Env) (w : World) → Wraps wrap → ((u : World) → Holds u (go
+      u)) →
       Holds w (k.loops go wrap e w)
   pub takes : (m : Bool) (go : Val × Val → Val → World → Outcome) (wrap : Values → Residual →
-      Residual) (e : Env) (vs : Values) (so_far : Val) (w : World) → ((vs : Values) → Wraps (wrap vs)) → ((x : Val × Val) (a : Val) (u : World) → Holds u (go x a u)) →
+      Residual) (e : Env) (vs : Values) (so_far : Val) (w : World) → ((vs : Values) → Wraps (wrap vs)) → ((x : Val × Val) (a : Val) (u :
+      World) → Holds u (go x a u)) →
       Holds w (k.takes go wrap e vs so_far w)
   pub parts : (a : Tree) (e : Env) (w : World) → Holds w (k.parts a e w)
   pub defaults : (a : Tree) (m : Bool) (e : Env) (w : World) → Holds w (k.defaults a m e w)
@@ -56,12 +58,14 @@ module _ (p : Program) (k : Deeper) (d : DeeperHolds k) where
   stored_holds (in_object slot) (o ∷ vs) mode pl m e w = to_holds (Some o) slot vs mode pl m e w
   stored_holds nowhere vs mode pl m e w = λ h. tt
 
-  field_holds : (v : Option Val) (a : Option Tree) (m : Bool) (e : Env) (w : World) (wrap : Residual → Residual) (go : Val → World → Outcome) → Wraps wrap → ((v : Val) (u : World) → Holds u (go v u)) → Holds w (field_filled p k v a m e w wrap go)
+  field_holds : (v : Option Val) (a : Option Tree) (m : Bool) (e : Env) (w : World) (wrap : Residual → Residual) (go : Val → World →
+      Outcome) → Wraps wrap → ((v : Val) (u : World) → Holds u (go v u)) → Holds w (field_filled p k v a m e w wrap go)
   field_holds (Some v) a m e w wrap go b f = f v w
   field_holds None None m e w wrap go b f = λ h. tt
   field_holds None (Some a) m e w wrap go b f = valued_holds w _ wrap go b (d.defaults a m e w) (λ v u. f v u)
 
-  pub filled_holds : (fs : List FieldTree) (xs : List Bytes) (vs : List Val) (class : ℕ) (slots : List Val) (pl : Place) (m : Bool) (e : Env)
+  pub filled_holds : (fs : List FieldTree) (xs : List Bytes) (vs : List Val) (class : ℕ) (slots : List Val) (pl : Place) (m : Bool) (e :
+      Env)
       (w : World) → Holds w (filled p k fs xs vs class slots pl m e w)
   filled_holds [] xs vs class slots pl m e w = told_holds w _ pl e
   filled_holds (f ∷ fs) xs vs class slots pl m e w =

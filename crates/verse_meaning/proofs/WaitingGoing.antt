@@ -141,7 +141,8 @@ module _ (p : Program) (k : Deeper) (d : DeeperHolds k) where
     resume_holds (leaf x e) n v w b = λ h. h
     resume_holds (args e f vs r left) n v w b =
         valued_holds w _ _ _ (λ r q. q) (resume_holds r n v w b) (λ y u. operands_hold e f (vs ++ y ∷ []) left u)
-    resume_holds (seq e x r left) n v w b = valued_holds w _ _ _ (λ r q. q) (resume_holds r n v w b) (λ y u. defined_holds p k d x e y true u
+    resume_holds (seq e x r left) n v w b = valued_holds w _ _ _ (λ r q. q) (resume_holds r n v w b) (λ y u. defined_holds p k d x e y true
+        u
         _ (λ e z x. statements_holds p k d left true e z x))
     resume_holds (deferred e a r) n v w b = closing_holds w _ _ _ e (λ r q. q) (resume_holds r n v w b) (λ u. d.parts a e u)
     resume_holds (filling e c pl fs xs vs ss r) n v w b = valued_holds w _ _ _ (λ r q. q) (resume_holds r n v w b) (λ y u. filled_holds p k

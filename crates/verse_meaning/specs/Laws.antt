@@ -383,7 +383,8 @@ ended_scope k q outer v w =
 -- A scope that ends with a value or a `return` has cancelled what is in its background; one that is suspended has its background with it;
 -- what is in the background goes on where it is woken.
 pub record ScopeEnds (p : Program) (k : Deeper) : Type 0 where
-  pub with_value : (q : Role) (outer : Scopes) (e : Env) (v : Val) (w : World) → scope_end p k q outer (value e v w) ≡ ended_scope k q outer v w
+  pub with_value : (q : Role) (outer : Scopes) (e : Env) (v : Val) (w : World) → scope_end p k q outer (value e v w) ≡ ended_scope k q outer
+      v w
   pub with_return : (outer : Scopes) (v : Val) (w : World) → scope_end p k body outer (returned v w) ≡ ended_scope k body outer v w
   pub root_return : (entry : Option ℕ) (outer : Scopes) (v : Val) (w : World) →
       scope_end p k (root entry) outer (returned v w) ≡ ended_scope k (root entry) outer v w
