@@ -19,5 +19,6 @@ mod Waiting
 mod WaitingForms
 mod WaitingEvaluating
 mod WaitingGoing
+mod Numbering
 mod Examples
 mod TaskExamples

@@ -1,10 +1,11 @@
 -- What holds of steps and lines, of each evaluation, of turns and of whole runs.
-use Rattle.std.specs.Prelude.{Option, Some, None, ◌≡◌, ℕ, suc, ◌+◌, ◌≤◌, ℤ, List, [], ◌∷◌, Bool}
+use Rattle.std.specs.Prelude.{cond, Option, Some, None, ◌≡◌, ℕ, suc, ◌+◌, ◌≤◌, ℤ, List, [], ◌∷◌, Bool}
 use Rattle.verse_tree.specs.Tree.{Tree}
 use Rattle.verse_value.specs.Runs.{Line}
 use Rattle.verse_value.specs.Val.{Val}
 use Rattle.verse_meaning_state.specs.Turns.{Stage, amiss, broken, closed, going, Kind, all_of, first_of, rush_of}
 use Rattle.verse_meaning_state.specs.State.{State, begun}
+use Rattle.verse_meaning_state.specs.Waits.{Wait, eqn, ltn}
 use Rattle.verse_meaning.specs.Programs.{Program}
 use Rattle.verse_meaning.specs.Residuals.{Env, Residual, Scope, Arms, Scopes, also, args, arms, called, deferred, filling, gave}
 use Rattle.verse_meaning.specs.Residuals.{generated, leaf, looped, no_arms, none, runs, scope, seq}
@@ -12,7 +13,7 @@ use Rattle.verse_meaning.specs.Outcomes.{Halt, Outcome, World, broke, failed, fa
 use Rattle.verse_meaning.specs.Outcomes.{all_gave, first_gave}
 use Rattle.verse_meaning.specs.Evaluating.{ev}
 use Rattle.verse_meaning.specs.Resuming.{resume, resume_scope}
-use Rattle.verse_meaning.specs.Runs.{Forest, after, deeper, turn_taken}
+use Rattle.verse_meaning.specs.Runs.{Forest, after, deeper, turn_taken, forest_leaves}
 
 abbrev pub halted_state : Halt → State
 halted_state (fault k pl s) = s
@@ -124,3 +125,31 @@ pub record StatesWait (p : Program) : Type 0 where
 
 abbrev pub GroupsWait : Type 0
 GroupsWait = (p : Program) → StatesWait p
+
+-- how many waits of a list have a number
+abbrev pub count : ℕ → List Wait → ℕ
+count i [] = 0
+count i (w ∷ ws) = cond (eqn i w.number) 1 0 + count i ws
+
+-- 1 where a number is still to be drawn
+abbrev pub to_come : ℕ → State → ℕ
+to_come i s = cond (ltn i s.clock.next) 0 1
+
+-- how often a number is that of a live wait, or still to be drawn
+abbrev pub chances : ℕ → State → List Wait → ℕ
+chances i s ws = count i ws + to_come i s
+
+abbrev pub StageChances : ℕ → ℕ → Stage Forest → Type 0
+StageChances i b (going s fs) = chances i s (forest_leaves fs) ≤ b
+StageChances i b (closed e s fs) = chances i s (forest_leaves fs) ≤ b
+StageChances i b (broken e s) = Unit {0}
+StageChances i b (amiss s) = Unit {0}
+
+-- A number that is neither live nor still to be drawn never comes back. So the numbers of live waits are distinct and below `next`, and each
+-- is woken or cancelled no more than once.
+pub record NumberOnce (p : Program) : Type 0 where
+  pub turn : (i until : ℕ) (s : State) (fs : Forest) → StageChances i (chances i s (forest_leaves fs)) (turn_taken p until s fs)
+  pub run : (ns : List ℤ) (i steps until k : ℕ) → StageChances i 1 (after p ns steps until k)
+
+abbrev pub NumbersOnce : Type 0
+NumbersOnce = (p : Program) → NumberOnce p
