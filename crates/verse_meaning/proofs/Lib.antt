@@ -20,5 +20,8 @@ mod WaitingForms
 mod WaitingEvaluating
 mod WaitingGoing
 mod Numbering
+mod NumberingForms
+mod NumberingEvaluating
+mod NumberingGoing
 mod Examples
 mod TaskExamples

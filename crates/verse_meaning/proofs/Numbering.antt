@@ -74,8 +74,8 @@ Fits i w o = (c b : ℕ) → c + stock i w ≤ b → OutcomeFits i c b o
 abbrev pub FitsTask : ℕ → World → TaskOutcome → Type 0
 FitsTask i w o = (c b : ℕ) → c + stock i w ≤ b → TaskFits i c b o
 
-abbrev pub Wraps : (Residual → Residual) → Type 0
-Wraps wrap = (r : Residual) → leaves (wrap r) ≡ leaves r
+abbrev pub KeepsLeaves : (Residual → Residual) → Type 0
+KeepsLeaves wrap = (r : Residual) → leaves (wrap r) ≡ leaves r
 
 -- a world whose clock differs in steps alone, with the same background and forest
 same_stock : (i : ℕ) (w : World) (s : State) → s.clock.next ≡ w.state.clock.next → stock i (with_state w s) ≡ stock i w
@@ -88,7 +88,7 @@ kept_stock i w u a = ap (λ b. count i (behind_leaves b []) + (count i (forest_l
     + (count i (forest_leaves w.tasks) + cond (ltn i n) 0 1)) a.1.1.next)
 
 module _ (i : ℕ) where
-  valued_out : (c b : ℕ) (o : Outcome) (wrap : Residual → Residual) (go : Val → World → Outcome) → Wraps wrap → OutcomeFits i c b o →
+  pub valued_out : (c b : ℕ) (o : Outcome) (wrap : Residual → Residual) (go : Val → World → Outcome) → KeepsLeaves wrap → OutcomeFits i c b o →
       ((v : Val) (u : World) → Fits i u (go v u)) → OutcomeFits i c b (valued o wrap go)
   unfolding valued
   valued_out c b (value e v u) wrap go q a f = f v u c b a
@@ -98,7 +98,7 @@ module _ (i : ℕ) where
   valued_out c b (halted h) wrap go q a f = tt
   valued_out c b (rests r u) wrap go q a f = subst (λ x. c + (count i x + stock i u) ≤ b) (sym (q r)) a
 
-  pub valued_fits : (w : World) (o : Outcome) (wrap : Residual → Residual) (go : Val → World → Outcome) → Wraps wrap → Fits i w o →
+  pub valued_fits : (w : World) (o : Outcome) (wrap : Residual → Residual) (go : Val → World → Outcome) → KeepsLeaves wrap → Fits i w o →
       ((v : Val) (u : World) → Fits i u (go v u)) → Fits i w (valued o wrap go)
   valued_fits w o wrap go q a f c b h = valued_out c b o wrap go q (a c b h) f
 
@@ -123,7 +123,7 @@ module _ (i : ℕ) where
       Fits i w (attempted o w (λ e1 v u. failed (restored w.state.memory u.state)) (λ u. value e unit u))
   denied_fits w e o k a = attempted_fits w o _ _ k a (λ e1 v u c b h. tt) (λ u c b h. h)
 
-  turned_out : (c b : ℕ) (o : Outcome) (wrap : Residual → Residual) (e : Env) (go : World → Outcome) → Wraps wrap → OutcomeFits i c b o →
+  pub turned_out : (c b : ℕ) (o : Outcome) (wrap : Residual → Residual) (e : Env) (go : World → Outcome) → KeepsLeaves wrap → OutcomeFits i c b o →
       ((u : World) → Fits i u (go u)) → OutcomeFits i c b (turned o wrap e go)
   unfolding turned
   turned_out c b (value e1 v u) wrap e go q a f = f u c b a
@@ -133,7 +133,7 @@ module _ (i : ℕ) where
   turned_out c b (halted h) wrap e go q a f = tt
   turned_out c b (rests r u) wrap e go q a f = subst (λ x. c + (count i x + stock i u) ≤ b) (sym (q r)) a
 
-  pub turned_fits : (w : World) (o : Outcome) (wrap : Residual → Residual) (e : Env) (go : World → Outcome) → Wraps wrap → Fits i w o →
+  pub turned_fits : (w : World) (o : Outcome) (wrap : Residual → Residual) (e : Env) (go : World → Outcome) → KeepsLeaves wrap → Fits i w o →
       ((u : World) → Fits i u (go u)) → Fits i w (turned o wrap e go)
   turned_fits w o wrap e go q a f c b h = turned_out c b o wrap e go q (a c b h) f
 
@@ -211,7 +211,7 @@ module _ (i : ℕ) where
   ran_out c b (halted h) go a f = tt
   ran_out c b (rests r u) go a f = tt
 
-  closing_out : (c b : ℕ) (o : Outcome) (run : World → Outcome) (wrap : Residual → Residual) (e : Env) → Wraps wrap →
+  pub closing_out : (c b : ℕ) (o : Outcome) (run : World → Outcome) (wrap : Residual → Residual) (e : Env) → KeepsLeaves wrap →
       OutcomeFits i c b o → ((u : World) → Fits i u (run u)) → OutcomeFits i c b (closing o run wrap e)
   unfolding closing
   closing_out c b (value e1 v u) run wrap e q a f = ran_out c b (run u) _ (f u c b a) (λ x c b h. h)
@@ -221,11 +221,11 @@ module _ (i : ℕ) where
   closing_out c b (halted h) run wrap e q a f = tt
   closing_out c b (rests r u) run wrap e q a f = subst (λ x. c + (count i x + stock i u) ≤ b) (sym (q r)) a
 
-  pub closing_fits : (w : World) (o : Outcome) (run : World → Outcome) (wrap : Residual → Residual) (e : Env) → Wraps wrap → Fits i w o →
+  pub closing_fits : (w : World) (o : Outcome) (run : World → Outcome) (wrap : Residual → Residual) (e : Env) → KeepsLeaves wrap → Fits i w o →
       ((u : World) → Fits i u (run u)) → Fits i w (closing o run wrap e)
   closing_fits w o run wrap e q a f c b h = closing_out c b o run wrap e q (a c b h) f
 
-  call_end_out : (c b : ℕ) (e : Env) (o : TaskOutcome) → TaskFits i c b o → OutcomeFits i c b (call_end e o)
+  pub call_end_out : (c b : ℕ) (e : Env) (o : TaskOutcome) → TaskFits i c b o → OutcomeFits i c b (call_end e o)
   unfolding call_end
   call_end_out c b e (ends v u) a = a
   call_end_out c b e (lost t) a = tt
@@ -255,14 +255,24 @@ module _ (i : ℕ) where
   pub task_fits : (w : World) (e : Env) (v : Val) (o : TaskOutcome) → FitsTask i w o → Fits i w (task_started e v o)
   task_fits w e v o a c b h = task_out c b e v o (a c b h)
 
-  armed_out : (c b : ℕ) (o : TaskOutcome) (y : Val → World → Outcome) (n : Scope → World → Outcome) → TaskFits i c b o →
-      ((v : Val) (u : World) → c + stock i u ≤ b → OutcomeFits i c b (y v u)) → ((x : Scope) (u : World) → c + (count i (scope_leaves x) +
-      stock i u) ≤ b → OutcomeFits i c b (n x u)) → OutcomeFits i c b (armed o y n)
+  pub armed_out : (c c' b : ℕ) (o : TaskOutcome) (y : Val → World → Outcome) (n : Scope → World → Outcome) → TaskFits i c b o →
+      ((v : Val) (u : World) → c + stock i u ≤ b → OutcomeFits i c' b (y v u)) → ((x : Scope) (u : World) → c + (count i (scope_leaves x)
+      + stock i u) ≤ b → OutcomeFits i c' b (n x u)) → OutcomeFits i c' b (armed o y n)
   unfolding armed
-  armed_out c b (ends v u) y n a f g = f v u a
-  armed_out c b (lost t) y n a f g = tt
-  armed_out c b (stops h) y n a f g = tt
-  armed_out c b (sleeps x u) y n a f g = g x u a
+  armed_out c c' b (ends v u) y n a f g = f v u a
+  armed_out c c' b (lost t) y n a f g = tt
+  armed_out c c' b (stops h) y n a f g = tt
+  armed_out c c' b (sleeps x u) y n a f g = g x u a
+
+  spent_out : (c' b left : ℕ) (w : World) (go : World → Outcome) → ((u : World) → stock i u ≡ stock i w → OutcomeFits i c' b (go u)) →
+      OutcomeFits i c' b (spends left w go)
+  unfolding spends
+  spent_out c' b zero w go f = tt
+  spent_out c' b (suc l) w go f = f (with_state w (stepped l w.state)) refl
+
+  pub spends_out : (c' b : ℕ) (w : World) (go : World → Outcome) → ((u : World) → stock i u ≡ stock i w → OutcomeFits i c' b (go u)) →
+      OutcomeFits i c' b (spends w.state.clock.left w go)
+  spends_out c' b w go f = spent_out c' b w.state.clock.left w go f
 
 pub left_stock : (i : ℕ) (gs : Arms) (w : World) → stock i (leave_all gs w) ≡ count i (arms_leaves gs) + stock i w
 left_stock i no_arms w = omega arith

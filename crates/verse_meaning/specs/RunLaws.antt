@@ -1,11 +1,11 @@
 -- What holds of steps and lines, of each evaluation, of turns and of whole runs.
-use Rattle.std.specs.Prelude.{cond, Option, Some, None, ◌≡◌, ℕ, suc, ◌+◌, ◌≤◌, ℤ, List, [], ◌∷◌, Bool}
+use Rattle.std.specs.Prelude.{true, cond, Option, Some, None, ◌≡◌, ℕ, suc, ◌+◌, ◌≤◌, ℤ, List, [], ◌∷◌, Bool}
 use Rattle.verse_tree.specs.Tree.{Tree}
 use Rattle.verse_value.specs.Runs.{Line}
 use Rattle.verse_value.specs.Val.{Val}
 use Rattle.verse_meaning_state.specs.Turns.{Stage, amiss, broken, closed, going, Kind, all_of, first_of, rush_of}
 use Rattle.verse_meaning_state.specs.State.{State, begun}
-use Rattle.verse_meaning_state.specs.Waits.{Wait, eqn, ltn}
+use Rattle.verse_meaning_state.specs.Waits.{Wait, eqn, ltn, has}
 use Rattle.verse_meaning.specs.Programs.{Program}
 use Rattle.verse_meaning.specs.Residuals.{Env, Residual, Scope, Arms, Scopes, also, args, arms, called, deferred, filling, gave}
 use Rattle.verse_meaning.specs.Residuals.{generated, leaf, looped, no_arms, none, runs, scope, seq}
@@ -13,7 +13,7 @@ use Rattle.verse_meaning.specs.Outcomes.{Halt, Outcome, World, broke, failed, fa
 use Rattle.verse_meaning.specs.Outcomes.{all_gave, first_gave}
 use Rattle.verse_meaning.specs.Evaluating.{ev}
 use Rattle.verse_meaning.specs.Resuming.{resume, resume_scope}
-use Rattle.verse_meaning.specs.Runs.{Forest, after, deeper, turn_taken, forest_leaves}
+use Rattle.verse_meaning.specs.Runs.{Forest, after, deeper, turn_taken, forest_leaves, woken}
 
 abbrev pub halted_state : Halt → State
 halted_state (fault k pl s) = s
@@ -149,6 +149,9 @@ StageChances i b (amiss s) = Unit {0}
 -- is woken or cancelled no more than once.
 pub record NumberOnce (p : Program) : Type 0 where
   pub turn : (i until : ℕ) (s : State) (fs : Forest) → StageChances i (chances i s (forest_leaves fs)) (turn_taken p until s fs)
+  -- the number that is woken goes
+  pub goes : (n : ℕ) (v : Val) (fs : Forest) (s : State) (b : ℕ) → has n (forest_leaves fs) ≡ true → chances n s (forest_leaves fs) ≤ suc b →
+      StageChances n b (woken p n v [] fs s)
   pub run : (ns : List ℤ) (i steps until k : ℕ) → StageChances i 1 (after p ns steps until k)
 
 abbrev pub NumbersOnce : Type 0

@@ -20,7 +20,7 @@ ghost use Rattle.verse_meaning.specs.Laws.{
   ScopesEnd,
   UnfinishedGoesOn,
 };
-ghost use Rattle.verse_meaning.specs.RunLaws.{DepthEnough, GroupsWait, LinesStay, StepsCounted};
+ghost use Rattle.verse_meaning.specs.RunLaws.{DepthEnough, GroupsWait, LinesStay, NumbersOnce, StepsCounted};
 
 /// What is evaluated with a failure context open leaves the tasks, waits and signals of all others
 /// as they were, and only steps are gone from the clock; an attempt that fails goes on with the
@@ -126,4 +126,10 @@ pub fn depth_enough()
 /// its arms, in no task, scope or background.
 pub fn groups_wait()
     ensures { GroupsWait }
+{}
+
+/// The numbers of live waits are distinct and below the next one; a number that is woken goes, and
+/// one that is gone never comes back.
+pub fn numbers_once()
+    ensures { NumbersOnce }
 {}
