@@ -23,5 +23,6 @@ mod Numbering
 mod NumberingForms
 mod NumberingEvaluating
 mod NumberingGoing
+mod Losing
 mod Examples
 mod TaskExamples

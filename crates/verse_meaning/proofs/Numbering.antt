@@ -26,21 +26,36 @@ count_both i (x ∷ xs) ys = omega (arith, count_both i xs ys)
 
 pub count_behind : (i : ℕ) (bs : Scopes) (ws : List Wait) → count i (behind_leaves bs ws) ≡ count i (behind_leaves bs []) + count i ws
 count_behind i none ws = omega arith
-count_behind i (also s bs) ws = omega (arith, count_both i (scope_leaves s) (behind_leaves bs ws), count_both i (scope_leaves s)
-    (behind_leaves bs []), count_behind i bs ws)
+count_behind i (also s bs) ws = omega (
+  arith,
+  count_both i (scope_leaves s) (behind_leaves bs ws),
+  count_both i (scope_leaves s)
+      (behind_leaves bs []),
+  count_behind i bs ws,
+)
 
 pub count_then : (i : ℕ) (bs : Scopes) (s : Scope) →
     count i (behind_leaves (and_then bs s) []) ≡ count i (behind_leaves bs []) + count i (scope_leaves s)
 count_then i none s = omega (arith, count_both i (scope_leaves s) [])
-count_then i (also x bs) s = omega (arith, count_both i (scope_leaves x) (behind_leaves (and_then bs s) []), count_both i (scope_leaves x)
-    (behind_leaves bs []), count_then i bs s)
+count_then i (also x bs) s = omega (
+  arith,
+  count_both i (scope_leaves x) (behind_leaves (and_then bs s) []),
+  count_both i (scope_leaves x)
+      (behind_leaves bs []),
+  count_then i bs s,
+)
 
 pub count_forests : (i : ℕ) (xs ys : List (Option Scope)) →
     count i (forest_leaves (xs ++ ys)) ≡ count i (forest_leaves xs) + count i (forest_leaves ys)
 count_forests i [] ys = omega arith
 count_forests i (None ∷ xs) ys = count_forests i xs ys
-count_forests i (Some s ∷ xs) ys = omega (arith, count_both i (scope_leaves s) (forest_leaves (xs ++ ys)), count_both i (scope_leaves s)
-    (forest_leaves xs), count_forests i xs ys)
+count_forests i (Some s ∷ xs) ys = omega (
+  arith,
+  count_both i (scope_leaves s) (forest_leaves (xs ++ ys)),
+  count_both i (scope_leaves s)
+      (forest_leaves xs),
+  count_forests i xs ys,
+)
 
 -- a number is drawn
 drawn_one : (i n : ℕ) → cond (eqn i n) 1 0 + cond (ltn i (suc n)) 0 1 ≡ cond (ltn i n) 0 1
@@ -88,7 +103,8 @@ kept_stock i w u a = ap (λ b. count i (behind_leaves b []) + (count i (forest_l
     + (count i (forest_leaves w.tasks) + cond (ltn i n) 0 1)) a.1.1.next)
 
 module _ (i : ℕ) where
-  pub valued_out : (c b : ℕ) (o : Outcome) (wrap : Residual → Residual) (go : Val → World → Outcome) → KeepsLeaves wrap → OutcomeFits i c b o →
+  pub valued_out : (c b : ℕ) (o : Outcome) (wrap : Residual → Residual) (go : Val → World → Outcome) → KeepsLeaves wrap → OutcomeFits i c b
+      o →
       ((v : Val) (u : World) → Fits i u (go v u)) → OutcomeFits i c b (valued o wrap go)
   unfolding valued
   valued_out c b (value e v u) wrap go q a f = f v u c b a
@@ -123,7 +139,8 @@ module _ (i : ℕ) where
       Fits i w (attempted o w (λ e1 v u. failed (restored w.state.memory u.state)) (λ u. value e unit u))
   denied_fits w e o k a = attempted_fits w o _ _ k a (λ e1 v u c b h. tt) (λ u c b h. h)
 
-  pub turned_out : (c b : ℕ) (o : Outcome) (wrap : Residual → Residual) (e : Env) (go : World → Outcome) → KeepsLeaves wrap → OutcomeFits i c b o →
+  pub turned_out : (c b : ℕ) (o : Outcome) (wrap : Residual → Residual) (e : Env) (go : World → Outcome) → KeepsLeaves wrap → OutcomeFits i
+      c b o →
       ((u : World) → Fits i u (go u)) → OutcomeFits i c b (turned o wrap e go)
   unfolding turned
   turned_out c b (value e1 v u) wrap e go q a f = f u c b a
@@ -133,7 +150,8 @@ module _ (i : ℕ) where
   turned_out c b (halted h) wrap e go q a f = tt
   turned_out c b (rests r u) wrap e go q a f = subst (λ x. c + (count i x + stock i u) ≤ b) (sym (q r)) a
 
-  pub turned_fits : (w : World) (o : Outcome) (wrap : Residual → Residual) (e : Env) (go : World → Outcome) → KeepsLeaves wrap → Fits i w o →
+  pub turned_fits : (w : World) (o : Outcome) (wrap : Residual → Residual) (e : Env) (go : World → Outcome) → KeepsLeaves wrap → Fits i w o
+      →
       ((u : World) → Fits i u (go u)) → Fits i w (turned o wrap e go)
   turned_fits w o wrap e go q a f c b h = turned_out c b o wrap e go q (a c b h) f
 
@@ -221,7 +239,8 @@ module _ (i : ℕ) where
   closing_out c b (halted h) run wrap e q a f = tt
   closing_out c b (rests r u) run wrap e q a f = subst (λ x. c + (count i x + stock i u) ≤ b) (sym (q r)) a
 
-  pub closing_fits : (w : World) (o : Outcome) (run : World → Outcome) (wrap : Residual → Residual) (e : Env) → KeepsLeaves wrap → Fits i w o →
+  pub closing_fits : (w : World) (o : Outcome) (run : World → Outcome) (wrap : Residual → Residual) (e : Env) → KeepsLeaves wrap → Fits i w
+      o →
       ((u : World) → Fits i u (run u)) → Fits i w (closing o run wrap e)
   closing_fits w o run wrap e q a f c b h = closing_out c b o run wrap e q (a c b h) f
 
@@ -277,18 +296,31 @@ module _ (i : ℕ) where
 pub left_stock : (i : ℕ) (gs : Arms) (w : World) → stock i (leave_all gs w) ≡ count i (arms_leaves gs) + stock i w
 left_stock i no_arms w = omega arith
 left_stock i (gave v gs) w = left_stock i gs w
-left_stock i (runs s gs) w = omega (arith, left_stock i gs (leave w s), count_then i w.behind s, count_both i (scope_leaves s) (arms_leaves
-    gs))
+left_stock i (runs s gs) w = omega (
+  arith,
+  left_stock i gs (leave w s),
+  count_then i w.behind s,
+  count_both i (scope_leaves s) (arms_leaves
+      gs),
+)
 
 pub gave_count : (i : ℕ) (gs : Arms) (v : Val) → count i (arms_leaves (with_arm gs (gave v no_arms))) ≡ count i (arms_leaves gs)
 gave_count i no_arms v = refl
 gave_count i (gave x gs) v = gave_count i gs v
-gave_count i (runs s gs) v = omega (arith, gave_count i gs v, count_both i (scope_leaves s) (arms_leaves (with_arm gs (gave v no_arms))),
-    count_both i (scope_leaves s) (arms_leaves gs))
+gave_count i (runs s gs) v = omega (
+  arith,
+  gave_count i gs v,
+  count_both i (scope_leaves s) (arms_leaves (with_arm gs (gave v no_arms))),
+  count_both i (scope_leaves s) (arms_leaves gs),
+)
 
 pub runs_count : (i : ℕ) (gs : Arms) (s : Scope) →
     count i (arms_leaves (with_arm gs (runs s no_arms))) ≡ count i (arms_leaves gs) + count i (scope_leaves s)
 runs_count i no_arms s = omega (arith, count_both i (scope_leaves s) [])
 runs_count i (gave x gs) s = runs_count i gs s
-runs_count i (runs y gs) s = omega (arith, runs_count i gs s, count_both i (scope_leaves y) (arms_leaves (with_arm gs (runs s no_arms))),
-    count_both i (scope_leaves y) (arms_leaves gs))
+runs_count i (runs y gs) s = omega (
+  arith,
+  runs_count i gs s,
+  count_both i (scope_leaves y) (arms_leaves (with_arm gs (runs s no_arms))),
+  count_both i (scope_leaves y) (arms_leaves gs),
+)

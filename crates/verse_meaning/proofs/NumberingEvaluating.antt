@@ -132,7 +132,8 @@ module _ (i : ℕ) (p : Program) (k : Deeper) (keeps : DeeperKeeps k) (d : Deepe
   gave_fits rush_of pl e gs w go c b h a = a
 
   begins_out : (c c' b : ℕ) (w : World) (run : World → Outcome) (go : TaskOutcome → Outcome) → c + stock i w ≤ b → ((u : World) →
-      Fits i u (run u)) → ((o : TaskOutcome) → TaskFits i c b o → OutcomeFits i c' b (go o)) → OutcomeFits i c' b (begins_scope p k w run go)
+      Fits i u (run u)) → ((o : TaskOutcome) → TaskFits i c b o → OutcomeFits i c' b (go o)) → OutcomeFits i c' b (begins_scope p k w run
+      go)
   unfolding begins_scope
   begins_out c c' b w run go h f g = spends_out i c' b w _ (λ u q. g (scope_end p k part u.behind (run (set_behind u none))) (scope_fits
       part u (run (set_behind u none)) (f (set_behind u none)) c b (subst (λ y. c + y ≤ b) (sym q) h)))
@@ -164,14 +165,16 @@ module _ (i : ℕ) (p : Program) (k : Deeper) (keeps : DeeperKeeps k) (d : Deepe
   claused_fits (generates x) e m w whole inner go f g h = valued_fits i w _ _ _ (λ r. refl) (g w) (λ v u. λ c b h. h)
 
   from_fits : (g : Generator) (v : Val) (e : Env) (so_far : Val) (m : Bool) (w : World) (go : Val × Val → Val → World →
-      Outcome) (wrap : Values → Residual → Residual) → ((vs : Values) → KeepsLeaves (wrap vs)) → ((x : Val × Val) (a : Val) (u : World) → Fits i u (go x a u)) →
+      Outcome) (wrap : Values → Residual → Residual) → ((vs : Values) → KeepsLeaves (wrap vs)) → ((x : Val × Val) (a : Val) (u : World) →
+      Fits i u (go x a u)) →
       Fits i w (generates_from p k g v e so_far w go wrap)
   unfolding generates_from
   from_fits g v e so_far m w go wrap q f = there_fits i w (values_of g v) _ (λ vs. d.takes m go wrap e vs so_far w q f)
 
   levelled_fits : (x : Statement) (v : Val) (e : Env) (so_far : Val) (m : Bool) (w : World) (on_go : World →
       Outcome) (taken : Generator → Val × Val → Val → World → Outcome) (wrap : Generator → Values → Residual → Residual) →
-      ((g : Generator) (vs : Values) → KeepsLeaves (wrap g vs)) → Fits i w (on_go w) → ((g : Generator) (x : Val × Val) (a : Val) (u : World) → Fits i u (taken g x a u)) →
+      ((g : Generator) (vs : Values) → KeepsLeaves (wrap g vs)) → Fits i w (on_go w) → ((g : Generator) (x : Val × Val) (a : Val) (u :
+      World) → Fits i u (taken g x a u)) →
       Fits i w (levelled p k x v e so_far w on_go taken wrap)
   unfolding levelled
   levelled_fits plain v e so_far m w on_go taken wrap q a f = a
@@ -224,27 +227,34 @@ module _ (i : ℕ) (p : Program) (k : Deeper) (keeps : DeeperKeeps k) (d : Deepe
     shape_fits t.Shape.returned_unit n pl m e w = λ c b h. h
     shape_fits t.Shape.break_form n pl m e w = λ c b h. h
     shape_fits (t.Shape.if_else cs a b) n pl m e w =
-        attempted_fits i w _ _ _ (statements_keep p k keeps cs false e unit w) (statements_fits cs false e unit w) (λ e v u. ev_fits a m e u) (λ u. ev_fits b m e u)
+        attempted_fits i w _ _ _ (statements_keep p k keeps cs false e unit w) (statements_fits cs false e unit w) (λ e v u. ev_fits a m e
+        u) (λ u. ev_fits b m e u)
     shape_fits (t.Shape.if_alone cs a) n pl m e w =
-        attempted_fits i w _ _ _ (statements_keep p k keeps cs false e unit w) (statements_fits cs false e unit w) (λ e v u. ev_fits a m e u) (λ u. λ c b h. h)
+        attempted_fits i w _ _ _ (statements_keep p k keeps cs false e unit w) (statements_fits cs false e unit w) (λ e v u. ev_fits a m e
+        u) (λ u. λ c b h. h)
     shape_fits (t.Shape.negation a) n pl m e w =
         denied_fits i w e _ (ev_keeps p k keeps a false e w) (ev_fits a false e w)
     shape_fits (t.Shape.option cs) n pl m e w =
-        attempted_fits i w _ _ _ (statements_keep p k keeps cs false e unit w) (statements_fits cs false e unit w) (λ e1 v u. told_fits i u _ pl e (still_memory u _)) (λ u.
+        attempted_fits i w _ _ _ (statements_keep p k keeps cs false e unit w) (statements_fits cs false e unit w) (λ e1 v u. told_fits i u
+        _ pl e (still_memory u _)) (λ u.
         (λ c b h. h))
     shape_fits (t.Shape.logic cs) n pl m e w =
-        attempted_fits i w _ _ _ (statements_keep p k keeps cs false e unit w) (statements_fits cs false e unit w) (λ e v u. λ c b h. h) (λ u. λ c b h. h)
+        attempted_fits i w _ _ _ (statements_keep p k keeps cs false e unit w) (statements_fits cs false e unit w) (λ e v u. λ c b h. h) (λ
+        u. λ c b h. h)
     shape_fits (t.Shape.chained op.Or a b) n pl m e w =
         attempted_fits i w _ _ _ (ev_keeps p k keeps a false e w) (ev_fits a false e w) (λ e v u. λ c b h. h) (λ u. ev_fits b m e u)
     shape_fits (t.Shape.for_form cs a) n pl m e w =
-        attempted_fits i w _ _ _ (clauses_keep p k keeps cs false e unit w) (clauses_fits cs false e unit w) (λ e1 v u. level_fits cs a _ pl e1 v _ m u (λ e u. ev_fits a m e
+        attempted_fits i w _ _ _ (clauses_keep p k keeps cs false e unit w) (clauses_fits cs false e unit w) (λ e1 v u. level_fits cs a _ pl
+        e1 v _ m u (λ e u. ev_fits a m e
         u)) (λ u. λ c b h. h)
     shape_fits (t.Shape.chained op.Div a b) n pl m e w = λ c b h. tt
     shape_fits (t.Shape.chained x a b) n pl m e w =
-        valued_fits i w _ _ _ (λ r. refl) (ev_fits a m e w) (λ v u. valued_fits i u _ _ _ (λ r. refl) (ev_fits b m e u) (λ y z. apply_fits i p k keeps d
+        valued_fits i w _ _ _ (λ r. refl) (ev_fits a m e w) (λ v u. valued_fits i u _ _ _ (λ r. refl) (ev_fits b m e u) (λ y z. apply_fits i
+        p k keeps d
         (form.computing x (p.is_array n) pl) (v ∷ y ∷ []) m e z))
     shape_fits (t.Shape.compared x a b) n pl m e w =
-        valued_fits i w _ _ _ (λ r. refl) (ev_fits a m e w) (λ v u. valued_fits i u _ _ _ (λ r. refl) (ev_fits b m e u) (λ y z. apply_fits i p k keeps d
+        valued_fits i w _ _ _ (λ r. refl) (ev_fits a m e w) (λ v u. valued_fits i u _ _ _ (λ r. refl) (ev_fits b m e u) (λ y z. apply_fits i
+        p k keeps d
         (form.comparing x) (v ∷ y ∷ []) m e z))
     shape_fits (t.Shape.minus a) n pl m e w =
         valued_fits i w _ _ _ (λ r. refl) (ev_fits a m e w) (λ v u. apply_fits i p k keeps d (form.negating pl) (v ∷ []) m e u)
@@ -255,11 +265,13 @@ module _ (i : ℕ) (p : Program) (k : Deeper) (keeps : DeeperKeeps k) (d : Deepe
         (member_form (ref_at p n)
         x) (v ∷ []) m e u))
     shape_fits (t.Shape.call a ts) n pl m e w = callee_fits (callee_of p a (picked ts) pl) m w _ _ _ _ (λ f. args_fits ts f [] m e w)
-        (λ f. valued_fits i w _ _ _ (λ r. refl) (inner_fits a m e w) (λ v u. args_fits ts f (v ∷ []) m e u)) (λ f. valued_fits i w _ _ _ (λ r. refl)
+        (λ f. valued_fits i w _ _ _ (λ r. refl) (inner_fits a m e w) (λ v u. args_fits ts f (v ∷ []) m e u)) (λ f. valued_fits i w _ _ _ (λ
+        r. refl)
         (ev_fits a m e w) (λ v u. apply_fits i p k keeps d f (v ∷ []) m e u)) (λ f. quotient_fits ts f m e w)
     shape_fits (t.Shape.index a ts) n pl m e w = callee_fits (callee_of p a form.indexing pl) m w _ _ _ _ (λ f. args_fits ts f [] m e
         w)
-        (λ f. valued_fits i w _ _ _ (λ r. refl) (inner_fits a m e w) (λ v u. args_fits ts f (v ∷ []) m e u)) (λ f. valued_fits i w _ _ _ (λ r. refl)
+        (λ f. valued_fits i w _ _ _ (λ r. refl) (inner_fits a m e w) (λ v u. args_fits ts f (v ∷ []) m e u)) (λ f. valued_fits i w _ _ _ (λ
+        r. refl)
         (ev_fits a m e w) (λ v u. args_fits ts f (v ∷ []) m e u)) (λ f. quotient_fits ts f m e w)
     shape_fits (t.Shape.integer z) n pl m e w = λ c b h. h
     shape_fits (t.Shape.character c) n pl m e w = λ c b h. h
@@ -344,7 +356,8 @@ module _ (i : ℕ) (p : Program) (k : Deeper) (keeps : DeeperKeeps k) (d : Deepe
 
     pub quotient_shape_fits : (s : Shape) (f : Form) (m : Bool) (e : Env) (w : World) → Fits i w (quotient_shape p k s f m e w)
     quotient_shape_fits (t.Shape.chained x a b) f m e w =
-        valued_fits i w _ _ _ (λ r. refl) (ev_fits a m e w) (λ v u. valued_fits i u _ _ _ (λ r. refl) (ev_fits b m e u) (λ y z. apply_fits i p k keeps d f (v ∷ y
+        valued_fits i w _ _ _ (λ r. refl) (ev_fits a m e w) (λ v u. valued_fits i u _ _ _ (λ r. refl) (ev_fits b m e u) (λ y z. apply_fits i
+        p k keeps d f (v ∷ y
         ∷ []) m e z))
     quotient_shape_fits s f m e w = λ c b h. tt
 
@@ -376,10 +389,12 @@ module _ (i : ℕ) (p : Program) (k : Deeper) (keeps : DeeperKeeps k) (d : Deepe
     pub level_fits : (cs : Trees) (a : Tree) (run : Env → World →
         Outcome) (pl : Place) (e : Env) (v so_far : Val) (m : Bool) (w : World) → ((e : Env) (u : World) → Fits i u (run e u)) →
         Fits i w (level p k cs a run pl e v so_far w)
-    level_fits no_trees a run pl e v so_far m w f = valued_fits i w _ _ _ (λ r. refl) (f e w) (λ y u. told_fits i u _ pl e (still_memory u _))
+    level_fits no_trees a run pl e v so_far m w f = valued_fits i w _ _ _ (λ r. refl) (f e w) (λ y u. told_fits i u _ pl e (still_memory u
+        _))
     level_fits (more_trees c cs) a run pl e v so_far m w f =
         levelled_fits (statement_of c) v e so_far m w _ _ _ (λ g vs r. refl) (level_fits cs a run pl e v so_far m w f)
-        (λ g x so_far u. attempted_fits i u _ _ _ (clauses_keep p k keeps cs false _ unit u) (clauses_fits cs false _ unit u) (λ e1 y z. level_fits cs a run pl e1 y so_far m z
+        (λ g x so_far u. attempted_fits i u _ _ _ (clauses_keep p k keeps cs false _ unit u) (clauses_fits cs false _ unit u) (λ e1 y z.
+        level_fits cs a run pl e1 y so_far m z
         f) (λ z. λ c b h. h))
 
     pub chosen_fits : (ts : Trees) (v : Val) (m : Bool) (e : Env) (w : World) → Fits i w (chosen p k ts v m e w)

@@ -28,7 +28,8 @@ pub record DeeperFits (i : ℕ) (k : Deeper) : Type 0 where
       ((u : World) → Fits i u (go u)) →
       Fits i w (k.loops go wrap e w)
   pub takes : (m : Bool) (go : Val × Val → Val → World → Outcome) (wrap : Values → Residual →
-      Residual) (e : Env) (vs : Values) (so_far : Val) (w : World) → ((vs : Values) → KeepsLeaves (wrap vs)) → ((x : Val × Val) (a : Val) (u : World) → Fits i u (go x a u))
+      Residual) (e : Env) (vs : Values) (so_far : Val) (w : World) → ((vs : Values) → KeepsLeaves (wrap vs)) → ((x : Val × Val) (a : Val) (u
+      : World) → Fits i u (go x a u))
       →
       Fits i w (k.takes go wrap e vs so_far w)
   pub parts : (a : Tree) (e : Env) (w : World) → Fits i w (k.parts a e w)

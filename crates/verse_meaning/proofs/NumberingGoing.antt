@@ -59,7 +59,8 @@ hit_right i n xs ys e = ap (λ b. cond b (cond (eqn i n) 1 0) 0) (has_both n xs 
 
 has_behind : (n : ℕ) (bs : Scopes) (ws : List Wait) → has n (behind_leaves bs ws) ≡ cond (is_behind n bs) true (has n ws)
 has_behind n none ws = refl
-has_behind n (also s bs) ws = has_both n (scope_leaves s) (behind_leaves bs ws) ∙ (ap (λ z. cond (has n (scope_leaves s)) true z) (has_behind
+has_behind n (also s bs) ws = has_both n (scope_leaves s) (behind_leaves bs ws) ∙ (ap (λ z. cond (has n (scope_leaves s)) true z)
+    (has_behind
     n bs ws) ∙ cond_both (has n (scope_leaves s)) (is_behind n bs) (has n ws))
 
 hit_behind : (i n : ℕ) (bs : Scopes) (ws vs : List Wait) → is_behind n bs ≡ true →
@@ -221,8 +222,12 @@ module _ (i : ℕ) (p : Program) (k : Deeper) (keeps : DeeperKeeps k) (d : Deepe
     pub resume_scope_fits : (s : Scope) (n : ℕ) (v : Val) (w : World) (c b : ℕ) →
         c + (count i (scope_leaves s) + stock i w) ≤ hit i n (scope_leaves s) + b → TaskFits i c b (resume_scope p k s n v w)
     resume_scope_fits (scope q r bs) n v w c b h = bool_both (TaskFits i c b) (is_behind n bs) _ _
-        (λ e. behind_out i c b q r _ (resume_behind_fits bs n v w (c + count i (leaves r)) b (omega (arith, h, count_behind i bs (leaves r),
-        hit_behind i n bs (leaves r) [] e))))
+        (λ e. behind_out i c b q r _ (resume_behind_fits bs n v w (c + count i (leaves r)) b (omega (
+          arith,
+          h,
+          count_behind i bs (leaves r),
+          hit_behind i n bs (leaves r) [] e,
+        ))))
         (λ e. scope_out i p k keeps d c b q w.behind _ (resume_fits r n v (set_behind w bs) (c + count i (behind_leaves w.behind [])) b
         (omega (arith, h, count_behind i bs (leaves r), hit_own i n bs (leaves r) e))))
 
@@ -230,20 +235,40 @@ module _ (i : ℕ) (p : Program) (k : Deeper) (keeps : DeeperKeeps k) (d : Deepe
         c + (count i (behind_leaves bs []) + stock i w) ≤ hit i n (behind_leaves bs []) + b → BehindFits i c b (resume_behind p k bs n v w)
     resume_behind_fits none n v w c b h = omega (arith, h)
     resume_behind_fits (also s bs) n v w c b h = bool_both (BehindFits i c b) (has n (scope_leaves s)) _ _
-        (λ e. element_out i c b _ bs (resume_scope_fits s n v w (c + count i (behind_leaves bs [])) b (omega (arith, h, count_both i
-        (scope_leaves s) (behind_leaves bs []), hit_left i n (scope_leaves s) (behind_leaves bs []) e))))
-        (λ e. before_out i c b s _ (resume_behind_fits bs n v w (c + count i (scope_leaves s)) b (omega (arith, h, count_both i
-        (scope_leaves s) (behind_leaves bs []), hit_right i n (scope_leaves s) (behind_leaves bs []) e))))
+        (λ e. element_out i c b _ bs (resume_scope_fits s n v w (c + count i (behind_leaves bs [])) b (omega (
+          arith,
+          h,
+          count_both i
+              (scope_leaves s) (behind_leaves bs []),
+          hit_left i n (scope_leaves s) (behind_leaves bs []) e,
+        ))))
+        (λ e. before_out i c b s _ (resume_behind_fits bs n v w (c + count i (scope_leaves s)) b (omega (
+          arith,
+          h,
+          count_both i
+              (scope_leaves s) (behind_leaves bs []),
+          hit_right i n (scope_leaves s) (behind_leaves bs []) e,
+        ))))
 
     pub resume_arms_fit : (gs : Arms) (n : ℕ) (v : Val) (w : World) (c b : ℕ) →
         c + (count i (arms_leaves gs) + stock i w) ≤ hit i n (arms_leaves gs) + b → ArmsFit i c b (resume_arms p k gs n v w)
     resume_arms_fit no_arms n v w c b h = tt
     resume_arms_fit (gave y gs) n v w c b h = gave_before i c b y _ (resume_arms_fit gs n v w c b h)
     resume_arms_fit (runs s gs) n v w c b h = bool_both (ArmsFit i c b) (has n (scope_leaves s)) _ _
-        (λ e. arm_out i c b _ gs (resume_scope_fits s n v w (c + count i (arms_leaves gs)) b (omega (arith, h, count_both i
-        (scope_leaves s) (arms_leaves gs), hit_left i n (scope_leaves s) (arms_leaves gs) e))))
-        (λ e. runs_before i c b s _ (resume_arms_fit gs n v w (c + count i (scope_leaves s)) b (omega (arith, h, count_both i
-        (scope_leaves s) (arms_leaves gs), hit_right i n (scope_leaves s) (arms_leaves gs) e))))
+        (λ e. arm_out i c b _ gs (resume_scope_fits s n v w (c + count i (arms_leaves gs)) b (omega (
+          arith,
+          h,
+          count_both i
+              (scope_leaves s) (arms_leaves gs),
+          hit_left i n (scope_leaves s) (arms_leaves gs) e,
+        ))))
+        (λ e. runs_before i c b s _ (resume_arms_fit gs n v w (c + count i (scope_leaves s)) b (omega (
+          arith,
+          h,
+          count_both i
+              (scope_leaves s) (arms_leaves gs),
+          hit_right i n (scope_leaves s) (arms_leaves gs) e,
+        ))))
 
 -- the forest
 halted_fits : (i b : ℕ) (h : Halt) → StageChances i b (ended_by h)
@@ -252,12 +277,18 @@ halted_fits i b (out s) = tt
 halted_fits i b (jammed s) = tt
 halted_fits i b (wrong s) = tt
 
-came_fits : (i b : ℕ) (before : Forest) (o : TaskOutcome) → TaskFits i (count i (forest_leaves before)) b o → StageChances i b (came before o)
+came_fits : (i b : ℕ) (before : Forest) (o : TaskOutcome) → TaskFits i (count i (forest_leaves before)) b o → StageChances i b (came before
+    o)
 came_fits i b before (ends v w) a = omega (arith, a, count_forests i before (None ∷ w.tasks))
 came_fits i b before (lost t) a = tt
 came_fits i b before (stops h) a = halted_fits i b h
-came_fits i b before (sleeps s w) a = omega (arith, a, count_forests i before (Some s ∷ w.tasks), count_both i (scope_leaves s)
-    (forest_leaves w.tasks))
+came_fits i b before (sleeps s w) a = omega (
+  arith,
+  a,
+  count_forests i before (Some s ∷ w.tasks),
+  count_both i (scope_leaves s)
+      (forest_leaves w.tasks),
+)
 
 cond_fits : (i b : ℕ) (t : Bool) (f g : Stage Forest) → StageChances i b f → StageChances i b g → StageChances i b (cond t f g)
 cond_fits i b true f g x y = x
@@ -300,10 +331,22 @@ module _ (i : ℕ) (p : Program) where
       woken_fits n v (before ++ None ∷ []) fs s b (omega (arith, h, count_forests i before (None ∷ [])))
   woken_fits n v before (Some x ∷ fs) s b h = bool_both (StageChances i b) (has n (scope_leaves x)) _ _
       (λ e. came_fits i b before _ (resume_scope_fits i p (deeper p s.clock.left) (deeper_keeps p s.clock.left) (deeper_fits i p
-      s.clock.left) x n v (world s none fs) (count i (forest_leaves before)) b (omega (arith, h, count_both i (scope_leaves x)
-      (forest_leaves fs), hit_left i n (scope_leaves x) (forest_leaves fs) e))))
-      (λ e. woken_fits n v (before ++ Some x ∷ []) fs s b (omega (arith, h, count_forests i before (Some x ∷ []), count_both i
-      (scope_leaves x) [], count_both i (scope_leaves x) (forest_leaves fs), hit_right i n (scope_leaves x) (forest_leaves fs) e)))
+      s.clock.left) x n v (world s none fs) (count i (forest_leaves before)) b (omega (
+        arith,
+        h,
+        count_both i (scope_leaves x)
+            (forest_leaves fs),
+        hit_left i n (scope_leaves x) (forest_leaves fs) e,
+      ))))
+      (λ e. woken_fits n v (before ++ Some x ∷ []) fs s b (omega (
+        arith,
+        h,
+        count_forests i before (Some x ∷ []),
+        count_both i
+            (scope_leaves x) [],
+        count_both i (scope_leaves x) (forest_leaves fs),
+        hit_right i n (scope_leaves x) (forest_leaves fs) e,
+      )))
 
   at_fits : (until : ℕ) (x : Option Due) (s : State) (fs : Forest) → StageChances i (chances i s (forest_leaves fs)) (turn_at until x s fs
       (λ due s. woken p due.number due.given.value [] fs s))

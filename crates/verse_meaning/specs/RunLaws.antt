@@ -1,5 +1,5 @@
 -- What holds of steps and lines, of each evaluation, of turns and of whole runs.
-use Rattle.std.specs.Prelude.{true, cond, Option, Some, None, ◌≡◌, ℕ, suc, ◌+◌, ◌≤◌, ℤ, List, [], ◌∷◌, Bool}
+use Rattle.std.specs.Prelude.{◌++◌, true, cond, Option, Some, None, ◌≡◌, ℕ, suc, ◌+◌, ◌≤◌, ℤ, List, [], ◌∷◌, Bool}
 use Rattle.verse_tree.specs.Tree.{Tree}
 use Rattle.verse_value.specs.Runs.{Line}
 use Rattle.verse_value.specs.Val.{Val}
@@ -8,7 +8,8 @@ use Rattle.verse_meaning_state.specs.State.{State, begun}
 use Rattle.verse_meaning_state.specs.Waits.{Wait, eqn, ltn, has}
 use Rattle.verse_meaning.specs.Programs.{Program}
 use Rattle.verse_meaning.specs.Residuals.{Env, Residual, Scope, Arms, Scopes, also, args, arms, called, deferred, filling, gave}
-use Rattle.verse_meaning.specs.Residuals.{generated, leaf, looped, no_arms, none, runs, scope, seq}
+use Rattle.verse_meaning.specs.Residuals.{generated, leaf, looped, no_arms, none, runs, scope, seq, arms_leaves, behind_leaves, is_behind}
+use Rattle.verse_meaning.specs.Residuals.{leaves, scope_leaves}
 use Rattle.verse_meaning.specs.Outcomes.{Halt, Outcome, World, broke, failed, fault, halted, jammed, out, rests, returned, value, wrong}
 use Rattle.verse_meaning.specs.Outcomes.{all_gave, first_gave}
 use Rattle.verse_meaning.specs.Evaluating.{ev}
@@ -150,9 +151,58 @@ StageChances i b (amiss s) = Unit {0}
 pub record NumberOnce (p : Program) : Type 0 where
   pub turn : (i until : ℕ) (s : State) (fs : Forest) → StageChances i (chances i s (forest_leaves fs)) (turn_taken p until s fs)
   -- the number that is woken goes
-  pub goes : (n : ℕ) (v : Val) (fs : Forest) (s : State) (b : ℕ) → has n (forest_leaves fs) ≡ true → chances n s (forest_leaves fs) ≤ suc b →
+  pub goes : (n : ℕ) (v : Val) (fs : Forest) (s : State) (b : ℕ) → has n (forest_leaves fs) ≡ true → chances n s (forest_leaves fs) ≤ suc b
+      →
       StageChances n b (woken p n v [] fs s)
   pub run : (ns : List ℤ) (i steps until k : ℕ) → StageChances i 1 (after p ns steps until k)
 
 abbrev pub NumbersOnce : Type 0
 NumbersOnce = (p : Program) → NumberOnce p
+
+-- The waits that must still be live where the wait n is woken: of a race or a rush those of the woken arm alone, and of a scope whose own
+-- residual is woken none of its background, since it may end.
+abbrev mutual
+  pub standing : ℕ → Residual → List Wait
+  standing n (leaf x e) = []
+  standing n (args e f vs r left) = standing n r
+  standing n (seq e b r left) = standing n r
+  standing n (deferred e d r) = standing n r
+  standing n (looped e a r) = standing n r
+  standing n (filling e c pl fs xs vs ss r) = standing n r
+  standing n (generated e g cs a pl vs r) = standing n r
+  standing n (called e s) = scope_standing n s
+  standing n (arms kd pl e gs) = arms_standing kd n gs
+
+  pub scope_standing : ℕ → Scope → List Wait
+  scope_standing n (scope q r bs) = cond (is_behind n bs) (behind_standing n bs ++ leaves r) (standing n r)
+
+  pub behind_standing : ℕ → Scopes → List Wait
+  behind_standing n none = []
+  behind_standing n (also s bs) =
+      cond (has n (scope_leaves s)) (scope_standing n s ++ behind_leaves bs []) (scope_leaves s ++ behind_standing n bs)
+
+  pub arms_standing : Kind → ℕ → Arms → List Wait
+  arms_standing kd n no_arms = []
+  arms_standing kd n (gave v gs) = arms_standing kd n gs
+  arms_standing all_of n (runs s gs) =
+      cond (has n (scope_leaves s)) (scope_standing n s ++ arms_leaves gs) (scope_leaves s ++ arms_standing all_of n gs)
+  arms_standing first_of n (runs s gs) = cond (has n (scope_leaves s)) (scope_standing n s) (arms_standing first_of n gs)
+  arms_standing rush_of n (runs s gs) = cond (has n (scope_leaves s)) (scope_standing n s) (arms_standing rush_of n gs)
+
+abbrev pub forest_standing : ℕ → Forest → List Wait
+forest_standing n [] = []
+forest_standing n (None ∷ fs) = forest_standing n fs
+forest_standing n (Some s ∷ fs) =
+    cond (has n (scope_leaves s)) (scope_standing n s ++ forest_leaves fs) (scope_leaves s ++ forest_standing n fs)
+
+abbrev pub StageHas : ℕ → ℕ → Stage Forest → Type 0
+StageHas i c (going s fs) = c ≤ count i (forest_leaves fs)
+StageHas i c (closed e s fs) = c ≤ count i (forest_leaves fs)
+StageHas i c (broken e s) = Unit {0}
+StageHas i c (amiss s) = Unit {0}
+
+-- a wait that is no longer live was woken, or stood in another arm of a race or a rush, or in the background of a scope, in which the one
+-- that was woken is
+abbrev pub NothingLost : Type 0
+NothingLost = (p : Program) (i n : ℕ) (v : Val) (fs : Forest) (s : State) → ForestWaits fs →
+    StageHas i (count i (forest_standing n fs)) (woken p n v [] fs s)

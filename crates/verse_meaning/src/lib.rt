@@ -20,7 +20,14 @@ ghost use Rattle.verse_meaning.specs.Laws.{
   ScopesEnd,
   UnfinishedGoesOn,
 };
-ghost use Rattle.verse_meaning.specs.RunLaws.{DepthEnough, GroupsWait, LinesStay, NumbersOnce, StepsCounted};
+ghost use Rattle.verse_meaning.specs.RunLaws.{
+  DepthEnough,
+  GroupsWait,
+  LinesStay,
+  NothingLost,
+  NumbersOnce,
+  StepsCounted,
+};
 
 /// What is evaluated with a failure context open leaves the tasks, waits and signals of all others
 /// as they were, and only steps are gone from the clock; an attempt that fails goes on with the
@@ -132,4 +139,10 @@ pub fn groups_wait()
 /// one that is gone never comes back.
 pub fn numbers_once()
     ensures { NumbersOnce }
+{}
+
+/// Where a wait is woken, each other wait is still live, but for those in another arm of a race or a
+/// rush round the one that was woken, and those in the background of a scope in which it stands.
+pub fn nothing_lost()
+    ensures { NothingLost }
 {}
