@@ -1,4 +1,4 @@
--- What holds of steps and lines, of each evaluation, of turns and of whole runs.
+-- What holds of each evaluation, of turns and of whole runs: steps, lines, depths, groups, numbers of waits.
 use Rattle.std.specs.Prelude.{◌++◌, true, cond, Option, Some, None, ◌≡◌, ℕ, suc, ◌+◌, ◌≤◌, ℤ, List, [], ◌∷◌, Bool}
 use Rattle.verse_tree.specs.Tree.{Tree}
 use Rattle.verse_value.specs.Runs.{Line}
