@@ -141,8 +141,8 @@ pub fn numbers_once()
     ensures { NumbersOnce }
 {}
 
-/// Where a wait is woken, each other wait is still live, but for those in another arm of a race or a
-/// rush round the one that was woken, and those in the background of a scope in which it stands.
+/// Where a wait is woken, each other wait is still live, but for those in another arm of a race or
+/// a rush round the one that was woken, and those in the background of a scope in which it stands.
 pub fn nothing_lost()
     ensures { NothingLost }
 {}
