@@ -1,0 +1,17 @@
+pub mod Tables
+pub mod Operands
+pub mod Names
+pub mod Unfit
+pub mod Operators
+pub mod Texts
+pub mod Made
+pub mod Applied
+pub mod Members
+pub mod Callees
+pub mod Calls
+pub mod Called
+pub mod Spawned
+pub mod Targets
+pub mod Writes
+pub mod Assigned
+pub mod Instances
