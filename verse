@@ -10,6 +10,24 @@ log=$folder/out/build.log
 
 say() { echo "verse: $*" >&2; }
 
+usage() {
+  cat >&2 <<'USAGE'
+verse runs the proved program; where it is missing, or its sources changed, it is proved and built first.
+
+  ./verse run FILE {FILE} [--steps N] [--until MS] [--in N,N,..] [--heap]     runs the files of a program
+  ./verse exec FILE [the same options]                                        runs an image, a program as bytecode
+  ./verse check FILE {FILE}                                                   tells the first refusal, or = ok
+
+Where standard error is a terminal, or with VERSE_EXPLAIN=1, a refusal is explained there; VERSE_EXPLAIN=0 explains
+none. ./try takes the same words, and proves nothing. docs/COMMANDS.md says more, and what the program writes.
+USAGE
+}
+
+case ${1-} in
+  '') [ "$#" -gt 0 ] || { usage; exit 2; } ;;
+  --help | -h | help) usage; exit 0 ;;
+esac
+
 # Shows which crate is being proved and for how long, while the process runs.
 progress() {
   local elapsed
@@ -66,4 +84,13 @@ if ! "$sums" same; then
     [ "$attempt" -lt 3 ] || fail 'the sources changed while they were built, or no program was left'
   done
 fi
+explains() { [ "${VERSE_EXPLAIN-}" = 1 ] || { [ -z "${VERSE_EXPLAIN+set}" ] && [ -t 2 ]; }; }
+
+case $1 in
+  run | check)
+    if explains; then
+      "$program" "$@" | "$here/scripts/explain" "$@"
+      exit "${PIPESTATUS[0]}"
+    fi ;;
+esac
 exec "$program" "$@"

@@ -1,7 +1,7 @@
 # A long row. Look at: arrays that are read by index, however long; a grid; a text that grows.
 Main():void =
-    Heights:[]int = for (I := 0..29999, H := Mod[I * 37, 101]) { H }
-    Grid:[][]int = for (Y := 0..99) { for (X := 0..299, H := Heights[Y * 300 + X]) { H } }
+    Heights:[]int = for (I := 0..2999, H := Mod[I * 37, 101]) { H }
+    Grid:[][]int = for (Y := 0..29) { for (X := 0..99, H := Heights[Y * 100 + X]) { H } }
     var Climb:int = 0
     var Slopes:string = ""
     for (I := 1..Heights.Length - 1, Before := Heights[I - 1], Here := Heights[I]):

@@ -47,10 +47,11 @@ def outer(lines, path):
 
 
 def listed(name):
-    """The words and the output of an example."""
+    """The words and the output of an example; further files are those of examples/."""
     args = f"examples/{name}.args"
     words = text_of(args).split("\n")[:-1] if os.path.exists(args) else []
-    return words, text_of(f"examples/{name}.out").split("\n")[:-2]
+    words = [f"examples/{it}" if it.endswith(".verse") else it for it in words]
+    return words, text_of(f"examples/{name}.out").split("\n")[:-1]
 
 
 def shown_run(words, where):
@@ -114,6 +115,72 @@ def links():
 
 def section(text, heading):
     return re.split(r"(?m)^## ", text.split(f"\n## {heading}\n", 1)[1])[0] if f"\n## {heading}\n" in text else ""
+
+
+TIME = r"\d[\d.,]*(?: to [\d.,]+)? (?:second|minute|hour)s?"
+
+
+def times():
+    """The times that README.md says are those of TESTED.md, each said once."""
+    measured = re.findall(TIME, section(text_of("docs/TESTED.md"), "Times"))
+    told = re.findall(TIME, text_of("README.md"))
+    check(len(told) > 0, "README.md says no times that this check can read")
+    for time in told:
+        check(time in measured, f"README.md: {time} is none of the times of docs/TESTED.md")
+        check(told.count(time) == 1, f"README.md: {time} stands there twice")
+
+
+def crates():
+    """Each crate with all below it, as crates.txt has them."""
+    lines = re.findall(r"(?m)^(\w+)[^\n:]*:(.*)$", text_of("crates.txt"))
+    names = {name for name, _ in lines}
+    below = {}
+    for name, uses in lines:
+        direct = [it for it in uses.split() if it in names]
+        below[name] = set(direct).union(*(below.get(it, set()) for it in direct))
+    return below
+
+
+def named_in(label, below):
+    """The crates that a box of a picture names; `_x` stands behind the family of the one before it."""
+    found = []
+    for word in re.findall(r"\w+", label.replace("<br>", " ")):
+        if word.startswith("_") and found:
+            word = next((it for it in below if it.endswith(word) and it.split("_")[:2] == found[-1].split("_")[:2]), word)
+        if word in below:
+            found.append(word)
+    return found
+
+
+def pictures():
+    """The pictures of ARCHITECTURE.md: small, each arrow between crates as crates.txt has it, each crate in one of
+    them; and the longest chains."""
+    below, text = crates(), text_of("docs/ARCHITECTURE.md")
+    shown = set()
+    for line, info, lines in blocks(text):
+        if info != "mermaid":
+            continue
+        where = f"docs/ARCHITECTURE.md:{line}"
+        labels = dict(re.findall(r"(\w+)\[\"?([^\]\"]*)\"?\]", "\n".join(lines)))
+        check(len(labels) <= 20, f"{where}: this picture has {len(labels)} boxes")
+        boxes = {box: named_in(label, below) for box, label in labels.items()}
+        shown |= {crate for named in boxes.values() for crate in named}
+        for left, right in re.findall(r"(?m)^ *(\w+)(?:\[[^\]]*\])? --> (\w+)", "\n".join(lines)):
+            for crate in boxes.get(left, []):
+                stands = [it for it in boxes.get(right, []) if crate in below[it]]
+                check(stands or not boxes.get(right), f"{where}: what stands in {right} does not stand on {crate}")
+    for crate in below:
+        check(crate in shown, f"docs/ARCHITECTURE.md: {crate} is in no picture")
+    depth = {}
+    for crate in below:
+        depth[crate] = 1 + max((depth[it] for it in below[crate]), default=0)
+    deepest = max(depth.values(), default=0)
+    told = re.search(r"(?m)^\*\*The longest chain\*\* has (\d+) crates.*$", text)
+    check(told is not None and int(told[1]) == deepest, f"docs/ARCHITECTURE.md: the longest chain has {deepest} crates")
+    for chain in re.findall(r"(?:`\w+` ?){3,}", told[0] if told else ""):
+        named = re.findall(r"\w+", chain)
+        well = len(named) == deepest and all(low in below[high] for low, high in zip(named, named[1:]))
+        check(well, f"docs/ARCHITECTURE.md: {chain} is no longest chain")
 
 
 def built_forms():
@@ -195,6 +262,70 @@ def refused_examples():
             check(ran.returncode == 1 and re.fullmatch(wanted, ran.stdout) is not None, what)
 
 
+def base_program():
+    """The program at whose end the examples of REFUSALS.md stand."""
+    return next((lines for _, info, lines in blocks(text_of("docs/REFUSALS.md")) if info == "verse"), [])
+
+
+def as_file(cell):
+    """The source of an example in a table: its lines are code, with <br> between them."""
+    lines = [it.strip()[1:-1] for it in cell.split("<br>")]
+    whole = any(re.search(r"(?i)main\(", it) for it in lines)
+    return "\n".join([*([] if whole else base_program()), *(it if whole else f"    {it}" for it in lines), ""])
+
+
+def checked(source, folder):
+    file = f"{folder}/example.verse"
+    with open(file, "w", encoding="utf-8") as out:
+        out.write(source)
+    ran = subprocess.run([PROGRAM, "check", file], capture_output=True, text=True, stdin=subprocess.DEVNULL, timeout=60)
+    return ran.stdout.rstrip("\n")
+
+
+def example_of_a_mistake(where, code, wrong, told_at, right, folder):
+    """The wrong one is refused with the code where it says, and the right one is accepted."""
+    source = as_file(wrong)
+    wrote = checked(source, folder)
+    found = re.fullmatch(r"(\d+):(\d+) (E\d{3}) .*", wrote)
+    line = source.split("\n")[int(found[1]) - 1].encode()[int(found[2]) - 1 :].decode("utf-8", "replace") if found else ""
+    well = found and found[3] == code and line.startswith(told_at.strip("`")) and told_at != "``"
+    check(well, f"{where}: {wrong} writes {wrote}, at `{line[:20]}`, and not {code} at {told_at}")
+    answer = checked(as_file(right), folder)
+    check(answer == "= ok" or re.fullmatch(r"\d+:\d+ E099 .*", answer), f"{where}: {right} writes {answer}")
+
+
+ROW = r"(?m)^\| (`.*`) \| {} \| (`.*`) \|$"
+
+
+def mended_examples():
+    """REFUSALS.md: a section for each code, and its examples; the habits in LANGUAGE.md."""
+    text, language = text_of("docs/REFUSALS.md"), text_of("docs/LANGUAGE.md")
+    told = dict(re.findall(r"(?m)^\| E(\d{3}) (.*?) \|", section(language, "All refusals")))
+    sections = dict(re.findall(r"(?m)^## E(\d{3}) (.*)$", text))
+    check(sections == told and told, f"docs/REFUSALS.md: its sections are others than the rows of All refusals: {set(told.items()) ^ set(sections.items())}")
+    with tempfile.TemporaryDirectory() as folder:
+        for number, name in sections.items():
+            part = section(text, f"E{number} {name}")
+            where = f"docs/REFUSALS.md, E{number}"
+            check(part.count("**Mend it:** ") == 1, f"{where}: it has no sentence that says how to mend it")
+            rows = re.findall(ROW.format("(`.*`)"), part)
+            check(len(rows) == part.count("\n| `") and (len(rows) >= 2 or "| Wrong |" not in part), f"{where}: it has too few examples")
+            for wrong, told_at, right in rows:
+                example_of_a_mistake(where, f"E{number}", wrong, told_at, right, folder)
+        part = section(language, "You write, it says")
+        rows = re.findall(ROW.format(r"(E\d{3}) at (`.*`)"), part)
+        check(len(rows) == part.count("\n| `") and len(rows) >= 30, "docs/LANGUAGE.md, You write, it says: this check can read too few rows")
+        explain = {"__name__": "explain", "__file__": "scripts/explain"}
+        exec(compile(text_of("scripts/explain"), "scripts/explain", "exec"), explain)
+        for wrong, code, told_at, right in rows:
+            example_of_a_mistake("docs/LANGUAGE.md, You write, it says", code, wrong, told_at, right, folder)
+            lines = as_file(wrong).split("\n")
+            place = next((at for at in range(len(lines) - 1, -1, -1) if told_at[1:-1] in lines[at]), 0)
+            before, _, at = lines[place].rpartition(told_at[1:-1])
+            known = code != "E030" or explain["hint_of"](code, before, told_at[1:-1] + at, lines[place - 1])
+            check(known, f"scripts/explain: it has no sentence for {wrong}")
+
+
 def spellings(enumeration):
     source = text_of("crates/verse_lex/src/tokens.rt")
     body = re.search(rf"pub enum {enumeration} \{{(.*?)\n\}}", source, re.S)
@@ -212,6 +343,61 @@ def first_match(patterns, text, at=0):
         if match:
             return match[0], pattern["name"]
     return None
+
+
+def flat(patterns, grammar):
+    for pattern in patterns:
+        named = grammar[pattern["include"][1:]] if "include" in pattern else pattern
+        if "begin" in named or "match" in named:
+            yield named
+        else:
+            yield from flat(named["patterns"], grammar)
+
+
+def scopes_of(text, patterns, grammar):
+    """As an editor does with one line without texts: each part with its scope."""
+    found, at = [], 0
+    patterns = [it for it in flat(patterns, grammar) if "match" in it]
+    while at < len(text):
+        match = pattern = None
+        for pattern in patterns:
+            match = re.compile(pattern["match"]).match(text, at)
+            if match and match.end() > at:
+                break
+            match = None
+        if not match:
+            at += 1
+            continue
+        if "name" in pattern:
+            found.append((match[0], pattern["name"]))
+        for number, capture in pattern.get("captures", {}).items():
+            part = match[int(number)] or ""
+            if "name" in capture:
+                found.append((part, capture["name"]))
+            if "patterns" in capture:
+                found += scopes_of(part, capture["patterns"], grammar)
+        at = match.end()
+    return found
+
+
+SCOPES = [
+    ("player := class<unique>(actor):", [("player", "entity.name.type.class.verse"), ("class", "storage.type.verse"), ("actor", "entity.other.inherited-class.verse")]),
+    ("color<public> := enum{red, green}", [("color", "entity.name.type.enum.verse"), ("<public>", "storage.modifier.specifier.verse")]),
+    ("Buy<public>(P:player, Of:[string]?int)<transacts><decides>:void =", [
+        ("Buy", "entity.name.function.definition.verse"), ("P", "variable.parameter.verse"), ("player", "entity.name.type.verse"),
+        ("Of", "variable.parameter.verse"), ("string", "storage.type.verse"), ("int", "storage.type.verse"),
+        ("<decides>", "storage.modifier.specifier.verse"), ("void", "storage.type.verse")]),
+    ("Add(A:tuple(int, int), B:int)<computes>:int = A(0) + B", [("Add", "entity.name.function.definition.verse"), ("B", "variable.parameter.verse"), ("A", "entity.name.function.call.verse")]),
+    ("    var Gold<public>:int = 5", [("var", "keyword.other.verse"), ("Gold", "variable.other.definition.verse"), ("int", "storage.type.verse")]),
+    ("    Hits:event(int) = event(int){}", [("Hits", "variable.other.definition.verse"), ("event", "storage.type.verse")]),
+    ("    Seen:[string]player = map{}", [("Seen", "variable.other.definition.verse"), ("player", "entity.name.type.verse")]),
+    ("    P := player{Name := N}", [("P", "variable.other.definition.verse"), ("player", "entity.name.type.instance.verse"), ("Name", "variable.other.definition.verse"), ("N", "variable.other.verse")]),
+    ("    if (Got := Ann.Buy[S, 5], X > 1):", [("if", "keyword.control.verse"), ("Got", "variable.other.definition.verse"), ("Buy", "entity.name.function.member.verse"), ("S", "variable.other.verse")]),
+    ("    set P.Gold -= Price", [("set", "keyword.control.verse"), ("Gold", "variable.other.member.verse"), ("Price", "variable.other.verse")]),
+    ("    for (I := 1..N, E : A) { Tell(E) }", [("for", "keyword.control.verse"), ("I", "variable.other.definition.verse"), ("N", "variable.other.verse"), ("E", "variable.other.verse"), ("Tell", "entity.name.function.call.verse")]),
+    ("    N := Rung.Await()", [("Await", "support.function.verse")]),
+    ("    else:", [("else", "keyword.control.verse")]),
+]
 
 
 def editors():
@@ -240,19 +426,43 @@ def editors():
     for mark in spellings("Mark"):
         match = first_match(marks, mark)
         check(match is not None and match[0] == mark, f"editors/verse.tmLanguage.json: the mark {mark} is read as {match}")
-    for name in ("package.json", "language-configuration.json", "tasks.json"):
-        json.loads(text_of(f"editors/{name}"))
-    matcher = json.loads(text_of("editors/package.json"))["contributes"]["problemMatchers"]
-    several, one = matcher[0]["pattern"], matcher[1]["pattern"][1]
-    check(re.search(several["regexp"], "b.verse:1:12 E041 unknown name") is not None, "editors/package.json: $verse reads no refusal")
-    check(re.search(one["regexp"], "2:28 E030 unexpected token") is not None, "editors/package.json: $verse-one-file reads no refusal")
+    configuration = json.loads(text_of("editors/language-configuration.json"))
+    opens = [it["beforeText"] for it in configuration["onEnterRules"] if it["action"]["indent"] == "indent"]
+    for line, is_opener in (("    if (X > 1):", True), ("Main():void =", True), ("    1 =>", True), ("    X := 5", False), ("    # so:", False), ("    if (X >=", False)):
+        check(any(re.search(it, line) for it in opens) == is_opener, f"editors/language-configuration.json: a line behind `{line}`")
+    check(re.fullmatch(configuration["wordPattern"], "Score_2") is not None, "editors/language-configuration.json: a name is no word")
+    json.loads(text_of("editors/package.json"))
+    matchers = {it["name"]: it for it in json.loads(text_of("editors/package.json"))["contributes"]["problemMatchers"]}
+    for name, refusal, severity in (
+        ("verse", "b.verse:1:12 E041 unknown name", "error"), ("verse-one-file", "2:28 E030 unexpected token", "error"),
+        ("verse-not-built", "b.verse:1:12 E099 not built yet", "info"), ("verse-one-file-not-built", "2:28 E099 not built yet", "info"),
+    ):
+        pattern = matchers[name]["pattern"]
+        pattern = pattern if isinstance(pattern, dict) else pattern[1]
+        reads = [it for it in ("E041", "E099") if re.search(pattern["regexp"], re.sub("E[0-9]{3}", it, refusal))]
+        well = reads == [re.search("E[0-9]{3}", refusal)[0].replace("E030", "E041")] and matchers[name]["severity"] == severity
+        check(well, f"editors/package.json: ${name} reads {reads}")
+    tasks = json.loads(text_of("editors/tasks.json"))["tasks"]
+    for task in tasks:
+        script = task["command"].replace("${config:verse.home}/", "")
+        check(os.access(script, os.X_OK), f"editors/tasks.json: {script} is no script of the repository")
+        for name in task["problemMatcher"]:
+            check(name[1:] in matchers, f"editors/tasks.json: there is no {name}")
+    for line, wanted in SCOPES:
+        found = scopes_of(line, [{"include": "#code"}], grammar)
+        for text, scope in wanted:
+            told = [name for part, name in found if part == text]
+            check(scope in told, f"editors/verse.tmLanguage.json: in `{line}` {text} is {told or 'nothing'}, and not {scope}")
 
 
 parts_of_examples()
 links()
+times()
+pictures()
 built_forms()
 refusals()
 refused_examples()
+mended_examples()
 short_examples()
 editors()
 for it in failures:

@@ -20,8 +20,12 @@ handles_are_none() { [ "$(cat HANDLES)" = 'Handles allowed: none.' ]; }
 
 crates() { grep -v '^#' crates.txt | cut -d: -f1 | cut -d' ' -f1; }
 
+# A crate of lemmas alone has no body that could be wrong.
+has_functions() { grep -qE '^ *(pub(\(crate\))? )?fn ' crates/"$1"/src/*.rt; }
+
 each_crate_has_wrong_bodies() {
   for name in $(crates); do
+    has_functions "$name" || continue
     [ -f "crates/$name/src/main.rt" ] || compgen -G "crates/$name/must-fail/*.edit" > /dev/null ||
       compgen -G "crates/$name/wrong-bodies/*.edit" > /dev/null || { echo "$name"; return 1; }
   done
@@ -30,9 +34,11 @@ each_crate_has_wrong_bodies() {
 each_crate_is_described() {
   for name in $(crates); do
     grep -q "\*\*$name\*\*" docs/ARCHITECTURE.md || { echo "$name is not in docs/ARCHITECTURE.md"; return 1; }
-    grep -q "$name" README.md || { echo "$name is not in README.md"; return 1; }
+    grep -qE "(^|[^_a-z])$name([^_a-z]|$)" README.md docs/PROVED.md docs/FIGURES.md || { echo "$name is not in docs/FIGURES.md"; return 1; }
   done
 }
+
+figures_are_those_of_the_crates() { scripts/figures check; }
 
 files_are_short() {
   local long
@@ -47,13 +53,14 @@ nothing_made_is_kept() { ! git ls-files | grep -E '(^|/)out/|BUILD\.bazel$'; }
 # The examples that the language's chapters show are those in examples/.
 examples_are_named() {
   for file in examples/*.verse; do
-    grep -rq "$(basename "$file")" README.md docs || { echo "$file is named nowhere"; return 1; }
+    grep -rq "$(basename "$file")" README.md docs examples/README.md || { echo "$file is named nowhere"; return 1; }
   done
 }
 
 check handles_are_none
 check each_crate_has_wrong_bodies
 check each_crate_is_described
+check figures_are_those_of_the_crates
 check files_are_short
 check no_hole_is_left
 check nothing_made_is_kept

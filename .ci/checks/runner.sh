@@ -1,6 +1,6 @@
 #!/usr/bin/env bash
-# Tests ./verse, ./try, scripts/program_sums and scripts/checked_program in a small repository of three crates, with a stand-in for the
-# toolchain that proves nothing and counts its builds.
+# Tests ./verse, ./try, ./verse-test and the scripts behind them in a small repository of three crates, with a stand-in
+# for the toolchain that proves nothing and counts its builds.
 set -u
 root=$(cd "$(dirname "$0")/../.." && pwd) || exit 2
 room=$(mktemp -d) || exit 2
@@ -10,9 +10,10 @@ failed=0
 repo=$room/repo
 folder=$repo/crates/verse_cli
 
-mkdir -p "$room/bin" "$repo/scripts" "$room/some where"
-cp "$root/verse" "$root/try" "$repo/"
-cp "$root/scripts/program_sums" "$root/scripts/checked_program" "$repo/scripts/"
+mkdir -p "$room/bin" "$repo/scripts" "$repo/docs" "$room/some where"
+cp "$root/verse" "$root/try" "$root/verse-test" "$repo/"
+for script in program_sums checked_program explain try_each tries.py; do cp "$root/scripts/$script" "$repo/scripts/"; done
+cp "$root/docs/REFUSALS.md" "$repo/docs/"
 for crate in low other verse_cli; do
   mkdir -p "$repo/crates/$crate/src"
   echo "// $crate" > "$repo/crates/$crate/src/lib.rt"
@@ -21,7 +22,7 @@ mkdir -p "$folder/data"
 echo 'hi' > "$folder/data/hi.verse"
 printf '# The lowest first.\nlow: itoa\nother: low\nverse_cli: low\n' > "$repo/crates.txt"
 
-# Builds a program that writes its words one a line, between brackets, and ends with the status of STATUS.
+# Builds a program that writes SAYS, or else its words one a line, between brackets, and ends with the status of STATUS.
 cat > "$room/bin/rt" <<'STAND_IN'
 #!/usr/bin/env bash
 room=$(cd "$(dirname "$0")/.." && pwd)
@@ -35,19 +36,30 @@ case $1 in
     echo run >> "$room/builds"
     mkdir -p out
     [ ! -e "$room/edited" ] || { rm "$room/edited"; echo '// edited meanwhile' >> ../low/src/lib.rt; }
-    printf '#!/usr/bin/env bash\necho "in $PWD"\nfor word in "$@"; do echo "[$word]"; done\nexit "${STATUS:-0}"\n' > out/verse_cli
+    printf '#!/usr/bin/env bash\n[ -z "${SAYS-}" ] || { printf "%%s" "$SAYS"; exit "${STATUS:-0}"; }\necho "in $PWD"\nfor word in "$@"; do echo "[$word]"; done\nexit "${STATUS:-0}"\n' > out/verse_cli
     chmod +x out/verse_cli
     echo 'rt: running out/verse_cli'
     echo 'what the stored run writes' ;;
   try)
     shift
+    echo "$*" >> "$room/tries"
+    if [[ " $* " == *' --cases '* ]]; then
+      for file in "${@: -1}"/*.args; do
+        name=$(basename "$file" .args)
+        echo "== $name"
+        [ -z "${SAYS-}" ] || printf '%s' "$SAYS"
+        sed 's/.*/[&]/' "$file"
+        echo "case=$name run=ended status=${STATUS:-0} runners=1 proved=no" >&2
+      done
+      exit 0
+    fi
     while [ "$1" != -- ]; do
       [ "$1" != --data ] || { echo "data ${2#*=}" >> "$room/given"; cat "${2#*=}" > /dev/null || exit 2; }
       shift
     done
     shift
     [ ! -e "$room/hangs" ] || { echo 'run=none proved=no' >&2; exit 6; }
-    for word in "$@"; do echo "[$word]"; done
+    if [ -n "${SAYS-}" ]; then printf '%s' "$SAYS"; else for word in "$@"; do echo "[$word]"; done; fi
     echo "run=ended status=${STATUS:-0} runners=1 proved=no" >&2
     exit "${STATUS:-0}" ;;
   *) exit 2 ;;
@@ -77,6 +89,17 @@ in_folder() {
   said=$(cat "$room/said")
 }
 verse() { in_folder "$repo" ./verse "$@"; }
+
+for word in --help -h help; do
+  verse "$word"
+  same "verse $word: how it is used, at once" '0  1 0' "$status $wrote $(grep -c './verse check FILE' <<< "$said") $(builds)"
+  in_folder "$repo" ./try "$word"
+  same "try $word: how it is used, at once" '0  1 no' "$status $wrote $(grep -c './try check FILE' <<< "$said") $([ -e "$room/tries" ] && echo yes || echo no)"
+done
+verse
+same 'verse without words: the same' '2  1 0' "$status $wrote $(grep -c './verse check FILE' <<< "$said") $(builds)"
+in_folder "$repo" ./try
+same 'try without words: the same' '2  1 no' "$status $wrote $(grep -c './try check FILE' <<< "$said") $([ -e "$room/tries" ] && echo yes || echo no)"
 
 verse run a.verse
 same 'a program that is missing is built' 1 "$(builds)"
@@ -120,8 +143,8 @@ same 'a program that was removed is built again' 7 "$(builds)"
 
 verse 'run' 'a file.verse' --steps '' '--in' $'1\n2' '*' '\n'
 same 'words pass as they are' "in $repo"$'\n[run]\n[a file.verse]\n[--steps]\n[]\n[--in]\n[1\n2]\n[*]\n[\\n]' "$wrote"
-verse
-same 'no words are no words' "in $repo" "$wrote"
+verse ''
+same 'an empty word is a word' "in $repo"$'\n[]' "$wrote"
 in_folder "$room/some where" ../repo/verse run ../x.verse
 same 'a relative path is that of the caller'"'"'s folder' "in $room/some where"$'\n[run]\n[../x.verse]' "$wrote"
 ln -s "$repo/verse" "$room/bin/verse-link"
@@ -130,6 +153,31 @@ same 'a link to the script serves' "in $room"$'\n[check]\n[x]' "$wrote"
 STATUS=4 verse run a.verse
 same 'the status is the program'"'"'s' 4 "$status"
 same 'and nothing was built' 7 "$(builds)"
+
+printf 'Main():void =\n\tif (X == 3) {}\n' > "$repo/e.verse"
+refusal=$'2:9 E030 unexpected token\n'
+VERSE_EXPLAIN=1 SAYS=$refusal STATUS=1 verse check e.verse
+same 'a refusal is explained: the output is the program'"'"'s' '1 2:9 E030 unexpected token' "$status $wrote"
+same 'and the source, the place and the cure are on standard error' $'  2 | \tif (X == 3) {}\n    | \t       ^\n  E030: equality is one `=`\n  more: docs/REFUSALS.md#e030-unexpected-token' "$said"
+VERSE_EXPLAIN=1 SAYS=$'e.verse:2:1 E060 can fail outside a failure context\n' STATUS=1 verse check a.verse e.verse
+same 'of several files the one that is named' 1 "$(grep -c 'put it into the condition' <<< "$said")"
+printf 'Main():void =\n    if (1 > 2) # a remark\n\n        Print("a")\n' > "$repo/f.verse"
+VERSE_EXPLAIN=1 SAYS=$'4:9 E020 bad indentation\n' STATUS=1 verse check f.verse
+same 'a block that nothing opened' 1 "$(grep -c 'the line before opens no block' <<< "$said")"
+VERSE_EXPLAIN=1 SAYS=$'0 hi\n= error K1 2:5 at 0 steps 1\n' STATUS=4 verse run e.verse
+same 'a runtime error is explained' '4 1' "$status $(grep -c '^  K1: ' <<< "$said")"
+VERSE_EXPLAIN=1 SAYS=$'no line end' verse run e.verse
+same 'what ends without a line end passes' 'no line end ' "$wrote $said"
+VERSE_EXPLAIN=1 SAYS=$refusal STATUS=1 verse check gone.verse
+same 'a file that is gone explains nothing' '1  2:9 E030 unexpected token' "$status $said $wrote"
+SAYS=$refusal STATUS=1 verse check e.verse
+same 'without a terminal nothing is explained' '1 ' "$status $said"
+VERSE_EXPLAIN=1 SAYS=$refusal STATUS=1 verse exec e.verse
+same 'nor for exec' '1 ' "$status $said"
+explained=$(cd "$repo" && SAYS=$refusal STATUS=1 python3 -c '
+import os, pty
+pty.spawn(["./verse", "check", "e.verse"], lambda fd: os.read(fd, 1024))' 2>&1 < /dev/null)
+same 'a terminal is told' 1 "$(grep -c 'equality is one' <<< "$explained")"
 
 touch "$room/broken"
 cp "$repo/crates/low/src/lib.rt" "$room/was"
@@ -203,6 +251,88 @@ same 'try: and keeps its name' $'[run]\n[data/hi.verse]' "$wrote"
 touch "$room/hangs"
 try run a.verse
 same 'try: a run without an answer has status 9' '9 ' "$status $wrote"
+
+rm "$room/hangs"
+VERSE_EXPLAIN=1 SAYS=$refusal STATUS=1 in_folder "$room/some where" ../repo/try check ../repo/e.verse
+same 'try: a refusal is explained' '1 2:9 E030 unexpected token 1' "$status $wrote $(grep -c 'equality is one' <<< "$said")"
+SAYS=$refusal STATUS=1 try check e.verse
+same 'try: not without a terminal' '1 0' "$status $(grep -c 'equality is one' <<< "$said")"
+
+echo '' > "$room/tries"
+in_folder "$repo" ./try --each check a.verse 'a = b.verse' gone.verse --steps 5
+same 'try --each: each file, by its name' $'== a.verse\n[check]\n[a.verse]\n[--steps]\n[5]\n== a = b.verse\n[check]\n[a = b.verse]\n[--steps]\n[5]\n== gone.verse\n[check]\n[gone.verse]\n[--steps]\n[5]' "$wrote"
+same 'try --each: compiled once' '0 1' "$status $(grep -c -e --cases "$room/tries")"
+same 'try --each: the files that are there are given' 2 "$(grep -o -e '--data [^ ]*' "$room/tries" | wc -l)"
+STATUS=1 in_folder "$repo" ./try --each check a.verse
+same 'try --each: the status' 1 "$status"
+in_folder "$repo" ./try --each check
+same 'try --each without a file: how it is used' '2 ' "$status $wrote"
+
+# A program for ./verse-test: it writes its words, and the text of its first file.
+cat > "$room/writes" <<'WRITES'
+#!/usr/bin/env bash
+echo "$*"
+cat "$2"
+[ "$2" != two.verse ] || exit 3
+WRITES
+chmod +x "$room/writes"
+tests=$repo/tests
+mkdir -p "$tests/parts"
+echo one > "$tests/one.verse"
+echo two > "$tests/two.verse"
+echo part > "$tests/part.verse"
+printf 'part.verse\n--in\n1\n' > "$tests/one.args"
+run_tests() { in_folder "$repo" ./verse-test --program "$room/writes" tests "$@"; }
+run_tests
+same 'verse-test: what has no output fails' '1 0 passed, 2 failed' "$status $(tail -n 1 <<< "$wrote")"
+run_tests --accept
+same 'verse-test --accept writes it down' '0 2 passed, 0 failed' "$status $(tail -n 1 <<< "$wrote")"
+same 'verse-test: outputs and statuses' $'run one.verse part.verse --in 1\none\nrun two.verse\ntwo\n3' "$(cat "$tests/one.out" "$tests/two.out" "$tests/two.status")"
+same 'verse-test: no status where it is 0' no "$([ -e "$tests/one.status" ] && echo yes || echo no)"
+run_tests
+same 'verse-test: all as it was' '0 2 passed, 0 failed' "$status $wrote"
+echo changed > "$tests/two.verse"
+run_tests
+same 'verse-test: a difference' '1 1 passed, 1 failed' "$status $(tail -n 1 <<< "$wrote")"
+same 'verse-test: as a diff' $'-two\n+changed' "$(grep -E '^[-+][a-z]' <<< "$wrote")"
+run_tests one
+same 'verse-test: one program' '0 1 passed, 0 failed' "$status $wrote"
+rm "$tests/two.status"
+echo two > "$tests/two.verse"
+run_tests two
+same 'verse-test: a status' '1 status 3, not 0' "$status $(head -n 1 <<< "$wrote")"
+echo 3 > "$tests/two.status"
+echo two > "$tests/one.image"
+run_tests one
+same 'verse-test: an image that writes something else' '1 1 passed, 1 failed' "$status $(tail -n 1 <<< "$wrote")"
+rm "$tests/one.image"
+echo stray > "$tests/three.out"
+run_tests
+same 'verse-test: a stray file' '1 three.out belongs to no program' "$status $(head -n 1 <<< "$wrote")"
+rm "$tests/three.out"
+echo two > "$tests/not_built.txt"
+run_tests
+same 'verse-test: what runs is taken off the list' 1 "$(grep -c 'take two off not_built.txt' <<< "$wrote")"
+export VERSE=$room/writes
+in_folder "$tests" "$root/editors/watch" --once part.verse
+same 'editors/watch --once: the program of a part' "0 checking $tests/one.verse|check $tests/one.verse $tests/part.verse|one|checked" "$status $(paste -s -d '|' <<< "$wrote")"
+in_folder "$tests" "$root/editors/watch" --run one.verse
+same 'editors/watch --run: with its options' "0 run $tests/one.verse $tests/part.verse --in 1" "$status $(sed -n 2p <<< "$wrote")"
+"$root/editors/watch" "$tests" > "$room/watched" &
+watcher=$!
+for ((tries = 0; tries < 60; tries++)); do
+  echo "two $tries" > "$tests/two.verse"
+  sleep 0.2
+  ! grep -q "checking $tests/two.verse" "$room/watched" || break
+done
+kill "$watcher"
+wait "$watcher" 2> /dev/null
+same 'editors/watch FOLDER: what is saved is checked' "checking $tests/two.verse" "$(sort -u "$room/watched" | grep checking)"
+unset VERSE
+rm "$tests/not_built.txt" "$tests/one.args" "$tests/part.verse"
+printf '[run]\n[one.verse]\n' > "$tests/one.out"
+in_folder "$repo" ./verse-test --try tests one
+same 'verse-test --try: by one build' '0 1 passed, 0 failed' "$status $wrote"
 
 echo "$passed passed, $failed failed"
 [ "$failed" -eq 0 ]

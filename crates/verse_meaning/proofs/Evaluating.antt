@@ -28,11 +28,12 @@ use Rattle.verse_meaning.specs.Evaluating.{begins_scope, stated, claused, genera
 use Rattle.verse_meaning.specs.Evaluating.{ev, ev_shape, statements, inner, inner_shape, all_args, holed, paired_args, given_args, quotient}
 use Rattle.verse_meaning.specs.Evaluating.{quotient_tree, quotient_shape, targets, targets_shape, indices, clauses, level, chosen, arm_of}
 use Rattle.verse_meaning.specs.Evaluating.{arm_of_shape, started, spawned, spawned_shape}
+use Rattle.verse_meaning.specs.Laws.{KeepsWent}
 use Rattle.verse_meaning.specs.Laws.{Grown, Leaves, Apart, Keeps, KeepsTask}
 use Rattle.verse_meaning.proofs.Forms.{DeeperKeeps, still_memory, added_memory, read_bound_keeps, read_slot_keeps, apply_keeps}
 use Rattle.verse_meaning.proofs.Forms.{defined_keeps}
 use Rattle.verse_meaning.proofs.Keeping.{undone_keeps, failed_keeps, leaves_same, leaves_then, valued_keeps, attempted_keeps, spends_keeps, there_keeps}
-use Rattle.verse_meaning.proofs.Keeping.{known_keeps, told_keeps, outside_keeps, suspended_keeps, KeepsWent, dropped_keeps, went_on_keeps}
+use Rattle.verse_meaning.proofs.Keeping.{known_keeps, told_keeps, outside_keeps, suspended_keeps, dropped_keeps, went_on_keeps}
 use Rattle.verse_meaning.proofs.Keeping.{on_went_keeps, closing_keeps, branch_keeps, armed_keeps, left_leaves}
 
 module _ (p : Program) (k : Deeper) (d : DeeperKeeps k) where

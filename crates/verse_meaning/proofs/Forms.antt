@@ -48,7 +48,7 @@ changed_memory w fails = tt
 changed_memory w (error k) = tt
 changed_memory w stuck = tt
 
-read_memory : (w : World) (slot : ℕ) (v : Val) → Memory true w (slot_read slot v w.state)
+pub read_memory : (w : World) (slot : ℕ) (v : Val) → Memory true w (slot_read slot v w.state)
 read_memory w slot unit = tt
 read_memory w slot falsity = tt
 read_memory w slot truth = tt
@@ -63,7 +63,7 @@ read_memory w slot (array vs) = tt
 read_memory w slot (mapping ps) = tt
 read_memory w slot (tuple vs) = tt
 
-written_memory : (w : World) (slot : ℕ) (path : List Val) (mode : Mode) (v c : Val) →
+pub written_memory : (w : World) (slot : ℕ) (path : List Val) (mode : Mode) (v c : Val) →
     Memory true w (slot_written slot path mode v c w.state)
 written_memory w slot path mode x unit = tt
 written_memory w slot path mode x falsity = tt
@@ -87,7 +87,7 @@ text_memory : (w : World) (bytes : Option (List ℕ)) → Memory true w (text_pr
 text_memory w None = tt
 text_memory w (Some bytes) = told_memory w _ _ _ refl
 
-printed_memory : (w : World) (v : Val) → Memory true w (line_printed v w.state)
+pub printed_memory : (w : World) (v : Val) → Memory true w (line_printed v w.state)
 printed_memory w unit = tt
 printed_memory w falsity = tt
 printed_memory w truth = tt

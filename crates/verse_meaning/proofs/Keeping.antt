@@ -11,7 +11,7 @@ use Rattle.verse_meaning.specs.Outcomes.{World, with_state, leave, Outcome, valu
 use Rattle.verse_meaning.specs.Outcomes.{ends, lost, stops, sleeps, Went, went, quits, valued, attempted, turned, dropped, on_went, went_on}
 use Rattle.verse_meaning.specs.Outcomes.{on_went_task, ran, closing, call_end, branch_started, task_started, armed, told, told_plain, if_there}
 use Rattle.verse_meaning.specs.Outcomes.{if_known, outside, spends, suspended, leave_all}
-use Rattle.verse_meaning.specs.Laws.{Calm, Grown, Extends, Leaves, LeavesClock, Apart, Keeps, KeepsTask}
+use Rattle.verse_meaning.specs.Laws.{KeepsWent, Calm, Grown, Extends, Leaves, LeavesClock, Apart, Keeps, KeepsTask}
 
 pub calm_same : {c : Clock} → Calm c c
 calm_same = record { now = refl; next = refl; results = refl; signals = refl }
@@ -204,10 +204,6 @@ unfolding suspended
 suspended_keeps c e w = (refl, (extends_same w.behind, grown_same w.tasks))
 
 -- cancelling and deferred blocks leave all as where a failure context is open
-abbrev pub KeepsWent : World → Went → Type 0
-KeepsWent w (went u) = Leaves false w u
-KeepsWent w (quits h) = Unit {0}
-
 pub dropped_keeps : (w : World) (o : Outcome) → Keeps false w o → KeepsWent w (dropped o)
 unfolding dropped
 dropped_keeps w (value e v u) a = a

@@ -16,9 +16,9 @@ use Rattle.verse_meaning.specs.Forms.{Deeper}
 use Rattle.verse_meaning.specs.Evaluating.{on_bool, scope_end, scope_returned, or_stands, settled, cancel_behind, cancel_arms}
 use Rattle.verse_meaning.specs.Resuming.{resume, resume_scope, resume_behind, resume_arms}
 use Rattle.verse_meaning.specs.Runs.{deeper, Forest, came, ended_by, woken}
+use Rattle.verse_meaning.specs.Laws.{KeepsWent}
 use Rattle.verse_meaning.specs.Laws.{Grown, Extends, Keeps, KeepsTask, by_test, Replaced, Behind, StandsBut, ScopeKeeps, BackgroundStays}
 use Rattle.verse_meaning.specs.Laws.{AllBut, KeepsForest, ForestStays, RaceKeeps, RaceCancels, FailedContextLeaves, EvaluationKeeps}
-use Rattle.verse_meaning.proofs.Keeping.{KeepsWent}
 use Rattle.verse_meaning.proofs.Forms.{DeeperKeeps}
 use Rattle.verse_meaning.proofs.Evaluating.{arms_keep, scope_keeps, ev_keeps, statements_keep}
 use Rattle.verse_meaning.proofs.Going.{deeper_keeps, from_none, KeepsArms, resume_keeps, resume_scope_keeps, resume_arms_keep}
@@ -29,16 +29,16 @@ StandsBehind n bs w (stays cs u) = (u.behind ≡ w.behind) × StandsBut n bs cs
 StandsBehind n bs w (stops_behind h) = Unit {0}
 
 -- where the test is true, or false
-test_true : (b : Bool) (A B : Type 0) → b ≡ true → A → by_test b A B
+pub test_true : (b : Bool) (A B : Type 0) → b ≡ true → A → by_test b A B
 test_true true A B e a = a
 test_true false A B e a = cc
 
-test_false : (b : Bool) (A B : Type 0) → b ≡ false → B → by_test b A B
+pub test_false : (b : Bool) (A B : Type 0) → b ≡ false → B → by_test b A B
 test_false true A B e a = cc
 test_false false A B e a = a
 
 -- both cases of a test, with the test known
-bool_both : {A : Type 0} (P : A → Type 0) (b : Bool) (f g : Bool → A) → (b ≡ true → P (f true)) → (b ≡ false → P (g false)) →
+pub bool_both : {A : Type 0} (P : A → Type 0) (b : Bool) (f g : Bool → A) → (b ≡ true → P (f true)) → (b ≡ false → P (g false)) →
     P (on_bool b f g)
 bool_both P true f g x y = x refl
 bool_both P false f g x y = y refl
@@ -113,7 +113,7 @@ module _ (p : Program) (k : Deeper) (d : DeeperKeeps k) where
   race_went pl e v w u (went z) a b = subst (λ y. y ≡ w.behind) (sym b.0) a
   race_went pl e v w u (quits h) a b = tt
 
-  race_settled : (pl : Place) (e : Env) (gs : Arms) (w u : World) (x : Option Val) → first_gave gs ≡ x → u.behind ≡ w.behind →
+  pub race_settled : (pl : Place) (e : Env) (gs : Arms) (w u : World) (x : Option Val) → first_gave gs ≡ x → u.behind ≡ w.behind →
       RaceKeeps pl w (or_stands p k x (rests (arms first_of pl e gs) u) (λ v. on_went (cancel_arms p k gs u) (λ w. value e v w)))
   unfolding or_stands
   race_settled pl e gs w u None h a = (e, (gs, (refl, h)))

@@ -6,3 +6,4 @@ pub mod Evaluating
 pub mod Resuming
 pub mod Runs
 pub mod Laws
+pub mod RunLaws

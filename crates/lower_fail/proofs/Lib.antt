@@ -1,0 +1,3 @@
+pub mod Forms
+pub mod OpenEnds
+pub mod Clauses

@@ -1,0 +1,6 @@
+mod Splitting
+mod Lines
+mod Placing
+mod Noting
+mod Finding
+mod RuleSets

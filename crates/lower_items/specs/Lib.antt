@@ -1,0 +1,6 @@
+pub mod Views
+pub mod Parts
+pub mod Fields
+pub mod Enums
+pub mod Noted
+pub mod Params

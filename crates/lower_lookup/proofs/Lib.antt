@@ -1,0 +1,6 @@
+pub mod SameNames
+mod NoCallees
+mod NoBases
+mod PlainStatements
+pub mod Targeting
+mod RuleSets
