@@ -1,6 +1,7 @@
 -- What the outcome of an expression means for a machine at its code.
 use Rattle.std.proofs.Common.{◌≡◌, ℕ, zero, suc, ◌-◌, ◌≤◌, ◌<◌, List, [], ◌∷◌, ◌++◌, length, Option, Some, Bool, true, false}
 use Rattle.std.specs.Prelude.{slice_get}
+use Rattle.lower_simulation.specs.Seen.{Seen, broke_off, seen_of}
 use Rattle.lower_code.specs.Scopes.{constant_at, variable_at, hidden, Scope as Names}
 use Rattle.verse_tree.specs.Tree.{Bytes}
 use Rattle.verse_code.specs.declared.operations.Op.{Op}
@@ -8,11 +9,10 @@ use Rattle.verse_code.specs.declared.operations.Op.TheVariants as op
 use Rattle.verse_code.specs.declared.codes.Code.{Code}
 use Rattle.verse_value.specs.Val.{Val, unit, object}
 use Rattle.verse_value.specs.Val as m1
-use Rattle.verse_value.specs.declared.runs.Ending.{Ending}
 use Rattle.verse_value.specs.declared.runs.Ending.TheVariants as ending
 use Rattle.verse_meaning_state.specs.State.{State}
 use Rattle.verse_meaning_state.specs.Waits.{Wait, has, nth}
-use Rattle.verse_meaning_state.specs.Turns.{Stage, going, closed, broken, amiss, turns}
+use Rattle.verse_meaning_state.specs.Turns.{going, turns}
 use Rattle.verse_meaning.specs.Programs.{Program}
 use Rattle.verse_meaning.specs.Residuals.{Env, Binding, constant, variable, Residual, Scope, Scopes, leaves, scope_leaves, and_then}
 use Rattle.verse_meaning.specs.Outcomes.{World, world, Went, went, quits, went_on, Halt, fault, out, jammed, wrong, Outcome, value, failed}
@@ -39,18 +39,6 @@ pub record Setting : Type 0 where
   pub code : Code
   pub steps : ℕ
   pub until : ℕ
-
--- what is seen of a run after some turns
-pub data Seen : Type 0 where
-  between : State → List Wait → Seen
-  ended : Ending → State → List Wait → Seen
-  broke_off : Ending → State → Seen
-
-abbrev pub seen_of : {A : Type 0} → (A → List Wait) → Stage A → Seen
-seen_of waits (going s x) = between s (waits x)
-seen_of waits (closed e s x) = ended e s (waits x)
-seen_of waits (broken e s) = broke_off e s
-seen_of waits (amiss s) = broke_off ending.Stuck s
 
 -- what a run comes to in so many more turns
 pub record Goal : Type 0 where

@@ -15,7 +15,8 @@ use Rattle.lower_code.specs.Arounds.{returning, breaking}
 use Rattle.lower_simulation.proofs.Paths.{lt_false}
 use Rattle.lower_simulation.proofs.Claims.{Way, Setting, Goal, Ends, Exit, no_loop, loop_at, kept_at, Leave, with_return, no_return}
 use Rattle.lower_simulation.proofs.Claims.{left_at, Ctx, Around, at, Above, Here}
-use Rattle.lower_simulation.proofs.Claims.{broke_off, Finishes, Returns, return_leaves, return_now, Onwards, Breaks, break_leaves}
+use Rattle.lower_simulation.proofs.Claims.{Finishes, Returns, return_leaves, return_now, Onwards, Breaks, break_leaves}
+use Rattle.lower_simulation.specs.Seen.{broke_off}
 use Rattle.lower_simulation.proofs.Claims.{break_now}
 use Rattle.lower_simulation.proofs.Steps as steps
 use Rattle.lower_simulation.proofs.Steps.{does, over}

@@ -2,7 +2,7 @@
 //! proof. The meaning goes by outcomes and what is left of a suspended expression, the machine by
 //! operations; the claim for an expression says what each outcome means for a machine at its code.
 //!
-//! To be read in this order, in `proofs/`: `Paths`, the names of tasks, and lists of tasks; `Claims`,
+//! `specs/Seen` says what is seen of a run. To be read in this order, in `proofs/`: `Paths`, the names of tasks, and lists of tasks; `Claims`,
 //! what an outcome means for a machine; `Steps`, one step of a run; `Going`, how what follows passes
 //! on, where tasks are cancelled, where more stands around, where fewer wakings are left; `Following`,
 //! what goes on with a value; `Locals`, what the locals hold, and where names stand in them;

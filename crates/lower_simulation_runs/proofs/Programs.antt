@@ -18,9 +18,10 @@ use Rattle.lower_code.specs.Programs.{code_of}
 use Rattle.lower_bounds.specs.Programs.{HasMain}
 use Rattle.lower_bounds.specs.Laws.{CodeIsValid}
 use Rattle.lower_bounds.proofs.Bodies.{all_each}
-use Rattle.lower_simulation.proofs.Claims.{Setting, seen_of}
+use Rattle.lower_simulation.proofs.Claims.{Setting}
+use Rattle.lower_simulation.specs.Seen.{seen_of}
 use Rattle.lower_simulation_runs.specs.Programs.{NodeStands, CanBeFollowed}
-use Rattle.lower_simulation_runs.specs.Laws.{CodeMeansTheSame}
+use Rattle.lower_simulation_runs.specs.Laws.{CodeMeansTheSame, TurnsAreTheSame}
 use Rattle.lower_simulation_runs.proofs.Entering.{BodyLeads}
 use Rattle.lower_simulation_runs.proofs.Starting.{runs_alike, runs_same}
 use Rattle.lower_simulation_runs.proofs.Binding.{call_bound, can_bind, params_many}
@@ -104,3 +105,6 @@ module _ (p : Program) (differ : ℕ → ℕ → Bool) (files steps until : ℕ)
 
 pub code_means_the_same : RunsEnd → CodeIsValid → CodeMeansTheSame
 code_means_the_same ends valid p differ files can ns steps until = whole_same p differ files steps until can ends valid ns
+
+pub turns_are_the_same : RunsEnd → CodeIsValid → TurnsAreTheSame
+turns_are_the_same ends valid p differ files can ns steps until k = whole_alike p differ files steps until can ends valid ns k

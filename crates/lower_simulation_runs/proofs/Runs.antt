@@ -19,7 +19,8 @@ use Rattle.verse_meaning.specs.Resuming.{resume_scope}
 use Rattle.verse_meaning.specs.Runs.{deeper, Forest, forest_leaves, ended_by, came}
 use Rattle.verse_meaning.specs.Runs.{turn_taken as taken_p, woken as woken_p}
 use Rattle.lower_simulation.proofs.Paths.{onto_onto}
-use Rattle.lower_simulation.proofs.Claims.{seen_of, between, ended, broke_off, Setting, Goal, Agree, Ends, around, GoesHalt, Tasks}
+use Rattle.lower_simulation.proofs.Claims.{Setting, Goal, Agree, Ends, around, GoesHalt, Tasks}
+use Rattle.lower_simulation.specs.Seen.{seen_of, between, ended, broke_off}
 use Rattle.lower_simulation.proofs.Claims.{Stretch, Planted, not_planted, one_planted, GoesTask, ParkedS}
 use Rattle.lower_simulation.proofs.Steps.{over}
 use Rattle.lower_simulation.proofs.Going.{trans, le_self, planted_steps, stretch_map, lower_s}

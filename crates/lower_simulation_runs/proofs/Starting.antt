@@ -25,7 +25,8 @@ use Rattle.verse_meaning.specs.Programs.{main_in}
 use Rattle.verse_tree.specs.ItemTree.{FunTree}
 use Rattle.verse_code.specs.declared.codes.Func.{Func}
 use Rattle.verse_code.specs.Validity.{Valid}
-use Rattle.lower_simulation.proofs.Claims.{seen_of, between, ended, Seen, broke_off, Setting, Goal}
+use Rattle.lower_simulation.proofs.Claims.{Setting, Goal}
+use Rattle.lower_simulation.specs.Seen.{seen_of, between, ended, Seen, broke_off}
 use Rattle.lower_simulation.proofs.Claims.{Ends, world_of}
 use Rattle.lower_simulation.proofs.Steps.{over}
 use Rattle.lower_simulation.proofs.Going.{le_self}

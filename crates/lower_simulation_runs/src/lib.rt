@@ -11,7 +11,7 @@
 //! programs; `Example`, a program of which all that is asked holds.
 #![tactic(auto)]
 
-ghost use Rattle.lower_simulation_runs.specs.Laws.{CodeMeansTheSame};
+ghost use Rattle.lower_simulation_runs.specs.Laws.{CodeMeansTheSame, TurnsAreTheSame};
 
 use lower_bounds::code_is_valid;
 use verse_code_machine::runs_end;
@@ -19,6 +19,14 @@ use verse_code_machine::runs_end;
 /// The code of a program that can be followed does what the program means.
 pub fn code_means_the_same()
     ensures { CodeMeansTheSame }
+{
+    runs_end();
+    code_is_valid();
+}
+
+/// After each number of turns the machine of its code stands where the program does.
+pub fn turns_are_the_same()
+    ensures { TurnsAreTheSame }
 {
     runs_end();
     code_is_valid();

@@ -19,7 +19,8 @@ use Rattle.verse_meaning.specs.Resuming.{resume}
 use Rattle.verse_meaning.specs.Runs.{deeper}
 use Rattle.lower_simulation.proofs.Paths.{each_map, starts_longer}
 use Rattle.lower_simulation_tasks.proofs.Besides.{free_fails}
-use Rattle.lower_simulation.proofs.Claims.{broke_off, kept_at, Target, GoesHalt, Returns, return_leaves, return_now, Breaks}
+use Rattle.lower_simulation.proofs.Claims.{kept_at, Target, GoesHalt, Returns, return_leaves, return_now, Breaks}
+use Rattle.lower_simulation.specs.Seen.{broke_off}
 use Rattle.lower_simulation.proofs.Claims.{break_leaves, break_now, on, Setting, Goal, Ends, Here, Ctx, Around, around, at}
 use Rattle.lower_simulation.proofs.Claims.{frame_of, Clear, Beside, Apart, Good, Gone, Others, in_clearing, Stopped, kids_of, own_of}
 use Rattle.lower_simulation.proofs.Claims.{Tasks, ResidualStands, ScopeStands, Grown, same_around, left_around, forked_around, ParkedR}

@@ -15,7 +15,8 @@ use Rattle.verse_meaning.specs.Outcomes.{sleeps, call_end}
 use Rattle.verse_meaning.specs.Evaluating.{scope_end}
 use Rattle.verse_meaning.specs.Resuming.{resume_scope}
 use Rattle.verse_meaning.specs.Runs.{deeper}
-use Rattle.lower_simulation.proofs.Claims.{with_return, Returns, return_leaves, return_now, Held, on, Agrees, broke_off, Setting, Goal}
+use Rattle.lower_simulation.proofs.Claims.{with_return, Returns, return_leaves, return_now, Held, on, Agrees, Setting, Goal}
+use Rattle.lower_simulation.specs.Seen.{broke_off}
 use Rattle.lower_simulation.proofs.Claims.{Ends, Here, Ctx, Around, world_of, in_frame, frame_of, Apart, kids_of, own_of, Tasks, RestAt}
 use Rattle.lower_simulation.proofs.Claims.{Stretch, Grown, same_around, Planted, GoesScope, role_over, GoesTask, ParkedR, ParkedS, Goes}
 use Rattle.lower_simulation.proofs.Claims.{slots}

@@ -22,7 +22,8 @@ use Rattle.verse_meaning.specs.Runs.{deeper}
 use Rattle.lower_simulation.proofs.Paths.{Each, NotOver, each_map, each_both, each_ordered, ordered, ordered_apart, onto_onto, onto_both}
 use Rattle.lower_simulation.proofs.Paths.{starts_longer, starts_earlier, starts_through, starts_beside, since_one, waits_both}
 use Rattle.lower_simulation.proofs.Paths.{without_onto, without_none, gone_onto, gone_none, gone_none_behind}
-use Rattle.lower_simulation.proofs.Claims.{with_return, Returns, Breaks, break_leaves, break_now, Held, on, broke_off, Setting, Goal, Ends}
+use Rattle.lower_simulation.proofs.Claims.{with_return, Returns, Breaks, break_leaves, break_now, Held, on, Setting, Goal, Ends}
+use Rattle.lower_simulation.specs.Seen.{broke_off}
 use Rattle.lower_simulation.proofs.Claims.{Ctx, Around, world_of, around, at, no_loop, in_frame, Clear, Young, Beneath, Beside, Strict}
 use Rattle.lower_simulation.proofs.Claims.{Apart, Fine, Good, Keeps, GoesHalt, Clears, Stopped, all_of_scope, Tasks, ScopeStands, RestAt}
 use Rattle.lower_simulation.proofs.Claims.{Stretch, Grown, same_around, left_around, forked_around, Planted, not_planted, one_planted}
