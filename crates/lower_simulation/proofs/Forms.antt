@@ -147,7 +147,7 @@ module _ (z : Setting) where
     IsPlain f = (l : ℕ) (vs : List Val) (e : Env) (w : World) → form_done z.program (deeper z.program l) f vs e w ≡
         apply z.program (deeper z.program l) f vs true e w
 
-    pub operands_args : (ts : Trees) (f : Form) → IsPlain f → (l : ℕ) (vs : List Val) (e : Env) (w : World) →
+    operands_args : (ts : Trees) (f : Form) → IsPlain f → (l : ℕ) (vs : List Val) (e : Env) (w : World) →
         operands z.program (deeper z.program l) e f vs (trees_list ts) w ≡ all_args z.program (deeper z.program l) ts f vs true e w
     operands_args no_trees f pf l vs e w = pf l vs e w
     operands_args (more_trees x ts) f pf l vs e w = λ i. valued (ev z.program (deeper z.program l) x true e w)
