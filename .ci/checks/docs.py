@@ -183,6 +183,27 @@ def pictures():
         check(well, f"docs/ARCHITECTURE.md: {chain} is no longest chain")
 
 
+def operation(text):
+    """`o.Int (negsuc 0)` as `Int -1`."""
+    words = re.sub(r"\(negsuc (\d+)\)", lambda it: str(-1 - int(it[1])), re.sub(r"\(pos (\d+)\)", r"\1", text)).split()
+    return " ".join([words[0].removeprefix("o."), *words[1:]])
+
+
+def codes_of_forms():
+    """The table of the chapter 'The code of a form' has the rows of the laws, in their order."""
+    shown = []
+    for row in re.findall(r"(?m)^\| (.*) \|$", section(text_of("docs/ARCHITECTURE.md"), "The code of a form"))[1:]:
+        form, *operations = re.findall(r"`([^`]*)`", row) or [""]
+        shown += [(form, operations)] if form else []
+    laws = text_of("crates/lower_code_laws/specs/Forms.antt")
+    rows = re.findall(r"(?m)^  -- (.*)\n  pub \w+ :((?:.*\n)(?:      .*\n)*)", laws)
+    held = [(form, [operation(it.strip()) for it in law.split("≡")[1].split("∷")[:-1]]) for form, law in rows]
+    check(len(held) > 90, "crates/lower_code_laws/specs/Forms.antt has no rows that this check can read")
+    for form, operations in held:
+        check((form, operations) in shown, f"docs/ARCHITECTURE.md, The code of a form: no row has `{form}` with {operations}")
+    check([form for form, _ in shown] == [form for form, _ in held], "docs/ARCHITECTURE.md, The code of a form: other rows than the laws")
+
+
 def built_forms():
     """The table of what is built against the kinds of node and the definition of what is built."""
     rows = re.findall(r"(?m)^\| .* \| (yes|no) \| (.*) \|$", section(text_of("docs/LANGUAGE.md"), "What is built today"))
@@ -459,6 +480,7 @@ parts_of_examples()
 links()
 times()
 pictures()
+codes_of_forms()
 built_forms()
 refusals()
 refused_examples()
