@@ -12,11 +12,11 @@ use Rattle.verse_tree.specs.declared.items.ClassItem.{ClassItem}
 use Rattle.verse_meaning_state.specs.Waits.{nth}
 use Rattle.verse_meaning.specs.Programs.{Program, enums, fun_of_info, fun_numbered, named_value, fields_from, classes}
 use Rattle.lower_code.specs.Lowering.{takes_params}
-use Rattle.lower_items.specs.Enums.{named_in}
+use Rattle.lower_declared.specs.Enums.{named_in}
 use Rattle.lower_items.specs.Params.{params_of, count_at, is_count}
-use Rattle.lower_items.specs.Views.{class_now, class_here}
-use Rattle.lower_items.specs.Parts.{made_classes}
-use Rattle.lower_items.specs.Fields.{number_of_field, place_among}
+use Rattle.lower_declared.specs.Views.{class_now, class_here}
+use Rattle.lower_declared.specs.Parts.{made_classes}
+use Rattle.lower_declared.specs.Fields.{number_of_field, place_among}
 use Rattle.lower_code.specs.Defaults.{field_place}
 use Rattle.verse_tree.specs.ItemView.{item_of, class_of}
 use Rattle.verse_tree.specs.declared.items.Item.{Item}

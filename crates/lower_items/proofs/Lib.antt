@@ -1,6 +1,4 @@
 mod Splitting
-mod Lines
-mod Placing
 mod Noting
 mod Finding
 mod RuleSets

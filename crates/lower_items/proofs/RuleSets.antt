@@ -1,7 +1,4 @@
 -- The lemmas that the goals of a function want, by its name.
-use Rattle.lower_items.proofs.Lines.{up, top, end}
 use Rattle.lower_items.proofs.Splitting.{main_here, main_behind}
 
 pub ruleset of_main = (main_here, main_behind)
-
-pub ruleset of_lines = (up, top, end)

@@ -1,25 +1,12 @@
--- The lists of a program, by one item or one member and what is behind it.
+-- The functions of the code, by one item or one member and what is behind it.
 use Rattle.std.proofs.Common.{◌≡◌, ℕ, ◌+◌, List, [], ◌∷◌, ◌++◌, length, true, false, cond, refl, ap, sym, ◌∙◌, arith}
 use Rattle.verse_tree.specs.ItemTree.{MemberTree, field, method, ItemTree, using, enumeration, class, function}
-use Rattle.verse_meaning.specs.Programs.{enums, own_fields, same_name, main_name}
-use Rattle.lower_code.specs.Defaults.{with_defaults, defaults_in}
+use Rattle.verse_meaning.specs.Programs.{same_name, main_name}
 use Rattle.lower_code.specs.Programs.{methods_in, bodies_in, main_from}
-use Rattle.lower_items.specs.Parts.{enums_at, fields_at, default_at, defaults_at, method_at, bodies_at, methods_behind}
+use Rattle.lower_items.specs.Parts.{method_at, bodies_at, methods_behind}
 use Rattle.lower_items.specs.Parts.{is_main, item_behind}
 
 module _ (is : List ItemTree) where
-  pub enums_split : (i : ItemTree) → enums (i ∷ is) ≡ enums_at i ++ enums is
-  enums_split (using u) = refl
-  enums_split (enumeration e) = refl
-  enums_split (class c) = refl
-  enums_split (function f) = refl
-
-  pub defaults_split : (i : ItemTree) → defaults_in (i ∷ is) ≡ defaults_at i ++ defaults_in is
-  defaults_split (using u) = refl
-  defaults_split (enumeration e) = refl
-  defaults_split (class c) = refl
-  defaults_split (function f) = refl
-
   pub bodies_split : (i : ItemTree) → bodies_in (i ∷ is) ≡ bodies_at i ++ bodies_in is
   bodies_split (using u) = refl
   bodies_split (enumeration e) = refl
@@ -27,14 +14,6 @@ module _ (is : List ItemTree) where
   bodies_split (function f) = refl
 
 module _ (ms : List MemberTree) where
-  pub fields_split : (m : MemberTree) → own_fields (m ∷ ms) ≡ fields_at m ++ own_fields ms
-  fields_split (field f) = refl
-  fields_split (method f) = refl
-
-  pub member_defaults_split : (m : MemberTree) → with_defaults (own_fields (m ∷ ms)) ≡ default_at m ++ with_defaults (own_fields ms)
-  member_defaults_split (field f) = refl
-  member_defaults_split (method f) = refl
-
   pub methods_split : (m : MemberTree) → methods_in (m ∷ ms) ≡ method_at m ++ methods_in ms
   methods_split (field f) = refl
   methods_split (method f) = refl

@@ -1,6 +1,4 @@
 pub mod Views
 pub mod Parts
-pub mod Fields
-pub mod Enums
 pub mod Noted
 pub mod Params

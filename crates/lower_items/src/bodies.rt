@@ -3,12 +3,13 @@
 ghost use Rattle.std.specs.Prelude.{◌≡◌, ◌++◌, ◌+◌, ◌∷◌, [], map, IfOk, OnOk};
 ghost use Rattle.verse_tree.specs.ItemView.{item_of, member_of, fun_of, field_of, spec_of};
 ghost use Rattle.lower_code.specs.Programs as l;
-ghost use Rattle.lower_items.specs.Views.{field_now, body_view, this_scope};
+ghost use Rattle.lower_declared.specs.Views.{field_now};
+ghost use Rattle.lower_items.specs.Views.{body_view, this_scope};
 ghost use Rattle.lower_items.specs.Parts.{methods_behind, item_behind};
 ghost use Rattle.lower_items.specs.Parts.{method_at, bodies_at, is_main, one_method};
 
-use crate::collecting::defaults;
-use crate::numbers::further;
+use lower_declared::collecting::defaults;
+use lower_declared::numbers::further;
 use lower_lookup::names::is_same_name;
 use std::alloc::Global;
 use verse_base::refusals::Memory;

@@ -3,7 +3,7 @@
 ghost use Rattle.std.specs.Prelude.{◌≡◌, map, IfOk};
 ghost use Rattle.lower_code.specs.Programs as l;
 
-use crate::numbers::number_of;
+use lower_declared::numbers::number_of;
 use std::alloc::Global;
 use verse_base::refusals::Memory;
 use verse_code::codes::Class;

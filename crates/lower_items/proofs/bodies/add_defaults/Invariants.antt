@@ -1,6 +1,7 @@
 use Rattle.std.proofs.Common.{◌≡◌, ◌++◌, drop, map}
 use Rattle.lower_code.specs.Programs.{default_bodies}
-use Rattle.lower_items.specs.Views.{body_view, field_now}
+use Rattle.lower_declared.specs.Views.{field_now}
+use Rattle.lower_items.specs.Views.{body_view}
 use Rattle.lower_items.proofs.bodies.add_defaults.Given as goal
 
 -- what is done and what is left are all

@@ -1,0 +1,4 @@
+mod Splitting
+mod Lines
+mod Placing
+mod RuleSets
