@@ -1,0 +1,8 @@
+//! How a form lowers its parts: by a function value that lowers smaller trees.
+//!
+//! To be read in this order: `lowering`, a part and the operands of a form.
+//!
+//! The public lemmas, which crates above cite, are those of `proofs/Shapes` and `proofs/Operands`.
+#![tactic(auto)]
+
+pub mod lowering;
