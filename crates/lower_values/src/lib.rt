@@ -1,0 +1,9 @@
+//! Operators, names, and values that are made: each form over its parts.
+//!
+//! To be read in this order: `operators`, one or two operands with what ends them; `lists`, tuples
+//! and arrays; `texts`, texts with holes; `maps`; `instances`; `names`.
+//!
+//! The public lemmas, which crates above cite, are those of `proofs/Forms`.
+#![tactic(auto)]
+
+pub mod operators;
