@@ -1,11 +1,12 @@
 -- Operands with what ends them.
-use Rattle.verse_tree.specs.Tree.{Tree}
+use Rattle.verse_tree.specs.Tree.{Bytes, Tree, Trees}
 use Rattle.verse_base.specs.declared.places.Place.{Place}
 use Rattle.verse_tree.specs.declared.exprs.Operator.{Operator}
 use Rattle.verse_tree.specs.declared.programs.Program.{Program}
 use Rattle.verse_meaning.specs.Programs.{program_of}
 use Rattle.verse_meaning.specs.Residuals as form
 use Rattle.lower_code.specs.Applied.{finish}
+use Rattle.lower_code.specs.Lowering.{text_if}
 use Rattle.std.specs.Prelude.{ℕ, true}
 use Rattle.lower_code.specs.Pieces.{Maker, ◌then◌}
 use Rattle.lower_code.specs.Arounds.{up}
@@ -13,7 +14,7 @@ use Rattle.lower_code.specs.Scopes.{Scope}
 use Rattle.lower_code.specs.declared.arounds.Around.{Around}
 use Rattle.lower_expr.specs.Endings.{ending_code}
 use Rattle.lower_expr.specs.declared.endings.Ending.{Ending}
-use Rattle.lower_parts.specs.Parts.{tree_code}
+use Rattle.lower_parts.specs.Parts.{tree_code, operands_code}
 
 abbrev pub one_ended : Program → Tree → Ending → Scope → Around → Maker
 one_ended p a ending sc around = tree_code p a sc around then ending_code ending
@@ -25,3 +26,10 @@ two_ended p a b ending sc around = tree_code p a sc around then tree_code p b sc
 abbrev pub arithmetic_code : Program → Operator → Tree × Tree → (n : ℕ) → Place → Scope → Around → Maker
 arithmetic_code p x parts n pl sc a =
     tree_code p parts.0 sc a then tree_code p parts.1 sc (up a) then finish (form.computing x ((program_of p).is_array n) pl) 2 true
+
+abbrev pub all_ended : Program → Trees → Ending → Scope → Around → Maker
+all_ended p parts ending sc around = operands_code p parts sc around then ending_code ending
+
+-- the value of a hole, and the piece of text behind it
+abbrev pub hole_code : Program → Tree × Bytes → Scope → Around → Maker
+hole_code p hole sc around = tree_code p hole.0 sc around then text_if hole.1

@@ -6,4 +6,7 @@
 //! The public lemmas, which crates above cite, are those of `proofs/Forms`.
 #![tactic(auto)]
 
+pub mod lists;
+pub mod names;
 pub mod operators;
+pub mod texts;
