@@ -1,1 +1,3 @@
 mod Holes
+mod Keys
+mod Fields

@@ -7,8 +7,8 @@ use Rattle.verse_meaning.specs.Programs.{program_of}
 use Rattle.verse_meaning.specs.Residuals as form
 use Rattle.lower_code.specs.Applied.{finish}
 use Rattle.lower_code.specs.Lowering.{text_if}
-use Rattle.std.specs.Prelude.{ℕ, true}
-use Rattle.lower_code.specs.Pieces.{Maker, ◌then◌}
+use Rattle.std.specs.Prelude.{◌≡◌, ◌++◌, ℕ, true, length}
+use Rattle.lower_code.specs.Pieces.{Maker, put_away, ◌then◌}
 use Rattle.lower_code.specs.Arounds.{up}
 use Rattle.lower_code.specs.Scopes.{Scope}
 use Rattle.lower_code.specs.declared.arounds.Around.{Around}
@@ -33,3 +33,14 @@ all_ended p parts ending sc around = operands_code p parts sc around then ending
 -- the value of a hole, and the piece of text behind it
 abbrev pub hole_code : Program → Tree × Bytes → Scope → Around → Maker
 hole_code p hole sc around = tree_code p hole.0 sc around then text_if hole.1
+
+abbrev pub pair_code : Program → Tree × Tree → Scope → Around → Maker
+pair_code p pair sc around = tree_code p pair.0 sc around then tree_code p pair.1 sc (up around)
+
+-- a value that goes into the next local
+abbrev pub given_code : Program → Tree → Scope → Around → Maker
+given_code p a sc around = tree_code p a sc around then put_away (length sc)
+
+-- a scope with more slots
+abbrev pub Grown : (old new : Scope) → Type 0
+Grown old new = (added : Scope) × (new ≡ added ++ old)

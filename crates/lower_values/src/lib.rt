@@ -6,7 +6,9 @@
 //! The public lemmas, which crates above cite, are those of `proofs/Forms`.
 #![tactic(auto)]
 
+pub mod instances;
 pub mod lists;
+pub mod maps;
 pub mod names;
 pub mod operators;
 pub mod texts;
