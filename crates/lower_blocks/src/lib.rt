@@ -1,0 +1,6 @@
+//! Forms with blocks: failure contexts, statements, loops and cases.
+#![tactic(auto)]
+
+pub mod failing;
+mod parts;
+mod statements;

@@ -1,0 +1,90 @@
+//! Statements and conditions, one by one.
+
+ghost use Rattle.std.specs.Prelude.{◌≡◌, map, length, OnOk, IfOk};
+ghost use Rattle.verse_tree.specs.declared.programs.Program.{Program};
+ghost use Rattle.verse_tree.specs.View.{tree_of, shape_of, two_of, trees};
+ghost use Rattle.verse_meaning.specs.Evaluating as e;
+ghost use Rattle.lower_code.specs.declared.arounds.Around as r;
+ghost use Rattle.lower_code.specs.Scopes.{Scope};
+ghost use Rattle.lower_code.specs.Lowering as l;
+ghost use Rattle.lower_lookup.specs.Statements.{binder_view};
+ghost use Rattle.lower_expr.specs.Building.{built, made};
+ghost use Rattle.lower_expr.specs.Endings.{ending_code};
+ghost use Rattle.lower_expr.specs.Locals.{scope_of};
+ghost use Rattle.lower_parts.specs.Parts.{Lowers};
+ghost use Rattle.lower_blocks.specs.Insides.{inside, inside_shape, within_view};
+ghost use Rattle.lower_blocks.specs.Codes.{inner_code};
+
+use crate::parts::{left, right};
+use lower_code::arounds::Around;
+use lower_expr::builder::Builder;
+use lower_expr::endings::Ending;
+use lower_expr::scopes::{Scopes, Slot};
+use lower_items::tables::Tables;
+use lower_lookup::statements::Binder;
+use lower_parts::lowering::Lowering;
+use verse_base::refusals::Memory;
+use verse_tree::exprs::{Expr, Form, Two};
+
+/// What stands in a statement or a clause.
+#[derive(Clone, Copy)]
+pub enum Within<'a> {
+    Nothing,
+    /// The value of a definition, the object of a member or the domain of a generator.
+    Part(&'a Expr),
+    /// A deferred block.
+    Deferred(&'a Expr),
+    /// Both ends of a range.
+    Ends(&'a Two),
+}
+
+#[tactic(auto, using(crate::proofs::RuleSets::of_parts))]
+fn form_within<'a>(form: &'a Form) -> Within<'a>
+    ensures { within_view result ≡ inside_shape (shape_of form.now) }
+{
+    match form {
+        Form::Let(_, value) => Within::Part(value.get()),
+        Form::Def(_, typed) => Within::Part(typed.value.get()),
+        Form::VarDef(_, typed) => Within::Part(typed.value.get()),
+        Form::Defer(block) => Within::Deferred(block.get()),
+        Form::Member(object, _) => Within::Part(object.get()),
+        Form::Elements(_, domain) => Within::Part(domain.get()),
+        Form::Entries(_, _, domain) => Within::Part(domain.get()),
+        Form::Range(_, ends) => Within::Ends(ends),
+        _ => Within::Nothing,
+    }
+}
+
+fn tree_within<'a>(part: &'a Expr) -> Within<'a>
+    ensures { within_view result ≡ inside (tree_of part.now) }
+{
+    form_within(&part.form)
+}
+
+/// The code of what stands in a statement or a clause.
+pub fn inner<
+    'a,
+    F: Fn(&'a Tables<'a>, u32, &mut Builder, &mut Scopes<'a>, Around, &'a Expr) -> Result<(), Memory>,
+>(
+    lowering: &Lowering<'a, F>,
+    builder: &mut Builder,
+    scopes: &mut Scopes<'a>,
+    around: Around,
+    part: &'a Expr,
+) -> Result<(), Memory>
+    requires nests { Lowers lowering.now.depth (F.pre lowering.now.nested) (F.post lowering.now.nested) }
+    ensures code { OnOk result (built builder.new ≡ made (inner_code lowering.now.tables.now.program.now
+        (tree_of part.now) (scope_of scopes.old) around) (built builder.old)) }
+    ensures scopes { OnOk result (scope_of scopes.new ≡ scope_of scopes.old) }
+{
+    match tree_within(part) {
+        Within::Nothing => builder.stuck()?,
+        Within::Part(value) => lowering.part(builder, scopes, around, value)?,
+        Within::Deferred(block) => lowering.part(builder, scopes, around.enclosed(), block)?,
+        Within::Ends(ends) => {
+            lowering.part(builder, scopes, around, left(ends))?;
+            lowering.part(builder, scopes, around.up()?, right(ends))?;
+        }
+    }
+    Ok(())
+}
