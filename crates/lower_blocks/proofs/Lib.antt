@@ -1,2 +1,3 @@
 mod Inner
 mod RuleSets
+mod Stated

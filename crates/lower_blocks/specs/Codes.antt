@@ -7,7 +7,7 @@ use Rattle.verse_meaning.specs.Evaluating.{statement_of}
 use Rattle.lower_code.specs.Pieces.{Maker, stuck, ◌then◌}
 use Rattle.lower_code.specs.Scopes.{Scope}
 use Rattle.lower_code.specs.Arounds.{up, enclosed}
-use Rattle.lower_code.specs.Lowering.{piece, inner, stated, statements, more_statements}
+use Rattle.lower_code.specs.Lowering.{piece, inner, stated, around_stated, statements, more_statements}
 use Rattle.lower_code.specs.declared.arounds.Around.{Around}
 use Rattle.lower_lookup.specs.Types.{differ_of}
 use Rattle.lower_parts.specs.Parts.{tree_code}
@@ -31,6 +31,10 @@ module _ (p : Program) where
   -- a statement; statements, and those behind the first
   abbrev pub stated_code : Tree → Scope → Around → Maker
   stated_code t sc a = stated (program_of p) (differ_of p) (statement_of t) sc (tree_code p t sc a) (inner_code t sc a)
+
+  -- where the statements behind it stand
+  abbrev pub around_behind : Tree → Around → Around
+  around_behind t = around_stated (program_of p) (differ_of p) (statement_of t)
 
   abbrev pub statements_code : Trees → Scope → Around → Maker
   statements_code = statements (program_of p) (differ_of p)

@@ -13,7 +13,7 @@ ghost use Rattle.lower_expr.specs.Endings.{ending_code};
 ghost use Rattle.lower_expr.specs.Locals.{scope_of};
 ghost use Rattle.lower_parts.specs.Parts.{Lowers};
 ghost use Rattle.lower_blocks.specs.Insides.{inside, inside_shape, within_view};
-ghost use Rattle.lower_blocks.specs.Codes.{inner_code};
+ghost use Rattle.lower_blocks.specs.Codes.{inner_code, stated_code, around_behind};
 
 use crate::parts::{left, right};
 use lower_code::arounds::Around;
@@ -21,7 +21,8 @@ use lower_expr::builder::Builder;
 use lower_expr::endings::Ending;
 use lower_expr::scopes::{Scopes, Slot};
 use lower_items::tables::Tables;
-use lower_lookup::statements::Binder;
+use lower_fail::attempts::{defer_begin, defer_end};
+use lower_lookup::statements::{Binder, Statement, statement_of};
 use lower_parts::lowering::Lowering;
 use verse_base::refusals::Memory;
 use verse_tree::exprs::{Expr, Form, Two};
@@ -87,4 +88,86 @@ pub fn inner<
         }
     }
     Ok(())
+}
+
+/// The names that a statement defines.
+fn name<'a>(scopes: &mut Scopes<'a>, binder: Binder<'a>) -> Result<(), Memory>
+    ensures { OnOk result (scope_of scopes.new ≡ l.with_binder (binder_view binder.entry)
+        (scope_of scopes.old)) }
+{
+    match binder {
+        Binder::Nothing => {}
+        Binder::Constant(name) => scopes.add(Slot::Constant(name))?,
+        Binder::Variable(name, _) => scopes.add(Slot::Variable(name))?,
+    }
+    Ok(())
+}
+
+fn binding(binder: Binder<'_>, local: u32) -> Ending
+    ensures { ending_code result ≡ l.bind (binder_view binder.entry) local }
+{
+    match binder {
+        Binder::Nothing => Ending::Nothing,
+        Binder::Constant(_) => Ending::Keep(local),
+        Binder::Variable(_, place) => Ending::Vary(place, local),
+    }
+}
+
+/// The value of a definition goes into the next local, or into a variable's cell, and stays.
+pub fn bind<'a>(
+    builder: &mut Builder,
+    scopes: &mut Scopes<'a>,
+    binder: Binder<'a>,
+) -> Result<(), Memory>
+    ensures code { OnOk result (built builder.new ≡ made (l.bind (binder_view binder.entry)
+        (length (scope_of scopes.old))) (built builder.old)) }
+    ensures scopes { OnOk result (scope_of scopes.new ≡ l.with_binder (binder_view binder.entry)
+        (scope_of scopes.old)) }
+{
+    let local = scopes.count()?;
+    builder.ending(binding(binder, local))?;
+    name(scopes, binder)?;
+    Ok(())
+}
+
+/// A statement; where the statements behind it stand.
+fn stated<
+    'a,
+    F: Fn(&'a Tables<'a>, u32, &mut Builder, &mut Scopes<'a>, Around, &'a Expr) -> Result<(), Memory>,
+>(
+    lowering: &Lowering<'a, F>,
+    builder: &mut Builder,
+    scopes: &mut Scopes<'a>,
+    around: Around,
+    part: &'a Expr,
+) -> Result<Around, Memory>
+    requires nests { Lowers lowering.now.depth (F.pre lowering.now.nested) (F.post lowering.now.nested) }
+    ensures code { OnOk result (built builder.new ≡ made (stated_code lowering.now.tables.now.program.now
+        (tree_of part.now) (scope_of scopes.old) around) (built builder.old)) }
+    ensures scopes { OnOk result (scope_of scopes.new ≡ l.scope_stated
+        (e.statement_of (tree_of part.now)) (scope_of scopes.old)) }
+    ensures around { IfOk result (λ r. r ≡ around_behind lowering.now.tables.now.program.now
+        (tree_of part.now) around) }
+{
+    match statement_of(part) {
+        Statement::Plain => {
+            lowering.part(builder, scopes, around, part)?;
+            Ok(around)
+        }
+        Statement::Defines(binder) => {
+            inner(lowering, builder, scopes, around, part)?;
+            bind(builder, scopes, binder)?;
+            Ok(around)
+        }
+        Statement::Defers(_) => {
+            let begun = defer_begin(builder)?;
+            inner(lowering, builder, scopes, around, part)?;
+            defer_end(builder, begun)?;
+            Ok(around.deferring()?)
+        }
+        Statement::Generates(_) => {
+            builder.stuck()?;
+            Ok(around)
+        }
+    }
 }
