@@ -1,3 +1,5 @@
 mod Inner
 mod RuleSets
 mod Stated
+mod Behind
+mod Listed

@@ -5,7 +5,8 @@ ghost use Rattle.verse_tree.specs.declared.programs.Program.{Program};
 ghost use Rattle.verse_tree.specs.View.{tree_of, shape_of, two_of, trees};
 ghost use Rattle.verse_meaning.specs.Evaluating as e;
 ghost use Rattle.lower_code.specs.declared.arounds.Around as r;
-ghost use Rattle.lower_code.specs.Scopes.{Scope};
+ghost use Rattle.verse_code.specs.declared.operations.Op.TheVariants as o;
+ghost use Rattle.lower_code.specs.Pieces.{when, one};
 ghost use Rattle.lower_code.specs.Lowering as l;
 ghost use Rattle.lower_lookup.specs.Statements.{binder_view};
 ghost use Rattle.lower_expr.specs.Building.{built, made};
@@ -14,6 +15,7 @@ ghost use Rattle.lower_expr.specs.Locals.{scope_of};
 ghost use Rattle.lower_parts.specs.Parts.{Lowers};
 ghost use Rattle.lower_blocks.specs.Insides.{inside, inside_shape, within_view};
 ghost use Rattle.lower_blocks.specs.Codes.{inner_code, stated_code, around_behind};
+ghost use Rattle.lower_blocks.specs.Codes.{statements_code, more_code};
 
 use crate::parts::{left, right};
 use lower_code::arounds::Around;
@@ -22,9 +24,10 @@ use lower_expr::endings::Ending;
 use lower_expr::scopes::{Scopes, Slot};
 use lower_items::tables::Tables;
 use lower_fail::attempts::{defer_begin, defer_end};
-use lower_lookup::statements::{Binder, Statement, statement_of};
+use lower_lookup::statements::{Binder, Statement, any_defer, statement_of};
 use lower_parts::lowering::Lowering;
 use verse_base::refusals::Memory;
+use verse_code::operations::Op;
 use verse_tree::exprs::{Expr, Form, Two};
 
 /// What stands in a statement or a clause.
@@ -170,4 +173,91 @@ fn stated<
             Ok(around)
         }
     }
+}
+
+/// Statements behind another.
+fn more_statements<
+    'a,
+    F: Fn(&'a Tables<'a>, u32, &mut Builder, &mut Scopes<'a>, Around, &'a Expr) -> Result<(), Memory>,
+>(
+    lowering: &Lowering<'a, F>,
+    builder: &mut Builder,
+    scopes: &mut Scopes<'a>,
+    around: Around,
+    parts: &'a [Expr],
+) -> Result<(), Memory>
+    requires nests { Lowers lowering.now.depth (F.pre lowering.now.nested) (F.post lowering.now.nested) }
+    ensures code { OnOk result (built builder.new ≡ made (more_code lowering.now.tables.now.program.now
+        (trees (map tree_of parts.now)) (scope_of scopes.old) around) (built builder.old)) }
+    ensures scopes { OnOk result (scope_of scopes.new ≡ l.scope_behind
+        (trees (map tree_of parts.now)) (scope_of scopes.old)) }
+{
+    let mut behind = around;
+    'parts: for part in parts {
+        builder.op(Op::Drop)?;
+        behind = stated(lowering, builder, scopes, behind, part)?;
+    }
+    Ok(())
+}
+
+/// The deferred blocks of a block run.
+#[tactic(auto, using(lower_expr::proofs::Plain::made_when, lower_expr::proofs::Laws::made_one))]
+fn leave(builder: &mut Builder, around: Around, defers: bool) -> Result<(), Memory>
+    ensures { OnOk result (built builder.new ≡ made (when defers (one (o.Leave around.defers)))
+        (built builder.old)) }
+{
+    if defers {
+        builder.op(Op::Leave(around.defers))?;
+    }
+    Ok(())
+}
+
+/// Statements or conditions, whose names stay.
+pub fn statements<
+    'a,
+    F: Fn(&'a Tables<'a>, u32, &mut Builder, &mut Scopes<'a>, Around, &'a Expr) -> Result<(), Memory>,
+>(
+    lowering: &Lowering<'a, F>,
+    builder: &mut Builder,
+    scopes: &mut Scopes<'a>,
+    around: Around,
+    parts: &'a [Expr],
+) -> Result<(), Memory>
+    requires nests { Lowers lowering.now.depth (F.pre lowering.now.nested) (F.post lowering.now.nested) }
+    ensures code { OnOk result (built builder.new ≡ made (statements_code lowering.now.tables.now.program.now
+        (trees (map tree_of parts.now)) (scope_of scopes.old) around) (built builder.old)) }
+    ensures scopes { OnOk result (scope_of scopes.new ≡ l.scope_behind
+        (trees (map tree_of parts.now)) (scope_of scopes.old)) }
+{
+    let Some((first, rest)) = parts.split_first() else {
+        builder.op(Op::Unit)?;
+        return Ok(());
+    };
+    let behind = stated(lowering, builder, scopes, around, first)?;
+    more_statements(lowering, builder, scopes, behind, rest)?;
+    leave(builder, around, any_defer(parts))?;
+    Ok(())
+}
+
+/// Statements or conditions, whose names are not seen behind them.
+#[tactic(auto, using(crate::proofs::Behind::cut_behind))]
+pub fn own_statements<
+    'a,
+    F: Fn(&'a Tables<'a>, u32, &mut Builder, &mut Scopes<'a>, Around, &'a Expr) -> Result<(), Memory>,
+>(
+    lowering: &Lowering<'a, F>,
+    builder: &mut Builder,
+    scopes: &mut Scopes<'a>,
+    around: Around,
+    parts: &'a [Expr],
+) -> Result<(), Memory>
+    requires nests { Lowers lowering.now.depth (F.pre lowering.now.nested) (F.post lowering.now.nested) }
+    ensures code { OnOk result (built builder.new ≡ made (statements_code lowering.now.tables.now.program.now
+        (trees (map tree_of parts.now)) (scope_of scopes.old) around) (built builder.old)) }
+    ensures scopes { OnOk result (scope_of scopes.new ≡ scope_of scopes.old) }
+{
+    let count = scopes.count()?;
+    statements(lowering, builder, scopes, around, parts)?;
+    scopes.cut(count);
+    Ok(())
 }
