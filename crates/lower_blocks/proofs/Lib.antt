@@ -3,3 +3,5 @@ mod RuleSets
 mod Stated
 mod Behind
 mod Listed
+mod Ifs
+mod Variables

@@ -1,6 +1,8 @@
 -- The code of the parts of forms with blocks, in a program.
 use Rattle.verse_base.specs.declared.places.Place.{Place}
-use Rattle.verse_tree.specs.Tree.{Tree, Trees}
+use Rattle.std.specs.Prelude.{[]}
+use Rattle.verse_tree.specs.Tree as t
+use Rattle.verse_tree.specs.Tree.{Tree, Trees, Shape}
 use Rattle.verse_tree.specs.declared.programs.Program.{Program}
 use Rattle.verse_meaning.specs.Programs.{program_of}
 use Rattle.verse_meaning.specs.Evaluating.{statement_of}
@@ -16,6 +18,13 @@ use Rattle.lower_blocks.specs.Insides.{Inside, nothing_inside, one_part, deferre
 -- the place of a form whose code does not look at it
 abbrev pub no_place : Place
 no_place = record { file = 0; line = 0; col = 0 }
+
+-- definitions, whose code does not look at their names and types
+abbrev pub constant_shape : Tree → Shape
+constant_shape = t.Shape.definition []
+
+abbrev pub variable_shape : Tree → Shape
+variable_shape = t.Shape.variable [] t.Written.void
 
 module _ (p : Program) where
   -- what stands in a statement or a clause
