@@ -1,0 +1,7 @@
+mod Inner
+mod RuleSets
+mod Stated
+mod Behind
+mod Listed
+mod Ifs
+mod Variables

@@ -1,0 +1,52 @@
+-- The code of the parts of forms with blocks, in a program.
+use Rattle.verse_base.specs.declared.places.Place.{Place}
+use Rattle.std.specs.Prelude.{[]}
+use Rattle.verse_tree.specs.Tree as t
+use Rattle.verse_tree.specs.Tree.{Tree, Trees, Shape}
+use Rattle.verse_tree.specs.declared.programs.Program.{Program}
+use Rattle.verse_meaning.specs.Programs.{program_of}
+use Rattle.verse_meaning.specs.Evaluating.{statement_of}
+use Rattle.lower_code.specs.Pieces.{Maker, stuck, ◌then◌}
+use Rattle.lower_code.specs.Scopes.{Scope}
+use Rattle.lower_code.specs.Arounds.{up, enclosed}
+use Rattle.lower_code.specs.Lowering.{piece, inner, stated, around_stated, statements, more_statements}
+use Rattle.lower_code.specs.declared.arounds.Around.{Around}
+use Rattle.lower_lookup.specs.Types.{differ_of}
+use Rattle.lower_parts.specs.Parts.{tree_code}
+use Rattle.lower_blocks.specs.Insides.{Inside, nothing_inside, one_part, deferred, both_ends}
+
+-- the place of a form whose code does not look at it
+abbrev pub no_place : Place
+no_place = record { file = 0; line = 0; col = 0 }
+
+-- definitions, whose code does not look at their names and types
+abbrev pub constant_shape : Tree → Shape
+constant_shape = t.Shape.definition []
+
+abbrev pub variable_shape : Tree → Shape
+variable_shape = t.Shape.variable [] t.Written.void
+
+module _ (p : Program) where
+  -- what stands in a statement or a clause
+  abbrev pub inner_code : Tree → Scope → Around → Maker
+  inner_code = inner (program_of p) (differ_of p)
+
+  abbrev pub inside_code : Inside → Scope → Around → Maker
+  inside_code nothing_inside sc a = stuck
+  inside_code (one_part e) sc a = tree_code p e sc a
+  inside_code (deferred e) sc a = tree_code p e sc (enclosed a)
+  inside_code (both_ends e f) sc a = tree_code p e sc a then tree_code p f sc (up a)
+
+  -- a statement; statements, and those behind the first
+  abbrev pub stated_code : Tree → Scope → Around → Maker
+  stated_code t sc a = stated (program_of p) (differ_of p) (statement_of t) sc (tree_code p t sc a) (inner_code t sc a)
+
+  -- where the statements behind it stand
+  abbrev pub around_behind : Tree → Around → Around
+  around_behind t = around_stated (program_of p) (differ_of p) (statement_of t)
+
+  abbrev pub statements_code : Trees → Scope → Around → Maker
+  statements_code = statements (program_of p) (differ_of p)
+
+  abbrev pub more_code : Trees → Scope → Around → Maker
+  more_code = more_statements (program_of p) (differ_of p)
