@@ -1,6 +1,8 @@
 //! Members, calls, indices, what `set` writes to, and tasks.
 //!
-//! To be read in this order: `tasks`, the forms whose parts are arms.
+//! To be read in this order: `tasks`, the forms whose parts are arms; `members`, what is read
+//! behind a dot.
 #![tactic(auto)]
 
+pub mod members;
 pub mod tasks;

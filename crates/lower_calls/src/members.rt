@@ -29,10 +29,7 @@ use verse_tree::exprs::Expr;
 fn enum_read(builder: &mut Builder, value: EnumValue) -> Result<(), Memory>
     ensures { OnOk result (built builder.new ≡ made (l.enum_op (val_of value)) (built builder.old)) }
 {
-    builder.one(Op::Enum {
-        of: value.of,
-        value: value.value,
-    })?;
+    builder.one(Op::Enum(value.of, value.value))?;
     Ok(())
 }
 
@@ -80,7 +77,8 @@ pub fn member<
     ensures scopes { OnOk result (scope_of scopes.new ≡ scope_of scopes.old) }
 {
     match lowering.tables.enum_member(part, name)? {
-        Some(value) => enum_read(builder, value),
-        None => read(lowering, builder, scopes, around, node, part, name),
+        Some(value) => enum_read(builder, value)?,
+        None => read(lowering, builder, scopes, around, node, part, name)?,
     }
+    Ok(())
 }
