@@ -1,2 +1,4 @@
-mod Arms
 mod Steps
+mod Arms
+mod NoParts
+mod RuleSets

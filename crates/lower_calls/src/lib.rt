@@ -6,3 +6,4 @@
 
 pub mod members;
 pub mod tasks;
+pub mod views;
