@@ -1,4 +1,6 @@
 mod Steps
 mod Arms
 mod NoParts
+mod Halves
 mod RuleSets
+mod Seen

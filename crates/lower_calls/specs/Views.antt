@@ -1,5 +1,6 @@
 -- The parts of callees and operands.
 use Rattle.std.specs.Prelude.{Option, Some, None}
+use Rattle.verse_base.specs.declared.places.Place.{Place}
 use denote.Ref.{Bor}
 use Rattle.verse_tree.specs.Tree.{Tree, tree, Shape, Trees}
 use Rattle.verse_tree.specs.Tree as t
@@ -16,6 +17,9 @@ two_now a = two_of a.now
 
 abbrev pub applied_now : Bor Applied → Tree × Trees
 applied_now a = ((applied_of a.now).0, trees (applied_of a.now).1)
+
+abbrev pub place_of : Tree → Place
+place_of (tree n pl s) = pl
 
 -- the object of a member
 abbrev pub object_in : Shape → Option Tree

@@ -4,6 +4,7 @@
 //! behind a dot.
 #![tactic(auto)]
 
+pub mod actions;
 pub mod members;
 pub mod tasks;
 pub mod views;
