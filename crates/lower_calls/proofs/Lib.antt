@@ -3,4 +3,5 @@ mod Arms
 mod NoParts
 mod Halves
 mod RuleSets
+mod Objects
 mod Seen

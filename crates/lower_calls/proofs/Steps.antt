@@ -3,8 +3,10 @@ use Rattle.std.proofs.Common.{◌≡◌, refl, sym, ap, ◌∙◌, Option, Some,
 use Rattle.verse_value.specs.Val.{Val}
 use Rattle.verse_tree.specs.declared.programs.Program.{Program}
 use Rattle.verse_meaning.specs.Programs.{program_of}
-use Rattle.lower_code.specs.Pieces.{Maker, ◌then◌}
-use Rattle.lower_code.specs.Lowering.{membered, enum_op}
+use Rattle.verse_meaning.specs.Residuals.{Form}
+use Rattle.verse_meaning.specs.Evaluating.{Callee, alone, of_object, of_value, of_quotient, no_callee, spawned_callee}
+use Rattle.lower_code.specs.Pieces.{Maker, stuck, ◌then◌}
+use Rattle.lower_code.specs.Lowering.{membered, enum_op, by_callee}
 use Rattle.lower_lookup.specs.Types.{differ_of}
 use Rattle.lower_expr.specs.Building.{Built, made}
 use Rattle.lower_expr.proofs.Laws.{made_then}
@@ -28,3 +30,33 @@ module _ (p : Program) (f : Maker) (b all : Built) (found : Option Val) where
   pub as_read : None ≡ found → all ≡ made f b → all ≡ made (membered (program_of p) (differ_of p) found f) b
   unfolding membered
   as_read e is = is ∙ ap (λ o. made (membered (program_of p) (differ_of p) o f) b) e
+
+-- what a callee stands for
+module _ (g h i j : Form → Maker) (b all : Built) (c : Callee) where
+  pub by_alone : (f : Form) → alone f ≡ c → all ≡ made (g f) b → all ≡ made (by_callee c g h i j) b
+  unfolding by_callee
+  by_alone f e is = is ∙ ap (λ c. made (by_callee c g h i j) b) e
+
+  pub by_object : (f : Form) → of_object f ≡ c → all ≡ made (h f) b → all ≡ made (by_callee c g h i j) b
+  unfolding by_callee
+  by_object f e is = is ∙ ap (λ c. made (by_callee c g h i j) b) e
+
+  pub by_value : (f : Form) → of_value f ≡ c → all ≡ made (i f) b → all ≡ made (by_callee c g h i j) b
+  unfolding by_callee
+  by_value f e is = is ∙ ap (λ c. made (by_callee c g h i j) b) e
+
+  pub by_quotient : (f : Form) → of_quotient f ≡ c → all ≡ made (j f) b → all ≡ made (by_callee c g h i j) b
+  unfolding by_callee
+  by_quotient f e is = is ∙ ap (λ c. made (by_callee c g h i j) b) e
+
+  pub by_none : no_callee ≡ c → all ≡ made stuck b → all ≡ made (by_callee c g h i j) b
+  unfolding by_callee
+  by_none e is = is ∙ ap (λ c. made (by_callee c g h i j) b) e
+
+-- what is spawned with an object has it where it is called
+pub spawned_object : {A : Type 0} (c : Callee) (f : Form) → spawned_callee c ≡ of_object f → ((f : Form) → c ≡ of_object f → A) → A
+spawned_object (alone g) f e go = absurd (cc (e))
+spawned_object (of_object g) f e go = go g refl
+spawned_object (of_value g) f e go = absurd (cc (e))
+spawned_object (of_quotient g) f e go = absurd (cc (e))
+spawned_object no_callee f e go = absurd (cc (e))

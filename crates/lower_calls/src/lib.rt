@@ -5,6 +5,7 @@
 #![tactic(auto)]
 
 pub mod actions;
+pub mod calls;
 pub mod members;
 pub mod tasks;
 pub mod views;
