@@ -7,6 +7,11 @@ use Rattle.verse_meaning.specs.Residuals.{Form}
 use Rattle.verse_meaning.specs.Evaluating.{Callee, alone, of_object, of_value, of_quotient, no_callee, spawned_callee}
 use Rattle.lower_code.specs.Pieces.{Maker, stuck, ◌then◌}
 use Rattle.lower_code.specs.Lowering.{membered, enum_op, by_callee}
+use Rattle.lower_lookup.specs.Actions.{form_of}
+use Rattle.lower_lookup.specs.Callees.{called}
+use Rattle.lower_lookup.specs.declared.actions.Action.{Action}
+use Rattle.lower_lookup.specs.declared.callees.Callee.{Callee as Found}
+use Rattle.lower_lookup.specs.declared.callees.Callee.TheVariants as found
 use Rattle.lower_lookup.specs.Types.{differ_of}
 use Rattle.lower_expr.specs.Building.{Built, made}
 use Rattle.lower_expr.proofs.Laws.{made_then}
@@ -60,3 +65,13 @@ spawned_object (of_object g) f e go = go g refl
 spawned_object (of_value g) f e go = absurd (cc (e))
 spawned_object (of_quotient g) f e go = absurd (cc (e))
 spawned_object no_callee f e go = absurd (cc (e))
+
+-- neither alone nor of an object
+pub by_neither : (g h : Form → Maker) (b all : Built) (c : Callee) (k : Found) → called k ≡ c →
+    ((a : Action) → k ≡ found.Alone a → ⊥) → ((a : Action) → k ≡ found.OfObject a → ⊥) → all ≡ made stuck b →
+    all ≡ made (by_callee c g h (λ f. stuck) (λ f. stuck)) b
+by_neither g h b all c (found.Alone a) e n m is = absurd (n a refl)
+by_neither g h b all c (found.OfObject a) e n m is = absurd (m a refl)
+by_neither g h b all c (found.OfValue a) e n m is = by_value g h (λ f. stuck) (λ f. stuck) b all c (form_of a) e is
+by_neither g h b all c (found.OfQuotient a) e n m is = by_quotient g h (λ f. stuck) (λ f. stuck) b all c (form_of a) e is
+by_neither g h b all c found.None e n m is = by_none g h (λ f. stuck) (λ f. stuck) b all c e is

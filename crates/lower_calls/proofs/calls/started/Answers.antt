@@ -1,4 +1,4 @@
-use Rattle.std.proofs.Common.{ap, sym, ◌∙◌, map, None}
+use Rattle.std.proofs.Common.{refl, ap, sym, ◌∙◌, map, None}
 use Rattle.verse_tree.specs.View.{tree_of, trees}
 use Rattle.verse_meaning.specs.Programs.{program_of}
 use Rattle.verse_meaning.specs.Residuals as form
@@ -10,7 +10,7 @@ use Rattle.lower_expr.specs.Building.{built}
 use Rattle.lower_expr.specs.Locals.{scope_of}
 use Rattle.lower_calls.specs.Calls.{alone_code, member_code}
 use Rattle.lower_calls.proofs.Objects.{spawned_with}
-use Rattle.lower_calls.proofs.Steps.{by_alone, by_object}
+use Rattle.lower_calls.proofs.Steps.{by_alone, by_object, by_neither}
 use Rattle.lower_calls.proofs.calls.started.Goals as goal
 
 pub returns-in_ok-alone-in-Alone-clause-code : goal.returns-in_ok-alone-in-Alone-clause-code
@@ -41,4 +41,14 @@ returns-in_ok-of_object-in-OfObject-clause-code g c =
 
 pub returns-in_ok-stuck-in_default : goal.returns-in_ok-stuck-in_default
 returns-in_ok-stuck-in_default g c =
-    let x : ℕ = c.in_default.not-Alone in ?
+    let p = c.args.lowering.now.tables.now.program.now in
+    let sc = scope_of c.args.scopes.now in
+    let t = tree_of c.args.callee.now in
+    let ts = trees (map tree_of c.args.args.now) in
+    record {
+      code = by_neither (alone_code p ts sc c.args.around) (member_code p t ts sc c.args.around) (built c.args.builder.now) _
+          (spawned_callee (callee_of (program_of p) t (form.picking None) c.args.place)) c.spawned_callee-found.result
+          (c.spawned_callee-found.ensures ∙ ap spawned_callee c.callee_of.ensures) c.in_default.not-Alone c.in_default.not-OfObject
+          c.in_ok-stuck-in_default.ensures;
+      scopes = refl;
+    }
