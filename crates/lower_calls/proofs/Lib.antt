@@ -1,0 +1,7 @@
+mod Steps
+mod Arms
+mod NoParts
+mod Halves
+mod RuleSets
+mod Objects
+mod Seen

@@ -1,0 +1,216 @@
+//! Calls, indices, and calls that are spawned.
+
+ghost use Rattle.std.specs.Prelude.{◌≡◌, map, OnOk, Some, None};
+ghost use Rattle.verse_tree.specs.View.{tree_of, trees, applied_of};
+ghost use Rattle.verse_tree.specs.Tree as t;
+ghost use Rattle.verse_meaning.specs.Programs.{program_of};
+ghost use Rattle.verse_meaning.specs.Residuals as form;
+ghost use Rattle.verse_meaning.specs.Evaluating as e;
+ghost use Rattle.lower_expr.specs.Building.{built, made};
+ghost use Rattle.lower_expr.specs.Locals.{scope_of};
+ghost use Rattle.lower_parts.specs.Parts.{form_code, Lowers};
+ghost use Rattle.lower_calls.specs.Calls as c;
+ghost use Rattle.lower_calls.specs.Parts.{some_place};
+
+use crate::actions::{alone, indexed, of_object, of_quotient, of_value};
+use crate::views::called_of;
+use lower_code::arounds::Around;
+use lower_expr::builder::Builder;
+use lower_expr::scopes::Scopes;
+use lower_items::tables::Tables;
+use lower_lookup::actions::{Action, picked};
+use lower_lookup::callees::{Callee, callee_of, spawned_callee};
+use lower_parts::lowering::Lowering;
+use verse_base::places::Place;
+use verse_base::refusals::Memory;
+use verse_tree::exprs::{Applied, Expr};
+
+fn called<
+    'a,
+    F: Fn(&'a Tables<'a>, u32, &mut Builder, &mut Scopes<'a>, Around, &'a Expr) -> Result<(), Memory>,
+>(
+    lowering: &Lowering<'a, F>,
+    builder: &mut Builder,
+    scopes: &mut Scopes<'a>,
+    around: Around,
+    place: Place,
+    callee: &'a Expr,
+    args: &'a [Expr],
+) -> Result<(), Memory>
+    requires nests { Lowers lowering.now.depth (F.pre lowering.now.nested) (F.post lowering.now.nested) }
+    ensures code { OnOk result (built builder.new ≡ made (form_code lowering.now.tables.now.program.now
+        (t.Shape.call (tree_of callee.now) (trees (map tree_of args.now))) 0 place (scope_of scopes.old) around)
+        (built builder.old)) }
+    ensures scopes { OnOk result (scope_of scopes.new ≡ scope_of scopes.old) }
+{
+    let found = callee_of(lowering.tables.program, callee, picked(args), place);
+    match found {
+        Callee::Alone(action) => alone(lowering, builder, scopes, around, action, args)?,
+        Callee::OfObject(action) => {
+            of_object(lowering, builder, scopes, around, action, callee, args)?
+        }
+        Callee::OfValue(action) => of_value(lowering, builder, scopes, around, action, callee)?,
+        Callee::OfQuotient(action) => {
+            of_quotient(lowering, builder, scopes, around, action, args)?
+        }
+        Callee::None => builder.stuck()?,
+    }
+    Ok(())
+}
+
+/// `E(F, G)`
+pub fn call<
+    'a,
+    F: Fn(&'a Tables<'a>, u32, &mut Builder, &mut Scopes<'a>, Around, &'a Expr) -> Result<(), Memory>,
+>(
+    lowering: &Lowering<'a, F>,
+    builder: &mut Builder,
+    scopes: &mut Scopes<'a>,
+    around: Around,
+    place: Place,
+    parts: &'a Applied,
+) -> Result<(), Memory>
+    requires nests { Lowers lowering.now.depth (F.pre lowering.now.nested) (F.post lowering.now.nested) }
+    ensures code { OnOk result (built builder.new ≡ made (form_code lowering.now.tables.now.program.now
+        (t.Shape.call (applied_of parts.now).0 (trees (applied_of parts.now).1)) 0 place
+        (scope_of scopes.old) around)
+        (built builder.old)) }
+    ensures scopes { OnOk result (scope_of scopes.new ≡ scope_of scopes.old) }
+{
+    called(lowering, builder, scopes, around, place, parts.callee.get(), parts.args.as_slice())?;
+    Ok(())
+}
+
+fn read_at<
+    'a,
+    F: Fn(&'a Tables<'a>, u32, &mut Builder, &mut Scopes<'a>, Around, &'a Expr) -> Result<(), Memory>,
+>(
+    lowering: &Lowering<'a, F>,
+    builder: &mut Builder,
+    scopes: &mut Scopes<'a>,
+    around: Around,
+    place: Place,
+    callee: &'a Expr,
+    args: &'a [Expr],
+) -> Result<(), Memory>
+    requires nests { Lowers lowering.now.depth (F.pre lowering.now.nested) (F.post lowering.now.nested) }
+    ensures code { OnOk result (built builder.new ≡ made (form_code lowering.now.tables.now.program.now
+        (t.Shape.index (tree_of callee.now) (trees (map tree_of args.now))) 0 place (scope_of scopes.old) around)
+        (built builder.old)) }
+    ensures scopes { OnOk result (scope_of scopes.new ≡ scope_of scopes.old) }
+{
+    let found = callee_of(lowering.tables.program, callee, Action::Index, place);
+    match found {
+        Callee::Alone(action) => alone(lowering, builder, scopes, around, action, args)?,
+        Callee::OfObject(action) => {
+            of_object(lowering, builder, scopes, around, action, callee, args)?
+        }
+        Callee::OfValue(action) => {
+            indexed(lowering, builder, scopes, around, action, callee, args)?
+        }
+        Callee::OfQuotient(action) => {
+            of_quotient(lowering, builder, scopes, around, action, args)?
+        }
+        Callee::None => builder.stuck()?,
+    }
+    Ok(())
+}
+
+/// `E[F, G]`
+pub fn index<
+    'a,
+    F: Fn(&'a Tables<'a>, u32, &mut Builder, &mut Scopes<'a>, Around, &'a Expr) -> Result<(), Memory>,
+>(
+    lowering: &Lowering<'a, F>,
+    builder: &mut Builder,
+    scopes: &mut Scopes<'a>,
+    around: Around,
+    place: Place,
+    parts: &'a Applied,
+) -> Result<(), Memory>
+    requires nests { Lowers lowering.now.depth (F.pre lowering.now.nested) (F.post lowering.now.nested) }
+    ensures code { OnOk result (built builder.new ≡ made (form_code lowering.now.tables.now.program.now
+        (t.Shape.index (applied_of parts.now).0 (trees (applied_of parts.now).1)) 0 place
+        (scope_of scopes.old) around)
+        (built builder.old)) }
+    ensures scopes { OnOk result (scope_of scopes.new ≡ scope_of scopes.old) }
+{
+    read_at(lowering, builder, scopes, around, place, parts.callee.get(), parts.args.as_slice())?;
+    Ok(())
+}
+
+fn started<
+    'a,
+    F: Fn(&'a Tables<'a>, u32, &mut Builder, &mut Scopes<'a>, Around, &'a Expr) -> Result<(), Memory>,
+>(
+    lowering: &Lowering<'a, F>,
+    builder: &mut Builder,
+    scopes: &mut Scopes<'a>,
+    around: Around,
+    place: Place,
+    callee: &'a Expr,
+    args: &'a [Expr],
+) -> Result<(), Memory>
+    requires nests { Lowers lowering.now.depth (F.pre lowering.now.nested) (F.post lowering.now.nested) }
+    ensures code { OnOk result (built builder.new ≡ made (c.spawn_by lowering.now.tables.now.program.now
+        (tree_of callee.now) (trees (map tree_of args.now)) (scope_of scopes.old) around
+        (e.spawned_callee (e.callee_of (program_of lowering.now.tables.now.program.now)
+        (tree_of callee.now) (form.picking None) place)))
+        (built builder.old)) }
+    ensures scopes { OnOk result (scope_of scopes.new ≡ scope_of scopes.old) }
+{
+    let found = spawned_callee(callee_of(lowering.tables.program, callee, Action::Pick(None), place));
+    match found {
+        Callee::Alone(action) => alone(lowering, builder, scopes, around, action, args)?,
+        Callee::OfObject(action) => {
+            of_object(lowering, builder, scopes, around, action, callee, args)?
+        }
+        _ => builder.stuck()?,
+    }
+    Ok(())
+}
+
+fn spawned<
+    'a,
+    F: Fn(&'a Tables<'a>, u32, &mut Builder, &mut Scopes<'a>, Around, &'a Expr) -> Result<(), Memory>,
+>(
+    lowering: &Lowering<'a, F>,
+    builder: &mut Builder,
+    scopes: &mut Scopes<'a>,
+    around: Around,
+    place: Place,
+    parts: &'a Applied,
+) -> Result<(), Memory>
+    requires nests { Lowers lowering.now.depth (F.pre lowering.now.nested) (F.post lowering.now.nested) }
+    ensures code { OnOk result (built builder.new ≡ made (c.spawned_code lowering.now.tables.now.program.now
+        (Some ((applied_of parts.now).0, trees (applied_of parts.now).1)) place (scope_of scopes.old) around)
+        (built builder.old)) }
+    ensures scopes { OnOk result (scope_of scopes.new ≡ scope_of scopes.old) }
+{
+    started(lowering, builder, scopes, around, place, parts.callee.get(), parts.args.as_slice())?;
+    Ok(())
+}
+
+/// `spawn{E}`
+pub fn spawn<
+    'a,
+    F: Fn(&'a Tables<'a>, u32, &mut Builder, &mut Scopes<'a>, Around, &'a Expr) -> Result<(), Memory>,
+>(
+    lowering: &Lowering<'a, F>,
+    builder: &mut Builder,
+    scopes: &mut Scopes<'a>,
+    around: Around,
+    part: &'a Expr,
+) -> Result<(), Memory>
+    requires nests { Lowers lowering.now.depth (F.pre lowering.now.nested) (F.post lowering.now.nested) }
+    ensures code { OnOk result (built builder.new ≡ made (form_code lowering.now.tables.now.program.now
+        (t.Shape.spawn (tree_of part.now)) 0 some_place (scope_of scopes.old) around)
+        (built builder.old)) }
+    ensures scopes { OnOk result (scope_of scopes.new ≡ scope_of scopes.old) }
+{
+    match called_of(part) {
+        Some(parts) => spawned(lowering, builder, scopes, around, part.place, parts)?,
+        None => builder.stuck()?,
+    }
+    Ok(())
+}
