@@ -5,3 +5,4 @@ mod Behind
 mod Listed
 mod Ifs
 mod Variables
+mod Claused

@@ -3,5 +3,6 @@
 
 pub mod blocks;
 pub mod failing;
+pub mod loops;
 mod parts;
 mod statements;
