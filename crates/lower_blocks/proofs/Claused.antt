@@ -31,8 +31,8 @@ module _ (p : Program) (e : Tree) (sc : Scope) (a : Around) where
   plainly_claused ts here b c d h f s g = record {
     leads = λ rest. ap (turns_closed ts)
         (kind_code plain rest b (made (rest here) d) h
-          (ap (λ k. made (rest k) d) s ∙ ap (made (rest sc)) (g ∙ ap (pushed o.Drop) f)
-            ∙ sym (claused_plain (program_of p) (differ_of p) sc (tree_code p e sc a) (inner_code p e sc a) rest b)));
+        (ap (λ k. made (rest k) d) s ∙ ap (made (rest sc)) (g ∙ ap (pushed o.Drop) f)
+        ∙ sym (claused_plain (program_of p) (differ_of p) sc (tree_code p e sc a) (inner_code p e sc a) rest b)));
   }
 
   pub definition_claused : (x : Binder) (ts : List Turn) (here there : Scope) (b c d r : Built) → statement_of e ≡ defines x →
@@ -41,10 +41,10 @@ module _ (p : Program) (e : Tree) (sc : Scope) (a : Around) where
   definition_claused x ts here there b c d r h f s g u is = record {
     leads = λ rest. ap (turns_closed ts)
         (kind_code (defines x) rest b (made (rest there) r) h
-          (ap (λ k. made (rest k) r) (u ∙ ap (with_binder x) s)
-            ∙ ap (made (rest (with_binder x sc)))
-              (is ∙ ap (pushed o.Drop) (g ∙ ap (λ k. made (bind x (length k)) c) s ∙ ap (made (bind x (length sc))) f))
-            ∙ sym (claused_defines (program_of p) (differ_of p) sc x (tree_code p e sc a) (inner_code p e sc a) rest b)));
+        (ap (λ k. made (rest k) r) (u ∙ ap (with_binder x) s)
+        ∙ ap (made (rest (with_binder x sc)))
+        (is ∙ ap (pushed o.Drop) (g ∙ ap (λ k. made (bind x (length k)) c) s ∙ ap (made (bind x (length sc))) f))
+        ∙ sym (claused_defines (program_of p) (differ_of p) sc x (tree_code p e sc a) (inner_code p e sc a) rest b)));
   }
 
   pub defer_claused : (t : Tree) (ts : List Turn) (here : Scope) (b c : Built) → statement_of e ≡ defers t → c ≡ made stuck b →
@@ -52,7 +52,7 @@ module _ (p : Program) (e : Tree) (sc : Scope) (a : Around) where
   defer_claused t ts here b c h is = record {
     leads = λ rest. ap (turns_closed ts)
         (kind_code (defers t) rest b c h
-          (is ∙ sym (claused_defers (program_of p) (differ_of p) sc t (tree_code p e sc a) (inner_code p e sc a) rest b)));
+        (is ∙ sym (claused_defers (program_of p) (differ_of p) sc t (tree_code p e sc a) (inner_code p e sc a) rest b)));
   }
 
   -- the turns of a generator whose first local is the one behind s, with what stands in them
@@ -70,12 +70,12 @@ module _ (p : Program) (e : Tree) (sc : Scope) (a : Around) where
     leads = λ rest.
         ap (λ k. turns_closed k (made (rest there) d)) more ∙ one_more_turn ts t (made (rest there) d)
         ∙ ap (turns_closed ts)
-          (kind_code (generates g) rest b (turns_ended t.begun t.local (made (rest there) d)) h
-            (ap (λ k. turns_ended k t.local (made (rest there) d)) n
-              ∙ ap (λ k. turns_ended (length (pushed (taking g (length here)) (pushed o.Commit (with_local (suc (suc (suc (length here)))) c))).ops) k
-                  (made (rest there) d)) l
-              ∙ ap (λ k. turns_ended (length (pushed (taking g (length here)) (pushed o.Commit (with_local (suc (suc (suc (length here)))) c))).ops)
-                  (length here) k) (ap (λ k. made (rest k) d) u ∙ ap (made (rest (with_generator g here))) is)
-              ∙ ap (λ k. turns_of g rest k c) s ∙ ap (turns_of g rest sc) f
-              ∙ sym (claused_generates (program_of p) (differ_of p) sc g (tree_code p e sc a) (inner_code p e sc a) rest b)));
+        (kind_code (generates g) rest b (turns_ended t.begun t.local (made (rest there) d)) h
+        (ap (λ k. turns_ended k t.local (made (rest there) d)) n
+        ∙ ap (λ k. turns_ended (length (pushed (taking g (length here)) (pushed o.Commit (with_local (suc (suc (suc (length here)))) c))).ops) k
+        (made (rest there) d)) l
+        ∙ ap (λ k. turns_ended (length (pushed (taking g (length here)) (pushed o.Commit (with_local (suc (suc (suc (length here)))) c))).ops)
+        (length here) k) (ap (λ k. made (rest k) d) u ∙ ap (made (rest (with_generator g here))) is)
+        ∙ ap (λ k. turns_of g rest k c) s ∙ ap (turns_of g rest sc) f
+        ∙ sym (claused_generates (program_of p) (differ_of p) sc g (tree_code p e sc a) (inner_code p e sc a) rest b)));
   }

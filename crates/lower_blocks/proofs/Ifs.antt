@@ -37,6 +37,6 @@ module _ (p : Program) (sc : Scope) (a : Around) (cs : Trees) (t : Tree) where
       is ∙ ap (λ k. ended_here (length d.ops) (made (tree_code p other k a) (other_begun n d))) s
       ∙ ap (λ k. ended_here (length d.ops) (made (tree_code p other sc a) (other_begun k d))) m
       ∙ ap (λ k. ended_here (length k.ops) (made (tree_code p other sc a) (other_begun (length b.ops) k)))
-        (g ∙ ap (λ k. made taken (held (made conditions k))) f)
+      (g ∙ ap (λ k. made taken (held (made conditions k))) f)
       ∙ sym (if_law conditions taken (tree_code p other sc a) b)
       ∙ ap (λ e. made (form_code p (if_shape cs t e) 0 no_place sc a) b) (sym h)

@@ -105,6 +105,6 @@ module _ (p : Program) (sc : Scope) (a : Around) where
       above ≡ up a → c ≡ made (tree_code p left sc a) b → d ≡ made (tree_code p right here above) c → d ≡ made (inner_code p e sc a) b
   ends_by e l r left right here above b c d h x y s u f g =
       inner_by e (both_ends l r) b d h
-        (g ∙ ap (λ k. made (tree_code p right here k) c) u ∙ ap (λ k. made (tree_code p right k (up a)) c) s
-          ∙ ap (λ k. made (tree_code p k sc (up a)) c) y ∙ ap (made (tree_code p r sc (up a))) (f ∙ ap (λ k. made (tree_code p k sc a) b) x)
-          ∙ sym (made_then (tree_code p l sc a) (tree_code p r sc (up a)) b))
+      (g ∙ ap (λ k. made (tree_code p right here k) c) u ∙ ap (λ k. made (tree_code p right k (up a)) c) s
+      ∙ ap (λ k. made (tree_code p k sc (up a)) c) y ∙ ap (made (tree_code p r sc (up a))) (f ∙ ap (λ k. made (tree_code p k sc a) b) x)
+      ∙ sym (made_then (tree_code p l sc a) (tree_code p r sc (up a)) b))

@@ -6,3 +6,6 @@ mod Listed
 mod Ifs
 mod Variables
 mod Claused
+mod Leveled
+mod NoPatterns
+mod Arming

@@ -17,8 +17,10 @@ use crate::statements::{own_statements, statements};
 use lower_code::arounds::Around;
 use lower_expr::builder::Builder;
 use lower_expr::scopes::Scopes;
-use lower_fail::attempts::{and_mid, if_alone_end, if_else, if_then, jump_end, logic_end};
-use lower_fail::attempts::{not_end, option_end, or_mid, try_begin};
+use lower_fail::attempts::{
+    and_mid, if_alone_end, if_else, if_then, jump_end, logic_end, not_end, option_end, or_mid,
+    try_begin,
+};
 use lower_items::tables::Tables;
 use lower_parts::lowering::Lowering;
 use verse_base::places::Place;
@@ -29,7 +31,14 @@ use verse_tree::exprs::{Expr, IfParts, Two};
 #[tactic(auto, using(lower_fail::proofs::Forms::not_law))]
 pub fn negation<
     'a,
-    F: Fn(&'a Tables<'a>, u32, &mut Builder, &mut Scopes<'a>, Around, &'a Expr) -> Result<(), Memory>,
+    F: Fn(
+        &'a Tables<'a>,
+        u32,
+        &mut Builder,
+        &mut Scopes<'a>,
+        Around,
+        &'a Expr,
+    ) -> Result<(), Memory>,
 >(
     lowering: &Lowering<'a, F>,
     builder: &mut Builder,
@@ -52,7 +61,14 @@ pub fn negation<
 #[tactic(auto, using(lower_fail::proofs::Forms::or_law))]
 pub fn or<
     'a,
-    F: Fn(&'a Tables<'a>, u32, &mut Builder, &mut Scopes<'a>, Around, &'a Expr) -> Result<(), Memory>,
+    F: Fn(
+        &'a Tables<'a>,
+        u32,
+        &mut Builder,
+        &mut Scopes<'a>,
+        Around,
+        &'a Expr,
+    ) -> Result<(), Memory>,
 >(
     lowering: &Lowering<'a, F>,
     builder: &mut Builder,
@@ -77,7 +93,14 @@ pub fn or<
 #[tactic(auto, using(lower_expr::proofs::Laws::made_then, lower_expr::proofs::Laws::made_one))]
 pub fn and<
     'a,
-    F: Fn(&'a Tables<'a>, u32, &mut Builder, &mut Scopes<'a>, Around, &'a Expr) -> Result<(), Memory>,
+    F: Fn(
+        &'a Tables<'a>,
+        u32,
+        &mut Builder,
+        &mut Scopes<'a>,
+        Around,
+        &'a Expr,
+    ) -> Result<(), Memory>,
 >(
     lowering: &Lowering<'a, F>,
     builder: &mut Builder,
@@ -100,7 +123,14 @@ pub fn and<
 #[tactic(auto, using(crate::proofs::Behind::cut_behind))]
 fn if_taken<
     'a,
-    F: Fn(&'a Tables<'a>, u32, &mut Builder, &mut Scopes<'a>, Around, &'a Expr) -> Result<(), Memory>,
+    F: Fn(
+        &'a Tables<'a>,
+        u32,
+        &mut Builder,
+        &mut Scopes<'a>,
+        Around,
+        &'a Expr,
+    ) -> Result<(), Memory>,
 >(
     lowering: &Lowering<'a, F>,
     builder: &mut Builder,
@@ -116,7 +146,13 @@ fn if_taken<
     ensures scopes { OnOk result (scope_of scopes.new ≡ scope_of scopes.old) }
 {
     let count = scopes.count()?;
-    statements(lowering, builder, scopes, around.enclosed(), conditions(parts))?;
+    statements(
+        lowering,
+        builder,
+        scopes,
+        around.enclosed(),
+        conditions(parts),
+    )?;
     if_then(builder)?;
     lowering.part(builder, scopes, around, taken(parts))?;
     scopes.cut(count);
@@ -126,7 +162,14 @@ fn if_taken<
 /// The other part of an `if` whose attempt has this index.
 fn if_other<
     'a,
-    F: Fn(&'a Tables<'a>, u32, &mut Builder, &mut Scopes<'a>, Around, &'a Expr) -> Result<(), Memory>,
+    F: Fn(
+        &'a Tables<'a>,
+        u32,
+        &mut Builder,
+        &mut Scopes<'a>,
+        Around,
+        &'a Expr,
+    ) -> Result<(), Memory>,
 >(
     lowering: &Lowering<'a, F>,
     builder: &mut Builder,
@@ -150,7 +193,14 @@ fn if_other<
 /// `if`, with or without `else`
 pub fn if_form<
     'a,
-    F: Fn(&'a Tables<'a>, u32, &mut Builder, &mut Scopes<'a>, Around, &'a Expr) -> Result<(), Memory>,
+    F: Fn(
+        &'a Tables<'a>,
+        u32,
+        &mut Builder,
+        &mut Scopes<'a>,
+        Around,
+        &'a Expr,
+    ) -> Result<(), Memory>,
 >(
     lowering: &Lowering<'a, F>,
     builder: &mut Builder,
@@ -177,7 +227,14 @@ pub fn if_form<
 #[tactic(auto, using(lower_fail::proofs::Forms::option_law))]
 pub fn option<
     'a,
-    F: Fn(&'a Tables<'a>, u32, &mut Builder, &mut Scopes<'a>, Around, &'a Expr) -> Result<(), Memory>,
+    F: Fn(
+        &'a Tables<'a>,
+        u32,
+        &mut Builder,
+        &mut Scopes<'a>,
+        Around,
+        &'a Expr,
+    ) -> Result<(), Memory>,
 >(
     lowering: &Lowering<'a, F>,
     builder: &mut Builder,
@@ -201,7 +258,14 @@ pub fn option<
 #[tactic(auto, using(lower_fail::proofs::Forms::logic_law))]
 pub fn logic<
     'a,
-    F: Fn(&'a Tables<'a>, u32, &mut Builder, &mut Scopes<'a>, Around, &'a Expr) -> Result<(), Memory>,
+    F: Fn(
+        &'a Tables<'a>,
+        u32,
+        &mut Builder,
+        &mut Scopes<'a>,
+        Around,
+        &'a Expr,
+    ) -> Result<(), Memory>,
 >(
     lowering: &Lowering<'a, F>,
     builder: &mut Builder,

@@ -2,7 +2,9 @@
 #![tactic(auto)]
 
 pub mod blocks;
+pub mod cases;
 pub mod failing;
 pub mod loops;
 mod parts;
+mod patterns;
 mod statements;

@@ -20,8 +20,9 @@ use lower_code::arounds::Around;
 use lower_expr::builder::Builder;
 use lower_expr::scopes::{Scopes, Slot};
 use lower_fail::ends::turns_end;
-use lower_fail::loops::{ForMark, Turn, for_append, for_begin, for_body, for_domain, for_end};
-use lower_fail::loops::{loop_begin, loop_end};
+use lower_fail::loops::{
+    ForMark, Turn, for_append, for_begin, for_body, for_domain, for_end, loop_begin, loop_end,
+};
 use lower_items::tables::Tables;
 use lower_lookup::statements::{Generator, Statement, statement_of};
 use lower_parts::lowering::Lowering;
@@ -35,7 +36,14 @@ use verse_tree::exprs::{Expr, ForParts};
 #[tactic(auto, using(lower_fail::proofs::Forms::loop_law))]
 pub fn loop_form<
     'a,
-    F: Fn(&'a Tables<'a>, u32, &mut Builder, &mut Scopes<'a>, Around, &'a Expr) -> Result<(), Memory>,
+    F: Fn(
+        &'a Tables<'a>,
+        u32,
+        &mut Builder,
+        &mut Scopes<'a>,
+        Around,
+        &'a Expr,
+    ) -> Result<(), Memory>,
 >(
     lowering: &Lowering<'a, F>,
     builder: &mut Builder,
@@ -107,7 +115,14 @@ fn generate<'a>(
 /// A clause of a `for`; whether the code goes on behind it.
 fn clause<
     'a,
-    F: Fn(&'a Tables<'a>, u32, &mut Builder, &mut Scopes<'a>, Around, &'a Expr) -> Result<(), Memory>,
+    F: Fn(
+        &'a Tables<'a>,
+        u32,
+        &mut Builder,
+        &mut Scopes<'a>,
+        Around,
+        &'a Expr,
+    ) -> Result<(), Memory>,
 >(
     lowering: &Lowering<'a, F>,
     builder: &mut Builder,
@@ -146,4 +161,161 @@ fn clause<
             Ok(true)
         }
     }
+}
+
+/// The clauses of a `for`; whether the code goes on behind them.
+fn levels<
+    'a,
+    F: Fn(
+        &'a Tables<'a>,
+        u32,
+        &mut Builder,
+        &mut Scopes<'a>,
+        Around,
+        &'a Expr,
+    ) -> Result<(), Memory>,
+>(
+    lowering: &Lowering<'a, F>,
+    builder: &mut Builder,
+    scopes: &mut Scopes<'a>,
+    around: Around,
+    turns: &mut Vec<Turn>,
+    parts: &'a [Expr],
+) -> Result<bool, Memory>
+    requires nests { Lowers lowering.now.depth (F.pre lowering.now.nested) (F.post lowering.now.nested) }
+    ensures code { IfOk result (λ goes_on. Leads (levels_code lowering.now.tables.now.program.now (trees (map tree_of parts.now))
+        (scope_of scopes.old) around) goes_on turns.old.items turns.new.items (scope_of scopes.new)
+        (built builder.old) (built builder.new)) }
+    ensures scopes { OnOk result (Extends (scope_of scopes.old) (scope_of scopes.new)) }
+{
+    'parts: for part in parts {
+        let goes_on = clause(lowering, builder, scopes, around, turns, part)?;
+        if !goes_on {
+            return Ok(false);
+        }
+    }
+    Ok(true)
+}
+
+/// The body of a `for` whose result is in a local, where the code goes on behind its clauses.
+#[tactic(auto, using(lower_expr::proofs::Laws::made_then, lower_expr::proofs::Laws::made_one))]
+fn for_value<
+    'a,
+    F: Fn(
+        &'a Tables<'a>,
+        u32,
+        &mut Builder,
+        &mut Scopes<'a>,
+        Around,
+        &'a Expr,
+    ) -> Result<(), Memory>,
+>(
+    lowering: &Lowering<'a, F>,
+    builder: &mut Builder,
+    scopes: &mut Scopes<'a>,
+    around: Around,
+    mark: ForMark,
+    local: u32,
+    goes_on: bool,
+    part: &'a Expr,
+) -> Result<(), Memory>
+    requires nests { Lowers lowering.now.depth (F.pre lowering.now.nested) (F.post lowering.now.nested) }
+    ensures code { OnOk result (built builder.new ≡ cond goes_on (made (body_code lowering.now.tables.now.program.now
+        (tree_of part.now) around local mark.place (scope_of scopes.old)) (built builder.old))
+        (built builder.old)) }
+    ensures scopes { OnOk result (scope_of scopes.new ≡ scope_of scopes.old) }
+{
+    if goes_on {
+        for_body(builder)?;
+        lowering.part(builder, scopes, around, part)?;
+        for_append(builder, mark, local)?;
+    }
+    Ok(())
+}
+
+/// What stands in the attempt of a `for`.
+fn for_inside<
+    'a,
+    F: Fn(
+        &'a Tables<'a>,
+        u32,
+        &mut Builder,
+        &mut Scopes<'a>,
+        Around,
+        &'a Expr,
+    ) -> Result<(), Memory>,
+>(
+    alloc: Global,
+    lowering: &Lowering<'a, F>,
+    builder: &mut Builder,
+    scopes: &mut Scopes<'a>,
+    around: Around,
+    mark: ForMark,
+    parts: &'a ForParts,
+) -> Result<(), Memory>
+    requires nests { Lowers lowering.now.depth (F.pre lowering.now.nested) (F.post lowering.now.nested) }
+    ensures code { OnOk result (built builder.new ≡ made (for_code lowering.now.tables.now.program.now
+        (trees (for_of parts.now).0) (for_of parts.now).1 (scope_of scopes.old) around mark.place)
+        (built builder.old)) }
+    ensures scopes { OnOk result (scope_of scopes.new ≡ scope_of scopes.old) }
+{
+    let local = scopes.count()?;
+    scopes.add(Slot::Hidden)?;
+    let mut turns = Vec::new(alloc);
+    let enclosed = around.enclosed();
+    let goes_on = levels(
+        lowering,
+        builder,
+        scopes,
+        enclosed,
+        &mut turns,
+        clauses(parts),
+    )?;
+    for_value(
+        lowering,
+        builder,
+        scopes,
+        around,
+        mark,
+        local,
+        goes_on,
+        body(parts),
+    )?;
+    turns_end(builder, &turns)?;
+    scopes.cut(local);
+    Ok(())
+}
+
+/// `for`
+
+pub fn for_form<
+    'a,
+    F: Fn(
+        &'a Tables<'a>,
+        u32,
+        &mut Builder,
+        &mut Scopes<'a>,
+        Around,
+        &'a Expr,
+    ) -> Result<(), Memory>,
+>(
+    alloc: Global,
+    lowering: &Lowering<'a, F>,
+    builder: &mut Builder,
+    scopes: &mut Scopes<'a>,
+    around: Around,
+    place: Place,
+    parts: &'a ForParts,
+) -> Result<(), Memory>
+    requires nests { Lowers lowering.now.depth (F.pre lowering.now.nested) (F.post lowering.now.nested) }
+    ensures code { OnOk result (built builder.new ≡ made (form_code lowering.now.tables.now.program.now
+        (t.Shape.for_form (trees (for_of parts.now).0) (for_of parts.now).1) 0 place
+        (scope_of scopes.old) around) (built builder.old)) }
+    ensures scopes { OnOk result (scope_of scopes.new ≡ scope_of scopes.old) }
+{
+    let local = scopes.count()?;
+    let mark = for_begin(builder, place, local)?;
+    for_inside(alloc, lowering, builder, scopes, around, mark, parts)?;
+    for_end(builder, mark, local)?;
+    Ok(())
 }

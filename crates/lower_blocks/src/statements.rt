@@ -22,8 +22,8 @@ use lower_code::arounds::Around;
 use lower_expr::builder::Builder;
 use lower_expr::endings::Ending;
 use lower_expr::scopes::{Scopes, Slot};
-use lower_items::tables::Tables;
 use lower_fail::attempts::{defer_begin, defer_end};
+use lower_items::tables::Tables;
 use lower_lookup::statements::{Binder, Statement, any_defer, statement_of};
 use lower_parts::lowering::Lowering;
 use verse_base::refusals::Memory;
@@ -68,7 +68,14 @@ fn tree_within<'a>(part: &'a Expr) -> Within<'a>
 /// The code of what stands in a statement or a clause.
 pub fn inner<
     'a,
-    F: Fn(&'a Tables<'a>, u32, &mut Builder, &mut Scopes<'a>, Around, &'a Expr) -> Result<(), Memory>,
+    F: Fn(
+        &'a Tables<'a>,
+        u32,
+        &mut Builder,
+        &mut Scopes<'a>,
+        Around,
+        &'a Expr,
+    ) -> Result<(), Memory>,
 >(
     lowering: &Lowering<'a, F>,
     builder: &mut Builder,
@@ -136,7 +143,14 @@ pub fn bind<'a>(
 /// A statement; where the statements behind it stand.
 fn stated<
     'a,
-    F: Fn(&'a Tables<'a>, u32, &mut Builder, &mut Scopes<'a>, Around, &'a Expr) -> Result<(), Memory>,
+    F: Fn(
+        &'a Tables<'a>,
+        u32,
+        &mut Builder,
+        &mut Scopes<'a>,
+        Around,
+        &'a Expr,
+    ) -> Result<(), Memory>,
 >(
     lowering: &Lowering<'a, F>,
     builder: &mut Builder,
@@ -178,7 +192,14 @@ fn stated<
 /// Statements behind another.
 fn more_statements<
     'a,
-    F: Fn(&'a Tables<'a>, u32, &mut Builder, &mut Scopes<'a>, Around, &'a Expr) -> Result<(), Memory>,
+    F: Fn(
+        &'a Tables<'a>,
+        u32,
+        &mut Builder,
+        &mut Scopes<'a>,
+        Around,
+        &'a Expr,
+    ) -> Result<(), Memory>,
 >(
     lowering: &Lowering<'a, F>,
     builder: &mut Builder,
@@ -215,7 +236,14 @@ fn leave(builder: &mut Builder, around: Around, defers: bool) -> Result<(), Memo
 /// Statements or conditions, whose names stay.
 pub fn statements<
     'a,
-    F: Fn(&'a Tables<'a>, u32, &mut Builder, &mut Scopes<'a>, Around, &'a Expr) -> Result<(), Memory>,
+    F: Fn(
+        &'a Tables<'a>,
+        u32,
+        &mut Builder,
+        &mut Scopes<'a>,
+        Around,
+        &'a Expr,
+    ) -> Result<(), Memory>,
 >(
     lowering: &Lowering<'a, F>,
     builder: &mut Builder,
@@ -243,7 +271,14 @@ pub fn statements<
 #[tactic(auto, using(crate::proofs::Behind::cut_behind))]
 pub fn own_statements<
     'a,
-    F: Fn(&'a Tables<'a>, u32, &mut Builder, &mut Scopes<'a>, Around, &'a Expr) -> Result<(), Memory>,
+    F: Fn(
+        &'a Tables<'a>,
+        u32,
+        &mut Builder,
+        &mut Scopes<'a>,
+        Around,
+        &'a Expr,
+    ) -> Result<(), Memory>,
 >(
     lowering: &Lowering<'a, F>,
     builder: &mut Builder,
