@@ -15,6 +15,8 @@ use Rattle.lower_code.specs.declared.arounds.Around.{Around}
 use Rattle.lower_lookup.specs.Types.{differ_of}
 use Rattle.lower_expr.specs.Building.{Built, pushed, ended_here, made}
 use Rattle.lower_expr.proofs.Laws.{made_then}
+use Rattle.lower_expr.specs.Locals.{cut_to}
+use Rattle.lower_expr.proofs.Scoping.{cut_back}
 use Rattle.lower_fail.specs.Attempts.{other_begun, same_begun, all_ended}
 use Rattle.lower_fail.proofs.Clauses.{arm_last, arm_any, arm_same}
 use Rattle.lower_fail.proofs.OpenEnds.{one_more_end}
@@ -186,3 +188,23 @@ module _ (p : Program) (l : ℕ) (sc : Scope) (a : Around) where
       all_ended js (made (arms_code p (trees (map tree_of xs)) l sc a) b) ≡ all → all_ended js c ≡ all
   arms_none [] js b c all h f is = ap (all_ended js) f ∙ is
   arms_none (x ∷ xs) js b c all h f is = absurd (omega (arith, h))
+
+-- the jumps of all arms lead to the end
+pub arms_ended : (f : Maker) (js ks ls : List ℕ) (b c r : Built) → js ≡ [] → all_ended ks c ≡ all_ended js (made f b) → ls ≡ ks → r ≡ all_ended ls c →
+    r ≡ made f b
+arms_ended f js ks ls b c r h e k is = is ∙ ap (λ k. all_ended k c) k ∙ e ∙ ap (λ k. all_ended k (made f b)) h
+
+pub case_by : (p : Program) (e subject : Tree) (ts us : Trees) (sc here there : Scope) (a : Around) (l : ℕ) (b c d r : Built) → l ≡ length sc →
+    subject ≡ e → here ≡ sc → there ≡ hidden ∷ here → us ≡ ts → c ≡ made (tree_code p subject sc a) b → d ≡ made (put_away l) c →
+    r ≡ made (arms_code p us l there a) d → r ≡ made (form_code p (t.Shape.cases e ts) 0 no_place sc a) b
+case_by p e subject ts us sc here there a l b c d r h x s u y f g is =
+    is ∙ ap (λ k. made (arms_code p k l there a) d) y ∙ ap (λ k. made (arms_code p ts l k a) d) (u ∙ ap (λ k. hidden ∷ k) s)
+    ∙ ap (made (arms_code p ts l (hidden ∷ sc) a)) (g ∙ ap (made (put_away l)) (f ∙ ap (λ k. made (tree_code p k sc a) b) x))
+    ∙ ap (λ k. made (arms_code p ts k (hidden ∷ sc) a) (made (put_away k) (made (tree_code p e sc a) b))) h
+    ∙ sym (made_then (tree_code p e sc a) (put_away (length sc) then arms_code p ts (length sc) (hidden ∷ sc) a) b
+        ∙ made_then (put_away (length sc)) (arms_code p ts (length sc) (hidden ∷ sc) a) (made (tree_code p e sc a) b))
+
+pub case_cut : (l : ℕ) (sc here there behind r : Scope) → l ≡ length sc → here ≡ sc → there ≡ hidden ∷ here → behind ≡ there → r ≡ cut_to l behind →
+    r ≡ sc
+case_cut l sc here there behind r h s u k is =
+    is ∙ ap (λ n. cut_to n behind) h ∙ ap (cut_to (length sc)) (k ∙ u ∙ ap (λ k. hidden ∷ k) s) ∙ cut_back (hidden ∷ []) sc
