@@ -1,5 +1,6 @@
 -- The arms of a `case`.
-use Rattle.std.proofs.Common.{◌≡◌, ℕ, List, [], ◌∷◌, ◌++◌, length, map, Bool, true, false, Option, Some, None, cond, refl, sym, ap, ◌∙◌, arith}
+use Rattle.std.proofs.Common.{◌≡◌, ℕ, List, [], ◌∷◌, ◌++◌, length, map, Bool, true, false, Option, Some, None, cond, refl, sym, ap, ◌∙◌}
+use Rattle.std.proofs.Common.{arith}
 use Rattle.verse_tree.specs.Tree.{Tree, tree, Shape, Trees}
 use Rattle.verse_tree.specs.Tree as t
 use Rattle.verse_tree.specs.View.{tree_of, trees}
@@ -17,15 +18,17 @@ use Rattle.lower_expr.specs.Building.{Built, pushed, ended_here, made}
 use Rattle.lower_expr.proofs.Laws.{made_then}
 use Rattle.lower_expr.specs.Locals.{cut_to}
 use Rattle.lower_expr.proofs.Scoping.{cut_back}
-use Rattle.lower_fail.specs.Attempts.{other_begun, same_begun, all_ended}
+use Rattle.lower_fail.specs.Attempts.{other_begun, all_ended}
 use Rattle.lower_fail.proofs.Clauses.{arm_last, arm_any, arm_same}
 use Rattle.lower_fail.proofs.OpenEnds.{one_more_end}
 use Rattle.lower_parts.specs.Parts.{tree_code, form_code}
 use Rattle.lower_blocks.specs.Codes.{no_place}
-use Rattle.lower_blocks.specs.Arms.{ArmLeads, arm_parts, arm_parts_shape, arm_code, arms_code, tree_pattern, is_any_shape, is_any_tree, compared_arm, comparison}
+use Rattle.lower_blocks.specs.Arms.{ArmLeads, arm_parts, arm_parts_shape, arm_code, arms_code, is_any_shape, is_any_tree, compared_arm}
+use Rattle.lower_blocks.specs.Arms.{comparison}
 
 module _ (p : Program) (ts : Trees) (l : ℕ) (sc : Scope) (a : Around) (rest : Maker) where
-  shape_arm : (s : Shape) → arm_shape (program_of p) (differ_of p) s ts l sc a rest ≡ arm_code p (arm_parts_shape s) l (none_left ts) sc a rest
+  shape_arm : (s : Shape) →
+      arm_shape (program_of p) (differ_of p) s ts l sc a rest ≡ arm_code p (arm_parts_shape s) l (none_left ts) sc a rest
   shape_arm (t.Shape.block x) = refl
   shape_arm (t.Shape.defer x) = refl
   shape_arm (t.Shape.definition x y) = refl
@@ -95,7 +98,8 @@ module _ (p : Program) (l : ℕ) (f rest : Maker) (b : Built) where
   last_made (tree n pl s) = arm_last (program_of p) (differ_of p) s l f rest b (is_any_shape p s)
 
   any_made : (e : Tree) → is_any_tree p e ≡ true →
-      made (arm_of (program_of p) (differ_of p) e l false f rest) b ≡ ended_here (length (made f b).ops) (made rest (pushed (o.Jump 0) (made f b)))
+      made (arm_of (program_of p) (differ_of p) e l false f rest) b ≡ ended_here (length (made f b).ops)
+      (made rest (pushed (o.Jump 0) (made f b)))
   any_made (tree n pl s) h =
       ap (λ q. made (arm_by (program_of p) (differ_of p) s l false q f rest) b) h ∙ arm_any (program_of p) (differ_of p) s l f rest b
 
@@ -111,23 +115,26 @@ module _ (p : Program) (q : Tree × Tree) (l : ℕ) (sc : Scope) (a : Around) wh
   last_arm last part js b c h e is = record {
     leads = λ rest. ap (all_ended js)
         (is ∙ ap (λ k. made (tree_code p k sc a) b) e ∙ sym (last_made p l (tree_code p q.1 sc a) rest b q.0)
-          ∙ ap (λ k. made (arm_code p (Some q) l k sc a rest) b) (sym h));
+        ∙ ap (λ k. made (arm_code p (Some q) l k sc a rest) b) (sym h));
   }
 
-  pub untested_arm : (last any : Bool) (pattern part : Tree) (n : ℕ) (js ks : List ℕ) (b c : Built) → last ≡ false → any ≡ is_any_tree p pattern →
+  pub untested_arm : (last any : Bool) (pattern part : Tree) (n : ℕ) (js ks : List ℕ) (b c : Built) → last ≡ false →
+      any ≡ is_any_tree p pattern →
       any ≡ true → pattern ≡ q.0 → part ≡ q.1 → n ≡ length (made (tree_code p part sc a) b).ops →
-      c ≡ pushed (o.Jump 0) (made (tree_code p part sc a) b) → ks ≡ js ++ n ∷ [] → ArmLeads (arm_code p (Some q) l last sc a) true js ks b c
+      c ≡ pushed (o.Jump 0) (made (tree_code p part sc a) b) → ks ≡ js ++ n ∷ [] →
+      ArmLeads (arm_code p (Some q) l last sc a) true js ks b c
   untested_arm last any pattern part n js ks b c h x y d e m is more = record {
     leads = λ rest.
         ap (λ k. all_ended k (made rest c)) more ∙ one_more_end js n (made rest c)
         ∙ ap (all_ended js)
-          (ap (λ k. ended_here k (made rest c)) m ∙ ap (λ k. ended_here (length (made (tree_code p part sc a) b).ops) (made rest k)) is
-            ∙ ap (λ k. ended_here (length (made (tree_code p k sc a) b).ops) (made rest (pushed (o.Jump 0) (made (tree_code p k sc a) b)))) e
-            ∙ sym (any_made p l (tree_code p q.1 sc a) rest b q.0 (ap (is_any_tree p) (sym d) ∙ sym x ∙ y))
-            ∙ ap (λ k. made (arm_code p (Some q) l k sc a rest) b) (sym h));
+        (ap (λ k. ended_here k (made rest c)) m ∙ ap (λ k. ended_here (length (made (tree_code p part sc a) b).ops) (made rest k)) is
+        ∙ ap (λ k. ended_here (length (made (tree_code p k sc a) b).ops) (made rest (pushed (o.Jump 0) (made (tree_code p k sc a) b)))) e
+        ∙ sym (any_made p l (tree_code p q.1 sc a) rest b q.0 (ap (is_any_tree p) (sym d) ∙ sym x ∙ y))
+        ∙ ap (λ k. made (arm_code p (Some q) l k sc a rest) b) (sym h));
   }
 
-  pub tested_arm : (last any : Bool) (pattern : Tree) (n : ℕ) (js ks : List ℕ) (b c : Built) → last ≡ false → any ≡ is_any_tree p pattern →
+  pub tested_arm : (last any : Bool) (pattern : Tree) (n : ℕ) (js ks : List ℕ) (b c : Built) → last ≡ false →
+      any ≡ is_any_tree p pattern →
       any ≡ false → pattern ≡ q.0 → n ≡ length (compared_arm p q.0 l (tree_code p q.1 sc a) b).ops →
       c ≡ other_begun (comparison p q.0 l b) (compared_arm p q.0 l (tree_code p q.1 sc a) b) → ks ≡ js ++ n ∷ [] →
       ArmLeads (arm_code p (Some q) l last sc a) true js ks b c
@@ -135,10 +142,10 @@ module _ (p : Program) (q : Tree × Tree) (l : ℕ) (sc : Scope) (a : Around) wh
     leads = λ rest.
         ap (λ k. all_ended k (made rest c)) more ∙ one_more_end js n (made rest c)
         ∙ ap (all_ended js)
-          (ap (λ k. ended_here k (made rest c)) m
-            ∙ ap (λ k. ended_here (length (compared_arm p q.0 l (tree_code p q.1 sc a) b).ops) (made rest k)) is
-            ∙ sym (same_made p l (tree_code p q.1 sc a) rest b q.0 (ap (is_any_tree p) (sym d) ∙ sym x ∙ y))
-            ∙ ap (λ k. made (arm_code p (Some q) l k sc a rest) b) (sym h));
+        (ap (λ k. ended_here k (made rest c)) m
+        ∙ ap (λ k. ended_here (length (compared_arm p q.0 l (tree_code p q.1 sc a) b).ops) (made rest k)) is
+        ∙ sym (same_made p l (tree_code p q.1 sc a) rest b q.0 (ap (is_any_tree p) (sym d) ∙ sym x ∙ y))
+        ∙ ap (λ k. made (arm_code p (Some q) l k sc a rest) b) (sym h));
   }
 
 module _ (p : Program) (l : ℕ) (sc : Scope) (a : Around) where
@@ -152,13 +159,16 @@ module _ (p : Program) (l : ℕ) (sc : Scope) (a : Around) where
   arms_first : (xs ys : List Expr) (x : Expr) (js : List ℕ) (b : Built) → xs ≡ x ∷ ys →
       all_ended js (made (arms_code p (trees (map tree_of xs)) l sc a) b) ≡
       all_ended js
-        (made (arm_code p (arm_parts (tree_of x)) l (none_left (trees (map tree_of ys))) sc a (arms_code p (trees (map tree_of ys)) l sc a)) b)
+      (made (arm_code p (arm_parts (tree_of x)) l (none_left (trees (map tree_of ys))) sc a
+      (arms_code p (trees (map tree_of ys)) l sc a)) b)
   arms_first xs ys x js b e =
       ap (λ k. all_ended js (made (arms_code p (trees (map tree_of k)) l sc a) b)) e
-      ∙ ap (λ f. all_ended js (made f b)) (arm_is p (trees (map tree_of ys)) l sc a (arms_code p (trees (map tree_of ys)) l sc a) (tree_of x))
+      ∙ ap (λ f. all_ended js (made f b)) (arm_is p (trees (map tree_of ys)) l sc a (arms_code p (trees (map tree_of ys)) l sc a)
+      (tree_of x))
 
   arms_step : (goes_on last : Bool) (xs ys : List Expr) (x : Expr) (here : Scope) (js ks : List ℕ) (b c all : Built) → xs ≡ x ∷ ys →
-      last ≡ none_left (trees (map tree_of ys)) → here ≡ sc → ArmLeads (arm_code p (arm_parts (tree_of x)) l last here a) goes_on js ks b c →
+      last ≡ none_left (trees (map tree_of ys)) → here ≡ sc →
+      ArmLeads (arm_code p (arm_parts (tree_of x)) l last here a) goes_on js ks b c →
       all_ended js (made (arms_code p (trees (map tree_of xs)) l sc a) b) ≡ all →
       all_ended ks (cond goes_on (made (arms_code p (trees (map tree_of ys)) l sc a) c) c) ≡ all
   arms_step goes_on last xs ys x here js ks b c all e h s arm is =
@@ -190,11 +200,13 @@ module _ (p : Program) (l : ℕ) (sc : Scope) (a : Around) where
   arms_none (x ∷ xs) js b c all h f is = absurd (omega (arith, h))
 
 -- the jumps of all arms lead to the end
-pub arms_ended : (f : Maker) (js ks ls : List ℕ) (b c r : Built) → js ≡ [] → all_ended ks c ≡ all_ended js (made f b) → ls ≡ ks → r ≡ all_ended ls c →
+pub arms_ended : (f : Maker) (js ks ls : List ℕ) (b c r : Built) → js ≡ [] → all_ended ks c ≡ all_ended js (made f b) → ls ≡ ks →
+    r ≡ all_ended ls c →
     r ≡ made f b
 arms_ended f js ks ls b c r h e k is = is ∙ ap (λ k. all_ended k c) k ∙ e ∙ ap (λ k. all_ended k (made f b)) h
 
-pub case_by : (p : Program) (e subject : Tree) (ts us : Trees) (sc here there : Scope) (a : Around) (l : ℕ) (b c d r : Built) → l ≡ length sc →
+pub case_by : (p : Program) (e subject : Tree) (ts us : Trees) (sc here there : Scope) (a : Around) (l : ℕ) (b c d r : Built) →
+    l ≡ length sc →
     subject ≡ e → here ≡ sc → there ≡ hidden ∷ here → us ≡ ts → c ≡ made (tree_code p subject sc a) b → d ≡ made (put_away l) c →
     r ≡ made (arms_code p us l there a) d → r ≡ made (form_code p (t.Shape.cases e ts) 0 no_place sc a) b
 case_by p e subject ts us sc here there a l b c d r h x s u y f g is =
@@ -202,9 +214,10 @@ case_by p e subject ts us sc here there a l b c d r h x s u y f g is =
     ∙ ap (made (arms_code p ts l (hidden ∷ sc) a)) (g ∙ ap (made (put_away l)) (f ∙ ap (λ k. made (tree_code p k sc a) b) x))
     ∙ ap (λ k. made (arms_code p ts k (hidden ∷ sc) a) (made (put_away k) (made (tree_code p e sc a) b))) h
     ∙ sym (made_then (tree_code p e sc a) (put_away (length sc) then arms_code p ts (length sc) (hidden ∷ sc) a) b
-        ∙ made_then (put_away (length sc)) (arms_code p ts (length sc) (hidden ∷ sc) a) (made (tree_code p e sc a) b))
+    ∙ made_then (put_away (length sc)) (arms_code p ts (length sc) (hidden ∷ sc) a) (made (tree_code p e sc a) b))
 
-pub case_cut : (l : ℕ) (sc here there behind r : Scope) → l ≡ length sc → here ≡ sc → there ≡ hidden ∷ here → behind ≡ there → r ≡ cut_to l behind →
+pub case_cut : (l : ℕ) (sc here there behind r : Scope) → l ≡ length sc → here ≡ sc → there ≡ hidden ∷ here → behind ≡ there →
+    r ≡ cut_to l behind →
     r ≡ sc
 case_cut l sc here there behind r h s u k is =
     is ∙ ap (λ n. cut_to n behind) h ∙ ap (cut_to (length sc)) (k ∙ u ∙ ap (λ k. hidden ∷ k) s) ∙ cut_back (hidden ∷ []) sc

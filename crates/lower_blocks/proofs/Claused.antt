@@ -1,5 +1,5 @@
 -- A clause of a `for`, by what it is.
-use Rattle.std.proofs.Common.{◌≡◌, ℕ, suc, List, [], ◌∷◌, ◌++◌, length, true, false, sym, ap, ◌∙◌}
+use Rattle.std.proofs.Common.{◌≡◌, suc, List, [], ◌∷◌, ◌++◌, length, true, false, sym, ap, ◌∙◌}
 use Rattle.verse_tree.specs.Tree.{Tree}
 use Rattle.verse_tree.specs.declared.programs.Program.{Program}
 use Rattle.verse_code.specs.declared.operations.Op.TheVariants as o
@@ -22,11 +22,13 @@ use Rattle.lower_blocks.specs.Levels.{Leads}
 
 module _ (p : Program) (e : Tree) (sc : Scope) (a : Around) where
   kind_code : (s : Statement) (rest : Scope → Maker) (b c : Built) → statement_of e ≡ s →
-      c ≡ made (claused (program_of p) (differ_of p) s sc (tree_code p e sc a) (inner_code p e sc a) rest) b → c ≡ made (claused_code p e sc a rest) b
+      c ≡ made (claused (program_of p) (differ_of p) s sc (tree_code p e sc a) (inner_code p e sc a) rest) b →
+      c ≡ made (claused_code p e sc a rest) b
   kind_code s rest b c h is =
       is ∙ ap (λ s. made (claused (program_of p) (differ_of p) s sc (tree_code p e sc a) (inner_code p e sc a) rest) b) (sym h)
 
-  pub plainly_claused : (ts : List Turn) (here : Scope) (b c d : Built) → statement_of e ≡ plain → c ≡ made (tree_code p e sc a) b → here ≡ sc →
+  pub plainly_claused : (ts : List Turn) (here : Scope) (b c d : Built) → statement_of e ≡ plain → c ≡ made (tree_code p e sc a) b →
+      here ≡ sc →
       d ≡ pushed o.Drop c → Leads (claused_code p e sc a) true ts ts here b d
   plainly_claused ts here b c d h f s g = record {
     leads = λ rest. ap (turns_closed ts)
@@ -36,7 +38,8 @@ module _ (p : Program) (e : Tree) (sc : Scope) (a : Around) where
   }
 
   pub definition_claused : (x : Binder) (ts : List Turn) (here there : Scope) (b c d r : Built) → statement_of e ≡ defines x →
-      c ≡ made (inner_code p e sc a) b → here ≡ sc → d ≡ made (bind x (length here)) c → there ≡ with_binder x here → r ≡ pushed o.Drop d →
+      c ≡ made (inner_code p e sc a) b → here ≡ sc → d ≡ made (bind x (length here)) c → there ≡ with_binder x here →
+      r ≡ pushed o.Drop d →
       Leads (claused_code p e sc a) true ts ts there b r
   definition_claused x ts here there b c d r h f s g u is = record {
     leads = λ rest. ap (turns_closed ts)
@@ -61,7 +64,8 @@ module _ (p : Program) (e : Tree) (sc : Scope) (a : Around) where
       turns_ended (length (pushed (taking g (length s)) (pushed o.Commit (with_local (suc (suc (suc (length s)))) k))).ops) (length s)
       (made (rest (with_generator g s)) (turns_begun (taking g (length s)) (length s) k))
 
-  pub generator_claused : (g : Generator) (ts us : List Turn) (t : Turn) (here there : Scope) (b c d : Built) → statement_of e ≡ generates g →
+  pub generator_claused : (g : Generator) (ts us : List Turn) (t : Turn) (here there : Scope) (b c d : Built) →
+      statement_of e ≡ generates g →
       c ≡ made (inner_code p e sc a) b → here ≡ sc → t.local ≡ length here →
       t.begun ≡ length (pushed (taking g (length here)) (pushed o.Commit (with_local (suc (suc (suc (length here)))) c))).ops →
       d ≡ turns_begun (taking g (length here)) (length here) c → there ≡ with_generator g here → us ≡ ts ++ t ∷ [] →
@@ -72,9 +76,11 @@ module _ (p : Program) (e : Tree) (sc : Scope) (a : Around) where
         ∙ ap (turns_closed ts)
         (kind_code (generates g) rest b (turns_ended t.begun t.local (made (rest there) d)) h
         (ap (λ k. turns_ended k t.local (made (rest there) d)) n
-        ∙ ap (λ k. turns_ended (length (pushed (taking g (length here)) (pushed o.Commit (with_local (suc (suc (suc (length here)))) c))).ops) k
+        ∙ ap (λ k. turns_ended (length (pushed (taking g (length here))
+        (pushed o.Commit (with_local (suc (suc (suc (length here)))) c))).ops) k
         (made (rest there) d)) l
-        ∙ ap (λ k. turns_ended (length (pushed (taking g (length here)) (pushed o.Commit (with_local (suc (suc (suc (length here)))) c))).ops)
+        ∙ ap (λ k. turns_ended (length (pushed (taking g (length here))
+        (pushed o.Commit (with_local (suc (suc (suc (length here)))) c))).ops)
         (length here) k) (ap (λ k. made (rest k) d) u ∙ ap (made (rest (with_generator g here))) is)
         ∙ ap (λ k. turns_of g rest k c) s ∙ ap (turns_of g rest sc) f
         ∙ sym (claused_generates (program_of p) (differ_of p) sc g (tree_code p e sc a) (inner_code p e sc a) rest b)));

@@ -1,5 +1,6 @@
 -- The clauses of a `for`, one by one.
-use Rattle.std.proofs.Common.{◌≡◌, ℕ, ◌+◌, ◌-◌, ◌<◌, ◌≤◌, List, [], ◌∷◌, ◌++◌, length, drop, get_or, Bool, true, false, cond, sym, ap, ◌∙◌, append_assoc}
+use Rattle.std.proofs.Common.{◌≡◌, ℕ, ◌+◌, ◌<◌, ◌≤◌, List, [], ◌∷◌, ◌++◌, length, get_or, Bool, true, false, cond, sym, ap, ◌∙◌}
+use Rattle.std.proofs.Common.{append_assoc}
 use Rattle.verse_base.specs.declared.places.Place.{Place}
 use Rattle.verse_tree.specs.Tree.{Tree, Trees}
 use Rattle.verse_tree.specs.Tree as t
@@ -30,7 +31,8 @@ module _ (p : Program) (xs : List Expr) (i : ℕ) (a : Around) (all : (Scope →
       turns_closed ts (made (claused_code p (tree_of x) sc a (λ s. levels_code p (left xs (i + 1)) s a rest)) b) ≡ all rest
   levels_at x sc ts b h e is rest = ap (λ k. turns_closed ts (made (levels_code p k sc a rest) b)) (sym (left_next xs i x h e)) ∙ is rest
 
-  pub levels_next : (q : Bool) (x : Expr) (sc there : Scope) (ts us : List Turn) (b c : Built) → i < length xs → x ≡ get_or xs i x → q ≡ true →
+  pub levels_next : (q : Bool) (x : Expr) (sc there : Scope) (ts us : List Turn) (b c : Built) → i < length xs → x ≡ get_or xs i x →
+      q ≡ true →
       Leads (claused_code p (tree_of x) sc a) q ts us there b c →
       ((rest : Scope → Maker) → turns_closed ts (made (levels_code p (left xs i) sc a rest) b) ≡ all rest) → (rest : Scope → Maker) →
       turns_closed us (made (levels_code p (left xs (i + 1)) there a rest) c) ≡ all rest
@@ -38,7 +40,8 @@ module _ (p : Program) (xs : List Expr) (i : ℕ) (a : Around) (all : (Scope →
       let f : Scope → Maker = λ s. levels_code p (left xs (i + 1)) s a rest in
       ap (λ q. turns_closed us (cond q (made (f there) c) c)) (sym k) ∙ l.leads f ∙ levels_at x sc ts b h e is rest
 
-  pub levels_cut : (q : Bool) (x : Expr) (sc there : Scope) (ts us : List Turn) (b c : Built) → i < length xs → x ≡ get_or xs i x → q ≡ false →
+  pub levels_cut : (q : Bool) (x : Expr) (sc there : Scope) (ts us : List Turn) (b c : Built) → i < length xs → x ≡ get_or xs i x →
+      q ≡ false →
       Leads (claused_code p (tree_of x) sc a) q ts us there b c →
       ((rest : Scope → Maker) → turns_closed ts (made (levels_code p (left xs i) sc a rest) b) ≡ all rest) → (rest : Scope → Maker) →
       turns_closed us c ≡ all rest
@@ -78,9 +81,11 @@ pub cut_levels : (l : ℕ) (sc here there r : Scope) → l ≡ length sc → her
 cut_levels l sc here there r h s e is =
     is ∙ ap (λ k. cut_to k there) h ∙ ap (cut_to (length sc)) (e.1 ∙ ap (λ k. e.0 ++ k) s) ∙ hidden_cut e.0 sc
 
-pub for_by : (p : Program) (cs ds : Trees) (t body : Tree) (sc here there : Scope) (a around : Around) (l m : ℕ) (q : Bool) (ts us vs : List Turn)
+pub for_by : (p : Program) (cs ds : Trees) (t body : Tree) (sc here there : Scope) (a around : Around) (l m : ℕ) (q : Bool)
+    (ts us vs : List Turn)
     (b c d r : Built) → l ≡ length sc → here ≡ hidden ∷ sc → around ≡ enclosed a → ds ≡ cs → body ≡ t → ts ≡ [] →
-    Leads (levels_code p ds here around) q ts us there b c → d ≡ cond q (made (body_code p body a l m there) c) c → vs ≡ us → r ≡ turns_closed vs d →
+    Leads (levels_code p ds here around) q ts us there b c → d ≡ cond q (made (body_code p body a l m there) c) c → vs ≡ us →
+    r ≡ turns_closed vs d →
     r ≡ made (for_code p cs t sc a m) b
 for_by p cs ds t body sc here there a around l m q ts us vs b c d r h s k e f n leads g v is =
     is ∙ ap (λ k. turns_closed k d) v ∙ ap (turns_closed us) g ∙ leads.leads (body_code p body a l m)
@@ -91,9 +96,11 @@ for_by p cs ds t body sc here there a around l m q ts us vs b c d r h s k e f n 
     ∙ ap (λ k. made (levels_code p cs (hidden ∷ sc) (enclosed a) (body_code p k a l m)) b) f
     ∙ ap (λ k. made (levels_code p cs (hidden ∷ sc) (enclosed a) (body_code p t a k m)) b) h
 
-pub for_whole : (p : Program) (cs : Trees) (e : Tree) (pl : Place) (sc : Scope) (a : Around) (l m n : ℕ) (b c d r : Built) → l ≡ length sc →
+pub for_whole : (p : Program) (cs : Trees) (e : Tree) (pl : Place) (sc : Scope) (a : Around) (l m n : ℕ) (b c d r : Built) →
+    l ≡ length sc →
     m ≡ length b.places → n ≡ length (pushed (o.Put l) (with_local l (pushed (o.Array 0 (length b.places)) (with_place pl b)))).ops →
-    c ≡ for_begun pl l b → d ≡ made (for_code p cs e sc a m) c → r ≡ for_ended n l d → r ≡ made (form_code p (t.Shape.for_form cs e) 0 pl sc a) b
+    c ≡ for_begun pl l b → d ≡ made (for_code p cs e sc a m) c → r ≡ for_ended n l d →
+    r ≡ made (form_code p (t.Shape.for_form cs e) 0 pl sc a) b
 for_whole p cs e pl sc a l m n b c d r h x f g k is =
     let begun : ℕ → ℕ = λ l. length (pushed (o.Put l) (with_local l (pushed (o.Array 0 (length b.places)) (with_place pl b)))).ops in
     is ∙ ap (λ n. for_ended n l d) f

@@ -1,6 +1,5 @@
 -- Statements, one by one.
-use Rattle.std.proofs.Common.{◌≡◌, ℕ, ◌+◌, ◌<◌, ◌≤◌, List, [], ◌∷◌, length, map, get_or, Bool, refl, sym, ap, ◌∙◌, arith}
-use Rattle.verse_tree.specs.Tree.{Trees, no_trees, more_trees}
+use Rattle.std.proofs.Common.{◌≡◌, ℕ, ◌+◌, ◌<◌, ◌≤◌, List, [], ◌∷◌, length, map, get_or, Bool, sym, ap, ◌∙◌, arith}
 use Rattle.verse_tree.specs.View.{tree_of, trees}
 use Rattle.verse_tree.specs.declared.exprs.Expr.{Expr}
 use Rattle.verse_tree.specs.declared.programs.Program.{Program}
@@ -42,7 +41,8 @@ module _ (p : Program) (xs : List Expr) (i : ℕ) where
   more_done sc a b all h is = sym (ap (λ ts. made (more_code p ts sc a) b) (left_none xs i h) ∙ made_nothing b) ∙ is
 
 module _ (xs : List Expr) (i : ℕ) where
-  pub behind_next : (x : Expr) (sc there all : Scope) → i < length xs → x ≡ get_or xs i x → there ≡ scope_stated (statement_of (tree_of x)) sc →
+  pub behind_next : (x : Expr) (sc there all : Scope) → i < length xs → x ≡ get_or xs i x →
+      there ≡ scope_stated (statement_of (tree_of x)) sc →
       scope_behind (left xs i) sc ≡ all → scope_behind (left xs (i + 1)) there ≡ all
   behind_next x sc there all h e s is =
       ap (scope_behind (left xs (i + 1))) s ∙ sym (ap (λ ts. scope_behind ts sc) (left_next xs i x h e)) ∙ is
@@ -68,7 +68,8 @@ module _ (p : Program) (sc : Scope) (a : Around) where
       made_then f (g then h) b ∙ made_then g h (made f b)
 
   pub some_statements : (xs rest : List Expr) (x : Expr) (there : Scope) (around : Around) (q : Bool) (b c d r : Built) → xs ≡ x ∷ rest →
-      c ≡ made (stated_code p (tree_of x) sc a) b → there ≡ scope_stated (statement_of (tree_of x)) sc → around ≡ around_behind p (tree_of x) a →
+      c ≡ made (stated_code p (tree_of x) sc a) b → there ≡ scope_stated (statement_of (tree_of x)) sc →
+      around ≡ around_behind p (tree_of x) a →
       d ≡ made (more_code p (trees (map tree_of rest)) there around) c → q ≡ any_defer (trees (map tree_of xs)) →
       r ≡ made (when q (one (o.Leave a.defers))) d → r ≡ made (statements_code p (trees (map tree_of xs)) sc a) b
   some_statements xs rest x there around q b c d r e f s k g h is =

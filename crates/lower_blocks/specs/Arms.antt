@@ -42,10 +42,12 @@ module _ (p : Program) where
   abbrev pub is_any_tree : Tree → Bool
   is_any_tree (tree n pl s) = is_any_shape s
 
-  -- an arm by its parts, with those behind it, where the subject is in local l; all arms
-  abbrev pub arm_code : Option (Tree × Tree) → (l : ℕ) → (last : Bool) → Scope → Around → (rest : Maker) → Maker
+  -- an arm by its parts, with those behind it, where the subject is in local l; and all arms
+  abbrev pub arm_code : Option (Tree × Tree) → (l : ℕ) → (last : Bool) → Scope → Around →
+      (rest : Maker) → Maker
   arm_code None l last sc a rest = stuck
-  arm_code (Some q) l last sc a rest = arm_of (program_of p) (differ_of p) q.0 l last (tree_code p q.1 sc a) rest
+  arm_code (Some q) l last sc a rest =
+      arm_of (program_of p) (differ_of p) q.0 l last (tree_code p q.1 sc a) rest
 
   abbrev pub arms_code : Trees → (l : ℕ) → Scope → Around → Maker
   arms_code = arms (program_of p) (differ_of p)
@@ -58,7 +60,9 @@ module _ (p : Program) where
   abbrev pub comparison : Tree → (l : ℕ) → Built → ℕ
   comparison t l b = length (pushed (o.Get l) (made (tree_pattern t) b)).ops
 
--- A code f of what is left, from b on: it leads to c with more jumps that are open, where what is left stands; or nothing stands
--- there, where the code does not go on.
-pub record ArmLeads (f : Maker → Maker) (goes_on : Bool) (js ks : List ℕ) (b c : Built) : Type 0 where
-  pub leads : (rest : Maker) → all_ended ks (cond goes_on (made rest c) c) ≡ all_ended js (made (f rest) b)
+-- A code f of what is left, from b on, with the jumps js open: it leads to c with the jumps ks
+-- open, where what is left stands; or nothing stands there, where the code does not go on.
+pub record ArmLeads (f : Maker → Maker) (goes_on : Bool) (js ks : List ℕ) (b c : Built) :
+    Type 0 where
+  pub leads : (rest : Maker) →
+      all_ended ks (cond goes_on (made rest c) c) ≡ all_ended js (made (f rest) b)

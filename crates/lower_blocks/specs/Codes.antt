@@ -1,16 +1,17 @@
 -- The code of the parts of forms with blocks, in a program.
-use Rattle.verse_base.specs.declared.places.Place.{Place}
 use Rattle.std.specs.Prelude.{ℕ, [], ◌∷◌, length}
-use Rattle.verse_tree.specs.Tree as t
+use Rattle.verse_base.specs.declared.places.Place.{Place}
 use Rattle.verse_tree.specs.Tree.{Tree, Trees, Shape}
+use Rattle.verse_tree.specs.Tree as t
 use Rattle.verse_tree.specs.declared.programs.Program.{Program}
 use Rattle.verse_meaning.specs.Programs.{program_of}
 use Rattle.verse_meaning.specs.Evaluating.{statement_of}
-use Rattle.lower_code.specs.Pieces.{Maker, one, stuck, ◌then◌}
 use Rattle.verse_code.specs.declared.operations.Op.TheVariants as o
+use Rattle.lower_code.specs.Pieces.{Maker, one, stuck, ◌then◌}
 use Rattle.lower_code.specs.Scopes.{Scope, hidden}
 use Rattle.lower_code.specs.Arounds.{up, enclosed}
-use Rattle.lower_code.specs.Lowering.{inner, stated, around_stated, claused, levels, statements, more_statements}
+use Rattle.lower_code.specs.Lowering.{inner, stated, around_stated, claused, levels}
+use Rattle.lower_code.specs.Lowering.{statements, more_statements}
 use Rattle.lower_code.specs.declared.arounds.Around.{Around}
 use Rattle.lower_lookup.specs.Types.{differ_of}
 use Rattle.lower_parts.specs.Parts.{tree_code}
@@ -28,7 +29,7 @@ abbrev pub variable_shape : Tree → Shape
 variable_shape = t.Shape.variable [] t.Written.void
 
 module _ (p : Program) where
-  -- what stands in a statement or a clause
+  -- what stands in a statement or a clause, and by what it is
   abbrev pub inner_code : Tree → Scope → Around → Maker
   inner_code = inner (program_of p) (differ_of p)
 
@@ -40,7 +41,9 @@ module _ (p : Program) where
 
   -- a statement; statements, and those behind the first
   abbrev pub stated_code : Tree → Scope → Around → Maker
-  stated_code t sc a = stated (program_of p) (differ_of p) (statement_of t) sc (tree_code p t sc a) (inner_code t sc a)
+  stated_code t sc a =
+      stated (program_of p) (differ_of p) (statement_of t) sc (tree_code p t sc a)
+      (inner_code t sc a)
 
   -- where the statements behind it stand
   abbrev pub around_behind : Tree → Around → Around
@@ -55,7 +58,8 @@ module _ (p : Program) where
   -- a clause of a `for` with what comes behind it, and clauses with what comes behind the last
   abbrev pub claused_code : Tree → Scope → Around → (rest : Scope → Maker) → Maker
   claused_code t sc a rest =
-      claused (program_of p) (differ_of p) (statement_of t) sc (tree_code p t sc a) (inner_code t sc a) rest
+      claused (program_of p) (differ_of p) (statement_of t) sc (tree_code p t sc a)
+      (inner_code t sc a) rest
 
   abbrev pub levels_code : Trees → Scope → Around → (rest : Scope → Maker) → Maker
   levels_code cs sc a rest = levels (program_of p) (differ_of p) cs sc a rest

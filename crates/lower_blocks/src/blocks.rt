@@ -37,10 +37,11 @@ pub fn block<
     around: Around,
     parts: &'a [Expr],
 ) -> Result<(), Memory>
-    requires nests { Lowers lowering.now.depth (F.pre lowering.now.nested) (F.post lowering.now.nested) }
-    ensures code { OnOk result (built builder.new ≡ made (form_code lowering.now.tables.now.program.now
-        (t.Shape.block (trees (map tree_of parts.now))) 0 no_place (scope_of scopes.old) around)
-        (built builder.old)) }
+    requires nests { Lowers lowering.now.depth (F.pre lowering.now.nested)
+        (F.post lowering.now.nested) }
+    ensures code { OnOk result (built builder.new ≡ made (form_code
+        lowering.now.tables.now.program.now (t.Shape.block (trees (map tree_of parts.now))) 0
+        no_place (scope_of scopes.old) around) (built builder.old)) }
     ensures scopes { OnOk result (scope_of scopes.new ≡ scope_of scopes.old) }
 {
     own_statements(lowering, builder, scopes, around, parts)?;
@@ -66,10 +67,11 @@ pub fn constant<
     around: Around,
     value: &'a Expr,
 ) -> Result<(), Memory>
-    requires nests { Lowers lowering.now.depth (F.pre lowering.now.nested) (F.post lowering.now.nested) }
-    ensures code { OnOk result (built builder.new ≡ made (form_code lowering.now.tables.now.program.now
-        (constant_shape (tree_of value.now)) 0 no_place (scope_of scopes.old) around)
-        (built builder.old)) }
+    requires nests { Lowers lowering.now.depth (F.pre lowering.now.nested)
+        (F.post lowering.now.nested) }
+    ensures code { OnOk result (built builder.new ≡ made (form_code
+        lowering.now.tables.now.program.now (constant_shape (tree_of value.now)) 0 no_place
+        (scope_of scopes.old) around) (built builder.old)) }
     ensures scopes { OnOk result (scope_of scopes.new ≡ scope_of scopes.old) }
 {
     let local = scopes.count()?;
@@ -97,10 +99,11 @@ pub fn variable<
     place: Place,
     value: &'a Expr,
 ) -> Result<(), Memory>
-    requires nests { Lowers lowering.now.depth (F.pre lowering.now.nested) (F.post lowering.now.nested) }
-    ensures code { OnOk result (built builder.new ≡ made (form_code lowering.now.tables.now.program.now
-        (variable_shape (tree_of value.now)) 0 place (scope_of scopes.old) around)
-        (built builder.old)) }
+    requires nests { Lowers lowering.now.depth (F.pre lowering.now.nested)
+        (F.post lowering.now.nested) }
+    ensures code { OnOk result (built builder.new ≡ made (form_code
+        lowering.now.tables.now.program.now (variable_shape (tree_of value.now)) 0 place
+        (scope_of scopes.old) around) (built builder.old)) }
     ensures scopes { OnOk result (scope_of scopes.new ≡ scope_of scopes.old) }
 {
     let local = scopes.count()?;
@@ -128,10 +131,11 @@ pub fn returned<
     around: Around,
     value: &'a Expr,
 ) -> Result<(), Memory>
-    requires nests { Lowers lowering.now.depth (F.pre lowering.now.nested) (F.post lowering.now.nested) }
-    ensures code { OnOk result (built builder.new ≡ made (form_code lowering.now.tables.now.program.now
-        (t.Shape.returned (tree_of value.now)) 0 no_place (scope_of scopes.old) around)
-        (built builder.old)) }
+    requires nests { Lowers lowering.now.depth (F.pre lowering.now.nested)
+        (F.post lowering.now.nested) }
+    ensures code { OnOk result (built builder.new ≡ made (form_code
+        lowering.now.tables.now.program.now (t.Shape.returned (tree_of value.now)) 0 no_place
+        (scope_of scopes.old) around) (built builder.old)) }
     ensures scopes { OnOk result (scope_of scopes.new ≡ scope_of scopes.old) }
 {
     lowering.part(builder, scopes, around, value)?;

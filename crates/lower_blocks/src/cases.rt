@@ -29,7 +29,14 @@ use verse_tree::exprs::{Cases, Expr, Two};
 /// An arm that is taken without a test, with others behind it; the index of the jump over them.
 fn any_arm<
     'a,
-    F: Fn(&'a Tables<'a>, u32, &mut Builder, &mut Scopes<'a>, Around, &'a Expr) -> Result<(), Memory>,
+    F: Fn(
+        &'a Tables<'a>,
+        u32,
+        &mut Builder,
+        &mut Scopes<'a>,
+        Around,
+        &'a Expr,
+    ) -> Result<(), Memory>,
 >(
     lowering: &Lowering<'a, F>,
     builder: &mut Builder,
@@ -37,11 +44,14 @@ fn any_arm<
     around: Around,
     part: &'a Expr,
 ) -> Result<u32, Memory>
-    requires nests { Lowers lowering.now.depth (F.pre lowering.now.nested) (F.post lowering.now.nested) }
-    ensures jump { IfOk result (λ n. n ≡ length (made (tree_code lowering.now.tables.now.program.now
-        (tree_of part.now) (scope_of scopes.old) around) (built builder.old)).ops) }
-    ensures code { OnOk result (built builder.new ≡ pushed (o.Jump 0) (made (tree_code lowering.now.tables.now.program.now
-        (tree_of part.now) (scope_of scopes.old) around) (built builder.old))) }
+    requires nests { Lowers lowering.now.depth (F.pre lowering.now.nested)
+        (F.post lowering.now.nested) }
+    ensures jump { IfOk result (λ n. n ≡ length (made (tree_code
+        lowering.now.tables.now.program.now (tree_of part.now) (scope_of scopes.old) around)
+        (built builder.old)).ops) }
+    ensures code { OnOk result (built builder.new ≡ pushed (o.Jump 0) (made (tree_code
+        lowering.now.tables.now.program.now (tree_of part.now) (scope_of scopes.old) around)
+        (built builder.old))) }
     ensures scopes { OnOk result (scope_of scopes.new ≡ scope_of scopes.old) }
 {
     lowering.part(builder, scopes, around, part)?;
@@ -51,7 +61,14 @@ fn any_arm<
 /// An arm that is compared with the subject in a local; the index of the jump over those behind it.
 fn same_arm<
     'a,
-    F: Fn(&'a Tables<'a>, u32, &mut Builder, &mut Scopes<'a>, Around, &'a Expr) -> Result<(), Memory>,
+    F: Fn(
+        &'a Tables<'a>,
+        u32,
+        &mut Builder,
+        &mut Scopes<'a>,
+        Around,
+        &'a Expr,
+    ) -> Result<(), Memory>,
 >(
     lowering: &Lowering<'a, F>,
     builder: &mut Builder,
@@ -60,14 +77,17 @@ fn same_arm<
     local: u32,
     two: &'a Two,
 ) -> Result<u32, Memory>
-    requires nests { Lowers lowering.now.depth (F.pre lowering.now.nested) (F.post lowering.now.nested) }
-    ensures jump { IfOk result (λ n. n ≡ length (compared_arm lowering.now.tables.now.program.now
-        (two_of two.now).0 local (tree_code lowering.now.tables.now.program.now (two_of two.now).1 (scope_of scopes.old) around)
+    requires nests { Lowers lowering.now.depth (F.pre lowering.now.nested)
+        (F.post lowering.now.nested) }
+    ensures jump { IfOk result (λ n. n ≡ length (compared_arm
+        lowering.now.tables.now.program.now (two_of two.now).0 local (tree_code
+        lowering.now.tables.now.program.now (two_of two.now).1 (scope_of scopes.old) around)
         (built builder.old)).ops) }
-    ensures code { OnOk result (built builder.new ≡ other_begun
-        (comparison lowering.now.tables.now.program.now (two_of two.now).0 local (built builder.old))
-        (compared_arm lowering.now.tables.now.program.now (two_of two.now).0 local
-        (tree_code lowering.now.tables.now.program.now (two_of two.now).1 (scope_of scopes.old) around) (built builder.old))) }
+    ensures code { OnOk result (built builder.new ≡ other_begun (comparison
+        lowering.now.tables.now.program.now (two_of two.now).0 local (built builder.old))
+        (compared_arm lowering.now.tables.now.program.now (two_of two.now).0 local (tree_code
+        lowering.now.tables.now.program.now (two_of two.now).1 (scope_of scopes.old) around)
+        (built builder.old))) }
     ensures scopes { OnOk result (scope_of scopes.new ≡ scope_of scopes.old) }
 {
     push_pattern(lowering.tables, builder, left(two))?;
@@ -79,7 +99,14 @@ fn same_arm<
 /// An arm by its parts; whether the code goes on behind it.
 fn whole_arm<
     'a,
-    F: Fn(&'a Tables<'a>, u32, &mut Builder, &mut Scopes<'a>, Around, &'a Expr) -> Result<(), Memory>,
+    F: Fn(
+        &'a Tables<'a>,
+        u32,
+        &mut Builder,
+        &mut Scopes<'a>,
+        Around,
+        &'a Expr,
+    ) -> Result<(), Memory>,
 >(
     lowering: &Lowering<'a, F>,
     builder: &mut Builder,
@@ -90,10 +117,12 @@ fn whole_arm<
     two: &'a Two,
     last: bool,
 ) -> Result<bool, Memory>
-    requires nests { Lowers lowering.now.depth (F.pre lowering.now.nested) (F.post lowering.now.nested) }
-    ensures code { IfOk result (λ goes_on. ArmLeads (arm_code lowering.now.tables.now.program.now (Some (two_of two.now)) local last
-        (scope_of scopes.old) around) goes_on jumps.old.items jumps.new.items (built builder.old)
-        (built builder.new)) }
+    requires nests { Lowers lowering.now.depth (F.pre lowering.now.nested)
+        (F.post lowering.now.nested) }
+    ensures code { IfOk result (λ goes_on. ArmLeads (arm_code
+        lowering.now.tables.now.program.now (Some (two_of two.now)) local last (scope_of
+        scopes.old) around) goes_on jumps.old.items jumps.new.items (built builder.old) (built
+        builder.new)) }
     ensures scopes { OnOk result (scope_of scopes.new ≡ scope_of scopes.old) }
 {
     if last {
@@ -113,7 +142,14 @@ fn whole_arm<
 /// An arm; whether the code goes on behind it.
 fn arm<
     'a,
-    F: Fn(&'a Tables<'a>, u32, &mut Builder, &mut Scopes<'a>, Around, &'a Expr) -> Result<(), Memory>,
+    F: Fn(
+        &'a Tables<'a>,
+        u32,
+        &mut Builder,
+        &mut Scopes<'a>,
+        Around,
+        &'a Expr,
+    ) -> Result<(), Memory>,
 >(
     lowering: &Lowering<'a, F>,
     builder: &mut Builder,
@@ -124,10 +160,12 @@ fn arm<
     part: &'a Expr,
     last: bool,
 ) -> Result<bool, Memory>
-    requires nests { Lowers lowering.now.depth (F.pre lowering.now.nested) (F.post lowering.now.nested) }
-    ensures code { IfOk result (λ goes_on. ArmLeads (arm_code lowering.now.tables.now.program.now (arm_parts (tree_of part.now))
-        local last (scope_of scopes.old) around) goes_on jumps.old.items jumps.new.items
-        (built builder.old) (built builder.new)) }
+    requires nests { Lowers lowering.now.depth (F.pre lowering.now.nested)
+        (F.post lowering.now.nested) }
+    ensures code { IfOk result (λ goes_on. ArmLeads (arm_code
+        lowering.now.tables.now.program.now (arm_parts (tree_of part.now)) local last (scope_of
+        scopes.old) around) goes_on jumps.old.items jumps.new.items (built builder.old) (built
+        builder.new)) }
     ensures scopes { OnOk result (scope_of scopes.new ≡ scope_of scopes.old) }
 {
     match parts_of_arm(part) {
@@ -145,7 +183,14 @@ fn arm<
 /// The arms of a `case` whose subject is in a local, with their jumps to its end.
 fn open_arms<
     'a,
-    F: Fn(&'a Tables<'a>, u32, &mut Builder, &mut Scopes<'a>, Around, &'a Expr) -> Result<(), Memory>,
+    F: Fn(
+        &'a Tables<'a>,
+        u32,
+        &mut Builder,
+        &mut Scopes<'a>,
+        Around,
+        &'a Expr,
+    ) -> Result<(), Memory>,
 >(
     lowering: &Lowering<'a, F>,
     builder: &mut Builder,
@@ -155,10 +200,11 @@ fn open_arms<
     jumps: &mut Vec<u32>,
     parts: &'a [Expr],
 ) -> Result<(), Memory>
-    requires nests { Lowers lowering.now.depth (F.pre lowering.now.nested) (F.post lowering.now.nested) }
-    ensures code { OnOk result (all_ended jumps.new.items (built builder.new) ≡ all_ended jumps.old.items
-        (made (arms_code lowering.now.tables.now.program.now (trees (map tree_of parts.now)) local (scope_of scopes.old) around)
-        (built builder.old))) }
+    requires nests { Lowers lowering.now.depth (F.pre lowering.now.nested)
+        (F.post lowering.now.nested) }
+    ensures code { OnOk result (all_ended jumps.new.items (built builder.new) ≡ all_ended
+        jumps.old.items (made (arms_code lowering.now.tables.now.program.now (trees (map tree_of
+        parts.now)) local (scope_of scopes.old) around) (built builder.old))) }
     ensures scopes { OnOk result (scope_of scopes.new ≡ scope_of scopes.old) }
 {
     let mut rest = parts;
@@ -177,7 +223,14 @@ fn open_arms<
 /// The arms of a `case` whose subject is in a local.
 fn all_arms<
     'a,
-    F: Fn(&'a Tables<'a>, u32, &mut Builder, &mut Scopes<'a>, Around, &'a Expr) -> Result<(), Memory>,
+    F: Fn(
+        &'a Tables<'a>,
+        u32,
+        &mut Builder,
+        &mut Scopes<'a>,
+        Around,
+        &'a Expr,
+    ) -> Result<(), Memory>,
 >(
     alloc: Global,
     lowering: &Lowering<'a, F>,
@@ -187,9 +240,11 @@ fn all_arms<
     local: u32,
     parts: &'a [Expr],
 ) -> Result<(), Memory>
-    requires nests { Lowers lowering.now.depth (F.pre lowering.now.nested) (F.post lowering.now.nested) }
-    ensures code { OnOk result (built builder.new ≡ made (arms_code lowering.now.tables.now.program.now
-        (trees (map tree_of parts.now)) local (scope_of scopes.old) around) (built builder.old)) }
+    requires nests { Lowers lowering.now.depth (F.pre lowering.now.nested)
+        (F.post lowering.now.nested) }
+    ensures code { OnOk result (built builder.new ≡ made (arms_code
+        lowering.now.tables.now.program.now (trees (map tree_of parts.now)) local (scope_of
+        scopes.old) around) (built builder.old)) }
     ensures scopes { OnOk result (scope_of scopes.new ≡ scope_of scopes.old) }
 {
     let mut jumps = Vec::new(alloc);
@@ -201,7 +256,14 @@ fn all_arms<
 /// `case`
 pub fn case<
     'a,
-    F: Fn(&'a Tables<'a>, u32, &mut Builder, &mut Scopes<'a>, Around, &'a Expr) -> Result<(), Memory>,
+    F: Fn(
+        &'a Tables<'a>,
+        u32,
+        &mut Builder,
+        &mut Scopes<'a>,
+        Around,
+        &'a Expr,
+    ) -> Result<(), Memory>,
 >(
     alloc: Global,
     lowering: &Lowering<'a, F>,
@@ -210,10 +272,11 @@ pub fn case<
     around: Around,
     cases: &'a Cases,
 ) -> Result<(), Memory>
-    requires nests { Lowers lowering.now.depth (F.pre lowering.now.nested) (F.post lowering.now.nested) }
-    ensures code { OnOk result (built builder.new ≡ made (form_code lowering.now.tables.now.program.now
-        (t.Shape.cases (cases_of cases.now).0 (trees (cases_of cases.now).1)) 0 no_place
-        (scope_of scopes.old) around) (built builder.old)) }
+    requires nests { Lowers lowering.now.depth (F.pre lowering.now.nested)
+        (F.post lowering.now.nested) }
+    ensures code { OnOk result (built builder.new ≡ made (form_code
+        lowering.now.tables.now.program.now (t.Shape.cases (cases_of cases.now).0 (trees
+        (cases_of cases.now).1)) 0 no_place (scope_of scopes.old) around) (built builder.old)) }
     ensures scopes { OnOk result (scope_of scopes.new ≡ scope_of scopes.old) }
 {
     let local = scopes.count()?;

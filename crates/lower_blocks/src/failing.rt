@@ -46,10 +46,11 @@ pub fn negation<
     around: Around,
     part: &'a Expr,
 ) -> Result<(), Memory>
-    requires nests { Lowers lowering.now.depth (F.pre lowering.now.nested) (F.post lowering.now.nested) }
-    ensures code { OnOk result (built builder.new ≡ made (form_code lowering.now.tables.now.program.now
-        (t.Shape.negation (tree_of part.now)) 0 no_place (scope_of scopes.old) around)
-        (built builder.old)) }
+    requires nests { Lowers lowering.now.depth (F.pre lowering.now.nested)
+        (F.post lowering.now.nested) }
+    ensures code { OnOk result (built builder.new ≡ made (form_code
+        lowering.now.tables.now.program.now (t.Shape.negation (tree_of part.now)) 0 no_place
+        (scope_of scopes.old) around) (built builder.old)) }
     ensures scopes { OnOk result (scope_of scopes.new ≡ scope_of scopes.old) }
 {
     let begun = try_begin(builder)?;
@@ -76,10 +77,11 @@ pub fn or<
     around: Around,
     two: &'a Two,
 ) -> Result<(), Memory>
-    requires nests { Lowers lowering.now.depth (F.pre lowering.now.nested) (F.post lowering.now.nested) }
-    ensures code { OnOk result (built builder.new ≡ made (form_code lowering.now.tables.now.program.now
-        (t.Shape.chained op.Or (two_of two.now).0 (two_of two.now).1) 0 no_place
-        (scope_of scopes.old) around) (built builder.old)) }
+    requires nests { Lowers lowering.now.depth (F.pre lowering.now.nested)
+        (F.post lowering.now.nested) }
+    ensures code { OnOk result (built builder.new ≡ made (form_code
+        lowering.now.tables.now.program.now (t.Shape.chained op.Or (two_of two.now).0 (two_of
+        two.now).1) 0 no_place (scope_of scopes.old) around) (built builder.old)) }
     ensures scopes { OnOk result (scope_of scopes.new ≡ scope_of scopes.old) }
 {
     let begun = try_begin(builder)?;
@@ -108,10 +110,11 @@ pub fn and<
     around: Around,
     two: &'a Two,
 ) -> Result<(), Memory>
-    requires nests { Lowers lowering.now.depth (F.pre lowering.now.nested) (F.post lowering.now.nested) }
-    ensures code { OnOk result (built builder.new ≡ made (form_code lowering.now.tables.now.program.now
-        (t.Shape.chained op.And (two_of two.now).0 (two_of two.now).1) 0 no_place
-        (scope_of scopes.old) around) (built builder.old)) }
+    requires nests { Lowers lowering.now.depth (F.pre lowering.now.nested)
+        (F.post lowering.now.nested) }
+    ensures code { OnOk result (built builder.new ≡ made (form_code
+        lowering.now.tables.now.program.now (t.Shape.chained op.And (two_of two.now).0 (two_of
+        two.now).1) 0 no_place (scope_of scopes.old) around) (built builder.old)) }
     ensures scopes { OnOk result (scope_of scopes.new ≡ scope_of scopes.old) }
 {
     lowering.part(builder, scopes, around, left(two))?;
@@ -138,11 +141,13 @@ fn if_taken<
     around: Around,
     parts: &'a IfParts,
 ) -> Result<(), Memory>
-    requires nests { Lowers lowering.now.depth (F.pre lowering.now.nested) (F.post lowering.now.nested) }
-    ensures code { OnOk result (built builder.new ≡ made (tree_code lowering.now.tables.now.program.now
-        (if_of parts.now).taken (scope_behind (trees (if_of parts.now).conditions) (scope_of scopes.old)) around)
-        (held (made (statements_code lowering.now.tables.now.program.now (trees (if_of parts.now).conditions)
-        (scope_of scopes.old) (a.enclosed around)) (built builder.old)))) }
+    requires nests { Lowers lowering.now.depth (F.pre lowering.now.nested)
+        (F.post lowering.now.nested) }
+    ensures code { OnOk result (built builder.new ≡ made (tree_code
+        lowering.now.tables.now.program.now (if_of parts.now).taken (scope_behind (trees (if_of
+        parts.now).conditions) (scope_of scopes.old)) around) (held (made (statements_code
+        lowering.now.tables.now.program.now (trees (if_of parts.now).conditions) (scope_of
+        scopes.old) (a.enclosed around)) (built builder.old)))) }
     ensures scopes { OnOk result (scope_of scopes.new ≡ scope_of scopes.old) }
 {
     let count = scopes.count()?;
@@ -178,10 +183,11 @@ fn if_other<
     begun: u32,
     part: &'a Expr,
 ) -> Result<(), Memory>
-    requires nests { Lowers lowering.now.depth (F.pre lowering.now.nested) (F.post lowering.now.nested) }
+    requires nests { Lowers lowering.now.depth (F.pre lowering.now.nested)
+        (F.post lowering.now.nested) }
     ensures code { OnOk result (built builder.new ≡ ended_here (length (built builder.old).ops)
-        (made (tree_code lowering.now.tables.now.program.now (tree_of part.now) (scope_of scopes.old) around)
-        (other_begun begun (built builder.old)))) }
+        (made (tree_code lowering.now.tables.now.program.now (tree_of part.now) (scope_of
+        scopes.old) around) (other_begun begun (built builder.old)))) }
     ensures scopes { OnOk result (scope_of scopes.new ≡ scope_of scopes.old) }
 {
     let jump = if_else(builder, begun)?;
@@ -208,10 +214,12 @@ pub fn if_form<
     around: Around,
     parts: &'a IfParts,
 ) -> Result<(), Memory>
-    requires nests { Lowers lowering.now.depth (F.pre lowering.now.nested) (F.post lowering.now.nested) }
-    ensures code { OnOk result (built builder.new ≡ made (form_code lowering.now.tables.now.program.now
-        (if_shape (trees (if_of parts.now).conditions) (if_of parts.now).taken (if_of parts.now).otherwise)
-        0 no_place (scope_of scopes.old) around) (built builder.old)) }
+    requires nests { Lowers lowering.now.depth (F.pre lowering.now.nested)
+        (F.post lowering.now.nested) }
+    ensures code { OnOk result (built builder.new ≡ made (form_code
+        lowering.now.tables.now.program.now (if_shape (trees (if_of parts.now).conditions)
+        (if_of parts.now).taken (if_of parts.now).otherwise) 0 no_place (scope_of scopes.old)
+        around) (built builder.old)) }
     ensures scopes { OnOk result (scope_of scopes.new ≡ scope_of scopes.old) }
 {
     let begun = try_begin(builder)?;
@@ -243,10 +251,11 @@ pub fn option<
     place: Place,
     parts: &'a [Expr],
 ) -> Result<(), Memory>
-    requires nests { Lowers lowering.now.depth (F.pre lowering.now.nested) (F.post lowering.now.nested) }
-    ensures code { OnOk result (built builder.new ≡ made (form_code lowering.now.tables.now.program.now
-        (t.Shape.option (trees (map tree_of parts.now))) 0 place (scope_of scopes.old) around)
-        (built builder.old)) }
+    requires nests { Lowers lowering.now.depth (F.pre lowering.now.nested)
+        (F.post lowering.now.nested) }
+    ensures code { OnOk result (built builder.new ≡ made (form_code
+        lowering.now.tables.now.program.now (t.Shape.option (trees (map tree_of parts.now))) 0
+        place (scope_of scopes.old) around) (built builder.old)) }
     ensures scopes { OnOk result (scope_of scopes.new ≡ scope_of scopes.old) }
 {
     let begun = try_begin(builder)?;
@@ -273,10 +282,11 @@ pub fn logic<
     around: Around,
     parts: &'a [Expr],
 ) -> Result<(), Memory>
-    requires nests { Lowers lowering.now.depth (F.pre lowering.now.nested) (F.post lowering.now.nested) }
-    ensures code { OnOk result (built builder.new ≡ made (form_code lowering.now.tables.now.program.now
-        (t.Shape.logic (trees (map tree_of parts.now))) 0 no_place (scope_of scopes.old) around)
-        (built builder.old)) }
+    requires nests { Lowers lowering.now.depth (F.pre lowering.now.nested)
+        (F.post lowering.now.nested) }
+    ensures code { OnOk result (built builder.new ≡ made (form_code
+        lowering.now.tables.now.program.now (t.Shape.logic (trees (map tree_of parts.now))) 0
+        no_place (scope_of scopes.old) around) (built builder.old)) }
     ensures scopes { OnOk result (scope_of scopes.new ≡ scope_of scopes.old) }
 {
     let begun = try_begin(builder)?;

@@ -11,7 +11,8 @@ ghost use Rattle.lower_expr.specs.Building.{built, made, pushed, with_local};
 ghost use Rattle.lower_expr.specs.Locals.{scope_of};
 ghost use Rattle.lower_fail.specs.Attempts.{turns_begun};
 ghost use Rattle.lower_parts.specs.Parts.{form_code, Lowers};
-ghost use Rattle.lower_blocks.specs.Codes.{no_place, claused_code, levels_code, body_code, for_code};
+ghost use Rattle.lower_blocks.specs.Codes.{no_place, claused_code, levels_code};
+ghost use Rattle.lower_blocks.specs.Codes.{body_code, for_code};
 ghost use Rattle.lower_blocks.specs.Levels.{Leads, Extends, scope_claused};
 
 use crate::parts::{body, clauses};
@@ -51,10 +52,11 @@ pub fn loop_form<
     around: Around,
     part: &'a Expr,
 ) -> Result<(), Memory>
-    requires nests { Lowers lowering.now.depth (F.pre lowering.now.nested) (F.post lowering.now.nested) }
-    ensures code { OnOk result (built builder.new ≡ made (form_code lowering.now.tables.now.program.now
-        (t.Shape.loop_form (tree_of part.now)) 0 no_place (scope_of scopes.old) around)
-        (built builder.old)) }
+    requires nests { Lowers lowering.now.depth (F.pre lowering.now.nested)
+        (F.post lowering.now.nested) }
+    ensures code { OnOk result (built builder.new ≡ made (form_code
+        lowering.now.tables.now.program.now (t.Shape.loop_form (tree_of part.now)) 0 no_place
+        (scope_of scopes.old) around) (built builder.old)) }
     ensures scopes { OnOk result (scope_of scopes.new ≡ scope_of scopes.old) }
 {
     let mark = loop_begin(builder)?;
@@ -73,8 +75,8 @@ fn taking(generator: Generator<'_>, local: u32) -> Op
 
 /// The four locals of a generator: those of its domain, of its place there, and of its names.
 fn four_locals<'a>(scopes: &mut Scopes<'a>, generator: Generator<'a>) -> Result<(), Memory>
-    ensures { OnOk result (scope_of scopes.new ≡ l.with_generator (generator_view generator.entry)
-        (scope_of scopes.old)) }
+    ensures { OnOk result (scope_of scopes.new ≡ l.with_generator (generator_view
+        generator.entry) (scope_of scopes.old)) }
 {
     scopes.add(Slot::Hidden)?;
     scopes.add(Slot::Hidden)?;
@@ -98,13 +100,14 @@ fn generate<'a>(
     generator: Generator<'a>,
 ) -> Result<Turn, Memory>
     ensures local { IfOk result (λ turn. turn.local ≡ length (scope_of scopes.old)) }
-    ensures begun { IfOk result (λ turn. turn.begun ≡ length (pushed (l.taking (generator_view generator.entry)
-        (length (scope_of scopes.old))) (pushed o.Commit (with_local
-        (suc (suc (suc (length (scope_of scopes.old))))) (built builder.old)))).ops) }
-    ensures added { OnOk result (built builder.new ≡ turns_begun (l.taking (generator_view generator.entry)
-        (length (scope_of scopes.old))) (length (scope_of scopes.old)) (built builder.old)) }
-    ensures scopes { OnOk result (scope_of scopes.new ≡ l.with_generator (generator_view generator.entry)
-        (scope_of scopes.old)) }
+    ensures begun { IfOk result (λ turn. turn.begun ≡ length (pushed (l.taking (generator_view
+        generator.entry) (length (scope_of scopes.old))) (pushed o.Commit (with_local (suc (suc
+        (suc (length (scope_of scopes.old))))) (built builder.old)))).ops) }
+    ensures added { OnOk result (built builder.new ≡ turns_begun (l.taking (generator_view
+        generator.entry) (length (scope_of scopes.old))) (length (scope_of scopes.old)) (built
+        builder.old)) }
+    ensures scopes { OnOk result (scope_of scopes.new ≡ l.with_generator (generator_view
+        generator.entry) (scope_of scopes.old)) }
 {
     let local = scopes.count()?;
     let turn = for_domain(builder, taking(generator, local), local)?;
@@ -131,10 +134,12 @@ fn clause<
     turns: &mut Vec<Turn>,
     part: &'a Expr,
 ) -> Result<bool, Memory>
-    requires nests { Lowers lowering.now.depth (F.pre lowering.now.nested) (F.post lowering.now.nested) }
-    ensures code { IfOk result (λ goes_on. Leads (claused_code lowering.now.tables.now.program.now (tree_of part.now)
-        (scope_of scopes.old) around) goes_on turns.old.items turns.new.items (scope_of scopes.new)
-        (built builder.old) (built builder.new)) }
+    requires nests { Lowers lowering.now.depth (F.pre lowering.now.nested)
+        (F.post lowering.now.nested) }
+    ensures code { IfOk result (λ goes_on. Leads (claused_code
+        lowering.now.tables.now.program.now (tree_of part.now) (scope_of scopes.old) around)
+        goes_on turns.old.items turns.new.items (scope_of scopes.new) (built builder.old) (built
+        builder.new)) }
     ensures scopes { OnOk result (scope_of scopes.new ≡ scope_claused
         (e.statement_of (tree_of part.now)) (scope_of scopes.old)) }
 {
@@ -182,10 +187,12 @@ fn levels<
     turns: &mut Vec<Turn>,
     parts: &'a [Expr],
 ) -> Result<bool, Memory>
-    requires nests { Lowers lowering.now.depth (F.pre lowering.now.nested) (F.post lowering.now.nested) }
-    ensures code { IfOk result (λ goes_on. Leads (levels_code lowering.now.tables.now.program.now (trees (map tree_of parts.now))
-        (scope_of scopes.old) around) goes_on turns.old.items turns.new.items (scope_of scopes.new)
-        (built builder.old) (built builder.new)) }
+    requires nests { Lowers lowering.now.depth (F.pre lowering.now.nested)
+        (F.post lowering.now.nested) }
+    ensures code { IfOk result (λ goes_on. Leads (levels_code
+        lowering.now.tables.now.program.now (trees (map tree_of parts.now)) (scope_of
+        scopes.old) around) goes_on turns.old.items turns.new.items (scope_of scopes.new) (built
+        builder.old) (built builder.new)) }
     ensures scopes { OnOk result (Extends (scope_of scopes.old) (scope_of scopes.new)) }
 {
     'parts: for part in parts {
@@ -219,10 +226,11 @@ fn for_value<
     goes_on: bool,
     part: &'a Expr,
 ) -> Result<(), Memory>
-    requires nests { Lowers lowering.now.depth (F.pre lowering.now.nested) (F.post lowering.now.nested) }
-    ensures code { OnOk result (built builder.new ≡ cond goes_on (made (body_code lowering.now.tables.now.program.now
-        (tree_of part.now) around local mark.place (scope_of scopes.old)) (built builder.old))
-        (built builder.old)) }
+    requires nests { Lowers lowering.now.depth (F.pre lowering.now.nested)
+        (F.post lowering.now.nested) }
+    ensures code { OnOk result (built builder.new ≡ cond goes_on (made (body_code
+        lowering.now.tables.now.program.now (tree_of part.now) around local mark.place (scope_of
+        scopes.old)) (built builder.old)) (built builder.old)) }
     ensures scopes { OnOk result (scope_of scopes.new ≡ scope_of scopes.old) }
 {
     if goes_on {
@@ -253,10 +261,11 @@ fn for_inside<
     mark: ForMark,
     parts: &'a ForParts,
 ) -> Result<(), Memory>
-    requires nests { Lowers lowering.now.depth (F.pre lowering.now.nested) (F.post lowering.now.nested) }
-    ensures code { OnOk result (built builder.new ≡ made (for_code lowering.now.tables.now.program.now
-        (trees (for_of parts.now).0) (for_of parts.now).1 (scope_of scopes.old) around mark.place)
-        (built builder.old)) }
+    requires nests { Lowers lowering.now.depth (F.pre lowering.now.nested)
+        (F.post lowering.now.nested) }
+    ensures code { OnOk result (built builder.new ≡ made (for_code
+        lowering.now.tables.now.program.now (trees (for_of parts.now).0) (for_of parts.now).1
+        (scope_of scopes.old) around mark.place) (built builder.old)) }
     ensures scopes { OnOk result (scope_of scopes.new ≡ scope_of scopes.old) }
 {
     let local = scopes.count()?;
@@ -307,10 +316,11 @@ pub fn for_form<
     place: Place,
     parts: &'a ForParts,
 ) -> Result<(), Memory>
-    requires nests { Lowers lowering.now.depth (F.pre lowering.now.nested) (F.post lowering.now.nested) }
-    ensures code { OnOk result (built builder.new ≡ made (form_code lowering.now.tables.now.program.now
-        (t.Shape.for_form (trees (for_of parts.now).0) (for_of parts.now).1) 0 place
-        (scope_of scopes.old) around) (built builder.old)) }
+    requires nests { Lowers lowering.now.depth (F.pre lowering.now.nested)
+        (F.post lowering.now.nested) }
+    ensures code { OnOk result (built builder.new ≡ made (form_code
+        lowering.now.tables.now.program.now (t.Shape.for_form (trees (for_of parts.now).0)
+        (for_of parts.now).1) 0 place (scope_of scopes.old) around) (built builder.old)) }
     ensures scopes { OnOk result (scope_of scopes.new ≡ scope_of scopes.old) }
 {
     let local = scopes.count()?;

@@ -83,9 +83,11 @@ pub fn inner<
     around: Around,
     part: &'a Expr,
 ) -> Result<(), Memory>
-    requires nests { Lowers lowering.now.depth (F.pre lowering.now.nested) (F.post lowering.now.nested) }
-    ensures code { OnOk result (built builder.new ≡ made (inner_code lowering.now.tables.now.program.now
-        (tree_of part.now) (scope_of scopes.old) around) (built builder.old)) }
+    requires nests { Lowers lowering.now.depth (F.pre lowering.now.nested)
+        (F.post lowering.now.nested) }
+    ensures code { OnOk result (built builder.new ≡ made (inner_code
+        lowering.now.tables.now.program.now (tree_of part.now) (scope_of scopes.old) around)
+        (built builder.old)) }
     ensures scopes { OnOk result (scope_of scopes.new ≡ scope_of scopes.old) }
 {
     match tree_within(part) {
@@ -158,9 +160,11 @@ fn stated<
     around: Around,
     part: &'a Expr,
 ) -> Result<Around, Memory>
-    requires nests { Lowers lowering.now.depth (F.pre lowering.now.nested) (F.post lowering.now.nested) }
-    ensures code { OnOk result (built builder.new ≡ made (stated_code lowering.now.tables.now.program.now
-        (tree_of part.now) (scope_of scopes.old) around) (built builder.old)) }
+    requires nests { Lowers lowering.now.depth (F.pre lowering.now.nested)
+        (F.post lowering.now.nested) }
+    ensures code { OnOk result (built builder.new ≡ made (stated_code
+        lowering.now.tables.now.program.now (tree_of part.now) (scope_of scopes.old) around)
+        (built builder.old)) }
     ensures scopes { OnOk result (scope_of scopes.new ≡ l.scope_stated
         (e.statement_of (tree_of part.now)) (scope_of scopes.old)) }
     ensures around { IfOk result (λ r. r ≡ around_behind lowering.now.tables.now.program.now
@@ -207,9 +211,11 @@ fn more_statements<
     around: Around,
     parts: &'a [Expr],
 ) -> Result<(), Memory>
-    requires nests { Lowers lowering.now.depth (F.pre lowering.now.nested) (F.post lowering.now.nested) }
-    ensures code { OnOk result (built builder.new ≡ made (more_code lowering.now.tables.now.program.now
-        (trees (map tree_of parts.now)) (scope_of scopes.old) around) (built builder.old)) }
+    requires nests { Lowers lowering.now.depth (F.pre lowering.now.nested)
+        (F.post lowering.now.nested) }
+    ensures code { OnOk result (built builder.new ≡ made (more_code
+        lowering.now.tables.now.program.now (trees (map tree_of parts.now)) (scope_of
+        scopes.old) around) (built builder.old)) }
     ensures scopes { OnOk result (scope_of scopes.new ≡ l.scope_behind
         (trees (map tree_of parts.now)) (scope_of scopes.old)) }
 {
@@ -251,9 +257,11 @@ pub fn statements<
     around: Around,
     parts: &'a [Expr],
 ) -> Result<(), Memory>
-    requires nests { Lowers lowering.now.depth (F.pre lowering.now.nested) (F.post lowering.now.nested) }
-    ensures code { OnOk result (built builder.new ≡ made (statements_code lowering.now.tables.now.program.now
-        (trees (map tree_of parts.now)) (scope_of scopes.old) around) (built builder.old)) }
+    requires nests { Lowers lowering.now.depth (F.pre lowering.now.nested)
+        (F.post lowering.now.nested) }
+    ensures code { OnOk result (built builder.new ≡ made (statements_code
+        lowering.now.tables.now.program.now (trees (map tree_of parts.now)) (scope_of
+        scopes.old) around) (built builder.old)) }
     ensures scopes { OnOk result (scope_of scopes.new ≡ l.scope_behind
         (trees (map tree_of parts.now)) (scope_of scopes.old)) }
 {
@@ -286,9 +294,11 @@ pub fn own_statements<
     around: Around,
     parts: &'a [Expr],
 ) -> Result<(), Memory>
-    requires nests { Lowers lowering.now.depth (F.pre lowering.now.nested) (F.post lowering.now.nested) }
-    ensures code { OnOk result (built builder.new ≡ made (statements_code lowering.now.tables.now.program.now
-        (trees (map tree_of parts.now)) (scope_of scopes.old) around) (built builder.old)) }
+    requires nests { Lowers lowering.now.depth (F.pre lowering.now.nested)
+        (F.post lowering.now.nested) }
+    ensures code { OnOk result (built builder.new ≡ made (statements_code
+        lowering.now.tables.now.program.now (trees (map tree_of parts.now)) (scope_of
+        scopes.old) around) (built builder.old)) }
     ensures scopes { OnOk result (scope_of scopes.new ≡ scope_of scopes.old) }
 {
     let count = scopes.count()?;

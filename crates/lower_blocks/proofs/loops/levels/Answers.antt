@@ -20,7 +20,8 @@ parts-preserved g c = (
 
 pub returns-then-not-goes_on-clause-code : goal.returns-then-not-goes_on-clause-code
 returns-then-not-goes_on-clause-code g c = record {
-  leads = levels_cut c.args.lowering.now.tables.now.program.now c.args.parts.now c.parts.part-index c.args.around _ c.in_ok-goes_on.goes_on
+  leads = levels_cut c.args.lowering.now.tables.now.program.now c.args.parts.now c.parts.part-index c.args.around _
+      c.in_ok-goes_on.goes_on
       c.part-item.result (scope_of c.parts.scopes) _ c.parts.turns.items _ (built c.parts.builder) _ c.parts-test.true c.part-item.is
       c.if-not-goes_on.true c.in_ok-goes_on.ensures.code c.parts.invariant.1;
 }
@@ -32,6 +33,7 @@ returns-then-not-goes_on-clause-scopes g c =
 
 pub returns-clause-code : goal.returns-clause-code
 returns-clause-code g c = record {
-  leads = levels_done c.args.lowering.now.tables.now.program.now c.args.parts.now c.parts.part-index c.args.around _ (scope_of c.parts.scopes)
+  leads = levels_done c.args.lowering.now.tables.now.program.now c.args.parts.now c.parts.part-index c.args.around _
+      (scope_of c.parts.scopes)
       c.parts.turns.items (built c.parts.builder) c.parts-test.false c.parts.invariant.1;
 }

@@ -27,5 +27,6 @@ returns-in_ok-deferring-in-Defers-clause-code g c =
 pub returns-in_ok-stuck-in-Generates-clause-code : goal.returns-in_ok-stuck-in-Generates-clause-code
 returns-in_ok-stuck-in-Generates-clause-code g c =
     generator_stated c.args.lowering.now.tables.now.program.now (tree_of c.args.part.now) (scope_of c.args.scopes.now) c.args.around
-    (generator_view c.in-Generates.field-0) (built c.args.builder.now) _ (sym c.statement_of.ensures ∙ ap statement_view c.in-Generates.is)
+    (generator_view c.in-Generates.field-0) (built c.args.builder.now) _
+    (sym c.statement_of.ensures ∙ ap statement_view c.in-Generates.is)
     c.in_ok-stuck-in-Generates.ensures
