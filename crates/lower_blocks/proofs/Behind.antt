@@ -1,5 +1,5 @@
 -- The scope behind statements is cut back to what it was.
-use Rattle.std.proofs.Common.{◌≡◌, ℕ, suc, ◌+◌, ◌<◌, ◌≤◌, length, refl, ◌∙◌, arith}
+use Rattle.std.proofs.Common.{◌≡◌, ℕ, ◌≤◌, length, refl, ◌∙◌, arith}
 use Rattle.verse_tree.specs.Tree.{Trees, no_trees, more_trees}
 use Rattle.verse_meaning.specs.Residuals.{Binder, no_name, a_constant, a_variable}
 use Rattle.verse_meaning.specs.Evaluating.{Statement, statement_of, plain, defines, defers, generates}

@@ -26,7 +26,8 @@ module _ (p : Program) (sc : Scope) (a : Around) (cs : Trees) (t : Tree) where
       ∙ ap (if_alone_ended (length b.ops)) (g ∙ ap (λ k. made taken (held (made conditions k))) f)
       ∙ sym (if_alone_law conditions taken b) ∙ ap (λ e. made (form_code p (if_shape cs t e) 0 no_place sc a) b) (sym h)
 
-  pub if_else_by : (e : Option Tree) (other : Tree) (here : Scope) (n : ℕ) (b c d r : Built) → e ≡ Some other → here ≡ sc → n ≡ length b.ops →
+  pub if_else_by : (e : Option Tree) (other : Tree) (here : Scope) (n : ℕ) (b c d r : Built) → e ≡ Some other → here ≡ sc →
+      n ≡ length b.ops →
       c ≡ pushed (o.Try 0) b →
       d ≡ made (tree_code p t (scope_behind cs sc) a) (held (made (statements_code p cs sc (enclosed a)) c)) →
       r ≡ ended_here (length d.ops) (made (tree_code p other here a) (other_begun n d)) →
@@ -37,6 +38,6 @@ module _ (p : Program) (sc : Scope) (a : Around) (cs : Trees) (t : Tree) where
       is ∙ ap (λ k. ended_here (length d.ops) (made (tree_code p other k a) (other_begun n d))) s
       ∙ ap (λ k. ended_here (length d.ops) (made (tree_code p other sc a) (other_begun k d))) m
       ∙ ap (λ k. ended_here (length k.ops) (made (tree_code p other sc a) (other_begun (length b.ops) k)))
-        (g ∙ ap (λ k. made taken (held (made conditions k))) f)
+      (g ∙ ap (λ k. made taken (held (made conditions k))) f)
       ∙ sym (if_law conditions taken (tree_code p other sc a) b)
       ∙ ap (λ e. made (form_code p (if_shape cs t e) 0 no_place sc a) b) (sym h)

@@ -5,3 +5,7 @@ mod Behind
 mod Listed
 mod Ifs
 mod Variables
+mod Claused
+mod Leveled
+mod NoPatterns
+mod Arming

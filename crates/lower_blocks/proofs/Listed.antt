@@ -1,6 +1,5 @@
 -- Statements, one by one.
-use Rattle.std.proofs.Common.{◌≡◌, ℕ, ◌+◌, ◌<◌, ◌≤◌, List, [], ◌∷◌, length, map, get_or, Bool, refl, sym, ap, ◌∙◌, arith}
-use Rattle.verse_tree.specs.Tree.{Trees, no_trees, more_trees}
+use Rattle.std.proofs.Common.{◌≡◌, ℕ, ◌+◌, ◌<◌, ◌≤◌, List, [], ◌∷◌, length, map, get_or, Bool, sym, ap, ◌∙◌, arith}
 use Rattle.verse_tree.specs.View.{tree_of, trees}
 use Rattle.verse_tree.specs.declared.exprs.Expr.{Expr}
 use Rattle.verse_tree.specs.declared.programs.Program.{Program}
@@ -19,7 +18,7 @@ module _ (p : Program) (xs : List Expr) (i : ℕ) where
   more_at : (x : Expr) (sc : Scope) (a : Around) (b : Built) → i < length xs → x ≡ get_or xs i x →
       made (more_code p (left xs i) sc a) b ≡
       made (more_code p (left xs (i + 1)) (scope_stated (statement_of (tree_of x)) sc) (around_behind p (tree_of x) a))
-        (made (stated_code p (tree_of x) sc a) (pushed o.Drop b))
+      (made (stated_code p (tree_of x) sc a) (pushed o.Drop b))
   more_at x sc a b h e =
       let rest = more_code p (left xs (i + 1)) (scope_stated (statement_of (tree_of x)) sc) (around_behind p (tree_of x) a) in
       ap (λ ts. made (more_code p ts sc a) b) (left_next xs i x h e)
@@ -35,14 +34,15 @@ module _ (p : Program) (xs : List Expr) (i : ℕ) where
       ap (λ s. made (more_code p (left xs (i + 1)) s around) d) s
       ∙ ap (λ a. made (more_code p (left xs (i + 1)) (scope_stated (statement_of (tree_of x)) sc) a) d) k
       ∙ ap (made (more_code p (left xs (i + 1)) (scope_stated (statement_of (tree_of x)) sc) (around_behind p (tree_of x) a)))
-        (g ∙ ap (made (stated_code p (tree_of x) sc a)) f)
+      (g ∙ ap (made (stated_code p (tree_of x) sc a)) f)
       ∙ sym (more_at x sc a b h e) ∙ is
 
   pub more_done : (sc : Scope) (a : Around) (b all : Built) → length xs ≤ i → made (more_code p (left xs i) sc a) b ≡ all → b ≡ all
   more_done sc a b all h is = sym (ap (λ ts. made (more_code p ts sc a) b) (left_none xs i h) ∙ made_nothing b) ∙ is
 
 module _ (xs : List Expr) (i : ℕ) where
-  pub behind_next : (x : Expr) (sc there all : Scope) → i < length xs → x ≡ get_or xs i x → there ≡ scope_stated (statement_of (tree_of x)) sc →
+  pub behind_next : (x : Expr) (sc there all : Scope) → i < length xs → x ≡ get_or xs i x →
+      there ≡ scope_stated (statement_of (tree_of x)) sc →
       scope_behind (left xs i) sc ≡ all → scope_behind (left xs (i + 1)) there ≡ all
   behind_next x sc there all h e s is =
       ap (scope_behind (left xs (i + 1))) s ∙ sym (ap (λ ts. scope_behind ts sc) (left_next xs i x h e)) ∙ is
@@ -59,8 +59,8 @@ module _ (p : Program) (sc : Scope) (a : Around) where
   first_stated : (x : Expr) (rest : List Expr) (b : Built) →
       made (statements_code p (trees (map tree_of (x ∷ rest))) sc a) b ≡
       made (when (any_defer (trees (map tree_of (x ∷ rest)))) (one (o.Leave a.defers)))
-        (made (more_code p (trees (map tree_of rest)) (scope_stated (statement_of (tree_of x)) sc) (around_behind p (tree_of x) a))
-          (made (stated_code p (tree_of x) sc a) b))
+      (made (more_code p (trees (map tree_of rest)) (scope_stated (statement_of (tree_of x)) sc) (around_behind p (tree_of x) a))
+      (made (stated_code p (tree_of x) sc a) b))
   first_stated x rest b =
       let f = stated_code p (tree_of x) sc a in
       let g = more_code p (trees (map tree_of rest)) (scope_stated (statement_of (tree_of x)) sc) (around_behind p (tree_of x) a) in
@@ -68,14 +68,15 @@ module _ (p : Program) (sc : Scope) (a : Around) where
       made_then f (g then h) b ∙ made_then g h (made f b)
 
   pub some_statements : (xs rest : List Expr) (x : Expr) (there : Scope) (around : Around) (q : Bool) (b c d r : Built) → xs ≡ x ∷ rest →
-      c ≡ made (stated_code p (tree_of x) sc a) b → there ≡ scope_stated (statement_of (tree_of x)) sc → around ≡ around_behind p (tree_of x) a →
+      c ≡ made (stated_code p (tree_of x) sc a) b → there ≡ scope_stated (statement_of (tree_of x)) sc →
+      around ≡ around_behind p (tree_of x) a →
       d ≡ made (more_code p (trees (map tree_of rest)) there around) c → q ≡ any_defer (trees (map tree_of xs)) →
       r ≡ made (when q (one (o.Leave a.defers))) d → r ≡ made (statements_code p (trees (map tree_of xs)) sc a) b
   some_statements xs rest x there around q b c d r e f s k g h is =
       let ts = trees (map tree_of rest) in
       is ∙ ap (λ q. made (when q (one (o.Leave a.defers))) d) (h ∙ ap (λ ys. any_defer (trees (map tree_of ys))) e)
       ∙ ap (made (when (any_defer (trees (map tree_of (x ∷ rest)))) (one (o.Leave a.defers))))
-        (g ∙ ap (λ s. made (more_code p ts s around) c) s
-          ∙ ap (λ k. made (more_code p ts (scope_stated (statement_of (tree_of x)) sc) k) c) k
-          ∙ ap (made (more_code p ts (scope_stated (statement_of (tree_of x)) sc) (around_behind p (tree_of x) a))) f)
+      (g ∙ ap (λ s. made (more_code p ts s around) c) s
+      ∙ ap (λ k. made (more_code p ts (scope_stated (statement_of (tree_of x)) sc) k) c) k
+      ∙ ap (made (more_code p ts (scope_stated (statement_of (tree_of x)) sc) (around_behind p (tree_of x) a))) f)
       ∙ sym (first_stated x rest b) ∙ ap (λ ys. made (statements_code p (trees (map tree_of ys)) sc a) b) (sym e)

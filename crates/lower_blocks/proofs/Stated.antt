@@ -26,20 +26,23 @@ module _ (p : Program) (e : Tree) (sc : Scope) (a : Around) where
   plainly_stated b c h is =
       by_kind plain b c h (is ∙ sym (stated_plain (program_of p) (differ_of p) sc (tree_code p e sc a) (inner_code p e sc a) b))
 
-  pub definition_stated : (x : Binder) (here : Scope) (b c d : Built) → statement_of e ≡ defines x → c ≡ made (inner_code p e sc a) b → here ≡ sc →
+  pub definition_stated : (x : Binder) (here : Scope) (b c d : Built) → statement_of e ≡ defines x → c ≡ made (inner_code p e sc a) b →
+      here ≡ sc →
       d ≡ made (bind x (length here)) c → d ≡ made (stated_code p e sc a) b
   definition_stated x here b c d h f s g =
       by_kind (defines x) b d h
-        (g ∙ ap (λ k. made (bind x (length k)) c) s ∙ ap (made (bind x (length sc))) f
-          ∙ sym (stated_defines (program_of p) (differ_of p) sc x (tree_code p e sc a) (inner_code p e sc a) b))
+      (g ∙ ap (λ k. made (bind x (length k)) c) s ∙ ap (made (bind x (length sc))) f
+      ∙ sym (stated_defines (program_of p) (differ_of p) sc x (tree_code p e sc a) (inner_code p e sc a) b))
 
   pub defer_stated : (t : Tree) (n : ℕ) (b c d r : Built) → statement_of e ≡ defers t → n ≡ length b.ops → c ≡ pushed (o.Defer 0) b →
       d ≡ made (inner_code p e sc a) c → r ≡ defer_ended n d → r ≡ made (stated_code p e sc a) b
   defer_stated t n b c d r h m f g is =
       by_kind (defers t) b r h
-        (is ∙ ap (λ k. defer_ended k d) m ∙ ap (defer_ended (length b.ops)) (g ∙ ap (made (inner_code p e sc a)) f)
-          ∙ sym (stated_defers (program_of p) (differ_of p) sc t (tree_code p e sc a) (inner_code p e sc a) b))
+      (is ∙ ap (λ k. defer_ended k d) m ∙ ap (defer_ended (length b.ops)) (g ∙ ap (made (inner_code p e sc a)) f)
+      ∙ sym (stated_defers (program_of p) (differ_of p) sc t (tree_code p e sc a) (inner_code p e sc a) b))
 
-  pub generator_stated : (g : Generator) (b c : Built) → statement_of e ≡ generates g → c ≡ made stuck b → c ≡ made (stated_code p e sc a) b
+  pub generator_stated : (g : Generator) (b c : Built) → statement_of e ≡ generates g → c ≡ made stuck b →
+      c ≡ made (stated_code p e sc a) b
   generator_stated g b c h is =
-      by_kind (generates g) b c h (is ∙ sym (stated_generates (program_of p) (differ_of p) sc g (tree_code p e sc a) (inner_code p e sc a) b))
+      by_kind (generates g) b c h (is ∙ sym (stated_generates (program_of p) (differ_of p) sc g (tree_code p e sc a)
+      (inner_code p e sc a) b))

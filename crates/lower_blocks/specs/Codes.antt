@@ -1,15 +1,17 @@
 -- The code of the parts of forms with blocks, in a program.
+use Rattle.std.specs.Prelude.{ℕ, [], ◌∷◌, length}
 use Rattle.verse_base.specs.declared.places.Place.{Place}
-use Rattle.std.specs.Prelude.{[]}
-use Rattle.verse_tree.specs.Tree as t
 use Rattle.verse_tree.specs.Tree.{Tree, Trees, Shape}
+use Rattle.verse_tree.specs.Tree as t
 use Rattle.verse_tree.specs.declared.programs.Program.{Program}
 use Rattle.verse_meaning.specs.Programs.{program_of}
 use Rattle.verse_meaning.specs.Evaluating.{statement_of}
-use Rattle.lower_code.specs.Pieces.{Maker, stuck, ◌then◌}
-use Rattle.lower_code.specs.Scopes.{Scope}
+use Rattle.verse_code.specs.declared.operations.Op.TheVariants as o
+use Rattle.lower_code.specs.Pieces.{Maker, one, stuck, ◌then◌}
+use Rattle.lower_code.specs.Scopes.{Scope, hidden}
 use Rattle.lower_code.specs.Arounds.{up, enclosed}
-use Rattle.lower_code.specs.Lowering.{piece, inner, stated, around_stated, statements, more_statements}
+use Rattle.lower_code.specs.Lowering.{inner, stated, around_stated, claused, levels}
+use Rattle.lower_code.specs.Lowering.{statements, more_statements}
 use Rattle.lower_code.specs.declared.arounds.Around.{Around}
 use Rattle.lower_lookup.specs.Types.{differ_of}
 use Rattle.lower_parts.specs.Parts.{tree_code}
@@ -27,7 +29,7 @@ abbrev pub variable_shape : Tree → Shape
 variable_shape = t.Shape.variable [] t.Written.void
 
 module _ (p : Program) where
-  -- what stands in a statement or a clause
+  -- what stands in a statement or a clause, and by what it is
   abbrev pub inner_code : Tree → Scope → Around → Maker
   inner_code = inner (program_of p) (differ_of p)
 
@@ -39,7 +41,9 @@ module _ (p : Program) where
 
   -- a statement; statements, and those behind the first
   abbrev pub stated_code : Tree → Scope → Around → Maker
-  stated_code t sc a = stated (program_of p) (differ_of p) (statement_of t) sc (tree_code p t sc a) (inner_code t sc a)
+  stated_code t sc a =
+      stated (program_of p) (differ_of p) (statement_of t) sc (tree_code p t sc a)
+      (inner_code t sc a)
 
   -- where the statements behind it stand
   abbrev pub around_behind : Tree → Around → Around
@@ -50,3 +54,20 @@ module _ (p : Program) where
 
   abbrev pub more_code : Trees → Scope → Around → Maker
   more_code = more_statements (program_of p) (differ_of p)
+
+  -- a clause of a `for` with what comes behind it, and clauses with what comes behind the last
+  abbrev pub claused_code : Tree → Scope → Around → (rest : Scope → Maker) → Maker
+  claused_code t sc a rest =
+      claused (program_of p) (differ_of p) (statement_of t) sc (tree_code p t sc a)
+      (inner_code t sc a) rest
+
+  abbrev pub levels_code : Trees → Scope → Around → (rest : Scope → Maker) → Maker
+  levels_code cs sc a rest = levels (program_of p) (differ_of p) cs sc a rest
+
+  -- the body of a `for` whose result is in local l, and whose place has number m
+  abbrev pub body_code : Tree → Around → (l m : ℕ) → Scope → Maker
+  body_code t a l m sc = one o.Commit then tree_code p t sc a then one (o.Append l m)
+
+  -- what stands in the attempt of a `for`
+  abbrev pub for_code : Trees → Tree → Scope → Around → (m : ℕ) → Maker
+  for_code cs t sc a m = levels_code cs (hidden ∷ sc) (enclosed a) (body_code t a (length sc) m)

@@ -1,2 +1,4 @@
 pub mod Insides
 pub mod Codes
+pub mod Levels
+pub mod Arms

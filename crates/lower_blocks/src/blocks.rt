@@ -22,7 +22,14 @@ use verse_tree::exprs::Expr;
 /// Statements between Open and Close.
 pub fn block<
     'a,
-    F: Fn(&'a Tables<'a>, u32, &mut Builder, &mut Scopes<'a>, Around, &'a Expr) -> Result<(), Memory>,
+    F: Fn(
+        &'a Tables<'a>,
+        u32,
+        &mut Builder,
+        &mut Scopes<'a>,
+        Around,
+        &'a Expr,
+    ) -> Result<(), Memory>,
 >(
     lowering: &Lowering<'a, F>,
     builder: &mut Builder,
@@ -30,10 +37,11 @@ pub fn block<
     around: Around,
     parts: &'a [Expr],
 ) -> Result<(), Memory>
-    requires nests { Lowers lowering.now.depth (F.pre lowering.now.nested) (F.post lowering.now.nested) }
-    ensures code { OnOk result (built builder.new ≡ made (form_code lowering.now.tables.now.program.now
-        (t.Shape.block (trees (map tree_of parts.now))) 0 no_place (scope_of scopes.old) around)
-        (built builder.old)) }
+    requires nests { Lowers lowering.now.depth (F.pre lowering.now.nested)
+        (F.post lowering.now.nested) }
+    ensures code { OnOk result (built builder.new ≡ made (form_code
+        lowering.now.tables.now.program.now (t.Shape.block (trees (map tree_of parts.now))) 0
+        no_place (scope_of scopes.old) around) (built builder.old)) }
     ensures scopes { OnOk result (scope_of scopes.new ≡ scope_of scopes.old) }
 {
     own_statements(lowering, builder, scopes, around, parts)?;
@@ -44,7 +52,14 @@ pub fn block<
 #[tactic(auto, using(lower_expr::proofs::Laws::made_then))]
 pub fn constant<
     'a,
-    F: Fn(&'a Tables<'a>, u32, &mut Builder, &mut Scopes<'a>, Around, &'a Expr) -> Result<(), Memory>,
+    F: Fn(
+        &'a Tables<'a>,
+        u32,
+        &mut Builder,
+        &mut Scopes<'a>,
+        Around,
+        &'a Expr,
+    ) -> Result<(), Memory>,
 >(
     lowering: &Lowering<'a, F>,
     builder: &mut Builder,
@@ -52,10 +67,11 @@ pub fn constant<
     around: Around,
     value: &'a Expr,
 ) -> Result<(), Memory>
-    requires nests { Lowers lowering.now.depth (F.pre lowering.now.nested) (F.post lowering.now.nested) }
-    ensures code { OnOk result (built builder.new ≡ made (form_code lowering.now.tables.now.program.now
-        (constant_shape (tree_of value.now)) 0 no_place (scope_of scopes.old) around)
-        (built builder.old)) }
+    requires nests { Lowers lowering.now.depth (F.pre lowering.now.nested)
+        (F.post lowering.now.nested) }
+    ensures code { OnOk result (built builder.new ≡ made (form_code
+        lowering.now.tables.now.program.now (constant_shape (tree_of value.now)) 0 no_place
+        (scope_of scopes.old) around) (built builder.old)) }
     ensures scopes { OnOk result (scope_of scopes.new ≡ scope_of scopes.old) }
 {
     let local = scopes.count()?;
@@ -67,7 +83,14 @@ pub fn constant<
 /// The value of a variable, which is defined where no name is seen behind it.
 pub fn variable<
     'a,
-    F: Fn(&'a Tables<'a>, u32, &mut Builder, &mut Scopes<'a>, Around, &'a Expr) -> Result<(), Memory>,
+    F: Fn(
+        &'a Tables<'a>,
+        u32,
+        &mut Builder,
+        &mut Scopes<'a>,
+        Around,
+        &'a Expr,
+    ) -> Result<(), Memory>,
 >(
     lowering: &Lowering<'a, F>,
     builder: &mut Builder,
@@ -76,10 +99,11 @@ pub fn variable<
     place: Place,
     value: &'a Expr,
 ) -> Result<(), Memory>
-    requires nests { Lowers lowering.now.depth (F.pre lowering.now.nested) (F.post lowering.now.nested) }
-    ensures code { OnOk result (built builder.new ≡ made (form_code lowering.now.tables.now.program.now
-        (variable_shape (tree_of value.now)) 0 place (scope_of scopes.old) around)
-        (built builder.old)) }
+    requires nests { Lowers lowering.now.depth (F.pre lowering.now.nested)
+        (F.post lowering.now.nested) }
+    ensures code { OnOk result (built builder.new ≡ made (form_code
+        lowering.now.tables.now.program.now (variable_shape (tree_of value.now)) 0 place
+        (scope_of scopes.old) around) (built builder.old)) }
     ensures scopes { OnOk result (scope_of scopes.new ≡ scope_of scopes.old) }
 {
     let local = scopes.count()?;
@@ -92,7 +116,14 @@ pub fn variable<
 #[tactic(auto, using(lower_expr::proofs::Laws::made_then))]
 pub fn returned<
     'a,
-    F: Fn(&'a Tables<'a>, u32, &mut Builder, &mut Scopes<'a>, Around, &'a Expr) -> Result<(), Memory>,
+    F: Fn(
+        &'a Tables<'a>,
+        u32,
+        &mut Builder,
+        &mut Scopes<'a>,
+        Around,
+        &'a Expr,
+    ) -> Result<(), Memory>,
 >(
     lowering: &Lowering<'a, F>,
     builder: &mut Builder,
@@ -100,10 +131,11 @@ pub fn returned<
     around: Around,
     value: &'a Expr,
 ) -> Result<(), Memory>
-    requires nests { Lowers lowering.now.depth (F.pre lowering.now.nested) (F.post lowering.now.nested) }
-    ensures code { OnOk result (built builder.new ≡ made (form_code lowering.now.tables.now.program.now
-        (t.Shape.returned (tree_of value.now)) 0 no_place (scope_of scopes.old) around)
-        (built builder.old)) }
+    requires nests { Lowers lowering.now.depth (F.pre lowering.now.nested)
+        (F.post lowering.now.nested) }
+    ensures code { OnOk result (built builder.new ≡ made (form_code
+        lowering.now.tables.now.program.now (t.Shape.returned (tree_of value.now)) 0 no_place
+        (scope_of scopes.old) around) (built builder.old)) }
     ensures scopes { OnOk result (scope_of scopes.new ≡ scope_of scopes.old) }
 {
     lowering.part(builder, scopes, around, value)?;

@@ -17,8 +17,10 @@ use crate::statements::{own_statements, statements};
 use lower_code::arounds::Around;
 use lower_expr::builder::Builder;
 use lower_expr::scopes::Scopes;
-use lower_fail::attempts::{and_mid, if_alone_end, if_else, if_then, jump_end, logic_end};
-use lower_fail::attempts::{not_end, option_end, or_mid, try_begin};
+use lower_fail::attempts::{
+    and_mid, if_alone_end, if_else, if_then, jump_end, logic_end, not_end, option_end, or_mid,
+    try_begin,
+};
 use lower_items::tables::Tables;
 use lower_parts::lowering::Lowering;
 use verse_base::places::Place;
@@ -29,7 +31,14 @@ use verse_tree::exprs::{Expr, IfParts, Two};
 #[tactic(auto, using(lower_fail::proofs::Forms::not_law))]
 pub fn negation<
     'a,
-    F: Fn(&'a Tables<'a>, u32, &mut Builder, &mut Scopes<'a>, Around, &'a Expr) -> Result<(), Memory>,
+    F: Fn(
+        &'a Tables<'a>,
+        u32,
+        &mut Builder,
+        &mut Scopes<'a>,
+        Around,
+        &'a Expr,
+    ) -> Result<(), Memory>,
 >(
     lowering: &Lowering<'a, F>,
     builder: &mut Builder,
@@ -37,10 +46,11 @@ pub fn negation<
     around: Around,
     part: &'a Expr,
 ) -> Result<(), Memory>
-    requires nests { Lowers lowering.now.depth (F.pre lowering.now.nested) (F.post lowering.now.nested) }
-    ensures code { OnOk result (built builder.new ≡ made (form_code lowering.now.tables.now.program.now
-        (t.Shape.negation (tree_of part.now)) 0 no_place (scope_of scopes.old) around)
-        (built builder.old)) }
+    requires nests { Lowers lowering.now.depth (F.pre lowering.now.nested)
+        (F.post lowering.now.nested) }
+    ensures code { OnOk result (built builder.new ≡ made (form_code
+        lowering.now.tables.now.program.now (t.Shape.negation (tree_of part.now)) 0 no_place
+        (scope_of scopes.old) around) (built builder.old)) }
     ensures scopes { OnOk result (scope_of scopes.new ≡ scope_of scopes.old) }
 {
     let begun = try_begin(builder)?;
@@ -52,7 +62,14 @@ pub fn negation<
 #[tactic(auto, using(lower_fail::proofs::Forms::or_law))]
 pub fn or<
     'a,
-    F: Fn(&'a Tables<'a>, u32, &mut Builder, &mut Scopes<'a>, Around, &'a Expr) -> Result<(), Memory>,
+    F: Fn(
+        &'a Tables<'a>,
+        u32,
+        &mut Builder,
+        &mut Scopes<'a>,
+        Around,
+        &'a Expr,
+    ) -> Result<(), Memory>,
 >(
     lowering: &Lowering<'a, F>,
     builder: &mut Builder,
@@ -60,10 +77,11 @@ pub fn or<
     around: Around,
     two: &'a Two,
 ) -> Result<(), Memory>
-    requires nests { Lowers lowering.now.depth (F.pre lowering.now.nested) (F.post lowering.now.nested) }
-    ensures code { OnOk result (built builder.new ≡ made (form_code lowering.now.tables.now.program.now
-        (t.Shape.chained op.Or (two_of two.now).0 (two_of two.now).1) 0 no_place
-        (scope_of scopes.old) around) (built builder.old)) }
+    requires nests { Lowers lowering.now.depth (F.pre lowering.now.nested)
+        (F.post lowering.now.nested) }
+    ensures code { OnOk result (built builder.new ≡ made (form_code
+        lowering.now.tables.now.program.now (t.Shape.chained op.Or (two_of two.now).0 (two_of
+        two.now).1) 0 no_place (scope_of scopes.old) around) (built builder.old)) }
     ensures scopes { OnOk result (scope_of scopes.new ≡ scope_of scopes.old) }
 {
     let begun = try_begin(builder)?;
@@ -77,7 +95,14 @@ pub fn or<
 #[tactic(auto, using(lower_expr::proofs::Laws::made_then, lower_expr::proofs::Laws::made_one))]
 pub fn and<
     'a,
-    F: Fn(&'a Tables<'a>, u32, &mut Builder, &mut Scopes<'a>, Around, &'a Expr) -> Result<(), Memory>,
+    F: Fn(
+        &'a Tables<'a>,
+        u32,
+        &mut Builder,
+        &mut Scopes<'a>,
+        Around,
+        &'a Expr,
+    ) -> Result<(), Memory>,
 >(
     lowering: &Lowering<'a, F>,
     builder: &mut Builder,
@@ -85,10 +110,11 @@ pub fn and<
     around: Around,
     two: &'a Two,
 ) -> Result<(), Memory>
-    requires nests { Lowers lowering.now.depth (F.pre lowering.now.nested) (F.post lowering.now.nested) }
-    ensures code { OnOk result (built builder.new ≡ made (form_code lowering.now.tables.now.program.now
-        (t.Shape.chained op.And (two_of two.now).0 (two_of two.now).1) 0 no_place
-        (scope_of scopes.old) around) (built builder.old)) }
+    requires nests { Lowers lowering.now.depth (F.pre lowering.now.nested)
+        (F.post lowering.now.nested) }
+    ensures code { OnOk result (built builder.new ≡ made (form_code
+        lowering.now.tables.now.program.now (t.Shape.chained op.And (two_of two.now).0 (two_of
+        two.now).1) 0 no_place (scope_of scopes.old) around) (built builder.old)) }
     ensures scopes { OnOk result (scope_of scopes.new ≡ scope_of scopes.old) }
 {
     lowering.part(builder, scopes, around, left(two))?;
@@ -100,7 +126,14 @@ pub fn and<
 #[tactic(auto, using(crate::proofs::Behind::cut_behind))]
 fn if_taken<
     'a,
-    F: Fn(&'a Tables<'a>, u32, &mut Builder, &mut Scopes<'a>, Around, &'a Expr) -> Result<(), Memory>,
+    F: Fn(
+        &'a Tables<'a>,
+        u32,
+        &mut Builder,
+        &mut Scopes<'a>,
+        Around,
+        &'a Expr,
+    ) -> Result<(), Memory>,
 >(
     lowering: &Lowering<'a, F>,
     builder: &mut Builder,
@@ -108,15 +141,23 @@ fn if_taken<
     around: Around,
     parts: &'a IfParts,
 ) -> Result<(), Memory>
-    requires nests { Lowers lowering.now.depth (F.pre lowering.now.nested) (F.post lowering.now.nested) }
-    ensures code { OnOk result (built builder.new ≡ made (tree_code lowering.now.tables.now.program.now
-        (if_of parts.now).taken (scope_behind (trees (if_of parts.now).conditions) (scope_of scopes.old)) around)
-        (held (made (statements_code lowering.now.tables.now.program.now (trees (if_of parts.now).conditions)
-        (scope_of scopes.old) (a.enclosed around)) (built builder.old)))) }
+    requires nests { Lowers lowering.now.depth (F.pre lowering.now.nested)
+        (F.post lowering.now.nested) }
+    ensures code { OnOk result (built builder.new ≡ made (tree_code
+        lowering.now.tables.now.program.now (if_of parts.now).taken (scope_behind (trees (if_of
+        parts.now).conditions) (scope_of scopes.old)) around) (held (made (statements_code
+        lowering.now.tables.now.program.now (trees (if_of parts.now).conditions) (scope_of
+        scopes.old) (a.enclosed around)) (built builder.old)))) }
     ensures scopes { OnOk result (scope_of scopes.new ≡ scope_of scopes.old) }
 {
     let count = scopes.count()?;
-    statements(lowering, builder, scopes, around.enclosed(), conditions(parts))?;
+    statements(
+        lowering,
+        builder,
+        scopes,
+        around.enclosed(),
+        conditions(parts),
+    )?;
     if_then(builder)?;
     lowering.part(builder, scopes, around, taken(parts))?;
     scopes.cut(count);
@@ -126,7 +167,14 @@ fn if_taken<
 /// The other part of an `if` whose attempt has this index.
 fn if_other<
     'a,
-    F: Fn(&'a Tables<'a>, u32, &mut Builder, &mut Scopes<'a>, Around, &'a Expr) -> Result<(), Memory>,
+    F: Fn(
+        &'a Tables<'a>,
+        u32,
+        &mut Builder,
+        &mut Scopes<'a>,
+        Around,
+        &'a Expr,
+    ) -> Result<(), Memory>,
 >(
     lowering: &Lowering<'a, F>,
     builder: &mut Builder,
@@ -135,10 +183,11 @@ fn if_other<
     begun: u32,
     part: &'a Expr,
 ) -> Result<(), Memory>
-    requires nests { Lowers lowering.now.depth (F.pre lowering.now.nested) (F.post lowering.now.nested) }
+    requires nests { Lowers lowering.now.depth (F.pre lowering.now.nested)
+        (F.post lowering.now.nested) }
     ensures code { OnOk result (built builder.new ≡ ended_here (length (built builder.old).ops)
-        (made (tree_code lowering.now.tables.now.program.now (tree_of part.now) (scope_of scopes.old) around)
-        (other_begun begun (built builder.old)))) }
+        (made (tree_code lowering.now.tables.now.program.now (tree_of part.now) (scope_of
+        scopes.old) around) (other_begun begun (built builder.old)))) }
     ensures scopes { OnOk result (scope_of scopes.new ≡ scope_of scopes.old) }
 {
     let jump = if_else(builder, begun)?;
@@ -150,7 +199,14 @@ fn if_other<
 /// `if`, with or without `else`
 pub fn if_form<
     'a,
-    F: Fn(&'a Tables<'a>, u32, &mut Builder, &mut Scopes<'a>, Around, &'a Expr) -> Result<(), Memory>,
+    F: Fn(
+        &'a Tables<'a>,
+        u32,
+        &mut Builder,
+        &mut Scopes<'a>,
+        Around,
+        &'a Expr,
+    ) -> Result<(), Memory>,
 >(
     lowering: &Lowering<'a, F>,
     builder: &mut Builder,
@@ -158,10 +214,12 @@ pub fn if_form<
     around: Around,
     parts: &'a IfParts,
 ) -> Result<(), Memory>
-    requires nests { Lowers lowering.now.depth (F.pre lowering.now.nested) (F.post lowering.now.nested) }
-    ensures code { OnOk result (built builder.new ≡ made (form_code lowering.now.tables.now.program.now
-        (if_shape (trees (if_of parts.now).conditions) (if_of parts.now).taken (if_of parts.now).otherwise)
-        0 no_place (scope_of scopes.old) around) (built builder.old)) }
+    requires nests { Lowers lowering.now.depth (F.pre lowering.now.nested)
+        (F.post lowering.now.nested) }
+    ensures code { OnOk result (built builder.new ≡ made (form_code
+        lowering.now.tables.now.program.now (if_shape (trees (if_of parts.now).conditions)
+        (if_of parts.now).taken (if_of parts.now).otherwise) 0 no_place (scope_of scopes.old)
+        around) (built builder.old)) }
     ensures scopes { OnOk result (scope_of scopes.new ≡ scope_of scopes.old) }
 {
     let begun = try_begin(builder)?;
@@ -177,7 +235,14 @@ pub fn if_form<
 #[tactic(auto, using(lower_fail::proofs::Forms::option_law))]
 pub fn option<
     'a,
-    F: Fn(&'a Tables<'a>, u32, &mut Builder, &mut Scopes<'a>, Around, &'a Expr) -> Result<(), Memory>,
+    F: Fn(
+        &'a Tables<'a>,
+        u32,
+        &mut Builder,
+        &mut Scopes<'a>,
+        Around,
+        &'a Expr,
+    ) -> Result<(), Memory>,
 >(
     lowering: &Lowering<'a, F>,
     builder: &mut Builder,
@@ -186,10 +251,11 @@ pub fn option<
     place: Place,
     parts: &'a [Expr],
 ) -> Result<(), Memory>
-    requires nests { Lowers lowering.now.depth (F.pre lowering.now.nested) (F.post lowering.now.nested) }
-    ensures code { OnOk result (built builder.new ≡ made (form_code lowering.now.tables.now.program.now
-        (t.Shape.option (trees (map tree_of parts.now))) 0 place (scope_of scopes.old) around)
-        (built builder.old)) }
+    requires nests { Lowers lowering.now.depth (F.pre lowering.now.nested)
+        (F.post lowering.now.nested) }
+    ensures code { OnOk result (built builder.new ≡ made (form_code
+        lowering.now.tables.now.program.now (t.Shape.option (trees (map tree_of parts.now))) 0
+        place (scope_of scopes.old) around) (built builder.old)) }
     ensures scopes { OnOk result (scope_of scopes.new ≡ scope_of scopes.old) }
 {
     let begun = try_begin(builder)?;
@@ -201,7 +267,14 @@ pub fn option<
 #[tactic(auto, using(lower_fail::proofs::Forms::logic_law))]
 pub fn logic<
     'a,
-    F: Fn(&'a Tables<'a>, u32, &mut Builder, &mut Scopes<'a>, Around, &'a Expr) -> Result<(), Memory>,
+    F: Fn(
+        &'a Tables<'a>,
+        u32,
+        &mut Builder,
+        &mut Scopes<'a>,
+        Around,
+        &'a Expr,
+    ) -> Result<(), Memory>,
 >(
     lowering: &Lowering<'a, F>,
     builder: &mut Builder,
@@ -209,10 +282,11 @@ pub fn logic<
     around: Around,
     parts: &'a [Expr],
 ) -> Result<(), Memory>
-    requires nests { Lowers lowering.now.depth (F.pre lowering.now.nested) (F.post lowering.now.nested) }
-    ensures code { OnOk result (built builder.new ≡ made (form_code lowering.now.tables.now.program.now
-        (t.Shape.logic (trees (map tree_of parts.now))) 0 no_place (scope_of scopes.old) around)
-        (built builder.old)) }
+    requires nests { Lowers lowering.now.depth (F.pre lowering.now.nested)
+        (F.post lowering.now.nested) }
+    ensures code { OnOk result (built builder.new ≡ made (form_code
+        lowering.now.tables.now.program.now (t.Shape.logic (trees (map tree_of parts.now))) 0
+        no_place (scope_of scopes.old) around) (built builder.old)) }
     ensures scopes { OnOk result (scope_of scopes.new ≡ scope_of scopes.old) }
 {
     let begun = try_begin(builder)?;

@@ -22,8 +22,8 @@ use lower_code::arounds::Around;
 use lower_expr::builder::Builder;
 use lower_expr::endings::Ending;
 use lower_expr::scopes::{Scopes, Slot};
-use lower_items::tables::Tables;
 use lower_fail::attempts::{defer_begin, defer_end};
+use lower_items::tables::Tables;
 use lower_lookup::statements::{Binder, Statement, any_defer, statement_of};
 use lower_parts::lowering::Lowering;
 use verse_base::refusals::Memory;
@@ -68,7 +68,14 @@ fn tree_within<'a>(part: &'a Expr) -> Within<'a>
 /// The code of what stands in a statement or a clause.
 pub fn inner<
     'a,
-    F: Fn(&'a Tables<'a>, u32, &mut Builder, &mut Scopes<'a>, Around, &'a Expr) -> Result<(), Memory>,
+    F: Fn(
+        &'a Tables<'a>,
+        u32,
+        &mut Builder,
+        &mut Scopes<'a>,
+        Around,
+        &'a Expr,
+    ) -> Result<(), Memory>,
 >(
     lowering: &Lowering<'a, F>,
     builder: &mut Builder,
@@ -76,9 +83,11 @@ pub fn inner<
     around: Around,
     part: &'a Expr,
 ) -> Result<(), Memory>
-    requires nests { Lowers lowering.now.depth (F.pre lowering.now.nested) (F.post lowering.now.nested) }
-    ensures code { OnOk result (built builder.new ≡ made (inner_code lowering.now.tables.now.program.now
-        (tree_of part.now) (scope_of scopes.old) around) (built builder.old)) }
+    requires nests { Lowers lowering.now.depth (F.pre lowering.now.nested)
+        (F.post lowering.now.nested) }
+    ensures code { OnOk result (built builder.new ≡ made (inner_code
+        lowering.now.tables.now.program.now (tree_of part.now) (scope_of scopes.old) around)
+        (built builder.old)) }
     ensures scopes { OnOk result (scope_of scopes.new ≡ scope_of scopes.old) }
 {
     match tree_within(part) {
@@ -136,7 +145,14 @@ pub fn bind<'a>(
 /// A statement; where the statements behind it stand.
 fn stated<
     'a,
-    F: Fn(&'a Tables<'a>, u32, &mut Builder, &mut Scopes<'a>, Around, &'a Expr) -> Result<(), Memory>,
+    F: Fn(
+        &'a Tables<'a>,
+        u32,
+        &mut Builder,
+        &mut Scopes<'a>,
+        Around,
+        &'a Expr,
+    ) -> Result<(), Memory>,
 >(
     lowering: &Lowering<'a, F>,
     builder: &mut Builder,
@@ -144,9 +160,11 @@ fn stated<
     around: Around,
     part: &'a Expr,
 ) -> Result<Around, Memory>
-    requires nests { Lowers lowering.now.depth (F.pre lowering.now.nested) (F.post lowering.now.nested) }
-    ensures code { OnOk result (built builder.new ≡ made (stated_code lowering.now.tables.now.program.now
-        (tree_of part.now) (scope_of scopes.old) around) (built builder.old)) }
+    requires nests { Lowers lowering.now.depth (F.pre lowering.now.nested)
+        (F.post lowering.now.nested) }
+    ensures code { OnOk result (built builder.new ≡ made (stated_code
+        lowering.now.tables.now.program.now (tree_of part.now) (scope_of scopes.old) around)
+        (built builder.old)) }
     ensures scopes { OnOk result (scope_of scopes.new ≡ l.scope_stated
         (e.statement_of (tree_of part.now)) (scope_of scopes.old)) }
     ensures around { IfOk result (λ r. r ≡ around_behind lowering.now.tables.now.program.now
@@ -178,7 +196,14 @@ fn stated<
 /// Statements behind another.
 fn more_statements<
     'a,
-    F: Fn(&'a Tables<'a>, u32, &mut Builder, &mut Scopes<'a>, Around, &'a Expr) -> Result<(), Memory>,
+    F: Fn(
+        &'a Tables<'a>,
+        u32,
+        &mut Builder,
+        &mut Scopes<'a>,
+        Around,
+        &'a Expr,
+    ) -> Result<(), Memory>,
 >(
     lowering: &Lowering<'a, F>,
     builder: &mut Builder,
@@ -186,9 +211,11 @@ fn more_statements<
     around: Around,
     parts: &'a [Expr],
 ) -> Result<(), Memory>
-    requires nests { Lowers lowering.now.depth (F.pre lowering.now.nested) (F.post lowering.now.nested) }
-    ensures code { OnOk result (built builder.new ≡ made (more_code lowering.now.tables.now.program.now
-        (trees (map tree_of parts.now)) (scope_of scopes.old) around) (built builder.old)) }
+    requires nests { Lowers lowering.now.depth (F.pre lowering.now.nested)
+        (F.post lowering.now.nested) }
+    ensures code { OnOk result (built builder.new ≡ made (more_code
+        lowering.now.tables.now.program.now (trees (map tree_of parts.now)) (scope_of
+        scopes.old) around) (built builder.old)) }
     ensures scopes { OnOk result (scope_of scopes.new ≡ l.scope_behind
         (trees (map tree_of parts.now)) (scope_of scopes.old)) }
 {
@@ -215,7 +242,14 @@ fn leave(builder: &mut Builder, around: Around, defers: bool) -> Result<(), Memo
 /// Statements or conditions, whose names stay.
 pub fn statements<
     'a,
-    F: Fn(&'a Tables<'a>, u32, &mut Builder, &mut Scopes<'a>, Around, &'a Expr) -> Result<(), Memory>,
+    F: Fn(
+        &'a Tables<'a>,
+        u32,
+        &mut Builder,
+        &mut Scopes<'a>,
+        Around,
+        &'a Expr,
+    ) -> Result<(), Memory>,
 >(
     lowering: &Lowering<'a, F>,
     builder: &mut Builder,
@@ -223,9 +257,11 @@ pub fn statements<
     around: Around,
     parts: &'a [Expr],
 ) -> Result<(), Memory>
-    requires nests { Lowers lowering.now.depth (F.pre lowering.now.nested) (F.post lowering.now.nested) }
-    ensures code { OnOk result (built builder.new ≡ made (statements_code lowering.now.tables.now.program.now
-        (trees (map tree_of parts.now)) (scope_of scopes.old) around) (built builder.old)) }
+    requires nests { Lowers lowering.now.depth (F.pre lowering.now.nested)
+        (F.post lowering.now.nested) }
+    ensures code { OnOk result (built builder.new ≡ made (statements_code
+        lowering.now.tables.now.program.now (trees (map tree_of parts.now)) (scope_of
+        scopes.old) around) (built builder.old)) }
     ensures scopes { OnOk result (scope_of scopes.new ≡ l.scope_behind
         (trees (map tree_of parts.now)) (scope_of scopes.old)) }
 {
@@ -243,7 +279,14 @@ pub fn statements<
 #[tactic(auto, using(crate::proofs::Behind::cut_behind))]
 pub fn own_statements<
     'a,
-    F: Fn(&'a Tables<'a>, u32, &mut Builder, &mut Scopes<'a>, Around, &'a Expr) -> Result<(), Memory>,
+    F: Fn(
+        &'a Tables<'a>,
+        u32,
+        &mut Builder,
+        &mut Scopes<'a>,
+        Around,
+        &'a Expr,
+    ) -> Result<(), Memory>,
 >(
     lowering: &Lowering<'a, F>,
     builder: &mut Builder,
@@ -251,9 +294,11 @@ pub fn own_statements<
     around: Around,
     parts: &'a [Expr],
 ) -> Result<(), Memory>
-    requires nests { Lowers lowering.now.depth (F.pre lowering.now.nested) (F.post lowering.now.nested) }
-    ensures code { OnOk result (built builder.new ≡ made (statements_code lowering.now.tables.now.program.now
-        (trees (map tree_of parts.now)) (scope_of scopes.old) around) (built builder.old)) }
+    requires nests { Lowers lowering.now.depth (F.pre lowering.now.nested)
+        (F.post lowering.now.nested) }
+    ensures code { OnOk result (built builder.new ≡ made (statements_code
+        lowering.now.tables.now.program.now (trees (map tree_of parts.now)) (scope_of
+        scopes.old) around) (built builder.old)) }
     ensures scopes { OnOk result (scope_of scopes.new ≡ scope_of scopes.old) }
 {
     let count = scopes.count()?;

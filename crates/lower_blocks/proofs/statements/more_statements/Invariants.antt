@@ -12,4 +12,5 @@ abbrev pub invariant-parts : goal.invariant-parts
 invariant-parts g l =
     (scope_behind (left l.parts l.part-index) (scope_of l.scopes) ≡ scope_behind (trees (map tree_of l.parts)) (scope_of l.fn.scopes))
     × (made (more_code l.lowering.tables.now.program.now (left l.parts l.part-index) (scope_of l.scopes) l.behind) (built l.builder)
-        ≡ made (more_code l.lowering.tables.now.program.now (trees (map tree_of l.parts)) (scope_of l.fn.scopes) l.fn.around) (built l.fn.builder))
+    ≡ made (more_code l.lowering.tables.now.program.now (trees (map tree_of l.parts)) (scope_of l.fn.scopes) l.fn.around)
+    (built l.fn.builder))

@@ -1,0 +1,28 @@
+-- The clauses of a `for`, whose generators stay open while those behind them are lowered.
+use Rattle.std.specs.Prelude.{◌≡◌, List, ◌++◌, Bool, cond}
+use Rattle.verse_meaning.specs.Evaluating.{Statement, plain, defines, defers, generates}
+use Rattle.lower_code.specs.Pieces.{Maker}
+use Rattle.lower_code.specs.Scopes.{Scope}
+use Rattle.lower_code.specs.Lowering.{with_binder, with_generator}
+use Rattle.lower_expr.specs.Building.{Built, made}
+use Rattle.lower_fail.specs.declared.loops.Turn.{Turn}
+use Rattle.lower_fail.specs.Attempts.{turns_closed}
+
+-- A code f of what is left, from b on, with the generators ts open: it leads to c with the
+-- generators us open, where what is left stands, in the scope sc; or nothing stands there, where
+-- the code does not go on.
+pub record Leads (f : (Scope → Maker) → Maker) (goes_on : Bool) (ts us : List Turn) (sc : Scope)
+    (b c : Built) : Type 0 where
+  pub leads : (rest : Scope → Maker) →
+      turns_closed us (cond goes_on (made (rest sc) c) c) ≡ turns_closed ts (made (f rest) b)
+
+-- the scope behind a clause
+abbrev pub scope_claused : Statement → Scope → Scope
+scope_claused plain sc = sc
+scope_claused (defines b) sc = with_binder b sc
+scope_claused (defers d) sc = sc
+scope_claused (generates g) sc = with_generator g sc
+
+-- a scope with more of it
+abbrev pub Extends : (old new : Scope) → Type 0
+Extends old new = (added : Scope) × (new ≡ added ++ old)
