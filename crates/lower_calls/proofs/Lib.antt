@@ -2,6 +2,8 @@ mod Steps
 mod Arms
 mod NoParts
 mod Halves
+mod Aiming
+mod Unders
 mod RuleSets
 mod Objects
 mod Seen

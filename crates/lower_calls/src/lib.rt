@@ -5,6 +5,8 @@
 #![tactic(auto)]
 
 pub mod actions;
+pub mod aims;
+pub mod bases;
 pub mod calls;
 pub mod members;
 pub mod tasks;
