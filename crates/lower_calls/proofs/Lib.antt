@@ -4,6 +4,7 @@ mod NoParts
 mod Halves
 mod Aiming
 mod Unders
+mod Indices
 mod RuleSets
 mod Objects
 mod Seen

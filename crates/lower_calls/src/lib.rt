@@ -9,5 +9,6 @@ pub mod aims;
 pub mod bases;
 pub mod calls;
 pub mod members;
+pub mod targets;
 pub mod tasks;
 pub mod views;
