@@ -5,6 +5,7 @@ mod Halves
 mod Aiming
 mod Unders
 mod Indices
+mod Storing
 mod RuleSets
 mod Objects
 mod Seen

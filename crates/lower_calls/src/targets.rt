@@ -126,3 +126,65 @@ fn target<
     }
     Ok(count)
 }
+
+fn assigned<
+    'a,
+    F: Fn(&'a Tables<'a>, u32, &mut Builder, &mut Scopes<'a>, Around, &'a Expr) -> Result<(), Memory>,
+>(
+    lowering: &Lowering<'a, F>,
+    builder: &mut Builder,
+    scopes: &mut Scopes<'a>,
+    around: Around,
+    place: Place,
+    assign: Assign,
+    part: &'a Expr,
+    value: &'a Expr,
+) -> Result<(), Memory>
+    requires nests { Lowers lowering.now.depth (F.pre lowering.now.nested) (F.post lowering.now.nested) }
+    ensures code { OnOk result (built builder.new ≡ made (form_code lowering.now.tables.now.program.now
+        (t.Shape.assignment assign (tree_of part.now) (tree_of value.now)) 0 place
+        (scope_of scopes.old) around)
+        (built builder.old)) }
+    ensures scopes { OnOk result (scope_of scopes.new ≡ scope_of scopes.old) }
+{
+    let program = lowering.tables.program;
+    let base = base_of(program, part);
+    let indices = target(lowering, builder, scopes, around, base, part)?;
+    let above = raised(indices, around)?.up()?;
+    lowering.part(builder, scopes, above, value)?;
+    let storing = Storing {
+        there: has_base(part, base, scopes)?,
+        place,
+        slot: slot_of(base),
+        indices,
+        mode: mode_number(assign),
+        keeps: keeps(assign, differ(program, part.node, value.node)),
+        local: scopes.count()?,
+    };
+    builder.ending(Ending::Store(storing))?;
+    Ok(())
+}
+
+/// `set P = E`, `set P += E`, `set P -= E` and `set P *= E`
+pub fn set<
+    'a,
+    F: Fn(&'a Tables<'a>, u32, &mut Builder, &mut Scopes<'a>, Around, &'a Expr) -> Result<(), Memory>,
+>(
+    lowering: &Lowering<'a, F>,
+    builder: &mut Builder,
+    scopes: &mut Scopes<'a>,
+    around: Around,
+    place: Place,
+    assign: Assign,
+    parts: &'a Two,
+) -> Result<(), Memory>
+    requires nests { Lowers lowering.now.depth (F.pre lowering.now.nested) (F.post lowering.now.nested) }
+    ensures code { OnOk result (built builder.new ≡ made (form_code lowering.now.tables.now.program.now
+        (t.Shape.assignment assign (two_of parts.now).0 (two_of parts.now).1) 0 place
+        (scope_of scopes.old) around)
+        (built builder.old)) }
+    ensures scopes { OnOk result (scope_of scopes.new ≡ scope_of scopes.old) }
+{
+    assigned(lowering, builder, scopes, around, place, assign, parts.left.get(), parts.right.get())?;
+    Ok(())
+}
