@@ -12,7 +12,8 @@ use Rattle.lower_code.specs.Lowering.{target_operands, target_operands_shape, ta
 use Rattle.lower_lookup.specs.Types.{differ_of}
 use Rattle.lower_expr.specs.Building.{Built, made}
 use Rattle.lower_expr.proofs.Laws.{made_then}
-use Rattle.lower_calls.specs.Aims.{Aimed, at_name, at_member, at_index, at_other, aimed, aimed_in, levels, levels_in, before, beneath, under}
+use Rattle.lower_calls.specs.Aims.{Aimed, at_name, at_member, at_index, at_other, aimed, aimed_in, levels, levels_in}
+use Rattle.lower_calls.specs.Aims.{before, beneath, under}
 use Rattle.lower_calls.specs.Aims.{operands_to, bottom_code, level_code, target_code, aim_code}
 use Rattle.lower_calls.proofs.Unders.{under_next}
 
@@ -104,6 +105,7 @@ module _ (p : Program) (base : Base) (sc : Scope) (a : Around) where
     where
       same : (m : Aimed) → aimed b ≡ m → levels (beneath b) ≡ levels (before m b)
       same m e = ap (λ m. levels (before m b)) e
+
       by : (m : Aimed) → aimed b ≡ m → levels (beneath b) ≡ levels b - 1
       by at_name e = omega (arith, same at_name e, levels_are b at_name e)
       by (at_member c) e = omega (arith, same (at_member c) e, levels_are b (at_member c) e)
@@ -118,8 +120,10 @@ module _ (p : Program) (base : Base) (sc : Scope) (a : Around) where
   bottom_is : (b : Tree) → levels b ≡ 0 → target_code p b base sc a ≡ bottom_code p (aimed b) base sc a
   bottom_is b h = by (aimed b) refl
     where
-      same : (m : Aimed) → aimed b ≡ m → aim_code p m base sc a ≡ bottom_code p m base sc a → target_code p b base sc a ≡ bottom_code p (aimed b) base sc a
+      same : (m : Aimed) → aimed b ≡ m → aim_code p m base sc a ≡ bottom_code p m base sc a →
+          target_code p b base sc a ≡ bottom_code p (aimed b) base sc a
       same m e is = code_at b ∙ ap (λ m. aim_code p m base sc a) e ∙ is ∙ sym (ap (λ m. bottom_code p m base sc a) e)
+
       by : (m : Aimed) → aimed b ≡ m → target_code p b base sc a ≡ bottom_code p (aimed b) base sc a
       by at_name e = same at_name e refl
       by (at_member c) e = same (at_member c) e refl
@@ -193,7 +197,8 @@ module _ (p : Program) (base : Base) (sc : Scope) (a : Around) where
         let u : Tree = under next b in
         go ∙ ap (λ c. made (level_code p n (aimed c) here a) mid) same ∙ ap (λ s. made (level_code p n (aimed u) s a) mid) k
         ∙ ap (λ n. made (level_code p n (aimed u) sc a) mid) (count ∙ ap target_operands (behind_one e))
-        ∙ ap (made (level_code p (target_operands (beneath u)) (aimed u) sc a)) (is ∙ ap (λ c. made (target_code p c base sc a) x) (behind_one e))
+        ∙ ap (made (level_code p (target_operands (beneath u)) (aimed u) sc a))
+        (is ∙ ap (λ c. made (target_code p c base sc a) x) (behind_one e))
         ∙ sym (made_then (target_code p (beneath u) base sc a) (level_code p (target_operands (beneath u)) (aimed u) sc a) x)
         ∙ ap (λ f. made f x) (sym (level_is u (one_left e h)))
 

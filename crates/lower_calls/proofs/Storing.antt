@@ -24,7 +24,8 @@ stored p x b c pl base n sc =
     (keeps x (differ_of p (number_of b) (number_of c))) (length sc)
 
 module _ (p : Program) (x : Assign) (b c : Tree) (pl : Place) (base : Base) (n : ℕ) (sc : Scope) where
-  pub store_is : (there : Bool) (s i m : ℕ) (k : Bool) (l : ℕ) → there ≡ has_base (program_of p) (differ_of p) b base sc → s ≡ slot_of base →
+  pub store_is : (there : Bool) (s i m : ℕ) (k : Bool) (l : ℕ) →
+      there ≡ has_base (program_of p) (differ_of p) b base sc → s ≡ slot_of base →
       i ≡ n → m ≡ mode_number (mode_of x) → k ≡ keeps x (differ_of p (number_of b) (number_of c)) → l ≡ length sc →
       store there pl s i m k l ≡ stored p x b c pl base n sc
   store_is there s i m k l et es ei em ek el =
@@ -32,4 +33,5 @@ module _ (p : Program) (x : Assign) (b c : Tree) (pl : Place) (base : Base) (n :
       let o : ℕ = mode_number (mode_of x) in
       let q : Bool = keeps x (differ_of p (number_of b) (number_of c)) in
       ap (λ t. store t pl s i m k l) et ∙ ap (λ s. store t pl s i m k l) es ∙ ap (λ i. store t pl (slot_of base) i m k l) ei
-      ∙ ap (λ m. store t pl (slot_of base) n m k l) em ∙ ap (λ k. store t pl (slot_of base) n o k l) ek ∙ ap (store t pl (slot_of base) n o q) el
+      ∙ ap (λ m. store t pl (slot_of base) n m k l) em ∙ ap (λ k. store t pl (slot_of base) n o k l) ek
+      ∙ ap (store t pl (slot_of base) n o q) el

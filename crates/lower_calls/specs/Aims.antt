@@ -82,5 +82,6 @@ module _ (p : Program) where
   target_code = l.target_piece (program_of p) (differ_of p)
 
   abbrev pub aim_code : Aimed → Base → Scope → Around → Maker
-  aim_code (at_index b ts) base sc a = target_code b base sc a then level_code (target_operands b) (at_index b ts) sc a
+  aim_code (at_index b ts) base sc a =
+      target_code b base sc a then level_code (target_operands b) (at_index b ts) sc a
   aim_code other base sc a = bottom_code other base sc a

@@ -41,7 +41,14 @@ fn sum_of(count: usize, beneath: u32) -> Result<u32, Memory>
 /// What no index stands behind.
 fn bottom<
     'a,
-    F: Fn(&'a Tables<'a>, u32, &mut Builder, &mut Scopes<'a>, Around, &'a Expr) -> Result<(), Memory>,
+    F: Fn(
+        &'a Tables<'a>,
+        u32,
+        &mut Builder,
+        &mut Scopes<'a>,
+        Around,
+        &'a Expr,
+    ) -> Result<(), Memory>,
 >(
     lowering: &Lowering<'a, F>,
     builder: &mut Builder,
@@ -50,8 +57,10 @@ fn bottom<
     base: Base<'a>,
     part: &'a Expr,
 ) -> Result<(), Memory>
-    requires nests { Lowers lowering.now.depth (F.pre lowering.now.nested) (F.post lowering.now.nested) }
-    ensures code { OnOk result (built builder.new ≡ made (m.bottom_code lowering.now.tables.now.program.now
+    requires nests { Lowers lowering.now.depth (F.pre lowering.now.nested)
+        (F.post lowering.now.nested) }
+    ensures code { OnOk result (built builder.new ≡
+        made (m.bottom_code lowering.now.tables.now.program.now
         (m.aimed (tree_of part.now)) (base_view base.entry) (scope_of scopes.old) around)
         (built builder.old)) }
     ensures scopes { OnOk result (scope_of scopes.new ≡ scope_of scopes.old) }
@@ -68,7 +77,14 @@ fn bottom<
 /// lead to it.
 fn level<
     'a,
-    F: Fn(&'a Tables<'a>, u32, &mut Builder, &mut Scopes<'a>, Around, &'a Expr) -> Result<(), Memory>,
+    F: Fn(
+        &'a Tables<'a>,
+        u32,
+        &mut Builder,
+        &mut Scopes<'a>,
+        Around,
+        &'a Expr,
+    ) -> Result<(), Memory>,
 >(
     lowering: &Lowering<'a, F>,
     builder: &mut Builder,
@@ -77,9 +93,11 @@ fn level<
     beneath: u32,
     part: &'a Expr,
 ) -> Result<u32, Memory>
-    requires nests { Lowers lowering.now.depth (F.pre lowering.now.nested) (F.post lowering.now.nested) }
+    requires nests { Lowers lowering.now.depth (F.pre lowering.now.nested)
+        (F.post lowering.now.nested) }
     ensures count { IfOk result (λ n. n ≡ m.operands_to beneath (m.aimed (tree_of part.now))) }
-    ensures code { OnOk result (built builder.new ≡ made (m.level_code lowering.now.tables.now.program.now
+    ensures code { OnOk result (built builder.new ≡
+        made (m.level_code lowering.now.tables.now.program.now
         beneath (m.aimed (tree_of part.now)) (scope_of scopes.old) around)
         (built builder.old)) }
     ensures scopes { OnOk result (scope_of scopes.new ≡ scope_of scopes.old) }
@@ -101,7 +119,14 @@ fn level<
 /// The cell and the indices of a target; how many indices there are.
 fn target<
     'a,
-    F: Fn(&'a Tables<'a>, u32, &mut Builder, &mut Scopes<'a>, Around, &'a Expr) -> Result<(), Memory>,
+    F: Fn(
+        &'a Tables<'a>,
+        u32,
+        &mut Builder,
+        &mut Scopes<'a>,
+        Around,
+        &'a Expr,
+    ) -> Result<(), Memory>,
 >(
     lowering: &Lowering<'a, F>,
     builder: &mut Builder,
@@ -110,9 +135,11 @@ fn target<
     base: Base<'a>,
     whole: &'a Expr,
 ) -> Result<u32, Memory>
-    requires nests { Lowers lowering.now.depth (F.pre lowering.now.nested) (F.post lowering.now.nested) }
+    requires nests { Lowers lowering.now.depth (F.pre lowering.now.nested)
+        (F.post lowering.now.nested) }
     ensures count { IfOk result (λ n. n ≡ l.target_operands (tree_of whole.now)) }
-    ensures code { OnOk result (built builder.new ≡ made (m.target_code lowering.now.tables.now.program.now
+    ensures code { OnOk result (built builder.new ≡
+        made (m.target_code lowering.now.tables.now.program.now
         (tree_of whole.now) (base_view base.entry) (scope_of scopes.old) around)
         (built builder.old)) }
     ensures scopes { OnOk result (scope_of scopes.new ≡ scope_of scopes.old) }
@@ -129,7 +156,14 @@ fn target<
 
 fn assigned<
     'a,
-    F: Fn(&'a Tables<'a>, u32, &mut Builder, &mut Scopes<'a>, Around, &'a Expr) -> Result<(), Memory>,
+    F: Fn(
+        &'a Tables<'a>,
+        u32,
+        &mut Builder,
+        &mut Scopes<'a>,
+        Around,
+        &'a Expr,
+    ) -> Result<(), Memory>,
 >(
     lowering: &Lowering<'a, F>,
     builder: &mut Builder,
@@ -140,8 +174,10 @@ fn assigned<
     part: &'a Expr,
     value: &'a Expr,
 ) -> Result<(), Memory>
-    requires nests { Lowers lowering.now.depth (F.pre lowering.now.nested) (F.post lowering.now.nested) }
-    ensures code { OnOk result (built builder.new ≡ made (form_code lowering.now.tables.now.program.now
+    requires nests { Lowers lowering.now.depth (F.pre lowering.now.nested)
+        (F.post lowering.now.nested) }
+    ensures code { OnOk result (built builder.new ≡
+        made (form_code lowering.now.tables.now.program.now
         (t.Shape.assignment assign (tree_of part.now) (tree_of value.now)) 0 place
         (scope_of scopes.old) around)
         (built builder.old)) }
@@ -168,7 +204,14 @@ fn assigned<
 /// `set P = E`, `set P += E`, `set P -= E` and `set P *= E`
 pub fn set<
     'a,
-    F: Fn(&'a Tables<'a>, u32, &mut Builder, &mut Scopes<'a>, Around, &'a Expr) -> Result<(), Memory>,
+    F: Fn(
+        &'a Tables<'a>,
+        u32,
+        &mut Builder,
+        &mut Scopes<'a>,
+        Around,
+        &'a Expr,
+    ) -> Result<(), Memory>,
 >(
     lowering: &Lowering<'a, F>,
     builder: &mut Builder,
@@ -178,13 +221,24 @@ pub fn set<
     assign: Assign,
     parts: &'a Two,
 ) -> Result<(), Memory>
-    requires nests { Lowers lowering.now.depth (F.pre lowering.now.nested) (F.post lowering.now.nested) }
-    ensures code { OnOk result (built builder.new ≡ made (form_code lowering.now.tables.now.program.now
+    requires nests { Lowers lowering.now.depth (F.pre lowering.now.nested)
+        (F.post lowering.now.nested) }
+    ensures code { OnOk result (built builder.new ≡
+        made (form_code lowering.now.tables.now.program.now
         (t.Shape.assignment assign (two_of parts.now).0 (two_of parts.now).1) 0 place
         (scope_of scopes.old) around)
         (built builder.old)) }
     ensures scopes { OnOk result (scope_of scopes.new ≡ scope_of scopes.old) }
 {
-    assigned(lowering, builder, scopes, around, place, assign, parts.left.get(), parts.right.get())?;
+    assigned(
+        lowering,
+        builder,
+        scopes,
+        around,
+        place,
+        assign,
+        parts.left.get(),
+        parts.right.get(),
+    )?;
     Ok(())
 }

@@ -31,7 +31,8 @@ levels-preserved g c =
     record {
       scopes = c.in_ok-count.ensures.scopes ∙ c.levels.invariant.scopes;
       within = omega (arith, c.levels.invariant.within);
-      count = operands_next p base sc c.args.around b part left (left - 1) c.levels.count c.in_ok-count.count (omega (arith, c.levels-test.true))
+      count = operands_next p base sc c.args.around b part left (left - 1) c.levels.count c.in_ok-count.count
+          (omega (arith, c.levels-test.true))
           c.levels.invariant.within c.under-in-levels.ensures c.levels.invariant.count c.in_ok-count.ensures.count;
       code = target_next p base sc c.args.around b part left (left - 1) c.levels.count (scope_of c.levels.scopes) (built c.args.builder.now)
           (built c.levels.builder) _ (omega (arith, c.levels-test.true)) c.levels.invariant.within c.under-in-levels.ensures
@@ -41,9 +42,9 @@ levels-preserved g c =
 pub returns-clause-code : goal.returns-clause-code
 returns-clause-code g c =
     target_done c.args.lowering.now.tables.now.program.now (base_view c.args.base) (scope_of c.args.scopes.now) c.args.around
-      (tree_of c.args.whole.now) c.levels.left (built c.args.builder.now) _ c.levels-test.false c.levels.invariant.code
+    (tree_of c.args.whole.now) c.levels.left (built c.args.builder.now) _ c.levels-test.false c.levels.invariant.code
 
 pub returns-clause-count : goal.returns-clause-count
 returns-clause-count g c =
     operands_done c.args.lowering.now.tables.now.program.now (base_view c.args.base) (scope_of c.args.scopes.now) c.args.around
-      (tree_of c.args.whole.now) c.levels.left c.levels.count c.levels-test.false c.levels.invariant.count
+    (tree_of c.args.whole.now) c.levels.left c.levels.count c.levels-test.false c.levels.invariant.count
