@@ -1,8 +1,8 @@
 -- The arms of a group, one by one.
-use Rattle.std.proofs.Common.{◌≡◌, ℕ, suc, ◌+◌, ◌<◌, ◌≤◌, List, length, map, get_or, refl, sym, ap, ◌∙◌}
+use Rattle.std.proofs.Common.{◌≡◌, ℕ, suc, ◌+◌, ◌<◌, ◌≤◌, List, length, get_or, sym, ap, ◌∙◌}
 use Rattle.verse_base.specs.declared.places.Place.{Place}
-use Rattle.verse_tree.specs.Tree.{Trees, no_trees, more_trees}
-use Rattle.verse_tree.specs.View.{tree_of, trees}
+use Rattle.verse_tree.specs.Tree.{Trees}
+use Rattle.verse_tree.specs.View.{tree_of}
 use Rattle.verse_tree.specs.declared.exprs.Expr.{Expr}
 use Rattle.verse_tree.specs.declared.programs.Program.{Program}
 use Rattle.verse_meaning.specs.Programs.{program_of}
@@ -35,6 +35,6 @@ pub group_is : (p : Program) (kind : Kind) (pl : Place) (ts : Trees) (sc : Scope
     all ≡ made (group_code p kind pl ts sc) b
 group_is p kind pl ts sc b begun ended all count at jump c a j g e f =
     f ∙ ap (ended_here jump) (
-        e ∙ ap (λ n. arms_lowered p sc ts n begun) a
-        ∙ ap (arms_lowered p sc ts (suc (length b.ops))) (g ∙ ap (λ n. group_begun (kind_number kind) n pl b) c))
+    e ∙ ap (λ n. arms_lowered p sc ts n begun) a
+    ∙ ap (arms_lowered p sc ts (suc (length b.ops))) (g ∙ ap (λ n. group_begun (kind_number kind) n pl b) c))
     ∙ sym (task.group_law (program_of p) (differ_of p) sc (kind_number kind) ts pl b jump (j ∙ ap (λ n. length b.ops + 1 + n) c))

@@ -28,7 +28,8 @@ args_are t = sym (ap (λ q. q.1) (applied_parts t))
 
 -- what adds the code of a callee and arguments adds that of their struct
 pub applied_made : (f : Tree → Trees → Maker) (q : Applied) (e : Expr) (es : List Expr) (x last : Built) → e ≡ (out-Applied q).callee →
-    es ≡ (out-Applied q).args → last ≡ made (f (tree_of e) (trees (map tree_of es))) x → last ≡ made (f (applied_of q).0 (trees (applied_of q).1)) x
+    es ≡ (out-Applied q).args → last ≡ made (f (tree_of e) (trees (map tree_of es))) x →
+    last ≡ made (f (applied_of q).0 (trees (applied_of q).1)) x
 applied_made f q e es x last h k is =
     is ∙ ap (λ a. made (f a (trees (map tree_of es))) x) (ap tree_of h ∙ callee_is q)
     ∙ ap (λ bs. made (f (applied_of q).0 (trees bs)) x) (ap (map tree_of) k ∙ args_are q)

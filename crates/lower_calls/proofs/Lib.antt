@@ -2,6 +2,10 @@ mod Steps
 mod Arms
 mod NoParts
 mod Halves
+mod Aiming
+mod Unders
+mod Indices
+mod Storing
 mod RuleSets
 mod Objects
 mod Seen

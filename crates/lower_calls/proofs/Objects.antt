@@ -24,4 +24,4 @@ module _ (p : Program) (b : Tree) (ts : Trees) (sc : Scope) (a : Around) (f whol
       all ≡ made (object_code p (object_of b) sc a then behind_code p ts sc a f) x → all ≡ made (member_code p b ts sc a f) x
   spawned_with e is =
       spawned_object (callee_of (program_of p) b whole pl) f (sym e) (λ g h.
-        is ∙ ap (λ m. made (m then behind_code p ts sc a f) x) (sym (object_is p sc a b whole g pl h)))
+      is ∙ ap (λ m. made (m then behind_code p ts sc a f) x) (sym (object_is p sc a b whole g pl h)))

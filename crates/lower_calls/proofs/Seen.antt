@@ -24,7 +24,8 @@ module _ (p : Program) (n : ℕ) (pl : Place) (sc : Scope) (a : Around) (whole f
   Spawns s = spawned_shape (program_of p) (differ_of p) s pl sc a ≡ spawned_code p (called_in s) pl sc a
 
   abbrev Owns : Shape → Type 0
-  Owns s = callee_of_shape (program_of p) n s whole pl ≡ of_object f → inner_shape (program_of p) (differ_of p) s sc a ≡ object_code p (object_in s) sc a
+  Owns s = callee_of_shape (program_of p) n s whole pl ≡ of_object f →
+      inner_shape (program_of p) (differ_of p) s sc a ≡ object_code p (object_in s) sc a
 
   abbrev Seen : Shape → Type 0
   Seen s = Divides s × Spawns s × Owns s
@@ -116,7 +117,8 @@ module _ (p : Program) (sc : Scope) (a : Around) where
       inner (program_of p) (differ_of p) b sc a ≡ object_code p (object_of b) sc a
   object_is (tree n q s) whole f pl e = (seen p n pl sc a whole f s).2 e
 
-  pub divided_is : (ts : Trees) (f : Form) (pl : Place) → quotient (program_of p) (differ_of p) ts sc a ≡ divided_code p (divided_in ts) sc a
+  pub divided_is : (ts : Trees) (f : Form) (pl : Place) →
+      quotient (program_of p) (differ_of p) ts sc a ≡ divided_code p (divided_in ts) sc a
   divided_is no_trees f pl = refl
   divided_is (more_trees (tree n q s) ts) f pl = (seen p n pl sc a f f s).0
 

@@ -40,7 +40,8 @@ module _ (p : Program) where
   abbrev pub behind_code : Trees → Scope → Around → Form → Maker
   behind_code ts sc a f = operands_code p ts sc (up a) then finish f (how_many ts) true
 
-  -- a form without an operand for its callee; with the object of its callee; with its value; of a quotient
+  -- a form without an operand for its callee; with the object of its callee; with its value; of a
+  -- quotient
   abbrev pub alone_code : Trees → Scope → Around → Form → Maker
   alone_code ts sc a f =
       start f sc then operands_code p ts sc (started f a) then
@@ -59,13 +60,18 @@ module _ (p : Program) where
   quotient_code ts sc a f = l.quotient (program_of p) (differ_of p) ts sc a then finish f 2 true
 
   abbrev pub call_by : Tree → Trees → Scope → Around → Callee → Maker
-  call_by b ts sc a c = by_callee c (alone_code ts sc a) (member_code b ts sc a) (picked_code b sc a) (quotient_code ts sc a)
+  call_by b ts sc a c =
+      by_callee c (alone_code ts sc a) (member_code b ts sc a)
+      (picked_code b sc a) (quotient_code ts sc a)
 
   abbrev pub index_by : Tree → Trees → Scope → Around → Callee → Maker
-  index_by b ts sc a c = by_callee c (alone_code ts sc a) (member_code b ts sc a) (indexed_code b ts sc a) (quotient_code ts sc a)
+  index_by b ts sc a c =
+      by_callee c (alone_code ts sc a) (member_code b ts sc a)
+      (indexed_code b ts sc a) (quotient_code ts sc a)
 
   abbrev pub spawn_by : Tree → Trees → Scope → Around → Callee → Maker
-  spawn_by b ts sc a c = by_callee c (alone_code ts sc a) (member_code b ts sc a) (λ f. stuck) (λ f. stuck)
+  spawn_by b ts sc a c =
+      by_callee c (alone_code ts sc a) (member_code b ts sc a) (λ f. stuck) (λ f. stuck)
 
   -- the call that a `spawn` starts
   abbrev pub spawned_code : Option (Tree × Trees) → Place → Scope → Around → Maker

@@ -25,7 +25,8 @@ module _ (p : Program) where
   -- `sync`, `race` or `rush`
   abbrev pub group_code : Kind → Place → Trees → Scope → Maker
   group_code k pl ts sc =
-      grouped (kind_number k) (how_many ts) pl (arm_spots (program_of p) (differ_of p) ts sc) (task_arms (program_of p) (differ_of p) ts sc)
+      grouped (kind_number k) (how_many ts) pl (arm_spots (program_of p) (differ_of p) ts sc)
+      (task_arms (program_of p) (differ_of p) ts sc)
 
   abbrev pub arm_code : Scope → Tree → Maker
   arm_code = task.arm (program_of p) (differ_of p)
@@ -36,4 +37,5 @@ module _ (p : Program) where
 
   -- what is read of an object by its member
   abbrev pub read_code : (n : ℕ) → Tree → Bytes → Scope → Around → Maker
-  read_code n b x sc a = tree_code p b sc a then finish (member_form (ref_at (program_of p) n) x) 1 true
+  read_code n b x sc a =
+      tree_code p b sc a then finish (member_form (ref_at (program_of p) n) x) 1 true

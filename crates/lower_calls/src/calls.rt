@@ -27,7 +27,14 @@ use verse_tree::exprs::{Applied, Expr};
 
 fn called<
     'a,
-    F: Fn(&'a Tables<'a>, u32, &mut Builder, &mut Scopes<'a>, Around, &'a Expr) -> Result<(), Memory>,
+    F: Fn(
+        &'a Tables<'a>,
+        u32,
+        &mut Builder,
+        &mut Scopes<'a>,
+        Around,
+        &'a Expr,
+    ) -> Result<(), Memory>,
 >(
     lowering: &Lowering<'a, F>,
     builder: &mut Builder,
@@ -37,9 +44,12 @@ fn called<
     callee: &'a Expr,
     args: &'a [Expr],
 ) -> Result<(), Memory>
-    requires nests { Lowers lowering.now.depth (F.pre lowering.now.nested) (F.post lowering.now.nested) }
-    ensures code { OnOk result (built builder.new ≡ made (form_code lowering.now.tables.now.program.now
-        (t.Shape.call (tree_of callee.now) (trees (map tree_of args.now))) 0 place (scope_of scopes.old) around)
+    requires nests { Lowers lowering.now.depth (F.pre lowering.now.nested)
+        (F.post lowering.now.nested) }
+    ensures code { OnOk result (built builder.new ≡
+        made (form_code lowering.now.tables.now.program.now
+        (t.Shape.call (tree_of callee.now) (trees (map tree_of args.now))) 0 place
+        (scope_of scopes.old) around)
         (built builder.old)) }
     ensures scopes { OnOk result (scope_of scopes.new ≡ scope_of scopes.old) }
 {
@@ -61,7 +71,14 @@ fn called<
 /// `E(F, G)`
 pub fn call<
     'a,
-    F: Fn(&'a Tables<'a>, u32, &mut Builder, &mut Scopes<'a>, Around, &'a Expr) -> Result<(), Memory>,
+    F: Fn(
+        &'a Tables<'a>,
+        u32,
+        &mut Builder,
+        &mut Scopes<'a>,
+        Around,
+        &'a Expr,
+    ) -> Result<(), Memory>,
 >(
     lowering: &Lowering<'a, F>,
     builder: &mut Builder,
@@ -70,20 +87,37 @@ pub fn call<
     place: Place,
     parts: &'a Applied,
 ) -> Result<(), Memory>
-    requires nests { Lowers lowering.now.depth (F.pre lowering.now.nested) (F.post lowering.now.nested) }
-    ensures code { OnOk result (built builder.new ≡ made (form_code lowering.now.tables.now.program.now
+    requires nests { Lowers lowering.now.depth (F.pre lowering.now.nested)
+        (F.post lowering.now.nested) }
+    ensures code { OnOk result (built builder.new ≡
+        made (form_code lowering.now.tables.now.program.now
         (t.Shape.call (applied_of parts.now).0 (trees (applied_of parts.now).1)) 0 place
         (scope_of scopes.old) around)
         (built builder.old)) }
     ensures scopes { OnOk result (scope_of scopes.new ≡ scope_of scopes.old) }
 {
-    called(lowering, builder, scopes, around, place, parts.callee.get(), parts.args.as_slice())?;
+    called(
+        lowering,
+        builder,
+        scopes,
+        around,
+        place,
+        parts.callee.get(),
+        parts.args.as_slice(),
+    )?;
     Ok(())
 }
 
 fn read_at<
     'a,
-    F: Fn(&'a Tables<'a>, u32, &mut Builder, &mut Scopes<'a>, Around, &'a Expr) -> Result<(), Memory>,
+    F: Fn(
+        &'a Tables<'a>,
+        u32,
+        &mut Builder,
+        &mut Scopes<'a>,
+        Around,
+        &'a Expr,
+    ) -> Result<(), Memory>,
 >(
     lowering: &Lowering<'a, F>,
     builder: &mut Builder,
@@ -93,9 +127,12 @@ fn read_at<
     callee: &'a Expr,
     args: &'a [Expr],
 ) -> Result<(), Memory>
-    requires nests { Lowers lowering.now.depth (F.pre lowering.now.nested) (F.post lowering.now.nested) }
-    ensures code { OnOk result (built builder.new ≡ made (form_code lowering.now.tables.now.program.now
-        (t.Shape.index (tree_of callee.now) (trees (map tree_of args.now))) 0 place (scope_of scopes.old) around)
+    requires nests { Lowers lowering.now.depth (F.pre lowering.now.nested)
+        (F.post lowering.now.nested) }
+    ensures code { OnOk result (built builder.new ≡
+        made (form_code lowering.now.tables.now.program.now
+        (t.Shape.index (tree_of callee.now) (trees (map tree_of args.now))) 0 place
+        (scope_of scopes.old) around)
         (built builder.old)) }
     ensures scopes { OnOk result (scope_of scopes.new ≡ scope_of scopes.old) }
 {
@@ -119,7 +156,14 @@ fn read_at<
 /// `E[F, G]`
 pub fn index<
     'a,
-    F: Fn(&'a Tables<'a>, u32, &mut Builder, &mut Scopes<'a>, Around, &'a Expr) -> Result<(), Memory>,
+    F: Fn(
+        &'a Tables<'a>,
+        u32,
+        &mut Builder,
+        &mut Scopes<'a>,
+        Around,
+        &'a Expr,
+    ) -> Result<(), Memory>,
 >(
     lowering: &Lowering<'a, F>,
     builder: &mut Builder,
@@ -128,20 +172,37 @@ pub fn index<
     place: Place,
     parts: &'a Applied,
 ) -> Result<(), Memory>
-    requires nests { Lowers lowering.now.depth (F.pre lowering.now.nested) (F.post lowering.now.nested) }
-    ensures code { OnOk result (built builder.new ≡ made (form_code lowering.now.tables.now.program.now
+    requires nests { Lowers lowering.now.depth (F.pre lowering.now.nested)
+        (F.post lowering.now.nested) }
+    ensures code { OnOk result (built builder.new ≡
+        made (form_code lowering.now.tables.now.program.now
         (t.Shape.index (applied_of parts.now).0 (trees (applied_of parts.now).1)) 0 place
         (scope_of scopes.old) around)
         (built builder.old)) }
     ensures scopes { OnOk result (scope_of scopes.new ≡ scope_of scopes.old) }
 {
-    read_at(lowering, builder, scopes, around, place, parts.callee.get(), parts.args.as_slice())?;
+    read_at(
+        lowering,
+        builder,
+        scopes,
+        around,
+        place,
+        parts.callee.get(),
+        parts.args.as_slice(),
+    )?;
     Ok(())
 }
 
 fn started<
     'a,
-    F: Fn(&'a Tables<'a>, u32, &mut Builder, &mut Scopes<'a>, Around, &'a Expr) -> Result<(), Memory>,
+    F: Fn(
+        &'a Tables<'a>,
+        u32,
+        &mut Builder,
+        &mut Scopes<'a>,
+        Around,
+        &'a Expr,
+    ) -> Result<(), Memory>,
 >(
     lowering: &Lowering<'a, F>,
     builder: &mut Builder,
@@ -151,15 +212,22 @@ fn started<
     callee: &'a Expr,
     args: &'a [Expr],
 ) -> Result<(), Memory>
-    requires nests { Lowers lowering.now.depth (F.pre lowering.now.nested) (F.post lowering.now.nested) }
-    ensures code { OnOk result (built builder.new ≡ made (c.spawn_by lowering.now.tables.now.program.now
+    requires nests { Lowers lowering.now.depth (F.pre lowering.now.nested)
+        (F.post lowering.now.nested) }
+    ensures code { OnOk result (built builder.new ≡
+        made (c.spawn_by lowering.now.tables.now.program.now
         (tree_of callee.now) (trees (map tree_of args.now)) (scope_of scopes.old) around
         (e.spawned_callee (e.callee_of (program_of lowering.now.tables.now.program.now)
         (tree_of callee.now) (form.picking None) place)))
         (built builder.old)) }
     ensures scopes { OnOk result (scope_of scopes.new ≡ scope_of scopes.old) }
 {
-    let found = spawned_callee(callee_of(lowering.tables.program, callee, Action::Pick(None), place));
+    let found = spawned_callee(callee_of(
+        lowering.tables.program,
+        callee,
+        Action::Pick(None),
+        place,
+    ));
     match found {
         Callee::Alone(action) => alone(lowering, builder, scopes, around, action, args)?,
         Callee::OfObject(action) => {
@@ -172,7 +240,14 @@ fn started<
 
 fn spawned<
     'a,
-    F: Fn(&'a Tables<'a>, u32, &mut Builder, &mut Scopes<'a>, Around, &'a Expr) -> Result<(), Memory>,
+    F: Fn(
+        &'a Tables<'a>,
+        u32,
+        &mut Builder,
+        &mut Scopes<'a>,
+        Around,
+        &'a Expr,
+    ) -> Result<(), Memory>,
 >(
     lowering: &Lowering<'a, F>,
     builder: &mut Builder,
@@ -181,20 +256,38 @@ fn spawned<
     place: Place,
     parts: &'a Applied,
 ) -> Result<(), Memory>
-    requires nests { Lowers lowering.now.depth (F.pre lowering.now.nested) (F.post lowering.now.nested) }
-    ensures code { OnOk result (built builder.new ≡ made (c.spawned_code lowering.now.tables.now.program.now
-        (Some ((applied_of parts.now).0, trees (applied_of parts.now).1)) place (scope_of scopes.old) around)
+    requires nests { Lowers lowering.now.depth (F.pre lowering.now.nested)
+        (F.post lowering.now.nested) }
+    ensures code { OnOk result (built builder.new ≡
+        made (c.spawned_code lowering.now.tables.now.program.now
+        (Some ((applied_of parts.now).0, trees (applied_of parts.now).1)) place
+        (scope_of scopes.old) around)
         (built builder.old)) }
     ensures scopes { OnOk result (scope_of scopes.new ≡ scope_of scopes.old) }
 {
-    started(lowering, builder, scopes, around, place, parts.callee.get(), parts.args.as_slice())?;
+    started(
+        lowering,
+        builder,
+        scopes,
+        around,
+        place,
+        parts.callee.get(),
+        parts.args.as_slice(),
+    )?;
     Ok(())
 }
 
 /// `spawn{E}`
 pub fn spawn<
     'a,
-    F: Fn(&'a Tables<'a>, u32, &mut Builder, &mut Scopes<'a>, Around, &'a Expr) -> Result<(), Memory>,
+    F: Fn(
+        &'a Tables<'a>,
+        u32,
+        &mut Builder,
+        &mut Scopes<'a>,
+        Around,
+        &'a Expr,
+    ) -> Result<(), Memory>,
 >(
     lowering: &Lowering<'a, F>,
     builder: &mut Builder,
@@ -202,8 +295,10 @@ pub fn spawn<
     around: Around,
     part: &'a Expr,
 ) -> Result<(), Memory>
-    requires nests { Lowers lowering.now.depth (F.pre lowering.now.nested) (F.post lowering.now.nested) }
-    ensures code { OnOk result (built builder.new ≡ made (form_code lowering.now.tables.now.program.now
+    requires nests { Lowers lowering.now.depth (F.pre lowering.now.nested)
+        (F.post lowering.now.nested) }
+    ensures code { OnOk result (built builder.new ≡
+        made (form_code lowering.now.tables.now.program.now
         (t.Shape.spawn (tree_of part.now)) 0 some_place (scope_of scopes.old) around)
         (built builder.old)) }
     ensures scopes { OnOk result (scope_of scopes.new ≡ scope_of scopes.old) }

@@ -1,11 +1,19 @@
 //! Members, calls, indices, what `set` writes to, and tasks.
 //!
-//! To be read in this order: `tasks`, the forms whose parts are arms; `members`, what is read
-//! behind a dot.
+//! A form is lowered by one function, whose contract names the code of the form; its parts are
+//! lowered by the function value of `lower_parts`.
+//!
+//! To be read in this order: `tasks`, the forms whose parts are arms; `members`, what is read behind
+//! a dot; `views`, the parts of callees and operands; `actions`, actions on their operands; `calls`,
+//! calls, indices, and calls that are spawned; `aims`, the indices of what `set` writes to, and
+//! `bases`, what they lead from; `targets`, `set`.
 #![tactic(auto)]
 
 pub mod actions;
+pub mod aims;
+pub mod bases;
 pub mod calls;
 pub mod members;
+pub mod targets;
 pub mod tasks;
 pub mod views;

@@ -27,7 +27,8 @@ use verse_tree::exprs::Expr;
 
 /// A value of an enum.
 fn enum_read(builder: &mut Builder, value: EnumValue) -> Result<(), Memory>
-    ensures { OnOk result (built builder.new ≡ made (l.enum_op (val_of value)) (built builder.old)) }
+    ensures { OnOk result (built builder.new ≡ made (l.enum_op (val_of value))
+        (built builder.old)) }
 {
     builder.one(Op::Enum(value.of, value.value))?;
     Ok(())
@@ -36,7 +37,14 @@ fn enum_read(builder: &mut Builder, value: EnumValue) -> Result<(), Memory>
 /// What is read of an object.
 fn read<
     'a,
-    F: Fn(&'a Tables<'a>, u32, &mut Builder, &mut Scopes<'a>, Around, &'a Expr) -> Result<(), Memory>,
+    F: Fn(
+        &'a Tables<'a>,
+        u32,
+        &mut Builder,
+        &mut Scopes<'a>,
+        Around,
+        &'a Expr,
+    ) -> Result<(), Memory>,
 >(
     lowering: &Lowering<'a, F>,
     builder: &mut Builder,
@@ -46,8 +54,10 @@ fn read<
     part: &'a Expr,
     name: &[u8],
 ) -> Result<(), Memory>
-    requires nests { Lowers lowering.now.depth (F.pre lowering.now.nested) (F.post lowering.now.nested) }
-    ensures code { OnOk result (built builder.new ≡ made (read_code lowering.now.tables.now.program.now
+    requires nests { Lowers lowering.now.depth (F.pre lowering.now.nested)
+        (F.post lowering.now.nested) }
+    ensures code { OnOk result (built builder.new ≡
+        made (read_code lowering.now.tables.now.program.now
         node (tree_of part.now) name.now (scope_of scopes.old) around) (built builder.old)) }
     ensures scopes { OnOk result (scope_of scopes.new ≡ scope_of scopes.old) }
 {
@@ -60,7 +70,14 @@ fn read<
 /// `E.F`
 pub fn member<
     'a,
-    F: Fn(&'a Tables<'a>, u32, &mut Builder, &mut Scopes<'a>, Around, &'a Expr) -> Result<(), Memory>,
+    F: Fn(
+        &'a Tables<'a>,
+        u32,
+        &mut Builder,
+        &mut Scopes<'a>,
+        Around,
+        &'a Expr,
+    ) -> Result<(), Memory>,
 >(
     lowering: &Lowering<'a, F>,
     builder: &mut Builder,
@@ -70,8 +87,10 @@ pub fn member<
     part: &'a Expr,
     name: &[u8],
 ) -> Result<(), Memory>
-    requires nests { Lowers lowering.now.depth (F.pre lowering.now.nested) (F.post lowering.now.nested) }
-    ensures code { OnOk result (built builder.new ≡ made (form_code lowering.now.tables.now.program.now
+    requires nests { Lowers lowering.now.depth (F.pre lowering.now.nested)
+        (F.post lowering.now.nested) }
+    ensures code { OnOk result (built builder.new ≡
+        made (form_code lowering.now.tables.now.program.now
         (t.Shape.member (tree_of part.now) name.now) node some_place (scope_of scopes.old) around)
         (built builder.old)) }
     ensures scopes { OnOk result (scope_of scopes.new ≡ scope_of scopes.old) }

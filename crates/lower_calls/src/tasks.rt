@@ -15,8 +15,9 @@ use lower_expr::scopes::Scopes;
 use lower_items::tables::Tables;
 use lower_lookup::statements::how_many;
 use lower_parts::lowering::Lowering;
-use lower_task::groups::{Kind, arm_begin, arm_end, branch_begin, branch_end};
-use lower_task::groups::{group_begin, group_end};
+use lower_task::groups::{
+    Kind, arm_begin, arm_end, branch_begin, branch_end, group_begin, group_end,
+};
 use verse_base::places::Place;
 use verse_base::refusals::Memory;
 use verse_tree::exprs::Expr;
@@ -25,7 +26,14 @@ use verse_tree::exprs::Expr;
 #[tactic(auto, using(lower_task::proofs::Arms::branch_law))]
 pub fn branch<
     'a,
-    F: Fn(&'a Tables<'a>, u32, &mut Builder, &mut Scopes<'a>, Around, &'a Expr) -> Result<(), Memory>,
+    F: Fn(
+        &'a Tables<'a>,
+        u32,
+        &mut Builder,
+        &mut Scopes<'a>,
+        Around,
+        &'a Expr,
+    ) -> Result<(), Memory>,
 >(
     lowering: &Lowering<'a, F>,
     builder: &mut Builder,
@@ -33,9 +41,12 @@ pub fn branch<
     around: Around,
     part: &'a Expr,
 ) -> Result<(), Memory>
-    requires nests { Lowers lowering.now.depth (F.pre lowering.now.nested) (F.post lowering.now.nested) }
-    ensures code { OnOk result (built builder.new ≡ made (form_code lowering.now.tables.now.program.now
-        (t.Shape.branch (tree_of part.now)) 0 some_place (scope_of scopes.old) around) (built builder.old)) }
+    requires nests { Lowers lowering.now.depth (F.pre lowering.now.nested)
+        (F.post lowering.now.nested) }
+    ensures code { OnOk result (built builder.new ≡
+        made (form_code lowering.now.tables.now.program.now
+        (t.Shape.branch (tree_of part.now)) 0 some_place
+        (scope_of scopes.old) around) (built builder.old)) }
     ensures scopes { OnOk result (scope_of scopes.new ≡ scope_of scopes.old) }
 {
     let begun = branch_begin(builder)?;
@@ -46,7 +57,14 @@ pub fn branch<
 #[tactic(auto, using(lower_expr::proofs::Laws::made_then, lower_expr::proofs::Laws::made_one))]
 fn arm<
     'a,
-    F: Fn(&'a Tables<'a>, u32, &mut Builder, &mut Scopes<'a>, Around, &'a Expr) -> Result<(), Memory>,
+    F: Fn(
+        &'a Tables<'a>,
+        u32,
+        &mut Builder,
+        &mut Scopes<'a>,
+        Around,
+        &'a Expr,
+    ) -> Result<(), Memory>,
 >(
     lowering: &Lowering<'a, F>,
     builder: &mut Builder,
@@ -54,9 +72,11 @@ fn arm<
     at: u32,
     part: &'a Expr,
 ) -> Result<u32, Memory>
-    requires nests { Lowers lowering.now.depth (F.pre lowering.now.nested) (F.post lowering.now.nested) }
+    requires nests { Lowers lowering.now.depth (F.pre lowering.now.nested)
+        (F.post lowering.now.nested) }
     ensures next { IfOk result (λ n. n ≡ suc at) }
-    ensures code { OnOk result (built builder.new ≡ made (arm_code lowering.now.tables.now.program.now
+    ensures code { OnOk result (built builder.new ≡
+        made (arm_code lowering.now.tables.now.program.now
         (scope_of scopes.old) (tree_of part.now)) (ended_here at (built builder.old))) }
     ensures scopes { OnOk result (scope_of scopes.new ≡ scope_of scopes.old) }
 {
@@ -68,7 +88,14 @@ fn arm<
 
 fn arms<
     'a,
-    F: Fn(&'a Tables<'a>, u32, &mut Builder, &mut Scopes<'a>, Around, &'a Expr) -> Result<(), Memory>,
+    F: Fn(
+        &'a Tables<'a>,
+        u32,
+        &mut Builder,
+        &mut Scopes<'a>,
+        Around,
+        &'a Expr,
+    ) -> Result<(), Memory>,
 >(
     lowering: &Lowering<'a, F>,
     builder: &mut Builder,
@@ -76,7 +103,8 @@ fn arms<
     first: u32,
     parts: &'a [Expr],
 ) -> Result<(), Memory>
-    requires nests { Lowers lowering.now.depth (F.pre lowering.now.nested) (F.post lowering.now.nested) }
+    requires nests { Lowers lowering.now.depth (F.pre lowering.now.nested)
+        (F.post lowering.now.nested) }
     ensures code { OnOk result (built builder.new ≡ arms_lowered lowering.now.tables.now.program.now
         (scope_of scopes.old) (trees (map tree_of parts.now)) first (built builder.old)) }
     ensures scopes { OnOk result (scope_of scopes.new ≡ scope_of scopes.old) }
@@ -91,7 +119,14 @@ fn arms<
 /// `sync`, `race` or `rush`
 pub fn group<
     'a,
-    F: Fn(&'a Tables<'a>, u32, &mut Builder, &mut Scopes<'a>, Around, &'a Expr) -> Result<(), Memory>,
+    F: Fn(
+        &'a Tables<'a>,
+        u32,
+        &mut Builder,
+        &mut Scopes<'a>,
+        Around,
+        &'a Expr,
+    ) -> Result<(), Memory>,
 >(
     lowering: &Lowering<'a, F>,
     builder: &mut Builder,
@@ -100,8 +135,10 @@ pub fn group<
     place: Place,
     parts: &'a [Expr],
 ) -> Result<(), Memory>
-    requires nests { Lowers lowering.now.depth (F.pre lowering.now.nested) (F.post lowering.now.nested) }
-    ensures code { OnOk result (built builder.new ≡ made (group_code lowering.now.tables.now.program.now
+    requires nests { Lowers lowering.now.depth (F.pre lowering.now.nested)
+        (F.post lowering.now.nested) }
+    ensures code { OnOk result (built builder.new ≡
+        made (group_code lowering.now.tables.now.program.now
         kind place (trees (map tree_of parts.now)) (scope_of scopes.old)) (built builder.old)) }
     ensures scopes { OnOk result (scope_of scopes.new ≡ scope_of scopes.old) }
 {

@@ -18,6 +18,7 @@ returns-clause-code g c =
     let f = form_of c.args.action in
     let b = built c.args.builder.now in
     two_steps (operands_code p ts sc (up c.args.around)) (finish f (how_many ts) true) _ b _ _
-      (same_made _ (operands_code p ts sc (up c.args.around)) b _ c.in_ok-operands.ensures.code (ap (operands_code p ts sc) c.in_ok-up.ensures))
-      c.in_ok-ending.ensures
-      (c.in_ok-applied.ensures ∙ ap (λ n. finish f n true) (c.in_ok-count.ensures ∙ c.how_many.ensures))
+    (same_made _ (operands_code p ts sc (up c.args.around)) b _ c.in_ok-operands.ensures.code
+    (ap (operands_code p ts sc) c.in_ok-up.ensures))
+    c.in_ok-ending.ensures
+    (c.in_ok-applied.ensures ∙ ap (λ n. finish f n true) (c.in_ok-count.ensures ∙ c.how_many.ensures))

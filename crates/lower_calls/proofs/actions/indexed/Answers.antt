@@ -15,5 +15,5 @@ returns-clause-code g c =
     let ts = trees (map tree_of c.args.args.now) in
     let f = form_of c.args.action in
     two_steps (tree_code p (tree_of c.args.callee.now) sc c.args.around) (behind_code p ts sc c.args.around f) _
-      (built c.args.builder.now) _ _ c.in_ok-part.ensures.code c.in_ok-behind.ensures.code
-      (ap (λ s. behind_code p ts s c.args.around f) c.in_ok-part.ensures.scopes)
+    (built c.args.builder.now) _ _ c.in_ok-part.ensures.code c.in_ok-behind.ensures.code
+    (ap (λ s. behind_code p ts s c.args.around f) c.in_ok-part.ensures.scopes)

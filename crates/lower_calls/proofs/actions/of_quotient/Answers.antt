@@ -17,6 +17,6 @@ returns-clause-code g c =
     let ts = trees (map tree_of c.args.args.now) in
     let f = form_of c.args.action in
     two_steps _ (finish f 2 true) _ (built c.args.builder.now) _ _
-      (same_made (divided_code p (divided_in ts) sc c.args.around) _ _ _ c.in_ok-divided.ensures.code
-        (sym (divided_is p sc c.args.around ts f some_place)))
-      c.in_ok-ending.ensures c.in_ok-applied.ensures
+    (same_made (divided_code p (divided_in ts) sc c.args.around) _ _ _ c.in_ok-divided.ensures.code
+    (sym (divided_is p sc c.args.around ts f some_place)))
+    c.in_ok-ending.ensures c.in_ok-applied.ensures

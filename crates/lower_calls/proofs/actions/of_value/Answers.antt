@@ -12,5 +12,6 @@ pub returns-clause-code : goal.returns-clause-code
 returns-clause-code g c =
     let p = c.args.lowering.now.tables.now.program.now in
     let sc = scope_of c.args.scopes.now in
-    two_steps (tree_code p (tree_of c.args.callee.now) sc c.args.around) (finish (form_of c.args.action) 0 true) _ (built c.args.builder.now) _ _
-      c.in_ok-part.ensures.code c.in_ok-ending.ensures c.in_ok-applied.ensures
+    two_steps (tree_code p (tree_of c.args.callee.now) sc c.args.around) (finish (form_of c.args.action) 0 true) _
+    (built c.args.builder.now) _ _
+    c.in_ok-part.ensures.code c.in_ok-ending.ensures c.in_ok-applied.ensures

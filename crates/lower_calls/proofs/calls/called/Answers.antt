@@ -18,10 +18,11 @@ returns-in_ok-alone-in-Alone-clause-code g c =
     let t = tree_of c.args.callee.now in
     let ts = trees (map tree_of c.args.args.now) in
     let x = built c.args.builder.now in
+    let known = c.callee_of-found.ensures ∙ ap (λ w. callee_of (program_of p) t w c.args.place) c.picked.ensures in
     by_alone (alone_code p ts sc c.args.around) (member_code p t ts sc c.args.around)
-      (picked_code p t sc c.args.around) (quotient_code p ts sc c.args.around) x _
-      (callee_of (program_of p) t (picked ts) c.args.place) (form_of c.in-Alone.action)
-      (sym (ap called c.in-Alone.is) ∙ c.callee_of-found.ensures ∙ ap (λ w. callee_of (program_of p) t w c.args.place) c.picked.ensures) c.in_ok-alone-in-Alone.ensures.code
+    (picked_code p t sc c.args.around) (quotient_code p ts sc c.args.around) x _
+    (callee_of (program_of p) t (picked ts) c.args.place) (form_of c.in-Alone.action)
+    (sym (ap called c.in-Alone.is) ∙ known) c.in_ok-alone-in-Alone.ensures.code
 
 pub returns-in_ok-of_object-in-OfObject-clause-code : goal.returns-in_ok-of_object-in-OfObject-clause-code
 returns-in_ok-of_object-in-OfObject-clause-code g c =
@@ -30,12 +31,13 @@ returns-in_ok-of_object-in-OfObject-clause-code g c =
     let t = tree_of c.args.callee.now in
     let ts = trees (map tree_of c.args.args.now) in
     let x = built c.args.builder.now in
+    let known = c.callee_of-found.ensures ∙ ap (λ w. callee_of (program_of p) t w c.args.place) c.picked.ensures in
     by_object (alone_code p ts sc c.args.around) (member_code p t ts sc c.args.around)
-      (picked_code p t sc c.args.around) (quotient_code p ts sc c.args.around) x _
-      (callee_of (program_of p) t (picked ts) c.args.place) (form_of c.in-OfObject.action)
-      (sym (ap called c.in-OfObject.is) ∙ c.callee_of-found.ensures ∙ ap (λ w. callee_of (program_of p) t w c.args.place) c.picked.ensures)
-      (with_object p t ts sc c.args.around (form_of c.in-OfObject.action) (picked ts) c.args.place x _
-        (sym (ap called c.in-OfObject.is) ∙ c.callee_of-found.ensures ∙ ap (λ w. callee_of (program_of p) t w c.args.place) c.picked.ensures) c.in_ok-of_object-in-OfObject.ensures.code)
+    (picked_code p t sc c.args.around) (quotient_code p ts sc c.args.around) x _
+    (callee_of (program_of p) t (picked ts) c.args.place) (form_of c.in-OfObject.action)
+    (sym (ap called c.in-OfObject.is) ∙ known)
+    (with_object p t ts sc c.args.around (form_of c.in-OfObject.action) (picked ts) c.args.place x _
+    (sym (ap called c.in-OfObject.is) ∙ known) c.in_ok-of_object-in-OfObject.ensures.code)
 
 pub returns-in_ok-of_value-in-OfValue-clause-code : goal.returns-in_ok-of_value-in-OfValue-clause-code
 returns-in_ok-of_value-in-OfValue-clause-code g c =
@@ -44,10 +46,11 @@ returns-in_ok-of_value-in-OfValue-clause-code g c =
     let t = tree_of c.args.callee.now in
     let ts = trees (map tree_of c.args.args.now) in
     let x = built c.args.builder.now in
+    let known = c.callee_of-found.ensures ∙ ap (λ w. callee_of (program_of p) t w c.args.place) c.picked.ensures in
     by_value (alone_code p ts sc c.args.around) (member_code p t ts sc c.args.around)
-      (picked_code p t sc c.args.around) (quotient_code p ts sc c.args.around) x _
-      (callee_of (program_of p) t (picked ts) c.args.place) (form_of c.in-OfValue.action)
-      (sym (ap called c.in-OfValue.is) ∙ c.callee_of-found.ensures ∙ ap (λ w. callee_of (program_of p) t w c.args.place) c.picked.ensures) c.in_ok-of_value-in-OfValue.ensures.code
+    (picked_code p t sc c.args.around) (quotient_code p ts sc c.args.around) x _
+    (callee_of (program_of p) t (picked ts) c.args.place) (form_of c.in-OfValue.action)
+    (sym (ap called c.in-OfValue.is) ∙ known) c.in_ok-of_value-in-OfValue.ensures.code
 
 pub returns-in_ok-of_quotient-in-OfQuotient-clause-code : goal.returns-in_ok-of_quotient-in-OfQuotient-clause-code
 returns-in_ok-of_quotient-in-OfQuotient-clause-code g c =
@@ -56,10 +59,11 @@ returns-in_ok-of_quotient-in-OfQuotient-clause-code g c =
     let t = tree_of c.args.callee.now in
     let ts = trees (map tree_of c.args.args.now) in
     let x = built c.args.builder.now in
+    let known = c.callee_of-found.ensures ∙ ap (λ w. callee_of (program_of p) t w c.args.place) c.picked.ensures in
     by_quotient (alone_code p ts sc c.args.around) (member_code p t ts sc c.args.around)
-      (picked_code p t sc c.args.around) (quotient_code p ts sc c.args.around) x _
-      (callee_of (program_of p) t (picked ts) c.args.place) (form_of c.in-OfQuotient.action)
-      (sym (ap called c.in-OfQuotient.is) ∙ c.callee_of-found.ensures ∙ ap (λ w. callee_of (program_of p) t w c.args.place) c.picked.ensures) c.in_ok-of_quotient-in-OfQuotient.ensures.code
+    (picked_code p t sc c.args.around) (quotient_code p ts sc c.args.around) x _
+    (callee_of (program_of p) t (picked ts) c.args.place) (form_of c.in-OfQuotient.action)
+    (sym (ap called c.in-OfQuotient.is) ∙ known) c.in_ok-of_quotient-in-OfQuotient.ensures.code
 
 pub returns-in_ok-stuck-in-None-clause-code : goal.returns-in_ok-stuck-in-None-clause-code
 returns-in_ok-stuck-in-None-clause-code g c =
@@ -68,6 +72,7 @@ returns-in_ok-stuck-in-None-clause-code g c =
     let t = tree_of c.args.callee.now in
     let ts = trees (map tree_of c.args.args.now) in
     let x = built c.args.builder.now in
+    let known = c.callee_of-found.ensures ∙ ap (λ w. callee_of (program_of p) t w c.args.place) c.picked.ensures in
     by_none (alone_code p ts sc c.args.around) (member_code p t ts sc c.args.around)
-      (picked_code p t sc c.args.around) (quotient_code p ts sc c.args.around) x _
-      (callee_of (program_of p) t (picked ts) c.args.place) (sym (ap called c.in-None.is) ∙ c.callee_of-found.ensures ∙ ap (λ w. callee_of (program_of p) t w c.args.place) c.picked.ensures) c.in_ok-stuck-in-None.ensures
+    (picked_code p t sc c.args.around) (quotient_code p ts sc c.args.around) x _
+    (callee_of (program_of p) t (picked ts) c.args.place) (sym (ap called c.in-None.is) ∙ known) c.in_ok-stuck-in-None.ensures

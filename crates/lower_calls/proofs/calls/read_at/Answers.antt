@@ -19,10 +19,11 @@ returns-in_ok-alone-in-Alone-clause-code g c =
     let t = tree_of c.args.callee.now in
     let ts = trees (map tree_of c.args.args.now) in
     let x = built c.args.builder.now in
+    let known = c.callee_of-found.ensures in
     by_alone (alone_code p ts sc c.args.around) (member_code p t ts sc c.args.around)
-      (indexed_code p t ts sc c.args.around) (quotient_code p ts sc c.args.around) x _
-      (callee_of (program_of p) t form.indexing c.args.place) (form_of c.in-Alone.action)
-      (sym (ap called c.in-Alone.is) ∙ c.callee_of-found.ensures) c.in_ok-alone-in-Alone.ensures.code
+    (indexed_code p t ts sc c.args.around) (quotient_code p ts sc c.args.around) x _
+    (callee_of (program_of p) t form.indexing c.args.place) (form_of c.in-Alone.action)
+    (sym (ap called c.in-Alone.is) ∙ known) c.in_ok-alone-in-Alone.ensures.code
 
 pub returns-in_ok-of_object-in-OfObject-clause-code : goal.returns-in_ok-of_object-in-OfObject-clause-code
 returns-in_ok-of_object-in-OfObject-clause-code g c =
@@ -31,12 +32,13 @@ returns-in_ok-of_object-in-OfObject-clause-code g c =
     let t = tree_of c.args.callee.now in
     let ts = trees (map tree_of c.args.args.now) in
     let x = built c.args.builder.now in
+    let known = c.callee_of-found.ensures in
     by_object (alone_code p ts sc c.args.around) (member_code p t ts sc c.args.around)
-      (indexed_code p t ts sc c.args.around) (quotient_code p ts sc c.args.around) x _
-      (callee_of (program_of p) t form.indexing c.args.place) (form_of c.in-OfObject.action)
-      (sym (ap called c.in-OfObject.is) ∙ c.callee_of-found.ensures)
-      (with_object p t ts sc c.args.around (form_of c.in-OfObject.action) form.indexing c.args.place x _
-        (sym (ap called c.in-OfObject.is) ∙ c.callee_of-found.ensures) c.in_ok-of_object-in-OfObject.ensures.code)
+    (indexed_code p t ts sc c.args.around) (quotient_code p ts sc c.args.around) x _
+    (callee_of (program_of p) t form.indexing c.args.place) (form_of c.in-OfObject.action)
+    (sym (ap called c.in-OfObject.is) ∙ known)
+    (with_object p t ts sc c.args.around (form_of c.in-OfObject.action) form.indexing c.args.place x _
+    (sym (ap called c.in-OfObject.is) ∙ known) c.in_ok-of_object-in-OfObject.ensures.code)
 
 pub returns-in_ok-indexed-in-OfValue-clause-code : goal.returns-in_ok-indexed-in-OfValue-clause-code
 returns-in_ok-indexed-in-OfValue-clause-code g c =
@@ -45,10 +47,11 @@ returns-in_ok-indexed-in-OfValue-clause-code g c =
     let t = tree_of c.args.callee.now in
     let ts = trees (map tree_of c.args.args.now) in
     let x = built c.args.builder.now in
+    let known = c.callee_of-found.ensures in
     by_value (alone_code p ts sc c.args.around) (member_code p t ts sc c.args.around)
-      (indexed_code p t ts sc c.args.around) (quotient_code p ts sc c.args.around) x _
-      (callee_of (program_of p) t form.indexing c.args.place) (form_of c.in-OfValue.action)
-      (sym (ap called c.in-OfValue.is) ∙ c.callee_of-found.ensures) c.in_ok-indexed-in-OfValue.ensures.code
+    (indexed_code p t ts sc c.args.around) (quotient_code p ts sc c.args.around) x _
+    (callee_of (program_of p) t form.indexing c.args.place) (form_of c.in-OfValue.action)
+    (sym (ap called c.in-OfValue.is) ∙ known) c.in_ok-indexed-in-OfValue.ensures.code
 
 pub returns-in_ok-of_quotient-in-OfQuotient-clause-code : goal.returns-in_ok-of_quotient-in-OfQuotient-clause-code
 returns-in_ok-of_quotient-in-OfQuotient-clause-code g c =
@@ -57,10 +60,11 @@ returns-in_ok-of_quotient-in-OfQuotient-clause-code g c =
     let t = tree_of c.args.callee.now in
     let ts = trees (map tree_of c.args.args.now) in
     let x = built c.args.builder.now in
+    let known = c.callee_of-found.ensures in
     by_quotient (alone_code p ts sc c.args.around) (member_code p t ts sc c.args.around)
-      (indexed_code p t ts sc c.args.around) (quotient_code p ts sc c.args.around) x _
-      (callee_of (program_of p) t form.indexing c.args.place) (form_of c.in-OfQuotient.action)
-      (sym (ap called c.in-OfQuotient.is) ∙ c.callee_of-found.ensures) c.in_ok-of_quotient-in-OfQuotient.ensures.code
+    (indexed_code p t ts sc c.args.around) (quotient_code p ts sc c.args.around) x _
+    (callee_of (program_of p) t form.indexing c.args.place) (form_of c.in-OfQuotient.action)
+    (sym (ap called c.in-OfQuotient.is) ∙ known) c.in_ok-of_quotient-in-OfQuotient.ensures.code
 
 pub returns-in_ok-stuck-in-None-clause-code : goal.returns-in_ok-stuck-in-None-clause-code
 returns-in_ok-stuck-in-None-clause-code g c =
@@ -69,6 +73,7 @@ returns-in_ok-stuck-in-None-clause-code g c =
     let t = tree_of c.args.callee.now in
     let ts = trees (map tree_of c.args.args.now) in
     let x = built c.args.builder.now in
+    let known = c.callee_of-found.ensures in
     by_none (alone_code p ts sc c.args.around) (member_code p t ts sc c.args.around)
-      (indexed_code p t ts sc c.args.around) (quotient_code p ts sc c.args.around) x _
-      (callee_of (program_of p) t form.indexing c.args.place) (sym (ap called c.in-None.is) ∙ c.callee_of-found.ensures) c.in_ok-stuck-in-None.ensures
+    (indexed_code p t ts sc c.args.around) (quotient_code p ts sc c.args.around) x _
+    (callee_of (program_of p) t form.indexing c.args.place) (sym (ap called c.in-None.is) ∙ known) c.in_ok-stuck-in-None.ensures

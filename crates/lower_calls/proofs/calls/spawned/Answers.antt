@@ -9,5 +9,6 @@ pub returns-clause-code : goal.returns-clause-code
 returns-clause-code g c =
     let p = c.args.lowering.now.tables.now.program.now in
     let sc = scope_of c.args.scopes.now in
-    applied_made (λ b ts. spawned_code p (Some (b, ts)) c.args.place sc c.args.around) c.args.parts.now c.get.result.now c.as_slice.result.now
-      (built c.args.builder.now) _ c.get.ensures c.as_slice.ensures c.in_ok-started.ensures.code
+    applied_made (λ b ts. spawned_code p (Some (b, ts)) c.args.place sc c.args.around) c.args.parts.now
+    c.get.result.now c.as_slice.result.now
+    (built c.args.builder.now) _ c.get.ensures c.as_slice.ensures c.in_ok-started.ensures.code

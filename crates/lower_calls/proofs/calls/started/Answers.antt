@@ -20,10 +20,11 @@ returns-in_ok-alone-in-Alone-clause-code g c =
     let t = tree_of c.args.callee.now in
     let ts = trees (map tree_of c.args.args.now) in
     let x = built c.args.builder.now in
+    let known = c.spawned_callee-found.ensures ∙ ap spawned_callee c.callee_of.ensures in
     by_alone (alone_code p ts sc c.args.around) (member_code p t ts sc c.args.around)
-      (λ f. stuck) (λ f. stuck) x _
-      (spawned_callee (callee_of (program_of p) t (form.picking None) c.args.place)) (form_of c.in-Alone.action)
-      (sym (ap called c.in-Alone.is) ∙ c.spawned_callee-found.ensures ∙ ap spawned_callee c.callee_of.ensures) c.in_ok-alone-in-Alone.ensures.code
+    (λ f. stuck) (λ f. stuck) x _
+    (spawned_callee (callee_of (program_of p) t (form.picking None) c.args.place)) (form_of c.in-Alone.action)
+    (sym (ap called c.in-Alone.is) ∙ known) c.in_ok-alone-in-Alone.ensures.code
 
 pub returns-in_ok-of_object-in-OfObject-clause-code : goal.returns-in_ok-of_object-in-OfObject-clause-code
 returns-in_ok-of_object-in-OfObject-clause-code g c =
@@ -32,12 +33,13 @@ returns-in_ok-of_object-in-OfObject-clause-code g c =
     let t = tree_of c.args.callee.now in
     let ts = trees (map tree_of c.args.args.now) in
     let x = built c.args.builder.now in
+    let known = c.spawned_callee-found.ensures ∙ ap spawned_callee c.callee_of.ensures in
     by_object (alone_code p ts sc c.args.around) (member_code p t ts sc c.args.around)
-      (λ f. stuck) (λ f. stuck) x _
-      (spawned_callee (callee_of (program_of p) t (form.picking None) c.args.place)) (form_of c.in-OfObject.action)
-      (sym (ap called c.in-OfObject.is) ∙ c.spawned_callee-found.ensures ∙ ap spawned_callee c.callee_of.ensures)
-      (spawned_with p t ts sc c.args.around (form_of c.in-OfObject.action) (form.picking None) c.args.place x _
-        (sym (ap called c.in-OfObject.is) ∙ c.spawned_callee-found.ensures ∙ ap spawned_callee c.callee_of.ensures) c.in_ok-of_object-in-OfObject.ensures.code)
+    (λ f. stuck) (λ f. stuck) x _
+    (spawned_callee (callee_of (program_of p) t (form.picking None) c.args.place)) (form_of c.in-OfObject.action)
+    (sym (ap called c.in-OfObject.is) ∙ known)
+    (spawned_with p t ts sc c.args.around (form_of c.in-OfObject.action) (form.picking None) c.args.place x _
+    (sym (ap called c.in-OfObject.is) ∙ known) c.in_ok-of_object-in-OfObject.ensures.code)
 
 pub returns-in_ok-stuck-in_default : goal.returns-in_ok-stuck-in_default
 returns-in_ok-stuck-in_default g c =
