@@ -265,7 +265,6 @@ pub fn case<
         &'a Expr,
     ) -> Result<(), Memory>,
 >(
-    alloc: Global,
     lowering: &Lowering<'a, F>,
     builder: &mut Builder,
     scopes: &mut Scopes<'a>,
@@ -283,7 +282,7 @@ pub fn case<
     lowering.part(builder, scopes, around, subject(cases))?;
     builder.put_away(local)?;
     scopes.add(Slot::Hidden)?;
-    all_arms(alloc, lowering, builder, scopes, around, local, arms(cases))?;
+    all_arms(lowering.tables.alloc, lowering, builder, scopes, around, local, arms(cases))?;
     scopes.cut(local);
     Ok(())
 }

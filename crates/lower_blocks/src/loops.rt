@@ -296,7 +296,6 @@ fn for_inside<
 }
 
 /// `for`
-
 pub fn for_form<
     'a,
     F: Fn(
@@ -308,7 +307,6 @@ pub fn for_form<
         &'a Expr,
     ) -> Result<(), Memory>,
 >(
-    alloc: Global,
     lowering: &Lowering<'a, F>,
     builder: &mut Builder,
     scopes: &mut Scopes<'a>,
@@ -325,7 +323,7 @@ pub fn for_form<
 {
     let local = scopes.count()?;
     let mark = for_begin(builder, place, local)?;
-    for_inside(alloc, lowering, builder, scopes, around, mark, parts)?;
+    for_inside(lowering.tables.alloc, lowering, builder, scopes, around, mark, parts)?;
     for_end(builder, mark, local)?;
     Ok(())
 }

@@ -32,7 +32,8 @@ use verse_tree::tables::Ref;
 /// A program with lists of its items.
 #[derive(Drop)]
 pub struct Tables<'a> {
-    alloc: Global,
+    /// Where lists are made.
+    pub alloc: Global,
     pub program: &'a Program,
     enum_items: Vec<&'a EnumItem>,
     class_items: Vec<&'a ClassItem>,

@@ -278,10 +278,10 @@ module _ (p : Program) (n : ℕ) (pl : Place) (sc : Scope) (a : Around) where
   if_code cs b None = refl
   if_code cs b (Some c) = refl
 
-  pub event_code : (o : Option TyExpr) → form_code p (event_shape o) n pl sc a ≡ placed pl o.Event
+  pub event_code : (x : Option TyExpr) → form_code p (event_shape x) n pl sc a ≡ placed pl o.Event
   event_code None = refl
   event_code (Some w) = refl
 
-  pub sleep_code : (o : Option ℕ) → form_code p (sleep_shape o) n pl sc a ≡ one (sleep_op o)
+  pub sleep_code : (x : Option ℕ) → form_code p (sleep_shape x) n pl sc a ≡ one (sleep_op x)
   sleep_code None = refl
   sleep_code (Some d) = refl

@@ -15,12 +15,12 @@ ghost use Rattle.lower_blocks.specs.Codes.{no_place};
 ghost use Rattle.lower_parts.specs.Parts.{Lowers, form_code, tree_code};
 
 use lower_blocks::blocks::{block, constant, returned, variable};
-
+use lower_blocks::cases::case;
 use lower_blocks::failing::{and, if_form, logic, negation, option, or};
-
+use lower_blocks::loops::{for_form, loop_form};
 use lower_calls::calls::{call, index, spawn};
 use lower_calls::members::member;
-
+use lower_calls::targets::set;
 use lower_calls::tasks::{branch, group};
 use lower_code::arounds::Around;
 use lower_expr::builder::Builder;
@@ -136,7 +136,7 @@ fn form<
         Form::Let(_, value) => constant(lowering, builder, scopes, around, value.get()),
         Form::Def(_, typed) => constant(lowering, builder, scopes, around, value(typed)),
         Form::VarDef(_, typed) => variable(lowering, builder, scopes, around, place, value(typed)),
-        Form::Set(..) => builder.stuck(),
+        Form::Set(assign, two) => set(lowering, builder, scopes, around, place, *assign, two),
         Form::Return(value) => leave(lowering, builder, scopes, around, value),
         Form::Break => builder.breaking(around),
         Form::If(parts) => if_form(lowering, builder, scopes, around, parts),
@@ -163,14 +163,14 @@ fn form<
         Form::Logic(parts) => logic(lowering, builder, scopes, around, parts.as_slice()),
         Form::Instance(_, parts) => instance(lowering, builder, scopes, around, node, place, parts.as_slice()),
         Form::Event(_) => builder.placed(place, Op::Event(0)),
-        Form::For(..) => builder.stuck(),
-        Form::Loop(..) => builder.stuck(),
+        Form::For(parts) => for_form(lowering, builder, scopes, around, place, parts),
+        Form::Loop(part) => loop_form(lowering, builder, scopes, around, part.get()),
         Form::BlockForm(part) => lowering.part(builder, scopes, around, part.get()),
         Form::Branch(part) => branch(lowering, builder, scopes, around, part.get()),
         Form::Sync(parts) => group(lowering, builder, scopes, Kind::Sync, place, parts.as_slice()),
         Form::Race(parts) => group(lowering, builder, scopes, Kind::Race, place, parts.as_slice()),
         Form::Rush(parts) => group(lowering, builder, scopes, Kind::Rush, place, parts.as_slice()),
-        Form::Case(..) => builder.stuck(),
+        Form::Case(cases) => case(lowering, builder, scopes, around, cases),
         Form::Spawn(part) => spawn(lowering, builder, scopes, around, part.get()),
         Form::Sleep(duration) => sleeping(builder, duration),
         Form::Elements(..) => builder.stuck(),

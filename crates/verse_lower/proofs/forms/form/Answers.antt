@@ -1,7 +1,9 @@
 use Rattle.std.proofs.Common.{ap, ◌∙◌}
+use Rattle.std.specs.Option.{option_map}
+use Rattle.verse_tree.specs.View.{tree_of, trees, if_of}
 use Rattle.lower_expr.specs.Locals.{scope_of}
 use Rattle.lower_parts.specs.Parts.{form_code}
-use Rattle.verse_lower.proofs.Shapes.{event_code, if_code, is_arm, is_array, is_block, is_blockform, is_branch, is_call, is_chain, is_compare, is_def, is_elements, is_entries, is_event, is_holes, is_if, is_index, is_instance, is_let, is_logic, is_map, is_member, is_name, is_neg, is_not, is_option, is_query, is_race, is_range, is_return, is_rush, is_sleep, is_spawn, is_sync, is_tuple, is_vardef, return_code, sleep_code}
+use Rattle.verse_lower.proofs.Shapes.{event_code, if_code, is_arm, is_array, is_block, is_blockform, is_branch, is_call, is_case, is_chain, is_compare, is_def, is_elements, is_entries, is_event, is_for, is_holes, is_if, is_index, is_instance, is_let, is_logic, is_loop, is_map, is_member, is_name, is_neg, is_not, is_option, is_query, is_race, is_range, is_return, is_rush, is_set, is_sleep, is_spawn, is_sync, is_tuple, is_vardef, return_code, sleep_code}
 use Rattle.verse_lower.proofs.forms.form.Goals as goal
 
 pub returns-in-Block-clause-code : goal.returns-in-Block-clause-code
@@ -20,13 +22,13 @@ pub returns-in-Return-clause-code : goal.returns-in-Return-clause-code
 returns-in-Return-clause-code g c =
     let p = c.args.lowering.now.tables.now.program.now in
     let sc = scope_of c.args.scopes.now in
-    rw (ap (λ s. form_code p s c.args.node c.args.place sc c.args.around) (is_return _ _ c.in-Return.is) ∙ return_code p c.args.node c.args.place sc c.args.around _) c.leave.ensures.code
+    rw (ap (λ s. form_code p s c.args.node c.args.place sc c.args.around) (is_return _ _ c.in-Return.is) ∙ return_code p c.args.node c.args.place sc c.args.around (option_map tree_of c.in-Return.value)) c.leave.ensures.code
 
 pub returns-in-If-clause-code : goal.returns-in-If-clause-code
 returns-in-If-clause-code g c =
     let p = c.args.lowering.now.tables.now.program.now in
     let sc = scope_of c.args.scopes.now in
-    rw (ap (λ s. form_code p s c.args.node c.args.place sc c.args.around) (is_if _ _ c.in-If.is) ∙ if_code p c.args.node c.args.place sc c.args.around _ _ _) c.if_form.ensures.code
+    rw (ap (λ s. form_code p s c.args.node c.args.place sc c.args.around) (is_if _ _ c.in-If.is) ∙ if_code p c.args.node c.args.place sc c.args.around (trees (if_of c.in-If.parts).conditions) (if_of c.in-If.parts).taken (if_of c.in-If.parts).otherwise) c.if_form.ensures.code
 
 pub returns-in-Chain-clause-code : goal.returns-in-Chain-clause-code
 returns-in-Chain-clause-code g c = rw (is_chain _ _ _ c.in-Chain.is) c.chain.ensures.code
@@ -110,10 +112,22 @@ pub returns-in-Event-clause-code : goal.returns-in-Event-clause-code
 returns-in-Event-clause-code g c =
     let p = c.args.lowering.now.tables.now.program.now in
     let sc = scope_of c.args.scopes.now in
-    rw (ap (λ s. form_code p s c.args.node c.args.place sc c.args.around) (is_event _ _ c.in-Event.is) ∙ event_code p c.args.node c.args.place sc c.args.around _) c.placed.ensures
+    rw (ap (λ s. form_code p s c.args.node c.args.place sc c.args.around) (is_event _ _ c.in-Event.is) ∙ event_code p c.args.node c.args.place sc c.args.around c.in-Event.field-0) c.placed.ensures
 
 pub returns-in-Sleep-clause-code : goal.returns-in-Sleep-clause-code
 returns-in-Sleep-clause-code g c =
     let p = c.args.lowering.now.tables.now.program.now in
     let sc = scope_of c.args.scopes.now in
-    rw (ap (λ s. form_code p s c.args.node c.args.place sc c.args.around) (is_sleep _ _ c.in-Sleep.is) ∙ sleep_code p c.args.node c.args.place sc c.args.around _) c.sleeping.ensures
+    rw (ap (λ s. form_code p s c.args.node c.args.place sc c.args.around) (is_sleep _ _ c.in-Sleep.is) ∙ sleep_code p c.args.node c.args.place sc c.args.around c.in-Sleep.duration) c.sleeping.ensures
+
+pub returns-in-Set-clause-code : goal.returns-in-Set-clause-code
+returns-in-Set-clause-code g c = rw (is_set _ _ _ c.in-Set.is) c.set.ensures.code
+
+pub returns-in-For-clause-code : goal.returns-in-For-clause-code
+returns-in-For-clause-code g c = rw (is_for _ _ c.in-For.is) c.for_form.ensures.code
+
+pub returns-in-Loop-clause-code : goal.returns-in-Loop-clause-code
+returns-in-Loop-clause-code g c = rw (is_loop _ _ _ c.in-Loop.is c.get-in-Loop.ensures) c.loop_form.ensures.code
+
+pub returns-in-Case-clause-code : goal.returns-in-Case-clause-code
+returns-in-Case-clause-code g c = rw (is_case _ _ c.in-Case.is) c.case.ensures.code
