@@ -296,7 +296,6 @@ fn for_inside<
 }
 
 /// `for`
-
 pub fn for_form<
     'a,
     F: Fn(
