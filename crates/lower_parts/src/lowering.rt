@@ -24,9 +24,15 @@ pub struct Lowering<'a, F> {
 
 impl<
     'a,
-    F: Fn(&'a Tables<'a>, u32, &mut Builder, &mut Scopes<'a>, Around, &'a Expr) -> Result<(), Memory>,
-> Lowering<'a, F>
-{
+    F: Fn(
+        &'a Tables<'a>,
+        u32,
+        &mut Builder,
+        &mut Scopes<'a>,
+        Around,
+        &'a Expr,
+    ) -> Result<(), Memory>,
+> Lowering<'a, F> {
     /// A part of the form.
     pub fn part(
         &self,
