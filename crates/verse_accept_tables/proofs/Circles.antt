@@ -16,7 +16,7 @@ use Rattle.verse_names_items.specs.Rules as rules
 use Rattle.verse_names_items.specs.Nodes.{Declared, number_of, one, members_declared, fun_declared, item_declared, items_declared}
 use Rattle.verse_names_items.specs.Nodes.{program_declared, keep_fault, Breaks, ItemsBreak}
 use Rattle.verse_meaning.specs.Programs.{classes}
-use Rattle.lower_simulation_values.proofs.Tables.{Every}
+use Rattle.lower_bounds.proofs.Lists.{Each, each_first, each_rest}
 use Rattle.verse_accept_tables.proofs.Classes.{outline_many}
 use Rattle.verse_accept_tables.proofs.Lines.{NoCircle}
 
@@ -25,24 +25,15 @@ abbrev pub Kept : Known → Declared → Type 0
 Kept k d = (c : ℕ) → Holds (rules_at k d.subject) c → ⊥
 
 all_kept : (k : Known) (ds : List Declared) (o : Option Fault) →
-    ((n c : ℕ) → Broken number_of (keep_fault k) (Breaks k) ds o n c → ⊥) → Every (Kept k) ds
+    ((n c : ℕ) → Broken number_of (keep_fault k) (Breaks k) ds o n c → ⊥) → Each (Kept k) ds
 all_kept k [] o h = tt
 all_kept k (d ∷ ds) o h = (
   (λ c b. h d.number c (here b)),
   all_kept k ds (keep_fault k d o) (λ n c b. h n c (later b)),
 )
 
-pub program_kept : (is : List ItemTree) → ((n c : ℕ) → ItemsBreak is n c → ⊥) → Every (Kept (known is)) (program_declared (known is) is)
+pub program_kept : (is : List ItemTree) → ((n c : ℕ) → ItemsBreak is n c → ⊥) → Each (Kept (known is)) (program_declared (known is) is)
 program_kept is h = all_kept (known is) (program_declared (known is) is) None h
-
-module _ {A : Type 0} (P : A → Type 0) where
-  pub first_of : (xs ys : List A) → Every P (xs ++ ys) → Every P xs
-  first_of [] ys h = tt
-  first_of (x ∷ xs) ys h = (h.0, first_of xs ys h.1)
-
-  pub rest_of : (xs ys : List A) → Every P (xs ++ ys) → Every P ys
-  rest_of [] ys h = h
-  rest_of (x ∷ xs) ys h = rest_of xs ys h.1
 
 pub holds_here : {b : Bool} {c : ℕ} {rs : List (ℕ × Bool)} → b ≡ true → Holds ((c, b) ∷ rs) c
 holds_here {c = c} {rs = rs} e = subst (λ (b : Bool). Holds ((c, b) ∷ rs) c) (sym e) this
@@ -58,7 +49,7 @@ module _ (k : Known) where
   straight true n c e h = absurd (h 42 (other (other (holds_here e))))
   straight false n c e h = refl
 
-  all_straight : (is : List ItemTree) (n : Counts) → Every (Kept k) (items_declared k (counted n is)) → Straight n.classes (classes is)
+  all_straight : (is : List ItemTree) (n : Counts) → Each (Kept k) (items_declared k (counted n is)) → Straight n.classes (classes is)
   all_straight [] n h = tt
   all_straight (using u ∷ is) n h = all_straight is (counts_after (using u) n) h.1
   all_straight (enumeration e ∷ is) n h = all_straight is (counts_after (enumeration e) n) h.1
@@ -66,13 +57,13 @@ module _ (k : Known) where
       let own = item_declared k (class c) n in
       let rest = items_declared k (counted (counts_after (class c) n) is) in
       let members = members_declared (home k n.classes c.members) n.funs c.members in
-      let at = rest_of (Kept k) members (one c.number c.place (rules.class n.classes c)) (first_of (Kept k) own rest h) in
+      let at = each_rest (Kept k) members (one c.number c.place (rules.class n.classes c)) (each_first (Kept k) own rest h) in
       (straight (leads_to k.outline n.classes (parent_of k.outline n.classes)) n.classes c refl at.0,
-       all_straight is (counts_after (class c) n) (rest_of (Kept k) own rest h))
+       all_straight is (counts_after (class c) n) (each_rest (Kept k) own rest h))
   all_straight (function f ∷ is) n h =
       let own = item_declared k (function f) n in
       let rest = items_declared k (counted (counts_after (function f) n) is) in
-      all_straight is (counts_after (function f) n) (rest_of (Kept k) own rest h)
+      all_straight is (counts_after (function f) n) (each_rest (Kept k) own rest h)
 
   at_number : (n d : ℕ) (cs : List ClassTree) → Straight n cs → d < length cs → leads_to k.outline (n + d) (parent_of k.outline (n + d)) ≡ false
   at_number n d [] h l = absurd (omega (arith, l))
@@ -93,8 +84,8 @@ no_circle is h d = by (slice_get k.outline d) refl
     k : Known
     k = known is
 
-    items : Every (Kept k) (items_declared k k.items)
-    items = first_of (Kept k) (items_declared k k.items) _ (program_kept is h)
+    items : Each (Kept k) (items_declared k k.items)
+    items = each_first (Kept k) (items_declared k k.items) _ (program_kept is h)
 
     by : (o : Option Class) → slice_get k.outline d ≡ o → leads_to k.outline d (parent_of k.outline d) ≡ false
     by None e = no_class k.outline d e

@@ -16,7 +16,7 @@ use Rattle.verse_names_declarations.specs.Known.{Note, notes, Known, known}
 use Rattle.verse_names_declarations.specs.Lines.{Members, with_member, with_members, with_note, with_notes, no_members, all_members, line, line_of}
 use Rattle.verse_names_items.specs.Tables.{fun_number, fun_numbers, class_tables_from, class_tables}
 use Rattle.verse_rules.specs.Naming.{made_class}
-use Rattle.lower_simulation_values.proofs.Tables.{Every}
+use Rattle.lower_bounds.proofs.Lists.{Each}
 use Rattle.lower_simulation_runs.specs.Programs.{methods_defined, defined_in, Distinct}
 use Rattle.verse_accept_tables.proofs.Sums.{total, weight, taken, within}
 use Rattle.verse_accept_tables.proofs.Lines.{NoCircle, line_distinct}
@@ -97,9 +97,9 @@ module _ (is : List ItemTree) where
   class_few h c = omega (arith, numbers_few (all_members k c).methods, notes_more c k.notes (line_of k.outline c),
       within (line_of k.outline c) (map own k.notes) (line_distinct k.outline h (length k.outline) c (omega arith)), all_own is no_counts)
 
-  tables_few : NoCircle k.outline → (c : ℕ) (os : List Class) → Every HasFew (map made_class (class_tables_from k c os))
+  tables_few : NoCircle k.outline → (c : ℕ) (os : List Class) → Each HasFew (map made_class (class_tables_from k c os))
   tables_few h c [] = tt
   tables_few h c (o ∷ os) = (class_few h c, tables_few h (c + 1) os)
 
-  pub classes_few : NoCircle k.outline → Every HasFew (map made_class (class_tables k))
+  pub classes_few : NoCircle k.outline → Each HasFew (map made_class (class_tables k))
   classes_few h = tables_few h 0 k.outline

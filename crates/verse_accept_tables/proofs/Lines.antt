@@ -7,7 +7,7 @@ use Rattle.verse_rules_types.specs.Types.{Class}
 use Rattle.verse_rules_types.specs.Fitting.{parent_of, above, first_above, inherits}
 use Rattle.verse_names_declarations.specs.Lines.{on_class, line}
 use Rattle.verse_names_items.specs.Rules.{leads_to}
-use Rattle.lower_simulation_values.proofs.Tables.{Every}
+use Rattle.lower_bounds.proofs.Lists.{Each}
 use Rattle.lower_simulation_runs.specs.Programs.{Absent, Distinct}
 use Rattle.verse_accept_tables.proofs.Sums.{few}
 
@@ -66,12 +66,12 @@ module _ (os : List Class) where
   abbrev pub ParentsWithin : Type 0
   ParentsWithin = (c p : ℕ) → parent_of os c ≡ Some p → p < length os
 
-  pub line_within : ParentsWithin → (n c : ℕ) → c < length os → Every (λ d. d < length os) (line os n c)
+  pub line_within : ParentsWithin → (n c : ℕ) → c < length os → Each (λ d. d < length os) (line os n c)
   line_within h zero c l = tt
   line_within h (suc n) c l = (l, by (parent_of os c) refl (λ p k. line_within h n p k))
     where
-      by : (o : Option ℕ) → parent_of os c ≡ o → ((p : ℕ) → p < length os → Every (λ d. d < length os) (line os n p)) →
-          Every (λ d. d < length os) (on_class o (line os n))
+      by : (o : Option ℕ) → parent_of os c ≡ o → ((p : ℕ) → p < length os → Each (λ d. d < length os) (line os n p)) →
+          Each (λ d. d < length os) (on_class o (line os n))
       by None e r = tt
       by (Some p) e r = r p (h c p e)
 

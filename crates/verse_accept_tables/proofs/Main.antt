@@ -15,12 +15,12 @@ use Rattle.verse_names_items.specs.Rules.{is_main_name, is_main, has_main, takes
 use Rattle.verse_names_items.specs.Rules as rules
 use Rattle.verse_names_items.specs.Nodes.{Declared, one, fun_declared, item_declared, items_declared, program_declared, ItemsBreak}
 use Rattle.verse_meaning.specs.Programs.{same_name, main_name, main_in}
-use Rattle.lower_simulation_values.proofs.Tables.{Every}
+use Rattle.lower_bounds.proofs.Lists.{Each, each_first, each_rest}
 use Rattle.lower_simulation_runs.specs.Programs.{Defined, a_function, defined_in}
 use Rattle.verse_accept_tables.proofs.Names.{same_bytes}
 use Rattle.verse_accept_tables.proofs.Functions.{as_function, functions_are}
 use Rattle.verse_accept_tables.proofs.Standing.{Last, next, whole}
-use Rattle.verse_accept_tables.proofs.Circles.{Kept, program_kept, first_of, rest_of, holds_here}
+use Rattle.verse_accept_tables.proofs.Circles.{Kept, program_kept, holds_here}
 
 -- what takes no more than the inputs
 few_types : (ts : List Ty) → takes_inputs ts ≡ true → length ts ≤ 1
@@ -66,20 +66,20 @@ module _ (all : List ItemTree) where
   abbrev Found : List ItemTree → Type 0
   Found is = (f : FunTree) × (main_in is ≡ Some f) × (length f.params ≤ 1)
 
-  found : (is : List ItemTree) (n : Counts) → Last all is n → Every (Kept k) (items_declared k (counted n is)) → has_main is ≡ true → Found is
+  found : (is : List ItemTree) (n : Counts) → Last all is n → Each (Kept k) (items_declared k (counted n is)) → has_main is ≡ true → Found is
   found [] n l h m = cc
   found (using u ∷ is) n l h m = found is (counts_after (using u) n) (next all is (using u) n l) h.1 m
   found (enumeration e ∷ is) n l h m = found is (counts_after (enumeration e) n) (next all is (enumeration e) n l) h.1 m
   found (class c ∷ is) n l h m =
       let own = item_declared k (class c) n in
       let rest = items_declared k (counted (counts_after (class c) n) is) in
-      found is (counts_after (class c) n) (next all is (class c) n l) (rest_of (Kept k) own rest h) m
+      found is (counts_after (class c) n) (next all is (class c) n l) (each_rest (Kept k) own rest h) m
   found (function f ∷ is) n l h m = by (is_main_name f.name) refl m (λ g. found is (counts_after (function f) n) (next all is (function f) n l)
-      (rest_of (Kept k) (item_declared k (function f) n) (items_declared k (counted (counts_after (function f) n) is)) h) g)
+      (each_rest (Kept k) (item_declared k (function f) n) (items_declared k (counted (counts_after (function f) n) is)) h) g)
     where
       own : Kept k (record { number = f.number; place = f.place; subject = rules.function n.funs f })
-      own = (rest_of (Kept k) (fun_declared f) (one f.number f.place (rules.function n.funs f))
-          (first_of (Kept k) (item_declared k (function f) n) (items_declared k (counted (counts_after (function f) n) is)) h)).0
+      own = (each_rest (Kept k) (fun_declared f) (one f.number f.place (rules.function n.funs f))
+          (each_first (Kept k) (item_declared k (function f) n) (items_declared k (counted (counts_after (function f) n) is)) h)).0
 
       named : (b : Bool) → is_main_name f.name ≡ b → main_in (function f ∷ is) ≡ cond b (Some f) (main_in is)
       named b e = ap (λ b. cond b (Some f) (main_in is)) (sym (same_bytes f.name main_name) ∙ e)
@@ -102,5 +102,5 @@ main_found is h =
     let items = items_declared k k.items in
     let own = one (length (items_order is)) program_place (rules.program is) in
     let kept = program_kept is h in
-    found is is no_counts (whole is) (first_of (Kept k) items own kept)
-    (has_it k is (has_main is) refl (rest_of (Kept k) items own kept).0)
+    found is is no_counts (whole is) (each_first (Kept k) items own kept)
+    (has_it k is (has_main is) refl (each_rest (Kept k) items own kept).0)

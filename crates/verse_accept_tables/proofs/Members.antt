@@ -19,13 +19,13 @@ use Rattle.verse_check.specs.Checking.{all_seen}
 use Rattle.verse_rules.specs.Naming.{named}
 use Rattle.verse_rules.specs.Sound.{completed}
 use Rattle.verse_meaning.specs.Programs as programs
-use Rattle.lower_simulation_values.proofs.Tables.{Every}
+use Rattle.lower_bounds.proofs.Lists.{Each}
 use Rattle.verse_accept_tables.proofs.Standing.{Stands, IsThere}
 use Rattle.verse_accept_tables.proofs.Referring.{named_there}
 
 module _ (all : List ItemTree) where
   abbrev pub AllThere : List (Option Ref) → Type 0
-  AllThere rs = Every (λ (o : Option Ref). Stands (IsThere all) o) rs
+  AllThere rs = Each (λ (o : Option Ref). Stands (IsThere all) o) rs
 
   found_there : (rs : List (Option Ref)) (n : ℕ) → AllThere rs → Stands (IsThere all) (referred (slice_get rs n))
   found_there [] n h = tt

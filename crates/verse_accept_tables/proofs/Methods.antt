@@ -15,7 +15,7 @@ use Rattle.verse_names_declarations.specs.Lines.{Members, with_member, with_memb
 use Rattle.verse_names_items.specs.Tables.{fun_number, fun_numbers, methods_of, class_table, class_tables_from, class_tables}
 use Rattle.verse_rules.specs.Naming.{made_class}
 use Rattle.verse_meaning.specs.Programs.{method_in}
-use Rattle.lower_simulation_values.proofs.Tables.{Every}
+use Rattle.lower_bounds.proofs.Lists.{Each, each_joined}
 use Rattle.lower_simulation_runs.specs.Programs.{Defined, a_function, a_method, methods_defined, defined_in}
 use Rattle.verse_accept_tables.proofs.Places.{Placed, first_placed}
 use Rattle.verse_accept_tables.proofs.Standing.{AllStand, put_stands, Last, next, whole}
@@ -49,7 +49,7 @@ module _ (all : List ItemTree) where
   abbrev pub IsNoted : Note → Type 0
   IsNoted n = Placed (defined_in all) n.first (methods_defined n.item.members)
 
-  all_noted : (is : List ItemTree) (n : Counts) → Last all is n → Every IsNoted (notes (counted n is))
+  all_noted : (is : List ItemTree) (n : Counts) → Last all is n → Each IsNoted (notes (counted n is))
   all_noted [] n l = tt
   all_noted (using u ∷ is) n l = all_noted is (counts_after (using u) n) (next all is (using u) n l)
   all_noted (enumeration e ∷ is) n l = all_noted is (counts_after (enumeration e) n) (next all is (enumeration e) n l)
@@ -59,40 +59,36 @@ module _ (all : List ItemTree) where
   )
   all_noted (function f ∷ is) n l = all_noted is (counts_after (function f) n) (next all is (function f) n l)
 
-  note_fits : (c : ℕ) (ns : List Note) (d : ℕ) (m : Members) → Every IsNoted ns → AllFit m.methods →
+  note_fits : (c : ℕ) (ns : List Note) (d : ℕ) (m : Members) → Each IsNoted ns → AllFit m.methods →
       AllFit (with_note c (slice_get ns d) m).methods
   note_fits c [] d m p h = h
   note_fits c (n ∷ ns) zero m p h = members_fit c n.first n.item.members m p.0 h
   note_fits c (n ∷ ns) (suc d) m p h = note_fits c ns d m p.1 h
 
-  notes_fit : (c : ℕ) (ns : List Note) (ds : List ℕ) → Every IsNoted ns → AllFit (with_notes ns c ds no_members).methods
+  notes_fit : (c : ℕ) (ns : List Note) (ds : List ℕ) → Each IsNoted ns → AllFit (with_notes ns c ds no_members).methods
   notes_fit c ns [] p = tt
   notes_fit c ns (d ∷ ds) p = note_fits c ns d (with_notes ns c ds no_members) p (notes_fit c ns ds p)
 
-  both : (xs ys : List ℕ) → Every IsMethod xs → Every IsMethod ys → Every IsMethod (xs ++ ys)
-  both [] ys h k = k
-  both (x ∷ xs) ys h k = (h.0, both xs ys h.1 k)
-
-  one_number : (r : Ref) → Fits r → Every IsMethod (fun_number r)
+  one_number : (r : Ref) → Fits r → Each IsMethod (fun_number r)
   one_number (ref.Fun n) h = (h, tt)
   one_number r h = tt
 
-  numbers_fit : (t : Table) → AllFit t → Every IsMethod (fun_numbers (meanings t))
+  numbers_fit : (t : Table) → AllFit t → Each IsMethod (fun_numbers (meanings t))
   numbers_fit [] h = tt
-  numbers_fit (e ∷ t) h = both (fun_number e.1) (fun_numbers (meanings t)) (one_number e.1 h.0) (numbers_fit t h.1)
+  numbers_fit (e ∷ t) h = each_joined IsMethod (fun_number e.1) (fun_numbers (meanings t)) (one_number e.1 h.0) (numbers_fit t h.1)
 
   -- a class of the table has methods alone
   abbrev pub HasMethods : ClassInfo → Type 0
-  HasMethods c = Every IsMethod c.methods
+  HasMethods c = Each IsMethod c.methods
 
-  tables_fit : (k : Known) (c : ℕ) (os : List Class) → Every IsNoted k.notes → Every HasMethods (map made_class (class_tables_from k c os))
+  tables_fit : (k : Known) (c : ℕ) (os : List Class) → Each IsNoted k.notes → Each HasMethods (map made_class (class_tables_from k c os))
   tables_fit k c [] p = tt
   tables_fit k c (o ∷ os) p = (
     numbers_fit (all_members k c).methods (notes_fit c k.notes (line_of k.outline c) p),
     tables_fit k (c + 1) os p,
   )
 
-  number_at : (fs : List ℕ) (m f : ℕ) → Every IsMethod fs → slice_get fs m ≡ Some f → IsMethod f
+  number_at : (fs : List ℕ) (m f : ℕ) → Each IsMethod fs → slice_get fs m ≡ Some f → IsMethod f
   number_at [] m f h e = cc
   number_at (g ∷ fs) zero f h e = subst (λ (o : Option ℕ). Given o) e h.0
     where
@@ -101,10 +97,10 @@ module _ (all : List ItemTree) where
       Given (Some g) = IsMethod g
   number_at (g ∷ fs) (suc m) f h e = number_at fs m f h.1 e
 
-  pub method_there : (cs : List ClassInfo) (c m f : ℕ) → Every HasMethods cs → method_in m (slice_get cs c) ≡ Some f → IsMethod f
+  pub method_there : (cs : List ClassInfo) (c m f : ℕ) → Each HasMethods cs → method_in m (slice_get cs c) ≡ Some f → IsMethod f
   method_there [] c m f h e = cc
   method_there (d ∷ cs) zero m f h e = number_at d.methods m f h.0 e
   method_there (d ∷ cs) (suc c) m f h e = method_there cs c m f h.1 e
 
-pub classes_fit : (is : List ItemTree) → Every (HasMethods is) (map made_class (class_tables (known is)))
+pub classes_fit : (is : List ItemTree) → Each (HasMethods is) (map made_class (class_tables (known is)))
 classes_fit is = tables_fit is (known is) 0 (known is).outline (all_noted is is no_counts (whole is))

@@ -15,7 +15,7 @@ use Rattle.verse_names_scopes.specs.Visible.{World, with_methods, inside, outsid
 use Rattle.verse_names_scopes.specs.Subjects.{Subject, quiet, type_name, this, used, instance, defined, both_defined, this_ref, refers}
 use Rattle.verse_names_scopes.specs.Subjects.{locals_behind}
 use Rattle.verse_names_scopes.specs.Visits.{Visit, Seen, ref_of, visit, leave, nothing_seen, program_visits}
-use Rattle.lower_simulation_values.proofs.Tables.{Every}
+use Rattle.lower_bounds.proofs.Lists.{Each}
 use Rattle.verse_accept_tables.proofs.Standing.{Stands, AllStand, look_stands, keep_stands, IsThere, items_stand, types_stand, builtins_stand}
 use Rattle.verse_accept_tables.proofs.Passing.{Gives, of_program}
 
@@ -95,7 +95,7 @@ module _ (all : List ItemTree) where
   -- ---- visits
 
   abbrev AreThere : List Visit → Type 0
-  AreThere vs = Every (λ (v : Visit). Stands (IsThere all) (ref_of v)) vs
+  AreThere vs = Each (λ (v : Visit). Stands (IsThere all) (ref_of v)) vs
 
   record Fine (s : Seen) : Type 0 where
     locals : There s.locals
@@ -133,10 +133,10 @@ visits_fine is =
     (of_program is visit leave (Fine is) (Holds is) (visit_fine is) (leave_fine is) (outside_holds is) (inside_holds is) nothing_seen
     (record { locals = tt; visits = tt })).visits
 
-refs_of : (all : List ItemTree) (vs : List Visit) → AreThere all vs → Every (λ (o : Option Ref). Stands (IsThere all) o) (map ref_of vs)
+refs_of : (all : List ItemTree) (vs : List Visit) → AreThere all vs → Each (λ (o : Option Ref). Stands (IsThere all) o) (map ref_of vs)
 refs_of all [] h = tt
 refs_of all (v ∷ vs) h = (h.0, refs_of all vs h.1)
 
 -- what nodes refer to by bare names
-pub named_there : (is : List ItemTree) → Every (λ (o : Option Ref). Stands (IsThere is) o) (map ref_of (program_visits is))
+pub named_there : (is : List ItemTree) → Each (λ (o : Option Ref). Stands (IsThere is) o) (map ref_of (program_visits is))
 named_there is = refs_of is (program_visits is) (visits_fine is)

@@ -12,7 +12,7 @@ use Rattle.verse_names_declarations.specs.Counting.{named_class_as, no_counts}
 use Rattle.verse_names_declarations.specs.declared.counting.Counts.{Counts}
 use Rattle.verse_names_declarations.specs.Known.{Index, indexed, index_all, no_index}
 use Rattle.verse_meaning.specs.Programs.{classes}
-use Rattle.lower_simulation_values.proofs.Tables.{Every}
+use Rattle.lower_bounds.proofs.Lists.{Each}
 use Rattle.lower_simulation_runs.specs.Programs.{Defined, a_function, a_method, methods_defined, defined_in}
 use Rattle.verse_accept_tables.proofs.Places.{Placed, all_placed, first_placed}
 
@@ -24,7 +24,7 @@ module _ (P : Ref → Type 0) where
   Stands (Some r) = P r
 
   abbrev pub AllStand : Table → Type 0
-  AllStand t = Every (λ (e : Bytes × Ref). P e.1) t
+  AllStand t = Each (λ (e : Bytes × Ref). P e.1) t
 
   pub look_stands : (x : Bytes) (t : Table) → AllStand t → Stands (look x t)
   look_stands x [] h = tt

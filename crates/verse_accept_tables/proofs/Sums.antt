@@ -1,6 +1,6 @@
 -- A list of numbers without repetition takes of a list of weights no more than there is.
 use Rattle.std.proofs.Common.{◌≡◌, ℕ, zero, suc, ◌+◌, ◌<◌, ◌≤◌, List, [], ◌∷◌, length, map, refl, ap, ◌∙◌, arith}
-use Rattle.lower_simulation_values.proofs.Tables.{Every}
+use Rattle.lower_bounds.proofs.Lists.{Each}
 use Rattle.lower_simulation_runs.specs.Programs.{Absent, Distinct}
 
 abbrev pub total : List ℕ → ℕ
@@ -58,10 +58,10 @@ weight_one zero d h = omega (arith, h)
 weight_one (suc n) zero h = refl
 weight_one (suc n) (suc d) h = weight_one n d (omega (arith, h))
 
-taken_ones : (n : ℕ) (ds : List ℕ) → Every (λ d. d < n) ds → taken (one_each n) ds ≡ length ds
+taken_ones : (n : ℕ) (ds : List ℕ) → Each (λ d. d < n) ds → taken (one_each n) ds ≡ length ds
 taken_ones n [] h = refl
 taken_ones n (d ∷ ds) h = omega (arith, weight_one n d h.0, taken_ones n ds h.1)
 
 -- there are no more of them than the bound
-pub few : (n : ℕ) (ds : List ℕ) → Every (λ d. d < n) ds → Distinct ds → length ds ≤ n
+pub few : (n : ℕ) (ds : List ℕ) → Each (λ d. d < n) ds → Distinct ds → length ds ≤ n
 few n ds h k = omega (arith, all_ones n, taken_ones n ds h, within ds (one_each n) k)

@@ -18,9 +18,9 @@ use Rattle.verse_rules.specs.Sound.{completed, size_of}
 use Rattle.verse_meaning.specs.Programs.{program_of, classes, fields_from, method_in}
 use Rattle.verse_meaning.specs.Programs as programs
 use Rattle.lower_bounds.specs.Programs.{MethodsFit, TablesAgree, HasMain}
-use Rattle.lower_simulation_values.proofs.Tables.{Every}
+use Rattle.lower_bounds.proofs.Lists.{Each}
 use Rattle.lower_simulation_runs.specs.Programs.{defined_in, NumbersAgree}
-use Rattle.verse_accept_tables.specs.Sound.{items_of, IsNamed}
+use Rattle.verse_accept_tables.specs.Sound.{items_of, IsSoundProgram}
 use Rattle.verse_accept_tables.specs.Laws.{NumbersStand, TablesStand, MainStands, SizeFits}
 use Rattle.verse_accept_tables.proofs.Numbers.{defined_apart, defaults_apart}
 use Rattle.verse_accept_tables.proofs.Functions.{numbers_are, as_many, bodies_many}
@@ -35,10 +35,10 @@ use Rattle.verse_accept_tables.proofs.Counts.{HasFew, classes_few, defined_few}
 use Rattle.verse_accept_tables.proofs.Main.{main_found}
 
 -- no rule of items and members is broken
-items_sound : (made : Made) → IsNamed made → (n c : ℕ) → ItemsBreak (items_of made) n c → ⊥
+items_sound : (made : Made) → IsSoundProgram made → (n c : ℕ) → ItemsBreak (items_of made) n c → ⊥
 items_sound made h n c b = h.sound n c (inl b)
 
-straight : (made : Made) → IsNamed made → NoCircle (known (items_of made)).outline
+straight : (made : Made) → IsSoundProgram made → NoCircle (known (items_of made)).outline
 straight made h = no_circle (items_of made) (items_sound made h)
 
 -- ---- numbers
@@ -47,18 +47,18 @@ pub numbers_stand : NumbersStand
 numbers_stand made h =
     let is = items_of made in
     record {
-      numbers = ap (λ (k : Names). map (λ (f : FunInfo). f.item) k.funs) h.tables ∙ numbers_are (known is).index.types is no_counts;
+      numbers = ap (λ (k : Names). map (λ (f : FunInfo). f.item) k.funs) h.names ∙ numbers_are (known is).index.types is no_counts;
       distinct = defined_apart is made.tree.nodes h.numbered;
       functions = λ n f e. ref_there is (completed is).refs n (ref.Fun f) (all_there is)
-          (ap (λ (k : Names). programs.known (slice_get k.refs n)) (sym h.tables) ∙ e);
+          (ap (λ (k : Names). programs.known (slice_get k.refs n)) (sym h.names) ∙ e);
       methods = λ c m f e. method_there is (completed is).classes c m f (classes_fit is)
-          (ap (λ (k : Names). method_in m (slice_get k.classes c)) (sym h.tables) ∙ e);
+          (ap (λ (k : Names). method_in m (slice_get k.classes c)) (sym h.names) ∙ e);
       fields = defaults_apart is made.tree.nodes h.numbered;
     }
 
 -- ---- tables
 
-all_of : {A : Type 0} (P : A → Type 0) (xs : List A) → Every P xs → All P xs
+all_of : {A : Type 0} (P : A → Type 0) (xs : List A) → Each P xs → All P xs
 all_of P [] h k d l = absurd (omega (arith, l))
 all_of P (x ∷ xs) h zero d l = h.0
 all_of P (x ∷ xs) h (suc k) d l = all_of P xs h.1 k d (omega (arith, l))
@@ -66,12 +66,12 @@ all_of P (x ∷ xs) h (suc k) d l = all_of P xs h.1 k d (omega (arith, l))
 number_within : (is : List ItemTree) (f : ℕ) → IsMethod is f → f < length (defined_in is)
 number_within is f h = slice_get_within (defined_in is) f _ h.1
 
-numbers_within : (is : List ItemTree) (m : ℕ) (fs : List ℕ) → m ≡ length (defined_in is) → Every (IsMethod is) fs → Every (λ f. f < m) fs
+numbers_within : (is : List ItemTree) (m : ℕ) (fs : List ℕ) → m ≡ length (defined_in is) → Each (IsMethod is) fs → Each (λ f. f < m) fs
 numbers_within is m [] e h = tt
 numbers_within is m (f ∷ fs) e h = (subst (λ n. f < n) (sym e) (number_within is f h.0), numbers_within is m fs e h.1)
 
 methods_fit : (is : List ItemTree) (m : ℕ) (cs : List ClassInfo) → m ≡ length (defined_in is) → length (defined_in is) ≤ 1048576 →
-    Every (HasMethods is) cs → Every (HasFew is) cs → Every (MethodsFit m) cs
+    Each (HasMethods is) cs → Each (HasFew is) cs → Each (MethodsFit m) cs
 methods_fit is m [] e l h g = tt
 methods_fit is m (c ∷ cs) e l h g = (
   record { count = omega (arith, l, g.0); methods = all_of _ c.methods (numbers_within is m c.methods e h.0) },
@@ -86,20 +86,20 @@ tables_stand made h =
     let is = items_of made in
     let k = known is in
     let functions : length made.names.funs ≡ length (defined_in is) =
-    ap (λ (k : Names). length k.funs) h.tables ∙ as_many k.index.types is no_counts in
+    ap (λ (k : Names). length k.funs) h.names ∙ as_many k.index.types is no_counts in
     let fit = methods_fit is (length made.names.funs) (completed is).classes functions (few is h.size) (classes_fit is)
     (classes_few is (straight made h)) in
     record {
       functions = functions ∙ sym (bodies_many is);
-      classes = ap (λ (k : Names). length k.classes) h.tables ∙ classes_many is;
-      fields = λ c. ap (λ (k : Names). class_fields (slice_get k.classes c)) h.tables ∙ fields_agree is (straight made h) c;
-      methods = subst (λ (k : Names). All (MethodsFit (length made.names.funs)) k.classes) (sym h.tables)
+      classes = ap (λ (k : Names). length k.classes) h.names ∙ classes_many is;
+      fields = λ c. ap (λ (k : Names). class_fields (slice_get k.classes c)) h.names ∙ fields_agree is (straight made h) c;
+      methods = subst (λ (k : Names). All (MethodsFit (length made.names.funs)) k.classes) (sym h.names)
           (all_of _ (completed is).classes fit);
       refs = λ n c e.
           let there = ref_there is (completed is).refs n (ref.Class c) (all_there is)
-          (ap (λ (k : Names). programs.known (slice_get k.refs n)) (sym h.tables) ∙ e) in
+          (ap (λ (k : Names). programs.known (slice_get k.refs n)) (sym h.names) ∙ e) in
           let within = slice_get_within (classes is) c there.0 there.1 in
-          subst (λ m. c < m) (sym (ap (λ (k : Names). length k.classes) h.tables ∙ classes_many is)) within;
+          subst (λ m. c < m) (sym (ap (λ (k : Names). length k.classes) h.names ∙ classes_many is)) within;
     }
 
 pub main_stands : MainStands
@@ -107,4 +107,4 @@ main_stands made h = main_found (items_of made) (items_sound made h)
 
 pub size_fits : SizeFits
 size_fits made h = subst (λ (k : Names). 16 * program_nodes (items_of made) + 4 * items_fields k (items_of made) ≤ MOST_OPERATIONS)
-    (sym h.tables) h.size
+    (sym h.names) h.size

@@ -1,4 +1,4 @@
--- What is known of the names of a program that the front end accepts.
+-- What the laws ask of a program: the front end accepts no other one.
 use Rattle.std.specs.Prelude.{◌≡◌, ℕ, ◌≤◌, List, map}
 use Rattle.verse_tree.specs.ItemTree.{ItemTree}
 use Rattle.verse_tree.specs.ItemView.{item_of}
@@ -10,9 +10,9 @@ use Rattle.verse_rules.specs.Sound.{completed, size_of, most_size}
 abbrev pub items_of : Made → List ItemTree
 items_of made = map item_of made.tree.items
 
-pub record IsNamed (made : Made) : Type 0 where
-  -- its tables are those of its items
-  pub tables : made.names ≡ completed (items_of made)
+pub record IsSoundProgram (made : Made) : Type 0 where
+  -- its tables are made of its items
+  pub names : made.names ≡ completed (items_of made)
   -- its nodes are numbered in written post-order
   pub numbered : IsNumbered (items_of made) made.tree.nodes
   -- no rule of names is broken
