@@ -1,5 +1,5 @@
 -- Where no rule of items and members is broken, no class inherits from itself.
-use Rattle.std.proofs.Common.{◌≡◌, ℕ, zero, suc, ◌+◌, ◌<◌, List, [], ◌∷◌, ◌++◌, length, Bool, true, false, refl, sym, ap, ◌∙◌, subst, arith}
+use Rattle.std.proofs.Common.{◌≡◌, ℕ, zero, suc, ◌+◌, ◌<◌, List, [], ◌∷◌, length, Bool, true, false, refl, sym, ap, ◌∙◌, subst, arith}
 use Rattle.std.proofs.lemmas.Option.{slice_get_within}
 use Rattle.std.specs.Prelude.{Option, Some, None, slice_get}
 use Rattle.verse_tree.specs.ItemTree.{ClassTree, ItemTree, using, enumeration, class, function}
@@ -7,13 +7,13 @@ use Rattle.verse_rules_least.specs.Least.{Broken, here, later, Holds, this, othe
 use Rattle.verse_rules_least.specs.declared.faults.Fault.{Fault}
 use Rattle.verse_rules_types.specs.Types.{Class}
 use Rattle.verse_rules_types.specs.Fitting.{parent_of}
-use Rattle.verse_names_declarations.specs.Counting.{Counted, counted, counts_after, no_counts}
+use Rattle.verse_names_declarations.specs.Counting.{counted, counts_after, no_counts}
 use Rattle.verse_names_declarations.specs.declared.counting.Counts.{Counts}
 use Rattle.verse_names_declarations.specs.Known.{Known, known}
 use Rattle.verse_names_declarations.specs.Lines.{home}
 use Rattle.verse_names_items.specs.Rules.{leads_to, rules_at}
 use Rattle.verse_names_items.specs.Rules as rules
-use Rattle.verse_names_items.specs.Nodes.{Declared, number_of, one, members_declared, fun_declared, item_declared, items_declared}
+use Rattle.verse_names_items.specs.Nodes.{Declared, number_of, one, members_declared, item_declared, items_declared}
 use Rattle.verse_names_items.specs.Nodes.{program_declared, keep_fault, Breaks, ItemsBreak}
 use Rattle.verse_meaning.specs.Programs.{classes}
 use Rattle.lower_bounds.proofs.Lists.{Each, each_first, each_rest}
@@ -57,15 +57,17 @@ module _ (k : Known) where
       let own = item_declared k (class c) n in
       let rest = items_declared k (counted (counts_after (class c) n) is) in
       let members = members_declared (home k n.classes c.members) n.funs c.members in
-      let at = each_rest (Kept k) members (one c.number c.place (rules.class n.classes c)) (each_first (Kept k) own rest h) in
-      (straight (leads_to k.outline n.classes (parent_of k.outline n.classes)) n.classes c refl at.0,
-       all_straight is (counts_after (class c) n) (each_rest (Kept k) own rest h))
+      let at = each_rest (Kept k) members (one c.number c.place (rules.class n.classes c)) (each_first (Kept k) own rest h) in (
+        straight (leads_to k.outline n.classes (parent_of k.outline n.classes)) n.classes c refl at.0,
+        all_straight is (counts_after (class c) n) (each_rest (Kept k) own rest h),
+      )
   all_straight (function f ∷ is) n h =
       let own = item_declared k (function f) n in
       let rest = items_declared k (counted (counts_after (function f) n) is) in
       all_straight is (counts_after (function f) n) (each_rest (Kept k) own rest h)
 
-  at_number : (n d : ℕ) (cs : List ClassTree) → Straight n cs → d < length cs → leads_to k.outline (n + d) (parent_of k.outline (n + d)) ≡ false
+  at_number : (n d : ℕ) (cs : List ClassTree) → Straight n cs → d < length cs →
+      leads_to k.outline (n + d) (parent_of k.outline (n + d)) ≡ false
   at_number n d [] h l = absurd (omega (arith, l))
   at_number n zero (c ∷ cs) h l = ap (λ m. leads_to k.outline m (parent_of k.outline m)) (omega arith) ∙ h.0
   at_number n (suc d) (c ∷ cs) h l = ap (λ m. leads_to k.outline m (parent_of k.outline m)) (omega arith) ∙

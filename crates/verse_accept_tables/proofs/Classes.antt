@@ -1,13 +1,12 @@
 -- The notes of classes, their outlines and their entries in the table stand in the order of the items.
-use Rattle.std.proofs.Common.{◌≡◌, ℕ, zero, suc, ◌+◌, List, [], ◌∷◌, map, length, refl, sym, ap, ◌∙◌, arith}
+use Rattle.std.proofs.Common.{◌≡◌, ℕ, suc, ◌+◌, List, [], ◌∷◌, map, length, refl, sym, ap, ◌∙◌}
 use Rattle.std.proofs.lemmas.List.{length-map}
-use Rattle.std.specs.Prelude.{Option, Some, None, slice_get}
 use Rattle.verse_tree.specs.ItemTree.{ClassTree, ItemTree, using, enumeration, class, function}
 use Rattle.verse_rules_types.specs.Types.{Class}
 use Rattle.verse_names_declarations.specs.Counting.{counted, no_counts}
 use Rattle.verse_names_declarations.specs.declared.counting.Counts.{Counts}
 use Rattle.verse_names_declarations.specs.Known.{Note, notes, outlined, Known, known}
-use Rattle.verse_names_items.specs.Tables.{class_table, class_tables_from, class_tables}
+use Rattle.verse_names_items.specs.Tables.{class_tables_from, class_tables}
 use Rattle.verse_rules.specs.Naming.{made_class}
 use Rattle.verse_meaning.specs.Programs.{classes}
 

@@ -1,23 +1,24 @@
 -- A class has no more methods than a program has nodes.
-use Rattle.std.proofs.Common.{◌≡◌, ℕ, zero, suc, ◌+◌, ◌*◌, ◌<◌, ◌≤◌, List, [], ◌∷◌, ◌++◌, map, length, Bool, true, false, cond, bytes_eq, refl, sym, ap, ◌∙◌, subst, arith}
+use Rattle.std.proofs.Common.{ℕ, zero, suc, ◌+◌, ◌≤◌, List, [], ◌∷◌, map, length, Bool, true, false, cond, bytes_eq, arith}
 use Rattle.std.proofs.lemmas.List.{length-append}
-use Rattle.std.specs.Prelude.{Option, Some, None, slice_get}
+use Rattle.std.specs.Prelude.{slice_get}
 use Rattle.verse_tree.specs.Tree.{Bytes}
 use Rattle.verse_tree.specs.ItemTree.{MemberTree, field, method, ItemTree, using, enumeration, class, function}
-use Rattle.verse_tree.specs.Numbering.{list_nodes, member_nodes, items_nodes, program_nodes}
+use Rattle.verse_tree.specs.Numbering.{list_nodes, member_nodes, items_nodes}
 use Rattle.verse_tree.specs.declared.tables.ClassInfo.{ClassInfo}
 use Rattle.verse_tree.specs.declared.tables.Ref.{Ref}
 use Rattle.verse_tree.specs.declared.tables.Ref.TheVariants as ref
 use Rattle.verse_rules_types.specs.Types.{Class}
 use Rattle.verse_names_declarations.specs.Names.{Table, put, meanings}
-use Rattle.verse_names_declarations.specs.Counting.{counted, counts_after, fun_after, no_counts}
+use Rattle.verse_names_declarations.specs.Counting.{counted, counts_after, no_counts}
 use Rattle.verse_names_declarations.specs.declared.counting.Counts.{Counts}
 use Rattle.verse_names_declarations.specs.Known.{Note, notes, Known, known}
-use Rattle.verse_names_declarations.specs.Lines.{Members, with_member, with_members, with_note, with_notes, no_members, all_members, line, line_of}
+use Rattle.verse_names_declarations.specs.Lines.{Members, with_member, with_members, with_note, with_notes, no_members, all_members}
+use Rattle.verse_names_declarations.specs.Lines.{line_of}
 use Rattle.verse_names_items.specs.Tables.{fun_number, fun_numbers, class_tables_from, class_tables}
 use Rattle.verse_rules.specs.Naming.{made_class}
 use Rattle.lower_bounds.proofs.Lists.{Each}
-use Rattle.lower_simulation_runs.specs.Programs.{methods_defined, defined_in, Distinct}
+use Rattle.lower_simulation_runs.specs.Programs.{methods_defined, defined_in}
 use Rattle.verse_accept_tables.proofs.Sums.{total, weight, taken, within}
 use Rattle.verse_accept_tables.proofs.Lines.{NoCircle, line_distinct}
 
@@ -94,8 +95,13 @@ module _ (is : List ItemTree) where
   HasFew c = length c.methods ≤ length (defined_in is)
 
   class_few : NoCircle k.outline → (c : ℕ) → length (fun_numbers (meanings (all_members k c).methods)) ≤ length (defined_in is)
-  class_few h c = omega (arith, numbers_few (all_members k c).methods, notes_more c k.notes (line_of k.outline c),
-      within (line_of k.outline c) (map own k.notes) (line_distinct k.outline h (length k.outline) c (omega arith)), all_own is no_counts)
+  class_few h c = omega (
+    arith,
+    numbers_few (all_members k c).methods,
+    notes_more c k.notes (line_of k.outline c),
+    within (line_of k.outline c) (map own k.notes) (line_distinct k.outline h (length k.outline) c (omega arith)),
+    all_own is no_counts,
+  )
 
   tables_few : NoCircle k.outline → (c : ℕ) (os : List Class) → Each HasFew (map made_class (class_tables_from k c os))
   tables_few h c [] = tt

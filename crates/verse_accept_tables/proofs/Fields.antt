@@ -1,7 +1,7 @@
 -- The table has as many fields for a class as its items give it.
-use Rattle.std.proofs.Common.{◌≡◌, ℕ, zero, suc, ◌+◌, ◌<◌, List, [], ◌∷◌, ◌++◌, map, length, Bool, true, false, refl, sym, ap, ◌∙◌, subst, arith}
+use Rattle.std.proofs.Common.{◌≡◌, ℕ, zero, suc, ◌+◌, ◌<◌, List, [], ◌∷◌, map, length, true, refl, sym, ap, ◌∙◌, subst, arith}
 use Rattle.std.proofs.lemmas.List.{length-map, length-append}
-use Rattle.std.proofs.lemmas.Option.{slice_get_within, slice_get_past}
+use Rattle.std.proofs.lemmas.Option.{slice_get_within}
 use Rattle.std.specs.Prelude.{Option, Some, None, slice_get}
 use Rattle.verse_tree.specs.ItemTree.{MemberTree, field, method, ClassTree, ItemTree}
 use Rattle.verse_tree.specs.Sizes.{class_fields}
@@ -9,14 +9,14 @@ use Rattle.verse_rules_types.specs.Types.{Class}
 use Rattle.verse_rules_types.specs.Fitting.{parent_of}
 use Rattle.verse_names_declarations.specs.Names.{Table}
 use Rattle.verse_names_declarations.specs.Counting.{no_counts}
-use Rattle.verse_names_declarations.specs.Known.{Note, Known, known, outlined}
+use Rattle.verse_names_declarations.specs.Known.{Note, Known, known}
 use Rattle.verse_names_declarations.specs.Lines.{on_class, line, line_of}
-use Rattle.verse_names_items.specs.Tables.{own_fields, note_members, fields_of, class_table, class_tables_from, class_tables}
+use Rattle.verse_names_items.specs.Tables.{own_fields, note_members, fields_of, class_tables_from, class_tables}
 use Rattle.verse_rules.specs.Naming.{made_field, made_class}
 use Rattle.verse_meaning_state.specs.Waits.{nth}
 use Rattle.verse_meaning.specs.Programs.{classes, fields_from}
 use Rattle.verse_meaning.specs.Programs as programs
-use Rattle.verse_accept_tables.proofs.Classes.{tree_of, notes_are, notes_many, outline_many}
+use Rattle.verse_accept_tables.proofs.Classes.{tree_of, notes_are, outline_many}
 use Rattle.verse_accept_tables.proofs.Parents.{at, parent_is, parents_within}
 use Rattle.verse_accept_tables.proofs.Lines.{ends_above, ends, NoCircle, all_end}
 
@@ -32,7 +32,8 @@ abbrev own : Option ClassTree → ℕ
 own None = 0
 own (Some c) = length (programs.own_fields c.members)
 
-note_many : (ts : Table) (ns : List Note) (d : ℕ) → length (own_fields ts (note_members (slice_get ns d))) ≡ own (slice_get (map tree_of ns) d)
+note_many : (ts : Table) (ns : List Note) (d : ℕ) →
+    length (own_fields ts (note_members (slice_get ns d))) ≡ own (slice_get (map tree_of ns) d)
 note_many ts [] d = refl
 note_many ts (n ∷ ns) zero = own_many ts n.item.members
 note_many ts (n ∷ ns) (suc d) = note_many ts ns d
@@ -113,7 +114,8 @@ module _ (is : List ItemTree) where
   table_at c (suc n) (o ∷ os) l = table_at (c + 1) n os (omega (arith, l)) ∙
       ap (λ d. length (fields_of ts k.notes (line_of k.outline d))) (omega arith)
 
-  no_table : (c n : ℕ) (os : List Class) → slice_get os n ≡ None → class_fields (slice_get (map made_class (class_tables_from k c os)) n) ≡ 0
+  no_table : (c n : ℕ) (os : List Class) → slice_get os n ≡ None →
+      class_fields (slice_get (map made_class (class_tables_from k c os)) n) ≡ 0
   no_table c n [] e = refl
   no_table c zero (o ∷ os) e = cc
   no_table c (suc n) (o ∷ os) e = no_table (c + 1) n os e

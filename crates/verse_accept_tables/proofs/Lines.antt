@@ -1,10 +1,10 @@
 -- Where no class inherits from itself, a class and its ancestors are distinct, and no more than there are classes.
-use Rattle.std.proofs.Common.{◌≡◌, ℕ, zero, suc, ◌+◌, ◌<◌, ◌≤◌, List, [], ◌∷◌, length, Bool, true, false, cond, nat_eq, refl, sym, ap, ◌∙◌, subst}
+use Rattle.std.proofs.Common.{◌≡◌, ℕ, zero, suc, ◌<◌, ◌≤◌, List, ◌∷◌, length, Bool, true, false, cond, nat_eq, refl, sym, ap, ◌∙◌}
 use Rattle.std.proofs.Common.{arith}
 use Rattle.std.proofs.lemmas.Bool.Decides.{nat_tests}
 use Rattle.std.specs.Prelude.{Option, Some, None, is_some}
 use Rattle.verse_rules_types.specs.Types.{Class}
-use Rattle.verse_rules_types.specs.Fitting.{parent_of, above, first_above, inherits}
+use Rattle.verse_rules_types.specs.Fitting.{parent_of, above, first_above}
 use Rattle.verse_names_declarations.specs.Lines.{on_class, line}
 use Rattle.verse_names_items.specs.Rules.{leads_to}
 use Rattle.lower_bounds.proofs.Lists.{Each}
@@ -42,7 +42,7 @@ module _ (os : List Class) where
   absent d (suc n) (suc m) c l h = (
     differ d c (above (parent_of os c) (first_above os (nat_eq d) n)) h,
     up (parent_of os c) (λ p k. absent d n m p (omega (arith, l)) k)
-    (further d c (above (parent_of os c) (first_above os (nat_eq d) n)) h),
+        (further d c (above (parent_of os c) (first_above os (nat_eq d) n)) h),
   )
     where
       up : (o : Option ℕ) → ((p : ℕ) → is_some (first_above os (nat_eq d) n p) ≡ false → Absent d (line os m p)) →
@@ -96,5 +96,5 @@ module _ (os : List Class) where
       by true e = refl
       by false e =
           let most = few (length os) (line os (suc (length os)) c) (line_within k (suc (length os)) c l)
-              (line_distinct h (suc (length os)) c (omega arith)) in
+          (line_distinct h (suc (length os)) c (omega arith)) in
           absurd (omega (arith, most, long (length os) c e))

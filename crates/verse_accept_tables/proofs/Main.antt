@@ -1,8 +1,8 @@
 -- Where no rule of items and members is broken, there is a Main, and it takes nothing or the inputs.
-use Rattle.std.proofs.Common.{◌≡◌, ℕ, zero, suc, ◌+◌, ◌≤◌, List, [], ◌∷◌, ◌++◌, map, length, Bool, true, false, cond, bytes_eq, refl, sym, ap, ◌∙◌, subst, arith}
+use Rattle.std.proofs.Common.{◌≡◌, ℕ, ◌≤◌, List, [], ◌∷◌, length, Bool, true, false, cond, refl, sym, ap, ◌∙◌, subst, arith}
 use Rattle.std.proofs.lemmas.List.{length-map}
 use Rattle.std.proofs.lemmas.Option.{slice_get-map}
-use Rattle.std.specs.Prelude.{Option, Some, None, slice_get, ◌&&◌, not, option_map}
+use Rattle.std.specs.Prelude.{Option, Some, slice_get, ◌&&◌, not, option_map}
 use Rattle.verse_tree.specs.ItemTree.{FunTree, ItemTree, using, enumeration, class, function}
 use Rattle.verse_tree.specs.PostOrder.{items_order, program_place}
 use Rattle.verse_rules_least.specs.Least.{Holds, other}
@@ -11,12 +11,13 @@ use Rattle.verse_names_declarations.specs.Functions.{Function, fun_function, par
 use Rattle.verse_names_declarations.specs.Counting.{counted, counts_after, no_counts}
 use Rattle.verse_names_declarations.specs.declared.counting.Counts.{Counts}
 use Rattle.verse_names_declarations.specs.Known.{Known, known}
-use Rattle.verse_names_items.specs.Rules.{is_main_name, is_main, has_main, takes_inputs, is_start, can_start, misshapes_main, lacks_main, rules_at}
+use Rattle.verse_names_items.specs.Rules.{is_main_name, is_main, has_main, takes_inputs, is_start, can_start, misshapes_main}
+use Rattle.verse_names_items.specs.Rules.{lacks_main, rules_at}
 use Rattle.verse_names_items.specs.Rules as rules
-use Rattle.verse_names_items.specs.Nodes.{Declared, one, fun_declared, item_declared, items_declared, program_declared, ItemsBreak}
-use Rattle.verse_meaning.specs.Programs.{same_name, main_name, main_in}
+use Rattle.verse_names_items.specs.Nodes.{one, fun_declared, item_declared, items_declared, ItemsBreak}
+use Rattle.verse_meaning.specs.Programs.{main_name, main_in}
 use Rattle.lower_bounds.proofs.Lists.{Each, each_first, each_rest}
-use Rattle.lower_simulation_runs.specs.Programs.{Defined, a_function, defined_in}
+use Rattle.lower_simulation_runs.specs.Programs.{a_function, defined_in}
 use Rattle.verse_accept_tables.proofs.Names.{same_bytes}
 use Rattle.verse_accept_tables.proofs.Functions.{as_function, functions_are}
 use Rattle.verse_accept_tables.proofs.Standing.{Last, next, whole}
@@ -66,7 +67,8 @@ module _ (all : List ItemTree) where
   abbrev Found : List ItemTree → Type 0
   Found is = (f : FunTree) × (main_in is ≡ Some f) × (length f.params ≤ 1)
 
-  found : (is : List ItemTree) (n : Counts) → Last all is n → Each (Kept k) (items_declared k (counted n is)) → has_main is ≡ true → Found is
+  found : (is : List ItemTree) (n : Counts) → Last all is n → Each (Kept k) (items_declared k (counted n is)) →
+      has_main is ≡ true → Found is
   found [] n l h m = cc
   found (using u ∷ is) n l h m = found is (counts_after (using u) n) (next all is (using u) n l) h.1 m
   found (enumeration e ∷ is) n l h m = found is (counts_after (enumeration e) n) (next all is (enumeration e) n l) h.1 m
@@ -74,8 +76,9 @@ module _ (all : List ItemTree) where
       let own = item_declared k (class c) n in
       let rest = items_declared k (counted (counts_after (class c) n) is) in
       found is (counts_after (class c) n) (next all is (class c) n l) (each_rest (Kept k) own rest h) m
-  found (function f ∷ is) n l h m = by (is_main_name f.name) refl m (λ g. found is (counts_after (function f) n) (next all is (function f) n l)
-      (each_rest (Kept k) (item_declared k (function f) n) (items_declared k (counted (counts_after (function f) n) is)) h) g)
+  found (function f ∷ is) n l h m =
+      let rest = each_rest (Kept k) (item_declared k (function f) n) (items_declared k (counted (counts_after (function f) n) is)) h in
+      by (is_main_name f.name) refl m (λ g. found is (counts_after (function f) n) (next all is (function f) n l) rest g)
     where
       own : Kept k (record { number = f.number; place = f.place; subject = rules.function n.funs f })
       own = (each_rest (Kept k) (fun_declared f) (one f.number f.place (rules.function n.funs f))
@@ -84,7 +87,8 @@ module _ (all : List ItemTree) where
       named : (b : Bool) → is_main_name f.name ≡ b → main_in (function f ∷ is) ≡ cond b (Some f) (main_in is)
       named b e = ap (λ b. cond b (Some f) (main_in is)) (sym (same_bytes f.name main_name) ∙ e)
 
-      by : (b : Bool) → is_main_name f.name ≡ b → cond b true (has_main is) ≡ true → (has_main is ≡ true → Found is) → Found (function f ∷ is)
+      by : (b : Bool) → is_main_name f.name ≡ b → cond b true (has_main is) ≡ true → (has_main is ≡ true → Found is) →
+          Found (function f ∷ is)
       by true e g r = (
         f,
         named true e,

@@ -1,22 +1,19 @@
 -- What members behind a dot refer to is no function and no class; so all that nodes refer to is there.
-use Rattle.std.proofs.Common.{◌≡◌, ℕ, zero, suc, List, [], ◌∷◌, ◌++◌, map, subst}
+use Rattle.std.proofs.Common.{◌≡◌, ℕ, zero, suc, List, [], ◌∷◌, ◌++◌, subst}
 use Rattle.std.specs.Prelude.{Option, Some, None, slice_get}
 use Rattle.verse_tree.specs.Tree.{Bytes, Shape}
 use Rattle.verse_tree.specs.Tree as t
 use Rattle.verse_tree.specs.ItemTree.{ItemTree}
 use Rattle.verse_tree.specs.PostOrder.{What, program, item, member, parameter, type_name, expression}
 use Rattle.verse_tree.specs.declared.tables.Ref.{Ref}
-use Rattle.verse_tree.specs.declared.tables.Ref.TheVariants as ref
 use Rattle.verse_rules_types.specs.Types.{Ty, Tys}
 use Rattle.verse_rules_types.specs.Types as ty
 use Rattle.verse_rules_least.specs.Least.{each}
 use Rattle.verse_rules_walk.specs.Nodes.{Node, items_nodes}
-use Rattle.verse_check_refs.specs.Refs.{referred, ref_at}
+use Rattle.verse_check_refs.specs.Refs.{referred}
 use Rattle.verse_check_typing.specs.Facts.{World, Facts, named_ref, type_of}
-use Rattle.verse_check_typing.specs.Members.{member_at, class_member, field_by, method_by, member_ref}
-use Rattle.verse_check_typing.specs.Steps.{Sight, facts, step, begun, seen, shape_ref, ref_by}
-use Rattle.verse_check.specs.Checking.{all_seen}
-use Rattle.verse_rules.specs.Naming.{named}
+use Rattle.verse_check_typing.specs.Members.{member_at, field_by, method_by, member_ref}
+use Rattle.verse_check_typing.specs.Steps.{Sight, facts, step, begun, shape_ref, ref_by}
 use Rattle.verse_rules.specs.Sound.{completed}
 use Rattle.verse_meaning.specs.Programs as programs
 use Rattle.lower_bounds.proofs.Lists.{Each}

@@ -1,22 +1,22 @@
 -- The methods that the table has for a class are methods of the items.
-use Rattle.std.proofs.Common.{◌≡◌, ℕ, zero, suc, ◌+◌, ◌<◌, List, [], ◌∷◌, ◌++◌, map, length, refl, sym, ap, ◌∙◌, subst, arith}
-use Rattle.std.specs.Prelude.{Option, Some, None, slice_get, All}
-use Rattle.verse_tree.specs.Tree.{Bytes}
+use Rattle.std.proofs.Common.{◌≡◌, ℕ, zero, suc, ◌+◌, List, [], ◌∷◌, map, subst}
+use Rattle.std.specs.Prelude.{Option, Some, None, slice_get}
 use Rattle.verse_tree.specs.ItemTree.{FunTree, MemberTree, field, method, ItemTree, using, enumeration, class, function}
 use Rattle.verse_tree.specs.declared.tables.ClassInfo.{ClassInfo}
 use Rattle.verse_tree.specs.declared.tables.Ref.{Ref}
 use Rattle.verse_tree.specs.declared.tables.Ref.TheVariants as ref
 use Rattle.verse_rules_types.specs.Types.{Class}
 use Rattle.verse_names_declarations.specs.Names.{Table, meanings}
-use Rattle.verse_names_declarations.specs.Counting.{counted, counts_after, fun_after, no_counts}
+use Rattle.verse_names_declarations.specs.Counting.{counted, counts_after, no_counts}
 use Rattle.verse_names_declarations.specs.declared.counting.Counts.{Counts}
 use Rattle.verse_names_declarations.specs.Known.{Note, notes, Known, known}
-use Rattle.verse_names_declarations.specs.Lines.{Members, with_member, with_members, with_note, with_notes, no_members, all_members, line_of}
-use Rattle.verse_names_items.specs.Tables.{fun_number, fun_numbers, methods_of, class_table, class_tables_from, class_tables}
+use Rattle.verse_names_declarations.specs.Lines.{Members, with_member, with_members, with_note, with_notes, no_members, all_members}
+use Rattle.verse_names_declarations.specs.Lines.{line_of}
+use Rattle.verse_names_items.specs.Tables.{fun_number, fun_numbers, class_tables_from, class_tables}
 use Rattle.verse_rules.specs.Naming.{made_class}
 use Rattle.verse_meaning.specs.Programs.{method_in}
 use Rattle.lower_bounds.proofs.Lists.{Each, each_joined}
-use Rattle.lower_simulation_runs.specs.Programs.{Defined, a_function, a_method, methods_defined, defined_in}
+use Rattle.lower_simulation_runs.specs.Programs.{a_method, methods_defined, defined_in}
 use Rattle.verse_accept_tables.proofs.Places.{Placed, first_placed}
 use Rattle.verse_accept_tables.proofs.Standing.{AllStand, put_stands, Last, next, whole}
 

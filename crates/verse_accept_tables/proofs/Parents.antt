@@ -1,5 +1,6 @@
 -- The parent of a class, by its number and by its name.
-use Rattle.std.proofs.Common.{◌≡◌, ℕ, zero, suc, ◌+◌, ◌<◌, List, [], ◌∷◌, map, length, Bool, true, false, cond, bytes_eq, refl, sym, ap, ◌∙◌, subst}
+use Rattle.std.proofs.Common.{◌≡◌, ℕ, zero, suc, ◌+◌, ◌<◌, List, [], ◌∷◌, map, length, Bool, true, false, cond, bytes_eq, refl}
+use Rattle.std.proofs.Common.{sym, ap, ◌∙◌, subst}
 use Rattle.std.proofs.lemmas.Option.{slice_get_within}
 use Rattle.std.specs.Prelude.{Option, Some, None, slice_get}
 use Rattle.std.proofs.lemmas.Slice.Eq.{bytes_eq-Decides}
@@ -7,17 +8,16 @@ use Rattle.verse_tree.specs.Tree.{Bytes}
 use Rattle.verse_tree.specs.ItemTree.{ClassTree, ItemTree, using, enumeration, class, function}
 use Rattle.verse_tree.specs.declared.tables.Ref.{Ref}
 use Rattle.verse_tree.specs.declared.tables.Ref.TheVariants as ref
-use Rattle.verse_rules_types.specs.Types.{Class}
-use Rattle.verse_rules_types.specs.Fitting.{parent_in, parent_of}
-use Rattle.verse_names_declarations.specs.Names.{Table, look, put, put_absent, keep, keep_named}
+use Rattle.verse_rules_types.specs.Fitting.{parent_of}
+use Rattle.verse_names_declarations.specs.Names.{Table, look, put, put_absent, keep}
 use Rattle.verse_names_declarations.specs.Counting.{counted, counts_after, named_class_as, no_counts}
 use Rattle.verse_names_declarations.specs.declared.counting.Counts.{Counts}
-use Rattle.verse_names_declarations.specs.Known.{Note, notes, index_all, no_index, class_number, parent_number, outlined, known}
+use Rattle.verse_names_declarations.specs.Known.{Note, index_all, no_index, class_number, parent_number, outlined, known}
 use Rattle.verse_meaning.specs.Programs.{same_name, class_named, classes}
 use Rattle.verse_meaning.specs.Programs as programs
 use Rattle.verse_accept_tables.proofs.Places.{Placed, all_placed}
 use Rattle.verse_accept_tables.proofs.Names.{same_bytes}
-use Rattle.verse_accept_tables.proofs.Standing.{AllStand, look_stands, Stands, IsThere, all_named, classes_named, classes_stand}
+use Rattle.verse_accept_tables.proofs.Standing.{look_stands, Stands, IsThere, all_named, classes_named, classes_stand}
 use Rattle.verse_accept_tables.proofs.Classes.{tree_of, notes_are, outline_many}
 
 abbrev or_else : Option Ref → Option Ref → Option Ref
@@ -38,7 +38,8 @@ no_rest : (b : Bool) (r : Ref) (m : Option Ref) → cond b (Some r) m ≡ None �
 no_rest true r m e = cc
 no_rest false r m e = e
 
-look_put : (x y : Bytes) (r : Ref) (t : Table) → look y t ≡ None → look x (put y r t) ≡ or_else (look x t) (cond (bytes_eq x y) (Some r) None)
+look_put : (x y : Bytes) (r : Ref) (t : Table) → look y t ≡ None →
+    look x (put y r t) ≡ or_else (look x t) (cond (bytes_eq x y) (Some r) None)
 look_put x y r [] h = refl
 look_put x y r (e ∷ t) h =
     ap (λ b. look x (cond b ((e.0, r) ∷ t) (e ∷ put y r t))) (no_test (bytes_eq y e.0) e.1 (look y t) h) ∙

@@ -1,5 +1,5 @@
 -- What is kept by each node, and where names are left, is kept on the way through all nodes of a program.
-use Rattle.std.proofs.Common.{◌≡◌, ℕ, Bool, true, false, List, [], ◌∷◌, length}
+use Rattle.std.proofs.Common.{ℕ, Bool, true, false, List, [], ◌∷◌, length}
 use Rattle.std.specs.Prelude.{Option, Some, None}
 use Rattle.verse_base.specs.declared.places.Place.{Place}
 use Rattle.verse_tree.specs.Tree.{Written, Writtens, no_writtens, more_writtens, Tree, tree, Shape, Trees, no_trees, more_trees}
@@ -11,7 +11,7 @@ use Rattle.verse_tree.specs.PostOrder.{items_order, program_place}
 use Rattle.verse_tree.specs.declared.exprs.Operator.{Operator}
 use Rattle.verse_tree.specs.declared.exprs.Operator.TheVariants as o
 use Rattle.verse_tree.specs.declared.tables.Ref.TheVariants as ref
-use Rattle.verse_names_declarations.specs.Counting.{Counted, counted, counts_after, no_counts}
+use Rattle.verse_names_declarations.specs.Counting.{counted, counts_after, no_counts}
 use Rattle.verse_names_declarations.specs.declared.counting.Counts.{Counts}
 use Rattle.verse_names_declarations.specs.Known.{Known, known}
 use Rattle.verse_names_scopes.specs.Visible.{World, inside, outside}

@@ -1,5 +1,5 @@
 -- What the nodes of a program refer to as functions and classes are functions and classes of its items.
-use Rattle.std.proofs.Common.{◌≡◌, ℕ, suc, ◌+◌, List, [], ◌∷◌, ◌++◌, map, Bool, true, false, cond, refl, sym, ap, ◌∙◌, subst}
+use Rattle.std.proofs.Common.{ℕ, ◌+◌, List, [], ◌∷◌, ◌++◌, map}
 use Rattle.std.specs.Prelude.{Option, Some, None, slice_get}
 use Rattle.verse_base.specs.declared.places.Place.{Place}
 use Rattle.verse_tree.specs.Tree.{Bytes}
@@ -9,14 +9,16 @@ use Rattle.verse_tree.specs.declared.tables.Ref.TheVariants as ref
 use Rattle.verse_names_declarations.specs.Names.{Table, look, names}
 use Rattle.verse_names_declarations.specs.Words.{builtins}
 use Rattle.verse_names_declarations.specs.Counting.{fun_after}
-use Rattle.verse_names_declarations.specs.Known.{Note, Known, known}
-use Rattle.verse_names_declarations.specs.Lines.{Members, with_member, with_members, with_note, with_notes, no_members, all_members, line_of}
-use Rattle.verse_names_scopes.specs.Visible.{World, with_methods, inside, outside, either, visible_throughout, visible, with_name, with_local}
+use Rattle.verse_names_declarations.specs.Known.{Note, known}
+use Rattle.verse_names_declarations.specs.Lines.{Members, with_member, with_members, with_note, with_notes, no_members, all_members}
+use Rattle.verse_names_declarations.specs.Lines.{line_of}
+use Rattle.verse_names_scopes.specs.Visible.{World, with_methods, inside, outside, either, visible, with_name, with_local}
 use Rattle.verse_names_scopes.specs.Subjects.{Subject, quiet, type_name, this, used, instance, defined, both_defined, this_ref, refers}
 use Rattle.verse_names_scopes.specs.Subjects.{locals_behind}
 use Rattle.verse_names_scopes.specs.Visits.{Visit, Seen, ref_of, visit, leave, nothing_seen, program_visits}
 use Rattle.lower_bounds.proofs.Lists.{Each}
-use Rattle.verse_accept_tables.proofs.Standing.{Stands, AllStand, look_stands, keep_stands, IsThere, items_stand, types_stand, builtins_stand}
+use Rattle.verse_accept_tables.proofs.Standing.{Stands, AllStand, look_stands, keep_stands, IsThere, items_stand, types_stand}
+use Rattle.verse_accept_tables.proofs.Standing.{builtins_stand}
 use Rattle.verse_accept_tables.proofs.Passing.{Gives, of_program}
 
 -- ---- the names of members

@@ -1,5 +1,5 @@
 -- What the names of a program stand for as functions and classes are functions and classes of its items.
-use Rattle.std.proofs.Common.{◌≡◌, ℕ, suc, ◌+◌, List, [], ◌∷◌, ◌++◌, map, Bool, true, false, cond, bytes_eq, refl, sym, ap, ◌∙◌, subst}
+use Rattle.std.proofs.Common.{◌≡◌, ℕ, ◌+◌, List, [], ◌∷◌, ◌++◌, Bool, true, false, cond, bytes_eq, refl, sym, subst}
 use Rattle.std.specs.Prelude.{Option, Some, None, slice_get}
 use Rattle.verse_tree.specs.Tree.{Bytes}
 use Rattle.verse_tree.specs.ItemTree.{FunTree, MemberTree, field, method, ClassTree, ItemTree, using, enumeration, class, function}
@@ -7,14 +7,14 @@ use Rattle.verse_tree.specs.declared.tables.Ref.{Ref}
 use Rattle.verse_tree.specs.declared.tables.Ref.TheVariants as ref
 use Rattle.verse_names_declarations.specs.Names.{Table, look, put, put_absent, keep, keep_named}
 use Rattle.verse_names_declarations.specs.Words.{builtins}
-use Rattle.verse_names_declarations.specs.Counting.{Counted, counted, counts_after, fun_after, funs_after, named_as, named_type_as}
+use Rattle.verse_names_declarations.specs.Counting.{Counted, counted, counts_after, funs_after, named_as, named_type_as}
 use Rattle.verse_names_declarations.specs.Counting.{named_class_as, no_counts}
 use Rattle.verse_names_declarations.specs.declared.counting.Counts.{Counts}
 use Rattle.verse_names_declarations.specs.Known.{Index, indexed, index_all, no_index}
 use Rattle.verse_meaning.specs.Programs.{classes}
 use Rattle.lower_bounds.proofs.Lists.{Each}
-use Rattle.lower_simulation_runs.specs.Programs.{Defined, a_function, a_method, methods_defined, defined_in}
-use Rattle.verse_accept_tables.proofs.Places.{Placed, all_placed, first_placed}
+use Rattle.lower_simulation_runs.specs.Programs.{Defined, a_function, methods_defined, defined_in}
+use Rattle.verse_accept_tables.proofs.Places.{Placed, all_placed}
 
 -- ---- tables of names
 
@@ -131,7 +131,8 @@ module _ (all : List ItemTree) where
 
   all_stand : (as1 : ItemTree → Counts → Option (Bytes × Ref)) →
       ((i : ItemTree) (is : List ItemTree) (n : Counts) → Last all (i ∷ is) n → Names IsThere (as1 i n)) →
-      (is : List ItemTree) (n : Counts) (t : Table) → Last all is n → AllStand IsThere t → AllStand IsThere (all_named as1 (counted n is) t)
+      (is : List ItemTree) (n : Counts) (t : Table) → Last all is n → AllStand IsThere t →
+      AllStand IsThere (all_named as1 (counted n is) t)
   all_stand as1 p [] n t l h = h
   all_stand as1 p (i ∷ is) n t l h = all_stand as1 p is (counts_after i n) (keep_named (as1 i n) t) (next all is i n l)
       (named_stands IsThere (as1 i n) t (p i is n l) h)

@@ -1,5 +1,5 @@
 -- A list of numbers without repetition takes of a list of weights no more than there is.
-use Rattle.std.proofs.Common.{◌≡◌, ℕ, zero, suc, ◌+◌, ◌<◌, ◌≤◌, List, [], ◌∷◌, length, map, refl, ap, ◌∙◌, arith}
+use Rattle.std.proofs.Common.{◌≡◌, ℕ, zero, suc, ◌+◌, ◌<◌, ◌≤◌, List, [], ◌∷◌, length, refl, ap, arith}
 use Rattle.lower_bounds.proofs.Lists.{Each}
 use Rattle.lower_simulation_runs.specs.Programs.{Absent, Distinct}
 

@@ -1,7 +1,7 @@
 -- The tables of a program that the front end accepts.
-use Rattle.std.proofs.Common.{◌≡◌, ℕ, zero, suc, ◌+◌, ◌*◌, ◌<◌, ◌≤◌, List, [], ◌∷◌, map, length, refl, sym, ap, ◌∙◌, subst, inl, arith}
+use Rattle.std.proofs.Common.{◌≡◌, ℕ, zero, suc, ◌+◌, ◌*◌, ◌<◌, ◌≤◌, List, [], ◌∷◌, map, length, sym, ap, ◌∙◌, subst, inl, arith}
 use Rattle.std.proofs.lemmas.Option.{slice_get_within}
-use Rattle.std.specs.Prelude.{All, slice_get, Some}
+use Rattle.std.specs.Prelude.{All, slice_get}
 use Rattle.verse_base.specs.declared.limits.TheConstants.{MOST_OPERATIONS}
 use Rattle.verse_tree.specs.ItemTree.{ItemTree}
 use Rattle.verse_tree.specs.Numbering.{program_nodes}
@@ -17,14 +17,13 @@ use Rattle.verse_names_items.specs.Nodes.{ItemsBreak}
 use Rattle.verse_rules.specs.Sound.{completed, size_of}
 use Rattle.verse_meaning.specs.Programs.{program_of, classes, fields_from, method_in}
 use Rattle.verse_meaning.specs.Programs as programs
-use Rattle.lower_bounds.specs.Programs.{MethodsFit, TablesAgree, HasMain}
+use Rattle.lower_bounds.specs.Programs.{MethodsFit}
 use Rattle.lower_bounds.proofs.Lists.{Each}
-use Rattle.lower_simulation_runs.specs.Programs.{defined_in, NumbersAgree}
+use Rattle.lower_simulation_runs.specs.Programs.{defined_in}
 use Rattle.verse_accept_tables.specs.Sound.{items_of, IsSoundProgram}
 use Rattle.verse_accept_tables.specs.Laws.{NumbersStand, TablesStand, MainStands, SizeFits}
 use Rattle.verse_accept_tables.proofs.Numbers.{defined_apart, defaults_apart}
 use Rattle.verse_accept_tables.proofs.Functions.{numbers_are, as_many, bodies_many}
-use Rattle.verse_accept_tables.proofs.Standing.{IsThere}
 use Rattle.verse_accept_tables.proofs.Members.{all_there, ref_there}
 use Rattle.verse_accept_tables.proofs.Methods.{IsMethod, HasMethods, method_there, classes_fit}
 use Rattle.verse_accept_tables.proofs.Classes.{classes_many}
