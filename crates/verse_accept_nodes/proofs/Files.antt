@@ -1,6 +1,5 @@
 -- What an accepted program's items have from each of its files.
 use Rattle.std.proofs.Common.{◌≡◌, ℕ, zero, suc, ◌+◌, ◌<◌, ◌≤◌, List, [], ◌∷◌, ◌++◌, length, map, All, refl, sym, ◌∙◌, subst, arith}
-use Rattle.std.proofs.lemmas.List.Elements.{All-nil, All-cons}
 use Rattle.verse_base.specs.declared.limits.TheConstants.{MOST_FILE_BYTES}
 use Rattle.verse_layout.specs.declared.toks.Tok.{Tok}
 use Rattle.verse_tree.specs.ItemTree.{ItemTree}
@@ -15,7 +14,6 @@ use Rattle.verse_accept.specs.Stages.{Stage, makes_each}
 use Rattle.verse_accept.specs.Fronts.{Cut, Laid, sized, cutting, laying, spelling, all_items, Accepts}
 use Rattle.lower_bounds.specs.Programs.{NodeFits}
 use Rattle.lower_bounds.proofs.Lists.{Each, each_joined}
-use Rattle.verse_accept_nodes.specs.Laws.{AcceptedFit}
 use Rattle.verse_accept_nodes.proofs.Tokens.{tokens_fit}
 use Rattle.verse_accept_nodes.proofs.Toks.{toks_fit}
 use Rattle.verse_accept_nodes.proofs.ReadingItems.{FineItem, all_items_fit, program_fits}
@@ -57,7 +55,7 @@ pub record Written (files : List (List ℕ)) (is : List ItemTree) : Type 0 where
   pub written : List ItemTree
   pub numbered : is ≡ items_numbered written 0
   pub fine : Each (FineItem (length files)) written
-  pub shaped : Each ItemShaped written
+  pub shaped : ProgramsAreShaped → Each ItemShaped written
   pub named : (n c : ℕ) → NamesBreak is n c → ⊥
   pub typed : (n c : ℕ) → BodiesBreak is n c → ⊥
 
@@ -69,8 +67,8 @@ pub all_shaped : (is : List ItemTree) → Each ItemShaped is → ItemsShaped is
 all_shaped [] h = tt
 all_shaped (i ∷ is) h = (h.0, all_shaped is h.1)
 
-pub accepted_written : ProgramsAreShaped → (files : List (List ℕ)) (is : List ItemTree) → Accepts files is → Written files is
-accepted_written shapes files is a =
+pub accepted_written : (files : List (List ℕ)) (is : List ItemTree) → Accepts files is → Written files is
+accepted_written files is a =
     let joined = a.1 in
     let spelled = joined.1 in
     let laid = spelled.1 in
@@ -85,20 +83,8 @@ accepted_written shapes files is a =
       numbered = same ∙ joined.2;
       fine = each_good (FineItem (length files)) (length files) (one_fits (length files))
           zero files cut.0 laid.0 spelled.0 joined.0 few cut.1 cut.2 laid.2 spelled.2;
-      shaped = each_good ItemShaped (length files) (λ n bs cs c l js low h g k m. each_shaped js (shapes l.bytes l.toks [] js m.0))
+      shaped = λ shapes. each_good ItemShaped (length files) (λ n bs cs c l js low h g k m. each_shaped js (shapes l.bytes l.toks [] js m.0))
           zero files cut.0 laid.0 spelled.0 joined.0 few cut.1 cut.2 laid.2 spelled.2;
       named = subst (λ js. (n c : ℕ) → NamesBreak js n c → ⊥) (sym same) named.1;
       typed = subst (λ js. (n c : ℕ) → BodiesBreak js n c → ⊥) (sym (same ∙ sym named.0)) typed.1;
     }
-
--- ---- the nodes of an accepted program fit
-
-all_of_each : {X : Type 0} (P : X → Type 0) (xs : List X) → Each P xs → All P xs
-all_of_each P [] h = All-nil P
-all_of_each P (x ∷ xs) h = All-cons P x xs h.0 (all_of_each P xs h.1)
-
-pub accepted_fit : ProgramsAreShaped → AcceptedFit
-accepted_fit shapes files is a =
-    let w = accepted_written shapes files is a in
-    let fit : Each (NodeFits (length files)) (items_order (items_numbered w.written 0)) = all_items_fit (length files) w.written w.fine 0 in
-    all_of_each (NodeFits (length files)) (items_order is) (subst (λ js. Each (NodeFits (length files)) (items_order js)) (sym w.numbered) fit)
