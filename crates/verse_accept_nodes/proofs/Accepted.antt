@@ -1,7 +1,6 @@
 -- Each node of an accepted program has what lowering and its theorem ask of it.
-use Rattle.std.proofs.Common.{◌≡◌, ℕ, List, [], ◌∷◌, length, All, inl, sym, ◌∙◌, subst}
+use Rattle.std.proofs.Common.{List, [], ◌∷◌, length, All, inl, sym, subst}
 use Rattle.std.proofs.lemmas.List.Elements.{All-nil, All-cons}
-use Rattle.verse_tree.specs.ItemTree.{ItemTree}
 use Rattle.verse_tree.specs.Numbering.{items_numbered}
 use Rattle.verse_tree.specs.PostOrder.{items_order}
 use Rattle.verse_tree.specs.Shapes.{ItemsShaped}

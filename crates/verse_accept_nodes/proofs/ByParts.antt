@@ -5,7 +5,7 @@ use Rattle.verse_tree.specs.Tree.{Written, Writtens, no_writtens, more_writtens,
 use Rattle.verse_tree.specs.Tree.{Holes, no_holes, more_holes, Givens, no_givens, more_givens}
 use Rattle.verse_tree.specs.Tree as t
 use Rattle.verse_tree.specs.ItemTree.{ParamTree, FunTree, MemberTree, field, method, ItemTree, using, enumeration, class, function}
-use Rattle.verse_tree.specs.PostOrder.{What, expression, item, member, Node, node_at, post_order, parts}
+use Rattle.verse_tree.specs.PostOrder.{What, expression, Node, post_order, parts}
 use Rattle.verse_tree.specs.PostOrder.{trees_order, holes_order, pairs_order, givens_order, written_order, writtens_order, default_order}
 use Rattle.verse_tree.specs.PostOrder.{param_order, params_order, fun_parts, field_parts, member_order, members_order, item_order}
 use Rattle.verse_tree.specs.PostOrder.{items_order}

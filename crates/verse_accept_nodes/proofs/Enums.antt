@@ -1,6 +1,7 @@
 -- The item that a name stands for, if that is an enum, is the first enum of that name; and the names of its values are its values.
-use Rattle.std.proofs.Common.{◌≡◌, ◌⊎◌, inl, inr, ℕ, zero, suc, ◌+◌, ◌==◌, ◌&&◌, Bool, true, false, cond, List, [], ◌∷◌, ◌++◌, map, Option, Some, None}
-use Rattle.std.proofs.Common.{refl, ap, sym, subst, ◌∙◌, arith, nat_eq, slice_get}
+use Rattle.std.proofs.Common.{◌≡◌, ◌⊎◌, inl, inr, ℕ, zero, suc, ◌+◌, ◌==◌, ◌&&◌, Bool, true, false, cond, List, [], ◌∷◌, ◌++◌, map}
+use Rattle.std.proofs.Common.{Option, Some, None}
+use Rattle.std.proofs.Common.{refl, ap, sym, subst, ◌∙◌, arith, slice_get}
 use Rattle.std.specs.Str.{bytes_eq}
 use Rattle.verse_tree.specs.Tree.{Bytes}
 use Rattle.verse_tree.specs.ItemTree.{EnumTree, ItemTree, using, enumeration, class, function}
@@ -9,13 +10,13 @@ use Rattle.verse_tree.specs.declared.tables.Ref.TheVariants as ref
 use Rattle.verse_names_declarations.specs.Names.{Table, look, put, put_absent, keep, keep_named}
 use Rattle.verse_names_declarations.specs.Counting.{Counted, counted, counts_after, no_counts, named_as}
 use Rattle.verse_names_declarations.specs.declared.counting.Counts.{Counts}
-use Rattle.verse_names_declarations.specs.Known.{Index, indexed, index_all, no_index, known}
+use Rattle.verse_names_declarations.specs.Known.{Index, indexed, index_all, no_index}
 use Rattle.verse_check_typing.specs.Sets.{has_name, with_name, with_names}
 use Rattle.verse_check_typing.specs.Members.{names_in}
-use Rattle.verse_check_typing.specs.Facts.{item_values, enum_values}
-use Rattle.verse_value.specs.Val.{Val, enum}
+use Rattle.verse_check_typing.specs.Facts.{enum_values}
 use Rattle.verse_meaning_state.specs.Waits.{nth}
-use Rattle.verse_meaning.specs.Programs.{same_name, enums, one_further, place_of, enum_names, enum_val, value_in, Program, named_value, pattern_value}
+use Rattle.verse_meaning.specs.Programs.{same_name, enums, one_further, place_of, enum_names, enum_val, value_in, Program, named_value}
+use Rattle.verse_meaning.specs.Programs.{pattern_value}
 use Rattle.verse_lex_laws.proofs.Runs.{pointwise_equal}
 use Rattle.lower_simulation_runs.specs.Programs.{is_some}
 use Rattle.verse_accept_nodes.proofs.Visited.{item_table}
@@ -119,7 +120,8 @@ first_enum (using u ∷ is) n i x e h g =
     let f = first_enum is n (indexed (record { item = using u; before = n }) i) x e h g in
     record { at = f.at; place = f.place; number = f.number }
 first_enum (enumeration en ∷ is) n i x e h g =
-    by (bytes_eq x en.name) refl (λ none. first_enum is (counts_after (enumeration en) n) (indexed (record { item = enumeration en; before = n }) i) x e none g)
+    by (bytes_eq x en.name) refl (λ none.
+    first_enum is (counts_after (enumeration en) n) (indexed (record { item = enumeration en; before = n }) i) x e none g)
   where
     c : Counted
     c = record { item = enumeration en; before = n }
@@ -132,7 +134,8 @@ first_enum (enumeration en ∷ is) n i x e h g =
         found_here en is n.enums x e k (sym there ∙ g)
     by false k rest = found_later en is n.enums x e k (rest (look_keep_other x en.name (ref.Enum n.enums) i.items k ∙ h))
 first_enum (class d ∷ is) n i x e h g =
-    by (bytes_eq x d.name) refl (λ none. first_enum is (counts_after (class d) n) (indexed (record { item = class d; before = n }) i) x e none g)
+    by (bytes_eq x d.name) refl (λ none.
+    first_enum is (counts_after (class d) n) (indexed (record { item = class d; before = n }) i) x e none g)
   where
     c : Counted
     c = record { item = class d; before = n }
@@ -148,7 +151,8 @@ first_enum (class d ∷ is) n i x e h g =
         let f = rest (look_keep_other x d.name (ref.Class n.classes) i.items k ∙ h) in
         record { at = f.at; place = f.place; number = f.number }
 first_enum (function d ∷ is) n i x e h g =
-    by (bytes_eq x d.name) refl (λ none. first_enum is (counts_after (function d) n) (indexed (record { item = function d; before = n }) i) x e none g)
+    by (bytes_eq x d.name) refl (λ none.
+    first_enum is (counts_after (function d) n) (indexed (record { item = function d; before = n }) i) x e none g)
   where
     c : Counted
     c = record { item = function d; before = n }
@@ -216,7 +220,8 @@ has_with y v xs h = by (has_name v xs) h
     by true g = inl g
     by false g = has_end y v xs g
 
-named_in : (y : Bytes) (vs xs : List Bytes) → has_name y (with_names vs xs) ≡ true → (has_name y xs ≡ true) ⊎ (is_placed (place_of y vs) ≡ true)
+named_in : (y : Bytes) (vs xs : List Bytes) → has_name y (with_names vs xs) ≡ true →
+    (has_name y xs ≡ true) ⊎ (is_placed (place_of y vs) ≡ true)
 named_in y [] xs h = inl h
 named_in y (v ∷ vs) xs h = by (named_in y vs (with_name v xs) h)
   where

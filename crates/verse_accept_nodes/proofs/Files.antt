@@ -1,22 +1,17 @@
 -- What an accepted program's items have from each of its files.
-use Rattle.std.proofs.Common.{◌≡◌, ℕ, zero, suc, ◌+◌, ◌<◌, ◌≤◌, List, [], ◌∷◌, ◌++◌, length, map, All, refl, sym, ◌∙◌, subst, arith}
+use Rattle.std.proofs.Common.{◌≡◌, ℕ, zero, suc, ◌+◌, ◌<◌, ◌≤◌, List, [], ◌∷◌, length, sym, ◌∙◌, subst, arith}
 use Rattle.verse_base.specs.declared.limits.TheConstants.{MOST_FILE_BYTES}
-use Rattle.verse_layout.specs.declared.toks.Tok.{Tok}
 use Rattle.verse_tree.specs.ItemTree.{ItemTree}
 use Rattle.verse_tree.specs.Numbering.{items_numbered}
-use Rattle.verse_tree.specs.PostOrder.{items_order}
-use Rattle.verse_tree.specs.Shapes.{AllOf, ItemShaped, ItemsShaped}
-use Rattle.verse_grammar.specs.Items.{Program}
+use Rattle.verse_tree.specs.Shapes.{ItemShaped, ItemsShaped}
 use Rattle.verse_grammar_shapes.specs.ShapeLaws.{ProgramsAreShaped}
-use Rattle.verse_names.specs.Breaking.{NamesBreak}
 use Rattle.verse_rules.specs.Sound.{BodiesBreak}
-use Rattle.verse_accept.specs.Stages.{Stage, makes_each}
+use Rattle.verse_accept.specs.Stages.{makes_each}
 use Rattle.verse_accept.specs.Fronts.{Cut, Laid, sized, cutting, laying, spelling, all_items, Accepts}
-use Rattle.lower_bounds.specs.Programs.{NodeFits}
 use Rattle.lower_bounds.proofs.Lists.{Each, each_joined}
 use Rattle.verse_accept_nodes.proofs.Tokens.{tokens_fit}
 use Rattle.verse_accept_nodes.proofs.Toks.{toks_fit}
-use Rattle.verse_accept_nodes.proofs.ReadingItems.{FineItem, all_items_fit, program_fits}
+use Rattle.verse_accept_nodes.proofs.ReadingItems.{FineItem, program_fits}
 
 -- what the items of each file have all have
 module _ (Good : ItemTree → Type 0) (total : ℕ)
@@ -56,7 +51,6 @@ pub record Written (files : List (List ℕ)) (is : List ItemTree) : Type 0 where
   pub numbered : is ≡ items_numbered written 0
   pub fine : Each (FineItem (length files)) written
   pub shaped : ProgramsAreShaped → Each ItemShaped written
-  pub named : (n c : ℕ) → NamesBreak is n c → ⊥
   pub typed : (n c : ℕ) → BodiesBreak is n c → ⊥
 
 each_shaped : (is : List ItemTree) → ItemsShaped is → Each ItemShaped is
@@ -83,8 +77,8 @@ accepted_written files is a =
       numbered = same ∙ joined.2;
       fine = each_good (FineItem (length files)) (length files) (one_fits (length files))
           zero files cut.0 laid.0 spelled.0 joined.0 few cut.1 cut.2 laid.2 spelled.2;
-      shaped = λ shapes. each_good ItemShaped (length files) (λ n bs cs c l js low h g k m. each_shaped js (shapes l.bytes l.toks [] js m.0))
+      shaped = λ shapes. each_good ItemShaped (length files)
+          (λ n bs cs c l js low h g k m. each_shaped js (shapes l.bytes l.toks [] js m.0))
           zero files cut.0 laid.0 spelled.0 joined.0 few cut.1 cut.2 laid.2 spelled.2;
-      named = subst (λ js. (n c : ℕ) → NamesBreak js n c → ⊥) (sym same) named.1;
       typed = subst (λ js. (n c : ℕ) → BodiesBreak js n c → ⊥) (sym (same ∙ sym named.0)) typed.1;
     }

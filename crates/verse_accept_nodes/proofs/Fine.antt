@@ -1,11 +1,9 @@
 -- Trees whose nodes fit, however they are numbered.
-use Rattle.std.proofs.Common.{ℕ, ◌+◌, List, [], ◌∷◌, ◌++◌, Option}
-use Rattle.std.specs.Prelude.{Some, None}
+use Rattle.std.proofs.Common.{ℕ, ◌+◌, List, [], ◌∷◌, ◌++◌}
 use Rattle.verse_base.specs.declared.places.Place.{Place}
 use Rattle.verse_tree.specs.Tree.{Bytes, Written, Writtens, Tree, tree, Shape, Trees, Holes, Pairs, Givens}
-use Rattle.verse_tree.specs.Tree as t
 use Rattle.verse_tree.specs.View.{writtens, trees, holes, pairs, givens}
-use Rattle.verse_tree.specs.PostOrder.{Node, expression, written_order, writtens_order, post_order, parts, trees_order, holes_order}
+use Rattle.verse_tree.specs.PostOrder.{Node, written_order, writtens_order, post_order, parts, trees_order, holes_order}
 use Rattle.verse_tree.specs.PostOrder.{pairs_order, givens_order}
 use Rattle.verse_tree.specs.Numbering.{written_nodes, written_numbered, writtens_numbered, nodes, numbered, shape_numbered, trees_numbered}
 use Rattle.verse_tree.specs.Numbering.{holes_numbered, pairs_numbered, givens_numbered}

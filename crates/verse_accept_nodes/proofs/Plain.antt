@@ -1,5 +1,5 @@
 -- Names of which none stands for an enum: local names, members and builtins.
-use Rattle.std.proofs.Common.{◌≡◌, ℕ, ◌+◌, Bool, true, false, cond, List, [], ◌∷◌, ◌++◌, Option, Some, None}
+use Rattle.std.proofs.Common.{ℕ, ◌+◌, Bool, true, false, cond, List, [], ◌∷◌, Option, Some, None}
 use Rattle.std.specs.Str.{bytes_eq}
 use Rattle.std.specs.Prelude.{slice_get}
 use Rattle.verse_tree.specs.Tree.{Bytes}
@@ -10,9 +10,10 @@ use Rattle.verse_names_declarations.specs.Names.{Table, look, put, put_absent, k
 use Rattle.verse_names_declarations.specs.Words.{builtins}
 use Rattle.verse_names_declarations.specs.Counting.{fun_after}
 use Rattle.verse_names_declarations.specs.Known.{Note, Known}
-use Rattle.verse_names_declarations.specs.Lines.{Members, with_member, with_members, with_note, with_notes, no_members, line_of, all_members}
+use Rattle.verse_names_declarations.specs.Lines.{Members, with_member, with_members, with_note, with_notes, no_members, line_of}
+use Rattle.verse_names_declarations.specs.Lines.{all_members}
 use Rattle.verse_names_scopes.specs.Visible.{with_methods, bare_members}
-use Rattle.lower_bounds.proofs.Lists.{Each, each_joined}
+use Rattle.lower_bounds.proofs.Lists.{Each}
 
 abbrev pub IsNoEnum : Ref → Type 0
 IsNoEnum (ref.Enum e) = ⊥

@@ -1,10 +1,9 @@
 -- The nodes of what toks spell fit, where the toks do.
-use Rattle.std.proofs.Common.{ℕ, ◌≤◌, List, [], ◌∷◌, ◌++◌, length, Option}
+use Rattle.std.proofs.Common.{ℕ, ◌≤◌, List, ◌∷◌, length, Option}
 use Rattle.verse_base.specs.declared.limits.TheConstants.{MOST_FILE_BYTES}
 use Rattle.verse_layout.specs.declared.toks.TokKind.{TokKind}
 use Rattle.verse_layout.specs.declared.toks.Tok.{Tok}
 use Rattle.verse_tree.specs.Tree.{Bytes, Written, Tree}
-use Rattle.verse_grammar.specs.Toks.{text_at}
 use Rattle.verse_grammar.specs.Types.{IsType, AreTypes}
 use Rattle.verse_grammar.specs.Types as y
 use Rattle.verse_grammar.specs.Exprs.{event_at, BracketType, Reads, TypedValue, Control, IsIf, Taken, Chain, Postfixes, Row, Closed, Until}
@@ -302,20 +301,23 @@ module _ (files : ℕ) where
       until_fits (x.Until.until_none h) f = (tt, f.1)
       until_fits (x.Until.until_some ds) f = closed_fits ds f
 
-      hole_row_fits : {ks rest : List Tok} {hs : List (Tree × Bytes)} → HoleRow b ks hs rest → ToksFit ks → Each (FineHole files) hs × ToksFit rest
+      hole_row_fits : {ks rest : List Tok} {hs : List (Tree × Bytes)} → HoleRow b ks hs rest → ToksFit ks →
+          Each (FineHole files) hs × ToksFit rest
       hole_row_fits x.HoleRow.no_holes f = (tt, f)
       hole_row_fits (x.HoleRow.more_holes {k = k} {hs = hs} ds d h) f =
           let r = hole_row_fits ds f in
           let q = phrase_fits d r.1 in
           (each_joined (FineHole files) hs _ r.0 ((q.0, text_short b k small), tt), q.1.1)
 
-      holes_fit : {ks rest : List Tok} {hs : List (Tree × Bytes)} → AreHoles b ks hs rest → ToksFit ks → Each (FineHole files) hs × ToksFit rest
+      holes_fit : {ks rest : List Tok} {hs : List (Tree × Bytes)} → AreHoles b ks hs rest → ToksFit ks →
+          Each (FineHole files) hs × ToksFit rest
       holes_fit (x.AreHoles.last_hole {k = k} {hs = hs} ds d h) f =
           let r = hole_row_fits ds f in
           let q = phrase_fits d r.1 in
           (each_joined (FineHole files) hs _ r.0 ((q.0, text_short b k small), tt), q.1.1)
 
-      pair_row_fits : {ks rest : List Tok} {ps : List (Tree × Tree)} → PairRow b ks ps rest → ToksFit ks → Each (FinePair files) ps × ToksFit rest
+      pair_row_fits : {ks rest : List Tok} {ps : List (Tree × Tree)} → PairRow b ks ps rest → ToksFit ks →
+          Each (FinePair files) ps × ToksFit rest
       pair_row_fits (x.PairRow.pair_one d h e) f =
           let r = phrase_fits d f in let q = phrase_fits e r.1.1 in (((r.0, q.0), tt), q.1)
       pair_row_fits (x.PairRow.pair_more {ps = ps} ds h d ho e) f =
@@ -324,22 +326,26 @@ module _ (files : ℕ) where
           let q = phrase_fits e r.1.1 in
           (each_joined (FinePair files) ps _ s.0 ((r.0, q.0), tt), q.1)
 
-      pairs_fit : {ks rest : List Tok} {ps : List (Tree × Tree)} → PairsUntil b ks ps rest → ToksFit ks → Each (FinePair files) ps × ToksFit rest
+      pairs_fit : {ks rest : List Tok} {ps : List (Tree × Tree)} → PairsUntil b ks ps rest → ToksFit ks →
+          Each (FinePair files) ps × ToksFit rest
       pairs_fit (x.PairsUntil.no_pairs h) f = (tt, f.1)
       pairs_fit (x.PairsUntil.some_pairs ds h) f = let r = pair_row_fits ds f in (r.0, r.1.1)
 
-      given_row_fits : {ks rest : List Tok} {gs : List (Bytes × Tree)} → GivenRow b ks gs rest → ToksFit ks → Each (FineGiven files) gs × ToksFit rest
+      given_row_fits : {ks rest : List Tok} {gs : List (Bytes × Tree)} → GivenRow b ks gs rest → ToksFit ks →
+          Each (FineGiven files) gs × ToksFit rest
       given_row_fits (x.GivenRow.given_one hn ho d) f = let r = phrase_fits d f.1.1 in ((r.0, tt), r.1)
       given_row_fits (x.GivenRow.given_more {gs = gs} ds h hn ho d) f =
           let r = given_row_fits ds f in
           let q = phrase_fits d r.1.1.1.1 in
           (each_joined (FineGiven files) gs _ r.0 (q.0, tt), q.1)
 
-      givens_fit : {ks rest : List Tok} {gs : List (Bytes × Tree)} → GivensUntil b ks gs rest → ToksFit ks → Each (FineGiven files) gs × ToksFit rest
+      givens_fit : {ks rest : List Tok} {gs : List (Bytes × Tree)} → GivensUntil b ks gs rest → ToksFit ks →
+          Each (FineGiven files) gs × ToksFit rest
       givens_fit (x.GivensUntil.no_givens h) f = (tt, f.1)
       givens_fit (x.GivensUntil.some_givens ds h) f = let r = given_row_fits ds f in (r.0, r.1.1)
 
-      clause_row_fits : {ks rest : List Tok} {es : List Tree} → ClauseRow b ks es rest → ToksFit ks → Each (FineTree files) es × ToksFit rest
+      clause_row_fits : {ks rest : List Tok} {es : List Tree} → ClauseRow b ks es rest → ToksFit ks →
+          Each (FineTree files) es × ToksFit rest
       clause_row_fits (x.ClauseRow.first_generator d) f = let r = phrase_fits d f in ((r.0, tt), r.1)
       clause_row_fits (x.ClauseRow.more_clauses {es = es} ds h d) f =
           let r = clause_row_fits ds f in let q = phrase_fits d r.1.1 in (each_joined (FineTree files) es _ r.0 (q.0, tt), q.1)

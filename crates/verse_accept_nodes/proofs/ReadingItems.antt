@@ -1,23 +1,21 @@
 -- The nodes of items that toks spell fit, where the toks do.
-use Rattle.std.proofs.Common.{ℕ, ◌+◌, ◌≤◌, List, [], ◌∷◌, ◌++◌, length, Option}
-use Rattle.std.specs.Prelude.{Some, None}
+use Rattle.std.proofs.Common.{ℕ, ◌+◌, ◌≤◌, List, [], ◌∷◌, length, Option}
 use Rattle.verse_base.specs.declared.limits.TheConstants.{MOST_FILE_BYTES}
 use Rattle.verse_layout.specs.declared.toks.Tok.{Tok}
-use Rattle.verse_tree.specs.Tree.{Bytes, Written, Tree}
-use Rattle.verse_tree.specs.ItemTree.{SpecTree, FieldTree, ParamTree, FunTree, MemberTree, field, method, ItemTree}
-use Rattle.verse_tree.specs.ItemTree as i
+use Rattle.verse_tree.specs.Tree.{Bytes, Tree}
+use Rattle.verse_tree.specs.ItemTree.{SpecTree, FieldTree, ParamTree, FunTree, MemberTree, ItemTree}
 use Rattle.verse_tree.specs.PostOrder.{default_order, param_order, params_order, fun_parts, field_parts, member_order, members_order}
 use Rattle.verse_tree.specs.PostOrder.{item_order, items_order}
-use Rattle.verse_tree.specs.Numbering.{list_numbered, default_numbered, field_numbered, param_nodes, param_numbered, fun_numbered, member_nodes}
+use Rattle.verse_tree.specs.Numbering.{list_numbered, default_numbered, field_numbered, param_nodes, param_numbered, fun_numbered}
+use Rattle.verse_tree.specs.Numbering.{member_nodes}
 use Rattle.verse_tree.specs.Numbering.{member_numbered, item_nodes, item_numbered, items_numbered}
 use Rattle.verse_grammar.specs.Items.{Specs, Dotted, Path, ValueRow, Values, Param, ParamRow, Params, FunRest, Fun, Default, Field, Member}
 use Rattle.verse_grammar.specs.Items.{MemberRow, Members, Parent, Item, ItemRow, Program}
 use Rattle.verse_grammar.specs.Items as x
 use Rattle.verse_code.specs.Validity.{IsPlace}
-use Rattle.lower_bounds.specs.Programs.{NodeFits}
 use Rattle.lower_bounds.proofs.Lists.{Each, each_joined}
 use Rattle.verse_accept_nodes.proofs.Toks.{TokFits}
-use Rattle.verse_accept_nodes.proofs.Fine.{Fit, FineWritten, FineTree, both}
+use Rattle.verse_accept_nodes.proofs.Fine.{Fit, both}
 use Rattle.verse_accept_nodes.proofs.Reading.{ToksFit, type_fits, phrase_fits}
 
 module _ (files : ℕ) where
@@ -43,7 +41,8 @@ module _ (files : ℕ) where
   pub record FineItem (x : ItemTree) : Type 0 where
     pub fit : (n : ℕ) → Fit files (item_order (item_numbered x n))
 
-  all_params : (qs : List ParamTree) → Each FineParam qs → (n : ℕ) → Fit files (params_order (list_numbered param_numbered param_nodes qs n))
+  all_params : (qs : List ParamTree) → Each FineParam qs → (n : ℕ) →
+      Fit files (params_order (list_numbered param_numbered param_nodes qs n))
   all_params [] h n = tt
   all_params (q ∷ qs) h n = both files _ _ (h.0.fit n) (all_params qs h.1 (n + param_nodes q))
 
@@ -96,7 +95,8 @@ module _ (files : ℕ) where
     param_row_fits (x.ParamRow.more_params {qs = qs} ds h d) f =
         let r = param_row_fits ds f in let q = param_fits d r.1.1 in (each_joined FineParam qs _ r.0 (q.0, tt), q.1)
 
-    params_fit : {ks rest : List Tok} {qs : List ParamTree} → Params b ks qs rest → ToksFit files ks → Each FineParam qs × ToksFit files rest
+    params_fit : {ks rest : List Tok} {qs : List ParamTree} → Params b ks qs rest → ToksFit files ks →
+        Each FineParam qs × ToksFit files rest
     params_fit (x.Params.no_params h) f = (tt, f.1)
     params_fit (x.Params.some_params ds h) f = let r = param_row_fits ds f in (r.0, r.1.1)
 
@@ -105,8 +105,7 @@ module _ (files : ℕ) where
     fun_rest_fits (x.FunRest.fun_rest {qs = qs} ho ps es hd d hq e) h f =
         let r = params_fit ps f.1 in
         let q = type_fits files d (specs_fit es r.1).1 in
-        let s = phrase_fits files b small e q.1.1 in
-        (
+        let s = phrase_fits files b small e q.1.1 in (
           record {
             place = h.place;
             fit = λ n. both files _ _ (both files _ _ (all_params qs r.0 n) (q.0.fit _)) (s.0.fit _);

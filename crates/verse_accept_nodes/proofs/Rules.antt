@@ -1,5 +1,5 @@
 -- What the rules of types leave of the nodes of an accepted program.
-use Rattle.std.proofs.Common.{◌≡◌, ℕ, zero, suc, ◌+◌, Bool, true, false, not, List, [], ◌∷◌, ◌++◌, map, Option, Some, None, refl, ap, sym}
+use Rattle.std.proofs.Common.{◌≡◌, ℕ, zero, suc, ◌+◌, Bool, true, false, not, List, [], ◌∷◌, map, Option, Some, None, refl, ap, sym}
 use Rattle.std.proofs.Common.{subst, ◌∙◌, arith, slice_get}
 use Rattle.std.specs.List.{range_with_len}
 use Rattle.verse_tree.specs.Tree.{Bytes, Shape, Trees, no_trees, more_trees}
@@ -18,12 +18,12 @@ use Rattle.verse_rules_walk.specs.Around.{Around}
 use Rattle.verse_rules_walk.specs.Nodes.{Node, number_of, alone, items_nodes}
 use Rattle.verse_rules_walk.proofs.Order.{items_alone}
 use Rattle.verse_names_scopes.specs.Visits.{Visit, ref_of, program_visits}
-use Rattle.verse_names_declarations.specs.Names.{look}
+use Rattle.verse_names_declarations.specs.Names.{Table, look}
 use Rattle.verse_check_refs.specs.Refs.{referred, ref_at}
 use Rattle.verse_check_typing.specs.Facts.{World, Facts, world_of, enum_values}
 use Rattle.verse_check_typing.specs.Sets.{has_name}
 use Rattle.verse_check_typing.specs.Members.{names_in}
-use Rattle.verse_check_typing.specs.TypeRules.{is_enum_value, is_alone}
+use Rattle.verse_check_typing.specs.TypeRules.{is_enum_value}
 use Rattle.verse_check_typing.specs.Steps.{Sight, facts, rules_at, own_rules, expression_rules, step, Breaks, begun}
 use Rattle.verse_rules.specs.Naming.{named}
 use Rattle.verse_rules.specs.Sound.{TypesBreak}
@@ -52,7 +52,7 @@ unbroken k (v ∷ vs) x h = (
 
 -- ---- what a node refers to, by its number
 
-names_at : (table : _) (F : ℕ → Option Ref) (m len : ℕ) (xs : List Visit) (vs : List plain.Node) → Paired table xs vs →
+names_at : (table : Table) (F : ℕ → Option Ref) (m len : ℕ) (xs : List Visit) (vs : List plain.Node) → Paired table xs vs →
     numbers vs ≡ range_with_len m len → ((i : ℕ) → F (m + i) ≡ referred (slice_get (map ref_of xs) i)) →
     Each (λ (v : plain.Node). WhatNames table v.what (F v.number)) vs
 names_at table F m len [] [] h e f = tt
@@ -62,8 +62,7 @@ names_at table F m zero (x ∷ xs) (v ∷ vs) h e f = absurd (cc)
 names_at table F m (suc len) (x ∷ xs) (v ∷ vs) h e f =
     let here : v.number ≡ m + 0 = (let same : v.number ≡ m = cc in omega arith) in
     let behind : numbers vs ≡ range_with_len (m + 1) len = cc in
-    let found : F v.number ≡ ref_of x = ap F here ∙ f 0 in
-    (
+    let found : F v.number ≡ ref_of x = ap F here ∙ f 0 in (
       subst (WhatNames table v.what) (sym found) h.0,
       names_at table F (m + 1) len xs vs h.1 behind
           (λ i. ap F (let same : (m + 1) + i ≡ m + suc i = omega arith in same) ∙ f (suc i)),

@@ -1,12 +1,11 @@
 -- What the grammar takes from toks is within the limits of a code: characters, pauses, and the bytes of texts.
-use Rattle.std.proofs.Common.{◌≡◌, ℕ, ◌-◌, ◌+◌, ◌≤◌, ◌==◌, Bool, true, false, if◌then◌else◌, List, [], ◌∷◌, Option, Some, None, length, take, drop}
+use Rattle.std.proofs.Common.{◌≡◌, ℕ, ◌-◌, ◌+◌, ◌≤◌, ◌==◌, Bool, true, false, if◌then◌else◌, List, [], ◌∷◌, Option, Some, length, drop}
 use Rattle.std.proofs.Common.{arith, subst, length-take}
 use Rattle.std.proofs.lemmas.List.{length-drop}
 use Rattle.verse_base.specs.declared.limits.TheConstants.{MOST_FILE_BYTES}
 use Rattle.verse_lex.specs.Contents.{unescaped, replaced, between}
 use Rattle.verse_lex.specs.declared.tokens.Word.{Word}
 use Rattle.verse_lex.specs.declared.tokens.Word.TheVariants as w
-use Rattle.verse_lex.specs.declared.tokens.TokenKind.{TokenKind}
 use Rattle.verse_lex.specs.declared.tokens.TokenKind.TheVariants as token
 use Rattle.verse_lex.specs.declared.tokens.Mark.{Mark}
 use Rattle.verse_lex.specs.declared.tokens.Mark.TheVariants as m

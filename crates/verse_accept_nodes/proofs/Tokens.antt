@@ -1,12 +1,12 @@
 -- The tokens of a file stand in it, and their characters and pauses are within the limits of a code.
-use Rattle.std.proofs.Common.{◌≡◌, ℕ, ◌+◌, ◌<◌, ◌≤◌, ◌==◌, ◌||◌, Bool, true, false, if◌then◌else◌, List, [], ◌∷◌, Option, Some, None, refl, sym}
-use Rattle.std.proofs.Common.{subst, arith, nat_lt, nat_le, not, ◌&&◌, length}
+use Rattle.std.proofs.Common.{◌≡◌, ℕ, ◌+◌, ◌<◌, ◌≤◌, ◌==◌, ◌||◌, Bool, true, false, if◌then◌else◌, List, [], ◌∷◌, Option, Some, None}
+use Rattle.std.proofs.Common.{refl, sym}
+use Rattle.std.proofs.Common.{subst, arith, nat_lt, nat_le, not, length}
 use Rattle.std.proofs.lemmas.Bool.{leb-true, ltb-false}
 use Rattle.verse_base.specs.declared.places.Place.{Place}
 use Rattle.verse_base.specs.declared.refusals.Rule.{Rule}
 use Rattle.verse_lex.specs.Texts.{is_quoted, escape}
 use Rattle.verse_lex.specs.Words.{kind_of, look_up, is_among, words, left_out}
-use Rattle.verse_lex.specs.Pieces.{in_literal}
 use Rattle.verse_lex.specs.Numbers.{thousandths}
 use Rattle.verse_lex.specs.Cut.{AreTokens, next_place, after, first_place}
 use Rattle.verse_lex.specs.declared.numbers.TheConstants.{MOST_DURATION}
@@ -35,7 +35,8 @@ pub record TokenFits (files : ℕ) (t : Token) : Type 0 where
 -- ---- places
 
 on_line : (files : ℕ) (p : Place) (v : Bool) → IsPlace files p →
-    IsPlace files (if v then record { file = p.file; line = p.line + 1; col = 1 } else record { file = p.file; line = p.line; col = p.col + 1 })
+    IsPlace files (if v then record { file = p.file; line = p.line + 1; col = 1 }
+    else record { file = p.file; line = p.line; col = p.col + 1 })
 on_line files p true h = record { file = h.file; line = (let l = h.line in omega arith); col = omega arith }
 on_line files p false h = record { file = h.file; line = h.line; col = (let c = h.col in omega arith) }
 

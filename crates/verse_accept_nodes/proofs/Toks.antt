@@ -1,5 +1,5 @@
 -- The toks of a file stand in it, and their characters and pauses are within the limits of a code.
-use Rattle.std.proofs.Common.{◌≡◌, ℕ, ◌<◌, ◌≤◌, ◌||◌, Bool, true, false, if◌then◌else◌, List, [], ◌∷◌, ◌++◌, length, map, arith, refl}
+use Rattle.std.proofs.Common.{ℕ, ◌<◌, ◌||◌, Bool, true, false, if◌then◌else◌, List, [], ◌∷◌, ◌++◌, length}
 use Rattle.verse_lex.specs.declared.tokens.Token.{Token}
 use Rattle.verse_lex.specs.Cut.{body, mark_len}
 use Rattle.std.specs.Prelude.{take, ◌-◌}
@@ -10,7 +10,7 @@ use Rattle.verse_layout.specs.declared.frames.Spot.{Spot}
 use Rattle.verse_layout.specs.declared.roles.Role.{Role}
 use Rattle.verse_layout.specs.declared.roles.Role.TheVariants as role
 use Rattle.verse_layout.specs.Roles.{role_of, is_else}
-use Rattle.verse_layout.specs.Cells.{Cell, cell_of, cells_of, spot_of, spot_at}
+use Rattle.verse_layout.specs.Cells.{Cell, cells_of, spot_at}
 use Rattle.verse_layout.specs.Written.{Written, tok, sep, no_sep, is_open, is_close, has_no_sep, gap_sep, sep_between, SpacedBehind, Spaced}
 use Rattle.verse_layout.specs.Written as w
 use Rattle.verse_layout.specs.Blocks.{opener, line_sep, Inside, Bracket, Part, Body, Rest, Line, Block, Lines, IsFile}
@@ -77,8 +77,7 @@ module _ (files : ℕ) where
 
       bracket_fits : {h : List ℕ} {cs ds : List Cell} {ws : List Written} → Bracket end h cs ws ds → Each CellFits cs → Fitting ws ds
       bracket_fits (b.Bracket.round {c = c} {ws = ws} h g d e) f =
-          let r = inside_fits d f.1 in
-          (
+          let r = inside_fits d f.1 in (
             (
               record { place = f.0.place; kind = f.0.kind },
               each_joined WrittenFits ws _ r.0 (record { place = r.1.0.place; kind = r.1.0.kind }, tt),
@@ -87,8 +86,7 @@ module _ (files : ℕ) where
           )
       bracket_fits (b.Bracket.braces {ws = ws} {vs = vs} h d e g) f =
           let r = rest_fits d f.1 in
-          let q = lines_fits e r.1 in
-          (
+          let q = lines_fits e r.1 in (
             (
               record { place = f.0.place; kind = tt },
               each_joined WrittenFits ws _ r.0 (each_joined WrittenFits vs _ q.0 (record { place = q.1.0.place; kind = tt }, tt)),
@@ -105,8 +103,7 @@ module _ (files : ℕ) where
       body_fits (b.Body.body_part {ws = ws} {vs = vs} d e) f =
           let r = part_fits d f in let q = rest_fits e r.1 in (each_joined WrittenFits ws vs r.0 q.0, q.1)
       body_fits (b.Body.body_block {c = c} {cs = cs} {ds = ds} {ws = ws} e g h d) f =
-          let r = block_fits d f.1 in
-          (
+          let r = block_fits d f.1 in (
             each_joined WrittenFits (opener (role_of c.token.kind) c.token) _ (opener_fits (role_of c.token.kind) c.token f.0) (
               record { place = spot_fits end cs ended f.1; kind = tt },
               each_joined WrittenFits ws _ r.0 (record { place = spot_fits end ds ended r.1; kind = tt }, tt),
@@ -139,7 +136,8 @@ module _ (files : ℕ) where
 
   -- ---- the toks that it becomes
 
-  if_sep : (v : Bool) (k : Tok) (ks : List Tok) → TokFits files k → Each (TokFits files) ks → Each (TokFits files) (if v then ks else k ∷ [])
+  if_sep : (v : Bool) (k : Tok) (ks : List Tok) → TokFits files k → Each (TokFits files) ks →
+      Each (TokFits files) (if v then ks else k ∷ [])
   if_sep true k ks h g = g
   if_sep false k ks h g = (h, tt)
 

@@ -1,7 +1,6 @@
 -- What the patterns of enums refer to: an item of that name.
-use Rattle.std.proofs.Common.{◌≡◌, ℕ, zero, suc, ◌+◌, Bool, true, false, List, [], ◌∷◌, ◌++◌, map, length, Option, Some, None, refl, ap, sym}
+use Rattle.std.proofs.Common.{◌≡◌, ℕ, Bool, true, false, List, [], ◌∷◌, ◌++◌, length, Option, Some, None, refl, ap, sym}
 use Rattle.std.proofs.Common.{subst, ◌∙◌, append_assoc}
-use Rattle.std.specs.Prelude.{slice_get}
 use Rattle.verse_base.specs.declared.places.Place.{Place}
 use Rattle.verse_tree.specs.Tree.{Bytes, Written, Writtens, no_writtens, more_writtens, Tree, tree, Shape, Trees, no_trees, more_trees}
 use Rattle.verse_tree.specs.Tree.{Holes, no_holes, more_holes, Pairs, no_pairs, more_pairs, Givens, no_givens, more_givens}
@@ -24,11 +23,12 @@ use Rattle.verse_names_declarations.specs.Known.{Known, known}
 use Rattle.verse_names_scopes.specs.Visible.{World, inside, outside, either, visible, with_name, with_local}
 use Rattle.verse_names_scopes.specs.Subjects.{Subject, quiet, defined, subject, refers, locals_behind}
 use Rattle.verse_names_scopes.specs.Subjects as u
-use Rattle.verse_names_scopes.specs.Scopes.{apart, operand, through_written, through_writtens, through, through_parts, through_all, through_arms}
+use Rattle.verse_names_scopes.specs.Scopes.{apart, operand, through_written, through_writtens, through, through_parts, through_all}
+use Rattle.verse_names_scopes.specs.Scopes.{through_arms}
 use Rattle.verse_names_scopes.specs.Scopes.{through_holes, through_pairs, through_givens, through_params, through_fun, through_default}
 use Rattle.verse_names_scopes.specs.Scopes.{through_field, through_member, through_members, through_item, through_items, through_program}
 use Rattle.verse_names_scopes.specs.Visits.{Visit, ref_of, Seen, visit, leave, nothing_seen, program_visits}
-use Rattle.lower_bounds.proofs.Lists.{Each, each_joined}
+use Rattle.lower_bounds.proofs.Lists.{each_joined}
 use Rattle.verse_accept_nodes.proofs.Plain.{IsNoEnum, NoneIsEnum, Plain, look_plain, members_plain, builtins_plain}
 
 module _ (table : Table) where
@@ -227,7 +227,8 @@ module _ (table : Table) where
 
     mutual
       tree_shows : (e : Tree) → Show (tree_part e)
-      tree_shows (tree n p s) = in_turn (shape_shows s) (node_shows n p (subject n s) (expression s) (shape_own n s) (λ ls h. shape_names w ls n s fair h))
+      tree_shows (tree n p s) = in_turn (shape_shows s)
+          (node_shows n p (subject n s) (expression s) (shape_own n s) (λ ls h. shape_names w ls n s fair h))
 
       shape_shows : (s : Shape) → Show (shape_part s)
       shape_shows (t.Shape.block es) = shut (all_show es)

@@ -11,9 +11,10 @@ use Rattle.lower_simulation_runs.specs.Programs.{NodeStands}
 
 -- places are within the files, and characters, texts and pauses within the limits of a code
 abbrev pub AcceptedFit : Type 0
-AcceptedFit = (files : List (List ℕ)) (is : List ItemTree) → Accepts files is → All (NodeFits (length files)) (items_order is)
+AcceptedFit = (files : List (List ℕ)) (is : List ItemTree) → Accepts files is →
+    All (NodeFits (length files)) (items_order is)
 
 -- no condition defers, groups have arms, and patterns stand for values
 abbrev pub AcceptedStand : Type 0
-AcceptedStand = (files : List (List ℕ)) (is : List ItemTree) (made : Made) → Accepts files is → map item_of made.tree.items ≡ is →
-    All (NodeStands (program_of made)) (items_order is)
+AcceptedStand = (files : List (List ℕ)) (is : List ItemTree) (made : Made) → Accepts files is →
+    map item_of made.tree.items ≡ is → All (NodeStands (program_of made)) (items_order is)
