@@ -20,6 +20,8 @@ module _ (files : ℕ) where
   abbrev pub ToksFit : List Tok → Type 0
   ToksFit ks = Each (TokFits files) ks
 
+  -- Of toks that fit: what they spell, which fits, and the toks behind it, which fit too.
+
   -- ---- types
 
   mutual
@@ -105,24 +107,17 @@ module _ (files : ℕ) where
           (fine files f.0.place (λ n. tt) (λ n. r.0.fit n), r.1)
       phrase_fits (x.Reads.minus_postfix d) f = phrase_fits d f
       phrase_fits (x.Reads.postfix_chain d c) f = let r = phrase_fits d f in postfixes_fit c r.0 r.1
-      phrase_fits (x.Reads.integer h) f =
-          (fine files f.0.place (λ n. tt) (λ n. tt), f.1)
-      phrase_fits (x.Reads.character {k = k} {n = m} h) f =
-          (fine files f.0.place (λ n. character_low k.kind m f.0.kind h) (λ n. tt), f.1)
-      phrase_fits (x.Reads.text {k = k} h) f =
-          (fine files f.0.place (λ n. text_short b k small) (λ n. tt), f.1)
+      phrase_fits (x.Reads.integer h) f = (fine files f.0.place (λ n. tt) (λ n. tt), f.1)
+      phrase_fits (x.Reads.character {k = k} {n = m} h) f = (fine files f.0.place (λ n. character_low k.kind m f.0.kind h) (λ n. tt), f.1)
+      phrase_fits (x.Reads.text {k = k} h) f = (fine files f.0.place (λ n. text_short b k small) (λ n. tt), f.1)
       phrase_fits (x.Reads.text_holes {k = k} {hs = hs} h d) f =
           let r = holes_fit d f.1 in
           let all = fine_holes files hs r.0 in
           (fine files f.0.place (λ n. (text_short b k small, all.pieces n)) (λ n. all.fit n), r.1)
-      phrase_fits (x.Reads.truth h) f =
-          (fine files f.0.place (λ n. tt) (λ n. tt), f.1)
-      phrase_fits (x.Reads.falsehood h) f =
-          (fine files f.0.place (λ n. tt) (λ n. tt), f.1)
-      phrase_fits (x.Reads.this h) f =
-          (fine files f.0.place (λ n. tt) (λ n. tt), f.1)
-      phrase_fits (x.Reads.name_alone h) f =
-          (fine files f.0.place (λ n. tt) (λ n. tt), f.1)
+      phrase_fits (x.Reads.truth h) f = (fine files f.0.place (λ n. tt) (λ n. tt), f.1)
+      phrase_fits (x.Reads.falsehood h) f = (fine files f.0.place (λ n. tt) (λ n. tt), f.1)
+      phrase_fits (x.Reads.this h) f = (fine files f.0.place (λ n. tt) (λ n. tt), f.1)
+      phrase_fits (x.Reads.name_alone h) f = (fine files f.0.place (λ n. tt) (λ n. tt), f.1)
       phrase_fits (x.Reads.instance {gs = gs} h ho d) f =
           let r = givens_fit d f.1.1 in
           let all = fine_givens files gs r.0 in
@@ -186,8 +181,7 @@ module _ (files : ℕ) where
           (fine files f.0.place (λ n. tt) (λ n. r.0.fit n), r.1.1)
       phrase_fits (x.Reads.sleep {d = d} {n = m} h ho hd hc) f =
           (fine files f.0.place (λ n. pause_low d.kind m f.1.1.0.kind hd) (λ n. tt), f.1.1.1.1)
-      phrase_fits (x.Reads.sleep_forever h ho hd hc) f =
-          (fine files f.0.place (λ n. tt) (λ n. tt), f.1.1.1.1)
+      phrase_fits (x.Reads.sleep_forever h ho hd hc) f = (fine files f.0.place (λ n. tt) (λ n. tt), f.1.1.1.1)
       phrase_fits (x.Reads.elements h ho d) f =
           let r = phrase_fits d f.1.1 in
           (fine files f.0.place (λ n. tt) (λ n. r.0.fit n), r.1)
@@ -208,22 +202,15 @@ module _ (files : ℕ) where
           let r = phrase_fits d f in
           let q = phrase_fits e r.1.1 in
           (fine files f.0.place (λ n. tt) (λ n. both files _ _ (r.0.fit n) (q.0.fit _)), q.1)
-      phrase_fits (x.Reads.integer_pattern h) f =
-          (fine files f.0.place (λ n. tt) (λ n. tt), f.1)
-      phrase_fits (x.Reads.minus_pattern h hq) f =
-          (fine files f.0.place (λ n. tt) (λ n. tt), f.1.1)
+      phrase_fits (x.Reads.integer_pattern h) f = (fine files f.0.place (λ n. tt) (λ n. tt), f.1)
+      phrase_fits (x.Reads.minus_pattern h hq) f = (fine files f.0.place (λ n. tt) (λ n. tt), f.1.1)
       phrase_fits (x.Reads.character_pattern {k = k} {n = m} h) f =
           (fine files f.0.place (λ n. pattern_low k.kind m f.0.kind h) (λ n. tt), f.1)
-      phrase_fits (x.Reads.text_pattern {k = k} h) f =
-          (fine files f.0.place (λ n. text_short b k small) (λ n. tt), f.1)
-      phrase_fits (x.Reads.truth_pattern h) f =
-          (fine files f.0.place (λ n. tt) (λ n. tt), f.1)
-      phrase_fits (x.Reads.falsehood_pattern h) f =
-          (fine files f.0.place (λ n. tt) (λ n. tt), f.1)
-      phrase_fits (x.Reads.any_pattern h) f =
-          (fine files f.0.place (λ n. tt) (λ n. tt), f.1)
-      phrase_fits (x.Reads.enum_pattern h hd hv) f =
-          (fine files f.0.place (λ n. tt) (λ n. tt), f.1.1.1)
+      phrase_fits (x.Reads.text_pattern {k = k} h) f = (fine files f.0.place (λ n. text_short b k small) (λ n. tt), f.1)
+      phrase_fits (x.Reads.truth_pattern h) f = (fine files f.0.place (λ n. tt) (λ n. tt), f.1)
+      phrase_fits (x.Reads.falsehood_pattern h) f = (fine files f.0.place (λ n. tt) (λ n. tt), f.1)
+      phrase_fits (x.Reads.any_pattern h) f = (fine files f.0.place (λ n. tt) (λ n. tt), f.1)
+      phrase_fits (x.Reads.enum_pattern h hd hv) f = (fine files f.0.place (λ n. tt) (λ n. tt), f.1.1.1)
 
       typed_fits : {ks rest : List Tok} {u : Written} {e : Tree} → TypedValue b ks u e rest → ToksFit ks →
           (FineWritten files u × FineTree files e) × ToksFit rest
@@ -238,10 +225,8 @@ module _ (files : ℕ) where
       control_fits (x.Control.returned h d) f =
           let r = phrase_fits d f.1 in
           (fine files f.0.place (λ n. tt) (λ n. r.0.fit n), r.1)
-      control_fits (x.Control.returned_unit h) f =
-          (fine files f.0.place (λ n. tt) (λ n. tt), f.1)
-      control_fits (x.Control.break_form h) f =
-          (fine files f.0.place (λ n. tt) (λ n. tt), f.1)
+      control_fits (x.Control.returned_unit h) f = (fine files f.0.place (λ n. tt) (λ n. tt), f.1)
+      control_fits (x.Control.break_form h) f = (fine files f.0.place (λ n. tt) (λ n. tt), f.1)
 
       if_fits : {ks rest : List Tok} {t : Tree} → IsIf b ks t rest → ToksFit ks → FineTree files t × ToksFit rest
       if_fits (x.IsIf.if_alone {cs = cs} h ho d e) f =
