@@ -1,0 +1,34 @@
+-- Each node of an accepted program has what lowering and its theorem ask of it.
+use Rattle.std.proofs.Common.{List, [], ◌∷◌, length, All, inl, sym, subst}
+use Rattle.std.proofs.lemmas.List.Elements.{All-nil, All-cons}
+use Rattle.verse_tree.specs.Numbering.{items_numbered}
+use Rattle.verse_tree.specs.PostOrder.{items_order}
+use Rattle.verse_tree.specs.Shapes.{ItemsShaped}
+use Rattle.verse_grammar_shapes.specs.ShapeLaws.{ProgramsAreShaped, NumberingKeepsShapes}
+use Rattle.verse_meaning.specs.Programs.{program_of}
+use Rattle.lower_bounds.specs.Programs.{NodeFits}
+use Rattle.lower_bounds.proofs.Lists.{Each}
+use Rattle.lower_simulation_runs.specs.Programs.{NodeStands}
+use Rattle.verse_accept_nodes.specs.Laws.{AcceptedFit, AcceptedStand}
+use Rattle.verse_accept_nodes.proofs.ReadingItems.{all_items_fit}
+use Rattle.verse_accept_nodes.proofs.Files.{accepted_written, all_shaped}
+use Rattle.verse_accept_nodes.proofs.Settled.{kept_stand}
+use Rattle.verse_accept_nodes.proofs.Rules.{nodes_kept}
+
+all_of_each : {X : Type 0} (P : X → Type 0) (xs : List X) → Each P xs → All P xs
+all_of_each P [] h = All-nil P
+all_of_each P (x ∷ xs) h = All-cons P x xs h.0 (all_of_each P xs h.1)
+
+pub accepted_fit : AcceptedFit
+accepted_fit files is a =
+    let w = accepted_written files is a in
+    let fit : Each (NodeFits (length files)) (items_order (items_numbered w.written 0)) = all_items_fit (length files) w.written w.fine 0 in
+    all_of_each (NodeFits (length files)) (items_order is)
+    (subst (λ js. Each (NodeFits (length files)) (items_order js)) (sym w.numbered) fit)
+
+pub accepted_stand : ProgramsAreShaped → NumberingKeepsShapes → AcceptedStand
+accepted_stand shapes numbering files is made a e =
+    let w = accepted_written files is a in
+    let shaped : ItemsShaped is = subst ItemsShaped (sym w.numbered) (numbering w.written 0 (all_shaped w.written (w.shaped shapes))) in
+    all_of_each (NodeStands (program_of made)) (items_order is) (kept_stand (program_of made) is shaped
+    (nodes_kept (program_of made) is e w.written w.numbered (λ n c b. w.typed n c (inl b))))

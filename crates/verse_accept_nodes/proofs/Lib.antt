@@ -1,0 +1,14 @@
+mod Tokens
+mod Toks
+mod Texts
+mod Fine
+mod Reading
+mod ReadingItems
+mod Files
+mod ByParts
+mod Settled
+mod Plain
+mod Visited
+mod Enums
+mod Rules
+mod Accepted

@@ -1,0 +1,122 @@
+-- The tokens of a file stand in it, and their characters and pauses are within the limits of a code.
+use Rattle.std.proofs.Common.{◌≡◌, ℕ, ◌+◌, ◌<◌, ◌≤◌, ◌==◌, ◌||◌, Bool, true, false, if◌then◌else◌, List, [], ◌∷◌, Option, Some, None}
+use Rattle.std.proofs.Common.{refl, sym}
+use Rattle.std.proofs.Common.{subst, arith, nat_lt, nat_le, not, length}
+use Rattle.std.proofs.lemmas.Bool.{leb-true, ltb-false}
+use Rattle.verse_base.specs.declared.places.Place.{Place}
+use Rattle.verse_base.specs.declared.refusals.Rule.{Rule}
+use Rattle.verse_lex.specs.Texts.{is_quoted, escape}
+use Rattle.verse_lex.specs.Words.{kind_of, look_up, is_among, words, left_out}
+use Rattle.verse_lex.specs.Numbers.{thousandths}
+use Rattle.verse_lex.specs.Cut.{AreTokens, next_place, after, first_place}
+use Rattle.verse_lex.specs.declared.numbers.TheConstants.{MOST_DURATION}
+use Rattle.verse_lex.specs.declared.rules.TheConstants.{DURATION}
+use Rattle.verse_lex.specs.declared.tokens.Word.{Word}
+use Rattle.verse_lex.specs.declared.tokens.Token.{Token}
+use Rattle.verse_lex.specs.declared.tokens.TokenKind.{TokenKind}
+use Rattle.verse_lex.specs.declared.tokens.TokenKind.TheVariants as k
+use Rattle.verse_lex_laws.specs.Spelling as s
+use Rattle.verse_lex_laws.specs.Spelling.{Literal, Number, duration_rule, is_token, Spells, IsSpelled, EachSpelled}
+use Rattle.verse_lex_laws.proofs.Runs.{equal, both}
+use Rattle.verse_lex_laws.proofs.Files.{tokens_spelled}
+use Rattle.verse_code.specs.declared.validity.TheConstants.{MOST_PAUSE}
+use Rattle.verse_code.specs.Validity.{IsPlace}
+use Rattle.lower_bounds.proofs.Lists.{Each}
+
+abbrev pub KindFits : TokenKind → Type 0
+KindFits (k.Char c) = c ≤ 255
+KindFits (k.Dec d) = d ≤ MOST_PAUSE
+KindFits kind = Unit {0}
+
+pub record TokenFits (files : ℕ) (t : Token) : Type 0 where
+  pub place : IsPlace files t.place
+  pub kind : KindFits t.kind
+
+-- ---- places
+
+on_line : (files : ℕ) (p : Place) (v : Bool) → IsPlace files p →
+    IsPlace files (if v then record { file = p.file; line = p.line + 1; col = 1 }
+    else record { file = p.file; line = p.line; col = p.col + 1 })
+on_line files p true h = record { file = h.file; line = (let l = h.line in omega arith); col = omega arith }
+on_line files p false h = record { file = h.file; line = h.line; col = (let c = h.col in omega arith) }
+
+stands_after : (files : ℕ) (p : Place) (bs : List ℕ) → IsPlace files p → IsPlace files (after p bs)
+stands_after files p [] h = h
+stands_after files p (b ∷ bs) h = stands_after files (next_place p b) bs (on_line files p (b == 10) h)
+
+pub stands_behind : (files file : ℕ) (bs : List ℕ) → file < files → IsPlace files (after (first_place file) bs)
+stands_behind files file bs h =
+    stands_after files (first_place file) bs (record { file = h; line = omega arith; col = omega arith })
+
+-- ---- characters
+
+or_byte : (b c : ℕ) (w : Bool) → c ≤ 255 → (w ≡ true → b ≤ 255) → (w || (b == c)) ≡ true → b ≤ 255
+or_byte b c true low more h = more refl
+or_byte b c false low more h = subst (λ x. x ≤ 255) (sym (equal b c h)) low
+
+quoted_low : (b : ℕ) → is_quoted b ≡ true → b ≤ 255
+quoted_low b h =
+    or_byte b 126 _ (omega arith) (λ h1. or_byte b 35 _ (omega arith) (λ h2. or_byte b 38 _ (omega arith) (λ h3.
+    or_byte b 62 _ (omega arith) (λ h4. or_byte b 60 _ (omega arith) (λ h5. or_byte b 125 _ (omega arith) (λ h6.
+    or_byte b 123 _ (omega arith) (λ h7. or_byte b 39 _ (omega arith) (λ h8. or_byte b 34 _ (omega arith)
+    (λ h9. subst (λ x. x ≤ 255) (sym (equal b 92 h9)) (omega arith)) h8) h7) h6) h5) h4) h3) h2) h1) h
+
+low_or : (v : Bool) (n c : ℕ) (o : Option ℕ) → n ≤ 255 → (o ≡ Some c → c ≤ 255) → (if v then Some n else o) ≡ Some c → c ≤ 255
+low_or true n c o low more h = let e : n ≡ c = cc in subst (λ x. x ≤ 255) e low
+low_or false n c o low more h = more h
+
+quoted_or : (b c : ℕ) (v : Bool) → is_quoted b ≡ v → (if v then Some b else None) ≡ Some c → c ≤ 255
+quoted_or b c true e h = let g : b ≡ c = cc in subst (λ x. x ≤ 255) g (quoted_low b e)
+quoted_or b c false e h = absurd (cc)
+
+escape_low : (b c : ℕ) → escape b ≡ Some c → c ≤ 255
+escape_low b c h =
+    low_or (b == 110) 10 c _ (omega arith) (λ h1. low_or (b == 114) 13 c _ (omega arith) (λ h2.
+    low_or (b == 116) 9 c _ (omega arith) (λ h3. quoted_or b c (is_quoted b) refl h3) h2) h1) h
+
+literal_low : {cs : List ℕ} {c : ℕ} → Literal cs c → c ≤ 255
+literal_low (s.literal_plain {b = b} h e) =
+    let low : b ≤ 126 = leb-true b 126 (both (nat_le b 126) (not (b == 39)) (both (nat_le 32 b) _ h).1).0 in omega arith
+literal_low (s.literal_escaped {b = b} {c = c} h) = escape_low b c h
+
+-- ---- pauses
+
+within_duration : (n : ℕ) (v w : Bool) → nat_lt MOST_DURATION n ≡ w → (if v || w then Some DURATION else None) ≡ None → n ≤ MOST_PAUSE
+within_duration n true w e h = absurd (cc)
+within_duration n false true e h = absurd (cc)
+within_duration n false false e h = ltb-false MOST_DURATION n e
+
+number_fits : {cs : List ℕ} {kind : TokenKind} {rule : Option Rule} → Number cs kind rule → rule ≡ None → KindFits kind
+number_fits (s.digits d ds h g) e = tt
+number_fits (s.hex_digits d ds h g) e = tt
+number_fits (s.fraction c d cs ds h g i j) e =
+    within_duration (thousandths (c ∷ cs) (d ∷ ds)) (nat_lt 3 (length (d ∷ ds))) _ refl e
+
+word_fits : (o : Option Word) (v : Bool) → KindFits (kind_of o v)
+word_fits (Some w) v = tt
+word_fits None true = tt
+word_fits None false = tt
+
+spelled_fits : {within : Bool} {cs : List ℕ} {kind : TokenKind} → Spells within cs (is_token kind) → KindFits kind
+spelled_fits (s.name {b = b} {cs = cs} h g) = word_fits (look_up words (b ∷ cs)) (is_among left_out (b ∷ cs))
+spelled_fits (s.number d) = number_fits d refl
+spelled_fits (s.literal d) = literal_low d
+spelled_fits (s.text d) = tt
+spelled_fits (s.text_open d) = tt
+spelled_fits (s.text_mid d) = tt
+spelled_fits (s.text_close d) = tt
+spelled_fits (s.double h) = tt
+spelled_fits (s.single h) = tt
+spelled_fits (s.single_in_hole h e f) = tt
+
+-- ---- tokens
+
+each_fits : (files file : ℕ) (bs : List ℕ) (ts : List Token) → file < files → EachSpelled file bs ts → Each (TokenFits files) ts
+each_fits files file bs [] h d = tt
+each_fits files file bs (t ∷ ts) h d = (
+  record { place = subst (IsPlace files) (sym d.0.place) (stands_behind files file d.0.before h); kind = spelled_fits d.0.spelled },
+  each_fits files file bs ts h d.1,
+)
+
+pub tokens_fit : (files file : ℕ) (bs : List ℕ) (ts : List Token) → file < files → AreTokens file bs ts → Each (TokenFits files) ts
+tokens_fit files file bs ts h a = each_fits files file bs ts h (tokens_spelled file bs ts a)
