@@ -1,6 +1,6 @@
 -- The ways to an answer, and that there is one.
-use Rattle.std.proofs.Common.{◌≡◌, ℕ, zero, suc, Bool, true, false, List, Option, Some, length, refl, sym, ◌∙◌, ap, subst, map}
-use Rattle.std.proofs.Common.{string_bytes, Result, Ok, Err, IfOk}
+use Rattle.std.proofs.Common.{◌≡◌, ℕ, List, length, refl, sym, ◌∙◌, ap, subst}
+use Rattle.std.proofs.Common.{Result, Ok, Err, IfOk}
 use Rattle.verse_base.specs.declared.refusals.Refusal.{Refusal}
 use Rattle.verse_lex.specs.Cut.{first_place}
 use Rattle.verse_outside.specs.Held.{Holding}
@@ -12,7 +12,7 @@ use Rattle.verse_top_args.specs.Words.{Command, files_of, Options}
 use Rattle.verse_top_args.specs.Requests.{AsksFor, names_of}
 use Rattle.verse_top_args.specs.declared.commands.Request.{Request}
 use Rattle.verse_top_args.specs.declared.commands.Request.TheVariants as request
-use Rattle.verse_accept.specs.Fronts.{Accepts, IsRefused, front_end, refusal}
+use Rattle.verse_accept.specs.Fronts.{Accepts, IsRefused, refusal}
 use Rattle.verse_accept.proofs.Answered.{one_front_end}
 use Rattle.verse_top.specs.Loading.{AreLoaded, IsTooLarge}
 use Rattle.verse_top.specs.Meaning.{code_from, mean_with}

@@ -1,7 +1,7 @@
 -- From the parts of the top call to its clauses.
-use Rattle.std.proofs.Common.{◌≡◌, ◌≢◌, ℕ, ◌≤◌, zero, suc, List, ◌++◌, Option, Result, Ok, Err, ◌⊎◌, inl, inr, refl, sym, ap, subst, ◌∙◌}
+use Rattle.std.proofs.Common.{◌≡◌, ◌≢◌, ℕ, ◌≤◌, List, ◌++◌, Option, Result, Ok, Err, ◌⊎◌, inl, inr, refl, sym, subst, ◌∙◌}
 use Rattle.verse_outside.specs.Causes.{Rose}
-use Rattle.verse_outside.specs.Held.{Holding, TookPrefix, with_more}
+use Rattle.verse_outside.specs.Held.{Holding, with_more}
 use Rattle.verse_value.specs.declared.runs.Ending.{Ending}
 use Rattle.verse_value.specs.declared.runs.Ending.TheVariants as ending
 use Rattle.verse_top_texts.specs.Endings.{ending_status}
@@ -16,8 +16,8 @@ use Rattle.verse_top_exec.proofs.Takes.{more_then, rose_from, took_behind, took_
 use Rattle.verse_top.specs.Loading.{AreHeld, IsAbsent}
 use Rattle.verse_top.specs.Meaning.{mean_with}
 use Rattle.verse_top.specs.Answers.{Answers, too_large, refused, checked, ran, built, executed, Answered, Begins, CutShort, Finishes, MayWrite}
-use Rattle.verse_top.specs.Answers.{not_read, no_memory, answer, NoMemory, NotRead, Replies, Told, whole, without, cut, Unread, read_line}
-use Rattle.verse_top.specs.Answers.{memory_line, words_line}
+use Rattle.verse_top.specs.Answers.{not_read, no_memory, answer, NoMemory, NotRead, Replies, Told, whole, without, cut, Unread}
+use Rattle.verse_top.specs.Answers.{memory_line}
 use Rattle.verse_top.proofs.LoadLaws.{absent_or_loaded, absent_or_large, absent_or_read, held_or_absent}
 
 -- the statuses of answers

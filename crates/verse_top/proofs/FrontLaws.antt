@@ -1,5 +1,5 @@
 -- What comes of the files of a program, by what is found of them.
-use Rattle.std.proofs.Common.{◌≡◌, ◌⊎◌, ℕ, List, [], Result, Ok, Err, IfOk, inl, inr, refl, sym, subst}
+use Rattle.std.proofs.Common.{◌≡◌, ◌⊎◌, ℕ, List, Result, Ok, Err, IfOk, inl, inr, sym, subst}
 use Rattle.verse_base.specs.declared.refusals.Memory.{Memory}
 use Rattle.verse_outside.specs.Causes.{Rose}
 use Rattle.verse_outside.specs.Held.{Holding}

@@ -9,7 +9,6 @@ use Rattle.verse_tree.specs.declared.tables.Ty.TheOpen as layer
 use Rattle.verse_tree.specs.declared.tables.MapOf.{MapOf, fold-MapOf}
 use Rattle.verse_rules_types.specs.Types.{Ty, ty_step, two_tys, ty_of, map_of}
 use Rattle.verse_rules.specs.Sound.{completed, types_of}
-use Rattle.verse_value.specs.Runs.{Run}
 use Rattle.verse_meaning_state.specs.State.{State}
 use Rattle.verse_meaning_state.specs.Waits.{Wait}
 use Rattle.verse_meaning_state.specs.Turns.{Stage, going, closed, broken, amiss}
@@ -26,7 +25,6 @@ use Rattle.lower_bounds.specs.Laws.{CodeIsValid}
 use Rattle.lower_simulation.specs.Seen.{Seen, between, ended, broke_off, seen_of}
 use Rattle.lower_simulation_runs.specs.Programs.{CanBeFollowed}
 use Rattle.lower_simulation_runs.specs.Laws.{CodeMeansTheSame, TurnsAreTheSame}
-use Rattle.verse_top_args.specs.Words.{Options}
 use Rattle.verse_top_texts.specs.Streams.{state_in}
 use Rattle.verse_accept_laws.specs.Laws.{AcceptedCanBeFollowed}
 use Rattle.verse_top.specs.Programs.{IsAccepted}

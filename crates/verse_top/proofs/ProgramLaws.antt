@@ -1,5 +1,5 @@
 -- What is done with an accepted program is the answer to its command.
-use Rattle.std.proofs.Common.{◌≡◌, ℕ, List, [], Bool, Option, Result, map, string_bytes, length, inl, refl, sym, ap, subst, ◌∙◌}
+use Rattle.std.proofs.Common.{◌≡◌, ℕ, List, Bool, Option, Result, map, string_bytes, length, sym, ap, subst, ◌∙◌}
 use Rattle.verse_tree.specs.ItemTree.{ItemTree}
 use Rattle.verse_tree.specs.ItemView.{item_of}
 use Rattle.verse_tree.specs.declared.programs.Program.{Program as Made}
@@ -11,7 +11,7 @@ use Rattle.verse_meaning_state.specs.Effects.{printed}
 use Rattle.verse_meaning_state.specs.Texts.{run_text}
 use Rattle.verse_code.specs.declared.codes.Code.{Code}
 use Rattle.verse_code_machine.specs.Runs.{mach_after}
-use Rattle.verse_top_args.specs.Words.{Command, Options, build, check, files_of, run}
+use Rattle.verse_top_args.specs.Words.{Command, Options, build, check, files_of}
 use Rattle.verse_top_args.specs.Requests.{AsksForRun, options_with}
 use Rattle.verse_top_args.specs.declared.commands.Running.{Running}
 use Rattle.verse_top_texts.specs.Endings.{ending_status}

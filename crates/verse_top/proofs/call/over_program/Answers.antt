@@ -29,7 +29,7 @@ returns-in-Accepted-clause-leaves g c d asks =
     let files_now = g.F.Files.faults c.front.new.files in
     let names = map string_bytes c.files.result.now in
     let comes : Fronts held files_before files_now names (f.Accepted c.in-Accepted.program) =
-    subst (λ (x : Fronted). Fronts held files_before files_now names x) c.in-Accepted.is c.in_ok-front.ensures.comes in
+    subst (λ (x : Fronted). Fronts held files_before files_now names x) c.in-Accepted.is c.in_ok-program.ensures.comes in
     let same : names ≡ files_of d = c.files.ensures ∙ sym (asks_for_files c.args.request d asks) in
     let loaded : AreLoaded held (files_of d) comes.0 = subst (λ (ns : List (List ℕ)). AreLoaded held ns comes.0) same comes.1.0 in
     leaves_as (Answers held d) (Replies d held files_before files_now) (Begins held d) (Begins held d)
@@ -45,7 +45,7 @@ returns-in-Refused-clause-leaves g c d asks =
     let names = map string_bytes c.files.result.now in
     let answer = c.in-Refused.answer in
     let comes : Fronts held files_before files_now names (f.Refused answer) =
-    subst (λ (x : Fronted). Fronts held files_before files_now names x) c.in-Refused.is c.in_ok-front.ensures.comes in
+    subst (λ (x : Fronted). Fronts held files_before files_now names x) c.in-Refused.is c.in_ok-program.ensures.comes in
     let same : files_of d ≡ names = asks_for_files c.args.request d asks ∙ sym c.files.ensures in
     leaves_answer d held files_before files_now (g.S.Sink.faults c.args.out.now) (g.S.Sink.faults c.write_answer.new.out)
     (g.S.Sink.taken c.args.out.now) (g.S.Sink.taken c.write_answer.new.out) c.write_answer.result answer.status answer.text.items

@@ -1,5 +1,5 @@
 -- The files are loaded and judged, or one was not read.
-use Rattle.std.proofs.Common.{◌≡◌, ◌≤◌, ◌<◌, ◌⊎◌, ℕ, List, [], inl, length, map, string_bytes, slice_index_or, sym, subst, ◌∙◌, ap, arith}
+use Rattle.std.proofs.Common.{◌≡◌, ◌<◌, ◌⊎◌, ℕ, List, [], inl, length, map, string_bytes, slice_index_or, sym, subst, ◌∙◌, ap, arith}
 use Rattle.std.proofs.lemmas.List.{length-map}
 use Rattle.verse_outside.specs.Causes.{Rose}
 use Rattle.verse_top.specs.Loaded.{Comes}
