@@ -265,7 +265,10 @@ fn what_is_built_runs(rt: HostRuntime) -> Result<(), Fail> {
     assert_eq!(rt; told(alloc, command.as_slice(), &mut files, &mut ran), 0);
     let mut executed = MemSink::new(alloc, 1000, 1000)?;
     let command = words(alloc, "exec image --in 1,2,3 --heap")?;
-    assert_eq!(rt; told(alloc, command.as_slice(), &mut files, &mut executed), 0);
+    assert_eq!(rt;
+        told(alloc, command.as_slice(), &mut files, &mut executed),
+        0
+    );
     assert_eq!(rt; executed.taken(), ran.taken());
     assert_eq!(rt;
         ran.taken(),
