@@ -17,6 +17,7 @@ verse runs the proved program; where it is missing, or its sources changed, it i
   ./verse run FILE {FILE} [--steps N] [--until MS] [--in N,N,..] [--heap]     runs the files of a program
   ./verse exec FILE [the same options]                                        runs an image, a program as bytecode
   ./verse check FILE {FILE}                                                   tells the first refusal, or = ok
+  ./verse build FILE {FILE}                                                   writes the image of the program
 
 Where standard error is a terminal, or with VERSE_EXPLAIN=1, a refusal is explained there; VERSE_EXPLAIN=0 explains
 none. ./try takes the same words, and proves nothing. docs/COMMANDS.md says more, and what the program writes.
@@ -87,7 +88,7 @@ fi
 explains() { [ "${VERSE_EXPLAIN-}" = 1 ] || { [ -z "${VERSE_EXPLAIN+set}" ] && [ -t 2 ]; }; }
 
 case $1 in
-  run | check)
+  run | check | build)
     if explains; then
       "$program" "$@" | "$here/scripts/explain" "$@"
       exit "${PIPESTATUS[0]}"

@@ -61,10 +61,6 @@ def shown_run(words, where):
         args, out = listed(match[1])
         if words[2:] == args:
             return out
-        not_built = text_of("examples/not_built.txt").split()
-        if match[1] in not_built:
-            failures.append(f"{where}: {match[1]} is not built, so only its own .args can be shown")
-            return None
     ran = subprocess.run([PROGRAM, *words], capture_output=True, text=True, stdin=subprocess.DEVNULL, timeout=60)
     return ran.stdout.split("\n")[:-1]
 
@@ -86,7 +82,7 @@ def parts_of_examples():
                     command = re.sub(r"\s+#.*", "", lines[at][2:]).split()
                     if command[0] in ("./verse", "./try"):
                         wanted = shown_run(command[1:], where)
-                        check(wanted is None or wanted == lines[at + 1 : end], f"{where}: `{lines[at][2:]}` does not write this, but {wanted}")
+                        check(wanted == lines[at + 1 : end], f"{where}: `{lines[at][2:]}` does not write this, but {wanted}")
                     at = end
 
 
@@ -204,28 +200,6 @@ def codes_of_forms():
     check([form for form, _ in shown] == [form for form, _ in held], "docs/ARCHITECTURE.md, The code of a form: other rows than the laws")
 
 
-def built_forms():
-    """The table of what is built against the kinds of node and the definition of what is built."""
-    rows = re.findall(r"(?m)^\| .* \| (yes|no) \| (.*) \|$", section(text_of("docs/LANGUAGE.md"), "What is built today"))
-    told = {kind: answer == "yes" for answer, kinds in rows for kind in re.findall(r"`(\w+)`", kinds)}
-    tree, items = text_of("crates/verse_tree/specs/Tree.antt"), text_of("crates/verse_tree/specs/ItemTree.antt")
-    shapes = re.search(r"pub data Shape .*?\n\n", tree + "\n\n", re.S)
-    shapes = shapes[0].split("\n")[1:] if shapes else []
-    kinds = {name for line in shapes if not line.strip().startswith("--") for name in line.partition(":")[0].split()}
-    kinds |= set(re.findall(r"(?m)^  (\w+) :", items.partition("pub data ItemTree")[2]))
-    built = text_of("crates/verse_accept_built/specs/Built.antt")
-    cases = re.findall(r"(?m)^is_built_(?:shape|item) \(?(?:t\.Shape\.)?(\w+)[^=]*= (.*)$", built)
-    is_built = {name: right.strip() != "false" for name, right in cases}
-    other = is_built.pop("other", None)
-    check(bool(rows) and bool(kinds) and other is False, "docs/LANGUAGE.md or the definitions have no table of what is built that this check can read")
-    for kind in sorted(kinds | set(told)):
-        if kind not in told or kind not in kinds:
-            failures.append(f"docs/LANGUAGE.md, What is built today: {kind} {'is no kind of node' if kind in told else 'is missing'}")
-            continue
-        now = is_built.get(kind, False)
-        check(told[kind] == now, f"docs/LANGUAGE.md, What is built today: {kind} is {'' if now else 'not '}built by verse_accept_built/specs/Built.antt")
-
-
 def refusals():
     """The table of refusals against the texts that the program has."""
     rows = dict(re.findall(r"(?m)^\| E(\d{3}) (.*?) \|", section(text_of("docs/LANGUAGE.md"), "All refusals")))
@@ -239,9 +213,9 @@ def refusals():
 
 
 def short_examples():
-    """The short examples: a block of code, and below it what it writes. One that needs a form that is not built is E099.
-    Lines without a Main are the body of one; an ending line `= done` may be left out."""
-    waiting = total = 0
+    """The short examples: a block of code, and below it what it writes. Lines without a Main are the body of one; an
+    ending line `= done` may be left out."""
+    total = 0
     with tempfile.TemporaryDirectory() as folder:
         for document in DOCUMENTS:
             found = blocks(text_of(document))
@@ -258,13 +232,12 @@ def short_examples():
                 command = [PROGRAM, "run", file, *words]
                 wrote = subprocess.run(command, capture_output=True, text=True, stdin=subprocess.DEVNULL, timeout=60).stdout
                 got = wrote.split("\n")[:-1]
-                is_waiting = re.fullmatch(r"\d+:\d+ E099 not built yet\n", wrote) is not None
-                waiting, total = waiting + is_waiting, total + 1
+                total += 1
                 shows_ending = below[2][-1:] and below[2][-1].startswith("= ")
                 if got[-1:] and got[-1].startswith("= done ") and not shows_ending:
                     got.pop()
-                check(is_waiting or got == below[2], f"{document}:{line}: this example writes {got}")
-    print(f"{waiting} of {total} short examples need a form that is not built")
+                check(got == below[2], f"{document}:{line}: this example writes {got}")
+    print(f"{total} short examples")
 
 
 def refused_examples():
@@ -312,7 +285,7 @@ def example_of_a_mistake(where, code, wrong, told_at, right, folder):
     well = found and found[3] == code and line.startswith(told_at.strip("`")) and told_at != "``"
     check(well, f"{where}: {wrong} writes {wrote}, at `{line[:20]}`, and not {code} at {told_at}")
     answer = checked(as_file(right), folder)
-    check(answer == "= ok" or re.fullmatch(r"\d+:\d+ E099 .*", answer), f"{where}: {right} writes {answer}")
+    check(answer == "= ok", f"{where}: {right} writes {answer}")
 
 
 ROW = r"(?m)^\| (`.*`) \| {} \| (`.*`) \|$"
@@ -456,13 +429,11 @@ def editors():
     matchers = {it["name"]: it for it in json.loads(text_of("editors/package.json"))["contributes"]["problemMatchers"]}
     for name, refusal, severity in (
         ("verse", "b.verse:1:12 E041 unknown name", "error"), ("verse-one-file", "2:28 E030 unexpected token", "error"),
-        ("verse-not-built", "b.verse:1:12 E099 not built yet", "info"), ("verse-one-file-not-built", "2:28 E099 not built yet", "info"),
     ):
         pattern = matchers[name]["pattern"]
         pattern = pattern if isinstance(pattern, dict) else pattern[1]
-        reads = [it for it in ("E041", "E099") if re.search(pattern["regexp"], re.sub("E[0-9]{3}", it, refusal))]
-        well = reads == [re.search("E[0-9]{3}", refusal)[0].replace("E030", "E041")] and matchers[name]["severity"] == severity
-        check(well, f"editors/package.json: ${name} reads {reads}")
+        well = re.search(pattern["regexp"], refusal) is not None and matchers[name]["severity"] == severity
+        check(well, f"editors/package.json: ${name} does not read {refusal}")
     tasks = json.loads(text_of("editors/tasks.json"))["tasks"]
     for task in tasks:
         script = task["command"].replace("${config:verse.home}/", "")
@@ -481,7 +452,6 @@ links()
 times()
 pictures()
 codes_of_forms()
-built_forms()
 refusals()
 refused_examples()
 mended_examples()

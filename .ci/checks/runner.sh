@@ -310,9 +310,6 @@ echo stray > "$tests/three.out"
 run_tests
 same 'verse-test: a stray file' '1 three.out belongs to no program' "$status $(head -n 1 <<< "$wrote")"
 rm "$tests/three.out"
-echo two > "$tests/not_built.txt"
-run_tests
-same 'verse-test: what runs is taken off the list' 1 "$(grep -c 'take two off not_built.txt' <<< "$wrote")"
 export VERSE=$room/writes
 in_folder "$tests" "$root/editors/watch" --once part.verse
 same 'editors/watch --once: the program of a part' "0 checking $tests/one.verse|check $tests/one.verse $tests/part.verse|one|checked" "$status $(paste -s -d '|' <<< "$wrote")"
@@ -329,7 +326,7 @@ kill "$watcher"
 wait "$watcher" 2> /dev/null
 same 'editors/watch FOLDER: what is saved is checked' "checking $tests/two.verse" "$(sort -u "$room/watched" | grep checking)"
 unset VERSE
-rm "$tests/not_built.txt" "$tests/one.args" "$tests/part.verse"
+rm "$tests/one.args" "$tests/part.verse"
 printf '[run]\n[one.verse]\n' > "$tests/one.out"
 in_folder "$repo" ./verse-test --try tests one
 same 'verse-test --try: by one build' '0 1 passed, 0 failed' "$status $wrote"

@@ -1,7 +1,5 @@
 -- A file has at most one result: each layer of the front end has one.
-use Rattle.std.proofs.Common.{◌≡◌, ℕ, List, [], Option, Some, None, sym, ap, subst, ◌∙◌, drop, arith, refl}
-use Rattle.std.proofs.lemmas.Option.{same_Some}
-use Rattle.verse_base.specs.declared.places.Place.{Place}
+use Rattle.std.proofs.Common.{◌≡◌, ℕ, List, sym, ap, ◌∙◌, drop, arith}
 use Rattle.verse_base.specs.declared.refusals.Refusal.{Refusal}
 use Rattle.verse_lex.specs.declared.tokens.Token.{Token}
 use Rattle.verse_lex.proofs.Unique as tokens
@@ -9,16 +7,14 @@ use Rattle.verse_layout.specs.declared.toks.Tok.{Tok}
 use Rattle.verse_layout.proofs.Answers.{one_layout}
 use Rattle.verse_layout_laws.proofs.Unique as layout
 use Rattle.verse_tree.specs.ItemTree.{ItemTree}
-use Rattle.verse_tree.specs.PostOrder.{program_order}
 use Rattle.verse_grammar.specs.Toks.{ahead}
 use Rattle.verse_expr.specs.Faults.{stop_rule}
 use Rattle.verse_rules_least.proofs.Refusals.{refused_once}
 use Rattle.verse_names_items.specs.Nodes.{places_in}
 use Rattle.verse_names.specs.Breaking.{NamesBreak}
 use Rattle.verse_rules.proofs.Once.{mistyped_breaks, mistyped_once}
-use Rattle.verse_accept_built.specs.Built.{first_unbuilt}
 use Rattle.verse_accept.specs.Stages.{OneResult, followed, in_turn}
-use Rattle.verse_accept.specs.Fronts.{Cut, Laid, sized, cutting, laying, spelling, joining, naming, typing, bounding, building, testing}
+use Rattle.verse_accept.specs.Fronts.{Cut, Laid, sized, cutting, laying, spelling, joining, naming, typing, bounding, testing}
 use Rattle.verse_accept.specs.Fronts.{to_sized, to_cut, to_laid, to_spelled, to_joined, front_end, IsStuck, tok_place, refusal}
 use Rattle.verse_accept.proofs.OneByOne.{one_followed, one_in_turn}
 use Rattle.verse_accept.proofs.StuckToks.{stuck_once, stuck_or_spelled}
@@ -91,27 +87,8 @@ one_bounding = record {
   apart = λ a b r x y. let small = x.1 in let large = y.0 in omega arith;
 }
 
-same_place : (is : List ItemTree) (p q : Place) (r u : Refusal) → first_unbuilt (program_order is) ≡ Some p →
-    first_unbuilt (program_order is) ≡ Some q → r ≡ refusal 99 p → u ≡ refusal 99 q → r ≡ u
-same_place is p q r u e f g h = g ∙ ap (λ (x : Place). refusal 99 x) (same_Some p q (sym e ∙ f)) ∙ sym h
-
-built_or_not : (is : List ItemTree) (p : Place) → first_unbuilt (program_order is) ≡ None → first_unbuilt (program_order is) ≡ Some p → ⊥
-built_or_not is p e f = let x : None ≡ Some p = sym e ∙ f in cc
-
-one_building : OneResult building
-one_building = record {
-  value = λ a b c x y. x.0 ∙ sym y.0;
-  refusal = λ a r q x y. same_place a x.0 y.0 r q x.1 y.1 x.2 y.2;
-  apart = λ a b r x y. built_or_not a y.0 x.1 y.1;
-}
-
 one_testing : OneResult testing
-one_testing =
-    one_followed (followed (followed naming typing) bounding) building
-    (one_followed (followed naming typing) bounding
-    (one_followed naming typing one_naming one_typing)
-    one_bounding)
-    one_building
+one_testing = one_followed (followed naming typing) bounding (one_followed naming typing one_naming one_typing) one_bounding
 
 pub one_front_end : OneResult front_end
 one_front_end =

@@ -16,11 +16,10 @@ use Rattle.verse_grammar.specs.Items.{Program}
 use Rattle.verse_grammar.specs.Begins.{a_program, Stops}
 use Rattle.verse_grammar.specs.Toks.{ahead}
 use Rattle.verse_expr.specs.Faults.{stop_rule}
-use Rattle.verse_tree.specs.PostOrder.{program_order, program_place}
+use Rattle.verse_tree.specs.PostOrder.{program_place}
 use Rattle.verse_tree.specs.Numbering.{items_numbered}
 use Rattle.verse_names.specs.Breaking.{NamesBreak, IsMisnamed}
 use Rattle.verse_rules.specs.Sound.{BodiesBreak, IsMistyped, size_of, most_size}
-use Rattle.verse_accept_built.specs.Built.{first_unbuilt}
 use Rattle.verse_accept.specs.Stages.{Stage, followed, in_turn, OneResult}
 
 -- the toks go on up to this one, or to their end, and not further
@@ -111,17 +110,9 @@ bounding = record {
   refuses = λ (is : List ItemTree) (r : Refusal). (most_size < size_of is) × (r ≡ refusal 98 program_place);
 }
 
--- a program that is built
-abbrev pub building : Stage (List ItemTree) (List ItemTree)
-building = record {
-  makes = λ (is : List ItemTree) (js : List ItemTree). (js ≡ is) × (first_unbuilt (program_order is) ≡ None);
-  refuses = λ (is : List ItemTree) (r : Refusal). (place : Place) × (first_unbuilt (program_order is) ≡ Some place) ×
-      (r ≡ refusal 99 place);
-}
-
 -- the rules over the whole program, one group behind the other
 abbrev pub testing : Stage (List ItemTree) (List ItemTree)
-testing = followed (followed (followed naming typing) bounding) building
+testing = followed (followed naming typing) bounding
 
 -- ---- the front end: the layers one behind the other; a further one is one more line
 

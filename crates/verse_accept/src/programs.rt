@@ -16,7 +16,6 @@ ghost use Rattle.verse_accept.specs.Fronts.{to_spelled, to_joined};
 
 use crate::turns::{cut_all, lay_all, spell_all, too_large};
 use std::alloc::Global;
-use verse_accept_built::unbuilt;
 use verse_base::places::Place;
 use verse_base::refusals::{Front, Refusal, Rule};
 use verse_join::join;
@@ -28,9 +27,6 @@ use verse_tree_items::items::ProgramTree;
 
 /// E098: a program is too large.
 const TOO_LARGE: Rule = Rule(98);
-
-/// E099: a form is not built.
-const NOT_BUILT: Rule = Rule(99);
 
 /// Files have at most one result: items or a refusal.
 pub fn accepted_once()
@@ -53,6 +49,7 @@ pub fn accept(alloc: Global, files: &[Vec<u8>]) -> Result<Accepted, Front>
     ensures accepted { IfOk result
         (λ a. Accepts (map (λ f. f.items) files.now) (map item_of a.tree.items)) }
     ensures files { IfOk result (λ a. a.tree.files ≡ length files.now) }
+    ensures counted { IfOk result (λ a. a.tree.nodes ≡ program_nodes (map item_of a.tree.items)) }
     ensures names { IfOk result (λ a. a.checked.names ≡ completed (map item_of a.tree.items)) }
     ensures types { IfOk result (λ a. map ty_of a.checked.typed.types ≡
         types_of (map item_of a.tree.items)) }
@@ -66,8 +63,7 @@ pub fn accept(alloc: Global, files: &[Vec<u8>]) -> Result<Accepted, Front>
     Ok(Accepted { tree, checked })
 }
 
-/// Tests the rules over a whole program: those of names, of types and effects, its size, and
-/// whether it is built.
+/// Tests the rules over a whole program: those of names, of types and effects, and its size.
 fn test(alloc: Global, tree: &Tree) -> Result<Checked, Front>
     requires numbered { IsNumbered (map item_of tree.now.items) tree.now.nodes }
     requires counted { tree.now.nodes ≡ program_nodes (map item_of tree.now.items) }
@@ -83,13 +79,7 @@ fn test(alloc: Global, tree: &Tree) -> Result<Checked, Front>
 {
     let checked = check_program(alloc, tree)?;
     bound(tree, &checked.names)?;
-    match unbuilt(tree.items.as_slice()) {
-        Some(place) => Err(Front::Refused(Refusal {
-            rule: NOT_BUILT,
-            place,
-        })),
-        None => Ok(checked),
-    }
+    Ok(checked)
 }
 
 /// Refuses a program that is too large.

@@ -8,8 +8,6 @@ use crate::reading::{toks_of, tree_of_file, tree_of_two};
 use crate::tables::{FILES, PHRASES, PROGRAMS, REFUSED};
 use std::alloc::Global;
 use std::test::Fail;
-use verse_accept_built::{printed, unbuilt};
-use verse_base::places::Place;
 use verse_expr::faults::ParseFault;
 use verse_expr::{block, expr, ty};
 use verse_parse::parse;
@@ -115,30 +113,5 @@ fn refusals_stand_where_no_program_goes_on(rt: HostRuntime) -> Result<(), Fail> 
         let index = index.parse::<usize>().map_err(|_| "an index")?;
         assert_eq!(rt; refusal(alloc, row)?, (rule, index), "{line}");
     }
-    Ok(())
-}
-
-#[test]
-fn a_program_and_what_it_prints(rt: HostRuntime) -> Result<(), Fail> {
-    let alloc = rt.alloc();
-    let items = items_of(
-        alloc,
-        b"Main():void =\n    Print(\"a\")\n    Print(\"\")".as_slice(),
-    )?;
-    assert_eq!(rt; unbuilt(items.as_slice()), None);
-    let texts = printed(alloc, items.as_slice())?;
-    assert_eq!(rt; texts.len(), 2);
-    assert_eq!(rt; texts[0].as_slice(), b"a".as_slice());
-    assert!(rt; texts[1].is_empty());
-    let items = items_of(
-        alloc,
-        b"Main():void =\n    Print(\"a\")\n    Log(\"b\")".as_slice(),
-    )?;
-    let place = Place {
-        file: 0,
-        line: 3,
-        col: 5,
-    };
-    assert_eq!(rt; unbuilt(items.as_slice()), Some(place));
     Ok(())
 }

@@ -1,30 +1,38 @@
 -- The ways to an answer, and that there is one.
-use Rattle.std.proofs.Common.{◌≡◌, ℕ, zero, suc, Bool, true, false, List, Option, Some, length, refl, sym, ◌∙◌, ap, subst, map}
-use Rattle.std.proofs.Common.{string_bytes, Result, Ok, Err, IfOk}
+use Rattle.std.proofs.Common.{◌≡◌, ℕ, List, length, refl, sym, ◌∙◌, ap, subst}
+use Rattle.std.proofs.Common.{Result, Ok, Err, IfOk}
 use Rattle.verse_base.specs.declared.refusals.Refusal.{Refusal}
 use Rattle.verse_lex.specs.Cut.{first_place}
 use Rattle.verse_outside.specs.Held.{Holding}
 use Rattle.verse_tree.specs.ItemTree.{ItemTree}
-use Rattle.verse_accept_built.specs.Texts.{texts_of}
+use Rattle.verse_value.specs.Runs.{Run}
 use Rattle.verse_meaning_state.specs.Texts.{run_text}
 use Rattle.verse_top_texts.specs.Refusals.{refusal_line}
-use Rattle.verse_top_args.specs.Words.{Command, run, exec, check, files_of, Options}
-use Rattle.verse_top_args.specs.Requests.{AsksFor, AsksForRun, names_of, options_with}
+use Rattle.verse_top_args.specs.Words.{Command, files_of, Options}
+use Rattle.verse_top_args.specs.Requests.{AsksFor, names_of}
 use Rattle.verse_top_args.specs.declared.commands.Request.{Request}
 use Rattle.verse_top_args.specs.declared.commands.Request.TheVariants as request
-use Rattle.verse_top_args.specs.declared.commands.Running.{Running}
-use Rattle.verse_accept.specs.Fronts.{Accepts, IsRefused, front_end, refusal}
+use Rattle.verse_accept.specs.Fronts.{Accepts, IsRefused, refusal}
 use Rattle.verse_accept.proofs.Answered.{one_front_end}
 use Rattle.verse_top.specs.Loading.{AreLoaded, IsTooLarge}
-use Rattle.verse_top.specs.Meaning.{mean}
+use Rattle.verse_top.specs.Meaning.{code_from, mean_with}
 use Rattle.verse_top_texts.specs.Endings.{ending_status}
-use Rattle.verse_top.specs.Answers.{Answers, too_large, refused, checked, ran, executed, ok_line, AnsweredOnce}
+use Rattle.verse_top.specs.Answers.{Answers, too_large, refused, checked, ran, built, executed, AnsweredOnce, ExecRunsWhatIsBuilt, IsImageOf}
 use Rattle.verse_top.specs.Programs.{IsForProgram, IsProgram}
-use Rattle.verse_top_exec.specs.Executions.{Executes}
+use Rattle.verse_image.specs.Format.{Image, version_of}
+use Rattle.verse_image.proofs.ImageLaws.{image_once}
+use Rattle.verse_top_exec.specs.Executions.{Executes, run_with}
+use Rattle.verse_top_exec.specs.Executions as x
 use Rattle.verse_top_exec.proofs.Executions.{once as executed_once}
-use Rattle.verse_top.proofs.LoadLaws.{as_many, loaded_once, loaded_or_large, large_once, read_once}
+use Rattle.verse_top.proofs.LoadLaws.{loaded_once, loaded_or_large, large_once, read_once}
 
 -- ---- one answer
+
+one_built : (is js : List ItemTree) (files : ℕ) (x y : List ℕ) → is ≡ js → IsImageOf is files x → IsImageOf js files y → x ≡ y
+one_built is js files x y e i j =
+    let other : Image (version_of (code_from is files)) (code_from is files) y =
+    subst (λ (ks : List ItemTree). Image (version_of (code_from ks files)) (code_from ks files) y) (sym e) j.image in
+    image_once (version_of (code_from is files)) (code_from is files) x y i.image other
 
 pub once : AnsweredOnce
 once held c s t x y (too_large d n g p) (too_large e m h q) =
@@ -32,10 +40,12 @@ once held c s t x y (too_large d n g p) (too_large e m h q) =
 once held c s t x y (too_large d n g p) (refused e files r h l q) = absurd (loaded_or_large held (files_of c) files 0 n l p)
 once held c s t x y (too_large d n g p) (checked names files is l q) = absurd (loaded_or_large held names files 0 n l p)
 once held c s t x y (too_large d n g p) (ran names o files is l q) = absurd (loaded_or_large held names files 0 n l p)
+once held c s t x y (too_large d n g p) (built names files is bytes l q i) = absurd (loaded_or_large held names files 0 n l p)
 once held c s t x y (too_large d n g p) (executed name o bytes u z l q) = absurd g
 once held c s t x y (refused e files r g l q) (too_large d n h p) = absurd (loaded_or_large held (files_of c) files 0 n l p)
 once held c s t x y (checked names files is l q) (too_large d n h p) = absurd (loaded_or_large held names files 0 n l p)
 once held c s t x y (ran names o files is l q) (too_large d n h p) = absurd (loaded_or_large held names files 0 n l p)
+once held c s t x y (built names files is bytes l q i) (too_large d n h p) = absurd (loaded_or_large held names files 0 n l p)
 once held c s t x y (executed name o bytes u z l q) (too_large d n h p) = absurd h
 once held c s t x y (refused d files r g l p) (refused e others u h k q) =
     let same = loaded_once held (files_of c) files others l k in
@@ -44,21 +54,52 @@ once held c s t x y (refused d files r g l p) (checked names others is k q) =
     let same = loaded_once held names files others l k in absurd (one_front_end.apart others is r q (subst (λ fs. IsRefused fs r) same p))
 once held c s t x y (refused d files r g l p) (ran names o others is k q) =
     let same = loaded_once held names files others l k in absurd (one_front_end.apart others is r q (subst (λ fs. IsRefused fs r) same p))
+once held c s t x y (refused d files r g l p) (built names others is bytes k q i) =
+    let same = loaded_once held names files others l k in absurd (one_front_end.apart others is r q (subst (λ fs. IsRefused fs r) same p))
 once held c s t x y (refused d files r g l p) (executed name o bytes u z k q) = absurd g
 once held c s t x y (checked names others is k q) (refused d files r g l p) =
     let same = loaded_once held names files others l k in absurd (one_front_end.apart others is r q (subst (λ fs. IsRefused fs r) same p))
 once held c s t x y (ran names o others is k q) (refused d files r g l p) =
+    let same = loaded_once held names files others l k in absurd (one_front_end.apart others is r q (subst (λ fs. IsRefused fs r) same p))
+once held c s t x y (built names others is bytes k q i) (refused d files r g l p) =
     let same = loaded_once held names files others l k in absurd (one_front_end.apart others is r q (subst (λ fs. IsRefused fs r) same p))
 once held c s t x y (executed name o bytes u z k q) (refused d files r g l p) = absurd g
 once held c s t x y (checked names files is l p) (checked other others js k q) = (refl, refl)
 once held c s t x y (ran names o files is l p) (ran other u others js k q) =
     let same = loaded_once held names files others l k in
     let items = one_front_end.value others is js (subst (λ fs. Accepts fs is) same p) q in (
-      ap (λ (ks : List ItemTree). ending_status (mean (texts_of ks) o.steps).ending) items,
-      ap (λ (ks : List ItemTree). run_text (mean (texts_of ks) o.steps) o.heap (length names)) items,
+      ap (λ (ks : List ItemTree). ending_status (mean_with ks o).ending) items,
+      ap (λ (ks : List ItemTree). run_text (mean_with ks o) o.heap (length names)) items,
     )
+once held c s t x y (built names files is bytes l p i) (built other others js more k q j) =
+    let same = loaded_once held names files others l k in
+    let items = one_front_end.value others is js (subst (λ fs. Accepts fs is) same p) q in
+    (refl, one_built is js (length names) x y items i j)
 once held c s t x y (executed name o bytes u z l p) (executed other v others w k m q) =
     let same = read_once held name bytes others l m in executed_once others o s t x y (subst (λ (bs : List ℕ). Executes bs o s x) same p) q
+
+-- ---- what is built, and then executed
+
+runs_built : (is js : List ItemTree) (files : ℕ) (image : List ℕ) (o : Options) → is ≡ js → IsImageOf is files image →
+    Executes image o (ending_status (mean_with js o).ending) (run_text (mean_with js o) o.heap files)
+runs_built is js files image o e i =
+    let same : run_with (code_from is files) o ≡ mean_with js o = i.runs o ∙ ap (λ (ks : List ItemTree). mean_with ks o) e in
+    x.ran (version_of (code_from is files)) (code_from is files) (ending_status (mean_with js o).ending)
+    (run_text (mean_with js o) o.heap files) i.image
+    (record {
+      status_is = ap (λ (r : Run). ending_status r.ending) (sym same);
+      text_is = ap (λ (r : Run). run_text r o.heap files) (sym same);
+    })
+
+pub exec_runs : ExecRunsWhatIsBuilt
+exec_runs held other names name image o status text (built ns files is bytes l p i) read (too_large d n g q) =
+    absurd (loaded_or_large held names files 0 n l q)
+exec_runs held other names name image o status text (built ns files is bytes l p i) read (refused d others r g k q) =
+    let same = loaded_once held names files others l k in absurd (one_front_end.apart others is r (subst (λ fs. Accepts fs is) same p) q)
+exec_runs held other names name image o status text (built ns files is bytes l p i) read (ran ms u others js k q) =
+    let same = loaded_once held names files others l k in
+    let items = one_front_end.value others is js (subst (λ fs. Accepts fs is) same p) q in
+    executed name o image status text read (runs_built is js (length names) image o items i)
 
 -- ---- the ways to an answer, with equations in place of indices
 
@@ -69,48 +110,26 @@ pub asks_for_files : (q : Request) (c : Command) → AsksFor q c → files_of c 
 asks_for_files (request.Run r) c a = ap files_of a.is
 asks_for_files (request.Exec r) c a = ap files_of a.is ∙ sym a.one
 asks_for_files (request.Check files) c a = ap files_of a
+asks_for_files (request.Build files) c a = ap files_of a
 
 pub asks_for_program : (q : Request) (c : Command) → IsForProgram q → AsksFor q c → IsProgram c
 asks_for_program (request.Run r) c p a = subst IsProgram (sym a.is) tt
 asks_for_program (request.Exec r) c p a = absurd p
 asks_for_program (request.Check files) c p a = subst IsProgram (sym a) tt
+asks_for_program (request.Build files) c p a = subst IsProgram (sym a) tt
 
-pub answers_refused : (held : Holding) (q : Request) (c : Command) (names files : List (List ℕ)) (s : ℕ) (x : List ℕ) (r : Refusal) →
-    IsForProgram q → AsksFor q c → names ≡ names_of q →
-    s ≡ 1 → x ≡ refusal_line names r → AreLoaded held (files_of c) files → IsRefused files r → Answers held c s x
-answers_refused held q c names files s x r g a n e f l p =
-    along held c s 1 x (refusal_line (files_of c) r) e (f ∙ ap (λ ns. refusal_line ns r) (n ∙ sym (asks_for_files q c a)))
-    (refused c files r (asks_for_program q c g a) l p)
+pub answers_refused : (held : Holding) (c : Command) (names files : List (List ℕ)) (s : ℕ) (x : List ℕ) (r : Refusal) → IsProgram c →
+    files_of c ≡ names → s ≡ 1 → x ≡ refusal_line names r → AreLoaded held names files → IsRefused files r → Answers held c s x
+answers_refused held c names files s x r g n e f l p =
+    along held c s 1 x (refusal_line (files_of c) r) e (f ∙ ap (λ ns. refusal_line ns r) (sym n))
+    (refused c files r g (subst (λ ns. AreLoaded held ns files) (sym n) l) p)
 
-pub answers_large : (held : Holding) (q : Request) (c : Command) (names : List (List ℕ)) (file s : ℕ) (x : List ℕ) → IsForProgram q →
-    AsksFor q c → names ≡ names_of q →
-    s ≡ 1 → x ≡ refusal_line names (refusal 2 (first_place file)) → IsTooLarge held 0 names file → Answers held c s x
-answers_large held q c names file s x g a n e f p =
-    let same : names ≡ files_of c = n ∙ sym (asks_for_files q c a) in
+pub answers_large : (held : Holding) (c : Command) (names : List (List ℕ)) (file s : ℕ) (x : List ℕ) → IsProgram c →
+    files_of c ≡ names → s ≡ 1 → x ≡ refusal_line names (refusal 2 (first_place file)) → IsTooLarge held 0 names file → Answers held c s x
+answers_large held c names file s x g n e f p =
     along held c s 1 x (refusal_line (files_of c) (refusal 2 (first_place file))) e
-    (f ∙ ap (λ ns. refusal_line ns (refusal 2 (first_place file))) same)
-    (too_large c file (asks_for_program q c g a) (subst (λ ns. IsTooLarge held 0 ns file) same p))
-
-pub answers_checked : (held : Holding) (c : Command) (names files : List (List ℕ)) (is : List ItemTree) (s : ℕ) (x : List ℕ) →
-    c ≡ check names →
-    s ≡ 0 → x ≡ ok_line → AreLoaded held (files_of c) files → Accepts files is → Answers held c s x
-answers_checked held c names files is s x a e f l p =
-    rw a (along held (check names) s 0 x ok_line e f (checked names files is (rw a at l) p))
-
-pub answers_ran : (held : Holding) (r : Running) (c : Command) (files : List (List ℕ)) (is : List ItemTree) (s count : ℕ) (x : List ℕ) →
-    AsksForRun r c →
-    AreLoaded held (files_of c) files → Accepts files is → count ≡ length files → s ≡ ending_status (mean (texts_of is) r.steps).ending →
-    ((heap : Bool) → x ≡ run_text (mean (texts_of is) r.steps) heap count) → Answers held c s x
-answers_ran held r c files is s count x a l p n e f =
-    let o = options_with r a.ints in
-    let names = map string_bytes r.files.now in
-    let loaded : AreLoaded held names files = subst (λ (d : Command). AreLoaded held (files_of d) files) a.is l in
-    let many : count ≡ length names = n ∙ sym (as_many held names files loaded) in
-    let text : x ≡ run_text (mean (texts_of is) r.steps) r.heap (length names) =
-    f r.heap ∙ ap (λ k. run_text (mean (texts_of is) r.steps) r.heap k) many in
-    rw a.is (along held (run names o) s (ending_status (mean (texts_of is) r.steps).ending) x
-    (run_text (mean (texts_of is) r.steps) r.heap (length names)) e text
-    (ran names o files is loaded p))
+    (f ∙ ap (λ ns. refusal_line ns (refusal 2 (first_place file))) (sym n))
+    (too_large c file g (subst (λ ns. IsTooLarge held 0 ns file) (sym n) p))
 
 -- ---- what holds of a result where there is one
 

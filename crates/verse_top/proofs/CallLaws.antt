@@ -1,8 +1,7 @@
 -- From the parts of the top call to its clauses.
-use Rattle.std.proofs.Common.{◌≡◌, ◌≢◌, ℕ, ◌≤◌, zero, suc, List, ◌++◌, Option, Result, Ok, Err, ◌⊎◌, inl, inr, refl, sym, ap, subst, ◌∙◌}
+use Rattle.std.proofs.Common.{◌≡◌, ◌≢◌, ℕ, ◌≤◌, List, ◌++◌, Option, Result, Ok, Err, ◌⊎◌, inl, inr, refl, sym, subst, ◌∙◌}
 use Rattle.verse_outside.specs.Causes.{Rose}
-use Rattle.verse_outside.specs.Held.{Holding, TookPrefix, with_more}
-use Rattle.verse_accept_built.specs.Texts.{texts_of}
+use Rattle.verse_outside.specs.Held.{Holding, with_more}
 use Rattle.verse_value.specs.declared.runs.Ending.{Ending}
 use Rattle.verse_value.specs.declared.runs.Ending.TheVariants as ending
 use Rattle.verse_top_texts.specs.Endings.{ending_status}
@@ -15,10 +14,10 @@ use Rattle.verse_top_exec.specs.Executions as x
 use Rattle.verse_top_exec.specs.Leaving.{Leaves}
 use Rattle.verse_top_exec.proofs.Takes.{more_then, rose_from, took_behind, took_front}
 use Rattle.verse_top.specs.Loading.{AreHeld, IsAbsent}
-use Rattle.verse_top.specs.Meaning.{mean}
-use Rattle.verse_top.specs.Answers.{Answers, too_large, refused, checked, ran, executed, Answered, Begins, CutShort, Finishes, MayWrite}
-use Rattle.verse_top.specs.Answers.{not_read, no_memory, answer, NoMemory, NotRead, Replies, Told, whole, without, cut, Unread, read_line}
-use Rattle.verse_top.specs.Answers.{memory_line, words_line}
+use Rattle.verse_top.specs.Meaning.{mean_with}
+use Rattle.verse_top.specs.Answers.{Answers, too_large, refused, checked, ran, built, executed, Answered, Begins, CutShort, Finishes, MayWrite}
+use Rattle.verse_top.specs.Answers.{not_read, no_memory, answer, NoMemory, NotRead, Replies, Told, whole, without, cut, Unread}
+use Rattle.verse_top.specs.Answers.{memory_line}
 use Rattle.verse_top.proofs.LoadLaws.{absent_or_loaded, absent_or_large, absent_or_read, held_or_absent}
 
 -- the statuses of answers
@@ -45,7 +44,8 @@ known : {held : Holding} {c : Command} {s : ℕ} {t : List ℕ} → Answers held
 known (too_large c file g p) = one_known
 known (refused c files r g l p) = one_known
 known (checked names files is l p) = zero_known
-known (ran names o files is l p) = known_ending (mean (texts_of is) o.steps).ending
+known (ran names o files is l p) = known_ending (mean_with is o).ending
+known (built names files is bytes l p i) = zero_known
 known (executed name o bytes s t l p) = known_executes p
 
 known_other : (s n : ℕ) → Known s → s ≡ n → n ≢ 2 × (n ≢ 5 × (n ≢ 6 × n ≢ 7))
@@ -62,6 +62,7 @@ answers_or_absent {held = held} (too_large c file g p) name a = absent_or_large 
 answers_or_absent {held = held} (refused c files r g l p) name a = absent_or_loaded held (files_of c) files name l a
 answers_or_absent {held = held} (checked names files is l p) name a = absent_or_loaded held names files name l a
 answers_or_absent {held = held} (ran names o files is l p) name a = absent_or_loaded held names files name l a
+answers_or_absent {held = held} (built names files is bytes l p i) name a = absent_or_loaded held names files name l a
 answers_or_absent {held = held} (executed file o bytes s t l p) name a = absent_or_read held file bytes name l a
 
 pub cut_of : (words : List (List ℕ)) (held : Holding) (files_before files_now : ℕ) (text : List ℕ) (status result before now : ℕ)

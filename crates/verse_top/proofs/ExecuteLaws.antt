@@ -1,9 +1,9 @@
 -- The run of an image as the answer to its command.
-use Rattle.std.proofs.Common.{◌≡◌, ◌⊎◌, ℕ, ◌≤◌, ℤ, List, [], ◌∷◌, map, string_bytes, option_copied, Option, Result, inl, inr, refl, sym, ap}
+use Rattle.std.proofs.Common.{◌≡◌, ◌⊎◌, ℕ, ◌≤◌, ℤ, List, [], ◌∷◌, map, Option, Result, inl, inr, refl, sym, ap}
 use Rattle.std.proofs.Common.{subst, ◌∙◌, slice_index_or, length, ◌<◌, arith}
 use Rattle.verse_outside.specs.Causes.{Rose}
 use Rattle.verse_outside.specs.Held.{Holding, Lacks}
-use Rattle.verse_top_args.specs.Words.{Command, Inputs, exec, files_of, listed, not_given}
+use Rattle.verse_top_args.specs.Words.{Command, Inputs, files_of, listed, not_given}
 use Rattle.verse_top_args.specs.Requests.{AsksForExec, options_with}
 use Rattle.verse_top_args.specs.declared.commands.Running.{Running}
 use Rattle.verse_top_exec.specs.declared.stops.Stop.{Stop}
@@ -11,7 +11,7 @@ use Rattle.verse_top_exec.specs.Executions.{Executes, ExecutesSoFar, IsNothing}
 use Rattle.verse_top_exec.specs.Leaving.{Leaves}
 use Rattle.verse_top_exec.proofs.Leaving.{leaves_as}
 use Rattle.verse_top.specs.Loading.{IsRead}
-use Rattle.verse_top.specs.Answers.{Answers, Begins, IsAnswer, Replies, Unread, executed, executing, nothing, read_line}
+use Rattle.verse_top.specs.Answers.{Answers, Begins, IsAnswer, Replies, executed, executing, nothing, read_line}
 
 module _ (held : Holding) (files_before files_now before now : ℕ) (old new : Option (List ℕ)) (r : Result ℕ Stop) where
   -- what the bytes of the file come to is the answer

@@ -1,9 +1,10 @@
 -- Files that tell what they hold are loaded in one way.
-use Rattle.std.proofs.Common.{◌≡◌, ◌⊎◌, ℕ, suc, ◌<◌, ◌≤◌, List, [], ◌∷◌, length, Option, Some, None, inl, inr, refl, sym, ◌∙◌, ap, subst}
+use Rattle.std.proofs.Common.{◌≡◌, ℕ, suc, ◌<◌, ◌≤◌, List, [], ◌∷◌, length, Option, Some, None, inl, inr, refl, sym, ◌∙◌, ap}
 use Rattle.std.proofs.Common.{take, arith}
 use Rattle.std.proofs.lemmas.Option.{same_Some}
 use Rattle.verse_base.specs.declared.limits.TheConstants.{MOST_FILE_BYTES}
 use Rattle.verse_outside.specs.Held.{Holding, Holds, Lacks, Loads}
+use Rattle.verse_top_args.specs.Words.{AreFiles}
 use Rattle.verse_top.specs.Loading.{AreHeld, AreLoaded, IsAbsent, IsRead, IsTooLarge, most_bytes}
 
 abbrev Telling : Type 0
@@ -70,6 +71,14 @@ as_many held [] [] x = refl
 as_many held [] (b ∷ bs) x = absurd x
 as_many held (f ∷ fs) [] x = absurd x
 as_many held (f ∷ fs) (b ∷ bs) x = ap suc (as_many held fs bs x.1.1)
+
+pub loaded_count : (held : Holding) (names files : List (List ℕ)) → AreFiles names → AreLoaded held names files →
+    (1 ≤ length files) × (length files ≤ 16)
+loaded_count held names files are loaded =
+    let many = as_many held names files loaded in
+    let some = are.some in
+    let few = are.few in
+    (omega arith, omega arith)
 
 pub absent_or_loaded : (held : Holding) (names files : List (List ℕ)) (name : List ℕ) → AreLoaded held names files →
     IsAbsent held names name → ⊥

@@ -1,19 +1,19 @@
 -- What the top call answers: a status and the text that is written.
-use Rattle.std.specs.Prelude.{◌≡◌, ◌≢◌, ◌⊎◌, ℕ, List, [], ◌++◌, length, Option, Some, codes}
+use Rattle.std.specs.Prelude.{◌≡◌, ◌⊎◌, ℕ, List, [], ◌++◌, length, Option, Some, codes}
 use Rattle.verse_base.specs.declared.refusals.Refusal.{Refusal}
 use Rattle.verse_lex.specs.Cut.{first_place}
 use Rattle.verse_outside.specs.Causes.{Rose}
 use Rattle.verse_outside.specs.Held.{Holding, with_more, TookPrefix}
 use Rattle.verse_tree.specs.ItemTree.{ItemTree}
-use Rattle.verse_accept_built.specs.Texts.{texts_of}
 use Rattle.verse_meaning_state.specs.Texts.{run_text}
 use Rattle.verse_top_texts.specs.Refusals.{refusal_line}
-use Rattle.verse_top_exec.specs.Executions.{Executes, ExecutesSoFar}
-use Rattle.verse_top_args.specs.Words.{Command, run, exec, check, files_of, Options, Says}
+use Rattle.verse_image.specs.Format.{Image, version_of}
+use Rattle.verse_top_exec.specs.Executions.{Executes, ExecutesSoFar, run_with}
+use Rattle.verse_top_args.specs.Words.{Command, run, exec, check, build, files_of, Options, Says}
 use Rattle.verse_accept.specs.Fronts.{Accepts, IsRefused, refusal}
 use Rattle.verse_top.specs.Loading.{AreLoaded, IsAbsent, IsAmong, IsRead, IsTooLarge}
 use Rattle.verse_top.specs.Programs.{IsProgram}
-use Rattle.verse_top.specs.Meaning.{mean}
+use Rattle.verse_top.specs.Meaning.{MeansSoFar, code_from, mean_with}
 use Rattle.verse_top_texts.specs.Endings.{ending_status}
 
 abbrev pub words_line : List ℕ
@@ -28,6 +28,20 @@ memory_line = codes "= memory\n"
 abbrev pub ok_line : List ℕ
 ok_line = codes "= ok\n"
 
+-- the bytes are the image of the code of items in so many files, and with all options its run is what the items mean
+pub record IsImageOf (is : List ItemTree) (files : ℕ) (bytes : List ℕ) : Type 0 where
+  pub image : Image (version_of (code_from is files)) (code_from is files) bytes
+  pub runs : (o : Options) → run_with (code_from is files) o ≡ mean_with is o
+
+-- they are written for `build`
+abbrev pub IsBuilt : List ItemTree → (files status : ℕ) → List ℕ → Type 0
+IsBuilt is files status text = (status ≡ 0) × IsImageOf is files text
+
+-- the status and the text of the run that items in so many files mean
+pub record Means (is : List ItemTree) (o : Options) (files status : ℕ) (text : List ℕ) : Type 0 where
+  pub status_is : status ≡ ending_status (mean_with is o).ending
+  pub text_is : text ≡ run_text (mean_with is o) o.heap files
+
 -- the status and the text for a command over what is held
 pub data Answers (held : Holding) : Command → ℕ → List ℕ → Type 0 where
   too_large : (c : Command) (file : ℕ) → IsProgram c → IsTooLarge held 0 (files_of c) file →
@@ -37,8 +51,10 @@ pub data Answers (held : Holding) : Command → ℕ → List ℕ → Type 0 wher
   checked : (names files : List (List ℕ)) (is : List ItemTree) → AreLoaded held names files → Accepts files is →
       Answers held (check names) 0 ok_line
   ran : (names : List (List ℕ)) (o : Options) (files : List (List ℕ)) (is : List ItemTree) → AreLoaded held names files → Accepts files is →
-      Answers held (run names o) (ending_status (mean (texts_of is) o.steps).ending)
-      (run_text (mean (texts_of is) o.steps) o.heap (length names))
+      Answers held (run names o) (ending_status (mean_with is o).ending) (run_text (mean_with is o) o.heap (length names))
+  built : (names : List (List ℕ)) (files : List (List ℕ)) (is : List ItemTree) (bytes : List ℕ) → AreLoaded held names files →
+      Accepts files is → IsImageOf is (length names) bytes →
+      Answers held (build names) 0 bytes
   executed : (name : List ℕ) (o : Options) (bytes : List ℕ) (status : ℕ) (text : List ℕ) → IsRead held name bytes →
       Executes bytes o status text →
       Answers held (exec name o) status text
@@ -47,6 +63,9 @@ pub data Answers (held : Holding) : Command → ℕ → List ℕ → Type 0 wher
 -- nothing.
 pub data Begins (held : Holding) : Command → List ℕ → Type 0 where
   nothing : (c : Command) → Begins held c []
+  running : (names : List (List ℕ)) (o : Options) (files : List (List ℕ)) (is : List ItemTree) (text : List ℕ) →
+      AreLoaded held names files → Accepts files is → MeansSoFar is o text →
+      Begins held (run names o) text
   executing : (name : List ℕ) (o : Options) (bytes text : List ℕ) → IsRead held name bytes → ExecutesSoFar bytes o text →
       Begins held (exec name o) text
 
@@ -99,6 +118,13 @@ abbrev pub AnsweredOnce : Type 0
 AnsweredOnce = (held : List ℕ → Option (List ℕ)) (c : Command) (s t : ℕ) (x y : List ℕ) → Answers (Some held) c s x →
     Answers (Some held) c t y →
     (s ≡ t) × (x ≡ y)
+
+-- `exec` of what `build` wrote writes what `run` writes with the same options, with the same status
+abbrev pub ExecRunsWhatIsBuilt : Type 0
+ExecRunsWhatIsBuilt = (held : List ℕ → Option (List ℕ)) (other : Holding) (names : List (List ℕ)) (name image : List ℕ) (o : Options)
+    (status : ℕ) (text : List ℕ) → Answers (Some held) (build names) 0 image → IsRead other name image →
+    Answers (Some held) (run names o) status text →
+    Answers other (exec name o) status text
 
 -- the text was written whole and the status is the answer, or the sink failed and took a prefix of it
 abbrev pub Finishes : ℕ → List ℕ → ℕ → ℕ → ℕ → Option (List ℕ) → Option (List ℕ) → Type 0

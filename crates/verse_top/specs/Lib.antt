@@ -3,3 +3,4 @@ pub mod Programs
 pub mod Loading
 pub mod Loaded
 pub mod Answers
+pub mod Fronted

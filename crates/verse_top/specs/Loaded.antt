@@ -1,5 +1,5 @@
 -- What an answer of the loader says.
-use Rattle.std.specs.Prelude.{◌≡◌, ◌⊎◌, ◌<◌, ℕ, List, [], length, map, slice_index_or}
+use Rattle.std.specs.Prelude.{◌⊎◌, ◌<◌, ℕ, List, [], length, map, slice_index_or}
 use Rattle.verse_outside.specs.Causes.{Rose}
 use Rattle.verse_outside.specs.Held.{Holding}
 use Rattle.verse_top.specs.Loading.{AreLoaded, IsAbsent, IsTooLarge}

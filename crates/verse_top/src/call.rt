@@ -1,6 +1,6 @@
 //! The top call.
 
-ghost use Rattle.std.specs.Prelude.{◌≡◌, ◌≢◌, ◌⊎◌, ◌≤◌, ℕ, List, IfOk, map, string_bytes};
+ghost use Rattle.std.specs.Prelude.{◌≡◌, ◌≢◌, ◌⊎◌, ◌≤◌, ℕ, List, map, string_bytes};
 ghost use Rattle.verse_outside.specs.Causes.{Rose};
 ghost use Rattle.verse_outside.specs.Held.{with_more};
 ghost use Rattle.verse_top_args.specs.Words.{AreFiles, Command, files_of, Says};
@@ -11,12 +11,11 @@ ghost use Rattle.verse_top.specs.Answers.{Replies, Told, words_line};
 ghost use Rattle.verse_top.specs.Loading.{AreHeld, IsAbsent};
 ghost use Rattle.verse_top.specs.Programs.{IsForProgram};
 
-use crate::answers::{Answer, answer_to, too_large};
 use crate::executing::execute;
-use crate::loading::{Loading, load_all};
-use crate::writing::{not_read, write_answer};
+use crate::fronts::{Fronted, front};
+use crate::programs::proceed;
+use crate::writing::write_answer;
 use std::alloc::Global;
-use verse_base::refusals::Memory;
 use verse_outside::files::Files;
 use verse_outside::sinks::{Sink, write_all};
 use verse_top_args::commands::{Request, find_request};
@@ -104,12 +103,14 @@ fn answer<F: Files, S: Sink>(
 {
     match request {
         Request::Exec(running) => execute(alloc, running, files, out),
-        Request::Run(_) | Request::Check(_) => answer_whole(alloc, request, files, out),
+        Request::Run(_) | Request::Check(_) | Request::Build(_) => {
+            over_program(alloc, request, files, out)
+        }
     }
 }
 
-/// Answers a request over the files of a program, all at once.
-fn answer_whole<F: Files, S: Sink>(
+/// Answers a request over the files of a program.
+fn over_program<F: Files, S: Sink>(
     alloc: Global,
     request: Request<'_>,
     files: &mut F,
@@ -117,6 +118,7 @@ fn answer_whole<F: Files, S: Sink>(
 ) -> Result<u8, Stop>
     requires program { IsForProgram request }
     requires files { AreFiles (names_of request) }
+    requires asks { (c : Command) × AsksFor request c }
     ensures leaves { (c : Command) → AsksFor request.entry c →
         Leaves (Replies c (F.holds files.old) (F.faults files.old) (F.faults files.new))
         (Begins (F.holds files.old) c) (S.faults out.old) (S.faults out.new) (S.taken out.old)
@@ -125,8 +127,10 @@ fn answer_whole<F: Files, S: Sink>(
     ensures file_faults { F.faults files.old ≤ F.faults files.new }
     ensures sink_faults { S.faults out.old ≤ S.faults out.new }
 {
-    let reply = reply(alloc, request, files)?;
-    write_answer(reply, out)
+    match front(alloc, request.files(), files)? {
+        Fronted::Accepted(program) => proceed(alloc, request, program, out),
+        Fronted::Refused(answer) => write_answer(answer, out),
+    }
 }
 
 /// Writes the whole text and answers the status, or 7.
@@ -138,23 +142,5 @@ fn finish<S: Sink>(out: &mut S, text: &[u8], status: u8) -> u8
     match write_all(out, text) {
         Ok(()) => status,
         Err(_) => 7,
-    }
-}
-
-/// Loads the files and answers the request.
-fn reply<F: Files>(alloc: Global, request: Request<'_>, files: &mut F) -> Result<Answer, Memory>
-    requires program { IsForProgram request }
-    requires files { AreFiles (names_of request) }
-    ensures replies { IfOk result (λ a. (c : Command) → AsksFor request.entry c →
-        Replies c (F.holds files.old) (F.faults files.old)
-        (F.faults files.new) a.status a.text.items) }
-    ensures same { F.holds files.new ≡ F.holds files.old }
-    ensures later { F.faults files.old ≤ F.faults files.new }
-{
-    let names = request.files();
-    match load_all(alloc, names, files)? {
-        Loading::All(loaded) => answer_to(alloc, request, loaded.as_slice()),
-        Loading::TooLarge(file) => too_large(alloc, names, file),
-        Loading::Failed(file) => not_read(alloc, names[file as usize].as_str()),
     }
 }

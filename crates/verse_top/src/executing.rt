@@ -9,7 +9,8 @@ ghost use Rattle.verse_top_exec.specs.Executions.{Executes, ExecutesSoFar, IsNot
 ghost use Rattle.verse_top_exec.specs.Leaving.{Leaves};
 ghost use Rattle.verse_top.specs.Answers.{Begins, IsAnswer, Replies, read_line};
 
-use crate::writing::{not_read, write_answer};
+use crate::answers::not_read;
+use crate::writing::write_answer;
 use std::alloc::Global;
 use verse_outside::files::{Files, LoadFault};
 use verse_outside::sinks::Sink;

@@ -1,14 +1,17 @@
 //! All that the program does, as one call.
 //!
-//! To be read in this order: `call`, the top call; `answers`, what a command answers over a
-//! program; `loading`, its files; `writing`, what is written at once; `executing`, the run of an
-//! image.
+//! To be read in this order: `call`, the top call; `fronts`, what comes of the files of a program,
+//! over `loading`; `programs`, what is done with an accepted program; `executing`, the run of an
+//! image; `answers` and `writing`, what is answered at once.
 #![tactic(auto)]
 
 pub mod answers;
 mod call;
 mod executing;
+mod fronts;
+mod laws;
 mod loading;
+mod programs;
 mod writing;
 
 pub use call::verse;

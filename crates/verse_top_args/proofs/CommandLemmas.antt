@@ -4,7 +4,8 @@ use Rattle.std.proofs.Common.{unwrap_or, Result, Ok, Err, IfOk, false, map, stri
 use Rattle.std.specs.Str.{bytes_eq}
 use Rattle.std.proofs.lemmas.Slice.Eq.{bytes_eq-Decides}
 use Rattle.verse_top_args.specs.Words.{AreFiles, Command, EachIsFile, Given, Gives, Inputs, IsFile, IsIntList, SayOnce, Says, listed}
-use Rattle.verse_top_args.specs.Words.{no_options, not_given, Options, options_of, run, exec, check, says_run, says_exec, says_check}
+use Rattle.verse_top_args.specs.Words.{no_options, not_given, Options, options_of, run, exec, check, build, says_run, says_exec, says_check}
+use Rattle.verse_top_args.specs.Words.{says_build}
 use Rattle.verse_top_args.specs.Requests.{AsksFor, AsksForExec, AsksForRun, BeginsWithNoFile, Gave, IsWithin, NoOptions, options_with}
 use Rattle.verse_top_args.specs.declared.commands.Request.TheVariants as request
 use Rattle.verse_top_args.specs.declared.commands.Running.{Running}
@@ -44,10 +45,11 @@ pub record Executes (files options : List (List ℕ)) (c : Command) : Type 0 whe
   pub lists : Inputs given.inputs ints
   pub executes : c ≡ exec file (options_of given ints)
 
-pub record Checks (files options : List (List ℕ)) (c : Command) : Type 0 where
+-- files alone, of which one command is made
+pub record Alone (make : List (List ℕ) → Command) (files options : List (List ℕ)) (c : Command) : Type 0 where
   pub are : AreFiles files
   pub none : options ≡ []
-  pub checks : c ≡ check files
+  pub is : c ≡ make files
 
 other_word : (a b : List ℕ) → bytes_eq a b ≡ false → a ≡ b → ⊥
 other_word a b different e = let same = (bytes_eq-Decides a b).1 e in cc
@@ -66,6 +68,7 @@ run_of {files = files} {options = options} (says_run {files = names} {words = be
     }
 run_of {files = files} {options = options} (says_exec is gives lists) p = absurd (other_word (codes "exec") (codes "run") refl (cc p.is))
 run_of {files = files} {options = options} (says_check are) p = absurd (other_word (codes "check") (codes "run") refl (cc p.is))
+run_of {files = files} {options = options} (says_build are) p = absurd (other_word (codes "build") (codes "run") refl (cc p.is))
 
 one_file : {file : List ℕ} → IsFile file → AreFiles (file ∷ [])
 one_file is = record { each = (is, tt); some = omega arith; few = omega arith }
@@ -85,22 +88,38 @@ exec_of {files = files} {options = options} (says_exec {file = file} {words = be
       executes = refl;
     }
 exec_of {files = files} {options = options} (says_check are) p = absurd (other_word (codes "check") (codes "exec") refl (cc p.is))
+exec_of {files = files} {options = options} (says_build are) p = absurd (other_word (codes "build") (codes "exec") refl (cc p.is))
+
+alone_of : (make : List (List ℕ) → Command) (word : List ℕ) {words files options names : List (List ℕ)} → words ≡ word ∷ names →
+    AreFiles names → Parted words word files options →
+    Alone make files options (make names)
+alone_of make word {files = files} {options = options} {names = names} spelled are p =
+    let same = parted_once names files [] options are.each p.each tt p.behind (append-nil names ∙ cc (spelled, p.is)) in
+    record { are = subst AreFiles same.files_are are; none = sym same.words_are; is = ap make same.files_are }
 
 pub check_of : {words files options : List (List ℕ)} {c : Command} → Says words c → Parted words (codes "check") files options →
-    Checks files options c
+    Alone check files options c
 check_of {files = files} {options = options} (says_run are gives lists) p = absurd (other_word (codes "run") (codes "check") refl (cc p.is))
 check_of {files = files} {options = options} (says_exec is gives lists) p =
     absurd (other_word (codes "exec") (codes "check") refl (cc p.is))
-check_of {files = files} {options = options} (says_check {files = names} are) p =
-    let same = parted_once names files [] options are.each p.each tt p.behind (append-nil names ∙ cc p.is) in
-    record { are = subst AreFiles same.files_are are; none = sym same.words_are; checks = ap check same.files_are }
+check_of {files = files} {options = options} (says_check {files = names} are) p = alone_of check (codes "check") refl are p
+check_of {files = files} {options = options} (says_build are) p = absurd (other_word (codes "build") (codes "check") refl (cc p.is))
+
+pub build_of : {words files options : List (List ℕ)} {c : Command} → Says words c → Parted words (codes "build") files options →
+    Alone build files options c
+build_of {files = files} {options = options} (says_run are gives lists) p = absurd (other_word (codes "run") (codes "build") refl (cc p.is))
+build_of {files = files} {options = options} (says_exec is gives lists) p =
+    absurd (other_word (codes "exec") (codes "build") refl (cc p.is))
+build_of {files = files} {options = options} (says_check are) p = absurd (other_word (codes "check") (codes "build") refl (cc p.is))
+build_of {files = files} {options = options} (says_build {files = names} are) p = alone_of build (codes "build") refl are p
 
 -- only these words begin a command
 pub none_other : {words files options : List (List ℕ)} {c : Command} (word : List ℕ) → Says words c → Parted words word files options →
-    word ≢ codes "run" → word ≢ codes "exec" → word ≢ codes "check" → ⊥
-none_other word (says_run are gives lists) p r x k = r (cc p.is)
-none_other word (says_exec is gives lists) p r x k = x (cc p.is)
-none_other word (says_check are) p r x k = k (cc p.is)
+    word ≢ codes "run" → word ≢ codes "exec" → word ≢ codes "check" → word ≢ codes "build" → ⊥
+none_other word (says_run are gives lists) p r x k b = r (cc p.is)
+none_other word (says_exec is gives lists) p r x k b = x (cc p.is)
+none_other word (says_check are) p r x k b = k (cc p.is)
+none_other word (says_build are) p r x k b = b (cc p.is)
 
 pub files_are : {words files options : List (List ℕ)} {c : Command} (word : List ℕ) → Says words c → Parted words word files options →
     AreFiles files
@@ -110,6 +129,8 @@ files_are {files = files} {options = options} word (says_exec {file = file} {wor
     subst AreFiles (parted_once (file ∷ []) files behind options (one_file is).each p.each (options_begin gives) p.behind
     (cc p.is)).files_are (one_file is)
 files_are {files = files} {options = options} word (says_check {files = names} are) p =
+    subst AreFiles (parted_once names files [] options are.each p.each tt p.behind (append-nil names ∙ cc p.is)).files_are are
+files_are {files = files} {options = options} word (says_build {files = names} are) p =
     subst AreFiles (parted_once names files [] options are.each p.each tt p.behind (append-nil names ∙ cc p.is)).files_are are
 
 same_runs : (files options : List (List ℕ)) (a b : Command) → Runs files options a → Runs files options b → a ≡ b
@@ -125,6 +146,9 @@ same_executes files options a b p q =
     let ints : p.ints ≡ q.ints = inputs_once p.lists (subst (λ g. Inputs g.inputs q.ints) given q.lists) in
     cc (p.executes, q.executes)
 
+parted_alone : (word : List ℕ) (files : List (List ℕ)) → AreFiles files → Parted (word ∷ files) word files []
+parted_alone word files are = record { is = ap (λ fs. word ∷ fs) (sym (append-nil files)); each = are.each; behind = tt }
+
 pub say_once : SayOnce
 say_once words a b (says_run {files = files} {words = options} {g = given} {ns = ints} are gives lists) t =
     let own : Runs files options (run files (options_of given ints)) =
@@ -136,13 +160,8 @@ say_once words a b (says_exec {file = file} {words = options} {g = given} {ns = 
     record { file = file; one = refl; given = given; ints = ints; gives = gives; lists = lists; executes = refl } in
     same_executes (file ∷ []) options (exec file (options_of given ints)) b own
     (exec_of t (record { is = refl; each = (one_file is).each; behind = options_begin gives }))
-say_once words a b (says_check {files = files} are) t =
-    sym (check_of {options = []} t (record {
-      is = ap (λ fs. codes "check" ∷ fs) (sym (append-nil files));
-      each = are.each;
-      behind =
-          tt;
-    })).checks
+say_once words a b (says_check {files = files} are) t = sym (check_of {options = []} t (parted_alone (codes "check") files are)).is
+say_once words a b (says_build {files = files} are) t = sym (build_of {options = []} t (parted_alone (codes "build") files are)).is
 
 pub inputs_listed : (given : Option (List ℕ)) (word : List ℕ) → given ≡ Some word → Lists 1000 word ↔ ((ns : List ℤ) × Inputs given ns)
 inputs_listed None word e = absurd (cc)
@@ -245,16 +264,24 @@ is_exec files options are few r g named =
       },
     )
 
--- the words of a check of these files
-abbrev pub check_words : List (List ℕ) → List (List ℕ) → List (List ℕ)
-check_words files options = codes "check" ∷ files ++ options
+-- the words of a command with these files, and options behind them
+abbrev pub words_with : List ℕ → List (List ℕ) → List (List ℕ) → List (List ℕ)
+words_with word files options = word ∷ files ++ options
 
 module _ (files options : List (List ℕ)) (are : AreFiles files) (behind : BeginsWithNoFile options) where
-  -- nothing stands behind the files of a check
-  pub no_check : options ≢ [] → (c : Command) → ¬ (Says (check_words files options) c)
+  -- nothing stands behind the files of a check, and of a build
+  pub no_check : options ≢ [] → (c : Command) → ¬ (Says (words_with (codes "check") files options) c)
   no_check more c s = more (check_of s (record { is = refl; each = are.each; behind = behind })).none
 
-  pub is_check : options ≡ [] → (c : Command) × Says (check_words files options) c × (c ≡ check files)
+  pub no_build : options ≢ [] → (c : Command) → ¬ (Says (words_with (codes "build") files options) c)
+  no_build more c s = more (build_of s (record { is = refl; each = are.each; behind = behind })).none
+
+  pub is_check : options ≡ [] → (c : Command) × Says (words_with (codes "check") files options) c × (c ≡ check files)
   is_check none =
-      let all : codes "check" ∷ files ≡ check_words files options = cc (none, append-nil files) in
+      let all : codes "check" ∷ files ≡ words_with (codes "check") files options = cc (none, append-nil files) in
       (check files, subst (λ ws. Says ws (check files)) all (says_check are), refl)
+
+  pub is_build : options ≡ [] → (c : Command) × Says (words_with (codes "build") files options) c × (c ≡ build files)
+  is_build none =
+      let all : codes "build" ∷ files ≡ words_with (codes "build") files options = cc (none, append-nil files) in
+      (build files, subst (λ ws. Says ws (build files)) all (says_build are), refl)

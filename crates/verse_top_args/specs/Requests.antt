@@ -1,6 +1,6 @@
 -- Which command a request asks for.
 use Rattle.std.specs.Prelude.{◌≡◌, ℕ, ◌≤◌, ℤ, List, [], ◌∷◌, map, string_bytes, option_copied, unwrap_or}
-use Rattle.verse_top_args.specs.Words.{Command, Given, Gives, Inputs, IsFile, Options, check, exec, no_options, run}
+use Rattle.verse_top_args.specs.Words.{Command, Given, Gives, Inputs, IsFile, Options, build, check, exec, no_options, run}
 use Rattle.verse_top_args.specs.declared.commands.Request.{Request}
 use Rattle.verse_top_args.specs.declared.commands.Request.TheVariants as request
 use Rattle.verse_top_args.specs.declared.commands.Running.{Running}
@@ -34,11 +34,13 @@ abbrev pub names_of : Request → List (List ℕ)
 names_of (request.Run r) = map string_bytes r.files.now
 names_of (request.Exec r) = map string_bytes r.files.now
 names_of (request.Check files) = map string_bytes files.now
+names_of (request.Build files) = map string_bytes files.now
 
 abbrev pub AsksFor : Request → Command → Type 0
 AsksFor (request.Run r) c = AsksForRun r c
 AsksFor (request.Exec r) c = AsksForExec r c
 AsksFor (request.Check files) c = c ≡ check (map string_bytes files.now)
+AsksFor (request.Build files) c = c ≡ build (map string_bytes files.now)
 
 -- the first word is no file's name
 abbrev pub BeginsWithNoFile : List (List ℕ) → Type 0

@@ -21,12 +21,15 @@ pub data Command : Type 0 where
   exec : (file : List ℕ) → Options → Command
   -- tells whether the program in these files is accepted
   check : (files : List (List ℕ)) → Command
+  -- writes the image of the code of the program in these files
+  build : (files : List (List ℕ)) → Command
 
 -- the names of a command's files
 abbrev pub files_of : Command → List (List ℕ)
 files_of (run files o) = files
 files_of (exec file o) = file ∷ []
 files_of (check files) = files
+files_of (build files) = files
 
 -- a file's name is not empty and does not begin with `-`
 pub data IsFile : List ℕ → Type 0 where
@@ -101,6 +104,7 @@ pub data Says : List (List ℕ) → Command → Type 0 where
       Inputs g.inputs ns →
       Says (codes "exec" ∷ file ∷ words) (exec file (options_of g ns))
   says_check : {files : List (List ℕ)} → AreFiles files → Says (codes "check" ∷ files) (check files)
+  says_build : {files : List (List ℕ)} → AreFiles files → Says (codes "build" ∷ files) (build files)
 
 -- no words are two commands
 abbrev pub SayOnce : Type 0

@@ -28,6 +28,8 @@ pub enum Request<'a> {
     Exec(Running<'a>),
     /// Whether the program in these files is accepted.
     Check(&'a [String]),
+    /// The image of the code of the program in these files.
+    Build(&'a [String]),
 }
 
 /// What is to be run: the names of its files, and its inputs by the word that lists them.
@@ -47,7 +49,7 @@ impl<'a> Request<'a> {
     {
         match self {
             Request::Run(running) | Request::Exec(running) => running.files,
-            Request::Check(files) => files,
+            Request::Check(files) | Request::Build(files) => files,
         }
     }
 }
@@ -95,6 +97,8 @@ pub fn find_request(words: &[String]) -> Option<Request<'_>>
         exec(files, options)
     } else if is(command, "check") {
         check(files, options)
+    } else if is(command, "build") {
+        build(files, options)
     } else {
         None
     }
@@ -180,6 +184,23 @@ fn check<'a>(files: &'a [String], options: &'a [String]) -> Option<Request<'a>>
 {
     if options.is_empty() {
         Some(Request::Check(files))
+    } else {
+        None
+    }
+}
+
+/// The image of these files' program, where nothing is behind them.
+fn build<'a>(files: &'a [String], options: &'a [String]) -> Option<Request<'a>>
+    requires are { AreFiles (map string_bytes files.now) }
+    requires behind { BeginsWithNoFile (map string_bytes options.now) }
+    ensures asks { MatchOption result ((c : Command) →
+        ¬ (Says (codes "build" ∷ map string_bytes files.now ++ map string_bytes options.now) c))
+        (λ r. (c : Command) × Says (codes "build" ∷ map string_bytes files.now ++
+        map string_bytes options.now) c × AsksFor r c) }
+    ensures files { IfSome result (λ r. AreFiles (names_of r)) }
+{
+    if options.is_empty() {
+        Some(Request::Build(files))
     } else {
         None
     }

@@ -1,11 +1,13 @@
-//! What is done with the bytes of a file that is run as an image.
+//! The run of a code that is in hand, and what is done with the bytes of a file that is run as an
+//! image.
 
 ghost use Rattle.std.specs.Prelude.{◌≡◌, ◌≤◌, ℕ};
+ghost use Rattle.verse_code.specs.Validity.{Valid};
 ghost use Rattle.verse_image.specs.Reading.{flaw, image_at};
 ghost use Rattle.verse_top_exec.specs.Asking.{options_of};
 ghost use Rattle.verse_top_exec.specs.Endings.{IsWithin};
 ghost use Rattle.verse_top_exec.specs.Executions.{ExecutedOnce, Executes, ExecutesSoFar, IsFault};
-ghost use Rattle.verse_top_exec.specs.Executions.{IsNothing};
+ghost use Rattle.verse_top_exec.specs.Executions.{IsNothing, Runs, RunsSoFar};
 ghost use Rattle.verse_top_exec.specs.Leaving.{Leaves};
 
 use crate::asking::Asked;
@@ -14,6 +16,7 @@ use crate::streams::stream;
 use sim_clock::map_waits::MapWaits;
 use std::alloc::Global;
 use tx_heap::undo_heap::UndoHeap;
+use verse_code::codes::Code;
 use verse_image::decoding::decode;
 use verse_image::faults::ImageFault;
 use verse_outside::sinks::{Sink, write_all};
@@ -34,13 +37,28 @@ pub fn exec<S: Sink>(alloc: Global, bytes: &[u8], asked: Asked<'_>, out: &mut S)
     ensures later { S.faults out.old ≤ S.faults out.new }
 {
     match decode(alloc, bytes) {
-        Ok(code) => {
-            let heap = UndoHeap::new(alloc);
-            stream(alloc, &code, heap, MapWaits::new(alloc), asked, out)
-        }
+        Ok(code) => run_code(alloc, &code, asked, out),
         Err(ImageFault::Bad { rule, at }) => no_image(alloc, rule, at, out),
         Err(ImageFault::Memory) => Err(Stop::Memory),
     }
+}
+
+/// Runs a code, writes its text as it goes on, and answers the status.
+pub fn run_code<S: Sink>(
+    alloc: Global,
+    code: &Code,
+    asked: Asked<'_>,
+    out: &mut S,
+) -> Result<u8, Stop>
+    requires valid { Valid code.now }
+    requires within { IsWithin (options_of asked) }
+    ensures leaves { Leaves (Runs code.now (options_of asked.entry))
+        (RunsSoFar code.now (options_of asked.entry)) (S.faults out.old) (S.faults out.new)
+        (S.taken out.old) (S.taken out.new) result }
+    ensures later { S.faults out.old ≤ S.faults out.new }
+{
+    let heap = UndoHeap::new(alloc);
+    stream(alloc, code, heap, MapWaits::new(alloc), asked, out)
 }
 
 /// Tells which rule fails, and where.

@@ -1,6 +1,6 @@
-//! The run of an image, written as it goes on.
+//! The run of a code or an image, written as it goes on.
 //!
-//! To be read in this order: `executing`, what is done with the bytes of a file; `streams`, the run
+//! To be read in this order: `executing`, a code in hand or the bytes of a file; `streams`, the run
 //! of a code; `turns`, its trace; `heap_lines`, its heap; `asking`, how it is run; `stops`, why it
 //! stops. `Leaving` of specs says what is left in a sink, `Executions` what the bytes come to.
 //!

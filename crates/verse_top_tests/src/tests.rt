@@ -1,4 +1,4 @@
-//! Tests of `run` and `check`.
+//! Tests of `run`, `check` and `build`.
 
 use crate::telling::told;
 use std::alloc::Global;
@@ -8,7 +8,7 @@ use verse_base::refusals::Kind;
 use verse_base::texts::natural;
 use verse_outside::memory_files::MemFiles;
 use verse_outside::memory_sinks::MemSink;
-use verse_top::answers::answered_once;
+use verse_top::answers::{answered_once, exec_runs_what_is_built};
 use verse_top::ending_text;
 use verse_value::runs::Ending;
 
@@ -44,7 +44,7 @@ const ROWS: &str =
 1`run a.verse`a.verse=`1:1 E043 no Main~
 1`run a.verse`a.verse=F():void = {}`1:1 E043 no Main~
 1`run a.verse`a.verse=Main():void = {}~Main():void = {}`1:1 E040 name already defined~
-1`run a.verse`a.verse=Main():void = 1`1:15 E099 not built yet~
+0`run a.verse`a.verse=Main():void = 1`= done at 0 steps 1 live 0~
 1`run a.verse`a.verse=Main(X:int):void = {}`1:1 E044 Main has the wrong shape~
 1`run a.verse`a.verse=Main(X:c):void = {}`1:8 E041 unknown name~
 1`run a.verse`a.verse=Main():void =~    Log(\"a\")`2:5 E041 unknown name~
@@ -54,7 +54,7 @@ const ROWS: &str =
 1`check a.verse`a.verse=Main():void =~    if (X := 1) {}~    X`3:5 E041 unknown name~
 1`run a.verse b.verse`a.verse=Main():void = G()|b.verse=G():void = H()`b.verse:1:12 E041 unknown name~
 1`run a.verse`a.verse=Main():void =~    Print(\"a\", \"b\")`2:10 E052 wrong number of arguments~
-1`run a.verse`a.verse=Main():void =~    Print(\"a{1}\")`2:14 E099 not built yet~
+0`run a.verse`a.verse=Main():void =~    Print(\"a{1}\")`0 a1~= done at 0 steps 1 live 0~
 1`check a.verse`a.verse=Main():void = { X:int = \"a\" }`1:25 E050 types do not match~
 1`check a.verse`a.verse=Main():void = { X := 1; X() }`1:26 E051 cannot be called~
 1`check a.verse`a.verse=F(X:int):void = {}; Main():void = F()`1:36 E052 wrong number of arguments~
@@ -99,9 +99,12 @@ const ROWS: &str =
 2`run a.verse --in -0`a.verse=Main():void =~    Print(\"hi\")~`= words~
 2`run a.verse --in 9223372036854775808`a.verse=Main():void =~    Print(\"hi\")~`= words~
 0`check a.verse`a.verse=Main():void =~    Print(\"hi\")~`= ok~
-1`check a.verse`a.verse=Main():void = 1`1:15 E099 not built yet~
+0`check a.verse`a.verse=Main():void = 1`= ok~
 1`check a.verse`a.verse=Main():void = 1 2`1:17 E030 unexpected token~
 6`check x`a.verse=Main():void =~    Print(\"hi\")~`= read x~
+6`build x`a.verse=Main():void =~    Print(\"hi\")~`= read x~
+1`build a.verse`a.verse=Main():void = 1 2`1:17 E030 unexpected token~
+2`build a.verse --heap`a.verse=Main():void =~    Print(\"hi\")~`= words~
 6`exec x`a.verse=Main():void =~    Print(\"hi\")~`= read x~
 1`exec a.verse`a.verse=Main():void =~    Print(\"hi\")~`= image I1 0~
 1`exec a --heap`a=`= image I3 0~
@@ -174,7 +177,7 @@ fn rows_are_told(rt: HostRuntime) -> Result<(), Fail> {
         assert_eq!(rt; out.taken(), lines(alloc, text)?.as_slice(), "{row}");
         count = count.saturating_add(1);
     }
-    assert_eq!(rt; count, 110);
+    assert_eq!(rt; count, 113);
     Ok(())
 }
 
@@ -236,11 +239,40 @@ fn great_programs_are_told(rt: HostRuntime) -> Result<(), Fail> {
     let mut out = MemSink::new(alloc, 1000, 1000)?;
     let command = words(alloc, "check a")?;
     assert_eq!(rt; told(alloc, command.as_slice(), &mut files, &mut out), 1);
-    let command = words(alloc, "run b")?;
-    assert_eq!(rt; told(alloc, command.as_slice(), &mut files, &mut out), 1);
+    let command = words(alloc, "check b")?;
+    assert_eq!(rt; told(alloc, command.as_slice(), &mut files, &mut out), 0);
     assert_eq!(rt;
         out.taken(),
-        b"1:1 E098 program too large\n2:14 E099 not built yet\n".as_slice()
+        b"1:1 E098 program too large\n= ok\n".as_slice()
+    );
+    Ok(())
+}
+
+#[test]
+fn what_is_built_runs(rt: HostRuntime) -> Result<(), Fail> {
+    let alloc = rt.alloc();
+    exec_runs_what_is_built();
+    let mut files = files_of(
+        alloc,
+        "a=Main(X:[]int):void =~    for (N : X, N > 1) { Tell(N) }~|b=Tell(N:int):void =~    var M:int = N~    Print(\"{M}\")~",
+    )?;
+    let mut image = MemSink::new(alloc, 100000, 1000)?;
+    let command = words(alloc, "build a b")?;
+    assert_eq!(rt; told(alloc, command.as_slice(), &mut files, &mut image), 0);
+    files.add("image", image.taken())?;
+    let mut ran = MemSink::new(alloc, 1000, 1000)?;
+    let command = words(alloc, "run a b --in 1,2,3 --heap")?;
+    assert_eq!(rt; told(alloc, command.as_slice(), &mut files, &mut ran), 0);
+    let mut executed = MemSink::new(alloc, 1000, 1000)?;
+    let command = words(alloc, "exec image --in 1,2,3 --heap")?;
+    assert_eq!(rt;
+        told(alloc, command.as_slice(), &mut files, &mut executed),
+        0
+    );
+    assert_eq!(rt; executed.taken(), ran.taken());
+    assert_eq!(rt;
+        ran.taken(),
+        b"0 2\n0 3\n@0 var 2\n@1 var 3\n= done at 0 steps 6 live 0\n".as_slice()
     );
     Ok(())
 }

@@ -27,7 +27,10 @@ exec a --steps 5 --steps 5 | none
 exec a --in 1,,2 | none
 exec a --until 1000000000001 | none
 check a.verse | check a.verse
-build a.verse | none
+build a.verse | build a.verse
+build a b | build a,b
+build | none
+build a --heap | none
 load 5 | none
 --help | none
 --version | none
@@ -195,6 +198,10 @@ fn words_are_read(rt: HostRuntime) -> Result<(), Fail> {
                 assert_eq!(rt; command, "check", "{line}");
                 continue;
             }
+            Request::Build(_) => {
+                assert_eq!(rt; command, "build", "{line}");
+                continue;
+            }
         };
         assert_eq!(rt; command, name, "{line}");
         assert_eq!(rt; number(expected.next()), Some(running.steps), "{line}");
@@ -205,7 +212,7 @@ fn words_are_read(rt: HostRuntime) -> Result<(), Fail> {
         let given = plain(alloc, if given == "-" { "''" } else { given })?;
         assert_eq!(rt; ints.as_slice(), given.as_bytes(), "{line}");
     }
-    assert_eq!(rt; count, 91);
+    assert_eq!(rt; count, 94);
     words_say_once();
     Ok(())
 }

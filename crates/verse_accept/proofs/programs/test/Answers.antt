@@ -1,7 +1,7 @@
 use Rattle.std.proofs.Common.{map, rules}
 use Rattle.verse_tree.specs.ItemView.{item_of}
 use Rattle.verse_rules.proofs.Codes.{unsound_listed}
-use Rattle.verse_accept.proofs.Tested.{all_fine, unsound, too_large, not_built}
+use Rattle.verse_accept.proofs.Tested.{all_fine, unsound, too_large}
 use Rattle.verse_accept.proofs.programs.test.Goals as goal
 
 pub returns-in_err-checked-clause-refused : goal.returns-in_err-checked-clause-refused
@@ -16,11 +16,5 @@ pub returns-in_err-bound-clause-refused : goal.returns-in_err-bound-clause-refus
 returns-in_err-bound-clause-refused c r h =
     too_large (map item_of c.args.tree.now.items) r c.in_ok-checked.ensures.fine (c.in_err-bound.ensures.refused r (search rules))
 
-pub returns-in-None-clause-fine : goal.returns-in-None-clause-fine
-returns-in-None-clause-fine c =
-    all_fine (map item_of c.args.tree.now.items) c.in_ok-checked.ensures.fine c.in_ok-bound.ensures.fine (search rules)
-
-pub returns-in-Some-clause-refused : goal.returns-in-Some-clause-refused
-returns-in-Some-clause-refused c r h =
-    not_built (map item_of c.args.tree.now.items) r c.in_ok-checked.ensures.fine c.in_ok-bound.ensures.fine
-    (c.in-Some.place, search rules, search rules)
+pub returns-clause-fine : goal.returns-clause-fine
+returns-clause-fine c = all_fine (map item_of c.args.tree.now.items) c.in_ok-checked.ensures.fine c.in_ok-bound.ensures.fine

@@ -1,5 +1,5 @@
 -- One case for each command.
-use Rattle.std.proofs.Common.{◌≡◌, subst, sym}
+use Rattle.std.proofs.Common.{subst}
 use Rattle.verse_top_args.specs.Requests.{AsksFor}
 use Rattle.verse_top_args.specs.declared.commands.Request.{Request}
 use Rattle.verse_top.proofs.call.answer.Goals as goal

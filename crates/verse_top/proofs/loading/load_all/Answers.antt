@@ -1,5 +1,5 @@
 -- One more file is loaded, or none is left.
-use Rattle.std.proofs.Common.{◌≡◌, ◌≤◌, length, map, drop, string_bytes, refl, subst, sym, ◌∙◌, rules, arith}
+use Rattle.std.proofs.Common.{◌≤◌, length, map, string_bytes, refl, rules}
 use Rattle.verse_accept.proofs.InTurn.{next_file, no_file, pushed}
 use Rattle.verse_outside.specs.Held.{Loads}
 use Rattle.verse_base.specs.declared.limits.TheConstants.{MOST_FILE_BYTES}

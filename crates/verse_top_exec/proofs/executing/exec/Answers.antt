@@ -13,8 +13,8 @@ returns-in-Ok-clause-leaves g c =
     let bytes = c.args.bytes.now in
     let code = c.in-Ok.code in
     let found = c.in-Ok.ensures.found in
-    leaves_as (Runs code o) (Executes bytes o) (RunsSoFar code o) (ExecutesSoFar bytes o) _ _ _ _ c.stream.result
-    (λ s t p. ran found.0 code s t found.1 p) (λ t p. runs found.0 code t found.1 p) c.stream.ensures.leaves
+    leaves_as (Runs code o) (Executes bytes o) (RunsSoFar code o) (ExecutesSoFar bytes o) _ _ _ _ c.run_code.result
+    (λ s t p. ran found.0 code s t found.1 p) (λ t p. runs found.0 code t found.1 p) c.run_code.ensures.leaves
 
 pub returns-in-Err-Bad-clause-leaves : goal.returns-in-Err-Bad-clause-leaves
 returns-in-Err-Bad-clause-leaves g c =
