@@ -68,9 +68,9 @@ accepted_written files is a =
     let laid = spelled.1 in
     let cut = laid.1 in
     let tested = a.2 in
-    let named = tested.1.1.1 in
-    let typed = tested.1.1.2 in
-    let same : is ≡ a.0 = tested.2.0 ∙ (tested.1.2.0 ∙ (typed.0 ∙ named.0)) in
+    let named = tested.1.1 in
+    let typed = tested.1.2 in
+    let same : is ≡ a.0 = tested.2.0 ∙ (typed.0 ∙ named.0) in
     let few : zero + length files ≤ length files = omega arith in
     record {
       written = all_items joined.0;

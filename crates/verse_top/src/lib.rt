@@ -9,7 +9,6 @@ pub mod answers;
 mod call;
 mod executing;
 mod fronts;
-mod laws;
 mod loading;
 mod programs;
 mod writing;
