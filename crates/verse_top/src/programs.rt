@@ -22,7 +22,7 @@ use std::alloc::Global;
 use verse_base::refusals::Memory;
 use verse_code::codes::Code;
 use verse_image::encoding::encode;
-use verse_lower::programs::{LowerFault, lower};
+use verse_lower::{LowerFault, lower};
 use verse_outside::sinks::Sink;
 use verse_top_args::commands::{Request, Running};
 use verse_top_exec::asking::Asked;
