@@ -282,7 +282,15 @@ pub fn case<
     lowering.part(builder, scopes, around, subject(cases))?;
     builder.put_away(local)?;
     scopes.add(Slot::Hidden)?;
-    all_arms(lowering.tables.alloc, lowering, builder, scopes, around, local, arms(cases))?;
+    all_arms(
+        lowering.tables.alloc,
+        lowering,
+        builder,
+        scopes,
+        around,
+        local,
+        arms(cases),
+    )?;
     scopes.cut(local);
     Ok(())
 }

@@ -323,7 +323,15 @@ pub fn for_form<
 {
     let local = scopes.count()?;
     let mark = for_begin(builder, place, local)?;
-    for_inside(lowering.tables.alloc, lowering, builder, scopes, around, mark, parts)?;
+    for_inside(
+        lowering.tables.alloc,
+        lowering,
+        builder,
+        scopes,
+        around,
+        mark,
+        parts,
+    )?;
     for_end(builder, mark, local)?;
     Ok(())
 }

@@ -1,5 +1,6 @@
 -- The parts of a form, one by one.
-use Rattle.std.proofs.Common.{◌≡◌, ℕ, ◌+◌, ◌<◌, ◌≤◌, List, length, map, drop, get_or, refl, sym, ap, ◌∙◌, drop_of_length-le}
+use Rattle.std.proofs.Common.{◌≡◌, ℕ, ◌+◌, ◌<◌, ◌≤◌, List, length, map, drop, get_or, refl, sym, ap, ◌∙◌}
+use Rattle.std.proofs.Common.{drop_of_length-le}
 use Rattle.std.proofs.lemmas.List.{drop_more}
 use Rattle.verse_tree.specs.Tree.{Trees, no_trees, more_trees}
 use Rattle.verse_tree.specs.View.{tree_of, trees}
@@ -16,7 +17,8 @@ use Rattle.lower_parts.specs.Parts.{tree_code, operands_code}
 abbrev pub left : List Expr → ℕ → Trees
 left xs i = trees (map tree_of (drop i xs))
 
-pub left_next : (xs : List Expr) (i : ℕ) (x : Expr) → i < length xs → x ≡ get_or xs i x → left xs i ≡ more_trees (tree_of x) (left xs (i + 1))
+pub left_next : (xs : List Expr) (i : ℕ) (x : Expr) → i < length xs → x ≡ get_or xs i x → left xs i ≡
+    more_trees (tree_of x) (left xs (i + 1))
 left_next xs i x h e =
     ap (λ k. trees (map tree_of k)) (drop_more xs i x h) ∙ ap (λ k. more_trees (tree_of k) (left xs (i + 1))) (sym e)
 
@@ -25,7 +27,8 @@ left_none xs i h = ap (λ k. trees (map tree_of k)) (drop_of_length-le xs h)
 
 operands_at : (p : Program) (xs : List Expr) (i : ℕ) (x : Expr) (sc : Scope) (a : Around) (b : Built) → i < length xs →
     x ≡ get_or xs i x →
-    made (operands_code p (left xs i) sc a) b ≡ made (operands_code p (left xs (i + 1)) sc (up a)) (made (tree_code p (tree_of x) sc a) b)
+    made (operands_code p (left xs i) sc a) b ≡ made (operands_code p (left xs (i + 1)) sc (up a)) (made (tree_code p (tree_of x) sc a)
+    b)
 operands_at p xs i x sc a b h e =
     ap (λ ts. made (operands_code p ts sc a) b) (left_next xs i x h e)
     ∙ made_then (tree_code p (tree_of x) sc a) (operands_code p (left xs (i + 1)) sc (up a)) b

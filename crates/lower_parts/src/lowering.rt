@@ -42,7 +42,8 @@ impl<
         part: &'a Expr,
     ) -> Result<(), Memory>
         requires nests { Lowers self.now.depth (F.pre self.now.nested) (F.post self.now.nested) }
-        ensures code { OnOk result (built builder.new ≡ made (tree_code self.now.tables.now.program.now
+        ensures code { OnOk result (built builder.new ≡ made (tree_code
+            self.now.tables.now.program.now
             (tree_of part.now) (scope_of scopes.old) around) (built builder.old)) }
         ensures scopes { OnOk result (scope_of scopes.new ≡ scope_of scopes.old) }
     {
@@ -61,7 +62,8 @@ impl<
         parts: &'a [Expr],
     ) -> Result<(), Memory>
         requires nests { Lowers self.now.depth (F.pre self.now.nested) (F.post self.now.nested) }
-        ensures code { OnOk result (built builder.new ≡ made (operands_code self.now.tables.now.program.now
+        ensures code { OnOk result (built builder.new ≡ made (operands_code
+            self.now.tables.now.program.now
             (trees (map tree_of parts.now)) (scope_of scopes.old) around) (built builder.old)) }
         ensures scopes { OnOk result (scope_of scopes.new ≡ scope_of scopes.old) }
     {

@@ -1,5 +1,6 @@
 -- The fields of an instance: those that are given, and all in their order.
-use Rattle.std.proofs.Common.{◌≡◌, ℕ, ◌+◌, ◌<◌, ◌≤◌, List, [], ◌∷◌, ◌++◌, length, map, drop, get_or, refl, sym, ap, ◌∙◌}
+use Rattle.std.proofs.Common.{◌≡◌, ℕ, ◌+◌, ◌<◌, ◌≤◌, List, [], ◌∷◌, ◌++◌, length, map, drop, get_or, refl}
+use Rattle.std.proofs.Common.{sym, ap, ◌∙◌}
 use Rattle.std.proofs.Common.{drop_of_length-le}
 use Rattle.std.proofs.lemmas.List.{drop_more}
 use Rattle.std.proofs.Common.{Option, Some, None}
@@ -55,7 +56,8 @@ module _ (p : Program) (xs : List Given) (i : ℕ) (a : Around) where
   code gs sc = given_args (program_of p) (differ_of p) gs sc a
 
   -- behind one part more, and where none is left
-  pub givens_next : (x : Given) (sc new : Scope) (b behind all : Built) → i < length xs → x ≡ get_or xs i x → new ≡ hidden ∷ sc →
+  pub givens_next : (x : Given) (sc new : Scope) (b behind all : Built) → i < length xs → x ≡ get_or xs i x → new ≡
+      hidden ∷ sc →
       behind ≡ made (given_code p (given_of x).1 sc a) b → made (code (left_givens xs i) sc) b ≡ all →
       made (code (left_givens xs (i + 1)) new) behind ≡ all
   givens_next x sc new b behind all h e k g is =
@@ -63,7 +65,8 @@ module _ (p : Program) (xs : List Given) (i : ℕ) (a : Around) where
       let f2 : Maker = put_away (length sc) in
       let rest : Maker = code (left_givens xs (i + 1)) (hidden ∷ sc) in
       ap (λ s. made (code (left_givens xs (i + 1)) s) behind) k ∙ ap (made rest) (g ∙ made_then f1 f2 b)
-      ∙ sym (made_then f1 (f2 then rest) b ∙ made_then f2 rest (made f1 b)) ∙ sym (ap (λ gs. made (code gs sc) b) (left_next xs i x h e)) ∙ is
+      ∙ sym (made_then f1 (f2 then rest) b ∙ made_then f2 rest (made f1 b))
+      ∙ sym (ap (λ gs. made (code gs sc) b) (left_next xs i x h e)) ∙ is
 
   pub givens_done : (sc : Scope) (b all : Built) → length xs ≤ i → made (code (left_givens xs i) sc) b ≡ all → b ≡ all
   givens_done sc b all h is = sym (ap (λ gs. made (code gs sc) b) (left_none xs i h) ∙ made_nothing b) ∙ is
@@ -87,19 +90,23 @@ module _ (p : Program) (xs : List (Bor Field)) (i : ℕ) (gs : Givens) (l : ℕ)
       f ≡ field_op (program_of p) (differ_of p) (given_local (field_now x).name gs l) (field_now x).default (field_now x).number →
       behind ≡ made f b → made (ops (left_fields xs i)) b ≡ all → made (ops (left_fields xs (i + 1))) behind ≡ all
   fields_next x f b behind all h e k g is =
-      let first : Maker = field_op (program_of p) (differ_of p) (given_local (field_now x).name gs l) (field_now x).default (field_now x).number in
+      let first : Maker = field_op (program_of p) (differ_of p) (given_local (field_now x).name gs l) (field_now x).default (field_now
+      x).number in
       let rest : Maker = ops (left_fields xs (i + 1)) in
-      ap (made rest) (g ∙ ap (λ m. made m b) k) ∙ sym (made_then first rest b) ∙ sym (ap (λ fs. made (ops fs) b) (fields_behind xs i x h e)) ∙ is
+      ap (made rest) (g ∙ ap (λ m. made m b) k) ∙ sym (made_then first rest b)
+      ∙ sym (ap (λ fs. made (ops fs) b) (fields_behind xs i x h e)) ∙ is
 
   pub fields_done : (b all : Built) → length xs ≤ i → made (ops (left_fields xs i)) b ≡ all → b ≡ all
   fields_done b all h is = sym (ap (λ fs. made (ops fs) b) (fields_none xs i h) ∙ made_nothing b) ∙ is
 
 -- an instance of a class, by what its steps make, and of none
-pub class_done : (p : Program) (class : ℕ) (place : Place) (gs : Givens) (sc : Scope) (a : Around) (first : ℕ) (b given fields all : Built) →
+pub class_done : (p : Program) (class : ℕ) (place : Place) (gs : Givens) (sc : Scope) (a : Around) (first : ℕ) (b given fields all :
+    Built) →
     first ≡ length sc → given ≡ made (given_args (program_of p) (differ_of p) gs sc a) b →
     fields ≡ made (field_ops (program_of p) (differ_of p) (fields_of (program_of p) class) gs first) given →
     all ≡ made (placed place (numbered (o.Object class 0))) fields →
-    all ≡ made (instance_of (program_of p) (differ_of p) (Some class) place gs (length sc) (given_args (program_of p) (differ_of p) gs sc a)) b
+    all ≡ made (instance_of (program_of p) (differ_of p) (Some class) place gs (length sc) (given_args (program_of p) (differ_of p) gs
+    sc a)) b
 unfolding instance_of
 class_done p class place gs sc a first b given fields all e1 e2 e3 e4 =
     let f1 : Maker = given_args (program_of p) (differ_of p) gs sc a in

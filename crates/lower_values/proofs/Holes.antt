@@ -1,5 +1,6 @@
 -- Pieces of texts with holes.
-use Rattle.std.proofs.Common.{◌≡◌, ◌≢◌, ℕ, suc, ◌+◌, ◌<◌, ◌≤◌, List, [], ◌∷◌, length, map, drop, get_or, Bool, true, false, refl, sym, ap, ◌∙◌}
+use Rattle.std.proofs.Common.{◌≡◌, ◌≢◌, ℕ, suc, ◌+◌, ◌<◌, ◌≤◌, List, [], ◌∷◌, length, map, drop, get_or}
+use Rattle.std.proofs.Common.{Bool, true, false, refl, sym, ap, ◌∙◌}
 use Rattle.std.proofs.Common.{drop_of_length-le, arith}
 use Rattle.std.proofs.lemmas.List.{drop_more}
 use Rattle.verse_base.specs.declared.places.Place.{Place}
@@ -47,7 +48,8 @@ module _ (p : Program) (xs : List Hole) (i : ℕ) (sc : Scope) where
   code hs a = holed (program_of p) (differ_of p) hs sc a
 
   -- behind one hole more, and where none is left
-  pub holes_next : (x : Hole) (here : Scope) (a above : Around) (b behind all : Built) → i < length xs → x ≡ get_or xs i x → here ≡ sc →
+  pub holes_next : (x : Hole) (here : Scope) (a above : Around) (b behind all : Built) → i < length xs → x ≡ get_or xs i x →
+      here ≡ sc →
       behind ≡ made (hole_code p (hole_of x) here a) b → above ≡ raised (one_if (is_text (hole_of x).1) 0) (up a) →
       made (code (left_holes xs i) a) b ≡ all → made (code (left_holes xs (i + 1)) above) behind ≡ all
   holes_next x here a above b behind all h e k g f is =
@@ -63,7 +65,8 @@ module _ (p : Program) (xs : List Hole) (i : ℕ) (sc : Scope) where
   pub holes_done : (a : Around) (b all : Built) → length xs ≤ i → made (code (left_holes xs i) a) b ≡ all → b ≡ all
   holes_done a b all h is = sym (ap (λ hs. made (code hs a) b) (left_none xs i h) ∙ made_nothing b) ∙ is
 
-  pub parts_next : (x : Hole) (n m all : ℕ) → i < length xs → x ≡ get_or xs i x → m ≡ one_if (is_text (hole_of x).1) (n + 1) →
+  pub parts_next : (x : Hole) (n m all : ℕ) → i < length xs → x ≡ get_or xs i x → m ≡
+      one_if (is_text (hole_of x).1) (n + 1) →
       n + joined_parts (left_holes xs i) ≡ all → m + joined_parts (left_holes xs (i + 1)) ≡ all
   parts_next x n m all h e g is =
       ap (λ k. k + joined_parts (left_holes xs (i + 1))) g ∙ moved (is_text (hole_of x).1) n (joined_parts (left_holes xs (i + 1)))
@@ -77,8 +80,10 @@ module _ (p : Program) (xs : List Hole) (i : ℕ) (sc : Scope) where
   parts_done n all h is = omega (arith, ap (λ hs. n + joined_parts hs) (left_none xs i h), is)
 
 -- a text with holes, by what its steps make
-pub text_done : (p : Program) (bs : Bytes) (hs : Holes) (place : Place) (sc : Scope) (a above : Around) (n : ℕ) (b first parts all : Built) →
-    first ≡ made (text_if bs) b → above ≡ raised (one_if (is_text bs) 0) a → parts ≡ made (holed (program_of p) (differ_of p) hs sc above) first →
+pub text_done : (p : Program) (bs : Bytes) (hs : Holes) (place : Place) (sc : Scope) (a above : Around) (n : ℕ) (b first parts all :
+    Built) →
+    first ≡ made (text_if bs) b → above ≡ raised (one_if (is_text bs) 0) a → parts ≡
+    made (holed (program_of p) (differ_of p) hs sc above) first →
     n ≡ one_if (is_text bs) (joined_parts hs) → all ≡ made (placed place (numbered (o.Join n 0))) parts →
     all ≡ made (form_code p (t.Shape.holes bs hs) 0 place sc a) b
 text_done p bs hs place sc a above n b first parts all e1 e2 e3 e4 e5 =

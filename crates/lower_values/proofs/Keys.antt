@@ -1,5 +1,6 @@
 -- The keys of a map with their values, one pair after the other.
-use Rattle.std.proofs.Common.{◌≡◌, ℕ, suc, ◌+◌, ◌<◌, ◌≤◌, List, [], ◌∷◌, length, map, drop, get_or, refl, sym, ap, ◌∙◌}
+use Rattle.std.proofs.Common.{◌≡◌, ℕ, suc, ◌+◌, ◌<◌, ◌≤◌, List, [], ◌∷◌, length, map, drop, get_or, refl, sym}
+use Rattle.std.proofs.Common.{ap, ◌∙◌}
 use Rattle.std.proofs.Common.{drop_of_length-le}
 use Rattle.std.proofs.lemmas.List.{drop_more}
 use Rattle.verse_base.specs.declared.places.Place.{Place}
@@ -44,7 +45,8 @@ module _ (p : Program) (xs : List Pair) (i : ℕ) (sc : Scope) where
   code ps a = paired_args (program_of p) (differ_of p) ps sc a
 
   -- behind one pair more, and where none is left
-  pub pairs_next : (x : Pair) (here : Scope) (a above : Around) (b behind all : Built) → i < length xs → x ≡ get_or xs i x → here ≡ sc →
+  pub pairs_next : (x : Pair) (here : Scope) (a above : Around) (b behind all : Built) → i < length xs → x ≡ get_or xs i x →
+      here ≡ sc →
       behind ≡ made (pair_code p (pair_of x) here a) b → above ≡ up (up a) → made (code (left_pairs xs i) a) b ≡ all →
       made (code (left_pairs xs (i + 1)) above) behind ≡ all
   pairs_next x here a above b behind all h e k g f is =
@@ -60,11 +62,14 @@ module _ (p : Program) (xs : List Pair) (i : ℕ) (sc : Scope) where
   pairs_done a b all h is = sym (ap (λ ps. made (code ps a) b) (left_none xs i h) ∙ made_nothing b) ∙ is
 
 -- a map, by what its steps make
-pub map_done : (p : Program) (xs : List Pair) (place : Place) (sc : Scope) (a : Around) (n : ℕ) (b parts all : Built) → n ≡ length xs →
+pub map_done : (p : Program) (xs : List Pair) (place : Place) (sc : Scope) (a : Around) (n : ℕ) (b parts all : Built) → n ≡
+    length xs →
     parts ≡ made (paired_args (program_of p) (differ_of p) (pairs (map pair_of xs)) sc a) b →
-    all ≡ made (placed place (numbered (o.Map n 0))) parts → all ≡ made (form_code p (t.Shape.mapping (pairs (map pair_of xs))) 0 place sc a) b
+    all ≡ made (placed place (numbered (o.Map n 0))) parts → all ≡
+    made (form_code p (t.Shape.mapping (pairs (map pair_of xs))) 0 place sc a) b
 map_done p xs place sc a n b parts all e1 e2 e3 =
     let ps = pairs (map pair_of xs) in
     let f : Maker = paired_args (program_of p) (differ_of p) ps sc a in
     let g : ℕ → Maker = λ k. placed place (numbered (o.Map k 0)) in
-    e3 ∙ ap (λ k. made (g k) parts) (e1 ∙ sym (pairs_counted xs)) ∙ ap (made (g (pairs_in ps))) e2 ∙ sym (made_then f (g (pairs_in ps)) b)
+    e3 ∙ ap (λ k. made (g k) parts) (e1 ∙ sym (pairs_counted xs)) ∙ ap (made (g (pairs_in ps))) e2
+    ∙ sym (made_then f (g (pairs_in ps)) b)

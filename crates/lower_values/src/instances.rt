@@ -18,14 +18,13 @@ ghost use Rattle.lower_declared.specs.Views.{field_now};
 ghost use Rattle.lower_values.specs.Parts.{given_code, Grown};
 
 use lower_code::arounds::Around;
+use lower_declared::fields::given_local;
 use lower_expr::builder::Builder;
 use lower_expr::endings::Ending;
-use lower_expr::scopes::Scopes;
+use lower_expr::scopes::{Scopes, Slot};
 use lower_items::tables::Tables;
-use lower_declared::fields::given_local;
 use lower_lookup::names::class_at;
 use lower_parts::lowering::Lowering;
-use lower_expr::scopes::Slot;
 use verse_base::places::Place;
 use verse_base::refusals::Memory;
 use verse_code::operations::Op;
@@ -42,7 +41,14 @@ fn value(given: &Given) -> &Expr
 #[tactic(auto, using(lower_expr::proofs::Laws::made_then))]
 fn given<
     'a,
-    F: Fn(&'a Tables<'a>, u32, &mut Builder, &mut Scopes<'a>, Around, &'a Expr) -> Result<(), Memory>,
+    F: Fn(
+        &'a Tables<'a>,
+        u32,
+        &mut Builder,
+        &mut Scopes<'a>,
+        Around,
+        &'a Expr,
+    ) -> Result<(), Memory>,
 >(
     lowering: &Lowering<'a, F>,
     builder: &mut Builder,
@@ -50,8 +56,11 @@ fn given<
     around: Around,
     part: &'a Given,
 ) -> Result<(), Memory>
-    requires nests { Lowers lowering.now.depth (F.pre lowering.now.nested) (F.post lowering.now.nested) }
-    ensures code { OnOk result (built builder.new ≡ made (given_code lowering.now.tables.now.program.now (given_of part.now).1 (scope_of scopes.old) around) (built builder.old)) }
+    requires nests { Lowers lowering.now.depth (F.pre lowering.now.nested)
+        (F.post lowering.now.nested) }
+    ensures code { OnOk result (built builder.new ≡ made (given_code
+        lowering.now.tables.now.program.now (given_of part.now).1 (scope_of scopes.old) around)
+        (built builder.old)) }
     ensures scopes { OnOk result (scope_of scopes.new ≡ hidden ∷ scope_of scopes.old) }
 {
     lowering.part(builder, scopes, around, value(part))?;
@@ -64,7 +73,14 @@ fn given<
 /// The values of the fields that are given, each in a local.
 fn all<
     'a,
-    F: Fn(&'a Tables<'a>, u32, &mut Builder, &mut Scopes<'a>, Around, &'a Expr) -> Result<(), Memory>,
+    F: Fn(
+        &'a Tables<'a>,
+        u32,
+        &mut Builder,
+        &mut Scopes<'a>,
+        Around,
+        &'a Expr,
+    ) -> Result<(), Memory>,
 >(
     lowering: &Lowering<'a, F>,
     builder: &mut Builder,
@@ -72,8 +88,11 @@ fn all<
     around: Around,
     parts: &'a [Given],
 ) -> Result<(), Memory>
-    requires nests { Lowers lowering.now.depth (F.pre lowering.now.nested) (F.post lowering.now.nested) }
-    ensures code { OnOk result (built builder.new ≡ made (l.given_args (p.program_of lowering.now.tables.now.program.now) (differ_of lowering.now.tables.now.program.now) (givens (map given_of parts.now)) (scope_of scopes.old) around) (built builder.old)) }
+    requires nests { Lowers lowering.now.depth (F.pre lowering.now.nested)
+        (F.post lowering.now.nested) }
+    ensures code { OnOk result (built builder.new ≡ made (l.given_args (p.program_of
+        lowering.now.tables.now.program.now) (differ_of lowering.now.tables.now.program.now)
+        (givens (map given_of parts.now)) (scope_of scopes.old) around) (built builder.old)) }
     ensures scopes { OnOk result (Grown (scope_of scopes.old) (scope_of scopes.new)) }
 {
     'parts: for part in parts {
@@ -84,8 +103,10 @@ fn all<
 
 /// What gives a field its default.
 fn default(tables: &Tables<'_>, field: &Field) -> Result<Ending, Memory>
-    ensures { IfOk result (λ ending. ending_code ending ≡ l.default_op (p.program_of tables.now.program.now)
-        (differ_of tables.now.program.now) (field_of field.now).default (field_of field.now).number) }
+    ensures { IfOk result (λ ending. ending_code ending ≡ l.default_op (p.program_of
+        tables.now.program.now)
+        (differ_of tables.now.program.now) (field_of field.now).default (field_of
+        field.now).number) }
 {
     match &field.default {
         None => Ok(Ending::Stuck),
@@ -95,8 +116,10 @@ fn default(tables: &Tables<'_>, field: &Field) -> Result<Ending, Memory>
 
 /// The value of a field where those that are given lie in locals from `first` on.
 fn field(tables: &Tables<'_>, field: &Field, parts: &[Given], first: u32) -> Result<Ending, Memory>
-    ensures { IfOk result (λ ending. ending_code ending ≡ l.field_op (p.program_of tables.now.program.now)
-        (differ_of tables.now.program.now) (l.given_local (field_of field.now).name (givens (map given_of parts.now)) first)
+    ensures { IfOk result (λ ending. ending_code ending ≡ l.field_op (p.program_of
+        tables.now.program.now)
+        (differ_of tables.now.program.now) (l.given_local (field_of field.now).name (givens (map
+        given_of parts.now)) first)
         (field_of field.now).default (field_of field.now).number) }
 {
     match given_local(parts, field.name.as_slice(), first)? {
@@ -113,8 +136,10 @@ fn fields(
     parts: &[Given],
     first: u32,
 ) -> Result<(), Memory>
-    ensures { OnOk result (built builder.new ≡ made (l.field_ops (p.program_of tables.now.program.now)
-        (differ_of tables.now.program.now) (p.fields_of (p.program_of tables.now.program.now) class)
+    ensures { OnOk result (built builder.new ≡ made (l.field_ops (p.program_of
+        tables.now.program.now)
+        (differ_of tables.now.program.now) (p.fields_of (p.program_of tables.now.program.now)
+        class)
         (givens (map given_of parts.now)) first) (built builder.old)) }
 {
     let all = tables.fields_of(class)?;
@@ -128,7 +153,14 @@ fn fields(
 /// An instance of the class of a number.
 fn of_class<
     'a,
-    F: Fn(&'a Tables<'a>, u32, &mut Builder, &mut Scopes<'a>, Around, &'a Expr) -> Result<(), Memory>,
+    F: Fn(
+        &'a Tables<'a>,
+        u32,
+        &mut Builder,
+        &mut Scopes<'a>,
+        Around,
+        &'a Expr,
+    ) -> Result<(), Memory>,
 >(
     lowering: &Lowering<'a, F>,
     builder: &mut Builder,
@@ -138,8 +170,14 @@ fn of_class<
     class: u32,
     parts: &'a [Given],
 ) -> Result<(), Memory>
-    requires nests { Lowers lowering.now.depth (F.pre lowering.now.nested) (F.post lowering.now.nested) }
-    ensures code { OnOk result (built builder.new ≡ made (l.instance_of (p.program_of lowering.now.tables.now.program.now) (differ_of lowering.now.tables.now.program.now) (Some class) place (givens (map given_of parts.now)) (length (scope_of scopes.old)) (l.given_args (p.program_of lowering.now.tables.now.program.now) (differ_of lowering.now.tables.now.program.now) (givens (map given_of parts.now)) (scope_of scopes.old) around)) (built builder.old)) }
+    requires nests { Lowers lowering.now.depth (F.pre lowering.now.nested)
+        (F.post lowering.now.nested) }
+    ensures code { OnOk result (built builder.new ≡ made (l.instance_of (p.program_of
+        lowering.now.tables.now.program.now) (differ_of lowering.now.tables.now.program.now) (Some
+        class) place (givens (map given_of parts.now)) (length (scope_of scopes.old))
+        (l.given_args (p.program_of lowering.now.tables.now.program.now) (differ_of
+        lowering.now.tables.now.program.now) (givens (map given_of parts.now)) (scope_of
+        scopes.old) around)) (built builder.old)) }
     ensures scopes { OnOk result (scope_of scopes.new ≡ scope_of scopes.old) }
 {
     let first = scopes.count()?;
@@ -154,7 +192,14 @@ fn of_class<
 #[tactic(auto, using(crate::proofs::Fields::class_none))]
 pub fn instance<
     'a,
-    F: Fn(&'a Tables<'a>, u32, &mut Builder, &mut Scopes<'a>, Around, &'a Expr) -> Result<(), Memory>,
+    F: Fn(
+        &'a Tables<'a>,
+        u32,
+        &mut Builder,
+        &mut Scopes<'a>,
+        Around,
+        &'a Expr,
+    ) -> Result<(), Memory>,
 >(
     lowering: &Lowering<'a, F>,
     builder: &mut Builder,
@@ -164,8 +209,15 @@ pub fn instance<
     place: Place,
     parts: &'a [Given],
 ) -> Result<(), Memory>
-    requires nests { Lowers lowering.now.depth (F.pre lowering.now.nested) (F.post lowering.now.nested) }
-    ensures code { OnOk result (built builder.new ≡ made (l.instance_of (p.program_of lowering.now.tables.now.program.now) (differ_of lowering.now.tables.now.program.now) (class_ref (p.program_of lowering.now.tables.now.program.now) (p.ref_at (p.program_of lowering.now.tables.now.program.now) node)) place (givens (map given_of parts.now)) (length (scope_of scopes.old)) (l.given_args (p.program_of lowering.now.tables.now.program.now) (differ_of lowering.now.tables.now.program.now) (givens (map given_of parts.now)) (scope_of scopes.old) around)) (built builder.old)) }
+    requires nests { Lowers lowering.now.depth (F.pre lowering.now.nested)
+        (F.post lowering.now.nested) }
+    ensures code { OnOk result (built builder.new ≡ made (l.instance_of (p.program_of
+        lowering.now.tables.now.program.now) (differ_of lowering.now.tables.now.program.now)
+        (class_ref (p.program_of lowering.now.tables.now.program.now) (p.ref_at (p.program_of
+        lowering.now.tables.now.program.now) node)) place (givens (map given_of parts.now))
+        (length (scope_of scopes.old)) (l.given_args (p.program_of
+        lowering.now.tables.now.program.now) (differ_of lowering.now.tables.now.program.now)
+        (givens (map given_of parts.now)) (scope_of scopes.old) around)) (built builder.old)) }
     ensures scopes { OnOk result (scope_of scopes.new ≡ scope_of scopes.old) }
 {
     match class_at(lowering.tables.program, node) {

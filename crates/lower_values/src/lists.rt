@@ -9,11 +9,11 @@ ghost use Rattle.lower_parts.specs.Parts.{form_code, operands_code, Lowers};
 ghost use Rattle.lower_values.specs.Parts.{all_ended};
 
 use lower_code::arounds::Around;
+use lower_declared::numbers::number_of;
 use lower_expr::builder::Builder;
 use lower_expr::endings::Ending;
 use lower_expr::scopes::Scopes;
 use lower_items::tables::Tables;
-use lower_declared::numbers::number_of;
 use lower_lookup::statements::how_many;
 use lower_parts::lowering::Lowering;
 use verse_base::places::Place;
@@ -25,7 +25,14 @@ use verse_tree::exprs::Expr;
 #[tactic(auto, using(lower_expr::proofs::Laws::made_then))]
 fn all<
     'a,
-    F: Fn(&'a Tables<'a>, u32, &mut Builder, &mut Scopes<'a>, Around, &'a Expr) -> Result<(), Memory>,
+    F: Fn(
+        &'a Tables<'a>,
+        u32,
+        &mut Builder,
+        &mut Scopes<'a>,
+        Around,
+        &'a Expr,
+    ) -> Result<(), Memory>,
 >(
     lowering: &Lowering<'a, F>,
     builder: &mut Builder,
@@ -34,8 +41,11 @@ fn all<
     parts: &'a [Expr],
     ending: Ending,
 ) -> Result<(), Memory>
-    requires nests { Lowers lowering.now.depth (F.pre lowering.now.nested) (F.post lowering.now.nested) }
-    ensures code { OnOk result (built builder.new ≡ made (all_ended lowering.now.tables.now.program.now (trees (map tree_of parts.now)) ending (scope_of scopes.old) around) (built builder.old)) }
+    requires nests { Lowers lowering.now.depth (F.pre lowering.now.nested)
+        (F.post lowering.now.nested) }
+    ensures code { OnOk result (built builder.new ≡ made (all_ended
+        lowering.now.tables.now.program.now (trees (map tree_of parts.now)) ending (scope_of
+        scopes.old) around) (built builder.old)) }
     ensures scopes { OnOk result (scope_of scopes.new ≡ scope_of scopes.old) }
 {
     lowering.operands(builder, scopes, around, parts)?;
@@ -46,7 +56,14 @@ fn all<
 /// `(E, F)`
 pub fn tuple<
     'a,
-    F: Fn(&'a Tables<'a>, u32, &mut Builder, &mut Scopes<'a>, Around, &'a Expr) -> Result<(), Memory>,
+    F: Fn(
+        &'a Tables<'a>,
+        u32,
+        &mut Builder,
+        &mut Scopes<'a>,
+        Around,
+        &'a Expr,
+    ) -> Result<(), Memory>,
 >(
     lowering: &Lowering<'a, F>,
     builder: &mut Builder,
@@ -55,19 +72,36 @@ pub fn tuple<
     place: Place,
     parts: &'a [Expr],
 ) -> Result<(), Memory>
-    requires nests { Lowers lowering.now.depth (F.pre lowering.now.nested) (F.post lowering.now.nested) }
-    ensures code { OnOk result (built builder.new ≡ made (form_code lowering.now.tables.now.program.now (t.Shape.tuple (trees (map tree_of parts.now))) 0 place (scope_of scopes.old) around) (built builder.old)) }
+    requires nests { Lowers lowering.now.depth (F.pre lowering.now.nested)
+        (F.post lowering.now.nested) }
+    ensures code { OnOk result (built builder.new ≡ made (form_code
+        lowering.now.tables.now.program.now (t.Shape.tuple (trees (map tree_of parts.now))) 0
+        place (scope_of scopes.old) around) (built builder.old)) }
     ensures scopes { OnOk result (scope_of scopes.new ≡ scope_of scopes.old) }
 {
     let count = number_of(how_many(parts))?;
-    all(lowering, builder, scopes, around, parts, Ending::Placed(place, Op::Tuple(count, 0)))?;
+    all(
+        lowering,
+        builder,
+        scopes,
+        around,
+        parts,
+        Ending::Placed(place, Op::Tuple(count, 0)),
+    )?;
     Ok(())
 }
 
 /// `array{E, F}`
 pub fn array<
     'a,
-    F: Fn(&'a Tables<'a>, u32, &mut Builder, &mut Scopes<'a>, Around, &'a Expr) -> Result<(), Memory>,
+    F: Fn(
+        &'a Tables<'a>,
+        u32,
+        &mut Builder,
+        &mut Scopes<'a>,
+        Around,
+        &'a Expr,
+    ) -> Result<(), Memory>,
 >(
     lowering: &Lowering<'a, F>,
     builder: &mut Builder,
@@ -76,11 +110,21 @@ pub fn array<
     place: Place,
     parts: &'a [Expr],
 ) -> Result<(), Memory>
-    requires nests { Lowers lowering.now.depth (F.pre lowering.now.nested) (F.post lowering.now.nested) }
-    ensures code { OnOk result (built builder.new ≡ made (form_code lowering.now.tables.now.program.now (t.Shape.array (trees (map tree_of parts.now))) 0 place (scope_of scopes.old) around) (built builder.old)) }
+    requires nests { Lowers lowering.now.depth (F.pre lowering.now.nested)
+        (F.post lowering.now.nested) }
+    ensures code { OnOk result (built builder.new ≡ made (form_code
+        lowering.now.tables.now.program.now (t.Shape.array (trees (map tree_of parts.now))) 0
+        place (scope_of scopes.old) around) (built builder.old)) }
     ensures scopes { OnOk result (scope_of scopes.new ≡ scope_of scopes.old) }
 {
     let count = number_of(how_many(parts))?;
-    all(lowering, builder, scopes, around, parts, Ending::Placed(place, Op::Array(count, 0)))?;
+    all(
+        lowering,
+        builder,
+        scopes,
+        around,
+        parts,
+        Ending::Placed(place, Op::Array(count, 0)),
+    )?;
     Ok(())
 }

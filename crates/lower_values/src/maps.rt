@@ -12,10 +12,10 @@ ghost use Rattle.lower_lookup.specs.Types.{differ_of};
 ghost use Rattle.lower_values.specs.Parts.{pair_code};
 
 use lower_code::arounds::Around;
+use lower_declared::numbers::number_of;
 use lower_expr::builder::Builder;
 use lower_expr::scopes::Scopes;
 use lower_items::tables::Tables;
-use lower_declared::numbers::number_of;
 use lower_parts::lowering::Lowering;
 use verse_base::places::Place;
 use verse_base::refusals::Memory;
@@ -38,7 +38,14 @@ fn value(pair: &Pair) -> &Expr
 #[tactic(auto, using(lower_expr::proofs::Laws::made_then))]
 fn pair<
     'a,
-    F: Fn(&'a Tables<'a>, u32, &mut Builder, &mut Scopes<'a>, Around, &'a Expr) -> Result<(), Memory>,
+    F: Fn(
+        &'a Tables<'a>,
+        u32,
+        &mut Builder,
+        &mut Scopes<'a>,
+        Around,
+        &'a Expr,
+    ) -> Result<(), Memory>,
 >(
     lowering: &Lowering<'a, F>,
     builder: &mut Builder,
@@ -46,8 +53,11 @@ fn pair<
     around: Around,
     parts: &'a Pair,
 ) -> Result<(), Memory>
-    requires nests { Lowers lowering.now.depth (F.pre lowering.now.nested) (F.post lowering.now.nested) }
-    ensures code { OnOk result (built builder.new ≡ made (pair_code lowering.now.tables.now.program.now (pair_of parts.now) (scope_of scopes.old) around) (built builder.old)) }
+    requires nests { Lowers lowering.now.depth (F.pre lowering.now.nested)
+        (F.post lowering.now.nested) }
+    ensures code { OnOk result (built builder.new ≡ made (pair_code
+        lowering.now.tables.now.program.now (pair_of parts.now) (scope_of scopes.old) around)
+        (built builder.old)) }
     ensures scopes { OnOk result (scope_of scopes.new ≡ scope_of scopes.old) }
 {
     lowering.part(builder, scopes, around, key(parts))?;
@@ -59,7 +69,14 @@ fn pair<
 /// The keys with their values.
 fn all<
     'a,
-    F: Fn(&'a Tables<'a>, u32, &mut Builder, &mut Scopes<'a>, Around, &'a Expr) -> Result<(), Memory>,
+    F: Fn(
+        &'a Tables<'a>,
+        u32,
+        &mut Builder,
+        &mut Scopes<'a>,
+        Around,
+        &'a Expr,
+    ) -> Result<(), Memory>,
 >(
     lowering: &Lowering<'a, F>,
     builder: &mut Builder,
@@ -67,8 +84,11 @@ fn all<
     around: Around,
     parts: &'a [Pair],
 ) -> Result<(), Memory>
-    requires nests { Lowers lowering.now.depth (F.pre lowering.now.nested) (F.post lowering.now.nested) }
-    ensures code { OnOk result (built builder.new ≡ made (l.paired_args (program_of lowering.now.tables.now.program.now) (differ_of lowering.now.tables.now.program.now) (pairs (map pair_of parts.now)) (scope_of scopes.old) around) (built builder.old)) }
+    requires nests { Lowers lowering.now.depth (F.pre lowering.now.nested)
+        (F.post lowering.now.nested) }
+    ensures code { OnOk result (built builder.new ≡ made (l.paired_args (program_of
+        lowering.now.tables.now.program.now) (differ_of lowering.now.tables.now.program.now)
+        (pairs (map pair_of parts.now)) (scope_of scopes.old) around) (built builder.old)) }
     ensures scopes { OnOk result (scope_of scopes.new ≡ scope_of scopes.old) }
 {
     let mut here = around;
@@ -83,7 +103,14 @@ fn all<
 /// `map{E => F}`
 pub fn map<
     'a,
-    F: Fn(&'a Tables<'a>, u32, &mut Builder, &mut Scopes<'a>, Around, &'a Expr) -> Result<(), Memory>,
+    F: Fn(
+        &'a Tables<'a>,
+        u32,
+        &mut Builder,
+        &mut Scopes<'a>,
+        Around,
+        &'a Expr,
+    ) -> Result<(), Memory>,
 >(
     lowering: &Lowering<'a, F>,
     builder: &mut Builder,
@@ -92,8 +119,11 @@ pub fn map<
     place: Place,
     parts: &'a [Pair],
 ) -> Result<(), Memory>
-    requires nests { Lowers lowering.now.depth (F.pre lowering.now.nested) (F.post lowering.now.nested) }
-    ensures code { OnOk result (built builder.new ≡ made (form_code lowering.now.tables.now.program.now (t.Shape.mapping (pairs (map pair_of parts.now))) 0 place (scope_of scopes.old) around) (built builder.old)) }
+    requires nests { Lowers lowering.now.depth (F.pre lowering.now.nested)
+        (F.post lowering.now.nested) }
+    ensures code { OnOk result (built builder.new ≡ made (form_code
+        lowering.now.tables.now.program.now (t.Shape.mapping (pairs (map pair_of parts.now))) 0
+        place (scope_of scopes.old) around) (built builder.old)) }
     ensures scopes { OnOk result (scope_of scopes.new ≡ scope_of scopes.old) }
 {
     let count = number_of(parts.len())?;

@@ -22,7 +22,8 @@ use verse_tree::tables::Ref;
 /// What stands for a name.
 #[tactic(auto, unfolding(lower_code::specs::Lowering::named))]
 fn named(program: &Program, scopes: &Scopes<'_>, node: u32, name: &[u8]) -> Result<Ending, Memory>
-    ensures { IfOk result (λ ending. ending_code ending ≡ l.named (program_of program.now) (differ_of program.now)
+    ensures { IfOk result (λ ending. ending_code ending ≡ l.named (program_of program.now)
+        (differ_of program.now)
         (ref_at (program_of program.now) node) name.now (scope_of scopes.now)) }
 {
     match ref_at(program, node) {
@@ -32,9 +33,17 @@ fn named(program: &Program, scopes: &Scopes<'_>, node: u32, name: &[u8]) -> Resu
 }
 
 /// A name.
-pub fn name(program: &Program, builder: &mut Builder, scopes: &Scopes<'_>, node: u32, name: &[u8]) -> Result<(), Memory>
-    ensures { OnOk result (built builder.new ≡ made (l.named (program_of program.now) (differ_of program.now)
-        (ref_at (program_of program.now) node) name.now (scope_of scopes.now)) (built builder.old)) }
+pub fn name(
+    program: &Program,
+    builder: &mut Builder,
+    scopes: &Scopes<'_>,
+    node: u32,
+    name: &[u8],
+) -> Result<(), Memory>
+    ensures { OnOk result (built builder.new ≡ made (l.named (program_of program.now) (differ_of
+        program.now)
+        (ref_at (program_of program.now) node) name.now (scope_of scopes.now)) (built
+        builder.old)) }
 {
     let ending = named(program, scopes, node, name)?;
     builder.ending(ending)
@@ -42,7 +51,8 @@ pub fn name(program: &Program, builder: &mut Builder, scopes: &Scopes<'_>, node:
 
 /// `Self`
 pub fn this(builder: &mut Builder, scopes: &Scopes<'_>) -> Result<(), Memory>
-    ensures { OnOk result (built builder.new ≡ made (s.read_this (s.this_found (scope_of scopes.now))) (built builder.old)) }
+    ensures { OnOk result (built builder.new ≡ made (s.read_this (s.this_found (scope_of
+        scopes.now))) (built builder.old)) }
 {
     let found = scopes.this()?;
     builder.ending(read_this(found))

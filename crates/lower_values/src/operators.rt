@@ -25,7 +25,14 @@ use verse_tree::exprs::{Comparison, Expr, Operator, Two};
 #[tactic(auto, using(lower_expr::proofs::Laws::made_then))]
 fn one<
     'a,
-    F: Fn(&'a Tables<'a>, u32, &mut Builder, &mut Scopes<'a>, Around, &'a Expr) -> Result<(), Memory>,
+    F: Fn(
+        &'a Tables<'a>,
+        u32,
+        &mut Builder,
+        &mut Scopes<'a>,
+        Around,
+        &'a Expr,
+    ) -> Result<(), Memory>,
 >(
     lowering: &Lowering<'a, F>,
     builder: &mut Builder,
@@ -34,8 +41,10 @@ fn one<
     part: &'a Expr,
     ending: Ending,
 ) -> Result<(), Memory>
-    requires nests { Lowers lowering.now.depth (F.pre lowering.now.nested) (F.post lowering.now.nested) }
-    ensures code { OnOk result (built builder.new ≡ made (one_ended lowering.now.tables.now.program.now
+    requires nests { Lowers lowering.now.depth (F.pre lowering.now.nested)
+        (F.post lowering.now.nested) }
+    ensures code { OnOk result (built builder.new ≡ made (one_ended
+        lowering.now.tables.now.program.now
         (tree_of part.now) ending (scope_of scopes.old) around) (built builder.old)) }
     ensures scopes { OnOk result (scope_of scopes.new ≡ scope_of scopes.old) }
 {
@@ -59,7 +68,14 @@ fn right(parts: &Two) -> &Expr
 #[tactic(auto, using(lower_expr::proofs::Laws::made_then))]
 fn two<
     'a,
-    F: Fn(&'a Tables<'a>, u32, &mut Builder, &mut Scopes<'a>, Around, &'a Expr) -> Result<(), Memory>,
+    F: Fn(
+        &'a Tables<'a>,
+        u32,
+        &mut Builder,
+        &mut Scopes<'a>,
+        Around,
+        &'a Expr,
+    ) -> Result<(), Memory>,
 >(
     lowering: &Lowering<'a, F>,
     builder: &mut Builder,
@@ -68,9 +84,12 @@ fn two<
     parts: &'a Two,
     ending: Ending,
 ) -> Result<(), Memory>
-    requires nests { Lowers lowering.now.depth (F.pre lowering.now.nested) (F.post lowering.now.nested) }
-    ensures code { OnOk result (built builder.new ≡ made (two_ended lowering.now.tables.now.program.now
-        (two_of parts.now).0 (two_of parts.now).1 ending (scope_of scopes.old) around) (built builder.old)) }
+    requires nests { Lowers lowering.now.depth (F.pre lowering.now.nested)
+        (F.post lowering.now.nested) }
+    ensures code { OnOk result (built builder.new ≡ made (two_ended
+        lowering.now.tables.now.program.now
+        (two_of parts.now).0 (two_of parts.now).1 ending (scope_of scopes.old) around) (built
+        builder.old)) }
     ensures scopes { OnOk result (scope_of scopes.new ≡ scope_of scopes.old) }
 {
     lowering.part(builder, scopes, around, left(parts))?;
@@ -83,7 +102,14 @@ fn two<
 /// `-E`
 pub fn minus<
     'a,
-    F: Fn(&'a Tables<'a>, u32, &mut Builder, &mut Scopes<'a>, Around, &'a Expr) -> Result<(), Memory>,
+    F: Fn(
+        &'a Tables<'a>,
+        u32,
+        &mut Builder,
+        &mut Scopes<'a>,
+        Around,
+        &'a Expr,
+    ) -> Result<(), Memory>,
 >(
     lowering: &Lowering<'a, F>,
     builder: &mut Builder,
@@ -92,18 +118,35 @@ pub fn minus<
     place: Place,
     part: &'a Expr,
 ) -> Result<(), Memory>
-    requires nests { Lowers lowering.now.depth (F.pre lowering.now.nested) (F.post lowering.now.nested) }
-    ensures code { OnOk result (built builder.new ≡ made (form_code lowering.now.tables.now.program.now
-        (t.Shape.minus (tree_of part.now)) 0 place (scope_of scopes.old) around) (built builder.old)) }
+    requires nests { Lowers lowering.now.depth (F.pre lowering.now.nested)
+        (F.post lowering.now.nested) }
+    ensures code { OnOk result (built builder.new ≡ made (form_code
+        lowering.now.tables.now.program.now
+        (t.Shape.minus (tree_of part.now)) 0 place (scope_of scopes.old) around) (built
+        builder.old)) }
     ensures scopes { OnOk result (scope_of scopes.new ≡ scope_of scopes.old) }
 {
-    one(lowering, builder, scopes, around, part, Ending::Placed(place, Op::Neg(0)))
+    one(
+        lowering,
+        builder,
+        scopes,
+        around,
+        part,
+        Ending::Placed(place, Op::Neg(0)),
+    )
 }
 
 /// `E?`
 pub fn query<
     'a,
-    F: Fn(&'a Tables<'a>, u32, &mut Builder, &mut Scopes<'a>, Around, &'a Expr) -> Result<(), Memory>,
+    F: Fn(
+        &'a Tables<'a>,
+        u32,
+        &mut Builder,
+        &mut Scopes<'a>,
+        Around,
+        &'a Expr,
+    ) -> Result<(), Memory>,
 >(
     lowering: &Lowering<'a, F>,
     builder: &mut Builder,
@@ -112,18 +155,35 @@ pub fn query<
     place: Place,
     part: &'a Expr,
 ) -> Result<(), Memory>
-    requires nests { Lowers lowering.now.depth (F.pre lowering.now.nested) (F.post lowering.now.nested) }
-    ensures code { OnOk result (built builder.new ≡ made (form_code lowering.now.tables.now.program.now
-        (t.Shape.query (tree_of part.now)) 0 place (scope_of scopes.old) around) (built builder.old)) }
+    requires nests { Lowers lowering.now.depth (F.pre lowering.now.nested)
+        (F.post lowering.now.nested) }
+    ensures code { OnOk result (built builder.new ≡ made (form_code
+        lowering.now.tables.now.program.now
+        (t.Shape.query (tree_of part.now)) 0 place (scope_of scopes.old) around) (built
+        builder.old)) }
     ensures scopes { OnOk result (scope_of scopes.new ≡ scope_of scopes.old) }
 {
-    one(lowering, builder, scopes, around, part, Ending::One(Op::Query))
+    one(
+        lowering,
+        builder,
+        scopes,
+        around,
+        part,
+        Ending::One(Op::Query),
+    )
 }
 
 /// `E + F`, `E - F`, `E * F`; by `/` there is no code but in `Floor` and `Ceil`.
 pub fn arithmetic<
     'a,
-    F: Fn(&'a Tables<'a>, u32, &mut Builder, &mut Scopes<'a>, Around, &'a Expr) -> Result<(), Memory>,
+    F: Fn(
+        &'a Tables<'a>,
+        u32,
+        &mut Builder,
+        &mut Scopes<'a>,
+        Around,
+        &'a Expr,
+    ) -> Result<(), Memory>,
 >(
     lowering: &Lowering<'a, F>,
     builder: &mut Builder,
@@ -134,8 +194,10 @@ pub fn arithmetic<
     operator: Operator,
     parts: &'a Two,
 ) -> Result<(), Memory>
-    requires nests { Lowers lowering.now.depth (F.pre lowering.now.nested) (F.post lowering.now.nested) }
-    ensures code { OnOk result (built builder.new ≡ made (arithmetic_code lowering.now.tables.now.program.now
+    requires nests { Lowers lowering.now.depth (F.pre lowering.now.nested)
+        (F.post lowering.now.nested) }
+    ensures code { OnOk result (built builder.new ≡ made (arithmetic_code
+        lowering.now.tables.now.program.now
         operator (two_of parts.now) node place (scope_of scopes.old) around) (built builder.old)) }
     ensures scopes { OnOk result (scope_of scopes.new ≡ scope_of scopes.old) }
 {
@@ -146,7 +208,14 @@ pub fn arithmetic<
 /// `E = F`, `E <> F`, `E < F`, `E <= F`, `E > F`, `E >= F`
 pub fn compare<
     'a,
-    F: Fn(&'a Tables<'a>, u32, &mut Builder, &mut Scopes<'a>, Around, &'a Expr) -> Result<(), Memory>,
+    F: Fn(
+        &'a Tables<'a>,
+        u32,
+        &mut Builder,
+        &mut Scopes<'a>,
+        Around,
+        &'a Expr,
+    ) -> Result<(), Memory>,
 >(
     lowering: &Lowering<'a, F>,
     builder: &mut Builder,
@@ -156,10 +225,20 @@ pub fn compare<
     operator: Comparison,
     parts: &'a Two,
 ) -> Result<(), Memory>
-    requires nests { Lowers lowering.now.depth (F.pre lowering.now.nested) (F.post lowering.now.nested) }
-    ensures code { OnOk result (built builder.new ≡ made (form_code lowering.now.tables.now.program.now
-        (t.Shape.compared operator (two_of parts.now).0 (two_of parts.now).1) 0 place (scope_of scopes.old) around) (built builder.old)) }
+    requires nests { Lowers lowering.now.depth (F.pre lowering.now.nested)
+        (F.post lowering.now.nested) }
+    ensures code { OnOk result (built builder.new ≡ made (form_code
+        lowering.now.tables.now.program.now
+        (t.Shape.compared operator (two_of parts.now).0 (two_of parts.now).1) 0 place (scope_of
+        scopes.old) around) (built builder.old)) }
     ensures scopes { OnOk result (scope_of scopes.new ≡ scope_of scopes.old) }
 {
-    two(lowering, builder, scopes, around, parts, Ending::One(comparing(operator)))
+    two(
+        lowering,
+        builder,
+        scopes,
+        around,
+        parts,
+        Ending::One(comparing(operator)),
+    )
 }

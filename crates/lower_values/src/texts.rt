@@ -13,10 +13,10 @@ ghost use Rattle.lower_lookup.specs.Types.{differ_of};
 ghost use Rattle.lower_values.specs.Parts.{hole_code};
 
 use lower_code::arounds::Around;
+use lower_declared::numbers::further;
 use lower_expr::builder::Builder;
 use lower_expr::scopes::Scopes;
 use lower_items::tables::Tables;
-use lower_declared::numbers::further;
 use lower_parts::lowering::Lowering;
 use verse_base::places::Place;
 use verse_base::refusals::Memory;
@@ -67,7 +67,14 @@ fn behind(hole: &Hole) -> &[u8]
 #[tactic(auto, using(lower_expr::proofs::Laws::made_then))]
 fn hole<
     'a,
-    F: Fn(&'a Tables<'a>, u32, &mut Builder, &mut Scopes<'a>, Around, &'a Expr) -> Result<(), Memory>,
+    F: Fn(
+        &'a Tables<'a>,
+        u32,
+        &mut Builder,
+        &mut Scopes<'a>,
+        Around,
+        &'a Expr,
+    ) -> Result<(), Memory>,
 >(
     lowering: &Lowering<'a, F>,
     builder: &mut Builder,
@@ -75,8 +82,11 @@ fn hole<
     around: Around,
     hole: &'a Hole,
 ) -> Result<(), Memory>
-    requires nests { Lowers lowering.now.depth (F.pre lowering.now.nested) (F.post lowering.now.nested) }
-    ensures code { OnOk result (built builder.new ≡ made (hole_code lowering.now.tables.now.program.now (hole_of hole.now) (scope_of scopes.old) around) (built builder.old)) }
+    requires nests { Lowers lowering.now.depth (F.pre lowering.now.nested)
+        (F.post lowering.now.nested) }
+    ensures code { OnOk result (built builder.new ≡ made (hole_code
+        lowering.now.tables.now.program.now (hole_of hole.now) (scope_of scopes.old) around)
+        (built builder.old)) }
     ensures scopes { OnOk result (scope_of scopes.new ≡ scope_of scopes.old) }
 {
     lowering.part(builder, scopes, around, value(hole))?;
@@ -87,7 +97,14 @@ fn hole<
 /// The holes, with the pieces of text behind them; how many values these are.
 fn all<
     'a,
-    F: Fn(&'a Tables<'a>, u32, &mut Builder, &mut Scopes<'a>, Around, &'a Expr) -> Result<(), Memory>,
+    F: Fn(
+        &'a Tables<'a>,
+        u32,
+        &mut Builder,
+        &mut Scopes<'a>,
+        Around,
+        &'a Expr,
+    ) -> Result<(), Memory>,
 >(
     lowering: &Lowering<'a, F>,
     builder: &mut Builder,
@@ -95,8 +112,11 @@ fn all<
     around: Around,
     parts: &'a [Hole],
 ) -> Result<u32, Memory>
-    requires nests { Lowers lowering.now.depth (F.pre lowering.now.nested) (F.post lowering.now.nested) }
-    ensures code { OnOk result (built builder.new ≡ made (l.holed (program_of lowering.now.tables.now.program.now) (differ_of lowering.now.tables.now.program.now) (holes (map hole_of parts.now)) (scope_of scopes.old) around) (built builder.old)) }
+    requires nests { Lowers lowering.now.depth (F.pre lowering.now.nested)
+        (F.post lowering.now.nested) }
+    ensures code { OnOk result (built builder.new ≡ made (l.holed (program_of
+        lowering.now.tables.now.program.now) (differ_of lowering.now.tables.now.program.now)
+        (holes (map hole_of parts.now)) (scope_of scopes.old) around) (built builder.old)) }
     ensures count { IfOk result (λ n. n ≡ l.joined_parts (holes (map hole_of parts.now))) }
     ensures scopes { OnOk result (scope_of scopes.new ≡ scope_of scopes.old) }
 {
@@ -115,7 +135,14 @@ fn all<
 #[tactic(auto, using(lower_expr::proofs::Laws::made_then))]
 pub fn text<
     'a,
-    F: Fn(&'a Tables<'a>, u32, &mut Builder, &mut Scopes<'a>, Around, &'a Expr) -> Result<(), Memory>,
+    F: Fn(
+        &'a Tables<'a>,
+        u32,
+        &mut Builder,
+        &mut Scopes<'a>,
+        Around,
+        &'a Expr,
+    ) -> Result<(), Memory>,
 >(
     lowering: &Lowering<'a, F>,
     builder: &mut Builder,
@@ -125,8 +152,11 @@ pub fn text<
     first: &'a [u8],
     parts: &'a [Hole],
 ) -> Result<(), Memory>
-    requires nests { Lowers lowering.now.depth (F.pre lowering.now.nested) (F.post lowering.now.nested) }
-    ensures code { OnOk result (built builder.new ≡ made (form_code lowering.now.tables.now.program.now (t.Shape.holes first.now (holes (map hole_of parts.now))) 0 place (scope_of scopes.old) around) (built builder.old)) }
+    requires nests { Lowers lowering.now.depth (F.pre lowering.now.nested)
+        (F.post lowering.now.nested) }
+    ensures code { OnOk result (built builder.new ≡ made (form_code
+        lowering.now.tables.now.program.now (t.Shape.holes first.now (holes (map hole_of
+        parts.now))) 0 place (scope_of scopes.old) around) (built builder.old)) }
     ensures scopes { OnOk result (scope_of scopes.new ≡ scope_of scopes.old) }
 {
     let begins = is_text(first);

@@ -1,5 +1,6 @@
 -- Functions of the code, one behind the other.
-use Rattle.std.proofs.Common.{◌≡◌, ℕ, ◌+◌, ◌<◌, ◌≤◌, List, [], ◌∷◌, ◌++◌, length, map, drop, get_or, refl, sym, ap, ◌∙◌}
+use Rattle.std.proofs.Common.{◌≡◌, ℕ, ◌+◌, ◌<◌, ◌≤◌, List, [], ◌∷◌, ◌++◌, length, map, drop, get_or, refl}
+use Rattle.std.proofs.Common.{sym, ap, ◌∙◌}
 use Rattle.std.proofs.Common.{drop_of_length-le, append_assoc}
 use Rattle.std.proofs.lemmas.List.{drop_more}
 use Rattle.verse_tree.specs.declared.programs.Program.{Program}
@@ -25,7 +26,8 @@ spot_behind f b = spot_past (with_locals 0 b) (f (spot b))
 abbrev pub left_bodies : List Body → ℕ → List l.Body
 left_bodies xs i = map body_view (drop i xs)
 
-left_next : (xs : List Body) (i : ℕ) (x : Body) → i < length xs → x ≡ get_or xs i x → left_bodies xs i ≡ body_view x ∷ left_bodies xs (i + 1)
+left_next : (xs : List Body) (i : ℕ) (x : Body) → i < length xs → x ≡ get_or xs i x → left_bodies xs i ≡
+    body_view x ∷ left_bodies xs (i + 1)
 left_next xs i x h e = ap (map body_view) (drop_more xs i x h) ∙ ap (λ k. body_view k ∷ left_bodies xs (i + 1)) (sym e)
 
 left_none : (xs : List Body) (i : ℕ) → length xs ≤ i → left_bodies xs i ≡ []
@@ -33,23 +35,27 @@ left_none xs i h = ap (map body_view) (drop_of_length-le xs h)
 
 module _ (p : Program) (xs : List Body) (i : ℕ) where
   -- behind one body more, and where none is left
-  pub code_next : (x : Body) (b behind all : Built) → i < length xs → x ≡ get_or xs i x → behind ≡ with_body p (body_view x) b →
+  pub code_next : (x : Body) (b behind all : Built) → i < length xs → x ≡ get_or xs i x → behind ≡
+      with_body p (body_view x) b →
       with_bodies p (left_bodies xs i) b ≡ all → with_bodies p (left_bodies xs (i + 1)) behind ≡ all
   code_next x b behind all h e g is =
       let f : Maker = body_code p (body_view x) in
       let rest : Maker = bodies_code p (left_bodies xs (i + 1)) in
-      ap (with_bodies p (left_bodies xs (i + 1))) g ∙ moved f rest b ∙ sym (ap (λ bs. with_bodies p bs b) (left_next xs i x h e)) ∙ is
+      ap (with_bodies p (left_bodies xs (i + 1))) g ∙ moved f rest b ∙ sym (ap (λ bs. with_bodies p bs b) (left_next xs i x h e))
+      ∙ is
     where
-      moved : (f rest : Maker) (b : Built) → with_locals 0 (made rest (made f (with_locals 0 b))) ≡ with_locals 0 (made (f then rest) b)
+      moved : (f rest : Maker) (b : Built) → with_locals 0 (made rest (made f (with_locals 0 b))) ≡
+          with_locals 0 (made (f then rest) b)
       moved f rest b =
           sym (ap (with_locals 0) (made_then f rest (with_locals 0 b))) ∙ uncounted (f then rest) b
 
   pub functions_next : (x : Body) (fs all : List Func) (f : Func) (b behind : Built) → i < length xs → x ≡ get_or xs i x →
-      behind ≡ with_body p (body_view x) b → f ≡ function_of p (spot b) (body_view x) → fs ++ functions_from p (left_bodies xs i) (spot b) ≡ all →
+      behind ≡ with_body p (body_view x) b → f ≡ function_of p (spot b) (body_view x) →
+      fs ++ functions_from p (left_bodies xs i) (spot b) ≡ all →
       (fs ++ f ∷ []) ++ functions_from p (left_bodies xs (i + 1)) (spot behind) ≡ all
   functions_next x fs all f b behind h e g k is =
       append_assoc fs (f ∷ []) (functions_from p (left_bodies xs (i + 1)) (spot behind))
       ∙ ap (λ y. fs ++ y ∷ functions_from p (left_bodies xs (i + 1)) (spot behind)) k
       ∙ ap (λ s. fs ++ function_of p (spot b) (body_view x) ∷ functions_from p (left_bodies xs (i + 1)) s)
-        (ap spot g ∙ spot_behind (body_code p (body_view x)) b)
+      (ap spot g ∙ spot_behind (body_code p (body_view x)) b)
       ∙ sym (ap (λ bs. fs ++ functions_from p bs (spot b)) (left_next xs i x h e)) ∙ is

@@ -49,7 +49,14 @@ fn value(typed: &TypedValue) -> &Expr
 /// `E or F`, `E and F`, `E + F`, `E - F`, `E * F`; `E / F` by itself is wrong.
 fn chain<
     'a,
-    F: Fn(&'a Tables<'a>, u32, &mut Builder, &mut Scopes<'a>, Around, &'a Expr) -> Result<(), Memory>,
+    F: Fn(
+        &'a Tables<'a>,
+        u32,
+        &mut Builder,
+        &mut Scopes<'a>,
+        Around,
+        &'a Expr,
+    ) -> Result<(), Memory>,
 >(
     lowering: &Lowering<'a, F>,
     builder: &mut Builder,
@@ -60,17 +67,47 @@ fn chain<
     operator: Operator,
     two: &'a Two,
 ) -> Result<(), Memory>
-    requires nests { Lowers lowering.now.depth (F.pre lowering.now.nested) (F.post lowering.now.nested) }
-    ensures code { OnOk result (built builder.new ≡ made (form_code lowering.now.tables.now.program.now (t.Shape.chained operator (two_of two.now).0 (two_of two.now).1)
+    requires nests { Lowers lowering.now.depth (F.pre lowering.now.nested)
+        (F.post lowering.now.nested) }
+    ensures code { OnOk result (built builder.new ≡ made (form_code
+        lowering.now.tables.now.program.now (t.Shape.chained operator (two_of two.now).0 (two_of
+        two.now).1)
         node place (scope_of scopes.old) around) (built builder.old)) }
     ensures scopes { OnOk result (scope_of scopes.new ≡ scope_of scopes.old) }
 {
     match operator {
         Operator::Or => or(lowering, builder, scopes, around, two),
         Operator::And => and(lowering, builder, scopes, around, two),
-        Operator::Add => arithmetic(lowering, builder, scopes, around, node, place, Operator::Add, two),
-        Operator::Sub => arithmetic(lowering, builder, scopes, around, node, place, Operator::Sub, two),
-        Operator::Mul => arithmetic(lowering, builder, scopes, around, node, place, Operator::Mul, two),
+        Operator::Add => arithmetic(
+            lowering,
+            builder,
+            scopes,
+            around,
+            node,
+            place,
+            Operator::Add,
+            two,
+        ),
+        Operator::Sub => arithmetic(
+            lowering,
+            builder,
+            scopes,
+            around,
+            node,
+            place,
+            Operator::Sub,
+            two,
+        ),
+        Operator::Mul => arithmetic(
+            lowering,
+            builder,
+            scopes,
+            around,
+            node,
+            place,
+            Operator::Mul,
+            two,
+        ),
         Operator::Div => builder.stuck(),
     }
 }
@@ -78,7 +115,14 @@ fn chain<
 /// `return` with or without a value.
 fn leave<
     'a,
-    F: Fn(&'a Tables<'a>, u32, &mut Builder, &mut Scopes<'a>, Around, &'a Expr) -> Result<(), Memory>,
+    F: Fn(
+        &'a Tables<'a>,
+        u32,
+        &mut Builder,
+        &mut Scopes<'a>,
+        Around,
+        &'a Expr,
+    ) -> Result<(), Memory>,
 >(
     lowering: &Lowering<'a, F>,
     builder: &mut Builder,
@@ -86,8 +130,10 @@ fn leave<
     around: Around,
     value: &'a Option<Boxed<Expr>>,
 ) -> Result<(), Memory>
-    requires nests { Lowers lowering.now.depth (F.pre lowering.now.nested) (F.post lowering.now.nested) }
-    ensures code { OnOk result (built builder.new ≡ made (form_code lowering.now.tables.now.program.now (return_shape (option_map tree_of value.now))
+    requires nests { Lowers lowering.now.depth (F.pre lowering.now.nested)
+        (F.post lowering.now.nested) }
+    ensures code { OnOk result (built builder.new ≡ made (form_code
+        lowering.now.tables.now.program.now (return_shape (option_map tree_of value.now))
         0 no_place (scope_of scopes.old) around) (built builder.old)) }
     ensures scopes { OnOk result (scope_of scopes.new ≡ scope_of scopes.old) }
 {
@@ -99,7 +145,8 @@ fn leave<
 
 #[tactic(auto, using(lower_expr::proofs::Laws::made_then))]
 fn return_unit(builder: &mut Builder, around: Around) -> Result<(), Memory>
-    ensures { OnOk result (built builder.new ≡ made (one o.Unit then returning around) (built builder.old)) }
+    ensures { OnOk result (built builder.new ≡ made (one o.Unit then returning around) (built
+        builder.old)) }
 {
     builder.one(Op::Unit)?;
     builder.returning(around)?;
@@ -107,7 +154,8 @@ fn return_unit(builder: &mut Builder, around: Around) -> Result<(), Memory>
 }
 
 fn sleeping(builder: &mut Builder, duration: &Option<u64>) -> Result<(), Memory>
-    ensures { OnOk result (built builder.new ≡ made (one (sleep_op duration.now)) (built builder.old)) }
+    ensures { OnOk result (built builder.new ≡ made (one (sleep_op duration.now)) (built
+        builder.old)) }
 {
     builder.one(sleep(duration)?)
 }
@@ -115,7 +163,14 @@ fn sleeping(builder: &mut Builder, duration: &Option<u64>) -> Result<(), Memory>
 /// The code of a form, whose parts are lowered by what is nested.
 fn form<
     'a,
-    F: Fn(&'a Tables<'a>, u32, &mut Builder, &mut Scopes<'a>, Around, &'a Expr) -> Result<(), Memory>,
+    F: Fn(
+        &'a Tables<'a>,
+        u32,
+        &mut Builder,
+        &mut Scopes<'a>,
+        Around,
+        &'a Expr,
+    ) -> Result<(), Memory>,
 >(
     lowering: &Lowering<'a, F>,
     builder: &mut Builder,
@@ -125,8 +180,10 @@ fn form<
     place: Place,
     form: &'a Form,
 ) -> Result<(), Memory>
-    requires nests { Lowers lowering.now.depth (F.pre lowering.now.nested) (F.post lowering.now.nested) }
-    ensures code { OnOk result (built builder.new ≡ made (form_code lowering.now.tables.now.program.now (shape_of form.now)
+    requires nests { Lowers lowering.now.depth (F.pre lowering.now.nested)
+        (F.post lowering.now.nested) }
+    ensures code { OnOk result (built builder.new ≡ made (form_code
+        lowering.now.tables.now.program.now (shape_of form.now)
         node place (scope_of scopes.old) around) (built builder.old)) }
     ensures scopes { OnOk result (scope_of scopes.new ≡ scope_of scopes.old) }
 {
@@ -140,36 +197,91 @@ fn form<
         Form::Return(value) => leave(lowering, builder, scopes, around, value),
         Form::Break => builder.breaking(around),
         Form::If(parts) => if_form(lowering, builder, scopes, around, parts),
-        Form::Chain(operator, two) => chain(lowering, builder, scopes, around, node, place, *operator, two),
-        Form::Compare(operator, two) => compare(lowering, builder, scopes, around, place, *operator, two),
+        Form::Chain(operator, two) => chain(
+            lowering, builder, scopes, around, node, place, *operator, two,
+        ),
+        Form::Compare(operator, two) => compare(
+            lowering, builder, scopes, around, place, *operator, two,
+        ),
         Form::Not(part) => negation(lowering, builder, scopes, around, part.get()),
         Form::Neg(part) => minus(lowering, builder, scopes, around, place, part.get()),
         Form::Call(parts) => call(lowering, builder, scopes, around, place, parts),
         Form::Index(parts) => index(lowering, builder, scopes, around, place, parts),
-        Form::Member(part, name) => member(lowering, builder, scopes, around, node, part.get(), name.as_slice()),
+        Form::Member(part, name) => member(
+            lowering,
+            builder,
+            scopes,
+            around,
+            node,
+            part.get(),
+            name.as_slice(),
+        ),
         Form::Query(part) => query(lowering, builder, scopes, around, place, part.get()),
         Form::Int(number) => builder.one(Op::Int(*number)),
         Form::Char(number) => builder.one(Op::Char(*number as u32)),
         Form::Text(text) => builder.texted(text.as_slice()),
-        Form::Holes(first, parts) => texts::text(lowering, builder, scopes, around, place, first.as_slice(), parts.as_slice()),
+        Form::Holes(first, parts) => texts::text(
+            lowering,
+            builder,
+            scopes,
+            around,
+            place,
+            first.as_slice(),
+            parts.as_slice(),
+        ),
         Form::True => builder.one(Op::True),
         Form::False => builder.one(Op::False),
         Form::This => this(builder, scopes),
-        Form::Name(name) => names::name(lowering.tables.program, builder, scopes, node, name.as_slice()),
+        Form::Name(name) => names::name(
+            lowering.tables.program,
+            builder,
+            scopes,
+            node,
+            name.as_slice(),
+        ),
         Form::Tuple(parts) => tuple(lowering, builder, scopes, around, place, parts.as_slice()),
         Form::Array(parts) => array(lowering, builder, scopes, around, place, parts.as_slice()),
         Form::Map(parts) => map(lowering, builder, scopes, around, place, parts.as_slice()),
         Form::Option(parts) => option(lowering, builder, scopes, around, place, parts.as_slice()),
         Form::Logic(parts) => logic(lowering, builder, scopes, around, parts.as_slice()),
-        Form::Instance(_, parts) => instance(lowering, builder, scopes, around, node, place, parts.as_slice()),
+        Form::Instance(_, parts) => instance(
+            lowering,
+            builder,
+            scopes,
+            around,
+            node,
+            place,
+            parts.as_slice(),
+        ),
         Form::Event(_) => builder.placed(place, Op::Event(0)),
         Form::For(parts) => for_form(lowering, builder, scopes, around, place, parts),
         Form::Loop(part) => loop_form(lowering, builder, scopes, around, part.get()),
         Form::BlockForm(part) => lowering.part(builder, scopes, around, part.get()),
         Form::Branch(part) => branch(lowering, builder, scopes, around, part.get()),
-        Form::Sync(parts) => group(lowering, builder, scopes, Kind::Sync, place, parts.as_slice()),
-        Form::Race(parts) => group(lowering, builder, scopes, Kind::Race, place, parts.as_slice()),
-        Form::Rush(parts) => group(lowering, builder, scopes, Kind::Rush, place, parts.as_slice()),
+        Form::Sync(parts) => group(
+            lowering,
+            builder,
+            scopes,
+            Kind::Sync,
+            place,
+            parts.as_slice(),
+        ),
+        Form::Race(parts) => group(
+            lowering,
+            builder,
+            scopes,
+            Kind::Race,
+            place,
+            parts.as_slice(),
+        ),
+        Form::Rush(parts) => group(
+            lowering,
+            builder,
+            scopes,
+            Kind::Rush,
+            place,
+            parts.as_slice(),
+        ),
         Form::Case(cases) => case(lowering, builder, scopes, around, cases),
         Form::Spawn(part) => spawn(lowering, builder, scopes, around, part.get()),
         Form::Sleep(duration) => sleeping(builder, duration),
@@ -191,7 +303,14 @@ fn form<
 /// The code of an expression, whose parts are lowered by what is nested.
 pub(crate) fn expression<
     'a,
-    F: Fn(&'a Tables<'a>, u32, &mut Builder, &mut Scopes<'a>, Around, &'a Expr) -> Result<(), Memory>,
+    F: Fn(
+        &'a Tables<'a>,
+        u32,
+        &mut Builder,
+        &mut Scopes<'a>,
+        Around,
+        &'a Expr,
+    ) -> Result<(), Memory>,
 >(
     lowering: &Lowering<'a, F>,
     builder: &mut Builder,
@@ -199,9 +318,14 @@ pub(crate) fn expression<
     around: Around,
     expr: &'a Expr,
 ) -> Result<(), Memory>
-    requires nests { Lowers lowering.now.depth (F.pre lowering.now.nested) (F.post lowering.now.nested) }
-    ensures code { OnOk result (built builder.new ≡ made (tree_code lowering.now.tables.now.program.now (tree_of expr.now) (scope_of scopes.old) around) (built builder.old)) }
+    requires nests { Lowers lowering.now.depth (F.pre lowering.now.nested)
+        (F.post lowering.now.nested) }
+    ensures code { OnOk result (built builder.new ≡ made (tree_code
+        lowering.now.tables.now.program.now (tree_of expr.now) (scope_of scopes.old) around)
+        (built builder.old)) }
     ensures scopes { OnOk result (scope_of scopes.new ≡ scope_of scopes.old) }
 {
-    form(lowering, builder, scopes, around, expr.node, expr.place, &expr.form)
+    form(
+        lowering, builder, scopes, around, expr.node, expr.place, &expr.form,
+    )
 }

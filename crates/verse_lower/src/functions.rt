@@ -76,7 +76,14 @@ fn add_body<'a>(
         with_body tables.now.program.now (body_view body.entry) (built builder.old)) }
 {
     builder.count_locals(0);
-    lower_tree(tables, MOST_DEPTH, builder, scopes, Around::fresh(), body.body)?;
+    lower_tree(
+        tables,
+        MOST_DEPTH,
+        builder,
+        scopes,
+        Around::fresh(),
+        body.body,
+    )?;
     builder.one(Op::Return)?;
     Ok(())
 }

@@ -88,7 +88,8 @@ pub fn lower(alloc: Global, program: &Program) -> Result<Code, LowerFault>
     ensures code { IfOk result (λ c. c ≡
         code_of (program_of program.now) (differ_of program.now) program.now.tree.files) }
     // It does what the program means, for all inputs, bounds of steps and horizons.
-    ensures means { IfOk result (λ c. CanBeFollowed (program_of program.now) program.now.tree.files →
+    ensures means { IfOk result (λ c. CanBeFollowed (program_of program.now)
+        program.now.tree.files →
         (ns : List ℤ) (steps until : ℕ) →
         mach c ns steps until ≡ mean (program_of program.now) ns steps until) }
     ensures valid { IfOk result (λ c.

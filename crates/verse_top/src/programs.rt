@@ -14,11 +14,11 @@ ghost use Rattle.verse_top.specs.Meaning.{Does, MeansSoFar, code_from};
 ghost use Rattle.verse_top.specs.Programs.{IsAccepted, IsForProgram};
 
 use crate::answers::{Answer, checked};
-use verse_accept_laws::accepted_can_be_followed;
 use crate::writing::write_answer;
 use lower_bounds::code_is_valid;
 use lower_simulation_runs::{code_means_the_same, turns_are_the_same};
 use std::alloc::Global;
+use verse_accept_laws::accepted_can_be_followed;
 use verse_base::refusals::Memory;
 use verse_code::codes::Code;
 use verse_image::encoding::encode;

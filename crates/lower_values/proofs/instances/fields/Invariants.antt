@@ -13,4 +13,4 @@ invariant-fields l =
     let p = l.tables.program.now in
     let gs = givens (map given_of l.parts) in
     made (field_ops (program_of p) (differ_of p) (left_fields l.item-items l.item-index) gs l.first) (built l.builder)
-      ≡ made (field_ops (program_of p) (differ_of p) (fields_of (program_of p) l.class) gs l.first) (built l.fn.builder)
+    ≡ made (field_ops (program_of p) (differ_of p) (fields_of (program_of p) l.class) gs l.first) (built l.fn.builder)

@@ -3,7 +3,11 @@ use Rattle.std.specs.Option.{option_map}
 use Rattle.verse_tree.specs.View.{tree_of, trees, if_of}
 use Rattle.lower_expr.specs.Locals.{scope_of}
 use Rattle.lower_parts.specs.Parts.{form_code}
-use Rattle.verse_lower.proofs.Shapes.{event_code, if_code, is_arm, is_array, is_block, is_blockform, is_branch, is_call, is_case, is_chain, is_compare, is_def, is_elements, is_entries, is_event, is_for, is_holes, is_if, is_index, is_instance, is_let, is_logic, is_loop, is_map, is_member, is_name, is_neg, is_not, is_option, is_query, is_race, is_range, is_return, is_rush, is_set, is_sleep, is_spawn, is_sync, is_tuple, is_vardef, return_code, sleep_code}
+use Rattle.verse_lower.proofs.Shapes.{event_code, if_code, is_arm, is_array, is_block, is_blockform, is_branch, is_call, is_case}
+use Rattle.verse_lower.proofs.Shapes.{is_chain, is_compare, is_def, is_elements, is_entries, is_event, is_for, is_holes, is_if, is_index}
+use Rattle.verse_lower.proofs.Shapes.{is_instance, is_let, is_logic, is_loop, is_map, is_member, is_name, is_neg, is_not, is_option}
+use Rattle.verse_lower.proofs.Shapes.{is_query, is_race, is_range, is_return, is_rush, is_set, is_sleep, is_spawn, is_sync, is_tuple}
+use Rattle.verse_lower.proofs.Shapes.{is_vardef, return_code, sleep_code}
 use Rattle.verse_lower.proofs.forms.form.Goals as goal
 
 pub returns-in-Block-clause-code : goal.returns-in-Block-clause-code
@@ -22,13 +26,16 @@ pub returns-in-Return-clause-code : goal.returns-in-Return-clause-code
 returns-in-Return-clause-code g c =
     let p = c.args.lowering.now.tables.now.program.now in
     let sc = scope_of c.args.scopes.now in
-    rw (ap (λ s. form_code p s c.args.node c.args.place sc c.args.around) (is_return _ _ c.in-Return.is) ∙ return_code p c.args.node c.args.place sc c.args.around (option_map tree_of c.in-Return.value)) c.leave.ensures.code
+    rw (ap (λ s. form_code p s c.args.node c.args.place sc c.args.around) (is_return _ _ c.in-Return.is)
+    ∙ return_code p c.args.node c.args.place sc c.args.around (option_map tree_of c.in-Return.value)) c.leave.ensures.code
 
 pub returns-in-If-clause-code : goal.returns-in-If-clause-code
 returns-in-If-clause-code g c =
     let p = c.args.lowering.now.tables.now.program.now in
     let sc = scope_of c.args.scopes.now in
-    rw (ap (λ s. form_code p s c.args.node c.args.place sc c.args.around) (is_if _ _ c.in-If.is) ∙ if_code p c.args.node c.args.place sc c.args.around (trees (if_of c.in-If.parts).conditions) (if_of c.in-If.parts).taken (if_of c.in-If.parts).otherwise) c.if_form.ensures.code
+    rw (ap (λ s. form_code p s c.args.node c.args.place sc c.args.around) (is_if _ _ c.in-If.is)
+    ∙ if_code p c.args.node c.args.place sc c.args.around (trees (if_of c.in-If.parts).conditions) (if_of c.in-If.parts).taken
+    (if_of c.in-If.parts).otherwise) c.if_form.ensures.code
 
 pub returns-in-Chain-clause-code : goal.returns-in-Chain-clause-code
 returns-in-Chain-clause-code g c = rw (is_chain _ _ _ c.in-Chain.is) c.chain.ensures.code
@@ -49,13 +56,15 @@ pub returns-in-Index-clause-code : goal.returns-in-Index-clause-code
 returns-in-Index-clause-code g c = rw (is_index _ _ c.in-Index.is) c.index.ensures.code
 
 pub returns-in-Member-clause-code : goal.returns-in-Member-clause-code
-returns-in-Member-clause-code g c = rw (is_member _ _ _ _ _ c.in-Member.is c.get-in-Member.ensures c.as_slice-in-Member.ensures) c.member.ensures.code
+returns-in-Member-clause-code g c = rw (is_member _ _ _ _ _ c.in-Member.is c.get-in-Member.ensures c.as_slice-in-Member.ensures)
+    c.member.ensures.code
 
 pub returns-in-Query-clause-code : goal.returns-in-Query-clause-code
 returns-in-Query-clause-code g c = rw (is_query _ _ _ c.in-Query.is c.get-in-Query.ensures) c.query.ensures.code
 
 pub returns-in-Holes-clause-code : goal.returns-in-Holes-clause-code
-returns-in-Holes-clause-code g c = rw (is_holes _ _ _ _ _ c.in-Holes.is c.as_slice-in-Holes-2.ensures c.as_slice-in-Holes.ensures) c.text.ensures.code
+returns-in-Holes-clause-code g c = rw (is_holes _ _ _ _ _ c.in-Holes.is c.as_slice-in-Holes-2.ensures c.as_slice-in-Holes.ensures)
+    c.text.ensures.code
 
 pub returns-in-Name-clause-code : goal.returns-in-Name-clause-code
 returns-in-Name-clause-code g c = rw (is_name _ _ _ c.in-Name.is c.as_slice-in-Name.ensures) c.name.ensures
@@ -112,13 +121,15 @@ pub returns-in-Event-clause-code : goal.returns-in-Event-clause-code
 returns-in-Event-clause-code g c =
     let p = c.args.lowering.now.tables.now.program.now in
     let sc = scope_of c.args.scopes.now in
-    rw (ap (λ s. form_code p s c.args.node c.args.place sc c.args.around) (is_event _ _ c.in-Event.is) ∙ event_code p c.args.node c.args.place sc c.args.around c.in-Event.field-0) c.placed.ensures
+    rw (ap (λ s. form_code p s c.args.node c.args.place sc c.args.around) (is_event _ _ c.in-Event.is)
+    ∙ event_code p c.args.node c.args.place sc c.args.around c.in-Event.field-0) c.placed.ensures
 
 pub returns-in-Sleep-clause-code : goal.returns-in-Sleep-clause-code
 returns-in-Sleep-clause-code g c =
     let p = c.args.lowering.now.tables.now.program.now in
     let sc = scope_of c.args.scopes.now in
-    rw (ap (λ s. form_code p s c.args.node c.args.place sc c.args.around) (is_sleep _ _ c.in-Sleep.is) ∙ sleep_code p c.args.node c.args.place sc c.args.around c.in-Sleep.duration) c.sleeping.ensures
+    rw (ap (λ s. form_code p s c.args.node c.args.place sc c.args.around) (is_sleep _ _ c.in-Sleep.is)
+    ∙ sleep_code p c.args.node c.args.place sc c.args.around c.in-Sleep.duration) c.sleeping.ensures
 
 pub returns-in-Set-clause-code : goal.returns-in-Set-clause-code
 returns-in-Set-clause-code g c = rw (is_set _ _ _ c.in-Set.is) c.set.ensures.code

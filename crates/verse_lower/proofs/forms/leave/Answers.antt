@@ -6,4 +6,5 @@ use Rattle.verse_lower.proofs.forms.leave.Goals as goal
 
 pub returns-in-Some-clause-code : goal.returns-in-Some-clause-code
 returns-in-Some-clause-code g c =
-    rw (ap (λ k. return_shape (option_map tree_of k)) c.in-Some.is ∙ ap (λ k. t.Shape.returned (tree_of k)) (sym c.get.ensures)) c.returned.ensures.code
+    rw (ap (λ k. return_shape (option_map tree_of k)) c.in-Some.is
+    ∙ ap (λ k. t.Shape.returned (tree_of k)) (sym c.get.ensures)) c.returned.ensures.code

@@ -7,4 +7,5 @@ use Rattle.verse_lower.proofs.functions.add_params.Given as goal
 -- what is left, from here on, ends as all does from the start
 abbrev pub invariant-params : goal.invariant-params
 invariant-params l =
-    params_scope (map param_of (drop l.param-index l.params)) (scope_of l.scopes) ≡ params_scope (map param_of l.params) (scope_of l.fn.scopes)
+    params_scope (map param_of (drop l.param-index l.params)) (scope_of l.scopes) ≡
+    params_scope (map param_of l.params) (scope_of l.fn.scopes)

@@ -24,4 +24,4 @@ returns-clause-within c h =
     let made = c.args.program.now in
     let code = code_of (program_of made) (differ_of made) made.tree.files in
     subst (IsWithin (size_of made)) (sym c.in_ok-code_of.ensures) (subst (λ n. IsWithin n code) (c.size_stands.ensures made)
-      (c.code_is_small.ensures (program_of made) (differ_of made) made.tree.files h))
+    (c.code_is_small.ensures (program_of made) (differ_of made) made.tree.files h))
