@@ -13,7 +13,7 @@ use Rattle.verse_accept_nodes.specs.Laws.{AcceptedFit, AcceptedStand}
 use Rattle.verse_accept_laws.specs.Laws.{AcceptedCanBeFollowed}
 
 -- the program with the count of its nodes that `join` gives it
-counted : Made → List ItemTree → Made
+abbrev counted : Made → List ItemTree → Made
 counted made js = record made { tree = record made.tree { nodes = program_nodes js } }
 
 sound : (made : Made) (files : List (List ℕ)) (a : Accepts files (map item_of made.tree.items)) →
