@@ -1,12 +1,22 @@
 -- What comes of the files of a program, by what is found of them.
-use Rattle.std.proofs.Common.{◌≡◌, ◌⊎◌, ℕ, List, Result, Ok, Err, IfOk, inl, inr, sym, subst}
+use Rattle.std.proofs.Common.{◌≡◌, ◌⊎◌, ℕ, suc, ◌≤◌, List, [], ◌∷◌, length, map, Result, Ok, Err, IfOk, inl, inr, refl, sym, ap, subst, ◌∙◌}
 use Rattle.verse_base.specs.declared.refusals.Memory.{Memory}
+use Rattle.verse_tree.specs.ItemView.{item_of}
+use Rattle.verse_tree.specs.Numbering.{program_nodes}
+use Rattle.verse_tree.specs.declared.items.Tree.{Tree}
+use Rattle.verse_tree.specs.declared.programs.Program.{Program as Made}
+use Rattle.verse_tree.specs.declared.tables.Names.{Names}
+use Rattle.verse_tree.specs.declared.tables.Typed.{Typed}
+use Rattle.verse_rules_types.specs.Types.{ty_of}
+use Rattle.verse_rules.specs.Sound.{completed, types_of}
+use Rattle.verse_accept.specs.Fronts.{Accepts}
 use Rattle.verse_outside.specs.Causes.{Rose}
 use Rattle.verse_outside.specs.Held.{Holding}
 use Rattle.verse_top_args.specs.Words.{Command, files_of}
 use Rattle.verse_top.specs.Answers.{Replies, read_line}
 use Rattle.verse_top.specs.Fronted.{Fronts, Judged}
 use Rattle.verse_top.specs.Loading.{AreLoaded, IsAbsent, IsAmong}
+use Rattle.verse_top.specs.Programs.{IsAccepted}
 use Rattle.verse_top.specs.declared.fronts.Fronted.{Fronted}
 use Rattle.verse_top.specs.declared.fronts.Fronted.TheVariants as f
 use Rattle.verse_top.proofs.AnswerLaws.{answers_refused}
@@ -36,3 +46,23 @@ replies_unread c held before now names name status text e among cause s t = inr 
     ),
   ),
 )
+
+-- a program whose parts are those that the front end answers
+pub accepted_is : (files : List (List ℕ)) (p : Made) (tree : Tree) (names : Names) (types : Typed) → 1 ≤ length files → length files ≤ 16 →
+    p.tree ≡ tree → p.names ≡ names → p.typed ≡ types → Accepts files (map item_of tree.items) → tree.files ≡ length files →
+    tree.nodes ≡ program_nodes (map item_of tree.items) → names ≡ completed (map item_of tree.items) →
+    map ty_of types.types ≡ types_of (map item_of tree.items) → IsAccepted files p
+accepted_is files p tree names types some few e1 e2 e3 accepts are counted named typed = record {
+  some = some;
+  few = few;
+  accepts = subst (λ (x : Tree). Accepts files (map item_of x.items)) (sym e1) accepts;
+  files_are = ap (λ (x : Tree). x.files) e1 ∙ are;
+  counted = ap (λ (x : Tree). x.nodes) e1 ∙ counted ∙ ap (λ (x : Tree). program_nodes (map item_of x.items)) (sym e1);
+  named = e2 ∙ named ∙ ap (λ (x : Tree). completed (map item_of x.items)) (sym e1);
+  typed = ap (λ (x : Typed). map ty_of x.types) e3 ∙ typed ∙ ap (λ (x : Tree). types_of (map item_of x.items)) (sym e1);
+}
+
+-- as many lists of bytes as files
+pub as_many_files : {A B : Type 0} (f : A → B) (xs : List A) → length (map f xs) ≡ length xs
+as_many_files f [] = refl
+as_many_files f (x ∷ xs) = ap suc (as_many_files f xs)
