@@ -194,7 +194,8 @@ module _ (same : TurnsAreTheSame) (p : Program) (differ : ℕ → ℕ → Bool) 
 
   -- ---- the whole run
 
-  run_tells : (k : ℕ) → Begins (lines (seen_after p differ files ns steps until k)) (lines (seen_after p differ files ns steps until (suc steps))) →
+  run_tells : (k : ℕ) → Begins (lines (seen_after p differ files ns steps until k))
+      (lines (seen_after p differ files ns steps until (suc steps))) →
       Begins (lines (seen_after p differ files ns steps until k)) (mach (code_of p differ files) ns steps until).trace
   run_tells k b = subst (Begins (lines (seen_after p differ files ns steps until k)))
       (sym (run_lines (mach_after (code_of p differ files) ns steps until (suc steps)))) b
@@ -208,7 +209,8 @@ module _ (same : TurnsAreTheSame) (p : Program) (differ : ℕ → ℕ → Bool) 
   late_lines : RunsEnd → StaysOver → CodeIsValid → (k : ℕ) → suc steps ≤ k →
       Begins (lines (seen_after p differ files ns steps until k)) (lines (seen_after p differ files ns steps until (suc steps)))
   late_lines ends stays valid k le =
-      subst (λ i. Begins (lines (seen_after p differ files ns steps until i)) (lines (seen_after p differ files ns steps until (suc steps))))
+      subst (λ i. Begins (lines (seen_after p differ files ns steps until i))
+      (lines (seen_after p differ files ns steps until (suc steps))))
       (reached (suc steps) k le)
       (subst (λ x. Begins (lines x) (lines (seen_after p differ files ns steps until (suc steps))))
       (sym (over_same ends stays valid (k - suc steps))) (begins_same (lines (seen_after p differ files ns steps until (suc steps)))))

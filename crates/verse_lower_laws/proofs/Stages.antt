@@ -91,7 +91,8 @@ module _ (p : Program) (until : ℕ) where
 
 -- ---- a turn that wakes a wait
 
-wakes_due : (n : ℕ) (s : State) (ws : List Wait) (y : Seen) → Wakes n (between s ws) y → (d : Due) × ((least s ws ≡ Some d) × (d.number ≡ n))
+wakes_due : (n : ℕ) (s : State) (ws : List Wait) (y : Seen) → Wakes n (between s ws) y →
+    (d : Due) × ((least s ws ≡ Some d) × (d.number ≡ n))
 wakes_due n s ws (between t us) h = h
 wakes_due n s ws (ended e t us) h = absurd h
 wakes_due n s ws (broke_off e t) h = absurd h
@@ -149,7 +150,8 @@ module _ (p : Program) (until n : ℕ) where
 
   -- what must still be live is, where the turn has not ended the run
   abbrev Others : State → Forest → Stage Forest → Type 0
-  Others s fs g = (i : ℕ) → has i (forest_standing n fs) ≡ true → Wakes n (between s (forest_leaves fs)) (told g) → is_live i (told g) ≡ true
+  Others s fs g = (i : ℕ) → has i (forest_standing n fs) ≡ true → Wakes n (between s (forest_leaves fs)) (told g) →
+      is_live i (told g) ≡ true
 
   others_live : (s : State) (fs : Forest) (i : ℕ) (g : Stage Forest) → StageHas i (count i (forest_standing n fs)) g →
       has i (forest_standing n fs) ≡ true → Wakes n (between s (forest_leaves fs)) (told g) → is_live i (told g) ≡ true

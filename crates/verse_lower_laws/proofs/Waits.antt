@@ -108,7 +108,8 @@ due_number None = 0
 due_number (Some d) = d.number
 
 picked : (a b c : Bool) (n : ℕ) (g : Given) (x d : Due) →
-    cond a (Some x) (cond b (Some (record { number = n; given = g })) (cond c (Some x) (Some (record { number = n; given = g })))) ≡ Some d →
+    cond a (Some x) (cond b (Some (record { number = n; given = g }))
+    (cond c (Some x) (Some (record { number = n; given = g })))) ≡ Some d →
     (d.number ≡ n) ⊎ (Some x ≡ Some d)
 picked true b c n g x d e = inr e
 picked false true c n g x d e = inl (sym (ap due_number e))

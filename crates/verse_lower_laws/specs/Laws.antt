@@ -1,4 +1,4 @@
--- What authors rely on, of the machine that runs the code of a program: its lines, its waits, its steps.
+-- What authors rely on, of the machine that runs the code of a program: lines, waits, steps.
 use Rattle.std.specs.Prelude.{◌≡◌, ◌≤◌, ◌⊎◌, ◌+◌, ℕ, suc, ℤ, List, [], map, Some, Bool, true}
 use Rattle.std.specs.Prelude.{false}
 use Rattle.verse_value.specs.Runs.{Line}
@@ -101,7 +101,8 @@ module _ (p : Program) (differ : ℕ → ℕ → Bool) (files : ℕ) (ns : List 
 
   -- the run as it is told at its end: it has the lines of its turns, and spent no more than it had
   pub record WholeRun : Type 0 where
-    pub tells : (k : ℕ) → Begins (lines (seen_after k)) (mach (code_of p differ files) ns steps until).trace
+    pub tells : (k : ℕ) → Begins (lines (seen_after k))
+        (mach (code_of p differ files) ns steps until).trace
     pub within : (mach (code_of p differ files) ns steps until).steps ≤ steps
 
 -- the program is one that can be followed; inputs, bound and horizon are any
