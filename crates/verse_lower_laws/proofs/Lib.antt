@@ -1,0 +1,3 @@
+mod Waits
+mod Stages
+mod Runs
