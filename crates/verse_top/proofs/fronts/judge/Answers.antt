@@ -6,9 +6,9 @@ pub returns-in-Ok : goal.returns-in-Ok
 returns-in-Ok c =
     let e = sym (as_many_files (λ b. b.items) c.args.files.now) in
     accepted_is (map (λ b. b.items) c.args.files.now) c.typed.result c.in-Ok.accepted.tree c.in-Ok.accepted.checked.names
-      c.in-Ok.accepted.checked.typed (subst (λ n. 1 ≤ n) e c.requires.some) (subst (λ n. n ≤ 16) e c.requires.few) c.typed.ensures.tree
-      c.typed.ensures.names c.typed.ensures.types c.in-Ok.ensures.accepted (c.in-Ok.ensures.files ∙ e) c.in-Ok.ensures.counted
-      c.in-Ok.ensures.names c.in-Ok.ensures.types
+    c.in-Ok.accepted.checked.typed (subst (λ n. 1 ≤ n) e c.requires.some) (subst (λ n. n ≤ 16) e c.requires.few) c.typed.ensures.tree
+    c.typed.ensures.names c.typed.ensures.types c.in-Ok.ensures.accepted (c.in-Ok.ensures.files ∙ e) c.in-Ok.ensures.counted
+    c.in-Ok.ensures.names c.in-Ok.ensures.types
 
 pub returns-in_ok-refused-in-Err-Refused : goal.returns-in_ok-refused-in-Err-Refused
 returns-in_ok-refused-in-Err-Refused c = (
