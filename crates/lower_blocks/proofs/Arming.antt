@@ -21,8 +21,7 @@ use Rattle.lower_expr.proofs.Scoping.{cut_back}
 use Rattle.lower_fail.specs.Attempts.{other_begun, all_ended}
 use Rattle.lower_fail.proofs.Clauses.{arm_last, arm_any, arm_same}
 use Rattle.lower_fail.proofs.OpenEnds.{one_more_end}
-use Rattle.lower_parts.specs.Parts.{tree_code, form_code}
-use Rattle.lower_blocks.specs.Codes.{no_place}
+use Rattle.lower_parts.specs.Parts.{tree_code, form_code, no_place}
 use Rattle.lower_blocks.specs.Arms.{ArmLeads, arm_parts, arm_parts_shape, arm_code, arms_code, is_any_shape, is_any_tree, compared_arm}
 use Rattle.lower_blocks.specs.Arms.{comparison}
 

@@ -12,8 +12,8 @@ use Rattle.lower_code.specs.declared.arounds.Around.{Around}
 use Rattle.lower_expr.specs.Building.{Built, pushed, ended_here, made}
 use Rattle.lower_fail.specs.Attempts.{held, other_begun, if_alone_ended}
 use Rattle.lower_fail.proofs.Forms.{if_law, if_alone_law}
-use Rattle.lower_parts.specs.Parts.{tree_code, form_code}
-use Rattle.lower_blocks.specs.Codes.{statements_code, no_place}
+use Rattle.lower_parts.specs.Parts.{tree_code, form_code, no_place}
+use Rattle.lower_blocks.specs.Codes.{statements_code}
 
 module _ (p : Program) (sc : Scope) (a : Around) (cs : Trees) (t : Tree) where
   pub if_alone_by : (e : Option Tree) (n : ℕ) (b c d r : Built) → e ≡ None → n ≡ length b.ops → c ≡ pushed (o.Try 0) b →

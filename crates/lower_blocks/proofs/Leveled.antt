@@ -20,10 +20,10 @@ use Rattle.lower_expr.proofs.Scoping.{cut_back}
 use Rattle.lower_fail.specs.declared.loops.Turn.{Turn}
 use Rattle.lower_fail.specs.Attempts.{turns_closed, for_begun, for_ended}
 use Rattle.lower_fail.proofs.Forms.{for_law}
-use Rattle.lower_parts.specs.Parts.{form_code}
+use Rattle.lower_parts.specs.Parts.{form_code, Grown}
 use Rattle.lower_parts.proofs.Operands.{left, left_next, left_none}
 use Rattle.lower_blocks.specs.Codes.{claused_code, levels_code, body_code, for_code}
-use Rattle.lower_blocks.specs.Levels.{Leads, Extends, scope_claused}
+use Rattle.lower_blocks.specs.Levels.{Leads, scope_claused}
 
 module _ (p : Program) (xs : List Expr) (i : ℕ) (a : Around) (all : (Scope → Maker) → Built) where
   levels_at : (x : Expr) (sc : Scope) (ts : List Turn) (b : Built) → i < length xs → x ≡ get_or xs i x →
@@ -54,12 +54,12 @@ module _ (p : Program) (xs : List Expr) (i : ℕ) (a : Around) (all : (Scope →
       turns_closed ts (made (rest sc) b) ≡ all rest
   levels_done sc ts b h is rest = sym (ap (λ k. turns_closed ts (made (levels_code p k sc a rest) b)) (left_none xs i h)) ∙ is rest
 
-binder_extends : (x : Binder) (old sc there : Scope) → there ≡ scope_claused (defines x) sc → Extends old sc → Extends old there
+binder_extends : (x : Binder) (old sc there : Scope) → there ≡ scope_claused (defines x) sc → Grown old sc → Grown old there
 binder_extends no_name old sc there h e = (e.0, h ∙ e.1)
 binder_extends (a_constant x) old sc there h e = (constant_at x ∷ e.0, h ∙ ap (λ k. constant_at x ∷ k) e.1)
 binder_extends (a_variable x pl) old sc there h e = (variable_at x ∷ e.0, h ∙ ap (λ k. variable_at x ∷ k) e.1)
 
-generator_extends : (g : Generator) (old sc there : Scope) → there ≡ scope_claused (generates g) sc → Extends old sc → Extends old there
+generator_extends : (g : Generator) (old sc there : Scope) → there ≡ scope_claused (generates g) sc → Grown old sc → Grown old there
 generator_extends (of_elements x) old sc there h e =
     (hidden ∷ constant_at x ∷ hidden ∷ hidden ∷ e.0, h ∙ ap (λ k. hidden ∷ constant_at x ∷ hidden ∷ hidden ∷ k) e.1)
 generator_extends (of_entries n x) old sc there h e =
@@ -67,7 +67,7 @@ generator_extends (of_entries n x) old sc there h e =
 generator_extends (of_range x) old sc there h e =
     (hidden ∷ constant_at x ∷ hidden ∷ hidden ∷ e.0, h ∙ ap (λ k. hidden ∷ constant_at x ∷ hidden ∷ hidden ∷ k) e.1)
 
-pub extends_more : (s : Statement) (old sc there : Scope) → there ≡ scope_claused s sc → Extends old sc → Extends old there
+pub extends_more : (s : Statement) (old sc there : Scope) → there ≡ scope_claused s sc → Grown old sc → Grown old there
 extends_more plain old sc there h e = (e.0, h ∙ e.1)
 extends_more (defines x) old sc there h e = binder_extends x old sc there h e
 extends_more (defers d) old sc there h e = (e.0, h ∙ e.1)
@@ -77,7 +77,7 @@ hidden_cut : (added sc : Scope) → cut_to (length sc) (added ++ hidden ∷ sc) 
 hidden_cut added sc = ap (cut_to (length sc)) (sym (append_assoc added (hidden ∷ []) sc)) ∙ cut_back (added ++ hidden ∷ []) sc
 
 -- the scope behind the clauses is cut back to what it was before the local of the result
-pub cut_levels : (l : ℕ) (sc here there r : Scope) → l ≡ length sc → here ≡ hidden ∷ sc → Extends here there → r ≡ cut_to l there → r ≡ sc
+pub cut_levels : (l : ℕ) (sc here there r : Scope) → l ≡ length sc → here ≡ hidden ∷ sc → Grown here there → r ≡ cut_to l there → r ≡ sc
 cut_levels l sc here there r h s e is =
     is ∙ ap (λ k. cut_to k there) h ∙ ap (cut_to (length sc)) (e.1 ∙ ap (λ k. e.0 ++ k) s) ∙ hidden_cut e.0 sc
 

@@ -1,6 +1,5 @@
 -- The code of the parts of forms with blocks, in a program.
 use Rattle.std.specs.Prelude.{ℕ, [], ◌∷◌, length}
-use Rattle.verse_base.specs.declared.places.Place.{Place}
 use Rattle.verse_tree.specs.Tree.{Tree, Trees, Shape}
 use Rattle.verse_tree.specs.Tree as t
 use Rattle.verse_tree.specs.declared.programs.Program.{Program}
@@ -16,10 +15,6 @@ use Rattle.lower_code.specs.declared.arounds.Around.{Around}
 use Rattle.lower_lookup.specs.Types.{differ_of}
 use Rattle.lower_parts.specs.Parts.{tree_code}
 use Rattle.lower_blocks.specs.Insides.{Inside, nothing_inside, one_part, deferred, both_ends}
-
--- the place of a form whose code does not look at it
-abbrev pub no_place : Place
-no_place = record { file = 0; line = 0; col = 0 }
 
 -- definitions, whose code does not look at their names and types
 abbrev pub constant_shape : Tree → Shape

@@ -1,5 +1,5 @@
 -- The clauses of a `for`, whose generators stay open while those behind them are lowered.
-use Rattle.std.specs.Prelude.{◌≡◌, List, ◌++◌, Bool, cond}
+use Rattle.std.specs.Prelude.{◌≡◌, List, Bool, cond}
 use Rattle.verse_meaning.specs.Evaluating.{Statement, plain, defines, defers, generates}
 use Rattle.lower_code.specs.Pieces.{Maker}
 use Rattle.lower_code.specs.Scopes.{Scope}
@@ -22,7 +22,3 @@ scope_claused plain sc = sc
 scope_claused (defines b) sc = with_binder b sc
 scope_claused (defers d) sc = sc
 scope_claused (generates g) sc = with_generator g sc
-
--- a scope with more of it
-abbrev pub Extends : (old new : Scope) → Type 0
-Extends old new = (added : Scope) × (new ≡ added ++ old)

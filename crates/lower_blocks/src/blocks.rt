@@ -5,8 +5,8 @@ ghost use Rattle.verse_tree.specs.Tree as t;
 ghost use Rattle.verse_tree.specs.View.{tree_of, trees};
 ghost use Rattle.lower_expr.specs.Building.{built, made};
 ghost use Rattle.lower_expr.specs.Locals.{scope_of};
-ghost use Rattle.lower_parts.specs.Parts.{form_code, Lowers};
-ghost use Rattle.lower_blocks.specs.Codes.{no_place, constant_shape, variable_shape};
+ghost use Rattle.lower_parts.specs.Parts.{form_code, Lowers, no_place};
+ghost use Rattle.lower_blocks.specs.Codes.{constant_shape, variable_shape};
 
 use crate::statements::own_statements;
 use lower_code::arounds::Around;

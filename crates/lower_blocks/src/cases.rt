@@ -7,8 +7,7 @@ ghost use Rattle.verse_code.specs.declared.operations.Op.TheVariants as o;
 ghost use Rattle.lower_expr.specs.Building.{built, made, pushed};
 ghost use Rattle.lower_expr.specs.Locals.{scope_of};
 ghost use Rattle.lower_fail.specs.Attempts.{other_begun, all_ended};
-ghost use Rattle.lower_parts.specs.Parts.{tree_code, form_code, Lowers};
-ghost use Rattle.lower_blocks.specs.Codes.{no_place};
+ghost use Rattle.lower_parts.specs.Parts.{tree_code, form_code, Lowers, no_place};
 ghost use Rattle.lower_blocks.specs.Arms.{ArmLeads, arm_parts, arm_code, arms_code};
 ghost use Rattle.lower_blocks.specs.Arms.{compared_arm, comparison};
 

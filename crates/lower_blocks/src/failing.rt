@@ -9,8 +9,8 @@ ghost use Rattle.lower_code.specs.Lowering.{scope_behind};
 ghost use Rattle.lower_fail.specs.Attempts.{held, other_begun};
 ghost use Rattle.lower_expr.specs.Building.{built, made, ended_here};
 ghost use Rattle.lower_expr.specs.Locals.{scope_of};
-ghost use Rattle.lower_parts.specs.Parts.{tree_code, form_code, Lowers};
-ghost use Rattle.lower_blocks.specs.Codes.{no_place, statements_code};
+ghost use Rattle.lower_parts.specs.Parts.{tree_code, form_code, Lowers, no_place};
+ghost use Rattle.lower_blocks.specs.Codes.{statements_code};
 
 use crate::parts::{conditions, left, otherwise, right, taken};
 use crate::statements::{own_statements, statements};

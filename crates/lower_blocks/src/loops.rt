@@ -10,10 +10,10 @@ ghost use Rattle.lower_lookup.specs.Statements.{generator_view};
 ghost use Rattle.lower_expr.specs.Building.{built, made, pushed, with_local};
 ghost use Rattle.lower_expr.specs.Locals.{scope_of};
 ghost use Rattle.lower_fail.specs.Attempts.{turns_begun};
-ghost use Rattle.lower_parts.specs.Parts.{form_code, Lowers};
-ghost use Rattle.lower_blocks.specs.Codes.{no_place, claused_code, levels_code};
+ghost use Rattle.lower_parts.specs.Parts.{form_code, Lowers, no_place, Grown};
+ghost use Rattle.lower_blocks.specs.Codes.{claused_code, levels_code};
 ghost use Rattle.lower_blocks.specs.Codes.{body_code, for_code};
-ghost use Rattle.lower_blocks.specs.Levels.{Leads, Extends, scope_claused};
+ghost use Rattle.lower_blocks.specs.Levels.{Leads, scope_claused};
 
 use crate::parts::{body, clauses};
 use crate::statements::{bind, inner};
@@ -193,7 +193,7 @@ fn levels<
         lowering.now.tables.now.program.now (trees (map tree_of parts.now)) (scope_of
         scopes.old) around) goes_on turns.old.items turns.new.items (scope_of scopes.new) (built
         builder.old) (built builder.new)) }
-    ensures scopes { OnOk result (Extends (scope_of scopes.old) (scope_of scopes.new)) }
+    ensures scopes { OnOk result (Grown (scope_of scopes.old) (scope_of scopes.new)) }
 {
     'parts: for part in parts {
         let goes_on = clause(lowering, builder, scopes, around, turns, part)?;

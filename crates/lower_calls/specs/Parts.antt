@@ -17,10 +17,6 @@ use Rattle.lower_task.specs.Tasks as task
 use Rattle.lower_task.specs.Tasks.{kind_number}
 use Rattle.lower_task.specs.declared.groups.Kind.{Kind}
 
--- for forms whose code has no place
-abbrev pub some_place : Place
-some_place = record { file = 0; line = 0; col = 0 }
-
 module _ (p : Program) where
   -- `sync`, `race` or `rush`
   abbrev pub group_code : Kind → Place → Trees → Scope → Maker

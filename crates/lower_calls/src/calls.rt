@@ -8,9 +8,8 @@ ghost use Rattle.verse_meaning.specs.Residuals as form;
 ghost use Rattle.verse_meaning.specs.Evaluating as e;
 ghost use Rattle.lower_expr.specs.Building.{built, made};
 ghost use Rattle.lower_expr.specs.Locals.{scope_of};
-ghost use Rattle.lower_parts.specs.Parts.{form_code, Lowers};
+ghost use Rattle.lower_parts.specs.Parts.{form_code, Lowers, no_place};
 ghost use Rattle.lower_calls.specs.Calls as c;
-ghost use Rattle.lower_calls.specs.Parts.{some_place};
 
 use crate::actions::{alone, indexed, of_object, of_quotient, of_value};
 use crate::views::called_of;
@@ -299,7 +298,7 @@ pub fn spawn<
         (F.post lowering.now.nested) }
     ensures code { OnOk result (built builder.new ≡
         made (form_code lowering.now.tables.now.program.now
-        (t.Shape.spawn (tree_of part.now)) 0 some_place (scope_of scopes.old) around)
+        (t.Shape.spawn (tree_of part.now)) 0 no_place (scope_of scopes.old) around)
         (built builder.old)) }
     ensures scopes { OnOk result (scope_of scopes.new ≡ scope_of scopes.old) }
 {

@@ -9,8 +9,8 @@ ghost use Rattle.lower_code.specs.Lowering as l;
 ghost use Rattle.lower_declared.specs.Enums.{val_of};
 ghost use Rattle.lower_expr.specs.Building.{built, made};
 ghost use Rattle.lower_expr.specs.Locals.{scope_of};
-ghost use Rattle.lower_parts.specs.Parts.{form_code, Lowers};
-ghost use Rattle.lower_calls.specs.Parts.{some_place, read_code};
+ghost use Rattle.lower_parts.specs.Parts.{form_code, Lowers, no_place};
+ghost use Rattle.lower_calls.specs.Parts.{read_code};
 
 use lower_code::arounds::Around;
 use lower_declared::enums::EnumValue;
@@ -91,7 +91,7 @@ pub fn member<
         (F.post lowering.now.nested) }
     ensures code { OnOk result (built builder.new ≡
         made (form_code lowering.now.tables.now.program.now
-        (t.Shape.member (tree_of part.now) name.now) node some_place (scope_of scopes.old) around)
+        (t.Shape.member (tree_of part.now) name.now) node no_place (scope_of scopes.old) around)
         (built builder.old)) }
     ensures scopes { OnOk result (scope_of scopes.new ≡ scope_of scopes.old) }
 {

@@ -5,8 +5,8 @@ ghost use Rattle.verse_tree.specs.View.{tree_of, trees};
 ghost use Rattle.verse_tree.specs.Tree as t;
 ghost use Rattle.lower_expr.specs.Building.{built, made, ended_here};
 ghost use Rattle.lower_expr.specs.Locals.{scope_of};
-ghost use Rattle.lower_parts.specs.Parts.{form_code, Lowers};
-ghost use Rattle.lower_calls.specs.Parts.{some_place, group_code, arm_code, arms_lowered};
+ghost use Rattle.lower_parts.specs.Parts.{form_code, Lowers, no_place};
+ghost use Rattle.lower_calls.specs.Parts.{group_code, arm_code, arms_lowered};
 
 use lower_code::arounds::Around;
 use lower_declared::numbers::number_of;
@@ -45,7 +45,7 @@ pub fn branch<
         (F.post lowering.now.nested) }
     ensures code { OnOk result (built builder.new ≡
         made (form_code lowering.now.tables.now.program.now
-        (t.Shape.branch (tree_of part.now)) 0 some_place
+        (t.Shape.branch (tree_of part.now)) 0 no_place
         (scope_of scopes.old) around) (built builder.old)) }
     ensures scopes { OnOk result (scope_of scopes.new ≡ scope_of scopes.old) }
 {

@@ -1,7 +1,5 @@
 -- The parts of a form, one by one.
-use Rattle.std.proofs.Common.{◌≡◌, ℕ, ◌+◌, ◌<◌, ◌≤◌, List, length, map, drop, get_or, refl, sym, ap, ◌∙◌}
-use Rattle.std.proofs.Common.{drop_of_length-le}
-use Rattle.std.proofs.lemmas.List.{drop_more}
+use Rattle.std.proofs.Common.{◌≡◌, ℕ, ◌+◌, ◌<◌, ◌≤◌, List, length, map, drop, get_or, sym, ap, ◌∙◌}
 use Rattle.verse_tree.specs.Tree.{Trees, no_trees, more_trees}
 use Rattle.verse_tree.specs.View.{tree_of, trees}
 use Rattle.verse_tree.specs.declared.exprs.Expr.{Expr}
@@ -12,6 +10,7 @@ use Rattle.lower_code.specs.declared.arounds.Around.{Around}
 use Rattle.lower_expr.specs.Building.{Built, made}
 use Rattle.lower_expr.proofs.Laws.{made_then, made_nothing}
 use Rattle.lower_parts.specs.Parts.{tree_code, operands_code}
+use Rattle.lower_parts.proofs.Lists.{seen_next, seen_none}
 
 -- from the i-th part on
 abbrev pub left : List Expr → ℕ → Trees
@@ -19,11 +18,10 @@ left xs i = trees (map tree_of (drop i xs))
 
 pub left_next : (xs : List Expr) (i : ℕ) (x : Expr) → i < length xs → x ≡ get_or xs i x → left xs i ≡
     more_trees (tree_of x) (left xs (i + 1))
-left_next xs i x h e =
-    ap (λ k. trees (map tree_of k)) (drop_more xs i x h) ∙ ap (λ k. more_trees (tree_of k) (left xs (i + 1))) (sym e)
+left_next xs i x h e = ap trees (seen_next tree_of xs i x h e)
 
 pub left_none : (xs : List Expr) (i : ℕ) → length xs ≤ i → left xs i ≡ no_trees
-left_none xs i h = ap (λ k. trees (map tree_of k)) (drop_of_length-le xs h)
+left_none xs i h = ap trees (seen_none tree_of xs i h)
 
 operands_at : (p : Program) (xs : List Expr) (i : ℕ) (x : Expr) (sc : Scope) (a : Around) (b : Built) → i < length xs →
     x ≡ get_or xs i x →

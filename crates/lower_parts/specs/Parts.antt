@@ -1,5 +1,5 @@
 -- A function value that lowers the parts of forms.
-use Rattle.std.specs.Prelude.{◌≡◌, ℕ, ◌<◌, Result, OnOk}
+use Rattle.std.specs.Prelude.{◌≡◌, ℕ, ◌<◌, ◌++◌, Result, OnOk}
 use Rattle.verse_base.specs.declared.places.Place.{Place}
 use Rattle.verse_base.specs.declared.refusals.Memory.{Memory}
 use denote.Ref.{Bor, MutBor}
@@ -29,6 +29,14 @@ module _ (p : Program) where
 
   abbrev pub operands_code : Trees → Scope → Around → Maker
   operands_code = args (program_of p) (differ_of p)
+
+-- the place of a form whose code does not look at it
+abbrev pub no_place : Place
+no_place = record { file = 0; line = 0; col = 0 }
+
+-- a scope with more slots
+abbrev pub Grown : (old new : Scope) → Type 0
+Grown old new = (added : Scope) × (new ≡ added ++ old)
 
 -- what a call of a function value that lowers trees asks and answers
 abbrev pub Asks : Type 1

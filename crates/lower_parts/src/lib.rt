@@ -2,7 +2,8 @@
 //!
 //! To be read in this order: `lowering`, a part and the operands of a form.
 //!
-//! The public lemmas, which crates above cite, are those of `proofs/Shapes` and `proofs/Operands`.
+//! The public lemmas, which crates above cite, are those of `proofs/Shapes`, `proofs/Lists` and
+//! `proofs/Operands`.
 #![tactic(auto)]
 
 pub mod lowering;

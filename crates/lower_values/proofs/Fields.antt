@@ -1,12 +1,10 @@
 -- The fields of an instance: those that are given, and all in their order.
-use Rattle.std.proofs.Common.{◌≡◌, ℕ, ◌+◌, ◌<◌, ◌≤◌, List, [], ◌∷◌, ◌++◌, length, map, drop, get_or, refl}
+use Rattle.std.proofs.Common.{◌≡◌, ℕ, ◌+◌, ◌<◌, ◌≤◌, List, [], ◌∷◌, length, map, drop, get_or, refl}
 use Rattle.std.proofs.Common.{sym, ap, ◌∙◌}
-use Rattle.std.proofs.Common.{drop_of_length-le}
-use Rattle.std.proofs.lemmas.List.{drop_more}
 use Rattle.std.proofs.Common.{Option, Some, None}
 use denote.Ref.{Bor}
 use Rattle.verse_base.specs.declared.places.Place.{Place}
-use Rattle.verse_tree.specs.Tree.{Givens, no_givens, more_givens}
+use Rattle.verse_tree.specs.Tree.{Givens}
 use Rattle.verse_tree.specs.View.{given_of, givens}
 use Rattle.verse_tree.specs.ItemTree.{FieldTree}
 use Rattle.verse_tree.specs.declared.exprs.Given.{Given}
@@ -25,8 +23,9 @@ use Rattle.lower_expr.specs.Locals.{cut_to}
 use Rattle.lower_expr.proofs.Laws.{made_then, made_nothing}
 use Rattle.lower_expr.proofs.Scoping.{cut_back}
 use Rattle.lower_declared.specs.Views.{field_now}
-use Rattle.lower_parts.specs.Parts.{tree_code}
-use Rattle.lower_values.specs.Parts.{given_code, Grown}
+use Rattle.lower_parts.specs.Parts.{Grown, tree_code}
+use Rattle.lower_parts.proofs.Lists.{seen_next, seen_none}
+use Rattle.lower_values.specs.Parts.{given_code}
 
 -- a scope that has grown, by one slot more, and cut back
 pub grown_none : (sc : Scope) → Grown sc sc
@@ -41,15 +40,6 @@ grown_cut sc new g = ap (cut_to (length sc)) g.1 ∙ cut_back g.0 sc
 -- from the i-th part on
 abbrev pub left_givens : List Given → ℕ → Givens
 left_givens xs i = givens (map given_of (drop i xs))
-
-left_next : (xs : List Given) (i : ℕ) (x : Given) → i < length xs → x ≡ get_or xs i x →
-    left_givens xs i ≡ more_givens (given_of x).0 (given_of x).1 (left_givens xs (i + 1))
-left_next xs i x h e =
-    ap (λ k. givens (map given_of k)) (drop_more xs i x h)
-    ∙ ap (λ k. more_givens (given_of k).0 (given_of k).1 (left_givens xs (i + 1))) (sym e)
-
-left_none : (xs : List Given) (i : ℕ) → length xs ≤ i → left_givens xs i ≡ no_givens
-left_none xs i h = ap (λ k. givens (map given_of k)) (drop_of_length-le xs h)
 
 module _ (p : Program) (xs : List Given) (i : ℕ) (a : Around) where
   abbrev code : Givens → Scope → Maker
@@ -66,21 +56,14 @@ module _ (p : Program) (xs : List Given) (i : ℕ) (a : Around) where
       let rest : Maker = code (left_givens xs (i + 1)) (hidden ∷ sc) in
       ap (λ s. made (code (left_givens xs (i + 1)) s) behind) k ∙ ap (made rest) (g ∙ made_then f1 f2 b)
       ∙ sym (made_then f1 (f2 then rest) b ∙ made_then f2 rest (made f1 b))
-      ∙ sym (ap (λ gs. made (code gs sc) b) (left_next xs i x h e)) ∙ is
+      ∙ sym (ap (λ gs. made (code (givens gs) sc) b) (seen_next given_of xs i x h e)) ∙ is
 
   pub givens_done : (sc : Scope) (b all : Built) → length xs ≤ i → made (code (left_givens xs i) sc) b ≡ all → b ≡ all
-  givens_done sc b all h is = sym (ap (λ gs. made (code gs sc) b) (left_none xs i h) ∙ made_nothing b) ∙ is
+  givens_done sc b all h is = sym (ap (λ gs. made (code (givens gs) sc) b) (seen_none given_of xs i h) ∙ made_nothing b) ∙ is
 
 -- from the i-th field on
 abbrev pub left_fields : List (Bor Field) → ℕ → List FieldTree
 left_fields xs i = map field_now (drop i xs)
-
-fields_behind : (xs : List (Bor Field)) (i : ℕ) (x : Bor Field) → i < length xs → x ≡ get_or xs i x →
-    left_fields xs i ≡ field_now x ∷ left_fields xs (i + 1)
-fields_behind xs i x h e = ap (map field_now) (drop_more xs i x h) ∙ ap (λ k. field_now k ∷ left_fields xs (i + 1)) (sym e)
-
-fields_none : (xs : List (Bor Field)) (i : ℕ) → length xs ≤ i → left_fields xs i ≡ []
-fields_none xs i h = ap (map field_now) (drop_of_length-le xs h)
 
 module _ (p : Program) (xs : List (Bor Field)) (i : ℕ) (gs : Givens) (l : ℕ) where
   abbrev ops : List FieldTree → Maker
@@ -94,10 +77,10 @@ module _ (p : Program) (xs : List (Bor Field)) (i : ℕ) (gs : Givens) (l : ℕ)
       x).number in
       let rest : Maker = ops (left_fields xs (i + 1)) in
       ap (made rest) (g ∙ ap (λ m. made m b) k) ∙ sym (made_then first rest b)
-      ∙ sym (ap (λ fs. made (ops fs) b) (fields_behind xs i x h e)) ∙ is
+      ∙ sym (ap (λ fs. made (ops fs) b) (seen_next field_now xs i x h e)) ∙ is
 
   pub fields_done : (b all : Built) → length xs ≤ i → made (ops (left_fields xs i)) b ≡ all → b ≡ all
-  fields_done b all h is = sym (ap (λ fs. made (ops fs) b) (fields_none xs i h) ∙ made_nothing b) ∙ is
+  fields_done b all h is = sym (ap (λ fs. made (ops fs) b) (seen_none field_now xs i h) ∙ made_nothing b) ∙ is
 
 -- an instance of a class, by what its steps make, and of none
 pub class_done : (p : Program) (class : ℕ) (place : Place) (gs : Givens) (sc : Scope) (a : Around) (first : ℕ) (b given fields all :

@@ -1,11 +1,10 @@
 -- Pieces of texts with holes.
 use Rattle.std.proofs.Common.{◌≡◌, ◌≢◌, ℕ, suc, ◌+◌, ◌<◌, ◌≤◌, List, [], ◌∷◌, length, map, drop, get_or}
 use Rattle.std.proofs.Common.{Bool, true, false, refl, sym, ap, ◌∙◌}
-use Rattle.std.proofs.Common.{drop_of_length-le, arith}
-use Rattle.std.proofs.lemmas.List.{drop_more}
+use Rattle.std.proofs.Common.{arith}
 use Rattle.verse_base.specs.declared.places.Place.{Place}
 use Rattle.verse_tree.specs.Tree as t
-use Rattle.verse_tree.specs.Tree.{Bytes, Tree, Holes, no_holes, more_holes}
+use Rattle.verse_tree.specs.Tree.{Bytes, Holes}
 use Rattle.verse_tree.specs.View.{hole_of, holes}
 use Rattle.verse_tree.specs.declared.exprs.Hole.{Hole}
 use Rattle.verse_tree.specs.declared.programs.Program.{Program}
@@ -21,6 +20,7 @@ use Rattle.lower_expr.specs.Endings.{numbered}
 use Rattle.verse_code.specs.declared.operations.Op.TheVariants as o
 use Rattle.lower_expr.proofs.Laws.{made_then, made_nothing}
 use Rattle.lower_parts.specs.Parts.{tree_code, form_code}
+use Rattle.lower_parts.proofs.Lists.{seen_next, seen_none}
 use Rattle.lower_values.specs.Parts.{hole_code}
 
 pub some_text : (bs : Bytes) → bs ≢ [] → is_text bs ≡ true
@@ -33,15 +33,6 @@ none_text bs h = ap is_text h
 -- from the i-th hole on
 abbrev pub left_holes : List Hole → ℕ → Holes
 left_holes xs i = holes (map hole_of (drop i xs))
-
-left_next : (xs : List Hole) (i : ℕ) (x : Hole) → i < length xs → x ≡ get_or xs i x →
-    left_holes xs i ≡ more_holes (hole_of x).0 (hole_of x).1 (left_holes xs (i + 1))
-left_next xs i x h e =
-    ap (λ k. holes (map hole_of k)) (drop_more xs i x h)
-    ∙ ap (λ k. more_holes (hole_of k).0 (hole_of k).1 (left_holes xs (i + 1))) (sym e)
-
-left_none : (xs : List Hole) (i : ℕ) → length xs ≤ i → left_holes xs i ≡ no_holes
-left_none xs i h = ap (λ k. holes (map hole_of k)) (drop_of_length-le xs h)
 
 module _ (p : Program) (xs : List Hole) (i : ℕ) (sc : Scope) where
   abbrev code : Holes → Around → Maker
@@ -60,24 +51,24 @@ module _ (p : Program) (xs : List Hole) (i : ℕ) (sc : Scope) where
       ap (λ c. made (code rest c) behind) f
       ∙ ap (made (code rest next)) (g ∙ ap (λ s. made (hole_code p (hole_of x) s a) b) k ∙ made_then f1 f2 b)
       ∙ sym (made_then f1 (f2 then code rest next) b ∙ made_then f2 (code rest next) (made f1 b))
-      ∙ sym (ap (λ hs. made (code hs a) b) (left_next xs i x h e)) ∙ is
+      ∙ sym (ap (λ hs. made (code (holes hs) a) b) (seen_next hole_of xs i x h e)) ∙ is
 
   pub holes_done : (a : Around) (b all : Built) → length xs ≤ i → made (code (left_holes xs i) a) b ≡ all → b ≡ all
-  holes_done a b all h is = sym (ap (λ hs. made (code hs a) b) (left_none xs i h) ∙ made_nothing b) ∙ is
+  holes_done a b all h is = sym (ap (λ hs. made (code (holes hs) a) b) (seen_none hole_of xs i h) ∙ made_nothing b) ∙ is
 
   pub parts_next : (x : Hole) (n m all : ℕ) → i < length xs → x ≡ get_or xs i x → m ≡
       one_if (is_text (hole_of x).1) (n + 1) →
       n + joined_parts (left_holes xs i) ≡ all → m + joined_parts (left_holes xs (i + 1)) ≡ all
   parts_next x n m all h e g is =
       ap (λ k. k + joined_parts (left_holes xs (i + 1))) g ∙ moved (is_text (hole_of x).1) n (joined_parts (left_holes xs (i + 1)))
-      ∙ sym (ap (λ hs. n + joined_parts hs) (left_next xs i x h e)) ∙ is
+      ∙ sym (ap (λ hs. n + joined_parts (holes hs)) (seen_next hole_of xs i x h e)) ∙ is
     where
       moved : (c : Bool) (n k : ℕ) → one_if c (n + 1) + k ≡ n + suc (one_if c k)
       moved true n k = omega arith
       moved false n k = omega arith
 
   pub parts_done : (n all : ℕ) → length xs ≤ i → n + joined_parts (left_holes xs i) ≡ all → n ≡ all
-  parts_done n all h is = omega (arith, ap (λ hs. n + joined_parts hs) (left_none xs i h), is)
+  parts_done n all h is = omega (arith, ap (λ hs. n + joined_parts (holes hs)) (seen_none hole_of xs i h), is)
 
 -- a text with holes, by what its steps make
 pub text_done : (p : Program) (bs : Bytes) (hs : Holes) (place : Place) (sc : Scope) (a above : Around) (n : ℕ) (b first parts all :

@@ -1,8 +1,6 @@
 -- The keys of a map with their values, one pair after the other.
 use Rattle.std.proofs.Common.{◌≡◌, ℕ, suc, ◌+◌, ◌<◌, ◌≤◌, List, [], ◌∷◌, length, map, drop, get_or, refl, sym}
 use Rattle.std.proofs.Common.{ap, ◌∙◌}
-use Rattle.std.proofs.Common.{drop_of_length-le}
-use Rattle.std.proofs.lemmas.List.{drop_more}
 use Rattle.verse_base.specs.declared.places.Place.{Place}
 use Rattle.verse_tree.specs.Tree as t
 use Rattle.verse_tree.specs.View.{pair_of, pairs}
@@ -20,6 +18,7 @@ use Rattle.lower_expr.specs.Building.{Built, made}
 use Rattle.lower_expr.specs.Endings.{numbered}
 use Rattle.lower_expr.proofs.Laws.{made_then, made_nothing}
 use Rattle.lower_parts.specs.Parts.{form_code, tree_code}
+use Rattle.lower_parts.proofs.Lists.{seen_next, seen_none}
 use Rattle.lower_values.specs.Parts.{pair_code}
 
 -- as many pairs as there are
@@ -30,15 +29,6 @@ pairs_counted (x ∷ xs) = ap suc (pairs_counted xs)
 -- from the i-th pair on
 abbrev pub left_pairs : List Pair → ℕ → t.Pairs
 left_pairs xs i = pairs (map pair_of (drop i xs))
-
-left_next : (xs : List Pair) (i : ℕ) (x : Pair) → i < length xs → x ≡ get_or xs i x →
-    left_pairs xs i ≡ t.Pairs.more_pairs (pair_of x).0 (pair_of x).1 (left_pairs xs (i + 1))
-left_next xs i x h e =
-    ap (λ k. pairs (map pair_of k)) (drop_more xs i x h)
-    ∙ ap (λ k. t.Pairs.more_pairs (pair_of k).0 (pair_of k).1 (left_pairs xs (i + 1))) (sym e)
-
-left_none : (xs : List Pair) (i : ℕ) → length xs ≤ i → left_pairs xs i ≡ t.Pairs.no_pairs
-left_none xs i h = ap (λ k. pairs (map pair_of k)) (drop_of_length-le xs h)
 
 module _ (p : Program) (xs : List Pair) (i : ℕ) (sc : Scope) where
   abbrev code : t.Pairs → Around → Maker
@@ -56,10 +46,10 @@ module _ (p : Program) (xs : List Pair) (i : ℕ) (sc : Scope) where
       ap (λ c. made (code rest c) behind) f
       ∙ ap (made (code rest (up (up a)))) (g ∙ ap (λ s. made (pair_code p (pair_of x) s a) b) k ∙ made_then f1 f2 b)
       ∙ sym (made_then f1 (f2 then code rest (up (up a))) b ∙ made_then f2 (code rest (up (up a))) (made f1 b))
-      ∙ sym (ap (λ ps. made (code ps a) b) (left_next xs i x h e)) ∙ is
+      ∙ sym (ap (λ ps. made (code (pairs ps) a) b) (seen_next pair_of xs i x h e)) ∙ is
 
   pub pairs_done : (a : Around) (b all : Built) → length xs ≤ i → made (code (left_pairs xs i) a) b ≡ all → b ≡ all
-  pairs_done a b all h is = sym (ap (λ ps. made (code ps a) b) (left_none xs i h) ∙ made_nothing b) ∙ is
+  pairs_done a b all h is = sym (ap (λ ps. made (code (pairs ps) a) b) (seen_none pair_of xs i h) ∙ made_nothing b) ∙ is
 
 -- a map, by what its steps make
 pub map_done : (p : Program) (xs : List Pair) (place : Place) (sc : Scope) (a : Around) (n : ℕ) (b parts all : Built) → n ≡

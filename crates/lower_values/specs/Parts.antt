@@ -7,7 +7,7 @@ use Rattle.verse_meaning.specs.Programs.{program_of}
 use Rattle.verse_meaning.specs.Residuals as form
 use Rattle.lower_code.specs.Applied.{finish}
 use Rattle.lower_code.specs.Lowering.{text_if}
-use Rattle.std.specs.Prelude.{◌≡◌, ◌++◌, ℕ, true, length}
+use Rattle.std.specs.Prelude.{ℕ, true, length}
 use Rattle.lower_code.specs.Pieces.{Maker, put_away, ◌then◌}
 use Rattle.lower_code.specs.Arounds.{up}
 use Rattle.lower_code.specs.Scopes.{Scope}
@@ -40,7 +40,3 @@ pair_code p pair sc around = tree_code p pair.0 sc around then tree_code p pair.
 -- a value that goes into the next local
 abbrev pub given_code : Program → Tree → Scope → Around → Maker
 given_code p a sc around = tree_code p a sc around then put_away (length sc)
-
--- a scope with more slots
-abbrev pub Grown : (old new : Scope) → Type 0
-Grown old new = (added : Scope) × (new ≡ added ++ old)

@@ -5,7 +5,7 @@ ghost use Rattle.verse_tree.specs.View.{tree_of, given_of, givens};
 ghost use Rattle.verse_tree.specs.Tree as t;
 ghost use Rattle.lower_expr.specs.Building.{built, made};
 ghost use Rattle.lower_expr.specs.Locals.{scope_of};
-ghost use Rattle.lower_parts.specs.Parts.{form_code, Lowers};
+ghost use Rattle.lower_parts.specs.Parts.{form_code, Lowers, Grown};
 ghost use Rattle.std.specs.Option.{option_map};
 ghost use Rattle.verse_tree.specs.ItemView.{field_of};
 ghost use Rattle.verse_meaning.specs.Programs as p;
@@ -15,7 +15,7 @@ ghost use Rattle.lower_code.specs.Lowering as l;
 ghost use Rattle.lower_lookup.specs.Types.{differ_of};
 ghost use Rattle.lower_expr.specs.Endings.{ending_code};
 ghost use Rattle.lower_declared.specs.Views.{field_now};
-ghost use Rattle.lower_values.specs.Parts.{given_code, Grown};
+ghost use Rattle.lower_values.specs.Parts.{given_code};
 
 use lower_code::arounds::Around;
 use lower_declared::fields::given_local;

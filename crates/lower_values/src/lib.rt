@@ -2,8 +2,6 @@
 //!
 //! To be read in this order: `operators`, one or two operands with what ends them; `lists`, tuples
 //! and arrays; `texts`, texts with holes; `maps`; `instances`; `names`.
-//!
-//! The public lemmas, which crates above cite, are those of `proofs/Forms`.
 #![tactic(auto)]
 
 pub mod instances;

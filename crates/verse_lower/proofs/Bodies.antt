@@ -1,16 +1,16 @@
 -- Functions of the code, one behind the other.
-use Rattle.std.proofs.Common.{◌≡◌, ℕ, ◌+◌, ◌<◌, ◌≤◌, List, [], ◌∷◌, ◌++◌, length, map, drop, get_or, refl}
+use Rattle.std.proofs.Common.{◌≡◌, ℕ, ◌+◌, ◌<◌, List, [], ◌∷◌, ◌++◌, length, map, drop, get_or, refl}
 use Rattle.std.proofs.Common.{sym, ap, ◌∙◌}
-use Rattle.std.proofs.Common.{drop_of_length-le, append_assoc}
-use Rattle.std.proofs.lemmas.List.{drop_more}
+use Rattle.std.proofs.Common.{append_assoc}
 use Rattle.verse_tree.specs.declared.programs.Program.{Program}
 use Rattle.verse_code.specs.declared.codes.Func.{Func}
-use Rattle.lower_code.specs.Pieces.{Spot, Maker, past, ◌then◌}
+use Rattle.lower_code.specs.Pieces.{Maker, past, ◌then◌}
 use Rattle.lower_code.specs.Programs as l
-use Rattle.lower_expr.specs.Building.{Built, spot, with_locals, made, empty}
-use Rattle.lower_expr.proofs.Laws.{made_then, made_nothing, spot_past, nothing_behind}
+use Rattle.lower_expr.specs.Building.{Built, spot, with_locals, made}
+use Rattle.lower_expr.proofs.Laws.{made_then, spot_past}
 use Rattle.lower_items.specs.declared.bodies.Body.{Body}
 use Rattle.lower_items.specs.Views.{body_view}
+use Rattle.lower_parts.proofs.Lists.{seen_next}
 use Rattle.verse_lower.specs.Making.{body_code, function_of, functions_from, with_body, with_bodies, bodies_code}
 
 -- how many locals there are does not matter to what is added
@@ -26,13 +26,6 @@ spot_behind f b = spot_past (with_locals 0 b) (f (spot b))
 abbrev pub left_bodies : List Body → ℕ → List l.Body
 left_bodies xs i = map body_view (drop i xs)
 
-left_next : (xs : List Body) (i : ℕ) (x : Body) → i < length xs → x ≡ get_or xs i x → left_bodies xs i ≡
-    body_view x ∷ left_bodies xs (i + 1)
-left_next xs i x h e = ap (map body_view) (drop_more xs i x h) ∙ ap (λ k. body_view k ∷ left_bodies xs (i + 1)) (sym e)
-
-left_none : (xs : List Body) (i : ℕ) → length xs ≤ i → left_bodies xs i ≡ []
-left_none xs i h = ap (map body_view) (drop_of_length-le xs h)
-
 module _ (p : Program) (xs : List Body) (i : ℕ) where
   -- behind one body more, and where none is left
   pub code_next : (x : Body) (b behind all : Built) → i < length xs → x ≡ get_or xs i x → behind ≡
@@ -41,7 +34,7 @@ module _ (p : Program) (xs : List Body) (i : ℕ) where
   code_next x b behind all h e g is =
       let f : Maker = body_code p (body_view x) in
       let rest : Maker = bodies_code p (left_bodies xs (i + 1)) in
-      ap (with_bodies p (left_bodies xs (i + 1))) g ∙ moved f rest b ∙ sym (ap (λ bs. with_bodies p bs b) (left_next xs i x h e))
+      ap (with_bodies p (left_bodies xs (i + 1))) g ∙ moved f rest b ∙ sym (ap (λ bs. with_bodies p bs b) (seen_next body_view xs i x h e))
       ∙ is
     where
       moved : (f rest : Maker) (b : Built) → with_locals 0 (made rest (made f (with_locals 0 b))) ≡
@@ -58,4 +51,4 @@ module _ (p : Program) (xs : List Body) (i : ℕ) where
       ∙ ap (λ y. fs ++ y ∷ functions_from p (left_bodies xs (i + 1)) (spot behind)) k
       ∙ ap (λ s. fs ++ function_of p (spot b) (body_view x) ∷ functions_from p (left_bodies xs (i + 1)) s)
       (ap spot g ∙ spot_behind (body_code p (body_view x)) b)
-      ∙ sym (ap (λ bs. fs ++ functions_from p bs (spot b)) (left_next xs i x h e)) ∙ is
+      ∙ sym (ap (λ bs. fs ++ functions_from p bs (spot b)) (seen_next body_view xs i x h e)) ∙ is

@@ -25,11 +25,10 @@ use Rattle.verse_tree.specs.declared.types.TyExpr.{TyExpr}
 use Rattle.verse_base.specs.declared.places.Place.{Place}
 use Rattle.verse_tree.specs.declared.programs.Program.{Program}
 use Rattle.verse_code.specs.declared.operations.Op.TheVariants as o
-use Rattle.lower_blocks.specs.Codes.{no_place}
 use Rattle.lower_code.specs.Pieces.{one, placed}
 use Rattle.lower_code.specs.Scopes.{Scope}
 use Rattle.lower_code.specs.declared.arounds.Around.{Around}
-use Rattle.lower_parts.specs.Parts.{form_code}
+use Rattle.lower_parts.specs.Parts.{form_code, no_place}
 use Rattle.lower_task.specs.Tasks.{sleep_op}
 
 shape_block : (es : List Expr) → shape_of (form.Block es) ≡ t.Shape.block (trees (map tree_of es))

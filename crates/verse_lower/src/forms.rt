@@ -11,8 +11,7 @@ ghost use Rattle.verse_code.specs.declared.operations.Op.TheVariants as o;
 ghost use Rattle.lower_code.specs.Pieces.{one, ◌then◌};
 ghost use Rattle.lower_code.specs.Arounds.{returning};
 ghost use Rattle.lower_task.specs.Tasks.{sleep_op};
-ghost use Rattle.lower_blocks.specs.Codes.{no_place};
-ghost use Rattle.lower_parts.specs.Parts.{Lowers, form_code, tree_code};
+ghost use Rattle.lower_parts.specs.Parts.{Lowers, form_code, tree_code, no_place};
 
 use lower_blocks::blocks::{block, constant, returned, variable};
 use lower_blocks::cases::case;

@@ -7,13 +7,13 @@ use Rattle.lower_expr.specs.Locals.{scope_of}
 use Rattle.lower_fail.specs.Attempts.{turns_closed}
 use Rattle.lower_parts.proofs.Operands.{left}
 use Rattle.lower_blocks.specs.Codes.{levels_code}
-use Rattle.lower_blocks.specs.Levels.{Extends}
+use Rattle.lower_parts.specs.Parts.{Grown}
 use Rattle.lower_blocks.proofs.loops.levels.Given as goal
 
 -- what is left, from here on, ends as all does from the start
 abbrev pub invariant-parts : goal.invariant-parts
 invariant-parts g l =
-    Extends (scope_of l.fn.scopes) (scope_of l.scopes)
+    Grown (scope_of l.fn.scopes) (scope_of l.scopes)
     × ((rest : Scope → Maker) →
     turns_closed l.turns.items
     (made (levels_code l.lowering.tables.now.program.now (left l.parts l.part-index) (scope_of l.scopes) l.around rest) (built l.builder))

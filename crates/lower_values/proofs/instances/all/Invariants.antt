@@ -4,7 +4,7 @@ use Rattle.lower_code.specs.Lowering.{given_args}
 use Rattle.lower_lookup.specs.Types.{differ_of}
 use Rattle.lower_expr.specs.Building.{built, made}
 use Rattle.lower_expr.specs.Locals.{scope_of}
-use Rattle.lower_values.specs.Parts.{Grown}
+use Rattle.lower_parts.specs.Parts.{Grown}
 use Rattle.lower_values.proofs.Fields.{left_givens}
 use Rattle.lower_values.proofs.instances.all.Given as goal
 
