@@ -1,6 +1,6 @@
 -- The arms of a `case`.
-use Rattle.std.proofs.Common.{◌≡◌, ℕ, List, [], ◌∷◌, ◌++◌, length, map, Bool, true, false, Option, Some, None, cond, refl, sym, ap, ◌∙◌}
-use Rattle.std.proofs.Common.{arith}
+use Rattle.std.proofs.Common.{◌≡◌, ℕ, List, [], ◌∷◌, ◌++◌, length, map, Bool, true, false, Option, Some, None, cond}
+use Rattle.std.proofs.Common.{refl, sym, ap, ◌∙◌, arith}
 use Rattle.verse_tree.specs.Tree.{Tree, tree, Shape, Trees}
 use Rattle.verse_tree.specs.Tree as t
 use Rattle.verse_tree.specs.View.{tree_of, trees}
@@ -22,12 +22,13 @@ use Rattle.lower_fail.specs.Attempts.{other_begun, all_ended}
 use Rattle.lower_fail.proofs.Clauses.{arm_last, arm_any, arm_same}
 use Rattle.lower_fail.proofs.OpenEnds.{one_more_end}
 use Rattle.lower_parts.specs.Parts.{tree_code, form_code, no_place}
-use Rattle.lower_blocks.specs.Arms.{ArmLeads, arm_parts, arm_parts_shape, arm_code, arms_code, is_any_shape, is_any_tree, compared_arm}
-use Rattle.lower_blocks.specs.Arms.{comparison}
+use Rattle.lower_blocks.specs.Arms.{ArmLeads, arm_parts, arm_parts_shape, arm_code, arms_code, is_any_shape}
+use Rattle.lower_blocks.specs.Arms.{is_any_tree, compared_arm, comparison}
 
 module _ (p : Program) (ts : Trees) (l : ℕ) (sc : Scope) (a : Around) (rest : Maker) where
   shape_arm : (s : Shape) →
-      arm_shape (program_of p) (differ_of p) s ts l sc a rest ≡ arm_code p (arm_parts_shape s) l (none_left ts) sc a rest
+      arm_shape (program_of p) (differ_of p) s ts l sc a rest ≡
+      arm_code p (arm_parts_shape s) l (none_left ts) sc a rest
   shape_arm (t.Shape.block x) = refl
   shape_arm (t.Shape.defer x) = refl
   shape_arm (t.Shape.definition x y) = refl
@@ -88,7 +89,8 @@ module _ (p : Program) (ts : Trees) (l : ℕ) (sc : Scope) (a : Around) (rest : 
   shape_arm (t.Shape.enum_pattern x y) = refl
 
   -- an arm, by its parts
-  arm_is : (e : Tree) → arm_tree (program_of p) (differ_of p) e ts l sc a rest ≡ arm_code p (arm_parts e) l (none_left ts) sc a rest
+  arm_is : (e : Tree) →
+      arm_tree (program_of p) (differ_of p) e ts l sc a rest ≡ arm_code p (arm_parts e) l (none_left ts) sc a rest
   arm_is (tree n pl s) = shape_arm s
 
 -- the three kinds of arms, by their steps
@@ -100,16 +102,20 @@ module _ (p : Program) (l : ℕ) (f rest : Maker) (b : Built) where
       made (arm_of (program_of p) (differ_of p) e l false f rest) b ≡ ended_here (length (made f b).ops)
       (made rest (pushed (o.Jump 0) (made f b)))
   any_made (tree n pl s) h =
-      ap (λ q. made (arm_by (program_of p) (differ_of p) s l false q f rest) b) h ∙ arm_any (program_of p) (differ_of p) s l f rest b
+      ap (λ q. made (arm_by (program_of p) (differ_of p) s l false q f rest) b) h
+      ∙ arm_any (program_of p) (differ_of p) s l f rest b
 
   same_made : (e : Tree) → is_any_tree p e ≡ false →
       made (arm_of (program_of p) (differ_of p) e l false f rest) b ≡
-      ended_here (length (compared_arm p e l f b).ops) (made rest (other_begun (comparison p e l b) (compared_arm p e l f b)))
+      ended_here (length (compared_arm p e l f b).ops)
+      (made rest (other_begun (comparison p e l b) (compared_arm p e l f b)))
   same_made (tree n pl s) h =
-      ap (λ q. made (arm_by (program_of p) (differ_of p) s l false q f rest) b) h ∙ arm_same (program_of p) (differ_of p) s l f rest b
+      ap (λ q. made (arm_by (program_of p) (differ_of p) s l false q f rest) b) h
+      ∙ arm_same (program_of p) (differ_of p) s l f rest b
 
 module _ (p : Program) (q : Tree × Tree) (l : ℕ) (sc : Scope) (a : Around) where
-  pub last_arm : (last : Bool) (part : Tree) (js : List ℕ) (b c : Built) → last ≡ true → part ≡ q.1 → c ≡ made (tree_code p part sc a) b →
+  pub last_arm : (last : Bool) (part : Tree) (js : List ℕ) (b c : Built) → last ≡ true → part ≡ q.1 →
+      c ≡ made (tree_code p part sc a) b →
       ArmLeads (arm_code p (Some q) l last sc a) false js js b c
   last_arm last part js b c h e is = record {
     leads = λ rest. ap (all_ended js)
@@ -126,8 +132,10 @@ module _ (p : Program) (q : Tree × Tree) (l : ℕ) (sc : Scope) (a : Around) wh
     leads = λ rest.
         ap (λ k. all_ended k (made rest c)) more ∙ one_more_end js n (made rest c)
         ∙ ap (all_ended js)
-        (ap (λ k. ended_here k (made rest c)) m ∙ ap (λ k. ended_here (length (made (tree_code p part sc a) b).ops) (made rest k)) is
-        ∙ ap (λ k. ended_here (length (made (tree_code p k sc a) b).ops) (made rest (pushed (o.Jump 0) (made (tree_code p k sc a) b)))) e
+        (ap (λ k. ended_here k (made rest c)) m
+        ∙ ap (λ k. ended_here (length (made (tree_code p part sc a) b).ops) (made rest k)) is
+        ∙ ap (λ k. ended_here (length (made (tree_code p k sc a) b).ops)
+        (made rest (pushed (o.Jump 0) (made (tree_code p k sc a) b)))) e
         ∙ sym (any_made p l (tree_code p q.1 sc a) rest b q.0 (ap (is_any_tree p) (sym d) ∙ sym x ∙ y))
         ∙ ap (λ k. made (arm_code p (Some q) l k sc a rest) b) (sym h));
   }
@@ -162,10 +170,12 @@ module _ (p : Program) (l : ℕ) (sc : Scope) (a : Around) where
       (arms_code p (trees (map tree_of ys)) l sc a)) b)
   arms_first xs ys x js b e =
       ap (λ k. all_ended js (made (arms_code p (trees (map tree_of k)) l sc a) b)) e
-      ∙ ap (λ f. all_ended js (made f b)) (arm_is p (trees (map tree_of ys)) l sc a (arms_code p (trees (map tree_of ys)) l sc a)
+      ∙ ap (λ f. all_ended js (made f b))
+      (arm_is p (trees (map tree_of ys)) l sc a (arms_code p (trees (map tree_of ys)) l sc a)
       (tree_of x))
 
-  arms_step : (goes_on last : Bool) (xs ys : List Expr) (x : Expr) (here : Scope) (js ks : List ℕ) (b c all : Built) → xs ≡ x ∷ ys →
+  arms_step : (goes_on last : Bool) (xs ys : List Expr) (x : Expr) (here : Scope) (js ks : List ℕ) (b c all : Built) →
+      xs ≡ x ∷ ys →
       last ≡ none_left (trees (map tree_of ys)) → here ≡ sc →
       ArmLeads (arm_code p (arm_parts (tree_of x)) l last here a) goes_on js ks b c →
       all_ended js (made (arms_code p (trees (map tree_of xs)) l sc a) b) ≡ all →
@@ -173,10 +183,12 @@ module _ (p : Program) (l : ℕ) (sc : Scope) (a : Around) where
   arms_step goes_on last xs ys x here js ks b c all e h s arm is =
       let rest = arms_code p (trees (map tree_of ys)) l sc a in
       arm.leads rest ∙ ap (λ k. all_ended js (made (arm_code p (arm_parts (tree_of x)) l k here a rest) b)) h
-      ∙ ap (λ k. all_ended js (made (arm_code p (arm_parts (tree_of x)) l (none_left (trees (map tree_of ys))) k a rest) b)) s
+      ∙ ap (λ k. all_ended js
+      (made (arm_code p (arm_parts (tree_of x)) l (none_left (trees (map tree_of ys))) k a rest) b)) s
       ∙ sym (arms_first xs ys x js b e) ∙ is
 
-  pub arms_next : (goes_on last : Bool) (xs ys : List Expr) (x : Expr) (here : Scope) (js ks : List ℕ) (b c all : Built) → xs ≡ x ∷ ys →
+  pub arms_next : (goes_on last : Bool) (xs ys : List Expr) (x : Expr) (here : Scope) (js ks : List ℕ)
+      (b c all : Built) → xs ≡ x ∷ ys →
       last ≡ none_left (trees (map tree_of ys)) → here ≡ sc → goes_on ≡ true →
       ArmLeads (arm_code p (arm_parts (tree_of x)) l last here a) goes_on js ks b c →
       all_ended js (made (arms_code p (trees (map tree_of xs)) l sc a) b) ≡ all →
@@ -185,7 +197,8 @@ module _ (p : Program) (l : ℕ) (sc : Scope) (a : Around) where
       ap (λ k. all_ended ks (cond k (made (arms_code p (trees (map tree_of ys)) l sc a) c) c)) (sym g)
       ∙ arms_step goes_on last xs ys x here js ks b c all e h s arm is
 
-  pub arms_cut : (goes_on last : Bool) (xs ys : List Expr) (x : Expr) (here : Scope) (js ks : List ℕ) (b c all : Built) → xs ≡ x ∷ ys →
+  pub arms_cut : (goes_on last : Bool) (xs ys : List Expr) (x : Expr) (here : Scope) (js ks : List ℕ)
+      (b c all : Built) → xs ≡ x ∷ ys →
       last ≡ none_left (trees (map tree_of ys)) → here ≡ sc → goes_on ≡ false →
       ArmLeads (arm_code p (arm_parts (tree_of x)) l last here a) goes_on js ks b c →
       all_ended js (made (arms_code p (trees (map tree_of xs)) l sc a) b) ≡ all → all_ended ks c ≡ all
@@ -199,24 +212,31 @@ module _ (p : Program) (l : ℕ) (sc : Scope) (a : Around) where
   arms_none (x ∷ xs) js b c all h f is = absurd (omega (arith, h))
 
 -- the jumps of all arms lead to the end
-pub arms_ended : (f : Maker) (js ks ls : List ℕ) (b c r : Built) → js ≡ [] → all_ended ks c ≡ all_ended js (made f b) → ls ≡ ks →
+pub arms_ended : (f : Maker) (js ks ls : List ℕ) (b c r : Built) → js ≡ [] →
+    all_ended ks c ≡ all_ended js (made f b) → ls ≡ ks →
     r ≡ all_ended ls c →
     r ≡ made f b
 arms_ended f js ks ls b c r h e k is = is ∙ ap (λ k. all_ended k c) k ∙ e ∙ ap (λ k. all_ended k (made f b)) h
 
-pub case_by : (p : Program) (e subject : Tree) (ts us : Trees) (sc here there : Scope) (a : Around) (l : ℕ) (b c d r : Built) →
+pub case_by : (p : Program) (e subject : Tree) (ts us : Trees) (sc here there : Scope) (a : Around) (l : ℕ)
+    (b c d r : Built) →
     l ≡ length sc →
-    subject ≡ e → here ≡ sc → there ≡ hidden ∷ here → us ≡ ts → c ≡ made (tree_code p subject sc a) b → d ≡ made (put_away l) c →
+    subject ≡ e → here ≡ sc → there ≡ hidden ∷ here → us ≡ ts → c ≡ made (tree_code p subject sc a) b →
+    d ≡ made (put_away l) c →
     r ≡ made (arms_code p us l there a) d → r ≡ made (form_code p (t.Shape.cases e ts) 0 no_place sc a) b
 case_by p e subject ts us sc here there a l b c d r h x s u y f g is =
-    is ∙ ap (λ k. made (arms_code p k l there a) d) y ∙ ap (λ k. made (arms_code p ts l k a) d) (u ∙ ap (λ k. hidden ∷ k) s)
-    ∙ ap (made (arms_code p ts l (hidden ∷ sc) a)) (g ∙ ap (made (put_away l)) (f ∙ ap (λ k. made (tree_code p k sc a) b) x))
+    is ∙ ap (λ k. made (arms_code p k l there a) d) y
+    ∙ ap (λ k. made (arms_code p ts l k a) d) (u ∙ ap (λ k. hidden ∷ k) s)
+    ∙ ap (made (arms_code p ts l (hidden ∷ sc) a))
+    (g ∙ ap (made (put_away l)) (f ∙ ap (λ k. made (tree_code p k sc a) b) x))
     ∙ ap (λ k. made (arms_code p ts k (hidden ∷ sc) a) (made (put_away k) (made (tree_code p e sc a) b))) h
     ∙ sym (made_then (tree_code p e sc a) (put_away (length sc) then arms_code p ts (length sc) (hidden ∷ sc) a) b
     ∙ made_then (put_away (length sc)) (arms_code p ts (length sc) (hidden ∷ sc) a) (made (tree_code p e sc a) b))
 
-pub case_cut : (l : ℕ) (sc here there behind r : Scope) → l ≡ length sc → here ≡ sc → there ≡ hidden ∷ here → behind ≡ there →
+pub case_cut : (l : ℕ) (sc here there behind r : Scope) → l ≡ length sc → here ≡ sc → there ≡ hidden ∷ here →
+    behind ≡ there →
     r ≡ cut_to l behind →
     r ≡ sc
 case_cut l sc here there behind r h s u k is =
-    is ∙ ap (λ n. cut_to n behind) h ∙ ap (cut_to (length sc)) (k ∙ u ∙ ap (λ k. hidden ∷ k) s) ∙ cut_back (hidden ∷ []) sc
+    is ∙ ap (λ n. cut_to n behind) h ∙ ap (cut_to (length sc)) (k ∙ u ∙ ap (λ k. hidden ∷ k) s)
+    ∙ cut_back (hidden ∷ []) sc

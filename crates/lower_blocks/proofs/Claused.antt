@@ -25,9 +25,11 @@ module _ (p : Program) (e : Tree) (sc : Scope) (a : Around) where
       c ≡ made (claused (program_of p) (differ_of p) s sc (tree_code p e sc a) (inner_code p e sc a) rest) b →
       c ≡ made (claused_code p e sc a rest) b
   kind_code s rest b c h is =
-      is ∙ ap (λ s. made (claused (program_of p) (differ_of p) s sc (tree_code p e sc a) (inner_code p e sc a) rest) b) (sym h)
+      is ∙ ap (λ s. made
+      (claused (program_of p) (differ_of p) s sc (tree_code p e sc a) (inner_code p e sc a) rest) b) (sym h)
 
-  pub plainly_claused : (ts : List Turn) (here : Scope) (b c d : Built) → statement_of e ≡ plain → c ≡ made (tree_code p e sc a) b →
+  pub plainly_claused : (ts : List Turn) (here : Scope) (b c d : Built) → statement_of e ≡ plain →
+      c ≡ made (tree_code p e sc a) b →
       here ≡ sc →
       d ≡ pushed o.Drop c → Leads (claused_code p e sc a) true ts ts here b d
   plainly_claused ts here b c d h f s g = record {
@@ -37,7 +39,8 @@ module _ (p : Program) (e : Tree) (sc : Scope) (a : Around) where
         ∙ sym (claused_plain (program_of p) (differ_of p) sc (tree_code p e sc a) (inner_code p e sc a) rest b)));
   }
 
-  pub definition_claused : (x : Binder) (ts : List Turn) (here there : Scope) (b c d r : Built) → statement_of e ≡ defines x →
+  pub definition_claused : (x : Binder) (ts : List Turn) (here there : Scope) (b c d r : Built) →
+      statement_of e ≡ defines x →
       c ≡ made (inner_code p e sc a) b → here ≡ sc → d ≡ made (bind x (length here)) c → there ≡ with_binder x here →
       r ≡ pushed o.Drop d →
       Leads (claused_code p e sc a) true ts ts there b r
@@ -50,24 +53,30 @@ module _ (p : Program) (e : Tree) (sc : Scope) (a : Around) where
         ∙ sym (claused_defines (program_of p) (differ_of p) sc x (tree_code p e sc a) (inner_code p e sc a) rest b)));
   }
 
-  pub defer_claused : (t : Tree) (ts : List Turn) (here : Scope) (b c : Built) → statement_of e ≡ defers t → c ≡ made stuck b →
+  pub defer_claused : (t : Tree) (ts : List Turn) (here : Scope) (b c : Built) → statement_of e ≡ defers t →
+      c ≡ made stuck b →
       Leads (claused_code p e sc a) false ts ts here b c
   defer_claused t ts here b c h is = record {
     leads = λ rest. ap (turns_closed ts)
         (kind_code (defers t) rest b c h
-        (is ∙ sym (claused_defers (program_of p) (differ_of p) sc t (tree_code p e sc a) (inner_code p e sc a) rest b)));
+        (is ∙ sym
+        (claused_defers (program_of p) (differ_of p) sc t (tree_code p e sc a) (inner_code p e sc a) rest b)));
   }
 
   -- the turns of a generator whose first local is the one behind s, with what stands in them
   abbrev turns_of : (g : Generator) (rest : Scope → Maker) (s : Scope) (k : Built) → Built
   turns_of g rest s k =
-      turns_ended (length (pushed (taking g (length s)) (pushed o.Commit (with_local (suc (suc (suc (length s)))) k))).ops) (length s)
+      turns_ended
+      (length (pushed (taking g (length s))
+      (pushed o.Commit (with_local (suc (suc (suc (length s)))) k))).ops) (length s)
       (made (rest (with_generator g s)) (turns_begun (taking g (length s)) (length s) k))
 
   pub generator_claused : (g : Generator) (ts us : List Turn) (t : Turn) (here there : Scope) (b c d : Built) →
       statement_of e ≡ generates g →
       c ≡ made (inner_code p e sc a) b → here ≡ sc → t.local ≡ length here →
-      t.begun ≡ length (pushed (taking g (length here)) (pushed o.Commit (with_local (suc (suc (suc (length here)))) c))).ops →
+      t.begun ≡
+      length (pushed (taking g (length here))
+      (pushed o.Commit (with_local (suc (suc (suc (length here)))) c))).ops →
       d ≡ turns_begun (taking g (length here)) (length here) c → there ≡ with_generator g here → us ≡ ts ++ t ∷ [] →
       Leads (claused_code p e sc a) true ts us there b d
   generator_claused g ts us t here there b c d h f s l n is u more = record {

@@ -17,7 +17,8 @@ use Rattle.lower_blocks.specs.Codes.{statements_code}
 
 module _ (p : Program) (sc : Scope) (a : Around) (cs : Trees) (t : Tree) where
   pub if_alone_by : (e : Option Tree) (n : ℕ) (b c d r : Built) → e ≡ None → n ≡ length b.ops → c ≡ pushed (o.Try 0) b →
-      d ≡ made (tree_code p t (scope_behind cs sc) a) (held (made (statements_code p cs sc (enclosed a)) c)) → r ≡ if_alone_ended n d →
+      d ≡ made (tree_code p t (scope_behind cs sc) a) (held (made (statements_code p cs sc (enclosed a)) c)) →
+      r ≡ if_alone_ended n d →
       r ≡ made (form_code p (if_shape cs t e) 0 no_place sc a) b
   if_alone_by e n b c d r h m f g is =
       let conditions : Maker = statements_code p cs sc (enclosed a) in
@@ -26,7 +27,8 @@ module _ (p : Program) (sc : Scope) (a : Around) (cs : Trees) (t : Tree) where
       ∙ ap (if_alone_ended (length b.ops)) (g ∙ ap (λ k. made taken (held (made conditions k))) f)
       ∙ sym (if_alone_law conditions taken b) ∙ ap (λ e. made (form_code p (if_shape cs t e) 0 no_place sc a) b) (sym h)
 
-  pub if_else_by : (e : Option Tree) (other : Tree) (here : Scope) (n : ℕ) (b c d r : Built) → e ≡ Some other → here ≡ sc →
+  pub if_else_by : (e : Option Tree) (other : Tree) (here : Scope) (n : ℕ) (b c d r : Built) →
+      e ≡ Some other → here ≡ sc →
       n ≡ length b.ops →
       c ≡ pushed (o.Try 0) b →
       d ≡ made (tree_code p t (scope_behind cs sc) a) (held (made (statements_code p cs sc (enclosed a)) c)) →

@@ -20,24 +20,29 @@ module _ (p : Program) (xs : List Expr) (i : ℕ) where
       made (more_code p (left xs (i + 1)) (scope_stated (statement_of (tree_of x)) sc) (around_behind p (tree_of x) a))
       (made (stated_code p (tree_of x) sc a) (pushed o.Drop b))
   more_at x sc a b h e =
-      let rest = more_code p (left xs (i + 1)) (scope_stated (statement_of (tree_of x)) sc) (around_behind p (tree_of x) a) in
+      let rest =
+      more_code p (left xs (i + 1)) (scope_stated (statement_of (tree_of x)) sc) (around_behind p (tree_of x) a) in
       ap (λ ts. made (more_code p ts sc a) b) (left_next xs i x h e)
       ∙ made_then (one o.Drop) (stated_code p (tree_of x) sc a then rest) b
       ∙ ap (made (stated_code p (tree_of x) sc a then rest)) (made_one o.Drop b)
       ∙ made_then (stated_code p (tree_of x) sc a) rest (pushed o.Drop b)
 
-  pub more_next : (x : Expr) (sc there : Scope) (a around : Around) (b c d all : Built) → i < length xs → x ≡ get_or xs i x →
-      c ≡ pushed o.Drop b → d ≡ made (stated_code p (tree_of x) sc a) c → there ≡ scope_stated (statement_of (tree_of x)) sc →
+  pub more_next : (x : Expr) (sc there : Scope) (a around : Around) (b c d all : Built) → i < length xs →
+      x ≡ get_or xs i x →
+      c ≡ pushed o.Drop b → d ≡ made (stated_code p (tree_of x) sc a) c →
+      there ≡ scope_stated (statement_of (tree_of x)) sc →
       around ≡ around_behind p (tree_of x) a → made (more_code p (left xs i) sc a) b ≡ all →
       made (more_code p (left xs (i + 1)) there around) d ≡ all
   more_next x sc there a around b c d all h e f g s k is =
       ap (λ s. made (more_code p (left xs (i + 1)) s around) d) s
       ∙ ap (λ a. made (more_code p (left xs (i + 1)) (scope_stated (statement_of (tree_of x)) sc) a) d) k
-      ∙ ap (made (more_code p (left xs (i + 1)) (scope_stated (statement_of (tree_of x)) sc) (around_behind p (tree_of x) a)))
+      ∙ ap (made
+      (more_code p (left xs (i + 1)) (scope_stated (statement_of (tree_of x)) sc) (around_behind p (tree_of x) a)))
       (g ∙ ap (made (stated_code p (tree_of x) sc a)) f)
       ∙ sym (more_at x sc a b h e) ∙ is
 
-  pub more_done : (sc : Scope) (a : Around) (b all : Built) → length xs ≤ i → made (more_code p (left xs i) sc a) b ≡ all → b ≡ all
+  pub more_done : (sc : Scope) (a : Around) (b all : Built) → length xs ≤ i →
+      made (more_code p (left xs i) sc a) b ≡ all → b ≡ all
   more_done sc a b all h is = sym (ap (λ ts. made (more_code p ts sc a) b) (left_none xs i h) ∙ made_nothing b) ∙ is
 
 module _ (xs : List Expr) (i : ℕ) where
@@ -59,15 +64,18 @@ module _ (p : Program) (sc : Scope) (a : Around) where
   first_stated : (x : Expr) (rest : List Expr) (b : Built) →
       made (statements_code p (trees (map tree_of (x ∷ rest))) sc a) b ≡
       made (when (any_defer (trees (map tree_of (x ∷ rest)))) (one (o.Leave a.defers)))
-      (made (more_code p (trees (map tree_of rest)) (scope_stated (statement_of (tree_of x)) sc) (around_behind p (tree_of x) a))
+      (made (more_code p (trees (map tree_of rest)) (scope_stated (statement_of (tree_of x)) sc)
+      (around_behind p (tree_of x) a))
       (made (stated_code p (tree_of x) sc a) b))
   first_stated x rest b =
       let f = stated_code p (tree_of x) sc a in
-      let g = more_code p (trees (map tree_of rest)) (scope_stated (statement_of (tree_of x)) sc) (around_behind p (tree_of x) a) in
+      let g = more_code p (trees (map tree_of rest)) (scope_stated (statement_of (tree_of x)) sc)
+      (around_behind p (tree_of x) a) in
       let h = when (any_defer (trees (map tree_of (x ∷ rest)))) (one (o.Leave a.defers)) in
       made_then f (g then h) b ∙ made_then g h (made f b)
 
-  pub some_statements : (xs rest : List Expr) (x : Expr) (there : Scope) (around : Around) (q : Bool) (b c d r : Built) → xs ≡ x ∷ rest →
+  pub some_statements : (xs rest : List Expr) (x : Expr) (there : Scope) (around : Around) (q : Bool)
+      (b c d r : Built) → xs ≡ x ∷ rest →
       c ≡ made (stated_code p (tree_of x) sc a) b → there ≡ scope_stated (statement_of (tree_of x)) sc →
       around ≡ around_behind p (tree_of x) a →
       d ≡ made (more_code p (trees (map tree_of rest)) there around) c → q ≡ any_defer (trees (map tree_of xs)) →

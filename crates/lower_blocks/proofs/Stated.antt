@@ -19,14 +19,20 @@ use Rattle.lower_blocks.specs.Codes.{inner_code, stated_code}
 
 module _ (p : Program) (e : Tree) (sc : Scope) (a : Around) where
   by_kind : (s : Statement) (b c : Built) → statement_of e ≡ s →
-      c ≡ made (stated (program_of p) (differ_of p) s sc (tree_code p e sc a) (inner_code p e sc a)) b → c ≡ made (stated_code p e sc a) b
-  by_kind s b c h is = is ∙ ap (λ s. made (stated (program_of p) (differ_of p) s sc (tree_code p e sc a) (inner_code p e sc a)) b) (sym h)
+      c ≡ made (stated (program_of p) (differ_of p) s sc (tree_code p e sc a) (inner_code p e sc a)) b →
+      c ≡ made (stated_code p e sc a) b
+  by_kind s b c h is =
+      is ∙ ap (λ s. made
+      (stated (program_of p) (differ_of p) s sc (tree_code p e sc a) (inner_code p e sc a)) b) (sym h)
 
-  pub plainly_stated : (b c : Built) → statement_of e ≡ plain → c ≡ made (tree_code p e sc a) b → c ≡ made (stated_code p e sc a) b
+  pub plainly_stated : (b c : Built) → statement_of e ≡ plain → c ≡ made (tree_code p e sc a) b →
+      c ≡ made (stated_code p e sc a) b
   plainly_stated b c h is =
-      by_kind plain b c h (is ∙ sym (stated_plain (program_of p) (differ_of p) sc (tree_code p e sc a) (inner_code p e sc a) b))
+      by_kind plain b c h
+      (is ∙ sym (stated_plain (program_of p) (differ_of p) sc (tree_code p e sc a) (inner_code p e sc a) b))
 
-  pub definition_stated : (x : Binder) (here : Scope) (b c d : Built) → statement_of e ≡ defines x → c ≡ made (inner_code p e sc a) b →
+  pub definition_stated : (x : Binder) (here : Scope) (b c d : Built) → statement_of e ≡ defines x →
+      c ≡ made (inner_code p e sc a) b →
       here ≡ sc →
       d ≡ made (bind x (length here)) c → d ≡ made (stated_code p e sc a) b
   definition_stated x here b c d h f s g =
@@ -34,7 +40,8 @@ module _ (p : Program) (e : Tree) (sc : Scope) (a : Around) where
       (g ∙ ap (λ k. made (bind x (length k)) c) s ∙ ap (made (bind x (length sc))) f
       ∙ sym (stated_defines (program_of p) (differ_of p) sc x (tree_code p e sc a) (inner_code p e sc a) b))
 
-  pub defer_stated : (t : Tree) (n : ℕ) (b c d r : Built) → statement_of e ≡ defers t → n ≡ length b.ops → c ≡ pushed (o.Defer 0) b →
+  pub defer_stated : (t : Tree) (n : ℕ) (b c d r : Built) → statement_of e ≡ defers t → n ≡ length b.ops →
+      c ≡ pushed (o.Defer 0) b →
       d ≡ made (inner_code p e sc a) c → r ≡ defer_ended n d → r ≡ made (stated_code p e sc a) b
   defer_stated t n b c d r h m f g is =
       by_kind (defers t) b r h

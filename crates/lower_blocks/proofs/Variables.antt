@@ -12,7 +12,8 @@ use Rattle.lower_expr.proofs.Laws.{made_then}
 use Rattle.lower_parts.specs.Parts.{tree_code, form_code}
 use Rattle.lower_blocks.specs.Codes.{variable_shape}
 
-pub variable_by : (p : Program) (e : Tree) (pl : Place) (sc : Scope) (a : Around) (l : ℕ) (b c r : Built) → l ≡ length sc →
+pub variable_by : (p : Program) (e : Tree) (pl : Place) (sc : Scope) (a : Around) (l : ℕ) (b c r : Built) →
+    l ≡ length sc →
     c ≡ made (tree_code p e sc a) b → r ≡ made (placed pl o.New then kept l then one (o.Load 0)) c →
     r ≡ made (form_code p (variable_shape e) 0 pl sc a) b
 variable_by p e pl sc a l b c r h f is =

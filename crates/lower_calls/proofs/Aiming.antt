@@ -20,7 +20,8 @@ raised_is (suc n) a =
     raised_is n (up a) ∙ ap (λ h. record a { height = h }) same
 
 -- whether the base of a target is there, by what the target is
-pub has_base_by : (p : Program) (k : ℕ → ℕ → Bool) (b : Tree) (base : Base) (sc : Scope) (kind : Target) (there : Bool) → kind ≡ kind_of b →
+pub has_base_by : (p : Program) (k : ℕ → ℕ → Bool) (b : Tree) (base : Base) (sc : Scope) (kind : Target)
+    (there : Bool) → kind ≡ kind_of b →
     there ≡ by_kind kind (named_base p k base sc) (member_base p k base) → there ≡ has_base p k b base sc
 has_base_by p k b base sc kind there e is =
     is ∙ ap (λ t. by_kind t (named_base p k base sc) (member_base p k base)) e ∙ sym (has_base_is p k base sc b)

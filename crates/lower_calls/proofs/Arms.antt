@@ -18,23 +18,29 @@ use Rattle.lower_calls.specs.Parts.{group_code, arm_code, arms_lowered}
 
 module _ (p : Program) (xs : List Expr) (i : ℕ) (sc : Scope) where
   -- what is left ends as all does: behind one arm more, and where none is left
-  pub arms_next : (x : Expr) (here : Scope) (at next : ℕ) (b behind all : Built) → i < length xs → x ≡ get_or xs i x → here ≡ sc →
-      next ≡ suc at → behind ≡ made (arm_code p here (tree_of x)) (ended_here at b) → arms_lowered p sc (left xs i) at b ≡ all →
+  pub arms_next : (x : Expr) (here : Scope) (at next : ℕ) (b behind all : Built) → i < length xs →
+      x ≡ get_or xs i x → here ≡ sc →
+      next ≡ suc at → behind ≡ made (arm_code p here (tree_of x)) (ended_here at b) →
+      arms_lowered p sc (left xs i) at b ≡ all →
       arms_lowered p sc (left xs (i + 1)) next behind ≡ all
   arms_next x here at next b behind all h e k f g is =
       ap (λ n. arms_lowered p sc (left xs (i + 1)) n behind) f
-      ∙ ap (arms_lowered p sc (left xs (i + 1)) (suc at)) (g ∙ ap (λ s. made (arm_code p s (tree_of x)) (ended_here at b)) k)
+      ∙ ap (arms_lowered p sc (left xs (i + 1)) (suc at))
+      (g ∙ ap (λ s. made (arm_code p s (tree_of x)) (ended_here at b)) k)
       ∙ sym (ap (λ ts. arms_lowered p sc ts at b) (left_next xs i x h e)) ∙ is
 
   pub arms_done : (at : ℕ) (b all : Built) → length xs ≤ i → arms_lowered p sc (left xs i) at b ≡ all → b ≡ all
   arms_done at b all h is = sym (ap (λ ts. arms_lowered p sc ts at b) (left_none xs i h)) ∙ is
 
-pub group_is : (p : Program) (kind : Kind) (pl : Place) (ts : Trees) (sc : Scope) (b begun ended all : Built) (count at jump : ℕ) →
+pub group_is : (p : Program) (kind : Kind) (pl : Place) (ts : Trees) (sc : Scope) (b begun ended all : Built)
+    (count at jump : ℕ) →
     count ≡ how_many ts → at ≡ suc (length b.ops) → jump ≡ length b.ops + 1 + count →
-    begun ≡ group_begun (kind_number kind) count pl b → ended ≡ arms_lowered p sc ts at begun → all ≡ ended_here jump ended →
+    begun ≡ group_begun (kind_number kind) count pl b → ended ≡ arms_lowered p sc ts at begun →
+    all ≡ ended_here jump ended →
     all ≡ made (group_code p kind pl ts sc) b
 group_is p kind pl ts sc b begun ended all count at jump c a j g e f =
     f ∙ ap (ended_here jump) (
     e ∙ ap (λ n. arms_lowered p sc ts n begun) a
     ∙ ap (arms_lowered p sc ts (suc (length b.ops))) (g ∙ ap (λ n. group_begun (kind_number kind) n pl b) c))
-    ∙ sym (task.group_law (program_of p) (differ_of p) sc (kind_number kind) ts pl b jump (j ∙ ap (λ n. length b.ops + 1 + n) c))
+    ∙ sym (task.group_law (program_of p) (differ_of p) sc (kind_number kind) ts pl b jump
+    (j ∙ ap (λ n. length b.ops + 1 + n) c))

@@ -27,7 +27,8 @@ pub args_are : (t : Applied) → map tree_of (out-Applied t).args ≡ (applied_o
 args_are t = sym (ap (λ q. q.1) (applied_parts t))
 
 -- what adds the code of a callee and arguments adds that of their struct
-pub applied_made : (f : Tree → Trees → Maker) (q : Applied) (e : Expr) (es : List Expr) (x last : Built) → e ≡ (out-Applied q).callee →
+pub applied_made : (f : Tree → Trees → Maker) (q : Applied) (e : Expr) (es : List Expr) (x last : Built) →
+    e ≡ (out-Applied q).callee →
     es ≡ (out-Applied q).args → last ≡ made (f (tree_of e) (trees (map tree_of es))) x →
     last ≡ made (f (applied_of q).0 (trees (applied_of q).1)) x
 applied_made f q e es x last h k is =
@@ -35,7 +36,9 @@ applied_made f q e es x last h k is =
     ∙ ap (λ bs. made (f (applied_of q).0 (trees bs)) x) (ap (map tree_of) k ∙ args_are q)
 
 -- and the same for two parts
-pub two_made : (f : Tree → Tree → Maker) (q : Two) (e d : Expr) (x last : Built) → e ≡ (out-Two q).left → d ≡ (out-Two q).right →
+pub two_made : (f : Tree → Tree → Maker) (q : Two) (e d : Expr) (x last : Built) → e ≡ (out-Two q).left →
+    d ≡ (out-Two q).right →
     last ≡ made (f (tree_of e) (tree_of d)) x → last ≡ made (f (two_of q).0 (two_of q).1) x
 two_made f q e d x last h k is =
-    is ∙ ap (λ a. made (f a (tree_of d)) x) (ap tree_of h ∙ left_is q) ∙ ap (λ a. made (f (two_of q).0 a) x) (ap tree_of k ∙ right_is q)
+    is ∙ ap (λ a. made (f a (tree_of d)) x) (ap tree_of h ∙ left_is q)
+    ∙ ap (λ a. made (f (two_of q).0 a) x) (ap tree_of k ∙ right_is q)

@@ -13,8 +13,7 @@ use Rattle.lower_lookup.specs.Types.{differ_of}
 use Rattle.lower_expr.specs.Building.{Built, made}
 use Rattle.lower_expr.proofs.Laws.{made_then}
 use Rattle.lower_calls.specs.Aims.{Aimed, at_name, at_member, at_index, at_other, aimed, aimed_in, levels, levels_in}
-use Rattle.lower_calls.specs.Aims.{before, beneath, under}
-use Rattle.lower_calls.specs.Aims.{operands_to, bottom_code, level_code, target_code, aim_code}
+use Rattle.lower_calls.specs.Aims.{before, beneath, under, operands_to, bottom_code, level_code, target_code, aim_code}
 use Rattle.lower_calls.proofs.Unders.{under_next}
 
 abbrev levels_at : Aimed → ℕ
@@ -141,15 +140,18 @@ module _ (p : Program) (base : Base) (sc : Scope) (a : Around) where
 
   -- the last index stands behind what is indexed
   level_is : (b : Tree) → 0 < levels b →
-      target_code p b base sc a ≡ target_code p (beneath b) base sc a then level_code p (target_operands (beneath b)) (aimed b) sc a
+      target_code p b base sc a ≡
+      target_code p (beneath b) base sc a then level_code p (target_operands (beneath b)) (aimed b) sc a
   level_is b h = by (aimed b) refl
     where
       by : (m : Aimed) → aimed b ≡ m →
-          target_code p b base sc a ≡ target_code p (beneath b) base sc a then level_code p (target_operands (beneath b)) (aimed b) sc a
+          target_code p b base sc a ≡
+          target_code p (beneath b) base sc a then level_code p (target_operands (beneath b)) (aimed b) sc a
       by at_name e = absurd (omega (arith, h, levels_are b at_name e))
       by (at_member c) e = absurd (omega (arith, h, levels_are b (at_member c) e))
       by (at_index c ts) e = code_at b ∙ ap (λ m. aim_code p m base sc a) e
-          ∙ sym (ap (λ m. target_code p (before m b) base sc a then level_code p (target_operands (before m b)) m sc a) e)
+          ∙ sym (ap
+          (λ m. target_code p (before m b) base sc a then level_code p (target_operands (before m b)) m sc a) e)
       by at_other e = absurd (omega (arith, h, levels_are b at_other e))
 
   level_operands : (b : Tree) → 0 < levels b → target_operands b ≡ operands_to (target_operands (beneath b)) (aimed b)
@@ -158,21 +160,24 @@ module _ (p : Program) (base : Base) (sc : Scope) (a : Around) where
       by : (m : Aimed) → aimed b ≡ m → target_operands b ≡ operands_to (target_operands (beneath b)) (aimed b)
       by at_name e = absurd (omega (arith, h, levels_are b at_name e))
       by (at_member c) e = absurd (omega (arith, h, levels_are b (at_member c) e))
-      by (at_index c ts) e = operands_are b ∙ ap operands_at e ∙ sym (ap (λ m. operands_to (target_operands (before m b)) m) e)
+      by (at_index c ts) e =
+          operands_are b ∙ ap operands_at e ∙ sym (ap (λ m. operands_to (target_operands (before m b)) m) e)
       by at_other e = absurd (omega (arith, h, levels_are b at_other e))
 
   pub target_begun : (b part : Tree) (left : ℕ) (x all : Built) → left ≡ levels b → part ≡ under left b →
       all ≡ made (bottom_code p (aimed part) base sc a) x → all ≡ made (target_code p (under left b) base sc a) x
   target_begun b part left x all e same is =
       let none : levels (under left b) ≡ 0 = omega (arith, e, levels_under left b) in
-      is ∙ ap (λ c. made (bottom_code p (aimed c) base sc a) x) same ∙ ap (λ f. made f x) (sym (bottom_is (under left b) none))
+      is ∙ ap (λ c. made (bottom_code p (aimed c) base sc a) x) same
+      ∙ ap (λ f. made f x) (sym (bottom_is (under left b) none))
 
   pub operands_begun : (b : Tree) (left : ℕ) → left ≡ levels b → 0 ≡ target_operands (under left b)
   operands_begun b left e =
       let none : levels (under left b) ≡ 0 = omega (arith, e, levels_under left b) in
       sym (no_operands (under left b) none)
 
-  pub target_done : (b : Tree) (left : ℕ) (x all : Built) → left ≤ 0 → all ≡ made (target_code p (under left b) base sc a) x →
+  pub target_done : (b : Tree) (left : ℕ) (x all : Built) → left ≤ 0 →
+      all ≡ made (target_code p (under left b) base sc a) x →
       all ≡ made (target_code p b base sc a) x
   target_done b left x all h is =
       let none : left ≡ 0 = omega (arith, h) in
@@ -190,21 +195,26 @@ module _ (p : Program) (base : Base) (sc : Scope) (a : Around) where
     one_left : left ≡ next + 1 → left ≤ levels b → 0 < levels (under next b)
     one_left e h = omega (arith, e, h, levels_under next b)
 
-    pub target_next : (here : Scope) (x mid last : Built) → left ≡ next + 1 → left ≤ levels b → part ≡ under next b → here ≡ sc →
+    pub target_next : (here : Scope) (x mid last : Built) → left ≡ next + 1 → left ≤ levels b →
+        part ≡ under next b → here ≡ sc →
         n ≡ target_operands (under left b) → mid ≡ made (target_code p (under left b) base sc a) x →
         last ≡ made (level_code p n (aimed part) here a) mid → last ≡ made (target_code p (under next b) base sc a) x
     target_next here x mid last e h same k count is go =
         let u : Tree = under next b in
-        go ∙ ap (λ c. made (level_code p n (aimed c) here a) mid) same ∙ ap (λ s. made (level_code p n (aimed u) s a) mid) k
+        go ∙ ap (λ c. made (level_code p n (aimed c) here a) mid) same
+        ∙ ap (λ s. made (level_code p n (aimed u) s a) mid) k
         ∙ ap (λ n. made (level_code p n (aimed u) sc a) mid) (count ∙ ap target_operands (behind_one e))
         ∙ ap (made (level_code p (target_operands (beneath u)) (aimed u) sc a))
         (is ∙ ap (λ c. made (target_code p c base sc a) x) (behind_one e))
-        ∙ sym (made_then (target_code p (beneath u) base sc a) (level_code p (target_operands (beneath u)) (aimed u) sc a) x)
+        ∙ sym (made_then (target_code p (beneath u) base sc a)
+        (level_code p (target_operands (beneath u)) (aimed u) sc a) x)
         ∙ ap (λ f. made f x) (sym (level_is u (one_left e h)))
 
-    pub operands_next : (more : ℕ) → left ≡ next + 1 → left ≤ levels b → part ≡ under next b → n ≡ target_operands (under left b) →
+    pub operands_next : (more : ℕ) → left ≡ next + 1 → left ≤ levels b → part ≡ under next b →
+        n ≡ target_operands (under left b) →
         more ≡ operands_to n (aimed part) → more ≡ target_operands (under next b)
     operands_next more e h same count is =
         let u : Tree = under next b in
-        is ∙ ap (λ c. operands_to n (aimed c)) same ∙ ap (λ n. operands_to n (aimed u)) (count ∙ ap target_operands (behind_one e))
+        is ∙ ap (λ c. operands_to n (aimed c)) same
+        ∙ ap (λ n. operands_to n (aimed u)) (count ∙ ap target_operands (behind_one e))
         ∙ sym (level_operands u (one_left e h))

@@ -15,13 +15,17 @@ use Rattle.lower_calls.specs.Calls.{object_code, behind_code, member_code}
 use Rattle.lower_calls.proofs.Seen.{object_is}
 use Rattle.lower_calls.proofs.Steps.{spawned_object}
 
-module _ (p : Program) (b : Tree) (ts : Trees) (sc : Scope) (a : Around) (f whole : Form) (pl : Place) (x all : Built) where
+module _ (p : Program) (b : Tree) (ts : Trees) (sc : Scope) (a : Around) (f whole : Form) (pl : Place)
+    (x all : Built) where
   pub with_object : of_object f ≡ callee_of (program_of p) b whole pl →
-      all ≡ made (object_code p (object_of b) sc a then behind_code p ts sc a f) x → all ≡ made (member_code p b ts sc a f) x
-  with_object e is = is ∙ ap (λ m. made (m then behind_code p ts sc a f) x) (sym (object_is p sc a b whole f pl (sym e)))
+      all ≡ made (object_code p (object_of b) sc a then behind_code p ts sc a f) x →
+      all ≡ made (member_code p b ts sc a f) x
+  with_object e is =
+      is ∙ ap (λ m. made (m then behind_code p ts sc a f) x) (sym (object_is p sc a b whole f pl (sym e)))
 
   pub spawned_with : of_object f ≡ spawned_callee (callee_of (program_of p) b whole pl) →
-      all ≡ made (object_code p (object_of b) sc a then behind_code p ts sc a f) x → all ≡ made (member_code p b ts sc a f) x
+      all ≡ made (object_code p (object_of b) sc a then behind_code p ts sc a f) x →
+      all ≡ made (member_code p b ts sc a f) x
   spawned_with e is =
       spawned_object (callee_of (program_of p) b whole pl) f (sym e) (λ g h.
       is ∙ ap (λ m. made (m then behind_code p ts sc a f) x) (sym (object_is p sc a b whole g pl h)))

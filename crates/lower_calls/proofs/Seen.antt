@@ -122,5 +122,6 @@ module _ (p : Program) (sc : Scope) (a : Around) where
   divided_is no_trees f pl = refl
   divided_is (more_trees (tree n q s) ts) f pl = (seen p n pl sc a f f s).0
 
-  pub spawned_is : (b : Tree) (f : Form) → spawned (program_of p) (differ_of p) b sc a ≡ spawned_code p (called_of b) (place_of b) sc a
+  pub spawned_is : (b : Tree) (f : Form) →
+      spawned (program_of p) (differ_of p) b sc a ≡ spawned_code p (called_of b) (place_of b) sc a
   spawned_is (tree n q s) f = (seen p n q sc a f f s).1

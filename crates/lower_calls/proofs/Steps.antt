@@ -16,10 +16,12 @@ use Rattle.lower_lookup.specs.Types.{differ_of}
 use Rattle.lower_expr.specs.Building.{Built, made}
 use Rattle.lower_expr.proofs.Laws.{made_then}
 
-pub two_steps : (f g h : Maker) (b mid last : Built) → mid ≡ made f b → last ≡ made h mid → h ≡ g → last ≡ made (f then g) b
+pub two_steps : (f g h : Maker) (b mid last : Built) → mid ≡ made f b → last ≡ made h mid → h ≡ g →
+    last ≡ made (f then g) b
 two_steps f g h b mid last e k is = k ∙ ap (λ h. made h mid) is ∙ ap (made g) e ∙ sym (made_then f g b)
 
-pub three_steps : (f g h : Maker) (b first second last : Built) → first ≡ made f b → second ≡ made g first → last ≡ made h second →
+pub three_steps : (f g h : Maker) (b first second last : Built) → first ≡ made f b → second ≡ made g first →
+    last ≡ made h second →
     last ≡ made (f then g then h) b
 three_steps f g h b first second last d e k =
     k ∙ ap (made h) (e ∙ ap (made g) d) ∙ sym (made_then f (g then h) b ∙ made_then g h (made f b))
@@ -28,7 +30,8 @@ pub same_made : (f g : Maker) (b last : Built) → last ≡ made f b → f ≡ g
 same_made f g b last e is = e ∙ ap (λ h. made h b) is
 
 module _ (p : Program) (f : Maker) (b all : Built) (found : Option Val) where
-  pub as_value : (v : Val) → Some v ≡ found → all ≡ made (enum_op v) b → all ≡ made (membered (program_of p) (differ_of p) found f) b
+  pub as_value : (v : Val) → Some v ≡ found → all ≡ made (enum_op v) b →
+      all ≡ made (membered (program_of p) (differ_of p) found f) b
   unfolding membered
   as_value v e is = is ∙ ap (λ o. made (membered (program_of p) (differ_of p) o f) b) e
 
@@ -59,7 +62,8 @@ module _ (g h i j : Form → Maker) (b all : Built) (c : Callee) where
   by_none e is = is ∙ ap (λ c. made (by_callee c g h i j) b) e
 
 -- what is spawned with an object has it where it is called
-pub spawned_object : {A : Type 0} (c : Callee) (f : Form) → spawned_callee c ≡ of_object f → ((f : Form) → c ≡ of_object f → A) → A
+pub spawned_object : {A : Type 0} (c : Callee) (f : Form) → spawned_callee c ≡ of_object f →
+    ((f : Form) → c ≡ of_object f → A) → A
 spawned_object (alone g) f e go = absurd (cc (e))
 spawned_object (of_object g) f e go = go g refl
 spawned_object (of_value g) f e go = absurd (cc (e))
@@ -73,5 +77,6 @@ pub by_neither : (g h : Form → Maker) (b all : Built) (c : Callee) (k : Found)
 by_neither g h b all c (found.Alone a) e n m is = absurd (n a refl)
 by_neither g h b all c (found.OfObject a) e n m is = absurd (m a refl)
 by_neither g h b all c (found.OfValue a) e n m is = by_value g h (λ f. stuck) (λ f. stuck) b all c (form_of a) e is
-by_neither g h b all c (found.OfQuotient a) e n m is = by_quotient g h (λ f. stuck) (λ f. stuck) b all c (form_of a) e is
+by_neither g h b all c (found.OfQuotient a) e n m is =
+    by_quotient g h (λ f. stuck) (λ f. stuck) b all c (form_of a) e is
 by_neither g h b all c found.None e n m is = by_none g h (λ f. stuck) (λ f. stuck) b all c e is

@@ -32,6 +32,7 @@ module _ (p : Program) (x : Assign) (b c : Tree) (pl : Place) (base : Base) (n :
       let t : Bool = has_base (program_of p) (differ_of p) b base sc in
       let o : ℕ = mode_number (mode_of x) in
       let q : Bool = keeps x (differ_of p (number_of b) (number_of c)) in
-      ap (λ t. store t pl s i m k l) et ∙ ap (λ s. store t pl s i m k l) es ∙ ap (λ i. store t pl (slot_of base) i m k l) ei
+      ap (λ t. store t pl s i m k l) et ∙ ap (λ s. store t pl s i m k l) es
+      ∙ ap (λ i. store t pl (slot_of base) i m k l) ei
       ∙ ap (λ m. store t pl (slot_of base) n m k l) em ∙ ap (λ k. store t pl (slot_of base) n o k l) ek
       ∙ ap (store t pl (slot_of base) n o q) el

@@ -3,10 +3,10 @@
 //! A form is lowered by one function, whose contract names the code of the form; its parts are
 //! lowered by the function value of `lower_parts`.
 //!
-//! To be read in this order: `tasks`, the forms whose parts are arms; `members`, what is read behind
-//! a dot; `views`, the parts of callees and operands; `actions`, actions on their operands; `calls`,
-//! calls, indices, and calls that are spawned; `aims`, the indices of what `set` writes to, and
-//! `bases`, what they lead from; `targets`, `set`.
+//! To be read in this order: `tasks`, the forms whose parts are arms; `members`, what is read
+//! behind a dot; `views`, the parts of callees and operands; `actions`, actions on their operands;
+//! `calls`, calls, indices, and calls that are spawned; `aims`, the indices of what `set` writes
+//! to, and `bases`, what they lead from; `targets`, `set`.
 #![tactic(auto)]
 
 pub mod actions;

@@ -25,14 +25,16 @@ left_none xs i h = ap trees (seen_none tree_of xs i h)
 
 operands_at : (p : Program) (xs : List Expr) (i : ℕ) (x : Expr) (sc : Scope) (a : Around) (b : Built) → i < length xs →
     x ≡ get_or xs i x →
-    made (operands_code p (left xs i) sc a) b ≡ made (operands_code p (left xs (i + 1)) sc (up a)) (made (tree_code p (tree_of x) sc a)
+    made (operands_code p (left xs i) sc a) b ≡
+    made (operands_code p (left xs (i + 1)) sc (up a)) (made (tree_code p (tree_of x) sc a)
     b)
 operands_at p xs i x sc a b h e =
     ap (λ ts. made (operands_code p ts sc a) b) (left_next xs i x h e)
     ∙ made_then (tree_code p (tree_of x) sc a) (operands_code p (left xs (i + 1)) sc (up a)) b
 
 -- what is left ends as all does: behind one operand more, and where none is left
-pub operands_next : (p : Program) (xs : List Expr) (i : ℕ) (x : Expr) (sc here : Scope) (a above : Around) (b behind all : Built) →
+pub operands_next : (p : Program) (xs : List Expr) (i : ℕ) (x : Expr) (sc here : Scope) (a above : Around)
+    (b behind all : Built) →
     i < length xs → x ≡ get_or xs i x → here ≡ sc → behind ≡ made (tree_code p (tree_of x) here a) b → above ≡ up a →
     made (operands_code p (left xs i) sc a) b ≡ all → made (operands_code p (left xs (i + 1)) sc above) behind ≡ all
 operands_next p xs i x sc here a above b behind all h e k g f is =

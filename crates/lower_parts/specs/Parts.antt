@@ -46,14 +46,17 @@ abbrev pub Answers : Type 1
 Answers = Bor Tables → (depth : ℕ) → MutBor Builder → MutBor Scopes → Around → Bor Expr →
     Result (Unit {0}) Memory → MutBor Builder → MutBor Scopes → Type 0
 
--- a function value that lowers trees, for lesser depths than `most`: it may be called, it adds the code of the tree,
--- and it leaves the scope as it was
+-- a function value that lowers trees, for lesser depths than `most`: it may be called, it adds
+-- the code of the tree, and it leaves the scope as it was
 pub record Lowers (most : ℕ) (pre : Asks) (post : Answers) : Type 0 where
-  pub callable : (t : Bor Tables) (depth : ℕ) (b : MutBor Builder) (sc : MutBor Scopes) (a : Around) (e : Bor Expr) →
-      depth < most → pre t depth b sc a e
-  pub lowers : (t : Bor Tables) (depth : ℕ) (b : MutBor Builder) (sc : MutBor Scopes) (a : Around) (e : Bor Expr)
-      (r : Result (Unit {0}) Memory) (b' : MutBor Builder) (sc' : MutBor Scopes) → post t depth b sc a e r b' sc' →
-      OnOk r (built b'.now ≡ made (tree_code t.now.program.now (tree_of e.now) (scope_of sc.now) a) (built b.now))
-  pub keeps : (t : Bor Tables) (depth : ℕ) (b : MutBor Builder) (sc : MutBor Scopes) (a : Around) (e : Bor Expr)
-      (r : Result (Unit {0}) Memory) (b' : MutBor Builder) (sc' : MutBor Scopes) → post t depth b sc a e r b' sc' →
+  pub callable : (t : Bor Tables) (depth : ℕ) (b : MutBor Builder) (sc : MutBor Scopes)
+      (a : Around) (e : Bor Expr) → depth < most → pre t depth b sc a e
+  pub lowers : (t : Bor Tables) (depth : ℕ) (b : MutBor Builder) (sc : MutBor Scopes)
+      (a : Around) (e : Bor Expr) (r : Result (Unit {0}) Memory) (b' : MutBor Builder)
+      (sc' : MutBor Scopes) → post t depth b sc a e r b' sc' →
+      OnOk r (built b'.now ≡
+      made (tree_code t.now.program.now (tree_of e.now) (scope_of sc.now) a) (built b.now))
+  pub keeps : (t : Bor Tables) (depth : ℕ) (b : MutBor Builder) (sc : MutBor Scopes)
+      (a : Around) (e : Bor Expr) (r : Result (Unit {0}) Memory) (b' : MutBor Builder)
+      (sc' : MutBor Scopes) → post t depth b sc a e r b' sc' →
       OnOk r (scope_of sc'.now ≡ scope_of sc.now)

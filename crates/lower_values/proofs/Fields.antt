@@ -1,6 +1,5 @@
 -- The fields of an instance: those that are given, and all in their order.
-use Rattle.std.proofs.Common.{◌≡◌, ℕ, ◌+◌, ◌<◌, ◌≤◌, List, [], ◌∷◌, length, map, drop, get_or, refl}
-use Rattle.std.proofs.Common.{sym, ap, ◌∙◌}
+use Rattle.std.proofs.Common.{◌≡◌, ℕ, ◌+◌, ◌<◌, ◌≤◌, List, [], ◌∷◌, length, map, drop, get_or, refl, sym, ap, ◌∙◌}
 use Rattle.std.proofs.Common.{Option, Some, None}
 use denote.Ref.{Bor}
 use Rattle.verse_base.specs.declared.places.Place.{Place}
@@ -59,7 +58,8 @@ module _ (p : Program) (xs : List Given) (i : ℕ) (a : Around) where
       ∙ sym (ap (λ gs. made (code (givens gs) sc) b) (seen_next given_of xs i x h e)) ∙ is
 
   pub givens_done : (sc : Scope) (b all : Built) → length xs ≤ i → made (code (left_givens xs i) sc) b ≡ all → b ≡ all
-  givens_done sc b all h is = sym (ap (λ gs. made (code (givens gs) sc) b) (seen_none given_of xs i h) ∙ made_nothing b) ∙ is
+  givens_done sc b all h is =
+      sym (ap (λ gs. made (code (givens gs) sc) b) (seen_none given_of xs i h) ∙ made_nothing b) ∙ is
 
 -- from the i-th field on
 abbrev pub left_fields : List (Bor Field) → ℕ → List FieldTree
@@ -70,10 +70,12 @@ module _ (p : Program) (xs : List (Bor Field)) (i : ℕ) (gs : Givens) (l : ℕ)
   ops fs = field_ops (program_of p) (differ_of p) fs gs l
 
   pub fields_next : (x : Bor Field) (f : Maker) (b behind all : Built) → i < length xs → x ≡ get_or xs i x →
-      f ≡ field_op (program_of p) (differ_of p) (given_local (field_now x).name gs l) (field_now x).default (field_now x).number →
+      f ≡ field_op (program_of p) (differ_of p) (given_local (field_now x).name gs l) (field_now x).default
+      (field_now x).number →
       behind ≡ made f b → made (ops (left_fields xs i)) b ≡ all → made (ops (left_fields xs (i + 1))) behind ≡ all
   fields_next x f b behind all h e k g is =
-      let first : Maker = field_op (program_of p) (differ_of p) (given_local (field_now x).name gs l) (field_now x).default (field_now
+      let first : Maker =
+      field_op (program_of p) (differ_of p) (given_local (field_now x).name gs l) (field_now x).default (field_now
       x).number in
       let rest : Maker = ops (left_fields xs (i + 1)) in
       ap (made rest) (g ∙ ap (λ m. made m b) k) ∙ sym (made_then first rest b)
@@ -83,12 +85,15 @@ module _ (p : Program) (xs : List (Bor Field)) (i : ℕ) (gs : Givens) (l : ℕ)
   fields_done b all h is = sym (ap (λ fs. made (ops fs) b) (seen_none field_now xs i h) ∙ made_nothing b) ∙ is
 
 -- an instance of a class, by what its steps make, and of none
-pub class_done : (p : Program) (class : ℕ) (place : Place) (gs : Givens) (sc : Scope) (a : Around) (first : ℕ) (b given fields all :
+pub class_done : (p : Program) (class : ℕ) (place : Place) (gs : Givens) (sc : Scope) (a : Around) (first : ℕ)
+    (b given fields all :
     Built) →
     first ≡ length sc → given ≡ made (given_args (program_of p) (differ_of p) gs sc a) b →
     fields ≡ made (field_ops (program_of p) (differ_of p) (fields_of (program_of p) class) gs first) given →
     all ≡ made (placed place (numbered (o.Object class 0))) fields →
-    all ≡ made (instance_of (program_of p) (differ_of p) (Some class) place gs (length sc) (given_args (program_of p) (differ_of p) gs
+    all ≡ made
+    (instance_of (program_of p) (differ_of p) (Some class) place gs (length sc)
+    (given_args (program_of p) (differ_of p) gs
     sc a)) b
 unfolding instance_of
 class_done p class place gs sc a first b given fields all e1 e2 e3 e4 =

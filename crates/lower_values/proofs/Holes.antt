@@ -1,7 +1,6 @@
 -- Pieces of texts with holes.
-use Rattle.std.proofs.Common.{◌≡◌, ◌≢◌, ℕ, suc, ◌+◌, ◌<◌, ◌≤◌, List, [], ◌∷◌, length, map, drop, get_or}
-use Rattle.std.proofs.Common.{Bool, true, false, refl, sym, ap, ◌∙◌}
-use Rattle.std.proofs.Common.{arith}
+use Rattle.std.proofs.Common.{◌≡◌, ◌≢◌, ℕ, suc, ◌+◌, ◌<◌, ◌≤◌, List, [], ◌∷◌, length, map, drop, get_or, Bool, true}
+use Rattle.std.proofs.Common.{false, refl, sym, ap, ◌∙◌, arith}
 use Rattle.verse_base.specs.declared.places.Place.{Place}
 use Rattle.verse_tree.specs.Tree as t
 use Rattle.verse_tree.specs.Tree.{Bytes, Holes}
@@ -39,7 +38,8 @@ module _ (p : Program) (xs : List Hole) (i : ℕ) (sc : Scope) where
   code hs a = holed (program_of p) (differ_of p) hs sc a
 
   -- behind one hole more, and where none is left
-  pub holes_next : (x : Hole) (here : Scope) (a above : Around) (b behind all : Built) → i < length xs → x ≡ get_or xs i x →
+  pub holes_next : (x : Hole) (here : Scope) (a above : Around) (b behind all : Built) → i < length xs →
+      x ≡ get_or xs i x →
       here ≡ sc →
       behind ≡ made (hole_code p (hole_of x) here a) b → above ≡ raised (one_if (is_text (hole_of x).1) 0) (up a) →
       made (code (left_holes xs i) a) b ≡ all → made (code (left_holes xs (i + 1)) above) behind ≡ all
@@ -60,7 +60,8 @@ module _ (p : Program) (xs : List Hole) (i : ℕ) (sc : Scope) where
       one_if (is_text (hole_of x).1) (n + 1) →
       n + joined_parts (left_holes xs i) ≡ all → m + joined_parts (left_holes xs (i + 1)) ≡ all
   parts_next x n m all h e g is =
-      ap (λ k. k + joined_parts (left_holes xs (i + 1))) g ∙ moved (is_text (hole_of x).1) n (joined_parts (left_holes xs (i + 1)))
+      ap (λ k. k + joined_parts (left_holes xs (i + 1))) g
+      ∙ moved (is_text (hole_of x).1) n (joined_parts (left_holes xs (i + 1)))
       ∙ sym (ap (λ hs. n + joined_parts (holes hs)) (seen_next hole_of xs i x h e)) ∙ is
     where
       moved : (c : Bool) (n k : ℕ) → one_if c (n + 1) + k ≡ n + suc (one_if c k)
@@ -71,7 +72,8 @@ module _ (p : Program) (xs : List Hole) (i : ℕ) (sc : Scope) where
   parts_done n all h is = omega (arith, ap (λ hs. n + joined_parts (holes hs)) (seen_none hole_of xs i h), is)
 
 -- a text with holes, by what its steps make
-pub text_done : (p : Program) (bs : Bytes) (hs : Holes) (place : Place) (sc : Scope) (a above : Around) (n : ℕ) (b first parts all :
+pub text_done : (p : Program) (bs : Bytes) (hs : Holes) (place : Place) (sc : Scope) (a above : Around) (n : ℕ)
+    (b first parts all :
     Built) →
     first ≡ made (text_if bs) b → above ≡ raised (one_if (is_text bs) 0) a → parts ≡
     made (holed (program_of p) (differ_of p) hs sc above) first →

@@ -1,6 +1,5 @@
 -- The keys of a map with their values, one pair after the other.
-use Rattle.std.proofs.Common.{◌≡◌, ℕ, suc, ◌+◌, ◌<◌, ◌≤◌, List, [], ◌∷◌, length, map, drop, get_or, refl, sym}
-use Rattle.std.proofs.Common.{ap, ◌∙◌}
+use Rattle.std.proofs.Common.{◌≡◌, ℕ, suc, ◌+◌, ◌<◌, ◌≤◌, List, [], ◌∷◌, length, map, drop, get_or, refl, sym, ap, ◌∙◌}
 use Rattle.verse_base.specs.declared.places.Place.{Place}
 use Rattle.verse_tree.specs.Tree as t
 use Rattle.verse_tree.specs.View.{pair_of, pairs}
@@ -35,7 +34,8 @@ module _ (p : Program) (xs : List Pair) (i : ℕ) (sc : Scope) where
   code ps a = paired_args (program_of p) (differ_of p) ps sc a
 
   -- behind one pair more, and where none is left
-  pub pairs_next : (x : Pair) (here : Scope) (a above : Around) (b behind all : Built) → i < length xs → x ≡ get_or xs i x →
+  pub pairs_next : (x : Pair) (here : Scope) (a above : Around) (b behind all : Built) → i < length xs →
+      x ≡ get_or xs i x →
       here ≡ sc →
       behind ≡ made (pair_code p (pair_of x) here a) b → above ≡ up (up a) → made (code (left_pairs xs i) a) b ≡ all →
       made (code (left_pairs xs (i + 1)) above) behind ≡ all
@@ -52,7 +52,8 @@ module _ (p : Program) (xs : List Pair) (i : ℕ) (sc : Scope) where
   pairs_done a b all h is = sym (ap (λ ps. made (code (pairs ps) a) b) (seen_none pair_of xs i h) ∙ made_nothing b) ∙ is
 
 -- a map, by what its steps make
-pub map_done : (p : Program) (xs : List Pair) (place : Place) (sc : Scope) (a : Around) (n : ℕ) (b parts all : Built) → n ≡
+pub map_done : (p : Program) (xs : List Pair) (place : Place) (sc : Scope) (a : Around) (n : ℕ)
+    (b parts all : Built) → n ≡
     length xs →
     parts ≡ made (paired_args (program_of p) (differ_of p) (pairs (map pair_of xs)) sc a) b →
     all ≡ made (placed place (numbered (o.Map n 0))) parts → all ≡

@@ -20,12 +20,15 @@ abbrev pub one_ended : Program → Tree → Ending → Scope → Around → Make
 one_ended p a ending sc around = tree_code p a sc around then ending_code ending
 
 abbrev pub two_ended : Program → Tree → Tree → Ending → Scope → Around → Maker
-two_ended p a b ending sc around = tree_code p a sc around then tree_code p b sc (up around) then ending_code ending
+two_ended p a b ending sc around =
+    tree_code p a sc around then tree_code p b sc (up around) then ending_code ending
 
 -- an operator that computes a number or an array from two
-abbrev pub arithmetic_code : Program → Operator → Tree × Tree → (n : ℕ) → Place → Scope → Around → Maker
+abbrev pub arithmetic_code : Program → Operator → Tree × Tree → (n : ℕ) → Place →
+    Scope → Around → Maker
 arithmetic_code p x parts n pl sc a =
-    tree_code p parts.0 sc a then tree_code p parts.1 sc (up a) then finish (form.computing x ((program_of p).is_array n) pl) 2 true
+    tree_code p parts.0 sc a then tree_code p parts.1 sc (up a)
+    then finish (form.computing x ((program_of p).is_array n) pl) 2 true
 
 abbrev pub all_ended : Program → Trees → Ending → Scope → Around → Maker
 all_ended p parts ending sc around = operands_code p parts sc around then ending_code ending

@@ -1,6 +1,5 @@
 -- Functions of the code, one behind the other.
-use Rattle.std.proofs.Common.{◌≡◌, ℕ, ◌+◌, ◌<◌, List, [], ◌∷◌, ◌++◌, length, map, drop, get_or, refl}
-use Rattle.std.proofs.Common.{sym, ap, ◌∙◌}
+use Rattle.std.proofs.Common.{◌≡◌, ℕ, ◌+◌, ◌<◌, List, [], ◌∷◌, ◌++◌, length, map, drop, get_or, refl, sym, ap, ◌∙◌}
 use Rattle.std.proofs.Common.{append_assoc}
 use Rattle.verse_tree.specs.declared.programs.Program.{Program}
 use Rattle.verse_code.specs.declared.codes.Func.{Func}
@@ -34,7 +33,8 @@ module _ (p : Program) (xs : List Body) (i : ℕ) where
   code_next x b behind all h e g is =
       let f : Maker = body_code p (body_view x) in
       let rest : Maker = bodies_code p (left_bodies xs (i + 1)) in
-      ap (with_bodies p (left_bodies xs (i + 1))) g ∙ moved f rest b ∙ sym (ap (λ bs. with_bodies p bs b) (seen_next body_view xs i x h e))
+      ap (with_bodies p (left_bodies xs (i + 1))) g ∙ moved f rest b
+      ∙ sym (ap (λ bs. with_bodies p bs b) (seen_next body_view xs i x h e))
       ∙ is
     where
       moved : (f rest : Maker) (b : Built) → with_locals 0 (made rest (made f (with_locals 0 b))) ≡
@@ -42,7 +42,8 @@ module _ (p : Program) (xs : List Body) (i : ℕ) where
       moved f rest b =
           sym (ap (with_locals 0) (made_then f rest (with_locals 0 b))) ∙ uncounted (f then rest) b
 
-  pub functions_next : (x : Body) (fs all : List Func) (f : Func) (b behind : Built) → i < length xs → x ≡ get_or xs i x →
+  pub functions_next : (x : Body) (fs all : List Func) (f : Func) (b behind : Built) → i < length xs →
+      x ≡ get_or xs i x →
       behind ≡ with_body p (body_view x) b → f ≡ function_of p (spot b) (body_view x) →
       fs ++ functions_from p (left_bodies xs i) (spot b) ≡ all →
       (fs ++ f ∷ []) ++ functions_from p (left_bodies xs (i + 1)) (spot behind) ≡ all

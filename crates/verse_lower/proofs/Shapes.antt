@@ -3,9 +3,9 @@ use Rattle.std.proofs.Common.{◌≡◌, ℕ, List, map, Option, Some, None, rul
 use Rattle.std.specs.Option.{option_map}
 use Rattle.verse_tree.specs.Tree as t
 use Rattle.verse_tree.specs.Tree.{Bytes, Tree, Trees}
-use Rattle.verse_tree.specs.View.{tree_of, trees, two_of, typed_value_of, applied_of, cases_of, if_of, for_of, hole_of, holes, pair_of}
-use Rattle.verse_tree.specs.View.{pairs}
-use Rattle.verse_tree.specs.View.{given_of, givens, shape_of, return_shape, if_shape, event_shape, sleep_shape}
+use Rattle.verse_tree.specs.View.{tree_of, trees, two_of, typed_value_of, applied_of, cases_of, if_of, for_of, hole_of}
+use Rattle.verse_tree.specs.View.{holes, pair_of, pairs, given_of, givens, shape_of, return_shape, if_shape}
+use Rattle.verse_tree.specs.View.{event_shape, sleep_shape}
 use Rattle.verse_tree.specs.declared.exprs.Applied.{Applied}
 use Rattle.verse_tree.specs.declared.exprs.Assign.{Assign}
 use Rattle.verse_tree.specs.declared.exprs.Cases.{Cases}
@@ -51,10 +51,12 @@ pub is_let : (f : Form) (x : Bytes) (e : Expr) (there : Expr) → f ≡ form.Let
     t.Shape.definition x (tree_of there)
 is_let f x e there h g = ap shape_of h ∙ shape_let x e ∙ ap (λ k. t.Shape.definition x (tree_of k)) (sym g)
 
-shape_def : (x : Bytes) (d : TypedValue) → shape_of (form.Def x d) ≡ t.Shape.typed x (typed_value_of d).0 (typed_value_of d).1
+shape_def : (x : Bytes) (d : TypedValue) →
+    shape_of (form.Def x d) ≡ t.Shape.typed x (typed_value_of d).0 (typed_value_of d).1
 shape_def x d = search (rules, the_lemmas)
 
-pub is_def : (f : Form) (x : Bytes) (d : TypedValue) (b : Tree) → f ≡ form.Def x d → b ≡ (typed_value_of d).1 → shape_of f ≡
+pub is_def : (f : Form) (x : Bytes) (d : TypedValue) (b : Tree) → f ≡ form.Def x d → b ≡ (typed_value_of d).1 →
+    shape_of f ≡
     t.Shape.typed x (typed_value_of d).0 b
 is_def f x d b h g = ap shape_of h ∙ shape_def x d ∙ ap (λ k. t.Shape.typed x (typed_value_of d).0 k) (sym g)
 
@@ -69,7 +71,8 @@ is_vardef f x d b h g = ap shape_of h ∙ shape_vardef x d ∙ ap (λ k. t.Shape
 shape_set : (m : Assign) (p : Two) → shape_of (form.Set m p) ≡ t.Shape.assignment m (two_of p).0 (two_of p).1
 shape_set m p = search (rules, the_lemmas)
 
-pub is_set : (f : Form) (m : Assign) (p : Two) → f ≡ form.Set m p → shape_of f ≡ t.Shape.assignment m (two_of p).0 (two_of p).1
+pub is_set : (f : Form) (m : Assign) (p : Two) → f ≡ form.Set m p →
+    shape_of f ≡ t.Shape.assignment m (two_of p).0 (two_of p).1
 is_set f m p h = ap shape_of h ∙ shape_set m p
 
 shape_return : (o : Option Expr) → shape_of (form.Return o) ≡ return_shape (option_map tree_of o)
@@ -78,7 +81,8 @@ shape_return o = search (rules, the_lemmas)
 pub is_return : (f : Form) (o : Option Expr) → f ≡ form.Return o → shape_of f ≡ return_shape (option_map tree_of o)
 is_return f o h = ap shape_of h ∙ shape_return o
 
-shape_if : (c : IfParts) → shape_of (form.If c) ≡ if_shape (trees (if_of c).conditions) (if_of c).taken (if_of c).otherwise
+shape_if : (c : IfParts) →
+    shape_of (form.If c) ≡ if_shape (trees (if_of c).conditions) (if_of c).taken (if_of c).otherwise
 shape_if c = search (rules, the_lemmas)
 
 pub is_if : (f : Form) (c : IfParts) → f ≡ form.If c → shape_of f ≡
@@ -88,7 +92,8 @@ is_if f c h = ap shape_of h ∙ shape_if c
 shape_chain : (o : Operator) (p : Two) → shape_of (form.Chain o p) ≡ t.Shape.chained o (two_of p).0 (two_of p).1
 shape_chain o p = search (rules, the_lemmas)
 
-pub is_chain : (f : Form) (o : Operator) (p : Two) → f ≡ form.Chain o p → shape_of f ≡ t.Shape.chained o (two_of p).0 (two_of p).1
+pub is_chain : (f : Form) (o : Operator) (p : Two) → f ≡ form.Chain o p →
+    shape_of f ≡ t.Shape.chained o (two_of p).0 (two_of p).1
 is_chain f o p h = ap shape_of h ∙ shape_chain o p
 
 shape_compare : (o : Comparison) (p : Two) → shape_of (form.Compare o p) ≡ t.Shape.compared o (two_of p).0 (two_of p).1
@@ -101,31 +106,36 @@ is_compare f o p h = ap shape_of h ∙ shape_compare o p
 shape_not : (e : Expr) → shape_of (form.Not e) ≡ t.Shape.negation (tree_of e)
 shape_not e = search (rules, the_lemmas)
 
-pub is_not : (f : Form) (e : Expr) (there : Expr) → f ≡ form.Not e → there ≡ e → shape_of f ≡ t.Shape.negation (tree_of there)
+pub is_not : (f : Form) (e : Expr) (there : Expr) → f ≡ form.Not e → there ≡ e →
+    shape_of f ≡ t.Shape.negation (tree_of there)
 is_not f e there h g = ap shape_of h ∙ shape_not e ∙ ap (λ k. t.Shape.negation (tree_of k)) (sym g)
 
 shape_neg : (e : Expr) → shape_of (form.Neg e) ≡ t.Shape.minus (tree_of e)
 shape_neg e = search (rules, the_lemmas)
 
-pub is_neg : (f : Form) (e : Expr) (there : Expr) → f ≡ form.Neg e → there ≡ e → shape_of f ≡ t.Shape.minus (tree_of there)
+pub is_neg : (f : Form) (e : Expr) (there : Expr) → f ≡ form.Neg e → there ≡ e →
+    shape_of f ≡ t.Shape.minus (tree_of there)
 is_neg f e there h g = ap shape_of h ∙ shape_neg e ∙ ap (λ k. t.Shape.minus (tree_of k)) (sym g)
 
 shape_call : (a : Applied) → shape_of (form.Call a) ≡ t.Shape.call (applied_of a).0 (trees (applied_of a).1)
 shape_call a = search (rules, the_lemmas)
 
-pub is_call : (f : Form) (a : Applied) → f ≡ form.Call a → shape_of f ≡ t.Shape.call (applied_of a).0 (trees (applied_of a).1)
+pub is_call : (f : Form) (a : Applied) → f ≡ form.Call a →
+    shape_of f ≡ t.Shape.call (applied_of a).0 (trees (applied_of a).1)
 is_call f a h = ap shape_of h ∙ shape_call a
 
 shape_index : (a : Applied) → shape_of (form.Index a) ≡ t.Shape.index (applied_of a).0 (trees (applied_of a).1)
 shape_index a = search (rules, the_lemmas)
 
-pub is_index : (f : Form) (a : Applied) → f ≡ form.Index a → shape_of f ≡ t.Shape.index (applied_of a).0 (trees (applied_of a).1)
+pub is_index : (f : Form) (a : Applied) → f ≡ form.Index a →
+    shape_of f ≡ t.Shape.index (applied_of a).0 (trees (applied_of a).1)
 is_index f a h = ap shape_of h ∙ shape_index a
 
 shape_member : (e : Expr) (x : Bytes) → shape_of (form.Member e x) ≡ t.Shape.member (tree_of e) x
 shape_member e x = search (rules, the_lemmas)
 
-pub is_member : (f : Form) (e : Expr) (x : Bytes) (there : Expr) (name : Bytes) → f ≡ form.Member e x → there ≡ e → name ≡
+pub is_member : (f : Form) (e : Expr) (x : Bytes) (there : Expr) (name : Bytes) → f ≡ form.Member e x →
+    there ≡ e → name ≡
     x →
     shape_of f ≡ t.Shape.member (tree_of there) name
 is_member f e x there name h g i = ap shape_of h ∙ shape_member e x ∙ ap (λ k. t.Shape.member (tree_of k) x) (sym g)
@@ -141,10 +151,12 @@ is_query f e there h g = ap shape_of h ∙ shape_query e ∙ ap (λ k. t.Shape.q
 shape_holes : (bs : Bytes) (hs : List Hole) → shape_of (form.Holes bs hs) ≡ t.Shape.holes bs (holes (map hole_of hs))
 shape_holes bs hs = search (rules, the_lemmas)
 
-pub is_holes : (f : Form) (bs : Bytes) (hs : List Hole) (there : List Hole) (name : Bytes) → f ≡ form.Holes bs hs → there ≡ hs →
+pub is_holes : (f : Form) (bs : Bytes) (hs : List Hole) (there : List Hole) (name : Bytes) → f ≡ form.Holes bs hs →
+    there ≡ hs →
     name ≡ bs →
     shape_of f ≡ t.Shape.holes name (holes (map hole_of there))
-is_holes f bs hs there name h g i = ap shape_of h ∙ shape_holes bs hs ∙ ap (λ k. t.Shape.holes bs (holes (map hole_of k))) (sym g)
+is_holes f bs hs there name h g i =
+    ap shape_of h ∙ shape_holes bs hs ∙ ap (λ k. t.Shape.holes bs (holes (map hole_of k))) (sym g)
     ∙ ap (λ k. t.Shape.holes k (holes (map hole_of there))) (sym i)
 
 shape_name : (x : Bytes) → shape_of (form.Name x) ≡ t.Shape.name x
@@ -188,12 +200,14 @@ pub is_logic : (f : Form) (es : List Expr) (there : List Expr) → f ≡ form.Lo
     t.Shape.logic (trees (map tree_of there))
 is_logic f es there h g = ap shape_of h ∙ shape_logic es ∙ ap (λ k. t.Shape.logic (trees (map tree_of k))) (sym g)
 
-shape_instance : (x : Bytes) (gs : List Given) → shape_of (form.Instance x gs) ≡ t.Shape.instance x (givens (map given_of gs))
+shape_instance : (x : Bytes) (gs : List Given) →
+    shape_of (form.Instance x gs) ≡ t.Shape.instance x (givens (map given_of gs))
 shape_instance x gs = search (rules, the_lemmas)
 
 pub is_instance : (f : Form) (x : Bytes) (gs : List Given) (there : List Given) → f ≡ form.Instance x gs → there ≡ gs →
     shape_of f ≡ t.Shape.instance x (givens (map given_of there))
-is_instance f x gs there h g = ap shape_of h ∙ shape_instance x gs ∙ ap (λ k. t.Shape.instance x (givens (map given_of k))) (sym g)
+is_instance f x gs there h g =
+    ap shape_of h ∙ shape_instance x gs ∙ ap (λ k. t.Shape.instance x (givens (map given_of k))) (sym g)
 
 shape_event : (o : Option TyExpr) → shape_of (form.Event o) ≡ event_shape o
 shape_event o = search (rules, the_lemmas)
@@ -204,7 +218,8 @@ is_event f o h = ap shape_of h ∙ shape_event o
 shape_for : (e : ForParts) → shape_of (form.For e) ≡ t.Shape.for_form (trees (for_of e).0) (for_of e).1
 shape_for e = search (rules, the_lemmas)
 
-pub is_for : (f : Form) (e : ForParts) → f ≡ form.For e → shape_of f ≡ t.Shape.for_form (trees (for_of e).0) (for_of e).1
+pub is_for : (f : Form) (e : ForParts) → f ≡ form.For e →
+    shape_of f ≡ t.Shape.for_form (trees (for_of e).0) (for_of e).1
 is_for f e h = ap shape_of h ∙ shape_for e
 
 shape_loop : (e : Expr) → shape_of (form.Loop e) ≡ t.Shape.loop_form (tree_of e)
@@ -252,7 +267,8 @@ is_rush f es there h g = ap shape_of h ∙ shape_rush es ∙ ap (λ k. t.Shape.r
 shape_case : (c : Cases) → shape_of (form.Case c) ≡ t.Shape.cases (cases_of c).0 (trees (cases_of c).1)
 shape_case c = search (rules, the_lemmas)
 
-pub is_case : (f : Form) (c : Cases) → f ≡ form.Case c → shape_of f ≡ t.Shape.cases (cases_of c).0 (trees (cases_of c).1)
+pub is_case : (f : Form) (c : Cases) → f ≡ form.Case c →
+    shape_of f ≡ t.Shape.cases (cases_of c).0 (trees (cases_of c).1)
 is_case f c h = ap shape_of h ∙ shape_case c
 
 shape_spawn : (e : Expr) → shape_of (form.Spawn e) ≡ t.Shape.spawn (tree_of e)
@@ -271,19 +287,22 @@ is_sleep f o h = ap shape_of h ∙ shape_sleep o
 shape_elements : (x : Bytes) (e : Expr) → shape_of (form.Elements x e) ≡ t.Shape.elements x (tree_of e)
 shape_elements x e = search (rules, the_lemmas)
 
-pub is_elements : (f : Form) (x : Bytes) (e : Expr) → f ≡ form.Elements x e → shape_of f ≡ t.Shape.elements x (tree_of e)
+pub is_elements : (f : Form) (x : Bytes) (e : Expr) → f ≡ form.Elements x e →
+    shape_of f ≡ t.Shape.elements x (tree_of e)
 is_elements f x e h = ap shape_of h ∙ shape_elements x e
 
 shape_entries : (k x : Bytes) (e : Expr) → shape_of (form.Entries k x e) ≡ t.Shape.entries k x (tree_of e)
 shape_entries k x e = search (rules, the_lemmas)
 
-pub is_entries : (f : Form) (k x : Bytes) (e : Expr) → f ≡ form.Entries k x e → shape_of f ≡ t.Shape.entries k x (tree_of e)
+pub is_entries : (f : Form) (k x : Bytes) (e : Expr) → f ≡ form.Entries k x e →
+    shape_of f ≡ t.Shape.entries k x (tree_of e)
 is_entries f k x e h = ap shape_of h ∙ shape_entries k x e
 
 shape_range : (x : Bytes) (p : Two) → shape_of (form.Range x p) ≡ t.Shape.range x (two_of p).0 (two_of p).1
 shape_range x p = search (rules, the_lemmas)
 
-pub is_range : (f : Form) (x : Bytes) (p : Two) → f ≡ form.Range x p → shape_of f ≡ t.Shape.range x (two_of p).0 (two_of p).1
+pub is_range : (f : Form) (x : Bytes) (p : Two) → f ≡ form.Range x p →
+    shape_of f ≡ t.Shape.range x (two_of p).0 (two_of p).1
 is_range f x p h = ap shape_of h ∙ shape_range x p
 
 shape_arm : (p : Two) → shape_of (form.Arm p) ≡ t.Shape.arm (two_of p).0 (two_of p).1
@@ -294,7 +313,8 @@ is_arm f p h = ap shape_of h ∙ shape_arm p
 
 -- the code of these forms is the same wherever they stand
 module _ (p : Program) (n : ℕ) (pl : Place) (sc : Scope) (a : Around) where
-  pub return_code : (o : Option Tree) → form_code p (return_shape o) n pl sc a ≡ form_code p (return_shape o) 0 no_place sc a
+  pub return_code : (o : Option Tree) →
+      form_code p (return_shape o) n pl sc a ≡ form_code p (return_shape o) 0 no_place sc a
   return_code None = refl
   return_code (Some b) = refl
 

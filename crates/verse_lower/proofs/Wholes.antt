@@ -1,6 +1,5 @@
 -- A function, and the code of a whole program.
-use Rattle.std.proofs.Common.{◌≡◌, arith, ℕ, zero, suc, List, [], ◌∷◌, ◌++◌, length, map, max, Bool, refl, sym, ap}
-use Rattle.std.proofs.Common.{◌∙◌}
+use Rattle.std.proofs.Common.{◌≡◌, arith, ℕ, zero, suc, List, [], ◌∷◌, ◌++◌, length, map, max, Bool, refl, sym, ap, ◌∙◌}
 use Rattle.verse_tree.specs.ItemTree.{ItemTree}
 use Rattle.verse_tree.specs.ItemView.{item_of}
 use Rattle.verse_tree.specs.declared.programs.Program.{Program}
@@ -46,7 +45,8 @@ unfolding made with_locals
 counted f so_far = none_counted (f (spot so_far)).locals
 
 -- a function, by its numbers
-pub function_done : (p : Program) (b : l.Body) (suspends : Bool) (so_far all : Built) (params entry count locals : ℕ) → params ≡
+pub function_done : (p : Program) (b : l.Body) (suspends : Bool) (so_far all : Built)
+    (params entry count locals : ℕ) → params ≡
     length b.scope →
     entry ≡ length so_far.ops → suspends ≡ b.suspends → all ≡ with_body p b so_far → count ≡ all.locals → locals ≡
     max params count →
@@ -78,7 +78,8 @@ raw_sures (leaving n ∷ is) h = absurd h
 
 bodies_firm : (p : Program) (bs : List l.Body) → Firm (bodies_code p bs)
 bodies_firm p [] = none_firm
-bodies_firm p (b ∷ bs) = and (and (piece_firm (program_of p) (differ_of p) b.body b.scope fresh refl) (one_firm o.Return)) (bodies_firm
+bodies_firm p (b ∷ bs) =
+    and (and (piece_firm (program_of p) (differ_of p) b.body b.scope fresh refl) (one_firm o.Return)) (bodies_firm
     p bs)
 
 -- what the functions of a code add to none
@@ -98,20 +99,34 @@ adds p bs b e =
     }
 
 -- the code of a program, by its parts
-pub code_done : (p : Program) (bs : List l.Body) (b : Built) (fs : List Func) (cs : List Class) (main : ℕ) (ops : List Op) (places :
-    List Place)
-    (texts : List Bytes) → bs ≡ all_bodies (map item_of p.tree.items) → with_bodies p [] b ≡ with_bodies p bs empty →
-    fs ≡ functions_from p bs (spot empty) → cs ≡ map class_of p.names.classes → main ≡
-    main_from 0 (map item_of p.tree.items) →
+pub code_done : (p : Program) (bs : List l.Body) (b : Built) (fs : List Func) (cs : List Class) (main : ℕ)
+    (ops : List Op) (places : List Place) (texts : List Bytes) →
+    bs ≡ all_bodies (map item_of p.tree.items) → with_bodies p [] b ≡ with_bodies p bs empty →
+    fs ≡ functions_from p bs (spot empty) → cs ≡ map class_of p.names.classes →
+    main ≡ main_from 0 (map item_of p.tree.items) →
     ops ≡ b.ops → places ≡ b.places → texts ≡ b.texts →
-    record { files = p.tree.files; texts = texts; places = places; functions = fs; classes = cs; main = main; ops = ops }
-    ≡ code_of (program_of p) (differ_of p) p.tree.files
+    record {
+      files = p.tree.files;
+      texts = texts;
+      places = places;
+      functions = fs;
+      classes = cs;
+      main = main;
+      ops = ops;
+    } ≡ code_of (program_of p) (differ_of p) p.tree.files
 code_done p bs b fs cs main ops places texts e1 e2 e3 e4 e5 e6 e7 e8 =
     let r = adds p bs b e2 in
     let all = all_bodies (map item_of p.tree.items) in
     let w = λ (ks : List l.Body). bodies_code p ks first_spot in
-    ap (λ x. record { files = p.tree.files; texts = x; places = places; functions = fs; classes = cs; main = main; ops = ops }) (e8
-    ∙ r.texts ∙ ap (λ k. (w k).texts) e1)
+    ap (λ x. record {
+      files = p.tree.files;
+      texts = x;
+      places = places;
+      functions = fs;
+      classes = cs;
+      main = main;
+      ops = ops;
+    }) (e8 ∙ r.texts ∙ ap (λ k. (w k).texts) e1)
     ∙ ap (λ x. record {
       files = p.tree.files;
       texts = (w all).texts;
@@ -129,14 +144,12 @@ code_done p bs b fs cs main ops places texts e1 e2 e3 e4 e5 e6 e7 e8 =
       classes = cs;
       main = main;
       ops = ops;
-    })
-    (e3 ∙ ap (λ k. functions_from p k (spot empty)) e1)
+    }) (e3 ∙ ap (λ k. functions_from p k (spot empty)) e1)
     ∙ ap (λ x. record {
       files = p.tree.files;
       texts = (w all).texts;
       places = (w all).places;
-      functions = functions_from p all (spot
-          empty);
+      functions = functions_from p all (spot empty);
       classes = x;
       main = main;
       ops = ops;

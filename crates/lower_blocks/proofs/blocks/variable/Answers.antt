@@ -6,6 +6,8 @@ use Rattle.lower_blocks.proofs.blocks.variable.Goals as goal
 
 pub returns-clause-code : goal.returns-clause-code
 returns-clause-code g c =
-    variable_by c.args.lowering.now.tables.now.program.now (tree_of c.args.value.now) c.args.place (scope_of c.args.scopes.now)
+    variable_by c.args.lowering.now.tables.now.program.now (tree_of c.args.value.now) c.args.place
+    (scope_of c.args.scopes.now)
     c.args.around
-    c.in_ok-local.local (built c.args.builder.now) _ _ c.in_ok-local.ensures c.in_ok-part.ensures.code c.in_ok-ending.ensures
+    c.in_ok-local.local (built c.args.builder.now) _
+    _ c.in_ok-local.ensures c.in_ok-part.ensures.code c.in_ok-ending.ensures

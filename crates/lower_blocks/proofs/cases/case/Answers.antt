@@ -8,9 +8,12 @@ use Rattle.lower_blocks.proofs.cases.case.Goals as goal
 pub returns-clause-code : goal.returns-clause-code
 returns-clause-code g c =
     case_by c.args.lowering.now.tables.now.program.now (cases_of c.args.cases.now).0 (tree_of c.subject.result.now)
-    (trees (cases_of c.args.cases.now).1) (trees (map tree_of c.arms.result.now)) (scope_of c.args.scopes.now) _ _ c.args.around
-    c.in_ok-local.local (built c.args.builder.now) _ _ _ c.in_ok-local.ensures c.subject.ensures c.in_ok-part.ensures.scopes
-    c.in_ok-add.ensures (ap trees c.arms.ensures) c.in_ok-part.ensures.code c.in_ok-put_away.ensures c.in_ok-all_arms.ensures.code
+    (trees (cases_of c.args.cases.now).1) (trees (map tree_of c.arms.result.now)) (scope_of c.args.scopes.now) _
+    _ c.args.around
+    c.in_ok-local.local (built c.args.builder.now) _ _ _ c.in_ok-local.ensures
+    c.subject.ensures c.in_ok-part.ensures.scopes
+    c.in_ok-add.ensures
+    (ap trees c.arms.ensures) c.in_ok-part.ensures.code c.in_ok-put_away.ensures c.in_ok-all_arms.ensures.code
 
 pub returns-clause-scopes : goal.returns-clause-scopes
 returns-clause-scopes g c =

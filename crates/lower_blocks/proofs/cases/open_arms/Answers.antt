@@ -6,16 +6,22 @@ use Rattle.lower_blocks.proofs.cases.open_arms.Goals as goal
 
 pub returns-then-not-goes_on-clause-code : goal.returns-then-not-goes_on-clause-code
 returns-then-not-goes_on-clause-code g c =
-    arms_cut c.args.lowering.now.tables.now.program.now c.args.local (scope_of c.args.scopes.now) c.args.around c.in_ok-goes_on.goes_on
-    c.none_left-last.result c.arms.rest.now c.in-Some.behind.now c.in-Some.first.now (scope_of c.arms.scopes) c.arms.jumps.items _
-    (built c.arms.builder) _ _ c.in-Some.ensures.cases.0 c.none_left-last.ensures c.arms.invariant.0 c.if-not-goes_on.true
+    arms_cut c.args.lowering.now.tables.now.program.now c.args.local (scope_of c.args.scopes.now)
+    c.args.around c.in_ok-goes_on.goes_on
+    c.none_left-last.result c.arms.rest.now c.in-Some.behind.now c.in-Some.first.now (scope_of c.arms.scopes)
+    c.arms.jumps.items _
+    (built c.arms.builder) _ _ c.in-Some.ensures.cases.0 c.none_left-last.ensures
+    c.arms.invariant.0 c.if-not-goes_on.true
     c.in_ok-goes_on.ensures.code c.arms.invariant.1
 
 pub arms-preserved : goal.arms-preserved
 arms-preserved g c = (
   c.in_ok-goes_on.ensures.scopes ∙ c.arms.invariant.0,
-  arms_next c.args.lowering.now.tables.now.program.now c.args.local (scope_of c.args.scopes.now) c.args.around c.in_ok-goes_on.goes_on
-      c.none_left-last.result c.arms.rest.now c.in-Some.behind.now c.in-Some.first.now (scope_of c.arms.scopes) c.arms.jumps.items _
-      (built c.arms.builder) _ _ c.in-Some.ensures.cases.0 c.none_left-last.ensures c.arms.invariant.0 c.if-not-goes_on.false
+  arms_next c.args.lowering.now.tables.now.program.now c.args.local (scope_of c.args.scopes.now)
+      c.args.around c.in_ok-goes_on.goes_on
+      c.none_left-last.result c.arms.rest.now c.in-Some.behind.now c.in-Some.first.now (scope_of c.arms.scopes)
+      c.arms.jumps.items _
+      (built c.arms.builder) _ _ c.in-Some.ensures.cases.0 c.none_left-last.ensures
+      c.arms.invariant.0 c.if-not-goes_on.false
       c.in_ok-goes_on.ensures.code c.arms.invariant.1,
 )

@@ -11,10 +11,12 @@ abbrev pub invariant-arms : goal.invariant-arms
 invariant-arms g l =
     (scope_of l.scopes ≡ scope_of l.fn.scopes)
     × (all_ended l.jumps.items
-    (made (arms_code l.lowering.tables.now.program.now (trees (map tree_of l.rest)) l.local (scope_of l.fn.scopes) l.around)
+    (made (arms_code l.lowering.tables.now.program.now (trees (map tree_of l.rest)) l.local
+    (scope_of l.fn.scopes) l.around)
     (built l.builder))
     ≡ all_ended l.fn.jumps.items
-    (made (arms_code l.lowering.tables.now.program.now (trees (map tree_of l.parts)) l.local (scope_of l.fn.scopes) l.fn.around)
+    (made (arms_code l.lowering.tables.now.program.now (trees (map tree_of l.parts)) l.local
+    (scope_of l.fn.scopes) l.fn.around)
     (built l.fn.builder)))
 
 abbrev pub decreases-arms : goal.decreases-arms

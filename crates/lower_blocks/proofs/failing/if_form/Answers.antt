@@ -11,13 +11,16 @@ returns-in_ok-if_alone_end-in-None-clause-code g c =
     if_alone_by c.args.lowering.now.tables.now.program.now (scope_of c.args.scopes.now) c.args.around
     (trees (if_of c.args.parts.now).conditions)
     (if_of c.args.parts.now).taken (if_of c.args.parts.now).otherwise _ (built c.args.builder.now) _ _ _
-    (sym c.otherwise.ensures ∙ ap (option_map (λ e. tree_of e.now)) c.in-None.is) c.in_ok-begun.ensures.begun c.in_ok-begun.ensures.added
+    (sym c.otherwise.ensures
+    ∙ ap (option_map (λ e. tree_of e.now)) c.in-None.is) c.in_ok-begun.ensures.begun c.in_ok-begun.ensures.added
     c.in_ok-if_taken.ensures.code c.in_ok-if_alone_end-in-None.ensures
 
 pub returns-in_ok-if_other-in-Some-clause-code : goal.returns-in_ok-if_other-in-Some-clause-code
 returns-in_ok-if_other-in-Some-clause-code g c =
     if_else_by c.args.lowering.now.tables.now.program.now (scope_of c.args.scopes.now) c.args.around
     (trees (if_of c.args.parts.now).conditions)
-    (if_of c.args.parts.now).taken (if_of c.args.parts.now).otherwise (tree_of c.in-Some.part.now) _ _ (built c.args.builder.now) _ _ _
+    (if_of c.args.parts.now).taken (if_of c.args.parts.now).otherwise (tree_of c.in-Some.part.now) _ _
+    (built c.args.builder.now) _ _ _
     (sym c.otherwise.ensures ∙ ap (option_map (λ e. tree_of e.now)) c.in-Some.is) c.in_ok-if_taken.ensures.scopes
-    c.in_ok-begun.ensures.begun c.in_ok-begun.ensures.added c.in_ok-if_taken.ensures.code c.in_ok-if_other-in-Some.ensures.code
+    c.in_ok-begun.ensures.begun c.in_ok-begun.ensures.added
+    c.in_ok-if_taken.ensures.code c.in_ok-if_other-in-Some.ensures.code

@@ -10,9 +10,10 @@ returns-clause-code g c =
     for_by c.args.lowering.now.tables.now.program.now (trees (for_of c.args.parts.now).0) _ (for_of c.args.parts.now).1
     (tree_of c.body.result.now)
     (scope_of c.args.scopes.now) _ _ c.args.around _ c.in_ok-local.local c.args.mark.place c.in_ok-goes_on.goes_on _ _ _
-    (built c.args.builder.now) _ _ _ c.in_ok-local.ensures c.in_ok-add.ensures c.enclosed-enclosed.ensures (ap trees c.clauses.ensures)
-    c.body.ensures c.new-turns.ensures.items c.in_ok-goes_on.ensures.code c.in_ok-for_value.ensures.code c.deref.ensures.value
-    c.in_ok-turns_end.ensures
+    (built c.args.builder.now) _ _ _ c.in_ok-local.ensures c.in_ok-add.ensures c.enclosed-enclosed.ensures
+    (ap trees c.clauses.ensures)
+    c.body.ensures c.new-turns.ensures.items c.in_ok-goes_on.ensures.code
+    c.in_ok-for_value.ensures.code c.deref.ensures.value c.in_ok-turns_end.ensures
 
 pub returns-clause-scopes : goal.returns-clause-scopes
 returns-clause-scopes g c =

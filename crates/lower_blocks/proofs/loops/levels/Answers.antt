@@ -13,8 +13,10 @@ pub parts-preserved : goal.parts-preserved
 parts-preserved g c = (
   extends_more (statement_of (tree_of c.part-item.result)) (scope_of c.args.scopes.now) (scope_of c.parts.scopes) _
       c.in_ok-goes_on.ensures.scopes c.parts.invariant.0,
-  levels_next c.args.lowering.now.tables.now.program.now c.args.parts.now c.parts.part-index c.args.around _ c.in_ok-goes_on.goes_on
-      c.part-item.result (scope_of c.parts.scopes) _ c.parts.turns.items _ (built c.parts.builder) _ c.parts-test.true c.part-item.is
+  levels_next c.args.lowering.now.tables.now.program.now c.args.parts.now c.parts.part-index c.args.around
+      _ c.in_ok-goes_on.goes_on
+      c.part-item.result (scope_of c.parts.scopes) _ c.parts.turns.items _ (built c.parts.builder)
+      _ c.parts-test.true c.part-item.is
       c.if-not-goes_on.false c.in_ok-goes_on.ensures.code c.parts.invariant.1,
 )
 
@@ -22,7 +24,8 @@ pub returns-then-not-goes_on-clause-code : goal.returns-then-not-goes_on-clause-
 returns-then-not-goes_on-clause-code g c = record {
   leads = levels_cut c.args.lowering.now.tables.now.program.now c.args.parts.now c.parts.part-index c.args.around _
       c.in_ok-goes_on.goes_on
-      c.part-item.result (scope_of c.parts.scopes) _ c.parts.turns.items _ (built c.parts.builder) _ c.parts-test.true c.part-item.is
+      c.part-item.result (scope_of c.parts.scopes) _ c.parts.turns.items _ (built c.parts.builder)
+      _ c.parts-test.true c.part-item.is
       c.if-not-goes_on.true c.in_ok-goes_on.ensures.code c.parts.invariant.1;
 }
 

@@ -16,7 +16,9 @@ invariant-parts g l =
     Grown (scope_of l.fn.scopes) (scope_of l.scopes)
     × ((rest : Scope → Maker) →
     turns_closed l.turns.items
-    (made (levels_code l.lowering.tables.now.program.now (left l.parts l.part-index) (scope_of l.scopes) l.around rest) (built l.builder))
+    (made (levels_code l.lowering.tables.now.program.now (left l.parts l.part-index) (scope_of l.scopes) l.around rest)
+    (built l.builder))
     ≡ turns_closed l.fn.turns.items
-    (made (levels_code l.lowering.tables.now.program.now (trees (map tree_of l.parts)) (scope_of l.fn.scopes) l.fn.around rest)
+    (made (levels_code l.lowering.tables.now.program.now (trees (map tree_of l.parts))
+    (scope_of l.fn.scopes) l.fn.around rest)
     (built l.fn.builder)))

@@ -9,29 +9,38 @@ use Rattle.lower_blocks.proofs.statements.inner.Goals as goal
 
 pub returns-in_ok-stuck-in-Nothing-clause-code : goal.returns-in_ok-stuck-in-Nothing-clause-code
 returns-in_ok-stuck-in-Nothing-clause-code g c =
-    inner_by c.args.lowering.now.tables.now.program.now (scope_of c.args.scopes.now) c.args.around (tree_of c.args.part.now)
+    inner_by c.args.lowering.now.tables.now.program.now (scope_of c.args.scopes.now) c.args.around
+    (tree_of c.args.part.now)
     nothing_inside
-    (built c.args.builder.now) _ (sym c.tree_within.ensures ∙ ap within_view c.in-Nothing.is) c.in_ok-stuck-in-Nothing.ensures
+    (built c.args.builder.now) _
+    (sym c.tree_within.ensures ∙ ap within_view c.in-Nothing.is) c.in_ok-stuck-in-Nothing.ensures
 
 pub returns-in_ok-part-in-Part-clause-code : goal.returns-in_ok-part-in-Part-clause-code
 returns-in_ok-part-in-Part-clause-code g c =
-    inner_by c.args.lowering.now.tables.now.program.now (scope_of c.args.scopes.now) c.args.around (tree_of c.args.part.now)
-    (one_part (tree_of c.in-Part.value.now)) (built c.args.builder.now) _ (sym c.tree_within.ensures ∙ ap within_view c.in-Part.is)
+    inner_by c.args.lowering.now.tables.now.program.now (scope_of c.args.scopes.now) c.args.around
+    (tree_of c.args.part.now)
+    (one_part (tree_of c.in-Part.value.now)) (built c.args.builder.now) _
+    (sym c.tree_within.ensures ∙ ap within_view c.in-Part.is)
     c.in_ok-part-in-Part.ensures.code
 
 pub returns-in_ok-part-in-Deferred-clause-code : goal.returns-in_ok-part-in-Deferred-clause-code
 returns-in_ok-part-in-Deferred-clause-code g c =
-    inner_by c.args.lowering.now.tables.now.program.now (scope_of c.args.scopes.now) c.args.around (tree_of c.args.part.now)
+    inner_by c.args.lowering.now.tables.now.program.now (scope_of c.args.scopes.now) c.args.around
+    (tree_of c.args.part.now)
     (deferred (tree_of c.in-Deferred.block.now)) (built c.args.builder.now) _
     (sym c.tree_within.ensures ∙ ap within_view c.in-Deferred.is)
     (c.in_ok-part-in-Deferred.ensures.code
-    ∙ ap (λ k. made (tree_code c.args.lowering.now.tables.now.program.now (tree_of c.in-Deferred.block.now) (scope_of c.args.scopes.now)
+    ∙ ap (λ k. made
+    (tree_code c.args.lowering.now.tables.now.program.now (tree_of c.in-Deferred.block.now)
+    (scope_of c.args.scopes.now)
     k)
     (built c.args.builder.now)) c.enclosed.ensures)
 
 pub returns-in_ok-part-in-Ends-2-clause-code : goal.returns-in_ok-part-in-Ends-2-clause-code
-returns-in_ok-part-in-Ends-2-clause-code g c = ends_by c.args.lowering.now.tables.now.program.now (scope_of c.args.scopes.now)
+returns-in_ok-part-in-Ends-2-clause-code g c =
+    ends_by c.args.lowering.now.tables.now.program.now (scope_of c.args.scopes.now)
     c.args.around (tree_of c.args.part.now)
-    _ _ _ _ _ _ (built c.args.builder.now) _ _ (sym c.tree_within.ensures ∙ ap within_view c.in-Ends.is) c.left.ensures c.right.ensures
+    _ _ _ _ _ _ (built c.args.builder.now) _ _
+    (sym c.tree_within.ensures ∙ ap within_view c.in-Ends.is) c.left.ensures c.right.ensures
     c.in_ok-part-in-Ends.ensures.scopes
     c.in_ok-up-in-Ends.ensures c.in_ok-part-in-Ends.ensures.code c.in_ok-part-in-Ends-2.ensures.code

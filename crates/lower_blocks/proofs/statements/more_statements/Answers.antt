@@ -5,16 +5,20 @@ use Rattle.lower_blocks.proofs.statements.more_statements.Goals as goal
 
 pub parts-preserved : goal.parts-preserved
 parts-preserved g c = (
-  behind_next c.args.parts.now c.parts.part-index c.part-item.result (scope_of c.parts.scopes) _ _ c.parts-test.true c.part-item.is
+  behind_next c.args.parts.now c.parts.part-index c.part-item.result (scope_of c.parts.scopes) _
+      _ c.parts-test.true c.part-item.is
       c.in_ok-behind.ensures.scopes c.parts.invariant.0,
-  more_next c.args.lowering.now.tables.now.program.now c.args.parts.now c.parts.part-index c.part-item.result (scope_of c.parts.scopes) _
-      c.parts.behind _ (built c.parts.builder) _ _ _ c.parts-test.true c.part-item.is c.in_ok-op.ensures c.in_ok-behind.ensures.code
+  more_next c.args.lowering.now.tables.now.program.now c.args.parts.now c.parts.part-index c.part-item.result
+      (scope_of c.parts.scopes) _
+      c.parts.behind _ (built c.parts.builder) _ _
+      _ c.parts-test.true c.part-item.is c.in_ok-op.ensures c.in_ok-behind.ensures.code
       c.in_ok-behind.ensures.scopes c.in_ok-behind.ensures.around c.parts.invariant.1,
 )
 
 pub returns-clause-code : goal.returns-clause-code
 returns-clause-code g c =
-    more_done c.args.lowering.now.tables.now.program.now c.args.parts.now c.parts.part-index (scope_of c.parts.scopes) c.parts.behind
+    more_done c.args.lowering.now.tables.now.program.now c.args.parts.now c.parts.part-index
+    (scope_of c.parts.scopes) c.parts.behind
     (built c.parts.builder) _ c.parts-test.false c.parts.invariant.1
 
 pub returns-clause-scopes : goal.returns-clause-scopes

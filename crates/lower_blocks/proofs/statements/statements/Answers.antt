@@ -10,7 +10,8 @@ returns-in_default-clause-code g c =
 
 pub returns-clause-code : goal.returns-clause-code
 returns-clause-code g c =
-    some_statements c.args.lowering.now.tables.now.program.now (scope_of c.args.scopes.now) c.args.around c.args.parts.now
+    some_statements c.args.lowering.now.tables.now.program.now (scope_of c.args.scopes.now)
+    c.args.around c.args.parts.now
     c.in-Some.rest.now
     c.in-Some.first.now _ _ _ (built c.args.builder.now) _ _ _ c.in-Some.ensures.cases.0 c.in_ok-behind.ensures.code
     c.in_ok-behind.ensures.scopes c.in_ok-behind.ensures.around c.in_ok-more_statements.ensures.code c.any_defer.ensures

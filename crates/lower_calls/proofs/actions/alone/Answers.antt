@@ -25,5 +25,7 @@ returns-clause-code g c =
     (same_made _ (operands_code p ts sc (started f c.args.around)) _ _ c.in_ok-operands.ensures.code
     (ap (operands_code p ts sc) c.in_ok-above.ensures))
     (same_made _ (finish f n fits) _ _ c.in_ok-ending-2.ensures
-    (c.in_ok-applied.ensures ∙ ap (λ n. finish f n c.in_ok-fits.fits) (c.in_ok-number_of.ensures ∙ c.how_many-count.ensures)
-    ∙ ap (finish f n) (c.in_ok-fits.ensures ∙ ap (λ n. form_fits (program_of p) (differ_of p) f n sc) c.how_many-count.ensures)))
+    (c.in_ok-applied.ensures
+    ∙ ap (λ n. finish f n c.in_ok-fits.fits) (c.in_ok-number_of.ensures ∙ c.how_many-count.ensures)
+    ∙ ap (finish f n)
+    (c.in_ok-fits.ensures ∙ ap (λ n. form_fits (program_of p) (differ_of p) f n sc) c.how_many-count.ensures)))

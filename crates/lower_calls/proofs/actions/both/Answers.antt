@@ -13,7 +13,8 @@ returns-clause-code g c =
     let p = c.args.lowering.now.tables.now.program.now in
     let sc = scope_of c.args.scopes.now in
     let q = two_of c.args.parts.now in
-    two_steps (tree_code p q.0 sc c.args.around) (tree_code p q.1 sc (up c.args.around)) _ (built c.args.builder.now) _ _
+    two_steps (tree_code p q.0 sc c.args.around) (tree_code p q.1 sc (up c.args.around)) _
+    (built c.args.builder.now) _ _
     (same_made _ (tree_code p q.0 sc c.args.around) _ _ c.in_ok-part.ensures.code
     (ap (λ t. tree_code p t sc c.args.around) (ap tree_of c.get.ensures ∙ left_is c.args.parts.now)))
     c.in_ok-part-2.ensures.code

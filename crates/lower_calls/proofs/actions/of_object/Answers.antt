@@ -14,6 +14,7 @@ returns-clause-code g c =
     let sc = scope_of c.args.scopes.now in
     let ts = trees (map tree_of c.args.args.now) in
     let f = form_of c.args.action in
-    two_steps (object_code p (object_of (tree_of c.args.callee.now)) sc c.args.around) (behind_code p ts sc c.args.around f) _
+    two_steps (object_code p (object_of (tree_of c.args.callee.now)) sc c.args.around)
+    (behind_code p ts sc c.args.around f) _
     (built c.args.builder.now) _ _ c.in_ok-object.ensures.code c.in_ok-behind.ensures.code
     (ap (λ s. behind_code p ts s c.args.around f) c.in_ok-object.ensures.scopes)

@@ -76,4 +76,5 @@ returns-in_ok-stuck-in-None-clause-code g c =
     let known = c.callee_of-found.ensures in
     by_none (alone_code p ts sc c.args.around) (member_code p t ts sc c.args.around)
     (indexed_code p t ts sc c.args.around) (quotient_code p ts sc c.args.around) x _
-    (callee_of (program_of p) t form.indexing c.args.place) (sym (ap called c.in-None.is) ∙ known) c.in_ok-stuck-in-None.ensures
+    (callee_of (program_of p) t form.indexing c.args.place)
+    (sym (ap called c.in-None.is) ∙ known) c.in_ok-stuck-in-None.ensures

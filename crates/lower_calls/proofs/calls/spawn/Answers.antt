@@ -31,5 +31,6 @@ returns-in_ok-stuck-in-None-clause-code g c =
     let b = tree_of c.args.part.now in
     let x = built c.args.builder.now in
     same_made (spawned_code p None (place_of b) sc c.args.around) _ x _ c.in_ok-stuck-in-None.ensures
-    (ap (λ o. spawned_code p o (place_of b) sc c.args.around) (sym (ap (option_map applied_now) c.in-None.is) ∙ c.called_of.ensures)
+    (ap (λ o. spawned_code p o (place_of b) sc c.args.around)
+    (sym (ap (option_map applied_now) c.in-None.is) ∙ c.called_of.ensures)
     ∙ sym (spawned_is p sc c.args.around b form.indexing))

@@ -48,9 +48,11 @@ returns-in_ok-stuck-in_default g c =
     let t = tree_of c.args.callee.now in
     let ts = trees (map tree_of c.args.args.now) in
     record {
-      code = by_neither (alone_code p ts sc c.args.around) (member_code p t ts sc c.args.around) (built c.args.builder.now) _
+      code = by_neither (alone_code p ts sc c.args.around) (member_code p t ts sc c.args.around)
+          (built c.args.builder.now) _
           (spawned_callee (callee_of (program_of p) t (form.picking None) c.args.place)) c.spawned_callee-found.result
-          (c.spawned_callee-found.ensures ∙ ap spawned_callee c.callee_of.ensures) c.in_default.not-Alone c.in_default.not-OfObject
+          (c.spawned_callee-found.ensures
+          ∙ ap spawned_callee c.callee_of.ensures) c.in_default.not-Alone c.in_default.not-OfObject
           c.in_ok-stuck-in_default.ensures;
       scopes = refl;
     }

@@ -13,13 +13,16 @@ use Rattle.lower_calls.proofs.members.member.Goals as goal
 pub returns-in_ok-enum_read-in-Some-clause-code : goal.returns-in_ok-enum_read-in-Some-clause-code
 returns-in_ok-enum_read-in-Some-clause-code g c =
     let p = c.args.lowering.now.tables.now.program.now in
-    as_value p (read_code p c.args.node (tree_of c.args.part.now) c.args.name.now (scope_of c.args.scopes.now) c.args.around)
-    (built c.args.builder.now) _ (enum_member (program_of p) (tree_of c.args.part.now) c.args.name.now) (val_of c.in-Some.value)
+    as_value p
+    (read_code p c.args.node (tree_of c.args.part.now) c.args.name.now (scope_of c.args.scopes.now) c.args.around)
+    (built c.args.builder.now) _ (enum_member (program_of p) (tree_of c.args.part.now) c.args.name.now)
+    (val_of c.in-Some.value)
     (sym (ap (option_map val_of) c.in-Some.is) ∙ c.in_ok-value.ensures) c.in_ok-enum_read-in-Some.ensures
 
 pub returns-in_ok-read-in-None-clause-code : goal.returns-in_ok-read-in-None-clause-code
 returns-in_ok-read-in-None-clause-code g c =
     let p = c.args.lowering.now.tables.now.program.now in
-    as_read p (read_code p c.args.node (tree_of c.args.part.now) c.args.name.now (scope_of c.args.scopes.now) c.args.around)
+    as_read p
+    (read_code p c.args.node (tree_of c.args.part.now) c.args.name.now (scope_of c.args.scopes.now) c.args.around)
     (built c.args.builder.now) _ (enum_member (program_of p) (tree_of c.args.part.now) c.args.name.now)
     (sym (ap (option_map val_of) c.in-None.is) ∙ c.in_ok-value.ensures) c.in_ok-read-in-None.ensures.code

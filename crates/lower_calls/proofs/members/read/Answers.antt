@@ -14,7 +14,8 @@ returns-clause-code g c =
     let p = c.args.lowering.now.tables.now.program.now in
     let x = c.args.name.now in
     two_steps (tree_code p (tree_of c.args.part.now) (scope_of c.args.scopes.now) c.args.around)
-    (finish (e.member_form (ref_at (program_of p) c.args.node) x) 1 true) _ (built c.args.builder.now) _ _ c.in_ok-part.ensures.code
+    (finish (e.member_form (ref_at (program_of p) c.args.node) x) 1 true) _ (built c.args.builder.now) _
+    _ c.in_ok-part.ensures.code
     c.in_ok-ending.ensures
     (c.in_ok-applied.ensures ∙ ap (λ form. finish form 1 true)
     (c.member_form-action.ensures ∙ ap (λ r. e.member_form r x) c.ref_at.ensures))

@@ -27,15 +27,18 @@ returns-clause-code g c =
     let n = target_operands b in
     let is_base = c.base_of-base.ensures in
     let same = c.in_ok-part.ensures.scopes ∙ c.in_ok-indices.ensures.scopes in
-    three_steps (target_code p b base sc a) (tree_code p v sc (up (raised n a))) (stored p c.args.assign b v c.args.place base n sc)
+    three_steps (target_code p b base sc a) (tree_code p v sc (up (raised n a)))
+    (stored p c.args.assign b v c.args.place base n sc)
     (built c.args.builder.now) _ _ _
-    (same_made _ (target_code p b base sc a) _ _ c.in_ok-indices.ensures.code (ap (λ base. target_code p b base sc a) is_base))
+    (same_made _ (target_code p b base sc a) _ _ c.in_ok-indices.ensures.code
+    (ap (λ base. target_code p b base sc a) is_base))
     (same_made _ (tree_code p v sc (up (raised n a))) _ _ c.in_ok-part.ensures.code
     (ap (λ s. tree_code p v s c.in_ok-above.above) c.in_ok-indices.ensures.scopes
-    ∙ ap (tree_code p v sc) (c.in_ok-above.ensures ∙ ap up (c.in_ok-raised.ensures ∙ ap (λ n. raised n a) c.in_ok-indices.ensures.count))))
+    ∙ ap (tree_code p v sc)
+    (c.in_ok-above.ensures ∙ ap up (c.in_ok-raised.ensures ∙ ap (λ n. raised n a) c.in_ok-indices.ensures.count))))
     (same_made _ (stored p c.args.assign b v c.args.place base n sc) _ _ c.in_ok-ending.ensures
-    (store_is p c.args.assign b v c.args.place base n sc c.in_ok-has_base.field-0 c.slot_of.result c.in_ok-indices.indices
-    c.mode_number.result c.keeps.result c.in_ok-count.field-0
+    (store_is p c.args.assign b v c.args.place base n sc c.in_ok-has_base.field-0 c.slot_of.result
+    c.in_ok-indices.indices c.mode_number.result c.keeps.result c.in_ok-count.field-0
     (c.in_ok-has_base.ensures (program_of p) (differ_of p)
     ∙ ap (has_base (program_of p) (differ_of p) b (base_view c.base_of-base.result)) same
     ∙ ap (λ base. has_base (program_of p) (differ_of p) b base sc) is_base)

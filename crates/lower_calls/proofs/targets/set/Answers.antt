@@ -7,6 +7,8 @@ use Rattle.lower_calls.proofs.targets.set.Goals as goal
 
 pub returns-clause-code : goal.returns-clause-code
 returns-clause-code g c =
-    two_made (λ b d. form_code c.args.lowering.now.tables.now.program.now (t.Shape.assignment c.args.assign b d) 0 c.args.place
-    (scope_of c.args.scopes.now) c.args.around) c.args.parts.now c.get.result.now c.get-2.result.now (built c.args.builder.now) _
+    two_made (λ b d. form_code c.args.lowering.now.tables.now.program.now
+    (t.Shape.assignment c.args.assign b d) 0 c.args.place
+    (scope_of c.args.scopes.now) c.args.around) c.args.parts.now c.get.result.now c.get-2.result.now
+    (built c.args.builder.now) _
     c.get.ensures c.get-2.ensures c.in_ok-assigned.ensures.code

@@ -3,7 +3,8 @@ use Rattle.verse_tree.specs.View.{tree_of}
 use Rattle.lower_lookup.specs.Members.{base_view}
 use Rattle.lower_expr.specs.Building.{built}
 use Rattle.lower_expr.specs.Locals.{scope_of}
-use Rattle.lower_calls.proofs.Indices.{target_begun, operands_begun, target_next, operands_next, target_done, operands_done}
+use Rattle.lower_calls.proofs.Indices.{target_begun, operands_begun, target_next, operands_next, target_done}
+use Rattle.lower_calls.proofs.Indices.{operands_done}
 use Rattle.lower_calls.proofs.targets.target.Goals as goal
 
 pub levels-init : goal.levels-init
@@ -16,7 +17,8 @@ levels-init g c =
       scopes = c.in_ok-bottom.ensures.scopes;
       within = omega (arith, c.in_ok-left.ensures);
       count = operands_begun p base sc c.args.around b c.in_ok-left.left c.in_ok-left.ensures;
-      code = target_begun p base sc c.args.around b (tree_of c.under.result.now) c.in_ok-left.left (built c.args.builder.now) _
+      code = target_begun p base sc c.args.around b (tree_of c.under.result.now) c.in_ok-left.left
+          (built c.args.builder.now) _
           c.in_ok-left.ensures c.under.ensures c.in_ok-bottom.ensures.code;
     }
 
@@ -34,17 +36,21 @@ levels-preserved g c =
       count = operands_next p base sc c.args.around b part left (left - 1) c.levels.count c.in_ok-count.count
           (omega (arith, c.levels-test.true))
           c.levels.invariant.within c.under-in-levels.ensures c.levels.invariant.count c.in_ok-count.ensures.count;
-      code = target_next p base sc c.args.around b part left (left - 1) c.levels.count (scope_of c.levels.scopes) (built c.args.builder.now)
-          (built c.levels.builder) _ (omega (arith, c.levels-test.true)) c.levels.invariant.within c.under-in-levels.ensures
+      code = target_next p base sc c.args.around b part left (left - 1) c.levels.count (scope_of c.levels.scopes)
+          (built c.args.builder.now)
+          (built c.levels.builder) _ (omega (arith, c.levels-test.true))
+          c.levels.invariant.within c.under-in-levels.ensures
           c.levels.invariant.scopes c.levels.invariant.count c.levels.invariant.code c.in_ok-count.ensures.code;
     }
 
 pub returns-clause-code : goal.returns-clause-code
 returns-clause-code g c =
-    target_done c.args.lowering.now.tables.now.program.now (base_view c.args.base) (scope_of c.args.scopes.now) c.args.around
+    target_done c.args.lowering.now.tables.now.program.now (base_view c.args.base)
+    (scope_of c.args.scopes.now) c.args.around
     (tree_of c.args.whole.now) c.levels.left (built c.args.builder.now) _ c.levels-test.false c.levels.invariant.code
 
 pub returns-clause-count : goal.returns-clause-count
 returns-clause-count g c =
-    operands_done c.args.lowering.now.tables.now.program.now (base_view c.args.base) (scope_of c.args.scopes.now) c.args.around
+    operands_done c.args.lowering.now.tables.now.program.now (base_view c.args.base)
+    (scope_of c.args.scopes.now) c.args.around
     (tree_of c.args.whole.now) c.levels.left c.levels.count c.levels-test.false c.levels.invariant.count

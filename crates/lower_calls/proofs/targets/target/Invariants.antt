@@ -13,7 +13,8 @@ invariant-levels g l = record {
   scopes : scope_of l.scopes ≡ scope_of l.fn.scopes;
   within : l.left ≤ levels (tree_of l.whole);
   count : l.count ≡ target_operands (under l.left (tree_of l.whole));
-  code : built l.builder ≡ made (target_code l.lowering.tables.now.program.now (under l.left (tree_of l.whole)) (base_view l.base)
+  code : built l.builder ≡
+      made (target_code l.lowering.tables.now.program.now (under l.left (tree_of l.whole)) (base_view l.base)
       (scope_of l.fn.scopes) l.fn.around) (built l.fn.builder);
 }
 

@@ -9,5 +9,7 @@ use Rattle.lower_calls.proofs.tasks.arms.Given as goal
 abbrev pub invariant-parts : goal.invariant-parts
 invariant-parts g l =
     (scope_of l.scopes ≡ scope_of l.fn.scopes)
-    × (arms_lowered l.lowering.tables.now.program.now (scope_of l.fn.scopes) (left l.parts l.part-index) l.at (built l.builder)
-    ≡ arms_lowered l.lowering.tables.now.program.now (scope_of l.fn.scopes) (left l.parts 0) l.fn.first (built l.fn.builder))
+    × (arms_lowered l.lowering.tables.now.program.now (scope_of l.fn.scopes) (left l.parts l.part-index) l.at
+    (built l.builder)
+    ≡ arms_lowered l.lowering.tables.now.program.now (scope_of l.fn.scopes) (left l.parts 0) l.fn.first
+    (built l.fn.builder))

@@ -13,5 +13,7 @@ abbrev pub invariant-parts : goal.invariant-parts
 invariant-parts g l =
     let p = l.lowering.tables.now.program.now in
     Grown (scope_of l.fn.scopes) (scope_of l.scopes)
-    × (made (given_args (program_of p) (differ_of p) (left_givens l.parts l.part-index) (scope_of l.scopes) l.around) (built l.builder)
-    ≡ made (given_args (program_of p) (differ_of p) (left_givens l.parts 0) (scope_of l.fn.scopes) l.around) (built l.fn.builder))
+    × (made (given_args (program_of p) (differ_of p) (left_givens l.parts l.part-index) (scope_of l.scopes) l.around)
+    (built l.builder)
+    ≡ made (given_args (program_of p) (differ_of p) (left_givens l.parts 0) (scope_of l.fn.scopes) l.around)
+    (built l.fn.builder))

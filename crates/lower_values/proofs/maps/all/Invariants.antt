@@ -12,5 +12,7 @@ abbrev pub invariant-parts : goal.invariant-parts
 invariant-parts g l =
     let p = l.lowering.tables.now.program.now in
     (scope_of l.scopes ≡ scope_of l.fn.scopes)
-    × (made (paired_args (program_of p) (differ_of p) (left_pairs l.parts l.part-index) (scope_of l.fn.scopes) l.here) (built l.builder)
-    ≡ made (paired_args (program_of p) (differ_of p) (left_pairs l.parts 0) (scope_of l.fn.scopes) l.fn.around) (built l.fn.builder))
+    × (made (paired_args (program_of p) (differ_of p) (left_pairs l.parts l.part-index) (scope_of l.fn.scopes) l.here)
+    (built l.builder)
+    ≡ made (paired_args (program_of p) (differ_of p) (left_pairs l.parts 0) (scope_of l.fn.scopes) l.fn.around)
+    (built l.fn.builder))

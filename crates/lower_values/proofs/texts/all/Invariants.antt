@@ -12,6 +12,8 @@ abbrev pub invariant-parts : goal.invariant-parts
 invariant-parts g l =
     let p = l.lowering.tables.now.program.now in
     (scope_of l.scopes ≡ scope_of l.fn.scopes)
-    × (made (holed (program_of p) (differ_of p) (left_holes l.parts l.part-index) (scope_of l.fn.scopes) l.here) (built l.builder)
-    ≡ made (holed (program_of p) (differ_of p) (left_holes l.parts 0) (scope_of l.fn.scopes) l.fn.around) (built l.fn.builder))
+    × (made (holed (program_of p) (differ_of p) (left_holes l.parts l.part-index) (scope_of l.fn.scopes) l.here)
+    (built l.builder)
+    ≡ made (holed (program_of p) (differ_of p) (left_holes l.parts 0) (scope_of l.fn.scopes) l.fn.around)
+    (built l.fn.builder))
     × (l.count + joined_parts (left_holes l.parts l.part-index) ≡ joined_parts (left_holes l.parts 0))

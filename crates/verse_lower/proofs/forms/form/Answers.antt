@@ -3,11 +3,12 @@ use Rattle.std.specs.Option.{option_map}
 use Rattle.verse_tree.specs.View.{tree_of, trees, if_of}
 use Rattle.lower_expr.specs.Locals.{scope_of}
 use Rattle.lower_parts.specs.Parts.{form_code}
-use Rattle.verse_lower.proofs.Shapes.{event_code, if_code, is_arm, is_array, is_block, is_blockform, is_branch, is_call, is_case}
-use Rattle.verse_lower.proofs.Shapes.{is_chain, is_compare, is_def, is_elements, is_entries, is_event, is_for, is_holes, is_if, is_index}
-use Rattle.verse_lower.proofs.Shapes.{is_instance, is_let, is_logic, is_loop, is_map, is_member, is_name, is_neg, is_not, is_option}
-use Rattle.verse_lower.proofs.Shapes.{is_query, is_race, is_range, is_return, is_rush, is_set, is_sleep, is_spawn, is_sync, is_tuple}
-use Rattle.verse_lower.proofs.Shapes.{is_vardef, return_code, sleep_code}
+use Rattle.verse_lower.proofs.Shapes.{event_code, if_code, is_arm, is_array, is_block, is_blockform, is_branch, is_call}
+use Rattle.verse_lower.proofs.Shapes.{is_case, is_chain, is_compare, is_def, is_elements, is_entries, is_event, is_for}
+use Rattle.verse_lower.proofs.Shapes.{is_holes, is_if, is_index, is_instance, is_let, is_logic, is_loop, is_map}
+use Rattle.verse_lower.proofs.Shapes.{is_member, is_name, is_neg, is_not, is_option, is_query, is_race, is_range}
+use Rattle.verse_lower.proofs.Shapes.{is_return, is_rush, is_set, is_sleep, is_spawn, is_sync, is_tuple, is_vardef}
+use Rattle.verse_lower.proofs.Shapes.{return_code, sleep_code}
 use Rattle.verse_lower.proofs.forms.form.Goals as goal
 
 pub returns-in-Block-clause-code : goal.returns-in-Block-clause-code
@@ -20,21 +21,24 @@ pub returns-in-Def-clause-code : goal.returns-in-Def-clause-code
 returns-in-Def-clause-code g c = rw (is_def _ _ _ _ c.in-Def.is c.value.ensures) c.constant-in-Def.ensures.code
 
 pub returns-in-VarDef-clause-code : goal.returns-in-VarDef-clause-code
-returns-in-VarDef-clause-code g c = rw (is_vardef _ _ _ _ c.in-VarDef.is c.value-in-VarDef.ensures) c.variable.ensures.code
+returns-in-VarDef-clause-code g c =
+    rw (is_vardef _ _ _ _ c.in-VarDef.is c.value-in-VarDef.ensures) c.variable.ensures.code
 
 pub returns-in-Return-clause-code : goal.returns-in-Return-clause-code
 returns-in-Return-clause-code g c =
     let p = c.args.lowering.now.tables.now.program.now in
     let sc = scope_of c.args.scopes.now in
     rw (ap (λ s. form_code p s c.args.node c.args.place sc c.args.around) (is_return _ _ c.in-Return.is)
-    ∙ return_code p c.args.node c.args.place sc c.args.around (option_map tree_of c.in-Return.value)) c.leave.ensures.code
+    ∙ return_code p c.args.node c.args.place sc c.args.around
+    (option_map tree_of c.in-Return.value)) c.leave.ensures.code
 
 pub returns-in-If-clause-code : goal.returns-in-If-clause-code
 returns-in-If-clause-code g c =
     let p = c.args.lowering.now.tables.now.program.now in
     let sc = scope_of c.args.scopes.now in
     rw (ap (λ s. form_code p s c.args.node c.args.place sc c.args.around) (is_if _ _ c.in-If.is)
-    ∙ if_code p c.args.node c.args.place sc c.args.around (trees (if_of c.in-If.parts).conditions) (if_of c.in-If.parts).taken
+    ∙ if_code p c.args.node c.args.place sc c.args.around (trees (if_of c.in-If.parts).conditions)
+    (if_of c.in-If.parts).taken
     (if_of c.in-If.parts).otherwise) c.if_form.ensures.code
 
 pub returns-in-Chain-clause-code : goal.returns-in-Chain-clause-code
@@ -56,14 +60,16 @@ pub returns-in-Index-clause-code : goal.returns-in-Index-clause-code
 returns-in-Index-clause-code g c = rw (is_index _ _ c.in-Index.is) c.index.ensures.code
 
 pub returns-in-Member-clause-code : goal.returns-in-Member-clause-code
-returns-in-Member-clause-code g c = rw (is_member _ _ _ _ _ c.in-Member.is c.get-in-Member.ensures c.as_slice-in-Member.ensures)
+returns-in-Member-clause-code g c =
+    rw (is_member _ _ _ _ _ c.in-Member.is c.get-in-Member.ensures c.as_slice-in-Member.ensures)
     c.member.ensures.code
 
 pub returns-in-Query-clause-code : goal.returns-in-Query-clause-code
 returns-in-Query-clause-code g c = rw (is_query _ _ _ c.in-Query.is c.get-in-Query.ensures) c.query.ensures.code
 
 pub returns-in-Holes-clause-code : goal.returns-in-Holes-clause-code
-returns-in-Holes-clause-code g c = rw (is_holes _ _ _ _ _ c.in-Holes.is c.as_slice-in-Holes-2.ensures c.as_slice-in-Holes.ensures)
+returns-in-Holes-clause-code g c =
+    rw (is_holes _ _ _ _ _ c.in-Holes.is c.as_slice-in-Holes-2.ensures c.as_slice-in-Holes.ensures)
     c.text.ensures.code
 
 pub returns-in-Name-clause-code : goal.returns-in-Name-clause-code
@@ -79,28 +85,34 @@ pub returns-in-Map-clause-code : goal.returns-in-Map-clause-code
 returns-in-Map-clause-code g c = rw (is_map _ _ _ c.in-Map.is c.as_slice-in-Map.ensures) c.map.ensures.code
 
 pub returns-in-Option-clause-code : goal.returns-in-Option-clause-code
-returns-in-Option-clause-code g c = rw (is_option _ _ _ c.in-Option.is c.as_slice-in-Option.ensures) c.option.ensures.code
+returns-in-Option-clause-code g c =
+    rw (is_option _ _ _ c.in-Option.is c.as_slice-in-Option.ensures) c.option.ensures.code
 
 pub returns-in-Logic-clause-code : goal.returns-in-Logic-clause-code
 returns-in-Logic-clause-code g c = rw (is_logic _ _ _ c.in-Logic.is c.as_slice-in-Logic.ensures) c.logic.ensures.code
 
 pub returns-in-Instance-clause-code : goal.returns-in-Instance-clause-code
-returns-in-Instance-clause-code g c = rw (is_instance _ _ _ _ c.in-Instance.is c.as_slice-in-Instance.ensures) c.instance.ensures.code
+returns-in-Instance-clause-code g c =
+    rw (is_instance _ _ _ _ c.in-Instance.is c.as_slice-in-Instance.ensures) c.instance.ensures.code
 
 pub returns-in-BlockForm-clause-code : goal.returns-in-BlockForm-clause-code
-returns-in-BlockForm-clause-code g c = rw (is_blockform _ _ _ c.in-BlockForm.is c.get-in-BlockForm.ensures) c.part.ensures.code
+returns-in-BlockForm-clause-code g c =
+    rw (is_blockform _ _ _ c.in-BlockForm.is c.get-in-BlockForm.ensures) c.part.ensures.code
 
 pub returns-in-Branch-clause-code : goal.returns-in-Branch-clause-code
-returns-in-Branch-clause-code g c = rw (is_branch _ _ _ c.in-Branch.is c.get-in-Branch.ensures) c.branch-lowering.ensures.code
+returns-in-Branch-clause-code g c =
+    rw (is_branch _ _ _ c.in-Branch.is c.get-in-Branch.ensures) c.branch-lowering.ensures.code
 
 pub returns-in-Sync-clause-code : goal.returns-in-Sync-clause-code
 returns-in-Sync-clause-code g c = rw (is_sync _ _ _ c.in-Sync.is c.as_slice-in-Sync.ensures) c.group.ensures.code
 
 pub returns-in-Race-clause-code : goal.returns-in-Race-clause-code
-returns-in-Race-clause-code g c = rw (is_race _ _ _ c.in-Race.is c.as_slice-in-Race.ensures) c.group-in-Race.ensures.code
+returns-in-Race-clause-code g c =
+    rw (is_race _ _ _ c.in-Race.is c.as_slice-in-Race.ensures) c.group-in-Race.ensures.code
 
 pub returns-in-Rush-clause-code : goal.returns-in-Rush-clause-code
-returns-in-Rush-clause-code g c = rw (is_rush _ _ _ c.in-Rush.is c.as_slice-in-Rush.ensures) c.group-in-Rush.ensures.code
+returns-in-Rush-clause-code g c =
+    rw (is_rush _ _ _ c.in-Rush.is c.as_slice-in-Rush.ensures) c.group-in-Rush.ensures.code
 
 pub returns-in-Spawn-clause-code : goal.returns-in-Spawn-clause-code
 returns-in-Spawn-clause-code g c = rw (is_spawn _ _ _ c.in-Spawn.is c.get-in-Spawn.ensures) c.spawn.ensures.code

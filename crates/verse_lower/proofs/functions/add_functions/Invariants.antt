@@ -8,6 +8,7 @@ use Rattle.verse_lower.proofs.functions.add_functions.Given as goal
 abbrev pub invariant-bodies : goal.invariant-bodies
 invariant-bodies l =
     let p = l.tables.program.now in
-    (with_bodies p (map body_view (drop l.body-index l.bodies)) (built l.builder) ≡ with_bodies p (map body_view l.bodies) empty)
+    (with_bodies p (map body_view (drop l.body-index l.bodies)) (built l.builder) ≡
+    with_bodies p (map body_view l.bodies) empty)
     × (l.functions ++ functions_from p (map body_view (drop l.body-index l.bodies)) (spot (built l.builder))
     ≡ functions_from p (map body_view l.bodies) (spot empty))

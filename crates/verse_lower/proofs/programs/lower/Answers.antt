@@ -17,11 +17,13 @@ returns-clause-means c h ns steps until =
 pub returns-clause-valid : goal.returns-clause-valid
 returns-clause-valid c h =
     let made = c.args.program.now in
-    subst Valid (sym c.in_ok-code_of.ensures) (c.code_is_valid.ensures (program_of made) (differ_of made) made.tree.files h)
+    subst Valid (sym c.in_ok-code_of.ensures)
+    (c.code_is_valid.ensures (program_of made) (differ_of made) made.tree.files h)
 
 pub returns-clause-within : goal.returns-clause-within
 returns-clause-within c h =
     let made = c.args.program.now in
     let code = code_of (program_of made) (differ_of made) made.tree.files in
-    subst (IsWithin (size_of made)) (sym c.in_ok-code_of.ensures) (subst (λ n. IsWithin n code) (c.size_stands.ensures made)
+    subst (IsWithin (size_of made)) (sym c.in_ok-code_of.ensures)
+    (subst (λ n. IsWithin n code) (c.size_stands.ensures made)
     (c.code_is_small.ensures (program_of made) (differ_of made) made.tree.files h))

@@ -9,7 +9,9 @@ use Rattle.lower_parts.proofs.lowering.Lowering.operands.Given as goal
 abbrev pub invariant-parts : goal.invariant-parts
 invariant-parts g l =
     (scope_of l.scopes ≡ scope_of l.fn.scopes)
-    × (made (operands_code l.self.tables.now.program.now (trees (map tree_of (drop l.part-index l.parts))) (scope_of l.fn.scopes)
+    × (made (operands_code l.self.tables.now.program.now (trees (map tree_of (drop l.part-index l.parts)))
+    (scope_of l.fn.scopes)
     l.above) (built l.builder)
-    ≡ made (operands_code l.self.tables.now.program.now (trees (map tree_of l.parts)) (scope_of l.fn.scopes) l.fn.around) (built
+    ≡ made (operands_code l.self.tables.now.program.now (trees (map tree_of l.parts))
+    (scope_of l.fn.scopes) l.fn.around) (built
     l.fn.builder))
