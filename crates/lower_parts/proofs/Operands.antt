@@ -16,8 +16,8 @@ use Rattle.lower_parts.proofs.Lists.{seen_next, seen_none}
 abbrev pub left : List Expr → ℕ → Trees
 left xs i = trees (map tree_of (drop i xs))
 
-pub left_next : (xs : List Expr) (i : ℕ) (x : Expr) → i < length xs → x ≡ get_or xs i x → left xs i ≡
-    more_trees (tree_of x) (left xs (i + 1))
+pub left_next : (xs : List Expr) (i : ℕ) (x : Expr) → i < length xs → x ≡ get_or xs i x →
+    left xs i ≡ more_trees (tree_of x) (left xs (i + 1))
 left_next xs i x h e = ap trees (seen_next tree_of xs i x h e)
 
 pub left_none : (xs : List Expr) (i : ℕ) → length xs ≤ i → left xs i ≡ no_trees

@@ -45,8 +45,8 @@ module _ (p : Program) (xs : List Given) (i : ℕ) (a : Around) where
   code gs sc = given_args (program_of p) (differ_of p) gs sc a
 
   -- behind one part more, and where none is left
-  pub givens_next : (x : Given) (sc new : Scope) (b behind all : Built) → i < length xs → x ≡ get_or xs i x → new ≡
-      hidden ∷ sc →
+  pub givens_next : (x : Given) (sc new : Scope) (b behind all : Built) → i < length xs → x ≡ get_or xs i x →
+      new ≡ hidden ∷ sc →
       behind ≡ made (given_code p (given_of x).1 sc a) b → made (code (left_givens xs i) sc) b ≡ all →
       made (code (left_givens xs (i + 1)) new) behind ≡ all
   givens_next x sc new b behind all h e k g is =
@@ -75,8 +75,8 @@ module _ (p : Program) (xs : List (Bor Field)) (i : ℕ) (gs : Givens) (l : ℕ)
       behind ≡ made f b → made (ops (left_fields xs i)) b ≡ all → made (ops (left_fields xs (i + 1))) behind ≡ all
   fields_next x f b behind all h e k g is =
       let first : Maker =
-      field_op (program_of p) (differ_of p) (given_local (field_now x).name gs l) (field_now x).default (field_now
-      x).number in
+      field_op (program_of p) (differ_of p) (given_local (field_now x).name gs l) (field_now x).default
+      (field_now x).number in
       let rest : Maker = ops (left_fields xs (i + 1)) in
       ap (made rest) (g ∙ ap (λ m. made m b) k) ∙ sym (made_then first rest b)
       ∙ sym (ap (λ fs. made (ops fs) b) (seen_next field_now xs i x h e)) ∙ is
@@ -86,8 +86,7 @@ module _ (p : Program) (xs : List (Bor Field)) (i : ℕ) (gs : Givens) (l : ℕ)
 
 -- an instance of a class, by what its steps make, and of none
 pub class_done : (p : Program) (class : ℕ) (place : Place) (gs : Givens) (sc : Scope) (a : Around) (first : ℕ)
-    (b given fields all :
-    Built) →
+    (b given fields all : Built) →
     first ≡ length sc → given ≡ made (given_args (program_of p) (differ_of p) gs sc a) b →
     fields ≡ made (field_ops (program_of p) (differ_of p) (fields_of (program_of p) class) gs first) given →
     all ≡ made (placed place (numbered (o.Object class 0))) fields →

@@ -56,8 +56,8 @@ module _ (p : Program) (xs : List Hole) (i : ℕ) (sc : Scope) where
   pub holes_done : (a : Around) (b all : Built) → length xs ≤ i → made (code (left_holes xs i) a) b ≡ all → b ≡ all
   holes_done a b all h is = sym (ap (λ hs. made (code (holes hs) a) b) (seen_none hole_of xs i h) ∙ made_nothing b) ∙ is
 
-  pub parts_next : (x : Hole) (n m all : ℕ) → i < length xs → x ≡ get_or xs i x → m ≡
-      one_if (is_text (hole_of x).1) (n + 1) →
+  pub parts_next : (x : Hole) (n m all : ℕ) → i < length xs → x ≡ get_or xs i x →
+      m ≡ one_if (is_text (hole_of x).1) (n + 1) →
       n + joined_parts (left_holes xs i) ≡ all → m + joined_parts (left_holes xs (i + 1)) ≡ all
   parts_next x n m all h e g is =
       ap (λ k. k + joined_parts (left_holes xs (i + 1))) g
@@ -73,10 +73,9 @@ module _ (p : Program) (xs : List Hole) (i : ℕ) (sc : Scope) where
 
 -- a text with holes, by what its steps make
 pub text_done : (p : Program) (bs : Bytes) (hs : Holes) (place : Place) (sc : Scope) (a above : Around) (n : ℕ)
-    (b first parts all :
-    Built) →
-    first ≡ made (text_if bs) b → above ≡ raised (one_if (is_text bs) 0) a → parts ≡
-    made (holed (program_of p) (differ_of p) hs sc above) first →
+    (b first parts all : Built) →
+    first ≡ made (text_if bs) b → above ≡ raised (one_if (is_text bs) 0) a →
+    parts ≡ made (holed (program_of p) (differ_of p) hs sc above) first →
     n ≡ one_if (is_text bs) (joined_parts hs) → all ≡ made (placed place (numbered (o.Join n 0))) parts →
     all ≡ made (form_code p (t.Shape.holes bs hs) 0 place sc a) b
 text_done p bs hs place sc a above n b first parts all e1 e2 e3 e4 e5 =

@@ -53,11 +53,10 @@ module _ (p : Program) (xs : List Pair) (i : ℕ) (sc : Scope) where
 
 -- a map, by what its steps make
 pub map_done : (p : Program) (xs : List Pair) (place : Place) (sc : Scope) (a : Around) (n : ℕ)
-    (b parts all : Built) → n ≡
-    length xs →
+    (b parts all : Built) → n ≡ length xs →
     parts ≡ made (paired_args (program_of p) (differ_of p) (pairs (map pair_of xs)) sc a) b →
-    all ≡ made (placed place (numbered (o.Map n 0))) parts → all ≡
-    made (form_code p (t.Shape.mapping (pairs (map pair_of xs))) 0 place sc a) b
+    all ≡ made (placed place (numbered (o.Map n 0))) parts →
+    all ≡ made (form_code p (t.Shape.mapping (pairs (map pair_of xs))) 0 place sc a) b
 map_done p xs place sc a n b parts all e1 e2 e3 =
     let ps = pairs (map pair_of xs) in
     let f : Maker = paired_args (program_of p) (differ_of p) ps sc a in

@@ -27,8 +27,8 @@ left_bodies xs i = map body_view (drop i xs)
 
 module _ (p : Program) (xs : List Body) (i : ℕ) where
   -- behind one body more, and where none is left
-  pub code_next : (x : Body) (b behind all : Built) → i < length xs → x ≡ get_or xs i x → behind ≡
-      with_body p (body_view x) b →
+  pub code_next : (x : Body) (b behind all : Built) → i < length xs → x ≡ get_or xs i x →
+      behind ≡ with_body p (body_view x) b →
       with_bodies p (left_bodies xs i) b ≡ all → with_bodies p (left_bodies xs (i + 1)) behind ≡ all
   code_next x b behind all h e g is =
       let f : Maker = body_code p (body_view x) in
@@ -37,8 +37,8 @@ module _ (p : Program) (xs : List Body) (i : ℕ) where
       ∙ sym (ap (λ bs. with_bodies p bs b) (seen_next body_view xs i x h e))
       ∙ is
     where
-      moved : (f rest : Maker) (b : Built) → with_locals 0 (made rest (made f (with_locals 0 b))) ≡
-          with_locals 0 (made (f then rest) b)
+      moved : (f rest : Maker) (b : Built) →
+          with_locals 0 (made rest (made f (with_locals 0 b))) ≡ with_locals 0 (made (f then rest) b)
       moved f rest b =
           sym (ap (with_locals 0) (made_then f rest (with_locals 0 b))) ∙ uncounted (f then rest) b
 

@@ -34,8 +34,8 @@ use Rattle.lower_task.specs.Tasks.{sleep_op}
 shape_block : (es : List Expr) → shape_of (form.Block es) ≡ t.Shape.block (trees (map tree_of es))
 shape_block es = search (rules, the_lemmas)
 
-pub is_block : (f : Form) (es : List Expr) (there : List Expr) → f ≡ form.Block es → there ≡ es → shape_of f ≡
-    t.Shape.block (trees (map tree_of there))
+pub is_block : (f : Form) (es : List Expr) (there : List Expr) → f ≡ form.Block es → there ≡ es →
+    shape_of f ≡ t.Shape.block (trees (map tree_of there))
 is_block f es there h g = ap shape_of h ∙ shape_block es ∙ ap (λ k. t.Shape.block (trees (map tree_of k))) (sym g)
 
 shape_defer : (e : Expr) → shape_of (form.Defer e) ≡ t.Shape.defer (tree_of e)
@@ -47,8 +47,8 @@ is_defer f e h = ap shape_of h ∙ shape_defer e
 shape_let : (x : Bytes) (e : Expr) → shape_of (form.Let x e) ≡ t.Shape.definition x (tree_of e)
 shape_let x e = search (rules, the_lemmas)
 
-pub is_let : (f : Form) (x : Bytes) (e : Expr) (there : Expr) → f ≡ form.Let x e → there ≡ e → shape_of f ≡
-    t.Shape.definition x (tree_of there)
+pub is_let : (f : Form) (x : Bytes) (e : Expr) (there : Expr) → f ≡ form.Let x e → there ≡ e →
+    shape_of f ≡ t.Shape.definition x (tree_of there)
 is_let f x e there h g = ap shape_of h ∙ shape_let x e ∙ ap (λ k. t.Shape.definition x (tree_of k)) (sym g)
 
 shape_def : (x : Bytes) (d : TypedValue) →
@@ -60,8 +60,8 @@ pub is_def : (f : Form) (x : Bytes) (d : TypedValue) (b : Tree) → f ≡ form.D
     t.Shape.typed x (typed_value_of d).0 b
 is_def f x d b h g = ap shape_of h ∙ shape_def x d ∙ ap (λ k. t.Shape.typed x (typed_value_of d).0 k) (sym g)
 
-shape_vardef : (x : Bytes) (d : TypedValue) → shape_of (form.VarDef x d) ≡
-    t.Shape.variable x (typed_value_of d).0 (typed_value_of d).1
+shape_vardef : (x : Bytes) (d : TypedValue) →
+    shape_of (form.VarDef x d) ≡ t.Shape.variable x (typed_value_of d).0 (typed_value_of d).1
 shape_vardef x d = search (rules, the_lemmas)
 
 pub is_vardef : (f : Form) (x : Bytes) (d : TypedValue) (b : Tree) → f ≡ form.VarDef x d → b ≡ (typed_value_of d).1 →
@@ -85,8 +85,8 @@ shape_if : (c : IfParts) →
     shape_of (form.If c) ≡ if_shape (trees (if_of c).conditions) (if_of c).taken (if_of c).otherwise
 shape_if c = search (rules, the_lemmas)
 
-pub is_if : (f : Form) (c : IfParts) → f ≡ form.If c → shape_of f ≡
-    if_shape (trees (if_of c).conditions) (if_of c).taken (if_of c).otherwise
+pub is_if : (f : Form) (c : IfParts) → f ≡ form.If c →
+    shape_of f ≡ if_shape (trees (if_of c).conditions) (if_of c).taken (if_of c).otherwise
 is_if f c h = ap shape_of h ∙ shape_if c
 
 shape_chain : (o : Operator) (p : Two) → shape_of (form.Chain o p) ≡ t.Shape.chained o (two_of p).0 (two_of p).1
@@ -99,8 +99,8 @@ is_chain f o p h = ap shape_of h ∙ shape_chain o p
 shape_compare : (o : Comparison) (p : Two) → shape_of (form.Compare o p) ≡ t.Shape.compared o (two_of p).0 (two_of p).1
 shape_compare o p = search (rules, the_lemmas)
 
-pub is_compare : (f : Form) (o : Comparison) (p : Two) → f ≡ form.Compare o p → shape_of f ≡
-    t.Shape.compared o (two_of p).0 (two_of p).1
+pub is_compare : (f : Form) (o : Comparison) (p : Two) → f ≡ form.Compare o p →
+    shape_of f ≡ t.Shape.compared o (two_of p).0 (two_of p).1
 is_compare f o p h = ap shape_of h ∙ shape_compare o p
 
 shape_not : (e : Expr) → shape_of (form.Not e) ≡ t.Shape.negation (tree_of e)
@@ -135,8 +135,7 @@ shape_member : (e : Expr) (x : Bytes) → shape_of (form.Member e x) ≡ t.Shape
 shape_member e x = search (rules, the_lemmas)
 
 pub is_member : (f : Form) (e : Expr) (x : Bytes) (there : Expr) (name : Bytes) → f ≡ form.Member e x →
-    there ≡ e → name ≡
-    x →
+    there ≡ e → name ≡ x →
     shape_of f ≡ t.Shape.member (tree_of there) name
 is_member f e x there name h g i = ap shape_of h ∙ shape_member e x ∙ ap (λ k. t.Shape.member (tree_of k) x) (sym g)
     ∙ ap (λ k. t.Shape.member (tree_of there) k) (sym i)
@@ -144,8 +143,8 @@ is_member f e x there name h g i = ap shape_of h ∙ shape_member e x ∙ ap (λ
 shape_query : (e : Expr) → shape_of (form.Query e) ≡ t.Shape.query (tree_of e)
 shape_query e = search (rules, the_lemmas)
 
-pub is_query : (f : Form) (e : Expr) (there : Expr) → f ≡ form.Query e → there ≡ e → shape_of f ≡
-    t.Shape.query (tree_of there)
+pub is_query : (f : Form) (e : Expr) (there : Expr) → f ≡ form.Query e → there ≡ e →
+    shape_of f ≡ t.Shape.query (tree_of there)
 is_query f e there h g = ap shape_of h ∙ shape_query e ∙ ap (λ k. t.Shape.query (tree_of k)) (sym g)
 
 shape_holes : (bs : Bytes) (hs : List Hole) → shape_of (form.Holes bs hs) ≡ t.Shape.holes bs (holes (map hole_of hs))
@@ -168,36 +167,36 @@ is_name f x name h g = ap shape_of h ∙ shape_name x ∙ ap t.Shape.name (sym g
 shape_tuple : (es : List Expr) → shape_of (form.Tuple es) ≡ t.Shape.tuple (trees (map tree_of es))
 shape_tuple es = search (rules, the_lemmas)
 
-pub is_tuple : (f : Form) (es : List Expr) (there : List Expr) → f ≡ form.Tuple es → there ≡ es → shape_of f ≡
-    t.Shape.tuple (trees (map tree_of there))
+pub is_tuple : (f : Form) (es : List Expr) (there : List Expr) → f ≡ form.Tuple es → there ≡ es →
+    shape_of f ≡ t.Shape.tuple (trees (map tree_of there))
 is_tuple f es there h g = ap shape_of h ∙ shape_tuple es ∙ ap (λ k. t.Shape.tuple (trees (map tree_of k))) (sym g)
 
 shape_array : (es : List Expr) → shape_of (form.Array es) ≡ t.Shape.array (trees (map tree_of es))
 shape_array es = search (rules, the_lemmas)
 
-pub is_array : (f : Form) (es : List Expr) (there : List Expr) → f ≡ form.Array es → there ≡ es → shape_of f ≡
-    t.Shape.array (trees (map tree_of there))
+pub is_array : (f : Form) (es : List Expr) (there : List Expr) → f ≡ form.Array es → there ≡ es →
+    shape_of f ≡ t.Shape.array (trees (map tree_of there))
 is_array f es there h g = ap shape_of h ∙ shape_array es ∙ ap (λ k. t.Shape.array (trees (map tree_of k))) (sym g)
 
 shape_map : (ps : List Pair) → shape_of (form.Map ps) ≡ t.Shape.mapping (pairs (map pair_of ps))
 shape_map ps = search (rules, the_lemmas)
 
-pub is_map : (f : Form) (ps : List Pair) (there : List Pair) → f ≡ form.Map ps → there ≡ ps → shape_of f ≡
-    t.Shape.mapping (pairs (map pair_of there))
+pub is_map : (f : Form) (ps : List Pair) (there : List Pair) → f ≡ form.Map ps → there ≡ ps →
+    shape_of f ≡ t.Shape.mapping (pairs (map pair_of there))
 is_map f ps there h g = ap shape_of h ∙ shape_map ps ∙ ap (λ k. t.Shape.mapping (pairs (map pair_of k))) (sym g)
 
 shape_option : (es : List Expr) → shape_of (form.Option es) ≡ t.Shape.option (trees (map tree_of es))
 shape_option es = search (rules, the_lemmas)
 
-pub is_option : (f : Form) (es : List Expr) (there : List Expr) → f ≡ form.Option es → there ≡ es → shape_of f ≡
-    t.Shape.option (trees (map tree_of there))
+pub is_option : (f : Form) (es : List Expr) (there : List Expr) → f ≡ form.Option es → there ≡ es →
+    shape_of f ≡ t.Shape.option (trees (map tree_of there))
 is_option f es there h g = ap shape_of h ∙ shape_option es ∙ ap (λ k. t.Shape.option (trees (map tree_of k))) (sym g)
 
 shape_logic : (es : List Expr) → shape_of (form.Logic es) ≡ t.Shape.logic (trees (map tree_of es))
 shape_logic es = search (rules, the_lemmas)
 
-pub is_logic : (f : Form) (es : List Expr) (there : List Expr) → f ≡ form.Logic es → there ≡ es → shape_of f ≡
-    t.Shape.logic (trees (map tree_of there))
+pub is_logic : (f : Form) (es : List Expr) (there : List Expr) → f ≡ form.Logic es → there ≡ es →
+    shape_of f ≡ t.Shape.logic (trees (map tree_of there))
 is_logic f es there h g = ap shape_of h ∙ shape_logic es ∙ ap (λ k. t.Shape.logic (trees (map tree_of k))) (sym g)
 
 shape_instance : (x : Bytes) (gs : List Given) →
@@ -225,43 +224,43 @@ is_for f e h = ap shape_of h ∙ shape_for e
 shape_loop : (e : Expr) → shape_of (form.Loop e) ≡ t.Shape.loop_form (tree_of e)
 shape_loop e = search (rules, the_lemmas)
 
-pub is_loop : (f : Form) (e : Expr) (there : Expr) → f ≡ form.Loop e → there ≡ e → shape_of f ≡
-    t.Shape.loop_form (tree_of there)
+pub is_loop : (f : Form) (e : Expr) (there : Expr) → f ≡ form.Loop e → there ≡ e →
+    shape_of f ≡ t.Shape.loop_form (tree_of there)
 is_loop f e there h g = ap shape_of h ∙ shape_loop e ∙ ap (λ k. t.Shape.loop_form (tree_of k)) (sym g)
 
 shape_blockform : (e : Expr) → shape_of (form.BlockForm e) ≡ t.Shape.block_form (tree_of e)
 shape_blockform e = search (rules, the_lemmas)
 
-pub is_blockform : (f : Form) (e : Expr) (there : Expr) → f ≡ form.BlockForm e → there ≡ e → shape_of f ≡
-    t.Shape.block_form (tree_of there)
+pub is_blockform : (f : Form) (e : Expr) (there : Expr) → f ≡ form.BlockForm e → there ≡ e →
+    shape_of f ≡ t.Shape.block_form (tree_of there)
 is_blockform f e there h g = ap shape_of h ∙ shape_blockform e ∙ ap (λ k. t.Shape.block_form (tree_of k)) (sym g)
 
 shape_branch : (e : Expr) → shape_of (form.Branch e) ≡ t.Shape.branch (tree_of e)
 shape_branch e = search (rules, the_lemmas)
 
-pub is_branch : (f : Form) (e : Expr) (there : Expr) → f ≡ form.Branch e → there ≡ e → shape_of f ≡
-    t.Shape.branch (tree_of there)
+pub is_branch : (f : Form) (e : Expr) (there : Expr) → f ≡ form.Branch e → there ≡ e →
+    shape_of f ≡ t.Shape.branch (tree_of there)
 is_branch f e there h g = ap shape_of h ∙ shape_branch e ∙ ap (λ k. t.Shape.branch (tree_of k)) (sym g)
 
 shape_sync : (es : List Expr) → shape_of (form.Sync es) ≡ t.Shape.sync (trees (map tree_of es))
 shape_sync es = search (rules, the_lemmas)
 
-pub is_sync : (f : Form) (es : List Expr) (there : List Expr) → f ≡ form.Sync es → there ≡ es → shape_of f ≡
-    t.Shape.sync (trees (map tree_of there))
+pub is_sync : (f : Form) (es : List Expr) (there : List Expr) → f ≡ form.Sync es → there ≡ es →
+    shape_of f ≡ t.Shape.sync (trees (map tree_of there))
 is_sync f es there h g = ap shape_of h ∙ shape_sync es ∙ ap (λ k. t.Shape.sync (trees (map tree_of k))) (sym g)
 
 shape_race : (es : List Expr) → shape_of (form.Race es) ≡ t.Shape.race (trees (map tree_of es))
 shape_race es = search (rules, the_lemmas)
 
-pub is_race : (f : Form) (es : List Expr) (there : List Expr) → f ≡ form.Race es → there ≡ es → shape_of f ≡
-    t.Shape.race (trees (map tree_of there))
+pub is_race : (f : Form) (es : List Expr) (there : List Expr) → f ≡ form.Race es → there ≡ es →
+    shape_of f ≡ t.Shape.race (trees (map tree_of there))
 is_race f es there h g = ap shape_of h ∙ shape_race es ∙ ap (λ k. t.Shape.race (trees (map tree_of k))) (sym g)
 
 shape_rush : (es : List Expr) → shape_of (form.Rush es) ≡ t.Shape.rush (trees (map tree_of es))
 shape_rush es = search (rules, the_lemmas)
 
-pub is_rush : (f : Form) (es : List Expr) (there : List Expr) → f ≡ form.Rush es → there ≡ es → shape_of f ≡
-    t.Shape.rush (trees (map tree_of there))
+pub is_rush : (f : Form) (es : List Expr) (there : List Expr) → f ≡ form.Rush es → there ≡ es →
+    shape_of f ≡ t.Shape.rush (trees (map tree_of there))
 is_rush f es there h g = ap shape_of h ∙ shape_rush es ∙ ap (λ k. t.Shape.rush (trees (map tree_of k))) (sym g)
 
 shape_case : (c : Cases) → shape_of (form.Case c) ≡ t.Shape.cases (cases_of c).0 (trees (cases_of c).1)
@@ -274,8 +273,8 @@ is_case f c h = ap shape_of h ∙ shape_case c
 shape_spawn : (e : Expr) → shape_of (form.Spawn e) ≡ t.Shape.spawn (tree_of e)
 shape_spawn e = search (rules, the_lemmas)
 
-pub is_spawn : (f : Form) (e : Expr) (there : Expr) → f ≡ form.Spawn e → there ≡ e → shape_of f ≡
-    t.Shape.spawn (tree_of there)
+pub is_spawn : (f : Form) (e : Expr) (there : Expr) → f ≡ form.Spawn e → there ≡ e →
+    shape_of f ≡ t.Shape.spawn (tree_of there)
 is_spawn f e there h g = ap shape_of h ∙ shape_spawn e ∙ ap (λ k. t.Shape.spawn (tree_of k)) (sym g)
 
 shape_sleep : (o : Option ℕ) → shape_of (form.Sleep o) ≡ sleep_shape o
@@ -318,8 +317,8 @@ module _ (p : Program) (n : ℕ) (pl : Place) (sc : Scope) (a : Around) where
   return_code None = refl
   return_code (Some b) = refl
 
-  pub if_code : (cs : Trees) (b : Tree) (o : Option Tree) → form_code p (if_shape cs b o) n pl sc a ≡
-      form_code p (if_shape cs b o) 0 no_place sc a
+  pub if_code : (cs : Trees) (b : Tree) (o : Option Tree) →
+      form_code p (if_shape cs b o) n pl sc a ≡ form_code p (if_shape cs b o) 0 no_place sc a
   if_code cs b None = refl
   if_code cs b (Some c) = refl
 

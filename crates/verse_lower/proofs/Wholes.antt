@@ -26,10 +26,10 @@ use Rattle.lower_simulation_runs.proofs.FirmForms.{piece_firm}
 use Rattle.verse_lower.specs.Making.{bodies_code, function_of, functions_from, with_body, with_bodies}
 
 -- a body, by what its steps make
-pub body_done : (p : Program) (b : l.Body) (sc : Scope) (a : Around) (so_far start tree all : Built) → start ≡
-    with_locals 0 so_far →
-    sc ≡ b.scope → a ≡ fresh → tree ≡ made (tree_code p b.body sc a) start → all ≡ made (one o.Return) tree → all ≡
-    with_body p b so_far
+pub body_done : (p : Program) (b : l.Body) (sc : Scope) (a : Around) (so_far start tree all : Built) →
+    start ≡ with_locals 0 so_far →
+    sc ≡ b.scope → a ≡ fresh → tree ≡ made (tree_code p b.body sc a) start → all ≡ made (one o.Return) tree →
+    all ≡ with_body p b so_far
 body_done p b sc a so_far start tree all e1 e2 e3 e4 e5 =
     let f : Maker = tree_code p b.body b.scope fresh in
     e5 ∙ ap (made (one o.Return)) (e4 ∙ ap (λ s. made (tree_code p b.body s a) start) e2
@@ -46,10 +46,9 @@ counted f so_far = none_counted (f (spot so_far)).locals
 
 -- a function, by its numbers
 pub function_done : (p : Program) (b : l.Body) (suspends : Bool) (so_far all : Built)
-    (params entry count locals : ℕ) → params ≡
-    length b.scope →
-    entry ≡ length so_far.ops → suspends ≡ b.suspends → all ≡ with_body p b so_far → count ≡ all.locals → locals ≡
-    max params count →
+    (params entry count locals : ℕ) → params ≡ length b.scope →
+    entry ≡ length so_far.ops → suspends ≡ b.suspends → all ≡ with_body p b so_far → count ≡ all.locals →
+    locals ≡ max params count →
     record { params = params; locals = locals; entry = entry; suspends = suspends } ≡ function_of p (spot so_far) b
 function_done p b suspends so_far all params entry count locals e1 e2 e3 e4 e5 e6 =
     let f : Maker = l.body_piece (program_of p) (differ_of p) b in
@@ -79,8 +78,7 @@ raw_sures (leaving n ∷ is) h = absurd h
 bodies_firm : (p : Program) (bs : List l.Body) → Firm (bodies_code p bs)
 bodies_firm p [] = none_firm
 bodies_firm p (b ∷ bs) =
-    and (and (piece_firm (program_of p) (differ_of p) b.body b.scope fresh refl) (one_firm o.Return)) (bodies_firm
-    p bs)
+    and (and (piece_firm (program_of p) (differ_of p) b.body b.scope fresh refl) (one_firm o.Return)) (bodies_firm p bs)
 
 -- what the functions of a code add to none
 record Adds (p : Program) (bs : List l.Body) (b : Built) : Type 0 where

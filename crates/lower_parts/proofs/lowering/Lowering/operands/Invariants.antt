@@ -13,5 +13,4 @@ invariant-parts g l =
     (scope_of l.fn.scopes)
     l.above) (built l.builder)
     ≡ made (operands_code l.self.tables.now.program.now (trees (map tree_of l.parts))
-    (scope_of l.fn.scopes) l.fn.around) (built
-    l.fn.builder))
+    (scope_of l.fn.scopes) l.fn.around) (built l.fn.builder))
