@@ -19,7 +19,7 @@ use Rattle.verse_value.specs.Keys.{bytes_of}
 use Rattle.verse_value.specs.Operations.{modulo_of, item_of, at_of, floor_of, ceil_of}
 use Rattle.verse_meaning_state.specs.State.{State, with_line}
 use Rattle.verse_meaning_state.specs.Waits.{eqn}
-use Rattle.verse_meaning_state.specs.Effects.{still, line_printed, text_printed, printed, class_of}
+use Rattle.verse_meaning_state.specs.Effects.{still, line_printed, text_printed, printed_by, class_of}
 use Rattle.verse_meaning.specs.Programs.{fun_at, method_at, method_in}
 use Rattle.verse_meaning.specs.Residuals as form
 use Rattle.verse_meaning.specs.Residuals.{Env, Form, Scopes}
@@ -130,7 +130,7 @@ module _ (z : Setting) where
       told_calm : (x : Option (List ℕ)) → Calmly z (text_printed x s) s
       told_calm None = tt
       told_calm (Some bs) = line_calm
-          (nat_le (length (printed s.memory.trace) + length (line_bytes s.clock.now bs)) MOST_TRACE_BYTES)
+          (nat_le (printed_by s + length (line_bytes s.clock.now bs)) MOST_TRACE_BYTES)
           (with_line s (record { moment = s.clock.now; bytes = bs })) refl
   print_calm u s = tt
 

@@ -64,9 +64,13 @@ slot_written slot path mode v other s = stuck
 abbrev pub printed : List Line → List ℕ
 printed lines = flat_map (λ (l : Line). line_bytes l.moment l.bytes) lines
 
+-- how many bytes were printed, those before the trace too
+abbrev pub printed_by : State → ℕ
+printed_by s = s.clock.before.bytes + length (printed s.memory.trace)
+
 abbrev pub line_told : List ℕ → State → Effect
 line_told bytes s =
-    cond (nat_le (length (printed s.memory.trace) + length (line_bytes s.clock.now bytes)) MOST_TRACE_BYTES) (gives (
+    cond (nat_le (printed_by s + length (line_bytes s.clock.now bytes)) MOST_TRACE_BYTES) (gives (
       unit,
       with_line s (record {
         moment = s.clock.now;

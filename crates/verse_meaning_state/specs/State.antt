@@ -20,6 +20,11 @@ pub record Signal : Type 0 where
   pub next : ℕ
   pub given : Given
 
+-- what was printed before the trace begins
+pub record Before : Type 0 where
+  pub bytes : ℕ
+  pub lines : ℕ
+
 pub record Clock : Type 0 where
   -- the steps that are left, and those that are spent
   pub left : ℕ
@@ -31,6 +36,8 @@ pub record Clock : Type 0 where
   -- for each spawned task what it gave; nothing while it runs
   pub results : List (Option Given)
   pub signals : List Signal
+  -- nothing, but in a run that was resumed
+  pub before : Before
 
 pub record State : Type 0 where
   pub memory : Memory
@@ -47,6 +54,7 @@ begun steps = record {
     results =
         [];
     signals = [];
+    before = record { bytes = 0; lines = 0 };
   };
 }
 

@@ -11,7 +11,7 @@ use Rattle.verse_value.specs.Val as val
 use Rattle.verse_value.specs.Runs.{Line}
 use Rattle.verse_value.specs.Answer.{gives, fails, error}
 use Rattle.verse_meaning_state.specs.State.{State, with_line}
-use Rattle.verse_meaning_state.specs.Effects.{Effect, printed, line_told, text_printed}
+use Rattle.verse_meaning_state.specs.Effects.{Effect, printed, printed_by, line_told, text_printed}
 use Rattle.verse_meaning_state.specs.Effects.{line_printed}
 use Rattle.trace_buf.specs.Trace.{Trace, printed_size}
 use Rattle.trace_buf.specs.Trace as trace
@@ -66,9 +66,10 @@ abbrev with_trace : Kept → List Line → State → Effect
 with_trace h ls st = gives (unit, record st { memory = record { store = h.cells; trace = ls } })
 
 module _ (h : Kept) (tr : Trace) (l s n : ℕ) where
-  size_at : (fs : List Framed) (a : Aside) → IsPast a (at h tr l s n fs) → length (printed (state_of a (at h tr l s n fs)).memory.trace) ≡
-      printed_size tr
-  size_at fs a past = size_is a.past tr.kept ∙ ap (λ k. k + length (trace.printed tr.kept)) past
+  size_at : (fs : List Framed) (a : Aside) → IsPast a (at h tr l s n fs) → printed_by (state_of a (at h tr l s n fs)) ≡ printed_size tr
+  size_at fs a past =
+      let size = size_is a.past tr.kept in
+      omega (arith, past, size)
 
   pub told : (bytes : List ℕ) (fs : List Framed) → printed_size tr + length (line_bytes n bytes) ≤ 16777216 → (a : Aside) →
       IsPast a (at h tr l s n fs) → line_told bytes (state_of a (at h tr l s n fs)) ≡
@@ -77,7 +78,7 @@ module _ (h : Kept) (tr : Trace) (l s n : ℕ) where
       let st = state_of a (at h tr l s n fs) in
       let size = size_at fs a past in
       let line : Line = record { moment = n; bytes = bytes } in
-      let few : nat_le (length (printed st.memory.trace) + length (line_bytes n bytes)) 16777216 ≡ true =
+      let few : nat_le (printed_by st + length (line_bytes n bytes)) 16777216 ≡ true =
       le-leb _ _ (subst (λ k. k + length (line_bytes n bytes) ≤ 16777216) (sym size) most) in
       ap (λ b. cond {A = Effect} b (gives (unit, with_line st line)) (error kind.Trace)) few ∙
       ap (λ ls. with_trace h ls st) (more_is a.past tr.kept (n, bytes))
@@ -88,7 +89,7 @@ module _ (h : Kept) (tr : Trace) (l s n : ℕ) where
       let st = state_of a (at h tr l s n fs) in
       let size = size_at fs a past in
       let line : Line = record { moment = n; bytes = bytes } in
-      let many : nat_le (length (printed st.memory.trace) + length (line_bytes n bytes)) 16777216 ≡ false =
+      let many : nat_le (printed_by st + length (line_bytes n bytes)) 16777216 ≡ false =
       lt-leb _ _ (subst (λ k. 16777216 < k + length (line_bytes n bytes)) (sym size) more) in
       ap (λ b. cond {A = Effect} b (gives (unit, with_line st line)) (error kind.Trace)) many
 
@@ -99,7 +100,7 @@ told_or_full true x e = absurd (cc)
 told_or_full false x e = absurd (cc)
 
 pub told_not_fails : (bytes : List ℕ) (s : State) → line_told bytes s ≢ fails
-told_not_fails bytes s = told_or_full (nat_le (length (printed s.memory.trace) + length (line_bytes s.clock.now bytes)) 16777216) _
+told_not_fails bytes s = told_or_full (nat_le (printed_by s + length (line_bytes s.clock.now bytes)) 16777216) _
 
 -- a value that is printed, by its bytes
 

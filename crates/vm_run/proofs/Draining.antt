@@ -110,16 +110,18 @@ module _ {H W : Type 0} (state : H → Kept) (pending : W → List Pending) wher
       let lines : h.aside.past ++ map line_of m.run.trace.kept ≡ all = sym (ap (λ (s : State). s.memory.trace) h.is) in
       let more : all ≡ all ++ map line_of t.kept = nothing_more all m.run.trace t none e in
       let same : state_of h.aside v ≡ state_of a u = ap (λ ls. with_lines (state_of h.aside v) ls) (lines ∙ more) in
+      let size : length (printed all) ≡ length (printed h.aside.past) + length (trace.printed m.run.trace.kept) =
+      ap (λ ls. length (printed ls)) (sym lines) ∙ size_is h.aside.past m.run.trace.kept in
+      let past_is = k.clock.past in
+      let all_past : h.aside.before.bytes + length (printed all) ≡ m.run.trace.bytes + length (trace.printed m.run.trace.kept) =
+      omega (arith, size, past_is) in
       record {
         aside = a;
         same = refl;
         is = h.is ∙ same;
         resting = record {
           clock = record {
-            past = ap (λ ls. length (printed ls)) (sym lines) ∙
-                (size_is h.aside.past m.run.trace.kept ∙
-                (ap (λ n. n + length (trace.printed m.run.trace.kept)) k.clock.past ∙
-                (sym (bytes_gone m.run.trace none) ∙ sym (ap (λ (t : Trace). t.bytes) e))));
+            past = all_past ∙ (sym (bytes_gone m.run.trace none) ∙ sym (ap (λ (t : Trace). t.bytes) e));
             next = k.clock.next;
             results = k.clock.results;
             signals = k.clock.signals;

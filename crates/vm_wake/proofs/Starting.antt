@@ -51,7 +51,7 @@ one_input n ns x is value = ap (λ z. z ∷ []) value ∙ ap (λ k. inputs_of k 
 
 -- nothing stands aside yet
 abbrev nothing : Aside
-nothing = record { past = []; next = 0; results = []; signals = [] }
+nothing = record { before = record { bytes = 0; lines = 0 }; past = []; next = 0; results = []; signals = [] }
 
 abbrev alone_world : World
 alone_world = world [] [] [] (record { before = []; behind = [] })
