@@ -89,6 +89,23 @@ impl TraceBuf {
         }
     }
 
+    /// A trace of which so many lines with so many printed bytes were drained before: each line has
+    /// one byte at least, and the bytes are at most 16777216. No marks.
+    pub fn after(alloc: Global, lines: usize, bytes: u64) -> TraceBuf
+        requires some { lines ≤ bytes }
+        requires few { bytes ≤ MOST_TRACE_BYTES }
+        ensures { result ≡ record { kept = []; marks = []; bytes = bytes; lines = lines } }
+    {
+        TraceBuf {
+            alloc,
+            lines: Vec::new(alloc),
+            marks: Vec::new(alloc),
+            bytes,
+            drained_lines: lines,
+            drained_bytes: bytes,
+        }
+    }
+
     /// Adds a line at the moment `now`, in milliseconds. `Full` comes exactly where the trace's
     /// printed bytes, the drained ones counted, would pass 16777216.
     pub fn line(&mut self, now: u64, text: &[u8]) -> Result<(), LineFault>
@@ -199,5 +216,19 @@ impl TraceBuf {
         ensures { result ≡ self.now.lines + length self.now.kept }
     {
         self.reached().lines as u64
+    }
+
+    /// How many lines are kept, which are those that were not drained.
+    pub fn kept_lines(&self) -> u64
+        ensures { result ≡ length self.now.kept }
+    {
+        self.lines.len() as u64
+    }
+
+    /// The printed bytes of the lines that stand, the drained ones counted.
+    pub fn bytes(&self) -> u64
+        ensures { result ≡ printed_size self.now }
+    {
+        self.reached().bytes
     }
 }

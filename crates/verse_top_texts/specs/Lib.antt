@@ -1,4 +1,5 @@
 pub mod Endings
 pub mod Refusals
 pub mod Images
+pub mod Listings
 pub mod Streams
