@@ -1,6 +1,6 @@
 -- A change of the top head and the top level is a change of the top frame.
 use Rattle.std.proofs.Common.{◌≡◌, ◌≢◌, ℕ, zero, suc, ◌+◌, ◌-◌, ◌≤◌, ◌<◌, Bool, true, false, cond, nat_lt, Option, Some, None, IfSome}
-use Rattle.std.proofs.Common.{IfNone, List, [], ◌∷◌, ◌++◌, length, drop, refl, sym, ap, ◌∙◌, arith}
+use Rattle.std.proofs.Common.{IfNone, List, [], ◌∷◌, ◌++◌, length, drop, reverse, refl, sym, ap, ◌∙◌, arith}
 use Rattle.std.proofs.lemmas.Bool.Decides.{nat_tests}
 use Rattle.std.proofs.lemmas.List.{map-append, map-set, length-append, length-drop}
 use Rattle.verse_value.specs.declared.values.Value.{Value}
@@ -12,7 +12,7 @@ use Rattle.fiber_stacks.specs.Heads.{Head, height, with_place, with_local as wit
 use Rattle.fiber_stacks.specs.Heads.{any_bounds}
 use Rattle.fiber_stacks.proofs.Lists.{grouped}
 use Rattle.fiber.specs.Frames.{Frame, fits, kept_defers, kept_noted, has_handler, is_guarded, has_note, is_closing, locals_of, handlers_of}
-use Rattle.fiber.specs.Frames.{defers_of, noted_of}
+use Rattle.fiber.specs.Frames.{defers_of, noted_of, stack_of}
 use Rattle.fiber.specs.Calls.{pushed, popped, gone_to, with_local, guarded, released, unwound, deferred, taken, ended}
 use Rattle.fiber.specs.Bounding.{within}
 use Rattle.fiber.specs.Framing.{handlers_on, frames}
@@ -297,3 +297,10 @@ pub permits_in : (hs : List (Head Value)) (ls : List (Level Value)) (fs : List F
     within (bounds_on hs) q ≡ fits (handlers_of fs) q
 permits_in [] ls fs q are = rw (← are) refl
 permits_in (h ∷ hs) ls fs q are = rw (← are) (sym (fits_in h.bounds (below ls) q))
+
+-- the operands of the top frame
+
+pub stack_in : (hs : List (Head Value)) (ls : List (Level Value)) (fs : List Frame) → frames hs ls ≡ fs → fs ≢ [] → (xs : List Value) →
+    reverse xs ≡ operands_on ls → vals_of (reverse xs) ≡ stack_of fs
+stack_in [] ls fs e some xs is = absurd (some (sym e))
+stack_in (h ∷ hs) ls fs e some xs is = ap vals_of is ∙ ap stack_of e

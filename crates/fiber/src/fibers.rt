@@ -2,16 +2,17 @@
 
 ghost use Rattle.std.specs.Prelude.{◌≡◌, ◌≢◌, ◌≤◌, ◌<◌, [], ◌∷◌, ◌++◌, true, false, Some, None};
 ghost use Rattle.std.specs.Prelude.{OnOk, OnErr, IfOk, IfErr, IfSome, IfNone, length, reverse};
-ghost use Rattle.std.specs.Prelude.{slice_get, option_map, ◌-◌};
+ghost use Rattle.std.specs.Prelude.{slice_get, option_map, ◌-◌, ℕ};
 ghost use Rattle.verse_value.specs.View.{val_of, vals_of};
 ghost use Rattle.fiber_stacks.specs.Levels.{below};
 ghost use Rattle.fiber.specs.Frames.{Frame, fits, place_of, locals_of, handlers_of, defers_of};
+ghost use Rattle.fiber.specs.Frames.{stack_of};
 ghost use Rattle.fiber.specs.Frames.{noted_of, is_guarded, is_closing, kept_defers};
 ghost use Rattle.fiber.specs.Calls.{units, bare, added, frame_at, entered, pushed, popped, left};
 ghost use Rattle.fiber.specs.Calls.{gone_to, with_local, guarded, released, unwound, deferred};
 ghost use Rattle.fiber.specs.Calls.{taken, ended};
 
-use crate::bounding::all_permit;
+use crate::bounding::{Window, all_permit, window_of};
 use crate::opening;
 use fiber_stacks::heads::{Bounds, Heads};
 use fiber_stacks::levels::Levels;
@@ -204,6 +205,15 @@ impl Fiber {
         all_permit(self.heads.bounds(), place)
     }
 
+    /// Places at which each handler of the top frame lets it go on. Takes no memory.
+    pub fn window(&self) -> Window
+        requires { self.now ≢ [] }
+        ensures { (q : ℕ) → result.low ≤ q → q < result.high →
+            fits (handlers_of self.now) q ≡ true }
+    {
+        window_of(self.heads.bounds())
+    }
+
     /// Moves the top frame to a place. False, and nothing is changed, where a handler of the frame
     /// forbids the place, which is not above its beginning or not below its label. Takes no memory.
     pub fn go(&mut self, place: u32) -> bool
@@ -241,6 +251,14 @@ impl Fiber {
         ensures same { IfNone result (self.new ≡ self.old) }
     {
         self.levels.pop()
+    }
+
+    /// The operands above the innermost handler of the top frame, the newest last.
+    pub fn operands(&self) -> &[Value]
+        requires { self.now ≢ [] }
+        ensures { vals_of (reverse result.now) ≡ stack_of self.now }
+    {
+        self.levels.operands()
     }
 
     /// The locals of the top frame.

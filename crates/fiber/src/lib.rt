@@ -4,6 +4,6 @@
 //! frame goes on; `fibers`, the calls.
 #![tactic(auto)]
 
-mod bounding;
+pub mod bounding;
 pub mod fibers;
 mod opening;

@@ -126,6 +126,13 @@ impl<T: Drop> Levels<T> {
         self.operands.pop()
     }
 
+    /// The operands of the top level, the newest last.
+    pub fn operands(&self) -> &[T]
+        ensures { reverse result.now ≡ operands_on self.now }
+    {
+        self.operands.top()
+    }
+
     /// A deferred block on top, with room to note a place for it. There is a level.
     pub fn defer(&mut self, index: u32) -> Result<(), Memory>
         requires { self.old ≢ [] }

@@ -1,13 +1,14 @@
 -- What undoes a change.
-use Rattle.std.proofs.Common.{◌≡◌, List, [], ◌∷◌, length, Option, Some, IsSome, refl, sym, ap, subst, ◌∙◌, arith}
+use Rattle.std.proofs.Common.{◌≡◌, ℤ, true, List, [], ◌∷◌, length, Option, Some, None, IsSome, IfSome, OnSome, refl, sym, ap, subst, ◌∙◌, arith}
+use Rattle.std.specs.Option.{is_some}
 use Rattle.std.proofs.lemmas.List.{length_push, take_at}
-use Rattle.verse_value.specs.Val.{Val}
+use Rattle.verse_value.specs.Val.{Val, int}
 use Rattle.verse_value.specs.View.{val_of, vals_of}
 use Rattle.verse_value.specs.Store.{Cell, Store, slot_of, stored, with_cell}
 use Rattle.verse_value_writes.specs.Writes.{undone}
 use Rattle.verse_value.specs.declared.values.Value.{Value}
 use Rattle.verse_value_writes.specs.declared.writes.Undo.{Undo}
-use Rattle.verse_cells.specs.Changes.{InCell, IsUndone, CanUndoIn}
+use Rattle.verse_cells.specs.Changes.{InCell, IsUndone, CanUndoIn, HoldsInt}
 use Rattle.verse_cells.specs.declared.slots.Address.{Address}
 use Rattle.verse_cells.proofs.Stored.{slot_stored, stored_back}
 use Rattle.tx_heap.specs.Undo.{back, changed, CanGoBack, UndoneBy}
@@ -64,3 +65,12 @@ pub taken_back : (at : Address) (path : List Value) (undo : Undo) (before after 
 taken_back at path undo before after w =
     w.cells ∙ (ap (λ (v : Val). stored before at.cell at.slot v) w.goes ∙
     sym (ap (λ (o : Option Val). changed o at (undone (vals_of path) undo) before) w.there))
+
+-- the int that a slot held
+pub held_some : (o : Option ℤ) (slot : Option Val) → IfSome o (λ n. slot ≡ Some (int n)) → is_some o ≡ true → HoldsInt slot
+held_some None slot held e = absurd (cc)
+held_some (Some n) slot held e = (n, held)
+
+pub some_of : {P : Type 0} (o : Option ℤ) (n : ℤ) → o ≡ Some n → OnSome o P → P
+some_of None n is p = absurd (cc)
+some_of (Some m) n is p = p

@@ -1,10 +1,10 @@
 -- The limit of the store, from the weight that is spare.
-use Rattle.std.proofs.Common.{◌≡◌, ◌≤◌, ◌+◌, ◌-◌, min, ℕ, Bool, true, false, List, Option, Some, None, Result, Ok, Err, refl, sym, ap, ◌∙◌}
-use Rattle.std.proofs.Common.{arith, if◌then◌else◌}
+use Rattle.std.proofs.Common.{◌≡◌, ◌≤◌, ◌+◌, ◌-◌, min, ℕ, ℤ, Bool, true, false, List, Option, Some, None, Result, Ok, Err, refl, sym, ap, ◌∙◌}
+use Rattle.std.proofs.Common.{arith, if◌then◌else◌, subst, IfSome, OnSome, IfNone}
 use Rattle.std.specs.Prelude.{nat_le}
 use Rattle.std.proofs.lemmas.Bool.{le-leb, leb-true}
 use Rattle.verse_base.specs.declared.refusals.Kind.TheVariants as kind
-use Rattle.verse_value.specs.Val.{Val, vals}
+use Rattle.verse_value.specs.Val.{Val, int, vals}
 use Rattle.verse_value.specs.View.{vals_of}
 use Rattle.verse_value.specs.Sizes.{weight_of, weights}
 use Rattle.verse_value.specs.declared.values.Value.{Value}
@@ -162,6 +162,20 @@ write_reweighs weight cells new cell slot path mode value wanted change weighed 
     let spare = spared_light (16000000 - weight) w.from w.to w.goes.wrote (written path mode value w.from) w.goes.gives in
     let light : store_weight (stored cells cell slot w.to) ≤ 16000000 = omega (arith, sum, part, spare, weighed.sum, weighed.light) in
     reweighs weight change.before change.after cells new cell slot w.from w.to weighed w.there w.goes.before w.goes.after w.cells light
+
+-- an int in the place of another weighs as much
+int_weighs : (weight : ℕ) (cells : Store) (cell slot : ℕ) (from to : ℤ) → IsWeighed weight cells →
+    slot_of cells cell slot ≡ Some (int from) → IsWeighed weight (stored cells cell slot (int to))
+int_weighs weight cells cell slot from to w there =
+    let sum = store_weight_stored cells cell slot (int from) (int to) there in
+    record { sum = omega (arith, sum, w.sum); light = w.light }
+
+pub put_weighs : (weight : ℕ) (cells new : Store) (cell slot : ℕ) (n : ℤ) (old : Option ℤ) → IsWeighed weight cells →
+    IfSome old (λ m. slot_of cells cell slot ≡ Some (int m)) → OnSome old (new ≡ stored cells cell slot (int n)) →
+    IfNone old (new ≡ cells) → IsWeighed weight new
+put_weighs weight cells new cell slot n None w there put same = subst (IsWeighed weight) (sym same) w
+put_weighs weight cells new cell slot n (Some m) w there put same =
+    subst (IsWeighed weight) (sym put) (int_weighs weight cells cell slot m n w there)
 
 -- a new cell
 pub record Grows (weight more : ℕ) (cells : Store) : Type 0 where

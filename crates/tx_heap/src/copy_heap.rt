@@ -78,6 +78,14 @@ impl Heap for CopyHeap {
         self.cells.get(cell, slot)
     }
 
+    fn int_at(&mut self, cell: u32, slot: u32) -> Option<i64> {
+        self.cells.int_at(cell, slot)
+    }
+
+    fn set_int(&mut self, cell: u32, slot: u32, n: i64) -> bool {
+        self.cells.put_int(cell, slot, n).is_some()
+    }
+
     fn kind(&mut self, cell: u32) -> CellKind {
         self.cells.kind(cell)
     }

@@ -2,12 +2,15 @@
 
 ghost use Rattle.std.specs.Prelude.{◌≡◌, ◌<◌, ◌≢◌, ◌↔◌, IsTrue, ℕ, List, [], ◌∷◌, IsSome, IfOk};
 ghost use Rattle.std.specs.Prelude.{IfErr, OnOk, OnErr, length, slice_get, option_map, Some, Ok};
+ghost use Rattle.std.specs.Prelude.{IfSome, IfNone, true, false};
 ghost use Rattle.std.specs.Borrow.{sem};
 ghost use Rattle.verse_value.specs.declared.runs.CellKind.{CellKind};
 ghost use Rattle.std.specs.Io.BufRead.{Rests};
+ghost use Rattle.verse_value.specs.Val.{int};
 ghost use Rattle.verse_value.specs.View.{val_of, vals_of};
 ghost use Rattle.verse_value.specs.Store.{Cell, slot_of, stored, with_cell, store_weight};
 ghost use Rattle.verse_value_writes.specs.Writes.{Explains};
+ghost use Rattle.verse_cells.specs.Changes.{HoldsInt, HoldsNoInt};
 ghost use Rattle.tx_heap.specs.State.{State, new_cell, with_new, with_slot, marked, committed};
 ghost use Rattle.tx_heap.specs.State.{rolled_back, IsLight};
 ghost use Rattle.tx_heap.specs.Outcomes.{cells_written, cells_after, Lands};
@@ -143,6 +146,24 @@ pub trait Heap {
         ensures value { slot_of (state self.old).cells cell slot ≡ Some (val_of result.now) }
         ensures* same { sem 𝓛 (Rests Self.row self.entry (λ n. (state n ≡ state self.entry.now) ×
             (dues n ≡ dues self.entry.now))) };
+
+    /// The int that a slot holds; None where it holds none, or is not there. Takes no memory.
+    fn int_at(&mut self, cell: u32, slot: u32) -> Option<i64>
+        ensures some { IfSome result (λ n. slot_of (state self.old).cells cell slot ≡
+            Some (int n)) }
+        ensures none { IfNone result (HoldsNoInt (slot_of (state self.old).cells cell slot)) }
+        ensures same { state self.new ≡ state self.old }
+        ensures same_dues { dues self.new ≡ dues self.old };
+
+    /// Puts an int in a slot that holds one, which changes no weight. False, and nothing is
+    /// changed, where it holds none, or is not there, or where memory is wanting.
+    fn set_int(&mut self, cell: u32, slot: u32, n: i64) -> bool
+        ensures held { result ≡ true → HoldsInt (slot_of (state self.old).cells cell slot) }
+        ensures yes { result ≡ true → state self.new ≡ with_slot (state self.old) cell slot
+            (int n) }
+        ensures no { result ≡ false → state self.new ≡ state self.old }
+        ensures due { result ≡ true → Raised 2 (dues self.old) (dues self.new) }
+        ensures same_dues { result ≡ false → dues self.new ≡ dues self.old };
 
     /// What a cell is. It is there. Takes no memory.
     fn kind(&mut self, cell: u32) -> CellKind

@@ -1,13 +1,15 @@
 //! Cells whose weight in all is bounded, and whose accesses are counted.
 
 ghost use Rattle.std.specs.Prelude.{◌≡◌, ◌<◌, ◌≤◌, ◌+◌, [], ◌∷◌, length, drop, IsSome, Some, Ok};
-ghost use Rattle.std.specs.Prelude.{IfOk, IfErr, OnOk, OnErr, slice_get, option_map};
+ghost use Rattle.std.specs.Prelude.{IfOk, IfErr, OnOk, OnErr, IfSome, OnSome, IfNone, slice_get};
+ghost use Rattle.std.specs.Prelude.{option_map};
 ghost use Rattle.std.specs.Borrow.{sem};
+ghost use Rattle.verse_value.specs.Val.{int};
 ghost use Rattle.verse_value.specs.View.{val_of, vals_of};
 ghost use Rattle.verse_value.specs.Store as store;
 ghost use Rattle.verse_value.specs.Store.{slot_of, stored, with_cell, store_weight};
 ghost use Rattle.verse_value_writes.specs.Writes.{Explains};
-ghost use Rattle.verse_cells.specs.Changes.{InCell};
+ghost use Rattle.verse_cells.specs.Changes.{InCell, HoldsNoInt};
 ghost use Rattle.verse_cells.specs.Held.{store_of, touched};
 ghost use Rattle.tx_heap.specs.State.{new_cell, IsLight};
 ghost use Rattle.tx_heap.specs.Outcomes.{cells_written, Lands};
@@ -92,6 +94,15 @@ impl LightCells {
         self.cells.get(cell, slot)
     }
 
+    /// The int that a slot holds; None where it holds none, or is not there.
+    pub fn int_at(&mut self, cell: u32, slot: u32) -> Option<i64>
+        ensures some { IfSome result (λ n. slot_of (store_of self.old) cell slot ≡ Some (int n)) }
+        ensures none { IfNone result (HoldsNoInt (slot_of (store_of self.old) cell slot)) }
+        ensures same { self.new ≡ touched self.old }
+    {
+        self.cells.int_at(cell, slot)
+    }
+
     /// What a cell is. It is there.
     pub fn kind(&mut self, cell: u32) -> CellKind
         requires { cell < length (store_of self.old) }
@@ -130,6 +141,18 @@ impl LightCells {
         let old = self.cells.put(cell, slot, value);
         self.weight = reweighed(self.weight, weight(&old), after);
         old
+    }
+
+    /// Puts an int in a slot that holds one, and answers the one that it held. None, and the cells
+    /// are unchanged, where it holds none, or is not there. Takes no memory.
+    pub fn put_int(&mut self, cell: u32, slot: u32, n: i64) -> Option<i64>
+        ensures old { IfSome result (λ m. slot_of (store_of self.old) cell slot ≡ Some (int m)) }
+        ensures new { OnSome result (store_of self.new ≡
+            stored (store_of self.old) cell slot (int n)) }
+        ensures none { IfNone result (HoldsNoInt (slot_of (store_of self.old) cell slot)) }
+        ensures same { IfNone result (store_of self.new ≡ store_of self.old) }
+    {
+        self.cells.put_int(cell, slot, n)
     }
 
     /// Writes at a path in a slot, where the sum stays within its limit, and hands back what is

@@ -2,13 +2,15 @@
 
 ghost use Rattle.std.specs.Prelude.{◌≡◌, ◌<◌, ◌+◌, ◌≤◌, [], length, IsSome, None, Some};
 ghost use Rattle.std.specs.Prelude.{MatchOption, Ok, IfOk, IfErr, OnOk, OnErr, slice_get};
-ghost use Rattle.std.specs.Prelude.{option_map};
+ghost use Rattle.std.specs.Prelude.{IfSome, OnSome, IfNone, option_map};
+ghost use Rattle.verse_value.specs.Val.{int};
 ghost use Rattle.verse_value.specs.View.{val_of, vals_of};
 ghost use Rattle.verse_value.specs.Store as store;
 ghost use Rattle.verse_value.specs.Store.{slot_of, stored, with_cell, store_weight};
 ghost use Rattle.verse_value.specs.declared.sizes.TheConstants.{MOST_STORE_WEIGHT};
 ghost use Rattle.verse_value_writes.specs.Writes.{Explains};
 ghost use Rattle.verse_cells.specs.View.{cells_of};
+ghost use Rattle.verse_cells.specs.Changes.{HoldsNoInt};
 ghost use Rattle.tx_heap.specs.State.{new_cell, IsLight};
 ghost use Rattle.tx_heap.specs.Outcomes.{cells_written, Lands};
 
@@ -16,7 +18,9 @@ use std::alloc::Global;
 use std::marker::Model;
 use verse_base::refusals::Memory;
 use verse_cells::lists::Slots;
-use verse_cells::slots::{Address, Cell, Wanted, copy_cells, find_slot, put, slot_at, write_at};
+use verse_cells::slots::{
+    Address, Cell, Wanted, copy_cells, find_slot, int_at, put, put_int, slot_at, write_at,
+};
 use verse_value::runs::CellKind;
 use verse_value::sizes::{MOST_STORE_WEIGHT, cell_weight, weight};
 use verse_value::values::Value;
@@ -89,6 +93,14 @@ impl LightList {
         find_slot(self.cells.as_slice(), cell, slot)
     }
 
+    /// The int that a slot holds; None where it holds none, or is not there.
+    pub fn int_at(&self, cell: u32, slot: u32) -> Option<i64>
+        ensures some { IfSome result (λ n. slot_of (cells_of self.now) cell slot ≡ Some (int n)) }
+        ensures none { IfNone result (HoldsNoInt (slot_of (cells_of self.now) cell slot)) }
+    {
+        int_at(self.cells.as_slice(), cell, slot)
+    }
+
     /// What a cell is. It is there.
     pub fn kind(&self, cell: u32) -> CellKind
         requires { cell < length (cells_of self.now) }
@@ -127,6 +139,18 @@ impl LightList {
         let after = weight(&value);
         let old = put(self.cells.as_mut_slice(), cell, slot, value);
         self.weight = reweighed(self.weight, weight(&old), after);
+    }
+
+    /// Puts an int in a slot that holds one, and answers the one that it held. None, and nothing is
+    /// changed, where it holds none, or is not there. Takes no memory.
+    pub fn put_int(&mut self, cell: u32, slot: u32, n: i64) -> Option<i64>
+        ensures old { IfSome result (λ m. slot_of (cells_of self.old) cell slot ≡ Some (int m)) }
+        ensures new { OnSome result (cells_of self.new ≡
+            stored (cells_of self.old) cell slot (int n)) }
+        ensures none { IfNone result (HoldsNoInt (slot_of (cells_of self.old) cell slot)) }
+        ensures same { IfNone result (cells_of self.new ≡ cells_of self.old) }
+    {
+        put_int(self.cells.as_mut_slice(), cell, slot, n)
     }
 
     /// Writes at a path in a slot, where the sum stays within its limit, and hands back what is

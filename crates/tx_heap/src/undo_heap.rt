@@ -124,6 +124,27 @@ impl Heap for UndoHeap {
         self.cells.get(cell, slot)
     }
 
+    fn int_at(&mut self, cell: u32, slot: u32) -> Option<i64> {
+        self.cells.int_at(cell, slot)
+    }
+
+    fn set_int(&mut self, cell: u32, slot: u32, n: i64) -> bool {
+        if self.marks.is_empty() {
+            return self.cells.put_int(cell, slot, n).is_some();
+        }
+        if make_room(&mut self.log).is_err() {
+            return false;
+        }
+        let Some(old) = self.cells.put_int(cell, slot, n) else {
+            return false;
+        };
+        note(
+            &mut self.log,
+            Entry::Slot(Address { cell, slot }, Value::Int(old)),
+        );
+        true
+    }
+
     fn kind(&mut self, cell: u32) -> CellKind {
         self.cells.kind(cell)
     }

@@ -1,8 +1,8 @@
 -- Changes of one slot.
-use Rattle.std.specs.Prelude.{◌≡◌, ℕ, ◌+◌, min, nat_le, List, take, length, ◌-◌, Option, Some, None, option_map, Result, Ok, Err}
+use Rattle.std.specs.Prelude.{◌≡◌, ◌≢◌, ℕ, ℤ, ◌+◌, min, nat_le, List, take, length, ◌-◌, Option, Some, None, option_map, Result, Ok, Err}
 use Rattle.std.specs.Prelude.{if◌then◌else◌, slice_get, slice_set}
 use Rattle.verse_base.specs.declared.refusals.Kind.TheVariants as kind
-use Rattle.verse_value.specs.Val.{Val}
+use Rattle.verse_value.specs.Val.{Val, int}
 use Rattle.verse_value.specs.View.{val_of}
 use Rattle.verse_value.specs.Sizes.{weight_of}
 use Rattle.verse_value.specs.Store.{Store, slot_of, stored}
@@ -69,3 +69,10 @@ IsUndone path undo from to = to ≡ undone path undo from
 
 abbrev pub without_last : Store → Store
 without_last cells = take (length cells - 1) cells
+
+abbrev pub HoldsInt : Option Val → Type 0
+HoldsInt slot = (n : ℤ) × (slot ≡ Some (int n))
+
+-- a slot that holds no int, or is not there
+abbrev pub HoldsNoInt : Option Val → Type 0
+HoldsNoInt slot = (n : ℤ) → slot ≢ Some (int n)

@@ -1,8 +1,9 @@
 //! The cells of a store, whose accesses are counted.
 
 ghost use Rattle.std.specs.Prelude.{◌≡◌, ◌<◌, ◌≤◌, [], length, IsSome, Some, IfOk, IfErr, OnOk};
-ghost use Rattle.std.specs.Prelude.{OnErr, slice_get, option_map};
+ghost use Rattle.std.specs.Prelude.{OnErr, IfSome, OnSome, IfNone, slice_get, option_map};
 ghost use Rattle.std.specs.Borrow.{sem};
+ghost use Rattle.verse_value.specs.Val.{int};
 ghost use Rattle.verse_value.specs.View.{val_of, vals_of};
 ghost use Rattle.verse_value.specs.Store as store;
 ghost use Rattle.verse_value.specs.Store.{slot_of, stored, with_cell};
@@ -10,7 +11,7 @@ ghost use Rattle.verse_value_writes.specs.Writes.{Explains};
 ghost use Rattle.verse_cells.specs.View.{cell_of};
 ghost use Rattle.verse_cells.specs.Held.{store_of, counted, touched};
 ghost use Rattle.verse_cells.specs.Changes.{slot_written, IsWrite, IsUndone, InCell, CanUndoIn};
-ghost use Rattle.verse_cells.specs.Changes.{without_last};
+ghost use Rattle.verse_cells.specs.Changes.{HoldsNoInt, without_last};
 ghost use Rattle.verse_cells.specs.Rests.{RestsTouched};
 
 use crate::lists::Slots;
@@ -102,6 +103,31 @@ impl Cells {
     {
         self.count();
         slots::put(self.cells.as_mut_slice(), cell, slot, value)
+    }
+
+    /// The int that a slot holds; None where it holds none, or is not there. Counts one access and
+    /// takes no memory.
+    pub fn int_at(&mut self, cell: u32, slot: u32) -> Option<i64>
+        ensures some { IfSome result (λ n. slot_of (store_of self.old) cell slot ≡ Some (int n)) }
+        ensures none { IfNone result (HoldsNoInt (slot_of (store_of self.old) cell slot)) }
+        ensures same { self.new ≡ touched self.old }
+    {
+        self.count();
+        slots::int_at(self.cells.as_slice(), cell, slot)
+    }
+
+    /// Puts an int in a slot that holds one, and answers the one that it held. None, and the cells
+    /// are unchanged, where it holds none, or is not there. Counts one access and takes no memory.
+    pub fn put_int(&mut self, cell: u32, slot: u32, n: i64) -> Option<i64>
+        ensures old { IfSome result (λ m. slot_of (store_of self.old) cell slot ≡ Some (int m)) }
+        ensures new { OnSome result (store_of self.new ≡
+            stored (store_of self.old) cell slot (int n)) }
+        ensures none { IfNone result (HoldsNoInt (slot_of (store_of self.old) cell slot)) }
+        ensures same { IfNone result (store_of self.new ≡ store_of self.old) }
+        ensures count { self.new.accesses ≡ counted self.old.accesses }
+    {
+        self.count();
+        slots::put_int(self.cells.as_mut_slice(), cell, slot, n)
     }
 
     /// Writes at a path in a slot, which may grow by at most `spare` units of weight, as `write_at`

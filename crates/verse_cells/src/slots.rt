@@ -1,14 +1,14 @@
 //! What stands in a slot of a cell, and writes in it.
 
 ghost use Rattle.std.specs.Prelude.{◌≡◌, ◌<◌, Ok, length, IsSome, None, Some, MatchOption, IfOk};
-ghost use Rattle.std.specs.Prelude.{IfErr, OnErr, slice_get, slice_set};
+ghost use Rattle.std.specs.Prelude.{IfErr, OnErr, IfSome, OnSome, IfNone, slice_get, slice_set};
 ghost use Rattle.verse_value.specs.View.{val_of, vals_of};
 ghost use Rattle.verse_value.specs.Store.{slot_of, stored};
-ghost use Rattle.verse_value.specs.Val.{Val};
+ghost use Rattle.verse_value.specs.Val.{Val, int};
 ghost use Rattle.verse_value_writes.specs.Writes.{written, undone, CanUndo, Explains};
 ghost use Rattle.verse_cells.specs.View.{cells_of};
 ghost use Rattle.verse_cells.specs.Changes.{IsWanted, spared, slot_written, IsWrite, IsUndone};
-ghost use Rattle.verse_cells.specs.Changes.{InSlot, InCell, CanUndoIn};
+ghost use Rattle.verse_cells.specs.Changes.{InSlot, InCell, CanUndoIn, HoldsNoInt};
 
 use crate::lists::Slots;
 use std::alloc::Global;
@@ -83,6 +83,31 @@ pub fn put(cells: &mut [Cell], cell: u32, slot: u32, value: Value) -> Value
     ensures new { cells_of cells.new ≡ stored (cells_of cells.old) cell slot (val_of value) }
 {
     put_part(&mut cells[cell as usize].slots, slot, value)
+}
+
+/// The int that a slot holds; None where it holds none, or is not there.
+pub fn int_at(cells: &[Cell], cell: u32, slot: u32) -> Option<i64>
+    ensures some { IfSome result (λ n. slot_of (cells_of cells.now) cell slot ≡ Some (int n)) }
+    ensures none { IfNone result (HoldsNoInt (slot_of (cells_of cells.now) cell slot)) }
+{
+    match find_slot(cells, cell, slot) {
+        Some(Value::Int(n)) => Some(*n),
+        _ => None,
+    }
+}
+
+/// Puts an int in a slot that holds one, and answers the one that it held. None, and nothing is
+/// changed, where it holds none, or is not there. Takes no memory.
+pub fn put_int(cells: &mut [Cell], cell: u32, slot: u32, n: i64) -> Option<i64>
+    ensures old { IfSome result (λ m. slot_of (cells_of cells.old) cell slot ≡ Some (int m)) }
+    ensures new { OnSome result (cells_of cells.new ≡
+        stored (cells_of cells.old) cell slot (int n)) }
+    ensures none { IfNone result (HoldsNoInt (slot_of (cells_of cells.old) cell slot)) }
+    ensures same { IfNone result (cells_of cells.new ≡ cells_of cells.old) }
+{
+    let old = int_at(cells, cell, slot)?;
+    let _ = put(cells, cell, slot, Value::Int(n));
+    Some(old)
 }
 
 fn put_part(slots: &mut Slots<Value>, slot: u32, value: Value) -> Value

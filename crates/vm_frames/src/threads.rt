@@ -2,7 +2,7 @@
 
 ghost use Rattle.std.specs.Prelude.{ℕ, ◌≡◌, ◌≢◌, ◌<◌, ◌≤◌, [], ◌∷◌, ◌++◌, ◌+◌, vec_len};
 ghost use Rattle.std.specs.Prelude.{vec_capacity, true, false, Some, None, List, OnOk, OnErr, IfOk};
-ghost use Rattle.std.specs.Prelude.{IfErr, IfSome, IfNone, length, slice_get};
+ghost use Rattle.std.specs.Prelude.{IfErr, IfSome, IfNone, length, slice_get, reverse};
 ghost use Rattle.verse_value.specs.View.{val_of, vals_of};
 ghost use Rattle.verse_meaning_state.specs.State.{Memory as Kept};
 ghost use Rattle.verse_code_machine.specs.Frames.{nothing};
@@ -14,6 +14,7 @@ ghost use Rattle.vm_frames.specs.Calls.{moved, with_local, guarded, released, un
 ghost use Rattle.vm_frames.specs.Calls.{taken, ended};
 ghost use Rattle.vm_frames.specs.Machine.{frames_with, all_free, life_of};
 
+use fiber::bounding::Window;
 use fiber::fibers::Fiber;
 use fiber_stacks::layers::{keep, last};
 use std::alloc::Global;
@@ -148,6 +149,14 @@ impl Thread {
         self.fiber.permits(place)
     }
 
+    /// Places at which each handler of the top frame lets it go on. Takes no memory.
+    pub fn window(&self) -> Window
+        requires { self.now ≢ [] }
+        ensures { (q : ℕ) → result.low ≤ q → q < result.high → permits q self.now ≡ true }
+    {
+        self.fiber.window()
+    }
+
     /// Moves the top frame to a place. False, and nothing is changed, where a handler of the frame
     /// forbids the place. Takes no memory.
     pub fn go(&mut self, place: u32) -> bool
@@ -180,6 +189,14 @@ impl Thread {
         ensures same { IfNone result (self.new ≡ self.old) }
     {
         self.fiber.pop()
+    }
+
+    /// The operands above the innermost handler of the frame, the newest last.
+    pub fn operands(&self) -> &[Value]
+        requires { self.now ≢ [] }
+        ensures { vals_of (reverse result.now) ≡ stack_of self.now }
+    {
+        self.fiber.operands()
     }
 
     /// The locals.
