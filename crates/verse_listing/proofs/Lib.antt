@@ -1,0 +1,9 @@
+pub mod WordLaws
+pub mod LineLaws
+pub mod OperationLaws
+pub mod TableLines
+pub mod Going
+pub mod StageLaws
+pub mod StageAgain
+pub mod Fronts
+pub mod RowLaws
