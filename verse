@@ -18,6 +18,9 @@ verse runs the proved program; where it is missing, or its sources changed, it i
   ./verse exec FILE [the same options]                                        runs an image, a program as bytecode
   ./verse check FILE {FILE}                                                   tells the first refusal, or = ok
   ./verse build FILE {FILE}                                                   writes the image of the program
+  ./verse list FILE                                                           writes the listing of an image
+  ./verse assemble FILE                                                       writes the image of a listing
+  ./verse load N                                                              runs a made program of N functions
 
 Where standard error is a terminal, or with VERSE_EXPLAIN=1, a refusal is explained there; VERSE_EXPLAIN=0 explains
 none. ./try takes the same words, and proves nothing. docs/COMMANDS.md says more, and what the program writes.

@@ -1,29 +1,33 @@
 -- The ways to an answer, and that there is one.
-use Rattle.std.proofs.Common.{◌≡◌, ℕ, List, length, refl, sym, ◌∙◌, ap, subst}
+use Rattle.std.proofs.Common.{◌≡◌, ℕ, List, [], ◌∷◌, ◌++◌, length, refl, sym, ◌∙◌, ap, subst}
 use Rattle.std.proofs.Common.{Result, Ok, Err, IfOk}
 use Rattle.verse_base.specs.declared.refusals.Refusal.{Refusal}
 use Rattle.verse_lex.specs.Cut.{first_place}
 use Rattle.verse_outside.specs.Held.{Holding}
 use Rattle.verse_tree.specs.ItemTree.{ItemTree}
 use Rattle.verse_value.specs.Runs.{Run}
-use Rattle.verse_meaning_state.specs.Texts.{run_text}
+use Rattle.verse_meaning_state.specs.Texts.{ending_line, run_text}
 use Rattle.verse_top_texts.specs.Refusals.{refusal_line}
-use Rattle.verse_top_args.specs.Words.{Command, files_of, Options}
-use Rattle.verse_top_args.specs.Requests.{AsksFor, names_of}
+use Rattle.verse_top_args.specs.Words.{AreFiles, Command, files_of, Options}
+use Rattle.verse_top_args.specs.Requests.{AreNamed, AsksFor, names_of}
 use Rattle.verse_top_args.specs.declared.commands.Request.{Request}
 use Rattle.verse_top_args.specs.declared.commands.Request.TheVariants as request
 use Rattle.verse_accept.specs.Fronts.{Accepts, IsRefused, refusal}
 use Rattle.verse_accept.proofs.Answered.{one_front_end}
 use Rattle.verse_top.specs.Loading.{AreLoaded, IsTooLarge}
-use Rattle.verse_top.specs.Meaning.{code_from, mean_with}
+use Rattle.verse_top.specs.Meaning.{code_from, default_options, mean_with}
 use Rattle.verse_top_texts.specs.Endings.{ending_status}
-use Rattle.verse_top.specs.Answers.{Answers, too_large, refused, checked, ran, built, executed, AnsweredOnce, ExecRunsWhatIsBuilt, IsImageOf}
-use Rattle.verse_top.specs.Programs.{IsForProgram, IsProgram}
+use Rattle.verse_top.specs.Answers.{Answers, too_large, refused, checked, ran, built, executed, listed, assembled, loaded}
+use Rattle.verse_top.specs.Answers.{AnsweredOnce, ExecRunsWhatIsBuilt, IsImageOf, Loads, MeansInShort, accepted, rejected}
+use Rattle.verse_top.specs.Programs.{IsForFile, IsForProgram, IsProgram}
 use Rattle.verse_image.specs.Format.{Image, version_of}
 use Rattle.verse_image.proofs.ImageLaws.{image_once}
 use Rattle.verse_top_exec.specs.Executions.{Executes, run_with}
 use Rattle.verse_top_exec.specs.Executions as x
 use Rattle.verse_top_exec.proofs.Executions.{once as executed_once}
+use Rattle.verse_top_listing.specs.Listings.{Assembles, Lists}
+use Rattle.verse_top_listing.proofs.Once.{assembles_once, lists_once}
+use Rattle.verse_top_load.specs.Load.{lines_line, load_text_of}
 use Rattle.verse_top.proofs.LoadLaws.{loaded_once, loaded_or_large, large_once, read_once}
 
 -- ---- one answer
@@ -34,6 +38,22 @@ one_built is js files x y e i j =
     subst (λ (ks : List ItemTree). Image (version_of (code_from ks files)) (code_from ks files) y) (sym e) j.image in
     image_once (version_of (code_from is files)) (code_from is files) x y i.image other
 
+short_once : (is js : List ItemTree) (o : Options) (files s t : ℕ) (x y : List ℕ) → is ≡ js → MeansInShort is o files s x →
+    MeansInShort js o files t y → (s ≡ t) × (x ≡ y)
+short_once is js o files s t x y e p q = (
+  p.status_is ∙ ap (λ (ks : List ItemTree). ending_status (mean_with ks o).ending) e ∙ sym q.status_is,
+  p.text_is ∙ ap (λ (ks : List ItemTree). ending_line files (mean_with ks o) ++ lines_line (length (mean_with ks o).trace)) e ∙
+      sym q.text_is,
+)
+
+loads_once : (n s t : ℕ) (x y : List ℕ) → Loads n s x → Loads n t y → (s ≡ t) × (x ≡ y)
+loads_once n s t x y (accepted is u z p m) (accepted js w v q k) =
+    short_once is js default_options 1 s t x y (one_front_end.value (load_text_of n ∷ []) is js p q) m k
+loads_once n s t x y (accepted is u z p m) (rejected r q) = absurd (one_front_end.apart (load_text_of n ∷ []) is r p q)
+loads_once n s t x y (rejected r q) (accepted is u z p m) = absurd (one_front_end.apart (load_text_of n ∷ []) is r p q)
+loads_once n s t x y (rejected r p) (rejected u q) =
+    (refl, ap (λ (v : Refusal). refusal_line [] v) (one_front_end.refusal (load_text_of n ∷ []) r u p q))
+
 pub once : AnsweredOnce
 once held c s t x y (too_large d n g p) (too_large e m h q) =
     (refl, ap (λ (k : ℕ). refusal_line (files_of c) (refusal 2 (first_place k))) (large_once held (files_of c) 0 n m p q))
@@ -42,11 +62,17 @@ once held c s t x y (too_large d n g p) (checked names files is l q) = absurd (l
 once held c s t x y (too_large d n g p) (ran names o files is l q) = absurd (loaded_or_large held names files 0 n l p)
 once held c s t x y (too_large d n g p) (built names files is bytes l q i) = absurd (loaded_or_large held names files 0 n l p)
 once held c s t x y (too_large d n g p) (executed name o bytes u z l q) = absurd g
+once held c s t x y (too_large d n g p) (listed name bytes u z l q) = absurd g
+once held c s t x y (too_large d n g p) (assembled name bytes u z l q) = absurd g
+once held c s t x y (too_large d n g p) (loaded k u z q) = absurd g
 once held c s t x y (refused e files r g l q) (too_large d n h p) = absurd (loaded_or_large held (files_of c) files 0 n l p)
 once held c s t x y (checked names files is l q) (too_large d n h p) = absurd (loaded_or_large held names files 0 n l p)
 once held c s t x y (ran names o files is l q) (too_large d n h p) = absurd (loaded_or_large held names files 0 n l p)
 once held c s t x y (built names files is bytes l q i) (too_large d n h p) = absurd (loaded_or_large held names files 0 n l p)
 once held c s t x y (executed name o bytes u z l q) (too_large d n h p) = absurd h
+once held c s t x y (listed name bytes u z l q) (too_large d n h p) = absurd h
+once held c s t x y (assembled name bytes u z l q) (too_large d n h p) = absurd h
+once held c s t x y (loaded k u z q) (too_large d n h p) = absurd h
 once held c s t x y (refused d files r g l p) (refused e others u h k q) =
     let same = loaded_once held (files_of c) files others l k in
     (refl, ap (λ (v : Refusal). refusal_line (files_of c) v) (one_front_end.refusal others r u (subst (λ fs. IsRefused fs r) same p) q))
@@ -57,6 +83,9 @@ once held c s t x y (refused d files r g l p) (ran names o others is k q) =
 once held c s t x y (refused d files r g l p) (built names others is bytes k q i) =
     let same = loaded_once held names files others l k in absurd (one_front_end.apart others is r q (subst (λ fs. IsRefused fs r) same p))
 once held c s t x y (refused d files r g l p) (executed name o bytes u z k q) = absurd g
+once held c s t x y (refused d files r g l p) (listed name bytes u z k q) = absurd g
+once held c s t x y (refused d files r g l p) (assembled name bytes u z k q) = absurd g
+once held c s t x y (refused d files r g l p) (loaded k u z q) = absurd g
 once held c s t x y (checked names others is k q) (refused d files r g l p) =
     let same = loaded_once held names files others l k in absurd (one_front_end.apart others is r q (subst (λ fs. IsRefused fs r) same p))
 once held c s t x y (ran names o others is k q) (refused d files r g l p) =
@@ -64,6 +93,9 @@ once held c s t x y (ran names o others is k q) (refused d files r g l p) =
 once held c s t x y (built names others is bytes k q i) (refused d files r g l p) =
     let same = loaded_once held names files others l k in absurd (one_front_end.apart others is r q (subst (λ fs. IsRefused fs r) same p))
 once held c s t x y (executed name o bytes u z k q) (refused d files r g l p) = absurd g
+once held c s t x y (listed name bytes u z k q) (refused d files r g l p) = absurd g
+once held c s t x y (assembled name bytes u z k q) (refused d files r g l p) = absurd g
+once held c s t x y (loaded k u z q) (refused d files r g l p) = absurd g
 once held c s t x y (checked names files is l p) (checked other others js k q) = (refl, refl)
 once held c s t x y (ran names o files is l p) (ran other u others js k q) =
     let same = loaded_once held names files others l k in
@@ -77,6 +109,11 @@ once held c s t x y (built names files is bytes l p i) (built other others js mo
     (refl, one_built is js (length names) x y items i j)
 once held c s t x y (executed name o bytes u z l p) (executed other v others w k m q) =
     let same = read_once held name bytes others l m in executed_once others o s t x y (subst (λ (bs : List ℕ). Executes bs o s x) same p) q
+once held c s t x y (listed name bytes u z l p) (listed other others w k m q) =
+    let same = read_once held name bytes others l m in lists_once others s t x y (subst (λ (bs : List ℕ). Lists bs s x) same p) q
+once held c s t x y (assembled name bytes u z l p) (assembled other others w k m q) =
+    let same = read_once held name bytes others l m in assembles_once others s t x y (subst (λ (bs : List ℕ). Assembles bs s x) same p) q
+once held c s t x y (loaded n u z p) (loaded m w k q) = loads_once n s t x y p q
 
 -- ---- what is built, and then executed
 
@@ -111,12 +148,38 @@ asks_for_files (request.Run r) c a = ap files_of a.is
 asks_for_files (request.Exec r) c a = ap files_of a.is ∙ sym a.one
 asks_for_files (request.Check files) c a = ap files_of a
 asks_for_files (request.Build files) c a = ap files_of a
+asks_for_files (request.List files) c a = ap files_of a.is ∙ sym a.one
+asks_for_files (request.Assemble files) c a = ap files_of a.is ∙ sym a.one
+asks_for_files (request.Load n) c a = ap files_of a.is
+
+-- a command over one file that is no program
+pub asks_for_one : (q : Request) (c : Command) → IsForFile q → AsksFor q c → (file : List ℕ) × (files_of c ≡ file ∷ [])
+asks_for_one (request.Run r) c p a = absurd p
+asks_for_one (request.Exec r) c p a = (a.file, ap files_of a.is)
+asks_for_one (request.Check files) c p a = absurd p
+asks_for_one (request.Build files) c p a = absurd p
+asks_for_one (request.List files) c p a = (a.file, ap files_of a.is)
+asks_for_one (request.Assemble files) c p a = (a.file, ap files_of a.is)
+asks_for_one (request.Load n) c p a = absurd p
+
+-- the files of a program are 1 to 16
+pub program_named : (q : Request) → IsForProgram q → AreNamed q → AreFiles (names_of q)
+program_named (request.Run r) p n = n
+program_named (request.Exec r) p n = n
+program_named (request.Check files) p n = n
+program_named (request.Build files) p n = n
+program_named (request.List files) p n = absurd p
+program_named (request.Assemble files) p n = absurd p
+program_named (request.Load m) p n = absurd p
 
 pub asks_for_program : (q : Request) (c : Command) → IsForProgram q → AsksFor q c → IsProgram c
 asks_for_program (request.Run r) c p a = subst IsProgram (sym a.is) tt
 asks_for_program (request.Exec r) c p a = absurd p
 asks_for_program (request.Check files) c p a = subst IsProgram (sym a) tt
 asks_for_program (request.Build files) c p a = subst IsProgram (sym a) tt
+asks_for_program (request.List files) c p a = absurd p
+asks_for_program (request.Assemble files) c p a = absurd p
+asks_for_program (request.Load n) c p a = absurd p
 
 pub answers_refused : (held : Holding) (c : Command) (names files : List (List ℕ)) (s : ℕ) (x : List ℕ) (r : Refusal) → IsProgram c →
     files_of c ≡ names → s ≡ 1 → x ≡ refusal_line names r → AreLoaded held names files → IsRefused files r → Answers held c s x

@@ -14,8 +14,11 @@ use Rattle.verse_top_exec.specs.Executions as x
 use Rattle.verse_top_exec.specs.Leaving.{Leaves}
 use Rattle.verse_top_exec.proofs.Takes.{more_then, rose_from, took_behind, took_front}
 use Rattle.verse_top.specs.Loading.{AreHeld, IsAbsent}
-use Rattle.verse_top.specs.Meaning.{mean_with}
-use Rattle.verse_top.specs.Answers.{Answers, too_large, refused, checked, ran, built, executed, Answered, Begins, CutShort, Finishes, MayWrite}
+use Rattle.verse_top.specs.Meaning.{default_options, mean_with}
+use Rattle.verse_top_listing.specs.Listings.{Assembles, Lists}
+use Rattle.verse_top_listing.specs.Listings as y
+use Rattle.verse_top.specs.Answers.{Answers, too_large, refused, checked, ran, built, executed, listed, assembled, loaded, Loads, accepted}
+use Rattle.verse_top.specs.Answers.{rejected, Answered, Begins, CutShort, Finishes, MayWrite}
 use Rattle.verse_top.specs.Answers.{not_read, no_memory, answer, NoMemory, NotRead, Replies, Told, whole, without, cut, Unread}
 use Rattle.verse_top.specs.Answers.{memory_line}
 use Rattle.verse_top.proofs.LoadLaws.{absent_or_loaded, absent_or_large, absent_or_read, held_or_absent}
@@ -40,6 +43,18 @@ known_executes : {bytes : List ℕ} {o : Options} {s : ℕ} {t : List ℕ} → E
 known_executes {o = o} (x.ran v c s t i p) = subst Known (sym p.status_is) (known_ending (run_with c o).ending)
 known_executes (x.no_image rule left e) = one_known
 
+known_lists : {bytes : List ℕ} {s : ℕ} {t : List ℕ} → Lists bytes s t → Known s
+known_lists (y.listed v c text i l) = zero_known
+known_lists (y.no_image rule left e) = one_known
+
+known_assembles : {bytes : List ℕ} {s : ℕ} {t : List ℕ} → Assembles bytes s t → Known s
+known_assembles (y.assembled c image l i) = zero_known
+known_assembles (y.no_listing rule at e) = one_known
+
+known_loads : {n s : ℕ} {t : List ℕ} → Loads n s t → Known s
+known_loads (accepted is s t p m) = subst Known (sym m.status_is) (known_ending (mean_with is default_options).ending)
+known_loads (rejected r p) = one_known
+
 known : {held : Holding} {c : Command} {s : ℕ} {t : List ℕ} → Answers held c s t → Known s
 known (too_large c file g p) = one_known
 known (refused c files r g l p) = one_known
@@ -47,6 +62,9 @@ known (checked names files is l p) = zero_known
 known (ran names o files is l p) = known_ending (mean_with is o).ending
 known (built names files is bytes l p i) = zero_known
 known (executed name o bytes s t l p) = known_executes p
+known (listed name bytes s t l p) = known_lists p
+known (assembled name bytes s t l p) = known_assembles p
+known (loaded n s t p) = known_loads p
 
 known_other : (s n : ℕ) → Known s → s ≡ n → n ≢ 2 × (n ≢ 5 × (n ≢ 6 × n ≢ 7))
 known_other s n zero_known e = (λ f. cc, (λ f. cc, (λ f. cc, λ f. cc)))
@@ -64,6 +82,9 @@ answers_or_absent {held = held} (checked names files is l p) name a = absent_or_
 answers_or_absent {held = held} (ran names o files is l p) name a = absent_or_loaded held names files name l a
 answers_or_absent {held = held} (built names files is bytes l p i) name a = absent_or_loaded held names files name l a
 answers_or_absent {held = held} (executed file o bytes s t l p) name a = absent_or_read held file bytes name l a
+answers_or_absent {held = held} (listed file bytes s t l p) name a = absent_or_read held file bytes name l a
+answers_or_absent {held = held} (assembled file bytes s t l p) name a = absent_or_read held file bytes name l a
+answers_or_absent {held = held} (loaded n s t p) name a = absurd a
 
 pub cut_of : (words : List (List ℕ)) (held : Holding) (files_before files_now : ℕ) (text : List ℕ) (status result before now : ℕ)
     (old new : Option (List ℕ)) → status ≢ 7 →

@@ -1,41 +1,33 @@
--- The run of an image as the answer to its command.
+-- What is done with one file as the answer to its command.
 use Rattle.std.proofs.Common.{◌≡◌, ◌⊎◌, ℕ, ◌≤◌, ℤ, List, [], ◌∷◌, map, Option, Result, inl, inr, refl, sym, ap}
 use Rattle.std.proofs.Common.{subst, ◌∙◌, slice_index_or, length, ◌<◌, arith}
 use Rattle.verse_outside.specs.Causes.{Rose}
 use Rattle.verse_outside.specs.Held.{Holding, Lacks}
-use Rattle.verse_top_args.specs.Words.{Command, Inputs, files_of, listed, not_given}
-use Rattle.verse_top_args.specs.Requests.{AsksForExec, options_with}
+use Rattle.verse_top_args.specs.Words.{Command, Inputs, assemble, files_of, list, load, not_given}
+use Rattle.verse_top_args.specs.Words as words
+use Rattle.verse_top_args.specs.Requests.{AsksForExec, AsksForOne, options_with}
 use Rattle.verse_top_args.specs.declared.commands.Running.{Running}
 use Rattle.verse_top_exec.specs.declared.stops.Stop.{Stop}
 use Rattle.verse_top_exec.specs.Executions.{Executes, ExecutesSoFar, IsNothing}
 use Rattle.verse_top_exec.specs.Leaving.{Leaves}
 use Rattle.verse_top_exec.proofs.Leaving.{leaves_as}
+use Rattle.verse_top_listing.specs.Listings.{Assembles, Lists}
 use Rattle.verse_top.specs.Loading.{IsRead}
-use Rattle.verse_top.specs.Answers.{Answers, Begins, IsAnswer, Replies, executed, executing, nothing, read_line}
+use Rattle.verse_top.specs.Answers.{Answers, Begins, IsAnswer, Loads, Replies, assembled, executed, executing, listed, loaded, nothing}
+use Rattle.verse_top.specs.Answers.{read_line}
 
 module _ (held : Holding) (files_before files_now before now : ℕ) (old new : Option (List ℕ)) (r : Result ℕ Stop) where
-  -- what the bytes of the file come to is the answer
-  pub leaves_executed : (running : Running) (c : Command) (a : AsksForExec running c) (bytes : List ℕ) → IsRead held a.file bytes →
-      Leaves (Executes bytes (options_with running a.ints)) (ExecutesSoFar bytes (options_with running a.ints)) before now old new r →
-      Leaves (Replies c held files_before files_now) (Begins held c) before now old new r
-  leaves_executed running c a bytes read l =
-      let o = options_with running a.ints in
-      leaves_as (Executes bytes o) (Replies c held files_before files_now) (ExecutesSoFar bytes o) (Begins held c) before now old new r
-      (λ s t p. inl (subst (λ (d : Command). Answers held d s t) (sym a.is) (executed a.file o bytes s t read p)))
-      (λ t p. subst (λ (d : Command). Begins held d t) (sym a.is) (executing a.file o bytes t read p)) l
-
   -- the file was not read
-  pub leaves_unread : (running : Running) (c : Command) (a : AsksForExec running c) → Rose files_before files_now ⊎ Lacks held a.file →
+  pub leaves_unread : (c : Command) (file : List ℕ) → files_of c ≡ file ∷ [] → Rose files_before files_now ⊎ Lacks held file →
       (status : ℕ) (text : List ℕ) →
-      status ≡ 6 → text ≡ read_line a.file → Leaves (IsAnswer status text) IsNothing before now old new r →
+      status ≡ 6 → text ≡ read_line file → Leaves (IsAnswer status text) IsNothing before now old new r →
       Leaves (Replies c held files_before files_now) (Begins held c) before now old new r
-  leaves_unread running c a cause status text e f l =
-      let files : files_of c ≡ a.file ∷ [] = ap files_of a.is in
+  leaves_unread c file files cause status text e f l =
       leaves_as (IsAnswer status text) (Replies c held files_before files_now) IsNothing (Begins held c) before now old new r
       (λ s t p. inr (
         p.0 ∙ e,
         (
-          a.file,
+          file,
           (
             p.1 ∙ f,
             record {
@@ -46,6 +38,51 @@ module _ (held : Holding) (files_before files_now before now : ℕ) (old new : O
         ),
       ))
       (λ t p. subst (Begins held c) (sym p) (nothing c)) l
+
+-- what the bytes of the file come to is the answer
+module _ (held : Holding) (before now : ℕ) (old new : Option (List ℕ)) (r : Result ℕ Stop) (name bytes : List ℕ)
+    (read : IsRead held name bytes) where
+  pub leaves_executed : (running : Running) (c : Command) (a : AsksForExec running c) → files_of c ≡ name ∷ [] →
+      Leaves (Executes bytes (options_with running a.ints)) (ExecutesSoFar bytes (options_with running a.ints)) before now old new r →
+      Leaves (Answers held c) (Begins held c) before now old new r
+  leaves_executed running c a named l =
+      let o = options_with running a.ints in
+      let files : files_of c ≡ a.file ∷ [] = ap files_of a.is in
+      let same : a.file ≡ name = cc (files, named) in
+      let there : IsRead held a.file bytes = subst (λ (n : List ℕ). IsRead held n bytes) (sym same) read in
+      leaves_as (Executes bytes o) (Answers held c) (ExecutesSoFar bytes o) (Begins held c) before now old new r
+      (λ s t p. subst (λ (d : Command). Answers held d s t) (sym a.is) (executed a.file o bytes s t there p))
+      (λ t p. subst (λ (d : Command). Begins held d t) (sym a.is) (executing a.file o bytes t there p)) l
+
+  module _ (files : List (List ℕ)) (c : Command) (status : ℕ) (text : List ℕ) where
+    pub leaves_listed : AsksForOne list files c → files_of c ≡ name ∷ [] → Lists bytes status text →
+        Leaves (IsAnswer status text) IsNothing before now old new r → Leaves (Answers held c) (Begins held c) before now old new r
+    leaves_listed a named p l =
+        let of_list : files_of c ≡ a.file ∷ [] = ap files_of a.is in
+        let same : a.file ≡ name = cc (of_list, named) in
+        let is : c ≡ list name = a.is ∙ ap list same in
+        leaves_as (IsAnswer status text) (Answers held c) IsNothing (Begins held c) before now old new r
+        (λ s t m. subst (λ (d : Command). Answers held d s t) (sym is) (rw (m.0, m.1) (listed name bytes status text read p)))
+        (λ t m. subst (Begins held c) (sym m) (nothing c)) l
+
+    pub leaves_assembled : AsksForOne assemble files c → files_of c ≡ name ∷ [] → Assembles bytes status text →
+        Leaves (IsAnswer status text) IsNothing before now old new r → Leaves (Answers held c) (Begins held c) before now old new r
+    leaves_assembled a named p l =
+        let of_listing : files_of c ≡ a.file ∷ [] = ap files_of a.is in
+        let same : a.file ≡ name = cc (of_listing, named) in
+        let is : c ≡ assemble name = a.is ∙ ap assemble same in
+        leaves_as (IsAnswer status text) (Answers held c) IsNothing (Begins held c) before now old new r
+        (λ s t m. subst (λ (d : Command). Answers held d s t) (sym is) (rw (m.0, m.1) (assembled name bytes status text read p)))
+        (λ t m. subst (Begins held c) (sym m) (nothing c)) l
+
+-- what the load comes to is the answer
+pub leaves_loaded : (held : Holding) (files_before files_now before now : ℕ) (old new : Option (List ℕ)) (r : Result ℕ Stop) (n : ℕ)
+    (c : Command) → c ≡ load n → Leaves (Loads n) IsNothing before now old new r →
+    Leaves (Replies c held files_before files_now) (Begins held c) before now old new r
+leaves_loaded held files_before files_now before now old new r n c is l =
+    leaves_as (Loads n) (Replies c held files_before files_now) IsNothing (Begins held c) before now old new r
+    (λ s t p. inl (subst (λ (d : Command). Answers held d s t) (sym is) (loaded n s t p)))
+    (λ t m. subst (Begins held c) (sym m) (nothing c)) l
 
 -- an answer that was written at once
 pub leaves_answer : (c : Command) (held : Holding) (files_before files_now before now : ℕ) (old new : Option (List ℕ)) (r : Result ℕ Stop)
@@ -68,4 +105,4 @@ first_file text (w ∷ ws) file d e f = let same : text w ≡ file = cc in ap te
 
 pub few_inputs : {given : Option (List ℕ)} {ns : List ℤ} → Inputs given ns → length ns ≤ 1000
 few_inputs not_given = omega arith
-few_inputs (listed l few) = few
+few_inputs (words.listed l few) = few

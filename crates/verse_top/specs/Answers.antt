@@ -1,19 +1,21 @@
 -- What the top call answers: a status and the text that is written.
-use Rattle.std.specs.Prelude.{◌≡◌, ◌⊎◌, ℕ, List, [], ◌++◌, length, Option, Some, codes}
+use Rattle.std.specs.Prelude.{◌≡◌, ◌⊎◌, ℕ, List, [], ◌∷◌, ◌++◌, length, Option, Some, codes}
 use Rattle.verse_base.specs.declared.refusals.Refusal.{Refusal}
 use Rattle.verse_lex.specs.Cut.{first_place}
 use Rattle.verse_outside.specs.Causes.{Rose}
 use Rattle.verse_outside.specs.Held.{Holding, with_more, TookPrefix}
 use Rattle.verse_tree.specs.ItemTree.{ItemTree}
-use Rattle.verse_meaning_state.specs.Texts.{run_text}
+use Rattle.verse_meaning_state.specs.Texts.{ending_line, run_text}
 use Rattle.verse_top_texts.specs.Refusals.{refusal_line}
 use Rattle.verse_image.specs.Format.{Image, version_of}
 use Rattle.verse_top_exec.specs.Executions.{Executes, ExecutesSoFar, run_with}
-use Rattle.verse_top_args.specs.Words.{Command, run, exec, check, build, files_of, Options, Says}
+use Rattle.verse_top_args.specs.Words.{Command, run, exec, check, build, list, assemble, load, files_of, Options, Says}
 use Rattle.verse_accept.specs.Fronts.{Accepts, IsRefused, refusal}
+use Rattle.verse_top_listing.specs.Listings.{Assembles, Lists}
+use Rattle.verse_top_load.specs.Load.{lines_line, load_text_of}
 use Rattle.verse_top.specs.Loading.{AreLoaded, IsAbsent, IsAmong, IsRead, IsTooLarge}
 use Rattle.verse_top.specs.Programs.{IsProgram}
-use Rattle.verse_top.specs.Meaning.{MeansSoFar, code_from, mean_with}
+use Rattle.verse_top.specs.Meaning.{MeansSoFar, code_from, default_options, mean_with}
 use Rattle.verse_top_texts.specs.Endings.{ending_status}
 
 abbrev pub words_line : List ℕ
@@ -42,6 +44,17 @@ pub record Means (is : List ItemTree) (o : Options) (files status : ℕ) (text :
   pub status_is : status ≡ ending_status (mean_with is o).ending
   pub text_is : text ≡ run_text (mean_with is o) o.heap files
 
+-- of that run the status, the line of its ending, and how many lines its trace has
+pub record MeansInShort (is : List ItemTree) (o : Options) (files status : ℕ) (text : List ℕ) : Type 0 where
+  pub status_is : status ≡ ending_status (mean_with is o).ending
+  pub text_is : text ≡ ending_line files (mean_with is o) ++ lines_line (length (mean_with is o).trace)
+
+-- the text of the load is the one file of a program, which is run by the default options; or it is refused
+pub data Loads (n : ℕ) : ℕ → List ℕ → Type 0 where
+  accepted : (is : List ItemTree) (status : ℕ) (text : List ℕ) → Accepts (load_text_of n ∷ []) is →
+      MeansInShort is default_options 1 status text → Loads n status text
+  rejected : (r : Refusal) → IsRefused (load_text_of n ∷ []) r → Loads n 1 (refusal_line [] r)
+
 -- the status and the text for a command over what is held
 pub data Answers (held : Holding) : Command → ℕ → List ℕ → Type 0 where
   too_large : (c : Command) (file : ℕ) → IsProgram c → IsTooLarge held 0 (files_of c) file →
@@ -58,6 +71,11 @@ pub data Answers (held : Holding) : Command → ℕ → List ℕ → Type 0 wher
   executed : (name : List ℕ) (o : Options) (bytes : List ℕ) (status : ℕ) (text : List ℕ) → IsRead held name bytes →
       Executes bytes o status text →
       Answers held (exec name o) status text
+  listed : (name bytes : List ℕ) (status : ℕ) (text : List ℕ) → IsRead held name bytes → Lists bytes status text →
+      Answers held (list name) status text
+  assembled : (name bytes : List ℕ) (status : ℕ) (text : List ℕ) → IsRead held name bytes → Assembles bytes status text →
+      Answers held (assemble name) status text
+  loaded : (n status : ℕ) (text : List ℕ) → Loads n status text → Answers held (load n) status text
 
 -- What may have been written for a command where memory ran out: of a run that is written as it goes on some of its text, and otherwise
 -- nothing.

@@ -1,5 +1,5 @@
 -- What the items of a program mean, and their code, told by the items alone.
-use Rattle.std.specs.Prelude.{◌≡◌, ℕ, List, Bool, true, false, cond, Option, Some, None, slice_get}
+use Rattle.std.specs.Prelude.{◌≡◌, ℕ, List, [], Bool, true, false, cond, Option, Some, None, slice_get}
 use Rattle.verse_tree.specs.ItemTree.{ItemTree}
 use Rattle.verse_rules_types.specs.Types.{Ty, array, event}
 use Rattle.verse_rules_types.specs.Fitting.{is_same}
@@ -11,6 +11,7 @@ use Rattle.verse_meaning.specs.Runs.{Forest, after, mean}
 use Rattle.verse_code.specs.declared.codes.Code.{Code}
 use Rattle.lower_code.specs.Programs.{code_of}
 use Rattle.verse_top_args.specs.Words.{Options}
+use Rattle.verse_top_args.specs.declared.commands.TheConstants.{DEFAULT_STEPS, DEFAULT_UNTIL}
 use Rattle.verse_code_machine.specs.Runs.{mach_after}
 use Rattle.verse_top_texts.specs.Streams.{Streams, state_in}
 use Rattle.verse_top_exec.specs.Executions.{run_with}
@@ -52,6 +53,10 @@ program_from is = record {
 -- the run that the items mean with these options
 abbrev pub mean_with : List ItemTree → Options → Run
 mean_with is o = mean (program_from is) o.inputs o.steps o.until
+
+-- those of a run whose words say nothing
+abbrev pub default_options : Options
+default_options = record { steps = DEFAULT_STEPS; until = DEFAULT_UNTIL; inputs = []; heap = false }
 
 -- the program after Main's start and so many turns
 abbrev pub stage_with : List ItemTree → Options → ℕ → Stage Forest

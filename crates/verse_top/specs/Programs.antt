@@ -6,7 +6,7 @@ use Rattle.verse_tree.specs.declared.programs.Program.{Program as Made}
 use Rattle.verse_rules_types.specs.Types.{ty_of}
 use Rattle.verse_rules.specs.Sound.{completed, types_of}
 use Rattle.verse_accept.specs.Fronts.{Accepts}
-use Rattle.verse_top_args.specs.Words.{Command, run, exec, check, build}
+use Rattle.verse_top_args.specs.Words.{Command, run, exec, check, build, list, assemble, load}
 use Rattle.verse_top_args.specs.declared.commands.Request.{Request}
 use Rattle.verse_top_args.specs.declared.commands.Request.TheVariants as request
 
@@ -15,12 +15,28 @@ IsProgram (run files o) = Unit {0}
 IsProgram (exec file o) = ⊥
 IsProgram (check files) = Unit {0}
 IsProgram (build files) = Unit {0}
+IsProgram (list file) = ⊥
+IsProgram (assemble file) = ⊥
+IsProgram (load n) = ⊥
 
 abbrev pub IsForProgram : Request → Type 0
 IsForProgram (request.Run r) = Unit {0}
 IsForProgram (request.Exec r) = ⊥
 IsForProgram (request.Check files) = Unit {0}
 IsForProgram (request.Build files) = Unit {0}
+IsForProgram (request.List files) = ⊥
+IsForProgram (request.Assemble files) = ⊥
+IsForProgram (request.Load n) = ⊥
+
+-- it is over one file that is no program
+abbrev pub IsForFile : Request → Type 0
+IsForFile (request.Run r) = ⊥
+IsForFile (request.Exec r) = Unit {0}
+IsForFile (request.Check files) = ⊥
+IsForFile (request.Build files) = ⊥
+IsForFile (request.List files) = Unit {0}
+IsForFile (request.Assemble files) = Unit {0}
+IsForFile (request.Load n) = ⊥
 
 -- the files are accepted, as this program with its names and types
 pub record IsAccepted (files : List (List ℕ)) (p : Made) : Type 0 where

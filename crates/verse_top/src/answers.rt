@@ -10,17 +10,11 @@ ghost use Rattle.verse_top.specs.Answers.{AnsweredOnce, ExecRunsWhatIsBuilt, ok_
 use std::alloc::Global;
 use verse_base::places::Place;
 use verse_base::refusals::{Memory, Refusal, Rule};
+use verse_top_texts::answers::Answer;
 use verse_top_texts::refusals::refusal_text;
 
 /// E002: a file has more bytes than a file may have.
 const TOO_LARGE: Rule = Rule(2);
-
-/// A status, and the text that goes with it.
-#[derive(Drop)]
-pub(crate) struct Answer {
-    pub(crate) status: u8,
-    pub(crate) text: Vec<u8>,
-}
 
 /// Over files that tell what they hold a command has one answer.
 pub fn answered_once()

@@ -3,16 +3,17 @@
 ghost use Rattle.std.specs.Prelude.{◌≡◌, ◌≢◌, ◌⊎◌, ◌≤◌, ℕ, List, map, string_bytes};
 ghost use Rattle.verse_outside.specs.Causes.{Rose};
 ghost use Rattle.verse_outside.specs.Held.{with_more};
-ghost use Rattle.verse_top_args.specs.Words.{AreFiles, Command, files_of, Says};
-ghost use Rattle.verse_top_args.specs.Requests.{AsksFor, names_of};
+ghost use Rattle.verse_top_args.specs.Words.{Command, files_of, Says};
+ghost use Rattle.verse_top_args.specs.Requests.{AreNamed, AsksFor};
 ghost use Rattle.verse_top_exec.specs.Leaving.{Leaves};
 ghost use Rattle.verse_top.specs.Answers.{Answered, Begins, CutShort, Finishes, NoMemory, NotRead};
 ghost use Rattle.verse_top.specs.Answers.{Replies, Told, words_line};
 ghost use Rattle.verse_top.specs.Loading.{AreHeld, IsAbsent};
 ghost use Rattle.verse_top.specs.Programs.{IsForProgram};
 
-use crate::executing::execute;
+use crate::executing::over_file;
 use crate::fronts::{Fronted, front};
+use crate::loads::load;
 use crate::programs::proceed;
 use crate::writing::write_answer;
 use std::alloc::Global;
@@ -68,7 +69,7 @@ pub fn verse<F: Files, S: Sink>(alloc: Global, words: &[String], files: &mut F, 
 
 /// Answers the request, with a line at the end where there is no memory.
 fn tell<F: Files, S: Sink>(alloc: Global, request: Request<'_>, files: &mut F, out: &mut S) -> u8
-    requires files { AreFiles (names_of request) }
+    requires files { AreNamed request }
     requires asks { (c : Command) × AsksFor request c }
     ensures told { (c : Command) → AsksFor request.entry c →
         Told c (F.holds files.old) (F.faults files.old) (F.faults files.new) (S.faults out.old)
@@ -84,14 +85,15 @@ fn tell<F: Files, S: Sink>(alloc: Global, request: Request<'_>, files: &mut F, o
     }
 }
 
-/// Answers the request: one case for each command that is written as it goes on.
+/// Answers the request: over one file that is no program, over no file, or over the files of a
+/// program.
 fn answer<F: Files, S: Sink>(
     alloc: Global,
     request: Request<'_>,
     files: &mut F,
     out: &mut S,
 ) -> Result<u8, Stop>
-    requires files { AreFiles (names_of request) }
+    requires files { AreNamed request }
     requires asks { (c : Command) × AsksFor request c }
     ensures leaves { (c : Command) → AsksFor request.entry c →
         Leaves (Replies c (F.holds files.old) (F.faults files.old) (F.faults files.new))
@@ -102,7 +104,10 @@ fn answer<F: Files, S: Sink>(
     ensures sink_faults { S.faults out.old ≤ S.faults out.new }
 {
     match request {
-        Request::Exec(running) => execute(alloc, running, files, out),
+        Request::Exec(_) | Request::List(_) | Request::Assemble(_) => {
+            over_file(alloc, request, files, out)
+        }
+        Request::Load(functions) => load(alloc, functions, out),
         Request::Run(_) | Request::Check(_) | Request::Build(_) => {
             over_program(alloc, request, files, out)
         }
@@ -117,7 +122,7 @@ fn over_program<F: Files, S: Sink>(
     out: &mut S,
 ) -> Result<u8, Stop>
     requires program { IsForProgram request }
-    requires files { AreFiles (names_of request) }
+    requires files { AreNamed request }
     requires asks { (c : Command) × AsksFor request c }
     ensures leaves { (c : Command) → AsksFor request.entry c →
         Leaves (Replies c (F.holds files.old) (F.faults files.old) (F.faults files.new))

@@ -4,13 +4,14 @@ ghost use Rattle.std.specs.Prelude.{◌≡◌, ◌≤◌, IfOk, length, map, str
 ghost use Rattle.verse_top_args.specs.Words.{AreFiles};
 ghost use Rattle.verse_top.specs.Fronted.{Fronts, Judged};
 
-use crate::answers::{Answer, not_read, refused, too_large};
+use crate::answers::{not_read, refused, too_large};
 use crate::loading::{Loading, load_all};
 use std::alloc::Global;
 use verse_accept::{Accepted, accept};
 use verse_base::refusals::{Front, Memory};
 use verse_outside::files::Files;
 use verse_rules::programs::Checked;
+use verse_top_texts::answers::Answer;
 use verse_tree_items::programs::TypedProgram;
 
 /// What came of the files of a program.
@@ -48,7 +49,7 @@ pub(crate) fn front<F: Files>(
 }
 
 /// Accepts the program in files that hold these bytes, or refuses it.
-fn judge(alloc: Global, names: &[String], files: &[Vec<u8>]) -> Result<Fronted, Memory>
+pub(crate) fn judge(alloc: Global, names: &[String], files: &[Vec<u8>]) -> Result<Fronted, Memory>
     requires some { 1 ≤ length files.now }
     requires few { length files.now ≤ 16 }
     ensures { IfOk result (λ f. Judged (map string_bytes names.now)

@@ -13,7 +13,7 @@ ghost use Rattle.verse_top.specs.Loading.{AreLoaded};
 ghost use Rattle.verse_top.specs.Meaning.{Does, MeansSoFar, code_from};
 ghost use Rattle.verse_top.specs.Programs.{IsAccepted, IsForProgram};
 
-use crate::answers::{Answer, checked};
+use crate::answers::checked;
 use crate::writing::write_answer;
 use lower_bounds::code_is_valid;
 use lower_simulation_runs::{code_means_the_same, turns_are_the_same};
@@ -28,6 +28,7 @@ use verse_top_args::commands::{Request, Running};
 use verse_top_exec::asking::Asked;
 use verse_top_exec::executing::run_code;
 use verse_top_exec::stops::Stop;
+use verse_top_texts::answers::Answer;
 use verse_tree_items::programs::TypedProgram;
 
 /// Does what the request asks for of the program in its files.
@@ -48,7 +49,8 @@ pub(crate) fn proceed<S: Sink>(
 {
     match request {
         Request::Run(running) => run(alloc, running, program, out),
-        Request::Exec(_) => unreachable!(),
+        Request::Exec(_) | Request::List(_) | Request::Assemble(_) => unreachable!(),
+        Request::Load(_) => unreachable!(),
         Request::Check(_) => {
             let answer = checked(alloc)?;
             write_answer(answer, out)
@@ -108,7 +110,7 @@ fn built(alloc: Global, program: TypedProgram) -> Result<Answer, Memory>
 }
 
 /// The code of the program, which does what the program means. The tree is let go.
-fn lowered(alloc: Global, program: TypedProgram) -> Result<Code, Memory>
+pub(crate) fn lowered(alloc: Global, program: TypedProgram) -> Result<Code, Memory>
     requires { (files : List (List ℕ)) × IsAccepted files program }
     ensures code { IfOk result (λ c. c ≡ code_from (map item_of program.tree.items)
         program.tree.files) }

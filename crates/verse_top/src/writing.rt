@@ -5,9 +5,9 @@ ghost use Rattle.verse_top_exec.specs.Leaving.{Leaves};
 ghost use Rattle.verse_top_exec.specs.Executions.{IsNothing};
 ghost use Rattle.verse_top.specs.Answers.{IsAnswer};
 
-use crate::answers::Answer;
 use verse_outside::sinks::{Sink, write_all};
 use verse_top_exec::stops::Stop;
+use verse_top_texts::answers::Answer;
 
 /// Writes the text and answers the status.
 pub(crate) fn write_answer<S: Sink>(answer: Answer, out: &mut S) -> Result<u8, Stop>

@@ -1,16 +1,16 @@
 -- The words are one command.
 use Rattle.std.proofs.Common.{◌≡◌, ◌≢◌, ◌↔◌, ℕ, ℤ, Option, Some, None, List, [], ◌∷◌, ◌++◌, codes, refl, sym, ap, ◌∙◌, subst, ◌≤◌, length}
-use Rattle.std.proofs.Common.{unwrap_or, Result, Ok, Err, IfOk, false, map, string_bytes, option_copied, append-nil, arith, zero, suc, ◌<◌}
+use Rattle.std.proofs.Common.{unwrap_or, Result, Ok, Err, IfOk, Bool, true, false, map, string_bytes, append-nil, arith, ◌<◌, slice_index_or}
 use Rattle.std.specs.Str.{bytes_eq}
 use Rattle.std.proofs.lemmas.Slice.Eq.{bytes_eq-Decides}
-use Rattle.verse_top_args.specs.Words.{AreFiles, Command, EachIsFile, Given, Gives, Inputs, IsFile, IsIntList, SayOnce, Says, listed}
-use Rattle.verse_top_args.specs.Words.{no_options, not_given, Options, options_of, run, exec, check, build, says_run, says_exec, says_check}
-use Rattle.verse_top_args.specs.Words.{says_build}
-use Rattle.verse_top_args.specs.Requests.{AsksFor, AsksForExec, AsksForRun, BeginsWithNoFile, Gave, IsWithin, NoOptions, options_with}
-use Rattle.verse_top_args.specs.declared.commands.Request.TheVariants as request
+use Rattle.verse_top_args.specs.Words.{AreFiles, Command, EachIsFile, Given, Gives, Inputs, IsFile, IsIntList, IsNumber, SayOnce, Says}
+use Rattle.verse_top_args.specs.Words.{listed, no_options, not_given, options_of, run, exec, check, build, list, assemble, load}
+use Rattle.verse_top_args.specs.Words.{says_run, says_exec, says_check, says_build, says_list, says_assemble, says_load}
+use Rattle.verse_top_args.specs.Requests.{AsksForExec, AsksForLoad, AsksForOne, AsksForRun, BeginsWithNoFile, Gave, IsWithin, NoOptions, options_with}
 use Rattle.verse_top_args.specs.declared.commands.Running.{Running}
-use Rattle.verse_top_args.proofs.FileLemmas.{Same, options_begin, parted_once}
-use Rattle.verse_top_args.proofs.NumberLemmas.{Lists, list_once}
+use Rattle.verse_top_args.proofs.FileLemmas.{no_words, options_begin, parted_once}
+use Rattle.std.proofs.lemmas.List.{length-map}
+use Rattle.verse_top_args.proofs.NumberLemmas.{Lists, list_once, number_once}
 use Rattle.verse_top_args.proofs.OptionLemmas.{AtMost, given_within, gives_once}
 
 pub inputs_once : {word : Option (List ℕ)} {ns ms : List ℤ} → Inputs word ns → Inputs word ms → ns ≡ ms
@@ -51,44 +51,38 @@ pub record Alone (make : List (List ℕ) → Command) (files options : List (Lis
   pub none : options ≡ []
   pub is : c ≡ make files
 
-other_word : (a b : List ℕ) → bytes_eq a b ≡ false → a ≡ b → ⊥
-other_word a b different e = let same = (bytes_eq-Decides a b).1 e in cc
+-- the one file of a command, with nothing behind it
+pub record One (make : List ℕ → Command) (files options : List (List ℕ)) (c : Command) : Type 0 where
+  pub file : List ℕ
+  pub one : files ≡ file ∷ []
+  pub none : options ≡ []
+  pub is : c ≡ make file
 
-pub run_of : {words files options : List (List ℕ)} {c : Command} → Says words c → Parted words (codes "run") files options →
-    Runs files options c
-run_of {files = files} {options = options} (says_run {files = names} {words = behind} {g = given} {ns = ints} are gives lists) p =
-    let same = parted_once names files behind options are.each p.each (options_begin gives) p.behind (cc p.is) in
-    record {
-      are = subst AreFiles same.files_are are;
-      given = given;
-      ints = ints;
-      gives = subst (λ ws. Gives no_options ws given) same.words_are gives;
-      lists = lists;
-      runs = ap (λ fs. run fs (options_of given ints)) same.files_are;
-    }
-run_of {files = files} {options = options} (says_exec is gives lists) p = absurd (other_word (codes "exec") (codes "run") refl (cc p.is))
-run_of {files = files} {options = options} (says_check are) p = absurd (other_word (codes "check") (codes "run") refl (cc p.is))
-run_of {files = files} {options = options} (says_build are) p = absurd (other_word (codes "build") (codes "run") refl (cc p.is))
+-- the word with the number of functions of a load
+pub record Loads (words : List (List ℕ)) (c : Command) : Type 0 where
+  pub word : List ℕ
+  pub n : ℕ
+  pub one : words ≡ word ∷ []
+  pub spelled : IsNumber 1000 word n
+  pub from : 2 ≤ n
+  pub is : c ≡ load n
+
+abbrev pub either : Bool → Type 0 → Type 0 → Type 0
+either true P Q = P
+either false P Q = Q
+
+-- what files and options are of a command, by the command's name; nothing is told of other words
+abbrev pub Meant : List ℕ → (files options : List (List ℕ)) → Command → Type 0
+Meant word files options c =
+    either (bytes_eq word (codes "run")) (Runs files options c)
+    (either (bytes_eq word (codes "exec")) (Executes files options c)
+    (either (bytes_eq word (codes "check")) (Alone check files options c)
+    (either (bytes_eq word (codes "build")) (Alone build files options c)
+    (either (bytes_eq word (codes "list")) (One list files options c)
+    (either (bytes_eq word (codes "assemble")) (One assemble files options c) (Unit {0}))))))
 
 one_file : {file : List ℕ} → IsFile file → AreFiles (file ∷ [])
 one_file is = record { each = (is, tt); some = omega arith; few = omega arith }
-
-pub exec_of : {words files options : List (List ℕ)} {c : Command} → Says words c → Parted words (codes "exec") files options →
-    Executes files options c
-exec_of {files = files} {options = options} (says_run are gives lists) p = absurd (other_word (codes "run") (codes "exec") refl (cc p.is))
-exec_of {files = files} {options = options} (says_exec {file = file} {words = behind} {g = given} {ns = ints} is gives lists) p =
-    let same = parted_once (file ∷ []) files behind options (one_file is).each p.each (options_begin gives) p.behind (cc p.is) in
-    record {
-      file = file;
-      one = sym same.files_are;
-      given = given;
-      ints = ints;
-      gives = subst (λ ws. Gives no_options ws given) same.words_are gives;
-      lists = lists;
-      executes = refl;
-    }
-exec_of {files = files} {options = options} (says_check are) p = absurd (other_word (codes "check") (codes "exec") refl (cc p.is))
-exec_of {files = files} {options = options} (says_build are) p = absurd (other_word (codes "build") (codes "exec") refl (cc p.is))
 
 alone_of : (make : List (List ℕ) → Command) (word : List ℕ) {words files options names : List (List ℕ)} → words ≡ word ∷ names →
     AreFiles names → Parted words word files options →
@@ -97,41 +91,88 @@ alone_of make word {files = files} {options = options} {names = names} spelled a
     let same = parted_once names files [] options are.each p.each tt p.behind (append-nil names ∙ cc (spelled, p.is)) in
     record { are = subst AreFiles same.files_are are; none = sym same.words_are; is = ap make same.files_are }
 
-pub check_of : {words files options : List (List ℕ)} {c : Command} → Says words c → Parted words (codes "check") files options →
-    Alone check files options c
-check_of {files = files} {options = options} (says_run are gives lists) p = absurd (other_word (codes "run") (codes "check") refl (cc p.is))
-check_of {files = files} {options = options} (says_exec is gives lists) p =
-    absurd (other_word (codes "exec") (codes "check") refl (cc p.is))
-check_of {files = files} {options = options} (says_check {files = names} are) p = alone_of check (codes "check") refl are p
-check_of {files = files} {options = options} (says_build are) p = absurd (other_word (codes "build") (codes "check") refl (cc p.is))
+one_of : (make : List ℕ → Command) (word : List ℕ) {words files options : List (List ℕ)} {file : List ℕ} → words ≡ word ∷ file ∷ [] →
+    IsFile file → Parted words word files options →
+    One make files options (make file)
+one_of make word {files = files} {options = options} {file = file} spelled is p =
+    let same = parted_once (file ∷ []) files [] options (one_file is).each p.each tt p.behind (cc (spelled, p.is)) in
+    record { file = file; one = sym same.files_are; none = sym same.words_are; is = refl }
 
-pub build_of : {words files options : List (List ℕ)} {c : Command} → Says words c → Parted words (codes "build") files options →
-    Alone build files options c
-build_of {files = files} {options = options} (says_run are gives lists) p = absurd (other_word (codes "run") (codes "build") refl (cc p.is))
-build_of {files = files} {options = options} (says_exec is gives lists) p =
-    absurd (other_word (codes "exec") (codes "build") refl (cc p.is))
-build_of {files = files} {options = options} (says_check are) p = absurd (other_word (codes "check") (codes "build") refl (cc p.is))
-build_of {files = files} {options = options} (says_build {files = names} are) p = alone_of build (codes "build") refl are p
+one_are : (make : List ℕ → Command) (word : List ℕ) {words files options : List (List ℕ)} {file : List ℕ} → words ≡ word ∷ file ∷ [] →
+    IsFile file → Parted words word files options → AreFiles files
+one_are make word {files = files} {options = options} {file = file} spelled is p =
+    let same = parted_once (file ∷ []) files [] options (one_file is).each p.each tt p.behind (cc (spelled, p.is)) in
+    subst AreFiles same.files_are (one_file is)
 
--- only these words begin a command
-pub none_other : {words files options : List (List ℕ)} {c : Command} (word : List ℕ) → Says words c → Parted words word files options →
-    word ≢ codes "run" → word ≢ codes "exec" → word ≢ codes "check" → word ≢ codes "build" → ⊥
-none_other word (says_run are gives lists) p r x k b = r (cc p.is)
-none_other word (says_exec is gives lists) p r x k b = x (cc p.is)
-none_other word (says_check are) p r x k b = k (cc p.is)
-none_other word (says_build are) p r x k b = b (cc p.is)
+as_named : (own word : List ℕ) (files options : List (List ℕ)) (c : Command) → own ≡ word → Meant own files options c →
+    Meant word files options c
+as_named own word files options c same m = subst (λ (w : List ℕ). Meant w files options c) same m
+
+pub meant_of : {words files options : List (List ℕ)} {c : Command} (word : List ℕ) → Says words c → Parted words word files options →
+    Meant word files options c
+meant_of {files = files} {options = options} word (says_run {files = names} {words = behind} {g = given} {ns = ints} are gives lists) p =
+    let named : codes "run" ≡ word = cc p.is in
+    let same = parted_once names files behind options are.each p.each (options_begin gives) p.behind (cc p.is) in
+    as_named (codes "run") word files options (run names (options_of given ints)) named (record {
+      are = subst AreFiles same.files_are are;
+      given = given;
+      ints = ints;
+      gives = subst (λ ws. Gives no_options ws given) same.words_are gives;
+      lists = lists;
+      runs = ap (λ fs. run fs (options_of given ints)) same.files_are;
+    })
+meant_of {files = files} {options = options} word (says_exec {file = file} {words = behind} {g = given} {ns = ints} is gives lists) p =
+    let named : codes "exec" ≡ word = cc p.is in
+    let same = parted_once (file ∷ []) files behind options (one_file is).each p.each (options_begin gives) p.behind (cc p.is) in
+    as_named (codes "exec") word files options (exec file (options_of given ints)) named (record {
+      file = file;
+      one = sym same.files_are;
+      given = given;
+      ints = ints;
+      gives = subst (λ ws. Gives no_options ws given) same.words_are gives;
+      lists = lists;
+      executes = refl;
+    })
+meant_of {files = files} {options = options} word (says_check {files = names} are) p =
+    let named : codes "check" ≡ word = cc p.is in
+    as_named (codes "check") word files options (check names) named (alone_of check word (cc named) are p)
+meant_of {files = files} {options = options} word (says_build {files = names} are) p =
+    let named : codes "build" ≡ word = cc p.is in
+    as_named (codes "build") word files options (build names) named (alone_of build word (cc named) are p)
+meant_of {files = files} {options = options} word (says_list {file = file} is) p =
+    let named : codes "list" ≡ word = cc p.is in
+    as_named (codes "list") word files options (list file) named (one_of list word (cc named) is p)
+meant_of {files = files} {options = options} word (says_assemble {file = file} is) p =
+    let named : codes "assemble" ≡ word = cc p.is in
+    as_named (codes "assemble") word files options (assemble file) named (one_of assemble word (cc named) is p)
+meant_of {files = files} {options = options} word (says_load {word = number} {n = n} spelled from) p =
+    as_named (codes "load") word files options (load n) (cc p.is) tt
+
+other_word : (a b : List ℕ) → bytes_eq a b ≡ false → a ≡ b → ⊥
+other_word a b different e = let same = (bytes_eq-Decides a b).1 e in cc
+
+pub load_of : {words rest : List (List ℕ)} {c : Command} → Says words c → words ≡ codes "load" ∷ rest → Loads rest c
+load_of (says_run are gives lists) e = absurd (other_word (codes "run") (codes "load") refl (cc e))
+load_of (says_exec is gives lists) e = absurd (other_word (codes "exec") (codes "load") refl (cc e))
+load_of (says_check are) e = absurd (other_word (codes "check") (codes "load") refl (cc e))
+load_of (says_build are) e = absurd (other_word (codes "build") (codes "load") refl (cc e))
+load_of (says_list is) e = absurd (other_word (codes "list") (codes "load") refl (cc e))
+load_of (says_assemble is) e = absurd (other_word (codes "assemble") (codes "load") refl (cc e))
+load_of (says_load {word = word} {n = n} spelled from) e =
+    record { word = word; n = n; one = cc e; spelled = spelled; from = from; is = refl }
 
 pub files_are : {words files options : List (List ℕ)} {c : Command} (word : List ℕ) → Says words c → Parted words word files options →
-    AreFiles files
-files_are {files = files} {options = options} word (says_run {files = names} {words = behind} are gives lists) p =
+    word ≢ codes "load" → AreFiles files
+files_are {files = files} {options = options} word (says_run {files = names} {words = behind} are gives lists) p other =
     subst AreFiles (parted_once names files behind options are.each p.each (options_begin gives) p.behind (cc p.is)).files_are are
-files_are {files = files} {options = options} word (says_exec {file = file} {words = behind} is gives lists) p =
+files_are {files = files} {options = options} word (says_exec {file = file} {words = behind} is gives lists) p other =
     subst AreFiles (parted_once (file ∷ []) files behind options (one_file is).each p.each (options_begin gives) p.behind
     (cc p.is)).files_are (one_file is)
-files_are {files = files} {options = options} word (says_check {files = names} are) p =
-    subst AreFiles (parted_once names files [] options are.each p.each tt p.behind (append-nil names ∙ cc p.is)).files_are are
-files_are {files = files} {options = options} word (says_build {files = names} are) p =
-    subst AreFiles (parted_once names files [] options are.each p.each tt p.behind (append-nil names ∙ cc p.is)).files_are are
+files_are word (says_check are) p other = (alone_of check word (cc p.is) are p).are
+files_are word (says_build are) p other = (alone_of build word (cc p.is) are p).are
+files_are word (says_list is) p other = one_are list word (cc p.is) is p
+files_are word (says_assemble is) p other = one_are assemble word (cc p.is) is p
+files_are word (says_load spelled from) p other = absurd (other (cc p.is))
 
 same_runs : (files options : List (List ℕ)) (a b : Command) → Runs files options a → Runs files options b → a ≡ b
 same_runs files options a b p q =
@@ -154,14 +195,28 @@ say_once words a b (says_run {files = files} {words = options} {g = given} {ns =
     let own : Runs files options (run files (options_of given ints)) =
     record { are = are; given = given; ints = ints; gives = gives; lists = lists; runs = refl } in
     same_runs files options (run files (options_of given ints)) b own
-    (run_of t (record { is = refl; each = are.each; behind = options_begin gives }))
+    (meant_of (codes "run") t (record { is = refl; each = are.each; behind = options_begin gives }))
 say_once words a b (says_exec {file = file} {words = options} {g = given} {ns = ints} is gives lists) t =
     let own : Executes (file ∷ []) options (exec file (options_of given ints)) =
     record { file = file; one = refl; given = given; ints = ints; gives = gives; lists = lists; executes = refl } in
     same_executes (file ∷ []) options (exec file (options_of given ints)) b own
-    (exec_of t (record { is = refl; each = (one_file is).each; behind = options_begin gives }))
-say_once words a b (says_check {files = files} are) t = sym (check_of {options = []} t (parted_alone (codes "check") files are)).is
-say_once words a b (says_build {files = files} are) t = sym (build_of {options = []} t (parted_alone (codes "build") files are)).is
+    (meant_of (codes "exec") t (record { is = refl; each = (one_file is).each; behind = options_begin gives }))
+say_once words a b (says_check {files = files} are) t =
+    let other : Alone check files [] b = meant_of (codes "check") t (parted_alone (codes "check") files are) in sym other.is
+say_once words a b (says_build {files = files} are) t =
+    let other : Alone build files [] b = meant_of (codes "build") t (parted_alone (codes "build") files are) in sym other.is
+say_once words a b (says_list {file = file} is) t =
+    let other : One list (file ∷ []) [] b = meant_of (codes "list") t (parted_alone (codes "list") (file ∷ []) (one_file is)) in
+    cc (other.one, other.is)
+say_once words a b (says_assemble {file = file} is) t =
+    let other : One assemble (file ∷ []) [] b = meant_of (codes "assemble") t (parted_alone (codes "assemble") (file ∷ []) (one_file is)) in
+    cc (other.one, other.is)
+say_once words a b (says_load {word = word} {n = n} spelled from) t =
+    let other = load_of t refl in
+    let same : word ≡ other.word = cc other.one in
+    let number : n ≡ other.n = number_once 1000 word n other.n (omega arith) spelled
+    (subst (λ (w : List ℕ). IsNumber 1000 w other.n) (sym same) other.spelled) in
+    cc (number, other.is)
 
 pub inputs_listed : (given : Option (List ℕ)) (word : List ℕ) → given ≡ Some word → Lists 1000 word ↔ ((ns : List ℤ) × Inputs given ns)
 inputs_listed None word e = absurd (cc)
@@ -216,14 +271,17 @@ module _ (files options : List (List ℕ)) (are : AreFiles files) (behind : Begi
 
   -- neither command, where the words give no options
   pub no_run : NoOptions options → (c : Command) → ¬ (Says (run_words files options) c)
-  no_run none c s = let p = run_of s (parted_behind (codes "run")) in none p.given p.ints p.gives p.lists
+  no_run none c s = let p : Runs files options c = meant_of (codes "run") s (parted_behind (codes "run")) in
+      none p.given p.ints p.gives p.lists
 
   pub no_exec : NoOptions options → (c : Command) → ¬ (Says (exec_words files options) c)
-  no_exec none c s = let p = exec_of s (parted_behind (codes "exec")) in none p.given p.ints p.gives p.lists
+  no_exec none c s = let p : Executes files options c = meant_of (codes "exec") s (parted_behind (codes "exec")) in
+      none p.given p.ints p.gives p.lists
 
   -- there is one file
   pub not_one : 1 < length files → (c : Command) → ¬ (Says (exec_words files options) c)
-  not_one more c s = let p = exec_of s (parted_behind (codes "exec")) in let one = ap length p.one in omega arith
+  not_one more c s = let p : Executes files options c = meant_of (codes "exec") s (parted_behind (codes "exec")) in
+      let one = ap length p.one in omega arith
 
   pub is_run : (r : Running) → Gave options r → map string_bytes r.files.now ≡ files →
       (c : Command) × Says (run_words files options) c × AsksForRun r c
@@ -268,13 +326,40 @@ is_exec files options are few r g named =
 abbrev pub words_with : List ℕ → List (List ℕ) → List (List ℕ) → List (List ℕ)
 words_with word files options = word ∷ files ++ options
 
+-- one file, and nothing behind it
+abbrev pub IsAlone : List (List ℕ) → List (List ℕ) → Type 0
+IsAlone files options = (length files ≡ 1) × (options ≡ [])
+
+pub alone_words : {A : Type 0} (text : A → List ℕ) (files options : List A) → (length files ≡ 1) × (length options ≡ 0) →
+    IsAlone (map text files) (map text options)
+alone_words text files options one = (length-map files text ∙ one.0, no_words text options one.1)
+
+pub words_alone : {A : Type 0} (text : A → List ℕ) (files options : List A) → IsAlone (map text files) (map text options) →
+    (length files ≡ 1) × (length options ≡ 0)
+words_alone text files options one = (sym (length-map files text) ∙ one.0, sym (length-map options text) ∙ ap length one.1)
+
+-- the words are a command of one file alone
+pub is_alone : (make : List ℕ → Command) (word : List ℕ) → ((file : List ℕ) → IsFile file → Says (word ∷ file ∷ []) (make file)) →
+    (files options : List (List ℕ)) → AreFiles files → IsAlone files options →
+    (c : Command) × Says (words_with word files options) c × AsksForOne make files c
+is_alone make word says [] options are one = let none = one.0 in absurd (omega arith)
+is_alone make word says (f ∷ []) options are one = (
+  make f,
+  subst (λ (behind : List (List ℕ)). Says (word ∷ f ∷ behind) (make f)) (sym one.1) (says f are.each.0),
+  record { file = f; one = refl; is = refl },
+)
+is_alone make word says (f ∷ g ∷ gs) options are one = let some = one.0 in absurd (omega arith)
+
 module _ (files options : List (List ℕ)) (are : AreFiles files) (behind : BeginsWithNoFile options) where
+  parted_there : (command : List ℕ) → Parted (words_with command files options) command files options
+  parted_there command = record { is = refl; each = are.each; behind = behind }
+
   -- nothing stands behind the files of a check, and of a build
   pub no_check : options ≢ [] → (c : Command) → ¬ (Says (words_with (codes "check") files options) c)
-  no_check more c s = more (check_of s (record { is = refl; each = are.each; behind = behind })).none
+  no_check more c s = let p : Alone check files options c = meant_of (codes "check") s (parted_there (codes "check")) in more p.none
 
   pub no_build : options ≢ [] → (c : Command) → ¬ (Says (words_with (codes "build") files options) c)
-  no_build more c s = more (build_of s (record { is = refl; each = are.each; behind = behind })).none
+  no_build more c s = let p : Alone build files options c = meant_of (codes "build") s (parted_there (codes "build")) in more p.none
 
   pub is_check : options ≡ [] → (c : Command) × Says (words_with (codes "check") files options) c × (c ≡ check files)
   is_check none =
@@ -285,3 +370,35 @@ module _ (files options : List (List ℕ)) (are : AreFiles files) (behind : Begi
   is_build none =
       let all : codes "build" ∷ files ≡ words_with (codes "build") files options = cc (none, append-nil files) in
       (build files, subst (λ ws. Says ws (build files)) all (says_build are), refl)
+
+  pub no_list : ¬ (IsAlone files options) → (c : Command) → ¬ (Says (words_with (codes "list") files options) c)
+  no_list other c s = let p : One list files options c = meant_of (codes "list") s (parted_there (codes "list")) in
+      other (ap length p.one, p.none)
+
+  pub no_assemble : ¬ (IsAlone files options) → (c : Command) → ¬ (Says (words_with (codes "assemble") files options) c)
+  no_assemble other c s = let p : One assemble files options c = meant_of (codes "assemble") s (parted_there (codes "assemble")) in
+      other (ap length p.one, p.none)
+
+-- the word behind `load`
+pub one_word : {A : Type 0} (text : A → List ℕ) (words : List A) (word d : A) → 1 ≤ length words → length words < 2 →
+    word ≡ slice_index_or words 0 d → map text words ≡ text word ∷ []
+one_word text [] word d low high e = absurd (omega arith)
+one_word text (w ∷ []) word d low high e = ap (λ v. text v ∷ []) (sym e)
+one_word text (w ∷ v ∷ vs) word d low high e = absurd (omega arith)
+
+pub no_load : (rest : List (List ℕ)) (word : List ℕ) (n : ℕ) → rest ≡ word ∷ [] → IsNumber 1000 word n → n < 2 → (c : Command) →
+    ¬ (Says (codes "load" ∷ rest) c)
+no_load rest word n one spelled low c s =
+    let l = load_of s refl in
+    let same : l.word ≡ word = cc (l.one, one) in
+    let number : n ≡ l.n = number_once 1000 word n l.n (omega arith) spelled (subst (λ (w : List ℕ). IsNumber 1000 w l.n) same l.spelled) in
+    let from = l.from in
+    omega arith
+
+pub is_load : (rest : List (List ℕ)) (word : List ℕ) (n : ℕ) → rest ≡ word ∷ [] → IsNumber 1000 word n → 2 ≤ n →
+    (c : Command) × Says (codes "load" ∷ rest) c × AsksForLoad n c
+is_load rest word n one spelled from = (
+  load n,
+  subst (λ (ws : List (List ℕ)). Says (codes "load" ∷ ws) (load n)) (sym one) (says_load spelled from),
+  record { from = from; to = spelled.within; is = refl },
+)

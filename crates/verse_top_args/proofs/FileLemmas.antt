@@ -1,5 +1,5 @@
 -- The words that name files, and those behind them, are parted in one way.
-use Rattle.std.proofs.Common.{◌≡◌, ◌≢◌, ◌↔◌, ℕ, List, [], ◌∷◌, ◌++◌, refl, ap, subst, sym, ◌≤◌, length, IsTrue, not, nat_eq, slice_index_or}
+use Rattle.std.proofs.Common.{◌≡◌, ◌≢◌, ◌↔◌, ℕ, List, [], ◌∷◌, ◌++◌, refl, subst, sym, ◌≤◌, length, IsTrue, not, nat_eq, slice_index_or}
 use Rattle.std.proofs.Common.{arith, zero, suc, ◌<◌, ◌+◌, take, drop, map}
 use Rattle.verse_top_args.specs.Words.{EachIsFile, Given, Gives, IsFile, name, none_left, steps, until, inputs, heap}
 use Rattle.verse_top_args.specs.Requests.{BeginsWithNoFile}

@@ -1,6 +1,7 @@
 -- Which command a request asks for.
 use Rattle.std.specs.Prelude.{◌≡◌, ℕ, ◌≤◌, ℤ, List, [], ◌∷◌, map, string_bytes, option_copied, unwrap_or}
-use Rattle.verse_top_args.specs.Words.{Command, Given, Gives, Inputs, IsFile, Options, build, check, exec, no_options, run}
+use Rattle.verse_top_args.specs.Words.{AreFiles, Command, Given, Gives, Inputs, IsFile, Options, assemble, build, check, exec}
+use Rattle.verse_top_args.specs.Words.{list, load, no_options, run}
 use Rattle.verse_top_args.specs.declared.commands.Request.{Request}
 use Rattle.verse_top_args.specs.declared.commands.Request.TheVariants as request
 use Rattle.verse_top_args.specs.declared.commands.Running.{Running}
@@ -29,18 +30,45 @@ pub record AsksForExec (r : Running) (c : Command) : Type 0 where
   pub lists : Inputs (option_copied r.inputs) ints
   pub is : c ≡ exec file (options_with r ints)
 
+-- there is one file, of which the command is made
+pub record AsksForOne (make : List ℕ → Command) (files : List (List ℕ)) (c : Command) : Type 0 where
+  pub file : List ℕ
+  pub one : files ≡ file ∷ []
+  pub is : c ≡ make file
+
+pub record AsksForLoad (n : ℕ) (c : Command) : Type 0 where
+  pub from : 2 ≤ n
+  pub to : n ≤ 1000
+  pub is : c ≡ load n
+
 -- the names of the files
 abbrev pub names_of : Request → List (List ℕ)
 names_of (request.Run r) = map string_bytes r.files.now
 names_of (request.Exec r) = map string_bytes r.files.now
 names_of (request.Check files) = map string_bytes files.now
 names_of (request.Build files) = map string_bytes files.now
+names_of (request.List files) = map string_bytes files.now
+names_of (request.Assemble files) = map string_bytes files.now
+names_of (request.Load n) = []
+
+-- there are 1 to 16 files, but none of a load
+abbrev pub AreNamed : Request → Type 0
+AreNamed (request.Run r) = AreFiles (map string_bytes r.files.now)
+AreNamed (request.Exec r) = AreFiles (map string_bytes r.files.now)
+AreNamed (request.Check files) = AreFiles (map string_bytes files.now)
+AreNamed (request.Build files) = AreFiles (map string_bytes files.now)
+AreNamed (request.List files) = AreFiles (map string_bytes files.now)
+AreNamed (request.Assemble files) = AreFiles (map string_bytes files.now)
+AreNamed (request.Load n) = Unit {0}
 
 abbrev pub AsksFor : Request → Command → Type 0
 AsksFor (request.Run r) c = AsksForRun r c
 AsksFor (request.Exec r) c = AsksForExec r c
 AsksFor (request.Check files) c = c ≡ check (map string_bytes files.now)
 AsksFor (request.Build files) c = c ≡ build (map string_bytes files.now)
+AsksFor (request.List files) c = AsksForOne list (map string_bytes files.now) c
+AsksFor (request.Assemble files) c = AsksForOne assemble (map string_bytes files.now) c
+AsksFor (request.Load n) c = AsksForLoad n c
 
 -- the first word is no file's name
 abbrev pub BeginsWithNoFile : List (List ℕ) → Type 0

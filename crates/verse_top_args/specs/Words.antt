@@ -23,6 +23,12 @@ pub data Command : Type 0 where
   check : (files : List (List ℕ)) → Command
   -- writes the image of the code of the program in these files
   build : (files : List (List ℕ)) → Command
+  -- writes the listing of the image in this file
+  list : (file : List ℕ) → Command
+  -- writes the image of the code of which this file holds the listing
+  assemble : (file : List ℕ) → Command
+  -- runs the generated load of so many functions
+  load : (n : ℕ) → Command
 
 -- the names of a command's files
 abbrev pub files_of : Command → List (List ℕ)
@@ -30,6 +36,9 @@ files_of (run files o) = files
 files_of (exec file o) = file ∷ []
 files_of (check files) = files
 files_of (build files) = files
+files_of (list file) = file ∷ []
+files_of (assemble file) = file ∷ []
+files_of (load n) = []
 
 -- a file's name is not empty and does not begin with `-`
 pub data IsFile : List ℕ → Type 0 where
@@ -105,6 +114,9 @@ pub data Says : List (List ℕ) → Command → Type 0 where
       Says (codes "exec" ∷ file ∷ words) (exec file (options_of g ns))
   says_check : {files : List (List ℕ)} → AreFiles files → Says (codes "check" ∷ files) (check files)
   says_build : {files : List (List ℕ)} → AreFiles files → Says (codes "build" ∷ files) (build files)
+  says_list : {file : List ℕ} → IsFile file → Says (codes "list" ∷ file ∷ []) (list file)
+  says_assemble : {file : List ℕ} → IsFile file → Says (codes "assemble" ∷ file ∷ []) (assemble file)
+  says_load : {word : List ℕ} {n : ℕ} → IsNumber 1000 word n → 2 ≤ n → Says (codes "load" ∷ word ∷ []) (load n)
 
 -- no words are two commands
 abbrev pub SayOnce : Type 0

@@ -4,10 +4,10 @@ ghost use Rattle.std.specs.Prelude.{IsTrue, MatchOption, map, string_bytes, opti
 ghost use Rattle.verse_top_args.specs.Words.{AreFiles, Command, EachIsFile, Inputs, IsFile};
 ghost use Rattle.verse_top_args.specs.Words.{SayOnce};
 ghost use Rattle.verse_top_args.specs.Words.{Says};
-ghost use Rattle.verse_top_args.specs.Requests.{AsksFor, BeginsWithNoFile, Gave, NoOptions};
-ghost use Rattle.verse_top_args.specs.Requests.{names_of};
+ghost use Rattle.verse_top_args.specs.Requests.{AreNamed, AsksFor, BeginsWithNoFile, Gave};
+ghost use Rattle.verse_top_args.specs.Requests.{NoOptions, names_of};
 
-use crate::numbers::{inputs, is, lists_inputs};
+use crate::numbers::{inputs, is, lists_inputs, number};
 use crate::options::all_options;
 use std::alloc::Global;
 use verse_base::refusals::Memory;
@@ -15,9 +15,13 @@ use verse_base::refusals::Memory;
 /// The most files that a program may have.
 const MOST_FILES: usize = 16;
 /// The steps that a run may spend where the words don't say.
-const DEFAULT_STEPS: u64 = 10000000;
+pub const DEFAULT_STEPS: u64 = 10000000;
 /// The horizon of the clock where the words don't say, in milliseconds.
-const DEFAULT_UNTIL: u64 = 1000000000000;
+pub const DEFAULT_UNTIL: u64 = 1000000000000;
+/// The least number of functions of a generated load.
+const LEAST_LOAD: u64 = 2;
+/// The greatest number of functions of a generated load.
+const MOST_LOAD: u64 = 1000;
 
 /// What the words after the program's name ask for.
 #[derive(Clone, Copy)]
@@ -30,6 +34,12 @@ pub enum Request<'a> {
     Check(&'a [String]),
     /// The image of the code of the program in these files.
     Build(&'a [String]),
+    /// The listing of an image: there is one file.
+    List(&'a [String]),
+    /// The image of the code of a listing: there is one file.
+    Assemble(&'a [String]),
+    /// That the generated load of so many functions is run: 2 to 1000.
+    Load(u32),
 }
 
 /// What is to be run: the names of its files, and its inputs by the word that lists them.
@@ -43,13 +53,15 @@ pub struct Running<'a> {
 }
 
 impl<'a> Request<'a> {
-    /// The names of the files: 1 to 16, where words ask for this.
+    /// The names of the files: 1 to 16 where words ask for this, but for a load, which has none.
     pub fn files(&self) -> &'a [String]
         ensures { map string_bytes result.now ≡ names_of self.now }
     {
         match self {
             Request::Run(running) | Request::Exec(running) => running.files,
             Request::Check(files) | Request::Build(files) => files,
+            Request::List(files) | Request::Assemble(files) => files,
+            Request::Load(_) => &[],
         }
     }
 }
@@ -83,14 +95,17 @@ pub fn words_fit(words: &[String]) -> bool
 pub fn find_request(words: &[String]) -> Option<Request<'_>>
     ensures asks { MatchOption result ((c : Command) → ¬ (Says (map string_bytes words.now) c))
         (λ r. (c : Command) × Says (map string_bytes words.now) c × AsksFor r c) }
-    ensures files { IfSome result (λ r. AreFiles (names_of r)) }
+    ensures files { IfSome result (λ r. AreNamed r) }
 {
     let (command, behind) = words.split_first()?;
+    let command = command.as_str();
+    if is(command, "load") {
+        return load(behind);
+    }
     let (files, options) = split_files(behind);
     if !is_program(files) {
         return None;
     }
-    let command = command.as_str();
     if is(command, "run") {
         run(files, options)
     } else if is(command, "exec") {
@@ -99,6 +114,10 @@ pub fn find_request(words: &[String]) -> Option<Request<'_>>
         check(files, options)
     } else if is(command, "build") {
         build(files, options)
+    } else if is(command, "list") {
+        list(files, options)
+    } else if is(command, "assemble") {
+        assemble(files, options)
     } else {
         None
     }
@@ -109,6 +128,13 @@ fn is_program(files: &[String]) -> bool
     ensures { IsTrue result ↔ ((1 ≤ length files.now) × (length files.now ≤ 16)) }
 {
     !files.is_empty() && files.len() <= MOST_FILES
+}
+
+/// Whether there is one file, and nothing behind it.
+fn is_alone(files: &[String], options: &[String]) -> bool
+    ensures { IsTrue result ↔ ((length files.now ≡ 1) × (length options.now ≡ 0)) }
+{
+    files.len() == 1 && options.is_empty()
 }
 
 /// The words that name files, up to the first that does not, and those behind them.
@@ -132,7 +158,7 @@ fn run<'a>(files: &'a [String], options: &'a [String]) -> Option<Request<'a>>
         ¬ (Says (codes "run" ∷ map string_bytes files.now ++ map string_bytes options.now) c))
         (λ r. (c : Command) × Says (codes "run" ∷ map string_bytes files.now ++
         map string_bytes options.now) c × AsksFor r c) }
-    ensures files { IfSome result (λ r. AreFiles (names_of r)) }
+    ensures files { IfSome result (λ r. AreNamed r) }
 {
     Some(Request::Run(with_options(files, options)?))
 }
@@ -145,7 +171,7 @@ fn exec<'a>(files: &'a [String], options: &'a [String]) -> Option<Request<'a>>
         ¬ (Says (codes "exec" ∷ map string_bytes files.now ++ map string_bytes options.now) c))
         (λ r. (c : Command) × Says (codes "exec" ∷ map string_bytes files.now ++
         map string_bytes options.now) c × AsksFor r c) }
-    ensures files { IfSome result (λ r. AreFiles (names_of r)) }
+    ensures files { IfSome result (λ r. AreNamed r) }
 {
     if files.len() > 1 {
         return None;
@@ -180,7 +206,7 @@ fn check<'a>(files: &'a [String], options: &'a [String]) -> Option<Request<'a>>
         ¬ (Says (codes "check" ∷ map string_bytes files.now ++ map string_bytes options.now) c))
         (λ r. (c : Command) × Says (codes "check" ∷ map string_bytes files.now ++
         map string_bytes options.now) c × AsksFor r c) }
-    ensures files { IfSome result (λ r. AreFiles (names_of r)) }
+    ensures files { IfSome result (λ r. AreNamed r) }
 {
     if options.is_empty() {
         Some(Request::Check(files))
@@ -197,13 +223,64 @@ fn build<'a>(files: &'a [String], options: &'a [String]) -> Option<Request<'a>>
         ¬ (Says (codes "build" ∷ map string_bytes files.now ++ map string_bytes options.now) c))
         (λ r. (c : Command) × Says (codes "build" ∷ map string_bytes files.now ++
         map string_bytes options.now) c × AsksFor r c) }
-    ensures files { IfSome result (λ r. AreFiles (names_of r)) }
+    ensures files { IfSome result (λ r. AreNamed r) }
 {
     if options.is_empty() {
         Some(Request::Build(files))
     } else {
         None
     }
+}
+
+/// The listing of the image in the one file, where nothing is behind it.
+fn list<'a>(files: &'a [String], options: &'a [String]) -> Option<Request<'a>>
+    requires are { AreFiles (map string_bytes files.now) }
+    requires behind { BeginsWithNoFile (map string_bytes options.now) }
+    ensures asks { MatchOption result ((c : Command) →
+        ¬ (Says (codes "list" ∷ map string_bytes files.now ++ map string_bytes options.now) c))
+        (λ r. (c : Command) × Says (codes "list" ∷ map string_bytes files.now ++
+        map string_bytes options.now) c × AsksFor r c) }
+    ensures files { IfSome result (λ r. AreNamed r) }
+{
+    if is_alone(files, options) {
+        Some(Request::List(files))
+    } else {
+        None
+    }
+}
+
+/// The image of the code of the listing in the one file, where nothing is behind it.
+fn assemble<'a>(files: &'a [String], options: &'a [String]) -> Option<Request<'a>>
+    requires are { AreFiles (map string_bytes files.now) }
+    requires behind { BeginsWithNoFile (map string_bytes options.now) }
+    ensures asks { MatchOption result ((c : Command) →
+        ¬ (Says (codes "assemble" ∷ map string_bytes files.now ++ map string_bytes options.now) c))
+        (λ r. (c : Command) × Says (codes "assemble" ∷ map string_bytes files.now ++
+        map string_bytes options.now) c × AsksFor r c) }
+    ensures files { IfSome result (λ r. AreNamed r) }
+{
+    if is_alone(files, options) {
+        Some(Request::Assemble(files))
+    } else {
+        None
+    }
+}
+
+/// The load of as many functions as the one word says.
+fn load(words: &[String]) -> Option<Request<'_>>
+    ensures asks { MatchOption result ((c : Command) →
+        ¬ (Says (codes "load" ∷ map string_bytes words.now) c))
+        (λ r. (c : Command) × Says (codes "load" ∷ map string_bytes words.now) c × AsksFor r c) }
+    ensures files { IfSome result (λ r. AreNamed r) }
+{
+    let [word] = words else {
+        return None;
+    };
+    let functions = number(word.as_str(), MOST_LOAD)?;
+    if functions < LEAST_LOAD {
+        return None;
+    }
+    Some(Request::Load(functions as u32))
 }
 
 fn is_file(word: &str) -> bool

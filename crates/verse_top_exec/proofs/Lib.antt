@@ -6,3 +6,4 @@ pub mod TurnLemmas
 pub mod Leaving
 pub mod StreamLemmas
 pub mod Executions
+pub mod Shortly

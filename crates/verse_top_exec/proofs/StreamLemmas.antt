@@ -28,7 +28,7 @@ pub all_lines : (asked : Bool) (cells : Store) → FirstLines asked cells (cond 
 all_lines true cells = (length cells, ap (heap_lines 0) (sym (take_all (length cells) cells (omega arith))))
 all_lines false cells = (0, refl)
 
-ending_same : (files : ℕ) (r : Run) (e : Ending) (now steps live : ℕ) → e ≡ r.ending → now ≡ r.now → steps ≡ r.steps →
+pub ending_same : (files : ℕ) (r : Run) (e : Ending) (now steps live : ℕ) → e ≡ r.ending → now ≡ r.now → steps ≡ r.steps →
     r.live ≡ live_of r.ending live →
     ending_line files (ended e now steps live) ≡ ending_line files r
 ending_same files r e now steps live a b d l = rw (a, b, d, sym l) refl

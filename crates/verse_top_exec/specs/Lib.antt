@@ -4,3 +4,4 @@ pub mod Asking
 pub mod Cells
 pub mod Turns
 pub mod Endings
+pub mod Counts

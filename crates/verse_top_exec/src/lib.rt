@@ -2,13 +2,14 @@
 //!
 //! To be read in this order: `executing`, a code in hand or the bytes of a file; `streams`, the run
 //! of a code; `turns`, its trace; `heap_lines`, its heap; `asking`, how it is run; `stops`, why it
-//! stops. `Leaving` of specs says what is left in a sink, `Executions` what the bytes come to.
+//! stops; `counting`, a run of which the lines are only counted. `Leaving` of specs says what is left in a sink, `Executions` what the bytes come to.
 //!
 //! The public lemmas, which crates above cite, are those of `proofs/Takes`, `proofs/Leaving` and
 //! `proofs/Executions`.
 #![tactic(auto)]
 
 pub mod asking;
+pub mod counting;
 pub mod executing;
 mod heap_lines;
 pub mod stops;

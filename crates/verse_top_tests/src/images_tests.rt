@@ -1,4 +1,4 @@
-//! Tests of `exec`.
+//! Tests of `exec`, `list` and `assemble`.
 
 use crate::telling::told;
 use std::alloc::Global;
@@ -6,6 +6,7 @@ use std::test::Fail;
 use verse_base::texts::natural;
 use verse_outside::memory_files::MemFiles;
 use verse_outside::memory_sinks::MemSink;
+use verse_top_listing::{assembled_once, listed_is_assembled, listed_once};
 
 // the status, the options, the bytes of the file `i` in hexadecimal, and what `exec i` writes with
 // these options; `~` is a line feed
@@ -110,6 +111,44 @@ fn images_run(rt: HostRuntime) -> Result<(), Fail> {
         count = count.saturating_add(1);
     }
     assert_eq!(rt; count, 34);
+    Ok(())
+}
+
+fn one_word(alloc: Global, command: &str, file: &str) -> Result<Vec<String>, Fail> {
+    let mut words = Vec::new(alloc);
+    words.push(String::from_str(alloc, command)?)?;
+    words.push(String::from_str(alloc, file)?)?;
+    Ok(words)
+}
+
+// what is listed of an image is assembled to the image
+#[test]
+fn what_is_listed_is_assembled(rt: HostRuntime) -> Result<(), Fail> {
+    let alloc = rt.alloc();
+    listed_once();
+    assembled_once();
+    listed_is_assembled();
+    let list = one_word(alloc, "list", "i")?;
+    let assemble = one_word(alloc, "assemble", "l")?;
+    for row in ROWS.lines() {
+        let (_, rest) = row.split_once('`').ok_or("a status")?;
+        let (_, rest) = rest.split_once('`').ok_or("options")?;
+        let (bytes, text) = rest.split_once('`').ok_or("bytes and a text")?;
+        if text.starts_with("= image") {
+            continue;
+        }
+        let image = bytes_of(alloc, bytes)?;
+        let mut files = MemFiles::new(alloc);
+        files.add("i", image.as_slice())?;
+        let mut listing = MemSink::new(alloc, 100000, 1000)?;
+        let result = told(alloc, list.as_slice(), &mut files, &mut listing);
+        assert_eq!(rt; result, 0, "{row}");
+        files.add("l", listing.taken())?;
+        let mut out = MemSink::new(alloc, 100000, 1000)?;
+        let result = told(alloc, assemble.as_slice(), &mut files, &mut out);
+        assert_eq!(rt; result, 0, "{row}");
+        assert_eq!(rt; out.taken(), image.as_slice(), "{row}");
+    }
     Ok(())
 }
 

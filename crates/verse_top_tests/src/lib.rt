@@ -1,7 +1,7 @@
 //! The tests of the top call, of images, and of the words of a command line.
 //!
-//! To be read in this order: `telling`, what a call wrote and answered; `tests`, `run` and `check`;
-//! `images_tests`, `exec`; `words_tests`.
+//! To be read in this order: `telling`, what a call wrote and answered; `tests`, commands over
+//! files in text; `images_tests`, images and their listings; `words_tests`.
 #![tactic(auto)]
 
 #[cfg(test)]

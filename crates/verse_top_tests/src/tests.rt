@@ -1,4 +1,4 @@
-//! Tests of `run`, `check` and `build`.
+//! Tests of `run`, `check`, `build` and `load`, and of the faults of `exec`, `list` and `assemble`.
 
 use crate::telling::told;
 use std::alloc::Global;
@@ -111,6 +111,21 @@ const ROWS: &str =
 2`exec a a`a=`= words~
 2`exec a --heap --heap`a=`= words~
 2`exec`a=`= words~
+6`list x`a=`= read x~
+1`list a`a=files 1~`= image I1 0~
+2`list a b`a=`= words~
+6`assemble x`a=`= read x~
+1`assemble a`a=`= listing L1 1~
+1`assemble a`a=files 1~ops 2~func 0 0 0 0~main 0~0 Unti~1 Return~`= listing L2 5~
+1`assemble a`a=files 1~ops 2~func 0 0 0 0~main 0~0 Jump 0~1 Return~`= listing L3 5~
+1`assemble a`a=files 1~ops 2~func 0 0 0 0~main 0~0 Unit~2 Return~`= listing L4 6~
+1`assemble a`a=files 1~ops 2~func 0 0 0 0~main 0~0 Unit~`= listing L1 6~
+1`assemble a`a=files 1~ops 2~func 0 0 0 0~main 0~0 Unit~1 Return`= listing L1 6~
+1`assemble a`a=files 1~ops 2~func 0 0 0 0~main 0~0 Unit~1 Return~~`= listing L1 7~
+1`assemble a`a=files 0~ops 2~`= listing L3 1~
+0`load 2`a=`= done at 2 steps 19 live 0~= lines 6~
+0`load 3`a=`= done at 3 steps 28 live 0~= lines 9~
+2`load 1`a=`= words~
 2`check a.verse --heap`a.verse=Main():void =~    Print(\"hi\")~`= words~
 2`check`a.verse=Main():void =~    Print(\"hi\")~`= words~
 0`check a b`a=|b=Main():void =~    Print(\"hi\")~`= ok~
@@ -177,7 +192,7 @@ fn rows_are_told(rt: HostRuntime) -> Result<(), Fail> {
         assert_eq!(rt; out.taken(), lines(alloc, text)?.as_slice(), "{row}");
         count = count.saturating_add(1);
     }
-    assert_eq!(rt; count, 113);
+    assert_eq!(rt; count, 128);
     Ok(())
 }
 

@@ -106,7 +106,28 @@ run a b c d e f g h i j k l m n o p | run a,b,c,d,e,f,g,h,i,j,k,l,m,n,o,p 100000
 run a b c d e f g h i j k l m n o p q | none
 check a b c d e f g h i j k l m n o p | check a,b,c,d,e,f,g,h,i,j,k,l,m,n,o,p
 check a b c d e f g h i j k l m n o p q | none
-Check a | none";
+Check a | none
+build a b | build a,b
+build a --heap | none
+list a | list a
+list | none
+list a b | none
+list a --heap | none
+list -x | none
+assemble a | assemble a
+assemble a b | none
+assemble a --steps 1 | none
+load 2 | load - 2
+load 1000 | load - 1000
+load 1 | none
+load 0 | none
+load 1001 | none
+load 02 | none
+load 2 3 | none
+load 2 --heap | none
+load a | none
+load -2 | none
+load | none";
 
 fn zeros(alloc: Global, count: u64) -> Result<String, AllocError> {
     let mut text = String::from_str(alloc, "0")?;
@@ -190,7 +211,9 @@ fn words_are_read(rt: HostRuntime) -> Result<(), Fail> {
         };
         assert!(rt; words_fit(&words), "{line}");
         let files = joined(alloc, request.files())?;
-        assert_eq!(rt; expected.next().ok_or("files")?, files.as_str(), "{line}");
+        let named = expected.next().ok_or("files")?;
+        let named = if named == "-" { "" } else { named };
+        assert_eq!(rt; named, files.as_str(), "{line}");
         let (name, running, ints) = match request {
             Request::Run(running) => ("run", running, inputs_of(alloc, running)?),
             Request::Exec(running) => ("exec", running, inputs_of(alloc, running)?),
@@ -200,6 +223,20 @@ fn words_are_read(rt: HostRuntime) -> Result<(), Fail> {
             }
             Request::Build(_) => {
                 assert_eq!(rt; command, "build", "{line}");
+                continue;
+            }
+            Request::List(_) => {
+                assert_eq!(rt; command, "list", "{line}");
+                continue;
+            }
+            Request::Assemble(_) => {
+                assert_eq!(rt; command, "assemble", "{line}");
+                continue;
+            }
+            Request::Load(functions) => {
+                assert_eq!(rt; command, "load", "{line}");
+                let count = number(expected.next());
+                assert_eq!(rt; count, Some(u64::from(functions)), "{line}");
                 continue;
             }
         };
@@ -212,7 +249,7 @@ fn words_are_read(rt: HostRuntime) -> Result<(), Fail> {
         let given = plain(alloc, if given == "-" { "''" } else { given })?;
         assert_eq!(rt; ints.as_slice(), given.as_bytes(), "{line}");
     }
-    assert_eq!(rt; count, 94);
+    assert_eq!(rt; count, 115);
     words_say_once();
     Ok(())
 }

@@ -1,6 +1,6 @@
 -- What comes of the files of the command, and what is done with the program in them.
 use Rattle.std.proofs.Common.{◌≡◌, List, ℕ, inl, map, string_bytes, refl, sym, subst, ◌∙◌}
-use Rattle.verse_top_args.specs.Words.{files_of}
+use Rattle.verse_top_args.specs.Words.{AreFiles, files_of}
 use Rattle.verse_top_exec.specs.declared.stops.Stop.TheVariants as stop
 use Rattle.verse_top_exec.specs.Leaving.{Leaves}
 use Rattle.verse_top_exec.proofs.Leaving.{at_error, leaves_as, leaves_nothing}
@@ -9,9 +9,12 @@ use Rattle.verse_top.specs.Fronted.{Fronts}
 use Rattle.verse_top.specs.Loading.{AreLoaded}
 use Rattle.verse_top.specs.declared.fronts.Fronted.{Fronted}
 use Rattle.verse_top.specs.declared.fronts.Fronted.TheVariants as f
-use Rattle.verse_top.proofs.AnswerLaws.{asks_for_files, asks_for_program}
+use Rattle.verse_top.proofs.AnswerLaws.{asks_for_files, asks_for_program, program_named}
 use Rattle.verse_top.proofs.ExecuteLaws.{leaves_answer}
 use Rattle.verse_top.proofs.call.over_program.Goals as goal
+
+pub front-requires : goal.front-requires
+front-requires g c = subst AreFiles (sym c.files.ensures) (program_named c.args.request c.requires.program c.requires.files)
 
 pub returns-in_err-program-clause-leaves : goal.returns-in_err-program-clause-leaves
 returns-in_err-program-clause-leaves g c d asks =

@@ -1,5 +1,5 @@
 -- So many words name files, and the next one does not.
-use Rattle.std.proofs.Common.{◌+◌, ◌≤◌, ◌<◌, length, string_bytes, sym, subst, arith, slice_index_or}
+use Rattle.std.proofs.Common.{◌<◌, length, string_bytes, subst, arith}
 use Rattle.verse_top_args.specs.Words.{IsFile}
 use Rattle.verse_top_args.proofs.FileLemmas.{one_more}
 use Rattle.verse_top_args.proofs.commands.split_files.Goals as goal

@@ -1,6 +1,5 @@
 -- The word of the inputs lists none.
 use Rattle.std.proofs.Common.{subst}
-use Rattle.verse_top_args.specs.Settings.{given_of}
 use Rattle.verse_top_args.specs.Words.{Inputs}
 use Rattle.verse_top_args.proofs.OptionLemmas.{gives_once}
 use Rattle.verse_top_args.proofs.commands.with_options.Goals as goal

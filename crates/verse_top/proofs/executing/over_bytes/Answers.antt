@@ -1,0 +1,51 @@
+-- One case for each command over one file.
+use Rattle.std.proofs.Common.{map, string_bytes, refl, subst}
+use Rattle.verse_top_args.specs.Requests.{AsksFor}
+use Rattle.verse_top_args.specs.declared.commands.Request.{Request}
+use Rattle.verse_top_exec.specs.declared.stops.Stop.TheVariants as stop
+use Rattle.verse_top_exec.specs.Leaving.{Leaves}
+use Rattle.verse_top_exec.proofs.Leaving.{at_error, leaves_nothing}
+use Rattle.verse_top.specs.Answers.{Answers, Begins, nothing}
+use Rattle.verse_top.proofs.ExecuteLaws.{leaves_assembled, leaves_executed, leaves_listed}
+use Rattle.verse_top.proofs.executing.over_bytes.Goals as goal
+
+pub returns-in-Exec-clause-leaves : goal.returns-in-Exec-clause-leaves
+returns-in-Exec-clause-leaves g c held d name asks named read =
+    let a = subst (λ (q : Request). AsksFor q d) c.in-Exec.is asks in
+    leaves_executed held (g.S.Sink.faults c.args.out.now) (g.S.Sink.faults c.run_image.new.out) (g.S.Sink.taken c.args.out.now)
+    (g.S.Sink.taken c.run_image.new.out) c.run_image.result name c.args.bytes.now read c.in-Exec.running d a named
+    (c.run_image.ensures.leaves a.ints a.lists)
+
+pub returns-in_err-answer-in-List-clause-leaves : goal.returns-in_err-answer-in-List-clause-leaves
+returns-in_err-answer-in-List-clause-leaves g c held d name asks named read =
+    let faults = g.S.Sink.faults c.args.out.now in
+    let taken = g.S.Sink.taken c.args.out.now in
+    at_error c.from_residual.result (Leaves (Answers held d) (Begins held d) faults faults taken taken) stop.Memory
+    c.from_residual.ensures.1
+    (leaves_nothing (Answers held d) (Begins held d) faults faults taken taken (nothing d) refl)
+
+pub returns-in_ok-answer-in-List-clause-leaves : goal.returns-in_ok-answer-in-List-clause-leaves
+returns-in_ok-answer-in-List-clause-leaves g c held d name asks named read =
+    let answer = c.in_ok-answer-in-List.answer in
+    leaves_listed held (g.S.Sink.faults c.args.out.now) (g.S.Sink.faults c.write_answer.new.out) (g.S.Sink.taken c.args.out.now)
+    (g.S.Sink.taken c.write_answer.new.out) c.write_answer.result name c.args.bytes.now read
+    (map string_bytes c.in-List.field-0.now) d answer.status answer.text.items
+    (subst (λ (q : Request). AsksFor q d) c.in-List.is asks) named c.in_ok-answer-in-List.ensures c.write_answer.ensures.leaves
+
+pub returns-in_err-answer-in-Assemble-clause-leaves : goal.returns-in_err-answer-in-Assemble-clause-leaves
+returns-in_err-answer-in-Assemble-clause-leaves g c held d name asks named read =
+    let faults = g.S.Sink.faults c.args.out.now in
+    let taken = g.S.Sink.taken c.args.out.now in
+    at_error c.from_residual-in_err-answer-in-Assemble.result (Leaves (Answers held d) (Begins held d) faults faults taken taken) stop.Memory
+    c.from_residual-in_err-answer-in-Assemble.ensures.1
+    (leaves_nothing (Answers held d) (Begins held d) faults faults taken taken (nothing d) refl)
+
+pub returns-in_ok-answer-in-Assemble-clause-leaves : goal.returns-in_ok-answer-in-Assemble-clause-leaves
+returns-in_ok-answer-in-Assemble-clause-leaves g c held d name asks named read =
+    let answer = c.in_ok-answer-in-Assemble.answer in
+    leaves_assembled held (g.S.Sink.faults c.args.out.now) (g.S.Sink.faults c.write_answer-in-Assemble.new.out)
+    (g.S.Sink.taken c.args.out.now)
+    (g.S.Sink.taken c.write_answer-in-Assemble.new.out) c.write_answer-in-Assemble.result name c.args.bytes.now
+    read (map string_bytes c.in-Assemble.field-0.now) d answer.status answer.text.items
+    (subst (λ (q : Request). AsksFor q d) c.in-Assemble.is asks) named c.in_ok-answer-in-Assemble.ensures
+    c.write_answer-in-Assemble.ensures.leaves
