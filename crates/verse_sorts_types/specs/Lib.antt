@@ -1,0 +1,2 @@
+pub mod SortOf
+pub mod Laws

@@ -1,0 +1,5 @@
+pub mod Numbers
+pub mod Values
+pub mod Making
+pub mod Paths
+pub mod Cells

@@ -1,0 +1,4 @@
+pub mod Names
+pub mod Waiting
+pub mod Worlds
+pub mod Going
