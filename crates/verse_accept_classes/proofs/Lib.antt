@@ -1,0 +1,15 @@
+pub mod Places
+pub mod Sums
+pub mod Lines
+pub mod Classes
+pub mod Names
+pub mod Parents
+pub mod Circles
+pub mod Functions
+pub mod Fields
+pub mod Ancestors
+pub mod Apart
+pub mod Methods
+pub mod Referring
+pub mod Tables
+pub mod Bodies

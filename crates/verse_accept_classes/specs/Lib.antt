@@ -1,0 +1,4 @@
+pub mod Owners
+pub mod Inheriting
+pub mod Referring
+pub mod Laws

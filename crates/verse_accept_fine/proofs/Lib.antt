@@ -1,0 +1,11 @@
+pub mod Rules
+pub mod Base
+pub mod Operators
+pub mod Control
+pub mod Arms
+pub mod Names
+pub mod Members
+pub mod Calls
+pub mod Instances
+pub mod Enums
+pub mod Whole

@@ -1,0 +1,9 @@
+pub mod Low
+pub mod Parts
+pub mod Forms
+pub mod Naming
+pub mod Quiet
+pub mod Passing
+pub mod Names
+pub mod Effects
+pub mod Whole

@@ -1,0 +1,4 @@
+pub mod Rows
+pub mod Agreeing
+pub mod Holding
+pub mod Whole
