@@ -1,0 +1,5 @@
+pub mod Lists
+pub mod Leaving
+mod Operating
+pub mod Running
+mod Cancelled

@@ -1,0 +1,4 @@
+mod Examples
+pub mod Fitting
+pub mod Cutting
+pub mod Leading

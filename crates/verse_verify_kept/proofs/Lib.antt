@@ -1,0 +1,27 @@
+pub mod Locals
+pub mod Places
+pub mod Going
+pub mod Acts
+pub mod Blocks
+pub mod Chains
+pub mod Worlds
+pub mod Resting
+pub mod Ending
+pub mod Tasking
+pub mod Waking
+pub mod Values
+pub mod Whole
+pub mod Paths
+pub mod Storing
+pub mod Simple
+pub mod Domains
+pub mod Methods
+pub mod Spawning
+pub mod Taking
+pub mod Collecting
+pub mod Every
+pub mod Naming
+pub mod Parenting
+pub mod Chained
+pub mod NeverStuck
+mod Example
