@@ -1,0 +1,12 @@
+mod Horizons
+mod Signals
+mod Reached
+mod Numbers
+mod Spreading
+mod Settings
+mod Ends
+mod Acts
+mod Runs
+mod Resumed
+mod Paired
+mod Tables

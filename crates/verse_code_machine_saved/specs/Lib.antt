@@ -1,0 +1,4 @@
+pub mod Horizons
+pub mod Numbers
+pub mod Resuming
+pub mod Pairing
