@@ -1,5 +1,6 @@
 -- A run of a valid code ends from a state between two turns as well, and what follows for one who takes its turns.
-use Rattle.std.proofs.Common.{◌≡◌, ℕ, zero, suc, length, ◌+◌, ◌*◌, ◌≤◌, List, [], ◌∷◌, true, refl, sym, ap, subst, arith}
+use Rattle.std.proofs.Common.{◌≡◌, ℕ, zero, suc, length, ◌+◌, ◌*◌, ◌≤◌, List, [], ◌∷◌, true, refl, sym}
+use Rattle.std.proofs.Common.{ap, subst, arith}
 use Rattle.std.proofs.Math.Nat.{mul-le-mul_left}
 use Rattle.verse_code.specs.declared.codes.Class.{Class}
 use Rattle.verse_code.specs.declared.codes.Code.{Code}
@@ -11,9 +12,10 @@ use Rattle.verse_code_machine.specs.Frames.{fits, free}
 use Rattle.verse_code_machine.specs.Runs.{Forest, turn_taken}
 use Rattle.verse_code_machine.specs.Laws.{IsWhole, IsOver}
 use Rattle.verse_code_machine.specs.Belonging.{HandlersBelong, FramesBelong, TasksBelong, TreesBelong}
-use Rattle.verse_code_machine.specs.Goings.{gone_from, TasksAreFree, TreesAreFree, tasks_frames, trees_frames, CanGoOn, RunEndsFrom}
-use Rattle.verse_code_machine.specs.Goings.{RunsEndFrom, StaysOverFrom, RunBelongsFrom}
-use Rattle.verse_code_machine.proofs.Weights.{Kept, FramesAre, TasksAre, TreesAre, frames_weight, tasks_weight, trees_weight}
+use Rattle.verse_code_machine.specs.Goings.{gone_from, TasksAreFree, TreesAreFree, tasks_frames, trees_frames}
+use Rattle.verse_code_machine.specs.Goings.{CanGoOn, RunEndsFrom, RunsEndFrom, StaysOverFrom, RunBelongsFrom}
+use Rattle.verse_code_machine.proofs.Weights.{Kept, FramesAre, TasksAre, TreesAre}
+use Rattle.verse_code_machine.proofs.Weights.{frames_weight, tasks_weight, trees_weight}
 use Rattle.verse_code_machine.proofs.Whole.{Within, turns_within, is_whole, is_over, turns_more}
 use Rattle.verse_code_machine.proofs.BelongingRuns.{turns_belong}
 
@@ -73,8 +75,8 @@ module _ (n : ℕ) where
       left * (2 * n + 4) + w + 0 * (2 * n + 4) ≤ (left + spent) * (2 * n + 4)
   steps_carry left spent w f light few = omega (arith, light, mul-le-mul_left (n + 1) few)
 
-goes_within : (c : Code) (valid : Valid c) (steps : ℕ) (s : State) (tss : Forest) → s.clock.left + s.clock.spent ≡ steps →
-    CanGoOn s tss → Within c valid.operations steps 0 (going s tss)
+goes_within : (c : Code) (valid : Valid c) (steps : ℕ) (s : State) (tss : Forest) →
+    s.clock.left + s.clock.spent ≡ steps → CanGoOn s tss → Within c valid.operations steps 0 (going s tss)
 goes_within c valid steps s tss e can =
     subst (λ z. Within c valid.operations z 0 (going s tss)) e (
       steps_carry (length c.ops) s.clock.left s.clock.spent _ _ (trees_weigh
@@ -82,18 +84,21 @@ goes_within c valid steps s tss e can =
       trees_are tss can.are_free,
     )
 
-gone_within : (c : Code) (valid : Valid c) (steps until k : ℕ) (s : State) (tss : Forest) → s.clock.left + s.clock.spent ≡ steps →
-    CanGoOn s tss → Within c valid.operations steps k (gone_from c steps until k s tss)
+gone_within : (c : Code) (valid : Valid c) (steps until k : ℕ) (s : State) (tss : Forest) →
+    s.clock.left + s.clock.spent ≡ steps → CanGoOn s tss →
+    Within c valid.operations steps k (gone_from c steps until k s tss)
 gone_within c valid steps until k s tss e can =
-    subst (λ z. Within c valid.operations steps z (gone_from c steps until k s tss)) (omega arith) (turns_within c valid.operations steps
-    until 0 k (going s tss) (goes_within c valid steps s tss e can))
+    subst (λ z. Within c valid.operations steps z (gone_from c steps until k s tss)) (omega arith)
+    (turns_within c valid.operations steps until 0 k (going s tss) (goes_within c valid steps s tss e can))
 
 pub runs_end_from : RunsEndFrom
-runs_end_from c steps until s tss valid e can = record {
-  whole = λ k. is_whole c valid.operations steps k (gone_from c steps until k s tss) (gone_within c valid steps until k s tss e can);
-  over = is_over c valid.operations steps (gone_from c steps until (suc steps) s tss) (gone_within c valid steps until (suc steps) s tss e
-      can);
-}
+runs_end_from c steps until s tss valid e can =
+    let within : (k : ℕ) → Within c valid.operations steps k (gone_from c steps until k s tss) =
+    λ k. gone_within c valid steps until k s tss e can in
+    record {
+      whole = λ k. is_whole c valid.operations steps k (gone_from c steps until k s tss) (within k);
+      over = is_over c valid.operations steps (gone_from c steps until (suc steps) s tss) (within (suc steps));
+    }
 
 pub stays_over_from : StaysOverFrom
 stays_over_from c steps until k j s tss h = turns_more (turn_taken c steps until) k j (going s tss) h

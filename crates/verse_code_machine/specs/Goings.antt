@@ -35,8 +35,8 @@ abbrev pub trees_frames : Forest → ℕ
 trees_frames [] = 0
 trees_frames (ts ∷ tss) = tasks_frames ts + trees_frames tss
 
--- What a run can go on from: no suspended task has a handler or a noted place, and there are at most two frames for each step that was
--- spent. A run has at most one for each, and one more.
+-- what a run can go on from: no suspended task has a handler or a noted place, and for each step
+-- that was spent there are at most two frames
 pub record CanGoOn (s : State) (tss : Forest) : Type 0 where
   pub are_free : TreesAreFree tss
   pub few : trees_frames tss ≤ 2 * s.clock.spent
@@ -48,15 +48,17 @@ pub record RunEndsFrom (c : Code) (steps until : ℕ) (s : State) (tss : Forest)
 
 -- the run's steps are those that are left and those that were spent
 abbrev pub RunsEndFrom : Type 0
-RunsEndFrom = (c : Code) (steps until : ℕ) (s : State) (tss : Forest) → Valid c → s.clock.left + s.clock.spent ≡ steps →
-    CanGoOn s tss → RunEndsFrom c steps until s tss
+RunsEndFrom = (c : Code) (steps until : ℕ) (s : State) (tss : Forest) → Valid c →
+    s.clock.left + s.clock.spent ≡ steps → CanGoOn s tss → RunEndsFrom c steps until s tss
 
 -- a run that is over stays over
 abbrev pub StaysOverFrom : Type 0
-StaysOverFrom = (c : Code) (steps until k j : ℕ) (s : State) (tss : Forest) → IsOver (gone_from c steps until k s tss) →
+StaysOverFrom = (c : Code) (steps until k j : ℕ) (s : State) (tss : Forest) →
+    IsOver (gone_from c steps until k s tss) →
     gone_from c steps until (k + j) s tss ≡ gone_from c steps until k s tss
 
 -- from a state that belongs to its code, every state of a run does
 abbrev pub RunBelongsFrom : Type 0
-RunBelongsFrom = (c : Code) (steps until k : ℕ) (s : State) (tss : Forest) → StateBelongs c.classes s → TreesBelong c.classes tss →
+RunBelongsFrom = (c : Code) (steps until k : ℕ) (s : State) (tss : Forest) →
+    StateBelongs c.classes s → TreesBelong c.classes tss →
     StageBelongs c.classes (gone_from c steps until k s tss)

@@ -1,8 +1,8 @@
 //! What a machine does with bytecode: its tasks, each operation, cancelling, and whole runs. Read
 //! the definitions in this order: `Tasks`, `Frames`, `Cancelling`, `Ends`, `Acts` (one case for
 //! each operation), `Runs`, `Belonging`, `Laws`, `Goings` (runs from a state between two turns).
-//! `Acts` in proofs shows that each operation lowers a weight. The public lemmas, which crates above
-//! cite, are those of `proofs/Goings`.
+//! `Acts` in proofs shows that each operation lowers a weight. The public lemmas, which crates
+//! above cite, are those of `proofs/Goings`.
 #![tactic(auto)]
 
 ghost use Rattle.verse_code_machine.specs.Belonging.{OperationKeeps, RunBelongs};
