@@ -1,4 +1,5 @@
 mod Whole
 mod Popped
+mod Anywhere
 mod Unwound
 mod RuleSets

@@ -3,15 +3,17 @@
 ghost use Rattle.std.specs.Prelude.{ℕ, ◌≡◌, ◌≢◌, ◌<◌, ◌≤◌, [], ◌∷◌, ◌++◌, ◌+◌, vec_len};
 ghost use Rattle.std.specs.Prelude.{vec_capacity, true, false, Some, None, List, OnOk, OnErr, IfOk};
 ghost use Rattle.std.specs.Prelude.{IfErr, IfSome, IfNone, length, slice_get, reverse};
+ghost use Rattle.std.specs.Prelude.{option_map, ◌-◌};
 ghost use Rattle.verse_value.specs.View.{val_of, vals_of};
 ghost use Rattle.verse_meaning_state.specs.State.{Memory as Kept};
 ghost use Rattle.verse_code_machine.specs.Frames.{nothing};
 ghost use Rattle.fiber.specs.Frames.{kept_defers};
-ghost use Rattle.vm_frames.specs.Framed.{is_guarded, born_of, place_of, locals_of, stack_of};
+ghost use Rattle.vm_frames.specs.Framed.{Framed, is_guarded, born_of, place_of, locals_of};
+ghost use Rattle.vm_frames.specs.Framed.{stack_of};
 ghost use Rattle.vm_frames.specs.Framed.{handlers_of, defers_of, noted_of};
 ghost use Rattle.vm_frames.specs.Calls.{entered, alone, pushed, popped, popped_many, left, permits};
 ghost use Rattle.vm_frames.specs.Calls.{moved, with_local, guarded, released, unwound, deferred};
-ghost use Rattle.vm_frames.specs.Calls.{taken, ended};
+ghost use Rattle.vm_frames.specs.Calls.{taken, ended, added, framed_at};
 ghost use Rattle.vm_frames.specs.Machine.{frames_with, all_free, life_of};
 
 use fiber::bounding::Window;
@@ -82,6 +84,27 @@ impl Thread {
         let fiber = self.fiber.copy_at(alloc, place)?;
         Ok(Thread { fiber, births })
     }
+
+    /// One frame with these parts, the operands and deferred blocks the newest last, with no
+    /// handler and no noted place, and with room to note a place for each deferred block. So many
+    /// steps were left when it began.
+    pub fn rebuilt(
+        alloc: Global,
+        place: u32,
+        locals: Vec<Value>,
+        stack: Vec<Value>,
+        defers: Vec<u32>,
+        born: u64,
+    ) -> Result<Thread, Memory>
+        ensures { IfOk result (λ t. t ≡
+            added born place (vals_of locals.items) (vals_of (reverse stack.items))
+            (reverse defers.items) []) }
+    {
+        let mut births = Vec::new(alloc);
+        births.push(born)?;
+        let fiber = Fiber::rebuilt(alloc, place, locals, stack, defers)?;
+        Ok(Thread { fiber, births })
+    }
 }
 
 /// The frames one on another.
@@ -98,6 +121,28 @@ impl Thread {
         }
         self.births.reserve(1)?;
         self.fiber.enter(func, args)?;
+        keep(&mut self.births, born);
+        Ok(())
+    }
+
+    /// A frame on top with these parts, as `rebuilt` makes one. There are fewer than 4294967295
+    /// frames.
+    pub fn add_frame(
+        &mut self,
+        place: u32,
+        locals: Vec<Value>,
+        stack: Vec<Value>,
+        defers: Vec<u32>,
+        born: u64,
+    ) -> Result<(), Memory>
+        requires { length self.old < 4294967295 }
+        ensures ok { OnOk result (self.new ≡
+            added born place (vals_of locals.items) (vals_of (reverse stack.items))
+            (reverse defers.items) self.old) }
+        ensures err { OnErr result (self.new ≡ self.old) }
+    {
+        self.births.reserve(1)?;
+        self.fiber.add_frame(place, locals, stack, defers)?;
         keep(&mut self.births, born);
         Ok(())
     }
@@ -389,5 +434,55 @@ impl Thread {
         ensures same { IfNone result (self.new ≡ self.old) }
     {
         self.fiber.end_defer()
+    }
+}
+
+/// Any frame by its number; that of the lowest is 0. None of these takes memory.
+impl Thread {
+    /// The steps that were left when it began.
+    pub fn frame_born(&self, i: u32) -> u64
+        requires { i < length self.now }
+        ensures { option_map (λ (f : Framed). f.born) (framed_at i self.now) ≡ Some result }
+    {
+        let above = (self.depth() - i) as usize;
+        match self.births.len().checked_sub(above) {
+            Some(at) => self.births[at],
+            None => 0,
+        }
+    }
+
+    /// Its place.
+    pub fn frame_place(&self, i: u32) -> u32
+        requires { i < length self.now }
+        ensures { option_map (λ (f : Framed). f.frame.place) (framed_at i self.now) ≡ Some result }
+    {
+        self.fiber.frame_place(i)
+    }
+
+    /// Its locals.
+    pub fn frame_locals(&self, i: u32) -> &[Value]
+        requires { i < length self.now }
+        ensures { option_map (λ (f : Framed). f.frame.locals) (framed_at i self.now) ≡
+            Some (vals_of result.now) }
+    {
+        self.fiber.frame_locals(i)
+    }
+
+    /// Its operands above its innermost handler, the newest last.
+    pub fn frame_stack(&self, i: u32) -> &[Value]
+        requires { i < length self.now }
+        ensures { option_map (λ (f : Framed). f.frame.stack) (framed_at i self.now) ≡
+            Some (vals_of (reverse result.now)) }
+    {
+        self.fiber.frame_stack(i)
+    }
+
+    /// Its deferred blocks, the newest last.
+    pub fn frame_defers(&self, i: u32) -> &[u32]
+        requires { i < length self.now }
+        ensures { option_map (λ (f : Framed). f.frame.defers) (framed_at i self.now) ≡
+            Some (reverse result.now) }
+    {
+        self.fiber.frame_defers(i)
     }
 }
