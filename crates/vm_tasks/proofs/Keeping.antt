@@ -1,5 +1,5 @@
 -- Of which tasks those are that are left, and the frames that are kept, where some are cancelled.
-use Rattle.std.proofs.Common.{◌≡◌, ◌⊎◌, inl, inr, ℕ, false, List, [], ◌∷◌, ◌++◌, subst}
+use Rattle.std.proofs.Common.{◌⊎◌, inl, inr, ℕ, List, [], ◌∷◌, ◌++◌, subst}
 use Rattle.task_tree.specs.Tasks.{Task}
 use Rattle.task_tree.specs.Removing.{Parts, all_parted, one_goes, one_stays}
 use Rattle.verse_code_machine.specs.Tasks.{Frame}
@@ -32,13 +32,13 @@ module _ {F : Type 0} where
   parts_left R old gone left t (one_stays {old = xs} {gone = ys} {left = zs} u r q) (later_in _ i) =
       later_in u (parts_left R xs ys zs t q i)
 
-  since_left : (slot : Slot F → table.Slot) (id bound : ℕ) (ts gone new : List (Task (Slot F))) (t : Task (Slot F)) →
+  pub since_left : (slot : Slot F → table.Slot) (id bound : ℕ) (ts gone new : List (Task (Slot F))) (t : Task (Slot F)) →
       CancelsSince slot id bound ts gone new → In t new → In t ts
   since_left slot id bound ts gone new t (none_younger tree none) i = i
   since_left slot id bound ts gone new t (one_younger c u first mid later tree young at less cancels more is) i =
       parts_left _ ts first mid t cancels (since_left slot id bound mid later new t more i)
 
-  since_gone : (slot : Slot F → table.Slot) (id bound : ℕ) (ts gone new : List (Task (Slot F))) (t : Task (Slot F)) →
+  pub since_gone : (slot : Slot F → table.Slot) (id bound : ℕ) (ts gone new : List (Task (Slot F))) (t : Task (Slot F)) →
       CancelsSince slot id bound ts gone new → In t gone → In t ts
   since_gone slot id bound ts gone new t (none_younger tree none) i = elim i [ ]
   since_gone slot id bound ts gone new t (one_younger c u first mid later tree young at less cancels more is) i =
@@ -55,7 +55,7 @@ module _ {F : Type 0} where
         | inr k ↦ (t, first_in, k)
       ]
 
-no_frames : {F : Type 0} → F → Frame × List Frame
+pub no_frames : {F : Type 0} → F → Frame × List Frame
 no_frames f = (record { life = record { born = 0; defers = []; noted = [] }; locals = []; stack = []; place = 0; handlers = [] }, [])
 
 module _ {F W : Type 0} (pending : W → List Pending) where

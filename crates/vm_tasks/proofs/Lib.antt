@@ -2,3 +2,4 @@ pub mod Clearing
 pub mod Meaning
 pub mod Endings
 pub mod Keeping
+pub mod Losing

@@ -1,5 +1,5 @@
 -- What is told of a cancelled task, and of all that a task has begun since so many steps were left.
-use Rattle.std.specs.Prelude.{◌≡◌, ◌⊎◌, ◌<◌, ◌≤◌, ℕ, false, List, [], ◌∷◌, ◌++◌, Some}
+use Rattle.std.specs.Prelude.{◌≡◌, ◌≢◌, ◌⊎◌, ◌<◌, ◌≤◌, ℕ, ◌+◌, true, false, List, [], ◌∷◌, ◌++◌, length, Some, vec_capacity}
 use Rattle.task_tree.specs.Tasks.{Task, task_at, youngest}
 use Rattle.task_tree.specs.Removing.{Visited}
 use Rattle.verse_code_machine.specs.Tasks.{Frame}
@@ -38,7 +38,28 @@ pub data In {A : Type 0} (x : A) : List A → Type 0 where
   first_in : {xs : List A} → In x (x ∷ xs)
   later_in : {xs : List A} (y : A) → In x xs → In x (y ∷ xs)
 
+module _ {F : Type 0} where
+  -- a task that is gone had frames
+  pub record HadFrames (old new : List (Task (Slot F))) : Type 0 where
+    pub task : Task (Slot F)
+    pub was : In task old
+    pub is_gone : In task new → ⊥
+    pub some : frames_in task.item.held ≢ []
+
 module _ {F W : Type 0} where
+  -- one more can be kept only where memory is had
+  abbrev pub IsFull : Gone F W → Type 0
+  IsFull g = vec_capacity g.frames ≤ length g.frames.items
+
+  -- the frames of all these tasks can be kept, too
+  abbrev pub HasRoom : List (Task (Slot F)) → Gone F W → Type 0
+  HasRoom ts g = length g.frames.items + length ts ≤ vec_capacity g.frames
+
+  -- frames are lost only for want of memory: not where there is room for all, and not where no cancelled task had any
+  pub record LosesFew (old new : List (Task (Slot F))) (before behind : Gone F W) : Type 0 where
+    pub with_room : HasRoom old before → (behind.lost ≡ before.lost) × HasRoom new behind
+    pub cause : behind.lost ≡ true → (before.lost ≡ true) ⊎ HadFrames old new
+
   -- those that are left were there, and the frames that are kept are of tasks that were there
   pub record KeepsEach (old new : List (Task (Slot F))) (before behind : Gone F W) : Type 0 where
     pub tasks : (t : Task (Slot F)) → In t new → In t old
@@ -50,6 +71,9 @@ module _ {F W : Type 0} (pending : W → List Pending) where
   pub record Leaves (old : Gone F W) (id : ℕ) (item : Slot F) (new : Gone F W) : Type 0 where
     pub waits : pending new.waits ≡ without_wait item.held (pending old.waits)
     pub kept : new.lost ≡ false → (old.lost ≡ false) × (new.frames.items ≡ old.frames.items ++ frames_in item.held)
+    pub cause : new.lost ≡ true → (old.lost ≡ true) ⊎ ((frames_in item.held ≢ []) × IsFull old)
+    pub few : length new.frames.items ≤ length old.frames.items + 1
+    pub room : vec_capacity old.frames ≤ vec_capacity new.frames
 
   pub record Cleared (id bound : ℕ) (old new : List (Task (Slot F))) (before behind : Gone F W) : Type 0 where
     pub gone : List (Task (Slot F))

@@ -3,3 +3,5 @@ pub mod Gone
 pub mod Begun
 pub mod Standing
 pub mod Ending
+pub mod Putting
+pub mod Reading

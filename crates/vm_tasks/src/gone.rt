@@ -1,6 +1,8 @@
 //! What is left of cancelled tasks.
 
-ghost use Rattle.std.specs.Prelude.{◌≡◌, false, ◌++◌, ◌∷◌, []};
+ghost use Rattle.std.specs.Prelude.{◌≡◌, ◌≤◌, ◌+◌, ◌⊎◌, true, false, ◌++◌, ◌∷◌, [], length};
+ghost use Rattle.std.specs.Prelude.{vec_capacity};
+ghost use Rattle.vm_tasks.specs.Gone.{IsFull};
 
 use crate::slots::{Held, Slot};
 use sim_clock::waits::Waits;
@@ -13,16 +15,20 @@ pub struct Gone<F, W> {
     pub waits: W,
     pub frames: Vec<F>,
     /// Whether frames were let go for want of memory. They are not where there is room for those
-    /// of all tasks.
+    /// of all tasks, and not where no cancelled task had any.
     pub lost: bool,
 }
 
 impl<F: Drop, W> Gone<F, W> {
+    /// Keeps the frames of one task more. Takes no memory where there is room for them.
     fn keep(&mut self, frames: F)
         ensures waits { self.new.waits ≡ self.old.waits }
         ensures kept { self.new.lost ≡ false →
             (self.old.lost ≡ false) × (self.new.frames.items ≡ self.old.frames.items ++
             frames ∷ []) }
+        ensures cause { self.new.lost ≡ true → (self.old.lost ≡ true) ⊎ IsFull self.old }
+        ensures few { length self.new.frames.items ≤ length self.old.frames.items + 1 }
+        ensures room { vec_capacity self.old.frames ≤ vec_capacity self.new.frames }
     {
         if self.frames.push(frames).is_err() {
             self.lost = true;

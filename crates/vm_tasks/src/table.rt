@@ -7,7 +7,7 @@ ghost use Rattle.task_tree.specs.Nested.{IsTree};
 ghost use Rattle.vm_tasks.specs.declared.slots.Root.TheVariants.{Part as APart, Spawned};
 ghost use Rattle.vm_tasks.specs.declared.slots.Held.TheVariants.{ByMachine, Asleep};
 ghost use Rattle.vm_tasks.specs.Begun.{Begun, Reheld, Grouped};
-ghost use Rattle.vm_tasks.specs.Gone.{IsYounger, NoYounger, Cleared, KeepsEach};
+ghost use Rattle.vm_tasks.specs.Gone.{IsYounger, NoYounger, Cleared, KeepsEach, LosesFew};
 ghost use Rattle.vm_tasks.specs.Ending.{IsAlone, Ended, Wakes, FallsAsleep};
 ghost use Rattle.sim_clock.specs.Pending.{IsAboveAll};
 ghost use Rattle.vm_tasks.specs.Standing.{Branches, BeginsArm, Spawns, SetsDown, BeginsGroup};
@@ -24,7 +24,7 @@ use verse_base::refusals::Memory;
 /// Removes the children of a task that began when fewer steps were left, the youngest first, each
 /// with all that it encloses: what a frame has begun, by the steps that were left when it began;
 /// or the arms of a group, by those that were left when the group began. Takes no memory where
-/// there is room for the frames of all tasks.
+/// there is room for the frames of all tasks, and none where no task that is cancelled has frames.
 pub fn cancel_since<F: Drop, W: Waits>(
     tree: &mut TaskTree<Slot<F>>,
     gone: &mut Gone<F, W>,
@@ -34,6 +34,7 @@ pub fn cancel_since<F: Drop, W: Waits>(
     ensures scope { CancelsScope W.pending id bound tree.old tree.new gone.old gone.new }
     ensures arms { CancelsArms W.pending id bound tree.old tree.new gone.old gone.new }
     ensures each { KeepsEach tree.old tree.new gone.old gone.new }
+    ensures few { LosesFew tree.old tree.new gone.old gone.new }
     ensures left { NoYounger tree.new id bound }
     ensures alone { IsAlone tree.new id bound }
     ensures nested { IsTree tree.new }

@@ -1,6 +1,7 @@
 use Rattle.vm_tasks.proofs.Endings.{alone_so}
 use Rattle.vm_tasks.proofs.Meaning.{scope_so, arms_so}
 use Rattle.vm_tasks.proofs.Keeping.{keeps_so}
+use Rattle.vm_tasks.proofs.Losing.{loses_few_so}
 use Rattle.vm_tasks.proofs.table.cancel_since.Goals as goal
 
 pub returns-clause-scope : goal.returns-clause-scope
@@ -16,4 +17,8 @@ returns-clause-alone g c = alone_so c.clear_since.new.tree c.args.id c.args.boun
 
 pub returns-clause-each : goal.returns-clause-each
 returns-clause-each g c = keeps_so g.W.Waits.pending c.args.id c.args.bound c.args.tree.now c.clear_since.new.tree c.args.gone.now
+    c.clear_since.new.gone c.clear_since.ensures.cleared
+
+pub returns-clause-few : goal.returns-clause-few
+returns-clause-few g c = loses_few_so g.W.Waits.pending c.args.id c.args.bound c.args.tree.now c.clear_since.new.tree c.args.gone.now
     c.clear_since.new.gone c.clear_since.ensures.cleared
