@@ -9,7 +9,7 @@ use Rattle.fiber_stacks.specs.Levels.{Level, empty_level, full_level, below}
 use Rattle.fiber_stacks.specs.Heads.{Head, height, new_head, with_locals}
 use Rattle.fiber_stacks.proofs.Lists.{nothing_more, grouped}
 use Rattle.fiber.specs.Frames.{Frame}
-use Rattle.fiber.specs.Calls.{units, bare, added}
+use Rattle.fiber.specs.Calls.{units, bare, added, with_more}
 use Rattle.fiber.specs.Opening.{unit_values}
 use Rattle.fiber.specs.Framing.{frames}
 
@@ -20,15 +20,15 @@ units_end (suc n) = ap (λ k. value.Unit ∷ k) (units_end n)
 pub filled_none : (hs gs : List (Head Value)) (xs : List Value) → gs ≡ with_locals xs hs → gs ≡ with_locals (xs ++ unit_values 0) hs
 filled_none hs gs xs e = rw (nothing_more xs) e
 
-with_more : (hs : List (Head Value)) (xs ys : List Value) → with_locals ys (with_locals xs hs) ≡ with_locals (xs ++ ys) hs
-with_more [] xs ys = refl
-with_more (h ∷ hs) xs ys = rw (grouped h.locals xs ys) refl
+twice_filled : (hs : List (Head Value)) (xs ys : List Value) → with_locals ys (with_locals xs hs) ≡ with_locals (xs ++ ys) hs
+twice_filled [] xs ys = refl
+twice_filled (h ∷ hs) xs ys = rw (grouped h.locals xs ys) refl
 
 pub filled_more : (hs gs fs : List (Head Value)) (xs : List Value) (n : ℕ) → gs ≡ with_locals (xs ++ unit_values n) hs →
     fs ≡ with_locals (value.Unit ∷ []) gs → fs ≡ with_locals (xs ++ unit_values (n + 1)) hs
 filled_more hs gs fs xs n e f =
     let next : n + 1 ≡ suc n = omega arith in
-    rw next (f ∙ ap (with_locals (value.Unit ∷ [])) e ∙ with_more hs (xs ++ unit_values n) (value.Unit ∷ []) ∙
+    rw next (f ∙ ap (with_locals (value.Unit ∷ [])) e ∙ twice_filled hs (xs ++ unit_values n) (value.Unit ∷ []) ∙
     ap (λ k. with_locals k hs) (grouped xs (unit_values n) (value.Unit ∷ []) ∙ ap (λ k. xs ++ k) (units_end n)))
 
 pub same_below : (hs gs : List (Head Value)) (xs : List Value) → gs ≡ with_locals xs hs → below gs ≡ below hs
@@ -64,3 +64,19 @@ pub added_high : (hs gs : List (Head Value)) (ls zs : List (Level Value)) (p : �
     length ls ≡ height hs → gs ≡ with_locals (xs ++ unit_values 0) (new_head p ∷ hs) → zs ≡ full_level os ds ∷ ls →
     (length zs ≡ height gs) × (length gs ≡ suc (length hs))
 added_high hs gs ls zs p xs os ds high e f = rw (e, f) (omega (arith, high), refl)
+
+-- a frame with no locals, and one local more
+
+pub bare_opened : (hs gs : List (Head Value)) (ls zs : List (Level Value)) (fs : List Frame) (p : ℕ) → frames hs ls ≡ fs →
+    gs ≡ new_head p ∷ hs → zs ≡ empty_level ∷ ls → frames gs zs ≡ bare p [] ∷ fs
+bare_opened hs gs ls zs fs p are e f = rw (← are, e, f) refl
+
+pub bare_high : (hs gs : List (Head Value)) (ls zs : List (Level Value)) (p : ℕ) → length ls ≡ height hs → gs ≡ new_head p ∷ hs →
+    zs ≡ empty_level ∷ ls → (length zs ≡ height gs) × (length gs ≡ suc (length hs))
+bare_high hs gs ls zs p high e f = rw (e, f) (omega (arith, high), refl)
+
+pub more_in : (hs gs : List (Head Value)) (ls : List (Level Value)) (fs : List Frame) (x : Value) → frames hs ls ≡ fs →
+    length ls ≡ height hs → gs ≡ with_locals (x ∷ []) hs →
+    (frames gs ls ≡ with_more (val_of x) fs) × (length ls ≡ height gs) × (length gs ≡ length hs)
+more_in [] gs ls fs x are high e = rw (e, ← are) (refl, high, refl)
+more_in (h ∷ hs) gs ls fs x are high e = rw (← are, e, map-append val_of h.locals (x ∷ [])) (refl, high, refl)

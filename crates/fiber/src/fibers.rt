@@ -9,8 +9,8 @@ ghost use Rattle.fiber.specs.Frames.{Frame, fits, place_of, locals_of, handlers_
 ghost use Rattle.fiber.specs.Frames.{stack_of};
 ghost use Rattle.fiber.specs.Frames.{noted_of, is_guarded, is_closing, kept_defers};
 ghost use Rattle.fiber.specs.Calls.{units, bare, added, frame_at, entered, pushed, popped, left};
-ghost use Rattle.fiber.specs.Calls.{gone_to, with_local, guarded, released, unwound, deferred};
-ghost use Rattle.fiber.specs.Calls.{taken, ended};
+ghost use Rattle.fiber.specs.Calls.{gone_to, with_local, with_more, guarded, released, unwound};
+ghost use Rattle.fiber.specs.Calls.{deferred, taken, ended};
 
 use crate::bounding::{Window, all_permit, window_of};
 use crate::opening;
@@ -306,6 +306,33 @@ impl Fiber {
         ensures new { self.new ≡ with_local local (val_of value) self.old }
     {
         self.heads.put(local, value)
+    }
+}
+
+/// A frame that begins with no locals, and gets them one by one.
+impl Fiber {
+    /// A frame with no locals on top.
+    pub fn open_bare(&mut self, place: u32) -> Result<(), Memory>
+        requires { length self.old < 4294967295 }
+        ensures ok { OnOk result (self.new ≡ bare place [] ∷ self.old) }
+        ensures err { OnErr result (self.new ≡ self.old) }
+    {
+        self.levels.open()?;
+        if let Err(memory) = self.heads.open(place) {
+            self.levels.close();
+            return Err(memory);
+        }
+        Ok(())
+    }
+
+    /// A local behind those of the top frame.
+    pub fn add_local(&mut self, value: Value) -> Result<(), Memory>
+        requires { self.old ≢ [] }
+        ensures ok { OnOk result (self.new ≡ with_more (val_of value) self.old) }
+        ensures err { OnErr result (self.new ≡ self.old) }
+    {
+        self.heads.push_local(value)?;
+        Ok(())
     }
 }
 

@@ -14,6 +14,7 @@ ghost use Rattle.vm_frames.specs.Framed.{handlers_of, defers_of, noted_of};
 ghost use Rattle.vm_frames.specs.Calls.{entered, alone, pushed, popped, popped_many, left, permits};
 ghost use Rattle.vm_frames.specs.Calls.{moved, with_local, guarded, released, unwound, deferred};
 ghost use Rattle.vm_frames.specs.Calls.{taken, ended, added, framed_at};
+ghost use Rattle.vm_frames.specs.Entering.{opened, with_more};
 ghost use Rattle.vm_frames.specs.Machine.{frames_with, all_free, life_of};
 
 use fiber::bounding::Window;
@@ -279,6 +280,31 @@ impl Thread {
         ensures new { self.new ≡ with_local local (val_of value) self.old }
     {
         self.fiber.put_local(local, value)
+    }
+}
+
+/// A frame that begins with no locals, and gets them one by one.
+impl Thread {
+    /// A frame with no locals on top. So many steps are left. Memory is wanting too where there are
+    /// 4294967295 frames.
+    pub fn open(&mut self, place: u32, born: u64) -> Result<(), Memory>
+        ensures ok { OnOk result (self.new ≡ opened born place self.old) }
+    {
+        if self.fiber.depth() == u32::MAX {
+            return Err(Memory);
+        }
+        self.births.reserve(1)?;
+        self.fiber.open_bare(place)?;
+        keep(&mut self.births, born);
+        Ok(())
+    }
+
+    /// A local behind those of the top frame.
+    pub fn add_local(&mut self, value: Value) -> Result<(), Memory>
+        requires { self.old ≢ [] }
+        ensures ok { OnOk result (self.new ≡ with_more (val_of value) self.old) }
+    {
+        self.fiber.add_local(value)
     }
 }
 
