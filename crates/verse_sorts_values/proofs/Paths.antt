@@ -24,7 +24,7 @@ use Rattle.verse_sorts.specs.Typing.{more_entries, are_no, are_so}
 use Rattle.verse_sorts.proofs.Fitting.{is_up}
 use Rattle.verse_sorts_values.specs.Operands.{Indexed, in_list, in_map, in_never, Path, path_no, path_so, Writes, writes_set, writes_sum}
 use Rattle.verse_sorts_values.specs.Operands.{writes_lists}
-use Rattle.verse_sorts_values.specs.Operands.{writes_difference, writes_product}
+use Rattle.verse_sorts_values.specs.Operands.{writes_difference, writes_product, writes_never}
 use Rattle.verse_sorts_values.specs.Answers.{Answers, answers, answers_failure, answers_error}
 use Rattle.verse_sorts_values.proofs.Numbers.{by_test}
 use Rattle.verse_sorts_values.proofs.Values.{joined_all, Keyed_by, keyed_by, key_there, nth_all, key_found}
@@ -162,6 +162,7 @@ module _ (up : ℕ → Option ℕ) {t : Typing} where
   value_is e writes_product (is_int {n = a}) (is_int {n = b}) = by_test (is_int_of (a *ℤ b)) (v.int (a *ℤ b)) kind.Overflow e
       (is_int, is_int)
   value_is e writes_lists (is_list i) (is_list j) = answers (is_list (joined_all up i j), is_list (joined_all up i j))
+  value_is e (writes_never n) i j = elim i [ ]
 
   no_misfit : {u w : Val} {a b d : Sort} → Indexed a b d → Is up t u a → Is up t w b → step_in u w ≡ misfit → ⊥
   no_misfit in_list (is_list {vs = vs} i) j e = by_int j e
@@ -222,6 +223,7 @@ module _ (up : ℕ → Option ℕ) {t : Typing} where
       by_key mode.Set (Some l) (writes_set o) p j g n f =
           by_test (fits (applied (path_to_map path) (push l value) u)) (applied (path_to_map path) (push l value) u, value) kind.Size e
           (push_keeps u value l p i k n g (is_up up j o), j)
+      by_key mode.Set (Some l) (writes_never o) p j g n f = absurd (o refl)
       by_key mode.Add l h p j g n f = answers_failure f
       by_key mode.Sub l h p j g n f = answers_failure f
       by_key mode.Mul l h p j g n f = answers_failure f

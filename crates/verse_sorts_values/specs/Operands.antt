@@ -1,5 +1,5 @@
 -- Sorts of operands: lists of them, indices and paths, and what is written.
-use Rattle.std.specs.Prelude.{ℕ, zero, suc, List, [], ◌∷◌, Option, Some, None}
+use Rattle.std.specs.Prelude.{◌≢◌, ℕ, zero, suc, List, [], ◌∷◌, Option, Some, None}
 use Rattle.verse_value.specs.declared.modes.Mode.{Mode}
 use Rattle.verse_value.specs.declared.modes.Mode.TheVariants as mode
 use Rattle.verse_sorts.specs.Sorts as s
@@ -56,3 +56,5 @@ pub data Writes (up : ℕ → Option ℕ) : Mode → Sort → Sort → Sort → 
   writes_lists : {q : Sort} → Writes up mode.Add (s.list q) (s.list q) (s.list q)
   writes_difference : Writes up mode.Sub s.int s.int s.int
   writes_product : Writes up mode.Mul s.int s.int s.int
+  -- where nothing is, nothing is changed
+  writes_never : {m : Mode} {v w : Sort} → m ≢ mode.Set → Writes up m v s.never w
