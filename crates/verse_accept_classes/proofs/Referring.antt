@@ -119,7 +119,7 @@ module _ (all : List ItemTree) (this : Option ℕ) where
       items_there is (counts_after i n) (indexed record { item = i; before = n } x) (next all is i n l) (named_there i is n x.items l h)
 
   builtins_there : There builtins
-  builtins_there = (tt, (tt, (tt, (tt, tt))))
+  builtins_there = (omega arith, (omega arith, (omega arith, (omega arith, tt))))
 
 -- ---- members by their bare names
 

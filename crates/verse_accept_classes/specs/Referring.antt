@@ -1,5 +1,5 @@
 -- What names stand for is there, in a method the members of its class among it.
-use Rattle.std.specs.Prelude.{◌≡◌, ℕ, List, Option, Some, None, slice_get}
+use Rattle.std.specs.Prelude.{◌≡◌, ℕ, ◌<◌, List, Option, Some, None, slice_get}
 use Rattle.verse_tree.specs.Tree.{Bytes}
 use Rattle.verse_tree.specs.ItemTree.{FieldTree, FunTree, EnumTree, ItemTree}
 use Rattle.verse_tree.specs.declared.tables.Ref.{Ref}
@@ -49,7 +49,7 @@ module _ (is : List ItemTree) where
   IsThere this (ref.Fun f) = IsFunction f
   IsThere this (ref.Class c) = IsClass c
   IsThere this (ref.Enum e) = IsEnum e
-  IsThere this (ref.Builtin b) = Unit {0}
+  IsThere this (ref.Builtin b) = b < 4
 
   -- in a world of a program
   pub record Names (w : World) : Type 0 where

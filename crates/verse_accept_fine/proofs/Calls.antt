@@ -82,7 +82,7 @@ and_true false = refl
 lasts_so : (e : Effects) → e.computes ≡ false → e.transacts ≡ false → lasts e ≡ true
 lasts_so e c t = ap (λ q. e.suspends || not (q || e.transacts)) c ∙ ap (λ q. e.suspends || not q) t ∙ or_true e.suspends
 
-only : (A : Type 0) (x y : A) → Some x ≡ Some y → x ≡ y
+pub only : (A : Type 0) (x y : A) → Some x ≡ Some y → x ≡ y
 only A x y e = cc
 
 -- ---- a class that has a method is there
@@ -125,26 +125,26 @@ module _ (is : List ItemTree) where
       get_map made_class (class_tables (known is)) d (class_table (known is) d o.0) (class_at is d o.0 o.1)
 
 module _ (is : List ItemTree) (arrays events : ℕ → Bool) where
-  abbrev info_of : Owned → FunInfo
+  abbrev pub info_of : Owned → FunInfo
   info_of o = made_function (fun_function (known is).index.types o.tree)
 
-  this_of : (g : ℕ) (c : Option ℕ) → class_in (slice_get (owned (known is).items) g) ≡ c → ((sorted is).signature g).this ≡ c
+  pub this_of : (g : ℕ) (c : Option ℕ) → class_in (slice_get (owned (known is).items) g) ≡ c → ((sorted is).signature g).this ≡ c
   this_of g c e = by (slice_get (completed is).funs g)
     where
       by : (o : Option FunInfo) → (signature_of o (class_in (slice_get (owned (known is).items) g))).this ≡ c
       by None = e
       by (Some f) = e
 
-  abbrev effects_callee : Tree → Callee
+  abbrev pub effects_callee : Tree → Callee
   effects_callee e = effects.callee_of (completed is) e
 
-  abbrev F : Facts
+  abbrev pub F : Facts
   F = final is
 
   -- ---- arguments
 
   -- each argument, from the place i on, fits its parameter
-  abbrev Served : List Made → ℕ → Trees → Type 0
+  abbrev pub Served : List Made → ℕ → Trees → Type 0
   Served ps i no_trees = Unit {0}
   Served ps i (more_trees e es) = (fits_param F (type_of F e) (slice_get ps i) ≡ true) × Served ps (i + 1) es
 
@@ -228,42 +228,61 @@ module _ (is : List ItemTree) (arrays events : ℕ → Bool) where
       pub effects : effects_callee e ≡ c.Function (info_of o).effects
       pub params : params_at F (number_of_tree e) ≡ (info_of o).params
 
-    -- a call of it with round brackets, that is not spawned
+    -- a call of it that is not spawned
     pub record CanCall (g : ℕ) (ts : Trees) : Type 0 where
       pub callable : Callable (program is arrays events) (sorted is) b xs g
       pub operands : AllFit (up is) (sorts_at (program is arrays events) (sorted is) ts) ((sorted is).signature g).params
       pub value : Fits (up is) ((sorted is).signature g).result (sort_of (ty_at is n))
+
+    -- the form does as much as a call of it, with so many arguments
+    pub record Brackets (x : Shape) (ts : Trees) (info : FunInfo) : Type 0 where
+      pub async : is_async (completed is) a x ≡ info.effects.suspends
+      pub lasts : cannot_undo (completed is) x ≡ (is_lasting info.effects && not info.effects.suspends)
+      pub touches : touches (completed is) F.vars a n x ≡ not info.effects.computes
+      pub fails : info.effects.decides ≡ true → b.fails ≡ true
+      pub counted : are_wanted (Some (length info.params)) (count ts) ≡ true
+      pub gives : ty_at is n ≡ ty_of info.result
+
+    pub can_bracket : FunctionsStand is → (x : Shape) (e : Tree) (g : ℕ) (o : Owned) (ts : Trees) → Calls e g o → At is w a xs n p x →
+        Brackets x ts (info_of o) → Served (params_at F (number_of_tree e)) 0 ts → CanCall g ts
+    can_bracket stand x e g o ts k h r args =
+        let info = info_of o in
+        let entry = stand.info g o k.there in
+        let sign = ap (λ i. signature_of i (class_in (slice_get (owned (known is).items) g))) entry in
+        record {
+          callable = callable stand x g o k.there
+              (λ i f d. r.fails (sym (ap (λ (j : FunInfo). j.effects.decides) (only _ i info (sym f ∙ entry))) ∙ d))
+              (λ i f l. lasting_waits x info.effects h r.async r.lasts r.touches
+              (sym (ap (λ (j : FunInfo). lasts j.effects) (only _ i info (sym f ∙ entry))) ∙ l));
+          operands = subst (AllFit (up is) (sorts_at (program is arrays events) (sorted is) ts)) (sym (ap (λ
+              (s : Signature). s.params) sign))
+              (arguments_fit info ts (subst (λ ps. Served ps 0 ts) k.params args) r.counted);
+          value = subst (λ q. Fits (up is) q (sort_of (ty_at is n))) (sym (ap (λ (s : Signature). s.result) sign))
+              (is_row is n (ty_of info.result) r.gives);
+        }
 
     pub can_call : FunctionsStand is → (e : Tree) (g : ℕ) (o : Owned) (ts : Trees) → Calls e g o → At is w a xs n p (t.Shape.call e ts) →
         is_spawned a.used ≡ false → Served (params_at F (number_of_tree e)) 0 ts → CanCall g ts
     can_call stand e g o ts k h used args =
         let x = t.Shape.call e ts in
         let info = info_of o in
-        let entry = stand.info g o k.there in
-        let counted = not_not _ (base.types is w a xs n p x h).counted in
-        let sign = ap (λ i. signature_of i (class_in (slice_get (owned (known is).items) g))) entry in
         let brackets : call_fails (effects_callee e) ≡ false = (base.effects is w a xs n p x h).brackets in
         let never : info.effects.decides ≡ false = sym (ap call_fails k.effects) ∙ brackets in
-        record {
-          callable = callable stand x g o k.there
-              (λ i f d. let one = only _ i info (sym f ∙ entry) in
-              let no : true ≡ false = sym d ∙ ap (λ (j : FunInfo). j.effects.decides) one ∙ never in absurd (cc))
-              (λ i f l. let one = only _ i info (sym f ∙ entry) in
-              lasting_waits x info.effects h
-              (ap (call_suspends (is_spawned a.used)) k.effects ∙ ap (λ u. info.effects.suspends && not u) used ∙ and_true
-              info.effects.suspends)
-              (ap call_lasts k.effects) (ap call_touches k.effects) (sym (ap (λ (j : FunInfo). lasts j.effects) one) ∙ l));
-          operands = subst (AllFit (up is) (sorts_at (program is arrays events) (sorted is) ts)) (sym (ap (λ
-              (s : Signature). s.params) sign))
-              (arguments_fit info ts (subst (λ ps. Served ps 0 ts) k.params args)
-              (ap (λ z. are_wanted (call_wanted z) (count ts)) (sym k.callee) ∙ counted));
-          value = subst (λ q. Fits (up is) q (sort_of (ty_at is n))) (sym (ap (λ (s : Signature). s.result) sign))
-              (is_row is n (ty_of info.result) (its_row is w a xs n p x h ∙ ap (λ z. call_type z ts) k.callee));
-        }
+        can_bracket stand x e g o ts k h
+        (record {
+          async = ap (call_suspends (is_spawned a.used)) k.effects ∙ ap (λ u. info.effects.suspends && not u) used
+              ∙ and_true info.effects.suspends;
+          lasts = ap call_lasts k.effects;
+          touches = ap call_touches k.effects;
+          fails = λ d. let no : true ≡ false = sym d ∙ never in absurd (cc);
+          counted = ap (λ z. are_wanted (call_wanted z) (count ts)) (sym k.callee) ∙ not_not _ (base.types is w a xs n p x h).counted;
+          gives = its_row is w a xs n p x h ∙ ap (λ z. call_type z ts) k.callee;
+        })
+        args
 
     -- ---- a function by its name
 
-    named_calls : FunctionsStand is → (m : ℕ) (q : Place) (z : Bytes) (g : ℕ) → refs.ref_at F.refs m ≡ Some (ref.Fun g) →
+    pub named_calls : FunctionsStand is → (m : ℕ) (q : Place) (z : Bytes) (g : ℕ) → refs.ref_at F.refs m ≡ Some (ref.Fun g) →
         (f : IsFunction is g) →
         Calls (tree m q (t.Shape.name z)) g (record { class = None; tree = f.tree })
     named_calls stand m q z g r f =
@@ -296,7 +315,7 @@ module _ (is : List ItemTree) (arrays events : ℕ → Bool) where
 
     -- ---- a method of the class by its name, and one behind a dot
 
-    method_calls : FunctionsStand is → (m : ℕ) (q : Place) (z : Shape) (d i : ℕ) (f : IsMethod is d i) (o : Owned) → Quiet is →
+    pub method_calls : FunctionsStand is → (m : ℕ) (q : Place) (z : Shape) (d i : ℕ) (f : IsMethod is d i) (o : Owned) → Quiet is →
         refs.ref_at F.refs m ≡ Some (ref.Method d i) → slice_get (owned (known is).items) f.number ≡ Some o → Calls (tree m q z) f.number o
     method_calls stand m q z d i f o quiet r e =
         let entry = stand.info f.number o e in

@@ -44,7 +44,7 @@ use Rattle.verse_accept_fine.proofs.Rules.{not_not}
 use Rattle.verse_accept_fine.proofs.Base.{types, its_row, is_row, same_known}
 use Rattle.verse_accept_fine.proofs.Names.{slot_of}
 
-within_from : (k : Known) (c n : ℕ) (os : List Class) (m : Members) → slice_get (members_from k c os) n ≡ Some m → n < length os
+pub within_from : (k : Known) (c n : ℕ) (os : List Class) (m : Members) → slice_get (members_from k c os) n ≡ Some m → n < length os
 within_from k c n [] m e = absurd (cc)
 within_from k c zero (o ∷ os) m e = omega arith
 within_from k c (suc n) (o ∷ os) m e = omega (arith, within_from k (c + 1) n os m e)
@@ -54,7 +54,7 @@ module _ (is : List ItemTree) (arrays events : ℕ → Bool) (agree : FieldsAgre
   F = final is
 
   -- a class with a field is there
-  field_within : (c : ℕ) (x : Bytes) (i : ℕ) → field_by F c x ≡ Some i → c < length (known is).outline
+  pub field_within : (c : ℕ) (x : Bytes) (i : ℕ) → field_by F c x ≡ Some i → c < length (known is).outline
   field_within c x i e = by (slice_get (class_members (known is)) c) refl
     where
       by : (o : Option Members) → slice_get (class_members (known is)) c ≡ o → c < length (known is).outline
@@ -62,7 +62,7 @@ module _ (is : List ItemTree) (arrays events : ℕ → Bool) (agree : FieldsAgre
       by (Some m) q = within_from (known is) 0 c (known is).outline m q
 
   -- a member that is not the name of an enum's value
-  type_only : (o : Option Ref) (u : Ty) (x : Bytes) → NoEnum o → member_of F o u x ≡ type_member F u x
+  pub type_only : (o : Option Ref) (u : Ty) (x : Bytes) → NoEnum o → member_of F o u x ≡ type_member F u x
   type_only None u x h = refl
   type_only (Some (ref.Enum e)) u x h = absurd h
   type_only (Some r) u x h = refl
@@ -106,7 +106,7 @@ module _ (is : List ItemTree) (arrays events : ℕ → Bool) (agree : FieldsAgre
     no_action true h = cc
     no_action false h = cc
 
-    by_type : (u : Ty) (x : Bytes) → may_stand false (type_member F u x) ≡ true → ty_at is n ≡ part_type (type_member F u x) →
+    pub by_type : (u : Ty) (x : Bytes) → may_stand false (type_member F u x) ≡ true → ty_at is n ≡ part_type (type_member F u x) →
         Give (member_form (member_ref F u x) x) (sort_of u ∷ [])
     by_type ty.never x h r = record {
       no_case = no_case_of (member_form None x) x refl;

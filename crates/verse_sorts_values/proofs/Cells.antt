@@ -160,7 +160,7 @@ module _ (up : ℕ → Option ℕ) (slots : ℕ → List Sort) where
     pub write : {t : Typing} (st : Store) (slot i : ℕ) {q : Sort} {m : Mode} {path : List Val} {is : List Sort} {x r w : Sort}
         (value from : Val) →
         slot_of st i slot ≡ Some from → Is up t from q → ((u : Val) → Is up t u q → CellsAre up slots t (stored st i slot u) t.cells) → E →
-        (path ≢ [] → F) → Path q is r → Are up t path is → Writes m x r w → Is up t value x →
+        (path ≢ [] → F) → Path q is r → Are up t path is → Writes up m x r w → Is up t value x →
         Answers F E (λ y. CellsAre up slots t y.0 t.cells × Is up t y.1 w) (write_slot st i slot path m value)
     write {t} st slot i {q} {m} {path} {w = w} value from e k sets err f p are h j =
         subst (λ z. Answers F E (λ y. CellsAre up slots t y.0 t.cells × Is up t y.1 w) (write_in st i slot path m value z)) (sym e)

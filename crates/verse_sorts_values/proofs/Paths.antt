@@ -21,9 +21,10 @@ use Rattle.verse_sorts.specs.Sorts as s
 use Rattle.verse_sorts.specs.Sorts.{Sort}
 use Rattle.verse_sorts.specs.Typing.{Typing, Is, AreAll, ArePairs, Are, is_int, is_list, is_map, no_all, more_all, no_entries}
 use Rattle.verse_sorts.specs.Typing.{more_entries, are_no, are_so}
-use Rattle.verse_sorts_values.specs.Operands.{Indexed, in_list, in_map, Path, path_no, path_so, Writes, writes_set, writes_sum}
+use Rattle.verse_sorts.proofs.Fitting.{is_up}
+use Rattle.verse_sorts_values.specs.Operands.{Indexed, in_list, in_map, in_never, Path, path_no, path_so, Writes, writes_set, writes_sum}
 use Rattle.verse_sorts_values.specs.Operands.{writes_lists}
-use Rattle.verse_sorts_values.specs.Operands.{writes_difference, writes_product}
+use Rattle.verse_sorts_values.specs.Operands.{writes_difference, writes_product, writes_never}
 use Rattle.verse_sorts_values.specs.Answers.{Answers, answers, answers_failure, answers_error}
 use Rattle.verse_sorts_values.proofs.Numbers.{by_test}
 use Rattle.verse_sorts_values.proofs.Values.{joined_all, Keyed_by, keyed_by, key_there, nth_all, key_found}
@@ -67,6 +68,7 @@ module _ (up : ℕ → Option ℕ) {t : Typing} where
       by_key : (m : Option Key) → ((x : Val) → map_step ps m ≡ part x → Is up t (f x) a) → Is up t (v.mapping (map_with ps m f)) (s.map k a)
       by_key None h = is_map i
       by_key (Some l) h = is_map (key_changed l f i (λ x e. h x (ap (part_or absent) e)))
+  change_in f in_never i j h = elim i [ ]
 
   part_is : {u w x : Val} {a b d : Sort} → Indexed a b d → Is up t u a → Is up t w b → step_in u w ≡ part x → Is up t x d
   part_is {x = x} (in_list {q = a}) (is_list {vs = vs} i) j e = by_int j e
@@ -105,6 +107,7 @@ module _ (up : ℕ → Option ℕ) {t : Typing} where
           no_part : misfit ≡ part x → Is up t x a
           no_part e = cc
       by_key (Some l) e = found (at_key ps l) (λ x h. key_found up l i h) e
+  part_is in_never i j e = elim i [ ]
 
   -- another value at the end of a path
   put_keeps : {path : List Val} {xs : List Sort} {a d : Sort} (u new : Val) → Path a xs d → Are up t path xs → Is up t u a →
@@ -144,20 +147,22 @@ module _ (up : ℕ → Option ℕ) {t : Typing} where
   push_keeps u new k (path_so o in_list path_no) (are_so q are_no) (is_list i) e h j = is_list i
   push_keeps u new k (path_so o (in_map good) path_no) (are_so q are_no) (is_map i) e h j =
       is_map (pushed_all k new i (key_back up good q h) j)
+  push_keeps u new k (path_so o in_never path_no) (are_so q are_no) i e h j = elim i [ ]
   push_keeps {a = a} u new k (path_so b m (path_so o k2 p)) (are_so {w = w} q (are_so {w = y} {vs = path} r rs)) i e h j =
       change_in (applied (path_to_map (y ∷ path)) (push k new)) m i q (λ x g. push_keeps x new k (path_so o k2 p) (are_so r rs)
       (part_is m i q g)
       (subst (λ z. end_from z (y ∷ path) (end_of (y ∷ path)) ≡ new_key) g e) h j)
 
-  value_is : {F E : Type 0} {m : Mode} {v r w : Sort} {old u : Val} → E → Writes m v r w → Is up t old r → Is up t u v →
+  value_is : {F E : Type 0} {m : Mode} {v r w : Sort} {old u : Val} → E → Writes up m v r w → Is up t old r → Is up t u v →
       Answers F E (λ z. Is up t z r × Is up t z w) (combined m old u)
-  value_is e writes_set i j = answers (j, j)
+  value_is e (writes_set n) i j = answers (is_up up j n, j)
   value_is e writes_sum (is_int {n = a}) (is_int {n = b}) = by_test (is_int_of (a +ℤ b)) (v.int (a +ℤ b)) kind.Overflow e (is_int, is_int)
   value_is e writes_difference (is_int {n = a}) (is_int {n = b}) = by_test (is_int_of (a -ℤ b)) (v.int (a -ℤ b)) kind.Overflow e
       (is_int, is_int)
   value_is e writes_product (is_int {n = a}) (is_int {n = b}) = by_test (is_int_of (a *ℤ b)) (v.int (a *ℤ b)) kind.Overflow e
       (is_int, is_int)
   value_is e writes_lists (is_list i) (is_list j) = answers (is_list (joined_all up i j), is_list (joined_all up i j))
+  value_is e (writes_never n) i j = elim i [ ]
 
   no_misfit : {u w : Val} {a b d : Sort} → Indexed a b d → Is up t u a → Is up t w b → step_in u w ≡ misfit → ⊥
   no_misfit in_list (is_list {vs = vs} i) j e = by_int j e
@@ -177,6 +182,7 @@ module _ (up : ℕ → Option ℕ) {t : Typing} where
 
       by_key : Keyed_by w → ⊥
       by_key (keyed_by {k = l} h) = found (at_key ps l) (subst (λ m. map_step ps m ≡ misfit) h e)
+  no_misfit in_never i j e = elim i [ ]
 
   ends_fit : {path : List Val} {xs : List Sort} {a d : Sort} (u : Val) → Path a xs d → Are up t path xs → Is up t u a →
       end_of path u ≡ places.unfit → ⊥
@@ -197,7 +203,7 @@ module _ (up : ℕ → Option ℕ) {t : Typing} where
 
   -- what a write at a path gives
   pub written : {F E : Type 0} {m : Mode} {path : List Val} {is : List Sort} {q v r w : Sort} (u value : Val) → E → (path ≢ [] → F) →
-      Path q is r → Are up t path is → Is up t u q → Writes m v r w → Is up t value v →
+      Path q is r → Are up t path is → Is up t u q → Writes up m v r w → Is up t value v →
       Answers F E (λ y. Is up t y.0 q × Is up t y.1 w) (write_at path m value u)
   written {F} {E} {m} {path} {is} {q} {v} {r} {w} u value e f p i k h j = by_end (end_of path u) refl
     where
@@ -211,12 +217,13 @@ module _ (up : ℕ → Option ℕ) {t : Typing} where
       not_empty : {z : End} → end_of path u ≡ z → ((x : Val) → z ≡ there x → ⊥) → path ≡ [] → ⊥
       not_empty g n same = n u (sym g ∙ ap (λ path. end_of path u) same)
 
-      by_key : {v r w : Sort} (m : Mode) (l : Option Key) → Writes m v r w → Path q is r → Is up t value v → last_key path ≡ l →
+      by_key : {v r w : Sort} (m : Mode) (l : Option Key) → Writes up m v r w → Path q is r → Is up t value v → last_key path ≡ l →
           end_of path u ≡ new_key → F → Answers F E (λ y. Is up t y.0 q × Is up t y.1 w) (key_made path m value u l)
       by_key mode.Set None h p j g n f = answers_failure f
-      by_key mode.Set (Some l) writes_set p j g n f =
+      by_key mode.Set (Some l) (writes_set o) p j g n f =
           by_test (fits (applied (path_to_map path) (push l value) u)) (applied (path_to_map path) (push l value) u, value) kind.Size e
-          (push_keeps u value l p i k n g j, j)
+          (push_keeps u value l p i k n g (is_up up j o), j)
+      by_key mode.Set (Some l) (writes_never o) p j g n f = absurd (o refl)
       by_key mode.Add l h p j g n f = answers_failure f
       by_key mode.Sub l h p j g n f = answers_failure f
       by_key mode.Mul l h p j g n f = answers_failure f

@@ -17,7 +17,7 @@ use Rattle.verse_sorts.specs.Typing as ty
 use Rattle.verse_sorts.specs.Typing.{Typing, Is, AreAll, ArePairs, AreEach, is_int, is_list, is_map, is_tuple, is_some, is_empty, is_true}
 use Rattle.verse_sorts.specs.Typing.{is_false}
 use Rattle.verse_sorts.specs.Typing.{is_nil, no_all, more_all, no_entries, more_entries, no_each, more_each, is_char}
-use Rattle.verse_sorts_values.specs.Operands.{sort_in, Indexed, in_list, in_map}
+use Rattle.verse_sorts_values.specs.Operands.{sort_in, Indexed, in_list, in_map, in_never}
 use Rattle.verse_sorts_values.specs.Answers.{OfSort, answers, answers_failure}
 
 pub data Keyed_by (w : Val) : Type 0 where
@@ -75,6 +75,7 @@ module _ (up : ℕ → Option ℕ) {t : Typing} where
         by_key : Keyed_by w → OfSort F E up t r (o.at_of (v.mapping ps) w)
         by_key (keyed_by {k = l} e) =
             subst (λ m. OfSort F E up t r (o.step_answer (map_step ps m))) (sym e) (entry_there (at_key ps l) f (λ x h. key_found l i h))
+    indexed f in_never i j = elim i [ ]
 
     pub queried_option : {x : Val} {q : Sort} → F → Is up t x (s.opt q) → OfSort F E up t q (o.query_of x)
     queried_option f is_empty = answers_failure f

@@ -1,9 +1,9 @@
 -- Sorts of operands: lists of them, indices and paths, and what is written.
-use Rattle.std.specs.Prelude.{ℕ, zero, suc, List, [], ◌∷◌, Option, Some, None}
+use Rattle.std.specs.Prelude.{◌≢◌, ℕ, zero, suc, List, [], ◌∷◌, Option, Some, None}
 use Rattle.verse_value.specs.declared.modes.Mode.{Mode}
 use Rattle.verse_value.specs.declared.modes.Mode.TheVariants as mode
 use Rattle.verse_sorts.specs.Sorts as s
-use Rattle.verse_sorts.specs.Sorts.{Sort, Sorts, IsKey}
+use Rattle.verse_sorts.specs.Sorts.{Sort, Sorts, IsKey, Fits}
 
 abbrev pub sorts : List Sort → Sorts
 sorts [] = s.no_sorts
@@ -38,10 +38,11 @@ pub data AllShown : List Sort → Type 0 where
   shown_no : AllShown []
   shown_so : {q : Sort} {qs : List Sort} → Shown q → AllShown qs → AllShown (q ∷ qs)
 
--- what an index leads to
+-- what an index leads to; what gives no value has no part, so nothing is asked of it
 pub data Indexed : Sort → Sort → Sort → Type 0 where
   in_list : {q : Sort} → Indexed (s.list q) s.int q
   in_map : {k q : Sort} → IsKey k → Indexed (s.map k q) k q
+  in_never : {i r : Sort} → Indexed s.never i r
 
 -- and several, from the left
 pub data Path : Sort → List Sort → Sort → Type 0 where
@@ -49,9 +50,11 @@ pub data Path : Sort → List Sort → Sort → Type 0 where
   path_so : {q i : Sort} (r : Sort) {d : Sort} {is : List Sort} → Indexed q i r → Path r is d → Path q (i ∷ is) d
 
 -- a value of the first sort goes to a place of the second; what is written there is of the third
-pub data Writes : Mode → Sort → Sort → Sort → Type 0 where
-  writes_set : {v : Sort} → Writes mode.Set v v v
-  writes_sum : Writes mode.Add s.int s.int s.int
-  writes_lists : {q : Sort} → Writes mode.Add (s.list q) (s.list q) (s.list q)
-  writes_difference : Writes mode.Sub s.int s.int s.int
-  writes_product : Writes mode.Mul s.int s.int s.int
+pub data Writes (up : ℕ → Option ℕ) : Mode → Sort → Sort → Sort → Type 0 where
+  writes_set : {v r : Sort} → Fits up v r → Writes up mode.Set v r v
+  writes_sum : Writes up mode.Add s.int s.int s.int
+  writes_lists : {q : Sort} → Writes up mode.Add (s.list q) (s.list q) (s.list q)
+  writes_difference : Writes up mode.Sub s.int s.int s.int
+  writes_product : Writes up mode.Mul s.int s.int s.int
+  -- where nothing is, nothing is changed
+  writes_never : {m : Mode} {v w : Sort} → m ≢ mode.Set → Writes up m v s.never w

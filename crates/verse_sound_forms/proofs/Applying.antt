@@ -179,7 +179,7 @@ module _ (p : Program) (f : Found) where
       -- where `set` writes
       place_typed : (t : Typing) (e : Env) (w : World) (b : Base) (m : Mode) (pl : Place) (os is : List Sort) (q x y d : Sort)
           (vs : List Val) →
-          Placed p f a xs b os q → Path q is y → Rattle.verse_sorts_values.specs.Operands.Writes m x y d → (is ≢ [] → a.fails ≡ true) →
+          Placed p f a xs b os q → Path q is y → Rattle.verse_sorts_values.specs.Operands.Writes f.up m x y d → (is ≢ [] → a.fails ≡ true) →
           Sees f t a.this xs e → Are f.up t vs (os ++ (is ++ x ∷ [])) → Kept p f l t w →
           Comes p f l any_names t a d (stored p (deeper p g) b vs m pl e w)
       place_typed t e w b m pl os is q x y d vs (in_local {x = nm} {m = i} h var) path how n see are k = by (part f.up t is are)

@@ -56,7 +56,7 @@ module _ (p : Program) (f : Found) (l : Level) where
 
   slot_set : {t : Typing} (a : Allowed) {w : World} {q x r d : Sort} {c : Val} {ps : List Val} {is : List Sort} {m : Mode} (y : Val)
       (slot : ℕ) →
-      Names f.up f.slots t w.state.memory.store slot q c → Path q is r → Are f.up t ps is → Writes m x r d → Is f.up t y x →
+      Names f.up f.slots t w.state.memory.store slot q c → Path q is r → Are f.up t ps is → Writes f.up m x r d → Is f.up t y x →
       (ps ≢ [] → a.fails ≡ true) → Tells p f l t w a d (slot_written slot ps m y c w.state)
   slot_set {t} a {w} {d = d} {ps = ps} {m = m} y slot (names {i} {from} e j sets) h are g k n =
       over (write f.up f.slots w.state.memory.store slot i y from e j sets tt n h are g k)
@@ -70,7 +70,7 @@ module _ (p : Program) (f : Found) (l : Level) where
 
   pub written_typed : {t : Typing} {a : Allowed} {q x r d : Sort} (k : Deeper) (c y : Val) (slot : ℕ) (ps : List Val) (is : List Sort)
       (m : Mode) (pl : Place)
-      (e : Env) (w : World) → Names f.up f.slots t w.state.memory.store slot q c → Path q is r → Are f.up t ps is → Writes m x r d →
+      (e : Env) (w : World) → Names f.up f.slots t w.state.memory.store slot q c → Path q is r → Are f.up t ps is → Writes f.up m x r d →
       Is f.up t y x →
       (ps ≢ [] → a.fails ≡ true) → Kept p f l t w → Comes p f l any_names t a d (written_to p k (Some c) slot (ps ++ y ∷ []) m pl e w)
   written_typed {t} {a} {d = d} k c y slot ps is m pl e w n h are g i s z =

@@ -127,7 +127,7 @@ module _ (p : Program) (f : Found) where
           Takes (form.spawning_method m) (s.obj c ∷ (f.signature g).params) (s.task (f.signature g).result)
       -- statements
       takes_place : {b : Base} {x : Mode} {pl : Place} (os is : List Sort) (q v r : Sort) {w : Sort} → Placed b os q → Path q is r →
-          Writes x v r w → (is ≢ [] → a.fails ≡ true) → Takes (form.storing b x pl) (os ++ (is ++ v ∷ [])) w
+          Writes f.up x v r w → (is ≢ [] → a.fails ≡ true) → Takes (form.storing b x pl) (os ++ (is ++ v ∷ [])) w
       takes_fields : {c : ℕ} {ys : List Bytes} {pl : Place} {qs : List Sort} → Filled ys qs (fields_of p c) (f.slots c) →
           Takes (form.instancing c ys pl) qs (s.obj c)
       takes_defined : {q : Sort} → Takes form.defining (q ∷ []) q
