@@ -23,8 +23,8 @@ pub fn accepted_nodes_fit()
     ensures { AcceptedFit }
 {}
 
-/// No name that an accepted program defines is `Self`, which is a word of its own; and the domain of
-/// keys and values in a `for` has the number before that of the generator.
+/// No name that an accepted program defines is `Self`, which is a word of its own; and the domain
+/// of keys and values in a `for` has the number before that of the generator.
 pub fn accepted_names_are_new()
     ensures { AcceptedNames }
 {}

@@ -1,9 +1,9 @@
 //! Each tree of a program that breaks no rule is fine where it stands: its forms one by one, by the
-//! laws of `verse_accept_fine` and `verse_accept_forms`. Read `Names`, what is asked of names, `Laws`,
-//! and `Needs`, the laws of single forms.
+//! laws of `verse_accept_fine` and `verse_accept_forms`. Read `Names`, what is asked of names,
+//! `Laws`, and `Needs`, the laws of single forms.
 //!
-//! In `proofs/`: `Nodes`, where forms may stand, and the names behind statements; `Rounding`, callees
-//! that take no quotient; `Knot`, the recursion on trees; `Whole`, the law.
+//! In `proofs/`: `Nodes`, where forms may stand, and the names behind statements; `Rounding`,
+//! callees that take no quotient; `Knot`, the recursion on trees; `Whole`, the law.
 #![tactic(auto)]
 
 ghost use Rattle.verse_accept_trees.specs.Laws.{TreesAreFine};

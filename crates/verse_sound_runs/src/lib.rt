@@ -1,5 +1,6 @@
 //! Soundness of types: a program for which the checker has found sorts is never stuck. Read
-//! `specs/Laws` and `Promises`; what the checker has to find is `FineProgram` of `verse_sound_rules`.
+//! `specs/Laws` and `Promises`; what the checker has to find is `FineProgram` of
+//! `verse_sound_rules`.
 //!
 //! In `proofs/`: `Calls`, all that begins by a step, as deep as there are steps; `Due`, which wait
 //! is next; `Turns`, one turn; `Steps`, a turn spends a step; `Runs`, whole runs; `Examples`, a small
