@@ -1,5 +1,5 @@
 -- What is found at the nodes of each body and of each field.
-use Rattle.std.proofs.Common.{◌≡◌, ℕ, zero, suc, List, [], ◌∷◌, ap, ◌∙◌, subst, inl}
+use Rattle.std.proofs.Common.{◌≡◌, ℕ, zero, suc, List, [], ◌∷◌, length, ap, ◌∙◌, subst, inl}
 use Rattle.std.specs.Prelude.{Some, slice_get}
 use Rattle.verse_tree.specs.ItemTree.{FieldTree, MemberTree, field, method, ItemTree, using, enumeration, class, function}
 use Rattle.verse_names_declarations.specs.Counting.{counted, counts_after, no_counts}
@@ -10,6 +10,8 @@ use Rattle.verse_names_items.specs.Nodes.{ItemsBreak}
 use Rattle.verse_names_items.specs.Tables.{note_members}
 use Rattle.verse_names_scopes.specs.Visible.{World, inside, outside}
 use Rattle.verse_meaning.specs.Programs as programs
+use Rattle.verse_meaning.specs.Programs.{fields_from}
+use Rattle.verse_meaning_state.specs.Waits.{nth}
 use Rattle.verse_accept_scopes.specs.Lists.{Each}
 use Rattle.verse_accept_scopes.specs.Sites.{Site}
 use Rattle.verse_accept_scopes.specs.Holding.{OnField, OnMembers, OnItems}
@@ -61,10 +63,16 @@ pub bodies_found : BodiesFound
 bodies_found is shaped numbered sound g o e =
     on_owned (Found is) (known is) (known is).items (items_found is shaped numbered sound) g o e
 
-pub fields_found : FieldsFound
-fields_found is shaped numbered sound c i d e =
+-- what holds on the items holds on each field of a class
+pub fields_on : (P : Site → Type 0) (is : List ItemTree) → ((m r : ℕ) → ItemsBreak is m r → ⊥) →
+    OnItems P (known is) [] (known is).items → (c i : ℕ) (d : FieldTree) →
+    slice_get (fields_from (length (programs.classes is)) (programs.classes is) (nth (programs.classes is) c)) i ≡ Some d →
+    OnField P (outside (known is)) [] d
+fields_on P is quiet h c i d e =
     let k = known is in
-    let quiet : (m r : ℕ) → ItemsBreak is m r → ⊥ = λ m r b. sound.named m r (inl b) in
     let own = ap (λ l. slice_get l i) (fields_agree is (no_circle is quiet) c) ∙ e in
-    one_on (Found is) k (class_fields is c) i d
-    (trees_on (Found is) k k.notes (line_of k.outline c) (notes_on (Found is) k is no_counts (items_found is shaped numbered sound))) own
+    one_on P k (class_fields is c) i d (trees_on P k k.notes (line_of k.outline c) (notes_on P k is no_counts h)) own
+
+pub fields_found : FieldsFound
+fields_found is shaped numbered sound =
+    fields_on (Found is) is (λ m r b. sound.named m r (inl b)) (items_found is shaped numbered sound)

@@ -9,8 +9,8 @@ use Rattle.verse_rules.specs.Sound.{BodiesBreak}
 use Rattle.verse_accept.specs.Stages.{makes_each}
 use Rattle.verse_accept.specs.Fronts.{Cut, Laid, sized, cutting, laying, spelling, all_items, Accepts}
 use Rattle.lower_bounds.proofs.Lists.{Each, each_joined}
-use Rattle.verse_accept_nodes.proofs.Tokens.{tokens_fit}
-use Rattle.verse_accept_nodes.proofs.Toks.{toks_fit}
+use Rattle.verse_accept_nodes.proofs.Tokens.{TokenFits, tokens_fit}
+use Rattle.verse_accept_nodes.proofs.Toks.{TokFits, toks_fit}
 use Rattle.verse_accept_nodes.proofs.ReadingItems.{FineItem, program_fits}
 
 -- what the items of each file have all have
@@ -41,9 +41,9 @@ one_fits total n bs cs c l is low h g k m =
     let small_bs : length cs ≤ MOST_FILE_BYTES = subst (λ x. length x ≤ MOST_FILE_BYTES) (sym h.0) h.1 in
     let small_cut : length c.bytes ≤ MOST_FILE_BYTES = subst (λ x. length x ≤ MOST_FILE_BYTES) (sym g.0) small_bs in
     let small : length l.bytes ≤ MOST_FILE_BYTES = subst (λ x. length x ≤ MOST_FILE_BYTES) (sym k.0) small_cut in
-    let tokens = tokens_fit total n cs c.tokens low g.1 in
+    let tokens = subst (λ b. Each (TokenFits total b) c.tokens) (sym g.0) (tokens_fit total n cs c.tokens low g.1) in
     let toks = toks_fit total c.bytes c.tokens l.toks (omega arith) tokens k.1 in
-    program_fits total l.bytes small m.0 toks
+    program_fits total l.bytes small m.0 (subst (λ b. Each (TokFits total b) l.toks) (sym k.0) toks)
 
 -- the items as they are written in the files, before they are numbered
 pub record Written (files : List (List ℕ)) (is : List ItemTree) : Type 0 where

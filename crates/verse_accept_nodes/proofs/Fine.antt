@@ -1,19 +1,79 @@
 -- Trees whose nodes fit, however they are numbered.
-use Rattle.std.proofs.Common.{ℕ, ◌+◌, List, [], ◌∷◌, ◌++◌}
+use Rattle.std.proofs.Common.{◌≡◌, ℕ, ◌+◌, ◌-◌, List, [], ◌∷◌, ◌++◌, arith}
 use Rattle.verse_base.specs.declared.places.Place.{Place}
 use Rattle.verse_tree.specs.Tree.{Bytes, Written, Writtens, Tree, tree, Shape, Trees, Holes, Pairs, Givens}
+use Rattle.verse_tree.specs.Tree as t
 use Rattle.verse_tree.specs.View.{writtens, trees, holes, pairs, givens}
-use Rattle.verse_tree.specs.PostOrder.{Node, written_order, writtens_order, post_order, parts, trees_order, holes_order}
+use Rattle.verse_tree.specs.PostOrder.{Node, What, expression, parameter, written_order, writtens_order, post_order, parts, trees_order, holes_order}
 use Rattle.verse_tree.specs.PostOrder.{pairs_order, givens_order}
-use Rattle.verse_tree.specs.Numbering.{written_nodes, written_numbered, writtens_numbered, nodes, numbered, shape_numbered, trees_numbered}
+use Rattle.verse_tree.specs.Numbering.{written_nodes, written_numbered, writtens_numbered, nodes, shape_nodes, numbered, shape_numbered}
+use Rattle.verse_tree.specs.Numbering.{trees_numbered}
 use Rattle.verse_tree.specs.Numbering.{holes_numbered, pairs_numbered, givens_numbered}
 use Rattle.verse_code.specs.Validity.{IsText, IsPlace}
-use Rattle.lower_bounds.specs.Programs.{PiecesFit, ShapeFits, NodeFits}
-use Rattle.lower_bounds.proofs.Lists.{Each, each_joined}
+use Rattle.lower_bounds.specs.Programs.{PiecesFit, ShapeFits, WhatFits, NodeFits}
+use Rattle.lower_bounds.proofs.Lists.{Each, each_joined, each_weaker}
+use Rattle.verse_rules_walk.specs.Nodes.{number_of_tree}
+use Rattle.verse_accept_nodes.specs.Laws.{IsNew, ShapeNames, WhatNames, NodeNames}
+
+-- what is asked of the form of the node n
+abbrev pub ShapeGood : ℕ → Shape → Type 0
+ShapeGood n (t.Shape.definition x e) = IsNew x
+ShapeGood n (t.Shape.typed x w e) = IsNew x
+ShapeGood n (t.Shape.variable x w e) = IsNew x
+ShapeGood n (t.Shape.elements x e) = IsNew x
+ShapeGood n (t.Shape.entries k x e) = IsNew k × IsNew x × (number_of_tree e ≡ n - 1)
+ShapeGood n (t.Shape.range x e f) = IsNew x
+ShapeGood n s = ShapeFits s
+
+abbrev pub WhatGood : ℕ → What → Type 0
+WhatGood n (expression s) = ShapeGood n s
+WhatGood n (parameter q) = IsNew q.name
+WhatGood n other = Unit {0}
+
+shape_fits : (n : ℕ) (s : Shape) → ShapeGood n s → ShapeFits s
+shape_fits n (t.Shape.definition x e) h = tt
+shape_fits n (t.Shape.typed x w e) h = tt
+shape_fits n (t.Shape.variable x w e) h = tt
+shape_fits n (t.Shape.elements x e) h = tt
+shape_fits n (t.Shape.entries k x e) h = tt
+shape_fits n (t.Shape.range x e f) h = tt
+shape_fits n s h = h
+
+shape_names : (n : ℕ) (s : Shape) → ShapeGood n s → ShapeNames n s
+shape_names n (t.Shape.definition x e) h = h
+shape_names n (t.Shape.typed x w e) h = h
+shape_names n (t.Shape.variable x w e) h = h
+shape_names n (t.Shape.elements x e) h = h
+shape_names n (t.Shape.entries k x e) h = h
+shape_names n (t.Shape.range x e f) h = h
+shape_names n s h = tt
+
+what_fits : (n : ℕ) (x : What) → WhatGood n x → WhatFits x
+what_fits n (expression s) h = shape_fits n s h
+what_fits n _ h = tt
+
+what_names : (n : ℕ) (x : What) → WhatGood n x → WhatNames n x
+what_names n (expression s) h = shape_names n s h
+what_names n (parameter q) h = h
+what_names n _ h = tt
+
+-- a tree is numbered before what stands behind it
+pub numbered_before : (e : Tree) (n : ℕ) → number_of_tree (numbered e n) ≡ (n + nodes e) - 1
+numbered_before (tree m p s) n = omega arith
 
 module _ (files : ℕ) where
+  pub record NodeGood (v : Node) : Type 0 where
+    pub place : IsPlace files v.place
+    pub what : WhatGood v.number v.what
+
   abbrev pub Fit : List Node → Type 0
-  Fit vs = Each (NodeFits files) vs
+  Fit vs = Each NodeGood vs
+
+  pub good_fit : (vs : List Node) → Fit vs → Each (NodeFits files) vs
+  good_fit vs h = each_weaker (λ v g. record { place = g.place; what = what_fits v.number v.what g.what }) vs h
+
+  pub good_names : (vs : List Node) → Fit vs → Each NodeNames vs
+  good_names vs h = each_weaker (λ v g. what_names v.number v.what g.what) vs h
 
   pub record FineWritten (w : Written) : Type 0 where
     pub fit : (n : ℕ) → Fit (written_order (written_numbered w n))
@@ -38,10 +98,10 @@ module _ (files : ℕ) where
     pub fit : (n : ℕ) → Fit (givens_order (givens_numbered gs n))
 
   pub both : (vs us : List Node) → Fit vs → Fit us → Fit (vs ++ us)
-  both vs us h g = each_joined (NodeFits files) vs us h g
+  both vs us h g = each_joined NodeGood vs us h g
 
   -- a node at a place, by what is asked of its own form and by its parts
-  pub fine : {pl : Place} {s : Shape} → IsPlace files pl → ((n : ℕ) → ShapeFits (shape_numbered s n)) →
+  pub fine : {pl : Place} {s : Shape} → IsPlace files pl → ((n : ℕ) → ShapeGood (n + shape_nodes s) (shape_numbered s n)) →
       ((n : ℕ) → Fit (parts (shape_numbered s n))) → FineTree (tree 0 pl s)
   fine p h f = record { fit = λ n. both _ _ (f n) (record { place = p; what = h n }, tt) }
 

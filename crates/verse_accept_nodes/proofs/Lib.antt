@@ -11,4 +11,4 @@ mod Plain
 mod Visited
 mod Enums
 mod Rules
-mod Accepted
+pub mod Accepted

@@ -57,51 +57,51 @@ module _ (files : ℕ) where
 
   -- ---- toks without nodes
 
-  specs_fit : {b : List ℕ} {ks rest : List Tok} {ss : List SpecTree} → Specs b ks ss rest → ToksFit files ks → ToksFit files rest
+  specs_fit : {b : List ℕ} {ks rest : List Tok} {ss : List SpecTree} → Specs b ks ss rest → ToksFit files b ks → ToksFit files b rest
   specs_fit x.Specs.no_specs f = f
   specs_fit (x.Specs.more_specs d ho hn hc) f = (specs_fit d f).1.1.1
 
-  dotted_fit : {b : List ℕ} {ks rest : List Tok} {ns : List Bytes} → Dotted b ks ns rest → ToksFit files ks → ToksFit files rest
+  dotted_fit : {b : List ℕ} {ks rest : List Tok} {ns : List Bytes} → Dotted b ks ns rest → ToksFit files b ks → ToksFit files b rest
   dotted_fit (x.Dotted.one_name h) f = f.1
   dotted_fit (x.Dotted.more_names d h hn) f = (dotted_fit d f).1.1
 
-  path_fit : {b : List ℕ} {ks rest : List Tok} {path : List (List Bytes)} → Path b ks path rest → ToksFit files ks → ToksFit files rest
+  path_fit : {b : List ℕ} {ks rest : List Tok} {path : List (List Bytes)} → Path b ks path rest → ToksFit files b ks → ToksFit files b rest
   path_fit (x.Path.one_part h d) f = dotted_fit d f.1
   path_fit (x.Path.more_parts ds h d) f = dotted_fit d (path_fit ds f).1
 
-  value_row_fits : {b : List ℕ} {ks rest : List Tok} {vs : List Bytes} → ValueRow b ks vs rest → ToksFit files ks → ToksFit files rest
+  value_row_fits : {b : List ℕ} {ks rest : List Tok} {vs : List Bytes} → ValueRow b ks vs rest → ToksFit files b ks → ToksFit files b rest
   value_row_fits (x.ValueRow.one_value h) f = f.1
   value_row_fits (x.ValueRow.more_values ds h hn) f = (value_row_fits ds f).1.1
 
-  values_fit : {b : List ℕ} {ks rest : List Tok} {vs : List Bytes} → Values b ks vs rest → ToksFit files ks → ToksFit files rest
+  values_fit : {b : List ℕ} {ks rest : List Tok} {vs : List Bytes} → Values b ks vs rest → ToksFit files b ks → ToksFit files b rest
   values_fit (x.Values.no_values h) f = f.1
   values_fit (x.Values.some_values ds h) f = (value_row_fits ds f).1
 
-  parent_fits : {b : List ℕ} {ks rest : List Tok} {q : Option Bytes} → Parent b ks q rest → ToksFit files ks → ToksFit files rest
+  parent_fits : {b : List ℕ} {ks rest : List Tok} {q : Option Bytes} → Parent b ks q rest → ToksFit files b ks → ToksFit files b rest
   parent_fits x.Parent.no_parent f = f
   parent_fits (x.Parent.parent ho hn hc) f = f.1.1.1
 
   -- ---- items
 
   module _ (b : List ℕ) (small : length b ≤ MOST_FILE_BYTES) where
-    param_fits : {ks rest : List Tok} {q : ParamTree} → Param b ks q rest → ToksFit files ks → FineParam q × ToksFit files rest
+    param_fits : {ks rest : List Tok} {q : ParamTree} → Param b ks q rest → ToksFit files b ks → FineParam q × ToksFit files b rest
     param_fits (x.Param.param h ho d) f =
         let r = type_fits files d f.1.1 in
-        (record { fit = λ n. both files _ _ (r.0.fit n) (record { place = f.0.place; what = tt }, tt) }, r.1)
+        (record { fit = λ n. both files _ _ (r.0.fit n) (record { place = f.0.place; what = f.0.named h }, tt) }, r.1)
 
-    param_row_fits : {ks rest : List Tok} {qs : List ParamTree} → ParamRow b ks qs rest → ToksFit files ks →
-        Each FineParam qs × ToksFit files rest
+    param_row_fits : {ks rest : List Tok} {qs : List ParamTree} → ParamRow b ks qs rest → ToksFit files b ks →
+        Each FineParam qs × ToksFit files b rest
     param_row_fits (x.ParamRow.one_param d) f = let r = param_fits d f in ((r.0, tt), r.1)
     param_row_fits (x.ParamRow.more_params {qs = qs} ds h d) f =
         let r = param_row_fits ds f in let q = param_fits d r.1.1 in (each_joined FineParam qs _ r.0 (q.0, tt), q.1)
 
-    params_fit : {ks rest : List Tok} {qs : List ParamTree} → Params b ks qs rest → ToksFit files ks →
-        Each FineParam qs × ToksFit files rest
+    params_fit : {ks rest : List Tok} {qs : List ParamTree} → Params b ks qs rest → ToksFit files b ks →
+        Each FineParam qs × ToksFit files b rest
     params_fit (x.Params.no_params h) f = (tt, f.1)
     params_fit (x.Params.some_params ds h) f = let r = param_row_fits ds f in (r.0, r.1.1)
 
-    fun_rest_fits : {n : Tok} {ss : List SpecTree} {ks rest : List Tok} {f : FunTree} → FunRest b n ss ks f rest → TokFits files n →
-        ToksFit files ks → FineFun f × ToksFit files rest
+    fun_rest_fits : {n : Tok} {ss : List SpecTree} {ks rest : List Tok} {f : FunTree} → FunRest b n ss ks f rest → TokFits files b n →
+        ToksFit files b ks → FineFun f × ToksFit files b rest
     fun_rest_fits (x.FunRest.fun_rest {qs = qs} ho ps es hd d hq e) h f =
         let r = params_fit ps f.1 in
         let q = type_fits files d (specs_fit es r.1).1 in
@@ -113,15 +113,15 @@ module _ (files : ℕ) where
           s.1,
         )
 
-    fun_fits : {ks rest : List Tok} {f : FunTree} → Fun b ks f rest → ToksFit files ks → FineFun f × ToksFit files rest
+    fun_fits : {ks rest : List Tok} {f : FunTree} → Fun b ks f rest → ToksFit files b ks → FineFun f × ToksFit files b rest
     fun_fits (x.Fun.fun h ss d) f = fun_rest_fits d f.0 (specs_fit ss f.1)
 
-    default_fits : {ks rest : List Tok} {d : Option Tree} → Default b ks d rest → ToksFit files ks → FineDefault d × ToksFit files rest
+    default_fits : {ks rest : List Tok} {d : Option Tree} → Default b ks d rest → ToksFit files b ks → FineDefault d × ToksFit files b rest
     default_fits x.Default.no_default f = (record { fit = λ n. tt }, f)
     default_fits (x.Default.default h d) f =
         let r = phrase_fits files b small d f.1 in (record { fit = λ n. r.0.fit n }, r.1)
 
-    field_fits : {ks rest : List Tok} {d : FieldTree} → Field b ks d rest → ToksFit files ks → FineField d × ToksFit files rest
+    field_fits : {ks rest : List Tok} {d : FieldTree} → Field b ks d rest → ToksFit files b ks → FineField d × ToksFit files b rest
     field_fits (x.Field.field_plain h ss ho d e) f =
         let r = type_fits files d (specs_fit ss f.1).1 in
         let q = default_fits e r.1 in
@@ -131,7 +131,7 @@ module _ (files : ℕ) where
         let q = default_fits e r.1 in
         (record { place = f.0.place; fit = λ n. both files _ _ (r.0.fit n) (q.0.fit _) }, q.1)
 
-    member_fits : {ks rest : List Tok} {m : MemberTree} → Member b ks m rest → ToksFit files ks → FineMember m × ToksFit files rest
+    member_fits : {ks rest : List Tok} {m : MemberTree} → Member b ks m rest → ToksFit files b ks → FineMember m × ToksFit files b rest
     member_fits (x.Member.member_field d) f =
         let r = field_fits d f in
         (record { fit = λ n. both files _ _ (r.0.fit n) (record { place = r.0.place; what = tt }, tt) }, r.1)
@@ -139,18 +139,18 @@ module _ (files : ℕ) where
         let r = fun_fits d f in
         (record { fit = λ n. both files _ _ (r.0.fit n) (record { place = r.0.place; what = tt }, tt) }, r.1)
 
-    member_row_fits : {ks rest : List Tok} {ms : List MemberTree} → MemberRow b ks ms rest → ToksFit files ks →
-        Each FineMember ms × ToksFit files rest
+    member_row_fits : {ks rest : List Tok} {ms : List MemberTree} → MemberRow b ks ms rest → ToksFit files b ks →
+        Each FineMember ms × ToksFit files b rest
     member_row_fits (x.MemberRow.one_member d) f = let r = member_fits d f in ((r.0, tt), r.1)
     member_row_fits (x.MemberRow.more_members {xs = ms} ds h d) f =
         let r = member_row_fits ds f in let q = member_fits d r.1.1 in (each_joined FineMember ms _ r.0 (q.0, tt), q.1)
 
-    members_fit : {ks rest : List Tok} {ms : List MemberTree} → Members b ks ms rest → ToksFit files ks →
-        Each FineMember ms × ToksFit files rest
+    members_fit : {ks rest : List Tok} {ms : List MemberTree} → Members b ks ms rest → ToksFit files b ks →
+        Each FineMember ms × ToksFit files b rest
     members_fit (x.Members.no_members h) f = (tt, f.1)
     members_fit (x.Members.some_members ds h) f = let r = member_row_fits ds f in (r.0, r.1.1)
 
-    item_fits : {ks rest : List Tok} {y : ItemTree} → Item b ks y rest → ToksFit files ks → FineItem y × ToksFit files rest
+    item_fits : {ks rest : List Tok} {y : ItemTree} → Item b ks y rest → ToksFit files b ks → FineItem y × ToksFit files b rest
     item_fits (x.Item.item_using h ho d hc) f =
         (record { fit = λ n. (record { place = f.0.place; what = tt }, tt) }, (path_fit d f.1.1).1)
     item_fits (x.Item.item_enum h ss hd he ho d) f =
@@ -162,12 +162,12 @@ module _ (files : ℕ) where
         let r = fun_fits d f in
         (record { fit = λ n. both files _ _ (r.0.fit n) (record { place = r.0.place; what = tt }, tt) }, r.1)
 
-    item_row_fits : {ks rest : List Tok} {is : List ItemTree} → ItemRow b ks is rest → ToksFit files ks →
-        Each FineItem is × ToksFit files rest
+    item_row_fits : {ks rest : List Tok} {is : List ItemTree} → ItemRow b ks is rest → ToksFit files b ks →
+        Each FineItem is × ToksFit files b rest
     item_row_fits (x.ItemRow.one_item d) f = let r = item_fits d f in ((r.0, tt), r.1)
     item_row_fits (x.ItemRow.more_items {is = is} ds h d) f =
         let r = item_row_fits ds f in let q = item_fits d r.1.1 in (each_joined FineItem is _ r.0 (q.0, tt), q.1)
 
-    pub program_fits : {ks rest : List Tok} {is : List ItemTree} → Program b ks is rest → ToksFit files ks → Each FineItem is
+    pub program_fits : {ks rest : List Tok} {is : List ItemTree} → Program b ks is rest → ToksFit files b ks → Each FineItem is
     program_fits x.Program.no_items f = tt
     program_fits (x.Program.some_items ds) f = (item_row_fits ds f).0

@@ -1,17 +1,20 @@
 -- The tokens of a file stand in it, and their characters and pauses are within the limits of a code.
-use Rattle.std.proofs.Common.{◌≡◌, ℕ, ◌+◌, ◌<◌, ◌≤◌, ◌==◌, ◌||◌, Bool, true, false, if◌then◌else◌, List, [], ◌∷◌, Option, Some, None}
-use Rattle.std.proofs.Common.{refl, sym}
+use Rattle.std.proofs.Common.{◌≡◌, ℕ, ◌+◌, ◌-◌, ◌<◌, ◌≤◌, ◌==◌, ◌||◌, Bool, true, false, if◌then◌else◌, List, [], ◌∷◌, ◌++◌, Option}
+use Rattle.std.proofs.Common.{Some, None, refl, sym, ap, ◌∙◌, cond, take, drop, append_assoc, length-append}
+use Rattle.std.proofs.lemmas.List.{drop_at}
+use Rattle.std.proofs.Math.Seq.{take-append_seam}
 use Rattle.std.proofs.Common.{subst, arith, nat_lt, nat_le, not, length}
 use Rattle.std.proofs.lemmas.Bool.{leb-true, ltb-false}
 use Rattle.verse_base.specs.declared.places.Place.{Place}
 use Rattle.verse_base.specs.declared.refusals.Rule.{Rule}
 use Rattle.verse_lex.specs.Texts.{is_quoted, escape}
-use Rattle.verse_lex.specs.Words.{kind_of, look_up, is_among, words, left_out}
+use Rattle.verse_lex.specs.Words.{kind_of, name_kind, look_up, is_among, words, left_out}
 use Rattle.verse_lex.specs.Numbers.{thousandths}
 use Rattle.verse_lex.specs.Cut.{AreTokens, next_place, after, first_place}
 use Rattle.verse_lex.specs.declared.numbers.TheConstants.{MOST_DURATION}
 use Rattle.verse_lex.specs.declared.rules.TheConstants.{DURATION}
 use Rattle.verse_lex.specs.declared.tokens.Word.{Word}
+use Rattle.verse_lex.specs.declared.tokens.Word.TheVariants as w
 use Rattle.verse_lex.specs.declared.tokens.Token.{Token}
 use Rattle.verse_lex.specs.declared.tokens.TokenKind.{TokenKind}
 use Rattle.verse_lex.specs.declared.tokens.TokenKind.TheVariants as k
@@ -22,15 +25,22 @@ use Rattle.verse_lex_laws.proofs.Files.{tokens_spelled}
 use Rattle.verse_code.specs.declared.validity.TheConstants.{MOST_PAUSE}
 use Rattle.verse_code.specs.Validity.{IsPlace}
 use Rattle.lower_bounds.proofs.Lists.{Each}
+use Rattle.verse_tree.specs.Tree.{Bytes}
+use Rattle.verse_meaning.specs.Programs.{same_name}
+use Rattle.verse_meaning.specs.Forms.{this_name}
+use Rattle.verse_accept_nodes.specs.Laws.{IsNew}
 
 abbrev pub KindFits : TokenKind → Type 0
 KindFits (k.Char c) = c ≤ 255
 KindFits (k.Dec d) = d ≤ MOST_PAUSE
 KindFits kind = Unit {0}
 
-pub record TokenFits (files : ℕ) (t : Token) : Type 0 where
+-- a token of a file with these bytes
+pub record TokenFits (files : ℕ) (bytes : List ℕ) (t : Token) : Type 0 where
   pub place : IsPlace files t.place
   pub kind : KindFits t.kind
+  -- a name is not that of `Self`, which is a word
+  pub named : t.kind ≡ k.Name → IsNew (take (t.end - t.start) (drop t.start bytes))
 
 -- ---- places
 
@@ -109,14 +119,71 @@ spelled_fits (s.double h) = tt
 spelled_fits (s.single h) = tt
 spelled_fits (s.single_in_hole h e f) = tt
 
+-- ---- names
+
+both_true : (v w : Bool) → cond v w false ≡ true → (v ≡ true) × (w ≡ true)
+both_true true w h = (refl, h)
+both_true false w h = absurd (cc)
+
+name_same : (x y : Bytes) → same_name x y ≡ true → x ≡ y
+name_same [] [] h = refl
+name_same [] (c ∷ y) h = absurd (cc)
+name_same (b ∷ x) [] h = absurd (cc)
+name_same (b ∷ x) (c ∷ y) h =
+    let f = both_true (b == c) (same_name x y) h in
+    let e = name_same x y f.1 in
+    let g = equal b c f.0 in
+    cc
+
+-- what is spelled as `Self` is is a word
+not_this : (cs : Bytes) (v : Bool) → same_name this_name cs ≡ v → name_kind cs ≡ k.Name → v ≡ false
+not_this cs false e f = refl
+not_this cs true e f =
+    let same = name_same this_name cs e in
+    let word : k.Word w.This ≡ k.Name = subst (λ x. name_kind x ≡ k.Name) (sym same) f in
+    absurd (cc)
+
+number_no_name : {cs : List ℕ} {kind : TokenKind} {rule : Option Rule} → Number cs kind rule → kind ≡ k.Name → ⊥
+number_no_name (s.digits d ds h g) e = cc
+number_no_name (s.hex_digits d ds h g) e = cc
+number_no_name (s.fraction c d cs ds h g i j) e = cc
+
+spelled_new : {within : Bool} {cs : List ℕ} {kind : TokenKind} → Spells within cs (is_token kind) → kind ≡ k.Name → IsNew cs
+spelled_new (s.name {b = b} {cs = cs} h g) e = not_this (b ∷ cs) (same_name this_name (b ∷ cs)) refl e
+spelled_new (s.number d) e = absurd (number_no_name d e)
+spelled_new (s.literal d) e = cc
+spelled_new (s.text d) e = cc
+spelled_new (s.text_open d) e = cc
+spelled_new (s.text_mid d) e = cc
+spelled_new (s.text_close d) e = cc
+spelled_new (s.double h) e = cc
+spelled_new (s.single h) e = cc
+spelled_new (s.single_in_hole h f g) e = cc
+
+-- the bytes of the span of a token
+spanned : (file : ℕ) (bs : List ℕ) (t : Token) (d : IsSpelled file bs t) → take (t.end - t.start) (drop t.start bs) ≡ d.front
+spanned file bs t d =
+    let ahead = d.mark ++ d.before in
+    let begins : length ahead ≡ t.start = length-append d.mark d.before ∙ sym d.start in
+    let long : t.end - t.start ≡ length d.front = omega (arith, d.start, d.stop) in
+    let rest : drop t.start bs ≡ d.front ++ d.behind =
+    ap (λ l. drop t.start l) (d.whole ∙ sym (append_assoc d.mark d.before (d.front ++ d.behind)))
+    ∙ drop_at ahead (d.front ++ d.behind) t.start begins in
+    ap (λ n. take n (drop t.start bs)) long ∙ ap (λ l. take (length d.front) l) rest ∙ take-append_seam d.front d.behind
+
 -- ---- tokens
 
-each_fits : (files file : ℕ) (bs : List ℕ) (ts : List Token) → file < files → EachSpelled file bs ts → Each (TokenFits files) ts
+each_fits : (files file : ℕ) (bs : List ℕ) (ts : List Token) → file < files → EachSpelled file bs ts → Each (TokenFits files bs) ts
 each_fits files file bs [] h d = tt
 each_fits files file bs (t ∷ ts) h d = (
-  record { place = subst (IsPlace files) (sym d.0.place) (stands_behind files file d.0.before h); kind = spelled_fits d.0.spelled },
+  record {
+    place = subst (IsPlace files) (sym d.0.place) (stands_behind files file d.0.before h);
+    kind = spelled_fits d.0.spelled;
+    named = λ e. subst IsNew (sym (spanned file bs t d.0)) (spelled_new d.0.spelled e);
+  },
   each_fits files file bs ts h d.1,
 )
 
-pub tokens_fit : (files file : ℕ) (bs : List ℕ) (ts : List Token) → file < files → AreTokens file bs ts → Each (TokenFits files) ts
+pub tokens_fit : (files file : ℕ) (bs : List ℕ) (ts : List Token) → file < files → AreTokens file bs ts →
+    Each (TokenFits files bs) ts
 tokens_fit files file bs ts h a = each_fits files file bs ts h (tokens_spelled file bs ts a)

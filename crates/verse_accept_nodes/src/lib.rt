@@ -8,7 +8,12 @@
 //! to; `Enums`, which value that is; `Rules`, what the rules of types leave; `Accepted`, the laws.
 #![tactic(auto)]
 
-ghost use Rattle.verse_accept_nodes.specs.Laws.{AcceptedFit, AcceptedStand};
+ghost use Rattle.verse_accept_nodes.specs.Laws.{
+  AcceptedFit,
+  AcceptedNames,
+  AcceptedShaped,
+  AcceptedStand,
+};
 
 use verse_grammar_shapes::laws::{numbered_is_shaped, spelled_is_shaped};
 
@@ -17,6 +22,20 @@ use verse_grammar_shapes::laws::{numbered_is_shaped, spelled_is_shaped};
 pub fn accepted_nodes_fit()
     ensures { AcceptedFit }
 {}
+
+/// No name that an accepted program defines is `Self`, which is a word of its own; and the domain
+/// of keys and values in a `for` has the number before that of the generator.
+pub fn accepted_names_are_new()
+    ensures { AcceptedNames }
+{}
+
+/// The trees of an accepted program have the shapes of those that are spelled.
+pub fn accepted_trees_are_shaped()
+    ensures { AcceptedShaped }
+{
+    spelled_is_shaped();
+    numbered_is_shaped();
+}
 
 /// In an accepted program no condition defers, groups have arms, and patterns stand for values.
 pub fn accepted_nodes_stand()

@@ -4,3 +4,4 @@ pub mod Turns
 pub mod Steps
 pub mod Runs
 mod Examples
+pub mod Promises

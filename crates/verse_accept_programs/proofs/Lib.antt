@@ -1,0 +1,5 @@
+pub mod Shapes
+pub mod Bodies
+pub mod Inheriting
+pub mod Main
+pub mod Whole

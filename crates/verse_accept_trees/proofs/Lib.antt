@@ -1,0 +1,4 @@
+pub mod Nodes
+pub mod Rounding
+pub mod Knot
+pub mod Whole
