@@ -1,7 +1,6 @@
 //! What the other forms of a program that breaks no rule need for its soundness, beside those of
 //! `verse_accept_fine`. Read `Plain`, forms that ask only for their type and for what is allowed;
-//! `Callees`, calls, indices and `spawn`; and `Targets`, what `set` writes to, of which no law is
-//! shown here yet.
+//! and `Callees`, calls, indices and `spawn`.
 #![tactic(auto)]
 
 ghost use Rattle.verse_accept_forms.specs.Plain.{PlainNeeds};

@@ -9,7 +9,8 @@
 ghost use Rattle.verse_accept_trees.specs.Laws.{TreesAreFine};
 
 use verse_accept_fine::{control_needs, inner_allowed, naming_needs, values_need};
-use verse_accept_forms::{callees_need, plain_needs, targets_need};
+use verse_accept_forms::{callees_need, plain_needs};
+use verse_accept_targets::targets_need;
 
 /// A body, or an expression that has to fit a written type, takes what it takes and gives what it
 /// gives by the sorts that the checker has found, where what stands round it allows so much.
