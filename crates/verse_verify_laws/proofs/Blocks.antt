@@ -1,0 +1,186 @@
+-- Deferred blocks.
+use Rattle.std.proofs.Common.{◌≡◌, ℕ, suc, ◌+◌, ◌≤◌, ◌<◌, length, map, List, [], ◌∷◌, Option, Some, Bool, true, false}
+use Rattle.std.proofs.Common.{cond}
+use Rattle.std.proofs.Common.{refl, sym, subst, ap, arith, ◌∙◌}
+use Rattle.std.specs.Prelude.{not, nat_lt}
+use Rattle.std.proofs.lemmas.Bool.{ltb-true, ltb-false}
+use Rattle.verse_code.specs.declared.operations.Op.{Op}
+use Rattle.verse_code.specs.declared.operations.Op.TheVariants as o
+use Rattle.verse_code.specs.declared.codes.Code.{Code}
+use Rattle.verse_meaning_state.specs.Waits.{eqn, ltn}
+use Rattle.verse_code_machine_parents.proofs.Lists.{no_both, eqn_is, eqn_same}
+use Rattle.verse_sorts.specs.Sorts.{Sort}
+use Rattle.verse_sorts.specs.Typing.{AllFit, fit_no}
+use Rattle.verse_verify_kept.specs.Notes.{Point, Notes, parent_of, point_at, names}
+use Rattle.verse_verify_kept.specs.Rules as r
+use Rattle.verse_verify_faults.specs.Spots.{Mark, Spot, Table, spot_at, above, opens, even, cut}
+use Rattle.verse_verify_faults.specs.Stepping as step
+use Rattle.verse_verify_faults.specs.Stepping.{Made, is, list_of, one_of, Stepped, Goes, inner, begins_arm}
+use Rattle.verse_verify_faults.specs.Stepping.{begins_block, leads, goes_on, to}
+use Rattle.verse_verify_faults.specs.Faults.{all_suit, suits, fits_back, tries_of, keeps, try_count}
+use Rattle.verse_verify_faults.proofs.Fitting.{both, each_fit_is}
+use Rattle.verse_verify_faults.proofs.Leading as leading
+use Rattle.verse_verify_faults.proofs.Leading.{notes, Becomes, Become, become_is, Next, next_in, leads_with, marks_are}
+use Rattle.verse_verify_faults.proofs.Leading.{numbers_are, number_is, arm_is}
+use Rattle.verse_verify_laws.proofs.Steps.{Fine, led}
+use Rattle.verse_verify_laws.proofs.Holding as holding
+use Rattle.verse_verify_laws.proofs.Holding.{may_fail_is, may_wait_is, quiet_in, none_is, nil_is, some_is, not_is}
+use Rattle.verse_verify_laws.proofs.Holding.{not_less}
+use Rattle.verse_verify_laws.proofs.Going.{wrote}
+
+empty_fit : {up : ℕ → Option ℕ} {ys : List Sort} → AllFit up [] ys → ys ≡ []
+empty_fit fit_no = refl
+
+module _ (c : Code) (t : Table) (p : Spot) (i : ℕ) (ev : even (length p.stack) p.tries ≡ true) where
+  abbrev N : Notes
+  N = notes c t
+
+  abbrev P : Point
+  P = cut p
+
+  abbrev st : List Sort
+  st = above p.stack p.tries
+
+  abbrev Done : Op → Type 0
+  Done op = Fine c t p i op (step.step c t p i op st)
+
+  abbrev Passed : Op → Type 0
+  Passed op = r.Passes c N i P op
+
+  -- a block's first operation
+  record BlockAt (e count : ℕ) (outer : List ℕ) (back : Bool) : Type 0 where
+    pub spot : Spot
+    pub there : spot_at t e ≡ Some spot
+    pub entry : r.Entry c N P e count (cut spot)
+    pub same : outer ≡ spot.outer
+    pub locals : r.Each c N p.locals spot.locals
+    pub again : fits_back t.classes back spot.locals p.locals ≡ true
+
+  block_at : (e count : ℕ) (back : Bool) → suits c t p (step.block_at c t p i e count back) ≡ true → BlockAt e count
+      (names P) back
+  block_at e count back h =
+      let nx = next_in c t p (step.block_at c t p i e count back) h in
+      let tries = sym (marks_are [] nx.spot.tries nx.tries) in
+      let stack = empty_fit (subst (λ xs. AllFit (parent_of N) xs nx.spot.stack) (become_is c t [] nx.stack.become)
+      nx.stack.fit) in
+      record {
+        spot = nx.spot;
+        there = nx.there;
+        entry = record {
+          live = leading.point_there c t e nx.spot nx.there (holding.no_marks c t nx.spot tries);
+          func = nx.func;
+          arm = arm_is p.arm nx.spot.arm (both _ _ (both _ _ (both _ _ (both _ _ nx.part).0).0).0).0;
+          block = sym (number_is (Some e) nx.spot.block (both _ _ (both _ _ (both _ _ (both _ _ nx.part).0).0).0).1);
+          stack = holding.cut_bare c t nx.spot stack tries;
+          tries = holding.opens_bare c t nx.spot tries;
+          defers = nil_is nx.spot.defers (both _ _ nx.part).1;
+          under = sym (eqn_is (p.under + count) nx.spot.under (both _ _ (both _ _ nx.part).0).1);
+        };
+        same = holding.names_are c t p ∙ numbers_are (tries_of c t p) nx.spot.outer (both _ _ (both _ _ (both _ _
+            nx.part).0).0).1;
+        locals = subst (λ xs. AllFit (parent_of N) xs nx.spot.locals) (become_is c t p.locals nx.locals.become)
+            nx.locals.fit;
+        again = nx.back;
+      }
+
+  -- the next operation, with other blocks deferred
+  behind : {j : ℕ} {ds : List ℕ} → suits c t p (record (to c t p i j [] st) { part = inner ds }) ≡ true →
+      r.Leads c N P p.locals st (opens p.stack p.tries) ds j
+  behind {j = j} {ds = ds} h =
+      let w = wrote c t p i ev {j = j} {ms = map is p.locals} {st = st} {ds = ds} h in
+      subst (λ ls. r.Leads c N P ls st (opens p.stack p.tries) ds j) (become_is c t p.locals w.become) w.leads
+
+  pub defer_passes : {l : ℕ} → Done (o.Defer l) → Passed (o.Defer l)
+  defer_passes f =
+      let k = led c t p i _ f in
+      let b = block_at (suc i) (length p.defers) false (both _ _ k.suit).0 in
+      r.of_defer b.entry b.same b.locals (behind (both _ _ (both _ _ k.suit).1).0)
+
+  leave_runs : (m : ℕ) (ds : List ℕ) → p.under ≤ m → m ≤ p.under + length ds → all_suit c t p (step.leaves c t p i m
+      ds) ≡ true →
+      r.Runs c N P i m ds
+  leave_runs m [] from most h = r.runs_no (equal p.under m from most) (behind (both _ _ h).0)
+    where
+      equal : (u m : ℕ) → u ≤ m → m ≤ u + 0 → m ≡ u + 0
+      equal u m a b = omega (arith, a, b)
+  leave_runs m (e ∷ ds) from most h = by_test (eqn m (p.under + suc (length ds))) refl h (λ l h. leave_runs m ds from l
+      h)
+    where
+      lower : (u m n : ℕ) → (eqn m (u + suc n) ≡ false) → m ≤ u + suc n → m < u + suc n
+      lower u m n e l = by_less (nat_lt m (u + suc n)) refl
+        where
+          same : (a b : ℕ) → b ≤ a → a ≤ b → a ≡ b
+          same a b k l = omega (arith, k, l)
+
+          by_less : (b : Bool) → nat_lt m (u + suc n) ≡ b → m < u + suc n
+          by_less true h = ltb-true m (u + suc n) h
+          by_less false h = elim (wrong (same m (u + suc n) (ltb-false m (u + suc n) h) l) e) [ ]
+            where
+              wrong : m ≡ u + suc n → eqn m (u + suc n) ≡ false → ⊥
+              wrong h e = no_both (sym (subst (λ k. eqn m k ≡ true) h (eqn_same m)) ∙ e)
+
+      less_one : (u m n : ℕ) → m < u + suc n → m ≤ u + n
+      less_one u m n l = omega (arith, l)
+
+      by_test : (b : Bool) → eqn m (p.under + suc (length ds)) ≡ b → all_suit c t p (cond b (record (to c t p i (suc i)
+          [] st) {
+            part = inner (e ∷ ds);
+          } ∷ []) (step.block_at c t p i e (length ds) true ∷ step.leaves c t p i m ds)) ≡ true → (m ≤ p.under + length ds
+          → all_suit c t p (step.leaves c t p i m ds) ≡ true →
+          r.Runs c N P i m ds) → r.Runs c N P i m (e ∷ ds)
+      by_test true q h go = r.runs_no (eqn_is m (p.under + suc (length ds)) q) (behind (both _ _ h).0)
+      by_test false q h go =
+          let b = block_at e (length ds) true (both _ _ h).0 in
+          let less = lower p.under m (length ds) q most in
+          r.runs_so less b.entry b.same b.locals (each_fit_is t.classes b.spot.locals p.locals b.again) (go (less_one
+          p.under
+          m (length ds) less) (both _ _ h).1)
+
+  try_keeps : (m : ℕ) → not (ltn m (keeps c t p.tries)) ≡ true → r.Keeps c N P m
+  try_keeps m e = by_tries p.tries refl (not_less m (keeps c t p.tries) (not_is (ltn m (keeps c t p.tries)) e))
+    where
+      by_tries : (ms : List Mark) → p.tries ≡ ms → keeps c t ms ≤ m → r.Keeps c N P m
+      by_tries [] eq l = r.keeps_all (ap (opens p.stack) eq)
+      by_tries (a ∷ ms) eq l = r.keeps_some (ap (opens p.stack) eq) at_try
+        where
+          at_try : (q : Point) → point_at N a.index ≡ Some q → q.under + length q.defers ≤ m
+          at_try q live =
+              let x = holding.spotted c t a.index q live in
+              subst (λ (q : Point). q.under + length q.defers ≤ m) x.is (subst (λ (y : Option Spot). try_count c t y ≤
+              m) x.there l)
+
+  pub leave_passes : {m : ℕ} → Done (o.Leave m) → Passed (o.Leave m)
+  leave_passes {m = m} f =
+      let k = led c t p i _ f in
+      r.of_leave (try_keeps m (both _ _ (both _ _ k.fit).0).0) (leave_runs m p.defers (not_less m p.under (not_is (ltn
+      m p.under) (both _ _
+      (both _ _ k.fit).0).1)) (not_less (p.under + length p.defers) m (not_is (ltn (p.under + length p.defers) m) (both
+      _ _ k.fit).1)) k.suit)
+
+  abbrev again : ℕ → Goes
+  again e = record {
+    index = e;
+    part = begins_block p.outer p.under;
+    locals = map is p.locals;
+    stack = [];
+    tries = Some [];
+    back = false;
+  }
+
+  pub defer_end_passes : Done o.DeferEnd → Passed o.DeferEnd
+  defer_end_passes f =
+      let k = led c t p i _ f in
+      let b = some_is p.block (both _ _ k.parts).0 in
+      let tries = nil_is p.tries (both _ _ k.fit).0 in
+      by_block b.0 b.1 (holding.opens_bare c t p tries) (holding.cut_bare c t p (nil_is p.stack (both _ _ k.fit).1)
+      tries) (nil_is p.defers (both _ _
+      k.parts).1) (subst (λ m. all_suit c t p (step.block_again c t p i m) ≡ true) b.1 k.suit)
+    where
+      by_block : (e : ℕ) → p.block ≡ Some e → opens p.stack p.tries ≡ [] → st ≡ [] → p.defers ≡ [] →
+          all_suit c t p (step.block_again c t p i (Some e)) ≡ true → Passed o.DeferEnd
+      by_block e eq tries stack defers h =
+          let nx = next_in c t p (again e) (both _ _ h).0 in
+          let none = sym (marks_are [] nx.spot.tries nx.tries) in
+          r.of_defer_end eq tries stack defers (leading.point_there c t e nx.spot nx.there (holding.no_marks c t
+          nx.spot none)) (subst (λ xs.
+          AllFit (parent_of N) xs nx.spot.locals) (become_is c t p.locals nx.locals.become) nx.locals.fit)

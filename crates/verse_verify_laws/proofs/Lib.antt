@@ -1,0 +1,14 @@
+mod Steps
+mod Holding
+mod Going
+mod Simple
+mod Values
+mod Writes
+mod Marks
+mod Calls
+mod Tasks
+mod Blocks
+mod Every
+mod Tables
+mod Parsed
+mod Passed
