@@ -22,6 +22,7 @@ use Rattle.verse_top_args.specs.Words.{Options}
 use Rattle.verse_top_texts.specs.Streams as s
 use Rattle.verse_top_texts.specs.Streams.{Streams, nothing, turns, trace_text}
 use Rattle.vm_run.specs.declared.machines.Vm.{Vm}
+use Rattle.vm_run.specs.Origins.{from_inputs}
 use Rattle.vm_run.specs.Standing.{At, Belongs, stands, IsEnd, LiveIs}
 use Rattle.vm_run.specs.Turning as t
 use Rattle.vm_run.specs.Turning.{ending_in, lines_after, TookPart, TurnedTo}
@@ -50,7 +51,7 @@ over_ends (broken x u) o e = cc
 over_ends (amiss u) o e = o
 
 module _ (c : Code) (o : Options) where
-  lines_text : (k : ℕ) → printed (lines_after c o.inputs o.steps o.until k) ≡ trace_text (mach_after c o.inputs o.steps o.until k)
+  lines_text : (k : ℕ) → printed (lines_after c (from_inputs o.inputs) o.steps o.until k) ≡ trace_text (mach_after c o.inputs o.steps o.until k)
   lines_text k = ap (λ u. printed u.memory.trace) (same_state (mach_after c o.inputs o.steps o.until k))
 
   so_far : (turn : ℕ) (past : List Line) → Written c o turn past → RunsSoFar c o (printed past)
@@ -64,39 +65,39 @@ module _ (c : Code) (o : Options) where
       subst (λ i. ending_in (mach_after c o.inputs o.steps o.until i) ≡ None) same none
 
 module _ {H W : Type 0} (state : H → Kept) (pending : W → List Pending) (c : Code) (o : Options) where
-  pub reached_first : (m : Vm H W) (old : Option (List ℕ)) → At state pending c o.inputs o.steps o.until 0 [] m →
+  pub reached_first : (m : Vm H W) (old : Option (List ℕ)) → At state pending c (from_inputs o.inputs) o.steps o.until 0 [] m →
       Reached state pending c o 0 old old m
   reached_first m old at = record { past = []; written = unbegun; at = at; taken = sym (more_nothing old) }
 
-  pub belongs_first : (m : Vm H W) → At state pending c o.inputs o.steps o.until 0 [] m → Belongs state pending c m
-  belongs_first m at = stands o.inputs o.steps o.until 0 [] at
+  pub belongs_first : (m : Vm H W) → At state pending c (from_inputs o.inputs) o.steps o.until 0 [] m → Belongs state pending c m
+  belongs_first m at = stands (from_inputs o.inputs) o.steps o.until 0 [] at
 
   module _ (turn : ℕ) (old mid new : Option (List ℕ)) (m n : Vm H W) (r : Reached state pending c o turn old mid m) where
-    after_turn : (e : Option Ending) → TurnedTo state pending c o.inputs o.steps o.until turn r.past e mid new n →
-        new ≡ with_more old (printed (lines_after c o.inputs o.steps o.until turn))
+    after_turn : (e : Option Ending) → TurnedTo state pending c (from_inputs o.inputs) o.steps o.until turn r.past e mid new n →
+        new ≡ with_more old (printed (lines_after c (from_inputs o.inputs) o.steps o.until turn))
     after_turn e t =
         more_then old mid new (printed r.past) (printed t.took.more) r.taken t.took.taken
         ∙ ap (with_more old) (sym (printed_more r.past t.took.more) ∙ ap printed (sym t.took.all_are))
 
-    pub reached_next : TurnedTo state pending c o.inputs o.steps o.until turn r.past None mid new n →
+    pub reached_next : TurnedTo state pending c (from_inputs o.inputs) o.steps o.until turn r.past None mid new n →
         Reached state pending c o (turn + 1) old new n
     reached_next t =
         let next : suc turn ≡ turn + 1 = omega arith in
         let reached : Reached state pending c o (suc turn) old new n = record {
-          past = lines_after c o.inputs o.steps o.until turn;
+          past = lines_after c (from_inputs o.inputs) o.steps o.until turn;
           written = begun turn (sym t.turned.answer);
           at = t.turned.at;
           taken = after_turn None t;
         } in
         subst (λ k. Reached state pending c o k old new n) next reached
 
-    pub ended_at : (e : Ending) → TurnedTo state pending c o.inputs o.steps o.until turn r.past (Some e) mid new n → n.run.trace.kept ≡ [] →
+    pub ended_at : (e : Ending) → TurnedTo state pending c (from_inputs o.inputs) o.steps o.until turn r.past (Some e) mid new n → n.run.trace.kept ≡ [] →
         Ended state pending c o e old new n
     ended_at e t none =
-        let is : IsEnd state pending (run_with c o) (lines_after c o.inputs o.steps o.until turn) n = t.turned.over.1 in
-        let lines : lines_after c o.inputs o.steps o.until turn ≡ (run_with c o).trace =
-        sym (is.trace ∙ ap (λ ks. lines_after c o.inputs o.steps o.until turn ++ map line_of ks) none ∙
-        append-nil (lines_after c o.inputs o.steps o.until turn)) in
+        let is : IsEnd state pending (run_with c o) (lines_after c (from_inputs o.inputs) o.steps o.until turn) n = t.turned.over.1 in
+        let lines : lines_after c (from_inputs o.inputs) o.steps o.until turn ≡ (run_with c o).trace =
+        sym (is.trace ∙ ap (λ ks. lines_after c (from_inputs o.inputs) o.steps o.until turn ++ map line_of ks) none ∙
+        append-nil (lines_after c (from_inputs o.inputs) o.steps o.until turn)) in
         record {
           ending = t.turned.over.0;
           shown = record { store = is.store; moment = is.moment; steps = is.steps; live = is.live };
@@ -107,7 +108,7 @@ module _ {H W : Type 0} (state : H → Kept) (pending : W → List Pending) (c :
     stops_without e = (printed r.past, (so_far c o turn r.past r.written, e ∙ r.taken))
 
     pub stops_within : (before at now : ℕ) → before ≤ at → Rose at now →
-        TookPart r.past (lines_after c o.inputs o.steps o.until turn) mid new →
+        TookPart r.past (lines_after c (from_inputs o.inputs) o.steps o.until turn) mid new →
         Stopped (RunsSoFar c o) (RunsSoFar c o) before now old new stop.Failed
     stops_within before at now low rose p =
         let text : printed r.past ++ printed p.more ≡ trace_text (mach_after c o.inputs o.steps o.until turn) =
@@ -123,7 +124,7 @@ module _ {H W : Type 0} (state : H → Kept) (pending : W → List Pending) (c :
         )
 
     pub stops_by : (before at now : ℕ) (f : TurnFault) → before ≤ at → (f ≡ fault.Memory → new ≡ mid) → (f ≡ fault.Failed → Rose at now) →
-        (f ≡ fault.Failed → TookPart r.past (lines_after c o.inputs o.steps o.until turn) mid new) →
+        (f ≡ fault.Failed → TookPart r.past (lines_after c (from_inputs o.inputs) o.steps o.until turn) mid new) →
         Stopped (RunsSoFar c o) (RunsSoFar c o) before now old new (stop_of f)
     stops_by before at now fault.Memory low memory rose part = stops_without (memory refl)
     stops_by before at now fault.Failed low memory rose part = stops_within before at now low (rose refl) (part refl)

@@ -12,6 +12,7 @@ use Rattle.verse_top_args.specs.Words.{Options}
 use Rattle.vm_run.specs.declared.machines.Vm.{Vm}
 use Rattle.vm_run.specs.declared.turns.TurnFault.{TurnFault}
 use Rattle.vm_run.specs.declared.turns.TurnFault.TheVariants as turn
+use Rattle.vm_run.specs.Origins.{from_inputs}
 use Rattle.vm_run.specs.Standing.{At, LiveIs}
 use Rattle.vm_run.specs.Turning.{ending_in, lines_after}
 use Rattle.verse_top_exec.specs.declared.stops.Stop.{Stop}
@@ -27,14 +28,14 @@ stop_of turn.Failed = stop.Failed
 pub data Written (c : Code) (o : Options) : ℕ → List Line → Type 0 where
   unbegun : Written c o 0 []
   begun : (k : ℕ) → ending_in (mach_after c o.inputs o.steps o.until k) ≡ None →
-      Written c o (suc k) (lines_after c o.inputs o.steps o.until k)
+      Written c o (suc k) (lines_after c (from_inputs o.inputs) o.steps o.until k)
 
 module _ {H W : Type 0} (state : H → Kept) (pending : W → List Pending) (c : Code) (o : Options) where
   -- the machine stands after so many calls, and their lines are written
   pub record Reached (turn : ℕ) (old new : Option (List ℕ)) (m : Vm H W) : Type 0 where
     pub past : List Line
     pub written : Written c o turn past
-    pub at : At state pending c o.inputs o.steps o.until turn past m
+    pub at : At state pending c (from_inputs o.inputs) o.steps o.until turn past m
     pub taken : new ≡ with_more old (printed past)
 
   -- the machine shows the end of a run

@@ -3,6 +3,7 @@
 ghost use Rattle.std.specs.Prelude.{◌≡◌, ◌≤◌, [], length};
 ghost use Rattle.verse_code.specs.Validity.{Valid};
 ghost use Rattle.verse_top_args.specs.Words.{Options};
+ghost use Rattle.vm_run.specs.Origins.{from_inputs};
 ghost use Rattle.vm_run.specs.Standing.{At, Belongs};
 ghost use Rattle.verse_top_exec.specs.Turns.{Goes};
 
@@ -25,9 +26,9 @@ pub(crate) fn all_turns<H: Heap + Drop, W: Waits + Drop, S: Sink>(
     requires valid { Valid code.now }
     requires few { steps ≤ 100000000 }
     requires begun { (o : Options) × (o.steps ≡ steps) ×
-        At H.state W.pending code.now o.inputs o.steps o.until 0 [] vm.old }
+        At H.state W.pending code.now (from_inputs o.inputs) o.steps o.until 0 [] vm.old }
     ensures goes { (o : Options) → o.steps ≡ steps →
-        At H.state W.pending code.now o.inputs o.steps o.until 0 [] vm.old →
+        At H.state W.pending code.now (from_inputs o.inputs) o.steps o.until 0 [] vm.old →
         Goes H.state W.pending code.now o (S.faults out.old) (S.faults out.new) (S.taken out.old)
         (S.taken out.new) vm.new result }
     ensures later { S.faults out.old ≤ S.faults out.new }

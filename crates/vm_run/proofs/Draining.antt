@@ -1,7 +1,7 @@
 -- Lines that are drained.
 use Rattle.std.proofs.Common.{◌≡◌, ◌+◌, ℕ, suc, List, [], ◌∷◌, ◌++◌, length, map, drop, Option, Some, None, refl, sym, ap, subst, ◌∙◌}
 use Rattle.std.proofs.Common.{append_assoc, length-append, arith}
-use Rattle.std.specs.Prelude.{ℤ, IfSome}
+use Rattle.std.specs.Prelude.{IfSome}
 use Rattle.std.proofs.lemmas.List.{append-nil, drop_all}
 use Rattle.verse_base.specs.TraceLine.{line_bytes}
 use Rattle.verse_outside.specs.Held.{TookPrefix, with_more}
@@ -12,7 +12,7 @@ use Rattle.verse_meaning_state.specs.State.{State}
 use Rattle.verse_meaning_state.specs.Effects.{printed}
 use Rattle.verse_meaning_state.specs.Turns.{Stage, going, closed, broken, amiss, run_closed}
 use Rattle.verse_code_machine.specs.Tasks.{tree_waits}
-use Rattle.verse_code_machine.specs.Runs.{Forest, mach_after, mach}
+use Rattle.verse_code_machine.specs.Runs.{Forest}
 use Rattle.sim_clock.specs.declared.waits.Pending.{Pending}
 use Rattle.trace_buf.specs.Trace.{Trace, outside, drained}
 use Rattle.trace_buf.specs.Trace as trace
@@ -24,6 +24,7 @@ use Rattle.vm_running.specs.Runners.{view_of}
 use Rattle.vm_tasks.specs.View.{slot_of}
 use Rattle.vm_scheduler.specs.Frames.{frames_in}
 use Rattle.vm_run.specs.declared.machines.Vm.{Vm}
+use Rattle.vm_run.specs.Origins.{Origin, stage_after, whole_run}
 use Rattle.vm_run.specs.Standing.{Shows, LiveIs, IsEnd, IsResting, Holds, IsBound, At}
 use Rattle.vm_run.specs.Turning.{state_in, lines_after, TookPart, Turned, TurnedTo}
 use Rattle.vm_run.proofs.Standing.{counted}
@@ -165,39 +166,39 @@ module _ {H W : Type 0} (state : H → Kept) (pending : W → List Pending) wher
   drained_holds (broken f s) past m t e h = drained_end _ past s.memory.trace m t e h.trace h
   drained_holds (amiss s) past m t e h = h
 
-  module _ (c : Code) (ns : List ℤ) (steps until k : ℕ) (past : List Line) (m : Vm H W) where
-    same_bound : (t : Trace) → IsBound ns steps until m → IsBound ns steps until (with_trace m t)
+  module _ (c : Code) (origin : Origin) (steps until k : ℕ) (past : List Line) (m : Vm H W) where
+    same_bound : (t : Trace) → IsBound c origin steps until m → IsBound c origin steps until (with_trace m t)
     same_bound t b = record {
       steps_are = b.steps_are;
       until_is = b.until_is;
-      few_inputs = b.few_inputs;
+      can = b.can;
       few_steps = b.few_steps;
       near =
           b.near;
     }
 
     still_over : (t : Trace) (o : Option Ending) → t ≡ drained m.run.trace →
-        lines_after c ns steps until k ≡ past ++ map line_of m.run.trace.kept →
-        IfSome o (λ e. (e ≡ (mach c ns steps until).ending) × IsEnd state pending (mach c ns steps until) past m) →
-        IfSome o (λ e. (e ≡ (mach c ns steps until).ending) × IsEnd state pending (mach c ns steps until) (lines_after c ns steps until k)
+        lines_after c origin steps until k ≡ past ++ map line_of m.run.trace.kept →
+        IfSome o (λ e. (e ≡ (whole_run c origin steps until).ending) × IsEnd state pending (whole_run c origin steps until) past m) →
+        IfSome o (λ e. (e ≡ (whole_run c origin steps until).ending) × IsEnd state pending (whole_run c origin steps until) (lines_after c origin steps until k)
         (with_trace m t))
     still_over t None e is h = tt
-    still_over t (Some f) e is h = (h.0, drained_end (mach c ns steps until) past (lines_after c ns steps until k) m t e is h.1)
+    still_over t (Some f) e is h = (h.0, drained_end (whole_run c origin steps until) past (lines_after c origin steps until k) m t e is h.1)
 
-    pub drained_at : (o : Option Ending) (t : Trace) → t ≡ drained m.run.trace → Turned state pending c ns steps until k past o m →
-        At state pending c ns steps until (suc k) (lines_after c ns steps until k) (with_trace m t)
+    pub drained_at : (o : Option Ending) (t : Trace) → t ≡ drained m.run.trace → Turned state pending c origin steps until k past o m →
+        At state pending c origin steps until (suc k) (lines_after c origin steps until k) (with_trace m t)
     drained_at o t e h = record {
       bound = same_bound t h.at.bound;
       holds =
-          drained_holds (mach_after c ns steps until k) past m t e h.at.holds;
+          drained_holds (stage_after c origin steps until k) past m t e h.at.holds;
     }
 
     pub turned_to : (o : Option Ending) (t : Trace) (old new : Option (List ℕ)) → t ≡ drained m.run.trace →
         new ≡ with_more old (trace.printed (outside m.run.trace.kept m.run.trace.marks)) →
-        Turned state pending c ns steps until k past o m →
-        TurnedTo state pending c ns steps until k past o old new (with_trace m t)
+        Turned state pending c origin steps until k past o m →
+        TurnedTo state pending c origin steps until k past o old new (with_trace m t)
     turned_to o t old new e took h =
-        let all = all_lines (mach_after c ns steps until k) past m h.at.holds in
+        let all = all_lines (stage_after c origin steps until k) past m h.at.holds in
         record {
           turned = record {
             at = drained_at o t e h;
@@ -208,20 +209,20 @@ module _ {H W : Type 0} (state : H → Kept) (pending : W → List Pending) wher
             more = map line_of m.run.trace.kept;
             all_are = all;
             taken = took ∙ ap (λ bs. with_more old bs)
-                (outside_printed m.run.trace (no_marks (mach_after c ns steps until k) past m h.at.holds));
+                (outside_printed m.run.trace (no_marks (stage_after c origin steps until k) past m h.at.holds));
           };
         }
 
     pub took_part : (o : Option Ending) (old new : Option (List ℕ)) →
-        TookPrefix old (trace.printed (outside m.run.trace.kept m.run.trace.marks)) new → Turned state pending c ns steps until k past o m →
-        TookPart past (lines_after c ns steps until k) old new
+        TookPrefix old (trace.printed (outside m.run.trace.kept m.run.trace.marks)) new → Turned state pending c origin steps until k past o m →
+        TookPart past (lines_after c origin steps until k) old new
     took_part o old new took h = record {
       more = map line_of m.run.trace.kept;
-      all_are = all_lines (mach_after c ns steps until k) past m h.at.holds;
-      taken = subst (λ bs. TookPrefix old bs new) (outside_printed m.run.trace (no_marks (mach_after c ns steps until k) past m h.at.holds))
+      all_are = all_lines (stage_after c origin steps until k) past m h.at.holds;
+      taken = subst (λ bs. TookPrefix old bs new) (outside_printed m.run.trace (no_marks (stage_after c origin steps until k) past m h.at.holds))
           took;
     }
 
-    pub none_kept : (o : Option Ending) (t : Trace) → t ≡ drained m.run.trace → Turned state pending c ns steps until k past o m →
+    pub none_kept : (o : Option Ending) (t : Trace) → t ≡ drained m.run.trace → Turned state pending c origin steps until k past o m →
         t.kept ≡ []
-    none_kept o t e h = ap (λ (t : Trace). t.kept) e ∙ kept_gone m.run.trace (no_marks (mach_after c ns steps until k) past m h.at.holds)
+    none_kept o t e h = ap (λ (t : Trace). t.kept) e ∙ kept_gone m.run.trace (no_marks (stage_after c origin steps until k) past m h.at.holds)

@@ -1,7 +1,7 @@
 -- From one call to the next.
-use Rattle.std.proofs.Common.{◌≡◌, ◌≢◌, ◌≤◌, ◌+◌, ◌-◌, ◌⊎◌, inl, inr, ℕ, zero, suc, List, [], ◌++◌, length, map, Option, Some, None, refl}
-use Rattle.std.proofs.Common.{sym, ap, subst, ◌∙◌, arith}
-use Rattle.std.specs.Prelude.{ℤ, IfSome}
+use Rattle.std.proofs.Common.{◌≡◌, ◌≢◌, ◌≤◌, ◌⊎◌, inl, inr, ℕ, zero, suc, List, [], ◌++◌, length, map, Option, Some, None, refl}
+use Rattle.std.proofs.Common.{sym, ap, subst, ◌∙◌}
+use Rattle.std.specs.Prelude.{ℤ, Result, IfOk, IfSome}
 use Rattle.verse_code.specs.declared.codes.Code.{Code}
 use Rattle.verse_code.specs.Validity.{Valid}
 use Rattle.verse_value.specs.Runs.{Line, Run}
@@ -10,11 +10,11 @@ use Rattle.verse_value.specs.View.{val_of}
 use Rattle.verse_value.specs.declared.runs.Ending.{Ending}
 use Rattle.verse_value.specs.declared.runs.Ending.TheVariants as ending
 use Rattle.verse_meaning_state.specs.State.{State}
-use Rattle.verse_meaning_state.specs.Turns.{Stage, going, closed, broken, amiss, turns, run, run_closed, run_of}
+use Rattle.verse_meaning_state.specs.Turns.{Stage, going, closed, broken, amiss, run, run_closed, run_of}
 use Rattle.verse_code_machine.specs.Tasks.{tree_waits}
-use Rattle.verse_code_machine.specs.Runs.{Forest, turn_taken, started, mach_after, mach}
-use Rattle.verse_code_machine.specs.Belonging.{StateBelongs, StageBelongs, RunBelongs}
-use Rattle.verse_code_machine.specs.Laws.{IsWhole, IsOver, RunsEnd, StaysOver}
+use Rattle.verse_code_machine.specs.Runs.{Forest, turn_taken, started}
+use Rattle.verse_code_machine.specs.Belonging.{StateBelongs, StageBelongs}
+use Rattle.verse_code_machine.specs.Laws.{IsWhole, IsOver}
 use Rattle.sim_clock.specs.declared.waits.Pending.{Pending}
 use Rattle.tx_heap.specs.State.{State as Kept}
 use Rattle.vm_running.specs.Views.{View, Aside, line_of, state_of}
@@ -23,46 +23,12 @@ use Rattle.vm_scheduler.specs.declared.tasks.Tasks.{Tasks}
 use Rattle.vm_run.specs.declared.machines.Phase.{Phase}
 use Rattle.vm_run.specs.declared.machines.Phase.TheVariants as phase
 use Rattle.vm_run.specs.declared.machines.Vm.{Vm}
+use Rattle.vm_run.specs.Origins.{Origin, from_inputs, from_state, stage_after, whole_run, IsResumable, RunHolds, RunsHold}
 use Rattle.vm_run.specs.Standing.{Shows, LiveIs, IsEnd, IsResting, Holds, IsBound, At, Belongs, stands, lost}
 use Rattle.vm_run.specs.Turning.{ending_in, Turned}
 use Rattle.vm_run.specs.Reaching.{ended_in, Rested, Reached, CanBegin, Begins, CanTurn, Turns}
-
--- a stage after one call more
-abbrev pub next : (State → Forest → Stage Forest) → Stage Forest → Stage Forest
-next take (going s trees) = take s trees
-next take (closed e s trees) = closed e s trees
-next take (broken e s) = broken e s
-next take (amiss s) = amiss s
-
-one_turn : (take : State → Forest → Stage Forest) (k : ℕ) (stage : Stage Forest) → turns take (suc k) stage ≡ next take (turns take k stage)
-one_turn take zero (going s trees) = refl
-one_turn take zero (closed e s trees) = refl
-one_turn take zero (broken e s) = refl
-one_turn take zero (amiss s) = refl
-one_turn take (suc k) (going s trees) = one_turn take k (take s trees)
-one_turn take (suc k) (closed e s trees) = refl
-one_turn take (suc k) (broken e s) = refl
-one_turn take (suc k) (amiss s) = refl
-
--- a run that is over is the whole run
-
-either_way : (n m : ℕ) → (n + (m - n) ≡ m) ⊎ (m + (n - m) ≡ n)
-either_way n m = grind arith
-
-module _ (c : Code) (ns : List ℤ) (steps until : ℕ) where
-  pub over_same : RunsEnd → StaysOver → Valid c → (k : ℕ) → IsOver (mach_after c ns steps until k) →
-      mach_after c ns steps until (suc steps) ≡ mach_after c ns steps until k
-  over_same ends stay valid k over =
-      elim (either_way k (suc steps)) [
-        | inl e ↦ ap (λ n. mach_after c ns steps until n) (sym e) ∙ stay c ns steps until k (suc steps - k) over
-        | inr e ↦
-            sym (stay c ns steps until (suc steps) (k - suc steps) (ends c ns steps until valid).over) ∙
-            ap (λ n. mach_after c ns steps until n) e
-      ]
-
-  pub always_over : RunsEnd → StaysOver → Valid c → (j : ℕ) → IsOver (mach_after c ns steps until (suc steps + j))
-  always_over ends stay valid j =
-      subst IsOver (sym (stay c ns steps until (suc steps) j (ends c ns steps until valid).over)) (ends c ns steps until valid).over
+use Rattle.vm_run.proofs.Reaching.{ok_to}
+use Rattle.vm_run.proofs.Origins.{next, one_more_turn, over_same}
 
 -- the parts of a run whose waits may count
 pub record Counted (e : Ending) (s : State) (n : ℕ) : Type 0 where
@@ -133,6 +99,15 @@ module _ {H W : Type 0} (state : H → Kept) (pending : W → List Pending) wher
   holds_of (broken e s) past m (is, h) = end_of e s None past m is h tt
   holds_of (amiss s) past m r = r
 
+  -- a machine that is made between two turns
+  pub resumes : (c : Code) (steps until : ℕ) (s : State) (trees : Forest) (past : List Line) (m : Vm H W) → m.phase ≡ phase.Between →
+      m.bounds.steps ≡ steps → m.bounds.until ≡ until → steps ≤ 100000000 → until ≤ 1000000000000 → IsResumable c steps s trees →
+      Rested pending s trees past (view_of state m.run) m.tasks → At state pending c (from_state s trees) steps until 0 past m
+  resumes c steps until s trees past m between are is few near can r = record {
+    bound = record { steps_are = are; until_is = is; can = can; few_steps = few; near = near };
+    holds = holds_of (going s trees) past m (between, r);
+  }
+
   -- what is answered
   pub answers : (stage : Stage Forest) (past : List Line) (m : Vm H W) → Holds state pending stage past m →
       ended_in m.phase ≡ ending_in stage
@@ -181,12 +156,12 @@ module _ {H W : Type 0} (state : H → Kept) (pending : W → List Pending) wher
 
   module _ (c : Code) where
     pub few_steps : (m : Vm H W) → Belongs state pending c m → m.phase ≢ phase.Lost → m.bounds.steps ≤ 100000000
-    few_steps m (stands ns steps until k past at) not = rw at.bound.steps_are at.bound.few_steps
+    few_steps m (stands origin steps until k past at) not = rw at.bound.steps_are at.bound.few_steps
     few_steps m (lost is) not = absurd (not is)
 
-    pub can_begin : RunsEnd → Valid c → (m : Vm H W) → Belongs state pending c m → m.phase ≡ phase.Unbegun →
+    pub can_begin : RunsHold → Valid c → (m : Vm H W) → Belongs state pending c m → m.phase ≡ phase.Unbegun →
         CanBegin pending c (val_of m.inputs) m.bounds.steps (view_of state m.run) m.tasks
-    can_begin ends valid m (stands ns steps until zero past at) is =
+    can_begin law valid m (stands (from_inputs ns) steps until zero past at) is =
         let b = at.bound in
         let h = at.holds in
         record {
@@ -195,69 +170,102 @@ module _ {H W : Type 0} (state : H → Kept) (pending : W → List Pending) wher
           left = h.left ∙ sym b.steps_are;
           fresh = h.fresh;
           new = h.new;
-          whole = (ends c ns m.bounds.steps until valid).whole 0;
+          whole = (law c (from_inputs ns) m.bounds.steps until valid b.can).whole 0;
         }
-    can_begin ends valid m (stands ns steps until (suc k) past at) is =
-        absurd (unbegun_not (mach_after c ns steps until k) past m at.holds is)
-    can_begin ends valid m (lost l) is = absurd (cc)
+    can_begin law valid m (stands (from_state s trees) steps until zero past at) is =
+        absurd (unbegun_not (going s trees) past m at.holds is)
+    can_begin law valid m (stands origin steps until (suc k) past at) is =
+        absurd (unbegun_not (stage_after c origin steps until k) past m at.holds is)
+    can_begin law valid m (lost l) is = absurd (cc)
 
-    turn_there : (ns : List ℤ) (steps until k : ℕ) (past : List Line) (m : Vm H W) (stage : Stage Forest) → RunsEnd → RunBelongs → Valid c →
-        mach_after c ns steps until k ≡ stage → m.bounds.steps ≡ steps → m.bounds.until ≡ until → Holds state pending stage past m →
-        m.phase ≡ phase.Between → CanTurn pending c m.bounds.steps m.bounds.until (view_of state m.run) m.tasks
-    turn_there ns steps until k past m (going s trees) ends all valid e n u h is =
-        let one : mach_after c ns steps until (suc k) ≡ turn_taken c steps until s trees =
-        one_turn (turn_taken c steps until) k (started c ns steps) ∙ ap (next (turn_taken c steps until)) e in
-        let here : StageBelongs c.classes (going s trees) = subst (λ z. StageBelongs c.classes z) e (all c ns steps until k) in
-        record {
-          aside = h.rests.aside;
-          trees = trees;
-          resting = h.rests.resting;
-          state_belongs = subst (λ z. StateBelongs c.classes z) h.rests.is here.0;
-          trees_belong = here.1;
-          whole = subst (λ k. IsWhole (turn_taken c k m.bounds.until (state_of h.rests.aside (view_of state m.run)) trees)) (sym n)
-              (subst (λ j. IsWhole (turn_taken c steps j (state_of h.rests.aside (view_of state m.run)) trees)) (sym u)
-              (subst (λ z. IsWhole (turn_taken c steps until z trees)) h.rests.is
-              (subst IsWhole one ((ends c ns steps until valid).whole (suc k)))));
-        }
-    turn_there ns steps until k past m (closed f s trees) ends all valid e n u h is = absurd (goes_on (closed f s trees) past m h is tt)
-    turn_there ns steps until k past m (broken f s) ends all valid e n u h is = absurd (goes_on (broken f s) past m h is tt)
-    turn_there ns steps until k past m (amiss s) ends all valid e n u h is = absurd h
+    -- what a machine holds after its start
 
-    pub can_turn : RunsEnd → RunBelongs → Valid c → (m : Vm H W) → Belongs state pending c m → m.phase ≡ phase.Between →
-        CanTurn pending c m.bounds.steps m.bounds.until (view_of state m.run) m.tasks
-    can_turn ends all valid m (stands ns steps until zero past at) is = let u = at.holds.unbegun in absurd (cc)
-    can_turn ends all valid m (stands ns steps until (suc k) past at) is =
-        turn_there ns steps until k past m (mach_after c ns steps until k) ends all valid refl at.bound.steps_are at.bound.until_is at.holds
-        is
-    can_turn ends all valid m (lost l) is = absurd (cc)
-
-    -- what a machine holds after its start, after a turn, and after a call that finds its run over
-
-    pub began : (ns : List ℤ) (steps until k : ℕ) (past : List Line) (m n : Vm H W) (p : Phase) →
-        At state pending c ns steps until k past m → m.phase ≡ phase.Unbegun →
-        Begins pending c ns m.bounds.steps p (view_of state n.run) n.tasks →
-        Holds state pending (mach_after c ns steps until k) past (record n { phase = p })
-    began ns steps until zero past m n p at is r =
+    began : (ns : List ℤ) (steps until : ℕ) (past : List Line) (m n : Vm H W) (p : Phase) →
+        At state pending c (from_inputs ns) steps until 0 past m → Begins pending c ns m.bounds.steps p (view_of state n.run) n.tasks →
+        Holds state pending (started c ns steps) past (record n { phase = p })
+    began ns steps until past m n p at r =
         let h = at.holds in
         subst (λ ls. Holds state pending (started c ns steps) ls (record n { phase = p })) (sym h.none)
         (subst (λ k. Holds state pending (started c ns k) [] (record n { phase = p })) at.bound.steps_are
         (holds_of (started c ns m.bounds.steps) [] (record n { phase = p }) r.begins))
-    began ns steps until (suc k) past m n p at is r = absurd (unbegun_not (mach_after c ns steps until k) past m at.holds is)
 
-    pub inputs_at : (ns : List ℤ) (steps until k : ℕ) (past : List Line) (m : Vm H W) → At state pending c ns steps until k past m →
-        m.phase ≡ phase.Unbegun → val_of m.inputs ≡ array (vals (map int ns))
-    inputs_at ns steps until zero past m at is = at.holds.inputs
-    inputs_at ns steps until (suc k) past m at is = absurd (unbegun_not (mach_after c ns steps until k) past m at.holds is)
+    pub it_began : {E : Type 0} (r : Result Phase E) (origin : Origin) (steps until k : ℕ) (past : List Line) (m n : Vm H W) →
+        At state pending c origin steps until k past m → m.phase ≡ phase.Unbegun →
+        ((ns : List ℤ) → val_of m.inputs ≡ array (vals (map int ns)) →
+        IfOk r (λ p. Begins pending c ns m.bounds.steps p (view_of state n.run) n.tasks)) →
+        IfOk r (λ p. Holds state pending (stage_after c origin steps until k) past (record n { phase = p }))
+    it_began r (from_inputs ns) steps until zero past m n at is starts =
+        ok_to r (λ p h. began ns steps until past m n p at h) (starts ns at.holds.inputs)
+    it_began r (from_state s trees) steps until zero past m n at is starts = absurd (unbegun_not (going s trees) past m at.holds is)
+    it_began r origin steps until (suc k) past m n at is starts =
+        absurd (unbegun_not (stage_after c origin steps until k) past m at.holds is)
 
-    turned_there : (ns : List ℤ) (steps until k : ℕ) (past : List Line) (m n : Vm H W) (p : Phase) (stage : Stage Forest) →
-        mach_after c ns steps until k ≡ stage → m.bounds.steps ≡ steps → m.bounds.until ≡ until → Holds state pending stage past m →
-        m.phase ≡ phase.Between → Turns pending c m.bounds.steps m.bounds.until p (view_of state m.run) m.tasks
-        (view_of state n.run) n.tasks → Holds state pending (mach_after c ns steps until (suc k)) past (record n { phase = p })
-    turned_there ns steps until k past m n p (going s trees) e b u h is r =
-        let one : mach_after c ns steps until (suc k) ≡ turn_taken c steps until s trees =
-        one_turn (turn_taken c steps until) k (started c ns steps) ∙ ap (next (turn_taken c steps until)) e in
+    -- where it stands before a turn
+    record Before (origin : Origin) (steps until k : ℕ) (past : List Line) (m : Vm H W) : Type 0 where
+      stage : Stage Forest
+      next_is : next (turn_taken c steps until) stage ≡ stage_after c origin steps until k
+      belongs : StageBelongs c.classes stage
+      holds : Holds state pending stage past m
+
+    before : (origin : Origin) (steps until k : ℕ) (past : List Line) (m : Vm H W) → RunHolds c origin steps until →
+        At state pending c origin steps until k past m → (m.phase ≡ phase.Unbegun → ⊥) → Before origin steps until k past m
+    before (from_inputs ns) steps until zero past m r at not = absurd (not at.holds.unbegun)
+    before (from_state s trees) steps until zero past m r at not = record {
+      stage = going s trees;
+      next_is = refl;
+      belongs = (at.bound.can.state_belongs, at.bound.can.trees_belong);
+      holds = at.holds;
+    }
+    before origin steps until (suc k) past m r at not = record {
+      stage = stage_after c origin steps until k;
+      next_is = one_more_turn c origin steps until k;
+      belongs = r.belongs k;
+      holds = at.holds;
+    }
+
+    between_is_begun : (p : Phase) → p ≡ phase.Between → p ≡ phase.Unbegun → ⊥
+    between_is_begun p is un = cc
+
+    ended_is_begun : (p : Phase) (e : Ending) → p ≡ phase.Ended e → p ≡ phase.Unbegun → ⊥
+    ended_is_begun p e is un = cc
+
+    turn_there : (steps until : ℕ) (past : List Line) (m : Vm H W) (stage after : Stage Forest) → IsWhole after →
+        next (turn_taken c steps until) stage ≡ after → StageBelongs c.classes stage → m.bounds.steps ≡ steps → m.bounds.until ≡ until →
+        Holds state pending stage past m → m.phase ≡ phase.Between →
+        CanTurn pending c m.bounds.steps m.bounds.until (view_of state m.run) m.tasks
+    turn_there steps until past m (going s trees) after whole one here n u h is = record {
+      aside = h.rests.aside;
+      trees = trees;
+      resting = h.rests.resting;
+      state_belongs = subst (λ z. StateBelongs c.classes z) h.rests.is here.0;
+      trees_belong = here.1;
+      whole = subst (λ k. IsWhole (turn_taken c k m.bounds.until (state_of h.rests.aside (view_of state m.run)) trees)) (sym n)
+          (subst (λ j. IsWhole (turn_taken c steps j (state_of h.rests.aside (view_of state m.run)) trees)) (sym u)
+          (subst (λ z. IsWhole (turn_taken c steps until z trees)) h.rests.is (subst IsWhole (sym one) whole)));
+    }
+    turn_there steps until past m (closed f s trees) after whole one here n u h is = absurd (goes_on (closed f s trees) past m h is tt)
+    turn_there steps until past m (broken f s) after whole one here n u h is = absurd (goes_on (broken f s) past m h is tt)
+    turn_there steps until past m (amiss s) after whole one here n u h is = absurd h
+
+    pub can_turn : RunsHold → Valid c → (m : Vm H W) → Belongs state pending c m → m.phase ≡ phase.Between →
+        CanTurn pending c m.bounds.steps m.bounds.until (view_of state m.run) m.tasks
+    can_turn law valid m (stands origin steps until k past at) is =
+        let r = law c origin steps until valid at.bound.can in
+        let b = before origin steps until k past m r at (between_is_begun m.phase is) in
+        turn_there steps until past m b.stage (stage_after c origin steps until k) (r.whole k) b.next_is b.belongs at.bound.steps_are
+        at.bound.until_is b.holds is
+    can_turn law valid m (lost l) is = absurd (cc)
+
+    -- what it holds after a turn, and after a call that finds its run over
+
+    turned_there : (steps until : ℕ) (past : List Line) (m n : Vm H W) (p : Phase) (stage after : Stage Forest) →
+        next (turn_taken c steps until) stage ≡ after → m.bounds.steps ≡ steps → m.bounds.until ≡ until →
+        Holds state pending stage past m → m.phase ≡ phase.Between →
+        Turns pending c m.bounds.steps m.bounds.until p (view_of state m.run) m.tasks (view_of state n.run) n.tasks →
+        Holds state pending after past (record n { phase = p })
+    turned_there steps until past m n p (going s trees) after one b u h is r =
         let it = record n { phase = p } in
-        subst (λ z. Holds state pending z past it) (sym one)
+        subst (λ z. Holds state pending z past it) one
         (subst (λ z. Holds state pending (turn_taken c steps until z trees) past it) (sym h.rests.is)
         (subst (λ j. Holds state pending (turn_taken c steps j (state_of h.rests.aside (view_of state m.run)) trees) past it) u
         (subst (λ k. Holds state pending (turn_taken c k m.bounds.until (state_of h.rests.aside (view_of state m.run)) trees) past it) b
@@ -265,78 +273,79 @@ module _ {H W : Type 0} (state : H → Kept) (pending : W → List Pending) wher
         ls it) h.rests.same
         (holds_of (turn_taken c m.bounds.steps m.bounds.until (state_of h.rests.aside (view_of state m.run)) trees) h.rests.aside.past it
         (r.turns h.rests.aside trees h.rests.resting))))))
-    turned_there ns steps until k past m n p (closed f s trees) e b u h is r = absurd (goes_on (closed f s trees) past m h is tt)
-    turned_there ns steps until k past m n p (broken f s) e b u h is r = absurd (goes_on (broken f s) past m h is tt)
-    turned_there ns steps until k past m n p (amiss s) e b u h is r = absurd h
+    turned_there steps until past m n p (closed f s trees) after one b u h is r = absurd (goes_on (closed f s trees) past m h is tt)
+    turned_there steps until past m n p (broken f s) after one b u h is r = absurd (goes_on (broken f s) past m h is tt)
+    turned_there steps until past m n p (amiss s) after one b u h is r = absurd h
 
-    pub turned : (ns : List ℤ) (steps until k : ℕ) (past : List Line) (m n : Vm H W) (p : Phase) →
-        At state pending c ns steps until k past m → m.phase ≡ phase.Between →
+    pub turned : RunsHold → Valid c → (origin : Origin) (steps until k : ℕ) (past : List Line) (m n : Vm H W) (p : Phase) →
+        At state pending c origin steps until k past m → m.phase ≡ phase.Between →
         Turns pending c m.bounds.steps m.bounds.until p (view_of state m.run) m.tasks (view_of state n.run) n.tasks →
-        Holds state pending (mach_after c ns steps until k) past (record n { phase = p })
-    turned ns steps until zero past m n p at is r = let u = at.holds.unbegun in absurd (cc)
-    turned ns steps until (suc k) past m n p at is r =
-        turned_there ns steps until k past m n p (mach_after c ns steps until k) refl at.bound.steps_are at.bound.until_is at.holds is r
+        Holds state pending (stage_after c origin steps until k) past (record n { phase = p })
+    turned law valid origin steps until k past m n p at is t =
+        let r = law c origin steps until valid at.bound.can in
+        let b = before origin steps until k past m r at (between_is_begun m.phase is) in
+        turned_there steps until past m n p b.stage (stage_after c origin steps until k) b.next_is at.bound.steps_are at.bound.until_is
+        b.holds is t
 
-    ended_there : (ns : List ℤ) (steps until k : ℕ) (past : List Line) (m : Vm H W) (e : Ending) (stage : Stage Forest) →
-        mach_after c ns steps until k ≡ stage → Holds state pending stage past m → m.phase ≡ phase.Ended e →
-        Holds state pending (mach_after c ns steps until (suc k)) past m
-    ended_there ns steps until k past m e (going s trees) is h ended = let b = h.between in absurd (cc)
-    ended_there ns steps until k past m e (closed f s trees) is h ended =
-        subst (λ z. Holds state pending z past m)
-        (sym (one_turn (turn_taken c steps until) k (started c ns steps) ∙ ap (next (turn_taken c steps until)) is)) h
-    ended_there ns steps until k past m e (broken f s) is h ended =
-        subst (λ z. Holds state pending z past m)
-        (sym (one_turn (turn_taken c steps until) k (started c ns steps) ∙ ap (next (turn_taken c steps until)) is)) h
-    ended_there ns steps until k past m e (amiss s) is h ended = absurd h
+    ended_there : (steps until : ℕ) (past : List Line) (m : Vm H W) (e : Ending) (stage after : Stage Forest) →
+        next (turn_taken c steps until) stage ≡ after → Holds state pending stage past m → m.phase ≡ phase.Ended e →
+        Holds state pending after past m
+    ended_there steps until past m e (going s trees) after one h ended = let b = h.between in absurd (cc)
+    ended_there steps until past m e (closed f s trees) after one h ended = subst (λ z. Holds state pending z past m) one h
+    ended_there steps until past m e (broken f s) after one h ended = subst (λ z. Holds state pending z past m) one h
+    ended_there steps until past m e (amiss s) after one h ended = absurd h
 
-    pub still_ended : (ns : List ℤ) (steps until k : ℕ) (past : List Line) (m : Vm H W) (e : Ending) →
-        At state pending c ns steps until k past m → m.phase ≡ phase.Ended e → Holds state pending (mach_after c ns steps until k) past m
-    still_ended ns steps until zero past m e at is = let u = at.holds.unbegun in absurd (cc)
-    still_ended ns steps until (suc k) past m e at is =
-        ended_there ns steps until k past m e (mach_after c ns steps until k) refl at.holds is
+    pub still_ended : RunsHold → Valid c → (origin : Origin) (steps until k : ℕ) (past : List Line) (m : Vm H W) (e : Ending) →
+        At state pending c origin steps until k past m → m.phase ≡ phase.Ended e →
+        Holds state pending (stage_after c origin steps until k) past m
+    still_ended law valid origin steps until k past m e at is =
+        let r = law c origin steps until valid at.bound.can in
+        let b = before origin steps until k past m r at (ended_is_begun m.phase e is) in
+        ended_there steps until past m e b.stage (stage_after c origin steps until k) b.next_is b.holds is
 
     -- a call
 
-    same_bounds : (ns : List ℤ) (steps until : ℕ) (m n : Vm H W) → n.bounds ≡ m.bounds → IsBound ns steps until m → IsBound ns steps until n
-    same_bounds ns steps until m n e b = record {
+    same_bounds : (origin : Origin) (steps until : ℕ) (m n : Vm H W) → n.bounds ≡ m.bounds → IsBound c origin steps until m →
+        IsBound c origin steps until n
+    same_bounds origin steps until m n e b = record {
       steps_are = ap (λ k. k.steps) e ∙ b.steps_are;
       until_is = ap (λ k. k.until) e ∙ b.until_is;
-      few_inputs = b.few_inputs;
+      can = b.can;
       few_steps = b.few_steps;
       near = b.near;
     }
 
-    pub over_of : RunsEnd → StaysOver → Valid c → (ns : List ℤ) (steps until k : ℕ) (past : List Line) (m : Vm H W) (e : Ending) →
-        Holds state pending (mach_after c ns steps until k) past m → ending_in (mach_after c ns steps until k) ≡ Some e →
-        (e ≡ (mach c ns steps until).ending) × IsEnd state pending (mach c ns steps until) past m
-    over_of ends stay valid ns steps until k past m e h is =
-        let r = over_ends (mach_after c ns steps until k) past m e h is in
-        let same : mach c ns steps until ≡ run_of tree_waits (mach_after c ns steps until k) =
-        ap (run_of tree_waits) (over_same c ns steps until ends stay valid k r.0) in
-        (r.2 ∙ sym (ap (λ (r : Run). r.ending) same), subst (λ z. IsEnd state pending z past m) (sym same) r.1)
+    over_of : (origin : Origin) (steps until k : ℕ) (past : List Line) (m : Vm H W) (e : Ending) → RunHolds c origin steps until →
+        Holds state pending (stage_after c origin steps until k) past m → ending_in (stage_after c origin steps until k) ≡ Some e →
+        (e ≡ (whole_run c origin steps until).ending) × IsEnd state pending (whole_run c origin steps until) past m
+    over_of origin steps until k past m e r h is =
+        let o = over_ends (stage_after c origin steps until k) past m e h is in
+        let same : whole_run c origin steps until ≡ run_of tree_waits (stage_after c origin steps until k) =
+        r.run ∙ ap (run_of tree_waits) (over_same c origin steps until k r o.0) in
+        (o.2 ∙ sym (ap (λ (r : Run). r.ending) same), subst (λ z. IsEnd state pending z past m) (sym same) o.1)
 
-    over_if : RunsEnd → StaysOver → Valid c → (ns : List ℤ) (steps until k : ℕ) (past : List Line) (m : Vm H W) (o : Option Ending) →
-        Holds state pending (mach_after c ns steps until k) past m → o ≡ ending_in (mach_after c ns steps until k) →
-        IfSome o (λ e. (e ≡ (mach c ns steps until).ending) × IsEnd state pending (mach c ns steps until) past m)
-    over_if ends stay valid ns steps until k past m None h is = tt
-    over_if ends stay valid ns steps until k past m (Some e) h is = over_of ends stay valid ns steps until k past m e h (sym is)
+    over_if : (origin : Origin) (steps until k : ℕ) (past : List Line) (m : Vm H W) (a : Option Ending) → RunHolds c origin steps until →
+        Holds state pending (stage_after c origin steps until k) past m → a ≡ ending_in (stage_after c origin steps until k) →
+        IfSome a (λ e. (e ≡ (whole_run c origin steps until).ending) × IsEnd state pending (whole_run c origin steps until) past m)
+    over_if origin steps until k past m None r h is = tt
+    over_if origin steps until k past m (Some e) r h is = over_of origin steps until k past m e r h (sym is)
 
-    pub turned_by : RunsEnd → StaysOver → Valid c → (ns : List ℤ) (steps until k : ℕ) (past : List Line) (m n : Vm H W) →
-        n.bounds ≡ m.bounds → At state pending c ns steps until k past m →
-        Holds state pending (mach_after c ns steps until k) past n → Turned state pending c ns steps until k past (ended_in n.phase) n
-    turned_by ends stay valid ns steps until k past m n e at h = record {
-      at = record { bound = same_bounds ns steps until m n e at.bound; holds = h };
-      answer = answers (mach_after c ns steps until k) past n h;
-      over = over_if ends stay valid ns steps until k past n (ended_in n.phase) h (answers (mach_after c ns steps until k) past n h);
-    }
+    pub turned_by : RunsHold → Valid c → (origin : Origin) (steps until k : ℕ) (past : List Line) (m n : Vm H W) →
+        n.bounds ≡ m.bounds → At state pending c origin steps until k past m →
+        Holds state pending (stage_after c origin steps until k) past n →
+        Turned state pending c origin steps until k past (ended_in n.phase) n
+    turned_by law valid origin steps until k past m n e at h =
+        let is = answers (stage_after c origin steps until k) past n h in
+        record {
+          at = record { bound = same_bounds origin steps until m n e at.bound; holds = h };
+          answer = is;
+          over = over_if origin steps until k past n (ended_in n.phase) (law c origin steps until valid at.bound.can) h is;
+        }
 
-    pub belongs_still : (ns : List ℤ) (steps until k : ℕ) (past : List Line) (o : Option Ending) (n : Vm H W) →
-        Turned state pending c ns steps until k past o n → Belongs state pending c n
-    belongs_still ns steps until k past o n t = stands ns steps until (suc k) past t.at
-
-    pub belongs_on : (o : Option Ending) (m n : Vm H W) → Belongs state pending c m → (m.phase ≡ phase.Lost → ⊥) →
-        ((ns : List ℤ) (steps until k : ℕ) (past : List Line) → At state pending c ns steps until k past m →
-        Turned state pending c ns steps until k past o n) →
+    pub belongs_on : (a : Option Ending) (m n : Vm H W) → Belongs state pending c m → (m.phase ≡ phase.Lost → ⊥) →
+        ((origin : Origin) (steps until k : ℕ) (past : List Line) → At state pending c origin steps until k past m →
+        Turned state pending c origin steps until k past a n) →
         Belongs state pending c n
-    belongs_on o m n (stands ns steps until k past at) not turns = belongs_still ns steps until k past o n (turns ns steps until k past at)
-    belongs_on o m n (lost is) not turns = absurd (not is)
+    belongs_on a m n (stands origin steps until k past at) not turns =
+        stands origin steps until (suc k) past (turns origin steps until k past at).at
+    belongs_on a m n (lost is) not turns = absurd (not is)

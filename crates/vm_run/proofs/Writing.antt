@@ -15,15 +15,15 @@ use Rattle.vm_run.proofs.Running.{TurnsInto}
 module _ {H W : Type 0} (state : H → Kept) (pending : W → List Pending) (c : Code) where
   pub drained_belongs : (m n : Vm H W) (o : Option Ending) (t : Trace) → Belongs state pending c m → (m.phase ≡ phase.Lost → ⊥) →
       TurnsInto state pending c m o n → t ≡ drained n.run.trace → Belongs state pending c (with_trace state pending n t)
-  drained_belongs m n o t (stands ns steps until k past at) not turns e =
-      stands ns steps until (suc k) (lines_after c ns steps until k)
-      (drained_at state pending c ns steps until k past n o t e (turns ns steps until k past at))
+  drained_belongs m n o t (stands origin steps until k past at) not turns e =
+      stands origin steps until (suc k) (lines_after c origin steps until k)
+      (drained_at state pending c origin steps until k past n o t e (turns origin steps until k past at))
   drained_belongs m n o t (lost is) not turns e = absurd (not is)
 
   pub drained_kept : (m n : Vm H W) (o : Option Ending) (t : Trace) → Belongs state pending c m → (m.phase ≡ phase.Lost → ⊥) →
       TurnsInto state pending c m o n → t ≡ drained n.run.trace → t.kept ≡ []
-  drained_kept m n o t (stands ns steps until k past at) not turns e =
-      none_kept state pending c ns steps until k past n o t e (turns ns steps until k past at)
+  drained_kept m n o t (stands origin steps until k past at) not turns e =
+      none_kept state pending c origin steps until k past n o t e (turns origin steps until k past at)
   drained_kept m n o t (lost is) not turns e = absurd (not is)
 
   pub still_belongs : (n : Vm H W) (t : Trace) → Belongs state pending c n → t ≡ n.run.trace →

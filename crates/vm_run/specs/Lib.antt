@@ -1,3 +1,4 @@
+pub mod Origins
 pub mod Standing
 pub mod Turning
 pub mod Carrying

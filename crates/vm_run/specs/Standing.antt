@@ -8,13 +8,14 @@ use Rattle.verse_value.specs.declared.runs.Ending.{Ending}
 use Rattle.verse_meaning_state.specs.State.{State, begun}
 use Rattle.verse_meaning_state.specs.Turns.{Stage, going, closed, broken, amiss, run, run_closed}
 use Rattle.verse_code_machine.specs.Tasks.{tree_waits}
-use Rattle.verse_code_machine.specs.Runs.{Forest, mach_after}
+use Rattle.verse_code_machine.specs.Runs.{Forest}
 use Rattle.sim_clock.specs.declared.waits.Pending.{Pending}
 use Rattle.tx_heap.specs.State.{State as Kept}
 use Rattle.vm_running.specs.Views.{View, Aside, line_of, state_of}
 use Rattle.vm_running.specs.Runners.{view_of}
 use Rattle.vm_scheduler.specs.Going.{Resting}
 use Rattle.vm_wake.specs.Starts.{Fresh, IsNew}
+use Rattle.vm_run.specs.Origins.{Origin, from_inputs, from_state, stage_after, CanBeRun}
 use Rattle.vm_run.specs.declared.machines.Vm.{Vm}
 use Rattle.vm_run.specs.declared.machines.Phase.TheVariants as phase
 
@@ -28,11 +29,11 @@ pub record Shows (s : State) (past : List Line) (v : View) : Type 0 where
   pub marks : v.trace.marks ≡ []
 
 module _ {H W : Type 0} where
-  -- it has the bounds, and they and the inputs are within the limits
-  pub record IsBound (ns : List ℤ) (steps until : ℕ) (m : Vm H W) : Type 0 where
+  -- it has the bounds, which are within the limits, and a run can begin so
+  pub record IsBound (c : Code) (origin : Origin) (steps until : ℕ) (m : Vm H W) : Type 0 where
     pub steps_are : m.bounds.steps ≡ steps
     pub until_is : m.bounds.until ≡ until
-    pub few_inputs : length ns ≤ 1000
+    pub can : CanBeRun c origin steps
     pub few_steps : steps ≤ 100000000
     pub near : until ≤ 1000000000000
 
@@ -87,17 +88,22 @@ module _ {H W : Type 0} (state : H → Kept) (pending : W → List Pending) wher
     pub new : IsNew pending m.tasks
     pub shows : Shows (begun steps) past (view_of state m.run)
 
-  -- what it holds after so many calls: the first starts `Main`, and each further one takes a turn
-  abbrev pub HoldsAfter : Code → List ℤ → (steps until k : ℕ) → List Line → Vm H W → Type 0
-  HoldsAfter c ns steps until zero past m = IsUnbegun ns steps past m
-  HoldsAfter c ns steps until (suc k) past m = Holds (mach_after c ns steps until k) past m
+  -- what it holds before the first call
+  abbrev pub HoldsFirst : Origin → (steps : ℕ) → List Line → Vm H W → Type 0
+  HoldsFirst (from_inputs ns) steps past m = IsUnbegun ns steps past m
+  HoldsFirst (from_state s trees) steps past m = Holds (going s trees) past m
 
-  -- it stands for the run of a code with these inputs and bounds after so many calls, and these lines were drained
-  pub record At (c : Code) (ns : List ℤ) (steps until k : ℕ) (past : List Line) (m : Vm H W) : Type 0 where
-    pub bound : IsBound ns steps until m
-    pub holds : HoldsAfter c ns steps until k past m
+  -- what it holds after so many calls: the first starts `Main` where the run is from inputs, and each other one takes a turn
+  abbrev pub HoldsAfter : Code → Origin → (steps until k : ℕ) → List Line → Vm H W → Type 0
+  HoldsAfter c origin steps until zero past m = HoldsFirst origin steps past m
+  HoldsAfter c origin steps until (suc k) past m = Holds (stage_after c origin steps until k) past m
+
+  -- it stands for the run of a code from an origin with these bounds after so many calls, and these lines were drained
+  pub record At (c : Code) (origin : Origin) (steps until k : ℕ) (past : List Line) (m : Vm H W) : Type 0 where
+    pub bound : IsBound c origin steps until m
+    pub holds : HoldsAfter c origin steps until k past m
 
   -- it stands for some run of the code, or there was no memory for it
   pub data Belongs (c : Code) (m : Vm H W) : Type 0 where
-    stands : (ns : List ℤ) (steps until k : ℕ) (past : List Line) → At c ns steps until k past m → Belongs c m
+    stands : (origin : Origin) (steps until k : ℕ) (past : List Line) → At c origin steps until k past m → Belongs c m
     lost : m.phase ≡ phase.Lost → Belongs c m

@@ -1,10 +1,16 @@
 //! What a machine holds.
 
-ghost use Rattle.std.specs.Prelude.{◌≡◌, ◌≤◌, [], length, map, IfOk};
+ghost use Rattle.std.specs.Prelude.{◌≡◌, ◌≤◌, List, [], length, map, IfOk};
 ghost use Rattle.verse_value.specs.Val.{int, array, vals};
 ghost use Rattle.verse_value.specs.View.{val_of};
+ghost use Rattle.verse_value.specs.Runs.{Line};
+ghost use Rattle.verse_meaning_state.specs.State.{State};
 ghost use Rattle.verse_code.specs.Validity.{Valid};
+ghost use Rattle.verse_code_machine.specs.Runs.{Forest};
 ghost use Rattle.tx_heap.specs.State.{empty};
+ghost use Rattle.vm_running.specs.Runners.{view_of};
+ghost use Rattle.vm_run.specs.Origins.{from_inputs, from_state, IsResumable};
+ghost use Rattle.vm_run.specs.Reaching.{Rested};
 ghost use Rattle.vm_run.specs.Standing.{At};
 
 use sim_clock::waits::Waits;
@@ -70,7 +76,8 @@ impl<H: Heap + Drop, W: Waits + Drop> Vm<H, W> {
         requires steps { bounds.steps ≤ 100000000 }
         requires until { bounds.until ≤ 1000000000000 }
         ensures { IfOk result (λ m.
-            At H.state W.pending code.now inputs.now bounds.steps bounds.until 0 [] m) }
+            At H.state W.pending code.now (from_inputs inputs.now) bounds.steps bounds.until 0 []
+            m) }
     {
         let _ = code.main;
         let inputs = input_array(alloc, inputs)?;
@@ -88,6 +95,27 @@ impl<H: Heap + Drop, W: Waits + Drop> Vm<H, W> {
             bounds,
             phase: Phase::Unbegun,
         })
+    }
+
+    /// A machine between two turns, which has these parts. Steps are at most 100000000, and the
+    /// horizon is at most 1000000000000. Takes no memory.
+    pub fn from_parts(code: &Code, run: Runner<H>, tasks: Tasks<W>, bounds: Bounds) -> Vm<H, W>
+        requires steps { bounds.steps ≤ 100000000 }
+        requires until { bounds.until ≤ 1000000000000 }
+        ensures { (s : State) (trees : Forest) (past : List Line) →
+            Rested W.pending s trees past (view_of H.state run) tasks →
+            IsResumable code.now bounds.steps s trees →
+            At H.state W.pending code.now (from_state s trees) bounds.steps bounds.until 0 past
+            result }
+    {
+        let _ = code.main;
+        Vm {
+            run,
+            tasks,
+            inputs: Value::Unit,
+            bounds,
+            phase: Phase::Between,
+        }
     }
 
     /// The moment of the last turn in milliseconds, 0 before the first. Takes no memory.

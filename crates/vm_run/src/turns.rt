@@ -1,16 +1,17 @@
 //! The start of a run, and its turns.
 
-ghost use Rattle.std.specs.Prelude.{◌≡◌, ◌≤◌, ℕ, ℤ, List, [], IfOk, OnOk, OnErr, IsErrOf};
+ghost use Rattle.std.specs.Prelude.{◌≡◌, ◌≤◌, ℕ, List, [], IfOk, OnOk, OnErr, IsErrOf};
 ghost use Rattle.verse_outside.specs.Causes.{Rose};
 ghost use Rattle.verse_code.specs.Validity.{Valid};
 ghost use Rattle.verse_value.specs.Runs.{Line};
 ghost use Rattle.vm_run.specs.declared.machines.Phase.TheVariants as phase;
 ghost use Rattle.vm_run.specs.declared.turns.TurnFault.TheVariants as fault;
 ghost use Rattle.vm_run.specs.Standing.{Holds, At, Belongs};
-ghost use Rattle.verse_code_machine.specs.Runs.{mach_after};
+ghost use Rattle.vm_run.specs.Origins.{Origin, stage_after};
 ghost use Rattle.vm_run.specs.Reaching.{ended_in};
 ghost use Rattle.vm_run.specs.Turning.{lines_after, Turned, TookPart, TurnedTo, Ran};
 
+use crate::laws::runs_hold;
 use crate::machines::{Phase, Vm};
 use crate::stages::{begin, go};
 use sim_clock::waits::Waits;
@@ -18,7 +19,6 @@ use std::mem;
 use tx_heap::heaps::Heap;
 use verse_base::refusals::Memory;
 use verse_code::codes::Code;
-use verse_code_machine::{run_belongs, runs_end, stays_over};
 use verse_outside::sinks::{Failed, Sink};
 use verse_value::runs::Ending;
 use verse_value::values::Value;
@@ -58,15 +58,15 @@ impl<H: Heap + Drop, W: Waits + Drop> Vm<H, W> {
     pub fn turn(&mut self, code: &Code) -> Result<Option<Ending>, Memory>
         requires valid { Valid code.now }
         requires belongs { Belongs H.state W.pending code.now self.old }
-        ensures turned { (ns : List ℤ) (steps until k : ℕ) (past : List Line) →
-            At H.state W.pending code.now ns steps until k past self.old →
-            IfOk result (λ o. Turned H.state W.pending code.now ns steps until k past o self.new) }
+        ensures turned { (origin : Origin) (steps until k : ℕ) (past : List Line) →
+            At H.state W.pending code.now origin steps until k past self.old →
+            IfOk result (λ o. Turned H.state W.pending code.now origin steps until k past o
+            self.new) }
         ensures belongs { Belongs H.state W.pending code.now self.new }
         ensures lost { OnErr result (self.new.phase ≡ phase.Lost) }
         ensures still { self.old.phase ≡ phase.Lost → OnOk result ⊥ }
     {
-        runs_end();
-        stays_over();
+        runs_hold();
         match self.advance(code) {
             Ok(phase) => {
                 self.phase = phase;
@@ -83,15 +83,14 @@ impl<H: Heap + Drop, W: Waits + Drop> Vm<H, W> {
     fn advance(&mut self, code: &Code) -> Result<Phase, Memory>
         requires valid { Valid code.now }
         requires belongs { Belongs H.state W.pending code.now self.old }
-        ensures reached { (ns : List ℤ) (steps until k : ℕ) (past : List Line) →
-            At H.state W.pending code.now ns steps until k past self.old →
-            IfOk result (λ p. Holds H.state W.pending (mach_after code.now ns steps until k) past
-            (record self.new { phase = p })) }
+        ensures reached { (origin : Origin) (steps until k : ℕ) (past : List Line) →
+            At H.state W.pending code.now origin steps until k past self.old →
+            IfOk result (λ p. Holds H.state W.pending (stage_after code.now origin steps until k)
+            past (record self.new { phase = p })) }
         ensures bounds { self.new.bounds ≡ self.old.bounds }
         ensures still { self.old.phase ≡ phase.Lost → OnOk result ⊥ }
     {
-        runs_end();
-        run_belongs();
+        runs_hold();
         match self.phase {
             Phase::Unbegun => {
                 let inputs = mem::replace(&mut self.inputs, Value::Unit);
@@ -119,15 +118,15 @@ impl<H: Heap + Drop, W: Waits + Drop> Vm<H, W> {
     ) -> Result<Option<Ending>, TurnFault>
         requires valid { Valid code.now }
         requires belongs { Belongs H.state W.pending code.now self.old }
-        ensures turned { (ns : List ℤ) (steps until k : ℕ) (past : List Line) →
-            At H.state W.pending code.now ns steps until k past self.old →
-            IfOk result (λ o. TurnedTo H.state W.pending code.now ns steps until k past o
+        ensures turned { (origin : Origin) (steps until k : ℕ) (past : List Line) →
+            At H.state W.pending code.now origin steps until k past self.old →
+            IfOk result (λ o. TurnedTo H.state W.pending code.now origin steps until k past o
             (S.taken out.old) (S.taken out.new) self.new) }
         ensures kept { OnOk result (self.new.run.trace.kept ≡ []) }
-        ensures part { (ns : List ℤ) (steps until k : ℕ) (past : List Line) →
-            At H.state W.pending code.now ns steps until k past self.old →
+        ensures part { (origin : Origin) (steps until k : ℕ) (past : List Line) →
+            At H.state W.pending code.now origin steps until k past self.old →
             IsErrOf result fault.Failed →
-            TookPart past (lines_after code.now ns steps until k) (S.taken out.old)
+            TookPart past (lines_after code.now origin steps until k) (S.taken out.old)
             (S.taken out.new) }
         ensures failed { IsErrOf result fault.Failed → Rose (S.faults out.old) (S.faults out.new) }
         ensures later { S.faults out.old ≤ S.faults out.new }
@@ -145,15 +144,14 @@ impl<H: Heap + Drop, W: Waits + Drop> Vm<H, W> {
     pub fn run(&mut self, code: &Code) -> Result<Ending, Memory>
         requires valid { Valid code.now }
         requires belongs { Belongs H.state W.pending code.now self.old }
-        ensures ran { (ns : List ℤ) (steps until k : ℕ) (past : List Line) →
-            At H.state W.pending code.now ns steps until k past self.old →
-            IfOk result (λ e. Ran H.state W.pending code.now ns steps until past e self.new) }
+        ensures ran { (origin : Origin) (steps until k : ℕ) (past : List Line) →
+            At H.state W.pending code.now origin steps until k past self.old →
+            IfOk result (λ e. Ran H.state W.pending code.now origin steps until past e self.new) }
         ensures belongs { Belongs H.state W.pending code.now self.new }
         ensures lost { OnErr result (self.new.phase ≡ phase.Lost) }
         ensures still { self.old.phase ≡ phase.Lost → OnOk result ⊥ }
     {
-        runs_end();
-        stays_over();
+        runs_hold();
         'turns: for _turn in 0..MOST_CALLS {
             if let Some(ending) = self.turn(code)? {
                 return Ok(ending);

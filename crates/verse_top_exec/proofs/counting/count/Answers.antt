@@ -2,6 +2,7 @@
 use Rattle.std.proofs.Common.{◌≡◌, ℕ, List, [], length, map, sym, ap, ◌∙◌}
 use Rattle.std.proofs.lemmas.List.{length-map}
 use Rattle.vm_running.specs.Views.{line_of}
+use Rattle.vm_run.specs.Origins.{from_inputs}
 use Rattle.verse_top_exec.specs.Asking.{options_of}
 use Rattle.verse_top_exec.specs.Executions.{run_with}
 use Rattle.verse_top_exec.proofs.Shortly.{EndedSo, counts}
@@ -20,7 +21,7 @@ returns g c =
     let o = options_of c.args.asked in
     let code = c.args.code.now in
     let vm = c.run.new.self in
-    let ran = c.in_ok-ending.ensures.ran o.inputs o.steps o.until 0 [] c.in_ok-vm.ensures in
+    let ran = c.in_ok-ending.ensures.ran (from_inputs o.inputs) o.steps o.until 0 [] c.in_ok-vm.ensures in
     let kept : c.kept_lines.result ≡ length vm.run.trace.kept =
     c.kept_lines.ensures ∙ ap (λ t. length t.kept) c.into_parts-heap.ensures.trace in
     let lines : length (run_with code o).trace ≡ length vm.run.trace.kept =

@@ -1,6 +1,7 @@
 -- Each call writes the lines of its turn, and a run is over before there are more calls than these.
 use Rattle.std.proofs.Common.{◌≡◌, ◌+◌, Option, Some, None, Err, ap, subst, ◌∙◌, rules}
 use Rattle.verse_value.specs.declared.runs.Ending.{Ending}
+use Rattle.vm_run.specs.Origins.{from_inputs}
 use Rattle.vm_run.specs.Turning.{TurnedTo}
 use Rattle.verse_top_exec.specs.Turns.{Goes, stop_of}
 use Rattle.verse_top_exec.proofs.Leaving.{at_error}
@@ -21,10 +22,10 @@ turns-preserved g c =
       c.turn_to.ensures.belongs,
       (λ o e at.
           let r = c.turns.invariant.1 o e at in
-          let t = c.in_ok-ending.ensures.turned o.inputs o.steps o.until c.turns._turn r.past r.at in
+          let t = c.in_ok-ending.ensures.turned (from_inputs o.inputs) o.steps o.until c.turns._turn r.past r.at in
           reached_next g.H.Heap.state g.W.Waits.pending c.args.code.now o c.turns._turn (g.S.Sink.taken c.args.out.now)
           (g.S.Sink.taken c.turns.out) (g.S.Sink.taken c.turn_to.new.out) c.turns.vm c.turn_to.new.self r
-          (subst (λ (x : Option Ending). TurnedTo g.H.Heap.state g.W.Waits.pending c.args.code.now o.inputs o.steps o.until c.turns._turn
+          (subst (λ (x : Option Ending). TurnedTo g.H.Heap.state g.W.Waits.pending c.args.code.now (from_inputs o.inputs) o.steps o.until c.turns._turn
           r.past x (g.S.Sink.taken c.turns.out) (g.S.Sink.taken c.turn_to.new.out) c.turn_to.new.self) none t)),
       search rules,
     )
@@ -33,10 +34,10 @@ pub returns-in-Some-clause-goes : goal.returns-in-Some-clause-goes
 returns-in-Some-clause-goes g c o e at =
     let r = c.turns.invariant.1 o e at in
     let some : c.in_ok-ending.field-0 ≡ Some c.in-Some.ending = c.in-Some.is in
-    let t = c.in_ok-ending.ensures.turned o.inputs o.steps o.until c.turns._turn r.past r.at in
+    let t = c.in_ok-ending.ensures.turned (from_inputs o.inputs) o.steps o.until c.turns._turn r.past r.at in
     ended_at g.H.Heap.state g.W.Waits.pending c.args.code.now o c.turns._turn (g.S.Sink.taken c.args.out.now) (g.S.Sink.taken c.turns.out)
     (g.S.Sink.taken c.turn_to.new.out) c.turns.vm c.turn_to.new.self r c.in-Some.ending
-    (subst (λ (x : Option Ending). TurnedTo g.H.Heap.state g.W.Waits.pending c.args.code.now o.inputs o.steps o.until c.turns._turn r.past x
+    (subst (λ (x : Option Ending). TurnedTo g.H.Heap.state g.W.Waits.pending c.args.code.now (from_inputs o.inputs) o.steps o.until c.turns._turn r.past x
     (g.S.Sink.taken c.turns.out) (g.S.Sink.taken c.turn_to.new.out) c.turn_to.new.self) some t) c.in_ok-ending.ensures.kept
 
 pub returns-in_err-ending-clause-goes : goal.returns-in_err-ending-clause-goes
@@ -50,7 +51,7 @@ returns-in_err-ending-clause-goes g c o e at =
     (g.S.Sink.taken c.turn_to.new.out) c.turns.vm c.turn_to.new.self r (g.S.Sink.faults c.args.out.now) (g.S.Sink.faults c.turns.out)
     (g.S.Sink.faults c.turn_to.new.out) fault c.turns.invariant.2
     (λ f. c.turn_to.ensures.memory (c.in_err-ending.was ∙ ap Err f)) (λ f. c.turn_to.ensures.failed (c.in_err-ending.was ∙ ap Err f))
-    (λ f. c.turn_to.ensures.part o.inputs o.steps o.until c.turns._turn r.past r.at (c.in_err-ending.was ∙ ap Err f)))
+    (λ f. c.turn_to.ensures.part (from_inputs o.inputs) o.steps o.until c.turns._turn r.past r.at (c.in_err-ending.was ∙ ap Err f)))
 
 pub unreachable-requires : goal.unreachable-requires
 unreachable-requires g c =

@@ -3,9 +3,9 @@ use Rattle.vm_run.proofs.Writing.{drained_belongs, drained_kept, still_belongs}
 use Rattle.vm_run.proofs.machines.Vm.turn_to.Goals as goal
 
 pub returns-in_err-drain-clause-part : goal.returns-in_err-drain-clause-part
-returns-in_err-drain-clause-part g c ns steps until k past at failed =
-    took_part g.H.Heap.state g.W.Waits.pending c.args.code.now ns steps until k past c.turn.new.self c.in_ok-ending.ending _ _
-    c.in_err-drain.ensures.part (c.in_ok-ending.ensures.turned ns steps until k past at)
+returns-in_err-drain-clause-part g c origin steps until k past at failed =
+    took_part g.H.Heap.state g.W.Waits.pending c.args.code.now origin steps until k past c.turn.new.self c.in_ok-ending.ending _ _
+    c.in_err-drain.ensures.part (c.in_ok-ending.ensures.turned origin steps until k past at)
 
 pub returns-in_err-drain-clause-belongs : goal.returns-in_err-drain-clause-belongs
 returns-in_err-drain-clause-belongs g c =
@@ -13,9 +13,9 @@ returns-in_err-drain-clause-belongs g c =
     c.in_err-drain.ensures.kept
 
 pub returns-clause-turned : goal.returns-clause-turned
-returns-clause-turned g c ns steps until k past at =
-    turned_to g.H.Heap.state g.W.Waits.pending c.args.code.now ns steps until k past c.turn.new.self c.in_ok-ending.ending c.drain.new.self
-    _ _ c.in_ok-drain.ensures.drained c.in_ok-drain.ensures.written (c.in_ok-ending.ensures.turned ns steps until k past at)
+returns-clause-turned g c origin steps until k past at =
+    turned_to g.H.Heap.state g.W.Waits.pending c.args.code.now origin steps until k past c.turn.new.self c.in_ok-ending.ending c.drain.new.self
+    _ _ c.in_ok-drain.ensures.drained c.in_ok-drain.ensures.written (c.in_ok-ending.ensures.turned origin steps until k past at)
 
 pub returns-clause-kept : goal.returns-clause-kept
 returns-clause-kept g c =

@@ -1,0 +1,19 @@
+//! What holds of each run, from wherever it began.
+
+ghost use Rattle.vm_run.specs.Origins.{RunsHold};
+
+use verse_code_machine::{
+    run_belongs, run_belongs_from, runs_end, runs_end_from, stays_over, stays_over_from,
+};
+
+/// A run of a valid code ends, and all of its states belong to the code.
+pub(crate) fn runs_hold()
+    ensures { RunsHold }
+{
+    runs_end();
+    stays_over();
+    run_belongs();
+    runs_end_from();
+    stays_over_from();
+    run_belongs_from();
+}
