@@ -24,7 +24,6 @@ use Rattle.verse_accept_rows.specs.Found.{final, Found}
 use Rattle.verse_accept_classes.specs.Referring.{Names}
 use Rattle.verse_accept_classes.specs.Laws.{Quiet}
 use Rattle.verse_accept_fine.specs.Sorted.{At, ty_at, all_classes, sorted, program, Allows}
-use Rattle.verse_accept_fine.specs.Needs.{part}
 use Rattle.verse_accept_fine.proofs.Rules.{not_not, guarded}
 use Rattle.verse_accept_fine.proofs.Base.{its_row}
 use Rattle.verse_accept_fine.proofs.Base as base
