@@ -27,6 +27,7 @@ use Rattle.run_save_shots.specs.Kept.{KeptFrame, KeptRest, leaf, group, KeptTask
 
 abbrev pub KeyIsSound : Key → Type 0
 KeyIsSound (key.Char c) = c ≤ 255
+KeyIsSound (key.Text bytes) = Each (λ b. b ≤ 255) bytes
 KeyIsSound k = Unit {0}
 
 -- among so many spawned entries: a char is a byte, a task names an entry, and the keys of a map are distinct; an object or an event may
