@@ -1,0 +1,10 @@
+pub mod Measures
+pub mod Counted
+pub mod Holding
+pub mod Lasting
+pub mod Turning
+pub mod KeptTasks
+pub mod KeptOrder
+pub mod Stopping
+pub mod Saved
+pub mod KeptAll
