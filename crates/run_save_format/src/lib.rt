@@ -1,0 +1,7 @@
+//! The format of saved runs: what the bytes of a saved run are, and why bytes are none.
+//!
+//! Read the definitions in this order: `Format`, what is written; `Values`, `Reading` and `Whole`,
+//! what is read, up to the first failing place; `Faults`, what an answer tells of a file.
+#![tactic(auto)]
+
+pub mod faults;
