@@ -10,7 +10,7 @@ use Rattle.run_save_shots.specs.View.{shot_of}
 use Rattle.run_save_format.specs.declared.faults.SaveFault.{SaveFault}
 use Rattle.run_save_format.specs.declared.faults.SaveFault.TheVariants as faults
 use Rattle.run_save_format.specs.Format.{Saved, SavedFile}
-use Rattle.run_save_format.specs.Whole.{run_at, file_at}
+use Rattle.run_save_format.specs.Whole.{file_at}
 
 -- the answer tells what reading the file gives, unless memory ran out: a failing place by its offset
 abbrev pub Tells : List ℕ → Result (Code × Shot) SaveFault → Result (Code × Kept) Flaw → Type 0

@@ -20,7 +20,7 @@ use Rattle.run_save_shots.specs.declared.limits.TheConstants.{MOST_STEPS, MOST_N
 use Rattle.run_save_shots.specs.Kept.{KeptFrame, KeptRest, leaf, group, KeptTask, Kept}
 use Rattle.run_save_shots.specs.Fitting.{Stand, calls, sleeps, stays, awaits_task, awaits_event, gathers, goes_on, stand_at, is_defer}
 use Rattle.run_save_format.specs.Format.{mark}
-use Rattle.run_save_format.specs.Values.{wide_at, tested_at, form_at, choice_at, small_at, small_where, optional_at, each_at, Where, in_cell, among}
+use Rattle.run_save_format.specs.Values.{wide_at, tested_at, form_at, choice_at, small_at, small_where, optional_at, each_at, in_cell, among}
 use Rattle.run_save_format.specs.Values.{weighed, value_at, values_at}
 
 -- ---- lists

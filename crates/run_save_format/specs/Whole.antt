@@ -1,5 +1,5 @@
 -- The rules on the whole list: the first part that breaks one.
-use Rattle.std.specs.Prelude.{ℕ, zero, suc, ◌+◌, ◌==◌, nat_lt, nat_le, Bool, true, false, not, ◌&&◌, ◌||◌, List, [], ◌∷◌, ◌++◌, length}
+use Rattle.std.specs.Prelude.{ℕ, suc, ◌+◌, ◌==◌, nat_lt, nat_le, Bool, true, false, not, ◌&&◌, ◌||◌, List, [], ◌∷◌, ◌++◌, length}
 use Rattle.std.specs.Prelude.{Option, Some, None, Result, Ok, Err, if◌then◌else◌}
 use Rattle.task_tree.specs.declared.tasks.Role.{Role}
 use Rattle.task_tree.specs.declared.tasks.Role.TheVariants.{Root, Arm, Behind}
