@@ -60,7 +60,7 @@ module _ (c : Code) where
   turn_belongs steps until s tss [] a b = (a, b)
   turn_belongs steps until s tss (w ∷ ws) a b = due_belongs steps until s tss (least s (w ∷ ws)) a b
 
-  turns_belong : (steps until k : ℕ) (g : Stage Forest) → StageBelongs c.classes g →
+  pub turns_belong : (steps until k : ℕ) (g : Stage Forest) → StageBelongs c.classes g →
       StageBelongs c.classes (turns (turn_taken c steps until) k g)
   turns_belong steps until zero g a = a
   turns_belong steps until (suc k) (going s tss) a =

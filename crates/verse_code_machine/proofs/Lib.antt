@@ -6,3 +6,4 @@ mod Whole
 mod BelongingEnds
 mod BelongingActs
 mod BelongingRuns
+pub mod Goings

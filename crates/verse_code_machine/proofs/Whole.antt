@@ -68,7 +68,7 @@ module _ (c : Code) (valid : AreOperations c) where
   enough (suc fuel) w (Turn s tss) le l = l.holds
 
   -- k turns were taken: so many steps are gone
-  abbrev Within : (steps k : ℕ) → Stage Forest → Type 0
+  abbrev pub Within : (steps k : ℕ) → Stage Forest → Type 0
   Within steps k (going s tss) =
       (steps_weight (length c.ops) s + trees_weight (length c.ops) tss + k * (2 * length c.ops + 4) ≤ steps * (2 * length c.ops + 4)) ×
       TreesAre tss
@@ -118,7 +118,7 @@ module _ (c : Code) (valid : AreOperations c) where
   turn_within steps until k s tss [] h = tt
   turn_within steps until k s tss (x ∷ ws) h = due_within steps until k s tss (least s (x ∷ ws)) h
 
-  turns_within : (steps until k j : ℕ) (g : Stage Forest) → Within steps k g → Within steps (k + j) (turns (turn_taken c steps until) j g)
+  pub turns_within : (steps until k j : ℕ) (g : Stage Forest) → Within steps k g → Within steps (k + j) (turns (turn_taken c steps until) j g)
   turns_within steps until k zero g h = subst (λ z. Within steps z g) (omega arith) h
   turns_within steps until k (suc j) (going s tss) h =
       subst (λ z. Within steps z (turns (turn_taken c steps until) j (turn_taken c steps until s tss))) (omega arith) (turns_within steps
@@ -147,13 +147,13 @@ module _ (c : Code) (valid : AreOperations c) where
       subst (λ z. Within steps z (mach_after c ns steps until k)) (zero_plus k) (turns_within steps until 0 k (started c ns steps)
       (started_within ns steps))
 
-  is_whole : (steps k : ℕ) (g : Stage Forest) → Within steps k g → IsWhole g
+  pub is_whole : (steps k : ℕ) (g : Stage Forest) → Within steps k g → IsWhole g
   is_whole steps k (going s tss) h = tt
   is_whole steps k (closed e s tss) h = tt
   is_whole steps k (broken e s) h = tt
   is_whole steps k (amiss s) h = h
 
-  is_over : (steps : ℕ) (g : Stage Forest) → Within steps (suc steps) g → IsOver g
+  pub is_over : (steps : ℕ) (g : Stage Forest) → Within steps (suc steps) g → IsOver g
   is_over steps (going s tss) h = absurd (omega (arith, h.0, more_steps steps))
   is_over steps (closed e s tss) h = tt
   is_over steps (broken e s) h = tt
@@ -174,7 +174,7 @@ over_turns take (suc j) (broken e s) h = refl
 over_turns take (suc j) (amiss s) h = refl
 
 -- k turns and then j are as many turns
-turns_more : (take : State → Forest → Stage Forest) (k j : ℕ) (g : Stage Forest) → IsOver (turns take k g) →
+pub turns_more : (take : State → Forest → Stage Forest) (k j : ℕ) (g : Stage Forest) → IsOver (turns take k g) →
     turns take (k + j) g ≡ turns take k g
 turns_more take zero j g h = subst (λ z. turns take z g ≡ g) (omega arith) (over_turns take j g h)
 turns_more take (suc k) j (going s tss) h =

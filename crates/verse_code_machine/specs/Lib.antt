@@ -6,3 +6,4 @@ pub mod Acts
 pub mod Runs
 pub mod Laws
 pub mod Belonging
+pub mod Goings
