@@ -1,21 +1,21 @@
 -- The rules on the whole list: the first part that breaks one.
 use Rattle.std.specs.Prelude.{ℕ, suc, ◌+◌, ◌==◌, nat_lt, nat_le, Bool, true, false, not, ◌&&◌, ◌||◌, List, [], ◌∷◌, ◌++◌, length}
-use Rattle.std.specs.Prelude.{Option, Some, None, Result, Ok, Err, if◌then◌else◌}
+use Rattle.std.specs.Prelude.{Option, Some, None, slice_get, Result, Ok, Err, if◌then◌else◌}
 use Rattle.task_tree.specs.declared.tasks.Role.{Role}
 use Rattle.task_tree.specs.declared.tasks.Role.TheVariants.{Root, Arm, Behind}
 use Rattle.verse_code.specs.declared.codes.Code.{Code}
 use Rattle.verse_image.specs.declared.faults.Flaw.{Flaw}
 use Rattle.verse_image.specs.Reading.{◌>>=◌, flaw}
-use Rattle.verse_value.specs.Val.{Val, task, some, array, mapping, tuple, Vals, no_vals, more_vals, Pairs, no_pairs, more_pairs}
+use Rattle.verse_value.specs.Val.{Val, task, some, array, mapping, tuple, Vals, no_vals, more_vals, vals, Pairs, no_pairs}
+use Rattle.verse_value.specs.Val.{more_pairs}
 use Rattle.verse_value.specs.Store.{Cell}
 use Rattle.verse_meaning_state.specs.State.{Given}
-use Rattle.verse_meaning_state.specs.Waits.{nth}
 use Rattle.run_save_shots.specs.Lists.{count}
 use Rattle.run_save_shots.specs.Kept.{KeptRest, leaf, group, KeptTask, Kept}
 use Rattle.run_save_shots.specs.Fitting.{Stand, gathers, task_stand, is_root, is_child_of, is_arm_of, runs_once, unfinished, frames_of}
 use Rattle.run_save_shots.specs.Fitting.{is_running}
 use Rattle.run_save_format.specs.Format.{saved_word}
-use Rattle.run_save_format.specs.Reading.{Marked, kept_of, unmarked, marked_run_at}
+use Rattle.run_save_format.specs.Reading.{Found, parts_found_at}
 
 -- ---- cells
 
@@ -42,7 +42,7 @@ any test [] = false
 any test (x ∷ xs) = test x || any test xs
 
 abbrev pub breaks_cell : (entries : ℕ) → Cell → Bool
-breaks_cell n c = any (names_none n) c.slots
+breaks_cell n c = name_none n (vals c.slots)
 
 -- ---- spawned entries
 
@@ -93,7 +93,7 @@ role_breaks p (Behind depth) = nat_le (frames_of p) depth
 
 abbrev pub child_breaks : List KeptTask → Option ℕ → Role → Bool
 child_breaks ts None role = false
-child_breaks ts (Some p) role = role_breaks (nth ts p) role
+child_breaks ts (Some p) role = role_breaks (slice_get ts p) role
 
 abbrev pub may_follow : Role → Role → Bool
 may_follow (Behind d) (Behind e) = nat_le d e
@@ -113,32 +113,38 @@ module _ (c : Code) (spent : ℕ) (ts : List KeptTask) where
       any (is_disordered t.parent t.role) before || rest_breaks c ts (length before) t t.rest ||
       nat_lt (suc spent) (frames + length t.frames)
 
-  -- how many bytes are left at the first task that breaks a rule
-  abbrev pub broken_task : (before : List KeptTask) → (frames : ℕ) → List (ℕ × KeptTask) → Option ℕ
+  -- where the first task stands that breaks a rule
+  abbrev pub broken_task : (before : List KeptTask) → (frames : ℕ) → List KeptTask → Option ℕ
   broken_task before frames [] = None
   broken_task before frames (t ∷ others) =
-      if breaks_task before frames t.1 then Some t.0 else broken_task (before ++ t.1 ∷ []) (frames + length t.1.frames) others
+      if breaks_task before frames t then Some (length before) else broken_task (before ++ t ∷ []) (frames + length t.frames) others
 
-abbrev pub broken_entry : List KeptTask → ℕ → List (ℕ × Option Given) → Option ℕ
+abbrev pub broken_entry : List KeptTask → ℕ → List (Option Given) → Option ℕ
 broken_entry ts entry [] = None
-broken_entry ts entry (g ∷ others) = if breaks_entry ts entry g.1 then Some g.0 else broken_entry ts (suc entry) others
+broken_entry ts entry (g ∷ others) = if breaks_entry ts entry g then Some entry else broken_entry ts (suc entry) others
 
-abbrev pub broken_cell : ℕ → List (ℕ × Cell) → Option ℕ
-broken_cell n [] = None
-broken_cell n (x ∷ others) = if breaks_cell n x.1 then Some x.0 else broken_cell n others
+abbrev pub broken_cell : (entries : ℕ) → ℕ → List Cell → Option ℕ
+broken_cell n address [] = None
+broken_cell n address (c ∷ others) = if breaks_cell n c then Some address else broken_cell n (suc address) others
+
+-- how many bytes are left at the part of a place
+abbrev pub left_at : List ℕ → Option ℕ → Option ℕ
+left_at lefts None = None
+left_at lefts (Some place) = slice_get lefts place
 
 abbrev pub or_else : Option ℕ → Option ℕ → Option ℕ
 or_else None other = other
 or_else (Some left) other = Some left
 
--- cells stand before entries, and these before tasks
-abbrev pub broken : Marked → Option ℕ
+-- at the first part that breaks a rule: cells stand before entries, and these before tasks
+abbrev pub broken : Found → Option ℕ
 broken m =
-    or_else (broken_cell (length m.spawned) m.cells) (or_else (broken_entry (unmarked m.tasks) 0 m.spawned)
-    (broken_task m.code m.numbers.spent (unmarked m.tasks) [] 0 m.tasks))
+    or_else (left_at m.cell_lefts (broken_cell (length m.kept.spawned) 0 m.kept.cells))
+    (or_else (left_at m.entry_lefts (broken_entry m.kept.tasks 0 m.kept.spawned))
+    (left_at m.task_lefts (broken_task m.code m.kept.spent m.kept.tasks [] 0 m.kept.tasks)))
 
-abbrev pub whole : Marked → Option ℕ → Result (Code × Kept) Flaw
-whole m None = Ok (m.code, kept_of m)
+abbrev pub whole : Found → Option ℕ → Result (Code × Kept) Flaw
+whole m None = Ok (m.code, m.kept)
 whole m (Some left) = Err (flaw 5 left)
 
 -- ---- files
@@ -159,7 +165,7 @@ start_at begins is (b ∷ bytes) =
 
 -- the code and what is kept that the saved bytes spell, or the first failing place
 unfoldable pub run_at : List ℕ → Result (Code × Kept) Flaw
-run_at bytes = marked_run_at bytes >>= λ m. whole m (broken m)
+run_at bytes = parts_found_at bytes >>= λ m. whole m (broken m)
 
 -- and those of a file
 unfoldable pub file_at : List ℕ → Result (Code × Kept) Flaw
