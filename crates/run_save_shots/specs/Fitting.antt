@@ -1,8 +1,8 @@
 -- When what is kept of a run fits a valid code.
-use Rattle.std.specs.Prelude.{◌≡◌, ◌⊎◌, ℕ, zero, suc, ◌+◌, ◌≤◌, ◌<◌, nat_le, ◌==◌, Bool, true, false, ◌&&◌, ◌||◌, cond, not}
+use Rattle.std.specs.Prelude.{◌≡◌, ◌⊎◌, ℕ, zero, suc, ◌+◌, ◌≤◌, ◌<◌, ◌==◌, Bool, true, false, ◌&&◌}
 use Rattle.std.specs.Prelude.{List, [], ◌∷◌, length, Option, Some, None, option_map, slice_get}
 use Rattle.task_tree.specs.declared.tasks.Role.{Role}
-use Rattle.task_tree.specs.declared.tasks.Role.TheVariants.{Root, Arm, Behind}
+use Rattle.task_tree.specs.declared.tasks.Role.TheVariants.{Arm, Behind}
 use Rattle.task_tree.specs.Tasks.{suits, is_child}
 use Rattle.verse_base.specs.declared.limits.TheConstants.{MOST_TRACE_BYTES}
 use Rattle.verse_code.specs.declared.operations.Op.{Op}

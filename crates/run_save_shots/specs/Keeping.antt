@@ -6,7 +6,7 @@ use Rattle.verse_value.specs.Val.{Val}
 use Rattle.verse_meaning_state.specs.State.{State}
 use Rattle.verse_meaning_state.specs.Waits.{eqn, ltn}
 use Rattle.verse_meaning_state.specs.Effects.{printed_by}
-use Rattle.verse_code_machine.specs.Tasks.{Frame, Role, root, part, Who, Part, did, runs, Rest, asleep, group, Task, same_path}
+use Rattle.verse_code_machine.specs.Tasks.{Frame, Role, root, part, Part, did, runs, Rest, asleep, group, Task, same_path}
 use Rattle.verse_code_machine.specs.Runs.{Forest}
 use Rattle.run_save_shots.specs.Kept as k
 use Rattle.run_save_shots.specs.Kept.{KeptFrame, KeptRest, KeptTask, Kept}

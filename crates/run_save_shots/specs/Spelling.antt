@@ -1,10 +1,10 @@
 -- The state and the trees of tasks that what is kept of a run spells.
-use Rattle.std.specs.Prelude.{ℕ, zero, suc, ◌+◌, cond, List, [], ◌∷◌, ◌++◌, length, map, reverse, Option, Some, None, slice_get}
+use Rattle.std.specs.Prelude.{ℕ, zero, suc, ◌+◌, cond, List, [], ◌∷◌, ◌++◌, length, map, reverse, Option, Some, None}
 use Rattle.verse_base.specs.declared.places.Place.{Place}
 use Rattle.verse_code.specs.declared.codes.Code.{Code}
 use Rattle.verse_value.specs.Val.{Val}
 use Rattle.verse_meaning_state.specs.State.{State}
-use Rattle.verse_meaning_state.specs.Turns.{Kind, all_of}
+use Rattle.verse_meaning_state.specs.Turns.{all_of}
 use Rattle.verse_code_machine.specs.Tasks.{Frame, root, part, Role, Who, Part, did, runs, Rest, asleep, group, Task, thread, same_path}
 use Rattle.verse_code_machine.specs.Acts.{kind_of, place_at}
 use Rattle.verse_code_machine.specs.Runs.{Forest}

@@ -1,5 +1,5 @@
 -- What a `Shot` keeps.
-use Rattle.std.specs.Prelude.{ℕ, List, map, Option, option_map}
+use Rattle.std.specs.Prelude.{ℕ, map, option_map}
 use Rattle.std.specs.Global.{Vec}
 use Rattle.verse_value.specs.declared.runs.CellKind.{CellKind}
 use Rattle.verse_value.specs.declared.values.Value.{Value}
