@@ -1,0 +1,4 @@
+pub mod Ends
+pub mod Acts
+pub mod Runs
+pub mod Later
