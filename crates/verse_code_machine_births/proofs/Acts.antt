@@ -1,5 +1,5 @@
--- Each operation keeps when the frames of all tasks began.
-use Rattle.std.proofs.Common.{◌≡◌, ℕ, zero, suc, ◌≤◌, length, ◌+◌, List, [], ◌∷◌, Option, Some, None, Bool, true}
+-- Each operation keeps what holds of all frames and tasks.
+use Rattle.std.proofs.Common.{◌≡◌, ℕ, zero, suc, ◌<◌, ◌≤◌, length, ◌+◌, List, [], ◌∷◌, Option, Some, None, Bool, true}
 use Rattle.std.proofs.Common.{false, cond, refl, sym, subst}
 use Rattle.std.specs.Prelude.{pos, not, slice_get}
 use Rattle.verse_base.specs.declared.places.Place.{Place}
@@ -29,7 +29,7 @@ use Rattle.verse_meaning_state.specs.Effects.{changed}
 use Rattle.verse_meaning_state.specs.Effects.{slot_written, text_printed, line_printed, event_of, task_of}
 use Rattle.verse_meaning_state.specs.Effects.{signal_sent}
 use Rattle.verse_code_machine.specs.Tasks.{Life, Handler, Frame, Note, to, gone, Who, thread, World, Step}
-use Rattle.verse_code_machine.specs.Tasks.{Next, Over, machine}
+use Rattle.verse_code_machine.specs.Tasks.{Next, Over, machine, root_named, child_named}
 use Rattle.verse_code_machine.specs.Frames.{on_top, on_two, on_many, on_there, only_where, put, fits, goes, failing}
 use Rattle.verse_code_machine.specs.Frames.{faulting, answered}
 use Rattle.verse_code_machine.specs.Frames.{answered_to, enters, method_of, free, nothing, kept_defers, kept_noted}
@@ -40,7 +40,7 @@ use Rattle.verse_code_machine.specs.Acts.{takes_step, on_domain}
 use Rattle.verse_code_machine.specs.Acts.{on_int, awaits, spawns, labels, after_arms, groups, on_noted, on_defer}
 use Rattle.verse_code_machine.specs.Acts.{on_note, frame, unary, binary}
 use Rattle.verse_code_machine.specs.Acts.{collects, leaves, on_handler, act}
-use Rattle.verse_code_machine_births.specs.Births.{HandlersBorn, FramesBorn, WorldBorn}
+use Rattle.verse_code_machine_births.specs.Everywhere.{HandlersAre, FramesAre, WorldIs}
 use Rattle.verse_code_machine_births.proofs.Ends.{Low, over, others, spending_low, resumes_low, frames_low, next_low}
 use Rattle.verse_code_machine_births.proofs.Ends.{suspends_low, ends_low}
 use Rattle.verse_code_machine_births.proofs.Ends.{returns_low, cleared_low}
@@ -129,116 +129,118 @@ sent_keeps : (e : Option ℕ) (v : Val) (s : State) → Keeps s (signal_sent e v
 sent_keeps None v s = tt
 sent_keeps (Some c) v s = refl
 
-module _ (most least : ℕ) where
+module _ (most : ℕ) (Born : ℕ → Type 0) (Named : Who → Type 0) (new : (w : Who) → w.number < most → Named w) where
   abbrev Stays : Step → Type 0
-  Stays = Low most least
+  Stays = Low most Born Named new
 
   only_low : (b : Bool) (s : State) (q : Step) → Stays q → Stays (only_where b s q)
   only_low true s q l = l
-  only_low false s q l = over most least
+  only_low false s q l = over most Born Named new
 
   top_low : (st : List Val) (s : State) (go : Val → List Val → Step) → ((v : Val) (st : List Val) → Stays (go v st))
       → Stays (on_top st s go)
-  top_low [] s go f = over most least
+  top_low [] s go f = over most Born Named new
   top_low (v ∷ st) s go f = f v st
 
   two_low : (st : List Val) (s : State) (go : Val → Val → List Val → Step) → ((a b : Val) (st : List Val) → Stays (go
       a b st)) →
       Stays (on_two st s go)
-  two_low [] s go f = over most least
-  two_low (b ∷ []) s go f = over most least
+  two_low [] s go f = over most Born Named new
+  two_low (b ∷ []) s go f = over most Born Named new
   two_low (b ∷ a ∷ st) s go f = f a b st
 
   many_low : (m : ℕ) (st vs : List Val) (s : State) (go : List Val → List Val → Step) → ((ws st : List Val) → Stays
       (go ws st)) →
       Stays (on_many m st vs s go)
   many_low zero st vs s go f = f vs st
-  many_low (suc m) [] vs s go f = over most least
+  many_low (suc m) [] vs s go f = over most Born Named new
   many_low (suc m) (v ∷ st) vs s go f = many_low m st (v ∷ vs) s go f
 
   pub there_low : {A : Type 0} (x : Option A) (s : State) (go : A → Step) → ((y : A) → Stays (go y)) → Stays
       (on_there x s go)
-  there_low None s go f = over most least
+  there_low None s go f = over most Born Named new
   there_low (Some x) s go f = f x
 
   faulting_low : (p : Option Place) (k : Error) (s : State) → Stays (faulting p k s)
-  faulting_low None k s = over most least
-  faulting_low (Some p) k s = over most least
+  faulting_low None k s = over most Born Named new
+  faulting_low (Some p) k s = over most Born Named new
 
   domain_low : (v : Val) (s : State) (q : Step) → Stays q → Stays (on_domain v s q)
-  domain_low unit s q l = over most least
-  domain_low falsity s q l = over most least
-  domain_low truth s q l = over most least
-  domain_low (int n) s q l = over most least
-  domain_low (char n) s q l = over most least
-  domain_low (enum a b) s q l = over most least
-  domain_low (object c) s q l = over most least
-  domain_low (event n) s q l = over most least
-  domain_low (task n) s q l = over most least
-  domain_low (some w) s q l = over most least
+  domain_low unit s q l = over most Born Named new
+  domain_low falsity s q l = over most Born Named new
+  domain_low truth s q l = over most Born Named new
+  domain_low (int n) s q l = over most Born Named new
+  domain_low (char n) s q l = over most Born Named new
+  domain_low (enum a b) s q l = over most Born Named new
+  domain_low (object c) s q l = over most Born Named new
+  domain_low (event n) s q l = over most Born Named new
+  domain_low (task n) s q l = over most Born Named new
+  domain_low (some w) s q l = over most Born Named new
   domain_low (array vs) s q l = l
   domain_low (mapping ps) s q l = l
-  domain_low (tuple vs) s q l = over most least
+  domain_low (tuple vs) s q l = over most Born Named new
 
   int_low : (v : Val) (s : State) (q : Step) → Stays q → Stays (on_int v s q)
-  int_low unit s q l = over most least
-  int_low falsity s q l = over most least
-  int_low truth s q l = over most least
+  int_low unit s q l = over most Born Named new
+  int_low falsity s q l = over most Born Named new
+  int_low truth s q l = over most Born Named new
   int_low (int n) s q l = l
-  int_low (char n) s q l = over most least
-  int_low (enum a b) s q l = over most least
-  int_low (object c) s q l = over most least
-  int_low (event n) s q l = over most least
-  int_low (task n) s q l = over most least
-  int_low (some w) s q l = over most least
-  int_low (array vs) s q l = over most least
-  int_low (mapping ps) s q l = over most least
-  int_low (tuple vs) s q l = over most least
+  int_low (char n) s q l = over most Born Named new
+  int_low (enum a b) s q l = over most Born Named new
+  int_low (object c) s q l = over most Born Named new
+  int_low (event n) s q l = over most Born Named new
+  int_low (task n) s q l = over most Born Named new
+  int_low (some w) s q l = over most Born Named new
+  int_low (array vs) s q l = over most Born Named new
+  int_low (mapping ps) s q l = over most Born Named new
+  int_low (tuple vs) s q l = over most Born Named new
 
   goes_low : (y : Who) (o : World) (s u : State) (g : Life) (ls st : List Val) (q : ℕ) (hs : List Handler) (bl : List
       Frame) →
-      u.clock.left ≤ most → (least ≤ g.born) × HandlersBorn least hs → FramesBorn least bl → WorldBorn least o →
-      Stays (goes y o s u g ls st q hs bl)
-  goes_low y o s u g ls st q hs bl t k a b = only_low (fits hs q) s _ (record { holds = (t, (λ e. k, (a, b))) })
+      u.clock.left ≤ most → Named y → Born g.born × HandlersAre Born Named hs → FramesAre Born Named bl →
+      WorldIs Born Named o → Stays (goes y o s u g ls st q hs bl)
+  goes_low y o s u g ls st q hs bl t p k a b =
+      only_low (fits hs q) s _ (record { holds = (t, (p, (λ e. k, (a, b)))) })
 
-  handler_low : (hs : List Handler) (s : State) (go : Handler → List Handler → Step) → HandlersBorn least hs →
-      ((h : Handler) (hs : List Handler) → HandlersBorn least hs → Stays (go h hs)) → Stays (on_handler hs s go)
-  handler_low [] s go k f = over most least
+  handler_low : (hs : List Handler) (s : State) (go : Handler → List Handler → Step) → HandlersAre Born Named hs →
+      ((h : Handler) (hs : List Handler) → HandlersAre Born Named hs → Stays (go h hs)) → Stays (on_handler hs s go)
+  handler_low [] s go k f = over most Born Named new
   handler_low (h ∷ hs) s go k f = f h hs k.1
 
   failing_low : (y : Who) (o : World) (s : State) (ls : List Val) (hs : List Handler) (bl : List Frame) →
-      s.clock.left ≤ most →
-      HandlersBorn least hs → FramesBorn least bl → WorldBorn least o → Stays (failing y o s ls hs bl)
-  failing_low y o s ls (a ∷ hs) bl z k b c = goes_low y o s (restored a.memory s) a.life ls a.stack a.label hs bl z k
-      b c
-  failing_low y o s ls [] [] z k b c = over most least
-  failing_low y o s ls [] (f ∷ bl) z k b c = failing_low y o s f.locals f.handlers bl z b.0.1 b.1 c
+      s.clock.left ≤ most → Named y → HandlersAre Born Named hs → FramesAre Born Named bl → WorldIs Born Named o →
+      Stays (failing y o s ls hs bl)
+  failing_low y o s ls (a ∷ hs) bl z p k b c = goes_low y o s (restored a.memory s) a.life ls a.stack a.label hs bl z
+      p k b
+      c
+  failing_low y o s ls [] [] z p k b c = over most Born Named new
+  failing_low y o s ls [] (f ∷ bl) z p k b c = failing_low y o s f.locals f.handlers bl z p b.0.1 b.1 c
 
   module _ (y : Who) (x : World) (s : State) (g : Life) (pc : ℕ) (hs : List Handler) (bl : List Frame) (z :
-      s.clock.left ≤ most)
-      (k : (least ≤ g.born) × HandlersBorn least hs) (b : FramesBorn least bl) (i : WorldBorn least x) where
+      s.clock.left ≤ most) (y_is : Named y)
+      (k : Born g.born × HandlersAre Born Named hs) (b : FramesAre Born Named bl) (i : WorldIs Born Named x) where
     same_steps : (u : State) → u.clock.left ≡ s.clock.left → u.clock.left ≤ most
     same_steps u e = subst (λ n. n ≤ most) (sym e) z
 
     goes_here : (u : State) (ls st : List Val) (q : ℕ) → u.clock.left ≤ most → Stays (goes y x s u g ls st q hs bl)
-    goes_here u ls st q t = goes_low y x s u g ls st q hs bl t k b i
+    goes_here u ls st q t = goes_low y x s u g ls st q hs bl t y_is k b i
 
-    goes_as : (h : Life) (ls st : List Val) (q : ℕ) → least ≤ h.born → Stays (goes y x s s h ls st q hs bl)
-    goes_as h ls st q e = goes_low y x s s h ls st q hs bl z (e, k.1) b i
+    goes_as : (h : Life) (ls st : List Val) (q : ℕ) → Born h.born → Stays (goes y x s s h ls st q hs bl)
+    goes_as h ls st q e = goes_low y x s s h ls st q hs bl z y_is (e, k.1) b i
 
     answered_here : (p : Option Place) (a : Effect) (ls st : List Val) → Keeps s a → Stays (answered p a y x s g ls
         st pc hs bl)
     answered_here p (gives v) ls st t = goes_here v.1 ls (v.0 ∷ st) (suc pc) (same_steps v.1 t)
-    answered_here p fails ls st t = failing_low y x s ls hs bl z k.1 b i
+    answered_here p fails ls st t = failing_low y x s ls hs bl z y_is k.1 b i
     answered_here p (error e) ls st t = only_low (fits hs (suc pc)) s _ (faulting_low p e s)
-    answered_here p stuck ls st t = over most least
+    answered_here p stuck ls st t = over most Born Named new
 
     into_here : (p : Option Place) (l : ℕ) (a : Answer Val) (ls st : List Val) → Stays (answered_to p l a y x s g ls
         st pc hs bl)
     into_here p l (gives v) ls st = there_low (put ls l v) s _ (λ ls. goes_here s ls st (suc pc) z)
-    into_here p l fails ls st = failing_low y x s ls hs bl z k.1 b i
+    into_here p l fails ls st = failing_low y x s ls hs bl z y_is k.1 b i
     into_here p l (error e) ls st = only_low (fits hs (suc pc)) s _ (faulting_low p e s)
-    into_here p l stuck ls st = over most least
+    into_here p l stuck ls st = over most Born Named new
 
     unary_here : (f : Val → Answer Val) (p : Option Place) (ls st : List Val) → Stays (unary f p y x s g ls st pc hs
         bl)
@@ -257,45 +259,53 @@ module _ (most least : ℕ) where
         g ls st (suc pc) hs ∷
         bl)))
     enters_here f vs ls st =
-        only_low (fits hs (suc pc)) s _ (spending_low most least s.clock.left s _ z (λ l e. record {
-          holds = (
-            e,
-            (
-              λ
-                  h. (h, tt),
-              ((k, b), i),
-            ),
-          );
+        only_low (fits hs (suc pc)) s _ (spending_low most Born Named new s.clock.left s _ z (λ l d e. record {
+          holds = (e, (y_is, (λ h. (h, tt), ((k, b), i))));
         }))
 
     awaits_here : (r : Option (Option Given)) (entry : ℕ) (ls st : List Val) →
         Stays (awaits r entry (thread y (frame g ls st (suc pc) hs) bl) x s)
-    awaits_here None entry ls st = over most least
-    awaits_here (Some None) entry ls st = suspends_low most least (done entry) _ x s z (k, b) i
-    awaits_here (Some (Some v)) entry ls st = resumes_low most least _ v.value x s z (k, b) i
+    awaits_here None entry ls st = over most Born Named new
+    awaits_here (Some None) entry ls st = suspends_low most Born Named new (done entry) _ x s z (y_is, (k, b)) i
+    awaits_here (Some (Some v)) entry ls st = resumes_low most Born Named new _ v.value x s z (y_is, (k, b)) i
 
     spawns_here : (f : Func) (vs ls st : List Val) → Stays (spawns f vs (thread y (frame g ls st (suc pc) hs) bl) x s)
     spawns_here f vs ls st =
-        spending_low most least s.clock.left s _ z (λ l h. record {
-          holds =
-              (h, (λ e. (e, tt), (tt, others most least tt tt (((k, b), (i.pre, i.post)), i.ups) i.before i.behind)));
+        spending_low most Born Named new s.clock.left s _ z (λ l d h. record {
+          holds = (
+            h,
+            (
+              new (root_named l (Some (length s.clock.results))) d,
+              (
+                λ e. (e, tt),
+                (
+                  tt,
+                  others most Born Named new tt tt (((y_is, (k, b)), (i.pre, i.post)), i.ups)
+                      i.before i.behind,
+                ),
+              ),
+            ),
+          );
         })
 
     groups_here : (kd : _) (p : Place) (ks : List ℕ) (q : ℕ) (ls st : List Val) → Stays (groups kd p ks q y x s g ls
         st hs bl)
-    groups_here kd p [] q ls st = over most least
+    groups_here kd p [] q ls st = over most Born Named new
     groups_here kd p (l ∷ ks) q ls st =
-        next_low most least kd p [] (l ∷ ks) _ x.pre x.post x.ups x.trees s (λ t. Over ending.Stuck s) z (k, b)
-        (others most least i.pre i.post i.ups
-        i.before i.behind) (λ r. over most least)
+        next_low most Born Named new kd p [] (l ∷ ks) _ x.pre x.post x.ups x.trees s (λ t. Over ending.Stuck s) z
+        (y_is, (k, b))
+        (others most Born Named new i.pre i.post i.ups
+        i.before i.behind) (λ r. over most Born Named new)
 
     takes_here : (t : Taken) (l d label : ℕ) (ls st : List Val) → Stays (takes_step t l d label y x s g ls st pc hs
         bl)
     takes_here ended l d label ls st = goes_here s ls st (suc pc) z
-    takes_here (takes v w m a) l d label ls st = only_low (fits hs label) s _ (spending_low most least s.clock.left s
-        _ z (λ u e. there_low (put ls d v) s _ (λ ls. there_low (put ls (suc d) w) s _ (λ ls. there_low (put ls (l +
-        m) a) s _ (λ ls. record { holds = (e, (λ h. k, (b, i))) })))))
-    takes_here unfit l d label ls st = over most least
+    takes_here (takes v w m a) l d label ls st = only_low (fits hs label) s _ (spending_low most Born Named new
+        s.clock.left s
+        _ z (λ u fewer e. there_low (put ls d v) s _ (λ ls. there_low (put ls (suc d) w) s _ (λ ls. there_low (put ls
+        (l +
+        m) a) s _ (λ ls. record { holds = (e, (y_is, (λ h. k, (b, i)))) })))))
+    takes_here unfit l d label ls st = over most Born Named new
 
     leaves_here : (c : Bool) (ls st : List Val) → Stays (leaves c y x s g ls st pc hs bl)
     leaves_here false ls st = goes_here s ls st (suc pc) z
@@ -305,10 +315,11 @@ module _ (most least : ℕ) where
             (Over ending.Steps s)
             (λ u.
             Next (machine y x u (record { born = g.born; defers = ds; noted = to pc ∷ g.noted }) ls st q hs bl)))))
-        defer_here [] = over most least
-        defer_here (q ∷ ds) = only_low (fits hs q) s _ (spending_low most least s.clock.left s _ z (λ l e. record {
-          holds = (e, (λ h. k, (b, i)));
-        }))
+        defer_here [] = over most Born Named new
+        defer_here (q ∷ ds) = only_low (fits hs q) s _ (spending_low most Born Named new s.clock.left s _ z (λ l d e.
+            record {
+              holds = (e, (y_is, (λ h. k, (b, i))));
+            }))
 
     note_here : (t : Note) (ns : List Note) (ls st : List Val) →
         Stays (on_note t (λ q. goes y x s s (record g {
@@ -320,10 +331,10 @@ module _ (most least : ℕ) where
         }) ls st pc hs ∷ bl)))
     note_here (to q) ns ls st = goes_as (record g { noted = ns }) ls st q k.0
     note_here gone ns ls st =
-        frames_low most least (λ s. cleared x.ups x.pre x.post x.trees s) y x s (frame (record g {
+        frames_low most Born Named new (λ s. cleared x.ups x.pre x.post x.trees s) y x s (frame (record g {
           noted =
               ns;
-        }) ls st pc hs ∷ bl) z (k, b) i (cleared_low most least x.ups x.pre x.post x.trees s z i)
+        }) ls st pc hs ∷ bl) z y_is (k, b) i (cleared_low most Born Named new x.ups x.pre x.post x.trees s z i)
 
     noted_here : (ns : List Note) (ls st : List Val) →
         Stays (on_noted ns s (λ t ns. on_note t (λ q. goes y x s s (record g {
@@ -333,7 +344,7 @@ module _ (most least : ℕ) where
           noted =
               ns;
         }) ls st pc hs ∷ bl))))
-    noted_here [] ls st = over most least
+    noted_here [] ls st = over most Born Named new
     noted_here (t ∷ ns) ls st = note_here t ns ls st
 
     pub act_low : (c : Code) (op : Op) (ls st : List Val) → Stays (act c op y x s g ls st pc hs bl)
@@ -386,14 +397,8 @@ module _ (most least : ℕ) where
     act_low c (o.Jump l) ls st = goes_here s ls st l z
     act_low c (o.Same l) ls st = two_low st s _ (λ a d st. goes_here s ls st _ z)
     act_low c (o.Again l) ls st =
-        only_low (fits hs l) s _ (spending_low most least s.clock.left s _ z (λ u e. record {
-          holds = (
-            e,
-            (
-              λ h. k,
-              (b, i),
-            ),
-          );
+        only_low (fits hs l) s _ (spending_low most Born Named new s.clock.left s _ z (λ u d e. record {
+          holds = (e, (y_is, (λ h. k, (b, i))));
         }))
     act_low c (o.Try l) ls st =
         goes_low y x s s g ls [] (suc pc) (record {
@@ -403,12 +408,14 @@ module _ (most least : ℕ) where
           memory = s.memory;
           life =
               g;
-        } ∷ hs) bl z (k.0, k) b i
-    act_low c o.Commit ls st = handler_low hs s _ k.1 (λ h hs j. goes_low y x s s g ls _ (suc pc) hs bl z (k.0, j) b
-        i)
+        } ∷ hs) bl z y_is (k.0, k) b i
+    act_low c o.Commit ls st = handler_low hs s _ k.1 (λ h hs j. goes_low y x s s g ls _ (suc pc) hs bl z y_is (
+      k.0,
+      j,
+    ) b i)
     act_low c o.Undo ls st = handler_low hs s _ k.1 (λ h hs j. goes_low y x s (restored h.memory s) g ls _ (suc pc)
-        hs bl z (k.0, j) b i)
-    act_low c o.Fail ls st = failing_low y x s ls hs bl z k.1 b i
+        hs bl z y_is (k.0, j) b i)
+    act_low c o.Fail ls st = failing_low y x s ls hs bl z y_is k.1 b i
     act_low c (o.Call m) ls st =
         there_low (slice_get c.functions m) s _ (λ (q : Func). many_low q.params st [] s _ (λ vs st. enters_here q vs
         ls st))
@@ -417,8 +424,8 @@ module _ (most least : ℕ) where
         q (a
         ∷ vs) ls st)))
     act_low c o.Return ls st =
-        top_low st s _ (λ a st. only_low (nothing g.defers g.noted) s _ (returns_low most least y x g.born a s hs bl
-        z b i))
+        top_low st s _ (λ a st. only_low (nothing g.defers g.noted) s _ (returns_low most Born Named new y x g.born a
+        s hs bl z y_is b i))
     act_low c (o.Each l) ls st =
         top_low st s _ (λ a st. domain_low a s _ (there_low (put ls l a) s _ (λ ls. there_low (put ls (suc l) (int
         (pos
@@ -433,19 +440,18 @@ module _ (most least : ℕ) where
         top_low st s _ (λ a st. there_low (nth ls l) s _ (λ w. into_here (place_at c p) l (append_of w a) ls st))
     act_low c (o.Print p) ls st =
         top_low st s _ (λ a st. answered_here (place_at c p) (line_printed a s) ls st (printed_keeps a s))
-    act_low c (o.Sleep m) ls st = only_low (free hs g.noted bl) s _ (suspends_low most least (after m s) _ x s z (
-      k,
-      b,
-    ) i)
-    act_low c o.Forever ls st = only_low (free hs g.noted bl) s _ (suspends_low most least never _ x s z (k, b) i)
+    act_low c (o.Sleep m) ls st = only_low (free hs g.noted bl) s _ (suspends_low most Born Named new (after m s) _ x
+        s z (y_is, (k, b)) i)
+    act_low c o.Forever ls st = only_low (free hs g.noted bl) s _ (suspends_low most Born Named new never _ x s z
+        (y_is, (k, b)) i)
     act_low c o.AwaitTask ls st =
         only_low (free hs g.noted bl) s _ (top_low st s _ (λ a st. there_low (task_of a) s _ (λ entry. awaits_here
         (nth
         s.clock.results entry) entry ls st)))
     act_low c o.AwaitEvent ls st =
         only_low (free hs g.noted bl) s _ (top_low st s _ (λ a st. there_low (event_of a s) s _ (λ w. suspends_low
-        most least
-        (heard w) _ x s z (k, b) i)))
+        most Born Named new
+        (heard w) _ x s z (y_is, (k, b)) i)))
     act_low c o.Signal ls st =
         only_low (free hs g.noted bl) s _ (two_low st s _ (λ a w st. answered_here None (signal_sent (event_of a s) w
         s) ls st
@@ -461,14 +467,20 @@ module _ (most least : ℕ) where
     act_low c (o.Group kd m p) ls st =
         only_low (free hs g.noted bl) s _ (there_low (place_at c p) s _ (λ q. there_low (labels c.ops (suc pc) m) s _
         (λ ks. groups_here (kind_of kd) q ks (after_arms (suc pc) m) ls st)))
-    act_low c (o.Arm l) ls st = over most least
+    act_low c (o.Arm l) ls st = over most Born Named new
     act_low c (o.Branch l) ls st =
-        only_low (free hs g.noted bl) s _ (spending_low most least s.clock.left s _ z (λ u h. record {
-          holds =
-              (h, (λ e. (e, tt), (tt, others most least i.pre i.post ((k, b), i.ups) i.before i.behind)));
+        only_low (free hs g.noted bl) s _ (spending_low most Born Named new s.clock.left s _ z (λ u d h. record {
+          holds = (
+            h,
+            (
+              new (child_named y u) d,
+              (λ e. (e, tt), (tt, others most Born Named new i.pre i.post ((y_is, (k, b)), i.ups) i.before i.behind)),
+            ),
+          );
         }))
     act_low c o.ArmEnd ls st =
-        top_low st s _ (λ a st. only_low (nothing g.defers g.noted) s _ (ends_low most least y x g.born a s hs bl z
+        top_low st s _ (λ a st. only_low (nothing g.defers g.noted) s _ (ends_low most Born Named new y x g.born a s
+        hs bl z
         i))
     act_low c (o.Defer l) ls st = goes_as _ ls st l k.0
     act_low c (o.Leave m) ls st =

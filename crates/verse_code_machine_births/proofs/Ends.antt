@@ -1,5 +1,5 @@
--- What tasks do with one another keeps when their frames began.
-use Rattle.std.proofs.Common.{◌≡◌, ℕ, zero, suc, ◌≤◌, List, [], ◌∷◌, ◌++◌, Option, Some, None, Bool, refl, arith}
+-- What tasks do with one another keeps what holds of all frames and tasks.
+use Rattle.std.proofs.Common.{◌≡◌, ℕ, zero, suc, ◌<◌, ◌≤◌, List, [], ◌∷◌, ◌++◌, Option, Some, None, Bool, refl, arith}
 use Rattle.std.proofs.lemmas.Bool.{cond_both}
 use Rattle.verse_base.specs.declared.places.Place.{Place}
 use Rattle.verse_value.specs.Val.{Val, unit, task}
@@ -14,7 +14,8 @@ use Rattle.verse_code_machine.specs.Tasks.{Handler, Frame, Role, root, part, Who
 use Rattle.verse_code_machine.specs.Tasks.{group, Thread, thread, Task}
 use Rattle.verse_code_machine.specs.Tasks.{After, resuming, closing, finishing, Up, begins, branching, spawning}
 use Rattle.verse_code_machine.specs.Tasks.{clearing, Trees, World, world}
-use Rattle.verse_code_machine.specs.Tasks.{Step, Next, Over, Turn, onto, among, planted, starts, waits_of, same_path}
+use Rattle.verse_code_machine.specs.Tasks.{Step, Next, Over, Turn, child_named, onto, among, planted, starts}
+use Rattle.verse_code_machine.specs.Tasks.{waits_of, same_path}
 use Rattle.verse_code_machine.specs.Tasks.{since, beneath_arms}
 use Rattle.verse_code_machine.specs.Cancelling.{inserted, without, world_without, cancelled, on_deferred}
 use Rattle.verse_code_machine.specs.Cancelling.{clears_frame, clears_frames, clears}
@@ -24,47 +25,43 @@ use Rattle.verse_code_machine.specs.Ends.{rested, suspends, is_run}
 use Rattle.verse_code_machine.specs.Ends.{with_did, joined, climbs, part_ends, root_ends, role_ends, ends_role, ends}
 use Rattle.verse_code_machine.specs.Ends.{returns_role, returns}
 use Rattle.verse_code_machine.specs.Ends.{follows, cleared, is_asleep, woken, woken_in}
-use Rattle.verse_code_machine_births.specs.Births.{FrameBorn, FramesBorn, ThreadBorn, TasksBorn, TreesBorn, AfterBorn}
-use Rattle.verse_code_machine_births.specs.Births.{UpsBorn, WorldBorn}
+use Rattle.verse_code_machine_births.specs.Everywhere.{FrameIs, FramesAre, ThreadIs, TasksAre, TreesAre, AfterIs}
+use Rattle.verse_code_machine_births.specs.Everywhere.{UpsAre, WorldIs}
 
--- the steps that are left are not above one bound, and no frame that stood began below the other
-module _ (most least : ℕ) where
+-- The steps that are left are not above one bound. What holds of all frames and tasks holds of a frame that begins
+-- with
+-- the steps that are then left, and of a task that begins, since it spends a step.
+module _ (most : ℕ) (Born : ℕ → Type 0) (Named : Who → Type 0) (new : (w : Who) → w.number < most → Named w) where
   abbrev pub Is : State → Type 0
   Is s = s.clock.left ≤ most
 
-  abbrev pub FrameIs : Frame → Type 0
-  FrameIs = FrameBorn least
+  abbrev pub FramesIn : List Frame → Type 0
+  FramesIn = FramesAre Born Named
 
-  abbrev pub FramesAre : List Frame → Type 0
-  FramesAre = FramesBorn least
+  abbrev pub ThreadIn : Thread → Type 0
+  ThreadIn = ThreadIs Born Named
 
-  abbrev pub ThreadIs : Thread → Type 0
-  ThreadIs = ThreadBorn least
+  abbrev pub TasksIn : List Task → Type 0
+  TasksIn = TasksAre Born Named
 
-  abbrev pub TasksAre : List Task → Type 0
-  TasksAre = TasksBorn least
+  abbrev pub TreesIn : List (List Task) → Type 0
+  TreesIn = TreesAre Born Named
 
-  abbrev pub TreesAre : List (List Task) → Type 0
-  TreesAre = TreesBorn least
+  abbrev pub AfterIn : After → Type 0
+  AfterIn = AfterIs Born Named
 
-  abbrev pub AfterIs : After → Type 0
-  AfterIs = AfterBorn least
-
-  abbrev pub UpsAre : List Up → Type 0
-  UpsAre = UpsBorn least
-
-  abbrev pub WorldIs : World → Type 0
-  WorldIs = WorldBorn least
+  abbrev pub WorldIn : World → Type 0
+  WorldIn = WorldIs Born Named
 
   abbrev pub Others : List Task → List Task → List Up → Trees → Type 0
-  Others pre post us trees = WorldBorn least (world pre post us trees)
+  Others pre post us trees = WorldIs Born Named (world pre post us trees)
 
-  -- a frame that begins does so with the steps that are then left
   abbrev pub StepIs : Step → Type 0
-  StepIs (Next m) = Is m.state × ((least ≤ m.state.clock.left → FrameIs m.frame) × (FramesAre m.below × WorldIs
-      m.world))
+  StepIs (Next m) = Is m.state × (Named m.who × ((Born m.state.clock.left → FrameIs Born Named m.frame) × (FramesIn
+      m.below ×
+      WorldIn m.world)))
   StepIs (Over e s) = Unit {0}
-  StepIs (Turn s tss) = Is s × TreesAre tss
+  StepIs (Turn s tss) = Is s × TreesIn tss
 
   pub record Low (q : Step) : Type 0 where
     pub holds : StepIs q
@@ -72,103 +69,105 @@ module _ (most least : ℕ) where
   pub over : {e : Ending} {s : State} → Low (Over e s)
   over = record { holds = tt }
 
-  pub others : {pre post : List Task} {us : List Up} {trees : Trees} → TasksAre pre → TasksAre post → UpsAre us →
-      TreesAre trees.before →
-      TreesAre trees.behind → Others pre post us trees
+  pub others : {pre post : List Task} {us : List Up} {trees : Trees} → TasksIn pre → TasksIn post → UpsAre Born Named
+      us →
+      TreesIn trees.before →
+      TreesIn trees.behind → Others pre post us trees
   others a b c d e = record { pre = a; post = b; ups = c; before = d; behind = e }
 
-  pub onto_are : (xs ts : List Task) → TasksAre xs → TasksAre ts → TasksAre (onto xs ts)
+  pub onto_are : (xs ts : List Task) → TasksIn xs → TasksIn ts → TasksIn (onto xs ts)
   onto_are [] ts a b = b
   onto_are (x ∷ xs) ts a b = onto_are xs (x ∷ ts) a.1 (a.0, b)
 
-  pub tasks_are : (xs ts : List Task) → TasksAre xs → TasksAre ts → TasksAre (xs ++ ts)
+  pub tasks_are : (xs ts : List Task) → TasksIn xs → TasksIn ts → TasksIn (xs ++ ts)
   tasks_are [] ts a b = b
   tasks_are (x ∷ xs) ts a b = (a.0, tasks_are xs ts a.1 b)
 
-  pub trees_are : (xs ts : List (List Task)) → TreesAre xs → TreesAre ts → TreesAre (xs ++ ts)
+  pub trees_are : (xs ts : List (List Task)) → TreesIn xs → TreesIn ts → TreesIn (xs ++ ts)
   trees_are [] ts a b = b
   trees_are (x ∷ xs) ts a b = (a.0, trees_are xs ts a.1 b)
 
-  pub inserted_are : (t : Task) (ts : List Task) → ThreadIs t.thread → TasksAre ts → TasksAre (inserted t ts)
+  pub inserted_are : (t : Task) (ts : List Task) → ThreadIn t.thread → TasksIn ts → TasksIn (inserted t ts)
   inserted_are t [] a b = (a, b)
   inserted_are t (x ∷ xs) a b =
-      cond_both (starts t.thread.who.path x.thread.who.path) (x ∷ inserted t xs) (t ∷ x ∷ xs) TasksAre (λ e. (
+      cond_both (starts t.thread.who.path x.thread.who.path) (x ∷ inserted t xs) (t ∷ x ∷ xs) TasksIn (λ e. (
         b.0,
         inserted_are t xs a b.1,
       ))
       (λ e. (a, b))
 
-  pub without_are : (f : List ℕ → Bool) (ts : List Task) → TasksAre ts → TasksAre (without f ts)
+  pub without_are : (f : List ℕ → Bool) (ts : List Task) → TasksIn ts → TasksIn (without f ts)
   without_are f [] a = a
   without_are f (t ∷ ts) a =
-      cond_both (f t.thread.who.path) (without f ts) (t ∷ without f ts) TasksAre (λ e. without_are f ts a.1) (λ e. (
+      cond_both (f t.thread.who.path) (without f ts) (t ∷ without f ts) TasksIn (λ e. without_are f ts a.1) (λ e. (
         a.0,
         without_are f ts
             a.1,
       ))
 
-  pub gone_before_are : (f : List ℕ → Bool) (ts : List Task) → TasksAre ts → TasksAre (gone_before f ts)
+  pub gone_before_are : (f : List ℕ → Bool) (ts : List Task) → TasksIn ts → TasksIn (gone_before f ts)
   gone_before_are f [] a = a
   gone_before_are f (t ∷ ts) a =
-      cond_both (f t.thread.who.path) (inserted t (gone_before f ts)) (gone_before f ts) TasksAre (λ e. inserted_are
+      cond_both (f t.thread.who.path) (inserted t (gone_before f ts)) (gone_before f ts) TasksIn (λ e. inserted_are
       t (gone_before f ts)
       a.0 (gone_before_are f ts a.1)) (λ e. gone_before_are f ts a.1)
 
-  pub gone_behind_are : (f : List ℕ → Bool) (ts : List Task) → TasksAre ts → TasksAre (gone_behind f ts)
+  pub gone_behind_are : (f : List ℕ → Bool) (ts : List Task) → TasksIn ts → TasksIn (gone_behind f ts)
   gone_behind_are f [] a = a
   gone_behind_are f (t ∷ ts) a =
-      cond_both (f t.thread.who.path) (t ∷ gone_behind f ts) (gone_behind f ts) TasksAre (λ e. (
+      cond_both (f t.thread.who.path) (t ∷ gone_behind f ts) (gone_behind f ts) TasksIn (λ e. (
         a.0,
         gone_behind_are
             f ts a.1,
       )) (λ e.
       gone_behind_are f ts a.1)
 
-  pub spending_low : (k : ℕ) (s : State) (go : State → Step) → k ≤ most → ((l : ℕ) → l ≤ most → Low (go (stepped l
-      s))) →
+  pub spending_low : (k : ℕ) (s : State) (go : State → Step) → k ≤ most → ((l : ℕ) → l < most → l ≤ most → Low (go
+      (stepped l s))) →
       Low (spending k s (Over ending.Steps s) go)
   spending_low zero s go h f = over
-  spending_low (suc l) s go h f = f l (omega (arith, h))
+  spending_low (suc l) s go h f = f l (omega (arith, h)) (omega (arith, h))
 
   pub resumes_low : (x : Thread) (v : Val) (o : World) (s : State) → Is s →
-      ThreadIs x → WorldIs o → Low (resumes x v o s)
-  resumes_low x v o s h a b = record { holds = (h, (λ e. a.0, (a.1, b))) }
+      ThreadIn x → WorldIn o → Low (resumes x v o s)
+  resumes_low x v o s h a b = record { holds = (h, (a.0, (λ e. a.1.0, (a.1.1, b)))) }
 
   -- cancelling
   deferred_low : (rest : Step) (x : Who) (o : World) (s : State) (f : Frame) (fs : List Frame) (ds : List ℕ) →
-      Is s → FramesAre (f ∷ fs) → WorldIs o →
-      Low rest → Low (on_deferred ds rest (λ q ds. clears_frame x o s f fs q ds))
-  deferred_low rest x o s f fs [] h a b l = l
-  deferred_low rest x o s f fs (q ∷ ds) h a b l = spending_low s.clock.left s _ h (λ k e. record {
-    holds = (e, (λ g. (a.0.0, tt), (a.1, b)));
+      Is s → Named x → FramesIn (f ∷ fs) → WorldIn o → Low rest → Low (on_deferred ds rest (λ q ds. clears_frame x o
+      s f fs q ds))
+  deferred_low rest x o s f fs [] h p a b l = l
+  deferred_low rest x o s f fs (q ∷ ds) h p a b l = spending_low s.clock.left s _ h (λ k d e. record {
+    holds = (e, (p, (λ g. (a.0.0, tt), (a.1, b))));
   })
 
   pub frames_low : (next : State → Step) (x : Who) (o : World) (s : State) (fs : List Frame) →
-      Is s → FramesAre fs → WorldIs o → Low (next s) →
+      Is s → Named x → FramesIn fs → WorldIn o → Low (next s) →
       Low (clears_frames next x o s fs)
-  frames_low next x o s [] h a b l = l
-  frames_low next x o s (f ∷ fs) h a b l =
-      deferred_low (clears_frames next x o s fs) x o s f fs f.life.defers h a b (frames_low next x o s fs h a.1 b l)
+  frames_low next x o s [] h p a b l = l
+  frames_low next x o s (f ∷ fs) h p a b l =
+      deferred_low (clears_frames next x o s fs) x o s f fs f.life.defers h p a b (frames_low next x o s fs h p a.1 b
+      l)
 
   -- what follows where all is cancelled, in any world that is no heavier
   abbrev pub Follows : (World → State → Step) → After → Type 0
-  Follows last after = (o : World) (s : State) → Is s → AfterIs after →
-      WorldIs o → Low (last o s)
+  Follows last after = (o : World) (s : State) → Is s → AfterIn after →
+      WorldIn o → Low (last o s)
 
   pub clears_low : (last : World → State → Step) (after : After) (ts : List Task) (o : World) (s : State) → Follows
       last after →
-      Is s → AfterIs after → TasksAre ts → WorldIs o →
+      Is s → AfterIn after → TasksIn ts → WorldIn o →
       Low (clears last after ts o s)
   clears_low last after [] o s f h a b c = f o s h a c
   clears_low last after (t ∷ ts) o s f h a b c =
       frames_low (λ s. clears last after ts o s) t.thread.who (world o.pre o.post (clearing after ts ∷ o.ups)
       o.trees) s (t.thread.frame ∷
-      t.thread.below) h b.0
+      t.thread.below) h b.0.0 b.0.1
       (others c.pre c.post ((a, b.1), c.ups) c.before c.behind) (clears_low last after ts o s f h a b.1 c)
 
   pub cancels_low : (last : World → State → Step) (after : After) (f : List ℕ → Bool) (o : World) (s : State) →
       Follows last after →
-      Is s → AfterIs after → WorldIs o → Low (cancels last after f o s)
+      Is s → AfterIn after → WorldIn o → Low (cancels last after f o s)
   cancels_low last after f o s g h a c = clears_low last after (cancelled f o) (world_without f o) s g
       h a
       (tasks_are (gone_before f o.pre) (gone_behind f o.post) (gone_before_are f o.pre c.pre) (gone_behind_are f
@@ -177,7 +176,7 @@ module _ (most least : ℕ) where
 
   -- groups
   tupled_low : (p : Place) (a : Answer Val) (x : Thread) (o : World) (s : State) →
-      Is s → ThreadIs x → WorldIs o → Low (tupled p a x o s)
+      Is s → ThreadIn x → WorldIn o → Low (tupled p a x o s)
   tupled_low p (gives v) x o s h a b = resumes_low x v o s h a b
   tupled_low p fails x o s h a b = over
   tupled_low p (error k) x o s h a b = over
@@ -193,7 +192,7 @@ module _ (most least : ℕ) where
 
   pub grouped_low : (k : Kind) (p : Place) (gs : List Part) (x : Thread) (o : World) (s : State) (stands : Task →
       Step) →
-      Is s → ThreadIs x → WorldIs o →
+      Is s → ThreadIn x → WorldIn o →
       ((r : Rest) → Low (stands (record { thread = x; rest = r }))) → Low (grouped k p gs x o s stands)
   grouped_low all_of p gs x o s stands h a b f =
       stands_low (all_did gs) _ _ (f (group all_of p gs)) (λ vs. tupled_low p (tuple_of vs) x o s h a b)
@@ -205,19 +204,32 @@ module _ (most least : ℕ) where
   pub next_low : (k : Kind) (p : Place) (gs : List Part) (ls : List ℕ) (x : Thread) (pre post : List Task) (us : List
       Up) (trees : Trees)
       (s : State) (stands : Task → Step) →
-      Is s → ThreadIs x → Others pre post us trees → ((r : Rest) →
+      Is s → ThreadIn x → Others pre post us trees → ((r : Rest) →
       Low (stands (record { thread = x; rest = r }))) →
       Low (next_arm k p gs ls x pre post us trees s stands)
   next_low k p gs [] x pre post us trees s stands h a b f = grouped_low k p gs x (world pre post us trees) s stands h
       a b f
-  next_low k p gs (l ∷ ls) x pre post us trees s stands h a b f = spending_low s.clock.left s _ h (λ m e. record {
-    holds = (e, (λ g. (g, tt), (tt, others b.pre b.post (a, b.ups) b.before b.behind)));
+  next_low k p gs (l ∷ ls) x pre post us trees s stands h a b f = spending_low s.clock.left s _ h (λ m d e. record {
+    holds = (
+      e,
+      (
+        new (child_named x.who m) d,
+        (
+          λ g. (g, tt),
+          (
+            tt,
+            others b.pre b.post (a, b.ups) b.before
+                b.behind,
+          ),
+        ),
+      ),
+    );
   })
 
   pub did_low : (k : Kind) (p : Place) (gs : List Part) (ls : List ℕ) (x : Thread) (pre post : List Task) (us : List
       Up) (trees : Trees)
       (s : State) (stands : Task → Step) →
-      Is s → ThreadIs x → Others pre post us trees → ((r : Rest) →
+      Is s → ThreadIn x → Others pre post us trees → ((r : Rest) →
       Low (stands (record { thread = x; rest = r }))) →
       Low (arm_did k p gs ls x pre post us trees s stands)
   did_low all_of p gs ls x pre post us trees s stands h a b f = next_low all_of p gs ls x pre post us trees s stands
@@ -229,7 +241,7 @@ module _ (most least : ℕ) where
 
   -- no task runs
   turn_low : (pre post : List Task) (trees : Trees) (s : State) → Is s →
-      TasksAre pre → TasksAre post → TreesAre trees.before → TreesAre trees.behind →
+      TasksIn pre → TasksIn post → TreesIn trees.before → TreesIn trees.behind →
       Low (Turn s (among (onto pre post) trees))
   turn_low pre post trees s h a b c d = record {
     holds = (
@@ -261,14 +273,14 @@ module _ (most least : ℕ) where
   rested_low (clearing after ts ∷ us) pre post trees s h b = over
 
   pub suspends_low : (c : Cause) (x : Thread) (o : World) (s : State) → Is s →
-      ThreadIs x → WorldIs o → Low (suspends c x o s)
+      ThreadIn x → WorldIn o → Low (suspends c x o s)
   suspends_low c x o s h a b =
       rested_low o.ups (record { thread = x; rest = asleep (waiting c s) } ∷ o.pre) o.post o.trees (drawn s) h (others
       (a, b.pre) b.post b.ups b.before b.behind)
 
   -- the end of a task
   joined_low : (number : ℕ) (v : Val) (r : Rest) (y : Task) (pre post : List Task) (trees : Trees) (s : State) →
-      Is s → ThreadIs y.thread →
+      Is s → ThreadIn y.thread →
       Others pre post [] trees → Low (joined number v r y pre post trees s)
   joined_low m v (asleep x) y pre post trees s h a b =
       turn_low pre (y ∷ post) trees s h b.pre (a, b.post) b.before b.behind
@@ -315,20 +327,20 @@ module _ (most least : ℕ) where
   root_low (branching x ∷ us) pre post trees s h b = over
   root_low (clearing after ts ∷ us) pre post trees s h b = over
 
-  role_low : (r : Role) (x : Who) (v : Val) (o : World) (s : State) → Is s → WorldIs o →
+  role_low : (r : Role) (x : Who) (v : Val) (o : World) (s : State) → Is s → WorldIn o →
       Low (role_ends r x v o s)
   role_low (root entry) x v o s h b = root_low o.ups o.pre o.post o.trees s h b
   role_low part x v o s h b = part_low o.ups x.up x.number v o.pre o.post o.trees s h b
 
   ends_role_low : (r : Role) (x : Who) (o : World) (born : ℕ) (v : Val) (s : State) → Is s →
-      WorldIs o → Low (ends_role r x o born v s)
+      WorldIn o → Low (ends_role r x o born v s)
   ends_role_low (root entry) x o born v s h b = over
   ends_role_low part x o born v s h b =
       cancels_low (λ o s. role_ends part x v o s) (closing x v) (since x.path born) o s (λ o s h a c. role_low part x
       v o s h c) h tt b
 
   pub ends_low : (x : Who) (o : World) (born : ℕ) (v : Val) (s : State) (hs : List Handler) (bl : List Frame) →
-      Is s → WorldIs o → Low (ends x o born v s hs bl)
+      Is s → WorldIn o → Low (ends x o born v s hs bl)
   ends_low x o born v s (a ∷ hs) bl h b = over
   ends_low x o born v s [] (f ∷ bl) h b = over
   ends_low x o born v s [] [] h b = ends_role_low x.role x o born v s h b
@@ -344,7 +356,7 @@ module _ (most least : ℕ) where
   finishing_low x (Some entry) v o s h a b = role_low (root (Some entry)) x v o (with_result (Some entry) v s) h b
 
   returns_role_low : (r : Role) (x : Who) (o : World) (born : ℕ) (v : Val) (s : State) → Is s →
-      WorldIs o → Low (returns_role r x o born v s)
+      WorldIn o → Low (returns_role r x o born v s)
   returns_role_low (root entry) x o born v s h b =
       cancels_low (λ o s. role_ends (root entry) x v o (with_result entry v s)) (finishing x entry v) (since x.path
       born) o s
@@ -352,13 +364,12 @@ module _ (most least : ℕ) where
   returns_role_low part x o born v s h b = over
 
   pub returns_low : (x : Who) (o : World) (born : ℕ) (v : Val) (s : State) (hs : List Handler) (bl : List Frame) →
-      Is s → FramesAre bl → WorldIs o → Low (returns x o born v s hs bl)
-  returns_low x o born v s (g ∷ hs) bl h a b = over
-  returns_low x o born v s [] [] h a b = returns_role_low x.role x o born v s h b
-  returns_low x o born v s [] (f ∷ bl) h a b =
+      Is s → Named x → FramesIn bl → WorldIn o → Low (returns x o born v s hs bl)
+  returns_low x o born v s (g ∷ hs) bl h p a b = over
+  returns_low x o born v s [] [] h p a b = returns_role_low x.role x o born v s h b
+  returns_low x o born v s [] (f ∷ bl) h p a b =
       cancels_low (λ o s. resumes (thread x f bl) v o s) (resuming (thread x f bl) v) (since x.path born) o s
-      (resuming_low (thread x f
-      bl) v) h a b
+      (resuming_low (thread x f bl) v) h (p, a) b
 
   follows_low : (after : After) → Follows (follows after) after
   follows_low (resuming x v) o s h a b = resumes_low x v o s h a b
@@ -386,7 +397,7 @@ module _ (most least : ℕ) where
       (λ e. woken_low m v (y ∷ pre) post trees s h (others (b.post.0, b.pre) b.post.1 tt b.before b.behind))
 
   pub woken_in_low : (m : ℕ) (v : Val) (before behind : List (List Task)) (s : State) →
-      Is s → TreesAre before → TreesAre behind →
+      Is s → TreesIn before → TreesIn behind →
       Low (woken_in m v before behind s)
   woken_in_low m v before [] s h a b = over
   woken_in_low m v before (ts ∷ behind) s h a b = cond_both (has m (waits_of ts)) _ _ (λ z. Low z)

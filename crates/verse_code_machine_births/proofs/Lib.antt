@@ -1,4 +1,5 @@
 pub mod Ends
 pub mod Acts
 pub mod Runs
+pub mod Named
 pub mod Later

@@ -1,2 +1,3 @@
+pub mod Everywhere
 pub mod Births
 pub mod Later

@@ -1,10 +1,12 @@
-//! What begins later has a number below those of all frames that stand, whatever the code: each
-//! frame began when no fewer steps were left than are left now. `Births` says so of the frames of
-//! all tasks; `Later` says that what a task begins counts as begun since each of its frames.
+//! What begins later has a number below the births of all frames that stand, whatever the code, so
+//! that what a frame has begun is known by its numbers. `Everywhere` says what it is to hold of all
+//! frames and tasks; `Births` that each frame began when no fewer steps were left than are left;
+//! `Later` that what begins has a number below those steps, and counts as begun since each frame.
 #![tactic(auto)]
 
 ghost use Rattle.verse_code_machine_births.specs.Births.{OperationKeepsBirths, RunKeepsBirths};
-ghost use Rattle.verse_code_machine_births.specs.Later.{LaterSince, BranchSince, ArmSince};
+ghost use Rattle.verse_code_machine_births.specs.Later.{NewBelow, WokenBelow, LaterSince};
+ghost use Rattle.verse_code_machine_births.specs.Later.{BranchSince, ArmSince};
 
 /// Each operation keeps that every frame began when no fewer steps were left than are left.
 pub fn operation_births()
@@ -16,7 +18,19 @@ pub fn run_births()
     ensures { RunKeepsBirths }
 {}
 
-/// What begins with a step to come counts as begun since each frame that stands.
+/// Each task that stands after an operation stood before it, or has a number below the steps that
+/// were left.
+pub fn new_below()
+    ensures { NewBelow }
+{}
+
+/// And so where a wait is woken.
+pub fn woken_below()
+    ensures { WokenBelow }
+{}
+
+/// A task beneath the running one with a number below the steps that are left counts as begun since
+/// each frame of that.
 pub fn later_since()
     ensures { LaterSince }
 {}
