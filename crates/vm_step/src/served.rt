@@ -51,6 +51,22 @@ pub fn serve<H: Heap, W: Waits>(
     }
 }
 
+/// Serves what an operation asks that ends a frame, as `serve` does.
+pub fn serve_end<H: Heap, W: Waits>(
+    run: &mut Runner<H>,
+    tasks: &mut Tasks<W>,
+    asked: Asked,
+) -> Result<Went, Memory>
+    requires { IsAsked W.pending asked (view_of H.state run.old) tasks.old }
+    ensures { IfOk result (λ r. Serves W.pending asked r (view_of H.state run.old) tasks.old
+        (view_of H.state run.new) tasks.new) }
+{
+    match asked {
+        Asked::Return(ended) => returned(run, tasks, ended.born, ended.value),
+        other => serve(run, tasks, other),
+    }
+}
+
 // The kind of a group by its number.
 fn group_kind(number: u32) -> Kind
     ensures { kind_of result ≡ kind_meant number }

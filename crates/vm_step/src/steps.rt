@@ -8,13 +8,15 @@ ghost use Rattle.vm_scheduler.specs.Going.{Goes};
 ghost use Rattle.vm_scheduler.specs.Meets.{Comes};
 ghost use Rattle.vm_step.specs.Steps.{steps};
 
-use crate::served::serve;
+use crate::served::{serve, serve_end};
 use sim_clock::waits::Waits;
 use tx_heap::heaps::Heap;
 use verse_base::refusals::Memory;
 use verse_code::codes::Code;
+use verse_code::operations::Op;
 use verse_value::runs::Ending;
 use vm_exec::acting::act;
+use vm_exec_tasks::ending::give_back;
 use vm_running::runners::Runner;
 use vm_scheduler::tasks::{Tasks, Went};
 
@@ -35,6 +37,10 @@ pub fn step<H: Heap, W: Waits>(
         return Ok(Went::Over(Ending::Stuck));
     };
     tasks.tree.is_nested();
+    if let Op::Return = *op {
+        let asked = give_back(run);
+        return serve_end(run, tasks, asked);
+    }
     let asked = act(tasks.alloc, run, code, *op)?;
     serve(run, tasks, asked)
 }
