@@ -1,0 +1,199 @@
+-- From a Try to where its context closes.
+use Rattle.std.proofs.Common.{◌≡◌, ℕ, suc, length, ◌+◌, ◌≤◌, ◌<◌, List, [], ◌∷◌, Option, Some, None, Bool, true, false, refl, sym, subst}
+use Rattle.std.proofs.Common.{arith, ap, ◌∙◌, inl, inr}
+use Rattle.std.specs.Prelude.{ℤ, slice_get, ◌⊎◌}
+use Rattle.verse_code.specs.declared.operations.Op.{Op}
+use Rattle.verse_code.specs.declared.operations.Op.TheVariants as o
+use Rattle.verse_code.specs.declared.codes.Func.{Func}
+use Rattle.verse_code.specs.declared.codes.Code.{Code}
+use Rattle.verse_value.specs.Val.{Val}
+use Rattle.verse_value.specs.declared.runs.Ending.TheVariants as ending
+use Rattle.verse_meaning_state.specs.State.{State, Clock, restored, begun}
+use Rattle.verse_code_machine.specs.Tasks.{Handler, Frame, Note, Machine, Step, Next, Over, Turn, machine}
+use Rattle.verse_code_machine.specs.Frames.{on_there, only_where, fits, goes, failing}
+use Rattle.verse_code_machine.specs.Acts.{act}
+use Rattle.verse_code_machine.specs.Runs.{step, Forest, main_starts}
+use Rattle.verse_code_machine_parents.specs.Parents.{WorldRooted, MachineRooted, StepRooted, StageRooted}
+use Rattle.verse_code_machine_parents.specs.Cancelled.{NoneSince}
+use Rattle.verse_code_machine_parents.proofs.Leaving.{trees_less, one_less}
+use Rattle.verse_code_machine_parents.proofs.Running.{operation_roots, woken_roots, main_roots, run_roots}
+use Rattle.verse_code_machine_contexts.specs.Runs.{op_at, Begins, main, woken, Comes, at_once, later, InRun}
+use Rattle.verse_code_machine_contexts.specs.Contexts.{open_in, contexts, Within, stands, goes_on, StepsAlone, locals_above, failed}
+use Rattle.verse_code_machine_contexts.specs.Contexts.{closed_by, InContext, ContextsUndo}
+use Rattle.verse_code_machine_contexts.proofs.Frames.{opened, none, its, own, Frames, more_open, Innermost, the_try, deeper, innermost}
+use Rattle.verse_code_machine_contexts.proofs.Frames.{under, not_alone, locals_under, locals_own}
+use Rattle.verse_code_machine_contexts.proofs.Acts.{Inside, StepInside, Goes, act_low}
+
+no_turn : {m : Machine} {label : ℕ} {z : Machine} {q : Step} {s : State} {tss : Forest} → Goes m label z q → q ≡ Turn s tss → ⊥
+no_turn {m = m} {label = label} {z = z} g e = subst (StepInside m label z) e g.holds
+
+next_inside : {m : Machine} {label : ℕ} {z n : Machine} {q : Step} → Goes m label z q → q ≡ Next n →
+    Inside m label n ⊎ ((n ≡ z) × (contexts n ≡ contexts m))
+next_inside {m = m} {label = label} {z = z} g e = subst (StepInside m label z) e g.holds
+
+less_not_same : {a d : ℕ} → d < a → a ≡ d → ⊥
+less_not_same l e = omega (arith, l, e)
+
+less_not_most : {a d : ℕ} → d < a → a ≤ d → ⊥
+less_not_most l e = omega (arith, l, e)
+
+within_more : {c : Code} {d : ℕ} {j k : Machine} → Within c d j k → d < contexts j
+within_more (stands l) = l
+within_more (goes_on l e p) = l
+
+-- only an operation goes on, or comes to the end of a turn
+next_op : (x : Option Op) (s : State) (go : Op → Step) {n : Machine} → on_there x s go ≡ Next n → (op : Op) × (x ≡ Some op)
+next_op None s go e = absurd (no_next e)
+  where
+    no_next : {s : State} {n : Machine} → Over ending.Stuck s ≡ Next n → ⊥
+    no_next e = cc
+next_op (Some op) s go e = (op, refl)
+
+turn_op : (x : Option Op) (s : State) (go : Op → Step) {u : State} {tss : Forest} → on_there x s go ≡ Turn u tss →
+    (op : Op) × (x ≡ Some op)
+turn_op None s go e = absurd (no_turns e)
+  where
+    no_turns : {s u : State} {tss : Forest} → Over ending.Stuck s ≡ Turn u tss → ⊥
+    no_turns e = cc
+turn_op (Some op) s go e = (op, refl)
+
+only_next : (b : Bool) (s : State) {n j : Machine} → only_where b s (Next n) ≡ Next j → n ≡ j
+only_next true s e = same e
+  where
+    same : {n j : Machine} → Next n ≡ Next j → n ≡ j
+    same e = cc
+only_next false s e = absurd (no_next e)
+  where
+    no_next : {s : State} {n : Machine} → Over ending.Stuck s ≡ Next n → ⊥
+    no_next e = cc
+
+module _ (since_none : NoneSince) (c : Code) (m : Machine) (label : ℕ) where
+  -- as the machine k, whose task and world are those of the machine m
+  abbrev here : Machine → Machine
+  here k = machine m.who m.world k.state k.frame.life k.frame.locals k.frame.stack k.frame.place k.frame.handlers k.below
+
+  is_here : (k : Machine) → Inside m label k → here k ≡ k
+  is_here k i = rw (sym i.who, sym i.world) refl
+
+  operation_inside : (k : Machine) → Inside m label k → MachineRooted k → (op : Op) → op_at c k ≡ Some op →
+      Goes m label (closed_by op m label k) (step c k)
+  operation_inside k i r op e = subst (λ k. Goes m label (closed_by op m label k) (step c k)) (is_here k i) at_op
+    where
+      rooted : WorldRooted k.state.clock.left m.who m.world
+      rooted = subst (λ (k : Machine). WorldRooted k.state.clock.left k.who k.world) (sym (is_here k i)) r.world
+
+      at_op : Goes m label (closed_by op m label (here k)) (step c (here k))
+      at_op = rw e (act_low m label since_none k.state k.frame.life k.frame.place k.frame.handlers k.below i.clock i.frames
+          rooted c op k.frame.locals k.frame.stack)
+
+  next_rooted : {k n : Machine} → MachineRooted k → step c k ≡ Next n → MachineRooted n
+  next_rooted {k = k} r e = subst StepRooted e (operation_roots c k r)
+
+  -- an operation behind which the context stands
+  stays_inside : {j n : Machine} → Inside m label j → MachineRooted j → step c j ≡ Next n → contexts m < contexts n →
+      Inside m label n
+  stays_inside {j = j} {n = n} i r e l = by_op (next_op (slice_get c.ops j.frame.place) j.state _ e)
+    where
+      by_way : {z : Machine} → Inside m label n ⊎ ((n ≡ z) × (contexts n ≡ contexts m)) → Inside m label n
+      by_way (inl x) = x
+      by_way (inr x) = absurd (less_not_same l x.1)
+
+      by_op : (op : Op) × (op_at c j ≡ Some op) → Inside m label n
+      by_op o = by_way (next_inside (operation_inside j i r o.0 o.1) e)
+
+  path_inside : {j k : Machine} → Within c (contexts m) j k → Inside m label j → MachineRooted j →
+      Inside m label k × MachineRooted k
+  path_inside (stands l) i r = (i, r)
+  path_inside (goes_on l e p) i r = path_inside p (stays_inside i r e (within_more p)) (next_rooted r e)
+
+  -- ---- a failure that this context takes
+
+  lengthen : (i j : ℕ) {d : ℕ} → d < i + j → suc i + j ≡ suc d → ⊥
+  lengthen i j l e = omega (arith, l, e)
+
+  failing_is : (s : State) (ls : List Val) {born : ℕ} {ns : List Note} (hs : List Handler) (bl : List Frame) →
+      Frames m label born ns hs bl → length hs + open_in bl ≡ suc (contexts m) →
+      failing m.who m.world s ls hs bl ≡ goes m.who m.world s (restored m.state.memory s) m.frame.life
+      (locals_above (length m.below) ls bl) m.frame.stack label m.frame.handlers m.below
+  failing_is s ls [] [] r e = absurd (not_alone r)
+  failing_is s ls [] (f ∷ bl) r e =
+      failing_is s f.locals f.handlers bl (under r).0 (no_more e) ∙ ap (λ ls. goes m.who m.world s (restored m.state.memory s)
+      m.frame.life ls m.frame.stack label m.frame.handlers m.below) (sym (locals_under f bl ls (under r).0))
+    where
+      no_more : {i j : ℕ} → 0 + i ≡ j → i ≡ j
+      no_more e = omega (arith, e)
+  failing_is s ls {born = born} {ns = ns} (h ∷ hs) bl r e = by_way (innermost r)
+    where
+      its : {h : Handler} {hs : List Handler} {bl : List Frame} → h ≡ opened m label → hs ≡ m.frame.handlers →
+          bl ≡ m.below → goes m.who m.world s (restored h.memory s) h.life ls h.stack h.label hs bl ≡ goes m.who
+          m.world s (restored m.state.memory s) m.frame.life (locals_above (length m.below) ls bl) m.frame.stack label
+          m.frame.handlers m.below
+      its a b d = rw (a, b, d) (rw (locals_own ls m.below) refl)
+
+      by_way : Innermost m label h hs bl born ns → failing m.who m.world s ls (h ∷ hs) bl ≡ goes m.who
+          m.world s (restored m.state.memory s) m.frame.life (locals_above (length m.below) ls bl) m.frame.stack label
+          m.frame.handlers m.below
+      by_way (the_try a b d) = its a b d
+      by_way (deeper k x) = absurd (lengthen (length hs) (open_in bl) (more_open k) e)
+
+  fail_here : (k : Machine) → Inside m label k → contexts k ≡ suc (contexts m) → op_at c k ≡ Some o.Fail →
+      step c k ≡ only_where (fits m.frame.handlers label) k.state (Next (failed m label k))
+  fail_here k i e op = subst (λ k. step c k ≡ only_where (fits m.frame.handlers label) k.state (Next (failed m label k)))
+      (is_here k i) (rw op (failing_is k.state k.frame.locals k.frame.handlers k.below i.frames e))
+
+  in_context : (k : Machine) → Inside m label k → MachineRooted k → InContext c m label k
+  in_context k i r = record {
+    who = i.who;
+    world = i.world;
+    clock = i.clock;
+    runs = λ s tss e. no_turn (operation_inside k i r (turn_op (slice_get c.ops k.frame.place) k.state _ e).0 (turn_op
+        (slice_get c.ops k.frame.place) k.state _ e).1) e;
+    closes = λ n e l. by_op n e l (next_op (slice_get c.ops k.frame.place) k.state _ e);
+    fails = λ e op. fail_here k i e op;
+  }
+    where
+      by_way : {z n : Machine} → contexts n ≤ contexts m → Inside m label n ⊎ ((n ≡ z) × (contexts n ≡ contexts m)) → n ≡ z
+      by_way l (inl x) = absurd (less_not_most (more_open x.frames) l)
+      by_way l (inr x) = x.0
+
+      by_op : (n : Machine) → step c k ≡ Next n → contexts n ≤ contexts m → (op : Op) × (op_at c k ≡ Some op) →
+          (op : Op) × (op_at c k ≡ Some op) × (n ≡ closed_by op m label k)
+      by_op n e l op = (op.0, op.1, by_way l (next_inside (operation_inside k i r op.0 op.1) e))
+
+  -- ---- behind the Try
+
+  begins_inside : {j : Machine} → op_at c m ≡ Some (o.Try label) → step c m ≡ Next j → Inside m label j
+  begins_inside {j = j} op e = subst (Inside m label) (only_next (fits (opened m label ∷ m.frame.handlers) (suc m.frame.place))
+      m.state tried) (record { who = refl; world = refl; clock = record { same = refl; sum = refl }; frames = own refl none (its refl refl) })
+    where
+      tried : only_where (fits (opened m label ∷ m.frame.handlers) (suc m.frame.place)) m.state (Next (machine m.who m.world
+          m.state m.frame.life m.frame.locals [] (suc m.frame.place) (opened m label ∷ m.frame.handlers) m.below)) ≡ Next j
+      tried = subst (λ x. on_there x m.state (λ op. act c op m.who m.world m.state m.frame.life m.frame.locals m.frame.stack
+          m.frame.place m.frame.handlers m.below) ≡ Next j) op e
+
+  context_of : (j k : Machine) → MachineRooted m → op_at c m ≡ Some (o.Try label) → step c m ≡ Next j →
+      Within c (contexts m) j k → InContext c m label k
+  context_of j k r op e p =
+      let i = path_inside p (begins_inside op e) (next_rooted r e) in in_context k i.0 i.1
+
+-- ---- every machine of a run has its parents behind their children
+
+main_rooted : (ns : List ℤ) (steps : ℕ) (f : Option Func) →
+    StepRooted (on_there f (begun steps) (λ f. main_starts ns (begun steps) f))
+main_rooted ns steps None = tt
+main_rooted ns steps (Some f) = main_roots ns steps f
+
+start_rooted : {c : Code} {ns : List ℤ} {steps until : ℕ} {q : Step} → Begins c ns steps until q → StepRooted q
+start_rooted {c = c} {ns = ns} {steps = steps} main = main_rooted ns steps (slice_get c.functions c.main)
+start_rooted {c = c} {ns = ns} {steps = steps} {until = until} (woken k left s tss due e d h l) =
+    woken_roots due.number due.given.value _ tss (trees_less tss (one_less l) (subst StageRooted e (run_roots c ns steps until k)))
+
+comes_rooted : {c : Code} {q : Step} {m : Machine} → Comes c q m → StepRooted q → MachineRooted m
+comes_rooted at_once r = r
+comes_rooted {c = c} (later {k = k} p) r = comes_rooted p (operation_roots c k r)
+
+pub run_rooted : {c : Code} {ns : List ℤ} {steps until : ℕ} {m : Machine} → InRun c ns steps until m → MachineRooted m
+run_rooted i = comes_rooted i.comes (start_rooted i.begins)
+
+pub contexts_undo : NoneSince → ContextsUndo
+contexts_undo since_none c ns steps until m i label op j k e p = context_of since_none c m label j k (run_rooted i) op e p

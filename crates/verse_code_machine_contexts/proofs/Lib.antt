@@ -1,0 +1,4 @@
+mod Frames
+mod Effects
+mod Acts
+mod Contexts
