@@ -1,16 +1,17 @@
 -- From a Try to where its context closes.
-use Rattle.std.proofs.Common.{◌≡◌, ℕ, suc, length, ◌+◌, ◌≤◌, ◌<◌, List, [], ◌∷◌, Option, Some, None, Bool, true, false, refl, sym, subst}
-use Rattle.std.proofs.Common.{arith, ap, ◌∙◌, inl, inr}
-use Rattle.std.specs.Prelude.{ℤ, slice_get, ◌⊎◌}
+use Rattle.std.proofs.Common.{◌≡◌, ℕ, suc, length, ◌+◌, ◌≤◌, ◌<◌, List, [], ◌∷◌, ◌++◌, ◌⊎◌, inl, inr, Option, Some, None}
+use Rattle.std.proofs.Common.{Bool, true, false, refl, sym, subst, arith, ap, ◌∙◌}
+use Rattle.std.specs.Prelude.{ℤ, slice_get}
 use Rattle.verse_code.specs.declared.operations.Op.{Op}
-use Rattle.verse_code.specs.declared.operations.Op.TheVariants as o
+use Rattle.verse_code.specs.declared.operations.Op.TheVariants as does
 use Rattle.verse_code.specs.declared.codes.Func.{Func}
 use Rattle.verse_code.specs.declared.codes.Code.{Code}
 use Rattle.verse_value.specs.Val.{Val}
 use Rattle.verse_value.specs.declared.runs.Ending.TheVariants as ending
 use Rattle.verse_meaning_state.specs.State.{State, Clock, restored, begun}
-use Rattle.verse_code_machine.specs.Tasks.{Handler, Frame, Note, Machine, Step, Next, Over, Turn, machine}
-use Rattle.verse_code_machine.specs.Frames.{on_there, only_where, fits, goes, failing}
+use Rattle.verse_meaning_state.specs.Waits.{ltn}
+use Rattle.verse_code_machine.specs.Tasks.{Life, Handler, Frame, Note, World, Machine, Step, Next, Over, Turn, machine}
+use Rattle.verse_code_machine.specs.Frames.{on_there, only_where, fits, goes, failing, clean, nothing, kept_noted, free}
 use Rattle.verse_code_machine.specs.Acts.{act}
 use Rattle.verse_code_machine.specs.Runs.{step, Forest, main_starts}
 use Rattle.verse_code_machine_parents.specs.Parents.{WorldRooted, MachineRooted, StepRooted, StageRooted}
@@ -20,22 +21,103 @@ use Rattle.verse_code_machine_parents.proofs.Running.{operation_roots, woken_roo
 use Rattle.verse_code_machine_contexts.specs.Runs.{op_at, Begins, main, woken, Comes, at_once, later, InRun}
 use Rattle.verse_code_machine_contexts.specs.Contexts.{open_in, contexts, Within, stands, goes_on, StepsAlone, locals_above, failed}
 use Rattle.verse_code_machine_contexts.specs.Contexts.{closed_by, InContext, ContextsUndo}
-use Rattle.verse_code_machine_contexts.proofs.Frames.{opened, none, its, own, Frames, more_open, Innermost, the_try, deeper, innermost}
-use Rattle.verse_code_machine_contexts.proofs.Frames.{under, not_alone, locals_under, locals_own}
-use Rattle.verse_code_machine_contexts.proofs.Acts.{Inside, StepInside, Goes, act_low}
+use Rattle.verse_code_machine_contexts.proofs.Frames.{Notes, none, Fresh, its, Frames, own, more_open, not_less, notes_longer, Innermost}
+use Rattle.verse_code_machine_contexts.proofs.Frames.{of_those, deeper, innermost, Under, of_top, called_by, under_it, locals_under}
+use Rattle.verse_code_machine_contexts.proofs.Frames.{locals_own}
+use Rattle.verse_code_machine_contexts.proofs.Acts.{Inside, Low, over, stays, closes, CanFail, only_low, act_low}
+use Rattle.verse_code_machine_contexts.proofs.Sites.{Top, site}
 
-no_turn : {m : Machine} {label : ℕ} {z : Machine} {q : Step} {s : State} {tss : Forest} → Goes m label z q → q ≡ Turn s tss → ⊥
-no_turn {m = m} {label = label} {z = z} g e = subst (StepInside m label z) e g.holds
+-- the context that the machine m opens with a Try
+abbrev opened : Machine → (label : ℕ) → Handler
+opened m label = record {
+  made = m.frame.place;
+  label = label;
+  stack = m.frame.stack;
+  memory = m.state.memory;
+  life = m.frame.life;
+}
 
-next_inside : {m : Machine} {label : ℕ} {z n : Machine} {q : Step} → Goes m label z q → q ≡ Next n →
-    Inside m label n ⊎ ((n ≡ z) × (contexts n ≡ contexts m))
-next_inside {m = m} {label = label} {z = z} g e = subst (StepInside m label z) e g.holds
+no_none : {h : Handler} {hs : List Handler} → [] ≡ h ∷ hs → ⊥
+no_none e = cc
+
+first_same : {h k : Handler} {hs ks : List Handler} → h ∷ hs ≡ k ∷ ks → h ≡ k
+first_same e = cc
+
+rest_same : {h k : Handler} {hs ks : List Handler} → h ∷ hs ≡ k ∷ ks → hs ≡ ks
+rest_same e = cc
+
+module _ (m : Machine) (label : ℕ) where
+  abbrev In : ℕ → List Note → List Handler → List Frame → Type 0
+  In = Frames (Fresh m.who.path m.world) m.frame.life.noted (opened m label ∷ m.frame.handlers) m.below
+
+  abbrev InIt : Machine → Type 0
+  InIt = Inside m.who m.world m.state.clock In
+
+  -- the context has closed, and the machine z goes on
+  pub record Closed (z : Machine) (q : Step) : Type 0 where
+    pub goes_on : q ≡ Next z
+    pub closed : contexts z ≡ contexts m
+
+  module _ (k : Machine) where
+    abbrev ClosedBy : Op → Step → Type 0
+    ClosedBy op = Closed (closed_by op m label k)
+
+    abbrev failing_step : List Val → List Frame → Step
+    failing_step ls bl = goes m.who m.world k.state (restored m.state.memory k.state) m.frame.life
+        (locals_above (length m.below) ls bl) m.frame.stack label m.frame.handlers m.below
+
+    fails_here : (ls : List Val) (hs : List Handler) (bl : List Frame) → hs ≡ opened m label ∷ m.frame.handlers → bl ≡ m.below →
+        failing m.who m.world k.state ls hs bl ≡ failing_step ls bl
+    fails_here ls hs bl a b = rw (a, b, locals_own ls m.below) refl
+
+    only_closed : {z : Machine} (b : Bool) {n : Machine} → n ≡ z → contexts z ≡ contexts m →
+        Low m.who m.world m.state.clock In (Closed z) (only_where b k.state (Next n))
+    only_closed {z = z} b {n = n} e h = only_low m.who m.world m.state.clock In (Closed z) b k.state (Next n) (closes (record {
+      goes_on = ap Next e;
+      closed = h;
+    }))
+
+    fails_closed : (op : Op) (ls : List Val) (hs : List Handler) (bl : List Frame) → CanFail op →
+        hs ≡ opened m label ∷ m.frame.handlers → bl ≡ m.below →
+        locals_above (length m.below) ls bl ≡ locals_above (length m.below) k.frame.locals k.below →
+        Low m.who m.world m.state.clock In (ClosedBy op) (failing m.who m.world k.state ls hs bl)
+    fails_closed op ls hs bl can a b e = rw (fails_here ls hs bl a b, e) (only_closed (fits m.frame.handlers label)
+        (sym (can m label k)) (ap contexts (can m label k)))
+
+    commits_closed : (h : Handler) (hs : List Handler) → h ∷ hs ≡ opened m label ∷ m.frame.handlers → k.below ≡ m.below →
+        Low m.who m.world m.state.clock In (ClosedBy does.Commit) (goes m.who m.world k.state k.state k.frame.life
+        k.frame.locals (k.frame.stack ++ h.stack) (suc k.frame.place) hs k.below)
+    commits_closed h hs a b = rw (first_same a, rest_same a, b) (only_closed (fits m.frame.handlers (suc k.frame.place)) refl refl)
+
+    undoes_closed : (h : Handler) (hs : List Handler) → h ∷ hs ≡ opened m label ∷ m.frame.handlers → k.below ≡ m.below →
+        Low m.who m.world m.state.clock In (ClosedBy does.Undo) (goes m.who m.world k.state (restored h.memory k.state)
+        k.frame.life k.frame.locals (k.frame.stack ++ h.stack) (suc k.frame.place) hs k.below)
+    undoes_closed h hs a b = rw (first_same a, rest_same a, b) (only_closed (fits m.frame.handlers (suc k.frame.place)) refl refl)
+
+    no_fewer : (ns : List Note) (hs : List Handler) → ns ≡ m.frame.life.noted → hs ≡ opened m label ∷ m.frame.handlers →
+        ltn (kept_noted hs) (length ns) ≡ true → ⊥
+    no_fewer ns hs a b e = not_less (same_length (ap kept_noted b)) (same_length (sym (ap length a))) e
+      where
+        same_length : {i j : ℕ} → i ≡ j → j ≤ i
+        same_length e = omega (arith, e)
+
+    top : Top m.who m.world m.state.clock m.frame.life.noted (opened m label ∷ m.frame.handlers) m.below ClosedBy k.state k.frame.life
+        k.frame.locals k.frame.stack k.frame.place k.frame.handlers k.below
+    top = record {
+      shut = λ ns a. refl;
+      failing = fails_closed;
+      returns = λ v e n. absurd (no_none e);
+      ends = λ v e n. absurd (no_none e);
+      commits = commits_closed;
+      undoes = undoes_closed;
+      defer_ends = λ y ns n a b e. absurd (no_fewer (y ∷ ns) k.frame.handlers n a e);
+    }
+
+same_next : {n j : Machine} → Next n ≡ Next j → n ≡ j
+same_next e = cc
 
 less_not_same : {a d : ℕ} → d < a → a ≡ d → ⊥
 less_not_same l e = omega (arith, l, e)
-
-less_not_most : {a d : ℕ} → d < a → a ≤ d → ⊥
-less_not_most l e = omega (arith, l, e)
 
 within_more : {c : Code} {d : ℕ} {j k : Machine} → Within c d j k → d < contexts j
 within_more (stands l) = l
@@ -58,102 +140,125 @@ turn_op None s go e = absurd (no_turns e)
 turn_op (Some op) s go e = (op, refl)
 
 only_next : (b : Bool) (s : State) {n j : Machine} → only_where b s (Next n) ≡ Next j → n ≡ j
-only_next true s e = same e
-  where
-    same : {n j : Machine} → Next n ≡ Next j → n ≡ j
-    same e = cc
+only_next true s e = same_next e
 only_next false s e = absurd (no_next e)
   where
     no_next : {s : State} {n : Machine} → Over ending.Stuck s ≡ Next n → ⊥
     no_next e = cc
+
+-- what an operation comes to
+next_inside : {m : Machine} {label : ℕ} {z n : Machine} {q : Step} →
+    Low m.who m.world m.state.clock (In m label) (Closed m label z) q → q ≡ Next n →
+    InIt m label n ⊎ ((n ≡ z) × (contexts z ≡ contexts m))
+next_inside over e = cc
+next_inside {m = m} {label = label} (stays {n = k} i) e = inl (subst (InIt m label) (same_next e) i)
+next_inside (closes p) e = inr (same_next (sym e ∙ p.goes_on), p.closed)
+
+low_turn : {m : Machine} {label : ℕ} {z : Machine} {q : Step} {s : State} {tss : Forest} →
+    Low m.who m.world m.state.clock (In m label) (Closed m label z) q → q ≡ Turn s tss → ⊥
+low_turn over e = cc
+low_turn (stays i) e = cc
+low_turn (closes p) e = two_ways (sym p.goes_on ∙ e)
+  where
+    two_ways : {n : Machine} {s : State} {tss : Forest} → Next n ≡ Turn s tss → ⊥
+    two_ways e = cc
 
 module _ (since_none : NoneSince) (c : Code) (m : Machine) (label : ℕ) where
   -- as the machine k, whose task and world are those of the machine m
   abbrev here : Machine → Machine
   here k = machine m.who m.world k.state k.frame.life k.frame.locals k.frame.stack k.frame.place k.frame.handlers k.below
 
-  is_here : (k : Machine) → Inside m label k → here k ≡ k
+  is_here : (k : Machine) → InIt m label k → here k ≡ k
   is_here k i = rw (sym i.who, sym i.world) refl
 
-  operation_inside : (k : Machine) → Inside m label k → MachineRooted k → (op : Op) → op_at c k ≡ Some op →
-      Goes m label (closed_by op m label k) (step c k)
-  operation_inside k i r op e = subst (λ k. Goes m label (closed_by op m label k) (step c k)) (is_here k i) at_op
+  operation_inside : (k : Machine) → InIt m label k → MachineRooted k → (op : Op) → op_at c k ≡ Some op →
+      Low m.who m.world m.state.clock (In m label) (Closed m label (closed_by op m label k)) (step c k)
+  operation_inside k i r op e =
+      subst (λ k. Low m.who m.world m.state.clock (In m label) (Closed m label (closed_by op m label k)) (step c k)) (is_here k i) at_op
     where
       rooted : WorldRooted k.state.clock.left m.who m.world
       rooted = subst (λ (k : Machine). WorldRooted k.state.clock.left k.who k.world) (sym (is_here k i)) r.world
 
-      at_op : Goes m label (closed_by op m label (here k)) (step c (here k))
-      at_op = rw e (act_low m label since_none k.state k.frame.life k.frame.place k.frame.handlers k.below i.clock i.frames
-          rooted c op k.frame.locals k.frame.stack)
+      at_op : Low m.who m.world m.state.clock (In m label) (Closed m label (closed_by op m label (here k))) (step c (here k))
+      at_op = rw e (act_low m.who m.world m.state.clock (In m label) (ClosedBy m label (here k)) k.state k.frame.life k.frame.locals
+          k.frame.stack k.frame.place k.frame.handlers k.below (site m.who m.world m.state.clock m.frame.life.noted (opened m label ∷
+          m.frame.handlers) m.below since_none (ClosedBy m label (here k)) k.state k.frame.life k.frame.locals k.frame.stack
+          k.frame.place k.frame.handlers k.below i.clock i.frames rooted (top m label (here k))) c op)
 
   next_rooted : {k n : Machine} → MachineRooted k → step c k ≡ Next n → MachineRooted n
   next_rooted {k = k} r e = subst StepRooted e (operation_roots c k r)
 
   -- an operation behind which the context stands
-  stays_inside : {j n : Machine} → Inside m label j → MachineRooted j → step c j ≡ Next n → contexts m < contexts n →
-      Inside m label n
+  stays_inside : {j n : Machine} → InIt m label j → MachineRooted j → step c j ≡ Next n → contexts m < contexts n →
+      InIt m label n
   stays_inside {j = j} {n = n} i r e l = by_op (next_op (slice_get c.ops j.frame.place) j.state _ e)
     where
-      by_way : {z : Machine} → Inside m label n ⊎ ((n ≡ z) × (contexts n ≡ contexts m)) → Inside m label n
+      by_way : {z : Machine} → InIt m label n ⊎ ((n ≡ z) × (contexts z ≡ contexts m)) → InIt m label n
       by_way (inl x) = x
-      by_way (inr x) = absurd (less_not_same l x.1)
+      by_way (inr x) = absurd (less_not_same l (ap contexts x.0 ∙ x.1))
 
-      by_op : (op : Op) × (op_at c j ≡ Some op) → Inside m label n
+      by_op : (op : Op) × (op_at c j ≡ Some op) → InIt m label n
       by_op o = by_way (next_inside (operation_inside j i r o.0 o.1) e)
 
-  path_inside : {j k : Machine} → Within c (contexts m) j k → Inside m label j → MachineRooted j →
-      Inside m label k × MachineRooted k
+  path_inside : {j k : Machine} → Within c (contexts m) j k → InIt m label j → MachineRooted j →
+      InIt m label k × MachineRooted k
   path_inside (stands l) i r = (i, r)
   path_inside (goes_on l e p) i r = path_inside p (stays_inside i r e (within_more p)) (next_rooted r e)
 
   -- ---- a failure that this context takes
 
-  lengthen : (i j : ℕ) {d : ℕ} → d < i + j → suc i + j ≡ suc d → ⊥
-  lengthen i j l e = omega (arith, l, e)
+  lengthen : (i j a b : ℕ) → suc a + b ≤ i + j → suc i + j ≡ suc (a + b) → ⊥
+  lengthen i j a b l e = omega (arith, l, e)
 
   failing_is : (s : State) (ls : List Val) {born : ℕ} {ns : List Note} (hs : List Handler) (bl : List Frame) →
-      Frames m label born ns hs bl → length hs + open_in bl ≡ suc (contexts m) →
+      In m label born ns hs bl → length hs + open_in bl ≡ suc (contexts m) →
       failing m.who m.world s ls hs bl ≡ goes m.who m.world s (restored m.state.memory s) m.frame.life
       (locals_above (length m.below) ls bl) m.frame.stack label m.frame.handlers m.below
-  failing_is s ls [] [] r e = absurd (not_alone r)
+  failing_is s ls [] [] r e = absurd (no_frame (under_it _ _ _ _ r))
+    where
+      no_frame : {born : ℕ} {ns : List Note} → Under (Fresh m.who.path m.world) m.frame.life.noted (opened m label ∷
+          m.frame.handlers) m.below born ns [] → ⊥
+      no_frame (of_top a b n) = no_none a
   failing_is s ls [] (f ∷ bl) r e =
-      failing_is s f.locals f.handlers bl (under r).0 (no_more e) ∙ ap (λ ls. goes m.who m.world s (restored m.state.memory s)
-      m.frame.life ls m.frame.stack label m.frame.handlers m.below) (sym (locals_under f bl ls (under r).0))
+      failing_is s f.locals f.handlers bl (caller (under_it _ _ _ _ r)) (no_more e) ∙ ap (λ ls. goes m.who m.world s (restored
+      m.state.memory s) m.frame.life ls m.frame.stack label m.frame.handlers m.below) (sym (locals_under (Fresh m.who.path m.world)
+      m.frame.life.noted (opened m label ∷ m.frame.handlers) m.below f bl ls (caller (under_it _ _ _ _ r))))
     where
       no_more : {i j : ℕ} → 0 + i ≡ j → i ≡ j
       no_more e = omega (arith, e)
-  failing_is s ls {born = born} {ns = ns} (h ∷ hs) bl r e = by_way (innermost r)
+      caller : {born : ℕ} {ns : List Note} → Under (Fresh m.who.path m.world) m.frame.life.noted (opened m label ∷
+          m.frame.handlers) m.below born ns (f ∷ bl) → In m label f.life.born f.life.noted f.handlers bl
+      caller (of_top a b n) = absurd (no_none a)
+      caller (called_by b x) = x
+  failing_is s ls {born = born} {ns = ns} (h ∷ hs) bl r e = by_way (innermost _ _ _ _ r)
     where
-      its : {h : Handler} {hs : List Handler} {bl : List Frame} → h ≡ opened m label → hs ≡ m.frame.handlers →
-          bl ≡ m.below → goes m.who m.world s (restored h.memory s) h.life ls h.stack h.label hs bl ≡ goes m.who
-          m.world s (restored m.state.memory s) m.frame.life (locals_above (length m.below) ls bl) m.frame.stack label
-          m.frame.handlers m.below
-      its a b d = rw (a, b, d) (rw (locals_own ls m.below) refl)
+      by_way : Innermost (Fresh m.who.path m.world) m.frame.life.noted (opened m label ∷ m.frame.handlers) m.below h hs bl born ns →
+          failing m.who m.world s ls (h ∷ hs) bl ≡ goes m.who m.world s (restored m.state.memory s) m.frame.life
+          (locals_above (length m.below) ls bl) m.frame.stack label m.frame.handlers m.below
+      by_way (of_those a b) = rw (first_same a, rest_same a, b, locals_own ls m.below) refl
+      by_way (deeper k x) = absurd (lengthen (length hs) (open_in bl) (length m.frame.handlers) (open_in m.below) (more_open _ _ _ _ k) e)
 
-      by_way : Innermost m label h hs bl born ns → failing m.who m.world s ls (h ∷ hs) bl ≡ goes m.who
-          m.world s (restored m.state.memory s) m.frame.life (locals_above (length m.below) ls bl) m.frame.stack label
-          m.frame.handlers m.below
-      by_way (the_try a b d) = its a b d
-      by_way (deeper k x) = absurd (lengthen (length hs) (open_in bl) (more_open k) e)
-
-  fail_here : (k : Machine) → Inside m label k → contexts k ≡ suc (contexts m) → op_at c k ≡ Some o.Fail →
+  fail_here : (k : Machine) → InIt m label k → contexts k ≡ suc (contexts m) → op_at c k ≡ Some does.Fail →
       step c k ≡ only_where (fits m.frame.handlers label) k.state (Next (failed m label k))
   fail_here k i e op = subst (λ k. step c k ≡ only_where (fits m.frame.handlers label) k.state (Next (failed m label k)))
       (is_here k i) (rw op (failing_is k.state k.frame.locals k.frame.handlers k.below i.frames e))
 
-  in_context : (k : Machine) → Inside m label k → MachineRooted k → InContext c m label k
+  fewer_open : (a b : ℕ) {d : ℕ} → suc a + b ≤ d → d ≤ a + b → ⊥
+  fewer_open a b l e = omega (arith, l, e)
+
+  in_context : (k : Machine) → InIt m label k → MachineRooted k → InContext c m label k
   in_context k i r = record {
     who = i.who;
     world = i.world;
     clock = i.clock;
-    runs = λ s tss e. no_turn (operation_inside k i r (turn_op (slice_get c.ops k.frame.place) k.state _ e).0 (turn_op
+    runs = λ s tss e. low_turn (operation_inside k i r (turn_op (slice_get c.ops k.frame.place) k.state _ e).0 (turn_op
         (slice_get c.ops k.frame.place) k.state _ e).1) e;
     closes = λ n e l. by_op n e l (next_op (slice_get c.ops k.frame.place) k.state _ e);
     fails = λ e op. fail_here k i e op;
   }
     where
-      by_way : {z n : Machine} → contexts n ≤ contexts m → Inside m label n ⊎ ((n ≡ z) × (contexts n ≡ contexts m)) → n ≡ z
-      by_way l (inl x) = absurd (less_not_most (more_open x.frames) l)
+      by_way : {z n : Machine} → contexts n ≤ contexts m → InIt m label n ⊎ ((n ≡ z) × (contexts z ≡ contexts m)) → n ≡ z
+      by_way l (inl x) = absurd (fewer_open (length m.frame.handlers) (open_in m.below) (more_open _ _ _ _ x.frames) l)
       by_way l (inr x) = x.0
 
       by_op : (n : Machine) → step c k ≡ Next n → contexts n ≤ contexts m → (op : Op) × (op_at c k ≡ Some op) →
@@ -162,16 +267,16 @@ module _ (since_none : NoneSince) (c : Code) (m : Machine) (label : ℕ) where
 
   -- ---- behind the Try
 
-  begins_inside : {j : Machine} → op_at c m ≡ Some (o.Try label) → step c m ≡ Next j → Inside m label j
-  begins_inside {j = j} op e = subst (Inside m label) (only_next (fits (opened m label ∷ m.frame.handlers) (suc m.frame.place))
-      m.state tried) (record { who = refl; world = refl; clock = record { same = refl; sum = refl }; frames = own refl none (its refl refl) })
+  begins_inside : {j : Machine} → op_at c m ≡ Some (does.Try label) → step c m ≡ Next j → InIt m label j
+  begins_inside {j = j} op e = subst (InIt m label) (only_next (fits (opened m label ∷ m.frame.handlers) (suc m.frame.place))
+      m.state tried) (record { who = refl; world = refl; clock = record { same = refl; sum = refl }; frames = own refl none (its refl) })
     where
       tried : only_where (fits (opened m label ∷ m.frame.handlers) (suc m.frame.place)) m.state (Next (machine m.who m.world
           m.state m.frame.life m.frame.locals [] (suc m.frame.place) (opened m label ∷ m.frame.handlers) m.below)) ≡ Next j
       tried = subst (λ x. on_there x m.state (λ op. act c op m.who m.world m.state m.frame.life m.frame.locals m.frame.stack
           m.frame.place m.frame.handlers m.below) ≡ Next j) op e
 
-  context_of : (j k : Machine) → MachineRooted m → op_at c m ≡ Some (o.Try label) → step c m ≡ Next j →
+  context_of : (j k : Machine) → MachineRooted m → op_at c m ≡ Some (does.Try label) → step c m ≡ Next j →
       Within c (contexts m) j k → InContext c m label k
   context_of j k r op e p =
       let i = path_inside p (begins_inside op e) (next_rooted r e) in in_context k i.0 i.1

@@ -1,4 +1,5 @@
 mod Frames
 mod Effects
 mod Acts
+mod Sites
 mod Contexts
