@@ -113,7 +113,7 @@ module _ (m : Machine) (label : ℕ) where
       defer_ends = λ y ns n a b e. absurd (no_fewer (y ∷ ns) k.frame.handlers n a e);
     }
 
-same_next : {n j : Machine} → Next n ≡ Next j → n ≡ j
+pub same_next : {n j : Machine} → Next n ≡ Next j → n ≡ j
 same_next e = cc
 
 less_not_same : {a d : ℕ} → d < a → a ≡ d → ⊥
@@ -124,7 +124,7 @@ within_more (stands l) = l
 within_more (goes_on l e p) = l
 
 -- only an operation goes on, or comes to the end of a turn
-next_op : (x : Option Op) (s : State) (go : Op → Step) {n : Machine} → on_there x s go ≡ Next n → (op : Op) × (x ≡ Some op)
+pub next_op : (x : Option Op) (s : State) (go : Op → Step) {n : Machine} → on_there x s go ≡ Next n → (op : Op) × (x ≡ Some op)
 next_op None s go e = absurd (no_next e)
   where
     no_next : {s : State} {n : Machine} → Over ending.Stuck s ≡ Next n → ⊥
@@ -293,7 +293,7 @@ start_rooted {c = c} {ns = ns} {steps = steps} main = main_rooted ns steps (slic
 start_rooted {c = c} {ns = ns} {steps = steps} {until = until} (woken k left s tss due e d h l) =
     woken_roots due.number due.given.value _ tss (trees_less tss (one_less l) (subst StageRooted e (run_roots c ns steps until k)))
 
-comes_rooted : {c : Code} {q : Step} {m : Machine} → Comes c q m → StepRooted q → MachineRooted m
+comes_rooted : {c : Code} {q r : Step} → Comes c q r → StepRooted q → StepRooted r
 comes_rooted at_once r = r
 comes_rooted {c = c} (later {k = k} p) r = comes_rooted p (operation_roots c k r)
 

@@ -3,3 +3,5 @@ mod Effects
 mod Acts
 mod Sites
 mod Contexts
+mod Deferred
+mod Cancels

@@ -25,13 +25,13 @@ pub data Begins (c : Code) (ns : List ℤ) (steps until : ℕ) : Step → Type 0
       Begins c ns steps until
       (woken_in due.number due.given.value [] tss (at_moment due.given.moment (stepped left s)))
 
--- after some operations the machine is this one
-pub data Comes (c : Code) : Step → Machine → Type 0 where
-  at_once : {m : Machine} → Comes c (Next m) m
-  later : {k m : Machine} → Comes c (step c k) m → Comes c (Next k) m
+-- after some operations it comes to this step
+pub data Comes (c : Code) : Step → Step → Type 0 where
+  at_once : {q : Step} → Comes c q q
+  later : {k : Machine} {q : Step} → Comes c (step c k) q → Comes c (Next k) q
 
 -- a machine of a run
 pub record InRun (c : Code) (ns : List ℤ) (steps until : ℕ) (m : Machine) : Type 0 where
   pub start : Step
   pub begins : Begins c ns steps until start
-  pub comes : Comes c start m
+  pub comes : Comes c start (Next m)
