@@ -215,4 +215,12 @@ cancels_all since_none c after f o s pre post rooted r p = by_way (walks since_n
         CancelsTasks c after (world_without f o) (cancelled f o) s (through u) × Comes c (follows after (world_without f o) u) r) →
         Cancels c after f o s r
     by_way (inl x) = clears_still x
-    by_way (inr x) = went_on (record { state = x.0; clock = x.1; blocks = x.2; none_left = none_left f o; comes = x.3 })
+    by_way (inr x) = went_on (record {
+      state = x.0;
+      clock = x.1;
+      blocks = x.2;
+      ups = refl;
+      trees = refl;
+      none_left = none_left f o;
+      comes = x.3;
+    })

@@ -102,6 +102,9 @@ pub record WentOn (c : Code) (after : After) (f : List ℕ → Bool) (o : World)
   pub state : State
   pub clock : StepsAlone s.clock state.clock
   pub blocks : CancelsTasks c after (world_without f o) (cancelled f o) s (through state)
+  -- nothing else has gone, and no spawned task
+  pub ups : (world_without f o).ups ≡ o.ups
+  pub trees : (world_without f o).trees ≡ o.trees
   pub none_left : EachTask (λ t. f t.thread.who.path ≡ false)
       ((world_without f o).pre ++ (world_without f o).post)
   pub comes : Comes c (follows after (world_without f o) state) r

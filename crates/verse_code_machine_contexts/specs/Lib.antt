@@ -1,3 +1,5 @@
 pub mod Runs
 pub mod Contexts
 pub mod Cancels
+pub mod Scopes
+pub mod Races
