@@ -293,7 +293,7 @@ start_rooted {c = c} {ns = ns} {steps = steps} main = main_rooted ns steps (slic
 start_rooted {c = c} {ns = ns} {steps = steps} {until = until} (woken k left s tss due e d h l) =
     woken_roots due.number due.given.value _ tss (trees_less tss (one_less l) (subst StageRooted e (run_roots c ns steps until k)))
 
-comes_rooted : {c : Code} {q r : Step} → Comes c q r → StepRooted q → StepRooted r
+pub comes_rooted : {c : Code} {q r : Step} → Comes c q r → StepRooted q → StepRooted r
 comes_rooted at_once r = r
 comes_rooted {c = c} (later {k = k} p) r = comes_rooted p (operation_roots c k r)
 

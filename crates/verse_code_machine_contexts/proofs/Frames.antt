@@ -25,7 +25,7 @@ pub notes_longer : {base ns : List Note} → Notes base ns → length base ≤ l
 notes_longer none = omega arith
 notes_longer (more a) = same_less (notes_longer a)
 
-ltn_is : (a b : ℕ) → ltn a b ≡ true → a < b
+pub ltn_is : (a b : ℕ) → ltn a b ≡ true → a < b
 ltn_is a zero e = cc
 ltn_is zero (suc b) e = omega arith
 ltn_is (suc a) (suc b) e = up (ltn_is a b e)

@@ -5,3 +5,5 @@ mod Sites
 mod Contexts
 mod Deferred
 mod Cancels
+mod Names
+mod Ends

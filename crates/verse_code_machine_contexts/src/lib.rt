@@ -1,8 +1,12 @@
-//! What the machine does with failure contexts, in every run. Read the definitions in this order:
-//! `Runs`, the machines of a run; `Contexts`.
+//! What the machine does with failure contexts, scopes and races, in every run: each law is a
+//! sentence from one operation to another, any number of operations later. Read the definitions in
+//! this order: `Runs`, the machines of a run; `Contexts`; `Cancels`, how tasks are cancelled;
+//! `Scopes`; `Races`.
 #![tactic(auto)]
 
 ghost use Rattle.verse_code_machine_contexts.specs.Contexts.{ContextsUndo};
+ghost use Rattle.verse_code_machine_contexts.specs.Scopes.{ScopesEnd};
+ghost use Rattle.verse_code_machine_contexts.specs.Races.{RacesCancel, RushesLeave};
 
 use verse_code_machine_parents::none_since;
 
@@ -13,3 +17,26 @@ pub fn contexts_undo()
 {
     none_since();
 }
+
+/// Where a frame ends, each task that it has begun, with all that it encloses, is cancelled before
+/// what waits for the frame goes on. Deferred blocks run, in their order, and nothing else; other
+/// tasks and spawned ones stay.
+pub fn scopes_end()
+    ensures { ScopesEnd }
+{
+    none_since();
+}
+
+/// Where an arm of a race ends, each arm without a value, with all that it encloses, is cancelled
+/// before the task of the race goes on with the value.
+pub fn races_cancel()
+    ensures { RacesCancel }
+{
+    none_since();
+}
+
+/// Where an arm of a rush ends and all have begun, the task of the rush goes on at once with the
+/// value, and every other task stays.
+pub fn rushes_leave()
+    ensures { RushesLeave }
+{}
