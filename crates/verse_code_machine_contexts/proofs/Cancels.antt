@@ -1,20 +1,19 @@
 -- From where tasks are cancelled to where what waits for them goes on.
-use Rattle.std.proofs.Common.{◌≡◌, ℕ, zero, suc, ◌+◌, ◌≤◌, List, [], ◌∷◌, ◌++◌, ◌⊎◌, inl, inr, Option, Some, None, Bool, true, false}
-use Rattle.std.proofs.Common.{cond, refl, sym, subst, arith, ap, ◌∙◌}
-use Rattle.std.specs.Prelude.{slice_get}
+use Rattle.std.proofs.Common.{◌≡◌, ℕ, zero, suc, List, [], ◌∷◌, ◌++◌, ◌⊎◌, inl, inr, Option, Some, None, Bool, true, false}
+use Rattle.std.proofs.Common.{refl, sym, subst, ap, ◌∙◌}
 use Rattle.verse_code.specs.declared.operations.Op.{Op}
 use Rattle.verse_code.specs.declared.operations.Op.TheVariants as does
 use Rattle.verse_code.specs.declared.codes.Code.{Code}
 use Rattle.verse_value.specs.declared.runs.Ending.{Ending}
 use Rattle.verse_value.specs.declared.runs.Ending.TheVariants as ending
-use Rattle.verse_meaning_state.specs.State.{State, Clock, spending, stepped}
-use Rattle.verse_code_machine.specs.Tasks.{Handler, Frame, Note, gone, Who, Task, After, World, Machine, Step, Next, Over, Turn, machine}
-use Rattle.verse_code_machine.specs.Frames.{on_there, free}
+use Rattle.verse_meaning_state.specs.State.{State, spending, stepped}
+use Rattle.verse_code_machine.specs.Tasks.{Handler, Frame, Note, gone, Who, Task, After, World, Machine, Step, Next, Over}
+use Rattle.verse_code_machine.specs.Frames.{free}
 use Rattle.verse_code_machine.specs.Cancelling.{without, inserted, gone_before, gone_behind, cancelled, world_without, on_deferred}
 use Rattle.verse_code_machine.specs.Cancelling.{clears_frames, clears, cancels}
 use Rattle.verse_code_machine.specs.Ends.{follows}
 use Rattle.verse_code_machine.specs.Runs.{step}
-use Rattle.verse_code_machine_parents.specs.Parents.{EachTask, AllStill, Still, MachineRooted, StepRooted}
+use Rattle.verse_code_machine_parents.specs.Parents.{EachTask, AllStill, MachineRooted, StepRooted}
 use Rattle.verse_code_machine_parents.specs.Cancelled.{NoneSince}
 use Rattle.verse_code_machine_parents.proofs.Lists.{cond_with}
 use Rattle.verse_code_machine_parents.proofs.Running.{operation_roots}
@@ -22,10 +21,10 @@ use Rattle.verse_code_machine_contexts.specs.Runs.{op_at, Comes, at_once, later}
 use Rattle.verse_code_machine_contexts.specs.Contexts.{StepsAlone}
 use Rattle.verse_code_machine_contexts.specs.Cancels.{Outcome, within, through, clearing_world, OfTask, Runs, stands, goes_on, block}
 use Rattle.verse_code_machine_contexts.specs.Cancels.{left_by, CancelsTasks, no_task, task, CancelsFrames, no_frame, frame, deferred}
-use Rattle.verse_code_machine_contexts.specs.Cancels.{no_step, runs, ends, WentOn, Cancels, clears as clears_still, went_on}
+use Rattle.verse_code_machine_contexts.specs.Cancels.{no_step, runs, ends, Cancels, clears as clears_still, went_on}
 use Rattle.verse_code_machine_contexts.proofs.Frames.{Notes, none, its, own}
-use Rattle.verse_code_machine_contexts.proofs.Acts.{Low, over, stays, closes, Inside, step_spent}
-use Rattle.verse_code_machine_contexts.proofs.Contexts.{next_op, same_next}
+use Rattle.verse_code_machine_contexts.proofs.Acts.{Low, over, stays, closes, step_spent}
+use Rattle.verse_code_machine_contexts.proofs.Contexts.{same_next}
 use Rattle.verse_code_machine_contexts.proofs.Deferred.{AllFree, In, InBlock, BlockEnds, of_task, operation_in_block}
 
 -- ---- what is cancelled has no open context and no noted place
@@ -172,8 +171,11 @@ module _ (since_none : NoneSince) (c : Code) (after : After) (o : World) (start 
         in_block w fs ts n refl r free tasks j (of_task c after o w fs ts start.clock j) (λ m p. stays_in m (goes_on of h p))
         (λ m e u p x. ends_in m e u (goes_on of h p) x) (λ m x p b o y. goes_from m x (goes_on of h p) b o y)
     low_at op (closes b) h r =
-        subst At (sym b.next) (frames_settle w ts tasks (λ s t r to. tasks_settle ts tasks s t r to) (left_by c after o k ∷ fs) (refl,
-        refl, free) k.state i.clock (subst StepRooted b.next r) (λ x y. goes_from k x (stands of) b.below (op ∙ ap Some b.ends) y))
+        subst At (sym b.next) (frames_settle w ts tasks (λ s t r to. tasks_settle ts tasks s t r to) (left_by c after o k ∷ fs) (
+          refl,
+          refl,
+          free,
+        ) k.state i.clock (subst StepRooted b.next r) (λ x y. goes_from k x (stands of) b.below (op ∙ ap Some b.ends) y))
 
     op_at_all : (x : Option Op) → op_at c k ≡ x → MachineRooted k → At (step c k)
     op_at_all None e r = over_at ending.Stuck k.state stuck_here (ends_in k ending.Stuck k.state (stands of) stuck_here)

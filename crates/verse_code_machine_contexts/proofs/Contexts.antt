@@ -8,10 +8,10 @@ use Rattle.verse_code.specs.declared.codes.Func.{Func}
 use Rattle.verse_code.specs.declared.codes.Code.{Code}
 use Rattle.verse_value.specs.Val.{Val}
 use Rattle.verse_value.specs.declared.runs.Ending.TheVariants as ending
-use Rattle.verse_meaning_state.specs.State.{State, Clock, restored, begun}
+use Rattle.verse_meaning_state.specs.State.{State, restored, begun}
 use Rattle.verse_meaning_state.specs.Waits.{ltn}
-use Rattle.verse_code_machine.specs.Tasks.{Life, Handler, Frame, Note, World, Machine, Step, Next, Over, Turn, machine}
-use Rattle.verse_code_machine.specs.Frames.{on_there, only_where, fits, goes, failing, clean, nothing, kept_noted, free}
+use Rattle.verse_code_machine.specs.Tasks.{Handler, Frame, Note, Machine, Step, Next, Over, Turn, machine}
+use Rattle.verse_code_machine.specs.Frames.{on_there, only_where, fits, goes, failing, kept_noted}
 use Rattle.verse_code_machine.specs.Acts.{act}
 use Rattle.verse_code_machine.specs.Runs.{step, Forest, main_starts}
 use Rattle.verse_code_machine_parents.specs.Parents.{WorldRooted, MachineRooted, StepRooted, StageRooted}
@@ -19,9 +19,9 @@ use Rattle.verse_code_machine_parents.specs.Cancelled.{NoneSince}
 use Rattle.verse_code_machine_parents.proofs.Leaving.{trees_less, one_less}
 use Rattle.verse_code_machine_parents.proofs.Running.{operation_roots, woken_roots, main_roots, run_roots}
 use Rattle.verse_code_machine_contexts.specs.Runs.{op_at, Begins, main, woken, Comes, at_once, later, InRun}
-use Rattle.verse_code_machine_contexts.specs.Contexts.{open_in, contexts, Within, stands, goes_on, StepsAlone, locals_above, failed}
-use Rattle.verse_code_machine_contexts.specs.Contexts.{closed_by, InContext, ContextsUndo}
-use Rattle.verse_code_machine_contexts.proofs.Frames.{Notes, none, Fresh, its, Frames, own, more_open, not_less, notes_longer, Innermost}
+use Rattle.verse_code_machine_contexts.specs.Contexts.{open_in, contexts, Within, stands, goes_on, locals_above, failed}
+use Rattle.verse_code_machine_contexts.specs.Contexts.{closed_by, InContext, Opens, ContextsUndo}
+use Rattle.verse_code_machine_contexts.proofs.Frames.{none, Fresh, its, Frames, own, more_open, not_less, Innermost}
 use Rattle.verse_code_machine_contexts.proofs.Frames.{of_those, deeper, innermost, Under, of_top, called_by, under_it, locals_under}
 use Rattle.verse_code_machine_contexts.proofs.Frames.{locals_own}
 use Rattle.verse_code_machine_contexts.proofs.Acts.{Inside, Low, over, stays, closes, CanFail, only_low, act_low}
@@ -226,6 +226,7 @@ module _ (since_none : NoneSince) (c : Code) (m : Machine) (label : ℕ) where
     where
       no_more : {i j : ℕ} → 0 + i ≡ j → i ≡ j
       no_more e = omega (arith, e)
+
       caller : {born : ℕ} {ns : List Note} → Under (Fresh m.who.path m.world) m.frame.life.noted (opened m label ∷
           m.frame.handlers) m.below born ns (f ∷ bl) → In m label f.life.born f.life.noted f.handlers bl
       caller (of_top a b n) = absurd (no_none a)
@@ -267,14 +268,33 @@ module _ (since_none : NoneSince) (c : Code) (m : Machine) (label : ℕ) where
 
   -- ---- behind the Try
 
+  -- the machine behind the Try
+  abbrev tried : Machine
+  tried = machine m.who m.world m.state m.frame.life m.frame.locals [] (suc m.frame.place) (opened m label ∷ m.frame.handlers)
+      m.below
+
+  is_tried : {j : Machine} → op_at c m ≡ Some (does.Try label) → step c m ≡ Next j → tried ≡ j
+  is_tried {j = j} op e = only_next (fits (opened m label ∷ m.frame.handlers) (suc m.frame.place)) m.state (subst (λ x. on_there x
+      m.state (λ op. act c op m.who m.world m.state m.frame.life m.frame.locals m.frame.stack m.frame.place m.frame.handlers m.below)
+      ≡ Next j) op e)
+
   begins_inside : {j : Machine} → op_at c m ≡ Some (does.Try label) → step c m ≡ Next j → InIt m label j
-  begins_inside {j = j} op e = subst (InIt m label) (only_next (fits (opened m label ∷ m.frame.handlers) (suc m.frame.place))
-      m.state tried) (record { who = refl; world = refl; clock = record { same = refl; sum = refl }; frames = own refl none (its refl) })
+  begins_inside op e = subst (InIt m label) (is_tried op e) (record {
+    who = refl;
+    world = refl;
+    clock = record { same = refl; sum = refl };
+    frames = own refl none (its refl);
+  })
+
+  opens_one : {j : Machine} → op_at c m ≡ Some (does.Try label) → step c m ≡ Next j → Opens m j
+  opens_one op e = subst (Opens m) (is_tried op e) (record {
+    context = one_longer (length m.frame.handlers) (open_in m.below);
+    same = refl;
+    locals = refl;
+  })
     where
-      tried : only_where (fits (opened m label ∷ m.frame.handlers) (suc m.frame.place)) m.state (Next (machine m.who m.world
-          m.state m.frame.life m.frame.locals [] (suc m.frame.place) (opened m label ∷ m.frame.handlers) m.below)) ≡ Next j
-      tried = subst (λ x. on_there x m.state (λ op. act c op m.who m.world m.state m.frame.life m.frame.locals m.frame.stack
-          m.frame.place m.frame.handlers m.below) ≡ Next j) op e
+      one_longer : (a b : ℕ) → suc a + b ≡ suc (a + b)
+      one_longer a b = omega arith
 
   context_of : (j k : Machine) → MachineRooted m → op_at c m ≡ Some (does.Try label) → step c m ≡ Next j →
       Within c (contexts m) j k → InContext c m label k
@@ -301,4 +321,5 @@ pub run_rooted : {c : Code} {ns : List ℤ} {steps until : ℕ} {m : Machine} �
 run_rooted i = comes_rooted i.comes (start_rooted i.begins)
 
 pub contexts_undo : NoneSince → ContextsUndo
-contexts_undo since_none c ns steps until m i label op j k e p = context_of since_none c m label j k (run_rooted i) op e p
+contexts_undo since_none c ns steps until m i label op j e =
+    (opens_one since_none c m label op e, λ k p. context_of since_none c m label j k (run_rooted i) op e p)

@@ -1,28 +1,26 @@
 -- A deferred block of a cancelled task: its operations, and those of what it calls, up to its end.
-use Rattle.std.proofs.Common.{◌≡◌, ℕ, zero, suc, length, ◌≤◌, List, [], ◌∷◌, ◌++◌, ◌⊎◌, inl, inr, Option, Some, None, Bool, true, false}
-use Rattle.std.proofs.Common.{refl, sym, subst, ap, ◌∙◌}
-use Rattle.std.specs.Prelude.{slice_get}
+use Rattle.std.proofs.Common.{◌≡◌, ℕ, suc, length, List, [], ◌∷◌, Some, true, false}
+use Rattle.std.proofs.Common.{refl, sym, subst}
 use Rattle.verse_code.specs.declared.operations.Op.{Op}
 use Rattle.verse_code.specs.declared.operations.Op.TheVariants as does
 use Rattle.verse_code.specs.declared.codes.Code.{Code}
 use Rattle.verse_value.specs.Val.{Val}
-use Rattle.verse_value.specs.declared.runs.Ending.{Ending}
 use Rattle.verse_value.specs.declared.runs.Ending.TheVariants as ending
-use Rattle.verse_meaning_state.specs.State.{State, Clock, restored}
+use Rattle.verse_meaning_state.specs.State.{State, Clock}
 use Rattle.verse_meaning_state.specs.Waits.{ltn}
-use Rattle.verse_code_machine.specs.Tasks.{Life, Handler, Frame, Note, to, gone, Who, Task, After, World, Machine, Step, Next, Over, machine}
-use Rattle.verse_code_machine.specs.Frames.{on_there, only_where, goes, failing, clean, nothing, kept_noted, free}
+use Rattle.verse_code_machine.specs.Tasks.{Handler, Frame, Note, gone, Who, Task, After, World, Machine, Step, Over, machine}
+use Rattle.verse_code_machine.specs.Frames.{goes, failing, clean, nothing, kept_noted, free}
 use Rattle.verse_code_machine.specs.Cancelling.{clears_frames, clears}
-use Rattle.verse_code_machine.specs.Ends.{returns, ends, follows, cleared}
-use Rattle.verse_code_machine.specs.Acts.{frame, on_note, act}
+use Rattle.verse_code_machine.specs.Ends.{follows, cleared}
+use Rattle.verse_code_machine.specs.Acts.{frame, on_note}
 use Rattle.verse_code_machine.specs.Runs.{step}
 use Rattle.verse_code_machine_parents.specs.Parents.{WorldRooted, MachineRooted}
 use Rattle.verse_code_machine_parents.specs.Cancelled.{NoneSince}
 use Rattle.verse_code_machine_contexts.specs.Runs.{op_at}
-use Rattle.verse_code_machine_contexts.specs.Contexts.{StepsAlone, locals_above}
+use Rattle.verse_code_machine_contexts.specs.Contexts.{locals_above}
 use Rattle.verse_code_machine_contexts.specs.Cancels.{OnTop, same, more, clearing_world, OfTask, left_by}
 use Rattle.verse_code_machine_contexts.proofs.Frames.{Notes, none, more as more_notes, Fresh, Frames, own, above}
-use Rattle.verse_code_machine_contexts.proofs.Acts.{Inside, Low, over, stays, closes, CanFail, only_low, act_low}
+use Rattle.verse_code_machine_contexts.proofs.Acts.{Inside, Low, over, closes, CanFail, act_low}
 use Rattle.verse_code_machine_contexts.proofs.Sites.{Top, site}
 
 -- no frame has a context or a noted place

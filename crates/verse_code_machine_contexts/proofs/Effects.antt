@@ -1,11 +1,10 @@
 -- What operations do with memory leaves the clock as it is.
 use Rattle.std.proofs.Common.{◌≡◌, ℕ, List, Option, Some, None, Bool, true, false, cond, refl}
-use Rattle.std.specs.Prelude.{if◌then◌else◌}
 use Rattle.verse_base.specs.declared.refusals.Kind.{Kind as Error}
 use Rattle.verse_value.specs.Val.{Val, unit, falsity, truth, int, char, enum, object, event, task, some, array, mapping}
 use Rattle.verse_value.specs.Val.{tuple}
 use Rattle.verse_value.specs.Keys.{bytes_of}
-use Rattle.verse_value.specs.Store.{Store, Cell, slot_of}
+use Rattle.verse_value.specs.Store.{Store, Cell}
 use Rattle.verse_value.specs.Answer.{Answer, gives, fails, error, stuck}
 use Rattle.verse_value.specs.Storing.{read_slot, add_cell, write_slot}
 use Rattle.verse_value.specs.declared.modes.Mode.{Mode}

@@ -1,31 +1,26 @@
 -- Where a frame ends, and an arm.
-use Rattle.std.proofs.Common.{◌≡◌, ℕ, zero, suc, List, [], ◌∷◌, ◌++◌, ◌⊎◌, inl, inr, Option, Some, None, Bool, true, false, cond}
+use Rattle.std.proofs.Common.{◌≡◌, ℕ, List, [], ◌∷◌, ◌++◌, ◌⊎◌, inl, inr, Option, Some, Bool, true, false, cond}
 use Rattle.std.proofs.Common.{refl, sym, subst, ap, ◌∙◌}
-use Rattle.std.specs.Prelude.{slice_get}
-use Rattle.verse_base.specs.declared.places.Place.{Place}
-use Rattle.verse_code.specs.declared.operations.Op.TheVariants as does
 use Rattle.verse_code.specs.declared.codes.Code.{Code}
 use Rattle.verse_value.specs.Val.{Val}
 use Rattle.verse_value.specs.declared.runs.Ending.TheVariants as ending
 use Rattle.verse_meaning_state.specs.State.{State}
 use Rattle.verse_meaning_state.specs.Waits.{eqn}
 use Rattle.verse_meaning_state.specs.Turns.{Kind, first_of, rush_of}
-use Rattle.verse_code_machine.specs.Tasks.{Life, Handler, Frame, Note, Role, root, part, Who, Part, did, runs, Rest, group, Thread, thread}
-use Rattle.verse_code_machine.specs.Tasks.{Task, After, resuming, closing, finishing, Up, begins, Trees, World, world, Machine, Step, Next}
+use Rattle.verse_code_machine.specs.Tasks.{Life, Handler, Frame, root, part, Who, Part, did, runs, Thread, thread}
+use Rattle.verse_code_machine.specs.Tasks.{Task, After, resuming, closing, finishing, Trees, World, Machine, Step}
 use Rattle.verse_code_machine.specs.Tasks.{Over, onto, same_path, since, beneath_arms}
-use Rattle.verse_code_machine.specs.Frames.{on_there, on_top, only_where, clean, nothing}
-use Rattle.verse_code_machine.specs.Cancelling.{cancels, without, world_without}
-use Rattle.verse_code_machine.specs.Ends.{resumes, first_did, is_run, with_did, joined, climbs, part_ends, role_ends, returns, ends}
-use Rattle.verse_code_machine.specs.Ends.{ends_role, returns_role, follows, grouped, arm_did}
-use Rattle.verse_code_machine.specs.Acts.{act}
+use Rattle.verse_code_machine.specs.Frames.{only_where, clean, nothing}
+use Rattle.verse_code_machine.specs.Cancelling.{cancels, world_without}
+use Rattle.verse_code_machine.specs.Ends.{resumes, first_did, is_run, with_did, joined, climbs, returns, ends}
+use Rattle.verse_code_machine.specs.Ends.{returns_role, follows}
 use Rattle.verse_code_machine.specs.Runs.{step}
 use Rattle.verse_code_machine_parents.specs.Parents.{EachTask, AllStill, Still, MachineRooted, StepRooted}
 use Rattle.verse_code_machine_parents.specs.Cancelled.{NoneSince}
 use Rattle.verse_code_machine_parents.proofs.Lists.{no_both}
 use Rattle.verse_code_machine_parents.proofs.Leaving.{each_onto}
 use Rattle.verse_code_machine_parents.proofs.Running.{operation_roots}
-use Rattle.verse_code_machine_contexts.specs.Runs.{op_at, Comes, InRun}
-use Rattle.verse_code_machine_contexts.specs.Cancels.{Cancels}
+use Rattle.verse_code_machine_contexts.specs.Runs.{Comes}
 use Rattle.verse_code_machine_contexts.specs.Scopes.{EndsFrame, returns as frame_returns, finishes, ends as arm_ends, begun_by, ScopeEnds}
 use Rattle.verse_code_machine_contexts.specs.Scopes.{ScopesEnd}
 use Rattle.verse_code_machine_contexts.specs.Races.{Joins, beginning, standing, ArmEnds, RaceEnds, RacesCancel, RushesLeave}
@@ -146,6 +141,7 @@ closing_role e = parts e refl
   where
     same_who : {w x : Who} {v y : Val} → closing w v ≡ closing x y → w ≡ x
     same_who e = cc
+
     parts : {c : Code} {m : Machine} {a : After} {v : Val} → EndsFrame c m a → a ≡ closing m.who v → m.who.role ≡ part
     parts (frame_returns f fs v st op b e) h = cc
     parts (finishes entry v st op b r e) h = cc
@@ -164,9 +160,11 @@ race_ends since_none c m v u rooted arm x gs ls o joins r p = record {
   where
     value : (value : Val) × (first_did gs ≡ Some value)
     value = joins_value joins
+
     still : AllStill o.pre × AllStill o.post
     still = joins_still joins (each_without (λ t. Still t.thread) (begun_by m) m.world.pre rooted.world.pre) (each_without (λ t. Still
         t.thread) (begun_by m) m.world.post rooted.world.post)
+
     steps : follows (closing m.who v) (world_without (begun_by m) m.world) u ≡ cancels (follows (resuming x value.0)) (resuming x
         value.0) (beneath_arms x.who.path gs) o u
     steps = race_step u value.0 (closing_role arm.ends) joins value.1

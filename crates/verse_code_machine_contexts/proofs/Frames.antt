@@ -1,10 +1,10 @@
 -- The frames of a task since a moment: the one that then was on top, and those that were called since. Of that frame it is
 -- said which notes and contexts it had, of the others that they began since.
-use Rattle.std.proofs.Common.{◌≡◌, ℕ, zero, suc, ◌+◌, ◌≤◌, ◌<◌, length, List, [], ◌∷◌, ◌++◌, ◌⊎◌, inl, inr, Bool, true, false, cond}
+use Rattle.std.proofs.Common.{◌≡◌, ℕ, zero, suc, ◌+◌, ◌≤◌, ◌<◌, length, List, [], ◌∷◌, ◌++◌, ◌⊎◌, inl, inr, Bool, true, false}
 use Rattle.std.proofs.Common.{refl, sym, subst, arith, ap}
 use Rattle.verse_value.specs.Val.{Val}
 use Rattle.verse_meaning_state.specs.Waits.{eqn, ltn}
-use Rattle.verse_code_machine.specs.Tasks.{Handler, Frame, Note, to, gone, Task, World, since}
+use Rattle.verse_code_machine.specs.Tasks.{Handler, Frame, Note, to, Task, World, since}
 use Rattle.verse_code_machine.specs.Frames.{free, kept_noted}
 use Rattle.verse_code_machine.specs.Cancelling.{without, world_without, gone_before, gone_behind, cancelled}
 use Rattle.verse_code_machine_parents.specs.Parents.{EachTask}

@@ -2,6 +2,7 @@ mod Frames
 mod Effects
 mod Acts
 mod Sites
+mod Runs
 mod Contexts
 mod Deferred
 mod Cancels

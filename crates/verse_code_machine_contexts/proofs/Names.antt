@@ -1,6 +1,6 @@
 -- What the tests of names say: what a frame has begun, and what is beneath an arm.
-use Rattle.std.proofs.Common.{◌≡◌, ℕ, zero, suc, ◌<◌, List, [], ◌∷◌, ◌++◌, Bool, true, false, cond, refl, sym, subst, ap, ◌∙◌}
-use Rattle.verse_meaning_state.specs.Waits.{eqn, ltn}
+use Rattle.std.proofs.Common.{◌≡◌, ℕ, ◌<◌, List, [], ◌∷◌, ◌++◌, Bool, true, false, cond, refl, sym, subst}
+use Rattle.verse_meaning_state.specs.Waits.{eqn}
 use Rattle.verse_code_machine.specs.Tasks.{Part, did, runs, Machine, starts, since, beneath_arms}
 use Rattle.verse_code_machine.specs.Ends.{is_run}
 use Rattle.verse_code_machine_parents.proofs.Lists.{no_both, cond_with, eqn_is, eqn_same, less_is}
@@ -80,6 +80,7 @@ beneath_is path (runs n ∷ gs) x e =
   where
     first : (rest : List ℕ) × (x ≡ path ++ n ∷ rest) → BeneathArm path (runs n ∷ gs) x
     first r = record { number = n; rest = r.0; is_arm = rw (eqn_same n) refl; beneath = r.1 }
+
     later : BeneathArm path gs x → BeneathArm path (runs n ∷ gs) x
     later r = record { number = r.number; rest = r.rest; is_arm = later_arm r.number n gs r.is_arm; beneath = r.beneath }
 

@@ -8,7 +8,7 @@ use Rattle.verse_value.specs.Val.{Val}
 use Rattle.verse_value.specs.declared.runs.Ending.TheVariants as ending
 use Rattle.verse_meaning_state.specs.State.{State, Clock, restored, stepped}
 use Rattle.verse_meaning_state.specs.Waits.{ltn}
-use Rattle.verse_code_machine.specs.Tasks.{Life, Handler, Frame, Note, to, gone, Who, World, Machine, Step, Next, Over, machine, life_from}
+use Rattle.verse_code_machine.specs.Tasks.{Life, Handler, Frame, Note, Who, World, Machine, Step, Next, Over, machine, life_from}
 use Rattle.verse_code_machine.specs.Tasks.{After, resuming, thread, since}
 use Rattle.verse_code_machine.specs.Frames.{only_where, goes, failing, clean, nothing, enters, locals_of, kept_noted, free}
 use Rattle.verse_code_machine.specs.Cancelling.{clears_frames, cancels, cancelled, world_without}
@@ -20,7 +20,7 @@ use Rattle.verse_code_machine_contexts.specs.Contexts.{StepsAlone, locals_above}
 use Rattle.verse_code_machine_contexts.proofs.Frames.{Notes, none, IsPlace, place, Fresh, Frames, above, not_free, noted_more, AsItWas}
 use Rattle.verse_code_machine_contexts.proofs.Frames.{noted_fewer, opens, Innermost, of_those, deeper, innermost, Under, of_top}
 use Rattle.verse_code_machine_contexts.proofs.Frames.{called_by, under_it, locals_under, none_cancelled}
-use Rattle.verse_code_machine_contexts.proofs.Acts.{Low, over, stays, closes, CanFail, only_low, inside, goes_low, Site}
+use Rattle.verse_code_machine_contexts.proofs.Acts.{Low, over, stays, CanFail, only_low, inside, goes_low, Site}
 
 module _ (w : Who) (o : World) (start : Clock) (base : List Note) (root : List Handler) (under : List Frame) where
   abbrev pub In : ℕ → List Note → List Handler → List Frame → Type 0

@@ -7,7 +7,7 @@ use Rattle.verse_code.specs.declared.codes.Code.{Code}
 use Rattle.verse_value.specs.Val.{Val}
 use Rattle.verse_meaning_state.specs.State.{State, Clock, restored}
 use Rattle.verse_meaning_state.specs.Waits.{eqn}
-use Rattle.verse_code_machine.specs.Tasks.{Handler, Frame, Machine, Step, Next, Turn, machine}
+use Rattle.verse_code_machine.specs.Tasks.{Frame, Machine, Next, Turn}
 use Rattle.verse_code_machine.specs.Frames.{only_where, fits}
 use Rattle.verse_code_machine.specs.Runs.{step, Forest}
 use Rattle.verse_code_machine_contexts.specs.Runs.{op_at, InRun}
@@ -95,8 +95,15 @@ pub record InContext (c : Code) (m : Machine) (label : ℕ) (k : Machine) : Type
   pub fails : contexts k ≡ suc (contexts m) → op_at c k ≡ Some o.Fail →
       step c k ≡ only_where (fits m.frame.handlers label) k.state (Next (failed m label k))
 
+-- A Try opens one context, and changes nothing else but what the frame has on its stack.
+pub record Opens (m j : Machine) : Type 0 where
+  pub context : contexts j ≡ suc (contexts m)
+  pub same : j ≡ record m { frame = j.frame }
+  pub locals : j.frame.locals ≡ m.frame.locals
+
 -- In every run: from a Try, any number of operations later, as long as its context stands.
 abbrev pub ContextsUndo : Type 0
 ContextsUndo = (c : Code) (ns : List ℤ) (steps until : ℕ) (m : Machine) →
     InRun c ns steps until m → (label : ℕ) → op_at c m ≡ Some (o.Try label) →
-    (j k : Machine) → step c m ≡ Next j → Within c (contexts m) j k → InContext c m label k
+    (j : Machine) → step c m ≡ Next j →
+    Opens m j × ((k : Machine) → Within c (contexts m) j k → InContext c m label k)

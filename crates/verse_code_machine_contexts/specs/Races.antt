@@ -1,12 +1,12 @@
 -- Races: where an arm ends with a value, the others are cancelled, before what is behind the group.
 -- Of a rush they are left behind.
-use Rattle.std.specs.Prelude.{◌≡◌, ℕ, ℤ, List, [], ◌∷◌, ◌++◌, Some, Bool, true, false}
+use Rattle.std.specs.Prelude.{◌≡◌, ℕ, ℤ, List, [], ◌∷◌, ◌++◌, Some, true, false}
 use Rattle.verse_base.specs.declared.places.Place.{Place}
 use Rattle.verse_code.specs.declared.codes.Code.{Code}
 use Rattle.verse_value.specs.Val.{Val}
 use Rattle.verse_meaning_state.specs.State.{State}
 use Rattle.verse_meaning_state.specs.Turns.{Kind, first_of, rush_of}
-use Rattle.verse_code_machine.specs.Tasks.{Who, Part, did, runs, group, Thread, Task, closing}
+use Rattle.verse_code_machine.specs.Tasks.{Who, Part, did, group, Thread, Task, closing}
 use Rattle.verse_code_machine.specs.Tasks.{resuming, Up, begins, World, world, Machine, Step, onto}
 use Rattle.verse_code_machine.specs.Tasks.{same_path, beneath_arms}
 use Rattle.verse_code_machine.specs.Cancelling.{world_without}
@@ -21,17 +21,17 @@ use Rattle.verse_code_machine_contexts.specs.Scopes.{EndsFrame, begun_by}
 -- the labels of those that have not begun, and the world in which the parent would go on.
 pub data Joins (w : Who) (v : Val) (o : World) : Kind → Thread → List Part → List ℕ → World → Type 0
   where
-  -- the parent still begins its arms
-  beginning : (k : Kind) (p : Place) (gs : List Part) (n : ℕ) (ls : List ℕ) (x : Thread)
-      (us : List Up) → o.ups ≡ begins x k p gs n ls ∷ us →
-      Joins w v o k x (gs ++ did v ∷ []) ls (world o.pre o.post us o.trees)
-  -- the parent stands among the tasks behind, at its group
-  standing : (k : Kind) (p : Place) (gs : List Part) (y : Task) (ts post : List Task) →
-      o.ups ≡ [] → o.post ≡ ts ++ y ∷ post →
-      EachTask (λ t. same_path w.up t.thread.who.path ≡ false) ts →
-      same_path w.up y.thread.who.path ≡ true → y.rest ≡ group k p gs →
-      is_run w.number gs ≡ true →
-      Joins w v o k y.thread (with_did w.number v gs) [] (world (onto ts o.pre) post [] o.trees)
+    -- the parent still begins its arms
+    beginning : (k : Kind) (p : Place) (gs : List Part) (n : ℕ) (ls : List ℕ) (x : Thread)
+        (us : List Up) → o.ups ≡ begins x k p gs n ls ∷ us →
+        Joins w v o k x (gs ++ did v ∷ []) ls (world o.pre o.post us o.trees)
+    -- the parent stands among the tasks behind, at its group
+    standing : (k : Kind) (p : Place) (gs : List Part) (y : Task) (ts post : List Task) →
+        o.ups ≡ [] → o.post ≡ ts ++ y ∷ post →
+        EachTask (λ t. same_path w.up t.thread.who.path ≡ false) ts →
+        same_path w.up y.thread.who.path ≡ true → y.rest ≡ group k p gs →
+        is_run w.number gs ≡ true →
+        Joins w v o k y.thread (with_did w.number v gs) [] (world (onto ts o.pre) post [] o.trees)
 
 -- A name beneath an arm that has no value yet.
 pub record BeneathArm (path : List ℕ) (gs : List Part) (x : List ℕ) : Type 0 where

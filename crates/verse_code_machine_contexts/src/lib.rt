@@ -4,11 +4,18 @@
 //! `Scopes`; `Races`.
 #![tactic(auto)]
 
+ghost use Rattle.verse_code_machine_contexts.specs.Runs.{TurnsOperate};
 ghost use Rattle.verse_code_machine_contexts.specs.Contexts.{ContextsUndo};
 ghost use Rattle.verse_code_machine_contexts.specs.Scopes.{ScopesEnd};
 ghost use Rattle.verse_code_machine_contexts.specs.Races.{RacesCancel, RushesLeave};
 
 use verse_code_machine_parents::none_since;
+
+/// Each stage of a run is where the operations of its turn come to, so what the laws say of the
+/// machines of a run they say of all that it carries out.
+pub fn turns_operate()
+    ensures { TurnsOperate }
+{}
 
 /// A failure that is taken by the context of a Try, however many operations later, leaves all as it
 /// was at the Try, memory and other tasks, but for steps and the frame's own locals.
