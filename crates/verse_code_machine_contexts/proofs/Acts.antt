@@ -1,6 +1,8 @@
--- An operation of a task that is neither suspended nor over: it stays where it is, or comes to a step that closes what is
+-- An operation of a task that is neither suspended nor over: it stays where it is, or comes to a step that closes what
+-- is
 -- open. What counts as open is given, by what it says of a frame and those below it.
-use Rattle.std.proofs.Common.{◌≡◌, ℕ, zero, suc, length, ◌+◌, List, [], ◌∷◌, ◌++◌, Option, Some, None, Bool, true, false}
+use Rattle.std.proofs.Common.{◌≡◌, ℕ, zero, suc, length, ◌+◌, List, [], ◌∷◌, ◌++◌, Option, Some, None, Bool, true}
+use Rattle.std.proofs.Common.{false}
 use Rattle.std.proofs.Common.{refl, sym, subst, arith, ap}
 use Rattle.std.specs.Prelude.{pos, not, slice_get}
 use Rattle.verse_base.specs.declared.places.Place.{Place}
@@ -10,36 +12,46 @@ use Rattle.verse_code.specs.declared.operations.Op.TheVariants as does
 use Rattle.verse_code.specs.declared.codes.Func.{Func}
 use Rattle.verse_code.specs.declared.codes.Class.{Class}
 use Rattle.verse_code.specs.declared.codes.Code.{Code}
-use Rattle.verse_value.specs.Val.{Val, unit, falsity, truth, int, char, enum, object, event, task, some, array, mapping, tuple}
+use Rattle.verse_value.specs.Val.{Val, unit, falsity, truth, int, char, enum, object, event, task, some, array, mapping}
+use Rattle.verse_value.specs.Val.{tuple}
 use Rattle.verse_value.specs.Answer.{Answer, gives, fails, error, stuck}
-use Rattle.verse_value.specs.Operations.{sum_of, difference_of, product_of, negation_of, floor_of, ceil_of, modulo_of, concat_of, join_of}
-use Rattle.verse_value.specs.Operations.{less_of, at_most_of, greater_of, at_least_of, equal_of, unequal_of, array_of, map_of, tuple_of}
+use Rattle.verse_value.specs.Operations.{sum_of, difference_of, product_of, negation_of, floor_of, ceil_of, modulo_of}
+use Rattle.verse_value.specs.Operations.{concat_of, join_of}
+use Rattle.verse_value.specs.Operations.{less_of, at_most_of, greater_of, at_least_of, equal_of, unequal_of, array_of}
+use Rattle.verse_value.specs.Operations.{map_of, tuple_of}
 use Rattle.verse_value.specs.Operations.{option_of, query_of, item_of, at_of, length_of, append_of}
 use Rattle.verse_value.specs.declared.runs.Ending.{Ending}
 use Rattle.verse_value.specs.declared.runs.Ending.TheVariants as ending
 use Rattle.verse_meaning_state.specs.State.{State, Clock, spending, stepped, restored}
 use Rattle.verse_meaning_state.specs.Waits.{ltn, nth}
-use Rattle.verse_meaning_state.specs.Effects.{Effect, still, variable_made, object_made, event_made, slot_read, slot_written, line_printed}
+use Rattle.verse_meaning_state.specs.Effects.{Effect, still, variable_made, object_made, event_made, slot_read}
+use Rattle.verse_meaning_state.specs.Effects.{slot_written, line_printed}
 use Rattle.verse_code_machine.specs.Tasks.{Life, Handler, Frame, Note, to, Who, World, Machine, Step, Next, Over}
 use Rattle.verse_code_machine.specs.Tasks.{machine}
-use Rattle.verse_code_machine.specs.Frames.{on_top, on_two, on_many, on_there, only_where, put, fits, goes, failing, faulting, answered}
+use Rattle.verse_code_machine.specs.Frames.{on_top, on_two, on_many, on_there, only_where, put, fits, goes, failing}
+use Rattle.verse_code_machine.specs.Frames.{faulting, answered}
 use Rattle.verse_code_machine.specs.Frames.{answered_to, enters, method_of, free, clean, kept_defers, kept_noted}
 use Rattle.verse_code_machine.specs.Cancelling.{clears_frames}
 use Rattle.verse_code_machine.specs.Ends.{cleared, returns, ends}
-use Rattle.verse_code_machine.specs.Acts.{place_at, mode_of, paired, Taken, ended, takes, unfit, taken_from, takes_step, on_domain}
-use Rattle.verse_code_machine.specs.Acts.{on_int, on_noted, on_defer, on_note, frame, unary, binary, collects, leaves, on_handler, act}
+use Rattle.verse_code_machine.specs.Acts.{place_at, mode_of, paired, Taken, ended, takes, unfit, taken_from, takes_step}
+use Rattle.verse_code_machine.specs.Acts.{on_domain}
+use Rattle.verse_code_machine.specs.Acts.{on_int, on_noted, on_defer, on_note, frame, unary, binary, collects, leaves}
+use Rattle.verse_code_machine.specs.Acts.{on_handler, act}
 use Rattle.verse_code_machine_contexts.specs.Contexts.{StepsAlone, closed_by, failed}
-use Rattle.verse_code_machine_contexts.proofs.Effects.{KeepsClock, still_keeps, made_keeps, read_keeps, written_keeps, printed_keeps}
+use Rattle.verse_code_machine_contexts.proofs.Effects.{KeepsClock, still_keeps, made_keeps, read_keeps, written_keeps}
+use Rattle.verse_code_machine_contexts.proofs.Effects.{printed_keeps}
 
 -- a machine of the task w in the world o, where that is open
-pub record Inside (w : Who) (o : World) (start : Clock) (F : ℕ → List Note → List Handler → List Frame → Type 0) (n : Machine) : Type 0
+pub record Inside (w : Who) (o : World) (start : Clock) (F : ℕ → List Note → List Handler → List Frame → Type 0) (n :
+    Machine) : Type 0
   where
     pub who : n.who ≡ w
     pub world : n.world ≡ o
     pub clock : StepsAlone start n.state.clock
     pub frames : F n.frame.life.born n.frame.life.noted n.frame.handlers n.below
 
-pub data Low (w : Who) (o : World) (start : Clock) (F : ℕ → List Note → List Handler → List Frame → Type 0) (P : Step → Type 0) :
+pub data Low (w : Who) (o : World) (start : Clock) (F : ℕ → List Note → List Handler → List Frame → Type 0) (P : Step →
+    Type 0) :
     Step → Type 0 where
   over : {e : Ending} {s : State} → Low w o start F P (Over e s)
   stays : {n : Machine} → Inside w o start F n → Low w o start F P (Next n)
@@ -47,7 +59,11 @@ pub data Low (w : Who) (o : World) (start : Clock) (F : ℕ → List Note → Li
 
 pub step_spent : (k l : Clock) (left : ℕ) → StepsAlone k l → suc left ≡ l.left →
     StepsAlone k (record l { left = left; spent = suc l.spent })
-step_spent k l left a e = record { same = ap (λ (x : Clock). record x { left = left; spent = suc l.spent }) a.same; sum = sums l.spent a.sum }
+step_spent k l left a e = record {
+  same = ap (λ (x : Clock). record x { left = left; spent = suc l.spent }) a.same;
+  sum
+      = sums l.spent a.sum;
+}
   where
     sums : {n : ℕ} (s : ℕ) → l.left + s ≡ n → left + suc s ≡ n
     sums s h = omega (arith, h, e)
@@ -64,7 +80,8 @@ module _ (w : Who) (o : World) (start : Clock) (F : ℕ → List Note → List H
   only_low P true s q l = l
   only_low P false s q l = over
 
-  pub top_low : (P : Step → Type 0) (st : List Val) (s : State) (go : Val → List Val → Step) → ((v : Val) (st : List Val) → Is P (go v st)) →
+  pub top_low : (P : Step → Type 0) (st : List Val) (s : State) (go : Val → List Val → Step) → ((v : Val) (st : List
+      Val) → Is P (go v st)) →
       Is P (on_top st s go)
   top_low P [] s go f = over
   top_low P (v ∷ st) s go f = f v st
@@ -81,7 +98,8 @@ module _ (w : Who) (o : World) (start : Clock) (F : ℕ → List Note → List H
   many_low P (suc n) [] vs s go f = over
   many_low P (suc n) (v ∷ st) vs s go f = many_low P n st (v ∷ vs) s go f
 
-  pub there_low : (P : Step → Type 0) {A : Type 0} (x : Option A) (s : State) (go : A → Step) → ((y : A) → x ≡ Some y → Is P (go y)) →
+  pub there_low : (P : Step → Type 0) {A : Type 0} (x : Option A) (s : State) (go : A → Step) → ((y : A) → x ≡ Some y →
+      Is P (go y)) →
       Is P (on_there x s go)
   there_low P None s go f = over
   there_low P (Some x) s go f = f x refl
@@ -130,12 +148,14 @@ module _ (w : Who) (o : World) (start : Clock) (F : ℕ → List Note → List H
       StepsAlone start u.clock → F g.born g.noted hs bl → Inside w o start F (machine w o u g ls st q hs bl)
   inside t r = record { who = refl; world = refl; clock = t; frames = r }
 
-  pub goes_low : (P : Step → Type 0) (s u : State) (g : Life) (ls st : List Val) (q : ℕ) (hs : List Handler) (bl : List Frame) →
+  pub goes_low : (P : Step → Type 0) (s u : State) (g : Life) (ls st : List Val) (q : ℕ) (hs : List Handler) (bl : List
+      Frame) →
       StepsAlone start u.clock → F g.born g.noted hs bl → Is P (goes w o s u g ls st q hs bl)
   goes_low P s u g ls st q hs bl t r = only_low P (fits hs q) s _ (stays (inside t r))
 
   -- what holds where an operation is carried out
-  pub record Site (P : Op → Step → Type 0) (s : State) (g : Life) (ls st : List Val) (pc : ℕ) (hs : List Handler) (bl : List Frame) :
+  pub record Site (P : Op → Step → Type 0) (s : State) (g : Life) (ls st : List Val) (pc : ℕ) (hs : List Handler) (bl :
+      List Frame) :
       Type 0 where
     pub clock : StepsAlone start s.clock
     pub frames : F g.born g.noted hs bl
@@ -150,12 +170,15 @@ module _ (w : Who) (o : World) (start : Clock) (F : ℕ → List Note → List H
     pub commits :
         Is (P does.Commit) (on_handler hs s (λ h hs. goes w o s s g ls (st ++ h.stack) (suc pc) hs bl))
     pub undoes :
-        Is (P does.Undo) (on_handler hs s (λ h hs. goes w o s (restored h.memory s) g ls (st ++ h.stack) (suc pc) hs bl))
+        Is (P does.Undo) (on_handler hs s (λ h hs. goes w o s (restored h.memory s) g ls (st ++ h.stack) (suc pc) hs
+        bl))
     pub defer_ends : Is (P does.DeferEnd) (only_where (ltn (kept_noted hs) (length g.noted)) s
         (on_noted g.noted s (λ y ns. on_note y (λ q. goes w o s s (record g { noted = ns }) ls st q hs bl)
-        (clears_frames (λ s. cleared o.ups o.pre o.post o.trees s) w o s (frame (record g { noted = ns }) ls st pc hs ∷ bl)))))
+        (clears_frames (λ s. cleared o.ups o.pre o.post o.trees s) w o s (frame (record g { noted = ns }) ls st pc hs ∷
+        bl)))))
 
-  module _ (P : Op → Step → Type 0) (s : State) (g : Life) (ls st : List Val) (pc : ℕ) (hs : List Handler) (bl : List Frame)
+  module _ (P : Op → Step → Type 0) (s : State) (g : Life) (ls st : List Val) (pc : ℕ) (hs : List Handler) (bl : List
+      Frame)
       (at : Site P s g ls st pc hs bl)
     where
       module _ (Q : Step → Type 0) where
@@ -221,7 +244,8 @@ module _ (w : Who) (o : World) (start : Clock) (F : ℕ → List Note → List H
 
         binary_here : (f : Val → Val → Answer Val) (p : Option Place) (st : List Val) →
             Is (P op) (binary f p w o s g ls st pc hs bl)
-        binary_here f p st = two_low (P op) st s _ (λ a b st. answered_here p (still (f a b) s) st (still_keeps s (f a b)))
+        binary_here f p st = two_low (P op) st s _ (λ a b st. answered_here p (still (f a b) s) st (still_keeps s (f a
+            b)))
 
         collects_here : (n : ℕ) (f : List Val → Answer Val) (p : Option Place) (st : List Val) →
             Is (P op) (collects n f p w o s g ls st pc hs bl)
@@ -264,12 +288,14 @@ module _ (w : Who) (o : World) (start : Clock) (F : ℕ → List Note → List H
       act_low c does.At = binary_here _ (λ m l k. refl) at_of None st
       act_low c does.Length = unary_here _ (λ m l k. refl) length_of None st
       act_low c (does.New p) =
-          top_low _ st s _ (λ a st. answered_here _ (λ m l k. refl) (place_at c p) (variable_made a s) st (made_keeps s object _))
+          top_low _ st s _ (λ a st. answered_here _ (λ m l k. refl) (place_at c p) (variable_made a s) st (made_keeps s
+          object _))
       act_low c (does.Load n) =
           top_low _ st s _ (λ a st. answered_here _ (λ m l k. refl) None (slot_read n a s) st (read_keeps s n a))
       act_low c (does.Store n i k p) =
           top_low _ st s _ (λ a st. many_low _ i st [] s _ (λ path st. top_low _ st s _ (λ x st.
-          answered_here _ (λ m l k. refl) (place_at c p) (slot_written n path (mode_of k) a x s) st (written_keeps s n path (mode_of k) a x))))
+          answered_here _ (λ m l k. refl) (place_at c p) (slot_written n path (mode_of k) a x s) st (written_keeps s n
+          path (mode_of k) a x))))
       act_low c (does.Object n p) =
           there_low _ (slice_get c.classes n) s _ (λ (k : Class) e. many_low _ k.slots st [] s _ (λ vs st.
           answered_here _ (λ m l k. refl) (place_at c p) (object_made n vs s) st (made_keeps s object _)))
@@ -278,7 +304,8 @@ module _ (w : Who) (o : World) (start : Clock) (F : ℕ → List Note → List H
       act_low c (does.Same l) = two_low _ st s _ (λ a b st. plain _ ls st _)
       act_low c (does.Again l) = only_low _ (fits hs l) s _ (spent_here _ _ (λ u e. stays (inside e at.frames)))
       act_low c (does.Try l) =
-          goes_low _ s s g ls [] (suc pc) (record { made = pc; label = l; stack = st; memory = s.memory; life = g } ∷ hs) bl
+          goes_low _ s s g ls [] (suc pc) (record { made = pc; label = l; stack = st; memory = s.memory; life = g } ∷
+          hs) bl
           at.clock (at.opens _ refl)
       act_low c does.Commit = at.commits
       act_low c does.Undo = at.undoes
@@ -301,10 +328,12 @@ module _ (w : Who) (o : World) (start : Clock) (F : ℕ → List Note → List H
           there_low _ (nth ls l) s _ (λ a e. there_low _ (nth ls (suc l)) s _ (λ b e. there_low _ (nth ls d) s _
           (λ x e. there_low _ (nth ls (suc d)) s _ (λ y e. takes_here _ (taken_from a b) l d q ls st))))
       act_low c (does.Append l p) =
-          top_low _ st s _ (λ v st. there_low _ (nth ls l) s _ (λ a e. into_here _ (λ m l k. refl) (place_at c p) l (append_of a v)
+          top_low _ st s _ (λ v st. there_low _ (nth ls l) s _ (λ a e. into_here _ (λ m l k. refl) (place_at c p) l
+          (append_of a v)
           st))
       act_low c (does.Print p) =
-          top_low _ st s _ (λ v st. answered_here _ (λ m l k. refl) (place_at c p) (line_printed v s) st (printed_keeps s v))
+          top_low _ st s _ (λ v st. answered_here _ (λ m l k. refl) (place_at c p) (line_printed v s) st (printed_keeps
+          s v))
       act_low c (does.Sleep n) = shut_here _ _
       act_low c does.Forever = shut_here _ _
       act_low c does.AwaitTask = shut_here _ _

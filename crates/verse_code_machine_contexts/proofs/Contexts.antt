@@ -1,5 +1,6 @@
 -- From a Try to where its context closes.
-use Rattle.std.proofs.Common.{◌≡◌, ℕ, suc, length, ◌+◌, ◌≤◌, ◌<◌, List, [], ◌∷◌, ◌++◌, ◌⊎◌, inl, inr, Option, Some, None}
+use Rattle.std.proofs.Common.{◌≡◌, ℕ, suc, length, ◌+◌, ◌≤◌, ◌<◌, List, [], ◌∷◌, ◌++◌, ◌⊎◌, inl, inr, Option, Some}
+use Rattle.std.proofs.Common.{None}
 use Rattle.std.proofs.Common.{Bool, true, false, refl, sym, subst, arith, ap, ◌∙◌}
 use Rattle.std.specs.Prelude.{ℤ, slice_get}
 use Rattle.verse_code.specs.declared.operations.Op.{Op}
@@ -22,7 +23,8 @@ use Rattle.verse_code_machine_contexts.specs.Runs.{op_at, Begins, main, woken, C
 use Rattle.verse_code_machine_contexts.specs.Contexts.{open_in, contexts, Within, stands, goes_on, locals_above, failed}
 use Rattle.verse_code_machine_contexts.specs.Contexts.{closed_by, InContext, Opens, ContextsUndo}
 use Rattle.verse_code_machine_contexts.proofs.Frames.{none, Fresh, its, Frames, own, more_open, not_less, Innermost}
-use Rattle.verse_code_machine_contexts.proofs.Frames.{of_those, deeper, innermost, Under, of_top, called_by, under_it, locals_under}
+use Rattle.verse_code_machine_contexts.proofs.Frames.{of_those, deeper, innermost, Under, of_top, called_by, under_it}
+use Rattle.verse_code_machine_contexts.proofs.Frames.{locals_under}
 use Rattle.verse_code_machine_contexts.proofs.Frames.{locals_own}
 use Rattle.verse_code_machine_contexts.proofs.Acts.{Inside, Low, over, stays, closes, CanFail, only_low, act_low}
 use Rattle.verse_code_machine_contexts.proofs.Sites.{Top, site}
@@ -66,16 +68,18 @@ module _ (m : Machine) (label : ℕ) where
     failing_step ls bl = goes m.who m.world k.state (restored m.state.memory k.state) m.frame.life
         (locals_above (length m.below) ls bl) m.frame.stack label m.frame.handlers m.below
 
-    fails_here : (ls : List Val) (hs : List Handler) (bl : List Frame) → hs ≡ opened m label ∷ m.frame.handlers → bl ≡ m.below →
+    fails_here : (ls : List Val) (hs : List Handler) (bl : List Frame) → hs ≡ opened m label ∷ m.frame.handlers → bl ≡
+        m.below →
         failing m.who m.world k.state ls hs bl ≡ failing_step ls bl
     fails_here ls hs bl a b = rw (a, b, locals_own ls m.below) refl
 
     only_closed : {z : Machine} (b : Bool) {n : Machine} → n ≡ z → contexts z ≡ contexts m →
         Low m.who m.world m.state.clock In (Closed z) (only_where b k.state (Next n))
-    only_closed {z = z} b {n = n} e h = only_low m.who m.world m.state.clock In (Closed z) b k.state (Next n) (closes (record {
-      goes_on = ap Next e;
-      closed = h;
-    }))
+    only_closed {z = z} b {n = n} e h = only_low m.who m.world m.state.clock In (Closed z) b k.state (Next n) (closes
+        (record {
+          goes_on = ap Next e;
+          closed = h;
+        }))
 
     fails_closed : (op : Op) (ls : List Val) (hs : List Handler) (bl : List Frame) → CanFail op →
         hs ≡ opened m label ∷ m.frame.handlers → bl ≡ m.below →
@@ -84,15 +88,18 @@ module _ (m : Machine) (label : ℕ) where
     fails_closed op ls hs bl can a b e = rw (fails_here ls hs bl a b, e) (only_closed (fits m.frame.handlers label)
         (sym (can m label k)) (ap contexts (can m label k)))
 
-    commits_closed : (h : Handler) (hs : List Handler) → h ∷ hs ≡ opened m label ∷ m.frame.handlers → k.below ≡ m.below →
+    commits_closed : (h : Handler) (hs : List Handler) → h ∷ hs ≡ opened m label ∷ m.frame.handlers → k.below ≡ m.below
+        →
         Low m.who m.world m.state.clock In (ClosedBy does.Commit) (goes m.who m.world k.state k.state k.frame.life
         k.frame.locals (k.frame.stack ++ h.stack) (suc k.frame.place) hs k.below)
-    commits_closed h hs a b = rw (first_same a, rest_same a, b) (only_closed (fits m.frame.handlers (suc k.frame.place)) refl refl)
+    commits_closed h hs a b = rw (first_same a, rest_same a, b) (only_closed (fits m.frame.handlers (suc k.frame.place))
+        refl refl)
 
     undoes_closed : (h : Handler) (hs : List Handler) → h ∷ hs ≡ opened m label ∷ m.frame.handlers → k.below ≡ m.below →
         Low m.who m.world m.state.clock In (ClosedBy does.Undo) (goes m.who m.world k.state (restored h.memory k.state)
         k.frame.life k.frame.locals (k.frame.stack ++ h.stack) (suc k.frame.place) hs k.below)
-    undoes_closed h hs a b = rw (first_same a, rest_same a, b) (only_closed (fits m.frame.handlers (suc k.frame.place)) refl refl)
+    undoes_closed h hs a b = rw (first_same a, rest_same a, b) (only_closed (fits m.frame.handlers (suc k.frame.place))
+        refl refl)
 
     no_fewer : (ns : List Note) (hs : List Handler) → ns ≡ m.frame.life.noted → hs ≡ opened m label ∷ m.frame.handlers →
         ltn (kept_noted hs) (length ns) ≡ true → ⊥
@@ -101,7 +108,8 @@ module _ (m : Machine) (label : ℕ) where
         same_length : {i j : ℕ} → i ≡ j → j ≤ i
         same_length e = omega (arith, e)
 
-    top : Top m.who m.world m.state.clock m.frame.life.noted (opened m label ∷ m.frame.handlers) m.below ClosedBy k.state k.frame.life
+    top : Top m.who m.world m.state.clock m.frame.life.noted (opened m label ∷ m.frame.handlers) m.below ClosedBy
+        k.state k.frame.life
         k.frame.locals k.frame.stack k.frame.place k.frame.handlers k.below
     top = record {
       shut = λ ns a. refl;
@@ -124,7 +132,8 @@ within_more (stands l) = l
 within_more (goes_on l e p) = l
 
 -- only an operation goes on, or comes to the end of a turn
-pub next_op : (x : Option Op) (s : State) (go : Op → Step) {n : Machine} → on_there x s go ≡ Next n → (op : Op) × (x ≡ Some op)
+pub next_op : (x : Option Op) (s : State) (go : Op → Step) {n : Machine} → on_there x s go ≡ Next n → (op : Op) × (x ≡
+    Some op)
 next_op None s go e = absurd (no_next e)
   where
     no_next : {s : State} {n : Machine} → Over ending.Stuck s ≡ Next n → ⊥
@@ -166,7 +175,8 @@ low_turn (closes p) e = two_ways (sym p.goes_on ∙ e)
 module _ (since_none : NoneSince) (c : Code) (m : Machine) (label : ℕ) where
   -- as the machine k, whose task and world are those of the machine m
   abbrev here : Machine → Machine
-  here k = machine m.who m.world k.state k.frame.life k.frame.locals k.frame.stack k.frame.place k.frame.handlers k.below
+  here k = machine m.who m.world k.state k.frame.life k.frame.locals k.frame.stack k.frame.place k.frame.handlers
+      k.below
 
   is_here : (k : Machine) → InIt m label k → here k ≡ k
   is_here k i = rw (sym i.who, sym i.world) refl
@@ -174,15 +184,20 @@ module _ (since_none : NoneSince) (c : Code) (m : Machine) (label : ℕ) where
   operation_inside : (k : Machine) → InIt m label k → MachineRooted k → (op : Op) → op_at c k ≡ Some op →
       Low m.who m.world m.state.clock (In m label) (Closed m label (closed_by op m label k)) (step c k)
   operation_inside k i r op e =
-      subst (λ k. Low m.who m.world m.state.clock (In m label) (Closed m label (closed_by op m label k)) (step c k)) (is_here k i) at_op
+      subst (λ k. Low m.who m.world m.state.clock (In m label) (Closed m label (closed_by op m label k)) (step c k))
+      (is_here k i) at_op
     where
       rooted : WorldRooted k.state.clock.left m.who m.world
       rooted = subst (λ (k : Machine). WorldRooted k.state.clock.left k.who k.world) (sym (is_here k i)) r.world
 
-      at_op : Low m.who m.world m.state.clock (In m label) (Closed m label (closed_by op m label (here k))) (step c (here k))
-      at_op = rw e (act_low m.who m.world m.state.clock (In m label) (ClosedBy m label (here k)) k.state k.frame.life k.frame.locals
-          k.frame.stack k.frame.place k.frame.handlers k.below (site m.who m.world m.state.clock m.frame.life.noted (opened m label ∷
-          m.frame.handlers) m.below since_none (ClosedBy m label (here k)) k.state k.frame.life k.frame.locals k.frame.stack
+      at_op : Low m.who m.world m.state.clock (In m label) (Closed m label (closed_by op m label (here k))) (step c
+          (here k))
+      at_op = rw e (act_low m.who m.world m.state.clock (In m label) (ClosedBy m label (here k)) k.state k.frame.life
+          k.frame.locals
+          k.frame.stack k.frame.place k.frame.handlers k.below (site m.who m.world m.state.clock m.frame.life.noted
+          (opened m label ∷
+          m.frame.handlers) m.below since_none (ClosedBy m label (here k)) k.state k.frame.life k.frame.locals
+          k.frame.stack
           k.frame.place k.frame.handlers k.below i.clock i.frames rooted (top m label (here k))) c op)
 
   next_rooted : {k n : Machine} → MachineRooted k → step c k ≡ Next n → MachineRooted n
@@ -220,8 +235,10 @@ module _ (since_none : NoneSince) (c : Code) (m : Machine) (label : ℕ) where
           m.frame.handlers) m.below born ns [] → ⊥
       no_frame (of_top a b n) = no_none a
   failing_is s ls [] (f ∷ bl) r e =
-      failing_is s f.locals f.handlers bl (caller (under_it _ _ _ _ r)) (no_more e) ∙ ap (λ ls. goes m.who m.world s (restored
-      m.state.memory s) m.frame.life ls m.frame.stack label m.frame.handlers m.below) (sym (locals_under (Fresh m.who.path m.world)
+      failing_is s f.locals f.handlers bl (caller (under_it _ _ _ _ r)) (no_more e) ∙ ap (λ ls. goes m.who m.world s
+      (restored
+      m.state.memory s) m.frame.life ls m.frame.stack label m.frame.handlers m.below) (sym (locals_under (Fresh
+      m.who.path m.world)
       m.frame.life.noted (opened m label ∷ m.frame.handlers) m.below f bl ls (caller (under_it _ _ _ _ r))))
     where
       no_more : {i j : ℕ} → 0 + i ≡ j → i ≡ j
@@ -233,15 +250,18 @@ module _ (since_none : NoneSince) (c : Code) (m : Machine) (label : ℕ) where
       caller (called_by b x) = x
   failing_is s ls {born = born} {ns = ns} (h ∷ hs) bl r e = by_way (innermost _ _ _ _ r)
     where
-      by_way : Innermost (Fresh m.who.path m.world) m.frame.life.noted (opened m label ∷ m.frame.handlers) m.below h hs bl born ns →
+      by_way : Innermost (Fresh m.who.path m.world) m.frame.life.noted (opened m label ∷ m.frame.handlers) m.below h hs
+          bl born ns →
           failing m.who m.world s ls (h ∷ hs) bl ≡ goes m.who m.world s (restored m.state.memory s) m.frame.life
           (locals_above (length m.below) ls bl) m.frame.stack label m.frame.handlers m.below
       by_way (of_those a b) = rw (first_same a, rest_same a, b, locals_own ls m.below) refl
-      by_way (deeper k x) = absurd (lengthen (length hs) (open_in bl) (length m.frame.handlers) (open_in m.below) (more_open _ _ _ _ k) e)
+      by_way (deeper k x) = absurd (lengthen (length hs) (open_in bl) (length m.frame.handlers) (open_in m.below)
+          (more_open _ _ _ _ k) e)
 
   fail_here : (k : Machine) → InIt m label k → contexts k ≡ suc (contexts m) → op_at c k ≡ Some does.Fail →
       step c k ≡ only_where (fits m.frame.handlers label) k.state (Next (failed m label k))
-  fail_here k i e op = subst (λ k. step c k ≡ only_where (fits m.frame.handlers label) k.state (Next (failed m label k)))
+  fail_here k i e op = subst (λ k. step c k ≡ only_where (fits m.frame.handlers label) k.state (Next (failed m label
+      k)))
       (is_here k i) (rw op (failing_is k.state k.frame.locals k.frame.handlers k.below i.frames e))
 
   fewer_open : (a b : ℕ) {d : ℕ} → suc a + b ≤ d → d ≤ a + b → ⊥
@@ -258,7 +278,8 @@ module _ (since_none : NoneSince) (c : Code) (m : Machine) (label : ℕ) where
     fails = λ e op. fail_here k i e op;
   }
     where
-      by_way : {z n : Machine} → contexts n ≤ contexts m → InIt m label n ⊎ ((n ≡ z) × (contexts z ≡ contexts m)) → n ≡ z
+      by_way : {z n : Machine} → contexts n ≤ contexts m → InIt m label n ⊎ ((n ≡ z) × (contexts z ≡ contexts m)) → n ≡
+          z
       by_way l (inl x) = absurd (fewer_open (length m.frame.handlers) (open_in m.below) (more_open _ _ _ _ x.frames) l)
       by_way l (inr x) = x.0
 
@@ -270,12 +291,15 @@ module _ (since_none : NoneSince) (c : Code) (m : Machine) (label : ℕ) where
 
   -- the machine behind the Try
   abbrev tried : Machine
-  tried = machine m.who m.world m.state m.frame.life m.frame.locals [] (suc m.frame.place) (opened m label ∷ m.frame.handlers)
+  tried = machine m.who m.world m.state m.frame.life m.frame.locals [] (suc m.frame.place) (opened m label ∷
+      m.frame.handlers)
       m.below
 
   is_tried : {j : Machine} → op_at c m ≡ Some (does.Try label) → step c m ≡ Next j → tried ≡ j
-  is_tried {j = j} op e = only_next (fits (opened m label ∷ m.frame.handlers) (suc m.frame.place)) m.state (subst (λ x. on_there x
-      m.state (λ op. act c op m.who m.world m.state m.frame.life m.frame.locals m.frame.stack m.frame.place m.frame.handlers m.below)
+  is_tried {j = j} op e = only_next (fits (opened m label ∷ m.frame.handlers) (suc m.frame.place)) m.state (subst (λ x.
+      on_there x
+      m.state (λ op. act c op m.who m.world m.state m.frame.life m.frame.locals m.frame.stack m.frame.place
+      m.frame.handlers m.below)
       ≡ Next j) op e)
 
   begins_inside : {j : Machine} → op_at c m ≡ Some (does.Try label) → step c m ≡ Next j → InIt m label j
@@ -311,7 +335,8 @@ main_rooted ns steps (Some f) = main_roots ns steps f
 start_rooted : {c : Code} {ns : List ℤ} {steps until : ℕ} {q : Step} → Begins c ns steps until q → StepRooted q
 start_rooted {c = c} {ns = ns} {steps = steps} main = main_rooted ns steps (slice_get c.functions c.main)
 start_rooted {c = c} {ns = ns} {steps = steps} {until = until} (woken k left s tss due e d h l) =
-    woken_roots due.number due.given.value _ tss (trees_less tss (one_less l) (subst StageRooted e (run_roots c ns steps until k)))
+    woken_roots due.number due.given.value _ tss (trees_less tss (one_less l) (subst StageRooted e (run_roots c ns steps
+    until k)))
 
 pub comes_rooted : {c : Code} {q r : Step} → Comes c q r → StepRooted q → StepRooted r
 comes_rooted at_once r = r

@@ -8,7 +8,8 @@ use Rattle.verse_value.specs.Val.{Val}
 use Rattle.verse_value.specs.declared.runs.Ending.TheVariants as ending
 use Rattle.verse_meaning_state.specs.State.{State, Clock}
 use Rattle.verse_meaning_state.specs.Waits.{ltn}
-use Rattle.verse_code_machine.specs.Tasks.{Handler, Frame, Note, gone, Who, Task, After, World, Machine, Step, Over, machine}
+use Rattle.verse_code_machine.specs.Tasks.{Handler, Frame, Note, gone, Who, Task, After, World, Machine, Step, Over}
+use Rattle.verse_code_machine.specs.Tasks.{machine}
 use Rattle.verse_code_machine.specs.Frames.{goes, failing, clean, nothing, kept_noted, free}
 use Rattle.verse_code_machine.specs.Cancelling.{clears_frames, clears}
 use Rattle.verse_code_machine.specs.Ends.{follows, cleared}
@@ -68,7 +69,8 @@ module _ (c : Code) (after : After) (o : World) (w : Who) (fs : List Frame) (ts 
   pub record BlockEnds (k : Machine) (op : Op) (q : Step) : Type 0 where
     pub ends : op ≡ does.DeferEnd
     pub below : k.below ≡ fs
-    pub next : q ≡ clears_frames (λ s. clears (follows after) after ts o s) w (clearing_world c after o ts) k.state (left_by c after o k
+    pub next : q ≡ clears_frames (λ s. clears (follows after) after ts o s) w (clearing_world c after o ts) k.state
+        (left_by c after o k
         ∷ fs)
 
   pub of_task : {k : Machine} → InBlock k → OfTask c after o w fs ts k
@@ -90,14 +92,18 @@ module _ (c : Code) (after : After) (o : World) (w : Who) (fs : List Frame) (ts 
         ltn (kept_noted k.frame.handlers) (suc (length ns)) ≡ true →
         Is does.DeferEnd (on_note y (λ q. goes w (clearing_world c after o ts) k.state k.state (record k.frame.life {
           noted = ns;
-        }) k.frame.locals k.frame.stack q k.frame.handlers k.below) (clears_frames (λ s. cleared (clearing_world c after o ts).ups
-        (clearing_world c after o ts).pre (clearing_world c after o ts).post (clearing_world c after o ts).trees s) w (clearing_world
-        c after o ts) k.state (frame (record k.frame.life { noted = ns }) k.frame.locals k.frame.stack k.frame.place k.frame.handlers
+        }) k.frame.locals k.frame.stack q k.frame.handlers k.below) (clears_frames (λ s. cleared (clearing_world c after
+        o ts).ups
+        (clearing_world c after o ts).pre (clearing_world c after o ts).post (clearing_world c after o ts).trees s) w
+        (clearing_world
+        c after o ts) k.state (frame (record k.frame.life { noted = ns }) k.frame.locals k.frame.stack k.frame.place
+        k.frame.handlers
         ∷ k.below)))
     defer_ends_here y ns n a b e =
         closes (record { ends = refl; below = b; next = rw (is_gone n, is_last n, b) refl })
 
-    top : Top w (clearing_world c after o ts) start (gone ∷ []) [] fs (BlockEnds k) k.state k.frame.life k.frame.locals k.frame.stack
+    top : Top w (clearing_world c after o ts) start (gone ∷ []) [] fs (BlockEnds k) k.state k.frame.life k.frame.locals
+        k.frame.stack
         k.frame.place k.frame.handlers k.below
     top = record {
       shut = not_free fs;
@@ -111,13 +117,15 @@ module _ (c : Code) (after : After) (o : World) (w : Who) (fs : List Frame) (ts 
 
   -- as the machine k, whose task and world are these
   abbrev here : Machine → Machine
-  here k = machine w (clearing_world c after o ts) k.state k.frame.life k.frame.locals k.frame.stack k.frame.place k.frame.handlers
+  here k = machine w (clearing_world c after o ts) k.state k.frame.life k.frame.locals k.frame.stack k.frame.place
+      k.frame.handlers
       k.below
 
   is_here : (k : Machine) → InBlock k → here k ≡ k
   is_here k i = rw (sym i.who, sym i.world) refl
 
-  pub operation_in_block : NoneSince → AllFree fs → (k : Machine) → InBlock k → MachineRooted k → (op : Op) → op_at c k ≡ Some op →
+  pub operation_in_block : NoneSince → AllFree fs → (k : Machine) → InBlock k → MachineRooted k → (op : Op) → op_at c k
+      ≡ Some op →
       Low w (clearing_world c after o ts) start In (BlockEnds k op) (step c k)
   operation_in_block since_none all_free k i r op e =
       subst (λ k. Low w (clearing_world c after o ts) start In (BlockEnds k op) (step c k)) (is_here k i) at_op
@@ -126,7 +134,10 @@ module _ (c : Code) (after : After) (o : World) (w : Who) (fs : List Frame) (ts 
       rooted = subst (λ (k : Machine). WorldRooted k.state.clock.left k.who k.world) (sym (is_here k i)) r.world
 
       at_op : Low w (clearing_world c after o ts) start In (BlockEnds (here k) op) (step c (here k))
-      at_op = rw e (act_low w (clearing_world c after o ts) start In (BlockEnds (here k)) k.state k.frame.life k.frame.locals
-          k.frame.stack k.frame.place k.frame.handlers k.below (site w (clearing_world c after o ts) start (gone ∷ []) [] fs since_none
-          (BlockEnds (here k)) k.state k.frame.life k.frame.locals k.frame.stack k.frame.place k.frame.handlers k.below i.clock i.frames
+      at_op = rw e (act_low w (clearing_world c after o ts) start In (BlockEnds (here k)) k.state k.frame.life
+          k.frame.locals
+          k.frame.stack k.frame.place k.frame.handlers k.below (site w (clearing_world c after o ts) start (gone ∷ [])
+          [] fs since_none
+          (BlockEnds (here k)) k.state k.frame.life k.frame.locals k.frame.stack k.frame.place k.frame.handlers k.below
+          i.clock i.frames
           rooted (top all_free (here k))) c op)

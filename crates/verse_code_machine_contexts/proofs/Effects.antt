@@ -9,7 +9,8 @@ use Rattle.verse_value.specs.Answer.{Answer, gives, fails, error, stuck}
 use Rattle.verse_value.specs.Storing.{read_slot, add_cell, write_slot}
 use Rattle.verse_value.specs.declared.modes.Mode.{Mode}
 use Rattle.verse_meaning_state.specs.State.{State}
-use Rattle.verse_meaning_state.specs.Effects.{Effect, still, added, made, slot_read, changed, slot_written, text_printed}
+use Rattle.verse_meaning_state.specs.Effects.{Effect, still, added, made, slot_read, changed, slot_written}
+use Rattle.verse_meaning_state.specs.Effects.{text_printed}
 use Rattle.verse_meaning_state.specs.Effects.{line_printed}
 
 module _ (s : State) where

@@ -21,9 +21,11 @@ use Rattle.verse_code_machine_parents.proofs.Lists.{no_both}
 use Rattle.verse_code_machine_parents.proofs.Leaving.{each_onto}
 use Rattle.verse_code_machine_parents.proofs.Running.{operation_roots}
 use Rattle.verse_code_machine_contexts.specs.Runs.{Comes}
-use Rattle.verse_code_machine_contexts.specs.Scopes.{EndsFrame, returns as frame_returns, finishes, ends as arm_ends, begun_by, ScopeEnds}
+use Rattle.verse_code_machine_contexts.specs.Scopes.{EndsFrame, returns as frame_returns, finishes, ends as arm_ends}
+use Rattle.verse_code_machine_contexts.specs.Scopes.{begun_by, ScopeEnds}
 use Rattle.verse_code_machine_contexts.specs.Scopes.{ScopesEnd}
-use Rattle.verse_code_machine_contexts.specs.Races.{Joins, beginning, standing, ArmEnds, RaceEnds, RacesCancel, RushesLeave}
+use Rattle.verse_code_machine_contexts.specs.Races.{Joins, beginning, standing, ArmEnds, RaceEnds, RacesCancel}
+use Rattle.verse_code_machine_contexts.specs.Races.{RushesLeave}
 use Rattle.verse_code_machine_contexts.proofs.Contexts.{comes_rooted, run_rooted}
 use Rattle.verse_code_machine_contexts.proofs.Cancels.{each_without, cancels_all}
 use Rattle.verse_code_machine_contexts.proofs.Names.{names_begun, names_beneath}
@@ -42,13 +44,16 @@ cleanly g s q r e = by_test (nothing g.defers g.noted)
     by_test false = inl refl
 
 returns_so : (w : Who) (o : World) (born : ℕ) (v : Val) (s : State) (hs : List Handler) (f : Frame) (fs : List Frame) →
-    OrStuck (returns w o born v s hs (f ∷ fs)) s (cancels (follows (resuming (thread w f fs) v)) (resuming (thread w f fs) v) (since
+    OrStuck (returns w o born v s hs (f ∷ fs)) s (cancels (follows (resuming (thread w f fs) v)) (resuming (thread w f
+    fs) v) (since
     w.path born) o s)
 returns_so w o born v s (h ∷ hs) f fs = inl refl
 returns_so w o born v s [] f fs = inr refl
 
-finishes_so : (w : Who) (o : World) (born : ℕ) (v : Val) (s : State) (hs : List Handler) (entry : Option ℕ) → w.role ≡ root entry →
-    OrStuck (returns w o born v s hs []) s (cancels (follows (finishing w entry v)) (finishing w entry v) (since w.path born) o s)
+finishes_so : (w : Who) (o : World) (born : ℕ) (v : Val) (s : State) (hs : List Handler) (entry : Option ℕ) → w.role ≡
+    root entry →
+    OrStuck (returns w o born v s hs []) s (cancels (follows (finishing w entry v)) (finishing w entry v) (since w.path
+    born) o s)
 finishes_so w o born v s (h ∷ hs) entry e = inl refl
 finishes_so w o born v s [] entry e = inr (ap (λ r. returns_role r w o born v s) e)
 
@@ -59,20 +64,24 @@ ends_so w o born v s [] e = inr (rw e refl)
 
 frame_ends : {c : Code} {m : Machine} {a : After} → EndsFrame c m a →
     OrStuck (step c m) m.state (cancels (follows a) a (begun_by m) m.world m.state)
-frame_ends {m = m} (frame_returns f fs v st op b e) = rw (op, e) (cleanly m.frame.life m.state _ _ (rw b (returns_so m.who m.world
+frame_ends {m = m} (frame_returns f fs v st op b e) = rw (op, e) (cleanly m.frame.life m.state _ _ (rw b (returns_so
+    m.who m.world
     m.frame.life.born v m.state m.frame.handlers f fs)))
-frame_ends {m = m} (finishes entry v st op b r e) = rw (op, e) (cleanly m.frame.life m.state _ _ (rw b (finishes_so m.who m.world
+frame_ends {m = m} (finishes entry v st op b r e) = rw (op, e) (cleanly m.frame.life m.state _ _ (rw b (finishes_so
+    m.who m.world
     m.frame.life.born v m.state m.frame.handlers entry r)))
 frame_ends {m = m} (arm_ends v st op b r e) = rw (op, e) (cleanly m.frame.life m.state _ _ (rw b (ends_so m.who m.world
     m.frame.life.born v m.state m.frame.handlers r)))
 
-scope_ends : NoneSince → (c : Code) (m : Machine) (a : After) → MachineRooted m → EndsFrame c m a → (r : Step) → Comes c (step c m) r →
+scope_ends : NoneSince → (c : Code) (m : Machine) (a : After) → MachineRooted m → EndsFrame c m a → (r : Step) → Comes c
+    (step c m) r →
     ScopeEnds c a m r
 scope_ends since_none c m a rooted over r p = by_way (frame_ends over)
   where
     by_way : OrStuck (step c m) m.state (cancels (follows a) a (begun_by m) m.world m.state) → ScopeEnds c a m r
     by_way (inl e) = inl e
-    by_way (inr e) = inr (cancels_all since_none c a (begun_by m) m.world m.state rooted.world.pre rooted.world.post (subst StepRooted
+    by_way (inr e) = inr (cancels_all since_none c a (begun_by m) m.world m.state rooted.world.pre rooted.world.post
+        (subst StepRooted
         e (operation_roots c m rooted)) r (subst (λ q. Comes c q r) e p))
 
 pub scopes_end : NoneSince → ScopesEnd
@@ -105,21 +114,25 @@ joins_value {v = v} (beginning k p gs n ls x us e) = last_did gs v
 joins_value {w = w} {v = v} (standing k p gs y ts post e b others is rest arm) = one_did w.number v gs arm
 
 -- the parent among the tasks behind
-climbs_to : (up : List ℕ) (n : ℕ) (v : Val) (pre ts : List Task) (y : Task) (post : List Task) (trees : Trees) (s : State) →
+climbs_to : (up : List ℕ) (n : ℕ) (v : Val) (pre ts : List Task) (y : Task) (post : List Task) (trees : Trees) (s :
+    State) →
     EachTask (λ t. same_path up t.thread.who.path ≡ false) ts → same_path up y.thread.who.path ≡ true →
     climbs up n v pre (ts ++ y ∷ post) trees s ≡ joined n v y.rest y (onto ts pre) post trees s
 climbs_to up n v pre [] y post trees s a e = rw e refl
 climbs_to up n v pre (t ∷ ts) y post trees s a e = rw a.0 (climbs_to up n v (t ∷ pre) ts y post trees s a.1 e)
 
-race_step : {w : Who} {v : Val} {o q : World} {x : Thread} {gs : List Part} {ls : List ℕ} (u : State) (value : Val) → w.role ≡ part →
+race_step : {w : Who} {v : Val} {o q : World} {x : Thread} {gs : List Part} {ls : List ℕ} (u : State) (value : Val) →
+    w.role ≡ part →
     Joins w v o first_of x gs ls q → first_did gs ≡ Some value →
     follows (closing w v) o u ≡ cancels (follows (resuming x value)) (resuming x value) (beneath_arms x.who.path gs) q u
 race_step u value r (beginning _ p gs n ls x us e) h = rw (r, e, h) refl
 race_step {w = w} {v = v} {o = o} u value r (standing _ p gs y ts post e b others is rest arm) h =
     rw (r, e, b) (climbs_to w.up w.number v o.pre ts y post o.trees u others is ∙ rw (rest, arm, h) refl)
 
-rush_step : {w : Who} {v : Val} {o q : World} {x : Thread} {gs : List Part} {ls : List ℕ} (u : State) (value : Val) → w.role ≡ part →
-    Joins w v o rush_of x gs ls q → ls ≡ [] → first_did gs ≡ Some value → follows (closing w v) o u ≡ resumes x value q u
+rush_step : {w : Who} {v : Val} {o q : World} {x : Thread} {gs : List Part} {ls : List ℕ} (u : State) (value : Val) →
+    w.role ≡ part →
+    Joins w v o rush_of x gs ls q → ls ≡ [] → first_did gs ≡ Some value → follows (closing w v) o u ≡ resumes x value q
+    u
 rush_step u value r (beginning _ p gs n ls x us e) l h = rw (r, e, l, h) refl
 rush_step {w = w} {v = v} {o = o} u value r (standing _ p gs y ts post e b others is rest arm) l h =
     rw (r, e, b) (climbs_to w.up w.number v o.pre ts y post o.trees u others is ∙ rw (rest, arm, h) refl)
@@ -129,7 +142,8 @@ each_parts : (are : Task → Type 0) (ts : List Task) (y : Task) (post : List Ta
 each_parts are [] y post a = (tt, a.1)
 each_parts are (t ∷ ts) y post a = let r = each_parts are ts y post a.1 in ((a.0, r.0), r.1)
 
-joins_still : {w : Who} {v : Val} {o q : World} {k : Kind} {x : Thread} {gs : List Part} {ls : List ℕ} → Joins w v o k x gs ls q →
+joins_still : {w : Who} {v : Val} {o q : World} {k : Kind} {x : Thread} {gs : List Part} {ls : List ℕ} → Joins w v o k x
+    gs ls q →
     AllStill o.pre → AllStill o.post → AllStill q.pre × AllStill q.post
 joins_still (beginning k p gs n ls x us e) a b = (a, b)
 joins_still {o = o} (standing k p gs y ts post e f others is rest arm) a b =
@@ -147,14 +161,17 @@ closing_role e = parts e refl
     parts (finishes entry v st op b r e) h = cc
     parts (arm_ends v st op b r e) h = r
 
-race_ends : NoneSince → (c : Code) (m : Machine) (v : Val) (u : State) → MachineRooted m → ArmEnds c m v u → (x : Thread)
-    (gs : List Part) (ls : List ℕ) (o : World) → Joins m.who v (world_without (begun_by m) m.world) first_of x gs ls o → (r : Step) →
+race_ends : NoneSince → (c : Code) (m : Machine) (v : Val) (u : State) → MachineRooted m → ArmEnds c m v u → (x :
+    Thread)
+    (gs : List Part) (ls : List ℕ) (o : World) → Joins m.who v (world_without (begun_by m) m.world) first_of x gs ls o →
+    (r : Step) →
     Comes c (follows (closing m.who v) (world_without (begun_by m) m.world) u) r → RaceEnds c x gs o u r
 race_ends since_none c m v u rooted arm x gs ls o joins r p = record {
   value = value.0;
   first = value.1;
   names = names_beneath x.who.path gs;
-  cancels = cancels_all since_none c (resuming x value.0) (beneath_arms x.who.path gs) o u still.0 still.1 (subst StepRooted steps
+  cancels = cancels_all since_none c (resuming x value.0) (beneath_arms x.who.path gs) o u still.0 still.1 (subst
+      StepRooted steps
       (comes_rooted arm.comes (operation_roots c m rooted))) r (subst (λ q. Comes c q r) steps p);
 }
   where
@@ -162,10 +179,12 @@ race_ends since_none c m v u rooted arm x gs ls o joins r p = record {
     value = joins_value joins
 
     still : AllStill o.pre × AllStill o.post
-    still = joins_still joins (each_without (λ t. Still t.thread) (begun_by m) m.world.pre rooted.world.pre) (each_without (λ t. Still
+    still = joins_still joins (each_without (λ t. Still t.thread) (begun_by m) m.world.pre rooted.world.pre)
+        (each_without (λ t. Still
         t.thread) (begun_by m) m.world.post rooted.world.post)
 
-    steps : follows (closing m.who v) (world_without (begun_by m) m.world) u ≡ cancels (follows (resuming x value.0)) (resuming x
+    steps : follows (closing m.who v) (world_without (begun_by m) m.world) u ≡ cancels (follows (resuming x value.0))
+        (resuming x
         value.0) (beneath_arms x.who.path gs) o u
     steps = race_step u value.0 (closing_role arm.ends) joins value.1
 

@@ -1,6 +1,8 @@
--- The frames of a task since a moment: the one that then was on top, and those that were called since. Of that frame it is
+-- The frames of a task since a moment: the one that then was on top, and those that were called since. Of that frame it
+-- is
 -- said which notes and contexts it had, of the others that they began since.
-use Rattle.std.proofs.Common.{◌≡◌, ℕ, zero, suc, ◌+◌, ◌≤◌, ◌<◌, length, List, [], ◌∷◌, ◌++◌, ◌⊎◌, inl, inr, Bool, true, false}
+use Rattle.std.proofs.Common.{◌≡◌, ℕ, zero, suc, ◌+◌, ◌≤◌, ◌<◌, length, List, [], ◌∷◌, ◌++◌, ◌⊎◌, inl, inr, Bool, true}
+use Rattle.std.proofs.Common.{false}
 use Rattle.std.proofs.Common.{refl, sym, subst, arith, ap}
 use Rattle.verse_value.specs.Val.{Val}
 use Rattle.verse_meaning_state.specs.Waits.{eqn, ltn}
@@ -107,7 +109,8 @@ module _ (fresh : ℕ → Type 0) (base : List Note) (root : List Handler) (unde
 
   -- ---- the task is not free
 
-  not_free_own : {hs : List Handler} {ns : List Note} → ((ns : List Note) → Notes base ns → free root ns under ≡ false) →
+  not_free_own : {hs : List Handler} {ns : List Note} → ((ns : List Note) → Notes base ns → free root ns under ≡ false)
+      →
       Notes base ns → Holds base root hs → free hs ns under ≡ false
   not_free_own {ns = ns} n a (its e) = rw e (n ns a)
   not_free_own n a (inner b h) = refl
@@ -135,7 +138,8 @@ module _ (fresh : ℕ → Type 0) (base : List Note) (root : List Handler) (unde
   no_fewer h hs a e l = not_less (notes_longer a) (as_many (ap length e)) l
 
   own_fewer : {born : ℕ} {y : Note} {ns : List Note} {hs : List Handler} {bl : List Frame} → bl ≡ under →
-      Holds base root hs → ltn (kept_noted hs) (length (y ∷ ns)) ≡ true → (IsPlace y × Notes base ns) ⊎ (y ∷ ns ≡ base) →
+      Holds base root hs → ltn (kept_noted hs) (length (y ∷ ns)) ≡ true → (IsPlace y × Notes base ns) ⊎ (y ∷ ns ≡ base)
+      →
       (IsPlace y × Is born ns hs bl) ⊎ AsItWas (y ∷ ns) hs bl
   own_fewer e h l (inl n) = inl (n.0, own e n.1 h)
   own_fewer e (its i) l (inr n) = inr (record { notes = n; holds = i; below = e })
@@ -234,5 +238,8 @@ module _ (f : List ℕ → Bool) where
 
   pub none_cancelled : (o : World) → None (o.pre ++ o.post) → (cancelled f o ≡ []) × (world_without f o ≡ o)
   none_cancelled o a =
-      let r = both o.pre o.post a in
-      (rw (none_before o.pre r.0, none_behind o.post r.1) refl, rw (none_without o.pre r.0, none_without o.post r.1) refl)
+      let r = both o.pre o.post a in (
+        rw (none_before o.pre r.0, none_behind o.post r.1) refl,
+        rw (none_without o.pre r.0, none_without o.post r.1)
+            refl,
+      )

@@ -58,7 +58,8 @@ starts_is [] n (j ∷ x) e = (x, one_more (eqn_is n j (both_true (eqn n j) true 
 starts_is (i ∷ a) n [] e = no_both (sym e)
 starts_is (i ∷ a) n (j ∷ x) e = longer (both_true (eqn i j) (starts (a ++ n ∷ []) x) e) (starts_is a n x)
   where
-    longer : (eqn i j ≡ true) × (starts (a ++ n ∷ []) x ≡ true) → (starts (a ++ n ∷ []) x ≡ true → (rest : List ℕ) × (x ≡ a ++
+    longer : (eqn i j ≡ true) × (starts (a ++ n ∷ []) x ≡ true) → (starts (a ++ n ∷ []) x ≡ true → (rest : List ℕ) × (x
+        ≡ a ++
         n ∷ rest)) → (rest : List ℕ) × (j ∷ x ≡ i ∷ (a ++ n ∷ rest))
     longer b go = let r = go b.1 in (r.0, one_more (eqn_is i j b.0) r.1)
 
@@ -75,22 +76,30 @@ beneath_is path [] x e = no_both (sym e)
 beneath_is path (did v ∷ gs) x e = let r = beneath_is path gs x e in
     record { number = r.number; rest = r.rest; is_arm = r.is_arm; beneath = r.beneath }
 beneath_is path (runs n ∷ gs) x e =
-    cond_with (starts (path ++ n ∷ []) x) true (beneath_arms path gs x) (λ b. b ≡ true → BeneathArm path (runs n ∷ gs) x)
+    cond_with (starts (path ++ n ∷ []) x) true (beneath_arms path gs x) (λ b. b ≡ true → BeneathArm path (runs n ∷ gs)
+    x)
     (λ h i. first (starts_is path n x h)) (λ h i. later (beneath_is path gs x i)) e
   where
     first : (rest : List ℕ) × (x ≡ path ++ n ∷ rest) → BeneathArm path (runs n ∷ gs) x
     first r = record { number = n; rest = r.0; is_arm = rw (eqn_same n) refl; beneath = r.1 }
 
     later : BeneathArm path gs x → BeneathArm path (runs n ∷ gs) x
-    later r = record { number = r.number; rest = r.rest; is_arm = later_arm r.number n gs r.is_arm; beneath = r.beneath }
+    later r = record {
+      number = r.number;
+      rest = r.rest;
+      is_arm = later_arm r.number n gs r.is_arm;
+      beneath = r.beneath;
+    }
 
 beneath_all : (path : List ℕ) (gs : List Part) (n : ℕ) (rest : List ℕ) → is_run n gs ≡ true →
     beneath_arms path gs (path ++ n ∷ rest) ≡ true
 beneath_all path [] n rest e = no_both (sym e)
 beneath_all path (did v ∷ gs) n rest e = beneath_all path gs n rest e
 beneath_all path (runs m ∷ gs) n rest e =
-    cond_with (eqn n m) true (is_run n gs) (λ b. b ≡ true → beneath_arms path (runs m ∷ gs) (path ++ n ∷ rest) ≡ true) (λ h i.
-    first (eqn_is n m h)) (λ h i. cond_with (starts (path ++ m ∷ []) (path ++ n ∷ rest)) true (beneath_arms path gs (path ++ n ∷
+    cond_with (eqn n m) true (is_run n gs) (λ b. b ≡ true → beneath_arms path (runs m ∷ gs) (path ++ n ∷ rest) ≡ true)
+    (λ h i.
+    first (eqn_is n m h)) (λ h i. cond_with (starts (path ++ m ∷ []) (path ++ n ∷ rest)) true (beneath_arms path gs
+    (path ++ n ∷
     rest)) (λ b. b ≡ true) (λ j. refl) (λ j. beneath_all path gs n rest i)) e
   where
     first : n ≡ m → beneath_arms path (runs m ∷ gs) (path ++ n ∷ rest) ≡ true
@@ -99,5 +108,6 @@ beneath_all path (runs m ∷ gs) n rest e =
 pub names_beneath : (path : List ℕ) (gs : List Part) → NamesBeneath path gs
 names_beneath path gs = record {
   are = beneath_is path gs;
-  all = λ x b. subst (λ x. beneath_arms path gs x ≡ true) (sym b.beneath) (beneath_all path gs b.number b.rest b.is_arm);
+  all = λ x b. subst (λ x. beneath_arms path gs x ≡ true) (sym b.beneath) (beneath_all path gs b.number b.rest
+      b.is_arm);
 }

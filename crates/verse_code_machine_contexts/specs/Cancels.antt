@@ -95,10 +95,10 @@ module _ (c : Code) (after : After) (o : World) where
           s.clock.left ≡ suc left → Runs w fs ts (block w f ds d fs ts (stepped left s)) n →
           step c n ≡ Over e u → CancelsFrames w (f ∷ fs) ts s (within (Over e u))
 
--- The tasks of such names have been cancelled, and what waits for that has gone on to the step r: from
--- their deferred blocks alone, in a world without them.
-pub record WentOn (c : Code) (after : After) (f : List ℕ → Bool) (o : World) (s : State) (r : Step) :
-    Type 0 where
+-- The tasks of such names have been cancelled, and what waits for that has gone on to the step r:
+-- from their deferred blocks alone, in a world without them.
+pub record WentOn (c : Code) (after : After) (f : List ℕ → Bool) (o : World) (s : State)
+    (r : Step) : Type 0 where
   pub state : State
   pub clock : StepsAlone s.clock state.clock
   pub blocks : CancelsTasks c after (world_without f o) (cancelled f o) s (through state)

@@ -40,8 +40,8 @@ abbrev pub locals_above : ℕ → List Val → List Frame → List Val
 locals_above n ls [] = ls
 locals_above n ls (f ∷ fs) = cond (eqn n (suc (length fs))) ls (locals_above n f.locals fs)
 
--- The machine m of a Try, with the memory that it had then, at the label. Of the machine k, in which
--- an operation fails, it has the clock and what the frame's locals are now.
+-- The machine m of a Try, with the memory that it had then, at the label. Of the machine k, in
+-- which an operation fails, it has the clock and what the frame's locals are now.
 abbrev pub failed : Machine → (label : ℕ) → Machine → Machine
 failed m label k = record {
   who = m.who;

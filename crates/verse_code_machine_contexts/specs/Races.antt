@@ -17,8 +17,8 @@ use Rattle.verse_code_machine_contexts.specs.Runs.{Comes, InRun}
 use Rattle.verse_code_machine_contexts.specs.Cancels.{Cancels}
 use Rattle.verse_code_machine_contexts.specs.Scopes.{EndsFrame, begun_by}
 
--- The arm w of a group has ended with a value, in the world o. Its parent x, the arms with that value,
--- the labels of those that have not begun, and the world in which the parent would go on.
+-- The arm w of a group has ended with a value, in the world o: its parent x, the arms with that
+-- value, the labels of those that have not begun, and the world in which the parent would go on.
 pub data Joins (w : Who) (v : Val) (o : World) : Kind → Thread → List Part → List ℕ → World → Type 0
   where
     -- the parent still begins its arms
@@ -69,8 +69,8 @@ RacesCancel = (c : Code) (ns : List ℤ) (steps until : ℕ) (m : Machine) →
     Comes c (follows (closing m.who v) (world_without (begun_by m) m.world) u) r →
     RaceEnds c x gs o u r
 
--- In every run: where an arm of a rush has ended, and all have begun, the parent goes on at once, and
--- every task stays.
+-- In every run: where an arm of a rush has ended, and all have begun, the parent goes on at once,
+-- and every task stays.
 abbrev pub RushesLeave : Type 0
 RushesLeave = (c : Code) (ns : List ℤ) (steps until : ℕ) (m : Machine) →
     InRun c ns steps until m → (v : Val) (u : State) → ArmEnds c m v u →

@@ -11,8 +11,8 @@ use Rattle.verse_code_machine.specs.Runs.{step}
 use Rattle.verse_code_machine_contexts.specs.Runs.{op_at, Comes, InRun}
 use Rattle.verse_code_machine_contexts.specs.Cancels.{Cancels}
 
--- The operation ends the frame on top with a value. Then the frame below goes on, or an arm or a task
--- behind is over, or a task of its own.
+-- The operation ends the frame on top with a value. Then the frame below goes on, or an arm or a
+-- task behind is over, or a task of its own.
 pub data EndsFrame (c : Code) (m : Machine) : After → Type 0 where
   returns : (f : Frame) (fs : List Frame) (v : Val) (st : List Val) →
       op_at c m ≡ Some does.Return → m.below ≡ f ∷ fs → m.frame.stack ≡ v ∷ st →
