@@ -68,6 +68,18 @@ step_spent k l left a e = record {
     sums : {n : ℕ} (s : ℕ) → l.left + s ≡ n → left + suc s ≡ n
     sums s h = omega (arith, h, e)
 
+-- an operation that leaves the task, or that no task with an open context may do
+pub data Leaves : Op → Type 0 where
+  sleep : {n : _} → Leaves (does.Sleep n)
+  forever : Leaves does.Forever
+  await_task : Leaves does.AwaitTask
+  await_event : Leaves does.AwaitEvent
+  signal : Leaves does.Signal
+  spawn : {n : _} → Leaves (does.Spawn n)
+  spawn_method : {n m : _} → Leaves (does.SpawnMethod n m)
+  group : {k n p : _} → Leaves (does.Group k n p)
+  branch : {l : _} → Leaves (does.Branch l)
+
 -- an operation that may fail
 abbrev pub CanFail : Op → Type 0
 CanFail op = (m : Machine) (label : ℕ) (k : Machine) → closed_by op m label k ≡ failed m label k
@@ -159,7 +171,7 @@ module _ (w : Who) (o : World) (start : Clock) (F : ℕ → List Note → List H
       Type 0 where
     pub clock : StepsAlone start s.clock
     pub frames : F g.born g.noted hs bl
-    pub shut : free hs g.noted bl ≡ false
+    pub leaving : (c : Code) {op : Op} → Leaves op → Is (P op) (act c op w o s g ls st pc hs bl)
     pub opens : (h : Handler) → h.life ≡ g → F g.born g.noted (h ∷ hs) bl
     pub notes : (q : ℕ) → F g.born (to q ∷ g.noted) hs bl
     pub calls : (l : ℕ) (ls st : List Val) (q : ℕ) (f : Func) (vs : List Val) → suc l ≡ s.clock.left →
@@ -219,9 +231,6 @@ module _ (w : Who) (o : World) (start : Clock) (F : ℕ → List Note → List H
                 }) ls st q hs bl)))))
             defer_here [] = over
             defer_here (q ∷ ds) = only_low Q (fits hs q) s _ (spent_here _ (λ u e. stays (inside e (at.notes pc))))
-
-        shut_here : (q : Step) → Is Q (only_where (free hs g.noted bl) s q)
-        shut_here q = rw at.shut over
 
       module _ (op : Op) (can : CanFail op) where
         answered_here : (p : Option Place) (a : Effect) (st : List Val) → KeepsClock s a →
@@ -334,16 +343,16 @@ module _ (w : Who) (o : World) (start : Clock) (F : ℕ → List Note → List H
       act_low c (does.Print p) =
           top_low _ st s _ (λ v st. answered_here _ (λ m l k. refl) (place_at c p) (line_printed v s) st (printed_keeps
           s v))
-      act_low c (does.Sleep n) = shut_here _ _
-      act_low c does.Forever = shut_here _ _
-      act_low c does.AwaitTask = shut_here _ _
-      act_low c does.AwaitEvent = shut_here _ _
-      act_low c does.Signal = shut_here _ _
-      act_low c (does.Spawn n) = shut_here _ _
-      act_low c (does.SpawnMethod n k) = shut_here _ _
-      act_low c (does.Group k n p) = shut_here _ _
+      act_low c (does.Sleep n) = at.leaving c sleep
+      act_low c does.Forever = at.leaving c forever
+      act_low c does.AwaitTask = at.leaving c await_task
+      act_low c does.AwaitEvent = at.leaving c await_event
+      act_low c does.Signal = at.leaving c signal
+      act_low c (does.Spawn n) = at.leaving c spawn
+      act_low c (does.SpawnMethod n k) = at.leaving c spawn_method
+      act_low c (does.Group k n p) = at.leaving c group
       act_low c (does.Arm l) = over
-      act_low c (does.Branch l) = shut_here _ _
+      act_low c (does.Branch l) = at.leaving c branch
       act_low c does.ArmEnd =
           top_low _ st s _ (λ v st. at.ends v)
       act_low c (does.Defer l) = goes_here _ s _ ls st l refl refl refl

@@ -8,3 +8,5 @@ mod Deferred
 mod Cancels
 mod Names
 mod Ends
+mod Waits
+mod WaitRuns

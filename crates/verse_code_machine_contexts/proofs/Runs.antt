@@ -21,7 +21,7 @@ carried_comes c (suc n) (Turn s tss) = at_once
 
 -- the stage behind one more turn
 module _ (take : State → Forest → Stage Forest) where
-  abbrev behind : Stage Forest → Stage Forest
+  abbrev pub behind : Stage Forest → Stage Forest
   behind (going s tss) = take s tss
   behind (closed e s tss) = closed e s tss
   behind (broken e s) = broken e s
@@ -33,7 +33,7 @@ module _ (take : State → Forest → Stage Forest) where
   one_turn (broken e s) = refl
   one_turn (amiss s) = refl
 
-  one_more : (k : ℕ) (g : Stage Forest) → turns take (suc k) g ≡ behind (turns take k g)
+  pub one_more : (k : ℕ) (g : Stage Forest) → turns take (suc k) g ≡ behind (turns take k g)
   one_more zero g = one_turn g
   one_more (suc k) (going s tss) = one_more k (take s tss)
   one_more (suc k) (closed e s tss) = refl

@@ -6,6 +6,7 @@ use Rattle.std.proofs.Common.{subst, ap, ◌∙◌}
 use Rattle.verse_code.specs.declared.operations.Op.{Op}
 use Rattle.verse_code.specs.declared.operations.Op.TheVariants as does
 use Rattle.verse_code.specs.declared.codes.Func.{Func}
+use Rattle.verse_code.specs.declared.codes.Code.{Code}
 use Rattle.verse_value.specs.Val.{Val}
 use Rattle.verse_value.specs.declared.runs.Ending.TheVariants as ending
 use Rattle.verse_meaning_state.specs.State.{State, Clock, restored, stepped}
@@ -17,7 +18,9 @@ use Rattle.verse_code_machine.specs.Frames.{only_where, goes, failing, clean, no
 use Rattle.verse_code_machine.specs.Frames.{free}
 use Rattle.verse_code_machine.specs.Cancelling.{clears_frames, cancels, cancelled, world_without}
 use Rattle.verse_code_machine.specs.Ends.{resumes, returns, ends, cleared}
-use Rattle.verse_code_machine.specs.Acts.{frame, on_handler, on_noted, on_note}
+use Rattle.verse_code_machine_contexts.proofs.Acts.{Leaves, sleep, forever, await_task, await_event, signal, spawn, spawn_method}
+use Rattle.verse_code_machine_contexts.proofs.Acts.{group, branch}
+use Rattle.verse_code_machine.specs.Acts.{act, frame, on_handler, on_noted, on_note}
 use Rattle.verse_code_machine_parents.specs.Parents.{WorldRooted}
 use Rattle.verse_code_machine_parents.specs.Cancelled.{NoneSince}
 use Rattle.verse_code_machine_contexts.specs.Contexts.{StepsAlone, locals_above}
@@ -70,6 +73,22 @@ module _ (w : Who) (o : World) (start : Clock) (base : List Note) (root : List H
 
         is_it : enters f vs w o s (frame g ls st q hs ∷ bl) ≡ Next it
         is_it = rw (sym e) refl
+
+    -- ---- what would leave the task
+
+    shut : (Q : Step → Type 0) (q : Step) → Is Q (only_where (free hs g.noted bl) s q)
+    shut Q q = rw (not_free (Fresh w.path o) base root under top.shut r) over
+
+    leaving_here : (c : Code) {op : Op} → Leaves op → Is (P op) (act c op w o s g l st pc hs bl)
+    leaving_here c sleep = shut _ _
+    leaving_here c forever = shut _ _
+    leaving_here c await_task = shut _ _
+    leaving_here c await_event = shut _ _
+    leaving_here c signal = shut _ _
+    leaving_here c spawn = shut _ _
+    leaving_here c spawn_method = shut _ _
+    leaving_here c group = shut _ _
+    leaving_here c branch = shut _ _
 
     -- ---- a failure
 
@@ -210,7 +229,7 @@ module _ (w : Who) (o : World) (start : Clock) (base : List Note) (root : List H
     site = record {
       clock = t;
       frames = r;
-      shut = not_free (Fresh w.path o) base root under top.shut r;
+      leaving = leaving_here;
       opens = λ h e. opens (Fresh w.path o) base root under h (ap (λ (g : Life). g.born) e) (ap (λ (g : Life). g.noted)
           e) r;
       notes = λ q. noted_more (Fresh w.path o) base root under q r;

@@ -51,14 +51,13 @@ pub record ArmEnds (c : Code) (m : Machine) (v : Val) (u : State) : Type 0 where
   pub comes : Comes c (step c m)
       (follows (closing m.who v) (world_without (begun_by m) m.world) u)
 
--- The race has the value of the first arm in written order that has one; the other arms are
--- cancelled, and what waits for that is the parent with the value.
-pub record RaceEnds (c : Code) (x : Thread) (gs : List Part) (o : World) (u : State) (r : Step) :
-    Type 0 where
-  pub value : Val
-  pub first : first_did gs ≡ Some value
+-- No other arm has a value. The arms without one are cancelled, and what waits for that is the
+-- parent with the value.
+pub record RaceEnds (c : Code) (x : Thread) (v : Val) (gs : List Part) (o : World) (u : State)
+    (r : Step) : Type 0 where
+  pub first : first_did gs ≡ Some v
   pub names : NamesBeneath x.who.path gs
-  pub cancels : Cancels c (resuming x value) (beneath_arms x.who.path gs) o u r
+  pub cancels : Cancels c (resuming x v) (beneath_arms x.who.path gs) o u r
 
 -- In every run: from where an arm of a race has ended, after any number of operations.
 abbrev pub RacesCancel : Type 0
@@ -67,7 +66,7 @@ RacesCancel = (c : Code) (ns : List ℤ) (steps until : ℕ) (m : Machine) →
     (x : Thread) (gs : List Part) (ls : List ℕ) (o : World) →
     Joins m.who v (world_without (begun_by m) m.world) first_of x gs ls o → (r : Step) →
     Comes c (follows (closing m.who v) (world_without (begun_by m) m.world) u) r →
-    RaceEnds c x gs o u r
+    RaceEnds c x v gs o u r
 
 -- In every run: where an arm of a rush has ended, and all have begun, the parent goes on at once,
 -- and every task stays.

@@ -1,12 +1,13 @@
 //! What the machine does with failure contexts, scopes and races, in every run: each law is a
 //! sentence from one operation to another, any number of operations later. Read the definitions in
 //! this order: `Runs`, the machines of a run; `Contexts`; `Cancels`, how tasks are cancelled;
-//! `Scopes`; `Races`.
+//! `Scopes`; `Waits`, what a group waits for; `Races`.
 #![tactic(auto)]
 
 ghost use Rattle.verse_code_machine_contexts.specs.Runs.{TurnsOperate};
 ghost use Rattle.verse_code_machine_contexts.specs.Contexts.{ContextsUndo};
 ghost use Rattle.verse_code_machine_contexts.specs.Scopes.{ScopesEnd};
+ghost use Rattle.verse_code_machine_contexts.specs.Waits.{GroupsWait};
 ghost use Rattle.verse_code_machine_contexts.specs.Races.{RacesCancel, RushesLeave};
 
 use verse_code_machine_parents::none_since;
@@ -33,6 +34,12 @@ pub fn scopes_end()
 {
     none_since();
 }
+
+/// No group stands that has its value, at any operation and between any turns: a race or a rush has
+/// no arm with a value, and of a sync some arm has none.
+pub fn groups_wait()
+    ensures { GroupsWait }
+{}
 
 /// Where an arm of a race ends, each arm without a value, with all that it encloses, is cancelled
 /// before the task of the race goes on with the value.
