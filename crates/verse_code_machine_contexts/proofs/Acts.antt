@@ -30,7 +30,7 @@ use Rattle.verse_code_machine.specs.Tasks.{Life, Handler, Frame, Note, to, Who, 
 use Rattle.verse_code_machine.specs.Tasks.{machine}
 use Rattle.verse_code_machine.specs.Frames.{on_top, on_two, on_many, on_there, only_where, put, fits, goes, failing}
 use Rattle.verse_code_machine.specs.Frames.{faulting, answered}
-use Rattle.verse_code_machine.specs.Frames.{answered_to, enters, method_of, free, clean, kept_defers, kept_noted}
+use Rattle.verse_code_machine.specs.Frames.{answered_to, enters, method_of, clean, kept_defers, kept_noted}
 use Rattle.verse_code_machine.specs.Cancelling.{clears_frames}
 use Rattle.verse_code_machine.specs.Ends.{cleared, returns, ends}
 use Rattle.verse_code_machine.specs.Acts.{place_at, mode_of, paired, Taken, ended, takes, unfit, taken_from, takes_step}
@@ -338,8 +338,7 @@ module _ (w : Who) (o : World) (start : Clock) (F : ℕ → List Note → List H
           (λ x e. there_low _ (nth ls (suc d)) s _ (λ y e. takes_here _ (taken_from a b) l d q ls st))))
       act_low c (does.Append l p) =
           top_low _ st s _ (λ v st. there_low _ (nth ls l) s _ (λ a e. into_here _ (λ m l k. refl) (place_at c p) l
-          (append_of a v)
-          st))
+          (append_of a v) st))
       act_low c (does.Print p) =
           top_low _ st s _ (λ v st. answered_here _ (λ m l k. refl) (place_at c p) (line_printed v s) st (printed_keeps
           s v))

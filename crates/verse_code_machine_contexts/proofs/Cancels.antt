@@ -117,9 +117,8 @@ module _ (since_none : NoneSince) (c : Code) (after : After) (o : World) (start 
         EachTask TaskFree ts → InBlock c after o w fs ts start.clock k → OfTask c after o w fs ts k →
         ((n : Machine) → Runs c after o w fs ts k n → out (within (Next n))) →
         ((n : Machine) (e : Ending) (u : State) → Runs c after o w fs ts k n → step c n ≡ Over e u → out (within (Over e
-        u))) →
-        ((n : Machine) (x : Outcome) → Runs c after o w fs ts k n → n.below ≡ fs → op_at c n ≡ Some does.DeferEnd →
-        CancelsFrames c after o w (left_by c after o n ∷ fs) ts n.state x → out x) → At q
+        u))) → ((n : Machine) (x : Outcome) → Runs c after o w fs ts k n → n.below ≡ fs → op_at c n ≡ Some does.DeferEnd
+        → CancelsFrames c after o w (left_by c after o n ∷ fs) ts n.state x → out x) → At q
 
   -- ---- where cancelling comes to next
 
@@ -136,12 +135,8 @@ module _ (since_none : NoneSince) (c : Code) (after : After) (o : World) (start 
       block_settles d ds zero e h r = over_at ending.Steps s refl (to (within (Over ending.Steps s)) (no_step e h))
       block_settles d ds (suc l) e h r =
           in_block w fs ts (block c after o w f ds d fs ts (stepped l s)) refl r free tasks begun (of_task c after o w
-          fs
-          ts start.clock
-          begun) (λ n p. to (within (Next n)) (runs e h p)) (λ n x u p q. to (within (Over x u)) (ends e h p q)) (λ n x
-          p
-          b op y. to x
-          (deferred e h p b op y))
+          fs ts start.clock begun) (λ n p. to (within (Next n)) (runs e h p)) (λ n x u p q. to (within (Over x u)) (ends
+          e h p q)) (λ n x p b op y. to x (deferred e h p b op y))
         where
           begun : InBlock c after o w fs ts start.clock (block c after o w f ds d fs ts (stepped l s))
           begun = record {
@@ -153,12 +148,9 @@ module _ (since_none : NoneSince) (c : Code) (after : After) (o : World) (start 
 
       frame_settles : (ds : List ℕ) → f.life.defers ≡ ds → (StepRooted (frames_step w ts s fs) → Towards w fs ts s →
           At (frames_step w ts s fs)) → StepRooted (on_deferred ds (frames_step w ts s fs) (λ d ds. spending
-          s.clock.left
-          s (Over
-          ending.Steps s) (λ s. Next (block c after o w f ds d fs ts s)))) → At (on_deferred ds (frames_step w ts s fs)
-          (λ
-          d ds.
-          spending s.clock.left s (Over ending.Steps s) (λ s. Next (block c after o w f ds d fs ts s))))
+          s.clock.left s (Over ending.Steps s) (λ s. Next (block c after o w f ds d fs ts s)))) → At (on_deferred ds
+          (frames_step w ts s fs) (λ d ds. spending s.clock.left s (Over ending.Steps s) (λ s. Next (block c after o w f
+          ds d fs ts s))))
       frame_settles [] e go r = go r (λ x y. to x (frame e y))
       frame_settles (d ∷ ds) e go r = block_settles d ds s.clock.left e refl r
 
@@ -166,8 +158,7 @@ module _ (since_none : NoneSince) (c : Code) (after : After) (o : World) (start 
   frames_settle : (w : Who) (ts : List Task) → EachTask TaskFree ts → ((s : State) → StepsAlone start.clock s.clock →
       StepRooted (clears (follows after) after ts o s) → ((x : Outcome) → CancelsTasks c after o ts s x → out x) →
       At (clears (follows after) after ts o s)) → (fs : List Frame) → AllFree fs → (s : State) → StepsAlone start.clock
-      s.clock →
-      StepRooted (frames_step w ts s fs) → Towards w fs ts s → At (frames_step w ts s fs)
+      s.clock → StepRooted (frames_step w ts s fs) → Towards w fs ts s → At (frames_step w ts s fs)
   frames_settle w ts tasks behind [] free s t r to = behind s t r (λ x y. to x (no_frame y))
   frames_settle w ts tasks behind (f ∷ fs) free s t r to =
       frame_settles w f fs ts s t free.1 free.2 tasks to f.life.defers refl (λ r to. frames_settle w ts tasks behind fs
@@ -179,27 +170,23 @@ module _ (since_none : NoneSince) (c : Code) (after : After) (o : World) (start 
   tasks_settle [] tasks s t r to = goes s t (to (through s) no_task) refl
   tasks_settle (y ∷ ts) tasks s t r to =
       frames_settle y.thread.who ts tasks.1 (λ s t r to. tasks_settle ts tasks.1 s t r to) (y.thread.frame ∷
-      y.thread.below) tasks.0
-      s t r (λ x z. to x (task z))
+      y.thread.below) tasks.0 s t r (λ x z. to x (task z))
 
   -- an operation of a block
   module _ (w : Who) (fs : List Frame) (ts : List Task) (k : Machine) (free : AllFree fs) (tasks : EachTask TaskFree ts)
       (i : InBlock c after o w fs ts start.clock k) (of : OfTask c after o w fs ts k)
       (stays_in : (n : Machine) → Runs c after o w fs ts k n → out (within (Next n)))
       (ends_in : (n : Machine) (e : Ending) (u : State) → Runs c after o w fs ts k n → step c n ≡ Over e u → out (within
-      (Over e u)))
-      (goes_from : (n : Machine) (x : Outcome) → Runs c after o w fs ts k n → n.below ≡ fs → op_at c n ≡ Some
-      does.DeferEnd →
+      (Over e u))) (goes_from : (n : Machine) (x : Outcome) → Runs c after o w fs ts k n → n.below ≡ fs → op_at c n ≡
+      Some does.DeferEnd →
       CancelsFrames c after o w (left_by c after o n ∷ fs) ts n.state x → out x) where
     low_at : {op : Op} {q : Step} → op_at c k ≡ Some op →
         Low w (clearing_world c after o ts) start.clock (In c after o w fs ts start.clock) (BlockEnds c after o w fs ts
-        start.clock k op) q →
-        step c k ≡ q → StepRooted q → At q
+        start.clock k op) q → step c k ≡ q → StepRooted q → At q
     low_at op (over {e = e} {s = u}) h r = over_at e u refl (ends_in k e u (stands of) h)
     low_at op (stays {n = n} j) h r =
         in_block w fs ts n refl r free tasks j (of_task c after o w fs ts start.clock j) (λ m p. stays_in m (goes_on of
-        h p))
-        (λ m e u p x. ends_in m e u (goes_on of h p) x) (λ m x p b o y. goes_from m x (goes_on of h p) b o y)
+        h p)) (λ m e u p x. ends_in m e u (goes_on of h p) x) (λ m x p b o y. goes_from m x (goes_on of h p) b o y)
     low_at op (closes b) h r =
         subst At (sym b.next) (frames_settle w ts tasks (λ s t r to. tasks_settle ts tasks s t r to) (left_by c after o
         k ∷ fs) (
@@ -236,8 +223,7 @@ module _ (since_none : NoneSince) (c : Code) (after : After) (o : World) (start 
   walks (later p) rooted (over_at e u h x) = absurd (next_and_over h)
   walks (later {k = j} p) rooted (in_block w fs ts k e m free tasks i of a b d) =
       walks p (operation_roots c j rooted) (subst (λ k. At (step c k)) (sym (same_next e)) (op_at_all w fs ts k free
-      tasks i of a b d
-      (op_at c k) refl m))
+      tasks i of a b d (op_at c k) refl m))
 
 -- ---- the law of cancelling
 
@@ -247,16 +233,14 @@ pub cancels_all : NoneSince → (c : Code) (after : After) (f : List ℕ → Boo
 cancels_all since_none c after f o s pre post rooted r p = by_way (walks since_none c after (world_without f o) s
     (CancelsTasks c
     after (world_without f o) (cancelled f o) s) p rooted (tasks_settle since_none c after (world_without f o) s
-    (CancelsTasks c after
-    (world_without f o) (cancelled f o) s) (cancelled f o) (each_cancelled TaskFree f o (still_free o.pre pre)
-    (still_free o.post post))
+    (CancelsTasks c after (world_without f o) (cancelled f o) s) (cancelled f o) (each_cancelled TaskFree f o
+    (still_free o.pre pre) (still_free o.post post))
     s (record { same = refl; sum = refl }) rooted (λ x y. y)))
   where
     by_way : CancelsTasks c after (world_without f o) (cancelled f o) s (within r) ⊎ ((u : State) × StepsAlone s.clock
         u.clock ×
         CancelsTasks c after (world_without f o) (cancelled f o) s (through u) × Comes c (follows after (world_without f
-        o) u) r) →
-        Cancels c after f o s r
+        o) u) r) → Cancels c after f o s r
     by_way (inl x) = clears_still x
     by_way (inr x) = went_on (record {
       state = x.0;

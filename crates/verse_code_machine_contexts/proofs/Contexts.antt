@@ -195,10 +195,9 @@ module _ (since_none : NoneSince) (c : Code) (m : Machine) (label : ℕ) where
       at_op = rw e (act_low m.who m.world m.state.clock (In m label) (ClosedBy m label (here k)) k.state k.frame.life
           k.frame.locals
           k.frame.stack k.frame.place k.frame.handlers k.below (site m.who m.world m.state.clock m.frame.life.noted
-          (opened m label ∷
-          m.frame.handlers) m.below since_none (ClosedBy m label (here k)) k.state k.frame.life k.frame.locals
-          k.frame.stack
-          k.frame.place k.frame.handlers k.below i.clock i.frames rooted (top m label (here k))) c op)
+          (opened m label ∷ m.frame.handlers) m.below since_none (ClosedBy m label (here k)) k.state k.frame.life
+          k.frame.locals k.frame.stack k.frame.place k.frame.handlers k.below i.clock i.frames rooted (top m label (here
+          k))) c op)
 
   next_rooted : {k n : Machine} → MachineRooted k → step c k ≡ Next n → MachineRooted n
   next_rooted {k = k} r e = subst StepRooted e (operation_roots c k r)
@@ -236,10 +235,9 @@ module _ (since_none : NoneSince) (c : Code) (m : Machine) (label : ℕ) where
       no_frame (of_top a b n) = no_none a
   failing_is s ls [] (f ∷ bl) r e =
       failing_is s f.locals f.handlers bl (caller (under_it _ _ _ _ r)) (no_more e) ∙ ap (λ ls. goes m.who m.world s
-      (restored
-      m.state.memory s) m.frame.life ls m.frame.stack label m.frame.handlers m.below) (sym (locals_under (Fresh
-      m.who.path m.world)
-      m.frame.life.noted (opened m label ∷ m.frame.handlers) m.below f bl ls (caller (under_it _ _ _ _ r))))
+      (restored m.state.memory s) m.frame.life ls m.frame.stack label m.frame.handlers m.below) (sym (locals_under
+      (Fresh m.who.path m.world) m.frame.life.noted (opened m label ∷ m.frame.handlers) m.below f bl ls (caller
+      (under_it _ _ _ _ r))))
     where
       no_more : {i j : ℕ} → 0 + i ≡ j → i ≡ j
       no_more e = omega (arith, e)
@@ -299,8 +297,7 @@ module _ (since_none : NoneSince) (c : Code) (m : Machine) (label : ℕ) where
   is_tried {j = j} op e = only_next (fits (opened m label ∷ m.frame.handlers) (suc m.frame.place)) m.state (subst (λ x.
       on_there x
       m.state (λ op. act c op m.who m.world m.state m.frame.life m.frame.locals m.frame.stack m.frame.place
-      m.frame.handlers m.below)
-      ≡ Next j) op e)
+      m.frame.handlers m.below) ≡ Next j) op e)
 
   begins_inside : {j : Machine} → op_at c m ≡ Some (does.Try label) → step c m ≡ Next j → InIt m label j
   begins_inside op e = subst (InIt m label) (is_tried op e) (record {

@@ -137,7 +137,5 @@ module _ (c : Code) (after : After) (o : World) (w : Who) (fs : List Frame) (ts 
       at_op = rw e (act_low w (clearing_world c after o ts) start In (BlockEnds (here k)) k.state k.frame.life
           k.frame.locals
           k.frame.stack k.frame.place k.frame.handlers k.below (site w (clearing_world c after o ts) start (gone ∷ [])
-          [] fs since_none
-          (BlockEnds (here k)) k.state k.frame.life k.frame.locals k.frame.stack k.frame.place k.frame.handlers k.below
-          i.clock i.frames
-          rooted (top all_free (here k))) c op)
+          [] fs since_none (BlockEnds (here k)) k.state k.frame.life k.frame.locals k.frame.stack k.frame.place
+          k.frame.handlers k.below i.clock i.frames rooted (top all_free (here k))) c op)

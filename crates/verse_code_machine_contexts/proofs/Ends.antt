@@ -48,8 +48,7 @@ cleanly g s q r e = by_test (nothing g.defers g.noted)
 
 returns_so : (w : Who) (o : World) (born : ℕ) (v : Val) (s : State) (hs : List Handler) (f : Frame) (fs : List Frame) →
     OrStuck (returns w o born v s hs (f ∷ fs)) s (cancels (follows (resuming (thread w f fs) v)) (resuming (thread w f
-    fs) v) (since
-    w.path born) o s)
+    fs) v) (since w.path born) o s)
 returns_so w o born v s (h ∷ hs) f fs = inl refl
 returns_so w o born v s [] f fs = inr refl
 
@@ -171,18 +170,19 @@ module _ (v : Val) where
   first_last (did w ∷ gs) e = cc
   first_last (runs n ∷ gs) e = first_last gs e
 
-  first_with : (n : ℕ) (gs : List Part) → first_did gs ≡ None → is_run n gs ≡ true → first_did (with_did n v gs) ≡ Some v
+  first_with : (n : ℕ) (gs : List Part) → first_did gs ≡ None → is_run n gs ≡ true → first_did (with_did n v gs) ≡ Some
+      v
   first_with n [] e h = no_both (sym h)
   first_with n (did w ∷ gs) e h = cc
   first_with n (runs m ∷ gs) e h = by_test (λ i. first_with n gs e i) (eqn n m) h
     where
-      by_test : (is_run n gs ≡ true → first_did (with_did n v gs) ≡ Some v) → (b : Bool) → cond b true (is_run n gs) ≡ true →
-          first_did (cond b (did v ∷ gs) (runs m ∷ with_did n v gs)) ≡ Some v
+      by_test : (is_run n gs ≡ true → first_did (with_did n v gs) ≡ Some v) → (b : Bool) → cond b true (is_run n gs) ≡
+          true → first_did (cond b (did v ∷ gs) (runs m ∷ with_did n v gs)) ≡ Some v
       by_test go true e = refl
       by_test go false e = go e
 
-race_value : {w : Who} {v : Val} {o q : World} {x : Thread} {gs : List Part} {ls : List ℕ} → Joins w v o first_of x gs ls q →
-    WorldWaits o → first_did gs ≡ Some v
+race_value : {w : Who} {v : Val} {o q : World} {x : Thread} {gs : List Part} {ls : List ℕ} → Joins w v o first_of x gs
+    ls q → WorldWaits o → first_did gs ≡ Some v
 race_value {v = v} (beginning _ p gs n ls x us e) a = first_last v gs (subst UpsWait e a.ups).0
 race_value {w = w} {v = v} (standing _ p gs y ts post e b others is rest arm) a =
     first_with v w.number gs (subst Waits rest (one_of ts y post (subst TasksWait b a.post))) arm
@@ -191,23 +191,27 @@ race_value {w = w} {v = v} (standing _ p gs y ts post e b others is rest arm) a 
     one_of [] y post a = a.0
     one_of (t ∷ ts) y post a = one_of ts y post a.1
 
-race_ends : NoneSince → (c : Code) (m : Machine) (v : Val) (u : State) → MachineRooted m → WorldWaits m.world → ArmEnds c m v u →
-    (x : Thread) (gs : List Part) (ls : List ℕ) (o : World) → Joins m.who v (world_without (begun_by m) m.world) first_of x gs ls o →
-    (r : Step) → Comes c (follows (closing m.who v) (world_without (begun_by m) m.world) u) r → RaceEnds c x v gs o u r
+race_ends : NoneSince → (c : Code) (m : Machine) (v : Val) (u : State) → MachineRooted m → WorldWaits m.world → ArmEnds
+    c m v u → (x : Thread) (gs : List Part) (ls : List ℕ) (o : World) → Joins m.who v (world_without (begun_by m)
+    m.world) first_of x gs ls o → (r : Step) → Comes c (follows (closing m.who v) (world_without (begun_by m) m.world)
+    u) r → RaceEnds c x v gs o u r
 race_ends since_none c m v u rooted waits arm x gs ls o joins r p = record {
   first = value;
   names = names_beneath x.who.path gs;
-  cancels = cancels_all since_none c (resuming x v) (beneath_arms x.who.path gs) o u still.0 still.1 (subst StepRooted steps
+  cancels = cancels_all since_none c (resuming x v) (beneath_arms x.who.path gs) o u still.0 still.1 (subst StepRooted
+      steps
       (comes_rooted arm.comes (operation_roots c m rooted))) r (subst (λ q. Comes c q r) steps p);
 }
   where
     value : first_did gs ≡ Some v
     value = race_value joins (without_wait (begun_by m) m.world waits)
+
     still : AllStill o.pre × AllStill o.post
-    still = joins_still joins (each_without (λ t. Still t.thread) (begun_by m) m.world.pre rooted.world.pre) (each_without (λ t. Still
-        t.thread) (begun_by m) m.world.post rooted.world.post)
-    steps : follows (closing m.who v) (world_without (begun_by m) m.world) u ≡ cancels (follows (resuming x v)) (resuming x v)
-        (beneath_arms x.who.path gs) o u
+    still = joins_still joins (each_without (λ t. Still t.thread) (begun_by m) m.world.pre rooted.world.pre)
+        (each_without (λ t. Still t.thread) (begun_by m) m.world.post rooted.world.post)
+
+    steps : follows (closing m.who v) (world_without (begun_by m) m.world) u ≡ cancels (follows (resuming x v))
+        (resuming x v) (beneath_arms x.who.path gs) o u
     steps = race_step u v (closing_role arm.ends) joins value
 
 pub races_cancel : NoneSince → RacesCancel

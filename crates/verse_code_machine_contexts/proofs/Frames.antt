@@ -139,8 +139,7 @@ module _ (fresh : ℕ → Type 0) (base : List Note) (root : List Handler) (unde
 
   own_fewer : {born : ℕ} {y : Note} {ns : List Note} {hs : List Handler} {bl : List Frame} → bl ≡ under →
       Holds base root hs → ltn (kept_noted hs) (length (y ∷ ns)) ≡ true → (IsPlace y × Notes base ns) ⊎ (y ∷ ns ≡ base)
-      →
-      (IsPlace y × Is born ns hs bl) ⊎ AsItWas (y ∷ ns) hs bl
+      → (IsPlace y × Is born ns hs bl) ⊎ AsItWas (y ∷ ns) hs bl
   own_fewer e h l (inl n) = inl (n.0, own e n.1 h)
   own_fewer e (its i) l (inr n) = inr (record { notes = n; holds = i; below = e })
   own_fewer e (inner {h = h} {hs = hs} a x) l (inr n) = absurd (no_fewer h hs a n l)

@@ -77,8 +77,7 @@ beneath_is path (did v ∷ gs) x e = let r = beneath_is path gs x e in
     record { number = r.number; rest = r.rest; is_arm = r.is_arm; beneath = r.beneath }
 beneath_is path (runs n ∷ gs) x e =
     cond_with (starts (path ++ n ∷ []) x) true (beneath_arms path gs x) (λ b. b ≡ true → BeneathArm path (runs n ∷ gs)
-    x)
-    (λ h i. first (starts_is path n x h)) (λ h i. later (beneath_is path gs x i)) e
+    x) (λ h i. first (starts_is path n x h)) (λ h i. later (beneath_is path gs x i)) e
   where
     first : (rest : List ℕ) × (x ≡ path ++ n ∷ rest) → BeneathArm path (runs n ∷ gs) x
     first r = record { number = n; rest = r.0; is_arm = rw (eqn_same n) refl; beneath = r.1 }
@@ -97,10 +96,8 @@ beneath_all path [] n rest e = no_both (sym e)
 beneath_all path (did v ∷ gs) n rest e = beneath_all path gs n rest e
 beneath_all path (runs m ∷ gs) n rest e =
     cond_with (eqn n m) true (is_run n gs) (λ b. b ≡ true → beneath_arms path (runs m ∷ gs) (path ++ n ∷ rest) ≡ true)
-    (λ h i.
-    first (eqn_is n m h)) (λ h i. cond_with (starts (path ++ m ∷ []) (path ++ n ∷ rest)) true (beneath_arms path gs
-    (path ++ n ∷
-    rest)) (λ b. b ≡ true) (λ j. refl) (λ j. beneath_all path gs n rest i)) e
+    (λ h i. first (eqn_is n m h)) (λ h i. cond_with (starts (path ++ m ∷ []) (path ++ n ∷ rest)) true (beneath_arms path
+    gs (path ++ n ∷ rest)) (λ b. b ≡ true) (λ j. refl) (λ j. beneath_all path gs n rest i)) e
   where
     first : n ≡ m → beneath_arms path (runs m ∷ gs) (path ++ n ∷ rest) ≡ true
     first h = rw (h, starts_all path m rest) refl

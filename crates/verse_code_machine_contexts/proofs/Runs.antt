@@ -48,16 +48,14 @@ module _ (c : Code) (ns : List ℤ) (steps until : ℕ) where
     wakes : (d : Due) → least s (tree_waits tss) ≡ Some d → nat_lt until d.given.moment ≡ false → (left : ℕ) →
         s.clock.left ≡ left →
         Is (spending left s (closed ending.Steps s tss) (λ s. stage_of (carried c (room c steps) (woken_in d.number
-        d.given.value []
-        tss (at_moment d.given.moment s)))))
+        d.given.value [] tss (at_moment d.given.moment s)))))
     wakes d e l zero h = ended ending.Steps s tss
     wakes d e l (suc left) h = operates _ _ (woken k left s tss d here e l h) (carried_comes c (room c steps) _)
 
     in_time : (d : Due) → least s (tree_waits tss) ≡ Some d → (late : Bool) → nat_lt until d.given.moment ≡ late → Is
         (cond late
         (closed ending.Until s tss) (spending s.clock.left s (closed ending.Steps s tss) (λ s. stage_of (carried c (room
-        c steps)
-        (woken_in d.number d.given.value [] tss (at_moment d.given.moment s))))))
+        c steps) (woken_in d.number d.given.value [] tss (at_moment d.given.moment s))))))
     in_time d e true h = ended ending.Until s tss
     in_time d e false h = wakes d e h s.clock.left refl
 

@@ -18,7 +18,8 @@ use Rattle.verse_code_machine.specs.Frames.{only_where, goes, failing, clean, no
 use Rattle.verse_code_machine.specs.Frames.{free}
 use Rattle.verse_code_machine.specs.Cancelling.{clears_frames, cancels, cancelled, world_without}
 use Rattle.verse_code_machine.specs.Ends.{resumes, returns, ends, cleared}
-use Rattle.verse_code_machine_contexts.proofs.Acts.{Leaves, sleep, forever, await_task, await_event, signal, spawn, spawn_method}
+use Rattle.verse_code_machine_contexts.proofs.Acts.{Leaves, sleep, forever, await_task, await_event, signal, spawn}
+use Rattle.verse_code_machine_contexts.proofs.Acts.{spawn_method}
 use Rattle.verse_code_machine_contexts.proofs.Acts.{group, branch}
 use Rattle.verse_code_machine.specs.Acts.{act, frame, on_handler, on_noted, on_note}
 use Rattle.verse_code_machine_parents.specs.Parents.{WorldRooted}
@@ -110,8 +111,7 @@ module _ (w : Who) (o : World) (start : Clock) (base : List Note) (root : List H
 
       caller_fails : (ls : List Val) (f : Frame) (fs : List Frame) {born : ℕ} {ns : List Note} →
           (In f.life.born f.life.noted f.handlers fs → AsNow f.locals fs → Is (P op) (failing w o s f.locals f.handlers
-          fs)) →
-          Under (Fresh w.path o) base root under born ns (f ∷ fs) → AsNow ls (f ∷ fs) →
+          fs)) → Under (Fresh w.path o) base root under born ns (f ∷ fs) → AsNow ls (f ∷ fs) →
           Is (P op) (failing w o s ls [] (f ∷ fs))
       caller_fails ls f fs go (of_top a b n) e = top.failing op ls [] (f ∷ fs) can a b e
       caller_fails ls f fs go (called_by b x) e =
@@ -138,8 +138,7 @@ module _ (w : Who) (o : World) (start : Clock) (base : List Note) (root : List H
     under_returns v e h (called_by {f = f} {fs = fs} b x) = only_low w o start In (P does.Return) (nothing g.defers
         g.noted) s _
         (none_cancels (P does.Return) (λ o s. resumes (thread w f fs) v o s) (resuming (thread w f fs) v) (since w.path
-        g.born)
-        (none_cancelled (since w.path g.born) o b) (stays (inside w o start In t x)))
+        g.born) (none_cancelled (since w.path g.born) o b) (stays (inside w o start In t x)))
 
     returns_here : (v : Val) (ks : List Handler) → hs ≡ ks → Is (P does.Return) (clean g s (returns w o g.born v s ks
         bl))
@@ -187,8 +186,8 @@ module _ (w : Who) (o : World) (start : Clock) (base : List Note) (root : List H
 
     noted_here : (ns : List Note) → g.noted ≡ ns →
         Is (P does.DeferEnd) (only_where (ltn (kept_noted hs) (length ns)) s (on_noted ns s (λ y ns. on_note y (λ q.
-        goes w o s s
-        (record g { noted = ns }) l st q hs bl) (clears_frames (λ s. cleared o.ups o.pre o.post o.trees s) w o s (frame
+        goes w o s s (record g { noted = ns }) l st q hs bl) (clears_frames (λ s. cleared o.ups o.pre o.post o.trees s)
+        w o s (frame
         (record g {
           noted = ns;
         }) l st pc hs ∷ bl)))))

@@ -5,7 +5,7 @@ use Rattle.verse_code.specs.declared.operations.Op.{Op}
 use Rattle.verse_code.specs.declared.operations.Op.TheVariants as o
 use Rattle.verse_code.specs.declared.codes.Code.{Code}
 use Rattle.verse_value.specs.Val.{Val}
-use Rattle.verse_meaning_state.specs.State.{State, Clock, restored}
+use Rattle.verse_meaning_state.specs.State.{State, Clock}
 use Rattle.verse_meaning_state.specs.Waits.{eqn}
 use Rattle.verse_code_machine.specs.Tasks.{Frame, Machine, Next, Turn}
 use Rattle.verse_code_machine.specs.Frames.{only_where, fits}
@@ -46,7 +46,7 @@ abbrev pub failed : Machine → (label : ℕ) → Machine → Machine
 failed m label k = record {
   who = m.who;
   world = m.world;
-  state = restored m.state.memory k.state;
+  state = record { memory = m.state.memory; clock = k.state.clock };
   frame = record {
     life = m.frame.life;
     locals = locals_above (length m.below) k.frame.locals k.below;
@@ -77,7 +77,8 @@ ended m s k = record {
 -- context fails
 abbrev pub closed_by : Op → Machine → (label : ℕ) → Machine → Machine
 closed_by o.Commit m label k = ended m k.state k
-closed_by o.Undo m label k = ended m (restored m.state.memory k.state) k
+closed_by o.Undo m label k =
+    ended m (record { memory = m.state.memory; clock = k.state.clock }) k
 closed_by op m label k = failed m label k
 
 -- The machine k is within the context that the machine m has opened by a Try with this label.
