@@ -17,7 +17,7 @@ use Rattle.verse_code_machine.specs.Cancelling.{clears_frames, clears, cancels}
 use Rattle.verse_code_machine.specs.Ends.{follows}
 use Rattle.verse_code_machine.specs.Runs.{step}
 use Rattle.verse_code_machine_parents.specs.Parents.{EachTask, AllStill, MachineRooted, StepRooted}
-use Rattle.verse_code_machine_parents.specs.Cancelled.{NoneSince}
+use Rattle.verse_code_machine_parents.specs.Cancelled.{NoneSince, CancelledOnce}
 use Rattle.verse_code_machine_parents.proofs.Lists.{cond_with}
 use Rattle.verse_code_machine_parents.proofs.Running.{operation_roots}
 use Rattle.verse_code_machine_contexts.specs.Runs.{op_at, Comes, at_once, later}
@@ -227,10 +227,10 @@ module _ (since_none : NoneSince) (c : Code) (after : After) (o : World) (start 
 
 -- ---- the law of cancelling
 
-pub cancels_all : NoneSince → (c : Code) (after : After) (f : List ℕ → Bool) (o : World) (s : State) → AllStill o.pre →
-    AllStill o.post → StepRooted (cancels (follows after) after f o s) → (r : Step) →
+pub cancels_all : NoneSince → CancelledOnce → (c : Code) (after : After) (f : List ℕ → Bool) (o : World) (s : State) →
+    AllStill o.pre → AllStill o.post → StepRooted (cancels (follows after) after f o s) → (r : Step) →
     Comes c (cancels (follows after) after f o s) r → Cancels c after f o s r
-cancels_all since_none c after f o s pre post rooted r p = by_way (walks since_none c after (world_without f o) s
+cancels_all since_none once c after f o s pre post rooted r p = by_way (walks since_none c after (world_without f o) s
     (CancelsTasks c
     after (world_without f o) (cancelled f o) s) p rooted (tasks_settle since_none c after (world_without f o) s
     (CancelsTasks c after (world_without f o) (cancelled f o) s) (cancelled f o) (each_cancelled TaskFree f o
@@ -246,6 +246,8 @@ cancels_all since_none c after f o s pre post rooted r p = by_way (walks since_n
       state = x.0;
       clock = x.1;
       blocks = x.2;
+      before = (once f o).0;
+      behind = (once f o).1;
       ups = refl;
       trees = refl;
       none_left = none_left f o;

@@ -16,7 +16,7 @@ use Rattle.verse_code_machine.specs.Ends.{resumes, first_did, is_run, with_did, 
 use Rattle.verse_code_machine.specs.Ends.{returns_role, follows}
 use Rattle.verse_code_machine.specs.Runs.{step}
 use Rattle.verse_code_machine_parents.specs.Parents.{EachTask, AllStill, Still, MachineRooted, StepRooted}
-use Rattle.verse_code_machine_parents.specs.Cancelled.{NoneSince}
+use Rattle.verse_code_machine_parents.specs.Cancelled.{NoneSince, CancelledOnce}
 use Rattle.verse_code_machine_parents.proofs.Lists.{no_both}
 use Rattle.verse_code_machine_parents.proofs.Leaving.{each_onto}
 use Rattle.verse_code_machine_parents.proofs.Running.{operation_roots}
@@ -75,19 +75,19 @@ frame_ends {m = m} (finishes entry v st op b r e) = rw (op, e) (cleanly m.frame.
 frame_ends {m = m} (arm_ends v st op b r e) = rw (op, e) (cleanly m.frame.life m.state _ _ (rw b (ends_so m.who m.world
     m.frame.life.born v m.state m.frame.handlers r)))
 
-scope_ends : NoneSince → (c : Code) (m : Machine) (a : After) → MachineRooted m → EndsFrame c m a → (r : Step) → Comes c
-    (step c m) r →
+scope_ends : NoneSince → CancelledOnce → (c : Code) (m : Machine) (a : After) → MachineRooted m → EndsFrame c m a → (r :
+    Step) → Comes c (step c m) r →
     ScopeEnds c a m r
-scope_ends since_none c m a rooted over r p = by_way (frame_ends over)
+scope_ends since_none once c m a rooted over r p = by_way (frame_ends over)
   where
     by_way : OrStuck (step c m) m.state (cancels (follows a) a (begun_by m) m.world m.state) → ScopeEnds c a m r
     by_way (inl e) = inl e
-    by_way (inr e) = inr (cancels_all since_none c a (begun_by m) m.world m.state rooted.world.pre rooted.world.post
-        (subst StepRooted
+    by_way (inr e) = inr (cancels_all since_none once c a (begun_by m) m.world m.state rooted.world.pre
+        rooted.world.post (subst StepRooted
         e (operation_roots c m rooted)) r (subst (λ q. Comes c q r) e p))
 
-pub scopes_end : NoneSince → ScopesEnd
-scopes_end since_none c ns steps until m i a e = (names_begun m, scope_ends since_none c m a (run_rooted i) e)
+pub scopes_end : NoneSince → CancelledOnce → ScopesEnd
+scopes_end since_none once c ns steps until m i a e = (names_begun m, scope_ends since_none once c m a (run_rooted i) e)
 
 -- ---- an arm
 
@@ -191,15 +191,15 @@ race_value {w = w} {v = v} (standing _ p gs y ts post e b others is rest arm) a 
     one_of [] y post a = a.0
     one_of (t ∷ ts) y post a = one_of ts y post a.1
 
-race_ends : NoneSince → (c : Code) (m : Machine) (v : Val) (u : State) → MachineRooted m → WorldWaits m.world → ArmEnds
-    c m v u → (x : Thread) (gs : List Part) (ls : List ℕ) (o : World) → Joins m.who v (world_without (begun_by m)
-    m.world) first_of x gs ls o → (r : Step) → Comes c (follows (closing m.who v) (world_without (begun_by m) m.world)
-    u) r → RaceEnds c x v gs o u r
-race_ends since_none c m v u rooted waits arm x gs ls o joins r p = record {
+race_ends : NoneSince → CancelledOnce → (c : Code) (m : Machine) (v : Val) (u : State) → MachineRooted m → WorldWaits
+    m.world → ArmEnds c m v u → (x : Thread) (gs : List Part) (ls : List ℕ) (o : World) → Joins m.who v (world_without
+    (begun_by m) m.world) first_of x gs ls o → (r : Step) → Comes c (follows (closing m.who v) (world_without (begun_by
+    m) m.world) u) r → RaceEnds c x v gs o u r
+race_ends since_none once c m v u rooted waits arm x gs ls o joins r p = record {
   first = value;
   names = names_beneath x.who.path gs;
-  cancels = cancels_all since_none c (resuming x v) (beneath_arms x.who.path gs) o u still.0 still.1 (subst StepRooted
-      steps
+  cancels = cancels_all since_none once c (resuming x v) (beneath_arms x.who.path gs) o u still.0 still.1 (subst
+      StepRooted steps
       (comes_rooted arm.comes (operation_roots c m rooted))) r (subst (λ q. Comes c q r) steps p);
 }
   where
@@ -214,9 +214,9 @@ race_ends since_none c m v u rooted waits arm x gs ls o joins r p = record {
         (resuming x v) (beneath_arms x.who.path gs) o u
     steps = race_step u v (closing_role arm.ends) joins value
 
-pub races_cancel : NoneSince → RacesCancel
-races_cancel since_none c ns steps until m i v u arm x gs ls o joins r p =
-    race_ends since_none c m v u (run_rooted i) (run_waits c ns steps until m i) arm x gs ls o joins r p
+pub races_cancel : NoneSince → CancelledOnce → RacesCancel
+races_cancel since_none once c ns steps until m i v u arm x gs ls o joins r p =
+    race_ends since_none once c m v u (run_rooted i) (run_waits c ns steps until m i) arm x gs ls o joins r p
 
 pub rushes_leave : RushesLeave
 rushes_leave c ns steps until m i v u arm x gs o joins = let value = joins_value joins in

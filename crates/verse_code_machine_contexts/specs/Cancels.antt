@@ -8,10 +8,12 @@ use Rattle.verse_value.specs.declared.runs.Ending.TheVariants as ending
 use Rattle.verse_meaning_state.specs.State.{State, stepped}
 use Rattle.verse_code_machine.specs.Tasks.{Frame, gone, Who, Task, After, clearing, World, world}
 use Rattle.verse_code_machine.specs.Tasks.{Machine, Step, Next, Over, machine}
-use Rattle.verse_code_machine.specs.Cancelling.{cancelled, world_without}
+use Rattle.verse_code_machine.specs.Cancelling.{without, gone_before, gone_behind, cancelled}
+use Rattle.verse_code_machine.specs.Cancelling.{world_without}
 use Rattle.verse_code_machine.specs.Ends.{follows}
 use Rattle.verse_code_machine.specs.Runs.{step}
 use Rattle.verse_code_machine_parents.specs.Parents.{EachTask}
+use Rattle.verse_code_machine_parents.specs.Cancelled.{Splits}
 use Rattle.verse_code_machine_contexts.specs.Runs.{op_at, Comes}
 use Rattle.verse_code_machine_contexts.specs.Contexts.{StepsAlone}
 
@@ -102,7 +104,10 @@ pub record WentOn (c : Code) (after : After) (f : List ℕ → Bool) (o : World)
   pub state : State
   pub clock : StepsAlone s.clock state.clock
   pub blocks : CancelsTasks c after (world_without f o) (cancelled f o) s (through state)
-  -- nothing else has gone, and no spawned task
+  -- of the tasks in its tree those of such names are cancelled, each once, and the others stay
+  pub before : Splits f o.pre (gone_before f o.pre) (without f o.pre)
+  pub behind : Splits f o.post (gone_behind f o.post) (without f o.post)
+  -- no task that waits has gone, and no spawned one
   pub ups : (world_without f o).ups ≡ o.ups
   pub trees : (world_without f o).trees ≡ o.trees
   pub none_left : EachTask (λ t. f t.thread.who.path ≡ false)

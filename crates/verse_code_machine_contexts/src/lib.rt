@@ -10,7 +10,7 @@ ghost use Rattle.verse_code_machine_contexts.specs.Scopes.{ScopesEnd};
 ghost use Rattle.verse_code_machine_contexts.specs.Waits.{GroupsWait};
 ghost use Rattle.verse_code_machine_contexts.specs.Races.{RacesCancel, RushesLeave};
 
-use verse_code_machine_parents::none_since;
+use verse_code_machine_parents::{cancelled_once, none_since};
 
 /// Each stage of a run is where the operations of its turn come to, so what the laws say of the
 /// machines of a run they say of all that it carries out.
@@ -33,6 +33,7 @@ pub fn scopes_end()
     ensures { ScopesEnd }
 {
     none_since();
+    cancelled_once();
 }
 
 /// No group stands that has its value, at any operation and between any turns: a race or a rush has
@@ -47,6 +48,7 @@ pub fn races_cancel()
     ensures { RacesCancel }
 {
     none_since();
+    cancelled_once();
 }
 
 /// Where an arm of a rush ends and all have begun, the task of the rush goes on at once with the
