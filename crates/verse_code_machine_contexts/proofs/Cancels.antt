@@ -22,7 +22,7 @@ use Rattle.verse_code_machine_parents.proofs.Lists.{cond_with}
 use Rattle.verse_code_machine_parents.proofs.Running.{operation_roots}
 use Rattle.verse_code_machine_contexts.specs.Runs.{op_at, Comes, at_once, later}
 use Rattle.verse_code_machine_contexts.specs.Contexts.{StepsAlone}
-use Rattle.verse_code_machine_contexts.specs.Cancels.{Outcome, within, through, clearing_world, OfTask, Runs, stands}
+use Rattle.verse_code_machine_contexts.specs.Cancels.{Outcome, within, through, clearing_world, OfTask, Acts, stands}
 use Rattle.verse_code_machine_contexts.specs.Cancels.{goes_on, block}
 use Rattle.verse_code_machine_contexts.specs.Cancels.{left_by, CancelsTasks, no_task, task, CancelsFrames, no_frame}
 use Rattle.verse_code_machine_contexts.specs.Cancels.{frame, deferred}
@@ -115,9 +115,9 @@ module _ (since_none : NoneSince) (c : Code) (after : After) (o : World) (start 
     over_at : (e : Ending) (u : State) → q ≡ Over e u → out (within (Over e u)) → At q
     in_block : (w : Who) (fs : List Frame) (ts : List Task) (k : Machine) → q ≡ Next k → MachineRooted k → AllFree fs →
         EachTask TaskFree ts → InBlock c after o w fs ts start.clock k → OfTask c after o w fs ts k →
-        ((n : Machine) → Runs c after o w fs ts k n → out (within (Next n))) →
-        ((n : Machine) (e : Ending) (u : State) → Runs c after o w fs ts k n → step c n ≡ Over e u → out (within (Over e
-        u))) → ((n : Machine) (x : Outcome) → Runs c after o w fs ts k n → n.below ≡ fs → op_at c n ≡ Some does.DeferEnd
+        ((n : Machine) → Acts c after o w fs ts k n → out (within (Next n))) →
+        ((n : Machine) (e : Ending) (u : State) → Acts c after o w fs ts k n → step c n ≡ Over e u → out (within (Over e
+        u))) → ((n : Machine) (x : Outcome) → Acts c after o w fs ts k n → n.below ≡ fs → op_at c n ≡ Some does.DeferEnd
         → CancelsFrames c after o w (left_by c after o n ∷ fs) ts n.state x → out x) → At q
 
   -- ---- where cancelling comes to next
@@ -175,9 +175,9 @@ module _ (since_none : NoneSince) (c : Code) (after : After) (o : World) (start 
   -- an operation of a block
   module _ (w : Who) (fs : List Frame) (ts : List Task) (k : Machine) (free : AllFree fs) (tasks : EachTask TaskFree ts)
       (i : InBlock c after o w fs ts start.clock k) (of : OfTask c after o w fs ts k)
-      (stays_in : (n : Machine) → Runs c after o w fs ts k n → out (within (Next n)))
-      (ends_in : (n : Machine) (e : Ending) (u : State) → Runs c after o w fs ts k n → step c n ≡ Over e u → out (within
-      (Over e u))) (goes_from : (n : Machine) (x : Outcome) → Runs c after o w fs ts k n → n.below ≡ fs → op_at c n ≡
+      (stays_in : (n : Machine) → Acts c after o w fs ts k n → out (within (Next n)))
+      (ends_in : (n : Machine) (e : Ending) (u : State) → Acts c after o w fs ts k n → step c n ≡ Over e u → out (within
+      (Over e u))) (goes_from : (n : Machine) (x : Outcome) → Acts c after o w fs ts k n → n.below ≡ fs → op_at c n ≡
       Some does.DeferEnd →
       CancelsFrames c after o w (left_by c after o n ∷ fs) ts n.state x → out x) where
     low_at : {op : Op} {q : Step} → op_at c k ≡ Some op →

@@ -26,7 +26,7 @@ use Rattle.verse_code_machine.specs.Runs.{step, carried, room, Forest, stage_of,
 use Rattle.verse_code_machine.specs.Runs.{mach_after}
 use Rattle.verse_code_machine_contexts.specs.Runs.{Begins, main, woken, Comes, at_once, later, InRun}
 use Rattle.verse_code_machine_contexts.specs.Contexts.{StepsAlone}
-use Rattle.verse_code_machine_contexts.specs.Waits.{Begins as BeginsGroup, ForestWaits, WorldWaits, StageWaits}
+use Rattle.verse_code_machine_contexts.specs.Waits.{StillBegins, ForestWaits, WorldWaits, StageWaits}
 use Rattle.verse_code_machine_contexts.specs.Waits.{GroupsWait}
 use Rattle.verse_code_machine_contexts.proofs.Acts.{Low as Does, over, stays, closes, Leaves, sleep}
 use Rattle.verse_code_machine_contexts.proofs.Acts.{forever, await_task}
@@ -97,7 +97,7 @@ module _ (w : Who) (o : World) (s : State) (a : WorldWaits o) where
       behind = a.behind;
     })))
 
-    no_arms : (k : Kind) → BeginsGroup k []
+    no_arms : (k : Kind) → StillBegins k []
     no_arms all_of = tt
     no_arms first_of = refl
     no_arms rush_of = tt

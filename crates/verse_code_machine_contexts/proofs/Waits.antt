@@ -24,7 +24,7 @@ use Rattle.verse_code_machine.specs.Ends.{ends, returns_role}
 use Rattle.verse_code_machine.specs.Ends.{returns, follows, cleared, is_asleep, woken, woken_in}
 use Rattle.verse_code_machine.specs.Runs.{Forest}
 use Rattle.verse_code_machine_parents.proofs.Leaving.{each_onto}
-use Rattle.verse_code_machine_contexts.specs.Waits.{Waits, TasksWait, ForestWaits, Begins, UpsWait, WorldWaits}
+use Rattle.verse_code_machine_contexts.specs.Waits.{Waits, TasksWait, ForestWaits, StillBegins, UpsWait, WorldWaits}
 use Rattle.verse_code_machine_contexts.proofs.Cancels.{each_without}
 
 abbrev pub StepWaits : Step → Type 0
@@ -98,9 +98,8 @@ clears_low : (last : World → State → Step) (after : After) (ts : List Task) 
 clears_low last after [] o s a f = f s
 clears_low last after (t ∷ ts) o s a f =
     frames_low _ t.thread.who (world o.pre o.post (clearing after ts ∷ o.ups) o.trees) s (t.thread.frame ∷
-    t.thread.below)
-    (record { pre = a.pre; post = a.post; ups = a.ups; before = a.before; behind = a.behind }) (λ s. clears_low last
-    after ts o s a f)
+    t.thread.below) (record { pre = a.pre; post = a.post; ups = a.ups; before = a.before; behind = a.behind }) (λ s.
+    clears_low last after ts o s a f)
 
 cancels_low : (last : World → State → Step) (after : After) (f : List ℕ → Bool) (o : World) (s : State) → WorldWaits o →
     ((o : World) (s : State) → WorldWaits o → Low (last o s)) → Low (cancels last after f o s)
@@ -134,7 +133,8 @@ grouped_low rush_of p gs x o s stands a f =
     stands_low (first_did gs) _ _ (λ e. f (record { thread = x; rest = group rush_of p gs }) e) (λ v. next a)
 
 pub next_low : (k : Kind) (p : Place) (gs : List Part) (ls : List ℕ) (x : Thread) (pre post : List Task) (us : List Up)
-    (trees : Trees) (s : State) (stands : Task → Step) → Begins k gs → Others pre post us trees → ((t : Task) → Waits
+    (trees : Trees) (s : State) (stands : Task → Step) → StillBegins k gs → Others pre post us trees → ((t : Task) →
+    Waits
     t.rest → Low (stands t)) → Low (next_arm k p gs ls x pre post us trees s stands)
 next_low k p gs [] x pre post us trees s stands b o f = grouped_low k p gs x (world pre post us trees) s stands o f
 next_low k p gs (l ∷ ls) x pre post us trees s stands b o f = spending_low s.clock.left s _ (λ u. next (with_ups (
@@ -155,7 +155,7 @@ none_more [] n e = refl
 none_more (did v ∷ gs) n e = cc
 none_more (runs m ∷ gs) n e = none_more gs n e
 
-arm_more : (k : Kind) (gs : List Part) (n : ℕ) → Begins k gs → Begins k (gs ++ runs n ∷ [])
+arm_more : (k : Kind) (gs : List Part) (n : ℕ) → StillBegins k gs → StillBegins k (gs ++ runs n ∷ [])
 arm_more all_of gs n b = tt
 arm_more first_of gs n b = none_more gs n b
 arm_more rush_of gs n b = tt
@@ -165,8 +165,7 @@ pub rested_low : (pre post : List Task) (us : List Up) (trees : Trees) (s : Stat
 rested_low pre post [] trees s o = record { holds = stand_among (onto pre post) (onto_wait pre post o.pre o.post) o }
 rested_low pre post (begins x k p gs n ls ∷ us) trees s o =
     next_low k p (gs ++ runs n ∷ []) ls x pre post us trees s _ (arm_more k gs n o.ups.0) (with_ups o.ups.1 o) (λ y a.
-    rested_low (y ∷
-    pre) post us trees s (with_tasks (a, o.pre) o.post (with_ups o.ups.1 o)))
+    rested_low (y ∷ pre) post us trees s (with_tasks (a, o.pre) o.post (with_ups o.ups.1 o)))
 rested_low pre post (branching x ∷ us) trees s o = next (with_ups o.ups o)
 rested_low pre post (spawning x entry ps qs ∷ us) trees s o = next (record {
   pre = o.ups.0;
@@ -205,16 +204,14 @@ climbs_low : (up : List ℕ) (n : ℕ) (v : Val) (pre post : List Task) (trees :
 climbs_low up n v pre [] trees s o = over
 climbs_low up n v pre (y ∷ post) trees s o =
     either_low (same_path up y.thread.who.path) _ _ (joined_low n v y.rest y pre post trees s o.post.0 (with_tasks o.pre
-    o.post.1 o))
-    (climbs_low up n v (y ∷ pre) post trees s (with_tasks (o.post.0, o.pre) o.post.1 o))
+    o.post.1 o)) (climbs_low up n v (y ∷ pre) post trees s (with_tasks (o.post.0, o.pre) o.post.1 o))
 
 part_low : (up : List ℕ) (n : ℕ) (v : Val) (pre post : List Task) (us : List Up) (trees : Trees) (s : State) →
     Others pre post us trees → Low (part_ends up n v pre post us trees s)
 part_low up n v pre post [] trees s o = climbs_low up n v pre post trees s o
 part_low up n v pre post (begins x k p gs m ls ∷ us) trees s o =
     did_low k p (gs ++ did v ∷ []) ls x pre post us trees s _ (with_ups o.ups.1 o) (λ y a. rested_low (y ∷ pre) post us
-    trees s
-    (with_tasks (a, o.pre) o.post (with_ups o.ups.1 o)))
+    trees s (with_tasks (a, o.pre) o.post (with_ups o.ups.1 o)))
 part_low up n v pre post (branching x ∷ us) trees s o = next (with_ups o.ups o)
 part_low up n v pre post (spawning x entry ps qs ∷ us) trees s o = over
 part_low up n v pre post (clearing after ts ∷ us) trees s o = over
@@ -264,8 +261,7 @@ pub cleared_low : (us : List Up) (pre post : List Task) (trees : Trees) (s : Sta
 cleared_low [] pre post trees s o = over
 cleared_low (clearing after ts ∷ us) pre post trees s o =
     clears_low (follows after) after ts (world pre post us trees) s (with_ups o.ups o) (λ s. follows_low after (world
-    pre post us trees)
-    s (with_ups o.ups o))
+    pre post us trees) s (with_ups o.ups o))
 cleared_low (begins x k p gs n ls ∷ us) pre post trees s o = over
 cleared_low (branching x ∷ us) pre post trees s o = over
 cleared_low (spawning x entry ps qs ∷ us) pre post trees s o = over

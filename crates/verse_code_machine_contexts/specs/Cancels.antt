@@ -42,10 +42,10 @@ module _ (c : Code) (after : After) (o : World) where
     pub frames : OnTop fs m.below
 
   -- operations of it, one after another
-  pub data Runs (w : Who) (fs : List Frame) (ts : List Task) : Machine → Machine → Type 0 where
-    stands : {m : Machine} → OfTask w fs ts m → Runs w fs ts m m
-    goes_on : {m k n : Machine} → OfTask w fs ts m → step c m ≡ Next k → Runs w fs ts k n →
-        Runs w fs ts m n
+  pub data Acts (w : Who) (fs : List Frame) (ts : List Task) : Machine → Machine → Type 0 where
+    stands : {m : Machine} → OfTask w fs ts m → Acts w fs ts m m
+    goes_on : {m k n : Machine} → OfTask w fs ts m → step c m ≡ Next k → Acts w fs ts k n →
+        Acts w fs ts m n
 
   -- the last deferred block of a frame begins
   abbrev pub block : Who → Frame → (rest : List ℕ) → (place : ℕ) → List Frame → List Task →
@@ -82,7 +82,7 @@ module _ (c : Code) (after : After) (o : World) where
       -- a block begins, for a step, and runs to its DeferEnd
       deferred : {w : Who} {f : Frame} {fs : List Frame} {ts : List Task} {s : State}
           {x : Outcome} {d left : ℕ} {ds : List ℕ} {n : Machine} → f.life.defers ≡ d ∷ ds →
-          s.clock.left ≡ suc left → Runs w fs ts (block w f ds d fs ts (stepped left s)) n →
+          s.clock.left ≡ suc left → Acts w fs ts (block w f ds d fs ts (stepped left s)) n →
           n.below ≡ fs → op_at c n ≡ Some does.DeferEnd →
           CancelsFrames w (left_by n ∷ fs) ts n.state x → CancelsFrames w (f ∷ fs) ts s x
       no_step : {w : Who} {f : Frame} {fs : List Frame} {ts : List Task} {s : State} {d : ℕ}
@@ -90,11 +90,11 @@ module _ (c : Code) (after : After) (o : World) where
           CancelsFrames w (f ∷ fs) ts s (within (Over ending.Steps s))
       runs : {w : Who} {f : Frame} {fs : List Frame} {ts : List Task} {s : State} {d left : ℕ}
           {ds : List ℕ} {n : Machine} → f.life.defers ≡ d ∷ ds → s.clock.left ≡ suc left →
-          Runs w fs ts (block w f ds d fs ts (stepped left s)) n →
+          Acts w fs ts (block w f ds d fs ts (stepped left s)) n →
           CancelsFrames w (f ∷ fs) ts s (within (Next n))
       ends : {w : Who} {f : Frame} {fs : List Frame} {ts : List Task} {s u : State} {d left : ℕ}
           {ds : List ℕ} {n : Machine} {e : Ending} → f.life.defers ≡ d ∷ ds →
-          s.clock.left ≡ suc left → Runs w fs ts (block w f ds d fs ts (stepped left s)) n →
+          s.clock.left ≡ suc left → Acts w fs ts (block w f ds d fs ts (stepped left s)) n →
           step c n ≡ Over e u → CancelsFrames w (f ∷ fs) ts s (within (Over e u))
 
 -- The tasks of such names have been cancelled, and what waits for that has gone on to the step r:

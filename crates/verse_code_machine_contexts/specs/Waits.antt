@@ -29,15 +29,15 @@ ForestWaits [] = Unit {0}
 ForestWaits (ts ∷ tss) = TasksWait ts × ForestWaits tss
 
 -- a race that still begins its arms has no value; another group begins all of them
-abbrev pub Begins : Kind → List Part → Type 0
-Begins all_of gs = Unit {0}
-Begins first_of gs = first_did gs ≡ None
-Begins rush_of gs = Unit {0}
+abbrev pub StillBegins : Kind → List Part → Type 0
+StillBegins all_of gs = Unit {0}
+StillBegins first_of gs = first_did gs ≡ None
+StillBegins rush_of gs = Unit {0}
 
 -- the tasks that wait for the one that runs, and those of the trees in which they stand
 abbrev pub UpsWait : List Up → Type 0
 UpsWait [] = Unit {0}
-UpsWait (begins x k p gs n ls ∷ us) = Begins k gs × UpsWait us
+UpsWait (begins x k p gs n ls ∷ us) = StillBegins k gs × UpsWait us
 UpsWait (branching x ∷ us) = UpsWait us
 UpsWait (spawning x entry ps qs ∷ us) = TasksWait ps × TasksWait qs × UpsWait us
 UpsWait (clearing a ts ∷ us) = UpsWait us
