@@ -1,0 +1,12 @@
+mod Frames
+mod Effects
+mod Acts
+mod Sites
+mod Runs
+mod Contexts
+mod Deferred
+mod Cancels
+mod Names
+mod Ends
+mod Waits
+mod WaitRuns
