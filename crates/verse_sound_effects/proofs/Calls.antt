@@ -55,7 +55,7 @@ module _ (p : Program) (f : Found) (n : ℕ) (t : Typing) (g : Signature) (b : S
   anywhere c k is_stuck = elim c [ ]
 
 pub calls_promised : FailedContextLeaves → ContextsUndo → CancellingLeaves → ContextsChangeNothing → CallsArePromised
-calls_promised leave undo cancel open p h n fuel t g function o vs m e w at may this args kept =
+calls_promised leave undo cancel agree p h n fuel t g function o vs m e w at may this args kept =
     by (h.found.signature g).lasts m refl may
   where
     sign : Signature
@@ -71,4 +71,4 @@ calls_promised leave undo cancel open p h n fuel t g function o vs m e w at may 
     by true false q d = no_true (d q)
     by false false q d = closed p h.found n t sign sign.result w (comes false d) (calls_keep p (λ k. leave p k) fuel g o vs e w)
     by false true q d = anywhere p h.found n t sign sign.result w (comes false (λ l. no_true (sym q ∙ l)))
-        (calls_keep p (λ k. leave p k) fuel g o vs e w) ((open p fuel).calls g o vs e w)
+        (calls_keep p (λ k. leave p k) fuel g o vs e w) ((agree p fuel).calls g o vs e w)

@@ -25,24 +25,27 @@ calm_then x y = record { now = y.now ∙ x.now; next = y.next ∙ x.next; result
 calm_same : {a : Clock} → Calm a a
 calm_same = record { now = refl; next = refl; results = refl; signals = refl }
 
+calm_spent : (n : ℕ) (s : State) → Calm s.clock (stepped n s).clock
+calm_spent n s = record { now = refl; next = refl; results = refl; signals = refl }
+
 pub leaves_same : (w : World) → Leaves false w w
 leaves_same w = (refl, (refl, calm_same))
 
-leaves_then : {w u x : World} → Leaves false w u → Leaves false u x → Leaves false w x
-leaves_then a b = (b.0 ∙ a.0, (b.1.0 ∙ a.1.0, calm_then a.1.1 b.1.1))
+leaves_then : (w u x : World) → Leaves false w u → Leaves false u x → Leaves false w x
+leaves_then w u x a b = (b.0 ∙ a.0, (b.1.0 ∙ a.1.0, calm_then a.1.1 b.1.1))
 
-keeps_then : {w u : World} (x : Outcome) → Leaves false w u → Keeps false u x → Keeps false w x
-keeps_then (value e v y) a b = leaves_then a b
-keeps_then (failed s) a b = calm_then a.1.1 b
-keeps_then (returned v y) a b = leaves_then a b
-keeps_then (broke y) a b = leaves_then a b
-keeps_then (halted h) a b = tt
-keeps_then (rests r y) a b = (b.0, leaves_then a b.1)
+keeps_then : (w u : World) (x : Outcome) → Leaves false w u → Keeps false u x → Keeps false w x
+keeps_then w u (value e v y) a b = leaves_then w u y a b
+keeps_then w u (failed s) a b = calm_then a.1.1 b
+keeps_then w u (returned v y) a b = leaves_then w u y a b
+keeps_then w u (broke y) a b = leaves_then w u y a b
+keeps_then w u (halted h) a b = tt
+keeps_then w u (rests r y) a b = (b.0, leaves_then w u y a b.1)
 
 valued_keeps : (w : World) (x : Outcome) (wrap : Residual → Residual) (go : Val → World → Outcome) → Keeps false w x →
     ((v : Val) (u : World) → Keeps false u (go v u)) → Keeps false w (valued x wrap go)
 unfolding valued
-valued_keeps w (value e v u) wrap go a f = keeps_then (go v u) a (f v u)
+valued_keeps w (value e v u) wrap go a f = keeps_then w u (go v u) a (f v u)
 valued_keeps w (failed s) wrap go a f = a
 valued_keeps w (returned v u) wrap go a f = a
 valued_keeps w (broke u) wrap go a f = a
@@ -53,7 +56,7 @@ spends_keeps : (left : ℕ) (w : World) (go : World → Outcome) → ((u : World
     Keeps false w (spends left w go)
 unfolding spends
 spends_keeps zero w go f = tt
-spends_keeps (suc n) w go f = f (with_state w (stepped n w.state)) (refl, (refl, calm_same))
+spends_keeps (suc n) w go f = f (with_state w (stepped n w.state)) (refl, (refl, calm_spent n w.state))
 
 known_keeps : {A : Type 0} (w : World) (x : Option A) (go : A → Outcome) → ((x : A) → Keeps false w (go x)) →
     Keeps false w (if_known x w go)

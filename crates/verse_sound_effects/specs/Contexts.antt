@@ -3,7 +3,7 @@ use Rattle.std.specs.Prelude.{ℕ, false}
 use Rattle.verse_base.specs.declared.places.Place.{Place}
 use Rattle.verse_base.specs.declared.refusals.Kind.{Kind as Error}
 use Rattle.verse_tree.specs.Tree.{Tree, Trees, more_trees}
-use Rattle.verse_tree.specs.Tree as t
+use Rattle.verse_tree.specs.Tree as trees
 use Rattle.verse_tree.specs.declared.exprs.Operator.TheVariants as op
 use Rattle.verse_value.specs.Val.{Val, unit}
 use Rattle.verse_meaning_state.specs.State.{State}
@@ -32,19 +32,19 @@ pub data EndsAtOnce (w : World) : Outcome → Type 0 where
 -- of each form that has a failure context, at the node of a number, with these names visible
 pub record ContextsEnd (p : Program) (f : Found) (fuel : ℕ) (t : Typing) (a : Allowed) (xs : Table) (e : Env) (w : World) (n : ℕ)
     (pl : Place) : Type 0 where
-  pub if_else : (cs : Trees) (b d : Tree) → FineShape p f a xs n pl (t.Shape.if_else cs b d) →
+  pub if_else : (cs : Trees) (b d : Tree) → FineShape p f a xs n pl (trees.Shape.if_else cs b d) →
       EndsAtOnce w (statements p (deeper p fuel) cs false e unit w)
-  pub if_alone : (cs : Trees) (b : Tree) → FineShape p f a xs n pl (t.Shape.if_alone cs b) →
+  pub if_alone : (cs : Trees) (b : Tree) → FineShape p f a xs n pl (trees.Shape.if_alone cs b) →
       EndsAtOnce w (statements p (deeper p fuel) cs false e unit w)
-  pub option : (cs : Trees) → FineShape p f a xs n pl (t.Shape.option cs) → EndsAtOnce w (statements p (deeper p fuel) cs false e unit w)
-  pub logic : (cs : Trees) → FineShape p f a xs n pl (t.Shape.logic cs) → EndsAtOnce w (statements p (deeper p fuel) cs false e unit w)
-  pub negation : (b : Tree) → FineShape p f a xs n pl (t.Shape.negation b) → EndsAtOnce w (ev p (deeper p fuel) b false e w)
-  pub or_left : (b d : Tree) → FineShape p f a xs n pl (t.Shape.chained op.Or b d) → EndsAtOnce w (ev p (deeper p fuel) b false e w)
+  pub option : (cs : Trees) → FineShape p f a xs n pl (trees.Shape.option cs) → EndsAtOnce w (statements p (deeper p fuel) cs false e unit w)
+  pub logic : (cs : Trees) → FineShape p f a xs n pl (trees.Shape.logic cs) → EndsAtOnce w (statements p (deeper p fuel) cs false e unit w)
+  pub negation : (b : Tree) → FineShape p f a xs n pl (trees.Shape.negation b) → EndsAtOnce w (ev p (deeper p fuel) b false e w)
+  pub or_left : (b d : Tree) → FineShape p f a xs n pl (trees.Shape.chained op.Or b d) → EndsAtOnce w (ev p (deeper p fuel) b false e w)
   -- the clauses of a `for` up to the first domain
-  pub first_domain : (cs : Trees) (b : Tree) → FineShape p f a xs n pl (t.Shape.for_form cs b) →
+  pub first_domain : (cs : Trees) (b : Tree) → FineShape p f a xs n pl (trees.Shape.for_form cs b) →
       EndsAtOnce w (clauses p (deeper p fuel) cs false e unit w)
   -- and those behind one that has given its names
-  pub filters : (c : Tree) (cs : Trees) (b : Tree) (e1 : Env) → FineShape p f a xs n pl (t.Shape.for_form (more_trees c cs) b) →
+  pub filters : (c : Tree) (cs : Trees) (b : Tree) (e1 : Env) → FineShape p f a xs n pl (trees.Shape.for_form (more_trees c cs) b) →
       Sees f t a.this (seen_behind c xs) e1 → EndsAtOnce w (clauses p (deeper p fuel) cs false e1 unit w)
 
 -- in all environments in which the names are bound as the checker has them, and all worlds that are kept

@@ -1,5 +1,5 @@
 -- No run of an accepted program ends stuck, so no command has the status of one.
-use Rattle.std.proofs.Common.{◌≡◌, ◌≢◌, ℕ, zero, suc, Bool, false, List, [], ◌∷◌, length, Some, slice_get, refl, sym, subst, arith}
+use Rattle.std.proofs.Common.{◌≡◌, ◌≢◌, ℕ, zero, suc, Bool, false, List, [], ◌∷◌, length, Some, slice_get, refl, sym, subst}
 use Rattle.verse_tree.specs.ItemTree.{ItemTree}
 use Rattle.verse_rules_types.specs.Types.{Ty}
 use Rattle.verse_rules_types.specs.Types as ty
@@ -12,13 +12,14 @@ use Rattle.verse_accept.specs.Fronts.{Accepts}
 use Rattle.verse_accept_fine.specs.Sorted as sorted
 use Rattle.verse_accept_trees.specs.Laws.{Told}
 use Rattle.verse_accept_sound.specs.Laws.{ItemsAreNeverStuck}
-use Rattle.verse_top_args.specs.Words.{exec, Options}
+use Rattle.verse_top_args.specs.Words.{Command, run, exec, Options, SayOnce}
 use Rattle.verse_top_texts.specs.Endings.{ending_status}
 use Rattle.verse_top_load.specs.Load.{load_text_of}
 use Rattle.verse_top.specs.Meaning.{default_options, is_array, is_event, mean_with, of_node, program_from}
-use Rattle.verse_top.specs.Answers.{Answers, too_large, refused, ran, built, executed, loaded, Loads}
-use Rattle.verse_top.specs.Answers.{accepted, rejected, AnsweredOnce, ExecRunsWhatIsBuilt}
-use Rattle.verse_top_laws.specs.Statuses.{RunIsNeverStuck, LoadIsNeverStuck, BuiltIsNeverStuck}
+use Rattle.verse_top.specs.Answers.{Answers, too_large, refused, ran, built, loaded, Loads, accepted, rejected}
+use Rattle.verse_top.specs.Answers.{AnsweredOnce, ExecRunsWhatIsBuilt}
+use Rattle.verse_top_laws.specs.Statuses as is
+use Rattle.verse_top_laws.specs.Statuses.{EndStatus, RunStatus, RunIsNeverStuck, LoadIsNeverStuck, BuiltIsNeverStuck, WordsAreNeverStuck}
 
 -- ---- what tells of arrays and events
 
@@ -36,46 +37,53 @@ node_is f g same none [] n = sym none
 node_is f g same none (u ∷ us) zero = same u
 node_is f g same none (u ∷ us) (suc n) = node_is f g same none us n
 
-told : (is : List ItemTree) → Told is (λ n. of_node is_array (slice_get (types_of is) n)) (λ n. of_node is_event (slice_get (types_of is) n))
-told is = record {
-  of_arrays = node_is is_array sorted.is_array_type same_array refl (types_of is);
-  of_events = node_is is_event sorted.is_event_type same_event refl (types_of is);
+told : (items : List ItemTree) →
+    Told items (λ n. of_node is_array (slice_get (types_of items) n)) (λ n. of_node is_event (slice_get (types_of items) n))
+told items = record {
+  of_arrays = node_is is_array sorted.is_array_type same_array refl (types_of items);
+  of_events = node_is is_event sorted.is_event_type same_event refl (types_of items);
 }
 
 -- ---- statuses
 
-status_is : (e : Ending) → e ≢ ending.Stuck → ending_status e ≢ 8
-status_is ending.Done h = λ q. omega (arith, q)
-status_is ending.Waiting h = λ q. omega (arith, q)
-status_is ending.Until h = λ q. omega (arith, q)
-status_is ending.Steps h = λ q. omega (arith, q)
-status_is (ending.Error k p) h = λ q. omega (arith, q)
-status_is ending.Stuck h = λ q. h refl
+status_is : (e : Ending) → e ≢ ending.Stuck → EndStatus (ending_status e)
+status_is ending.Done h = is.done
+status_is ending.Waiting h = is.unfinished
+status_is ending.Until h = is.unfinished
+status_is ending.Steps h = is.unfinished
+status_is (ending.Error k p) h = is.by_error
+status_is ending.Stuck h = absurd (h refl)
 
-mean_free : ItemsAreNeverStuck → (files : List (List ℕ)) (is : List ItemTree) → Accepts files is → (o : Options) →
-    ending_status (mean_with is o).ending ≢ 8
-mean_free free files is a o =
-    status_is (mean_with is o).ending (free files is a (program_from is).is_array (program_from is).is_event (told is) o.inputs o.steps o.until)
+mean_ends : ItemsAreNeverStuck → (files : List (List ℕ)) (items : List ItemTree) → Accepts files items → (o : Options) →
+    EndStatus (ending_status (mean_with items o).ending)
+mean_ends free files items a o =
+    status_is (mean_with items o).ending
+    (free files items a (program_from items).is_array (program_from items).is_event (told items) o.inputs o.steps o.until)
 
-loads_free : ItemsAreNeverStuck → (n s : ℕ) (x : List ℕ) → Loads n s x → s ≢ 8
-loads_free free n s x (accepted is u z p m) =
-    subst (λ v. v ≢ 8) (sym m.status_is) (mean_free free (load_text_of n ∷ []) is p default_options)
-loads_free free n s x (rejected r q) = λ e. omega (arith, e)
+loads_end : ItemsAreNeverStuck → (n status : ℕ) (text : List ℕ) → Loads n status text → RunStatus status
+loads_end free n s x (accepted items u z p m) =
+    is.ended (subst EndStatus (sym m.status_is) (mean_ends free (load_text_of n ∷ []) items p default_options))
+loads_end free n s x (rejected r q) = is.refused
 
-pub run_free : ItemsAreNeverStuck → RunIsNeverStuck
-run_free free held names o s x (too_large c n g p) = λ q. omega (arith, q)
-run_free free held names o s x (refused c files r g l p) = λ q. omega (arith, q)
-run_free free held names o s x (ran ns u files is l p) = mean_free free files is p o
+pub run_ends : ItemsAreNeverStuck → RunIsNeverStuck
+run_ends free held names o s x (too_large c n g p) = is.refused
+run_ends free held names o s x (refused c files r g l p) = is.refused
+run_ends free held names o s x (ran ns u files items l p) = is.ended (mean_ends free files items p o)
 
-pub load_free : ItemsAreNeverStuck → LoadIsNeverStuck
-load_free free held n s x (too_large c m g p) = absurd g
-load_free free held n s x (refused c files r g l p) = absurd g
-load_free free held n s x (loaded m u z p) = loads_free free n s x p
+pub load_ends : ItemsAreNeverStuck → LoadIsNeverStuck
+load_ends free held n s x (too_large c m g p) = absurd g
+load_ends free held n s x (refused c files r g l p) = absurd g
+load_ends free held n s x (loaded m u z p) = loads_end free n s x p
 
-pub built_free : ItemsAreNeverStuck → AnsweredOnce → ExecRunsWhatIsBuilt → BuiltIsNeverStuck
-built_free free once runs held other names name image o s x (built ns files is bytes l p i) read e =
-    let status = ending_status (mean_with is o).ending in
-    let text = run_text (mean_with is o) o.heap (length names) in
+pub built_ends : ItemsAreNeverStuck → AnsweredOnce → ExecRunsWhatIsBuilt → BuiltIsNeverStuck
+built_ends free once runs held other names name image o s x (built ns files items bytes l p i) read e =
+    let status = ending_status (mean_with items o).ending in
+    let text = run_text (mean_with items o) o.heap (length names) in
     let here : Answers (Some other) (exec name o) status text =
-    runs held (Some other) names name image o status text (built ns files is bytes l p i) read (ran ns o files is l p) in
-    subst (λ v. v ≢ 8) (sym (once other (exec name o) s status x text e here).0) (mean_free free files is p o)
+    runs held (Some other) names name image o status text (built ns files items bytes l p i) read (ran ns o files items l p) in
+    subst EndStatus (sym (once other (exec name o) s status x text e here).0) (mean_ends free files items p o)
+
+pub words_end : ItemsAreNeverStuck → SayOnce → WordsAreNeverStuck
+words_end free once words held names o s old new says answered =
+    run_ends free held names o s answered.text (subst (λ c. Answers held c s answered.text)
+    (once words answered.command (run names o) answered.says says) answered.answers)
