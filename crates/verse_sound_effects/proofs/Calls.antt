@@ -1,21 +1,16 @@
 -- Calls keep what effects promise, wherever they stand.
-use Rattle.std.proofs.Common.{◌≡◌, ◌∙◌, ℕ, Bool, true, false, List, Option, refl, sym, subst}
-use Rattle.std.specs.Prelude.{Some, None}
-use Rattle.verse_tree.specs.ItemTree.{FunTree}
-use Rattle.verse_value.specs.Val.{Val}
+use Rattle.std.proofs.Common.{◌≡◌, ◌∙◌, ℕ, Bool, true, false, refl, sym}
+use Rattle.std.specs.Prelude.{None}
 use Rattle.verse_sorts.specs.Sorts.{Sort}
-use Rattle.verse_sorts.specs.Typing.{Typing, Are}
-use Rattle.verse_meaning.specs.Programs.{Program, fun_at}
-use Rattle.verse_meaning.specs.Residuals.{Env}
+use Rattle.verse_sorts.specs.Typing.{Typing}
+use Rattle.verse_meaning.specs.Programs.{Program}
 use Rattle.verse_meaning.specs.Outcomes.{World, Outcome}
 use Rattle.verse_meaning.specs.Runs.{deeper}
 use Rattle.verse_meaning.specs.Laws.{Keeps, FailedContextLeaves, ContextsUndo, CancellingLeaves}
 use Rattle.verse_sound_rules.specs.Found.{Found, Allowed, Signature}
-use Rattle.verse_sound_rules.specs.Programs.{FineProgram}
-use Rattle.verse_sound_outcomes.specs.Names.{HasThis}
 use Rattle.verse_sound_outcomes.specs.Outcomes as well
 use Rattle.verse_sound_outcomes.specs.Outcomes.{any_names}
-use Rattle.verse_sound_outcomes.specs.Going.{Kept, turns, Comes}
+use Rattle.verse_sound_outcomes.specs.Going.{turns, Comes}
 use Rattle.verse_sound_runs.proofs.Calls.{no_true, turns_deep}
 use Rattle.verse_sound_effects.specs.Opening.{SameOrStuck, same, is_stuck, ContextsChangeNothing}
 use Rattle.verse_sound_effects.specs.Calls.{Promised, gives, fails, waits, faults, ends_steps, CallsArePromised}
@@ -63,12 +58,15 @@ calls_promised leave undo cancel agree p h n fuel t g function o vs m e w at may
 
     comes : (m : Bool) → (sign.lasts ≡ true → m ≡ true) →
         Comes p h.found (turns n) any_names t (round_call sign m) sign.result ((deeper p fuel).calls g o vs m e w)
-    comes m d = (turns_deep p h.found (λ k. leave p k) (λ k. undo p k) (λ k. cancel p k) h.fine n fuel).calls t (round_call sign m) g
+    comes m d = (turns_deep p h.found (λ k. leave p k) (λ k. undo p k) (λ k. cancel p k) h.fine n fuel).calls t
+        (round_call sign m) g
         function o vs e w at tt (λ d. d) d this args kept
 
-    by : (b m : Bool) → sign.lasts ≡ b → (sign.lasts ≡ true → m ≡ true) → Promised sign w ((deeper p fuel).calls g o vs m e w)
+    by : (b m : Bool) → sign.lasts ≡ b → (sign.lasts ≡ true → m ≡ true) →
+        Promised sign w ((deeper p fuel).calls g o vs m e w)
     by true true q d = lasting p h.found n t sign sign.result w q (comes true d)
     by true false q d = no_true (d q)
-    by false false q d = closed p h.found n t sign sign.result w (comes false d) (calls_keep p (λ k. leave p k) fuel g o vs e w)
+    by false false q d = closed p h.found n t sign sign.result w (comes false d) (calls_keep p
+        (λ k. leave p k) fuel g o vs e w)
     by false true q d = anywhere p h.found n t sign sign.result w (comes false (λ l. no_true (sym q ∙ l)))
         (calls_keep p (λ k. leave p k) fuel g o vs e w) ((agree p fuel).calls g o vs e w)

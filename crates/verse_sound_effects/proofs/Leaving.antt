@@ -1,9 +1,9 @@
 -- What calls, and the clauses of a `for`, leave as it was where a failure context is open.
-use Rattle.std.proofs.Common.{◌≡◌, ◌∙◌, ℕ, zero, suc, List, [], ◌∷◌, Option, Some, None, Bool, true, false, refl, sym, subst, arith}
+use Rattle.std.proofs.Common.{◌≡◌, ◌∙◌, ℕ, zero, suc, List, Option, Some, None, true, false, refl, sym, subst}
 use Rattle.verse_base.specs.declared.places.Place.{Place}
 use Rattle.verse_tree.specs.Tree.{Tree, tree, Shape, Trees, no_trees, more_trees}
 use Rattle.verse_tree.specs.Tree as t
-use Rattle.verse_value.specs.Val.{Val, unit}
+use Rattle.verse_value.specs.Val.{Val}
 use Rattle.verse_value.specs.Answer as answer
 use Rattle.verse_value.specs.Answer.{Answer}
 use Rattle.verse_value.specs.Store.{Store}
@@ -11,16 +11,23 @@ use Rattle.verse_meaning_state.specs.State.{State, Clock, stepped}
 use Rattle.verse_meaning_state.specs.Effects.{added}
 use Rattle.verse_meaning.specs.Programs.{Program, fun_at}
 use Rattle.verse_meaning.specs.Residuals.{Env, Residual, Binder, no_name, a_constant, a_variable, Scopes, none, body}
-use Rattle.verse_meaning.specs.Outcomes.{World, with_state, set_behind, Outcome, value, failed, returned, broke, halted, rests, valued}
+use Rattle.verse_meaning.specs.Outcomes.{World, with_state, set_behind, Outcome, value, failed, returned, broke, halted}
+use Rattle.verse_meaning.specs.Outcomes.{rests, valued}
 use Rattle.verse_meaning.specs.Outcomes.{call_end, if_known, spends, told, on_went_task, ends}
 use Rattle.verse_meaning.specs.Forms.{Deeper, defined}
-use Rattle.verse_meaning.specs.Evaluating.{Statement, plain, defines, defers, generates, statement_of, claused, ev, inner, inner_shape}
+use Rattle.verse_meaning.specs.Evaluating.{Statement, plain, defines, defers, generates, statement_of, claused, ev}
+use Rattle.verse_meaning.specs.Evaluating.{inner, inner_shape}
 use Rattle.verse_meaning.specs.Evaluating.{clauses, scope_end, cancel_behind}
 use Rattle.verse_meaning.specs.Runs.{deeper, with_params, with_this}
 use Rattle.verse_meaning.specs.Laws.{Calm, Leaves, Keeps, ContextLeaves}
 
 calm_then : {a b c : Clock} → Calm a b → Calm b c → Calm a c
-calm_then x y = record { now = y.now ∙ x.now; next = y.next ∙ x.next; results = y.results ∙ x.results; signals = y.signals ∙ x.signals }
+calm_then x y = record {
+  now = y.now ∙ x.now;
+  next = y.next ∙ x.next;
+  results = y.results ∙ x.results;
+  signals = y.signals ∙ x.signals;
+}
 
 calm_same : {a : Clock} → Calm a a
 calm_same = record { now = refl; next = refl; results = refl; signals = refl }
@@ -65,7 +72,8 @@ known_keeps w None go f = tt
 known_keeps w (Some x) go f = f x
 
 -- one cell more
-added_keeps : (w : World) (x : Answer Store) (v : Val) (pl : Place) (e : Env) → Keeps false w (told (added x v w.state) pl e w)
+added_keeps : (w : World) (x : Answer Store) (v : Val) (pl : Place) (e : Env) →
+    Keeps false w (told (added x v w.state) pl e w)
 unfolding told
 added_keeps w (answer.gives m) v pl e = (refl, (refl, calm_same))
 added_keeps w answer.fails v pl e = calm_same
@@ -91,22 +99,26 @@ module _ (p : Program) (k : Deeper) (form : (a : Tree) (e : Env) (w : World) →
       by (t.Shape.elements x a) = form a e w
       by (t.Shape.entries x y a) = form a e w
       by (t.Shape.range x a b) =
-          valued_keeps w _ (λ r. r) _ (form a e w) (λ v u. valued_keeps u _ (λ r. r) _ (form b e u) (λ y z. leaves_same z))
+          valued_keeps w _ (λ r. r) _ (form a e w) (λ v u. valued_keeps u _ (λ r. r) _ (form b e u)
+          (λ y z. leaves_same z))
       by s = tt
 
-  claused_keeps : (x : Statement) (e : Env) (w : World) (whole inner : World → Outcome) (go : Env → Val → World → Outcome) →
+  claused_keeps : (x : Statement) (e : Env) (w : World) (whole inner : World → Outcome) (go : Env → Val → World →
+      Outcome) →
       ((u : World) → Keeps false u (whole u)) → ((u : World) → Keeps false u (inner u)) →
       ((e : Env) (v : Val) (u : World) → Keeps false u (go e v u)) → Keeps false w (claused p k x e w whole inner go)
   unfolding claused
   claused_keeps plain e w whole inner go f g h = valued_keeps w _ (λ r. r) _ (f w) (λ v u. h e v u)
-  claused_keeps (defines b) e w whole inner go f g h = valued_keeps w _ (λ r. r) _ (g w) (λ v u. defined_keeps b e v u go h)
+  claused_keeps (defines b) e w whole inner go f g h =
+      valued_keeps w _ (λ r. r) _ (g w) (λ v u. defined_keeps b e v u go h)
   claused_keeps (defers a) e w whole inner go f g h = tt
   claused_keeps (generates x) e w whole inner go f g h = valued_keeps w _ (λ r. r) _ (g w) (λ v u. leaves_same u)
 
   pub clauses_keep : (cs : Trees) (e : Env) (last : Val) (w : World) → Keeps false w (clauses p k cs false e last w)
   clauses_keep no_trees e last w = leaves_same w
   clauses_keep (more_trees a cs) e last w =
-      claused_keeps (statement_of a) e w _ _ _ (λ u. form a e u) (λ u. inner_keeps a e u) (λ e v u. clauses_keep cs e v u)
+      claused_keeps (statement_of a) e w _ _ _ (λ u. form a e u) (λ u. inner_keeps a e u)
+      (λ e v u. clauses_keep cs e v u)
 
   -- nothing is behind where the body of a function ends
   ended_keeps : (w u : World) (outer bs : Scopes) (e : Env) (v : Val) → bs ≡ none → outer ≡ w.behind →
@@ -114,15 +126,18 @@ module _ (p : Program) (k : Deeper) (form : (a : Tree) (e : Env) (w : World) →
       Keeps false w (call_end e (on_went_task (cancel_behind p k bs u) (λ z. ends v (set_behind z outer))))
   unfolding on_went_task call_end
   ended_keeps w u outer bs e v same behind a =
-      subst (λ bs. Keeps false w (call_end e (on_went_task (cancel_behind p k bs u) (λ z. ends v (set_behind z outer))))) (sym same)
+      subst (λ bs. Keeps false w (call_end e (on_went_task (cancel_behind p k bs u) (λ z. ends v
+      (set_behind z outer))))) (sym same)
       (behind, (a.0, a.1))
 
   called_keeps : (w z : World) (x : Outcome) (e : Env) → Leaves false w z → Keeps false (set_behind z none) x →
       Keeps false w (call_end e (scope_end p k body z.behind x))
   unfolding call_end scope_end
-  called_keeps w z (value e1 v u) e l a = ended_keeps w u z.behind u.behind e v a.0 l.0 (a.1.0 ∙ l.1.0, calm_then l.1.1 a.1.1)
+  called_keeps w z (value e1 v u) e l a = ended_keeps w u z.behind u.behind e v a.0 l.0
+      (a.1.0 ∙ l.1.0, calm_then l.1.1 a.1.1)
   called_keeps w z (failed s) e l a = calm_then l.1.1 a
-  called_keeps w z (returned v u) e l a = ended_keeps w u z.behind u.behind e v a.0 l.0 (a.1.0 ∙ l.1.0, calm_then l.1.1 a.1.1)
+  called_keeps w z (returned v u) e l a = ended_keeps w u z.behind u.behind e v a.0 l.0
+      (a.1.0 ∙ l.1.0, calm_then l.1.1 a.1.1)
   called_keeps w z (broke u) e l a = tt
   called_keeps w z (halted h) e l a = tt
   called_keeps w z (rests r u) e l a = no_wait a.0
@@ -130,9 +145,11 @@ module _ (p : Program) (k : Deeper) (form : (a : Tree) (e : Env) (w : World) →
       no_wait : {A : Type 0} → false ≡ true → A
       no_wait h = cc
 
-pub calls_keep : (p : Program) → ((g : ℕ) → ContextLeaves p g) → (fuel g : ℕ) (ob : Option Val) (vs : List Val) (e : Env) (w : World) →
+pub calls_keep : (p : Program) → ((g : ℕ) → ContextLeaves p g) →
+    (fuel g : ℕ) (ob : Option Val) (vs : List Val) (e : Env) (w : World) →
     Keeps false w ((deeper p fuel).calls g ob vs false e w)
-calls_keep p leave zero g ob vs e w = known_keeps w (fun_at p g) _ (λ fn. known_keeps w (with_params fn.params vs (with_this ob)) _ (λ e1. tt))
+calls_keep p leave zero g ob vs e w = known_keeps w (fun_at p g) _ (λ fn. known_keeps w (with_params fn.params vs
+    (with_this ob)) _ (λ e1. tt))
 calls_keep p leave (suc n) g ob vs e w =
     known_keeps w (fun_at p g) _ (λ fn. known_keeps w (with_params fn.params vs (with_this ob)) _ (λ e1.
     spends_keeps w.state.clock.left w _ (λ z l. called_keeps p (deeper p n) (λ a e w. (leave n).form a e w) w z _ e l

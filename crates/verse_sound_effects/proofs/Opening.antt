@@ -1,10 +1,11 @@
 -- With a failure context open, and with none, through the combinators.
-use Rattle.std.proofs.Common.{ℕ, zero, suc, Option, Some, None, Bool, true, false}
+use Rattle.std.proofs.Common.{ℕ, zero, suc, Option, Some, None, true, false}
 use Rattle.verse_value.specs.Val.{Val}
 use Rattle.verse_meaning_state.specs.State.{stepped}
-use Rattle.verse_meaning.specs.Programs.{Program, fun_at}
+use Rattle.verse_meaning.specs.Programs.{Program}
 use Rattle.verse_meaning.specs.Residuals.{Env, Values, Residual, Role, Scopes}
-use Rattle.verse_meaning.specs.Outcomes.{World, with_state, Outcome, value, failed, returned, broke, halted, rests, valued, attempted}
+use Rattle.verse_meaning.specs.Outcomes.{World, with_state, Outcome, value, failed, returned, broke, halted, rests}
+use Rattle.verse_meaning.specs.Outcomes.{valued, attempted}
 use Rattle.verse_meaning.specs.Outcomes.{turned, closing, call_end, if_there, if_known, outside, spends}
 use Rattle.verse_meaning.specs.Forms.{Deeper}
 use Rattle.verse_meaning.specs.Evaluating.{scope_end}
@@ -68,13 +69,15 @@ unfolding call_end scope_end
 called_opens p k q outer e same = same
 called_opens p k q outer e is_stuck = is_stuck
 
-pub there_opens : {A : Type 0} (x : Option A) (w : World) (go go' : A → Outcome) → ((x : A) → SameOrStuck (go x) (go' x)) →
+pub there_opens : {A : Type 0} (x : Option A) (w : World) (go go' : A → Outcome) → ((x : A) →
+    SameOrStuck (go x) (go' x)) →
     SameOrStuck (if_there x w go) (if_there x w go')
 unfolding if_there
 there_opens None w go go' f = same
 there_opens (Some x) w go go' f = f x
 
-pub known_opens : {A : Type 0} (x : Option A) (w : World) (go go' : A → Outcome) → ((x : A) → SameOrStuck (go x) (go' x)) →
+pub known_opens : {A : Type 0} (x : Option A) (w : World) (go go' : A → Outcome) → ((x : A) →
+    SameOrStuck (go x) (go' x)) →
     SameOrStuck (if_known x w go) (if_known x w go')
 unfolding if_known
 known_opens None w go go' f = same
@@ -92,7 +95,8 @@ spends_opens zero w go go' f = same
 spends_opens (suc n) w go go' f = f (with_state w (stepped n w.state))
 
 pub next_opens : (x : Option ((Val × Val) × Values)) (ended : Outcome) (go go' : Val × Val → Values → Outcome) →
-    ((x : Val × Val) (left : Values) → SameOrStuck (go x left) (go' x left)) → SameOrStuck (on_next x ended go) (on_next x ended go')
+    ((x : Val × Val) (left : Values) → SameOrStuck (go x left) (go' x left)) →
+    SameOrStuck (on_next x ended go) (on_next x ended go')
 unfolding on_next
 next_opens None ended go go' f = same
 next_opens (Some x) ended go go' f = f x.0 x.1

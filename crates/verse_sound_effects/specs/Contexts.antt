@@ -21,8 +21,8 @@ use Rattle.verse_sound_rules.specs.Programs.{FineProgram}
 use Rattle.verse_sound_outcomes.specs.Names.{Sees}
 use Rattle.verse_sound_outcomes.specs.Going.{Kept, turns}
 
--- They hold or fail at once, or the run ends by an error or for want of steps. Tasks, waits, signals and the background are then as they
--- were, and only steps are gone from the clock.
+-- They hold or fail at once, or the run ends by an error or for want of steps. Where they hold or fail, tasks, waits,
+-- signals and the background are as they were, and only steps are gone from the clock.
 pub data EndsAtOnce (w : World) : Outcome → Type 0 where
   holds : {e : Env} {v : Val} {u : World} → Leaves false w u → EndsAtOnce w (value e v u)
   fails : {s : State} → Calm w.state.clock s.clock → EndsAtOnce w (failed s)
@@ -30,24 +30,30 @@ pub data EndsAtOnce (w : World) : Outcome → Type 0 where
   ends_steps : {s : State} → EndsAtOnce w (halted (out s))
 
 -- of each form that has a failure context, at the node of a number, with these names visible
-pub record ContextsEnd (p : Program) (f : Found) (fuel : ℕ) (t : Typing) (a : Allowed) (xs : Table) (e : Env) (w : World) (n : ℕ)
-    (pl : Place) : Type 0 where
+pub record ContextsEnd (p : Program) (f : Found) (fuel : ℕ) (t : Typing) (a : Allowed) (xs : Table) (e : Env)
+    (w : World) (n : ℕ) (pl : Place) : Type 0 where
   pub if_else : (cs : Trees) (b d : Tree) → FineShape p f a xs n pl (trees.Shape.if_else cs b d) →
       EndsAtOnce w (statements p (deeper p fuel) cs false e unit w)
   pub if_alone : (cs : Trees) (b : Tree) → FineShape p f a xs n pl (trees.Shape.if_alone cs b) →
       EndsAtOnce w (statements p (deeper p fuel) cs false e unit w)
-  pub option : (cs : Trees) → FineShape p f a xs n pl (trees.Shape.option cs) → EndsAtOnce w (statements p (deeper p fuel) cs false e unit w)
-  pub logic : (cs : Trees) → FineShape p f a xs n pl (trees.Shape.logic cs) → EndsAtOnce w (statements p (deeper p fuel) cs false e unit w)
-  pub negation : (b : Tree) → FineShape p f a xs n pl (trees.Shape.negation b) → EndsAtOnce w (ev p (deeper p fuel) b false e w)
-  pub or_left : (b d : Tree) → FineShape p f a xs n pl (trees.Shape.chained op.Or b d) → EndsAtOnce w (ev p (deeper p fuel) b false e w)
+  pub option : (cs : Trees) → FineShape p f a xs n pl (trees.Shape.option cs) →
+      EndsAtOnce w (statements p (deeper p fuel) cs false e unit w)
+  pub logic : (cs : Trees) → FineShape p f a xs n pl (trees.Shape.logic cs) →
+      EndsAtOnce w (statements p (deeper p fuel) cs false e unit w)
+  pub negation : (b : Tree) → FineShape p f a xs n pl (trees.Shape.negation b) →
+      EndsAtOnce w (ev p (deeper p fuel) b false e w)
+  pub or_left : (b d : Tree) → FineShape p f a xs n pl (trees.Shape.chained op.Or b d) →
+      EndsAtOnce w (ev p (deeper p fuel) b false e w)
   -- the clauses of a `for` up to the first domain
   pub first_domain : (cs : Trees) (b : Tree) → FineShape p f a xs n pl (trees.Shape.for_form cs b) →
       EndsAtOnce w (clauses p (deeper p fuel) cs false e unit w)
   -- and those behind one that has given its names
-  pub filters : (c : Tree) (cs : Trees) (b : Tree) (e1 : Env) → FineShape p f a xs n pl (trees.Shape.for_form (more_trees c cs) b) →
+  pub filters : (c : Tree) (cs : Trees) (b : Tree) (e1 : Env) →
+      FineShape p f a xs n pl (trees.Shape.for_form (more_trees c cs) b) →
       Sees f t a.this (seen_behind c xs) e1 → EndsAtOnce w (clauses p (deeper p fuel) cs false e1 unit w)
 
 -- in all environments in which the names are bound as the checker has them, and all worlds that are kept
 abbrev pub ContextsEndAtOnce : Type 0
-ContextsEndAtOnce = (p : Program) (h : FineProgram p) (turn_count fuel : ℕ) (t : Typing) (a : Allowed) (xs : Table) (e : Env) (w : World)
-    (n : ℕ) (pl : Place) → Sees h.found t a.this xs e → Kept p h.found (turns turn_count) t w → ContextsEnd p h.found fuel t a xs e w n pl
+ContextsEndAtOnce = (p : Program) (h : FineProgram p) (turn_count fuel : ℕ) (t : Typing) (a : Allowed) (xs : Table)
+    (e : Env) (w : World) (n : ℕ) (pl : Place) → Sees h.found t a.this xs e →
+    Kept p h.found (turns turn_count) t w → ContextsEnd p h.found fuel t a xs e w n pl
