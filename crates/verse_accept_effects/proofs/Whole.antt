@@ -1,11 +1,10 @@
 -- Effects keep their promises in accepted programs.
-use Rattle.std.proofs.Common.{◌≡◌, ◌∙◌, ℕ, Bool, true, false, List, map, refl, sym, ap, subst}
+use Rattle.std.proofs.Common.{◌≡◌, ◌∙◌, ℕ, Bool, List, sym, ap, subst}
 use Rattle.std.specs.Prelude.{Some, slice_get}
 use Rattle.verse_tree.specs.ItemTree.{ItemTree}
 use Rattle.verse_tree.specs.declared.tables.Effects.{Effects}
 use Rattle.verse_names_declarations.specs.Known.{known}
 use Rattle.verse_rules_walk.specs.Order.{InPostOrder}
-use Rattle.verse_rules.specs.Sound.{completed}
 use Rattle.verse_accept.specs.Fronts.{Accepts}
 use Rattle.verse_meaning.specs.Outcomes.{World, Outcome}
 use Rattle.verse_sorts.specs.Typing.{Are}

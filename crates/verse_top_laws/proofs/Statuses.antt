@@ -1,5 +1,6 @@
 -- No run of an accepted program ends stuck, so no command has the status of one.
-use Rattle.std.proofs.Common.{◌≡◌, ◌≢◌, ℕ, zero, suc, Bool, false, List, [], ◌∷◌, length, Some, slice_get, refl, sym, subst}
+use Rattle.std.proofs.Common.{◌≡◌, ◌≢◌, ℕ, zero, suc, Bool, false, List, [], ◌∷◌, length, Some, slice_get, refl, sym}
+use Rattle.std.proofs.Common.{subst}
 use Rattle.verse_tree.specs.ItemTree.{ItemTree}
 use Rattle.verse_rules_types.specs.Types.{Ty}
 use Rattle.verse_rules_types.specs.Types as ty
@@ -12,14 +13,15 @@ use Rattle.verse_accept.specs.Fronts.{Accepts}
 use Rattle.verse_accept_fine.specs.Sorted as sorted
 use Rattle.verse_accept_trees.specs.Laws.{Told}
 use Rattle.verse_accept_sound.specs.Laws.{ItemsAreNeverStuck}
-use Rattle.verse_top_args.specs.Words.{Command, run, exec, Options, SayOnce}
+use Rattle.verse_top_args.specs.Words.{run, exec, Options, SayOnce}
 use Rattle.verse_top_texts.specs.Endings.{ending_status}
 use Rattle.verse_top_load.specs.Load.{load_text_of}
 use Rattle.verse_top.specs.Meaning.{default_options, is_array, is_event, mean_with, of_node, program_from}
 use Rattle.verse_top.specs.Answers.{Answers, too_large, refused, ran, built, loaded, Loads, accepted, rejected}
 use Rattle.verse_top.specs.Answers.{AnsweredOnce, ExecRunsWhatIsBuilt}
 use Rattle.verse_top_laws.specs.Statuses as is
-use Rattle.verse_top_laws.specs.Statuses.{EndStatus, RunStatus, RunIsNeverStuck, LoadIsNeverStuck, BuiltIsNeverStuck, WordsAreNeverStuck}
+use Rattle.verse_top_laws.specs.Statuses.{EndStatus, RunStatus, RunIsNeverStuck, LoadIsNeverStuck, BuiltIsNeverStuck}
+use Rattle.verse_top_laws.specs.Statuses.{WordsAreNeverStuck}
 
 -- ---- what tells of arrays and events
 
@@ -38,7 +40,8 @@ node_is f g same none (u ∷ us) zero = same u
 node_is f g same none (u ∷ us) (suc n) = node_is f g same none us n
 
 told : (items : List ItemTree) →
-    Told items (λ n. of_node is_array (slice_get (types_of items) n)) (λ n. of_node is_event (slice_get (types_of items) n))
+    Told items (λ n. of_node is_array (slice_get (types_of items) n)) (λ n. of_node is_event (slice_get
+    (types_of items) n))
 told items = record {
   of_arrays = node_is is_array sorted.is_array_type same_array refl (types_of items);
   of_events = node_is is_event sorted.is_event_type same_event refl (types_of items);
@@ -58,7 +61,8 @@ mean_ends : ItemsAreNeverStuck → (files : List (List ℕ)) (items : List ItemT
     EndStatus (ending_status (mean_with items o).ending)
 mean_ends free files items a o =
     status_is (mean_with items o).ending
-    (free files items a (program_from items).is_array (program_from items).is_event (told items) o.inputs o.steps o.until)
+    (free files items a (program_from items).is_array (program_from items).is_event
+    (told items) o.inputs o.steps o.until)
 
 loads_end : ItemsAreNeverStuck → (n status : ℕ) (text : List ℕ) → Loads n status text → RunStatus status
 loads_end free n s x (accepted items u z p m) =
@@ -80,7 +84,8 @@ built_ends free once runs held other names name image o s x (built ns files item
     let status = ending_status (mean_with items o).ending in
     let text = run_text (mean_with items o) o.heap (length names) in
     let here : Answers (Some other) (exec name o) status text =
-    runs held (Some other) names name image o status text (built ns files items bytes l p i) read (ran ns o files items l p) in
+    runs held (Some other) names name image o status text (built ns files items bytes l p i) read
+    (ran ns o files items l p) in
     subst EndStatus (sym (once other (exec name o) s status x text e here).0) (mean_ends free files items p o)
 
 pub words_end : ItemsAreNeverStuck → SayOnce → WordsAreNeverStuck
