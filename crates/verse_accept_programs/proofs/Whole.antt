@@ -1,14 +1,9 @@
 -- A program that breaks no rule is fine.
-use Rattle.std.proofs.Common.{◌≡◌, ℕ, Bool, true, false, List, [], Option, refl, sym, subst, inl}
-use Rattle.std.specs.Prelude.{Some, None, slice_get}
-use Rattle.verse_tree.specs.ItemTree.{FunTree, ItemTree}
-use Rattle.verse_names_declarations.specs.Known.{known}
-use Rattle.verse_sorts.specs.Sorts.{Sort}
-use Rattle.verse_meaning.specs.Programs.{fun_of_info}
-use Rattle.verse_rules.specs.Sound.{completed}
+use Rattle.std.proofs.Common.{true, false, [], refl, subst, inl}
+use Rattle.std.specs.Prelude.{Some, None}
 use Rattle.verse_sound_rules.specs.Fine.{Fine}
 use Rattle.verse_sound_rules.specs.Programs.{params_behind, FineFunction, FineMain}
-use Rattle.verse_accept_classes.specs.Owners.{Owned, owned}
+use Rattle.verse_accept_classes.specs.Owners.{Owned}
 use Rattle.verse_accept_classes.specs.Laws.{Quiet, FunctionsStand}
 use Rattle.verse_accept_classes.proofs.Tables.{functions_found}
 use Rattle.verse_accept_fine.specs.Sorted.{sorted, program}
@@ -16,21 +11,18 @@ use Rattle.verse_accept_trees.specs.Laws.{TreesAreFine}
 use Rattle.verse_accept_programs.specs.Laws.{ProgramsAreFine}
 use Rattle.verse_accept_programs.proofs.Bodies.{own_signature, own_params, body_fine, function_fine, defaults_fine}
 use Rattle.verse_accept_programs.proofs.Inheriting.{slots_inherit, methods_inherit}
-use Rattle.verse_accept_programs.proofs.Main.{Starts, main_starts}
+use Rattle.verse_accept_programs.proofs.Main.{main_starts}
 
 pub programs_fine : TreesAreFine → ProgramsAreFine
 programs_fine trees is arrays events told shaped numbered sound named = record {
-  found = sorted is;
-  fine = record {
-    functions = λ g f e.
-        let o = functions.owner g f e in
-        subst (FineFunction (program is arrays events) (sorted is) g) o.2
-        (function_fine is arrays events told shaped numbered sound quiet functions trees named g o.0 o.1);
-    defaults = defaults_fine is arrays events told shaped numbered sound quiet functions trees named;
-    slots = slots_inherit is arrays events quiet functions;
-    methods = methods_inherit is arrays events quiet functions;
-    main = main;
-  };
+  functions = λ g f e.
+      let o = functions.owner g f e in
+      subst (FineFunction (program is arrays events) (sorted is) g) o.2
+      (function_fine is arrays events told shaped numbered sound quiet functions trees named g o.0 o.1);
+  defaults = defaults_fine is arrays events told shaped numbered sound quiet functions trees named;
+  slots = slots_inherit is arrays events quiet functions;
+  methods = methods_inherit is arrays events quiet functions;
+  main = main;
 }
   where
     quiet : Quiet is

@@ -1,21 +1,18 @@
 -- A program that is accepted breaks no rule, and its trees are as the rules ask.
-use Rattle.std.proofs.Common.{◌≡◌, ◌≢◌, ℕ, ℤ, Bool, List, [], ◌∷◌, map, refl, sym, ap, ◌∙◌, subst}
+use Rattle.std.proofs.Common.{◌≡◌, ℕ, Bool, List, [], ◌∷◌, map, sym, ap, ◌∙◌, subst}
 use Rattle.verse_tree.specs.Tree.{Shape}
 use Rattle.verse_tree.specs.Tree as t
 use Rattle.verse_tree.specs.ItemTree.{ItemTree}
 use Rattle.verse_tree.specs.ItemView.{item_of}
 use Rattle.verse_tree.specs.PostOrder.{What, expression, parameter, items_order}
 use Rattle.verse_tree.specs.PostOrder as plain
-use Rattle.verse_tree.specs.declared.programs.Program.{Program as Made}
-use Rattle.verse_rules_walk.specs.Nodes.{alone, items_nodes}
+use Rattle.verse_rules_walk.specs.Nodes.{alone}
 use Rattle.verse_rules_walk.specs.Order.{AreNumbered, InPostOrder}
 use Rattle.verse_names.specs.Breaking.{NamesBreak}
-use Rattle.verse_rules.specs.Sound.{BodiesBreak, IsSound, completed}
+use Rattle.verse_rules.specs.Sound.{BodiesBreak, IsSound}
 use Rattle.verse_accept.specs.Fronts.{Accepts, all_items}
-use Rattle.verse_value.specs.declared.runs.Ending.TheVariants as ending
-use Rattle.verse_meaning.specs.Programs.{Program, program_of, is_array_type, is_event_type, of_type}
-use Rattle.verse_meaning.specs.Runs.{after, mean}
-use Rattle.verse_sound_rules.specs.Programs.{FineProgram}
+use Rattle.verse_meaning.specs.Programs.{program_of, is_array_type, is_event_type, of_type}
+use Rattle.verse_sound_rules.specs.Programs.{FineFound, FineProgram}
 use Rattle.verse_sound_runs.specs.Laws.{TurnsGoRight, NeverStuck}
 use Rattle.std.specs.Prelude.{slice_get}
 use Rattle.lower_bounds.proofs.Lists.{Each as All}
@@ -24,11 +21,11 @@ use Rattle.verse_accept_nodes.proofs.Accepted.{each_named}
 use Rattle.verse_accept_scopes.specs.Lists.{Each}
 use Rattle.verse_accept_scopes.specs.Sites.{Site, node_of, program_sites}
 use Rattle.verse_accept_scopes.proofs.Whole.{walked_are_sites}
-use Rattle.verse_accept_fine.specs.Sorted.{program}
+use Rattle.verse_accept_fine.specs.Sorted.{sorted, program}
 use Rattle.verse_accept_trees.specs.Names.{ShapeNamed, WhatNamed, Named}
 use Rattle.verse_accept_trees.specs.Laws.{Told}
 use Rattle.verse_accept_programs.specs.Laws.{ProgramsAreFine}
-use Rattle.verse_accept_sound.specs.Laws.{ItemsAreFine, ItemsGoRight, ItemsAreNeverStuck, IsTold, AcceptedIsFine, AcceptedIsNeverStuck}
+use Rattle.verse_accept_sound.specs.Laws.{ItemsAreFine, ItemsGoRight, ItemsAreNeverStuck, AcceptedIsFine, AcceptedIsNeverStuck}
 use Rattle.verse_accept_sound.proofs.Told.{tables_tell}
 
 -- ---- names
@@ -78,8 +75,12 @@ module _ (order : InPostOrder) (shapes : AcceptedShaped) (programs : ProgramsAre
       each_site (program_sites is)
       (subst (λ vs. All NodeNames vs) (sym (ap (map alone) (walked_are_sites is shaped) ∙ order is)) (each_named files is a))
 
+  -- what the checker has found of it
+  pub items_found : (arrays events : ℕ → Bool) → Told is arrays events → FineFound (program is arrays events) (sorted is)
+  items_found arrays events told = programs is arrays events told (shapes files is a) numbered sound named
+
   pub items_fine : (arrays events : ℕ → Bool) → Told is arrays events → FineProgram (program is arrays events)
-  items_fine arrays events told = programs is arrays events told (shapes files is a) numbered sound named
+  items_fine arrays events told = record { found = sorted is; fine = items_found arrays events told }
 
 module _ (order : InPostOrder) (shapes : AcceptedShaped) (programs : ProgramsAreFine) where
   pub accepted_items : ItemsAreFine

@@ -1,0 +1,6 @@
+mod Opening
+mod OpeningForms
+mod OpeningTrees
+mod Leaving
+mod Contexts
+mod Calls
