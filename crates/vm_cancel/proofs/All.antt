@@ -56,12 +56,12 @@ some_with (f ∷ fs) some e = absurd (cc)
 still_frames : (next : State → Step) (w : Who) (o : World) (s : State) (fs : List Frame) → any_defers fs ≡ false →
     clears_frames next w o s fs ≡ next s
 still_frames next w o s [] e = refl
-still_frames next w o s (f ∷ fs) e = by_defers f.life.defers e
+still_frames next w o s (f ∷ fs) e = by_defers f.life.defers e (λ h. still_frames next w o s fs h)
   where
     by_defers : (ds : List ℕ) → cond (is_some ds) true (any_defers fs) ≡ false →
-        on_deferred ds (clears_frames next w o s fs) (λ q ds. clears_frame w o s f fs q ds) ≡ next s
-    by_defers [] e = still_frames next w o s fs e
-    by_defers (d ∷ ds) e = absurd (cc)
+        (any_defers fs ≡ false → clears_frames next w o s fs ≡ next s) → on_deferred ds (clears_frames next w o s fs) (λ q ds. clears_frame w o s f fs q ds) ≡ next s
+    by_defers [] e later = later e
+    by_defers (d ∷ ds) e later = absurd (cc)
 
 -- and so do tasks
 pub all_still : (last : World → State → Step) (after : m.After) (ts todo : List m.Task) (o : World) (s : State) → AllStill ts →
@@ -74,11 +74,12 @@ all_still last after (t ∷ ts) todo o s a =
 next_of : (fs : List Framed) (rest : List (List Framed)) (todo : List m.Task) → Unguarded fs →
     map frames_in (reverse (rest ++ fs ∷ [])) ≡ map frames_at (deferring todo) → Next fs rest todo
 next_of fs rest [] u e = let none : frames_in fs ∷ map frames_in (reverse rest) ≡ [] = sym (last_first rest fs) ∙ e in absurd (cc)
-next_of fs rest (t ∷ ts) u e = by_test (task_defers t) refl e
+next_of fs rest (t ∷ ts) u e = by_test (task_defers t) refl e (λ h. next_of fs rest ts u h)
   where
     by_test : (b : Bool) → task_defers t ≡ b →
-        map frames_in (reverse (rest ++ fs ∷ [])) ≡ map frames_at (cond b (t ∷ deferring ts) (deferring ts)) → Next fs rest (t ∷ ts)
-    by_test true is e =
+        map frames_in (reverse (rest ++ fs ∷ [])) ≡ map frames_at (cond b (t ∷ deferring ts) (deferring ts)) →
+        (map frames_in (reverse (rest ++ fs ∷ [])) ≡ map frames_at (deferring ts) → Next fs rest ts) → Next fs rest (t ∷ ts)
+    by_test true is e more =
         let all : frames_in fs ∷ map frames_in (reverse rest) ≡ frames_at t ∷ map frames_at (deferring ts) = sym (last_first rest fs) ∙ e in
         let head : frames_in fs ≡ frames_at t = cc in
         let tail : map frames_in (reverse rest) ≡ map frames_at (deferring ts) = cc in
@@ -91,8 +92,8 @@ next_of fs rest (t ∷ ts) u e = by_test (task_defers t) refl e
           frames = both (frames_with fs []) t (some_with fs u.some) head;
           later_is = tail;
         }
-    by_test false is e =
-        let n = next_of fs rest ts u e in
+    by_test false is e more =
+        let n = more e in
         record {
           before = t ∷ n.before;
           it = n.it;
@@ -103,14 +104,15 @@ next_of fs rest (t ∷ ts) u e = by_test (task_defers t) refl e
           later_is = n.later_is;
         }
 
-no_more : (todo : List m.Task) → map frames_in (reverse []) ≡ map frames_at (deferring todo) → AllStill todo
+pub no_more : (todo : List m.Task) → map frames_in (reverse []) ≡ map frames_at (deferring todo) → AllStill todo
 no_more [] e = tt
-no_more (t ∷ ts) e = by_test (task_defers t) refl e
+no_more (t ∷ ts) e = by_test (task_defers t) refl e (λ h. no_more ts h)
   where
     by_test : (b : Bool) → task_defers t ≡ b →
-        map frames_in (reverse []) ≡ map frames_at (cond b (t ∷ deferring ts) (deferring ts)) → AllStill (t ∷ ts)
-    by_test true is e = absurd (cc)
-    by_test false is e = (is, no_more ts e)
+        map frames_in (reverse []) ≡ map frames_at (cond b (t ∷ deferring ts) (deferring ts)) →
+        (map frames_in (reverse []) ≡ map frames_at (deferring ts) → AllStill ts) → AllStill (t ∷ ts)
+    by_test true is e more = absurd (cc)
+    by_test false is e more = (is, more e)
 
 module _ {W : Type 0} where
   -- with these frames still to go
