@@ -86,11 +86,11 @@ none_cancelled a n o x y = ap (λ z. z ++ gone_behind (since a n) o.post) (befor
 -- nor when some are gone
 none_then : (f g : List ℕ → Bool) (ts : List m.Task) → NoneNamed g ts → NoneNamed g (without f ts)
 none_then f g [] h = tt
-none_then f g (t ∷ ts) h = go (f t.thread.who.path)
+none_then f g (t ∷ ts) h = go (f t.thread.who.path) (none_then f g ts h.1)
   where
-    go : (b : Bool) → NoneNamed g (cond b (without f ts) (t ∷ without f ts))
-    go true = none_then f g ts h.1
-    go false = (h.0, none_then f g ts h.1)
+    go : (b : Bool) → NoneNamed g (without f ts) → NoneNamed g (cond b (without f ts) (t ∷ without f ts))
+    go true later = later
+    go false later = (h.0, later)
 
 pub none_less : (f g : List ℕ → Bool) (o : World) → cancelled g o ≡ [] → cancelled g (world_without f o) ≡ []
 none_less f g o e =

@@ -6,7 +6,7 @@ use Rattle.verse_value.specs.Val.{Val}
 use Rattle.verse_value.specs.View.{val_of}
 use Rattle.verse_value.specs.declared.values.Value.{Value}
 use Rattle.verse_meaning_state.specs.State.{Memory, State}
-use Rattle.verse_code_machine.specs.Tasks.{Frame, Who, World, thread, resuming, since}
+use Rattle.verse_code_machine.specs.Tasks.{Frame, Task, Who, World, thread, resuming, since}
 use Rattle.verse_code_machine.specs.Cancelling.{world_without, cancelled, clears, cancels}
 use Rattle.verse_code_machine.specs.Ends.{resumes}
 use Rattle.sim_clock.specs.declared.waits.Pending.{Pending}
@@ -86,16 +86,18 @@ returns_on born x w o s (f ∷ fs) ms some none =
     (world_without (since w.path born) o) s)) none ∙ ap (λ z. last z s) (world_stays (since w.path born) o none)
 
 -- and so where no cancelled task has a deferred block
+still_on : (w : Who) (x : Val) (g : Frame) (gs : List Frame) (ts : List Task) (o : World) (s : State) → AllStill ts →
+    clears (λ z y. resumes (thread w g gs) x z y) (resuming (thread w g gs) x) ts o s ≡ resumes (thread w g gs) x o s
+still_on w x g gs ts o s still =
+    ap (λ y. clears (λ z y. resumes (thread w g gs) x z y) (resuming (thread w g gs) x) y o s) (sym (append-nil ts)) ∙
+    all_still (λ z y. resumes (thread w g gs) x z y) (resuming (thread w g gs) x) ts [] o s still
+
 returns_still : (born : ℕ) (x : Val) (w : Who) (o : World) (s : State) (fs : List Framed) (ms : List Memory) → fs ≢ [] →
     AllStill (cancelled (since w.path born) o) → on_frame (frames_with fs ms) s (returning_of born x w o s) ≡
     on_frame (frames_with (pushed x fs) ms) s (going w (world_without (since w.path born) o) s)
 returns_still born x w o s [] ms some still = absurd (some refl)
 returns_still born x w o s (f ∷ fs) ms some still =
-    let top = frames_with (f ∷ fs) ms in
-    let todo = cancelled (since w.path born) o in
-    let then = world_without (since w.path born) o in
-    ap (λ ts. on_frame top s (λ g gs. clears (λ z y. resumes (thread w g gs) x z y) (resuming (thread w g gs) x) ts then s))
-    (sym (append-nil todo)) ∙ all_still _ _ todo [] then s still
+    still_on w x _ _ (cancelled (since w.path born) o) (world_without (since w.path born) o) s still
 
 -- and otherwise the task goes on when all is cancelled
 returns_then : (born : ℕ) (x : Val) (w : Who) (o : World) (s : State) (fs : List Framed) → fs ≢ [] →
