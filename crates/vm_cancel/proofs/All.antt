@@ -1,15 +1,17 @@
 -- One cancelled task after the other.
-use Rattle.std.proofs.Common.{◌≡◌, ◌≢◌, ◌≤◌, ◌+◌, List, [], ◌∷◌, ◌++◌, map, reverse, refl, sym, ap, subst, ◌∙◌}
+use Rattle.std.proofs.Common.{◌≡◌, ◌≢◌, ◌≤◌, ◌+◌, ℕ, List, [], ◌∷◌, ◌++◌, map, reverse, refl, sym, ap, subst, ◌∙◌}
+use Rattle.std.proofs.Common.{Bool, true, false, cond, append_assoc}
 use Rattle.std.specs.Global.{Vec}
-use Rattle.std.proofs.lemmas.List.{reverse-append}
+use Rattle.std.proofs.lemmas.List.{reverse-append, append-nil}
 use Rattle.verse_value.specs.declared.runs.Ending.{Ending}
 use Rattle.verse_meaning_state.specs.State.{State}
 use Rattle.verse_code_machine.specs.Tasks as m
 use Rattle.verse_code_machine.specs.Tasks.{Frame, Who, clearing, World, world, Step, Over}
-use Rattle.verse_code_machine.specs.Cancelling.{clears_frames, clears}
+use Rattle.verse_code_machine.specs.Cancelling.{on_deferred, clears_frame, clears_frames, clears}
 use Rattle.vm_frames.specs.Framed.{Framed}
 use Rattle.vm_frames.specs.Machine.{frames_with}
 use Rattle.vm_running.specs.Views.{View, Aside, state_of}
+use Rattle.vm_tasks.specs.Deferring.{is_some, any_defers, task_defers, deferring}
 use Rattle.vm_scheduler.specs.declared.tasks.Tasks.{Tasks}
 use Rattle.vm_scheduler.specs.declared.tasks.Went.{Went}
 use Rattle.vm_scheduler.specs.declared.tasks.Went.TheVariants as went
@@ -26,13 +28,21 @@ last_first : (fss : List (List Framed)) (fs : List Framed) →
     map frames_in (reverse (fss ++ fs ∷ [])) ≡ frames_in fs ∷ map frames_in (reverse fss)
 last_first fss fs = ap (λ z. map frames_in z) (reverse-append fss (fs ∷ []))
 
--- the frames of the next one
+-- none of them has a deferred block
+abbrev pub AllStill : List m.Task → Type 0
+AllStill [] = Unit {0}
+AllStill (t ∷ ts) = (task_defers t ≡ false) × AllStill ts
+
+-- the frames of the next one that has
 record Next (fs : List Framed) (rest : List (List Framed)) (todo : List m.Task) : Type 0 where
+  before : List m.Task
   it : m.Task
   later : List m.Task
-  is : todo ≡ it ∷ later
+  is : todo ≡ before ++ it ∷ later
+  -- those before it have no deferred blocks
+  still : AllStill before
   frames : it.thread.frame ∷ it.thread.below ≡ frames_with fs []
-  later_is : map frames_in (reverse rest) ≡ map frames_at later
+  later_is : map frames_in (reverse rest) ≡ map frames_at (deferring later)
 
 both : (fs : List Frame) (t : m.Task) → fs ≢ [] → parted fs ≡ frames_at t → t.thread.frame ∷ t.thread.below ≡ fs
 both [] t some e = absurd (some refl)
@@ -42,21 +52,67 @@ some_with : (fs : List Framed) → fs ≢ [] → frames_with fs [] ≢ []
 some_with [] some e = some refl
 some_with (f ∷ fs) some e = absurd (cc)
 
-next_of : (fs : List Framed) (rest : List (List Framed)) (todo : List m.Task) → Unguarded fs →
-    map frames_in (reverse (rest ++ fs ∷ [])) ≡ map frames_at todo → Next fs rest todo
-next_of fs rest [] u e = let none : frames_in fs ∷ map frames_in (reverse rest) ≡ [] = sym (last_first fs_rest fs) ∙ e in absurd (cc)
+-- frames without deferred blocks go at once
+still_frames : (next : State → Step) (w : Who) (o : World) (s : State) (fs : List Frame) → any_defers fs ≡ false →
+    clears_frames next w o s fs ≡ next s
+still_frames next w o s [] e = refl
+still_frames next w o s (f ∷ fs) e = by_defers f.life.defers e (λ h. still_frames next w o s fs h)
   where
-    fs_rest : List (List Framed)
-    fs_rest = rest
-next_of fs rest (t ∷ ts) u e =
-    let all : frames_in fs ∷ map frames_in (reverse rest) ≡ frames_at t ∷ map frames_at ts = sym (last_first rest fs) ∙ e in
-    let head : frames_in fs ≡ frames_at t = cc in
-    let tail : map frames_in (reverse rest) ≡ map frames_at ts = cc in
-    record { it = t; later = ts; is = refl; frames = both (frames_with fs []) t (some_with fs u.some) head; later_is = tail }
+    by_defers : (ds : List ℕ) → cond (is_some ds) true (any_defers fs) ≡ false →
+        (any_defers fs ≡ false → clears_frames next w o s fs ≡ next s) → on_deferred ds (clears_frames next w o s fs) (λ q ds. clears_frame w o s f fs q ds) ≡ next s
+    by_defers [] e later = later e
+    by_defers (d ∷ ds) e later = absurd (cc)
 
-no_more : (todo : List m.Task) → map frames_in (reverse []) ≡ map frames_at todo → todo ≡ []
-no_more [] e = refl
-no_more (t ∷ ts) e = absurd (cc)
+-- and so do tasks
+pub all_still : (last : World → State → Step) (after : m.After) (ts todo : List m.Task) (o : World) (s : State) → AllStill ts →
+    clears last after (ts ++ todo) o s ≡ clears last after todo o s
+all_still last after [] todo o s a = refl
+all_still last after (t ∷ ts) todo o s a =
+    still_frames (λ s. clears last after (ts ++ todo) o s) t.thread.who (world o.pre o.post (clearing after (ts ++ todo) ∷ o.ups) o.trees) s
+    (t.thread.frame ∷ t.thread.below) a.0 ∙ all_still last after ts todo o s a.1
+
+next_of : (fs : List Framed) (rest : List (List Framed)) (todo : List m.Task) → Unguarded fs →
+    map frames_in (reverse (rest ++ fs ∷ [])) ≡ map frames_at (deferring todo) → Next fs rest todo
+next_of fs rest [] u e = let none : frames_in fs ∷ map frames_in (reverse rest) ≡ [] = sym (last_first rest fs) ∙ e in absurd (cc)
+next_of fs rest (t ∷ ts) u e = by_test (task_defers t) refl e (λ h. next_of fs rest ts u h)
+  where
+    by_test : (b : Bool) → task_defers t ≡ b →
+        map frames_in (reverse (rest ++ fs ∷ [])) ≡ map frames_at (cond b (t ∷ deferring ts) (deferring ts)) →
+        (map frames_in (reverse (rest ++ fs ∷ [])) ≡ map frames_at (deferring ts) → Next fs rest ts) → Next fs rest (t ∷ ts)
+    by_test true is e more =
+        let all : frames_in fs ∷ map frames_in (reverse rest) ≡ frames_at t ∷ map frames_at (deferring ts) = sym (last_first rest fs) ∙ e in
+        let head : frames_in fs ≡ frames_at t = cc in
+        let tail : map frames_in (reverse rest) ≡ map frames_at (deferring ts) = cc in
+        record {
+          before = [];
+          it = t;
+          later = ts;
+          is = refl;
+          still = tt;
+          frames = both (frames_with fs []) t (some_with fs u.some) head;
+          later_is = tail;
+        }
+    by_test false is e more =
+        let n = more e in
+        record {
+          before = t ∷ n.before;
+          it = n.it;
+          later = n.later;
+          is = ap (λ z. t ∷ z) n.is;
+          still = (is, n.still);
+          frames = n.frames;
+          later_is = n.later_is;
+        }
+
+pub no_more : (todo : List m.Task) → map frames_in (reverse []) ≡ map frames_at (deferring todo) → AllStill todo
+no_more [] e = tt
+no_more (t ∷ ts) e = by_test (task_defers t) refl e (λ h. no_more ts h)
+  where
+    by_test : (b : Bool) → task_defers t ≡ b →
+        map frames_in (reverse []) ≡ map frames_at (cond b (t ∷ deferring ts) (deferring ts)) →
+        (map frames_in (reverse []) ≡ map frames_at (deferring ts) → AllStill ts) → AllStill (t ∷ ts)
+    by_test true is e more = absurd (cc)
+    by_test false is e more = (is, more e)
 
 module _ {W : Type 0} where
   -- with these frames still to go
@@ -68,12 +124,17 @@ module _ {W : Type 0} where
   none_left v t fss is are = record {
     clears = λ last after todo a o bare e.
         let none = no_more todo (ap (λ z. map frames_in (reverse z)) (sym is) ∙ e) in
-        (ap (λ z. clears last after z o (state_of a v)) none, refl, are, refl);
+        (
+          ap (λ z. clears last after z o (state_of a v)) (sym (append-nil todo)) ∙ all_still last after todo [] o (state_of a v) none,
+          refl,
+          are,
+          refl,
+        );
   }
 
   module _ (v : View) (t : Tasks W) (fs : List Framed) (fss : Vec (List Framed)) (is : t.gone.frames.items ≡ fss.items ++ fs ∷ [])
       (un : AllUnguarded t.gone.frames.items) where
-    here : (todo : List m.Task) → map frames_in (reverse t.gone.frames.items) ≡ map frames_at todo → Next fs fss.items todo
+    here : (todo : List m.Task) → map frames_in (reverse t.gone.frames.items) ≡ map frames_at (deferring todo) → Next fs fss.items todo
     here todo e = next_of fs fss.items todo (all_but fss.items fs (subst (λ z. AllUnguarded z) is un)).1
         (ap (λ z. map frames_in (reverse z)) (sym is) ∙ e)
 
@@ -82,8 +143,9 @@ module _ {W : Type 0} where
         (world o.pre o.post (clearing after n.later ∷ o.ups) o.trees) s (frames_with fs [])
     first_is last after todo o s n =
         ap (λ z. clears last after z o s) n.is ∙
+        (all_still last after n.before (n.it ∷ n.later) o s n.still ∙
         ap (λ z. clears_frames (λ s. clears last after n.later o s) n.it.thread.who
-        (world o.pre o.post (clearing after n.later ∷ o.ups) o.trees) s z) n.frames
+        (world o.pre o.post (clearing after n.later ∷ o.ups) o.trees) s z) n.frames)
 
     pub block_runs : (u : View) → ClearsFrames fs went.On v u → ClearsAll went.On v t u (with_frames t fss)
     block_runs u c = record {
@@ -93,7 +155,7 @@ module _ {W : Type 0} where
           (world o.pre o.post (clearing after n.later ∷ o.ups) o.trees) bare in
           record {
             who = n.it.thread.who;
-            front = [];
+            front = n.before;
             it = n.it;
             later = n.later;
             was = n.is;
@@ -120,7 +182,7 @@ module _ {W : Type 0} where
     one_gone r v2 u s c more = record { clears = λ last after todo a o bare e. go r last after todo a o bare e c more }
       where
         go : (r : Went) (last : World → State → Step) (after : m.After) (todo : List m.Task) (a : Aside) (o : World) → Bare v →
-            map frames_in (reverse t.gone.frames.items) ≡ map frames_at todo →
+            map frames_in (reverse t.gone.frames.items) ≡ map frames_at (deferring todo) →
             ClearsFrames fs went.Down v v2 → ClearsAll r v2 (with_frames t fss) u s → AllTo last after todo r a o v t u s
         go r last after todo a o bare e c more =
             let n = here todo e in
@@ -136,10 +198,11 @@ module _ {W : Type 0} where
                 AllTo last after n.later r a o v (with_frames t fss) u s → AllTo last after todo r a o v t u s
             on went.On last after todo a o n first b = record {
               who = b.who;
-              front = n.it ∷ b.front;
+              front = n.before ++ n.it ∷ b.front;
               it = b.it;
               later = b.later;
-              was = n.is ∙ ap (λ z. n.it ∷ z) b.was;
+              was = n.is ∙ (ap (λ z. n.before ++ n.it ∷ z) b.was ∙
+                  sym (append_assoc n.before (n.it ∷ b.front) (b.it ∷ b.later)));
               who_is = b.who_is;
               is = first ∙ b.is;
               runs = b.runs;

@@ -1,11 +1,11 @@
 -- What is cancelled on both sides, and the blocks that run then.
-use Rattle.std.proofs.Common.{◌≡◌, inl, inr, ℕ, Bool, true, false, List, [], ◌∷◌, ◌++◌, map, reverse, Option, Some, None, refl, sym, ap}
+use Rattle.std.proofs.Common.{◌≡◌, inl, inr, ℕ, Bool, true, false, cond, List, [], ◌∷◌, ◌++◌, map, reverse, Option, Some, None, refl, sym, ap}
 use Rattle.std.proofs.Common.{subst, ◌∙◌}
 use Rattle.std.specs.Global.{Vec}
 use Rattle.std.proofs.lemmas.List.{reverse-reverse, reverse-append}
 use Rattle.task_tree.specs.Tasks.{Task}
 use Rattle.verse_code_machine.specs.Tasks as m
-use Rattle.verse_code_machine.specs.Tasks.{Who, Part, clearing, World, world, since, beneath_arms}
+use Rattle.verse_code_machine.specs.Tasks.{Frame, Who, Part, clearing, World, world, since, beneath_arms}
 use Rattle.verse_code_machine.specs.Cancelling.{world_without, clears}
 use Rattle.verse_code_machine.specs.Ends.{follows}
 use Rattle.sim_clock.specs.declared.waits.Pending.{Pending}
@@ -13,7 +13,9 @@ use Rattle.vm_tasks_laws.specs.Slots.{held}
 use Rattle.vm_tasks_laws.specs.Standing.{Stands, who_after}
 use Rattle.vm_tasks_laws.specs.Clocks.{sleeping}
 use Rattle.vm_tasks_laws.proofs.Ticks.{same_timed}
+use Rattle.verse_meaning_state.specs.State.{Memory}
 use Rattle.vm_frames.specs.Framed.{Framed}
+use Rattle.vm_frames.specs.Machine.{frames_with, beyond}
 use Rattle.vm_running.specs.Views.{View, Aside, state_of}
 use Rattle.vm_running.specs.Doings.{going}
 use Rattle.vm_running.specs.Comes.{done}
@@ -24,13 +26,14 @@ use Rattle.vm_tasks.specs.declared.gone.Gone.{Gone}
 use Rattle.vm_tasks.specs.View.{slot_of}
 use Rattle.vm_tasks.specs.Gone.{In, first_in, later_in, KeepsEach}
 use Rattle.vm_tasks.specs.Gone as gone
+use Rattle.vm_tasks.specs.Deferring.{is_some, any_deferred, any_defers, Agrees}
 use Rattle.vm_tasks.specs.Ending.{IsAlone}
 use Rattle.vm_tasks.specs.Standing.{CancelsAs, CancelsScope, CancelsArms}
 use Rattle.vm_scheduler.specs.declared.tasks.Tasks.{Tasks}
 use Rattle.vm_scheduler.specs.declared.tasks.After.{After}
 use Rattle.vm_scheduler.specs.declared.tasks.Went.{Went}
 use Rattle.vm_scheduler.specs.declared.tasks.Went.TheVariants as went
-use Rattle.vm_scheduler.specs.Frames.{frames_in, Unguarded, AllUnguarded}
+use Rattle.vm_scheduler.specs.Frames.{parted, frames_in, Unguarded, AllUnguarded}
 use Rattle.vm_scheduler.specs.Ups.{ups_of, UpsAre, IsAfter}
 use Rattle.vm_scheduler.specs.Standing.{Tree, ids, Fine, HeldFine, AllFine, Clocked, Standing, Bare}
 use Rattle.vm_scheduler.specs.Going.{NothingUnder, Clearing}
@@ -79,6 +82,17 @@ unguarded_back [] u = tt
 unguarded_back (fs ∷ fss) u = subst (λ z. AllUnguarded z) (sym (reverse-append (fs ∷ []) fss))
     (unguarded_append (reverse fss) (fs ∷ []) (unguarded_back fss u.1) (u.0, tt))
 
+with_memories : (fs : List Framed) (ms : List Memory) → any_deferred fs ≡ any_defers (frames_with fs ms)
+with_memories [] ms = refl
+with_memories (f ∷ fs) ms = ap (λ b. cond (is_some f.frame.defers) true b) (with_memories fs (beyond f.frame.handlers ms))
+
+same_parted : (fs : List Frame) → any_defers fs ≡ any_defers ((parted fs).0 ∷ (parted fs).1)
+same_parted [] = refl
+same_parted (f ∷ fs) = refl
+
+same_deferred : Agrees any_deferred frames_in
+same_deferred fs = with_memories fs [] ∙ same_parted (frames_with fs [])
+
 module _ {W : Type 0} (pending : W → List Pending) where
   module _ (t : Tasks W) (id bound : ℕ) (tree : Tree) (behind : Gone (List Framed) W) (back : Vec (List Framed))
       (kept : behind.lost ≡ false) (turned : back.items ≡ reverse behind.frames.items) where
@@ -87,7 +101,7 @@ module _ {W : Type 0} (pending : W → List Pending) where
 
     cancelled_so : (w : Who) (arms : Option (List Part)) (f : List ℕ → Bool) (a : Aside) (o : World) (v : View) →
         Standing pending (held id w arms ∷ []) a o v t → ((y x : List ℕ) → f y ≡ true → m.starts y x ≡ true → f x ≡ true) →
-        KeepsEach t.tree tree t.gone behind → CancelsAs pending frames_in t.tree tree t.gone behind (ids t) (held id w arms) o f →
+        KeepsEach t.tree tree t.gone behind → CancelsAs any_deferred pending frames_in t.tree tree t.gone behind (ids t) (held id w arms) o f →
         Cancelled pending id w arms f a o v after_it
     cancelled_so w arms f a o v s closed each c =
         let was : (fs : List Framed) → In fs behind.frames.items → Unguarded fs = λ fs i.
@@ -116,15 +130,15 @@ module _ {W : Type 0} (pending : W → List Pending) where
           nothing_under = nothing_under f o closed;
         }
 
-    pub cancels_so : KeepsEach t.tree tree t.gone behind → CancelsScope pending id bound t.tree tree t.gone behind →
-        CancelsArms pending id bound t.tree tree t.gone behind → IsAlone tree id bound → Cancels pending id bound t after_it
+    pub cancels_so : KeepsEach t.tree tree t.gone behind → CancelsScope any_deferred pending id bound t.tree tree t.gone behind →
+        CancelsArms any_deferred pending id bound t.tree tree t.gone behind → IsAlone tree id bound → Cancels pending id bound t after_it
     cancels_so each scope arms alone = record {
       scope = λ a w parts o v s. cancelled_so w parts (since w.path bound) a o v s (closed_since w.path bound) each
-          (scope frames_in (ids t) w parts o s.stands);
+          (scope frames_in (ids t) w parts o same_deferred s.stands);
       arms = λ a w gs o v is s. cancelled_so w (Some gs) (beneath_arms w.path gs) a o v s (closed_arms w.path gs) each
-          (arms frames_in (ids t) w gs o is s.stands);
+          (arms frames_in (ids t) w gs o same_deferred is s.stands);
       childless = λ a w parts o v le s. alone frames_in (ids t) w parts (world_without (since w.path bound) o) le
-          (scope frames_in (ids t) w parts o s.stands).stands;
+          (scope frames_in (ids t) w parts o same_deferred s.stands).stands;
     }
 
   -- the blocks of cancelled tasks

@@ -12,6 +12,7 @@ use Rattle.vm_frames.specs.Framed.{Framed}
 use Rattle.vm_running.specs.Views.{View, Aside, state_of}
 use Rattle.vm_tasks.specs.declared.slots.Slot.{Slot}
 use Rattle.vm_tasks.specs.View.{slot_of}
+use Rattle.vm_tasks.specs.Deferring.{deferring}
 use Rattle.vm_scheduler.specs.declared.tasks.Tasks.{Tasks}
 use Rattle.vm_scheduler.specs.declared.tasks.After.{After}
 use Rattle.vm_scheduler.specs.declared.tasks.Went.{Went}
@@ -30,7 +31,7 @@ module _ {W : Type 0} (pending : W → List Pending) where
     pub stands : Stands (slot_of frames_in) s.tree (ids s) (held id w arms ∷ []) (world_without f o)
     pub ups : UpsAre (ups_of s.ups.items) o.ups
     pub still : s.after ≡ None
-    pub todo_is : map frames_in (reverse s.gone.frames.items) ≡ map frames_at (cancelled f o)
+    pub todo_is : map frames_in (reverse s.gone.frames.items) ≡ map frames_at (deferring (cancelled f o))
     pub unguarded : AllUnguarded s.gone.frames.items
     pub nothing_under : NothingUnder (world_without f o) (cancelled f o)
 
@@ -61,6 +62,6 @@ module _ {W : Type 0} (pending : W → List Pending) where
   pub record RunsBlocks (id : ℕ) (after : After) (r : Went) (v : View) (t : Tasks W) (u : View) (s : Tasks W) : Type 0 where
     pub runs : (f : m.After) (todo : List m.Task) (a : Aside) (o : World) → Bare v → Clocked pending a v t →
         Stands (slot_of frames_in) t.tree (ids t) (held id (who_after f) None ∷ []) o → UpsAre (ups_of t.ups.items) o.ups →
-        map frames_in (reverse t.gone.frames.items) ≡ map frames_at todo → AllUnguarded t.gone.frames.items → NothingUnder o todo →
+        map frames_in (reverse t.gone.frames.items) ≡ map frames_at (deferring todo) → AllUnguarded t.gone.frames.items → NothingUnder o todo →
         IsAfter t.tree id after f →
         BlocksTo id after (clears (follows f) f todo o (state_of a v)) f r a o v t u s

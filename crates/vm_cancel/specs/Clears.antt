@@ -9,6 +9,7 @@ use Rattle.vm_frames.specs.Machine.{frames_with}
 use Rattle.vm_running.specs.Views.{View, Aside, Ready, state_of, frames_of}
 use Rattle.vm_running.specs.Doings.{going}
 use Rattle.vm_running.specs.Comes.{done}
+use Rattle.vm_tasks.specs.Deferring.{deferring}
 use Rattle.vm_scheduler.specs.declared.tasks.Tasks.{Tasks}
 use Rattle.vm_scheduler.specs.declared.tasks.Went.{Went}
 use Rattle.vm_scheduler.specs.declared.tasks.Went.TheVariants as went
@@ -51,7 +52,7 @@ module _ {W : Type 0} where
     pub who_is : who ≡ it.thread.who
     pub is : clears last after todo o (state_of a v) ≡ done going a who (world o.pre o.post (clearing after later ∷ o.ups) o.trees) u
     pub runs : Runs a v u
-    pub later_is : map frames_in (reverse s.gone.frames.items) ≡ map frames_at later
+    pub later_is : map frames_in (reverse s.gone.frames.items) ≡ map frames_at (deferring later)
     pub unguarded : AllUnguarded s.gone.frames.items
     pub still : s ≡ record t { gone = record t.gone { frames = s.gone.frames } }
 
@@ -63,4 +64,4 @@ module _ {W : Type 0} where
 
   pub record ClearsAll (r : Went) (v : View) (t : Tasks W) (u : View) (s : Tasks W) : Type 0 where
     pub clears : (last : World → State → Step) (after : m.After) (todo : List m.Task) (a : Aside) (o : World) → Bare v →
-        map frames_in (reverse t.gone.frames.items) ≡ map frames_at todo → AllTo last after todo r a o v t u s
+        map frames_in (reverse t.gone.frames.items) ≡ map frames_at (deferring todo) → AllTo last after todo r a o v t u s

@@ -1,8 +1,10 @@
 //! What a task has begun is cancelled.
 
-ghost use Rattle.std.specs.Prelude.{◌≡◌, ◌≤◌, ◌+◌, OnOk, Some};
+ghost use Rattle.std.specs.Prelude.{◌≡◌, ◌≤◌, ◌+◌, ◌⊎◌, true, OnOk, OnErr, Some};
 ghost use Rattle.vm_running.specs.Runners.{view_of};
 ghost use Rattle.vm_scheduler.specs.Frames.{AllUnguarded};
+ghost use Rattle.vm_tasks.specs.Deferring.{any_deferred};
+ghost use Rattle.vm_tasks.specs.Gone.{HadBlocks};
 ghost use Rattle.vm_cancel.specs.Cancels.{Cancels, RunsBlocks};
 
 use crate::clears::clear;
@@ -14,10 +16,12 @@ use vm_scheduler::tasks::{After, Tasks, Went};
 use vm_tasks::table::cancel_since;
 
 /// What a task of the tree has begun since so many steps were left goes from the tree, or the arms
-/// of its group by the steps that were left when the group began. The frames of these tasks are
-/// kept until their deferred blocks have run.
+/// of its group by the steps that were left when the group began. The frames of those that have
+/// deferred blocks are kept until these have run; where no task has any, no memory is taken.
 pub fn cancel<W: Waits>(tasks: &mut Tasks<W>, id: usize, bound: u64) -> Result<(), Memory>
-    ensures { OnOk result (Cancels W.pending id bound tasks.old tasks.new) }
+    ensures ok { OnOk result (Cancels W.pending id bound tasks.old tasks.new) }
+    ensures memory { OnErr result ((tasks.old.gone.lost ≡ true) ⊎
+        HadBlocks any_deferred tasks.old.tree tasks.new.tree) }
 {
     cancel_since(&mut tasks.tree, &mut tasks.gone, id, bound);
     if tasks.gone.lost {

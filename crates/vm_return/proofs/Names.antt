@@ -7,6 +7,7 @@ use Rattle.verse_code_machine.specs.Tasks.{World, world, starts, since}
 use Rattle.verse_code_machine.specs.Cancelling.{without, world_without, inserted, gone_before, gone_behind, cancelled}
 use Rattle.verse_code_machine.specs.Tasks.{Frame}
 use Rattle.vm_frames.specs.Framed.{Framed}
+use Rattle.vm_tasks.specs.Deferring.{deferring}
 use Rattle.vm_scheduler.specs.Frames.{frames_in}
 use Rattle.vm_scheduler.specs.Going.{NoneBeneath, frames_at}
 
@@ -82,16 +83,27 @@ pub none_cancelled : (a : List ℕ) (n : ℕ) (o : World) → NoneBeneath a o.pr
 none_cancelled a n o x y = ap (λ z. z ++ gone_behind (since a n) o.post) (before_none (since a n) o.pre (beneath_none a n o.pre x)) ∙
     behind_none (since a n) o.post (beneath_none a n o.post y)
 
-no_tasks : (ts : List m.Task) → map frames_at ts ≡ [] → ts ≡ []
-no_tasks [] e = refl
-no_tasks (t ∷ ts) e = absurd (cc)
+-- nor when some are gone
+none_then : (f g : List ℕ → Bool) (ts : List m.Task) → NoneNamed g ts → NoneNamed g (without f ts)
+none_then f g [] h = tt
+none_then f g (t ∷ ts) h = go (f t.thread.who.path) (none_then f g ts h.1)
+  where
+    go : (b : Bool) → NoneNamed g (without f ts) → NoneNamed g (cond b (without f ts) (t ∷ without f ts))
+    go true later = later
+    go false later = (h.0, later)
+
+pub none_less : (f g : List ℕ → Bool) (o : World) → cancelled g o ≡ [] → cancelled g (world_without f o) ≡ []
+none_less f g o e =
+    let p = none_parts (gone_before g o.pre) (gone_behind g o.post) e in
+    ap (λ z. z ++ gone_behind g (without f o.post)) (before_none g (without f o.pre) (none_then f g o.pre (none_before g o.pre p.0))) ∙
+    behind_none g (without f o.post) (none_then f g o.post (none_behind g o.post p.1))
 
 no_frames : (fss : List (List Framed)) → map frames_in fss ≡ [] → fss ≡ []
 no_frames [] e = refl
 no_frames (fs ∷ fss) e = absurd (cc)
 
-pub none_to_clear : (ts : List m.Task) (fss : List (List Framed)) → map frames_in (reverse fss) ≡ map frames_at ts → ts ≡ [] → fss ≡ []
-none_to_clear ts fss e none = sym (reverse-reverse fss) ∙ ap (λ z. reverse z) (no_frames (reverse fss) (e ∙ ap (λ z. map frames_at z) none))
-
-pub none_kept : (ts : List m.Task) (fs : List (Frame × List Frame)) → fs ≡ map frames_at ts → fs ≡ [] → ts ≡ []
-none_kept ts fs e none = no_tasks ts (sym e ∙ none)
+pub none_to_clear : (ts : List m.Task) (fss : List (List Framed)) → map frames_in (reverse fss) ≡ map frames_at (deferring ts) → ts ≡ [] →
+    fss ≡ []
+none_to_clear ts fss e none =
+    sym (reverse-reverse fss) ∙
+    ap (λ z. reverse z) (no_frames (reverse fss) (e ∙ ap (λ z. map frames_at (deferring z)) none))

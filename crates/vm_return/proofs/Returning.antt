@@ -1,11 +1,12 @@
 -- The top frame has returned.
 use Rattle.std.proofs.Common.{◌≡◌, ◌≢◌, ◌⊎◌, inl, inr, ℕ, Bool, true, false, Result, Ok, Err, IfOk, List, [], ◌∷◌, map, reverse, Option}
 use Rattle.std.proofs.Common.{Some, None, is_some, refl, sym, ap, subst, ◌∙◌}
+use Rattle.std.proofs.lemmas.List.{append-nil}
 use Rattle.verse_value.specs.Val.{Val}
 use Rattle.verse_value.specs.View.{val_of}
 use Rattle.verse_value.specs.declared.values.Value.{Value}
 use Rattle.verse_meaning_state.specs.State.{Memory, State}
-use Rattle.verse_code_machine.specs.Tasks.{Who, World, thread, resuming, since}
+use Rattle.verse_code_machine.specs.Tasks.{Frame, Task, Who, World, thread, resuming, since}
 use Rattle.verse_code_machine.specs.Cancelling.{world_without, cancelled, clears, cancels}
 use Rattle.verse_code_machine.specs.Ends.{resumes}
 use Rattle.sim_clock.specs.declared.waits.Pending.{Pending}
@@ -33,7 +34,8 @@ use Rattle.vm_scheduler.proofs.Running.{own_of, suspended_of, reclocked}
 use Rattle.vm_cancel.specs.Cancels.{Cancels}
 use Rattle.vm_return.specs.Follows.{Cleared, IsCleared, Unwinds}
 use Rattle.vm_return.specs.Ends.{Returning, IsReturning, Returned}
-use Rattle.vm_return.proofs.Names.{world_stays, none_cancelled, none_to_clear, none_kept}
+use Rattle.vm_cancel.proofs.All.{AllStill, all_still, no_more}
+use Rattle.vm_return.proofs.Names.{world_stays, none_cancelled, none_less, none_to_clear}
 
 -- one operand more
 
@@ -82,6 +84,20 @@ returns_on born x w o s (f ∷ fs) ms some none =
     let last = λ (z : World) (y : State). on_frame top y (λ g gs. resumes (thread w g gs) x z y) in
     ap (λ ts. on_frame top s (λ g gs. clears (λ z y. resumes (thread w g gs) x z y) (resuming (thread w g gs) x) ts
     (world_without (since w.path born) o) s)) none ∙ ap (λ z. last z s) (world_stays (since w.path born) o none)
+
+-- and so where no cancelled task has a deferred block
+still_on : (w : Who) (x : Val) (g : Frame) (gs : List Frame) (ts : List Task) (o : World) (s : State) → AllStill ts →
+    clears (λ z y. resumes (thread w g gs) x z y) (resuming (thread w g gs) x) ts o s ≡ resumes (thread w g gs) x o s
+still_on w x g gs ts o s still =
+    ap (λ y. clears (λ z y. resumes (thread w g gs) x z y) (resuming (thread w g gs) x) y o s) (sym (append-nil ts)) ∙
+    all_still (λ z y. resumes (thread w g gs) x z y) (resuming (thread w g gs) x) ts [] o s still
+
+returns_still : (born : ℕ) (x : Val) (w : Who) (o : World) (s : State) (fs : List Framed) (ms : List Memory) → fs ≢ [] →
+    AllStill (cancelled (since w.path born) o) → on_frame (frames_with fs ms) s (returning_of born x w o s) ≡
+    on_frame (frames_with (pushed x fs) ms) s (going w (world_without (since w.path born) o) s)
+returns_still born x w o s [] ms some still = absurd (some refl)
+returns_still born x w o s (f ∷ fs) ms some still =
+    still_on w x _ _ (cancelled (since w.path born) o) (world_without (since w.path born) o) s still
 
 -- and otherwise the task goes on when all is cancelled
 returns_then : (born : ℕ) (x : Val) (w : Who) (o : World) (s : State) (fs : List Framed) → fs ≢ [] →
@@ -159,6 +175,20 @@ module _ {W : Type 0} (pending : W → List Pending) where
         is = returns_on born x m.who m.world (state_of m.aside v) v.frames (memories m.aside.past v.heap.copies v.trace.marks) r.some none;
       })
 
+  goes_still : (born : ℕ) (x : Val) (m : Scene) (v : View) (t s : Tasks W) (gs : List Framed) → gs ≡ pushed x v.frames → Ready v →
+      AllStill (cancelled (since m.who.path born) m.world) →
+      Own pending (record m { world = world_without (since m.who.path born) m.world }) (record v { frames = pushed x v.frames }) s →
+      Meets pending (done (returning_of born x) m.aside m.who m.world v) m.aside.past went.On (record v { frames = gs }) s
+  goes_still born x m v t s gs is r still own =
+      subst (λ z. GoesOn pending (done (returning_of born x) m.aside m.who m.world v) m.aside.past (record v { frames = z }) s) (sym is)
+      (record {
+        scene = record m { world = world_without (since m.who.path born) m.world };
+        same = refl;
+        goes = record { ready = pushed_ready x v r; runs = inl own };
+        is = returns_still born x m.who m.world (state_of m.aside v) v.frames (memories m.aside.past v.heap.copies v.trace.marks) r.some
+            still;
+      })
+
   -- while tasks are cancelled there is nothing beneath the one that runs
   pub returned_clearing : (born : ℕ) (x : Val) (v : View) (t : Tasks W) (gs : List Framed) → is_some t.after ≡ true →
       gs ≡ pushed x v.frames → Returned pending born x went.On v t (record v { frames = gs }) t
@@ -178,34 +208,37 @@ module _ {W : Type 0} (pending : W → List Pending) where
         | inr c ↦ absurd (none_some t.after c.after not c.after_is)
       ]
 
-  -- nothing was cancelled
+  -- no deferred block is to run
+
+  above_so : (P Q : ℕ → Type 0) → ((n : ℕ) → P n → Q n) → (fs : List Frame) → AllAbove P fs → AllAbove Q fs
+  above_so P Q so [] a = tt
+  above_so P Q so (f ∷ fs) a = (λ g. so f.life.born (a.0 g), above_so P Q so fs a.1)
 
   after_none : (born : ℕ) (x : Val) (m : Scene) (v : View) (t s : Tasks W) → Own pending m v t → Cancels pending t.id born t s →
-      s.gone.frames.items ≡ [] →
-      (cancelled (since m.who.path born) m.world ≡ []) × Own pending m (record v { frames = pushed x v.frames }) (record s { id = t.id })
+      s.gone.frames.items ≡ [] → AllStill (cancelled (since m.who.path born) m.world) ×
+      Own pending (record m { world = world_without (since m.who.path born) m.world }) (record v { frames = pushed x v.frames })
+      (record s { id = t.id })
   after_none born x m v t s own c empty =
       let a = m.aside in
       let w = m.who in
       let o = m.world in
       let f = since w.path born in
       let k = c.scope a w None o v own.standing in
-      let none : cancelled f o ≡ [] = none_kept (cancelled f o) (map frames_in (reverse s.gone.frames.items)) k.todo_is
-      (ap (λ z. map frames_in (reverse z)) empty) in
-      let same : world_without f o ≡ o = world_stays f o none in
       let ms = memories a.past v.heap.copies v.trace.marks in (
-        none,
+        no_more (cancelled f o) (ap (λ z. map frames_in (reverse z)) (sym empty) ∙ k.todo_is),
         record {
           standing = record {
             clock = reclocked pending a v s (pushed x v.frames) t.id k.clock;
-            stands = subst (λ z. Stands (slot_of frames_in) s.tree (map id_of (ups_of s.ups.items)) (held t.id w None ∷ []) z) same
-                k.stands;
+            stands = k.stands;
             ups = k.ups;
             still = k.still;
             none = empty;
           };
           began = pushed_birth x v.frames ms ∙ own.began;
           not_gone = pushed_gone x v.frames ms own.not_gone;
-          calm = pushed_above (λ n. cancelled (since w.path n) o ≡ []) x v.frames ms own.calm;
+          calm = above_so (λ n. cancelled (since w.path n) o ≡ []) (λ n. cancelled (since w.path n) (world_without f o) ≡ [])
+              (λ n e. none_less f (since w.path n) o e) (frames_with (pushed x v.frames) ms)
+              (pushed_above (λ n. cancelled (since w.path n) o ≡ []) x v.frames ms own.calm);
         },
       )
 
@@ -215,10 +248,10 @@ module _ {W : Type 0} (pending : W → List Pending) where
   returned_none born x v t s gs not c empty is = record {
     meets = λ m h.
         let k = after_none born x m v t s (own_here born m v t not h) c empty in
-        goes_back born x m v t (record s { id = t.id }) gs is h.going.ready k.0 (inl k.1);
+        goes_still born x m v t (record s { id = t.id }) gs is h.going.ready k.0 k.1;
   }
 
-  -- something was cancelled
+  -- deferred blocks are to run
 
   -- a frame above one with a handler or a noted place had begun nothing
   not_bound : (born : ℕ) (m : Scene) (v : View) (t s : Tasks W) (b : Bool) → all_free (frames_of m.aside v) ≡ b → is_some t.after ≡ false →

@@ -9,6 +9,7 @@ use Rattle.vm_tasks_laws.specs.Slots.{held}
 use Rattle.vm_tasks_laws.specs.Standing.{Stands, who_after}
 use Rattle.vm_running.specs.Views.{View, Aside, state_of}
 use Rattle.vm_tasks.specs.View.{slot_of}
+use Rattle.vm_tasks.specs.Deferring.{deferring}
 use Rattle.vm_scheduler.specs.declared.tasks.After.{After}
 use Rattle.vm_scheduler.specs.declared.tasks.Tasks.{Tasks}
 use Rattle.vm_scheduler.specs.declared.tasks.Went.{Went}
@@ -43,7 +44,7 @@ module _ {W : Type 0} (pending : W → List Pending) where
     pub clock : Clocked pending a v t
     pub stands : Stands (slot_of frames_in) t.tree (ids t) (held id (who_after f) None ∷ []) o
     pub ups : UpsAre (ups_of t.ups.items) o.ups
-    pub todo_is : map frames_in (reverse t.gone.frames.items) ≡ map frames_at todo
+    pub todo_is : map frames_in (reverse t.gone.frames.items) ≡ map frames_at (deferring todo)
     pub unguarded : AllUnguarded t.gone.frames.items
     pub nothing_under : NothingUnder o todo
     pub follows_is : IsAfter t.tree id after f

@@ -1,5 +1,5 @@
 -- Children that are cancelled one after another.
-use Rattle.std.proofs.Common.{◌≡◌, ℕ, ◌<◌, ◌≤◌, List, [], ◌∷◌, ◌++◌, length, refl, sym, subst, arith}
+use Rattle.std.proofs.Common.{◌≡◌, ℕ, Bool, ◌<◌, ◌≤◌, List, [], ◌∷◌, ◌++◌, length, refl, sym, subst, arith}
 use Rattle.task_tree.specs.Tasks.{Task}
 use Rattle.task_tree.specs.Nested.{IsTree, Under, itself}
 use Rattle.task_tree.specs.Removing.{Parts, all_parted, one_goes, one_stays, Cancels, Visited}
@@ -26,19 +26,19 @@ module _ {T : Type 0} (P : Task T → Type 0) where
   shorter old gone left (one_stays {old = xs} {gone = ys} {left = zs} t q r) (x ∷ front) u back e p =
       let tails : xs ≡ front ++ u ∷ back = cc in omega (arith, shorter xs ys zs r front u back tails p)
 
-module _ {F W : Type 0} (pending : W → List Pending) where
-  told_both : (a b : List (Task (Slot F))) (x y z : Gone F W) → Visited (Leaves pending) x b y → Visited (Leaves pending) y a z →
-      Visited (Leaves pending) x (a ++ b) z
-  told_both [] b x y z v w = subst (λ g. Visited (Leaves pending) x b g) (sym w) v
+module _ {F W : Type 0} (has_blocks : F → Bool) (pending : W → List Pending) where
+  told_both : (a b : List (Task (Slot F))) (x y z : Gone F W) → Visited (Leaves has_blocks pending) x b y → Visited (Leaves has_blocks pending) y a z →
+      Visited (Leaves has_blocks pending) x (a ++ b) z
+  told_both [] b x y z v w = subst (λ g. Visited (Leaves has_blocks pending) x b g) (sym w) v
   told_both (t ∷ a) b x y z v w = (w.0, told_both a b x y w.0 v w.1, w.2)
 
   pub none_cleared : (ts : List (Task (Slot F))) (id bound : ℕ) (gone : Gone F W) → IsTree ts → NoYounger ts id bound →
-      Cleared pending id bound ts ts gone gone
+      Cleared has_blocks pending id bound ts ts gone gone
   none_cleared ts id bound gone tree none = record { gone = []; cancels = λ frames. none_younger tree none; told = refl }
 
   pub one_cleared : (ts mid new : List (Task (Slot F))) (id bound child : ℕ) (x y z : Gone F W) (list : List (Task (Slot F))) → IsTree ts →
       IsYounger ts id bound child → Cancels child ts list mid →
-      Visited (Leaves pending) x list y → Cleared pending id bound mid new y z → Cleared pending id bound ts new x z
+      Visited (Leaves has_blocks pending) x list y → Cleared has_blocks pending id bound mid new y z → Cleared has_blocks pending id bound ts new x z
   one_cleared ts mid new id bound child x y z list tree young cancels told c = record {
     gone = c.gone ++ list;
     cancels = λ frames. one_younger child young.task list mid c.gone tree young.youngest_is young.at_it young.less cancels

@@ -1,5 +1,5 @@
 -- Of which tasks those are that are left, and the frames that are kept, where some are cancelled.
-use Rattle.std.proofs.Common.{◌⊎◌, inl, inr, ℕ, List, [], ◌∷◌, ◌++◌, subst}
+use Rattle.std.proofs.Common.{◌⊎◌, inl, inr, ℕ, Bool, true, false, cond, List, [], ◌∷◌, ◌++◌, subst}
 use Rattle.task_tree.specs.Tasks.{Task}
 use Rattle.task_tree.specs.Removing.{Parts, all_parted, one_goes, one_stays}
 use Rattle.verse_code_machine.specs.Tasks.{Frame}
@@ -8,7 +8,9 @@ use Rattle.vm_tasks_laws.specs.Cancelling.{CancelsSince, none_younger, one_young
 use Rattle.vm_tasks_laws.specs.Slots as table
 use Rattle.vm_tasks.specs.declared.slots.Slot.{Slot}
 use Rattle.vm_tasks.specs.declared.gone.Gone.{Gone}
-use Rattle.vm_tasks.specs.Gone.{frames_in, In, first_in, later_in, Cleared, KeepsEach}
+use Rattle.vm_tasks.specs.declared.slots.Held.{Held}
+use Rattle.vm_tasks.specs.declared.slots.Held.TheVariants.{ByMachine, Asleep, AtGroup}
+use Rattle.vm_tasks.specs.Gone.{frames_in, kept_in, In, first_in, later_in, Cleared, KeepsEach}
 use Rattle.vm_tasks.proofs.Meaning.{frames_back, told_frames}
 
 pub in_either : {A : Type 0} (x : A) (a b : List A) → In x (a ++ b) → In x a ⊎ In x b
@@ -47,26 +49,36 @@ module _ {F : Type 0} where
         | inr k ↦ parts_gone _ ts first mid t cancels k
       ]
 
-  back_in : (f : F) (ts : List (Task (Slot F))) → In f (frames_back ts) → (t : Task (Slot F)) × In t ts × In f (frames_in t.item.held)
-  back_in f [] i = elim i [ ]
-  back_in f (t ∷ ts) i =
-      elim (in_either f (frames_back ts) (frames_in t.item.held) i) [
-        | inl k ↦ let r = back_in f ts k in (r.0, later_in t r.1, r.2)
-        | inr k ↦ (t, first_in, k)
+  of_kept : (has_blocks : F → Bool) (f g : F) (b : Bool) → In f (cond b (g ∷ []) []) → In f (g ∷ [])
+  of_kept has_blocks f g true i = i
+  of_kept has_blocks f g false i = elim i [ ]
+
+  in_kept : (has_blocks : F → Bool) (f : F) (h : Held F) → In f (kept_in has_blocks h) → In f (frames_in h)
+  in_kept has_blocks f ByMachine i = i
+  in_kept has_blocks f (Asleep g n kind) i = of_kept has_blocks f g (has_blocks g) i
+  in_kept has_blocks f (AtGroup g group) i = of_kept has_blocks f g (has_blocks g) i
+
+  back_in : (has_blocks : F → Bool) (f : F) (ts : List (Task (Slot F))) → In f (frames_back has_blocks ts) →
+      (t : Task (Slot F)) × In t ts × In f (frames_in t.item.held)
+  back_in has_blocks f [] i = elim i [ ]
+  back_in has_blocks f (t ∷ ts) i =
+      elim (in_either f (frames_back has_blocks ts) (kept_in has_blocks t.item.held) i) [
+        | inl k ↦ let r = back_in has_blocks f ts k in (r.0, later_in t r.1, r.2)
+        | inr k ↦ (t, first_in, in_kept has_blocks f t.item.held k)
       ]
 
 pub no_frames : {F : Type 0} → F → Frame × List Frame
 no_frames f = (record { life = record { born = 0; defers = []; noted = [] }; locals = []; stack = []; place = 0; handlers = [] }, [])
 
-module _ {F W : Type 0} (pending : W → List Pending) where
+module _ {F W : Type 0} (has_blocks : F → Bool) (pending : W → List Pending) where
   pub keeps_so : (id bound : ℕ) (old new : List (Task (Slot F))) (before behind : Gone F W) →
-      Cleared pending id bound old new before behind → KeepsEach old new before behind
+      Cleared has_blocks pending id bound old new before behind → KeepsEach old new before behind
   keeps_so id bound old new before behind c = record {
     tasks = λ t i. since_left _ id bound old c.gone new t (c.cancels no_frames) i;
     frames = λ l f i.
-        elim (in_either f before.frames.items (frames_back c.gone)
-        (subst (λ z. In f z) (told_frames pending c.gone before behind c.told l).1 i)) [
+        elim (in_either f before.frames.items (frames_back has_blocks c.gone)
+        (subst (λ z. In f z) (told_frames has_blocks pending c.gone before behind c.told l).1 i)) [
           | inl k ↦ inl k
-          | inr k ↦ let r = back_in f c.gone k in inr (r.0, since_gone _ id bound old c.gone new r.0 (c.cancels no_frames) r.1, r.2)
+          | inr k ↦ let r = back_in has_blocks f c.gone k in inr (r.0, since_gone _ id bound old c.gone new r.0 (c.cancels no_frames) r.1, r.2)
         ];
   }

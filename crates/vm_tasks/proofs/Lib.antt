@@ -1,3 +1,4 @@
+pub mod Blocks
 pub mod Clearing
 pub mod Meaning
 pub mod Endings

@@ -9,7 +9,7 @@ use Rattle.vm_tasks_laws.specs.Cancelling.{CancelsSince, none_younger, one_young
 use Rattle.vm_tasks_laws.specs.Slots as table
 use Rattle.vm_tasks.specs.declared.slots.Slot.{Slot}
 use Rattle.vm_tasks.specs.declared.gone.Gone.{Gone}
-use Rattle.vm_tasks.specs.Gone.{frames_in, In, first_in, later_in, Leaves, Cleared, LosesFew}
+use Rattle.vm_tasks.specs.Gone.{kept_in, In, first_in, later_in, Leaves, Cleared, LosesFew}
 use Rattle.vm_tasks.proofs.Meaning.{told_frames}
 use Rattle.vm_tasks.proofs.Keeping.{in_either, since_left, since_gone, no_frames}
 
@@ -56,14 +56,14 @@ same_bool : (b c : Bool) → (b ≡ true → c ≡ true) → (b ≡ false → c 
 same_bool true c t f = sym (t refl)
 same_bool false c t f = sym (f refl)
 
-module _ {F W : Type 0} (pending : W → List Pending) where
+module _ {F W : Type 0} (has_blocks : F → Bool) (pending : W → List Pending) where
   -- what was kept of so many tasks fits
   record Fits (gone : List (Task (Slot F))) (x y : Gone F W) : Type 0 where
     few : length y.frames.items ≤ length x.frames.items + length gone
     room : vec_capacity x.frames ≤ vec_capacity y.frames
     none_lost : length x.frames.items + length gone ≤ vec_capacity x.frames → y.lost ≡ true → x.lost ≡ true
 
-  fits : (gone : List (Task (Slot F))) (x y : Gone F W) → Visited (Leaves pending) x gone y → Fits gone x y
+  fits : (gone : List (Task (Slot F))) (x y : Gone F W) → Visited (Leaves has_blocks pending) x gone y → Fits gone x y
   fits [] x y v = subst (λ z. Fits [] x z) (sym v) (record { few = omega arith; room = omega arith; none_lost = λ r l. l })
   fits (t ∷ ts) x y v =
       let r = fits ts x v.0 v.1 in
@@ -77,8 +77,8 @@ module _ {F W : Type 0} (pending : W → List Pending) where
             ];
       }
 
-  some_lost : (gone : List (Task (Slot F))) (x y : Gone F W) → Visited (Leaves pending) x gone y → y.lost ≡ true →
-      (x.lost ≡ true) ⊎ ((t : Task (Slot F)) × In t gone × (frames_in t.item.held ≢ []))
+  some_lost : (gone : List (Task (Slot F))) (x y : Gone F W) → Visited (Leaves has_blocks pending) x gone y → y.lost ≡ true →
+      (x.lost ≡ true) ⊎ ((t : Task (Slot F)) × In t gone × (kept_in has_blocks t.item.held ≢ []))
   some_lost [] x y v l = inl (ap (λ (z : Gone F W). z.lost) (sym v) ∙ l)
   some_lost (t ∷ ts) x y v l =
       elim (v.2.cause l) [
@@ -86,14 +86,23 @@ module _ {F W : Type 0} (pending : W → List Pending) where
         | inr k ↦ inr (t, first_in, k.0)
       ]
 
+  -- where none of them has a deferred block no memory is taken
+  none_kept : (gone : List (Task (Slot F))) (x y : Gone F W) → Visited (Leaves has_blocks pending) x gone y →
+      ((t : Task (Slot F)) → In t gone → kept_in has_blocks t.item.held ≡ []) → (y.frames ≡ x.frames) × (y.lost ≡ x.lost)
+  none_kept [] x y v none = (ap (λ (z : Gone F W). z.frames) v, ap (λ (z : Gone F W). z.lost) v)
+  none_kept (t ∷ ts) x y v none =
+      let r = none_kept ts x v.0 v.1 (λ u i. none u (later_in t i)) in
+      let k = v.2.none (none t first_in) in
+      (k.0 ∙ r.0, k.1 ∙ r.1)
+
   pub loses_few_so : (id bound : ℕ) (old new : List (Task (Slot F))) (before behind : Gone F W) →
-      Cleared pending id bound old new before behind → LosesFew old new before behind
+      Cleared has_blocks pending id bound old new before behind → LosesFew has_blocks old new before behind
   loses_few_so id bound old new before behind c =
       let f = fits c.gone before behind c.told in
       let n = since_count _ id bound old c.gone new (c.cancels no_frames) in
       record {
         with_room = λ r. (
-          same_bool behind.lost before.lost (f.none_lost (omega (arith, r, n))) (λ l. (told_frames pending c.gone before behind c.told l).0),
+          same_bool behind.lost before.lost (f.none_lost (omega (arith, r, n))) (λ l. (told_frames has_blocks pending c.gone before behind c.told l).0),
           omega (arith, r, n, f.few, f.room),
         );
         cause = λ l.
@@ -106,4 +115,6 @@ module _ {F W : Type 0} (pending : W → List Pending) where
                 some = k.2;
               })
             ];
+        none = λ none. none_kept c.gone before behind c.told (λ t i. none t (since_gone _ id bound old c.gone new t (c.cancels no_frames) i)
+            (λ j. since_apart _ id bound old c.gone new t (c.cancels no_frames) i j));
       }

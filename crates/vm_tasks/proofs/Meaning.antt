@@ -1,5 +1,5 @@
 -- Changes of the tree, told by the definition.
-use Rattle.std.proofs.Common.{◌≡◌, ℕ, ◌<◌, ◌≤◌, Bool, false, List, [], ◌∷◌, ◌++◌, map, Some, None, refl, sym, ap, subst, ◌∙◌, append_assoc}
+use Rattle.std.proofs.Common.{◌≡◌, ℕ, ◌<◌, ◌≤◌, Bool, true, false, cond, List, [], ◌∷◌, ◌++◌, map, Some, None, refl, sym, ap, subst, ◌∙◌, append_assoc}
 use Rattle.std.proofs.lemmas.List.{append-nil}
 use Rattle.task_tree.specs.Tasks.{Task}
 use Rattle.task_tree.specs.Nested.{IsTree}
@@ -27,7 +27,8 @@ use Rattle.vm_tasks.specs.declared.slots.Root.TheVariants.{Part as APart, Spawne
 use Rattle.vm_tasks.specs.declared.gone.Gone.{Gone}
 use Rattle.vm_tasks.specs.View.{held_of, slot_of}
 use Rattle.vm_tasks.specs.Begun.{Begun, Reheld, Grouped}
-use Rattle.vm_tasks.specs.Gone.{frames_in, without_wait, Leaves, Cleared}
+use Rattle.vm_tasks.specs.Gone.{kept_of, kept_in, without_wait, Leaves, Cleared}
+use Rattle.vm_tasks.specs.Deferring.{any_defers, task_defers, deferring, Agrees}
 use Rattle.vm_tasks.specs.Standing.{AllEarlier, NoneLater, Branches, BeginsArm, Spawns, SetsDown, BeginsGroup, CancelsAs, CancelsScope}
 use Rattle.vm_tasks.specs.Standing.{CancelsArms}
 
@@ -70,69 +71,98 @@ module _ {F : Type 0} where
       (none_later frames left old above))
 
 -- of the last task first
-abbrev pub frames_back : {F : Type 0} → List (Task (Slot F)) → List F
-frames_back [] = []
-frames_back (t ∷ ts) = frames_back ts ++ frames_in t.item.held
+abbrev pub frames_back : {F : Type 0} → (F → Bool) → List (Task (Slot F)) → List F
+frames_back has_blocks [] = []
+frames_back has_blocks (t ∷ ts) = frames_back has_blocks ts ++ kept_in has_blocks t.item.held
 
 frames_append : {F : Type 0} (frames : F → Frame × List Frame) (a b : List F) → map frames (a ++ b) ≡ map frames a ++ map frames b
 frames_append frames [] b = refl
 frames_append frames (x ∷ a) b = ap (λ w. frames x ∷ w) (frames_append frames a b)
 
-module _ {F : Type 0} (frames : F → Frame × List Frame) where
+tasks_append : (of : m.Task → Frame × List Frame) (a b : List m.Task) → map of (a ++ b) ≡ map of a ++ map of b
+tasks_append of [] b = refl
+tasks_append of (x ∷ a) b = ap (λ w. of x ∷ w) (tasks_append of a b)
+
+deferring_first : (y : m.Task) (ys : List m.Task) → deferring (y ∷ ys) ≡ deferring (y ∷ []) ++ deferring ys
+deferring_first y ys = by_test (task_defers y)
+  where
+    by_test : (b : Bool) → cond b (y ∷ deferring ys) (deferring ys) ≡ cond b (y ∷ []) [] ++ deferring ys
+    by_test true = refl
+    by_test false = refl
+
+module _ {F : Type 0} (has_blocks : F → Bool) (frames : F → Frame × List Frame) (agree : Agrees has_blocks frames) where
   abbrev of_task : m.Task → Frame × List Frame
   of_task y = (y.thread.frame, y.thread.below)
 
-  one_told : (t : Task (Slot F)) (y : m.Task) → IsTold (slot_of frames) t y → map frames (frames_in t.item.held) ≡ of_task y ∷ []
+  both_kept : (f : F) (y : m.Task) (b c : Bool) → b ≡ c → frames f ≡ of_task y → map frames (cond b (f ∷ []) []) ≡ map of_task (cond c (y ∷
+      []) [])
+  both_kept f y true true e is = ap (λ z. z ∷ []) is
+  both_kept f y true false e is = absurd (cc)
+  both_kept f y false true e is = absurd (cc)
+  both_kept f y false false e is = refl
+
+  kept_told : (f : F) (y : m.Task) → y.thread.frame ≡ (frames f).0 → y.thread.below ≡ (frames f).1 →
+      map frames (kept_of has_blocks f) ≡ map of_task (deferring (y ∷ []))
+  kept_told f y top below =
+      let is : frames f ≡ of_task y = ap (λ a. (a, (frames f).1)) (sym top) ∙ ap (λ b. (y.thread.frame, b)) (sym below) in
+      both_kept f y (has_blocks f) (task_defers y) (agree f ∙ ap (λ (z : Frame × List Frame). any_defers (z.0 ∷ z.1)) is) is
+
+  one_told : (t : Task (Slot F)) (y : m.Task) → IsTold (slot_of frames) t y →
+      map frames (kept_in has_blocks t.item.held) ≡ map of_task (deferring (y ∷ []))
   one_told t y told = go t.item.held told
     where
-      go : (h : Held F) → table.Shows t.number (held_of frames h) (table.slept y) → map frames (frames_in h) ≡ of_task y ∷ []
+      go : (h : Held F) → table.Shows t.number (held_of frames h) (table.slept y) →
+          map frames (kept_in has_blocks h) ≡ map of_task (deferring (y ∷ []))
       go ByMachine s = absurd s
-      go (Asleep f n kind) s = ap (λ a. (a, (frames f).1) ∷ []) (sym s.0) ∙ ap (λ b. (y.thread.frame, b) ∷ []) (sym s.1)
-      go (AtGroup f g) s = ap (λ a. (a, (frames f).1) ∷ []) (sym s.0) ∙ ap (λ b. (y.thread.frame, b) ∷ []) (sym s.1)
+      go (Asleep f n kind) s = kept_told f y s.0 s.1
+      go (AtGroup f g) s = kept_told f y s.0 s.1
 
   abbrev flat : List (Task (Slot F)) → List F
   flat [] = []
-  flat (t ∷ ts) = frames_in t.item.held ++ flat ts
+  flat (t ∷ ts) = kept_in has_blocks t.item.held ++ flat ts
 
   all_told : (ts : List (Task (Slot F))) (ys : List m.Task) → AllPairs (IsTold (slot_of frames)) ts ys →
-      map frames (flat ts) ≡ map of_task ys
+      map frames (flat ts) ≡ map of_task (deferring ys)
   all_told [] [] p = refl
   all_told [] (y ∷ ys) p = absurd p
   all_told (t ∷ ts) [] p = absurd p
   all_told (t ∷ ts) (y ∷ ys) p =
-      frames_append frames (frames_in t.item.held) (flat ts) ∙
-      (ap (λ w. w ++ map frames (flat ts)) (one_told t y p.0) ∙ ap (λ w. of_task y ∷ w) (all_told ts ys p.1))
+      frames_append frames (kept_in has_blocks t.item.held) (flat ts) ∙
+      (ap (λ w. w ++ map frames (flat ts)) (one_told t y p.0) ∙
+      (ap (λ w. map of_task (deferring (y ∷ [])) ++ w) (all_told ts ys p.1) ∙
+      (sym (tasks_append of_task (deferring (y ∷ [])) (deferring ys)) ∙ ap (λ z. map of_task z) (sym (deferring_first y ys)))))
 
   flat_append : (a b : List (Task (Slot F))) → flat (a ++ b) ≡ flat a ++ flat b
   flat_append [] b = refl
-  flat_append (t ∷ a) b = ap (λ w. frames_in t.item.held ++ w) (flat_append a b) ∙
-      sym (append_assoc (frames_in t.item.held) (flat a) (flat b))
+  flat_append (t ∷ a) b = ap (λ w. kept_in has_blocks t.item.held ++ w) (flat_append a b) ∙
+      sym (append_assoc (kept_in has_blocks t.item.held) (flat a) (flat b))
 
-  flat_back : (gone : List (Task (Slot F))) → flat (backwards gone) ≡ frames_back gone
+  flat_back : (gone : List (Task (Slot F))) → flat (backwards gone) ≡ frames_back has_blocks gone
   flat_back [] = refl
   flat_back (t ∷ ts) = flat_append (backwards ts) (t ∷ []) ∙
-      (ap (λ w. w ++ (frames_in t.item.held ++ [])) (flat_back ts) ∙ ap (λ w. frames_back ts ++ w) (append-nil (frames_in t.item.held)))
+      (ap (λ w. w ++ (kept_in has_blocks t.item.held ++ [])) (flat_back ts) ∙
+      ap (λ w. frames_back has_blocks ts ++ w) (append-nil (kept_in has_blocks t.item.held)))
 
   pub frames_told : (gone : List (Task (Slot F))) (ys : List m.Task) → AllPairs (IsTold (slot_of frames)) (backwards gone) ys →
-      map frames (frames_back gone) ≡ map of_task ys
+      map frames (frames_back has_blocks gone) ≡ map of_task (deferring ys)
   frames_told gone ys p = ap (λ w. map frames w) (sym (flat_back gone)) ∙ all_told (backwards gone) ys p
 
-module _ {F W : Type 0} (pending : W → List Pending) where
+module _ {F W : Type 0} (has_blocks : F → Bool) (pending : W → List Pending) where
   no_wait : (frames : F → Frame × List Frame) (id : ℕ) (h : Held F) (xs : List (ℕ × Wait)) (ps : List Pending) →
       without_wait h (all_removed xs ps) ≡ all_removed (with_held id (held_of frames h) xs) ps
   no_wait frames id ByMachine xs ps = refl
   no_wait frames id (Asleep f n kind) xs ps = refl
   no_wait frames id (AtGroup f g) xs ps = refl
 
-  told_waits : (frames : F → Frame × List Frame) (gone : List (Task (Slot F))) (x y : Gone F W) → Visited (Leaves pending) x gone y →
+  told_waits : (frames : F → Frame × List Frame) (gone : List (Task (Slot F))) (x y : Gone F W) → Visited (Leaves has_blocks pending) x gone y →
       pending y.waits ≡ all_removed (sleeping (slot_of frames) gone) (pending x.waits)
   told_waits frames [] x y v = ap (λ (z : Gone F W). pending z.waits) v
   told_waits frames (t ∷ ts) x y v =
       v.2.waits ∙ (ap (λ ps. without_wait t.item.held ps) (told_waits frames ts x v.0 v.1) ∙
       no_wait frames t.number t.item.held (sleeping (slot_of frames) ts) (pending x.waits))
 
-  pub told_frames : (gone : List (Task (Slot F))) (x y : Gone F W) → Visited (Leaves pending) x gone y → y.lost ≡ false →
-      (x.lost ≡ false) × (y.frames.items ≡ x.frames.items ++ frames_back gone)
+  pub told_frames : (gone : List (Task (Slot F))) (x y : Gone F W) → Visited (Leaves has_blocks pending) x gone y → y.lost ≡ false →
+      (x.lost ≡ false) × (y.frames.items ≡ x.frames.items ++ frames_back has_blocks gone)
   told_frames [] x y v l = (
     ap (λ (z : Gone F W). z.lost) (sym v) ∙ l,
     ap (λ (z : Gone F W). z.frames.items) v ∙
@@ -140,28 +170,31 @@ module _ {F W : Type 0} (pending : W → List Pending) where
   )
   told_frames (t ∷ ts) x y v l =
       let k = v.2.kept l in
-      let r = told_frames ts x v.0 v.1 k.0 in
-      (r.0, k.1 ∙ (ap (λ w. w ++ frames_in t.item.held) r.1 ∙ append_assoc x.frames.items (frames_back ts) (frames_in t.item.held)))
+      let r = told_frames ts x v.0 v.1 k.0 in (
+        r.0,
+        k.1 ∙ (ap (λ w. w ++ kept_in has_blocks t.item.held) r.1 ∙
+            append_assoc x.frames.items (frames_back has_blocks ts) (kept_in has_blocks t.item.held)),
+      )
 
   cancels_as : (frames : F → Frame × List Frame) (old gone new : List (Task (Slot F))) (before behind : Gone F W) (ids : List ℕ)
       (e : table.Entry) (o : World) (f : List ℕ → Bool) →
-      Visited (Leaves pending) before gone behind → CancelledToo (slot_of frames) old gone new ids e o f →
-      CancelsAs pending frames old new before behind ids e o f
-  cancels_as frames old gone new before behind ids e o f v c = record {
+      Agrees has_blocks frames → Visited (Leaves has_blocks pending) before gone behind → CancelledToo (slot_of frames) old gone new ids e o f →
+      CancelsAs has_blocks pending frames old new before behind ids e o f
+  cancels_as frames old gone new before behind ids e o f agree v c = record {
     stands = c.stands;
     timed = λ s t. subst (λ ps. Timed (sleeping (slot_of frames) new) ps s) (sym (told_waits frames gone before behind v))
         (stretch_timed (slot_of frames) old new c.first gone c.last (pending before.waits) s c.were c.are t);
-    kept = λ l. (frames_back gone, (told_frames gone before behind v l).1, frames_told frames gone (cancelled f o) c.told);
+    kept = λ l. (frames_back has_blocks gone, (told_frames gone before behind v l).1, frames_told has_blocks frames agree gone (cancelled f o) c.told);
   }
 
   pub scope_so : (id bound : ℕ) (old new : List (Task (Slot F))) (before behind : Gone F W) →
-      Cleared pending id bound old new before behind → CancelsScope pending id bound old new before behind
-  scope_so id bound old new before behind c frames ids w arms o s =
-      cancels_as frames old c.gone new before behind ids (held id w arms) o (since w.path bound) c.told
+      Cleared has_blocks pending id bound old new before behind → CancelsScope has_blocks pending id bound old new before behind
+  scope_so id bound old new before behind c frames ids w arms o agree s =
+      cancels_as frames old c.gone new before behind ids (held id w arms) o (since w.path bound) agree c.told
       (cancels_since (slot_of frames) old c.gone new ids id w arms o bound s (c.cancels frames))
 
   pub arms_so : (id bound : ℕ) (old new : List (Task (Slot F))) (before behind : Gone F W) → IsTree old →
-      Cleared pending id bound old new before behind → CancelsArms pending id bound old new before behind
-  arms_so id bound old new before behind tree c frames ids w gs o is s =
-      cancels_as frames old c.gone new before behind ids (held id w (Some gs)) o (beneath_arms w.path gs) c.told
+      Cleared has_blocks pending id bound old new before behind → CancelsArms has_blocks pending id bound old new before behind
+  arms_so id bound old new before behind tree c frames ids w gs o agree is s =
+      cancels_as frames old c.gone new before behind ids (held id w (Some gs)) o (beneath_arms w.path gs) agree c.told
       (cancels_arms (slot_of frames) old c.gone new ids id w gs o bound s tree is (c.cancels frames))

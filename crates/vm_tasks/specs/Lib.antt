@@ -1,4 +1,5 @@
 pub mod View
+pub mod Deferring
 pub mod Gone
 pub mod Begun
 pub mod Standing

@@ -16,6 +16,7 @@ use Rattle.vm_tasks.specs.declared.slots.Slot.{Slot}
 use Rattle.vm_tasks.specs.declared.slots.Held.{Held}
 use Rattle.vm_tasks.specs.declared.gone.Gone.{Gone}
 use Rattle.vm_tasks.specs.View.{held_of, slot_of}
+use Rattle.vm_tasks.specs.Deferring.{deferring, Agrees}
 
 module _ {F : Type 0} where
   -- each began when more steps were left
@@ -66,28 +67,28 @@ module _ {F : Type 0} where
       Stands (slot_of frames) old ids (held i w None ∷ []) o →
       Stands (slot_of frames) new ids (held i w (Some []) ∷ []) o
 
-module _ {F W : Type 0} (pending : W → List Pending) where
+module _ {F W : Type 0} (has_blocks : F → Bool) (pending : W → List Pending) where
   -- the definition cancels tasks of such names: the tree stands for what is left, the clock has its waits, and the frames are those of the
-  -- cancelled tasks, in the order in which they are cancelled
+  -- cancelled tasks that have deferred blocks, in the order in which they are cancelled
   pub record CancelsAs (frames : F → Frame × List Frame) (old new : List (Task (Slot F))) (before behind : Gone F W) (ids : List ℕ)
       (e : Entry) (o : World) (f : List ℕ → Bool) : Type 0 where
     pub stands : Stands (slot_of frames) new ids (e ∷ []) (world_without f o)
     pub timed : (s : State) → Timed (sleeping (slot_of frames) old) (pending before.waits) s →
         Timed (sleeping (slot_of frames) new) (pending behind.waits) s
     pub kept : behind.lost ≡ false → (more : List F) × (behind.frames.items ≡ before.frames.items ++ more) ×
-        (map frames more ≡ map (λ (y : m.Task). (y.thread.frame, y.thread.below)) (cancelled f o))
+        (map frames more ≡ map (λ (y : m.Task). (y.thread.frame, y.thread.below)) (deferring (cancelled f o)))
 
   -- what the task has begun since so many steps were left
   abbrev pub CancelsScope : (i bound : ℕ) → List (Task (Slot F)) → List (Task (Slot F)) → Gone F W → Gone F W → Type 0
   CancelsScope i bound old new before behind =
-      (frames : F → Frame × List Frame) (ids : List ℕ) (w : Who) (arms : Option (List Part)) (o : World) →
+      (frames : F → Frame × List Frame) (ids : List ℕ) (w : Who) (arms : Option (List Part)) (o : World) → Agrees has_blocks frames →
       Stands (slot_of frames) old ids (held i w arms ∷ []) o →
       CancelsAs frames old new before behind ids (held i w arms) o (since w.path bound)
 
   -- the arms of its group, which began when so many steps were left
   abbrev pub CancelsArms : (i bound : ℕ) → List (Task (Slot F)) → List (Task (Slot F)) → Gone F W → Gone F W → Type 0
   CancelsArms i bound old new before behind =
-      (frames : F → Frame × List Frame) (ids : List ℕ) (w : Who) (gs : List Part) (o : World) →
+      (frames : F → Frame × List Frame) (ids : List ℕ) (w : Who) (gs : List Part) (o : World) → Agrees has_blocks frames →
       ((t : Task (Slot F)) → task_at i old ≡ Some t → t.item.since ≡ bound) →
       Stands (slot_of frames) old ids (held i w (Some gs) ∷ []) o →
       CancelsAs frames old new before behind ids (held i w (Some gs)) o (beneath_arms w.path gs)

@@ -13,6 +13,7 @@ ghost use Rattle.sim_clock.specs.Pending.{IsAboveAll};
 ghost use Rattle.vm_tasks.specs.Standing.{Branches, BeginsArm, Spawns, SetsDown, BeginsGroup};
 ghost use Rattle.vm_tasks.specs.Standing.{CancelsScope, CancelsArms};
 
+use crate::deferring::Deferring;
 use crate::gone::Gone;
 use crate::slots::{Held, Root, Slot};
 use sim_clock::waits::{Wait, Waits};
@@ -24,17 +25,18 @@ use verse_base::refusals::Memory;
 /// Removes the children of a task that began when fewer steps were left, the youngest first, each
 /// with all that it encloses: what a frame has begun, by the steps that were left when it began;
 /// or the arms of a group, by those that were left when the group began. Takes no memory where
-/// there is room for the frames of all tasks, and none where no task that is cancelled has frames.
-pub fn cancel_since<F: Drop, W: Waits>(
+/// there is room for the frames of all tasks, and none where no frame of a task that is cancelled
+/// has a deferred block.
+pub fn cancel_since<F: Drop + Deferring, W: Waits>(
     tree: &mut TaskTree<Slot<F>>,
     gone: &mut Gone<F, W>,
     id: usize,
     bound: u64,
 )
-    ensures scope { CancelsScope W.pending id bound tree.old tree.new gone.old gone.new }
-    ensures arms { CancelsArms W.pending id bound tree.old tree.new gone.old gone.new }
+    ensures scope { CancelsScope F.has_blocks W.pending id bound tree.old tree.new gone.old gone.new }
+    ensures arms { CancelsArms F.has_blocks W.pending id bound tree.old tree.new gone.old gone.new }
     ensures each { KeepsEach tree.old tree.new gone.old gone.new }
-    ensures few { LosesFew tree.old tree.new gone.old gone.new }
+    ensures few { LosesFew F.has_blocks tree.old tree.new gone.old gone.new }
     ensures left { NoYounger tree.new id bound }
     ensures alone { IsAlone tree.new id bound }
     ensures nested { IsTree tree.new }
@@ -181,13 +183,13 @@ pub fn begin_root<F: Drop>(
     }
 }
 
-fn clear_since<F: Drop, W: Waits>(
+fn clear_since<F: Drop + Deferring, W: Waits>(
     tree: &mut TaskTree<Slot<F>>,
     gone: &mut Gone<F, W>,
     id: usize,
     bound: u64,
 )
-    ensures cleared { Cleared W.pending id bound tree.old tree.new gone.old gone.new }
+    ensures cleared { Cleared F.has_blocks W.pending id bound tree.old tree.new gone.old gone.new }
     ensures left { NoYounger tree.new id bound }
     ensures nested { IsTree tree.new }
 {

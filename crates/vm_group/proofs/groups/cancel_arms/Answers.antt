@@ -14,21 +14,21 @@ run_blocks-requires-clause-unguarded g c =
     arms_unguarded g.W.Waits.pending c.args.id c.in-Some.slot.now.since c.args.thread _ c.args.tasks.now _
     (began_of g.W.Waits.pending c.args.id c.in-Some.slot.now c.args.tasks.now (sym (ap (λ o. option_copied o) c.in-Some.is) ∙
     c.get.ensures)) c.requires
-    c.in_ok-cancel.ensures
+    c.in_ok-cancel.ensures.ok
 
 pub returns-in_default : goal.returns-in_default
 returns-in_default g c =
     race_runs g.W.Waits.pending c.args.id c.in-Some.slot.now.since c.args.thread c.args.value _ c.args.tasks.now _
     (began_of g.W.Waits.pending c.args.id c.in-Some.slot.now c.args.tasks.now (sym (ap (λ o. option_copied o) c.in-Some.is) ∙
     c.get.ensures)) c.is_nested-2.ensures
-    c.in_ok-cancel.ensures _ _ _ c.in_default.not-Down c.run_blocks.ensures.blocks
+    c.in_ok-cancel.ensures.ok _ _ _ c.in_default.not-Down c.run_blocks.ensures.blocks
 
 pub returns : goal.returns
 returns g c =
     race_resumes g.W.Waits.pending c.args.id c.in-Some.slot.now.since c.args.thread c.args.value
     (view_of g.H.Heap.state c.args.run.now) c.args.tasks.now c.cancel.new.tasks
     (began_of g.W.Waits.pending c.args.id c.in-Some.slot.now c.args.tasks.now (sym (ap (λ o. option_copied o) c.in-Some.is) ∙
-    c.get.ensures)) c.is_nested-2.ensures c.in_ok-cancel.ensures c.resume.result c.run_blocks.result
+    c.get.ensures)) c.is_nested-2.ensures c.in_ok-cancel.ensures.ok c.resume.result c.run_blocks.result
     (view_of g.H.Heap.state c.run_blocks.new.run) _
     c.run_blocks.new.tasks _ _ c.in-Down.is c.run_blocks.ensures.blocks
     (ap (λ o. record c.run_blocks.new.tasks { after = o }) c.take.ensures.after)

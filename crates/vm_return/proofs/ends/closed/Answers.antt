@@ -16,10 +16,10 @@ pub unwind-requires : goal.unwind-requires
 unwind-requires g c =
     let so : c.is_part.result ≡ true = search rules in
     part_cleared g.W.Waits.pending c.args.born c.args.value (view_of g.H.Heap.state c.args.run.now) c.args.tasks.now c.is_part.result
-    c.is_nested.ensures c.is_part.ensures _ c.in_ok-cancel.ensures so c.requires
+    c.is_nested.ensures c.is_part.ensures _ c.in_ok-cancel.ensures.ok so c.requires
 
 pub returns : goal.returns
 returns g c =
     let so : c.is_part.result ≡ true = search rules in
     part_unwinds g.W.Waits.pending c.args.born c.args.value (view_of g.H.Heap.state c.args.run.now) c.args.tasks.now c.is_part.result
-    c.is_nested.ensures c.is_part.ensures _ c.in_ok-cancel.ensures c.unwind.result _ _ so c.unwind.ensures
+    c.is_nested.ensures c.is_part.ensures _ c.in_ok-cancel.ensures.ok c.unwind.result _ _ so c.unwind.ensures

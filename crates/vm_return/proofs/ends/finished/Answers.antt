@@ -12,9 +12,9 @@ returns-then-is_part g c = part_returns g.W.Waits.pending c.args.born c.args.val
 pub unwind-requires : goal.unwind-requires
 unwind-requires g c =
     root_cleared g.W.Waits.pending c.args.born c.args.value (view_of g.H.Heap.state c.args.run.now) c.args.tasks.now c.is_part.result
-    c.is_nested.ensures c.is_part.ensures _ c.in_ok-cancel.ensures c.if-is_part.false c.requires
+    c.is_nested.ensures c.is_part.ensures _ c.in_ok-cancel.ensures.ok c.if-is_part.false c.requires
 
 pub returns : goal.returns
 returns g c =
     root_unwinds g.W.Waits.pending c.args.born c.args.value (view_of g.H.Heap.state c.args.run.now) c.args.tasks.now c.is_part.result
-    c.is_nested.ensures c.is_part.ensures _ c.in_ok-cancel.ensures c.unwind.result _ _ c.if-is_part.false c.unwind.ensures
+    c.is_nested.ensures c.is_part.ensures _ c.in_ok-cancel.ensures.ok c.unwind.result _ _ c.if-is_part.false c.unwind.ensures
