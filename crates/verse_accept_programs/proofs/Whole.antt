@@ -20,17 +20,14 @@ use Rattle.verse_accept_programs.proofs.Main.{Starts, main_starts}
 
 pub programs_fine : TreesAreFine → ProgramsAreFine
 programs_fine trees is arrays events told shaped numbered sound named = record {
-  found = sorted is;
-  fine = record {
-    functions = λ g f e.
-        let o = functions.owner g f e in
-        subst (FineFunction (program is arrays events) (sorted is) g) o.2
-        (function_fine is arrays events told shaped numbered sound quiet functions trees named g o.0 o.1);
-    defaults = defaults_fine is arrays events told shaped numbered sound quiet functions trees named;
-    slots = slots_inherit is arrays events quiet functions;
-    methods = methods_inherit is arrays events quiet functions;
-    main = main;
-  };
+  functions = λ g f e.
+      let o = functions.owner g f e in
+      subst (FineFunction (program is arrays events) (sorted is) g) o.2
+      (function_fine is arrays events told shaped numbered sound quiet functions trees named g o.0 o.1);
+  defaults = defaults_fine is arrays events told shaped numbered sound quiet functions trees named;
+  slots = slots_inherit is arrays events quiet functions;
+  methods = methods_inherit is arrays events quiet functions;
+  main = main;
 }
   where
     quiet : Quiet is

@@ -15,7 +15,7 @@ use Rattle.verse_accept.specs.Fronts.{Accepts, all_items}
 use Rattle.verse_value.specs.declared.runs.Ending.TheVariants as ending
 use Rattle.verse_meaning.specs.Programs.{Program, program_of, is_array_type, is_event_type, of_type}
 use Rattle.verse_meaning.specs.Runs.{after, mean}
-use Rattle.verse_sound_rules.specs.Programs.{FineProgram}
+use Rattle.verse_sound_rules.specs.Programs.{FineFound, FineProgram}
 use Rattle.verse_sound_runs.specs.Laws.{TurnsGoRight, NeverStuck}
 use Rattle.std.specs.Prelude.{slice_get}
 use Rattle.lower_bounds.proofs.Lists.{Each as All}
@@ -24,7 +24,7 @@ use Rattle.verse_accept_nodes.proofs.Accepted.{each_named}
 use Rattle.verse_accept_scopes.specs.Lists.{Each}
 use Rattle.verse_accept_scopes.specs.Sites.{Site, node_of, program_sites}
 use Rattle.verse_accept_scopes.proofs.Whole.{walked_are_sites}
-use Rattle.verse_accept_fine.specs.Sorted.{program}
+use Rattle.verse_accept_fine.specs.Sorted.{sorted, program}
 use Rattle.verse_accept_trees.specs.Names.{ShapeNamed, WhatNamed, Named}
 use Rattle.verse_accept_trees.specs.Laws.{Told}
 use Rattle.verse_accept_programs.specs.Laws.{ProgramsAreFine}
@@ -61,10 +61,10 @@ module _ (order : InPostOrder) (shapes : AcceptedShaped) (programs : ProgramsAre
   same : is ≡ a.0
   same = let tested = a.2 in tested.2.0 ∙ (tested.1.2.0 ∙ tested.1.1.0)
 
-  numbered : AreNumbered is
+  pub numbered : AreNumbered is
   numbered = (all_items a.1.0, same ∙ a.1.2)
 
-  sound : IsSound is
+  pub sound : IsSound is
   sound =
       let tested = a.2 in
       record {
@@ -78,8 +78,12 @@ module _ (order : InPostOrder) (shapes : AcceptedShaped) (programs : ProgramsAre
       each_site (program_sites is)
       (subst (λ vs. All NodeNames vs) (sym (ap (map alone) (walked_are_sites is shaped) ∙ order is)) (each_named files is a))
 
+  -- with the sorts of the types that the checker has found
+  pub items_found : (arrays events : ℕ → Bool) → Told is arrays events → FineFound (program is arrays events) (sorted is)
+  items_found arrays events told = programs is arrays events told (shapes files is a) numbered sound named
+
   pub items_fine : (arrays events : ℕ → Bool) → Told is arrays events → FineProgram (program is arrays events)
-  items_fine arrays events told = programs is arrays events told (shapes files is a) numbered sound named
+  items_fine arrays events told = record { found = sorted is; fine = items_found arrays events told }
 
 module _ (order : InPostOrder) (shapes : AcceptedShaped) (programs : ProgramsAreFine) where
   pub accepted_items : ItemsAreFine
