@@ -1,13 +1,16 @@
 -- Stretches of code in which each arm stands behind its group, and how the combinators keep that.
-use Rattle.std.proofs.Common.{◌≡◌, ℕ, zero, suc, ◌+◌, ◌<◌, ◌≤◌, List, [], ◌∷◌, ◌++◌, map, length, Bool, true, false, Option, Some, None}
-use Rattle.std.proofs.Common.{refl, sym, ap, arith, slice_get, subst, ◌⊎◌, inl, inr}
+use Rattle.std.proofs.Common.{◌≡◌, ℕ, zero, suc, ◌<◌, List, [], ◌∷◌, ◌++◌, map, length, Bool, true, false}
+use Rattle.std.proofs.Common.{Option, Some, None}
+use Rattle.std.proofs.Common.{refl, sym, ap, arith, subst, ◌⊎◌, inl, inr}
 use Rattle.std.proofs.lemmas.Option.{none-some}
 use Rattle.verse_base.specs.declared.places.Place.{Place}
 use Rattle.verse_tree.specs.Tree.{Bytes}
 use Rattle.verse_code.specs.declared.operations.Op.{Op}
 use Rattle.verse_code.specs.declared.operations.Op.TheVariants as o
-use Rattle.lower_code.specs.Pieces.{Spot, Item, sure, leaving, Piece, Maker, past, next, nothing, one, placed, numbering, texted, put_away}
-use Rattle.lower_code.specs.Pieces.{kept, when, when_else, leave_loop, ahead, either, closing, from_here, looping, turning, using_locals}
+use Rattle.lower_code.specs.Pieces.{Spot, Item, sure, leaving, Piece, Maker, past, next, nothing, one, placed}
+use Rattle.lower_code.specs.Pieces.{numbering, texted, put_away}
+use Rattle.lower_code.specs.Pieces.{kept, when, when_else, leave_loop, ahead, either, closing, from_here, looping}
+use Rattle.lower_code.specs.Pieces.{turning, using_locals}
 use Rattle.lower_code.specs.Pieces.{arms_at, arms_spot, closed, drops, deepest, later, ◌then◌}
 use Rattle.lower_code.specs.Lowering.{grouped}
 use Rattle.lower_code.specs.Programs.{item_op}
@@ -34,7 +37,8 @@ Armed (Some n) (i ∷ is) = Armed (arms_after n i) is
 
 -- ---- what that says of each operation
 
-group_comes : (n : ℕ) (i : Item) (is : List Item) (kind m pl : ℕ) → item_op i ≡ o.Group kind m pl → Armed (arms_after n i) is →
+group_comes : (n : ℕ) (i : Item) (is : List Item) (kind m pl : ℕ) → item_op i ≡ o.Group kind m pl → Armed
+    (arms_after n i) is →
     Armed (Some m) is
 group_comes zero (sure op) is kind m pl e h = subst (λ y. Armed (arms_behind zero y) is) e h
 group_comes (suc n) (sure op) is kind m pl e h = elim (subst (λ y. Armed (arms_behind (suc n) y) is) e h) [ ]
@@ -46,7 +50,8 @@ arm_comes (suc n) i is l e h = omega arith
 arm_comes zero (leaving k) is l e h = absurd (cc)
 
 -- where arms are to come, an arm stands
-arm_is : (n : ℕ) (i : Item) (is : List Item) → Armed (arms_after (suc n) i) is → (l : ℕ) × (item_op i ≡ o.Arm l) × Armed (Some n) is
+arm_is : (n : ℕ) (i : Item) (is : List Item) → Armed (arms_after (suc n) i) is → (l : ℕ) ×
+    (item_op i ≡ o.Arm l) × Armed (Some n) is
 arm_is n (sure (o.Arm l)) is h = (l, refl, h)
 arm_is n (sure op) is h = elim h [ ]
 arm_is n (leaving k) is h = elim h [ ]
@@ -74,7 +79,8 @@ arms_there zero (x ∷ is) h i lt = absurd (omega (arith, lt))
 arms_there (suc n) (x ∷ is) h zero lt = let a = arm_is n x is h in (a.0, ap Some a.1)
 arms_there (suc n) (x ∷ is) h (suc i) lt = let a = arm_is n x is h in arms_there n is a.2 i (omega (arith, lt))
 
-group_arms : (k : Option ℕ) (is : List Item) → Armed k is → (j m i : ℕ) → GroupAt (map item_op is) j m → IsBehind j m i →
+group_arms : (k : Option ℕ) (is : List Item) → Armed k is → (j m i : ℕ) → GroupAt (map item_op is) j m →
+    IsBehind j m i →
     IsArm (map item_op is) i
 group_arms None is h j m i g b = elim h [ ]
 group_arms (Some n) [] h j m i g b = elim (none-some _ g.there) [ ]
@@ -102,7 +108,8 @@ arm_group n [] h i a = elim (none-some _ a.1) [ ]
 arm_group n (x ∷ is) h zero a = inl (arm_comes n x is a.0 (some_is a.1) h)
 arm_group n (x ∷ is) h (suc i) a = by (arms_after n x) refl h (λ m g. arm_group m is g i a)
   where
-    two : (m : ℕ) → Comes n m (item_op x) → (i < m) ⊎ GroupOf (map item_op is) i → (suc i < n) ⊎ GroupOf (item_op x ∷ map item_op is) (suc i)
+    two : (m : ℕ) → Comes n m (item_op x) → (i < m) ⊎ GroupOf (map item_op is) i → (suc i < n) ⊎ GroupOf
+        (item_op x ∷ map item_op is) (suc i)
     two m c (inr g) = inr (further (item_op x) (map item_op is) i g)
     two m (one_less e) (inl lt) = inl (omega (arith, e, lt))
     two m (no_more e) (inl lt) = absurd (omega (arith, e, lt))
@@ -113,7 +120,8 @@ arm_group n (x ∷ is) h (suc i) a = by (arms_after n x) refl h (λ m g. arm_gro
       behind = (omega arith, omega (arith, lt));
     })
 
-    by : (k : Option ℕ) → arms_after n x ≡ k → Armed k is → ((m : ℕ) → Armed (Some m) is → (i < m) ⊎ GroupOf (map item_op is) i) →
+    by : (k : Option ℕ) → arms_after n x ≡ k → Armed k is → ((m : ℕ) → Armed (Some m) is → (i < m) ⊎ GroupOf
+        (map item_op is) i) →
         (suc i < n) ⊎ GroupOf (item_op x ∷ map item_op is) (suc i)
     by None e h rest = elim h [ ]
     by (Some m) e h rest = two m (comes_after n m x e) (rest m h)
@@ -185,7 +193,8 @@ is_so false e x = absurd (cc)
 
 pub before : {f : Maker} (op : ℕ → Op) → ((m : ℕ) → IsPlain (op m)) → Orderly f → Orderly (ahead op f)
 before {f = f} op e x = record {
-  arms = λ s. behind_plain (op (past (next s) (f (next s))).at) (f (next s)).items (e (past (next s) (f (next s))).at) (x.arms (next s));
+  arms = λ s. behind_plain (op (past (next s) (f (next s))).at) (f (next s)).items (e (past (next s) (f (next s))).at)
+      (x.arms (next s));
 }
 
 pub one_of : {f g : Maker} (op : ℕ → Op) → ((m : ℕ) → IsPlain (op m)) → Orderly f → Orderly g → Orderly (either op f g)
@@ -193,7 +202,8 @@ one_of {f = f} {g = g} op e x y = record {
   arms = λ s.
       let r : Spot = next (past (next s) (f (next s))) in
       behind_plain (op r.at) ((f (next s)).items ++ sure (o.Jump (past r (g r)).at) ∷ (g r).items) (e r.at)
-      (armed_joined (Some 0) (f (next s)).items (sure (o.Jump (past r (g r)).at) ∷ (g r).items) (x.arms (next s)) (y.arms r));
+      (armed_joined (Some 0) (f (next s)).items (sure (o.Jump (past r (g r)).at) ∷ (g r).items) (x.arms (next s))
+      (y.arms r));
 }
 
 closed_armed : (out : ℕ) (k : Option ℕ) (is : List Item) → Armed k is → Armed k (map (closed out) is)
@@ -220,21 +230,24 @@ from : {f : ℕ → Maker} → ((a : ℕ) → Orderly (f a)) → Orderly (from_h
 from x = record { arms = λ s. (x s.at).arms s }
 
 pub loops : {f : Maker} → Orderly f → Orderly (looping f)
-loops x = closes (from (λ a. both (before o.Jump (λ m. refl) (both x (just o.Drop refl))) (just (o.Again (suc a)) refl)))
+loops x = closes (from (λ a. both (before o.Jump (λ m. refl) (both x (just o.Drop refl))) (just (o.Again
+    (suc a)) refl)))
 
 uses : (n : ℕ) → Orderly (using_locals n)
 uses n = record { arms = λ s. refl }
 
 pub turns : {f : Maker} (x : Op) (l : ℕ) → IsPlain x → Orderly f → Orderly (turning x l f)
 turns x l e y = both (uses (suc (suc (suc (suc l))))) (both (just o.Commit refl) (both (just x e)
-    (from (λ a. both (before o.Jump (λ m. refl) (before o.Try (λ m. refl) y)) (just (o.Take l (suc (suc l)) (suc a)) refl)))))
+    (from (λ a. both (before o.Jump (λ m. refl) (before o.Try (λ m. refl) y)) (just (o.Take l (suc (suc l))
+    (suc a)) refl)))))
 
 arms_armed : (ls : List ℕ) (is : List Item) → Armed (Some 0) is → Armed (Some (length ls)) (arms_at ls is)
 arms_armed [] is h = h
 arms_armed (l ∷ ls) is h = arms_armed ls is h
 
 -- a group of as many arms as are begun
-pub groups : (kind m : ℕ) (pl : Place) (begins : Spot → List ℕ) (arms : Maker) → ((s : Spot) → length (begins s) ≡ m) → Orderly arms →
+pub groups : (kind m : ℕ) (pl : Place) (begins : Spot → List ℕ) (arms : Maker) → ((s : Spot) → length
+    (begins s) ≡ m) → Orderly arms →
     Orderly (grouped kind m pl begins arms)
 unfolding grouped
 groups kind m pl begins arms many x = record {

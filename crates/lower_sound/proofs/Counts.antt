@@ -1,7 +1,7 @@
 -- What is known of a form by the sorts of its operands: how many they are, and what it names is there.
-use Rattle.std.proofs.Common.{◌≡◌, ◌≢◌, ℕ, zero, suc, ◌≤◌, nat_eq, List, [], ◌∷◌, length, Bool, true, false, cond, Option, Some, None}
-use Rattle.std.proofs.Common.{refl, sym, ap, ◌∙◌, arith, subst, ◌⊎◌, inl, inr}
-use Rattle.std.proofs.lemmas.Option.{none-some}
+use Rattle.std.proofs.Common.{◌≡◌, ◌≢◌, ℕ, zero, suc, ◌≤◌, List, ◌∷◌, length, Bool, true, false, cond}
+use Rattle.std.proofs.Common.{Option, Some, None}
+use Rattle.std.proofs.Common.{refl, ap, arith, ◌⊎◌, inl, inr}
 use Rattle.verse_base.specs.declared.places.Place.{Place}
 use Rattle.verse_tree.specs.Tree.{Bytes, Tree, tree, Shape, Trees, no_trees, more_trees}
 use Rattle.verse_tree.specs.Tree as t
@@ -12,16 +12,17 @@ use Rattle.verse_names_declarations.specs.Names.{Table}
 use Rattle.verse_sorts.specs.Sorts as s
 use Rattle.verse_sorts.specs.Sorts.{Sort, Fits}
 use Rattle.verse_sorts.specs.Typing.{AllFit, fit_no, fit_so}
-use Rattle.verse_meaning.specs.Programs.{Program, same_name, fun_at, fields_of}
+use Rattle.verse_meaning.specs.Programs.{Program, same_name, ref_at, fun_at, fields_of}
 use Rattle.verse_meaning.specs.Residuals as form
 use Rattle.verse_meaning.specs.Residuals.{Form}
-use Rattle.verse_meaning.specs.Evaluating.{Callee, alone, of_object, of_value, of_quotient, no_callee, builtin, named_callee, member_callee}
-use Rattle.verse_meaning.specs.Evaluating.{callee_of, callee_of_shape, await_name, signal_name, number_of, spawned_form, spawned_callee}
-use Rattle.verse_meaning.specs.Evaluating.{picked}
+use Rattle.verse_meaning.specs.Evaluating.{Callee, alone, of_object, of_value, of_quotient, no_callee, builtin}
+use Rattle.verse_meaning.specs.Evaluating.{named_callee, member_callee}
+use Rattle.verse_meaning.specs.Evaluating.{callee_of, callee_of_shape, await_name, signal_name, number_of}
+use Rattle.verse_meaning.specs.Evaluating.{spawned_form, spawned_callee}
 use Rattle.verse_sound_rules.specs.Found.{Found, Allowed}
 use Rattle.verse_sound_rules.specs.Forms as takes
 use Rattle.verse_sound_rules.specs.Forms.{Takes, Spared, Gives, Placed, Filled, Callable, CanBeSpawned}
-use Rattle.verse_sound_rules.specs.Fine.{sort_at, object_sort, sorts_at}
+use Rattle.verse_sound_rules.specs.Fine.{sorts_at}
 use Rattle.lower_code.specs.Lowering.{how_many}
 use Rattle.lower_bounds.proofs.Lists.{on_cond}
 use Rattle.lower_sound.specs.Programs.{CalleeGives}
@@ -163,16 +164,18 @@ named_is (Some (ref.Method c m)) whole pl = tt
 named_is (Some (ref.Builtin b)) whole pl = builtin_is whole b pl
 named_is r whole pl = refl
 
-member_is : (r : Option Ref) (of_event : Bool) (x : Bytes) (whole : Form) → IsCallee whole (member_callee r of_event x whole)
+member_is : (r : Option Ref) (of_event : Bool) (x : Bytes) (whole : Form) → IsCallee whole
+    (member_callee r of_event x whole)
 member_is (Some (ref.Method c m)) b x whole = tt
 member_is (Some r) b x whole = refl
-member_is None b x whole = on_cond (IsCallee whole) (same_name x await_name) tt (on_cond (IsCallee whole) (same_name x signal_name) tt refl)
+member_is None b x whole = on_cond (IsCallee whole) (same_name x await_name) tt (on_cond (IsCallee whole)
+    (same_name x signal_name) tt refl)
 
 module _ (p : Program) where
   shape_is : (n : ℕ) (b : Shape) (whole : Form) (pl : Place) → IsCallee whole (callee_of_shape p n b whole pl)
-  shape_is n (t.Shape.name x) whole pl = named_is (Rattle.verse_meaning.specs.Programs.ref_at p n) whole pl
+  shape_is n (t.Shape.name x) whole pl = named_is (ref_at p n) whole pl
   shape_is n (t.Shape.member b x) whole pl =
-      member_is (Rattle.verse_meaning.specs.Programs.ref_at p n) (p.is_event (number_of b)) x whole
+      member_is (ref_at p n) (p.is_event (number_of b)) x whole
   shape_is n b whole pl = refl
 
   pub callee_is : (b : Tree) (whole : Form) (pl : Place) → IsCallee whole (callee_of p b whole pl)
@@ -203,19 +206,22 @@ spawned_is whole no_callee h = tt
 
 -- what gives a value does so whatever is made of it
 module _ (p : Program) (f : Found) (b : Tree) where
-  named_same : (r : Option Ref) (x y : Form) (pl : Place) → CalleeGives p f (named_callee r x pl) b → CalleeGives p f (named_callee r y pl) b
+  named_same : (r : Option Ref) (x y : Form) (pl : Place) → CalleeGives p f (named_callee r x pl) b → CalleeGives p f
+      (named_callee r y pl) b
   named_same (Some (ref.Fun g)) x y pl h = h
   named_same (Some (ref.Method c m)) x y pl h = h
   named_same (Some (ref.Builtin i)) x y pl h = h
   named_same r x y pl h = h
 
-  member_same : (r : Option Ref) (of_event : Bool) (z : Bytes) (x y : Form) → CalleeGives p f (member_callee r of_event z x) b →
+  member_same : (r : Option Ref) (of_event : Bool) (z : Bytes) (x y : Form) → CalleeGives p f
+      (member_callee r of_event z x) b →
       CalleeGives p f (member_callee r of_event z y) b
   member_same (Some (ref.Method c m)) e z x y h = h
   member_same (Some r) e z x y h = h
   member_same None e z x y h = by (same_name z await_name) (same_name z signal_name) h
     where
-      by : (q r : Bool) → CalleeGives p f (cond q (of_object (form.awaiting e)) (cond r (of_object form.signalling) (of_value x))) b →
+      by : (q r : Bool) → CalleeGives p f (cond q (of_object (form.awaiting e)) (cond r (of_object form.signalling)
+          (of_value x))) b →
           CalleeGives p f (cond q (of_object (form.awaiting e)) (cond r (of_object form.signalling) (of_value y))) b
       by true r h = h
       by false true h = h
@@ -223,12 +229,13 @@ module _ (p : Program) (f : Found) (b : Tree) where
 
   shape_same : (n : ℕ) (c : Shape) (x y : Form) (pl : Place) → CalleeGives p f (callee_of_shape p n c x pl) b →
       CalleeGives p f (callee_of_shape p n c y pl) b
-  shape_same n (t.Shape.name z) x y pl h = named_same (Rattle.verse_meaning.specs.Programs.ref_at p n) x y pl h
+  shape_same n (t.Shape.name z) x y pl h = named_same (ref_at p n) x y pl h
   shape_same n (t.Shape.member c z) x y pl h =
-      member_same (Rattle.verse_meaning.specs.Programs.ref_at p n) (p.is_event (number_of c)) z x y h
+      member_same (ref_at p n) (p.is_event (number_of c)) z x y h
   shape_same n c x y pl h = h
 
-  tree_same : (c : Tree) (x y : Form) (pl : Place) → CalleeGives p f (callee_of p c x pl) b → CalleeGives p f (callee_of p c y pl) b
+  tree_same : (c : Tree) (x y : Form) (pl : Place) → CalleeGives p f (callee_of p c x pl) b → CalleeGives p f
+      (callee_of p c y pl) b
   tree_same (tree n q c) x y pl h = shape_same n c x y pl h
 
   spawned_gives : (k : Callee) → CalleeGives p f k b → CalleeGives p f (spawned_callee k) b
@@ -238,6 +245,7 @@ module _ (p : Program) (f : Found) (b : Tree) where
   spawned_gives (of_quotient x) h = tt
   spawned_gives no_callee h = tt
 
-pub spawned_same : (p : Program) (f : Found) (b : Tree) (x y : Form) (pl : Place) → CalleeGives p f (callee_of p b x pl) b →
+pub spawned_same : (p : Program) (f : Found) (b : Tree) (x y : Form) (pl : Place) → CalleeGives p f
+    (callee_of p b x pl) b →
     CalleeGives p f (spawned_callee (callee_of p b y pl)) b
 spawned_same p f b x y pl h = spawned_gives p f b (callee_of p b y pl) (tree_same p f b b x y pl h)

@@ -1,7 +1,8 @@
--- A program that is accepted, and whose code has an operation that is stuck by construction: what is called in it gives no
+-- A program that is accepted, and whose code has an operation that is stuck by construction: what is called in it
+-- gives no
 -- value, so the checker asks for no number of arguments.
 use Rattle.std.proofs.Common.{◌≡◌, ℕ, zero, suc, Bool, List, [], ◌∷◌, None, Some, false, refl, subst}
-use Rattle.std.specs.Prelude.{codes, slice_get}
+use Rattle.std.specs.Prelude.{codes}
 use Rattle.std.proofs.lemmas.Option.{none-some}
 use Rattle.verse_base.specs.declared.places.Place.{Place}
 use Rattle.verse_tree.specs.Tree.{tree, no_trees, more_trees}
@@ -34,7 +35,8 @@ dead_call = record {
     effects = [];
     written = t.Written.void;
     body = tree 6 (at 1 4) (t.Shape.block (more_trees (tree 3 (at 1 4) (t.Shape.definition (codes "X")
-        (tree 2 (at 1 9) (t.Shape.block_form (tree 1 (at 2 8) (t.Shape.block (more_trees (tree 0 (at 2 8) t.Shape.returned_unit) no_trees)))))))
+        (tree 2 (at 1 9) (t.Shape.block_form (tree 1 (at 2 8) (t.Shape.block (more_trees (tree 0
+        (at 2 8) t.Shape.returned_unit) no_trees)))))))
         (more_trees (tree 5 (at 3 4) (t.Shape.call (tree 4 (at 3 4) (t.Shape.name (codes "X"))) no_trees)) no_trees)));
   }) ∷ [];
   is_array = λ n. false;

@@ -1,24 +1,27 @@
 -- What is visible in a tree stands in a local of the frame.
-use Rattle.std.proofs.Common.{◌≡◌, ℕ, suc, Bool, true, false, cond, List, [], ◌∷◌, ◌++◌, length, Option, Some, None, refl, sym, ◌∙◌, ap}
+use Rattle.std.proofs.Common.{◌≡◌, ℕ, suc, Bool, true, false, cond, List, [], ◌∷◌, ◌++◌, length, Option, Some, None}
+use Rattle.std.proofs.Common.{refl, sym, ◌∙◌, ap}
 use Rattle.std.proofs.Common.{subst, true≢false}
 use Rattle.std.proofs.lemmas.Option.{none-some}
 use Rattle.std.specs.Str.{bytes_eq}
-use Rattle.verse_tree.specs.Tree.{Bytes, Tree, Trees, no_trees, more_trees}
+use Rattle.verse_tree.specs.Tree.{Bytes}
 use Rattle.verse_tree.specs.ItemTree.{ParamTree}
 use Rattle.verse_tree.specs.declared.tables.Ref.{Ref}
 use Rattle.verse_tree.specs.declared.tables.Ref.TheVariants as ref
 use Rattle.verse_names_declarations.specs.Names.{Table, look}
 use Rattle.verse_sorts.specs.Sorts.{Sort}
 use Rattle.verse_meaning.specs.Programs.{Program, same_name}
-use Rattle.verse_meaning.specs.Residuals.{Binder, no_name, a_constant, a_variable, Generator, of_elements, of_entries, of_range}
-use Rattle.verse_meaning.specs.Evaluating.{Statement, plain, defines, defers, generates, statement_of, number_of}
+use Rattle.verse_meaning.specs.Residuals.{Binder, no_name, a_constant, a_variable, Generator}
+use Rattle.verse_meaning.specs.Evaluating.{Statement, plain, defines, defers, generates}
 use Rattle.verse_meaning.specs.Forms.{this_name}
 use Rattle.verse_sound_rules.specs.Found.{Allowed, New}
 use Rattle.verse_sound_rules.specs.Found as rules
-use Rattle.verse_sound_rules.specs.Fine.{defined_behind, generated_behind, stated_behind, on_statement, Defines, Generates}
+use Rattle.verse_sound_rules.specs.Fine.{defined_behind, generated_behind, stated_behind, on_statement, Defines}
+use Rattle.verse_sound_rules.specs.Fine.{Generates}
 use Rattle.verse_sound_rules.specs.Fine.{takes_elements, takes_entries, takes_range}
 use Rattle.verse_sound_rules.specs.Programs.{params_behind, FineParams}
-use Rattle.lower_code.specs.Scopes.{Slot, constant_at, variable_at, hidden, Scope, Found, fixed, varies, absent, find, is_fixed, is_varies}
+use Rattle.lower_code.specs.Scopes.{constant_at, variable_at, hidden, Scope, Found, fixed, varies, absent, find}
+use Rattle.lower_code.specs.Scopes.{is_fixed, is_varies}
 use Rattle.lower_code.specs.Scopes.{this_found}
 use Rattle.lower_code.specs.Lowering.{with_binder, with_generator, scope_stated}
 use Rattle.lower_code.specs.Programs.{params_scope}
@@ -34,7 +37,8 @@ module _ (f : rules.Found) where
   -- A visible name has a local, which is the cell of a variable where it is one; in a method there is a `Self`.
   pub record Sees (this : Option ℕ) (xs : Table) (sc : Scope) : Type 0 where
     pub names : (x : Bytes) (r : Ref) → look x xs ≡ Some r → is_there (find x sc) ≡ true
-    pub variables : (x : Bytes) (m : ℕ) → look x xs ≡ Some (ref.Local m) → f.is_var m ≡ true → is_varies (find x sc) ≡ true
+    pub variables : (x : Bytes) (m : ℕ) → look x xs ≡ Some (ref.Local m) → f.is_var m ≡ true → is_varies
+        (find x sc) ≡ true
     pub own : (c : ℕ) → this ≡ Some c → is_fixed (this_found sc) ≡ true
 
   pub sees_nothing : (sc : Scope) → Sees None [] sc
@@ -53,19 +57,26 @@ module _ (f : rules.Found) where
 
   -- a slot without a name
   pub sees_hidden : {this : Option ℕ} {xs : Table} {sc : Scope} → Sees this xs sc → Sees this xs (hidden ∷ sc)
-  sees_hidden g = record { names = λ x r e. g.names x r e; variables = λ x m e v. g.variables x m e v; own = λ c e. g.own c e }
+  sees_hidden g = record {
+    names = λ x r e. g.names x r e;
+    variables = λ x m e v. g.variables x m e v;
+    own =
+        λ c e. g.own c e;
+  }
 
   -- ---- a name more
 
   local_same : (m n : ℕ) → ref.Local m ≡ ref.Local n → m ≡ n
   local_same m n h = cc
 
-  module _ {this : Option ℕ} {xs : Table} {sc : Scope} (y : Bytes) (r : Ref) (new : New y xs) (g : Sees this xs sc) where
+  module _ {this : Option ℕ} {xs : Table} {sc : Scope} (y : Bytes) (r : Ref) (new : New y xs)
+      (g : Sees this xs sc) where
     named_new : (x : Bytes) (q : Ref) → bytes_eq x y ≡ true → look x (xs ++ (y, r) ∷ []) ≡ Some q → r ≡ q
     named_new x q same e =
         some_is (sym (look_new y r xs new.0) ∙ subst (λ z. look z (xs ++ (y, r) ∷ []) ≡ Some q) (test_same x y same) e)
 
-    still_named : (x : Bytes) (l : Found) (q : Ref) → is_there l ≡ true → look x (xs ++ (y, r) ∷ []) ≡ Some q → (b : Bool) →
+    still_named : (x : Bytes) (l : Found) (q : Ref) → is_there l ≡ true → look x (xs ++ (y, r) ∷ []) ≡ Some q →
+        (b : Bool) →
         same_name x y ≡ b → is_there (cond b l (find x sc)) ≡ true
     still_named x l q here e true k = here
     still_named x l q here e false k = g.names x q (sym (look_old x y r xs (sym (one_test x y) ∙ k)) ∙ e)
@@ -76,13 +87,16 @@ module _ (f : rules.Found) where
     still_varies x l m here e v true k = here (named_new x (ref.Local m) (sym (one_test x y) ∙ k) e)
     still_varies x l m here e v false k = g.variables x m (sym (look_old x y r xs (sym (one_test x y) ∙ k)) ∙ e) v
 
-    still_own : (l : Found) (c : ℕ) → this ≡ Some c → is_fixed (cond (same_name this_name y) l (find this_name sc)) ≡ true
+    still_own : (l : Found) (c : ℕ) → this ≡ Some c → is_fixed (cond (same_name this_name y) l
+        (find this_name sc)) ≡ true
     still_own l c e = subst (λ b. is_fixed (cond b l (find this_name sc)) ≡ true) (sym new.1) (g.own c e)
 
-    pub sees_constant : ((m : ℕ) → r ≡ ref.Local m → f.is_var m ≡ false) → Sees this (xs ++ (y, r) ∷ []) (constant_at y ∷ sc)
+    pub sees_constant : ((m : ℕ) → r ≡ ref.Local m → f.is_var m ≡ false) → Sees this (xs ++ (y, r) ∷ [])
+        (constant_at y ∷ sc)
     sees_constant fast = record {
       names = λ x q e. still_named x (fixed (length sc)) q refl e (same_name x y) refl;
-      variables = λ x m e v. still_varies x (fixed (length sc)) m (λ k. absurd (true≢false (sym v ∙ fast m k))) e v (same_name x y) refl;
+      variables = λ x m e v. still_varies x (fixed (length sc)) m (λ k. absurd (true≢false (sym v ∙ fast m k))) e v
+          (same_name x y) refl;
       own = still_own (fixed (length sc));
     }
 
@@ -108,13 +122,17 @@ module _ (f : rules.Found) where
   turned test false true l m o e h = e ∙ h
   turned test false false l m o e h = h
 
-  sees_turned : {this : Option ℕ} {xs : Table} {sc : Scope} (y z : Bytes) → Sees this xs (constant_at y ∷ constant_at z ∷ sc) →
+  sees_turned : {this : Option ℕ} {xs : Table} {sc : Scope} (y z : Bytes) → Sees this xs
+      (constant_at y ∷ constant_at z ∷ sc) →
       Sees this xs (constant_at z ∷ constant_at y ∷ sc)
   sees_turned {sc = sc} y z g = record {
-    names = λ x r e. turned is_there (same_name x y) (same_name x z) (suc (length sc)) (length sc) (find x sc) refl (g.names x r e);
-    variables = λ x m e v. turned is_varies (same_name x y) (same_name x z) (suc (length sc)) (length sc) (find x sc) refl
+    names = λ x r e. turned is_there (same_name x y) (same_name x z) (suc (length sc)) (length sc) (find x sc) refl
+        (g.names x r e);
+    variables = λ x m e v. turned is_varies (same_name x y) (same_name x z) (suc (length sc)) (length sc)
+        (find x sc) refl
         (g.variables x m e v);
-    own = λ c e. turned is_fixed (same_name this_name y) (same_name this_name z) (suc (length sc)) (length sc) (find this_name sc) refl
+    own = λ c e. turned is_fixed (same_name this_name y) (same_name this_name z) (suc (length sc)) (length sc)
+        (find this_name sc) refl
         (g.own c e);
   }
 
@@ -126,7 +144,8 @@ module _ (f : rules.Found) where
   sees_params p (x ∷ ps) (q ∷ qs) h g = sees_params p ps qs h.3
       (sees_constant x.name (ref.Local x.number) h.1 g (fast_local x.number h.2))
 
-  pub params_many : (p : Program) (xs : Table) (ps : List ParamTree) (qs : List Sort) → FineParams p f xs ps qs → length qs ≡ length ps
+  pub params_many : (p : Program) (xs : Table) (ps : List ParamTree) (qs : List Sort) → FineParams p f xs ps qs →
+      length qs ≡ length ps
   params_many p xs [] [] h = refl
   params_many p xs [] (q ∷ qs) h = elim h [ ]
   params_many p xs (x ∷ ps) [] h = elim h [ ]
@@ -144,7 +163,8 @@ module _ (f : rules.Found) where
     sees_generated {n} (takes_elements {x} new v from) g =
         sees_hidden (sees_constant x (ref.Local n) new (sees_hidden (sees_hidden g)) (fast_local n v))
     sees_generated {n} (takes_entries {k} {x} new_k new v from fit) g =
-        sees_turned x k (sees_constant x (ref.Local n) new (sees_constant k (ref.Key n) new_k (sees_hidden (sees_hidden g)) (fast_key n))
+        sees_turned x k (sees_constant x (ref.Local n) new (sees_constant k (ref.Key n) new_k (sees_hidden
+        (sees_hidden g)) (fast_key n))
         (fast_local n v))
     sees_generated {n} (takes_range {x} new v fit int) g =
         sees_hidden (sees_constant x (ref.Local n) new (sees_hidden (sees_hidden g)) (fast_local n v))

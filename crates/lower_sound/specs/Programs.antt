@@ -1,9 +1,10 @@
 -- What else a fine program has, so that no operation of its code is stuck by construction.
-use Rattle.std.specs.Prelude.{◌≡◌, ◌≢◌, ℕ, List, [], ◌∷◌, Option, Some, None}
+use Rattle.std.specs.Prelude.{◌≡◌, ◌≢◌, ℕ, List, [], ◌∷◌, Some, None}
 use Rattle.verse_base.specs.declared.places.Place.{Place}
 use Rattle.verse_tree.specs.Tree.{Tree, Shape}
 use Rattle.verse_tree.specs.Tree as t
-use Rattle.verse_tree.specs.ItemTree.{FieldTree, FunTree, MemberTree, field, method, ItemTree, using, enumeration, class, function}
+use Rattle.verse_tree.specs.ItemTree.{FieldTree, FunTree, MemberTree, field, method, ItemTree}
+use Rattle.verse_tree.specs.ItemTree.{using, enumeration, class, function}
 use Rattle.verse_tree.specs.PostOrder.{Node, What, expression}
 use Rattle.verse_sorts.specs.Sorts as s
 use Rattle.verse_sorts.specs.Sorts.{Sort}
@@ -15,7 +16,8 @@ use Rattle.verse_sound_rules.specs.Forms.{IsDefault}
 use Rattle.verse_sound_rules.specs.Fine.{sort_at, object_sort}
 
 module _ (p : Program) (f : Found) where
-  -- What is called or indexed as a value gives one, and so does what is awaited or signalled. Where it gives none,
+  -- What is called or indexed as a value gives one, and so does what is awaited or signalled.
+  -- Where it gives none,
   -- the checker asks for no number of arguments, so the code may have no operation for them.
   abbrev pub CalleeGives : Callee → Tree → Type 0
   CalleeGives (of_object x) b = object_sort p f b ≢ s.never

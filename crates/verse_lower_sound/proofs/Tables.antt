@@ -1,9 +1,11 @@
 -- The tables of accepted items find each function and method, and each default is that of a field.
-use Rattle.std.proofs.Common.{◌≡◌, ℕ, zero, suc, ◌+◌, Bool, List, [], ◌∷◌, ◌++◌, length, map, Option, Some, None, refl, sym, ap, ◌∙◌, arith}
+use Rattle.std.proofs.Common.{◌≡◌, ℕ, zero, suc, ◌+◌, Bool, List, [], ◌∷◌, ◌++◌, length, map, Option, Some, None, refl}
+use Rattle.std.proofs.Common.{sym, ap, ◌∙◌, arith}
 use Rattle.std.proofs.Common.{slice_get}
 use Rattle.std.proofs.lemmas.Option.{none-some}
 use Rattle.verse_tree.specs.Tree.{Tree}
-use Rattle.verse_tree.specs.ItemTree.{FieldTree, ClassTree, MemberTree, field, method, ItemTree, using, enumeration, class, function}
+use Rattle.verse_tree.specs.ItemTree.{FieldTree, ClassTree, MemberTree, field, method, ItemTree, using, enumeration}
+use Rattle.verse_tree.specs.ItemTree.{class, function}
 use Rattle.verse_names_declarations.specs.Counting.{counted, counts_after, no_counts}
 use Rattle.verse_names_declarations.specs.declared.counting.Counts.{Counts}
 use Rattle.verse_names_declarations.specs.Known.{known}
@@ -64,14 +66,16 @@ module _ (is : List ItemTree) (quiet : Quiet is) (functions : FunctionsStand is)
   -- ---- the defaults of fields
 
   -- the fields of a class end with its own
-  own_at : (n : ℕ) (cs : List ClassTree) (c : ClassTree) (i : ℕ) (d : FieldTree) → slice_get (own_fields c.members) i ≡ Some d →
+  own_at : (n : ℕ) (cs : List ClassTree) (c : ClassTree) (i : ℕ) (d : FieldTree) → slice_get
+      (own_fields c.members) i ≡ Some d →
       (j : ℕ) × (slice_get (fields_from n cs (Some c)) j ≡ Some d)
   own_at zero cs c i d e = (i, e)
   own_at (suc n) cs c i d e =
       let above = fields_from n cs (parent_of cs c.parent) in
       (i + length above, get_rest above (own_fields c.members) i ∙ e)
 
-  default_found : (c : ClassTree) (d : FieldTree) → At (classes is) c → At (own_fields c.members) d → DefaultFound whole found d
+  default_found : (c : ClassTree) (d : FieldTree) → At (classes is) c → At (own_fields c.members) d →
+      DefaultFound whole found d
   default_found c d h k b e =
       let there : nth (classes is) h.0 ≡ Some c = nth_is (classes is) h.0 ∙ h.1 in
       let own = own_at (length (classes is)) (classes is) c k.0 d k.1 in
@@ -85,14 +89,16 @@ module _ (is : List ItemTree) (quiet : Quiet is) (functions : FunctionsStand is)
 
   -- ---- all items
 
-  members_found : (c : ClassTree) (n : ℕ) → At (classes is) c → (ms : List MemberTree) → Each (At all) (methods_owned n ms) →
+  members_found : (c : ClassTree) (n : ℕ) → At (classes is) c → (ms : List MemberTree) → Each (At all)
+      (methods_owned n ms) →
       Each (At (own_fields c.members)) (own_fields ms) → MembersFound whole found ms
   members_found c n h [] u v = tt
   members_found c n h (field d ∷ ms) u v = (default_found c d h v.0, members_found c n h ms u v.1)
   members_found c n h (method x ∷ ms) u v =
       (method_found (record { class = Some n; tree = x }) u.0, members_found c n h ms u.1 v)
 
-  from_found : (js : List ItemTree) (n : Counts) → Each (At all) (owned (counted n js)) → Each (At (classes is)) (classes js) →
+  from_found : (js : List ItemTree) (n : Counts) → Each (At all) (owned (counted n js)) → Each (At (classes is))
+      (classes js) →
       ItemsFound whole found js
   from_found [] n u v = tt
   from_found (using x ∷ js) n u v = from_found js (counts_after (using x) n) u v

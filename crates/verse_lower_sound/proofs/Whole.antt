@@ -20,7 +20,8 @@ use Rattle.verse_accept_sound.proofs.Whole as sound
 use Rattle.verse_lower_sound.specs.Laws.{AcceptedArmsStand}
 use Rattle.verse_lower_sound.proofs.Tables.{items_found}
 
-module _ (order : InPostOrder) (shapes : AcceptedShaped) (stands : AcceptedStand) (programs : ProgramsAreFine) (arms : FineArmsStand) where
+module _ (order : InPostOrder) (shapes : AcceptedShaped) (stands : AcceptedStand) (programs : ProgramsAreFine)
+    (arms : FineArmsStand) where
   pub accepted_arms : AcceptedArmsStand
   accepted_arms files made a told answer differ count =
       let is : List ItemTree = map item_of made.tree.items in
@@ -29,8 +30,11 @@ module _ (order : InPostOrder) (shapes : AcceptedShaped) (stands : AcceptedStand
       let with : Names → Program = λ k. record { items = is; names = k; is_array = arrays; is_event = events } in
       let quiet : Quiet is = λ n c b. (sound.sound order shapes programs files is a).named n c (inl b) in
       let functions = functions_found is (sound.numbered order shapes programs files is a) in
-      let fine = sound.items_found order shapes programs files is a arrays events (tables_tell is made.typed.types told.types) in
-      subst (λ k. All (NodeStands (with k)) (items_order is) → All (CalleesGive (with k) (sorted is)) (items_order is) →
+      let fine = sound.items_found order shapes programs files is a arrays events
+      (tables_tell is made.typed.types told.types) in
+      subst (λ k. All (NodeStands (with k)) (items_order is) → All (CalleesGive (with k) (sorted is))
+      (items_order is) →
       ArmsStand (code_of (with k) differ count).ops) (sym told.names)
-      (λ stand give. arms _ (record { found = sorted is; fine = fine }) (items_found is quiet functions arrays events) stand give differ count)
+      (λ stand give. arms _ (record { found = sorted is; fine = fine }) (items_found is quiet functions arrays events)
+      stand give differ count)
       (stands files is made a refl) answer
