@@ -1,6 +1,5 @@
 -- A program that is accepted, and whose code has an operation that is stuck by construction: what is called in it
--- gives no
--- value, so the checker asks for no number of arguments.
+-- gives no value, so the checker asks for no number of arguments.
 use Rattle.std.proofs.Common.{◌≡◌, ℕ, zero, suc, Bool, List, [], ◌∷◌, None, Some, false, refl, subst}
 use Rattle.std.specs.Prelude.{codes}
 use Rattle.std.proofs.lemmas.Option.{none-some}

@@ -30,16 +30,16 @@ pub record GroupOf (ops : List Op) (i : ℕ) : Type 0 where
   pub group : GroupAt ops begin arms
   pub behind : IsBehind begin arms i
 
--- Behind each group stand its arms, and no arm stands but there. An operation on which the machine
--- is stuck by
--- construction is an arm that stands elsewhere, so a code that has this has none.
+-- Behind each group stand its arms, and no arm stands elsewhere. An operation on which the machine
+-- is stuck by construction is an arm of no group, so a code that has this has none.
 pub record ArmsStand (ops : List Op) : Type 0 where
   pub arms : (j m i : ℕ) → GroupAt ops j m → IsBehind j m i → IsArm ops i
   pub groups : (i : ℕ) → IsArm ops i → GroupOf ops i
 
--- of a fine program, each body of which the tables find
+-- Of a fine program, where the tables find each body, patterns stand for values, and what is called
+-- gives one.
 abbrev pub FineArmsStand : Type 0
 FineArmsStand = (p : Program) (fine : FineProgram p) → ItemsFound p fine.found p.items →
-    All (NodeStands p) (items_order p.items) → All (CalleesGive p fine.found)
-    (items_order p.items) →
+    All (NodeStands p) (items_order p.items) →
+    All (CalleesGive p fine.found) (items_order p.items) →
     (differ : ℕ → ℕ → Bool) (files : ℕ) → ArmsStand (code_of p differ files).ops

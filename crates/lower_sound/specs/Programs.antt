@@ -16,9 +16,8 @@ use Rattle.verse_sound_rules.specs.Forms.{IsDefault}
 use Rattle.verse_sound_rules.specs.Fine.{sort_at, object_sort}
 
 module _ (p : Program) (f : Found) where
-  -- What is called or indexed as a value gives one, and so does what is awaited or signalled.
-  -- Where it gives none,
-  -- the checker asks for no number of arguments, so the code may have no operation for them.
+  -- What is called or indexed as a value gives one, and so does what is awaited or signalled. Where
+  -- it gives none, the checker asks for no number of arguments, and the code may have no operation.
   abbrev pub CalleeGives : Callee → Tree → Type 0
   CalleeGives (of_object x) b = object_sort p f b ≢ s.never
   CalleeGives (of_value x) b = sort_at p f b ≢ s.never

@@ -41,7 +41,7 @@ use Rattle.verse_sorts.proofs.Fitting.{fits_itself, all_itself}
 use Rattle.verse_sorts_types.specs.SortOf.{sort_of}
 use Rattle.verse_sorts_types.specs.SortOf as sort
 use Rattle.verse_sorts_types.proofs.Fitting as fitting
-use Rattle.verse_sorts_values.specs.Operands.{sort_in, HasNever, never_here, in_list, in_map}
+use Rattle.verse_sorts_values.specs.Operands.{sort_in, in_list, in_map}
 use Rattle.verse_sound_rules.specs.Found.{Allowed}
 use Rattle.verse_sound_rules.specs.Found as rules
 use Rattle.verse_sound_rules.specs.Forms.{Gives, NoCase}

@@ -27,14 +27,14 @@ module _ (order : InPostOrder) (shapes : AcceptedShaped) (stands : AcceptedStand
       let is : List ItemTree = map item_of made.tree.items in
       let arrays : ℕ → Bool = λ n. of_type is_array_type (slice_get made.typed.types n) in
       let events : ℕ → Bool = λ n. of_type is_event_type (slice_get made.typed.types n) in
-      let with : Names → Program = λ k. record { items = is; names = k; is_array = arrays; is_event = events } in
+      let of_names : Names → Program = λ k. record { items = is; names = k; is_array = arrays; is_event = events } in
       let quiet : Quiet is = λ n c b. (sound.sound order shapes programs files is a).named n c (inl b) in
       let functions = functions_found is (sound.numbered order shapes programs files is a) in
       let fine = sound.items_found order shapes programs files is a arrays events
       (tables_tell is made.typed.types told.types) in
-      subst (λ k. All (NodeStands (with k)) (items_order is) → All (CalleesGive (with k) (sorted is))
+      subst (λ k. All (NodeStands (of_names k)) (items_order is) → All (CalleesGive (of_names k) (sorted is))
       (items_order is) →
-      ArmsStand (code_of (with k) differ count).ops) (sym told.names)
+      ArmsStand (code_of (of_names k) differ count).ops) (sym told.names)
       (λ stand give. arms _ (record { found = sorted is; fine = fine }) (items_found is quiet functions arrays events)
       stand give differ count)
       (stands files is made a refl) answer
