@@ -1,19 +1,16 @@
 -- The tables of accepted items find each function and method, and each default is that of a field.
-use Rattle.std.proofs.Common.{◌≡◌, ℕ, zero, suc, ◌+◌, Bool, List, [], ◌∷◌, ◌++◌, length, map, Option, Some, None, refl}
-use Rattle.std.proofs.Common.{sym, ap, ◌∙◌, arith}
+use Rattle.std.proofs.Common.{◌≡◌, ℕ, zero, suc, ◌+◌, Bool, List, [], ◌∷◌, ◌++◌, length, map, Some, None, refl}
+use Rattle.std.proofs.Common.{ap, ◌∙◌, arith}
 use Rattle.std.proofs.Common.{slice_get}
-use Rattle.std.proofs.lemmas.Option.{none-some}
-use Rattle.verse_tree.specs.Tree.{Tree}
 use Rattle.verse_tree.specs.ItemTree.{FieldTree, ClassTree, MemberTree, field, method, ItemTree, using, enumeration}
 use Rattle.verse_tree.specs.ItemTree.{class, function}
 use Rattle.verse_names_declarations.specs.Counting.{counted, counts_after, no_counts}
 use Rattle.verse_names_declarations.specs.declared.counting.Counts.{Counts}
 use Rattle.verse_names_declarations.specs.Known.{known}
-use Rattle.verse_sorts.specs.Sorts.{Sort}
 use Rattle.verse_sorts.specs.Typing.{at}
 use Rattle.verse_meaning_state.specs.Waits.{nth}
 use Rattle.verse_meaning.specs.Programs.{Program, classes, own_fields, fields_from, parent_of}
-use Rattle.verse_sound_rules.specs.Forms.{IsDefault, is_default}
+use Rattle.verse_sound_rules.specs.Forms.{is_default}
 use Rattle.verse_sound_rules.specs.Found as rules
 use Rattle.lower_bounds.proofs.Lists.{Each, each_first, each_rest}
 use Rattle.lower_sound.specs.Programs.{FunctionFound, MethodFound, DefaultFound, MembersFound, ItemsFound}

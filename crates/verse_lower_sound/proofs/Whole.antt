@@ -1,5 +1,5 @@
 -- In the code of accepted files each arm stands behind its group.
-use Rattle.std.proofs.Common.{◌≡◌, ℕ, Bool, List, map, refl, sym, subst, inl, All, slice_get}
+use Rattle.std.proofs.Common.{ℕ, Bool, List, map, refl, sym, subst, inl, All, slice_get}
 use Rattle.verse_tree.specs.ItemTree.{ItemTree}
 use Rattle.verse_tree.specs.ItemView.{item_of}
 use Rattle.verse_tree.specs.PostOrder.{items_order}

@@ -1,5 +1,5 @@
 -- The code of accepted files has no operation that is stuck by construction.
-use Rattle.std.specs.Prelude.{◌≡◌, ℕ, Bool, List, map, All}
+use Rattle.std.specs.Prelude.{ℕ, Bool, List, map, All}
 use Rattle.verse_tree.specs.ItemView.{item_of}
 use Rattle.verse_tree.specs.PostOrder.{items_order}
 use Rattle.verse_tree.specs.declared.programs.Program.{Program as Made}
