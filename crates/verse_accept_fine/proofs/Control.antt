@@ -192,13 +192,13 @@ module _ (is : List ItemTree) (arrays events : ℕ → Bool) where
           same = rw (e, f) refl;
         }
 
-    never_sum : (x : form.Form) (u v : Ty) → HasNever (sort_of u ∷ sort_of v ∷ []) → takes.NoCase x → Give x (sort_of u ∷ sort_of v ∷ [])
-    never_sum x u v h c = record {
-      no_case = c;
+    never_sum : (u v : Ty) → HasNever (sort_of u ∷ sort_of v ∷ []) → Give (form.computing op.Add (arrays n) p) (sort_of u ∷ sort_of v ∷ [])
+    never_sum u v h = record {
+      no_case = tt;
       taken = sort_of u ∷ sort_of v ∷ [];
       given = sort_of (ty_at is n);
       operands = all_itself (up is) _;
-      takes = takes.takes_never h;
+      takes = takes.takes_never (takes.spared_operator h);
       value = fits_itself (up is) _;
     }
 
@@ -217,9 +217,9 @@ module _ (is : List ItemTree) (arrays events : ℕ → Bool) where
           takes = takes.takes_sum;
           value = is_row is n ty.int r;
         })
-    sum_by ty.int ty.never h r e = never_sum (form.computing op.Add (arrays n) p) ty.int ty.never (never_behind never_here) tt
-    sum_by ty.never v h r e = never_sum (form.computing op.Add (arrays n) p) ty.never v never_here tt
-    sum_by (ty.array u) ty.never h r e = never_sum (form.computing op.Add (arrays n) p) (ty.array u) ty.never (never_behind never_here) tt
+    sum_by ty.int ty.never h r e = never_sum ty.int ty.never (never_behind never_here)
+    sum_by ty.never v h r e = never_sum ty.never v never_here
+    sum_by (ty.array u) ty.never h r e = never_sum (ty.array u) ty.never (never_behind never_here)
     sum_by (ty.array u) (ty.array v) h r e =
         let l = listed u v in
         let own : ty_at is n ≡ ty.array l.element = r ∙ l.same in

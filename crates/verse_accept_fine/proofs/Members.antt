@@ -108,21 +108,22 @@ module _ (is : List ItemTree) (arrays events : ℕ → Bool) (agree : FieldsAgre
 
     pub by_type : (u : Ty) (x : Bytes) → may_stand false (type_member F u x) ≡ true → ty_at is n ≡ part_type (type_member F u x) →
         Give (member_form (member_ref F u x) x) (sort_of u ∷ [])
-    by_type ty.never x h r = record {
-      no_case = no_case_of (member_form None x) x refl;
-      taken = s.never ∷ [];
-      given = sort_of (ty_at is n);
-      operands = all_itself (up is) (s.never ∷ []);
-      takes = takes.takes_never never_here;
-      value = fits_itself (up is) (sort_of (ty_at is n));
-    }
+    by_type ty.never x h r = by (same_name x length_name)
       where
-        no_case_of : (f : form.Form) (x : Bytes) → f ≡ member_form None x → takes.NoCase f
-        no_case_of f x e = subst takes.NoCase (sym e) (by (same_name x length_name))
-          where
-            by : (q : Bool) → takes.NoCase (cond q form.measuring form.defining)
-            by true = tt
-            by false = tt
+        gives : (f : form.Form) → takes.NoCase f → takes.Spared (program is arrays events) (sorted is) b xs f (s.never ∷ []) →
+            Give f (s.never ∷ [])
+        gives f k h = record {
+          no_case = k;
+          taken = s.never ∷ [];
+          given = sort_of (ty_at is n);
+          operands = all_itself (up is) (s.never ∷ []);
+          takes = takes.takes_never h;
+          value = fits_itself (up is) (sort_of (ty_at is n));
+        }
+
+        by : (q : Bool) → Give (cond q form.measuring form.defining) (s.never ∷ [])
+        by true = gives form.measuring tt (takes.spared_length never_here)
+        by false = gives form.defining tt (takes.spared_member never_here)
     by_type (ty.class c) x h r = class_by c x (field_by F c x) (method_by F c x) refl h r
     by_type (ty.array u) x h r = step (bytes_eq x (codes "Length")) refl h r
       where

@@ -306,7 +306,7 @@ module _ (is : List ItemTree) (arrays events : ℕ → Bool) where
       taken = s.never ∷ [];
       given = s.never;
       operands = all_itself (up is) _;
-      takes = takes.takes_never never_here;
+      takes = takes.takes_never (takes.spared_query never_here);
       value = s.from_never;
     }
     query_by m u v e h r f = absurd (cc)

@@ -41,7 +41,7 @@ use Rattle.verse_sorts.proofs.Fitting.{fits_itself, all_itself}
 use Rattle.verse_sorts_types.specs.SortOf.{sort_of}
 use Rattle.verse_sorts_types.specs.SortOf as sort
 use Rattle.verse_sorts_types.proofs.Fitting as fitting
-use Rattle.verse_sorts_values.specs.Operands.{sort_in, HasNever, never_here, in_list, in_map}
+use Rattle.verse_sorts_values.specs.Operands.{sort_in, in_list, in_map}
 use Rattle.verse_sound_rules.specs.Found.{Allowed}
 use Rattle.verse_sound_rules.specs.Found as rules
 use Rattle.verse_sound_rules.specs.Forms.{Gives, NoCase}
@@ -62,7 +62,7 @@ use Rattle.verse_accept_fine.proofs.Calls as calls
 use Rattle.verse_accept_fine.proofs.Calls.{and_true, served, class_entry}
 use Rattle.verse_accept_forms.specs.Callees.{HasValue, HasObject, Rounds}
 use Rattle.verse_accept_forms.proofs.Operands.{sorts_of, no_operands, one_operand, two_ints, not_one, used_allows}
-use Rattle.verse_accept_forms.proofs.CalleeKinds.{Kind, IsValue, IsFixed, fixed_int, fixed_enum, is_function, is_own, is_method, is_print}
+use Rattle.verse_accept_forms.proofs.CalleeKinds.{Kind, IsWait, IsValue, IsFixed, fixed_int, fixed_enum, is_function, is_own, is_method, is_print}
 use Rattle.verse_accept_forms.proofs.CalleeKinds.{is_floor, is_ceiling, is_modulo, is_task, is_event, is_signal, is_nowhere, as_value, is_item}
 use Rattle.verse_accept_forms.proofs.CalleeKinds.{is_fixed, effects_of, object_of}
 
@@ -162,13 +162,18 @@ module _ (is : List ItemTree) (arrays events : ℕ → Bool) where
     }
 
     -- an operand that gives no value
-    nowhere_gives : (x : Form) (q : Sort) (ts : Trees) → NoCase x → q ≡ s.never → Give x (q ∷ sorts ts)
+    spared_wait : (x : Form) (qs : List Sort) → IsWait x → NoCase x × takes.Spared whole found b xs x (s.never ∷ qs)
+    spared_wait (form.awaiting t) qs k = (tt, takes.spared_await)
+    spared_wait form.signalling qs k = (tt, takes.spared_signal)
+    spared_wait x qs k = elim k [ ]
+
+    nowhere_gives : (x : Form) (q : Sort) (ts : Trees) → IsWait x → q ≡ s.never → Give x (q ∷ sorts ts)
     nowhere_gives x q ts k same = record {
-      no_case = k;
+      no_case = (spared_wait x (sorts ts) k).0;
       taken = q ∷ sorts ts;
       given = own;
       operands = all_itself (up is) (q ∷ sorts ts);
-      takes = takes.takes_never (subst (λ z. HasNever (z ∷ sorts ts)) (sym same) never_here);
+      takes = takes.takes_never (subst (λ z. takes.Spared whole found b xs x (z ∷ sorts ts)) (sym same) (spared_wait x (sorts ts) k).1);
       value = fits_itself (up is) own;
     }
 
@@ -302,6 +307,11 @@ module _ (is : List ItemTree) (arrays events : ℕ → Bool) where
           subst (λ o. Give (form.picking o) (s.tuple (sort.sorts_of us) ∷ [])) (sym (literal_is y)) (item_by us (tree_place y) i r)
       tuple_by us (more_trees y (more_trees z vs)) one i r = absurd (not_one y z vs one)
 
+      spared_picked : (vs : Trees) → takes.Spared whole found b xs (picked vs) (s.never ∷ [])
+      spared_picked no_trees = takes.spared_item
+      spared_picked (more_trees y no_trees) = takes.spared_item
+      spared_picked (more_trees y (more_trees z vs)) = takes.spared_item
+
       pick_by : (u : Ty) → can_call (types.value u) ≡ true → are_wanted (takes_one_item u) (count ts) ≡ true → has_item u ts ≡ true →
           ty_at is n ≡ or_never (item_of u ts) → Give (picked ts) (sort_of u ∷ [])
       pick_by (ty.tuple us) k one i r = tuple_by us ts one i r
@@ -310,7 +320,7 @@ module _ (is : List ItemTree) (arrays events : ℕ → Bool) where
         taken = s.never ∷ [];
         given = own;
         operands = all_itself (up is) (s.never ∷ []);
-        takes = takes.takes_never never_here;
+        takes = takes.takes_never (spared_picked ts);
         value = fits_itself (up is) own;
       }
       pick_by u k one i r = absurd (cc)
@@ -414,7 +424,7 @@ module _ (is : List ItemTree) (arrays events : ℕ → Bool) where
         taken = s.never ∷ sorts vs;
         given = own;
         operands = all_itself (up is) (s.never ∷ sorts vs);
-        takes = takes.takes_never never_here;
+        takes = takes.takes_never takes.spared_index;
         value = fits_itself (up is) own;
       }
       element_by (ty.array u) no_trees i one k f r = absurd (cc)

@@ -39,7 +39,6 @@ use Rattle.verse_sorts.specs.Sorts.{Sort}
 use Rattle.verse_sorts_types.specs.SortOf.{sort_of}
 use Rattle.verse_sound_rules.specs.Found.{Allowed}
 use Rattle.verse_sound_rules.specs.Found as rules
-use Rattle.verse_sound_rules.specs.Forms.{NoCase}
 use Rattle.verse_sound_rules.specs.Fine.{object_sort}
 use Rattle.verse_accept_scopes.specs.Holding.{OnPart}
 use Rattle.verse_accept_rows.specs.Found.{final, Found}
@@ -57,6 +56,13 @@ use Rattle.verse_accept_fine.proofs.Base as base
 use Rattle.verse_accept_fine.proofs.Members.{within_from, type_only}
 use Rattle.verse_accept_fine.proofs.Calls.{Calls, named_calls, method_calls}
 use Rattle.verse_accept_forms.specs.Callees.{HasValue, HasObject}
+
+-- ---- what waits
+
+abbrev pub IsWait : Form → Type 0
+IsWait (form.awaiting t) = Unit {0}
+IsWait form.signalling = Unit {0}
+IsWait x = ⊥
 
 -- ---- types that are neither called nor indexed, and never made of an enum
 
@@ -232,7 +238,7 @@ module _ (is : List ItemTree) (arrays events : ℕ → Bool) where
           effects_of e ≡ c.Signal →
           Kind e y pl (of_object form.signalling)
       -- behind what gives no value
-      is_nowhere : (x : Form) → NoCase x → Object e → object_of e ≡ s.never → types.callee_of F e ≡ types.value ty.never →
+      is_nowhere : (x : Form) → IsWait x → Object e → object_of e ≡ s.never → types.callee_of F e ≡ types.value ty.never →
           Kind e y pl (of_object x)
       as_value : IsValue e → HasValue is arrays events w a xs b n p e → Kind e y pl (of_value y)
       -- the name of a class or an enum

@@ -1,4 +1,4 @@
--- A program that breaks no rule is fine.
+-- A program that breaks no rule is fine, with the sorts of the types that are found.
 use Rattle.std.specs.Prelude.{ℕ, Bool, List}
 use Rattle.verse_tree.specs.ItemTree.{ItemTree}
 use Rattle.verse_tree.specs.Shapes.{ItemsShaped}

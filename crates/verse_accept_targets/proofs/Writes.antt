@@ -70,13 +70,14 @@ module _ (is : List ItemTree) (arrays events : ℕ → Bool) (b : Allowed) (xs :
     value = value;
   }
 
-  never_gives : (m : Assign) (e : Tree) → Give (form.storing (base_of whole e) (mode_of m) p) (target_sorts whole found e ++ s.never ∷ [])
-  never_gives m e = record {
+  never_gives : (m : Assign) (e : Tree) → Place_of e →
+      Give (form.storing (base_of whole e) (mode_of m) p) (target_sorts whole found e ++ s.never ∷ [])
+  never_gives m e place = record {
     no_case = tt;
     taken = target_sorts whole found e ++ s.never ∷ [];
     given = own;
     operands = all_itself (up is) (target_sorts whole found e ++ s.never ∷ []);
-    takes = takes.takes_never (never_last (target_sorts whole found e));
+    takes = takes.takes_never (takes.spared_place place.objects place.slot place.placed (never_last (target_sorts whole found e)));
     value = fits_itself (up is) own;
   }
 
@@ -109,7 +110,7 @@ module _ (is : List ItemTree) (arrays events : ℕ → Bool) (b : Allowed) (xs :
     add_by : {y u : Ty} → Summed y u → type_of F e ≡ y → fits (all_classes is) u y ≡ true →
         ty_at is n ≡ or_never (sum_of (all_classes is) y u) → Gave assign.Add u
     add_by (to_never {u = u}) f k r = changes_nothing assign.Add u (λ i. cc) f
-    add_by never_added f k r = never_gives assign.Add e
+    add_by never_added f k r = never_gives assign.Add e place
     add_by of_ints f k r = stores assign.Add ty.int ty.int f s.int s.int s.fits_int writes_sum (is_row is n ty.int r)
     add_by (of_arrays {y = y} {u = u}) f k r = add_arrays y u f k r
 

@@ -17,7 +17,7 @@ use Rattle.verse_sorts.specs.Sorts as s
 use Rattle.verse_sorts.specs.Sorts.{Sort, fits_obj, fits_task}
 use Rattle.verse_sorts.specs.Typing.{Typing, Is, Are, are_no, are_so, is_list, is_unit}
 use Rattle.verse_sorts.proofs.Fitting.{is_more, is_up, are_more, are_up, adds_itself}
-use Rattle.verse_sorts_values.specs.Operands.{Path}
+use Rattle.verse_sorts_values.specs.Operands.{Path, HasNever, never_here}
 use Rattle.verse_sorts_values.specs.Answers.{answers, answers_error, OfSort}
 use Rattle.verse_sorts_values.proofs.Numbers as numbers
 use Rattle.verse_sorts_values.proofs.Values as values
@@ -213,9 +213,21 @@ module _ (p : Program) (f : Found) where
       unfolding if_known
       known_there {t} {b} w m x go h i = subst (λ z. Comes p f l any_names t a b (if_known z w go)) (sym h) i
 
+      -- what is spared has an operand that gives no value
+      spared_never : {x : Form} {qs : List Sort} → r.Spared p f a xs x qs → HasNever qs
+      spared_never (r.spared_operator h) = h
+      spared_never (r.spared_query h) = h
+      spared_never (r.spared_length h) = h
+      spared_never (r.spared_member h) = h
+      spared_never (r.spared_place os q place h) = h
+      spared_never r.spared_item = never_here
+      spared_never r.spared_index = never_here
+      spared_never r.spared_await = never_here
+      spared_never r.spared_signal = never_here
+
       apply_typed : (t : Typing) (e : Env) (w : World) (x : Form) (qs : List Sort) (b : Sort) (vs : List Val) → Sees f t a.this xs e →
           Takes p f a xs x qs b → Are f.up t vs qs → Kept p f l t w → Comes p f l any_names t a b (apply p (deeper p g) x vs a.waits e w)
-      apply_typed t e w x qs b vs see (r.takes_never h) are k = no_never f.up t h are
+      apply_typed t e w x qs b vs see (r.takes_never h) are k = no_never f.up t (spared_never h) are
       apply_typed t e w x qs b vs see (r.takes_and {pl}) (are_so i (are_so j are_no)) k = told_typed p f l pl e k (still_told p f l a k
           (answers j))
       apply_typed t e w x qs b vs see (r.takes_sum {pl}) (are_so i (are_so j are_no)) k = told_typed p f l pl e k (still_told p f l a k

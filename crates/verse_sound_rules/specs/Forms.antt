@@ -5,6 +5,7 @@ use Rattle.verse_tree.specs.Tree.{Bytes, Tree}
 use Rattle.verse_tree.specs.ItemTree.{FieldTree, FunTree}
 use Rattle.verse_tree.specs.declared.exprs.Comparison.{Comparison}
 use Rattle.verse_tree.specs.declared.exprs.Comparison.TheVariants as c
+use Rattle.verse_tree.specs.declared.exprs.Operator.{Operator}
 use Rattle.verse_tree.specs.declared.exprs.Operator.TheVariants as op
 use Rattle.verse_tree.specs.declared.tables.Ref.{Ref}
 use Rattle.verse_tree.specs.declared.tables.Ref.TheVariants as ref
@@ -64,6 +65,20 @@ module _ (p : Program) (f : Found) where
       in_own : (c : ℕ) {i : ℕ} {q : Sort} → a.this ≡ Some c → at (f.slots c) i ≡ Some q → Placed (in_self i) [] q
       in_field : {c i : ℕ} {q : Sort} → at (f.slots c) i ≡ Some q → Placed (in_object i) (s.obj c ∷ []) q
 
+    -- Where an operand gives no value, no more is asked of a form but what these say: it is an operator, a member, or
+    -- a place that is there; or what gives no value is what is called, indexed, awaited or signalled.
+    pub data Spared : Form → List Sort → Type 0 where
+      spared_operator : {o : Operator} {t : Bool} {pl : Place} {qs : List Sort} → HasNever qs → Spared (form.computing o t pl) qs
+      spared_query : {qs : List Sort} → HasNever qs → Spared form.querying qs
+      spared_length : {qs : List Sort} → HasNever qs → Spared form.measuring qs
+      spared_member : {qs : List Sort} → HasNever qs → Spared form.defining qs
+      spared_place : {b : Base} {x : Mode} {pl : Place} {qs : List Sort} (os : List Sort) (q : Sort) → Placed b os q → HasNever qs →
+          Spared (form.storing b x pl) qs
+      spared_item : {i : Option ℕ} {qs : List Sort} → Spared (form.picking i) (s.never ∷ qs)
+      spared_index : {qs : List Sort} → Spared form.indexing (s.never ∷ qs)
+      spared_await : {t : Bool} {qs : List Sort} → Spared (form.awaiting t) (s.never ∷ qs)
+      spared_signal : {qs : List Sort} → Spared form.signalling (s.never ∷ qs)
+
     -- the function of a number may be called here
     pub record Callable (g : ℕ) : Type 0 where
       pub function : FunTree
@@ -80,7 +95,7 @@ module _ (p : Program) (f : Found) where
 
     -- a form takes operands of these sorts, and what it gives is of that one
     pub data Takes : Form → List Sort → Sort → Type 0 where
-      takes_never : {x : Form} {qs : List Sort} {r : Sort} → HasNever qs → Takes x qs r
+      takes_never : {x : Form} {qs : List Sort} {r : Sort} → Spared x qs → Takes x qs r
       -- operators
       takes_and : {t : Bool} {pl : Place} {q r : Sort} → Takes (form.computing op.And t pl) (q ∷ r ∷ []) r
       takes_sum : {pl : Place} → Takes (form.computing op.Add false pl) (s.int ∷ s.int ∷ []) s.int

@@ -1,0 +1,8 @@
+pub mod Armed
+pub mod Tables
+pub mod Names
+pub mod Counts
+pub mod Leaves
+pub mod Forms
+pub mod Whole
+pub mod Example
