@@ -1,5 +1,5 @@
 -- What is said of a class, and all notes, from their parts.
-use Rattle.std.proofs.Common.{◌≡◌, ℕ, suc, List, length, Result, Ok, refl}
+use Rattle.std.proofs.Common.{◌≡◌, ℕ, suc, List, length, Ok, refl}
 use Rattle.std.specs.Prelude.{Option}
 use Rattle.verse_code.specs.declared.codes.Class.{Class}
 use Rattle.verse_code.specs.declared.codes.Code.{Code}
