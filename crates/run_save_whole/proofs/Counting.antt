@@ -1,5 +1,5 @@
 -- Counts up to 2 decide whether there is one.
-use Rattle.std.proofs.Common.{◌≡◌, ◌≢◌, ℕ, zero, suc, ◌+◌, ◌<◌, ◌≤◌, Bool, true, false, not, ◌&&◌, cond, eqb, List, [], ◌∷◌, length, set, get_or}
+use Rattle.std.proofs.Common.{◌≡◌, ℕ, zero, suc, ◌+◌, ◌<◌, ◌≤◌, Bool, true, false, ◌&&◌, cond, eqb, List, [], ◌∷◌, length, set, get_or}
 use Rattle.std.proofs.Common.{replicate, Option, Some, None, refl, sym, ap, subst, ◌∙◌, arith}
 use Rattle.std.proofs.lemmas.Bool.{eqb-true, eqb-false, ne_eqb}
 use Rattle.std.proofs.lemmas.List.{get_or-set_same, get_or-set_other, get_or-replicate, length-set, length-replicate}
@@ -8,7 +8,7 @@ use Rattle.verse_meaning_state.specs.State.{Given}
 use Rattle.run_save_shots.specs.Lists.{count}
 use Rattle.run_save_shots.specs.Kept.{KeptTask}
 use Rattle.run_save_shots.specs.Fitting.{is_root, runs_once}
-use Rattle.run_save_format.specs.Whole.{breaks_entry, broken_entry}
+use Rattle.run_save_format.specs.Whole.{broken_entry}
 use Rattle.run_save_whole.specs.Tallies.{one_more, counted, with_root, with_roots, wrong_entry}
 
 -- ---- so many more

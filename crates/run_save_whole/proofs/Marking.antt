@@ -1,19 +1,18 @@
 -- What is counted of the arms of a task decides whether they run.
-use Rattle.std.proofs.Common.{◌≡◌, ℕ, zero, suc, ◌+◌, ◌<◌, ◌≤◌, Bool, true, false, not, ◌&&◌, ◌||◌, cond, eqb, ltb, List, [], ◌∷◌}
-use Rattle.std.proofs.Common.{length, map, set, get_or, replicate, Option, Some, None, refl, sym, ap, ◌∙◌, arith}
+use Rattle.std.proofs.Common.{◌≡◌, ℕ, suc, ◌+◌, ◌<◌, ◌≤◌, Bool, true, false, ◌&&◌, ◌||◌, cond, eqb, ltb, List, [], ◌∷◌}
+use Rattle.std.proofs.Common.{length, map, get_or, replicate, Option, Some, None, refl, sym, ap, ◌∙◌, arith}
 use Rattle.std.proofs.lemmas.Bool.{ltb-true, ltb-false, le-leb, lt-leb, eqb-true, eqb-false, eq-eqb, ne_eqb}
 use Rattle.std.proofs.lemmas.List.{get_or-replicate, get_or-map, length-set, length-map, length-replicate}
-use Rattle.std.specs.Prelude.{nat_le, nat_lt}
-use Rattle.task_tree.specs.Tasks.{is_child}
+use Rattle.std.specs.Prelude.{nat_le}
 use Rattle.task_tree.specs.declared.tasks.Role.{Role}
 use Rattle.task_tree.specs.declared.tasks.Role.TheVariants.{Root, Arm, Behind}
 use Rattle.verse_code.specs.declared.codes.Code.{Code}
 use Rattle.verse_value.specs.Val.{Val}
 use Rattle.run_save_shots.specs.Lists.{count}
 use Rattle.run_save_shots.specs.Kept.{KeptRest, leaf, group, KeptTask}
-use Rattle.run_save_shots.specs.Fitting.{Stand, task_stand, arms_of, is_child_of, is_arm_of, unfinished}
-use Rattle.run_save_format.specs.Whole.{any, arms_break, is_beyond, group_breaks, rest_breaks}
-use Rattle.run_save_whole.specs.Tallies.{one_more, counted, Marks, unmarked, marked, with_arm, with_arms, no_marks, all_marks}
+use Rattle.run_save_shots.specs.Fitting.{task_stand, arms_of, is_arm_of, unfinished}
+use Rattle.run_save_format.specs.Whole.{any, arms_break, is_beyond, rest_breaks}
+use Rattle.run_save_whole.specs.Tallies.{one_more, Marks, unmarked, marked, with_arm, with_arms, no_marks, all_marks}
 use Rattle.run_save_whole.specs.Tallies.{wrong_arm, wrong_rest, rest_wrong}
 use Rattle.run_save_whole.proofs.Counting.{mores, decides, one_of_more, put, more_at}
 

@@ -1,8 +1,8 @@
 -- What is counted of the tasks before one decides whether it breaks a rule.
-use Rattle.std.proofs.Common.{◌≡◌, ℕ, zero, suc, ◌+◌, ◌<◌, ◌≤◌, Bool, true, false, not, ◌&&◌, ◌||◌, cond, eqb, max, List, [], ◌∷◌, ◌++◌}
-use Rattle.std.proofs.Common.{length, map, set, get_or, replicate, Option, Some, None, refl, sym, ap, ◌∙◌, arith}
-use Rattle.std.proofs.lemmas.Bool.{ltb-true, ltb-false, lt-ltb, le-ltb, leb-true, leb-false, le-leb, lt-leb, eqb-true}
-use Rattle.std.proofs.lemmas.List.{get_or-replicate, length-set, length-replicate, length-append, append_assoc, get_or-append-add}
+use Rattle.std.proofs.Common.{◌≡◌, ℕ, suc, ◌+◌, ◌<◌, ◌≤◌, Bool, true, false, not, ◌&&◌, ◌||◌, cond, eqb, max, List, [], ◌∷◌, ◌++◌}
+use Rattle.std.proofs.Common.{length, get_or, replicate, Option, Some, None, refl, sym, ap, ◌∙◌, arith}
+use Rattle.std.proofs.lemmas.Bool.{ltb-true, ltb-false, lt-ltb, le-ltb, leb-true, leb-false, eqb-true}
+use Rattle.std.proofs.lemmas.List.{get_or-replicate, length-set, length-replicate, length-append, append_assoc}
 use Rattle.std.specs.Prelude.{nat_le, nat_lt, if◌then◌else◌}
 use Rattle.task_tree.specs.declared.tasks.Role.{Role}
 use Rattle.task_tree.specs.declared.tasks.Role.TheVariants.{Root, Arm, Behind}
@@ -11,7 +11,7 @@ use Rattle.run_save_shots.specs.Kept.{KeptTask}
 use Rattle.run_save_shots.specs.Fitting.{is_root, is_child_of}
 use Rattle.run_save_format.specs.Whole.{any, is_later, child_breaks, may_follow, is_disordered, rest_breaks, breaks_task, broken_task}
 use Rattle.run_save_whole.specs.declared.order.Floor.{Floor}
-use Rattle.run_save_whole.specs.Tallies.{Marks, unmarked, all_marks, open_floor, raised, is_under, with_child, with_children, is_low}
+use Rattle.run_save_whole.specs.Tallies.{unmarked, all_marks, open_floor, raised, is_under, with_child, with_children, is_low}
 use Rattle.run_save_whole.specs.Tallies.{rest_wrong, breaks_at, wrong_task}
 use Rattle.run_save_whole.proofs.Counting.{put}
 use Rattle.run_save_whole.proofs.Marking.{rest_decided}

@@ -2,7 +2,7 @@
 use Rattle.std.proofs.Common.{◌≡◌, ℕ, suc, ◌+◌, ◌<◌, ◌≤◌, Bool, true, false, ◌||◌, List, [], ◌∷◌, length, map, set, get_or, drop, replicate}
 use Rattle.std.proofs.Common.{Option, Some, None, refl, sym, ap, ◌∙◌, arith}
 use Rattle.std.proofs.lemmas.Bool.{or_parts, ltb-false}
-use Rattle.std.proofs.lemmas.List.{get_or-map, length-map, length-replicate, map-set, drop_more}
+use Rattle.std.proofs.lemmas.List.{get_or-map, length-map, map-set, drop_more}
 use Rattle.task_tree.specs.declared.tasks.Role.TheVariants.{Arm}
 use Rattle.verse_code.specs.declared.codes.Code.{Code}
 use Rattle.run_save_shots.specs.declared.shots.TaskShot.{TaskShot}

@@ -1,5 +1,5 @@
 -- What is counted of all tasks about each entry and each task.
-use Rattle.std.specs.Prelude.{ℕ, zero, suc, ◌+◌, ◌==◌, Bool, true, false, not, ◌&&◌, ◌||◌, max, nat_lt, if◌then◌else◌, List, [], ◌∷◌}
+use Rattle.std.specs.Prelude.{ℕ, suc, ◌+◌, ◌==◌, Bool, true, false, not, ◌&&◌, ◌||◌, max, nat_lt, if◌then◌else◌, List, [], ◌∷◌}
 use Rattle.std.specs.Prelude.{length, map, set, get_or, replicate, Option, Some, None}
 use Rattle.task_tree.specs.declared.tasks.Role.{Role}
 use Rattle.task_tree.specs.declared.tasks.Role.TheVariants.{Root, Arm, Behind}

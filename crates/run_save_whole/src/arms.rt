@@ -51,7 +51,8 @@ fn mark(arms: &mut Arms, place: usize)
 }
 
 fn mark_at(all: &mut [Arms], parent: usize, place: u32)
-    ensures { map marks_of all.new ≡ with_arm (map marks_of all.old) (Some parent) (Role.Arm place) }
+    ensures { map marks_of all.new ≡
+        with_arm (map marks_of all.old) (Some parent) (Role.Arm place) }
 {
     if parent < all.len() {
         mark(&mut all[parent], place as usize);

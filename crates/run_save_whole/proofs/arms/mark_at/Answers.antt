@@ -1,4 +1,4 @@
-use Rattle.std.proofs.Common.{◌≡◌, ◌∙◌, sym, ap}
+use Rattle.std.proofs.Common.{◌∙◌, sym, ap}
 use Rattle.run_save_whole.specs.declared.arms.Arms.{Arms}
 use Rattle.run_save_whole.specs.Tallies.{marked}
 use Rattle.run_save_whole.specs.View.{marks_of}

@@ -1,4 +1,4 @@
-use Rattle.std.proofs.Common.{◌≡◌, ◌∙◌, sym, ap, length, map, option_map, replicate}
+use Rattle.std.proofs.Common.{◌∙◌, sym, ap, length, map, option_map, replicate}
 use Rattle.std.proofs.lemmas.List.{length-map, length-replicate}
 use Rattle.run_save_shots.specs.View.{task_of, given_of}
 use Rattle.run_save_whole.specs.Tallies.{wrong_entry}

@@ -1,4 +1,4 @@
-use Rattle.std.proofs.Common.{◌≡◌, ◌∙◌, sym, ap, length, map}
+use Rattle.std.proofs.Common.{◌∙◌, sym, ap, length, map}
 use Rattle.std.proofs.lemmas.List.{length-map}
 use Rattle.run_save_shots.specs.View.{task_of}
 use Rattle.run_save_whole.specs.View.{marks_of}
