@@ -1,5 +1,5 @@
 -- The top frame is the last one.
-use Rattle.std.proofs.Common.{◌≡◌, suc, ◌-◌, List, [], ◌∷◌, length, map, Option, Some, refl, ap, arith}
+use Rattle.std.proofs.Common.{◌≡◌, suc, ◌-◌, List, [], ◌∷◌, length, map, Some, ap, arith}
 use Rattle.std.specs.Prelude.{slice_get}
 use Rattle.run_save_shots.specs.declared.shots.FrameShot.{FrameShot}
 use Rattle.run_save_shots.specs.View.{frame_of}
