@@ -1,0 +1,2 @@
+pub mod StandSteps
+pub mod TopSteps
