@@ -1,0 +1,3 @@
+pub mod Heres
+pub mod Mades
+pub mod Leads

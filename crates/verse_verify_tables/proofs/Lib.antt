@@ -1,0 +1,4 @@
+pub mod Orders
+pub mod Chains
+pub mod Overriding
+pub mod RuleSets
