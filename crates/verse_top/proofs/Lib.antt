@@ -6,3 +6,4 @@ pub mod AnswerLaws
 pub mod FrontLaws
 pub mod CallLaws
 pub mod ExecuteLaws
+pub mod StatusLaws

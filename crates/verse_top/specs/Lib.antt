@@ -4,3 +4,4 @@ pub mod Loading
 pub mod Loaded
 pub mod Answers
 pub mod Fronted
+pub mod Statuses

@@ -10,6 +10,7 @@ ghost use Rattle.verse_top.specs.Answers.{Answered, Begins, CutShort, Finishes, 
 ghost use Rattle.verse_top.specs.Answers.{Replies, Told, words_line};
 ghost use Rattle.verse_top.specs.Loading.{AreHeld, IsAbsent};
 ghost use Rattle.verse_top.specs.Programs.{IsForProgram};
+ghost use Rattle.verse_top.specs.Statuses.{RunsProgram};
 
 use crate::executing::over_file;
 use crate::fronts::{Fronted, front};
@@ -17,6 +18,7 @@ use crate::loads::load;
 use crate::programs::proceed;
 use crate::writing::write_answer;
 use std::alloc::Global;
+use verse_accept_sound::accepted_items_are_never_stuck;
 use verse_outside::files::Files;
 use verse_outside::sinks::{Sink, write_all};
 use verse_top_args::commands::{Request, find_request};
@@ -57,10 +59,14 @@ pub fn verse<F: Files, S: Sink>(alloc: Global, words: &[String], files: &mut F, 
         (Rose (S.faults out.old) (S.faults out.new) → ⊥)
         → (result ≡ 5) ⊎ Answered (map string_bytes words.now) (F.holds files.old) result
         (S.taken out.old) (S.taken out.new) }
+    // 8 is the status of no program that is run: no run of an accepted program ends stuck.
+    ensures never_stuck { (c : Command) → RunsProgram c → Says (map string_bytes words.now) c →
+        result ≢ 8 }
     ensures same_files { F.holds files.new ≡ F.holds files.old }
     ensures file_faults { F.faults files.old ≤ F.faults files.new }
     ensures sink_faults { S.faults out.old ≤ S.faults out.new }
 {
+    accepted_items_are_never_stuck();
     let Some(request) = find_request(words) else {
         return finish(out, b"= words\n", 2);
     };

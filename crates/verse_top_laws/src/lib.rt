@@ -2,12 +2,14 @@
 //! stuck. Read `specs/Statuses`; the proof is in `proofs/Statuses`.
 #![tactic(auto)]
 
-ghost use Rattle.verse_top_laws.specs.Statuses.{BuiltIsNeverStuck, LoadIsNeverStuck};
-ghost use Rattle.verse_top_laws.specs.Statuses.{RunIsNeverStuck, WordsAreNeverStuck};
+ghost use Rattle.verse_top_laws.specs.Statuses.{
+  BuiltIsNeverStuck,
+  LoadIsNeverStuck,
+  RunIsNeverStuck,
+};
 
 use verse_accept_sound::accepted_items_are_never_stuck;
 use verse_top::answers::{answered_once, exec_runs_what_is_built};
-use verse_top_args::commands::words_say_once;
 
 /// The answer to `run` has status 0, 1, 3 or 4, and never 8, that of a run that ends stuck: no
 /// operand of an accepted program is of a wrong kind.
@@ -31,13 +33,4 @@ pub fn built_is_never_stuck()
     accepted_items_are_never_stuck();
     answered_once();
     exec_runs_what_is_built();
-}
-
-/// So where words say `run`, what `verse` answers with has one of these statuses: it ends with 0, 1,
-/// 3 or 4, or with 5 for want of memory, 6 for a file that was not read, 7 for a sink that failed.
-pub fn words_are_never_stuck()
-    ensures { WordsAreNeverStuck }
-{
-    accepted_items_are_never_stuck();
-    words_say_once();
 }

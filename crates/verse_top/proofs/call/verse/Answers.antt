@@ -1,6 +1,7 @@
 use Rattle.std.proofs.Common.{◌≡◌, ◌≢◌, ℕ, refl, map, string_bytes}
 use Rattle.verse_top.specs.Answers.{no_command, words_line}
 use Rattle.verse_top.proofs.CallLaws.{cut_of, told_absent, told_answered, told_complete, told_cut, told_memory, told_unread, told_wrong}
+use Rattle.verse_top.proofs.StatusLaws.{never_stuck, no_status}
 use Rattle.verse_top.proofs.call.verse.Goals as goal
 
 two : (n : ℕ) → n ≡ 2 → n ≢ 7
@@ -52,3 +53,14 @@ returns-clause-complete g c =
     let said = c.in-Some.ensures.asks in
     told_complete (map string_bytes c.args.words.now) (g.F.Files.holds c.args.files.now) said.0 said.1 _ _ _ _ c.tell.result _ _
     (c.tell.ensures.told said.0 said.2)
+
+pub returns-in_default-clause-never_stuck : goal.returns-in_default-clause-never_stuck
+returns-in_default-clause-never_stuck g c d runs says = no_status c.finish.result c.finish.ensures.either
+
+pub returns-clause-never_stuck : goal.returns-clause-never_stuck
+returns-clause-never_stuck g c =
+    let said = c.in-Some.ensures.asks in
+    never_stuck c.accepted_items_are_never_stuck.ensures (map string_bytes c.args.words.now)
+    (g.F.Files.holds c.args.files.now) _ _ _
+    (told_answered (map string_bytes c.args.words.now) (g.F.Files.holds c.args.files.now) said.0 said.1 _ _ _ _ c.tell.result _ _
+    (c.tell.ensures.told said.0 said.2))
