@@ -1,13 +1,13 @@
 -- Writing the parts of a value.
-use Rattle.std.proofs.Common.{◌≡◌, ℕ, suc, ◌+◌, ◌<◌, ◌≤◌, List, [], ◌∷◌, length, zip, drop, get_or, refl, sym, ap, subst, ◌∙◌, arith}
+use Rattle.std.proofs.Common.{◌≡◌, ℕ, suc, ◌+◌, ◌<◌, ◌≤◌, List, [], ◌∷◌, length, drop, get_or, refl, sym, ap, subst, ◌∙◌, arith}
 use Rattle.std.proofs.lemmas.List.{drop_more}
 use Rattle.std.proofs.Math.ListN.{drop_of_length-le}
-use Rattle.verse_image.specs.Format.{Field, ◌⨾◌, byte, each}
+use Rattle.verse_image.specs.Format.{◌⨾◌, byte, each}
 use Rattle.verse_image.specs.Writing.{Writes}
 use Rattle.verse_image.proofs.WritingLemmas.{writes_as, writes_three, writes_nothing}
 use Rattle.verse_value.specs.declared.keys.Key.{Key}
 use Rattle.verse_value.specs.declared.values.Value.{Value}
-use Rattle.verse_value.specs.Val.{Val, Vals, vals, list_of, Pairs, no_pairs, more_pairs, pairs, entries_of, mapping}
+use Rattle.verse_value.specs.Val.{Val, Vals, vals, list_of, Pairs, no_pairs, more_pairs, entries_of, mapping}
 use Rattle.verse_value.specs.View.{val_of, vals_of}
 use Rattle.verse_value.specs.Parts.{keys_in, vals_in}
 use Rattle.verse_value.proofs.Seen.{zipped}

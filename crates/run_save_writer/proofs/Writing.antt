@@ -1,6 +1,6 @@
 -- Writing one list after another.
-use Rattle.std.proofs.Common.{◌≡◌, ℕ, suc, ◌≤◌, List, [], ◌∷◌, ◌++◌, length, map, refl, sym, ap, subst, ◌∙◌, arith}
-use Rattle.verse_image.specs.Format.{Field, ◌⨾◌, each, Spelled}
+use Rattle.std.proofs.Common.{◌≡◌, ℕ, suc, List, [], ◌∷◌, length, map, refl, ap, subst}
+use Rattle.verse_image.specs.Format.{Field, each}
 use Rattle.verse_image.specs.Writing.{Writes}
 use Rattle.verse_image.proofs.WritingLemmas.{writes_then, writes_as}
 use Rattle.run_save_format.specs.Format.{wide, list}

@@ -1,6 +1,5 @@
 use Rattle.std.proofs.Common.{arith, refl}
 use Rattle.verse_image.specs.Format.{number}
-use Rattle.run_save_format.specs.Format.{list}
 use Rattle.verse_image.proofs.WritingLemmas.{writes_entry, writes_end}
 use Rattle.run_save_writer.proofs.Writing.{writes_many}
 use Rattle.run_save_writer.proofs.numbers.push_numbers.Goals as goal
