@@ -19,7 +19,8 @@ pub all_suited : (c : Code) (s : Kept) (ts : List TaskShot) → Each (TaskFits c
 all_suited c s [] h = All-nil IsSuited
 all_suited c s (t ∷ ts) h = All-cons IsSuited t ts h.0.role (all_suited c s ts h.1)
 
-pub writes_image : (code : Code) (image : List ℕ) (a b c : List ℕ) → Image (version_of code) code image → Writes (wide (length image)) a b →
+pub writes_image : (code : Code) (image : List ℕ) (a b c : List ℕ) → Image (version_of code) code image → Writes (wide (length
+    image)) a b →
     Writes (plain image) b c → Writes (imaged code) a c
 writes_image code image a b c i p q =
     writes_as (wide (length image) ⨾ plain image) (imaged code) a c (λ x z h. (image, i, h))

@@ -1,7 +1,7 @@
 //! Saved runs are written.
 //!
-//! To be read in this order: `numbers`; `keys` and `values`; `cells`, what is kept of the heap and of
-//! spawned tasks; `frames`, `rests` and `tasks`; `saving`, the public call.
+//! To be read in this order: `numbers`; `keys` and `values`; `cells`, what is kept of the heap and
+//! of spawned tasks; `frames`, `rests` and `tasks`; `saving`, the public call.
 #![tactic(auto)]
 
 mod cells;

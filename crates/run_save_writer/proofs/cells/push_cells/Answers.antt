@@ -13,8 +13,10 @@ entries-init c = λ new w. writes_list cell_field cell_of c.args.cells.now _ _ _
 
 pub entries-preserved : goal.entries-preserved
 entries-preserved c = λ new w.
-    c.entries.invariant new (writes_entry (λ (x : CellKind × Vec Value). cell_field (cell_of x)) c.args.cells.now c.entries.entry-index _ _ _ _ _
+    c.entries.invariant new (writes_entry (λ (x : CellKind × Vec Value). cell_field (cell_of x)) c.args.cells.now
+    c.entries.entry-index _ _ _ _ _
     (omega arith) c.entry-item.is c.in_ok-push_cell.ensures w)
 
 pub returns : goal.returns
-returns c = c.entries.invariant _ (writes_end (λ (x : CellKind × Vec Value). cell_field (cell_of x)) c.args.cells.now c.entries.entry-index _ (omega arith))
+returns c = c.entries.invariant _ (writes_end (λ (x : CellKind × Vec Value). cell_field (cell_of x)) c.args.cells.now
+    c.entries.entry-index _ (omega arith))

@@ -10,5 +10,6 @@ use Rattle.run_save_writer.proofs.cells.push_cells.Given as goal
 
 -- what writes the entries that are left completes them
 abbrev pub invariant-entries : goal.invariant-entries
-invariant-entries l = (new : List ℕ) → Writes (each (λ (x : CellKind × Vec Value). cell_field (cell_of x)) (drop l.entry-index l.cells)) l.out.items new →
+invariant-entries l = (new : List ℕ) → Writes (each (λ (x : CellKind × Vec Value). cell_field (cell_of x)) (drop l.entry-index
+    l.cells)) l.out.items new →
     Writes (list cell_field (map cell_of l.cells)) l.fn.out.items new

@@ -12,8 +12,10 @@ entries-init c = λ new w. writes_list (maybe given) (option_map given_of) c.arg
 
 pub entries-preserved : goal.entries-preserved
 entries-preserved c = λ new w.
-    c.entries.invariant new (writes_entry (λ (x : Option (Value × ℕ)). (maybe given) ((option_map given_of) x)) c.args.spawned.now c.entries.entry-index _ _ _ _ _
+    c.entries.invariant new (writes_entry (λ (x : Option (Value × ℕ)). maybe given (option_map given_of x)) c.args.spawned.now
+    c.entries.entry-index _ _ _ _ _
     (omega arith) c.entry-item.is c.in_ok-push_entry.ensures w)
 
 pub returns : goal.returns
-returns c = c.entries.invariant _ (writes_end (λ (x : Option (Value × ℕ)). (maybe given) ((option_map given_of) x)) c.args.spawned.now c.entries.entry-index _ (omega arith))
+returns c = c.entries.invariant _ (writes_end (λ (x : Option (Value × ℕ)). maybe given (option_map given_of x))
+    c.args.spawned.now c.entries.entry-index _ (omega arith))

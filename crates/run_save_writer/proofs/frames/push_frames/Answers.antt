@@ -15,4 +15,5 @@ entries-preserved c = λ new w.
     (omega arith) c.entry-item.is c.in_ok-push_frame.ensures w)
 
 pub returns : goal.returns
-returns c = c.entries.invariant _ (writes_end (λ (x : FrameShot). frame (frame_of x)) c.args.frames.now c.entries.entry-index _ (omega arith))
+returns c = c.entries.invariant _ (writes_end (λ (x : FrameShot). frame (frame_of x)) c.args.frames.now c.entries.entry-index _
+    (omega arith))

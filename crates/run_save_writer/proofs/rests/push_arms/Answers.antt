@@ -12,8 +12,10 @@ entries-init c = λ new w. writes_list (maybe value) (option_map val_of) c.args.
 
 pub entries-preserved : goal.entries-preserved
 entries-preserved c = λ new w.
-    c.entries.invariant new (writes_entry (λ (x : Option Value). (maybe value) ((option_map val_of) x)) c.args.arms.now c.entries.entry-index _ _ _ _ _
+    c.entries.invariant new (writes_entry (λ (x : Option Value). maybe value (option_map val_of x)) c.args.arms.now
+    c.entries.entry-index _ _ _ _ _
     (omega arith) c.entry-item.is c.in_ok-push_arm.ensures w)
 
 pub returns : goal.returns
-returns c = c.entries.invariant _ (writes_end (λ (x : Option Value). (maybe value) ((option_map val_of) x)) c.args.arms.now c.entries.entry-index _ (omega arith))
+returns c = c.entries.invariant _ (writes_end (λ (x : Option Value). maybe value (option_map val_of x)) c.args.arms.now
+    c.entries.entry-index _ (omega arith))

@@ -94,7 +94,8 @@ pub push_entries-entries-preserved : goal.push_entries-entries-preserved
 push_entries-entries-preserved t c = λ new w.
     let key_here : c.index-keys-i.result ≡ get_or c.args.keys.now c.entries.i c.index-keys-i.result = search rules in
     let here : c.index-parts-i.result ≡ get_or c.args.parts.now c.entries.i c.index-parts-i.result = search rules in
-    c.entries.invariant new (writes_pair c.args.keys.now c.args.parts.now c.entries.i c.index-keys-i.result _ c.index-parts-i.result _ _ _ _ _
+    c.entries.invariant new (writes_pair c.args.keys.now c.args.parts.now c.entries.i c.index-keys-i.result _
+    c.index-parts-i.result _ _ _ _ _
     (omega arith) (omega arith) key_here here c.in_ok-push_key.ensures c.in_ok-push_value.ensures w)
 
 pub push_entries-returns : goal.push_entries-returns

@@ -29,7 +29,8 @@ decreases-push_entries l = bulks (vals (vals_of l.parts.now))
 
 -- what writes the parts that are left completes them
 abbrev pub invariant-push_each-entries : goal.invariant-push_each-entries
-invariant-push_each-entries l = (new : List ℕ) → Writes (each (λ (x : Value). value (val_of x)) (drop l.entry-index l.parts)) l.out.items new →
+invariant-push_each-entries l = (new : List ℕ) → Writes (each (λ (x : Value). value (val_of x)) (drop l.entry-index l.parts))
+    l.out.items new →
     Writes (each value (vals_of l.parts)) l.fn.out.items new
 
 -- what writes the entries that are left completes them
