@@ -123,8 +123,7 @@ module _ {W : Type 0} where
       ClearsAll went.Down v t v (with_frames t fss)
   none_left v t fss is are = record {
     clears = λ last after todo a o bare e.
-        let none = no_more todo (ap (λ z. map frames_in (reverse z)) (sym is) ∙ e) in
-        (
+        let none = no_more todo (ap (λ z. map frames_in (reverse z)) (sym is) ∙ e) in (
           ap (λ z. clears last after z o (state_of a v)) (sym (append-nil todo)) ∙ all_still last after todo [] o (state_of a v) none,
           refl,
           are,
