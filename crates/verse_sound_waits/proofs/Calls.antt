@@ -1,10 +1,10 @@
 -- Calls do not rest, as deep as there are steps.
-use Rattle.std.proofs.Common.{◌≡◌, ◌∙◌, ℕ, zero, suc, Bool, List, [], Option, Some, sym, subst}
+use Rattle.std.proofs.Common.{◌≡◌, ◌∙◌, ℕ, zero, suc, Bool, [], Some, sym, subst}
 use Rattle.verse_tree.specs.ItemTree.{FunTree}
 use Rattle.verse_sorts.proofs.Fitting.{grows_itself}
 use Rattle.verse_meaning.specs.Programs.{Program, fun_at}
 use Rattle.verse_meaning.specs.Residuals.{Env, none, body}
-use Rattle.verse_meaning.specs.Outcomes.{World, set_behind, spends, call_end}
+use Rattle.verse_meaning.specs.Outcomes.{set_behind, spends, call_end}
 use Rattle.verse_meaning.specs.Evaluating.{scope_end, ev}
 use Rattle.verse_meaning.specs.Runs.{deeper, with_params, with_this}
 use Rattle.verse_meaning.specs.Laws.{ContextLeaves, ContextUndoes, CancelLeaves, FailedContextLeaves, ContextsUndo}

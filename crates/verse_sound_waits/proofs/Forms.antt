@@ -5,21 +5,20 @@ use Rattle.std.proofs.lemmas.List.{append-nil}
 use Rattle.verse_base.specs.declared.places.Place.{Place}
 use Rattle.verse_tree.specs.Tree.{Bytes, Tree}
 use Rattle.verse_tree.specs.ItemTree.{FieldTree, FunTree}
-use Rattle.verse_value.specs.Val as v
 use Rattle.verse_value.specs.Val.{Val}
 use Rattle.verse_value.specs.declared.modes.Mode.{Mode}
 use Rattle.verse_names_declarations.specs.Names.{Table}
 use Rattle.verse_sorts.specs.Sorts as s
 use Rattle.verse_sorts.specs.Sorts.{Sort, fits_obj}
-use Rattle.verse_sorts.specs.Typing.{Typing, Grows, Is, Are, AllFit, fit_no, fit_so, are_no, are_so}
+use Rattle.verse_sorts.specs.Typing.{Typing, Grows, Is, Are, AllFit, fit_so, are_no, are_so}
 use Rattle.verse_sorts.proofs.Fitting.{is_more, is_up, are_more, are_up, grows_itself, grows_on, fits_on, fits_itself}
 use Rattle.verse_meaning.specs.Programs.{Program, fun_at, method_at, fields_of}
 use Rattle.verse_meaning.specs.Residuals as form
 use Rattle.verse_meaning.specs.Residuals.{Env, Form, Base, in_variable, in_self, in_object, nowhere, filling, Binder}
 use Rattle.verse_meaning.specs.Residuals.{no_name, a_constant, a_variable, constant, variable}
-use Rattle.verse_meaning.specs.Outcomes.{World, set_behind, Outcome, valued, told, if_there}
+use Rattle.verse_meaning.specs.Outcomes.{World, set_behind, if_there}
 use Rattle.verse_meaning.specs.Forms.{Deeper, apply, filled, field_filled, method_found, method_called, this_of, stored}
-use Rattle.verse_meaning.specs.Forms.{look, cell_of, written_to, defined, bound_to, variable_bound}
+use Rattle.verse_meaning.specs.Forms.{look, cell_of, written_to}
 use Rattle.verse_meaning.specs.Evaluating.{ev}
 use Rattle.verse_meaning.specs.Runs.{deeper, with_params, with_this}
 use Rattle.verse_meaning.specs.Laws.{ContextLeaves, ContextUndoes, CancelLeaves}
@@ -27,15 +26,15 @@ use Rattle.verse_sound_rules.specs.Found.{Found, Allowed, in_default}
 use Rattle.verse_sound_rules.specs.Forms as r
 use Rattle.verse_sound_rules.specs.Forms.{Filled, filled_no, filled_given, filled_by_default, Callable, Takes, Gives}
 use Rattle.verse_sound_rules.specs.Forms.{IsDefault}
-use Rattle.verse_sound_rules.specs.Fine.{Defines, defined_behind, sort_at}
+use Rattle.verse_sound_rules.specs.Fine.{sort_at}
 use Rattle.verse_sound_rules.specs.Programs.{FineFound, FineDefault, Overrides}
-use Rattle.verse_sound_outcomes.specs.Names.{Holds, holds_cell, HasThis, no_this, this_is, Sees}
+use Rattle.verse_sound_outcomes.specs.Names.{HasThis, no_this, this_is, Sees}
 use Rattle.verse_sound_outcomes.specs.Outcomes.{any_names}
 use Rattle.verse_sound_outcomes.specs.Going.{turns, Kept, Comes}
-use Rattle.verse_sound_outcomes.proofs.Names.{binds_value, binds_local, sees_more}
+use Rattle.verse_sound_outcomes.proofs.Names.{sees_more}
 use Rattle.verse_sound_outcomes.proofs.Worlds.{cells_of}
 use Rattle.verse_sound_outcomes.proofs.Going.{told_typed}
-use Rattle.verse_sound_forms.proofs.Lists.{no_never, are_joined, Given, is_given, is_not_given, given_typed}
+use Rattle.verse_sound_forms.proofs.Lists.{no_never, Given, is_given, is_not_given, given_typed}
 use Rattle.verse_sound_forms.proofs.Objects.{Object_of, object_of, object_there}
 use Rattle.verse_sound_forms.proofs.Storing.{variable_told}
 use Rattle.verse_sound_forms.proofs.Operands.{list_args}
@@ -43,7 +42,7 @@ use Rattle.verse_sound_forms.proofs.Applying.{this_there}
 use Rattle.verse_sound_trees.proofs.Trees.{ev_well}
 use Rattle.verse_sound_runs.proofs.Calls.{known_at, turns_deep, at_top, sees_this}
 use Rattle.verse_sound_effects.specs.Opening.{OpenAndClosed}
-use Rattle.verse_sound_waits.specs.Waits.{Stays, MethodStays, OwnStays, FormStays}
+use Rattle.verse_sound_waits.specs.Waits.{Stays, FormStays}
 use Rattle.verse_sound_waits.specs.Calls.{Marked}
 use Rattle.verse_sound_waits.proofs.Passing.{told_stays, plain_stays, there_stays, known_stays, outside_stays}
 use Rattle.verse_sound_waits.proofs.Passing.{started_stays, spent_stays, called_stays, opened_stays, valued_stays}

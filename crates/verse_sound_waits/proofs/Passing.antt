@@ -7,7 +7,6 @@ use Rattle.verse_meaning_state.specs.State.{State, stepped, restored}
 use Rattle.verse_meaning_state.specs.Effects.{Effect}
 use Rattle.verse_sorts.specs.Sorts.{Sort}
 use Rattle.verse_sorts.specs.Typing.{Typing, Grows, Is}
-use Rattle.verse_sorts.proofs.Fitting.{grows_itself}
 use Rattle.verse_meaning.specs.Programs.{Program}
 use Rattle.verse_meaning.specs.Residuals.{Env, Residual, Scopes, body}
 use Rattle.verse_meaning.specs.Outcomes as o
@@ -17,7 +16,7 @@ use Rattle.verse_meaning.specs.Outcomes.{spends, call_end, task_started, on_went
 use Rattle.verse_meaning.specs.Forms.{Deeper}
 use Rattle.verse_meaning.specs.Evaluating.{scope_end, cancel_behind}
 use Rattle.verse_meaning.specs.Laws.{Calm}
-use Rattle.verse_sound_rules.specs.Found.{Found, Allowed, tried, looped}
+use Rattle.verse_sound_rules.specs.Found.{Found, Allowed, tried}
 use Rattle.verse_sound_outcomes.specs.Outcomes.{gives, fails, returns, breaks, faults, ends_steps, waits}
 use Rattle.verse_sound_outcomes.specs.Going.{turns, Kept, Comes}
 use Rattle.verse_sound_outcomes.proofs.Worlds.{later_grows, kept_again, kept_stepped}

@@ -21,7 +21,7 @@ use Rattle.verse_meaning.specs.Residuals as form
 use Rattle.verse_meaning.specs.Residuals.{Env, Form, Binder, Generator, generated}
 use Rattle.verse_meaning.specs.Outcomes as o
 use Rattle.verse_meaning.specs.Outcomes.{World, Outcome, valued, attempted, if_there, if_known}
-use Rattle.verse_meaning.specs.Forms.{Deeper, apply, this_of, values_of, with_taken}
+use Rattle.verse_meaning.specs.Forms.{this_of, values_of, with_taken}
 use Rattle.verse_meaning.specs.Evaluating.{Statement, defines, generates, statement_of, statement_of_shape, callee_of}
 use Rattle.verse_meaning.specs.Evaluating.{spawned_callee, picked, number_of, pattern_fits, none_left, base_of, mode_of}
 use Rattle.verse_meaning.specs.Evaluating.{class_ref, enum_member, member_form, length_name, ev, ev_shape, statements}
@@ -38,7 +38,7 @@ use Rattle.verse_sound_rules.specs.Fine.{target_sorts, target_sorts_of, on_state
 use Rattle.verse_sound_rules.specs.Fine.{stated_behind, Generates, Defines}
 use Rattle.verse_sound_outcomes.specs.Names.{Sees}
 use Rattle.verse_sound_outcomes.specs.Outcomes.{any_names}
-use Rattle.verse_sound_outcomes.specs.Going.{Level, turns, Kept, Comes, Within}
+use Rattle.verse_sound_outcomes.specs.Going.{turns, Kept, Comes, Within}
 use Rattle.verse_sound_outcomes.proofs.Names.{sees_more}
 use Rattle.verse_sound_outcomes.proofs.Going.{attempted_typed, gives_value}
 use Rattle.verse_sound_forms.specs.Deep.{Known}

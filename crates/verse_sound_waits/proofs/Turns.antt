@@ -1,7 +1,7 @@
 -- Turns of loops and of generators, statements and callees: what does not rest in each does not rest in all.
 use Rattle.std.proofs.Common.{◌≡◌, ℕ, zero, suc, Bool, true, false, Option, Some, None, refl, sym, subst}
 use Rattle.verse_base.specs.declared.places.Place.{Place}
-use Rattle.verse_tree.specs.Tree.{Bytes, Tree, Trees}
+use Rattle.verse_tree.specs.Tree.{Bytes, Trees}
 use Rattle.verse_tree.specs.declared.tables.Ref.{Ref}
 use Rattle.verse_tree.specs.declared.tables.Ref.TheVariants as ref
 use Rattle.verse_value.specs.Val as v

@@ -13,7 +13,7 @@ use Rattle.verse_meaning.specs.Residuals.{Form}
 use Rattle.verse_meaning.specs.Outcomes.{Outcome, rests}
 use Rattle.verse_meaning.specs.Evaluating.{callee_of, spawned_callee, picked}
 use Rattle.verse_sound_rules.specs.Found.{Found}
-use Rattle.verse_sound_rules.specs.Fine.{on_callee, sort_at, object_sort}
+use Rattle.verse_sound_rules.specs.Fine.{on_callee, object_sort}
 
 -- it does not rest
 abbrev pub Stays : Outcome → Type 0
