@@ -52,13 +52,17 @@ use Rattle.verse_sound_trees.proofs.Trees.{head_sort}
 use Rattle.verse_sound_runs.proofs.Calls.{known_at, at_top}
 use Rattle.verse_sound_effects.specs.Opening.{OpenAndClosed}
 use Rattle.verse_sound_waits.specs.Waits as waits
-use Rattle.verse_sound_waits.specs.Waits.{Stays, FormStays, NoWaits, NoWaitsIn, NoneWaits}
+use Rattle.verse_sound_waits.specs.Waits.{Stays, FormStays, ObjectStays, no_object, object_stays, NoWaits, NoWaitsIn}
+use Rattle.verse_sound_waits.specs.Waits.{NoneWaits}
 use Rattle.verse_sound_waits.specs.Calls.{Marked}
 use Rattle.verse_sound_waits.proofs.Passing.{told_stays, known_stays, there_is, known_is, valued_stays}
 use Rattle.verse_sound_waits.proofs.Passing.{attempted_stays}
 use Rattle.verse_sound_waits.proofs.Turns.{Good, named_stays, membered_stays, bool_stays, callee_stays, levelled_stays}
 use Rattle.verse_sound_waits.proofs.Turns.{loops_stay, takes_stay, stated_stays}
 use Rattle.verse_sound_waits.proofs.Forms.{CallsStay, AllGood, form_stays, stays_with, stays_any}
+
+no_value : {up : ℕ → Option ℕ} {u : Typing} {y : Val} {A : Type 0} → Is up u y s.never → A
+no_value i = elim i [ ]
 
 calm_of : (w : World) {x : Outcome} (st : State) → Keeps false w x → x ≡ o.failed st → Calm w.state.clock st.clock
 calm_of w st k same = subst (λ x. Keeps false w x) same k
@@ -283,7 +287,7 @@ module _ (p : Program) (f : Found) (n : ℕ) (leave : (g : ℕ) → ContextLeave
     shape_stays (t.Shape.chained op.Or b d) a xs i pl t e h m see = λ u w gr k.
         attempted_stays p f n a w _ _ k (λ st same. calm_of w st ((leave g).form b e w) same)
         (comes b (tried a) xs t e h.0 see u w gr k) (λ u1 e1 y z g1 k1 j se. tt)
-        (λ z kz. tree_stays d a xs t e h.1 m see u z gr kz)
+        (λ z kz. tree_stays d a xs t e h.1 m.1 see u z gr kz)
     shape_stays (t.Shape.for_form ts b) a xs i pl t e h m see = λ u w gr k.
         attempted_stays p f n a w _ _ k (λ st same. ((undo g).first_domain ts b i pl a.waits e w st same).0)
         (clauses_typed p f (turns n) g known ts a xs v.unit s.any u e h.0 (sees_more f gr see) is_any (turns n) g top w k)
@@ -316,27 +320,27 @@ module _ (p : Program) (f : Found) (n : ℕ) (leave : (g : ℕ) → ContextLeave
         list_rests a xs t e (member_form (ref_at p i) x) (sort_at p f b ∷ []) (f.sort i) (b ∷ []) j.1
         (member_stays p f suspends a.this (ref_at p i) x (sort_at p f b ∷ [])) see (good b a xs t e j.0 m see, tt) u w gr k)
     shape_stays (t.Shape.call b ts) a xs i pl t e h m see = λ u w gr k.
-        callee_stays p (deeper p g) (callee_of p b (picked ts) pl) w _ _ _ _ _ _ _ _ _ _ _ _ h m
-        (λ x j l. args_rest a xs t e x (f.sort i) ts j.1 (stays_any p f suspends a.this x (sorts_at p f ts) l.0) see
-        (trees_good ts a xs t e j.0 l.1 see) u w gr k)
-        (λ x j l. object_rests b a xs t e x ts (f.sort i) j.0 l.1 (trees_good ts a xs t e j.1 l.2 see) j.2
-        (stays_with p f suspends a.this x (object_sort p f b) (sorts_at p f ts) l.0) see u w gr k)
+        callee_stays p f suspends a.this (object_sort p f b) (deeper p g) (callee_of p b (picked ts) pl) w _ _ _ _ _ _ _ _
+        h m.0
+        (λ x j l. args_rest a xs t e x (f.sort i) ts j.1 (stays_any p f suspends a.this x (sorts_at p f ts) l) see
+        (trees_good ts a xs t e j.0 m.2 see) u w gr k)
+        (λ x j l. object_rests b a xs t e x ts (f.sort i) j.0 m.1 (trees_good ts a xs t e j.1 m.2 see) j.2 l see u w gr k)
         (λ x j l. list_rests a xs t e x (sort_at p f b ∷ []) (f.sort i) (b ∷ []) j.1
-        (stays_any p f suspends a.this x (sort_at p f b ∷ []) l.0) see (good b a xs t e j.0 l.1 see, tt) u w gr k)
-        (λ x j l. quotient_rests ts a xs t e i x j l.0 l.1 see u w gr k)
+        (stays_any p f suspends a.this x (sort_at p f b ∷ []) l) see (good b a xs t e j.0 m.1 see, tt) u w gr k)
+        (λ x j l. quotient_rests ts a xs t e i x j l m.2 see u w gr k)
     shape_stays (t.Shape.index b ts) a xs i pl t e h m see = λ u w gr k.
-        callee_stays p (deeper p g) (callee_of p b form.indexing pl) w _ _ _ _ _ _ _ _ _ _ _ _ h m
-        (λ x j l. args_rest a xs t e x (f.sort i) ts j.1 (stays_any p f suspends a.this x (sorts_at p f ts) l.0) see
-        (trees_good ts a xs t e j.0 l.1 see) u w gr k)
-        (λ x j l. object_rests b a xs t e x ts (f.sort i) j.0 l.1 (trees_good ts a xs t e j.1 l.2 see) j.2
-        (stays_with p f suspends a.this x (object_sort p f b) (sorts_at p f ts) l.0) see u w gr k)
+        callee_stays p f suspends a.this (object_sort p f b) (deeper p g) (callee_of p b form.indexing pl) w _ _ _ _ _ _ _ _
+        h m.0
+        (λ x j l. args_rest a xs t e x (f.sort i) ts j.1 (stays_any p f suspends a.this x (sorts_at p f ts) l) see
+        (trees_good ts a xs t e j.0 m.2 see) u w gr k)
+        (λ x j l. object_rests b a xs t e x ts (f.sort i) j.0 m.1 (trees_good ts a xs t e j.1 m.2 see) j.2 l see u w gr k)
         (λ x j l. as_list t (λ w. list_args p (deeper p g) e x [] (b ∷ trees_list ts) a.waits w) _
         (λ w. λ c. valued (ev p (deeper p g) b a.waits e w) (λ z. form.args e x [] z (trees_list ts))
         (λ y z. all_are p (deeper p g) ts x (y ∷ []) a.waits e z c))
         (list_rests a xs t e x (sort_at p f b ∷ sorts_at p f ts) (f.sort i) (b ∷ trees_list ts) j.2
-        (stays_any p f suspends a.this x (sort_at p f b ∷ sorts_at p f ts) l.0) see
-        (good b a xs t e j.0 l.1 see, trees_good ts a xs t e j.1 l.2 see)) u w gr k)
-        (λ x j l. quotient_rests ts a xs t e i x j l.0 l.1 see u w gr k)
+        (stays_any p f suspends a.this x (sort_at p f b ∷ sorts_at p f ts) l) see
+        (good b a xs t e j.0 m.1 see, trees_good ts a xs t e j.1 m.2 see)) u w gr k)
+        (λ x j l. quotient_rests ts a xs t e i x j l m.2 see u w gr k)
     shape_stays (t.Shape.integer z) a xs i pl t e h m see = λ u w gr k. tt
     shape_stays (t.Shape.character c) a xs i pl t e h m see = λ u w gr k. tt
     shape_stays (t.Shape.text x) a xs i pl t e h m see = λ u w gr k. tt
@@ -463,51 +467,53 @@ module _ (p : Program) (f : Found) (n : ℕ) (leave : (g : ℕ) → ContextLeave
 
     -- the object of a member, and then the arguments
     object_rests : (b : Tree) (a : Allowed) (xs : Table) (t : Typing) (e : Env) (x : Form) (ts : Trees) (d : Sort) →
-        fine.FineObject p f a xs b → waits.NoObjectWaits p f suspends a.this b →
-        Every a xs t e (trees_list ts) (sorts_at p f ts) →
+        fine.FineObject p f a xs b → Quiet a b → Every a xs t e (trees_list ts) (sorts_at p f ts) →
         Gives p f a xs x (object_sort p f b ∷ sorts_at p f ts) d →
-        FormStays p f suspends a.this x (object_sort p f b ∷ sorts_at p f ts) → Sees f t a.this xs e →
+        ObjectStays p f suspends a.this x (object_sort p f b) → Sees f t a.this xs e →
         Rests t (λ w. valued (inner p (deeper p g) b a.waits e w) (λ z. form.args e x [] z (trees_list ts))
         (λ y w. all_args p (deeper p g) ts x (y ∷ []) a.waits e w))
-    object_rests (tree i pl y) a xs t e x ts d h m all j l see = object_shape_rests y a xs t e x ts d h m all j l see
+    object_rests (tree i pl y) a xs t e x ts d h m all j l see = object_shape_rests y a xs pl t e x ts d h m all j l see
 
-    object_shape_rests : (y : Shape) (a : Allowed) (xs : Table) (t : Typing) (e : Env) (x : Form) (ts : Trees) (d : Sort) →
-        fine.FineObjectOf p f a xs y → waits.NoObjectWaitsIn p f suspends a.this y →
+    object_shape_rests : (y : Shape) (a : Allowed) (xs : Table) (pl : Place) (t : Typing) (e : Env) (x : Form) (ts : Trees)
+        (d : Sort) → fine.FineObjectOf p f a xs y → NoWaitsIn p f suspends a.this y pl →
         Every a xs t e (trees_list ts) (sorts_at p f ts) →
         Gives p f a xs x (fine.object_sort_of p f y ∷ sorts_at p f ts) d →
-        FormStays p f suspends a.this x (fine.object_sort_of p f y ∷ sorts_at p f ts) → Sees f t a.this xs e →
+        ObjectStays p f suspends a.this x (fine.object_sort_of p f y) → Sees f t a.this xs e →
         Rests t (λ w. valued (inner_shape p (deeper p g) y a.waits e w) (λ z. form.args e x [] z (trees_list ts))
         (λ y w. all_args p (deeper p g) ts x (y ∷ []) a.waits e w))
-    object_shape_rests (t.Shape.member b nm) a xs t e x ts d h m all j l see =
+    object_shape_rests (t.Shape.member b nm) a xs pl t e x ts d h m all j (object_stays l) see =
         as_list t (λ w. list_args p (deeper p g) e x [] (b ∷ trees_list ts) a.waits w) _
         (λ w. λ c. valued (ev p (deeper p g) b a.waits e w) (λ z. form.args e x [] z (trees_list ts))
         (λ y z. all_are p (deeper p g) ts x (y ∷ []) a.waits e z c))
-        (list_rests a xs t e x (sort_at p f b ∷ sorts_at p f ts) d (b ∷ trees_list ts) j l see
-        (good b a xs t e h m see, all))
-    object_shape_rests y a xs t e x ts d h m all j l see = absurd h
+        (list_rests a xs t e x (sort_at p f b ∷ sorts_at p f ts) d (b ∷ trees_list ts) j
+        (stays_with p f suspends a.this x (sort_at p f b) (sorts_at p f ts) l) see (good b a xs t e h m see, all))
+    object_shape_rests (t.Shape.member b nm) a xs pl t e x ts d h m all j (no_object same) see = λ u w gr k.
+        valued_stays p f n _ _ (comes b a xs t e h see u w gr k) (tree_stays b a xs t e h m see u w gr k)
+        (λ u1 y z gr1 kz is. no_value (subst (λ q. Is f.up u1 y q) same is))
+    object_shape_rests y a xs pl t e x ts d h m all j l see = absurd h
 
     quotient_rests : (ts : Trees) (a : Allowed) (xs : Table) (t : Typing) (e : Env) (i : ℕ) (x : Form) →
         fine.FineQuotient p f a xs i x ts → FormStays p f suspends a.this x [] →
-        waits.NoQuotientWaits p f suspends a.this ts → Sees f t a.this xs e →
+        NoneWaits p f suspends a.this ts → Sees f t a.this xs e →
         Rests t (λ w. quotient p (deeper p g) ts x a.waits e w)
     quotient_rests no_trees a xs t e i x h l m see = absurd h
-    quotient_rests (more_trees b ts) a xs t e i x h l m see = quotient_tree_rests b a xs t e i x h l m see
+    quotient_rests (more_trees b ts) a xs t e i x h l m see = quotient_tree_rests b a xs t e i x h l m.0 see
 
     quotient_tree_rests : (b : Tree) (a : Allowed) (xs : Table) (t : Typing) (e : Env) (i : ℕ) (x : Form) →
         fine.FineQuotientIn p f a xs i x b → FormStays p f suspends a.this x [] →
-        waits.NoQuotientWaitsIn p f suspends a.this b → Sees f t a.this xs e →
+        Quiet a b → Sees f t a.this xs e →
         Rests t (λ w. quotient_tree p (deeper p g) b x a.waits e w)
-    quotient_tree_rests (tree j pl y) a xs t e i x h l m see = quotient_shape_rests y a xs t e i x h l m see
+    quotient_tree_rests (tree j pl y) a xs t e i x h l m see = quotient_shape_rests y a xs pl t e i x h l m see
 
-    quotient_shape_rests : (y : Shape) (a : Allowed) (xs : Table) (t : Typing) (e : Env) (i : ℕ) (x : Form) →
+    quotient_shape_rests : (y : Shape) (a : Allowed) (xs : Table) (pl : Place) (t : Typing) (e : Env) (i : ℕ) (x : Form) →
         fine.FineQuotientOf p f a xs i x y → FormStays p f suspends a.this x [] →
-        waits.NoQuotientWaitsOf p f suspends a.this y → Sees f t a.this xs e →
+        NoWaitsIn p f suspends a.this y pl → Sees f t a.this xs e →
         Rests t (λ w. quotient_shape p (deeper p g) y x a.waits e w)
-    quotient_shape_rests (t.Shape.chained z b d) a xs t e i x h l m see =
+    quotient_shape_rests (t.Shape.chained z b d) a xs pl t e i x h l m see =
         list_rests a xs t e x (sort_at p f b ∷ sort_at p f d ∷ []) (f.sort i) (b ∷ d ∷ []) h.2
         (stays_any p f suspends a.this x (sort_at p f b ∷ sort_at p f d ∷ []) l) see
         (good b a xs t e h.0 m.0 see, (good d a xs t e h.1 m.1 see, tt))
-    quotient_shape_rests y a xs t e i x h l m see = absurd h
+    quotient_shape_rests y a xs pl t e i x h l m see = absurd h
 
     -- arms of a `case`
     some_arms : (ts : Trees) (a : Allowed) (xs : Table) (q r : Sort) → fine.FineArms p f a xs q r ts →
@@ -547,10 +553,10 @@ module _ (p : Program) (f : Found) (n : ℕ) (leave : (g : ℕ) → ContextLeave
         fine.FineSpawnedOf p f a xs i pl x → waits.NoSpawnedWaitsIn p f suspends a.this x pl → Sees f t a.this xs e →
         Rests t (λ w. spawned_shape p (deeper p g) x pl a.waits e w)
     spawned_shape_rests (t.Shape.call b ts) a xs i pl t e h m see = λ u w gr k.
-        callee_stays p (deeper p g) (spawned_callee (callee_of p b (form.picking None) pl)) w _ _ _ _ _ _ _ _ _ _ _ _ h m
-        (λ x j l. args_rest a xs t e x (f.sort i) ts j.1 (stays_any p f suspends a.this x (sorts_at p f ts) l.0) see
-        (trees_good ts a xs t e j.0 l.1 see) u w gr k)
-        (λ x j l. object_rests b a xs t e x ts (f.sort i) j.0 l.1 (trees_good ts a xs t e j.1 l.2 see) j.2
-        (stays_with p f suspends a.this x (object_sort p f b) (sorts_at p f ts) l.0) see u w gr k)
+        callee_stays p f suspends a.this (object_sort p f b) (deeper p g)
+        (spawned_callee (callee_of p b (form.picking None) pl)) w _ _ _ _ _ _ _ _ h m.0
+        (λ x j l. args_rest a xs t e x (f.sort i) ts j.1 (stays_any p f suspends a.this x (sorts_at p f ts) l) see
+        (trees_good ts a xs t e j.0 m.2 see) u w gr k)
+        (λ x j l. object_rests b a xs t e x ts (f.sort i) j.0 m.1 (trees_good ts a xs t e j.1 m.2 see) j.2 l see u w gr k)
         (λ x j l. tt) (λ x j l. tt)
     spawned_shape_rests x a xs i pl t e h m see = absurd h

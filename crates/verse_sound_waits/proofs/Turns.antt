@@ -1,5 +1,5 @@
 -- Turns of loops and of generators, statements and callees: what does not rest in each does not rest in all.
-use Rattle.std.proofs.Common.{◌≡◌, ℕ, zero, suc, Bool, true, false, Option, Some, None, refl, sym, subst}
+use Rattle.std.proofs.Common.{◌≡◌, [], ℕ, zero, suc, Bool, true, false, Option, Some, None, refl, sym, subst}
 use Rattle.verse_base.specs.declared.places.Place.{Place}
 use Rattle.verse_tree.specs.Tree.{Bytes, Trees}
 use Rattle.verse_tree.specs.declared.tables.Ref.{Ref}
@@ -26,7 +26,7 @@ use Rattle.verse_sound_outcomes.specs.Outcomes.{any_names}
 use Rattle.verse_sound_outcomes.specs.Going.{Level, turns, Kept, Comes}
 use Rattle.verse_sound_outcomes.proofs.Names.{sees_more}
 use Rattle.verse_sound_trees.proofs.Loops.{AreTaken, NextTaken, next_taken, taken_more}
-use Rattle.verse_sound_waits.specs.Waits.{Stays}
+use Rattle.verse_sound_waits.specs.Waits.{Stays, FormStays, ObjectStays, CalleeStays}
 use Rattle.verse_sound_waits.proofs.Defining.{defined_stays}
 use Rattle.verse_sound_waits.proofs.Passing.{told_stays, closing_stays, valued_stays, turned_stays, spends_stays}
 
@@ -55,17 +55,18 @@ pub bool_stays : (b : Bool) (x y : Bool → Outcome) → Stays (x true) → Stay
 bool_stays true x y h i = h
 bool_stays false x y h i = i
 
-pub callee_stays : (p : Program) (k : Deeper) (c : Callee) (w : World) (A B C D E F G H : Form → Type 0)
-    (f1 f2 f3 f4 : Form → World → Outcome) → on_callee c A B C D → on_callee c E F G H →
-    ((x : Form) → A x → E x → Stays (f1 x w)) → ((x : Form) → B x → F x → Stays (f2 x w)) →
-    ((x : Form) → C x → G x → Stays (f3 x w)) → ((x : Form) → D x → H x → Stays (f4 x w)) →
-    Stays (by_callee p k c w f1 f2 f3 f4)
+pub callee_stays : (p : Program) (f : Found) (suspends : ℕ → Bool) (class : Option ℕ) (q : Sort) (k : Deeper)
+    (c : Callee) (w : World) (A B C D : Form → Type 0) (f1 f2 f3 f4 : Form → World → Outcome) → on_callee c A B C D →
+    CalleeStays p f suspends class c q → ((x : Form) → A x → FormStays p f suspends class x [] → Stays (f1 x w)) →
+    ((x : Form) → B x → ObjectStays p f suspends class x q → Stays (f2 x w)) →
+    ((x : Form) → C x → FormStays p f suspends class x [] → Stays (f3 x w)) →
+    ((x : Form) → D x → FormStays p f suspends class x [] → Stays (f4 x w)) → Stays (by_callee p k c w f1 f2 f3 f4)
 unfolding by_callee
-callee_stays p k (alone x) w A B C D E F G H f1 f2 f3 f4 i j h1 h2 h3 h4 = h1 x i j
-callee_stays p k (of_object x) w A B C D E F G H f1 f2 f3 f4 i j h1 h2 h3 h4 = h2 x i j
-callee_stays p k (of_value x) w A B C D E F G H f1 f2 f3 f4 i j h1 h2 h3 h4 = h3 x i j
-callee_stays p k (of_quotient x) w A B C D E F G H f1 f2 f3 f4 i j h1 h2 h3 h4 = h4 x i j
-callee_stays p k no_callee w A B C D E F G H f1 f2 f3 f4 i j h1 h2 h3 h4 = tt
+callee_stays p f suspends class q k (alone x) w A B C D f1 f2 f3 f4 i j h1 h2 h3 h4 = h1 x i j
+callee_stays p f suspends class q k (of_object x) w A B C D f1 f2 f3 f4 i j h1 h2 h3 h4 = h2 x i j
+callee_stays p f suspends class q k (of_value x) w A B C D f1 f2 f3 f4 i j h1 h2 h3 h4 = h3 x i j
+callee_stays p f suspends class q k (of_quotient x) w A B C D f1 f2 f3 f4 i j h1 h2 h3 h4 = h4 x i j
+callee_stays p f suspends class q k no_callee w A B C D f1 f2 f3 f4 i j h1 h2 h3 h4 = tt
 
 pub levelled_stays : (p : Program) (k : Deeper) (x : Statement) (y : Val) (e : Env) (so_far : Val) (w : World)
     (on_go : World → Outcome) (tk : Generator → Val × Val → Val → World → Outcome)

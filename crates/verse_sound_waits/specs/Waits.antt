@@ -4,16 +4,16 @@ use Rattle.verse_base.specs.declared.places.Place.{Place}
 use Rattle.verse_tree.specs.Tree.{Tree, tree, Shape, Trees, no_trees, more_trees, Holes, no_holes, more_holes, Givens}
 use Rattle.verse_tree.specs.Tree.{no_givens, more_givens}
 use Rattle.verse_tree.specs.Tree as t
-use Rattle.verse_tree.specs.declared.exprs.Operator.TheVariants as op
 use Rattle.verse_sorts.specs.Sorts as s
 use Rattle.verse_sorts.specs.Sorts.{Sort, Fits}
 use Rattle.verse_meaning.specs.Programs.{Program, method_at}
 use Rattle.verse_meaning.specs.Residuals as form
 use Rattle.verse_meaning.specs.Residuals.{Form}
 use Rattle.verse_meaning.specs.Outcomes.{Outcome, rests}
+use Rattle.verse_meaning.specs.Evaluating.{Callee, alone, of_object, of_value, of_quotient, no_callee}
 use Rattle.verse_meaning.specs.Evaluating.{callee_of, spawned_callee, picked}
 use Rattle.verse_sound_rules.specs.Found.{Found}
-use Rattle.verse_sound_rules.specs.Fine.{on_callee, object_sort}
+use Rattle.verse_sound_rules.specs.Fine.{object_sort}
 
 -- it does not rest
 abbrev pub Stays : Outcome → Type 0
@@ -39,6 +39,19 @@ module _ (p : Program) (f : Found) (suspends : ℕ → Bool) where
     FormStays (form.awaiting e) qs = ⊥
     FormStays x qs = Unit {0}
 
+    -- what is called has an object that stays, or none: its sort has no value
+    pub data ObjectStays (x : Form) (q : Sort) : Type 0 where
+      no_object : q ≡ s.never → ObjectStays x q
+      object_stays : FormStays x (q ∷ []) → ObjectStays x q
+
+    -- by what a callee stands for; q is the sort of its object
+    abbrev pub CalleeStays : Callee → Sort → Type 0
+    CalleeStays (alone x) q = FormStays x []
+    CalleeStays (of_object x) q = ObjectStays x q
+    CalleeStays (of_value x) q = FormStays x []
+    CalleeStays (of_quotient x) q = FormStays x []
+    CalleeStays no_callee q = Unit {0}
+
     abbrev mutual
       -- Nothing waits in conditions and deferred blocks of a fine program, nor in what is spawned here.
       pub NoWaits : Tree → Type 0
@@ -53,23 +66,16 @@ module _ (p : Program) (f : Found) (suspends : ℕ → Bool) where
       NoWaitsIn (t.Shape.returned b) pl = NoWaits b
       NoWaitsIn (t.Shape.if_else ts b d) pl = NoWaits b × NoWaits d
       NoWaitsIn (t.Shape.if_alone ts b) pl = NoWaits b
-      NoWaitsIn (t.Shape.chained op.Or b d) pl = NoWaits d
       NoWaitsIn (t.Shape.for_form ts b) pl = NoWaits b
       NoWaitsIn (t.Shape.chained o b d) pl = NoWaits b × NoWaits d
       NoWaitsIn (t.Shape.compared o b d) pl = NoWaits b × NoWaits d
       NoWaitsIn (t.Shape.minus b) pl = NoWaits b
       NoWaitsIn (t.Shape.query b) pl = NoWaits b
       NoWaitsIn (t.Shape.member b x) pl = NoWaits b
-      NoWaitsIn (t.Shape.call b ts) pl = on_callee (callee_of p b (picked ts) pl)
-          (λ x. FormStays x [] × NoneWaits ts)
-          (λ x. FormStays x (object_sort p f b ∷ []) × NoObjectWaits b × NoneWaits ts)
-          (λ x. FormStays x [] × NoWaits b)
-          (λ x. FormStays x [] × NoQuotientWaits ts)
-      NoWaitsIn (t.Shape.index b ts) pl = on_callee (callee_of p b form.indexing pl)
-          (λ x. FormStays x [] × NoneWaits ts)
-          (λ x. FormStays x (object_sort p f b ∷ []) × NoObjectWaits b × NoneWaits ts)
-          (λ x. FormStays x [] × NoWaits b × NoneWaits ts)
-          (λ x. FormStays x [] × NoQuotientWaits ts)
+      NoWaitsIn (t.Shape.call b ts) pl =
+          CalleeStays (callee_of p b (picked ts) pl) (object_sort p f b) × NoWaits b × NoneWaits ts
+      NoWaitsIn (t.Shape.index b ts) pl =
+          CalleeStays (callee_of p b form.indexing pl) (object_sort p f b) × NoWaits b × NoneWaits ts
       NoWaitsIn (t.Shape.holes x hs) pl = NoHoleWaits hs
       NoWaitsIn (t.Shape.tuple ts) pl = NoneWaits ts
       NoWaitsIn (t.Shape.array ts) pl = NoneWaits ts
@@ -104,26 +110,6 @@ module _ (p : Program) (f : Found) (suspends : ℕ → Bool) where
       NoGivenWaits no_givens = Unit {0}
       NoGivenWaits (more_givens x b gs) = NoWaits b × NoGivenWaits gs
 
-      -- the object of a member that is called
-      pub NoObjectWaits : Tree → Type 0
-      NoObjectWaits (tree n pl x) = NoObjectWaitsIn x
-
-      pub NoObjectWaitsIn : Shape → Type 0
-      NoObjectWaitsIn (t.Shape.member b x) = NoWaits b
-      NoObjectWaitsIn x = Unit {0}
-
-      -- the quotient that Floor and Ceil take
-      pub NoQuotientWaits : Trees → Type 0
-      NoQuotientWaits no_trees = Unit {0}
-      NoQuotientWaits (more_trees b ts) = NoQuotientWaitsIn b
-
-      pub NoQuotientWaitsIn : Tree → Type 0
-      NoQuotientWaitsIn (tree n pl x) = NoQuotientWaitsOf x
-
-      pub NoQuotientWaitsOf : Shape → Type 0
-      NoQuotientWaitsOf (t.Shape.chained o b d) = NoWaits b × NoWaits d
-      NoQuotientWaitsOf x = Unit {0}
-
       -- what `set` writes to
       pub NoTargetWaits : Tree → Type 0
       NoTargetWaits (tree n pl x) = NoTargetWaitsIn x
@@ -138,9 +124,7 @@ module _ (p : Program) (f : Found) (suspends : ℕ → Bool) where
       NoSpawnedWaits (tree n pl x) = NoSpawnedWaitsIn x pl
 
       pub NoSpawnedWaitsIn : Shape → Place → Type 0
-      NoSpawnedWaitsIn (t.Shape.call b ts) pl = on_callee (spawned_callee (callee_of p b (form.picking None) pl))
-          (λ x. FormStays x [] × NoneWaits ts)
-          (λ x. FormStays x (object_sort p f b ∷ []) × NoObjectWaits b × NoneWaits ts)
-          (λ x. ⊥)
-          (λ x. ⊥)
+      NoSpawnedWaitsIn (t.Shape.call b ts) pl =
+          CalleeStays (spawned_callee (callee_of p b (form.picking None) pl)) (object_sort p f b) × NoWaits b ×
+          NoneWaits ts
       NoSpawnedWaitsIn x pl = Unit {0}
