@@ -58,10 +58,10 @@ module _ (order : InPostOrder) (shapes : AcceptedShaped) (programs : ProgramsAre
   same : is ≡ a.0
   same = let tested = a.2 in tested.2.0 ∙ (tested.1.2.0 ∙ tested.1.1.0)
 
-  numbered : AreNumbered is
+  pub numbered : AreNumbered is
   numbered = (all_items a.1.0, same ∙ a.1.2)
 
-  sound : IsSound is
+  pub sound : IsSound is
   sound =
       let tested = a.2 in
       record {
