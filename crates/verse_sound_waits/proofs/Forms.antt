@@ -109,7 +109,8 @@ module _ (p : Program) (f : Found) (n : ℕ) (leave : (g : ℕ) → ContextLeave
       Kept p f (turns n) t w → Stays ((deeper p g).defaults b m e w)
   defaults_stay zero t b q m e w h k = tt
   defaults_stay (suc g) t b q m e w h k = spends_stays p f n w w.state.clock.left _ k (λ z kz.
-      called_stays p (deeper p g) z.behind e _ (by m z (record { cells = kz.cells; clock = kz.clock; behind = tt; tasks = kz.tasks })))
+      called_stays p (deeper p g) z.behind e _ (by m z (record { cells = kz.cells; clock = kz.clock; behind = tt; tasks
+          = kz.tasks })))
     where
       d : FineDefault p f b q
       d = fine.defaults b q h
@@ -175,7 +176,8 @@ module _ (p : Program) (f : Found) (n : ℕ) (leave : (g : ℕ) → ContextLeave
         suspends h ≡ false → Callable p f a xs h → Is f.up t x (s.obj c) → Are f.up t vs (f.signature h).params →
         Kept p f (turns n) t w → Stays (method_called p (deeper p g) m x vs a.waits e w)
     unfolding if_there
-    method_stays t e w c h m x vs i quiet call j are k = by (object_there p f fine t c w x j (cells_of p f (turns n) t w k))
+    method_stays t e w c h m x vs i quiet call j are k = by (object_there p f fine t c w x j
+        (cells_of p f (turns n) t w k))
       where
         by : Object_of p f fine t c w.state x → Stays (method_called p (deeper p g) m x vs a.waits e w)
         by (object_of {d} z inh y) =
@@ -183,7 +185,8 @@ module _ (p : Program) (f : Found) (n : ℕ) (leave : (g : ℕ) → ContextLeave
             subst (λ q. Stays (if_there (method_found p (deeper p g) q m) w
             (λ fn. (deeper p g).calls fn (Some x) vs a.waits e w))) (sym z)
             (subst (λ q. Stays (if_there q w (λ fn. (deeper p g).calls fn (Some x) vs a.waits e w))) (sym o.method)
-            (calls t o.by o.function (Some x) vs a.waits e w o.found (marked.overrides d c h o.by m inh i o.method quiet)
+            (calls t o.by o.function (Some x) vs a.waits e w o.found
+            (marked.overrides d c h o.by m inh i o.method quiet)
             (λ q. call.waits (sym o.lasts ∙ q))
             (subst (λ q. HasThis f t q (Some x)) (sym o.this) (this_is (is_up f.up y (fits_obj o.inherits))))
             (subst (λ q. Are f.up t vs q) (sym o.params) are) k))
@@ -217,7 +220,8 @@ module _ (p : Program) (f : Found) (n : ℕ) (leave : (g : ℕ) → ContextLeave
         (subst (λ q. HasThis f t q None) (sym o) no_this) are k
     apply_stays t e w x qs b vs see (r.takes_own c h {m} o j call) i are k = known_stays (this_of e) w _ (λ y is.
         let z = this_there p f o see.this in
-        method_stays t e w c h m y vs j (i c h o j) call (subst (λ q. Is f.up t q (s.obj c)) (same z.0 y (sym z.1 ∙ is)) z.2)
+        method_stays t e w c h m y vs j (i c h o j) call (subst (λ q. Is f.up t q (s.obj c)) (same z.0 y (sym z.1 ∙ is))
+            z.2)
         are k)
       where
         same : (x y : Val) → Some x ≡ Some y → x ≡ y

@@ -72,7 +72,8 @@ started_stays e v (o.lost s) = tt
 started_stays e v (o.stops h) = tt
 started_stays e v (o.sleeps q w) = tt
 
-pub spent_stays : (left : ℕ) (w : World) (go : World → Outcome) → ((z : World) → Stays (go z)) → Stays (spends left w go)
+pub spent_stays : (left : ℕ) (w : World) (go : World → Outcome) → ((z : World) → Stays (go z)) → Stays
+    (spends left w go)
 unfolding spends
 spent_stays zero w go h = tt
 spent_stays (suc n) w go h = h (with_state w (stepped n w.state))

@@ -1,5 +1,6 @@
 -- No tree without waits rests: one case for each shape.
-use Rattle.std.proofs.Common.{◌≡◌, ℕ, Bool, true, false, List, [], ◌∷◌, ◌++◌, Option, Some, None, cond, refl, sym, subst}
+use Rattle.std.proofs.Common.{◌≡◌, ℕ, Bool, true, false, List, [], ◌∷◌, ◌++◌, Option, Some, None, cond, refl, sym}
+use Rattle.std.proofs.Common.{subst}
 use Rattle.verse_base.specs.declared.places.Place.{Place}
 use Rattle.verse_tree.specs.Tree.{Bytes, Tree, tree, Shape, Trees, no_trees, more_trees, Holes, no_holes, more_holes}
 use Rattle.verse_tree.specs.Tree.{Givens, no_givens, more_givens}
@@ -33,7 +34,8 @@ use Rattle.verse_sound_rules.specs.Found.{Found, Allowed, tried, looped}
 use Rattle.verse_sound_rules.specs.Forms.{Gives}
 use Rattle.verse_sound_rules.specs.Programs.{FineFound}
 use Rattle.verse_sound_rules.specs.Fine as fine
-use Rattle.verse_sound_rules.specs.Fine.{sort_at, sorts_at, hole_sorts, pair_sorts, given_sorts, inner_sort, object_sort}
+use Rattle.verse_sound_rules.specs.Fine.{sort_at, sorts_at, hole_sorts, pair_sorts, given_sorts, inner_sort}
+use Rattle.verse_sound_rules.specs.Fine.{object_sort}
 use Rattle.verse_sound_rules.specs.Fine.{target_sorts, target_sorts_of, on_statement, seen_behind, seen_after}
 use Rattle.verse_sound_rules.specs.Fine.{stated_behind, Generates, Defines}
 use Rattle.verse_sound_outcomes.specs.Names.{Sees}
@@ -175,7 +177,8 @@ module _ (p : Program) (f : Found) (n : ℕ) (leave : (g : ℕ) → ContextLeave
       sort_if : (x : Statement) → statement_of c ≡ x → Is f.up t y
           (head_sort_of p f (turns n) g x (inner_sort p f c) (head_sort p f (turns n) g known (sort_at p f c) ts))
       sort_if x same = subst (λ x. Is f.up t y
-          (head_sort_of p f (turns n) g x (inner_sort p f c) (head_sort p f (turns n) g known (sort_at p f c) ts))) same i
+          (head_sort_of p f (turns n) g x (inner_sort p f c) (head_sort p f (turns n) g known (sort_at p f c) ts))) same
+          i
 
       conditions : (z : Generator) → statement_of c ≡ generates z → (u : Typing) (x : Val × Val) (w : World) →
           Sees f u a.this (fine.generated_behind z (number_of c) xs) (with_taken z x e) → Kept p f (turns n) u w →
@@ -194,9 +197,11 @@ module _ (p : Program) (f : Found) (n : ℕ) (leave : (g : ℕ) → ContextLeave
           (attempted (clauses p (deeper p g) ts false (with_taken z x e) v.unit w) w
           (λ e1 y w. level p (deeper p g) ts b (λ e w. ev p (deeper p g) b a.waits e w) pl e1 y so1 w)
           (λ w. o.value e so1 w))
-      met z same u x so1 w se j1 kw = attempted_typed p f (turns n) w _ _ kw (λ st failed. ((undo g).value_clauses z ts b
+      met z same u x so1 w se j1 kw = attempted_typed p f (turns n) w _ _ kw
+          (λ st failed. ((undo g).value_clauses z ts b
           (λ e w. ev p (deeper p g) b a.waits e w) pl e x so1 w st failed).0) (conditions z same u x w se kw)
-          (λ u2 e2 y2 w2 gr2 k2 i2 se2. level_typed p f (turns n) g known ts a (seen_behind c xs) b y2 s.any so1 pl u2 e2
+          (λ u2 e2 y2 w2 gr2 k2 i2 se2. level_typed p f (turns n) g known ts a (seen_behind c xs) b y2 s.any so1 pl u2
+          e2
           h.1 (λ u3 e3 se3. ev_well p f (turns n) g known b a (seen_after ts (seen_behind c xs)) u3 e3 hb se3)
           (turns n) g top tt se2 i2 (is_more f.up gr2.grows j1) w2 k2)
           (λ w2 k2. gives_value p f (turns n) e so1 k2 j1)
@@ -242,9 +247,11 @@ module _ (p : Program) (f : Found) (n : ℕ) (leave : (g : ℕ) → ContextLeave
     shape_stays (t.Shape.block ts) a xs i pl t e h m see = λ u w gr k.
         all_stay ts true a xs v.unit u e h.0 m (sees_more f gr see) w k
     shape_stays (t.Shape.definition x b) a xs i pl t e h m see =
-        list_rests a xs t e form.defining (sort_at p f b ∷ []) (f.sort i) (b ∷ []) h.1 tt see (good b a xs t e h.0 m see, tt)
+        list_rests a xs t e form.defining (sort_at p f b ∷ []) (f.sort i) (b ∷ []) h.1 tt see
+            (good b a xs t e h.0 m see, tt)
     shape_stays (t.Shape.typed x y b) a xs i pl t e h m see =
-        list_rests a xs t e form.defining (sort_at p f b ∷ []) (f.sort i) (b ∷ []) h.1 tt see (good b a xs t e h.0 m see, tt)
+        list_rests a xs t e form.defining (sort_at p f b ∷ []) (f.sort i) (b ∷ []) h.1 tt see
+            (good b a xs t e h.0 m see, tt)
     shape_stays (t.Shape.variable x y b) a xs i pl t e h m see =
         list_rests a xs t e (form.varying pl) (sort_at p f b ∷ []) (f.sort i) (b ∷ []) h.1 tt see
         (good b a xs t e h.0 m see, tt)
@@ -258,7 +265,8 @@ module _ (p : Program) (f : Found) (n : ℕ) (leave : (g : ℕ) → ContextLeave
         (every_join a xs t e (target_list b) (target_sorts p f b) (d ∷ []) (sort_at p f d ∷ [])
         (target_good b a xs t e h.0 m.0 see) (good d a xs t e h.1 m.1 see, tt)))
     shape_stays (t.Shape.returned b) a xs i pl t e h m see =
-        list_rests a xs t e form.returning (sort_at p f b ∷ []) (f.sort i) (b ∷ []) h.1 tt see (good b a xs t e h.0 m see, tt)
+        list_rests a xs t e form.returning (sort_at p f b ∷ []) (f.sort i) (b ∷ []) h.1 tt see
+            (good b a xs t e h.0 m see, tt)
     shape_stays t.Shape.returned_unit a xs i pl t e h m see = λ u w gr k. tt
     shape_stays t.Shape.break_form a xs i pl t e h m see = λ u w gr k. tt
     shape_stays (t.Shape.if_else ts b d) a xs i pl t e h m see = λ u w gr k.
@@ -290,7 +298,8 @@ module _ (p : Program) (f : Found) (n : ℕ) (leave : (g : ℕ) → ContextLeave
         (λ z kz. tree_stays d a xs t e h.1 m.1 see u z gr kz)
     shape_stays (t.Shape.for_form ts b) a xs i pl t e h m see = λ u w gr k.
         attempted_stays p f n a w _ _ k (λ st same. ((undo g).first_domain ts b i pl a.waits e w st same).0)
-        (clauses_typed p f (turns n) g known ts a xs v.unit s.any u e h.0 (sees_more f gr see) is_any (turns n) g top w k)
+        (clauses_typed p f (turns n) g known ts a xs v.unit s.any u e h.0 (sees_more f gr see) is_any (turns n) g top w
+        k)
         (λ u1 e1 y z g1 k1 j se. level_rests ts a xs b y s.any (v.array v.no_vals) pl u1 e1 h.0 h.1
         (λ u2 e2 se2. good b a (seen_after ts xs) u2 e2 h.1 m se2) se j (is_list no_all) z k1)
         (λ z kz. tt)
@@ -314,26 +323,32 @@ module _ (p : Program) (f : Found) (n : ℕ) (leave : (g : ℕ) → ContextLeave
         list_rests a xs t e (form.negating pl) (sort_at p f b ∷ []) (f.sort i) (b ∷ []) h.1 tt see
         (good b a xs t e h.0 m see, tt)
     shape_stays (t.Shape.query b) a xs i pl t e h m see =
-        list_rests a xs t e form.querying (sort_at p f b ∷ []) (f.sort i) (b ∷ []) h.1 tt see (good b a xs t e h.0 m see, tt)
+        list_rests a xs t e form.querying (sort_at p f b ∷ []) (f.sort i) (b ∷ []) h.1 tt see
+            (good b a xs t e h.0 m see, tt)
     shape_stays (t.Shape.member b x) a xs i pl t e h m see = λ u w gr k.
         membered_stays p (deeper p g) (enum_member p b x) e w _ _ _ h (λ j.
         list_rests a xs t e (member_form (ref_at p i) x) (sort_at p f b ∷ []) (f.sort i) (b ∷ []) j.1
-        (member_stays p f suspends a.this (ref_at p i) x (sort_at p f b ∷ [])) see (good b a xs t e j.0 m see, tt) u w gr k)
+        (member_stays p f suspends a.this (ref_at p i) x (sort_at p f b ∷ [])) see (good b a xs t e j.0 m see, tt) u w
+        gr k)
     shape_stays (t.Shape.call b ts) a xs i pl t e h m see = λ u w gr k.
-        callee_stays p f suspends a.this (object_sort p f b) (deeper p g) (callee_of p b (picked ts) pl) w _ _ _ _ _ _ _ _
+        callee_stays p f suspends a.this (object_sort p f b) (deeper p g) (callee_of p b (picked ts) pl) w _ _ _ _ _ _ _
+            _
         h m.0
         (λ x j l. args_rest a xs t e x (f.sort i) ts j.1 (stays_any p f suspends a.this x (sorts_at p f ts) l) see
         (trees_good ts a xs t e j.0 m.2 see) u w gr k)
-        (λ x j l. object_rests b a xs t e x ts (f.sort i) j.0 m.1 (trees_good ts a xs t e j.1 m.2 see) j.2 l see u w gr k)
+        (λ x j l. object_rests b a xs t e x ts (f.sort i) j.0 m.1 (trees_good ts a xs t e j.1 m.2 see) j.2 l see u w gr
+        k)
         (λ x j l. list_rests a xs t e x (sort_at p f b ∷ []) (f.sort i) (b ∷ []) j.1
         (stays_any p f suspends a.this x (sort_at p f b ∷ []) l) see (good b a xs t e j.0 m.1 see, tt) u w gr k)
         (λ x j l. quotient_rests ts a xs t e i x j l m.2 see u w gr k)
     shape_stays (t.Shape.index b ts) a xs i pl t e h m see = λ u w gr k.
-        callee_stays p f suspends a.this (object_sort p f b) (deeper p g) (callee_of p b form.indexing pl) w _ _ _ _ _ _ _ _
+        callee_stays p f suspends a.this (object_sort p f b) (deeper p g) (callee_of p b form.indexing pl) w _ _ _ _ _ _
+            _ _
         h m.0
         (λ x j l. args_rest a xs t e x (f.sort i) ts j.1 (stays_any p f suspends a.this x (sorts_at p f ts) l) see
         (trees_good ts a xs t e j.0 m.2 see) u w gr k)
-        (λ x j l. object_rests b a xs t e x ts (f.sort i) j.0 m.1 (trees_good ts a xs t e j.1 m.2 see) j.2 l see u w gr k)
+        (λ x j l. object_rests b a xs t e x ts (f.sort i) j.0 m.1 (trees_good ts a xs t e j.1 m.2 see) j.2 l see u w gr
+        k)
         (λ x j l. as_list t (λ w. list_args p (deeper p g) e x [] (b ∷ trees_list ts) a.waits w) _
         (λ w. λ c. valued (ev p (deeper p g) b a.waits e w) (λ z. form.args e x [] z (trees_list ts))
         (λ y z. all_are p (deeper p g) ts x (y ∷ []) a.waits e z c))
@@ -364,7 +379,8 @@ module _ (p : Program) (f : Found) (n : ℕ) (leave : (g : ℕ) → ContextLeave
         (pairs_good ps a xs t e h.0 m see))
     shape_stays (t.Shape.instance x gs) a xs i pl t e h m see = λ u w gr k.
         known_is (class_ref p (ref_at p i)) h.0 w _ h.1
-        (as_list t (λ w. list_args p (deeper p g) e (form.instancing h.0 (given_names gs) pl) [] (givens_list gs) a.waits w) _
+        (as_list t (λ w. list_args p (deeper p g) e (form.instancing h.0 (given_names gs) pl) [] (givens_list gs)
+        a.waits w) _
         (λ w. given_are p (deeper p g) gs (form.instancing h.0 (given_names gs) pl) [] a.waits e w)
         (list_rests a xs t e (form.instancing h.0 (given_names gs) pl) (given_sorts p f gs) (f.sort i) (givens_list gs)
         h.3 tt see (givens_good gs a xs t e h.2 m see)) u w gr k)
@@ -474,7 +490,8 @@ module _ (p : Program) (f : Found) (n : ℕ) (leave : (g : ℕ) → ContextLeave
         (λ y w. all_args p (deeper p g) ts x (y ∷ []) a.waits e w))
     object_rests (tree i pl y) a xs t e x ts d h m all j l see = object_shape_rests y a xs pl t e x ts d h m all j l see
 
-    object_shape_rests : (y : Shape) (a : Allowed) (xs : Table) (pl : Place) (t : Typing) (e : Env) (x : Form) (ts : Trees)
+    object_shape_rests : (y : Shape) (a : Allowed) (xs : Table) (pl : Place) (t : Typing) (e : Env) (x : Form)
+        (ts : Trees)
         (d : Sort) → fine.FineObjectOf p f a xs y → NoWaitsIn p f suspends a.this y pl →
         Every a xs t e (trees_list ts) (sorts_at p f ts) →
         Gives p f a xs x (fine.object_sort_of p f y ∷ sorts_at p f ts) d →
@@ -505,7 +522,8 @@ module _ (p : Program) (f : Found) (n : ℕ) (leave : (g : ℕ) → ContextLeave
         Rests t (λ w. quotient_tree p (deeper p g) b x a.waits e w)
     quotient_tree_rests (tree j pl y) a xs t e i x h l m see = quotient_shape_rests y a xs pl t e i x h l m see
 
-    quotient_shape_rests : (y : Shape) (a : Allowed) (xs : Table) (pl : Place) (t : Typing) (e : Env) (i : ℕ) (x : Form) →
+    quotient_shape_rests : (y : Shape) (a : Allowed) (xs : Table) (pl : Place) (t : Typing) (e : Env) (i : ℕ) (x : Form)
+        →
         fine.FineQuotientOf p f a xs i x y → FormStays p f suspends a.this x [] →
         NoWaitsIn p f suspends a.this y pl → Sees f t a.this xs e →
         Rests t (λ w. quotient_shape p (deeper p g) y x a.waits e w)
@@ -544,7 +562,8 @@ module _ (p : Program) (f : Found) (n : ℕ) (leave : (g : ℕ) → ContextLeave
     arm_shape_stays x a xs q r pl t e y last go h m see w k next = absurd h
 
     -- the call that a `spawn` starts
-    spawned_rests : (b : Tree) (a : Allowed) (xs : Table) (i : ℕ) (t : Typing) (e : Env) → fine.FineSpawned p f a xs i b →
+    spawned_rests : (b : Tree) (a : Allowed) (xs : Table) (i : ℕ) (t : Typing) (e : Env) → fine.FineSpawned p f a xs i b
+        →
         waits.NoSpawnedWaits p f suspends a.this b → Sees f t a.this xs e →
         Rests t (λ w. spawned p (deeper p g) b a.waits e w)
     spawned_rests (tree j pl x) a xs i t e h m see = spawned_shape_rests x a xs i pl t e h m see
@@ -557,6 +576,7 @@ module _ (p : Program) (f : Found) (n : ℕ) (leave : (g : ℕ) → ContextLeave
         (spawned_callee (callee_of p b (form.picking None) pl)) w _ _ _ _ _ _ _ _ h m.0
         (λ x j l. args_rest a xs t e x (f.sort i) ts j.1 (stays_any p f suspends a.this x (sorts_at p f ts) l) see
         (trees_good ts a xs t e j.0 m.2 see) u w gr k)
-        (λ x j l. object_rests b a xs t e x ts (f.sort i) j.0 m.1 (trees_good ts a xs t e j.1 m.2 see) j.2 l see u w gr k)
+        (λ x j l. object_rests b a xs t e x ts (f.sort i) j.0 m.1 (trees_good ts a xs t e j.1 m.2 see) j.2 l see u w gr
+        k)
         (λ x j l. tt) (λ x j l. tt)
     spawned_shape_rests x a xs i pl t e h m see = absurd h

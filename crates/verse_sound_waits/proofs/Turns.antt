@@ -15,8 +15,10 @@ use Rattle.verse_meaning.specs.Programs.{Program}
 use Rattle.verse_meaning.specs.Residuals.{Env, Form, Bound, constant, variable, Binder, Generator, Residual, Values}
 use Rattle.verse_meaning.specs.Outcomes.{World, Outcome, if_there}
 use Rattle.verse_meaning.specs.Forms.{Deeper, read_bound, read_slot_of, look, this_of, next_value, values_of}
-use Rattle.verse_meaning.specs.Evaluating.{Statement, plain, defines, defers, generates, stated, levelled, Callee, alone}
-use Rattle.verse_meaning.specs.Evaluating.{of_object, of_value, of_quotient, no_callee, by_callee, named, membered, on_bool}
+use Rattle.verse_meaning.specs.Evaluating.{Statement, plain, defines, defers, generates, stated, levelled, Callee}
+use Rattle.verse_meaning.specs.Evaluating.{alone}
+use Rattle.verse_meaning.specs.Evaluating.{of_object, of_value, of_quotient, no_callee, by_callee, named, membered}
+use Rattle.verse_meaning.specs.Evaluating.{on_bool}
 use Rattle.verse_meaning.specs.Evaluating.{generates_from}
 use Rattle.verse_meaning.specs.Runs.{deeper, on_next}
 use Rattle.verse_sound_rules.specs.Found.{Found, Allowed}

@@ -1,7 +1,8 @@
 -- Trees in which nothing waits, where it is known which functions suspend.
 use Rattle.std.specs.Prelude.{◌≡◌, ℕ, Bool, false, List, [], ◌∷◌, Option, Some, None}
 use Rattle.verse_base.specs.declared.places.Place.{Place}
-use Rattle.verse_tree.specs.Tree.{Tree, tree, Shape, Trees, no_trees, more_trees, Holes, no_holes, more_holes, Givens}
+use Rattle.verse_tree.specs.Tree.{Tree, tree, Shape, Trees, no_trees, more_trees, Holes, no_holes}
+use Rattle.verse_tree.specs.Tree.{more_holes, Givens}
 use Rattle.verse_tree.specs.Tree.{no_givens, more_givens}
 use Rattle.verse_tree.specs.Tree as t
 use Rattle.verse_sorts.specs.Sorts as s
@@ -10,7 +11,8 @@ use Rattle.verse_meaning.specs.Programs.{Program, method_at}
 use Rattle.verse_meaning.specs.Residuals as form
 use Rattle.verse_meaning.specs.Residuals.{Form}
 use Rattle.verse_meaning.specs.Outcomes.{Outcome, rests}
-use Rattle.verse_meaning.specs.Evaluating.{Callee, alone, of_object, of_value, of_quotient, no_callee}
+use Rattle.verse_meaning.specs.Evaluating.{Callee, alone, of_object, of_value, of_quotient}
+use Rattle.verse_meaning.specs.Evaluating.{no_callee}
 use Rattle.verse_meaning.specs.Evaluating.{callee_of, spawned_callee, picked}
 use Rattle.verse_sound_rules.specs.Found.{Found}
 use Rattle.verse_sound_rules.specs.Fine.{object_sort}
@@ -23,7 +25,8 @@ Stays x = Unit {0}
 module _ (p : Program) (f : Found) (suspends : ℕ → Bool) where
   -- no method that objects of a sort have at a place suspends
   abbrev pub MethodStays : Sort → ℕ → Type 0
-  MethodStays q m = (c g : ℕ) → Fits f.up q (s.obj c) → method_at p c m ≡ Some g → suspends g ≡ false
+  MethodStays q m = (c g : ℕ) → Fits f.up q (s.obj c) → method_at p c m ≡ Some g →
+      suspends g ≡ false
 
   -- `class` is that of `Self`
   module _ (class : Option ℕ) where
@@ -53,7 +56,8 @@ module _ (p : Program) (f : Found) (suspends : ℕ → Bool) where
     CalleeStays no_callee q = Unit {0}
 
     abbrev mutual
-      -- Nothing waits in conditions and deferred blocks of a fine program, nor in what is spawned here.
+      -- Nothing waits in conditions and deferred blocks of a fine program, nor in what is spawned
+      -- here.
       pub NoWaits : Tree → Type 0
       NoWaits (tree n pl x) = NoWaitsIn x pl
 
@@ -75,7 +79,8 @@ module _ (p : Program) (f : Found) (suspends : ℕ → Bool) where
       NoWaitsIn (t.Shape.call b ts) pl =
           CalleeStays (callee_of p b (picked ts) pl) (object_sort p f b) × NoWaits b × NoneWaits ts
       NoWaitsIn (t.Shape.index b ts) pl =
-          CalleeStays (callee_of p b form.indexing pl) (object_sort p f b) × NoWaits b × NoneWaits ts
+          CalleeStays (callee_of p b form.indexing pl) (object_sort p f b) × NoWaits b ×
+          NoneWaits ts
       NoWaitsIn (t.Shape.holes x hs) pl = NoHoleWaits hs
       NoWaitsIn (t.Shape.tuple ts) pl = NoneWaits ts
       NoWaitsIn (t.Shape.array ts) pl = NoneWaits ts
@@ -125,6 +130,6 @@ module _ (p : Program) (f : Found) (suspends : ℕ → Bool) where
 
       pub NoSpawnedWaitsIn : Shape → Place → Type 0
       NoSpawnedWaitsIn (t.Shape.call b ts) pl =
-          CalleeStays (spawned_callee (callee_of p b (form.picking None) pl)) (object_sort p f b) × NoWaits b ×
-          NoneWaits ts
+          CalleeStays (spawned_callee (callee_of p b (form.picking None) pl)) (object_sort p f b) ×
+          NoWaits b × NoneWaits ts
       NoSpawnedWaitsIn x pl = Unit {0}
