@@ -1,5 +1,6 @@
 -- What is called where nothing may wait does not suspend.
-use Rattle.std.proofs.Common.{◌≡◌, ℕ, zero, suc, ◌+◌, Bool, true, false, not, ◌&&◌, List, [], ◌∷◌, map, Option, refl, sym, ap, ◌∙◌}
+use Rattle.std.proofs.Common.{◌≡◌, ℕ, zero, suc, ◌+◌, Bool, true, false, List, [], ◌∷◌, map, Option, refl}
+use Rattle.std.proofs.Common.{sym, ap, ◌∙◌}
 use Rattle.std.proofs.Common.{subst, arith}
 use Rattle.std.specs.Prelude.{Some, None, slice_get}
 use std.Path.{fun_ext}
@@ -17,11 +18,8 @@ use Rattle.verse_names_items.specs.Tables.{methods_of, class_tables_from}
 use Rattle.verse_names_scopes.specs.Visible.{World}
 use Rattle.verse_check_typing.specs.Callees as types
 use Rattle.verse_effects.specs.Callees.{call_suspends}
-use Rattle.verse_effects.specs.declared.callees.Callee.TheVariants as c
 use Rattle.verse_rules.specs.Naming.{made_function, made_class}
-use Rattle.verse_rules.specs.Sound.{completed}
 use Rattle.verse_meaning.specs.Programs.{Program, method_in, method_at}
-use Rattle.verse_meaning.specs.Residuals as form
 use Rattle.verse_meaning.specs.Residuals.{Form}
 use Rattle.verse_meaning.specs.Evaluating.{Callee, spawned_callee}
 use Rattle.verse_sorts.specs.Sorts as s
@@ -29,11 +27,10 @@ use Rattle.verse_sorts.specs.Sorts.{Sort, Fits, fits_obj, Inherits}
 use Rattle.verse_sound_rules.specs.Found.{Allowed}
 use Rattle.verse_sound_rules.specs.Found as rules
 use Rattle.verse_sound_rules.specs.Fine.{object_sort}
-use Rattle.verse_sound_waits.specs.Waits.{FormStays, OwnStays, CalleeStays, no_object, object_stays}
+use Rattle.verse_sound_waits.specs.Waits.{FormStays, CalleeStays, no_object, object_stays}
 use Rattle.verse_accept_classes.specs.Inheriting.{Over}
 use Rattle.verse_accept_classes.specs.Inheriting as above
 use Rattle.verse_accept_classes.specs.Owners.{Owned}
-use Rattle.verse_accept_classes.specs.Referring.{IsMethod}
 use Rattle.verse_accept_classes.specs.Laws.{Quiet, FunctionsStand}
 use Rattle.verse_accept_classes.proofs.Methods.{over_on}
 use Rattle.verse_accept_classes.proofs.Tables.{parents_are, classes_inherit}
@@ -69,7 +66,8 @@ inherits_of f c d e h i = cc
 
 -- the method of a place in the tables of classes, the first of which has the number n
 table_method : (k : Known) (n : ℕ) (os : List Class) (d m g : ℕ) →
-    method_in m (slice_get (map made_class (class_tables_from k n os)) d) ≡ Some g → slice_get (methods_of k (n + d)) m ≡ Some g
+    method_in m (slice_get (map made_class (class_tables_from k n os)) d) ≡ Some g → slice_get (methods_of k (n + d)) m
+    ≡ Some g
 table_method k n [] d m g e = cc
 table_method k n (o ∷ os) zero m g e =
     ap (λ i. slice_get (methods_of k i) m) (let same : n + 0 ≡ n = omega arith in same) ∙ e
@@ -100,7 +98,8 @@ module _ (is : List ItemTree) (arrays events : ℕ → Bool) (quiet : Quiet is) 
       let rest = and_right (is_same_mark f.effects.computes g.effects.computes) _ effects in
       let last = and_right (is_same_mark f.effects.transacts g.effects.transacts) _ rest in
       suspends_as n f x
-      ∙ same_mark f.effects.suspends g.effects.suspends (and_right (is_same_mark f.effects.decides g.effects.decides) _ last)
+      ∙ same_mark f.effects.suspends g.effects.suspends (and_right (is_same_mark f.effects.decides g.effects.decides) _
+      last)
       ∙ sym (suspends_as h g y)
   overrides_as n h None q x y fit = absurd (cc)
   overrides_as n h (Some f) None x y fit = absurd (cc)
@@ -170,7 +169,8 @@ module _ (is : List ItemTree) (arrays events : ℕ → Bool) (quiet : Quiet is) 
     callee_stays e y pl own h fixed (is_fixed u f g q) = absurd (fixed u f g)
 
     -- one whose call is spawned
-    pub spawned_stays : (e : Tree) (y : Form) (pl : Place) → call_suspends true (effects_of is arrays events e) ≡ false →
+    pub spawned_stays : (e : Tree) (y : Form) (pl : Place) → call_suspends true (effects_of is arrays events e) ≡ false
+        →
         ((u : Ty) → IsFixed u → types.callee_of (Rattle.verse_accept_rows.specs.Found.final is) e ≡ types.value u → ⊥) →
         {h : Callee} → Kind is arrays events w a xs b allows n p e y pl h → Stay (spawned_callee h) e
     spawned_stays e y pl h fixed (is_function g f k) = tt

@@ -8,7 +8,8 @@ use Rattle.verse_tree.specs.Tree as t
 use Rattle.verse_tree.specs.ItemTree.{ItemTree}
 use Rattle.verse_tree.specs.declared.exprs.Operator.TheVariants as op
 use Rattle.verse_rules_types.specs.Types.{Ty}
-use Rattle.verse_rules_walk.specs.Around.{Used, free, callee, object, argument, value, target, base, spawned, Around, used_as}
+use Rattle.verse_rules_walk.specs.Around.{Used, free, callee, object, argument, value, target, base, spawned, Around}
+use Rattle.verse_rules_walk.specs.Around.{used_as}
 use Rattle.verse_rules_walk.specs.Around as around
 use Rattle.verse_rules_walk.specs.Nodes.{number_of_tree}
 use Rattle.verse_names_declarations.specs.Names.{Table}
@@ -26,7 +27,8 @@ use Rattle.verse_sound_rules.specs.Found.{Allowed}
 use Rattle.verse_sound_rules.specs.Found as allowed
 use Rattle.verse_sound_waits.specs.Waits as waits
 use Rattle.verse_sound_waits.specs.Waits.{FormStays}
-use Rattle.verse_accept_scopes.specs.Holding.{On, OnShape, OnPart, OnAll, OnEach, OnArguments, OnHoles, OnPairs, OnGivens}
+use Rattle.verse_accept_scopes.specs.Holding.{On, OnShape, OnPart, OnAll, OnEach, OnArguments, OnHoles, OnPairs}
+use Rattle.verse_accept_scopes.specs.Holding.{OnGivens}
 use Rattle.verse_accept_rows.specs.Found.{final, Found}
 use Rattle.verse_accept_classes.specs.Referring.{Names}
 use Rattle.verse_accept_classes.specs.Laws.{Quiet, FunctionsStand}
@@ -51,7 +53,8 @@ not_called : (u : Ty) → IsFixed u → can_call (types.value u) ≡ false
 not_called u fixed_int = refl
 not_called u fixed_enum = refl
 
-picked_stays : (p : Program) (f : allowed.Found) (g : ℕ → Bool) (class : Rattle.std.specs.Prelude.Option ℕ) (ts : Trees) →
+picked_stays : (p : Program) (f : allowed.Found) (g : ℕ → Bool) (class : Rattle.std.specs.Prelude.Option ℕ) (ts : Trees)
+    →
     FormStays p f g class (picked ts) Rattle.std.proofs.Common.[]
 picked_stays p f g class no_trees = tt
 picked_stays p f g class (more_trees b no_trees) = tt
@@ -124,12 +127,14 @@ module _ (is : List ItemTree) (arrays events : ℕ → Bool) (quiet : Quiet is) 
         (found.effects is w a xs n p x h).suspends c.stays
 
   -- nothing of a fixed type is called
-  no_call : (a : Around) (xs : Table) (n : ℕ) (p : Place) (e : Tree) (ts : Trees) → At is w a xs n p (t.Shape.call e ts) →
+  no_call : (a : Around) (xs : Table) (n : ℕ) (p : Place) (e : Tree) (ts : Trees) → At is w a xs n p (t.Shape.call e ts)
+      →
       (u : Ty) → IsFixed u → types.callee_of (final is) e ≡ types.value u → ⊥
   no_call a xs n p e ts h u f g = no (sym (ap can_call (sym g)
       ∙ not_not _ (found.types is w a xs n p (t.Shape.call e ts) h).callable) ∙ not_called u f)
 
-  no_index : (a : Around) (xs : Table) (n : ℕ) (p : Place) (e : Tree) (ts : Trees) → At is w a xs n p (t.Shape.index e ts) →
+  no_index : (a : Around) (xs : Table) (n : ℕ) (p : Place) (e : Tree) (ts : Trees) → At is w a xs n p
+      (t.Shape.index e ts) →
       (u : Ty) → IsFixed u → types.callee_of (final is) e ≡ types.value u → ⊥
   no_index a xs n p e ts h u f g = no (sym (ap (λ z. indices_fit (final is) z ts) (sym g)
       ∙ not_not _ (found.types is w a xs n p (t.Shape.index e ts) h).matched) ∙ not_indexed u ts f)
@@ -139,7 +144,8 @@ module _ (is : List ItemTree) (arrays events : ℕ → Bool) (quiet : Quiet is) 
         (p : Place) → OnShape (Found is) w n a xs x → At is w a xs n p x → QuietlyIn x p
     shape_quiet (t.Shape.block ts) a b c u xs n p h o = all_quiet ts (around.freely a) b (freely c) refl xs n h
     shape_quiet (t.Shape.definition x e) a b c u xs n p h o = part_quiet e (around.freely a) b (freely c) refl xs n h
-    shape_quiet (t.Shape.typed x y e) a b c u xs n p h o = part_quiet e (used_as (value y) a) b (used c (value y)) refl xs n h.1
+    shape_quiet (t.Shape.typed x y e) a b c u xs n p h o = part_quiet e (used_as (value y) a) b (used c (value y)) refl
+        xs n h.1
     shape_quiet (t.Shape.variable x y e) a b c u xs n p h o =
         part_quiet e (used_as (value y) a) b (used c (value y)) refl xs n h.1
     shape_quiet (t.Shape.assignment m e d) a b c u xs n p h o = (
@@ -152,7 +158,8 @@ module _ (is : List ItemTree) (arrays events : ℕ → Bool) (quiet : Quiet is) 
       part_quiet d (around.freely a) b (freely c) refl xs n h.2,
     )
     shape_quiet (t.Shape.if_alone ts e) a b c u xs n p h o = part_quiet e (around.freely a) b (freely c) refl _ n h.1
-    shape_quiet (t.Shape.for_form ts e) a b c u xs n p h o = part_quiet e (around.repeated a) b (repeated c) refl _ n h.1
+    shape_quiet (t.Shape.for_form ts e) a b c u xs n p h o = part_quiet e (around.repeated a) b (repeated c) refl _ n
+        h.1
     shape_quiet (t.Shape.chained op.Or e d) a b c u xs n p h o = (
       part_quiet e (around.caught a) (allowed.tried b) (caught c) refl xs n h.0,
       part_quiet d (around.freely a) b (freely c) refl xs n h.1,
@@ -187,17 +194,21 @@ module _ (is : List ItemTree) (arrays events : ℕ → Bool) (quiet : Quiet is) 
     shape_quiet (t.Shape.call e ts) a b c u xs n p h o = (
       callee_stays is arrays events quiet functions w a xs b c.allows n p e (picked ts) p
           (picked_stays whole (sorted is) (suspending is) w.class ts)
-          (ap (λ z. call_suspends z (Rattle.verse_accept_forms.proofs.CalleeKinds.effects_of is arrays events e)) (sym u)
+          (ap (λ z. call_suspends z (Rattle.verse_accept_forms.proofs.CalleeKinds.effects_of is arrays events e))
+          (sym u)
           ∙ settled c xs n p (t.Shape.call e ts) o) (no_call a xs n p e ts o)
-          (kind_of is arrays events w a xs b c.allows n p functions quiet names (picked ts) p telling n (used_as callee a) e h.0),
+          (kind_of is arrays events w a xs b c.allows n p functions quiet names (picked ts) p telling n
+          (used_as callee a) e h.0),
       part_quiet e (used_as callee a) b (used c callee) refl xs n h.0,
       arguments_quiet ts a b c xs n (number_of_tree e) 0 h.1,
     )
     shape_quiet (t.Shape.index e ts) a b c u xs n p h o = (
       callee_stays is arrays events quiet functions w a xs b c.allows n p e form.indexing p tt
-          (ap (λ z. call_suspends z (Rattle.verse_accept_forms.proofs.CalleeKinds.effects_of is arrays events e)) (sym u)
+          (ap (λ z. call_suspends z (Rattle.verse_accept_forms.proofs.CalleeKinds.effects_of is arrays events e))
+          (sym u)
           ∙ settled c xs n p (t.Shape.index e ts) o) (no_index a xs n p e ts o)
-          (kind_of is arrays events w a xs b c.allows n p functions quiet names form.indexing p telling n (around.indexed a) e h.0),
+          (kind_of is arrays events w a xs b c.allows n p functions quiet names form.indexing p telling n
+          (around.indexed a) e h.0),
       part_quiet e (around.indexed a) b (used c (around.indexed_use a.used)) (indexed_not_spawned a.used) xs n h.0,
       arguments_quiet ts a b c xs n (number_of_tree e) 0 h.1,
     )
@@ -217,7 +228,8 @@ module _ (is : List ItemTree) (arrays events : ℕ → Bool) (quiet : Quiet is) 
     shape_quiet (t.Shape.sync ts) a b c u xs n p h o = no (settled c xs n p (t.Shape.sync ts) o)
     shape_quiet (t.Shape.race ts) a b c u xs n p h o = no (settled c xs n p (t.Shape.race ts) o)
     shape_quiet (t.Shape.rush ts) a b c u xs n p h o = no (settled c xs n p (t.Shape.rush ts) o)
-    shape_quiet (t.Shape.spawn e) a b c u xs n p h o = spawned_quiet e (used_as spawned a) b (used c spawned) refl xs n h
+    shape_quiet (t.Shape.spawn e) a b c u xs n p h o = spawned_quiet e (used_as spawned a) b (used c spawned) refl xs n
+        h
     shape_quiet (t.Shape.sleep d) a b c u xs n p h o = no (settled c xs n p (t.Shape.sleep d) o)
     shape_quiet t.Shape.sleep_forever a b c u xs n p h o = no (settled c xs n p t.Shape.sleep_forever o)
     shape_quiet x a b c u xs n p h o = tt
@@ -244,12 +256,14 @@ module _ (is : List ItemTree) (arrays events : ℕ → Bool) (quiet : Quiet is) 
       arguments_quiet es a b c xs n f (i + 1) h.1,
     )
 
-    holes_quiet : (hs : Holes) (a : Around) (b : Allowed) → Here a b → is_spawned a.used ≡ false → (xs : Table) (n : ℕ) →
+    holes_quiet : (hs : Holes) (a : Around) (b : Allowed) → Here a b → is_spawned a.used ≡ false → (xs : Table) (n : ℕ)
+        →
         OnHoles (Found is) w n a xs hs → waits.NoHoleWaits whole (sorted is) (suspending is) w.class hs
     holes_quiet no_holes a b c u xs n h = tt
     holes_quiet (more_holes e x hs) a b c u xs n h = (part_quiet e a b c u xs n h.0, holes_quiet hs a b c u xs n h.1)
 
-    pairs_quiet : (ps : t.Pairs) (a : Around) (b : Allowed) → Here a b → is_spawned a.used ≡ false → (xs : Table) (n : ℕ) →
+    pairs_quiet : (ps : t.Pairs) (a : Around) (b : Allowed) → Here a b → is_spawned a.used ≡ false → (xs : Table)
+        (n : ℕ) →
         OnPairs (Found is) w n a xs ps → waits.NoPairWaits whole (sorted is) (suspending is) w.class ps
     pairs_quiet t.Pairs.no_pairs a b c u xs n h = tt
     pairs_quiet (t.Pairs.more_pairs e d ps) a b c u xs n h = (
@@ -258,7 +272,8 @@ module _ (is : List ItemTree) (arrays events : ℕ → Bool) (quiet : Quiet is) 
       pairs_quiet ps a b c u xs n h.2,
     )
 
-    givens_quiet : (gs : Givens) (a : Around) (b : Allowed) → Here a b → is_spawned a.used ≡ false → (xs : Table) (n : ℕ) →
+    givens_quiet : (gs : Givens) (a : Around) (b : Allowed) → Here a b → is_spawned a.used ≡ false → (xs : Table)
+        (n : ℕ) →
         OnGivens (Found is) w n a xs gs → waits.NoGivenWaits whole (sorted is) (suspending is) w.class gs
     givens_quiet no_givens a b c u xs n h = tt
     givens_quiet (more_givens x e gs) a b c u xs n h = (part_quiet e a b c u xs n h.0, givens_quiet gs a b c u xs n h.1)
@@ -270,7 +285,8 @@ module _ (is : List ItemTree) (arrays events : ℕ → Bool) (quiet : Quiet is) 
 
     target_shape_quiet : (x : Shape) (a : Around) (b : Allowed) → Here a b → is_spawned a.used ≡ false → (xs : Table)
         (n : ℕ) → OnShape (Found is) w n a xs x → waits.NoTargetWaitsIn whole (sorted is) (suspending is) w.class x
-    target_shape_quiet (t.Shape.member e x) a b c u xs n h = part_quiet e (used_as object a) b (used c object) refl xs n h
+    target_shape_quiet (t.Shape.member e x) a b c u xs n h = part_quiet e (used_as object a) b (used c object) refl xs n
+        h
     target_shape_quiet (t.Shape.index e ts) a b c u xs n h = (
       target_quiet e (around.indexed a) b (used c (around.indexed_use a.used)) (indexed_not_spawned a.used) xs n h.0,
       arguments_quiet ts a b c xs n (number_of_tree e) 0 h.1,
@@ -287,9 +303,11 @@ module _ (is : List ItemTree) (arrays events : ℕ → Bool) (quiet : Quiet is) 
         waits.NoSpawnedWaitsIn whole (sorted is) (suspending is) w.class x p
     spawned_shape_quiet (t.Shape.call e ts) a b c u xs n p h o = (
       spawned_stays is arrays events quiet functions w a xs b c.allows n p e (form.picking None) p
-          (ap (λ z. call_suspends z (Rattle.verse_accept_forms.proofs.CalleeKinds.effects_of is arrays events e)) (sym u)
+          (ap (λ z. call_suspends z (Rattle.verse_accept_forms.proofs.CalleeKinds.effects_of is arrays events e))
+          (sym u)
           ∙ settled c xs n p (t.Shape.call e ts) o) (no_call a xs n p e ts o)
-          (kind_of is arrays events w a xs b c.allows n p functions quiet names (form.picking None) p telling n (used_as callee a)
+          (kind_of is arrays events w a xs b c.allows n p functions quiet names (form.picking None) p telling n
+          (used_as callee a)
           e h.0),
       part_quiet e (used_as callee a) b (used c callee) refl xs n h.0,
       arguments_quiet ts a b c xs n (number_of_tree e) 0 h.1,

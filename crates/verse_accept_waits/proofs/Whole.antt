@@ -1,19 +1,16 @@
 -- A function without `suspends` is never suspended in an accepted program.
 use Rattle.std.proofs.Common.{◌≡◌, ◌∙◌, ℕ, Bool, false, true, List, [], Option, refl, sym, ap, subst}
 use Rattle.std.specs.Prelude.{Some, None, slice_get, option_map}
-use Rattle.verse_tree.specs.ItemTree.{FunTree, ItemTree}
+use Rattle.verse_tree.specs.ItemTree.{ItemTree}
 use Rattle.verse_tree.specs.Shapes.{ItemsShaped}
 use Rattle.verse_tree.specs.declared.tables.Effects.{Effects}
 use Rattle.verse_names_declarations.specs.Known.{known}
 use Rattle.verse_names_scopes.specs.Visible.{World}
-use Rattle.verse_rules.specs.Sound.{completed, IsSound}
+use Rattle.verse_rules.specs.Sound.{IsSound}
 use Rattle.verse_rules_walk.specs.Nodes.{round_body}
 use Rattle.verse_rules_walk.specs.Order.{InPostOrder, AreNumbered}
-use Rattle.verse_accept.specs.Fronts.{Accepts}
-use Rattle.verse_meaning.specs.Programs.{fun_at}
 use Rattle.verse_sorts.specs.Typing.{Are}
 use Rattle.verse_sound_rules.specs.Found.{Allowed, Signature}
-use Rattle.verse_sound_rules.specs.Programs.{FineProgram}
 use Rattle.verse_sound_waits.specs.Waits.{NoWaits}
 use Rattle.verse_sound_waits.specs.Calls.{Marked, CallsNeverRest}
 use Rattle.verse_accept_nodes.specs.Laws.{AcceptedShaped}
@@ -27,7 +24,7 @@ use Rattle.verse_accept_classes.specs.Laws.{Quiet, FunctionsStand}
 use Rattle.verse_accept_classes.proofs.Functions.{on_owned}
 use Rattle.verse_accept_classes.proofs.Tables.{names_stand, functions_found}
 use Rattle.verse_accept_fine.specs.Needs.{InnerAllowed}
-use Rattle.verse_accept_fine.specs.Sorted.{up, sorted, program, lasts, class_in, signature_of, Allows, written_sort}
+use Rattle.verse_accept_fine.specs.Sorted.{up, sorted, program, class_in, signature_of, Allows, written_sort}
 use Rattle.verse_accept_fine.proofs.Calls as calls
 use Rattle.verse_accept_trees.specs.Laws.{Told}
 use Rattle.verse_accept_programs.specs.Laws.{ProgramsAreFine}
@@ -93,14 +90,16 @@ module _ (inner : InnerAllowed) (is : List ItemTree) (arrays events : ℕ → Bo
   marked = record {
     bodies = λ g f e h.
         let o = functions.owner g f e in
-        subst (λ f. NoWaits (program is arrays events) (sorted is) (suspending is) ((sorted is).signature g).this f.body) o.2
+        subst (λ f. NoWaits (program is arrays events) (sorted is) (suspending is) ((sorted is).signature g).this
+        f.body) o.2
         (body_stays g o.0 o.1 h);
     overrides = λ c d g by m above e h s. same_suspending is arrays events quiet functions c d g by m above e h ∙ s;
   }
 
 pub accepted_never_rest : InPostOrder → AcceptedShaped → ProgramsAreFine → InnerAllowed → CallsNeverRest →
     AcceptedCallsNeverRest
-accepted_never_rest order shapes programs inner rest files is a arrays events told n fuel t g info function o vs m e w there
+accepted_never_rest order shapes programs inner rest files is a arrays events told n fuel t g info function o vs m e w
+    there
     at stays may this args kept =
     let sign : (sorted is).signature g ≡ signature_of (Some info) (class_in (slice_get (owned (known is).items) g)) =
     ap (λ i. signature_of i (class_in (slice_get (owned (known is).items) g))) there in
