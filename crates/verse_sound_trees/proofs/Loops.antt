@@ -140,7 +140,7 @@ module _ (p : Program) (f : Found) (top : Level) (fuel : ℕ) where
   between_next t q i a b true false h j = ((is_up f.up is_int h, subst (λ z. Is f.up t v.unit z) (sym j) is_any), (h, j))
   between_next t q i a b false y h j = tt
 
-  next_taken : (t : Typing) (q i : Sort) (vs : Values) → AreTaken t q i vs → NextTaken t q i (next_value vs)
+  pub next_taken : (t : Typing) (q i : Sort) (vs : Values) → AreTaken t q i vs → NextTaken t q i (next_value vs)
   next_taken t q i (listed []) h = tt
   next_taken t q i (listed (x ∷ xs)) h = (h.0, h.1)
   next_taken t q i (between a b) h = between_next t q i a b (int_le a b) (int_eq a b) h.0 h.1

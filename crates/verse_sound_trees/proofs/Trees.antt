@@ -470,7 +470,7 @@ module _ (p : Program) (f : Found) (top : Level) (fuel : ℕ) (known : Known p f
     shape_well x a xs n pl t e h see = absurd h
 
     -- statements in turn
-    all_typed : (ts : Trees) (d : Bool) (a : Allowed) (xs : Table) (y : Val) (q : Sort) (t : Typing) (e : Env) →
+    pub all_typed : (ts : Trees) (d : Bool) (a : Allowed) (xs : Table) (y : Val) (q : Sort) (t : Typing) (e : Env) →
         fine.FineAll p f d a xs ts → (l : Level) (g : ℕ) →
         Within top fuel l g → Ready l a.waits → Sees f t a.this xs e → Is f.up t y q → (w : World) → Kept p f l t w →
         Comes p f l (EndsIf p f d a.this (seen_after ts xs)) t a (last_sort p f q ts) (statements p (deeper p g) ts a.waits e y w)
@@ -490,7 +490,7 @@ module _ (p : Program) (f : Found) (top : Level) (fuel : ℕ) (known : Known p f
         (sort_at p f b) u e1 h.1 l1 g1 s1 r1 se j z k1) l g sp rd w k
 
     -- the part of a definition, and a deferred block
-    define_well : (b : Tree) (a : Allowed) (xs : Table) (t : Typing) (e : Env) (z : Binder) → statement_of b ≡ defines z →
+    pub define_well : (b : Tree) (a : Allowed) (xs : Table) (t : Typing) (e : Env) (z : Binder) → statement_of b ≡ defines z →
         fine.FineInner p f a xs b → Sees f t a.this xs e →
         WellOf t a (inner_sort p f b) (λ g w. inner p (deeper p g) b a.waits e w)
     define_well (tree n pl x) a xs t e z same h see = define_shape_well x a xs pl t e z same h see
@@ -575,7 +575,7 @@ module _ (p : Program) (f : Found) (top : Level) (fuel : ℕ) (known : Known p f
     domain_shape_well x a xs pl t e z same h see = absurd h
 
     -- the clauses of a `for`, up to a generator
-    clauses_typed : (ts : Trees) (a : Allowed) (xs : Table) (y : Val) (q : Sort) (t : Typing) (e : Env) →
+    pub clauses_typed : (ts : Trees) (a : Allowed) (xs : Table) (y : Val) (q : Sort) (t : Typing) (e : Env) →
         fine.FineClauses p f (tried a) xs ts → Sees f t a.this xs e →
         Is f.up t y q → (l : Level) (g : ℕ) → Within top fuel l g → (w : World) → Kept p f l t w →
         Comes p f l (λ u e. Sees f u a.this (head_names ts xs) e) t (tried a) (head_sort q ts) (clauses p (deeper p g) ts false e y w)
@@ -590,7 +590,7 @@ module _ (p : Program) (f : Found) (top : Level) (fuel : ℕ) (known : Known p f
         (λ u e1 y1 z gr se j k1. clauses_typed ts a (seen_behind b xs) y1 (sort_at p f b) u e1 h.1 se j l g sp z k1) w k
 
     -- a level of a `for`
-    level_typed : (ts : Trees) (a : Allowed) (xs : Table) (b : Tree) (y : Val) (q : Sort) (so_far : Val) (pl : Place) (t : Typing)
+    pub level_typed : (ts : Trees) (a : Allowed) (xs : Table) (b : Tree) (y : Val) (q : Sort) (so_far : Val) (pl : Place) (t : Typing)
         (e : Env) → fine.FineClauses p f (tried a) xs ts →
         BodyWell a (seen_after ts xs) b → (l : Level) (g : ℕ) → Within top fuel l g → Ready l a.waits →
         Sees f t a.this (head_names ts xs) e → Is f.up t y (head_sort q ts) →

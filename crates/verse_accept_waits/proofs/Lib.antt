@@ -1,0 +1,3 @@
+mod Callees
+mod Trees
+mod Whole

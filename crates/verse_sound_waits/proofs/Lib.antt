@@ -1,0 +1,6 @@
+mod Passing
+mod Defining
+mod Turns
+mod Forms
+mod Trees
+mod Calls
