@@ -71,5 +71,5 @@ module _ (p : Program) (f : Found) (n : ℕ) (leave : (g : ℕ) → ContextLeave
 pub calls_never_rest : FailedContextLeaves → ContextsUndo → CancellingLeaves → ContextsChangeNothing → CallsNeverRest
 calls_never_rest leave undo cancel agree p h suspends marked n fuel t g function o vs m e w at quiet may this args k =
     calls_stay p h.found n (λ g. leave p g) (λ g. undo p g) (λ g. cancel p g) (λ g. agree p g) h.fine suspends marked
-        fuel t
+    fuel t
     g function o vs m e w at quiet may this args k

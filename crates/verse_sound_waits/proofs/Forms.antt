@@ -109,8 +109,13 @@ module _ (p : Program) (f : Found) (n : ℕ) (leave : (g : ℕ) → ContextLeave
       Kept p f (turns n) t w → Stays ((deeper p g).defaults b m e w)
   defaults_stay zero t b q m e w h k = tt
   defaults_stay (suc g) t b q m e w h k = spends_stays p f n w w.state.clock.left _ k (λ z kz.
-      called_stays p (deeper p g) z.behind e _ (by m z (record { cells = kz.cells; clock = kz.clock; behind = tt; tasks
-          = kz.tasks })))
+      called_stays p (deeper p g) z.behind e _ (by m z (record {
+        cells = kz.cells;
+        clock = kz.clock;
+        behind = tt;
+        tasks
+            = kz.tasks;
+      })))
     where
       d : FineDefault p f b q
       d = fine.defaults b q h
@@ -221,7 +226,7 @@ module _ (p : Program) (f : Found) (n : ℕ) (leave : (g : ℕ) → ContextLeave
     apply_stays t e w x qs b vs see (r.takes_own c h {m} o j call) i are k = known_stays (this_of e) w _ (λ y is.
         let z = this_there p f o see.this in
         method_stays t e w c h m y vs j (i c h o j) call (subst (λ q. Is f.up t q (s.obj c)) (same z.0 y (sym z.1 ∙ is))
-            z.2)
+        z.2)
         are k)
       where
         same : (x y : Val) → Some x ≡ Some y → x ≡ y

@@ -248,10 +248,10 @@ module _ (p : Program) (f : Found) (n : ℕ) (leave : (g : ℕ) → ContextLeave
         all_stay ts true a xs v.unit u e h.0 m (sees_more f gr see) w k
     shape_stays (t.Shape.definition x b) a xs i pl t e h m see =
         list_rests a xs t e form.defining (sort_at p f b ∷ []) (f.sort i) (b ∷ []) h.1 tt see
-            (good b a xs t e h.0 m see, tt)
+        (good b a xs t e h.0 m see, tt)
     shape_stays (t.Shape.typed x y b) a xs i pl t e h m see =
         list_rests a xs t e form.defining (sort_at p f b ∷ []) (f.sort i) (b ∷ []) h.1 tt see
-            (good b a xs t e h.0 m see, tt)
+        (good b a xs t e h.0 m see, tt)
     shape_stays (t.Shape.variable x y b) a xs i pl t e h m see =
         list_rests a xs t e (form.varying pl) (sort_at p f b ∷ []) (f.sort i) (b ∷ []) h.1 tt see
         (good b a xs t e h.0 m see, tt)
@@ -266,7 +266,7 @@ module _ (p : Program) (f : Found) (n : ℕ) (leave : (g : ℕ) → ContextLeave
         (target_good b a xs t e h.0 m.0 see) (good d a xs t e h.1 m.1 see, tt)))
     shape_stays (t.Shape.returned b) a xs i pl t e h m see =
         list_rests a xs t e form.returning (sort_at p f b ∷ []) (f.sort i) (b ∷ []) h.1 tt see
-            (good b a xs t e h.0 m see, tt)
+        (good b a xs t e h.0 m see, tt)
     shape_stays t.Shape.returned_unit a xs i pl t e h m see = λ u w gr k. tt
     shape_stays t.Shape.break_form a xs i pl t e h m see = λ u w gr k. tt
     shape_stays (t.Shape.if_else ts b d) a xs i pl t e h m see = λ u w gr k.
@@ -324,7 +324,7 @@ module _ (p : Program) (f : Found) (n : ℕ) (leave : (g : ℕ) → ContextLeave
         (good b a xs t e h.0 m see, tt)
     shape_stays (t.Shape.query b) a xs i pl t e h m see =
         list_rests a xs t e form.querying (sort_at p f b ∷ []) (f.sort i) (b ∷ []) h.1 tt see
-            (good b a xs t e h.0 m see, tt)
+        (good b a xs t e h.0 m see, tt)
     shape_stays (t.Shape.member b x) a xs i pl t e h m see = λ u w gr k.
         membered_stays p (deeper p g) (enum_member p b x) e w _ _ _ h (λ j.
         list_rests a xs t e (member_form (ref_at p i) x) (sort_at p f b ∷ []) (f.sort i) (b ∷ []) j.1
@@ -332,7 +332,7 @@ module _ (p : Program) (f : Found) (n : ℕ) (leave : (g : ℕ) → ContextLeave
         gr k)
     shape_stays (t.Shape.call b ts) a xs i pl t e h m see = λ u w gr k.
         callee_stays p f suspends a.this (object_sort p f b) (deeper p g) (callee_of p b (picked ts) pl) w _ _ _ _ _ _ _
-            _
+        _
         h m.0
         (λ x j l. args_rest a xs t e x (f.sort i) ts j.1 (stays_any p f suspends a.this x (sorts_at p f ts) l) see
         (trees_good ts a xs t e j.0 m.2 see) u w gr k)
@@ -343,7 +343,7 @@ module _ (p : Program) (f : Found) (n : ℕ) (leave : (g : ℕ) → ContextLeave
         (λ x j l. quotient_rests ts a xs t e i x j l m.2 see u w gr k)
     shape_stays (t.Shape.index b ts) a xs i pl t e h m see = λ u w gr k.
         callee_stays p f suspends a.this (object_sort p f b) (deeper p g) (callee_of p b form.indexing pl) w _ _ _ _ _ _
-            _ _
+        _ _
         h m.0
         (λ x j l. args_rest a xs t e x (f.sort i) ts j.1 (stays_any p f suspends a.this x (sorts_at p f ts) l) see
         (trees_good ts a xs t e j.0 m.2 see) u w gr k)
