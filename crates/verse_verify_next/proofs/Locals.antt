@@ -1,9 +1,13 @@
 -- What stands in locals behind writes.
 use Rattle.std.proofs.Common.{◌≡◌, ℕ, zero, suc, ◌+◌, ◌<◌, ◌≤◌, List, [], ◌∷◌, length, set, true, false, cond, refl, sym, ap, ◌∙◌, arith}
-use Rattle.std.specs.Prelude.{Some, None}
+use Rattle.std.specs.Prelude.{Some, None, slice_get}
+use Rattle.std.specs.Option.{option_map}
+use Rattle.verse_sorts.specs.Typing.{at}
 use Rattle.verse_meaning_state.specs.Waits.{eqn}
 use Rattle.verse_code_machine.specs.Frames.{put}
 use Rattle.verse_verify_faults.specs.Stepping as t
+use Rattle.verse_verify_notes.specs.declared.sorts.Sort.{Sort}
+use Rattle.verse_verify_notes.specs.View.{sort_of, sorts_of}
 use Rattle.verse_verify_next.specs.declared.rows.Write.{Write}
 use Rattle.verse_verify_next.specs.Mades.{made_of, made_after, written, each_after}
 
@@ -81,3 +85,10 @@ put_past (x ∷ ls) zero m h = elim (none (length ls) h) [ ]
     none : (n : ℕ) → suc n ≤ 0 → ⊥
     none n h = omega (arith, h)
 put_past (x ∷ ls) (suc l) m h = rw (put_past ls l m (omega (arith, h)))
+
+-- what stands in a local
+pub at_local : (xs : List Sort) (n : ℕ) → at (sorts_of xs) n ≡ option_map sort_of (slice_get xs n)
+at_local [] zero = refl
+at_local [] (suc n) = refl
+at_local (x ∷ xs) zero = refl
+at_local (x ∷ xs) (suc n) = at_local xs n

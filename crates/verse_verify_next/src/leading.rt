@@ -269,7 +269,7 @@ fn is_of_block(spot: &Spot, entry: usize, other: &Spot) -> bool
 /// Whether a state is of a block that is deferred here, beneath which so many more are deferred
 /// than beneath the block here.
 fn is_of_new_block(here: &Here, entry: usize, count: usize, other: &Spot) -> bool
-    requires { count ≤ 4294967295 }
+    requires { count ≤ 9223372036854775807 }
     ensures { result ≡ of_part (spot_in here.now) entry
         (begins_block (names_in here.now) ((spot_in here.now).under + count))
         (spot_of other.now) }
@@ -293,7 +293,7 @@ fn is_of_new_block(here: &Here, entry: usize, count: usize, other: &Spot) -> boo
 /// block here; `back` where its locals must fit those here too.
 #[tactic(auto, using(crate::proofs::RuleSets::of_leading))]
 pub fn does_block_begin(here: &Here, entry: usize, count: usize, back: bool) -> bool
-    requires { count ≤ 4294967295 }
+    requires { count ≤ 9223372036854775807 }
     ensures { result ≡ suited here.now (block_begins here.now entry count back ∷ []) }
 {
     let Some(other) = here.spot_at(entry) else {

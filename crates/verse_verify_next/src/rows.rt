@@ -1,6 +1,8 @@
 //! Whether a next state has the locals that an operation leaves.
 
 ghost use Rattle.std.specs.Prelude.{◌≡◌, map};
+ghost use Rattle.std.specs.Option.{option_map};
+ghost use Rattle.verse_sorts.specs.Typing.{at};
 ghost use Rattle.verse_verify_faults.specs.Stepping as t;
 ghost use Rattle.verse_verify_faults.specs.Faults.{each_holds};
 ghost use Rattle.verse_verify_notes.specs.View.{sort_of, sorts_of, classes_of};
@@ -10,6 +12,14 @@ use crate::mades::{Made, holds};
 use verse_verify_notes::notes::ClassNote;
 use verse_verify_notes::sorts::Sort;
 use verse_verify_tables::numbers::is_same_number;
+
+/// The sort of a local, where it is there.
+#[tactic(auto, using(crate::proofs::Locals::at_local))]
+pub fn local_at(locals: &[Sort], local: usize) -> Option<&Sort>
+    ensures { option_map (λ a. sort_of a.now) result ≡ at (sorts_of locals.now) local }
+{
+    locals.get(local)
+}
 
 /// What an operation writes to a local.
 #[derive(Clone, Copy)]
