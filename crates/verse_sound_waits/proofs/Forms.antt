@@ -34,6 +34,7 @@ use Rattle.verse_sound_outcomes.specs.Going.{turns, Kept, Comes}
 use Rattle.verse_sound_outcomes.proofs.Names.{sees_more}
 use Rattle.verse_sound_outcomes.proofs.Worlds.{cells_of}
 use Rattle.verse_sound_outcomes.proofs.Going.{told_typed}
+use Rattle.verse_sorts_values.specs.Operands.{HasNever, never_here}
 use Rattle.verse_sound_forms.proofs.Lists.{no_never, Given, is_given, is_not_given, given_typed}
 use Rattle.verse_sound_forms.proofs.Objects.{Object_of, object_of, object_there}
 use Rattle.verse_sound_forms.proofs.Storing.{variable_told}
@@ -196,10 +197,22 @@ module _ (p : Program) (f : Found) (n : ℕ) (leave : (g : ℕ) → ContextLeave
             (subst (λ q. HasThis f t q (Some x)) (sym o.this) (this_is (is_up f.up y (fits_obj o.inherits))))
             (subst (λ q. Are f.up t vs q) (sym o.params) are) k))
 
+    -- what is spared has an operand that gives no value
+    spared_never : {x : Form} {qs : List Sort} → r.Spared p f a xs x qs → HasNever qs
+    spared_never (r.spared_operator h) = h
+    spared_never (r.spared_query h) = h
+    spared_never (r.spared_length h) = h
+    spared_never (r.spared_member h) = h
+    spared_never (r.spared_place os q place h) = h
+    spared_never r.spared_item = never_here
+    spared_never r.spared_index = never_here
+    spared_never r.spared_await = never_here
+    spared_never r.spared_signal = never_here
+
     pub apply_stays : (t : Typing) (e : Env) (w : World) (x : Form) (qs : List Sort) (b : Sort) (vs : List Val) →
         Sees f t a.this xs e → Takes p f a xs x qs b → FormStays p f suspends a.this x qs → Are f.up t vs qs →
         Kept p f (turns n) t w → Stays (apply p (deeper p g) x vs a.waits e w)
-    apply_stays t e w x qs b vs see (r.takes_never h) i are k = no_never f.up t h are
+    apply_stays t e w x qs b vs see (r.takes_never h) i are k = no_never f.up t (spared_never h) are
     apply_stays t e w x qs b vs see r.takes_and i (are_so j (are_so l are_no)) k = told_stays _ _ e w
     apply_stays t e w x qs b vs see r.takes_sum i (are_so j (are_so l are_no)) k = told_stays _ _ e w
     apply_stays t e w x qs b vs see r.takes_lists i (are_so j (are_so l are_no)) k = told_stays _ _ e w
