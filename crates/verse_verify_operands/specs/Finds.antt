@@ -1,5 +1,6 @@
 -- What an operation finds, as a result: what the definitions pass on, or the rule that they break.
 use Rattle.std.specs.Prelude.{ℕ, zero, suc, List, [], ◌∷◌, length, Option, Some, None, Result, Ok, Err, cond, nat_lt, slice_get}
+use Rattle.verse_code.specs.declared.operations.Op.{Op}
 use Rattle.verse_code.specs.declared.codes.Code.{Code}
 use Rattle.verse_sorts.specs.Sorts as s
 use Rattle.verse_sorts.specs.Sorts.{Sort}
@@ -7,7 +8,10 @@ use Rattle.verse_verify_kept.specs.Notes.{ClassNote, FuncNote}
 use Rattle.verse_verify_kept.specs.Rules.{at_sort}
 use Rattle.verse_verify_faults.specs.Spots.{Table}
 use Rattle.verse_verify_faults.specs.Stepping as t
-use Rattle.verse_verify_faults.specs.Stepping.{Stepped, Taking, breaks, slots_at, note_of, methods_of}
+use Rattle.verse_verify_faults.specs.Stepping.{Stepped, Taking, breaks, slots_at, note_of, methods_of, step}
+use Rattle.verse_verify_notes.specs.declared.sorts.Sort as made
+use Rattle.verse_verify_next.specs.declared.heres.Here.{Here}
+use Rattle.verse_verify_next.specs.Heres.{code_in, table_in, spot_in, operands, rule_by}
 use Rattle.verse_verify_next.specs.Mades.{made_of}
 use Rattle.verse_verify_operands.specs.declared.finding.Taking.{Taking as Takes}
 
@@ -69,3 +73,7 @@ written_of k = (t.is k.value, t.is k.beside, k.far, t.is k.last)
 
 abbrev pub writes_of : Takes → t.Made × t.Made × ℕ × t.Made
 writes_of k = (made_of k.value, made_of k.beside, k.far, made_of k.last)
+
+-- the least of V4 to V9 that an operation breaks where these are its operands
+abbrev pub broken : Here → Op → List made.Sort → Option ℕ
+broken h op st = rule_by h (step (code_in h) (table_in h) (spot_in h) h.index op (operands st))
