@@ -46,6 +46,18 @@ files_are_short() {
   [ -z "$long" ] || { echo "$long"; return 1; }
 }
 
+# Lines of code and definitions over 100 columns, and lines of proofs over 140, up to which `rt fmt` lays them out. Their
+# numbers stand in .ci/long_lines and only fall.
+longer_than() { LC_ALL=C.UTF-8 grep -cE ".{$(($1 + 1))}"; }
+
+no_more_lines_are_long() {
+  local now noted
+  now="$(git ls-files 'crates/*/src/*.rt' 'crates/*/specs/*.antt' | xargs cat | longer_than 100)"
+  now+=" $(git ls-files 'crates/*/proofs/*.antt' | xargs cat | longer_than 140)"
+  noted=$(cat .ci/long_lines)
+  [ "$now" = "$noted" ] || { echo "long lines: $now, and $noted in .ci/long_lines"; return 1; }
+}
+
 no_hole_is_left() { ! git grep -nE '(^|[^A-Za-z"])\?($|[^A-Za-z.])' -- 'crates/*/proofs/*.antt' 'crates/*/proofs/**/*.antt'; }
 
 nothing_made_is_kept() { ! git ls-files | grep -E '(^|/)out/|BUILD\.bazel$'; }
@@ -62,6 +74,7 @@ check each_crate_has_wrong_bodies
 check each_crate_is_described
 check figures_are_those_of_the_crates
 check files_are_short
+check no_more_lines_are_long
 check no_hole_is_left
 check nothing_made_is_kept
 check examples_are_named
