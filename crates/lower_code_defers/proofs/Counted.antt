@@ -43,8 +43,8 @@ same e le x = record {
   left = λ s h. x.left s (omega (arith, le, h));
 }
 
-pub as : {f : Maker} {n m : ℕ} → n ≡ m → Has f n → Has f m
-as e x = same e (omega (arith, e)) x
+pub so : {f : Maker} {n m : ℕ} → n ≡ m → Has f n → Has f m
+so e x = same e (omega (arith, e)) x
 
 -- ---- one behind the other
 
@@ -64,10 +64,10 @@ both {f = f} {g = g} {k = k} {j = j} x y = record {
 
 -- with what has none of them
 pub then_other : {f g : Maker} {n : ℕ} → Has f n → Has g 0 → Has (f then g) n
-then_other x y = as (omega arith) (both x y)
+then_other x y = so (omega arith) (both x y)
 
 pub other_then : {f g : Maker} {n : ℕ} → Has f 0 → Has g n → Has (f then g) n
-other_then x y = as (omega arith) (both x y)
+other_then x y = so (omega arith) (both x y)
 
 -- ---- single operations
 
@@ -103,7 +103,7 @@ sticks = record { begin = λ s. refl; end = λ s. refl; left = λ s h. absurd (o
 pub using_none : (n : ℕ) → Has (using_locals n) 0
 using_none n = record { begin = λ s. refl; end = λ s. refl; left = λ s h. absurd (omega (arith, h)) }
 
-pub if_so : {f : Maker} {n : ℕ} (b : Bool) → (b ≡ true → Has f 0) → Has (when b f) 0
+pub if_so : {f : Maker} (b : Bool) → (b ≡ true → Has f 0) → Has (when b f) 0
 if_so true x = let y = x refl in record { begin = y.begin; end = y.end; left = y.left }
 if_so false x = record { begin = λ s. refl; end = λ s. refl; left = λ s h. absurd (omega (arith, h)) }
 

@@ -24,7 +24,7 @@ use Rattle.verse_sound_rules.specs.Found as rules
 use Rattle.verse_sound_rules.specs.Fine.{Fine, FineShape, FineAll, FineClauses, FineInner, FineInnerOf, FineObject}
 use Rattle.verse_sound_rules.specs.Fine.{FineTrees, FineHoles, FinePairs, FineGivens, FineEach, FineArms, FineArm}
 use Rattle.verse_sound_rules.specs.Fine.{FineQuotient, FineTarget, FineSpawned, sort_at, inner_sort, inner_sort_of}
-use Rattle.verse_sound_rules.specs.Fine.{seen_behind, seen_after, on_statement, Defines, Generates}
+use Rattle.verse_sound_rules.specs.Fine.{seen_behind, seen_after, on_statement, Defines, Generates, IsEnumValue}
 use Rattle.lower_code.specs.declared.arounds.Around.{Around}
 use Rattle.lower_code.specs.Pieces.{Maker, one, when, ◌then◌}
 use Rattle.lower_code.specs.Scopes.{Scope, hidden, this_found}
@@ -39,7 +39,7 @@ use Rattle.lower_bounds.proofs.Lists.{Each, each_first, each_rest, node, own, in
 use Rattle.lower_bounds.proofs.Statements.{callee_fits, spawned_callee_fits, member_form_fits, picked_fits}
 use Rattle.lower_code_defers.specs.Counts.{defers_shape, defers_in}
 use Rattle.lower_code_defers.specs.Programs.{NodeShows, left_called, left_indexed, behind_first}
-use Rattle.lower_code_defers.proofs.Counted.{Counts, Has, same, as, both, then_other, other_then, none, just, at_place}
+use Rattle.lower_code_defers.proofs.Counted.{Counts, Has, same, so, both, then_other, other_then, none, just, at_place}
 use Rattle.lower_code_defers.proofs.Counted.{text, away, if_so, only, leave_if, numbered, before, one_of, loops, groups}
 use Rattle.lower_code_defers.proofs.Nodes.{count, many, joined, all_of, of_parts, typed_part, insides, none_defers}
 use Rattle.lower_code_defers.proofs.Nodes as nodes
@@ -99,7 +99,7 @@ module _ (p : Program) (differ : ℕ → ℕ → Bool) (f : Found) where
   -- two parts, one behind the other
   pair : {g h : Maker} (b c : Tree) → Has g (count b) → Has h (count c) →
       Has (g then h) (defers_in (post_order b ++ post_order c))
-  pair b c x y = as (sym (joined (post_order b) (post_order c))) (both x y)
+  pair b c x y = so (sym (joined (post_order b) (post_order c))) (both x y)
 
   -- a fine form is no `defer`
   fine_is : (a : Allowed) (xs : Table) (n : ℕ) (pl : Place) (x : Shape) → FineShape p f a xs n pl x → defers_shape x ≡ 0
@@ -109,7 +109,7 @@ module _ (p : Program) (differ : ℕ → ℕ → Bool) (f : Found) where
   -- the code of the parts of a form that is no `defer`, as that of the form
   form_counts : {g : Maker} (n : ℕ) (pl : Place) (x : Shape) → defers_shape x ≡ 0 → Has g (defers_in (parts x)) →
       Has g (count (tree n pl x))
-  form_counts n pl x e h = as (of_parts n pl x e) h
+  form_counts n pl x e h = so (of_parts n pl x e) h
 
   statement_counts : {g : Maker} (n : ℕ) (pl : Place) (x : Shape) → defers_shape x ≡ 0 → Has g (defers_in (parts x)) →
       Counts g (count (tree n pl x)) (defers_in (parts x))
@@ -129,8 +129,8 @@ module _ (p : Program) (differ : ℕ → ℕ → Bool) (f : Found) where
     shape_counts (t.Shape.definition y b) n pl v u a xs sc z h =
         then_other (counts b u a xs sc z h.0) (binds p differ (a_constant y) _)
     shape_counts (t.Shape.typed y w b) n pl v u a xs sc z h =
-        as (typed_part w b) (then_other (counts b (behind_type w b u) a xs sc z h.0) (binds p differ (a_constant y) _))
-    shape_counts (t.Shape.variable y w b) n pl v u a xs sc z h = as (typed_part w b)
+        so (typed_part w b) (then_other (counts b (behind_type w b u) a xs sc z h.0) (binds p differ (a_constant y) _))
+    shape_counts (t.Shape.variable y w b) n pl v u a xs sc z h = so (typed_part w b)
         (then_other (counts b (behind_type w b u) a xs sc z h.0) (binds p differ (a_variable y pl) _))
     shape_counts (t.Shape.assignment y b c) n pl v u a xs sc z h =
         pair b c (target_counts b (left b c u) (base_of p b) a xs sc z h.0)
@@ -143,14 +143,14 @@ module _ (p : Program) (differ : ℕ → ℕ → Bool) (f : Found) where
     -- failure contexts
     shape_counts (t.Shape.if_else ts b c) n pl v u a xs sc z h =
         let w = each_first (NodeShows p) (trees_order ts ++ post_order b) (post_order c) u in
-        as (omega (arith, joined (trees_order ts ++ post_order b) (post_order c), joined (trees_order ts) (post_order b)))
+        so (omega (arith, joined (trees_order ts ++ post_order b) (post_order c), joined (trees_order ts) (post_order b)))
         (one_of o.Try (λ m. (refl, refl))
         (both (all_counts ts (conditions ts b w) false (tried a) xs sc (enclosed z) h.0)
         (other_then (just o.Drop (refl, refl)) (other_then (just o.Commit (refl, refl))
         (counts b (behind_all ts b w) a (seen_after ts xs) (scope_behind ts sc) z h.1))))
         (counts c (each_rest (NodeShows p) (trees_order ts ++ post_order b) (post_order c) u) a xs sc z h.2))
     shape_counts (t.Shape.if_alone ts b) n pl v u a xs sc z h =
-        as (omega (arith, joined (trees_order ts) (post_order b)))
+        so (omega (arith, joined (trees_order ts) (post_order b)))
         (one_of o.Try (λ m. (refl, refl))
         (both (all_counts ts (conditions ts b u) false (tried a) xs sc (enclosed z) h.0)
         (other_then (just o.Drop (refl, refl)) (other_then (just o.Commit (refl, refl))
@@ -161,21 +161,21 @@ module _ (p : Program) (differ : ℕ → ℕ → Bool) (f : Found) where
         (other_then (just o.Drop (refl, refl)) (other_then (just o.Undo (refl, refl)) (just o.Fail (refl, refl))))))
         (just o.Unit (refl, refl))
     shape_counts (t.Shape.option ts) n pl v u a xs sc z h =
-        as (omega arith) (one_of o.Try (λ m. (refl, refl))
+        so (omega arith) (one_of o.Try (λ m. (refl, refl))
         (then_other (all_counts ts u false (tried a) xs sc (enclosed z) h.0)
         (other_then (just o.Commit (refl, refl)) (at_place pl o.Some (λ m. (refl, refl)))))
         (just o.False (refl, refl)))
     shape_counts (t.Shape.logic ts) n pl v u a xs sc z h =
-        as (omega arith) (one_of o.Try (λ m. (refl, refl))
+        so (omega arith) (one_of o.Try (λ m. (refl, refl))
         (then_other (all_counts ts u false (tried a) xs sc (enclosed z) h.0) (other_then (just o.Drop (refl, refl))
         (other_then (just o.Commit (refl, refl)) (just o.True (refl, refl)))))
         (just o.False (refl, refl)))
     shape_counts (t.Shape.chained op.Or b c) n pl v u a xs sc z h =
-        as (sym (joined (post_order b) (post_order c))) (one_of o.Try (λ m. (refl, refl))
+        so (sym (joined (post_order b) (post_order c))) (one_of o.Try (λ m. (refl, refl))
         (then_other (counts b (left b c u) (tried a) xs sc (enclosed z) h.0) (just o.Commit (refl, refl)))
         (counts c (right b c u) a xs sc z h.1))
     shape_counts (t.Shape.for_form ts b) n pl v u a xs sc z h =
-        as (sym (joined (trees_order ts) (post_order b))) (numbered pl _ (λ m.
+        so (sym (joined (trees_order ts) (post_order b))) (numbered pl _ (λ m.
         other_then (just (o.Array 0 m) (refl, refl)) (other_then (away _) (then_other (before o.Try (λ m. (refl, refl))
         (levels_counts ts (conditions ts b u) (tried a) xs (hidden ∷ sc) (enclosed z) h.0
         (λ sc2. other_then (just o.Commit (refl, refl)) (then_other
@@ -204,7 +204,7 @@ module _ (p : Program) (differ : ℕ → ℕ → Bool) (f : Found) where
         then_other (counts b u a xs sc z h.0) (finishes_so p differ form.querying 1 tt)
     -- members, calls, indices
     shape_counts (t.Shape.member b y) n pl v u a xs sc z h =
-        by_member p differ b (enum_member p b y) h v (λ k. then_other (counts b u a xs sc z k.0)
+        by_member p differ b (enum_member p b y) (λ w. IsEnumValue p f (f.sort n) w) h v (λ k. then_other (counts b u a xs sc z k.0)
         (finishes_so p differ (member_form (ref_at p n) y) 1 (member_form_fits (quiet p differ) (ref_at p n) y).1))
     shape_counts (t.Shape.call b ts) n pl v u a xs sc z h =
         let first = first_tree b ts u in
@@ -214,14 +214,14 @@ module _ (p : Program) (differ : ℕ → ℕ → Bool) (f : Found) where
         by_kind p differ b ts k
         (callee_fits (quiet p differ) b (picked ts) pl tt (picked_fits (quiet p differ) ts))
         (callee_none p b (picked ts) pl) h (left_so k ts v)
-        (λ x i g. as (omega (arith, sum, i)) (other_then (starts p differ x sc)
+        (λ x i g. so (omega (arith, sum, i)) (other_then (starts p differ x sc)
         (then_other (args_counts ts rest a xs sc (started x z) g.0) (finishes_alone p differ x (how_many ts) sc))))
-        (λ x i g. as (omega (arith, sum)) (both (object_counts b first a xs sc z g.0)
+        (λ x i g. so (omega (arith, sum)) (both (object_counts b first a xs sc z g.0)
         (then_other (args_counts ts rest a xs sc (up z) g.1) (finishes_so p differ x (how_many ts) i))))
         (λ x e i g.
         let none : many ts ≡ 0 = subst (λ y. defers_in (left_called y ts) ≡ 0) e v in
-        as (omega (arith, sum, none)) (then_other (counts b first a xs sc z g.0) (finishes_so p differ x 0 i)))
-        (λ x i e w g. as (omega (arith, sum, e)) (then_other (quotient_counts ts rest a xs sc z n x w g)
+        so (omega (arith, sum, none)) (then_other (counts b first a xs sc z g.0) (finishes_so p differ x 0 i)))
+        (λ x i e w g. so (omega (arith, sum, e)) (then_other (quotient_counts ts rest a xs sc z n x w g)
         (finishes_so p differ x 2 i)))
     shape_counts (t.Shape.index b ts) n pl v u a xs sc z h =
         let first = first_tree b ts u in
@@ -229,13 +229,13 @@ module _ (p : Program) (differ : ℕ → ℕ → Bool) (f : Found) where
         let sum = joined (post_order b) (trees_order ts) in
         by_kind p differ b ts (callee_of p b form.indexing pl)
         (callee_fits (quiet p differ) b form.indexing pl tt (tt, tt)) (callee_none p b form.indexing pl) h v
-        (λ x i g. as (omega (arith, sum, i)) (other_then (starts p differ x sc)
+        (λ x i g. so (omega (arith, sum, i)) (other_then (starts p differ x sc)
         (then_other (args_counts ts rest a xs sc (started x z) g.0) (finishes_alone p differ x (how_many ts) sc))))
-        (λ x i g. as (omega (arith, sum)) (both (object_counts b first a xs sc z g.0)
+        (λ x i g. so (omega (arith, sum)) (both (object_counts b first a xs sc z g.0)
         (then_other (args_counts ts rest a xs sc (up z) g.1) (finishes_so p differ x (how_many ts) i))))
-        (λ x e i g. as (omega (arith, sum)) (both (counts b first a xs sc z g.0)
+        (λ x e i g. so (omega (arith, sum)) (both (counts b first a xs sc z g.0)
         (then_other (args_counts ts rest a xs sc (up z) g.1) (finishes_so p differ x (how_many ts) i))))
-        (λ x i e w g. as (omega (arith, sum, e)) (then_other (quotient_counts ts rest a xs sc z n x w g)
+        (λ x i e w g. so (omega (arith, sum, e)) (then_other (quotient_counts ts rest a xs sc z n x w g)
         (finishes_so p differ x 2 i)))
     -- literals and names
     shape_counts (t.Shape.integer y) n pl v u a xs sc z h = just (o.Int y) (refl, refl)
@@ -258,13 +258,13 @@ module _ (p : Program) (differ : ℕ → ℕ → Bool) (f : Found) where
     shape_counts (t.Shape.instance y gs) n pl v u a xs sc z h =
         makes p differ (class_ref p (ref_at p n)) h.0 pl gs (length sc) h.1 (givens_counts gs u a xs sc z h.2)
     shape_counts (t.Shape.event w) n pl v u a xs sc z h =
-        as (sym (nodes.written_none w)) (at_place pl o.Event (λ m. (refl, refl)))
+        so (sym (nodes.written_none w)) (at_place pl o.Event (λ m. (refl, refl)))
     shape_counts t.Shape.bare_event n pl v u a xs sc z h = at_place pl o.Event (λ m. (refl, refl))
     -- loops and blocks
     shape_counts (t.Shape.loop_form b) n pl v u a xs sc z h = loops (counts b u (rules.looped h.0 a) xs sc (looped z) h.1)
     shape_counts (t.Shape.block_form b) n pl v u a xs sc z h = counts b u a xs sc z h.0
     shape_counts (t.Shape.cases b ts) n pl v u a xs sc z h =
-        as (sym (joined (post_order b) (trees_order ts))) (both (counts b (first_tree b ts u) a xs sc z h.0)
+        so (sym (joined (post_order b) (trees_order ts))) (both (counts b (first_tree b ts u) a xs sc z h.0)
         (other_then (away _) (arms_counts ts (rest_trees b ts u) (length sc) a xs (hidden ∷ sc) z (sort_at p f b)
         (f.sort n) h.1)))
     -- tasks
@@ -331,10 +331,10 @@ module _ (p : Program) (differ : ℕ → ℕ → Bool) (f : Found) where
         statement_counts n pl (t.Shape.definition y b) refl (counts b u a xs sc z h.0)
     statement_parts (t.Shape.typed y w b) n pl u m a xs sc z k h =
         statement_counts n pl (t.Shape.typed y w b) refl
-        (as (typed_part w b) (counts b (behind_type w b u) a xs sc z h.0))
+        (so (typed_part w b) (counts b (behind_type w b u) a xs sc z h.0))
     statement_parts (t.Shape.variable y w b) n pl u m a xs sc z k h =
         statement_counts n pl (t.Shape.variable y w b) refl
-        (as (typed_part w b) (counts b (behind_type w b u) a xs sc z h.0))
+        (so (typed_part w b) (counts b (behind_type w b u) a xs sc z h.0))
     statement_parts (t.Shape.defer b) n pl u m a xs sc z k h = (
       counts b u (deferred a) xs sc (enclosed z) h.1,
       omega (arith, all_of n pl (t.Shape.defer b)),
@@ -348,12 +348,12 @@ module _ (p : Program) (differ : ℕ → ℕ → Bool) (f : Found) where
     levels_counts : (ts : Trees) → AllOf ts → (a : Allowed) (xs : Table) (sc : Scope) (z : Around) →
         FineClauses p f a xs ts → {body : Scope → Maker} {r : ℕ} → ((sc : Scope) → Has (body sc) r) →
         Has (levels p differ ts sc z body) (many ts + r)
-    levels_counts no_trees u a xs sc z h k = as (omega arith) (k sc)
+    levels_counts no_trees u a xs sc z h k = so (omega arith) (k sc)
     levels_counts (more_trees (tree n pl x) ts) u a xs sc z h k =
         let w = first_tree (tree n pl x) ts u in
-        as (omega (arith, joined (post_order (tree n pl x)) (trees_order ts)))
+        so (omega (arith, joined (post_order (tree n pl x)) (trees_order ts)))
         (clauses_one p differ (statement_of_shape x pl) sc (shape_piece p differ x n pl sc z) (inner_shape p differ x sc z)
-        (clause_parts x n pl (inside (NodeShows p) n pl x w) a xs sc z
+        (count (tree n pl x)) (clause_parts x n pl (inside (NodeShows p) n pl x w) a xs sc z
         (λ i. shape_counts x n pl (own (NodeShows p) n pl x w) (inside (NodeShows p) n pl x w) a xs sc z i) h.0)
         (λ sc2. levels_counts ts (rest_trees (tree n pl x) ts u) a (seen_behind (tree n pl x) xs) sc2 z h.1 k))
 
@@ -369,9 +369,9 @@ module _ (p : Program) (differ : ℕ → ℕ → Bool) (f : Found) where
     clause_parts (t.Shape.definition y b) n pl u a xs sc z k h =
         form_counts n pl (t.Shape.definition y b) refl (counts b u a xs sc z h.0)
     clause_parts (t.Shape.typed y w b) n pl u a xs sc z k h = form_counts n pl (t.Shape.typed y w b) refl
-        (as (typed_part w b) (counts b (behind_type w b u) a xs sc z h.0))
+        (so (typed_part w b) (counts b (behind_type w b u) a xs sc z h.0))
     clause_parts (t.Shape.variable y w b) n pl u a xs sc z k h = form_counts n pl (t.Shape.variable y w b) refl
-        (as (typed_part w b) (counts b (behind_type w b u) a xs sc z h.0))
+        (so (typed_part w b) (counts b (behind_type w b u) a xs sc z h.0))
     clause_parts (t.Shape.defer b) n pl u a xs sc z k h = h
     clause_parts (t.Shape.elements y b) n pl u a xs sc z k h =
         form_counts n pl (t.Shape.elements y b) refl (counts b u a xs sc z h.0)
@@ -392,13 +392,13 @@ module _ (p : Program) (differ : ℕ → ℕ → Bool) (f : Found) where
     args_counts : (ts : Trees) → AllOf ts → (a : Allowed) (xs : Table) (sc : Scope) (z : Around) →
         FineTrees p f a xs ts → Has (args p differ ts sc z) (many ts)
     args_counts no_trees u a xs sc z h = none
-    args_counts (more_trees b ts) u a xs sc z h = as (sym (joined (post_order b) (trees_order ts)))
+    args_counts (more_trees b ts) u a xs sc z h = so (sym (joined (post_order b) (trees_order ts)))
         (both (counts b (first_tree b ts u) a xs sc z h.0) (args_counts ts (rest_trees b ts u) a xs sc (up z) h.1))
 
     holes_counts : (hs : Holes) → Each (NodeShows p) (holes_order hs) → (a : Allowed) (xs : Table) (sc : Scope)
         (z : Around) → FineHoles p f a xs hs → Has (holed p differ hs sc z) (defers_in (holes_order hs))
     holes_counts no_holes u a xs sc z h = none
-    holes_counts (more_holes b bs hs) u a xs sc z h = as (sym (joined (post_order b) (holes_order hs)))
+    holes_counts (more_holes b bs hs) u a xs sc z h = so (sym (joined (post_order b) (holes_order hs)))
         (both (counts b (each_first (NodeShows p) (post_order b) (holes_order hs) u) a xs sc z h.0)
         (other_then (texts bs) (holes_counts hs (each_rest (NodeShows p) (post_order b) (holes_order hs) u) a xs sc
         (raised (suc (one_if (is_text bs) 0)) z) h.1)))
@@ -408,7 +408,7 @@ module _ (p : Program) (differ : ℕ → ℕ → Bool) (f : Found) where
     pairs_counts t.Pairs.no_pairs u a xs sc z h = none
     pairs_counts (t.Pairs.more_pairs b c ps) u a xs sc z h =
         let w = each_first (NodeShows p) (post_order b ++ post_order c) (pairs_order ps) u in
-        as (omega (arith, joined (post_order b ++ post_order c) (pairs_order ps), joined (post_order b) (post_order c)))
+        so (omega (arith, joined (post_order b ++ post_order c) (pairs_order ps), joined (post_order b) (post_order c)))
         (both (counts b (left b c w) a xs sc z h.0) (both (counts c (right b c w) a xs sc (up z) h.1)
         (pairs_counts ps (each_rest (NodeShows p) (post_order b ++ post_order c) (pairs_order ps) u) a xs sc (up (up z))
         h.2)))
@@ -416,7 +416,7 @@ module _ (p : Program) (differ : ℕ → ℕ → Bool) (f : Found) where
     givens_counts : (gs : Givens) → Each (NodeShows p) (givens_order gs) → (a : Allowed) (xs : Table) (sc : Scope)
         (z : Around) → FineGivens p f a xs gs → Has (given_args p differ gs sc z) (defers_in (givens_order gs))
     givens_counts no_givens u a xs sc z h = none
-    givens_counts (more_givens y b gs) u a xs sc z h = as (sym (joined (post_order b) (givens_order gs)))
+    givens_counts (more_givens y b gs) u a xs sc z h = so (sym (joined (post_order b) (givens_order gs)))
         (both (counts b (each_first (NodeShows p) (post_order b) (givens_order gs) u) a xs sc z h.0)
         (other_then (away _) (givens_counts gs (each_rest (NodeShows p) (post_order b) (givens_order gs) u) a xs
         (hidden ∷ sc) z h.1)))
@@ -427,7 +427,7 @@ module _ (p : Program) (differ : ℕ → ℕ → Bool) (f : Found) where
     quotient_counts no_trees u a xs sc z n x e h = elim h [ ]
     quotient_counts (more_trees (tree m q (t.Shape.chained y b c)) ts) u a xs sc z n x e h =
         let w = inside (NodeShows p) m q (t.Shape.chained y b c) (first_tree (tree m q (t.Shape.chained y b c)) ts u) in
-        as (omega (arith, joined (post_order (tree m q (t.Shape.chained y b c))) (trees_order ts),
+        so (omega (arith, joined (post_order (tree m q (t.Shape.chained y b c))) (trees_order ts),
         all_of m q (t.Shape.chained y b c), joined (post_order b) (post_order c), e))
         (both (counts b (left b c w) a xs sc z h.0) (counts c (right b c w) a xs sc (up z) h.1))
     quotient_counts (more_trees (tree m q y) ts) u a xs sc z n x e h = elim h [ ]
@@ -440,7 +440,7 @@ module _ (p : Program) (differ : ℕ → ℕ → Bool) (f : Found) where
         (counts b (inside (NodeShows p) n pl (t.Shape.member b y) u) a xs sc z h)
     target_counts (tree n pl (t.Shape.index b ts)) u base a xs sc z h =
         let w = inside (NodeShows p) n pl (t.Shape.index b ts) u in
-        form_counts n pl (t.Shape.index b ts) refl (as (sym (joined (post_order b) (trees_order ts)))
+        form_counts n pl (t.Shape.index b ts) refl (so (sym (joined (post_order b) (trees_order ts)))
         (both (target_counts b (first_tree b ts w) base a xs sc z h.0)
         (args_counts ts (rest_trees b ts w) a xs sc (up (raised (target_operands b) z)) h.1)))
     target_counts (tree n pl x) u base a xs sc z h = elim h [ ]
@@ -450,11 +450,11 @@ module _ (p : Program) (differ : ℕ → ℕ → Bool) (f : Found) where
         FineArms p f a xs q r ts → Has (arms p differ ts k sc z) (many ts)
     arms_counts no_trees u k a xs sc z q r h = elim h [ ]
     arms_counts (more_trees b no_trees) u k a xs sc z q r h =
-        as (omega (arith, joined (post_order b) []))
+        so (omega (arith, joined (post_order b) []))
         (arm_counts b no_trees (first_tree b no_trees u) k a xs sc z q r (arms p differ no_trees k sc z) 0 h.0 refl
         (λ e. absurd (cc)))
     arms_counts (more_trees b (more_trees c ts)) u k a xs sc z q r h =
-        as (sym (joined (post_order b) (trees_order (more_trees c ts))))
+        so (sym (joined (post_order b) (trees_order (more_trees c ts))))
         (arm_counts b (more_trees c ts) (first_tree b (more_trees c ts) u) k a xs sc z q r
         (arms p differ (more_trees c ts) k sc z) (many (more_trees c ts)) h.0 refl
         (λ e. arms_counts (more_trees c ts) (rest_trees b (more_trees c ts) u) k a xs sc z q r h.1))
@@ -465,12 +465,12 @@ module _ (p : Program) (differ : ℕ → ℕ → Bool) (f : Found) where
     arm_counts (tree n pl (t.Shape.arm b c)) no_trees u k a xs sc z q r rest i h e y =
         let w = inside (NodeShows p) n pl (t.Shape.arm b c) u in
         let v = own (NodeShows p) n pl (t.Shape.arm b c) u in
-        as (omega (arith, all_of n pl (t.Shape.arm b c), joined (post_order b) (post_order c), v, e))
+        so (omega (arith, all_of n pl (t.Shape.arm b c), joined (post_order b) (post_order c), v, e))
         (last_arm p differ b k (piece p differ c sc z) rest (counts c (right b c w) a xs sc z h.0))
     arm_counts (tree n pl (t.Shape.arm b c)) (more_trees d ts) u k a xs sc z q r rest i h e y =
         let w = inside (NodeShows p) n pl (t.Shape.arm b c) u in
         let v = own (NodeShows p) n pl (t.Shape.arm b c) u in
-        as (omega (arith, all_of n pl (t.Shape.arm b c), joined (post_order b) (post_order c), v))
+        so (omega (arith, all_of n pl (t.Shape.arm b c), joined (post_order b) (post_order c), v))
         (one_arm p differ b k (counts c (right b c w) a xs sc z h.0) (y refl))
     arm_counts (tree n pl x) ts u k a xs sc z q r rest i h e y = elim h [ ]
 
@@ -478,7 +478,7 @@ module _ (p : Program) (differ : ℕ → ℕ → Bool) (f : Found) where
     tasks_counts : (ts : Trees) → AllOf ts → (a : Allowed) (xs : Table) (sc : Scope) → FineTrees p f (armed a) xs ts →
         Has (task_arms p differ ts sc) (many ts)
     tasks_counts no_trees u a xs sc h = none
-    tasks_counts (more_trees b ts) u a xs sc h = as (sym (joined (post_order b) (trees_order ts)))
+    tasks_counts (more_trees b ts) u a xs sc h = so (sym (joined (post_order b) (trees_order ts)))
         (both (then_other (counts b (first_tree b ts u) (armed a) xs sc fresh h.0) (just o.ArmEnd (refl, refl)))
         (tasks_counts ts (rest_trees b ts u) a xs sc h.1))
 
@@ -494,9 +494,9 @@ module _ (p : Program) (differ : ℕ → ℕ → Bool) (f : Found) where
         form_counts m pl (t.Shape.call b ts) refl (by_kind p differ b ts (spawned_callee k)
         (spawned_callee_fits (quiet p differ) k (callee_fits (quiet p differ) b none pl tt (tt, tt)))
         (spawned_none k b (callee_none p b none pl)) h (spawned_left k ts)
-        (λ x i g. as (omega (arith, sum, i)) (other_then (starts p differ x sc)
+        (λ x i g. so (omega (arith, sum, i)) (other_then (starts p differ x sc)
         (then_other (args_counts ts rest a xs sc (started x z) g.0) (finishes_alone p differ x (how_many ts) sc))))
-        (λ x i g. as (omega (arith, sum)) (both (object_counts b (first_tree b ts w) a xs sc z g.0)
+        (λ x i g. so (omega (arith, sum)) (both (object_counts b (first_tree b ts w) a xs sc z g.0)
         (then_other (args_counts ts rest a xs sc (up z) g.1) (finishes_so p differ x (how_many ts) i))))
         (λ x e i g. elim g [ ])
         (λ x i e v g. elim g [ ]))

@@ -26,7 +26,7 @@ use Rattle.lower_bounds.proofs.Leaves.{NoCall}
 use Rattle.lower_bounds.proofs.Statements.{CalleeFits}
 use Rattle.lower_code_defers.specs.Counts.{defers_in}
 use Rattle.lower_code_defers.specs.Programs.{left_object, behind_first, left_indexed}
-use Rattle.lower_code_defers.proofs.Counted.{Counts, Has, same, as, both, then_other, other_then, just, at_place, text}
+use Rattle.lower_code_defers.proofs.Counted.{Counts, Has, same, so, both, then_other, other_then, just, at_place, text}
 use Rattle.lower_code_defers.proofs.Counted.{sticks, before, one_of, deferred, turns}
 use Rattle.lower_code_defers.proofs.Nodes.{count, many}
 use Rattle.lower_code_defers.proofs.Others.{quiet, enum_other, binds, fields_other}
@@ -102,12 +102,12 @@ module _ (p : Program) (differ : ℕ → ℕ → Bool) where
 
   -- ---- members
 
-  pub by_member : (b : Tree) (w : Option Val) {is_value : Val → Type 0} {as_object : Type 0} {m : Maker} →
+  pub by_member : (b : Tree) (w : Option Val) (is_value : Val → Type 0) {as_object : Type 0} {m : Maker} →
       on_member w is_value as_object → defers_in (left_object w b) ≡ 0 → (as_object → Has m (count b)) →
       Has (membered p differ w m) (count b)
   unfolding membered
-  by_member b (Some w) h v k = as (sym v) (enum_other p differ w)
-  by_member b None h v k = k h
+  by_member b (Some w) is_value h v k = so (sym v) (enum_other p differ w)
+  by_member b None is_value h v k = k h
 
   -- ---- statements
 
@@ -127,15 +127,15 @@ module _ (p : Program) (differ : ℕ → ℕ → Bool) where
   takes_from (of_range x) l h = turns (o.Range l) l (refl, refl) h
 
   -- a clause of a `for`, with what is behind it
-  pub clauses_one : (s : Statement) (sc : Scope) (whole inner : Maker) {rest : Scope → Maker} {n r : ℕ} →
+  pub clauses_one : (s : Statement) (sc : Scope) (whole inner : Maker) (n : ℕ) {rest : Scope → Maker} {r : ℕ} →
       on_statement s (Has whole n) (λ y. Has inner n) (λ d. ⊥) (λ y. Has inner n) →
       ((sc : Scope) → Has (rest sc) r) → Has (claused p differ s sc whole inner rest) (n + r)
   unfolding claused
-  clauses_one plain sc whole inner h k = both h (other_then (just o.Drop (refl, refl)) (k sc))
-  clauses_one (defines b) sc whole inner h k =
+  clauses_one plain sc whole inner n h k = both h (other_then (just o.Drop (refl, refl)) (k sc))
+  clauses_one (defines b) sc whole inner n h k =
       both h (other_then (binds p differ b _) (other_then (just o.Drop (refl, refl)) (k (with_binder b sc))))
-  clauses_one (defers d) sc whole inner h k = elim h [ ]
-  clauses_one (generates y) sc whole inner h k = both h (takes_from y _ (k (with_generator y sc)))
+  clauses_one (defers d) sc whole inner n h k = elim h [ ]
+  clauses_one (generates y) sc whole inner n h k = both h (takes_from y _ (k (with_generator y sc)))
 
   -- ---- arms of a `case`
 

@@ -1,6 +1,6 @@
 -- What stands for no tree of its own has no operation of a deferred block but what leaves it.
 use Rattle.std.proofs.Common.{◌≡◌, ℕ, suc, ◌+◌, ◌≤◌, Bool, true, false, nat_lt, Option, Some, None, refl, sym, true≢false}
-use Rattle.std.proofs.Common.{length}
+use Rattle.std.proofs.Common.{length, arith}
 use Rattle.verse_base.specs.declared.places.Place.{Place}
 use Rattle.verse_tree.specs.Tree.{Bytes, Tree, Givens}
 use Rattle.verse_tree.specs.PostOrder.{Node}
@@ -26,7 +26,7 @@ use Rattle.lower_bounds.proofs.Leaves.{FormFits, Calls, NoCall, fits_call, no_ca
 use Rattle.lower_bounds.proofs.Leaves.{base_code_kept, start_kept, storing_kept, returning_kept, breaking_kept}
 use Rattle.lower_bounds.proofs.Statements.{BinderFits, bind_kept, enum_op_kept, field_ops_kept}
 use Rattle.lower_code_defers.specs.Counts.{begins, ends}
-use Rattle.lower_code_defers.proofs.Counted.{IsOther, Has, as, both, none, just, at_place, text, away, jumps, sticks, if_so}
+use Rattle.lower_code_defers.proofs.Counted.{IsOther, Has, so, both, none, just, at_place, text, away, jumps, sticks, if_so}
 use Rattle.lower_code_defers.proofs.Counted.{leave, numbered, before, one_of, loops, turns, groups}
 
 -- an operation with a code below 64
@@ -50,7 +50,7 @@ module _ (p : Program) (differ : ℕ → ℕ → Bool) where
   pub quiet : Kept p differ (λ v. ⊥) (λ a. Unit {0}) (λ k l h n f. Has f 0) (λ pl. Unit {0}) (λ bs. Unit {0}) ⊥
   quiet = record {
     wider = λ l h n x. x;
-    over = λ d x y v w. as (omega arith) (both x y);
+    over = λ d x y v w. so (omega arith) (both x y);
     lower = λ v w x. x;
     none = none;
     op = λ op b. just op (other op b.1);
@@ -67,7 +67,7 @@ module _ (p : Program) (differ : ℕ → ℕ → Bool) where
     leave = λ n x. absurd x;
     deferred = λ d x. absurd d;
     ahead = λ op b x. before op (λ m. other (op m) (b m).1) x;
-    either = λ op b x y. as (omega arith) (one_of op (λ m. other (op m) (b m).1) x y);
+    either = λ op b x y. so (omega arith) (one_of op (λ m. other (op m) (b m).1) x y);
     looping = loops;
     turning = λ {k} {l} op b le x. turns op l (other op b.1) x;
     grouped = λ kind m pl at arms le s many between x. groups kind m pl at arms x;

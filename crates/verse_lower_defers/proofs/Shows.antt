@@ -197,8 +197,8 @@ module _ (is : List ItemTree) (arrays events : ℕ → Bool) where
           (of_value x))) ts) ≡ 0
       acts true r f g c h = refl
       acts false true f g c h = refl
-      acts false false f g c h = member_value (c ∙ idles (type_of F e) (sym (same_bytes z await_name) ∙ f)
-          (sym (same_bytes z signal_name) ∙ g)) h
+      acts false false f g c h = member_value (c ∙ idles (type_of F e) (same_bytes z await_name ∙ f)
+          (same_bytes z signal_name ∙ g)) h
 
       member_by : (u : Ty) (o : Option Ref) → o ≡ member_ref F u z → Checked o → MemberAsked o → MemberShows o
       member_by u None f c h = acts (same_name z await_name) (same_name z signal_name) refl refl c h
