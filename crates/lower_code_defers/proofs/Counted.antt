@@ -10,7 +10,12 @@ use Rattle.lower_code.specs.Pieces.{numbering, texted, put_away, stuck, when, le
 use Rattle.lower_code.specs.Pieces.{from_here, looping, turning, using_locals, arms_at, arms_spot, closed, drops}
 use Rattle.lower_code.specs.Pieces.{deepest, later, ◌then◌}
 use Rattle.lower_code.specs.Lowering.{grouped}
-use Rattle.lower_code_defers.specs.Counts.{begins, leaves, ends}
+use Rattle.lower_code_defers.specs.Counts.{begins, ends}
+
+-- 1 for what leaves a block
+abbrev pub leaves : Op → ℕ
+leaves (o.Leave n) = 1
+leaves op = 0
 
 abbrev pub tally : (Op → ℕ) → List Item → ℕ
 tally f [] = 0

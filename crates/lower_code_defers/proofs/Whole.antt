@@ -1,5 +1,5 @@
 -- The code of a whole program.
-use Rattle.std.proofs.Common.{◌≡◌, ℕ, zero, suc, ◌+◌, ◌<◌, ◌≤◌, List, [], ◌∷◌, map, Bool, true, false, Option, Some, None}
+use Rattle.std.proofs.Common.{◌≡◌, ℕ, zero, suc, ◌+◌, ◌-◌, ◌<◌, ◌≤◌, List, [], ◌∷◌, map, Bool, true, false, Option, Some, None}
 use Rattle.std.proofs.Common.{refl, sym, ap, ◌∙◌, arith, subst, slice_get}
 use Rattle.verse_tree.specs.Tree.{Shape}
 use Rattle.verse_tree.specs.Tree as t
@@ -16,10 +16,10 @@ use Rattle.lower_bounds.specs.Laws.{HasNoDefer, IsNoDefer}
 use Rattle.lower_bounds.proofs.Lists.{Each}
 use Rattle.lower_bounds.proofs.Bodies.{BodyHas, all_have, all_each, each_all}
 use Rattle.lower_bounds.proofs.Defers.{defers_show}
-use Rattle.lower_code_defers.specs.Counts.{begins, leaves, ends, how_many, defers_shape, defers_what, defers_in}
+use Rattle.lower_code_defers.specs.Counts.{begins, ends, how_many, defers_shape, defers_what, defers_in}
 use Rattle.lower_code_defers.specs.Programs.{BodyIsFine, NodeShows}
-use Rattle.lower_code_defers.specs.Laws.{DefersHaveCode, FineDefersShow}
-use Rattle.lower_code_defers.proofs.Counted.{tally, Has, both, then_other, none, just}
+use Rattle.lower_code_defers.specs.Laws.{HasCode, DefersHaveCode, FineDefersShow}
+use Rattle.lower_code_defers.proofs.Counted.{leaves, tally, Has, both, then_other, none, just}
 use Rattle.lower_code_defers.proofs.Nodes.{in_bodies, all_count}
 use Rattle.lower_code_defers.proofs.Forms.{counts}
 
@@ -43,18 +43,46 @@ none_have : (vs : List Node) → defers_in vs ≡ 0 → Each HasNoDefer vs
 none_have [] e = tt
 none_have (v ∷ vs) e = (of_expression v.what (omega (arith, e)), none_have vs (omega (arith, e)))
 
-no_leave : (op : Op) → operations.code_of op < 64 → leaves op ≡ 0
-no_leave (o.Leave n) h = absurd (omega (arith, h))
-no_leave op h = refl
+-- ---- operations by their codes
 
-none_leave : (ops : List Op) → ((at : ℕ) (op : Op) → slice_get ops at ≡ Some op → operations.code_of op < 64) →
-    how_many leaves ops ≡ 0
-none_leave [] h = refl
-none_leave (op ∷ ops) h = omega (arith, no_leave op (h 0 op refl), none_leave ops (λ at x e. h (suc at) x e))
+-- one of the kind is there
+first_of : (f : Op → ℕ) (code n m : ℕ) (op : Op) (ops : List Op) → f op ≡ n → (0 < f op → operations.code_of op ≡ code) →
+    0 < n + m → (0 < m → HasCode ops code) → HasCode (op ∷ ops) code
+first_of f code zero m op ops e h l rest =
+    let x = rest (omega (arith, l)) in record { at = suc x.at; op = x.op; there = x.there; coded = x.coded }
+first_of f code (suc n) m op ops e h l rest = record { at = 0; op = op; there = refl; coded = h (omega (arith, e)) }
 
-only_where : (n m : ℕ) → (n ≡ 0 → m ≡ 0) → 0 < m → 0 < n
-only_where zero m h l = absurd (omega (arith, h refl, l))
-only_where (suc n) m h l = omega arith
+some_there : (f : Op → ℕ) (code : ℕ) → ((op : Op) → 0 < f op → operations.code_of op ≡ code) → (ops : List Op) →
+    0 < how_many f ops → HasCode ops code
+some_there f code h [] l = absurd (omega (arith, l))
+some_there f code h (op ∷ ops) l =
+    first_of f code (f op) (how_many f ops) op ops refl (h op) l (some_there f code h ops)
+
+begin_code : (op : Op) → 0 < begins op → operations.code_of op ≡ 64
+begin_code (o.Defer n) l = refl
+begin_code op l = absurd (omega (arith, l))
+
+leave_code : (op : Op) → 0 < leaves op → operations.code_of op ≡ 65
+leave_code (o.Leave n) l = refl
+leave_code op l = absurd (omega (arith, l))
+
+end_code : (op : Op) → 0 < ends op → operations.code_of op ≡ 66
+end_code o.DeferEnd l = refl
+end_code op l = absurd (omega (arith, l))
+
+of_codes : {ops : List Op} → HasCode ops 64 → HasCode ops 65 → HasCode ops 66 → (code : ℕ) → 64 ≤ code → code ≤ 66 →
+    HasCode ops code
+of_codes {ops} x y z code h k = by (code - 64) (omega (arith, h)) (omega (arith, h, k))
+  where
+    by : (n : ℕ) → code ≡ 64 + n → n ≤ 2 → HasCode ops code
+    by zero e l = subst (HasCode ops) (let same : 64 ≡ code = omega (arith, e) in same) x
+    by (suc zero) e l = subst (HasCode ops) (let same : 65 ≡ code = omega (arith, e) in same) y
+    by (suc (suc zero)) e l = subst (HasCode ops) (let same : 66 ≡ code = omega (arith, e) in same) z
+    by (suc (suc (suc n))) e l = absurd (omega (arith, l))
+
+only_where : (n : ℕ) → (n ≡ 0 → ⊥) → 0 < n
+only_where zero h = absurd (h refl)
+only_where (suc n) h = omega arith
 
 -- ---- all bodies
 
@@ -74,8 +102,15 @@ fine_defers_show p f fine shows differ files =
     record {
       begin = how_many_is begins refl is ∙ code.begin first_spot ∙ all;
       end = how_many_is ends refl is ∙ code.end first_spot ∙ all;
-      left = λ l. omega (arith, how_many_is leaves refl is, code.left first_spot (omega (arith, l, all)));
-      only = only_where (defers_in (items_order p.items)) (how_many leaves (map item_op is)) (λ e.
-          none_leave (map item_op is) (λ at op h. defers_show p differ files
-          (each_all HasNoDefer (items_order p.items) (none_have (items_order p.items) e)) at op h));
+      there = λ l.
+          let begin = how_many_is begins refl is ∙ code.begin first_spot ∙ all in
+          let end = how_many_is ends refl is ∙ code.end first_spot ∙ all in
+          of_codes (some_there begins 64 begin_code (map item_op is) (omega (arith, l, begin)))
+          (some_there leaves 65 leave_code (map item_op is)
+          (omega (arith, how_many_is leaves refl is, code.left first_spot (omega (arith, l, all)))))
+          (some_there ends 66 end_code (map item_op is) (omega (arith, l, end)));
+      only = λ n h x. only_where (defers_in (items_order p.items)) (λ e.
+          let low = defers_show p differ files
+          (each_all HasNoDefer (items_order p.items) (none_have (items_order p.items) e)) x.at x.op x.there in
+          absurd (omega (arith, low, h, x.coded)));
     }

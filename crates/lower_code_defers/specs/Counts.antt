@@ -1,4 +1,4 @@
--- How many `defer`s a program has, and how many operations of a code have to do with deferred blocks.
+-- How many `defer`s a program has, and how many deferred blocks begin and end in a code.
 use Rattle.std.specs.Prelude.{ℕ, ◌+◌, List, [], ◌∷◌}
 use Rattle.verse_tree.specs.Tree.{Shape}
 use Rattle.verse_tree.specs.Tree as t
@@ -8,17 +8,12 @@ use Rattle.verse_code.specs.declared.operations.Op.TheVariants as o
 
 -- ---- operations: 1 for one of the kind, 0 for another
 
--- code 64: a deferred block is put by
+-- a deferred block is put by
 abbrev pub begins : Op → ℕ
 begins (o.Defer l) = 1
 begins op = 0
 
--- code 65: the deferred blocks of a block run
-abbrev pub leaves : Op → ℕ
-leaves (o.Leave n) = 1
-leaves op = 0
-
--- code 66: the end of a deferred block
+-- the end of a deferred block
 abbrev pub ends : Op → ℕ
 ends o.DeferEnd = 1
 ends op = 0
