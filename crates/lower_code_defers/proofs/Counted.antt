@@ -63,8 +63,11 @@ both {f = f} {g = g} {k = k} {j = j} x y = record {
   end = λ s. omega (arith, tally_joined ends (f s).items (g (past s (f s))).items, x.end s, y.end (past s (f s)));
   left = λ s h.
       let e : Spot = past s (f s) in
-      omega (arith, tally_joined leaves (f s).items (g e).items,
-      some_of k j (tally leaves (f s).items) (tally leaves (g e).items) (x.left s) (y.left e) h);
+      omega (
+        arith,
+        tally_joined leaves (f s).items (g e).items,
+        some_of k j (tally leaves (f s).items) (tally leaves (g e).items) (x.left s) (y.left e) h,
+      );
 }
 
 -- with what has none of them
@@ -155,16 +158,29 @@ pub one_of : {f g : Maker} {n m : ℕ} (op : ℕ → Op) → ((m : ℕ) → IsOt
 one_of {f = f} {g = g} {n = n} {m = m} op h x y = record {
   begin = λ s.
       let e : Spot = next (past (next s) (f (next s))) in
-      omega (arith, (h e.at).0, x.begin (next s), y.begin e,
-      tally_joined begins (f (next s)).items (sure (o.Jump (past e (g e)).at) ∷ (g e).items));
+      omega (
+        arith,
+        (h e.at).0,
+        x.begin (next s),
+        y.begin e,
+        tally_joined begins (f (next s)).items (sure (o.Jump (past e (g e)).at) ∷ (g e).items),
+      );
   end = λ s.
       let e : Spot = next (past (next s) (f (next s))) in
-      omega (arith, (h e.at).1, x.end (next s), y.end e,
-      tally_joined ends (f (next s)).items (sure (o.Jump (past e (g e)).at) ∷ (g e).items));
+      omega (
+        arith,
+        (h e.at).1,
+        x.end (next s),
+        y.end e,
+        tally_joined ends (f (next s)).items (sure (o.Jump (past e (g e)).at) ∷ (g e).items),
+      );
   left = λ s l.
       let e : Spot = next (past (next s) (f (next s))) in
-      omega (arith, tally_joined leaves (f (next s)).items (sure (o.Jump (past e (g e)).at) ∷ (g e).items),
-      some_of n m (tally leaves (f (next s)).items) (tally leaves (g e).items) (x.left (next s)) (y.left e) l);
+      omega (
+        arith,
+        tally_joined leaves (f (next s)).items (sure (o.Jump (past e (g e)).at) ∷ (g e).items),
+        some_of n m (tally leaves (f (next s)).items) (tally leaves (g e).items) (x.left (next s)) (y.left e) l,
+      );
 }
 
 -- ---- loops
@@ -181,8 +197,12 @@ module _ (f : Op → ℕ) (jump : (l : ℕ) → f (o.Jump l) ≡ 0) (drop : f o.
 
   closing_same : (p : Piece) (out : ℕ) →
       tally f (map (closed out) p.items ++ drops (deepest p.items) (sure o.Unit ∷ [])) ≡ tally f p.items
-  closing_same p out = omega (arith, tally_joined f (map (closed out) p.items) (drops (deepest p.items) (sure o.Unit ∷ [])),
-      closed_same out p.items, drops_none (deepest p.items))
+  closing_same p out = omega (
+    arith,
+    tally_joined f (map (closed out) p.items) (drops (deepest p.items) (sure o.Unit ∷ [])),
+    closed_same out p.items,
+    drops_none (deepest p.items),
+  )
 
 closes : {f : Maker} {n : ℕ} → Has f n → Has (closing f) n
 closes {f = f} x = record {
@@ -191,8 +211,11 @@ closes {f = f} x = record {
   end = λ s.
       closing_same ends (λ l. refl) refl refl (f s) (later (deepest (f s).items) (past s (f s)).at) ∙ x.end s;
   left = λ s h.
-      omega (arith, x.left s h,
-      closing_same leaves (λ l. refl) refl refl (f s) (later (deepest (f s).items) (past s (f s)).at));
+      omega (
+        arith,
+        x.left s h,
+        closing_same leaves (λ l. refl) refl refl (f s) (later (deepest (f s).items) (past s (f s)).at),
+      );
 }
 
 by_place : {f : ℕ → Maker} {n : ℕ} → ((a : ℕ) → Has (f a) n) → Has (from_here f) n
@@ -226,6 +249,9 @@ groups kind m pl at arms x = record {
       omega (arith, x.end e, arms_same ends (λ l. refl) (at e) (sure (o.Jump (past e (arms e)).at) ∷ (arms e).items));
   left = λ s h.
       let e : Spot = arms_spot m s in
-      omega (arith, x.left e h,
-      arms_same leaves (λ l. refl) (at e) (sure (o.Jump (past e (arms e)).at) ∷ (arms e).items));
+      omega (
+        arith,
+        x.left e h,
+        arms_same leaves (λ l. refl) (at e) (sure (o.Jump (past e (arms e)).at) ∷ (arms e).items),
+      );
 }

@@ -427,8 +427,13 @@ module _ (p : Program) (differ : ℕ → ℕ → Bool) (f : Found) where
     quotient_counts no_trees u a xs sc z n x e h = elim h [ ]
     quotient_counts (more_trees (tree m q (t.Shape.chained y b c)) ts) u a xs sc z n x e h =
         let w = inside (NodeShows p) m q (t.Shape.chained y b c) (first_tree (tree m q (t.Shape.chained y b c)) ts u) in
-        so (omega (arith, joined (post_order (tree m q (t.Shape.chained y b c))) (trees_order ts),
-        all_of m q (t.Shape.chained y b c), joined (post_order b) (post_order c), e))
+        so (omega (
+          arith,
+          joined (post_order (tree m q (t.Shape.chained y b c))) (trees_order ts),
+          all_of m q (t.Shape.chained y b c),
+          joined (post_order b) (post_order c),
+          e,
+        ))
         (both (counts b (left b c w) a xs sc z h.0) (counts c (right b c w) a xs sc (up z) h.1))
     quotient_counts (more_trees (tree m q y) ts) u a xs sc z n x e h = elim h [ ]
 

@@ -84,8 +84,13 @@ pub none_defers : (ts : Trees) → any_defer ts ≡ false → many ts ≤ inside
 none_defers no_trees e = omega arith
 none_defers (more_trees (tree n pl s) ts) e =
     let each = neither (is_defer_shape s) (any_defer ts) e in
-    omega (arith, joined (post_order (tree n pl s)) (trees_order ts), all_of n pl s, no_defer s each.0,
-    none_defers ts each.1)
+    omega (
+      arith,
+      joined (post_order (tree n pl s)) (trees_order ts),
+      all_of n pl s,
+      no_defer s each.0,
+      none_defers ts each.1,
+    )
 
 -- ---- the bodies of a program
 

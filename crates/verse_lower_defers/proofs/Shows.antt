@@ -122,7 +122,6 @@ module _ (is : List ItemTree) (arrays events : ℕ → Bool) where
     not_item : {A : Type 0} → types.callee_of F b ≡ types.item → A
     not_item e = let no : can_call types.item ≡ true = ap can_call (sym e) ∙ callable in absurd (cc)
 
-
   -- ---- names
 
   module _ (n : ℕ) (pl : Place) (m : ℕ) (q : Place) (ts : Trees) (x : Form) where
@@ -161,63 +160,63 @@ module _ (is : List ItemTree) (arrays events : ℕ → Bool) where
     -- ---- members
 
     module _ (e : Tree) (z : Bytes) (a : Around) (rules : TypesKept F a n (t.Shape.call (tree m q (t.Shape.member e z)) ts))
-        where
-      abbrev behind_dot : Tree
-      behind_dot = tree m q (t.Shape.member e z)
+      where
+        abbrev behind_dot : Tree
+        behind_dot = tree m q (t.Shape.member e z)
 
-      abbrev of_event : Bool
-      of_event = events (number_of e)
+        abbrev of_event : Bool
+        of_event = events (number_of e)
 
-      abbrev MemberShows : Option Ref → Type 0
-      MemberShows o = defers_in (left_called (member_callee o of_event z x) ts) ≡ 0
+        abbrev MemberShows : Option Ref → Type 0
+        MemberShows o = defers_in (left_called (member_callee o of_event z x) ts) ≡ 0
 
-      abbrev MemberAsked : Option Ref → Type 0
-      MemberAsked o = CalleeShows whole (sorted is) (member_callee o of_event z x) behind_dot ts
+        abbrev MemberAsked : Option Ref → Type 0
+        MemberAsked o = CalleeShows whole (sorted is) (member_callee o of_event z x) behind_dot ts
 
-      abbrev Checked : Option Ref → Type 0
-      Checked o = types.callee_of F behind_dot ≡ types.callee_by F o (t.Shape.member e z) (ty_at is m)
+        abbrev Checked : Option Ref → Type 0
+        Checked o = types.callee_of F behind_dot ≡ types.callee_by F o (t.Shape.member e z) (ty_at is m)
 
-      member_value : types.callee_of F behind_dot ≡ types.value (ty_at is m) →
-          (sort_of (ty_at is m) ≡ s.never → many ts ≡ 0) → many ts ≡ 0
-      member_value c h = called_value n pl behind_dot ts a rules (ty_at is m) c (λ e. h (ap sort_of e))
+        member_value : types.callee_of F behind_dot ≡ types.value (ty_at is m) →
+            (sort_of (ty_at is m) ≡ s.never → many ts ≡ 0) → many ts ≡ 0
+        member_value c h = called_value n pl behind_dot ts a rules (ty_at is m) c (λ e. h (ap sort_of e))
 
-      -- what is no Await and no Signal is a value
-      idles : (u : Ty) → bytes_eq z (codes "Await") ≡ false → bytes_eq z (codes "Signal") ≡ false →
-          types.action_of u z (ty_at is m) ≡ types.value (ty_at is m)
-      idles (ty.task v) h k = ap (λ r. cond r (types.await v) (types.value (ty_at is m))) h
-      idles (ty.event v) h k =
-          ap (λ r. cond r (types.await v) (cond (bytes_eq z (codes "Signal")) (types.signal v) (types.value (ty_at is m)))) h
-          ∙ ap (λ r. cond r (types.signal v) (types.value (ty_at is m))) k
-      idles u h k = refl
+        -- what is no Await and no Signal is a value
+        idles : (u : Ty) → bytes_eq z (codes "Await") ≡ false → bytes_eq z (codes "Signal") ≡ false →
+            types.action_of u z (ty_at is m) ≡ types.value (ty_at is m)
+        idles (ty.task v) h k = ap (λ r. cond r (types.await v) (types.value (ty_at is m))) h
+        idles (ty.event v) h k =
+            ap (λ r. cond r (types.await v) (cond (bytes_eq z (codes "Signal")) (types.signal v) (types.value (ty_at is m)))) h
+            ∙ ap (λ r. cond r (types.signal v) (types.value (ty_at is m))) k
+        idles u h k = refl
 
-      acts : (v r : Bool) → same_name z await_name ≡ v → same_name z signal_name ≡ r → Checked None →
-          CalleeShows whole (sorted is) (cond v (of_object (form.awaiting of_event)) (cond r (of_object form.signalling)
-          (of_value x))) behind_dot ts →
-          defers_in (left_called (cond v (of_object (form.awaiting of_event)) (cond r (of_object form.signalling)
-          (of_value x))) ts) ≡ 0
-      acts true r f g c h = refl
-      acts false true f g c h = refl
-      acts false false f g c h = member_value (c ∙ idles (type_of F e) (same_bytes z await_name ∙ f)
-          (same_bytes z signal_name ∙ g)) h
+        acts : (v r : Bool) → same_name z await_name ≡ v → same_name z signal_name ≡ r → Checked None →
+            CalleeShows whole (sorted is) (cond v (of_object (form.awaiting of_event)) (cond r (of_object form.signalling)
+            (of_value x))) behind_dot ts →
+            defers_in (left_called (cond v (of_object (form.awaiting of_event)) (cond r (of_object form.signalling)
+            (of_value x))) ts) ≡ 0
+        acts true r f g c h = refl
+        acts false true f g c h = refl
+        acts false false f g c h = member_value (c ∙ idles (type_of F e) (same_bytes z await_name ∙ f)
+            (same_bytes z signal_name ∙ g)) h
 
-      member_by : (u : Ty) (o : Option Ref) → o ≡ member_ref F u z → Checked o → MemberAsked o → MemberShows o
-      member_by u None f c h = acts (same_name z await_name) (same_name z signal_name) refl refl c h
-      member_by u (Some (ref.Field d k)) f c h = member_value c h
-      member_by u (Some (ref.Method d k)) f c h = refl
-      member_by u (Some r) f c h = absurd (no_other u f)
-        where
-          no_other : (u : Ty) → Some r ≡ member_ref F u z → ⊥
-          no_other (ty.class d) g = by (field_by F d z) (method_by F d z) g
-            where
-              by : (i j : Option ℕ) → Some r ≡ member_at d i j → ⊥
-              by (Some i) j g = cc
-              by None (Some j) g = cc
-              by None None g = cc
-          no_other u g = cc
+        member_by : (u : Ty) (o : Option Ref) → o ≡ member_ref F u z → Checked o → MemberAsked o → MemberShows o
+        member_by u None f c h = acts (same_name z await_name) (same_name z signal_name) refl refl c h
+        member_by u (Some (ref.Field d k)) f c h = member_value c h
+        member_by u (Some (ref.Method d k)) f c h = refl
+        member_by u (Some r) f c h = absurd (no_other u f)
+          where
+            no_other : (u : Ty) → Some r ≡ member_ref F u z → ⊥
+            no_other (ty.class d) g = by (field_by F d z) (method_by F d z) g
+              where
+                by : (i j : Option ℕ) → Some r ≡ member_at d i j → ⊥
+                by (Some i) j g = cc
+                by None (Some j) g = cc
+                by None None g = cc
+            no_other u g = cc
 
-      pub dot_shows : Known is m q (t.Shape.member e z) → MemberAsked (ref_at whole m) → MemberShows (ref_at whole m)
-      dot_shows k h = subst MemberShows (sym (same_ref m)) (member_by (type_of F e) (refs.ref_at F.refs m) k.member refl
-          (subst MemberAsked (same_ref m) h))
+        pub dot_shows : Known is m q (t.Shape.member e z) → MemberAsked (ref_at whole m) → MemberShows (ref_at whole m)
+        dot_shows k h = subst MemberShows (sym (same_ref m)) (member_by (type_of F e) (refs.ref_at F.refs m) k.member refl
+            (subst MemberAsked (same_ref m) h))
 
   -- ---- calls
 

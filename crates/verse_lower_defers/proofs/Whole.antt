@@ -18,7 +18,7 @@ use Rattle.verse_accept_scopes.specs.Sites.{program_sites}
 use Rattle.verse_accept_rows.specs.Laws.{AllFound}
 use Rattle.verse_accept_classes.specs.Laws.{Quiet}
 use Rattle.verse_accept_classes.proofs.Tables.{functions_found}
-use Rattle.verse_accept_fine.specs.Sorted.{sorted}
+use Rattle.verse_accept_fine.specs.Sorted.{sorted, program}
 use Rattle.verse_accept_programs.specs.Laws.{ProgramsAreFine}
 use Rattle.verse_accept_sound.proofs.Told.{tables_tell}
 use Rattle.verse_accept_sound.proofs.Whole as sound
@@ -37,6 +37,7 @@ module _ (order : InPostOrder) (shapes : AcceptedShaped) (rows : AllFound) (prog
       let arrays : ℕ → Bool = λ n. of_type is_array_type (slice_get made.typed.types n) in
       let events : ℕ → Bool = λ n. of_type is_event_type (slice_get made.typed.types n) in
       let of_names : Names → Program = λ k. record { items = is; names = k; is_array = arrays; is_event = events } in
+      let whole : Program = program is arrays events in
       let shaped = shapes files is a in
       let numbered = sound.numbered order shapes programs files is a in
       let right = sound.sound order shapes programs files is a in
@@ -49,9 +50,9 @@ module _ (order : InPostOrder) (shapes : AcceptedShaped) (rows : AllFound) (prog
       (each_known is (program_sites is) (rows is shaped numbered right) (each_own_subject is)) in
       subst (λ k. All (CallsShow (of_names k) (sorted is)) (items_order is) →
       DefersHaveCode (of_names k) (code_of (of_names k) differ count).ops) (sym told.names)
-      (λ show. defers _ (sorted is)
-      (each_all (BodyIsFine _ (sorted is)) (all_bodies is) (all_fine _ (sorted is) fine is found))
-      (each_all (NodeShows _) (items_order is) (all_show is arrays events shaped known
-      (all_each (CallsShow _ (sorted is)) (items_order is) show)))
+      (λ show. defers whole (sorted is)
+      (each_all (BodyIsFine whole (sorted is)) (all_bodies is) (all_fine whole (sorted is) fine is found))
+      (each_all (NodeShows whole) (items_order is) (all_show is arrays events shaped known
+      (all_each (CallsShow whole (sorted is)) (items_order is) show)))
       differ count)
       calls
