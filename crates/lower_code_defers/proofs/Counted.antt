@@ -1,5 +1,6 @@
 -- How many operations of deferred blocks stand in a stretch of code, and how the combinators add them.
-use Rattle.std.proofs.Common.{◌≡◌, ℕ, zero, suc, ◌+◌, ◌-◌, ◌<◌, ◌≤◌, List, [], ◌∷◌, ◌++◌, map, Bool, true, false, refl}
+use Rattle.std.proofs.Common.{◌≡◌, ℕ, zero, suc, ◌+◌, ◌-◌, ◌<◌, ◌≤◌, List, [], ◌∷◌, ◌++◌, map, Bool, true, false}
+use Rattle.std.proofs.Common.{refl}
 use Rattle.std.proofs.Common.{ap, ◌∙◌, arith}
 use Rattle.verse_base.specs.declared.places.Place.{Place}
 use Rattle.verse_tree.specs.Tree.{Bytes}
@@ -59,7 +60,13 @@ some_of (suc k) j a b x y h = omega (arith, x (omega arith))
 
 pub both : {f g : Maker} {n m k j : ℕ} → Counts f n k → Counts g m j → Counts (f then g) (n + m) (k + j)
 both {f = f} {g = g} {k = k} {j = j} x y = record {
-  begin = λ s. omega (arith, tally_joined begins (f s).items (g (past s (f s))).items, x.begin s, y.begin (past s (f s)));
+  begin = λ s. omega (
+    arith,
+    tally_joined begins (f s).items (g (past s (f s))).items,
+    x.begin s,
+    y.begin (past s
+        (f s)),
+  );
   end = λ s. omega (arith, tally_joined ends (f s).items (g (past s (f s))).items, x.end s, y.end (past s (f s)));
   left = λ s h.
       let e : Spot = past s (f s) in
@@ -147,7 +154,12 @@ before {f = f} op h x = record {
 -- a deferred block, whose own is one more
 pub deferred : {f : Maker} {n : ℕ} → Has f n → Counts (ahead o.Defer (f then one o.Drop then one o.DeferEnd)) (suc n) n
 deferred {f = f} x = record {
-  begin = λ s. omega (arith, tally_joined begins (f (next s)).items (sure o.Drop ∷ sure o.DeferEnd ∷ []), x.begin (next s));
+  begin = λ s. omega (
+    arith,
+    tally_joined begins (f (next s)).items (sure o.Drop ∷ sure o.DeferEnd ∷ []),
+    x.begin
+        (next s),
+  );
   end = λ s. omega (arith, tally_joined ends (f (next s)).items (sure o.Drop ∷ sure o.DeferEnd ∷ []), x.end (next s));
   left = λ s l.
       omega (arith, tally_joined leaves (f (next s)).items (sure o.Drop ∷ sure o.DeferEnd ∷ []), x.left (next s) l);
@@ -222,7 +234,8 @@ by_place : {f : ℕ → Maker} {n : ℕ} → ((a : ℕ) → Has (f a) n) → Has
 by_place x = record { begin = λ s. (x s.at).begin s; end = λ s. (x s.at).end s; left = λ s. (x s.at).left s }
 
 pub loops : {f : Maker} {n : ℕ} → Has f n → Has (looping f) n
-loops x = closes (by_place (λ a. then_other (before o.Jump (λ m. (refl, refl)) (then_other x (just o.Drop (refl, refl))))
+loops x = closes (by_place (λ a. then_other (before o.Jump (λ m. (refl, refl)) (then_other x (just o.Drop
+    (refl, refl))))
     (just (o.Again (suc a)) (refl, refl))))
 
 pub turns : {f : Maker} {n : ℕ} (op : Op) (l : ℕ) → IsOther op → Has f n → Has (turning op l f) n
@@ -233,7 +246,8 @@ turns op l h x = other_then (using_none (suc (suc (suc (suc l))))) (other_then (
 
 -- ---- groups
 
-arms_same : (f : Op → ℕ) → ((l : ℕ) → f (o.Arm l) ≡ 0) → (ls : List ℕ) (is : List Item) → tally f (arms_at ls is) ≡ tally f is
+arms_same : (f : Op → ℕ) → ((l : ℕ) → f (o.Arm l) ≡ 0) → (ls : List ℕ) (is : List Item) → tally f
+    (arms_at ls is) ≡ tally f is
 arms_same f h [] is = refl
 arms_same f h (l ∷ ls) is = omega (arith, h l, arms_same f h ls is)
 
@@ -243,7 +257,12 @@ unfolding grouped
 groups kind m pl at arms x = record {
   begin = λ s.
       let e : Spot = arms_spot m s in
-      omega (arith, x.begin e, arms_same begins (λ l. refl) (at e) (sure (o.Jump (past e (arms e)).at) ∷ (arms e).items));
+      omega (
+        arith,
+        x.begin e,
+        arms_same begins (λ l. refl) (at e) (sure (o.Jump (past e (arms e)).at) ∷
+            (arms e).items),
+      );
   end = λ s.
       let e : Spot = arms_spot m s in
       omega (arith, x.end e, arms_same ends (λ l. refl) (at e) (sure (o.Jump (past e (arms e)).at) ∷ (arms e).items));

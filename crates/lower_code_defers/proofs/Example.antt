@@ -26,7 +26,8 @@ callee = tree 2 (at 1 5) (t.Shape.block_form (tree 1 (at 1 11)
 -- block { defer { 1 } }
 abbrev operand : Tree
 operand = tree 7 (at 1 23) (t.Shape.block_form (tree 6 (at 1 29) (t.Shape.block (more_trees (tree 5 (at 1 31)
-    (t.Shape.defer (tree 4 (at 1 37) (t.Shape.block (more_trees (tree 3 (at 1 39) (t.Shape.integer (pos 1))) no_trees)))))
+    (t.Shape.defer (tree 4 (at 1 37) (t.Shape.block (more_trees (tree 3 (at 1 39) (t.Shape.integer
+    (pos 1))) no_trees)))))
     no_trees))))
 
 -- Main():void =

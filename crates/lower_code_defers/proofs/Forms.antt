@@ -1,5 +1,7 @@
--- The code of a fine tree has a Defer and a DeferEnd for each `defer` in it, and its blocks are left: one clause a form.
-use Rattle.std.proofs.Common.{◌≡◌, ℕ, suc, ◌+◌, ◌≤◌, List, [], ◌∷◌, ◌++◌, length, Bool, true, false, refl, sym, ap, ◌∙◌}
+-- The code of a fine tree has a Defer and a DeferEnd for each `defer` in it, and its blocks are
+-- left: one clause a form.
+use Rattle.std.proofs.Common.{◌≡◌, ℕ, suc, ◌+◌, ◌≤◌, List, [], ◌∷◌, ◌++◌, length, Bool, true, false, refl, sym, ap}
+use Rattle.std.proofs.Common.{◌∙◌}
 use Rattle.std.proofs.Common.{arith, Option, Some, None, subst}
 use Rattle.verse_base.specs.declared.places.Place.{Place}
 use Rattle.verse_tree.specs.Tree.{Bytes, Written, Tree, tree, Shape, Trees, no_trees, more_trees, Holes, no_holes}
@@ -32,18 +34,23 @@ use Rattle.lower_code.specs.Arounds.{fresh, up, raised, looped, enclosed}
 use Rattle.lower_code.specs.Applied.{started}
 use Rattle.lower_code.specs.Lowering.{how_many, is_text, one_if, joined_parts, pairs_in, text_if, target_operands}
 use Rattle.lower_code.specs.Lowering.{scope_behind, scope_stated, around_stated, any_defer, stated, has_base, piece}
-use Rattle.lower_code.specs.Lowering.{shape_piece, statements, more_statements, inner, inner_shape, args, holed, paired_args}
-use Rattle.lower_code.specs.Lowering.{given_args, quotient, target_piece, levels, arms, arm_tree, task_arms, arm_spots}
+use Rattle.lower_code.specs.Lowering.{shape_piece, statements, more_statements, inner, inner_shape, args, holed}
+use Rattle.lower_code.specs.Lowering.{paired_args}
+use Rattle.lower_code.specs.Lowering.{given_args, quotient, target_piece, levels, arms, arm_tree, task_arms}
+use Rattle.lower_code.specs.Lowering.{arm_spots}
 use Rattle.lower_code.specs.Lowering.{spawned}
 use Rattle.lower_bounds.proofs.Lists.{Each, each_first, each_rest, node, own, inside}
 use Rattle.lower_bounds.proofs.Statements.{callee_fits, spawned_callee_fits, member_form_fits, picked_fits}
 use Rattle.lower_code_defers.specs.Counts.{defers_shape, defers_in}
 use Rattle.lower_code_defers.specs.Programs.{NodeShows, left_called, left_indexed, behind_first}
-use Rattle.lower_code_defers.proofs.Counted.{Counts, Has, same, so, both, then_other, other_then, none, just, at_place}
-use Rattle.lower_code_defers.proofs.Counted.{text, away, if_so, only, leave_if, numbered, before, one_of, loops, groups}
+use Rattle.lower_code_defers.proofs.Counted.{Counts, Has, same, so, both, then_other, other_then, none, just}
+use Rattle.lower_code_defers.proofs.Counted.{at_place}
+use Rattle.lower_code_defers.proofs.Counted.{text, away, if_so, only, leave_if, numbered, before, one_of, loops}
+use Rattle.lower_code_defers.proofs.Counted.{groups}
 use Rattle.lower_code_defers.proofs.Nodes.{count, many, joined, all_of, of_parts, typed_part, insides, none_defers}
 use Rattle.lower_code_defers.proofs.Nodes as nodes
-use Rattle.lower_code_defers.proofs.Others.{quiet, finishes, finishes_alone, finishes_so, starts, reads_name, reads_this}
+use Rattle.lower_code_defers.proofs.Others.{quiet, finishes, finishes_alone, finishes_so, starts, reads_name}
+use Rattle.lower_code_defers.proofs.Others.{reads_this}
 use Rattle.lower_code_defers.proofs.Others.{base_reads, stores, else_stuck, returns, breaks, binds}
 use Rattle.lower_code_defers.proofs.Leaves.{callee_none, spawned_none, spawned_left, by_kind, by_member, states}
 use Rattle.lower_code_defers.proofs.Leaves.{clauses_one, last_arm, one_arm, makes}
@@ -143,7 +150,12 @@ module _ (p : Program) (differ : ℕ → ℕ → Bool) (f : Found) where
     -- failure contexts
     shape_counts (t.Shape.if_else ts b c) n pl v u a xs sc z h =
         let w = each_first (NodeShows p) (trees_order ts ++ post_order b) (post_order c) u in
-        so (omega (arith, joined (trees_order ts ++ post_order b) (post_order c), joined (trees_order ts) (post_order b)))
+        so (omega (
+          arith,
+          joined (trees_order ts ++ post_order b) (post_order c),
+          joined (trees_order ts)
+              (post_order b),
+        ))
         (one_of o.Try (λ m. (refl, refl))
         (both (all_counts ts (conditions ts b w) false (tried a) xs sc (enclosed z) h.0)
         (other_then (just o.Drop (refl, refl)) (other_then (just o.Commit (refl, refl))
@@ -204,7 +216,8 @@ module _ (p : Program) (differ : ℕ → ℕ → Bool) (f : Found) where
         then_other (counts b u a xs sc z h.0) (finishes_so p differ form.querying 1 tt)
     -- members, calls, indices
     shape_counts (t.Shape.member b y) n pl v u a xs sc z h =
-        by_member p differ b (enum_member p b y) (λ w. IsEnumValue p f (f.sort n) w) h v (λ k. then_other (counts b u a xs sc z k.0)
+        by_member p differ b (enum_member p b y) (λ w. IsEnumValue p f (f.sort n) w) h v (λ k. then_other
+        (counts b u a xs sc z k.0)
         (finishes_so p differ (member_form (ref_at p n) y) 1 (member_form_fits (quiet p differ) (ref_at p n) y).1))
     shape_counts (t.Shape.call b ts) n pl v u a xs sc z h =
         let first = first_tree b ts u in
@@ -261,7 +274,8 @@ module _ (p : Program) (differ : ℕ → ℕ → Bool) (f : Found) where
         so (sym (nodes.written_none w)) (at_place pl o.Event (λ m. (refl, refl)))
     shape_counts t.Shape.bare_event n pl v u a xs sc z h = at_place pl o.Event (λ m. (refl, refl))
     -- loops and blocks
-    shape_counts (t.Shape.loop_form b) n pl v u a xs sc z h = loops (counts b u (rules.looped h.0 a) xs sc (looped z) h.1)
+    shape_counts (t.Shape.loop_form b) n pl v u a xs sc z h = loops (counts b u (rules.looped h.0 a) xs sc
+        (looped z) h.1)
     shape_counts (t.Shape.block_form b) n pl v u a xs sc z h = counts b u a xs sc z h.0
     shape_counts (t.Shape.cases b ts) n pl v u a xs sc z h =
         so (sym (joined (post_order b) (trees_order ts))) (both (counts b (first_tree b ts u) a xs sc z h.0)
@@ -325,7 +339,8 @@ module _ (p : Program) (differ : ℕ → ℕ → Bool) (f : Found) where
         on_statement (statement_of_shape x pl)
         (Counts (shape_piece p differ x n pl sc z) (count (tree n pl x)) (defers_in (parts x)))
         (λ y. Counts (inner_shape p differ x sc z) (count (tree n pl x)) (defers_in (parts x)))
-        (λ d. Has (inner_shape p differ x sc z) (defers_in (parts x)) × (count (tree n pl x) ≡ suc (defers_in (parts x))))
+        (λ d. Has (inner_shape p differ x sc z) (defers_in (parts x)) × (count (tree n pl x) ≡ suc (defers_in
+        (parts x))))
         (λ y. ⊥)
     statement_parts (t.Shape.definition y b) n pl u m a xs sc z k h =
         statement_counts n pl (t.Shape.definition y b) refl (counts b u a xs sc z h.0)
@@ -352,7 +367,8 @@ module _ (p : Program) (differ : ℕ → ℕ → Bool) (f : Found) where
     levels_counts (more_trees (tree n pl x) ts) u a xs sc z h k =
         let w = first_tree (tree n pl x) ts u in
         so (omega (arith, joined (post_order (tree n pl x)) (trees_order ts)))
-        (clauses_one p differ (statement_of_shape x pl) sc (shape_piece p differ x n pl sc z) (inner_shape p differ x sc z)
+        (clauses_one p differ (statement_of_shape x pl) sc (shape_piece p differ x n pl sc z)
+        (inner_shape p differ x sc z)
         (count (tree n pl x)) (clause_parts x n pl (inside (NodeShows p) n pl x w) a xs sc z
         (λ i. shape_counts x n pl (own (NodeShows p) n pl x w) (inside (NodeShows p) n pl x w) a xs sc z i) h.0)
         (λ sc2. levels_counts ts (rest_trees (tree n pl x) ts u) a (seen_behind (tree n pl x) xs) sc2 z h.1 k))
@@ -422,7 +438,8 @@ module _ (p : Program) (differ : ℕ → ℕ → Bool) (f : Found) where
         (hidden ∷ sc) z h.1)))
 
     -- the quotient that Floor and Ceil take
-    quotient_counts : (ts : Trees) → AllOf ts → (a : Allowed) (xs : Table) (sc : Scope) (z : Around) (n : ℕ) (x : Form) →
+    quotient_counts : (ts : Trees) → AllOf ts → (a : Allowed) (xs : Table) (sc : Scope) (z : Around) (n : ℕ)
+        (x : Form) →
         defers_in (behind_first ts) ≡ 0 → FineQuotient p f a xs n x ts → Has (quotient p differ ts sc z) (many ts)
     quotient_counts no_trees u a xs sc z n x e h = elim h [ ]
     quotient_counts (more_trees (tree m q (t.Shape.chained y b c)) ts) u a xs sc z n x e h =
@@ -465,7 +482,8 @@ module _ (p : Program) (differ : ℕ → ℕ → Bool) (f : Found) where
         (λ e. arms_counts (more_trees c ts) (rest_trees b (more_trees c ts) u) k a xs sc z q r h.1))
 
     arm_counts : (b : Tree) (ts : Trees) → AllShow b → (k : ℕ) (a : Allowed) (xs : Table) (sc : Scope) (z : Around)
-        (q r : Sort) (rest : Maker) (i : ℕ) → FineArm p f a xs q r b → i ≡ many ts → (none_left ts ≡ false → Has rest i) →
+        (q r : Sort) (rest : Maker) (i : ℕ) → FineArm p f a xs q r b → i ≡ many ts →
+        (none_left ts ≡ false → Has rest i) →
         Has (arm_tree p differ b ts k sc z rest) (count b + i)
     arm_counts (tree n pl (t.Shape.arm b c)) no_trees u k a xs sc z q r rest i h e y =
         let w = inside (NodeShows p) n pl (t.Shape.arm b c) u in

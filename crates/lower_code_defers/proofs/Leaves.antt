@@ -1,5 +1,6 @@
 -- Statements, clauses, callees, members and arms, where their parts have the code of so many `defer`s.
-use Rattle.std.proofs.Common.{◌≡◌, ℕ, suc, ◌+◌, ◌≤◌, Bool, true, false, Option, Some, None, refl, sym, ap, ◌∙◌, arith, cond}
+use Rattle.std.proofs.Common.{◌≡◌, ℕ, suc, ◌+◌, ◌≤◌, Bool, true, false, Option, Some, None, refl, sym, ap, ◌∙◌}
+use Rattle.std.proofs.Common.{arith, cond}
 use Rattle.std.proofs.Common.{neg_ℤ}
 use Rattle.std.proofs.lemmas.Option.{none-some}
 use Rattle.verse_base.specs.declared.places.Place.{Place}
@@ -14,19 +15,22 @@ use Rattle.verse_value.specs.Val.{Val}
 use Rattle.verse_meaning.specs.Programs.{Program, same_name, ref_at, fields_of, pattern_value}
 use Rattle.verse_meaning.specs.Residuals.{Form, Binder, Generator, of_elements, of_entries, of_range}
 use Rattle.verse_meaning.specs.Evaluating.{Statement, plain, defines, defers, generates, Callee, alone, of_object}
-use Rattle.verse_meaning.specs.Evaluating.{of_value, of_quotient, no_callee, builtin, named_callee, member_callee, callee_of}
+use Rattle.verse_meaning.specs.Evaluating.{of_value, of_quotient, no_callee, builtin, named_callee, member_callee}
+use Rattle.verse_meaning.specs.Evaluating.{callee_of}
 use Rattle.verse_meaning.specs.Evaluating.{callee_of_shape, await_name, signal_name, number_of, spawned_callee}
 use Rattle.verse_sound_rules.specs.Fine.{on_callee, on_statement, on_member}
 use Rattle.lower_code.specs.Pieces.{Maker, turning, one, ◌then◌}
 use Rattle.lower_code.specs.Scopes.{Scope}
-use Rattle.lower_code.specs.Lowering.{by_callee, with_binder, with_generator, taking, stated, claused, membered, enum_op}
+use Rattle.lower_code.specs.Lowering.{by_callee, with_binder, with_generator, taking, stated, claused, membered}
+use Rattle.lower_code.specs.Lowering.{enum_op}
 use Rattle.lower_code.specs.Lowering.{enum_pattern, pattern_op, is_any, arm_by, arm_of, instance_of}
 use Rattle.lower_bounds.proofs.Lists.{on_cond}
 use Rattle.lower_bounds.proofs.Leaves.{NoCall}
 use Rattle.lower_bounds.proofs.Statements.{CalleeFits}
 use Rattle.lower_code_defers.specs.Counts.{defers_in}
 use Rattle.lower_code_defers.specs.Programs.{left_object, behind_first, left_indexed}
-use Rattle.lower_code_defers.proofs.Counted.{Counts, Has, same, so, both, then_other, other_then, just, at_place, text}
+use Rattle.lower_code_defers.proofs.Counted.{Counts, Has, same, so, both, then_other, other_then, just, at_place}
+use Rattle.lower_code_defers.proofs.Counted.{text}
 use Rattle.lower_code_defers.proofs.Counted.{sticks, before, one_of, deferred, turns}
 use Rattle.lower_code_defers.proofs.Nodes.{count, many}
 use Rattle.lower_code_defers.proofs.Others.{quiet, enum_other, binds, fields_other}
@@ -153,7 +157,8 @@ module _ (p : Program) (differ : ℕ → ℕ → Bool) where
   patterns (t.Shape.enum_pattern x y) = pattern_other (pattern_value p x y)
   patterns x = sticks
 
-  pub last_arm : (b : Tree) (l : ℕ) (body rest : Maker) {n : ℕ} → Has body n → Has (arm_of p differ b l true body rest) n
+  pub last_arm : (b : Tree) (l : ℕ) (body rest : Maker) {n : ℕ} → Has body n → Has
+      (arm_of p differ b l true body rest) n
   unfolding arm_by
   last_arm (tree n pl x) l body rest h = h
 

@@ -5,9 +5,11 @@ use Rattle.verse_base.specs.declared.places.Place.{Place}
 use Rattle.verse_tree.specs.Tree.{Written, Writtens, no_writtens, more_writtens, Tree, tree, Shape, Trees, no_trees}
 use Rattle.verse_tree.specs.Tree.{more_trees, Holes, Pairs, Givens}
 use Rattle.verse_tree.specs.Tree as t
-use Rattle.verse_tree.specs.ItemTree.{FieldTree, ParamTree, FunTree, MemberTree, field, method, ItemTree, using, enumeration}
+use Rattle.verse_tree.specs.ItemTree.{FieldTree, ParamTree, FunTree, MemberTree, field, method, ItemTree, using}
+use Rattle.verse_tree.specs.ItemTree.{enumeration}
 use Rattle.verse_tree.specs.ItemTree.{class, function}
-use Rattle.verse_tree.specs.PostOrder.{Node, post_order, parts, trees_order, written_order, writtens_order, default_order}
+use Rattle.verse_tree.specs.PostOrder.{Node, post_order, parts, trees_order, written_order, writtens_order}
+use Rattle.verse_tree.specs.PostOrder.{default_order}
 use Rattle.verse_tree.specs.PostOrder.{params_order, param_order, fun_parts, field_parts, member_order, members_order}
 use Rattle.verse_tree.specs.PostOrder.{item_order, items_order, node_at, item, member, parameter}
 use Rattle.verse_meaning.specs.Programs.{own_fields}

@@ -1,5 +1,6 @@
 -- What stands for no tree of its own has no operation of a deferred block but what leaves it.
-use Rattle.std.proofs.Common.{◌≡◌, ℕ, suc, ◌+◌, ◌≤◌, Bool, true, false, nat_lt, Option, Some, None, refl, sym, true≢false}
+use Rattle.std.proofs.Common.{◌≡◌, ℕ, suc, ◌+◌, ◌≤◌, Bool, true, false, nat_lt, Option, Some, None, refl, sym}
+use Rattle.std.proofs.Common.{true≢false}
 use Rattle.std.proofs.Common.{length, arith}
 use Rattle.verse_base.specs.declared.places.Place.{Place}
 use Rattle.verse_tree.specs.Tree.{Bytes, Tree, Givens}
@@ -22,11 +23,13 @@ use Rattle.lower_code.specs.Defaults.{default_number}
 use Rattle.lower_code.specs.Lowering.{bind, named, base_code, form_fits, default_op, enum_op, field_ops}
 use Rattle.lower_bounds.proofs.Lists.{each_of}
 use Rattle.lower_bounds.proofs.Kept.{Kept, IsLow}
-use Rattle.lower_bounds.proofs.Leaves.{FormFits, Calls, NoCall, fits_call, no_call, finish_kept, named_kept, read_this_kept}
+use Rattle.lower_bounds.proofs.Leaves.{FormFits, Calls, NoCall, fits_call, no_call, finish_kept, named_kept}
+use Rattle.lower_bounds.proofs.Leaves.{read_this_kept}
 use Rattle.lower_bounds.proofs.Leaves.{base_code_kept, start_kept, storing_kept, returning_kept, breaking_kept}
 use Rattle.lower_bounds.proofs.Statements.{BinderFits, bind_kept, enum_op_kept, field_ops_kept}
 use Rattle.lower_code_defers.specs.Counts.{begins, ends}
-use Rattle.lower_code_defers.proofs.Counted.{IsOther, Has, so, both, none, just, at_place, text, away, jumps, sticks, if_so}
+use Rattle.lower_code_defers.proofs.Counted.{IsOther, Has, so, both, none, just, at_place, text, away, jumps}
+use Rattle.lower_code_defers.proofs.Counted.{sticks, if_so}
 use Rattle.lower_code_defers.proofs.Counted.{leave, numbered, before, one_of, loops, turns, groups}
 
 -- an operation with a code below 64

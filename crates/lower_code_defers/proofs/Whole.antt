@@ -1,9 +1,11 @@
 -- The code of a whole program.
-use Rattle.std.proofs.Common.{◌≡◌, ℕ, zero, suc, ◌+◌, ◌-◌, ◌<◌, ◌≤◌, List, [], ◌∷◌, map, Bool, true, false, Option, Some, None}
+use Rattle.std.proofs.Common.{◌≡◌, ℕ, zero, suc, ◌+◌, ◌-◌, ◌<◌, ◌≤◌, List, [], ◌∷◌, map, Bool, true, false, Option}
+use Rattle.std.proofs.Common.{Some, None}
 use Rattle.std.proofs.Common.{refl, sym, ap, ◌∙◌, arith, subst, slice_get}
 use Rattle.verse_tree.specs.Tree.{Shape}
 use Rattle.verse_tree.specs.Tree as t
-use Rattle.verse_tree.specs.PostOrder.{What, program, item, member, parameter, type_name, expression, Node, items_order}
+use Rattle.verse_tree.specs.PostOrder.{What, program, item, member, parameter, type_name, expression, Node}
+use Rattle.verse_tree.specs.PostOrder.{items_order}
 use Rattle.verse_code.specs.declared.operations.Op.{Op}
 use Rattle.verse_code.specs.declared.operations.Op.TheVariants as o
 use Rattle.verse_code.specs.Operations as operations
@@ -46,7 +48,8 @@ none_have (v ∷ vs) e = (of_expression v.what (omega (arith, e)), none_have vs 
 -- ---- operations by their codes
 
 -- one of the kind is there
-first_of : (f : Op → ℕ) (code n m : ℕ) (op : Op) (ops : List Op) → f op ≡ n → (0 < f op → operations.code_of op ≡ code) →
+first_of : (f : Op → ℕ) (code n m : ℕ) (op : Op) (ops : List Op) → f op ≡ n → (0 < f op → operations.code_of op ≡
+    code) →
     0 < n + m → (0 < m → HasCode ops code) → HasCode (op ∷ ops) code
 first_of f code zero m op ops e h l rest =
     let x = rest (omega (arith, l)) in record { at = suc x.at; op = x.op; there = x.there; coded = x.coded }

@@ -2,10 +2,10 @@
 //! where the program has `defer`. Read the definitions in this order: `Counts`; `Programs`, what is
 //! asked of a program; `Laws`.
 //!
-//! In `proofs/`: `Counted`, how many of these operations the combinators put together; `Others`, what
-//! stands for no tree of its own has none; `Nodes`, how many `defer`s are in the parts of a tree;
-//! `Leaves`, statements, clauses, callees and arms; `Forms`, one clause a form; `Whole`, programs;
-//! `Example`, an accepted program with a `defer` that has no code.
+//! In `proofs/`: `Counted`, how many of these operations the combinators put together; `Others`,
+//! what stands for no tree of its own has none; `Nodes`, how many `defer`s are in the parts of a
+//! tree; `Leaves`, statements, clauses, callees and arms; `Forms`, one clause a form; `Whole`,
+//! programs; `Example`, an accepted program with a `defer` that has no code.
 #![tactic(auto)]
 
 ghost use Rattle.lower_code_defers.specs.Laws.{FineDefersShow};

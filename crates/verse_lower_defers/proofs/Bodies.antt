@@ -62,7 +62,8 @@ module _ (p : Program) (f : Found) (known : FineFound p f) where
   defaults_found [] m = tt
   defaults_found (using u ∷ is) m = defaults_found is m
   defaults_found (enumeration e ∷ is) m = defaults_found is m
-  defaults_found (class c ∷ is) m = each_joined (DefaultFound p f) (with_defaults (own_fields c.members)) (defaults_in is)
+  defaults_found (class c ∷ is) m = each_joined (DefaultFound p f) (with_defaults (own_fields c.members))
+      (defaults_in is)
       (own_found c.members m.0) (defaults_found is m.1)
   defaults_found (function x ∷ is) m = defaults_found is m.1
 

@@ -1,5 +1,6 @@
 -- What is known of a node by itself, where no rule is broken at it.
-use Rattle.std.proofs.Common.{◌≡◌, ℕ, Bool, true, false, not, List, [], ◌∷◌, map, Option, Some, None, refl, sym, ap, ◌∙◌}
+use Rattle.std.proofs.Common.{◌≡◌, ℕ, Bool, true, false, not, List, [], ◌∷◌, map, Option, Some, None, refl, sym, ap}
+use Rattle.std.proofs.Common.{◌∙◌}
 use Rattle.std.proofs.Common.{subst}
 use Rattle.verse_base.specs.declared.places.Place.{Place}
 use Rattle.verse_tree.specs.Tree.{Bytes, Tree, tree, Shape}
@@ -79,7 +80,8 @@ module _ (is : List ItemTree) where
     member_is n p (t.Shape.member e x) h = h.ref
     member_is n p x h = tt
 
-    enum_none : (n : ℕ) (p : Place) (x : Shape) (d : ℕ) → At is w a xs n p x → refs.ref_at F.refs n ≡ Some (ref.Enum d) →
+    enum_none : (n : ℕ) (p : Place) (x : Shape) (d : ℕ) → At is w a xs n p x → refs.ref_at F.refs n ≡ Some
+        (ref.Enum d) →
         count (tree n p x) ≡ 0
     enum_none n p (t.Shape.name x) d h e = refl
     enum_none n p (t.Shape.enum_pattern x y) d h e = refl

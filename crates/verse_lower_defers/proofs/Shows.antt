@@ -1,5 +1,6 @@
 -- No `defer` is in a part of an accepted program for which there is no code.
-use Rattle.std.proofs.Common.{◌≡◌, ℕ, zero, suc, Bool, true, false, not, cond, nat_eq, List, [], ◌∷◌, ◌++◌, Option, Some, None}
+use Rattle.std.proofs.Common.{◌≡◌, ℕ, zero, suc, Bool, true, false, not, cond, nat_eq, List, [], ◌∷◌, ◌++◌, Option}
+use Rattle.std.proofs.Common.{Some, None}
 use Rattle.std.proofs.Common.{refl, sym, ap, ◌∙◌, arith, subst, true≢false}
 use Rattle.std.specs.Str.{bytes_eq}
 use Rattle.std.specs.Prelude.{slice_get, codes}
@@ -7,7 +8,8 @@ use Rattle.verse_base.specs.declared.places.Place.{Place}
 use Rattle.verse_tree.specs.Tree.{Bytes, Tree, tree, Shape, Trees, no_trees, more_trees}
 use Rattle.verse_tree.specs.Tree as t
 use Rattle.verse_tree.specs.ItemTree.{ItemTree}
-use Rattle.verse_tree.specs.PostOrder.{Node, What, program, item, member, parameter, type_name, expression, post_order}
+use Rattle.verse_tree.specs.PostOrder.{Node, What, program, item, member, parameter, type_name, expression}
+use Rattle.verse_tree.specs.PostOrder.{post_order}
 use Rattle.verse_tree.specs.PostOrder.{parts, trees_order, items_order}
 use Rattle.verse_tree.specs.Shapes.{Shaped, as_pattern, PartsShaped, ItemsShaped}
 use Rattle.verse_tree.specs.declared.tables.Ref.{Ref}
@@ -28,7 +30,8 @@ use Rattle.verse_value.specs.Val.{Val}
 use Rattle.verse_meaning.specs.Programs.{Program, ref_at, same_name, enum_value}
 use Rattle.verse_meaning.specs.Residuals as form
 use Rattle.verse_meaning.specs.Residuals.{Form}
-use Rattle.verse_meaning.specs.Evaluating.{Callee, named_callee, member_callee, callee_of, picked, await_name, signal_name}
+use Rattle.verse_meaning.specs.Evaluating.{Callee, named_callee, member_callee, callee_of, picked, await_name}
+use Rattle.verse_meaning.specs.Evaluating.{signal_name}
 use Rattle.verse_meaning.specs.Evaluating.{of_object, of_value, is_enum, enum_member, number_of}
 use Rattle.lower_bounds.proofs.Lists.{Each, each_first, own, node}
 use Rattle.lower_code_defers.specs.Counts.{defers_in}
@@ -58,10 +61,12 @@ placed_none : (b : Tree) (us : Tys) → is_there (ty_by us (tree_place b)) ≡ t
 placed_none (tree n p (t.Shape.integer z)) us h = refl
 placed_none (tree n p x) us h = absurd (cc)
 
-item_none : (us : Tys) (ts : Trees) → nat_eq (checker.count ts) 1 ≡ true → has_item (ty.tuple us) ts ≡ true → many ts ≡ 0
+item_none : (us : Tys) (ts : Trees) → nat_eq (checker.count ts) 1 ≡ true → has_item
+    (ty.tuple us) ts ≡ true → many ts ≡ 0
 item_none us no_trees e h = refl
 item_none us (more_trees b no_trees) e h =
-    let placed : is_there (ty_by us (tree_place b)) ≡ true = ap (λ q. cond q (is_there (ty_by us (tree_place b))) true) (sym e) ∙ h in
+    let placed : is_there (ty_by us (tree_place b)) ≡ true = ap (λ q. cond q (is_there (ty_by us
+    (tree_place b))) true) (sym e) ∙ h in
     omega (arith, joined (post_order b) [], placed_none b us placed)
 item_none us (more_trees b (more_trees c ts)) e h = absurd (not_one b c ts e)
 
@@ -155,11 +160,13 @@ module _ (is : List ItemTree) (arrays events : ℕ → Bool) where
       named_shows (Some (ref.Builtin (suc (suc (suc k))))) c h = refl
 
       pub name_shows : Asked (ref_at whole m) → Shows (ref_at whole m)
-      name_shows h = subst Shows (sym (same_ref m)) (named_shows (refs.ref_at F.refs m) refl (subst Asked (same_ref m) h))
+      name_shows h = subst Shows (sym (same_ref m)) (named_shows (refs.ref_at F.refs m) refl (subst Asked
+          (same_ref m) h))
 
     -- ---- members
 
-    module _ (e : Tree) (z : Bytes) (a : Around) (rules : TypesKept F a n (t.Shape.call (tree m q (t.Shape.member e z)) ts))
+    module _ (e : Tree) (z : Bytes) (a : Around) (rules : TypesKept F a n (t.Shape.call (tree m q
+        (t.Shape.member e z)) ts))
       where
         abbrev behind_dot : Tree
         behind_dot = tree m q (t.Shape.member e z)
@@ -185,12 +192,14 @@ module _ (is : List ItemTree) (arrays events : ℕ → Bool) where
             types.action_of u z (ty_at is m) ≡ types.value (ty_at is m)
         idles (ty.task v) h k = ap (λ r. cond r (types.await v) (types.value (ty_at is m))) h
         idles (ty.event v) h k =
-            ap (λ r. cond r (types.await v) (cond (bytes_eq z (codes "Signal")) (types.signal v) (types.value (ty_at is m)))) h
+            ap (λ r. cond r (types.await v) (cond (bytes_eq z (codes "Signal")) (types.signal v) (types.value
+            (ty_at is m)))) h
             ∙ ap (λ r. cond r (types.signal v) (types.value (ty_at is m))) k
         idles u h k = refl
 
         acts : (v r : Bool) → same_name z await_name ≡ v → same_name z signal_name ≡ r → Checked None →
-            CalleeShows whole (sorted is) (cond v (of_object (form.awaiting of_event)) (cond r (of_object form.signalling)
+            CalleeShows whole (sorted is) (cond v (of_object (form.awaiting of_event)) (cond r
+            (of_object form.signalling)
             (of_value x))) behind_dot ts →
             defers_in (left_called (cond v (of_object (form.awaiting of_event)) (cond r (of_object form.signalling)
             (of_value x))) ts) ≡ 0
@@ -215,7 +224,8 @@ module _ (is : List ItemTree) (arrays events : ℕ → Bool) where
             no_other u g = cc
 
         pub dot_shows : Known is m q (t.Shape.member e z) → MemberAsked (ref_at whole m) → MemberShows (ref_at whole m)
-        dot_shows k h = subst MemberShows (sym (same_ref m)) (member_by (type_of F e) (refs.ref_at F.refs m) k.member refl
+        dot_shows k h = subst MemberShows (sym (same_ref m)) (member_by (type_of F e)
+            (refs.ref_at F.refs m) k.member refl
             (subst MemberAsked (same_ref m) h))
 
   -- ---- calls
@@ -247,7 +257,8 @@ module _ (is : List ItemTree) (arrays events : ℕ → Bool) where
   member_indexed (Some r) v z x ts = refl
   member_indexed None v z x ts = by (same_name z await_name) (same_name z signal_name)
     where
-      by : (q r : Bool) → defers_in (left_indexed (cond q (of_object (form.awaiting v)) (cond r (of_object form.signalling)
+      by : (q r : Bool) → defers_in (left_indexed (cond q (of_object (form.awaiting v)) (cond r
+          (of_object form.signalling)
           (of_value x))) ts) ≡ 0
       by true r = refl
       by false true = refl
@@ -313,7 +324,8 @@ module _ (is : List ItemTree) (arrays events : ℕ → Bool) where
   each_shows (v ∷ vs) k g h =
       (what_shows v.number v.place v.what k.0 g.0 h.0, each_shows vs k.1 g.1 h.1)
 
-  pub all_show : ItemsShaped is → Each (NodeKnown is) (items_order is) → Each (CallsShow whole (sorted is)) (items_order is) →
+  pub all_show : ItemsShaped is → Each (NodeKnown is) (items_order is) → Each (CallsShow whole (sorted is))
+      (items_order is) →
       Each (NodeShows whole) (items_order is)
   all_show shaped known calls =
       each_shows (items_order is) known (items_has (NodeKnown is) PartsKnown parts_known is shaped known) calls

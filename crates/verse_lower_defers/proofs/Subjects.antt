@@ -4,7 +4,8 @@ use Rattle.verse_tree.specs.Tree.{Written, Writtens, no_writtens, more_writtens,
 use Rattle.verse_tree.specs.Tree.{more_trees, Holes, no_holes, more_holes, Pairs, no_pairs, more_pairs}
 use Rattle.verse_tree.specs.Tree.{Givens, no_givens, more_givens}
 use Rattle.verse_tree.specs.Tree as t
-use Rattle.verse_tree.specs.ItemTree.{FieldTree, ParamTree, FunTree, MemberTree, field, method, ItemTree, using, enumeration}
+use Rattle.verse_tree.specs.ItemTree.{FieldTree, ParamTree, FunTree, MemberTree, field, method, ItemTree, using}
+use Rattle.verse_tree.specs.ItemTree.{enumeration}
 use Rattle.verse_tree.specs.ItemTree.{class, function}
 use Rattle.verse_tree.specs.PostOrder.{What, expression}
 use Rattle.verse_names_declarations.specs.Names.{Table}
@@ -14,14 +15,19 @@ use Rattle.verse_names_declarations.specs.Known.{Known, known}
 use Rattle.verse_names_scopes.specs.Visible.{World, inside}
 use Rattle.verse_names_scopes.specs.Visible as visible
 use Rattle.verse_names_scopes.specs.Subjects.{Subject, subject, locals_behind}
-use Rattle.verse_rules_walk.specs.Around.{Around, value, callee, object, target, spawned, argument, outside, default_around}
-use Rattle.verse_rules_walk.specs.Around.{used_as, freely, caught, looped, repeated, armed, deferred, left_of, indexed}
+use Rattle.verse_rules_walk.specs.Around.{Around, value, callee, object, target, spawned, argument, outside}
+use Rattle.verse_rules_walk.specs.Around.{default_around}
+use Rattle.verse_rules_walk.specs.Around.{used_as, freely, caught, looped, repeated, armed, deferred, left_of}
+use Rattle.verse_rules_walk.specs.Around.{indexed}
 use Rattle.verse_rules_walk.specs.Nodes.{number_of_tree, round_body}
 use Rattle.verse_accept_scopes.specs.Lists.{Each}
 use Rattle.verse_accept_scopes.specs.Sites.{Site, behind, all_behind, param_subject, params_behind, written_sites}
-use Rattle.verse_accept_scopes.specs.Sites.{writtens_sites, tree_sites, shape_sites, all_sites, each_sites, argument_sites}
-use Rattle.verse_accept_scopes.specs.Sites.{holes_sites, pairs_sites, givens_sites, params_sites, fun_sites, default_sites}
-use Rattle.verse_accept_scopes.specs.Sites.{field_sites, member_parts, members_sites, item_parts, item_site, items_sites}
+use Rattle.verse_accept_scopes.specs.Sites.{writtens_sites, tree_sites, shape_sites, all_sites, each_sites}
+use Rattle.verse_accept_scopes.specs.Sites.{argument_sites}
+use Rattle.verse_accept_scopes.specs.Sites.{holes_sites, pairs_sites, givens_sites, params_sites, fun_sites}
+use Rattle.verse_accept_scopes.specs.Sites.{default_sites}
+use Rattle.verse_accept_scopes.specs.Sites.{field_sites, member_parts, members_sites, item_parts, item_site}
+use Rattle.verse_accept_scopes.specs.Sites.{items_sites}
 use Rattle.verse_accept_scopes.specs.Sites.{program_sites}
 use Rattle.verse_accept_scopes.proofs.Rows.{each_joined}
 

@@ -1,9 +1,9 @@
 //! The code of files that the front end accepts has the operations of deferred blocks exactly where
 //! the files have `defer`. Read `specs/Laws`, with those of `lower_code_defers`.
 //!
-//! In `proofs/`: `Subjects`, each node has the names of its form; `Nodes`, what is known of a node by
-//! itself; `Shows`, no `defer` is in a part without code; `Bodies`, all bodies are fine; `Whole`, the
-//! law.
+//! In `proofs/`: `Subjects`, each expression has to do with names what its form says; `Nodes`, what
+//! is known of a node by itself; `Shows`, no `defer` is in a part without code; `Bodies`, all bodies
+//! are fine; `Whole`, the law.
 #![tactic(auto)]
 
 ghost use Rattle.verse_lower_defers.specs.Laws.{AcceptedDefersShow};
@@ -15,8 +15,9 @@ use verse_accept_rows::all_found;
 use verse_rules_walk::laws::nodes_in_order;
 
 /// The code of accepted files has a Defer and a DeferEnd for each `defer`, and a Leave exactly where
-/// there is one, wherever it stands: in functions and methods, in defaults of fields, and where no
-/// run comes to. Where what is called as a value gives none, no `defer` may be in its operands.
+/// there is one, wherever that stands: in functions and methods that nothing calls, in defaults of
+/// fields, and where no run comes to. Where what is called as a value gives none, no `defer` may be
+/// in its operands.
 pub fn accepted_defers_show()
     ensures { AcceptedDefersShow }
 {
