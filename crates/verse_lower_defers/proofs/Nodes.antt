@@ -33,6 +33,10 @@ use Rattle.verse_accept_fine.proofs.Rules.{TypesKept, types_kept, not_not}
 use Rattle.verse_accept_forms.proofs.CalleeKinds.{NoName, IsValue, other_value}
 use Rattle.verse_lower_defers.proofs.Subjects.{OwnWhat, Own}
 
+-- which nodes are arrays and events is not asked here
+abbrev none : ℕ → Bool
+none n = false
+
 module _ (is : List ItemTree) where
   abbrev F : Facts
   F = final is
@@ -44,7 +48,7 @@ module _ (is : List ItemTree) where
 
   pub record Known (n : ℕ) (p : Place) (x : Shape) : Type 0 where
     -- what is no name and no member is called as a value
-    pub value : NoName x → types.callee_of F (tree n p x) ≡ types.value (type_of F (tree n p x))
+    pub value : NoName is none none x → types.callee_of F (tree n p x) ≡ types.value (type_of F (tree n p x))
     pub member : MemberIs n x
     -- what refers to an enum is its name
     pub enum : (d : ℕ) → refs.ref_at F.refs n ≡ Some (ref.Enum d) → count (tree n p x) ≡ 0
@@ -104,7 +108,7 @@ module _ (is : List ItemTree) where
     shape_known : (n : ℕ) (p : Place) (x : Shape) → At is w a xs n p x → ShapeKnown n p x
     shape_known n p x h = record {
       known = record {
-        value = λ k. (other_value is (λ m. false) (λ m. false) w xs a n p x h k).callee;
+        value = λ k. (other_value is none none w xs a n p x h k).callee;
         member = member_is n p x h;
         enum = λ d e. enum_none n p x d h e;
       };
