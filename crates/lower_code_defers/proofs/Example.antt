@@ -1,6 +1,6 @@
 -- A program that is accepted, and whose code has nothing of its `defer`: it stands in an operand of what gives no
 -- value, of which the checker asks nothing and for which there is no code.
-use Rattle.std.proofs.Common.{◌≡◌, ℕ, suc, Bool, [], ◌∷◌, List, None, false, refl}
+use Rattle.std.proofs.Common.{◌≡◌, ℕ, suc, Bool, [], ◌∷◌, None, false, refl}
 use Rattle.std.specs.Prelude.{codes, pos}
 use Rattle.verse_base.specs.declared.places.Place.{Place}
 use Rattle.verse_tree.specs.Tree.{Tree, tree, no_trees, more_trees}
@@ -8,7 +8,6 @@ use Rattle.verse_tree.specs.Tree as t
 use Rattle.verse_tree.specs.ItemTree.{function}
 use Rattle.verse_tree.specs.PostOrder.{items_order}
 use Rattle.verse_tree.specs.declared.tables.Ty.TheVariants as ty
-use Rattle.verse_code.specs.declared.operations.Op.{Op}
 use Rattle.verse_code.specs.declared.operations.Op.TheVariants as o
 use Rattle.verse_meaning.specs.Programs.{Program}
 use Rattle.lower_code.specs.Programs.{code_of}

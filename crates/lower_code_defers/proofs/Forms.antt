@@ -1,13 +1,12 @@
 -- The code of a fine tree has a Defer and a DeferEnd for each `defer` in it, and its blocks are
 -- left: one clause a form.
-use Rattle.std.proofs.Common.{◌≡◌, ℕ, suc, ◌+◌, ◌≤◌, List, [], ◌∷◌, ◌++◌, length, Bool, true, false, refl, sym, ap}
-use Rattle.std.proofs.Common.{◌∙◌}
-use Rattle.std.proofs.Common.{arith, Option, Some, None, subst}
+use Rattle.std.proofs.Common.{◌≡◌, ℕ, suc, ◌+◌, ◌≤◌, [], ◌∷◌, ◌++◌, length, Bool, true, false, refl, sym}
+use Rattle.std.proofs.Common.{arith, None, subst}
 use Rattle.verse_base.specs.declared.places.Place.{Place}
 use Rattle.verse_tree.specs.Tree.{Bytes, Written, Tree, tree, Shape, Trees, no_trees, more_trees, Holes, no_holes}
 use Rattle.verse_tree.specs.Tree.{more_holes, Givens, no_givens, more_givens}
 use Rattle.verse_tree.specs.Tree as t
-use Rattle.verse_tree.specs.PostOrder.{Node, post_order, parts, trees_order, holes_order, pairs_order, givens_order}
+use Rattle.verse_tree.specs.PostOrder.{post_order, parts, trees_order, holes_order, pairs_order, givens_order}
 use Rattle.verse_tree.specs.PostOrder.{written_order}
 use Rattle.verse_tree.specs.declared.exprs.Operator.TheVariants as op
 use Rattle.verse_code.specs.declared.operations.Op.TheVariants as o
@@ -18,7 +17,7 @@ use Rattle.verse_meaning.specs.Programs.{Program, ref_at}
 use Rattle.verse_meaning.specs.Residuals as form
 use Rattle.verse_meaning.specs.Residuals.{Form, Base, a_constant, a_variable}
 use Rattle.verse_meaning.specs.Evaluating.{Callee, alone, of_object, of_value, of_quotient, no_callee}
-use Rattle.verse_meaning.specs.Evaluating.{Statement, statement_of, statement_of_shape, callee_of}
+use Rattle.verse_meaning.specs.Evaluating.{statement_of, statement_of_shape, callee_of}
 use Rattle.verse_meaning.specs.Evaluating.{spawned_callee, picked, member_form}
 use Rattle.verse_meaning.specs.Evaluating.{enum_member, class_ref, base_of, mode_of, number_of, none_left}
 use Rattle.verse_sound_rules.specs.Found.{Found, Allowed, tried, armed, deferred}
@@ -28,8 +27,8 @@ use Rattle.verse_sound_rules.specs.Fine.{FineTrees, FineHoles, FinePairs, FineGi
 use Rattle.verse_sound_rules.specs.Fine.{FineQuotient, FineTarget, FineSpawned, sort_at, inner_sort, inner_sort_of}
 use Rattle.verse_sound_rules.specs.Fine.{seen_behind, seen_after, on_statement, Defines, Generates, IsEnumValue}
 use Rattle.lower_code.specs.declared.arounds.Around.{Around}
-use Rattle.lower_code.specs.Pieces.{Maker, one, when, ◌then◌}
-use Rattle.lower_code.specs.Scopes.{Scope, hidden, this_found}
+use Rattle.lower_code.specs.Pieces.{Maker, ◌then◌}
+use Rattle.lower_code.specs.Scopes.{Scope, hidden}
 use Rattle.lower_code.specs.Arounds.{fresh, up, raised, looped, enclosed}
 use Rattle.lower_code.specs.Applied.{started}
 use Rattle.lower_code.specs.Lowering.{how_many, is_text, one_if, joined_parts, pairs_in, text_if, target_operands}
@@ -49,7 +48,7 @@ use Rattle.lower_code_defers.proofs.Counted.{text, away, if_so, only, leave_if, 
 use Rattle.lower_code_defers.proofs.Counted.{groups}
 use Rattle.lower_code_defers.proofs.Nodes.{count, many, joined, all_of, of_parts, typed_part, insides, none_defers}
 use Rattle.lower_code_defers.proofs.Nodes as nodes
-use Rattle.lower_code_defers.proofs.Others.{quiet, finishes, finishes_alone, finishes_so, starts, reads_name}
+use Rattle.lower_code_defers.proofs.Others.{quiet, finishes_alone, finishes_so, starts, reads_name}
 use Rattle.lower_code_defers.proofs.Others.{reads_this}
 use Rattle.lower_code_defers.proofs.Others.{base_reads, stores, else_stuck, returns, breaks, binds}
 use Rattle.lower_code_defers.proofs.Leaves.{callee_none, spawned_none, spawned_left, by_kind, by_member, states}

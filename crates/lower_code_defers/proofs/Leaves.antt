@@ -1,28 +1,25 @@
 -- Statements, clauses, callees, members and arms, where their parts have the code of so many `defer`s.
-use Rattle.std.proofs.Common.{◌≡◌, ℕ, suc, ◌+◌, ◌≤◌, Bool, true, false, Option, Some, None, refl, sym, ap, ◌∙◌}
-use Rattle.std.proofs.Common.{arith, cond}
+use Rattle.std.proofs.Common.{◌≡◌, ℕ, suc, ◌+◌, Bool, true, false, Option, Some, None, refl, sym}
+use Rattle.std.proofs.Common.{arith}
 use Rattle.std.proofs.Common.{neg_ℤ}
 use Rattle.std.proofs.lemmas.Option.{none-some}
 use Rattle.verse_base.specs.declared.places.Place.{Place}
-use Rattle.verse_tree.specs.Tree.{Bytes, Tree, tree, Shape, Trees, no_trees, more_trees, Givens}
+use Rattle.verse_tree.specs.Tree.{Bytes, Tree, tree, Shape, Trees, Givens}
 use Rattle.verse_tree.specs.Tree as t
-use Rattle.verse_tree.specs.PostOrder.{post_order, trees_order, parts}
 use Rattle.verse_tree.specs.declared.tables.Ref.{Ref}
 use Rattle.verse_tree.specs.declared.tables.Ref.TheVariants as ref
-use Rattle.verse_code.specs.declared.operations.Op.{Op}
 use Rattle.verse_code.specs.declared.operations.Op.TheVariants as o
 use Rattle.verse_value.specs.Val.{Val}
-use Rattle.verse_meaning.specs.Programs.{Program, same_name, ref_at, fields_of, pattern_value}
-use Rattle.verse_meaning.specs.Residuals.{Form, Binder, Generator, of_elements, of_entries, of_range}
+use Rattle.verse_meaning.specs.Programs.{Program, same_name, ref_at, pattern_value}
+use Rattle.verse_meaning.specs.Residuals.{Form, Generator, of_elements, of_entries, of_range}
 use Rattle.verse_meaning.specs.Evaluating.{Statement, plain, defines, defers, generates, Callee, alone, of_object}
-use Rattle.verse_meaning.specs.Evaluating.{of_value, of_quotient, no_callee, builtin, named_callee, member_callee}
+use Rattle.verse_meaning.specs.Evaluating.{of_value, of_quotient, no_callee, named_callee, member_callee}
 use Rattle.verse_meaning.specs.Evaluating.{callee_of}
 use Rattle.verse_meaning.specs.Evaluating.{callee_of_shape, await_name, signal_name, number_of, spawned_callee}
 use Rattle.verse_sound_rules.specs.Fine.{on_callee, on_statement, on_member}
-use Rattle.lower_code.specs.Pieces.{Maker, turning, one, ◌then◌}
+use Rattle.lower_code.specs.Pieces.{Maker, turning, ◌then◌}
 use Rattle.lower_code.specs.Scopes.{Scope}
 use Rattle.lower_code.specs.Lowering.{by_callee, with_binder, with_generator, taking, stated, claused, membered}
-use Rattle.lower_code.specs.Lowering.{enum_op}
 use Rattle.lower_code.specs.Lowering.{enum_pattern, pattern_op, is_any, arm_by, arm_of, instance_of}
 use Rattle.lower_bounds.proofs.Lists.{on_cond}
 use Rattle.lower_bounds.proofs.Leaves.{NoCall}

@@ -1,9 +1,9 @@
 -- How many `defer`s are in the parts of a tree, and in the items of a program.
-use Rattle.std.proofs.Common.{◌≡◌, ℕ, suc, ◌+◌, List, [], ◌∷◌, ◌++◌, Bool, true, false, cond, Option, Some, None}
-use Rattle.std.proofs.Common.{refl, sym, ap, ◌∙◌, arith, ◌≤◌}
+use Rattle.std.proofs.Common.{◌≡◌, ℕ, ◌+◌, List, [], ◌∷◌, ◌++◌, Bool, true, false, cond, Option, Some, None}
+use Rattle.std.proofs.Common.{refl, ap, arith, ◌≤◌}
 use Rattle.verse_base.specs.declared.places.Place.{Place}
 use Rattle.verse_tree.specs.Tree.{Written, Writtens, no_writtens, more_writtens, Tree, tree, Shape, Trees, no_trees}
-use Rattle.verse_tree.specs.Tree.{more_trees, Holes, Pairs, Givens}
+use Rattle.verse_tree.specs.Tree.{more_trees}
 use Rattle.verse_tree.specs.Tree as t
 use Rattle.verse_tree.specs.ItemTree.{FieldTree, ParamTree, FunTree, MemberTree, field, method, ItemTree, using}
 use Rattle.verse_tree.specs.ItemTree.{enumeration}
@@ -14,7 +14,7 @@ use Rattle.verse_tree.specs.PostOrder.{params_order, param_order, fun_parts, fie
 use Rattle.verse_tree.specs.PostOrder.{item_order, items_order, node_at, item, member, parameter}
 use Rattle.verse_meaning.specs.Programs.{own_fields}
 use Rattle.lower_code.specs.Defaults.{with_default, with_defaults, defaults_in}
-use Rattle.lower_code.specs.Lowering.{is_defer_shape, is_defer, any_defer}
+use Rattle.lower_code.specs.Lowering.{is_defer_shape, any_defer}
 use Rattle.lower_code.specs.Programs.{Body, methods_in, bodies_in, default_body, default_bodies, all_bodies}
 use Rattle.lower_bounds.proofs.Lists.{node}
 use Rattle.lower_code_defers.specs.Counts.{defers_shape, defers_in}

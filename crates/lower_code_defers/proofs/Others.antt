@@ -1,10 +1,8 @@
 -- What stands for no tree of its own has no operation of a deferred block but what leaves it.
-use Rattle.std.proofs.Common.{◌≡◌, ℕ, suc, ◌+◌, ◌≤◌, Bool, true, false, nat_lt, Option, Some, None, refl, sym}
+use Rattle.std.proofs.Common.{◌≡◌, ℕ, Bool, true, false, nat_lt, Option, Some, None, refl, sym}
 use Rattle.std.proofs.Common.{true≢false}
-use Rattle.std.proofs.Common.{length, arith}
-use Rattle.verse_base.specs.declared.places.Place.{Place}
+use Rattle.std.proofs.Common.{arith}
 use Rattle.verse_tree.specs.Tree.{Bytes, Tree, Givens}
-use Rattle.verse_tree.specs.PostOrder.{Node}
 use Rattle.verse_tree.specs.declared.tables.Ref.{Ref}
 use Rattle.verse_code.specs.declared.operations.Op.{Op}
 use Rattle.verse_code.specs.declared.operations.Op.TheVariants as o
@@ -13,10 +11,9 @@ use Rattle.verse_value.specs.declared.modes.Mode.{Mode}
 use Rattle.verse_meaning.specs.Programs.{Program, fields_of}
 use Rattle.verse_meaning.specs.Residuals as form
 use Rattle.verse_meaning.specs.Residuals.{Form, Base, Binder, no_name, a_constant, a_variable}
-use Rattle.verse_tree.specs.declared.exprs.Comparison.{Comparison}
 use Rattle.lower_code.specs.declared.arounds.Around.{Around}
-use Rattle.lower_code.specs.Pieces.{Maker, one, when_else, kept}
-use Rattle.lower_code.specs.Scopes.{Scope, this_found, find, read_this}
+use Rattle.lower_code.specs.Pieces.{Maker, when_else}
+use Rattle.lower_code.specs.Scopes.{Scope, this_found, read_this}
 use Rattle.lower_code.specs.Arounds.{returning, breaking}
 use Rattle.lower_code.specs.Applied.{finish, start, storing, mode_number}
 use Rattle.lower_code.specs.Defaults.{default_number}

@@ -1,10 +1,9 @@
 -- The code of a whole program.
-use Rattle.std.proofs.Common.{◌≡◌, ℕ, zero, suc, ◌+◌, ◌-◌, ◌<◌, ◌≤◌, List, [], ◌∷◌, map, Bool, true, false, Option}
-use Rattle.std.proofs.Common.{Some, None}
-use Rattle.std.proofs.Common.{refl, sym, ap, ◌∙◌, arith, subst, slice_get}
+use Rattle.std.proofs.Common.{◌≡◌, ℕ, zero, suc, ◌+◌, ◌-◌, ◌<◌, ◌≤◌, List, [], ◌∷◌, map, Bool}
+use Rattle.std.proofs.Common.{refl, sym, ap, ◌∙◌, arith, subst}
 use Rattle.verse_tree.specs.Tree.{Shape}
 use Rattle.verse_tree.specs.Tree as t
-use Rattle.verse_tree.specs.PostOrder.{What, program, item, member, parameter, type_name, expression, Node}
+use Rattle.verse_tree.specs.PostOrder.{What, expression, Node}
 use Rattle.verse_tree.specs.PostOrder.{items_order}
 use Rattle.verse_code.specs.declared.operations.Op.{Op}
 use Rattle.verse_code.specs.declared.operations.Op.TheVariants as o
@@ -13,14 +12,14 @@ use Rattle.verse_meaning.specs.Programs.{Program}
 use Rattle.verse_sound_rules.specs.Found.{Found}
 use Rattle.lower_code.specs.Pieces.{Item, sure, leaving}
 use Rattle.lower_code.specs.Arounds.{fresh}
-use Rattle.lower_code.specs.Programs.{Body, all_bodies, item_op, first_spot, bodies_from, whole, code_of}
+use Rattle.lower_code.specs.Programs.{Body, all_bodies, item_op, first_spot, bodies_from, whole}
 use Rattle.lower_bounds.specs.Laws.{HasNoDefer, IsNoDefer}
 use Rattle.lower_bounds.proofs.Lists.{Each}
 use Rattle.lower_bounds.proofs.Bodies.{BodyHas, all_have, all_each, each_all}
 use Rattle.lower_bounds.proofs.Defers.{defers_show}
 use Rattle.lower_code_defers.specs.Counts.{begins, ends, how_many, defers_shape, defers_what, defers_in}
 use Rattle.lower_code_defers.specs.Programs.{BodyIsFine, NodeShows}
-use Rattle.lower_code_defers.specs.Laws.{HasCode, DefersHaveCode, FineDefersShow}
+use Rattle.lower_code_defers.specs.Laws.{HasCode, FineDefersShow}
 use Rattle.lower_code_defers.proofs.Counted.{leaves, tally, Has, both, then_other, none, just}
 use Rattle.lower_code_defers.proofs.Nodes.{in_bodies, all_count}
 use Rattle.lower_code_defers.proofs.Forms.{counts}

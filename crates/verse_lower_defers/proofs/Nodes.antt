@@ -1,12 +1,12 @@
 -- What is known of a node by itself, where no rule is broken at it.
-use Rattle.std.proofs.Common.{◌≡◌, ℕ, Bool, true, false, not, List, [], ◌∷◌, map, Option, Some, None, refl, sym, ap}
+use Rattle.std.proofs.Common.{◌≡◌, ℕ, Bool, true, false, List, [], ◌∷◌, map, Option, Some, None, refl, sym}
 use Rattle.std.proofs.Common.{◌∙◌}
 use Rattle.std.proofs.Common.{subst}
 use Rattle.verse_base.specs.declared.places.Place.{Place}
 use Rattle.verse_tree.specs.Tree.{Bytes, Tree, tree, Shape}
 use Rattle.verse_tree.specs.Tree as t
 use Rattle.verse_tree.specs.ItemTree.{ItemTree}
-use Rattle.verse_tree.specs.PostOrder.{What, program, item, member, parameter, type_name, expression}
+use Rattle.verse_tree.specs.PostOrder.{What, member, expression}
 use Rattle.verse_tree.specs.PostOrder as plain
 use Rattle.verse_tree.specs.declared.tables.Ref.{Ref}
 use Rattle.verse_tree.specs.declared.tables.Ref.TheVariants as ref
@@ -16,7 +16,7 @@ use Rattle.verse_rules_walk.specs.Around.{Around}
 use Rattle.verse_rules_walk.specs.Nodes.{alone}
 use Rattle.verse_names_declarations.specs.Names.{Table}
 use Rattle.verse_names_scopes.specs.Visible.{World}
-use Rattle.verse_names_scopes.specs.Subjects.{Subject, subject, this_ref}
+use Rattle.verse_names_scopes.specs.Subjects.{Subject, this_ref}
 use Rattle.verse_check_refs.specs.Refs as refs
 use Rattle.verse_check_typing.specs.Facts.{Facts, type_of}
 use Rattle.verse_check_typing.specs.Members.{member_ref, member_at, field_by, method_by}
@@ -30,7 +30,7 @@ use Rattle.verse_accept_scopes.specs.Sites.{Site, site, node_of}
 use Rattle.verse_accept_rows.specs.Found.{final, Found}
 use Rattle.verse_accept_fine.specs.Sorted.{At}
 use Rattle.verse_accept_fine.proofs.Rules.{TypesKept, types_kept, not_not}
-use Rattle.verse_accept_forms.proofs.CalleeKinds.{NoName, IsValue, other_value}
+use Rattle.verse_accept_forms.proofs.CalleeKinds.{NoName, other_value}
 use Rattle.verse_lower_defers.proofs.Subjects.{OwnWhat, Own}
 
 -- which nodes are arrays and events is not asked here

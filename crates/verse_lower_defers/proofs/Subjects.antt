@@ -26,7 +26,7 @@ use Rattle.verse_accept_scopes.specs.Sites.{writtens_sites, tree_sites, shape_si
 use Rattle.verse_accept_scopes.specs.Sites.{argument_sites}
 use Rattle.verse_accept_scopes.specs.Sites.{holes_sites, pairs_sites, givens_sites, params_sites, fun_sites}
 use Rattle.verse_accept_scopes.specs.Sites.{default_sites}
-use Rattle.verse_accept_scopes.specs.Sites.{field_sites, member_parts, members_sites, item_parts, item_site}
+use Rattle.verse_accept_scopes.specs.Sites.{field_sites, members_sites, item_parts, item_site}
 use Rattle.verse_accept_scopes.specs.Sites.{items_sites}
 use Rattle.verse_accept_scopes.specs.Sites.{program_sites}
 use Rattle.verse_accept_scopes.proofs.Rows.{each_joined}

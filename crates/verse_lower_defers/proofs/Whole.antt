@@ -1,5 +1,5 @@
 -- The code of accepted files has the operations of deferred blocks where the files have `defer`.
-use Rattle.std.proofs.Common.{◌≡◌, ℕ, Bool, List, map, sym, ap, ◌∙◌, subst, inl, All, slice_get}
+use Rattle.std.proofs.Common.{ℕ, Bool, List, map, sym, ap, ◌∙◌, subst, inl, All, slice_get}
 use Rattle.verse_tree.specs.ItemTree.{ItemTree}
 use Rattle.verse_tree.specs.ItemView.{item_of}
 use Rattle.verse_tree.specs.PostOrder.{items_order}
