@@ -1,0 +1,7 @@
+pub mod Counted
+pub mod Others
+pub mod Nodes
+pub mod Leaves
+pub mod Forms
+pub mod Whole
+pub mod Example

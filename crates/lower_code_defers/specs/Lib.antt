@@ -1,0 +1,3 @@
+pub mod Counts
+pub mod Programs
+pub mod Laws
