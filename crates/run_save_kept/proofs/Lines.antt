@@ -1,6 +1,6 @@
 -- The tasks of each tree stand in the order in which they began, each before its parent.
 use Rattle.std.proofs.Common.{◌≡◌, ℕ, zero, suc, ◌≤◌, ◌<◌, List, [], ◌∷◌, ◌++◌, Option, Some, None, Bool, true, false, cond, refl, sym, subst, ap}
-use Rattle.std.proofs.Common.{arith, length}
+use Rattle.std.proofs.Common.{arith, length, ◌∙◌}
 use Rattle.verse_code.specs.declared.codes.Code.{Code}
 use Rattle.verse_value.specs.Val.{Val}
 use Rattle.verse_meaning_state.specs.State.{State, with_result}
@@ -14,9 +14,9 @@ use Rattle.verse_code_machine_parents.proofs.Lists.{onto_line}
 use Rattle.run_save_shots.specs.Lists.{Each}
 use Rattle.run_save_moves.specs.Moves as m
 use Rattle.run_save_moves.specs.Moves.{Point, Move}
-use Rattle.run_save_fits.specs.Held.{WhoIs}
-use Rattle.run_save_fits.proofs.Holding.{child_who}
-use Rattle.run_save_kept.specs.Orders.{Before, NoneBelow, Sits, Lined}
+use Rattle.run_save_fits.specs.Held.{IsSome, WhoIs}
+use Rattle.run_save_fits.proofs.Holding.{child_who, role_some}
+use Rattle.run_save_kept.specs.Orders.{Before, NoneBelow, first, StandsBefore, Sits, Lined}
 use Rattle.run_save_kept.proofs.Paths.{below_less, below_end, child_before, before_child, child_behind}
 use Rattle.run_save_kept.proofs.Sums.{each_join, front_each, back_each, all_as}
 
@@ -43,7 +43,7 @@ each_among P (among_more h) a = each_among P h a.1
 
 lined_among : (l : ℕ) {vs ws : List Who} → Among vs ws → Lined l ws → Lined l vs
 lined_among l among_none a = tt
-lined_among l (among_both {w = w} h) a = (a.0, each_among (λ (v : Who). Before w.path v.path) h a.1, lined_among l h a.2)
+lined_among l (among_both {w = w} h) a = (a.0, each_among (λ (v : Who). StandsBefore w.path v.path) h a.1, lined_among l h a.2)
 lined_among l (among_more h) a = lined_among l h a.2
 
 line_among : (xs : List Task) {vs ws : List Who} → Among vs ws → Among (line xs vs) (line xs ws)
@@ -82,21 +82,36 @@ child_sits l w a = record {
   above = below_end l w.path (below_less l (suc l) w.path (omega arith) a.above);
 }
 
-each_puts : (l : ℕ) (x w : Who) {us ws : List Who} → Puts (child_named w l) w us ws → NoneBelow (suc l) x.path →
-    Each (λ (v : Who). Before x.path v.path) us → Each (λ (v : Who). Before x.path v.path) ws
-each_puts l x w puts_here h a = (before_child x.path w.path l h a.0, a)
-each_puts l x w (puts_later p) h a = (a.0, each_puts l x w p h a.1)
+first_end : (a : List ℕ) (n : ℕ) → IsSome a → first (a ++ n ∷ []) ≡ first a
+first_end [] n s = absurd s
+first_end (i ∷ a) n s = refl
+
+-- and each of them is a task
+some_path : (w : Who) → WhoIs w → IsSome w.path
+some_path w a = role_some w.role w a
+
+each_puts : (l : ℕ) (x w : Who) {us ws : List Who} → Puts (child_named w l) w us ws → NoneBelow (suc l) x.path → WhoIs w →
+    Each (λ (v : Who). StandsBefore x.path v.path) us → Each (λ (v : Who). StandsBefore x.path v.path) ws
+each_puts l x w puts_here h b a = ((before_child x.path w.path l h a.0.0, a.0.1 ∙ sym (first_end w.path l (some_path w b))), a)
+each_puts l x w (puts_later p) h b a = (a.0, each_puts l x w p h b a.1)
+
+puts_named : (l : ℕ) (w : Who) {us ws : List Who} → Puts (child_named w l) w us ws → Lined (suc l) us → WhoIs w
+puts_named l w puts_here a = a.0.named
+puts_named l w (puts_later p) a = puts_named l w p a.2
 
 lined_puts : (l : ℕ) (w : Who) {us ws : List Who} → Puts (child_named w l) w us ws → Lined (suc l) us → Lined l ws
 lined_puts l w (puts_here {ws = ws}) a = (
   child_sits l w a.0,
-  (child_before w.path l, all_as (λ (v : Who). Before w.path v.path) (λ (v : Who). Before (w.path ++ l ∷ []) v.path) (λ v b. child_behind w.path v.path l
-      b) ws a.1),
+  (
+    (child_before w.path l, first_end w.path l (some_path w a.0.named)),
+    all_as (λ (v : Who). StandsBefore w.path v.path) (λ (v : Who). StandsBefore (w.path ++ l ∷ []) v.path) (λ v b. (child_behind w.path v.path l b.0, first_end
+        w.path l (some_path w a.0.named) ∙ b.1)) ws a.1,
+  ),
   lined_less l (suc l) (w ∷ ws) (omega arith) a,
 )
 lined_puts l w (puts_later {x = x} p) a = (
   record { named = a.0.named; above = below_less l (suc l) x.path (omega arith) a.0.above },
-  each_puts l x w p a.0.above a.1,
+  each_puts l x w p a.0.above (puts_named l w p a.2) a.1,
   lined_puts l w p a.2,
 )
 
@@ -180,7 +195,7 @@ pub record Rows (left : ℕ) (ws : List Who) (us : List Up) (trees : Trees) : Ty
   pub first : TreesLined left trees.before
   pub later : TreesLined left trees.behind
 
-rows : {left : ℕ} {ws : List Who} {us : List Up} {trees : Trees} → Lined left ws → LinesBelow left us → TreesLined left trees.before →
+pub rows : {left : ℕ} {ws : List Who} {us : List Up} {trees : Trees} → Lined left ws → LinesBelow left us → TreesLined left trees.before →
     TreesLined left trees.behind → Rows left ws us trees
 rows a b d e = record { own = a; below = b; first = d; later = e }
 

@@ -9,7 +9,7 @@ use Rattle.run_save_shots.specs.Lists.{Each, EachTwo}
 use Rattle.run_save_shots.specs.Keeping.{behind_parent, walked, walk}
 use Rattle.run_save_fits.specs.Held.{IsSome, RoleIs, WhoIs, tasks_sum, trees_sum, one}
 use Rattle.run_save_fits.proofs.KeptOrder.{IsIn, Follows, InWalk, walk_well}
-use Rattle.run_save_kept.specs.Orders.{Before, Lined, is_named}
+use Rattle.run_save_kept.specs.Orders.{Before, StandsBefore, Lined, is_named}
 use Rattle.run_save_kept.proofs.Paths.{same_is, siblings_fall}
 use Rattle.run_save_kept.proofs.Sums.{tasks_join, each_join, all_as}
 
@@ -81,9 +81,9 @@ trees_names left tss a = all_as (λ ts. Lined left (whos ts)) (λ ts. Each Named
 
 -- ---- one tree
 
-line_older : (t : Task) (us : List Task) → Named t → Each Named us → Each (λ (v : Who). Before t.thread.who.path v.path) (whos us) → Each (Older t) us
+line_older : (t : Task) (us : List Task) → Named t → Each Named us → Each (λ (v : Who). StandsBefore t.thread.who.path v.path) (whos us) → Each (Older t) us
 line_older t [] a b d = tt
-line_older t (u ∷ us) a b d = (older t.thread.who u.thread.who a b.0 d.0, line_older t us a b.1 d.1)
+line_older t (u ∷ us) a b d = (older t.thread.who u.thread.who a b.0 d.0.0, line_older t us a b.1 d.1)
 
 nil_end : (xs : List Task) → xs ++ [] ≡ xs
 nil_end [] = refl

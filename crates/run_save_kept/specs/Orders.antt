@@ -16,6 +16,15 @@ Before [] q = ⊥
 Before (i ∷ p) [] = Unit {0}
 Before (i ∷ p) (j ∷ q) = (j < i) ⊎ ((i ≡ j) × Before p q)
 
+-- the number of the root
+abbrev pub first : List ℕ → ℕ
+first [] = 0
+first (n ∷ ns) = n
+
+-- so in one tree
+abbrev pub StandsBefore : List ℕ → List ℕ → Type 0
+StandsBefore p q = Before p q × (first p ≡ first q)
+
 -- none of the numbers is below the bound
 abbrev pub NoneBelow : ℕ → List ℕ → Type 0
 NoneBelow left [] = Unit {0}
@@ -26,10 +35,10 @@ pub record Sits (left : ℕ) (w : Who) : Type 0 where
   pub named : WhoIs w
   pub above : NoneBelow left w.path
 
--- the tasks of a tree stand so
+-- the tasks of a tree stand so, beneath one root
 abbrev pub Lined : ℕ → List Who → Type 0
 Lined left [] = Unit {0}
-Lined left (w ∷ ws) = Sits left w × Each (λ (v : Who). Before w.path v.path) ws × Lined left ws
+Lined left (w ∷ ws) = Sits left w × Each (λ (v : Who). StandsBefore w.path v.path) ws × Lined left ws
 
 -- the last number of a path
 abbrev pub last : List ℕ → ℕ
