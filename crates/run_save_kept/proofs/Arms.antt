@@ -1,13 +1,10 @@
 -- The tasks that are kept: each unfinished arm is one, and siblings stand in their order.
-use Rattle.std.proofs.Common.{◌≡◌, ℕ, zero, suc, ◌+◌, ◌≤◌, ◌<◌, length, map, List, [], ◌∷◌, ◌++◌, Option, Some, None, Bool, true, false, cond, refl}
+use Rattle.std.proofs.Common.{◌≡◌, ℕ, zero, suc, ◌+◌, ◌≤◌, ◌<◌, map, List, [], ◌∷◌, ◌++◌, Option, Some, None, Bool, true, false, cond, refl}
 use Rattle.std.proofs.Common.{sym, subst, ap, ◌∙◌, arith, option_map, ◌⊎◌}
 use Rattle.std.specs.Prelude.{pred, ◌&&◌, ◌==◌, eqb, ◌≢◌}
 use mathlib.Core.Logic.{inl, inr}
 use Rattle.std.proofs.lemmas.Bool.Decides.{eqb_tells}
 use Rattle.task_tree.specs.Tasks.{is_child}
-use Rattle.task_tree.specs.declared.tasks.Role as r
-use Rattle.task_tree.specs.declared.tasks.Role.TheVariants.{Root, Arm, Behind}
-use Rattle.verse_value.specs.Val.{Val}
 use Rattle.verse_meaning_state.specs.Waits.{nth, eqn, ltn}
 use Rattle.verse_code_machine.specs.Tasks.{Frame, root, part, Part, did, runs, Rest, asleep, group, Task, same_path}
 use Rattle.verse_code_machine.specs.Ends.{is_run}
@@ -18,10 +15,10 @@ use Rattle.run_save_shots.specs.Fitting as fit
 use Rattle.run_save_shots.specs.Fitting.{is_arm_of, unfinished, ArmsRun, MayFollow, InOrder}
 use Rattle.run_save_shots.specs.Keeping as kp
 use Rattle.run_save_shots.specs.Keeping.{place_of, task_of, arm_of, arm_in, depth_of, arm_or, role_in}
-use Rattle.run_save_fits.specs.Held.{IsSome, RoleIs, WhoIs, tasks_sum, one}
+use Rattle.run_save_fits.specs.Held.{IsSome, RoleIs, tasks_sum, one}
 use Rattle.run_save_fits.proofs.Holding.{role_some}
 use Rattle.run_save_kept.specs.Orders.{is_named, runs_in, arms_of, in_group, awaits, skips, weight}
-use Rattle.run_save_kept.proofs.Paths.{two_ways, clash, same_is, is_same, same_self, not_same, end_is, root_no_part, no_run, eqn_not, ltn_less}
+use Rattle.run_save_kept.proofs.Paths.{two_ways, clash, same_is, is_same, same_self, not_same, end_is, root_no_part, ltn_less}
 use Rattle.run_save_kept.proofs.Sums.{all_as}
 use Rattle.run_save_kept.proofs.Siblings.{Older, Named, part_path}
 

@@ -1,11 +1,11 @@
 -- The tasks of each tree stand in the order in which they began, each before its parent.
-use Rattle.std.proofs.Common.{◌≡◌, ℕ, zero, suc, ◌≤◌, ◌<◌, List, [], ◌∷◌, ◌++◌, Option, Some, None, Bool, true, false, cond, refl, sym, subst, ap}
-use Rattle.std.proofs.Common.{arith, length, ◌∙◌}
+use Rattle.std.proofs.Common.{◌≡◌, ℕ, suc, ◌≤◌, List, [], ◌∷◌, ◌++◌, Option, Some, None, Bool, true, false, cond, refl, sym, subst, ap}
+use Rattle.std.proofs.Common.{arith, ◌∙◌}
 use Rattle.verse_code.specs.declared.codes.Code.{Code}
 use Rattle.verse_value.specs.Val.{Val}
 use Rattle.verse_meaning_state.specs.State.{State, with_result}
-use Rattle.verse_code_machine.specs.Tasks.{root, part, Who, Thread, thread, Task, After, resuming, closing, finishing, Up, begins, branching, spawning, clearing}
-use Rattle.verse_code_machine.specs.Tasks.{Trees, World, world, root_named, child_named, onto}
+use Rattle.verse_code_machine.specs.Tasks.{Who, Task, After, resuming, closing, finishing, Up, begins, branching, spawning, clearing}
+use Rattle.verse_code_machine.specs.Tasks.{Trees, child_named, onto}
 use Rattle.verse_code_machine.specs.Tasks.{since, beneath_arms}
 use Rattle.verse_code_machine.specs.Cancelling.{without}
 use Rattle.verse_code_machine.specs.Runs.{Forest}
@@ -16,7 +16,7 @@ use Rattle.run_save_moves.specs.Moves as m
 use Rattle.run_save_moves.specs.Moves.{Point, Move}
 use Rattle.run_save_fits.specs.Held.{IsSome, WhoIs}
 use Rattle.run_save_fits.proofs.Holding.{child_who, role_some}
-use Rattle.run_save_kept.specs.Orders.{Before, NoneBelow, first, StandsBefore, Sits, Lined}
+use Rattle.run_save_kept.specs.Orders.{NoneBelow, first, StandsBefore, Sits, Lined}
 use Rattle.run_save_kept.proofs.Paths.{below_less, below_end, child_before, before_child, child_behind}
 use Rattle.run_save_kept.proofs.Sums.{each_join, front_each, back_each, all_as}
 
@@ -104,8 +104,11 @@ lined_puts l w (puts_here {ws = ws}) a = (
   child_sits l w a.0,
   (
     (child_before w.path l, first_end w.path l (some_path w a.0.named)),
-    all_as (λ (v : Who). StandsBefore w.path v.path) (λ (v : Who). StandsBefore (w.path ++ l ∷ []) v.path) (λ v b. (child_behind w.path v.path l b.0, first_end
-        w.path l (some_path w a.0.named) ∙ b.1)) ws a.1,
+    all_as (λ (v : Who). StandsBefore w.path v.path) (λ (v : Who). StandsBefore (w.path ++ l ∷ []) v.path) (λ v b. (
+      child_behind w.path v.path l b.0,
+      first_end
+          w.path l (some_path w a.0.named) ∙ b.1,
+    )) ws a.1,
   ),
   lined_less l (suc l) (w ∷ ws) (omega arith) a,
 )
@@ -240,8 +243,11 @@ one_lower l k e = omega (arith, e)
 -- of a tree that is suspended whole
 among_lined : (left : ℕ) (pre post : List Task) (trees : Trees) → Rows left (line pre (whos post)) [] trees → TreesLined left (trees.before ++ onto
     pre post ∷ trees.behind)
-among_lined left pre post trees a = each_join (λ ts. Lined left (whos ts)) trees.before (onto pre post ∷ trees.behind) a.first (subst (Lined left) (sym
-    (onto_line pre post)) a.own, a.later)
+among_lined left pre post trees a = each_join (λ ts. Lined left (whos ts)) trees.before (onto pre post ∷ trees.behind) a.first (
+  subst (Lined left) (sym
+      (onto_line pre post)) a.own,
+  a.later,
+)
 
 -- a new child of the first
 puts_rows : {us vs : List Up} {trees : Trees} (l k : ℕ) (w : Who) (xs : List Task) (ws : List Who) → suc l ≡ k → (LinesBelow k us → LinesBelow k vs) →

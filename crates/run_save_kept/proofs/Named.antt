@@ -1,11 +1,10 @@
 -- No two tasks of a run have one path, and none has one that is to come.
-use Rattle.std.proofs.Common.{◌≡◌, ℕ, zero, suc, ◌+◌, ◌≤◌, List, [], ◌∷◌, ◌++◌, Bool, true, false, refl, sym, subst, ap, ◌∙◌, arith, ◌⊎◌}
+use Rattle.std.proofs.Common.{◌≡◌, ℕ, suc, ◌+◌, ◌≤◌, List, [], ◌∷◌, ◌++◌, true, false, refl, sym, subst, ap, ◌∙◌, arith, ◌⊎◌}
 use mathlib.Core.Logic.{inl, inr}
 use Rattle.verse_code.specs.declared.codes.Code.{Code}
 use Rattle.verse_meaning_state.specs.Waits.{eqn, ltn}
 use Rattle.verse_code_machine.specs.Tasks.{Part, same_path}
 use Rattle.verse_code_machine_parents.proofs.Lists.{eqn_same}
-use Rattle.run_save_moves.specs.Moves as m
 use Rattle.run_save_moves.specs.Moves.{Point, Move}
 use Rattle.run_save_fits.specs.Held.{one}
 use Rattle.run_save_fits.proofs.Counted.{drawn_once}

@@ -1,11 +1,11 @@
 -- Each arm that runs is a task of its parent's tree.
-use Rattle.std.proofs.Common.{◌≡◌, ℕ, zero, suc, ◌+◌, ◌≤◌, ◌<◌, length, List, [], ◌∷◌, ◌++◌, Option, Bool, true, false, cond, refl, sym, subst, ap}
+use Rattle.std.proofs.Common.{◌≡◌, ℕ, suc, ◌+◌, ◌≤◌, ◌<◌, length, List, [], ◌∷◌, ◌++◌, Option, Bool, true, false, cond, refl, sym, subst, ap}
 use Rattle.std.proofs.Common.{◌∙◌, arith, ◌⊎◌}
 use mathlib.Core.Logic.{inl, inr}
 use Rattle.verse_code.specs.declared.codes.Code.{Code}
 use Rattle.verse_value.specs.Val.{Val}
-use Rattle.verse_code_machine.specs.Tasks.{Role, root, part, Who, Part, did, runs, Rest, asleep, group, Thread, Task, After, resuming, closing, finishing, Up}
-use Rattle.verse_code_machine.specs.Tasks.{begins, branching, spawning, clearing, Trees, World, world, onto, since, beneath_arms, same_path}
+use Rattle.verse_code_machine.specs.Tasks.{root, part, Who, Part, did, runs, Rest, asleep, group, Task, Up}
+use Rattle.verse_code_machine.specs.Tasks.{begins, branching, spawning, clearing, Trees, onto, since, beneath_arms, same_path}
 use Rattle.verse_code_machine.specs.Cancelling.{without}
 use Rattle.verse_code_machine.specs.Ends.{is_run, with_did}
 use Rattle.verse_code_machine.specs.Runs.{Forest}
@@ -18,7 +18,7 @@ use Rattle.run_save_fits.specs.Held.{IsSome, RoleIs, WhoIs, tasks_sum, one}
 use Rattle.run_save_kept.specs.Orders.{last, is_named, runs_in, arms_of, in_group, awaits, weight}
 use Rattle.run_save_kept.proofs.Paths.{two_ways, clash, one_most, same_is, is_same, not_same, end_is, root_no_part, shorter_not, Rises, since_rises, arms_rise}
 use Rattle.run_save_kept.proofs.Paths.{runs_end, runs_did, no_run, with_fewer, with_most}
-use Rattle.run_save_kept.proofs.Sums.{onto_sum, among_sum, fewer, stays_sum, none_stays, none_sum, each_join, front_each, back_each}
+use Rattle.run_save_kept.proofs.Sums.{onto_sum, fewer, stays_sum, none_stays, none_sum, each_join, front_each, back_each}
 use Rattle.run_save_kept.proofs.Rails.{head, Rail, Railed}
 use Rattle.run_save_kept.proofs.Weights.{of_tasks, of_others}
 use Rattle.run_save_kept.proofs.Named.{no_arms, has_path, room, Named}
@@ -209,8 +209,7 @@ module _ (a : List ℕ) (some : IsSome a) (n : ℕ) where
   alone_of : (left : ℕ) (w : Who) (pre post : List Task) (us : List Up) (trees : Trees) →
       has_path a w.path + of_others (has_path a) no_arms pre post us trees ≤ room a left → a ≡ w.path → (asked pre ≡ 0) × (asked post ≡ 0)
   alone_of left w pre post us trees h e =
-      let f = ap one (is_same a w.path e) in let g = one_most (ltn left (suc (last a))) in
-      (
+      let f = ap one (is_same a w.path e) in let g = one_most (ltn left (suc (last a))) in (
         unasked pre (first (has_path a w.path) (of_tasks (has_path a) no_arms pre) (of_tasks (has_path a) no_arms post) _ (room a left) h f g),
         unasked post (second (has_path a w.path) (of_tasks (has_path a) no_arms pre) (of_tasks (has_path a) no_arms post) _ (room a left) h f g),
       )
@@ -276,9 +275,9 @@ module _ (a : List ℕ) (some : IsSome a) (n : ℕ) where
           let k = ap one (is_same a y.thread.who.path (g.0 ∙ same_is up y.thread.who.path e)) in
           let l = one_most (ltn left (suc (last a))) in
           let t = unasked pre (first (has_path a (up ++ i ∷ [])) (in_group no_arms y.thread.who.path y.rest) (has_path a y.thread.who.path) (of_tasks (has_path a) no_arms pre) (of_tasks (has_path
-              a) no_arms post) _ (room a left) h k l) in
+          a) no_arms post) _ (room a left) h k l) in
           let u = unasked post (second (has_path a (up ++ i ∷ [])) (in_group no_arms y.thread.who.path y.rest) (has_path a y.thread.who.path) (of_tasks (has_path a) no_arms pre) (of_tasks (has_path
-              a) no_arms post) _ (room a left) h k l) in
+          a) no_arms post) _ (room a left) h k l) in
           omega (arith, j, t, u)
         where
           first : (i w j x y z k : ℕ) → i + ((x + ((w + j) + y)) + z) ≤ k → j ≡ 1 → k ≤ 1 → x ≡ 0

@@ -1,8 +1,8 @@
 -- Which task waits for which, by their paths.
-use Rattle.std.proofs.Common.{◌≡◌, ℕ, zero, suc, ◌≤◌, ◌<◌, length, List, [], ◌∷◌, ◌++◌, Option, Bool, true, false, refl, sym, subst, ap, ◌∙◌, arith}
+use Rattle.std.proofs.Common.{◌≡◌, ℕ, ◌<◌, length, List, [], ◌∷◌, ◌++◌, refl, subst}
 use Rattle.verse_code.specs.declared.codes.Code.{Code}
-use Rattle.verse_code_machine.specs.Tasks.{Role, root, part, Who, Thread, thread, Task, After, resuming, closing, finishing, Up, begins, branching, spawning}
-use Rattle.verse_code_machine.specs.Tasks.{clearing, Trees, World, world, child_named, onto, since, beneath_arms}
+use Rattle.verse_code_machine.specs.Tasks.{root, Who, Task, After, resuming, closing, finishing, Up, begins, branching, spawning}
+use Rattle.verse_code_machine.specs.Tasks.{clearing, World, world, onto, since, beneath_arms}
 use Rattle.verse_code_machine.specs.Cancelling.{cancelled}
 use Rattle.verse_code_machine_parents.specs.Parents.{whos, line}
 use Rattle.verse_code_machine_parents.proofs.Lists.{onto_line, child_longer, longer, since_takes, arms_takes}

@@ -1,5 +1,5 @@
 -- Where each task stands before those that it encloses, siblings stand in the order in which they began.
-use Rattle.std.proofs.Common.{◌≡◌, ℕ, zero, suc, ◌+◌, ◌≤◌, ◌<◌, List, [], ◌∷◌, ◌++◌, Bool, true, false, cond, refl, sym, subst, ap, ◌∙◌, arith, ◌⊎◌}
+use Rattle.std.proofs.Common.{◌≡◌, ℕ, ◌+◌, ◌≤◌, ◌<◌, List, [], ◌∷◌, ◌++◌, Bool, true, false, cond, refl, sym, subst, ap, ◌∙◌, arith}
 use mathlib.Core.Logic.{inl, inr}
 use Rattle.verse_code_machine.specs.Tasks.{Role, root, part, Who, Task, same_path}
 use Rattle.verse_code_machine.specs.Runs.{Forest}
@@ -10,7 +10,7 @@ use Rattle.run_save_shots.specs.Keeping.{behind_parent, walked, walk}
 use Rattle.run_save_fits.specs.Held.{IsSome, RoleIs, WhoIs, tasks_sum, trees_sum, one}
 use Rattle.run_save_fits.proofs.KeptOrder.{IsIn, Follows, InWalk, walk_well}
 use Rattle.run_save_kept.specs.Orders.{Before, StandsBefore, Lined, is_named}
-use Rattle.run_save_kept.proofs.Paths.{same_is, siblings_fall}
+use Rattle.run_save_kept.proofs.Paths.{siblings_fall}
 use Rattle.run_save_kept.proofs.Sums.{tasks_join, each_join, all_as}
 
 -- the second of two siblings began later

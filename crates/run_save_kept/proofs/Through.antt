@@ -1,11 +1,9 @@
 -- How the tasks of a run stand to one another in each of its states.
-use Rattle.std.proofs.Common.{◌≡◌, ℕ, zero, suc, ◌+◌, ◌≤◌, List, [], ◌∷◌, ◌++◌, Option, Some, None, refl, sym, subst, ap, ◌∙◌, arith}
+use Rattle.std.proofs.Common.{◌≡◌, ℕ, suc, ◌+◌, ◌≤◌, List, [], ◌∷◌, ◌++◌, refl, sym, arith}
 use Rattle.std.specs.Prelude.{ℤ}
-use Rattle.verse_code.specs.declared.codes.Func.{Func}
 use Rattle.verse_code.specs.declared.codes.Code.{Code}
 use Rattle.verse_code.specs.Validity.{Valid}
 use Rattle.verse_meaning_state.specs.State.{State}
-use Rattle.verse_meaning_state.specs.Waits.{ltn}
 use Rattle.verse_meaning_state.specs.Turns.{Stage, going, closed, broken, amiss, turns}
 use Rattle.verse_code_machine.specs.Tasks.{Rest, asleep, group, Task, same_path}
 use Rattle.verse_code_machine.specs.Runs.{Forest, turn_taken, started, mach_after}

@@ -1,12 +1,12 @@
 -- What all tasks of a run weigh, where each weighs by its path and by its group.
-use Rattle.std.proofs.Common.{◌≡◌, ℕ, zero, suc, ◌+◌, ◌≤◌, length, List, [], ◌∷◌, ◌++◌, Option, Some, None, Bool, true, false, refl, sym, subst, ap}
-use Rattle.std.proofs.Common.{◌∙◌, arith}
+use Rattle.std.proofs.Common.{◌≡◌, ℕ, suc, ◌+◌, ◌≤◌, length, List, [], ◌∷◌, ◌++◌, Option, Some, None, Bool, true, subst, ap}
+use Rattle.std.proofs.Common.{arith}
 use Rattle.verse_base.specs.declared.places.Place.{Place}
 use Rattle.verse_code.specs.declared.codes.Code.{Code}
 use Rattle.verse_value.specs.Val.{Val}
 use Rattle.verse_meaning_state.specs.State.{State, stepped, with_result, with_entry}
 use Rattle.verse_meaning_state.specs.Turns.{Kind}
-use Rattle.verse_code_machine.specs.Tasks.{Frame, Role, root, part, Who, Part, did, Rest, asleep, group, Thread, thread, Task, After, Up, begins}
+use Rattle.verse_code_machine.specs.Tasks.{Frame, part, Who, Part, did, group, Thread, thread, Task, Up, begins}
 use Rattle.verse_code_machine.specs.Tasks.{runs, branching, spawning, clearing, Trees, World, world, root_named, child_named, onto, since, beneath_arms, same_path}
 use Rattle.verse_code_machine.specs.Cancelling.{without, cancelled}
 use Rattle.verse_code_machine.specs.Ends.{is_run, with_did}
@@ -14,7 +14,7 @@ use Rattle.verse_code_machine.specs.Runs.{Forest}
 use Rattle.run_save_moves.specs.Moves as m
 use Rattle.run_save_moves.specs.Moves.{Point, Move, at, begun}
 use Rattle.run_save_fits.specs.Held.{RoleIs, WhoIs, tasks_sum, trees_sum}
-use Rattle.run_save_kept.specs.Orders.{in_group, weight}
+use Rattle.run_save_kept.specs.Orders.{weight}
 use Rattle.run_save_kept.proofs.Sums.{onto_sum, among_sum, one_tree, cancelled_sum}
 use Rattle.run_save_kept.proofs.Rails.{head, Railed}
 

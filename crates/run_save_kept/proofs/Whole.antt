@@ -1,14 +1,12 @@
 -- What is kept of a run that stopped fits its code, whole.
-use Rattle.std.proofs.Common.{◌≡◌, ℕ, zero, suc, ◌+◌, ◌≤◌, List, [], ◌∷◌, ◌++◌, refl, sym, subst, ap, ◌∙◌, arith}
+use Rattle.std.proofs.Common.{◌≡◌, ℕ, suc, ◌+◌, ◌≤◌, List, [], ◌∷◌, ◌++◌, sym, subst, ◌∙◌, arith}
 use Rattle.verse_code.specs.declared.codes.Code.{Code}
 use Rattle.verse_meaning_state.specs.State.{State}
 use Rattle.verse_meaning_state.specs.Waits.{ltn}
-use Rattle.verse_meaning_state.specs.Turns.{going, turns}
 use Rattle.verse_code_machine.specs.Tasks.{Task, same_path}
-use Rattle.verse_code_machine.specs.Runs.{Forest, turn_taken, mach_after}
+use Rattle.verse_code_machine.specs.Runs.{Forest}
 use Rattle.verse_code_machine_parents.specs.Parents.{whos, Rooted, TreesRooted, StageRooted}
-use Rattle.run_save_shots.specs.Lists.{Each, EachTwo, Reordered}
-use Rattle.run_save_shots.specs.Kept.{Kept}
+use Rattle.run_save_shots.specs.Lists.{Each, Reordered}
 use Rattle.run_save_shots.specs.Fitting.{Fits}
 use Rattle.run_save_shots.specs.Keeping.{walk, kept}
 use Rattle.run_save_fits.specs.Held.{IsSome, tasks_sum, trees_sum, one}
@@ -17,7 +15,7 @@ use Rattle.run_save_kept.specs.Orders.{Lined, last, is_named, awaits, skips, wei
 use Rattle.run_save_kept.specs.Laws.{StageOrderly, SavedStatesFit, ResumedStatesFit}
 use Rattle.run_save_kept.proofs.Paths.{one_most}
 use Rattle.run_save_kept.proofs.Sums.{reordered_each, reordered_sum}
-use Rattle.run_save_kept.proofs.Siblings.{Older, Named, trees_names, walk_each, walk_sum, walk_older}
+use Rattle.run_save_kept.proofs.Siblings.{Named, trees_names, walk_each, walk_sum, walk_older}
 use Rattle.run_save_kept.proofs.Arms.{arms_fit, order_fits}
 use Rattle.run_save_kept.proofs.Through.{run_stands, stands_on}
 

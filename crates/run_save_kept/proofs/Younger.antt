@@ -1,5 +1,5 @@
 -- No task in the background began later than an arm of its parent.
-use Rattle.std.proofs.Common.{◌≡◌, ℕ, zero, suc, ◌+◌, ◌≤◌, ◌<◌, List, [], ◌∷◌, ◌++◌, Bool, true, false, cond, refl, sym, subst, ap, ◌∙◌, arith}
+use Rattle.std.proofs.Common.{◌≡◌, ℕ, suc, ◌+◌, ◌≤◌, ◌<◌, List, [], ◌∷◌, ◌++◌, Bool, true, false, cond, refl, sym, subst, ap, ◌∙◌, arith}
 use Rattle.std.proofs.Common.{◌⊎◌}
 use mathlib.Core.Logic.{inl, inr}
 use Rattle.verse_code.specs.declared.codes.Code.{Code}
@@ -15,8 +15,8 @@ use Rattle.run_save_kept.specs.Orders.{last, skips, in_group, weight}
 use Rattle.run_save_kept.proofs.Paths.{two_ways, clash, one_most, same_is, is_same, not_same, end_is, last_end, root_no_part, ltn_not, ltn_is, ltn_no}
 use Rattle.run_save_kept.proofs.Paths.{run_end, run_new, run_did, run_more, with_other, with_run}
 use Rattle.run_save_kept.proofs.Sums.{sums_most, trees_most}
-use Rattle.run_save_kept.proofs.Rails.{Railed, head}
-use Rattle.run_save_kept.proofs.Weights.{left_at, Special, spawned, branched, arm_begun, arm_ended, joined, of_ups, of_others, weigh, Grown, lessens}
+use Rattle.run_save_kept.proofs.Rails.{Railed}
+use Rattle.run_save_kept.proofs.Weights.{Special, spawned, branched, arm_begun, arm_ended, joined, of_ups, of_others, weigh, Grown, lessens}
 use Rattle.run_save_kept.proofs.Weights.{special, grows}
 use Rattle.run_save_kept.proofs.Named.{no_arms, has_path, room, Named}
 
@@ -159,7 +159,7 @@ module _ (a : List ℕ) (some : IsSome a) (n k : ℕ) (le : n ≤ k) where
           let h = ltn_is l n i in
           let t = other_number x.who.path l (no_equal n l h) in
           let u = skips_less x.who.path (gs ++ runs l ∷ []) gs (sym (run_end n l gs (no_equal n l h))) (λ f. sym (run_end k l gs (no_equal k l (far l n k h
-              le))) ∙ f) in
+          le))) ∙ f) in
           omega (arith, t, u, b)
         where
           far : (l n k : ℕ) → l < n → n ≤ k → l < k

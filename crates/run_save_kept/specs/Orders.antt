@@ -1,5 +1,5 @@
 -- How the tasks of a run stand to one another between two turns.
-use Rattle.std.specs.Prelude.{◌≡◌, ◌⊎◌, ℕ, zero, suc, ◌+◌, ◌≤◌, ◌<◌, cond, List, [], ◌∷◌, ◌++◌}
+use Rattle.std.specs.Prelude.{◌≡◌, ◌⊎◌, ℕ, suc, ◌+◌, ◌≤◌, ◌<◌, cond, List, [], ◌∷◌, ◌++◌}
 use Rattle.verse_meaning_state.specs.Waits.{eqn, ltn}
 use Rattle.verse_code_machine.specs.Tasks.{Who, Part, did, runs, Rest, asleep, group, Task}
 use Rattle.verse_code_machine.specs.Tasks.{same_path}
@@ -38,7 +38,8 @@ pub record Sits (left : ℕ) (w : Who) : Type 0 where
 -- the tasks of a tree stand so, beneath one root
 abbrev pub Lined : ℕ → List Who → Type 0
 Lined left [] = Unit {0}
-Lined left (w ∷ ws) = Sits left w × Each (λ (v : Who). StandsBefore w.path v.path) ws × Lined left ws
+Lined left (w ∷ ws) =
+    Sits left w × Each (λ (v : Who). StandsBefore w.path v.path) ws × Lined left ws
 
 -- the last number of a path
 abbrev pub last : List ℕ → ℕ
@@ -67,8 +68,8 @@ in_group b path (group k p gs) = b path gs
 abbrev pub awaits : List ℕ → ℕ → Task → ℕ
 awaits a n t = in_group (arms_of a n) t.thread.who.path t.rest
 
--- 1 of the group of the task of a path, where the task of the number m is an arm of it and that of n
--- is not
+-- 1 of the group of the task of a path, where the task of the number m is an arm of it and that of
+-- the number n is not
 abbrev pub skips : (path : List ℕ) (n m : ℕ) → List ℕ → List Part → ℕ
 skips a n m path gs = cond (same_path a path) (cond (is_run m gs) (cond (is_run n gs) 0 1) 0) 0
 

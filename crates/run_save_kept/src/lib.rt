@@ -1,13 +1,12 @@
-//! What is kept of a run that stopped at its horizon fits its code, whole: its arms and the order of
-//! siblings too. Read the definitions in this order: `Orders`, how the tasks stand to one another in
-//! every state between two turns; `Laws`.
+//! What is kept of a run that stopped at its horizon fits its code, whole: its arms and the order
+//! of siblings too. Read the definitions in this order: `Orders`, how the tasks stand to one another
+//! in every state between two turns; `Laws`.
 #![tactic(auto)]
 
 ghost use Rattle.run_save_kept.specs.Laws.{RunIsOrderly, OrderlyGoesOn, SavedStatesFit};
 ghost use Rattle.run_save_kept.specs.Laws.{ResumedStatesFit};
 
-use run_save_fits::resumed_run_fits;
-use run_save_fits::stopped_run_fits;
+use run_save_fits::{resumed_run_fits, stopped_run_fits};
 
 /// In each state of a run between two turns tasks stand in the order in which they began, each
 /// before its parent; each arm that runs is a task, and none that its parent began later is in the

@@ -1,5 +1,5 @@
 -- Sums over tasks.
-use Rattle.std.proofs.Common.{◌≡◌, ℕ, zero, suc, ◌+◌, ◌≤◌, List, [], ◌∷◌, ◌++◌, Bool, true, false, refl, arith}
+use Rattle.std.proofs.Common.{◌≡◌, ℕ, ◌+◌, List, [], ◌∷◌, ◌++◌, Bool, true, false, arith}
 use Rattle.verse_code_machine.specs.Tasks.{Task, same_path}
 use Rattle.verse_code_machine.specs.Runs.{Forest}
 

@@ -1,5 +1,5 @@
 -- Each task that is planted stands in one tree.
-use Rattle.std.proofs.Common.{◌≡◌, ℕ, zero, suc, ◌+◌, ◌≤◌, map, List, [], ◌∷◌, ◌++◌, Bool, true, false, cond, refl, sym, subst, ap, ◌∙◌, arith}
+use Rattle.std.proofs.Common.{◌≡◌, ℕ, zero, suc, ◌+◌, ◌≤◌, map, List, [], ◌∷◌, ◌++◌, Bool, true, false, cond, refl, ap, arith}
 use Rattle.verse_code_machine.specs.Tasks.{Role, root, part, Task, same_path}
 use Rattle.verse_code_machine.specs.Runs.{Forest}
 use Rattle.run_save_shots.specs.Lists.{Each}
@@ -117,7 +117,7 @@ grown_sum (y ∷ ys) done tss h u f =
     more : (g : Task → ℕ) → trees_sum g (planted y.thread.who.role y tss) ≤ tasks_sum g (done ++ y ∷ [])
     more g =
         let a = planted_more g y y.thread.who.role tss (below (trees_sum (is_named y.thread.who.up) tss) (tasks_sum (is_named y.thread.who.up) done) (tasks_sum
-            (is_named y.thread.who.up) (y ∷ ys)) (h (is_named y.thread.who.up)) (u y.thread.who.up)) in
+        (is_named y.thread.who.up) (y ∷ ys)) (h (is_named y.thread.who.up)) (u y.thread.who.up)) in
         let b = h g in let d = tasks_join g done (y ∷ []) in omega (arith, a, b, d)
 
     same : (p : List ℕ) → tasks_sum (is_named p) (done ++ y ∷ []) + tasks_sum (is_named p) ys ≤ 1

@@ -1,9 +1,9 @@
 -- No two of the tasks that are spelled have one path.
-use Rattle.std.proofs.Common.{◌≡◌, ℕ, zero, suc, ◌+◌, ◌*◌, ◌≤◌, length, List, [], ◌∷◌, ◌++◌, Option, Some, None, Bool, true, false, cond, refl, sym}
+use Rattle.std.proofs.Common.{◌≡◌, ℕ, zero, suc, ◌+◌, ◌*◌, ◌≤◌, length, List, [], ◌∷◌, ◌++◌, Option, Some, None, Bool, true, false, cond, refl}
 use Rattle.std.proofs.Common.{subst, ap, ◌∙◌, arith}
 use Rattle.verse_code.specs.declared.codes.Code.{Code}
 use Rattle.verse_meaning_state.specs.Waits.{eqn, ltn}
-use Rattle.verse_code_machine.specs.Tasks.{Frame, Who, Task, same_path}
+use Rattle.verse_code_machine.specs.Tasks.{Frame, Who, same_path}
 use Rattle.run_save_shots.specs.Kept.{KeptTask, Kept}
 use Rattle.run_save_shots.specs.Naming.{number_at, named, parent_in}
 use Rattle.run_save_shots.specs.Spelling.{frames_from, with_frames, who, task, tasks_from}

@@ -1,17 +1,16 @@
 -- A run can go on from the state and the trees that what fits spells.
 use Rattle.std.proofs.Common.{◌≡◌, ℕ, zero, suc, ◌+◌, ◌*◌, ◌≤◌, length, List, [], ◌∷◌, ◌++◌, true, refl, sym, subst, ap, ◌∙◌, arith}
-use Rattle.std.proofs.lemmas.List.{length-append}
 use Rattle.verse_code.specs.declared.codes.Code.{Code}
-use Rattle.verse_code_machine.specs.Tasks.{Frame, Who, Task, thread}
+use Rattle.verse_code_machine.specs.Tasks.{Frame, Who, Task}
 use Rattle.verse_code_machine.specs.Frames.{free}
 use Rattle.verse_code_machine.specs.Runs.{Forest}
 use Rattle.verse_code_machine.specs.Belonging.{HandlersBelong, FrameBelongs, FramesBelong, TasksBelong, TreesBelong}
-use Rattle.verse_code_machine.specs.Goings.{ThreadIsFree, TasksAreFree, TreesAreFree, tasks_frames, trees_frames, RunsEndFrom, RunBelongsFrom}
+use Rattle.verse_code_machine.specs.Goings.{TasksAreFree, TreesAreFree, tasks_frames, trees_frames, RunsEndFrom, RunBelongsFrom}
 use Rattle.run_save_shots.specs.Lists.{Each}
 use Rattle.run_save_shots.specs.Kept.{KeptFrame, KeptTask, Kept}
-use Rattle.run_save_shots.specs.Fitting.{Fits, frames_in}
+use Rattle.run_save_shots.specs.Fitting.{frames_in}
 use Rattle.run_save_shots.specs.Spelling.{frames_from, with_frames, who, task, tasks_from, trees}
-use Rattle.run_save_resumes.specs.Laws.{Resumable, FitsIsResumable, FittingRunEnds, FittingRunBelongs}
+use Rattle.run_save_resumes.specs.Laws.{FitsIsResumable, FittingRunEnds, FittingRunBelongs}
 use Rattle.run_save_resumes.proofs.Adding.{tasks_sum, trees_sum, is_named, tasks_join}
 use Rattle.run_save_resumes.proofs.Naming.{names_apart}
 use Rattle.run_save_resumes.proofs.Growing.{grown_each, grown_sum}

@@ -8,8 +8,8 @@ use Rattle.run_save_shots.specs.Kept.{Kept}
 use Rattle.run_save_shots.specs.Fitting.{Fits}
 use Rattle.run_save_shots.specs.Spelling.{state, trees}
 
--- No task that is spelled has a handler or a noted place, there are at most two frames for each step
--- that was spent, and each cell has the slots of its kind.
+-- No task that is spelled has a handler or a noted place, there are at most two frames for each
+-- step that was spent, and each cell has the slots of its kind.
 pub record Resumable (c : Code) (x : Kept) : Type 0 where
   pub can : CanGoOn (state x) (trees c x)
   pub state_belongs : StateBelongs c.classes (state x)
