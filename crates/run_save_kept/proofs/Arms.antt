@@ -102,7 +102,7 @@ two_map S f (x ∷ xs) a = (row xs a.0, two_map S f xs a.1)
 -- ---- the task of a path
 
 -- it stands there, and is the first of its path
-placed : (q : List ℕ) (ys : List Task) (i : ℕ) → place_of q ys ≡ Some i → (y : Task) × (nth ys i ≡ Some y) × (q ≡ y.thread.who.path) × (task_of q ys ≡ Some y)
+pub placed : (q : List ℕ) (ys : List Task) (i : ℕ) → place_of q ys ≡ Some i → (y : Task) × (nth ys i ≡ Some y) × (q ≡ y.thread.who.path) × (task_of q ys ≡ Some y)
 placed q [] i e = none_some e
 placed q (x ∷ xs) i e = by_test (same_path q x.thread.who.path) refl i e (λ j. placed q xs j)
   where
@@ -118,7 +118,7 @@ placed q (x ∷ xs) i e = by_test (same_path q x.thread.who.path) refl i e (λ j
     by_test false f (suc i) g h = h i (suc_of (place_of q xs) i g)
 
 -- where no two tasks have one path each is found by its own
-found : (q : List ℕ) (ys : List Task) (i : ℕ) (y : Task) → nth ys i ≡ Some y → q ≡ y.thread.who.path → tasks_sum (is_named q) ys ≤ 1 →
+pub found : (q : List ℕ) (ys : List Task) (i : ℕ) (y : Task) → nth ys i ≡ Some y → q ≡ y.thread.who.path → tasks_sum (is_named q) ys ≤ 1 →
     place_of q ys ≡ Some i
 found q [] i y e f h = none_some e
 found q (x ∷ xs) zero y e f h = ap (λ b. cond b (Some 0) (option_map suc (place_of q xs))) (is_same q x.thread.who.path (subst (λ (t : Task). q ≡

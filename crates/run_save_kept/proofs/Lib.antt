@@ -10,3 +10,4 @@ pub mod Through
 pub mod Siblings
 pub mod Arms
 pub mod Whole
+pub mod Grown

@@ -60,7 +60,7 @@ module _ (f : Task → ℕ) where
   behind_sum y (x ∷ xs) = let h = behind_sum y xs in cond_sum (same_path y.thread.who.up x.thread.who.path) (x ∷ y ∷ xs) (x ∷ behind_parent y xs)
       (f y + (f x + tasks_sum f xs)) (omega arith) (omega (arith, h))
 
-  walked_sum : (ys : List Task) → tasks_sum f (walked ys) ≡ tasks_sum f ys
+  pub walked_sum : (ys : List Task) → tasks_sum f (walked ys) ≡ tasks_sum f ys
   walked_sum [] = refl
   walked_sum (y ∷ ys) = let h = walked_sum ys in let g = behind_sum y (walked ys) in omega (arith, h, g)
 
@@ -139,10 +139,10 @@ front_in path (x ∷ xs) ys (inr h) = inr (front_in path xs ys h)
 front_in path [] ys h = absurd h
 
 -- its parent is among them
-abbrev HasParent : List Task → Task → Type 0
-HasParent all t = IsSome t.thread.who.up → 1 ≤ tasks_sum (is_named t.thread.who.up) all
+abbrev pub HasOwn : List Task → Task → Type 0
+HasOwn all t = IsSome t.thread.who.up → 1 ≤ tasks_sum (is_named t.thread.who.up) all
 
-follows_parent : (q : Role) (t : Task) (seen rest : List Task) → RoleIs q t.thread.who → Follows q t.thread.who.up seen → HasParent (seen ++ rest) t
+follows_parent : (q : Role) (t : Task) (seen rest : List Task) → RoleIs q t.thread.who → Follows q t.thread.who.up seen → HasOwn (seen ++ rest) t
 follows_parent (root entry) t seen rest a f s = absurd (subst IsSome a.0 s)
 follows_parent part t seen rest a f s = in_sum t.thread.who.up (seen ++ rest) (front_in t.thread.who.up seen rest f)
 
@@ -150,16 +150,24 @@ join : (xs : List Task) (x : Task) (zs : List Task) → xs ++ x ∷ zs ≡ (xs +
 join [] x zs = refl
 join (z ∷ xs) x zs = ap (λ ys. z ∷ ys) (join xs x zs)
 
-parents_from : (seen xs : List Task) → Each Named xs → InWalk seen xs → Each (HasParent (seen ++ xs)) xs
+pub parents_from : (seen xs : List Task) → Each Named xs → InWalk seen xs → Each (HasOwn (seen ++ xs)) xs
 parents_from seen [] n w = tt
 parents_from seen (x ∷ xs) n w = (
   follows_parent x.thread.who.role x seen (x ∷ xs) n.0 w.0,
-  subst (λ all. Each (HasParent all) xs) (sym (join seen x xs)) (parents_from (seen ++ x ∷ []) xs n.1 w.1),
+  subst (λ all. Each (HasOwn all) xs) (sym (join seen x xs)) (parents_from (seen ++ x ∷ []) xs n.1 w.1),
 )
 
+pub walked_parents : (left : ℕ) (ts : List Task) → Rooted left (whos ts) → Lined left (whos ts) → Each (λ y. Named y × HasOwn (walked ts) y) (walked ts)
+walked_parents left ts r a = both (walked ts) (walked_each Named ts (line_names left ts a)) (parents_from [] (walked ts) (walked_each Named ts (line_names left
+    ts a)) (walked_well left ts r))
+  where
+    both : (xs : List Task) → Each Named xs → Each (HasOwn (walked ts)) xs → Each (λ y. Named y × HasOwn (walked ts) y) xs
+    both [] a b = tt
+    both (x ∷ xs) a b = ((a.0, b.0), both xs a.1 b.1)
+
 -- no task of one tree is a sibling of one of another
-apart : (xs ys : List Task) → ((p : List ℕ) → tasks_sum (is_named p) xs + tasks_sum (is_named p) ys ≤ 1) → Each (HasParent ys) ys → (x : Task) →
-    HasParent xs x → (us : List Task) → Each (HasParent ys) us → Each (Older x) us
+apart : (xs ys : List Task) → ((p : List ℕ) → tasks_sum (is_named p) xs + tasks_sum (is_named p) ys ≤ 1) → Each (HasOwn ys) ys → (x : Task) →
+    HasOwn xs x → (us : List Task) → Each (HasOwn ys) us → Each (Older x) us
 apart xs ys one_name all x h [] a = tt
 apart xs ys one_name all x h (u ∷ us) a = (
   (λ s e. absurd (no (tasks_sum (is_named x.thread.who.up) xs) (tasks_sum (is_named x.thread.who.up) ys) (one_name x.thread.who.up) (h s) (subst (λ up.
@@ -176,11 +184,11 @@ walk_older left [] r a n = tt
 walk_older left (ts ∷ tss) r a n = two_join Older (walked ts) (walk tss) (walked_older left ts r.0 a.0) (walk_older left tss r.1 a.1 (λ p. second
     (tasks_sum (is_named p) (walked ts)) (tasks_sum (is_named p) (walk tss)) (tasks_sum (is_named p) (walk (ts ∷ tss))) (tasks_join (is_named p) (walked
     ts) (walk tss)) (n p)))
-    (all_as (HasParent (walked ts)) (λ x. Each (Older x) (walk tss)) (λ x h. apart (walked ts) (walk tss) (λ p. both (tasks_sum (is_named p) (walked ts)
+    (all_as (HasOwn (walked ts)) (λ x. Each (Older x) (walk tss)) (λ x h. apart (walked ts) (walk tss) (λ p. both (tasks_sum (is_named p) (walked ts)
     + tasks_sum (is_named p) (walk tss)) (tasks_sum (is_named p) (walk (ts ∷ tss))) (tasks_join (is_named p) (walked ts) (walk tss)) (n p)) others x h (walk
     tss) others) (walked ts) (parents_from [] (walked ts) (walked_each Named ts (line_names left ts a.0)) (walked_well left ts r.0)))
   where
-    others : Each (HasParent (walk tss)) (walk tss)
+    others : Each (HasOwn (walk tss)) (walk tss)
     others = parents_from [] (walk tss) (walk_each Named tss (trees_names left tss a.1)) (walk_well left tss r.1)
 
     second : (i j k : ℕ) → k ≡ i + j → k ≤ 1 → j ≤ 1

@@ -1,10 +1,11 @@
 //! What is kept of a run that stopped at its horizon fits its code, whole: its arms and the order
 //! of siblings too. Read the definitions in this order: `Orders`, how the tasks stand to one another
-//! in every state between two turns; `Laws`.
+//! in every state between two turns; `Laws`; `Growing`, the trees from what is kept of their order.
 #![tactic(auto)]
 
 ghost use Rattle.run_save_kept.specs.Laws.{RunIsOrderly, OrderlyGoesOn, SavedStatesFit};
 ghost use Rattle.run_save_kept.specs.Laws.{ResumedStatesFit};
+ghost use Rattle.run_save_kept.specs.Growing.{TreesGrowAgain};
 
 use run_save_fits::{resumed_run_fits, stopped_run_fits};
 
@@ -33,3 +34,9 @@ pub fn resumed_states_fit()
 {
     resumed_run_fits();
 }
+
+/// The tasks of such a state, planted one by one in the order in which they are kept, are its trees
+/// again.
+pub fn trees_grow_again()
+    ensures { TreesGrowAgain }
+{}
