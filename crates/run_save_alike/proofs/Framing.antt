@@ -7,13 +7,13 @@ use Rattle.std.proofs.lemmas.List.{reverse-reverse}
 use Rattle.verse_base.specs.declared.places.Place.{Place}
 use Rattle.verse_code.specs.declared.codes.Code.{Code}
 use Rattle.verse_value.specs.Val.{Val}
-use Rattle.verse_code_machine.specs.Tasks.{Frame, Who, Part, did, runs, Rest, asleep, group, Task, thread}
+use Rattle.verse_code_machine.specs.Tasks.{Handler, Note, Frame, Who, Part, did, runs, Rest, asleep, group, Task, thread}
 use Rattle.verse_code_machine.specs.Frames.{free}
 use Rattle.verse_code_machine.specs.Acts.{place_at}
 use Rattle.run_save_shots.specs.Lists.{Each}
 use Rattle.run_save_shots.specs.Kept as k
 use Rattle.run_save_shots.specs.Kept.{KeptFrame, KeptTask, Kept}
-use Rattle.run_save_shots.specs.Fitting.{stand_at, task_stand, top_place, arms_of}
+use Rattle.run_save_shots.specs.Fitting.{gathers, stand_at, task_stand, top_place, arms_of}
 use Rattle.run_save_shots.specs.Keeping as kp
 use Rattle.run_save_shots.specs.Spelling as sp
 use Rattle.run_save_shots.specs.Spelling.{frames_from, parts_from, with_frames, who, gathered, or_nowhere}
@@ -28,16 +28,17 @@ pub record Rested (f : Frame) : Type 0 where
   pub noted : f.life.noted ≡ []
   pub handlers : f.handlers ≡ []
 
-pub all_rested : (f : Frame) (fs : List Frame) → free f.handlers f.life.noted fs ≡ true → Rested f × Each Rested fs
-all_rested f fs e = by_lists f.handlers f.life.noted fs refl refl e
-  where
-    by_lists : (hs : _) (ns : _) (fs : List Frame) → f.handlers ≡ hs → f.life.noted ≡ ns → free hs ns fs ≡ true → Rested f × Each Rested fs
-    by_lists (h ∷ hs) ns fs g i e = absurd (cc)
-    by_lists [] (n ∷ ns) fs g i e = absurd (cc)
-    by_lists [] [] [] g i e = (record { noted = i; handlers = g }, tt)
-    by_lists [] [] (x ∷ fs) g i e = let a = all_rested x fs e in (record { noted = i; handlers = g }, (a.0, a.1))
+rested_by : (f : Frame) (hs : List Handler) (ns : List Note) (fs : List Frame) → f.handlers ≡ hs → f.life.noted ≡ ns → free hs ns fs ≡ true → Rested f × Each
+    Rested fs
+rested_by f (h ∷ hs) ns fs g i e = absurd (cc)
+rested_by f [] (n ∷ ns) fs g i e = absurd (cc)
+rested_by f [] [] [] g i e = (record { noted = i; handlers = g }, tt)
+rested_by f [] [] (x ∷ fs) g i e = let a = rested_by x x.handlers x.life.noted fs refl refl e in (record { noted = i; handlers = g }, (a.0, a.1))
 
-turned : List Frame → List Frame → List Frame
+pub all_rested : (f : Frame) (fs : List Frame) → free f.handlers f.life.noted fs ≡ true → Rested f × Each Rested fs
+all_rested f fs e = rested_by f f.handlers f.life.noted fs refl refl e
+
+abbrev turned : List Frame → List Frame → List Frame
 turned [] acc = acc
 turned (f ∷ fs) acc = turned fs (f ∷ acc)
 
@@ -169,7 +170,7 @@ module _ (c : Code) (s : Kept) (z : Scene) (next : ℕ) (ys : List Task) (y : Ta
       place = top_is (map (kp.frame 0) (reverse y.thread.below)) (kp.frame (kp.arms_behind y.rest) y.thread.frame) ∙ (ap (λ q. pred (y.thread.frame.place -
           kp.arms_behind q)) e ∙ less y.thread.frame.place a.0.index (length gs) a.0.is_behind)
 
-      stands : task_stand c (kp.task ys y) ≡ _
+      stands : task_stand c (kp.task ys y) ≡ gathers a.0.number (length gs) a.0.where_at
       stands = ap (stand_at c) place ∙ a.0.stand
 
   pub made : (ws : List Who) → Made c s at (kp.task ys y) ts ws y
