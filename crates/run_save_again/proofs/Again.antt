@@ -1,5 +1,5 @@
 -- A run goes on from what is kept of it.
-use Rattle.std.proofs.Common.{◌≡◌, ℕ, ◌+◌, refl, sym, subst, ap, ◌∙◌}
+use Rattle.std.proofs.Common.{◌+◌, subst, ap, ◌∙◌}
 use Rattle.verse_code_machine.specs.Goings.{RunEndsFrom}
 use Rattle.verse_code_machine_saved.specs.Horizons.{run_from}
 use Rattle.verse_code_machine_saved.specs.Resuming.{behind, RunResumed, StepsKept}

@@ -1,17 +1,14 @@
 -- The frames and the wait of a task that is spelled are those of the task that was kept.
-use Rattle.std.proofs.Common.{◌≡◌, ℕ, zero, suc, ◌+◌, ◌-◌, ◌≤◌, length, map, reverse, List, [], ◌∷◌, ◌++◌, Option, Some, None, true, refl, sym, subst}
+use Rattle.std.proofs.Common.{◌≡◌, ℕ, suc, ◌+◌, ◌-◌, length, map, reverse, List, [], ◌∷◌, ◌++◌, Option, true, refl, sym, subst}
 use Rattle.std.proofs.Common.{ap, ◌∙◌, arith}
 use Rattle.std.specs.Prelude.{pred}
 use mathlib.Core.List.{reverse-cons}
 use Rattle.std.proofs.lemmas.List.{reverse-reverse}
-use Rattle.verse_base.specs.declared.places.Place.{Place}
 use Rattle.verse_code.specs.declared.codes.Code.{Code}
 use Rattle.verse_value.specs.Val.{Val}
 use Rattle.verse_code_machine.specs.Tasks.{Handler, Note, Frame, Who, Part, did, runs, Rest, asleep, group, Task, thread}
 use Rattle.verse_code_machine.specs.Frames.{free}
-use Rattle.verse_code_machine.specs.Acts.{place_at}
 use Rattle.run_save_shots.specs.Lists.{Each}
-use Rattle.run_save_shots.specs.Kept as k
 use Rattle.run_save_shots.specs.Kept.{KeptFrame, KeptTask, Kept}
 use Rattle.run_save_shots.specs.Fitting.{gathers, stand_at, task_stand, top_place, arms_of}
 use Rattle.run_save_shots.specs.Keeping as kp
@@ -19,9 +16,9 @@ use Rattle.run_save_shots.specs.Spelling as sp
 use Rattle.run_save_shots.specs.Spelling.{frames_from, parts_from, with_frames, who, gathered, or_nowhere}
 use Rattle.run_save_fits.proofs.KeptTasks.{each_reverse}
 use Rattle.run_save_moves.specs.Fine.{Scene}
-use Rattle.run_save_moves.specs.Moves.{BehindCall, BehindWait, BehindGroup}
-use Rattle.run_save_fits.specs.Held.{FrameStill, LowerStill, RestFine, TaskFine}
-use Rattle.run_save_alike.specs.Alike.{FrameAlike, FramesAlike, PartsAlike, RestAlike, TaskAlike}
+use Rattle.run_save_moves.specs.Moves.{BehindCall}
+use Rattle.run_save_fits.specs.Held.{LowerStill, RestFine, TaskFine}
+use Rattle.run_save_alike.specs.Alike.{FrameAlike, FramesAlike, PartsAlike, RestAlike}
 
 -- a frame of a suspended task: nothing noted, no open Try
 pub record Rested (f : Frame) : Type 0 where

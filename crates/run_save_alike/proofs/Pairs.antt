@@ -1,5 +1,5 @@
 -- Two lists of tasks whose parents stand alike grow alike.
-use Rattle.std.proofs.Common.{◌≡◌, ℕ, zero, suc, map, List, [], ◌∷◌, ◌++◌, Option, Some, None, Bool, true, false, cond, refl, sym, subst, ap}
+use Rattle.std.proofs.Common.{◌≡◌, map, List, [], ◌∷◌, ◌++◌, Bool, true, false, cond}
 use Rattle.verse_code_machine.specs.Tasks.{Role, root, part, Task, same_path}
 use Rattle.verse_code_machine.specs.Runs.{Forest}
 use Rattle.run_save_shots.specs.Spelling.{before_parent, planted, grown}

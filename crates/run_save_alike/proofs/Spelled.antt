@@ -5,11 +5,11 @@ use mathlib.Core.Logic.{inl, inr}
 use Rattle.verse_code.specs.declared.codes.Code.{Code}
 use Rattle.verse_meaning_state.specs.State.{State}
 use Rattle.verse_meaning_state.specs.Waits.{nth, ltn}
-use Rattle.verse_code_machine.specs.Tasks.{Role, root, part, Who, Task, same_path, root_named, child_named}
+use Rattle.verse_code_machine.specs.Tasks.{Role, root, part, Who, Task, same_path}
 use Rattle.verse_code_machine.specs.Runs.{Forest}
 use Rattle.verse_code_machine_parents.specs.Parents.{whos, Rooted, Still, EachTask, TreesRooted}
 use Rattle.run_save_shots.specs.Lists.{Each, EachAt, Reordered}
-use Rattle.run_save_shots.specs.Kept.{KeptTask, Kept}
+use Rattle.run_save_shots.specs.Kept.{Kept}
 use Rattle.run_save_shots.specs.Fitting.{ParentBefore}
 use Rattle.run_save_shots.specs.Keeping as kp
 use Rattle.run_save_shots.specs.Keeping.{walk, kept, place_of, entry_of}
@@ -17,20 +17,20 @@ use Rattle.run_save_shots.specs.Naming.{named, parent_in, number_at}
 use Rattle.run_save_shots.specs.Spelling as sp
 use Rattle.run_save_shots.specs.Spelling.{tasks_from, trees, grown}
 use Rattle.run_save_moves.specs.Fine.{Scene}
-use Rattle.run_save_fits.specs.Held.{IsSome, RoleIs, WhoIs, TaskFine, Savable, tasks_sum, trees_sum, one}
+use Rattle.run_save_fits.specs.Held.{IsSome, RoleIs, TaskFine, Savable, tasks_sum, trees_sum, one}
 use Rattle.run_save_fits.proofs.KeptTasks.{no_place}
 use Rattle.run_save_fits.proofs.KeptOrder.{walk_well, parents_fit}
 use Rattle.run_save_kept.specs.Orders.{Lined, last, is_named, awaits, skips, weight, Orderly}
 use Rattle.run_save_kept.specs.Growing.{filled}
-use Rattle.run_save_kept.proofs.Paths.{two_ways, clash, one_most, same_is, is_same, not_same}
-use Rattle.run_save_kept.proofs.Sums.{reordered_each, reordered_sum, all_as}
+use Rattle.run_save_kept.proofs.Paths.{two_ways, one_most, same_is, is_same, not_same}
+use Rattle.run_save_kept.proofs.Sums.{reordered_each, reordered_sum}
 use Rattle.run_save_kept.proofs.Siblings.{Named, HasOwn, trees_names, walk_each, walk_sum, parents_from}
 use Rattle.run_save_kept.proofs.Arms.{placed, found}
 use Rattle.run_save_kept.proofs.Grown.{trees_again}
 use Rattle.run_save_resumes.proofs.Adding as r
 use Rattle.run_save_resumes.proofs.Naming.{names_apart}
 use Rattle.run_save_alike.specs.Alike.{TaskAlike, TreesAlike, TreesAreSpelled}
-use Rattle.run_save_alike.proofs.Framing.{Rested, all_rested, Made, made}
+use Rattle.run_save_alike.proofs.Framing.{all_rested, Made, made}
 use Rattle.run_save_alike.proofs.Pairs.{EachPair, grown_pair, trees_alike}
 
 -- ---- lists
@@ -183,8 +183,11 @@ module _ (c : Code) (x : Kept) (z : Scene) (next : ℕ) (ys us : List Task) (nam
   facts : (fu zs : List Task) → us ≡ fu ++ More fu zs → Each Named zs → Each Given zs → EachAt ParentBefore (length fu) (map (kp.task ys) zs) →
       EachPair (Fact ys us) zs (More fu zs)
   facts fu [] e n g p = tt
-  facts fu (y ∷ zs) e n g p = subst (EachPair (Fact ys us) (y ∷ zs)) (sym step) (fact, facts (fu ++ m.task ∷ []) zs (e ∙ (ap (λ l. fu ++ l) step ∙ join fu m.task
-      (More (fu ++ m.task ∷ []) zs))) n.1 g.1 (subst (λ i. EachAt ParentBefore i (map (kp.task ys) zs)) (sym (longer fu m.task)) p.1))
+  facts fu (y ∷ zs) e n g p = subst (EachPair (Fact ys us) (y ∷ zs)) (sym step) (
+    fact,
+    facts (fu ++ m.task ∷ []) zs (e ∙ (ap (λ l. fu ++ l) step ∙ join fu m.task
+        (More (fu ++ m.task ∷ []) zs))) n.1 g.1 (subst (λ i. EachAt ParentBefore i (map (kp.task ys) zs)) (sym (longer fu m.task)) p.1),
+  )
     where
       m : Made c x (length (whos fu)) (kp.task ys y) (map (kp.task ys) zs) (whos fu) y
       m = made c x z next ys y g.0.0 (all_rested y.thread.frame y.thread.below g.0.1.free) (length (whos fu)) (map (kp.task ys) zs) (whos fu)

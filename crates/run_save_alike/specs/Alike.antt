@@ -1,7 +1,6 @@
 -- Trees of tasks that differ in their numbers alone.
 use Rattle.std.specs.Prelude.{◌≡◌, ℕ, List, [], ◌∷◌}
 use Rattle.verse_code.specs.declared.codes.Code.{Code}
-use Rattle.verse_value.specs.Val.{Val}
 use Rattle.verse_meaning_state.specs.State.{State}
 use Rattle.verse_code_machine.specs.Tasks.{Frame, Part, did, runs, Rest, asleep, group, Task}
 use Rattle.verse_code_machine.specs.Runs.{Forest}
