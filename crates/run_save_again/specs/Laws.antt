@@ -36,9 +36,9 @@ SavedRunGoesOn = (c : Code) (ns : List ℤ) (steps u v : ℕ) (s : State) (tss :
     Valid c → TextsAreBytes c → InputsFit ns → steps ≤ MOST_STEPS → u ≤ MOST_NOW →
     Stopped c ns steps u s tss → Spells x s tss → GoesOn c steps v x
 
--- Where the trees that are spelled are those of the run with other numbers in the same order, the run
--- that goes on from what is kept is the run to the later horizon, and its trace goes on from the one
--- so far.
+-- Where the trees that are spelled are those of the run with other numbers in the same order, the
+-- run that goes on from what is kept is the run to the later horizon, and its trace goes on from
+-- the one so far.
 abbrev pub SavedRunIsTheRun : Type 0
 SavedRunIsTheRun = (c : Code) (ns : List ℤ) (steps u v : ℕ) (s : State) (tss : Forest) (x : Kept) →
     Valid c → u ≤ v → Stopped c ns steps u s tss → Spells x s tss → SameTrees s tss (trees c x) →

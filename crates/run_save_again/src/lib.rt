@@ -1,4 +1,5 @@
-//! A run that stopped at its horizon goes on from what is kept of it. The definitions are in `Laws`.
+//! A run that stopped at its horizon goes on from what is kept of it. The definitions are in
+//! `Laws`.
 #![tactic(auto)]
 
 ghost use Rattle.run_save_again.specs.Laws.{SpelledStateIsApart, KeptStepsAreTheRuns};

@@ -16,8 +16,8 @@ use Rattle.run_save_fits.specs.Laws.{InputsFit}
 use Rattle.run_save_kept.specs.Growing.{filled}
 use Rattle.run_save_alike.specs.Alike.{TreesAlike}
 
--- in the order in which they were kept: the trees without the empty ones, but for their numbers, and
--- the live waits
+-- in the order in which they were kept: the trees without the empty ones, but for their numbers,
+-- and the live waits
 pub record SpelledAgain (c : Code) (x : Kept) (ordered : Forest) : Type 0 where
   pub alike : TreesAlike (filled ordered) (trees c x)
   pub waits : tree_waits (trees c x) ≡ tree_waits ordered

@@ -84,6 +84,6 @@ pub record Orderly (left : ℕ) (tss : Forest) : Type 0 where
   -- each arm that runs is a task of the tree
   pub arms : (a : List ℕ) → IsSome a → (n : ℕ) →
       Each (λ ts. tasks_sum (awaits a n) ts ≤ tasks_sum (is_named (a ++ n ∷ [])) ts) tss
-  -- no task that an arm's parent began later than that arm is in the background
+  -- at a group each child that began no earlier than one of the arms is an arm
   pub younger : (a : List ℕ) → IsSome a → (n m : ℕ) → n ≤ m →
       trees_sum (weight (λ path. one (same_path (a ++ n ∷ []) path)) (skips a n m)) tss ≤ 1

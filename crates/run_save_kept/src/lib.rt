@@ -1,6 +1,7 @@
 //! What is kept of a run that stopped at its horizon fits its code, whole: its arms and the order
-//! of siblings too. Read the definitions in this order: `Orders`, how the tasks stand to one another
-//! in every state between two turns; `Laws`; `Growing`, the trees from what is kept of their order.
+//! of siblings too. Read the definitions in this order: `Orders`, how the tasks stand to one
+//! another in every state between two turns; `Laws`; `Growing`, the trees from their tasks in the
+//! order in which they are kept.
 #![tactic(auto)]
 
 ghost use Rattle.run_save_kept.specs.Laws.{RunIsOrderly, OrderlyGoesOn, SavedStatesFit};
