@@ -1,0 +1,4 @@
+pub mod Framing
+pub mod Pairs
+pub mod Spelled
+pub mod Stopped

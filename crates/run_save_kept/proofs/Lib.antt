@@ -1,0 +1,13 @@
+pub mod Paths
+pub mod Sums
+pub mod Rails
+pub mod Lines
+pub mod Weights
+pub mod Named
+pub mod Present
+pub mod Younger
+pub mod Through
+pub mod Siblings
+pub mod Arms
+pub mod Whole
+pub mod Grown

@@ -1,0 +1,4 @@
+pub mod Adding
+pub mod Naming
+pub mod Growing
+pub mod Resumed
