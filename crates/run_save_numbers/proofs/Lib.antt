@@ -1,5 +1,5 @@
 pub mod Limits
 pub mod Firsts
-pub mod Tables
+pub mod Seen
 pub mod Settled
 mod Steps

@@ -14,8 +14,8 @@ use Rattle.run_save_numbers.specs.Numbers.{Numbers, borns_from, arms_from, numbe
 use Rattle.run_save_numbers.specs.Marking.{no_marks, nothing, with_children, carry, lifted, with_first, settled, settled_all}
 use Rattle.run_save_numbers.proofs.Limits.{few}
 use Rattle.run_save_numbers.proofs.Firsts.{is_at, first, first_least, first_or, since_parts}
-use Rattle.run_save_numbers.proofs.Tables.{same_more, table, length_table, told, same_told, depths, places, seen, seen_other, outer}
-use Rattle.run_save_numbers.proofs.Tables.{length_outer, walked}
+use Rattle.run_save_numbers.proofs.Seen.{same_more, table, length_table, told, same_told, depths, places, seen, seen_other, outer}
+use Rattle.run_save_numbers.proofs.Seen.{length_outer, walked}
 
 module _ (s : Kept) where
   -- the greatest number of those in the background of a frame or of one above it is that of the first

@@ -1,6 +1,6 @@
 //! The frames of a task by its children.
 
-ghost use Rattle.std.specs.Prelude.{◌≡◌, ◌+◌, ◌≤◌, ◌<◌, length};
+ghost use Rattle.std.specs.Prelude.{◌≡◌, ◌+◌, ◌≤◌, length};
 ghost use Rattle.run_save_numbers.specs.Marking.{carry, lifted, settled};
 ghost use Rattle.run_save_numbers.specs.View.{numbers_of};
 

@@ -1,7 +1,7 @@
 -- A store with these cells, and a machine of which no task runs.
-use Rattle.std.specs.Prelude.{List, [], ◌∷◌}
-use Rattle.verse_value.specs.Store.{Cell, Store}
-use Rattle.tx_heap.specs.State.{State, with_new}
+use Rattle.std.specs.Prelude.{[]}
+use Rattle.verse_value.specs.Store.{Store}
+use Rattle.tx_heap.specs.State.{State}
 use Rattle.vm_running.specs.Views.{View}
 use Rattle.run_save_runner.specs.declared.running.Clock.{Clock}
 use Rattle.run_save_runner.specs.declared.running.Printed.{Printed}
@@ -9,11 +9,6 @@ use Rattle.run_save_runner.specs.declared.running.Printed.{Printed}
 -- no mark is open
 abbrev pub filled : Store → State
 filled cells = record { cells = cells; copies = [] }
-
--- cells more, one after another
-abbrev pub with_cells : State → List Cell → State
-with_cells s [] = s
-with_cells s (c ∷ cs) = with_cells (with_new s c) cs
 
 -- no task runs, no handler is open, and of the trace nothing is left
 abbrev pub standing : Store → Clock → Printed → View

@@ -4,7 +4,7 @@ ghost use Rattle.std.specs.Prelude.{◌≡◌, map, OnOk};
 ghost use Rattle.verse_value.specs.Store.{with_cell};
 ghost use Rattle.run_save_shots.specs.View.{cell_of};
 ghost use Rattle.tx_heap.specs.State.{empty, IsLight, with_new};
-ghost use Rattle.run_save_runner.specs.Filled.{filled, with_cells};
+ghost use Rattle.run_save_runner.specs.Filled.{filled};
 
 use tx_heap::heaps::Heap;
 use verse_base::refusals::Memory;
@@ -29,7 +29,7 @@ pub fn fill<H: Heap>(heap: &mut H, cells: Vec<(CellKind, Vec<Value>)>) -> Result
 {
     let mut cells = cells;
     cells.reverse();
-    'cells: while let Some((kind, slots)) = cells.pop() {
+    'all: while let Some((kind, slots)) = cells.pop() {
         add(heap, kind, slots)?;
     }
     Ok(())

@@ -34,7 +34,7 @@ pub struct Printed {
 
 /// Over an empty heap the store of these cells, a trace behind what was printed, the clock as it
 /// stood, and no task.
-pub fn runner<H: Heap + Drop>(
+pub fn at_rest<H: Heap + Drop>(
     alloc: Global,
     heap: H,
     cells: Vec<(CellKind, Vec<Value>)>,

@@ -14,7 +14,7 @@ use crate::groups::group_of;
 use run_save_numbers::tables::TaskNumbers;
 use run_save_shots::shots::{FrameShot, RestShot, TaskShot};
 use run_save_stands::stands::{Stand, stand_at, top_place};
-use run_save_threads::threads::thread;
+use run_save_threads::threads::rebuild;
 use sim_clock::waits::WaitKind;
 use std::alloc::Global;
 use verse_base::refusals::Memory;
@@ -45,7 +45,7 @@ fn asleep(
     ensures { IfOk result (IsAsleep (map frame_of frames.items) number kind
         (numbers_of numbers.now)) }
 {
-    let thread = thread(alloc, frames, &numbers.borns, 0)?;
+    let thread = rebuild(alloc, frames, &numbers.borns, 0)?;
     Ok(Held::Asleep(thread, number, kind))
 }
 
@@ -67,12 +67,12 @@ fn at_group(
     let stand = stand_at(code, top_place(&frames));
     let count = arms.len() as u32;
     let group = group_of(alloc, code, stand, arms, &numbers.arms)?;
-    let thread = thread(alloc, frames, &numbers.borns, count)?;
+    let thread = rebuild(alloc, frames, &numbers.borns, count)?;
     Ok(Held::AtGroup(thread, group))
 }
 
 /// What a tree of tasks keeps of a suspended task, by its numbers.
-pub fn slot(
+pub fn suspended(
     alloc: Global,
     code: &Code,
     task: TaskShot,

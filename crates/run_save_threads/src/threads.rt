@@ -27,7 +27,7 @@ fn add(thread: &mut Thread, frame: FrameShot, born: u64, arms: u32) -> Result<()
 
 /// The frames of a task, the lowest first, with the steps that were left when each began. The top
 /// one goes on behind its operation and so many arms, and each other one behind its operation.
-pub fn thread(
+pub fn rebuild(
     alloc: Global,
     frames: Vec<FrameShot>,
     borns: &[u64],
