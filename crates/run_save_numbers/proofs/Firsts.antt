@@ -34,27 +34,30 @@ module _ (s : Kept) where
 
   pub first_least : (test : KeptTask → Bool) (ts : List KeptTask) → first test ts ≤ number_at s ts
   first_least test [] = omega arith
-  first_least test (t ∷ ts) = by (test t) refl
+  first_least test (t ∷ ts) = by (test t) refl (first_least test ts) (number_more t ts)
     where
-      by : (b : Bool) → test t ≡ b → first test (t ∷ ts) ≤ number_at s (t ∷ ts)
-      by true e = rw e (omega arith)
-      by false e = rw e (omega (arith, first_least test ts, number_more t ts))
+      by : (b : Bool) → test t ≡ b → first test ts ≤ number_at s ts → number_at s ts ≤ number_at s (t ∷ ts) →
+          first test (t ∷ ts) ≤ number_at s (t ∷ ts)
+      by true e l m = rw e (omega arith)
+      by false e l m = rw e (omega (arith, l, m))
 
   -- of two tests
   pub first_or : (p q r : KeptTask → Bool) → ((t : KeptTask) → r t ≡ (p t || q t)) → (ts : List KeptTask) →
       first r ts ≡ max (first p ts) (first q ts)
   first_or p q r h [] = omega arith
   first_or p q r h (t ∷ ts) =
-      first_step r t ts ∙ (ap (λ b. cond b (number_at s (t ∷ ts)) (first r ts)) (h t) ∙ (by (p t) (q t) ∙
+      first_step r t ts ∙ (ap (λ b. cond b (number_at s (t ∷ ts)) (first r ts)) (h t) ∙
+      (by (p t) (q t) (first_or p q r h ts) (first_least p ts) (first_least q ts) (number_more t ts) ∙
       sym (ap (λ n. max n (first q (t ∷ ts))) (first_step p t ts) ∙
       ap (λ n. max (cond (p t) (number_at s (t ∷ ts)) (first p ts)) n) (first_step q t ts))))
     where
-      by : (a b : Bool) → cond (a || b) (number_at s (t ∷ ts)) (first r ts) ≡
+      by : (a b : Bool) → first r ts ≡ max (first p ts) (first q ts) → first p ts ≤ number_at s ts → first q ts ≤ number_at s ts →
+          number_at s ts ≤ number_at s (t ∷ ts) → cond (a || b) (number_at s (t ∷ ts)) (first r ts) ≡
           max (cond a (number_at s (t ∷ ts)) (first p ts)) (cond b (number_at s (t ∷ ts)) (first q ts))
-      by true true = omega arith
-      by true false = omega (arith, first_least q ts, number_more t ts)
-      by false true = omega (arith, first_least p ts, number_more t ts)
-      by false false = first_or p q r h ts
+      by true true e l m n = omega arith
+      by true false e l m n = omega (arith, m, n)
+      by false true e l m n = omega (arith, l, n)
+      by false false e l m n = e
 
 -- a child since a frame stands behind it, or began since the frame above it
 pub since_parts : (at depth : ℕ) (t : KeptTask) → is_begun_since at depth t ≡ (is_begun_since at (suc depth) t || is_at at depth t)

@@ -3,3 +3,5 @@ pub mod Firsts
 pub mod Seen
 pub mod Settled
 mod Steps
+mod Lifting
+pub mod Totals

@@ -97,12 +97,12 @@ module _ (s : Kept) where
   -- a task that is no child of it
   pub seen_other : (at frames arms : ℕ) (t : KeptTask) (ts : List KeptTask) → is_child_of at t ≡ false →
       seen at frames arms ts ≡ seen at frames arms (t ∷ ts)
-  seen_other at frames arms t ts no =
+  seen_other at frames arms t ts apart =
       same_told s.left (depths at frames ts) (depths at frames (t ∷ ts)) (first s (is_begun_since at frames) ts)
       (first s (is_begun_since at frames) (t ∷ ts)) (places at arms ts) (places at arms (t ∷ ts))
-      (depths_same at frames t ts (λ d l. both_false (is_child_of at t) (is_behind d t.role) no))
-      (sym (takes (is_begun_since at frames) t ts false (both_false (is_child_of at t) (is_since frames t.role) no)))
-      (places_same at arms t ts (λ place. rw no refl))
+      (depths_same at frames t ts (λ d l. both_false (is_child_of at t) (is_behind d t.role) apart))
+      (sym (takes (is_begun_since at frames) t ts false (both_false (is_child_of at t) (is_since frames t.role) apart)))
+      (places_same at arms t ts (λ place. rw apart refl))
 
   -- a child
   module _ (at frames arms : ℕ) (t : KeptTask) (ts : List KeptTask) (yes : is_child_of at t ≡ true) where
@@ -197,12 +197,12 @@ module _ (s : Kept) where
 
   outer_other : (n : ℕ) (us : List KeptTask) (t : KeptTask) (ts : List KeptTask) → ((x : ℕ) → n ≤ x → is_child_of x t ≡ false) →
       outer n us ts ≡ outer n us (t ∷ ts)
-  outer_other n [] t ts no = refl
-  outer_other n (u ∷ us) t ts no =
+  outer_other n [] t ts apart = refl
+  outer_other n (u ∷ us) t ts apart =
       same_more (seen n (length u.frames) (length (arms_of u.rest)) ts) (seen n (length u.frames) (length (arms_of u.rest)) (t ∷ ts))
       (outer (suc n) us ts) (outer (suc n) us (t ∷ ts))
-      (seen_other n (length u.frames) (length (arms_of u.rest)) t ts (no n (omega arith)))
-      (outer_other (suc n) us t ts (λ x l. no x (omega (arith, l))))
+      (seen_other n (length u.frames) (length (arms_of u.rest)) t ts (apart n (omega arith)))
+      (outer_other (suc n) us t ts (λ x l. apart x (omega (arith, l))))
 
   outer_child : (n : ℕ) (us : List KeptTask) (i : ℕ) (t : KeptTask) (ts : List KeptTask) → t.parent ≡ Some (n + i) →
       set (outer n us ts) i (marked (number_at s (t ∷ ts)) t.role (get_or (outer n us ts) i nothing)) ≡ outer n us (t ∷ ts)

@@ -110,7 +110,7 @@ fn add_child(all: &mut [TaskNumbers], parent: Option<u32>, role: Role, number: u
 pub fn number(shot: &Shot, count: usize) -> u64
     requires steps { shot.now.left + shot.now.spent ≤ MOST_STEPS }
     requires few { count ≤ shot.now.spent }
-    ensures { result ≡ shot.now.left + suc shot.now.spent * count }
+    ensures { result ≡ shot.entry.now.left + suc shot.entry.now.spent * count }
 {
     shot.left + (shot.spent + 1) * count as u64
 }
@@ -119,8 +119,9 @@ pub fn number(shot: &Shot, count: usize) -> u64
 pub fn marks(alloc: Global, shot: &Shot) -> Result<Vec<TaskNumbers>, Memory>
     requires steps { shot.now.left + shot.now.spent ≤ MOST_STEPS }
     requires few { length shot.now.tasks.items ≤ shot.now.spent }
-    ensures { IfOk result (λ a. map numbers_of a.items ≡ with_children (shot_of shot.now)
-        (map (no_marks shot.now.left) (shot_of shot.now).tasks) (shot_of shot.now).tasks) }
+    ensures { IfOk result (λ a. map numbers_of a.items ≡ with_children (shot_of shot.entry.now)
+        (map (no_marks shot.entry.now.left) (shot_of shot.entry.now).tasks)
+        (shot_of shot.entry.now).tasks) }
 {
     let tasks = shot.tasks.as_slice();
     let mut all = unmarked(alloc, tasks, shot.left)?;

@@ -17,7 +17,7 @@ use verse_base::refusals::Memory;
 pub fn numbers(alloc: Global, shot: &Shot) -> Result<Vec<TaskNumbers>, Memory>
     requires { Countable (shot_of shot.now) }
     ensures { IfOk result (λ ns. map numbers_of ns.items ≡
-        numbers_from (shot_of shot.now) 0 (shot_of shot.now).tasks) }
+        numbers_from (shot_of shot.entry.now) 0 (shot_of shot.entry.now).tasks) }
 {
     let mut all = marks(alloc, shot)?;
     'tasks: for i in 0..all.len() {

@@ -53,11 +53,11 @@ module _ {T : Type 0} where
 
   pub each_at : (P : Task T → Type 0) (tasks : List (Task T)) (i : ℕ) (t : Task T) → Each P tasks → task_at i tasks ≡ Some t → P t
   each_at P [] i t e at = absurd (cc)
-  each_at P (x ∷ xs) i t e at = by (eqb x.number i) at
+  each_at P (x ∷ xs) i t e at = by (eqb x.number i) (λ a. each_at P xs i t e.1 a) at
     where
-      by : (b : Bool) → (if b then Some x else task_at i xs) ≡ Some t → P t
-      by true f = let same : x ≡ t = cc in subst P same e.0
-      by false f = each_at P xs i t e.1 f
+      by : (b : Bool) → (task_at i xs ≡ Some t → P t) → (if b then Some x else task_at i xs) ≡ Some t → P t
+      by true later f = let same : x ≡ t = cc in subst P same e.0
+      by false later f = later f
 
 module _ {T : Type 0} (slot : T → Slot) where
   -- ---- numbers
@@ -65,22 +65,24 @@ module _ {T : Type 0} (slot : T → Slot) where
   pub same_task : (tasks : List (Task T)) (i j : ℕ) (t u : Task T) → Unlike slot tasks → task_at i tasks ≡ Some t →
       task_at j tasks ≡ Some u → number_of slot t ≡ number_of slot u → (i ≡ j) × (t ≡ u)
   same_task [] i j t u d a b e = absurd (cc)
-  same_task (x ∷ xs) i j t u d a b e = by (eqb x.number i) refl (eqb x.number j) refl a b
+  same_task (x ∷ xs) i j t u d a b e =
+      by (eqb x.number i) refl (eqb x.number j) refl (λ f g. same_task xs i j t u d.1 f g e) a b
     where
-      by : (p : Bool) → eqb x.number i ≡ p → (q : Bool) → eqb x.number j ≡ q → (if p then Some x else task_at i xs) ≡ Some t →
+      by : (p : Bool) → eqb x.number i ≡ p → (q : Bool) → eqb x.number j ≡ q →
+          (task_at i xs ≡ Some t → task_at j xs ≡ Some u → (i ≡ j) × (t ≡ u)) → (if p then Some x else task_at i xs) ≡ Some t →
           (if q then Some x else task_at j xs) ≡ Some u → (i ≡ j) × (t ≡ u)
-      by true f true g a b =
+      by true f true g later a b =
           let one : x ≡ t = cc in let two : x ≡ u = cc in
           (sym (eqb-true x.number i f) ∙ eqb-true x.number j g, sym one ∙ two)
-      by true f false g a b =
+      by true f false g later a b =
           let one : x ≡ t = cc in
           absurd (each_at (λ (v : Task T). number_of slot v ≡ number_of slot x → ⊥) xs j u d.0 b
           (sym e ∙ ap (λ v. number_of slot v) (sym one)))
-      by false f true g a b =
+      by false f true g later a b =
           let two : x ≡ u = cc in
           absurd (each_at (λ (v : Task T). number_of slot v ≡ number_of slot x → ⊥) xs i t d.0 a
           (e ∙ ap (λ v. number_of slot v) (sym two)))
-      by false f false g a b = same_task xs i j t u d.1 a b e
+      by false f false g later a b = later a b
 
   pub unlike_more : (tasks new : List (Task T)) (u : Task T) → Added u tasks new → Unlike slot tasks →
       Each (λ (v : Task T). number_of slot u < number_of slot v) tasks → Unlike slot new

@@ -1,5 +1,5 @@
 -- A task more in the trees.
-use Rattle.std.proofs.Common.{◌≡◌, ℕ, ◌<◌, Bool, true, false, cond, List, [], ◌∷◌, ◌++◌, map, reverse, Option, Some, None, refl, sym, ap}
+use Rattle.std.proofs.Common.{◌≡◌, ℕ, zero, suc, ◌<◌, Bool, true, false, cond, List, [], ◌∷◌, ◌++◌, map, Option, refl, sym, ap}
 use Rattle.std.proofs.Common.{subst, ◌∙◌, append_assoc, arith}
 use Rattle.std.proofs.lemmas.List.{append-nil, map-append}
 use Rattle.verse_meaning_state.specs.Waits.{eqn}
@@ -14,24 +14,24 @@ use Rattle.run_save_spelled.proofs.Forests.{AllApart, apart_around, flat_append,
 -- ---- names
 
 eqn_is : (n m : ℕ) → eqn n m ≡ true → n ≡ m
-eqn_is 0 0 e = refl
-eqn_is 0 (suc m) e = absurd (cc)
-eqn_is (suc n) 0 e = absurd (cc)
+eqn_is zero zero e = refl
+eqn_is zero (suc m) e = absurd (cc)
+eqn_is (suc n) zero e = absurd (cc)
 eqn_is (suc n) (suc m) e = ap suc (eqn_is n m e)
 
 eqn_same : (n : ℕ) → eqn n n ≡ true
-eqn_same 0 = refl
+eqn_same zero = refl
 eqn_same (suc n) = eqn_same n
 
 same_is : (a b : List ℕ) → same_path a b ≡ true → a ≡ b
 same_is [] [] e = refl
 same_is [] (j ∷ b) e = absurd (cc)
 same_is (i ∷ a) [] e = absurd (cc)
-same_is (i ∷ a) (j ∷ b) e = by (eqn i j) refl e
+same_is (i ∷ a) (j ∷ b) e = by (eqn i j) refl (λ h. same_is a b h) e
   where
-    by : (c : Bool) → eqn i j ≡ c → cond c (same_path a b) false ≡ true → i ∷ a ≡ j ∷ b
-    by true f e = ap (λ n. n ∷ a) (eqn_is i j f) ∙ ap (λ w. j ∷ w) (same_is a b e)
-    by false f e = absurd (cc)
+    by : (c : Bool) → eqn i j ≡ c → (same_path a b ≡ true → a ≡ b) → cond c (same_path a b) false ≡ true → i ∷ a ≡ j ∷ b
+    by true f rest e = ap (λ n. n ∷ a) (eqn_is i j f) ∙ ap (λ w. j ∷ w) (rest e)
+    by false f rest e = absurd (cc)
 
 pub same_self : (a : List ℕ) → same_path a a ≡ true
 same_self [] = refl
@@ -154,7 +154,7 @@ pub root_more : (before : List Task) (tss : Forest) (y : Task) (entry : Option �
 root_more before tss y entry h e less = record {
   reordered = one_more (flat tss) [] (flat_last tss y) (subst (λ w. Reordered before w) (sym (append-nil (flat tss))) h.reordered);
   apart = (fewer before y less, h.apart);
-  names = (begun_named before y (begins_root {before = before} entry e), h.names);
+  names = (begun_named before y (begins_root entry e), h.names);
 }
 
 pub planted_root : (tss : Forest) (y : Task) (n : ℕ) (entry : Option ℕ) → y.thread.who ≡ root_named n entry →

@@ -12,12 +12,12 @@ use Rattle.verse_code_machine.specs.Goings.{ThreadIsFree, TasksAreFree, TreesAre
 use Rattle.run_save_shots.specs.Lists.{Each, Reordered}
 use Rattle.run_save_shots.specs.Kept.{KeptFrame, KeptTask, Kept}
 use Rattle.run_save_shots.specs.Fitting.{TaskFits, frames_in, Fits}
-use Rattle.run_save_shots.specs.Spelling.{state, frame, frames_from, who, tasks_from, trees}
+use Rattle.run_save_shots.specs.Spelling.{state, frames_from, who, tasks_from, trees}
 use Rattle.run_save_spelled.specs.Growing.{flat}
 use Rattle.run_save_spelled.specs.Laws.{Resumable}
 use Rattle.run_save_spelled.proofs.Forests.{each_append, each_parts, reordered_each, reordered_sum}
 use Rattle.run_save_spelled.proofs.Growing.{Holds, none_held, onto, all_held}
-use Rattle.run_save_spelled.proofs.Sprouting.{HasFrames, spelled, frames_long, have_frames, all_sprout}
+use Rattle.run_save_spelled.proofs.Sprouting.{HasFrames, framed, spelled, frames_long, have_frames, all_sprout}
 
 -- ---- plain frames
 
@@ -85,7 +85,7 @@ module _ (c : Code) (s : Kept) where
       Each IsPlain (frames_from c s at t ts depth fs below)
   plain_from at t ts depth [] below ps = ps
   plain_from at t ts depth (f ∷ fs) below ps =
-      plain_from at t ts (suc depth) fs (_ ∷ below) (record { handlers = refl; noted = refl }, ps)
+      plain_from at t ts (suc depth) fs (framed c s at t ts depth f fs ∷ below) (record { handlers = refl; noted = refl }, ps)
 
   plain_tasks : (ts : List KeptTask) (ws : List Who) → Each HasFrames ts → Each Plain (tasks_from c s ws ts)
   plain_tasks [] ws fs = tt

@@ -1,25 +1,39 @@
 -- The tasks that a fitting shot spells begin one after another.
 use Rattle.std.proofs.Common.{◌≡◌, ℕ, zero, suc, ◌+◌, ◌*◌, ◌<◌, ◌≤◌, List, [], ◌∷◌, ◌++◌, length, map, Option, Some, None, refl, sym, ap}
-use Rattle.std.proofs.Common.{subst, ◌∙◌, arith}
+use Rattle.std.proofs.Common.{subst, ◌∙◌, arith, ◌⊎◌, inl, inr}
+use Rattle.std.proofs.Math.Nat.{mul-suc}
+use Rattle.std.proofs.lemmas.Bool.{cases_lt}
 use Rattle.std.proofs.lemmas.List.{length-append}
 use Rattle.verse_code.specs.declared.codes.Code.{Code}
 use Rattle.verse_meaning_state.specs.Waits.{nth}
 use Rattle.verse_code_machine.specs.Tasks.{Frame, Task, Who, thread, root_named, child_named}
 use Rattle.run_save_shots.specs.Lists.{Each, EachAt}
 use Rattle.run_save_shots.specs.Kept.{KeptFrame, KeptRest, KeptTask, Kept}
-use Rattle.run_save_shots.specs.Fitting.{FramesSuit, TaskFits, ParentBefore, Fits}
+use Rattle.run_save_shots.specs.Fitting.{FramesSuit, arms_of, TaskFits, ParentBefore, Fits}
 use Rattle.run_save_shots.specs.Naming.{number_at, named, parent_in}
-use Rattle.run_save_shots.specs.Spelling.{frames_from, rest, with_frames, who, task, tasks_from}
+use Rattle.run_save_shots.specs.Spelling.{frame, arms_behind, born, frames_from, rest, with_frames, who, task, tasks_from}
 use Rattle.run_save_spelled.specs.Growing.{number_of, In, first_in, later_in, Begins, begins_root, begins_part, Sprouts}
 use Rattle.run_save_spelled.proofs.Forests.{each_weaker}
+
+nth_old : (ws : List Who) (w : Who) (p : ℕ) → p < length ws → nth (ws ++ w ∷ []) p ≡ nth ws p
+nth_old [] w p lt = absurd (omega (arith, lt))
+nth_old (v ∷ ws) w zero lt = refl
+nth_old (v ∷ ws) w (suc p) lt = nth_old ws w p (omega (arith, lt))
+
+nth_new : (ws : List Who) (w : Who) → nth (ws ++ w ∷ []) (length ws) ≡ Some w
+nth_new [] w = refl
+nth_new (v ∷ ws) w = nth_new ws w
 
 module _ (c : Code) (s : Kept) where
   -- ---- one task
 
+  abbrev pub framed : (at : ℕ) (t : KeptTask) (ts : List KeptTask) (depth : ℕ) → KeptFrame → List KeptFrame → Frame
+  framed at t ts depth f fs = frame (born s at depth (t ∷ ts) (suc (length fs)) ts) (arms_behind fs (arms_of t.rest)) f
+
   pub frames_long : (at : ℕ) (t : KeptTask) (ts : List KeptTask) (depth : ℕ) (fs : List KeptFrame) (below : List Frame) →
       length (frames_from c s at t ts depth fs below) ≡ length fs + length below
   frames_long at t ts depth [] below = omega arith
-  frames_long at t ts depth (f ∷ fs) below = omega (arith, frames_long at t ts (suc depth) fs (_ ∷ below))
+  frames_long at t ts depth (f ∷ fs) below = omega (arith, frames_long at t ts (suc depth) fs (framed at t ts depth f fs ∷ below))
 
   -- there is one, with these frames
   pub record Spelled (at : ℕ) (t : KeptTask) (ts : List KeptTask) (ws : List Who) : Type 0 where
@@ -57,27 +71,13 @@ module _ (c : Code) (s : Kept) where
 
   pub one_name : (ws : List Who) (before : List Task) (y : Task) (w : Who) → y.thread.who ≡ w → Names ws before →
       Names (ws ++ w ∷ []) (y ∷ before)
-  one_name ws before y w e ns p lt = by (cases ws p)
+  one_name ws before y w e ns p lt = by (cases_lt p (length ws))
     where
-      data At (ws : List Who) (p : ℕ) : Type 0 where
-        old : p < length ws → nth (ws ++ w ∷ []) p ≡ nth ws p → At ws p
-        new : p ≡ length ws → nth (ws ++ w ∷ []) p ≡ Some w → At ws p
-        beyond : length ws < p → At ws p
-
-      cases : (ws : List Who) (p : ℕ) → At ws p
-      cases [] zero = new refl refl
-      cases [] (suc p) = beyond (omega arith)
-      cases (v ∷ ws) zero = old (omega arith) refl
-      cases (v ∷ ws) (suc p) = elim (cases ws p) [
-        | old l f ↦ old (omega (arith, l)) f
-        | new l f ↦ new (ap suc l) f
-        | beyond l ↦ beyond (omega (arith, l))
-      ]
-
-      by : At ws p → (x : Task) × In x (y ∷ before) × (nth (ws ++ w ∷ []) p ≡ Some x.thread.who)
-      by (old l f) = let n = ns p l in (n.0, later_in y n.1, f ∙ n.2)
-      by (new l f) = (y, first_in, f ∙ ap Some (sym e))
-      by (beyond l) = absurd (omega (arith, l, lt, length-append ws (w ∷ [])))
+      by : (p < length ws) ⊎ (length ws ≤ p) → (x : Task) × In x (y ∷ before) × (nth (ws ++ w ∷ []) p ≡ Some x.thread.who)
+      by (inl l) = let n = ns p l in (n.0, later_in y n.1, nth_old ws w p l ∙ n.2)
+      by (inr l) =
+          let last : p ≡ length ws = omega (arith, l, lt, length-append ws (w ∷ [])) in
+          (y, first_in, ap (λ k. nth (ws ++ w ∷ []) k) last ∙ (nth_new ws w ∙ ap Some (sym e)))
 
   pub who_number : (at : ℕ) (t : KeptTask) (ts : List KeptTask) (ws : List Who) →
       (who c s at t ts ws).number ≡ number_at s (t ∷ ts)
@@ -126,7 +126,7 @@ module _ (c : Code) (s : Kept) where
       (λ z. number_of d.it < number_of z) before (λ z l. omega (arith, number, l)) above, rest)
     where
       next : number_at s (t ∷ ts) ≡ number_at s ts + suc s.spent
-      next = omega arith
+      next = omega (arith, mul-suc (suc s.spent) (length ts))
 
   pub have_frames : (ts : List KeptTask) → Each (TaskFits c s) ts → Each HasFrames ts
   have_frames [] fs = tt

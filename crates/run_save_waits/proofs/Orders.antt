@@ -1,5 +1,5 @@
 -- Waits in the order of their numbers.
-use Rattle.std.proofs.Common.{◌≡◌, ℕ, suc, ◌+◌, ◌<◌, ◌≤◌, Bool, eqb, List, [], ◌∷◌, ◌++◌, length, map, get_or, take, drop, refl, sym, ap}
+use Rattle.std.proofs.Common.{◌≡◌, ℕ, zero, suc, ◌+◌, ◌<◌, ◌≤◌, Bool, eqb, List, [], ◌∷◌, ◌++◌, length, map, get_or, take, drop, refl, sym, ap}
 use Rattle.std.proofs.Common.{subst, ◌∙◌, arith, ◌⊎◌, inl, inr}
 use Rattle.std.proofs.lemmas.Bool.{cases_eq, eq-eqb, ne_eqb}
 use Rattle.std.proofs.lemmas.List.{get_or-map, length-map, drop_more, map-append}
@@ -66,11 +66,11 @@ above_last (x ∷ xs) w ys r = (first xs r.0, above_last xs w ys r.1)
     first [] b = b.0
     first (z ∷ zs) b = first zs b.1
 
-pub above : (all : List Wait) (i : ℕ) (w : Wait) → i < length all → w ≡ get_or all i w → Rises all →
-    IsAboveAll w.number (map started (take i all))
-above all i w l e r = above_last (take i all) w (drop (i + 1) all) (subst (λ xs. Rises xs) (parts all i l e) r)
+pub above : (all : List Wait) (i : ℕ) (d : Wait) → i < length all → Rises all →
+    IsAboveAll (number_of (get_or all i d)) (map started (take i all))
+above all i d l r = above_last (take i all) (get_or all i d) (drop (suc i) all) (subst (λ xs. Rises xs) (parts all i l) r)
   where
-    parts : (xs : List Wait) (i : ℕ) → i < length xs → w ≡ get_or xs i w → xs ≡ take i xs ++ w ∷ drop (i + 1) xs
-    parts [] i l e = absurd (omega (arith, l))
-    parts (x ∷ xs) 0 l e = ap (λ y. y ∷ xs) (sym e)
-    parts (x ∷ xs) (suc i) l e = ap (λ ys. x ∷ ys) (parts xs i (omega (arith, l)) e)
+    parts : (xs : List Wait) (i : ℕ) → i < length xs → xs ≡ take i xs ++ get_or xs i d ∷ drop (suc i) xs
+    parts [] i l = absurd (omega (arith, l))
+    parts (x ∷ xs) zero l = refl
+    parts (x ∷ xs) (suc i) l = ap (λ ys. x ∷ ys) (parts xs i (omega (arith, l)))

@@ -9,7 +9,7 @@ use verse_base::refusals::Memory;
 
 fn sorted(all: Vec<Wait>) -> Result<Vec<Wait>, Memory>
     requires { IsDistinct eqb (map number_of all.items) }
-    ensures { IfOk result (IsInOrder all.items) }
+    ensures { IfOk result (λ v. IsInOrder all.items v.items) }
 {
     let mut all = all;
     all.sort_by_key(|wait| wait.number)?;
