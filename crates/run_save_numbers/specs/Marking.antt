@@ -1,6 +1,6 @@
 -- What is kept of the children of a task while the list is walked from its end.
-use Rattle.std.specs.Prelude.{ℕ, zero, suc, ◌+◌, ◌*◌, nat_lt, max, if◌then◌else◌, List, [], ◌∷◌, length, map, set, get_or, replicate, Option}
-use Rattle.std.specs.Prelude.{Some, None}
+use Rattle.std.specs.Prelude.{ℕ, zero, suc, ◌+◌, ◌*◌, nat_lt, max, if◌then◌else◌, List, [], ◌∷◌}
+use Rattle.std.specs.Prelude.{length, map, set, get_or, replicate, Option, Some, None}
 use Rattle.task_tree.specs.declared.tasks.Role.{Role}
 use Rattle.task_tree.specs.declared.tasks.Role.TheVariants.{Root, Arm, Behind}
 use Rattle.run_save_shots.specs.Kept.{KeptTask, Kept}
@@ -8,8 +8,9 @@ use Rattle.run_save_shots.specs.Fitting.{arms_of}
 use Rattle.run_save_shots.specs.Naming.{number_at}
 use Rattle.run_save_numbers.specs.Numbers.{Numbers}
 
--- Of each kind of children the number of the one that was seen last, which is the first of the list: of those in the background of a frame,
--- by its depth; of those in the background of none; and of the arm of a place.
+-- Of each kind of children the number of the one that was seen last, which is the first of the
+-- list: of those in the background of a frame, by its depth; of those in the background of none; and
+-- of the arm of a place.
 abbrev pub no_marks : (left : ℕ) → KeptTask → Numbers
 no_marks left t = record {
   own = left;
@@ -24,7 +25,9 @@ nothing = record { own = 0; borns = []; above = 0; arms = [] }
 abbrev pub marked : ℕ → Role → Numbers → Numbers
 marked n Root m = m
 marked n (Arm place) m = record m { above = n; arms = set m.arms place n }
-marked n (Behind depth) m = if nat_lt depth (length m.borns) then record m { borns = set m.borns depth n } else record m { above = n }
+marked n (Behind depth) m =
+    if nat_lt depth (length m.borns) then record m { borns = set m.borns depth n } else
+    record m { above = n }
 
 -- a child more of the task at a place
 abbrev pub with_child : List Numbers → Option ℕ → Role → ℕ → List Numbers
@@ -34,7 +37,8 @@ with_child ms (Some parent) role n = set ms parent (marked n role (get_or ms par
 -- the tasks from a place on, the last one first
 abbrev pub with_children : Kept → List Numbers → List KeptTask → List Numbers
 with_children s ms [] = ms
-with_children s ms (t ∷ ts) = with_child (with_children s ms ts) t.parent t.role (number_at s (t ∷ ts))
+with_children s ms (t ∷ ts) =
+    with_child (with_children s ms ts) t.parent t.role (number_at s (t ∷ ts))
 
 -- the greatest of these numbers
 abbrev pub carry : (above : ℕ) → List ℕ → ℕ
@@ -51,7 +55,12 @@ with_first own [] = []
 with_first own (n ∷ ns) = own ∷ ns
 
 abbrev pub settled : ℕ → Numbers → Numbers
-settled own m = record { own = own; borns = with_first own (lifted m.above m.borns); above = m.above; arms = m.arms }
+settled own m = record {
+  own = own;
+  borns = with_first own (lifted m.above m.borns);
+  above = m.above;
+  arms = m.arms;
+}
 
 abbrev pub settled_all : Kept → List Numbers → List Numbers
 settled_all s [] = []

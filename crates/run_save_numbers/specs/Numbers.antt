@@ -12,7 +12,8 @@ pub record Numbers : Type 0 where
   pub own : ℕ
   -- of its frames, the lowest first
   pub borns : List ℕ
-  -- of the first child that is in the background of none of its frames; without one the steps that are left
+  -- of the first child that is in the background of none of its frames; without one the steps that
+  -- are left
   pub above : ℕ
   -- for each arm of its group that of the child
   pub arms : List ℕ
@@ -21,7 +22,8 @@ module _ (s : Kept) where
   -- of so many frames from a depth on, of the task at a place
   abbrev pub borns_from : (at depth frames : ℕ) → (own ts : List KeptTask) → List ℕ
   borns_from at depth zero own ts = []
-  borns_from at depth (suc frames) own ts = born s at depth own (suc frames) ts ∷ borns_from at (suc depth) frames own ts
+  borns_from at depth (suc frames) own ts =
+      born s at depth own (suc frames) ts ∷ borns_from at (suc depth) frames own ts
 
   -- of so many arms from a place on
   abbrev pub arms_from : (at place arms : ℕ) → List KeptTask → List ℕ

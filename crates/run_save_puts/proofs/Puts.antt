@@ -99,9 +99,11 @@ module _ {T : Type 0} (slot : T → Slot) where
           (front ++ a.back) → Unlike slot (front ++ u ∷ a.back)
       go [] d l = (other a.back l, d)
       go (x ∷ front) d l =
-          let parts = each_parts (λ (v : Task T). number_of slot v ≡ number_of slot x → ⊥) front a.back d.0 in
-          (each_append (λ (v : Task T). number_of slot v ≡ number_of slot x → ⊥) front (u ∷ a.back) parts.0
-          ((λ e. omega (arith, e, l.0)), parts.1), go front d.1 l.1)
+          let parts = each_parts (λ (v : Task T). number_of slot v ≡ number_of slot x → ⊥) front a.back d.0 in (
+            each_append (λ (v : Task T). number_of slot v ≡ number_of slot x → ⊥) front (u ∷ a.back) parts.0
+                ((λ e. omega (arith, e, l.0)), parts.1),
+            go front d.1 l.1,
+          )
 
   -- ---- a task of its own
 

@@ -45,9 +45,10 @@ frames_belong c (f ∷ fs) ps = (no_handlers c f.handlers ps.0.handlers, frames_
 
 tasks_free : (ys : List Task) → Each Plain ys → TasksAreFree ys
 tasks_free [] ps = tt
-tasks_free (y ∷ ys) ps =
-    (free_plain y.thread.frame.handlers y.thread.frame.life.noted y.thread.below ps.0.frame.handlers ps.0.frame.noted ps.0.below,
-    tasks_free ys ps.1)
+tasks_free (y ∷ ys) ps = (
+  free_plain y.thread.frame.handlers y.thread.frame.life.noted y.thread.below ps.0.frame.handlers ps.0.frame.noted ps.0.below,
+  tasks_free ys ps.1,
+)
 
 trees_free : (tss : Forest) → Each Plain (flat tss) → TreesAreFree tss
 trees_free [] ps = tt

@@ -24,6 +24,9 @@ nth_new : (ws : List Who) (w : Who) → nth (ws ++ w ∷ []) (length ws) ≡ Som
 nth_new [] w = refl
 nth_new (v ∷ ws) w = nth_new ws w
 
+abbrev pub HasFrames : KeptTask → Type 0
+HasFrames t = 1 ≤ length t.frames
+
 module _ (c : Code) (s : Kept) where
   -- ---- one task
 
@@ -104,9 +107,6 @@ module _ (c : Code) (s : Kept) where
 
   -- ---- all tasks
 
-  abbrev pub HasFrames : KeptTask → Type 0
-  HasFrames t = 1 ≤ length t.frames
-
   pub sprouts : (ts : List KeptTask) (ws : List Who) (before : List Task) → Each HasFrames ts → EachAt ParentBefore (length ws) ts →
       Names ws before → Each (λ z. number_at s ts + s.spent < number_of z) before → Sprouts before (tasks_from c s ws ts)
   sprouts [] ws before fs ps ns above = tt
@@ -118,12 +118,17 @@ module _ (c : Code) (s : Kept) where
       let long : length (ws ++ w ∷ []) ≡ suc (length ws) = length-append ws (w ∷ []) ∙ omega arith in
       let rest : Sprouts (d.it ∷ before) (tasks_from c s (ws ++ w ∷ []) ts) =
       sprouts ts (ws ++ w ∷ []) (d.it ∷ before) fs.1 (subst (λ n. EachAt ParentBefore n ts) (sym long) ps.1)
-      (one_name ws before d.it w d.who_is ns)
-      (omega (arith, number, step), each_weaker (λ z. number_at s (t ∷ ts) + s.spent < number_of z)
-      (λ z. number_at s ts + s.spent < number_of z) before (λ z l. omega (arith, step, l)) above) in
-      subst (λ ys. Sprouts before (ys ++ tasks_from c s (ws ++ w ∷ []) ts)) (sym d.is)
-      (begins t ts ws before d.it d.who_is ps.0 ns, each_weaker (λ z. number_at s (t ∷ ts) + s.spent < number_of z)
-      (λ z. number_of d.it < number_of z) before (λ z l. omega (arith, number, l)) above, rest)
+      (one_name ws before d.it w d.who_is ns) (
+        omega (arith, number, step),
+        each_weaker (λ z. number_at s (t ∷ ts) + s.spent < number_of z)
+            (λ z. number_at s ts + s.spent < number_of z) before (λ z l. omega (arith, step, l)) above,
+      ) in
+      subst (λ ys. Sprouts before (ys ++ tasks_from c s (ws ++ w ∷ []) ts)) (sym d.is) (
+        begins t ts ws before d.it d.who_is ps.0 ns,
+        each_weaker (λ z. number_at s (t ∷ ts) + s.spent < number_of z)
+            (λ z. number_of d.it < number_of z) before (λ z l. omega (arith, number, l)) above,
+        rest,
+      )
     where
       next : number_at s (t ∷ ts) ≡ number_at s ts + suc s.spent
       next = omega (arith, mul-suc (suc s.spent) (length ts))

@@ -23,12 +23,15 @@ pub data In {A : Type 0} (x : A) : List A → Type 0 where
 -- the task is one of its own, or a part of one of these
 pub data Begins (before : List Task) (y : Task) : Type 0 where
   begins_root : (entry : Option ℕ) → y.thread.who ≡ root_named (number_of y) entry → Begins before y
-  begins_part : (x : Task) → In x before → y.thread.who ≡ child_named x.thread.who (number_of y) → Begins before y
+  begins_part : (x : Task) → In x before →
+      y.thread.who ≡ child_named x.thread.who (number_of y) → Begins before y
 
--- each begins behind those before, of which the last is the first of the list, and has a lower number
+-- each begins behind those before, of which the last is the first of the list, and has a lower
+-- number
 abbrev pub Sprouts : (before : List Task) → List Task → Type 0
 Sprouts before [] = Unit {0}
-Sprouts before (y ∷ ys) = Begins before y × Each (λ z. number_of y < number_of z) before × Sprouts (y ∷ before) ys
+Sprouts before (y ∷ ys) =
+    Begins before y × Each (λ z. number_of y < number_of z) before × Sprouts (y ∷ before) ys
 
 -- the part stands right before the task in which it is
 pub record Inserted (x y : Task) (old : Forest) : Type 0 where

@@ -15,7 +15,8 @@ TasksSprout = (c : Code) (s : Kept) → Fits c s → Sprouts [] (tasks_from c s 
 
 -- the trees have each task once
 abbrev pub TreesHoldEach : Type 0
-TreesHoldEach = (c : Code) (s : Kept) → Fits c s → Reordered (reverse (tasks_from c s [] s.tasks)) (flat (trees c s))
+TreesHoldEach = (c : Code) (s : Kept) → Fits c s →
+    Reordered (reverse (tasks_from c s [] s.tasks)) (flat (trees c s))
 
 -- a run can go on from them, and they belong to the code
 pub record Resumable (c : Code) (s : Kept) : Type 0 where

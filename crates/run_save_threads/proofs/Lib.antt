@@ -1,2 +1,2 @@
 pub mod Spells
-mod Steps
+pub mod Steps

@@ -3,7 +3,8 @@
 ghost use Rattle.std.specs.Prelude.{◌≡◌, ◌+◌, ◌≤◌, ◌<◌, [], length, map, IfOk, OnOk};
 ghost use Rattle.run_save_shots.specs.View.{frame_of};
 ghost use Rattle.run_save_shots.specs.Lists.{Each};
-ghost use Rattle.run_save_threads.specs.Stacking.{with_frame, stacked, IsNear, SpellsFrames};
+ghost use Rattle.run_save_threads.specs.Stacking.{with_frame, arms_under, stacked, IsNear};
+ghost use Rattle.run_save_threads.specs.Stacking.{SpellsFrames};
 
 use run_save_shots::shots::FrameShot;
 use std::alloc::Global;
@@ -23,6 +24,13 @@ fn add(thread: &mut Thread, frame: FrameShot, born: u64, arms: u32) -> Result<()
         defers,
     } = frame;
     thread.add_frame(place + 1 + arms, locals, stack, defers, born)
+}
+
+/// How many arms stand behind the operation of a frame above which there are so many.
+fn arms_behind(above: usize, arms: u32) -> u32
+    ensures { result ≡ arms_under above arms }
+{
+    if above == 0 { arms } else { 0 }
 }
 
 /// The frames of a task, the lowest first, with the steps that were left when each began. The top
@@ -45,7 +53,7 @@ pub fn rebuild(
     let mut thread = Thread::empty(alloc);
     let mut at = 0;
     'frames: while let Some(frame) = frames.pop() {
-        let behind = if frames.is_empty() { arms } else { 0 };
+        let behind = arms_behind(frames.len(), arms);
         add(&mut thread, frame, borns[at], behind)?;
         at += 1;
     }

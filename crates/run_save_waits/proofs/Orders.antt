@@ -27,9 +27,10 @@ all_below n (w ∷ ws) h = (h 0 w (omega arith), all_below n ws (λ j d l. h (su
 rises_from : (ws : List Wait) →
     ((i j : ℕ) (d : Wait) → i < j → j < length ws → number_of (get_or ws i d) < number_of (get_or ws j d)) → Rises ws
 rises_from [] h = tt
-rises_from (w ∷ ws) h =
-    (all_below w.number ws (λ j d l. h 0 (suc j) d (omega arith) (omega (arith, l))),
-    rises_from ws (λ i j d l m. h (suc i) (suc j) d (omega (arith, l)) (omega (arith, m))))
+rises_from (w ∷ ws) h = (
+  all_below w.number ws (λ j d l. h 0 (suc j) d (omega arith) (omega (arith, l))),
+  rises_from ws (λ i j d l m. h (suc i) (suc j) d (omega (arith, l)) (omega (arith, m))),
+)
 
 pub in_order : (all new : List Wait) → IsPermutation all new → IsNonDecreasingBy number_of new → IsDistinct eqb (map number_of all) →
     IsInOrder all new
@@ -44,8 +45,12 @@ in_order all new p up d =
     record {
       same = p;
       rises = rises_from new (λ i j w l m.
-          omega (arith, pairs i j (number_of w) l (omega (arith, m, long)), at i w (number_of w) (omega (arith, l, m)),
-          at j w (number_of w) m));
+          omega (
+            arith,
+            pairs i j (number_of w) l (omega (arith, m, long)),
+            at i w (number_of w) (omega (arith, l, m)),
+            at j w (number_of w) m,
+          ));
     }
   where
     some : (ws : List Wait) (j : ℕ) → j < length ws → Wait
@@ -74,3 +79,7 @@ above all i d l r = above_last (take i all) (get_or all i d) (drop (suc i) all) 
     parts [] i l = absurd (omega (arith, l))
     parts (x ∷ xs) zero l = refl
     parts (x ∷ xs) (suc i) l = ap (λ ys. x ∷ ys) (parts xs i (omega (arith, l)))
+
+pub above_so_far : (all : List Wait) (i : ℕ) (d : Wait) (ps : List Pending) → ps ≡ map started (take i all) → i < length all → Rises all →
+    IsAboveAll (number_of (get_or all i d)) ps
+above_so_far all i d ps e l r = subst (λ qs. IsAboveAll (number_of (get_or all i d)) qs) (sym e) (above all i d l r)
