@@ -29,12 +29,15 @@ root_of None None = Main
 abbrev pub rest_of_group : Group → Rest
 rest_of_group g = group (kind_of g.kind) g.place (map part_of g.arms.items)
 
--- each arm has given a value, or is the task of its number
+-- an arm has given a value, or is the task of a number
+abbrev pub part : Option Val → ℕ → Part
+part (Some v) n = did v
+part None n = runs n
+
 abbrev pub parts : List (Option Val) → List ℕ → List Part
 parts [] ns = []
 parts (v ∷ vs) [] = []
-parts (Some v ∷ vs) (n ∷ ns) = did v ∷ parts vs ns
-parts (None ∷ vs) (n ∷ ns) = runs n ∷ parts vs ns
+parts (v ∷ vs) (n ∷ ns) = part v n ∷ parts vs ns
 
 -- each frame has a number, and where it goes on is a place of 32 bits
 pub record FramesSuit (frames : List KeptFrame) (arms : ℕ) (n : Numbers) : Type 0 where
@@ -49,19 +52,24 @@ pub record Suits (t : KeptTask) (n : Numbers) : Type 0 where
   pub few_arms : length (arms_of t.rest) < 4294967295
   pub above : n.above < 18446744073709551615
 
-abbrev pub IsAsleep : List KeptFrame → (number : ℕ) → WaitKind → Numbers → Held (List Framed) → Type 0
+abbrev pub IsAsleep : List KeptFrame → (number : ℕ) → WaitKind → Numbers → Held (List Framed) →
+    Type 0
 IsAsleep frames number kind n h = h ≡ Asleep (stacked 0 n.borns frames []) number kind
 
 -- at the group of the operation at which its top frame stands
-pub data IsAtGroup (c : Code) (frames : List KeptFrame) (arms : List (Option Val)) (n : Numbers) : Held (List Framed) → Type 0 where
-  is_at_group : {g : Group} → rest_of_group g ≡ gathered c (stand_at c (top_place frames)) (parts arms n.arms) →
-      IsAtGroup c frames arms n (AtGroup (stacked (length arms) n.borns frames []) g)
+pub data IsAtGroup (c : Code) (frames : List KeptFrame) (arms : List (Option Val)) (n : Numbers) :
+    Held (List Framed) → Type 0 where
+  is_at_group : {g : Group} {fs : List Framed} → fs ≡ stacked (length arms) n.borns frames [] →
+      rest_of_group g ≡ gathered c (stand_at c (top_place frames)) (parts arms n.arms) →
+      IsAtGroup c frames arms n (AtGroup fs g)
 
 -- what the tree holds of a task that waits so
-pub data Waits (c : Code) (frames : List KeptFrame) (n : Numbers) : KeptRest → Held (List Framed) → Type 0 where
-  waits_asleep : {number : ℕ} {kind : WaitKind} {h : Held (List Framed)} → IsAsleep frames number kind n h →
-      Waits c frames n (k.leaf number (cause_of kind)) h
-  waits_at_group : {arms : List (Option Val)} {h : Held (List Framed)} → IsAtGroup c frames arms n h → Waits c frames n (k.group arms) h
+pub data Waits (c : Code) (frames : List KeptFrame) (n : Numbers) : KeptRest → Held (List Framed) →
+    Type 0 where
+  waits_asleep : {number : ℕ} {kind : WaitKind} {h : Held (List Framed)} →
+      IsAsleep frames number kind n h → Waits c frames n (k.leaf number (cause_of kind)) h
+  waits_at_group : {arms : List (Option Val)} {h : Held (List Framed)} →
+      IsAtGroup c frames arms n h → Waits c frames n (k.group arms) h
 
 -- made of a task with these numbers
 pub record IsMade (c : Code) (t : KeptTask) (n : Numbers) (x : Slot (List Framed)) : Type 0 where

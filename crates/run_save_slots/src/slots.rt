@@ -3,17 +3,13 @@
 ghost use Rattle.std.specs.Prelude.{◌≡◌, ◌<◌, length, map, option_map, IfOk};
 ghost use Rattle.verse_value.specs.View.{val_of};
 ghost use Rattle.run_save_shots.specs.View.{task_of, frame_of};
-ghost use Rattle.run_save_shots.specs.Spelling.{gathered};
-ghost use Rattle.run_save_stands.specs.View.{as_stand};
 ghost use Rattle.run_save_numbers.specs.View.{numbers_of};
-ghost use Rattle.run_save_threads.specs.Stacking.{stacked};
-ghost use Rattle.run_save_slots.specs.Slots.{root_of, parts, Suits, FramesSuit, IsMade, IsAsleep};
+ghost use Rattle.run_save_slots.specs.Slots.{root_of, Suits, FramesSuit, IsMade, IsAsleep};
 ghost use Rattle.run_save_slots.specs.Slots.{IsAtGroup};
 
 use crate::groups::group_of;
 use run_save_numbers::tables::TaskNumbers;
 use run_save_shots::shots::{FrameShot, RestShot, TaskShot};
-use run_save_stands::stands::{Stand, stand_at, top_place};
 use run_save_threads::threads::rebuild;
 use sim_clock::waits::WaitKind;
 use std::alloc::Global;
@@ -50,6 +46,7 @@ fn asleep(
 }
 
 /// It stands at the group of an operation.
+#[tactic(auto, using(crate::specs::Slots::is_at_group))]
 fn at_group(
     alloc: Global,
     code: &Code,
@@ -64,14 +61,14 @@ fn at_group(
     ensures { IfOk result (IsAtGroup code.now (map frame_of frames.items)
         (map (option_map val_of) arms.items) (numbers_of numbers.now)) }
 {
-    let stand = stand_at(code, top_place(&frames));
     let count = arms.len() as u32;
-    let group = group_of(alloc, code, stand, arms, &numbers.arms)?;
+    let group = group_of(alloc, code, &frames, arms, &numbers.arms)?;
     let thread = rebuild(alloc, frames, &numbers.borns, count)?;
     Ok(Held::AtGroup(thread, group))
 }
 
 /// What a tree of tasks keeps of a suspended task, by its numbers.
+#[tactic(auto, using(crate::specs::Slots::waits_asleep, crate::specs::Slots::waits_at_group))]
 pub fn suspended(
     alloc: Global,
     code: &Code,
