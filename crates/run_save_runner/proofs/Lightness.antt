@@ -20,11 +20,17 @@ weight_append [] ys = omega arith
 weight_append (x ∷ xs) ys = omega (arith, weight_append xs ys)
 
 -- the cell that comes next
-pub next : (cells rest : List (CellKind × Vec Value)) (c : CellKind × Vec Value) (done all : Store) → cells ≡ rest ++ c ∷ [] →
+next : (cells rest : List (CellKind × Vec Value)) (c : CellKind × Vec Value) (done all : Store) → cells ≡ rest ++ c ∷ [] →
     done ++ map cell_of (reverse cells) ≡ all → with_cell done (cell_of c) ++ map cell_of (reverse rest) ≡ all
 next cells rest c done all e so_far =
     append_assoc done (cell_of c ∷ []) (map cell_of (reverse rest)) ∙
     (ap (λ xs. done ++ map cell_of xs) (sym (ap reverse e ∙ reverse-append rest (c ∷ []))) ∙ so_far)
 
-pub light : (done rest all : Store) → done ++ rest ≡ all → IsLight all → IsLight done
+light : (done rest all : Store) → done ++ rest ≡ all → IsLight all → IsLight done
 light done rest all e l = omega (arith, l, weight_append done rest, ap store_weight e)
+
+-- and the cells with it are light
+pub light_next : (cells rest : List (CellKind × Vec Value)) (c : CellKind × Vec Value) (done all : Store) → cells ≡ rest ++ c ∷ [] →
+    done ++ map cell_of (reverse cells) ≡ all → IsLight all → IsLight (with_cell done (cell_of c))
+light_next cells rest c done all e so_far l =
+    light (with_cell done (cell_of c)) (map cell_of (reverse rest)) all (next cells rest c done all e so_far) l

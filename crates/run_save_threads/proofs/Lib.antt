@@ -1,2 +1,2 @@
 pub mod Spells
-pub mod Steps
+mod Steps

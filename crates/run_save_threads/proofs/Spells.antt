@@ -1,5 +1,5 @@
 -- Frames one on another are those that what is kept of a run spells.
-use Rattle.std.proofs.Common.{◌≡◌, ℕ, suc, ◌+◌, List, [], ◌∷◌, length, Option, refl, sym, ap, ◌∙◌}
+use Rattle.std.proofs.Common.{◌≡◌, ℕ, suc, ◌+◌, List, [], ◌∷◌, length, Option, refl, sym, ap, subst, ◌∙◌}
 use Rattle.verse_code.specs.declared.codes.Code.{Code}
 use Rattle.verse_value.specs.Val.{Val}
 use Rattle.run_save_shots.specs.Kept.{KeptFrame, KeptTask, Kept}
@@ -27,3 +27,7 @@ module _ (c : Code) (s : Kept) (at : ℕ) (t : KeptTask) (ts : List KeptTask) wh
 pub spells : (arms : ℕ) (borns : List ℕ) (frames : List KeptFrame) → SpellsFrames arms borns frames (stacked arms borns frames [])
 spells arms borns frames c s at t ts f a b =
     rw (b, sym f, sym a) (spells_from c s at t ts 0 t.frames [])
+
+pub spells_made : (arms : ℕ) (borns : List ℕ) (frames : List KeptFrame) (made : List Framed) → made ≡ stacked arms borns frames [] →
+    SpellsFrames arms borns frames made
+spells_made arms borns frames made e = subst (λ fs. SpellsFrames arms borns frames fs) (sym e) (spells arms borns frames)

@@ -33,6 +33,30 @@ fn arms_behind(above: usize, arms: u32) -> u32
     if above == 0 { arms } else { 0 }
 }
 
+/// The frames one on another.
+fn stack_up(
+    alloc: Global,
+    frames: Vec<FrameShot>,
+    borns: &[u64],
+    arms: u32,
+) -> Result<Thread, Memory>
+    requires borns { length borns.now ≡ length frames.items }
+    requires few { length frames.items < 4294967295 }
+    requires near { Each (IsNear arms) (map frame_of frames.items) }
+    ensures { IfOk result (λ t. t ≡ stacked arms borns.now (map frame_of frames.items) []) }
+{
+    let mut frames = frames;
+    frames.reverse();
+    let mut thread = Thread::empty(alloc);
+    let mut at = 0;
+    'frames: while let Some(frame) = frames.pop() {
+        let behind = arms_behind(frames.len(), arms);
+        add(&mut thread, frame, borns[at], behind)?;
+        at += 1;
+    }
+    Ok(thread)
+}
+
 /// The frames of a task, the lowest first, with the steps that were left when each began. The top
 /// one goes on behind its operation and so many arms, and each other one behind its operation.
 pub fn rebuild(
@@ -48,14 +72,6 @@ pub fn rebuild(
         stacked arms borns.now (map frame_of frames.items) []) }
     ensures spells { IfOk result (SpellsFrames arms borns.now (map frame_of frames.items)) }
 {
-    let mut frames = frames;
-    frames.reverse();
-    let mut thread = Thread::empty(alloc);
-    let mut at = 0;
-    'frames: while let Some(frame) = frames.pop() {
-        let behind = arms_behind(frames.len(), arms);
-        add(&mut thread, frame, borns[at], behind)?;
-        at += 1;
-    }
+    let thread = stack_up(alloc, frames, borns, arms)?;
     Ok(thread)
 }

@@ -2,7 +2,7 @@ use Rattle.std.proofs.Common.{◌≡◌, ◌<◌, ◌+◌, [], length, map, drop
 use Rattle.run_save_shots.specs.Lists.{Each}
 use Rattle.run_save_shots.specs.View.{frame_of}
 use Rattle.run_save_threads.specs.Stacking.{stacked, IsNear}
-use Rattle.run_save_threads.proofs.threads.rebuild.Given as goal
+use Rattle.run_save_threads.proofs.threads.stack_up.Given as goal
 
 abbrev pub invariant-frames : goal.invariant-frames
 invariant-frames l = record {
