@@ -1,3 +1,2 @@
-pub mod Steps
 mod Tops
 mod Made
