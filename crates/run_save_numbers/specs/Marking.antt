@@ -9,8 +9,8 @@ use Rattle.run_save_shots.specs.Naming.{number_at}
 use Rattle.run_save_numbers.specs.Numbers.{Numbers}
 
 -- Of each kind of children the number of the one that was seen last, which is the first of the
--- list: of those in the background of a frame, by its depth; of those in the background of none; and
--- of the arm of a place.
+-- list: of those in the background of a frame, by its depth; of those in the background of none;
+-- and of the arm of a place.
 abbrev pub no_marks : (left : ℕ) → KeptTask → Numbers
 no_marks left t = record {
   own = left;

@@ -1,5 +1,6 @@
 -- The frames of a task, from what is kept of them.
-use Rattle.std.specs.Prelude.{◌≡◌, ◌<◌, ◌+◌, ◌==◌, ℕ, suc, if◌then◌else◌, List, [], ◌∷◌, length, reverse}
+use Rattle.std.specs.Prelude.{◌≡◌, ◌<◌, ◌+◌, ◌==◌, ℕ, suc, if◌then◌else◌, List, [], ◌∷◌, length}
+use Rattle.std.specs.Prelude.{reverse}
 use Rattle.verse_code.specs.declared.codes.Code.{Code}
 use Rattle.run_save_shots.specs.Kept.{KeptFrame, KeptTask, Kept}
 use Rattle.run_save_shots.specs.Fitting.{arms_of}
