@@ -1,0 +1,2 @@
+pub mod Spells
+mod Steps
