@@ -200,7 +200,7 @@ module _ {T : Type 0} where
   arranged_append a b tss uss ps qs (empty_arranged {tss = vss} d) h = empty_arranged (arranged_append a b vss uss ps qs d h)
   arranged_append a b tss uss ps qs (tree_arranged {c = c} {cs = cs} {ts = ts} {qs = rs} {tss = vss} {ps = os} t d) h =
       subst (λ w. Arranged (c ∷ (cs ++ b)) (ts ∷ (vss ++ uss)) w) (sym (append_assoc rs os qs)) (tree_arranged t (arranged_append cs b vss
-          uss os qs d h))
+      uss os qs d h))
 
   -- the trees in the order of the roots
   pub record InOrder (roots : List (Rose T)) (tss : Forest) : Type 0 where

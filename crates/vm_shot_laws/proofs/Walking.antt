@@ -150,7 +150,7 @@ module _ {T : Type 0} (slot : T → Slot) where
   some_many : (u : Task T) (z : m.Task) (ts : List (Task T)) (ys : List m.Task) → Both u z ts ys → 1 ≤ many z.thread.who.number ys
   some_many u z ts ys (first_both {ys = zs}) =
       subst (λ b. 1 ≤ cond b (suc (many z.thread.who.number zs)) (many z.thread.who.number zs)) (sym (eqn_same z.thread.who.number)) (omega
-          arith)
+      arith)
   some_many u z ts ys (later_both {v = v} {xs = xs} {ys = zs} h) =
       two (eqn z.thread.who.number v.thread.who.number) (many z.thread.who.number zs) (some_many u z xs zs h)
     where
@@ -367,7 +367,7 @@ module _ {T : Type 0} (slot : T → Slot) where
       let beneath = beneath_all tasks ys rests.roots o.ordered ys good (λ u z h. h) o.are in
       let walk_is : walk o.ordered ≡ ys = walk_told slot rests.roots o.ordered ys good o.are in
       let few : (n : ℕ) → many n ys ≤ 1 = λ n. subst (λ k. k ≤ 1) (numbered_same n tss o.ordered o.reordered ∙ (sym (many_walk n o.ordered) ∙
-          ap (many n) walk_is)) (apart n) in
+      ap (many n) walk_is)) (apart n) in
       let distinct : Distinct tasks = subst Distinct rests.tasks_are tree.distinct in
       record {
         ordered = o.ordered;
