@@ -1,5 +1,6 @@
 -- The slots of a cell.
-use Rattle.std.specs.Prelude.{◌≡◌, ℕ, List, [], length, Option, Some, None, slice_get, option_map, unwrap_or}
+use Rattle.std.specs.Prelude.{◌≡◌, ℕ, List, [], length, Option, Some, None, slice_get, option_map}
+use Rattle.std.specs.Prelude.{unwrap_or}
 use Rattle.verse_value.specs.Val.{Val}
 use Rattle.verse_value.specs.Store.{Cell, Store}
 

@@ -1,5 +1,6 @@
 -- The frames of a task looked through from the top.
-use Rattle.std.proofs.Common.{◌≡◌, ◌<◌, ◌≤◌, ◌-◌, ◌+◌, ℕ, zero, suc, List, [], ◌∷◌, ◌++◌, length, drop, Option, Some, None, Bool, true, false, cond}
+use Rattle.std.proofs.Common.{◌≡◌, ◌<◌, ◌≤◌, ◌-◌, ◌+◌, ℕ, zero, suc, List, [], ◌∷◌, ◌++◌, length, drop, Option, Some}
+use Rattle.std.proofs.Common.{None, Bool, true, false, cond}
 use Rattle.std.proofs.Common.{refl, sym, ap, subst, ◌∙◌, arith, reverse, map, append_assoc}
 use Rattle.std.specs.Prelude.{slice_get, option_map, pred}
 use Rattle.std.proofs.lemmas.List.{reverse-reverse, reverse-append, map-append, append-nil}

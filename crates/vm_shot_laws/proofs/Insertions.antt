@@ -1,5 +1,6 @@
 -- A task that is put behind its parent, and so the order in which tasks are kept.
-use Rattle.std.proofs.Common.{◌≡◌, ℕ, zero, suc, ◌+◌, ◌<◌, length, List, [], ◌∷◌, ◌++◌, Bool, true, false, cond, refl, sym, ap, subst, ◌∙◌, append_assoc, arith}
+use Rattle.std.proofs.Common.{◌≡◌, ℕ, zero, suc, ◌+◌, ◌<◌, length, List, [], ◌∷◌, ◌++◌, Bool, true, false, cond, refl}
+use Rattle.std.proofs.Common.{sym, ap, subst, ◌∙◌, append_assoc, arith}
 use Rattle.std.proofs.Common.{length-append}
 use Rattle.std.proofs.lemmas.List.{append-nil}
 use Rattle.task_tree.specs.Tasks.{Task}
@@ -11,7 +12,8 @@ use Rattle.vm_tasks_laws.specs.Slots.{Slot, Entry, slept, held, Parent, no_paren
 use Rattle.vm_tasks_laws.specs.Roses.{Rose, empty, node, IsOne, Good, GoodTree, GoodTrees}
 use Rattle.vm_tasks_laws.proofs.Paths.{same_self}
 use Rattle.run_save_shots.specs.Keeping.{behind_parent, walked, walk}
-use Rattle.vm_shot_laws.proofs.Pairs.{Told, none_told, one_told, Arranged, none_arranged, empty_arranged, tree_arranged}
+use Rattle.vm_shot_laws.proofs.Pairs.{Told, none_told, one_told, Arranged, none_arranged, empty_arranged}
+use Rattle.vm_shot_laws.proofs.Pairs.{tree_arranged}
 
 -- tasks are put behind their parents, the last one first
 abbrev pub put_all : List m.Task → List m.Task → List m.Task

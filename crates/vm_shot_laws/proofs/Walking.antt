@@ -1,5 +1,6 @@
 -- What is kept of the tasks of a tree, and of those that the definition has for them.
-use Rattle.std.proofs.Common.{◌≡◌, ℕ, zero, suc, ◌+◌, ◌≤◌, List, [], ◌∷◌, ◌++◌, map, Option, Some, None, Bool, true, false, cond, refl, sym, ap, subst}
+use Rattle.std.proofs.Common.{◌≡◌, ℕ, zero, suc, ◌+◌, ◌≤◌, List, [], ◌∷◌, ◌++◌, map, Option, Some, None, Bool, true}
+use Rattle.std.proofs.Common.{false, cond, refl, sym, ap, subst}
 use Rattle.std.proofs.Common.{◌∙◌, arith, option_map, ◌⊎◌}
 use Rattle.std.specs.Prelude.{eqb, ◌≢◌, if◌then◌else◌, pred, reverse}
 use mathlib.Core.Logic.{inl, inr}
@@ -12,7 +13,8 @@ use Rattle.verse_meaning_state.specs.Waits.{eqn, ltn}
 use Rattle.verse_code_machine.specs.Tasks as m
 use Rattle.verse_code_machine.specs.Tasks.{Frame, same_path}
 use Rattle.verse_code_machine.specs.Runs.{Forest}
-use Rattle.vm_tasks_laws.specs.Slots.{Slot, Held, by_machine, by_itself, Entry, slept, Parent, no_parent, under, number_of, Shows}
+use Rattle.vm_tasks_laws.specs.Slots.{Slot, Held, by_machine, by_itself, Entry, slept, Parent, no_parent, under}
+use Rattle.vm_tasks_laws.specs.Slots.{number_of, Shows}
 use Rattle.vm_tasks_laws.specs.Roses.{Rose, empty, node, pre, pre_all, Good, GoodTree, GoodTrees}
 use Rattle.vm_tasks_laws.specs.Standing.{Rests}
 use Rattle.vm_tasks_laws.specs.Told.{AllPairs}
@@ -21,11 +23,15 @@ use Rattle.vm_tasks_laws.proofs.Trees.{good_dealt}
 use Rattle.run_save_shots.specs.Lists.{count, Reordered, no_elements, one_more}
 use Rattle.run_save_shots.specs.Kept.{KeptFrame, KeptRest, KeptTask}
 use Rattle.run_save_shots.specs.Keeping as kp
-use Rattle.run_save_shots.specs.Keeping.{behind_parent, walked, walk, place_of, task_of, role_in, arm_in, arm_or, depth_of}
-use Rattle.vm_shot_laws.specs.Tree.{place_in, parent_place, role_beneath, role_under, held_by, held_frames, held_rest, kept_task, kept_tasks}
+use Rattle.run_save_shots.specs.Keeping.{behind_parent, walked, walk, place_of, task_of, role_in, arm_in, arm_or}
+use Rattle.run_save_shots.specs.Keeping.{depth_of}
+use Rattle.vm_shot_laws.specs.Tree.{place_in, parent_place, role_beneath, role_under, held_by, held_frames, held_rest}
+use Rattle.vm_shot_laws.specs.Tree.{kept_task, kept_tasks}
 use Rattle.vm_shot_laws.specs.Laws.{numbered, NumbersApart, Walks}
-use Rattle.vm_shot_laws.proofs.Pairs.{Both, first_both, later_both, pairs_append, both_front, both_back, pair_of, Told, none_told, one_told}
-use Rattle.vm_shot_laws.proofs.Pairs.{Arranged, none_arranged, empty_arranged, tree_arranged, arranged, InOrder, in_order}
+use Rattle.vm_shot_laws.proofs.Pairs.{Both, first_both, later_both, pairs_append, both_front, both_back, pair_of}
+use Rattle.vm_shot_laws.proofs.Pairs.{Told, none_told, one_told}
+use Rattle.vm_shot_laws.proofs.Pairs.{Arranged, none_arranged, empty_arranged, tree_arranged, arranged, InOrder}
+use Rattle.vm_shot_laws.proofs.Pairs.{in_order}
 use Rattle.vm_shot_laws.proofs.Insertions.{walk_told}
 
 -- ---- names
