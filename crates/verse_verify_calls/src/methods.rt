@@ -19,25 +19,25 @@ use verse_verify_operands::finding::{method_in, pop_many};
 /// A method that is called or spawned, with how many arguments the operation says, and what it
 /// pushes.
 #[derive(Clone, Copy)]
-struct Entry<'a> {
+struct Called<'a> {
     note: &'a FuncNote,
     count: u32,
     made: Made<'a>,
 }
 
 /// The rule that an operation breaks which calls or spawns a method of an object.
-fn enter_method(here: &Here, entry: Entry, object: &Sort, args: &[Sort], st: &[Sort]) -> Option<u8>
-    ensures { result ≡ rule_by here.now (e.enters_method here.now (func_of entry.entry.note.now)
-        entry.entry.count (made_of entry.entry.made) (sort_of object.now) (sorts_of args.now)
+fn enter_method(here: &Here, called: Called, object: &Sort, args: &[Sort], st: &[Sort]) -> Option<u8>
+    ensures { result ≡ rule_by here.now (e.enters_method here.now (func_of called.entry.note.now)
+        called.entry.count (made_of called.entry.made) (sort_of object.now) (sorts_of args.now)
         (operands st.now)) }
 {
-    if !does_take(entry.note, entry.count) {
+    if !does_take(called.note, called.count) {
         return Some(6);
     }
-    if !does_object_fit(here, object, args, entry.note) {
+    if !does_object_fit(here, object, args, called.note) {
         return Some(5);
     }
-    enter_rule(here, entry.note, entry.made, st)
+    enter_rule(here, called.note, called.made, st)
 }
 
 /// The rule that a Method breaks.
@@ -58,7 +58,7 @@ pub fn method_rule(here: &Here, method: u32, count: u32, st: &[Sort]) -> Option<
         Ok(Some(note)) => note,
     };
     let made = Made::Is(&note.result);
-    enter_method(here, Entry { note, count, made }, object, args, rest)
+    enter_method(here, Called { note, count, made }, object, args, rest)
 }
 
 /// The rule that a SpawnMethod breaks.
@@ -79,5 +79,5 @@ pub fn spawn_method_rule(here: &Here, method: u32, count: u32, st: &[Sort]) -> O
         Ok(Some(note)) => note,
     };
     let made = Made::TaskOf(&note.result);
-    enter_method(here, Entry { note, count, made }, object, args, rest)
+    enter_method(here, Called { note, count, made }, object, args, rest)
 }
