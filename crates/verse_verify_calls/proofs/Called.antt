@@ -1,13 +1,15 @@
--- Operands that are popped together, and the methods of an object.
-use Rattle.std.proofs.Common.{◌≡◌, ℕ, List, [], ◌∷◌, refl, sym, ap, ◌∙◌}
+-- Functions and methods that are called, by what is found.
+use Rattle.std.proofs.Common.{◌≡◌, ℕ, List, [], ◌∷◌, sym, ap, ◌∙◌}
 use Rattle.std.specs.Prelude.{Option, Some, None, Result, Ok, Err}
-use Rattle.verse_code.specs.declared.codes.Code.{Code}
 use Rattle.verse_sorts.specs.Sorts.{Sort}
 use Rattle.verse_verify_kept.specs.Notes.{FuncNote}
-use Rattle.verse_verify_faults.specs.Spots.{Table}
+use Rattle.verse_verify_faults.specs.Stepping as t
 use Rattle.verse_verify_faults.specs.Stepping.{Stepped, breaks, pop, pop_all, on_method}
+use Rattle.verse_verify_next.specs.declared.heres.Here.{Here}
+use Rattle.verse_verify_next.specs.Heres.{code_in, table_in}
 use Rattle.verse_verify_operands.specs.Finds.{popped, on_popped, on_found, method_in}
 use Rattle.verse_verify_operands.proofs.Found.{pops_by, methods_by}
+use Rattle.verse_verify_calls.specs.Entering.{pushes, enters_method}
 
 module _ (n : ℕ) (st : List Sort) (go : List Sort → List Sort → Stepped) where
   pub popped_by : (xs rest : List Sort) → Some (xs, rest) ≡ popped n st [] → pop_all n st [] go ≡ go xs rest
@@ -16,18 +18,38 @@ module _ (n : ℕ) (st : List Sort) (go : List Sort → List Sort → Stepped) w
   pub few_popped : None ≡ popped n st [] → pop_all n st [] go ≡ breaks 4
   few_popped e = pops_by n st [] go ∙ ap (λ r. on_popped r go) (sym e)
 
--- arguments, and then an object
-module _ (n : ℕ) (st : List Sort) (go : List Sort → Sort → List Sort → Stepped) where
-  pub object_by : (xs lower : List Sort) (a : Sort) (rest : List Sort) → Some (xs, lower) ≡ popped n st [] → lower ≡ a ∷ rest →
-      pop_all n st [] (λ xs st. pop st (λ a st. go xs a st)) ≡ go xs a rest
-  object_by xs lower a rest e f =
-      popped_by n st (λ xs st. pop st (λ a st. go xs a st)) xs lower e ∙ ap (λ zs. pop zs (λ a st. go xs a st)) f
+-- a method, of which so many arguments are popped, and then the object
+module _ (h : Here) (k m : ℕ) (nothing : t.Made) (made : FuncNote → t.Made) (st : List Sort) where
+  abbrev of_object : List Sort → Sort → List Sort → Stepped
+  of_object xs a st =
+      on_method (code_in h) (table_in h) a m (pushes h nothing st) (λ g. enters_method h g k (made g) a xs st)
 
-  pub no_object : (xs lower : List Sort) → Some (xs, lower) ≡ popped n st [] → lower ≡ [] →
-      pop_all n st [] (λ xs st. pop st (λ a st. go xs a st)) ≡ breaks 4
-  no_object xs lower e f =
-      popped_by n st (λ xs st. pop st (λ a st. go xs a st)) xs lower e ∙ ap (λ zs. pop zs (λ a st. go xs a st)) f
+  abbrev with_args : List Sort → List Sort → Stepped
+  with_args xs st = pop st (λ a st. of_object xs a st)
 
-module _ (c : Code) (t : Table) (a : Sort) (m : ℕ) (nothing : Stepped) (go : FuncNote → Stepped) where
-  pub method_by : (r : Result (Option FuncNote) ℕ) → r ≡ method_in c t a m → on_method c t a m nothing go ≡ on_found r nothing go
-  method_by r e = methods_by c t a m nothing go ∙ ap (λ r. on_found r nothing go) (sym e)
+  abbrev pub method_by : Stepped
+  method_by = pop_all k st [] with_args
+
+  pub few_args : None ≡ popped k st [] → method_by ≡ breaks 4
+  few_args e = few_popped k st with_args e
+
+  module _ (xs lower : List Sort) (e : Some (xs, lower) ≡ popped k st []) where
+    pub no_object : lower ≡ [] → method_by ≡ breaks 4
+    no_object f = popped_by k st with_args xs lower e ∙ ap (with_args xs) f
+
+    module _ (a : Sort) (rest : List Sort) (f : lower ≡ a ∷ rest) where
+      object_there : (r : Result (Option FuncNote) ℕ) → r ≡ method_in (code_in h) (table_in h) a m →
+          method_by ≡ on_found r (pushes h nothing rest) (λ g. enters_method h g k (made g) a xs rest)
+      object_there r i = popped_by k st with_args xs lower e ∙ ap (with_args xs) f ∙ methods_by (code_in h) (table_in h) a m (pushes h nothing
+          rest) (λ g. enters_method h g k (made g) a xs rest) ∙ ap (λ r. on_found r (pushes h nothing rest) (λ g. enters_method h g k
+          (made g) a xs rest)) (sym i)
+
+      pub wrong_object : (rule : ℕ) → Err rule ≡ method_in (code_in h) (table_in h) a m → method_by ≡ breaks rule
+      wrong_object rule i = object_there (Err rule) i
+
+      pub nothing_there : Ok None ≡ method_in (code_in h) (table_in h) a m → method_by ≡ pushes h nothing rest
+      nothing_there i = object_there (Ok None) i
+
+      pub method_there : (g : FuncNote) → Ok (Some g) ≡ method_in (code_in h) (table_in h) a m →
+          method_by ≡ enters_method h g k (made g) a xs rest
+      method_there g i = object_there (Ok (Some g)) i

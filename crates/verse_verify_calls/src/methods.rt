@@ -26,7 +26,13 @@ struct Called<'a> {
 }
 
 /// The rule that an operation breaks which calls or spawns a method of an object.
-fn enter_method(here: &Here, called: Called, object: &Sort, args: &[Sort], st: &[Sort]) -> Option<u8>
+fn enter_method(
+    here: &Here,
+    called: Called,
+    object: &Sort,
+    args: &[Sort],
+    st: &[Sort],
+) -> Option<u8>
     ensures { result ≡ rule_by here.now (e.enters_method here.now (func_of called.entry.note.now)
         called.entry.count (made_of called.entry.made) (sort_of object.now) (sorts_of args.now)
         (operands st.now)) }
@@ -41,8 +47,7 @@ fn enter_method(here: &Here, called: Called, object: &Sort, args: &[Sort], st: &
 }
 
 /// The rule that a Method breaks.
-#[tactic(auto, using(verse_verify_operands::proofs::Found::pops_by,
-    verse_verify_operands::proofs::Found::methods_by))]
+#[tactic(auto, using(verse_verify_operands::proofs::Found::pops_by, verse_verify_operands::proofs::Found::methods_by))]
 pub fn method_rule(here: &Here, method: u32, count: u32, st: &[Sort]) -> Option<u8>
     ensures { result ≡ broken here.now (o.Method method count) st.now }
 {
@@ -62,8 +67,7 @@ pub fn method_rule(here: &Here, method: u32, count: u32, st: &[Sort]) -> Option<
 }
 
 /// The rule that a SpawnMethod breaks.
-#[tactic(auto, using(verse_verify_operands::proofs::Found::pops_by,
-    verse_verify_operands::proofs::Found::methods_by))]
+#[tactic(auto, using(verse_verify_operands::proofs::Found::pops_by, verse_verify_operands::proofs::Found::methods_by))]
 pub fn spawn_method_rule(here: &Here, method: u32, count: u32, st: &[Sort]) -> Option<u8>
     ensures { result ≡ broken here.now (o.SpawnMethod method count) st.now }
 {

@@ -49,8 +49,7 @@ fn do_lead_back(here: &Here, label: u32, writes: &[Write], st: &[Sort]) -> bool
     ensures { result ≡ suited here.now (goes_to here.now (suc here.now.index) None st.now
         ∷ goes_written here.now label writes.now st.now ∷ []) }
 {
-    does_lead_to(here, here.next(), None, st)
-        && does_lead_written(here, label as usize, writes, st)
+    does_lead_to(here, here.next(), None, st) && does_lead_written(here, label as usize, writes, st)
 }
 
 /// The rule that a Take breaks of a domain from which this is taken.
