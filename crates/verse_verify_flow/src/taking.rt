@@ -10,7 +10,6 @@ ghost use Rattle.verse_verify_next.specs.Leads.{goes_to, goes_written};
 ghost use Rattle.verse_verify_operands.specs.Finds.{broken, writes_of};
 ghost use Rattle.verse_verify_flow.specs.Writing as w;
 
-use crate::writing::is_there;
 use verse_verify_keeps::settling::settle;
 use verse_verify_next::heres::Here;
 use verse_verify_next::leading::{does_lead_to, does_lead_written};
@@ -20,7 +19,6 @@ use verse_verify_operands::asking::is_int;
 use verse_verify_operands::finding::{Taking, readable, taken};
 
 /// Whether a local that may be read has a domain.
-#[tactic(auto, using(crate::proofs::Taken::is_taken))]
 fn may_take(here: &Here, low: Option<&Sort>) -> bool
     ensures { result ≡ t.may_take (classes_in here.now) (option_map (λ a. sort_of a.now) low.entry) }
 {
@@ -61,17 +59,19 @@ fn write_taken(
     taking: Taking,
     st: &[Sort],
 ) -> Option<u8>
-    requires near { taking.entry.far ≤ 1 }
+    requires near { taking.far ≤ 1 }
     ensures { result ≡ rule_by here.now (w.writes_taken here.now domain value label
         (writes_of taking.entry) (operands st.now)) }
 {
     let domain = domain as usize;
     let value = value as usize;
+    let next = value + 1;
     let last = domain + taking.far;
-    if !is_there(here, value + 1) {
+    let count = here.spot.locals.len();
+    if next >= count {
         return Some(6);
     }
-    if !is_there(here, last) {
+    if last >= count {
         return Some(6);
     }
     let writes = [
@@ -80,7 +80,7 @@ fn write_taken(
             made: taking.value,
         },
         Write {
-            local: value + 1,
+            local: next,
             made: taking.beside,
         },
         Write {
@@ -89,7 +89,7 @@ fn write_taken(
         },
     ];
     let suits = do_lead_back(here, label, &writes, st);
-    settle(here, suits, &[domain, domain + 1, value, value + 1], None)
+    settle(here, suits, &[domain, domain + 1, value, next], None)
 }
 
 /// The rule that a Take breaks.

@@ -1,7 +1,6 @@
 //! The locals that an operation writes.
 
-ghost use Rattle.std.specs.Prelude.{◌≡◌, nat_lt, length};
-ghost use Rattle.verse_verify_notes.specs.View.{sorts_of};
+ghost use Rattle.std.specs.Prelude.{◌≡◌};
 ghost use Rattle.verse_verify_next.specs.Heres.{operands, rule_by};
 ghost use Rattle.verse_verify_next.specs.Mades.{made_of};
 ghost use Rattle.verse_verify_flow.specs.Writing as w;
@@ -13,20 +12,14 @@ use verse_verify_next::mades::Made;
 use verse_verify_next::rows::Write;
 use verse_verify_notes::sorts::Sort;
 
-/// Whether a local is there.
-pub fn is_there(here: &Here, local: usize) -> bool
-    ensures { result ≡ nat_lt local (length here.now.spot.now.locals.items) }
-{
-    local < here.spot.locals.len()
-}
-
 /// The rule that an operation breaks which writes a local.
 pub fn write_one(here: &Here, local: u32, made: Made, st: &[Sort]) -> Option<u8>
     ensures { result ≡ rule_by here.now
         (w.writes_one here.now local (made_of made.entry) (operands st.now)) }
 {
     let local = local as usize;
-    if !is_there(here, local) {
+    let count = here.spot.locals.len();
+    if local >= count {
         return Some(6);
     }
     let writes = [Write { local, made }];
@@ -41,7 +34,8 @@ pub fn write_two(here: &Here, local: u32, made: Made, behind: Made, st: &[Sort])
 {
     let local = local as usize;
     let next = local + 1;
-    if !is_there(here, next) {
+    let count = here.spot.locals.len();
+    if next >= count {
         return Some(6);
     }
     let writes = [
