@@ -47,7 +47,7 @@ fn enter_method(
 }
 
 /// The rule that a Method breaks.
-#[tactic(auto, using(verse_verify_operands::proofs::Found::pops_by, verse_verify_operands::proofs::Found::methods_by))]
+#[tactic(auto, using(crate::proofs::RuleSets::of_methods))]
 pub fn method_rule(here: &Here, method: u32, count: u32, st: &[Sort]) -> Option<u8>
     ensures { result ≡ broken here.now (o.Method method count) st.now }
 {
@@ -67,7 +67,7 @@ pub fn method_rule(here: &Here, method: u32, count: u32, st: &[Sort]) -> Option<
 }
 
 /// The rule that a SpawnMethod breaks.
-#[tactic(auto, using(verse_verify_operands::proofs::Found::pops_by, verse_verify_operands::proofs::Found::methods_by))]
+#[tactic(auto, using(crate::proofs::RuleSets::of_methods))]
 pub fn spawn_method_rule(here: &Here, method: u32, count: u32, st: &[Sort]) -> Option<u8>
     ensures { result ≡ broken here.now (o.SpawnMethod method count) st.now }
 {
