@@ -20,7 +20,8 @@ use verse_verify_operands::finding::{Taking, readable, taken};
 
 /// Whether a local that may be read has a domain.
 fn may_take(here: &Here, low: Option<&Sort>) -> bool
-    ensures { result ≡ t.may_take (classes_in here.now) (option_map (λ a. sort_of a.now) low.entry) }
+    ensures { result ≡ t.may_take (classes_in here.now)
+        (option_map (λ a. sort_of a.now) low.entry) }
 {
     let Some(sort) = low else {
         return true;
