@@ -1,6 +1,4 @@
-use Rattle.std.proofs.Common.{◌+◌, suc, [], ◌∷◌, sym, ap, ◌∙◌, arith}
-use Rattle.std.specs.Prelude.{None}
-use Rattle.verse_verify_faults.specs.Stepping.{leads}
+use Rattle.std.proofs.Common.{◌+◌, sym, ap, ◌∙◌, arith}
 use Rattle.verse_verify_next.specs.Heres.{operands, rule_by}
 use Rattle.verse_verify_flow.proofs.Written.{taken_past, taken_far, three_rule}
 use Rattle.verse_verify_flow.proofs.taking.write_taken.Goals as goal
