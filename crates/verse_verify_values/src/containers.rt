@@ -1,6 +1,6 @@
 //! Operations that put values together, take them apart, or ask for a part.
 
-ghost use Rattle.std.specs.Prelude.{◌≡◌, ℕ};
+ghost use Rattle.std.specs.Prelude.{◌≡◌};
 ghost use Rattle.verse_code.specs.declared.operations.Op.TheVariants as o;
 ghost use Rattle.verse_verify_operands.specs.Finds.{broken};
 
@@ -13,8 +13,8 @@ use verse_verify_operands::asking::{are_keys, are_shown, is_counted, is_text};
 use verse_verify_operands::finding::{item_in, part_at, part_of_list, pop_many, queried};
 
 /// The rule that Concat breaks.
-pub fn concat(here: &Here, st: &[Sort]) -> Option<u8>
-    ensures { (place : ℕ) → result ≡ broken here.now (o.Concat place) st.now }
+pub fn concat(here: &Here, place: u32, st: &[Sort]) -> Option<u8>
+    ensures { result ≡ broken here.now (o.Concat place) st.now }
 {
     let Some((right, below)) = pop(st) else {
         return Some(FEW);
@@ -33,8 +33,8 @@ pub fn concat(here: &Here, st: &[Sort]) -> Option<u8>
 
 /// The rule that Join breaks, of so many operands.
 #[tactic(auto, using(verse_verify_operands::proofs::Found::pops_by))]
-pub fn join(here: &Here, count: u32, st: &[Sort]) -> Option<u8>
-    ensures { (place : ℕ) → result ≡ broken here.now (o.Join count place) st.now }
+pub fn join(here: &Here, count: u32, place: u32, st: &[Sort]) -> Option<u8>
+    ensures { result ≡ broken here.now (o.Join count place) st.now }
 {
     let Some((sorts, rest)) = pop_many(st, count as usize) else {
         return Some(FEW);
@@ -47,8 +47,8 @@ pub fn join(here: &Here, count: u32, st: &[Sort]) -> Option<u8>
 
 /// The rule that Array breaks, of so many elements.
 #[tactic(auto, using(verse_verify_operands::proofs::Found::pops_by))]
-pub fn array(here: &Here, count: u32, st: &[Sort]) -> Option<u8>
-    ensures { (place : ℕ) → result ≡ broken here.now (o.Array count place) st.now }
+pub fn array(here: &Here, count: u32, place: u32, st: &[Sort]) -> Option<u8>
+    ensures { result ≡ broken here.now (o.Array count place) st.now }
 {
     let Some((sorts, rest)) = pop_many(st, count as usize) else {
         return Some(FEW);
@@ -58,8 +58,8 @@ pub fn array(here: &Here, count: u32, st: &[Sort]) -> Option<u8>
 
 /// The rule that Map breaks, of so many keys and values.
 #[tactic(auto, using(verse_verify_operands::proofs::Found::pops_by))]
-pub fn map(here: &Here, count: u32, st: &[Sort]) -> Option<u8>
-    ensures { (place : ℕ) → result ≡ broken here.now (o.Map count place) st.now }
+pub fn map(here: &Here, count: u32, place: u32, st: &[Sort]) -> Option<u8>
+    ensures { result ≡ broken here.now (o.Map count place) st.now }
 {
     let Some((pairs, rest)) = pop_many(st, count as usize + count as usize) else {
         return Some(FEW);
@@ -72,8 +72,8 @@ pub fn map(here: &Here, count: u32, st: &[Sort]) -> Option<u8>
 
 /// The rule that Tuple breaks, of so many elements.
 #[tactic(auto, using(verse_verify_operands::proofs::Found::pops_by))]
-pub fn tuple(here: &Here, count: u32, st: &[Sort]) -> Option<u8>
-    ensures { (place : ℕ) → result ≡ broken here.now (o.Tuple count place) st.now }
+pub fn tuple(here: &Here, count: u32, place: u32, st: &[Sort]) -> Option<u8>
+    ensures { result ≡ broken here.now (o.Tuple count place) st.now }
 {
     let Some((sorts, rest)) = pop_many(st, count as usize) else {
         return Some(FEW);
@@ -82,8 +82,8 @@ pub fn tuple(here: &Here, count: u32, st: &[Sort]) -> Option<u8>
 }
 
 /// The rule that Some breaks.
-pub fn option(here: &Here, st: &[Sort]) -> Option<u8>
-    ensures { (place : ℕ) → result ≡ broken here.now (o.Some place) st.now }
+pub fn option(here: &Here, place: u32, st: &[Sort]) -> Option<u8>
+    ensures { result ≡ broken here.now (o.Some place) st.now }
 {
     let Some((sort, rest)) = pop(st) else {
         return Some(FEW);
@@ -149,8 +149,8 @@ pub fn length(here: &Here, st: &[Sort]) -> Option<u8>
 }
 
 /// The rule that Print breaks.
-pub fn print(here: &Here, st: &[Sort]) -> Option<u8>
-    ensures { (place : ℕ) → result ≡ broken here.now (o.Print place) st.now }
+pub fn print(here: &Here, place: u32, st: &[Sort]) -> Option<u8>
+    ensures { result ≡ broken here.now (o.Print place) st.now }
 {
     let Some((sort, rest)) = pop(st) else {
         return Some(FEW);

@@ -1,6 +1,6 @@
 //! Operations on numbers, and what compares values.
 
-ghost use Rattle.std.specs.Prelude.{◌≡◌, ℕ};
+ghost use Rattle.std.specs.Prelude.{◌≡◌};
 ghost use Rattle.verse_code.specs.declared.operations.Op.TheVariants as o;
 ghost use Rattle.verse_verify_operands.specs.Finds.{broken};
 ghost use Rattle.verse_verify_values.specs.Rows.{counting};
@@ -33,8 +33,8 @@ pub fn counts(here: &Here, st: &[Sort]) -> Option<u8>
 }
 
 /// The rule that Neg breaks.
-pub fn negates(here: &Here, st: &[Sort]) -> Option<u8>
-    ensures { (place : ℕ) → result ≡ broken here.now (o.Neg place) st.now }
+pub fn negates(here: &Here, place: u32, st: &[Sort]) -> Option<u8>
+    ensures { result ≡ broken here.now (o.Neg place) st.now }
 {
     let Some((number, rest)) = pop(st) else {
         return Some(FEW);

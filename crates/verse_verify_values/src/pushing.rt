@@ -1,6 +1,6 @@
 //! Operations that push a value of their own, or only pop one.
 
-ghost use Rattle.std.specs.Prelude.{◌≡◌, ℕ, ℤ};
+ghost use Rattle.std.specs.Prelude.{◌≡◌};
 ghost use Rattle.verse_code.specs.declared.operations.Op.TheVariants as o;
 ghost use Rattle.verse_verify_next.specs.Mades.{pushed};
 ghost use Rattle.verse_verify_operands.specs.Finds.{broken};
@@ -28,8 +28,8 @@ pub fn pushes(here: &Here, made: Option<Made>, st: &[Sort]) -> Option<u8>
 }
 
 /// The rule that Int breaks.
-pub fn push_int(here: &Here, st: &[Sort]) -> Option<u8>
-    ensures { (number : ℤ) → result ≡ broken here.now (o.Int number) st.now }
+pub fn push_int(here: &Here, number: i64, st: &[Sort]) -> Option<u8>
+    ensures { result ≡ broken here.now (o.Int number) st.now }
 {
     pushes(here, Some(Made::Int), st)
 }
@@ -56,22 +56,22 @@ pub fn push_true(here: &Here, st: &[Sort]) -> Option<u8>
 }
 
 /// The rule that Char breaks.
-pub fn push_char(here: &Here, st: &[Sort]) -> Option<u8>
-    ensures { (code : ℕ) → result ≡ broken here.now (o.Char code) st.now }
+pub fn push_char(here: &Here, code: u32, st: &[Sort]) -> Option<u8>
+    ensures { result ≡ broken here.now (o.Char code) st.now }
 {
     pushes(here, Some(Made::Char), st)
 }
 
 /// The rule that Text breaks.
-pub fn push_text(here: &Here, st: &[Sort]) -> Option<u8>
-    ensures { (text : ℕ) → result ≡ broken here.now (o.Text text) st.now }
+pub fn push_text(here: &Here, text: u32, st: &[Sort]) -> Option<u8>
+    ensures { result ≡ broken here.now (o.Text text) st.now }
 {
     pushes(here, Some(Made::Text), st)
 }
 
-/// The rule that Enum breaks, for a value of this enum.
-pub fn push_enum(here: &Here, number: u32, st: &[Sort]) -> Option<u8>
-    ensures { (value : ℕ) → result ≡ broken here.now (o.Enum number value) st.now }
+/// The rule that Enum breaks, for this value of this enum.
+pub fn push_enum(here: &Here, number: u32, value: u32, st: &[Sort]) -> Option<u8>
+    ensures { result ≡ broken here.now (o.Enum number value) st.now }
 {
     pushes(here, Some(Made::Enum(number)), st)
 }
