@@ -1,6 +1,5 @@
 -- What operations break that are alike.
 use Rattle.std.specs.Prelude.{ℕ, List, Option}
-use Rattle.verse_sorts.specs.Sorts as s
 use Rattle.verse_verify_faults.specs.Stepping as t
 use Rattle.verse_verify_faults.specs.Stepping.{goes_on, counts}
 use Rattle.verse_verify_notes.specs.declared.sorts.Sort.{Sort}
