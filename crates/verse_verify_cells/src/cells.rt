@@ -64,7 +64,7 @@ fn writes(
 }
 
 /// The rule that Store breaks, into the slot of this number, by so many indices, in this mode.
-#[tactic(auto, using(verse_verify_operands::proofs::Found::pops_by, crate::proofs::Passing::slots_by))]
+#[tactic(auto, using(crate::proofs::RuleSets::of_storing))]
 pub fn store(here: &Here, slot: u32, indices: u32, mode: u32, place: u32, st: &[Sort]) -> Option<u8>
     ensures { result ≡ broken here.now (o.Store slot indices mode place) st.now }
 {
