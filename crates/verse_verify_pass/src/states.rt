@@ -6,7 +6,7 @@ ghost use Rattle.verse_verify_faults.specs.Spots.{spot_at};
 ghost use Rattle.verse_verify_faults.specs.Faults as f;
 ghost use Rattle.verse_verify_next.specs.Heres.{code_in, table_in, spot_in};
 
-use crate::operations::rule_at;
+use crate::operations::rule_of;
 use verse_code::codes::Code;
 use verse_code::operations::Op;
 use verse_verify_entries::beginnings::spot_at;
@@ -24,7 +24,7 @@ fn fault_of(here: &Here) -> Option<u8>
     if (st.len() as u64) < pops(here.code, here.table, here.op) {
         return Some(4);
     }
-    rule_at(here, st)
+    rule_of(here, here.op, st)
 }
 
 /// The least of V4 to V9 that an operation breaks. None where it breaks none, or is never reached.
