@@ -9,8 +9,8 @@ use Rattle.verse_verify_kept.specs.Notes.{ClassNote}
 use Rattle.verse_verify_kept.specs.Rules.{sorts}
 use Rattle.verse_verify_faults.specs.Fitting.{fit, fit_each, all_fit, on_tuple}
 use Rattle.verse_verify_faults.specs.Spots.{Spot, spot_at}
-use Rattle.verse_verify_faults.specs.Stepping.{Goes, arm_labels, with_label, arm_of, arm_results, arm_sorts, arms_at, behind_arm, grouped}
-use Rattle.verse_verify_faults.specs.Faults.{holds, is_none, on_spot}
+use Rattle.verse_verify_faults.specs.Stepping.{Goes, arm_at, arm_labels, with_label, arm_of, arm_results, arm_sorts, arms_at, behind_arm, grouped}
+use Rattle.verse_verify_faults.specs.Faults.{holds, is_none, on_spot, suits}
 use Rattle.verse_verify_faults.proofs.Fitting.{both}
 use Rattle.verse_verify_next.specs.declared.heres.Here.{Here}
 use Rattle.verse_verify_next.specs.Heres.{code_in, table_in, classes_in, spot_in, suited}
@@ -24,6 +24,12 @@ some_is (Some x) e = (x, refl)
 spot_is : (q : Option Spot) (test : Spot → Bool) → on_spot q test ≡ true → (x : Spot) × (q ≡ Some x) × (test x ≡ true)
 spot_is None test e = no_both (sym e)
 spot_is (Some x) test e = (x, refl, e)
+
+second : (a b c d e f : Bool) → a && b && c && d && e && f ≡ true → b ≡ true
+second a b c d e f h = (both a b (both (a && b) c (both (a && b && c) d (both (a && b && c && d) e (both (a && b && c && d && e) f h).0).0).0).0).1
+
+first : (a b c d e : Bool) → a && b && c && d && e ≡ true → a ≡ true
+first a b c d e h = (both a b (both (a && b) c (both (a && b && c) d (both (a && b && c && d) e h).0).0).0).0
 
 -- a value of any sort stands where nothing is asked
 pub fits_nothing : (cs : List ClassNote) (a : Sort) → fit cs a s.none ≡ true
@@ -58,9 +64,12 @@ module _ (h : Here) where
   abbrev arms : List ℕ → List Goes → List Goes
   arms ls gs = arms_at (code_in h) (table_in h) (spot_in h) h.index ls gs
 
+  abbrev one : ℕ → Bool
+  one l = suits (code_in h) (table_in h) (spot_in h) (arm_at (code_in h) (table_in h) (spot_in h) h.index l)
+
   arms_then : (ls : List ℕ) (gs : List Goes) → suited h (arms ls gs) ≡ suited h (arms ls []) && suited h gs
   arms_then [] gs = refl
-  arms_then (l ∷ ls) gs = ap (λ b. _ && b) (arms_then ls gs) ∙ regroup _ _ _
+  arms_then (l ∷ ls) gs = ap (λ b. one l && b) (arms_then ls gs) ∙ regroup (one l) (suited h (arms ls [])) (suited h gs)
     where
       regroup : (a b c : Bool) → a && (b && c) ≡ (a && b) && c
       regroup true b c = refl
@@ -84,7 +93,7 @@ module _ (h : Here) where
   starts : (l : ℕ) → label_suits h (Some l) ≡ true → (a : Sort) × (sort_there h (Some l) ≡ Some a)
   starts l e =
       let q = spot_is (spot_at (table_in h) l) _ (both _ _ e).0 in
-      let a = some_is q.0.arm (both _ _ (both _ _ (both _ _ (both _ _ (both _ _ (both _ _ (both _ _ (both _ _ q.2).0).0).0).0).1).0).0).0).0 in
+      let a = some_is q.0.arm (first _ _ _ _ _ (second _ _ _ _ _ _ q.2)) in
       (a.0, ap arm_of q.1 ∙ a.1)
 
   pub record Known (a m : ℕ) : Type 0 where
@@ -124,16 +133,16 @@ module _ (h : Here) where
 
   few : (a m : ℕ) → length (arm_labels (code_in h).ops a m) ≤ m
   few a zero = omega arith
-  few a (suc m) = go (label_at h a) (few (suc a) m)
+  few a (suc m) = go (label_at h a) (arm_labels (code_in h).ops (suc a) m) m (few (suc a) m)
     where
-      go : (l : Option ℕ) {ls : List ℕ} {n : ℕ} → length ls ≤ n → length (with_label l ls) ≤ suc n
-      go None k = omega (arith, k)
-      go (Some l) k = omega (arith, k)
+      go : (l : Option ℕ) (ls : List ℕ) (n : ℕ) → length ls ≤ n → length (with_label l ls) ≤ suc n
+      go None ls n k = omega (arith, k)
+      go (Some l) ls n k = omega (arith, k)
 
   -- there are as many labels as operations only where all are Arms
   counted : (a m : ℕ) → eqn (length (arm_labels (code_in h).ops a m)) m ≡ all_from (is_arm h) a m
   counted a zero = refl
-  counted a (suc m) = go (label_at h a) _ m (few (suc a) m) ∙ ap (λ b. is_arm h a && b) (counted (suc a) m)
+  counted a (suc m) = go (label_at h a) (arm_labels (code_in h).ops (suc a) m) m (few (suc a) m) ∙ ap (λ b. is_arm h a && b) (counted (suc a) m)
     where
       below : (n m : ℕ) → n ≤ m → eqn n (suc m) ≡ false
       below zero m k = refl
