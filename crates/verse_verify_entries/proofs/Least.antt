@@ -6,7 +6,7 @@ use mathlib.Core.Logic.{⊎_elim}
 use Rattle.verse_code.specs.declared.codes.Func.{Func}
 use Rattle.verse_code.specs.declared.codes.Code.{Code}
 use Rattle.verse_meaning_state.specs.Waits.{eqn}
-use Rattle.verse_code_machine_parents.proofs.Lists.{no_both, cond_with, eqn_is, eqn_same}
+use Rattle.verse_verify_entries.proofs.Tests.{cond_with, eqn_is, eqn_same}
 use Rattle.verse_verify_kept.specs.Notes.{FuncNote}
 use Rattle.verse_verify_faults.specs.Spots.{Table, spot_at}
 use Rattle.verse_verify_faults.specs.Faults.{begins, begins_at, on_spot}

@@ -9,7 +9,7 @@ ghost use Rattle.verse_verify_faults.specs.Spots.{spot_at};
 ghost use Rattle.verse_verify_faults.specs.Faults as f;
 ghost use Rattle.verse_verify_notes.specs.View.{sort_of, sorts_of, classes_of};
 ghost use Rattle.verse_verify_notes.specs.View.{func_of, spot_of, table_of};
-ghost use Rattle.verse_verify_entries.specs.Entries.{begins_there, bare};
+ghost use Rattle.verse_verify_entries.specs.Entries.{begins_there, bare, all_nothing};
 
 use verse_code::codes::{Code, Func};
 use verse_verify_next::parts::{are_no_numbers, is_without_operand, is_without_try};
@@ -40,24 +40,24 @@ fn is_nothing(classes: &[ClassNote], sort: &Sort) -> bool
     }
 }
 
-/// Whether there are so many sorts, which ask nothing of locals.
-fn are_nothing(classes: &[ClassNote], count: u32, sorts: &[Sort]) -> bool
-    ensures { result ≡ each_fit (classes_of classes.now) (nones count) (sorts_of sorts.now) }
+/// Whether sorts ask nothing of locals.
+fn do_all_ask_nothing(classes: &[ClassNote], sorts: &[Sort]) -> bool
+    ensures { result ≡ all_nothing (classes_of classes.now) (sorts_of sorts.now) }
 {
-    let mut rest = sorts;
-    'sorts: for _i in 0..count {
-        let Some((sort, more)) = rest.split_first() else {
-            return false;
-        };
+    'sorts: for sort in sorts {
         if !is_nothing(classes, sort) {
             return false;
         }
-        rest = more;
     }
-    match rest.split_first() {
-        None => true,
-        Some(_) => false,
-    }
+    true
+}
+
+/// Whether there are so many sorts, which ask nothing of locals.
+#[tactic(auto, using(crate::proofs::Nothing::counted))]
+fn are_nothing(classes: &[ClassNote], count: u32, sorts: &[Sort]) -> bool
+    ensures { result ≡ each_fit (classes_of classes.now) (nones count) (sorts_of sorts.now) }
+{
+    is_same_number(sorts.len(), count as usize) && do_all_ask_nothing(classes, sorts)
 }
 
 /// Whether parameters, and so many locals behind them of which nothing is asked, fit others.

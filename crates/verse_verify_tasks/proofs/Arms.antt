@@ -1,8 +1,10 @@
 -- Numbers from one on, one by one.
-use Rattle.std.proofs.Common.{◌≡◌, ℕ, zero, suc, ◌+◌, ◌-◌, ◌<◌, ◌≤◌, Bool, true, false, refl, sym, ap, ◌∙◌, arith}
+use Rattle.std.proofs.Common.{◌≡◌, ℕ, zero, suc, ◌+◌, ◌-◌, ◌<◌, ◌≤◌, List, [], ◌∷◌, length, Bool, true, false, refl, sym, ap, ◌∙◌, arith}
 use Rattle.std.specs.Prelude.{◌&&◌}
-use Rattle.verse_sorts.specs.Sorts.{Sort, Sorts, no_sorts, more_sorts}
-use Rattle.verse_verify_tasks.specs.Arms.{all_from, each_from}
+use Rattle.verse_verify_kept.specs.Rules.{sorts}
+use Rattle.verse_verify_notes.specs.declared.sorts.Sort.{Sort as Kept}
+use Rattle.verse_verify_notes.specs.View.{sorts_of}
+use Rattle.verse_verify_tasks.specs.Arms.{all_from, count}
 
 next : (m i : ℕ) → i < m → m - i ≡ suc (m - (i + 1))
 next m i h = omega (arith, h)
@@ -27,24 +29,6 @@ module _ (test : ℕ → Bool) where
   further x m i h e = sym (one_less (x + i) m i h ∙ ap (λ b. b && all_from test (suc (x + i)) (m - (i + 1))) e ∙ ap (λ n. all_from test n (m
       - (i + 1))) (plus x i))
 
-module _ (test : ℕ → Sort → Bool) where
-  pub each_few : (a m i : ℕ) → i < m → each_from test a (m - i) no_sorts ≡ false
-  each_few a m i h = ap (λ n. each_from test a n no_sorts) (next m i h)
-
-  one_part : (a m i : ℕ) (b : Sort) (ys : Sorts) → i < m →
-      each_from test a (m - i) (more_sorts b ys) ≡ test a b && each_from test (suc a) (m - (i + 1)) ys
-  one_part a m i b ys h = ap (λ n. each_from test a n (more_sorts b ys)) (next m i h)
-
-  pub each_stops : (a m i : ℕ) (b : Sort) (ys : Sorts) → i < m → test a b ≡ false → each_from test a (m - i) (more_sorts b ys) ≡ false
-  each_stops a m i b ys h e = one_part a m i b ys h ∙ ap (λ r. r && each_from test (suc a) (m - (i + 1)) ys) e
-
-  pub each_further : (x m i : ℕ) (b : Sort) (ys : Sorts) → i < m → test (x + i) b ≡ true →
-      each_from test (x + (i + 1)) (m - (i + 1)) ys ≡ each_from test (x + i) (m - i) (more_sorts b ys)
-  each_further x m i b ys h e = sym (one_part (x + i) m i b ys h ∙ ap (λ r. r && each_from test (suc (x + i)) (m - (i + 1)) ys) e ∙ ap (λ n.
-      each_from test n (m - (i + 1)) ys) (plus x i))
-
-  pub each_ends : (a m i : ℕ) → m ≤ i → each_from test a (m - i) no_sorts ≡ true
-  each_ends a m i h = ap (λ n. each_from test a n no_sorts) (none m i h)
-
-  pub each_more : (a m i : ℕ) (b : Sort) (ys : Sorts) → m ≤ i → each_from test a (m - i) (more_sorts b ys) ≡ false
-  each_more a m i b ys h = ap (λ n. each_from test a n (more_sorts b ys)) (none m i h)
+pub count_is : (xs : List Kept) → count (sorts (sorts_of xs)) ≡ length xs
+count_is [] = refl
+count_is (x ∷ xs) = ap suc (count_is xs)

@@ -1,8 +1,7 @@
 -- What the arms of a Group give together, and to where it leads.
 use Rattle.std.proofs.Common.{◌≡◌, ℕ, zero, suc, ◌+◌, ◌<◌, ◌≤◌, List, [], ◌∷◌, length, Bool, true, false, cond, refl, sym, ap, subst, ◌∙◌, arith}
-use Rattle.std.specs.Prelude.{not, ◌&&◌, Option, Some, None}
+use Rattle.std.specs.Prelude.{◌≢◌, not, ◌&&◌, Option, Some, None}
 use Rattle.verse_meaning_state.specs.Waits.{eqn}
-use Rattle.verse_code_machine_parents.proofs.Lists.{no_both, eqn_same}
 use Rattle.verse_sorts.specs.Sorts as s
 use Rattle.verse_sorts.specs.Sorts.{Sort, Sorts, no_sorts, more_sorts}
 use Rattle.verse_verify_kept.specs.Notes.{ClassNote}
@@ -11,25 +10,13 @@ use Rattle.verse_verify_faults.specs.Fitting.{fit, fit_each, all_fit, on_tuple}
 use Rattle.verse_verify_faults.specs.Spots.{Spot, spot_at}
 use Rattle.verse_verify_faults.specs.Stepping.{Goes, arm_at, arm_labels, with_label, arm_of, arm_results, arm_sorts, arms_at, behind_arm, grouped}
 use Rattle.verse_verify_faults.specs.Faults.{holds, is_none, on_spot, suits}
-use Rattle.verse_verify_faults.proofs.Fitting.{both}
 use Rattle.verse_verify_next.specs.declared.heres.Here.{Here}
 use Rattle.verse_verify_next.specs.Heres.{code_in, table_in, classes_in, spot_in, suited}
-use Rattle.verse_verify_tasks.specs.Arms.{all_from, each_from, label_at, label_suits, is_arm, may_begin, sort_there, arm_fits, on_arm}
+use Rattle.verse_verify_tasks.specs.Arms.{all_from, each_from, count, label_at, label_suits, is_arm, may_begin, sort_there, arm_fits, on_arm}
+use Rattle.verse_verify_next.specs.Leads.{block_begins}
+use Rattle.verse_verify_tasks.specs.Blocks.{goes_behind, leaves_in}
 use Rattle.verse_verify_tasks.specs.Arms.{are_arms, do_begin, do_fit, do_fill, labels_in, grouped_in, group_ends, group_goes}
-
-some_is : {A : Type 0} (m : Option A) → not (is_none m) ≡ true → (x : A) × (m ≡ Some x)
-some_is None e = no_both (sym e)
-some_is (Some x) e = (x, refl)
-
-spot_is : (q : Option Spot) (test : Spot → Bool) → on_spot q test ≡ true → (x : Spot) × (q ≡ Some x) × (test x ≡ true)
-spot_is None test e = no_both (sym e)
-spot_is (Some x) test e = (x, refl, e)
-
-second : (a b c d e f : Bool) → a && b && c && d && e && f ≡ true → b ≡ true
-second a b c d e f h = (both a b (both (a && b) c (both (a && b && c) d (both (a && b && c && d) e (both (a && b && c && d && e) f h).0).0).0).0).1
-
-first : (a b c d e : Bool) → a && b && c && d && e ≡ true → a ≡ true
-first a b c d e h = (both a b (both (a && b) c (both (a && b && c) d (both (a && b && c && d) e h).0).0).0).0
+use Rattle.verse_verify_tasks.proofs.Tests.{both, eqn_same, some_is, spot_is, second, first}
 
 -- a value of any sort stands where nothing is asked
 pub fits_nothing : (cs : List ClassNote) (a : Sort) → fit cs a s.none ≡ true
@@ -101,12 +88,12 @@ module _ (h : Here) where
     pub are : arm_sorts (table_in h) (arm_labels (code_in h).ops a m) ≡ Some given
     pub count : length (arm_labels (code_in h).ops a m) ≡ m
     pub fit : (b : Sort) → all_fit (classes_in h) given b ≡ all_from (λ n. arm_fits h n b) a m
-    pub fill : (ys : Sorts) → fit_each (classes_in h) (sorts given) ys ≡ each_from (arm_fits h) a m ys
+    pub fill : (ys : Sorts) → fit_each (classes_in h) (sorts given) ys ≡ eqn (count ys) m && each_from (arm_fits h) a ys
 
   known : (a m : ℕ) → all_from (is_arm h) a m ≡ true → all_from (may_begin h) a m ≡ true → Known a m
   known a zero e f = record { given = []; are = refl; count = refl; fit = λ b. refl; fill = fills }
     where
-      fills : (ys : Sorts) → fit_each (classes_in h) no_sorts ys ≡ each_from (arm_fits h) a 0 ys
+      fills : (ys : Sorts) → fit_each (classes_in h) no_sorts ys ≡ eqn (count ys) 0 && each_from (arm_fits h) a ys
       fills no_sorts = refl
       fills (more_sorts b ys) = refl
   known a (suc m) e f =
@@ -126,10 +113,15 @@ module _ (h : Here) where
           this : (b : Sort) → arm_fits h a b ≡ fit (classes_in h) x.0 b
           this b = ap (λ o. on_arm (sort_there h o) (λ y. fit (classes_in h) y b)) e ∙ ap (λ o. on_arm o (λ y. fit (classes_in h) y b)) x.1
 
-          fills : (ys : Sorts) → fit_each (classes_in h) (more_sorts x.0 (sorts k.given)) ys ≡ each_from (arm_fits h) a (suc m) ys
+          turn : (p q r : Bool) → p && (q && r) ≡ q && (p && r)
+          turn p true r = refl
+          turn true false r = refl
+          turn false false r = refl
+
+          fills : (ys : Sorts) → fit_each (classes_in h) (more_sorts x.0 (sorts k.given)) ys ≡ eqn (count ys) (suc m) && each_from (arm_fits h) a ys
           fills no_sorts = refl
-          fills (more_sorts b ys) = ap (λ r. fit (classes_in h) x.0 b && r) (k.fill ys) ∙ ap (λ r. r && each_from (arm_fits h) (suc a) m ys) (sym
-              (this b))
+          fills (more_sorts b ys) = ap (λ r. fit (classes_in h) x.0 b && r) (k.fill ys) ∙ turn (fit (classes_in h) x.0 b) (eqn (count ys) m)
+              (each_from (arm_fits h) (suc a) ys) ∙ ap (λ r. eqn (count ys) m && (r && each_from (arm_fits h) (suc a) ys)) (sym (this b))
 
   few : (a m : ℕ) → length (arm_labels (code_in h).ops a m) ≤ m
   few a zero = omega arith
@@ -174,9 +166,20 @@ module _ (h : Here) where
       ap (λ o. holds (classes_in h) (grouped 0 o) b) (gives m k) ∙ same_tuple b _ _ k.fill
   held_tuple (suc kind) m b e f g = absurd (omega (arith, e))
 
-  pub held_one : (kind m : ℕ) (b : Sort) → 0 < kind → do_begin h m ≡ true → are_arms h m ≡ true →
+  pub held_one : (kind m : ℕ) (b : Sort) → kind ≢ 0 → do_begin h m ≡ true → are_arms h m ≡ true →
       holds (classes_in h) (grouped_in h kind m) b ≡ do_fit h m b
-  held_one zero m b e f g = absurd (omega (arith, e))
+  held_one zero m b e f g = absurd (e refl)
   held_one (suc kind) m b e f g =
       let k = known (suc h.index) m g f in
       ap (λ o. holds (classes_in h) (grouped (suc kind) o) b) (gives m k) ∙ k.fit b
+
+  -- what a Leave does with the last deferred block
+  pub leave_ends : (m e : ℕ) (ds : List ℕ) → eqn m ((spot_in h).under + suc (length ds)) ≡ true →
+      suited h (leaves_in h m (e ∷ ds)) ≡ suited h (goes_behind h (e ∷ ds) ∷ [])
+  leave_ends m e ds x =
+      ap (λ b. suited h (cond b (goes_behind h (e ∷ ds) ∷ []) (block_begins h e (length ds) true ∷ leaves_in h m ds))) x
+
+  pub leave_goes : (m e : ℕ) (ds : List ℕ) → eqn m ((spot_in h).under + suc (length ds)) ≡ false →
+      suited h (leaves_in h m (e ∷ ds)) ≡ suited h (block_begins h e (length ds) true ∷ []) && suited h (leaves_in h m ds)
+  leave_goes m e ds x = ap (λ b. suited h (cond b (goes_behind h (e ∷ ds) ∷ []) (block_begins h e (length ds) true ∷ leaves_in h m ds))) x ∙
+      both_suit (block_begins h e (length ds) true) (leaves_in h m ds)

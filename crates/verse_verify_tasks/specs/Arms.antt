@@ -1,9 +1,10 @@
 -- The Arms behind a Group, operation by operation.
 use Rattle.std.specs.Prelude.{ℕ, zero, suc, ◌+◌, List, [], ◌∷◌, Option, Some, None, Bool, true, false, not, ◌&&◌}
 use Rattle.std.specs.Prelude.{slice_get}
+use Rattle.verse_meaning_state.specs.Waits.{eqn}
 use Rattle.verse_code_machine.specs.Acts.{label_of}
 use Rattle.verse_sorts.specs.Sorts.{Sort, Sorts, no_sorts, more_sorts}
-use Rattle.verse_verify_faults.specs.Fitting.{fit, on_tuple}
+use Rattle.verse_verify_faults.specs.Fitting.{fit}
 use Rattle.verse_verify_faults.specs.Spots.{spot_at}
 use Rattle.verse_verify_faults.specs.Stepping as t
 use Rattle.verse_verify_faults.specs.Stepping.{Goes, arm_labels, with_label, arm_of, arm_results, arms_at, grouped, to}
@@ -17,12 +18,14 @@ abbrev pub all_from : (ℕ → Bool) → ℕ → ℕ → Bool
 all_from test a zero = true
 all_from test a (suc m) = test a && all_from test (suc a) m
 
--- the same, each with a sort of its own
-abbrev pub each_from : (ℕ → Sort → Bool) → ℕ → ℕ → Sorts → Bool
-each_from test a zero no_sorts = true
-each_from test a zero (more_sorts b ys) = false
-each_from test a (suc m) no_sorts = false
-each_from test a (suc m) (more_sorts b ys) = test a b && each_from test (suc a) m ys
+-- of as many numbers from one on as there are sorts, each with its own
+abbrev pub each_from : (ℕ → Sort → Bool) → ℕ → Sorts → Bool
+each_from test a no_sorts = true
+each_from test a (more_sorts b ys) = test a b && each_from test (suc a) ys
+
+abbrev pub count : Sorts → ℕ
+count no_sorts = 0
+count (more_sorts b ys) = suc (count ys)
 
 abbrev pub on_arm : Option Sort → (Sort → Bool) → Bool
 on_arm None go = false
@@ -62,7 +65,7 @@ module _ (h : Here) where
   do_fit m b = all_from (λ a. arm_fits a b) (suc h.index) m
 
   abbrev pub do_fill : ℕ → Sorts → Bool
-  do_fill m ys = each_from arm_fits (suc h.index) m ys
+  do_fill m ys = eqn (count ys) m && each_from arm_fits (suc h.index) ys
 
   -- what they give together
   abbrev pub labels_in : ℕ → List ℕ

@@ -13,6 +13,7 @@ use verse_verify_next::heres::Here;
 use verse_verify_next::leading::does_arm_begin;
 use verse_verify_notes::sorts::Sort;
 use verse_verify_sorts::fitting::does_fit;
+use verse_verify_tables::numbers::is_same_number;
 
 /// The index of the operation behind the next one by so many.
 pub fn behind(here: &Here, count: u32) -> usize
@@ -114,24 +115,28 @@ pub fn do_fit(here: &Here, count: u32, sort: &Sort) -> bool
     true
 }
 
-/// Whether what they give may stand, one by one, where these are wanted.
+/// Whether so many operations behind this one as there are sorts are Arms, and what each gives may
+/// stand where its own is wanted.
+fn does_each_fit(here: &Here, parts: &[Sort]) -> bool
+    ensures { result ≡ a.each_from (a.arm_fits here.now) (suc here.now.index)
+        (sorts (sorts_of parts.now)) }
+{
+    let mut at = here.next();
+    'parts: for part in parts {
+        if !does_arm_fit(here, at, part) {
+            return false;
+        }
+        at += 1;
+    }
+    true
+}
+
+/// Whether what so many of them give may stand, one by one, where these are wanted.
+#[tactic(auto, using(crate::proofs::Arms::count_is))]
 fn do_fill(here: &Here, count: u32, parts: &[Sort]) -> bool
     ensures { result ≡ a.do_fill here.now count (sorts (sorts_of parts.now)) }
 {
-    let mut rest = parts;
-    'arms: for i in 0..count {
-        let Some((part, more)) = rest.split_first() else {
-            return false;
-        };
-        if !does_arm_fit(here, behind(here, i), part) {
-            return false;
-        }
-        rest = more;
-    }
-    match rest.split_first() {
-        None => true,
-        Some(_) => false,
-    }
+    is_same_number(parts.len(), count as usize) && does_each_fit(here, parts)
 }
 
 /// Whether the tuple of what they give may stand where this is wanted.

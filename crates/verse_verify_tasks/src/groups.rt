@@ -26,7 +26,6 @@ use verse_verify_sorts::fitting::{does_each_fit, does_fit};
 
 /// Whether what the arms of a Group give together may be noted as a sort, where they may begin.
 /// Where not all of them are Arms, it may be noted as any: then another rule is broken.
-#[tactic(auto, using(crate::proofs::Groups::held_tuple, crate::proofs::Groups::held_one, crate::proofs::Groups::held_never))]
 fn do_results_hold(here: &Here, kind: u32, arms: u32, sort: &Sort) -> bool
     requires begun { do_begin here.now arms ≡ true }
     ensures { result ≡ holds (classes_in here.now) (grouped_in here.now kind arms)
@@ -79,7 +78,6 @@ fn does_group_end(here: &Here, kind: u32, arms: u32, st: &[Sort]) -> bool
 }
 
 /// Whether the states to which a Group leads suit.
-#[tactic(auto, using(crate::proofs::Groups::group_by))]
 fn does_group_lead(here: &Here, kind: u32, arms: u32, st: &[Sort]) -> bool
     ensures { result ≡ suited here.now (group_goes here.now kind arms st.now) }
 {
