@@ -1,3 +1,3 @@
 pub mod Tests
-pub mod Arms
-pub mod Groups
+pub mod Counting
+pub mod Grouping

@@ -29,3 +29,7 @@ first a b c d e h = (both a b (both (a && b) c (both (a && b && c) d (both (a &&
 pub eqn_same : (a : ℕ) → eqn a a ≡ true
 eqn_same zero = refl
 eqn_same (suc a) = eqn_same a
+
+pub and_true : (b : Bool) → b && true ≡ b
+and_true true = refl
+and_true false = refl

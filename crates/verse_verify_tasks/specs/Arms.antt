@@ -23,9 +23,9 @@ abbrev pub each_from : (ℕ → Sort → Bool) → ℕ → Sorts → Bool
 each_from test a no_sorts = true
 each_from test a (more_sorts b ys) = test a b && each_from test (suc a) ys
 
-abbrev pub count : Sorts → ℕ
-count no_sorts = 0
-count (more_sorts b ys) = suc (count ys)
+abbrev pub size : Sorts → ℕ
+size no_sorts = 0
+size (more_sorts b ys) = suc (size ys)
 
 abbrev pub on_arm : Option Sort → (Sort → Bool) → Bool
 on_arm None go = false
@@ -65,7 +65,7 @@ module _ (h : Here) where
   do_fit m b = all_from (λ a. arm_fits a b) (suc h.index) m
 
   abbrev pub do_fill : ℕ → Sorts → Bool
-  do_fill m ys = eqn (count ys) m && each_from arm_fits (suc h.index) ys
+  do_fill m ys = eqn (size ys) m && each_from arm_fits (suc h.index) ys
 
   -- what they give together
   abbrev pub labels_in : ℕ → List ℕ

@@ -1,6 +1,6 @@
 //! What the arms of a Group give, operation by operation.
 
-ghost use Rattle.std.specs.Prelude.{◌≡◌, ◌+◌, suc};
+ghost use Rattle.std.specs.Prelude.{◌≡◌, ◌+◌, ◌≤◌, suc, length};
 ghost use Rattle.std.specs.Option.{option_map};
 ghost use Rattle.verse_sorts.specs.Sorts.{Sorts};
 ghost use Rattle.verse_verify_kept.specs.Rules.{sorts};
@@ -12,7 +12,7 @@ use verse_code::operations::Op;
 use verse_verify_next::heres::Here;
 use verse_verify_next::leading::does_arm_begin;
 use verse_verify_notes::sorts::Sort;
-use verse_verify_sorts::fitting::does_fit;
+use verse_verify_operands::asking::is_fit;
 use verse_verify_tables::numbers::is_same_number;
 
 /// The index of the operation behind the next one by so many.
@@ -75,7 +75,7 @@ fn does_arm_fit(here: &Here, at: usize, sort: &Sort) -> bool
 {
     match sort_at(here, at) {
         None => false,
-        Some(given) => does_fit(here.classes(), given, sort),
+        Some(given) => is_fit(here, given, sort),
     }
 }
 
@@ -118,6 +118,7 @@ pub fn do_fit(here: &Here, count: u32, sort: &Sort) -> bool
 /// Whether so many operations behind this one as there are sorts are Arms, and what each gives may
 /// stand where its own is wanted.
 fn does_each_fit(here: &Here, parts: &[Sort]) -> bool
+    requires room { length parts.now ≤ 4294967295 }
     ensures { result ≡ a.each_from (a.arm_fits here.now) (suc here.now.index)
         (sorts (sorts_of parts.now)) }
 {
@@ -132,10 +133,13 @@ fn does_each_fit(here: &Here, parts: &[Sort]) -> bool
 }
 
 /// Whether what so many of them give may stand, one by one, where these are wanted.
-#[tactic(auto, using(crate::proofs::Arms::count_is))]
+#[tactic(auto, using(crate::proofs::Counting::count_is, crate::proofs::Counting::more_than))]
 fn do_fill(here: &Here, count: u32, parts: &[Sort]) -> bool
     ensures { result ≡ a.do_fill here.now count (sorts (sorts_of parts.now)) }
 {
+    if parts.len() > count as usize {
+        return false;
+    }
     is_same_number(parts.len(), count as usize) && does_each_fit(here, parts)
 }
 

@@ -18,14 +18,15 @@ use verse_verify_tables::numbers::is_same_number;
 
 /// Whether a block may be deferred that begins at the next operation, and the state at the label
 /// suits.
-#[tactic(auto, using(crate::proofs::Groups::both_suit))]
 fn does_defer(here: &Here, label: u32, st: &[Sort]) -> bool
     ensures { result ≡ suited here.now (block_begins here.now (suc here.now.index)
         (length here.now.spot.now.defers.items) false ∷ goes_deferring here.now label
         (suc here.now.index ∷ here.now.spot.now.defers.items) st.now ∷ []) }
 {
-    does_block_begin(here, here.next(), here.spot.defers.len(), false)
-        && does_lead_behind_block(here, label as usize, st)
+    if !does_block_begin(here, here.next(), here.spot.defers.len(), false) {
+        return false;
+    }
+    does_lead_behind_block(here, label as usize, st)
 }
 
 /// The rule that a Defer breaks with these operands.
@@ -49,7 +50,7 @@ fn does_leave(here: &Here, count: u32) -> bool
     ensures { result ≡ suited here.now (leaves_in here.now count (spot_in here.now).defers) }
 {
     let mut rest = here.spot.defers.as_slice();
-    'blocks: for _i in 0..here.spot.defers.len() {
+    'defers: for _i in 0..here.spot.defers.len() {
         let Some((entry, more)) = rest.split_first() else {
             return does_go_behind(here, rest);
         };

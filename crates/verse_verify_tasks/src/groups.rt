@@ -22,7 +22,8 @@ use verse_verify_next::operands::pop;
 use verse_verify_next::parts::are_same_marks;
 use verse_verify_next::stacks::do_operands_hold;
 use verse_verify_notes::sorts::Sort;
-use verse_verify_sorts::fitting::{does_each_fit, does_fit};
+use verse_verify_operands::asking::is_fit;
+use verse_verify_sorts::fitting::does_each_fit;
 
 /// Whether what the arms of a Group give together may be noted as a sort, where they may begin.
 /// Where not all of them are Arms, it may be noted as any: then another rule is broken.
@@ -103,12 +104,14 @@ pub fn arm(here: &Here, label: u32, st: &[Sort]) -> Option<u8>
 }
 
 /// Whether the task behind may begin, and the state at the label suits.
-#[tactic(auto, using(crate::proofs::Groups::both_suit))]
 fn does_branch(here: &Here, label: u32, st: &[Sort]) -> bool
     ensures { result ≡ suited here.now (arm_begins here.now (suc here.now.index) ∷
         goes_to here.now label (Some m.Unit) st.now ∷ []) }
 {
-    does_arm_begin(here, here.next()) && does_lead_to(here, label as usize, Some(Made::Unit), st)
+    if !does_arm_begin(here, here.next()) {
+        return false;
+    }
+    does_lead_to(here, label as usize, Some(Made::Unit), st)
 }
 
 /// The rule that a Branch breaks with these operands.
@@ -120,14 +123,14 @@ pub fn branch(here: &Here, label: u32, st: &[Sort]) -> Option<u8>
 }
 
 /// Whether an arm may end with a value of this sort.
-#[tactic(auto, using(crate::proofs::Groups::fits_nothing))]
+#[tactic(auto, using(crate::proofs::Grouping::fits_nothing, crate::proofs::Tests::and_true))]
 fn may_end(here: &Here, sort: &Sort) -> bool
     ensures { result ≡ all_fit (classes_in here.now) (sort_of sort.now ∷ [])
         (t.arm_sort (spot_in here.now).arm) }
 {
     match &here.spot.arm {
         None => true,
-        Some(arm) => does_fit(here.classes(), sort, arm),
+        Some(arm) => is_fit(here, sort, arm),
     }
 }
 

@@ -1,6 +1,6 @@
 use Rattle.std.proofs.Common.{◌≡◌, suc, ◌+◌, true, false, sym, ap, ◌∙◌, arith}
 use Rattle.verse_verify_tasks.specs.Arms.{is_arm}
-use Rattle.verse_verify_tasks.proofs.Arms.{stops, further, ends}
+use Rattle.verse_verify_tasks.proofs.Counting.{stops, further, ends}
 use Rattle.verse_verify_tasks.proofs.arms.are_arms.Goals as goal
 
 pub returns-then-not-is_arm : goal.returns-then-not-is_arm

@@ -1,6 +1,6 @@
 use Rattle.std.proofs.Common.{◌≡◌, suc, ◌+◌, true, false, sym, ap, ◌∙◌, arith}
 use Rattle.verse_verify_tasks.specs.Arms.{may_begin}
-use Rattle.verse_verify_tasks.proofs.Arms.{stops, further, ends}
+use Rattle.verse_verify_tasks.proofs.Counting.{stops, further, ends}
 use Rattle.verse_verify_tasks.proofs.arms.do_begin.Goals as goal
 
 pub returns-then-not-may_begin : goal.returns-then-not-may_begin

@@ -1,7 +1,7 @@
 use Rattle.std.proofs.Common.{◌≡◌, suc, ◌+◌, true, false, sym, ap, ◌∙◌, arith}
 use Rattle.verse_verify_notes.specs.View.{sort_of}
 use Rattle.verse_verify_tasks.specs.Arms.{arm_fits}
-use Rattle.verse_verify_tasks.proofs.Arms.{stops, further, ends}
+use Rattle.verse_verify_tasks.proofs.Counting.{stops, further, ends}
 use Rattle.verse_verify_tasks.proofs.arms.do_fit.Goals as goal
 
 pub returns-then-not-does_arm_fit : goal.returns-then-not-does_arm_fit

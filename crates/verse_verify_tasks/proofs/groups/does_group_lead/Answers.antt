@@ -2,7 +2,7 @@ use Rattle.std.proofs.Common.{◌≡◌, ◌∷◌, [], true, false, sym, ap, �
 use Rattle.std.specs.Prelude.{◌&&◌}
 use Rattle.verse_verify_next.specs.Heres.{suited}
 use Rattle.verse_verify_tasks.specs.Arms.{do_begin, group_ends}
-use Rattle.verse_verify_tasks.proofs.Groups.{group_by}
+use Rattle.verse_verify_tasks.proofs.Grouping.{group_by}
 use Rattle.verse_verify_tasks.proofs.groups.does_group_lead.Goals as goal
 
 pub returns-then-not-do_begin : goal.returns-then-not-do_begin

@@ -12,7 +12,7 @@ use Rattle.verse_verify_faults.specs.Stepping.{Goes, arm_at, arm_labels, with_la
 use Rattle.verse_verify_faults.specs.Faults.{holds, is_none, on_spot, suits}
 use Rattle.verse_verify_next.specs.declared.heres.Here.{Here}
 use Rattle.verse_verify_next.specs.Heres.{code_in, table_in, classes_in, spot_in, suited}
-use Rattle.verse_verify_tasks.specs.Arms.{all_from, each_from, count, label_at, label_suits, is_arm, may_begin, sort_there, arm_fits, on_arm}
+use Rattle.verse_verify_tasks.specs.Arms.{all_from, each_from, size, label_at, label_suits, is_arm, may_begin, sort_there, arm_fits, on_arm}
 use Rattle.verse_verify_next.specs.Leads.{block_begins}
 use Rattle.verse_verify_tasks.specs.Blocks.{goes_behind, leaves_in}
 use Rattle.verse_verify_tasks.specs.Arms.{are_arms, do_begin, do_fit, do_fill, labels_in, grouped_in, group_ends, group_goes}
@@ -88,12 +88,12 @@ module _ (h : Here) where
     pub are : arm_sorts (table_in h) (arm_labels (code_in h).ops a m) ≡ Some given
     pub count : length (arm_labels (code_in h).ops a m) ≡ m
     pub fit : (b : Sort) → all_fit (classes_in h) given b ≡ all_from (λ n. arm_fits h n b) a m
-    pub fill : (ys : Sorts) → fit_each (classes_in h) (sorts given) ys ≡ eqn (count ys) m && each_from (arm_fits h) a ys
+    pub fill : (ys : Sorts) → fit_each (classes_in h) (sorts given) ys ≡ eqn (size ys) m && each_from (arm_fits h) a ys
 
   known : (a m : ℕ) → all_from (is_arm h) a m ≡ true → all_from (may_begin h) a m ≡ true → Known a m
   known a zero e f = record { given = []; are = refl; count = refl; fit = λ b. refl; fill = fills }
     where
-      fills : (ys : Sorts) → fit_each (classes_in h) no_sorts ys ≡ eqn (count ys) 0 && each_from (arm_fits h) a ys
+      fills : (ys : Sorts) → fit_each (classes_in h) no_sorts ys ≡ eqn (size ys) 0 && each_from (arm_fits h) a ys
       fills no_sorts = refl
       fills (more_sorts b ys) = refl
   known a (suc m) e f =
@@ -118,10 +118,10 @@ module _ (h : Here) where
           turn true false r = refl
           turn false false r = refl
 
-          fills : (ys : Sorts) → fit_each (classes_in h) (more_sorts x.0 (sorts k.given)) ys ≡ eqn (count ys) (suc m) && each_from (arm_fits h) a ys
+          fills : (ys : Sorts) → fit_each (classes_in h) (more_sorts x.0 (sorts k.given)) ys ≡ eqn (size ys) (suc m) && each_from (arm_fits h) a ys
           fills no_sorts = refl
-          fills (more_sorts b ys) = ap (λ r. fit (classes_in h) x.0 b && r) (k.fill ys) ∙ turn (fit (classes_in h) x.0 b) (eqn (count ys) m)
-              (each_from (arm_fits h) (suc a) ys) ∙ ap (λ r. eqn (count ys) m && (r && each_from (arm_fits h) (suc a) ys)) (sym (this b))
+          fills (more_sorts b ys) = ap (λ r. fit (classes_in h) x.0 b && r) (k.fill ys) ∙ turn (fit (classes_in h) x.0 b) (eqn (size ys) m)
+              (each_from (arm_fits h) (suc a) ys) ∙ ap (λ r. eqn (size ys) m && (r && each_from (arm_fits h) (suc a) ys)) (sym (this b))
 
   few : (a m : ℕ) → length (arm_labels (code_in h).ops a m) ≤ m
   few a zero = omega arith
@@ -183,3 +183,30 @@ module _ (h : Here) where
       suited h (leaves_in h m (e ∷ ds)) ≡ suited h (block_begins h e (length ds) true ∷ []) && suited h (leaves_in h m ds)
   leave_goes m e ds x = ap (λ b. suited h (cond b (goes_behind h (e ∷ ds) ∷ []) (block_begins h e (length ds) true ∷ leaves_in h m ds))) x ∙
       both_suit (block_begins h e (length ds) true) (leaves_in h m ds)
+
+  -- two next states, the first of which suits or not
+  pub first_fails : (g : Goes) (gs : List Goes) → suited h (g ∷ []) ≡ false → false ≡ suited h (g ∷ gs)
+  first_fails g gs e = sym (both_suit g gs ∙ ap (λ b. b && suited h gs) e)
+
+  pub second_tells : (g : Goes) (gs : List Goes) → suited h (g ∷ []) ≡ true → suited h gs ≡ suited h (g ∷ gs)
+  second_tells g gs e = sym (both_suit g gs ∙ ap (λ b. b && suited h gs) e)
+
+  -- the blocks that a Leave finds deferred
+  pub leave_none : (m : ℕ) (ds : List ℕ) → length ds ≡ 0 → suited h (goes_behind h ds ∷ []) ≡ suited h (leaves_in h m ds)
+  leave_none m [] e = refl
+  leave_none m (x ∷ ds) e = absurd (omega (arith, e))
+
+  pub leave_at : (m : ℕ) (ds : List ℕ) (e : ℕ) (more : List ℕ) → ds ≡ e ∷ more → eqn m ((spot_in h).under + length ds) ≡ true →
+      suited h (goes_behind h ds ∷ []) ≡ suited h (leaves_in h m ds)
+  leave_at m ds e more is x = subst (λ ys. suited h (goes_behind h ys ∷ []) ≡ suited h (leaves_in h m ys)) (sym is) (sym (leave_ends m e more
+      (subst (λ ys. eqn m ((spot_in h).under + length ys) ≡ true) is x)))
+
+  pub leave_stops : (m : ℕ) (ds : List ℕ) (e : ℕ) (more : List ℕ) → ds ≡ e ∷ more → eqn m ((spot_in h).under + length ds) ≡ false →
+      suited h (block_begins h e (length more) true ∷ []) ≡ false → false ≡ suited h (leaves_in h m ds)
+  leave_stops m ds e more is x n = subst (λ ys. false ≡ suited h (leaves_in h m ys)) (sym is) (sym (leave_goes m e more (subst (λ ys. eqn m
+      ((spot_in h).under + length ys) ≡ false) is x) ∙ ap (λ b. b && suited h (leaves_in h m more)) n))
+
+  pub leave_further : (m : ℕ) (ds : List ℕ) (e : ℕ) (more : List ℕ) → ds ≡ e ∷ more → eqn m ((spot_in h).under + length ds) ≡ false →
+      suited h (block_begins h e (length more) true ∷ []) ≡ true → suited h (leaves_in h m more) ≡ suited h (leaves_in h m ds)
+  leave_further m ds e more is x y = subst (λ ys. suited h (leaves_in h m more) ≡ suited h (leaves_in h m ys)) (sym is) (sym (leave_goes m e
+      more (subst (λ ys. eqn m ((spot_in h).under + length ys) ≡ false) is x) ∙ ap (λ b. b && suited h (leaves_in h m more)) y))

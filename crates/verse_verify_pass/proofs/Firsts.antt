@@ -1,13 +1,15 @@
 -- Operations one by one, and how many operands there are.
 use Rattle.std.proofs.Common.{◌≡◌, ℕ, zero, suc, ◌+◌, ◌-◌, ◌<◌, ◌≤◌, List, [], ◌∷◌, length, take, drop, min, Bool, true, false, cond, refl, sym, ap, ◌∙◌, arith}
-use Rattle.std.specs.Prelude.{Option, Some, None, slice_get}
+use Rattle.std.specs.Prelude.{Option, Some, None, nat_lt, slice_get}
+use Rattle.std.proofs.lemmas.Bool.{lt-ltb, le-ltb}
 use Rattle.std.proofs.lemmas.List.{length-take}
 use Rattle.std.proofs.lemmas.Option.{none-some}
 use Rattle.verse_code.specs.declared.operations.Op.{Op}
 use Rattle.verse_code.specs.declared.codes.Code.{Code}
 use Rattle.verse_sorts.specs.Sorts.{Sort}
-use Rattle.verse_verify_faults.specs.Spots.{Mark, Table, spot_at, room, above}
-use Rattle.verse_verify_faults.specs.Faults.{begins_at, fault_here, fault_at, first_fault, or_later}
+use Rattle.verse_verify_faults.specs.Spots.{Mark, Spot, Table, spot_at, room, above}
+use Rattle.verse_verify_faults.specs.Stepping.{step}
+use Rattle.verse_verify_faults.specs.Faults.{begins_at, by_step, fault_of, fault_here, first_fault, or_later, pops}
 use Rattle.verse_verify_notes.specs.declared.sorts.Sort.{Sort as Kept}
 use Rattle.verse_verify_next.specs.Heres.{operands}
 use Rattle.verse_verify_next.proofs.Lists.{stack_length}
@@ -32,6 +34,19 @@ pub room_is : (xs : List Kept) (st : List Sort) (ms : List Mark) → operands xs
 room_is xs st ms e = sym (stack_length xs) ∙ ap length e ∙ above_length st ms
 
 module _ (c : Code) (t : Table) where
+  -- too few operands above it, and enough
+  pub lacks_operands : (i : ℕ) (p : Spot) (op : Op) (xs : List Kept) → operands xs ≡ above p.stack p.tries → length xs < pops c t op →
+      fault_of c t i p op ≡ Some 4
+  lacks_operands i p op xs e h = ap (λ n. cond (nat_lt n (pops c t op)) (Some 4) (by_step c t i p op (step c t p i op (above p.stack
+      p.tries)))) (sym (room_is xs p.stack p.tries e)) ∙ ap (λ b. cond b (Some 4) (by_step c t i p op (step c t p i op (above p.stack
+      p.tries)))) (lt-ltb (length xs) (pops c t op) h)
+
+  pub has_operands : (i : ℕ) (p : Spot) (op : Op) (xs : List Kept) → operands xs ≡ above p.stack p.tries → pops c t op ≤ length xs →
+      fault_of c t i p op ≡ by_step c t i p op (step c t p i op (operands xs))
+  has_operands i p op xs e h = ap (λ n. cond (nat_lt n (pops c t op)) (Some 4) (by_step c t i p op (step c t p i op (above p.stack
+      p.tries)))) (sym (room_is xs p.stack p.tries e)) ∙ ap (λ b. cond b (Some 4) (by_step c t i p op (step c t p i op (above p.stack
+      p.tries)))) (le-ltb (length xs) (pops c t op) h) ∙ ap (λ st. by_step c t i p op (step c t p i op st)) (sym e)
+
   abbrev entries_fit : ℕ → Bool
   entries_fit i = begins_at c t 0 c.functions t.functions i
 
@@ -58,6 +73,12 @@ module _ (c : Code) (t : Table) where
       go [] h = absurd (omega (arith, h))
       go (op ∷ xs) h =
           ap (λ o. or_later c t i o (first_fault c t (suc i) xs)) (ap (λ a. cond a (fault_here c t i (spot_at t i) op) (Some 3)) b)
+
+  pub none_left : (ops : List Op) (i k : ℕ) → slice_get ops i ≡ None → first_fault c t k (drop i ops) ≡ None
+  none_left [] zero k h = refl
+  none_left [] (suc i) k h = refl
+  none_left (x ∷ ops) zero k h = elim (none-some _ (sym h)) [ ]
+  none_left (x ∷ ops) (suc i) k h = none_left ops i k h
 
   pub none_behind : (ops : List Op) (i k : ℕ) → length ops ≤ i → first_fault c t k (drop i ops) ≡ None
   none_behind [] zero k h = refl
