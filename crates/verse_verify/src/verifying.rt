@@ -31,6 +31,21 @@ fn pass(code: &Code, table: &Table) -> Result<(), VerifyFault>
     }
 }
 
+/// V1 to V9, of bytes.
+fn judge(alloc: Global, code: &Code, notes: &[u8]) -> Result<(), VerifyFault>
+    requires size { length code.now.ops ≤ 4294967295 }
+    ensures { Answers result (verdict code.now notes.now) }
+{
+    match read_notes(alloc, code, notes) {
+        Ok(table) => pass(code, &table),
+        Err(ReadFault::Memory) => Err(VerifyFault::Memory),
+        Err(ReadFault::Bad(flaw)) => Err(VerifyFault::Bad {
+            rule: 1,
+            at: notes.len().saturating_sub(flaw.left),
+        }),
+    }
+}
+
 /// Whether bytes are notes of a valid code that break none of V1 to V9, which stand under Notes in
 /// docs/FORMATS.md. Otherwise the first rule that they break, and where; or that there was no
 /// memory for what is read, and then nothing is known.
@@ -42,12 +57,5 @@ pub fn verify(alloc: Global, code: &Code, notes: &[u8]) -> Result<(), VerifyFaul
     ensures safe { OnOk result (NeverStuck code.now) }
 {
     notes_that_pass();
-    match read_notes(alloc, code, notes) {
-        Ok(table) => pass(code, &table),
-        Err(ReadFault::Memory) => Err(VerifyFault::Memory),
-        Err(ReadFault::Bad(flaw)) => Err(VerifyFault::Bad {
-            rule: flaw.rule,
-            at: notes.len().saturating_sub(flaw.left),
-        }),
-    }
+    judge(alloc, code, notes)
 }

@@ -1,0 +1,7 @@
+use Rattle.verse_verify_faults.specs.Reading.{verdict}
+use Rattle.verse_verify.proofs.Safe.{if_none}
+use Rattle.verse_verify.proofs.verifying.verify.Goals as goal
+
+pub returns-clause-safe : goal.returns-clause-safe
+returns-clause-safe c = if_none c.judge.result (verdict c.args.code.now c.args.notes.now) c.judge.ensures (λ e. c.notes_that_pass.ensures
+    c.args.code.now c.args.notes.now c.requires e)
