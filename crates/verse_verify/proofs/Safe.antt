@@ -1,5 +1,5 @@
 -- What an answer tells.
-use Rattle.std.proofs.Common.{◌≡◌, ℕ, length, ◌-◌, subst, sym, ap, ◌∙◌, tt}
+use Rattle.std.proofs.Common.{◌≡◌, ℕ, length, ◌-◌, subst, sym, ap, ◌∙◌}
 use Rattle.std.specs.Prelude.{List, Option, Some, None, Result, Ok, Err, OnOk}
 use Rattle.verse_code.specs.declared.codes.Code.{Code}
 use Rattle.verse_image.specs.declared.faults.Flaw.{Flaw}

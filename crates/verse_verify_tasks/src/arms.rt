@@ -122,7 +122,7 @@ fn does_each_fit(here: &Here, parts: &[Sort]) -> bool
     ensures { result ≡ a.each_from (a.arm_fits here.now) (suc here.now.index)
         (sorts (sorts_of parts.now)) }
 {
-    let mut at = here.next();
+    let mut at = here.index as usize + 1;
     'parts: for part in parts {
         if !does_arm_fit(here, at, part) {
             return false;

@@ -1,6 +1,6 @@
 //! Deferred blocks.
 
-ghost use Rattle.std.specs.Prelude.{◌≡◌, ◌∷◌, [], false, length, suc};
+ghost use Rattle.std.specs.Prelude.{◌≡◌, ◌≤◌, ◌∷◌, [], false, length, suc};
 ghost use Rattle.verse_code.specs.declared.operations.Op.TheVariants as o;
 ghost use Rattle.verse_verify_next.specs.Heres.{spot_in, suited};
 ghost use Rattle.verse_verify_next.specs.Leads.{goes_deferring, block_begins};
@@ -16,6 +16,14 @@ use verse_verify_next::operands::above;
 use verse_verify_notes::sorts::Sort;
 use verse_verify_tables::numbers::is_same_number;
 
+/// How many blocks are deferred here.
+fn defers_count(here: &Here) -> usize
+    ensures count { result ≡ length here.now.spot.now.defers.items }
+    ensures room { result ≤ 9223372036854775807 }
+{
+    here.spot.defers.len()
+}
+
 /// Whether a block may be deferred that begins at the next operation, and the state at the label
 /// suits.
 fn does_defer(here: &Here, label: u32, st: &[Sort]) -> bool
@@ -23,7 +31,7 @@ fn does_defer(here: &Here, label: u32, st: &[Sort]) -> bool
         (length here.now.spot.now.defers.items) false ∷ goes_deferring here.now label
         (suc here.now.index ∷ here.now.spot.now.defers.items) st.now ∷ []) }
 {
-    if !does_block_begin(here, here.next(), here.spot.defers.len(), false) {
+    if !does_block_begin(here, here.next(), defers_count(here), false) {
         return false;
     }
     does_lead_behind_block(here, label as usize, st)

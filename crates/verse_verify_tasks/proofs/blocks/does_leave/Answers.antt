@@ -12,7 +12,7 @@ returns-then-is_same_number c =
     let h = c.args.here.now in
     let rest = c.defers.rest.now in
     let yes : eqn c.args.count ((spot_in h).under + length rest) ≡ true = sym c.is_same_number.ensures ∙ c.if-is_same_number.true in
-    c.does_go_behind.ensures ∙ leave_at h c.args.count rest c.in-Some.entry.now c.in-Some.more.now c.in-Some.ensures.cases.0 yes ∙ c.defers.invariant.0
+    c.does_go_behind-then-is_same_number.ensures ∙ leave_at h c.args.count rest c.in-Some.entry.now c.in-Some.more.now c.in-Some.ensures.cases.0 yes ∙ c.defers.invariant.0
 
 pub returns-then-not-does_block_begin : goal.returns-then-not-does_block_begin
 returns-then-not-does_block_begin c =
@@ -34,5 +34,5 @@ defers-preserved c =
 
 pub returns : goal.returns
 returns c =
-    c.does_go_behind.ensures ∙ leave_none c.args.here.now c.args.count c.defers.rest.now (omega (arith, c.defers.invariant.1, c.defers-test.false)) ∙
+    c.does_go_behind-2.ensures ∙ leave_none c.args.here.now c.args.count c.defers.rest.now (omega (arith, c.defers.invariant.1, c.defers-test.false, c.len-i-end.ensures)) ∙
     c.defers.invariant.0
