@@ -19,7 +19,7 @@ use verse_verify_tables::tables::table_fault;
 
 /// V2 to V9, of notes that were read.
 fn pass(code: &Code, table: &Table) -> Result<(), VerifyFault>
-    requires size { length code.now.ops ≤ 4294967295 }
+    requires { length code.now.ops ≤ 4294967295 }
     ensures { Answers result (notes_fault code.now (table_of table.now)) }
 {
     if let Some(at) = table_fault(code, table) {
@@ -33,7 +33,7 @@ fn pass(code: &Code, table: &Table) -> Result<(), VerifyFault>
 
 /// V1 to V9, of bytes.
 fn judge(alloc: Global, code: &Code, notes: &[u8]) -> Result<(), VerifyFault>
-    requires size { length code.now.ops ≤ 4294967295 }
+    requires { length code.now.ops ≤ 4294967295 }
     ensures { Answers result (verdict code.now notes.now) }
 {
     match read_notes(alloc, code, notes) {

@@ -47,7 +47,7 @@ module _ (c : Code) (t : Table) where
       p.tries)))) (sym (room_is xs p.stack p.tries e)) ∙ ap (λ b. cond b (Some 4) (by_step c t i p op (step c t p i op (above p.stack
       p.tries)))) (le-ltb (length xs) (pops c t op) h) ∙ ap (λ st. by_step c t i p op (step c t p i op st)) (sym e)
 
-  abbrev entries_fit : ℕ → Bool
+  abbrev pub entries_fit : ℕ → Bool
   entries_fit i = begins_at c t 0 c.functions t.functions i
 
   -- an operation that breaks a rule, one that breaks none, and one at which notes of an entry are wrong
@@ -57,9 +57,12 @@ module _ (c : Code) (t : Table) where
       (suc i) ops))) (ap (λ a. cond a (fault_here c t i (spot_at t i) op) (Some 3)) b ∙ r)
 
   pub goes_on : (ops : List Op) (i : ℕ) (op : Op) → slice_get ops i ≡ Some op → entries_fit i ≡ true →
-      fault_here c t i (spot_at t i) op ≡ None → first_fault c t i (drop i ops) ≡ first_fault c t (suc i) (drop (suc i) ops)
+      fault_here c t i (spot_at t i) op ≡ None → first_fault c t i (drop i ops) ≡ first_fault c t (i + 1) (drop (i + 1) ops)
   goes_on ops i op e b r = ap (first_fault c t i) (from_op ops i op e) ∙ ap (λ o. or_later c t i o (first_fault c t (suc i) (drop (suc i)
-      ops))) (ap (λ a. cond a (fault_here c t i (spot_at t i) op) (Some 3)) b ∙ r)
+      ops))) (ap (λ a. cond a (fault_here c t i (spot_at t i) op) (Some 3)) b ∙ r) ∙ ap (λ j. first_fault c t j (drop j ops)) (next i)
+    where
+      next : (i : ℕ) → suc i ≡ i + 1
+      next i = omega arith
 
   pub breaks_entry : (ops : List Op) (i : ℕ) → i < length ops → entries_fit i ≡ false → first_fault c t i (drop i ops) ≡ Some (3, i)
   breaks_entry ops i h b = go (drop i ops) (rest ops i h)
