@@ -1,0 +1,50 @@
+//! The locals that an operation writes.
+
+ghost use Rattle.std.specs.Prelude.{◌≡◌};
+ghost use Rattle.verse_verify_next.specs.Heres.{operands, rule_by};
+ghost use Rattle.verse_verify_next.specs.Mades.{made_of};
+ghost use Rattle.verse_verify_flow.specs.Writing as w;
+
+use verse_verify_keeps::settling::settle;
+use verse_verify_next::heres::Here;
+use verse_verify_next::leading::does_lead_written;
+use verse_verify_next::mades::Made;
+use verse_verify_next::rows::Write;
+use verse_verify_notes::sorts::Sort;
+
+/// The rule that an operation breaks which writes a local.
+pub fn write_one(here: &Here, local: u32, made: Made, st: &[Sort]) -> Option<u8>
+    ensures { result ≡ rule_by here.now
+        (w.writes_one here.now local (made_of made.entry) (operands st.now)) }
+{
+    let local = local as usize;
+    let count = here.spot.locals.len();
+    if local >= count {
+        return Some(6);
+    }
+    let writes = [Write { local, made }];
+    let suits = does_lead_written(here, here.next(), &writes, st);
+    settle(here, suits, &[local], None)
+}
+
+/// The rule that an operation breaks which writes a local, and then the one behind it.
+pub fn write_two(here: &Here, local: u32, made: Made, behind: Made, st: &[Sort]) -> Option<u8>
+    ensures { result ≡ rule_by here.now (w.writes_two here.now local (made_of made.entry)
+        (made_of behind.entry) (operands st.now)) }
+{
+    let local = local as usize;
+    let next = local + 1;
+    let count = here.spot.locals.len();
+    if next >= count {
+        return Some(6);
+    }
+    let writes = [
+        Write { local, made },
+        Write {
+            local: next,
+            made: behind,
+        },
+    ];
+    let suits = does_lead_written(here, here.next(), &writes, st);
+    settle(here, suits, &[local, next], None)
+}

@@ -1,0 +1,45 @@
+//! The rule that an operation breaks.
+
+ghost use Rattle.std.specs.Prelude.{◌≡◌, Some};
+ghost use Rattle.verse_verify_notes.specs.View.{spot_of, table_of};
+ghost use Rattle.verse_verify_faults.specs.Spots.{spot_at};
+ghost use Rattle.verse_verify_faults.specs.Faults as f;
+ghost use Rattle.verse_verify_next.specs.Heres.{code_in, table_in, spot_in};
+
+use crate::operations::rule_of;
+use verse_code::codes::Code;
+use verse_code::operations::Op;
+use verse_verify_entries::beginnings::spot_at;
+use verse_verify_keeps::kinds::pops;
+use verse_verify_next::heres::Here;
+use verse_verify_next::operands::above;
+use verse_verify_notes::notes::Table;
+
+/// The least of V4 to V9 that an operation breaks in this state.
+fn fault_of(here: &Here) -> Option<u8>
+    ensures { result ≡ f.fault_of (code_in here.now) (table_in here.now) here.now.index
+        (spot_in here.now) here.now.op }
+{
+    let st = above(here.spot);
+    if (st.len() as u64) < pops(here.code, here.table, here.op) {
+        return Some(4);
+    }
+    rule_of(here, here.op, st)
+}
+
+/// The least of V4 to V9 that an operation breaks. None where it breaks none, or is never reached.
+pub fn fault_here(code: &Code, table: &Table, index: u32, op: Op) -> Option<u8>
+    ensures { result ≡ f.fault_here code.now (table_of table.now) index
+        (spot_at (table_of table.now) index) op }
+{
+    match spot_at(table, index as usize) {
+        None => None,
+        Some(spot) => fault_of(&Here {
+            code,
+            table,
+            spot,
+            index,
+            op,
+        }),
+    }
+}
