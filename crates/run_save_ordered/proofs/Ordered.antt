@@ -1,17 +1,20 @@
 -- A run goes on from what is kept of it, in whatever order.
-use Rattle.std.proofs.Common.{◌≡◌, suc, List, [], ◌∷◌, ◌++◌, refl, sym, subst, ap, ◌∙◌}
-use Rattle.verse_code_machine.specs.Tasks.{Task}
+use Rattle.std.proofs.Common.{◌≡◌, ℕ, suc, List, [], ◌∷◌, ◌++◌, refl, sym, subst, ap, ◌∙◌}
+use Rattle.verse_code_machine.specs.Tasks.{Thread, Task}
 use Rattle.verse_code_machine.specs.Runs.{Forest}
 use Rattle.verse_code_machine_saved.specs.Horizons.{run_from}
 use Rattle.verse_code_machine_saved.specs.Numbers.{RunRenumbered}
 use Rattle.verse_code_machine_saved.specs.Resuming.{apart, behind, SameTrees, RunResumed}
-use Rattle.run_save_shots.specs.Lists.{Reordered, no_elements, one_more}
+use Rattle.run_save_shots.specs.Lists.{Each, Reordered, no_elements, one_more}
 use Rattle.run_save_shots.specs.Spelling.{state, trees}
 use Rattle.run_save_fits.specs.Laws.{StageSavable, RunIsSavable}
 use Rattle.run_save_kept.specs.Growing.{filled}
+use Rattle.run_save_kept.proofs.Sums.{all_as, reordered_each}
+use Rattle.run_save_births.specs.Births.{births_of, NoChild, IsBorn, AreBorn}
+use Rattle.run_save_births.specs.Laws.{StageIsBorn, RunIsBorn}
 use Rattle.run_save_orders.specs.Laws.{RunReordered}
 use Rattle.run_save_orders.proofs.Orders.{filled_join}
-use Rattle.run_save_ordered.specs.Laws.{KeptIsSameButOrder, KeptRunIsTheRun}
+use Rattle.run_save_ordered.specs.Laws.{KeptIsSameButOrder, KeptIsBorn, KeptRunIsTheRun}
 use Rattle.run_save_ordered.proofs.Bare.{same_trees}
 
 filled_again : (tss : Forest) → filled (filled tss) ≡ filled tss
@@ -31,6 +34,34 @@ filled_reordered (one_more {x = x} {xs = xs} {zs = zs} front back e r) = by_tree
 
 pub kept_is_same_but_order : KeptIsSameButOrder
 kept_is_same_but_order s tss x y = subst (λ w. Reordered (filled tss) w) (sym (filled_again y.ordered)) (filled_reordered y.reordered)
+
+-- ---- births
+
+filled_each : (P : List Task → Type 0) (tss : Forest) → Each P tss → Each P (filled tss)
+filled_each P [] a = tt
+filled_each P ([] ∷ tss) a = filled_each P tss a.1
+filled_each P ((t ∷ ts) ∷ tss) a = (a.0, filled_each P tss a.1)
+
+module _ (left : ℕ) (tss ordered : Forest) (o : Reordered tss ordered) where
+  moved : (P : List Task → Type 0) → Each P tss → Each P (filled ordered)
+  moved P a = filled_each P ordered (reordered_each P o a)
+
+  born_so : (x : Thread) → IsBorn left tss x → IsBorn left (filled ordered) x
+  born_so x a = record {
+    rises = a.rises;
+    keeps = a.keeps;
+    above = a.above;
+    apart = all_as (NoChild tss x.who.path) (NoChild (filled ordered) x.who.path) (λ n b. moved (Each (λ (t : Task). t.thread.who.path ≡ x.who.path ++ n ∷ [] →
+        ⊥)) b) (births_of x) a.apart;
+  }
+
+  are_born_so : AreBorn left tss → AreBorn left (filled ordered)
+  are_born_so a = moved (Each (λ (t : Task). IsBorn left (filled ordered) t.thread)) (all_as (Each (λ (t : Task). IsBorn left tss t.thread)) (Each (λ (t :
+      Task). IsBorn left (filled ordered) t.thread)) (λ ts b. all_as (λ (t : Task). IsBorn left tss t.thread) (λ (t : Task). IsBorn left (filled ordered)
+      t.thread) (λ t d. born_so t.thread d) ts b) tss a)
+
+pub kept_is_born : RunIsBorn → KeptIsBorn
+kept_is_born law c ns steps u s tss x e y = are_born_so s.clock.left tss y.ordered y.reordered (subst StageIsBorn e (law c ns steps u (suc steps)))
 
 pub kept_run_is_the_run : RunIsSavable → RunReordered → RunResumed → RunRenumbered → KeptRunIsTheRun
 kept_run_is_the_run savable reordered resumed renumbered c ns steps u v s tss x valid bytes inputs le short e y m =

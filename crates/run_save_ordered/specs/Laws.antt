@@ -13,12 +13,18 @@ use Rattle.run_save_shots.specs.declared.limits.TheConstants.{MOST_NOW}
 use Rattle.run_save_moves.specs.Fine.{TextsAreBytes}
 use Rattle.run_save_fits.specs.Laws.{InputsFit}
 use Rattle.run_save_kept.specs.Growing.{filled}
+use Rattle.run_save_births.specs.Births.{AreBorn}
 use Rattle.run_save_orders.specs.Laws.{SameButOrder}
 
 -- the trees as they were kept, without the empty ones
 abbrev pub KeptIsSameButOrder : Type 0
 KeptIsSameButOrder = (s : State) (tss : Forest) (x : Kept) → (y : Spells x s tss) →
     SameButOrder tss (filled y.ordered)
+
+-- in them births rise and none is the number of a child
+abbrev pub KeptIsBorn : Type 0
+KeptIsBorn = (c : Code) (ns : List ℤ) (steps u : ℕ) (s : State) (tss : Forest) (x : Kept) →
+    Stopped c ns steps u s tss → (y : Spells x s tss) → AreBorn s.clock.left (filled y.ordered)
 
 -- Where these are the trees that are spelled, with other numbers in the same order, the run that
 -- goes on from what is kept is the run to the later horizon, and its trace goes on from the one so

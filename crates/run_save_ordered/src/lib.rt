@@ -2,8 +2,9 @@
 //! were kept. The definitions are in `Laws`.
 #![tactic(auto)]
 
-ghost use Rattle.run_save_ordered.specs.Laws.{KeptIsSameButOrder, KeptRunIsTheRun};
+ghost use Rattle.run_save_ordered.specs.Laws.{KeptIsSameButOrder, KeptIsBorn, KeptRunIsTheRun};
 
+use run_save_births::run_is_born;
 use run_save_fits::run_is_savable;
 use run_save_orders::run_reordered;
 use verse_code_machine_saved::{run_renumbered, run_resumed};
@@ -13,6 +14,14 @@ use verse_code_machine_saved::{run_renumbered, run_resumed};
 pub fn kept_is_same_but_order()
     ensures { KeptIsSameButOrder }
 {}
+
+/// In those trees the frames of each task were born one after the other, and no child has one of
+/// their births as its number.
+pub fn kept_is_born()
+    ensures { KeptIsBorn }
+{
+    run_is_born();
+}
 
 /// Where the trees that are spelled are those, with other numbers in the same order, the run that
 /// goes on from what is kept is the run to the later horizon.
