@@ -198,15 +198,21 @@ module _ (R : Trees → Trees → Type 0) (plants : (t u : Trees) (ts : List Tas
           defer_here (q ∷ ds) = only_are (fits hs q) s _ _ (spending_are s.clock.left s _ _ (λ l. nexts r))
 
       note_here : (k : Note) (ns : List Note) (ls st : List Val) → Are
-          (on_note k (λ q. goes y x s s (record g { noted = ns }) ls st q hs bl) (clears_frames (λ s. cleared us pre post t s) y x s (frame (record g { noted = ns }) ls st pc hs ∷ bl)))
-          (on_note k (λ q. goes y z s s (record g { noted = ns }) ls st q hs bl) (clears_frames (λ s. cleared us pre post u s) y z s (frame (record g { noted = ns }) ls st pc hs ∷ bl)))
+          (on_note k (λ q. goes y x s s (record g { noted = ns }) ls st q hs bl) (clears_frames (λ s. cleared us pre post t s) y x s (frame (record g {
+            noted = ns;
+          }) ls st pc hs ∷ bl)))
+          (on_note k (λ q. goes y z s s (record g { noted = ns }) ls st q hs bl) (clears_frames (λ s. cleared us pre post u s) y z s (frame (record g {
+            noted = ns;
+          }) ls st pc hs ∷ bl)))
       note_here (to q) ns ls st = goes_are s s (record g { noted = ns }) ls st q hs bl
       note_here gone ns ls st = frames_both R plants t u r (λ t s. cleared us pre post t s) y pre post us s (frame (record g { noted = ns }) ls st pc hs ∷ bl)
           (cleared_both R plants t u r us pre post s)
 
       noted_here : (ns : List Note) (ls st : List Val) → Are
-          (on_noted ns s (λ k ns. on_note k (λ q. goes y x s s (record g { noted = ns }) ls st q hs bl) (clears_frames (λ s. cleared us pre post t s) y x s (frame (record g { noted = ns }) ls st pc hs ∷ bl))))
-          (on_noted ns s (λ k ns. on_note k (λ q. goes y z s s (record g { noted = ns }) ls st q hs bl) (clears_frames (λ s. cleared us pre post u s) y z s (frame (record g { noted = ns }) ls st pc hs ∷ bl))))
+          (on_noted ns s (λ k ns. on_note k (λ q. goes y x s s (record g { noted = ns }) ls st q hs bl) (clears_frames (λ s. cleared us pre post t s) y x
+          s (frame (record g { noted = ns }) ls st pc hs ∷ bl))))
+          (on_noted ns s (λ k ns. on_note k (λ q. goes y z s s (record g { noted = ns }) ls st q hs bl) (clears_frames (λ s. cleared us pre post u s) y z
+          s (frame (record g { noted = ns }) ls st pc hs ∷ bl))))
       noted_here [] ls st = overs
       noted_here (k ∷ ns) ls st = note_here k ns ls st
 
@@ -246,8 +252,10 @@ module _ (R : Trees → Trees → Type 0) (plants : (t u : Trees) (ts : List Tas
       act_are c o.Length ls st = unary_here length_of None ls st
       act_are c (o.New p) ls st = top_are st s _ _ (λ a st. answered_here (place_at c p) (variable_made a s) ls st)
       act_are c (o.Load m) ls st = top_are st s _ _ (λ a st. answered_here None (slot_read m a s) ls st)
-      act_are c (o.Store m j kd p) ls st = top_are st s _ _ (λ a st. many_are j st [] s _ _ (λ path st. top_are st s _ _ (λ w st. answered_here (place_at c p) (slot_written m path (mode_of kd) a w s) ls st)))
-      act_are c (o.Object m p) ls st = there_are (slice_get c.classes m) s _ _ (λ (q : Class). many_are q.slots st [] s _ _ (λ vs st. answered_here (place_at c p) (object_made m vs s) ls st))
+      act_are c (o.Store m j kd p) ls st = top_are st s _ _ (λ a st. many_are j st [] s _ _ (λ path st. top_are st s _ _ (λ w st. answered_here (place_at
+          c p) (slot_written m path (mode_of kd) a w s) ls st)))
+      act_are c (o.Object m p) ls st = there_are (slice_get c.classes m) s _ _ (λ (q : Class). many_are q.slots st [] s _ _ (λ vs st. answered_here
+          (place_at c p) (object_made m vs s) ls st))
       act_are c (o.Event p) ls st = answered_here (place_at c p) (event_made s) ls st
       act_are c (o.Jump l) ls st = goes_here s ls st l
       act_are c (o.Same l) ls st = two_are st s _ _ (λ a d st. goes_here s ls st _)
@@ -257,24 +265,36 @@ module _ (R : Trees → Trees → Type 0) (plants : (t u : Trees) (ts : List Tas
       act_are c o.Undo ls st = handler_are hs s _ _ (λ h hs. goes_are s (restored h.memory s) g ls _ (suc pc) hs bl)
       act_are c o.Fail ls st = failing_are s ls hs bl
       act_are c (o.Call m) ls st = there_are (slice_get c.functions m) s _ _ (λ (q : Func). many_are q.params st [] s _ _ (λ vs st. enters_here q vs ls st))
-      act_are c (o.Method m j) ls st = many_are j st [] s _ _ (λ vs st. top_are st s _ _ (λ a st. there_are (method_of c m j a s) s _ _ (λ q. enters_here q (a ∷ vs) ls st)))
-      act_are c o.Return ls st = top_are st s _ _ (λ a st. only_are (nothing g.defers g.noted) s _ _ (returns_both R plants t u r y g.born a hs bl pre post us s))
-      act_are c (o.Each l) ls st = top_are st s _ _ (λ a st. domain_are a s _ _ (there_are (put ls l a) s _ _ (λ ls. there_are (put ls (suc l) (int (pos 0))) s _ _ (λ ls. goes_here s ls st (suc pc)))))
-      act_are c (o.Range l) ls st = two_are st s _ _ (λ a d st. int_are a s _ _ (int_are d s _ _ (there_are (put ls l a) s _ _ (λ ls. there_are (put ls (suc l) d) s _ _ (λ ls. goes_here s ls st (suc pc))))))
-      act_are c (o.Take l d m) ls st = there_are (nth ls l) s _ _ (λ a. there_are (nth ls (suc l)) s _ _ (λ w. there_are (nth ls d) s _ _ (λ q. there_are (nth ls (suc d)) s _ _ (λ r. takes_here (taken_from a w) l d m ls st))))
+      act_are c (o.Method m j) ls st = many_are j st [] s _ _ (λ vs st. top_are st s _ _ (λ a st. there_are (method_of c m j a s) s _ _ (λ q. enters_here
+          q (a ∷ vs) ls st)))
+      act_are c o.Return ls st = top_are st s _ _ (λ a st. only_are (nothing g.defers g.noted) s _ _ (returns_both R plants t u r y g.born a hs bl pre
+          post us s))
+      act_are c (o.Each l) ls st = top_are st s _ _ (λ a st. domain_are a s _ _ (there_are (put ls l a) s _ _ (λ ls. there_are (put ls (suc l) (int (pos
+          0))) s _ _ (λ ls. goes_here s ls st (suc pc)))))
+      act_are c (o.Range l) ls st = two_are st s _ _ (λ a d st. int_are a s _ _ (int_are d s _ _ (there_are (put ls l a) s _ _ (λ ls. there_are (put ls
+          (suc l) d) s _ _ (λ ls. goes_here s ls st (suc pc))))))
+      act_are c (o.Take l d m) ls st = there_are (nth ls l) s _ _ (λ a. there_are (nth ls (suc l)) s _ _ (λ w. there_are (nth ls d) s _ _ (λ q. there_are
+          (nth ls (suc d)) s _ _ (λ r. takes_here (taken_from a w) l d m ls st))))
       act_are c (o.Append l p) ls st = top_are st s _ _ (λ a st. there_are (nth ls l) s _ _ (λ w. into_here (place_at c p) l (append_of w a) ls st))
       act_are c (o.Print p) ls st = top_are st s _ _ (λ a st. answered_here (place_at c p) (line_printed a s) ls st)
       act_are c (o.Sleep m) ls st = only_are (free hs g.noted bl) s _ _ (suspends_both R plants t u r (after m s) _ pre post us s)
       act_are c o.Forever ls st = only_are (free hs g.noted bl) s _ _ (suspends_both R plants t u r never _ pre post us s)
-      act_are c o.AwaitTask ls st = only_are (free hs g.noted bl) s _ _ (top_are st s _ _ (λ a st. there_are (task_of a) s _ _ (λ entry. awaits_here (nth s.clock.results entry) entry ls st)))
-      act_are c o.AwaitEvent ls st = only_are (free hs g.noted bl) s _ _ (top_are st s _ _ (λ a st. there_are (event_of a s) s _ _ (λ w. suspends_both R plants t u r (heard w) _ pre post us s)))
+      act_are c o.AwaitTask ls st = only_are (free hs g.noted bl) s _ _ (top_are st s _ _ (λ a st. there_are (task_of a) s _ _ (λ entry. awaits_here (nth
+          s.clock.results entry) entry ls st)))
+      act_are c o.AwaitEvent ls st = only_are (free hs g.noted bl) s _ _ (top_are st s _ _ (λ a st. there_are (event_of a s) s _ _ (λ w. suspends_both R
+          plants t u r (heard w) _ pre post us s)))
       act_are c o.Signal ls st = only_are (free hs g.noted bl) s _ _ (two_are st s _ _ (λ a w st. answered_here None (signal_sent (event_of a s) w s) ls st))
-      act_are c (o.Spawn m) ls st = only_are (free hs g.noted bl) s _ _ (there_are (slice_get c.functions m) s _ _ (λ (q : Func). many_are q.params st [] s _ _ (λ vs st. spawns_here q vs ls st)))
-      act_are c (o.SpawnMethod m j) ls st = only_are (free hs g.noted bl) s _ _ (many_are j st [] s _ _ (λ vs st. top_are st s _ _ (λ a st. there_are (method_of c m j a s) s _ _ (λ q. spawns_here q (a ∷ vs) ls st))))
-      act_are c (o.Group kd m p) ls st = only_are (free hs g.noted bl) s _ _ (there_are (place_at c p) s _ _ (λ q. there_are (labels c.ops (suc pc) m) s _ _ (λ ks. groups_here (kind_of kd) q ks (after_arms (suc pc) m) ls st)))
+      act_are c (o.Spawn m) ls st = only_are (free hs g.noted bl) s _ _ (there_are (slice_get c.functions m) s _ _ (λ (q : Func). many_are q.params st []
+          s _ _ (λ vs st. spawns_here q vs ls st)))
+      act_are c (o.SpawnMethod m j) ls st = only_are (free hs g.noted bl) s _ _ (many_are j st [] s _ _ (λ vs st. top_are st s _ _ (λ a st. there_are
+          (method_of c m j a s) s _ _ (λ q. spawns_here q (a ∷ vs) ls st))))
+      act_are c (o.Group kd m p) ls st = only_are (free hs g.noted bl) s _ _ (there_are (place_at c p) s _ _ (λ q. there_are (labels c.ops (suc pc) m) s _
+          _ (λ ks. groups_here (kind_of kd) q ks (after_arms (suc pc) m) ls st)))
       act_are c (o.Arm l) ls st = overs
       act_are c (o.Branch l) ls st = only_are (free hs g.noted bl) s _ _ (spending_are s.clock.left s _ _ (λ n. nexts r))
-      act_are c o.ArmEnd ls st = top_are st s _ _ (λ a st. only_are (nothing g.defers g.noted) s _ _ (ends_both R plants t u r y g.born a hs bl pre post us s))
+      act_are c o.ArmEnd ls st = top_are st s _ _ (λ a st. only_are (nothing g.defers g.noted) s _ _ (ends_both R plants t u r y g.born a hs bl pre post
+          us s))
       act_are c (o.Defer l) ls st = goes_are s s _ ls st l hs bl
-      act_are c (o.Leave m) ls st = only_are (not (ltn (length g.defers) m)) s _ _ (only_are (not (ltn m (kept_defers hs))) s _ _ (leaves_here (ltn m (length g.defers)) ls st))
+      act_are c (o.Leave m) ls st = only_are (not (ltn (length g.defers) m)) s _ _ (only_are (not (ltn m (kept_defers hs))) s _ _ (leaves_here (ltn m
+          (length g.defers)) ls st))
       act_are c o.DeferEnd ls st = only_are (ltn (kept_noted hs) (length g.noted)) s _ _ (noted_here g.noted ls st)

@@ -61,7 +61,8 @@ module _ (R : Trees → Trees → Type 0) (plants : (t u : Trees) (ts : List Tas
   pub clears_both : (last : World → State → Step) (after : After) (ts : List Task) (pre post : List Task) (us : List Up) (s : State) → Follows last →
       Both (λ t. clears last after ts (world pre post us t) s)
   clears_both last after [] pre post us s f = f pre post us s
-  clears_both last after (y ∷ ts) pre post us s f = frames_both (λ t s. clears last after ts (world pre post us t) s) y.thread.who pre post (clearing after ts ∷
+  clears_both last after (y ∷ ts) pre post us s f = frames_both (λ t s. clears last after ts (world pre post us t) s) y.thread.who pre post (clearing
+      after ts ∷
       us) s (y.thread.frame ∷ y.thread.below) (clears_both last after ts pre post us s f)
 
   pub cancels_both : (last : World → State → Step) (after : After) (f : List ℕ → Bool) (pre post : List Task) (us : List Up) (s : State) → Follows last →
@@ -123,7 +124,8 @@ module _ (R : Trees → Trees → Type 0) (plants : (t u : Trees) (ts : List Tas
 
   climbs_both : (up : List ℕ) (n : ℕ) (v : Val) (pre post : List Task) (s : State) → Both (λ t. climbs up n v pre post t s)
   climbs_both up n v pre [] s = overs
-  climbs_both up n v pre (y ∷ post) s = cond_both (same_path up y.thread.who.path) (λ t. joined n v y.rest y pre post t s) (λ t. climbs up n v (y ∷ pre) post t
+  climbs_both up n v pre (y ∷ post) s = cond_both (same_path up y.thread.who.path) (λ t. joined n v y.rest y pre post t s) (λ t. climbs up n v (y ∷ pre)
+      post t
       s) (joined_both n v y.rest y pre post s) (climbs_both up n v (y ∷ pre) post s)
 
   part_both : (us : List Up) (up : List ℕ) (n : ℕ) (v : Val) (pre post : List Task) (s : State) → Both (λ t. part_ends up n v pre post us t s)
@@ -147,7 +149,8 @@ module _ (R : Trees → Trees → Type 0) (plants : (t u : Trees) (ts : List Tas
 
   pub ends_role_both : (k : Role) (w : Who) (born : ℕ) (v : Val) → Follows (λ o s. ends_role k w o born v s)
   ends_role_both (root entry) w born v pre post us s = overs
-  ends_role_both part w born v pre post us s = cancels_both (λ o s. role_ends part w v o s) (closing w v) (since w.path born) pre post us s (role_both part w v)
+  ends_role_both part w born v pre post us s = cancels_both (λ o s. role_ends part w v o s) (closing w v) (since w.path born) pre post us s (role_both
+      part w v)
 
   pub ends_both : (w : Who) (born : ℕ) (v : Val) (hs : List Handler) (bl : List Frame) → Follows (λ o s. ends w o born v s hs bl)
   ends_both w born v (h ∷ hs) bl pre post us s = overs
@@ -165,7 +168,8 @@ module _ (R : Trees → Trees → Type 0) (plants : (t u : Trees) (ts : List Tas
   pub returns_both : (w : Who) (born : ℕ) (v : Val) (hs : List Handler) (bl : List Frame) → Follows (λ o s. returns w o born v s hs bl)
   returns_both w born v (h ∷ hs) bl pre post us s = overs
   returns_both w born v [] [] pre post us s = returns_role_both w.role w born v pre post us s
-  returns_both w born v [] (f ∷ bl) pre post us s = cancels_both (λ o s. resumes (thread w f bl) v o s) (resuming (thread w f bl) v) (since w.path born) pre post
+  returns_both w born v [] (f ∷ bl) pre post us s = cancels_both (λ o s. resumes (thread w f bl) v o s) (resuming (thread w f bl) v) (since w.path born)
+      pre post
       us s (λ pre post us s. nexts r)
 
   follows_both : (after : After) → Follows (follows after)

@@ -101,7 +101,8 @@ passed n v before [] rest s e = ap (λ w. woken_in n v w rest s) (sym (none_more
     none_more [] = refl
     none_more (x ∷ xs) = ap (λ w. x ∷ w) (none_more xs)
 passed n v before (ts ∷ front) rest s e =
-    ap (λ b. cond b (woken n v [] ts (record { before = before; behind = front ++ rest }) s) (woken_in n v (before ++ ts ∷ []) (front ++ rest) s)) (tree_none n
+    ap (λ b. cond b (woken n v [] ts (record { before = before; behind = front ++ rest }) s) (woken_in n v (before ++ ts ∷ []) (front ++ rest) s))
+    (tree_none n
     ts (first_none (tasks_sum (of_number n) ts) (trees_sum (of_number n) front) e)) ∙
     (passed n v (before ++ ts ∷ []) front rest s (rest_none (tasks_sum (of_number n) ts) (trees_sum (of_number n) front) e) ∙
     ap (λ w. woken_in n v w rest s) (append_assoc before (ts ∷ []) front))
@@ -142,7 +143,8 @@ woken_same n v s tss uss r once = by_found (find n tss)
     by_found : Found n tss → Same (woken_in n v [] tss s) (woken_in n v [] uss s)
     by_found (nowhere e) = subst (λ w. Same w (woken_in n v [] uss s)) (sym (woken_none n v [] tss s e)) (subst (λ w. Same (Over ending.Stuck s) w) (sym
         (woken_none n v [] uss s (same_sum (of_number n) tss uss r ∙ e))) overs)
-    by_found (found front ts back e f g) = by_taken (extract ts (filled front) (filled back) (filled uss) (subst (λ w. Reordered w (filled uss)) (ap filled e ∙
+    by_found (found front ts back e f g) = by_taken (extract ts (filled front) (filled back) (filled uss) (subst (λ w. Reordered w (filled uss)) (ap
+        filled e ∙
         (filled_join front (ts ∷ back) ∙ ap (λ w. filled front ++ w) (filled_at n ts back g))) r))
       where
         by_taken : Taken ts (filled front ++ filled back) (filled uss) → Same (woken_in n v [] tss s) (woken_in n v [] uss s)
@@ -205,7 +207,8 @@ module _ (c : Code) (steps until : ℕ) where
     due_same None = both_closed r
     due_same (Some d) = late_same (nat_lt until d.given.moment) _ _ _ _ (both_closed r) (spent_same s.clock.left d)
 
-    waits_same : (xs zs : List Wait) → Reordered xs zs → least s xs ≡ least s zs → StagesSame (turn until xs s tss (Goes tss)) (turn until zs s uss (Goes uss))
+    waits_same : (xs zs : List Wait) → Reordered xs zs → least s xs ≡ least s zs → StagesSame (turn until xs s tss (Goes tss)) (turn until zs s uss (Goes
+        uss))
     waits_same [] [] a e = both_closed r
     waits_same [] (z ∷ zs) a e = fewer (same_length a)
       where
@@ -225,7 +228,8 @@ module _ (c : Code) (steps until : ℕ) where
         subst (λ o. StagesSame (turn_at until (least s (x ∷ xs)) s tss (Goes tss)) (turn_at until o s uss (Goes uss))) e (due_same (least s (x ∷ xs)))
 
     turn_same : StagesSame (turn_taken c steps until s tss) (turn_taken c steps until s uss)
-    turn_same = waits_same (tree_waits tss) (tree_waits uss) (same_waits tss uss r) (least_same s (same_waits tss uss r) (unlike_of (tree_waits uss) (λ n. subst
+    turn_same = waits_same (tree_waits tss) (tree_waits uss) (same_waits tss uss r) (least_same s (same_waits tss uss r) (unlike_of (tree_waits uss) (λ n.
+        subst
         (λ k. k ≤ 1) (sym (trees_count n uss ∙ same_sum (of_number n) tss uss r)) (once n))))
 
   module _ (valid : Valid c) (bytes : TextsAreBytes c) where
@@ -256,14 +260,16 @@ module _ (c : Code) (steps until : ℕ) where
         (turns (turn_taken c steps until) k h)
     turns_same zero g h a b r = a
     turns_same (suc k) g h (both_go {s = s} {tss = tss} {uss = uss} a) b r =
-        let d = one_turn s tss b r in turns_same k (turn_taken c steps until s tss) (turn_taken c steps until s uss) (turn_same s tss uss a (once_of s tss b)) d.0
+        let d = one_turn s tss b r in turns_same k (turn_taken c steps until s tss) (turn_taken c steps until s uss) (turn_same s tss uss a (once_of s tss
+        b)) d.0
         d.1
     turns_same (suc k) g h (both_closed a) b r = both_closed a
     turns_same (suc k) g h both_broken b r = both_broken
     turns_same (suc k) g h both_amiss b r = both_amiss
 
 pub turns_reordered : TurnsReordered
-turns_reordered c steps until k s tss uss valid bytes a r = turns_same c steps until valid bytes k (going s tss) (going s uss) (both_go r) (λ n. bare (trees_sum
+turns_reordered c steps until k s tss uss valid bytes a r = turns_same c steps until valid bytes k (going s tss) (going s uss) (both_go r) (λ n. bare
+    (trees_sum
     (of_number n) tss) (one (ltn n s.clock.next)) (a.waits n)) a.rooted
   where
     bare : (i k : ℕ) → i ≤ k → i + 0 ≤ k

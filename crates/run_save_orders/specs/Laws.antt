@@ -24,12 +24,14 @@ abbrev pub SameButOrder : Forest → Forest → Type 0
 SameButOrder tss uss = Reordered (filled tss) (filled uss)
 
 pub data StagesSame : Stage Forest → Stage Forest → Type 0 where
-  both_go : {s : State} {tss uss : Forest} → SameButOrder tss uss → StagesSame (going s tss) (going s uss)
-  both_closed : {e : _} {s : State} {tss uss : Forest} → SameButOrder tss uss → StagesSame (closed e s tss) (closed e s uss)
+  both_go : {s : State} {tss uss : Forest} →
+      SameButOrder tss uss → StagesSame (going s tss) (going s uss)
+  both_closed : {e : _} {s : State} {tss uss : Forest} →
+      SameButOrder tss uss → StagesSame (closed e s tss) (closed e s uss)
   both_broken : {e : _} {s : State} → StagesSame (broken e s) (broken e s)
   both_amiss : {s : State} → StagesSame (amiss s) (amiss s)
 
--- what a run goes on from: parents stand behind their children
+-- what a run goes on from: parents stand behind their children, and no wait stands twice
 pub record CanTurn (s : State) (tss : Forest) : Type 0 where
   pub rooted : TreesRooted s.clock.left tss
   pub waits : WaitsAre s tss
