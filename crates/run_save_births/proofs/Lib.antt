@@ -1,0 +1,4 @@
+pub mod Ends
+pub mod Acts
+pub mod Apart
+pub mod Runs

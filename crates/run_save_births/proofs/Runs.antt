@@ -1,0 +1,253 @@
+-- Births and numbers in every state of a run.
+use Rattle.std.proofs.Common.{◌≡◌, ◌⊎◌, ℕ, zero, suc, List, [], ◌∷◌, ◌++◌, Option, Some, None, Bool, true, false, cond, nat_lt, refl, ap, subst, ◌∙◌}
+use Rattle.std.proofs.Common.{arith}
+use Rattle.std.specs.Prelude.{ℤ, slice_get}
+use mathlib.Core.Logic.{inl, inr}
+use Rattle.verse_code.specs.declared.codes.Func.{Func}
+use Rattle.verse_code.specs.declared.codes.Code.{Code}
+use Rattle.verse_value.specs.Val.{Val}
+use Rattle.verse_value.specs.declared.runs.Ending.TheVariants as ending
+use Rattle.verse_meaning_state.specs.State.{State, begun, spending, stepped, at_moment}
+use Rattle.verse_meaning_state.specs.Waits.{Wait, Due, least}
+use Rattle.verse_meaning_state.specs.Turns.{Stage, going, closed, broken, amiss, turn, turn_at, turns}
+use Rattle.verse_code_machine.specs.Tasks.{Who, Thread, Task, Machine, Step, Next, Over, Turn, tree_waits}
+use Rattle.verse_code_machine.specs.Frames.{on_there}
+use Rattle.verse_code_machine.specs.Ends.{woken_in}
+use Rattle.verse_code_machine.specs.Runs.{step, carried, room, Forest, stage_of, turn_taken, main_starts, started, mach_after}
+use Rattle.run_save_shots.specs.Lists.{Each}
+use Rattle.run_save_births.specs.Births.{births_of, KeepsBirth, NoChild, IsBorn, AreBorn}
+use Rattle.run_save_births.specs.Everywhere.{TasksAre, TreesAre, MachineIs, Stands, Unborn, NotChild, TreesApart, StepApart}
+use Rattle.run_save_births.specs.Laws.{OperationIsBorn, StageIsBorn, RunIsBorn, BirthsGoOn}
+use Rattle.run_save_births.proofs.Ends.{Low, new_root, others, spending_low, woken_in_low}
+use Rattle.run_save_births.proofs.Acts.{there_low, act_low}
+use Rattle.run_save_births.proofs.Apart.{out, trees_lower, same_number, same_paths}
+
+abbrev StageApart : List ℕ → ℕ → Stage Forest → Type 0
+StageApart path n (going s tss) = TreesApart path n s.clock.left tss
+StageApart path n (closed e s tss) = TreesApart path n s.clock.left tss
+StageApart path n (broken e s) = Unit {0}
+StageApart path n (amiss s) = Unit {0}
+
+step_low : (c : Code) (m : Machine) (T : Who → List ℕ → Type 0) (drops : (w : Who) (i k : ℕ) (ns : List ℕ) → T w (i ∷ k ∷ ns) → T w (k ∷ ns)) →
+    MachineIs T m → Low m.state.clock.left T drops (step c m)
+step_low c m T drops h = there_low m.state.clock.left T drops (slice_get c.ops m.frame.place) m.state _ (λ op. act_low m.state.clock.left T drops m.who
+    m.world m.state m.frame.life m.frame.place m.frame.handlers m.below refl (h.frames.0, h.frames.1.0) h.frames.1.1 h.world c op m.frame.locals m.frame.stack)
+
+pub operation_is_born : OperationIsBorn
+operation_is_born c path n m a = out path n m.state.clock.left (step c m) (λ T. MachineIs T m) (step_low c m) a
+
+module _ (c : Code) (path : List ℕ) (n : ℕ) where
+  woken_apart : (i : ℕ) (v : Val) (s : State) (tss : Forest) → TreesApart path n s.clock.left tss → StepApart path n (woken_in i v [] tss s)
+  woken_apart i v s tss a = out path n s.clock.left (woken_in i v [] tss s) (λ T. TreesAre T tss) (λ T drops h. woken_in_low s.clock.left T drops i v [] tss
+      s refl tt h) a
+
+  main_apart : (ns : List ℤ) (steps : ℕ) (f : Option Func) → StepApart path n (on_there f (begun steps) (λ f. main_starts ns (begun steps) f))
+  main_apart ns steps f = out path n steps (on_there f (begun steps) (λ f. main_starts ns (begun steps) f)) (λ T. Unit {0})
+      (λ T drops h. there_low steps T drops f (begun steps) _ (λ (f : Func). spending_low steps T drops steps (begun steps) _ refl (λ l d. record {
+        holds = (new_root d, ((tt, tt), others steps T drops tt tt tt tt tt));
+      }))) (inl tt)
+
+  carried_apart : (k : ℕ) (q : Step) → StepApart path n q → StepApart path n (carried c k q)
+  carried_apart zero q h = h
+  carried_apart (suc k) (Next m) h = carried_apart k (step c m) (operation_is_born c path n m h)
+  carried_apart (suc k) (Over e s) h = h
+  carried_apart (suc k) (Turn s tss) h = h
+
+  stage_apart : (q : Step) → StepApart path n q → StageApart path n (stage_of q)
+  stage_apart (Next m) h = tt
+  stage_apart (Over e s) h = h
+  stage_apart (Turn s tss) h = h
+
+  spent_apart : (steps left : ℕ) (s : State) (tss : Forest) (d : Due) → s.clock.left ≡ left → TreesApart path n s.clock.left tss →
+      StageApart path n (spending left s (closed ending.Steps s tss) (λ s. stage_of (carried c (room c steps) (woken_in d.number d.given.value [] tss
+      (at_moment d.given.moment s)))))
+  spent_apart steps zero s tss d e h = h
+  spent_apart steps (suc l) s tss d e h = stage_apart _ (carried_apart (room c steps) _ (woken_apart d.number d.given.value (at_moment d.given.moment
+      (stepped l s)) tss (trees_lower path n l s.clock.left tss (omega (arith, e)) h)))
+
+  late_apart : (late : Bool) (g h : Stage Forest) → StageApart path n g → StageApart path n h → StageApart path n (cond late g h)
+  late_apart true g h a b = a
+  late_apart false g h a b = b
+
+  due_apart : (steps until : ℕ) (s : State) (tss : Forest) (d : Option Due) → TreesApart path n s.clock.left tss →
+      StageApart path n (turn_at until d s tss (λ due s. stage_of (carried c (room c steps) (woken_in due.number due.given.value [] tss s))))
+  due_apart steps until s tss None h = h
+  due_apart steps until s tss (Some d) h = late_apart (nat_lt until d.given.moment) _ _ h (spent_apart steps s.clock.left s tss d refl h)
+
+  turn_apart : (steps until : ℕ) (s : State) (tss : Forest) (ws : List Wait) → TreesApart path n s.clock.left tss →
+      StageApart path n (turn until ws s tss (λ due s. stage_of (carried c (room c steps) (woken_in due.number due.given.value [] tss s))))
+  turn_apart steps until s tss [] h = h
+  turn_apart steps until s tss (w ∷ ws) h = due_apart steps until s tss (least s (w ∷ ws)) h
+
+  turns_apart : (steps until k : ℕ) (g : Stage Forest) → StageApart path n g → StageApart path n (turns (turn_taken c steps until) k g)
+  turns_apart steps until zero g h = h
+  turns_apart steps until (suc k) (going s tss) h =
+      turns_apart steps until k (turn_taken c steps until s tss) (turn_apart steps until s tss (tree_waits tss) h)
+  turns_apart steps until (suc k) (closed e s tss) h = h
+  turns_apart steps until (suc k) (broken e s) h = h
+  turns_apart steps until (suc k) (amiss s) h = h
+
+  started_apart : (ns : List ℤ) (steps : ℕ) → StageApart path n (started c ns steps)
+  started_apart ns steps = stage_apart _ (carried_apart (room c steps) _ (main_apart ns steps (slice_get c.functions c.main)))
+
+-- ---- for all paths and numbers
+
+-- of a task of the trees
+each_here : {A : Type 0} (P : A → Type 0) (front : List A) (x : A) (back : List A) → Each P (front ++ x ∷ back) → P x
+each_here P [] x back a = a.0
+each_here P (y ∷ front) x back a = each_here P front x back a.1
+
+module _ (left : ℕ) (tss : Forest) where
+  -- from what holds of each task to what holds of all, for one path and number
+  module _ (path : List ℕ) (n : ℕ) where
+    abbrev Other : List ℕ → Type 0
+    Other ns = Each (λ k. k ≡ n → ⊥) ns
+
+    births_differ : (ns : List ℕ) → Each (NoChild tss path) ns → Other ns ⊎ NoChild tss path n
+    births_differ [] a = inl tt
+    births_differ (k ∷ ns) a = by_number (same_number k n) (births_differ ns a.1)
+      where
+        by_number : (k ≡ n) ⊎ (k ≡ n → ⊥) → Other ns ⊎ NoChild tss path n → Other (k ∷ ns) ⊎ NoChild tss path n
+        by_number (inl e) h = inr (subst (NoChild tss path) e a.0)
+        by_number (inr f) (inl h) = inl (f, h)
+        by_number (inr f) (inr h) = inr h
+
+    stands_of : (x : Thread) → IsBorn left tss x → Stands left x.who (births_of x)
+    stands_of x a = record { rises = a.rises; above = a.above }
+
+    task_apart : (x : Thread) → IsBorn left tss x → Unborn path n left x.who (births_of x) ⊎ NoChild tss path n
+    task_apart x a = by_path (same_paths x.who.path path)
+      where
+        by_births : Other (births_of x) ⊎ NoChild tss path n → Unborn path n left x.who (births_of x) ⊎ NoChild tss path n
+        by_births (inl h) = inl (record { stands = stands_of x a; other = λ e. h })
+        by_births (inr h) = inr h
+
+        by_path : (x.who.path ≡ path) ⊎ (x.who.path ≡ path → ⊥) → Unborn path n left x.who (births_of x) ⊎ NoChild tss path n
+        by_path (inl e) = by_births (births_differ (births_of x) (subst (λ p. Each (NoChild tss p) (births_of x)) e a.apart))
+        by_path (inr f) = inl (record { stands = stands_of x a; other = λ e. absurd (f e) })
+
+    tasks_apart : (ts : List Task) → Each (λ (t : Task). IsBorn left tss t.thread) ts → TasksAre (Unborn path n left) ts ⊎ NoChild tss path n
+    tasks_apart [] a = inl tt
+    tasks_apart (t ∷ ts) a = both (task_apart t.thread a.0) (tasks_apart ts a.1)
+      where
+        both : Unborn path n left t.thread.who (births_of t.thread) ⊎ NoChild tss path n → TasksAre (Unborn path n left) ts ⊎ NoChild tss path n →
+            TasksAre (Unborn path n left) (t ∷ ts) ⊎ NoChild tss path n
+        both (inl x) (inl y) = inl ((x, a.0.keeps), y)
+        both (inl x) (inr y) = inr y
+        both (inr x) y = inr x
+
+    all_apart : (uss : Forest) → Each (Each (λ (t : Task). IsBorn left tss t.thread)) uss → TreesAre (Unborn path n left) uss ⊎ NoChild tss path n
+    all_apart [] a = inl tt
+    all_apart (ts ∷ uss) a = both (tasks_apart ts a.0) (all_apart uss a.1)
+      where
+        both : TasksAre (Unborn path n left) ts ⊎ NoChild tss path n → TreesAre (Unborn path n left) uss ⊎ NoChild tss path n →
+            TreesAre (Unborn path n left) (ts ∷ uss) ⊎ NoChild tss path n
+        both (inl x) (inl y) = inl (x, y)
+        both (inl x) (inr y) = inr y
+        both (inr x) y = inr x
+
+    tasks_not : (ts : List Task) → Each (λ (t : Task). IsBorn left tss t.thread) ts → Each (λ (t : Task). t.thread.who.path ≡ path ++ n ∷ [] → ⊥) ts →
+        TasksAre (NotChild path n left) ts
+    tasks_not [] a b = tt
+    tasks_not (t ∷ ts) a b = ((record { stands = stands_of t.thread a.0; other = b.0 }, a.0.keeps), tasks_not ts a.1 b.1)
+
+    trees_not : (uss : Forest) → Each (Each (λ (t : Task). IsBorn left tss t.thread)) uss → NoChild uss path n → TreesAre (NotChild path n left) uss
+    trees_not [] a b = tt
+    trees_not (ts ∷ uss) a b = (tasks_not ts a.0 b.0, trees_not uss a.1 b.1)
+
+    pub from_born : AreBorn left tss → TreesApart path n left tss
+    from_born a = by_all (all_apart tss a)
+      where
+        by_all : TreesAre (Unborn path n left) tss ⊎ NoChild tss path n → TreesApart path n left tss
+        by_all (inl x) = inl x
+        by_all (inr x) = inr (trees_not tss a x)
+
+    -- and back
+    not_tasks : (ts : List Task) → TasksAre (NotChild path n left) ts → Each (λ (t : Task). t.thread.who.path ≡ path ++ n ∷ [] → ⊥) ts
+    not_tasks [] a = tt
+    not_tasks (t ∷ ts) a = (a.0.0.other, not_tasks ts a.1)
+
+    not_trees : (uss : Forest) → TreesAre (NotChild path n left) uss → NoChild uss path n
+    not_trees [] a = tt
+    not_trees (ts ∷ uss) a = (not_tasks ts a.0, not_trees uss a.1)
+
+  pub trees_each : (T : Who → List ℕ → Type 0) (uss : Forest) → TreesAre T uss → Each (Each (λ (t : Task). T t.thread.who (births_of t.thread) × Each KeepsBirth
+      (t.thread.frame ∷ t.thread.below))) uss
+  trees_each T [] a = tt
+  trees_each T (ts ∷ uss) a = (tasks_each ts a.0, trees_each T uss a.1)
+    where
+      tasks_each : (ts : List Task) → TasksAre T ts → Each (λ (t : Task). T t.thread.who (births_of t.thread) × Each KeepsBirth (t.thread.frame ∷
+          t.thread.below)) ts
+      tasks_each [] a = tt
+      tasks_each (t ∷ ts) a = (a.0, tasks_each ts a.1)
+
+  module _ (apart : (path : List ℕ) (n : ℕ) → TreesApart path n left tss) where
+    -- one task of the trees, and a birth of one of its frames
+    birth_apart : (x : Thread) (ns ms : List ℕ) (k : ℕ) → births_of x ≡ ns ++ k ∷ ms → ((T : Who → List ℕ → Type 0) → TreesAre T tss → T x.who (births_of
+        x)) → NoChild tss x.who.path k
+    birth_apart x ns ms k e there = by_apart (apart x.who.path k)
+      where
+        no : Each (λ i. i ≡ k → ⊥) (births_of x) → ⊥
+        no h = each_here (λ i. i ≡ k → ⊥) ns k ms (subst (Each (λ i. i ≡ k → ⊥)) e h) refl
+
+        by_apart : TreesApart x.who.path k left tss → NoChild tss x.who.path k
+        by_apart (inl a) = absurd (no ((there (Unborn x.who.path k left) a).other refl))
+        by_apart (inr a) = not_trees x.who.path k tss a
+
+    births_apart : (x : Thread) (ns ms : List ℕ) → births_of x ≡ ns ++ ms → ((T : Who → List ℕ → Type 0) → TreesAre T tss → T x.who (births_of x)) →
+        Each (NoChild tss x.who.path) ms
+    births_apart x ns [] e there = tt
+    births_apart x ns (k ∷ ms) e there = (birth_apart x ns ms k e there, births_apart x (ns ++ k ∷ []) ms (e ∙ further ns) there)
+      where
+        further : (ns : List ℕ) → ns ++ k ∷ ms ≡ (ns ++ k ∷ []) ++ ms
+        further [] = refl
+        further (i ∷ ns) = ap (λ xs. i ∷ xs) (further ns)
+
+    thread_born : (x : Thread) → ((T : Who → List ℕ → Type 0) → TreesAre T tss → T x.who (births_of x) × Each KeepsBirth (x.frame ∷ x.below)) → IsBorn left
+        tss x
+    thread_born x there = record {
+      rises = stands.rises;
+      keeps = keeps (apart [] 0);
+      above = stands.above;
+      apart = births_apart x [] (births_of x) refl (λ T a. (there T a).0);
+    }
+      where
+        by_apart : TreesApart [] 0 left tss → Stands left x.who (births_of x)
+        by_apart (inl a) = (there (Unborn [] 0 left) a).0.stands
+        by_apart (inr a) = (there (NotChild [] 0 left) a).0.stands
+
+        stands : Stands left x.who (births_of x)
+        stands = by_apart (apart [] 0)
+
+        keeps : TreesApart [] 0 left tss → Each KeepsBirth (x.frame ∷ x.below)
+        keeps (inl a) = (there (Unborn [] 0 left) a).1
+        keeps (inr a) = (there (NotChild [] 0 left) a).1
+
+    abbrev Held : (Who → List ℕ → Type 0) → Task → Type 0
+    Held T t = T t.thread.who (births_of t.thread) × Each KeepsBirth (t.thread.frame ∷ t.thread.below)
+
+    tasks_born : (ts : List Task) → ((T : Who → List ℕ → Type 0) → TreesAre T tss → Each (Held T) ts) → Each (λ (t : Task). IsBorn left tss t.thread) ts
+    tasks_born [] there = tt
+    tasks_born (t ∷ ts) there = (thread_born t.thread (λ T a. (there T a).0), tasks_born ts (λ T a. (there T a).1))
+
+    all_born : (uss : Forest) → ((T : Who → List ℕ → Type 0) → TreesAre T tss → Each (Each (Held T)) uss) → Each (Each (λ (t : Task). IsBorn left tss
+        t.thread)) uss
+    all_born [] there = tt
+    all_born (ts ∷ uss) there = (tasks_born ts (λ T a. (there T a).0), all_born uss (λ T a. (there T a).1))
+
+    pub to_born : AreBorn left tss
+    to_born = all_born tss (λ T a. trees_each T tss a)
+
+stage_born : (g : Stage Forest) → ((path : List ℕ) (n : ℕ) → StageApart path n g) → StageIsBorn g
+stage_born (going s tss) a = to_born s.clock.left tss a
+stage_born (closed e s tss) a = to_born s.clock.left tss a
+stage_born (broken e s) a = tt
+stage_born (amiss s) a = tt
+
+pub run_is_born : RunIsBorn
+run_is_born c ns steps until k = stage_born (mach_after c ns steps until k) (λ path n. turns_apart c path n steps until k (started c ns steps) (started_apart
+    c path n ns steps))
+
+pub births_go_on : BirthsGoOn
+births_go_on c steps until k s tss a = stage_born (turns (turn_taken c steps until) k (going s tss)) (λ path n. turns_apart c path n steps until k (going s
+    tss) (from_born s.clock.left tss path n a))
