@@ -69,7 +69,8 @@ module _ (h : Kept) (tr : Trace) (l s n : ℕ) where
   size_at : (fs : List Framed) (a : Aside) → IsPast a (at h tr l s n fs) → printed_by (state_of a (at h tr l s n fs)) ≡ printed_size tr
   size_at fs a past =
       let size = size_is a.past tr.kept in
-      omega (arith, past, size)
+      let bytes = past.0 in
+      omega (arith, bytes, size)
 
   pub told : (bytes : List ℕ) (fs : List Framed) → printed_size tr + length (line_bytes n bytes) ≤ 16777216 → (a : Aside) →
       IsPast a (at h tr l s n fs) → line_told bytes (state_of a (at h tr l s n fs)) ≡

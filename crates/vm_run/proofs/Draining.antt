@@ -45,6 +45,13 @@ size_is past ks =
     ap length (printed_both past (map line_of ks)) ∙
     (length-append (printed past) (printed (map line_of ks)) ∙ ap (λ bs. length (printed past) + length bs) (kept_printed ks))
 
+length_lines : (ks : List (ℕ × List ℕ)) → length (map line_of ks) ≡ length ks
+length_lines [] = refl
+length_lines (k ∷ ks) = let h = length_lines ks in omega (arith, h)
+
+count_is : (past : List Line) (ks : List (ℕ × List ℕ)) → length (past ++ map line_of ks) ≡ length past + length ks
+count_is past ks = let sum = length-append past (map line_of ks) in let same = length_lines ks in omega (arith, sum, same)
+
 -- where no mark is open
 kept_gone : (t : Trace) → t.marks ≡ [] → (drained t).kept ≡ []
 kept_gone t e = ap (λ ms. drop (length (outside t.kept ms)) t.kept) e ∙ drop_all (length t.kept) t.kept (omega arith)
@@ -54,6 +61,9 @@ marks_gone t e = ap (λ ms. map (drop (length (outside t.kept ms))) ms) e
 
 bytes_gone : (t : Trace) → t.marks ≡ [] → (drained t).bytes ≡ t.bytes + length (trace.printed t.kept)
 bytes_gone t e = ap (λ ms. t.bytes + length (trace.printed (outside t.kept ms))) e
+
+lines_gone : (t : Trace) → t.marks ≡ [] → (drained t).lines ≡ t.lines + length t.kept
+lines_gone t e = ap (λ ms. t.lines + length (outside t.kept ms)) e
 
 outside_printed : (t : Trace) → t.marks ≡ [] → trace.printed (outside t.kept t.marks) ≡ printed (map line_of t.kept)
 outside_printed t e = ap (λ ms. trace.printed (outside t.kept ms)) e ∙ sym (kept_printed t.kept)
@@ -113,16 +123,22 @@ module _ {H W : Type 0} (state : H → Kept) (pending : W → List Pending) wher
       let same : state_of h.aside v ≡ state_of a u = ap (λ ls. with_lines (state_of h.aside v) ls) (lines ∙ more) in
       let size : length (printed all) ≡ length (printed h.aside.past) + length (trace.printed m.run.trace.kept) =
       ap (λ ls. length (printed ls)) (sym lines) ∙ size_is h.aside.past m.run.trace.kept in
-      let past_is = k.clock.past in
-      let all_past : h.aside.before.bytes + length (printed all) ≡ m.run.trace.bytes + length (trace.printed m.run.trace.kept) =
-      omega (arith, size, past_is) in
+      let count : length all ≡ length h.aside.past + length m.run.trace.kept =
+      ap length (sym lines) ∙ count_is h.aside.past m.run.trace.kept in
+      let bytes_past = k.clock.past.0 in
+      let lines_past = k.clock.past.1 in
+      let bytes_all : h.aside.before.bytes + length (printed all) ≡ m.run.trace.bytes + length (trace.printed m.run.trace.kept) =
+      omega (arith, size, bytes_past) in
+      let lines_all : h.aside.before.lines + length all ≡ m.run.trace.lines + length m.run.trace.kept =
+      omega (arith, count, lines_past) in
       record {
         aside = a;
         same = refl;
         is = h.is ∙ same;
         resting = record {
           clock = record {
-            past = all_past ∙ (sym (bytes_gone m.run.trace none) ∙ sym (ap (λ (t : Trace). t.bytes) e));
+            past = (bytes_all ∙ (sym (bytes_gone m.run.trace none) ∙ sym (ap (λ (t : Trace). t.bytes) e)),
+                lines_all ∙ (sym (lines_gone m.run.trace none) ∙ sym (ap (λ (t : Trace). t.lines) e)));
             next = k.clock.next;
             results = k.clock.results;
             signals = k.clock.signals;

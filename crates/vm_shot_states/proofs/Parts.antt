@@ -17,7 +17,7 @@ use Rattle.vm_scheduler.specs.Frames.{frames_in}
 use Rattle.run_save_shots.specs.Kept.{KeptTask, Kept}
 use Rattle.run_save_shots.specs.Keeping.{kept, Spells}
 use Rattle.vm_shot_laws.proofs.Walking.{tree_walked}
-use Rattle.vm_shot_states.specs.Spelling.{CountsLines, PartsAre, SpellsEach}
+use Rattle.vm_shot_states.specs.Spelling.{PartsAre, SpellsEach}
 
 -- ---- what was printed
 
@@ -37,28 +37,31 @@ bytes_are a v p =
     ap length (printed_both a.past (map line_of v.trace.kept)) ∙
     (length-append (printed a.past) (printed (map line_of v.trace.kept)) ∙
     ap (λ bs. length (printed a.past) + length bs) (kept_printed v.trace.kept)) in
-    omega (arith, p, sum)
+    let bytes = p.0 in
+    omega (arith, bytes, sum)
 
 map_length : (ks : List (ℕ × List ℕ)) → length (map line_of ks) ≡ length ks
 map_length [] = refl
 map_length (k ∷ ks) = let h = map_length ks in omega (arith, h)
 
-lines_are : (a : Aside) (v : View) → CountsLines a v →
+lines_are : (a : Aside) (v : View) → IsPast a v →
     v.trace.lines + length v.trace.kept ≡ a.before.lines + length (a.past ++ map line_of v.trace.kept)
-lines_are a v e =
-    let sum = length-append a.past (map line_of v.trace.kept) in let same = map_length v.trace.kept in omega (arith, e, sum, same)
+lines_are a v p =
+    let sum = length-append a.past (map line_of v.trace.kept) in let same = map_length v.trace.kept in
+    let lines = p.1 in
+    omega (arith, lines, sum, same)
 
 -- ---- all
 
 module _ {W : Type 0} (pending : W → List Pending) where
   pub spelled : (x : Kept) (v : View) (t : Tasks W) → IsTree t.tree → PartsAre x v t → SpellsEach pending x v t
-  spelled x v t tree parts a trees resting counts apart =
+  spelled x v t tree parts a trees resting apart =
       let w = tree_walked (slot_of frames_in) t.tree trees resting.rests tree apart in
       record {
         ordered = w.ordered;
         reordered = w.reordered;
         is = same x (kept (state_of a v) w.ordered) parts.left parts.spent parts.now (parts.next ∙ sym resting.clock.next)
-            (parts.bytes ∙ bytes_are a v resting.clock.past) (parts.lines ∙ lines_are a v counts) parts.cells
+            (parts.bytes ∙ bytes_are a v resting.clock.past) (parts.lines ∙ lines_are a v resting.clock.past) parts.cells
             (parts.spawned ∙ sym resting.clock.results) (parts.tasks ∙ w.same);
       }
     where

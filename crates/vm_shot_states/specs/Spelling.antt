@@ -1,5 +1,5 @@
 -- When what is kept has the parts of a machine, and what it then spells.
-use Rattle.std.specs.Prelude.{◌≡◌, ℕ, ◌+◌, List, length, map, option_map}
+use Rattle.std.specs.Prelude.{◌≡◌, ◌+◌, List, length, map, option_map}
 use Rattle.trace_buf.specs.Trace.{printed_size}
 use Rattle.verse_code_machine.specs.Runs.{Forest}
 use Rattle.sim_clock.specs.declared.waits.Pending.{Pending}
@@ -13,10 +13,6 @@ use Rattle.run_save_shots.specs.Kept.{Kept}
 use Rattle.run_save_shots.specs.Keeping.{Spells}
 use Rattle.vm_shot_laws.specs.Tree.{kept_tasks}
 use Rattle.vm_shot_laws.specs.Laws.{NumbersApart}
-
--- the trace counts the lines that were drained, and those printed before them
-abbrev pub CountsLines : Aside → View → Type 0
-CountsLines a v = a.before.lines + length a.past ≡ v.trace.lines
 
 module _ {W : Type 0} where
   -- numbers, cells, spawned entries and tasks are those of the machine
@@ -35,5 +31,5 @@ module _ {W : Type 0} (pending : W → List Pending) where
   -- each state and trees for which the machine stands, where no two tasks began with as many steps
   -- left
   abbrev pub SpellsEach : Kept → View → Tasks W → Type 0
-  SpellsEach x v t = (a : Aside) (trees : Forest) → Resting pending a trees v t → CountsLines a v →
-      NumbersApart trees → Spells x (state_of a v) trees
+  SpellsEach x v t = (a : Aside) (trees : Forest) → Resting pending a trees v t → NumbersApart trees →
+      Spells x (state_of a v) trees

@@ -135,7 +135,7 @@ module _ {W : Type 0} (pending : W → List Pending) where
         let waits : sleeping (slot_of frames_in) tree ≡ [] = ap (λ z. sleeping (slot_of frames_in) z) tree_is in
         record {
           clock = record {
-            past = sym fresh.bytes;
+            past = (sym fresh.bytes, sym fresh.lines);
             next = sym new.next;
             results = sym (ap (λ z. map (λ o. option_map given_of o) z) new.results);
             signals = sym (ap (λ z. map val_of z) new.signals);

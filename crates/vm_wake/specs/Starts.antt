@@ -16,6 +16,7 @@ pub record Fresh (v : View) : Type 0 where
   pub kept : v.trace.kept ≡ []
   pub marks : v.trace.marks ≡ []
   pub bytes : v.trace.bytes ≡ 0
+  pub lines : v.trace.lines ≡ 0
   pub spent : v.spent ≡ 0
   pub moment : v.moment ≡ 0
   pub left : v.left ≤ 18446744073709551615
