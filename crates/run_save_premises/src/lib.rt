@@ -1,9 +1,10 @@
-//! The texts of a code are of bytes, which its type says, so that no caller of the laws of saved
-//! runs needs it as a premise.
+//! What the laws of saved runs have as premises, and holds of every code and run: texts are of
+//! bytes, and inputs are a value of a run.
 #![tactic(auto)]
 
 ghost use Rattle.std.specs.Prelude.{◌≤◌, ℕ, All};
 ghost use Rattle.run_save_moves.specs.Fine.{TextsAreBytes};
+ghost use Rattle.run_save_premises.specs.Inputs.{FewInputsFit};
 
 use verse_code::codes::Code;
 use verse_code::tables::Table;
@@ -28,3 +29,8 @@ fn are_bytes(text: &[u8])
 {
     let _ = text.is_empty();
 }
+
+/// As many inputs as a run may have are a value of a run.
+pub fn inputs_fit()
+    ensures { FewInputsFit }
+{}

@@ -1,7 +1,7 @@
 use Rattle.std.proofs.Common.{ℕ, ◌≤◌, All, arith, subst, ◌∙◌}
 use Rattle.std.proofs.lemmas.List.{take_all}
 use Rattle.std.proofs.lemmas.List.Elements.{All-more}
-use Rattle.run_save_texts.proofs.all_are_bytes.Goals as goal
+use Rattle.run_save_premises.proofs.all_are_bytes.Goals as goal
 
 pub texts-preserved : goal.texts-preserved
 texts-preserved c = All-more (All (λ (b : ℕ). b ≤ 255)) c.args.texts.now c.texts.text-index _ (omega arith) c.texts.invariant
