@@ -11,8 +11,8 @@ use Rattle.vm_scheduler.specs.Standing.{given_of}
 use Rattle.vm_scheduler.specs.Going.{Resting}
 use Rattle.run_save_shots.specs.Kept.{Kept}
 use Rattle.run_save_shots.specs.Keeping.{Spells}
+use Rattle.run_save_apart.specs.Numbers.{NumbersApart}
 use Rattle.vm_shot_laws.specs.Tree.{kept_tasks}
-use Rattle.vm_shot_laws.specs.Laws.{NumbersApart}
 
 module _ {W : Type 0} where
   -- numbers, cells, spawned entries and tasks are those of the machine
