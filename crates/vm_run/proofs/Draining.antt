@@ -137,8 +137,10 @@ module _ {H W : Type 0} (state : H → Kept) (pending : W → List Pending) wher
         is = h.is ∙ same;
         resting = record {
           clock = record {
-            past = (bytes_all ∙ (sym (bytes_gone m.run.trace none) ∙ sym (ap (λ (t : Trace). t.bytes) e)),
-                lines_all ∙ (sym (lines_gone m.run.trace none) ∙ sym (ap (λ (t : Trace). t.lines) e)));
+            past = (
+              bytes_all ∙ (sym (bytes_gone m.run.trace none) ∙ sym (ap (λ (t : Trace). t.bytes) e)),
+              lines_all ∙ (sym (lines_gone m.run.trace none) ∙ sym (ap (λ (t : Trace). t.lines) e)),
+            );
             next = k.clock.next;
             results = k.clock.results;
             signals = k.clock.signals;
