@@ -24,8 +24,8 @@ use Rattle.run_save_ordered.proofs.Bare.{same_trees}
 use Rattle.run_save_roots.specs.Roots.{RunSorted}
 use Rattle.verse_code_machine_parents.specs.Parents.{AllStill, TreesRooted}
 use Rattle.verse_code_machine_saved.specs.Pairing.{TablePairs}
-use Rattle.run_save_same.specs.Laws.{Held, SpelledTreesAreTheSame, SpelledRunIsTheSame, KeptRunGoesOn, HeldGoesOn}
-use Rattle.run_save_same.specs.Laws.{HeldRunGoesOn}
+use Rattle.run_save_same.specs.Laws.{SpelledTreesAreTheSame, SpelledRunIsTheSame, KeptRunGoesOn, HeldGoesOn}
+use Rattle.run_save_same.specs.Laws.{StoppedRunIsHeld, HeldRunGoesOn}
 use Rattle.run_save_same.proofs.Same.{own_trees_rooted}
 
 pub spelled_run_is_the_same : TablePairs → SpelledTreesAreTheSame → KeptIsSameButOrder → RunReordered → RunSorted →
@@ -41,19 +41,20 @@ spelled_run_is_the_same pairs same order reordered sorted c steps until v s tss 
     (apart s) tss (filled y.ordered) valid bytes (record { rooted = h.savable.rooted; waits = h.savable.waits })
     (order s tss x y)))
 
-pub kept_run_goes_on : RunIsSavable → RunIsOrderly → RunIsBorn → RunKeepsArms → RunResumed → SpelledRunIsTheSame →
-    KeptRunGoesOn
-kept_run_goes_on savable orderly born arms resumed same c ns steps u v s tss x valid bytes inputs le short e y =
-    let a = subst (StageSavable c steps u) e (savable c ns steps u (suc steps) valid bytes inputs short) in
-    let h : Held c steps u s tss = record {
-      savable = a;
-      orderly = subst StageOrderly e (orderly c ns steps u (suc steps) valid bytes);
-      born = subst StageIsBorn e (born c ns steps u (suc steps));
-      arms = subst StageIs e (arms c ns steps u (suc steps));
-    } in
+pub stopped_run_is_held : RunIsSavable → RunIsOrderly → RunIsBorn → RunKeepsArms → StoppedRunIsHeld
+stopped_run_is_held savable orderly born arms c ns steps u s tss valid bytes inputs short e = record {
+  savable = subst (StageSavable c steps u) e (savable c ns steps u (suc steps) valid bytes inputs short);
+  orderly = subst StageOrderly e (orderly c ns steps u (suc steps) valid bytes);
+  born = subst StageIsBorn e (born c ns steps u (suc steps));
+  arms = subst StageIs e (arms c ns steps u (suc steps));
+}
+
+pub kept_run_goes_on : StoppedRunIsHeld → RunResumed → SpelledRunIsTheSame → KeptRunGoesOn
+kept_run_goes_on held resumed same c ns steps u v s tss x valid bytes inputs le short e y =
+    let h = held c ns steps u s tss valid bytes inputs short e in
     ap (behind s.memory.trace) (same c steps u v s tss x valid bytes h y) ∙
-    (resumed c ns steps u v s tss tss valid le e (same_trees c a.scene s.clock.next s tss
-    a.trees)).1
+    (resumed c ns steps u v s tss tss valid le e
+    (same_trees c h.savable.scene s.clock.next s tss h.savable.trees)).1
 
 pub held_goes_on : SavableGoesOn → OrderlyGoesOn → BirthsGoOn → ArmsGoOn → HeldGoesOn
 held_goes_on savable orderly born arms c steps u w s t tss uss valid bytes le short h e = record {

@@ -29,6 +29,12 @@ pub record Held (c : Code) (steps until : ℕ) (s : State) (tss : Forest) : Type
   pub born : AreBorn s.clock.left tss
   pub arms : TreesAre s.clock.left tss
 
+-- so it is where a run stopped at its horizon
+abbrev pub StoppedRunIsHeld : Type 0
+StoppedRunIsHeld = (c : Code) (ns : List ℤ) (steps u : ℕ) (s : State) (tss : Forest) → Valid c →
+    TextsAreBytes c → InputsFit ns → u ≤ MOST_NOW → Stopped c ns steps u s tss →
+    Held c steps u s tss
+
 -- The trees that are spelled of what is kept of such a state are its trees, in the order in which
 -- they were kept and without the empty ones, with other numbers: beneath each task in the same
 -- order. And parents stand behind their children.

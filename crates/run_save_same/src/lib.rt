@@ -4,7 +4,8 @@
 #![tactic(auto)]
 
 ghost use Rattle.run_save_same.specs.Laws.{SpelledTreesAreTheSame, SpelledRunIsTheSame};
-ghost use Rattle.run_save_same.specs.Laws.{KeptRunGoesOn, HeldGoesOn, HeldRunGoesOn};
+ghost use Rattle.run_save_same.specs.Laws.{StoppedRunIsHeld, KeptRunGoesOn, HeldGoesOn};
+ghost use Rattle.run_save_same.specs.Laws.{HeldRunGoesOn};
 
 use run_save_births::{births_go_on, run_is_born};
 use run_save_fits::{run_is_savable, savable_goes_on};
@@ -36,15 +37,22 @@ pub fn spelled_run_is_the_same()
     run_sorted();
 }
 
-/// A run that stopped at its horizon, gone on from what is kept of it, is the run to the later
-/// horizon.
-pub fn kept_run_goes_on()
-    ensures { KeptRunGoesOn }
+/// Where a run stopped at its horizon there is such a state.
+pub fn stopped_run_is_held()
+    ensures { StoppedRunIsHeld }
 {
     run_is_savable();
     run_is_orderly();
     run_is_born();
     run_keeps_arms();
+}
+
+/// A run that stopped at its horizon, gone on from what is kept of it, is the run to the later
+/// horizon.
+pub fn kept_run_goes_on()
+    ensures { KeptRunGoesOn }
+{
+    stopped_run_is_held();
     run_resumed();
     spelled_run_is_the_same();
 }
