@@ -1,0 +1,9 @@
+mod Lists
+mod Threads
+mod Slots
+mod Trees
+mod Roots
+mod Clocks
+pub mod Suiting
+pub mod Restoring
+pub mod Ends
