@@ -1,7 +1,7 @@
 //! The children of a suspended task that is kept: those that are arms of its group began last.
 //! Definitions and a law alone: of the definitions `Laws` says it.
 //!
-//! The public lemmas, which crates above cite, are those of `proofs/Arms`.
+//! The public lemmas, which crates above cite, are those of `proofs/Firsts` and `proofs/Arms`.
 #![tactic(auto)]
 
 ghost use Rattle.run_save_arms.specs.Laws.{ArmsAreYoungest};

@@ -1,4 +1,5 @@
 mod Lists
+mod Groups
 mod Threads
 mod Slots
 mod Trees

@@ -7,10 +7,15 @@
 
 pub mod tables;
 
-ghost use Rattle.run_save_trees.specs.Laws.{TasksStand};
+ghost use Rattle.run_save_trees.specs.Laws.{TasksStand, TasksSuit};
 
 /// All tasks of a fitting shot, put one after another, stand for the trees that it spells, and
 /// their waits are those of a clock.
 pub fn tasks_stand()
     ensures { TasksStand }
+{}
+
+/// Each task of a shot that fits a valid code suits its numbers: the tree can keep it with them.
+pub fn tasks_suit()
+    ensures { TasksSuit }
 {}
