@@ -1,9 +1,9 @@
 -- A task of a list, and the first one that passes a test.
-use Rattle.std.proofs.Common.{◌≡◌, ℕ, zero, suc, ◌+◌, ◌*◌, ◌<◌, ◌≤◌, Bool, true, false, cond, List, [], ◌∷◌, ◌++◌, length, Option, Some}
+use Rattle.std.proofs.Common.{◌≡◌, ℕ, suc, ◌+◌, ◌<◌, ◌≤◌, Bool, true, false, cond, List, [], ◌∷◌, ◌++◌, length, Some}
 use Rattle.std.proofs.Common.{refl, sym, ap, ◌∙◌, arith}
 use Rattle.std.proofs.Math.Nat.{mul-suc}
 use Rattle.verse_meaning_state.specs.Waits.{nth}
-use Rattle.run_save_shots.specs.Lists.{Each, EachAt, EachTwo, from, count}
+use Rattle.run_save_shots.specs.Lists.{Each, EachAt, EachTwo, count}
 use Rattle.run_save_shots.specs.Kept.{KeptTask, Kept}
 use Rattle.run_save_shots.specs.Naming.{number_at}
 use Rattle.run_save_numbers.proofs.Firsts.{first, first_step, first_least, number_more}

@@ -75,8 +75,14 @@ module _ (c : Code) (all : List TaskShot) (ns : List TaskNumbers) where
   pub long : Some → length all ≡ length ns
   long some =
       let a = some.1 in
-      omega (arith, length-map all task_of, length-map ns numbers_of, ap length a.numbers, numbers_long some.0 0 (some.0).tasks,
-      ap length a.tasks)
+      omega (
+        arith,
+        length-map all task_of,
+        length-map ns numbers_of,
+        ap length a.numbers,
+        numbers_long some.0 0 (some.0).tasks,
+        ap length a.tasks,
+      )
 
   pub first : (r : Restored) → IsEmpty r → (left : List TaskShot) → reverse left ≡ all → SoFar left r
   first r e left f s a =

@@ -13,7 +13,7 @@ waits_with id None = []
 waits_with id (Some w) = record { number = w.0; task = id; kind = w.1 } ∷ []
 
 -- these are the tasks of a fitting shot, and their numbers there
-pub record AreOf (c : Code) (s : Kept) (tasks : List KeptTask) (ns : List Numbers) : Type 0 where
+pub record AreOf (c : Code) (s : Kept) (ts : List KeptTask) (ns : List Numbers) : Type 0 where
   pub fits : Fits c s
-  pub tasks : s.tasks ≡ tasks
+  pub tasks : s.tasks ≡ ts
   pub numbers : ns ≡ numbers_from s 0 s.tasks

@@ -24,12 +24,12 @@ module _ {W : Type 0} (pending : W → List Pending) where
 
   -- it has these tasks, which are all suspended, with their waits, and these results
   pub record Holds (r : Restored) (results : List (Option Given)) (next : ℕ) (t : Tasks W) : Type 0
-      where
-    pub tree : t.tree ≡ r.tree
-    pub waits : Starts r.waits.items (pending t.gone.waits)
-    pub frames : t.gone.frames.items ≡ []
-    pub ups : t.ups.items ≡ []
-    pub after : t.after ≡ None
-    pub next_is : t.next ≡ next
-    pub results_are : t.results.items ≡ results
-    pub signals : t.signals.items ≡ []
+    where
+      pub tree : t.tree ≡ r.tree
+      pub waits : Starts r.waits.items (pending t.gone.waits)
+      pub frames : t.gone.frames.items ≡ []
+      pub ups : t.ups.items ≡ []
+      pub after : t.after ≡ None
+      pub next_is : t.next ≡ next
+      pub results_are : t.results.items ≡ results
+      pub signals : t.signals.items ≡ []

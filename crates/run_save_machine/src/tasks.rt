@@ -41,11 +41,7 @@ fn put(
 }
 
 /// The wait of a task, if it has one.
-fn add_wait(
-    waits: &mut Vec<Wait>,
-    id: usize,
-    wait: Option<(u64, WaitKind)>,
-) -> Result<(), Memory>
+fn add_wait(waits: &mut Vec<Wait>, id: usize, wait: Option<(u64, WaitKind)>) -> Result<(), Memory>
     ensures { OnOk result (waits.new.items ≡ waits.old.items ++ waits_with id wait) }
 {
     if let Some((number, kind)) = wait {

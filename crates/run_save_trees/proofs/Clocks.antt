@@ -1,10 +1,9 @@
 -- The waits of the tasks that were put, and those of a clock.
-use Rattle.std.proofs.Common.{◌≡◌, ℕ, zero, suc, ◌+◌, ◌<◌, ◌≤◌, Bool, true, false, eqb, List, [], ◌∷◌, ◌++◌, length, map, get_or, Option, Some, None}
-use Rattle.std.proofs.Common.{refl, sym, ap, subst, ◌∙◌, arith, ◌⊎◌, inl, inr}
+use Rattle.std.proofs.Common.{◌≡◌, ℕ, zero, suc, ◌<◌, false, eqb, List, [], ◌∷◌, ◌++◌, length, map, get_or, None}
+use Rattle.std.proofs.Common.{refl, sym, ap, subst, ◌∙◌, arith, inl, inr}
 use Rattle.std.proofs.lemmas.Bool.{ne_eqb}
 use Rattle.std.proofs.lemmas.List.{append-nil, length-append}
 use Rattle.std.proofs.lemmas.List.Sorted.{Contains-permutation, length_permutation}
-use Rattle.std.proofs.lemmas.Map.Keys.{IsDistinct-cons}
 use Rattle.std.specs.List.{IsDistinct, Contains, AllByRecursion}
 use Rattle.std.specs.List.Sorted.{IsPermutation}
 use Rattle.sim_clock.specs.declared.waits.Wait.{Wait}
@@ -13,24 +12,21 @@ use Rattle.sim_clock.specs.declared.waits.WaitKind.TheVariants as kind
 use Rattle.sim_clock.specs.declared.waits.Pending.{Pending}
 use Rattle.sim_clock.specs.Pending.{IsAboveAll, given}
 use Rattle.verse_code.specs.declared.codes.Code.{Code}
-use Rattle.verse_meaning_state.specs.State.{State}
-use Rattle.verse_meaning_state.specs.Waits.{Cause, till, never, done, heard, nth, given_by, due_of, Wait as Waiting}
-use Rattle.verse_code_machine.specs.Tasks.{Frame, Part, Rest, asleep}
-use Rattle.vm_tasks_laws.specs.Slots.{by_itself}
+use Rattle.verse_meaning_state.specs.Waits.{Cause, till, never, done, heard, given_by, due_of, Wait as Waiting}
+use Rattle.verse_code_machine.specs.Tasks.{Part, Rest}
 use Rattle.vm_tasks_laws.specs.Standing.{Deal, none_dealt, one_dealt}
-use Rattle.vm_tasks_laws.specs.Clocks.{cause_of, wait_of, value_for, IsDue, IsTimed, AllTimed, AllAbove, Rising, told, with_rest, Timed}
-use Rattle.vm_tasks_laws.proofs.Lists as laws
+use Rattle.vm_tasks_laws.specs.Clocks.{cause_of, wait_of, IsDue, AllTimed, AllAbove, Rising, told, with_rest, Timed}
 use Rattle.vm_tasks_laws.proofs.Trees.{deal_first, move, move_back}
 use Rattle.vm_tasks_laws.proofs.Deals.{deal_back}
-use Rattle.run_save_shots.specs.Lists.{Each, EachTwo, AreDistinct}
+use Rattle.run_save_shots.specs.Lists.{Each, AreDistinct}
 use Rattle.run_save_shots.specs.Kept.{KeptRest, leaf, group, KeptTask, Kept}
 use Rattle.run_save_shots.specs.Fitting.{Stand, calls, sleeps, stays, awaits_task, awaits_event, gathers, goes_on, CauseFits, waits_in, task_stand}
 use Rattle.run_save_shots.specs.Spelling.{gathered, parts_from, rest, state}
 use Rattle.run_save_spelled.specs.Growing.{In, first_in, later_in}
 use Rattle.run_save_spelled.proofs.Forests.{in_left, in_right, in_parts, split}
-use Rattle.run_save_waits.specs.Started.{number_of, started, AllBelow, Rises, IsInOrder, Starts}
+use Rattle.run_save_waits.specs.Started.{number_of, started, AllBelow, Rises, Starts}
 use Rattle.run_save_trees.specs.Restoring.{kind_of, waits_of}
-use Rattle.run_save_trees.proofs.Lists.{each_laws, laws_each, each_weaker}
+use Rattle.run_save_trees.proofs.Lists.{each_laws, laws_each}
 
 -- ---- one wait
 

@@ -1,5 +1,5 @@
 -- All tasks are put.
-use Rattle.std.proofs.Common.{◌≡◌, ℕ, List, [], ◌∷◌, ◌++◌, length, map, Some, refl, sym, ap, subst, ◌∙◌}
+use Rattle.std.proofs.Common.{◌≡◌, ℕ, List, [], ◌∷◌, map, Some, sym, ap, subst, ◌∙◌}
 use Rattle.std.proofs.lemmas.List.{append-nil}
 use Rattle.task_tree.specs.Tasks.{Task}
 use Rattle.verse_code.specs.declared.codes.Code.{Code}
@@ -11,12 +11,11 @@ use Rattle.vm_scheduler.specs.Standing.{Tree, Fine, AllFine}
 use Rattle.run_save_shots.specs.Lists.{Each, AreDistinct, count}
 use Rattle.run_save_shots.specs.Kept.{KeptTask, Kept}
 use Rattle.run_save_shots.specs.Fitting.{is_root, waits_in, Fits}
-use Rattle.run_save_numbers.specs.Numbers.{numbers}
 use Rattle.run_save_waits.specs.Started.{number_of}
 use Rattle.run_save_trees.specs.declared.tables.Restored.{Restored}
 use Rattle.run_save_trees.specs.Restoring.{IsEmpty, AllPut, none_put, one_put}
 use Rattle.run_save_trees.specs.Laws.{StandsFor}
-use Rattle.run_save_trees.proofs.Roots.{is_spawned, roots_untold}
+use Rattle.run_save_trees.proofs.Roots.{roots_untold}
 use Rattle.run_save_trees.proofs.Clocks.{distinct_is, clock_timed}
 use Rattle.run_save_trees.proofs.Restoring.{slot, Restoring, begins, goes_on}
 

@@ -1,9 +1,9 @@
 -- Plain lists.
-use Rattle.std.proofs.Common.{◌≡◌, ℕ, zero, suc, ◌+◌, ◌<◌, ◌≤◌, Bool, true, false, cond, List, [], ◌∷◌, ◌++◌, length, get_or, Option, Some, None}
-use Rattle.std.proofs.Common.{refl, sym, ap, subst, ◌∙◌, arith}
+use Rattle.std.proofs.Common.{◌≡◌, ℕ, zero, suc, ◌<◌, Bool, true, false, cond, List, [], ◌∷◌, ◌++◌, length, get_or, Some}
+use Rattle.std.proofs.Common.{refl, ap, ◌∙◌, arith}
 use Rattle.verse_meaning_state.specs.Waits.{nth}
 use Rattle.vm_tasks_laws.proofs.Lists as laws
-use Rattle.run_save_shots.specs.Lists.{Each, EachAt, count}
+use Rattle.run_save_shots.specs.Lists.{Each, count}
 
 module _ {A : Type 0} where
   pub nth_old : (xs : List A) (y : A) (p : ℕ) → p < length xs → nth (xs ++ y ∷ []) p ≡ nth xs p

@@ -1,14 +1,13 @@
 -- The tasks that were put so far, and one more.
-use Rattle.std.proofs.Common.{◌≡◌, ℕ, zero, suc, ◌+◌, ◌*◌, ◌<◌, ◌≤◌, Bool, true, false, ◌&&◌, cond, List, [], ◌∷◌, ◌++◌, length, map, get_or}
+use Rattle.std.proofs.Common.{◌≡◌, ℕ, suc, ◌+◌, ◌<◌, ◌≤◌, cond, List, [], ◌∷◌, ◌++◌, length, map, get_or}
 use Rattle.std.proofs.Common.{Option, Some, None, refl, sym, ap, subst, ◌∙◌, arith, ◌⊎◌, inl, inr, append_assoc}
 use Rattle.std.proofs.lemmas.Bool.{cases_lt}
 use Rattle.std.proofs.lemmas.List.{length-append, get_or_push}
 use Rattle.std.specs.Prelude.{is_some}
-use Rattle.task_tree.specs.Tasks.{Task, task_at, suits}
+use Rattle.task_tree.specs.Tasks.{Task, task_at}
 use Rattle.task_tree.specs.Removing.{Added}
-use Rattle.sim_clock.specs.declared.waits.Wait.{Wait}
 use Rattle.verse_code.specs.declared.codes.Code.{Code}
-use Rattle.verse_meaning_state.specs.Waits.{Cause, nth, Wait as Waiting}
+use Rattle.verse_meaning_state.specs.Waits.{nth}
 use Rattle.verse_code_machine.specs.Tasks as m
 use Rattle.verse_code_machine.specs.Tasks.{Who, Rest, root_named, child_named}
 use Rattle.verse_code_machine.specs.Runs.{Forest}
@@ -20,16 +19,15 @@ use Rattle.vm_tasks_laws.proofs.Deals.{sleeping_append}
 use Rattle.vm_frames.specs.Framed.{Framed}
 use Rattle.vm_tasks.specs.declared.slots.Slot.{Slot}
 use Rattle.vm_tasks.specs.View.{slot_of}
-use Rattle.vm_tasks.specs.Putting.{put_task, PutRoot, PutPart}
+use Rattle.vm_tasks.specs.Putting.{put_task}
 use Rattle.vm_scheduler.specs.Frames.{frames_in}
 use Rattle.vm_scheduler.specs.Standing.{Tree, Fine}
 use Rattle.run_save_shots.specs.Lists.{Each, EachAt, count}
-use Rattle.run_save_shots.specs.Kept.{KeptRest, leaf, KeptTask, Kept}
-use Rattle.run_save_shots.specs.Fitting.{RestFits, CauseFits, TaskFits, ParentBefore, is_root, waits_in, task_stand, Fits}
+use Rattle.run_save_shots.specs.Kept.{KeptTask, Kept}
+use Rattle.run_save_shots.specs.Fitting.{RestFits, TaskFits, ParentBefore, is_root, waits_in, task_stand, Fits}
 use Rattle.run_save_shots.specs.Naming.{number_at, named, parent_in}
-use Rattle.run_save_shots.specs.Spelling.{before_parent, rest, who, tasks_from, planted, grown, trees}
+use Rattle.run_save_shots.specs.Spelling.{rest, who, tasks_from, planted, grown, trees}
 use Rattle.run_save_spelled.specs.Growing.{In, first_in, later_in, Sprouts}
-use Rattle.run_save_spelled.specs.Growing as growing
 use Rattle.run_save_spelled.proofs.Growing.{Holds, none_held, part_held, one_held, planted_root, planted_part}
 use Rattle.run_save_spelled.proofs.Sprouting.{Spelled, spelled, some, who_number, all_sprout}
 use Rattle.run_save_puts.specs.Puts.{IsKept, Unlike}
@@ -39,7 +37,7 @@ use Rattle.run_save_arms.specs.Laws.{above}
 use Rattle.run_save_arms.proofs.Arms.{arms_youngest}
 use Rattle.run_save_arms.proofs.Firsts.{each_at_here, next}
 use Rattle.run_save_waits.specs.Started.{number_of as wait_number}
-use Rattle.run_save_slots.specs.Slots.{root_of, IsMade}
+use Rattle.run_save_slots.specs.Slots.{IsMade}
 use Rattle.run_save_trees.specs.declared.tables.Restored.{Restored}
 use Rattle.run_save_trees.specs.Restoring.{waits_of, HasParent, IsPut, WithTask, IsEmpty}
 use Rattle.run_save_trees.proofs.Lists.{nth_old, nth_new, get_old, each_weaker, each_append, each_here, count_between, count_last, later}

@@ -13,7 +13,7 @@ use Rattle.vm_tasks.specs.declared.slots.Root.{Root}
 use Rattle.vm_tasks.specs.declared.slots.Root.TheVariants.{Part as APart, Main, Spawned}
 use Rattle.vm_scheduler.specs.declared.tasks.Given.{Given}
 use Rattle.vm_scheduler.specs.Standing.{Tree, given_of, OfEntry, AllUntold, Untold}
-use Rattle.run_save_shots.specs.Lists.{Each, EachAt, count}
+use Rattle.run_save_shots.specs.Lists.{EachAt, count}
 use Rattle.run_save_shots.specs.Kept.{KeptTask, Kept}
 use Rattle.run_save_shots.specs.Fitting.{RootFits, TaskFits, is_root, runs_once, HasRoot, Fits}
 use Rattle.run_save_slots.specs.Slots.{root_of}
@@ -40,8 +40,11 @@ first_of entry (t ∷ ts) = cond (is_spawned entry t) t.number (first_of entry t
 some_of : (entry : ℕ) (before : Tree) (x : Task (Slot (List Framed))) (xs : Tree) → is_spawned entry x ≡ true →
     1 ≤ count (is_spawned entry) (before ++ x ∷ xs)
 some_of entry before x xs e =
-    omega (arith, count_between (is_spawned entry) before x xs ∙
-    ap (λ b. cond b (suc (count (is_spawned entry) (before ++ xs))) (count (is_spawned entry) (before ++ xs))) e)
+    omega (
+      arith,
+      count_between (is_spawned entry) before x xs ∙
+          ap (λ b. cond b (suc (count (is_spawned entry) (before ++ xs))) (count (is_spawned entry) (before ++ xs))) e,
+    )
 
 first_is : (entry : ℕ) (before : Tree) (x : Task (Slot (List Framed))) (xs : Tree) → count (is_spawned entry) (before ++ x ∷ xs) ≤ 1 →
     is_spawned entry x ≡ true → first_of entry (before ++ x ∷ xs) ≡ x.number
@@ -113,8 +116,12 @@ module _ (c : Code) (s : Kept) (fits : Fits c s) where
           let same : 0 + entry ≡ entry = omega arith in
           of r.0 r.1 (subst (λ k. count (is_root (Some k)) s.tasks ≡ runs_once r.0) same r.2)
       by (inr l) =
-          absurd (omega (arith, some, count_none (is_root (Some entry)) s.tasks
-          (each_weaker (TaskFits c s) (λ t. is_root (Some entry) t ≡ false) s.tasks (beyond entry l) fits.tasks)))
+          absurd (omega (
+            arith,
+            some,
+            count_none (is_root (Some entry)) s.tasks
+                (each_weaker (TaskFits c s) (λ t. is_root (Some entry) t ≡ false) s.tasks (beyond entry l) fits.tasks),
+          ))
 
   given_none : (rs : List (Option Given)) (entry : ℕ) → nth (map (λ o. option_map given_of o) rs) entry ≡ Some None →
       nth rs entry ≡ Some None

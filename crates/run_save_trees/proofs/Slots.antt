@@ -1,26 +1,23 @@
 -- What the tree keeps of a task is what the task is that is spelled.
-use Rattle.std.proofs.Common.{◌≡◌, ℕ, zero, suc, ◌+◌, ◌*◌, ◌<◌, ◌≤◌, List, [], ◌∷◌, length, map, Option, Some, None, refl, sym, ap, subst, ◌∙◌, arith}
+use Rattle.std.proofs.Common.{◌≡◌, ℕ, suc, ◌≤◌, List, [], ◌∷◌, length, Option, Some, None, refl, sym, ap, subst, ◌∙◌, arith}
 use Rattle.sim_clock.specs.declared.waits.WaitKind.{WaitKind}
 use Rattle.sim_clock.specs.declared.waits.WaitKind.TheVariants as kind
 use Rattle.verse_code.specs.declared.codes.Code.{Code}
 use Rattle.verse_value.specs.Val.{Val}
-use Rattle.verse_meaning_state.specs.Waits.{Cause, till, never, done, heard, nth}
-use Rattle.verse_code_machine.specs.Tasks.{Frame, Role, root, part, Who, Part, did, runs, Rest, asleep, root_named, child_named}
-use Rattle.vm_tasks_laws.specs.Slots.{Held as HeldBy, by_itself}
+use Rattle.verse_meaning_state.specs.Waits.{nth}
+use Rattle.verse_code_machine.specs.Tasks.{Frame, Who, did, runs, Rest, asleep}
+use Rattle.vm_tasks_laws.specs.Slots.{by_itself}
 use Rattle.vm_tasks_laws.specs.Clocks as clocks
 use Rattle.vm_frames.specs.Framed.{Framed}
-use Rattle.vm_frames.specs.Machine.{frames_with}
 use Rattle.vm_tasks.specs.declared.slots.Slot.{Slot}
-use Rattle.vm_tasks.specs.declared.slots.Group.{Group}
 use Rattle.vm_tasks.specs.declared.slots.Held.{Held}
-use Rattle.vm_tasks.specs.declared.slots.Held.TheVariants.{Asleep, AtGroup}
 use Rattle.vm_tasks.specs.View.{role_of, held_of, slot_of}
 use Rattle.vm_scheduler.specs.Frames.{parted, frames_in, Suspended}
 use Rattle.vm_scheduler.specs.Standing.{HeldFine, Fine}
 use Rattle.run_save_shots.specs.Kept.{KeptFrame, KeptRest, leaf, group, KeptTask, Kept}
 use Rattle.run_save_shots.specs.Fitting.{arms_of, task_stand}
 use Rattle.run_save_shots.specs.Naming.{number_at, arm_at, named, parent_in}
-use Rattle.run_save_shots.specs.Spelling.{frames_from, gathered, parts_from, rest}
+use Rattle.run_save_shots.specs.Spelling.{gathered, parts_from, rest}
 use Rattle.run_save_shots.specs.View.{cause_of}
 use Rattle.run_save_spelled.proofs.Sprouting.{Spelled, who_number}
 use Rattle.run_save_numbers.specs.Numbers.{Numbers, numbers, borns_from, arms_from}

@@ -1,25 +1,22 @@
 -- A task of a shot that fits a valid code suits its numbers.
-use Rattle.std.proofs.Common.{◌≡◌, ℕ, zero, suc, ◌+◌, ◌*◌, ◌<◌, ◌≤◌, Bool, true, false, List, [], ◌∷◌, ◌++◌, length, Option, Some, None, refl, sym, ap, subst}
+use Rattle.std.proofs.Common.{◌≡◌, ℕ, zero, suc, ◌+◌, ◌<◌, ◌≤◌, Bool, true, false, List, [], ◌∷◌, ◌++◌, length, Option, Some, None, refl, sym, ap, subst}
 use Rattle.std.proofs.Common.{◌∙◌, arith}
 use Rattle.std.proofs.lemmas.Bool.{ltb-true}
-use Rattle.std.proofs.lemmas.List.{length-append}
 use Rattle.std.specs.Prelude.{slice_get, nat_le, nat_lt, ◌&&◌}
-use Rattle.verse_base.specs.declared.limits.TheConstants.{MOST_OPERATIONS}
 use Rattle.verse_code.specs.declared.codes.Code.{Code}
 use Rattle.verse_code.specs.declared.operations.Op.{Op}
 use Rattle.verse_code.specs.declared.operations.Op.TheVariants as o
 use Rattle.verse_code.specs.Validity.{Valid}
-use Rattle.verse_value.specs.Val.{Val}
 use Rattle.run_save_shots.specs.Lists.{Each}
 use Rattle.run_save_shots.specs.Kept.{KeptFrame, KeptRest, leaf, group, KeptTask, Kept}
-use Rattle.run_save_shots.specs.Fitting.{Stand, calls, sleeps, stays, awaits_task, awaits_event, gathers, goes_on, stand_of, stand_in, stand_at}
+use Rattle.run_save_shots.specs.Fitting.{Stand, calls, sleeps, stays, awaits_task, awaits_event, gathers, goes_on, stand_in, stand_at}
 use Rattle.run_save_shots.specs.Fitting.{RestSuits, FramesSuit as FramesFit, arms_of, TaskFits, Fits}
 use Rattle.run_save_shots.specs.Naming.{number_at, is_begun_since}
 use Rattle.run_save_numbers.specs.Numbers.{numbers, borns_from, arms_from, Countable}
 use Rattle.run_save_numbers.proofs.Limits.{few}
 use Rattle.run_save_numbers.proofs.Firsts.{first_least, number_more}
 use Rattle.run_save_threads.specs.Stacking.{IsNear}
-use Rattle.run_save_slots.specs.Slots.{FramesSuit, Suits}
+use Rattle.run_save_slots.specs.Slots.{Suits}
 use Rattle.run_save_trees.proofs.Groups.{group_of}
 use Rattle.run_save_trees.proofs.Lists.{each_here, each_weaker}
 

@@ -1,5 +1,5 @@
 -- The frames of a task that is kept.
-use Rattle.std.proofs.Common.{◌≡◌, ℕ, true, List, [], ◌∷◌, length, refl, ◌∙◌}
+use Rattle.std.proofs.Common.{◌≡◌, ℕ, true, List, [], ◌∷◌, refl, ◌∙◌}
 use Rattle.verse_code_machine.specs.Tasks.{Frame}
 use Rattle.verse_code_machine.specs.Frames.{free}
 use Rattle.vm_frames.specs.Framed.{Framed}

@@ -1,11 +1,11 @@
 -- A task more in a tree.
-use Rattle.std.proofs.Common.{◌≡◌, ℕ, Bool, true, false, eqb, if◌then◌else◌, List, [], ◌∷◌, ◌++◌, Option, Some, None, refl, sym, ap, ◌∙◌}
+use Rattle.std.proofs.Common.{◌≡◌, ℕ, Bool, true, false, eqb, if◌then◌else◌, List, [], ◌∷◌, ◌++◌, Some, None, refl, sym, ap, ◌∙◌}
 use Rattle.std.proofs.lemmas.Bool.{eqb-true, eq-eqb}
 use Rattle.std.proofs.lemmas.List.{append-nil}
 use Rattle.task_tree.specs.Tasks.{Task, task_at}
 use Rattle.task_tree.specs.Removing.{Added}
 use Rattle.vm_tasks.specs.declared.slots.Slot.{Slot}
-use Rattle.vm_tasks.specs.Putting.{put_task, PutRoot, PutPart}
+use Rattle.vm_tasks.specs.Putting.{put_task, PutRoot}
 
 module _ {T : Type 0} where
   at_tail : (x : Task T) (ts : List (Task T)) (n : ℕ) → task_at n (x ∷ ts) ≡ None → task_at n ts ≡ None

@@ -1,5 +1,5 @@
 -- What the tasks of a fitting shot stand for, once all of them are put.
-use Rattle.std.specs.Prelude.{◌≡◌, ℕ, eqb, List, ◌∷◌, ◌++◌, length, map, Option, option_map}
+use Rattle.std.specs.Prelude.{◌≡◌, eqb, List, ◌∷◌, ◌++◌, length, map, Option, option_map}
 use Rattle.std.specs.List.{IsDistinct}
 use Rattle.sim_clock.specs.declared.waits.Pending.{Pending}
 use Rattle.verse_code.specs.declared.codes.Code.{Code}
