@@ -12,14 +12,20 @@ use Rattle.vm_scheduler.specs.declared.tasks.Given.{Given}
 use Rattle.vm_scheduler.specs.Frames.{frames_in}
 use Rattle.vm_scheduler.specs.Standing.{given_of, AllFine, Untold}
 use Rattle.vm_scheduler.specs.Going.{Resting}
+use Rattle.run_save_shots.specs.declared.shots.Shot.{Shot}
 use Rattle.run_save_shots.specs.Kept.{Kept}
+use Rattle.run_save_shots.specs.View.{task_of, shot_of}
 use Rattle.run_save_shots.specs.Fitting.{Fits}
 use Rattle.run_save_shots.specs.Spelling.{state, trees}
+use Rattle.run_save_numbers.specs.declared.tables.TaskNumbers.{TaskNumbers}
+use Rattle.run_save_numbers.specs.Numbers.{numbers_from}
+use Rattle.run_save_numbers.specs.View.{numbers_of}
 use Rattle.run_save_runner.specs.declared.running.Clock.{Clock}
 use Rattle.run_save_runner.specs.declared.running.Printed.{Printed}
 use Rattle.run_save_runner.specs.Filled.{standing}
 use Rattle.run_save_trees.specs.declared.tables.Restored.{Restored}
 use Rattle.run_save_trees.specs.Laws.{StandsFor}
+use Rattle.run_save_machine.specs.Putting.{AreOf}
 use Rattle.run_save_machine.specs.Resting.{RestsIn, Holds}
 
 module _ {W : Type 0} (pending : W → List Pending) (c : Code) (s : Kept) where
@@ -71,3 +77,11 @@ module _ {W : Type 0} (pending : W → List Pending) (c : Code) (s : Kept) where
     is = ap (state_of aside) (sym e);
     resting = subst (λ u. Resting pending aside (trees c s) u t) (sym e) (resting t r results fits stands h given);
   }
+
+-- ---- the shot
+
+-- the numbers that were found are those of its tasks
+pub are_of : (c : Code) (x : Shot) (ns ms : List TaskNumbers) → Fits c (shot_of x) →
+    map numbers_of ms ≡ numbers_from (shot_of x) 0 (shot_of x).tasks → ns ≡ ms →
+    AreOf c (shot_of x) (map task_of x.tasks.items) (map numbers_of ns)
+are_of c x ns ms fits e same = record { fits = fits; tasks = refl; numbers = ap (map numbers_of) same ∙ e }

@@ -87,8 +87,8 @@ pub(crate) fn put_all(
     requires valid { Valid code.now }
     requires shot { (s : Kept) × AreOf code.now s (map task_of tasks.items)
         (map numbers_of numbers.now) }
-    ensures { (s : Kept) → AreOf code.now s (map task_of tasks.items) (map numbers_of numbers.now) →
-        IfOk result (StandsFor code.now s) }
+    ensures { IfOk result (λ r. (s : Kept) → AreOf code.now s (map task_of tasks.items)
+        (map numbers_of numbers.now) → StandsFor code.now s r) }
 {
     let mut tasks = tasks;
     tasks.reverse();
