@@ -1,5 +1,6 @@
 -- The children of a task that are arms of its group began last.
-use Rattle.std.proofs.Common.{◌≡◌, ℕ, zero, suc, ◌+◌, ◌<◌, ◌≤◌, Bool, true, false, ◌&&◌, cond, List, [], ◌∷◌, ◌++◌, length, Option, Some, None}
+use Rattle.std.proofs.Common.{◌≡◌, ℕ, zero, suc, ◌+◌, ◌<◌, ◌≤◌, Bool, true, false, ◌&&◌, cond, List, [], ◌∷◌, ◌++◌, length, Option, Some}
+use Rattle.std.proofs.Common.{None}
 use Rattle.std.proofs.Common.{refl, sym, ap, subst, ◌∙◌, arith}
 use Rattle.std.proofs.lemmas.Bool.{eq-eqb, eqb-true, lt-leb}
 use Rattle.task_tree.specs.Tasks.{is_child, suits}
@@ -14,7 +15,8 @@ use Rattle.vm_tasks_laws.specs.Slots.{arms_at, ArmedBy}
 use Rattle.run_save_shots.specs.Lists.{Each, EachAt, EachTwo, count}
 use Rattle.run_save_shots.specs.Kept.{KeptTask, KeptRest, leaf, group, Kept}
 use Rattle.run_save_shots.specs.Fitting.{Stand, calls, sleeps, stays, awaits_task, awaits_event, gathers, goes_on, task_stand, arms_of}
-use Rattle.run_save_shots.specs.Fitting.{unfinished, frames_of, is_child_of, is_arm_of, TaskFits, ArmsRun, DepthFits, InOrder, MayFollow, Fits}
+use Rattle.run_save_shots.specs.Fitting.{unfinished, frames_of, is_child_of, is_arm_of, TaskFits, ArmsRun, DepthFits, InOrder, MayFollow}
+use Rattle.run_save_shots.specs.Fitting.{Fits}
 use Rattle.run_save_shots.specs.Naming.{number_at, is_since, is_begun_since, arm_at}
 use Rattle.run_save_shots.specs.Spelling.{gathered, parts_from, rest}
 use Rattle.run_save_arms.specs.Laws.{above, AreKin}

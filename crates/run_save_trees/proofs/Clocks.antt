@@ -20,7 +20,8 @@ use Rattle.vm_tasks_laws.proofs.Trees.{deal_first, move, move_back}
 use Rattle.vm_tasks_laws.proofs.Deals.{deal_back}
 use Rattle.run_save_shots.specs.Lists.{Each, AreDistinct}
 use Rattle.run_save_shots.specs.Kept.{KeptRest, leaf, group, KeptTask, Kept}
-use Rattle.run_save_shots.specs.Fitting.{Stand, calls, sleeps, stays, awaits_task, awaits_event, gathers, goes_on, CauseFits, waits_in, task_stand}
+use Rattle.run_save_shots.specs.Fitting.{Stand, calls, sleeps, stays, awaits_task, awaits_event, gathers, goes_on, CauseFits, waits_in}
+use Rattle.run_save_shots.specs.Fitting.{task_stand}
 use Rattle.run_save_shots.specs.Spelling.{gathered, parts_from, rest, state}
 use Rattle.run_save_spelled.specs.Growing.{In, first_in, later_in}
 use Rattle.run_save_spelled.proofs.Forests.{in_left, in_right, in_parts, split}

@@ -23,7 +23,8 @@ use Rattle.run_save_spelled.proofs.Sprouting.{Spelled, who_number}
 use Rattle.run_save_numbers.specs.Numbers.{Numbers, numbers, borns_from, arms_from}
 use Rattle.run_save_threads.specs.Stacking.{stacked}
 use Rattle.run_save_threads.proofs.Spells.{spells}
-use Rattle.run_save_slots.specs.Slots.{root_of, parts, rest_of_group, IsAsleep, IsAtGroup, is_at_group, Waits, waits_asleep, waits_at_group, IsMade}
+use Rattle.run_save_slots.specs.Slots.{root_of, parts, rest_of_group, IsAsleep, IsAtGroup, is_at_group, Waits, waits_asleep, waits_at_group}
+use Rattle.run_save_slots.specs.Slots.{IsMade}
 use Rattle.run_save_puts.specs.Puts.{IsKept}
 use Rattle.run_save_trees.proofs.Threads.{is_suspended}
 

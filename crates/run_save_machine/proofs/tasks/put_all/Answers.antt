@@ -52,5 +52,5 @@ tasks-preserved c =
 
 pub returns : goal.returns
 returns c =
-    let none : c.tasks.tasks.items ≡ [] = no_items c.tasks.tasks.items c.in_default.ensures.cases.0 in
+    let none : c.tasks.tasks.items ≡ [] = no_items c.tasks.tasks.items (sym c.tasks.tasks.ok.0 ∙ c.in_default.ensures.cases.0) in
     last c.args.code.now c.args.tasks.items c.args.numbers.now c.tasks.tasks.items c.tasks.restored none c.tasks.invariant.so_far
