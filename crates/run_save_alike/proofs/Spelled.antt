@@ -89,7 +89,8 @@ each_task : (P : Task → Type 0) (ts : List Task) → Each P ts → EachTask P 
 each_task P [] a = tt
 each_task P (t ∷ ts) a = (a.0, each_task P ts a.1)
 
-pub rooted_trees : (left : ℕ) (tss : Forest) → Each (λ ts. Rooted left (whos ts)) tss → Each (λ ts. Each (λ (t : Task). Still t.thread) ts) tss → TreesRooted left
+pub rooted_trees : (left : ℕ) (tss : Forest) → Each (λ ts. Rooted left (whos ts)) tss →
+    Each (λ ts. Each (λ (t : Task). Still t.thread) ts) tss → TreesRooted left
     tss
 rooted_trees left [] a b = tt
 rooted_trees left (ts ∷ tss) a b = (a.0, each_task (λ (t : Task). Still t.thread) ts b.0, rooted_trees left tss a.1 b.1)
@@ -232,7 +233,8 @@ module _ (ys us : List Task) (unique : (p : List ℕ) → tasks_sum (is_named p)
   empty_not (i ∷ p) s = refl
 
   -- the parents stand alike
-  pub tests : (y u t v : Task) → At ys us y u → At ys us t v → same_path y.thread.who.up t.thread.who.path ≡ same_path u.thread.who.up v.thread.who.path
+  pub tests : (y u t v : Task) → At ys us y u → At ys us t v →
+      same_path y.thread.who.up t.thread.who.path ≡ same_path u.thread.who.up v.thread.who.path
   tests y u t v a b = by_place (place_of y.thread.who.up ys) refl
     where
       by_place : (o : Option ℕ) → place_of y.thread.who.up ys ≡ o → same_path y.thread.who.up t.thread.who.path ≡ same_path u.thread.who.up v.thread.who.path

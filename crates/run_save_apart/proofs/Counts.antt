@@ -82,7 +82,8 @@ number_of n = record {
 abbrev pub sum_of : ℕ → Forest → ℕ
 sum_of n tss = trees_sum (λ (t : Task). one (eqn n t.thread.who.number)) tss
 
-counted : (n : ℕ) (ts : List Task) → count (λ (t : Task). eqn n t.thread.who.number) ts ≡ tasks_sum (λ (t : Task). one (eqn n t.thread.who.number)) ts
+counted : (n : ℕ) (ts : List Task) →
+    count (λ (t : Task). eqn n t.thread.who.number) ts ≡ tasks_sum (λ (t : Task). one (eqn n t.thread.who.number)) ts
 counted n [] = omega arith
 counted n (t ∷ ts) = by_test (eqn n t.thread.who.number) (count (λ (y : Task). eqn n y.thread.who.number) ts) _ (counted n ts)
   where
@@ -102,10 +103,12 @@ below_none (suc left) zero (suc k) h = omega arith
 below_none (suc left) (suc n) zero h = omega (arith, h)
 below_none (suc left) (suc n) (suc k) h = below_none left n k (omega (arith, h))
 
-none_taken : (left n : ℕ) (ts : List Task) → Rooted left (whos ts) → taken left n ≡ 0 → tasks_sum (λ (t : Task). one (eqn n t.thread.who.number)) ts ≡ 0
+none_taken : (left n : ℕ) (ts : List Task) → Rooted left (whos ts) → taken left n ≡ 0 →
+    tasks_sum (λ (t : Task). one (eqn n t.thread.who.number)) ts ≡ 0
 none_taken left n [] r e = omega arith
 none_taken left n (t ∷ ts) r e =
-    let a = below_none left n t.thread.who.number (rooted_number r) in let b = none_taken left n ts (rooted_tail r) e in omega (arith, a, b, e)
+    let a = below_none left n t.thread.who.number (rooted_number r) in let b = none_taken left n ts (rooted_tail r) e in
+    omega (arith, a, b, e)
 
 trees_none : (left n : ℕ) (tss : Forest) → TreesRooted left tss → taken left n ≡ 0 → sum_of n tss ≡ 0
 trees_none left n [] r e = omega arith

@@ -55,7 +55,8 @@ module _ (c : Code) (valid : Valid c) (bytes : TextsAreBytes c) where
   stage_apart (amiss s) a = tt
 
   from_apart : (s : State) (tss : Forest) → TreesRooted s.clock.left tss → NumbersApart tss → (n : ℕ) → Counts n (going s tss)
-  from_apart s tss r a n = bare (sum_of n tss) (taken s.clock.left n) (within s.clock.left n tss r (so_few (numbered n tss) (sum_of n tss) (numbered_is n tss)
+  from_apart s tss r a n = bare (sum_of n tss) (taken s.clock.left n)
+      (within s.clock.left n tss r (so_few (numbered n tss) (sum_of n tss) (numbered_is n tss)
       (a n)))
 
 pub run_is_apart : RunIsApart

@@ -326,10 +326,12 @@ module _ (k : Setting) where
   returns_role_same : (q : Role) (x : Who) (o : World) (born : ℕ) (v : Val) (s : State) → k.IsPath x.path → Is k s → WorldIs k o →
       Same k (returns_role q x o born v s) (returns_role q (who_as R x) (world_as Z o) (R x.path born) v (T s))
   returns_role_same (root entry) x o born v s e h b =
-      cancels_same _ _ (finishing x entry v) _ _ o s (since_as R x.path born k.apart (k.rises x.path e)) (λ o s h b. result_same entry x v o s h b) h b
+      cancels_same _ _ (finishing x entry v) _ _ o s (since_as R x.path born k.apart (k.rises x.path e))
+      (λ o s h b. result_same entry x v o s h b) h b
   returns_role_same part x o born v s e h b = over k
 
-  pub returns_same : (x : Who) (o : World) (born : ℕ) (v : Val) (s : State) (hs : List Handler) (bl : List Frame) → k.IsPath x.path → Is k s →
+  pub returns_same : (x : Who) (o : World) (born : ℕ) (v : Val) (s : State) (hs : List Handler) (bl : List Frame) →
+      k.IsPath x.path → Is k s →
       WorldIs k o →
       Same k (returns x o born v s hs bl) (returns (who_as R x) (world_as Z o) (R x.path born) v (T s) (handlers_as Z x.path hs) (frames_as
       Z x.path bl))

@@ -110,7 +110,8 @@ module _ (r : Numbering) (apart : IsApart r) where
       (λ e. subst (λ k. same_path (path_from r (a ++ i ∷ []) x) (path_from r (a ++ k ∷ []) y) ≡ same_path x y) (eqn_is i j e) (same_from
       (a ++ i ∷ []) x y)) refl
 
-  since_from : (a x b : List ℕ) → a ++ x ≡ b → RisesAt r b → (n : ℕ) (y : List ℕ) → since (path_from r a x) (r b n) (path_from r a y) ≡ since x n y
+  since_from : (a x b : List ℕ) → a ++ x ≡ b → RisesAt r b → (n : ℕ) (y : List ℕ) →
+      since (path_from r a x) (r b n) (path_from r a y) ≡ since x n y
   since_from a [] b h rises n [] = refl
   since_from a [] b h rises n (k ∷ y) = subst (λ d. ltn (r d k) (r b n) ≡ ltn k n) (sym h ∙ app_none a) (ltn_as b rises k n)
   since_from a (i ∷ x) b h rises n [] = refl
@@ -156,7 +157,8 @@ module _ (z : Prior) (apart : IsApart z.numbers) where
 
     behind_as : (ts : List Task) → gone_behind g (tasks_as z ts) ≡ tasks_as z (gone_behind f ts)
     behind_as [] = refl
-    behind_as (t ∷ ts) = cond_as z.numbers apart _ _ _ _ _ _ (same t.thread.who.path) (λ e. ap (λ ys. task_as z t ∷ ys) (behind_as ts)) (behind_as ts) ∙
+    behind_as (t ∷ ts) = cond_as z.numbers apart _ _ _ _ _ _ (same t.thread.who.path)
+        (λ e. ap (λ ys. task_as z t ∷ ys) (behind_as ts)) (behind_as ts) ∙
         sym (cond_tasks _ _ _)
 
     gone_as : (o : World) → cancelled g (world_as z o) ≡ tasks_as z (cancelled f o)
@@ -182,7 +184,8 @@ since_as r a n apart rises x = since_from r apart [] a a refl rises n x
 pub since_renumbered : SinceRenumbered
 since_renumbered r a n rises = since_as r a n (rising_apart r rises) (rises a)
 
-pub arms_as : (r : Numbering) (a : List ℕ) (gs : List Part) → IsApart r → SameTest r (beneath_arms a gs) (beneath_arms (path_as r a) (parts_as r a gs))
+pub arms_as : (r : Numbering) (a : List ℕ) (gs : List Part) → IsApart r →
+    SameTest r (beneath_arms a gs) (beneath_arms (path_as r a) (parts_as r a gs))
 arms_as r a gs apart x = arms_from r apart a gs x
 
 pub arms_renumbered : ArmsRenumbered

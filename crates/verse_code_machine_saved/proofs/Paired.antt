@@ -59,7 +59,8 @@ module _ (f : List ℕ → Pairs) (first : List ℕ → List ℕ) (Y Z : Prior)
   who_meets w v h =
       ap (λ a. who_at a (path_as own w.up) (own w.up w.number) w.role) (path_meets [] [] w.path v.path tt h.path) ∙
       ap (λ b. who_at (path_as other v.path) b (own w.up w.number) w.role) (path_meets [] [] w.up v.up tt h.up) ∙
-      ap (λ n. who_at (path_as other v.path) (path_as other v.up) n w.role) (meets w.up v.up w.number v.number (level_of [] [] w.up v.up h.up) h.number) ∙
+      ap (λ n. who_at (path_as other v.path) (path_as other v.up) n w.role)
+      (meets w.up v.up w.number v.number (level_of [] [] w.up v.up h.up) h.number) ∙
       ap (who_at (path_as other v.path) (path_as other v.up) (other v.up v.number)) h.role
 
   frame_meets : (a b : List ℕ) (g h : Frame) → Level a b → FramePaired f first a b g h → frame_as Y a g ≡ frame_as Z b h
@@ -90,7 +91,8 @@ module _ (f : List ℕ → Pairs) (first : List ℕ → List ℕ) (Y Z : Prior)
       ap (λ gs. record { who = who_as other y.who; frame = frame_as Z y.who.path y.frame; below = gs })
       (frames_meet x.who.path y.who.path x.below y.below (level_of [] [] x.who.path y.who.path p.who.path) p.below)
 
-  part_meets : (a b : List ℕ) (g h : Part) (gs hs : List Part) → Level a b → PartPaired f first a b g h → parts_as own a gs ≡ parts_as other b hs →
+  part_meets : (a b : List ℕ) (g h : Part) (gs hs : List Part) → Level a b → PartPaired f first a b g h →
+      parts_as own a gs ≡ parts_as other b hs →
       parts_as own a (g ∷ gs) ≡ parts_as other b (h ∷ hs)
   part_meets a b (did v) (did w) gs hs l p e = ap (λ x. did x ∷ parts_as own a gs) p ∙ ap (λ xs. did w ∷ xs) e
   part_meets a b (runs n) (runs m) gs hs l p e =
@@ -116,7 +118,8 @@ module _ (f : List ℕ → Pairs) (first : List ℕ → List ℕ) (Y Z : Prior)
   task_meets t u p =
       ap (λ x. record { thread = x; rest = rest_as own t.thread.who.path t.rest }) (thread_meets t.thread u.thread p.thread) ∙
       ap (λ r. record { thread = thread_as Z u.thread; rest = r })
-      (rest_meets t.thread.who.path u.thread.who.path t.rest u.rest (level_of [] [] t.thread.who.path u.thread.who.path p.thread.who.path) p.rest)
+      (rest_meets t.thread.who.path u.thread.who.path t.rest u.rest
+      (level_of [] [] t.thread.who.path u.thread.who.path p.thread.who.path) p.rest)
 
   tasks_meet : (ts us : List Task) → TasksPaired f first ts us → tasks_as Y ts ≡ tasks_as Z us
   tasks_meet [] [] p = refl
@@ -143,6 +146,7 @@ trees_meet f first s tss uss rising none p =
       own_fixed = own.1;
       other_rises = other.0;
       other_fixed = other.1;
-      meet = forests_meet f first (renumbered (spread f) s) (prior (spread (λ b. turned (f (first b)))) s) (λ a b n m l q. subst (λ z. spread f a n ≡ m + beside m (turned (f z)) 0)
+      meet = forests_meet f first (renumbered (spread f) s) (prior (spread (λ b. turned (f (first b)))) s)
+          (λ a b n m l q. subst (λ z. spread f a n ≡ m + beside m (turned (f z)) 0)
           (sym q.path) ((numberings_meet f s.clock.left rising none).2 a (n, m) q.front q.back q.is)) tss uss p;
     }

@@ -103,7 +103,8 @@ module _ (P : State → Type 0) (keeps : Keeping P) (until : ℕ) (moves : (m : 
   at_horizon c ns steps s tss h e =
       let k = itself steps (record { bytes = 0; lines = 0 }) in
       let a = everywhere k c (λ a. tt) in
-      (subst (ClosedIs k c a) e (closed_is k c a _ _ (turns_alike k c a (λ w h e f. refl) steps until moves (suc steps) (started c ns steps) _
+      (subst (ClosedIs k c a) e
+      (closed_is k c a _ _ (turns_alike k c a (λ w h e f. refl) steps until moves (suc steps) (started c ns steps) _
       (carried_alike k c a (room c steps) _ _ (comes _) (seen k _ (start_is ns steps (slice_get c.functions c.main) h)))))).holds
 
   at_next_horizon : (c : Code) (steps : ℕ) (s t : State) (tss uss : Forest) → P s →

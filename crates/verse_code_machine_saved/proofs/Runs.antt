@@ -89,7 +89,8 @@ module _ (k : Setting) (c : Code) (along : Along k c) where
       subst (λ z. Same k (Turn s tss) (carried c (suc n) z)) (sym l.is) (record { is = refl; holds = l.holds })
 
   pub data Alike : Stage Forest → Stage Forest → Type 0 where
-    both_go : {s : State} {tss : Forest} → Is k s → TreesAre k tss → along.Trees s tss → Alike (going s tss) (going (S k s) (trees_as k.prior tss))
+    both_go : {s : State} {tss : Forest} → Is k s → TreesAre k tss → along.Trees s tss →
+        Alike (going s tss) (going (S k s) (trees_as k.prior tss))
     both_end : {e : Ending} {s : State} {tss : Forest} → Is k s → Alike (closed e s tss) (closed e (S k s) (trees_as k.prior tss))
     both_break : {e : Ending} {s : State} → Alike (broken e s) (broken e (S k s))
     both_miss : {s : State} → Alike (amiss s) (amiss (S k s))
@@ -163,7 +164,8 @@ module _ (k : Setting) (c : Code) (along : Along k c) where
       spent_alike zero s tss d e u h a g = both_end h
       spent_alike (suc l) s tss d e u h a g =
           let t = at_moment d.given.moment (stepped l s) in
-          carried_alike (room c steps) _ _ (along.wakes d.number d.given.value t tss (along.later l d.given.moment s tss e g)) (woken_in_same k d.number
+          carried_alike (room c steps) _ _
+          (along.wakes d.number d.given.value t tss (along.later l d.given.moment s tss e g)) (woken_in_same k d.number
           d.given.value [] tss t (moves_is d.given.moment (stepped l s) u (steps_is k l s e h)) tt a)
 
       late_alike : (m : ℕ) (b : Bool) → nat_lt until m ≡ b → (g h i j : Stage Forest) → Alike g i → (m ≤ until → Alike h j) →
@@ -200,7 +202,8 @@ module _ (k : Setting) (c : Code) (along : Along k c) where
 
       pub runs_alike : (s : State) (tss : Forest) → Is k s → TreesAre k tss → along.Trees s tss →
           Alike (after_from c steps until s tss) (after_from c steps until (S k s) (trees_as k.prior tss))
-      runs_alike s tss h a g = turns_alike (suc steps) (going s tss) (going (S k s) (trees_as k.prior tss)) (both_go {s = s} {tss = tss} h a g)
+      runs_alike s tss h a g = turns_alike (suc steps) (going s tss) (going (S k s) (trees_as k.prior tss))
+          (both_go {s = s} {tss = tss} h a g)
 
 first_none : (gs : List Signal) (e n m : ℕ) → m ≤ n → NoneNewer m gs → first_signal gs e n ≡ None
 first_none [] e n m h a = refl
@@ -256,7 +259,8 @@ module _ (c : Code) (steps until : ℕ) (z : Prior) (s : State) (tss : Forest) (
   A = everywhere K c (λ a. tt)
 
   both_run : Alike K c A (after_from c steps until s tss) (after_from c steps until (state_as z s) (trees_as z tss))
-  both_run = runs_alike K c A (λ w h. h) steps until (λ m s e h. h) s tss (record { few = omega arith; counts = counts; holds = omega arith })
+  both_run = runs_alike K c A (λ w h. h) steps until (λ m s e h. h) s tss
+      (record { few = omega arith; counts = counts; holds = omega arith })
       (trees_unheard K (λ w h. h) tss unheard) tt
 
   pub over_behind : IsOver (after_from c steps until s tss) → IsOver (after_from c steps until (state_as z s) (trees_as z tss))

@@ -31,5 +31,5 @@ module _ {W : Type 0} (pending : W → List Pending) where
   -- each state and trees for which the machine stands, where no two tasks began with as many steps
   -- left
   abbrev pub SpellsEach : Kept → View → Tasks W → Type 0
-  SpellsEach x v t = (a : Aside) (trees : Forest) → Resting pending a trees v t → NumbersApart trees →
-      Spells x (state_of a v) trees
+  SpellsEach x v t = (a : Aside) (trees : Forest) → Resting pending a trees v t →
+      NumbersApart trees → Spells x (state_of a v) trees
