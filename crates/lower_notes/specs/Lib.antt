@@ -1,0 +1,6 @@
+pub mod States
+pub mod Stretches
+pub mod Applied
+pub mod Noting
+pub mod Programs
+pub mod Rows

@@ -1,0 +1,53 @@
+//! The notes of the code of a program, as a definition: a walk over the tree beside lowering's, one
+//! clause for each form, that tells the state at each operation.
+//!
+//! To be read in this order, in `specs/`: `States`, the state at an operation and what becomes of
+//! it; `Stretches`, the states at the operations of a stretch and how they are put together;
+//! `Applied`, names, forms that are applied to their operands, and what leaves; `Noting`, one case
+//! for each form; `Programs`, functions, classes and the whole notes.
+#![tactic(auto)]
+
+ghost use Rattle.lower_notes.specs.Rows.{
+  ValuesPass,
+  AttemptsPass,
+  LoopsPass,
+  DefersPass,
+  TasksPass,
+  WritesPass,
+  RefusedRows,
+};
+
+/// Literals, names, operators and values that are made.
+pub fn values_pass()
+    ensures { ValuesPass }
+{}
+
+/// Failure contexts.
+pub fn attempts_pass()
+    ensures { AttemptsPass }
+{}
+
+/// `loop`, `for` and `case`.
+pub fn loops_pass()
+    ensures { LoopsPass }
+{}
+
+/// Deferred blocks.
+pub fn defers_pass()
+    ensures { DefersPass }
+{}
+
+/// Groups, branches, spawned calls, events and pauses.
+pub fn tasks_pass()
+    ensures { TasksPass }
+{}
+
+/// Variables, instances and fields.
+pub fn writes_pass()
+    ensures { WritesPass }
+{}
+
+/// What the rules of notes refuse, though it is a right program.
+pub fn refused_rows()
+    ensures { RefusedRows }
+{}
