@@ -1,5 +1,5 @@
 -- The states of a form that is applied to what its operands left on the stack, of names and of what leaves.
-use Rattle.std.specs.Prelude.{ℕ, zero, suc, Option, Some, None, Bool, true, false, nat_eq, nat_lt}
+use Rattle.std.specs.Prelude.{ℕ, zero, suc, Option, Some, None, Bool, true, false, nat_lt}
 use Rattle.verse_tree.specs.declared.exprs.Operator.{Operator}
 use Rattle.verse_tree.specs.declared.exprs.Operator.TheVariants as op
 use Rattle.verse_sorts.specs.Sorts as s
@@ -45,15 +45,19 @@ base_walk (in_self n) sc = push_fixed (this_found sc)
 base_walk (in_object n) sc = one (gives 0 s.unit)
 base_walk nowhere sc = one (gives 0 s.unit)
 
+-- the operand on top goes into the local l, and stays
+abbrev pub kept : (l : ℕ) → Sort → Walk
+kept l a = one (puts l a) then one (gets l)
+
 -- the value of a definition goes into the local l, and is of this sort from there on
 abbrev pub bind : Binder → (l : ℕ) → Sort → Walk
 bind no_name l a = nothing
-bind (a_constant x) l a = one (puts l a) then one (gets l)
-bind (a_variable x pl) l a = one (gives 1 (s.var a)) then one (puts l (s.var a)) then one (gets l) then one (gives 1 a)
+bind (a_constant x) l a = kept l a
+bind (a_variable x pl) l a = one (gives 1 (s.var a)) then kept l (s.var a) then one (gives 1 a)
 
 -- the value that was written stays, where the operation would leave the place's: n operands are beneath it
 abbrev pub storing : (keeps : Bool) → (l n : ℕ) → (place value : Sort) → Walk
-storing true l n a v = one (puts l v) then one (gets l) then one (gives (suc n) a) then one (pops 1) then last
+storing true l n a v = kept l v then one (gives (suc n) a) then one (pops 1) then last
 storing false l n a v = last
 
 -- Forms
@@ -66,9 +70,21 @@ computing op.And = nothing
 computing op.Or = ends
 computing op.Div = ends
 
--- with so many operands; otherwise the form is none
-abbrev pub with_operands : (wanted has : ℕ) → Walk → Walk
-with_operands m n f = when_else (nat_eq m n) f
+-- with no operand, one or two; otherwise the form is none
+abbrev pub with_none : ℕ → Walk → Walk
+with_none zero f = f
+with_none (suc n) f = ends
+
+abbrev pub with_one : ℕ → Walk → Walk
+with_one zero f = ends
+with_one (suc zero) f = f
+with_one (suc (suc n)) f = ends
+
+abbrev pub with_two : ℕ → Walk → Walk
+with_two zero f = ends
+with_two (suc zero) f = ends
+with_two (suc (suc zero)) f = f
+with_two (suc (suc (suc n))) f = ends
 
 -- without an argument the value is unit
 abbrev pub signalling : ℕ → Walk
@@ -82,26 +98,26 @@ picking (Some k) = last
 
 -- n operands are on the stack; `fits` is whether a called function takes them, or there is a `Self`
 abbrev pub finish : Form → (n : ℕ) → (fits : Bool) → Walk
-finish (form.computing x t pl) n fits = with_operands 2 n (computing x)
-finish (form.comparing x) n fits = with_operands 2 n last
-finish (form.negating pl) n fits = with_operands 1 n last
-finish form.querying n fits = with_operands 1 n last
-finish (form.reading k) n fits = with_operands 1 n last
-finish form.measuring n fits = with_operands 1 n last
+finish (form.computing x t pl) n fits = with_two n (computing x)
+finish (form.comparing x) n fits = with_two n last
+finish (form.negating pl) n fits = with_one n last
+finish form.querying n fits = with_one n last
+finish (form.reading k) n fits = with_one n last
+finish form.measuring n fits = with_one n last
 finish (form.making_tuple pl) n fits = last
 finish (form.making_array pl) n fits = last
 finish (form.making_map pl) n fits = last
 finish (form.joining xs pl) n fits = last
 finish (form.picking k) n fits = picking k
-finish form.indexing n fits = with_operands 1 n last
+finish form.indexing n fits = with_one n last
 finish (form.calling f) n fits = when_else fits last
 finish (form.calling_own m) n fits = when_else fits last
 finish (form.calling_method m) n fits = last
-finish (form.printing pl) n fits = with_operands 1 n last
-finish (form.flooring pl) n fits = with_operands 2 n last
-finish (form.ceiling pl) n fits = with_operands 2 n last
-finish form.taking_modulo n fits = with_operands 2 n last
-finish (form.awaiting t) n fits = with_operands 0 n last
+finish (form.printing pl) n fits = with_one n last
+finish (form.flooring pl) n fits = with_two n last
+finish (form.ceiling pl) n fits = with_two n last
+finish form.taking_modulo n fits = with_two n last
+finish (form.awaiting t) n fits = with_none n last
 finish form.signalling n fits = signalling n
 finish (form.spawning f) n fits = when_else fits last
 finish (form.spawning_own m) n fits = when_else fits last
@@ -110,7 +126,7 @@ finish (form.storing base mode pl) n fits = ends
 finish (form.instancing class xs pl) n fits = ends
 finish form.defining n fits = nothing
 finish (form.varying pl) n fits = ends
-finish form.returning n fits = with_operands 1 n ends
+finish form.returning n fits = with_one n ends
 finish (form.choosing ts) n fits = ends
 finish (form.appending v pl) n fits = ends
 

@@ -4,9 +4,14 @@
 //! To be read in this order, in `specs/`: `States`, the state at an operation and what becomes of
 //! it; `Stretches`, the states at the operations of a stretch and how they are put together;
 //! `Applied`, names, forms that are applied to their operands, and what leaves; `Noting`, one case
-//! for each form; `Programs`, functions, classes and the whole notes.
+//! for each form; `Programs`, functions, classes and the whole notes; `Laws`, one state for each
+//! operation; `Rows`, small programs whose notes break no rule.
+//!
+//! In `proofs/`: `Counted`, the combinators; `Others`, what stands for no tree of its own; `Forms`,
+//! one clause a form; `Whole`, programs; `Rows`, computed.
 #![tactic(auto)]
 
+ghost use Rattle.lower_notes.specs.Laws.{OneForEach};
 ghost use Rattle.lower_notes.specs.Rows.{
   ValuesPass,
   AttemptsPass,
@@ -16,6 +21,12 @@ ghost use Rattle.lower_notes.specs.Rows.{
   WritesPass,
   RefusedRows,
 };
+
+/// Beside the code of a tree there is one state for each operation, and so beside the code of a
+/// program, with as many classes and functions.
+pub fn one_for_each()
+    ensures { OneForEach }
+{}
 
 /// Literals, names, operators and values that are made.
 pub fn values_pass()
