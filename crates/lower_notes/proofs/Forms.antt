@@ -1,5 +1,5 @@
 -- One state for each operation: one clause a form.
-use Rattle.std.proofs.Common.{◌≡◌, ℕ, suc, List, [], ◌∷◌, length, Bool, true, None, refl, arith}
+use Rattle.std.proofs.Common.{◌≡◌, ℕ, suc, ◌∷◌, length, Bool, true, None, refl, arith}
 use Rattle.verse_base.specs.declared.places.Place.{Place}
 use Rattle.verse_tree.specs.Tree.{Tree, tree, Shape, Trees, no_trees, more_trees, Holes, no_holes, more_holes, Givens, no_givens}
 use Rattle.verse_tree.specs.Tree.{more_givens}
@@ -10,8 +10,8 @@ use Rattle.verse_sorts.specs.Sorts.{Sort}
 use Rattle.verse_meaning.specs.Programs.{Program, ref_at}
 use Rattle.verse_meaning.specs.Residuals as form
 use Rattle.verse_meaning.specs.Residuals.{Form, Base, a_constant, a_variable}
-use Rattle.verse_meaning.specs.Evaluating.{statement_of, none_left, number_of, picked, member_form, callee_of, spawned_callee}
-use Rattle.verse_meaning.specs.Evaluating.{base_of, mode_of, enum_member, class_ref}
+use Rattle.verse_meaning.specs.Evaluating.{statement_of, none_left, picked, member_form, callee_of, spawned_callee}
+use Rattle.verse_meaning.specs.Evaluating.{base_of, enum_member, class_ref}
 use Rattle.verse_sound_rules.specs.Found.{Found}
 use Rattle.lower_code.specs.declared.arounds.Around.{Around}
 use Rattle.lower_code.specs.Pieces.{Spot, Maker, past, one, ◌then◌}
@@ -19,9 +19,9 @@ use Rattle.lower_code.specs.Scopes.{Scope, hidden, this_found}
 use Rattle.lower_code.specs.Arounds.{fresh, up, raised, looped, enclosed}
 use Rattle.lower_code.specs.Applied.{started}
 use Rattle.lower_code.specs.Lowering.{how_many, is_text, one_if, joined_parts, pairs_in, any_defer, target_operands, scope_stated}
-use Rattle.lower_code.specs.Lowering.{scope_behind, has_base, form_fits, around_stated, piece, shape_piece, statements, more_statements}
+use Rattle.lower_code.specs.Lowering.{scope_behind, has_base, around_stated, piece, shape_piece, statements, more_statements}
 use Rattle.lower_code.specs.Lowering.{inner, inner_shape, args, holed, paired_args, given_args, quotient, quotient_shape, target_piece}
-use Rattle.lower_code.specs.Lowering.{target_shape, levels, arms, arm_tree, arm_shape, task_arms, arm_spots, spawned, spawned_shape}
+use Rattle.lower_code.specs.Lowering.{target_shape, levels, arms, arm_shape, task_arms, arm_spots, spawned, spawned_shape}
 use Rattle.lower_notes.specs.States.{pops}
 use Rattle.lower_notes.specs.Stretches.{Walk}
 use Rattle.lower_notes.specs.Noting as n

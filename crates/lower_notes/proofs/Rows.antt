@@ -1,11 +1,13 @@
 -- The rows, computed.
 use Rattle.std.proofs.Common.{refl}
+use Rattle.verse_image.specs.Reading.{many_at, within_at, number_at, digits_at}
 use Rattle.lower_code.specs.Lowering as l
 use Rattle.lower_notes.specs.Noting as n
 use Rattle.lower_notes.specs.Rows.{ValuesPass, AttemptsPass, LoopsPass, DefersPass, TasksPass, WritesPass, RefusedRows}
 
 pub values_pass : ValuesPass
 unfolding l.by_callee l.grouped l.arm_by l.instance_of l.named l.membered l.stated l.claused n.by_callee n.arm_by n.instance_of n.named n.membered n.stated n.claused
+  many_at within_at number_at digits_at
 values_pass = record {
   sums = refl;
   items = refl;
@@ -16,6 +18,7 @@ values_pass = record {
 
 pub attempts_pass : AttemptsPass
 unfolding l.by_callee l.grouped l.arm_by l.instance_of l.named l.membered l.stated l.claused n.by_callee n.arm_by n.instance_of n.named n.membered n.stated n.claused
+  many_at within_at number_at digits_at
 attempts_pass = record {
   defines = refl;
   negation = refl;
@@ -26,6 +29,7 @@ attempts_pass = record {
 
 pub loops_pass : LoopsPass
 unfolding l.by_callee l.grouped l.arm_by l.instance_of l.named l.membered l.stated l.claused n.by_callee n.arm_by n.instance_of n.named n.membered n.stated n.claused
+  many_at within_at number_at digits_at
 loops_pass = record {
   broken = refl;
   broken_at_times = refl;
@@ -40,6 +44,7 @@ loops_pass = record {
 
 pub defers_pass : DefersPass
 unfolding l.by_callee l.grouped l.arm_by l.instance_of l.named l.membered l.stated l.claused n.by_callee n.arm_by n.instance_of n.named n.membered n.stated n.claused
+  many_at within_at number_at digits_at
 defers_pass = record {
   deferring = refl;
   returned = refl;
@@ -51,6 +56,7 @@ defers_pass = record {
 
 pub tasks_pass : TasksPass
 unfolding l.by_callee l.grouped l.arm_by l.instance_of l.named l.membered l.stated l.claused n.by_callee n.arm_by n.instance_of n.named n.membered n.stated n.claused
+  many_at within_at number_at digits_at
 tasks_pass = record {
   group = refl;
   branch = refl;
@@ -60,6 +66,7 @@ tasks_pass = record {
 
 pub writes_pass : WritesPass
 unfolding l.by_callee l.grouped l.arm_by l.instance_of l.named l.membered l.stated l.claused n.by_callee n.arm_by n.instance_of n.named n.membered n.stated n.claused
+  many_at within_at number_at digits_at
 writes_pass = record {
   variable = refl;
   another_type = refl;
@@ -69,6 +76,7 @@ writes_pass = record {
 
 pub refused_rows : RefusedRows
 unfolding l.by_callee l.grouped l.arm_by l.instance_of l.named l.membered l.stated l.claused n.by_callee n.arm_by n.instance_of n.named n.membered n.stated n.claused
+  many_at within_at number_at digits_at
 refused_rows = record {
   two_scopes = refl;
 }

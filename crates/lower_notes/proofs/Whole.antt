@@ -1,5 +1,5 @@
 -- One state for each operation of a whole code, and as many functions and classes.
-use Rattle.std.proofs.Common.{◌≡◌, ℕ, suc, ◌+◌, List, [], ◌∷◌, ◌++◌, map, length, Bool, Option, Some, None, refl, arith}
+use Rattle.std.proofs.Common.{◌≡◌, ℕ, suc, List, [], ◌∷◌, map, length, Bool, Some, None, refl, arith}
 use Rattle.std.proofs.Common.{length-append}
 use Rattle.std.specs.Prelude.{option_map}
 use Rattle.verse_tree.specs.declared.tables.ClassInfo.{ClassInfo}
@@ -11,7 +11,7 @@ use Rattle.lower_code.specs.Arounds.{fresh}
 use Rattle.lower_code.specs.Defaults.{defaults_in}
 use Rattle.lower_code.specs.Programs as c
 use Rattle.lower_code.specs.Programs.{Body, bodies_in, default_bodies, all_bodies, first_spot, class_of, item_op, funcs_from, code_of}
-use Rattle.lower_notes.specs.States.{State, spot_of}
+use Rattle.lower_notes.specs.States.{spot_of}
 use Rattle.lower_notes.specs.Programs as n
 use Rattle.lower_notes.specs.Laws.{Beside, SameCounts, OneForEach}
 use Rattle.lower_notes.proofs.Counted.{both, none, just_ends}

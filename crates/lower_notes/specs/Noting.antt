@@ -17,11 +17,11 @@ use Rattle.verse_meaning.specs.Residuals as form
 use Rattle.verse_meaning.specs.Residuals.{Form, Base, a_constant, a_variable, Generator, of_elements, of_entries, of_range}
 use Rattle.verse_meaning.specs.Evaluating.{Statement, statement_of, plain, defines, defers, generates, Callee, alone, of_object, of_value}
 use Rattle.verse_meaning.specs.Evaluating.{of_quotient, no_callee, none_left, number_of, picked, member_form, callee_of, spawned_callee}
-use Rattle.verse_meaning.specs.Evaluating.{base_of, mode_of, enum_member, class_ref}
+use Rattle.verse_meaning.specs.Evaluating.{base_of, enum_member, class_ref}
 use Rattle.verse_sound_rules.specs.Found.{Found}
 use Rattle.lower_code.specs.declared.arounds.Around.{Around}
-use Rattle.lower_code.specs.Scopes.{Scope, constant_at, variable_at, hidden, find, this_found}
-use Rattle.lower_code.specs.Arounds.{fresh, up, raised, looped, deferring, enclosed}
+use Rattle.lower_code.specs.Scopes.{Scope, hidden, find, this_found}
+use Rattle.lower_code.specs.Arounds.{fresh, up, raised, looped, enclosed}
 use Rattle.lower_code.specs.Applied.{started}
 use Rattle.lower_code.specs.Lowering.{how_many, is_text, one_if, joined_parts, pairs_in, any_defer, target_operands, with_binder, with_generator}
 use Rattle.lower_code.specs.Lowering.{scope_stated, scope_behind, keeps, given_local, is_any, has_base, form_fits, around_stated}

@@ -1,7 +1,6 @@
 -- The notes of a whole program: its classes, its functions with the defaults of fields behind them, and the state at each operation.
 use Rattle.std.specs.Prelude.{ℕ, suc, ◌-◌, List, [], ◌∷◌, ◌++◌, length, map, Option, Some, None, option_map, Bool, false, slice_get}
 use Rattle.verse_tree.specs.declared.tables.ClassInfo.{ClassInfo}
-use Rattle.verse_code.specs.declared.codes.Func.{Func}
 use Rattle.verse_code.specs.declared.codes.Code.{Code}
 use Rattle.verse_sorts.specs.Sorts as s
 use Rattle.verse_sorts.specs.Sorts.{Sort}

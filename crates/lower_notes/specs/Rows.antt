@@ -1,9 +1,9 @@
--- Small programs, form by form, whose notes break no rule.
+-- Small programs, form by form, whose notes break no rule from V1 to V9.
 use Rattle.std.specs.Prelude.{◌≡◌, ℕ, zero, suc, nat_eq, pos, List, [], ◌∷◌, Option, Some, None, Bool, true, false, codes}
 use Rattle.verse_base.specs.declared.places.Place.{Place}
 use Rattle.verse_tree.specs.Tree.{Tree, tree, Shape, Trees, no_trees, more_trees, more_givens, no_givens, more_holes, no_holes}
 use Rattle.verse_tree.specs.Tree as t
-use Rattle.verse_tree.specs.ItemTree.{ClassTree, EnumTree, FieldTree, FunTree, SpecTree, field, method, enumeration, class, function}
+use Rattle.verse_tree.specs.ItemTree.{ClassTree, EnumTree, FieldTree, FunTree, field, method, enumeration, class, function}
 use Rattle.verse_tree.specs.declared.exprs.Assign.TheVariants as assign
 use Rattle.verse_tree.specs.declared.exprs.Comparison.TheVariants as comparison
 use Rattle.verse_tree.specs.declared.exprs.Operator.TheVariants as operator
@@ -17,9 +17,11 @@ use Rattle.verse_sorts.specs.Sorts as s
 use Rattle.verse_sorts.specs.Sorts.{Sort}
 use Rattle.verse_meaning.specs.Programs.{Program, main_name}
 use Rattle.verse_sound_rules.specs.Found.{Found, Signature}
-use Rattle.verse_verify_faults.specs.Faults.{notes_fault}
+use Rattle.verse_verify_faults.specs.Spots.{Table}
+use Rattle.verse_verify_faults.specs.Reading.{verdict}
 use Rattle.lower_code.specs.Programs.{suspends_name, code_of}
 use Rattle.lower_notes.specs.Programs.{notes_of}
+use Rattle.lower_notes.specs.Bytes.{bytes_of}
 
 abbrev pub at : Place
 at = record { file = 0; line = 1; col = 1 }
@@ -247,9 +249,12 @@ differ n m = nat_eq n opt
 abbrev pub code : Tree → Code
 code b = code_of (program b) differ 1
 
--- the rule that the notes break, and where
+abbrev pub notes : Tree → Table
+notes b = notes_of (program b) found differ (code b)
+
+-- the rule that the notes break as they are read from their bytes, and where
 abbrev pub fault : Tree → Option (ℕ × ℕ)
-fault b = notes_fault (code b) (notes_of (program b) found differ (code b))
+fault b = verdict (code b) (bytes_of (code b) (notes b))
 
 abbrev pub Passes : Tree → Type 0
 Passes b = fault b ≡ None
