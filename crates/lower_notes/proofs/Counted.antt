@@ -1,5 +1,6 @@
 -- One state for each operation: how the combinators keep it.
-use Rattle.std.proofs.Common.{◌≡◌, ℕ, zero, suc, ◌+◌, List, [], ◌∷◌, ◌++◌, map, length, max, Bool, true, false, refl, arith}
+use Rattle.std.proofs.Common.{◌≡◌, ℕ, zero, suc, ◌+◌, List, [], ◌∷◌, ◌++◌, map, length, max, Bool, true, false, refl}
+use Rattle.std.proofs.Common.{arith}
 use Rattle.std.proofs.Common.{length-append}
 use Rattle.std.specs.Prelude.{Option, None, option_map}
 use Rattle.verse_base.specs.declared.places.Place.{Place}
@@ -8,7 +9,8 @@ use Rattle.verse_code.specs.declared.operations.Op.{Op}
 use Rattle.verse_code.specs.declared.operations.Op.TheVariants as o
 use Rattle.verse_sorts.specs.Sorts.{Sort}
 use Rattle.lower_code.specs.Pieces as c
-use Rattle.lower_code.specs.Pieces.{Spot, Item, sure, leaving, Maker, past, next, closed, deepest, drops, arms_at, arms_spot, behind, later}
+use Rattle.lower_code.specs.Pieces.{Spot, Item, sure, leaving, Maker, past, next, closed, deepest, drops, arms_at}
+use Rattle.lower_code.specs.Pieces.{arms_spot, behind, later}
 use Rattle.lower_code.specs.Lowering as l
 use Rattle.lower_notes.specs.States.{State, Change, pops, gives, tried, untried, in_arm}
 use Rattle.lower_notes.specs.Stretches as n
@@ -67,7 +69,13 @@ each {f = f} {h = h} {g = g} {k = k} x y = record {
       );
   deep = λ s at z.
       let e : Spot = past s (f s) in
-      omega (arith, deepest_more (f s).items (h e).items, x.deep s at z, y.deep e (behind (g at z).states at) z);
+      omega (
+        arith,
+        deepest_more (f s).items (h e).items,
+        x.deep s at z,
+        y.deep e
+            (behind (g at z).states at) z,
+      );
 }
 
 -- ---- single operations
@@ -113,7 +121,8 @@ ends_or_stuck op false = sticks
 
 -- ---- combinators
 
-pub numbered : {f : ℕ → Maker} {g : Walk} (pl : Place) → ((m : ℕ) → Beside (f m) g) → Beside (c.numbering pl f) g
+pub numbered : {f : ℕ → Maker} {g : Walk} (pl : Place) → ((m : ℕ) → Beside (f m) g) →
+    Beside (c.numbering pl f) g
 numbered pl x = record {
   count = λ s at z. (x s.place).count (record { at = s.at; place = suc s.place; text = s.text }) at z;
   deep = λ s at z. (x s.place).deep (record { at = s.at; place = suc s.place; text = s.text }) at z;
@@ -135,7 +144,11 @@ pub wider : {f : Maker} {g : Walk} (a : Sort) → Beside f g → Beside f (n.wid
 wider a x = record { count = λ s at z. x.count s at z; deep = λ s at z. x.deep s at z }
 
 pub begins : {f : Maker} {g : Walk} (h : Change) → Beside f g → Beside f (n.beginning h g)
-begins h x = record { count = λ s at z. x.count s at (option_map h z); deep = λ s at z. x.deep s at (option_map h z) }
+begins h x = record {
+  count = λ s at z. x.count s at (option_map h z);
+  deep = λ s at z. x.deep s at
+      (option_map h z);
+}
 
 pub before : {f : Maker} {g : Walk} {into beyond : ℕ → Change} (op : ℕ → Op) → Beside f g →
     Beside (c.ahead op f) (n.ahead into beyond g)
@@ -178,10 +191,12 @@ one_of {f = f} {h = h} {g = g} {k = k} op into other x y = record {
 pub tries : {f : Maker} {g : Walk} → Beside f g → Beside (c.ahead o.Try f) (n.attempt g)
 tries = before {into = tried} {beyond = n.always n.same} o.Try
 
-pub attempts : {f h : Maker} {g k : Walk} → Beside f g → Beside h k → Beside (c.either o.Try f h) (n.either_try g k)
+pub attempts : {f h : Maker} {g k : Walk} → Beside f g → Beside h k → Beside (c.either o.Try f h)
+    (n.either_try g k)
 attempts = one_of o.Try tried (n.always n.same)
 
-pub compares : {f h : Maker} {g k : Walk} → Beside f g → Beside h k → Beside (c.either o.Same f h) (n.either_same g k)
+pub compares : {f h : Maker} {g k : Walk} → Beside f g → Beside h k → Beside (c.either o.Same f h)
+    (n.either_same g k)
 compares = one_of o.Same (n.always (pops 2)) (n.always (pops 2))
 
 -- ---- loops
@@ -241,7 +256,8 @@ abbrev loop_walk : Walk → Walk
 loop_walk g = walk_then (n.ahead (n.always n.same) (n.always n.same) (walk_then g (n.one (pops 1)))) n.ends
 
 loop_beside : {f : Maker} {g : Walk} → Beside f g → (a : ℕ) → Beside (loop_code f a) (loop_walk g)
-loop_beside x a = both (before {into = n.always n.same} {beyond = n.always n.same} o.Jump (both x (just {h = pops 1}))) just_ends
+loop_beside x a = both (before {into = n.always n.same} {beyond = n.always n.same} o.Jump
+    (both x (just {h = pops 1}))) just_ends
 
 pub loops : {f : Maker} {g : Walk} → Beside f g → Beside (c.looping f) (n.looping g)
 loops {f = f} {g = g} x = closes {f = c.from_here (loop_code f)} {g = loop_walk g}
@@ -255,7 +271,8 @@ turn_walk turn g = walk_then (n.ahead (n.always turn) (n.always n.same) (n.attem
 
 turn_beside : {f : Maker} {g : Walk} (turn : Change) (k : ℕ) → Beside f g → (a : ℕ) →
     Beside (turn_code f k a) (turn_walk turn g)
-turn_beside turn k x a = both (before {into = n.always turn} {beyond = n.always n.same} o.Jump (tries x)) (just {h = n.same})
+turn_beside turn k x a = both (before {into = n.always turn} {beyond = n.always n.same} o.Jump (tries x))
+    (just {h = n.same})
 
 pub turns : {f : Maker} {g : Walk} (op : Op) (domain turn : Change) (k : ℕ) → Beside f g →
     Beside (c.turning op k f) (n.turning domain turn g)
@@ -278,7 +295,8 @@ unreached_count zero xs = omega arith
 unreached_count (suc m) xs = omega (arith, unreached_count m xs)
 
 pub groups : {arms : Maker} {g : Walk} (kind m : ℕ) (pl : Place) (a : Sort) (where_at : Spot → List ℕ) →
-    ((s : Spot) → length (where_at s) ≡ m) → Beside arms g → Beside (l.grouped kind m pl where_at arms) (n.grouped m a g)
+    ((s : Spot) → length (where_at s) ≡ m) → Beside arms g → Beside (l.grouped kind m pl where_at arms)
+    (n.grouped m a g)
 unfolding l.grouped
 groups {arms = arms} {g = g} kind m pl a where_at many x = record {
   count = λ s at z.
@@ -301,5 +319,6 @@ groups {arms = arms} {g = g} kind m pl a where_at many x = record {
 }
 
 -- an arm of a group
-pub arms : {f : Maker} {g : Walk} (op : Op) (a : Sort) → Beside f g → Beside (code_then f (c.one op)) (n.arm a g)
+pub arms : {f : Maker} {g : Walk} (op : Op) (a : Sort) → Beside f g → Beside (code_then f (c.one op))
+    (n.arm a g)
 arms op a x = begins (in_arm a) (both x just_ends)

@@ -14,9 +14,11 @@ use Rattle.verse_value.specs.Val.{Val, enum}
 use Rattle.verse_sorts.specs.Sorts.{Sort}
 use Rattle.verse_meaning.specs.Programs.{Program, pattern_value, fields_of}
 use Rattle.verse_meaning.specs.Residuals as form
-use Rattle.verse_meaning.specs.Residuals.{Form, Base, in_variable, in_self, in_object, nowhere, Binder, no_name, a_constant, a_variable}
+use Rattle.verse_meaning.specs.Residuals.{Form, Base, in_variable, in_self, in_object, nowhere, Binder, no_name}
+use Rattle.verse_meaning.specs.Residuals.{a_constant, a_variable}
 use Rattle.verse_meaning.specs.Residuals.{Generator, of_elements, of_entries, of_range}
-use Rattle.verse_meaning.specs.Evaluating.{Statement, plain, defines, defers, generates, Callee, alone, of_object, of_value, of_quotient}
+use Rattle.verse_meaning.specs.Evaluating.{Statement, plain, defines, defers, generates, Callee, alone, of_object}
+use Rattle.verse_meaning.specs.Evaluating.{of_value, of_quotient}
 use Rattle.verse_meaning.specs.Evaluating.{no_callee}
 use Rattle.verse_sound_rules.specs.Found.{Found}
 use Rattle.lower_code.specs.declared.arounds.Around.{Around}
@@ -34,7 +36,8 @@ use Rattle.lower_notes.specs.Stretches as w
 use Rattle.lower_notes.specs.Applied as a
 use Rattle.lower_notes.specs.Noting as n
 use Rattle.lower_notes.specs.Laws.{Beside}
-use Rattle.lower_notes.proofs.Counted.{both, none, just, just_ends, just_leaves, at_place, text, away, jumps, sticks, if_so, else_stuck}
+use Rattle.lower_notes.proofs.Counted.{both, none, just, just_ends, just_leaves, at_place, text, away, jumps, sticks}
+use Rattle.lower_notes.proofs.Counted.{if_so, else_stuck}
 use Rattle.lower_notes.proofs.Counted.{ends_or_stuck, before, jumps_over, compares, turns}
 
 -- ---- names
@@ -174,10 +177,12 @@ enums (Some v) = values v
 
 -- ---- callees
 
-pub callees : (k : Callee) {on_alone on_object on_value on_quotient : Form → Maker} {as_alone as_object as_value as_quotient : Form → Walk} →
+pub callees : (k : Callee) {on_alone on_object on_value on_quotient : Form →
+    Maker} {as_alone as_object as_value as_quotient : Form → Walk} →
     ((x : Form) → Beside (on_alone x) (as_alone x)) → ((x : Form) → Beside (on_object x) (as_object x)) →
     ((x : Form) → Beside (on_value x) (as_value x)) → ((x : Form) → Beside (on_quotient x) (as_quotient x)) →
-    Beside (l.by_callee k on_alone on_object on_value on_quotient) (n.by_callee k as_alone as_object as_value as_quotient)
+    Beside (l.by_callee k on_alone on_object on_value on_quotient)
+    (n.by_callee k as_alone as_object as_value as_quotient)
 unfolding l.by_callee n.by_callee
 callees (alone x) i j u v = i x
 callees (of_object x) i j u v = j x
@@ -191,7 +196,8 @@ module _ (p : Program) (found : Found) (differ : ℕ → ℕ → Bool) where
   reads_name (Some (ref.Field c k)) x z = reads_field (this_found z) k
   reads_name r x z = reads_found (find x z)
 
-  pub members : (v : Option Val) {f : Maker} {g : Walk} → Beside f g → Beside (l.membered p differ v f) (n.membered v g)
+  pub members : (v : Option Val) {f : Maker} {g : Walk} → Beside f g → Beside (l.membered p differ v f)
+      (n.membered v g)
   unfolding l.membered n.membered
   members (Some v) x = values v
   members None x = x
@@ -204,7 +210,8 @@ module _ (p : Program) (found : Found) (differ : ℕ → ℕ → Bool) where
 
   -- ---- statements and clauses
 
-  pub states : (x : Statement) (q : Sort) (z : Scope) {whole inner : Maker} {all part : Walk} → Beside whole all → Beside inner part →
+  pub states : (x : Statement) (q : Sort) (z : Scope) {whole inner : Maker} {all part : Walk} →
+      Beside whole all → Beside inner part →
       Beside (l.stated p differ x z whole inner) (n.stated p found differ x q z all part)
   unfolding l.stated n.stated
   states plain q z h i = h
@@ -218,14 +225,17 @@ module _ (p : Program) (found : Found) (differ : ℕ → ℕ → Bool) where
   takes_from domain turn (of_entries i x) k h = turns (o.Each k) domain turn k h
   takes_from domain turn (of_range x) k h = turns (o.Range k) domain turn k h
 
-  pub clauses : (x : Statement) (q r : Sort) (z : Scope) {whole inner : Maker} {all part : Walk} {rest : Scope → Maker}
-      {behind : Scope → Walk} → Beside whole all → Beside inner part → ((z : Scope) → Beside (rest z) (behind z)) →
+  pub clauses : (x : Statement) (q r : Sort)
+      (z : Scope) {whole inner : Maker} {all part : Walk} {rest : Scope → Maker}
+      {behind : Scope → Walk} → Beside whole all → Beside inner part →
+      ((z : Scope) → Beside (rest z) (behind z)) →
       Beside (l.claused p differ x z whole inner rest) (n.claused p found differ x q r z all part behind)
   unfolding l.claused n.claused
   clauses plain q r z h i k = both h (both just (k z))
   clauses (defines b) q r z h i k = both i (both (binds b (length z) q) (both just (k (with_binder b z))))
   clauses (defers d) q r z h i k = sticks
-  clauses (generates y) q r z h i k = both i (takes_from (n.takes y (length z)) (n.turns y (length z) q r) y (length z)
+  clauses (generates y) q r z h i k = both i (takes_from (n.takes y (length z)) (n.turns y (length z) q r) y
+      (length z)
       (k (with_generator y z)))
 
   -- ---- arms of a `case`
@@ -240,14 +250,16 @@ module _ (p : Program) (found : Found) (differ : ℕ → ℕ → Bool) where
   patterns (t.Shape.enum_pattern x y) = enums (pattern_value p x y)
   patterns x = sticks
 
-  arm_by : (x : Shape) (k : ℕ) (last any : Bool) {body rest : Maker} {all others : Walk} → Beside body all → Beside rest others →
+  arm_by : (x : Shape) (k : ℕ) (last any : Bool) {body rest : Maker} {all others : Walk} → Beside body all →
+      Beside rest others →
       Beside (l.arm_by p differ x k last any body rest) (n.arm_by p found differ x k last any all others)
   unfolding l.arm_by n.arm_by
   arm_by x k true any h i = h
   arm_by x k false true h i = both h (jumps_over o.Jump i)
   arm_by x k false false h i = both (patterns x) (both just (compares h i))
 
-  pub arm_of : (b : Tree) (k : ℕ) (last : Bool) {body rest : Maker} {all others : Walk} → Beside body all → Beside rest others →
+  pub arm_of : (b : Tree) (k : ℕ) (last : Bool) {body rest : Maker} {all others : Walk} → Beside body all →
+      Beside rest others →
       Beside (l.arm_of p differ b k last body rest) (n.arm_of p found differ b k last all others)
   arm_of (tree i pl x) k last h r = arm_by x k last (is_any p differ x) h r
 
@@ -257,15 +269,18 @@ module _ (p : Program) (found : Found) (differ : ℕ → ℕ → Bool) where
   defaults None k = sticks
   defaults (Some b) k = just
 
-  field : (g : Option ℕ) (d : Option Tree) (k : ℕ) → Beside (l.field_op p differ g d k) (n.field_walk p found differ g d)
+  field : (g : Option ℕ) (d : Option Tree) (k : ℕ) → Beside (l.field_op p differ g d k)
+      (n.field_walk p found differ g d)
   field None d k = defaults d k
   field (Some i) d k = just
 
-  fields : (ds : List FieldTree) (gs : Givens) (k : ℕ) → Beside (l.field_ops p differ ds gs k) (n.field_walks p found differ ds gs k)
+  fields : (ds : List FieldTree) (gs : Givens) (k : ℕ) → Beside (l.field_ops p differ ds gs k)
+      (n.field_walks p found differ ds gs k)
   fields [] gs k = none
   fields (d ∷ ds) gs k = both (field (given_local d.name gs k) d.default d.number) (fields ds gs k)
 
-  pub makes : (i : Option ℕ) (pl : Place) (gs : Givens) (k : ℕ) {given : Maker} {values : Walk} → Beside given values →
+  pub makes : (i : Option ℕ) (pl : Place) (gs : Givens) (k : ℕ) {given : Maker} {values : Walk} →
+      Beside given values →
       Beside (l.instance_of p differ i pl gs k given) (n.instance_of p found differ i gs k values)
   unfolding l.instance_of n.instance_of
   makes None pl gs k h = sticks

@@ -3,11 +3,13 @@ use Rattle.std.proofs.Common.{refl}
 use Rattle.verse_image.specs.Reading.{many_at, within_at, number_at, digits_at}
 use Rattle.lower_code.specs.Lowering as l
 use Rattle.lower_notes.specs.Noting as n
-use Rattle.lower_notes.specs.Rows.{ValuesPass, AttemptsPass, LoopsPass, DefersPass, TasksPass, WritesPass, RefusedRows}
+use Rattle.lower_notes.specs.Rows.{ValuesPass, AttemptsPass, LoopsPass, DefersPass, TasksPass, WritesPass}
+use Rattle.lower_notes.specs.Rows.{CallsPass, RefusedRows}
 
 pub values_pass : ValuesPass
-unfolding l.by_callee l.grouped l.arm_by l.instance_of l.named l.membered l.stated l.claused n.by_callee n.arm_by n.instance_of n.named n.membered n.stated n.claused
-  many_at within_at number_at digits_at
+unfolding l.by_callee l.grouped l.arm_by l.instance_of l.named l.membered l.stated l.claused
+    n.by_callee n.arm_by n.instance_of n.named n.membered n.stated n.claused
+    many_at within_at number_at digits_at
 values_pass = record {
   sums = refl;
   items = refl;
@@ -17,8 +19,9 @@ values_pass = record {
 }
 
 pub attempts_pass : AttemptsPass
-unfolding l.by_callee l.grouped l.arm_by l.instance_of l.named l.membered l.stated l.claused n.by_callee n.arm_by n.instance_of n.named n.membered n.stated n.claused
-  many_at within_at number_at digits_at
+unfolding l.by_callee l.grouped l.arm_by l.instance_of l.named l.membered l.stated l.claused
+    n.by_callee n.arm_by n.instance_of n.named n.membered n.stated n.claused
+    many_at within_at number_at digits_at
 attempts_pass = record {
   defines = refl;
   negation = refl;
@@ -28,8 +31,9 @@ attempts_pass = record {
 }
 
 pub loops_pass : LoopsPass
-unfolding l.by_callee l.grouped l.arm_by l.instance_of l.named l.membered l.stated l.claused n.by_callee n.arm_by n.instance_of n.named n.membered n.stated n.claused
-  many_at within_at number_at digits_at
+unfolding l.by_callee l.grouped l.arm_by l.instance_of l.named l.membered l.stated l.claused
+    n.by_callee n.arm_by n.instance_of n.named n.membered n.stated n.claused
+    many_at within_at number_at digits_at
 loops_pass = record {
   broken = refl;
   broken_at_times = refl;
@@ -43,8 +47,9 @@ loops_pass = record {
 }
 
 pub defers_pass : DefersPass
-unfolding l.by_callee l.grouped l.arm_by l.instance_of l.named l.membered l.stated l.claused n.by_callee n.arm_by n.instance_of n.named n.membered n.stated n.claused
-  many_at within_at number_at digits_at
+unfolding l.by_callee l.grouped l.arm_by l.instance_of l.named l.membered l.stated l.claused
+    n.by_callee n.arm_by n.instance_of n.named n.membered n.stated n.claused
+    many_at within_at number_at digits_at
 defers_pass = record {
   deferring = refl;
   returned = refl;
@@ -55,8 +60,9 @@ defers_pass = record {
 }
 
 pub tasks_pass : TasksPass
-unfolding l.by_callee l.grouped l.arm_by l.instance_of l.named l.membered l.stated l.claused n.by_callee n.arm_by n.instance_of n.named n.membered n.stated n.claused
-  many_at within_at number_at digits_at
+unfolding l.by_callee l.grouped l.arm_by l.instance_of l.named l.membered l.stated l.claused
+    n.by_callee n.arm_by n.instance_of n.named n.membered n.stated n.claused
+    many_at within_at number_at digits_at
 tasks_pass = record {
   group = refl;
   branch = refl;
@@ -65,8 +71,9 @@ tasks_pass = record {
 }
 
 pub writes_pass : WritesPass
-unfolding l.by_callee l.grouped l.arm_by l.instance_of l.named l.membered l.stated l.claused n.by_callee n.arm_by n.instance_of n.named n.membered n.stated n.claused
-  many_at within_at number_at digits_at
+unfolding l.by_callee l.grouped l.arm_by l.instance_of l.named l.membered l.stated l.claused
+    n.by_callee n.arm_by n.instance_of n.named n.membered n.stated n.claused
+    many_at within_at number_at digits_at
 writes_pass = record {
   variable = refl;
   another_type = refl;
@@ -75,8 +82,22 @@ writes_pass = record {
 }
 
 pub refused_rows : RefusedRows
-unfolding l.by_callee l.grouped l.arm_by l.instance_of l.named l.membered l.stated l.claused n.by_callee n.arm_by n.instance_of n.named n.membered n.stated n.claused
-  many_at within_at number_at digits_at
+unfolding l.by_callee l.grouped l.arm_by l.instance_of l.named l.membered l.stated l.claused
+    n.by_callee n.arm_by n.instance_of n.named n.membered n.stated n.claused
+    many_at within_at number_at digits_at
 refused_rows = record {
   two_scopes = refl;
+}
+
+pub calls_pass : CallsPass
+unfolding l.by_callee l.grouped l.arm_by l.instance_of l.named l.membered l.stated l.claused
+    n.by_callee n.arm_by n.instance_of n.named n.membered n.stated n.claused
+    many_at within_at number_at digits_at
+calls_pass = record {
+  quotient = refl;
+  remainder = refl;
+  own_field = refl;
+  own_field_written = refl;
+  own_method = refl;
+  left_in_method = refl;
 }

@@ -10,7 +10,8 @@ use Rattle.lower_code.specs.Pieces.{Spot, past}
 use Rattle.lower_code.specs.Arounds.{fresh}
 use Rattle.lower_code.specs.Defaults.{defaults_in}
 use Rattle.lower_code.specs.Programs as c
-use Rattle.lower_code.specs.Programs.{Body, bodies_in, default_bodies, all_bodies, first_spot, class_of, item_op, funcs_from, code_of}
+use Rattle.lower_code.specs.Programs.{Body, bodies_in, default_bodies, all_bodies, first_spot, class_of, item_op}
+use Rattle.lower_code.specs.Programs.{funcs_from, code_of}
 use Rattle.lower_notes.specs.States.{spot_of}
 use Rattle.lower_notes.specs.Programs as n
 use Rattle.lower_notes.specs.Laws.{Beside, SameCounts, OneForEach}
@@ -35,7 +36,8 @@ module _ (p : Program) (found : Found) (differ : ℕ → ℕ → Bool) where
   functions_many (b ∷ bs) s = omega (arith, functions_many bs (past s (c.body_piece p differ b s)))
 
   -- a body begins with the state of its function
-  body : (code : Code) (k : ℕ) (b : Body) → Beside (c.body_piece p differ b) (n.body_walk p found differ code k b)
+  body : (code : Code) (k : ℕ) (b : Body) → Beside (c.body_piece p differ b)
+      (n.body_walk p found differ code k b)
   body code k b =
       let h = both (trees p found differ b.body b.scope fresh) just_ends in
       record {
@@ -43,14 +45,16 @@ module _ (p : Program) (found : Found) (differ : ℕ → ℕ → Bool) where
         deep = λ s at x. h.deep s at (Some (n.entry_state p found differ code k));
       }
 
-  bodies : (code : Code) (k : ℕ) (bs : List Body) → Beside (c.bodies_from p differ bs) (n.bodies_from p found differ code k bs)
+  bodies : (code : Code) (k : ℕ) (bs : List Body) → Beside (c.bodies_from p differ bs)
+      (n.bodies_from p found differ code k bs)
   bodies code k [] = none
   bodies code k (b ∷ bs) = both (body code k b) (bodies code (suc k) bs)
 
   whole : (code : Code) → length (n.whole p found differ code).states ≡ length (c.whole p differ).items
   whole code = omega (arith, (bodies code 0 (all_bodies p.items)).count first_spot 0 None)
 
-  same_counts : (files : ℕ) → SameCounts (code_of p differ files) (n.notes_of p found differ (code_of p differ files))
+  same_counts : (files : ℕ) → SameCounts (code_of p differ files) (n.notes_of p found differ
+      (code_of p differ files))
   same_counts files =
       let code = code_of p differ files in
       let ds = default_bodies (defaults_in p.items) in
@@ -60,7 +64,8 @@ module _ (p : Program) (found : Found) (differ : ℕ → ℕ → Bool) where
           arith,
           functions_many (all_bodies p.items) first_spot,
           length-append (bodies_in p.items) ds,
-          length-append (n.declared found 0 (bodies_in p.items)) (map (n.default_note p found differ code) ds),
+          length-append (n.declared found 0 (bodies_in p.items))
+              (map (n.default_note p found differ code) ds),
           declared_many found 0 (bodies_in p.items),
           mapped (n.default_note p found differ code) ds,
         );

@@ -5,11 +5,13 @@ use Rattle.verse_tree.specs.declared.exprs.Operator.TheVariants as op
 use Rattle.verse_sorts.specs.Sorts as s
 use Rattle.verse_sorts.specs.Sorts.{Sort}
 use Rattle.verse_meaning.specs.Residuals as form
-use Rattle.verse_meaning.specs.Residuals.{Form, Base, in_variable, in_self, in_object, nowhere, Binder, no_name, a_constant, a_variable}
+use Rattle.verse_meaning.specs.Residuals.{Form, Base, in_variable, in_self, in_object, nowhere}
+use Rattle.verse_meaning.specs.Residuals.{Binder, no_name, a_constant, a_variable}
 use Rattle.lower_code.specs.declared.arounds.Around.{Around}
 use Rattle.lower_code.specs.Scopes.{Scope, Found, fixed, varies, absent, find, this_found}
 use Rattle.lower_notes.specs.States.{pops, gives, gets, puts}
-use Rattle.lower_notes.specs.Stretches.{Walk, nothing, one, last, ends, leave_loop, leave, when, when_else, ◌then◌}
+use Rattle.lower_notes.specs.Stretches.{Walk, nothing, one, last, ends, leave_loop, leave, when}
+use Rattle.lower_notes.specs.Stretches.{when_else, ◌then◌}
 
 -- Names
 

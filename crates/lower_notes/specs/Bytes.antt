@@ -1,5 +1,6 @@
 -- Notes as bytes.
-use Rattle.std.specs.Prelude.{ℕ, zero, suc, ◌+◌, ◌/◌, ◌%◌, nat_lt, List, [], ◌∷◌, ◌++◌, length, reverse, Option, Some, None, Bool, cond}
+use Rattle.std.specs.Prelude.{ℕ, zero, suc, ◌+◌, ◌/◌, ◌%◌, nat_lt, List, [], ◌∷◌, ◌++◌, length}
+use Rattle.std.specs.Prelude.{reverse, Option, Some, None, Bool, cond}
 use Rattle.verse_code.specs.declared.codes.Code.{Code}
 use Rattle.verse_image.specs.Format.{flag}
 use Rattle.verse_sorts.specs.Sorts as s
@@ -80,4 +81,5 @@ spot defers p = number p.func ++ option sort p.arm ++ each sort p.locals ++ coun
     counted open_try (reverse p.tries) ++ cond defers (blocks p) []
 
 abbrev pub bytes_of : Code → Table → List ℕ
-bytes_of c t = mark c ++ each class_note t.classes ++ each func_note t.functions ++ each (option (spot (defers_in c c.ops))) t.spots
+bytes_of c t = mark c ++ each class_note t.classes ++ each func_note t.functions ++
+    each (option (spot (defers_in c c.ops))) t.spots

@@ -27,8 +27,10 @@ pub record SameCounts (code : Code) (notes : Table) : Type 0 where
   pub spots : length notes.spots ≡ length code.ops
 
 pub record StatesStand (p : Program) (found : Found) (differ : ℕ → ℕ → Bool) : Type 0 where
-  pub trees : (b : Tree) (sc : Scope) (a : Around) → Beside (piece p differ b sc a) (walk p found differ b sc a)
-  pub whole : (files : ℕ) → SameCounts (code_of p differ files) (notes_of p found differ (code_of p differ files))
+  pub trees : (b : Tree) (sc : Scope) (a : Around) → Beside (piece p differ b sc a)
+      (walk p found differ b sc a)
+  pub whole : (files : ℕ) → SameCounts (code_of p differ files) (notes_of p found differ
+      (code_of p differ files))
 
 -- of each program, whatever the checker has found of it
 abbrev pub OneForEach : Type 0

@@ -1,8 +1,9 @@
--- The states of each form: one case for each, as lowering has them. Behind a tree there stands what stood before it, with a value
--- of the sort that the checker has found for its node.
+-- The states of each form: one case for each, as lowering has them. Behind a tree there stands
+-- what stood before it, with a value of the sort that the checker has found for its node.
 use Rattle.std.specs.Prelude.{ℕ, suc, length, List, [], ◌∷◌, Option, Some, None, Bool, true, false}
 use Rattle.verse_base.specs.declared.places.Place.{Place}
-use Rattle.verse_tree.specs.Tree.{Bytes, Tree, tree, Shape, Trees, no_trees, more_trees, Holes, no_holes, more_holes, Givens, no_givens}
+use Rattle.verse_tree.specs.Tree.{Bytes, Tree, tree, Shape, Trees, no_trees, more_trees, Holes}
+use Rattle.verse_tree.specs.Tree.{no_holes, more_holes, Givens, no_givens}
 use Rattle.verse_tree.specs.Tree.{more_givens}
 use Rattle.verse_tree.specs.Tree as t
 use Rattle.verse_tree.specs.ItemTree.{FieldTree}
@@ -14,21 +15,30 @@ use Rattle.verse_sorts.specs.Sorts as s
 use Rattle.verse_sorts.specs.Sorts.{Sort}
 use Rattle.verse_meaning.specs.Programs.{Program, ref_at, pattern_value, fields_of}
 use Rattle.verse_meaning.specs.Residuals as form
-use Rattle.verse_meaning.specs.Residuals.{Form, Base, a_constant, a_variable, Generator, of_elements, of_entries, of_range}
-use Rattle.verse_meaning.specs.Evaluating.{Statement, statement_of, plain, defines, defers, generates, Callee, alone, of_object, of_value}
-use Rattle.verse_meaning.specs.Evaluating.{of_quotient, no_callee, none_left, number_of, picked, member_form, callee_of, spawned_callee}
+use Rattle.verse_meaning.specs.Residuals.{Form, Base, a_constant, a_variable, Generator}
+use Rattle.verse_meaning.specs.Residuals.{of_elements, of_entries, of_range}
+use Rattle.verse_meaning.specs.Evaluating.{Statement, statement_of, plain, defines, defers}
+use Rattle.verse_meaning.specs.Evaluating.{generates, Callee, alone, of_object, of_value}
+use Rattle.verse_meaning.specs.Evaluating.{of_quotient, no_callee, none_left, number_of, picked}
+use Rattle.verse_meaning.specs.Evaluating.{member_form, callee_of, spawned_callee}
 use Rattle.verse_meaning.specs.Evaluating.{base_of, enum_member, class_ref}
 use Rattle.verse_sound_rules.specs.Found.{Found}
 use Rattle.lower_code.specs.declared.arounds.Around.{Around}
 use Rattle.lower_code.specs.Scopes.{Scope, hidden, find, this_found}
 use Rattle.lower_code.specs.Arounds.{fresh, up, raised, looped, enclosed}
 use Rattle.lower_code.specs.Applied.{started}
-use Rattle.lower_code.specs.Lowering.{how_many, is_text, one_if, joined_parts, pairs_in, any_defer, target_operands, with_binder, with_generator}
-use Rattle.lower_code.specs.Lowering.{scope_stated, scope_behind, keeps, given_local, is_any, has_base, form_fits, around_stated}
-use Rattle.lower_notes.specs.States.{Change, pops, gives, gets, puts, takes_domain, takes_range, turns_with, untried, in_arm, in_block, deferred}
-use Rattle.lower_notes.specs.Stretches.{Walk, nothing, one, last, ends, leave, when, when_else, ◌then◌, ◌beside◌, giving, widened, ahead, over}
-use Rattle.lower_notes.specs.Stretches.{always, attempt, either_try, either_same, looping, turning, arm, grouped}
-use Rattle.lower_notes.specs.Applied.{read_found, read_this, field_of_this, base_walk, bind, storing, finish, start, returning, breaking}
+use Rattle.lower_code.specs.Lowering.{how_many, is_text, one_if, joined_parts, pairs_in, any_defer}
+use Rattle.lower_code.specs.Lowering.{target_operands, with_binder, with_generator}
+use Rattle.lower_code.specs.Lowering.{scope_stated, scope_behind, keeps, given_local, is_any}
+use Rattle.lower_code.specs.Lowering.{has_base, form_fits, around_stated}
+use Rattle.lower_notes.specs.States.{Change, pops, gives, gets, puts, takes_domain, takes_range}
+use Rattle.lower_notes.specs.States.{turns_with, untried, in_arm, in_block, deferred}
+use Rattle.lower_notes.specs.Stretches.{Walk, nothing, one, last, ends, leave, when, when_else}
+use Rattle.lower_notes.specs.Stretches.{◌then◌, ◌beside◌, giving, widened, ahead, over}
+use Rattle.lower_notes.specs.Stretches.{always, attempt, either_try, either_same, looping, turning}
+use Rattle.lower_notes.specs.Stretches.{arm, grouped}
+use Rattle.lower_notes.specs.Applied.{read_found, read_this, field_of_this, base_walk, bind}
+use Rattle.lower_notes.specs.Applied.{storing, finish, start, returning, breaking}
 
 abbrev pub text_if : Bytes → Walk
 text_if bs = when (is_text bs) (one (gives 0 (s.list s.char)))
@@ -122,13 +132,16 @@ module _ (p : Program) (found : Found) (differ : ℕ → ℕ → Bool) where
   unfoldable pub stated : Statement → Sort → Scope → (whole inner : Walk) → Walk
   stated plain q sc whole inner = whole
   stated (defines b) q sc whole inner = inner then bind b (length sc) q
-  stated (defers d) q sc whole inner = ahead in_block deferred (inner then one (pops 1) then ends) then one (gives 0 q)
+  stated (defers d) q sc whole inner = ahead in_block deferred (inner then one (pops 1) then ends) then
+      one (gives 0 q)
   stated (generates g) q sc whole inner = ends
 
   -- a clause of a `for`, with what comes behind it; k is the sort of a key
-  unfoldable pub claused : Statement → (q k : Sort) → Scope → (whole inner : Walk) → (rest : Scope → Walk) → Walk
+  unfoldable pub claused : Statement → (q k : Sort) → Scope → (whole inner : Walk) → (rest : Scope → Walk) →
+      Walk
   claused plain q k sc whole inner rest = whole then one (pops 1) then rest sc
-  claused (defines b) q k sc whole inner rest = inner then bind b (length sc) q then one (pops 1) then rest (with_binder b sc)
+  claused (defines b) q k sc whole inner rest = inner then bind b (length sc) q then one (pops 1) then
+      rest (with_binder b sc)
   claused (defers d) q k sc whole inner rest = ends
   claused (generates g) q k sc whole inner rest =
       inner then turning (takes g (length sc)) (turns g (length sc) q k) (rest (with_generator g sc))
@@ -141,47 +154,61 @@ module _ (p : Program) (found : Found) (differ : ℕ → ℕ → Bool) where
     -- blocks and statements
     shape_walk (t.Shape.block cs) n pl sc a = statements cs sc a
     shape_walk (t.Shape.defer b) n pl sc a = ends
-    shape_walk (t.Shape.definition x b) n pl sc a = walk b sc a then bind (a_constant x) (length sc) (found.sort n)
-    shape_walk (t.Shape.typed x w b) n pl sc a = walk b sc a then bind (a_constant x) (length sc) (found.sort n)
-    shape_walk (t.Shape.variable x w b) n pl sc a = walk b sc a then bind (a_variable x pl) (length sc) (found.sort n)
+    shape_walk (t.Shape.definition x b) n pl sc a = walk b sc a then bind (a_constant x) (length sc)
+        (found.sort n)
+    shape_walk (t.Shape.typed x w b) n pl sc a = walk b sc a then bind (a_constant x) (length sc)
+        (found.sort n)
+    shape_walk (t.Shape.variable x w b) n pl sc a = walk b sc a then bind (a_variable x pl) (length sc)
+        (found.sort n)
     shape_walk (t.Shape.assignment x b c) n pl sc a =
         target_walk b (base_of p b) sc a then walk c sc (up (raised (target_operands b) a)) then
         when_else (has_base p differ b (base_of p b) sc)
-        (storing (keeps x (differ (number_of b) (number_of c))) (length sc) (suc (target_operands b)) (sort_at b) (sort_at c))
+        (storing (keeps x (differ (number_of b) (number_of c))) (length sc) (suc (target_operands b))
+        (sort_at b) (sort_at c))
     shape_walk (t.Shape.returned b) n pl sc a = walk b sc a then returning a
     shape_walk t.Shape.returned_unit n pl sc a = one (gives 0 s.unit) then returning a
     shape_walk t.Shape.break_form n pl sc a = breaking a
     -- failure contexts
     shape_walk (t.Shape.if_else cs b c) n pl sc a =
-        either_try (statements cs sc (enclosed a) then one (pops 1) then one untried then walk b (scope_behind cs sc) a) (walk c sc a)
+        either_try (statements cs sc (enclosed a) then one (pops 1) then one untried then
+        walk b (scope_behind cs sc) a) (walk c sc a)
     shape_walk (t.Shape.if_alone cs b) n pl sc a =
-        either_try (statements cs sc (enclosed a) then one (pops 1) then one untried then walk b (scope_behind cs sc) a) last
-    shape_walk (t.Shape.negation b) n pl sc a = attempt (walk b sc (enclosed a) then one (pops 1) then one untried then ends) then last
+        either_try (statements cs sc (enclosed a) then one (pops 1) then one untried then
+        walk b (scope_behind cs sc) a) last
+    shape_walk (t.Shape.negation b) n pl sc a = attempt (walk b sc (enclosed a) then one (pops 1) then
+        one untried then ends) then last
     shape_walk (t.Shape.option cs) n pl sc a =
         either_try (statements cs sc (enclosed a) then one untried then one (gives 1 (found.sort n))) last
     shape_walk (t.Shape.logic cs) n pl sc a =
-        either_try (statements cs sc (enclosed a) then one (pops 1) then one untried then one (gives 0 (found.sort n))) last
-    shape_walk (t.Shape.chained op.Or b c) n pl sc a = either_try (walk b sc (enclosed a) then one untried) (walk c sc a)
+        either_try (statements cs sc (enclosed a) then one (pops 1) then one untried then
+        one (gives 0 (found.sort n))) last
+    shape_walk (t.Shape.chained op.Or b c) n pl sc a = either_try (walk b sc (enclosed a) then one untried)
+        (walk c sc a)
     shape_walk (t.Shape.for_form cs b) n pl sc a =
         one (gives 0 (found.sort n)) then one (puts (length sc) (found.sort n)) then
-        attempt (levels cs (hidden ∷ sc) (enclosed a) (λ inside. one untried then walk b inside a then one (pops 1))) then last
+        attempt (levels cs (hidden ∷ sc) (enclosed a) (λ inside. one untried then walk b inside a then
+        one (pops 1))) then last
     -- operators
     shape_walk (t.Shape.chained op.Div b c) n pl sc a = ends
     shape_walk (t.Shape.chained op.And b c) n pl sc a = walk b sc a then one (pops 1) then walk c sc a
-    shape_walk (t.Shape.chained x b c) n pl sc a = walk b sc a then walk c sc (up a) then finish (form.computing x (p.is_array n) pl) 2 true
-    shape_walk (t.Shape.compared x b c) n pl sc a = walk b sc a then walk c sc (up a) then finish (form.comparing x) 2 true
+    shape_walk (t.Shape.chained x b c) n pl sc a = walk b sc a then walk c sc (up a) then
+        finish (form.computing x (p.is_array n) pl) 2 true
+    shape_walk (t.Shape.compared x b c) n pl sc a = walk b sc a then walk c sc (up a) then
+        finish (form.comparing x) 2 true
     shape_walk (t.Shape.minus b) n pl sc a = walk b sc a then finish (form.negating pl) 1 true
     shape_walk (t.Shape.query b) n pl sc a = walk b sc a then finish form.querying 1 true
     -- members, calls, indices
     shape_walk (t.Shape.member b x) n pl sc a =
         membered (enum_member p b x) (walk b sc a then finish (member_form (ref_at p n) x) 1 true)
     shape_walk (t.Shape.call b ts) n pl sc a = by_callee (callee_of p b (picked ts) pl)
-        (λ f. start f sc then args ts sc (started f a) then finish f (how_many ts) (form_fits p differ f (how_many ts) sc))
+        (λ f. start f sc then args ts sc (started f a) then finish f (how_many ts) (form_fits p differ f
+        (how_many ts) sc))
         (λ f. inner b sc a then args ts sc (up a) then finish f (how_many ts) true)
         (λ f. walk b sc a then finish f 0 true)
         (λ f. quotient ts sc a then finish f 2 true)
     shape_walk (t.Shape.index b ts) n pl sc a = by_callee (callee_of p b form.indexing pl)
-        (λ f. start f sc then args ts sc (started f a) then finish f (how_many ts) (form_fits p differ f (how_many ts) sc))
+        (λ f. start f sc then args ts sc (started f a) then finish f (how_many ts) (form_fits p differ f
+        (how_many ts) sc))
         (λ f. inner b sc a then args ts sc (up a) then finish f (how_many ts) true)
         (λ f. walk b sc a then indices (sort_at b) ts sc (up a) then finish f (how_many ts) true)
         (λ f. quotient ts sc a then finish f 2 true)
@@ -189,18 +216,22 @@ module _ (p : Program) (found : Found) (differ : ℕ → ℕ → Bool) where
     shape_walk (t.Shape.integer z) n pl sc a = last
     shape_walk (t.Shape.character c) n pl sc a = last
     shape_walk (t.Shape.text bs) n pl sc a = last
-    shape_walk (t.Shape.holes bs hs) n pl sc a = text_if bs then holed hs sc (raised (one_if (is_text bs) 0) a) then
+    shape_walk (t.Shape.holes bs hs) n pl sc a = text_if bs then holed hs sc
+        (raised (one_if (is_text bs) 0) a) then
         finish (form.joining [] pl) (one_if (is_text bs) (joined_parts hs)) true
     shape_walk t.Shape.truth n pl sc a = last
     shape_walk t.Shape.falsehood n pl sc a = last
     shape_walk t.Shape.this n pl sc a = read_this (this_found sc)
     shape_walk (t.Shape.name x) n pl sc a = named (ref_at p n) x sc
     -- values that are made
-    shape_walk (t.Shape.tuple ts) n pl sc a = args ts sc a then finish (form.making_tuple pl) (how_many ts) true
-    shape_walk (t.Shape.array ts) n pl sc a = args ts sc a then finish (form.making_array pl) (how_many ts) true
+    shape_walk (t.Shape.tuple ts) n pl sc a = args ts sc a then finish (form.making_tuple pl)
+        (how_many ts) true
+    shape_walk (t.Shape.array ts) n pl sc a = args ts sc a then finish (form.making_array pl)
+        (how_many ts) true
     shape_walk (t.Shape.mapping ps) n pl sc a =
         paired_args (key_in (found.sort n)) ps sc a then finish (form.making_map pl) (pairs_in ps) true
-    shape_walk (t.Shape.instance x gs) n pl sc a = instance_of (class_ref p (ref_at p n)) gs (length sc) (given_args gs sc a)
+    shape_walk (t.Shape.instance x gs) n pl sc a = instance_of (class_ref p (ref_at p n)) gs (length sc)
+        (given_args gs sc a)
     shape_walk (t.Shape.event w) n pl sc a = last
     shape_walk t.Shape.bare_event n pl sc a = last
     -- loops and blocks
@@ -220,10 +251,12 @@ module _ (p : Program) (found : Found) (differ : ℕ → ℕ → Bool) where
     -- generators, arms of a `case` and patterns are no forms of their own
     shape_walk x n pl sc a = ends
 
-    -- statements or conditions, the last one's value stays; where there is a deferred block, it runs behind them
+    -- statements or conditions, the last one's value stays; where there is a deferred block, it
+    -- runs behind them
     pub statements : Trees → Scope → Around → Walk
     statements no_trees sc a = one (gives 0 s.unit)
-    statements (more_trees b cs) sc a = stated (statement_of b) (sort_at b) sc (walk b sc a) (inner b sc a) then
+    statements (more_trees b cs) sc a = stated (statement_of b) (sort_at b) sc (walk b sc a)
+        (inner b sc a) then
         more_statements cs (scope_stated (statement_of b) sc) (around_stated p differ (statement_of b) a) then
         when (any_defer (more_trees b cs)) (leave a.defers)
 
@@ -234,7 +267,8 @@ module _ (p : Program) (found : Found) (differ : ℕ → ℕ → Bool) where
         one (pops 1) then stated (statement_of b) (sort_at b) sc (walk b sc a) (inner b sc a) then
         more_statements cs (scope_stated (statement_of b) sc) (around_stated p differ (statement_of b) a)
 
-    -- the part of a definition, a deferred block, the object of a member, the domain of a generator or both ends of its range
+    -- the part of a definition, a deferred block, the object of a member, the domain of a
+    -- generator or both ends of its range
     pub inner : Tree → Scope → Around → Walk
     inner (tree n pl x) sc a = inner_shape x sc a
 
@@ -257,11 +291,13 @@ module _ (p : Program) (found : Found) (differ : ℕ → ℕ → Bool) where
     -- indices into what is of the sort q
     pub indices : Sort → Trees → Scope → Around → Walk
     indices q no_trees sc a = nothing
-    indices q (more_trees b ts) sc a = widened (index_in q (sort_at b)) (walk b sc a) then indices q ts sc (up a)
+    indices q (more_trees b ts) sc a = widened (index_in q (sort_at b)) (walk b sc a) then indices q ts sc
+        (up a)
 
     pub holed : Holes → Scope → Around → Walk
     holed no_holes sc a = nothing
-    holed (more_holes b bs hs) sc a = walk b sc a then text_if bs then holed hs sc (raised (suc (one_if (is_text bs) 0)) a)
+    holed (more_holes b bs hs) sc a = walk b sc a then text_if bs then holed hs sc
+        (raised (suc (one_if (is_text bs) 0)) a)
 
     -- keys of the sort k, each with its value
     pub paired_args : Sort → t.Pairs → Scope → Around → Walk
@@ -272,7 +308,8 @@ module _ (p : Program) (found : Found) (differ : ℕ → ℕ → Bool) where
     -- each value that an instance is given goes into a local
     pub given_args : Givens → Scope → Around → Walk
     given_args no_givens sc a = nothing
-    given_args (more_givens x b gs) sc a = walk b sc a then one (puts (length sc) (sort_at b)) then given_args gs (hidden ∷ sc) a
+    given_args (more_givens x b gs) sc a = walk b sc a then one (puts (length sc) (sort_at b)) then
+        given_args gs (hidden ∷ sc) a
 
     -- Floor and Ceil take the dividend and the divisor of their one argument
     pub quotient : Trees → Scope → Around → Walk
@@ -300,7 +337,8 @@ module _ (p : Program) (found : Found) (differ : ℕ → ℕ → Bool) where
     -- the clauses of a `for`; behind the last stands the body
     pub levels : Trees → Scope → Around → (body : Scope → Walk) → Walk
     levels no_trees sc a body = body sc
-    levels (more_trees c cs) sc a body = claused (statement_of c) (sort_at c) (found.key (number_of c)) sc (walk c sc a) (inner c sc a)
+    levels (more_trees c cs) sc a body = claused (statement_of c) (sort_at c) (found.key (number_of c)) sc
+        (walk c sc a) (inner c sc a)
         (λ sc. levels cs sc a body)
 
     -- the arms of a `case` whose subject is in local l
@@ -324,8 +362,10 @@ module _ (p : Program) (found : Found) (differ : ℕ → ℕ → Bool) where
     spawned (tree n pl x) sc a = spawned_shape x pl sc a
 
     pub spawned_shape : Shape → Place → Scope → Around → Walk
-    spawned_shape (t.Shape.call b ts) pl sc a = by_callee (spawned_callee (callee_of p b (form.picking None) pl))
-        (λ f. start f sc then args ts sc (started f a) then finish f (how_many ts) (form_fits p differ f (how_many ts) sc))
+    spawned_shape (t.Shape.call b ts) pl sc a =
+        by_callee (spawned_callee (callee_of p b (form.picking None) pl))
+        (λ f. start f sc then args ts sc (started f a) then finish f (how_many ts) (form_fits p differ f
+        (how_many ts) sc))
         (λ f. inner b sc a then args ts sc (up a) then finish f (how_many ts) true)
         (λ f. ends)
         (λ f. ends)

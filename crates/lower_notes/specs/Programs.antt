@@ -1,5 +1,7 @@
--- The notes of a whole program: its classes, its functions with the defaults of fields behind them, and the state at each operation.
-use Rattle.std.specs.Prelude.{ℕ, suc, ◌-◌, List, [], ◌∷◌, ◌++◌, length, map, Option, Some, None, option_map, Bool, false, slice_get}
+-- The notes of a whole program: its classes, its functions with the defaults of fields behind
+-- them, and the state at each operation.
+use Rattle.std.specs.Prelude.{ℕ, suc, ◌-◌, List, [], ◌∷◌, ◌++◌, length, map, Option, Some, None}
+use Rattle.std.specs.Prelude.{option_map, Bool, false, slice_get}
 use Rattle.verse_tree.specs.declared.tables.ClassInfo.{ClassInfo}
 use Rattle.verse_code.specs.declared.codes.Code.{Code}
 use Rattle.verse_sorts.specs.Sorts as s
@@ -23,7 +25,13 @@ with_this None qs = qs
 with_this (Some c) qs = s.obj c ∷ qs
 
 abbrev pub signed : Signature → FuncNote
-signed g = record { params = with_this g.this g.params; result = g.result; may_fail = g.decides; may_wait = g.lasts }
+signed g = record {
+  params = with_this g.this g.params;
+  result = g.result;
+  may_fail = g.decides;
+  may_wait =
+      g.lasts;
+}
 
 -- functions and methods, from the number k on
 abbrev pub declared : Found → (k : ℕ) → List Body → List FuncNote
@@ -32,7 +40,8 @@ declared found k (b ∷ bs) = signed (found.signature k) ∷ declared found (suc
 
 abbrev pub class_notes : Found → (k : ℕ) → List ClassInfo → List ClassNote
 class_notes found k [] = []
-class_notes found k (c ∷ cs) = record { parent = found.up k; slots = found.slots k } ∷ class_notes found (suc k) cs
+class_notes found k (c ∷ cs) = record { parent = found.up k; slots = found.slots k } ∷ class_notes found
+    (suc k) cs
 
 abbrev pub params_of : Option FuncNote → List Sort
 params_of None = []
@@ -54,13 +63,20 @@ at_entry k params n = record {
 
 module _ (p : Program) (found : Found) (differ : ℕ → ℕ → Bool) (code : Code) where
   abbrev pub default_note : Body → FuncNote
-  default_note b = record { params = []; result = sort_at p found differ b.body; may_fail = false; may_wait = false }
+  default_note b = record {
+    params = [];
+    result = sort_at p found differ b.body;
+    may_fail = false;
+    may_wait =
+        false;
+  }
 
   abbrev pub func_notes : List FuncNote
   func_notes = declared found 0 (bodies_in p.items) ++ map default_note (default_bodies (defaults_in p.items))
 
   abbrev pub entry_state : (k : ℕ) → State
-  entry_state k = at_entry k (params_of (slice_get func_notes k)) (locals_of code (slice_get code.functions k))
+  entry_state k = at_entry k (params_of (slice_get func_notes k))
+      (locals_of code (slice_get code.functions k))
 
   abbrev pub body_walk : (k : ℕ) → Body → Walk
   body_walk k b at x = (walk p found differ b.body b.scope fresh then ends) at (Some (entry_state k))

@@ -1,9 +1,12 @@
 -- Small programs, form by form, whose notes break no rule from V1 to V9.
-use Rattle.std.specs.Prelude.{◌≡◌, ℕ, zero, suc, nat_eq, pos, List, [], ◌∷◌, Option, Some, None, Bool, true, false, codes}
+use Rattle.std.specs.Prelude.{◌≡◌, ℕ, zero, suc, nat_eq, pos, List, [], ◌∷◌, Option, Some, None}
+use Rattle.std.specs.Prelude.{Bool, true, false, codes}
 use Rattle.verse_base.specs.declared.places.Place.{Place}
-use Rattle.verse_tree.specs.Tree.{Tree, tree, Shape, Trees, no_trees, more_trees, more_givens, no_givens, more_holes, no_holes}
+use Rattle.verse_tree.specs.Tree.{Tree, tree, Shape, Trees, no_trees, more_trees, more_givens}
+use Rattle.verse_tree.specs.Tree.{no_givens, more_holes, no_holes}
 use Rattle.verse_tree.specs.Tree as t
-use Rattle.verse_tree.specs.ItemTree.{ClassTree, EnumTree, FieldTree, FunTree, field, method, enumeration, class, function}
+use Rattle.verse_tree.specs.ItemTree.{ClassTree, EnumTree, FieldTree, FunTree, field, method}
+use Rattle.verse_tree.specs.ItemTree.{enumeration, class, function}
 use Rattle.verse_tree.specs.declared.exprs.Assign.TheVariants as assign
 use Rattle.verse_tree.specs.declared.exprs.Comparison.TheVariants as comparison
 use Rattle.verse_tree.specs.declared.exprs.Operator.TheVariants as operator
@@ -70,8 +73,10 @@ abbrev pub lists : ℕ
 lists = 14
 
 abbrev pub sorts : List Sort
-sorts = s.int ∷ s.any ∷ s.never ∷ s.nil ∷ s.logic ∷ s.list s.char ∷ s.list s.int ∷ s.map (s.list s.char) s.int ∷ s.task s.int ∷
-    s.event s.int ∷ s.tuple (s.more_sorts s.int (s.more_sorts s.int s.no_sorts)) ∷ s.opt s.int ∷ s.enum 0 ∷ s.list s.never ∷
+sorts = s.int ∷ s.any ∷ s.never ∷ s.nil ∷ s.logic ∷ s.list s.char ∷ s.list s.int ∷
+    s.map (s.list s.char) s.int ∷ s.task s.int ∷
+    s.event s.int ∷ s.tuple (s.more_sorts s.int (s.more_sorts s.int s.no_sorts)) ∷ s.opt s.int ∷ s.enum 0 ∷
+    s.list s.never ∷
     s.list (s.list s.int) ∷ s.obj 0 ∷ s.int ∷ []
 
 -- an instance of the class, and its field N
@@ -94,10 +99,17 @@ the_method = 19
 abbrev pub printing : ℕ
 printing = 20
 
+abbrev pub flooring : ℕ
+flooring = 21
+
+abbrev pub modulo : ℕ
+modulo = 22
+
 abbrev pub refs : List (Option Ref)
-refs = None ∷ None ∷ None ∷ None ∷ None ∷ None ∷ None ∷ None ∷ None ∷ None ∷ None ∷ None ∷ None ∷ None ∷ None ∷
+refs = None ∷ None ∷ None ∷ None ∷ None ∷ None ∷ None ∷ None ∷ None ∷ None ∷ None ∷ None ∷ None ∷ None ∷
+    None ∷
     Some (ref.Class 0) ∷ Some (ref.Field 0 1) ∷ Some (ref.Enum 0) ∷ Some (ref.Fun 1) ∷ Some (ref.Method 0 0) ∷
-    Some (ref.Builtin 0) ∷ []
+    Some (ref.Builtin 0) ∷ Some (ref.Builtin 1) ∷ Some (ref.Builtin 3) ∷ []
 
 abbrev pub nth_sort : List Sort → ℕ → Sort
 nth_sort [] n = s.any
@@ -144,11 +156,18 @@ characters x = part text (t.Shape.text x)
 -- c := class:
 --     L:int = 7
 --     var N:int
---     M(A:int):int = A
+--     M(A:int):int = ..
 -- F(A:int)<decides>:int = A
 -- Main()<suspends>:void = ..
 abbrev pub an_enum : EnumTree
-an_enum = record { number = 30; place = at; name = codes "e"; specs = []; values = codes "A" ∷ codes "B" ∷ [] }
+an_enum = record {
+  number = 30;
+  place = at;
+  name = codes "e";
+  specs = [];
+  values = codes "A" ∷ codes "B" ∷
+      [];
+}
 
 abbrev pub a_field : ℕ → List ℕ → Option Tree → FieldTree
 a_field n x default = record {
@@ -162,8 +181,8 @@ a_field n x default = record {
   default = default;
 }
 
-abbrev pub a_function : ℕ → List ℕ → FunTree
-a_function n x = record {
+abbrev pub a_function : ℕ → List ℕ → Tree → FunTree
+a_function n x b = record {
   number = n;
   place = at;
   name = x;
@@ -171,7 +190,7 @@ a_function n x = record {
   params = record { number = 0; place = at; name = codes "A"; written = t.Written.int } ∷ [];
   effects = [];
   written = t.Written.int;
-  body = named 0 (codes "A");
+  body = b;
 }
 
 abbrev pub main : Tree → FunTree
@@ -186,8 +205,12 @@ main b = record {
   body = b;
 }
 
-abbrev pub a_class : ClassTree
-a_class = record {
+-- its parameter
+abbrev pub the_a : Tree
+the_a = named 0 (codes "A")
+
+abbrev pub a_class : Tree → ClassTree
+a_class m = record {
   number = 31;
   place = at;
   name = codes "c";
@@ -195,7 +218,7 @@ a_class = record {
   class_specs = [];
   parent = None;
   members = field (a_field 32 (codes "L") (Some (int 7))) ∷ field (a_field 33 (codes "N") None) ∷
-      method (a_function 34 (codes "M")) ∷ [];
+      method (a_function 34 (codes "M") m) ∷ [];
 }
 
 abbrev pub function_info : ℕ → FunInfo
@@ -209,10 +232,10 @@ function_info n = record {
 abbrev pub field_info : Option ℕ → FieldInfo
 field_info default = record { ty = ty.Int; is_var = false; default = default }
 
--- with this body of Main
-abbrev pub program : Tree → Program
-program b = record {
-  items = enumeration an_enum ∷ class a_class ∷ function (a_function 35 (codes "F")) ∷ function (main b) ∷ [];
+-- with these bodies of M and Main
+abbrev pub program : (m b : Tree) → Program
+program m b = record {
+  items = enumeration an_enum ∷ class (a_class m) ∷ function (a_function 35 (codes "F") the_a) ∷ function (main b) ∷ [];
   is_array = λ n. nat_eq n list;
   is_event = λ n. nat_eq n event;
   names = record {
@@ -230,7 +253,14 @@ program b = record {
 
 abbrev pub signature : ℕ → Signature
 signature zero = record { params = s.int ∷ []; result = s.int; decides = false; lasts = false; this = Some 0 }
-signature (suc zero) = record { params = s.int ∷ []; result = s.int; decides = true; lasts = false; this = None }
+signature (suc zero) = record {
+  params = s.int ∷ [];
+  result = s.int;
+  decides = true;
+  lasts = false;
+  this =
+      None;
+}
 signature (suc (suc g)) = record { params = []; result = s.any; decides = false; lasts = true; this = None }
 
 abbrev pub found : Found
@@ -246,18 +276,25 @@ found = record {
 abbrev pub differ : ℕ → ℕ → Bool
 differ n m = nat_eq n opt
 
-abbrev pub code : Tree → Code
-code b = code_of (program b) differ 1
+abbrev pub code : (m b : Tree) → Code
+code m b = code_of (program m b) differ 1
 
-abbrev pub notes : Tree → Table
-notes b = notes_of (program b) found differ (code b)
+abbrev pub notes : (m b : Tree) → Table
+notes m b = notes_of (program m b) found differ (code m b)
 
 -- the rule that the notes break as they are read from their bytes, and where
+abbrev pub fault_in : (m b : Tree) → Option (ℕ × ℕ)
+fault_in m b = verdict (code m b) (bytes_of (code m b) (notes m b))
+
 abbrev pub fault : Tree → Option (ℕ × ℕ)
-fault b = verdict (code b) (bytes_of (code b) (notes b))
+fault b = fault_in the_a b
 
 abbrev pub Passes : Tree → Type 0
 Passes b = fault b ≡ None
+
+-- as the body of M
+abbrev pub PassesInMethod : Tree → Type 0
+PassesInMethod m = fault_in m (int 1) ≡ None
 
 -- Literals, names, operators, values that are made
 pub record ValuesPass : Type 0 where
@@ -276,20 +313,26 @@ pub record ValuesPass : Type 0 where
   pub mapped : Passes (block (two (defined map (codes "M") (part map (t.Shape.mapping
       (t.Pairs.more_pairs (part empty (t.Shape.array no_trees)) (int 1) t.Pairs.no_pairs))))
       (part void (t.Shape.if_alone
-      (alone (below (part 0 (t.Shape.index (named map (codes "M")) (alone (characters (codes "a"))))) (int 2))) (int 3)))))
+      (alone (below (part 0 (t.Shape.index (named map (codes "M")) (alone (characters (codes "a")))))
+      (int 2))) (int 3)))))
 
 -- Failure contexts
 pub record AttemptsPass : Type 0 where
   -- if (X := 1, X < 2): X else: 3
-  pub defines : Passes (part 0 (t.Shape.if_else (two (defined 0 (codes "X") (int 1)) (below (named 0 (codes "X")) (int 2)))
+  pub defines : Passes (part 0 (t.Shape.if_else (two (defined 0 (codes "X") (int 1))
+      (below (named 0 (codes "X")) (int 2)))
       (named 0 (codes "X")) (int 3)))
   -- if (not 1 < 2): 3
-  pub negation : Passes (part void (t.Shape.if_alone (alone (part void (t.Shape.negation (below (int 1) (int 2))))) (int 3)))
+  pub negation : Passes
+      (part void (t.Shape.if_alone (alone (part void (t.Shape.negation (below (int 1) (int 2))))) (int 3)))
   -- F[1] or 2
-  pub either : Passes (part 0 (t.Shape.chained operator.Or (part 0 (t.Shape.index (named the_function (codes "F")) (alone (int 1))))
+  pub either : Passes
+      (part 0 (t.Shape.chained operator.Or (part 0 (t.Shape.index (named the_function (codes "F"))
+      (alone (int 1))))
       (int 2)))
   -- X := option{1 < 2}; logic{X?}
-  pub options : Passes (block (two (defined opt (codes "X") (part opt (t.Shape.option (alone (below (int 1) (int 2))))))
+  pub options : Passes
+      (block (two (defined opt (codes "X") (part opt (t.Shape.option (alone (below (int 1) (int 2))))))
       (part logic (t.Shape.logic (alone (part 0 (t.Shape.query (named opt (codes "X")))))))))
   -- if (1 < 2): return 3; 4
   pub returned : Passes (block (two (part void (t.Shape.if_alone (alone (below (int 1) (int 2)))
@@ -298,7 +341,9 @@ pub record AttemptsPass : Type 0 where
 -- Loops and cases
 pub record LoopsPass : Type 0 where
   -- loop: (1, break)
-  pub broken : Passes (part void (t.Shape.loop_form (part pair (t.Shape.tuple (two (int 1) (part never t.Shape.break_form))))))
+  pub broken : Passes
+      (part void
+      (t.Shape.loop_form (part pair (t.Shape.tuple (two (int 1) (part never t.Shape.break_form))))))
   -- loop: (1, if (1 < 2) then break else 2)
   pub broken_at_times : Passes (part void (t.Shape.loop_form (part pair (t.Shape.tuple (two (int 1)
       (part 0 (t.Shape.if_else (alone (below (int 1) (int 2))) (part never t.Shape.break_form) (int 2))))))))
@@ -307,26 +352,34 @@ pub record LoopsPass : Type 0 where
   -- for (A : array{1}, A < 2, B := A): B
   pub elements : Passes (part list (t.Shape.for_form (three
       (part 0 (t.Shape.elements (codes "A") (part list (t.Shape.array (alone (int 1))))))
-      (below (named 0 (codes "A")) (int 2)) (defined 0 (codes "B") (named 0 (codes "A")))) (named 0 (codes "B"))))
+      (below (named 0 (codes "A")) (int 2)) (defined 0 (codes "B") (named 0 (codes "A"))))
+      (named 0 (codes "B"))))
   -- for (I := 1..2, A : array{I}): A
   pub nested : Passes (part list (t.Shape.for_form (two (part 0 (t.Shape.range (codes "I") (int 1) (int 2)))
-      (part 0 (t.Shape.elements (codes "A") (part list (t.Shape.array (alone (named 0 (codes "I")))))))) (named 0 (codes "A"))))
+      (part 0 (t.Shape.elements (codes "A") (part list (t.Shape.array (alone (named 0 (codes "I"))))))))
+      (named 0 (codes "A"))))
   -- for (K -> A : map{"a" => 1}): Print(K); A
-  pub entries : Passes (part list (t.Shape.for_form (alone (part 0 (t.Shape.entries (codes "K") (codes "A") (part map
+  pub entries : Passes
+      (part list (t.Shape.for_form (alone (part 0 (t.Shape.entries (codes "K") (codes "A") (part map
       (t.Shape.mapping (t.Pairs.more_pairs (characters (codes "a")) (int 1) t.Pairs.no_pairs))))))
-      (part 0 (t.Shape.block (two (part void (t.Shape.call (named printing (codes "Print")) (alone (named text (codes "K")))))
+      (part 0 (t.Shape.block (two (part void (t.Shape.call (named printing (codes "Print"))
+      (alone (named text (codes "K")))))
       (named 0 (codes "A")))))))
   -- if (X := for (A : array{1}): A): X
-  pub in_condition : Passes (part void (t.Shape.if_alone (alone (defined list (codes "X") (part list (t.Shape.for_form
-      (alone (part 0 (t.Shape.elements (codes "A") (part list (t.Shape.array (alone (int 1))))))) (named 0 (codes "A"))))))
+  pub in_condition : Passes
+      (part void (t.Shape.if_alone (alone (defined list (codes "X") (part list (t.Shape.for_form
+      (alone (part 0 (t.Shape.elements (codes "A") (part list (t.Shape.array (alone (int 1)))))))
+      (named 0 (codes "A"))))))
       (named list (codes "X"))))
   -- case (1): 1 => 2, _ => 3
   pub cases : Passes (part 0 (t.Shape.cases (int 1) (two
       (part 0 (t.Shape.arm (part 0 (t.Shape.integer_pattern (pos 1))) (int 2)))
       (part 0 (t.Shape.arm (part 0 t.Shape.any_pattern) (int 3))))))
   -- case (e.B): e.A => return 2, _ => 3, e.B => 4
-  pub case_behind_any : Passes (part 0 (t.Shape.cases (part an_e (t.Shape.member (named the_enum (codes "e")) (codes "B"))) (three
-      (part never (t.Shape.arm (part an_e (t.Shape.enum_pattern (codes "e") (codes "A"))) (part never (t.Shape.returned (int 2)))))
+  pub case_behind_any : Passes
+      (part 0 (t.Shape.cases (part an_e (t.Shape.member (named the_enum (codes "e")) (codes "B"))) (three
+      (part never (t.Shape.arm (part an_e (t.Shape.enum_pattern (codes "e") (codes "A")))
+      (part never (t.Shape.returned (int 2)))))
       (part 0 (t.Shape.arm (part 0 t.Shape.any_pattern) (int 3)))
       (part 0 (t.Shape.arm (part an_e (t.Shape.enum_pattern (codes "e") (codes "B"))) (int 4))))))
 
@@ -347,10 +400,12 @@ the_x = named 0 (codes "X")
 -- Deferred blocks
 pub record DefersPass : Type 0 where
   -- X := 1; defer{X}; Y := 2; Y
-  pub deferring : Passes (block (four an_x (deferred the_x) (defined 0 (codes "Y") (int 2)) (named 0 (codes "Y"))))
+  pub deferring : Passes (block (four an_x (deferred the_x) (defined 0 (codes "Y") (int 2))
+      (named 0 (codes "Y"))))
   -- X := 1; defer{X}; defer{Y := X; Y}; return 2
   pub returned : Passes (block (four an_x (deferred the_x)
-      (deferred (block (two (defined 0 (codes "Y") the_x) (named 0 (codes "Y"))))) (part never (t.Shape.returned (int 2)))))
+      (deferred (block (two (defined 0 (codes "Y") the_x) (named 0 (codes "Y")))))
+      (part never (t.Shape.returned (int 2)))))
   -- defer{defer{1}; 2}; 3
   pub nested : Passes (block (two (deferred (block (two (deferred (int 1)) (int 2)))) (int 3)))
   -- X := 1; loop: defer{X}; break
@@ -358,7 +413,8 @@ pub record DefersPass : Type 0 where
       (block (two (deferred the_x) (part never t.Shape.break_form)))))))
   -- defer{1}; if (block{defer{2}; 3} < 4): return 5; 6
   pub in_condition : Passes (block (three (deferred (int 1)) (part void (t.Shape.if_alone
-      (alone (below (part 0 (t.Shape.block_form (part 0 (t.Shape.block (two (deferred (int 2)) (int 3)))))) (int 4)))
+      (alone (below (part 0 (t.Shape.block_form (part 0 (t.Shape.block (two (deferred (int 2)) (int 3))))))
+      (int 4)))
       (part never (t.Shape.returned (int 5))))) (int 6)))
   -- X := 1; defer{X}; race: X, block{defer{X}; 2}
   pub in_arm : Passes (block (three an_x (deferred the_x) (part 0 (t.Shape.race
@@ -367,16 +423,23 @@ pub record DefersPass : Type 0 where
 -- Groups, branches, spawned calls and pauses
 pub record TasksPass : Type 0 where
   -- X := 1; (X, sync: X, 2)
-  pub group : Passes (block (two an_x (part void (t.Shape.tuple (two the_x (part pair (t.Shape.sync (two the_x (int 2)))))))))
+  pub group : Passes
+      (block (two an_x
+      (part void (t.Shape.tuple (two the_x (part pair (t.Shape.sync (two the_x (int 2)))))))))
   -- branch: Sleep(1.0); 2
   pub branch : Passes (block (two (part void (t.Shape.branch (part void (t.Shape.sleep 1000)))) (int 2)))
   -- E := event(int){}; E.Signal(1); E.Await()
-  pub event_awaited : Passes (block (three (defined event (codes "E") (part event (t.Shape.event t.Written.int)))
-      (part void (t.Shape.call (part void (t.Shape.member (named event (codes "E")) (codes "Signal"))) (alone (int 1))))
-      (part 0 (t.Shape.call (part void (t.Shape.member (named event (codes "E")) (codes "Await"))) no_trees))))
+  pub event_awaited : Passes
+      (block (three (defined event (codes "E") (part event (t.Shape.event t.Written.int)))
+      (part void (t.Shape.call (part void (t.Shape.member (named event (codes "E")) (codes "Signal")))
+      (alone (int 1))))
+      (part 0 (t.Shape.call (part void (t.Shape.member (named event (codes "E"))
+      (codes "Await"))) no_trees))))
   -- T := spawn{c{N := 1}.M(2)}; T.Await()
-  pub task_awaited : Passes (block (two (defined task (codes "T") (part task (t.Shape.spawn (part 0 (t.Shape.call
-      (part the_method (t.Shape.member (part an_object (t.Shape.instance (codes "c") (more_givens (codes "N") (int 1) no_givens)))
+  pub task_awaited : Passes
+      (block (two (defined task (codes "T") (part task (t.Shape.spawn (part 0 (t.Shape.call
+      (part the_method (t.Shape.member (part an_object (t.Shape.instance (codes "c") (more_givens (codes "N")
+      (int 1) no_givens)))
       (codes "M"))) (alone (int 2)))))))
       (part 0 (t.Shape.call (part void (t.Shape.member (named task (codes "T")) (codes "Await"))) no_trees))))
 
@@ -388,19 +451,52 @@ pub record WritesPass : Type 0 where
   -- var V:?int = option{1 < 2}; set V = false
   pub another_type : Passes (block (two (part opt (t.Shape.variable (codes "V") t.Written.int
       (part opt (t.Shape.option (alone (below (int 1) (int 2)))))))
-      (part false_sort (t.Shape.assignment assign.Set (named opt (codes "V")) (part false_sort t.Shape.falsehood)))))
+      (part false_sort (t.Shape.assignment assign.Set (named opt (codes "V"))
+      (part false_sort t.Shape.falsehood)))))
   -- var V:[]int = array{1}; if (set V[0] = 2): V
-  pub element : Passes (block (two (part list (t.Shape.variable (codes "V") t.Written.int (part list (t.Shape.array (alone (int 1))))))
+  pub element : Passes
+      (block (two (part list (t.Shape.variable (codes "V") t.Written.int
+      (part list (t.Shape.array (alone (int 1))))))
       (part void (t.Shape.if_alone (alone (part 0 (t.Shape.assignment assign.Set
-      (part 0 (t.Shape.index (named list (codes "V")) (alone (int 0)))) (int 2)))) (named list (codes "V"))))))
+      (part 0 (t.Shape.index (named list (codes "V")) (alone (int 0)))) (int 2))))
+      (named list (codes "V"))))))
   -- X := c{N := 1}; set X.N = X.M(2)
   pub field_written : Passes (block (two (defined an_object (codes "X")
       (part an_object (t.Shape.instance (codes "c") (more_givens (codes "N") (int 1) no_givens))))
-      (part 0 (t.Shape.assignment assign.Set (part its_field (t.Shape.member (named an_object (codes "X")) (codes "N")))
-      (part 0 (t.Shape.call (part the_method (t.Shape.member (named an_object (codes "X")) (codes "M"))) (alone (int 2))))))))
+      (part 0 (t.Shape.assignment assign.Set (part its_field (t.Shape.member (named an_object (codes "X"))
+      (codes "N")))
+      (part 0 (t.Shape.call (part the_method (t.Shape.member (named an_object (codes "X")) (codes "M")))
+      (alone (int 2))))))))
 
--- What no notes pass: X := 1; defer{X}; Y := 2; defer{Y}; 3. One Leave runs both blocks, the second one with Y; the first one was
--- deferred before Y had a value, so what it leaves is not what the Leave begins with (V7).
+-- Calls, and what stands in a method
+pub record CallsPass : Type 0 where
+  -- Floor(5 / 2) or 3
+  pub quotient : Passes (part 0 (t.Shape.chained operator.Or
+      (part 0 (t.Shape.call (named flooring (codes "Floor"))
+      (alone (part 0 (t.Shape.chained operator.Div (int 5) (int 2))))))
+      (int 3)))
+  -- if (Mod[5, 2] = 1): 3
+  pub remainder : Passes (part void (t.Shape.if_alone
+      (alone (part 0 (t.Shape.compared comparison.Equal
+      (part 0 (t.Shape.index (named modulo (codes "Mod")) (two (int 5) (int 2)))) (int 1)))) (int 3)))
+  -- N + A
+  pub own_field : PassesInMethod (sum (named its_field (codes "N")) the_a)
+  -- set N = A; Self.N
+  pub own_field_written : PassesInMethod (part 0 (t.Shape.block (two
+      (part 0 (t.Shape.assignment assign.Set (named its_field (codes "N")) the_a))
+      (part its_field (t.Shape.member (part an_object t.Shape.this) (codes "N"))))))
+  -- M(A)
+  pub own_method : PassesInMethod (part 0 (t.Shape.call (named the_method (codes "M")) (alone the_a)))
+  -- return A behind defer{A}, and a loop that is left twice
+  pub left_in_method : PassesInMethod (part 0 (t.Shape.block (three (deferred the_a)
+      (part void (t.Shape.loop_form (block (two (deferred (int 1))
+      (part void (t.Shape.if_else (alone (below the_a (int 2))) (part never (t.Shape.returned the_a))
+      (part never t.Shape.break_form)))))))
+      the_a)))
+
+-- What no notes pass: X := 1; defer{X}; Y := 2; defer{Y}; 3. One Leave runs both blocks, the
+-- second one with Y; the first one was deferred before Y had a value, so what it leaves is not
+-- what the Leave begins with (V7).
 pub record RefusedRows : Type 0 where
   pub two_scopes : fault (block (more_trees an_x (four (deferred the_x) (defined 0 (codes "Y") (int 2))
       (deferred (named 0 (codes "Y"))) (int 3)))) ≡ Some (7, 25)

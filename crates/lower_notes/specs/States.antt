@@ -1,5 +1,6 @@
 -- The state at an operation, and what becomes of it.
-use Rattle.std.specs.Prelude.{ℕ, zero, suc, ◌+◌, ◌-◌, List, [], ◌∷◌, ◌++◌, length, drop, map, Option, Some, None}
+use Rattle.std.specs.Prelude.{ℕ, zero, suc, ◌+◌, ◌-◌, List, [], ◌∷◌, ◌++◌, length, drop, map}
+use Rattle.std.specs.Prelude.{Option, Some, None}
 use Rattle.verse_sorts.specs.Sorts as s
 use Rattle.verse_sorts.specs.Sorts.{Sort}
 use Rattle.verse_verify_faults.specs.Spots.{Mark, Spot}
@@ -17,8 +18,8 @@ pub record State : Type 0 where
   pub locals : List Sort
   pub stack : List Sort
   pub tries : List Mark
-  -- The deferred block in which it stands, the Trys that were open where that was deferred, how many blocks are deferred beneath
-  -- it, and those that were deferred since.
+  -- The deferred block in which it stands, the Trys that were open where that was deferred, how
+  -- many blocks are deferred beneath it, and those that were deferred since.
   pub block : Option ℕ
   pub outer : List ℕ
   pub under : ℕ
@@ -73,10 +74,18 @@ puts l a x = record x { stack = drop 1 x.stack; locals = with_local l a x.locals
 
 -- a domain, or both ends of a range, go into the local l, and a count into the next one
 abbrev pub takes_domain : ℕ → Change
-takes_domain l x = record x { stack = drop 1 x.stack; locals = with_local (suc l) s.int (with_local l (top x.stack) x.locals) }
+takes_domain l x = record x {
+  stack = drop 1 x.stack;
+  locals = with_local (suc l) s.int
+      (with_local l (top x.stack) x.locals);
+}
 
 abbrev pub takes_range : ℕ → Change
-takes_range l x = record x { stack = drop 2 x.stack; locals = with_local (suc l) s.int (with_local l s.span x.locals) }
+takes_range l x = record x {
+  stack = drop 2 x.stack;
+  locals = with_local (suc l) s.int
+      (with_local l s.span x.locals);
+}
 
 -- what a turn takes, and what stands beside it
 abbrev pub turns_with : ℕ → (value beside : Sort) → Change
@@ -138,6 +147,18 @@ last_locals (d ∷ ds) ls = d.locals
 abbrev pub leaves : Change
 leaves x = record x { locals = last_locals x.defers x.locals }
 
+-- and behind it those of the last of the n blocks that it runs
+abbrev pub locals_behind : (n : ℕ) → List Deferred → List Sort → List Sort
+locals_behind zero ds ls = ls
+locals_behind (suc n) [] ls = ls
+locals_behind (suc n) (d ∷ ds) ls = locals_behind n ds d.locals
+
+abbrev pub left_behind : (n : ℕ) → Change
+left_behind n x = record x {
+  defers = drop n x.defers;
+  locals = locals_behind n x.defers x.locals;
+}
+
 -- m blocks stay deferred, with those beneath
 abbrev pub left_with : ℕ → Change
-left_with m x = record x { defers = drop (x.under + length x.defers - m) x.defers }
+left_with m x = left_behind (x.under + length x.defers - m) x

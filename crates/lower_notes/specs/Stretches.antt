@@ -1,17 +1,20 @@
 -- Stretches of states, and how they are put together: beside the stretches of code, combinator by combinator.
-use Rattle.std.specs.Prelude.{max, ℕ, zero, suc, List, [], ◌∷◌, ◌++◌, Option, Some, None, option_map, Bool, true, false, cond, nat_le}
+use Rattle.std.specs.Prelude.{max, ℕ, zero, suc, List, [], ◌∷◌, ◌++◌, Option, Some, None}
+use Rattle.std.specs.Prelude.{option_map, Bool, true, false, cond, nat_le}
 use Rattle.verse_sorts.specs.Sorts as s
 use Rattle.verse_sorts.specs.Sorts.{Sort}
 use Rattle.verse_meaning.specs.Programs.{or_else}
 use Rattle.lower_code.specs.Pieces.{behind, later}
-use Rattle.lower_notes.specs.States.{State, Change, pops, gives, leaves, left_with, tried, untried, in_arm}
+use Rattle.lower_notes.specs.States.{State, Change, pops, gives, leaves, left_with, tried, untried}
+use Rattle.lower_notes.specs.States.{in_arm}
 
 -- the states at the operations of a stretch, in order: none where an operation is never reached
 pub record Stretch : Type 0 where
   pub states : List (Option State)
   -- what stands behind it: none where it never ends
   pub exit : Option State
-  -- with how many operands above those of the innermost loop it is left: at most, and at most where that is reached
+  -- with how many operands above those of the innermost loop it is left: at most, and at most
+  -- where that is reached
   pub deep : ℕ
   pub left : Option ℕ
 
@@ -127,7 +130,8 @@ always h at = h
 abbrev pub attempt : Walk → Walk
 attempt = ahead tried (always same)
 
--- An operation leads to two stretches, with a Jump over the second behind the first. They go on together: with the value of the form.
+-- An operation leads to two stretches, with a Jump over the second behind the first. They go on
+-- together: with the value of the form.
 abbrev pub either_of : Option State → Stretch → Stretch → Stretch
 either_of x p q = record {
   states = x ∷ p.states ++ p.exit ∷ q.states;
@@ -140,7 +144,8 @@ abbrev pub either_from : (at : ℕ) → Option State → Stretch → Option Stat
 either_from at x p y g = either_of x p (g (suc (behind p.states (suc at))) y)
 
 abbrev pub either : (into other : ℕ → Change) → Walk → Walk → Walk
-either into other f g at x = either_from at x (f (suc at) (option_map (into at) x)) (option_map (other at) x) g
+either into other f g at x = either_from at x (f (suc at) (option_map (into at) x))
+    (option_map (other at) x) g
 
 abbrev pub either_try : Walk → Walk → Walk
 either_try = either tried (always same)
@@ -148,8 +153,8 @@ either_try = either tried (always same)
 abbrev pub either_same : Walk → Walk → Walk
 either_same = either (always (pops 2)) (always (pops 2))
 
--- Loops: where one is left with n operands above its own, the n-th last Drop is reached, and all behind it. Nothing is asked of those
--- operands.
+-- Loops: where one is left with n operands above its own, the n-th last Drop is reached, and all
+-- behind it. Nothing is asked of those operands.
 abbrev pub anys : ℕ → List Sort → List Sort
 anys zero st = st
 anys (suc n) st = s.any ∷ anys n st
@@ -181,7 +186,8 @@ looping f = closing (ahead (always same) (always same) (f then one (pops 1)) the
 
 -- Commit; Each or Range; Jump T; B: Try T; the clauses and what is in them; T: Take B
 abbrev pub turning : (domain turn : Change) → Walk → Walk
-turning domain turn f = one untried then one domain then ahead (always turn) (always same) (attempt f) then last
+turning domain turn f = one untried then one domain then ahead (always turn) (always same) (attempt f) then
+    last
 
 -- an arm that gives this
 abbrev pub arm : Sort → Walk → Walk

@@ -19,6 +19,7 @@ ghost use Rattle.lower_notes.specs.Rows.{
   DefersPass,
   TasksPass,
   WritesPass,
+  CallsPass,
   RefusedRows,
 };
 
@@ -56,6 +57,11 @@ pub fn tasks_pass()
 /// Variables, instances and fields.
 pub fn writes_pass()
     ensures { WritesPass }
+{}
+
+/// Calls, and what stands in a method.
+pub fn calls_pass()
+    ensures { CallsPass }
 {}
 
 /// What the rules of notes refuse, though it is a right program.
