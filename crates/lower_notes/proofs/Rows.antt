@@ -16,6 +16,8 @@ values_pass = record {
   joined = refl;
   printed = refl;
   mapped = refl;
+  counted = refl;
+  typed = refl;
 }
 
 pub attempts_pass : AttemptsPass
@@ -44,6 +46,9 @@ loops_pass = record {
   in_condition = refl;
   cases = refl;
   case_behind_any = refl;
+  broken_in_for = refl;
+  loops_in_loops = refl;
+  broken_in_case = refl;
 }
 
 pub defers_pass : DefersPass
@@ -68,6 +73,9 @@ tasks_pass = record {
   branch = refl;
   event_awaited = refl;
   task_awaited = refl;
+  groups_in_groups = refl;
+  group_in_loop = refl;
+  forever = refl;
 }
 
 pub writes_pass : WritesPass

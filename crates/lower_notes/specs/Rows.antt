@@ -315,6 +315,14 @@ pub record ValuesPass : Type 0 where
       (part void (t.Shape.if_alone
       (alone (below (part 0 (t.Shape.index (named map (codes "M")) (alone (characters (codes "a")))))
       (int 2))) (int 3)))))
+  -- X := array{1}; -X.Length
+  pub counted : Passes (block (two
+      (defined list (codes "X") (part list (t.Shape.array (alone (int 1)))))
+      (part 0 (t.Shape.minus (part 0 (t.Shape.member (named list (codes "X")) (codes "Length")))))))
+  -- X:[]int = array{}; X
+  pub typed : Passes (block (two
+      (part list (t.Shape.typed (codes "X") t.Written.int (part empty (t.Shape.array no_trees))))
+      (named list (codes "X"))))
 
 -- Failure contexts
 pub record AttemptsPass : Type 0 where
@@ -382,6 +390,19 @@ pub record LoopsPass : Type 0 where
       (part never (t.Shape.returned (int 2)))))
       (part 0 (t.Shape.arm (part 0 t.Shape.any_pattern) (int 3)))
       (part 0 (t.Shape.arm (part an_e (t.Shape.enum_pattern (codes "e") (codes "B"))) (int 4))))))
+  -- loop: for (A : array{1}): break
+  pub broken_in_for : Passes (part void (t.Shape.loop_form (part empty (t.Shape.for_form
+      (alone (part 0 (t.Shape.elements (codes "A") (part list (t.Shape.array (alone (int 1)))))))
+      (part never t.Shape.break_form)))))
+  -- loop: (1, loop: (2, break))
+  pub loops_in_loops : Passes (part never (t.Shape.loop_form (part void (t.Shape.tuple (two (int 1)
+      (part void (t.Shape.loop_form (part void (t.Shape.tuple
+      (two (int 2) (part never t.Shape.break_form)))))))))))
+  -- loop: (1, case (2): 3 => break, _ => 4)
+  pub broken_in_case : Passes (part void (t.Shape.loop_form (part pair (t.Shape.tuple (two (int 1)
+      (part 0 (t.Shape.cases (int 2) (two
+      (part never (t.Shape.arm (part 0 (t.Shape.integer_pattern (pos 3))) (part never t.Shape.break_form)))
+      (part 0 (t.Shape.arm (part 0 t.Shape.any_pattern) (int 4)))))))))))
 
 -- defer{b}
 abbrev pub deferred : Tree → Tree
@@ -442,6 +463,17 @@ pub record TasksPass : Type 0 where
       (int 1) no_givens)))
       (codes "M"))) (alone (int 2)))))))
       (part 0 (t.Shape.call (part void (t.Shape.member (named task (codes "T")) (codes "Await"))) no_trees))))
+  -- sync: (rush: 1, 2), 3
+  pub groups_in_groups : Passes (part pair (t.Shape.sync
+      (two (part 0 (t.Shape.rush (two (int 1) (int 2)))) (int 3))))
+  -- loop: (1, race: block{loop{break}; 2}, 3); break
+  pub group_in_loop : Passes (part void (t.Shape.loop_form (block (two
+      (part pair (t.Shape.tuple (two (int 1) (part 0 (t.Shape.race
+      (two (part 0 (t.Shape.block (two (part void (t.Shape.loop_form (part never t.Shape.break_form))) (int 2))))
+      (int 3)))))))
+      (part never t.Shape.break_form)))))
+  -- Sleep(Inf)
+  pub forever : Passes (part void t.Shape.sleep_forever)
 
 -- Writes, instances and calls
 pub record WritesPass : Type 0 where
