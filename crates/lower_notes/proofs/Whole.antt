@@ -1,20 +1,28 @@
 -- One state for each operation of a whole code, and as many functions and classes.
 use Rattle.std.proofs.Common.{◌≡◌, ℕ, suc, List, [], ◌∷◌, map, length, Bool, Some, None, refl, arith}
 use Rattle.std.proofs.Common.{length-append}
-use Rattle.std.specs.Prelude.{option_map}
+use Rattle.std.proofs.Common.{inl, inr}
+use Rattle.std.specs.Prelude.{Option, option_map}
+use Rattle.verse_tree.specs.Tree.{Tree, tree}
 use Rattle.verse_tree.specs.declared.tables.ClassInfo.{ClassInfo}
 use Rattle.verse_code.specs.declared.codes.Code.{Code}
 use Rattle.verse_meaning.specs.Programs.{Program}
+use Rattle.verse_meaning.specs.Evaluating.{number_of}
+use Rattle.verse_sorts.specs.Sorts.{Sort}
 use Rattle.verse_sound_rules.specs.Found.{Found}
+use Rattle.lower_code.specs.declared.arounds.Around.{Around}
+use Rattle.lower_code.specs.Scopes.{Scope}
 use Rattle.lower_code.specs.Pieces.{Spot, past}
 use Rattle.lower_code.specs.Arounds.{fresh}
 use Rattle.lower_code.specs.Defaults.{defaults_in}
 use Rattle.lower_code.specs.Programs as c
 use Rattle.lower_code.specs.Programs.{Body, bodies_in, default_bodies, all_bodies, first_spot, class_of, item_op}
 use Rattle.lower_code.specs.Programs.{funcs_from, code_of}
-use Rattle.lower_notes.specs.States.{spot_of}
+use Rattle.lower_notes.specs.States.{State, spot_of}
+use Rattle.lower_notes.specs.Stretches.{with_value}
+use Rattle.lower_notes.specs.Noting.{walk, shape_walk}
 use Rattle.lower_notes.specs.Programs as n
-use Rattle.lower_notes.specs.Laws.{Beside, SameCounts, OneForEach}
+use Rattle.lower_notes.specs.Laws.{Beside, SameCounts, Exits, OneForEach}
 use Rattle.lower_notes.proofs.Counted.{both, none, just_ends}
 use Rattle.lower_notes.proofs.Forms.{trees}
 
@@ -77,5 +85,18 @@ module _ (p : Program) (found : Found) (differ : ℕ → ℕ → Bool) where
         );
       }
 
+with_value_so : (q : Sort) (x y : Option State) → Exits q x (with_value q x y)
+with_value_so q x None = inl refl
+with_value_so q x (Some y) = inr refl
+
+exits : (p : Program) (found : Found) (differ : ℕ → ℕ → Bool) (b : Tree) (sc : Scope) (a : Around) (at : ℕ)
+    (x : Option State) → Exits (found.sort (number_of b)) x (walk p found differ b sc a at x).exit
+exits p found differ (tree i pl s) sc a at x =
+    with_value_so (found.sort i) x (shape_walk p found differ s i pl sc a at x).exit
+
 pub one_for_each : OneForEach
-one_for_each p found differ = record { trees = trees p found differ; whole = same_counts p found differ }
+one_for_each p found differ = record {
+  trees = trees p found differ;
+  exits = exits p found differ;
+  whole = same_counts p found differ;
+}

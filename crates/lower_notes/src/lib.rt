@@ -24,7 +24,8 @@ ghost use Rattle.lower_notes.specs.Rows.{
 };
 
 /// Beside the code of a tree there is one state for each operation, and so beside the code of a
-/// program, with as many classes and functions.
+/// program, with as many classes and functions. Behind a tree stands what stood before it, with a
+/// value of the sort that was found for it, or it never ends.
 pub fn one_for_each()
     ensures { OneForEach }
 {}
