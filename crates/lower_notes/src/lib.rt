@@ -4,8 +4,8 @@
 //! To be read in this order, in `specs/`: `States`, the state at an operation and what becomes of
 //! it; `Stretches`, the states at the operations of a stretch and how they are put together;
 //! `Applied`, names, forms that are applied to their operands, and what leaves; `Noting`, one case
-//! for each form; `Programs`, functions, classes and the whole notes; `Laws`, one state for each
-//! operation; `Rows`, small programs whose notes break no rule.
+//! for each form; `Programs`, functions, classes and the whole notes; `Bytes`, notes as bytes; `Laws`,
+//! one state for each operation; `Rows`, small programs whose notes break no rule.
 //!
 //! In `proofs/`: `Counted`, the combinators; `Others`, what stands for no tree of its own; `Forms`,
 //! one clause a form; `Whole`, programs; `Rows`, computed.
