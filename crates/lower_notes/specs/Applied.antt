@@ -1,4 +1,5 @@
--- The states of a form that is applied to what its operands left on the stack, of names and of what leaves.
+-- The states of a form that is applied to what its operands left on the stack, of names and of
+-- what leaves.
 use Rattle.std.specs.Prelude.{ℕ, zero, suc, Option, Some, None, Bool, true, false, nat_lt}
 use Rattle.verse_tree.specs.declared.exprs.Operator.{Operator}
 use Rattle.verse_tree.specs.declared.exprs.Operator.TheVariants as op
@@ -57,7 +58,8 @@ bind no_name l a = nothing
 bind (a_constant x) l a = kept l a
 bind (a_variable x pl) l a = one (gives 1 (s.var a)) then kept l (s.var a) then one (gives 1 a)
 
--- the value that was written stays, where the operation would leave the place's: n operands are beneath it
+-- the value that was written stays, where the operation would leave the place's: n operands are
+-- beneath it
 abbrev pub storing : (keeps : Bool) → (l n : ℕ) → (place value : Sort) → Walk
 storing true l n a v = kept l v then one (gives (suc n) a) then one (pops 1) then last
 storing false l n a v = last

@@ -74,10 +74,12 @@ open_try m = number m.index ++ number m.height
 
 -- what a state tells of deferred blocks
 abbrev pub blocks : Spot → List ℕ
-blocks p = option number p.block ++ counted number p.outer ++ number p.under ++ counted number p.defers
+blocks p = option number p.block ++ counted number p.outer ++ number p.under ++
+    counted number p.defers
 
 abbrev pub spot : (defers : Bool) → Spot → List ℕ
-spot defers p = number p.func ++ option sort p.arm ++ each sort p.locals ++ counted sort (reverse p.stack) ++
+spot defers p = number p.func ++ option sort p.arm ++ each sort p.locals ++
+    counted sort (reverse p.stack) ++
     counted open_try (reverse p.tries) ++ cond defers (blocks p) []
 
 abbrev pub bytes_of : Code → Table → List ℕ

@@ -17,7 +17,8 @@ use Rattle.lower_notes.specs.Stretches.{Walk}
 use Rattle.lower_notes.specs.Noting.{walk}
 use Rattle.lower_notes.specs.Programs.{notes_of}
 
--- of a stretch of code, wherever it stands and whatever the state at it; a loop is left from as deep
+-- of a stretch of code, wherever it stands and whatever the state at it; a loop is left from as
+-- deep
 pub record Beside (f : Maker) (g : Walk) : Type 0 where
   pub count : (s : Spot) (at : ℕ) (x : Option State) → length (f s).items ≡ length (g at x).states
   pub deep : (s : Spot) (at : ℕ) (x : Option State) → deepest (f s).items ≡ (g at x).deep
@@ -28,7 +29,8 @@ pub record SameCounts (code : Code) (notes : Table) : Type 0 where
   pub functions : length notes.functions ≡ length code.functions
   pub spots : length notes.spots ≡ length code.ops
 
--- behind what begins with the first state stands that one with a value of the sort, or it never ends
+-- behind what begins with the first state stands that one with a value of the sort, or it never
+-- ends
 abbrev pub Exits : Sort → (before behind : Option State) → Type 0
 Exits q x y = (y ≡ None) ⊎ (y ≡ option_map (gives 0 q) x)
 

@@ -51,14 +51,16 @@ abbrev pub enum_pattern : Option Val → Walk
 enum_pattern None = ends
 enum_pattern (Some v) = enum_walk v
 
-unfoldable pub by_callee : Callee → (Form → Walk) → (Form → Walk) → (Form → Walk) → (Form → Walk) → Walk
+unfoldable pub by_callee : Callee → (Form → Walk) → (Form → Walk) → (Form → Walk) → (Form → Walk) →
+    Walk
 by_callee (alone f) on_alone on_object on_value on_quotient = on_alone f
 by_callee (of_object f) on_alone on_object on_value on_quotient = on_object f
 by_callee (of_value f) on_alone on_object on_value on_quotient = on_value f
 by_callee (of_quotient f) on_alone on_object on_value on_quotient = on_quotient f
 by_callee no_callee on_alone on_object on_value on_quotient = ends
 
--- the sort of a map's keys; and that of an index into what is of a sort, where the index itself is of another
+-- the sort of a map's keys; and that of an index into what is of a sort, where the index itself
+-- is of another
 abbrev pub key_in : Sort → Sort
 key_in (s.map k a) = k
 key_in a = s.any
@@ -122,29 +124,35 @@ module _ (p : Program) (found : Found) (differ : ℕ → ℕ → Bool) where
   -- all fields of a class, in their order; those that are given lie in locals from l on
   abbrev pub field_walks : List FieldTree → Givens → (l : ℕ) → Walk
   field_walks [] gs l = nothing
-  field_walks (d ∷ ds) gs l = field_walk (given_local d.name gs l) d.default then field_walks ds gs l
+  field_walks (d ∷ ds) gs l = field_walk (given_local d.name gs l) d.default then
+      field_walks ds gs l
 
   unfoldable pub instance_of : Option ℕ → Givens → (l : ℕ) → Walk → Walk
   instance_of None gs l given = ends
   instance_of (Some c) gs l given = given then field_walks (fields_of p c) gs l then last
 
-  -- a statement whose node is found to be of a sort, where its value and the value of its part are as given
+  -- a statement whose node is found to be of a sort, where its value and the value of its part
+  -- are as given
   unfoldable pub stated : Statement → Sort → Scope → (whole inner : Walk) → Walk
   stated plain q sc whole inner = whole
   stated (defines b) q sc whole inner = inner then bind b (length sc) q
-  stated (defers d) q sc whole inner = ahead in_block deferred (inner then one (pops 1) then ends) then
+  stated (defers d) q sc whole inner = ahead in_block deferred (inner then one (pops 1) then
+      ends) then
       one (gives 0 q)
   stated (generates g) q sc whole inner = ends
 
   -- a clause of a `for`, with what comes behind it; k is the sort of a key
-  unfoldable pub claused : Statement → (q k : Sort) → Scope → (whole inner : Walk) → (rest : Scope → Walk) →
+  unfoldable pub claused : Statement → (q k : Sort) → Scope → (whole inner : Walk) →
+      (rest : Scope → Walk) →
       Walk
   claused plain q k sc whole inner rest = whole then one (pops 1) then rest sc
-  claused (defines b) q k sc whole inner rest = inner then bind b (length sc) q then one (pops 1) then
+  claused (defines b) q k sc whole inner rest = inner then bind b (length sc) q then
+      one (pops 1) then
       rest (with_binder b sc)
   claused (defers d) q k sc whole inner rest = ends
   claused (generates g) q k sc whole inner rest =
-      inner then turning (takes g (length sc)) (turns g (length sc) q k) (rest (with_generator g sc))
+      inner then turning (takes g (length sc)) (turns g (length sc) q k)
+      (rest (with_generator g sc))
 
   abbrev mutual
     pub walk : Tree → Scope → Around → Walk
@@ -158,12 +166,14 @@ module _ (p : Program) (found : Found) (differ : ℕ → ℕ → Bool) where
         (found.sort n)
     shape_walk (t.Shape.typed x w b) n pl sc a = walk b sc a then bind (a_constant x) (length sc)
         (found.sort n)
-    shape_walk (t.Shape.variable x w b) n pl sc a = walk b sc a then bind (a_variable x pl) (length sc)
+    shape_walk (t.Shape.variable x w b) n pl sc a = walk b sc a then
+        bind (a_variable x pl) (length sc)
         (found.sort n)
     shape_walk (t.Shape.assignment x b c) n pl sc a =
         target_walk b (base_of p b) sc a then walk c sc (up (raised (target_operands b) a)) then
         when_else (has_base p differ b (base_of p b) sc)
-        (storing (keeps x (differ (number_of b) (number_of c))) (length sc) (suc (target_operands b))
+        (storing (keeps x (differ (number_of b) (number_of c))) (length sc)
+        (suc (target_operands b))
         (sort_at b) (sort_at c))
     shape_walk (t.Shape.returned b) n pl sc a = walk b sc a then returning a
     shape_walk t.Shape.returned_unit n pl sc a = one (gives 0 s.unit) then returning a
@@ -175,22 +185,27 @@ module _ (p : Program) (found : Found) (differ : ℕ → ℕ → Bool) where
     shape_walk (t.Shape.if_alone cs b) n pl sc a =
         either_try (statements cs sc (enclosed a) then one (pops 1) then one untried then
         walk b (scope_behind cs sc) a) last
-    shape_walk (t.Shape.negation b) n pl sc a = attempt (walk b sc (enclosed a) then one (pops 1) then
+    shape_walk (t.Shape.negation b) n pl sc a = attempt (walk b sc (enclosed a) then
+        one (pops 1) then
         one untried then ends) then last
     shape_walk (t.Shape.option cs) n pl sc a =
-        either_try (statements cs sc (enclosed a) then one untried then one (gives 1 (found.sort n))) last
+        either_try (statements cs sc (enclosed a) then one untried then
+        one (gives 1 (found.sort n))) last
     shape_walk (t.Shape.logic cs) n pl sc a =
         either_try (statements cs sc (enclosed a) then one (pops 1) then one untried then
         one (gives 0 (found.sort n))) last
-    shape_walk (t.Shape.chained op.Or b c) n pl sc a = either_try (walk b sc (enclosed a) then one untried)
+    shape_walk (t.Shape.chained op.Or b c) n pl sc a = either_try (walk b sc (enclosed a) then
+        one untried)
         (walk c sc a)
     shape_walk (t.Shape.for_form cs b) n pl sc a =
         one (gives 0 (found.sort n)) then one (puts (length sc) (found.sort n)) then
-        attempt (levels cs (hidden ∷ sc) (enclosed a) (λ inside. one untried then walk b inside a then
+        attempt (levels cs (hidden ∷ sc) (enclosed a) (λ inside. one untried then
+        walk b inside a then
         one (pops 1))) then last
     -- operators
     shape_walk (t.Shape.chained op.Div b c) n pl sc a = ends
-    shape_walk (t.Shape.chained op.And b c) n pl sc a = walk b sc a then one (pops 1) then walk c sc a
+    shape_walk (t.Shape.chained op.And b c) n pl sc a = walk b sc a then one (pops 1) then
+        walk c sc a
     shape_walk (t.Shape.chained x b c) n pl sc a = walk b sc a then walk c sc (up a) then
         finish (form.computing x (p.is_array n) pl) 2 true
     shape_walk (t.Shape.compared x b c) n pl sc a = walk b sc a then walk c sc (up a) then
@@ -201,13 +216,15 @@ module _ (p : Program) (found : Found) (differ : ℕ → ℕ → Bool) where
     shape_walk (t.Shape.member b x) n pl sc a =
         membered (enum_member p b x) (walk b sc a then finish (member_form (ref_at p n) x) 1 true)
     shape_walk (t.Shape.call b ts) n pl sc a = by_callee (callee_of p b (picked ts) pl)
-        (λ f. start f sc then args ts sc (started f a) then finish f (how_many ts) (form_fits p differ f
+        (λ f. start f sc then args ts sc (started f a) then
+        finish f (how_many ts) (form_fits p differ f
         (how_many ts) sc))
         (λ f. inner b sc a then args ts sc (up a) then finish f (how_many ts) true)
         (λ f. walk b sc a then finish f 0 true)
         (λ f. quotient ts sc a then finish f 2 true)
     shape_walk (t.Shape.index b ts) n pl sc a = by_callee (callee_of p b form.indexing pl)
-        (λ f. start f sc then args ts sc (started f a) then finish f (how_many ts) (form_fits p differ f
+        (λ f. start f sc then args ts sc (started f a) then
+        finish f (how_many ts) (form_fits p differ f
         (how_many ts) sc))
         (λ f. inner b sc a then args ts sc (up a) then finish f (how_many ts) true)
         (λ f. walk b sc a then indices (sort_at b) ts sc (up a) then finish f (how_many ts) true)
@@ -229,8 +246,10 @@ module _ (p : Program) (found : Found) (differ : ℕ → ℕ → Bool) where
     shape_walk (t.Shape.array ts) n pl sc a = args ts sc a then finish (form.making_array pl)
         (how_many ts) true
     shape_walk (t.Shape.mapping ps) n pl sc a =
-        paired_args (key_in (found.sort n)) ps sc a then finish (form.making_map pl) (pairs_in ps) true
-    shape_walk (t.Shape.instance x gs) n pl sc a = instance_of (class_ref p (ref_at p n)) gs (length sc)
+        paired_args (key_in (found.sort n)) ps sc a then
+        finish (form.making_map pl) (pairs_in ps) true
+    shape_walk (t.Shape.instance x gs) n pl sc a =
+        instance_of (class_ref p (ref_at p n)) gs (length sc)
         (given_args gs sc a)
     shape_walk (t.Shape.event w) n pl sc a = last
     shape_walk t.Shape.bare_event n pl sc a = last
@@ -241,7 +260,8 @@ module _ (p : Program) (found : Found) (differ : ℕ → ℕ → Bool) where
         walk b sc a then one (puts (length sc) (sort_at b)) then arms ts (length sc) (hidden ∷ sc) a
     -- tasks
     shape_walk (t.Shape.branch b) n pl sc a =
-        ahead (always (in_arm (sort_at b))) (always (gives 0 (found.sort n))) (walk b sc fresh then ends)
+        ahead (always (in_arm (sort_at b))) (always (gives 0 (found.sort n))) (walk b sc fresh then
+        ends)
     shape_walk (t.Shape.sync ts) n pl sc a = grouped (how_many ts) (found.sort n) (task_arms ts sc)
     shape_walk (t.Shape.race ts) n pl sc a = grouped (how_many ts) (found.sort n) (task_arms ts sc)
     shape_walk (t.Shape.rush ts) n pl sc a = grouped (how_many ts) (found.sort n) (task_arms ts sc)
@@ -257,7 +277,8 @@ module _ (p : Program) (found : Found) (differ : ℕ → ℕ → Bool) where
     statements no_trees sc a = one (gives 0 s.unit)
     statements (more_trees b cs) sc a = stated (statement_of b) (sort_at b) sc (walk b sc a)
         (inner b sc a) then
-        more_statements cs (scope_stated (statement_of b) sc) (around_stated p differ (statement_of b) a) then
+        more_statements cs (scope_stated (statement_of b) sc)
+        (around_stated p differ (statement_of b) a) then
         when (any_defer (more_trees b cs)) (leave a.defers)
 
     -- those behind the first
@@ -265,7 +286,8 @@ module _ (p : Program) (found : Found) (differ : ℕ → ℕ → Bool) where
     more_statements no_trees sc a = nothing
     more_statements (more_trees b cs) sc a =
         one (pops 1) then stated (statement_of b) (sort_at b) sc (walk b sc a) (inner b sc a) then
-        more_statements cs (scope_stated (statement_of b) sc) (around_stated p differ (statement_of b) a)
+        more_statements cs (scope_stated (statement_of b) sc)
+        (around_stated p differ (statement_of b) a)
 
     -- the part of a definition, a deferred block, the object of a member, the domain of a
     -- generator or both ends of its range
@@ -291,7 +313,8 @@ module _ (p : Program) (found : Found) (differ : ℕ → ℕ → Bool) where
     -- indices into what is of the sort q
     pub indices : Sort → Trees → Scope → Around → Walk
     indices q no_trees sc a = nothing
-    indices q (more_trees b ts) sc a = widened (index_in q (sort_at b)) (walk b sc a) then indices q ts sc
+    indices q (more_trees b ts) sc a = widened (index_in q (sort_at b)) (walk b sc a) then
+        indices q ts sc
         (up a)
 
     pub holed : Holes → Scope → Around → Walk
@@ -337,7 +360,8 @@ module _ (p : Program) (found : Found) (differ : ℕ → ℕ → Bool) where
     -- the clauses of a `for`; behind the last stands the body
     pub levels : Trees → Scope → Around → (body : Scope → Walk) → Walk
     levels no_trees sc a body = body sc
-    levels (more_trees c cs) sc a body = claused (statement_of c) (sort_at c) (found.key (number_of c)) sc
+    levels (more_trees c cs) sc a body =
+        claused (statement_of c) (sort_at c) (found.key (number_of c)) sc
         (walk c sc a) (inner c sc a)
         (λ sc. levels cs sc a body)
 
@@ -364,7 +388,8 @@ module _ (p : Program) (found : Found) (differ : ℕ → ℕ → Bool) where
     pub spawned_shape : Shape → Place → Scope → Around → Walk
     spawned_shape (t.Shape.call b ts) pl sc a =
         by_callee (spawned_callee (callee_of p b (form.picking None) pl))
-        (λ f. start f sc then args ts sc (started f a) then finish f (how_many ts) (form_fits p differ f
+        (λ f. start f sc then args ts sc (started f a) then
+        finish f (how_many ts) (form_fits p differ f
         (how_many ts) sc))
         (λ f. inner b sc a then args ts sc (up a) then finish f (how_many ts) true)
         (λ f. ends)

@@ -40,7 +40,8 @@ declared found k (b ∷ bs) = signed (found.signature k) ∷ declared found (suc
 
 abbrev pub class_notes : Found → (k : ℕ) → List ClassInfo → List ClassNote
 class_notes found k [] = []
-class_notes found k (c ∷ cs) = record { parent = found.up k; slots = found.slots k } ∷ class_notes found
+class_notes found k (c ∷ cs) = record { parent = found.up k; slots = found.slots k } ∷
+    class_notes found
     (suc k) cs
 
 abbrev pub params_of : Option FuncNote → List Sort
@@ -72,14 +73,16 @@ module _ (p : Program) (found : Found) (differ : ℕ → ℕ → Bool) (code : C
   }
 
   abbrev pub func_notes : List FuncNote
-  func_notes = declared found 0 (bodies_in p.items) ++ map default_note (default_bodies (defaults_in p.items))
+  func_notes = declared found 0 (bodies_in p.items) ++
+      map default_note (default_bodies (defaults_in p.items))
 
   abbrev pub entry_state : (k : ℕ) → State
   entry_state k = at_entry k (params_of (slice_get func_notes k))
       (locals_of code (slice_get code.functions k))
 
   abbrev pub body_walk : (k : ℕ) → Body → Walk
-  body_walk k b at x = (walk p found differ b.body b.scope fresh then ends) at (Some (entry_state k))
+  body_walk k b at x = (walk p found differ b.body b.scope fresh then
+      ends) at (Some (entry_state k))
 
   abbrev pub bodies_from : (k : ℕ) → List Body → Walk
   bodies_from k [] = nothing

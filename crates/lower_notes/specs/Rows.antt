@@ -75,7 +75,8 @@ lists = 14
 abbrev pub sorts : List Sort
 sorts = s.int ∷ s.any ∷ s.never ∷ s.nil ∷ s.logic ∷ s.list s.char ∷ s.list s.int ∷
     s.map (s.list s.char) s.int ∷ s.task s.int ∷
-    s.event s.int ∷ s.tuple (s.more_sorts s.int (s.more_sorts s.int s.no_sorts)) ∷ s.opt s.int ∷ s.enum 0 ∷
+    s.event s.int ∷ s.tuple (s.more_sorts s.int (s.more_sorts s.int s.no_sorts)) ∷ s.opt s.int ∷
+    s.enum 0 ∷
     s.list s.never ∷
     s.list (s.list s.int) ∷ s.obj 0 ∷ s.int ∷ []
 
@@ -106,9 +107,11 @@ abbrev pub modulo : ℕ
 modulo = 22
 
 abbrev pub refs : List (Option Ref)
-refs = None ∷ None ∷ None ∷ None ∷ None ∷ None ∷ None ∷ None ∷ None ∷ None ∷ None ∷ None ∷ None ∷ None ∷
+refs = None ∷ None ∷ None ∷ None ∷ None ∷ None ∷ None ∷ None ∷ None ∷ None ∷ None ∷ None ∷ None ∷
     None ∷
-    Some (ref.Class 0) ∷ Some (ref.Field 0 1) ∷ Some (ref.Enum 0) ∷ Some (ref.Fun 1) ∷ Some (ref.Method 0 0) ∷
+    None ∷
+    Some (ref.Class 0) ∷ Some (ref.Field 0 1) ∷ Some (ref.Enum 0) ∷ Some (ref.Fun 1) ∷
+    Some (ref.Method 0 0) ∷
     Some (ref.Builtin 0) ∷ Some (ref.Builtin 1) ∷ Some (ref.Builtin 3) ∷ []
 
 abbrev pub nth_sort : List Sort → ℕ → Sort
@@ -235,7 +238,8 @@ field_info default = record { ty = ty.Int; is_var = false; default = default }
 -- with these bodies of M and Main
 abbrev pub program : (m b : Tree) → Program
 program m b = record {
-  items = enumeration an_enum ∷ class (a_class m) ∷ function (a_function 35 (codes "F") the_a) ∷ function (main b) ∷ [];
+  items = enumeration an_enum ∷ class (a_class m) ∷ function (a_function 35 (codes "F") the_a) ∷
+      function (main b) ∷ [];
   is_array = λ n. nat_eq n list;
   is_event = λ n. nat_eq n event;
   names = record {
@@ -252,7 +256,14 @@ program m b = record {
 }
 
 abbrev pub signature : ℕ → Signature
-signature zero = record { params = s.int ∷ []; result = s.int; decides = false; lasts = false; this = Some 0 }
+signature zero = record {
+  params = s.int ∷ [];
+  result = s.int;
+  decides = false;
+  lasts =
+      false;
+  this = Some 0;
+}
 signature (suc zero) = record {
   params = s.int ∷ [];
   result = s.int;
@@ -261,7 +272,14 @@ signature (suc zero) = record {
   this =
       None;
 }
-signature (suc (suc g)) = record { params = []; result = s.any; decides = false; lasts = true; this = None }
+signature (suc (suc g)) = record {
+  params = [];
+  result = s.any;
+  decides = false;
+  lasts =
+      true;
+  this = None;
+}
 
 abbrev pub found : Found
 found = record {
@@ -301,10 +319,12 @@ pub record ValuesPass : Type 0 where
   -- 1 + 2
   pub sums : Passes (sum (int 1) (int 2))
   -- X := (1, 2); X(0)
-  pub items : Passes (block (two (defined pair (codes "X") (part pair (t.Shape.tuple (two (int 1) (int 2)))))
+  pub items : Passes (block
+      (two (defined pair (codes "X") (part pair (t.Shape.tuple (two (int 1) (int 2)))))
       (part 0 (t.Shape.call (named pair (codes "X")) (alone (int 0))))))
   -- array{1} + array{}
-  pub joined : Passes (part list (t.Shape.chained operator.Add (part list (t.Shape.array (alone (int 1))))
+  pub joined : Passes
+      (part list (t.Shape.chained operator.Add (part list (t.Shape.array (alone (int 1))))
       (part empty (t.Shape.array no_trees))))
   -- Print("a{1}")
   pub printed : Passes (part void (t.Shape.call (named printing (codes "Print"))
@@ -313,7 +333,8 @@ pub record ValuesPass : Type 0 where
   pub mapped : Passes (block (two (defined map (codes "M") (part map (t.Shape.mapping
       (t.Pairs.more_pairs (part empty (t.Shape.array no_trees)) (int 1) t.Pairs.no_pairs))))
       (part void (t.Shape.if_alone
-      (alone (below (part 0 (t.Shape.index (named map (codes "M")) (alone (characters (codes "a")))))
+      (alone (below (part 0
+      (t.Shape.index (named map (codes "M")) (alone (characters (codes "a")))))
       (int 2))) (int 3)))))
   -- X := array{1}; -X.Length
   pub counted : Passes (block (two
@@ -332,7 +353,8 @@ pub record AttemptsPass : Type 0 where
       (named 0 (codes "X")) (int 3)))
   -- if (not 1 < 2): 3
   pub negation : Passes
-      (part void (t.Shape.if_alone (alone (part void (t.Shape.negation (below (int 1) (int 2))))) (int 3)))
+      (part void (t.Shape.if_alone (alone (part void (t.Shape.negation (below (int 1) (int 2)))))
+      (int 3)))
   -- F[1] or 2
   pub either : Passes
       (part 0 (t.Shape.chained operator.Or (part 0 (t.Shape.index (named the_function (codes "F"))
@@ -340,7 +362,8 @@ pub record AttemptsPass : Type 0 where
       (int 2)))
   -- X := option{1 < 2}; logic{X?}
   pub options : Passes
-      (block (two (defined opt (codes "X") (part opt (t.Shape.option (alone (below (int 1) (int 2))))))
+      (block (two (defined opt (codes "X")
+      (part opt (t.Shape.option (alone (below (int 1) (int 2))))))
       (part logic (t.Shape.logic (alone (part 0 (t.Shape.query (named opt (codes "X")))))))))
   -- if (1 < 2): return 3; 4
   pub returned : Passes (block (two (part void (t.Shape.if_alone (alone (below (int 1) (int 2)))
@@ -354,7 +377,8 @@ pub record LoopsPass : Type 0 where
       (t.Shape.loop_form (part pair (t.Shape.tuple (two (int 1) (part never t.Shape.break_form))))))
   -- loop: (1, if (1 < 2) then break else 2)
   pub broken_at_times : Passes (part void (t.Shape.loop_form (part pair (t.Shape.tuple (two (int 1)
-      (part 0 (t.Shape.if_else (alone (below (int 1) (int 2))) (part never t.Shape.break_form) (int 2))))))))
+      (part 0 (t.Shape.if_else (alone (below (int 1) (int 2))) (part never t.Shape.break_form)
+      (int 2))))))))
   -- loop: 1; 2 is never reached
   pub endless : Passes (block (two (part never (t.Shape.loop_form (int 1))) (int 2)))
   -- for (A : array{1}, A < 2, B := A): B
@@ -363,8 +387,10 @@ pub record LoopsPass : Type 0 where
       (below (named 0 (codes "A")) (int 2)) (defined 0 (codes "B") (named 0 (codes "A"))))
       (named 0 (codes "B"))))
   -- for (I := 1..2, A : array{I}): A
-  pub nested : Passes (part list (t.Shape.for_form (two (part 0 (t.Shape.range (codes "I") (int 1) (int 2)))
-      (part 0 (t.Shape.elements (codes "A") (part list (t.Shape.array (alone (named 0 (codes "I"))))))))
+  pub nested : Passes
+      (part list (t.Shape.for_form (two (part 0 (t.Shape.range (codes "I") (int 1) (int 2)))
+      (part 0 (t.Shape.elements (codes "A")
+      (part list (t.Shape.array (alone (named 0 (codes "I"))))))))
       (named 0 (codes "A"))))
   -- for (K -> A : map{"a" => 1}): Print(K); A
   pub entries : Passes
@@ -385,7 +411,8 @@ pub record LoopsPass : Type 0 where
       (part 0 (t.Shape.arm (part 0 t.Shape.any_pattern) (int 3))))))
   -- case (e.B): e.A => return 2, _ => 3, e.B => 4
   pub case_behind_any : Passes
-      (part 0 (t.Shape.cases (part an_e (t.Shape.member (named the_enum (codes "e")) (codes "B"))) (three
+      (part 0 (t.Shape.cases (part an_e (t.Shape.member (named the_enum (codes "e")) (codes "B")))
+      (three
       (part never (t.Shape.arm (part an_e (t.Shape.enum_pattern (codes "e") (codes "A")))
       (part never (t.Shape.returned (int 2)))))
       (part 0 (t.Shape.arm (part 0 t.Shape.any_pattern) (int 3)))
@@ -401,7 +428,8 @@ pub record LoopsPass : Type 0 where
   -- loop: (1, case (2): 3 => break, _ => 4)
   pub broken_in_case : Passes (part void (t.Shape.loop_form (part pair (t.Shape.tuple (two (int 1)
       (part 0 (t.Shape.cases (int 2) (two
-      (part never (t.Shape.arm (part 0 (t.Shape.integer_pattern (pos 3))) (part never t.Shape.break_form)))
+      (part never (t.Shape.arm (part 0 (t.Shape.integer_pattern (pos 3)))
+      (part never t.Shape.break_form)))
       (part 0 (t.Shape.arm (part 0 t.Shape.any_pattern) (int 4)))))))))))
 
 -- defer{b}
@@ -434,12 +462,14 @@ pub record DefersPass : Type 0 where
       (block (two (deferred the_x) (part never t.Shape.break_form)))))))
   -- defer{1}; if (block{defer{2}; 3} < 4): return 5; 6
   pub in_condition : Passes (block (three (deferred (int 1)) (part void (t.Shape.if_alone
-      (alone (below (part 0 (t.Shape.block_form (part 0 (t.Shape.block (two (deferred (int 2)) (int 3))))))
+      (alone (below (part 0
+      (t.Shape.block_form (part 0 (t.Shape.block (two (deferred (int 2)) (int 3))))))
       (int 4)))
       (part never (t.Shape.returned (int 5))))) (int 6)))
   -- X := 1; defer{X}; race: X, block{defer{X}; 2}
   pub in_arm : Passes (block (three an_x (deferred the_x) (part 0 (t.Shape.race
-      (two the_x (part 0 (t.Shape.block_form (part 0 (t.Shape.block (two (deferred the_x) (int 2)))))))))))
+      (two the_x (part 0 (t.Shape.block_form
+      (part 0 (t.Shape.block (two (deferred the_x) (int 2)))))))))))
 
 -- Groups, branches, spawned calls and pauses
 pub record TasksPass : Type 0 where
@@ -448,28 +478,33 @@ pub record TasksPass : Type 0 where
       (block (two an_x
       (part void (t.Shape.tuple (two the_x (part pair (t.Shape.sync (two the_x (int 2)))))))))
   -- branch: Sleep(1.0); 2
-  pub branch : Passes (block (two (part void (t.Shape.branch (part void (t.Shape.sleep 1000)))) (int 2)))
+  pub branch : Passes
+      (block (two (part void (t.Shape.branch (part void (t.Shape.sleep 1000)))) (int 2)))
   -- E := event(int){}; E.Signal(1); E.Await()
   pub event_awaited : Passes
       (block (three (defined event (codes "E") (part event (t.Shape.event t.Written.int)))
-      (part void (t.Shape.call (part void (t.Shape.member (named event (codes "E")) (codes "Signal")))
+      (part void (t.Shape.call
+      (part void (t.Shape.member (named event (codes "E")) (codes "Signal")))
       (alone (int 1))))
       (part 0 (t.Shape.call (part void (t.Shape.member (named event (codes "E"))
       (codes "Await"))) no_trees))))
   -- T := spawn{c{N := 1}.M(2)}; T.Await()
   pub task_awaited : Passes
       (block (two (defined task (codes "T") (part task (t.Shape.spawn (part 0 (t.Shape.call
-      (part the_method (t.Shape.member (part an_object (t.Shape.instance (codes "c") (more_givens (codes "N")
+      (part the_method (t.Shape.member
+      (part an_object (t.Shape.instance (codes "c") (more_givens (codes "N")
       (int 1) no_givens)))
       (codes "M"))) (alone (int 2)))))))
-      (part 0 (t.Shape.call (part void (t.Shape.member (named task (codes "T")) (codes "Await"))) no_trees))))
+      (part 0 (t.Shape.call
+      (part void (t.Shape.member (named task (codes "T")) (codes "Await"))) no_trees))))
   -- sync: (rush: 1, 2), 3
   pub groups_in_groups : Passes (part pair (t.Shape.sync
       (two (part 0 (t.Shape.rush (two (int 1) (int 2)))) (int 3))))
   -- loop: (1, race: block{loop{break}; 2}, 3); break
   pub group_in_loop : Passes (part void (t.Shape.loop_form (block (two
       (part pair (t.Shape.tuple (two (int 1) (part 0 (t.Shape.race
-      (two (part 0 (t.Shape.block (two (part void (t.Shape.loop_form (part never t.Shape.break_form))) (int 2))))
+      (two (part 0 (t.Shape.block
+      (two (part void (t.Shape.loop_form (part never t.Shape.break_form))) (int 2))))
       (int 3)))))))
       (part never t.Shape.break_form)))))
   -- Sleep(Inf)
@@ -495,9 +530,11 @@ pub record WritesPass : Type 0 where
   -- X := c{N := 1}; set X.N = X.M(2)
   pub field_written : Passes (block (two (defined an_object (codes "X")
       (part an_object (t.Shape.instance (codes "c") (more_givens (codes "N") (int 1) no_givens))))
-      (part 0 (t.Shape.assignment assign.Set (part its_field (t.Shape.member (named an_object (codes "X"))
+      (part 0 (t.Shape.assignment assign.Set
+      (part its_field (t.Shape.member (named an_object (codes "X"))
       (codes "N")))
-      (part 0 (t.Shape.call (part the_method (t.Shape.member (named an_object (codes "X")) (codes "M")))
+      (part 0 (t.Shape.call
+      (part the_method (t.Shape.member (named an_object (codes "X")) (codes "M")))
       (alone (int 2))))))))
 
 -- Calls, and what stands in a method
@@ -510,7 +547,8 @@ pub record CallsPass : Type 0 where
   -- if (Mod[5, 2] = 1): 3
   pub remainder : Passes (part void (t.Shape.if_alone
       (alone (part 0 (t.Shape.compared comparison.Equal
-      (part 0 (t.Shape.index (named modulo (codes "Mod")) (two (int 5) (int 2)))) (int 1)))) (int 3)))
+      (part 0 (t.Shape.index (named modulo (codes "Mod")) (two (int 5) (int 2)))) (int 1))))
+      (int 3)))
   -- N + A
   pub own_field : PassesInMethod (sum (named its_field (codes "N")) the_a)
   -- set N = A; Self.N
@@ -518,11 +556,13 @@ pub record CallsPass : Type 0 where
       (part 0 (t.Shape.assignment assign.Set (named its_field (codes "N")) the_a))
       (part its_field (t.Shape.member (part an_object t.Shape.this) (codes "N"))))))
   -- M(A)
-  pub own_method : PassesInMethod (part 0 (t.Shape.call (named the_method (codes "M")) (alone the_a)))
+  pub own_method : PassesInMethod
+      (part 0 (t.Shape.call (named the_method (codes "M")) (alone the_a)))
   -- return A behind defer{A}, and a loop that is left twice
   pub left_in_method : PassesInMethod (part 0 (t.Shape.block (three (deferred the_a)
       (part void (t.Shape.loop_form (block (two (deferred (int 1))
-      (part void (t.Shape.if_else (alone (below the_a (int 2))) (part never (t.Shape.returned the_a))
+      (part void (t.Shape.if_else (alone (below the_a (int 2)))
+      (part never (t.Shape.returned the_a))
       (part never t.Shape.break_form)))))))
       the_a)))
 
@@ -530,5 +570,6 @@ pub record CallsPass : Type 0 where
 -- second one with Y; the first one was deferred before Y had a value, so what it leaves is not
 -- what the Leave begins with (V7).
 pub record RefusedRows : Type 0 where
-  pub two_scopes : fault (block (more_trees an_x (four (deferred the_x) (defined 0 (codes "Y") (int 2))
+  pub two_scopes : fault
+      (block (more_trees an_x (four (deferred the_x) (defined 0 (codes "Y") (int 2))
       (deferred (named 0 (codes "Y"))) (int 3)))) ≡ Some (7, 25)

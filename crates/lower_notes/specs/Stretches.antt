@@ -1,4 +1,5 @@
--- Stretches of states, and how they are put together: beside the stretches of code, combinator by combinator.
+-- Stretches of states, and how they are put together: beside the stretches of code, combinator by
+-- combinator.
 use Rattle.std.specs.Prelude.{max, ℕ, zero, suc, List, [], ◌∷◌, ◌++◌, Option, Some, None}
 use Rattle.std.specs.Prelude.{option_map, Bool, true, false, cond, nat_le}
 use Rattle.verse_sorts.specs.Sorts as s
@@ -186,7 +187,8 @@ looping f = closing (ahead (always same) (always same) (f then one (pops 1)) the
 
 -- Commit; Each or Range; Jump T; B: Try T; the clauses and what is in them; T: Take B
 abbrev pub turning : (domain turn : Change) → Walk → Walk
-turning domain turn f = one untried then one domain then ahead (always turn) (always same) (attempt f) then
+turning domain turn f = one untried then one domain then
+    ahead (always turn) (always same) (attempt f) then
     last
 
 -- an arm that gives this
@@ -199,7 +201,13 @@ unreached zero xs = xs
 unreached (suc n) xs = None ∷ unreached n xs
 
 abbrev pub group_of : (arms : ℕ) → Option State → Option State → Stretch → Stretch
-group_of m x y p = record { states = x ∷ unreached m (y ∷ p.states); exit = y; deep = p.deep; left = p.left }
+group_of m x y p = record {
+  states = x ∷ unreached m (y ∷ p.states);
+  exit = y;
+  deep =
+      p.deep;
+  left = p.left;
+}
 
 abbrev pub grouped : (arms : ℕ) → Sort → Walk → Walk
 grouped m a f at x = group_of m x (option_map (gives 0 a) x) (f (later m (suc (suc at))) x)
