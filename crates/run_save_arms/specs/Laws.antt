@@ -21,6 +21,7 @@ pub record AreKin (s : Kept) (before : List KeptTask) (t : KeptTask) (mid : List
 
 abbrev pub ArmsAreYoungest : Type 0
 ArmsAreYoungest = (c : Code) (s : Kept) (before : List KeptTask) (t : KeptTask)
-    (mid : List KeptTask) (u : KeptTask) (behind : List KeptTask) → Fits c s → AreKin s before t mid u behind →
+    (mid : List KeptTask) (u : KeptTask) (behind : List KeptTask) → Fits c s →
+    AreKin s before t mid u behind →
     ArmedBy (suc (above s (length before) t (mid ++ u ∷ behind)))
     (arms_at (rest c s (length before) t (mid ++ u ∷ behind) t.rest)) (number_at s (u ∷ behind))
