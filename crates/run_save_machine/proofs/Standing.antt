@@ -1,5 +1,5 @@
 -- The parts of a machine that is made of a shot.
-use Rattle.std.proofs.Common.{◌≡◌, ℕ, ◌+◌, ◌≤◌, List, [], length, map, Option, option_map, refl, sym, ap, subst, ◌∙◌, arith}
+use Rattle.std.proofs.Common.{◌≡◌, List, [], map, Option, option_map, refl, sym, ap, subst, ◌∙◌, arith}
 use Rattle.verse_value.specs.View.{val_of}
 use Rattle.verse_code.specs.declared.codes.Code.{Code}
 use Rattle.sim_clock.specs.declared.waits.Pending.{Pending}

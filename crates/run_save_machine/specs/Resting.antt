@@ -1,14 +1,11 @@
 -- What a machine is that is made of what is kept.
-use Rattle.std.specs.Prelude.{◌≡◌, ℕ, List, [], map, Option, None, option_map}
-use Rattle.verse_value.specs.declared.values.Value.{Value}
+use Rattle.std.specs.Prelude.{◌≡◌, ℕ, List, [], Option, None}
 use Rattle.verse_meaning_state.specs.State.{State}
-use Rattle.verse_meaning_state.specs.State as state
 use Rattle.verse_code_machine.specs.Runs.{Forest}
 use Rattle.sim_clock.specs.declared.waits.Pending.{Pending}
 use Rattle.vm_running.specs.Views.{View, Aside, state_of}
 use Rattle.vm_scheduler.specs.declared.tasks.Tasks.{Tasks}
 use Rattle.vm_scheduler.specs.declared.tasks.Given.{Given}
-use Rattle.vm_scheduler.specs.Standing.{given_of}
 use Rattle.vm_scheduler.specs.Going.{Resting}
 use Rattle.run_save_waits.specs.Started.{Starts}
 use Rattle.run_save_trees.specs.declared.tables.Restored.{Restored}
