@@ -415,7 +415,7 @@ module _ (p : Program) (differ : ℕ → ℕ → Bool) (f : Found) where
   enum_number x None h = absurd (cc)
   enum_number x (Some e) h = enum_item e x (nth (enums p.items) e) h
 
-  pattern_orderly : (x : Shape) → has_value_shape p x ≡ true → is_any p differ x ≡ false → Orderly
+  pub pattern_orderly : (x : Shape) → has_value_shape p x ≡ true → is_any p differ x ≡ false → Orderly
       (pattern_op p differ x)
   pattern_orderly (t.Shape.integer_pattern z) h e = just (o.Int z) refl
   pattern_orderly (t.Shape.minus_pattern z) h e = just (o.Int (neg_ℤ z)) refl
@@ -466,7 +466,7 @@ module _ (p : Program) (differ : ℕ → ℕ → Bool) (f : Found) where
   field_default None (Some c) n b e = just (o.Call (default_number p n)) refl
   field_default None None n b e = elim (none-some b e) [ ]
 
-  fields_orderly : (gs : Givens) (l : ℕ) (qs : List Sort) (ds : List FieldTree) (rs : List Sort) →
+  pub fields_orderly : (gs : Givens) (l : ℕ) (qs : List Sort) (ds : List FieldTree) (rs : List Sort) →
       Filled p f (given_names gs) qs ds rs → Orderly (field_ops p differ ds gs l)
   fields_orderly gs l qs [] [] filled_no = none
   fields_orderly gs l qs [] (r ∷ rs) h = elim h [ ]

@@ -31,11 +31,34 @@ both_each : {X : Type 0} (P Q : X → Type 0) (xs : List X) → Each P xs → Ea
 both_each P Q [] h k = tt
 both_each P Q (x ∷ xs) h k = ((h.0, k.0), both_each P Q xs h.1 k.1)
 
-in_body : (g : Signature) → Leaves (in_function g true) fresh
+pub in_body : (g : Signature) → Leaves (in_function g true) fresh
 in_body g = record { returns = λ r e. refl; breaks = λ e. absurd (cc) }
 
-in_field : Leaves (in_default true) fresh
+pub in_field : Leaves (in_default true) fresh
 in_field = record { returns = λ r e. refl; breaks = λ e. absurd (cc) }
+
+-- ---- fields that have a default
+
+module _ (p : Program) (f : Found) where
+  one_found : (d : FieldTree) (e : Option Tree) → DefaultFound p f d → Each (DefaultFound p f) (with_default d e)
+  one_found d None m = tt
+  one_found d (Some b) m = (m, tt)
+
+  own_found : (ms : List MemberTree) → MembersFound p f ms → Each (DefaultFound p f) (with_defaults (own_fields ms))
+  own_found [] m = tt
+  own_found (method x ∷ ms) m = own_found ms m.1
+  own_found (field d ∷ ms) m = each_joined (DefaultFound p f) (with_default d d.default) (with_defaults
+      (own_fields ms))
+      (one_found d d.default m.0) (own_found ms m.1)
+
+  pub defaults_found : (is : List ItemTree) → ItemsFound p f is → Each (DefaultFound p f) (defaults_in is)
+  defaults_found [] m = tt
+  defaults_found (using u ∷ is) m = defaults_found is m
+  defaults_found (enumeration e ∷ is) m = defaults_found is m
+  defaults_found (class c ∷ is) m = each_joined (DefaultFound p f) (with_defaults (own_fields c.members))
+      (defaults_in is)
+      (own_found c.members m.0) (defaults_found is m.1)
+  defaults_found (function x ∷ is) m = defaults_found is m.1
 
 module _ (p : Program) (differ : ℕ → ℕ → Bool) (f : Found) (known : FineFound p f) where
   abbrev Has : Body → Type 0
@@ -78,26 +101,6 @@ module _ (p : Program) (differ : ℕ → ℕ → Bool) (f : Found) (known : Fine
 
   -- ---- defaults
 
-  one_found : (d : FieldTree) (e : Option Tree) → DefaultFound p f d → Each (DefaultFound p f) (with_default d e)
-  one_found d None m = tt
-  one_found d (Some b) m = (m, tt)
-
-  own_found : (ms : List MemberTree) → MembersFound p f ms → Each (DefaultFound p f) (with_defaults (own_fields ms))
-  own_found [] m = tt
-  own_found (method x ∷ ms) m = own_found ms m.1
-  own_found (field d ∷ ms) m = each_joined (DefaultFound p f) (with_default d d.default) (with_defaults
-      (own_fields ms))
-      (one_found d d.default m.0) (own_found ms m.1)
-
-  defaults_found : (is : List ItemTree) → ItemsFound p f is → Each (DefaultFound p f) (defaults_in is)
-  defaults_found [] m = tt
-  defaults_found (using u ∷ is) m = defaults_found is m
-  defaults_found (enumeration e ∷ is) m = defaults_found is m
-  defaults_found (class c ∷ is) m = each_joined (DefaultFound p f) (with_defaults (own_fields c.members))
-      (defaults_in is)
-      (own_found c.members m.0) (defaults_found is m.1)
-  defaults_found (function x ∷ is) m = defaults_found is m.1
-
   default_orderly : (e : Option Tree) → ((b : Tree) → e ≡ Some b → (q : Sort) × IsDefault p f b q) → Each Has
       (default_body e) →
       Each InOrder (default_body e)
@@ -130,7 +133,7 @@ module _ (p : Program) (differ : ℕ → ℕ → Bool) (f : Found) (known : Fine
       let bs = bodies_in p.items in
       let ds = default_bodies (defaults_in p.items) in
       in_turn (all_bodies p.items) (each_joined InOrder bs ds (bodies_orderly p.items m (each_first Has bs ds has))
-      (defaults_orderly (defaults_in p.items) (defaults_found p.items m) (each_rest Has bs ds has)))
+      (defaults_orderly (defaults_in p.items) (defaults_found p f p.items m) (each_rest Has bs ds has)))
 
 pub fine_arms_stand : FineArmsStand
 fine_arms_stand p fine found stand give differ files =

@@ -57,7 +57,7 @@ who_at (u ∷ us) (suc i) h = who_at us i (lower i (length us) h)
     lower : (i n : ℕ) → suc i < suc n → i < n
     lower i n h = omega (arith, h)
 
-whos_end : (us : List Task) (u : Task) → whos (us ++ u ∷ []) ≡ whos us ++ u.thread.who ∷ []
+pub whos_end : (us : List Task) (u : Task) → whos (us ++ u ∷ []) ≡ whos us ++ u.thread.who ∷ []
 whos_end [] u = refl
 whos_end (v ∷ us) u = ap (λ ws. v.thread.who ∷ ws) (whos_end us u)
 
@@ -89,7 +89,8 @@ each_task : (P : Task → Type 0) (ts : List Task) → Each P ts → EachTask P 
 each_task P [] a = tt
 each_task P (t ∷ ts) a = (a.0, each_task P ts a.1)
 
-rooted_trees : (left : ℕ) (tss : Forest) → Each (λ ts. Rooted left (whos ts)) tss → Each (λ ts. Each (λ (t : Task). Still t.thread) ts) tss → TreesRooted left
+pub rooted_trees : (left : ℕ) (tss : Forest) → Each (λ ts. Rooted left (whos ts)) tss →
+    Each (λ ts. Each (λ (t : Task). Still t.thread) ts) tss → TreesRooted left
     tss
 rooted_trees left [] a b = tt
 rooted_trees left (ts ∷ tss) a b = (a.0, each_task (λ (t : Task). Still t.thread) ts b.0, rooted_trees left tss a.1 b.1)
@@ -112,7 +113,7 @@ some_end [] n = tt
 some_end (i ∷ up) n = tt
 
 -- no parent is found where there is none
-unfound : (q : List ℕ) (ys : List Task) → place_of q ys ≡ None → tasks_sum (is_named q) ys ≡ 0
+pub unfound : (q : List ℕ) (ys : List Task) → place_of q ys ≡ None → tasks_sum (is_named q) ys ≡ 0
 unfound q [] e = refl
 unfound q (x ∷ xs) e = by_test (same_path q x.thread.who.path) e (unfound q xs)
   where
@@ -209,7 +210,7 @@ module _ (c : Code) (x : Kept) (z : Scene) (next : ℕ) (ys us : List Task) (nam
 
 -- ---- pairs by their places
 
-abbrev At : (ys us : List Task) → Task → Task → Type 0
+abbrev pub At : (ys us : List Task) → Task → Task → Type 0
 At ys us y u = (i : ℕ) × (nth ys i ≡ Some y) × (nth us i ≡ Some u) × Fact ys us y u
 
 placed_pairs : (ys us xs vs : List Task) (n : ℕ) → ((i : ℕ) (t : Task) → nth xs i ≡ Some t → nth ys (n + i) ≡ Some t) → ((i : ℕ) (t : Task) → nth vs i ≡ Some t →
@@ -232,7 +233,8 @@ module _ (ys us : List Task) (unique : (p : List ℕ) → tasks_sum (is_named p)
   empty_not (i ∷ p) s = refl
 
   -- the parents stand alike
-  tests : (y u t v : Task) → At ys us y u → At ys us t v → same_path y.thread.who.up t.thread.who.path ≡ same_path u.thread.who.up v.thread.who.path
+  pub tests : (y u t v : Task) → At ys us y u → At ys us t v →
+      same_path y.thread.who.up t.thread.who.path ≡ same_path u.thread.who.up v.thread.who.path
   tests y u t v a b = by_place (place_of y.thread.who.up ys) refl
     where
       by_place : (o : Option ℕ) → place_of y.thread.who.up ys ≡ o → same_path y.thread.who.up t.thread.who.path ≡ same_path u.thread.who.up v.thread.who.path
@@ -278,38 +280,38 @@ orderly_again left tss ordered o a = record {
 
 module _ (c : Code) (steps until : ℕ) (s : State) (tss ordered : Forest) (o : Reordered tss ordered) (a : Savable c steps until s tss) (b : Orderly s.clock.left
     tss) where
-  abbrev all : List Task
+  abbrev pub all : List Task
   all = walk ordered
 
-  abbrev spelled : List Task
+  abbrev pub spelled : List Task
   spelled = tasks_from c (kept s ordered) [] (map (kp.task (walk ordered)) (walk ordered))
 
-  again : Orderly s.clock.left ordered
+  pub again : Orderly s.clock.left ordered
   again = orderly_again s.clock.left tss ordered o b
 
-  still : Each (λ ts. Each (λ (t : Task). Still t.thread) ts) ordered
+  pub still : Each (λ ts. Each (λ (t : Task). Still t.thread) ts) ordered
   still = reordered_each (λ ts. Each (λ (t : Task). Still t.thread) ts) o (trees_still s.clock.left tss a.rooted)
 
-  rooted : Each (λ ts. Rooted s.clock.left (whos ts)) ordered
+  pub rooted : Each (λ ts. Rooted s.clock.left (whos ts)) ordered
   rooted = reordered_each (λ ts. Rooted s.clock.left (whos ts)) o (trees_rooted s.clock.left tss a.rooted)
 
-  names : Each Named all
+  pub names : Each Named all
   names = walk_each Named ordered (trees_names s.clock.left ordered again.lines)
 
-  unique : (p : List ℕ) → tasks_sum (is_named p) all ≤ 1
+  pub unique : (p : List ℕ) → tasks_sum (is_named p) all ≤ 1
   unique p = at_most (tasks_sum (is_named p) all) (trees_sum (is_named p) ordered) 1 (walk_sum (is_named p) ordered) (further (trees_sum (is_named p) ordered)
       (one (ltn s.clock.left (suc (last p)))) (again.names p) (one_most (ltn s.clock.left (suc (last p)))))
     where
       further : (i j : ℕ) → i ≤ j → j ≤ 1 → i ≤ 1
       further i j e f = omega (arith, e, f)
 
-  apart : (p : List ℕ) → tasks_sum (is_named p) spelled ≤ 1
+  pub apart : (p : List ℕ) → tasks_sum (is_named p) spelled ≤ 1
   apart p = at_most (tasks_sum (is_named p) spelled) (r.tasks_sum (r.is_named p) spelled) 1 (sum_as p spelled) (names_apart c (kept s ordered) p)
 
   fine : Each (TaskFine c a.scene s.clock.next) all
   fine = walk_each (TaskFine c a.scene s.clock.next) ordered (reordered_each (λ ts. Each (TaskFine c a.scene s.clock.next) ts) o a.trees)
 
-  given : Each (λ y. TaskFine c a.scene s.clock.next y × Still y.thread × HasOwn all y) all
+  pub given : Each (λ y. TaskFine c a.scene s.clock.next y × Still y.thread × HasOwn all y) all
   given = three all fine (walk_each (λ (t : Task). Still t.thread) ordered still) (parents_from [] all names (walk_well s.clock.left ordered rooted))
     where
       three : (zs : List Task) → Each (TaskFine c a.scene s.clock.next) zs → Each (λ (t : Task). Still t.thread) zs → Each (HasOwn all) zs → Each (λ y. TaskFine c
@@ -317,7 +319,7 @@ module _ (c : Code) (steps until : ℕ) (s : State) (tss ordered : Forest) (o : 
       three [] f g h = tt
       three (y ∷ zs) f g h = ((f.0, g.0, h.0), three zs f.1 g.1 h.1)
 
-  pairs : EachPair (At all spelled) all spelled
+  pub pairs : EachPair (At all spelled) all spelled
   pairs = placed_pairs all spelled all spelled 0 (λ i t e. subst (λ j. nth all j ≡ Some t) (none i) e) (λ i t e. subst (λ j. nth spelled j ≡ Some t) (none i) e)
       (facts c (kept s ordered) a.scene s.clock.next all spelled names [] all refl names given (parents_fit all names (walk_well s.clock.left ordered rooted)))
     where

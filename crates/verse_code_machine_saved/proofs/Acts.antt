@@ -306,8 +306,8 @@ module _ (k : Setting) where
   faulting_same None e s = over k
   faulting_same (Some p) e s = over k
 
-module _ (k : Setting) (y : Who) (x : World) (s : State) (g : Life) (pc : ℕ) (hs : List Handler) (bl : List Frame) (z : Is k s)
-    (i : WorldIs k x) where
+module _ (k : Setting) (y : Who) (x : World) (s : State) (g : Life) (pc : ℕ) (hs : List Handler) (bl : List Frame)
+    (path : k.IsPath y.path) (z : Is k s) (i : WorldIs k x) where
   abbrev U : State
   U = S k s
 
@@ -498,7 +498,7 @@ module _ (k : Setting) (y : Who) (x : World) (s : State) (g : Life) (pc : ℕ) (
   act_same c o.Fail ls st = failing_same k y x s ls hs bl z i
   act_same c (o.Call m) ls st = there_same k (slice_get c.functions m) s _ _ (λ (q : Func). many_same k q.params st [] s _ _ (λ vs st. enters_here q vs ls st))
   act_same c (o.Method m j) ls st = many_same k j st [] s _ _ (λ vs st. top_same k st s _ _ (λ a st. there_as k _ _ s _ _ (method_same k c m j a s) (λ q. enters_here q (a ∷ vs) ls st)))
-  act_same c o.Return ls st = top_same k st s _ _ (λ a st. only_same k _ _ s _ _ refl (returns_same k y x g.born a s hs bl z i))
+  act_same c o.Return ls st = top_same k st s _ _ (λ a st. only_same k _ _ s _ _ refl (returns_same k y x g.born a s hs bl path z i))
   act_same c (o.Each l) ls st = top_same k st s _ _ (λ a st. domain_same k a s _ _ (there_same k (put ls l a) s _ _ (λ ls. there_same k (put ls (suc l) (int (pos 0))) s _ _ (λ ls. goes_here s g ls st (suc pc) z))))
   act_same c (o.Range l) ls st = two_same k st s _ _ (λ a d st. int_same k a s _ _ (int_same k d s _ _ (there_same k (put ls l a) s _ _ (λ ls. there_same k (put ls (suc l) d) s _ _ (λ ls. goes_here s g ls st (suc pc) z)))))
   act_same c (o.Take l d m) ls st = there_same k (nth ls l) s _ _ (λ a. there_same k (nth ls (suc l)) s _ _ (λ w. there_same k (nth ls d) s _ _ (λ q. there_same k (nth ls (suc d)) s _ _ (λ r. takes_here (taken_from a w) l d m ls st))))
@@ -514,16 +514,17 @@ module _ (k : Setting) (y : Who) (x : World) (s : State) (g : Life) (pc : ℕ) (
   act_same c (o.Group kd m p) ls st = only_same k _ _ s _ _ (free_same k y.path hs g.noted bl) (there_same k (place_at c p) s _ _ (λ q. there_same k (labels c.ops (suc pc) m) s _ _ (λ ks. groups_here (kind_of kd) q ks (after_arms (suc pc) m) ls st)))
   act_same c (o.Arm l) ls st = over k
   act_same c (o.Branch l) ls st = only_same k _ _ s _ _ (free_same k y.path hs g.noted bl) (spending_same k s _ _ z (λ u h z. branch_here u h z l ls st))
-  act_same c o.ArmEnd ls st = top_same k st s _ _ (λ a st. only_same k _ _ s _ _ refl (ends_same k y x g.born a s hs bl z i))
+  act_same c o.ArmEnd ls st = top_same k st s _ _ (λ a st. only_same k _ _ s _ _ refl (ends_same k y x g.born a s hs bl path z i))
   act_same c (o.Defer l) ls st = goes_here s _ ls st l z
   act_same c (o.Leave m) ls st = only_same k _ _ s _ _ refl (only_same k _ _ s _ _ (ap (λ k. not (ltn m k)) (defers_same k y.path hs)) (leaves_here (ltn m (length g.defers)) ls st))
   act_same c o.DeferEnd ls st = only_same k _ _ s _ _ (ap (λ k. ltn k (length g.noted)) (noted_same k y.path hs)) (noted_here g.noted ls st)
 
-pub steps_same : (k : Setting) (c : Code) (x : Machine) → Is k x.state → WorldIs k x.world → Same k (step c x) (step c (machine_as k.prior x))
-steps_same k c x h b = there_same k (slice_get c.ops x.frame.place) x.state _ _ (λ op. act_same k x.who x.world x.state x.frame.life
-    x.frame.place x.frame.handlers x.below h b c op x.frame.locals x.frame.stack)
+pub steps_same : (k : Setting) (c : Code) (x : Machine) → k.IsPath x.who.path → Is k x.state → WorldIs k x.world →
+    Same k (step c x) (step c (machine_as k.prior x))
+steps_same k c x e h b = there_same k (slice_get c.ops x.frame.place) x.state _ _ (λ op. act_same k x.who x.world x.state x.frame.life
+    x.frame.place x.frame.handlers x.below e h b c op x.frame.locals x.frame.stack)
 
 pub operation_renumbered : OperationRenumbered
 operation_renumbered z c x rises fixed counts =
     let k = plain z x.state.clock.left rises fixed in
-    (steps_same k c x (record { few = omega arith; counts = counts; holds = tt }) (all_world k (λ w. tt) x.world)).is
+    (steps_same k c x tt (record { few = omega arith; counts = counts; holds = tt }) (all_world k (λ w. tt) x.world)).is

@@ -19,7 +19,7 @@ use Rattle.verse_code_machine.specs.Ends.{follows, cleared, is_asleep, woken, wo
 use Rattle.verse_code_machine.specs.Runs.{Forest}
 use Rattle.verse_code_machine_saved.specs.Numbers.{Numbering, Prior, WakingRenumbered, path_as, handlers_as, frame_as, frames_as, who_as}
 use Rattle.verse_code_machine_saved.specs.Numbers.{thread_as, parts_as, rest_as, task_as, tasks_as, trees_as, after_as, ups_as, world_as, SameTest}
-use Rattle.verse_code_machine_saved.proofs.Numbers.{cancelled_renumbered, since_renumbered, arms_renumbered, path_end, same_as, eqn_number, path_is}
+use Rattle.verse_code_machine_saved.proofs.Numbers.{cancelled_as, since_as, arms_as, path_end, same_as, eqn_number, path_is}
 use Rattle.verse_code_machine_saved.proofs.Settings.{Setting, S, Is, steps_is, draws_is, result_is, RestIs, TreesAre, WorldIs, Others}
 use Rattle.verse_code_machine_saved.proofs.Settings.{others, Same, over, onto_are, trees_are, without_are, plain, all_trees}
 
@@ -115,13 +115,13 @@ module _ (k : Setting) where
   pub new_child : (w : Who) (l : ℕ) → l < k.bound → child_named (who_as R w) l ≡ who_as R (child_named w l)
   new_child w l h =
       ap (λ n. record { path = path_as R w.path ++ n ∷ []; up = path_as R w.path; number = n; role = part }) (sym (k.fixed w.path l h)) ∙
-      ap (λ p. record { path = p; up = path_as R w.path; number = R w.path l; role = part }) (sym (path_end R k.rises w.path l))
+      ap (λ p. record { path = p; up = path_as R w.path; number = R w.path l; role = part }) (sym (path_end R k.apart w.path l))
 
   cancels_same : (last next : World → State → Step) (after : After) (f g : List ℕ → Bool) (o : World) (s : State) → SameTest R f g →
       Follows last next → Is k s → WorldIs k o →
       Same k (cancels last after f o s) (cancels next (after_as Z after) g (world_as Z o) (T s))
   cancels_same last next after f g o s t j h b =
-      let c = cancelled_renumbered Z f g o k.rises t in
+      let c = cancelled_as Z f g o k.apart t in
       subst (λ ts. Same k (cancels last after f o s) (clears next (after_as Z after) ts (world_without g (world_as Z o)) (T s))) (sym c.0)
       (subst (λ w. Same k (cancels last after f o s) (clears next (after_as Z after) (tasks_as Z (cancelled f o)) w (T s))) (sym c.1)
       (clears_same last next after (cancelled f o) (world_without f o) s j h
@@ -151,7 +151,7 @@ module _ (k : Setting) where
   grouped_same all_of p gs x o s go go' h b f =
       stands_same _ _ _ _ _ _ (all_same R x.who.path gs) (f (group all_of p gs) tt) (λ vs. tupled_same p (tuple_of vs) x o s h b)
   grouped_same first_of p gs x o s go go' h b f = stands_same _ _ _ _ _ _ (first_same R x.who.path gs) (f (group first_of p gs) tt) (λ v.
-      cancels_same _ _ (resuming x v) _ _ o s (arms_renumbered R x.who.path gs k.rises) (λ o s h b. resumes_same x v o s h b) h b)
+      cancels_same _ _ (resuming x v) _ _ o s (arms_as R x.who.path gs k.apart) (λ o s h b. resumes_same x v o s h b) h b)
   grouped_same rush_of p gs x o s go go' h b f =
       stands_same _ _ _ _ _ _ (first_same R x.who.path gs) (f (group rush_of p gs) tt) (λ v. resumes_same x v o s h b)
 
@@ -233,7 +233,7 @@ module _ (k : Setting) where
   run_same : (a : List ℕ) (n : ℕ) (gs : List Part) → is_run (R a n) (parts_as R a gs) ≡ is_run n gs
   run_same a n [] = refl
   run_same a n (did v ∷ gs) = run_same a n gs
-  run_same a n (runs m ∷ gs) = ap (λ b. cond b true (is_run (R a n) (parts_as R a gs))) (eqn_number R k.rises a n m) ∙ ap (cond (eqn n m)
+  run_same a n (runs m ∷ gs) = ap (λ b. cond b true (is_run (R a n) (parts_as R a gs))) (eqn_number R k.apart a n m) ∙ ap (cond (eqn n m)
       true) (run_same a n gs)
 
   parts_if : (a : List ℕ) (b : Bool) (gs hs : List Part) → parts_as R a (cond b gs hs) ≡ cond b (parts_as R a gs) (parts_as R a hs)
@@ -244,7 +244,7 @@ module _ (k : Setting) where
   with_same a n v [] = refl
   with_same a n v (did w ∷ gs) = ap (λ hs. did w ∷ hs) (with_same a n v gs)
   with_same a n v (runs m ∷ gs) =
-      ap (λ b. cond b (did v ∷ parts_as R a gs) (runs (R a m) ∷ with_did (R a n) v (parts_as R a gs))) (eqn_number R k.rises a n m) ∙
+      ap (λ b. cond b (did v ∷ parts_as R a gs) (runs (R a m) ∷ with_did (R a n) v (parts_as R a gs))) (eqn_number R k.apart a n m) ∙
       ap (λ hs. cond (eqn n m) (did v ∷ parts_as R a gs) (runs (R a m) ∷ hs)) (with_same a n v gs) ∙ sym (parts_if a (eqn n m) _ _)
 
   -- the end of a task
@@ -265,7 +265,7 @@ module _ (k : Setting) where
       Same k (climbs up n v pre post trees s) (climbs (path_as R up) (R up n) v (tasks_as Z pre) (tasks_as Z post) (world_as Z (world pre
       post [] trees)).trees (T s))
   climbs_same up n v pre [] trees s h b = over k
-  climbs_same up n v pre (y ∷ post) trees s h b = same_if _ _ _ _ _ _ (same_as R k.rises up y.thread.who.path)
+  climbs_same up n v pre (y ∷ post) trees s h b = same_if _ _ _ _ _ _ (same_as R k.apart up y.thread.who.path)
       (λ e. subst (λ a. Same k (joined n v y.rest y pre post trees s) (joined (R a n) v (rest_as R y.thread.who.path y.rest) (task_as Z y)
       (tasks_as Z pre) (tasks_as Z post) (world_as Z (world pre post [] trees)).trees (T s))) (sym (path_is up y.thread.who.path e))
       (joined_same n v y.rest y pre post trees s h b.post.0 (others k b.pre b.post.1 tt b.before b.behind)))
@@ -303,18 +303,19 @@ module _ (k : Setting) where
   role_same (root entry) x v o s h b = root_same o.ups o.pre o.post o.trees s h b
   role_same part x v o s h b = part_same o.ups x.up x.number v o.pre o.post o.trees s h b
 
-  ends_role_same : (q : Role) (x : Who) (o : World) (born : ℕ) (v : Val) (s : State) → Is k s → WorldIs k o →
+  ends_role_same : (q : Role) (x : Who) (o : World) (born : ℕ) (v : Val) (s : State) → k.IsPath x.path → Is k s → WorldIs k o →
       Same k (ends_role q x o born v s) (ends_role q (who_as R x) (world_as Z o) (R x.path born) v (T s))
-  ends_role_same (root entry) x o born v s h b = over k
-  ends_role_same part x o born v s h b =
-      cancels_same _ _ (closing x v) _ _ o s (since_renumbered R x.path born k.rises) (λ o s h b. role_same part x v o s h b) h b
+  ends_role_same (root entry) x o born v s e h b = over k
+  ends_role_same part x o born v s e h b =
+      cancels_same _ _ (closing x v) _ _ o s (since_as R x.path born k.apart (k.rises x.path e)) (λ o s h b. role_same part x v o s h b) h b
 
-  pub ends_same : (x : Who) (o : World) (born : ℕ) (v : Val) (s : State) (hs : List Handler) (bl : List Frame) → Is k s → WorldIs k o →
+  pub ends_same : (x : Who) (o : World) (born : ℕ) (v : Val) (s : State) (hs : List Handler) (bl : List Frame) → k.IsPath x.path → Is k s →
+      WorldIs k o →
       Same k (ends x o born v s hs bl) (ends (who_as R x) (world_as Z o) (R x.path born) v (T s) (handlers_as Z x.path hs) (frames_as Z
       x.path bl))
-  ends_same x o born v s (a ∷ hs) bl h b = over k
-  ends_same x o born v s [] (f ∷ bl) h b = over k
-  ends_same x o born v s [] [] h b = ends_role_same x.role x o born v s h b
+  ends_same x o born v s (a ∷ hs) bl e h b = over k
+  ends_same x o born v s [] (f ∷ bl) e h b = over k
+  ends_same x o born v s [] [] e h b = ends_role_same x.role x o born v s e h b
 
   result_same : (entry : Option ℕ) (x : Who) (v : Val) (o : World) (s : State) → Is k s → WorldIs k o →
       Same k (role_ends (root entry) x v o (with_result entry v s)) (role_ends (root entry) (who_as R x) v (world_as Z o) (with_result entry
@@ -322,19 +323,22 @@ module _ (k : Setting) where
   result_same None x v o s h b = role_same (root None) x v o s h b
   result_same (Some entry) x v o s h b = role_same (root (Some entry)) x v o (with_result (Some entry) v s) (result_is k entry v s h) b
 
-  returns_role_same : (q : Role) (x : Who) (o : World) (born : ℕ) (v : Val) (s : State) → Is k s → WorldIs k o →
+  returns_role_same : (q : Role) (x : Who) (o : World) (born : ℕ) (v : Val) (s : State) → k.IsPath x.path → Is k s → WorldIs k o →
       Same k (returns_role q x o born v s) (returns_role q (who_as R x) (world_as Z o) (R x.path born) v (T s))
-  returns_role_same (root entry) x o born v s h b =
-      cancels_same _ _ (finishing x entry v) _ _ o s (since_renumbered R x.path born k.rises) (λ o s h b. result_same entry x v o s h b) h b
-  returns_role_same part x o born v s h b = over k
+  returns_role_same (root entry) x o born v s e h b =
+      cancels_same _ _ (finishing x entry v) _ _ o s (since_as R x.path born k.apart (k.rises x.path e))
+      (λ o s h b. result_same entry x v o s h b) h b
+  returns_role_same part x o born v s e h b = over k
 
-  pub returns_same : (x : Who) (o : World) (born : ℕ) (v : Val) (s : State) (hs : List Handler) (bl : List Frame) → Is k s → WorldIs k o →
+  pub returns_same : (x : Who) (o : World) (born : ℕ) (v : Val) (s : State) (hs : List Handler) (bl : List Frame) →
+      k.IsPath x.path → Is k s →
+      WorldIs k o →
       Same k (returns x o born v s hs bl) (returns (who_as R x) (world_as Z o) (R x.path born) v (T s) (handlers_as Z x.path hs) (frames_as
       Z x.path bl))
-  returns_same x o born v s (g ∷ hs) bl h b = over k
-  returns_same x o born v s [] [] h b = returns_role_same x.role x o born v s h b
-  returns_same x o born v s [] (f ∷ bl) h b = cancels_same _ _ (resuming (thread x f bl) v) _ _ o s
-      (since_renumbered R x.path born k.rises) (λ o s h b. resumes_same (thread x f bl) v o s h b) h b
+  returns_same x o born v s (g ∷ hs) bl e h b = over k
+  returns_same x o born v s [] [] e h b = returns_role_same x.role x o born v s e h b
+  returns_same x o born v s [] (f ∷ bl) e h b = cancels_same _ _ (resuming (thread x f bl) v) _ _ o s
+      (since_as R x.path born k.apart (k.rises x.path e)) (λ o s h b. resumes_same (thread x f bl) v o s h b) h b
 
   follows_same : (after : After) → Follows (follows after) (follows (after_as Z after))
   follows_same (resuming x v) o s h b = resumes_same x v o s h b

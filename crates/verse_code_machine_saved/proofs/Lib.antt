@@ -1,12 +1,12 @@
 mod Horizons
 mod Signals
 mod Reached
-mod Numbers
+pub mod Numbers
 mod Spreading
-mod Settings
+pub mod Settings
 mod Ends
 mod Acts
-mod Runs
+pub mod Runs
 mod Resumed
-mod Paired
+pub mod Paired
 mod Tables

@@ -50,22 +50,38 @@ app_none : (a : List ℕ) → a ++ [] ≡ a
 app_none [] = refl
 app_none (b ∷ a) = ap (λ y. b ∷ y) (app_none a)
 
-module _ (r : Numbering) (rises : Rises r) where
+-- no two numbers beneath a path come to one
+abbrev pub IsApart : Numbering → Type 0
+IsApart r = (a : List ℕ) (n k : ℕ) → r a n ≡ r a k → n ≡ k
+
+-- those beneath this path keep their order
+abbrev pub RisesAt : Numbering → List ℕ → Type 0
+RisesAt r a = (n k : ℕ) → n < k → r a n < r a k
+
+pub rising_apart : (r : Numbering) → Rises r → IsApart r
+rising_apart r rises a n k e = by (order n k)
+  where
+    by : Order n k → n ≡ k
+    by (lower h) = absurd (omega (arith, e, rises a n k h))
+    by (level h) = h
+    by (higher h) = absurd (omega (arith, e, rises a k n h))
+
+module _ (r : Numbering) (apart : IsApart r) where
   eqn_as : (a : List ℕ) (n k : ℕ) → eqn (r a n) (r a k) ≡ eqn n k
   eqn_as a n k = by (order n k)
     where
       by : Order n k → eqn (r a n) (r a k) ≡ eqn n k
-      by (lower h) = eqn_other (r a n) (r a k) (λ e. omega (arith, e, rises a n k h)) ∙ sym (eqn_other n k (λ e. omega (arith, e, h)))
+      by (lower h) = eqn_other (r a n) (r a k) (λ e. omega (arith, h, apart a n k e)) ∙ sym (eqn_other n k (λ e. omega (arith, e, h)))
       by (level h) = subst (λ k. eqn (r a n) (r a k) ≡ eqn n k) h (eqn_same (r a n) ∙ sym (eqn_same n))
-      by (higher h) = eqn_other (r a n) (r a k) (λ e. omega (arith, e, rises a k n h)) ∙ sym (eqn_other n k (λ e. omega (arith, e, h)))
+      by (higher h) = eqn_other (r a n) (r a k) (λ e. omega (arith, h, apart a n k e)) ∙ sym (eqn_other n k (λ e. omega (arith, e, h)))
 
-  ltn_as : (a : List ℕ) (n k : ℕ) → ltn (r a n) (r a k) ≡ ltn n k
-  ltn_as a n k = by (order n k)
+  ltn_as : (a : List ℕ) → RisesAt r a → (n k : ℕ) → ltn (r a n) (r a k) ≡ ltn n k
+  ltn_as a rises n k = by (order n k)
     where
       by : Order n k → ltn (r a n) (r a k) ≡ ltn n k
-      by (lower h) = ltn_yes (r a n) (r a k) (rises a n k h) ∙ sym (ltn_yes n k h)
+      by (lower h) = ltn_yes (r a n) (r a k) (rises n k h) ∙ sym (ltn_yes n k h)
       by (level h) = subst (λ k. ltn (r a n) (r a k) ≡ ltn n k) h (ltn_no (r a n) (r a n) (omega arith) ∙ sym (ltn_no n n (omega arith)))
-      by (higher h) = ltn_no (r a n) (r a k) (omega (arith, rises a k n h)) ∙ sym (ltn_no n k (omega (arith, h)))
+      by (higher h) = ltn_no (r a n) (r a k) (omega (arith, rises k n h)) ∙ sym (ltn_no n k (omega (arith, h)))
 
   cond_as : {A : Type 0} (b c : Bool) (x y u v : A) → b ≡ c → (c ≡ true → x ≡ u) → y ≡ v → cond b x y ≡ cond c u v
   cond_as true true x y u v e f g = f refl
@@ -94,14 +110,14 @@ module _ (r : Numbering) (rises : Rises r) where
       (λ e. subst (λ k. same_path (path_from r (a ++ i ∷ []) x) (path_from r (a ++ k ∷ []) y) ≡ same_path x y) (eqn_is i j e) (same_from
       (a ++ i ∷ []) x y)) refl
 
-  since_from : (a x : List ℕ) (n : ℕ) (y : List ℕ) → since (path_from r a x) (r (a ++ x) n) (path_from r a y) ≡ since x n y
-  since_from a [] n [] = refl
-  since_from a [] n (k ∷ y) = subst (λ b. ltn (r a k) (r b n) ≡ ltn k n) (sym (app_none a)) (ltn_as a k n)
-  since_from a (i ∷ x) n [] = refl
-  since_from a (i ∷ x) n (j ∷ y) = cond_as _ _ _ _ _ _ (eqn_as a i j)
-      (λ e. subst (λ k. since (path_from r (a ++ i ∷ []) x) (r (a ++ i ∷ x) n) (path_from r (a ++ k ∷ []) y) ≡ since x n y) (eqn_is i j
-      e) (subst (λ b. since (path_from r (a ++ i ∷ []) x) (r b n) (path_from r (a ++ i ∷ []) y) ≡ since x n y) (app_more a i x)
-      (since_from (a ++ i ∷ []) x n y))) refl
+  since_from : (a x b : List ℕ) → a ++ x ≡ b → RisesAt r b → (n : ℕ) (y : List ℕ) →
+      since (path_from r a x) (r b n) (path_from r a y) ≡ since x n y
+  since_from a [] b h rises n [] = refl
+  since_from a [] b h rises n (k ∷ y) = subst (λ d. ltn (r d k) (r b n) ≡ ltn k n) (sym h ∙ app_none a) (ltn_as b rises k n)
+  since_from a (i ∷ x) b h rises n [] = refl
+  since_from a (i ∷ x) b h rises n (j ∷ y) = cond_as _ _ _ _ _ _ (eqn_as a i j)
+      (λ e. subst (λ k. since (path_from r (a ++ i ∷ []) x) (r b n) (path_from r (a ++ k ∷ []) y) ≡ since x n y) (eqn_is i j
+      e) (since_from (a ++ i ∷ []) x b (app_more a i x ∙ h) rises n y)) refl
 
   path_last : (a x : List ℕ) (n : ℕ) → path_from r a (x ++ n ∷ []) ≡ path_from r a x ++ r (a ++ x) n ∷ []
   path_last a [] n = ap (λ b. r b n ∷ []) (sym (app_none a))
@@ -114,14 +130,14 @@ module _ (r : Numbering) (rises : Rises r) where
   arms_from a (runs n ∷ gs) y = cond_as _ _ _ _ _ _
       (ap (λ b. starts b (path_as r y)) (sym (path_last [] a n)) ∙ starts_from [] (a ++ n ∷ []) y) (λ e. refl) (arms_from a gs y)
 
-module _ (z : Prior) (rises : Rises z.numbers) where
+module _ (z : Prior) (apart : IsApart z.numbers) where
   cond_tasks : (b : Bool) (xs ys : List Task) → tasks_as z (cond b xs ys) ≡ cond b (tasks_as z xs) (tasks_as z ys)
   cond_tasks true xs ys = refl
   cond_tasks false xs ys = refl
 
   inserted_as : (t : Task) (ts : List Task) → inserted (task_as z t) (tasks_as z ts) ≡ tasks_as z (inserted t ts)
   inserted_as t [] = refl
-  inserted_as t (x ∷ xs) = cond_as z.numbers rises _ _ _ _ _ _ (starts_from z.numbers rises [] t.thread.who.path x.thread.who.path)
+  inserted_as t (x ∷ xs) = cond_as z.numbers apart _ _ _ _ _ _ (starts_from z.numbers apart [] t.thread.who.path x.thread.who.path)
       (λ e. ap (λ ys. task_as z x ∷ ys) (inserted_as t xs)) refl ∙ sym (cond_tasks _ _ _)
 
   onto_tasks : (xs ys : List Task) → tasks_as z (xs ++ ys) ≡ tasks_as z xs ++ tasks_as z ys
@@ -131,17 +147,18 @@ module _ (z : Prior) (rises : Rises z.numbers) where
   module _ (f g : List ℕ → Bool) (same : SameTest z.numbers f g) where
     without_as : (ts : List Task) → without g (tasks_as z ts) ≡ tasks_as z (without f ts)
     without_as [] = refl
-    without_as (t ∷ ts) = cond_as z.numbers rises _ _ _ _ _ _ (same t.thread.who.path) (λ e. without_as ts)
+    without_as (t ∷ ts) = cond_as z.numbers apart _ _ _ _ _ _ (same t.thread.who.path) (λ e. without_as ts)
         (ap (λ ys. task_as z t ∷ ys) (without_as ts)) ∙ sym (cond_tasks _ _ _)
 
     before_as : (ts : List Task) → gone_before g (tasks_as z ts) ≡ tasks_as z (gone_before f ts)
     before_as [] = refl
-    before_as (t ∷ ts) = cond_as z.numbers rises _ _ _ _ _ _ (same t.thread.who.path)
+    before_as (t ∷ ts) = cond_as z.numbers apart _ _ _ _ _ _ (same t.thread.who.path)
         (λ e. ap (inserted (task_as z t)) (before_as ts) ∙ inserted_as t (gone_before f ts)) (before_as ts) ∙ sym (cond_tasks _ _ _)
 
     behind_as : (ts : List Task) → gone_behind g (tasks_as z ts) ≡ tasks_as z (gone_behind f ts)
     behind_as [] = refl
-    behind_as (t ∷ ts) = cond_as z.numbers rises _ _ _ _ _ _ (same t.thread.who.path) (λ e. ap (λ ys. task_as z t ∷ ys) (behind_as ts)) (behind_as ts) ∙
+    behind_as (t ∷ ts) = cond_as z.numbers apart _ _ _ _ _ _ (same t.thread.who.path)
+        (λ e. ap (λ ys. task_as z t ∷ ys) (behind_as ts)) (behind_as ts) ∙
         sym (cond_tasks _ _ _)
 
     gone_as : (o : World) → cancelled g (world_as z o) ≡ tasks_as z (cancelled f o)
@@ -154,23 +171,34 @@ module _ (z : Prior) (rises : Rises z.numbers) where
         ap (λ xs. world xs (without g (tasks_as z o.post)) (world_as z o).ups (world_as z o).trees) (without_as o.pre) ∙ ap (λ ys. world
         (tasks_as z (without f o.pre)) ys (world_as z o).ups (world_as z o).trees) (without_as o.post)
 
+pub cancelled_as : (z : Prior) (f g : List ℕ → Bool) (o : World) → IsApart z.numbers → SameTest z.numbers f g →
+    (cancelled g (world_as z o) ≡ tasks_as z (cancelled f o)) × (world_without g (world_as z o) ≡ world_as z (world_without f o))
+cancelled_as z f g o apart same = (gone_as z apart f g same o, left_as z apart f g same o)
+
 pub cancelled_renumbered : CancelledRenumbered
-cancelled_renumbered z f g o rises same = (gone_as z rises f g same o, left_as z rises f g same o)
+cancelled_renumbered z f g o rises same = cancelled_as z f g o (rising_apart z.numbers rises) same
+
+pub since_as : (r : Numbering) (a : List ℕ) (n : ℕ) → IsApart r → RisesAt r a → SameTest r (since a n) (since (path_as r a) (r a n))
+since_as r a n apart rises x = since_from r apart [] a a refl rises n x
 
 pub since_renumbered : SinceRenumbered
-since_renumbered r a n rises x = since_from r rises [] a n x
+since_renumbered r a n rises = since_as r a n (rising_apart r rises) (rises a)
+
+pub arms_as : (r : Numbering) (a : List ℕ) (gs : List Part) → IsApart r →
+    SameTest r (beneath_arms a gs) (beneath_arms (path_as r a) (parts_as r a gs))
+arms_as r a gs apart x = arms_from r apart a gs x
 
 pub arms_renumbered : ArmsRenumbered
-arms_renumbered r a gs rises x = arms_from r rises a gs x
+arms_renumbered r a gs rises = arms_as r a gs (rising_apart r rises)
 
-pub path_end : (r : Numbering) → Rises r → (a : List ℕ) (n : ℕ) → path_as r (a ++ n ∷ []) ≡ path_as r a ++ r a n ∷ []
-path_end r rises a n = path_last r rises [] a n
+pub path_end : (r : Numbering) → IsApart r → (a : List ℕ) (n : ℕ) → path_as r (a ++ n ∷ []) ≡ path_as r a ++ r a n ∷ []
+path_end r apart a n = path_last r apart [] a n
 
-pub same_as : (r : Numbering) → Rises r → (x y : List ℕ) → same_path (path_as r x) (path_as r y) ≡ same_path x y
-same_as r rises x y = same_from r rises [] x y
+pub same_as : (r : Numbering) → IsApart r → (x y : List ℕ) → same_path (path_as r x) (path_as r y) ≡ same_path x y
+same_as r apart x y = same_from r apart [] x y
 
-pub eqn_number : (r : Numbering) → Rises r → (a : List ℕ) (n k : ℕ) → eqn (r a n) (r a k) ≡ eqn n k
-eqn_number r rises a n k = eqn_as r rises a n k
+pub eqn_number : (r : Numbering) → IsApart r → (a : List ℕ) (n k : ℕ) → eqn (r a n) (r a k) ≡ eqn n k
+eqn_number r apart a n k = eqn_as r apart a n k
 
 number_is : (n k : ℕ) → eqn n k ≡ true → n ≡ k
 number_is zero zero h = refl

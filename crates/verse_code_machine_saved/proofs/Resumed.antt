@@ -19,7 +19,7 @@ use Rattle.verse_code_machine_saved.specs.Resuming.{apart, behind, prior, SameTr
 use Rattle.verse_code_machine_saved.proofs.Horizons.{on_step, goes_more, horizon_moves, horizon_moves_again, stopped_turn, stopped_again}
 use Rattle.verse_code_machine_saved.proofs.Reached.{none_reached}
 use Rattle.verse_code_machine_saved.proofs.Settings.{Setting, Keeping, StepIs, Same, all_trees, others, steps_is}
-use Rattle.verse_code_machine_saved.proofs.Runs.{all_waits, carried_same, stage_alike, turns_alike, ClosedIs, closed_is, run_behind}
+use Rattle.verse_code_machine_saved.proofs.Runs.{all_waits, comes, everywhere, carried_alike, turns_alike, ClosedIs, closed_is, run_behind}
 use Rattle.verse_code_machine_saved.proofs.Runs.{run_renumbered_to, runs_alike, over_behind, behind_over, none_unheard}
 
 newer_more : (n : ℕ) (gs : List Signal) → NoneNewer n gs → NoneNewer (suc n) gs
@@ -81,7 +81,9 @@ module _ (P : State → Type 0) (keeps : Keeping P) (until : ℕ) (moves : (m : 
   itself bound before = record {
     prior = record { numbers = λ a n. n; signals = []; lines = []; before = before };
     bound = bound;
-    rises = λ a n k h. h;
+    apart = λ a n k e. e;
+    IsPath = λ a. Unit {0};
+    rises = λ a e n k h. h;
     fixed = λ a n h. refl;
     Holds = P;
     keeps = keeps;
@@ -100,18 +102,21 @@ module _ (P : State → Type 0) (keeps : Keeping P) (until : ℕ) (moves : (m : 
   at_horizon : (c : Code) (ns : List ℤ) (steps : ℕ) (s : State) (tss : Forest) → P (begun steps) → Stopped c ns steps until s tss → P s
   at_horizon c ns steps s tss h e =
       let k = itself steps (record { bytes = 0; lines = 0 }) in
-      (subst (ClosedIs k c) e (closed_is k c _ _ (turns_alike k c (λ w h e f. refl) steps until moves (suc steps) (started c ns steps) _
-      (stage_alike k c _ _ (carried_same k c (room c steps) _ _ (seen k _ (start_is ns steps (slice_get c.functions c.main) h))))))).holds
+      let a = everywhere k c (λ a. tt) in
+      (subst (ClosedIs k c a) e
+      (closed_is k c a _ _ (turns_alike k c a (λ w h e f. refl) steps until moves (suc steps) (started c ns steps) _
+      (carried_alike k c a (room c steps) _ _ (comes _) (seen k _ (start_is ns steps (slice_get c.functions c.main) h)))))).holds
 
   at_next_horizon : (c : Code) (steps : ℕ) (s t : State) (tss uss : Forest) → P s →
       after_from c steps until s tss ≡ closed ending.Until t uss → P t
   at_next_horizon c steps s t tss uss h e =
       let k = itself s.clock.left s.clock.before in
-      (subst (ClosedIs k c) e (closed_is k c _ _ (runs_alike k c (λ w h e f. refl) steps until moves s tss (record {
+      let a = everywhere k c (λ a. tt) in
+      (subst (ClosedIs k c a) e (closed_is k c a _ _ (runs_alike k c a (λ w h e f. refl) steps until moves s tss (record {
         few = omega arith;
         counts = omega arith;
         holds = h;
-      }) (all_trees k (λ w. tt) tss)))).holds
+      }) (all_trees k (λ w. tt) tss) tt))).holds
 
 moves : (until m : ℕ) (s : State) → m ≤ until → Within until s → Within until (at_moment m s)
 moves until m s e h = record { now = e; signals = h.signals; results = h.results; newer = h.newer }

@@ -3,19 +3,20 @@ use Rattle.std.proofs.Common.{◌≡◌, ℕ, zero, suc, ◌≤◌, length, List
 use Rattle.std.proofs.Common.{◌∙◌, subst, arith}
 use Rattle.std.proofs.lemmas.Bool.Decides.{nat_tests}
 use Rattle.verse_code.specs.declared.codes.Code.{Code}
+use Rattle.verse_value.specs.Val.{Val}
 use Rattle.verse_value.specs.declared.runs.Ending.{Ending}
 use Rattle.verse_value.specs.declared.runs.Ending.TheVariants as ending
 use Rattle.verse_meaning_state.specs.State.{State, Signal, spending, stepped, at_moment}
 use Rattle.verse_meaning_state.specs.Waits.{Wait, Due, eqn, ltn, heard, first_signal, least}
 use Rattle.verse_meaning_state.specs.Turns.{Stage, going, closed, broken, amiss, turn, turn_at, turns, run_of, run_closed}
-use Rattle.verse_code_machine.specs.Tasks.{Rest, asleep, group, Task, Step, Next, Over, Turn, waits_with, waits_of, tree_waits}
+use Rattle.verse_code_machine.specs.Tasks.{Rest, asleep, group, Task, Machine, Step, Next, Over, Turn, waits_with, waits_of, tree_waits}
 use Rattle.verse_code_machine.specs.Ends.{woken_in}
 use Rattle.verse_code_machine.specs.Runs.{Forest, step, carried, room, stage_of, turn_taken}
 use Rattle.verse_code_machine.specs.Laws.{IsOver}
 use Rattle.verse_code_machine_saved.specs.Horizons.{after_from, run_from, Unheard, NoneNewer}
 use Rattle.verse_code_machine_saved.specs.Numbers.{Numbering, Prior, Rises, Fixed, Counts, state_as, trees_as, renumbered, RunRenumbered}
 use Rattle.verse_code_machine_saved.specs.Resuming.{behind, RunBehind}
-use Rattle.verse_code_machine_saved.proofs.Numbers.{ltn_no}
+use Rattle.verse_code_machine_saved.proofs.Numbers.{ltn_no, rising_apart}
 use Rattle.verse_code_machine_saved.proofs.Signals.{signals_unheard}
 use Rattle.verse_code_machine_saved.proofs.Settings.{Setting, S, Is, steps_is, RestIs, TasksAre, TreesAre, Same}
 use Rattle.verse_code_machine_saved.proofs.Ends.{waits_same, woken_in_same}
@@ -37,17 +38,59 @@ closed_behind z ending.Steps s n = refl
 closed_behind z (ending.Error c p) s n = refl
 closed_behind z ending.Stuck s n = refl
 
-module _ (k : Setting) (c : Code) where
-  pub carried_same : (n : ℕ) (q p : Step) → Same k q p → Same k (carried c n q) (carried c n p)
-  carried_same zero q p l = l
-  carried_same (suc n) (Next m) p l = subst (λ z. Same k (carried c n (step c m)) (carried c (suc n) z)) (sym l.is)
-      (carried_same n _ _ (steps_same k c m l.holds.0 l.holds.1))
-  carried_same (suc n) (Over e s) p l = subst (λ z. Same k (Over e s) (carried c (suc n) z)) (sym l.is) (record { is = refl; holds = tt })
-  carried_same (suc n) (Turn s tss) p l =
+-- what an operation comes to: a machine of which this holds, or trees
+abbrev pub Comes : (Machine → Type 0) → (State → Forest → Type 0) → Step → Type 0
+Comes M T (Next m) = M m
+Comes M T (Over e s) = Unit {0}
+Comes M T (Turn s tss) = T s tss
+
+-- what holds of the machines and the trees of this run, so that the task that runs has such a path
+pub record Along (k : Setting) (c : Code) : Type 1 where
+  pub Machines : Machine → Type 0
+  pub Trees : State → Forest → Type 0
+  pub path : (m : Machine) → Machines m → k.IsPath m.who.path
+  pub steps : (m : Machine) → Machines m → Comes Machines Trees (step c m)
+  pub wakes : (n : ℕ) (v : Val) (s : State) (tss : Forest) → Trees s tss → Comes Machines Trees (woken_in n v [] tss s)
+  pub later : (l m : ℕ) (s : State) (tss : Forest) → suc l ≡ s.clock.left → Trees s tss → Trees (at_moment m (stepped l s)) tss
+
+-- nothing is said of them
+pub comes : (q : Step) → Comes (λ m. Unit {0}) (λ s tss. Unit {0}) q
+comes (Next m) = tt
+comes (Over e s) = tt
+comes (Turn s tss) = tt
+
+-- where every path is such a one
+abbrev pub everywhere : (k : Setting) (c : Code) → ((a : List ℕ) → k.IsPath a) → Along k c
+everywhere k c all = record {
+  Machines = λ m. Unit {0};
+  Trees = λ s tss. Unit {0};
+  path = λ m h. all m.who.path;
+  steps = λ m h. comes (step c m);
+  wakes = λ n v s tss h. comes (woken_in n v [] tss s);
+  later = λ l m s tss e h. tt;
+}
+
+module _ (k : Setting) (c : Code) (along : Along k c) where
+  abbrev pub Goes : Step → Type 0
+  Goes = Comes along.Machines along.Trees
+
+  carried_goes : (n : ℕ) (q : Step) → Goes q → Goes (carried c n q)
+  carried_goes zero q g = g
+  carried_goes (suc n) (Next m) g = carried_goes n (step c m) (along.steps m g)
+  carried_goes (suc n) (Over e s) g = tt
+  carried_goes (suc n) (Turn s tss) g = g
+
+  carried_same : (n : ℕ) (q p : Step) → Goes q → Same k q p → Same k (carried c n q) (carried c n p)
+  carried_same zero q p g l = l
+  carried_same (suc n) (Next m) p g l = subst (λ z. Same k (carried c n (step c m)) (carried c (suc n) z)) (sym l.is)
+      (carried_same n _ _ (along.steps m g) (steps_same k c m (along.path m g) l.holds.0 l.holds.1))
+  carried_same (suc n) (Over e s) p g l = subst (λ z. Same k (Over e s) (carried c (suc n) z)) (sym l.is) (record { is = refl; holds = tt })
+  carried_same (suc n) (Turn s tss) p g l =
       subst (λ z. Same k (Turn s tss) (carried c (suc n) z)) (sym l.is) (record { is = refl; holds = l.holds })
 
   pub data Alike : Stage Forest → Stage Forest → Type 0 where
-    both_go : {s : State} {tss : Forest} → Is k s → TreesAre k tss → Alike (going s tss) (going (S k s) (trees_as k.prior tss))
+    both_go : {s : State} {tss : Forest} → Is k s → TreesAre k tss → along.Trees s tss →
+        Alike (going s tss) (going (S k s) (trees_as k.prior tss))
     both_end : {e : Ending} {s : State} {tss : Forest} → Is k s → Alike (closed e s tss) (closed e (S k s) (trees_as k.prior tss))
     both_break : {e : Ending} {s : State} → Alike (broken e s) (broken e (S k s))
     both_miss : {s : State} → Alike (amiss s) (amiss (S k s))
@@ -59,30 +102,34 @@ module _ (k : Setting) (c : Code) where
   ClosedIs (amiss s) = Unit {0}
 
   pub closed_is : (g h : Stage Forest) → Alike g h → ClosedIs g
-  closed_is _ _ (both_go {s} {tss} f a) = tt
+  closed_is _ _ (both_go {s} {tss} f a g) = tt
   closed_is _ _ (both_end {e} {s} {tss} h) = h
   closed_is _ _ (both_break {e} {s}) = tt
   closed_is _ _ (both_miss {s}) = tt
 
-  pub stage_alike : (q p : Step) → Same k q p → Alike (stage_of q) (stage_of p)
-  stage_alike (Next m) p l = subst (λ z. Alike (amiss m.state) (stage_of z)) (sym l.is) both_miss
-  stage_alike (Over e s) p l = subst (λ z. Alike (broken e s) (stage_of z)) (sym l.is) both_break
-  stage_alike (Turn s tss) p l = subst (λ z. Alike (going s tss) (stage_of z)) (sym l.is) (both_go l.holds.0 l.holds.1)
+  stage_alike : (q p : Step) → Goes q → Same k q p → Alike (stage_of q) (stage_of p)
+  stage_alike (Next m) p g l = subst (λ z. Alike (amiss m.state) (stage_of z)) (sym l.is) both_miss
+  stage_alike (Over e s) p g l = subst (λ z. Alike (broken e s) (stage_of z)) (sym l.is) both_break
+  stage_alike (Turn s tss) p g l = subst (λ z. Alike (going s tss) (stage_of z)) (sym l.is) (both_go l.holds.0 l.holds.1 g)
+
+  -- and where so many operations follow
+  pub carried_alike : (n : ℕ) (q p : Step) → Goes q → Same k q p → Alike (stage_of (carried c n q)) (stage_of (carried c n p))
+  carried_alike n q p g l = stage_alike (carried c n q) (carried c n p) (carried_goes n q g) (carried_same n q p g l)
 
   over_alike : (g h : Stage Forest) → Alike g h → IsOver g → IsOver h
-  over_alike _ _ (both_go {s} {tss} f a) o = o
+  over_alike _ _ (both_go {s} {tss} f a g) o = o
   over_alike _ _ (both_end {e} {s} {tss} h) o = tt
   over_alike _ _ (both_break {e} {s}) o = tt
   over_alike _ _ (both_miss {s}) o = o
 
   over_back : (g h : Stage Forest) → Alike g h → IsOver h → IsOver g
-  over_back _ _ (both_go {s} {tss} f a) o = o
+  over_back _ _ (both_go {s} {tss} f a g) o = o
   over_back _ _ (both_end {e} {s} {tss} h) o = tt
   over_back _ _ (both_break {e} {s}) o = tt
   over_back _ _ (both_miss {s}) o = o
 
-  run_alike : (g h : Stage Forest) → Alike g h → run_of tree_waits h ≡ behind k.prior.lines (run_of tree_waits g)
-  run_alike _ _ (both_go {s} {tss} f a) = refl
+  pub run_alike : (g h : Stage Forest) → Alike g h → run_of tree_waits h ≡ behind k.prior.lines (run_of tree_waits g)
+  run_alike _ _ (both_go {s} {tss} f a g) = refl
   run_alike _ _ (both_end {e} {s} {tss} h) =
       ap (λ ws. run_closed e (S k s) (length ws)) (all_waits k.prior tss) ∙ closed_behind k.prior e s (length (tree_waits tss))
   run_alike _ _ (both_break {e} {s}) = refl
@@ -110,50 +157,53 @@ module _ (k : Setting) (c : Code) where
       moves_is m s e h = record { few = h.few; counts = h.counts; holds = moves m s e h.holds }
 
       spent_alike : (left : ℕ) (s : State) (tss : Forest) (d : Due) → left ≡ s.clock.left → d.given.moment ≤ until → Is k s → TreesAre k tss →
+          along.Trees s tss →
           Alike (spending left s (closed ending.Steps s tss) (λ s. wakes tss d (at_moment d.given.moment s)))
           (spending left (S k s) (closed ending.Steps (S k s) (trees_as k.prior tss)) (λ s. wakes (trees_as k.prior tss) d (at_moment
           d.given.moment s)))
-      spent_alike zero s tss d e u h a = both_end h
-      spent_alike (suc l) s tss d e u h a =
+      spent_alike zero s tss d e u h a g = both_end h
+      spent_alike (suc l) s tss d e u h a g =
           let t = at_moment d.given.moment (stepped l s) in
-          stage_alike _ _ (carried_same (room c steps) _ _ (woken_in_same k d.number d.given.value [] tss t
-          (moves_is d.given.moment (stepped l s) u (steps_is k l s e h)) tt a))
+          carried_alike (room c steps) _ _
+          (along.wakes d.number d.given.value t tss (along.later l d.given.moment s tss e g)) (woken_in_same k d.number
+          d.given.value [] tss t (moves_is d.given.moment (stepped l s) u (steps_is k l s e h)) tt a)
 
       late_alike : (m : ℕ) (b : Bool) → nat_lt until m ≡ b → (g h i j : Stage Forest) → Alike g i → (m ≤ until → Alike h j) →
           Alike (cond b g h) (cond b i j)
       late_alike m true e g h i j a b = a
       late_alike m false e g h i j a b = b (grind (arith, nat_tests, e))
 
-      due_alike : (s : State) (tss : Forest) (d : Option Due) → Is k s → TreesAre k tss →
+      due_alike : (s : State) (tss : Forest) (d : Option Due) → Is k s → TreesAre k tss → along.Trees s tss →
           Alike (turn_at until d s tss (wakes tss)) (turn_at until d (S k s) (trees_as k.prior tss) (wakes (trees_as k.prior tss)))
-      due_alike s tss None h a = both_end h
-      due_alike s tss (Some d) h a = late_alike d.given.moment (nat_lt until d.given.moment) refl _ _ _ _ (both_end h)
-          (λ u. spent_alike s.clock.left s tss d refl u h a)
+      due_alike s tss None h a g = both_end h
+      due_alike s tss (Some d) h a g = late_alike d.given.moment (nat_lt until d.given.moment) refl _ _ _ _ (both_end h)
+          (λ u. spent_alike s.clock.left s tss d refl u h a g)
 
-      turn_alike : (s : State) (tss : Forest) (ws : List Wait) → Is k s → TreesAre k tss → Unheard k.prior.signals ws →
+      turn_alike : (s : State) (tss : Forest) (ws : List Wait) → Is k s → TreesAre k tss → along.Trees s tss → Unheard k.prior.signals ws →
           Alike (turn until ws s tss (wakes tss)) (turn until ws (S k s) (trees_as k.prior tss) (wakes (trees_as k.prior tss)))
-      turn_alike s tss [] h a b = both_end h
-      turn_alike s tss (w ∷ ws) h a b =
+      turn_alike s tss [] h a g b = both_end h
+      turn_alike s tss (w ∷ ws) h a g b =
           subst (λ d. Alike (turn_at until (least s (w ∷ ws)) s tss (wakes tss)) (turn_at until d (S k s) (trees_as k.prior tss) (wakes
-          (trees_as k.prior tss)))) (sym (signals_unheard k.prior (w ∷ ws) s b)) (due_alike s tss (least s (w ∷ ws)) h a)
+          (trees_as k.prior tss)))) (sym (signals_unheard k.prior (w ∷ ws) s b)) (due_alike s tss (least s (w ∷ ws)) h a g)
 
-      taken_alike : (s : State) (tss : Forest) → Is k s → TreesAre k tss →
+      taken_alike : (s : State) (tss : Forest) → Is k s → TreesAre k tss → along.Trees s tss →
           Alike (turn_taken c steps until s tss) (turn_taken c steps until (S k s) (trees_as k.prior tss))
-      taken_alike s tss h a =
+      taken_alike s tss h a g =
           subst (λ ws. Alike (turn_taken c steps until s tss) (turn until ws (S k s) (trees_as k.prior tss) (wakes (trees_as k.prior tss))))
-          (sym (all_waits k.prior tss)) (turn_alike s tss (tree_waits tss) h a (all_unheard tss a))
+          (sym (all_waits k.prior tss)) (turn_alike s tss (tree_waits tss) h a g (all_unheard tss a))
 
       pub turns_alike : (n : ℕ) (g h : Stage Forest) → Alike g h →
           Alike (turns (turn_taken c steps until) n g) (turns (turn_taken c steps until) n h)
       turns_alike zero g h a = a
-      turns_alike (suc n) _ _ (both_go {s} {tss} f a) = turns_alike n _ _ (taken_alike s tss f a)
+      turns_alike (suc n) _ _ (both_go {s} {tss} f a g) = turns_alike n _ _ (taken_alike s tss f a g)
       turns_alike (suc n) _ _ (both_end {e} {s} {tss} h) = both_end h
       turns_alike (suc n) _ _ (both_break {e} {s}) = both_break
       turns_alike (suc n) _ _ (both_miss {s}) = both_miss
 
-      pub runs_alike : (s : State) (tss : Forest) → Is k s → TreesAre k tss →
+      pub runs_alike : (s : State) (tss : Forest) → Is k s → TreesAre k tss → along.Trees s tss →
           Alike (after_from c steps until s tss) (after_from c steps until (S k s) (trees_as k.prior tss))
-      runs_alike s tss h a = turns_alike (suc steps) (going s tss) (going (S k s) (trees_as k.prior tss)) (both_go {s = s} {tss = tss} h a)
+      runs_alike s tss h a g = turns_alike (suc steps) (going s tss) (going (S k s) (trees_as k.prior tss))
+          (both_go {s = s} {tss = tss} h a g)
 
 first_none : (gs : List Signal) (e n m : ℕ) → m ≤ n → NoneNewer m gs → first_signal gs e n ≡ None
 first_none [] e n m h a = refl
@@ -169,7 +219,9 @@ abbrev unheard_setting : (z : Prior) (bound from : ℕ) → Rises z.numbers → 
 unheard_setting z bound from rises fixed newer = record {
   prior = z;
   bound = bound;
-  rises = rises;
+  apart = rising_apart z.numbers rises;
+  IsPath = λ a. Unit {0};
+  rises = λ a e. rises a;
   fixed = fixed;
   Holds = λ s. from ≤ s.clock.next;
   keeps = record {
@@ -203,18 +255,22 @@ module _ (c : Code) (steps until : ℕ) (z : Prior) (s : State) (tss : Forest) (
   abbrev K : Setting
   K = unheard_setting z s.clock.left s.clock.next rises fixed newer
 
-  both_run : Alike K c (after_from c steps until s tss) (after_from c steps until (state_as z s) (trees_as z tss))
-  both_run = runs_alike K c (λ w h. h) steps until (λ m s e h. h) s tss (record { few = omega arith; counts = counts; holds = omega arith })
-      (trees_unheard K (λ w h. h) tss unheard)
+  abbrev A : Along K c
+  A = everywhere K c (λ a. tt)
+
+  both_run : Alike K c A (after_from c steps until s tss) (after_from c steps until (state_as z s) (trees_as z tss))
+  both_run = runs_alike K c A (λ w h. h) steps until (λ m s e h. h) s tss
+      (record { few = omega arith; counts = counts; holds = omega arith })
+      (trees_unheard K (λ w h. h) tss unheard) tt
 
   pub over_behind : IsOver (after_from c steps until s tss) → IsOver (after_from c steps until (state_as z s) (trees_as z tss))
-  over_behind o = over_alike K c _ _ both_run o
+  over_behind o = over_alike K c A _ _ both_run o
 
   pub behind_over : IsOver (after_from c steps until (state_as z s) (trees_as z tss)) → IsOver (after_from c steps until s tss)
-  behind_over o = over_back K c _ _ both_run o
+  behind_over o = over_back K c A _ _ both_run o
 
   pub run_is : run_from c steps until (state_as z s) (trees_as z tss) ≡ behind z.lines (run_from c steps until s tss)
-  run_is = run_alike K c _ _ both_run
+  run_is = run_alike K c A _ _ both_run
 
 pub run_behind : RunBehind
 run_behind c steps until z s tss rises fixed counts newer unheard = run_is c steps until z s tss rises fixed counts newer unheard

@@ -10,6 +10,7 @@ use Rattle.verse_code_machine.specs.Tasks.{Over, Turn, onto}
 use Rattle.verse_code_machine.specs.Cancelling.{without}
 use Rattle.verse_code_machine.specs.Runs.{Forest}
 use Rattle.verse_code_machine_saved.specs.Numbers.{Prior, Rises, Fixed, Counts, state_as, step_as}
+use Rattle.verse_code_machine_saved.proofs.Numbers.{IsApart, RisesAt, rising_apart}
 
 -- whatever a state comes to within a turn, the property is kept
 pub record Keeping (P : State → Type 0) : Type 0 where
@@ -24,7 +25,10 @@ pub record Keeping (P : State → Type 0) : Type 0 where
 pub record Setting : Type 1 where
   pub prior : Prior
   pub bound : ℕ
-  pub rises : Rises prior.numbers
+  pub apart : IsApart prior.numbers
+  -- beneath the paths of tasks that run numbers keep their order
+  pub IsPath : List ℕ → Type 0
+  pub rises : (a : List ℕ) → IsPath a → RisesAt prior.numbers a
   pub fixed : Fixed prior.numbers bound
   pub Holds : State → Type 0
   pub keeps : Keeping Holds
@@ -152,7 +156,9 @@ abbrev pub plain : (z : Prior) (bound : ℕ) → Rises z.numbers → Fixed z.num
 plain z bound rises fixed = record {
   prior = z;
   bound = bound;
-  rises = rises;
+  apart = rising_apart z.numbers rises;
+  IsPath = λ a. Unit {0};
+  rises = λ a e. rises a;
   fixed = fixed;
   Holds = λ s. Unit {0};
   keeps = record {

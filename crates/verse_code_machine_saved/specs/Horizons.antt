@@ -24,18 +24,22 @@ Stopped c ns steps until s tss = mach_after c ns steps until (suc steps) ≡ clo
 
 -- a run that goes on from where it stood at a horizon is the run to a later one
 abbrev pub HorizonMoves : Type 0
-HorizonMoves = (c : Code) (ns : List ℤ) (steps u v : ℕ) (s : State) (tss : Forest) → Valid c → u ≤ v → Stopped c ns steps u s tss →
+HorizonMoves = (c : Code) (ns : List ℤ) (steps u v : ℕ) (s : State) (tss : Forest) → Valid c →
+    u ≤ v → Stopped c ns steps u s tss →
     run_from c steps v s tss ≡ mach c ns steps v
 
 -- and so one that had gone on from a state before
 abbrev pub HorizonMovesAgain : Type 0
-HorizonMovesAgain = (c : Code) (steps u v : ℕ) (s t : State) (tss uss : Forest) → u ≤ v → IsOver (after_from c steps v s tss) →
-    after_from c steps u s tss ≡ closed ending.Until t uss → run_from c steps v t uss ≡ run_from c steps v s tss
+HorizonMovesAgain = (c : Code) (steps u v : ℕ) (s t : State) (tss uss : Forest) → u ≤ v →
+    IsOver (after_from c steps v s tss) →
+    after_from c steps u s tss ≡ closed ending.Until t uss →
+    run_from c steps v t uss ≡ run_from c steps v s tss
 
 -- of no wait of the list is a signal behind it
 abbrev pub Unheard : List Signal → List Wait → Type 0
 Unheard gs [] = Unit {0}
-Unheard gs (w ∷ ws) = ((event : ℕ) → w.cause ≡ heard event → first_signal gs event w.number ≡ None) × Unheard gs ws
+Unheard gs (w ∷ ws) =
+    ((event : ℕ) → w.cause ≡ heard event → first_signal gs event w.number ≡ None) × Unheard gs ws
 
 -- none of them came behind the moment
 abbrev pub NoLater : ℕ → List Signal → Type 0
@@ -55,12 +59,14 @@ NoneNewer n (g ∷ gs) = (g.next ≤ n) × NoneNewer n gs
 -- of no wait of the list is the task over
 abbrev pub Undone : List (Option Given) → List Wait → Type 0
 Undone rs [] = Unit {0}
-Undone rs (w ∷ ws) = ((entry : ℕ) → w.cause ≡ done entry → given_by (nth rs entry) ≡ None) × Undone rs ws
+Undone rs (w ∷ ws) = ((entry : ℕ) → w.cause ≡ done entry → given_by (nth rs entry) ≡ None) ×
+    Undone rs ws
 
 -- where a run stopped at its horizon, no signal reaches a wait that is left, and none waits for a task that is over
 abbrev pub NoneReached : Type 0
 NoneReached = (until : ℕ) (s t : State) (tss uss : Forest) (go : Due → State → Stage Forest) →
-    ((d : Due) (s : State) → go d s ≡ closed ending.Until t uss → ⊥) → NoLater until s.clock.signals →
+    ((d : Due) (s : State) → go d s ≡ closed ending.Until t uss → ⊥) →
+    NoLater until s.clock.signals →
     NoResultLater until s.clock.results →
     turn until (tree_waits tss) s tss go ≡ closed ending.Until t uss →
     Unheard s.clock.signals (tree_waits tss) × Undone s.clock.results (tree_waits tss)

@@ -16,7 +16,8 @@ use Rattle.verse_code_machine_saved.specs.Numbers.{Numbering, Rises, Fixed, Prio
 
 -- signals of before that reach none of the waits change nothing of what is due
 abbrev pub SignalsUnheard : Type 0
-SignalsUnheard = (z : Prior) (ws : List Wait) (s : State) → Unheard z.signals ws → least (state_as z s) ws ≡ least s ws
+SignalsUnheard = (z : Prior) (ws : List Wait) (s : State) → Unheard z.signals ws →
+    least (state_as z s) ws ≡ least s ws
 
 -- a run whose trace goes on from these lines
 abbrev pub behind : List Line → Run → Run
@@ -25,7 +26,8 @@ behind lines r = record r { trace = lines ++ r.trace }
 -- A run is the same with other numbers, with signals of before that reach no wait, and with lines before it: its trace goes on from
 -- those lines.
 abbrev pub RunBehind : Type 0
-RunBehind = (c : Code) (steps until : ℕ) (z : Prior) (s : State) (tss : Forest) → Rises z.numbers → Fixed z.numbers s.clock.left →
+RunBehind = (c : Code) (steps until : ℕ) (z : Prior) (s : State) (tss : Forest) →
+    Rises z.numbers → Fixed z.numbers s.clock.left →
     Counts z s → NoneNewer s.clock.next z.signals → Unheard z.signals (tree_waits tss) →
     run_from c steps until (state_as z s) (trees_as z tss) ≡ behind z.lines (run_from c steps until s tss)
 
@@ -63,23 +65,28 @@ pub record Within (until : ℕ) (s : State) : Type 0 where
 -- A run that stopped at its horizon, resumed with a later one from what was kept, is the run to that; its trace is the one so far and
 -- then that of the resumed run. No wait that was left is for a task that is over.
 abbrev pub RunResumed : Type 0
-RunResumed = (c : Code) (ns : List ℤ) (steps u v : ℕ) (s : State) (tss uss : Forest) → Valid c → u ≤ v → Stopped c ns steps u s tss →
+RunResumed = (c : Code) (ns : List ℤ) (steps u v : ℕ) (s : State) (tss uss : Forest) → Valid c →
+    u ≤ v → Stopped c ns steps u s tss →
     SameTrees s tss uss → Undone s.clock.results (tree_waits tss) ×
     (behind s.memory.trace (run_from c steps v (apart s) uss) ≡ mach c ns steps v)
 
 -- and so a run that was itself resumed
 abbrev pub RunResumedAgain : Type 0
-RunResumedAgain = (c : Code) (steps u v : ℕ) (s t : State) (tss uss vss : Forest) → u ≤ v → Within u s →
-    IsOver (after_from c steps v s tss) → after_from c steps u s tss ≡ closed ending.Until t uss → SameTrees t uss vss →
+RunResumedAgain = (c : Code) (steps u v : ℕ) (s t : State) (tss uss vss : Forest) → u ≤ v →
+    Within u s →
+    IsOver (after_from c steps v s tss) → after_from c steps u s tss ≡ closed ending.Until t uss →
+    SameTrees t uss vss →
     Within u t × Undone t.clock.results (tree_waits uss) ×
     (behind t.memory.trace (run_from c steps v (apart t) vss) ≡ run_from c steps v s tss)
 
 -- the resumed run ends as well
 abbrev pub ResumedRunEnds : Type 0
-ResumedRunEnds = (c : Code) (ns : List ℤ) (steps u v : ℕ) (s : State) (tss uss : Forest) → Valid c → u ≤ v →
+ResumedRunEnds = (c : Code) (ns : List ℤ) (steps u v : ℕ) (s : State) (tss uss : Forest) →
+    Valid c → u ≤ v →
     Stopped c ns steps u s tss → SameTrees s tss uss → IsOver (after_from c steps v (apart s) uss)
 
 -- the steps that are left at a horizon and those that were spent are those of the run
 abbrev pub StepsKept : Type 0
-StepsKept = (c : Code) (ns : List ℤ) (steps until : ℕ) (s : State) (tss : Forest) → Stopped c ns steps until s tss →
+StepsKept = (c : Code) (ns : List ℤ) (steps until : ℕ) (s : State) (tss : Forest) →
+    Stopped c ns steps until s tss →
     s.clock.left + s.clock.spent ≡ steps

@@ -1,6 +1,5 @@
 pub mod Takes
 pub mod HeapLines
-pub mod Inside
 pub mod InsideRuns
 pub mod TurnLemmas
 pub mod Leaving

@@ -6,3 +6,4 @@ pub mod Standing
 pub mod Draining
 pub mod Running
 pub mod Writing
+pub mod Stopped

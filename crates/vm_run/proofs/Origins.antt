@@ -8,6 +8,7 @@ use Rattle.verse_code_machine.specs.Runs.{Forest, turn_taken, started}
 use Rattle.verse_code_machine.specs.Belonging.{RunBelongs}
 use Rattle.verse_code_machine.specs.Laws.{IsOver, RunsEnd, StaysOver}
 use Rattle.verse_code_machine.specs.Goings.{gone_from, RunsEndFrom, StaysOverFrom, RunBelongsFrom}
+use Rattle.verse_code_machine_endings.specs.Endings.{RunsEndSo, RunsEndSoFrom}
 use Rattle.vm_run.specs.Origins.{Origin, from_inputs, from_state, stage_after, RunHolds, RunsHold}
 
 -- a stage after one call more
@@ -48,15 +49,16 @@ pub always_over : (c : Code) (origin : Origin) (steps until j : ℕ) → RunHold
     IsOver (stage_after c origin steps until (suc steps + j))
 always_over c origin steps until j r = subst IsOver (sym (r.stays (suc steps) j r.over)) r.over
 
-pub runs_hold : RunsEnd → StaysOver → RunBelongs → RunsEndFrom → StaysOverFrom → RunBelongsFrom → RunsHold
-runs_hold ends stay all ends_from stay_from all_from c (from_inputs ns) steps until valid can = record {
+pub runs_hold : RunsEnd → StaysOver → RunBelongs → RunsEndSo → RunsEndFrom → StaysOverFrom → RunBelongsFrom → RunsEndSoFrom → RunsHold
+runs_hold ends stay all so ends_from stay_from all_from so_from c (from_inputs ns) steps until valid can = record {
   whole = (ends c ns steps until valid).whole;
   over = (ends c ns steps until valid).over;
   stays = λ k j over. stay c ns steps until k j over;
   belongs = λ k. all c ns steps until k;
+  ends = λ k. so c ns steps until k;
   run = refl;
 }
-runs_hold ends stay all ends_from stay_from all_from c (from_state s trees) steps until valid can =
+runs_hold ends stay all so ends_from stay_from all_from so_from c (from_state s trees) steps until valid can =
     let r = ends_from c steps until s trees valid can.steps_are can.can in
     let last : suc steps + 1 ≡ suc (suc steps) = omega arith in
     let same : gone_from c steps until (suc (suc steps)) s trees ≡ gone_from c steps until (suc steps) s trees =
@@ -68,5 +70,6 @@ runs_hold ends stay all ends_from stay_from all_from c (from_state s trees) step
           let sum : suc k + j ≡ suc (k + j) = omega arith in
           ap (λ n. gone_from c steps until n s trees) (sym sum) ∙ stay_from c steps until (suc k) j s trees over;
       belongs = λ k. all_from c steps until (suc k) s trees can.state_belongs can.trees_belong;
+      ends = λ k. so_from c steps until (suc k) s trees;
       run = ap (run_of tree_waits) (sym same);
     }

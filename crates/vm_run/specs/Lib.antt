@@ -4,3 +4,4 @@ pub mod Turning
 pub mod Carrying
 pub mod Closing
 pub mod Reaching
+pub mod Saving

@@ -10,6 +10,7 @@ use Rattle.verse_code_machine.specs.Runs.{Forest, mach_after, mach}
 use Rattle.verse_code_machine.specs.Laws.{IsWhole, IsOver}
 use Rattle.verse_code_machine.specs.Belonging.{StateBelongs, TreesBelong, StageBelongs}
 use Rattle.verse_code_machine.specs.Goings.{gone_from, CanGoOn}
+use Rattle.verse_code_machine_endings.specs.Endings.{EndsSo}
 use Rattle.verse_code_machine_saved.specs.Horizons.{run_from}
 
 -- with inputs, or in a state between two turns
@@ -40,13 +41,14 @@ CanBeRun c (from_inputs ns) steps = length ns ≤ 1000
 CanBeRun c (from_state s trees) steps = IsResumable c steps s trees
 
 -- Each turn's operations come to an end, and so does the run, and is over then; its states belong to the code. A call more than there are
--- steps is at the end.
+-- steps is at the end. Before a turn a run is over with other endings than within one.
 pub record RunHolds (c : Code) (origin : Origin) (steps until : ℕ) : Type 0 where
   pub whole : (k : ℕ) → IsWhole (stage_after c origin steps until k)
   pub over : IsOver (stage_after c origin steps until (suc steps))
   pub stays : (k j : ℕ) → IsOver (stage_after c origin steps until k) →
       stage_after c origin steps until (k + j) ≡ stage_after c origin steps until k
   pub belongs : (k : ℕ) → StageBelongs c.classes (stage_after c origin steps until k)
+  pub ends : (k : ℕ) → EndsSo (stage_after c origin steps until k)
   pub run : whole_run c origin steps until ≡ run_of tree_waits (stage_after c origin steps until (suc steps))
 
 -- of each run

@@ -1,15 +1,14 @@
 -- A task that is put behind its parent, and so the order in which tasks are kept.
-use Rattle.std.proofs.Common.{◌≡◌, ℕ, zero, suc, ◌+◌, ◌<◌, length, List, [], ◌∷◌, ◌++◌, Bool, true, false, cond, refl}
-use Rattle.std.proofs.Common.{sym, ap, subst, ◌∙◌, append_assoc, arith}
+use Rattle.std.proofs.Common.{◌≡◌, ℕ, suc, ◌+◌, ◌<◌, length, List, [], ◌∷◌, ◌++◌, Bool, true, false, cond, refl}
+use Rattle.std.proofs.Common.{sym, ap, ◌∙◌, append_assoc, arith}
 use Rattle.std.proofs.Common.{length-append}
-use Rattle.std.proofs.lemmas.List.{append-nil}
 use Rattle.task_tree.specs.Tasks.{Task}
 use Rattle.verse_meaning_state.specs.Waits.{eqn}
 use Rattle.verse_code_machine.specs.Tasks as m
 use Rattle.verse_code_machine.specs.Tasks.{same_path}
 use Rattle.verse_code_machine.specs.Runs.{Forest}
-use Rattle.vm_tasks_laws.specs.Slots.{Slot, Entry, slept, held, Parent, no_parent, under, path_of, path_under}
-use Rattle.vm_tasks_laws.specs.Roses.{Rose, empty, node, IsOne, Good, GoodTree, GoodTrees}
+use Rattle.vm_tasks_laws.specs.Slots.{Slot, slept, Parent, no_parent, under, path_under}
+use Rattle.vm_tasks_laws.specs.Roses.{Rose, node, IsOne, Good, GoodTrees}
 use Rattle.vm_tasks_laws.proofs.Paths.{same_self}
 use Rattle.run_save_shots.specs.Keeping.{behind_parent, walked, walk}
 use Rattle.vm_shot_laws.proofs.Pairs.{Told, none_told, one_told, Arranged, none_arranged, empty_arranged}

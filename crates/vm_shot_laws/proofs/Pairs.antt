@@ -1,13 +1,11 @@
 -- Tasks of a tree beside those that the definition has for them, in both orders.
-use Rattle.std.proofs.Common.{◌≡◌, ℕ, List, [], ◌∷◌, ◌++◌, map, Option, Some, None, refl, sym, ap, subst, ◌∙◌}
+use Rattle.std.proofs.Common.{◌≡◌, List, [], ◌∷◌, ◌++◌, map, refl, sym, ap, subst, ◌∙◌}
 use Rattle.std.proofs.Common.{append_assoc}
-use Rattle.std.proofs.lemmas.List.{append-nil}
 use Rattle.task_tree.specs.Tasks.{Task}
 use Rattle.verse_code_machine.specs.Tasks as m
 use Rattle.verse_code_machine.specs.Runs.{Forest}
-use Rattle.vm_tasks_laws.specs.Slots.{Slot, Entry, slept, held, Parent, no_parent, under, number_of, id_of}
-use Rattle.vm_tasks_laws.specs.Slots.{path_under, named, Shows, Seen, who_of}
-use Rattle.vm_tasks_laws.specs.Roses.{Rose, empty, node, pre, post, pre_all, IsOne, Good, GoodTree, GoodTrees}
+use Rattle.vm_tasks_laws.specs.Slots.{Entry, slept}
+use Rattle.vm_tasks_laws.specs.Roses.{Rose, empty, node, post}
 use Rattle.vm_tasks_laws.specs.Standing.{Deal, none_dealt, one_dealt, trees_entries, Shown, none_shown, empty_shown}
 use Rattle.vm_tasks_laws.specs.Standing.{tree_shown}
 use Rattle.vm_tasks_laws.specs.Told.{AllPairs}

@@ -8,14 +8,13 @@ use Rattle.std.proofs.lemmas.Bool.Decides.{eqb_tells}
 use Rattle.task_tree.specs.Tasks.{Task, task_at}
 use Rattle.task_tree.specs.Nested.{Distinct, IsTree}
 use Rattle.task_tree.specs.declared.tasks.Role as r
-use Rattle.task_tree.specs.declared.tasks.Role.TheVariants.{Root}
 use Rattle.verse_meaning_state.specs.Waits.{eqn, ltn}
 use Rattle.verse_code_machine.specs.Tasks as m
 use Rattle.verse_code_machine.specs.Tasks.{Frame, same_path}
 use Rattle.verse_code_machine.specs.Runs.{Forest}
-use Rattle.vm_tasks_laws.specs.Slots.{Slot, Held, by_machine, by_itself, Entry, slept, Parent, no_parent, under}
-use Rattle.vm_tasks_laws.specs.Slots.{number_of, Shows}
-use Rattle.vm_tasks_laws.specs.Roses.{Rose, empty, node, pre, pre_all, Good, GoodTree, GoodTrees}
+use Rattle.vm_tasks_laws.specs.Slots.{Slot, Held, by_machine, by_itself, slept, Parent, no_parent, under}
+use Rattle.vm_tasks_laws.specs.Slots.{Shows}
+use Rattle.vm_tasks_laws.specs.Roses.{Rose, node, pre, pre_all, Good, GoodTrees}
 use Rattle.vm_tasks_laws.specs.Standing.{Rests}
 use Rattle.vm_tasks_laws.specs.Told.{AllPairs}
 use Rattle.vm_tasks_laws.proofs.Paths.{same_self, eqn_same}
@@ -27,10 +26,11 @@ use Rattle.run_save_shots.specs.Keeping.{behind_parent, walked, walk, place_of, 
 use Rattle.run_save_shots.specs.Keeping.{depth_of}
 use Rattle.vm_shot_laws.specs.Tree.{place_in, parent_place, role_beneath, role_under, held_by, held_frames, held_rest}
 use Rattle.vm_shot_laws.specs.Tree.{kept_task, kept_tasks}
-use Rattle.vm_shot_laws.specs.Laws.{numbered, NumbersApart, Walks}
+use Rattle.run_save_apart.specs.Numbers.{numbered, NumbersApart}
+use Rattle.vm_shot_laws.specs.Laws.{Walks}
 use Rattle.vm_shot_laws.proofs.Pairs.{Both, first_both, later_both, pairs_append, both_front, both_back, pair_of}
 use Rattle.vm_shot_laws.proofs.Pairs.{Told, none_told, one_told}
-use Rattle.vm_shot_laws.proofs.Pairs.{Arranged, none_arranged, empty_arranged, tree_arranged, arranged, InOrder}
+use Rattle.vm_shot_laws.proofs.Pairs.{Arranged, none_arranged, empty_arranged, tree_arranged, arranged}
 use Rattle.vm_shot_laws.proofs.Pairs.{in_order}
 use Rattle.vm_shot_laws.proofs.Insertions.{walk_told}
 

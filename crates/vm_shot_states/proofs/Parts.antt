@@ -3,7 +3,7 @@ use Rattle.std.proofs.Common.{◌≡◌, ℕ, ◌+◌, List, [], ◌∷◌, ◌+
 use Rattle.std.proofs.Common.{length-append}
 use Rattle.task_tree.specs.Nested.{IsTree}
 use Rattle.trace_buf.specs.Trace as trace
-use Rattle.trace_buf.specs.Trace.{Trace, printed_size}
+use Rattle.trace_buf.specs.Trace.{printed_size}
 use Rattle.verse_base.specs.TraceLine.{line_bytes}
 use Rattle.verse_value.specs.Runs.{Line}
 use Rattle.verse_value.specs.Store.{Store}

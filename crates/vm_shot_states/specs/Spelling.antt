@@ -11,8 +11,8 @@ use Rattle.vm_scheduler.specs.Standing.{given_of}
 use Rattle.vm_scheduler.specs.Going.{Resting}
 use Rattle.run_save_shots.specs.Kept.{Kept}
 use Rattle.run_save_shots.specs.Keeping.{Spells}
+use Rattle.run_save_apart.specs.Numbers.{NumbersApart}
 use Rattle.vm_shot_laws.specs.Tree.{kept_tasks}
-use Rattle.vm_shot_laws.specs.Laws.{NumbersApart}
 
 module _ {W : Type 0} where
   -- numbers, cells, spawned entries and tasks are those of the machine
@@ -31,5 +31,5 @@ module _ {W : Type 0} (pending : W → List Pending) where
   -- each state and trees for which the machine stands, where no two tasks began with as many steps
   -- left
   abbrev pub SpellsEach : Kept → View → Tasks W → Type 0
-  SpellsEach x v t = (a : Aside) (trees : Forest) → Resting pending a trees v t → NumbersApart trees →
-      Spells x (state_of a v) trees
+  SpellsEach x v t = (a : Aside) (trees : Forest) → Resting pending a trees v t →
+      NumbersApart trees → Spells x (state_of a v) trees

@@ -15,10 +15,9 @@ use Rattle.verse_value.specs.Equality.{val_eq}
 use Rattle.verse_value.specs.Operations.{text_val, sum_of, difference_of, product_of, negation_of, floor_of, ceil_of, modulo_of, concat_of}
 use Rattle.verse_value.specs.Operations.{join_of, less_of, at_most_of, greater_of, at_least_of, equal_of, unequal_of, array_of, map_of}
 use Rattle.verse_value.specs.Operations.{tuple_of, option_of, query_of, item_of, at_of, length_of, append_of}
-use Rattle.verse_value.specs.declared.runs.Ending.{Ending}
 use Rattle.verse_value.specs.declared.runs.Ending.TheVariants as ending
 use Rattle.verse_meaning_state.specs.State.{State, Given, restored, spending, with_result, drawn}
-use Rattle.verse_meaning_state.specs.Waits.{Cause, waiting, after, done, heard, never, has, ltn}
+use Rattle.verse_meaning_state.specs.Waits.{Cause, after, done, heard, never, has, ltn}
 use Rattle.verse_meaning_state.specs.Waits.{nth}
 use Rattle.verse_meaning_state.specs.Turns.{Kind, all_of, first_of, rush_of}
 use Rattle.verse_meaning_state.specs.Effects.{Effect, still, variable_made, object_made, event_made, slot_read, slot_written, line_printed}
@@ -29,21 +28,14 @@ use Rattle.verse_code_machine.specs.Tasks.{Thread, thread, Task, After, resuming
 use Rattle.verse_code_machine.specs.Tasks.{Trees, World, world, Step, Next, Over, Turn, onto, among, same_path, since, beneath_arms, waits_of}
 use Rattle.verse_code_machine.specs.Frames.{on_top, on_two, on_many, on_there, only_where, fits, goes, failing, faulting, answered, answered_to}
 use Rattle.verse_code_machine.specs.Frames.{enters, method_of, free, nothing, clean, kept_defers, kept_noted, put}
-use Rattle.verse_code_machine.specs.Cancelling.{world_without, cancelled, on_deferred, clears_frame, clears_frames, clears, cancels}
-use Rattle.verse_code_machine.specs.Ends.{resumes, all_did, first_did, tupled, or_stands, grouped, next_arm, arm_did, rested, suspends, is_run}
+use Rattle.verse_code_machine.specs.Cancelling.{world_without, cancelled, on_deferred, clears_frames, clears, cancels}
+use Rattle.verse_code_machine.specs.Ends.{all_did, first_did, tupled, or_stands, grouped, next_arm, arm_did, rested, suspends, is_run}
 use Rattle.verse_code_machine.specs.Ends.{with_did, joined, climbs, part_ends, root_ends, role_ends, ends_role, ends, returns_role, returns}
 use Rattle.verse_code_machine.specs.Ends.{follows, cleared, is_asleep, woken, woken_in}
 use Rattle.verse_code_machine.specs.Acts.{Taken, ended, takes, unfit, taken_from, takes_step, place_at, mode_of, kind_of, paired, on_domain}
 use Rattle.verse_code_machine.specs.Acts.{on_int, awaits, spawns, labels, after_arms, groups, on_noted, on_defer, on_note, frame, unary, binary}
 use Rattle.verse_code_machine.specs.Acts.{collects, leaves, on_handler, act}
-
-abbrev pub IsInner : Ending → Type 0
-IsInner ending.Done = ⊥
-IsInner ending.Waiting = ⊥
-IsInner ending.Until = ⊥
-IsInner ending.Steps = Unit {0}
-IsInner (ending.Error k p) = Unit {0}
-IsInner ending.Stuck = Unit {0}
+use Rattle.verse_code_machine_endings.specs.Endings.{IsInner}
 
 abbrev EndsInside : Step → Type 0
 EndsInside (Next m) = Unit {0}

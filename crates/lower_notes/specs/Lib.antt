@@ -1,0 +1,8 @@
+pub mod States
+pub mod Stretches
+pub mod Applied
+pub mod Noting
+pub mod Programs
+pub mod Bytes
+pub mod Laws
+pub mod Rows

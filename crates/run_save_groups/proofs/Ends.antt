@@ -1,0 +1,445 @@
+-- What tasks do with one another keeps that arms begin later than the frames of their task.
+use Rattle.std.proofs.Common.{◌≡◌, ℕ, zero, suc, ◌<◌, ◌≤◌, List, [], ◌∷◌, ◌++◌, Option, Some, None, Bool, refl, arith}
+use Rattle.std.proofs.lemmas.Bool.{cond_both}
+use Rattle.verse_base.specs.declared.places.Place.{Place}
+use Rattle.verse_value.specs.Val.{Val, unit, task}
+use Rattle.verse_value.specs.Answer.{Answer, gives, fails, error, stuck}
+use Rattle.verse_value.specs.Operations.{tuple_of}
+use Rattle.verse_value.specs.declared.runs.Ending.{Ending}
+use Rattle.verse_value.specs.declared.runs.Ending.TheVariants as ending
+use Rattle.verse_meaning_state.specs.State.{State, spending, stepped, with_result, drawn}
+use Rattle.verse_meaning_state.specs.Waits.{Cause, waiting, has, eqn}
+use Rattle.verse_meaning_state.specs.Turns.{Kind, all_of, first_of, rush_of}
+use Rattle.verse_code_machine.specs.Tasks.{Handler, Frame, Role, root, part, Who, Part, did, runs, Rest, asleep}
+use Rattle.verse_code_machine.specs.Tasks.{group, Thread, thread, Task}
+use Rattle.verse_code_machine.specs.Tasks.{After, resuming, closing, finishing, Up, begins, branching, spawning}
+use Rattle.verse_code_machine.specs.Tasks.{clearing, Trees, World, world}
+use Rattle.verse_code_machine.specs.Tasks.{Step, Next, Over, Turn, onto, among, planted, starts}
+use Rattle.verse_code_machine.specs.Tasks.{waits_of, same_path}
+use Rattle.verse_code_machine.specs.Tasks.{since, beneath_arms}
+use Rattle.verse_code_machine.specs.Cancelling.{inserted, without, world_without, cancelled, on_deferred}
+use Rattle.verse_code_machine.specs.Cancelling.{clears_frame, clears_frames, clears}
+use Rattle.verse_code_machine.specs.Cancelling.{cancels, gone_before, gone_behind}
+use Rattle.verse_code_machine.specs.Ends.{resumes, all_did, first_did, tupled, or_stands, grouped, next_arm, arm_did}
+use Rattle.verse_code_machine.specs.Ends.{rested, suspends, is_run}
+use Rattle.verse_code_machine.specs.Ends.{with_did, joined, climbs, part_ends, root_ends, role_ends, ends_role, ends}
+use Rattle.verse_code_machine.specs.Ends.{returns_role, returns}
+use Rattle.verse_code_machine.specs.Ends.{follows, cleared, is_asleep, woken, woken_in}
+use Rattle.verse_code_machine_births.specs.Everywhere.{HandlersAre, FrameIs}
+use Rattle.verse_code_machine_births.specs.Births.{Anyone, FramesBorn}
+use Rattle.run_save_groups.specs.Arms.{ArmsBelow, RestBelow, ThreadIs, TaskIs, TasksAre, TreesAre, AfterIs, UpsAre}
+use Rattle.run_save_groups.specs.Arms.{WorldIs}
+
+-- ---- births and arms
+
+abbrev pub FrameBorn : ℕ → Frame → Type 0
+FrameBorn left = FrameIs (λ born. left ≤ born) Anyone
+
+pub fewer : (l k n : ℕ) → l ≤ k → k ≤ n → l ≤ n
+fewer l k n h g = omega (arith, h, g)
+
+pub handlers_fewer : (l k : ℕ) (hs : List Handler) → l ≤ k → HandlersAre (λ born. k ≤ born) Anyone hs →
+    HandlersAre (λ born. l ≤ born) Anyone hs
+handlers_fewer l k [] h a = tt
+handlers_fewer l k (x ∷ hs) h a = (fewer l k x.life.born h a.0, handlers_fewer l k hs h a.1)
+
+pub frame_fewer : (l k : ℕ) (f : Frame) → l ≤ k → FrameBorn k f → FrameBorn l f
+frame_fewer l k f h a = (fewer l k f.life.born h a.0, handlers_fewer l k f.handlers h a.1)
+
+-- one more arm that ran, or gave a value
+arms_end : (born n : ℕ) (gs : List Part) → ArmsBelow born gs → n < born → ArmsBelow born (gs ++ runs n ∷ [])
+arms_end born n [] a h = (h, tt)
+arms_end born n (did v ∷ gs) a h = arms_end born n gs a h
+arms_end born n (runs m ∷ gs) a h = (a.0, arms_end born n gs a.1 h)
+
+arms_did : (born n : ℕ) (v : Val) (gs : List Part) → ArmsBelow born (gs ++ runs n ∷ []) →
+    ArmsBelow born (gs ++ did v ∷ [])
+arms_did born n v [] a = tt
+arms_did born n v (did w ∷ gs) a = arms_did born n v gs a
+arms_did born n v (runs m ∷ gs) a = (a.0, arms_did born n v gs a.1)
+
+arms_with : (born n : ℕ) (v : Val) (gs : List Part) → ArmsBelow born gs → ArmsBelow born (with_did n v gs)
+arms_with born n v [] a = tt
+arms_with born n v (did w ∷ gs) a = arms_with born n v gs a
+arms_with born n v (runs m ∷ gs) a = cond_both (eqn n m) (did v ∷ gs) (runs m ∷ with_did n v gs) (ArmsBelow born)
+    (λ e. a.1) (λ e. (
+      a.0,
+      arms_with born n v gs a.1,
+    ))
+
+-- An operation before which so many steps were left. What begins spends one, so it has a number below the births of
+-- all frames that stand.
+module _ (most : ℕ) where
+  abbrev pub Is : State → Type 0
+  Is s = s.clock.left ≡ most
+
+  abbrev pub FramesIn : List Frame → Type 0
+  FramesIn = FramesBorn most
+
+  abbrev pub ThreadIn : Thread → Type 0
+  ThreadIn = ThreadIs most
+
+  abbrev pub TaskIn : Task → Type 0
+  TaskIn = TaskIs most
+
+  abbrev pub TasksIn : List Task → Type 0
+  TasksIn = TasksAre most
+
+  abbrev pub TreesIn : List (List Task) → Type 0
+  TreesIn = TreesAre most
+
+  abbrev pub AfterIn : After → Type 0
+  AfterIn = AfterIs most
+
+  abbrev pub WorldIn : World → Type 0
+  WorldIn = WorldIs most
+
+  abbrev pub Others : List Task → List Task → List Up → Trees → Type 0
+  Others pre post us trees = WorldIs most (world pre post us trees)
+
+  abbrev pub StepIs : Step → Type 0
+  StepIs (Next m) = (m.state.clock.left ≤ most) ×
+      (FrameBorn m.state.clock.left m.frame × (FramesIn m.below × WorldIn m.world))
+  StepIs (Over e s) = Unit {0}
+  StepIs (Turn s tss) = Is s × TreesIn tss
+
+  least : {n : ℕ} → n ≡ most → n ≤ most
+  least e = omega (arith, e)
+
+  lower : {n : ℕ} → suc n ≡ most → n ≤ most
+  lower e = omega (arith, e)
+
+  below : {n born : ℕ} → suc n ≡ most → most ≤ born → n < born
+  below e h = omega (arith, e, h)
+
+  pub record Low (q : Step) : Type 0 where
+    pub holds : StepIs q
+
+  pub over : {e : Ending} {s : State} → Low (Over e s)
+  over = record { holds = tt }
+
+  pub others : {pre post : List Task} {us : List Up} {trees : Trees} → TasksIn pre → TasksIn post → UpsAre most us →
+      TreesIn trees.before →
+      TreesIn trees.behind → Others pre post us trees
+  others a b c d e = record { pre = a; post = b; ups = c; before = d; behind = e }
+
+  pub onto_are : (xs ts : List Task) → TasksIn xs → TasksIn ts → TasksIn (onto xs ts)
+  onto_are [] ts a b = b
+  onto_are (x ∷ xs) ts a b = onto_are xs (x ∷ ts) a.1 (a.0, b)
+
+  pub tasks_are : (xs ts : List Task) → TasksIn xs → TasksIn ts → TasksIn (xs ++ ts)
+  tasks_are [] ts a b = b
+  tasks_are (x ∷ xs) ts a b = (a.0, tasks_are xs ts a.1 b)
+
+  pub trees_are : (xs ts : List (List Task)) → TreesIn xs → TreesIn ts → TreesIn (xs ++ ts)
+  trees_are [] ts a b = b
+  trees_are (x ∷ xs) ts a b = (a.0, trees_are xs ts a.1 b)
+
+  pub inserted_are : (t : Task) (ts : List Task) → TaskIn t → TasksIn ts → TasksIn (inserted t ts)
+  inserted_are t [] a b = (a, b)
+  inserted_are t (x ∷ xs) a b =
+      cond_both (starts t.thread.who.path x.thread.who.path) (x ∷ inserted t xs) (t ∷ x ∷ xs) TasksIn (λ e. (
+        b.0,
+        inserted_are t xs a b.1,
+      ))
+      (λ e. (a, b))
+
+  pub without_are : (f : List ℕ → Bool) (ts : List Task) → TasksIn ts → TasksIn (without f ts)
+  without_are f [] a = a
+  without_are f (t ∷ ts) a =
+      cond_both (f t.thread.who.path) (without f ts) (t ∷ without f ts) TasksIn (λ e. without_are f ts a.1) (λ e. (
+        a.0,
+        without_are f ts
+            a.1,
+      ))
+
+  pub gone_before_are : (f : List ℕ → Bool) (ts : List Task) → TasksIn ts → TasksIn (gone_before f ts)
+  gone_before_are f [] a = a
+  gone_before_are f (t ∷ ts) a =
+      cond_both (f t.thread.who.path) (inserted t (gone_before f ts)) (gone_before f ts) TasksIn (λ e. inserted_are
+      t (gone_before f ts)
+      a.0 (gone_before_are f ts a.1)) (λ e. gone_before_are f ts a.1)
+
+  pub gone_behind_are : (f : List ℕ → Bool) (ts : List Task) → TasksIn ts → TasksIn (gone_behind f ts)
+  gone_behind_are f [] a = a
+  gone_behind_are f (t ∷ ts) a =
+      cond_both (f t.thread.who.path) (t ∷ gone_behind f ts) (gone_behind f ts) TasksIn (λ e. (
+        a.0,
+        gone_behind_are
+            f ts a.1,
+      )) (λ e.
+      gone_behind_are f ts a.1)
+
+  pub spending_low : (k : ℕ) (s : State) (go : State → Step) → k ≡ most →
+      ((l : ℕ) → suc l ≡ most → Low (go (stepped l s))) →
+      Low (spending k s (Over ending.Steps s) go)
+  spending_low zero s go h f = over
+  spending_low (suc l) s go h f = f l h
+
+  pub resumes_low : (x : Thread) (v : Val) (o : World) (s : State) → Is s →
+      ThreadIn x → WorldIn o → Low (resumes x v o s)
+  resumes_low x v o s h a b =
+      record { holds = (least h, (frame_fewer s.clock.left most x.frame (least h) a.0, (a.1, b))) }
+
+  -- cancelling
+  deferred_low : (rest : Step) (x : Who) (o : World) (s : State) (f : Frame) (fs : List Frame) (ds : List ℕ) →
+      Is s → FramesIn (f ∷ fs) → WorldIn o → Low rest → Low (on_deferred ds rest (λ q ds. clears_frame x o s f fs q ds))
+  deferred_low rest x o s f fs [] h a b l = l
+  deferred_low rest x o s f fs (q ∷ ds) h a b l = spending_low s.clock.left s _ h (λ k d. record {
+    holds = (lower d, ((fewer k most f.life.born (lower d) a.0.0, tt), (a.1, b)));
+  })
+
+  pub frames_low : (next : State → Step) (x : Who) (o : World) (s : State) (fs : List Frame) →
+      Is s → FramesIn fs → WorldIn o → Low (next s) →
+      Low (clears_frames next x o s fs)
+  frames_low next x o s [] h a b l = l
+  frames_low next x o s (f ∷ fs) h a b l =
+      deferred_low (clears_frames next x o s fs) x o s f fs f.life.defers h a b (frames_low next x o s fs h a.1 b l)
+
+  -- what follows where all is cancelled, in any world that is no heavier
+  abbrev pub Follows : (World → State → Step) → After → Type 0
+  Follows last after = (o : World) (s : State) → Is s → AfterIn after →
+      WorldIn o → Low (last o s)
+
+  pub clears_low : (last : World → State → Step) (after : After) (ts : List Task) (o : World) (s : State) → Follows
+      last after →
+      Is s → AfterIn after → TasksIn ts → WorldIn o →
+      Low (clears last after ts o s)
+  clears_low last after [] o s f h a b c = f o s h a c
+  clears_low last after (t ∷ ts) o s f h a b c =
+      frames_low (λ s. clears last after ts o s) t.thread.who (world o.pre o.post (clearing after ts ∷ o.ups)
+      o.trees) s (t.thread.frame ∷
+      t.thread.below) h b.0.0
+      (others c.pre c.post ((a, b.1), c.ups) c.before c.behind) (clears_low last after ts o s f h a b.1 c)
+
+  pub cancels_low : (last : World → State → Step) (after : After) (f : List ℕ → Bool) (o : World) (s : State) →
+      Follows last after →
+      Is s → AfterIn after → WorldIn o → Low (cancels last after f o s)
+  cancels_low last after f o s g h a c = clears_low last after (cancelled f o) (world_without f o) s g
+      h a
+      (tasks_are (gone_before f o.pre) (gone_behind f o.post) (gone_before_are f o.pre c.pre) (gone_behind_are f
+      o.post c.post))
+      (others (without_are f o.pre c.pre) (without_are f o.post c.post) c.ups c.before c.behind)
+
+  -- groups
+  tupled_low : (p : Place) (a : Answer Val) (x : Thread) (o : World) (s : State) →
+      Is s → ThreadIn x → WorldIn o → Low (tupled p a x o s)
+  tupled_low p (gives v) x o s h a b = resumes_low x v o s h a b
+  tupled_low p fails x o s h a b = over
+  tupled_low p (error k) x o s h a b = over
+  tupled_low p stuck x o s h a b = over
+
+  stands_low : {A : Type 0} (m : Option A) (q : Step) (go : A → Step) → Low q → ((x : A) → Low (go x)) → Low
+      (or_stands m q go)
+  stands_low None q go l f = l
+  stands_low (Some x) q go l f = f x
+
+  resuming_low : (x : Thread) (v : Val) → Follows (λ o s. resumes x v o s) (resuming x v)
+  resuming_low x v o s h a b = resumes_low x v o s h a b
+
+  -- what follows where the task stands at its group
+  abbrev pub Stands : Thread → (Task → Step) → Type 0
+  Stands x stands = (r : Rest) → RestBelow x.frame.life.born r → Low (stands (record { thread = x; rest = r }))
+
+  pub grouped_low : (k : Kind) (p : Place) (gs : List Part) (x : Thread) (o : World) (s : State) (stands : Task →
+      Step) →
+      Is s → ThreadIn x → ArmsBelow x.frame.life.born gs → WorldIn o → Stands x stands →
+      Low (grouped k p gs x o s stands)
+  grouped_low all_of p gs x o s stands h a g b f =
+      stands_low (all_did gs) _ _ (f (group all_of p gs) g) (λ vs. tupled_low p (tuple_of vs) x o s h a b)
+  grouped_low first_of p gs x o s stands h a g b f = stands_low (first_did gs) _ _ (f (group first_of p gs) g) (λ v.
+      cancels_low (λ o s. resumes x v o s) (resuming x v) (beneath_arms x.who.path gs) o s (resuming_low x v) h a b)
+  grouped_low rush_of p gs x o s stands h a g b f = stands_low (first_did gs) _ _ (f (group rush_of p gs) g) (λ v.
+      resumes_low x v o s h a b)
+
+  pub next_low : (k : Kind) (p : Place) (gs : List Part) (ls : List ℕ) (x : Thread) (pre post : List Task) (us : List
+      Up) (trees : Trees)
+      (s : State) (stands : Task → Step) →
+      Is s → ThreadIn x → ArmsBelow x.frame.life.born gs → Others pre post us trees → Stands x stands →
+      Low (next_arm k p gs ls x pre post us trees s stands)
+  next_low k p gs [] x pre post us trees s stands h a g b f = grouped_low k p gs x (world pre post us trees) s stands h
+      a g b f
+  next_low k p gs (l ∷ ls) x pre post us trees s stands h a g b f = spending_low s.clock.left s _ h (λ m d. record {
+    holds = (
+      lower d,
+      (
+        (omega arith, tt),
+        (tt, others b.pre b.post ((a, arms_end x.frame.life.born m gs g (below d a.0.0)), b.ups) b.before b.behind),
+      ),
+    );
+  })
+
+  pub did_low : (k : Kind) (p : Place) (gs : List Part) (ls : List ℕ) (x : Thread) (pre post : List Task) (us : List
+      Up) (trees : Trees)
+      (s : State) (stands : Task → Step) →
+      Is s → ThreadIn x → ArmsBelow x.frame.life.born gs → Others pre post us trees → Stands x stands →
+      Low (arm_did k p gs ls x pre post us trees s stands)
+  did_low all_of p gs ls x pre post us trees s stands h a g b f = next_low all_of p gs ls x pre post us trees s stands
+      h a g b f
+  did_low first_of p gs ls x pre post us trees s stands h a g b f = grouped_low first_of p gs x (world pre post us
+      trees) s stands h a g b f
+  did_low rush_of p gs ls x pre post us trees s stands h a g b f = next_low rush_of p gs ls x pre post us trees s
+      stands h a g b f
+
+  -- no task runs
+  turn_low : (pre post : List Task) (trees : Trees) (s : State) → Is s →
+      TasksIn pre → TasksIn post → TreesIn trees.before → TreesIn trees.behind →
+      Low (Turn s (among (onto pre post) trees))
+  turn_low pre post trees s h a b c d = record {
+    holds = (
+      h,
+      trees_are trees.before
+          (onto pre post ∷ trees.behind) c (onto_are pre post a b, d),
+    );
+  }
+
+  pub rested_low : (us : List Up) (pre post : List Task) (trees : Trees) (s : State) →
+      Is s → Others pre post us trees → Low (rested pre post us trees s)
+  rested_low [] pre post trees s h b = turn_low pre post trees s h b.pre b.post b.before b.behind
+  rested_low (begins x k p gs m ls ∷ us) pre post trees s h b =
+      next_low k p (gs ++ runs m ∷ []) ls x pre post us trees s (λ y. rested (y ∷ pre) post us trees s) h b.ups.0.0
+      b.ups.0.1
+      (others b.pre b.post b.ups.1 b.before b.behind)
+      (λ r g. rested_low us (record { thread = x; rest = r } ∷ pre) post trees s h
+      (others ((b.ups.0.0, g), b.pre) b.post
+      b.ups.1 b.before b.behind))
+  rested_low (branching x ∷ us) pre post trees s h b =
+      resumes_low x unit (world pre post us trees) s h b.ups.0 (others b.pre b.post b.ups.1 b.before b.behind)
+  rested_low (spawning x entry ps qs ∷ us) pre post trees s h b =
+      resumes_low x (task entry) (world ps qs us (planted trees (onto pre post))) s h b.ups.0.0
+      (others b.ups.0.1.0 b.ups.0.1.1 b.ups.1 b.before (trees_are trees.behind (onto pre post ∷ []) b.behind (
+        onto_are pre post b.pre
+            b.post,
+        tt,
+      )))
+  rested_low (clearing after ts ∷ us) pre post trees s h b = over
+
+  pub suspends_low : (c : Cause) (x : Thread) (o : World) (s : State) → Is s →
+      ThreadIn x → WorldIn o → Low (suspends c x o s)
+  suspends_low c x o s h a b =
+      rested_low o.ups (record { thread = x; rest = asleep (waiting c s) } ∷ o.pre) o.post o.trees (drawn s) h (others
+      ((a, tt), b.pre) b.post b.ups b.before b.behind)
+
+  -- the end of a task
+  joined_low : (number : ℕ) (v : Val) (r : Rest) (y : Task) (pre post : List Task) (trees : Trees) (s : State) →
+      Is s → TaskIn y → RestBelow y.thread.frame.life.born r → Others pre post [] trees →
+      Low (joined number v r y pre post trees s)
+  joined_low m v (asleep x) y pre post trees s h a g b =
+      turn_low pre (y ∷ post) trees s h b.pre (a, b.post) b.before b.behind
+  joined_low m v (group k p gs) y pre post trees s h a g b = cond_both (is_run m gs) _ _ (λ z. Low z)
+      (λ e. grouped_low k p (with_did m v gs) y.thread (world pre post [] trees) s (λ y. rested (y ∷ pre) post []
+      trees s) h a.0 (arms_with y.thread.frame.life.born m v gs g) b
+      (λ r g. rested_low [] (record { thread = y.thread; rest = r } ∷ pre) post trees s h
+      (others ((a.0, g), b.pre) b.post tt b.before
+      b.behind)))
+      (λ e. turn_low pre (y ∷ post) trees s h b.pre (a, b.post) b.before b.behind)
+
+  climbs_low : (up : List ℕ) (number : ℕ) (v : Val) (pre post : List Task) (trees : Trees) (s : State) →
+      Is s → Others pre post [] trees → Low (climbs up number v pre post trees s)
+  climbs_low up m v pre [] trees s h b = over
+  climbs_low up m v pre (y ∷ post) trees s h b = cond_both (same_path up y.thread.who.path) _ _ (λ z. Low z)
+      (λ e. joined_low m v y.rest y pre post trees s h b.post.0 b.post.0.1 (others b.pre b.post.1 tt b.before b.behind))
+      (λ e. climbs_low up m v (y ∷ pre) post trees s h (others (b.post.0, b.pre) b.post.1 tt b.before b.behind))
+
+  part_low : (us : List Up) (up : List ℕ) (number : ℕ) (v : Val) (pre post : List Task) (trees : Trees) (s : State) →
+      Is s → Others pre post us trees →
+      Low (part_ends up number v pre post us trees s)
+  part_low [] up m v pre post trees s h b = climbs_low up m v pre post trees s h b
+  part_low (begins x k p gs l ls ∷ us) up m v pre post trees s h b =
+      did_low k p (gs ++ did v ∷ []) ls x pre post us trees s (λ y. rested (y ∷ pre) post us trees s) h b.ups.0.0
+      (arms_did x.frame.life.born l v gs b.ups.0.1) (others b.pre b.post b.ups.1 b.before b.behind)
+      (λ r g. rested_low us (record { thread = x; rest = r } ∷ pre) post trees s h
+      (others ((b.ups.0.0, g), b.pre) b.post
+      b.ups.1 b.before b.behind))
+  part_low (branching x ∷ us) up m v pre post trees s h b =
+      resumes_low x unit (world pre post us trees) s h b.ups.0 (others b.pre b.post b.ups.1 b.before b.behind)
+  part_low (spawning x entry ps qs ∷ us) up m v pre post trees s h b = over
+  part_low (clearing after ts ∷ us) up m v pre post trees s h b = over
+
+  root_low : (us : List Up) (pre post : List Task) (trees : Trees) (s : State) →
+      Is s → Others pre post us trees → Low (root_ends pre post us trees s)
+  root_low [] pre post trees s h b = turn_low pre post trees s h b.pre b.post b.before b.behind
+  root_low (spawning x entry ps qs ∷ us) pre post trees s h b =
+      resumes_low x (task entry) (world ps qs us trees) s h b.ups.0.0 (others b.ups.0.1.0 b.ups.0.1.1 b.ups.1 b.before
+      b.behind)
+  root_low (begins x k p gs l ls ∷ us) pre post trees s h b = over
+  root_low (branching x ∷ us) pre post trees s h b = over
+  root_low (clearing after ts ∷ us) pre post trees s h b = over
+
+  role_low : (r : Role) (x : Who) (v : Val) (o : World) (s : State) → Is s → WorldIn o →
+      Low (role_ends r x v o s)
+  role_low (root entry) x v o s h b = root_low o.ups o.pre o.post o.trees s h b
+  role_low part x v o s h b = part_low o.ups x.up x.number v o.pre o.post o.trees s h b
+
+  ends_role_low : (r : Role) (x : Who) (o : World) (born : ℕ) (v : Val) (s : State) → Is s →
+      WorldIn o → Low (ends_role r x o born v s)
+  ends_role_low (root entry) x o born v s h b = over
+  ends_role_low part x o born v s h b =
+      cancels_low (λ o s. role_ends part x v o s) (closing x v) (since x.path born) o s (λ o s h a c. role_low part x
+      v o s h c) h tt b
+
+  pub ends_low : (x : Who) (o : World) (born : ℕ) (v : Val) (s : State) (hs : List Handler) (bl : List Frame) →
+      Is s → WorldIn o → Low (ends x o born v s hs bl)
+  ends_low x o born v s (a ∷ hs) bl h b = over
+  ends_low x o born v s [] (f ∷ bl) h b = over
+  ends_low x o born v s [] [] h b = ends_role_low x.role x o born v s h b
+
+  result_left : (entry : Option ℕ) (v : Val) (s : State) → (with_result entry v s).clock.left ≡ s.clock.left
+  result_left None v s = refl
+  result_left (Some entry) v s = refl
+
+  finishing_low : (x : Who) (entry : Option ℕ) (v : Val) → Follows (λ o s. role_ends (root entry) x v o (with_result
+      entry v s))
+      (finishing x entry v)
+  finishing_low x None v o s h a b = role_low (root None) x v o s h b
+  finishing_low x (Some entry) v o s h a b = role_low (root (Some entry)) x v o (with_result (Some entry) v s) h b
+
+  returns_role_low : (r : Role) (x : Who) (o : World) (born : ℕ) (v : Val) (s : State) → Is s →
+      WorldIn o → Low (returns_role r x o born v s)
+  returns_role_low (root entry) x o born v s h b =
+      cancels_low (λ o s. role_ends (root entry) x v o (with_result entry v s)) (finishing x entry v) (since x.path
+      born) o s
+      (finishing_low x entry v) h tt b
+  returns_role_low part x o born v s h b = over
+
+  pub returns_low : (x : Who) (o : World) (born : ℕ) (v : Val) (s : State) (hs : List Handler) (bl : List Frame) →
+      Is s → FramesIn bl → WorldIn o → Low (returns x o born v s hs bl)
+  returns_low x o born v s (g ∷ hs) bl h a b = over
+  returns_low x o born v s [] [] h a b = returns_role_low x.role x o born v s h b
+  returns_low x o born v s [] (f ∷ bl) h a b =
+      cancels_low (λ o s. resumes (thread x f bl) v o s) (resuming (thread x f bl) v) (since x.path born) o s
+      (resuming_low (thread x f bl) v) h a b
+
+  follows_low : (after : After) → Follows (follows after) after
+  follows_low (resuming x v) o s h a b = resumes_low x v o s h a b
+  follows_low (closing x v) o s h a b = role_low x.role x v o s h b
+  follows_low (finishing x entry v) o s h a b = finishing_low x entry v o s h a b
+
+  pub cleared_low : (us : List Up) (pre post : List Task) (trees : Trees) (s : State) →
+      Is s → Others pre post us trees → Low (cleared us pre post trees s)
+  cleared_low [] pre post trees s h b = over
+  cleared_low (clearing after ts ∷ us) pre post trees s h b =
+      clears_low (follows after) after ts (world pre post us trees) s (follows_low after) h b.ups.0.0 b.ups.0.1
+      (others
+      b.pre b.post b.ups.1 b.before b.behind)
+  cleared_low (begins x k p gs l ls ∷ us) pre post trees s h b = over
+  cleared_low (branching x ∷ us) pre post trees s h b = over
+  cleared_low (spawning x entry ps qs ∷ us) pre post trees s h b = over
+
+  -- a wait is woken
+  woken_low : (m : ℕ) (v : Val) (pre post : List Task) (trees : Trees) (s : State) →
+      Is s → Others pre post [] trees → Low (woken m v pre post trees s)
+  woken_low m v pre [] trees s h b = over
+  woken_low m v pre (y ∷ post) trees s h b = cond_both (is_asleep m y.rest) _ _ (λ z. Low z)
+      (λ e. resumes_low y.thread v (world pre post [] trees) s h b.post.0.0 (others b.pre b.post.1 tt b.before
+      b.behind))
+      (λ e. woken_low m v (y ∷ pre) post trees s h (others (b.post.0, b.pre) b.post.1 tt b.before b.behind))
+
+  pub woken_in_low : (m : ℕ) (v : Val) (before behind : List (List Task)) (s : State) →
+      Is s → TreesIn before → TreesIn behind →
+      Low (woken_in m v before behind s)
+  woken_in_low m v before [] s h a b = over
+  woken_in_low m v before (ts ∷ behind) s h a b = cond_both (has m (waits_of ts)) _ _ (λ z. Low z)
+      (λ e. woken_low m v [] ts (record { before = before; behind = behind }) s h (others tt b.0 tt a b.1))
+      (λ e. woken_in_low m v (before ++ ts ∷ []) behind s h (trees_are before (ts ∷ []) a
+      (b.0, tt)) b.1)

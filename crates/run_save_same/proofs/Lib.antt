@@ -1,0 +1,9 @@
+pub mod Sorting
+pub mod Spelt
+pub mod Depths
+pub mod Aligning
+pub mod Table
+pub mod Known
+pub mod Rooted
+pub mod Same
+pub mod Stopped

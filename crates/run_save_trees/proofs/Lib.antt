@@ -1,0 +1,10 @@
+mod Lists
+mod Groups
+mod Threads
+mod Slots
+mod Trees
+mod Roots
+mod Clocks
+pub mod Suiting
+pub mod Restoring
+pub mod Ends

@@ -1,0 +1,2 @@
+mod Inside
+pub mod Runs
