@@ -32,7 +32,8 @@ use Rattle.lower_bounds.proofs.Costs.{operands_cost}
 use Rattle.lower_bounds.proofs.Costs.{target_cost, cost_is, inner_cost_is, operands_cost_is, target_cost_is}
 use Rattle.lower_bounds.proofs.Kept.{Kept, PiecesAre}
 use Rattle.lower_bounds.proofs.Arms.{arms_many, arms_between}
-use Rattle.lower_bounds.proofs.Leaves.{more, ground, and, when_else_kept, finish_kept, no_call, fits_call, get, unit, drop, commit}
+use Rattle.lower_bounds.proofs.Leaves.{more, ground, and, when_else_kept, dropped_few, finish_kept, no_call, fits_call, get}
+use Rattle.lower_bounds.proofs.Leaves.{unit, drop, commit}
 use Rattle.lower_bounds.proofs.Leaves.{read_this_kept, named_kept, base_code_kept, start_kept, FormFits, NoCall, started_plain}
 use Rattle.lower_bounds.proofs.Leaves.{storing_kept, returning_kept, breaking_kept}
 use Rattle.lower_bounds.proofs.Statements.{statement_fits, tree_fits, bind_kept, stated_kept, statement_grows, scope_grows, around_plain}
@@ -73,18 +74,18 @@ module _ {p : Program} {differ : ℕ → ℕ → Bool} {Good : Node → Type 0} 
   -- a call whose callee is no operand, and one whose object is
   alone_kept : (ts : Trees) (f : Form) (k : ℕ) (sc : Scope) (a : Around) → FormFits q f →
       Q k (length sc) (started f a).height (operands_cost fields ts) (args p differ ts sc (started f a)) → Q k (length sc) a.height
-      (4 + operands_cost fields ts)
+      (4 + how_many ts + operands_cost fields ts)
       (start f sc then args p differ ts sc (started f a) then finish f (how_many ts) (form_fits p differ f (how_many ts) sc))
-  alone_kept ts f k sc a s y = more q (omega arith) (q.over 1 (start_kept q f sc) (and q y
+  alone_kept ts f k sc a s y = more q (omega (arith, dropped_few q f (how_many ts))) (q.over 1 (start_kept q f sc) (and q y
       (finish_kept q f (how_many ts) (form_fits p differ f (how_many ts) sc) s (fits_call q f (how_many ts) sc)))
       (omega (arith, started_height f a)) (omega arith))
 
   object_kept : (b : Tree) (ts : Trees) (f : Form) (k : ℕ) (sc : Scope) (a : Around) → FormFits q f → NoCall q f →
       Q k (length sc) a.height (inner_cost fields b) (inner p differ b sc a) → Q k (length sc) (up a).height (operands_cost fields ts)
       (args p differ ts sc (up a)) →
-      Q k (length sc) a.height (3 + inner_cost fields b + operands_cost fields ts)
+      Q k (length sc) a.height (3 + how_many ts + inner_cost fields b + operands_cost fields ts)
       (inner p differ b sc a then args p differ ts sc (up a) then finish f (how_many ts) true)
-  object_kept b ts f k sc a s n y z = more q (omega arith) (q.over 1 y (and q z
+  object_kept b ts f k sc a s n y z = more q (omega (arith, dropped_few q f (how_many ts))) (q.over 1 y (and q z
       (finish_kept q f (how_many ts) true s (no_call q f (how_many ts) true n)))
       (omega arith) (omega arith))
 
@@ -176,7 +177,8 @@ module _ {p : Program} {differ : ℕ → ℕ → Bool} {Good : Node → Type 0} 
     -- members, calls, indices
     shape_kept (t.Shape.member b y) n pl v g k sc a x =
         let f = member_form_fits q (ref_at p n) y in
-        more q (omega (arith, cost_is fields b)) (membered_kept q (enum_member p b y) (and q (piece_kept b g k sc a x)
+        more q (omega (arith, cost_is fields b, dropped_few q (member_form (ref_at p n) y) 1))
+        (membered_kept q (enum_member p b y) (and q (piece_kept b g k sc a x)
         (finish_kept q (member_form (ref_at p n) y) 1 true f.0 (no_call q (member_form (ref_at p n) y) 1 true f.1))))
     shape_kept (t.Shape.call b ts) n pl v g k sc a x =
         let gb = each_first Good (post_order b) (trees_order ts) g in
@@ -188,9 +190,10 @@ module _ {p : Program} {differ : ℕ → ℕ → Bool} {Good : Node → Type 0} 
         (args_kept ts gs k sc (started f a) (started_plain q f a x))))
         (λ f s y. more q (omega (arith, operands_cost_is fields ts, inner_cost_is fields b, cost_is fields b))
         (object_kept b ts f k sc a s y (inner_kept b gb k sc a x) (args_kept ts gs k sc (up a) (q.up a x))))
-        (λ f s y. more q (omega (arith, cost_is fields b)) (and q (piece_kept b gb k sc a x)
+        (λ f s y. more q (omega (arith, cost_is fields b, dropped_few q f 0)) (and q (piece_kept b gb k sc a x)
         (finish_kept q f 0 true s (no_call q f 0 true y))))
-        (λ f s y. more q (omega arith) (and q (quotient_kept ts gs k sc a x) (finish_kept q f 2 true s (no_call q f 2 true y)))))
+        (λ f s y. more q (omega (arith, dropped_few q f 2))
+        (and q (quotient_kept ts gs k sc a x) (finish_kept q f 2 true s (no_call q f 2 true y)))))
     shape_kept (t.Shape.index b ts) n pl v g k sc a x =
         let gb = each_first Good (post_order b) (trees_order ts) g in
         let gs = each_rest Good (post_order b) (trees_order ts) g in
@@ -200,10 +203,12 @@ module _ {p : Program} {differ : ℕ → ℕ → Bool} {Good : Node → Type 0} 
         (args_kept ts gs k sc (started f a) (started_plain q f a x))))
         (λ f s y. more q (omega (arith, operands_cost_is fields ts, inner_cost_is fields b, cost_is fields b))
         (object_kept b ts f k sc a s y (inner_kept b gb k sc a x) (args_kept ts gs k sc (up a) (q.up a x))))
-        (λ f s y. more q (omega (arith, cost_is fields b, operands_cost_is fields ts)) (q.over 1 (piece_kept b gb k sc a x)
+        (λ f s y. more q (omega (arith, cost_is fields b, operands_cost_is fields ts, dropped_few q f (how_many ts)))
+        (q.over 1 (piece_kept b gb k sc a x)
         (and q (args_kept ts gs k sc (up a) (q.up a x)) (finish_kept q f (how_many ts) true s (no_call q f (how_many ts) true y)))
         (omega arith) (omega arith)))
-        (λ f s y. more q (omega arith) (and q (quotient_kept ts gs k sc a x) (finish_kept q f 2 true s (no_call q f 2 true y)))))
+        (λ f s y. more q (omega (arith, dropped_few q f 2))
+        (and q (quotient_kept ts gs k sc a x) (finish_kept q f 2 true s (no_call q f 2 true y)))))
     -- literals and names
     shape_kept (t.Shape.integer z) n pl v g k sc a x = more q (omega arith) (q.op (o.Int z) ((λ z at. refl), refl))
     shape_kept (t.Shape.character c) n pl v g k sc a x = more q (omega arith) (q.char n pl c v)

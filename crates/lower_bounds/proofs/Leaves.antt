@@ -1,5 +1,5 @@
 -- What is kept by the parts of the code that stand for no tree of their own.
-use Rattle.std.proofs.Common.{◌≡◌, ℕ, zero, suc, ◌+◌, ◌≤◌, Bool, true, false, Option, Some, None, refl, arith}
+use Rattle.std.proofs.Common.{◌≡◌, ℕ, zero, suc, ◌+◌, ◌≤◌, Bool, true, false, Option, Some, refl, arith}
 use Rattle.verse_base.specs.declared.places.Place.{Place}
 use Rattle.verse_tree.specs.Tree.{Bytes}
 use Rattle.verse_tree.specs.PostOrder.{Node}
@@ -13,6 +13,7 @@ use Rattle.verse_code.specs.declared.operations.Op.TheVariants as o
 use Rattle.verse_value.specs.declared.modes.Mode.{Mode}
 use Rattle.verse_value.specs.declared.modes.Mode.TheVariants as mode
 use Rattle.verse_meaning.specs.Programs.{Program, fun_at}
+use Rattle.verse_meaning.specs.Forms.{place_in}
 use Rattle.verse_meaning.specs.Residuals as form
 use Rattle.verse_meaning.specs.Residuals.{Form, Base, in_variable, in_self, in_object, nowhere, Binder, no_name, a_constant, a_variable}
 use Rattle.verse_meaning.specs.Residuals.{Generator, of_elements, of_entries, of_range}
@@ -21,7 +22,8 @@ use Rattle.lower_code.specs.Pieces.{Maker, one, when_else, kept, ◌then◌}
 use Rattle.lower_code.specs.Scopes.{Scope, Found, fixed, varies, absent, this_found, push_fixed, push_varies, read_found, read_this}
 use Rattle.lower_code.specs.Scopes.{field_of_this, find}
 use Rattle.lower_code.specs.Arounds.{returning, breaking}
-use Rattle.lower_code.specs.Applied.{computing, comparing, awaiting, with_none, with_one, with_two, signalling, finish, start, started}
+use Rattle.lower_code.specs.Applied.{computing, comparing, awaiting, dropping, with_one, with_two, indexing, signalling, finish}
+use Rattle.lower_code.specs.Applied.{start, started}
 use Rattle.lower_code.specs.Applied.{storing, mode_number}
 use Rattle.lower_code.specs.Lowering.{takes_params, form_fits}
 use Rattle.lower_code.specs.Lowering.{base_code}
@@ -44,9 +46,9 @@ module _ {p : Program} {differ : ℕ → ℕ → Bool} {Good : Node → Type 0} 
   when_else_kept true x = more (omega arith) (x refl)
   when_else_kept false x = more (omega arith) q.stuck
 
-  pub with_none_kept : {k l h m : ℕ} {f : Maker} (n : ℕ) → Q k l h m f → Q k l h (suc m) (with_none n f)
-  with_none_kept zero x = more (omega arith) x
-  with_none_kept (suc n) x = more (omega arith) q.stuck
+  pub dropping_kept : {k l h m : ℕ} {f : Maker} (n : ℕ) → Q k l h m f → Q k l h (n + m) (dropping n f)
+  dropping_kept zero x = more (omega arith) x
+  dropping_kept (suc n) x = more (omega arith) (and (q.op o.Drop ((λ z at. refl), refl)) (dropping_kept n x))
 
   pub with_one_kept : {k l h m : ℕ} {f : Maker} (n : ℕ) → Q k l h m f → Q k l h (suc m) (with_one n f)
   with_one_kept zero x = more (omega arith) q.stuck
@@ -80,10 +82,13 @@ module _ {p : Program} {differ : ℕ → ℕ → Bool} {Good : Node → Type 0} 
   awaiting_kept true = q.op o.AwaitEvent ((λ z at. refl), refl)
   awaiting_kept false = q.op o.AwaitTask ((λ z at. refl), refl)
 
-  pub signalling_kept : {k l h : ℕ} (n : ℕ) → Q k l h 2 (signalling n)
-  signalling_kept zero = and (q.op o.Unit ((λ z at. refl), refl)) (q.op o.Signal ((λ z at. refl), refl))
-  signalling_kept (suc zero) = more (omega arith) (q.op o.Signal ((λ z at. refl), refl))
-  signalling_kept (suc (suc n)) = more (omega arith) q.stuck
+  indexing_kept : {k l h : ℕ} (n : ℕ) → Q k l h (n + 2) (indexing n)
+  indexing_kept zero = more (omega arith) q.none
+  indexing_kept (suc n) = more (omega arith) (dropping_kept n (q.op o.At ((λ z at. refl), refl)))
+
+  signalling_kept : {k l h : ℕ} (n : ℕ) → Q k l h (n + 2) (signalling n)
+  signalling_kept zero = more (omega arith) (and (q.op o.Unit ((λ z at. refl), refl)) (q.op o.Signal ((λ z at. refl), refl)))
+  signalling_kept (suc n) = more (omega arith) (dropping_kept n (q.op o.Signal ((λ z at. refl), refl)))
 
   -- the places of a form
   abbrev pub FormFits : Form → Type 0
@@ -119,7 +124,21 @@ module _ {p : Program} {differ : ℕ → ℕ → Bool} {Good : Node → Type 0} 
   fits_call (form.spawning f) n sc = λ e. e
   fits_call f n sc = tt
 
-  pub finish_kept : {k l h : ℕ} (f : Form) (n : ℕ) (fits : Bool) → FormFits f → Calls f n fits → Q k l h 2 (finish f n fits)
+  -- how many of its operands may fall away
+  abbrev pub dropped : Form → ℕ → ℕ
+  dropped form.indexing n = n
+  dropped (form.awaiting b) n = n
+  dropped form.signalling n = n
+  dropped f n = 0
+
+  pub dropped_few : (f : Form) (n : ℕ) → dropped f n ≤ n
+  dropped_few form.indexing n = omega arith
+  dropped_few (form.awaiting b) n = omega arith
+  dropped_few form.signalling n = omega arith
+  dropped_few f n = omega arith
+
+  pub finish_kept : {k l h : ℕ} (f : Form) (n : ℕ) (fits : Bool) → FormFits f → Calls f n fits →
+      Q k l h (dropped f n + 2) (finish f n fits)
   finish_kept (form.computing x b pl) n fits s e = with_two_kept n (computing_kept x pl b s)
   finish_kept (form.comparing x) n fits s e = with_two_kept n (comparing_kept x)
   finish_kept (form.negating pl) n fits s e = with_one_kept n (q.placed pl o.Neg s (λ m. ((λ z at e. e), refl)))
@@ -130,9 +149,8 @@ module _ {p : Program} {differ : ℕ → ℕ → Bool} {Good : Node → Type 0} 
   finish_kept (form.making_array pl) n fits s e = more (omega arith) (q.placed pl (o.Array n) s (λ m. ((λ z at e. e), refl)))
   finish_kept (form.making_map pl) n fits s e = more (omega arith) (q.placed pl (o.Map n) s (λ m. ((λ z at e. e), refl)))
   finish_kept (form.joining xs pl) n fits s e = more (omega arith) (q.placed pl (o.Join n) s (λ m. ((λ z at e. e), refl)))
-  finish_kept (form.picking None) n fits s e = more (omega arith) q.stuck
-  finish_kept (form.picking (Some k)) n fits s e = more (omega arith) (q.op (o.Item k) ((λ z at. refl), refl))
-  finish_kept form.indexing n fits s e = with_one_kept n (q.op o.At ((λ z at. refl), refl))
+  finish_kept (form.picking i) n fits s e = more (omega arith) (q.op (o.Item (place_in i)) ((λ z at. refl), refl))
+  finish_kept form.indexing n fits s e = indexing_kept n
   finish_kept (form.calling f) n fits s e = when_else_kept fits (λ is. q.call f n (e is))
   finish_kept (form.calling_own m) n fits s e = when_else_kept fits (λ is. q.op (o.Method m n) ((λ z at. refl), refl))
   finish_kept (form.calling_method m) n fits s e = more (omega arith) (q.op (o.Method m n) ((λ z at. refl), refl))
@@ -140,7 +158,7 @@ module _ {p : Program} {differ : ℕ → ℕ → Bool} {Good : Node → Type 0} 
   finish_kept (form.flooring pl) n fits s e = with_two_kept n (q.placed pl o.Floor s (λ m. ((λ z at e. e), refl)))
   finish_kept (form.ceiling pl) n fits s e = with_two_kept n (q.placed pl o.Ceil s (λ m. ((λ z at e. e), refl)))
   finish_kept form.taking_modulo n fits s e = with_two_kept n (q.op o.Mod ((λ z at. refl), refl))
-  finish_kept (form.awaiting b) n fits s e = with_none_kept n (awaiting_kept b)
+  finish_kept (form.awaiting b) n fits s e = more (omega arith) (dropping_kept n (awaiting_kept b))
   finish_kept form.signalling n fits s e = signalling_kept n
   finish_kept (form.spawning f) n fits s e = when_else_kept fits (λ is. q.spawn f n (e is))
   finish_kept (form.spawning_own m) n fits s e = when_else_kept fits (λ is. q.op (o.SpawnMethod m n) ((λ z at. refl), refl))

@@ -1,5 +1,5 @@
 -- The operations of a form that is applied to what its operands left on the stack.
-use Rattle.std.specs.Prelude.{ℕ, zero, suc, Option, Some, None, Bool, true, false}
+use Rattle.std.specs.Prelude.{ℕ, zero, suc, Bool, true, false}
 use Rattle.verse_base.specs.declared.places.Place.{Place}
 use Rattle.verse_tree.specs.declared.exprs.Comparison.{Comparison}
 use Rattle.verse_tree.specs.declared.exprs.Comparison.TheVariants as c
@@ -9,6 +9,7 @@ use Rattle.verse_code.specs.declared.operations.Op.{Op}
 use Rattle.verse_code.specs.declared.operations.Op.TheVariants as o
 use Rattle.verse_value.specs.declared.modes.Mode.{Mode}
 use Rattle.verse_value.specs.declared.modes.Mode.TheVariants as mode
+use Rattle.verse_meaning.specs.Forms.{place_in}
 use Rattle.verse_meaning.specs.Residuals as form
 use Rattle.verse_meaning.specs.Residuals.{Form, Base, in_variable, in_self, in_object, nowhere}
 use Rattle.lower_code.specs.declared.arounds.Around.{Around}
@@ -56,9 +57,10 @@ abbrev pub storing : Op → (keeps : Bool) → (l : ℕ) → Maker
 storing op true l = kept l then one op then one o.Drop then one (o.Get l)
 storing op false l = one op
 
-abbrev pub with_none : ℕ → Maker → Maker
-with_none zero f = f
-with_none (suc n) f = stuck
+-- the operands on top fall away, so many
+abbrev pub dropping : ℕ → Maker → Maker
+dropping zero f = f
+dropping (suc n) f = one o.Drop then dropping n f
 
 -- with one operand, or two; otherwise the form is none
 abbrev pub with_one : ℕ → Maker → Maker
@@ -72,11 +74,15 @@ with_two (suc zero) f = stuck
 with_two (suc (suc zero)) f = f
 with_two (suc (suc (suc n))) f = stuck
 
--- a signal beside its event: without an argument the value is unit
+-- an index above what is indexed: of several the first one counts, and without one the value stays
+abbrev pub indexing : ℕ → Maker
+indexing zero = nothing
+indexing (suc n) = dropping n (one o.At)
+
+-- a signal above its event: of several arguments the first one counts, and without one it is unit
 abbrev pub signalling : ℕ → Maker
 signalling zero = one o.Unit then one o.Signal
-signalling (suc zero) = one o.Signal
-signalling (suc (suc n)) = stuck
+signalling (suc n) = dropping n (one o.Signal)
 
 -- n operands are on the stack beside the object of a method, an event, a task or what is indexed;
 -- `fits` is whether a called function takes n arguments, or there is a `Self`
@@ -91,9 +97,8 @@ finish (form.making_tuple pl) n fits = placed pl (o.Tuple n)
 finish (form.making_array pl) n fits = placed pl (o.Array n)
 finish (form.making_map pl) n fits = placed pl (o.Map n)
 finish (form.joining xs pl) n fits = placed pl (o.Join n)
-finish (form.picking None) n fits = stuck
-finish (form.picking (Some k)) n fits = one (o.Item k)
-finish form.indexing n fits = with_one n (one o.At)
+finish (form.picking i) n fits = one (o.Item (place_in i))
+finish form.indexing n fits = indexing n
 finish (form.calling f) n fits = when_else fits (one (o.Call f))
 finish (form.calling_own m) n fits = when_else fits (one (o.Method m n))
 finish (form.calling_method m) n fits = one (o.Method m n)
@@ -101,7 +106,7 @@ finish (form.printing pl) n fits = with_one n (placed pl o.Print)
 finish (form.flooring pl) n fits = with_two n (placed pl o.Floor)
 finish (form.ceiling pl) n fits = with_two n (placed pl o.Ceil)
 finish form.taking_modulo n fits = with_two n (one o.Mod)
-finish (form.awaiting t) n fits = with_none n (one (awaiting t))
+finish (form.awaiting t) n fits = dropping n (one (awaiting t))
 finish form.signalling n fits = signalling n
 finish (form.spawning f) n fits = when_else fits (one (o.Spawn f))
 finish (form.spawning_own m) n fits = when_else fits (one (o.SpawnMethod m n))

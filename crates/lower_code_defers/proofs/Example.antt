@@ -62,7 +62,7 @@ dead_defer = record {
 pub one_defer : defers_in (items_order dead_defer.items) ≡ 1
 one_defer = refl
 
-pub code_is : (differ : ℕ → ℕ → Bool) → (code_of dead_defer differ 1).ops ≡ o.Unit ∷ o.Return ∷ o.Arm 3 ∷ o.Return ∷ []
+pub code_is : (differ : ℕ → ℕ → Bool) → (code_of dead_defer differ 1).ops ≡ o.Unit ∷ o.Return ∷ o.Item 0 ∷ o.Return ∷ []
 unfolding by_callee stated
 code_is differ = refl
 

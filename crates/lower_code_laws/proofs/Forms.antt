@@ -110,6 +110,10 @@ calls_have_code = record {
   signal = refl;
   item = refl;
   element = refl;
+  await_more = refl;
+  signal_more = refl;
+  first_item = refl;
+  element_more = refl;
 }
 
 pub values_have_code : ValuesHaveCode

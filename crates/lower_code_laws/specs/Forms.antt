@@ -394,6 +394,20 @@ pub record CallsHaveCode : Type 0 where
   pub item : code (t.Shape.call constant (one_of (int 0))) ≡ o.Get 1 ∷ o.Item 0 ∷ []
   -- X[1]
   pub element : code (t.Shape.index constant (one_of (int 1))) ≡ o.Get 1 ∷ o.Int (pos 1) ∷ o.At ∷ []
+  -- with another number of arguments, which is accepted only where X never has a value
+  -- X.Await(1)
+  pub await_more :
+      code (t.Shape.call (part (t.Shape.member constant (codes "Await"))) (one_of (int 1))) ≡
+      o.Get 1 ∷ o.Int (pos 1) ∷ o.Drop ∷ o.AwaitTask ∷ []
+  -- X.Signal(1, 2)
+  pub signal_more :
+      code (t.Shape.call (part (t.Shape.member constant (codes "Signal"))) (two (int 1) (int 2))) ≡
+      o.Get 1 ∷ o.Int (pos 1) ∷ o.Int (pos 2) ∷ o.Drop ∷ o.Signal ∷ []
+  -- X()
+  pub first_item : code (t.Shape.call constant no_trees) ≡ o.Get 1 ∷ o.Item 0 ∷ []
+  -- X[1, 2]
+  pub element_more : code (t.Shape.index constant (two (int 1) (int 2))) ≡
+      o.Get 1 ∷ o.Int (pos 1) ∷ o.Int (pos 2) ∷ o.Drop ∷ o.At ∷ []
 
 -- Literals, names, values
 pub record ValuesHaveCode : Type 0 where

@@ -1,17 +1,17 @@
 -- What plain stretches add, by cases on what they depend on.
-use Rattle.std.proofs.Common.{◌≡◌, ℕ, ◌<◌, ◌≤◌, [], ◌∷◌, length, Bool, true, false, cond, refl, ap, ◌∙◌, arith}
+use Rattle.std.proofs.Common.{◌≡◌, ℕ, zero, suc, ◌-◌, ◌<◌, ◌≤◌, [], ◌∷◌, length, Bool, true, false, cond, refl, ap, ◌∙◌, arith}
 use Rattle.std.specs.Prelude.{nat_lt}
 use Rattle.std.proofs.lemmas.Bool.{lt-ltb, le-ltb}
 use Rattle.verse_base.specs.declared.places.Place.{Place}
 use Rattle.verse_tree.specs.Tree.{Bytes}
 use Rattle.verse_code.specs.declared.operations.Op.{Op}
 use Rattle.verse_code.specs.declared.operations.Op.TheVariants as o
-use Rattle.lower_code.specs.Pieces.{Maker, one, placed, kept, when, when_else, stuck, ◌then◌}
+use Rattle.lower_code.specs.Pieces.{Maker, nothing, one, placed, kept, when, when_else, stuck, ◌then◌}
 use Rattle.lower_code.specs.declared.arounds.Around.{Around}
 use Rattle.lower_code.specs.Arounds.{leaving_to}
-use Rattle.lower_code.specs.Applied.{storing}
+use Rattle.lower_code.specs.Applied.{storing, dropping, indexing, signalling}
 use Rattle.lower_code.specs.Lowering.{text_if}
-use Rattle.lower_expr.specs.Building.{Built, pushed, with_place, made}
+use Rattle.lower_expr.specs.Building.{Built, pushed, with_place, dropped, made}
 use Rattle.lower_expr.proofs.Laws.{made_then, made_one, made_nothing, made_placed}
 
 pub made_when : (c : Bool) (f : Maker) (b : Built) → made (when c f) b ≡ cond c (made f b) b
@@ -43,3 +43,20 @@ vary_law p l b =
 pub storing_law : (op : Op) (l : ℕ) (b : Built) → made (storing op true l) b ≡ pushed (o.Get l) (pushed o.Drop (pushed op (made (kept l) b)))
 storing_law op l b =
     made_then (kept l) (one op then one o.Drop then one (o.Get l)) b ∙ search (made_then, made_one)
+
+pub dropping_law : (n : ℕ) (op : Op) (b : Built) → made (dropping n (one op)) b ≡ pushed op (dropped n b)
+dropping_law zero op b = made_one op b
+dropping_law (suc n) op b = made_then (one o.Drop) (dropping n (one op)) b ∙
+    ap (λ c. made (dropping n (one op)) c) (made_one o.Drop b) ∙ dropping_law n op (pushed o.Drop b)
+
+pub indexing_none : (n : ℕ) → n ≡ 0 → indexing n ≡ nothing
+indexing_none n e = ap indexing e
+
+pub indexing_some : (n : ℕ) → 0 < n → indexing n ≡ dropping (n - 1) (one o.At)
+indexing_some n lt = let e : n ≡ suc (n - 1) = omega arith in ap indexing e
+
+pub signalling_none : (n : ℕ) → n ≡ 0 → signalling n ≡ (one o.Unit then one o.Signal)
+signalling_none n e = ap signalling e
+
+pub signalling_some : (n : ℕ) → 0 < n → signalling n ≡ dropping (n - 1) (one o.Signal)
+signalling_some n lt = let e : n ≡ suc (n - 1) = omega arith in ap signalling e

@@ -4,7 +4,7 @@ use Rattle.verse_code.specs.declared.operations.Op.{Op}
 use Rattle.verse_code.specs.declared.operations.Op.TheVariants as o
 use Rattle.lower_code.specs.Pieces.{Maker, nothing, one, placed, numbering, put_away, kept, stuck, when_else, ◌then◌}
 use Rattle.lower_code.specs.Arounds.{returning, breaking}
-use Rattle.lower_code.specs.Applied.{storing}
+use Rattle.lower_code.specs.Applied.{storing, dropping}
 use Rattle.lower_expr.specs.declared.endings.Ending.{Ending}
 use Rattle.lower_expr.specs.declared.endings.Ending.TheVariants as ending
 use Rattle.lower_expr.specs.declared.endings.Storing.{Storing}
@@ -41,6 +41,7 @@ ending_code ending.Stuck = stuck
 ending_code ending.Nothing = nothing
 ending_code (ending.One op) = one op
 ending_code (ending.Two op next) = one op then one next
+ending_code (ending.Dropping n op) = dropping n (one op)
 ending_code (ending.Placed pl op) = placed pl (numbered op)
 ending_code (ending.Put l) = put_away l
 ending_code (ending.Keep l) = kept l

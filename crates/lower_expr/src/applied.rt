@@ -1,29 +1,20 @@
 //! The operations of an action on its operands.
 
-ghost use Rattle.std.specs.Prelude.{◌≡◌, ℕ, Bool, IfOk};
-ghost use Rattle.lower_code.specs.Pieces.{when_else};
+ghost use Rattle.std.specs.Prelude.{◌≡◌, IfOk};
+ghost use Rattle.lower_code.specs.Pieces.{one, when_else};
 ghost use Rattle.lower_code.specs.Applied as p;
-ghost use Rattle.verse_meaning.specs.Residuals as form;
+ghost use Rattle.verse_code.specs.declared.operations.Op.TheVariants as o;
+ghost use Rattle.verse_meaning.specs.Forms.{place_in};
 ghost use Rattle.lower_lookup.specs.Actions.{form_of};
 ghost use Rattle.lower_expr.specs.Endings.{ending_code};
 ghost use Rattle.lower_expr.specs.Locals.{scope_of};
 
-use crate::endings::{Ending, push_fixed, signalling};
+use crate::endings::{Ending, indexing, push_fixed, signalling};
 use crate::scopes::Scopes;
 use lower_code::arounds::Around;
 use lower_lookup::actions::Action;
 use verse_base::refusals::Memory;
 use verse_code::operations::Op;
-
-/// What stands behind no operands.
-fn with_none(count: u32, ending: Ending) -> Ending
-    ensures { ending_code result ≡ p.with_none count (ending_code ending) }
-{
-    match count {
-        0 => ending,
-        _ => Ending::Stuck,
-    }
-}
 
 /// What stands behind one operand.
 fn with_one(count: u32, ending: Ending) -> Ending
@@ -64,11 +55,10 @@ fn awaiting(of_event: bool) -> Op
 }
 
 fn picking(number: Option<u64>) -> Result<Ending, Memory>
-    ensures { IfOk result (λ ending. (count : ℕ) (fits : Bool) →
-        ending_code ending ≡ p.finish (form.picking number) count fits) }
+    ensures { IfOk result (λ ending. ending_code ending ≡ one (o.Item (place_in number))) }
 {
     match number {
-        None => Ok(Ending::Stuck),
+        None => Ok(Ending::One(Op::Item(0))),
         Some(number) => match u32::try_from(number) {
             Ok(number) => Ok(Ending::One(Op::Item(number))),
             Err(_) => Err(Memory),
@@ -86,7 +76,7 @@ pub fn applied(action: Action, count: u32, fits: bool) -> Result<Ending, Memory>
         Action::Length => Ok(with_one(count, Ending::One(Op::Length))),
         Action::NoMember => Ok(Ending::Nothing),
         Action::Pick(number) => picking(number),
-        Action::Index => Ok(with_one(count, Ending::One(Op::At))),
+        Action::Index => Ok(indexing(count)),
         Action::Call(function) => Ok(when_fits(fits, Ending::One(Op::Call(function)))),
         Action::CallOwn(method) => Ok(when_fits(fits, Ending::One(Op::Method(method, count)))),
         Action::CallMethod(method) => Ok(Ending::One(Op::Method(method, count))),
@@ -94,7 +84,7 @@ pub fn applied(action: Action, count: u32, fits: bool) -> Result<Ending, Memory>
         Action::Floor(place) => Ok(with_two(count, Ending::Placed(place, Op::Floor(0)))),
         Action::Ceil(place) => Ok(with_two(count, Ending::Placed(place, Op::Ceil(0)))),
         Action::Modulo => Ok(with_two(count, Ending::One(Op::Mod))),
-        Action::Await(of_event) => Ok(with_none(count, Ending::One(awaiting(of_event)))),
+        Action::Await(of_event) => Ok(Ending::Dropping(count, awaiting(of_event))),
         Action::Signal => Ok(signalling(count)),
         Action::Spawn(function) => Ok(when_fits(fits, Ending::One(Op::Spawn(function)))),
         Action::SpawnOwn(method) => {

@@ -221,8 +221,9 @@ impl Builder {
         deepest
     }
 
+    /// So many values on top fall away.
     #[tactic(auto, using(crate::proofs::Exits::dropped_next))]
-    fn drop_values(&mut self, count: u32) -> Result<(), Memory>
+    pub fn drop_values(&mut self, count: u32) -> Result<(), Memory>
         ensures { OnOk result (built self.new ≡ dropped count (built self.old)) }
     {
         'drops: for _drop in 0..count {

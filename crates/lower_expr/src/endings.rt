@@ -43,6 +43,8 @@ pub enum Ending {
     Nothing,
     One(Op),
     Two(Op, Op),
+    /// So many values on top fall away, and then the operation.
+    Dropping(u32, Op),
     /// An operation with a place, whose number is not known yet.
     Placed(Place, Op),
     /// The value goes into this local.
@@ -250,6 +252,16 @@ impl Builder {
         Ok(())
     }
 
+    #[tactic(auto, using(crate::proofs::Plain::dropping_law))]
+    fn dropping(&mut self, count: u32, op: Op) -> Result<(), Memory>
+        ensures { OnOk result (built self.new ≡ made (p.dropping count (one op))
+            (built self.old)) }
+    {
+        self.drop_values(count)?;
+        self.op(op)?;
+        Ok(())
+    }
+
     /// What stands behind the parts of a form.
     pub fn ending(&mut self, ending: Ending) -> Result<(), Memory>
         ensures { OnOk result (built self.new ≡ made (ending_code ending) (built self.old)) }
@@ -259,6 +271,7 @@ impl Builder {
             Ending::Nothing => Ok(()),
             Ending::One(op) => self.one(op),
             Ending::Two(op, next) => self.two(op, next),
+            Ending::Dropping(count, op) => self.dropping(count, op),
             Ending::Placed(place, op) => self.placed(place, op),
             Ending::Put(local) => self.put_away(local),
             Ending::Keep(local) => self.keep(local),
@@ -360,13 +373,26 @@ pub fn mode_number(assign: Assign) -> u32
     }
 }
 
+/// An index behind what is indexed, with so many of them.
+#[tactic(auto, using(crate::proofs::Plain::indexing_none, crate::proofs::Plain::indexing_some))]
+pub fn indexing(count: u32) -> Ending
+    ensures { ending_code result ≡ p.indexing count }
+{
+    if count == 0 {
+        Ending::Nothing
+    } else {
+        Ending::Dropping(count - 1, Op::At)
+    }
+}
+
 /// A signal behind its event, with so many arguments.
+#[tactic(auto, using(crate::proofs::Plain::signalling_none, crate::proofs::Plain::signalling_some))]
 pub fn signalling(count: u32) -> Ending
     ensures { ending_code result ≡ p.signalling count }
 {
-    match count {
-        0 => Ending::Two(Op::Unit, Op::Signal),
-        1 => Ending::One(Op::Signal),
-        _ => Ending::Stuck,
+    if count == 0 {
+        Ending::Two(Op::Unit, Op::Signal)
+    } else {
+        Ending::Dropping(count - 1, Op::Signal)
     }
 }

@@ -1,5 +1,5 @@
--- A program that is accepted, and whose flow comes to an operation that is stuck by construction: `false?` gives no
--- value, so the checker asks for nothing where it is called, but its code has an operation behind it.
+-- A program that is accepted, which takes something out of nothing: `false?` gives no value, so the checker asks for
+-- nothing where it is called, and the flow of its code goes on behind it.
 use Rattle.std.proofs.Common.{◌≡◌, ℕ, suc, Bool, [], ◌∷◌, None, false, refl}
 use Rattle.std.specs.Prelude.{codes}
 use Rattle.verse_base.specs.declared.places.Place.{Place}
@@ -11,7 +11,6 @@ use Rattle.verse_code.specs.declared.operations.Op.TheVariants as o
 use Rattle.verse_meaning.specs.Programs.{Program}
 use Rattle.lower_code.specs.Programs.{code_of}
 use Rattle.lower_code.specs.Lowering.{by_callee, stated}
-use Rattle.verse_code_flow.specs.Flow.{Reached, flows_on, reached_entry, reached_by, FlowGoes}
 
 abbrev at : ℕ → ℕ → Place
 at l c = record { file = 0; line = suc l; col = suc c }
@@ -48,18 +47,8 @@ taken_from_nothing = record {
   };
 }
 
+-- the Item stands where the call would be, which no run reaches
 pub code_is : (differ : ℕ → ℕ → Bool) → (code_of taken_from_nothing differ 1).ops ≡ o.Try 7 ∷ o.False ∷ o.Query ∷
-    o.Arm 4 ∷ o.Commit ∷ o.Some 0 ∷ o.Jump 8 ∷ o.False ∷ o.Return ∷ []
+    o.Item 0 ∷ o.Commit ∷ o.Some 0 ∷ o.Jump 8 ∷ o.False ∷ o.Return ∷ []
 unfolding by_callee stated
 code_is differ = refl
-
--- behind the Query
-pub stuck_is_reached : (differ : ℕ → ℕ → Bool) → Reached (code_of taken_from_nothing differ 1) 3
-unfolding by_callee stated
-stuck_is_reached differ =
-    reached_by (reached_by (reached_by (reached_entry 0 refl) (flows_on {op = o.Try 7} refl refl))
-    (flows_on {op = o.False} refl refl)) (flows_on {op = o.Query} refl refl)
-
-pub it_does_not_go : (differ : ℕ → ℕ → Bool) → FlowGoes (code_of taken_from_nothing differ 1) → ⊥
-unfolding by_callee stated
-it_does_not_go differ h = h 3 (stuck_is_reached differ) 4 refl

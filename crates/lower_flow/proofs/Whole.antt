@@ -1,279 +1,221 @@
--- The code of a whole program: what its flow reaches is live.
-use Rattle.std.proofs.Common.{◌≡◌, ◌≢◌, ℕ, zero, suc, ◌+◌, ◌-◌, ◌<◌, List, [], ◌∷◌, ◌++◌, map, Bool, true, false}
-use Rattle.std.proofs.Common.{Option, Some, None, refl, sym, ap, ◌∙◌, arith, subst, true≢false, slice_get}
+-- The code of a whole program: its flow comes to no place at which an arm stands.
+use Rattle.std.proofs.Common.{◌≡◌, ℕ, zero, suc, ◌+◌, ◌<◌, ◌≤◌, List, [], ◌∷◌, map, length, Bool, true, false}
+use Rattle.std.proofs.Common.{Option, Some, None, refl, sym, ap, ◌∙◌, arith, subst, ◌⊎◌, inl, inr, true≢false, slice_get}
 use Rattle.std.proofs.lemmas.Option.{none-some}
-use Rattle.verse_tree.specs.Tree.{Tree}
-use Rattle.verse_tree.specs.ItemTree.{FieldTree, FunTree, MemberTree, field, method, ItemTree, using, enumeration}
-use Rattle.verse_tree.specs.ItemTree.{class, function}
-use Rattle.verse_tree.specs.PostOrder.{post_order, params_order, written_order, fun_parts, member_order, members_order}
-use Rattle.verse_tree.specs.PostOrder.{item_order, items_order, node_at, item, member}
+use Rattle.verse_tree.specs.PostOrder.{items_order}
 use Rattle.verse_code.specs.declared.operations.Op.{Op}
 use Rattle.verse_code.specs.declared.operations.Op.TheVariants as o
 use Rattle.verse_code.specs.declared.codes.Func.{Func}
-use Rattle.verse_sorts.specs.Sorts.{Sort}
-use Rattle.verse_meaning.specs.Programs.{Program, fun_at}
-use Rattle.verse_meaning.specs.Forms.{this_name}
-use Rattle.verse_sound_rules.specs.Found.{Found, in_function, in_default}
-use Rattle.verse_sound_rules.specs.Forms.{IsDefault}
-use Rattle.verse_sound_rules.specs.Programs.{params_behind, FineFound}
-use Rattle.lower_code.specs.Pieces.{Spot, Item, sure, leaving, past}
-use Rattle.lower_code.specs.Scopes.{Scope, constant_at}
-use Rattle.lower_code.specs.Arounds.{fresh}
-use Rattle.lower_code.specs.Defaults.{defaults_in}
-use Rattle.lower_code.specs.Programs.{Body, body_of, params_scope, methods_in, bodies_in, default_body, default_bodies}
-use Rattle.lower_code.specs.Programs.{all_bodies, body_piece, bodies_from, funcs_from, item_op, first_spot, whole}
+use Rattle.verse_meaning.specs.Programs.{Program}
+use Rattle.verse_sound_rules.specs.Found.{Found}
+use Rattle.verse_sound_rules.specs.Programs.{FineFound}
+use Rattle.lower_code.specs.Pieces.{Spot, Item, sure, leaving, behind, past}
+use Rattle.lower_code.specs.Programs.{Body, all_bodies, body_piece, bodies_from, funcs_from, item_op, first_spot, whole}
 use Rattle.lower_code.specs.Programs.{code_of}
-use Rattle.lower_bounds.proofs.Lists.{Each, each_first, each_rest, each_joined, each_weaker}
-use Rattle.lower_bounds.proofs.Bodies.{BodyHas, all_have, all_each, some_is}
+use Rattle.lower_bounds.proofs.Bodies.{all_each, some_is}
 use Rattle.lower_simulation_runs.specs.Programs.{NodeStands}
-use Rattle.lower_sound.specs.Programs.{DefaultFound, MembersFound, ItemsFound}
-use Rattle.lower_sound.proofs.Names.{Sees, sees_nothing, sees_own, sees_params}
-use Rattle.lower_sound.proofs.Whole.{defaults_found, in_body, in_field}
+use Rattle.lower_sound.specs.Laws.{IsArm, GroupAt, GroupOf, ArmsStand}
+use Rattle.lower_sound.proofs.Armed.{arms_behind, arms_after, Armed, arms_stand, Free, Tells, OpLeads, Lead}
+use Rattle.lower_sound.proofs.Armed.{Begun, Several}
+use Rattle.lower_sound.proofs.Whole.{begins, whole_orderly}
 use Rattle.verse_code_flow.specs.Flow.{goes_on, leads_to, Flows, flows_on, flows_to, flows_past, flows_in, Reached}
-use Rattle.verse_code_flow.specs.Flow.{reached_entry, reached_by}
-use Rattle.lower_flow.specs.Programs.{NodeGives}
-use Rattle.verse_code_flow.specs.Flow.{FlowGoes}
+use Rattle.verse_code_flow.specs.Flow.{reached_entry, reached_by, FlowGoes}
 use Rattle.lower_flow.specs.Laws.{FineFlowGoes}
-use Rattle.lower_flow.proofs.Marked.{Live, Agree, ArmsLive, OpLive, ItemLive, Closed, Flow, Begun, Several, last}
-use Rattle.lower_flow.proofs.Marked.{later_is, no_more, beside}
-use Rattle.lower_flow.proofs.Names.{told_nothing, told_params}
-use Rattle.lower_flow.proofs.Leaves.{stops}
-use Rattle.lower_flow.proofs.Forms.{Good, flows}
 
--- ---- bodies
+-- ---- where no arm stands
+
+abbrev no_arm : Op → Bool
+no_arm (o.Arm l) = false
+no_arm op = true
+
+abbrev free_at : List Op → Free
+free_at [] i = true
+free_at (op ∷ ops) zero = no_arm op
+free_at (op ∷ ops) (suc i) = free_at ops i
+
+arm_there : (ops : List Op) (i l : ℕ) → slice_get ops i ≡ Some (o.Arm l) → free_at ops i ≡ false
+arm_there [] i l e = elim (none-some _ e) [ ]
+arm_there (op ∷ ops) zero l e = ap no_arm (some_is e)
+arm_there (op ∷ ops) (suc i) l e = arm_there ops i l e
+
+an_arm : (op : Op) → no_arm op ≡ false → (l : ℕ) × (op ≡ o.Arm l)
+an_arm (o.Arm l) e = (l, refl)
+an_arm op e = absurd (true≢false e)
+
+arm_is : (ops : List Op) (i : ℕ) → free_at ops i ≡ false → IsArm ops i
+arm_is [] i e = absurd (true≢false e)
+arm_is (op ∷ ops) zero e = let a = an_arm op e in (a.0, ap Some a.1)
+arm_is (op ∷ ops) (suc i) e = arm_is ops i e
+
+free_there : (ops : List Op) (i : ℕ) → (IsArm ops i → ⊥) → free_at ops i ≡ true
+free_there ops i not_one = by (free_at ops i) refl
+  where
+    by : (b : Bool) → free_at ops i ≡ b → b ≡ true
+    by true e = refl
+    by false e = absurd (not_one (arm_is ops i e))
+
+-- ---- what is behind an operation, and behind the arms of a group
+
+three : (j i : ℕ) → (j < i) ⊎ ((j ≡ i) ⊎ (i < j))
+three zero zero = inr (inl refl)
+three zero (suc i) = inl (omega arith)
+three (suc j) zero = inr (inr (omega arith))
+three (suc j) (suc i) = up (three j i)
+  where
+    up : (j < i) ⊎ ((j ≡ i) ⊎ (i < j)) → (suc j < suc i) ⊎ ((suc j ≡ suc i) ⊎ (suc i < suc j))
+    up (inl lt) = inl (omega (arith, lt))
+    up (inr (inl e)) = inr (inl (ap suc e))
+    up (inr (inr lt)) = inr (inr (omega (arith, lt)))
+
+abbrev arms_in : Op → ℕ
+arms_in (o.Group kind m pl) = m
+arms_in op = 0
+
+module _ (ops : List Op) (stand : ArmsStand ops) where
+  no_group : (i m : ℕ) → IsArm ops i → GroupAt ops i m → ⊥
+  no_group i m a g = true≢false (ap no_arm (some_is (sym g.there ∙ a.1)))
+
+  -- an arm of a group that begins further on, here, or before
+  not_on : (i : ℕ) (op : Op) → slice_get ops i ≡ Some op → goes_on op ≡ true → IsArm ops (suc i) → ⊥
+  not_on i op e on a = by (stand.groups (suc i) a)
+    where
+      stops : (x : Op) → slice_get ops i ≡ Some x → goes_on x ≡ false → ⊥
+      stops x s h = true≢false (sym on ∙ (ap goes_on (some_is (sym e ∙ s)) ∙ h))
+
+      at : (g : GroupOf ops (suc i)) → (g.begin < i) ⊎ ((g.begin ≡ i) ⊎ (i < g.begin)) → ⊥
+      at g (inl lt) =
+          let arm = stand.arms g.begin g.arms i g.group (omega (arith, lt), omega (arith, g.behind.1)) in
+          stops (o.Arm arm.0) arm.1 refl
+      at g (inr (inl e)) =
+          let here : GroupAt ops i g.arms = subst (λ j. GroupAt ops j g.arms) e g.group in
+          stops (o.Group here.kind g.arms here.place) here.there refl
+      at g (inr (inr lt)) = absurd (omega (arith, lt, g.behind.0))
+
+      by : GroupOf ops (suc i) → ⊥
+      by g = at g (three g.begin i)
+
+  not_past : (i kind m pl : ℕ) → slice_get ops i ≡ Some (o.Group kind m pl) → IsArm ops (suc i + m) → ⊥
+  not_past i kind m pl e a = by (stand.groups (suc i + m) a)
+    where
+      own : GroupAt ops i m
+      own = record { kind = kind; place = pl; there = e }
+
+      at : (g : GroupOf ops (suc i + m)) → (g.begin < i) ⊎ ((g.begin ≡ i) ⊎ (i < g.begin)) → ⊥
+      at g (inl lt) =
+          no_group i m (stand.arms g.begin g.arms i g.group (omega (arith, lt), omega (arith, g.behind.1))) own
+      at g (inr (inl e2)) =
+          let here : GroupAt ops i g.arms = subst (λ j. GroupAt ops j g.arms) e2 g.group in
+          let same : g.arms ≡ m = ap arms_in (some_is (sym here.there ∙ e)) in
+          absurd (omega (arith, same, e2, g.behind.1))
+      at g (inr (inr lt)) =
+          no_group g.begin g.arms (stand.arms i m g.begin own (omega (arith, lt), omega (arith, g.behind.0))) g.group
+
+      by : GroupOf ops (suc i + m) → ⊥
+      by g = at g (three g.begin i)
+
+-- ---- labels
+
+lead_at : (free : Free) (out : ℕ → Bool) (is : List Item) (i : ℕ) (op : Op) → Lead free out is →
+    slice_get (map item_op is) i ≡ Some op → OpLeads free op
+lead_at free out [] i op h e = elim (none-some op e) [ ]
+lead_at free out (sure x ∷ is) zero op h e = subst (λ y. OpLeads free y) (some_is e) h.0
+lead_at free out (leaving n ∷ is) zero op h e = subst (λ y. OpLeads free y) (some_is e) tt
+lead_at free out (x ∷ is) (suc i) op h e = lead_at free out is i op h.1 e
+
+to_free : (free : Free) (op : Op) (l : ℕ) → leads_to op ≡ Some l → OpLeads free op → free l ≡ true
+to_free free (o.Jump m) l e h = subst (λ i. free i ≡ true) (some_is e) h
+to_free free (o.Again m) l e h = subst (λ i. free i ≡ true) (some_is e) h
+to_free free (o.Same m) l e h = subst (λ i. free i ≡ true) (some_is e) h
+to_free free (o.Try m) l e h = subst (λ i. free i ≡ true) (some_is e) h
+to_free free (o.Branch m) l e h = subst (λ i. free i ≡ true) (some_is e) h
+to_free free (o.Defer m) l e h = subst (λ i. free i ≡ true) (some_is e) h
+to_free free (o.Take d v m) l e h = subst (λ i. free i ≡ true) (some_is e) h
+to_free free op l e h = elim (none-some l e) [ ]
+
+-- ---- the items of a code tell where no arm stands
+
+no_arm_first : (op : Op) (is : List Item) → Armed (arms_behind 0 op) is → no_arm op ≡ true
+no_arm_first (o.Arm l) is h = elim h [ ]
+no_arm_first op is h = refl
+
+further : (free : Free) (k : Option ℕ) (is : List Item) (a : ℕ) → Tells (λ i. free (suc i)) k is a →
+    Tells free k is (suc a)
+further free None is a h = h
+further free (Some n) [] a h = tt
+further free (Some n) (i ∷ is) a h = (h.0, further free (arms_after n i) is (suc a) h.1)
+
+tells : (k : Option ℕ) (is : List Item) → Armed k is → Tells (free_at (map item_op is)) k is 0
+tells None is h = elim h [ ]
+tells (Some n) [] h = tt
+tells (Some zero) (sure op ∷ is) h = (
+  no_arm_first op is h,
+  further (free_at (op ∷ map item_op is)) (arms_behind 0 op) is 0 (tells (arms_behind 0 op) is h),
+)
+tells (Some (suc n)) (sure (o.Arm l) ∷ is) h =
+    (refl, further (free_at (o.Arm l ∷ map item_op is)) (Some n) is 0 (tells (Some n) is h))
+tells (Some (suc n)) (sure op ∷ is) h = elim h [ ]
+tells (Some zero) (leaving d ∷ is) h =
+    (refl, further (free_at (o.Unit ∷ map item_op is)) (Some 0) is 0 (tells (Some 0) is h))
+tells (Some (suc n)) (leaving d ∷ is) h = elim h [ ]
+
+behind_is : (is : List Item) (n : ℕ) → behind is n ≡ n + length is
+behind_is [] n = omega arith
+behind_is (i ∷ is) n = omega (arith, behind_is is (suc n))
+
+free_behind : (is : List Item) (n : ℕ) → length is ≤ n → free_at (map item_op is) n ≡ true
+free_behind [] n h = refl
+free_behind (i ∷ is) zero h = absurd (omega (arith, h))
+free_behind (i ∷ is) (suc n) h = free_behind is n (omega (arith, h))
+
+free_end : (is : List Item) → free_at (map item_op is) (behind is 0) ≡ true
+free_end is = free_behind is (behind is 0) (omega (arith, behind_is is 0))
+
+-- ---- what is reached
 
 module _ (p : Program) (differ : ℕ → ℕ → Bool) (f : Found) (known : FineFound p f) where
-  abbrev Has : Body → Type 0
-  Has b = BodyHas (Good p f) b
+  entry_free : (free : Free) (bs : List Body) (s : Spot) (k : ℕ) (x : Func) →
+      slice_get (funcs_from p differ bs s) k ≡ Some x → Begun free (begins p differ f known bs s) →
+      free x.entry ≡ true
+  entry_free free [] s k x e h = elim (none-some x e) [ ]
+  entry_free free (b ∷ bs) s zero x e h = subst (λ (g : Func). free g.entry ≡ true) (some_is e) h.0
+  entry_free free (b ∷ bs) s (suc k) x e h = entry_free free bs (past s (body_piece p differ b s)) k x e h.1
 
-  abbrev InFlow : Body → Type 0
-  InFlow b = Flow false (body_piece p differ b) false
+  module _ (files : ℕ) (several : Several (bodies_from p differ (all_bodies p.items))
+      (begins p differ f known (all_bodies p.items))) where
+    abbrev is : List Item
+    is = (whole p differ).items
 
-  -- a function or a method, whose scope begins with what it has of `Self`
-  fun_flows : (x : FunTree) (g : ℕ) → fun_at p g ≡ Some x → (sc : Scope) → Sees f (f.signature g).this [] sc →
-      Each (Good p f) (fun_parts x) → InFlow (body_of sc x)
-  fun_flows x g e sc see h =
-      let own = known.functions g x e in
-      let front = each_first (Good p f) (params_order x.params ++ written_order x.written) (post_order x.body) h in
-      let params = each_first (Good p f) (params_order x.params) (written_order x.written) front in
-      stops (flows p differ f known x.body
-      (each_rest (Good p f) (params_order x.params ++ written_order x.written) (post_order x.body) h)
-      (in_function (f.signature g) true) (params_behind x.params []) (params_scope x.params sc) fresh
-      (own.body true (λ l. refl))
-      (sees_params f p x.params (f.signature g).params own.params see)
-      (told_params f p x.params [] (each_weaker (λ v k. k.1) (params_order x.params) params) (told_nothing f))
-      (in_body (f.signature g)))
-      (last o.Return (λ live a is. tt))
+    abbrev free : Free
+    free = free_at (map item_op is)
 
-  methods_flow : (ms : List MemberTree) → MembersFound p f ms → Each (Good p f) (members_order ms) →
-      Each InFlow (methods_in ms)
-  methods_flow [] m h = tt
-  methods_flow (field d ∷ ms) m h = methods_flow ms m.1 (each_rest (Good p f) (member_order (field d))
-      (members_order ms) h)
-  methods_flow (method x ∷ ms) m h = (
-    fun_flows x m.0.number m.0.found (constant_at this_name ∷ []) (sees_own f (f.signature m.0.number).this [])
-        (each_first (Good p f) (fun_parts x) (node_at x.number x.place (member (method x)))
-        (each_first (Good p f) (member_order (method x)) (members_order ms) h)),
-    methods_flow ms m.1 (each_rest (Good p f) (member_order (method x)) (members_order ms) h),
-  )
+    armed : Armed (Some 0) is
+    armed = several.whole.arms first_spot
 
-  bodies_flow : (is : List ItemTree) → ItemsFound p f is → Each (Good p f) (items_order is) →
-      Each InFlow (bodies_in is)
-  bodies_flow [] m h = tt
-  bodies_flow (using u ∷ is) m h = bodies_flow is m (each_rest (Good p f) (item_order (using u)) (items_order is) h)
-  bodies_flow (enumeration e ∷ is) m h = bodies_flow is m
-      (each_rest (Good p f) (item_order (enumeration e)) (items_order is) h)
-  bodies_flow (class c ∷ is) m h = each_joined InFlow (methods_in c.members) (bodies_in is)
-      (methods_flow c.members m.0 (each_first (Good p f) (members_order c.members)
-      (node_at c.number c.place (item (class c)))
-      (each_first (Good p f) (item_order (class c)) (items_order is) h)))
-      (bodies_flow is m.1 (each_rest (Good p f) (item_order (class c)) (items_order is) h))
-  bodies_flow (function x ∷ is) m h = (
-    fun_flows x m.0.number m.0.found [] (subst (λ t. Sees f t [] []) (sym m.0.this) (sees_nothing f []))
-        (each_first (Good p f) (fun_parts x) (node_at x.number x.place (item (function x)))
-        (each_first (Good p f) (item_order (function x)) (items_order is) h)),
-    bodies_flow is m.1 (each_rest (Good p f) (item_order (function x)) (items_order is) h),
-  )
+    stand : ArmsStand (map item_op is)
+    stand = arms_stand is armed
 
-  default_flows : (e : Option Tree) → ((b : Tree) → e ≡ Some b → (q : Sort) × IsDefault p f b q) →
-      Each Has (default_body e) →
-      Each InFlow (default_body e)
-  default_flows None m h = tt
-  default_flows (Some b) m h =
-      let d = m b refl in (
-        stops (flows p differ f known b h.0 (in_default true) [] [] fresh ((known.defaults b d.0 d.1).value true)
-            (sees_nothing f []) (told_nothing f) in_field) (last o.Return (λ live a is. tt)),
-        tt,
-      )
+    begun : Begun free (begins p differ f known (all_bodies p.items) first_spot)
+    begun = several.entered first_spot free (tells (Some 0) is armed) (free_end is)
 
-  defaults_flow : (ds : List FieldTree) → Each (DefaultFound p f) ds → Each Has (default_bodies ds) →
-      Each InFlow (default_bodies ds)
-  defaults_flow [] m h = tt
-  defaults_flow (d ∷ ds) m h = each_joined InFlow (default_body d.default) (default_bodies ds)
-      (default_flows d.default m.0 (each_first Has (default_body d.default) (default_bodies ds) h))
-      (defaults_flow ds m.1 (each_rest Has (default_body d.default) (default_bodies ds) h))
+    lead : Lead free (λ n. true) is
+    lead = several.whole.leads first_spot free (λ n. true) (tells (Some 0) is armed) (free_end is) (λ n le. refl)
 
-  all_flow : ItemsFound p f p.items → Each (Good p f) (items_order p.items) → Each InFlow (all_bodies p.items)
-  all_flow m h =
-      let bs = bodies_in p.items in
-      let ds = default_bodies (defaults_in p.items) in
-      each_joined InFlow bs ds (bodies_flow p.items m h)
-      (defaults_flow (defaults_in p.items) (defaults_found p f p.items m)
-      (each_rest Has bs ds (all_have (Good p f) p.items h)))
+    flow_free : (i j : ℕ) → Flows (map item_op is) i j → free j ≡ true
+    flow_free i j (flows_on {op = op} s e) =
+        free_there (map item_op is) j (not_on (map item_op is) stand i op s e)
+    flow_free i j (flows_to {op = op} s e) = to_free free op j e (lead_at free (λ n. true) is i op lead s)
+    flow_free i j (flows_past {kind = kind} {m = m} {place = place} s) =
+        free_there (map item_op is) j (not_past (map item_op is) stand i kind m place s)
+    flow_free i j (flows_in {j = n} {l = l} s lt le arm) = lead_at free (λ n. true) is n (o.Arm l) lead arm
 
-  -- where the bodies begin
-  abbrev begins : List Body → Spot → List ℕ
-  begins [] s = []
-  begins (b ∷ bs) s = s.at ∷ begins bs (past s (body_piece p differ b s))
+    reached_free : {i : ℕ} → Reached (code_of p differ files) i → free i ≡ true
+    reached_free (reached_entry k {f = x} e) = entry_free free (all_bodies p.items) first_spot k x e begun
+    reached_free (reached_by {i} {j} r s) = flow_free i j s
 
-  in_turn : (bs : List Body) → Each InFlow bs → Several (bodies_from p differ bs) (begins bs)
-  in_turn [] h = no_more
-  in_turn (b ∷ bs) h = beside h.0 (in_turn bs h.1)
-
-  entry_live : (live : Live) (bs : List Body) (s : Spot) (k : ℕ) (x : Func) →
-      slice_get (funcs_from p differ bs s) k ≡ Some x →
-      Begun live (begins bs s) → live x.entry ≡ true
-  entry_live live [] s k x e h = elim (none-some x e) [ ]
-  entry_live live (b ∷ bs) s zero x e h = subst (λ (g : Func). live g.entry ≡ true) (some_is e) h.0
-  entry_live live (b ∷ bs) s (suc k) x e h = entry_live live bs (past s (body_piece p differ b s)) k x e h.1
-
--- ---- marks, by place
-
-abbrev mark_at : List Bool → ℕ → Bool
-mark_at [] i = false
-mark_at (b ∷ bs) zero = b
-mark_at (b ∷ bs) (suc i) = mark_at bs i
-
-further : (live : Live) (bs : List Bool) (a : ℕ) → Agree (λ i. live (suc i)) bs a → Agree live bs (suc a)
-further live [] a h = tt
-further live (b ∷ bs) a h = (h.0, further live bs (suc a) h.1)
-
-marked : (bs : List Bool) → Agree (mark_at bs) bs 0
-marked [] = tt
-marked (b ∷ bs) = (refl, further (mark_at (b ∷ bs)) bs 0 (marked bs))
-
--- ---- what is behind a live place
-
-abbrev none_leaves : ℕ → Bool
-none_leaves n = false
-
--- a live operation, and the items behind it
-record Here (live : Live) (is : List Item) (i a : ℕ) (op : Op) : Type 0 where
-  tail : List Item
-  leads : OpLive live op a tail
-  rest : (d : ℕ) → slice_get (map item_op is) (suc (i + d)) ≡ slice_get (map item_op tail) d
-
-module _ (live : Live) where
-  of_item : (i : Item) (a : ℕ) (is : List Item) (op : Op) → item_op i ≡ op →
-      (live a ≡ true → ItemLive live none_leaves i a is) → live a ≡ true → OpLive live op a is
-  of_item (sure x) a is op e h k = subst (λ y. OpLive live y a is) e (h k)
-  of_item (leaving n) a is op e h k = absurd (true≢false (sym (h k)))
-
-  here : (is : List Item) (i a b : ℕ) (op : Op) → Closed live none_leaves is b → a ≡ i + b → live a ≡ true →
-      slice_get (map item_op is) i ≡ Some op → Here live is i a op
-  here [] i a b op h e k s = elim (none-some op s) [ ]
-  here (x ∷ is) zero a b op h e k s =
-      let same : b ≡ a = omega (arith, e) in
-      record {
-        tail = is;
-        leads = subst (λ c. OpLive live op c is) same
-            (of_item x b is op (some_is s) h.0 (subst (λ c. live c ≡ true) (sym same) k));
-        rest = λ d. ap (slice_get (map item_op is)) (let z : 0 + d ≡ d = omega arith in z);
-      }
-  here (x ∷ is) (suc i) a b op h e k s =
-      let r = here is i a (suc b) op h.1 (omega (arith, e)) k s in
-      record {
-        tail = r.tail;
-        leads = r.leads;
-        rest = λ d. ap (slice_get (map item_op is)) (let z : suc i + d ≡ suc (i + d) = omega arith in z) ∙ r.rest d;
-      }
-
-  on_live : (op : Op) (a : ℕ) (is : List Item) → goes_on op ≡ true → OpLive live op a is → live (suc a) ≡ true
-  on_live (o.Jump l) a is e h = absurd (true≢false (sym e))
-  on_live (o.Again l) a is e h = absurd (true≢false (sym e))
-  on_live o.Fail a is e h = absurd (true≢false (sym e))
-  on_live o.Return a is e h = absurd (true≢false (sym e))
-  on_live (o.Group k m pl) a is e h = absurd (true≢false (sym e))
-  on_live (o.Arm l) a is e h = absurd (true≢false (sym e))
-  on_live o.ArmEnd a is e h = absurd (true≢false (sym e))
-  on_live o.DeferEnd a is e h = absurd (true≢false (sym e))
-  on_live (o.Same l) a is e h = h.0
-  on_live (o.Try l) a is e h = h.0
-  on_live (o.Branch l) a is e h = h.0
-  on_live (o.Defer l) a is e h = h.0
-  on_live (o.Take d v l) a is e h = h.0
-  on_live op a is e h = h
-
-  to_live : (op : Op) (a l : ℕ) (is : List Item) → leads_to op ≡ Some l → OpLive live op a is → live l ≡ true
-  to_live (o.Jump m) a l is e h = subst (λ i. live i ≡ true) (some_is e) h
-  to_live (o.Again m) a l is e h = subst (λ i. live i ≡ true) (some_is e) h
-  to_live (o.Same m) a l is e h = subst (λ i. live i ≡ true) (some_is e) h.1
-  to_live (o.Try m) a l is e h = subst (λ i. live i ≡ true) (some_is e) h.1
-  to_live (o.Branch m) a l is e h = subst (λ i. live i ≡ true) (some_is e) h.1
-  to_live (o.Defer m) a l is e h = subst (λ i. live i ≡ true) (some_is e) h.1
-  to_live (o.Take d v m) a l is e h = subst (λ i. live i ≡ true) (some_is e) h.1
-  to_live op a l is e h = elim (none-some l e) [ ]
-
-  arm_live : (m : ℕ) (is : List Item) (d l : ℕ) → ArmsLive live m is → d < m →
-      slice_get (map item_op is) d ≡ Some (o.Arm l) →
-      live l ≡ true
-  arm_live zero is d l h lt e = absurd (omega (arith, lt))
-  arm_live (suc m) [] d l h lt e = elim h [ ]
-  arm_live (suc m) (sure (o.Arm i) ∷ is) zero l h lt e = subst (λ j. live j ≡ true) (label (some_is e)) h.0
-    where
-      label : o.Arm i ≡ o.Arm l → i ≡ l
-      label e = cc
-  arm_live (suc m) (x ∷ is) zero l h lt e = elim h.0 [ ]
-  arm_live (suc m) (x ∷ is) (suc d) l h lt e = arm_live m is d l h.1 (omega (arith, lt)) e
-
-  module _ (is : List Item) (closed : Closed live none_leaves is 0) where
-    at_place : (i : ℕ) (op : Op) → live i ≡ true → slice_get (map item_op is) i ≡ Some op → Here live is i i op
-    at_place i op k s = here is i i 0 op closed (omega arith) k s
-
-    flow_live : (i j : ℕ) → live i ≡ true → Flows (map item_op is) i j → live j ≡ true
-    flow_live i j k (flows_on {op = op} s e) =
-        let h = at_place i op k s in on_live op i h.tail e h.leads
-    flow_live i j k (flows_to {op = op} s e) =
-        let h = at_place i op k s in to_live op i j h.tail e h.leads
-    flow_live i j k (flows_past {kind = kind} {m = m} {place = pl} s) =
-        let h = at_place i (o.Group kind m pl) k s in
-        subst (λ n. live n ≡ true) (later_is m (suc i)) h.leads.0
-    flow_live i j k (flows_in {j = n} {l = l} {kind = kind} {m = m} {place = pl} s lt le arm) =
-        let h = at_place i (o.Group kind m pl) k s in
-        let d : ℕ = n - suc i in
-        let same : suc (i + d) ≡ n = omega (arith, lt) in
-        arm_live m h.tail d l h.leads.1 (omega (arith, lt, le))
-        (sym (h.rest d) ∙ (ap (slice_get (map item_op is)) same ∙ arm))
-
-    not_stuck : (i l : ℕ) → live i ≡ true → slice_get (map item_op is) i ≢ Some (o.Arm l)
-    not_stuck i l k s = (at_place i (o.Arm l) k s).leads
-
-both_each : {X : Type 0} (P Q : X → Type 0) (xs : List X) → Each P xs → Each Q xs → Each (λ x. P x × Q x) xs
-both_each P Q [] h k = tt
-both_each P Q (x ∷ xs) h k = ((h.0, k.0), both_each P Q xs h.1 k.1)
-
-module _ (p : Program) (differ : ℕ → ℕ → Bool) (f : Found) (known : FineFound p f) (files : ℕ)
-    (many : Several (bodies_from p differ (all_bodies p.items)) (begins p differ f known (all_bodies p.items))) where
-  abbrev lives : Live
-  lives = mark_at (many.marks first_spot)
-
-  agree : Agree lives (many.marks first_spot) 0
-  agree = marked (many.marks first_spot)
-
-  reached_live : {i : ℕ} → Reached (code_of p differ files) i → lives i ≡ true
-  reached_live (reached_entry k {f = x} e) =
-      entry_live p differ f known lives (all_bodies p.items) first_spot k x e (many.enters first_spot lives agree)
-  reached_live (reached_by {i} {j} r s) =
-      flow_live lives (whole p differ).items (many.goes first_spot lives none_leaves agree) i j (reached_live r) s
-
-  pub goes : FlowGoes (code_of p differ files)
-  goes i r l = not_stuck lives (whole p differ).items (many.goes first_spot lives none_leaves agree) i l
-      (reached_live r)
+    pub goes : FlowGoes (code_of p differ files)
+    goes i r l e = true≢false (sym (reached_free r) ∙ arm_there (map item_op is) i l e)
 
 pub fine_flow_goes : FineFlowGoes
-fine_flow_goes p fine found stand give differ files =
-    let nodes = both_each (NodeStands p) (NodeGives p fine.found) (items_order p.items)
-    (all_each (NodeStands p) (items_order p.items) stand)
-    (all_each (NodeGives p fine.found) (items_order p.items) give) in
-    goes p differ fine.found fine.fine files
-    (in_turn p differ fine.found fine.fine (all_bodies p.items) (all_flow p differ fine.found fine.fine found nodes))
+fine_flow_goes p fine found stand differ files =
+    let nodes = all_each (NodeStands p) (items_order p.items) stand in
+    goes p differ fine.found fine.fine files (whole_orderly p differ fine.found fine.fine found nodes)

@@ -7,12 +7,9 @@ use Rattle.verse_sound_rules.specs.Programs.{FineProgram}
 use Rattle.lower_code.specs.Programs.{code_of}
 use Rattle.lower_simulation_runs.specs.Programs.{NodeStands}
 use Rattle.lower_sound.specs.Programs.{ItemsFound}
-use Rattle.lower_flow.specs.Programs.{NodeGives}
 
--- Of a fine program, where the tables find each body, patterns stand for values, and what gives no
--- value leaves or has a part that gives none.
+-- Of a fine program, where the tables find each body, and patterns stand for values.
 abbrev pub FineFlowGoes : Type 0
 FineFlowGoes = (p : Program) (fine : FineProgram p) → ItemsFound p fine.found p.items →
     All (NodeStands p) (items_order p.items) →
-    All (NodeGives p fine.found) (items_order p.items) →
     (differ : ℕ → ℕ → Bool) (files : ℕ) → FlowGoes (code_of p differ files)

@@ -1,5 +1,5 @@
 -- Code that nothing leaves for a loop around it: each of its items is an operation; and how the combinators keep that.
-use Rattle.std.proofs.Common.{◌≡◌, ℕ, zero, suc, List, [], ◌∷◌, ◌++◌, map, Some, None, Bool, true, false, refl}
+use Rattle.std.proofs.Common.{◌≡◌, ℕ, zero, suc, List, [], ◌∷◌, ◌++◌, map, Bool, true, false, refl}
 use Rattle.verse_base.specs.declared.places.Place.{Place}
 use Rattle.verse_tree.specs.Tree.{Bytes}
 use Rattle.verse_code.specs.declared.operations.Op.{Op}
@@ -15,7 +15,7 @@ use Rattle.lower_code.specs.Scopes.{Found, fixed, varies, absent, Scope, this_fo
 use Rattle.lower_code.specs.Scopes.{push_varies}
 use Rattle.lower_code.specs.declared.arounds.Around.{Around}
 use Rattle.lower_code.specs.Arounds.{leaving_to, returning, breaking}
-use Rattle.lower_code.specs.Applied.{start, finish, computing, with_none, with_one, with_two, signalling, storing}
+use Rattle.lower_code.specs.Applied.{start, finish, computing, dropping, with_one, with_two, indexing, signalling, storing}
 use Rattle.lower_code.specs.Lowering.{bind, enum_op, grouped}
 use Rattle.verse_tree.specs.declared.exprs.Operator.{Operator}
 use Rattle.verse_tree.specs.declared.exprs.Operator.TheVariants as op
@@ -177,9 +177,9 @@ breaking_firm a h = and (leaving_firm a.floor a) (else_firm a.in_loop _ (λ e. n
     no : {b : Bool} {f : Maker} → b ≡ true → b ≡ false → Firm f
     no e h = cc
 
-none_with : (n : ℕ) {f : Maker} → Firm f → Firm (with_none n f)
-none_with zero h = h
-none_with (suc n) h = stuck_firm
+dropping_firm : (n : ℕ) {f : Maker} → Firm f → Firm (dropping n f)
+dropping_firm zero h = h
+dropping_firm (suc n) h = and (one_firm o.Drop) (dropping_firm n h)
 
 one_with : (n : ℕ) {f : Maker} → Firm f → Firm (with_one n f)
 one_with zero h = stuck_firm
@@ -201,10 +201,13 @@ computing_firm op.And pl b = none_firm
 computing_firm op.Or pl b = stuck_firm
 computing_firm op.Div pl b = stuck_firm
 
+indexing_firm : (n : ℕ) → Firm (indexing n)
+indexing_firm zero = none_firm
+indexing_firm (suc n) = dropping_firm n (one_firm o.At)
+
 signalling_firm : (n : ℕ) → Firm (signalling n)
 signalling_firm zero = and (one_firm o.Unit) (one_firm o.Signal)
-signalling_firm (suc zero) = one_firm o.Signal
-signalling_firm (suc (suc n)) = stuck_firm
+signalling_firm (suc n) = dropping_firm n (one_firm o.Signal)
 
 pub storing_firm : (op : Op) (keeps : Bool) (l : ℕ) → Firm (storing op keeps l)
 storing_firm op true l = and (kept_firm l) (and (one_firm op) (and (one_firm o.Drop) (one_firm (o.Get l))))
@@ -221,9 +224,8 @@ finish_firm (form.making_tuple pl) n fit = placed_firm pl (o.Tuple n)
 finish_firm (form.making_array pl) n fit = placed_firm pl (o.Array n)
 finish_firm (form.making_map pl) n fit = placed_firm pl (o.Map n)
 finish_firm (form.joining xs pl) n fit = placed_firm pl (o.Join n)
-finish_firm (form.picking None) n fit = stuck_firm
-finish_firm (form.picking (Some k)) n fit = one_firm (o.Item k)
-finish_firm form.indexing n fit = one_with n (one_firm o.At)
+finish_firm (form.picking i) n fit = one_firm (o.Item _)
+finish_firm form.indexing n fit = indexing_firm n
 finish_firm (form.calling f) n fit = else_firm fit _ (λ e. one_firm (o.Call f))
 finish_firm (form.calling_own m) n fit = else_firm fit _ (λ e. one_firm (o.Method m n))
 finish_firm (form.calling_method m) n fit = one_firm (o.Method m n)
@@ -231,7 +233,7 @@ finish_firm (form.printing pl) n fit = one_with n (placed_firm pl o.Print)
 finish_firm (form.flooring pl) n fit = two_with n (placed_firm pl o.Floor)
 finish_firm (form.ceiling pl) n fit = two_with n (placed_firm pl o.Ceil)
 finish_firm form.taking_modulo n fit = two_with n (one_firm o.Mod)
-finish_firm (form.awaiting t) n fit = none_with n (one_firm _)
+finish_firm (form.awaiting t) n fit = dropping_firm n (one_firm _)
 finish_firm form.signalling n fit = signalling_firm n
 finish_firm (form.spawning f) n fit = else_firm fit _ (λ e. one_firm (o.Spawn f))
 finish_firm (form.spawning_own m) n fit = else_firm fit _ (λ e. one_firm (o.SpawnMethod m n))

@@ -1,6 +1,7 @@
 -- Operands, and the form that is applied to them.
-use Rattle.std.proofs.Common.{◌≡◌, ℕ, zero, suc, ◌≤◌, List, [], ◌∷◌, ◌++◌, length, Bool, true, sym, subst, arith, append-nil}
+use Rattle.std.proofs.Common.{◌≡◌, ℕ, zero, suc, ◌+◌, ◌≤◌, List, [], ◌∷◌, ◌++◌, length, Bool, true, refl, sym, subst, arith}
 use Rattle.verse_tree.specs.Tree.{Tree, Trees, more_trees}
+use Rattle.verse_code.specs.declared.operations.Op.TheVariants as op
 use Rattle.verse_value.specs.Val.{Val}
 use Rattle.verse_meaning.specs.Residuals.{Env, Form}
 use Rattle.verse_meaning.specs.Outcomes.{World, Outcome, halted, wrong}
@@ -8,8 +9,8 @@ use Rattle.verse_meaning.specs.Forms.{apply}
 use Rattle.verse_meaning.specs.Evaluating.{all_args}
 use Rattle.verse_meaning.specs.Runs.{deeper}
 use Rattle.verse_code_machine.specs.Frames.{fits, free}
-use Rattle.lower_code.specs.Applied.{finish, with_none, with_one, with_two}
-use Rattle.lower_code.specs.Pieces.{Spot, Maker, ◌then◌, stuck}
+use Rattle.lower_code.specs.Applied.{finish, dropping, with_one, with_two}
+use Rattle.lower_code.specs.Pieces.{Spot, Maker, later, one, ◌then◌, stuck}
 use Rattle.lower_code.specs.Scopes.{Scope as Names}
 use Rattle.lower_code.specs.declared.arounds.Around.{Around as Where}
 use Rattle.lower_code.specs.Arounds.{up}
@@ -17,11 +18,26 @@ use Rattle.lower_code.specs.Lowering as low
 use Rattle.lower_code.specs.Lowering.{piece, how_many}
 use Rattle.lower_simulation.proofs.Claims.{Way, Setting, Ctx, Around, at, Good, on, Above}
 use Rattle.lower_simulation.proofs.Going.{trans}
-use Rattle.lower_simulation.proofs.Standing.{Stands, then_stand}
-use Rattle.lower_simulation.proofs.Leading.{LeadsTo, is_leads}
+use Rattle.lower_simulation.proofs.Standing.{Stands, then_stand, op_stands}
+use Rattle.lower_simulation.proofs.Leading.{LeadsTo, does_leads, open_leads, is_leads}
 use Rattle.lower_simulation.proofs.Forms.{Static, stacked, EvLeads, All_lead, IsPlain, args_leads}
 use Rattle.lower_simulation_values.proofs.Operators.{args_stand}
 use Rattle.lower_simulation_values.proofs.Names.{stuck_leads}
+
+later_is : (n a : ℕ) → later n a ≡ n + a
+later_is zero a = omega arith
+later_is (suc n) a = omega (arith, later_is n (suc a))
+
+later_none : (n : ℕ) → later n 0 ≡ n
+later_none n = omega (arith, later_is n 0)
+
+-- operands lie above what is beneath them
+stacked_above : (n : ℕ) (ws : List Val) (k : ℕ) (below base : List Val) → length ws ≡ n → Above k below base →
+    Above (later n k) (stacked ws below) base
+stacked_above zero [] k below base q h = h
+stacked_above zero (v ∷ ws) k below base q h = absurd (omega (arith, q))
+stacked_above (suc n) [] k below base q h = absurd (omega (arith, q))
+stacked_above (suc n) (v ∷ ws) k below base q h = stacked_above n ws (suc k) (v ∷ below) base (omega (arith, q)) h
 
 module _ (z : Setting) (differ : ℕ → ℕ → Bool) (top : ℕ) where
   -- what code leads to, for all names, arounds, spots and contexts; of the code of a tree it is `EvLeads`
@@ -92,12 +108,20 @@ module _ (z : Setting) (differ : ℕ → ℕ → Bool) (top : ℕ) where
   pub wrong_done : (f : Form) (vs : List Val) (c : Ctx) (stk st : List Val) → Wrong f vs → Done f vs stuck c stk st
   wrong_done f vs c stk st h s e out w M j m o y ls x fw lt lM g = is_leads z (h M w c.env y) (stuck_leads z x)
 
-  pub by_none : (f : Form) (vs : List Val) (x : Maker) (n : ℕ) (ws : List Val) → length ws ≡ n → (c : Ctx) (below st : List Val) →
-      Done f vs x c below st → ((v : Val) (ws : List Val) → Wrong f (vs ++ v ∷ ws)) →
-      Done f (vs ++ ws) (with_none n x) c (stacked ws below) st
-  by_none f vs x zero [] q c below st h more = subst (λ u. Done f u x c below st) (sym (append-nil vs)) h
-  by_none f vs x (suc n) (v ∷ ws) q c below st h more = wrong_done f (vs ++ v ∷ ws) c (stacked (v ∷ ws) below) st (more v ws)
-  by_none f vs x n ws q c below st h more = absurd (omega (arith, q))
+  -- the operands on top fall away, before what stands beneath them
+  dropped_done : (f : Form) (vs : List Val) (x : Maker) (c : Ctx) (below st : List Val) → Done f vs x c below st →
+      (n : ℕ) (stk : List Val) → Above n stk below → Done f vs (dropping n x) c stk st
+  dropped_done f vs x c below st h zero stk a = subst (λ u. Done f vs x c u st) (sym a) h
+  dropped_done f vs x c below st h (suc n) [] a = absurd a
+  dropped_done f vs x c below st h (suc n) (v ∷ stk) a = λ s e out w M j m o y ls i fw lt lM g.
+      let r = then_stand z s e (one op.Drop) (dropping n x) i in
+      does_leads z (op_stands z r.0).is (open_leads z _ (op_stands z r.0).fit
+      (dropped_done f vs x c below st h n stk a _ e out w M j m o y ls r.1 fw lt lM g))
+
+  pub dropping_done : (f : Form) (vs : List Val) (x : Maker) (n : ℕ) (ws : List Val) → length ws ≡ n → (c : Ctx)
+      (below st : List Val) → Done f vs x c below st → Done f vs (dropping n x) c (stacked ws below) st
+  dropping_done f vs x n ws q c below st h = dropped_done f vs x c below st h n (stacked ws below)
+      (subst (λ d. Above d (stacked ws below) below) (later_none n) (stacked_above n ws 0 below below q refl))
 
   pub by_one : (f : Form) (vs : List Val) (x : Maker) (n : ℕ) (ws : List Val) → length ws ≡ n → (c : Ctx) (below st : List Val) →
       ((v : Val) → Done f (vs ++ v ∷ []) x c (v ∷ below) st) → Wrong f (vs ++ []) →

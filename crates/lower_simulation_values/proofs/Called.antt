@@ -34,7 +34,7 @@ use Rattle.lower_simulation.proofs.Forms.{on_one, op_leads, end_leads, EvLeads, 
 use Rattle.lower_simulation_values.proofs.Names.{stuck_leads}
 use Rattle.lower_simulation_values.proofs.Operands.{to_end}
 use Rattle.lower_simulation_values.proofs.Tables.{Tables, CallsLead, AwaitsLead}
-use Rattle.lower_simulation_values.proofs.Applied.{Leads, Applied, Done, applied_leads, first_leads, by_none}
+use Rattle.lower_simulation_values.proofs.Applied.{Leads, Applied, Done, applied_leads, first_leads, dropping_done}
 use Rattle.lower_simulation_values.proofs.Callees.{Sort, a_function, own_method, prints, floors, ceils, takes_modulo, a_method, awaits}
 use Rattle.lower_simulation_values.proofs.Callees.{signals}
 use Rattle.lower_simulation_values.proofs.Callees.{a_value, sort_of}
@@ -141,29 +141,30 @@ module _ (z : Setting) (differ : ℕ → ℕ → Bool) (top : ℕ) where
       does_leads z (op_stands z r.0).is (open_leads z _ (op_stands z r.0).fit (op_leads z r.1 (λ k.
       outside_leads z w y (λ y. signal_told z.program (deeper z.program M) [] a c.env y) _ fw (λ fr.
       told_plain_leads z (signal_sent (event_of a y.state) unit y.state) c.env k.fit (signal_calm (event_of a y.state) unit y) g))))
-  signalling_applied (suc zero) c a st (u ∷ []) q = λ s e out w M j m o y ls x fw lt lM g. op_leads z x (λ k.
-      outside_leads z w y (λ y. signal_told z.program (deeper z.program M) (u ∷ []) a c.env y) _ fw (λ fr.
-      told_plain_leads z (signal_sent (event_of a y.state) u y.state) c.env k.fit (signal_calm (event_of a y.state) u y) g))
-  signalling_applied (suc (suc n)) c a st (u ∷ (r ∷ ws)) q = λ s e out w M j m o y ls x fw lt lM g.
-      outside_stuck z w (λ y. signal_told z.program (deeper z.program M) (u ∷ r ∷ ws) a c.env y) refl x
+  signalling_applied (suc n) c a st (u ∷ ws) q =
+      dropping_done z differ top form.signalling (a ∷ u ∷ ws) (one op.Signal) n ws (omega (arith, q)) c (u ∷ a ∷ st) st
+      (λ s e out w M j m o y ls x fw lt lM g. op_leads z x (λ k.
+      outside_leads z w y (λ y. signal_told z.program (deeper z.program M) (u ∷ ws) a c.env y) _ fw (λ fr.
+      told_plain_leads z (signal_sent (event_of a y.state) u y.state) c.env k.fit (signal_calm (event_of a y.state) u y) g)))
   signalling_applied n c a st ws q = absurd (omega (arith, q))
 
-  await_done : AwaitsLead z top → (is_event : Bool) (c : Ctx) (a : Val) (st : List Val) →
-      Done z differ top (form.awaiting is_event) (a ∷ []) (one (awaiting is_event)) c (a ∷ st) st
+  await_done : AwaitsLead z top → (is_event : Bool) (ws : List Val) (c : Ctx) (a : Val) (st : List Val) →
+      Done z differ top (form.awaiting is_event) (a ∷ ws) (one (awaiting is_event)) c (a ∷ st) st
   unfolding if_there
-  await_done claim false c (v.task entry) st s e out w M j m o y ls x fw lt lM g =
+  await_done claim false ws c (v.task entry) st s e out w M j m o y ls x fw lt lM g =
       end_leads z x.ends (claim.of_task entry w M j m c o y ls st s.at (record { is = (op_stands z x).is }) fw lt lM g)
-  await_done claim true c (v.event entry) st s e out w M j m o y ls x fw lt lM g =
+  await_done claim true ws c (v.event entry) st s e out w M j m o y ls x fw lt lM g =
       end_leads z x.ends (claim.of_event entry w M j m c o y ls st s.at (record { is = (op_stands z x).is }) fw lt lM g)
-  await_done claim false c u st s e out w M j m o y ls x fw lt lM g = does_leads z (op_stands z x).is
+  await_done claim false ws c u st s e out w M j m o y ls x fw lt lM g = does_leads z (op_stands z x).is
       (outside_leads z w y (λ y. awaited z.program (deeper z.program M) false u c.env y) _ fw (λ fr. record { go = λ g h. over _ h }))
-  await_done claim true c u st s e out w M j m o y ls x fw lt lM g = does_leads z (op_stands z x).is
+  await_done claim true ws c u st s e out w M j m o y ls x fw lt lM g = does_leads z (op_stands z x).is
       (outside_leads z w y (λ y. awaited z.program (deeper z.program M) true u c.env y) _ fw (λ fr. record { go = λ g h. over _ h }))
 
   pub awaiting_applied : AwaitsLead z top → (is_event : Bool) (n : ℕ) (c : Ctx) (a : Val) (st : List Val) →
       Applied z differ top (form.awaiting is_event) (a ∷ []) n true c (a ∷ st) st
-  awaiting_applied claim is_event n c a st ws q = by_none z differ top (form.awaiting is_event) (a ∷ []) (one (awaiting is_event)) n ws q c
-      (a ∷ st) st (await_done claim is_event c a st) (λ u us M w e y. refl)
+  awaiting_applied claim is_event n c a st ws q =
+      dropping_done z differ top (form.awaiting is_event) (a ∷ ws) (one (awaiting is_event)) n ws q c (a ∷ st) st
+      (await_done claim is_event ws c a st)
 
   -- ---- the operands of a quotient, which are no argument of their own
 

@@ -24,7 +24,7 @@ use Rattle.verse_meaning.specs.Programs.{fun_at, method_at, method_in}
 use Rattle.verse_meaning.specs.Residuals as form
 use Rattle.verse_meaning.specs.Residuals.{Env, Form, Scopes}
 use Rattle.verse_meaning.specs.Outcomes.{World, Outcome, halted, wrong, if_there, if_known}
-use Rattle.verse_meaning.specs.Forms.{method_found, method_called, look, this_name, constant_of}
+use Rattle.verse_meaning.specs.Forms.{method_found, method_called, look, this_name, constant_of, place_in}
 use Rattle.verse_meaning.specs.Runs.{deeper}
 use Rattle.verse_code_machine.specs.Tasks.{Step}
 use Rattle.verse_code_machine.specs.Frames.{fits, free, on_there, only_where, on_many, on_top, enters, taking, classed, method_of}
@@ -38,12 +38,12 @@ use Rattle.lower_code.specs.Programs as lp
 use Rattle.lower_simulation.proofs.Steps.{over}
 use Rattle.lower_simulation.proofs.Claims.{Way, Setting, Ctx, Around, at, Good, on, Tasks, Target}
 use Rattle.lower_simulation.proofs.Standing.{Stands}
-use Rattle.lower_simulation.proofs.Leading.{LeadsTo, open_leads, there_leads, is_leads, told_leads, told_plain_leads, still_calm}
-use Rattle.lower_simulation.proofs.Leading.{Calmly}
-use Rattle.lower_simulation.proofs.Forms.{stacked, op_leads}
+use Rattle.lower_simulation.proofs.Leading.{LeadsTo, open_leads, there_leads, is_leads, value_here, told_leads, told_plain_leads}
+use Rattle.lower_simulation.proofs.Leading.{still_calm, Calmly}
+use Rattle.lower_simulation.proofs.Forms.{stacked, start_leads, op_leads}
 use Rattle.lower_simulation_values.proofs.Operators.{many_leads}
 use Rattle.lower_simulation_values.proofs.Names.{stuck_leads}
-use Rattle.lower_simulation_values.proofs.Applied.{Applied, Done, by_one, by_two, wrong_done}
+use Rattle.lower_simulation_values.proofs.Applied.{Applied, Done, by_one, by_two, dropping_done}
 use Rattle.lower_simulation_values.proofs.Tables.{Is_function, Is_method, Tables, CallsLead}
 use Rattle.lower_simulation_values.proofs.Callees.{Misfit, unknown, other_many, calls_wrong}
 
@@ -221,13 +221,15 @@ module _ (z : Setting) (differ : ℕ → ℕ → Bool) (top : ℕ) where
   -- ---- a value that is no function
 
   pub indexing_applied : (n : ℕ) (c : Ctx) (a : Val) (st : List Val) → Applied z differ top form.indexing (a ∷ []) n true c (a ∷ st) st
-  indexing_applied n c a st ws q = by_one z differ top form.indexing (a ∷ []) _ n ws q c (a ∷ st) st
-      (λ u s e out w M j m o y ls x fw lt lM g. op_leads z x
+  indexing_applied zero c a st [] q = λ s e out w M j m o y ls x fw lt lM g. start_leads z x.ends (value_here z g)
+  indexing_applied (suc n) c a st (u ∷ us) q =
+      dropping_done z differ top form.indexing (a ∷ u ∷ us) (one op.At) n us (omega (arith, q)) c (u ∷ a ∷ st) st
+      (λ s e out w M j m o y ls x fw lt lM g. op_leads z x
       (λ k. told_plain_leads z (still (at_of a u) y.state) c.env k.fit (still_calm z (at_of a u) y.state) g))
-      (λ M w e y. refl) (λ u r us M w e y. refl)
+  indexing_applied n c a st ws q = absurd (omega (arith, q))
 
   pub picking_done : (k : Option ℕ) (c : Ctx) (a : Val) (st : List Val) →
       Done z differ top (form.picking k) (a ∷ []) (finish (form.picking k) 0 true) c (a ∷ st) st
-  picking_done None c a st = wrong_done z differ top (form.picking None) (a ∷ []) c (a ∷ st) st (λ M w e y. refl)
-  picking_done (Some i) c a st = λ s e out w M j m o y ls x fw lt lM g. op_leads z x
-      (λ k. told_plain_leads z (still (item_of a i) y.state) c.env k.fit (still_calm z (item_of a i) y.state) g)
+  picking_done i c a st = λ s e out w M j m o y ls x fw lt lM g. op_leads z x
+      (λ k. told_plain_leads z (still (item_of a (place_in i)) y.state) c.env k.fit
+      (still_calm z (item_of a (place_in i)) y.state) g)

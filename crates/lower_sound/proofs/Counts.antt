@@ -1,7 +1,5 @@
 -- What is known of a form by the sorts of its operands: how many they are, and what it names is there.
-use Rattle.std.proofs.Common.{◌≡◌, ◌≢◌, ℕ, zero, suc, ◌≤◌, List, ◌∷◌, length, Bool, true, false, cond}
-use Rattle.std.proofs.Common.{Option, Some, None}
-use Rattle.std.proofs.Common.{refl, ap, arith, ◌⊎◌, inl, inr}
+use Rattle.std.proofs.Common.{◌≡◌, ℕ, zero, suc, List, length, Bool, Option, Some, None, refl, ap}
 use Rattle.verse_base.specs.declared.places.Place.{Place}
 use Rattle.verse_tree.specs.Tree.{Bytes, Tree, tree, Shape, Trees, no_trees, more_trees}
 use Rattle.verse_tree.specs.Tree as t
@@ -9,8 +7,7 @@ use Rattle.verse_tree.specs.ItemTree.{FunTree}
 use Rattle.verse_tree.specs.declared.tables.Ref.{Ref}
 use Rattle.verse_tree.specs.declared.tables.Ref.TheVariants as ref
 use Rattle.verse_names_declarations.specs.Names.{Table}
-use Rattle.verse_sorts.specs.Sorts as s
-use Rattle.verse_sorts.specs.Sorts.{Sort, Fits}
+use Rattle.verse_sorts.specs.Sorts.{Sort}
 use Rattle.verse_sorts.specs.Typing.{AllFit, fit_no, fit_so}
 use Rattle.verse_meaning.specs.Programs.{Program, same_name, ref_at, fun_at, fields_of}
 use Rattle.verse_meaning.specs.Residuals as form
@@ -25,11 +22,6 @@ use Rattle.verse_sound_rules.specs.Forms.{Takes, Spared, Gives, Placed, Filled, 
 use Rattle.verse_sound_rules.specs.Fine.{sorts_at}
 use Rattle.lower_code.specs.Lowering.{how_many}
 use Rattle.lower_bounds.proofs.Lists.{on_cond}
-use Rattle.lower_sound.specs.Programs.{CalleeGives}
-
--- the first operand gives no value
-pub data FirstNever : List Sort → Type 0 where
-  first_never : {qs : List Sort} → FirstNever (s.never ∷ qs)
 
 abbrev pub IsGiven : {A : Type 0} → Option A → Type 0
 IsGiven None = ⊥
@@ -39,15 +31,6 @@ module _ {up : ℕ → Option ℕ} where
   pub fit_many : {xs ys : List Sort} → AllFit up xs ys → length xs ≡ length ys
   fit_many fit_no = refl
   fit_many (fit_so f fs) = ap suc (fit_many fs)
-
-  pub fit_never : {x : Sort} → Fits up x s.never → x ≡ s.never
-  fit_never s.from_never = refl
-
-  fit_first : {xs ys : List Sort} → FirstNever ys → AllFit up xs ys → FirstNever xs
-  fit_first first_never (fit_so s.from_never fs) = first_never
-
-pub not_first : {q : Sort} {qs : List Sort} → FirstNever (q ∷ qs) → q ≢ s.never → ⊥
-not_first first_never h = h refl
 
 pub sorts_many : (p : Program) (f : Found) (ts : Trees) → length (sorts_at p f ts) ≡ how_many ts
 sorts_many p f no_trees = refl
@@ -65,14 +48,10 @@ module _ (p : Program) (f : Found) (a : Allowed) (xs : Table) where
     pub is : a.this ≡ Some class
 
   abbrev pub Told : Form → List Sort → Type 0
-  Told (form.picking o) qs = IsGiven o ⊎ FirstNever qs
-  Told form.indexing qs = (length qs ≡ 2) ⊎ FirstNever qs
   Told (form.calling g) qs = Called g qs
   Told (form.calling_own m) qs = HasThis
   Told (form.printing pl) qs = length qs ≡ 1
   Told form.taking_modulo qs = length qs ≡ 2
-  Told (form.awaiting t) qs = (length qs ≡ 1) ⊎ FirstNever qs
-  Told form.signalling qs = (length qs ≤ 2) ⊎ FirstNever qs
   Told (form.spawning g) qs = Called g qs
   Told (form.spawning_own m) qs = HasThis
   Told (form.storing b x pl) qs = (os : List Sort) × (q : Sort) × Placed p f a xs b os q
@@ -86,23 +65,17 @@ module _ (p : Program) (f : Found) (a : Allowed) (xs : Table) where
   spared (takes.spared_length h) = tt
   spared (takes.spared_member h) = tt
   spared (takes.spared_place os q place h) = (os, q, place)
-  spared takes.spared_item = inr first_never
-  spared takes.spared_index = inr first_never
-  spared takes.spared_await = inr first_never
-  spared takes.spared_signal = inr first_never
+  spared takes.spared_item = tt
+  spared takes.spared_index = tt
+  spared takes.spared_await = tt
+  spared takes.spared_signal = tt
 
   told : {x : Form} {qs : List Sort} {r : Sort} → Takes p f a xs x qs r → Told x qs
   told (takes.takes_never h) = spared h
-  told (takes.takes_item e) = inl tt
-  told (takes.takes_index h i) = inl refl
   told (takes.takes_arguments c e) = record { function = c.function; found = c.found; operands = refl }
   told (takes.takes_own c g e m k) = record { class = c; is = e }
   told takes.takes_line = refl
   told (takes.takes_modulo h) = refl
-  told (takes.takes_task h) = inl refl
-  told (takes.takes_event h) = inl refl
-  told (takes.takes_signal h) = inl (omega arith)
-  told (takes.takes_bare_signal h u) = inl (omega arith)
   told (takes.takes_spawned c e) = record { function = c.function; found = c.found; operands = refl }
   told (takes.takes_spawned_own c g e m k) = record { class = c; is = e }
   told (takes.takes_place os is q v r place path write fails) = (os, q, place)
@@ -113,10 +86,6 @@ module _ (p : Program) (f : Found) (a : Allowed) (xs : Table) where
   -- of operands that fit those taken
   pub gives_told : {x : Form} {has : List Sort} {r : Sort} (g : Gives p f a xs x has r) → Told x g.taken
   gives_told g = told g.takes
-
-  pub gives_first : {x : Form} {q : Sort} {qs : List Sort} {r : Sort} (g : Gives p f a xs x (q ∷ qs) r) → q ≢ s.never →
-      FirstNever g.taken → ⊥
-  gives_first g h k = not_first (fit_first k g.operands) h
 
   pub gives_many : {x : Form} {has : List Sort} {r : Sort} (g : Gives p f a xs x has r) → length has ≡ length g.taken
   gives_many g = fit_many g.operands
@@ -203,49 +172,3 @@ spawned_is whole (of_object x) h = spawned_object x h
 spawned_is whole (of_value x) h = tt
 spawned_is whole (of_quotient x) h = tt
 spawned_is whole no_callee h = tt
-
--- what gives a value does so whatever is made of it
-module _ (p : Program) (f : Found) (b : Tree) where
-  named_same : (r : Option Ref) (x y : Form) (pl : Place) → CalleeGives p f (named_callee r x pl) b → CalleeGives p f
-      (named_callee r y pl) b
-  named_same (Some (ref.Fun g)) x y pl h = h
-  named_same (Some (ref.Method c m)) x y pl h = h
-  named_same (Some (ref.Builtin i)) x y pl h = h
-  named_same r x y pl h = h
-
-  member_same : (r : Option Ref) (of_event : Bool) (z : Bytes) (x y : Form) → CalleeGives p f
-      (member_callee r of_event z x) b →
-      CalleeGives p f (member_callee r of_event z y) b
-  member_same (Some (ref.Method c m)) e z x y h = h
-  member_same (Some r) e z x y h = h
-  member_same None e z x y h = by (same_name z await_name) (same_name z signal_name) h
-    where
-      by : (q r : Bool) → CalleeGives p f (cond q (of_object (form.awaiting e)) (cond r (of_object form.signalling)
-          (of_value x))) b →
-          CalleeGives p f (cond q (of_object (form.awaiting e)) (cond r (of_object form.signalling) (of_value y))) b
-      by true r h = h
-      by false true h = h
-      by false false h = h
-
-  shape_same : (n : ℕ) (c : Shape) (x y : Form) (pl : Place) → CalleeGives p f (callee_of_shape p n c x pl) b →
-      CalleeGives p f (callee_of_shape p n c y pl) b
-  shape_same n (t.Shape.name z) x y pl h = named_same (ref_at p n) x y pl h
-  shape_same n (t.Shape.member c z) x y pl h =
-      member_same (ref_at p n) (p.is_event (number_of c)) z x y h
-  shape_same n c x y pl h = h
-
-  tree_same : (c : Tree) (x y : Form) (pl : Place) → CalleeGives p f (callee_of p c x pl) b → CalleeGives p f
-      (callee_of p c y pl) b
-  tree_same (tree n q c) x y pl h = shape_same n c x y pl h
-
-  spawned_gives : (k : Callee) → CalleeGives p f k b → CalleeGives p f (spawned_callee k) b
-  spawned_gives (alone x) h = tt
-  spawned_gives (of_object x) h = h
-  spawned_gives (of_value x) h = tt
-  spawned_gives (of_quotient x) h = tt
-  spawned_gives no_callee h = tt
-
-pub spawned_same : (p : Program) (f : Found) (b : Tree) (x y : Form) (pl : Place) → CalleeGives p f
-    (callee_of p b x pl) b →
-    CalleeGives p f (spawned_callee (callee_of p b y pl)) b
-spawned_same p f b x y pl h = spawned_gives p f b (callee_of p b y pl) (tree_same p f b b x y pl h)

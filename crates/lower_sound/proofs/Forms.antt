@@ -7,7 +7,7 @@ use Rattle.verse_tree.specs.Tree.{Bytes, Written, Tree, tree, Shape, Trees, no_t
 use Rattle.verse_tree.specs.Tree.{more_holes, Givens, no_givens}
 use Rattle.verse_tree.specs.Tree.{more_givens}
 use Rattle.verse_tree.specs.Tree as t
-use Rattle.verse_tree.specs.PostOrder.{Node, post_order, parts, trees_order, holes_order, pairs_order, givens_order}
+use Rattle.verse_tree.specs.PostOrder.{post_order, parts, trees_order, holes_order, pairs_order, givens_order}
 use Rattle.verse_tree.specs.PostOrder.{written_order}
 use Rattle.verse_tree.specs.declared.exprs.Operator.TheVariants as op
 use Rattle.verse_code.specs.declared.operations.Op.TheVariants as o
@@ -18,16 +18,16 @@ use Rattle.verse_meaning.specs.Programs.{Program, ref_at}
 use Rattle.verse_meaning.specs.Residuals as form
 use Rattle.verse_meaning.specs.Residuals.{Form, Base, a_constant, a_variable}
 use Rattle.verse_meaning.specs.Evaluating.{Statement, statement_of, statement_of_shape, callee_of, spawned_callee}
-use Rattle.verse_meaning.specs.Evaluating.{picked, member_form}
+use Rattle.verse_meaning.specs.Evaluating.{picked}
 use Rattle.verse_meaning.specs.Evaluating as statement
-use Rattle.verse_meaning.specs.Evaluating.{enum_member, class_ref, base_of, mode_of, number_of, none_left}
+use Rattle.verse_meaning.specs.Evaluating.{enum_member, class_ref, base_of, number_of, none_left}
 use Rattle.verse_sound_rules.specs.Found.{Found, Allowed, tried, armed, deferred}
 use Rattle.verse_sound_rules.specs.Found as rules
 use Rattle.verse_sound_rules.specs.Fine.{Fine, FineShape, FineAll, FineClauses, FineInner, FineInnerOf, FineObject}
 use Rattle.verse_sound_rules.specs.Fine.{FineTrees, FineHoles, FinePairs}
 use Rattle.verse_sound_rules.specs.Fine.{FineGivens, FineEach, FineArms, FineArm, FineQuotient}
 use Rattle.verse_sound_rules.specs.Fine.{FineTarget, FineSpawned}
-use Rattle.verse_sound_rules.specs.Fine.{sort_at, object_sort, inner_sort, inner_sort_of, seen_behind}
+use Rattle.verse_sound_rules.specs.Fine.{sort_at, inner_sort, inner_sort_of, seen_behind}
 use Rattle.verse_sound_rules.specs.Fine.{seen_after}
 use Rattle.verse_sound_rules.specs.Fine.{on_statement, Defines, Generates}
 use Rattle.verse_sound_rules.specs.Programs.{FineFound}
@@ -46,11 +46,10 @@ use Rattle.lower_code.specs.Lowering.{task_arms, arm_spots, spawned}
 use Rattle.lower_bounds.proofs.Lists.{Each, each_first, each_rest, node, own, inside}
 use Rattle.lower_bounds.proofs.Arms.{arms_many}
 use Rattle.lower_simulation_runs.specs.Programs.{NodeStands, ArmsStand, ArmTreeStands}
-use Rattle.lower_sound.specs.Programs.{CalleesGive}
 use Rattle.lower_sound.proofs.Armed.{Orderly, both, none, just, at_place, numbered, text, away, if_so, is_so, before}
-use Rattle.lower_sound.proofs.Armed.{one_of, loops, groups}
+use Rattle.lower_sound.proofs.Armed.{one_of, loops, Several, no_stretch, beside, groups}
 use Rattle.lower_sound.proofs.Names.{Sees, sees_hidden, sees_stated}
-use Rattle.lower_sound.proofs.Counts.{gives_told, callee_is, spawned_is, spawned_same}
+use Rattle.lower_sound.proofs.Counts.{gives_told, callee_is, spawned_is}
 use Rattle.lower_sound.proofs.Leaves.{Leaves, leaves_up, leaves_raised, leaves_started, returns, breaks, compares}
 use Rattle.lower_sound.proofs.Leaves.{adds, stores, starts}
 use Rattle.lower_sound.proofs.Leaves.{member_finish, reads_this, reads_name, base_reads, target_there, alone_finish}
@@ -58,10 +57,6 @@ use Rattle.lower_sound.proofs.Leaves.{object_finish}
 use Rattle.lower_sound.proofs.Leaves.{index_finish, pick_finish, quotient_finish, by_kind, by_member, binds, states}
 use Rattle.lower_sound.proofs.Leaves.{clauses_one, last_arm}
 use Rattle.lower_sound.proofs.Leaves.{one_arm, makes}
-
--- what each node has
-abbrev pub Good : Program → Found → Node → Type 0
-Good p f v = NodeStands p v × CalleesGive p f v
 
 -- neither `break` nor `return` leaves these
 leaves_tried : (a : Allowed) (z : Around) → Leaves (tried a) z
@@ -78,31 +73,31 @@ leaves_looped c l = record { returns = λ r e. l.returns r e; breaks = λ e. ref
 
 module _ (p : Program) (differ : ℕ → ℕ → Bool) (f : Found) (known : FineFound p f) where
   abbrev pub AllStand : Tree → Type 0
-  AllStand b = Each (Good p f) (post_order b)
+  AllStand b = Each (NodeStands p) (post_order b)
 
   abbrev pub AllOf : Trees → Type 0
-  AllOf ts = Each (Good p f) (trees_order ts)
+  AllOf ts = Each (NodeStands p) (trees_order ts)
 
   first_tree : (b : Tree) (ts : Trees) → AllOf (more_trees b ts) → AllStand b
-  first_tree b ts u = each_first (Good p f) (post_order b) (trees_order ts) u
+  first_tree b ts u = each_first (NodeStands p) (post_order b) (trees_order ts) u
 
   rest_trees : (b : Tree) (ts : Trees) → AllOf (more_trees b ts) → AllOf ts
-  rest_trees b ts u = each_rest (Good p f) (post_order b) (trees_order ts) u
+  rest_trees b ts u = each_rest (NodeStands p) (post_order b) (trees_order ts) u
 
-  left : (b c : Tree) → Each (Good p f) (post_order b ++ post_order c) → AllStand b
-  left b c u = each_first (Good p f) (post_order b) (post_order c) u
+  left : (b c : Tree) → Each (NodeStands p) (post_order b ++ post_order c) → AllStand b
+  left b c u = each_first (NodeStands p) (post_order b) (post_order c) u
 
-  right : (b c : Tree) → Each (Good p f) (post_order b ++ post_order c) → AllStand c
-  right b c u = each_rest (Good p f) (post_order b) (post_order c) u
+  right : (b c : Tree) → Each (NodeStands p) (post_order b ++ post_order c) → AllStand c
+  right b c u = each_rest (NodeStands p) (post_order b) (post_order c) u
 
-  conditions : (ts : Trees) (b : Tree) → Each (Good p f) (trees_order ts ++ post_order b) → AllOf ts
-  conditions ts b u = each_first (Good p f) (trees_order ts) (post_order b) u
+  conditions : (ts : Trees) (b : Tree) → Each (NodeStands p) (trees_order ts ++ post_order b) → AllOf ts
+  conditions ts b u = each_first (NodeStands p) (trees_order ts) (post_order b) u
 
-  behind_all : (ts : Trees) (b : Tree) → Each (Good p f) (trees_order ts ++ post_order b) → AllStand b
-  behind_all ts b u = each_rest (Good p f) (trees_order ts) (post_order b) u
+  behind_all : (ts : Trees) (b : Tree) → Each (NodeStands p) (trees_order ts ++ post_order b) → AllStand b
+  behind_all ts b u = each_rest (NodeStands p) (trees_order ts) (post_order b) u
 
-  behind_type : (w : Written) (b : Tree) → Each (Good p f) (written_order w ++ post_order b) → AllStand b
-  behind_type w b u = each_rest (Good p f) (written_order w) (post_order b) u
+  behind_type : (w : Written) (b : Tree) → Each (NodeStands p) (written_order w ++ post_order b) → AllStand b
+  behind_type w b u = each_rest (NodeStands p) (written_order w) (post_order b) u
 
   leaves_stated : {a : Allowed} {z : Around} (x : Statement) → Leaves a z → Leaves a (around_stated p differ x z)
   leaves_stated statement.plain l = l
@@ -137,9 +132,9 @@ module _ (p : Program) (differ : ℕ → ℕ → Bool) (f : Found) (known : Fine
         Sees f a.this xs sc →
         Leaves a z → Orderly (piece p differ b sc z)
     orderly (tree n pl x) u a xs sc z h g l =
-        shape_orderly x n pl (own (Good p f) n pl x u) (inside (Good p f) n pl x u) a xs sc z h g l
+        shape_orderly x n pl (own (NodeStands p) n pl x u) (inside (NodeStands p) n pl x u) a xs sc z h g l
 
-    shape_orderly : (x : Shape) (n : ℕ) (pl : Place) → Good p f (node n pl x) → Each (Good p f) (parts x) →
+    shape_orderly : (x : Shape) (n : ℕ) (pl : Place) → NodeStands p (node n pl x) → Each (NodeStands p) (parts x) →
         (a : Allowed) (xs : Table)
         (sc : Scope) (z : Around) → FineShape p f a xs n pl x → Sees f a.this xs sc → Leaves a z → Orderly
         (shape_piece p differ x n pl sc z)
@@ -164,13 +159,13 @@ module _ (p : Program) (differ : ℕ → ℕ → Bool) (f : Found) (known : Fine
     shape_orderly t.Shape.break_form n pl v u a xs sc z h g l = breaks a z l h
     -- failure contexts
     shape_orderly (t.Shape.if_else ts b c) n pl v u a xs sc z h g l =
-        let w = each_first (Good p f) (trees_order ts ++ post_order b) (post_order c) u in
+        let w = each_first (NodeStands p) (trees_order ts ++ post_order b) (post_order c) u in
         one_of o.Try (λ m. refl)
         (both (all_orderly ts (conditions ts b w) false (tried a) xs sc (enclosed z) h.0 g
         (leaves_tried a _)) (both (just o.Drop refl) (both (just o.Commit refl)
         (orderly b (behind_all ts b w) a (seen_after ts xs) (scope_behind ts sc) z h.1
         (seen_all (tried a) xs sc false ts h.0 g) l))))
-        (orderly c (each_rest (Good p f) (trees_order ts ++ post_order b) (post_order c) u) a xs sc z h.2 g l)
+        (orderly c (each_rest (NodeStands p) (trees_order ts ++ post_order b) (post_order c) u) a xs sc z h.2 g l)
     shape_orderly (t.Shape.if_alone ts b) n pl v u a xs sc z h g l =
         one_of o.Try (λ m. refl)
         (both (all_orderly ts (conditions ts b u) false (tried a) xs sc (enclosed z) h.0 g
@@ -228,27 +223,27 @@ module _ (p : Program) (differ : ℕ → ℕ → Bool) (f : Found) (known : Fine
     shape_orderly (t.Shape.call b ts) n pl v u a xs sc z h g l =
         let first = first_tree b ts u in
         let rest = rest_trees b ts u in
-        by_kind p differ f b (picked ts) (callee_of p b (picked ts) pl) (callee_is p b (picked ts) pl) v.1 h
+        by_kind p differ f (picked ts) (callee_of p b (picked ts) pl) (callee_is p b (picked ts) pl) h
         (λ x i k. both (starts x sc) (both (args_orderly ts rest a xs sc (started x z) k.0 g (leaves_started x l))
         (alone_finish p differ f known a xs sc g ts (f.sort n) x i k.1)))
-        (λ x i gives k. both (object_orderly b first a xs sc z k.0 g l) (both (args_orderly ts rest a xs sc
+        (λ x i k. both (object_orderly b first a xs sc z k.0 g l) (both (args_orderly ts rest a xs sc
         (up z) k.1 g (leaves_up l))
-        (object_finish p differ f known a xs sc g ts (f.sort n) x (object_sort p f b) i gives k.2)))
-        (λ x i gives k. both (orderly b first a xs sc z k.0 g l)
-        (pick_finish p differ f known a xs sc g x ts (sort_at p f b) (f.sort n) i gives k.1))
+        (object_finish p differ f x (how_many ts) i)))
+        (λ x i k. both (orderly b first a xs sc z k.0 g l)
+        (pick_finish p differ f x ts i))
         (λ x i k. both (quotient_orderly ts rest a xs sc z n x k g l) (quotient_finish p differ f x i))
     shape_orderly (t.Shape.index b ts) n pl v u a xs sc z h g l =
         let first = first_tree b ts u in
         let rest = rest_trees b ts u in
-        by_kind p differ f b form.indexing (callee_of p b form.indexing pl) (callee_is p b form.indexing pl) v.1 h
+        by_kind p differ f form.indexing (callee_of p b form.indexing pl) (callee_is p b form.indexing pl) h
         (λ x i k. both (starts x sc) (both (args_orderly ts rest a xs sc (started x z) k.0 g (leaves_started x l))
         (alone_finish p differ f known a xs sc g ts (f.sort n) x i k.1)))
-        (λ x i gives k. both (object_orderly b first a xs sc z k.0 g l) (both (args_orderly ts rest a xs sc
+        (λ x i k. both (object_orderly b first a xs sc z k.0 g l) (both (args_orderly ts rest a xs sc
         (up z) k.1 g (leaves_up l))
-        (object_finish p differ f known a xs sc g ts (f.sort n) x (object_sort p f b) i gives k.2)))
-        (λ x i gives k. both (orderly b first a xs sc z k.0 g l) (both (args_orderly ts rest a xs sc (up z) k.1 g
+        (object_finish p differ f x (how_many ts) i)))
+        (λ x i k. both (orderly b first a xs sc z k.0 g l) (both (args_orderly ts rest a xs sc (up z) k.1 g
         (leaves_up l))
-        (index_finish p differ f known a xs sc g ts (f.sort n) x (sort_at p f b) i gives k.2)))
+        (index_finish p differ f x (how_many ts) i)))
         (λ x i k. both (quotient_orderly ts rest a xs sc z n x k g l) (quotient_finish p differ f x i))
     -- literals and names
     shape_orderly (t.Shape.integer y) n pl v u a xs sc z h g l = just (o.Int y) refl
@@ -281,7 +276,7 @@ module _ (p : Program) (differ : ℕ → ℕ → Bool) (f : Found) (known : Fine
     shape_orderly (t.Shape.block_form b) n pl v u a xs sc z h g l = orderly b u a xs sc z h.0 g l
     shape_orderly (t.Shape.cases b ts) n pl v u a xs sc z h g l =
         both (orderly b (first_tree b ts u) a xs sc z h.0 g l) (both (away _)
-        (arms_orderly ts v.0 (rest_trees b ts u) (length sc) a xs (hidden ∷ sc) z (sort_at p f b)
+        (arms_orderly ts v (rest_trees b ts u) (length sc) a xs (hidden ∷ sc) z (sort_at p f b)
         (f.sort n) h.1 (sees_hidden f g) l))
     -- tasks
     shape_orderly (t.Shape.branch b) n pl v u a xs sc z h g l =
@@ -332,10 +327,10 @@ module _ (p : Program) (differ : ℕ → ℕ → Bool) (f : Found) (known : Fine
     stated_orderly (tree n pl x) u m a xs sc z h g l = states p differ f (statement_of_shape x pl) sc
         (shape_piece p differ x n pl sc z)
         (inner_shape p differ x sc z)
-        (statement_parts x n pl (inside (Good p f) n pl x u) m a xs sc z
-        (λ k. shape_orderly x n pl (own (Good p f) n pl x u) (inside (Good p f) n pl x u) a xs sc z k g l) h g l)
+        (statement_parts x n pl (inside (NodeStands p) n pl x u) m a xs sc z
+        (λ k. shape_orderly x n pl (own (NodeStands p) n pl x u) (inside (NodeStands p) n pl x u) a xs sc z k g l) h g l)
 
-    statement_parts : (x : Shape) (n : ℕ) (pl : Place) → Each (Good p f) (parts x) → (m : Bool) (a : Allowed)
+    statement_parts : (x : Shape) (n : ℕ) (pl : Place) → Each (NodeStands p) (parts x) → (m : Bool) (a : Allowed)
         (xs : Table) (sc : Scope) (z : Around) → (FineShape p f a xs n pl x → Orderly
         (shape_piece p differ x n pl sc z)) →
         on_statement (statement_of_shape x pl) (FineShape p f a xs n pl x)
@@ -368,11 +363,11 @@ module _ (p : Program) (differ : ℕ → ℕ → Bool) (f : Found) (known : Fine
         let w = first_tree (tree n pl x) ts u in
         clauses_one p differ f (statement_of_shape x pl) n sc (shape_piece p differ x n pl sc z)
         (inner_shape p differ x sc z) g
-        (clause_parts x n pl (inside (Good p f) n pl x w) a xs sc z
-        (λ i. shape_orderly x n pl (own (Good p f) n pl x w) (inside (Good p f) n pl x w) a xs sc z i g l) h.0 g l)
+        (clause_parts x n pl (inside (NodeStands p) n pl x w) a xs sc z
+        (λ i. shape_orderly x n pl (own (NodeStands p) n pl x w) (inside (NodeStands p) n pl x w) a xs sc z i g l) h.0 g l)
         (λ sc2 g2. levels_orderly ts (rest_trees (tree n pl x) ts u) a (seen_behind (tree n pl x) xs) sc2 z h.1 g2 l k)
 
-    clause_parts : (x : Shape) (n : ℕ) (pl : Place) → Each (Good p f) (parts x) → (a : Allowed)
+    clause_parts : (x : Shape) (n : ℕ) (pl : Place) → Each (NodeStands p) (parts x) → (a : Allowed)
         (xs : Table) (sc : Scope) (z : Around) → (FineShape p f a xs n pl x → Orderly
         (shape_piece p differ x n pl sc z)) →
         on_statement (statement_of_shape x pl) (FineShape p f a xs n pl x)
@@ -402,7 +397,7 @@ module _ (p : Program) (differ : ℕ → ℕ → Bool) (f : Found) (known : Fine
         FineObject p f a xs b →
         Sees f a.this xs sc → Leaves a z → Orderly (inner p differ b sc z)
     object_orderly (tree n pl (t.Shape.member b y)) u a xs sc z h g l =
-        orderly b (inside (Good p f) n pl (t.Shape.member b y) u) a xs sc z h g l
+        orderly b (inside (NodeStands p) n pl (t.Shape.member b y) u) a xs sc z h g l
     object_orderly (tree n pl x) u a xs sc z h g l = elim h [ ]
 
     -- operands
@@ -414,35 +409,35 @@ module _ (p : Program) (differ : ℕ → ℕ → Bool) (f : Found) (known : Fine
         both (orderly b (first_tree b ts u) a xs sc z h.0 g l) (args_orderly ts (rest_trees b ts u) a xs sc
         (up z) h.1 g (leaves_up l))
 
-    holes_orderly : (hs : Holes) → Each (Good p f) (holes_order hs) → (a : Allowed) (xs : Table) (sc : Scope)
+    holes_orderly : (hs : Holes) → Each (NodeStands p) (holes_order hs) → (a : Allowed) (xs : Table) (sc : Scope)
         (z : Around) →
         FineHoles p f a xs hs → Sees f a.this xs sc → Leaves a z → Orderly (holed p differ hs sc z)
     holes_orderly no_holes u a xs sc z h g l = none
     holes_orderly (more_holes b bs hs) u a xs sc z h g l =
-        both (orderly b (each_first (Good p f) (post_order b) (holes_order hs) u) a xs sc z h.0 g l) (both (texts bs)
-        (holes_orderly hs (each_rest (Good p f) (post_order b) (holes_order hs) u) a xs sc (raised (suc (one_if
+        both (orderly b (each_first (NodeStands p) (post_order b) (holes_order hs) u) a xs sc z h.0 g l) (both (texts bs)
+        (holes_orderly hs (each_rest (NodeStands p) (post_order b) (holes_order hs) u) a xs sc (raised (suc (one_if
         (is_text bs) 0)) z) h.1 g
         (leaves_raised (suc (one_if (is_text bs) 0)) l)))
 
-    pairs_orderly : (ps : t.Pairs) → Each (Good p f) (pairs_order ps) → (a : Allowed) (xs : Table) (sc : Scope)
+    pairs_orderly : (ps : t.Pairs) → Each (NodeStands p) (pairs_order ps) → (a : Allowed) (xs : Table) (sc : Scope)
         (z : Around) →
         FinePairs p f a xs ps → Sees f a.this xs sc → Leaves a z → Orderly (paired_args p differ ps sc z)
     pairs_orderly t.Pairs.no_pairs u a xs sc z h g l = none
     pairs_orderly (t.Pairs.more_pairs b c ps) u a xs sc z h g l =
-        let w = each_first (Good p f) (post_order b ++ post_order c) (pairs_order ps) u in
+        let w = each_first (NodeStands p) (post_order b ++ post_order c) (pairs_order ps) u in
         both (orderly b (left b c w) a xs sc z h.0 g l)
         (both (orderly c (right b c w) a xs sc (up z) h.1 g (leaves_up l))
-        (pairs_orderly ps (each_rest (Good p f) (post_order b ++ post_order c) (pairs_order ps) u) a xs sc (up
+        (pairs_orderly ps (each_rest (NodeStands p) (post_order b ++ post_order c) (pairs_order ps) u) a xs sc (up
         (up z)) h.2 g
         (leaves_up (leaves_up l))))
 
-    givens_orderly : (gs : Givens) → Each (Good p f) (givens_order gs) → (a : Allowed) (xs : Table) (sc : Scope)
+    givens_orderly : (gs : Givens) → Each (NodeStands p) (givens_order gs) → (a : Allowed) (xs : Table) (sc : Scope)
         (z : Around) →
         FineGivens p f a xs gs → Sees f a.this xs sc → Leaves a z → Orderly (given_args p differ gs sc z)
     givens_orderly no_givens u a xs sc z h g l = none
     givens_orderly (more_givens y b gs) u a xs sc z h g l =
-        both (orderly b (each_first (Good p f) (post_order b) (givens_order gs) u) a xs sc z h.0 g l) (both (away _)
-        (givens_orderly gs (each_rest (Good p f) (post_order b) (givens_order gs) u) a xs (hidden ∷ sc) z h.1
+        both (orderly b (each_first (NodeStands p) (post_order b) (givens_order gs) u) a xs sc z h.0 g l) (both (away _)
+        (givens_orderly gs (each_rest (NodeStands p) (post_order b) (givens_order gs) u) a xs (hidden ∷ sc) z h.1
         (sees_hidden f g) l))
 
     -- the quotient that Floor and Ceil take
@@ -451,7 +446,7 @@ module _ (p : Program) (differ : ℕ → ℕ → Bool) (f : Found) (known : Fine
         FineQuotient p f a xs n x ts → Sees f a.this xs sc → Leaves a z → Orderly (quotient p differ ts sc z)
     quotient_orderly no_trees u a xs sc z n x h g l = elim h [ ]
     quotient_orderly (more_trees (tree m q (t.Shape.chained y b c)) ts) u a xs sc z n x h g l =
-        let w = inside (Good p f) m q (t.Shape.chained y b c) (first_tree (tree m q (t.Shape.chained y b c)) ts u) in
+        let w = inside (NodeStands p) m q (t.Shape.chained y b c) (first_tree (tree m q (t.Shape.chained y b c)) ts u) in
         both (orderly b (left b c w) a xs sc z h.0 g l)
         (orderly c (right b c w) a xs sc (up z) h.1 g (leaves_up l))
     quotient_orderly (more_trees (tree m q y) ts) u a xs sc z n x h g l = elim h [ ]
@@ -462,9 +457,9 @@ module _ (p : Program) (differ : ℕ → ℕ → Bool) (f : Found) (known : Fine
         Sees f a.this xs sc → Leaves a z → Orderly (target_piece p differ b base sc z)
     target_orderly (tree n pl (t.Shape.name y)) u base a xs sc z h g l = base_reads p differ f base sc
     target_orderly (tree n pl (t.Shape.member b y)) u base a xs sc z h g l =
-        orderly b (inside (Good p f) n pl (t.Shape.member b y) u) a xs sc z h g l
+        orderly b (inside (NodeStands p) n pl (t.Shape.member b y) u) a xs sc z h g l
     target_orderly (tree n pl (t.Shape.index b ts)) u base a xs sc z h g l =
-        let w = inside (Good p f) n pl (t.Shape.index b ts) u in
+        let w = inside (NodeStands p) n pl (t.Shape.index b ts) u in
         both (target_orderly b (first_tree b ts w) base a xs sc z h.0 g l)
         (args_orderly ts (rest_trees b ts w) a xs sc (up (raised (target_operands b) z)) h.1 g
         (leaves_up (leaves_raised (target_operands b) l)))
@@ -488,20 +483,20 @@ module _ (p : Program) (differ : ℕ → ℕ → Bool) (f : Found) (known : Fine
         (z : Around) (q r : Sort) (rest : Maker) → FineArm p f a xs q r b → Sees f a.this xs sc → Leaves a z →
         (none_left ts ≡ false → Orderly rest) → Orderly (arm_tree p differ b ts k sc z rest)
     arm_orderly (tree n pl (t.Shape.arm b c)) no_trees v u k a xs sc z q r rest h g l y =
-        let w = inside (Good p f) n pl (t.Shape.arm b c) u in
+        let w = inside (NodeStands p) n pl (t.Shape.arm b c) u in
         last_arm p differ f b k (piece p differ c sc z) rest
         (orderly c (right b c w) a xs sc z h.0 g l)
     arm_orderly (tree n pl (t.Shape.arm b c)) (more_trees d ts) v u k a xs sc z q r rest h g l y =
-        let w = inside (Good p f) n pl (t.Shape.arm b c) u in
+        let w = inside (NodeStands p) n pl (t.Shape.arm b c) u in
         one_arm p differ f b k (v refl) (orderly c (right b c w) a xs sc z h.0 g l) (y refl)
     arm_orderly (tree n pl x) ts v u k a xs sc z q r rest h g l y = elim h [ ]
 
     -- the arms of a group
     tasks_orderly : (ts : Trees) → AllOf ts → (a : Allowed) (xs : Table) (sc : Scope) → FineTrees p f (armed a) xs ts →
-        Sees f a.this xs sc → Orderly (task_arms p differ ts sc)
-    tasks_orderly no_trees u a xs sc h g = none
+        Sees f a.this xs sc → Several (task_arms p differ ts sc) (arm_spots p differ ts sc)
+    tasks_orderly no_trees u a xs sc h g = no_stretch
     tasks_orderly (more_trees b ts) u a xs sc h g =
-        both (both (orderly b (first_tree b ts u) (armed a) xs sc fresh h.0 g (leaves_armed a fresh))
+        beside (both (orderly b (first_tree b ts u) (armed a) xs sc fresh h.0 g (leaves_armed a fresh))
         (just o.ArmEnd refl))
         (tasks_orderly ts (rest_trees b ts u) a xs sc h.1 g)
 
@@ -510,18 +505,16 @@ module _ (p : Program) (differ : ℕ → ℕ → Bool) (f : Found) (known : Fine
         FineSpawned p f a xs n b →
         Sees f a.this xs sc → Leaves a z → Orderly (spawned p differ b sc z)
     spawned_orderly (tree m pl (t.Shape.call b ts)) u a xs sc z n h g l =
-        let v = own (Good p f) m pl (t.Shape.call b ts) u in
-        let w = inside (Good p f) m pl (t.Shape.call b ts) u in
+        let w = inside (NodeStands p) m pl (t.Shape.call b ts) u in
         let rest = rest_trees b ts w in
         let none = form.picking None in
-        by_kind p differ f b none (spawned_callee (callee_of p b none pl)) (spawned_is none (callee_of p b none pl)
-        (callee_is p b none pl))
-        (spawned_same p f b (picked ts) none pl v.1) h
+        by_kind p differ f none (spawned_callee (callee_of p b none pl)) (spawned_is none (callee_of p b none pl)
+        (callee_is p b none pl)) h
         (λ x i k. both (starts x sc) (both (args_orderly ts rest a xs sc (started x z) k.0 g (leaves_started x l))
         (alone_finish p differ f known a xs sc g ts (f.sort n) x i k.1)))
-        (λ x i gives k. both (object_orderly b (first_tree b ts w) a xs sc z k.0 g l)
+        (λ x i k. both (object_orderly b (first_tree b ts w) a xs sc z k.0 g l)
         (both (args_orderly ts rest a xs sc (up z) k.1 g (leaves_up l))
-        (object_finish p differ f known a xs sc g ts (f.sort n) x (object_sort p f b) i gives k.2)))
-        (λ x i gives k. elim k [ ])
+        (object_finish p differ f x (how_many ts) i)))
+        (λ x i k. elim k [ ])
         (λ x i k. elim k [ ])
     spawned_orderly (tree m pl x) u a xs sc z n h g l = elim h [ ]

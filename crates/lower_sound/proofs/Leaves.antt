@@ -1,7 +1,7 @@
 -- What stands for no tree of its own: operands that are applied, callees, names, statements, patterns and fields.
-use Rattle.std.proofs.Common.{◌≡◌, ◌≢◌, ℕ, zero, suc, ◌≤◌, nat_eq, nat_lt, List, [], ◌∷◌, length, Bool, true, false}
+use Rattle.std.proofs.Common.{◌≡◌, ℕ, zero, suc, nat_eq, nat_lt, List, [], ◌∷◌, length, Bool, true, false}
 use Rattle.std.proofs.Common.{cond, Option, Some, None}
-use Rattle.std.proofs.Common.{refl, sym, ap, ◌∙◌, arith, subst, ◌⊎◌, inl, inr, neg_ℤ}
+use Rattle.std.proofs.Common.{refl, sym, ap, ◌∙◌, arith, subst, neg_ℤ}
 use Rattle.std.proofs.lemmas.Bool.Decides.{nat_tests}
 use Rattle.std.proofs.lemmas.Option.{none-some}
 use Rattle.verse_base.specs.declared.places.Place.{Place}
@@ -16,12 +16,12 @@ use Rattle.verse_tree.specs.declared.tables.Ref.TheVariants as ref
 use Rattle.verse_names_declarations.specs.Names.{Table}
 use Rattle.verse_code.specs.declared.operations.Op.TheVariants as o
 use Rattle.verse_value.specs.Val.{Val}
-use Rattle.verse_sorts.specs.Sorts as s
 use Rattle.verse_sorts.specs.Sorts.{Sort}
 use Rattle.verse_meaning.specs.Programs.{Program, same_name, ref_at, fun_at, fields_of, given_names, place_of, enums}
 use Rattle.verse_meaning.specs.Programs.{enum_names}
 use Rattle.verse_meaning.specs.Programs.{enum_val, value_in, named_value}
 use Rattle.verse_meaning_state.specs.Waits.{nth}
+use Rattle.verse_meaning.specs.Forms.{place_in}
 use Rattle.verse_meaning.specs.Residuals as form
 use Rattle.verse_meaning.specs.Residuals.{Form, Base, in_variable, in_self, in_object, nowhere, Binder, no_name}
 use Rattle.verse_meaning.specs.Residuals.{a_constant, a_variable}
@@ -37,9 +37,9 @@ use Rattle.verse_sound_rules.specs.Forms.{is_field, Filled}
 use Rattle.verse_sound_rules.specs.Forms.{filled_no, filled_given, filled_by_default, given_sort}
 use Rattle.verse_sound_rules.specs.Fine as fine
 use Rattle.verse_sound_rules.specs.Fine.{FineTargetOf}
-use Rattle.verse_sound_rules.specs.Fine.{sort_at, object_sort, sorts_at, given_sorts, on_callee, on_statement}
+use Rattle.verse_sound_rules.specs.Fine.{sorts_at, on_callee, on_statement}
 use Rattle.verse_sound_rules.specs.Fine.{on_member, FineTarget, Defines}
-use Rattle.verse_sound_rules.specs.Fine.{Generates, stated_behind, generated_behind}
+use Rattle.verse_sound_rules.specs.Fine.{Generates, stated_behind}
 use Rattle.verse_sound_rules.specs.Programs.{FineFound}
 use Rattle.lower_code.specs.declared.arounds.Around.{Around}
 use Rattle.lower_code.specs.Pieces.{Maker, one, turning}
@@ -48,8 +48,8 @@ use Rattle.lower_code.specs.Scopes.{Scope, fixed, varies, absent, find, this_fou
 use Rattle.lower_code.specs.Scopes.{push_varies, read_found}
 use Rattle.lower_code.specs.Scopes.{read_this, field_of_this}
 use Rattle.lower_code.specs.Arounds.{up, raised, returning, breaking, leaving_to}
-use Rattle.lower_code.specs.Applied.{finish, start, started, storing, comparing, awaiting, signalling, with_none}
-use Rattle.lower_code.specs.Applied.{with_one, with_two}
+use Rattle.lower_code.specs.Applied.{finish, start, started, storing, comparing, awaiting, indexing, signalling}
+use Rattle.lower_code.specs.Applied.{dropping, with_one, with_two}
 use Rattle.lower_code.specs.Applied.{computing}
 use Rattle.verse_code.specs.declared.operations.Op.{Op}
 use Rattle.verse_tree.specs.declared.exprs.Operator.TheVariants as op
@@ -62,13 +62,11 @@ use Rattle.lower_code.specs.Lowering.{takes_params}
 use Rattle.lower_code.specs.Defaults.{default_number}
 use Rattle.lower_bounds.proofs.Bodies.{some_is}
 use Rattle.lower_simulation_runs.specs.Programs.{is_some, has_value_shape, has_value}
-use Rattle.lower_sound.specs.Programs.{CalleeGives}
 use Rattle.lower_sound.proofs.Armed.{Orderly, both, none, just, at_place, text, keeps, leaves, if_so}
 use Rattle.lower_sound.proofs.Armed.{is_so, before, one_of}
 use Rattle.lower_sound.proofs.Armed.{turns}
 use Rattle.lower_sound.proofs.Names.{Sees, is_there, sees_defined, sees_generated, params_many}
-use Rattle.lower_sound.proofs.Counts.{FirstNever, IsGiven, sorts_many, gives_told, gives_first, gives_many, IsAlone}
-use Rattle.lower_sound.proofs.Counts.{IsOfObject, IsOfQuotient}
+use Rattle.lower_sound.proofs.Counts.{IsGiven, sorts_many, gives_told, gives_many, IsAlone, IsOfObject, IsOfQuotient}
 use Rattle.lower_sound.proofs.Counts.{IsCallee, Called}
 
 -- ---- what may leave a tree
@@ -101,9 +99,9 @@ breaks a z l e = both (leaving z.floor z) (is_so z.in_loop (l.breaks e) (leaves 
 
 -- ---- numbers of operands
 
-with_no : {m : Maker} (n : ℕ) → n ≡ 0 → Orderly m → Orderly (with_none n m)
-with_no zero e x = x
-with_no (suc n) e x = absurd (omega (arith, e))
+drops : {m : Maker} (n : ℕ) → Orderly m → Orderly (dropping n m)
+drops zero x = x
+drops (suc n) x = both (just o.Drop refl) (drops n x)
 
 with_1 : {m : Maker} (n : ℕ) → n ≡ 1 → Orderly m → Orderly (with_one n m)
 with_1 zero e x = absurd (omega (arith, e))
@@ -116,10 +114,13 @@ with_2 (suc zero) e x = absurd (omega (arith, e))
 with_2 (suc (suc zero)) e x = x
 with_2 (suc (suc (suc n))) e x = absurd (omega (arith, e))
 
-signals : (n : ℕ) → n ≤ 1 → Orderly (signalling n)
-signals zero le = both (just o.Unit refl) (just o.Signal refl)
-signals (suc zero) le = just o.Signal refl
-signals (suc (suc n)) le = absurd (omega (arith, le))
+indexes : (n : ℕ) → Orderly (indexing n)
+indexes zero = none
+indexes (suc n) = drops n (just o.At refl)
+
+signals : (n : ℕ) → Orderly (signalling n)
+signals zero = both (just o.Unit refl) (just o.Signal refl)
+signals (suc n) = drops n (just o.Signal refl)
 
 awaits : (e : Bool) → Orderly (one (awaiting e))
 awaits true = just o.AwaitEvent refl
@@ -272,61 +273,23 @@ module _ (p : Program) (differ : ℕ → ℕ → Bool) (f : Found) where
           (how_many ts)) refl)
       alone_finish x i k = elim i [ ]
 
-      awaited : (q : Sort) (e : Bool) → q ≢ s.never → (k : Gives p f a xs (form.awaiting e) (q ∷ sorts_at p f ts) r) →
-          (length k.taken ≡ 1) ⊎ FirstNever k.taken → how_many ts ≡ 0
-      awaited q e h k (inl one) = let many = gives_many p f a xs k in omega (arith, sorts_many p f ts, many, one)
-      awaited q e h k (inr none) = absurd (gives_first p f a xs k h none)
+  pub object_finish : (x : Form) (n : ℕ) → IsOfObject x → Orderly (finish x n true)
+  object_finish (form.calling_method m) n i = just (o.Method m n) refl
+  object_finish (form.awaiting e) n i = drops n (awaits e)
+  object_finish form.signalling n i = signals n
+  object_finish (form.spawning_method m) n i = just (o.SpawnMethod m n) refl
+  object_finish x n i = elim i [ ]
 
-      signalled : (q : Sort) → q ≢ s.never → (k : Gives p f a xs form.signalling (q ∷ sorts_at p f ts) r) →
-          (length k.taken ≤ 2) ⊎ FirstNever k.taken → how_many ts ≤ 1
-      signalled q h k (inl few) = let many = gives_many p f a xs k in omega (arith, sorts_many p f ts, many, few)
-      signalled q h k (inr none) = absurd (gives_first p f a xs k h none)
+  pub index_finish : (x : Form) (n : ℕ) → x ≡ form.indexing → Orderly (finish x n true)
+  index_finish x n e = subst (λ y. Orderly (finish y n true)) (sym e) (indexes n)
 
-      indexed : (q : Sort) → q ≢ s.never → (k : Gives p f a xs form.indexing (q ∷ sorts_at p f ts) r) →
-          (length k.taken ≡ 2) ⊎ FirstNever k.taken → how_many ts ≡ 1
-      indexed q h k (inl two) = let many = gives_many p f a xs k in omega (arith, sorts_many p f ts, many, two)
-      indexed q h k (inr none) = absurd (gives_first p f a xs k h none)
+  picked_finish : (ts : Trees) → Orderly (finish (picked ts) 0 true)
+  picked_finish no_trees = just (o.Item 0) refl
+  picked_finish (more_trees b no_trees) = just (o.Item (place_in (literal_of b))) refl
+  picked_finish (more_trees b (more_trees c ts)) = just (o.Item 0) refl
 
-      pub object_finish : (x : Form) (q : Sort) → IsOfObject x → q ≢ s.never → Gives p f a xs x
-          (q ∷ sorts_at p f ts) r →
-          Orderly (finish x (how_many ts) true)
-      object_finish (form.calling_method m) q i h k = just (o.Method m (how_many ts)) refl
-      object_finish (form.awaiting e) q i h k = with_no (how_many ts) (awaited q e h k (gives_told p f a xs k))
-          (awaits e)
-      object_finish form.signalling q i h k = signals (how_many ts) (signalled q h k (gives_told p f a xs k))
-      object_finish (form.spawning_method m) q i h k = just (o.SpawnMethod m (how_many ts)) refl
-      object_finish x q i h k = elim i [ ]
-
-      pub index_finish : (x : Form) (q : Sort) → x ≡ form.indexing → q ≢ s.never → Gives p f a xs x
-          (q ∷ sorts_at p f ts) r →
-          Orderly (finish x (how_many ts) true)
-      index_finish x q e h k =
-          let l : Gives p f a xs form.indexing (q ∷ sorts_at p f ts) r = subst (λ y. Gives p f a xs y
-          (q ∷ sorts_at p f ts) r) e k in
-          subst (λ y. Orderly (finish y (how_many ts) true)) (sym e)
-          (with_1 (how_many ts) (indexed q h l (gives_told p f a xs l)) (just o.At refl))
-
-    item_by : (i : Option ℕ) (q r : Sort) → q ≢ s.never → (k : Gives p f a xs (form.picking i) (q ∷ []) r) →
-        IsGiven i ⊎ FirstNever k.taken → Orderly (finish (form.picking i) 0 true)
-    item_by (Some n) q r h k j = just (o.Item n) refl
-    item_by None q r h k (inl j) = elim j [ ]
-    item_by None q r h k (inr none) = absurd (gives_first p f a xs k h none)
-
-    item_finish : (i : Option ℕ) (q r : Sort) → q ≢ s.never → Gives p f a xs (form.picking i) (q ∷ []) r →
-        Orderly (finish (form.picking i) 0 true)
-    item_finish i q r h k = item_by i q r h k (gives_told p f a xs k)
-
-    picked_finish : (ts : Trees) (q r : Sort) → q ≢ s.never → Gives p f a xs (picked ts) (q ∷ []) r → Orderly (finish
-        (picked ts) 0 true)
-    picked_finish no_trees q r h k = item_finish None q r h k
-    picked_finish (more_trees b no_trees) q r h k = item_finish (literal_of b) q r h k
-    picked_finish (more_trees b (more_trees c ts)) q r h k = item_finish None q r h k
-
-    pub pick_finish : (x : Form) (ts : Trees) (q r : Sort) → x ≡ picked ts → q ≢ s.never → Gives p f a xs x
-        (q ∷ []) r →
-        Orderly (finish x 0 true)
-    pick_finish x ts q r e h k = subst (λ y. Orderly (finish y 0 true)) (sym e)
-        (picked_finish ts q r h (subst (λ y. Gives p f a xs y (q ∷ []) r) e k))
+  pub pick_finish : (x : Form) (ts : Trees) → x ≡ picked ts → Orderly (finish x 0 true)
+  pick_finish x ts e = subst (λ y. Orderly (finish y 0 true)) (sym e) (picked_finish ts)
 
   pub quotient_finish : (x : Form) → IsOfQuotient x → Orderly (finish x 2 true)
   quotient_finish (form.flooring pl) i = at_place pl o.Floor (λ m. refl)
@@ -334,20 +297,20 @@ module _ (p : Program) (differ : ℕ → ℕ → Bool) (f : Found) where
   quotient_finish x i = elim i [ ]
 
   -- by what a callee is
-  pub by_kind : (b : Tree) (whole : Form) (k : Callee) {by_none by_object by_value by_quotient : Form → Type 0}
-      {on_none on_object on_value on_quotient : Form → Maker} → IsCallee whole k → CalleeGives p f k b →
+  pub by_kind : (whole : Form) (k : Callee) {by_none by_object by_value by_quotient : Form → Type 0}
+      {on_none on_object on_value on_quotient : Form → Maker} → IsCallee whole k →
       on_callee k by_none by_object by_value by_quotient →
       ((x : Form) → IsAlone x → by_none x → Orderly (on_none x)) →
-      ((x : Form) → IsOfObject x → object_sort p f b ≢ s.never → by_object x → Orderly (on_object x)) →
-      ((x : Form) → x ≡ whole → sort_at p f b ≢ s.never → by_value x → Orderly (on_value x)) →
+      ((x : Form) → IsOfObject x → by_object x → Orderly (on_object x)) →
+      ((x : Form) → x ≡ whole → by_value x → Orderly (on_value x)) →
       ((x : Form) → IsOfQuotient x → by_quotient x → Orderly (on_quotient x)) → Orderly
       (by_callee k on_none on_object on_value on_quotient)
   unfolding by_callee
-  by_kind b whole (alone x) i g h k l m n = k x i h
-  by_kind b whole (of_object x) i g h k l m n = l x i g h
-  by_kind b whole (of_value x) i g h k l m n = m x i g h
-  by_kind b whole (of_quotient x) i g h k l m n = n x i h
-  by_kind b whole no_callee i g h k l m n = elim h [ ]
+  by_kind whole (alone x) i h k l m n = k x i h
+  by_kind whole (of_object x) i h k l m n = l x i h
+  by_kind whole (of_value x) i h k l m n = m x i h
+  by_kind whole (of_quotient x) i h k l m n = n x i h
+  by_kind whole no_callee i h k l m n = elim h [ ]
 
   -- ---- members of enums
 

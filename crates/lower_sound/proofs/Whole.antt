@@ -11,6 +11,7 @@ use Rattle.verse_meaning.specs.Forms.{this_name}
 use Rattle.verse_sound_rules.specs.Found.{Found, Signature, in_function, in_default}
 use Rattle.verse_sound_rules.specs.Forms.{IsDefault}
 use Rattle.verse_sound_rules.specs.Programs.{params_behind, FineFound}
+use Rattle.lower_code.specs.Pieces.{Spot, past}
 use Rattle.lower_code.specs.Scopes.{Scope, constant_at}
 use Rattle.lower_code.specs.Arounds.{fresh}
 use Rattle.lower_code.specs.Defaults.{with_default, with_defaults, defaults_in}
@@ -20,16 +21,12 @@ use Rattle.lower_code.specs.Programs.{body_piece, bodies_from, first_spot, whole
 use Rattle.lower_bounds.proofs.Lists.{Each, each_first, each_rest, each_joined}
 use Rattle.lower_bounds.proofs.Bodies.{BodyHas, all_have, all_each}
 use Rattle.lower_simulation_runs.specs.Programs.{NodeStands}
-use Rattle.lower_sound.specs.Programs.{CalleesGive, DefaultFound, MembersFound, ItemsFound}
+use Rattle.lower_sound.specs.Programs.{DefaultFound, MembersFound, ItemsFound}
 use Rattle.lower_sound.specs.Laws.{FineArmsStand}
-use Rattle.lower_sound.proofs.Armed.{Orderly, both, none, just, arms_stand}
+use Rattle.lower_sound.proofs.Armed.{Orderly, both, just, Several, no_stretch, beside, arms_stand}
 use Rattle.lower_sound.proofs.Names.{Sees, sees_nothing, sees_own, sees_params}
 use Rattle.lower_sound.proofs.Leaves.{Leaves}
-use Rattle.lower_sound.proofs.Forms.{Good, orderly}
-
-both_each : {X : Type 0} (P Q : X → Type 0) (xs : List X) → Each P xs → Each Q xs → Each (λ x. P x × Q x) xs
-both_each P Q [] h k = tt
-both_each P Q (x ∷ xs) h k = ((h.0, k.0), both_each P Q xs h.1 k.1)
+use Rattle.lower_sound.proofs.Forms.{orderly}
 
 pub in_body : (g : Signature) → Leaves (in_function g true) fresh
 in_body g = record { returns = λ r e. refl; breaks = λ e. absurd (cc) }
@@ -62,7 +59,7 @@ module _ (p : Program) (f : Found) where
 
 module _ (p : Program) (differ : ℕ → ℕ → Bool) (f : Found) (known : FineFound p f) where
   abbrev Has : Body → Type 0
-  Has b = BodyHas (Good p f) b
+  Has b = BodyHas (NodeStands p) b
 
   abbrev InOrder : Body → Type 0
   InOrder b = Orderly (body_piece p differ b)
@@ -122,22 +119,25 @@ module _ (p : Program) (differ : ℕ → ℕ → Bool) (f : Found) (known : Fine
 
   -- ---- all bodies
 
-  in_turn : (bs : List Body) → Each InOrder bs → Orderly (bodies_from p differ bs)
-  in_turn [] h = none
-  in_turn (b ∷ bs) h = both h.0 (in_turn bs h.1)
+  -- where the bodies begin
+  abbrev pub begins : List Body → Spot → List ℕ
+  begins [] s = []
+  begins (b ∷ bs) s = s.at ∷ begins bs (past s (body_piece p differ b s))
 
-  pub whole_orderly : ItemsFound p f p.items → Each (Good p f) (items_order p.items) → Orderly (bodies_from p differ
-      (all_bodies p.items))
+  in_turn : (bs : List Body) → Each InOrder bs → Several (bodies_from p differ bs) (begins bs)
+  in_turn [] h = no_stretch
+  in_turn (b ∷ bs) h = beside h.0 (in_turn bs h.1)
+
+  pub whole_orderly : ItemsFound p f p.items → Each (NodeStands p) (items_order p.items) →
+      Several (bodies_from p differ (all_bodies p.items)) (begins (all_bodies p.items))
   whole_orderly m h =
-      let has = all_have (Good p f) p.items h in
+      let has = all_have (NodeStands p) p.items h in
       let bs = bodies_in p.items in
       let ds = default_bodies (defaults_in p.items) in
       in_turn (all_bodies p.items) (each_joined InOrder bs ds (bodies_orderly p.items m (each_first Has bs ds has))
       (defaults_orderly (defaults_in p.items) (defaults_found p f p.items m) (each_rest Has bs ds has)))
 
 pub fine_arms_stand : FineArmsStand
-fine_arms_stand p fine found stand give differ files =
-    let nodes = both_each (NodeStands p) (CalleesGive p fine.found) (items_order p.items)
-    (all_each (NodeStands p) (items_order p.items) stand) (all_each (CalleesGive p fine.found)
-    (items_order p.items) give) in
-    arms_stand (whole p differ).items ((whole_orderly p differ fine.found fine.fine found nodes).arms first_spot)
+fine_arms_stand p fine found stand differ files =
+    let nodes = all_each (NodeStands p) (items_order p.items) stand in
+    arms_stand (whole p differ).items ((whole_orderly p differ fine.found fine.fine found nodes).whole.arms first_spot)

@@ -7,7 +7,7 @@ use Rattle.verse_meaning.specs.Programs.{Program}
 use Rattle.verse_sound_rules.specs.Programs.{FineProgram}
 use Rattle.lower_code.specs.Programs.{code_of}
 use Rattle.lower_simulation_runs.specs.Programs.{NodeStands}
-use Rattle.lower_sound.specs.Programs.{CalleesGive, ItemsFound}
+use Rattle.lower_sound.specs.Programs.{ItemsFound}
 
 -- the operation at i is that of an arm
 abbrev pub IsArm : List Op → (i : ℕ) → Type 0
@@ -36,10 +36,8 @@ pub record ArmsStand (ops : List Op) : Type 0 where
   pub arms : (j m i : ℕ) → GroupAt ops j m → IsBehind j m i → IsArm ops i
   pub groups : (i : ℕ) → IsArm ops i → GroupOf ops i
 
--- Of a fine program, where the tables find each body, patterns stand for values, and what is called
--- gives one.
+-- Of a fine program, where the tables find each body, and patterns stand for values.
 abbrev pub FineArmsStand : Type 0
 FineArmsStand = (p : Program) (fine : FineProgram p) → ItemsFound p fine.found p.items →
     All (NodeStands p) (items_order p.items) →
-    All (CalleesGive p fine.found) (items_order p.items) →
     (differ : ℕ → ℕ → Bool) (files : ℕ) → ArmsStand (code_of p differ files).ops

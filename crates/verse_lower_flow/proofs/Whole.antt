@@ -8,7 +8,6 @@ use Rattle.verse_rules_walk.specs.Order.{InPostOrder}
 use Rattle.verse_meaning.specs.Programs.{Program, is_array_type, is_event_type, of_type}
 use Rattle.lower_code.specs.Programs.{code_of}
 use Rattle.lower_simulation_runs.specs.Programs.{NodeStands}
-use Rattle.lower_flow.specs.Programs.{NodeGives}
 use Rattle.lower_flow.specs.Laws.{FineFlowGoes}
 use Rattle.verse_code_flow.specs.Flow.{FlowGoes}
 use Rattle.verse_accept_nodes.specs.Laws.{AcceptedShaped, AcceptedStand}
@@ -24,7 +23,7 @@ use Rattle.verse_lower_flow.specs.Laws.{AcceptedFlowGoes}
 module _ (order : InPostOrder) (shapes : AcceptedShaped) (stands : AcceptedStand) (programs : ProgramsAreFine)
     (goes : FineFlowGoes) where
   pub accepted_flow : AcceptedFlowGoes
-  accepted_flow files made a told some differ count =
+  accepted_flow files made a told differ count =
       let is : List ItemTree = map item_of made.tree.items in
       let arrays : ℕ → Bool = λ n. of_type is_array_type (slice_get made.typed.types n) in
       let events : ℕ → Bool = λ n. of_type is_event_type (slice_get made.typed.types n) in
@@ -33,9 +32,7 @@ module _ (order : InPostOrder) (shapes : AcceptedShaped) (stands : AcceptedStand
       let functions = functions_found is (sound.numbered order shapes programs files is a) in
       let fine = sound.items_found order shapes programs files is a arrays events
       (tables_tell is made.typed.types told.types) in
-      subst (λ k. All (NodeStands (of_names k)) (items_order is) → All (NodeGives (of_names k) (sorted is))
-      (items_order is) →
-      FlowGoes (code_of (of_names k) differ count)) (sym told.names)
-      (λ stand give. goes _ (record { found = sorted is; fine = fine }) (items_found is quiet functions arrays events)
-      stand give differ count)
-      (stands files is made a refl) some
+      subst (λ k. All (NodeStands (of_names k)) (items_order is) → FlowGoes (code_of (of_names k) differ count)) (sym told.names)
+      (λ stand. goes _ (record { found = sorted is; fine = fine }) (items_found is quiet functions arrays events)
+      stand differ count)
+      (stands files is made a refl)

@@ -1,8 +1,7 @@
 //! The flow of accepted files' code comes to no operation that is stuck by construction. Read
 //! `specs/Laws`, with those of `lower_flow`.
 //!
-//! In `proofs/`: `Whole`, the law; `Example`, an accepted program that takes something out of
-//! nothing, for whose code no notes are right.
+//! In `proofs/`: `Whole`, the law.
 #![tactic(auto)]
 
 ghost use Rattle.verse_lower_flow.specs.Laws.{AcceptedFlowGoes};
@@ -12,8 +11,8 @@ use verse_accept_nodes::{accepted_nodes_stand, accepted_trees_are_shaped};
 use verse_accept_programs::programs_are_fine;
 use verse_rules_walk::laws::nodes_in_order;
 
-/// In the code of accepted files that take nothing out of what is always empty, no place that the
-/// flow reaches has an operation that is stuck by construction.
+/// In the code of accepted files no place that the flow reaches has an operation that is stuck by
+/// construction.
 pub fn accepted_flow_goes()
     ensures { AcceptedFlowGoes }
 {

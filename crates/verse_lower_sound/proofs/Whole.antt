@@ -8,7 +8,6 @@ use Rattle.verse_rules_walk.specs.Order.{InPostOrder}
 use Rattle.verse_meaning.specs.Programs.{Program, is_array_type, is_event_type, of_type}
 use Rattle.lower_code.specs.Programs.{code_of}
 use Rattle.lower_simulation_runs.specs.Programs.{NodeStands}
-use Rattle.lower_sound.specs.Programs.{CalleesGive}
 use Rattle.lower_sound.specs.Laws.{ArmsStand, FineArmsStand}
 use Rattle.verse_accept_nodes.specs.Laws.{AcceptedShaped, AcceptedStand}
 use Rattle.verse_accept_classes.specs.Laws.{Quiet}
@@ -23,7 +22,7 @@ use Rattle.verse_lower_sound.proofs.Tables.{items_found}
 module _ (order : InPostOrder) (shapes : AcceptedShaped) (stands : AcceptedStand) (programs : ProgramsAreFine)
     (arms : FineArmsStand) where
   pub accepted_arms : AcceptedArmsStand
-  accepted_arms files made a told answer differ count =
+  accepted_arms files made a told differ count =
       let is : List ItemTree = map item_of made.tree.items in
       let arrays : ℕ → Bool = λ n. of_type is_array_type (slice_get made.typed.types n) in
       let events : ℕ → Bool = λ n. of_type is_event_type (slice_get made.typed.types n) in
@@ -32,9 +31,7 @@ module _ (order : InPostOrder) (shapes : AcceptedShaped) (stands : AcceptedStand
       let functions = functions_found is (sound.numbered order shapes programs files is a) in
       let fine = sound.items_found order shapes programs files is a arrays events
       (tables_tell is made.typed.types told.types) in
-      subst (λ k. All (NodeStands (of_names k)) (items_order is) → All (CalleesGive (of_names k) (sorted is))
-      (items_order is) →
-      ArmsStand (code_of (of_names k) differ count).ops) (sym told.names)
-      (λ stand give. arms _ (record { found = sorted is; fine = fine }) (items_found is quiet functions arrays events)
-      stand give differ count)
-      (stands files is made a refl) answer
+      subst (λ k. All (NodeStands (of_names k)) (items_order is) → ArmsStand (code_of (of_names k) differ count).ops) (sym told.names)
+      (λ stand. arms _ (record { found = sorted is; fine = fine }) (items_found is quiet functions arrays events)
+      stand differ count)
+      (stands files is made a refl)

@@ -1,23 +1,14 @@
 -- The code of accepted files has no operation that is stuck by construction.
-use Rattle.std.specs.Prelude.{ℕ, Bool, List, map, All}
+use Rattle.std.specs.Prelude.{ℕ, Bool, List, map}
 use Rattle.verse_tree.specs.ItemView.{item_of}
-use Rattle.verse_tree.specs.PostOrder.{items_order}
 use Rattle.verse_tree.specs.declared.programs.Program.{Program as Made}
 use Rattle.verse_accept.specs.Fronts.{Accepts}
 use Rattle.verse_meaning.specs.Programs.{program_of}
 use Rattle.lower_code.specs.Programs.{code_of}
-use Rattle.lower_sound.specs.Programs.{CalleesGive}
 use Rattle.lower_sound.specs.Laws.{ArmsStand}
-use Rattle.verse_accept_fine.specs.Sorted.{sorted}
 use Rattle.verse_accept_sound.specs.Laws.{IsTold}
-
--- what is called, indexed, awaited or signalled gives a value, by the types that the checker has
--- found
-abbrev pub CalleesAnswer : Made → Type 0
-CalleesAnswer made = All (CalleesGive (program_of made) (sorted (map item_of made.tree.items)))
-    (items_order (map item_of made.tree.items))
 
 abbrev pub AcceptedArmsStand : Type 0
 AcceptedArmsStand = (files : List (List ℕ)) (made : Made) →
-    Accepts files (map item_of made.tree.items) → IsTold made → CalleesAnswer made →
+    Accepts files (map item_of made.tree.items) → IsTold made →
     (differ : ℕ → ℕ → Bool) (count : ℕ) → ArmsStand (code_of (program_of made) differ count).ops

@@ -11,8 +11,8 @@ use verse_accept_nodes::{accepted_nodes_stand, accepted_trees_are_shaped};
 use verse_accept_programs::programs_are_fine;
 use verse_rules_walk::laws::nodes_in_order;
 
-/// In the code of accepted files each arm stands behind its group, where what is called, indexed,
-/// awaited or signalled gives a value.
+/// In the code of accepted files each arm stands behind its group, so no operation of it is stuck
+/// by construction, not even where no run comes to.
 pub fn accepted_arms_stand()
     ensures { AcceptedArmsStand }
 {

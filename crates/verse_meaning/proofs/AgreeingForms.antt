@@ -89,8 +89,7 @@ module _ (l : ℕ) (p : Program) (k k' : Deeper) (d : DeeperAgrees l k k') where
 
   signal_agrees : (vs : List Val) (o : Val) (e : Env) (w : World) → Agrees l w (signal_told p k vs o e w) (signal_told p k' vs o e w)
   signal_agrees [] o e w = alike (sent_follow steps_closed _ _ e w)
-  signal_agrees (v ∷ []) o e w = alike (sent_follow steps_closed _ _ e w)
-  signal_agrees (v ∷ x ∷ vs) o e w = here w
+  signal_agrees (v ∷ vs) o e w = alike (sent_follow steps_closed _ _ e w)
 
   pub apply_agrees : (f : Form) (vs : List Val) (m : Bool) (e : Env) (w : World) → Agrees l w (apply p k f vs m e w) (apply p k' f vs m e w)
   apply_agrees (form.computing o t pl) (a ∷ b ∷ []) m e w = alike (told_follow steps_closed w _ pl e (still_writes w.state _))
@@ -103,8 +102,9 @@ module _ (l : ℕ) (p : Program) (k k' : Deeper) (d : DeeperAgrees l k k') where
   apply_agrees (form.making_array pl) vs m e w = alike (told_follow steps_closed w _ pl e (still_writes w.state _))
   apply_agrees (form.making_map pl) vs m e w = alike (told_follow steps_closed w _ pl e (still_writes w.state _))
   apply_agrees (form.joining xs pl) vs m e w = alike (told_follow steps_closed w _ pl e (still_writes w.state _))
-  apply_agrees (form.picking (Some n)) (a ∷ []) m e w = alike (plain_follow steps_closed w _ e (still_writes w.state _))
-  apply_agrees form.indexing (a ∷ b ∷ []) m e w = alike (plain_follow steps_closed w _ e (still_writes w.state _))
+  apply_agrees (form.picking i) (a ∷ []) m e w = alike (plain_follow steps_closed w _ e (still_writes w.state _))
+  apply_agrees form.indexing (a ∷ []) m e w = here w
+  apply_agrees form.indexing (a ∷ b ∷ vs) m e w = alike (plain_follow steps_closed w _ e (still_writes w.state _))
   apply_agrees (form.calling f) vs m e w = d.calls f None vs m e w
   apply_agrees (form.calling_own f) vs m e w = known_agrees l w (this_of e) _ _ (λ o. called_agrees f o vs m e w)
   apply_agrees (form.calling_method f) (o ∷ vs) m e w = called_agrees f o vs m e w
@@ -112,7 +112,7 @@ module _ (l : ℕ) (p : Program) (k k' : Deeper) (d : DeeperAgrees l k k') where
   apply_agrees (form.flooring pl) (a ∷ b ∷ []) m e w = alike (told_follow steps_closed w _ pl e (still_writes w.state _))
   apply_agrees (form.ceiling pl) (a ∷ b ∷ []) m e w = alike (told_follow steps_closed w _ pl e (still_writes w.state _))
   apply_agrees form.taking_modulo (a ∷ b ∷ []) m e w = alike (plain_follow steps_closed w _ e (still_writes w.state _))
-  apply_agrees (form.awaiting t) (a ∷ []) m e w = outside_agrees l m w _ _ (awaited_agrees t a e w)
+  apply_agrees (form.awaiting t) (a ∷ vs) m e w = outside_agrees l m w _ _ (awaited_agrees t a e w)
   apply_agrees form.signalling (o ∷ vs) m e w = outside_agrees l m w _ _ (signal_agrees vs o e w)
   apply_agrees (form.spawning f) vs m e w = outside_agrees l m w _ _ (d.spawns f None vs e w)
   apply_agrees (form.spawning_own f) vs m e w = outside_agrees l m w _ _ (known_agrees l w (this_of e) _ _ (λ o. spawned_agrees f o vs e w))

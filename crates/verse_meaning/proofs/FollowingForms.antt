@@ -175,8 +175,7 @@ module _ {R : State → State → Type 0} (cl : Closed R) (p : Program) (k : Dee
 
   signal_follow : (vs : List Val) (o : Val) (e : Env) (w : World) → Reaches R w.state (signal_told p k vs o e w)
   signal_follow [] o e w = sent_follow cl _ _ e w
-  signal_follow (v ∷ []) o e w = sent_follow cl _ _ e w
-  signal_follow (v ∷ x ∷ vs) o e w = cl.same w.state
+  signal_follow (v ∷ vs) o e w = sent_follow cl _ _ e w
 
   pub apply_follow : (f : Form) (vs : List Val) (m : Bool) (e : Env) (w : World) → Reaches R w.state (apply p k f vs m e w)
   apply_follow (form.computing o t pl) (a ∷ b ∷ []) m e w = told_follow cl w _ pl e (still_writes w.state _)
@@ -189,8 +188,9 @@ module _ {R : State → State → Type 0} (cl : Closed R) (p : Program) (k : Dee
   apply_follow (form.making_array pl) vs m e w = told_follow cl w _ pl e (still_writes w.state _)
   apply_follow (form.making_map pl) vs m e w = told_follow cl w _ pl e (still_writes w.state _)
   apply_follow (form.joining xs pl) vs m e w = told_follow cl w _ pl e (still_writes w.state _)
-  apply_follow (form.picking (Some n)) (a ∷ []) m e w = plain_follow cl w _ e (still_writes w.state _)
-  apply_follow form.indexing (a ∷ b ∷ []) m e w = plain_follow cl w _ e (still_writes w.state _)
+  apply_follow (form.picking i) (a ∷ []) m e w = plain_follow cl w _ e (still_writes w.state _)
+  apply_follow form.indexing (a ∷ []) m e w = cl.same w.state
+  apply_follow form.indexing (a ∷ b ∷ vs) m e w = plain_follow cl w _ e (still_writes w.state _)
   apply_follow (form.calling f) vs m e w = d.calls f None vs m e w
   apply_follow (form.calling_own f) vs m e w = known_follow cl w (this_of e) _ (λ o. called_follow f o vs m e w)
   apply_follow (form.calling_method f) (o ∷ vs) m e w = called_follow f o vs m e w
@@ -198,7 +198,7 @@ module _ {R : State → State → Type 0} (cl : Closed R) (p : Program) (k : Dee
   apply_follow (form.flooring pl) (a ∷ b ∷ []) m e w = told_follow cl w _ pl e (still_writes w.state _)
   apply_follow (form.ceiling pl) (a ∷ b ∷ []) m e w = told_follow cl w _ pl e (still_writes w.state _)
   apply_follow form.taking_modulo (a ∷ b ∷ []) m e w = plain_follow cl w _ e (still_writes w.state _)
-  apply_follow (form.awaiting t) (a ∷ []) m e w = outside_follow cl m w _ (awaited_follow t a e w)
+  apply_follow (form.awaiting t) (a ∷ vs) m e w = outside_follow cl m w _ (awaited_follow t a e w)
   apply_follow form.signalling (o ∷ vs) m e w = outside_follow cl m w _ (signal_follow vs o e w)
   apply_follow (form.spawning f) vs m e w = outside_follow cl m w _ (d.spawns f None vs e w)
   apply_follow (form.spawning_own f) vs m e w = outside_follow cl m w _ (known_follow cl w (this_of e) _ (λ o. spawned_follow f o vs e w))

@@ -188,8 +188,7 @@ module _ (p : Program) (k : Deeper) (d : DeeperKeeps k) where
 
   signal_keeps : (vs : List Val) (o : Val) (e : Env) (w : World) → Keeps true w (signal_told p k vs o e w)
   signal_keeps [] o e w = plain_true w _ e
-  signal_keeps (v ∷ []) o e w = plain_true w _ e
-  signal_keeps (v ∷ x ∷ vs) o e w = tt
+  signal_keeps (v ∷ vs) o e w = plain_true w _ e
 
   pub apply_keeps : (f : Form) (vs : List Val) (m : Bool) (e : Env) (w : World) → Keeps m w (apply p k f vs m e w)
   apply_keeps (form.computing o t pl) (a ∷ b ∷ []) m e w = told_keeps m w _ pl e (still_memory w _)
@@ -202,8 +201,9 @@ module _ (p : Program) (k : Deeper) (d : DeeperKeeps k) where
   apply_keeps (form.making_array pl) vs m e w = told_keeps m w _ pl e (still_memory w _)
   apply_keeps (form.making_map pl) vs m e w = told_keeps m w _ pl e (still_memory w _)
   apply_keeps (form.joining xs pl) vs m e w = told_keeps m w _ pl e (still_memory w _)
-  apply_keeps (form.picking (Some n)) (a ∷ []) m e w = plain_keeps m w _ e (still_memory w _)
-  apply_keeps form.indexing (a ∷ b ∷ []) m e w = plain_keeps m w _ e (still_memory w _)
+  apply_keeps (form.picking i) (a ∷ []) m e w = plain_keeps m w _ e (still_memory w _)
+  apply_keeps form.indexing (a ∷ []) m e w = leaves_same m w
+  apply_keeps form.indexing (a ∷ b ∷ vs) m e w = plain_keeps m w _ e (still_memory w _)
   apply_keeps (form.calling f) vs m e w = d.calls f None vs m e w
   apply_keeps (form.calling_own f) vs m e w = known_keeps m w (this_of e) _ (λ o. called_keeps f o vs m e w)
   apply_keeps (form.calling_method f) (o ∷ vs) m e w = called_keeps f o vs m e w
@@ -211,7 +211,7 @@ module _ (p : Program) (k : Deeper) (d : DeeperKeeps k) where
   apply_keeps (form.flooring pl) (a ∷ b ∷ []) m e w = told_keeps m w _ pl e (still_memory w _)
   apply_keeps (form.ceiling pl) (a ∷ b ∷ []) m e w = told_keeps m w _ pl e (still_memory w _)
   apply_keeps form.taking_modulo (a ∷ b ∷ []) m e w = plain_keeps m w _ e (still_memory w _)
-  apply_keeps (form.awaiting t) (a ∷ []) m e w = outside_keeps m w _ (λ h. awaited_keeps t a e w)
+  apply_keeps (form.awaiting t) (a ∷ vs) m e w = outside_keeps m w _ (λ h. awaited_keeps t a e w)
   apply_keeps form.signalling (o ∷ vs) m e w = outside_keeps m w _ (λ h. signal_keeps vs o e w)
   apply_keeps (form.spawning f) vs m e w = outside_keeps m w _ (λ h. d.spawns f None vs e w)
   apply_keeps (form.spawning_own f) vs m e w = outside_keeps m w _ (λ h. known_keeps true w (this_of e) _ (λ o. spawned_keeps f o vs e w))

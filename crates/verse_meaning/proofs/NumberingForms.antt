@@ -95,8 +95,7 @@ module _ (i : ℕ) (p : Program) (k : Deeper) (keeps : DeeperKeeps k) (d : Deepe
 
   signal_fits : (vs : List Val) (o : Val) (e : Env) (w : World) → Fits i w (signal_told p k vs o e w)
   signal_fits [] o e w = sent_fits i _ _ e w
-  signal_fits (v ∷ []) o e w = sent_fits i _ _ e w
-  signal_fits (v ∷ x ∷ vs) o e w = λ c b h. tt
+  signal_fits (v ∷ vs) o e w = sent_fits i _ _ e w
 
   pub apply_fits : (f : Form) (vs : List Val) (m : Bool) (e : Env) (w : World) → Fits i w (apply p k f vs m e w)
   apply_fits (form.computing o t pl) (a ∷ b ∷ []) m e w = told_fits i w _ pl e (still_memory w _)
@@ -109,8 +108,9 @@ module _ (i : ℕ) (p : Program) (k : Deeper) (keeps : DeeperKeeps k) (d : Deepe
   apply_fits (form.making_array pl) vs m e w = told_fits i w _ pl e (still_memory w _)
   apply_fits (form.making_map pl) vs m e w = told_fits i w _ pl e (still_memory w _)
   apply_fits (form.joining xs pl) vs m e w = told_fits i w _ pl e (still_memory w _)
-  apply_fits (form.picking (Some n)) (a ∷ []) m e w = plain_fits i w _ e (still_memory w _)
-  apply_fits form.indexing (a ∷ b ∷ []) m e w = plain_fits i w _ e (still_memory w _)
+  apply_fits (form.picking n) (a ∷ []) m e w = plain_fits i w _ e (still_memory w _)
+  apply_fits form.indexing (a ∷ []) m e w = λ c b h. h
+  apply_fits form.indexing (a ∷ b ∷ vs) m e w = plain_fits i w _ e (still_memory w _)
   apply_fits (form.calling f) vs m e w = d.calls f None vs m e w
   apply_fits (form.calling_own f) vs m e w = known_fits i w (this_of e) _ (λ o. called_fits f o vs m e w)
   apply_fits (form.calling_method f) (o ∷ vs) m e w = called_fits f o vs m e w
@@ -118,7 +118,7 @@ module _ (i : ℕ) (p : Program) (k : Deeper) (keeps : DeeperKeeps k) (d : Deepe
   apply_fits (form.flooring pl) (a ∷ b ∷ []) m e w = told_fits i w _ pl e (still_memory w _)
   apply_fits (form.ceiling pl) (a ∷ b ∷ []) m e w = told_fits i w _ pl e (still_memory w _)
   apply_fits form.taking_modulo (a ∷ b ∷ []) m e w = plain_fits i w _ e (still_memory w _)
-  apply_fits (form.awaiting t) (a ∷ []) m e w = outside_fits i m w _ (awaited_fits t a e w)
+  apply_fits (form.awaiting t) (a ∷ vs) m e w = outside_fits i m w _ (awaited_fits t a e w)
   apply_fits form.signalling (o ∷ vs) m e w = outside_fits i m w _ (signal_fits vs o e w)
   apply_fits (form.spawning f) vs m e w = outside_fits i m w _ (d.spawns f None vs e w)
   apply_fits (form.spawning_own f) vs m e w = outside_fits i m w _ (known_fits i w (this_of e) _ (λ o. spawned_fits f o vs e w))

@@ -91,8 +91,7 @@ module _ (p : Program) (k : Deeper) (d : DeeperHolds k) where
 
   signal_holds : (vs : List Val) (o : Val) (e : Env) (w : World) → Holds w (signal_told p k vs o e w)
   signal_holds [] o e w = plain_holds w _ e
-  signal_holds (v ∷ []) o e w = plain_holds w _ e
-  signal_holds (v ∷ x ∷ vs) o e w = λ h. tt
+  signal_holds (v ∷ vs) o e w = plain_holds w _ e
 
   pub apply_holds : (f : Form) (vs : List Val) (m : Bool) (e : Env) (w : World) → Holds w (apply p k f vs m e w)
   apply_holds (form.computing o t pl) (a ∷ b ∷ []) m e w = told_holds w _ pl e
@@ -105,8 +104,9 @@ module _ (p : Program) (k : Deeper) (d : DeeperHolds k) where
   apply_holds (form.making_array pl) vs m e w = told_holds w _ pl e
   apply_holds (form.making_map pl) vs m e w = told_holds w _ pl e
   apply_holds (form.joining xs pl) vs m e w = told_holds w _ pl e
-  apply_holds (form.picking (Some n)) (a ∷ []) m e w = plain_holds w _ e
-  apply_holds form.indexing (a ∷ b ∷ []) m e w = plain_holds w _ e
+  apply_holds (form.picking i) (a ∷ []) m e w = plain_holds w _ e
+  apply_holds form.indexing (a ∷ []) m e w = λ h. h
+  apply_holds form.indexing (a ∷ b ∷ vs) m e w = plain_holds w _ e
   apply_holds (form.calling f) vs m e w = d.calls f None vs m e w
   apply_holds (form.calling_own f) vs m e w = known_holds w (this_of e) _ (λ o. called_holds f o vs m e w)
   apply_holds (form.calling_method f) (o ∷ vs) m e w = called_holds f o vs m e w
@@ -114,7 +114,7 @@ module _ (p : Program) (k : Deeper) (d : DeeperHolds k) where
   apply_holds (form.flooring pl) (a ∷ b ∷ []) m e w = told_holds w _ pl e
   apply_holds (form.ceiling pl) (a ∷ b ∷ []) m e w = told_holds w _ pl e
   apply_holds form.taking_modulo (a ∷ b ∷ []) m e w = plain_holds w _ e
-  apply_holds (form.awaiting t) (a ∷ []) m e w = outside_holds m w _ (awaited_holds t a e w)
+  apply_holds (form.awaiting t) (a ∷ vs) m e w = outside_holds m w _ (awaited_holds t a e w)
   apply_holds form.signalling (o ∷ vs) m e w = outside_holds m w _ (signal_holds vs o e w)
   apply_holds (form.spawning f) vs m e w = outside_holds m w _ (d.spawns f None vs e w)
   apply_holds (form.spawning_own f) vs m e w = outside_holds m w _ (known_holds w (this_of e) _ (λ o. spawned_holds f o vs e w))

@@ -102,6 +102,11 @@ compared c.AtMost a b = at_most_of a b
 compared c.Above a b = greater_of a b
 compared c.AtLeast a b = at_least_of a b
 
+-- the place in a tuple, where its number is no literal: only what never has a value is accepted so
+abbrev pub place_in : Option ℕ → ℕ
+place_in None = 0
+place_in (Some n) = n
+
 -- keys and values in turn
 abbrev pub paired : List Val → List (Val × Val)
 paired [] = []
@@ -214,10 +219,11 @@ module _ (p : Program) (k : Deeper) where
 
   abbrev pub signal_told : List Val → Val → Env → World → Outcome
   signal_told [] o e w = told_plain (signal_sent (event_of o w.state) unit w.state) e w
-  signal_told (v ∷ []) o e w = told_plain (signal_sent (event_of o w.state) v w.state) e w
-  signal_told (v ∷ x ∷ vs) o e w = halted (wrong w.state)
+  signal_told (v ∷ vs) o e w = told_plain (signal_sent (event_of o w.state) v w.state) e w
 
-  -- m is true where no failure context is open in the task
+  -- m is true where no failure context is open in the task. What is indexed, awaited or signalled
+  -- takes its first arguments: with more, or with no index, it is accepted only where it never has
+  -- a value.
   abbrev pub apply : Form → List Val → (m : Bool) → Env → World → Outcome
   apply (form.computing o t pl) (a ∷ b ∷ []) m e w = told (still (computed o t a b) w.state) pl e w
   apply (form.comparing o) (a ∷ b ∷ []) m e w = told_plain (still (compared o a b) w.state) e w
@@ -229,8 +235,9 @@ module _ (p : Program) (k : Deeper) where
   apply (form.making_array pl) vs m e w = told (still (array_of vs) w.state) pl e w
   apply (form.making_map pl) vs m e w = told (still (map_of (paired vs)) w.state) pl e w
   apply (form.joining xs pl) vs m e w = told (still (join_of (woven xs vs)) w.state) pl e w
-  apply (form.picking (Some n)) (a ∷ []) m e w = told_plain (still (item_of a n) w.state) e w
-  apply form.indexing (a ∷ b ∷ []) m e w = told_plain (still (at_of a b) w.state) e w
+  apply (form.picking i) (a ∷ []) m e w = told_plain (still (item_of a (place_in i)) w.state) e w
+  apply form.indexing (a ∷ []) m e w = value e a w
+  apply form.indexing (a ∷ b ∷ vs) m e w = told_plain (still (at_of a b) w.state) e w
   apply (form.calling f) vs m e w = k.calls f None vs m e w
   apply (form.calling_own f) vs m e w = if_known (this_of e) w (λ o. method_called f o vs m e w)
   apply (form.calling_method f) (o ∷ vs) m e w = method_called f o vs m e w
@@ -238,7 +245,7 @@ module _ (p : Program) (k : Deeper) where
   apply (form.flooring pl) (a ∷ b ∷ []) m e w = told (still (floor_of a b) w.state) pl e w
   apply (form.ceiling pl) (a ∷ b ∷ []) m e w = told (still (ceil_of a b) w.state) pl e w
   apply form.taking_modulo (a ∷ b ∷ []) m e w = told_plain (still (modulo_of a b) w.state) e w
-  apply (form.awaiting t) (a ∷ []) m e w = outside m w (λ w. awaited t a e w)
+  apply (form.awaiting t) (a ∷ vs) m e w = outside m w (λ w. awaited t a e w)
   apply form.signalling (o ∷ vs) m e w = outside m w (λ w. signal_told vs o e w)
   apply (form.spawning f) vs m e w = outside m w (λ w. k.spawns f None vs e w)
   apply (form.spawning_own f) vs m e w = outside m w (λ w. if_known (this_of e) w (λ o. method_spawned f o vs e w))

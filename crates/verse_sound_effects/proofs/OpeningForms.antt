@@ -60,8 +60,9 @@ module _ (p : Program) (k : Deeper) (d : DeeperOpens k) where
   apply_opens (form.making_array pl) vs e w = same
   apply_opens (form.making_map pl) vs e w = same
   apply_opens (form.joining xs pl) vs e w = same
-  apply_opens (form.picking (Some n)) (a ∷ []) e w = same
-  apply_opens form.indexing (a ∷ b ∷ []) e w = same
+  apply_opens (form.picking i) (a ∷ []) e w = same
+  apply_opens form.indexing (a ∷ []) e w = same
+  apply_opens form.indexing (a ∷ b ∷ vs) e w = same
   apply_opens (form.calling f) vs e w = d.calls f None vs e w
   apply_opens (form.calling_own f) vs e w = known_opens (this_of e) w _ _ (λ o. method_opens f o vs e w)
   apply_opens (form.calling_method f) (o ∷ vs) e w = method_opens f o vs e w
@@ -69,7 +70,7 @@ module _ (p : Program) (k : Deeper) (d : DeeperOpens k) where
   apply_opens (form.flooring pl) (a ∷ b ∷ []) e w = same
   apply_opens (form.ceiling pl) (a ∷ b ∷ []) e w = same
   apply_opens form.taking_modulo (a ∷ b ∷ []) e w = same
-  apply_opens (form.awaiting t) (a ∷ []) e w = outside_opens w _
+  apply_opens (form.awaiting t) (a ∷ vs) e w = outside_opens w _
   apply_opens form.signalling (o ∷ vs) e w = outside_opens w _
   apply_opens (form.spawning f) vs e w = outside_opens w _
   apply_opens (form.spawning_own f) vs e w = outside_opens w _
