@@ -16,7 +16,7 @@ use Rattle.verse_verify_kept.specs.Rules.{Fit, AllIn, in_no, in_so, Leads, To, T
 use Rattle.verse_verify_faults.specs.Fitting.{fit, same, all_fit, on_list, on_map, on_var, on_event}
 use Rattle.verse_verify_faults.specs.Spots.{Mark, Spot, Table, live_spot, spot_at, above, beneath, opens, even, cut, point_of, notes_of}
 use Rattle.verse_verify_faults.specs.Stepping.{Made, is, list_of, map_of, var_of, event_of, one_of, inner, Goes, to}
-use Rattle.verse_verify_faults.specs.Faults.{same_number, same_numbers, same_arm, same_marks, known_marks, on_spot, holds, each_holds, fits_back}
+use Rattle.verse_verify_faults.specs.Faults.{same_number, same_numbers, same_arm, same_marks, known_marks, on_spot, holds, each_holds}
 use Rattle.verse_verify_faults.specs.Faults.{of_part, suits}
 use Rattle.verse_verify_faults.proofs.Fitting.{both, same_is, fit_is}
 use Rattle.verse_verify_faults.proofs.Cutting.{fit_length, above_fit, opens_fit, under, beneath_length, above_on, opens_on, even_more}
@@ -193,24 +193,21 @@ module _ (c : Code) (t : Table) where
       pub tries : known_marks g.tries spot.tries ≡ true
       pub stack : AllHold g.stack spot.stack
       pub locals : AllHold g.locals spot.locals
-      pub back : fits_back t.classes g.back spot.locals p.locals ≡ true
 
     pub next_in : (g : Goes) → suits c t p g ≡ true → Next g
     next_in g e = by_spot (spot_at t g.index) refl e
       where
         by_spot : (m : Option Spot) → spot_at t g.index ≡ m → on_spot m (λ q. eqn p.func q.func && of_part p g.index g.part q && known_marks
-            g.tries q.tries && each_holds t.classes g.stack q.stack && each_holds t.classes g.locals q.locals && fits_back t.classes g.back
-            q.locals p.locals) ≡ true → Next g
+            g.tries q.tries && each_holds t.classes g.stack q.stack && each_holds t.classes g.locals q.locals) ≡ true → Next g
         by_spot None h e = no_both (sym e)
         by_spot (Some q) h e = record {
           spot = q;
           there = h;
-          func = eqn_is p.func q.func (both _ _ (both _ _ (both _ _ (both _ _ (both _ _ e).0).0).0).0).0;
-          part = (both _ _ (both _ _ (both _ _ (both _ _ (both _ _ e).0).0).0).0).1;
-          tries = (both _ _ (both _ _ (both _ _ (both _ _ e).0).0).0).1;
-          stack = each_made g.stack q.stack (both _ _ (both _ _ (both _ _ e).0).0).1;
-          locals = each_made g.locals q.locals (both _ _ (both _ _ e).0).1;
-          back = (both _ _ e).1;
+          func = eqn_is p.func q.func (both _ _ (both _ _ (both _ _ (both _ _ e).0).0).0).0;
+          part = (both _ _ (both _ _ (both _ _ (both _ _ e).0).0).0).1;
+          tries = (both _ _ (both _ _ (both _ _ e).0).0).1;
+          stack = each_made g.stack q.stack (both _ _ (both _ _ e).0).1;
+          locals = each_made g.locals q.locals (both _ _ e).1;
         }
 
     -- what an operation pushes on what it leaves

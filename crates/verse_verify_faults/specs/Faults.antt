@@ -69,10 +69,6 @@ module _ (cs : List ClassNote) where
   each_holds (a ∷ xs) (b ∷ ys) = holds a b && each_holds xs ys
   each_holds xs ys = false
 
-  abbrev pub fits_back : Bool → List Sort → List Sort → Bool
-  fits_back true xs ys = each_fit cs xs ys
-  fits_back false xs ys = true
-
 -- the next state is of the part to which the operation leads
 abbrev pub of_part : Spot → ℕ → Part → Spot → Bool
 of_part p i (inner ds) q =
@@ -85,7 +81,7 @@ module _ (c : Code) (t : Table) where
   -- V7
   abbrev pub suits : Spot → Goes → Bool
   suits p g = on_spot (spot_at t g.index) (λ q. eqn p.func q.func && of_part p g.index g.part q && known_marks g.tries q.tries && each_holds
-      t.classes g.stack q.stack && each_holds t.classes g.locals q.locals && fits_back t.classes g.back q.locals p.locals)
+      t.classes g.stack q.stack && each_holds t.classes g.locals q.locals)
 
   abbrev pub all_suit : Spot → List Goes → Bool
   all_suit p [] = true

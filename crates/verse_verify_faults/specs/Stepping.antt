@@ -32,14 +32,13 @@ pub data Part : Type 0 where
   begins_arm : Part
   begins_block : (outer : List ℕ) → (under : ℕ) → Part
 
--- a next state: its index and part, its locals and stack, its open Trys where they are known, and whether its locals fit those here
+-- a next state: its index and part, its locals and stack, and its open Trys where they are known
 pub record Goes : Type 0 where
   pub index : ℕ
   pub part : Part
   pub locals : List Made
   pub stack : List Made
   pub tries : Option (List Mark)
-  pub back : Bool
 
 pub data Stepped : Type 0 where
   -- it breaks the rule of this number
@@ -286,7 +285,6 @@ module _ (c : Code) (t : Table) (p : Spot) (i : ℕ) where
     locals = here;
     stack = made ++ map is (st ++ beneath p.stack p.tries);
     tries = Some p.tries;
-    back = false;
   }
 
   abbrev pub goes_to : ℕ → List Made → List Sort → Stepped
@@ -308,28 +306,36 @@ module _ (c : Code) (t : Table) (p : Spot) (i : ℕ) where
   counts st = ints st (λ st. goes_on (is s.int ∷ []) st)
 
   abbrev pub arm_at : ℕ → Goes
-  arm_at l = record { index = l; part = begins_arm; locals = here; stack = []; tries = Some []; back = false }
+  arm_at l = record { index = l; part = begins_arm; locals = here; stack = []; tries = Some [] }
 
   abbrev pub arms_at : List ℕ → List Goes → List Goes
   arms_at [] gs = gs
   arms_at (l ∷ ls) gs = arm_at l ∷ arms_at ls gs
 
-  abbrev pub block_at : ℕ → ℕ → Bool → Goes
-  block_at e count back = record {
+  -- a deferred block begins with these locals, and so many blocks are deferred beneath it
+  abbrev pub block_at : ℕ → ℕ → List Sort → Goes
+  block_at e count ls = record {
     index = e;
     part = begins_block (map (λ (m : Mark). m.index) p.tries ++ p.outer) (p.under + count);
-    locals = here;
+    locals = map is ls;
     stack = [];
     tries = Some [];
-    back = back;
   }
 
-  -- the blocks that a Leave runs, and what stands behind it
-  abbrev pub leaves : ℕ → List ℕ → List Goes
-  leaves m [] = record (to (suc i) [] (above p.stack p.tries)) { part = inner [] } ∷ []
-  leaves m (e ∷ ds) =
-      cond (eqn m (p.under + suc (length ds))) (record (to (suc i) [] (above p.stack p.tries)) { part = inner (e ∷ ds) } ∷ []) (block_at e
-      (length ds) true ∷ leaves m ds)
+  -- what stands behind a Leave that leaves these locals and blocks
+  abbrev pub behind : List Sort → List ℕ → Goes
+  behind ls ds = record (to (suc i) [] (above p.stack p.tries)) {
+    part = inner ds;
+    locals = map is ls;
+  }
+
+  -- the blocks that a Leave runs with these locals, each of which leaves those of its first
+  -- operation, and what stands behind it
+  abbrev pub leaves : ℕ → List Sort → List ℕ → List Goes
+  leaves m ls [] = behind ls [] ∷ []
+  leaves m ls (e ∷ ds) =
+      cond (eqn m (p.under + suc (length ds))) (behind ls (e ∷ ds) ∷ [])
+      (block_at e (length ds) ls ∷ leaves m (spot_locals (spot_at t e) ls) ds)
 
   -- a deferred block ends with the locals that it may be run with
   abbrev pub block_again : Option ℕ → List Goes
@@ -340,7 +346,6 @@ module _ (c : Code) (t : Table) (p : Spot) (i : ℕ) where
     locals = here;
     stack = [];
     tries = Some [];
-    back = false;
   } ∷ []
 
   abbrev pub step : Op → List Sort → Stepped
@@ -439,6 +444,6 @@ module _ (c : Code) (t : Table) (p : Spot) (i : ℕ) where
   step (o.Branch l) st = leads (arm_at (suc i) ∷ to l (is s.unit ∷ []) st ∷ []) [] None
   step o.ArmEnd st = pop st (λ a st. need 5 (all_fit t.classes (a ∷ []) (arm_sort p.arm)) (leads [] [] None))
   step (o.Defer l) st =
-      leads (block_at (suc i) (length p.defers) false ∷ record (to l [] st) { part = inner (suc i ∷ p.defers) } ∷ []) [] None
-  step (o.Leave m) st = leads (leaves m p.defers) [] None
+      leads (block_at (suc i) (length p.defers) p.locals ∷ record (to l [] st) { part = inner (suc i ∷ p.defers) } ∷ []) [] None
+  step (o.Leave m) st = leads (leaves m p.locals p.defers) [] None
   step o.DeferEnd st = leads (block_again p.block) [] None

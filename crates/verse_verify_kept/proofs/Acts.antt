@@ -242,9 +242,10 @@ module _ (c : Code) (n : Notes) (bottom : Bottom c n) where
           only_good c n bottom s _ (fits_to l) (spends s _ (λ m left. next (record {
             typing = t;
             point = first.point;
+            locals = first.point.locals;
             ds = [];
             live = first.live;
-            own = subst (Own c n fn.entry first.point) first.defers own;
+            own = subst (Own c n fn.entry first.point first.point.locals) first.defers own;
             store = z;
             fresh = stepped_fresh t left f;
             stands = record {

@@ -14,6 +14,7 @@ use Rattle.verse_code_machine.specs.Frames.{only_where, fits, goes, kept_defers,
 use Rattle.verse_code_machine.specs.Acts.{frame, on_defer, leaves, act}
 use Rattle.verse_code_machine.specs.Cancelling.{clears_frames, clears_frame, on_deferred}
 use Rattle.verse_code_machine.specs.Ends.{cleared}
+use Rattle.verse_sorts.specs.Sorts.{Sort}
 use Rattle.verse_sorts.specs.Typing.{Typing, Adds, are_no}
 use Rattle.verse_sorts.proofs.Fitting.{are_more, are_up, adds_on, adds_itself}
 use Rattle.verse_verify_kept.specs.Notes.{Point, Notes, parent_of, point_at, indices, names}
@@ -88,9 +89,10 @@ module _ (c : Code) (n : Notes) (bottom : Bottom c n) (ok : Known c n) (w : Who)
           spends c n bottom s _ (λ l left. next (record {
             typing = t;
             point = point;
+            locals = point.locals;
             ds = [];
             live = en.live;
-            own = subst (λ ds. Own c n e point ds) en.defers own;
+            own = subst (λ ds. Own c n e point point.locals ds) en.defers own;
             store = z;
             fresh = stepped_fresh c n bottom t left f;
             stands = record {
@@ -125,20 +127,21 @@ module _ (c : Code) (n : Notes) (bottom : Bottom c n) (ok : Known c n) (w : Who)
 
 module _ (c : Code) (n : Notes) (bottom : Bottom c n) (ok : Known c n) (w : Who) (x : World) (s : State) (pc : ℕ) (bl : List Frame)
     (t : Typing) (p : Point) (z : StoreIs c n t s.memory.store) (f : Fresh c n bottom t s.clock.left) where
-  pub left_runs : {m : ℕ} {ds : List ℕ} (g : Life) (ls above more : List Val) (hs : List Handler) → slice_get c.ops pc ≡ Some (o.Leave m) →
-      point_at n pc ≡ Some p →
-      Beneath c n (Rest c n bottom w x s (giver n p) bl) t p ds ls more hs g.defers g.noted → All c n t ls p.locals →
-      All c n t above p.stack → Keeps c n p m → Runs c n p pc m ds → Good c n bottom (act c (o.Leave m) w x s g ls (above ++ more) pc hs bl)
+  pub left_runs : {m : ℕ} {fs : List Sort} {ds : List ℕ} (g : Life) (ls above more : List Val) (hs : List Handler) →
+      slice_get c.ops pc ≡ Some (o.Leave m) → point_at n pc ≡ Some p →
+      Beneath c n (Rest c n bottom w x s (giver n p) bl) t p ds ls more hs g.defers g.noted → All c n t ls fs →
+      All c n t above p.stack → Keeps c n p m → Runs c n p pc m fs ds →
+      Good c n bottom (act c (o.Leave m) w x s g ls (above ++ more) pc hs bl)
   left_runs {m = m} {ds = ds} g ls above more hs op live k a b keeps runs =
       only_good c n bottom s _ (ap not (not_less (length g.defers) m at_most)) (only_good c n bottom s _ (ap not (not_less m (kept_defers
-      hs) (kept_defers_most c n m k keeps (at_least runs)))) (runs_good runs k count))
+      hs) (kept_defers_most c n m k keeps (at_least runs)))) (runs_good runs a k count))
     where
       count : length g.defers ≡ p.under + length ds
       count = counts c n k
 
-      below : {ds : List ℕ} → Runs c n p pc m ds → m ≤ p.under + length ds
+      below : {fs : List Sort} {ds : List ℕ} → Runs c n p pc m fs ds → m ≤ p.under + length ds
       below (runs_no e l) = omega (arith, e)
-      below (runs_so {ds = ds} lt en nm e h rs) = less m p.under (length ds) lt
+      below (runs_so {ds = ds} lt en nm h rs) = less m p.under (length ds) lt
         where
           less : (m u k : ℕ) → m < u + suc k → m ≤ u + suc k
           less m u k h = omega (arith, h)
@@ -146,21 +149,22 @@ module _ (c : Code) (n : Notes) (bottom : Bottom c n) (ok : Known c n) (w : Who)
       at_most : m ≤ length g.defers
       at_most = omega (arith, below runs, count)
 
-      at_least : {ds : List ℕ} → Runs c n p pc m ds → p.under ≤ m
+      at_least : {fs : List Sort} {ds : List ℕ} → Runs c n p pc m fs ds → p.under ≤ m
       at_least (runs_no {ds = ds} e l) = omega (arith, e)
-      at_least (runs_so lt en nm e h rs) = at_least rs
+      at_least (runs_so lt en nm h rs) = at_least rs
 
       on_leaves : {b : Bool} → ltn m (length g.defers) ≡ b → Good c n bottom (leaves b w x s g ls (above ++ more) pc hs bl) →
           Good c n bottom (leaves (ltn m (length g.defers)) w x s g ls (above ++ more) pc hs bl)
       on_leaves e q = subst (λ b. Good c n bottom (leaves b w x s g ls (above ++ more) pc hs bl)) (sym e) q
 
-      runs_good : {ds : List ℕ} → Runs c n p pc m ds → Beneath c n (Rest c n bottom w x s (giver n p) bl) t p ds ls more hs g.defers
-          g.noted → length g.defers ≡ p.under + length ds → Good c n bottom (leaves (ltn m (length g.defers)) w x s g ls (above ++ more) pc
-          hs bl)
-      runs_good {ds = ds} (runs_no e l) k sum =
+      runs_good : {fs : List Sort} {ds : List ℕ} → Runs c n p pc m fs ds → All c n t ls fs →
+          Beneath c n (Rest c n bottom w x s (giver n p) bl) t p ds ls more hs g.defers g.noted →
+          length g.defers ≡ p.under + length ds →
+          Good c n bottom (leaves (ltn m (length g.defers)) w x s g ls (above ++ more) pc hs bl)
+      runs_good {ds = ds} (runs_no e l) a k sum =
           on_leaves (not_less m (length g.defers) (omega (arith, e, sum))) (goes_to c n bottom ok w x s s g ls above more hs bl t l a b k
           z f)
-      runs_good (runs_so {e = e} {point = point} {ds = ds} lt en nm e1 e2 rs) k sum =
+      runs_good (runs_so {e = e} {point = point} {ds = ds} lt en nm fit rs) a k sum =
           on_leaves (is_less m (length g.defers) (omega (arith, lt, sum))) (with_base (bases c n k))
         where
           with_base : Based (e ∷ ds) g.defers → Good c n bottom (leaves true w x s g ls (above ++ more) pc hs bl)
@@ -171,16 +175,17 @@ module _ (c : Code) (n : Notes) (bottom : Bottom c n) (ok : Known c n) (w : Who)
               (λ l left. next (record {
                 typing = t;
                 point = point;
+                locals = point.locals;
                 ds = [];
                 live = en.live;
-                own = subst (λ ds. Own c n e point ds) en.defers own;
+                own = subst (λ ds. Own c n e point point.locals ds) en.defers own;
                 store = z;
                 fresh = stepped_fresh c n bottom t left f;
                 stands = record {
                   above = [];
                   more = above ++ more;
                   split = refl;
-                  locals = are_up (parent_of n) a e1;
+                  locals = are_up (parent_of n) a fit;
                   stack = subst (λ st. All c n t [] st) (sym en.stack) are_no;
                   beneath = now;
                 };
@@ -203,6 +208,7 @@ module _ (c : Code) (n : Notes) (bottom : Bottom c n) (ok : Known c n) (w : Who)
                     back = record {
                       point = p;
                       live = live;
+                      locals = point.locals;
                       left = ds;
                       own = own_left op rs;
                       typing = t;
@@ -219,7 +225,7 @@ module _ (c : Code) (n : Notes) (bottom : Bottom c n) (ok : Known c n) (w : Who)
                     func = sym en.func;
                     arm = sym en.arm;
                     outer = sym nm;
-                    locals = e2;
+                    locals = refl;
                     base = ds ++ base;
                     under = en.under ∙ sym (counts c n inner);
                     defers = refl;
@@ -245,9 +251,10 @@ module _ (c : Code) (n : Notes) (bottom : Bottom c n) (ok : Known c n) (w : Who)
           only_good c n bottom s _ (is_less (kept_noted hs) (suc (length ns)) (more_room (kept_noted hs) (length ns) (kept_noted_most c n
           inner))) (subst (λ st. Good c n bottom (goes w x s s (record { born = born; defers = all; noted = ns }) ls st i hs bl)) (sym
           y.back.split) (goes_at c n bottom ok w x s s (record { born = born; defers = all; noted = ns }) ls y.back.above y.back.more i hs bl
-          t y.back.point y.back.left y.back.live y.back.own (are_up (parent_of n) (are_up (parent_of n) a (subst (λ (q : Point). Each c n
-          p.locals q.locals) same fit)) y.locals) (are_more (parent_of n) y.grows.grows y.back.stack) (subst (λ all. Beneath c n (Rest c n bottom w
-          x s (giver n y.back.point) bl) t y.back.point y.back.left ls y.back.more hs all ns) (sym no_more) (subst (λ v. Beneath c n (Rest c
+          t y.back.point y.back.locals y.back.left y.back.live y.back.own (are_up (parent_of n) a (subst (λ fs. Each c n p.locals fs)
+          (ap (λ (q : Point). q.locals) same ∙ y.locals) fit)) (are_more (parent_of n) y.grows.grows y.back.stack) (subst (λ all.
+          Beneath c n (Rest c n bottom w x s (giver n y.back.point) bl) t y.back.point y.back.left ls y.back.more hs all ns) (sym no_more)
+          (subst (λ v. Beneath c n (Rest c
           n bottom w x s v bl) t y.back.point y.back.left ls y.back.more hs y.base ns) (giver_same c n p y.back.point y.func y.arm) (moves c
           n inner (kin_itself y.back.point) (tries_itself c n y.back.point.tries) y.grows))) z f))
         where

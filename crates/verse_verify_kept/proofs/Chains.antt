@@ -147,6 +147,7 @@ module _ (c : Code) (n : Notes) where
   resume_good y v o s t g r i z f = next (record {
     typing = t;
     point = r.0;
+    locals = r.0.locals;
     ds = r.0.defers;
     live = r.1.live;
     own = own;

@@ -10,6 +10,7 @@ use Rattle.verse_meaning_state.specs.State.{State}
 use Rattle.verse_code_machine.specs.Tasks.{Life, Handler, Frame, part, Who, Task, After, Up, clearing, World, since}
 use Rattle.verse_code_machine.specs.Cancelling.{without}
 use Rattle.verse_code_machine.specs.Acts.{place_at, act}
+use Rattle.verse_sorts.specs.Sorts.{Sort}
 use Rattle.verse_sorts.specs.Typing.{Typing}
 use Rattle.verse_code_machine_parents.specs.Parents.{MachineRooted}
 use Rattle.verse_verify_kept.specs.Notes.{Point, Notes, point_at}
@@ -166,22 +167,23 @@ module _ (c : Code) (n : Notes) (ok : Known c n) (names : (i : ℕ) (op : Op) �
       Goes st op =
           Fine_step c n (act c op m.who m.world m.state m.frame.life m.frame.locals st m.frame.place m.frame.handlers m.below)
 
-      does : {ds : List ℕ} (so : Sound c n m.frame.place a.point) → Own c n m.frame.place a.point ds → Beneath c n (Below c n (World_is c n
+      does : {fs : List Sort} {ds : List ℕ} (so : Sound c n m.frame.place a.point) → Own c n m.frame.place a.point fs ds →
+          All c n a.typing m.frame.locals fs → Beneath c n (Below c n (World_is c n
           m.who m.world m.state.clock.results m.state.clock.signals m.state.clock.next) (giver n a.point) m.below) a.typing a.point ds
           m.frame.locals a.stands.more m.frame.handlers m.frame.life.defers m.frame.life.noted → Goes (a.stands.above ++ a.stands.more) so.op
-      does so own k =
+      does so own locals k =
           operation_good c n ok m.who m.world m.state m.frame.life m.frame.place a.typing a.point a.store a.fresh m.below m.frame.locals
-          a.stands.above a.stands.more m.frame.handlers k a.stands.locals a.stands.stack so.op so.is_op a.live (names m.frame.place so.op
+          a.stands.above a.stands.more m.frame.handlers k locals a.stands.stack so.op so.is_op a.live (names m.frame.place so.op
           so.is_op) (parents m rooted so.op) so.passes
       -- a Leave to which a deferred block has come back
-      does so (own_left {m = q} e runs) k =
+      does so (own_left {m = q} e runs) locals k =
           subst (Goes (a.stands.above ++ a.stands.more)) (sym (same_Some _ _ (sym so.is_op ∙ e))) (left_runs c n (World_is c n) ok m.who
           m.world m.state m.frame.place m.below a.typing a.point a.store a.fresh m.frame.life m.frame.locals a.stands.above a.stands.more
-          m.frame.handlers e a.live k a.stands.locals a.stands.stack (keeps_of (subst (Passes c n m.frame.place a.point) (same_Some _ _ (sym
+          m.frame.handlers e a.live k locals a.stands.stack (keeps_of (subst (Passes c n m.frame.place a.point) (same_Some _ _ (sym
           so.is_op ∙ e)) so.passes)) runs)
 
       at_op : Sound c n m.frame.place a.point → Fine_step c n (step c m)
       at_op so =
           subst (λ o. Fine_step c n (on_there o m.state (λ op. act c op m.who m.world m.state m.frame.life m.frame.locals m.frame.stack
           m.frame.place m.frame.handlers m.below))) (sym so.is_op) (subst (λ st. Goes st so.op) (sym a.stands.split) (does so a.own
-          a.stands.beneath))
+          a.stands.locals a.stands.beneath))

@@ -77,13 +77,15 @@ module _ (c : Code) (n : Notes) where
           kin = record { func = l.kin.func; arm = l.kin.arm; block = l.kin.block; outer = l.kin.outer; under = l.kin.under }
 
       pub goes_at : (s u : State) (g : Life) (ls above more : List Val) (i : ℕ) (hs : List Handler) (bl : List Frame) (t : Typing)
-          (q : Point) (ds : List ℕ) → point_at n i ≡ Some q → Own c n i q ds → All c n t ls q.locals → All c n t above q.stack →
+          (q : Point) (fs : List Sort) (ds : List ℕ) → point_at n i ≡ Some q → Own c n i q fs ds → All c n t ls fs →
+          All c n t above q.stack →
           Beneath c n (Rest w x u (giver n q) bl) t q ds ls more hs g.defers g.noted → StoreIs c n t u.memory.store →
           Fresh t u.clock.left → Good (goes w x s u g ls (above ++ more) i hs bl)
-      goes_at s u g ls above more i hs bl t q ds e d a b k z f =
+      goes_at s u g ls above more i hs bl t q fs ds e d a b k z f =
           only_good s _ (fits_there c n (handles c n k) (ok.live i q e).around) (next (record {
             typing = t;
             point = q;
+            locals = fs;
             ds = ds;
             live = e;
             own = d;
@@ -100,9 +102,10 @@ module _ (c : Code) (n : Notes) where
       next_to {p = p} {ts = ts} {ds = ds} {i = i} u g ls above more hs bl t l a b k z f = next (record {
         typing = t;
         point = l.point;
+        locals = l.point.locals;
         ds = ds;
         live = l.live;
-        own = subst (Own c n i l.point) (sym l.defers) own;
+        own = subst (Own c n i l.point l.point.locals) (sym l.defers) own;
         store = z;
         fresh = f;
         stands = record {
@@ -135,7 +138,8 @@ module _ (c : Code) (n : Notes) where
           Fresh t s.clock.left → Good (goes w x s (restored h.memory s) h.life ls h.stack h.label hs bl)
       fail_in {p = p} {ls = ls} {h = h} {ns = ns} s hs bl y b f =
           subst (λ st. Good (goes w x s (restored h.memory s) h.life ls st h.label hs bl)) (sym held.split) (goes_at s (restored h.memory
-          s) h.life ls held.above held.more h.label hs bl held.typing l.point q.defers l.live (subst (Own c n h.label l.point) (sym
+          s) h.life ls held.above held.more h.label hs bl held.typing l.point l.point.locals q.defers
+          l.live (subst (Own c n h.label l.point l.point.locals) (sym
           l.defers) own) (subst (λ (p : Point). All c n held.typing ls p.locals) (same_in held.is_label l.live) held.locals) (are_up
           (parent_of n) held.stack l.stack) (subst (λ ns. Beneath c n (Rest w x s (giver n l.point) bl) held.typing l.point q.defers ls
           held.more hs h.life.defers ns) (sym y.noted) (subst (λ v. Beneath c n (Rest w x s v bl) held.typing l.point q.defers ls held.more

@@ -359,9 +359,10 @@ module _ (c : Code) (n : Notes) where
         next (record {
           typing = u;
           point = st.point;
+          locals = st.point.locals;
           ds = [];
           live = st.live;
-          own = subst (Own c n l st.point) st.defers own;
+          own = subst (Own c n l st.point st.point.locals) st.defers own;
           store = cells_more grows z;
           fresh = part_fresh t m s.clock.left r e f;
           stands = record {

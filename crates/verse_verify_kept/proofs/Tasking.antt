@@ -460,9 +460,10 @@ module _ (c : Code) (n : Notes) (ok : Known c n) (w : Who) (x : World) (s : Stat
         spends c n (World_is c n) s _ (λ m left. next (record {
           typing = u;
           point = first.point;
+          locals = first.point.locals;
           ds = [];
           live = first.live;
-          own = subst (Own c n fn.entry first.point) first.defers own;
+          own = subst (Own c n fn.entry first.point first.point.locals) first.defers own;
           store = cells_more c n ok grows z;
           fresh = stepped_fresh c n (World_is c n) t left f;
           stands = record {

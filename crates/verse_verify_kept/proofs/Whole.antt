@@ -113,9 +113,10 @@ module _ (c : Code) (n : Notes) where
         (stepped l (begun steps)) (life_from l) (locals_of fn (inputs_of fn.params ns)) [] fn.entry [] []} (record {
           typing = nothing_yet;
           point = first.point;
+          locals = first.point.locals;
           ds = [];
           live = first.live;
-          own = subst (Own c n fn.entry first.point) first.defers own;
+          own = subst (Own c n fn.entry first.point first.point.locals) first.defers own;
           store = cells_no;
           fresh = λ i a e. elim (none-some _ e) [ ];
           stands = record {

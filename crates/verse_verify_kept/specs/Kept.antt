@@ -57,11 +57,12 @@ module _ (c : Code) (n : Notes) where
   abbrev pub StoreIs : Typing → Store → Type 0
   StoreIs t store = CellsAre t store t.cells
 
-  -- the blocks that are deferred since the frame or the block in which it stands began: those of the notes, or at a Leave those that are
-  -- left
-  pub data Own (i : ℕ) (p : Point) : List ℕ → Type 0 where
-    own : Own i p p.defers
-    own_left : {m : ℕ} {ds : List ℕ} → slice_get c.ops i ≡ Some (o.Leave m) → Runs c n p i m ds → Own i p ds
+  -- the locals, and the blocks that are deferred since the frame or the block in which it stands
+  -- began: those of the notes, or at a Leave to which a block has come back those that it left
+  pub data Own (i : ℕ) (p : Point) : List Sort → List ℕ → Type 0 where
+    own : Own i p p.locals p.defers
+    own_left : {m : ℕ} {fs : List Sort} {ds : List ℕ} → slice_get c.ops i ≡ Some (o.Leave m) →
+        Runs c n p i m fs ds → Own i p fs ds
 
   -- outside of blocks and Trys
   pub record Plain (p : Point) : Type 0 where
@@ -105,8 +106,9 @@ module _ (c : Code) (n : Notes) where
   pub record Back (tail : List Val) (i : ℕ) : Type 0 where
     pub point : Point
     pub live : point_at n i ≡ Some point
+    pub locals : List Sort
     pub left : List ℕ
-    pub own : Own i point left
+    pub own : Own i point locals left
     pub typing : Typing
     pub above : List Val
     pub more : List Val
@@ -123,7 +125,7 @@ module _ (c : Code) (n : Notes) where
     pub func : p.func ≡ back.point.func
     pub arm : p.arm ≡ back.point.arm
     pub outer : p.outer ≡ names back.point
-    pub locals : Each c n first.locals back.point.locals
+    pub locals : first.locals ≡ back.locals
     pub base : List ℕ
     pub under : p.under ≡ length base
     pub defers : all ≡ ds ++ base
@@ -159,12 +161,13 @@ module _ (c : Code) (n : Notes) where
     dying : {t u : Typing} {p : Point} {ds all : List ℕ} {ls tail : List Val} → Dying p ds all → Adds u t → rest true u →
         Beneath rest t p ds ls tail [] all (gone ∷ [])
 
-  -- a frame at a point
-  pub record Stands (rest : Bool → Typing → Type 0) (t : Typing) (p : Point) (ds : List ℕ) (f : Frame) : Type 0 where
+  -- a frame at a point, with locals of these sorts
+  pub record Stands (rest : Bool → Typing → Type 0) (t : Typing) (p : Point) (fs : List Sort)
+      (ds : List ℕ) (f : Frame) : Type 0 where
     pub above : List Val
     pub more : List Val
     pub split : f.stack ≡ above ++ more
-    pub locals : All t f.locals p.locals
+    pub locals : All t f.locals fs
     pub stack : All t above p.stack
     pub beneath : Beneath rest t p ds f.locals more f.handlers f.life.defers f.life.noted
 
@@ -181,7 +184,7 @@ module _ (c : Code) (n : Notes) where
     pub fits : Fit c n g.result top
     pub fails : g.may_fail ≡ true → MayFail c n p
     pub waits : g.may_wait ≡ true → MayWait c n p
-    pub stands : Stands rest t (without_top p st) p.defers f
+    pub stands : Stands rest t (without_top p st) p.locals p.defers f
 
   -- a frame whose deferred blocks run when those above it have gone
   pub record Dies (t : Typing) (f : Frame) : Type 0 where
@@ -204,13 +207,14 @@ module _ (c : Code) (n : Notes) where
   pub record MachineFits (bottom : Bottom) (m : Machine) : Type 0 where
     pub typing : Typing
     pub point : Point
+    pub locals : List Sort
     pub ds : List ℕ
     pub live : point_at n m.frame.place ≡ Some point
-    pub own : Own m.frame.place point ds
+    pub own : Own m.frame.place point locals ds
     pub store : StoreIs typing m.state.memory.store
     pub fresh : (i : ℕ) (a : Sort) → typing.parts i ≡ Some a → m.state.clock.left ≤ i
     pub stands : Stands (Below (bottom m.who m.world m.state.clock.results m.state.clock.signals m.state.clock.next) (giver n point)
-        m.below) typing point ds m.frame
+        m.below) typing point locals ds m.frame
 
   abbrev pub Runs_on : Ending → Type 0
   Runs_on ending.Stuck = ⊥

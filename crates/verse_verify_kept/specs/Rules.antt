@@ -197,12 +197,15 @@ module _ (c : Code) (n : Notes) where
     pub defers : point.defers ≡ []
     pub under : point.under ≡ p.under + count
 
-  -- The blocks that a Leave runs, the last first, and what stands behind it. Each may be run with the locals as they are, and leaves them
-  -- so.
-  pub data Runs (p : Point) (i m : ℕ) : List ℕ → Type 0 where
-    runs_no : {ds : List ℕ} → m ≡ p.under + length ds → Leads p p.locals p.stack p.tries ds (suc i) → Runs p i m ds
-    runs_so : {e : ℕ} {point : Point} {ds : List ℕ} → m < p.under + suc (length ds) → Entry p e (length ds) point → names p ≡ point.outer →
-        Each p.locals point.locals → Each point.locals p.locals → Runs p i m ds → Runs p i m (e ∷ ds)
+  -- The blocks that a Leave runs, the last first, and what stands behind it. Each may be run with
+  -- the locals that stand when it begins, and leaves those of its first operation: with them the
+  -- next one begins, or what stands behind the Leave.
+  pub data Runs (p : Point) (i m : ℕ) : List Sort → List ℕ → Type 0 where
+    runs_no : {ls : List Sort} {ds : List ℕ} → m ≡ p.under + length ds →
+        Leads p ls p.stack p.tries ds (suc i) → Runs p i m ls ds
+    runs_so : {e : ℕ} {point : Point} {ls : List Sort} {ds : List ℕ} →
+        m < p.under + suc (length ds) → Entry p e (length ds) point → names p ≡ point.outer →
+        Each ls point.locals → Runs p i m point.locals ds → Runs p i m ls (e ∷ ds)
 
   -- these blocks were deferred at the Try
   abbrev pub Level : ℕ → List ℕ → Type 0
@@ -330,7 +333,7 @@ module _ (c : Code) (n : Notes) where
         Fit a r → Passes i p o.ArmEnd
     of_defer : {l : ℕ} {point : Point} → Entry p (suc i) (length p.defers) point → names p ≡ point.outer → Each p.locals point.locals →
         Leads p p.locals p.stack p.tries (suc i ∷ p.defers) l → Passes i p (o.Defer l)
-    of_leave : {m : ℕ} → Keeps p m → Runs p i m p.defers → Passes i p (o.Leave m)
+    of_leave : {m : ℕ} → Keeps p m → Runs p i m p.locals p.defers → Passes i p (o.Leave m)
     of_defer_end : {e : ℕ} {point : Point} → p.block ≡ Some e → p.tries ≡ [] → p.stack ≡ [] → p.defers ≡ [] →
         point_at n e ≡ Some point → Each p.locals point.locals → Passes i p o.DeferEnd
 

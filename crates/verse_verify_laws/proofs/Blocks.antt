@@ -16,9 +16,9 @@ use Rattle.verse_verify_kept.specs.Rules as r
 use Rattle.verse_verify_faults.specs.Spots.{Mark, Spot, Table, spot_at, above, opens, even, cut}
 use Rattle.verse_verify_faults.specs.Stepping as step
 use Rattle.verse_verify_faults.specs.Stepping.{Made, is, list_of, one_of, Stepped, Goes, inner, begins_arm}
-use Rattle.verse_verify_faults.specs.Stepping.{begins_block, leads, goes_on, to}
-use Rattle.verse_verify_faults.specs.Faults.{all_suit, suits, fits_back, tries_of, keeps, try_count}
-use Rattle.verse_verify_faults.proofs.Fitting.{both, each_fit_is}
+use Rattle.verse_verify_faults.specs.Stepping.{begins_block, leads, goes_on, to, spot_locals}
+use Rattle.verse_verify_faults.specs.Faults.{all_suit, suits, tries_of, keeps, try_count}
+use Rattle.verse_verify_faults.proofs.Fitting.{both}
 use Rattle.verse_verify_faults.proofs.Leading as leading
 use Rattle.verse_verify_faults.proofs.Leading.{notes, Becomes, Become, become_is, Next, next_in, leads_with, marks_are}
 use Rattle.verse_verify_faults.proofs.Leading.{numbers_are, number_is, arm_is}
@@ -47,19 +47,18 @@ module _ (c : Code) (t : Table) (p : Spot) (i : ℕ) (ev : even (length p.stack)
   abbrev Passed : Op → Type 0
   Passed op = r.Passes c N i P op
 
-  -- a block's first operation
-  record BlockAt (e count : ℕ) (outer : List ℕ) (back : Bool) : Type 0 where
+  -- a block's first operation, which these locals fit
+  record BlockAt (e count : ℕ) (outer : List ℕ) (ls : List Sort) : Type 0 where
     pub spot : Spot
     pub there : spot_at t e ≡ Some spot
     pub entry : r.Entry c N P e count (cut spot)
     pub same : outer ≡ spot.outer
-    pub locals : r.Each c N p.locals spot.locals
-    pub again : fits_back t.classes back spot.locals p.locals ≡ true
+    pub locals : r.Each c N ls spot.locals
 
-  block_at : (e count : ℕ) (back : Bool) → suits c t p (step.block_at c t p i e count back) ≡ true → BlockAt e count
-      (names P) back
-  block_at e count back h =
-      let nx = next_in c t p (step.block_at c t p i e count back) h in
+  block_at : (e count : ℕ) (ls : List Sort) → suits c t p (step.block_at c t p i e count ls) ≡ true → BlockAt e count
+      (names P) ls
+  block_at e count ls h =
+      let nx = next_in c t p (step.block_at c t p i e count ls) h in
       let tries = sym (marks_are [] nx.spot.tries nx.tries) in
       let stack = empty_fit (subst (λ xs. AllFit (parent_of N) xs nx.spot.stack) (become_is c t [] nx.stack.become)
       nx.stack.fit) in
@@ -78,33 +77,32 @@ module _ (c : Code) (t : Table) (p : Spot) (i : ℕ) (ev : even (length p.stack)
         };
         same = holding.names_are c t p ∙ numbers_are (tries_of c t p) nx.spot.outer (both _ _ (both _ _ (both _ _
             nx.part).0).0).1;
-        locals = subst (λ xs. AllFit (parent_of N) xs nx.spot.locals) (become_is c t p.locals nx.locals.become)
-            nx.locals.fit;
-        again = nx.back;
+        locals = subst (λ xs. AllFit (parent_of N) xs nx.spot.locals) (become_is c t ls nx.locals.become) nx.locals.fit;
       }
 
-  -- the next operation, with other blocks deferred
-  behind : {j : ℕ} {ds : List ℕ} → suits c t p (record (to c t p i j [] st) { part = inner ds }) ≡ true →
-      r.Leads c N P p.locals st (opens p.stack p.tries) ds j
-  behind {j = j} {ds = ds} h =
-      let w = wrote c t p i ev {j = j} {ms = map is p.locals} {st = st} {ds = ds} h in
-      subst (λ ls. r.Leads c N P ls st (opens p.stack p.tries) ds j) (become_is c t p.locals w.become) w.leads
+  -- the next operation, with these locals, and with other blocks deferred
+  behind : (ls : List Sort) {j : ℕ} {ds : List ℕ} → suits c t p (record (to c t p i j [] st) {
+    part = inner ds;
+    locals = map is ls;
+  }) ≡ true → r.Leads c N P ls st (opens p.stack p.tries) ds j
+  behind ls {j = j} {ds = ds} h =
+      let w = wrote c t p i ev {j = j} {ms = map is ls} {st = st} {ds = ds} h in
+      subst (λ ls. r.Leads c N P ls st (opens p.stack p.tries) ds j) (become_is c t ls w.become) w.leads
 
   pub defer_passes : {l : ℕ} → Done (o.Defer l) → Passed (o.Defer l)
   defer_passes f =
       let k = led c t p i _ f in
-      let b = block_at (suc i) (length p.defers) false (both _ _ k.suit).0 in
-      r.of_defer b.entry b.same b.locals (behind (both _ _ (both _ _ k.suit).1).0)
+      let b = block_at (suc i) (length p.defers) p.locals (both _ _ k.suit).0 in
+      r.of_defer b.entry b.same b.locals (behind p.locals (both _ _ (both _ _ k.suit).1).0)
 
-  leave_runs : (m : ℕ) (ds : List ℕ) → p.under ≤ m → m ≤ p.under + length ds → all_suit c t p (step.leaves c t p i m
-      ds) ≡ true →
-      r.Runs c N P i m ds
-  leave_runs m [] from most h = r.runs_no (equal p.under m from most) (behind (both _ _ h).0)
+  leave_runs : (m : ℕ) (ls : List Sort) (ds : List ℕ) → p.under ≤ m → m ≤ p.under + length ds →
+      all_suit c t p (step.leaves c t p i m ls ds) ≡ true → r.Runs c N P i m ls ds
+  leave_runs m ls [] from most h = r.runs_no (equal p.under m from most) (behind ls (both _ _ h).0)
     where
       equal : (u m : ℕ) → u ≤ m → m ≤ u + 0 → m ≡ u + 0
       equal u m a b = omega (arith, a, b)
-  leave_runs m (e ∷ ds) from most h = by_test (eqn m (p.under + suc (length ds))) refl h (λ l h. leave_runs m ds from l
-      h)
+  leave_runs m ls (e ∷ ds) from most h = by_test (eqn m (p.under + suc (length ds))) refl h (λ l h. leave_runs m
+      (spot_locals (spot_at t e) ls) ds from l h)
     where
       lower : (u m n : ℕ) → (eqn m (u + suc n) ≡ false) → m ≤ u + suc n → m < u + suc n
       lower u m n e l = by_less (nat_lt m (u + suc n)) refl
@@ -122,19 +120,19 @@ module _ (c : Code) (t : Table) (p : Spot) (i : ℕ) (ev : even (length p.stack)
       less_one : (u m n : ℕ) → m < u + suc n → m ≤ u + n
       less_one u m n l = omega (arith, l)
 
-      by_test : (b : Bool) → eqn m (p.under + suc (length ds)) ≡ b → all_suit c t p (cond b (record (to c t p i (suc i)
-          [] st) {
-            part = inner (e ∷ ds);
-          } ∷ []) (step.block_at c t p i e (length ds) true ∷ step.leaves c t p i m ds)) ≡ true → (m ≤ p.under + length ds
-          → all_suit c t p (step.leaves c t p i m ds) ≡ true →
-          r.Runs c N P i m ds) → r.Runs c N P i m (e ∷ ds)
-      by_test true q h go = r.runs_no (eqn_is m (p.under + suc (length ds)) q) (behind (both _ _ h).0)
+      behind_block : List Sort
+      behind_block = spot_locals (spot_at t e) ls
+
+      by_test : (b : Bool) → eqn m (p.under + suc (length ds)) ≡ b → all_suit c t p (cond b (step.behind c t p i ls
+          (e ∷ ds) ∷ []) (step.block_at c t p i e (length ds) ls ∷ step.leaves c t p i m behind_block ds)) ≡ true →
+          (m ≤ p.under + length ds → all_suit c t p (step.leaves c t p i m behind_block ds) ≡ true →
+          r.Runs c N P i m behind_block ds) → r.Runs c N P i m ls (e ∷ ds)
+      by_test true q h go = r.runs_no (eqn_is m (p.under + suc (length ds)) q) (behind ls (both _ _ h).0)
       by_test false q h go =
-          let b = block_at e (length ds) true (both _ _ h).0 in
+          let b = block_at e (length ds) ls (both _ _ h).0 in
           let less = lower p.under m (length ds) q most in
-          r.runs_so less b.entry b.same b.locals (each_fit_is t.classes b.spot.locals p.locals b.again) (go (less_one
-          p.under
-          m (length ds) less) (both _ _ h).1)
+          r.runs_so less b.entry b.same b.locals (subst (λ (x : Option Spot). r.Runs c N P i m (spot_locals x ls) ds)
+          b.there (go (less_one p.under m (length ds) less) (both _ _ h).1))
 
   try_keeps : (m : ℕ) → not (ltn m (keeps c t p.tries)) ≡ true → r.Keeps c N P m
   try_keeps m e = by_tries p.tries refl (not_less m (keeps c t p.tries) (not_is (ltn m (keeps c t p.tries)) e))
@@ -152,7 +150,7 @@ module _ (c : Code) (t : Table) (p : Spot) (i : ℕ) (ev : even (length p.stack)
   pub leave_passes : {m : ℕ} → Done (o.Leave m) → Passed (o.Leave m)
   leave_passes {m = m} f =
       let k = led c t p i _ f in
-      r.of_leave (try_keeps m (both _ _ (both _ _ k.fit).0).0) (leave_runs m p.defers (not_less m p.under (not_is (ltn
+      r.of_leave (try_keeps m (both _ _ (both _ _ k.fit).0).0) (leave_runs m p.locals p.defers (not_less m p.under (not_is (ltn
       m p.under) (both _ _
       (both _ _ k.fit).0).1)) (not_less (p.under + length p.defers) m (not_is (ltn (p.under + length p.defers) m) (both
       _ _ k.fit).1)) k.suit)
@@ -164,7 +162,6 @@ module _ (c : Code) (t : Table) (p : Spot) (i : ℕ) (ev : even (length p.stack)
     locals = map is p.locals;
     stack = [];
     tries = Some [];
-    back = false;
   }
 
   pub defer_end_passes : Done o.DeferEnd → Passed o.DeferEnd

@@ -209,7 +209,6 @@ module _ (c : Code) (t : Table) (p : Spot) (i : ℕ) (ev : even (length p.stack)
     locals = map is ls;
     stack = map is (st ++ beneath p.stack p.tries);
     tries = Some ms;
-    back = false;
   }
 
   -- the innermost Try ends, with these locals

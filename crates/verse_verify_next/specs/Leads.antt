@@ -1,5 +1,5 @@
 -- Next states, by what makes them differ from the state at the operation.
-use Rattle.std.specs.Prelude.{ℕ, suc, List, ◌∷◌, length, map, Option, Some, None, Bool}
+use Rattle.std.specs.Prelude.{ℕ, suc, List, ◌∷◌, length, map, Option, Some, None}
 use Rattle.verse_verify_faults.specs.Stepping as t
 use Rattle.verse_verify_faults.specs.Stepping.{Goes, inner, tails, to, arm_at, block_at}
 use Rattle.verse_verify_notes.specs.declared.sorts.Sort.{Sort}
@@ -31,8 +31,16 @@ module _ (h : Here) where
   abbrev pub goes_deferring : ℕ → List ℕ → List Sort → Goes
   goes_deferring j ds st = record (goes_to j None st) { part = inner ds }
 
+  -- with these locals, and these blocks deferred
+  abbrev pub goes_left : List Sort → List ℕ → List Sort → Goes
+  goes_left ls ds st = record (goes_to (suc h.index) None st) {
+    part = inner ds;
+    locals = map t.is (sorts_of ls);
+  }
+
   abbrev pub arm_begins : ℕ → Goes
   arm_begins l = arm_at (code_in h) (table_in h) (spot_in h) h.index l
 
-  abbrev pub block_begins : ℕ → ℕ → Bool → Goes
-  block_begins e count back = block_at (code_in h) (table_in h) (spot_in h) h.index e count back
+  abbrev pub block_begins : ℕ → ℕ → List Sort → Goes
+  block_begins e count ls =
+      block_at (code_in h) (table_in h) (spot_in h) h.index e count (sorts_of ls)

@@ -7,7 +7,8 @@ ghost use Rattle.verse_verify_notes.specs.View.{spot_of};
 ghost use Rattle.verse_verify_next.specs.Heres.{code_in, table_in, spot_in, suited};
 ghost use Rattle.verse_verify_next.specs.Heres.{near, placed, names_in};
 ghost use Rattle.verse_verify_next.specs.Leads.{goes_to, goes_written, goes_in, goes_out};
-ghost use Rattle.verse_verify_next.specs.Leads.{goes_deferring, arm_begins, block_begins};
+ghost use Rattle.verse_verify_next.specs.Leads.{goes_deferring, goes_left};
+ghost use Rattle.verse_verify_next.specs.Leads.{arm_begins, block_begins};
 
 use crate::heres::Here;
 use crate::mades::Made;
@@ -154,12 +155,12 @@ pub fn does_lead_out(here: &Here, locals: &[Sort], st: &[Sort]) -> bool
     true
 }
 
-/// Whether the state at an index suits, where these blocks are deferred then.
+/// Whether the next state suits, where the operation leaves these locals and these blocks.
 #[tactic(auto, using(crate::proofs::RuleSets::of_leading))]
-pub fn does_lead_deferring(here: &Here, index: usize, defers: &[u32], st: &[Sort]) -> bool
-    ensures { result ≡ suited here.now (goes_deferring here.now index defers.now st.now ∷ []) }
+pub fn does_lead_left(here: &Here, locals: &[Sort], defers: &[u32], st: &[Sort]) -> bool
+    ensures { result ≡ suited here.now (goes_left here.now locals.now defers.now st.now ∷ []) }
 {
-    let Some(other) = here.spot_at(index) else {
+    let Some(other) = here.spot_at(here.next()) else {
         return false;
     };
     if !is_placed(here, defers, other) {
@@ -171,13 +172,14 @@ pub fn does_lead_deferring(here: &Here, index: usize, defers: &[u32], st: &[Sort
     if !do_operands_hold(here, st, &other.stack) {
         return false;
     }
-    if !does_each_fit(here.classes(), &here.spot.locals, &other.locals) {
+    if !does_each_fit(here.classes(), locals, &other.locals) {
         return false;
     }
     true
 }
 
-/// The same, where the next operation begins a block that is deferred too.
+/// Whether the state at an index suits, where the next operation begins a block that is deferred
+/// beside those here.
 #[tactic(auto, using(crate::proofs::RuleSets::of_leading))]
 pub fn does_lead_behind_block(here: &Here, index: usize, st: &[Sort]) -> bool
     ensures { result ≡ suited here.now (goes_deferring here.now index
@@ -289,12 +291,12 @@ fn is_of_new_block(here: &Here, entry: usize, count: usize, other: &Spot) -> boo
     true
 }
 
-/// Whether a block may begin at an index, with so many more deferred beneath it than beneath the
-/// block here; `back` where its locals must fit those here too.
+/// Whether a block may begin at an index with these locals, with so many more deferred beneath it
+/// than beneath the block here.
 #[tactic(auto, using(crate::proofs::RuleSets::of_leading))]
-pub fn does_block_begin(here: &Here, entry: usize, count: usize, back: bool) -> bool
+pub fn does_block_begin(here: &Here, entry: usize, count: usize, locals: &[Sort]) -> bool
     requires { count ≤ 9223372036854775807 }
-    ensures { result ≡ suited here.now (block_begins here.now entry count back ∷ []) }
+    ensures { result ≡ suited here.now (block_begins here.now entry count locals.now ∷ []) }
 {
     let Some(other) = here.spot_at(entry) else {
         return false;
@@ -311,13 +313,7 @@ pub fn does_block_begin(here: &Here, entry: usize, count: usize, back: bool) -> 
     if !is_without_operand(other) {
         return false;
     }
-    if !does_each_fit(here.classes(), &here.spot.locals, &other.locals) {
-        return false;
-    }
-    if !back {
-        return true;
-    }
-    if !does_each_fit(here.classes(), &other.locals, &here.spot.locals) {
+    if !does_each_fit(here.classes(), locals, &other.locals) {
         return false;
     }
     true

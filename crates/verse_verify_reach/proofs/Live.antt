@@ -62,9 +62,9 @@ module _ (c : Code) (n : Notes) where
   entered : {p : Point} {e k : ℕ} {q : Point} → r.Entry c n p e k q → LiveAt e
   entered {q = q} e = record { point = q; live = e.live; tries = none_open e.tries }
 
-  left : {p : Point} {i m : ℕ} {ds : List ℕ} → r.Runs c n p i m ds → AllLive p.tries → LiveAt (suc i)
+  left : {p : Point} {i m : ℕ} {ls : List Sort} {ds : List ℕ} → r.Runs c n p i m ls ds → AllLive p.tries → LiveAt (suc i)
   left (r.runs_no e t) h = led t h
-  left (r.runs_so lt e names to from rest) h = left rest h
+  left (r.runs_so lt e names fit rest) h = left rest h
 
   -- a Try that fails goes on at its label
   undone : (p : Point) (i label : ℕ) (t : Open) (ts : List Open) → p.tries ≡ t ∷ ts →

@@ -13,8 +13,6 @@ use Rattle.verse_verify_faults.specs.Faults.{holds, is_none, on_spot, suits}
 use Rattle.verse_verify_next.specs.declared.heres.Here.{Here}
 use Rattle.verse_verify_next.specs.Heres.{code_in, table_in, classes_in, spot_in, suited}
 use Rattle.verse_verify_tasks.specs.Arms.{all_from, each_from, size, label_at, label_suits, is_arm, may_begin, sort_there, arm_fits, on_arm}
-use Rattle.verse_verify_next.specs.Leads.{block_begins}
-use Rattle.verse_verify_tasks.specs.Blocks.{goes_behind, leaves_in}
 use Rattle.verse_verify_tasks.specs.Arms.{are_arms, do_begin, do_fit, do_fill, labels_in, grouped_in, group_ends, group_goes}
 use Rattle.verse_verify_tasks.proofs.Tests.{both, eqn_same, some_is, spot_is, second, first}
 
@@ -80,7 +78,7 @@ module _ (h : Here) where
   starts : (l : ℕ) → label_suits h (Some l) ≡ true → (a : Sort) × (sort_there h (Some l) ≡ Some a)
   starts l e =
       let q = spot_is (spot_at (table_in h) l) _ (both _ _ e).0 in
-      let a = some_is q.0.arm (first _ _ _ _ _ (second _ _ _ _ _ _ q.2)) in
+      let a = some_is q.0.arm (first _ _ _ _ _ (second _ _ _ _ _ q.2)) in
       (a.0, ap arm_of q.1 ∙ a.1)
 
   pub record Known (a m : ℕ) : Type 0 where
@@ -173,40 +171,9 @@ module _ (h : Here) where
       let k = known (suc h.index) m g f in
       ap (λ o. holds (classes_in h) (grouped (suc kind) o) b) (gives m k) ∙ k.fit b
 
-  -- what a Leave does with the last deferred block
-  pub leave_ends : (m e : ℕ) (ds : List ℕ) → eqn m ((spot_in h).under + suc (length ds)) ≡ true →
-      suited h (leaves_in h m (e ∷ ds)) ≡ suited h (goes_behind h (e ∷ ds) ∷ [])
-  leave_ends m e ds x =
-      ap (λ b. suited h (cond b (goes_behind h (e ∷ ds) ∷ []) (block_begins h e (length ds) true ∷ leaves_in h m ds))) x
-
-  pub leave_goes : (m e : ℕ) (ds : List ℕ) → eqn m ((spot_in h).under + suc (length ds)) ≡ false →
-      suited h (leaves_in h m (e ∷ ds)) ≡ suited h (block_begins h e (length ds) true ∷ []) && suited h (leaves_in h m ds)
-  leave_goes m e ds x = ap (λ b. suited h (cond b (goes_behind h (e ∷ ds) ∷ []) (block_begins h e (length ds) true ∷ leaves_in h m ds))) x ∙
-      both_suit (block_begins h e (length ds) true) (leaves_in h m ds)
-
   -- two next states, the first of which suits or not
   pub first_fails : (g : Goes) (gs : List Goes) → suited h (g ∷ []) ≡ false → false ≡ suited h (g ∷ gs)
   first_fails g gs e = sym (both_suit g gs ∙ ap (λ b. b && suited h gs) e)
 
   pub second_tells : (g : Goes) (gs : List Goes) → suited h (g ∷ []) ≡ true → suited h gs ≡ suited h (g ∷ gs)
   second_tells g gs e = sym (both_suit g gs ∙ ap (λ b. b && suited h gs) e)
-
-  -- the blocks that a Leave finds deferred
-  pub leave_none : (m : ℕ) (ds : List ℕ) → length ds ≡ 0 → suited h (goes_behind h ds ∷ []) ≡ suited h (leaves_in h m ds)
-  leave_none m [] e = refl
-  leave_none m (x ∷ ds) e = absurd (omega (arith, e))
-
-  pub leave_at : (m : ℕ) (ds : List ℕ) (e : ℕ) (more : List ℕ) → ds ≡ e ∷ more → eqn m ((spot_in h).under + length ds) ≡ true →
-      suited h (goes_behind h ds ∷ []) ≡ suited h (leaves_in h m ds)
-  leave_at m ds e more is x = subst (λ ys. suited h (goes_behind h ys ∷ []) ≡ suited h (leaves_in h m ys)) (sym is) (sym (leave_ends m e more
-      (subst (λ ys. eqn m ((spot_in h).under + length ys) ≡ true) is x)))
-
-  pub leave_stops : (m : ℕ) (ds : List ℕ) (e : ℕ) (more : List ℕ) → ds ≡ e ∷ more → eqn m ((spot_in h).under + length ds) ≡ false →
-      suited h (block_begins h e (length more) true ∷ []) ≡ false → false ≡ suited h (leaves_in h m ds)
-  leave_stops m ds e more is x n = subst (λ ys. false ≡ suited h (leaves_in h m ys)) (sym is) (sym (leave_goes m e more (subst (λ ys. eqn m
-      ((spot_in h).under + length ys) ≡ false) is x) ∙ ap (λ b. b && suited h (leaves_in h m more)) n))
-
-  pub leave_further : (m : ℕ) (ds : List ℕ) (e : ℕ) (more : List ℕ) → ds ≡ e ∷ more → eqn m ((spot_in h).under + length ds) ≡ false →
-      suited h (block_begins h e (length more) true ∷ []) ≡ true → suited h (leaves_in h m more) ≡ suited h (leaves_in h m ds)
-  leave_further m ds e more is x y = subst (λ ys. suited h (leaves_in h m more) ≡ suited h (leaves_in h m ys)) (sym is) (sym (leave_goes m e
-      more (subst (λ ys. eqn m ((spot_in h).under + length ys) ≡ false) is x) ∙ ap (λ b. b && suited h (leaves_in h m more)) y))

@@ -20,8 +20,8 @@ pub spot_is : (q : Option Spot) (test : Spot → Bool) → on_spot q test ≡ tr
 spot_is None test e = no_both (sym e)
 spot_is (Some x) test e = (x, refl, e)
 
-pub second : (a b c d e f : Bool) → a && b && c && d && e && f ≡ true → b ≡ true
-second a b c d e f h = (both a b (both (a && b) c (both (a && b && c) d (both (a && b && c && d) e (both (a && b && c && d && e) f h).0).0).0).0).1
+pub second : (a b c d e : Bool) → a && b && c && d && e ≡ true → b ≡ true
+second a b c d e h = (both a b (both (a && b) c (both (a && b && c) d (both (a && b && c && d) e h).0).0).0).1
 
 pub first : (a b c d e : Bool) → a && b && c && d && e ≡ true → a ≡ true
 first a b c d e h = (both a b (both (a && b) c (both (a && b && c) d (both (a && b && c && d) e h).0).0).0).0

@@ -6,11 +6,12 @@ ghost use Rattle.verse_verify_next.specs.Heres.{spot_in, suited};
 ghost use Rattle.verse_verify_next.specs.Leads.{goes_deferring, block_begins};
 ghost use Rattle.verse_verify_operands.specs.Finds.{broken};
 ghost use Rattle.verse_verify_tasks.specs.Blocks.{goes_behind, leaves_in};
+ghost use Rattle.verse_verify_notes.specs.View.{sorts_of};
 
 use verse_verify_keeps::settling::settle;
 use verse_verify_next::heres::Here;
 use verse_verify_next::leading::{
-    does_block_begin, does_lead_behind_block, does_lead_deferring, may_block_begin_again,
+    does_block_begin, does_lead_behind_block, does_lead_left, may_block_begin_again,
 };
 use verse_verify_next::operands::above;
 use verse_verify_notes::sorts::Sort;
@@ -28,10 +29,11 @@ fn defers_count(here: &Here) -> usize
 /// suits.
 fn does_defer(here: &Here, label: u32, st: &[Sort]) -> bool
     ensures { result ≡ suited here.now (block_begins here.now (suc here.now.index)
-        (length here.now.spot.now.defers.items) false ∷ goes_deferring here.now label
-        (suc here.now.index ∷ here.now.spot.now.defers.items) st.now ∷ []) }
+        (length here.now.spot.now.defers.items) here.now.spot.now.locals.items
+        ∷ goes_deferring here.now label (suc here.now.index ∷ here.now.spot.now.defers.items)
+        st.now ∷ []) }
 {
-    if !does_block_begin(here, here.next(), defers_count(here), false) {
+    if !does_block_begin(here, here.next(), defers_count(here), &here.spot.locals) {
         return false;
     }
     does_lead_behind_block(here, label as usize, st)
@@ -45,32 +47,39 @@ pub fn defer(here: &Here, label: u32, st: &[Sort]) -> Option<u8>
     settle(here, suits, &[], None)
 }
 
-/// Whether the state behind a Leave suits, where it leaves these blocks deferred.
-fn does_go_behind(here: &Here, defers: &[u32]) -> bool
-    ensures { result ≡ suited here.now (goes_behind here.now defers.now ∷ []) }
+/// Whether the state behind a Leave suits, where it leaves these locals and these blocks.
+fn does_go_behind(here: &Here, locals: &[Sort], defers: &[u32]) -> bool
+    ensures { result ≡ suited here.now (goes_behind here.now (sorts_of locals.now) defers.now ∷ []) }
 {
-    does_lead_deferring(here, here.next(), defers, above(here.spot))
+    does_lead_left(here, locals, defers, above(here.spot))
 }
 
 /// Whether the states to which a Leave leads suit that keeps so many deferred blocks: the blocks
-/// that it runs, the last one first, and the state behind it.
+/// that it runs, the last one first, each with the locals at the entry of the one before it, and
+/// the state behind it.
 fn does_leave(here: &Here, count: u32) -> bool
-    ensures { result ≡ suited here.now (leaves_in here.now count (spot_in here.now).defers) }
+    ensures { result ≡ suited here.now (leaves_in here.now count (spot_in here.now).locals
+        (spot_in here.now).defers) }
 {
+    let mut locals = here.spot.locals.as_slice();
     let mut rest = here.spot.defers.as_slice();
     'defers: for _i in 0..here.spot.defers.len() {
         let Some((entry, more)) = rest.split_first() else {
-            return does_go_behind(here, rest);
+            return does_go_behind(here, locals, rest);
         };
         if is_same_number(count as usize, here.spot.under as usize + rest.len()) {
-            return does_go_behind(here, rest);
+            return does_go_behind(here, locals, rest);
         }
-        if !does_block_begin(here, *entry as usize, more.len(), true) {
+        let Some(other) = here.spot_at(*entry as usize) else {
+            return false;
+        };
+        if !does_block_begin(here, *entry as usize, more.len(), locals) {
             return false;
         }
+        locals = other.locals.as_slice();
         rest = more;
     }
-    does_go_behind(here, rest)
+    does_go_behind(here, locals, rest)
 }
 
 /// The rule that a Leave breaks with these operands.
