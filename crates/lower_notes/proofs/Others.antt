@@ -92,9 +92,9 @@ computes op.And pl b = none
 computes op.Or pl b = sticks
 computes op.Div pl b = sticks
 
-with_no : {f : Maker} {g : Walk} (k : ℕ) → Beside f g → Beside (ap.with_none k f) (a.with_none k g)
-with_no zero x = x
-with_no (suc k) x = sticks
+drops : {f : Maker} {g : Walk} (k : ℕ) → Beside f g → Beside (ap.dropping k f) (a.dropping k g)
+drops zero x = x
+drops (suc k) x = both just (drops k x)
 
 with_one : {f : Maker} {g : Walk} (k : ℕ) → Beside f g → Beside (ap.with_one k f) (a.with_one k g)
 with_one zero x = sticks
@@ -107,10 +107,13 @@ with_two (suc zero) x = sticks
 with_two (suc (suc zero)) x = x
 with_two (suc (suc (suc k))) x = sticks
 
+indexes : (k : ℕ) → Beside (ap.indexing k) (a.indexing k)
+indexes zero = none
+indexes (suc k) = drops k just
+
 signals : (k : ℕ) → Beside (ap.signalling k) (a.signalling k)
 signals zero = both just just
-signals (suc zero) = just
-signals (suc (suc k)) = sticks
+signals (suc k) = drops k just
 
 pub finishes : (x : Form) (k : ℕ) (b : Bool) → Beside (ap.finish x k b) (a.finish x k b)
 finishes (form.computing x t pl) k b = with_two k (computes x pl t)
@@ -123,9 +126,8 @@ finishes (form.making_tuple pl) k b = at_place (o.Tuple k)
 finishes (form.making_array pl) k b = at_place (o.Array k)
 finishes (form.making_map pl) k b = at_place (o.Map k)
 finishes (form.joining xs pl) k b = at_place (o.Join k)
-finishes (form.picking None) k b = sticks
-finishes (form.picking (Some i)) k b = just
-finishes form.indexing k b = with_one k just
+finishes (form.picking i) k b = just
+finishes form.indexing k b = indexes k
 finishes (form.calling f) k b = else_stuck b just
 finishes (form.calling_own m) k b = else_stuck b just
 finishes (form.calling_method m) k b = just
@@ -133,7 +135,7 @@ finishes (form.printing pl) k b = with_one k (at_place o.Print)
 finishes (form.flooring pl) k b = with_two k (at_place o.Floor)
 finishes (form.ceiling pl) k b = with_two k (at_place o.Ceil)
 finishes form.taking_modulo k b = with_two k just
-finishes (form.awaiting t) k b = with_no k just
+finishes (form.awaiting t) k b = drops k just
 finishes form.signalling k b = signals k
 finishes (form.spawning f) k b = else_stuck b just
 finishes (form.spawning_own m) k b = else_stuck b just

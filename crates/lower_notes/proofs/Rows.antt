@@ -4,7 +4,7 @@ use Rattle.verse_image.specs.Reading.{many_at, within_at, number_at, digits_at}
 use Rattle.lower_code.specs.Lowering as l
 use Rattle.lower_notes.specs.Noting as n
 use Rattle.lower_notes.specs.Rows.{ValuesPass, AttemptsPass, LoopsPass, DefersPass, TasksPass, WritesPass}
-use Rattle.lower_notes.specs.Rows.{CallsPass, RefusedRows}
+use Rattle.lower_notes.specs.Rows.{CallsPass, NothingPasses, RefusedRows}
 
 pub values_pass : ValuesPass
 unfolding l.by_callee l.grouped l.arm_by l.instance_of l.named l.membered l.stated l.claused
@@ -62,6 +62,9 @@ defers_pass = record {
   broken = refl;
   in_condition = refl;
   in_arm = refl;
+  returned_behind = refl;
+  one_defined = refl;
+  two_scopes = refl;
 }
 
 pub tasks_pass : TasksPass
@@ -94,7 +97,7 @@ unfolding l.by_callee l.grouped l.arm_by l.instance_of l.named l.membered l.stat
     n.by_callee n.arm_by n.instance_of n.named n.membered n.stated n.claused
     many_at within_at number_at digits_at
 refused_rows = record {
-  two_scopes = refl;
+  signalled = refl;
 }
 
 pub calls_pass : CallsPass
@@ -108,4 +111,15 @@ calls_pass = record {
   own_field_written = refl;
   own_method = refl;
   left_in_method = refl;
+}
+
+pub nothing_passes : NothingPasses
+unfolding l.by_callee l.grouped l.arm_by l.instance_of l.named l.membered l.stated l.claused
+    n.by_callee n.arm_by n.instance_of n.named n.membered n.stated n.claused
+    many_at within_at number_at digits_at
+nothing_passes = record {
+  called = refl;
+  no_index = refl;
+  indices = refl;
+  awaited = refl;
 }

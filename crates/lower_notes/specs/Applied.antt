@@ -1,6 +1,6 @@
 -- The states of a form that is applied to what its operands left on the stack, of names and of
 -- what leaves.
-use Rattle.std.specs.Prelude.{ℕ, zero, suc, Option, Some, None, Bool, true, false, nat_lt}
+use Rattle.std.specs.Prelude.{ℕ, zero, suc, Bool, true, false, nat_lt}
 use Rattle.verse_tree.specs.declared.exprs.Operator.{Operator}
 use Rattle.verse_tree.specs.declared.exprs.Operator.TheVariants as op
 use Rattle.verse_sorts.specs.Sorts as s
@@ -74,11 +74,12 @@ computing op.And = nothing
 computing op.Or = ends
 computing op.Div = ends
 
--- with no operand, one or two; otherwise the form is none
-abbrev pub with_none : ℕ → Walk → Walk
-with_none zero f = f
-with_none (suc n) f = ends
+-- the operands on top fall away, so many
+abbrev pub dropping : ℕ → Walk → Walk
+dropping zero f = f
+dropping (suc n) f = one (pops 1) then dropping n f
 
+-- with one operand, or two; otherwise the form is none
 abbrev pub with_one : ℕ → Walk → Walk
 with_one zero f = ends
 with_one (suc zero) f = f
@@ -90,15 +91,15 @@ with_two (suc zero) f = ends
 with_two (suc (suc zero)) f = f
 with_two (suc (suc (suc n))) f = ends
 
+-- without an index the value stays
+abbrev pub indexing : ℕ → Walk
+indexing zero = nothing
+indexing (suc n) = dropping n last
+
 -- without an argument the value is unit
 abbrev pub signalling : ℕ → Walk
 signalling zero = one (gives 0 s.unit) then last
-signalling (suc zero) = last
-signalling (suc (suc n)) = ends
-
-abbrev pub picking : Option ℕ → Walk
-picking None = ends
-picking (Some k) = last
+signalling (suc n) = dropping n last
 
 -- n operands are on the stack; `fits` is whether a called function takes them, or there is a `Self`
 abbrev pub finish : Form → (n : ℕ) → (fits : Bool) → Walk
@@ -112,8 +113,8 @@ finish (form.making_tuple pl) n fits = last
 finish (form.making_array pl) n fits = last
 finish (form.making_map pl) n fits = last
 finish (form.joining xs pl) n fits = last
-finish (form.picking k) n fits = picking k
-finish form.indexing n fits = with_one n last
+finish (form.picking i) n fits = last
+finish form.indexing n fits = indexing n
 finish (form.calling f) n fits = when_else fits last
 finish (form.calling_own m) n fits = when_else fits last
 finish (form.calling_method m) n fits = last
@@ -121,7 +122,7 @@ finish (form.printing pl) n fits = with_one n last
 finish (form.flooring pl) n fits = with_two n last
 finish (form.ceiling pl) n fits = with_two n last
 finish form.taking_modulo n fits = with_two n last
-finish (form.awaiting t) n fits = with_none n last
+finish (form.awaiting t) n fits = dropping n last
 finish form.signalling n fits = signalling n
 finish (form.spawning f) n fits = when_else fits last
 finish (form.spawning_own m) n fits = when_else fits last

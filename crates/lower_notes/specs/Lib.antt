@@ -3,6 +3,5 @@ pub mod Stretches
 pub mod Applied
 pub mod Noting
 pub mod Programs
-pub mod Bytes
 pub mod Laws
 pub mod Rows

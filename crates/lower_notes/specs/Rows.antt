@@ -24,7 +24,7 @@ use Rattle.verse_verify_faults.specs.Spots.{Table}
 use Rattle.verse_verify_faults.specs.Reading.{verdict}
 use Rattle.lower_code.specs.Programs.{suspends_name, code_of}
 use Rattle.lower_notes.specs.Programs.{notes_of}
-use Rattle.lower_notes.specs.Bytes.{bytes_of}
+use Rattle.verse_verify_bytes.specs.Bytes.{bytes_of}
 
 abbrev pub at : Place
 at = record { file = 0; line = 1; col = 1 }
@@ -470,6 +470,15 @@ pub record DefersPass : Type 0 where
   pub in_arm : Passes (block (three an_x (deferred the_x) (part 0 (t.Shape.race
       (two the_x (part 0 (t.Shape.block_form
       (part 0 (t.Shape.block (two (deferred the_x) (int 2)))))))))))
+  -- defer{1}; Y := 2; return Y
+  pub returned_behind : Passes (block (three (deferred (int 1)) (defined 0 (codes "Y") (int 2))
+      (part never (t.Shape.returned (named 0 (codes "Y"))))))
+  -- defer{1}; Y := 2; defer{Y}: one Leave runs both blocks, and Y is there for the last one alone
+  pub one_defined : Passes (block (three (deferred (int 1)) (defined 0 (codes "Y") (int 2))
+      (deferred (named 0 (codes "Y")))))
+  -- X := 1; defer{X}; Y := 2; defer{Y}; 3
+  pub two_scopes : Passes (block (more_trees an_x (four (deferred the_x)
+      (defined 0 (codes "Y") (int 2)) (deferred (named 0 (codes "Y"))) (int 3))))
 
 -- Groups, branches, spawned calls and pauses
 pub record TasksPass : Type 0 where
@@ -566,10 +575,33 @@ pub record CallsPass : Type 0 where
       (part never t.Shape.break_form)))))))
       the_a)))
 
--- What no notes pass: X := 1; defer{X}; Y := 2; defer{Y}; 3. One Leave runs both blocks, the
--- second one with Y; the first one was deferred before Y had a value, so what it leaves is not
--- what the Leave begins with (V7).
+-- What is taken out of what never has a value, with as many arguments as one likes
+abbrev pub no_value : Tree
+no_value = part never (t.Shape.query (part false_sort t.Shape.falsehood))
+
+-- race: (loop: 1), loop: 2
+abbrev pub endless_race : Tree
+endless_race = part never (t.Shape.race (two (part never (t.Shape.loop_form (int 1)))
+    (part never (t.Shape.loop_form (int 2)))))
+
+abbrev pub tried : Tree → Tree
+tried b = part opt (t.Shape.option (alone b))
+
+abbrev pub of_race : List ℕ → Trees → Tree
+of_race x ts = part never (t.Shape.call (part void (t.Shape.member endless_race x)) ts)
+
+pub record NothingPasses : Type 0 where
+  -- option{false?()}
+  pub called : Passes (tried (part never (t.Shape.call no_value no_trees)))
+  -- option{false?[]}
+  pub no_index : Passes (tried (part never (t.Shape.index no_value no_trees)))
+  -- option{false?[1, 2]}
+  pub indices : Passes (tried (part never (t.Shape.index no_value (two (int 1) (int 2)))))
+  -- (race: (loop: 1), loop: 2).Await(1)
+  pub awaited : Passes (of_race (codes "Await") (alone (int 1)))
+
+-- What no notes pass.
 pub record RefusedRows : Type 0 where
-  pub two_scopes : fault
-      (block (more_trees an_x (four (deferred the_x) (defined 0 (codes "Y") (int 2))
-      (deferred (named 0 (codes "Y"))) (int 3)))) ≡ Some (7, 25)
+  -- (race: (loop: 1), loop: 2).Signal(1, 2): by the types that are found what signals never has a
+  -- value, as what is signalled, but a Signal leaves unit.
+  pub signalled : fault (of_race (codes "Signal") (two (int 1) (int 2))) ≡ Some (7, 23)

@@ -139,15 +139,7 @@ in_block at x = record {
 abbrev pub deferred : (at : ℕ) → Change
 deferred at x = record x { defers = record { entry = suc at; locals = x.locals } ∷ x.defers }
 
--- at a Leave the locals are those of the block that it runs first
-abbrev pub last_locals : List Deferred → List Sort → List Sort
-last_locals [] ls = ls
-last_locals (d ∷ ds) ls = d.locals
-
-abbrev pub leaves : Change
-leaves x = record x { locals = last_locals x.defers x.locals }
-
--- and behind it those of the last of the n blocks that it runs
+-- a Leave leaves the locals of the last of the n blocks that it runs
 abbrev pub locals_behind : (n : ℕ) → List Deferred → List Sort → List Sort
 locals_behind zero ds ls = ls
 locals_behind (suc n) [] ls = ls

@@ -6,7 +6,7 @@ use Rattle.verse_sorts.specs.Sorts as s
 use Rattle.verse_sorts.specs.Sorts.{Sort}
 use Rattle.verse_meaning.specs.Programs.{or_else}
 use Rattle.lower_code.specs.Pieces.{behind, later}
-use Rattle.lower_notes.specs.States.{State, Change, pops, gives, leaves, left_with, tried, untried}
+use Rattle.lower_notes.specs.States.{State, Change, pops, gives, left_with, tried, untried}
 use Rattle.lower_notes.specs.States.{in_arm}
 
 -- the states at the operations of a stretch, in order: none where an operation is never reached
@@ -50,7 +50,7 @@ leave_loop n at x = record { states = x ∷ []; exit = None; deep = n; left = op
 
 -- the deferred blocks from the m-th on run
 abbrev pub leave : ℕ → Walk
-leave m at x = straight (option_map leaves x ∷ []) (option_map (λ x. left_with m (leaves x)) x)
+leave m = one (left_with m)
 
 abbrev pub when : Bool → Walk → Walk
 when b f at x = cond b (f at x) (nothing at x)

@@ -4,8 +4,8 @@
 //! To be read in this order, in `specs/`: `States`, the state at an operation and what becomes of
 //! it; `Stretches`, the states at the operations of a stretch and how they are put together;
 //! `Applied`, names, forms that are applied to their operands, and what leaves; `Noting`, one case
-//! for each form; `Programs`, functions, classes and the whole notes; `Bytes`, notes as bytes; `Laws`,
-//! one state for each operation; `Rows`, small programs whose notes break no rule.
+//! for each form; `Programs`, functions, classes and the whole notes; `Laws`, one state for each
+//! operation; `Rows`, small programs whose notes break no rule.
 //!
 //! In `proofs/`: `Counted`, the combinators; `Others`, what stands for no tree of its own; `Forms`,
 //! one clause a form; `Whole`, programs; `Rows`, computed.
@@ -20,6 +20,7 @@ ghost use Rattle.lower_notes.specs.Rows.{
   TasksPass,
   WritesPass,
   CallsPass,
+  NothingPasses,
   RefusedRows,
 };
 
@@ -63,6 +64,11 @@ pub fn writes_pass()
 /// Calls, and what stands in a method.
 pub fn calls_pass()
     ensures { CallsPass }
+{}
+
+/// What takes something out of what never has a value.
+pub fn nothing_passes()
+    ensures { NothingPasses }
 {}
 
 /// What the rules of notes refuse, though it is a right program.

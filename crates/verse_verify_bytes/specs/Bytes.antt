@@ -9,13 +9,14 @@ use Rattle.verse_verify_kept.specs.Notes.{ClassNote, FuncNote}
 use Rattle.verse_verify_faults.specs.Spots.{Mark, Spot, Table}
 use Rattle.verse_verify_faults.specs.Reading.{mark, defers_in}
 
--- a number of 32 bits: seven bits a byte, the low ones first, and 128 more where others follow
+-- a number: seven bits a byte, the low ones first, and 128 more where others follow
 abbrev pub digits : (most : ℕ) → ℕ → List ℕ
 digits zero n = []
 digits (suc most) n = cond (nat_lt n 128) (n ∷ []) ((128 + n % 128) ∷ digits most (n / 128))
 
+-- ten bytes hold each number of 64 bits
 abbrev pub number : ℕ → List ℕ
-number n = digits 5 n
+number n = digits 10 n
 
 abbrev pub each : {A : Type 0} → (A → List ℕ) → List A → List ℕ
 each f [] = []

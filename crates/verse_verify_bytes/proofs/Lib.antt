@@ -1,0 +1,6 @@
+pub mod Numbers
+pub mod Lists
+pub mod Sorts
+pub mod Back
+mod Once
+mod Spelling
