@@ -1,0 +1,9 @@
+mod Linked
+mod Gathered
+mod Framing
+mod Only
+mod Planted
+mod Armed
+mod Ordered
+mod Counts
+mod Saving
