@@ -1,6 +1,6 @@
 -- The waits that are left count exactly where the run has ended by itself; and the cells of a run belong to its code.
-use Rattle.std.proofs.Common.{◌≡◌, ℕ, suc, List, Option, Some, None, refl, ap}
-use Rattle.std.specs.Prelude.{ℤ, length}
+use Rattle.std.proofs.Common.{◌≡◌, ℕ, suc, List, Option, Some, None, refl, ap, subst, sym}
+use Rattle.std.specs.Prelude.{length}
 use Rattle.verse_code.specs.declared.codes.Class.{Class}
 use Rattle.verse_code.specs.declared.codes.Code.{Code}
 use Rattle.verse_value.specs.declared.runs.Ending.{Ending}
@@ -8,11 +8,13 @@ use Rattle.verse_value.specs.declared.runs.Ending.TheVariants as ending
 use Rattle.verse_meaning_state.specs.Turns.{Stage, going, closed, broken, amiss, run_of, run_closed}
 use Rattle.verse_meaning_state.specs.State.{State}
 use Rattle.verse_code_machine.specs.Tasks.{tree_waits}
-use Rattle.verse_code_machine.specs.Runs.{Forest, mach_after, mach}
-use Rattle.verse_code_machine.specs.Belonging.{RunBelongs, StoreBelongs, StageBelongs}
+use Rattle.verse_code_machine.specs.Runs.{Forest}
+use Rattle.verse_code_machine.specs.Belonging.{StoreBelongs, StageBelongs}
 use Rattle.verse_code_machine_endings.specs.Endings.{EndsSo}
-use Rattle.verse_code_machine_endings.proofs.Runs.{runs_end_so}
 use Rattle.verse_top_texts.specs.Endings.{live_of}
+use Rattle.verse_value.specs.Runs.{Run}
+use Rattle.vm_run.specs.Origins.{RunHolds}
+use Rattle.verse_top_exec.specs.Courses.{Course, run_on, stage_on}
 
 -- how many waits are left, where that counts
 abbrev pub Counts : Option ℕ → ℕ → Type 0
@@ -36,9 +38,14 @@ live_right (broken (ending.Error k p) s) n a b = refl
 live_right (broken ending.Stuck s) n a b = refl
 live_right (amiss s) n a b = refl
 
-pub live_is : (c : Code) (ns : List ℤ) (steps until n : ℕ) → Counts (mach c ns steps until).live n →
-    (mach c ns steps until).live ≡ live_of (mach c ns steps until).ending n
-live_is c ns steps until n b = live_right (mach_after c ns steps until (suc steps)) n (runs_end_so c ns steps until (suc steps)) b
+-- each run that holds
+abbrev pub HoldsOn : Code → Course → Type 0
+HoldsOn c w = RunHolds c w.origin w.steps w.until
+
+pub live_is : (c : Code) (w : Course) (n : ℕ) → HoldsOn c w → Counts (run_on c w).live n → (run_on c w).live ≡ live_of (run_on c w).ending n
+live_is c w n h =
+    subst (λ (r : Run). Counts r.live n → r.live ≡ live_of r.ending n) (sym h.run)
+    (live_right (stage_on c w (suc w.steps)) n (h.ends (suc w.steps)))
 
 -- ---- cells
 
@@ -57,6 +64,7 @@ store_belongs cs (closed e s tss) a = closed_belongs cs e s (length (tree_waits 
 store_belongs cs (broken e s) a = a
 store_belongs cs (amiss s) a = a
 
-pub cells_belong : RunBelongs → (c : Code) (ns : List ℤ) (steps until : ℕ) → StoreBelongs c.classes (mach c ns steps until).store
-cells_belong belongs c ns steps until = store_belongs c.classes (mach_after c ns steps until (suc steps))
-    (belongs c ns steps until (suc steps))
+pub cells_belong : (c : Code) (w : Course) → HoldsOn c w → StoreBelongs c.classes (run_on c w).store
+cells_belong c w h =
+    subst (λ (r : Run). StoreBelongs c.classes r.store) (sym h.run)
+    (store_belongs c.classes (stage_on c w (suc w.steps)) (h.belongs (suc w.steps)))

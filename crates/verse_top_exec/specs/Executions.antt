@@ -4,25 +4,22 @@ use Rattle.verse_code.specs.declared.codes.Code.{Code}
 use Rattle.verse_image.specs.Format.{Image}
 use Rattle.verse_image.specs.Reading.{flaw, image_at}
 use Rattle.verse_value.specs.Runs.{Run}
-use Rattle.verse_meaning_state.specs.Texts.{run_text}
-use Rattle.verse_code_machine.specs.Runs.{mach, mach_after}
-use Rattle.verse_top_texts.specs.Endings.{ending_status}
+use Rattle.verse_code_machine.specs.Runs.{mach}
 use Rattle.verse_top_texts.specs.Images.{image_line}
-use Rattle.verse_top_texts.specs.Streams.{Streams}
 use Rattle.verse_top_args.specs.Words.{Options}
+use Rattle.verse_top_exec.specs.Courses.{Comes, ComesSoFar, course_of}
 
 -- the run of a code with these options
 abbrev pub run_with : Code → Options → Run
 run_with c o = mach c o.inputs o.steps o.until
 
 -- its text, and its status
-pub record Runs (c : Code) (o : Options) (status : ℕ) (text : List ℕ) : Type 0 where
-  pub status_is : status ≡ ending_status (run_with c o).ending
-  pub text_is : text ≡ run_text (run_with c o) o.heap c.files
+abbrev pub Runs : Code → Options → ℕ → List ℕ → Type 0
+Runs c o status text = Comes c (course_of o) status text
 
 -- what may have been written of it
 abbrev pub RunsSoFar : Code → Options → List ℕ → Type 0
-RunsSoFar c o text = Streams (mach_after c o.inputs o.steps o.until) (run_with c o) o.heap text
+RunsSoFar c o text = ComesSoFar c (course_of o) text
 
 -- The bytes are the image of a code, which is run; or they are none, by the first failing place from the left.
 pub data Executes (bytes : List ℕ) (o : Options) : ℕ → List ℕ → Type 0 where

@@ -1,4 +1,5 @@
 pub mod Leaving
+pub mod Courses
 pub mod Executions
 pub mod Asking
 pub mod Cells

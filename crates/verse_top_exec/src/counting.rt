@@ -21,6 +21,7 @@ use verse_top_load::lines_text;
 use verse_top_texts::answers::Answer;
 use verse_top_texts::endings::{ending_text, status_of};
 use verse_value::runs::Ending;
+use vm_run::laws::runs_hold;
 use vm_run::machines::{Bounds, Vm};
 
 /// Runs a code, and tells how the run ended and how many lines its trace has. The lines are kept
@@ -54,6 +55,7 @@ fn count<H: Heap + Drop, W: Waits + Drop>(
         steps: asked.steps,
         until: asked.until,
     };
+    runs_hold();
     let mut vm = Vm::new(alloc, code, heap, waits, asked.inputs, bounds)?;
     let ending = vm.run(code)?;
     let (now, steps, live) = (vm.now(), vm.steps(), vm.live());

@@ -61,8 +61,8 @@ pub fn run_code<S: Sink>(
     stream(alloc, code, heap, MapWaits::new(alloc), asked, out)
 }
 
-/// Tells which rule fails, and where.
-fn no_image<S: Sink>(alloc: Global, rule: u8, at: usize, out: &mut S) -> Result<u8, Stop>
+/// Tells which rule of images fails, and at which offset, and answers the status.
+pub fn no_image<S: Sink>(alloc: Global, rule: u8, at: usize, out: &mut S) -> Result<u8, Stop>
     ensures leaves { Leaves (IsFault rule at) IsNothing (S.faults out.old) (S.faults out.new)
         (S.taken out.old) (S.taken out.new) result }
     ensures later { S.faults out.old ≤ S.faults out.new }

@@ -9,7 +9,7 @@ use verse_code_machine_endings::{runs_end_so, runs_end_so_from};
 
 /// A run of a valid code ends, with other endings before a turn than within one, and all of its
 /// states belong to the code.
-pub(crate) fn runs_hold()
+pub fn runs_hold()
     ensures { RunsHold }
 {
     runs_end();

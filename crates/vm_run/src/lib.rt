@@ -9,7 +9,7 @@
 #![tactic(auto)]
 
 mod closing;
-mod laws;
+pub mod laws;
 pub mod machines;
 mod operations;
 pub mod saving;

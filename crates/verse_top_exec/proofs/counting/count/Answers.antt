@@ -4,6 +4,7 @@ use Rattle.std.proofs.lemmas.List.{length-map}
 use Rattle.vm_running.specs.Views.{line_of}
 use Rattle.vm_run.specs.Origins.{from_inputs}
 use Rattle.verse_top_exec.specs.Asking.{options_of}
+use Rattle.verse_top_exec.specs.Courses.{course_of}
 use Rattle.verse_top_exec.specs.Executions.{run_with}
 use Rattle.verse_top_exec.proofs.Shortly.{EndedSo, counts}
 use Rattle.verse_top_exec.proofs.InsideRuns.{live_is}
@@ -12,7 +13,7 @@ use Rattle.verse_top_exec.proofs.counting.count.Goals as goal
 
 pub run-requires-clause-belongs : goal.run-requires-clause-belongs
 run-requires-clause-belongs g c =
-    belongs_first g.H.Heap.state g.W.Waits.pending c.args.code.now (options_of c.args.asked) c.in_ok-vm.vm c.in_ok-vm.ensures
+    belongs_first g.H.Heap.state g.W.Waits.pending c.args.code.now (course_of (options_of c.args.asked)) c.in_ok-vm.vm c.in_ok-vm.ensures
 
 pub returns : goal.returns
 returns g c =
@@ -30,7 +31,8 @@ returns g c =
       ending = ran.answer;
       moment = c.now-now.ensures ∙ sym ran.over.moment;
       spent = c.steps-steps.ensures ∙ sym ran.over.steps;
-      left = live_is code o.inputs o.steps o.until c.live-live.result
+      left = live_is code (course_of o) c.live-live.result
+          (c.runs_hold.ensures code (from_inputs o.inputs) o.steps o.until c.requires.valid c.in_ok-vm.ensures.bound.can)
           (counts_of state pending vm (run_with code o).live c.live-live.result c.live-live.ensures ran.over.live);
       count = kept ∙ sym lines;
     } in
