@@ -20,6 +20,7 @@ verse runs the proved program; where it is missing, or its sources changed, it i
   ./verse build FILE {FILE}                                                   writes the image of the program
   ./verse list FILE                                                           writes the listing of an image
   ./verse assemble FILE                                                       writes the image of a listing
+  ./verse verify FILE FILE                                                    tests an image by the notes in the second file
   ./verse load N                                                              runs a made program of N functions
 
 Where standard error is a terminal, or with VERSE_EXPLAIN=1, a refusal is explained there; VERSE_EXPLAIN=0 explains

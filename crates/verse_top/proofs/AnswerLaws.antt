@@ -17,7 +17,7 @@ use Rattle.verse_accept.proofs.Answered.{one_front_end}
 use Rattle.verse_top.specs.Loading.{AreLoaded, IsTooLarge}
 use Rattle.verse_top.specs.Meaning.{code_from, default_options, mean_with}
 use Rattle.verse_top_texts.specs.Endings.{ending_status}
-use Rattle.verse_top.specs.Answers.{Answers, too_large, refused, checked, ran, built, executed, listed, assembled, loaded}
+use Rattle.verse_top.specs.Answers.{Answers, too_large, refused, checked, ran, built, executed, listed, assembled, verified, loaded}
 use Rattle.verse_top.specs.Answers.{AnsweredOnce, ExecRunsWhatIsBuilt, IsImageOf, Loads, MeansInShort, accepted, rejected}
 use Rattle.verse_top.specs.Programs.{IsForFile, IsForProgram, IsProgram}
 use Rattle.verse_image.specs.Format.{Image, version_of}
@@ -27,6 +27,8 @@ use Rattle.verse_top_exec.specs.Executions as x
 use Rattle.verse_top_exec.proofs.Executions.{once as executed_once}
 use Rattle.verse_top_listing.specs.Listings.{Assembles, Lists}
 use Rattle.verse_top_listing.proofs.Once.{assembles_once, lists_once}
+use Rattle.verse_top_verify.specs.Verifying.{Verifies}
+use Rattle.verse_top_verify.proofs.Once.{verifies_once}
 use Rattle.verse_top_load.specs.Load.{lines_line, load_text_of}
 use Rattle.verse_top.proofs.LoadLaws.{loaded_once, loaded_or_large, large_once, read_once}
 
@@ -64,6 +66,7 @@ once held c s t x y (too_large d n g p) (built names files is bytes l q i) = abs
 once held c s t x y (too_large d n g p) (executed name o bytes u z l q) = absurd g
 once held c s t x y (too_large d n g p) (listed name bytes u z l q) = absurd g
 once held c s t x y (too_large d n g p) (assembled name bytes u z l q) = absurd g
+once held c s t x y (too_large d n g p) (verified image notes bytes more u z l m q) = absurd g
 once held c s t x y (too_large d n g p) (loaded k u z q) = absurd g
 once held c s t x y (refused e files r g l q) (too_large d n h p) = absurd (loaded_or_large held (files_of c) files 0 n l p)
 once held c s t x y (checked names files is l q) (too_large d n h p) = absurd (loaded_or_large held names files 0 n l p)
@@ -72,6 +75,7 @@ once held c s t x y (built names files is bytes l q i) (too_large d n h p) = abs
 once held c s t x y (executed name o bytes u z l q) (too_large d n h p) = absurd h
 once held c s t x y (listed name bytes u z l q) (too_large d n h p) = absurd h
 once held c s t x y (assembled name bytes u z l q) (too_large d n h p) = absurd h
+once held c s t x y (verified image notes bytes more u z l m q) (too_large d n h p) = absurd h
 once held c s t x y (loaded k u z q) (too_large d n h p) = absurd h
 once held c s t x y (refused d files r g l p) (refused e others u h k q) =
     let same = loaded_once held (files_of c) files others l k in
@@ -85,6 +89,7 @@ once held c s t x y (refused d files r g l p) (built names others is bytes k q i
 once held c s t x y (refused d files r g l p) (executed name o bytes u z k q) = absurd g
 once held c s t x y (refused d files r g l p) (listed name bytes u z k q) = absurd g
 once held c s t x y (refused d files r g l p) (assembled name bytes u z k q) = absurd g
+once held c s t x y (refused d files r g l p) (verified image notes bytes more u z k m q) = absurd g
 once held c s t x y (refused d files r g l p) (loaded k u z q) = absurd g
 once held c s t x y (checked names others is k q) (refused d files r g l p) =
     let same = loaded_once held names files others l k in absurd (one_front_end.apart others is r q (subst (λ fs. IsRefused fs r) same p))
@@ -95,6 +100,7 @@ once held c s t x y (built names others is bytes k q i) (refused d files r g l p
 once held c s t x y (executed name o bytes u z k q) (refused d files r g l p) = absurd g
 once held c s t x y (listed name bytes u z k q) (refused d files r g l p) = absurd g
 once held c s t x y (assembled name bytes u z k q) (refused d files r g l p) = absurd g
+once held c s t x y (verified image notes bytes more u z k m q) (refused d files r g l p) = absurd g
 once held c s t x y (loaded k u z q) (refused d files r g l p) = absurd g
 once held c s t x y (checked names files is l p) (checked other others js k q) = (refl, refl)
 once held c s t x y (ran names o files is l p) (ran other u others js k q) =
@@ -113,6 +119,11 @@ once held c s t x y (listed name bytes u z l p) (listed other others w k m q) =
     let same = read_once held name bytes others l m in lists_once others s t x y (subst (λ (bs : List ℕ). Lists bs s x) same p) q
 once held c s t x y (assembled name bytes u z l p) (assembled other others w k m q) =
     let same = read_once held name bytes others l m in assembles_once others s t x y (subst (λ (bs : List ℕ). Assembles bs s x) same p) q
+once held c s t x y (verified image notes bytes more u z l m p) (verified other those others extra v w k n q) =
+    let one = read_once held image bytes others l k in
+    let two = read_once held notes more extra m n in
+    let here = subst (λ (bs : List ℕ). Verifies bytes bs s x) two p in
+    verifies_once others extra s t x y (subst (λ (bs : List ℕ). Verifies bs extra s x) one here) q
 once held c s t x y (loaded n u z p) (loaded m w k q) = loads_once n s t x y p q
 
 -- ---- what is built, and then executed
@@ -150,6 +161,7 @@ asks_for_files (request.Check files) c a = ap files_of a
 asks_for_files (request.Build files) c a = ap files_of a
 asks_for_files (request.List files) c a = ap files_of a.is ∙ sym a.one
 asks_for_files (request.Assemble files) c a = ap files_of a.is ∙ sym a.one
+asks_for_files (request.Verify files) c a = ap files_of a.is ∙ sym a.two
 asks_for_files (request.Load n) c a = ap files_of a.is
 
 -- a command over one file that is no program
@@ -160,6 +172,7 @@ asks_for_one (request.Check files) c p a = absurd p
 asks_for_one (request.Build files) c p a = absurd p
 asks_for_one (request.List files) c p a = (a.file, ap files_of a.is)
 asks_for_one (request.Assemble files) c p a = (a.file, ap files_of a.is)
+asks_for_one (request.Verify files) c p a = absurd p
 asks_for_one (request.Load n) c p a = absurd p
 
 -- the files of a program are 1 to 16
@@ -170,6 +183,7 @@ program_named (request.Check files) p n = n
 program_named (request.Build files) p n = n
 program_named (request.List files) p n = absurd p
 program_named (request.Assemble files) p n = absurd p
+program_named (request.Verify files) p n = absurd p
 program_named (request.Load m) p n = absurd p
 
 pub asks_for_program : (q : Request) (c : Command) → IsForProgram q → AsksFor q c → IsProgram c
@@ -179,6 +193,7 @@ asks_for_program (request.Check files) c p a = subst IsProgram (sym a) tt
 asks_for_program (request.Build files) c p a = subst IsProgram (sym a) tt
 asks_for_program (request.List files) c p a = absurd p
 asks_for_program (request.Assemble files) c p a = absurd p
+asks_for_program (request.Verify files) c p a = absurd p
 asks_for_program (request.Load n) c p a = absurd p
 
 pub answers_refused : (held : Holding) (c : Command) (names files : List (List ℕ)) (s : ℕ) (x : List ℕ) (r : Refusal) → IsProgram c →

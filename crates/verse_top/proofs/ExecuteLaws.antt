@@ -13,8 +13,10 @@ use Rattle.verse_top_exec.specs.Leaving.{Leaves}
 use Rattle.verse_top_exec.proofs.Leaving.{leaves_as}
 use Rattle.verse_top_listing.specs.Listings.{Assembles, Lists}
 use Rattle.verse_top.specs.Loading.{IsRead}
-use Rattle.verse_top.specs.Answers.{Answers, Begins, IsAnswer, Loads, Replies, assembled, executed, executing, listed, loaded, nothing}
+use Rattle.verse_top.proofs.LoadLaws.{missing_of_one}
+use Rattle.verse_top.specs.Answers.{Answers, Begins, IsAnswer, Loads, assembled, executed, executing, listed, loaded, nothing}
 use Rattle.verse_top.specs.Answers.{read_line}
+use Rattle.verse_top.specs.Ends.{Replies}
 
 module _ (held : Holding) (files_before files_now before now : ℕ) (old new : Option (List ℕ)) (r : Result ℕ Stop) where
   -- the file was not read
@@ -32,7 +34,7 @@ module _ (held : Holding) (files_before files_now before now : ℕ) (old new : O
             p.1 ∙ f,
             record {
               named = rw files (inl refl);
-              cause = elim cause [ inl rose ↦ inl rose | inr lacks ↦ inr (rw files (inl (lacks, refl))) ];
+              cause = elim cause [ inl rose ↦ inl rose | inr lacks ↦ inr (missing_of_one held c file file files (inl (lacks, refl))) ];
             },
           ),
         ),

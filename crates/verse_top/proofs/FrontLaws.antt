@@ -13,10 +13,12 @@ use Rattle.verse_accept.specs.Fronts.{Accepts}
 use Rattle.verse_outside.specs.Causes.{Rose}
 use Rattle.verse_outside.specs.Held.{Holding}
 use Rattle.verse_top_args.specs.Words.{Command, files_of}
-use Rattle.verse_top.specs.Answers.{Replies, read_line}
+use Rattle.verse_top.specs.Answers.{read_line}
+use Rattle.verse_top.specs.Ends.{Replies}
 use Rattle.verse_top.specs.Fronted.{Fronts, Judged}
 use Rattle.verse_top.specs.Loading.{AreLoaded, IsAbsent, IsAmong}
-use Rattle.verse_top.specs.Programs.{IsAccepted}
+use Rattle.verse_top.proofs.LoadLaws.{missing_of_program}
+use Rattle.verse_top.specs.Programs.{IsAccepted, IsProgram}
 use Rattle.verse_top.specs.declared.fronts.Fronted.{Fronted}
 use Rattle.verse_top.specs.declared.fronts.Fronted.TheVariants as f
 use Rattle.verse_top.proofs.AnswerLaws.{answers_refused}
@@ -31,9 +33,10 @@ fronts_judged held before now names files (Err e) loaded j = tt
 
 -- a file was not read
 pub replies_unread : (c : Command) (held : Holding) (before now : ℕ) (names : List (List ℕ)) (name : List ℕ) (status : ℕ) (text : List ℕ) →
-    files_of c ≡ names → IsAmong name names → Rose before now ⊎ IsAbsent held names name → status ≡ 6 → text ≡ read_line name →
+    IsProgram c → files_of c ≡ names → IsAmong name names → Rose before now ⊎ IsAbsent held names name → status ≡ 6 →
+    text ≡ read_line name →
     Replies c held before now status text
-replies_unread c held before now names name status text e among cause s t = inr (
+replies_unread c held before now names name status text g e among cause s t = inr (
   s,
   (
     name,
@@ -41,7 +44,10 @@ replies_unread c held before now names name status text e among cause s t = inr 
       t,
       record {
         named = subst (λ (ns : List (List ℕ)). IsAmong name ns) (sym e) among;
-        cause = subst (λ (ns : List (List ℕ)). Rose before now ⊎ IsAbsent held ns name) (sym e) cause;
+        cause = elim cause [
+          | inl rose ↦ inl rose
+          | inr absent ↦ inr (missing_of_program held c name g (subst (λ (ns : List (List ℕ)). IsAbsent held ns name) (sym e) absent))
+        ];
       },
     ),
   ),

@@ -5,5 +5,7 @@ pub mod ProgramLaws
 pub mod AnswerLaws
 pub mod FrontLaws
 pub mod CallLaws
+pub mod EndLaws
 pub mod ExecuteLaws
+pub mod PairLaws
 pub mod StatusLaws

@@ -1,11 +1,12 @@
 -- Files that tell what they hold are loaded in one way.
 use Rattle.std.proofs.Common.{◌≡◌, ℕ, suc, ◌<◌, ◌≤◌, List, [], ◌∷◌, length, Option, Some, None, inl, inr, refl, sym, ◌∙◌, ap}
-use Rattle.std.proofs.Common.{take, arith}
+use Rattle.std.proofs.Common.{take, subst, arith}
 use Rattle.std.proofs.lemmas.Option.{same_Some}
 use Rattle.verse_base.specs.declared.limits.TheConstants.{MOST_FILE_BYTES}
 use Rattle.verse_outside.specs.Held.{Holding, Holds, Lacks, Loads}
-use Rattle.verse_top_args.specs.Words.{AreFiles}
-use Rattle.verse_top.specs.Loading.{AreHeld, AreLoaded, IsAbsent, IsRead, IsTooLarge, most_bytes}
+use Rattle.verse_top_args.specs.Words.{AreFiles, Command, run, exec, check, build, list, assemble, verify, load, files_of}
+use Rattle.verse_top.specs.Loading.{AreHeld, AreLoaded, IsAbsent, IsMissing, IsRead, IsTooLarge, IsUnheld, most_bytes}
+use Rattle.verse_top.specs.Programs.{IsProgram}
 
 abbrev Telling : Type 0
 Telling = List ℕ → Option (List ℕ)
@@ -106,3 +107,59 @@ pub held_or_absent : (held : Holding) (names : List (List ℕ)) (name : List ℕ
 held_or_absent held [] name x y = y
 held_or_absent held (f ∷ fs) name x (inl lacks) = hold_or_lack held f x.0.0 x.0.1 lacks.0
 held_or_absent held (f ∷ fs) name x (inr (b, more)) = held_or_absent held fs name x.1 more.1.1
+
+-- ---- by the command
+
+pub missing_of_program : (held : Holding) (c : Command) (name : List ℕ) → IsProgram c → IsAbsent held (files_of c) name →
+    IsMissing held c name
+missing_of_program held (run files o) name p a = a
+missing_of_program held (exec file o) name p a = absurd p
+missing_of_program held (check files) name p a = a
+missing_of_program held (build files) name p a = a
+missing_of_program held (list file) name p a = absurd p
+missing_of_program held (assemble file) name p a = absurd p
+missing_of_program held (verify image notes) name p a = absurd p
+missing_of_program held (load n) name p a = absurd p
+
+pub absent_of_program : (held : Holding) (c : Command) (name : List ℕ) → IsProgram c → IsMissing held c name →
+    IsAbsent held (files_of c) name
+absent_of_program held (run files o) name p m = m
+absent_of_program held (exec file o) name p m = absurd p
+absent_of_program held (check files) name p m = m
+absent_of_program held (build files) name p m = m
+absent_of_program held (list file) name p m = absurd p
+absent_of_program held (assemble file) name p m = absurd p
+absent_of_program held (verify image notes) name p m = absurd p
+absent_of_program held (load n) name p m = absurd p
+
+absent_as : (held : Holding) (names others : List (List ℕ)) (name : List ℕ) → names ≡ others → IsAbsent held others name →
+    IsAbsent held names name
+absent_as held names others name e a = subst (λ (ns : List (List ℕ)). IsAbsent held ns name) (sym e) a
+
+-- where it has one file
+pub missing_of_one : (held : Holding) (c : Command) (file name : List ℕ) → files_of c ≡ file ∷ [] → IsAbsent held (file ∷ []) name →
+    IsMissing held c name
+missing_of_one held (run files o) file name e a = absent_as held files (file ∷ []) name e a
+missing_of_one held (exec f o) file name e a = absent_as held (f ∷ []) (file ∷ []) name e a
+missing_of_one held (check files) file name e a = absent_as held files (file ∷ []) name e a
+missing_of_one held (build files) file name e a = absent_as held files (file ∷ []) name e a
+missing_of_one held (list f) file name e a = absent_as held (f ∷ []) (file ∷ []) name e a
+missing_of_one held (assemble f) file name e a = absent_as held (f ∷ []) (file ∷ []) name e a
+missing_of_one held (verify image notes) file name e a = absurd (cc)
+missing_of_one held (load n) file name e a = absurd (cc)
+
+pub unheld_or_read : (held : Holding) (one other a b name : List ℕ) → IsRead held one a → IsRead held other b →
+    IsUnheld held one other name → ⊥
+unheld_or_read held one other a b name x y (inl lacks) = load_or_lack_of 18446744073709551615 held one a x lacks.0
+unheld_or_read held one other a b name x y (inr (bs, more)) = load_or_lack_of 18446744073709551615 held other b y more.1.0
+
+pub held_or_missing : (held : Holding) (c : Command) (name : List ℕ) → AreHeld held (files_of c) → IsMissing held c name → ⊥
+held_or_missing held (run files o) name h m = held_or_absent held files name h m
+held_or_missing held (exec file o) name h m = held_or_absent held (file ∷ []) name h m
+held_or_missing held (check files) name h m = held_or_absent held files name h m
+held_or_missing held (build files) name h m = held_or_absent held files name h m
+held_or_missing held (list file) name h m = held_or_absent held (file ∷ []) name h m
+held_or_missing held (assemble file) name h m = held_or_absent held (file ∷ []) name h m
+held_or_missing held (verify image notes) name h (inl lacks) = hold_or_lack held image h.0.0 h.0.1 lacks.0
+held_or_missing held (verify image notes) name h (inr (b, more)) = hold_or_lack held notes h.1.0.0 h.1.0.1 more.1.0
+held_or_missing held (load n) name h m = m

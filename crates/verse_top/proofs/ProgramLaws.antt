@@ -29,7 +29,8 @@ use Rattle.verse_top_exec.proofs.Leaving.{leaves_as}
 use Rattle.verse_top.specs.Loading.{AreLoaded}
 use Rattle.verse_top.specs.Meaning.{Does, MeansSoFar, code_from, default_options, mean_with, stage_with}
 use Rattle.verse_top.specs.Programs.{IsAccepted}
-use Rattle.verse_top.specs.Answers.{Answers, Begins, IsAnswer, IsBuilt, Loads, Means, MeansInShort, built, checked, ok_line, ran, running}
+use Rattle.verse_top_texts.specs.Verdicts.{ok_line}
+use Rattle.verse_top.specs.Answers.{Answers, Begins, IsAnswer, IsBuilt, Loads, Means, MeansInShort, built, checked, ran, running}
 use Rattle.verse_top.specs.Answers.{rejected, accepted as accepted_load}
 use Rattle.verse_top.specs.Answers as a
 use Rattle.verse_top.specs.Fronted.{Judged}

@@ -17,7 +17,8 @@ use Rattle.verse_top_args.proofs.CommandLemmas.{say_once}
 use Rattle.verse_top_texts.specs.Endings.{ending_status}
 use Rattle.verse_top_load.specs.Load.{load_text_of}
 use Rattle.verse_top.specs.Meaning.{default_options, is_array, is_event, mean_with, of_node, program_from}
-use Rattle.verse_top.specs.Answers.{Answers, too_large, refused, ran, loaded, Loads, accepted, rejected, Answered}
+use Rattle.verse_top.specs.Answers.{Answers, too_large, refused, ran, loaded, Loads, accepted, rejected}
+use Rattle.verse_top.specs.Ends.{Ends, Tells, answer, cut_short, no_command, no_memory, not_read, whole}
 use Rattle.verse_top.specs.Statuses as is
 use Rattle.verse_top.specs.Statuses.{EndStatus, RunStatus, RunsProgram, by_run, by_load}
 
@@ -84,11 +85,10 @@ pub program_ends : ItemsAreNeverStuck → (held : Holding) (status : ℕ) (text 
 program_ends free held s x (by_run names o) a = run_ends free held names o s x a
 program_ends free held s x (by_load n) a = load_ends free held n s x a
 
-pub words_end : ItemsAreNeverStuck → (words : List (List ℕ)) (held : Holding) (c : Command) (status : ℕ)
-    (old new : Option (List ℕ)) → RunsProgram c → Says words c → Answered words held status old new → RunStatus status
-words_end free words held c s old new runs says answered =
-    program_ends free held s answered.text runs (subst (λ d. Answers held d s answered.text)
-    (say_once words answered.command c answered.says says) answered.answers)
+pub words_end : ItemsAreNeverStuck → (words : List (List ℕ)) (held : Holding) (c d : Command) (status : ℕ) (text : List ℕ) →
+    RunsProgram c → Says words c → Says words d → Answers held d status text → RunStatus status
+words_end free words held c d s text runs says other a =
+    program_ends free held s text runs (subst (λ e. Answers held e s text) (say_once words d c other says) a)
 
 -- ---- 8 is none of them
 
@@ -98,16 +98,21 @@ status_known s (is.ended is.done) e = cc
 status_known s (is.ended is.unfinished) e = cc
 status_known s (is.ended is.by_error) e = cc
 
-differs : (n m : ℕ) → n ≡ 8 → m ≢ 8 → n ≢ m
-differs n m e d f = d (sym f ∙ e)
+module _ (free : ItemsAreNeverStuck) (words : List (List ℕ)) (held : Holding) (files_before files_now : ℕ)
+    (c : Command) (runs : RunsProgram c) (says : Says words c) where
+  none_tells : (n : ℕ) (text : List ℕ) → Tells words held files_before files_now n text → n ≢ 8
+  none_tells n text (answer d s t other a) e = status_known n (words_end free words held c d n text runs says other a) e
+  none_tells n text (no_command none) e = absurd (none c says)
+  none_tells n text (no_memory d t other b) e = cc
+  none_tells n text (not_read d name other u) e = cc
 
--- what is answered, where there is an answer
-pub never_stuck : ItemsAreNeverStuck → (words : List (List ℕ)) (held : Holding) (status : ℕ) (old new : Option (List ℕ)) →
-    (status ≢ 2 → status ≢ 5 → status ≢ 6 → status ≢ 7 → Answered words held status old new) →
+-- whatever the way to end
+pub never_stuck : ItemsAreNeverStuck → (words : List (List ℕ)) (held : Holding) (files_before files_now before now : ℕ)
+    (old new : Option (List ℕ)) (status : ℕ) → Ends words held files_before files_now before now old new status →
     (c : Command) → RunsProgram c → Says words c → status ≢ 8
-never_stuck free words held s old new answers c runs says e =
-    status_known s (words_end free words held c s old new runs says (answers (differs s 2 e (λ f. cc))
-    (differs s 5 e (λ f. cc)) (differs s 6 e (λ f. cc)) (differs s 7 e (λ f. cc)))) e
+never_stuck free words held files_before files_now before now old new status (whole s t x w) c runs says e =
+    none_tells free words held files_before files_now c runs says s t x e
+never_stuck free words held files_before files_now before now old new status (cut_short s t x rose p) c runs says e = cc
 
 -- words that are no command, or a sink that failed
 pub no_status : {A B : Type 0} (n : ℕ) → ((n ≡ 2) × A) ⊎ ((n ≡ 7) × B) → n ≢ 8

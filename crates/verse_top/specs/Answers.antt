@@ -1,22 +1,24 @@
 -- What the top call answers: a status and the text that is written.
-use Rattle.std.specs.Prelude.{◌≡◌, ◌⊎◌, ℕ, List, [], ◌∷◌, ◌++◌, length, Option, Some, codes}
+use Rattle.std.specs.Prelude.{◌≡◌, ℕ, List, [], ◌∷◌, ◌++◌, length, Option, Some, codes}
 use Rattle.verse_base.specs.declared.refusals.Refusal.{Refusal}
 use Rattle.verse_lex.specs.Cut.{first_place}
-use Rattle.verse_outside.specs.Causes.{Rose}
-use Rattle.verse_outside.specs.Held.{Holding, with_more, TookPrefix}
+use Rattle.verse_outside.specs.Held.{Holding}
 use Rattle.verse_tree.specs.ItemTree.{ItemTree}
 use Rattle.verse_meaning_state.specs.Texts.{ending_line, run_text}
 use Rattle.verse_top_texts.specs.Refusals.{refusal_line}
 use Rattle.verse_image.specs.Format.{Image, version_of}
 use Rattle.verse_top_exec.specs.Executions.{Executes, ExecutesSoFar, run_with}
-use Rattle.verse_top_args.specs.Words.{Command, run, exec, check, build, list, assemble, load, files_of, Options, Says}
+use Rattle.verse_top_args.specs.Words.{Command, run, exec, check, build, list, assemble, verify}
+use Rattle.verse_top_args.specs.Words.{load, files_of, Options}
 use Rattle.verse_accept.specs.Fronts.{Accepts, IsRefused, refusal}
 use Rattle.verse_top_listing.specs.Listings.{Assembles, Lists}
+use Rattle.verse_top_verify.specs.Verifying.{Verifies}
 use Rattle.verse_top_load.specs.Load.{lines_line, load_text_of}
-use Rattle.verse_top.specs.Loading.{AreLoaded, IsAbsent, IsAmong, IsRead, IsTooLarge}
+use Rattle.verse_top.specs.Loading.{AreLoaded, IsRead, IsTooLarge}
 use Rattle.verse_top.specs.Programs.{IsProgram}
 use Rattle.verse_top.specs.Meaning.{MeansSoFar, code_from, default_options, mean_with}
 use Rattle.verse_top_texts.specs.Endings.{ending_status}
+use Rattle.verse_top_texts.specs.Verdicts.{ok_line}
 
 abbrev pub words_line : List ℕ
 words_line = codes "= words\n"
@@ -26,9 +28,6 @@ read_line file = codes "= read " ++ (file ++ codes "\n")
 
 abbrev pub memory_line : List ℕ
 memory_line = codes "= memory\n"
-
-abbrev pub ok_line : List ℕ
-ok_line = codes "= ok\n"
 
 -- the bytes are the image of the code of items in so many files, and with all options its run is what the items mean
 pub record IsImageOf (is : List ItemTree) (files : ℕ) (bytes : List ℕ) : Type 0 where
@@ -75,6 +74,9 @@ pub data Answers (held : Holding) : Command → ℕ → List ℕ → Type 0 wher
       Answers held (list name) status text
   assembled : (name bytes : List ℕ) (status : ℕ) (text : List ℕ) → IsRead held name bytes → Assembles bytes status text →
       Answers held (assemble name) status text
+  verified : (image notes bytes more : List ℕ) (status : ℕ) (text : List ℕ) →
+      IsRead held image bytes → IsRead held notes more → Verifies bytes more status text →
+      Answers held (verify image notes) status text
   loaded : (n status : ℕ) (text : List ℕ) → Loads n status text → Answers held (load n) status text
 
 -- What may have been written for a command where memory ran out: of a run that is written as it goes on some of its text, and otherwise
@@ -86,50 +88,6 @@ pub data Begins (held : Holding) : Command → List ℕ → Type 0 where
       Begins held (run names o) text
   executing : (name : List ℕ) (o : Options) (bytes text : List ℕ) → IsRead held name bytes → ExecutesSoFar bytes o text →
       Begins held (exec name o) text
-
--- the command has this answer over the files, and its text was written
-pub record Answered (words : List (List ℕ)) (held : Holding) (status : ℕ) (old new : Option (List ℕ)) : Type 0 where
-  pub command : Command
-  pub text : List ℕ
-  pub says : Says words command
-  pub answers : Answers held command status text
-  pub written : new ≡ with_more old text
-
--- a file was not read, for a fault or since it is the first that is not held
-pub record Unread (c : Command) (held : Holding) (before now : ℕ) (name : List ℕ) : Type 0 where
-  pub named : IsAmong name (files_of c)
-  pub cause : Rose before now ⊎ IsAbsent held (files_of c) name
-
--- the line that says so was written
-pub record NotRead (words : List (List ℕ)) (held : Holding) (before now : ℕ) (old new : Option (List ℕ)) : Type 0 where
-  pub command : Command
-  pub name : List ℕ
-  pub says : Says words command
-  pub unread : Unread command held before now name
-  pub written : new ≡ with_more old (read_line name)
-
--- the line that there is no memory was written, behind what the command begins with
-pub record NoMemory (words : List (List ℕ)) (held : Holding) (old new : Option (List ℕ)) : Type 0 where
-  pub command : Command
-  pub text : List ℕ
-  pub says : Says words command
-  pub begins : Begins held command text
-  pub written : new ≡ with_more old (text ++ memory_line)
-
--- the texts that may be written for these words over these files, whose count of faults rose or not
-pub data MayWrite (words : List (List ℕ)) (held : Holding) (before now : ℕ) : List ℕ → Type 0 where
-  no_command : ((c : Command) → Says words c → ⊥) → MayWrite words held before now words_line
-  not_read : (c : Command) (name : List ℕ) → Says words c → Unread c held before now name → MayWrite words held before now (read_line name)
-  no_memory : (c : Command) (text : List ℕ) → Says words c → Begins held c text → MayWrite words held before now (text ++ memory_line)
-  answer : (c : Command) (status : ℕ) (text : List ℕ) → Says words c → Answers held c status text → MayWrite words held before now text
-
--- the sink failed, and took a prefix of a text that may be written
-pub record CutShort (words : List (List ℕ)) (held : Holding) (files_before files_now before now : ℕ) (old new : Option (List ℕ)) :
-    Type 0 where
-  pub text : List ℕ
-  pub may : MayWrite words held files_before files_now text
-  pub cause : Rose before now
-  pub part : TookPrefix old text new
 
 -- over files that tell what they hold a command has one answer
 abbrev pub AnsweredOnce : Type 0
@@ -143,26 +101,6 @@ ExecRunsWhatIsBuilt = (held : List ℕ → Option (List ℕ)) (other : Holding) 
     (status : ℕ) (text : List ℕ) → Answers (Some held) (build names) 0 image → IsRead other name image →
     Answers (Some held) (run names o) status text →
     Answers other (exec name o) status text
-
--- the text was written whole and the status is the answer, or the sink failed and took a prefix of it
-abbrev pub Finishes : ℕ → List ℕ → ℕ → ℕ → ℕ → Option (List ℕ) → Option (List ℕ) → Type 0
-Finishes status text result before now old new =
-    ((result ≡ status) × (new ≡ with_more old text)) ⊎ ((result ≡ 7) × (Rose before now × TookPrefix old text new))
-
--- what is answered to a command: its answer, or that a file was not read
-abbrev pub Replies : Command → Holding → (before now status : ℕ) → List ℕ → Type 0
-Replies c held before now status text =
-    Answers held c status text ⊎ ((status ≡ 6) × ((name : List ℕ) × ((text ≡ read_line name) × Unread c held before now name)))
-
--- what comes of a command: its reply, a want of memory, or a fault of the sink
-pub data Told (c : Command) (held : Holding) (files_before files_now before now status : ℕ) (old new : Option (List ℕ)) : Type 0 where
-  whole : (text : List ℕ) → Replies c held files_before files_now status text → new ≡ with_more old text →
-      Told c held files_before files_now before now status old new
-  without : (text : List ℕ) → Begins held c text → status ≡ 5 → new ≡ with_more old (text ++ memory_line) →
-      Told c held files_before files_now before now status old new
-  cut : (text : List ℕ) → (((s : ℕ) × Replies c held files_before files_now s text) ⊎
-      ((begun : List ℕ) × Begins held c begun × (text ≡ begun ++ memory_line))) →
-      status ≡ 7 → Rose before now → TookPrefix old text new → Told c held files_before files_now before now status old new
 
 -- this answer and no other
 abbrev pub IsAnswer : ℕ → List ℕ → ℕ → List ℕ → Type 0

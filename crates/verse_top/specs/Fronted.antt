@@ -5,7 +5,7 @@ use Rattle.verse_outside.specs.Held.{Holding}
 use Rattle.verse_top_args.specs.Words.{Command, files_of}
 use Rattle.verse_top_texts.specs.Refusals.{refusal_line}
 use Rattle.verse_accept.specs.Fronts.{IsRefused}
-use Rattle.verse_top.specs.Answers.{Replies}
+use Rattle.verse_top.specs.Ends.{Replies}
 use Rattle.verse_top.specs.Loading.{AreLoaded}
 use Rattle.verse_top.specs.Programs.{IsAccepted, IsProgram}
 use Rattle.verse_top.specs.declared.fronts.Fronted.{Fronted}

@@ -3,5 +3,6 @@ pub mod Programs
 pub mod Loading
 pub mod Loaded
 pub mod Answers
+pub mod Ends
 pub mod Fronted
 pub mod Statuses

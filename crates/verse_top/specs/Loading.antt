@@ -2,6 +2,8 @@
 use Rattle.std.specs.Prelude.{◌≡◌, ◌⊎◌, ℕ, suc, ◌+◌, ◌<◌, ◌≤◌, List, [], ◌∷◌, length}
 use Rattle.verse_base.specs.declared.limits.TheConstants.{MOST_FILE_BYTES}
 use Rattle.verse_outside.specs.Held.{Holding, Holds, Lacks, Loads}
+use Rattle.verse_top_args.specs.Words.{Command, exec, run, check, build}
+use Rattle.verse_top_args.specs.Words.{list, assemble, verify, load}
 
 -- one byte more than a file may have shows that there are more
 abbrev pub most_bytes : ℕ
@@ -36,6 +38,23 @@ module _ (held : Holding) where
 -- a file that is no program is loaded whole
 abbrev pub IsRead : Holding → (name bytes : List ℕ) → Type 0
 IsRead held name bytes = Loads held name 18446744073709551615 bytes
+
+-- of two files that are no program the first under whose name nothing is held
+abbrev pub IsUnheld : Holding → (one other name : List ℕ) → Type 0
+IsUnheld held one other name =
+    (Lacks held one × (name ≡ one)) ⊎
+    ((b : List ℕ) × (IsRead held one b × (Lacks held other × (name ≡ other))))
+
+-- the first name of a command's files under which nothing is held
+abbrev pub IsMissing : Holding → Command → List ℕ → Type 0
+IsMissing held (run files o) name = IsAbsent held files name
+IsMissing held (exec file o) name = IsAbsent held (file ∷ []) name
+IsMissing held (check files) name = IsAbsent held files name
+IsMissing held (build files) name = IsAbsent held files name
+IsMissing held (list file) name = IsAbsent held (file ∷ []) name
+IsMissing held (assemble file) name = IsAbsent held (file ∷ []) name
+IsMissing held (verify image notes) name = IsUnheld held image notes name
+IsMissing held (load n) name = ⊥
 
 abbrev pub IsAmong : List ℕ → List (List ℕ) → Type 0
 IsAmong name [] = ⊥

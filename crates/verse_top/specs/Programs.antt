@@ -6,7 +6,8 @@ use Rattle.verse_tree.specs.declared.programs.Program.{Program as Made}
 use Rattle.verse_rules_types.specs.Types.{ty_of}
 use Rattle.verse_rules.specs.Sound.{completed, types_of}
 use Rattle.verse_accept.specs.Fronts.{Accepts}
-use Rattle.verse_top_args.specs.Words.{Command, run, exec, check, build, list, assemble, load}
+use Rattle.verse_top_args.specs.Words.{Command, run, exec, check, build}
+use Rattle.verse_top_args.specs.Words.{list, assemble, verify, load}
 use Rattle.verse_top_args.specs.declared.commands.Request.{Request}
 use Rattle.verse_top_args.specs.declared.commands.Request.TheVariants as request
 
@@ -17,6 +18,7 @@ IsProgram (check files) = Unit {0}
 IsProgram (build files) = Unit {0}
 IsProgram (list file) = ⊥
 IsProgram (assemble file) = ⊥
+IsProgram (verify image notes) = ⊥
 IsProgram (load n) = ⊥
 
 abbrev pub IsForProgram : Request → Type 0
@@ -26,6 +28,7 @@ IsForProgram (request.Check files) = Unit {0}
 IsForProgram (request.Build files) = Unit {0}
 IsForProgram (request.List files) = ⊥
 IsForProgram (request.Assemble files) = ⊥
+IsForProgram (request.Verify files) = ⊥
 IsForProgram (request.Load n) = ⊥
 
 -- it is over one file that is no program
@@ -36,6 +39,7 @@ IsForFile (request.Check files) = ⊥
 IsForFile (request.Build files) = ⊥
 IsForFile (request.List files) = Unit {0}
 IsForFile (request.Assemble files) = Unit {0}
+IsForFile (request.Verify files) = ⊥
 IsForFile (request.Load n) = ⊥
 
 -- the files are accepted, as this program with its names and types

@@ -5,13 +5,16 @@ ghost use Rattle.verse_base.specs.RuleText.{rule_text_of};
 ghost use Rattle.verse_top_texts.specs.Refusals.{refusal_line};
 ghost use Rattle.verse_lex.specs.Cut.{first_place};
 ghost use Rattle.verse_accept.specs.Fronts.{refusal};
-ghost use Rattle.verse_top.specs.Answers.{AnsweredOnce, ExecRunsWhatIsBuilt, ok_line, read_line};
+ghost use Rattle.verse_top_texts.specs.Verdicts.{ok_line};
+ghost use Rattle.verse_top.specs.Answers.{AnsweredOnce, ExecRunsWhatIsBuilt, read_line};
+ghost use Rattle.verse_top.specs.Ends.{EachEndsSo};
 
 use std::alloc::Global;
 use verse_base::places::Place;
 use verse_base::refusals::{Memory, Refusal, Rule};
 use verse_top_texts::answers::Answer;
 use verse_top_texts::refusals::refusal_text;
+use verse_top_texts::verdicts::ok_text;
 
 /// E002: a file has more bytes than a file may have.
 const TOO_LARGE: Rule = Rule(2);
@@ -19,6 +22,12 @@ const TOO_LARGE: Rule = Rule(2);
 /// Over files that tell what they hold a command has one answer.
 pub fn answered_once()
     ensures { AnsweredOnce }
+{}
+
+/// What follows of each way to end for the command that the words are: which endings have an
+/// answer, and which want of memory, absent files or words that are none.
+pub fn each_ends_so()
+    ensures { EachEndsSo }
 {}
 
 /// `exec` of what `build` wrote writes what `run` writes with the same options.
@@ -30,8 +39,7 @@ pub fn exec_runs_what_is_built()
 pub(crate) fn checked(alloc: Global) -> Result<Answer, Memory>
     ensures { IfOk result (λ a. (a.status ≡ 0) × (a.text.items ≡ ok_line)) }
 {
-    let mut text = Vec::new(alloc);
-    text.extend_from_slice(b"= ok\n")?;
+    let text = ok_text(alloc)?;
     Ok(Answer { status: 0, text })
 }
 

@@ -1,20 +1,18 @@
 //! The top call.
 
-ghost use Rattle.std.specs.Prelude.{◌≡◌, ◌≢◌, ◌⊎◌, ◌≤◌, ℕ, List, map, string_bytes};
-ghost use Rattle.verse_outside.specs.Causes.{Rose};
-ghost use Rattle.verse_outside.specs.Held.{with_more};
-ghost use Rattle.verse_top_args.specs.Words.{Command, files_of, Says};
+ghost use Rattle.std.specs.Prelude.{◌≡◌, ◌≢◌, ◌≤◌, ℕ, List, map, string_bytes};
+ghost use Rattle.verse_top_args.specs.Words.{Command, Says};
 ghost use Rattle.verse_top_args.specs.Requests.{AreNamed, AsksFor};
 ghost use Rattle.verse_top_exec.specs.Leaving.{Leaves};
-ghost use Rattle.verse_top.specs.Answers.{Answered, Begins, CutShort, Finishes, NoMemory, NotRead};
-ghost use Rattle.verse_top.specs.Answers.{Replies, Told, words_line};
-ghost use Rattle.verse_top.specs.Loading.{AreHeld, IsAbsent};
+ghost use Rattle.verse_top.specs.Answers.{Begins};
+ghost use Rattle.verse_top.specs.Ends.{Ends, Finishes, Replies};
 ghost use Rattle.verse_top.specs.Programs.{IsForProgram};
 ghost use Rattle.verse_top.specs.Statuses.{RunsProgram};
 
 use crate::executing::over_file;
 use crate::fronts::{Fronted, front};
 use crate::loads::load;
+use crate::pairs::over_pair;
 use crate::programs::proceed;
 use crate::writing::write_answer;
 use std::alloc::Global;
@@ -27,38 +25,11 @@ use verse_top_exec::stops::Stop;
 /// Does all that the program does for the words after its name, and answers the status with which
 /// it ends. What is written goes to `out` alone, refusals included.
 pub fn verse<F: Files, S: Sink>(alloc: Global, words: &[String], files: &mut F, out: &mut S) -> u8
-    // The command's answer over what its files hold, and its whole text.
-    ensures answered { result ≢ 2 → result ≢ 5 → result ≢ 6 → result ≢ 7 →
-        Answered (map string_bytes words.now) (F.holds files.old) result (S.taken out.old)
-        (S.taken out.new) }
-    // 2 exactly where the words are no command, unless the sink fails.
-    ensures wrong_words { result ≡ 2 → ((c : Command) → Says (map string_bytes words.now) c → ⊥) ×
-        (S.taken out.new ≡ with_more (S.taken out.old) words_line) }
-    ensures no_command { ((c : Command) → Says (map string_bytes words.now) c → ⊥) →
-        (result ≡ 2) ⊎ (result ≡ 7) }
-    // 6 only for a fault of the files or the first file that is absent, and always for an absent
-    // one.
-    ensures not_read { result ≡ 6 →
-        NotRead (map string_bytes words.now) (F.holds files.old) (F.faults files.old)
-        (F.faults files.new) (S.taken out.old) (S.taken out.new) }
-    ensures absent { (c : Command) (name : List ℕ) → Says (map string_bytes words.now) c →
-        IsAbsent (F.holds files.old) (files_of c) name →
-        (result ≡ 6) ⊎ (result ≡ 5) ⊎ (result ≡ 7) }
-    // 5 is want of memory; 7 only for a fault of the sink, which took a prefix.
-    ensures memory { result ≡ 5 →
-        NoMemory (map string_bytes words.now) (F.holds files.old) (S.taken out.old)
-        (S.taken out.new) }
-    ensures cut_short { result ≡ 7 →
-        CutShort (map string_bytes words.now) (F.holds files.old) (F.faults files.old)
+    // What is to be told for these words over these files was written whole, and its status is the
+    // answer; or the sink failed, and the status is 7.
+    ensures ends { Ends (map string_bytes words.now) (F.holds files.old) (F.faults files.old)
         (F.faults files.new) (S.faults out.old) (S.faults out.new) (S.taken out.old)
-        (S.taken out.new) }
-    // With no fault, files that are held have their whole answer, or want of memory.
-    ensures complete { (c : Command) → Says (map string_bytes words.now) c →
-        AreHeld (F.holds files.old) (files_of c)
-        → (Rose (F.faults files.old) (F.faults files.new) → ⊥) →
-        (Rose (S.faults out.old) (S.faults out.new) → ⊥)
-        → (result ≡ 5) ⊎ Answered (map string_bytes words.now) (F.holds files.old) result
-        (S.taken out.old) (S.taken out.new) }
+        (S.taken out.new) result }
     // 8 is the status of no program that is run: no run of an accepted program ends stuck.
     ensures never_stuck { (c : Command) → RunsProgram c → Says (map string_bytes words.now) c →
         result ≢ 8 }
@@ -77,9 +48,9 @@ pub fn verse<F: Files, S: Sink>(alloc: Global, words: &[String], files: &mut F, 
 fn tell<F: Files, S: Sink>(alloc: Global, request: Request<'_>, files: &mut F, out: &mut S) -> u8
     requires files { AreNamed request }
     requires asks { (c : Command) × AsksFor request c }
-    ensures told { (c : Command) → AsksFor request.entry c →
-        Told c (F.holds files.old) (F.faults files.old) (F.faults files.new) (S.faults out.old)
-        (S.faults out.new) result (S.taken out.old) (S.taken out.new) }
+    ensures ends { (words : List (List ℕ)) (c : Command) → Says words c → AsksFor request.entry c →
+        Ends words (F.holds files.old) (F.faults files.old) (F.faults files.new) (S.faults out.old)
+        (S.faults out.new) (S.taken out.old) (S.taken out.new) result }
     ensures same_files { F.holds files.new ≡ F.holds files.old }
     ensures file_faults { F.faults files.old ≤ F.faults files.new }
     ensures sink_faults { S.faults out.old ≤ S.faults out.new }
@@ -91,8 +62,8 @@ fn tell<F: Files, S: Sink>(alloc: Global, request: Request<'_>, files: &mut F, o
     }
 }
 
-/// Answers the request: over one file that is no program, over no file, or over the files of a
-/// program.
+/// Answers the request: over one file that is no program, over an image and its notes, over no
+/// file, or over the files of a program.
 fn answer<F: Files, S: Sink>(
     alloc: Global,
     request: Request<'_>,
@@ -113,6 +84,7 @@ fn answer<F: Files, S: Sink>(
         Request::Exec(_) | Request::List(_) | Request::Assemble(_) => {
             over_file(alloc, request, files, out)
         }
+        Request::Verify(names) => over_pair(alloc, names, files, out),
         Request::Load(functions) => load(alloc, functions, out),
         Request::Run(_) | Request::Check(_) | Request::Build(_) => {
             over_program(alloc, request, files, out)

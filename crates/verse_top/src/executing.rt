@@ -7,7 +7,8 @@ ghost use Rattle.verse_top_args.specs.Words.{Command, Inputs, files_of};
 ghost use Rattle.verse_top_args.specs.Requests.{AreNamed, AsksFor, IsWithin, options_with};
 ghost use Rattle.verse_top_exec.specs.Executions.{Executes, ExecutesSoFar, IsNothing};
 ghost use Rattle.verse_top_exec.specs.Leaving.{Leaves};
-ghost use Rattle.verse_top.specs.Answers.{Answers, Begins, IsAnswer, Replies, read_line};
+ghost use Rattle.verse_top.specs.Answers.{Answers, Begins, IsAnswer, read_line};
+ghost use Rattle.verse_top.specs.Ends.{Replies};
 ghost use Rattle.verse_top.specs.Loading.{IsRead};
 ghost use Rattle.verse_top.specs.Programs.{IsForFile};
 
@@ -76,7 +77,7 @@ fn over_bytes<S: Sink>(
             write_answer(answer, out)
         }
         Request::Run(_) | Request::Check(_) | Request::Build(_) => unreachable!(),
-        Request::Load(_) => unreachable!(),
+        Request::Verify(_) | Request::Load(_) => unreachable!(),
     }
 }
 

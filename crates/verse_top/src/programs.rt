@@ -50,7 +50,7 @@ pub(crate) fn proceed<S: Sink>(
     match request {
         Request::Run(running) => run(alloc, running, program, out),
         Request::Exec(_) | Request::List(_) | Request::Assemble(_) => unreachable!(),
-        Request::Load(_) => unreachable!(),
+        Request::Verify(_) | Request::Load(_) => unreachable!(),
         Request::Check(_) => {
             let answer = checked(alloc)?;
             write_answer(answer, out)

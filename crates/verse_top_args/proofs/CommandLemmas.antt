@@ -4,9 +4,10 @@ use Rattle.std.proofs.Common.{unwrap_or, Result, Ok, Err, IfOk, Bool, true, fals
 use Rattle.std.specs.Str.{bytes_eq}
 use Rattle.std.proofs.lemmas.Slice.Eq.{bytes_eq-Decides}
 use Rattle.verse_top_args.specs.Words.{AreFiles, Command, EachIsFile, Given, Gives, Inputs, IsFile, IsIntList, IsNumber, SayOnce, Says}
-use Rattle.verse_top_args.specs.Words.{listed, no_options, not_given, options_of, run, exec, check, build, list, assemble, load}
-use Rattle.verse_top_args.specs.Words.{says_run, says_exec, says_check, says_build, says_list, says_assemble, says_load}
-use Rattle.verse_top_args.specs.Requests.{AsksForExec, AsksForLoad, AsksForOne, AsksForRun, BeginsWithNoFile, Gave, IsWithin, NoOptions, options_with}
+use Rattle.verse_top_args.specs.Words.{listed, no_options, not_given, options_of, run, exec, check, build, list, assemble, verify, load}
+use Rattle.verse_top_args.specs.Words.{says_run, says_exec, says_check, says_build, says_list, says_assemble, says_verify, says_load}
+use Rattle.verse_top_args.specs.Requests.{AsksForExec, AsksForLoad, AsksForOne, AsksForRun, AsksForVerify, BeginsWithNoFile, Gave, IsWithin}
+use Rattle.verse_top_args.specs.Requests.{NoOptions, options_with}
 use Rattle.verse_top_args.specs.declared.commands.Running.{Running}
 use Rattle.verse_top_args.proofs.FileLemmas.{no_words, options_begin, parted_once}
 use Rattle.std.proofs.lemmas.List.{length-map}
@@ -58,6 +59,14 @@ pub record One (make : List ℕ → Command) (files options : List (List ℕ)) (
   pub none : options ≡ []
   pub is : c ≡ make file
 
+-- the two files of a test by notes, with nothing behind them
+pub record Two (files options : List (List ℕ)) (c : Command) : Type 0 where
+  pub image : List ℕ
+  pub notes : List ℕ
+  pub two : files ≡ image ∷ notes ∷ []
+  pub none : options ≡ []
+  pub is : c ≡ verify image notes
+
 -- the word with the number of functions of a load
 pub record Loads (words : List (List ℕ)) (c : Command) : Type 0 where
   pub word : List ℕ
@@ -79,10 +88,14 @@ Meant word files options c =
     (either (bytes_eq word (codes "check")) (Alone check files options c)
     (either (bytes_eq word (codes "build")) (Alone build files options c)
     (either (bytes_eq word (codes "list")) (One list files options c)
-    (either (bytes_eq word (codes "assemble")) (One assemble files options c) (Unit {0}))))))
+    (either (bytes_eq word (codes "assemble")) (One assemble files options c)
+    (either (bytes_eq word (codes "verify")) (Two files options c) (Unit {0})))))))
 
 one_file : {file : List ℕ} → IsFile file → AreFiles (file ∷ [])
 one_file is = record { each = (is, tt); some = omega arith; few = omega arith }
+
+two_files : {image notes : List ℕ} → IsFile image → IsFile notes → AreFiles (image ∷ notes ∷ [])
+two_files is it = record { each = (is, (it, tt)); some = omega arith; few = omega arith }
 
 alone_of : (make : List (List ℕ) → Command) (word : List ℕ) {words files options names : List (List ℕ)} → words ≡ word ∷ names →
     AreFiles names → Parted words word files options →
@@ -97,6 +110,19 @@ one_of : (make : List ℕ → Command) (word : List ℕ) {words files options : 
 one_of make word {files = files} {options = options} {file = file} spelled is p =
     let same = parted_once (file ∷ []) files [] options (one_file is).each p.each tt p.behind (cc (spelled, p.is)) in
     record { file = file; one = sym same.files_are; none = sym same.words_are; is = refl }
+
+two_of : (word : List ℕ) {words files options : List (List ℕ)} {image notes : List ℕ} → words ≡ word ∷ image ∷ notes ∷ [] →
+    IsFile image → IsFile notes → Parted words word files options →
+    Two files options (verify image notes)
+two_of word {files = files} {options = options} {image = image} {notes = notes} spelled is it p =
+    let same = parted_once (image ∷ notes ∷ []) files [] options (two_files is it).each p.each tt p.behind (cc (spelled, p.is)) in
+    record { image = image; notes = notes; two = sym same.files_are; none = sym same.words_are; is = refl }
+
+two_are : (word : List ℕ) {words files options : List (List ℕ)} {image notes : List ℕ} → words ≡ word ∷ image ∷ notes ∷ [] →
+    IsFile image → IsFile notes → Parted words word files options → AreFiles files
+two_are word {files = files} {options = options} {image = image} {notes = notes} spelled is it p =
+    let same = parted_once (image ∷ notes ∷ []) files [] options (two_files is it).each p.each tt p.behind (cc (spelled, p.is)) in
+    subst AreFiles same.files_are (two_files is it)
 
 one_are : (make : List ℕ → Command) (word : List ℕ) {words files options : List (List ℕ)} {file : List ℕ} → words ≡ word ∷ file ∷ [] →
     IsFile file → Parted words word files options → AreFiles files
@@ -145,6 +171,9 @@ meant_of {files = files} {options = options} word (says_list {file = file} is) p
 meant_of {files = files} {options = options} word (says_assemble {file = file} is) p =
     let named : codes "assemble" ≡ word = cc p.is in
     as_named (codes "assemble") word files options (assemble file) named (one_of assemble word (cc named) is p)
+meant_of {files = files} {options = options} word (says_verify {image = image} {notes = notes} is it) p =
+    let named : codes "verify" ≡ word = cc p.is in
+    as_named (codes "verify") word files options (verify image notes) named (two_of word (cc named) is it p)
 meant_of {files = files} {options = options} word (says_load {word = number} {n = n} spelled from) p =
     as_named (codes "load") word files options (load n) (cc p.is) tt
 
@@ -158,6 +187,7 @@ load_of (says_check are) e = absurd (other_word (codes "check") (codes "load") r
 load_of (says_build are) e = absurd (other_word (codes "build") (codes "load") refl (cc e))
 load_of (says_list is) e = absurd (other_word (codes "list") (codes "load") refl (cc e))
 load_of (says_assemble is) e = absurd (other_word (codes "assemble") (codes "load") refl (cc e))
+load_of (says_verify is it) e = absurd (other_word (codes "verify") (codes "load") refl (cc e))
 load_of (says_load {word = word} {n = n} spelled from) e =
     record { word = word; n = n; one = cc e; spelled = spelled; from = from; is = refl }
 
@@ -172,6 +202,7 @@ files_are word (says_check are) p other = (alone_of check word (cc p.is) are p).
 files_are word (says_build are) p other = (alone_of build word (cc p.is) are p).are
 files_are word (says_list is) p other = one_are list word (cc p.is) is p
 files_are word (says_assemble is) p other = one_are assemble word (cc p.is) is p
+files_are word (says_verify is it) p other = two_are word (cc p.is) is it p
 files_are word (says_load spelled from) p other = absurd (other (cc p.is))
 
 same_runs : (files options : List (List ℕ)) (a b : Command) → Runs files options a → Runs files options b → a ≡ b
@@ -211,6 +242,10 @@ say_once words a b (says_list {file = file} is) t =
 say_once words a b (says_assemble {file = file} is) t =
     let other : One assemble (file ∷ []) [] b = meant_of (codes "assemble") t (parted_alone (codes "assemble") (file ∷ []) (one_file is)) in
     cc (other.one, other.is)
+say_once words a b (says_verify {image = image} {notes = notes} is it) t =
+    let other : Two (image ∷ notes ∷ []) [] b =
+    meant_of (codes "verify") t (parted_alone (codes "verify") (image ∷ notes ∷ []) (two_files is it)) in
+    cc (other.two, other.is)
 say_once words a b (says_load {word = word} {n = n} spelled from) t =
     let other = load_of t refl in
     let same : word ≡ other.word = cc other.one in
@@ -350,6 +385,30 @@ is_alone make word says (f ∷ []) options are one = (
 )
 is_alone make word says (f ∷ g ∷ gs) options are one = let some = one.0 in absurd (omega arith)
 
+-- two files, and nothing behind them
+abbrev pub AreTwo : List (List ℕ) → List (List ℕ) → Type 0
+AreTwo files options = (length files ≡ 2) × (options ≡ [])
+
+pub two_words : {A : Type 0} (text : A → List ℕ) (files options : List A) → (length files ≡ 2) × (length options ≡ 0) →
+    AreTwo (map text files) (map text options)
+two_words text files options two = (length-map files text ∙ two.0, no_words text options two.1)
+
+pub words_two : {A : Type 0} (text : A → List ℕ) (files options : List A) → AreTwo (map text files) (map text options) →
+    (length files ≡ 2) × (length options ≡ 0)
+words_two text files options two = (sym (length-map files text) ∙ two.0, sym (length-map options text) ∙ ap length two.1)
+
+-- the words are a test by notes
+pub is_verify : (files options : List (List ℕ)) → AreFiles files → AreTwo files options →
+    (c : Command) × Says (words_with (codes "verify") files options) c × AsksForVerify files c
+is_verify [] options are two = let none = two.0 in absurd (omega arith)
+is_verify (f ∷ []) options are two = let one = two.0 in absurd (omega arith)
+is_verify (f ∷ g ∷ []) options are two = (
+  verify f g,
+  subst (λ (behind : List (List ℕ)). Says (codes "verify" ∷ f ∷ g ∷ behind) (verify f g)) (sym two.1) (says_verify are.each.0 are.each.1.0),
+  record { image = f; notes = g; two = refl; is = refl },
+)
+is_verify (f ∷ g ∷ h ∷ hs) options are two = let many = two.0 in absurd (omega arith)
+
 module _ (files options : List (List ℕ)) (are : AreFiles files) (behind : BeginsWithNoFile options) where
   parted_there : (command : List ℕ) → Parted (words_with command files options) command files options
   parted_there command = record { is = refl; each = are.each; behind = behind }
@@ -378,6 +437,10 @@ module _ (files options : List (List ℕ)) (are : AreFiles files) (behind : Begi
   pub no_assemble : ¬ (IsAlone files options) → (c : Command) → ¬ (Says (words_with (codes "assemble") files options) c)
   no_assemble other c s = let p : One assemble files options c = meant_of (codes "assemble") s (parted_there (codes "assemble")) in
       other (ap length p.one, p.none)
+
+  pub no_verify : ¬ (AreTwo files options) → (c : Command) → ¬ (Says (words_with (codes "verify") files options) c)
+  no_verify other c s = let p : Two files options c = meant_of (codes "verify") s (parted_there (codes "verify")) in
+      other (ap length p.two, p.none)
 
 -- the word behind `load`
 pub one_word : {A : Type 0} (text : A → List ℕ) (words : List A) (word d : A) → 1 ≤ length words → length words < 2 →

@@ -1,7 +1,7 @@
 -- Which command a request asks for.
 use Rattle.std.specs.Prelude.{◌≡◌, ℕ, ◌≤◌, ℤ, List, [], ◌∷◌, map, string_bytes, option_copied, unwrap_or}
 use Rattle.verse_top_args.specs.Words.{AreFiles, Command, Given, Gives, Inputs, IsFile, Options, assemble, build, check, exec}
-use Rattle.verse_top_args.specs.Words.{list, load, no_options, run}
+use Rattle.verse_top_args.specs.Words.{list, load, no_options, run, verify}
 use Rattle.verse_top_args.specs.declared.commands.Request.{Request}
 use Rattle.verse_top_args.specs.declared.commands.Request.TheVariants as request
 use Rattle.verse_top_args.specs.declared.commands.Running.{Running}
@@ -36,6 +36,13 @@ pub record AsksForOne (make : List ℕ → Command) (files : List (List ℕ)) (c
   pub one : files ≡ file ∷ []
   pub is : c ≡ make file
 
+-- there are two files, an image and its notes
+pub record AsksForVerify (files : List (List ℕ)) (c : Command) : Type 0 where
+  pub image : List ℕ
+  pub notes : List ℕ
+  pub two : files ≡ image ∷ notes ∷ []
+  pub is : c ≡ verify image notes
+
 pub record AsksForLoad (n : ℕ) (c : Command) : Type 0 where
   pub from : 2 ≤ n
   pub to : n ≤ 1000
@@ -49,6 +56,7 @@ names_of (request.Check files) = map string_bytes files.now
 names_of (request.Build files) = map string_bytes files.now
 names_of (request.List files) = map string_bytes files.now
 names_of (request.Assemble files) = map string_bytes files.now
+names_of (request.Verify files) = map string_bytes files.now
 names_of (request.Load n) = []
 
 -- there are 1 to 16 files, but none of a load
@@ -59,6 +67,7 @@ AreNamed (request.Check files) = AreFiles (map string_bytes files.now)
 AreNamed (request.Build files) = AreFiles (map string_bytes files.now)
 AreNamed (request.List files) = AreFiles (map string_bytes files.now)
 AreNamed (request.Assemble files) = AreFiles (map string_bytes files.now)
+AreNamed (request.Verify files) = AreFiles (map string_bytes files.now)
 AreNamed (request.Load n) = Unit {0}
 
 abbrev pub AsksFor : Request → Command → Type 0
@@ -68,6 +77,7 @@ AsksFor (request.Check files) c = c ≡ check (map string_bytes files.now)
 AsksFor (request.Build files) c = c ≡ build (map string_bytes files.now)
 AsksFor (request.List files) c = AsksForOne list (map string_bytes files.now) c
 AsksFor (request.Assemble files) c = AsksForOne assemble (map string_bytes files.now) c
+AsksFor (request.Verify files) c = AsksForVerify (map string_bytes files.now) c
 AsksFor (request.Load n) c = AsksForLoad n c
 
 -- the first word is no file's name

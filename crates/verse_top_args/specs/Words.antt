@@ -27,6 +27,8 @@ pub data Command : Type 0 where
   list : (file : List ℕ) → Command
   -- writes the image of the code of which this file holds the listing
   assemble : (file : List ℕ) → Command
+  -- tests the image in this file by the notes in that one
+  verify : (image notes : List ℕ) → Command
   -- runs the generated load of so many functions
   load : (n : ℕ) → Command
 
@@ -38,6 +40,7 @@ files_of (check files) = files
 files_of (build files) = files
 files_of (list file) = file ∷ []
 files_of (assemble file) = file ∷ []
+files_of (verify image notes) = image ∷ notes ∷ []
 files_of (load n) = []
 
 -- a file's name is not empty and does not begin with `-`
@@ -116,6 +119,8 @@ pub data Says : List (List ℕ) → Command → Type 0 where
   says_build : {files : List (List ℕ)} → AreFiles files → Says (codes "build" ∷ files) (build files)
   says_list : {file : List ℕ} → IsFile file → Says (codes "list" ∷ file ∷ []) (list file)
   says_assemble : {file : List ℕ} → IsFile file → Says (codes "assemble" ∷ file ∷ []) (assemble file)
+  says_verify : {image notes : List ℕ} → IsFile image → IsFile notes →
+      Says (codes "verify" ∷ image ∷ notes ∷ []) (verify image notes)
   says_load : {word : List ℕ} {n : ℕ} → IsNumber 1000 word n → 2 ≤ n → Says (codes "load" ∷ word ∷ []) (load n)
 
 -- no words are two commands

@@ -38,6 +38,9 @@ pub enum Request<'a> {
     List(&'a [String]),
     /// The image of the code of a listing: there is one file.
     Assemble(&'a [String]),
+    /// Whether the notes in the second file show that the image in the first is never stuck: there
+    /// are two files.
+    Verify(&'a [String]),
     /// That the generated load of so many functions is run: 2 to 1000.
     Load(u32),
 }
@@ -61,6 +64,7 @@ impl<'a> Request<'a> {
             Request::Run(running) | Request::Exec(running) => running.files,
             Request::Check(files) | Request::Build(files) => files,
             Request::List(files) | Request::Assemble(files) => files,
+            Request::Verify(files) => files,
             Request::Load(_) => &[],
         }
     }
@@ -118,6 +122,8 @@ pub fn find_request(words: &[String]) -> Option<Request<'_>>
         list(files, options)
     } else if is(command, "assemble") {
         assemble(files, options)
+    } else if is(command, "verify") {
+        verify(files, options)
     } else {
         None
     }
@@ -135,6 +141,13 @@ fn is_alone(files: &[String], options: &[String]) -> bool
     ensures { IsTrue result ↔ ((length files.now ≡ 1) × (length options.now ≡ 0)) }
 {
     files.len() == 1 && options.is_empty()
+}
+
+/// Whether there are two files, and nothing behind them.
+fn are_two(files: &[String], options: &[String]) -> bool
+    ensures { IsTrue result ↔ ((length files.now ≡ 2) × (length options.now ≡ 0)) }
+{
+    files.len() == 2 && options.is_empty()
 }
 
 /// The words that name files, up to the first that does not, and those behind them.
@@ -261,6 +274,24 @@ fn assemble<'a>(files: &'a [String], options: &'a [String]) -> Option<Request<'a
 {
     if is_alone(files, options) {
         Some(Request::Assemble(files))
+    } else {
+        None
+    }
+}
+
+/// The test of the image in the first file by the notes in the second, where nothing is behind
+/// these.
+fn verify<'a>(files: &'a [String], options: &'a [String]) -> Option<Request<'a>>
+    requires are { AreFiles (map string_bytes files.now) }
+    requires behind { BeginsWithNoFile (map string_bytes options.now) }
+    ensures asks { MatchOption result ((c : Command) →
+        ¬ (Says (codes "verify" ∷ map string_bytes files.now ++ map string_bytes options.now) c))
+        (λ r. (c : Command) × Says (codes "verify" ∷ map string_bytes files.now ++
+        map string_bytes options.now) c × AsksFor r c) }
+    ensures files { IfSome result (λ r. AreNamed r) }
+{
+    if are_two(files, options) {
+        Some(Request::Verify(files))
     } else {
         None
     }

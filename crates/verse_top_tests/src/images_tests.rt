@@ -1,4 +1,4 @@
-//! Tests of `exec`, `list` and `assemble`.
+//! Tests of `exec`, `list`, `assemble` and `verify`.
 
 use crate::telling::told;
 use std::alloc::Global;
@@ -7,6 +7,7 @@ use verse_base::texts::natural;
 use verse_outside::memory_files::MemFiles;
 use verse_outside::memory_sinks::MemSink;
 use verse_top_listing::{assembled_once, listed_is_assembled, listed_once};
+use verse_top_verify::{passed_is_never_stuck, verified_once};
 
 // the status, the options, the bytes of the file `i` in hexadecimal, and what `exec i` writes with
 // these options; `~` is a line feed
@@ -151,6 +152,42 @@ fn what_is_listed_is_assembled(rt: HostRuntime) -> Result<(), Fail> {
         let result = told(alloc, assemble.as_slice(), &mut files, &mut out);
         assert_eq!(rt; result, 0, "{row}");
         assert_eq!(rt; out.taken(), image.as_slice(), "{row}");
+    }
+    Ok(())
+}
+
+// the status, the bytes of an image and of its notes in hexadecimal, and what `verify` writes
+const NOTES: &str =
+    "0`5653494d010102000001000000000000012f`56534e540100000100000000010000010300`= ok~
+1`5653494d010102000001000000000000012f`56534e540100000100000000010000010500`= notes V7 0~
+1`5653494d010102000001000000000000012f`56534e5401000001000000000100000103`= notes V1 17~
+1`5653494d0101010000010000000000002f`56534e540100000100000000`= notes V4 0~
+1`5653494d010102000001000000000000402f`56534e540100000100000000010000010300`= image I6 16~
+1`56`ff`= image I3 1~";
+
+#[test]
+fn notes_are_verified(rt: HostRuntime) -> Result<(), Fail> {
+    let alloc = rt.alloc();
+    verified_once();
+    passed_is_never_stuck();
+    let mut command = one_word(alloc, "verify", "i")?;
+    command.push(String::from_str(alloc, "n")?)?;
+    for row in NOTES.lines() {
+        let (status, rest) = row.split_once('`').ok_or("a status")?;
+        let (image, rest) = rest.split_once('`').ok_or("an image")?;
+        let (notes, text) = rest.split_once('`').ok_or("notes and a text")?;
+        let status = status.parse::<u8>().map_err(|_| "a number")?;
+        let mut files = MemFiles::new(alloc);
+        files.add("i", bytes_of(alloc, image)?.as_slice())?;
+        let mut out = MemSink::new(alloc, 100, 100)?;
+        let result = told(alloc, command.as_slice(), &mut files, &mut out);
+        assert_eq!(rt; result, 6, "{row}");
+        assert_eq!(rt; out.taken(), b"= read n\n".as_slice(), "{row}");
+        files.add("n", bytes_of(alloc, notes)?.as_slice())?;
+        let mut out = MemSink::new(alloc, 100, 100)?;
+        let result = told(alloc, command.as_slice(), &mut files, &mut out);
+        assert_eq!(rt; result, status, "{row}");
+        assert_eq!(rt; out.taken(), lines(alloc, text)?.as_slice(), "{row}");
     }
     Ok(())
 }

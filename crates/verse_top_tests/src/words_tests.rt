@@ -201,7 +201,11 @@ fn words_are_read(rt: HostRuntime) -> Result<(), Fail> {
                 assert_eq!(rt; command, "build", "{line}");
                 continue;
             }
-            Request::List(_) | Request::Assemble(_) | Request::Load(_) => {
+            Request::List(_) | Request::Assemble(_) => {
+                assert_eq!(rt; command, "another", "{line}");
+                continue;
+            }
+            Request::Verify(_) | Request::Load(_) => {
                 assert_eq!(rt; command, "another", "{line}");
                 continue;
             }
@@ -232,6 +236,12 @@ assemble a.txt | assemble
 assemble | none
 assemble a b | none
 assemble a --steps 5 | none
+verify a.image a.notes | verify
+verify | none
+verify a | none
+verify a b c | none
+verify a b --heap | none
+verify a -x | none
 build a b | build
 load 2 | load
 load 5 | load
@@ -257,6 +267,7 @@ fn other_words_are_read(rt: HostRuntime) -> Result<(), Fail> {
         let name = match find_request(&words) {
             Some(Request::List(_)) => "list",
             Some(Request::Assemble(_)) => "assemble",
+            Some(Request::Verify(_)) => "verify",
             Some(Request::Load(_)) => "load",
             Some(Request::Build(_)) => "build",
             Some(_) => "another",
@@ -265,6 +276,6 @@ fn other_words_are_read(rt: HostRuntime) -> Result<(), Fail> {
         count = count.saturating_add(1);
         assert_eq!(rt; name, expected.trim(), "{line}");
     }
-    assert_eq!(rt; count, 25);
+    assert_eq!(rt; count, 31);
     Ok(())
 }

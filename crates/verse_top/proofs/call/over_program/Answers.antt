@@ -4,7 +4,8 @@ use Rattle.verse_top_args.specs.Words.{AreFiles, files_of}
 use Rattle.verse_top_exec.specs.declared.stops.Stop.TheVariants as stop
 use Rattle.verse_top_exec.specs.Leaving.{Leaves}
 use Rattle.verse_top_exec.proofs.Leaving.{at_error, leaves_as, leaves_nothing}
-use Rattle.verse_top.specs.Answers.{Answers, Begins, Replies, nothing}
+use Rattle.verse_top.specs.Answers.{Answers, Begins, nothing}
+use Rattle.verse_top.specs.Ends.{Replies}
 use Rattle.verse_top.specs.Fronted.{Fronts}
 use Rattle.verse_top.specs.Loading.{AreLoaded}
 use Rattle.verse_top.specs.declared.fronts.Fronted.{Fronted}

@@ -7,7 +7,8 @@ use Rattle.verse_top_args.specs.Words.{files_of}
 use Rattle.verse_top_exec.specs.declared.stops.Stop.TheVariants as stop
 use Rattle.verse_top_exec.specs.Leaving.{Leaves}
 use Rattle.verse_top_exec.proofs.Leaving.{at_error, leaves_as, leaves_nothing}
-use Rattle.verse_top.specs.Answers.{Answers, Begins, Replies, nothing, read_line}
+use Rattle.verse_top.specs.Answers.{Answers, Begins, nothing, read_line}
+use Rattle.verse_top.specs.Ends.{Replies}
 use Rattle.verse_top.specs.Loading.{IsRead}
 use Rattle.verse_top.proofs.AnswerLaws.{asks_for_files, asks_for_one}
 use Rattle.verse_top.proofs.ExecuteLaws.{first_file, leaves_unread, some_file}

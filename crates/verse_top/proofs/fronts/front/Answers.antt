@@ -77,5 +77,5 @@ returns-in_ok-answer-in-Failed-clause-comes g c d program e =
     subst (λ (n : List ℕ). Rose before now ⊎ IsAbsent held names n) name comes.1 in
     let answer = c.in_ok-answer-in-Failed.answer in
     let told = c.in_ok-answer-in-Failed.ensures in
-    replies_unread d held before now names c.as_str.result.now answer.status answer.text.items e
+    replies_unread d held before now names c.as_str.result.now answer.status answer.text.items program e
     (among_at names c.in-Failed.file c.as_str.result.now comes.0 name) cause told.0 told.1
