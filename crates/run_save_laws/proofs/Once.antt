@@ -133,7 +133,8 @@ once_cause (heard address) = once_formed 3 address
 once_rest : (r : KeptRest) → Once (rest_field r)
 once_rest (leaf n c) =
     once_then (byte 0 ⨾ wide n) (cause c) (once_then (byte 0) (wide n) (once_byte 0) (once_wide n)) (once_cause c)
-once_rest (group arms) = once_then (byte 1) (list (maybe value) arms) (once_byte 1) (once_list (maybe value) (once_maybe value once_value) arms)
+once_rest (group arms) =
+    once_then (byte 1) (list (maybe value) arms) (once_byte 1) (once_list (maybe value) (once_maybe value once_value) arms)
 
 once_task : (t : KeptTask) → Once (task_field t)
 once_task t =

@@ -1,0 +1,5 @@
+pub mod Numbers
+pub mod Values
+pub mod Stores
+pub mod Tasks
+pub mod Whole
