@@ -16,6 +16,8 @@ verse runs the proved program; where it is missing, or its sources changed, it i
 
   ./verse run FILE {FILE} [--steps N] [--until MS] [--in N,N,..] [--heap]     runs the files of a program
   ./verse exec FILE [the same options]                                        runs an image, a program as bytecode
+  ./verse save FILE [--steps N] [--until MS] [--in N,N,..]                    runs an image, and saves the run at its horizon
+  ./verse resume FILE [--until MS] [--heap]                                   goes on with a saved run
   ./verse check FILE {FILE}                                                   tells the first refusal, or = ok
   ./verse build FILE {FILE}                                                   writes the image of the program
   ./verse list FILE                                                           writes the listing of an image

@@ -1,6 +1,6 @@
 -- The ways to an answer, and that there is one.
 use Rattle.std.proofs.Common.{◌≡◌, ℕ, List, [], ◌∷◌, ◌++◌, length, refl, sym, ◌∙◌, ap, subst}
-use Rattle.std.proofs.Common.{Result, Ok, Err, IfOk}
+use Rattle.std.proofs.Common.{Result, Ok, Err, IfOk, inl, inr}
 use Rattle.verse_base.specs.declared.refusals.Refusal.{Refusal}
 use Rattle.verse_lex.specs.Cut.{first_place}
 use Rattle.verse_outside.specs.Held.{Holding}
@@ -8,7 +8,7 @@ use Rattle.verse_tree.specs.ItemTree.{ItemTree}
 use Rattle.verse_value.specs.Runs.{Run}
 use Rattle.verse_meaning_state.specs.Texts.{ending_line, run_text}
 use Rattle.verse_top_texts.specs.Refusals.{refusal_line}
-use Rattle.verse_top_args.specs.Words.{AreFiles, Command, files_of, Options}
+use Rattle.verse_top_args.specs.Words.{AreFiles, Command, files_of, save, Options}
 use Rattle.verse_top_args.specs.Requests.{AreNamed, AsksFor, names_of}
 use Rattle.verse_top_args.specs.declared.commands.Request.{Request}
 use Rattle.verse_top_args.specs.declared.commands.Request.TheVariants as request
@@ -17,8 +17,9 @@ use Rattle.verse_accept.proofs.Answered.{one_front_end}
 use Rattle.verse_top.specs.Loading.{AreLoaded, IsTooLarge}
 use Rattle.verse_top.specs.Meaning.{code_from, default_options, mean_with}
 use Rattle.verse_top_texts.specs.Endings.{ending_status}
-use Rattle.verse_top.specs.Answers.{Answers, too_large, refused, checked, ran, built, executed, listed, assembled, verified, loaded}
-use Rattle.verse_top.specs.Answers.{AnsweredOnce, ExecRunsWhatIsBuilt, IsImageOf, Loads, MeansInShort, accepted, rejected}
+use Rattle.verse_top.specs.Answers.{Answers, too_large, refused, checked, ran, built, executed, saved, resumed, listed, assembled, verified}
+use Rattle.verse_top.specs.Answers.{loaded, Alike, AnsweredOnce, ExecRunsWhatIsBuilt, IsImageOf, Loads, MeansInShort, accepted, of_one_run}
+use Rattle.verse_top.specs.Answers.{one_text, rejected}
 use Rattle.verse_top.specs.Programs.{IsForFile, IsForProgram, IsProgram}
 use Rattle.verse_image.specs.Format.{Image, version_of}
 use Rattle.verse_image.proofs.ImageLaws.{image_once}
@@ -29,6 +30,10 @@ use Rattle.verse_top_listing.specs.Listings.{Assembles, Lists}
 use Rattle.verse_top_listing.proofs.Once.{assembles_once, lists_once}
 use Rattle.verse_top_verify.specs.Verifying.{Verifies}
 use Rattle.verse_top_verify.proofs.Once.{verifies_once}
+use Rattle.verse_top_save.specs.Saving.{Saves}
+use Rattle.verse_top_save.proofs.Answered.{once as save_answered_once}
+use Rattle.verse_top_resume.specs.Resuming.{Resumes}
+use Rattle.verse_top_resume.proofs.Once.{once as resumed_once}
 use Rattle.verse_top_load.specs.Load.{lines_line, load_text_of}
 use Rattle.verse_top.proofs.LoadLaws.{loaded_once, loaded_or_large, large_once, read_once}
 
@@ -56,14 +61,32 @@ loads_once n s t x y (rejected r q) (accepted is u z p m) = absurd (one_front_en
 loads_once n s t x y (rejected r p) (rejected u q) =
     (refl, ap (λ (v : Refusal). refusal_line [] v) (one_front_end.refusal (load_text_of n ∷ []) r u p q))
 
+-- one text
+alike : (c : Command) (x y : List ℕ) → x ≡ y → Alike c x y
+alike c x y e = subst (Alike c x) e (one_text c x)
+
+alone : (c : Command) (s t : ℕ) (x y : List ℕ) → (s ≡ t) × (x ≡ y) → (s ≡ t) × Alike c x y
+alone c s t x y p = (p.0, alike c x y p.1)
+
+saves_once : (name : List ℕ) (o : Options) (bytes : List ℕ) (s t : ℕ) (x y : List ℕ) → Saves bytes o s x → Saves bytes o t y →
+    (s ≡ t) × Alike (save name o) x y
+saves_once name o bytes s t x y p q =
+    let once = save_answered_once bytes o s t x y p q in (
+      once.0,
+      elim once.1 [ inl e ↦ alike (save name o) x y e | inr twice ↦ of_one_run name o twice.0 x y twice.1 ],
+    )
+
 pub once : AnsweredOnce
 once held c s t x y (too_large d n g p) (too_large e m h q) =
+    alone c s t x y
     (refl, ap (λ (k : ℕ). refusal_line (files_of c) (refusal 2 (first_place k))) (large_once held (files_of c) 0 n m p q))
 once held c s t x y (too_large d n g p) (refused e files r h l q) = absurd (loaded_or_large held (files_of c) files 0 n l p)
 once held c s t x y (too_large d n g p) (checked names files is l q) = absurd (loaded_or_large held names files 0 n l p)
 once held c s t x y (too_large d n g p) (ran names o files is l q) = absurd (loaded_or_large held names files 0 n l p)
 once held c s t x y (too_large d n g p) (built names files is bytes l q i) = absurd (loaded_or_large held names files 0 n l p)
 once held c s t x y (too_large d n g p) (executed name o bytes u z l q) = absurd g
+once held c s t x y (too_large d n g p) (saved name o bytes u z l q) = absurd g
+once held c s t x y (too_large d n g p) (resumed name until heap bytes u z l q) = absurd g
 once held c s t x y (too_large d n g p) (listed name bytes u z l q) = absurd g
 once held c s t x y (too_large d n g p) (assembled name bytes u z l q) = absurd g
 once held c s t x y (too_large d n g p) (verified image notes bytes more u z l m q) = absurd g
@@ -73,12 +96,15 @@ once held c s t x y (checked names files is l q) (too_large d n h p) = absurd (l
 once held c s t x y (ran names o files is l q) (too_large d n h p) = absurd (loaded_or_large held names files 0 n l p)
 once held c s t x y (built names files is bytes l q i) (too_large d n h p) = absurd (loaded_or_large held names files 0 n l p)
 once held c s t x y (executed name o bytes u z l q) (too_large d n h p) = absurd h
+once held c s t x y (saved name o bytes u z l q) (too_large d n h p) = absurd h
+once held c s t x y (resumed name until heap bytes u z l q) (too_large d n h p) = absurd h
 once held c s t x y (listed name bytes u z l q) (too_large d n h p) = absurd h
 once held c s t x y (assembled name bytes u z l q) (too_large d n h p) = absurd h
 once held c s t x y (verified image notes bytes more u z l m q) (too_large d n h p) = absurd h
 once held c s t x y (loaded k u z q) (too_large d n h p) = absurd h
 once held c s t x y (refused d files r g l p) (refused e others u h k q) =
     let same = loaded_once held (files_of c) files others l k in
+    alone c s t x y
     (refl, ap (λ (v : Refusal). refusal_line (files_of c) v) (one_front_end.refusal others r u (subst (λ fs. IsRefused fs r) same p) q))
 once held c s t x y (refused d files r g l p) (checked names others is k q) =
     let same = loaded_once held names files others l k in absurd (one_front_end.apart others is r q (subst (λ fs. IsRefused fs r) same p))
@@ -87,6 +113,8 @@ once held c s t x y (refused d files r g l p) (ran names o others is k q) =
 once held c s t x y (refused d files r g l p) (built names others is bytes k q i) =
     let same = loaded_once held names files others l k in absurd (one_front_end.apart others is r q (subst (λ fs. IsRefused fs r) same p))
 once held c s t x y (refused d files r g l p) (executed name o bytes u z k q) = absurd g
+once held c s t x y (refused d files r g l p) (saved name o bytes u z k q) = absurd g
+once held c s t x y (refused d files r g l p) (resumed name until heap bytes u z k q) = absurd g
 once held c s t x y (refused d files r g l p) (listed name bytes u z k q) = absurd g
 once held c s t x y (refused d files r g l p) (assembled name bytes u z k q) = absurd g
 once held c s t x y (refused d files r g l p) (verified image notes bytes more u z k m q) = absurd g
@@ -98,33 +126,45 @@ once held c s t x y (ran names o others is k q) (refused d files r g l p) =
 once held c s t x y (built names others is bytes k q i) (refused d files r g l p) =
     let same = loaded_once held names files others l k in absurd (one_front_end.apart others is r q (subst (λ fs. IsRefused fs r) same p))
 once held c s t x y (executed name o bytes u z k q) (refused d files r g l p) = absurd g
+once held c s t x y (saved name o bytes u z k q) (refused d files r g l p) = absurd g
+once held c s t x y (resumed name until heap bytes u z k q) (refused d files r g l p) = absurd g
 once held c s t x y (listed name bytes u z k q) (refused d files r g l p) = absurd g
 once held c s t x y (assembled name bytes u z k q) (refused d files r g l p) = absurd g
 once held c s t x y (verified image notes bytes more u z k m q) (refused d files r g l p) = absurd g
 once held c s t x y (loaded k u z q) (refused d files r g l p) = absurd g
-once held c s t x y (checked names files is l p) (checked other others js k q) = (refl, refl)
+once held c s t x y (checked names files is l p) (checked other others js k q) = alone c s t x y (refl, refl)
 once held c s t x y (ran names o files is l p) (ran other u others js k q) =
     let same = loaded_once held names files others l k in
-    let items = one_front_end.value others is js (subst (λ fs. Accepts fs is) same p) q in (
+    let items = one_front_end.value others is js (subst (λ fs. Accepts fs is) same p) q in
+    alone c s t x y (
       ap (λ (ks : List ItemTree). ending_status (mean_with ks o).ending) items,
       ap (λ (ks : List ItemTree). run_text (mean_with ks o) o.heap (length names)) items,
     )
 once held c s t x y (built names files is bytes l p i) (built other others js more k q j) =
     let same = loaded_once held names files others l k in
     let items = one_front_end.value others is js (subst (λ fs. Accepts fs is) same p) q in
-    (refl, one_built is js (length names) x y items i j)
+    alone c s t x y (refl, one_built is js (length names) x y items i j)
 once held c s t x y (executed name o bytes u z l p) (executed other v others w k m q) =
-    let same = read_once held name bytes others l m in executed_once others o s t x y (subst (λ (bs : List ℕ). Executes bs o s x) same p) q
+    let same = read_once held name bytes others l m in
+    alone c s t x y (executed_once others o s t x y (subst (λ (bs : List ℕ). Executes bs o s x) same p) q)
+once held c s t x y (saved name o bytes u z l p) (saved other v others w k m q) =
+    let same = read_once held name bytes others l m in
+    saves_once name o others s t x y (subst (λ (bs : List ℕ). Saves bs o s x) same p) q
+once held c s t x y (resumed name until heap bytes u z l p) (resumed other v lines others w k m q) =
+    let same = read_once held name bytes others l m in
+    alone c s t x y (resumed_once others until heap s t x y (subst (λ (bs : List ℕ). Resumes bs until heap s x) same p) q)
 once held c s t x y (listed name bytes u z l p) (listed other others w k m q) =
-    let same = read_once held name bytes others l m in lists_once others s t x y (subst (λ (bs : List ℕ). Lists bs s x) same p) q
+    let same = read_once held name bytes others l m in
+    alone c s t x y (lists_once others s t x y (subst (λ (bs : List ℕ). Lists bs s x) same p) q)
 once held c s t x y (assembled name bytes u z l p) (assembled other others w k m q) =
-    let same = read_once held name bytes others l m in assembles_once others s t x y (subst (λ (bs : List ℕ). Assembles bs s x) same p) q
+    let same = read_once held name bytes others l m in
+    alone c s t x y (assembles_once others s t x y (subst (λ (bs : List ℕ). Assembles bs s x) same p) q)
 once held c s t x y (verified image notes bytes more u z l m p) (verified other those others extra v w k n q) =
     let one = read_once held image bytes others l k in
     let two = read_once held notes more extra m n in
     let here = subst (λ (bs : List ℕ). Verifies bytes bs s x) two p in
-    verifies_once others extra s t x y (subst (λ (bs : List ℕ). Verifies bs extra s x) one here) q
-once held c s t x y (loaded n u z p) (loaded m w k q) = loads_once n s t x y p q
+    alone c s t x y (verifies_once others extra s t x y (subst (λ (bs : List ℕ). Verifies bs extra s x) one here) q)
+once held c s t x y (loaded n u z p) (loaded m w k q) = alone c s t x y (loads_once n s t x y p q)
 
 -- ---- what is built, and then executed
 
@@ -157,6 +197,8 @@ along held c s t x y e f h = rw (e, f) h
 pub asks_for_files : (q : Request) (c : Command) → AsksFor q c → files_of c ≡ names_of q
 asks_for_files (request.Run r) c a = ap files_of a.is
 asks_for_files (request.Exec r) c a = ap files_of a.is ∙ sym a.one
+asks_for_files (request.Save r) c a = ap files_of a.is ∙ sym a.one
+asks_for_files (request.Resume r) c a = ap files_of a.is ∙ sym a.one
 asks_for_files (request.Check files) c a = ap files_of a
 asks_for_files (request.Build files) c a = ap files_of a
 asks_for_files (request.List files) c a = ap files_of a.is ∙ sym a.one
@@ -168,6 +210,8 @@ asks_for_files (request.Load n) c a = ap files_of a.is
 pub asks_for_one : (q : Request) (c : Command) → IsForFile q → AsksFor q c → (file : List ℕ) × (files_of c ≡ file ∷ [])
 asks_for_one (request.Run r) c p a = absurd p
 asks_for_one (request.Exec r) c p a = (a.file, ap files_of a.is)
+asks_for_one (request.Save r) c p a = (a.file, ap files_of a.is)
+asks_for_one (request.Resume r) c p a = (a.file, ap files_of a.is)
 asks_for_one (request.Check files) c p a = absurd p
 asks_for_one (request.Build files) c p a = absurd p
 asks_for_one (request.List files) c p a = (a.file, ap files_of a.is)
@@ -179,6 +223,8 @@ asks_for_one (request.Load n) c p a = absurd p
 pub program_named : (q : Request) → IsForProgram q → AreNamed q → AreFiles (names_of q)
 program_named (request.Run r) p n = n
 program_named (request.Exec r) p n = n
+program_named (request.Save r) p n = n
+program_named (request.Resume r) p n = n
 program_named (request.Check files) p n = n
 program_named (request.Build files) p n = n
 program_named (request.List files) p n = absurd p
@@ -189,6 +235,8 @@ program_named (request.Load m) p n = absurd p
 pub asks_for_program : (q : Request) (c : Command) → IsForProgram q → AsksFor q c → IsProgram c
 asks_for_program (request.Run r) c p a = subst IsProgram (sym a.is) tt
 asks_for_program (request.Exec r) c p a = absurd p
+asks_for_program (request.Save r) c p a = absurd p
+asks_for_program (request.Resume r) c p a = absurd p
 asks_for_program (request.Check files) c p a = subst IsProgram (sym a) tt
 asks_for_program (request.Build files) c p a = subst IsProgram (sym a) tt
 asks_for_program (request.List files) c p a = absurd p

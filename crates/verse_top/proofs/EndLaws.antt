@@ -1,5 +1,5 @@
 -- What follows of how the top call ends.
-use Rattle.std.proofs.Common.{◌≡◌, ◌≢◌, ℕ, List, Option, ◌⊎◌, inl, inr, refl, sym, subst}
+use Rattle.std.proofs.Common.{◌≡◌, ◌≢◌, ℕ, List, Bool, Option, ◌⊎◌, inl, inr, refl, sym, subst}
 use Rattle.verse_outside.specs.Causes.{Rose}
 use Rattle.verse_outside.specs.Held.{Holding, with_more}
 use Rattle.verse_value.specs.declared.runs.Ending.{Ending}
@@ -9,14 +9,19 @@ use Rattle.verse_top_args.specs.Words.{Command, Options, files_of, Says}
 use Rattle.verse_top_args.proofs.CommandLemmas.{say_once}
 use Rattle.verse_top_exec.specs.Executions.{Executes, run_with}
 use Rattle.verse_top_exec.specs.Executions as x
+use Rattle.verse_top_exec.specs.Courses.{run_on}
 use Rattle.verse_top_listing.specs.Listings.{Assembles, Lists}
 use Rattle.verse_top_listing.specs.Listings as y
 use Rattle.verse_top_verify.specs.Verifying.{Verifies}
 use Rattle.verse_top_verify.specs.Verifying as z
+use Rattle.verse_top_save.specs.Saving.{Saves}
+use Rattle.verse_top_save.specs.Saving as saving
+use Rattle.verse_top_resume.specs.Resuming.{Resumes, course_from}
+use Rattle.verse_top_resume.specs.Resuming as resuming
 use Rattle.verse_top.specs.Loading.{AreHeld, IsMissing}
 use Rattle.verse_top.specs.Meaning.{default_options, mean_with}
-use Rattle.verse_top.specs.Answers.{Answers, too_large, refused, checked, ran, built, executed, listed, assembled, verified, loaded, Loads}
-use Rattle.verse_top.specs.Answers.{accepted, rejected}
+use Rattle.verse_top.specs.Answers.{Answers, too_large, refused, checked, ran, built, executed, saved, resumed, listed, assembled, verified}
+use Rattle.verse_top.specs.Answers.{loaded, Loads, accepted, rejected}
 use Rattle.verse_top.specs.Ends.{Answered, EachEndsSo, Ends, EndsSo, Tells, Unread, answer, cut_short, no_command, no_memory, not_read}
 use Rattle.verse_top.specs.Ends.{whole}
 use Rattle.verse_top.proofs.LoadLaws.{absent_or_loaded, absent_or_large, absent_or_read, absent_of_program, held_or_missing, unheld_or_read}
@@ -40,6 +45,16 @@ known_ending ending.Stuck = eight_known
 known_executes : {bytes : List ℕ} {o : Options} {s : ℕ} {t : List ℕ} → Executes bytes o s t → Known s
 known_executes {o = o} (x.ran v c s t i p) = subst Known (sym p.status_is) (known_ending (run_with c o).ending)
 known_executes (x.no_image rule left e) = one_known
+
+known_saves : {bytes : List ℕ} {o : Options} {s : ℕ} {t : List ℕ} → Saves bytes o s t → Known s
+known_saves (saving.ran n c s t i (saving.stopped _ _ p)) = subst Known (sym p.status_is) three_known
+known_saves {o = o} (saving.ran n c s t i (saving.ended _ _ other p)) = subst Known (sym p.status_is) (known_ending (run_with c o).ending)
+known_saves (saving.no_image rule left e) = one_known
+
+known_resumes : {bytes : List ℕ} {until : ℕ} {heap : Bool} {s : ℕ} {t : List ℕ} → Resumes bytes until heap s t → Known s
+known_resumes {until = until} {heap = heap} (resuming.went_on c y s t e p) =
+    subst Known (sym p.status_is) (known_ending (run_on c (course_from c y until heap)).ending)
+known_resumes (resuming.no_state rule left e) = one_known
 
 known_lists : {bytes : List ℕ} {s : ℕ} {t : List ℕ} → Lists bytes s t → Known s
 known_lists (y.listed v c text i l) = zero_known
@@ -65,6 +80,8 @@ known (checked names files is l p) = zero_known
 known (ran names o files is l p) = known_ending (mean_with is o).ending
 known (built names files is bytes l p i) = zero_known
 known (executed name o bytes s t l p) = known_executes p
+known (saved name o bytes s t l p) = known_saves p
+known (resumed name until heap bytes s t l p) = known_resumes p
 known (listed name bytes s t l p) = known_lists p
 known (assembled name bytes s t l p) = known_assembles p
 known (verified image notes bytes more s t l m p) = known_verifies p
@@ -88,6 +105,8 @@ answers_or_missing {held = held} (checked names files is l p) name a = absent_or
 answers_or_missing {held = held} (ran names o files is l p) name a = absent_or_loaded held names files name l a
 answers_or_missing {held = held} (built names files is bytes l p i) name a = absent_or_loaded held names files name l a
 answers_or_missing {held = held} (executed file o bytes s t l p) name a = absent_or_read held file bytes name l a
+answers_or_missing {held = held} (saved file o bytes s t l p) name a = absent_or_read held file bytes name l a
+answers_or_missing {held = held} (resumed file until heap bytes s t l p) name a = absent_or_read held file bytes name l a
 answers_or_missing {held = held} (listed file bytes s t l p) name a = absent_or_read held file bytes name l a
 answers_or_missing {held = held} (assembled file bytes s t l p) name a = absent_or_read held file bytes name l a
 answers_or_missing {held = held} (verified image notes bytes more s t l m p) name a = unheld_or_read held image notes bytes more name l m a

@@ -3,19 +3,22 @@ use Rattle.std.proofs.Common.{◌≡◌, ◌⊎◌, ℕ, ◌≤◌, ℤ, List, [
 use Rattle.std.proofs.Common.{subst, ◌∙◌, slice_index_or, length, ◌<◌, arith}
 use Rattle.verse_outside.specs.Causes.{Rose}
 use Rattle.verse_outside.specs.Held.{Holding, Lacks}
-use Rattle.verse_top_args.specs.Words.{Command, Inputs, assemble, files_of, list, load, not_given}
+use Rattle.verse_top_args.specs.Words.{Command, Inputs, assemble, exec, files_of, list, load, not_given, save}
 use Rattle.verse_top_args.specs.Words as words
-use Rattle.verse_top_args.specs.Requests.{AsksForExec, AsksForOne, options_with}
+use Rattle.verse_top_args.specs.Requests.{AsksForImage, AsksForOne, AsksForResume, options_with}
+use Rattle.verse_top_args.specs.declared.commands.Resuming.{Resuming}
 use Rattle.verse_top_args.specs.declared.commands.Running.{Running}
 use Rattle.verse_top_exec.specs.declared.stops.Stop.{Stop}
 use Rattle.verse_top_exec.specs.Executions.{Executes, ExecutesSoFar, IsNothing}
 use Rattle.verse_top_exec.specs.Leaving.{Leaves}
 use Rattle.verse_top_exec.proofs.Leaving.{leaves_as}
+use Rattle.verse_top_save.specs.Saving.{Saves, SavesSoFar}
+use Rattle.verse_top_resume.specs.Resuming.{Resumes, ResumesSoFar}
 use Rattle.verse_top_listing.specs.Listings.{Assembles, Lists}
 use Rattle.verse_top.specs.Loading.{IsRead}
 use Rattle.verse_top.proofs.LoadLaws.{missing_of_one}
-use Rattle.verse_top.specs.Answers.{Answers, Begins, IsAnswer, Loads, assembled, executed, executing, listed, loaded, nothing}
-use Rattle.verse_top.specs.Answers.{read_line}
+use Rattle.verse_top.specs.Answers.{Answers, Begins, IsAnswer, Loads, assembled, executed, executing, listed, loaded, nothing, read_line}
+use Rattle.verse_top.specs.Answers.{resumed, resuming, saved, saving}
 use Rattle.verse_top.specs.Ends.{Replies}
 
 module _ (held : Holding) (files_before files_now before now : ℕ) (old new : Option (List ℕ)) (r : Result ℕ Stop) where
@@ -44,7 +47,7 @@ module _ (held : Holding) (files_before files_now before now : ℕ) (old new : O
 -- what the bytes of the file come to is the answer
 module _ (held : Holding) (before now : ℕ) (old new : Option (List ℕ)) (r : Result ℕ Stop) (name bytes : List ℕ)
     (read : IsRead held name bytes) where
-  pub leaves_executed : (running : Running) (c : Command) (a : AsksForExec running c) → files_of c ≡ name ∷ [] →
+  pub leaves_executed : (running : Running) (c : Command) (a : AsksForImage exec running c) → files_of c ≡ name ∷ [] →
       Leaves (Executes bytes (options_with running a.ints)) (ExecutesSoFar bytes (options_with running a.ints)) before now old new r →
       Leaves (Answers held c) (Begins held c) before now old new r
   leaves_executed running c a named l =
@@ -55,6 +58,29 @@ module _ (held : Holding) (before now : ℕ) (old new : Option (List ℕ)) (r : 
       leaves_as (Executes bytes o) (Answers held c) (ExecutesSoFar bytes o) (Begins held c) before now old new r
       (λ s t p. subst (λ (d : Command). Answers held d s t) (sym a.is) (executed a.file o bytes s t there p))
       (λ t p. subst (λ (d : Command). Begins held d t) (sym a.is) (executing a.file o bytes t there p)) l
+
+  pub leaves_saved : (running : Running) (c : Command) (a : AsksForImage save running c) → files_of c ≡ name ∷ [] →
+      Leaves (Saves bytes (options_with running a.ints)) (SavesSoFar bytes (options_with running a.ints)) before now old new r →
+      Leaves (Answers held c) (Begins held c) before now old new r
+  leaves_saved running c a named l =
+      let o = options_with running a.ints in
+      let files : files_of c ≡ a.file ∷ [] = ap files_of a.is in
+      let same : a.file ≡ name = cc (files, named) in
+      let there : IsRead held a.file bytes = subst (λ (n : List ℕ). IsRead held n bytes) (sym same) read in
+      leaves_as (Saves bytes o) (Answers held c) (SavesSoFar bytes o) (Begins held c) before now old new r
+      (λ s t p. subst (λ (d : Command). Answers held d s t) (sym a.is) (saved a.file o bytes s t there p))
+      (λ t p. subst (λ (d : Command). Begins held d t) (sym a.is) (saving a.file o bytes t there p)) l
+
+  pub leaves_resumed : (x : Resuming) (c : Command) (a : AsksForResume x c) → files_of c ≡ name ∷ [] →
+      Leaves (Resumes bytes x.until x.heap) (ResumesSoFar bytes x.until x.heap) before now old new r →
+      Leaves (Answers held c) (Begins held c) before now old new r
+  leaves_resumed x c a named l =
+      let files : files_of c ≡ a.file ∷ [] = ap files_of a.is in
+      let same : a.file ≡ name = cc (files, named) in
+      let there : IsRead held a.file bytes = subst (λ (n : List ℕ). IsRead held n bytes) (sym same) read in
+      leaves_as (Resumes bytes x.until x.heap) (Answers held c) (ResumesSoFar bytes x.until x.heap) (Begins held c) before now old new r
+      (λ s t p. subst (λ (d : Command). Answers held d s t) (sym a.is) (resumed a.file x.until x.heap bytes s t there p))
+      (λ t p. subst (λ (d : Command). Begins held d t) (sym a.is) (resuming a.file x.until x.heap bytes t there p)) l
 
   module _ (files : List (List ℕ)) (c : Command) (status : ℕ) (text : List ℕ) where
     pub leaves_listed : AsksForOne list files c → files_of c ≡ name ∷ [] → Lists bytes status text →

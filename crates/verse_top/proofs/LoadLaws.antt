@@ -4,7 +4,7 @@ use Rattle.std.proofs.Common.{take, subst, arith}
 use Rattle.std.proofs.lemmas.Option.{same_Some}
 use Rattle.verse_base.specs.declared.limits.TheConstants.{MOST_FILE_BYTES}
 use Rattle.verse_outside.specs.Held.{Holding, Holds, Lacks, Loads}
-use Rattle.verse_top_args.specs.Words.{AreFiles, Command, run, exec, check, build, list, assemble, verify, load, files_of}
+use Rattle.verse_top_args.specs.Words.{AreFiles, Command, run, exec, save, resume, check, build, list, assemble, verify, load, files_of}
 use Rattle.verse_top.specs.Loading.{AreHeld, AreLoaded, IsAbsent, IsMissing, IsRead, IsTooLarge, IsUnheld, most_bytes}
 use Rattle.verse_top.specs.Programs.{IsProgram}
 
@@ -114,6 +114,8 @@ pub missing_of_program : (held : Holding) (c : Command) (name : List ℕ) → Is
     IsMissing held c name
 missing_of_program held (run files o) name p a = a
 missing_of_program held (exec file o) name p a = absurd p
+missing_of_program held (save file o) name p a = absurd p
+missing_of_program held (resume file until heap) name p a = absurd p
 missing_of_program held (check files) name p a = a
 missing_of_program held (build files) name p a = a
 missing_of_program held (list file) name p a = absurd p
@@ -125,6 +127,8 @@ pub absent_of_program : (held : Holding) (c : Command) (name : List ℕ) → IsP
     IsAbsent held (files_of c) name
 absent_of_program held (run files o) name p m = m
 absent_of_program held (exec file o) name p m = absurd p
+absent_of_program held (save file o) name p m = absurd p
+absent_of_program held (resume file until heap) name p m = absurd p
 absent_of_program held (check files) name p m = m
 absent_of_program held (build files) name p m = m
 absent_of_program held (list file) name p m = absurd p
@@ -141,6 +145,8 @@ pub missing_of_one : (held : Holding) (c : Command) (file name : List ℕ) → f
     IsMissing held c name
 missing_of_one held (run files o) file name e a = absent_as held files (file ∷ []) name e a
 missing_of_one held (exec f o) file name e a = absent_as held (f ∷ []) (file ∷ []) name e a
+missing_of_one held (save f o) file name e a = absent_as held (f ∷ []) (file ∷ []) name e a
+missing_of_one held (resume f until heap) file name e a = absent_as held (f ∷ []) (file ∷ []) name e a
 missing_of_one held (check files) file name e a = absent_as held files (file ∷ []) name e a
 missing_of_one held (build files) file name e a = absent_as held files (file ∷ []) name e a
 missing_of_one held (list f) file name e a = absent_as held (f ∷ []) (file ∷ []) name e a
@@ -156,6 +162,8 @@ unheld_or_read held one other a b name x y (inr (bs, more)) = load_or_lack_of 18
 pub held_or_missing : (held : Holding) (c : Command) (name : List ℕ) → AreHeld held (files_of c) → IsMissing held c name → ⊥
 held_or_missing held (run files o) name h m = held_or_absent held files name h m
 held_or_missing held (exec file o) name h m = held_or_absent held (file ∷ []) name h m
+held_or_missing held (save file o) name h m = held_or_absent held (file ∷ []) name h m
+held_or_missing held (resume file until heap) name h m = held_or_absent held (file ∷ []) name h m
 held_or_missing held (check files) name h m = held_or_absent held files name h m
 held_or_missing held (build files) name h m = held_or_absent held files name h m
 held_or_missing held (list file) name h m = held_or_absent held (file ∷ []) name h m

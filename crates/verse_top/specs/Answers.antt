@@ -1,18 +1,21 @@
 -- What the top call answers: a status and the text that is written.
-use Rattle.std.specs.Prelude.{◌≡◌, ℕ, List, [], ◌∷◌, ◌++◌, length, Option, Some, codes}
+use Rattle.std.specs.Prelude.{◌≡◌, ℕ, List, [], ◌∷◌, ◌++◌, length, Bool, Option, Some, codes}
 use Rattle.verse_base.specs.declared.refusals.Refusal.{Refusal}
 use Rattle.verse_lex.specs.Cut.{first_place}
 use Rattle.verse_outside.specs.Held.{Holding}
+use Rattle.verse_code.specs.declared.codes.Code.{Code}
 use Rattle.verse_tree.specs.ItemTree.{ItemTree}
 use Rattle.verse_meaning_state.specs.Texts.{ending_line, run_text}
 use Rattle.verse_top_texts.specs.Refusals.{refusal_line}
 use Rattle.verse_image.specs.Format.{Image, version_of}
 use Rattle.verse_top_exec.specs.Executions.{Executes, ExecutesSoFar, run_with}
-use Rattle.verse_top_args.specs.Words.{Command, run, exec, check, build, list, assemble, verify}
-use Rattle.verse_top_args.specs.Words.{load, files_of, Options}
+use Rattle.verse_top_args.specs.Words.{Command, run, exec, save, resume, check, build, list}
+use Rattle.verse_top_args.specs.Words.{assemble, verify, load, files_of, Options}
 use Rattle.verse_accept.specs.Fronts.{Accepts, IsRefused, refusal}
 use Rattle.verse_top_listing.specs.Listings.{Assembles, Lists}
 use Rattle.verse_top_verify.specs.Verifying.{Verifies}
+use Rattle.verse_top_save.specs.Saving.{SavedTwice, Saves, SavesSoFar}
+use Rattle.verse_top_resume.specs.Resuming.{Resumes, ResumesSoFar}
 use Rattle.verse_top_load.specs.Load.{lines_line, load_text_of}
 use Rattle.verse_top.specs.Loading.{AreLoaded, IsRead, IsTooLarge}
 use Rattle.verse_top.specs.Programs.{IsProgram}
@@ -70,6 +73,12 @@ pub data Answers (held : Holding) : Command → ℕ → List ℕ → Type 0 wher
   executed : (name : List ℕ) (o : Options) (bytes : List ℕ) (status : ℕ) (text : List ℕ) → IsRead held name bytes →
       Executes bytes o status text →
       Answers held (exec name o) status text
+  saved : (name : List ℕ) (o : Options) (bytes : List ℕ) (status : ℕ) (text : List ℕ) →
+      IsRead held name bytes → Saves bytes o status text →
+      Answers held (save name o) status text
+  resumed : (name : List ℕ) (until : ℕ) (heap : Bool) (bytes : List ℕ) (status : ℕ) (text : List ℕ) →
+      IsRead held name bytes → Resumes bytes until heap status text →
+      Answers held (resume name until heap) status text
   listed : (name bytes : List ℕ) (status : ℕ) (text : List ℕ) → IsRead held name bytes → Lists bytes status text →
       Answers held (list name) status text
   assembled : (name bytes : List ℕ) (status : ℕ) (text : List ℕ) → IsRead held name bytes → Assembles bytes status text →
@@ -88,12 +97,24 @@ pub data Begins (held : Holding) : Command → List ℕ → Type 0 where
       Begins held (run names o) text
   executing : (name : List ℕ) (o : Options) (bytes text : List ℕ) → IsRead held name bytes → ExecutesSoFar bytes o text →
       Begins held (exec name o) text
+  saving : (name : List ℕ) (o : Options) (bytes text : List ℕ) → IsRead held name bytes → SavesSoFar bytes o text →
+      Begins held (save name o) text
+  resuming : (name : List ℕ) (until : ℕ) (heap : Bool) (bytes text : List ℕ) → IsRead held name bytes →
+      ResumesSoFar bytes until heap text →
+      Begins held (resume name until heap) text
+
+-- Two texts of a command are the same; but of a run that is saved the trees of tasks may be kept
+-- in any order.
+pub data Alike : Command → List ℕ → List ℕ → Type 0 where
+  one_text : (c : Command) (text : List ℕ) → Alike c text text
+  of_one_run : (name : List ℕ) (o : Options) (c : Code) (x y : List ℕ) → SavedTwice c o x y →
+      Alike (save name o) x y
 
 -- over files that tell what they hold a command has one answer
 abbrev pub AnsweredOnce : Type 0
 AnsweredOnce = (held : List ℕ → Option (List ℕ)) (c : Command) (s t : ℕ) (x y : List ℕ) → Answers (Some held) c s x →
     Answers (Some held) c t y →
-    (s ≡ t) × (x ≡ y)
+    (s ≡ t) × Alike c x y
 
 -- `exec` of what `build` wrote writes what `run` writes with the same options, with the same status
 abbrev pub ExecRunsWhatIsBuilt : Type 0

@@ -2,7 +2,7 @@
 use Rattle.std.specs.Prelude.{◌≡◌, ◌⊎◌, ℕ, suc, ◌+◌, ◌<◌, ◌≤◌, List, [], ◌∷◌, length}
 use Rattle.verse_base.specs.declared.limits.TheConstants.{MOST_FILE_BYTES}
 use Rattle.verse_outside.specs.Held.{Holding, Holds, Lacks, Loads}
-use Rattle.verse_top_args.specs.Words.{Command, exec, run, check, build}
+use Rattle.verse_top_args.specs.Words.{Command, exec, run, save, resume, check, build}
 use Rattle.verse_top_args.specs.Words.{list, assemble, verify, load}
 
 -- one byte more than a file may have shows that there are more
@@ -49,6 +49,8 @@ IsUnheld held one other name =
 abbrev pub IsMissing : Holding → Command → List ℕ → Type 0
 IsMissing held (run files o) name = IsAbsent held files name
 IsMissing held (exec file o) name = IsAbsent held (file ∷ []) name
+IsMissing held (save file o) name = IsAbsent held (file ∷ []) name
+IsMissing held (resume file until heap) name = IsAbsent held (file ∷ []) name
 IsMissing held (check files) name = IsAbsent held files name
 IsMissing held (build files) name = IsAbsent held files name
 IsMissing held (list file) name = IsAbsent held (file ∷ []) name

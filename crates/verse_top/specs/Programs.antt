@@ -6,7 +6,7 @@ use Rattle.verse_tree.specs.declared.programs.Program.{Program as Made}
 use Rattle.verse_rules_types.specs.Types.{ty_of}
 use Rattle.verse_rules.specs.Sound.{completed, types_of}
 use Rattle.verse_accept.specs.Fronts.{Accepts}
-use Rattle.verse_top_args.specs.Words.{Command, run, exec, check, build}
+use Rattle.verse_top_args.specs.Words.{Command, run, exec, save, resume, check, build}
 use Rattle.verse_top_args.specs.Words.{list, assemble, verify, load}
 use Rattle.verse_top_args.specs.declared.commands.Request.{Request}
 use Rattle.verse_top_args.specs.declared.commands.Request.TheVariants as request
@@ -14,6 +14,8 @@ use Rattle.verse_top_args.specs.declared.commands.Request.TheVariants as request
 abbrev pub IsProgram : Command → Type 0
 IsProgram (run files o) = Unit {0}
 IsProgram (exec file o) = ⊥
+IsProgram (save file o) = ⊥
+IsProgram (resume file until heap) = ⊥
 IsProgram (check files) = Unit {0}
 IsProgram (build files) = Unit {0}
 IsProgram (list file) = ⊥
@@ -24,6 +26,8 @@ IsProgram (load n) = ⊥
 abbrev pub IsForProgram : Request → Type 0
 IsForProgram (request.Run r) = Unit {0}
 IsForProgram (request.Exec r) = ⊥
+IsForProgram (request.Save r) = ⊥
+IsForProgram (request.Resume r) = ⊥
 IsForProgram (request.Check files) = Unit {0}
 IsForProgram (request.Build files) = Unit {0}
 IsForProgram (request.List files) = ⊥
@@ -35,6 +39,8 @@ IsForProgram (request.Load n) = ⊥
 abbrev pub IsForFile : Request → Type 0
 IsForFile (request.Run r) = ⊥
 IsForFile (request.Exec r) = Unit {0}
+IsForFile (request.Save r) = Unit {0}
+IsForFile (request.Resume r) = Unit {0}
 IsForFile (request.Check files) = ⊥
 IsForFile (request.Build files) = ⊥
 IsForFile (request.List files) = Unit {0}

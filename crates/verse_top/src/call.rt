@@ -81,9 +81,10 @@ fn answer<F: Files, S: Sink>(
     ensures sink_faults { S.faults out.old ≤ S.faults out.new }
 {
     match request {
-        Request::Exec(_) | Request::List(_) | Request::Assemble(_) => {
+        Request::Exec(_) | Request::Save(_) | Request::Resume(_) => {
             over_file(alloc, request, files, out)
         }
+        Request::List(_) | Request::Assemble(_) => over_file(alloc, request, files, out),
         Request::Verify(names) => over_pair(alloc, names, files, out),
         Request::Load(functions) => load(alloc, functions, out),
         Request::Run(_) | Request::Check(_) | Request::Build(_) => {

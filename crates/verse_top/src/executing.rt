@@ -7,6 +7,7 @@ ghost use Rattle.verse_top_args.specs.Words.{Command, Inputs, files_of};
 ghost use Rattle.verse_top_args.specs.Requests.{AreNamed, AsksFor, IsWithin, options_with};
 ghost use Rattle.verse_top_exec.specs.Executions.{Executes, ExecutesSoFar, IsNothing};
 ghost use Rattle.verse_top_exec.specs.Leaving.{Leaves};
+ghost use Rattle.verse_top_save.specs.Saving.{Saves, SavesSoFar};
 ghost use Rattle.verse_top.specs.Answers.{Answers, Begins, IsAnswer, read_line};
 ghost use Rattle.verse_top.specs.Ends.{Replies};
 ghost use Rattle.verse_top.specs.Loading.{IsRead};
@@ -22,6 +23,8 @@ use verse_top_exec::asking::Asked;
 use verse_top_exec::executing::exec;
 use verse_top_exec::stops::Stop;
 use verse_top_listing::{assemble_listing, list_image};
+use verse_top_resume::resuming::resume_file;
+use verse_top_save::saving::save_image;
 
 /// Loads the file whole, and does with its bytes what the request asks for.
 pub(crate) fn over_file<F: Files, S: Sink>(
@@ -68,6 +71,10 @@ fn over_bytes<S: Sink>(
 {
     match request {
         Request::Exec(running) => run_image(alloc, running, bytes, out),
+        Request::Save(running) => save_run(alloc, running, bytes, out),
+        Request::Resume(resuming) => {
+            resume_file(alloc, bytes, resuming.until, resuming.heap, out)
+        }
         Request::List(_) => {
             let answer = list_image(alloc, bytes)?;
             write_answer(answer, out)
@@ -104,4 +111,29 @@ fn run_image<S: Sink>(
         heap: running.heap,
     };
     exec(alloc, bytes, asked, out)
+}
+
+/// Runs the image that these bytes are and saves the run at its horizon, as the words ask for it.
+fn save_run<S: Sink>(
+    alloc: Global,
+    running: Running<'_>,
+    bytes: &[u8],
+    out: &mut S,
+) -> Result<u8, Stop>
+    requires within { IsWithin running }
+    requires lists { (ns : List ℤ) × Inputs (option_copied running.inputs) ns }
+    ensures leaves { (ns : List ℤ) → Inputs (option_copied running.entry.inputs) ns →
+        Leaves (Saves bytes.now (options_with running.entry ns))
+        (SavesSoFar bytes.now (options_with running.entry ns)) (S.faults out.old)
+        (S.faults out.new) (S.taken out.old) (S.taken out.new) result }
+    ensures later { S.faults out.old ≤ S.faults out.new }
+{
+    let inputs = running.ints(alloc)?;
+    let asked = Asked {
+        inputs: inputs.as_slice(),
+        steps: running.steps,
+        until: running.until,
+        heap: running.heap,
+    };
+    save_image(alloc, bytes, asked, out)
 }

@@ -49,7 +49,8 @@ pub(crate) fn proceed<S: Sink>(
 {
     match request {
         Request::Run(running) => run(alloc, running, program, out),
-        Request::Exec(_) | Request::List(_) | Request::Assemble(_) => unreachable!(),
+        Request::Exec(_) | Request::Save(_) | Request::Resume(_) => unreachable!(),
+        Request::List(_) | Request::Assemble(_) => unreachable!(),
         Request::Verify(_) | Request::Load(_) => unreachable!(),
         Request::Check(_) => {
             let answer = checked(alloc)?;

@@ -4,10 +4,13 @@ use Rattle.std.proofs.Common.{unwrap_or, Result, Ok, Err, IfOk, Bool, true, fals
 use Rattle.std.specs.Str.{bytes_eq}
 use Rattle.std.proofs.lemmas.Slice.Eq.{bytes_eq-Decides}
 use Rattle.verse_top_args.specs.Words.{AreFiles, Command, EachIsFile, Given, Gives, Inputs, IsFile, IsIntList, IsNumber, SayOnce, Says}
-use Rattle.verse_top_args.specs.Words.{listed, no_options, not_given, options_of, run, exec, check, build, list, assemble, verify, load}
-use Rattle.verse_top_args.specs.Words.{says_run, says_exec, says_check, says_build, says_list, says_assemble, says_verify, says_load}
-use Rattle.verse_top_args.specs.Requests.{AsksForExec, AsksForLoad, AsksForOne, AsksForRun, AsksForVerify, BeginsWithNoFile, Gave, IsWithin}
-use Rattle.verse_top_args.specs.Requests.{NoOptions, options_with}
+use Rattle.verse_top_args.specs.Words.{listed, no_options, not_given, options_of, run, exec, save, resume, check, build, list, assemble}
+use Rattle.verse_top_args.specs.Words.{verify, load, says_run, says_exec, says_save, says_resume, says_check, says_build, says_list}
+use Rattle.verse_top_args.specs.Words.{says_assemble, says_verify, says_load, Options}
+use Rattle.verse_top_args.specs.Requests.{AsksForImage, AsksForLoad, AsksForOne, AsksForResume, AsksForRun, AsksForVerify}
+use Rattle.verse_top_args.specs.Requests.{BeginsWithNoFile, Gave, IsWithin, NoOptions, options_with}
+use Rattle.verse_top_args.specs.Settings.{Wrong}
+use Rattle.verse_top_args.specs.declared.commands.Resuming.{Resuming}
 use Rattle.verse_top_args.specs.declared.commands.Running.{Running}
 use Rattle.verse_top_args.proofs.FileLemmas.{no_words, options_begin, parted_once}
 use Rattle.std.proofs.lemmas.List.{length-map}
@@ -36,15 +39,30 @@ pub record Runs (files options : List (List ℕ)) (c : Command) : Type 0 where
   pub lists : Inputs given.inputs ints
   pub runs : c ≡ run files (options_of given ints)
 
--- the file and the options of the run of an image
-pub record Executes (files options : List (List ℕ)) (c : Command) : Type 0 where
+-- the file and the options of the run of an image, of which the command is made
+pub record Executes (make : List ℕ → Options → Command) (files options : List (List ℕ)) (c : Command) : Type 0 where
   pub file : List ℕ
   pub one : files ≡ file ∷ []
   pub given : Given
   pub ints : List ℤ
   pub gives : Gives no_options options given
   pub lists : Inputs given.inputs ints
-  pub executes : c ≡ exec file (options_of given ints)
+  pub executes : c ≡ make file (options_of given ints)
+
+-- those of one that is saved
+pub record Saves (files options : List (List ℕ)) (c : Command) : Type 0 where
+  pub run : Executes save files options c
+  pub no_heap : run.given.heap ≡ false
+
+-- the file of a saved run, and the options with which it goes on
+pub record Resumes (files options : List (List ℕ)) (c : Command) : Type 0 where
+  pub file : List ℕ
+  pub one : files ≡ file ∷ []
+  pub given : Given
+  pub gives : Gives no_options options given
+  pub no_steps : given.steps ≡ None
+  pub no_inputs : given.inputs ≡ None
+  pub resumes : c ≡ resume file (unwrap_or given.until 1000000000000) given.heap
 
 -- files alone, of which one command is made
 pub record Alone (make : List (List ℕ) → Command) (files options : List (List ℕ)) (c : Command) : Type 0 where
@@ -84,12 +102,14 @@ either false P Q = Q
 abbrev pub Meant : List ℕ → (files options : List (List ℕ)) → Command → Type 0
 Meant word files options c =
     either (bytes_eq word (codes "run")) (Runs files options c)
-    (either (bytes_eq word (codes "exec")) (Executes files options c)
+    (either (bytes_eq word (codes "exec")) (Executes exec files options c)
+    (either (bytes_eq word (codes "save")) (Saves files options c)
+    (either (bytes_eq word (codes "resume")) (Resumes files options c)
     (either (bytes_eq word (codes "check")) (Alone check files options c)
     (either (bytes_eq word (codes "build")) (Alone build files options c)
     (either (bytes_eq word (codes "list")) (One list files options c)
     (either (bytes_eq word (codes "assemble")) (One assemble files options c)
-    (either (bytes_eq word (codes "verify")) (Two files options c) (Unit {0})))))))
+    (either (bytes_eq word (codes "verify")) (Two files options c) (Unit {0})))))))))
 
 one_file : {file : List ℕ} → IsFile file → AreFiles (file ∷ [])
 one_file is = record { each = (is, tt); some = omega arith; few = omega arith }
@@ -130,6 +150,46 @@ one_are make word {files = files} {options = options} {file = file} spelled is p
     let same = parted_once (file ∷ []) files [] options (one_file is).each p.each tt p.behind (cc (spelled, p.is)) in
     subst AreFiles same.files_are (one_file is)
 
+-- one file, and the options behind it
+executes_of : (make : List ℕ → Options → Command) (word : List ℕ) {words files options behind : List (List ℕ)} {file : List ℕ}
+    {given : Given} {ints : List ℤ} → words ≡ word ∷ file ∷ behind → IsFile file → Gives no_options behind given →
+    Inputs given.inputs ints → Parted words word files options → Executes make files options (make file (options_of given ints))
+executes_of make word {files = files} {options = options} {behind = behind} {file = file} {given = given} {ints = ints} spelled is gives lists p =
+    let same = parted_once (file ∷ []) files behind options (one_file is).each p.each (options_begin gives) p.behind (cc (spelled, p.is)) in
+    record {
+      file = file;
+      one = sym same.files_are;
+      given = given;
+      ints = ints;
+      gives = subst (λ ws. Gives no_options ws given) same.words_are gives;
+      lists = lists;
+      executes = refl;
+    }
+
+saves_of : {word : List ℕ} {words files options behind : List (List ℕ)} {file : List ℕ} {given : Given} {ints : List ℤ} →
+    words ≡ word ∷ file ∷ behind → IsFile file → Gives no_options behind given → given.heap ≡ false → Inputs given.inputs ints →
+    Parted words word files options → Saves files options (save file (options_of given ints))
+saves_of {files = files} {options = options} {behind = behind} {file = file} {given = given} {ints = ints} spelled is gives none lists p =
+    let same = parted_once (file ∷ []) files behind options (one_file is).each p.each (options_begin gives) p.behind (cc (spelled, p.is)) in
+    record {
+      run = record {
+        file = file;
+        one = sym same.files_are;
+        given = given;
+        ints = ints;
+        gives = subst (λ ws. Gives no_options ws given) same.words_are gives;
+        lists = lists;
+        executes = refl;
+      };
+      no_heap = none;
+    }
+
+one_before : (word : List ℕ) {words files options behind : List (List ℕ)} {file : List ℕ} {given : Given} → words ≡ word ∷ file ∷ behind →
+    IsFile file → Gives no_options behind given → Parted words word files options → AreFiles files
+one_before word {files = files} {options = options} {behind = behind} {file = file} spelled is gives p =
+    let same = parted_once (file ∷ []) files behind options (one_file is).each p.each (options_begin gives) p.behind (cc (spelled, p.is)) in
+    subst AreFiles same.files_are (one_file is)
+
 as_named : (own word : List ℕ) (files options : List (List ℕ)) (c : Command) → own ≡ word → Meant own files options c →
     Meant word files options c
 as_named own word files options c same m = subst (λ (w : List ℕ). Meant w files options c) same m
@@ -149,15 +209,22 @@ meant_of {files = files} {options = options} word (says_run {files = names} {wor
     })
 meant_of {files = files} {options = options} word (says_exec {file = file} {words = behind} {g = given} {ns = ints} is gives lists) p =
     let named : codes "exec" ≡ word = cc p.is in
+    as_named (codes "exec") word files options (exec file (options_of given ints)) named (executes_of exec word (cc named) is gives lists p)
+meant_of {files = files} {options = options} word (says_save {file = file} {words = behind} {g = given} {ns = ints} is gives none lists) p =
+    let named : codes "save" ≡ word = cc p.is in
+    as_named (codes "save") word files options (save file (options_of given ints)) named
+    (saves_of (cc named) is gives none lists p)
+meant_of {files = files} {options = options} word (says_resume {file = file} {words = behind} {g = given} is gives steps inputs) p =
+    let named : codes "resume" ≡ word = cc p.is in
     let same = parted_once (file ∷ []) files behind options (one_file is).each p.each (options_begin gives) p.behind (cc p.is) in
-    as_named (codes "exec") word files options (exec file (options_of given ints)) named (record {
+    as_named (codes "resume") word files options (resume file (unwrap_or given.until 1000000000000) given.heap) named (record {
       file = file;
       one = sym same.files_are;
       given = given;
-      ints = ints;
       gives = subst (λ ws. Gives no_options ws given) same.words_are gives;
-      lists = lists;
-      executes = refl;
+      no_steps = steps;
+      no_inputs = inputs;
+      resumes = refl;
     })
 meant_of {files = files} {options = options} word (says_check {files = names} are) p =
     let named : codes "check" ≡ word = cc p.is in
@@ -183,6 +250,8 @@ other_word a b different e = let same = (bytes_eq-Decides a b).1 e in cc
 pub load_of : {words rest : List (List ℕ)} {c : Command} → Says words c → words ≡ codes "load" ∷ rest → Loads rest c
 load_of (says_run are gives lists) e = absurd (other_word (codes "run") (codes "load") refl (cc e))
 load_of (says_exec is gives lists) e = absurd (other_word (codes "exec") (codes "load") refl (cc e))
+load_of (says_save is gives none lists) e = absurd (other_word (codes "save") (codes "load") refl (cc e))
+load_of (says_resume is gives steps inputs) e = absurd (other_word (codes "resume") (codes "load") refl (cc e))
 load_of (says_check are) e = absurd (other_word (codes "check") (codes "load") refl (cc e))
 load_of (says_build are) e = absurd (other_word (codes "build") (codes "load") refl (cc e))
 load_of (says_list is) e = absurd (other_word (codes "list") (codes "load") refl (cc e))
@@ -195,9 +264,9 @@ pub files_are : {words files options : List (List ℕ)} {c : Command} (word : Li
     word ≢ codes "load" → AreFiles files
 files_are {files = files} {options = options} word (says_run {files = names} {words = behind} are gives lists) p other =
     subst AreFiles (parted_once names files behind options are.each p.each (options_begin gives) p.behind (cc p.is)).files_are are
-files_are {files = files} {options = options} word (says_exec {file = file} {words = behind} is gives lists) p other =
-    subst AreFiles (parted_once (file ∷ []) files behind options (one_file is).each p.each (options_begin gives) p.behind
-    (cc p.is)).files_are (one_file is)
+files_are word (says_exec is gives lists) p other = one_before word (cc p.is) is gives p
+files_are word (says_save is gives none lists) p other = one_before word (cc p.is) is gives p
+files_are word (says_resume is gives steps inputs) p other = one_before word (cc p.is) is gives p
 files_are word (says_check are) p other = (alone_of check word (cc p.is) are p).are
 files_are word (says_build are) p other = (alone_of build word (cc p.is) are p).are
 files_are word (says_list is) p other = one_are list word (cc p.is) is p
@@ -211,8 +280,9 @@ same_runs files options a b p q =
     let ints : p.ints ≡ q.ints = inputs_once p.lists (subst (λ g. Inputs g.inputs q.ints) given q.lists) in
     cc (p.runs, q.runs)
 
-same_executes : (files options : List (List ℕ)) (a b : Command) → Executes files options a → Executes files options b → a ≡ b
-same_executes files options a b p q =
+same_executes : (make : List ℕ → Options → Command) (files options : List (List ℕ)) (a b : Command) → Executes make files options a →
+    Executes make files options b → a ≡ b
+same_executes make files options a b p q =
     let file : p.file ≡ q.file = cc (p.one, q.one) in
     let given : q.given ≡ p.given = gives_once q.gives p.gives in
     let ints : p.ints ≡ q.ints = inputs_once p.lists (subst (λ g. Inputs g.inputs q.ints) given q.lists) in
@@ -228,10 +298,22 @@ say_once words a b (says_run {files = files} {words = options} {g = given} {ns =
     same_runs files options (run files (options_of given ints)) b own
     (meant_of (codes "run") t (record { is = refl; each = are.each; behind = options_begin gives }))
 say_once words a b (says_exec {file = file} {words = options} {g = given} {ns = ints} is gives lists) t =
-    let own : Executes (file ∷ []) options (exec file (options_of given ints)) =
+    let own : Executes exec (file ∷ []) options (exec file (options_of given ints)) =
     record { file = file; one = refl; given = given; ints = ints; gives = gives; lists = lists; executes = refl } in
-    same_executes (file ∷ []) options (exec file (options_of given ints)) b own
+    same_executes exec (file ∷ []) options (exec file (options_of given ints)) b own
     (meant_of (codes "exec") t (record { is = refl; each = (one_file is).each; behind = options_begin gives }))
+say_once words a b (says_save {file = file} {words = options} {g = given} {ns = ints} is gives none lists) t =
+    let own : Executes save (file ∷ []) options (save file (options_of given ints)) =
+    record { file = file; one = refl; given = given; ints = ints; gives = gives; lists = lists; executes = refl } in
+    let other : Saves (file ∷ []) options b =
+    meant_of (codes "save") t (record { is = refl; each = (one_file is).each; behind = options_begin gives }) in
+    same_executes save (file ∷ []) options (save file (options_of given ints)) b own other.run
+say_once words a b (says_resume {file = file} {words = options} {g = given} is gives steps inputs) t =
+    let other : Resumes (file ∷ []) options b =
+    meant_of (codes "resume") t (record { is = refl; each = (one_file is).each; behind = options_begin gives }) in
+    let same : file ≡ other.file = cc other.one in
+    let given_so : other.given ≡ given = gives_once other.gives gives in
+    cc (other.resumes, same, given_so)
 say_once words a b (says_check {files = files} are) t =
     let other : Alone check files [] b = meant_of (codes "check") t (parted_alone (codes "check") files are) in sym other.is
 say_once words a b (says_build {files = files} are) t =
@@ -276,12 +358,9 @@ pub ok_then : {T E : Type 0} (r : Result T E) (P Q : T → Type 0) → ((x : T) 
 ok_then (Ok x) P Q f h = f x h
 ok_then (Err e) P Q f h = tt
 
--- the words of a command with these files and options
-abbrev pub run_words : List (List ℕ) → List (List ℕ) → List (List ℕ)
-run_words files options = codes "run" ∷ files ++ options
-
-abbrev pub exec_words : List (List ℕ) → List (List ℕ) → List (List ℕ)
-exec_words files options = codes "exec" ∷ files ++ options
+-- the words of a command with these files, and options behind them
+abbrev pub words_with : List ℕ → List (List ℕ) → List (List ℕ) → List (List ℕ)
+words_with word files options = word ∷ files ++ options
 
 or_within : (most n : ℕ) (given : Option ℕ) → n ≤ most → AtMost most given → unwrap_or given n ≤ most
 or_within most n None low a = low
@@ -301,25 +380,61 @@ given_with : (words : List (List ℕ)) (r : Running) (g : Gave words r) → opti
 given_with words r g = cc (g.steps, g.until, g.heap)
 
 module _ (files options : List (List ℕ)) (are : AreFiles files) (behind : BeginsWithNoFile options) where
-  parted_behind : (command : List ℕ) → Parted (command ∷ files ++ options) command files options
+  parted_behind : (command : List ℕ) → Parted (words_with command files options) command files options
   parted_behind command = record { is = refl; each = are.each; behind = behind }
 
-  -- neither command, where the words give no options
-  pub no_run : NoOptions options → (c : Command) → ¬ (Says (run_words files options) c)
+  -- no command, where the words give no options
+  pub no_run : NoOptions options → (c : Command) → ¬ (Says (words_with (codes "run") files options) c)
   no_run none c s = let p : Runs files options c = meant_of (codes "run") s (parted_behind (codes "run")) in
       none p.given p.ints p.gives p.lists
 
-  pub no_exec : NoOptions options → (c : Command) → ¬ (Says (exec_words files options) c)
-  no_exec none c s = let p : Executes files options c = meant_of (codes "exec") s (parted_behind (codes "exec")) in
-      none p.given p.ints p.gives p.lists
+  executed : (c : Command) → Says (words_with (codes "exec") files options) c → Executes exec files options c
+  executed c s = meant_of (codes "exec") s (parted_behind (codes "exec"))
+
+  saved : (c : Command) → Says (words_with (codes "save") files options) c → Saves files options c
+  saved c s = meant_of (codes "save") s (parted_behind (codes "save"))
+
+  resumed : (c : Command) → Says (words_with (codes "resume") files options) c → Resumes files options c
+  resumed c s = meant_of (codes "resume") s (parted_behind (codes "resume"))
+
+  pub no_exec : NoOptions options → (c : Command) → ¬ (Says (words_with (codes "exec") files options) c)
+  no_exec none c s = let p = executed c s in none p.given p.ints p.gives p.lists
+
+  pub no_save : NoOptions options → (c : Command) → ¬ (Says (words_with (codes "save") files options) c)
+  no_save none c s = let p = (saved c s).run in none p.given p.ints p.gives p.lists
+
+  pub no_resume : Wrong no_options options → (c : Command) → ¬ (Says (words_with (codes "resume") files options) c)
+  no_resume none c s = let p = resumed c s in none p.given p.gives
 
   -- there is one file
-  pub not_one : 1 < length files → (c : Command) → ¬ (Says (exec_words files options) c)
-  not_one more c s = let p : Executes files options c = meant_of (codes "exec") s (parted_behind (codes "exec")) in
-      let one = ap length p.one in omega arith
+  pub not_one : 1 < length files → (c : Command) → ¬ (Says (words_with (codes "exec") files options) c)
+  not_one more c s = let p = executed c s in let one = ap length p.one in omega arith
+
+  pub not_one_saved : 1 < length files → (c : Command) → ¬ (Says (words_with (codes "save") files options) c)
+  not_one_saved more c s = let p = (saved c s).run in let one = ap length p.one in omega arith
+
+  pub not_one_resumed : 1 < length files → (c : Command) → ¬ (Says (words_with (codes "resume") files options) c)
+  not_one_resumed more c s = let p = resumed c s in let one = ap length p.one in omega arith
+
+  -- the options are none of the command
+  pub no_save_with_heap : (r : Running) → Gave options r → r.heap ≡ true → (c : Command) →
+      ¬ (Says (words_with (codes "save") files options) c)
+  no_save_with_heap r g heap c s =
+      let p = saved c s in
+      let same : p.run.given ≡ g.given = gives_once p.run.gives g.gives in
+      let none : g.given.heap ≡ false = subst (λ (h : Given). h.heap ≡ false) same p.no_heap in
+      let some : g.given.heap ≡ true = sym g.heap ∙ heap in
+      cc (none, some)
+
+  pub no_resume_with : (given : Given) → Gives no_options options given → ¬ ((given.steps ≡ None) × (given.inputs ≡ None)) →
+      (c : Command) → ¬ (Says (words_with (codes "resume") files options) c)
+  no_resume_with given gives other c s =
+      let p = resumed c s in
+      let same : p.given ≡ given = gives_once p.gives gives in
+      other (subst (λ (h : Given). (h.steps ≡ None) × (h.inputs ≡ None)) same (p.no_steps, p.no_inputs))
 
   pub is_run : (r : Running) → Gave options r → map string_bytes r.files.now ≡ files →
-      (c : Command) × Says (run_words files options) c × AsksForRun r c
+      (c : Command) × Says (words_with (codes "run") files options) c × AsksForRun r c
   is_run r g named =
       let same = given_with options r g in (
         run files (options_of g.given g.ints),
@@ -338,28 +453,57 @@ is_one [] are few = let some = are.some in absurd (omega arith)
 is_one (f ∷ []) are few = (f, refl, are.each.0)
 is_one (f ∷ g ∷ gs) are few = absurd (omega arith)
 
-pub is_exec : (files options : List (List ℕ)) → AreFiles files → length files ≤ 1 → (r : Running) → Gave options r →
-    map string_bytes r.files.now ≡ files →
-    (c : Command) × Says (exec_words files options) c × AsksForExec r c
-is_exec files options are few r g named =
+-- a command that is made of one file and the options of a run
+is_image : (make : List ℕ → Options → Command) (word : List ℕ) (files options : List (List ℕ)) → AreFiles files → length files ≤ 1 →
+    (r : Running) (g : Gave options r) → map string_bytes r.files.now ≡ files →
+    ((file : List ℕ) → IsFile file → Says (word ∷ file ∷ options) (make file (options_of g.given g.ints))) →
+    (c : Command) × Says (words_with word files options) c × AsksForImage make r c
+is_image make word files options are few r g named says =
     let one = is_one files are few in
     let same = given_with options r g in (
-      exec one.0 (options_of g.given g.ints),
-      subst (λ (fs : List (List ℕ)). Says (exec_words fs options) (exec one.0 (options_of g.given g.ints))) (sym one.1)
-          (says_exec one.2 g.gives g.lists),
+      make one.0 (options_of g.given g.ints),
+      subst (λ (fs : List (List ℕ)). Says (words_with word fs options) (make one.0 (options_of g.given g.ints))) (sym one.1)
+          (says one.0 one.2),
       record {
         within = kept_within options r g;
         file = one.0;
         one = named ∙ one.1;
         ints = g.ints;
         lists = subst (λ (i : Option (List ℕ)). Inputs i g.ints) (sym g.inputs) g.lists;
-        is = cc same;
+        is = ap (make one.0) same;
       },
     )
 
--- the words of a command with these files, and options behind them
-abbrev pub words_with : List ℕ → List (List ℕ) → List (List ℕ) → List (List ℕ)
-words_with word files options = word ∷ files ++ options
+pub is_exec : (files options : List (List ℕ)) → AreFiles files → length files ≤ 1 → (r : Running) → Gave options r →
+    map string_bytes r.files.now ≡ files →
+    (c : Command) × Says (words_with (codes "exec") files options) c × AsksForImage exec r c
+is_exec files options are few r g named =
+    is_image exec (codes "exec") files options are few r g named (λ file is. says_exec is g.gives g.lists)
+
+pub is_save : (files options : List (List ℕ)) → AreFiles files → length files ≤ 1 → (r : Running) → Gave options r →
+    r.heap ≡ false → map string_bytes r.files.now ≡ files →
+    (c : Command) × Says (words_with (codes "save") files options) c × AsksForImage save r c
+is_save files options are few r g none named =
+    is_image save (codes "save") files options are few r g named (λ file is. says_save is g.gives (sym g.heap ∙ none) g.lists)
+
+pub is_resume : (files options : List (List ℕ)) → AreFiles files → length files ≤ 1 → (given : Given) → Gives no_options options given →
+    given.steps ≡ None → given.inputs ≡ None → (r : Resuming) → map string_bytes r.files.now ≡ files →
+    r.until ≡ unwrap_or given.until 1000000000000 → r.heap ≡ given.heap →
+    (c : Command) × Says (words_with (codes "resume") files options) c × AsksForResume r c
+is_resume files options are few given gives steps inputs r named until heap =
+    let one = is_one files are few in
+    let within = given_within gives tt tt in
+    let made = resume one.0 (unwrap_or given.until 1000000000000) given.heap in (
+      made,
+      subst (λ (fs : List (List ℕ)). Says (words_with (codes "resume") fs options) made) (sym one.1) (says_resume one.2 gives steps inputs),
+      record {
+        within = subst (λ (n : ℕ). n ≤ 1000000000000) (sym until)
+            (or_within 1000000000000 1000000000000 given.until (omega arith) within.1);
+        file = one.0;
+        one = named ∙ one.1;
+        is = cc (until, heap);
+      },
+    )
 
 -- one file, and nothing behind it
 abbrev pub IsAlone : List (List ℕ) → List (List ℕ) → Type 0

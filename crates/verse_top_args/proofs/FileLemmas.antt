@@ -1,6 +1,6 @@
 -- The words that name files, and those behind them, are parted in one way.
 use Rattle.std.proofs.Common.{◌≡◌, ◌≢◌, ◌↔◌, ℕ, List, [], ◌∷◌, ◌++◌, refl, subst, sym, ◌≤◌, length, IsTrue, not, nat_eq, slice_index_or}
-use Rattle.std.proofs.Common.{arith, zero, suc, ◌<◌, ◌+◌, take, drop, map}
+use Rattle.std.proofs.Common.{arith, zero, suc, ◌<◌, ◌+◌, take, drop, map, Bool, false}
 use Rattle.verse_top_args.specs.Words.{EachIsFile, Given, Gives, IsFile, name, none_left, steps, until, inputs, heap}
 use Rattle.verse_top_args.specs.Requests.{BeginsWithNoFile}
 
@@ -75,3 +75,9 @@ no_words text (w ∷ ws) e = cc
 pub some_words : {A : Type 0} (text : A → List ℕ) (words : List A) → length words ≢ 0 → map text words ≢ []
 some_words text [] e f = e refl
 some_words text (w ∷ ws) e f = cc
+
+-- there is a second one
+pub more_than_one : (n : ℕ) (is : Bool) → IsTrue is ↔ (n ≤ 1) → is ≡ false → 1 < n
+more_than_one zero is one low = let yes : IsTrue is = one.1 (omega arith) in absurd (cc)
+more_than_one (suc zero) is one low = let yes : IsTrue is = one.1 (omega arith) in absurd (cc)
+more_than_one (suc (suc n)) is one low = omega arith

@@ -1,10 +1,13 @@
 -- Which command a request asks for.
-use Rattle.std.specs.Prelude.{◌≡◌, ℕ, ◌≤◌, ℤ, List, [], ◌∷◌, map, string_bytes, option_copied, unwrap_or}
-use Rattle.verse_top_args.specs.Words.{AreFiles, Command, Given, Gives, Inputs, IsFile, Options, assemble, build, check, exec}
-use Rattle.verse_top_args.specs.Words.{list, load, no_options, run, verify}
+use Rattle.std.specs.Prelude.{◌≡◌, ℕ, ◌≤◌, ℤ, List, [], ◌∷◌, map, string_bytes}
+use Rattle.std.specs.Prelude.{option_copied, unwrap_or}
+use Rattle.verse_top_args.specs.Words.{AreFiles, Command, Given, Gives, Inputs, IsFile, Options}
+use Rattle.verse_top_args.specs.Words.{assemble, build, check, exec, list, load, no_options, resume}
+use Rattle.verse_top_args.specs.Words.{run, save, verify}
 use Rattle.verse_top_args.specs.declared.commands.Request.{Request}
 use Rattle.verse_top_args.specs.declared.commands.Request.TheVariants as request
 use Rattle.verse_top_args.specs.declared.commands.Running.{Running}
+use Rattle.verse_top_args.specs.declared.commands.Resuming.{Resuming}
 
 -- the options of a run with these inputs
 abbrev pub options_with : Running → List ℤ → Options
@@ -21,14 +24,22 @@ pub record AsksForRun (r : Running) (c : Command) : Type 0 where
   pub lists : Inputs (option_copied r.inputs) ints
   pub is : c ≡ run (map string_bytes r.files.now) (options_with r ints)
 
--- there is one file
-pub record AsksForExec (r : Running) (c : Command) : Type 0 where
+-- there is one file, and the command is made of it and of the options
+pub record AsksForImage (make : List ℕ → Options → Command) (r : Running) (c : Command) :
+    Type 0 where
   pub within : IsWithin r
   pub file : List ℕ
   pub one : map string_bytes r.files.now ≡ file ∷ []
   pub ints : List ℤ
   pub lists : Inputs (option_copied r.inputs) ints
-  pub is : c ≡ exec file (options_with r ints)
+  pub is : c ≡ make file (options_with r ints)
+
+-- there is one file, and the horizon is within its limit
+pub record AsksForResume (r : Resuming) (c : Command) : Type 0 where
+  pub within : r.until ≤ 1000000000000
+  pub file : List ℕ
+  pub one : map string_bytes r.files.now ≡ file ∷ []
+  pub is : c ≡ resume file r.until r.heap
 
 -- there is one file, of which the command is made
 pub record AsksForOne (make : List ℕ → Command) (files : List (List ℕ)) (c : Command) : Type 0 where
@@ -52,6 +63,8 @@ pub record AsksForLoad (n : ℕ) (c : Command) : Type 0 where
 abbrev pub names_of : Request → List (List ℕ)
 names_of (request.Run r) = map string_bytes r.files.now
 names_of (request.Exec r) = map string_bytes r.files.now
+names_of (request.Save r) = map string_bytes r.files.now
+names_of (request.Resume r) = map string_bytes r.files.now
 names_of (request.Check files) = map string_bytes files.now
 names_of (request.Build files) = map string_bytes files.now
 names_of (request.List files) = map string_bytes files.now
@@ -63,6 +76,8 @@ names_of (request.Load n) = []
 abbrev pub AreNamed : Request → Type 0
 AreNamed (request.Run r) = AreFiles (map string_bytes r.files.now)
 AreNamed (request.Exec r) = AreFiles (map string_bytes r.files.now)
+AreNamed (request.Save r) = AreFiles (map string_bytes r.files.now)
+AreNamed (request.Resume r) = AreFiles (map string_bytes r.files.now)
 AreNamed (request.Check files) = AreFiles (map string_bytes files.now)
 AreNamed (request.Build files) = AreFiles (map string_bytes files.now)
 AreNamed (request.List files) = AreFiles (map string_bytes files.now)
@@ -72,7 +87,9 @@ AreNamed (request.Load n) = Unit {0}
 
 abbrev pub AsksFor : Request → Command → Type 0
 AsksFor (request.Run r) c = AsksForRun r c
-AsksFor (request.Exec r) c = AsksForExec r c
+AsksFor (request.Exec r) c = AsksForImage exec r c
+AsksFor (request.Save r) c = AsksForImage save r c
+AsksFor (request.Resume r) c = AsksForResume r c
 AsksFor (request.Check files) c = c ≡ check (map string_bytes files.now)
 AsksFor (request.Build files) c = c ≡ build (map string_bytes files.now)
 AsksFor (request.List files) c = AsksForOne list (map string_bytes files.now) c

@@ -19,6 +19,10 @@ pub data Command : Type 0 where
   run : (files : List (List ℕ)) → Options → Command
   -- runs the machine of the image in this file
   exec : (file : List ℕ) → Options → Command
+  -- runs the machine of the image in this file, and saves the run where it stops at its horizon
+  save : (file : List ℕ) → Options → Command
+  -- goes on with the run that is saved in this file, to this horizon; `heap` as in options
+  resume : (file : List ℕ) → (until : ℕ) → (heap : Bool) → Command
   -- tells whether the program in these files is accepted
   check : (files : List (List ℕ)) → Command
   -- writes the image of the code of the program in these files
@@ -36,6 +40,8 @@ pub data Command : Type 0 where
 abbrev pub files_of : Command → List (List ℕ)
 files_of (run files o) = files
 files_of (exec file o) = file ∷ []
+files_of (save file o) = file ∷ []
+files_of (resume file until heap) = file ∷ []
 files_of (check files) = files
 files_of (build files) = files
 files_of (list file) = file ∷ []
@@ -115,6 +121,14 @@ pub data Says : List (List ℕ) → Command → Type 0 where
   says_exec : {file : List ℕ} {words : List (List ℕ)} {g : Given} {ns : List ℤ} → IsFile file → Gives no_options words g →
       Inputs g.inputs ns →
       Says (codes "exec" ∷ file ∷ words) (exec file (options_of g ns))
+  -- the lines of the heap can't be asked for
+  says_save : {file : List ℕ} {words : List (List ℕ)} {g : Given} {ns : List ℤ} → IsFile file →
+      Gives no_options words g → g.heap ≡ false → Inputs g.inputs ns →
+      Says (codes "save" ∷ file ∷ words) (save file (options_of g ns))
+  -- steps and inputs are those of the run that was saved
+  says_resume : {file : List ℕ} {words : List (List ℕ)} {g : Given} → IsFile file →
+      Gives no_options words g → g.steps ≡ None → g.inputs ≡ None →
+      Says (codes "resume" ∷ file ∷ words) (resume file (unwrap_or g.until 1000000000000) g.heap)
   says_check : {files : List (List ℕ)} → AreFiles files → Says (codes "check" ∷ files) (check files)
   says_build : {files : List (List ℕ)} → AreFiles files → Says (codes "build" ∷ files) (build files)
   says_list : {file : List ℕ} → IsFile file → Says (codes "list" ∷ file ∷ []) (list file)

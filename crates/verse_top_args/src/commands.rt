@@ -1,5 +1,6 @@
 //! What a command line asks for.
 ghost use Rattle.std.specs.Prelude.{◌≡◌, ◌≤◌, ◌↔◌, ◌∷◌, ◌++◌, ℤ, codes, length, List, IfOk, IfSome};
+ghost use Rattle.std.specs.Prelude.{None};
 ghost use Rattle.std.specs.Prelude.{IsTrue, MatchOption, map, string_bytes, option_copied};
 ghost use Rattle.verse_top_args.specs.Words.{AreFiles, Command, EachIsFile, Inputs, IsFile};
 ghost use Rattle.verse_top_args.specs.Words.{SayOnce};
@@ -8,7 +9,7 @@ ghost use Rattle.verse_top_args.specs.Requests.{AreNamed, AsksFor, BeginsWithNoF
 ghost use Rattle.verse_top_args.specs.Requests.{NoOptions, names_of};
 
 use crate::numbers::{inputs, is, lists_inputs, number};
-use crate::options::all_options;
+use crate::options::{Settings, all_options};
 use std::alloc::Global;
 use verse_base::refusals::Memory;
 
@@ -30,6 +31,11 @@ pub enum Request<'a> {
     Run(Running<'a>),
     /// That the machine of an image is run: there is one file.
     Exec(Running<'a>),
+    /// That the machine of an image is run, and saved where it stops at its horizon: there is one
+    /// file, and the lines of the heap are not asked for.
+    Save(Running<'a>),
+    /// That a saved run goes on: there is one file.
+    Resume(Resuming<'a>),
     /// Whether the program in these files is accepted.
     Check(&'a [String]),
     /// The image of the code of the program in these files.
@@ -55,6 +61,14 @@ pub struct Running<'a> {
     pub heap: bool,
 }
 
+/// What goes on, by the name of its file, and to which horizon.
+#[derive(Clone, Copy)]
+pub struct Resuming<'a> {
+    pub files: &'a [String],
+    pub until: u64,
+    pub heap: bool,
+}
+
 impl<'a> Request<'a> {
     /// The names of the files: 1 to 16 where words ask for this, but for a load, which has none.
     pub fn files(&self) -> &'a [String]
@@ -62,6 +76,8 @@ impl<'a> Request<'a> {
     {
         match self {
             Request::Run(running) | Request::Exec(running) => running.files,
+            Request::Save(running) => running.files,
+            Request::Resume(resuming) => resuming.files,
             Request::Check(files) | Request::Build(files) => files,
             Request::List(files) | Request::Assemble(files) => files,
             Request::Verify(files) => files,
@@ -114,6 +130,10 @@ pub fn find_request(words: &[String]) -> Option<Request<'_>>
         run(files, options)
     } else if is(command, "exec") {
         exec(files, options)
+    } else if is(command, "save") {
+        save(files, options)
+    } else if is(command, "resume") {
+        resume(files, options)
     } else if is(command, "check") {
         check(files, options)
     } else if is(command, "build") {
@@ -134,6 +154,13 @@ fn is_program(files: &[String]) -> bool
     ensures { IsTrue result ↔ ((1 ≤ length files.now) × (length files.now ≤ 16)) }
 {
     !files.is_empty() && files.len() <= MOST_FILES
+}
+
+/// Whether there is no second file.
+fn is_single(files: &[String]) -> bool
+    ensures { IsTrue result ↔ (length files.now ≤ 1) }
+{
+    files.len() <= 1
 }
 
 /// Whether there is one file, and nothing behind it.
@@ -186,10 +213,64 @@ fn exec<'a>(files: &'a [String], options: &'a [String]) -> Option<Request<'a>>
         map string_bytes options.now) c × AsksFor r c) }
     ensures files { IfSome result (λ r. AreNamed r) }
 {
-    if files.len() > 1 {
+    if !is_single(files) {
         return None;
     }
     Some(Request::Exec(with_options(files, options)?))
+}
+
+/// The run of the image in the one file that is to be saved, as the options behind it ask.
+fn save<'a>(files: &'a [String], options: &'a [String]) -> Option<Request<'a>>
+    requires are { AreFiles (map string_bytes files.now) }
+    requires behind { BeginsWithNoFile (map string_bytes options.now) }
+    ensures asks { MatchOption result ((c : Command) →
+        ¬ (Says (codes "save" ∷ map string_bytes files.now ++ map string_bytes options.now) c))
+        (λ r. (c : Command) × Says (codes "save" ∷ map string_bytes files.now ++
+        map string_bytes options.now) c × AsksFor r c) }
+    ensures files { IfSome result (λ r. AreNamed r) }
+{
+    if !is_single(files) {
+        return None;
+    }
+    let running = with_options(files, options)?;
+    if running.heap {
+        return None;
+    }
+    Some(Request::Save(running))
+}
+
+/// The saved run in the one file that goes on, as the options behind it ask.
+fn resume<'a>(files: &'a [String], options: &'a [String]) -> Option<Request<'a>>
+    requires are { AreFiles (map string_bytes files.now) }
+    requires behind { BeginsWithNoFile (map string_bytes options.now) }
+    ensures asks { MatchOption result ((c : Command) →
+        ¬ (Says (codes "resume" ∷ map string_bytes files.now ++ map string_bytes options.now) c))
+        (λ r. (c : Command) × Says (codes "resume" ∷ map string_bytes files.now ++
+        map string_bytes options.now) c × AsksFor r c) }
+    ensures files { IfSome result (λ r. AreNamed r) }
+{
+    if !is_single(files) {
+        return None;
+    }
+    let given = all_options(options)?;
+    if !goes_on(given) {
+        return None;
+    }
+    let Settings { until, heap, .. } = given;
+    Some(Request::Resume(Resuming {
+        files,
+        until: until.unwrap_or(DEFAULT_UNTIL),
+        heap,
+    }))
+}
+
+/// Whether these options may be given for a run that goes on: its steps and its inputs are those
+/// of the run that was saved.
+fn goes_on(given: Settings<'_>) -> bool
+    ensures { IsTrue result ↔ ((given.entry.steps ≡ None) ×
+        (option_copied given.entry.inputs ≡ None)) }
+{
+    given.steps.is_none() && given.inputs.is_none()
 }
 
 /// These files with the options of a run.

@@ -1,5 +1,6 @@
 //! Tests of `run`, `check`, `build` and `load`, and of the faults of `exec`, `list` and `assemble`.
 
+use crate::calls::{answer, lines, words, written};
 use crate::telling::told;
 use std::alloc::Global;
 use std::test::Fail;
@@ -13,7 +14,7 @@ use verse_top::ending_text;
 use verse_value::runs::Ending;
 
 // the status, the words, the files as `NAME=TEXT` with bars between them, and what is written; `~`
-// is a line feed, `^` a tab and `!` the byte FF
+// is a line feed, `^` a tab and `$` the byte FF
 const ROWS: &str =
     "0`run a.verse`a.verse=Main():void =~    Print(\"hi\")~`0 hi~= done at 0 steps 1 live 0~
 0`run a.verse`a.verse=Main():void =~    Print(\"hi\")`0 hi~= done at 0 steps 1 live 0~
@@ -25,7 +26,7 @@ const ROWS: &str =
 0`run a.verse --in 1,-2 --heap --until 0 --steps 1`a.verse=Main():void =~    Print(\"hi\")~    Print(\"\")`0 hi~0 ~= done at 0 steps 1 live 0~
 3`run a.verse --steps 0`a.verse=Main():void =~    Print(\"hi\")~`= steps at 0 steps 0~
 6`run x`a.verse=Main():void =~    Print(\"hi\")~`= read x~
-1`run a.verse`a.verse=!`1:1 E001 not UTF-8~
+1`run a.verse`a.verse=$`1:1 E001 not UTF-8~
 1`run a.verse`a.verse=Main():void = @`1:15 E010 unexpected character~
 1`run a.verse`a.verse=Main():void = Print(\"a`1:21 E011 text not closed~
 1`run a.verse`a.verse=Main():void =~    Print(\"a{b\")`2:11 E011 text not closed~
@@ -144,27 +145,6 @@ const ROWS: &str =
 1`run a a`a=@`a:1:1 E010 unexpected character~
 2`run a b c d e f g h i j k l m n o p q`a=Main():void =~    Print(\"hi\")~`= words~";
 
-fn lines(alloc: Global, text: &str) -> Result<Vec<u8>, Fail> {
-    let mut bytes = Vec::new(alloc);
-    for byte in text.as_bytes() {
-        bytes.push(match *byte {
-            b'~' => b'\n',
-            b'^' => b'\t',
-            b'!' => 255,
-            other => other,
-        })?;
-    }
-    Ok(bytes)
-}
-
-fn words(alloc: Global, text: &str) -> Result<Vec<String>, Fail> {
-    let mut words = Vec::new(alloc);
-    for word in text.split_whitespace() {
-        words.push(String::from_str(alloc, word)?)?;
-    }
-    Ok(words)
-}
-
 fn files_of(alloc: Global, text: &str) -> Result<MemFiles, Fail> {
     let mut files = MemFiles::new(alloc);
     for file in text.split('|') {
@@ -174,58 +154,73 @@ fn files_of(alloc: Global, text: &str) -> Result<MemFiles, Fail> {
     Ok(files)
 }
 
+// whether the command of a row is answered as the row has it
+fn is_told_so(alloc: Global, row: &str) -> Result<bool, Fail> {
+    let (status, rest) = row.split_once('`').ok_or("a status")?;
+    let (command, rest) = rest.split_once('`').ok_or("words")?;
+    let (files, text) = rest.split_once('`').ok_or("files and a text")?;
+    let mut files = files_of(alloc, files)?;
+    let told = answer(alloc, command, &mut files)?;
+    let expected = written(alloc, status, text)?;
+    Ok(told.as_slice() == expected.as_slice())
+}
+
 #[test]
 fn rows_are_told(rt: HostRuntime) -> Result<(), Fail> {
     let alloc = rt.alloc();
     answered_once();
     let mut count = 0u64;
     for row in ROWS.lines() {
-        let (status, rest) = row.split_once('`').ok_or("a status")?;
-        let (command, rest) = rest.split_once('`').ok_or("words")?;
-        let (files, text) = rest.split_once('`').ok_or("files and a text")?;
-        let status = status.parse::<u8>().map_err(|_| "a number")?;
-        let mut files = files_of(alloc, files)?;
-        let mut out = MemSink::new(alloc, 1000, 1000)?;
-        let command = words(alloc, command)?;
-        let result = told(alloc, command.as_slice(), &mut files, &mut out);
-        assert_eq!(rt; result, status, "{row}");
-        assert_eq!(rt; out.taken(), lines(alloc, text)?.as_slice(), "{row}");
+        assert!(rt; is_told_so(alloc, row)?, "{row}");
         count = count.saturating_add(1);
     }
     assert_eq!(rt; count, 128);
     Ok(())
 }
 
+const HI: &str = "Main():void =~    Print(\"hi\")~";
+
 #[test]
-fn faults_and_great_files(rt: HostRuntime) -> Result<(), Fail> {
+fn a_file_fails_to_load(rt: HostRuntime) -> Result<(), Fail> {
     let alloc = rt.alloc();
-    let hi = "Main():void =~    Print(\"hi\")~";
-    let command = words(alloc, "run a.verse")?;
     let mut files = MemFiles::new(alloc);
-    files.add("a.verse", lines(alloc, hi)?.as_slice())?;
+    files.add("a.verse", lines(alloc, HI)?.as_slice())?;
     files.fail_at(1)?;
-    let mut out = MemSink::new(alloc, 1000, 1000)?;
-    assert_eq!(rt; told(alloc, command.as_slice(), &mut files, &mut out), 0);
-    assert_eq!(rt; told(alloc, command.as_slice(), &mut files, &mut out), 6);
+    let told = answer(alloc, "run a.verse", &mut files)?;
     assert_eq!(rt;
-        out.taken(),
-        b"0 hi\n= done at 0 steps 1 live 0\n= read a.verse\n".as_slice()
+        told.as_slice(),
+        b"0`0 hi\n= done at 0 steps 1 live 0\n".as_slice()
     );
+    let told = answer(alloc, "run a.verse", &mut files)?;
+    assert_eq!(rt; told.as_slice(), b"6`= read a.verse\n".as_slice());
+    Ok(())
+}
+
+#[test]
+fn a_write_fails(rt: HostRuntime) -> Result<(), Fail> {
+    let alloc = rt.alloc();
+    let mut files = MemFiles::new(alloc);
+    files.add("a.verse", lines(alloc, HI)?.as_slice())?;
+    let command = words(alloc, "run a.verse")?;
     let mut failing = MemSink::new(alloc, 1000, 1)?;
     failing.fail_at(2)?;
-    assert_eq!(rt;
-        told(alloc, command.as_slice(), &mut files, &mut failing),
-        7
-    );
-    assert_eq!(rt; failing.taken(), b"0 ".as_slice());
-    // a file that is too large decides before what stands behind it is loaded
+    let status = told(alloc, command.as_slice(), &mut files, &mut failing);
+    assert!(rt; status == 7 && failing.taken() == b"0 ".as_slice());
+    Ok(())
+}
+
+// a file that is too large decides before what stands behind it is loaded
+#[test]
+fn a_great_file_decides(rt: HostRuntime) -> Result<(), Fail> {
+    let alloc = rt.alloc();
     let mut great = MemFiles::new(alloc);
     great.add("a", b"@".as_slice())?;
     great.add("b", vec![in alloc; b' '; 1048577]?.as_slice())?;
-    let command = words(alloc, "check a b x")?;
-    let mut out = MemSink::new(alloc, 1000, 1000)?;
-    assert_eq!(rt; told(alloc, command.as_slice(), &mut great, &mut out), 1);
-    assert_eq!(rt; out.taken(), b"b:1:1 E002 file too large\n".as_slice());
+    let told = answer(alloc, "check a b x", &mut great)?;
+    assert_eq!(rt;
+        told.as_slice(),
+        b"1`b:1:1 E002 file too large\n".as_slice()
+    );
     Ok(())
 }
 
@@ -251,44 +246,35 @@ fn great_programs_are_told(rt: HostRuntime) -> Result<(), Fail> {
     let mut files = MemFiles::new(alloc);
     files.add("a", many_instances(alloc, 1024)?.as_slice())?;
     files.add("b", many_instances(alloc, 1000)?.as_slice())?;
-    let mut out = MemSink::new(alloc, 1000, 1000)?;
-    let command = words(alloc, "check a")?;
-    assert_eq!(rt; told(alloc, command.as_slice(), &mut files, &mut out), 1);
-    let command = words(alloc, "check b")?;
-    assert_eq!(rt; told(alloc, command.as_slice(), &mut files, &mut out), 0);
+    let told = answer(alloc, "check a", &mut files)?;
     assert_eq!(rt;
-        out.taken(),
-        b"1:1 E098 program too large\n= ok\n".as_slice()
+        told.as_slice(),
+        b"1`1:1 E098 program too large\n".as_slice()
     );
+    let told = answer(alloc, "check b", &mut files)?;
+    assert_eq!(rt; told.as_slice(), b"0`= ok\n".as_slice());
     Ok(())
 }
+
+const BUILT: &str =
+    "a=Main(X:[]int):void =~    for (N : X, N > 1) { Tell(N) }~|b=Tell(N:int):void =~    var M:int = N~    Print(\"{M}\")~";
 
 #[test]
 fn what_is_built_runs(rt: HostRuntime) -> Result<(), Fail> {
     let alloc = rt.alloc();
     exec_runs_what_is_built();
-    let mut files = files_of(
-        alloc,
-        "a=Main(X:[]int):void =~    for (N : X, N > 1) { Tell(N) }~|b=Tell(N:int):void =~    var M:int = N~    Print(\"{M}\")~",
-    )?;
-    let mut image = MemSink::new(alloc, 100000, 1000)?;
-    let command = words(alloc, "build a b")?;
-    assert_eq!(rt; told(alloc, command.as_slice(), &mut files, &mut image), 0);
-    files.add("image", image.taken())?;
-    let mut ran = MemSink::new(alloc, 1000, 1000)?;
-    let command = words(alloc, "run a b --in 1,2,3 --heap")?;
-    assert_eq!(rt; told(alloc, command.as_slice(), &mut files, &mut ran), 0);
-    let mut executed = MemSink::new(alloc, 1000, 1000)?;
-    let command = words(alloc, "exec image --in 1,2,3 --heap")?;
-    assert_eq!(rt;
-        told(alloc, command.as_slice(), &mut files, &mut executed),
-        0
-    );
-    assert_eq!(rt; executed.taken(), ran.taken());
-    assert_eq!(rt;
-        ran.taken(),
-        b"0 2\n0 3\n@0 var 2\n@1 var 3\n= done at 0 steps 6 live 0\n".as_slice()
-    );
+    let mut files = files_of(alloc, BUILT)?;
+    let built = answer(alloc, "build a b", &mut files)?;
+    let image = built
+        .as_slice()
+        .strip_prefix(b"0`".as_slice())
+        .ok_or("an image")?;
+    files.add("image", image)?;
+    let ran = answer(alloc, "run a b --in 1,2,3 --heap", &mut files)?;
+    let executed = answer(alloc, "exec image --in 1,2,3 --heap", &mut files)?;
+    assert_eq!(rt; executed.as_slice(), ran.as_slice());
+    let text = "0 2~0 3~@0 var 2~@1 var 3~= done at 0 steps 6 live 0~";
+    assert_eq!(rt; ran.as_slice(), written(alloc, "0", text)?.as_slice());
     Ok(())
 }
 

@@ -6,7 +6,7 @@ use Rattle.verse_top_exec.specs.declared.stops.Stop.TheVariants as stop
 use Rattle.verse_top_exec.specs.Leaving.{Leaves}
 use Rattle.verse_top_exec.proofs.Leaving.{at_error, leaves_nothing}
 use Rattle.verse_top.specs.Answers.{Answers, Begins, nothing}
-use Rattle.verse_top.proofs.ExecuteLaws.{leaves_assembled, leaves_executed, leaves_listed}
+use Rattle.verse_top.proofs.ExecuteLaws.{leaves_assembled, leaves_executed, leaves_listed, leaves_resumed, leaves_saved}
 use Rattle.verse_top.proofs.executing.over_bytes.Goals as goal
 
 pub returns-in-Exec-clause-leaves : goal.returns-in-Exec-clause-leaves
@@ -15,6 +15,20 @@ returns-in-Exec-clause-leaves g c held d name asks named read =
     leaves_executed held (g.S.Sink.faults c.args.out.now) (g.S.Sink.faults c.run_image.new.out) (g.S.Sink.taken c.args.out.now)
     (g.S.Sink.taken c.run_image.new.out) c.run_image.result name c.args.bytes.now read c.in-Exec.running d a named
     (c.run_image.ensures.leaves a.ints a.lists)
+
+pub returns-in-Save-clause-leaves : goal.returns-in-Save-clause-leaves
+returns-in-Save-clause-leaves g c held d name asks named read =
+    let a = subst (λ (q : Request). AsksFor q d) c.in-Save.is asks in
+    leaves_saved held (g.S.Sink.faults c.args.out.now) (g.S.Sink.faults c.save_run.new.out) (g.S.Sink.taken c.args.out.now)
+    (g.S.Sink.taken c.save_run.new.out) c.save_run.result name c.args.bytes.now read c.in-Save.running d a named
+    (c.save_run.ensures.leaves a.ints a.lists)
+
+pub returns-in-Resume-clause-leaves : goal.returns-in-Resume-clause-leaves
+returns-in-Resume-clause-leaves g c held d name asks named read =
+    let a = subst (λ (q : Request). AsksFor q d) c.in-Resume.is asks in
+    leaves_resumed held (g.S.Sink.faults c.args.out.now) (g.S.Sink.faults c.resume_file.new.out) (g.S.Sink.taken c.args.out.now)
+    (g.S.Sink.taken c.resume_file.new.out) c.resume_file.result name c.args.bytes.now read c.in-Resume.resuming d a named
+    c.resume_file.ensures.leaves
 
 pub returns-in_err-answer-in-List-clause-leaves : goal.returns-in_err-answer-in-List-clause-leaves
 returns-in_err-answer-in-List-clause-leaves g c held d name asks named read =
