@@ -1,5 +1,6 @@
 -- What becomes of each wait: it is live, or one turn has woken it, or it was cancelled.
-use Rattle.std.specs.Prelude.{◌≡◌, ℕ, zero, suc, ◌+◌, ◌-◌, ℤ, List, [], Option, Some, None, Bool, false, cond, nat_lt}
+use Rattle.std.specs.Prelude.{◌≡◌, ℕ, zero, suc, ◌+◌, ◌-◌, ℤ, List, [], Option, Some, None}
+use Rattle.std.specs.Prelude.{Bool, false, cond, nat_lt}
 use Rattle.verse_meaning_state.specs.State.{State}
 use Rattle.verse_meaning_state.specs.Turns.{Stage, going, closed, broken, amiss}
 use Rattle.verse_meaning_state.specs.Waits.{Wait, Due, eqn, least}
@@ -40,15 +41,19 @@ woken_by until i s fs = cond (is_number i (next_woken until s fs)) 1 0
 
 -- after the turn it is neither, and the turn has not woken it
 abbrev pub cancelled_by : Program → (until i : ℕ) → State → Forest → ℕ
-cancelled_by p until i s fs = cond (is_number i (next_woken until s fs)) 0 (chances i s (forest_leaves fs) - chances_in i (turn_taken p until s fs))
+cancelled_by p until i s fs =
+    cond (is_number i (next_woken until s fs)) 0
+    (chances i s (forest_leaves fs) - chances_in i (turn_taken p until s fs))
 
 -- in so many turns from a stage on
 abbrev pub woken_in : Program → (until i k : ℕ) → Stage Forest → ℕ
-woken_in p until i (suc k) (going s fs) = woken_by until i s fs + woken_in p until i k (turn_taken p until s fs)
+woken_in p until i (suc k) (going s fs) =
+    woken_by until i s fs + woken_in p until i k (turn_taken p until s fs)
 woken_in p until i k st = 0
 
 abbrev pub cancelled_in : Program → (until i k : ℕ) → Stage Forest → ℕ
-cancelled_in p until i (suc k) (going s fs) = cancelled_by p until i s fs + cancelled_in p until i k (turn_taken p until s fs)
+cancelled_in p until i (suc k) (going s fs) =
+    cancelled_by p until i s fs + cancelled_in p until i k (turn_taken p until s fs)
 cancelled_in p until i k st = 0
 
 -- before Main's start every number is to be drawn
@@ -64,10 +69,12 @@ Stands (closed e s fs) = Unit {0}
 Stands (broken e s) = ⊥
 Stands (amiss s) = ⊥
 
--- After k turns a number is exactly one of these: that of a live wait, still to be drawn, woken by exactly one of the turns, or cancelled, by
--- one of them or at the start.
+-- After k turns a number is exactly one of these: that of a live wait, still to be drawn, woken by
+-- exactly one of the turns, or cancelled, by one of them or at the start.
 abbrev pub EachHasOneFate : Type 0
-EachHasOneFate = (p : Program) (ns : List ℤ) (steps until k i : ℕ) → Stands (after p ns steps until k) →
-    count i (stage_leaves (after p ns steps until k)) + to_come i (stage_state (after p ns steps until k))
+EachHasOneFate = (p : Program) (ns : List ℤ) (steps until k i : ℕ) →
+    Stands (after p ns steps until k) →
+    count i (stage_leaves (after p ns steps until k))
+    + to_come i (stage_state (after p ns steps until k))
     + woken_in p until i k (started p ns steps)
     + (cancelled_at_start i (started p ns steps) + cancelled_in p until i k (started p ns steps)) ≡ 1
