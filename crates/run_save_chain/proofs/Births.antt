@@ -13,8 +13,8 @@ use Rattle.run_save_fits.proofs.Holding.{role_some}
 use Rattle.run_save_kept.specs.Orders.{NoneBelow}
 use Rattle.run_save_births.specs.Births.{births, births_of, Rising, KeepsBirth, NoChild, IsBorn}
 use Rattle.run_save_groups.specs.Arms.{ArmsBelow, RestBelow, TaskIs, TasksAre, TreesAre}
-use Rattle.run_save_roots.specs.Roots.{Sorts}
-use Rattle.run_save_alike.proofs.Pairs.{EachPair}
+use Rattle.run_save_orders.specs.Roots.{Sorts}
+use Rattle.run_save_same.proofs.Pairs.{EachPair}
 use Rattle.run_save_chain.proofs.Numbered.{one_path, rises_at, rose_at, above_as, above_was, below_as, below_was}
 use Rattle.run_save_chain.proofs.Meeting as m
 use Rattle.run_save_chain.proofs.Meeting.{pair_each, first_is, rest_is, none_some, group_parts, rest_no}

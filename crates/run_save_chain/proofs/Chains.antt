@@ -29,10 +29,10 @@ use Rattle.run_save_kept.specs.Orders.{Orderly}
 use Rattle.run_save_kept.proofs.Sums.{all_as, reordered_each}
 use Rattle.run_save_births.specs.Births.{births_of, NoChild, IsBorn, AreBorn}
 use Rattle.run_save_groups.specs.Arms.{TaskIs}
-use Rattle.run_save_alike.specs.Alike.{TaskAlike, TreesAlike, TreesAreSpelled}
-use Rattle.run_save_alike.proofs.Pairs.{EachPair}
-use Rattle.run_save_alike.proofs.Spelled.{again}
-use Rattle.run_save_roots.specs.Roots.{SameButRoots}
+use Rattle.run_save_same.specs.Alike.{TaskAlike, TreesAlike, TreesAreSpelled}
+use Rattle.run_save_same.proofs.Pairs.{EachPair}
+use Rattle.run_save_same.proofs.Spelled.{again}
+use Rattle.run_save_orders.specs.Roots.{SameButRoots}
 use Rattle.run_save_same.specs.Laws.{Held, SpelledTreesAreTheSame, StoppedRunIsHeld, KeptRunGoesOn, HeldGoesOn, HeldRunGoesOn}
 use Rattle.run_save_chain.specs.Chains.{StopsAgain, Chain, first_save, next_save}
 use Rattle.run_save_chain.specs.Chains.{HeldSpelled, ChainIsHeld, ChainKeepsSteps, ChainIsTheRun}

@@ -14,8 +14,8 @@ use Rattle.run_save_shots.specs.Lists.{Each}
 use Rattle.run_save_fits.specs.Held.{IsSome, RoleIs, WhoIs, tasks_sum, trees_sum, one}
 use Rattle.run_save_kept.specs.Orders.{is_named, runs_in, arms_of, in_group, awaits, skips}
 use Rattle.run_save_kept.proofs.Paths.{two_ways, same_is, no_run}
-use Rattle.run_save_roots.specs.Roots.{Sorts}
-use Rattle.run_save_alike.proofs.Pairs.{EachPair}
+use Rattle.run_save_orders.specs.Roots.{Sorts}
+use Rattle.run_save_same.proofs.Pairs.{EachPair}
 use Rattle.run_save_chain.proofs.Numbered.{stay_apart, one_path}
 
 -- ---- lists

@@ -6,7 +6,7 @@ use Rattle.verse_code_machine_saved.proofs.Numbers.{IsApart, same_as}
 use Rattle.run_save_fits.specs.Held.{IsSome}
 use Rattle.run_save_kept.specs.Orders.{Before, StandsBefore, NoneBelow, last}
 use Rattle.run_save_kept.proofs.Paths.{same_is, is_same}
-use Rattle.run_save_roots.specs.Roots.{Sorts}
+use Rattle.run_save_orders.specs.Roots.{Sorts}
 
 -- a path by its last number
 pub path_ends : (p : List ℕ) → IsSome p → (q : List ℕ) × (n : ℕ) × (p ≡ q ++ n ∷ [])

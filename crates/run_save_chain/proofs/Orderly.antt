@@ -14,8 +14,8 @@ use Rattle.run_save_fits.specs.Held.{IsSome, tasks_sum, trees_sum, one}
 use Rattle.run_save_fits.proofs.Holding.{role_some}
 use Rattle.run_save_kept.specs.Orders.{StandsBefore, NoneBelow, Sits, Lined, last, is_named, in_group, awaits, skips, weight, Orderly}
 use Rattle.run_save_kept.proofs.Paths.{one_most, end_is, ltn_is, ltn_no, two_ways}
-use Rattle.run_save_roots.specs.Roots.{Sorts}
-use Rattle.run_save_alike.proofs.Pairs.{EachPair}
+use Rattle.run_save_orders.specs.Roots.{Sorts}
+use Rattle.run_save_same.proofs.Pairs.{EachPair}
 use Rattle.run_save_chain.proofs.Numbered.{path_ends, stay_apart, one_path, most_at, least_at, stands_as, stood_as, below_as, below_was}
 use Rattle.run_save_chain.proofs.Numbered.{last_as, last_was}
 use Rattle.run_save_chain.proofs.Meeting as m

@@ -24,8 +24,8 @@ use Rattle.run_save_fits.specs.Held.{FrameStill, LowerStill, WhoIs, RestFine, Ta
 use Rattle.run_save_fits.specs.Held.{is_wait, is_task_of, is_main}
 use Rattle.run_save_kept.specs.Growing.{filled}
 use Rattle.run_save_kept.proofs.Sums.{reordered_sum}
-use Rattle.run_save_alike.specs.Alike.{FrameAlike, FramesAlike, PartsAlike, RestAlike, TaskAlike, TasksAlike, TreesAlike}
-use Rattle.run_save_alike.proofs.Pairs.{EachPair}
+use Rattle.run_save_same.specs.Alike.{FrameAlike, FramesAlike, PartsAlike, RestAlike, TaskAlike, TasksAlike, TreesAlike}
+use Rattle.run_save_same.proofs.Pairs.{EachPair}
 use Rattle.run_save_chain.proofs.Meeting.{trees_same}
 
 -- ---- what was printed

@@ -6,13 +6,12 @@ ghost use Rattle.run_save_chain.specs.Chains.{HeldSpelled, ChainIsHeld, ChainKee
 ghost use Rattle.run_save_chain.specs.Chains.{ChainIsTheRun, ChainFits, FittingIsApart};
 ghost use Rattle.run_save_chain.specs.Chains.{ChainCanBeSaved};
 
-use run_save_alike::trees_are_spelled;
 use run_save_fits::savable_goes_on;
 use run_save_kept::{resumed_states_fit, saved_states_fit};
 use run_save_resumes::fits_is_resumable;
 use run_save_same::{
     held_goes_on, held_run_goes_on, kept_run_goes_on, spelled_trees_are_the_same,
-    stopped_run_is_held,
+    stopped_run_is_held, trees_are_spelled,
 };
 use verse_code_machine::{run_belongs_from, runs_end_from, stays_over_from};
 

@@ -1,2 +1,3 @@
+pub mod Lightness
 mod Putting
 mod Standing

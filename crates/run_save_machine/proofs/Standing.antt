@@ -20,9 +20,9 @@ use Rattle.run_save_shots.specs.Spelling.{state, trees}
 use Rattle.run_save_numbers.specs.declared.tables.TaskNumbers.{TaskNumbers}
 use Rattle.run_save_numbers.specs.Numbers.{numbers_from}
 use Rattle.run_save_numbers.specs.View.{numbers_of}
-use Rattle.run_save_runner.specs.declared.running.Clock.{Clock}
-use Rattle.run_save_runner.specs.declared.running.Printed.{Printed}
-use Rattle.run_save_runner.specs.Filled.{standing}
+use Rattle.run_save_machine.specs.declared.running.Clock.{Clock}
+use Rattle.run_save_machine.specs.declared.running.Printed.{Printed}
+use Rattle.run_save_machine.specs.Filled.{standing}
 use Rattle.run_save_trees.specs.declared.tables.Restored.{Restored}
 use Rattle.run_save_trees.specs.Laws.{StandsFor}
 use Rattle.run_save_machine.specs.Putting.{AreOf}

@@ -7,7 +7,7 @@ use Rattle.vm_running.specs.Views.{View, Aside, state_of}
 use Rattle.vm_scheduler.specs.declared.tasks.Tasks.{Tasks}
 use Rattle.vm_scheduler.specs.declared.tasks.Given.{Given}
 use Rattle.vm_scheduler.specs.Going.{Resting}
-use Rattle.run_save_waits.specs.Started.{Starts}
+use Rattle.run_save_slots.specs.Started.{Starts}
 use Rattle.run_save_trees.specs.declared.tables.Restored.{Restored}
 
 module _ {W : Type 0} (pending : W → List Pending) where

@@ -2,11 +2,11 @@
 
 ghost use Rattle.std.specs.Prelude.{◌≡◌, eqb, [], map, IfOk};
 ghost use Rattle.std.specs.List.{IsDistinct};
-ghost use Rattle.run_save_waits.specs.Started.{number_of};
+ghost use Rattle.run_save_slots.specs.Started.{number_of};
 ghost use Rattle.run_save_machine.specs.Resting.{Holds};
 
+use run_save_slots::waking::add_all;
 use run_save_trees::tables::Restored;
-use run_save_waits::waking::add_all;
 use sim_clock::waits::Waits;
 use std::alloc::Global;
 use verse_base::refusals::Memory;

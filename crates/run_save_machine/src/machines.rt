@@ -11,9 +11,9 @@ ghost use Rattle.run_save_machine.specs.Resting.{RestsIn};
 
 use crate::beside::with_waits;
 use crate::results::results_of;
+use crate::running::{Clock, Printed, at_rest};
 use crate::tasks::put_all;
 use run_save_numbers::numbers::numbers;
-use run_save_runner::running::{Clock, Printed, at_rest};
 use run_save_shots::shots::Shot;
 use sim_clock::waits::Waits;
 use std::alloc::Global;

@@ -1,5 +1,9 @@
+pub mod Rooting
+pub mod Meeting
 pub mod Ends
 pub mod Acts
 pub mod Orders
 pub mod Waits
 pub mod Runs
+pub mod Bare
+pub mod Ordered

@@ -1,1 +1,13 @@
+pub mod Once
+pub mod Counts
+pub mod Names
+pub mod Tests
+pub mod Whole
+pub mod Files
+pub mod Traces
+pub mod Numbers
+pub mod Values
+pub mod Stores
+pub mod Tasks
+pub mod Found
 pub mod Restores

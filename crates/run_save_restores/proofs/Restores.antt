@@ -10,8 +10,8 @@ use Rattle.run_save_format.specs.Faults.{OneRun, SavedIsRead}
 use Rattle.run_save_format.specs.Format.{Saved}
 use Rattle.run_save_format.specs.Reading.{Found}
 use Rattle.run_save_format.specs.Whole.{broken, file_at, run_at, whole}
-use Rattle.run_save_found.specs.Found.{SavedIsFound}
-use Rattle.run_save_unbroken.specs.Unbroken.{BehindIsFound, FitsIsUnbroken, TraceStandsBehind}
+use Rattle.run_save_restores.specs.Found.{SavedIsFound}
+use Rattle.run_save_restores.specs.Unbroken.{BehindIsFound, FitsIsUnbroken, TraceStandsBehind}
 use Rattle.run_save_restores.specs.Restores.{SavedBehindTrace}
 
 module _ (found : SavedIsFound) (unbroken : FitsIsUnbroken) where

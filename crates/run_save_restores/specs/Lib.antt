@@ -1,1 +1,3 @@
+pub mod Unbroken
+pub mod Found
 pub mod Restores

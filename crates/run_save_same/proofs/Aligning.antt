@@ -20,7 +20,7 @@ use Rattle.run_save_shots.specs.Spelling as sp
 use Rattle.run_save_fits.proofs.KeptTasks.{map_length}
 use Rattle.run_save_kept.specs.Orders.{last}
 use Rattle.run_save_births.specs.Births.{births, Rising}
-use Rattle.run_save_roots.specs.Roots.{AreApart}
+use Rattle.run_save_orders.specs.Roots.{AreApart}
 use Rattle.run_save_same.proofs.Sorting.{Aligned, IsAbove}
 use Rattle.run_save_same.proofs.Spelt.{kept_of, number_of, number_is, number_kept, births_made, Spelt}
 use Rattle.run_save_same.proofs.Depths.{Tested, since_of}

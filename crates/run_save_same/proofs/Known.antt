@@ -25,7 +25,7 @@ use Rattle.run_save_kept.proofs.Siblings.{Older, Named, HasOwn}
 use Rattle.run_save_kept.proofs.Arms.{placed}
 use Rattle.run_save_births.specs.Births.{births_of, NoChild, IsBorn}
 use Rattle.run_save_groups.specs.Arms.{TaskIs}
-use Rattle.run_save_alike.proofs.Spelled.{unfound}
+use Rattle.run_save_same.proofs.Spelled.{unfound}
 use Rattle.run_save_same.proofs.Depths.{lowest, frames_of, since_of, child_tested, Tested}
 use Rattle.run_save_same.proofs.Aligning.{is_its, Falls, Differ}
 use Rattle.run_save_same.proofs.Table.{is_own, Apart}

@@ -1,3 +1,8 @@
+mod Again
+pub mod Framing
+pub mod Pairs
+pub mod Spelled
+pub mod Spelling
 pub mod Sorting
 pub mod Spelt
 pub mod Depths

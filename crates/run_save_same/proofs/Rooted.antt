@@ -10,9 +10,9 @@ use Rattle.verse_code_machine_parents.specs.Parents.{AllStill, TreesRooted}
 use Rattle.run_save_shots.specs.Lists.{Each}
 use Rattle.run_save_kept.specs.Orders.{last}
 use Rattle.run_save_births.specs.Births.{births}
-use Rattle.run_save_alike.specs.Alike.{FrameAlike, FramesAlike}
-use Rattle.run_save_alike.proofs.Framing.{Rested, all_rested}
-use Rattle.run_save_alike.proofs.Pairs.{EachPair}
+use Rattle.run_save_same.specs.Alike.{FrameAlike, FramesAlike}
+use Rattle.run_save_same.proofs.Framing.{Rested, all_rested}
+use Rattle.run_save_same.proofs.Pairs.{EachPair}
 use Rattle.run_save_same.proofs.Depths.{lowest}
 
 -- ---- a suspended task

@@ -35,14 +35,14 @@ use Rattle.run_save_kept.proofs.Grown.{trees_again}
 use Rattle.run_save_births.specs.Births.{births, births_of, NoChild, IsBorn}
 use Rattle.run_save_groups.specs.Arms as arms
 use Rattle.run_save_groups.specs.Arms.{TaskIs}
-use Rattle.run_save_alike.specs.Alike.{FrameAlike, FramesAlike, RestAlike}
-use Rattle.run_save_alike.proofs.Pairs.{EachPair, grown_pair}
-use Rattle.run_save_alike.proofs.Spelled.{Fact, At, tests, spelled, again, names, unique, apart, given, pairs, rooted}
-use Rattle.run_save_alike.proofs.Spelled.{rooted_trees, still}
+use Rattle.run_save_same.specs.Alike.{FrameAlike, FramesAlike, RestAlike}
+use Rattle.run_save_same.proofs.Pairs.{EachPair, grown_pair}
+use Rattle.run_save_same.proofs.Spelled.{Fact, At, tests, spelled, again, names, unique, apart, given, pairs, rooted}
+use Rattle.run_save_same.proofs.Spelled.{rooted_trees, still}
 use Rattle.run_save_fits.proofs.KeptTasks.{no_place}
 use Rattle.run_save_fits.specs.Held.{RoleIs}
 use Rattle.run_save_kept.specs.Orders.{last}
-use Rattle.run_save_roots.specs.Roots.{AreApart, SameButRoots, TableSorts}
+use Rattle.run_save_orders.specs.Roots.{AreApart, SameButRoots, TableSorts}
 use Rattle.verse_code_machine.specs.Tasks.{Role, root, part, Who}
 use Rattle.verse_code_machine_parents.specs.Parents.{TreesRooted}
 use Rattle.verse_code_machine_saved.specs.Numbers.{NoneBelow}

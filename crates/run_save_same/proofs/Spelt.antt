@@ -15,8 +15,8 @@ use Rattle.run_save_moves.specs.Fine.{Scene}
 use Rattle.run_save_fits.specs.Held.{TaskFine}
 use Rattle.run_save_fits.proofs.KeptTasks.{map_length, frames_number}
 use Rattle.run_save_births.specs.Births.{births, births_of}
-use Rattle.run_save_alike.proofs.Framing.{all_rested, Made, made}
-use Rattle.run_save_alike.proofs.Spelled.{whos_end}
+use Rattle.run_save_same.proofs.Framing.{all_rested, Made, made}
+use Rattle.run_save_same.proofs.Spelled.{whos_end}
 
 head_is : {A : Type 0} {x y : A} {xs ys : List A} → x ∷ xs ≡ y ∷ ys → x ≡ y
 head_is e = cc

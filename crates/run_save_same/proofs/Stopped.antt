@@ -19,9 +19,9 @@ use Rattle.run_save_kept.specs.Growing.{filled}
 use Rattle.run_save_births.specs.Laws.{StageIsBorn, RunIsBorn, BirthsGoOn}
 use Rattle.run_save_groups.specs.Laws.{StageIs, RunKeepsArms, ArmsGoOn}
 use Rattle.run_save_orders.specs.Laws.{RunReordered}
-use Rattle.run_save_ordered.specs.Laws.{KeptIsSameButOrder}
-use Rattle.run_save_ordered.proofs.Bare.{same_trees}
-use Rattle.run_save_roots.specs.Roots.{RunSorted}
+use Rattle.run_save_orders.specs.Ordering.{KeptIsSameButOrder}
+use Rattle.run_save_orders.proofs.Bare.{same_trees}
+use Rattle.run_save_orders.specs.Roots.{RunSorted}
 use Rattle.verse_code_machine_parents.specs.Parents.{AllStill, TreesRooted}
 use Rattle.verse_code_machine_saved.specs.Pairing.{TablePairs}
 use Rattle.run_save_same.specs.Laws.{SpelledTreesAreTheSame, SpelledRunIsTheSame, KeptRunGoesOn, HeldGoesOn}

@@ -20,7 +20,7 @@ use Rattle.run_save_kept.specs.Orders.{Orderly}
 use Rattle.run_save_kept.specs.Growing.{filled}
 use Rattle.run_save_births.specs.Births.{AreBorn}
 use Rattle.run_save_groups.specs.Arms.{TreesAre}
-use Rattle.run_save_roots.specs.Roots.{SameButRoots}
+use Rattle.run_save_orders.specs.Roots.{SameButRoots}
 
 -- what holds of a state between two turns
 pub record Held (c : Code) (steps until : ℕ) (s : State) (tss : Forest) : Type 0 where

@@ -1,1 +1,4 @@
+pub mod Again
+pub mod Alike
+pub mod Runs
 pub mod Laws

@@ -1,2 +1,5 @@
+pub mod Spells
+mod Steps
+pub mod Orders
 mod Tops
 mod Made

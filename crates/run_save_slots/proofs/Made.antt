@@ -9,7 +9,7 @@ use Rattle.run_save_shots.specs.Kept.{KeptFrame}
 use Rattle.run_save_shots.specs.Fitting.{stand_at, top_place}
 use Rattle.run_save_shots.specs.Spelling.{gathered}
 use Rattle.run_save_numbers.specs.Numbers.{Numbers}
-use Rattle.run_save_threads.specs.Stacking.{stacked}
+use Rattle.run_save_slots.specs.Stacking.{stacked}
 use Rattle.run_save_slots.specs.Slots.{rest_of_group, parts, IsAtGroup, is_at_group}
 
 pub made_at_group : (c : Code) (frames shown : List KeptFrame) (arms : List (Option Val)) (n : Numbers) (fs : List Framed) (g : Group)

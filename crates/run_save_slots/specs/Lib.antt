@@ -1,1 +1,3 @@
+pub mod Stacking
+pub mod Started
 pub mod Slots

@@ -19,7 +19,7 @@ use Rattle.run_save_shots.specs.View.{cause_of}
 use Rattle.run_save_shots.specs.Fitting.{stand_at, top_place, arms_of}
 use Rattle.run_save_shots.specs.Spelling.{gathered}
 use Rattle.run_save_numbers.specs.Numbers.{Numbers}
-use Rattle.run_save_threads.specs.Stacking.{IsNear, stacked}
+use Rattle.run_save_slots.specs.Stacking.{IsNear, stacked}
 
 abbrev pub root_of : Option ℕ → Option ℕ → Root
 root_of (Some p) root = APart

@@ -8,9 +8,9 @@ ghost use Rattle.run_save_slots.specs.Slots.{root_of, Suits, FramesSuit, IsMade,
 ghost use Rattle.run_save_slots.specs.Slots.{IsAtGroup};
 
 use crate::groups::group_of;
+use crate::threads::rebuild;
 use run_save_numbers::tables::TaskNumbers;
 use run_save_shots::shots::{FrameShot, RestShot, TaskShot};
-use run_save_threads::threads::rebuild;
 use sim_clock::waits::WaitKind;
 use std::alloc::Global;
 use verse_base::refusals::Memory;

@@ -25,7 +25,7 @@ use Rattle.run_save_shots.specs.Fitting.{task_stand}
 use Rattle.run_save_shots.specs.Spelling.{gathered, parts_from, rest, state}
 use Rattle.run_save_spelled.specs.Growing.{In, first_in, later_in}
 use Rattle.run_save_spelled.proofs.Forests.{in_left, in_right, in_parts, split}
-use Rattle.run_save_waits.specs.Started.{number_of, started, AllBelow, Rises, Starts}
+use Rattle.run_save_slots.specs.Started.{number_of, started, AllBelow, Rises, Starts}
 use Rattle.run_save_trees.specs.Restoring.{kind_of, waits_of}
 use Rattle.run_save_trees.proofs.Lists.{each_laws, laws_each}
 

@@ -11,7 +11,7 @@ use Rattle.vm_scheduler.specs.Standing.{Tree, Fine, AllFine}
 use Rattle.run_save_shots.specs.Lists.{Each, AreDistinct, count}
 use Rattle.run_save_shots.specs.Kept.{KeptTask, Kept}
 use Rattle.run_save_shots.specs.Fitting.{is_root, waits_in, Fits}
-use Rattle.run_save_waits.specs.Started.{number_of}
+use Rattle.run_save_slots.specs.Started.{number_of}
 use Rattle.run_save_trees.specs.declared.tables.Restored.{Restored}
 use Rattle.run_save_trees.specs.Restoring.{IsEmpty, AllPut, none_put, one_put}
 use Rattle.run_save_trees.specs.Laws.{StandsFor}

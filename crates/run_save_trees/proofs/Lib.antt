@@ -1,3 +1,6 @@
+pub mod Firsts
+pub mod Arms
+pub mod Puts
 mod Lists
 mod Groups
 mod Threads

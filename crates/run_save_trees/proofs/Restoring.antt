@@ -30,13 +30,13 @@ use Rattle.run_save_shots.specs.Spelling.{rest, who, tasks_from, planted, grown,
 use Rattle.run_save_spelled.specs.Growing.{In, first_in, later_in, Sprouts}
 use Rattle.run_save_spelled.proofs.Growing.{Holds, none_held, part_held, one_held, planted_root, planted_part}
 use Rattle.run_save_spelled.proofs.Sprouting.{Spelled, spelled, some, who_number, all_sprout}
-use Rattle.run_save_puts.specs.Puts.{IsKept, Unlike}
-use Rattle.run_save_puts.proofs.Puts.{added_each, unlike_more, root_put, part_put}
+use Rattle.run_save_trees.specs.Puts.{IsKept, Unlike}
+use Rattle.run_save_trees.proofs.Puts.{added_each, unlike_more, root_put, part_put}
 use Rattle.run_save_numbers.specs.Numbers.{numbers}
-use Rattle.run_save_arms.specs.Laws.{above}
-use Rattle.run_save_arms.proofs.Arms.{arms_youngest}
-use Rattle.run_save_arms.proofs.Firsts.{each_at_here, next}
-use Rattle.run_save_waits.specs.Started.{number_of as wait_number}
+use Rattle.run_save_trees.specs.Arms.{above}
+use Rattle.run_save_trees.proofs.Arms.{arms_youngest}
+use Rattle.run_save_trees.proofs.Firsts.{each_at_here, next}
+use Rattle.run_save_slots.specs.Started.{number_of as wait_number}
 use Rattle.run_save_slots.specs.Slots.{IsMade}
 use Rattle.run_save_trees.specs.declared.tables.Restored.{Restored}
 use Rattle.run_save_trees.specs.Restoring.{waits_of, HasParent, IsPut, WithTask, IsEmpty}

@@ -21,11 +21,11 @@ use Rattle.run_save_shots.specs.Spelling.{gathered, parts_from, rest}
 use Rattle.run_save_shots.specs.View.{cause_of}
 use Rattle.run_save_spelled.proofs.Sprouting.{Spelled, who_number}
 use Rattle.run_save_numbers.specs.Numbers.{Numbers, numbers, borns_from, arms_from}
-use Rattle.run_save_threads.specs.Stacking.{stacked}
-use Rattle.run_save_threads.proofs.Spells.{spells}
+use Rattle.run_save_slots.specs.Stacking.{stacked}
+use Rattle.run_save_slots.proofs.Spells.{spells}
 use Rattle.run_save_slots.specs.Slots.{root_of, parts, rest_of_group, IsAsleep, IsAtGroup, is_at_group, Waits, waits_asleep, waits_at_group}
 use Rattle.run_save_slots.specs.Slots.{IsMade}
-use Rattle.run_save_puts.specs.Puts.{IsKept}
+use Rattle.run_save_trees.specs.Puts.{IsKept}
 use Rattle.run_save_trees.proofs.Threads.{is_suspended}
 
 pub same_cause : (k : WaitKind) → clocks.cause_of k ≡ cause_of k

@@ -16,7 +16,7 @@ use Rattle.run_save_shots.specs.Naming.{number_at, is_begun_since}
 use Rattle.run_save_numbers.specs.Numbers.{numbers, borns_from, arms_from, Countable}
 use Rattle.run_save_numbers.proofs.Limits.{few}
 use Rattle.run_save_numbers.proofs.Firsts.{first_least, number_more}
-use Rattle.run_save_threads.specs.Stacking.{IsNear}
+use Rattle.run_save_slots.specs.Stacking.{IsNear}
 use Rattle.run_save_slots.specs.Slots.{Suits}
 use Rattle.run_save_trees.proofs.Groups.{group_of}
 use Rattle.run_save_trees.proofs.Lists.{each_here, each_weaker}

@@ -6,7 +6,7 @@ use Rattle.vm_frames.specs.Framed.{Framed}
 use Rattle.vm_frames.specs.Machine.{frames_with, all_free}
 use Rattle.vm_scheduler.specs.Frames.{birth, Suspended}
 use Rattle.run_save_shots.specs.Kept.{KeptFrame}
-use Rattle.run_save_threads.specs.Stacking.{with_frame, behind_top, stacked}
+use Rattle.run_save_slots.specs.Stacking.{with_frame, behind_top, stacked}
 
 free_same : (fs : List Frame) → free [] [] fs ≡ all_free fs
 free_same [] = refl

@@ -13,7 +13,7 @@ use Rattle.vm_scheduler.specs.Standing.{given_of, AllFine, Untold}
 use Rattle.run_save_shots.specs.Kept.{KeptTask, Kept}
 use Rattle.run_save_shots.specs.Fitting.{Fits}
 use Rattle.run_save_shots.specs.Spelling.{state, trees}
-use Rattle.run_save_waits.specs.Started.{number_of, Starts}
+use Rattle.run_save_slots.specs.Started.{number_of, Starts}
 use Rattle.run_save_numbers.specs.Numbers.{numbers}
 use Rattle.run_save_slots.specs.Slots.{Suits}
 use Rattle.run_save_trees.specs.declared.tables.Restored.{Restored}

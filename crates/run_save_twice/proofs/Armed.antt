@@ -26,9 +26,9 @@ use Rattle.run_save_fits.specs.Held.{one}
 use Rattle.run_save_kept.specs.Orders.{runs_in}
 use Rattle.run_save_kept.proofs.Paths.{ltn_is}
 use Rattle.run_save_numbers.proofs.Firsts.{number_more}
-use Rattle.run_save_arms.specs.Laws.{above}
-use Rattle.run_save_arms.proofs.Firsts.{each_at_here}
-use Rattle.run_save_arms.proofs.Arms.{arms_youngest}
+use Rattle.run_save_trees.specs.Arms.{above}
+use Rattle.run_save_trees.proofs.Firsts.{each_at_here}
+use Rattle.run_save_trees.proofs.Arms.{arms_youngest}
 
 -- ---- lists
 

@@ -22,7 +22,7 @@ use Rattle.run_save_kept.specs.Orders.{arms_of as arms_for}
 use Rattle.run_save_kept.proofs.Paths.{same_is, is_same, one_most, end_is, last_end}
 use Rattle.run_save_kept.proofs.Sums.{sums_most}
 use Rattle.run_save_apart.specs.Numbers.{NumbersApart, numbered}
-use Rattle.run_save_arms.proofs.Firsts.{each_at_here}
+use Rattle.run_save_trees.proofs.Firsts.{each_at_here}
 use Rattle.run_save_spelled.specs.Growing.{number_of, path_of, flat, In, first_in, later_in, Sprouts}
 use Rattle.run_save_spelled.proofs.Forests.{AllApart, each_in, each_weaker, reordered_in, reordered_each, reordered_sum, reordered_apart}
 use Rattle.run_save_spelled.proofs.Growing.{onto}

@@ -19,7 +19,7 @@ use Rattle.run_save_fits.specs.Held.{WhoIs, NoLater, StateHeld, TaskFine, Savabl
 use Rattle.run_save_fits.specs.Held.{unfinished}
 use Rattle.run_save_fits.proofs.KeptTasks.{frames_number}
 use Rattle.run_save_kept.proofs.Siblings.{walk_sum}
-use Rattle.run_save_arms.proofs.Firsts.{each_here}
+use Rattle.run_save_trees.proofs.Firsts.{each_here}
 use Rattle.run_save_spelled.proofs.Forests.{each_weaker, reordered_sum}
 use Rattle.run_save_spelled.proofs.Resumed.{resumable}
 use Rattle.run_save_twice.specs.Again.{IsOfRun, FittingCanBeSaved, SavedIsOfRun, ShownCanBeSaved}

@@ -59,7 +59,7 @@ pub(crate) fn save_run<H: Heap + Drop, W: Waits + Drop, S: Sink>(
     let mut vm = Vm::new(alloc, code, heap, waits, asked.inputs, bounds)?;
     let ending = all_turns(&mut vm, code, asked.steps, out)?;
     if has_stopped(ending) {
-        save_stopped(alloc, code, vm, out)
+        save_stopped(alloc, code, &mut vm, out)
     } else {
         finish(alloc, code, vm, ending, false, out)
     }
@@ -81,23 +81,22 @@ fn has_stopped(ending: Ending) -> bool
 fn save_stopped<H: Heap + Drop, W: Waits + Drop, S: Sink>(
     alloc: Global,
     code: &Code,
-    vm: Vm<H, W>,
+    vm: &mut Vm<H, W>,
     out: &mut S,
 ) -> Result<u8, Stop>
     requires valid { Valid code.now }
     requires ended { (o : Options) × (old : Option (List ℕ)) ×
         Ended H.state W.pending code.now (course_of (without_heap o)) ending.Until old
-        (S.taken out.old) vm }
+        (S.taken out.old) vm.old }
     ensures leaves { (o : Options) (before : ℕ) (old : Option (List ℕ)) →
         before ≤ S.faults out.old →
         Ended H.state W.pending code.now (course_of (without_heap o)) ending.Until old
-        (S.taken out.old) vm →
+        (S.taken out.old) vm.old →
         Leaves (SavesRun code.now o) (SavesRunSoFar code.now o) before (S.faults out.new) old
         (S.taken out.new) result }
     ensures later { S.faults out.old ≤ S.faults out.new }
 {
     runs_hold();
-    let mut vm = vm;
     let line = saved_text(alloc, vm.now(), vm.steps(), vm.live())?;
     match vm.shot(alloc, code) {
         Ok(shot) => write_saved(alloc, code, &shot, line.as_slice(), out),

@@ -21,7 +21,7 @@ use Rattle.run_save_moves.specs.Fine.{TextsAreBytes}
 use Rattle.run_save_premises.specs.Inputs.{FewInputsFit}
 use Rattle.run_save_restores.specs.Restores.{SavedBehindTrace}
 use Rattle.run_save_shots.specs.Kept.{Kept}
-use Rattle.run_save_unbroken.proofs.Traces.{decimal_is_line}
+use Rattle.run_save_restores.proofs.Traces.{decimal_is_line}
 use Rattle.verse_top_args.specs.Words.{Options}
 use Rattle.verse_top_texts.specs.Endings.{ending_status}
 use Rattle.verse_top_exec.specs.Courses.{Comes}

@@ -18,7 +18,7 @@ use Rattle.vm_running.specs.Views.{View, line_of, state_of}
 use Rattle.vm_running.specs.Runners.{view_of}
 use Rattle.vm_scheduler.specs.Going.{Resting}
 use Rattle.vm_wake.specs.Starts.{Fresh}
-use Rattle.vm_shot_states.specs.Spelling.{SpellsEach}
+use Rattle.vm_shot.specs.Spelling.{SpellsEach}
 use Rattle.vm_shot.specs.Shooting.{CanBeShot}
 use Rattle.run_save_shots.specs.Kept.{Kept}
 use Rattle.run_save_moves.specs.Fine.{TextsAreBytes}

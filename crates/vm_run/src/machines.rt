@@ -48,7 +48,6 @@ pub enum Phase {
 }
 
 /// A machine that runs a code, with a store and with the waits of its tasks.
-#[derive(Drop)]
 pub struct Vm<H, W> {
     pub(crate) run: Runner<H>,
     pub(crate) tasks: Tasks<W>,
@@ -56,6 +55,19 @@ pub struct Vm<H, W> {
     pub(crate) inputs: Value,
     pub(crate) bounds: Bounds,
     pub(crate) phase: Phase,
+}
+
+/// A function of its own, so that who lets a machine go sees one call.
+impl<H: Drop, W: Drop> Drop for Vm<H, W> {
+    fn drop(self) {
+        let Self {
+            run: _,
+            tasks: _,
+            inputs: _,
+            bounds: _,
+            phase: _,
+        } = self;
+    }
 }
 
 impl<H: Heap + Drop, W: Waits + Drop> Vm<H, W> {

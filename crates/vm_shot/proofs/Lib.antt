@@ -1,1 +1,3 @@
+pub mod Parts
+mod Copying
 mod Holding

@@ -1,1 +1,3 @@
+pub mod Spelling
+pub mod Cells
 pub mod Shooting

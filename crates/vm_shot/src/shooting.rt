@@ -3,10 +3,12 @@
 ghost use Rattle.std.specs.Prelude.{◌≡◌, IfOk};
 ghost use Rattle.vm_running.specs.Runners.{view_of};
 ghost use Rattle.run_save_shots.specs.View.{shot_of};
-ghost use Rattle.vm_shot_states.specs.Spelling.{SpellsEach};
+ghost use Rattle.vm_shot.specs.Spelling.{SpellsEach};
 ghost use Rattle.vm_shot.specs.Shooting.{CanBeShot};
 
+use crate::cells::cells_shot;
 use crate::given::spawned_shot;
+use crate::parts_spell;
 use run_save_shots::shots::Shot;
 use sim_clock::waits::Waits;
 use std::alloc::Global;
@@ -15,8 +17,6 @@ use verse_base::refusals::Memory;
 use verse_code::codes::Code;
 use vm_running::runners::Runner;
 use vm_scheduler::tasks::Tasks;
-use vm_shot_cells::cells::cells_shot;
-use vm_shot_states::parts_spell;
 use vm_shot_tasks::tasks::tasks_shot;
 
 /// What is kept of a machine whose tasks are suspended. Only the heap's count of accesses changes.

@@ -46,7 +46,7 @@ returns-in-Ok-clause-leaves g c o before old low ended =
     let mid = g.S.Sink.taken c.args.out.now in
     let shot = c.in-Ok.ensures.kept (from_inputs o.inputs) o.steps o.until ended.calls ended.past tt ended.at in
     let live = live_is code w c.live.result (c.runs_hold.ensures code w.origin w.steps w.until c.requires.valid ended.at.bound.can)
-    (counts_of state pending c.args.vm (run_with code o).live c.live.result c.live.ensures ended.shown.live) in
+    (counts_of state pending c.args.vm.now (run_with code o).live c.live.result c.live.ensures ended.shown.live) in
     let line : c.as_slice.result.now ≡ saved_line (run_with code o) =
     c.as_slice.ensures.value ∙ c.in_ok-line.ensures ∙
     line_same (run_with code o) c.now.result c.steps.result c.live.result ended.ending (c.now.ensures ∙ sym ended.shown.moment)

@@ -1,5 +1,0 @@
-use Rattle.run_save_again.proofs.Again.{kept_steps_are_the_runs}
-use Rattle.run_save_again.proofs.kept_steps_are_the_runs.Goals as goal
-
-pub returns : goal.returns
-returns c = kept_steps_are_the_runs c.steps_kept.ensures

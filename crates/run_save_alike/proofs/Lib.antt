@@ -1,4 +1,0 @@
-pub mod Framing
-pub mod Pairs
-pub mod Spelled
-pub mod Stopped

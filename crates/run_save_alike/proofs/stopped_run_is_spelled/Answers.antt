@@ -1,5 +1,0 @@
-use Rattle.run_save_alike.proofs.Stopped.{stopped_run_is_spelled}
-use Rattle.run_save_alike.proofs.stopped_run_is_spelled.Goals as goal
-
-pub returns : goal.returns
-returns c = stopped_run_is_spelled c.run_is_savable.ensures c.run_is_orderly.ensures

@@ -1,5 +1,0 @@
-use Rattle.run_save_arms.proofs.Arms.{arms_youngest}
-use Rattle.run_save_arms.proofs.arms_are_youngest.Goals as goal
-
-pub returns : goal.returns
-returns c = arms_youngest

@@ -1,5 +1,0 @@
-pub mod Numbers
-pub mod Values
-pub mod Stores
-pub mod Tasks
-pub mod Whole

@@ -1,5 +1,0 @@
-use Rattle.run_save_laws.proofs.Once.{saved_once}
-use Rattle.run_save_laws.proofs.one_saved.Goals as goal
-
-pub returns : goal.returns
-returns c = saved_once

@@ -1,5 +1,0 @@
-use Rattle.run_save_ordered.proofs.Ordered.{kept_is_born}
-use Rattle.run_save_ordered.proofs.kept_is_born.Goals as goal
-
-pub returns : goal.returns
-returns c = kept_is_born c.run_is_born.ensures

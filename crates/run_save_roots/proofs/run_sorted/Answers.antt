@@ -1,5 +1,0 @@
-use Rattle.run_save_roots.proofs.Runs.{run_sorted}
-use Rattle.run_save_roots.proofs.run_sorted.Goals as goal
-
-pub returns : goal.returns
-returns c = run_sorted c.operation_roots.ensures

@@ -1,5 +1,0 @@
-use Rattle.run_save_roots.proofs.Meeting.{table_sorts}
-use Rattle.run_save_roots.proofs.table_sorts.Goals as goal
-
-pub returns : goal.returns
-returns c = table_sorts c.numberings_meet.ensures

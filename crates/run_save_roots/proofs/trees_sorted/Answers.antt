@@ -1,5 +1,0 @@
-use Rattle.run_save_roots.proofs.Meeting.{trees_sorted}
-use Rattle.run_save_roots.proofs.trees_sorted.Goals as goal
-
-pub returns : goal.returns
-returns c = trees_sorted c.numberings_meet.ensures

@@ -1,2 +1,0 @@
-pub mod Spells
-mod Steps

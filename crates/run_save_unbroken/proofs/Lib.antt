@@ -1,6 +1,0 @@
-pub mod Counts
-pub mod Names
-pub mod Tests
-pub mod Whole
-pub mod Files
-pub mod Traces

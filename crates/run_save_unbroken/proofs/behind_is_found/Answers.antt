@@ -1,5 +1,0 @@
-use Rattle.run_save_unbroken.proofs.Files.{behind_is_found}
-use Rattle.run_save_unbroken.proofs.behind_is_found.Goals as goal
-
-pub returns : goal.returns
-returns c = behind_is_found

@@ -1,5 +1,0 @@
-use Rattle.run_save_unbroken.proofs.Whole.{fits_is_unbroken}
-use Rattle.run_save_unbroken.proofs.fits_is_unbroken.Goals as goal
-
-pub returns : goal.returns
-returns c = fits_is_unbroken

@@ -1,5 +1,0 @@
-use Rattle.run_save_unbroken.proofs.Traces.{trace_stands_behind}
-use Rattle.run_save_unbroken.proofs.trace_stands_behind.Goals as goal
-
-pub returns : goal.returns
-returns c = trace_stands_behind

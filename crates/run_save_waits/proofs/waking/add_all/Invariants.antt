@@ -1,6 +1,0 @@
-use Rattle.std.proofs.Common.{◌≡◌, take, map}
-use Rattle.run_save_waits.specs.Started.{started, Rises}
-use Rattle.run_save_waits.proofs.waking.add_all.Given as goal
-
-abbrev pub invariant-waits : goal.invariant-waits
-invariant-waits g l = let pending = g.W.Waits.pending in pending l.waits ≡ map started (take l.wait-index l.wait-items)
