@@ -8,7 +8,7 @@ use std::alloc::Global;
 use verse_base::refusals::Memory;
 
 /// Why drawn calls came to an end early.
-#[derive(Clone, Copy, Debug, PartialEq, Eq)]
+#[derive(Clone, Copy, Debug)]
 pub enum Unlike {
     Memory,
     /// The number of the call at which the fiber and the model differ.
@@ -50,10 +50,14 @@ fn drawn(number: u64) -> Call {
     }
 }
 
-fn next(state: u64) -> u64 {
-    state
-        .wrapping_mul(6364136223846793005)
-        .wrapping_add(1442695040888963407)
+/// By what a number that was drawn is multiplied, and what is added then.
+const FACTOR: u64 = 6364136223846793005;
+
+const ADDED: u64 = 1442695040888963407;
+
+// The two are given, since a product with so great a numeral is dear to prove.
+fn next(state: u64, factor: u64, added: u64) -> u64 {
+    state.wrapping_mul(factor).wrapping_add(added)
 }
 
 impl Both {
@@ -67,16 +71,28 @@ impl Both {
         })
     }
 
+    /// Does a call on the fiber, and tells its answer and what is then seen and shown.
+    fn tell(&mut self, call: Call, out: &mut Vec<i64>) -> Result<(), Memory> {
+        let answer = driven::call_any(self.alloc, &mut self.fiber, call)?;
+        out.push(answer)?;
+        playing::seen(&self.fiber, out)?;
+        playing::shown(&self.fiber, out)
+    }
+
+    /// The same on the model.
+    fn tell_model(&mut self, call: Call, out: &mut Vec<i64>) -> Result<(), Memory> {
+        let answer = self.model.call(call)?;
+        out.push(answer)?;
+        self.model.seen(out)?;
+        self.model.shown(out)
+    }
+
     /// Does a call on both, and answers whether the two tell and show the same.
     fn agree(&mut self, call: Call) -> Result<bool, Memory> {
         let mut told = Vec::new(self.alloc);
         let mut modelled = Vec::new(self.alloc);
-        told.push(driven::call_any(self.alloc, &mut self.fiber, call)?)?;
-        modelled.push(self.model.call(call)?)?;
-        playing::seen(&self.fiber, &mut told)?;
-        self.model.seen(&mut modelled)?;
-        playing::shown(&self.fiber, &mut told)?;
-        self.model.shown(&mut modelled)?;
+        self.tell(call, &mut told)?;
+        self.tell_model(call, &mut modelled)?;
         Ok(told == modelled)
     }
 
@@ -92,7 +108,7 @@ pub fn drawn_calls(alloc: Global, count: u64) -> Result<u64, Unlike> {
     let mut both = Both::new(alloc)?;
     let mut begun = 1u64;
     'calls: for turn in 0..count {
-        state = next(state);
+        state = next(state, FACTOR, ADDED);
         if both.is_over() {
             both = Both::new(alloc)?;
             begun = begun.saturating_add(1);

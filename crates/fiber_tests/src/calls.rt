@@ -1,7 +1,7 @@
 //! Calls on the frames of a task.
 
 /// A call. All that go to a function enter one with one parameter, 3 locals and the entry 7.
-#[derive(Clone, Copy, Debug, PartialEq, Eq)]
+#[derive(Clone, Copy)]
 pub enum Call {
     Push(u32),
     Pop,

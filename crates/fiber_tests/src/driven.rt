@@ -54,13 +54,13 @@ pub fn begin(alloc: Global, argument: u32) -> Result<Fiber, Memory> {
     Fiber::begin(alloc, &func(), args)
 }
 
-fn enter(alloc: Global, fiber: &mut Fiber, argument: u32) -> Result<i64, Memory> {
+fn enter(alloc: Global, fiber: &mut Fiber, argument: u32) -> Result<(), Memory> {
+    if fiber.depth() == u32::MAX {
+        return Ok(());
+    }
     let mut args = Vec::new(alloc);
     args.push(value(argument))?;
-    if fiber.depth() < u32::MAX {
-        fiber.enter(&func(), args)?;
-    }
-    Ok(NOTHING)
+    fiber.enter(&func(), args)
 }
 
 fn pop(fiber: &mut Fiber) -> i64
@@ -104,15 +104,14 @@ fn take(fiber: &mut Fiber, at: u32) -> i64
 fn grow(alloc: Global, fiber: &mut Fiber, call: Call) -> Result<i64, Memory>
     requires { fiber.old ≢ [] }
 {
-    match call {
-        Call::Push(number) => fiber.push(value(number))?,
-        Call::Enter(argument) => {
-            let _ = enter(alloc, fiber, argument)?;
-        }
-        Call::Guard(made, label) => fiber.guard(made, label)?,
-        Call::Defer(index) => fiber.defer(index)?,
-        _ => {}
-    }
+    let grown = match call {
+        Call::Push(number) => fiber.push(value(number)),
+        Call::Enter(argument) => enter(alloc, fiber, argument),
+        Call::Guard(made, label) => fiber.guard(made, label),
+        Call::Defer(index) => fiber.defer(index),
+        _ => Ok(()),
+    };
+    grown?;
     Ok(NOTHING)
 }
 

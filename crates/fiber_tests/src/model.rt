@@ -54,10 +54,7 @@ fn truth(is: bool) -> i64 {
 
 impl Frame {
     fn new(alloc: Global, argument: u32) -> Result<Frame, Memory> {
-        let mut locals = Vec::new(alloc);
-        locals.push(i64::from(argument))?;
-        locals.push(NOTHING)?;
-        locals.push(NOTHING)?;
+        let locals = Vec::from_array(alloc, [i64::from(argument), NOTHING, NOTHING])?;
         Ok(Frame {
             place: ENTRY,
             locals,
@@ -147,6 +144,19 @@ impl Frame {
         self.defers = handler.defers;
         self.noted = handler.noted;
         Some(handler.label)
+    }
+
+    /// What is seen of the top frame: place, three lengths, and the locals.
+    fn seen(&self, out: &mut Vec<i64>) -> Result<(), Memory> {
+        let lengths = [
+            told_length(self.defers.len() as u64),
+            told_length(self.noted.len() as u64),
+            told_length(self.kept_defers() as u64),
+        ];
+        out.push(i64::from(self.place))?;
+        out.extend_from_slice(&lengths)?;
+        out.extend_from_slice(&self.locals)?;
+        Ok(())
     }
 
     /// A call that concerns one frame alone.
@@ -243,20 +253,13 @@ impl Model {
     /// What is seen of the frames: depth, place, two tests of all frames, three lengths, and the
     /// locals.
     pub fn seen(&self, out: &mut Vec<i64>) -> Result<(), Memory> {
+        let tests = [truth(self.guarded()), truth(self.closing())];
         out.push(told_length(self.frames.len() as u64))?;
-        out.push(truth(self.guarded()))?;
-        out.push(truth(self.closing()))?;
-        let Some(frame) = self.frames.last() else {
-            return Ok(());
-        };
-        out.push(i64::from(frame.place))?;
-        out.push(told_length(frame.defers.len() as u64))?;
-        out.push(told_length(frame.noted.len() as u64))?;
-        out.push(told_length(frame.kept_defers() as u64))?;
-        'locals: for local in &frame.locals {
-            out.push(*local)?;
+        out.extend_from_slice(&tests)?;
+        match self.frames.last() {
+            Some(frame) => frame.seen(out),
+            None => Ok(()),
         }
-        Ok(())
     }
 
     /// All frames, the lowest first: the place, the locals, the operands above the innermost
@@ -274,8 +277,6 @@ impl Model {
 
 fn shown(numbers: &[i64], out: &mut Vec<i64>) -> Result<(), Memory> {
     out.push(told_length(numbers.len() as u64))?;
-    'numbers: for number in numbers {
-        out.push(*number)?;
-    }
+    out.extend_from_slice(numbers)?;
     Ok(())
 }

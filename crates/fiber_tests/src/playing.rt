@@ -17,10 +17,11 @@ pub fn told_length(length: u64) -> i64 {
 /// What is seen of the frames: depth, place, two tests of all frames, three lengths, and the
 /// locals.
 pub fn seen(fiber: &Fiber, out: &mut Vec<i64>) -> Result<(), Memory> {
-    out.push(i64::from(fiber.depth()))?;
-    out.push(truth(fiber.guarded()))?;
-    out.push(truth(fiber.closing()))?;
-    if fiber.depth() == 0 {
+    let depth = fiber.depth();
+    let tests = [truth(fiber.guarded()), truth(fiber.closing())];
+    out.push(i64::from(depth))?;
+    out.extend_from_slice(&tests)?;
+    if depth == 0 {
         return Ok(());
     }
     seen_on_top(fiber, out)
@@ -29,10 +30,13 @@ pub fn seen(fiber: &Fiber, out: &mut Vec<i64>) -> Result<(), Memory> {
 fn seen_on_top(fiber: &Fiber, out: &mut Vec<i64>) -> Result<(), Memory>
     requires { fiber.now ≢ [] }
 {
+    let lengths = [
+        told_length(fiber.defers()),
+        told_length(fiber.noted()),
+        told_length(fiber.kept()),
+    ];
     out.push(i64::from(fiber.place()))?;
-    out.push(told_length(fiber.defers()))?;
-    out.push(told_length(fiber.noted()))?;
-    out.push(told_length(fiber.kept()))?;
+    out.extend_from_slice(&lengths)?;
     'locals: for local in 0..LOCALS {
         if let Some(value) = fiber.local(local) {
             out.push(number(value))?;
@@ -87,18 +91,23 @@ fn two_numbers(alloc: Global, first: u32, second: u32) -> Result<Vec<u32>, Memor
     Ok(numbers)
 }
 
-/// A fiber of two frames, with two locals, operands and deferred blocks each.
+/// A fiber of one frame, with two locals, operands and deferred blocks.
 fn rebuilt(alloc: Global) -> Result<Fiber, Memory> {
     let locals = two_values(alloc, 1, 2)?;
     let stack = two_values(alloc, 3, 4)?;
-    let mut fiber = Fiber::rebuilt(alloc, 9, locals, stack, two_numbers(alloc, 5, 6)?)?;
+    let defers = two_numbers(alloc, 5, 6)?;
+    Fiber::rebuilt(alloc, 9, locals, stack, defers)
+}
+
+/// Adds another such frame.
+fn add_frame(alloc: Global, fiber: &mut Fiber) -> Result<(), Memory> {
+    if fiber.depth() == u32::MAX {
+        return Ok(());
+    }
     let locals = two_values(alloc, 11, 12)?;
     let stack = two_values(alloc, 13, 14)?;
     let defers = two_numbers(alloc, 15, 16)?;
-    if fiber.depth() < u32::MAX {
-        fiber.add_frame(19, locals, stack, defers)?;
-    }
-    Ok(fiber)
+    fiber.add_frame(19, locals, stack, defers)
 }
 
 /// Does calls while there is a frame, and tells their answers.
@@ -137,7 +146,7 @@ pub fn copied(alloc: Global, out: &mut Vec<i64>) -> Result<(), Memory> {
     seen(&copy, out)
 }
 
-/// Shows frames that are rebuilt, and does calls on them.
+/// Shows two frames that are rebuilt, and does calls on them.
 pub fn play_rebuilt(
     alloc: Global,
     calls: &[Call],
@@ -145,6 +154,7 @@ pub fn play_rebuilt(
     out: &mut Vec<i64>,
 ) -> Result<(), Memory> {
     let mut fiber = rebuilt(alloc)?;
+    add_frame(alloc, &mut fiber)?;
     shown(&fiber, out)?;
     call_all(alloc, &mut fiber, calls, told)
 }
