@@ -42,6 +42,10 @@ pub(crate) fn made(value: Result<Value, Memory>) -> Result<Slot, Fail> {
     }
 }
 
+pub(crate) fn int(n: i64) -> Slot {
+    Slot::new(Value::Int(n))
+}
+
 /// Values, the last one on top.
 pub(crate) struct Stack {
     values: Vec<Value>,
