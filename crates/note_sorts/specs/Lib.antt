@@ -1,0 +1,4 @@
+pub mod Tabled
+pub mod Kinds
+pub mod Owning
+pub mod Classes
