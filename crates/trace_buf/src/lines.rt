@@ -89,6 +89,21 @@ pub(crate) fn write_lines<S: Sink>(out: &mut S, lines: &[Kept]) -> Result<(), Fa
     ensures later { S.faults out.old ≤ S.faults out.new }
     ensures failed { OnErr result (Rose (S.faults out.old) (S.faults out.new)) }
 {
+    if lines.is_empty() {
+        return Ok(());
+    }
+    write_pieces(out, lines)
+}
+
+/// As `write_lines`. A piece takes a while to make, which a turn without lines is spared.
+fn write_pieces<S: Sink>(out: &mut S, lines: &[Kept]) -> Result<(), Failed>
+    ensures whole { OnOk result (S.taken out.new ≡
+        with_more (S.taken out.old) (printed (map line_of lines.now))) }
+    ensures part { OnErr result (TookPrefix (S.taken out.old) (printed (map line_of lines.now))
+        (S.taken out.new)) }
+    ensures later { S.faults out.old ≤ S.faults out.new }
+    ensures failed { OnErr result (Rose (S.faults out.old) (S.faults out.new)) }
+{
     let mut piece = Piece::new();
     put_lines(out, &mut piece, lines)?;
     flush(out, &mut piece)

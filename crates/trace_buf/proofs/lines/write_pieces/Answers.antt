@@ -1,6 +1,6 @@
 use Rattle.std.proofs.lemmas.Result.{on_err_weaker}
 use Rattle.trace_buf.proofs.Passes.{on_err, passed_part, stopped_took}
-use Rattle.trace_buf.proofs.lines.write_lines.Goals as goal
+use Rattle.trace_buf.proofs.lines.write_pieces.Goals as goal
 
 pub returns-in_err-put_lines-clause-part : goal.returns-in_err-put_lines-clause-part
 returns-in_err-put_lines-clause-part g c =
