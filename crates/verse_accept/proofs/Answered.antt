@@ -11,7 +11,7 @@ use Rattle.verse_grammar.specs.Toks.{ahead}
 use Rattle.verse_expr.specs.Faults.{stop_rule}
 use Rattle.verse_rules_least.proofs.Refusals.{refused_once}
 use Rattle.verse_names_items.specs.Nodes.{places_in}
-use Rattle.verse_names.specs.Breaking.{NamesBreak}
+use Rattle.verse_rules.specs.Breaking.{NamesBreak}
 use Rattle.verse_rules.proofs.Once.{mistyped_breaks, mistyped_once}
 use Rattle.verse_accept.specs.Stages.{OneResult, followed, in_turn}
 use Rattle.verse_accept.specs.Fronts.{Cut, Laid, sized, cutting, laying, spelling, joining, naming, typing, bounding, testing}

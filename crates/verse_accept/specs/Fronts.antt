@@ -18,7 +18,7 @@ use Rattle.verse_grammar.specs.Toks.{ahead}
 use Rattle.verse_expr.specs.Faults.{stop_rule}
 use Rattle.verse_tree.specs.PostOrder.{program_place}
 use Rattle.verse_tree.specs.Numbering.{items_numbered}
-use Rattle.verse_names.specs.Breaking.{NamesBreak, IsMisnamed}
+use Rattle.verse_rules.specs.Breaking.{NamesBreak, IsMisnamed}
 use Rattle.verse_rules.specs.Sound.{BodiesBreak, IsMistyped, size_of, most_size}
 use Rattle.verse_accept.specs.Stages.{Stage, followed, in_turn, OneResult}
 

@@ -10,7 +10,7 @@ use Rattle.verse_rules_walk.specs.Around.{Around}
 use Rattle.verse_rules_walk.specs.Nodes.{number_of_tree}
 use Rattle.verse_names_declarations.specs.Names.{Table}
 use Rattle.verse_names_scopes.specs.Visible.{World}
-use Rattle.verse_check_refs.specs.Refs as refs
+use Rattle.verse_check_typing.specs.Refs as refs
 use Rattle.verse_check_typing.specs.Rows.{row}
 use Rattle.verse_rules.specs.Sound.{completed}
 use Rattle.verse_effects.specs.Callees as callees

@@ -22,7 +22,7 @@ use Rattle.verse_names_declarations.specs.Known.{Note, outlined, known}
 use Rattle.verse_names_declarations.specs.Lines.{Members, line, on_class, with_note, with_notes, no_members}
 use Rattle.verse_names_items.specs.Tables.{fun_numbers, methods_of, class_table, class_tables}
 use Rattle.verse_names_scopes.specs.Visible.{World}
-use Rattle.verse_check_refs.specs.Refs as refs
+use Rattle.verse_check_typing.specs.Refs as refs
 use Rattle.verse_check_typing.specs.Facts.{Facts, type_of}
 use Rattle.verse_check_typing.specs.Parts.{count}
 use Rattle.verse_check_typing.specs.Callees as types

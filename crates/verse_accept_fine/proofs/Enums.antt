@@ -11,7 +11,7 @@ use Rattle.verse_rules_types.specs.Types as ty
 use Rattle.verse_rules_walk.specs.Around.{Around}
 use Rattle.verse_names_declarations.specs.Names.{Table}
 use Rattle.verse_names_scopes.specs.Visible.{World}
-use Rattle.verse_check_refs.specs.Refs as refs
+use Rattle.verse_check_typing.specs.Refs as refs
 use Rattle.verse_check_typing.specs.Sets.{has_name, with_name, with_names}
 use Rattle.verse_check_typing.specs.Facts.{Facts, type_of, enum_values}
 use Rattle.verse_check_typing.specs.Members.{part, missing, part_type, may_stand, names_in, is_value, member_of}

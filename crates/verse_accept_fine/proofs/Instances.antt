@@ -19,7 +19,7 @@ use Rattle.verse_names_declarations.specs.Names.{Table}
 use Rattle.verse_names_declarations.specs.Known.{Note, outlined, known}
 use Rattle.verse_names_items.specs.Tables.{tree_number}
 use Rattle.verse_names_scopes.specs.Visible.{World, visible}
-use Rattle.verse_check_refs.specs.Refs as refs
+use Rattle.verse_check_typing.specs.Refs as refs
 use Rattle.verse_check_typing.specs.Sets.{has_number, with_number}
 use Rattle.verse_check_typing.specs.Facts.{Facts, type_of}
 use Rattle.verse_check_typing.specs.Members.{fields_of, field_by, field_type, type_in, fits_field, givens_fit, places_from, with_place}

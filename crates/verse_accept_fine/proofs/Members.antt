@@ -16,7 +16,7 @@ use Rattle.verse_names_declarations.specs.Names.{Table}
 use Rattle.verse_names_declarations.specs.Known.{Known, known}
 use Rattle.verse_names_declarations.specs.Lines.{Members}
 use Rattle.verse_names_scopes.specs.Visible.{World}
-use Rattle.verse_check_refs.specs.Refs as refs
+use Rattle.verse_check_typing.specs.Refs as refs
 use Rattle.verse_check_typing.specs.Facts.{Facts, type_of, members_from, class_members}
 use Rattle.verse_check_typing.specs.Members.{part, action, missing, part_type, may_stand, by_ref, member_at}
 use Rattle.verse_check_typing.specs.Members.{field_by, method_by}

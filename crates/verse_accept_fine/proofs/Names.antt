@@ -16,7 +16,7 @@ use Rattle.verse_rules_walk.specs.Nodes.{number_of_tree}
 use Rattle.verse_names_declarations.specs.Names.{Table, look}
 use Rattle.verse_names_scopes.specs.Visible.{World, either, visible, visible_throughout, with_name, with_local}
 use Rattle.verse_names_scopes.specs.Subjects.{subject, this_ref, rules_at}
-use Rattle.verse_check_refs.specs.Refs as refs
+use Rattle.verse_check_typing.specs.Refs as refs
 use Rattle.verse_check_typing.specs.Facts.{Facts, type_of}
 use Rattle.verse_check_typing.specs.Parts.{are_ints, is_int}
 use Rattle.verse_check_typing.specs.Members.{field_type, fields_of, type_in}

@@ -20,7 +20,7 @@ use Rattle.verse_check_typing.specs.Facts.{type_of}
 use Rattle.verse_check_typing.specs.Parts.{are_ints}
 use Rattle.verse_check_typing.specs.Loops.{is_domain}
 use Rattle.verse_check_typing.specs.Rows.{spelled}
-use Rattle.verse_check_refs.specs.Refs as refs
+use Rattle.verse_check_typing.specs.Refs as refs
 use Rattle.verse_check_typing.specs.TypeRules.{has_value, is_called}
 use Rattle.verse_effects.specs.Forms.{is_async, is_spawned}
 use Rattle.verse_rules.specs.Sound.{completed}

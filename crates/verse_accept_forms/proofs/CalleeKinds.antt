@@ -18,7 +18,7 @@ use Rattle.verse_names_declarations.specs.Known.{known}
 use Rattle.verse_names_declarations.specs.Lines.{Members}
 use Rattle.verse_names_scopes.specs.Visible.{World, visible}
 use Rattle.verse_names_scopes.specs.Subjects.{subject, this_ref, rules_at}
-use Rattle.verse_check_refs.specs.Refs as refs
+use Rattle.verse_check_typing.specs.Refs as refs
 use Rattle.verse_check_typing.specs.Facts.{Facts, type_of, class_members}
 use Rattle.verse_check_typing.specs.Members.{part, action, missing, part_type, may_stand, by_ref, member_at, field_by, method_by, method_named}
 use Rattle.verse_check_typing.specs.Members.{member_ref, type_member, member_of, is_value}

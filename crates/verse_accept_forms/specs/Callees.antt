@@ -10,7 +10,7 @@ use Rattle.verse_rules_walk.specs.Around as around
 use Rattle.verse_rules_walk.specs.Nodes.{number_of_tree}
 use Rattle.verse_names_declarations.specs.Names.{Table}
 use Rattle.verse_names_scopes.specs.Visible.{World, visible}
-use Rattle.verse_check_refs.specs.Refs as refs
+use Rattle.verse_check_typing.specs.Refs as refs
 use Rattle.verse_check_typing.specs.TypeRules.{has_value}
 use Rattle.verse_effects.specs.Forms.{is_on_path, is_spawned}
 use Rattle.verse_meaning.specs.Programs.{Program, ref_at}

@@ -4,7 +4,7 @@ use Rattle.verse_tree.specs.ItemTree.{ItemTree}
 use Rattle.verse_tree.specs.ItemView.{item_of}
 use Rattle.verse_tree.specs.Numbering.{program_nodes}
 use Rattle.verse_tree.specs.declared.programs.Program.{Program as Made}
-use Rattle.verse_names.specs.Breaking.{NamesBreak}
+use Rattle.verse_rules.specs.Breaking.{NamesBreak}
 use Rattle.verse_rules.specs.Sound.{completed, most_size, size_of}
 use Rattle.verse_accept.specs.Fronts.{Accepts, all_items}
 use Rattle.verse_accept_tables.specs.Sound.{IsSoundProgram}

@@ -11,7 +11,7 @@ use Rattle.verse_tree.specs.declared.tables.Ref.TheVariants as ref
 use Rattle.verse_rules_types.specs.Types.{Ty}
 use Rattle.verse_rules_types.specs.Types as t
 use Rattle.verse_rules_least.specs.Least.{first_true}
-use Rattle.verse_check_refs.specs.Refs.{ref_at, function_by}
+use Rattle.verse_check_typing.specs.Refs.{ref_at, function_by}
 use Rattle.verse_rules_walk.specs.Around.{Around, Used, callee, target, spawned, object, argument, used_as, freely}
 use Rattle.verse_rules_walk.specs.Around.{caught}
 use Rattle.verse_rules_walk.specs.Around.{repeated, armed, left_of, indexed}

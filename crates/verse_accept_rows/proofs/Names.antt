@@ -5,7 +5,7 @@ use Rattle.verse_tree.specs.ItemTree.{ItemTree}
 use Rattle.verse_tree.specs.Shapes.{ItemsShaped}
 use Rattle.verse_tree.specs.declared.tables.Ref.{Ref}
 use Rattle.verse_rules_least.specs.Least.{first_true}
-use Rattle.verse_check_refs.specs.Refs.{referred, ref_at}
+use Rattle.verse_check_typing.specs.Refs.{referred, ref_at}
 use Rattle.verse_names_scopes.specs.Subjects.{refers}
 use Rattle.verse_names_scopes.specs.Subjects as names
 use Rattle.verse_names_scopes.specs.Visits.{Visit, number_of, ref_of, rules_of, program_visits, keep_fault, Breaks, NamesBreak}

@@ -12,7 +12,7 @@ use Rattle.verse_tree.specs.declared.tables.Ref.TheVariants as ref
 use Rattle.verse_rules_types.specs.Types.{Ty}
 use Rattle.verse_rules_types.specs.Types as t
 use Rattle.verse_rules_types.specs.Fitting.{join}
-use Rattle.verse_check_refs.specs.Refs.{referred, ref_at}
+use Rattle.verse_check_typing.specs.Refs.{referred, ref_at}
 use Rattle.verse_rules_walk.specs.Around.{Around, callee, freely, indexed, used_as, object}
 use Rattle.verse_rules_walk.specs.Nodes.{number_of_tree, tree_nodes, shape_nodes, trees_nodes, argument_nodes}
 use Rattle.verse_check_typing.specs.Facts.{World, Facts, classes, or_never, type_at, type_of, or_false, var_at}

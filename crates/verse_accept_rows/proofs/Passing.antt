@@ -10,7 +10,7 @@ use Rattle.verse_tree.specs.PostOrder.{What, program, item, member, parameter, t
 use Rattle.verse_rules_types.specs.Types.{Ty}
 use Rattle.verse_rules_types.specs.Types as t
 use Rattle.verse_rules_least.specs.Least.{each, Holds, Broken, here, later}
-use Rattle.verse_check_refs.specs.Refs.{referred, ref_at}
+use Rattle.verse_check_typing.specs.Refs.{referred, ref_at}
 use Rattle.verse_rules_walk.specs.Around.{Around, argument}
 use Rattle.verse_rules_walk.specs.Nodes.{Node, number_of}
 use Rattle.verse_check_typing.specs.Sets.{has_number, with_number}

@@ -6,7 +6,7 @@ use Rattle.std.specs.Prelude.{None}
 use Rattle.verse_tree.specs.ItemTree.{ItemTree}
 use Rattle.verse_tree.specs.Shapes.{ItemsShaped}
 use Rattle.verse_rules_least.specs.Least.{each, first_true, Broken}
-use Rattle.verse_check_refs.specs.Refs.{referred}
+use Rattle.verse_check_typing.specs.Refs.{referred}
 use Rattle.verse_rules_walk.specs.Nodes.{Node, number_of, items_nodes}
 use Rattle.verse_rules_walk.specs.Order.{AreNumbered}
 use Rattle.verse_rules_walk.proofs.Order.{numbers_in_row}

@@ -2,7 +2,7 @@
 use Rattle.std.specs.Prelude.{◌≡◌, ℕ, ◌<◌, Option, Some, None, slice_get}
 use Rattle.verse_tree.specs.declared.tables.Ref.{Ref}
 use Rattle.verse_tree.specs.declared.tables.Ref.TheVariants as ref
-use Rattle.verse_check_refs.specs.Refs.{ref_at}
+use Rattle.verse_check_typing.specs.Refs.{ref_at}
 use Rattle.verse_check_typing.specs.Sets.{has_number}
 use Rattle.verse_check_typing.specs.Facts.{World}
 use Rattle.verse_check_typing.specs.Steps.{Sight}

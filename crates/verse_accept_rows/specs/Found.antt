@@ -2,7 +2,7 @@
 use Rattle.std.specs.Prelude.{◌≡◌, ℕ, true, List, Some, None}
 use Rattle.verse_tree.specs.ItemTree.{ItemTree}
 use Rattle.verse_rules_least.specs.Least.{first_true}
-use Rattle.verse_check_refs.specs.Refs.{ref_at}
+use Rattle.verse_check_typing.specs.Refs.{ref_at}
 use Rattle.verse_check_typing.specs.Sets.{has_number}
 use Rattle.verse_check_typing.specs.Facts.{Facts, world_of, type_at, var_at}
 use Rattle.verse_check_typing.specs.Steps.{facts, own_rules, serves_as, type_by, ref_by, loop_left, defines_variable}

@@ -8,7 +8,7 @@ use Rattle.verse_tree.specs.PostOrder.{What, expression, parameter, items_order}
 use Rattle.verse_tree.specs.PostOrder as plain
 use Rattle.verse_rules_walk.specs.Nodes.{alone}
 use Rattle.verse_rules_walk.specs.Order.{AreNumbered, InPostOrder}
-use Rattle.verse_names.specs.Breaking.{NamesBreak}
+use Rattle.verse_rules.specs.Breaking.{NamesBreak}
 use Rattle.verse_rules.specs.Sound.{BodiesBreak, IsSound}
 use Rattle.verse_accept.specs.Fronts.{Accepts, all_items}
 use Rattle.verse_meaning.specs.Programs.{program_of, is_array_type, is_event_type, of_type}

@@ -10,7 +10,7 @@ use Rattle.verse_rules_types.specs.Types.{Ty, Tys}
 use Rattle.verse_rules_types.specs.Types as ty
 use Rattle.verse_rules_least.specs.Least.{each}
 use Rattle.verse_rules_walk.specs.Nodes.{Node, items_nodes}
-use Rattle.verse_check_refs.specs.Refs.{referred}
+use Rattle.verse_check_typing.specs.Refs.{referred}
 use Rattle.verse_check_typing.specs.Facts.{World, Facts, named_ref, type_of}
 use Rattle.verse_check_typing.specs.Members.{member_at, field_by, method_by, member_ref}
 use Rattle.verse_check_typing.specs.Steps.{Sight, facts, step, begun, shape_ref, ref_by}

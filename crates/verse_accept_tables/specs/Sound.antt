@@ -4,7 +4,7 @@ use Rattle.verse_tree.specs.ItemTree.{ItemTree}
 use Rattle.verse_tree.specs.ItemView.{item_of}
 use Rattle.verse_tree.specs.declared.programs.Program.{Program as Made}
 use Rattle.verse_names_items.specs.Nodes.{IsNumbered}
-use Rattle.verse_names.specs.Breaking.{NamesBreak}
+use Rattle.verse_rules.specs.Breaking.{NamesBreak}
 use Rattle.verse_rules.specs.Sound.{completed, size_of, most_size}
 
 abbrev pub items_of : Made → List ItemTree

@@ -18,7 +18,7 @@ use Rattle.verse_rules_walk.specs.Nodes.{number_of_tree}
 use Rattle.verse_names_declarations.specs.Names.{Table}
 use Rattle.verse_names_scopes.specs.Visible.{World, visible, with_local}
 use Rattle.verse_names_scopes.specs.Subjects.{subject, is_defined, is_unknown}
-use Rattle.verse_check_refs.specs.Refs as refs
+use Rattle.verse_check_typing.specs.Refs as refs
 use Rattle.verse_check_typing.specs.Sets.{has_number}
 use Rattle.verse_check_typing.specs.TypeRules.{has_value, takes_item, is_called, is_enum, is_round, is_rounded}
 use Rattle.verse_effects.specs.Forms.{is_on_path, is_spawned}

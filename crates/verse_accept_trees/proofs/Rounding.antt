@@ -15,10 +15,10 @@ use Rattle.verse_rules_walk.specs.Nodes.{number_of_tree}
 use Rattle.verse_names_declarations.specs.Names.{Table}
 use Rattle.verse_names_scopes.specs.Visible.{World}
 use Rattle.verse_names_scopes.specs.Subjects.{this_ref}
-use Rattle.verse_check_refs.specs.Refs as refs
+use Rattle.verse_check_typing.specs.Refs as refs
 use Rattle.verse_check_typing.specs.Facts.{Facts, type_of, named_ref}
 use Rattle.verse_check_typing.specs.Members.{member_at, member_ref, field_by, method_by}
-use Rattle.verse_check_refs.specs.declared.builtins.Builtin.TheVariants as b
+use Rattle.verse_check_typing.specs.declared.builtins.Builtin.TheVariants as b
 use Rattle.verse_check_typing.specs.TypeRules.{is_round, is_rounded, is_round_builtin, is_class, is_variable, can_be_set}
 use Rattle.verse_effects.specs.Forms.{is_on_path, is_spawned}
 use Rattle.verse_meaning.specs.Residuals.{Form}

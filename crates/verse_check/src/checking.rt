@@ -28,11 +28,11 @@ ghost use Rattle.verse_check.specs.Checking.{TellsTypes, IsLeastMistyped};
 ghost use Rattle.verse_check.specs.Views.{sight_of};
 
 use crate::seen::Seen;
+use crate::tables::make_tables;
 use sqlite_items::Items;
 use std::alloc::Global;
 use verse_base::places::Place;
 use verse_base::refusals::{Front, Memory};
-use verse_check_members::tables::make_tables;
 use verse_check_nodes::nodes::{
     defines_variable, form_ref, judge_expr, judge_item, judge_member, judge_name, judge_param,
     loop_left,

@@ -4,7 +4,7 @@ ghost use Rattle.std.specs.Prelude.{◌≡◌, ◌||◌, not, cond, Some, None, 
 ghost use Rattle.verse_tree.specs.View.{tree_of};
 ghost use Rattle.verse_names_declarations.specs.Names.{look};
 ghost use Rattle.verse_names_declarations.specs.Lines.{members_view};
-ghost use Rattle.verse_check_refs.specs.Refs.{ref_at};
+ghost use Rattle.verse_check_typing.specs.Refs.{ref_at};
 ghost use Rattle.verse_rules_types.specs.Types.{ty_of};
 ghost use Rattle.verse_rules_walk.specs.Nodes.{number_of_tree};
 ghost use Rattle.verse_rules_walk.specs.Views.{used_of};

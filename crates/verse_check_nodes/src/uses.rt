@@ -12,7 +12,7 @@ ghost use Rattle.verse_check_typing.specs.Views.{facts_of, judged_of};
 ghost use Rattle.verse_check_nodes.specs.Codes as c;
 
 use verse_base::refusals::Memory;
-use verse_check_refs::lookups::function_by;
+use verse_check_typing::lookups::function_by;
 use verse_check_typing::facts::Facts;
 use verse_check_typing::judged::Judged;
 use verse_check_typing::spelling::spelled;

@@ -7,9 +7,9 @@ use Rattle.verse_tree.specs.declared.tables.FunInfo.{FunInfo}
 use Rattle.verse_tree.specs.declared.tables.Ref.{Ref}
 use Rattle.verse_tree.specs.declared.tables.Ref.TheVariants as ref
 use Rattle.verse_rules_types.specs.Types.{Ty, task, event}
-use Rattle.verse_check_refs.specs.Refs.{ref_at, function_of, builtin_by}
-use Rattle.verse_check_refs.specs.declared.builtins.Builtin.{Builtin}
-use Rattle.verse_check_refs.specs.declared.builtins.Builtin.TheVariants as b
+use Rattle.verse_check_typing.specs.Refs.{ref_at, function_of, builtin_by}
+use Rattle.verse_check_typing.specs.declared.builtins.Builtin.{Builtin}
+use Rattle.verse_check_typing.specs.declared.builtins.Builtin.TheVariants as b
 use Rattle.verse_check_typing.specs.Facts.{Facts, type_of, type_at}
 
 pub data Callee : Type 0 where

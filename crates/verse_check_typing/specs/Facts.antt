@@ -7,7 +7,7 @@ use Rattle.verse_tree.specs.declared.tables.Ref.{Ref}
 use Rattle.verse_rules_types.specs.Types.{Ty, never, Class, classes_of}
 use Rattle.verse_names_declarations.specs.Known.{Known, known, Note}
 use Rattle.verse_names_declarations.specs.Lines.{Members, all_members}
-use Rattle.verse_check_refs.specs.Refs.{ref_at}
+use Rattle.verse_check_typing.specs.Refs.{ref_at}
 use Rattle.verse_rules_walk.specs.Nodes.{number_of_tree}
 use Rattle.verse_check_typing.specs.Sets.{with_names}
 

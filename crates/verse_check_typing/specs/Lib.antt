@@ -1,3 +1,4 @@
+pub mod Refs
 pub mod Sets
 pub mod Facts
 pub mod Spelling

@@ -6,7 +6,7 @@ use Rattle.verse_tree.specs.declared.tables.Ref.{Ref}
 use Rattle.verse_tree.specs.declared.tables.Ref.TheVariants as ref
 use Rattle.verse_rules_types.specs.Types.{Ty, never, nil, void, int, logic, char, string, enum, class, option, array, task, event, mapping, tuple}
 use Rattle.verse_rules_types.specs.Fitting.{join}
-use Rattle.verse_check_refs.specs.Refs.{ref_at}
+use Rattle.verse_check_typing.specs.Refs.{ref_at}
 use Rattle.verse_rules_walk.specs.Nodes.{number_of_tree}
 use Rattle.verse_check_typing.specs.Sets.{has_number}
 use Rattle.verse_check_typing.specs.Facts.{Facts, classes, named_ref, type_at, type_of}

@@ -13,7 +13,7 @@ use Rattle.verse_rules_types.specs.Fitting.{fits}
 use Rattle.verse_names_declarations.specs.Functions.{named_type}
 use Rattle.verse_rules_least.specs.Least.{each, fault_at, first, first_true, Holds, Told, Placed, Broken, IsLeast, StandsAt}
 use Rattle.verse_rules_least.specs.declared.faults.Fault.{Fault}
-use Rattle.verse_check_refs.specs.Refs.{ref_at, function_by}
+use Rattle.verse_check_typing.specs.Refs.{ref_at, function_by}
 use Rattle.verse_rules_walk.specs.Around.{Used, free, callee, object, argument, value, target, base, spawned, Around}
 use Rattle.verse_rules_walk.specs.Nodes.{Node, number_of, place_of}
 use Rattle.verse_check_typing.specs.Sets.{with_number}

@@ -7,9 +7,9 @@ use Rattle.verse_tree.specs.declared.tables.Ref.TheVariants as ref
 use Rattle.verse_rules_types.specs.Types.{Ty, void}
 use Rattle.verse_rules_types.specs.Fitting.{fits}
 use Rattle.verse_rules_types.specs.Kinds.{levels}
-use Rattle.verse_check_refs.specs.Refs.{ref_at, builtin_by}
-use Rattle.verse_check_refs.specs.declared.builtins.Builtin.{Builtin}
-use Rattle.verse_check_refs.specs.declared.builtins.Builtin.TheVariants as b
+use Rattle.verse_check_typing.specs.Refs.{ref_at, builtin_by}
+use Rattle.verse_check_typing.specs.declared.builtins.Builtin.{Builtin}
+use Rattle.verse_check_typing.specs.declared.builtins.Builtin.TheVariants as b
 use Rattle.verse_rules_walk.specs.Around.{Used, free, callee, object, argument, value, target, base, spawned, Around}
 use Rattle.verse_rules_walk.specs.Nodes.{number_of_tree}
 use Rattle.verse_check_typing.specs.Facts.{Facts, classes, named_ref, type_of, var_at}

@@ -1,16 +1,16 @@
 //! What is called or indexed.
 
 ghost use Rattle.std.specs.Prelude.{◌≡◌, Some};
-ghost use Rattle.verse_check_refs.specs.Refs.{builtin_by};
+ghost use Rattle.verse_check_typing.specs.Refs.{builtin_by};
 ghost use Rattle.verse_tree.specs.View.{tree_of, shape_of};
 ghost use Rattle.verse_rules_types.specs.Types.{ty_of};
 ghost use Rattle.verse_check_typing.specs.Callees as c;
 ghost use Rattle.verse_check_typing.specs.Calls as calls;
 ghost use Rattle.verse_check_typing.specs.Views.{facts_of, callee_of};
 
+use crate::builtins::{Builtin, builtin_by};
 use crate::facts::Facts;
-use verse_check_refs::builtins::{Builtin, builtin_by};
-use verse_check_refs::lookups::function_of;
+use crate::lookups::function_of;
 use verse_tree::exprs::{Expr, Form};
 use verse_tree::tables::{FunInfo, Ref, Ty};
 

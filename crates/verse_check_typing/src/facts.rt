@@ -3,15 +3,15 @@
 ghost use Rattle.std.specs.Prelude.{◌≡◌, option_copied, slice_get};
 ghost use Rattle.verse_tree.specs.View.{tree_of};
 ghost use Rattle.verse_rules_types.specs.Types.{ty_of};
-ghost use Rattle.verse_check_refs.specs.Refs as refs;
+ghost use Rattle.verse_check_typing.specs.Refs as refs;
 ghost use Rattle.verse_check_typing.specs.Facts as f;
 ghost use Rattle.verse_check_typing.specs.Members as m;
 ghost use Rattle.verse_check_typing.specs.TypeRules as r;
 ghost use Rattle.verse_check_typing.specs.Views.{facts_of};
 
+use crate::lookups::ref_at;
 use crate::sets::NumberSet;
 use crate::worlds::World;
-use verse_check_refs::lookups::ref_at;
 use verse_tree::exprs::Expr;
 use verse_tree::tables::{ClassInfo, FieldInfo, Ref, Ty};
 

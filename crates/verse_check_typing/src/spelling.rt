@@ -10,10 +10,10 @@ ghost use Rattle.verse_check_typing.specs.Rows as rows;
 ghost use Rattle.verse_check_typing.specs.Views.{facts_of};
 
 use crate::facts::Facts;
+use crate::lookups::ref_at;
 use sqlite_items::{Boxed, Items};
 use std::alloc::Global;
 use verse_base::refusals::Memory;
-use verse_check_refs::lookups::ref_at;
 use verse_tree::tables::{MapOf, Ref, Ty};
 use verse_tree::types::{MapTy, TyExpr};
 

@@ -12,7 +12,7 @@ ghost use Rattle.verse_check_typing.specs.Views.{facts_of, judged_of};
 
 use std::alloc::Global;
 use verse_base::refusals::Memory;
-use verse_check_refs::builtins::{Builtin, builtin_by};
+use verse_check_typing::builtins::{Builtin, builtin_by};
 use verse_check_typing::facts::Facts;
 use verse_check_typing::judged::{Judged, tested};
 use verse_check_typing::parts::{are_ints, is_int};

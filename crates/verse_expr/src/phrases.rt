@@ -23,7 +23,7 @@ use verse_expr_statements::blocks;
 use verse_expr_statements::statements::stmt;
 use verse_grammar::phrases::Phrase;
 use verse_layout::toks::Tok;
-use verse_tree_handles::trees::Tree;
+use verse_tree_nodes::trees::Tree;
 
 /// A phrase of this kind.
 fn phrase_of<'t, F: Fn(Global, &[u8], Phrase, &[Tok]) -> Result<(Tree, usize), ReadFault>>(

@@ -24,8 +24,8 @@ use verse_expr_reader::steps::behind;
 use verse_expr_reader::types::type_at;
 use verse_grammar::phrases::Phrase;
 use verse_layout::toks::Tok;
-use verse_tree_handles::trees::Tree;
-use verse_tree_handles::types::Written;
+use verse_tree_nodes::trees::Tree;
+use verse_tree_nodes::written::Written;
 
 /// The type at an index, and the index behind it.
 ///

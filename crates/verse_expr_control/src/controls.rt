@@ -20,7 +20,7 @@ use verse_grammar::phrases::Phrase;
 use verse_grammar::starts::{StmtStart, assign_at, begins_expr, stmt_start};
 use verse_layout::toks::Tok;
 use verse_tree::exprs::Assign;
-use verse_tree_handles::trees::Tree;
+use verse_tree_nodes::trees::Tree;
 use verse_tree_nodes::statements;
 
 /// What is behind `set`.

@@ -27,7 +27,7 @@ use verse_expr_reader::steps::{ReadFault, expect, next, take};
 use verse_grammar::phrases::Phrase;
 use verse_grammar::starts::{Fixed, StmtStart, stmt_start};
 use verse_layout::toks::Tok;
-use verse_tree_handles::trees::Tree;
+use verse_tree_nodes::trees::Tree;
 use verse_tree_nodes::{forms, statements};
 
 /// The first thing in the brackets of a `for`.

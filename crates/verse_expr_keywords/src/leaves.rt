@@ -19,7 +19,7 @@ use verse_expr_reader::spans::text_at;
 use verse_expr_reader::steps::ReadFault;
 use verse_grammar::phrases::Phrase;
 use verse_layout::toks::Tok;
-use verse_tree_handles::trees::Tree;
+use verse_tree_nodes::trees::Tree;
 use verse_tree_nodes::literals;
 
 /// What one tok can be.

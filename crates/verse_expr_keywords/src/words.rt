@@ -23,7 +23,7 @@ use verse_expr_reader::steps::{ReadFault, expect};
 use verse_grammar::phrases::Phrase;
 use verse_grammar::starts::Fixed;
 use verse_layout::toks::Tok;
-use verse_tree_handles::trees::{Tree, Trees};
+use verse_tree_nodes::trees::{Tree, Trees};
 use verse_tree_nodes::{forms, literals};
 
 /// A word that a list in braces follows.

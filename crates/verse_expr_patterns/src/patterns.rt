@@ -22,7 +22,7 @@ use verse_expr_reader::steps::{ReadFault, expect, next};
 use verse_grammar::phrases::Phrase;
 use verse_grammar::starts::{Fixed, PatternStart, int_at, pattern_start};
 use verse_layout::toks::Tok;
-use verse_tree_handles::trees::Tree;
+use verse_tree_nodes::trees::Tree;
 use verse_tree_nodes::patterns;
 
 /// A pattern.

@@ -25,7 +25,7 @@ use verse_grammar::phrases::Phrase;
 use verse_grammar::starts::{Fixed, PostfixStart, postfix_start};
 use verse_layout::toks::Tok;
 use verse_tree::names::Name;
-use verse_tree_handles::trees::{Tree, Trees};
+use verse_tree_nodes::trees::{Tree, Trees};
 use verse_tree_nodes::operators;
 
 /// A postfix without the tree that it is put to.

@@ -25,8 +25,8 @@ use verse_expr_reader::types::type_at;
 use verse_grammar::phrases::Phrase;
 use verse_grammar::starts::{Duration, Fixed, duration_at};
 use verse_layout::toks::Tok;
-use verse_tree_handles::trees::{Tree, Trees};
-use verse_tree_handles::types::Written;
+use verse_tree_nodes::trees::{Tree, Trees};
+use verse_tree_nodes::written::Written;
 use verse_tree_nodes::{forms, literals};
 
 /// An expression in round brackets, or a tuple.

@@ -28,8 +28,8 @@ use verse_grammar::phrases::Phrase;
 use verse_grammar::starts::{Fixed, PrimaryStart, primary_start};
 use verse_layout::toks::Tok;
 use verse_tree::names::Name;
-use verse_tree_handles::parts::{Givens, Holes};
-use verse_tree_handles::trees::Tree;
+use verse_tree_nodes::lists::{Givens, Holes};
+use verse_tree_nodes::trees::Tree;
 use verse_tree_nodes::literals;
 
 /// A primary form.

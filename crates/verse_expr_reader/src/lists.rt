@@ -16,7 +16,7 @@ use std::alloc::Global;
 use verse_grammar::phrases::Phrase;
 use verse_grammar::starts::Fixed;
 use verse_layout::toks::Tok;
-use verse_tree_handles::trees::{Tree, Trees};
+use verse_tree_nodes::trees::{Tree, Trees};
 
 impl<'b, F: Fn(Global, &[u8], Phrase, &[Tok]) -> Result<(Tree, usize), ReadFault>> Reader<'b, F> {
     /// One phrase or more, with a separator between them, up to a closing tok.

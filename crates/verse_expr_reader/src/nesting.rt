@@ -13,7 +13,7 @@ use crate::steps::ReadFault;
 use std::alloc::Global;
 use verse_grammar::phrases::Phrase;
 use verse_layout::toks::Tok;
-use verse_tree_handles::trees::Tree;
+use verse_tree_nodes::trees::Tree;
 
 /// Reads the phrases of a file; what is nested in one is read by `nested`, which answers the tree
 /// and how many toks it has.

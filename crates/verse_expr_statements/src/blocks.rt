@@ -18,7 +18,7 @@ use verse_expr_reader::steps::{ReadFault, expect, take};
 use verse_grammar::phrases::Phrase;
 use verse_grammar::starts::Fixed;
 use verse_layout::toks::Tok;
-use verse_tree_handles::trees::Tree;
+use verse_tree_nodes::trees::Tree;
 use verse_tree_nodes::statements;
 
 /// Open, parts and Close.

@@ -24,8 +24,8 @@ use verse_expr_reader::types::type_at;
 use verse_grammar::phrases::Phrase;
 use verse_grammar::starts::{Fixed, StmtStart, stmt_start};
 use verse_layout::toks::Tok;
-use verse_tree_handles::trees::Tree;
-use verse_tree_handles::types::Written;
+use verse_tree_nodes::trees::Tree;
+use verse_tree_nodes::written::Written;
 use verse_tree_nodes::statements;
 
 /// A statement.

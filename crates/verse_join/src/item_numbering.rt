@@ -23,7 +23,7 @@ use verse_join_parts::type_numbering::number_type;
 use verse_tree::exprs::Expr;
 use verse_tree::items::{ClassItem, EnumItem, Field, Fun, Item, Member, Param, Spec, Using};
 use verse_tree::names::Name;
-use verse_tree_handles::trees::Tree;
+use verse_tree_nodes::trees::Tree;
 use verse_tree_items::funs::{FunTree, Head, ParamTree, ParamTrees};
 use verse_tree_items::items::{ItemTree, ItemTrees};
 use verse_tree_items::members::{MemberTree, MemberTrees, member_field};

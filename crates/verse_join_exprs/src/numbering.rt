@@ -32,8 +32,8 @@ use verse_tree::exprs::{
     Applied, Cases, Expr, ForParts, Form, Given, Hole, IfParts, Pair, Two, TypedValue,
 };
 use verse_tree::names::{Name, Text};
-use verse_tree_handles::parts::{Givens, Holes, Pairs};
-use verse_tree_handles::trees::{Tree, Trees};
+use verse_tree_nodes::lists::{Givens, Holes, Pairs};
+use verse_tree_nodes::trees::{Tree, Trees};
 use verse_tree_nodes::parts::{alternative, choosing, returning, single, taking};
 
 /// A copy of the node with its parts and itself numbered from `next` on, and the number behind it.

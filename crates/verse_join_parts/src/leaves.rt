@@ -14,8 +14,8 @@ use verse_base::refusals::Memory;
 use verse_tree::exprs::Form;
 use verse_tree::names::{Name, Text};
 use verse_tree::types::TyExpr;
-use verse_tree_handles::nodes::numbered_node;
-use verse_tree_handles::trees::Tree;
+use verse_tree_nodes::nodes::numbered_node;
+use verse_tree_nodes::trees::Tree;
 
 /// A node with the number `node`, and the number behind it.
 pub fn made(alloc: Global, node: u32, place: Place, form: Form) -> Result<(Tree, u32), Memory>

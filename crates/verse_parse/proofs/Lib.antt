@@ -1,3 +1,6 @@
+pub mod Wholes
+pub mod Members
+pub mod OfItems
 pub mod Spelled
 pub mod Stopping
 pub mod Rows

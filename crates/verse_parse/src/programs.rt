@@ -17,12 +17,12 @@ ghost use Rattle.verse_expr.specs.Faults.{stop_rule};
 ghost use Rattle.verse_expr.specs.declared.faults.ParseFault.TheVariants as fault;
 ghost use Rattle.verse_parse.specs.StopsWith.{StopsWith};
 
+use crate::item;
 use std::alloc::Global;
 use verse_expr::faults::{ParseFault, fault_of};
 use verse_expr_reader::steps::{ReadFault, next, take};
 use verse_grammar::starts::Fixed;
 use verse_layout::toks::Tok;
-use verse_parse_items::item;
 use verse_tree_items::items::{ItemTree, ItemTrees};
 
 /// The items that the toks of a file spell.

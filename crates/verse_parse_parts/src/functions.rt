@@ -22,8 +22,8 @@ use verse_grammar::phrases::Phrase;
 use verse_grammar::starts::Fixed;
 use verse_layout::toks::Tok;
 use verse_tree::items::Spec;
-use verse_tree_handles::trees::Tree;
-use verse_tree_handles::types::Written;
+use verse_tree_nodes::trees::Tree;
+use verse_tree_nodes::written::Written;
 use verse_tree_items::funs::{FunTree, ParamTree, ParamTrees};
 
 /// `X:t`

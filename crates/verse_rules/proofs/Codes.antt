@@ -7,7 +7,7 @@ use Rattle.verse_tree.specs.ItemTree.{ItemTree}
 use Rattle.verse_tree.specs.PostOrder.{What, program, item, member, parameter, type_name, expression}
 use Rattle.verse_tree.specs.declared.tables.Names.{Names}
 use Rattle.verse_rules_least.proofs.Codes.{AllCodes, held_code, broken_code}
-use Rattle.verse_names.proofs.Codes.{misnamed_listed}
+use Rattle.verse_rules.proofs.OfNames.{misnamed_listed}
 use Rattle.verse_rules_walk.specs.Around.{Around}
 use Rattle.verse_rules_walk.specs.Nodes.{number_of, items_nodes}
 use Rattle.verse_check_typing.specs.Facts.{Facts, world_of}

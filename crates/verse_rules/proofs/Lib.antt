@@ -1,3 +1,5 @@
+pub mod Refusing
+pub mod OfNames
 pub mod Made
 pub mod Counting
 pub mod Judging

@@ -4,7 +4,7 @@ use Rattle.verse_base.specs.declared.refusals.Refusal.{Refusal}
 use Rattle.verse_tree.specs.ItemTree.{ItemTree}
 use Rattle.verse_rules_least.proofs.Refusals.{refused_once}
 use Rattle.verse_names_items.specs.Nodes.{places_in}
-use Rattle.verse_names.specs.Breaking.{NamesBreak, IsMisnamed}
+use Rattle.verse_rules.specs.Breaking.{NamesBreak, IsMisnamed}
 use Rattle.verse_rules.specs.Sound.{BodiesBreak, IsMistyped, IsSound, IsUnsound, SoundOnce}
 
 -- a refusal tells what is broken

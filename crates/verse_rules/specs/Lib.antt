@@ -1,3 +1,4 @@
+pub mod Breaking
 pub mod Made
 pub mod Naming
 pub mod Sound

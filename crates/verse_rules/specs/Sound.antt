@@ -11,7 +11,7 @@ use Rattle.verse_tree.specs.declared.tables.Names.{Names}
 use Rattle.verse_rules_types.specs.Types.{Ty}
 use Rattle.verse_rules_least.specs.Refusals.{IsRefusedFor}
 use Rattle.verse_names_items.specs.Nodes.{places_in}
-use Rattle.verse_names.specs.Breaking.{NamesBreak, IsMisnamed}
+use Rattle.verse_rules.specs.Breaking.{NamesBreak, IsMisnamed}
 use Rattle.verse_rules_walk.specs.Nodes.{items_nodes}
 use Rattle.verse_check.specs.Checking as types
 use Rattle.verse_effects.specs.Rules as effects

@@ -12,7 +12,7 @@ ghost use Rattle.verse_rules.specs.Sound.{SizesAgree};
 ghost use Rattle.verse_rules.specs.Counting.{counted, shape_adds, what_adds};
 
 use verse_base::refusals::Memory;
-use verse_check_refs::lookups::ref_at;
+use verse_check_typing::lookups::ref_at;
 use verse_rules_walk::arounds::Around;
 use verse_rules_walk::items::walk_items;
 use verse_rules_walk::passes::{Part, Pass};

@@ -10,8 +10,8 @@ use std::marker::Model;
 use verse_base::places::Place;
 use verse_tree::items::{Fun, Param, Spec};
 use verse_tree::names::Name;
-use verse_tree_handles::trees::Tree;
-use verse_tree_handles::types::Written;
+use verse_tree_nodes::trees::Tree;
+use verse_tree_nodes::written::Written;
 
 /// What a definition begins with: its number, where it stands, its name and the specifiers of that.
 #[derive(Drop)]

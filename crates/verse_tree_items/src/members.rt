@@ -12,8 +12,8 @@ use std::alloc::{AllocError, Global};
 use std::marker::Model;
 use verse_tree::exprs::Expr;
 use verse_tree::items::{Field, Member, Spec};
-use verse_tree_handles::trees::Tree;
-use verse_tree_handles::types::Written;
+use verse_tree_nodes::trees::Tree;
+use verse_tree_nodes::written::Written;
 
 /// A member of a class.
 pub struct MemberTree {

@@ -5,14 +5,14 @@ ghost use Rattle.verse_tree.specs.Tree.{tree};
 ghost use Rattle.verse_tree.specs.Tree as t;
 ghost use Rattle.verse_tree.specs.View.{tree_of, trees};
 
+use crate::nodes::node;
 use crate::parts::{choosing, taking, two};
+use crate::trees::{Tree, Trees};
 use std::alloc::Global;
 use verse_base::places::Place;
 use verse_base::refusals::Memory;
 use verse_tree::exprs::Form;
 use verse_tree::names::Name;
-use verse_tree_handles::nodes::node;
-use verse_tree_handles::trees::{Tree, Trees};
 
 /// `for`
 pub fn for_form(alloc: Global, place: Place, clauses: Trees, body: Tree) -> Result<Tree, Memory>

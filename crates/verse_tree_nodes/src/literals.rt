@@ -6,16 +6,16 @@ ghost use Rattle.verse_tree.specs.Tree as t;
 ghost use Rattle.verse_tree.specs.View.{tree_of, trees, holes, pairs, givens, hole_of, pair_of};
 ghost use Rattle.verse_tree.specs.View.{given_of, event_shape};
 
+use crate::lists::{Givens, Holes, Pairs};
+use crate::nodes::node;
 use crate::parts::optional;
+use crate::trees::{Tree, Trees};
+use crate::written::Written;
 use std::alloc::Global;
 use verse_base::places::Place;
 use verse_base::refusals::Memory;
 use verse_tree::exprs::Form;
 use verse_tree::names::{Name, Text};
-use verse_tree_handles::nodes::node;
-use verse_tree_handles::parts::{Givens, Holes, Pairs};
-use verse_tree_handles::trees::{Tree, Trees};
-use verse_tree_handles::types::Written;
 
 /// An int.
 pub fn integer(alloc: Global, place: Place, value: i64) -> Result<Tree, Memory>

@@ -5,11 +5,11 @@ ghost use Rattle.std.specs.Option.{option_map};
 ghost use Rattle.verse_tree.specs.View.{tree_of, written_of, shape_of, return_shape, applied_of};
 ghost use Rattle.verse_tree.specs.View.{cases_of, if_of, for_of, two_of, typed_value_of};
 
+use crate::trees::{Tree, Trees};
+use crate::written::Written;
 use sqlite_items::Boxed;
 use verse_tree::exprs::{Applied, Cases, Expr, ForParts, Form, IfParts, Two, TypedValue};
 use verse_tree::types::TyExpr;
-use verse_tree_handles::trees::{Tree, Trees};
-use verse_tree_handles::types::Written;
 
 /// Two parts.
 pub fn two(left: Tree, right: Tree) -> Two

@@ -5,14 +5,14 @@ ghost use Rattle.verse_tree.specs.Tree.{tree};
 ghost use Rattle.verse_tree.specs.Tree as t;
 ghost use Rattle.verse_tree.specs.View.{tree_of};
 
+use crate::nodes::node;
 use crate::parts::two;
+use crate::trees::Tree;
 use std::alloc::Global;
 use verse_base::places::Place;
 use verse_base::refusals::Memory;
 use verse_tree::exprs::Form;
 use verse_tree::names::{Name, Text};
-use verse_tree_handles::nodes::node;
-use verse_tree_handles::trees::Tree;
 
 /// `P => E`
 pub fn arm(alloc: Global, place: Place, pattern: Tree, body: Tree) -> Result<Tree, Memory>

@@ -5,15 +5,15 @@ ghost use Rattle.verse_tree.specs.Tree.{tree};
 ghost use Rattle.verse_tree.specs.Tree as t;
 ghost use Rattle.verse_tree.specs.View.{tree_of, written_of, trees};
 
+use crate::nodes::node;
 use crate::parts::{alternative, returning, single, two, with_type};
+use crate::trees::{Tree, Trees};
+use crate::written::Written;
 use std::alloc::Global;
 use verse_base::places::Place;
 use verse_base::refusals::Memory;
 use verse_tree::exprs::{Assign, Form};
 use verse_tree::names::Name;
-use verse_tree_handles::nodes::node;
-use verse_tree_handles::trees::{Tree, Trees};
-use verse_tree_handles::types::Written;
 
 /// Statements between Open and Close.
 pub fn block(alloc: Global, place: Place, parts: Trees) -> Result<Tree, Memory>

@@ -6,13 +6,13 @@ ghost use Rattle.verse_tree.specs.Tree as t;
 ghost use Rattle.std.specs.Option.{option_map};
 ghost use Rattle.verse_tree.specs.View.{written_of, writtens, event_written};
 
+use crate::written::{Written, Writtens, map_parts};
 use sqlite_items::Boxed;
 use std::alloc::Global;
 use verse_base::places::Place;
 use verse_base::refusals::Memory;
 use verse_tree::names::Name;
 use verse_tree::types::{TyExpr, TyName};
-use verse_tree_handles::types::{Written, Writtens, map_parts};
 
 /// `int`
 pub fn int() -> Written

@@ -10,7 +10,7 @@ ghost use Rattle.vm_exec_loops.specs.Domains.{IsTaken};
 use std::alloc::Global;
 use verse_base::refusals::Memory;
 use verse_value::values::{Entries, Parts, Value};
-use vm_ops_constructors::making::key_value;
+use vm_ops::made::key_value;
 
 /// What a domain in two locals has next.
 #[derive(Drop)]

@@ -1,3 +1,4 @@
+pub mod Chars
 pub mod Equal
 pub mod Shown
 pub mod Entered

@@ -9,13 +9,13 @@ ghost use Rattle.verse_value.specs.Operations.{sized, text_val, join_of, hole_by
 ghost use Rattle.vm_ops.specs.Answers.{IsAnswerOrMemory, IsFaultOrMemory, IsMisfit};
 
 use crate::faults::OpFault;
+use crate::made::text_value;
 use std::alloc::Global;
 use verse_base::refusals::Kind;
 use verse_base::texts::decimal;
 use verse_value::lookups::text_bytes;
 use verse_value::sizes::MOST_WEIGHT;
 use verse_value::values::Value;
-use vm_ops_constructors::making::text_value;
 
 /// The value of a text: the array of its chars.
 pub fn op_text(alloc: Global, bytes: &[u8]) -> Result<Value, OpFault>
