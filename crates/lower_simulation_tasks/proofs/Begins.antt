@@ -6,7 +6,7 @@ use Rattle.verse_tree.specs.Tree as t
 use Rattle.verse_code.specs.declared.operations.Op.TheVariants as op
 use Rattle.verse_value.specs.Val.{Val}
 use Rattle.verse_meaning_state.specs.State.{stepped}
-use Rattle.verse_meaning_state.specs.Turns.{Kind, all_of, first_of, rush_of}
+use Rattle.verse_meaning_state.specs.Turns.{Kind, sync, race, rush}
 use Rattle.verse_meaning.specs.Residuals.{none, no_arms, part}
 use Rattle.verse_meaning.specs.Outcomes.{World, world, branch_started, set_behind, outside}
 use Rattle.verse_meaning.specs.Evaluating.{begins_scope, started, ev, scope_end}
@@ -163,14 +163,14 @@ module _ (z : Setting) (differ : ℕ → ℕ → Bool) where
   pub sync_leads : (top n : ℕ) (pl : Place) (x : Tree) (xs : Trees) → AllArms top (more_trees x xs) →
       EvLeads z differ top (tree n pl (t.Shape.sync (more_trees x xs)))
   sync_leads top n pl x xs hs ss a s e out w M j m c o y ls st i sc fw lt lM ab g =
-      group_leads all_of 0 refl top pl x xs hs ss a s e out w M j m c o y ls st i sc fw lt lM g
+      group_leads sync 0 refl top pl x xs hs ss a s e out w M j m c o y ls st i sc fw lt lM g
 
   pub race_leads : (top n : ℕ) (pl : Place) (x : Tree) (xs : Trees) → AllArms top (more_trees x xs) →
       EvLeads z differ top (tree n pl (t.Shape.race (more_trees x xs)))
   race_leads top n pl x xs hs ss a s e out w M j m c o y ls st i sc fw lt lM ab g =
-      group_leads first_of 1 refl top pl x xs hs ss a s e out w M j m c o y ls st i sc fw lt lM g
+      group_leads race 1 refl top pl x xs hs ss a s e out w M j m c o y ls st i sc fw lt lM g
 
   pub rush_leads : (top n : ℕ) (pl : Place) (x : Tree) (xs : Trees) → AllArms top (more_trees x xs) →
       EvLeads z differ top (tree n pl (t.Shape.rush (more_trees x xs)))
   rush_leads top n pl x xs hs ss a s e out w M j m c o y ls st i sc fw lt lM ab g =
-      group_leads rush_of 2 refl top pl x xs hs ss a s e out w M j m c o y ls st i sc fw lt lM g
+      group_leads rush 2 refl top pl x xs hs ss a s e out w M j m c o y ls st i sc fw lt lM g

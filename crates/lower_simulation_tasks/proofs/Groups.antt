@@ -4,7 +4,7 @@ use Rattle.std.proofs.Common.{◌∙◌, subst, arith, append_assoc, append-nil}
 use Rattle.verse_base.specs.declared.places.Place.{Place}
 use Rattle.verse_value.specs.Operations.{tuple_of}
 use Rattle.verse_value.specs.Answer.{Answer, gives, fails, error, stuck}
-use Rattle.verse_meaning_state.specs.Turns.{Kind, all_of, first_of, rush_of}
+use Rattle.verse_meaning_state.specs.Turns.{Kind, sync, race, rush}
 use Rattle.verse_meaning_state.specs.Effects.{still}
 use Rattle.verse_code_machine.specs.Frames.{behind}
 use Rattle.verse_meaning.specs.Residuals as r
@@ -269,17 +269,17 @@ legs_clears P z a lo m (runs_leg {hi = hi} {gs} {us = us} k n s ts e lk ln h lg)
 
 -- the group has no value yet
 abbrev pub Undecided : Kind → List Part → Type 0
-Undecided all_of ps = all_did ps ≡ None
-Undecided first_of ps = first_did ps ≡ None
-Undecided rush_of ps = first_did ps ≡ None
+Undecided sync ps = all_did ps ≡ None
+Undecided race ps = first_did ps ≡ None
+Undecided rush ps = first_did ps ≡ None
 
 grouped_stands : (kind : Kind) (pl : Place) (ps : List Part) (x : Thread) (o : World) (s : State) (stands : Task → Step) →
     Undecided kind ps → grouped kind pl ps x o s stands ≡ stands (record { thread = x; rest = group kind pl ps })
-grouped_stands all_of pl ps x o s stands e = ap (λ y. or_stands y (stands (record { thread = x; rest = group all_of pl ps }))
+grouped_stands sync pl ps x o s stands e = ap (λ y. or_stands y (stands (record { thread = x; rest = group sync pl ps }))
     (λ vs. tupled pl (tuple_of vs) x o s)) e
-grouped_stands first_of pl ps x o s stands e = ap (λ y. or_stands y (stands (record { thread = x; rest = group first_of pl ps }))
+grouped_stands race pl ps x o s stands e = ap (λ y. or_stands y (stands (record { thread = x; rest = group race pl ps }))
     (λ v. cancels (λ o s. resumes x v o s) (resuming x v) (beneath_arms x.who.path ps) o s)) e
-grouped_stands rush_of pl ps x o s stands e = ap (λ y. or_stands y (stands (record { thread = x; rest = group rush_of pl ps }))
+grouped_stands rush pl ps x o s stands e = ap (λ y. or_stands y (stands (record { thread = x; rest = group rush pl ps }))
     (λ v. resumes x v o s)) e
 
 leave_all_tasks : (gs : Arms) (w : Scene) → (leave_all gs w).tasks ≡ w.tasks
@@ -342,15 +342,15 @@ settled_goes : (z : Setting) (c : Ctx) (pl : Place) (p : ℕ) (st ls : List Val)
     Goes z j n c (world_of pre post up rs q) w.behind w.tasks (on p st) g (settled z.program (deeper z.program M) kind pl c.env gs w) →
     Ends z (grouped kind pl ps (thread c.who (frame_of c ls st p) c.below) (world (onto ts pre) post up rs) w.state stands) g
 unfolding settled or_rests
-settled_goes z c pl p st ls q hi0 lq lb fr ag all_of j n M pre post up rs g gs w ps ts lo lg tl tn tM far stands hs k =
+settled_goes z c pl p st ls q hi0 lq lb fr ag sync j n M pre post up rs g gs w ps ts lo lg tl tn tM far stands hs k =
     choose (all_did ps) refl (subst (λ x. Goes z j n c (world_of pre post up rs q) w.behind w.tasks (on p st) g
-    (or_rests z.program (deeper z.program M) x (rests (arms all_of pl c.env gs) w)
+    (or_rests z.program (deeper z.program M) x (rests (arms sync pl c.env gs) w)
     (λ vs. told (still (tuple_of vs) w.state) pl c.env w))) (same_values (ParkedS z j) z c.who lo w.state.clock.left lg) k)
   where
     choose : (x : Option (List Val)) → all_did ps ≡ x → Goes z j n c (world_of pre post up rs q) w.behind w.tasks (on p st) g
-        (or_rests z.program (deeper z.program M) x (rests (arms all_of pl c.env gs) w)
+        (or_rests z.program (deeper z.program M) x (rests (arms sync pl c.env gs) w)
         (λ vs. told (still (tuple_of vs) w.state) pl c.env w)) →
-        Ends z (or_stands x (stands (record { thread = thread c.who (frame_of c ls st p) c.below; rest = group all_of pl ps }))
+        Ends z (or_stands x (stands (record { thread = thread c.who (frame_of c ls st p) c.below; rest = group sync pl ps }))
         (λ vs. tupled pl (tuple_of vs) (thread c.who (frame_of c ls st p) c.below) (world (onto ts pre) post up rs) w.state)) g
     choose None e k = hs e k
     choose (Some vs) e k = subst (λ x. Ends z (tupled pl (tuple_of vs) (thread c.who (frame_of c ls st p) c.below)
@@ -358,9 +358,9 @@ settled_goes z c pl p st ls q hi0 lq lb fr ag all_of j n M pre post up rs g gs w
         (tupled_goes z c pl p st ls fr ag j n (world_of pre post up rs q) g w
         (record { steps = tn; low = trans tl (trans (legs_low (ParkedS z j) z c.who lo w.state.clock.left lg) lq); apart = far })
         (tuple_of vs) k)
-settled_goes z c pl p st ls q hi0 lq lb fr ag first_of j n M pre post up rs g gs w ps ts lo lg tl tn tM far stands hs k =
+settled_goes z c pl p st ls q hi0 lq lb fr ag race j n M pre post up rs g gs w ps ts lo lg tl tn tM far stands hs k =
     choose (first_did ps) refl (subst (λ x. Goes z j n c (world_of pre post up rs q) w.behind w.tasks (on p st) g
-    (or_rests z.program (deeper z.program M) x (rests (arms first_of pl c.env gs) w)
+    (or_rests z.program (deeper z.program M) x (rests (arms race pl c.env gs) w)
     (λ v. on_went (cancel_arms z.program (deeper z.program M) gs w) (λ u. value c.env v u))))
     (same_value (ParkedS z j) z c.who lo w.state.clock.left lg) k)
   where
@@ -377,9 +377,9 @@ settled_goes z c pl p st ls q hi0 lq lb fr ag first_of j n M pre post up rs g gs
     si = legs_arm (ParkedS z j) z c.who lo w.state.clock.left lg
 
     choose : (x : Option Val) → first_did ps ≡ x → Goes z j n c (world_of pre post up rs q) w.behind w.tasks (on p st) g
-        (or_rests z.program (deeper z.program M) x (rests (arms first_of pl c.env gs) w)
+        (or_rests z.program (deeper z.program M) x (rests (arms race pl c.env gs) w)
         (λ v. on_went (cancel_arms z.program (deeper z.program M) gs w) (λ u. value c.env v u))) →
-        Ends z (or_stands x (stands (record { thread = thread c.who (frame_of c ls st p) c.below; rest = group first_of pl ps }))
+        Ends z (or_stands x (stands (record { thread = thread c.who (frame_of c ls st p) c.below; rest = group race pl ps }))
         (λ v. cancels (λ o s. resumes (thread c.who (frame_of c ls st p) c.below) v o s)
         (resuming (thread c.who (frame_of c ls st p) c.below) v) f (world (onto ts pre) post up rs) w.state)) g
     choose None e k = hs e k
@@ -412,14 +412,14 @@ settled_goes z c pl p st ls q hi0 lq lb fr ag first_of j n M pre post up rs g gs
           low = trans le (trans tl (trans (legs_low (ParkedS z j) z c.who lo w.state.clock.left lg) lq));
           apart = far;
         })) tt)))))
-settled_goes z c pl p st ls q hi0 lq lb fr ag rush_of j n M pre post up rs g gs w ps ts lo lg tl tn tM far stands hs k =
+settled_goes z c pl p st ls q hi0 lq lb fr ag rush j n M pre post up rs g gs w ps ts lo lg tl tn tM far stands hs k =
     choose (first_did ps) refl (subst (λ x. Goes z j n c (world_of pre post up rs q) w.behind w.tasks (on p st) g
-    (or_rests z.program (deeper z.program M) x (rests (arms rush_of pl c.env gs) w) (λ v. value c.env v (leave_all gs w))))
+    (or_rests z.program (deeper z.program M) x (rests (arms rush pl c.env gs) w) (λ v. value c.env v (leave_all gs w))))
     (same_value (ParkedS z j) z c.who lo w.state.clock.left lg) k)
   where
     choose : (x : Option Val) → first_did ps ≡ x → Goes z j n c (world_of pre post up rs q) w.behind w.tasks (on p st) g
-        (or_rests z.program (deeper z.program M) x (rests (arms rush_of pl c.env gs) w) (λ v. value c.env v (leave_all gs w))) →
-        Ends z (or_stands x (stands (record { thread = thread c.who (frame_of c ls st p) c.below; rest = group rush_of pl ps }))
+        (or_rests z.program (deeper z.program M) x (rests (arms rush pl c.env gs) w) (λ v. value c.env v (leave_all gs w))) →
+        Ends z (or_stands x (stands (record { thread = thread c.who (frame_of c ls st p) c.below; rest = group rush pl ps }))
         (λ v. resumes (thread c.who (frame_of c ls st p) c.below) v (world (onto ts pre) post up rs) w.state)) g
     choose None e k = hs e k
     choose (Some v) e k =
@@ -705,9 +705,9 @@ module _ (z : Setting) (c : Ctx) (kind : Kind) (pl : Place) (p : ℕ) (st ls : L
           (arm_gave z.program (deeper z.program M) kd pl c.env gs w
           (λ w. started z.program (deeper z.program M) kd pl as1 c.env gs w)) →
           Ends z (arm_did kd pl ps es mine (onto ts pre) post up rs w.state (λ y. rested (y ∷ onto ts pre) post up rs w.state)) g
-      by all_of f h k = f k
-      by first_of f h k = h k
-      by rush_of f h k = f k
+      by sync f h k = f k
+      by race f h k = h k
+      by rush f h k = f k
 
   grown_arm : (j i n m : ℕ) (pre post : List Task) (up : List Up) (rs rs' : Trees) (b b' : Scopes) (f f' : Tasks) → n ≤ m → b' ≡ b →
       Planted (Unit {0}) (PS j) z i rs' f' n rs f → Grown (PS j) z c i (world_of pre post up rs' q) b' f' m (world_of pre post up rs q) b f

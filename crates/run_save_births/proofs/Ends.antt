@@ -9,7 +9,7 @@ use Rattle.verse_value.specs.declared.runs.Ending.{Ending}
 use Rattle.verse_value.specs.declared.runs.Ending.TheVariants as ending
 use Rattle.verse_meaning_state.specs.State.{State, spending, stepped, with_result, drawn}
 use Rattle.verse_meaning_state.specs.Waits.{Cause, waiting, has}
-use Rattle.verse_meaning_state.specs.Turns.{Kind, all_of, first_of, rush_of}
+use Rattle.verse_meaning_state.specs.Turns.{Kind, sync, race, rush}
 use Rattle.verse_code_machine.specs.Tasks.{Handler, Frame, Role, root, part, Who, Part, did, runs, Rest, asleep}
 use Rattle.verse_code_machine.specs.Tasks.{group, Thread, thread, Task}
 use Rattle.verse_code_machine.specs.Tasks.{After, resuming, closing, finishing, Up, begins, branching, spawning}
@@ -204,11 +204,11 @@ module _ (most : ℕ) (T : Who → List ℕ → Type 0) (drops : (w : Who) (n k 
       Step) →
       Is s → ThreadIn x → WorldIn o →
       ((r : Rest) → Low (stands (record { thread = x; rest = r }))) → Low (grouped k p gs x o s stands)
-  grouped_low all_of p gs x o s stands h a b f =
-      stands_low (all_did gs) _ _ (f (group all_of p gs)) (λ vs. tupled_low p (tuple_of vs) x o s h a b)
-  grouped_low first_of p gs x o s stands h a b f = stands_low (first_did gs) _ _ (f (group first_of p gs)) (λ v.
+  grouped_low sync p gs x o s stands h a b f =
+      stands_low (all_did gs) _ _ (f (group sync p gs)) (λ vs. tupled_low p (tuple_of vs) x o s h a b)
+  grouped_low race p gs x o s stands h a b f = stands_low (first_did gs) _ _ (f (group race p gs)) (λ v.
       cancels_low (λ o s. resumes x v o s) (resuming x v) (beneath_arms x.who.path gs) o s (resuming_low x v) h a b)
-  grouped_low rush_of p gs x o s stands h a b f = stands_low (first_did gs) _ _ (f (group rush_of p gs)) (λ v.
+  grouped_low rush p gs x o s stands h a b f = stands_low (first_did gs) _ _ (f (group rush p gs)) (λ v.
       resumes_low x v o s h a b)
 
   pub next_low : (k : Kind) (p : Place) (gs : List Part) (ls : List ℕ) (x : Thread) (pre post : List Task) (us : List
@@ -229,11 +229,11 @@ module _ (most : ℕ) (T : Who → List ℕ → Type 0) (drops : (w : Who) (n k 
       Is s → ThreadIn x → Others pre post us trees → ((r : Rest) →
       Low (stands (record { thread = x; rest = r }))) →
       Low (arm_did k p gs ls x pre post us trees s stands)
-  did_low all_of p gs ls x pre post us trees s stands h a b f = next_low all_of p gs ls x pre post us trees s stands
+  did_low sync p gs ls x pre post us trees s stands h a b f = next_low sync p gs ls x pre post us trees s stands
       h a b f
-  did_low first_of p gs ls x pre post us trees s stands h a b f = grouped_low first_of p gs x (world pre post us
+  did_low race p gs ls x pre post us trees s stands h a b f = grouped_low race p gs x (world pre post us
       trees) s stands h a b f
-  did_low rush_of p gs ls x pre post us trees s stands h a b f = next_low rush_of p gs ls x pre post us trees s
+  did_low rush p gs ls x pre post us trees s stands h a b f = next_low rush p gs ls x pre post us trees s
       stands h a b f
 
   -- no task runs

@@ -8,7 +8,7 @@ use Rattle.verse_value.specs.Runs.{Line}
 use Rattle.verse_meaning_state.specs.State.{State}
 use Rattle.verse_meaning_state.specs.Waits.{Cause, till, never, done, heard}
 use Rattle.verse_meaning_state.specs.Effects.{printed, printed_by}
-use Rattle.verse_meaning_state.specs.Turns.{Kind, all_of, first_of, rush_of}
+use Rattle.verse_meaning_state.specs.Turns.{Kind, sync, race, rush}
 use Rattle.verse_code_machine.specs.Tasks.{Frame, Part, did, runs, Rest, asleep, group, Task}
 use Rattle.verse_code_machine.specs.Ends.{all_did, first_did}
 use Rattle.verse_code_machine.specs.Frames.{behind}
@@ -102,9 +102,9 @@ first_alike (runs n ∷ gs) (did w ∷ hs) a = absurd a.0
 first_alike (runs n ∷ gs) (runs k ∷ hs) a = first_alike gs hs a.1
 
 not_yet : (k : Kind) (gs hs : List Part) → PartsAlike gs hs → NotYet k gs → NotYet k hs
-not_yet all_of gs hs a e = sym (all_alike gs hs a) ∙ e
-not_yet first_of gs hs a e = sym (first_alike gs hs a) ∙ e
-not_yet rush_of gs hs a e = sym (first_alike gs hs a) ∙ e
+not_yet sync gs hs a e = sym (all_alike gs hs a) ∙ e
+not_yet race gs hs a e = sym (first_alike gs hs a) ∙ e
+not_yet rush gs hs a e = sym (first_alike gs hs a) ∙ e
 
 parts_fit : (n : ℕ) (gs hs : List Part) → PartsAlike gs hs → Each (PartFits n) gs → Each (PartFits n) hs
 parts_fit n [] [] a b = tt

@@ -13,7 +13,7 @@ use Rattle.verse_code.specs.declared.codes.Code.{Code}
 use Rattle.verse_value.specs.Val.{Val}
 use Rattle.verse_meaning_state.specs.State.{State, Given}
 use Rattle.verse_meaning_state.specs.Waits.{Cause, till, never, done, heard, Wait, nth, eqn, given_by, due_of}
-use Rattle.verse_meaning_state.specs.Turns.{Kind, all_of}
+use Rattle.verse_meaning_state.specs.Turns.{Kind, sync}
 use Rattle.verse_code_machine.specs.Tasks.{Frame, Role, root, part, Who, Part, did, runs, Rest, asleep, group, Task, same_path}
 use Rattle.verse_code_machine.specs.Frames.{behind}
 use Rattle.verse_code_machine.specs.Ends.{all_did, first_did}

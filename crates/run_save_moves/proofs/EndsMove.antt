@@ -9,7 +9,7 @@ use Rattle.verse_value.specs.declared.runs.Ending.{Ending}
 use Rattle.verse_value.specs.declared.runs.Ending.TheVariants as ending
 use Rattle.verse_meaning_state.specs.State.{State, spending, stepped, with_result, drawn}
 use Rattle.verse_meaning_state.specs.Waits.{Cause, waiting, has, eqn}
-use Rattle.verse_meaning_state.specs.Turns.{Kind, all_of, first_of, rush_of}
+use Rattle.verse_meaning_state.specs.Turns.{Kind, sync, race, rush}
 use Rattle.verse_code_machine.specs.Tasks.{Handler, Frame, Role, root, part, Who, Part, did, runs, Rest, asleep, group, Thread, thread, Task}
 use Rattle.verse_code_machine.specs.Tasks.{After, resuming, closing, finishing, Up, begins, branching, spawning, clearing, Trees, World, world}
 use Rattle.verse_code_machine.specs.Tasks.{Step, Over, Turn, onto, among, waits_of, same_path, since, beneath_arms}
@@ -90,15 +90,15 @@ module _ (c : Code) where
     -- all arms have begun
     pub grouped_leads : (j : Kind) → j ≡ k → (gs : List Part) →
         Leads c (m.gathering k p gs [] x pre post us trees s) (grouped j p gs x (world pre post us trees) s go)
-    grouped_leads all_of e gs = subst (λ k. Leads c (m.gathering k p gs [] x pre post us trees s) (grouped all_of p gs x (world pre post us trees) s go)) e
-        (stands_leads _ (all_did gs) _ _ (λ n. then_leads (m.stands n) (f (group all_of p gs)))
+    grouped_leads sync e gs = subst (λ k. Leads c (m.gathering k p gs [] x pre post us trees s) (grouped sync p gs x (world pre post us trees) s go)) e
+        (stands_leads _ (all_did gs) _ _ (λ n. then_leads (m.stands n) (f (group sync p gs)))
         (λ vs n. tupled_leads _ p (tuple_of vs) x (world pre post us trees) s (λ v h. then_leads (m.gathered (λ i a. subst (AnswerFits i) h
         (tuple_fits i vs (subst (AllFit i) n (all_fit i gs a))))) acts_next)))
-    grouped_leads first_of e gs = subst (λ k. Leads c (m.gathering k p gs [] x pre post us trees s) (grouped first_of p gs x (world pre post us trees) s go)) e
-        (stands_leads _ (first_did gs) _ _ (λ n. then_leads (m.stands n) (f (group first_of p gs)))
+    grouped_leads race e gs = subst (λ k. Leads c (m.gathering k p gs [] x pre post us trees s) (grouped race p gs x (world pre post us trees) s go)) e
+        (stands_leads _ (first_did gs) _ _ (λ n. then_leads (m.stands n) (f (group race p gs)))
         (λ v n. then_leads (m.races (λ i a. subst (OneFits i) n (first_fits i gs a))) (clears_leads _ (resuming x v) (resuming_leads x v) _ _ s)))
-    grouped_leads rush_of e gs = subst (λ k. Leads c (m.gathering k p gs [] x pre post us trees s) (grouped rush_of p gs x (world pre post us trees) s go)) e
-        (stands_leads _ (first_did gs) _ _ (λ n. then_leads (m.stands n) (f (group rush_of p gs)))
+    grouped_leads rush e gs = subst (λ k. Leads c (m.gathering k p gs [] x pre post us trees s) (grouped rush p gs x (world pre post us trees) s go)) e
+        (stands_leads _ (first_did gs) _ _ (λ n. then_leads (m.stands n) (f (group rush p gs)))
         (λ v n. then_leads (m.gathered (λ i a. subst (OneFits i) n (first_fits i gs a))) acts_next))
 
     pub next_leads : (gs : List Part) (ls : List ℕ) →
@@ -118,11 +118,11 @@ module _ (c : Code) where
             x;
         rest = r;
       }))) → Leads c (m.gathering k p (gs ++ did v ∷ []) ls x pre post us trees s) (arm_did k p (gs ++ did v ∷ []) ls x pre post us trees s go)
-  did_leads all_of p gs v ls x pre post us trees s go f = next_leads all_of p x pre post us trees s go f (gs ++ did v ∷ []) ls
-  did_leads first_of p gs v ls x pre post us trees s go f = stands_leads _ (first_did (gs ++ did v ∷ [])) _ _ (λ n. absurd (some_did gs v n))
+  did_leads sync p gs v ls x pre post us trees s go f = next_leads sync p x pre post us trees s go f (gs ++ did v ∷ []) ls
+  did_leads race p gs v ls x pre post us trees s go f = stands_leads _ (first_did (gs ++ did v ∷ [])) _ _ (λ n. absurd (some_did gs v n))
       (λ w n. then_leads (m.races (λ i a. subst (OneFits i) n (first_fits i (gs ++ did v ∷ []) a))) (clears_leads _ (resuming x w) (resuming_leads
       x w) _ _ s))
-  did_leads rush_of p gs v ls x pre post us trees s go f = next_leads rush_of p x pre post us trees s go f (gs ++ did v ∷ []) ls
+  did_leads rush p gs v ls x pre post us trees s go f = next_leads rush p x pre post us trees s go f (gs ++ did v ∷ []) ls
 
   -- no task runs
   pub rested_leads : (us : List Up) (pre post : List Task) (trees : Trees) (s : State) → Leads c (m.rests pre post us trees s) (rested pre post us

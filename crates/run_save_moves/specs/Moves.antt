@@ -8,7 +8,7 @@ use Rattle.verse_value.specs.declared.runs.Ending.{Ending}
 use Rattle.verse_meaning_state.specs.State.{State, stepped, with_result, drawn, with_entry}
 use Rattle.verse_meaning_state.specs.Waits.{Cause, till, never, done, heard, Wait, waiting, eqn}
 use Rattle.verse_meaning_state.specs.Waits.{nth}
-use Rattle.verse_meaning_state.specs.Turns.{Kind, all_of, first_of, rush_of}
+use Rattle.verse_meaning_state.specs.Turns.{Kind, sync, race, rush}
 use Rattle.verse_code_machine.specs.Tasks.{Life, Frame, gone, Role, root, part, Who, Part, did}
 use Rattle.verse_code_machine.specs.Tasks.{runs, Rest, asleep, group, Thread, thread}
 use Rattle.verse_code_machine.specs.Tasks.{Task, After, resuming, closing, finishing, Up, begins}
@@ -102,9 +102,9 @@ CauseIs s (heard event) = IsEvent s.memory.store event
 
 -- a group has no value yet
 abbrev pub NotYet : Kind → List Part → Type 0
-NotYet all_of gs = all_did gs ≡ None
-NotYet first_of gs = first_did gs ≡ None
-NotYet rush_of gs = first_did gs ≡ None
+NotYet sync gs = all_did gs ≡ None
+NotYet race gs = first_did gs ≡ None
+NotYet rush gs = first_did gs ≡ None
 
 abbrev pub PartFits : ℕ → Part → Type 0
 PartFits n (did v) = ValueFits n v
@@ -203,7 +203,7 @@ pub data Move (c : Code) : Point → Point → Type 0 where
   races : {p : Place} {gs : List Part} {ls : List ℕ} {x : Thread} {pre post : List Task} {us :
       List Up} {trees : Trees} {s : State}
       {v : Val} → ((n : ℕ) → Each (PartFits n) gs → ValueFits n v) →
-      Move c (gathering first_of p gs ls x pre post us trees s) (cancels (resuming x v) (cancelled
+      Move c (gathering race p gs ls x pre post us trees s) (cancels (resuming x v) (cancelled
       (beneath_arms x.who.path gs) (world pre
       post us trees)) (world_without (beneath_arms x.who.path gs) (world pre post us trees)) s)
   -- what waits for the task

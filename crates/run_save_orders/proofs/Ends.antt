@@ -8,7 +8,7 @@ use Rattle.verse_value.specs.declared.runs.Ending.{Ending}
 use Rattle.verse_value.specs.declared.runs.Ending.TheVariants as ending
 use Rattle.verse_meaning_state.specs.State.{State, spending, stepped, with_result, drawn}
 use Rattle.verse_meaning_state.specs.Waits.{Cause, waiting}
-use Rattle.verse_meaning_state.specs.Turns.{Kind, all_of, first_of, rush_of}
+use Rattle.verse_meaning_state.specs.Turns.{Kind, sync, race, rush}
 use Rattle.verse_code_machine.specs.Tasks.{Handler, Frame, Role, root, part, Who, Part, did, runs, Rest, asleep, group, Thread, thread, Task, After}
 use Rattle.verse_code_machine.specs.Tasks.{resuming, closing, finishing, Up, begins, branching, spawning, clearing, Trees, World, world, Machine, Step}
 use Rattle.verse_code_machine.specs.Tasks.{Next, Over, Turn, onto, among, planted, same_path, since, beneath_arms}
@@ -83,13 +83,13 @@ module _ (R : Trees → Trees → Type 0) (plants : (t u : Trees) (ts : List Tas
 
   pub grouped_both : (k : Kind) (p : Place) (gs : List Part) (x : Thread) (pre post : List Task) (us : List Up) (s : State) (stands : Trees → Task → Step) →
       ((q : Rest) → Both (λ t. stands t (record { thread = x; rest = q }))) → Both (λ t. grouped k p gs x (world pre post us t) s (stands t))
-  grouped_both all_of p gs x pre post us s stands f = stands_both (all_did gs) (λ t. stands t (record { thread = x; rest = group all_of p gs }))
-      (λ t vs. tupled p (tuple_of vs) x (world pre post us t) s) (f (group all_of p gs)) (λ vs. tupled_both p (tuple_of vs) x pre post us s)
-  grouped_both first_of p gs x pre post us s stands f = stands_both (first_did gs) (λ t. stands t (record { thread = x; rest = group first_of p gs }))
-      (λ t v. cancels (λ o s. resumes x v o s) (resuming x v) (beneath_arms x.who.path gs) (world pre post us t) s) (f (group first_of p gs))
+  grouped_both sync p gs x pre post us s stands f = stands_both (all_did gs) (λ t. stands t (record { thread = x; rest = group sync p gs }))
+      (λ t vs. tupled p (tuple_of vs) x (world pre post us t) s) (f (group sync p gs)) (λ vs. tupled_both p (tuple_of vs) x pre post us s)
+  grouped_both race p gs x pre post us s stands f = stands_both (first_did gs) (λ t. stands t (record { thread = x; rest = group race p gs }))
+      (λ t v. cancels (λ o s. resumes x v o s) (resuming x v) (beneath_arms x.who.path gs) (world pre post us t) s) (f (group race p gs))
       (λ v. cancels_both (λ o s. resumes x v o s) (resuming x v) (beneath_arms x.who.path gs) pre post us s (λ pre post us s. nexts r))
-  grouped_both rush_of p gs x pre post us s stands f = stands_both (first_did gs) (λ t. stands t (record { thread = x; rest = group rush_of p gs }))
-      (λ t v. resumes x v (world pre post us t) s) (f (group rush_of p gs)) (λ v. nexts r)
+  grouped_both rush p gs x pre post us s stands f = stands_both (first_did gs) (λ t. stands t (record { thread = x; rest = group rush p gs }))
+      (λ t v. resumes x v (world pre post us t) s) (f (group rush p gs)) (λ v. nexts r)
 
   pub next_both : (k : Kind) (p : Place) (gs : List Part) (ls : List ℕ) (x : Thread) (pre post : List Task) (us : List Up) (s : State)
       (stands : Trees → Task → Step) → ((q : Rest) → Both (λ t. stands t (record { thread = x; rest = q }))) →
@@ -99,9 +99,9 @@ module _ (R : Trees → Trees → Type 0) (plants : (t u : Trees) (ts : List Tas
 
   did_both : (k : Kind) (p : Place) (gs : List Part) (ls : List ℕ) (x : Thread) (pre post : List Task) (us : List Up) (s : State) (stands : Trees → Task →
       Step) → ((q : Rest) → Both (λ t. stands t (record { thread = x; rest = q }))) → Both (λ t. arm_did k p gs ls x pre post us t s (stands t))
-  did_both all_of p gs ls x pre post us s stands f = next_both all_of p gs ls x pre post us s stands f
-  did_both first_of p gs ls x pre post us s stands f = grouped_both first_of p gs x pre post us s stands f
-  did_both rush_of p gs ls x pre post us s stands f = next_both rush_of p gs ls x pre post us s stands f
+  did_both sync p gs ls x pre post us s stands f = next_both sync p gs ls x pre post us s stands f
+  did_both race p gs ls x pre post us s stands f = grouped_both race p gs x pre post us s stands f
+  did_both rush p gs ls x pre post us s stands f = next_both rush p gs ls x pre post us s stands f
 
   -- no task runs
   pub rested_both : (us : List Up) (pre post : List Task) (s : State) → Both (λ t. rested pre post us t s)

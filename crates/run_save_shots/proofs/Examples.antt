@@ -10,7 +10,7 @@ use Rattle.verse_code.specs.declared.codes.Code.{Code}
 use Rattle.verse_value.specs.Val.{unit}
 use Rattle.verse_meaning_state.specs.State.{State}
 use Rattle.verse_meaning_state.specs.Waits.{till, never, done}
-use Rattle.verse_meaning_state.specs.Turns.{Stage, going, closed, broken, amiss, first_of}
+use Rattle.verse_meaning_state.specs.Turns.{Stage, going, closed, broken, amiss, race}
 use Rattle.verse_code_machine.specs.Tasks.{root, part, runs, group, asleep}
 use Rattle.verse_code_machine.specs.Runs.{Forest, mach_after}
 use Rattle.run_save_shots.specs.Kept as k

@@ -4,7 +4,7 @@ use Rattle.verse_base.specs.declared.places.Place.{Place}
 use Rattle.verse_code.specs.declared.codes.Code.{Code}
 use Rattle.verse_value.specs.Val.{Val}
 use Rattle.verse_meaning_state.specs.State.{State}
-use Rattle.verse_meaning_state.specs.Turns.{all_of}
+use Rattle.verse_meaning_state.specs.Turns.{sync}
 use Rattle.verse_code_machine.specs.Tasks.{Frame, root, part, Role, Who, Part, did, runs, Rest, asleep, group, Task, thread, same_path}
 use Rattle.verse_code_machine.specs.Acts.{kind_of, place_at}
 use Rattle.verse_code_machine.specs.Runs.{Forest}
@@ -60,7 +60,7 @@ or_nowhere (Some p) = p
 
 abbrev pub gathered : Code → Stand → List Part → Rest
 gathered c (gathers k m p) gs = group (kind_of k) (or_nowhere (place_at c p)) gs
-gathered c stand gs = group all_of nowhere gs
+gathered c stand gs = group sync nowhere gs
 
 module _ (c : Code) (s : Kept) where
   -- The task at a place. Those that stand behind it in the list are the last argument.

@@ -29,8 +29,8 @@ fn kind_of(number: u32) -> Kind
     ensures { kind_of result ≡ kind_numbered number }
 {
     match number {
-        0 => Kind::All,
-        1 => Kind::First,
+        0 => Kind::Sync,
+        1 => Kind::Race,
         _ => Kind::Rush,
     }
 }
@@ -83,7 +83,7 @@ fn group_at(code: &Code, place: u32, arms: Vec<Arm>) -> Group
             arms,
         },
         _ => Group {
-            kind: Kind::All,
+            kind: Kind::Sync,
             place: NOWHERE,
             arms,
         },

@@ -8,7 +8,7 @@ use Rattle.verse_value.specs.Operations.{tuple_of}
 use Rattle.verse_value.specs.declared.runs.Ending.TheVariants as ending
 use Rattle.verse_meaning_state.specs.State.{State, spending, stepped, with_result, drawn}
 use Rattle.verse_meaning_state.specs.Waits.{Cause, waiting, has}
-use Rattle.verse_meaning_state.specs.Turns.{Kind, all_of, first_of, rush_of}
+use Rattle.verse_meaning_state.specs.Turns.{Kind, sync, race, rush}
 use Rattle.verse_code_machine.specs.Tasks.{Handler, Frame, Role, root, part, Who, Part, did, runs, Rest, asleep, group, Thread, thread, Task}
 use Rattle.verse_code_machine.specs.Tasks.{After, resuming, closing, finishing, Up, begins, branching, spawning, clearing, Trees, World, world}
 use Rattle.verse_code_machine.specs.Tasks.{Step, Over, Turn, onto, among, planted, waits_of, same_path, since, beneath_arms}
@@ -102,11 +102,11 @@ module _ (n w : ℕ) where
   pub grouped_low : (k : Kind) (p : Place) (gs : List Part) (x : Thread) (o : World) (s : State) (stands : Task → Step) →
       steps_weight n s + thread_weight n x + world_weight n o < w → ThreadIs x → WorldIs o →
       ((r : Rest) → Low n w (stands (record { thread = x; rest = r }))) → Low n w (grouped k p gs x o s stands)
-  grouped_low all_of p gs x o s stands h a b f =
-      stands_low (all_did gs) _ _ (f (group all_of p gs)) (λ vs. tupled_low p (tuple_of vs) x o s h a b)
-  grouped_low first_of p gs x o s stands h a b f = stands_low (first_did gs) _ _ (f (group first_of p gs)) (λ v.
+  grouped_low sync p gs x o s stands h a b f =
+      stands_low (all_did gs) _ _ (f (group sync p gs)) (λ vs. tupled_low p (tuple_of vs) x o s h a b)
+  grouped_low race p gs x o s stands h a b f = stands_low (first_did gs) _ _ (f (group race p gs)) (λ v.
       cancels_low (λ o s. resumes x v o s) (resuming x v) (beneath_arms x.who.path gs) o s (resuming_low x v) (omega (arith, h)) a b)
-  grouped_low rush_of p gs x o s stands h a b f = stands_low (first_did gs) _ _ (f (group rush_of p gs)) (λ v. resumes_low x v o s h a b)
+  grouped_low rush p gs x o s stands h a b f = stands_low (first_did gs) _ _ (f (group rush p gs)) (λ v. resumes_low x v o s h a b)
 
   pub next_low : (k : Kind) (p : Place) (gs : List Part) (ls : List ℕ) (x : Thread) (pre post : List Task) (us : List Up) (trees : Trees)
       (s : State) (stands : Task → Step) →
@@ -123,9 +123,9 @@ module _ (n w : ℕ) where
       steps_weight n s + thread_weight n x + others_weight n pre post us trees < w → ThreadIs x → Others pre post us trees → ((r : Rest) →
       Low n w (stands (record { thread = x; rest = r }))) →
       Low n w (arm_did k p gs ls x pre post us trees s stands)
-  did_low all_of p gs ls x pre post us trees s stands h a b f = next_low all_of p gs ls x pre post us trees s stands h a b f
-  did_low first_of p gs ls x pre post us trees s stands h a b f = grouped_low first_of p gs x (world pre post us trees) s stands h a b f
-  did_low rush_of p gs ls x pre post us trees s stands h a b f = next_low rush_of p gs ls x pre post us trees s stands h a b f
+  did_low sync p gs ls x pre post us trees s stands h a b f = next_low sync p gs ls x pre post us trees s stands h a b f
+  did_low race p gs ls x pre post us trees s stands h a b f = grouped_low race p gs x (world pre post us trees) s stands h a b f
+  did_low rush p gs ls x pre post us trees s stands h a b f = next_low rush p gs ls x pre post us trees s stands h a b f
 
   -- no task runs
   turn_low : (pre post : List Task) (trees : Trees) (s : State) → steps_weight n s + others_weight n pre post [] trees < w →

@@ -6,7 +6,7 @@ use Rattle.verse_value.specs.Val.{Val}
 use Rattle.verse_value.specs.declared.runs.Ending.TheVariants as ending
 use Rattle.verse_meaning_state.specs.State.{State}
 use Rattle.verse_meaning_state.specs.Waits.{eqn}
-use Rattle.verse_meaning_state.specs.Turns.{Kind, first_of, rush_of}
+use Rattle.verse_meaning_state.specs.Turns.{Kind, race, rush}
 use Rattle.verse_code_machine.specs.Tasks.{Life, Handler, Frame, root, part, Who, Part, did, runs, Thread, thread}
 use Rattle.verse_code_machine.specs.Tasks.{Task, After, resuming, closing, finishing, Trees, World, Machine, Step}
 use Rattle.verse_code_machine.specs.Tasks.{Over, onto, same_path, since, beneath_arms}
@@ -125,7 +125,7 @@ climbs_to up n v pre (t ∷ ts) y post trees s a e = rw a.0 (climbs_to up n v (t
 
 race_step : {w : Who} {v : Val} {o q : World} {x : Thread} {gs : List Part} {ls : List ℕ} (u : State) (value : Val) →
     w.role ≡ part →
-    Joins w v o first_of x gs ls q → first_did gs ≡ Some value →
+    Joins w v o race x gs ls q → first_did gs ≡ Some value →
     follows (closing w v) o u ≡ cancels (follows (resuming x value)) (resuming x value) (beneath_arms x.who.path gs) q u
 race_step u value r (beginning _ p gs n ls x us e) h = rw (r, e, h) refl
 race_step {w = w} {v = v} {o = o} u value r (standing _ p gs y ts post e b others is rest arm) h =
@@ -133,7 +133,7 @@ race_step {w = w} {v = v} {o = o} u value r (standing _ p gs y ts post e b other
 
 rush_step : {w : Who} {v : Val} {o q : World} {x : Thread} {gs : List Part} {ls : List ℕ} (u : State) (value : Val) →
     w.role ≡ part →
-    Joins w v o rush_of x gs ls q → ls ≡ [] → first_did gs ≡ Some value → follows (closing w v) o u ≡ resumes x value q
+    Joins w v o rush x gs ls q → ls ≡ [] → first_did gs ≡ Some value → follows (closing w v) o u ≡ resumes x value q
     u
 rush_step u value r (beginning _ p gs n ls x us e) l h = rw (r, e, l, h) refl
 rush_step {w = w} {v = v} {o = o} u value r (standing _ p gs y ts post e b others is rest arm) l h =
@@ -181,7 +181,7 @@ module _ (v : Val) where
       by_test go true e = refl
       by_test go false e = go e
 
-race_value : {w : Who} {v : Val} {o q : World} {x : Thread} {gs : List Part} {ls : List ℕ} → Joins w v o first_of x gs
+race_value : {w : Who} {v : Val} {o q : World} {x : Thread} {gs : List Part} {ls : List ℕ} → Joins w v o race x gs
     ls q → WorldWaits o → first_did gs ≡ Some v
 race_value {v = v} (beginning _ p gs n ls x us e) a = first_last v gs (subst UpsWait e a.ups).0
 race_value {w = w} {v = v} (standing _ p gs y ts post e b others is rest arm) a =
@@ -193,7 +193,7 @@ race_value {w = w} {v = v} (standing _ p gs y ts post e b others is rest arm) a 
 
 race_ends : NoneSince → CancelledOnce → (c : Code) (m : Machine) (v : Val) (u : State) → MachineRooted m → WorldWaits
     m.world → ArmEnds c m v u → (x : Thread) (gs : List Part) (ls : List ℕ) (o : World) → Joins m.who v (world_without
-    (begun_by m) m.world) first_of x gs ls o → (r : Step) → Comes c (follows (closing m.who v) (world_without (begun_by
+    (begun_by m) m.world) race x gs ls o → (r : Step) → Comes c (follows (closing m.who v) (world_without (begun_by
     m) m.world) u) r → RaceEnds c x v gs o u r
 race_ends since_none once c m v u rooted waits arm x gs ls o joins r p = record {
   first = value;

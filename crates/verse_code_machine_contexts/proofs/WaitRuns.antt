@@ -11,7 +11,7 @@ use Rattle.verse_value.specs.Val.{Val}
 use Rattle.verse_value.specs.declared.runs.Ending.TheVariants as ending
 use Rattle.verse_meaning_state.specs.State.{State, Clock, Given, begun, spending, restored, at_moment}
 use Rattle.verse_meaning_state.specs.Waits.{Wait, Due, least, never, done, heard, after, ltn, nth}
-use Rattle.verse_meaning_state.specs.Turns.{Kind, all_of, first_of, rush_of, Stage, going, closed, broken, amiss, turn}
+use Rattle.verse_meaning_state.specs.Turns.{Kind, sync, race, rush, Stage, going, closed, broken, amiss, turn}
 use Rattle.verse_meaning_state.specs.Turns.{turn_at}
 use Rattle.verse_meaning_state.specs.Effects.{event_of, task_of, signal_sent}
 use Rattle.verse_code_machine.specs.Tasks.{Life, Handler, Frame, Note, to, gone, Who, World, Machine, Step, Next, Over}
@@ -98,9 +98,9 @@ module _ (w : Who) (o : World) (s : State) (a : WorldWaits o) where
     })))
 
     no_arms : (k : Kind) → StillBegins k []
-    no_arms all_of = tt
-    no_arms first_of = refl
-    no_arms rush_of = tt
+    no_arms sync = tt
+    no_arms race = refl
+    no_arms rush = tt
 
     groups_here : (k : Kind) (p : Place) (ks : List ℕ) (q : ℕ) (st : List Val) → Is (groups k p ks q w o s g ls st hs
         bl)

@@ -7,7 +7,7 @@ use Rattle.verse_value.specs.Operations.{tuple_of}
 use Rattle.verse_value.specs.declared.runs.Ending.TheVariants as ending
 use Rattle.verse_meaning_state.specs.State.{State, spending, stepped, drawn}
 use Rattle.verse_meaning_state.specs.Waits.{Cause, waiting, has}
-use Rattle.verse_meaning_state.specs.Turns.{Kind, all_of, first_of, rush_of}
+use Rattle.verse_meaning_state.specs.Turns.{Kind, sync, race, rush}
 use Rattle.verse_code_machine.specs.Tasks.{Handler, Frame, Role, root, part, Who, Part, did, runs, Rest}
 use Rattle.verse_code_machine.specs.Tasks.{asleep, group, Thread}
 use Rattle.verse_code_machine.specs.Tasks.{Task, After, resuming, closing, finishing, Up, begins, branching, spawning}
@@ -122,15 +122,15 @@ tupled_low p stuck x o s a = over
 
 grouped_low : (k : Kind) (p : Place) (gs : List Part) (x : Thread) (o : World) (s : State) (stands : Task → Step) →
     WorldWaits o → ((t : Task) → Waits t.rest → Low (stands t)) → Low (grouped k p gs x o s stands)
-grouped_low all_of p gs x o s stands a f =
-    stands_low (all_did gs) _ _ (λ e. f (record { thread = x; rest = group all_of p gs }) e) (λ vs. tupled_low p
+grouped_low sync p gs x o s stands a f =
+    stands_low (all_did gs) _ _ (λ e. f (record { thread = x; rest = group sync p gs }) e) (λ vs. tupled_low p
     (tuple_of vs) x o s a)
-grouped_low first_of p gs x o s stands a f =
-    stands_low (first_did gs) _ _ (λ e. f (record { thread = x; rest = group first_of p gs }) e) (λ v. cancels_low _
+grouped_low race p gs x o s stands a f =
+    stands_low (first_did gs) _ _ (λ e. f (record { thread = x; rest = group race p gs }) e) (λ v. cancels_low _
     (resuming x v)
     (beneath_arms x.who.path gs) o s a (λ o s b. next b))
-grouped_low rush_of p gs x o s stands a f =
-    stands_low (first_did gs) _ _ (λ e. f (record { thread = x; rest = group rush_of p gs }) e) (λ v. next a)
+grouped_low rush p gs x o s stands a f =
+    stands_low (first_did gs) _ _ (λ e. f (record { thread = x; rest = group rush p gs }) e) (λ v. next a)
 
 pub next_low : (k : Kind) (p : Place) (gs : List Part) (ls : List ℕ) (x : Thread) (pre post : List Task) (us : List Up)
     (trees : Trees) (s : State) (stands : Task → Step) → StillBegins k gs → Others pre post us trees → ((t : Task) →
@@ -145,10 +145,10 @@ next_low k p gs (l ∷ ls) x pre post us trees s stands b o f = spending_low s.c
 did_low : (k : Kind) (p : Place) (gs : List Part) (ls : List ℕ) (x : Thread) (pre post : List Task) (us : List Up)
     (trees : Trees) (s : State) (stands : Task → Step) → Others pre post us trees → ((t : Task) → Waits t.rest → Low
     (stands t)) → Low (arm_did k p gs ls x pre post us trees s stands)
-did_low all_of p gs ls x pre post us trees s stands o f = next_low all_of p gs ls x pre post us trees s stands tt o f
-did_low first_of p gs ls x pre post us trees s stands o f = grouped_low first_of p gs x (world pre post us trees) s
+did_low sync p gs ls x pre post us trees s stands o f = next_low sync p gs ls x pre post us trees s stands tt o f
+did_low race p gs ls x pre post us trees s stands o f = grouped_low race p gs x (world pre post us trees) s
     stands o f
-did_low rush_of p gs ls x pre post us trees s stands o f = next_low rush_of p gs ls x pre post us trees s stands tt o f
+did_low rush p gs ls x pre post us trees s stands o f = next_low rush p gs ls x pre post us trees s stands tt o f
 
 none_more : (gs : List Part) (n : ℕ) → first_did gs ≡ None → first_did (gs ++ runs n ∷ []) ≡ None
 none_more [] n e = refl
@@ -156,9 +156,9 @@ none_more (did v ∷ gs) n e = cc
 none_more (runs m ∷ gs) n e = none_more gs n e
 
 arm_more : (k : Kind) (gs : List Part) (n : ℕ) → StillBegins k gs → StillBegins k (gs ++ runs n ∷ [])
-arm_more all_of gs n b = tt
-arm_more first_of gs n b = none_more gs n b
-arm_more rush_of gs n b = tt
+arm_more sync gs n b = tt
+arm_more race gs n b = none_more gs n b
+arm_more rush gs n b = tt
 
 pub rested_low : (pre post : List Task) (us : List Up) (trees : Trees) (s : State) → Others pre post us trees →
     Low (rested pre post us trees s)

@@ -5,7 +5,7 @@ use Rattle.verse_base.specs.declared.places.Place.{Place}
 use Rattle.verse_code.specs.declared.codes.Code.{Code}
 use Rattle.verse_value.specs.Val.{Val}
 use Rattle.verse_meaning_state.specs.State.{State}
-use Rattle.verse_meaning_state.specs.Turns.{Kind, first_of, rush_of}
+use Rattle.verse_meaning_state.specs.Turns.{Kind, race, rush}
 use Rattle.verse_code_machine.specs.Tasks.{Who, Part, did, group, Thread, Task, closing}
 use Rattle.verse_code_machine.specs.Tasks.{resuming, Up, begins, World, world, Machine, Step, onto}
 use Rattle.verse_code_machine.specs.Tasks.{same_path, beneath_arms}
@@ -64,7 +64,7 @@ abbrev pub RacesCancel : Type 0
 RacesCancel = (c : Code) (ns : List ℤ) (steps until : ℕ) (m : Machine) →
     InRun c ns steps until m → (v : Val) (u : State) → ArmEnds c m v u →
     (x : Thread) (gs : List Part) (ls : List ℕ) (o : World) →
-    Joins m.who v (world_without (begun_by m) m.world) first_of x gs ls o → (r : Step) →
+    Joins m.who v (world_without (begun_by m) m.world) race x gs ls o → (r : Step) →
     Comes c (follows (closing m.who v) (world_without (begun_by m) m.world) u) r →
     RaceEnds c x v gs o u r
 
@@ -74,6 +74,6 @@ abbrev pub RushesLeave : Type 0
 RushesLeave = (c : Code) (ns : List ℤ) (steps until : ℕ) (m : Machine) →
     InRun c ns steps until m → (v : Val) (u : State) → ArmEnds c m v u →
     (x : Thread) (gs : List Part) (o : World) →
-    Joins m.who v (world_without (begun_by m) m.world) rush_of x gs [] o →
+    Joins m.who v (world_without (begun_by m) m.world) rush x gs [] o →
     (value : Val) × (first_did gs ≡ Some value) ×
     (follows (closing m.who v) (world_without (begun_by m) m.world) u ≡ resumes x value o u)

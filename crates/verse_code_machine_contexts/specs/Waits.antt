@@ -2,7 +2,7 @@
 -- that has its value.
 use Rattle.std.specs.Prelude.{◌≡◌, ℕ, ℤ, List, [], ◌∷◌, None}
 use Rattle.verse_code.specs.declared.codes.Code.{Code}
-use Rattle.verse_meaning_state.specs.Turns.{Kind, all_of, first_of, rush_of, Stage, going, closed}
+use Rattle.verse_meaning_state.specs.Turns.{Kind, sync, race, rush, Stage, going, closed}
 use Rattle.verse_meaning_state.specs.Turns.{broken, amiss}
 use Rattle.verse_code_machine.specs.Tasks.{Part, Rest, asleep, group, Task, Up, begins, branching}
 use Rattle.verse_code_machine.specs.Tasks.{spawning, clearing, World, Machine}
@@ -13,9 +13,9 @@ use Rattle.verse_code_machine_contexts.specs.Runs.{InRun}
 
 -- a sync waits for an arm that has no value, a race or a rush for the first value
 abbrev pub NoValue : Kind → List Part → Type 0
-NoValue all_of gs = all_did gs ≡ None
-NoValue first_of gs = first_did gs ≡ None
-NoValue rush_of gs = first_did gs ≡ None
+NoValue sync gs = all_did gs ≡ None
+NoValue race gs = first_did gs ≡ None
+NoValue rush gs = first_did gs ≡ None
 
 abbrev pub Waits : Rest → Type 0
 Waits (asleep w) = Unit {0}
@@ -30,9 +30,9 @@ ForestWaits (ts ∷ tss) = TasksWait ts × ForestWaits tss
 
 -- a race that still begins its arms has no value; another group begins all of them
 abbrev pub StillBegins : Kind → List Part → Type 0
-StillBegins all_of gs = Unit {0}
-StillBegins first_of gs = first_did gs ≡ None
-StillBegins rush_of gs = Unit {0}
+StillBegins sync gs = Unit {0}
+StillBegins race gs = first_did gs ≡ None
+StillBegins rush gs = Unit {0}
 
 -- the tasks that wait for the one that runs, and those of the trees in which they stand
 abbrev pub UpsWait : List Up → Type 0

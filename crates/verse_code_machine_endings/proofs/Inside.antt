@@ -19,7 +19,7 @@ use Rattle.verse_value.specs.declared.runs.Ending.TheVariants as ending
 use Rattle.verse_meaning_state.specs.State.{State, Given, restored, spending, with_result, drawn}
 use Rattle.verse_meaning_state.specs.Waits.{Cause, after, done, heard, never, has, ltn}
 use Rattle.verse_meaning_state.specs.Waits.{nth}
-use Rattle.verse_meaning_state.specs.Turns.{Kind, all_of, first_of, rush_of}
+use Rattle.verse_meaning_state.specs.Turns.{Kind, sync, race, rush}
 use Rattle.verse_meaning_state.specs.Effects.{Effect, still, variable_made, object_made, event_made, slot_read, slot_written, line_printed}
 use Rattle.verse_meaning_state.specs.Effects.{event_of, task_of, signal_sent}
 use Rattle.verse_code_machine.specs.Tasks as t
@@ -148,10 +148,10 @@ tupled_in p stuck y x s = is_in tt
 
 grouped_in : (k : Kind) (p : Place) (gs : List Part) (y : Thread) (x : World) (s : State) (stands : Task → Step) →
     ((t : Task) → Inside (stands t)) → Inside (grouped k p gs y x s stands)
-grouped_in all_of p gs y x s stands h = stands_in (all_did gs) _ _ (h _) (λ vs. tupled_in p (tuple_of vs) y x s)
-grouped_in first_of p gs y x s stands h =
+grouped_in sync p gs y x s stands h = stands_in (all_did gs) _ _ (h _) (λ vs. tupled_in p (tuple_of vs) y x s)
+grouped_in race p gs y x s stands h =
     stands_in (first_did gs) _ _ (h _) (λ v. cancels_in _ (resuming y v) (beneath_arms y.who.path gs) x s (λ x s. is_in tt))
-grouped_in rush_of p gs y x s stands h = stands_in (first_did gs) _ _ (h _) (λ v. is_in tt)
+grouped_in rush p gs y x s stands h = stands_in (first_did gs) _ _ (h _) (λ v. is_in tt)
 
 next_arm_in : (k : Kind) (p : Place) (gs : List Part) (ls : List ℕ) (y : Thread) (pre post : List Task) (us : List Up) (trees : Trees)
     (s : State) (stands : Task → Step) → ((t : Task) → Inside (stands t)) → Inside (next_arm k p gs ls y pre post us trees s stands)
@@ -160,9 +160,9 @@ next_arm_in k p gs (l ∷ ls) y pre post us trees s stands h = spending_in s.clo
 
 arm_did_in : (k : Kind) (p : Place) (gs : List Part) (ls : List ℕ) (y : Thread) (pre post : List Task) (us : List Up) (trees : Trees)
     (s : State) (stands : Task → Step) → ((t : Task) → Inside (stands t)) → Inside (arm_did k p gs ls y pre post us trees s stands)
-arm_did_in all_of p gs ls y pre post us trees s stands h = next_arm_in all_of p gs ls y pre post us trees s stands h
-arm_did_in first_of p gs ls y pre post us trees s stands h = grouped_in first_of p gs y (world pre post us trees) s stands h
-arm_did_in rush_of p gs ls y pre post us trees s stands h = next_arm_in rush_of p gs ls y pre post us trees s stands h
+arm_did_in sync p gs ls y pre post us trees s stands h = next_arm_in sync p gs ls y pre post us trees s stands h
+arm_did_in race p gs ls y pre post us trees s stands h = grouped_in race p gs y (world pre post us trees) s stands h
+arm_did_in rush p gs ls y pre post us trees s stands h = next_arm_in rush p gs ls y pre post us trees s stands h
 
 rested_in : (pre post : List Task) (us : List Up) (trees : Trees) (s : State) → Inside (rested pre post us trees s)
 rested_in pre post [] trees s = is_in tt

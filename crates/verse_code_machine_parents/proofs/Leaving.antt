@@ -10,7 +10,7 @@ use Rattle.verse_value.specs.declared.runs.Ending.{Ending}
 use Rattle.verse_value.specs.declared.runs.Ending.TheVariants as ending
 use Rattle.verse_meaning_state.specs.State.{State, spending, stepped, with_result, drawn}
 use Rattle.verse_meaning_state.specs.Waits.{Cause, waiting, has}
-use Rattle.verse_meaning_state.specs.Turns.{Kind, all_of, first_of, rush_of}
+use Rattle.verse_meaning_state.specs.Turns.{Kind, sync, race, rush}
 use Rattle.verse_code_machine.specs.Tasks.{Life, Handler, Frame, Note, Role, root, part, Who, Part, did, runs, Rest, asleep, group, Thread}
 use Rattle.verse_code_machine.specs.Tasks.{thread, Task, After, resuming, closing, finishing, Up, begins, branching, spawning, clearing, Trees}
 use Rattle.verse_code_machine.specs.Tasks.{World, world, Step, Over, Turn, child_named, onto, among, planted, starts, waits_of}
@@ -383,13 +383,13 @@ stands_low (Some x) q go l f = f x
 pub grouped_low : (k : Kind) (p : Place) (gs : List Part) (x : Thread) (pre post : List Task) (us : List Up) (trees : Trees) (s : State)
     (stands : Task → Step) → Still x → Runs s.clock.left x.who pre post us trees →
     ((r : Rest) → Low (stands (record { thread = x; rest = r }))) → Low (grouped k p gs x (world pre post us trees) s stands)
-grouped_low all_of p gs x pre post us trees s stands i r f =
-    stands_low (all_did gs) _ _ (f (group all_of p gs)) (λ vs. tupled_low p (tuple_of vs) x pre post us trees s i r)
-grouped_low first_of p gs x pre post us trees s stands i r f = stands_low (first_did gs) _ _ (f (group first_of p gs)) (λ v.
+grouped_low sync p gs x pre post us trees s stands i r f =
+    stands_low (all_did gs) _ _ (f (group sync p gs)) (λ vs. tupled_low p (tuple_of vs) x pre post us trees s i r)
+grouped_low race p gs x pre post us trees s stands i r f = stands_low (first_did gs) _ _ (f (group race p gs)) (λ v.
     cancels_resuming x v (beneath_arms x.who.path gs) (world pre post us trees) s (arms_takes x.who.path gs) (framed_still us i (follow_clear
     x.who us r.follow)) (runs_world r))
-grouped_low rush_of p gs x pre post us trees s stands i r f =
-    stands_low (first_did gs) _ _ (f (group rush_of p gs)) (λ v. still_resumes x v pre post us trees s i r)
+grouped_low rush p gs x pre post us trees s stands i r f =
+    stands_low (first_did gs) _ _ (f (group rush p gs)) (λ v. still_resumes x v pre post us trees s i r)
 
 -- one more task begins before its parent
 pub child_stands : {left less : ℕ} (pre : List Task) (x : Who) (ws : List Who) → left ≡ suc less → Rooted left (line pre (x ∷ ws)) →
@@ -443,9 +443,9 @@ next_low k p gs (l ∷ ls) x pre post us trees s stands i r f = spending_low s.c
 did_low : (k : Kind) (p : Place) (gs : List Part) (ls : List ℕ) (x : Thread) (pre post : List Task) (us : List Up) (trees : Trees)
     (s : State) (stands : Task → Step) → Still x → Runs s.clock.left x.who pre post us trees →
     ((r : Rest) → Low (stands (record { thread = x; rest = r }))) → Low (arm_did k p gs ls x pre post us trees s stands)
-did_low all_of p gs ls x pre post us trees s stands i r f = next_low all_of p gs ls x pre post us trees s stands i r f
-did_low first_of p gs ls x pre post us trees s stands i r f = grouped_low first_of p gs x pre post us trees s stands i r f
-did_low rush_of p gs ls x pre post us trees s stands i r f = next_low rush_of p gs ls x pre post us trees s stands i r f
+did_low sync p gs ls x pre post us trees s stands i r f = next_low sync p gs ls x pre post us trees s stands i r f
+did_low race p gs ls x pre post us trees s stands i r f = grouped_low race p gs x pre post us trees s stands i r f
+did_low rush p gs ls x pre post us trees s stands i r f = next_low rush p gs ls x pre post us trees s stands i r f
 
 -- no task runs
 turn_low : (pre post : List Task) (trees : Trees) (s : State) → Rooted s.clock.left (line pre (whos post)) →

@@ -7,7 +7,7 @@ use Rattle.verse_value.specs.Operations.{tuple_of}
 use Rattle.verse_value.specs.declared.runs.Ending.TheVariants as ending
 use Rattle.verse_meaning_state.specs.State.{State, spending, stepped, with_result, drawn}
 use Rattle.verse_meaning_state.specs.Waits.{Wait, Cause, waiting, has, eqn}
-use Rattle.verse_meaning_state.specs.Turns.{Kind, all_of, first_of, rush_of}
+use Rattle.verse_meaning_state.specs.Turns.{Kind, sync, race, rush}
 use Rattle.verse_code_machine.specs.Tasks.{Handler, Frame, Role, root, part, Who, Part, did, runs, Rest, asleep, group, Thread, thread, Task}
 use Rattle.verse_code_machine.specs.Tasks.{After, resuming, closing, finishing, Up, begins, branching, spawning, clearing, Trees, World, world}
 use Rattle.verse_code_machine.specs.Tasks.{Step, Next, Over, Turn, onto, among, planted, waits_of, child_named, machine, life_from, waits_with}
@@ -148,12 +148,12 @@ module _ (k : Setting) where
   grouped_same : (d : Kind) (p : Place) (gs : List Part) (x : Thread) (o : World) (s : State) (go go' : Task → Step) → Is k s →
       WorldIs k o → Stands x go go' →
       Same k (grouped d p gs x o s go) (grouped d p (parts_as R x.who.path gs) (thread_as Z x) (world_as Z o) (T s) go')
-  grouped_same all_of p gs x o s go go' h b f =
-      stands_same _ _ _ _ _ _ (all_same R x.who.path gs) (f (group all_of p gs) tt) (λ vs. tupled_same p (tuple_of vs) x o s h b)
-  grouped_same first_of p gs x o s go go' h b f = stands_same _ _ _ _ _ _ (first_same R x.who.path gs) (f (group first_of p gs) tt) (λ v.
+  grouped_same sync p gs x o s go go' h b f =
+      stands_same _ _ _ _ _ _ (all_same R x.who.path gs) (f (group sync p gs) tt) (λ vs. tupled_same p (tuple_of vs) x o s h b)
+  grouped_same race p gs x o s go go' h b f = stands_same _ _ _ _ _ _ (first_same R x.who.path gs) (f (group race p gs) tt) (λ v.
       cancels_same _ _ (resuming x v) _ _ o s (arms_as R x.who.path gs k.apart) (λ o s h b. resumes_same x v o s h b) h b)
-  grouped_same rush_of p gs x o s go go' h b f =
-      stands_same _ _ _ _ _ _ (first_same R x.who.path gs) (f (group rush_of p gs) tt) (λ v. resumes_same x v o s h b)
+  grouped_same rush p gs x o s go go' h b f =
+      stands_same _ _ _ _ _ _ (first_same R x.who.path gs) (f (group rush p gs) tt) (λ v. resumes_same x v o s h b)
 
   begins_next : (d : Kind) (p : Place) (gs : List Part) (ls : List ℕ) (x : Thread) (pre post : List Task) (us : List Up) (trees : Trees)
       (s : State) (l m : ℕ) → m < k.bound → Is k (stepped m s) → Others k pre post us trees →
@@ -188,9 +188,9 @@ module _ (k : Setting) where
       (s : State) (go go' : Task → Step) → Is k s → Others k pre post us trees → Stands x go go' →
       Same k (arm_did d p gs ls x pre post us trees s go) (arm_did d p (parts_as R x.who.path gs) ls (thread_as Z x) (tasks_as Z pre)
       (tasks_as Z post) (ups_as Z us) (world_as Z (world pre post us trees)).trees (T s) go')
-  did_same all_of p gs ls x pre post us trees s go go' h b f = next_same all_of p gs ls x pre post us trees s go go' h b f
-  did_same first_of p gs ls x pre post us trees s go go' h b f = grouped_same first_of p gs x (world pre post us trees) s go go' h b f
-  did_same rush_of p gs ls x pre post us trees s go go' h b f = next_same rush_of p gs ls x pre post us trees s go go' h b f
+  did_same sync p gs ls x pre post us trees s go go' h b f = next_same sync p gs ls x pre post us trees s go go' h b f
+  did_same race p gs ls x pre post us trees s go go' h b f = grouped_same race p gs x (world pre post us trees) s go go' h b f
+  did_same rush p gs ls x pre post us trees s go go' h b f = next_same rush p gs ls x pre post us trees s go go' h b f
 
   -- no task runs
   turn_same : (pre post : List Task) (trees : Trees) (s : State) → Is k s → Others k pre post [] trees →

@@ -10,7 +10,7 @@ use Rattle.verse_tree.specs.declared.tables.Ref.TheVariants as ref
 use Rattle.verse_value.specs.Val.{Val, unit}
 use Rattle.verse_meaning_state.specs.State.{State, with_result}
 use Rattle.verse_meaning_state.specs.Waits.{never, after}
-use Rattle.verse_meaning_state.specs.Turns.{Kind, all_of, first_of, rush_of, run}
+use Rattle.verse_meaning_state.specs.Turns.{Kind, sync, race, rush, run}
 use Rattle.verse_meaning.specs.Programs.{Program, ref_at}
 use Rattle.verse_meaning.specs.Residuals as form
 use Rattle.verse_meaning.specs.Residuals.{Env, Form, Generator, Values, Role, part, body, root, Residual, leaf, args, seq, deferred}
@@ -131,21 +131,21 @@ module _ (l : ℕ) (p : Program) (k k' : Deeper) (d : DeeperAgrees l k k') where
   pub settled_agrees : (kd : Kind) (pl : Place) (e : Env) (gs : Arms) (w : World) → Agrees l w (settled p k kd pl e gs w) (settled p k' kd
       pl e gs w)
   unfolding settled
-  settled_agrees all_of pl e gs w =
+  settled_agrees sync pl e gs w =
       stands_agrees (all_gave gs) true w _ _ _ _ (here w) (λ vs. alike (told_follow steps_closed w _ pl e (still_writes w.state _)))
-  settled_agrees first_of pl e gs w =
+  settled_agrees race pl e gs w =
       stands_agrees (first_gave gs) true w _ _ _ _ (here w) (λ v. on_went_agrees l w _ _ _ _ (arms_agrees gs
       w) (λ u. here u))
-  settled_agrees rush_of pl e gs w =
+  settled_agrees rush pl e gs w =
       stands_agrees (first_gave gs) true w _ _ _ _ (here w) (λ v. alike (subst (λ x. StepsStand w.state x) (sym (left_state gs w))
       (steps_closed.same w.state)))
 
   gave_agrees : (kd : Kind) (pl : Place) (e : Env) (gs : Arms) (w : World) (go go' : World → Outcome) → Agrees l w (go w) (go' w) →
       Agrees l w (arm_gave p k kd pl e gs w go) (arm_gave p k' kd pl e gs w go')
   unfolding arm_gave
-  gave_agrees all_of pl e gs w go go' a = a
-  gave_agrees first_of pl e gs w go go' a = settled_agrees first_of pl e gs w
-  gave_agrees rush_of pl e gs w go go' a = a
+  gave_agrees sync pl e gs w go go' a = a
+  gave_agrees race pl e gs w go go' a = settled_agrees race pl e gs w
+  gave_agrees rush pl e gs w go go' a = a
 
   begins_agrees : (w : World) (run run' : World → Outcome) (go go' : TaskOutcome → Outcome) → ((u : World) → Agrees l u (run u) (run' u)) →
       ((u : World) (o o' : TaskOutcome) → AgreesTask l u o o' → Agrees l u (go o) (go' o')) → Agrees l w (begins_scope p k w run go)
@@ -307,9 +307,9 @@ module _ (l : ℕ) (p : Program) (k k' : Deeper) (d : DeeperAgrees l k k') where
     shape_agrees (t.Shape.cases a ts) n pl m e w = valued_agrees l w _ _ _ _ _ (ev_agrees a m e w) (λ v u. chosen_agrees ts v m e u)
     shape_agrees (t.Shape.branch a) n pl m e w =
         outside_agrees l m w _ _ (begins_agrees w _ _ _ _ (λ u. ev_agrees a true e u) (λ u o o' h. branch_agrees l u e o o' h))
-    shape_agrees (t.Shape.sync ts) n pl m e w = outside_agrees l m w _ _ (started_agrees all_of pl ts e no_arms w)
-    shape_agrees (t.Shape.race ts) n pl m e w = outside_agrees l m w _ _ (started_agrees first_of pl ts e no_arms w)
-    shape_agrees (t.Shape.rush ts) n pl m e w = outside_agrees l m w _ _ (started_agrees rush_of pl ts e no_arms w)
+    shape_agrees (t.Shape.sync ts) n pl m e w = outside_agrees l m w _ _ (started_agrees sync pl ts e no_arms w)
+    shape_agrees (t.Shape.race ts) n pl m e w = outside_agrees l m w _ _ (started_agrees race pl ts e no_arms w)
+    shape_agrees (t.Shape.rush ts) n pl m e w = outside_agrees l m w _ _ (started_agrees rush pl ts e no_arms w)
     shape_agrees (t.Shape.spawn a) n pl m e w = spawn_agrees a m e w
     shape_agrees (t.Shape.sleep z) n pl m e w = outside_agrees l m w _ _ (alike (suspended_follow steps_closed (after z w.state) e w))
     shape_agrees t.Shape.sleep_forever n pl m e w = outside_agrees l m w _ _ (alike (suspended_follow steps_closed never e w))

@@ -10,7 +10,7 @@ use Rattle.verse_tree.specs.declared.tables.Ref.TheVariants as ref
 use Rattle.verse_value.specs.Val.{Val, unit}
 use Rattle.verse_meaning_state.specs.State.{State}
 use Rattle.verse_meaning_state.specs.Waits.{never, after}
-use Rattle.verse_meaning_state.specs.Turns.{Kind, all_of, first_of, rush_of}
+use Rattle.verse_meaning_state.specs.Turns.{Kind, sync, race, rush}
 use Rattle.verse_meaning.specs.Programs.{Program, ref_at}
 use Rattle.verse_meaning.specs.Residuals as form
 use Rattle.verse_meaning.specs.Residuals.{Env, Bound, constant, variable, Base, in_variable, in_self, in_object, Form, Binder, no_name}
@@ -145,20 +145,20 @@ module _ (p : Program) (k : Deeper) (d : DeeperKeeps k) where
   -- a race cancels its other arms before its value is used
   pub settled_keeps : (kd : Kind) (pl : Place) (e : Env) (gs : Arms) (w : World) → Keeps true w (settled p k kd pl e gs w)
   unfolding settled
-  settled_keeps all_of pl e gs w =
+  settled_keeps sync pl e gs w =
       stands_keeps (all_gave gs) true w _ _ (refl, leaves_same true w) (λ vs. told_keeps true w _ pl e (still_memory w _))
-  settled_keeps first_of pl e gs w =
+  settled_keeps race pl e gs w =
       stands_keeps (first_gave gs) true w _ _ (refl, leaves_same true w) (λ v. on_went_keeps true w (cancel_arms p k gs w) _ (arms_keep gs
       w) (λ u h. h))
-  settled_keeps rush_of pl e gs w =
+  settled_keeps rush pl e gs w =
       stands_keeps (first_gave gs) true w _ _ (refl, leaves_same true w) (λ v. left_leaves gs w w (leaves_same true w))
 
   gave_keeps : (kd : Kind) (pl : Place) (e : Env) (gs : Arms) (w : World) (go : World → Outcome) → Keeps true w (go w) →
       Keeps true w (arm_gave p k kd pl e gs w go)
   unfolding arm_gave
-  gave_keeps all_of pl e gs w go a = a
-  gave_keeps first_of pl e gs w go a = settled_keeps first_of pl e gs w
-  gave_keeps rush_of pl e gs w go a = a
+  gave_keeps sync pl e gs w go a = a
+  gave_keeps race pl e gs w go a = settled_keeps race pl e gs w
+  gave_keeps rush pl e gs w go a = a
 
   begins_keeps : (w : World) (run : World → Outcome) (go : TaskOutcome → Outcome) → ((u : World) → Keeps true u (run u)) →
       ((u : World) (o : TaskOutcome) → KeepsTask true u o → Keeps true u (go o)) → Keeps true w (begins_scope p k w run go)
@@ -300,9 +300,9 @@ module _ (p : Program) (k : Deeper) (d : DeeperKeeps k) where
     shape_keeps (t.Shape.cases a ts) n pl m e w = valued_keeps m w _ _ _ (ev_keeps a m e w) (λ v u h. chosen_keeps ts v m e u)
     shape_keeps (t.Shape.branch a) n pl m e w =
         outside_keeps m w _ (λ h. begins_keeps w _ _ (λ u. ev_keeps a true e u) (λ u o h. branch_keeps u e o h))
-    shape_keeps (t.Shape.sync ts) n pl m e w = outside_keeps m w _ (λ h. started_keeps all_of pl ts e no_arms w)
-    shape_keeps (t.Shape.race ts) n pl m e w = outside_keeps m w _ (λ h. started_keeps first_of pl ts e no_arms w)
-    shape_keeps (t.Shape.rush ts) n pl m e w = outside_keeps m w _ (λ h. started_keeps rush_of pl ts e no_arms w)
+    shape_keeps (t.Shape.sync ts) n pl m e w = outside_keeps m w _ (λ h. started_keeps sync pl ts e no_arms w)
+    shape_keeps (t.Shape.race ts) n pl m e w = outside_keeps m w _ (λ h. started_keeps race pl ts e no_arms w)
+    shape_keeps (t.Shape.rush ts) n pl m e w = outside_keeps m w _ (λ h. started_keeps rush pl ts e no_arms w)
     shape_keeps (t.Shape.spawn a) n pl m e w = spawn_keeps a m e w
     shape_keeps (t.Shape.sleep z) n pl m e w = outside_keeps m w _ (λ h. suspended_keeps (after z w.state) e w)
     shape_keeps t.Shape.sleep_forever n pl m e w = outside_keeps m w _ (λ h. suspended_keeps never e w)

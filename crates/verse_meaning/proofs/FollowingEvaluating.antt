@@ -10,7 +10,7 @@ use Rattle.verse_tree.specs.declared.tables.Ref.TheVariants as ref
 use Rattle.verse_value.specs.Val.{Val, unit}
 use Rattle.verse_meaning_state.specs.State.{State, with_result}
 use Rattle.verse_meaning_state.specs.Waits.{never, after}
-use Rattle.verse_meaning_state.specs.Turns.{Kind, all_of, first_of, rush_of}
+use Rattle.verse_meaning_state.specs.Turns.{Kind, sync, race, rush}
 use Rattle.verse_meaning.specs.Programs.{Program, ref_at}
 use Rattle.verse_meaning.specs.Residuals as form
 use Rattle.verse_meaning.specs.Residuals.{Env, Form, Generator, Values, Role, part, body, root, Residual, leaf, args, seq, deferred}
@@ -128,20 +128,20 @@ module _ {R : State → State → Type 0} (cl : Closed R) (p : Program) (k : Dee
   -- a race cancels its other arms before its value is used
   pub settled_follow : (kd : Kind) (pl : Place) (e : Env) (gs : Arms) (w : World) → Reaches R w.state (settled p k kd pl e gs w)
   unfolding settled
-  settled_follow all_of pl e gs w =
+  settled_follow sync pl e gs w =
       stands_follow (all_gave gs) true w _ _ (cl.same w.state) (λ vs. told_follow cl w _ pl e (still_writes w.state _))
-  settled_follow first_of pl e gs w =
+  settled_follow race pl e gs w =
       stands_follow (first_gave gs) true w _ _ (cl.same w.state) (λ v. on_went_follow cl w.state (cancel_arms p k gs w) _ (arms_follow gs
       w) (λ u. cl.same u.state))
-  settled_follow rush_of pl e gs w =
+  settled_follow rush pl e gs w =
       stands_follow (first_gave gs) true w _ _ (cl.same w.state) (λ v. subst (λ x. R w.state x) (sym (left_state gs w)) (cl.same w.state))
 
   gave_follow : (kd : Kind) (pl : Place) (e : Env) (gs : Arms) (w : World) (go : World → Outcome) → Reaches R w.state (go w) →
       Reaches R w.state (arm_gave p k kd pl e gs w go)
   unfolding arm_gave
-  gave_follow all_of pl e gs w go a = a
-  gave_follow first_of pl e gs w go a = settled_follow first_of pl e gs w
-  gave_follow rush_of pl e gs w go a = a
+  gave_follow sync pl e gs w go a = a
+  gave_follow race pl e gs w go a = settled_follow race pl e gs w
+  gave_follow rush pl e gs w go a = a
 
   begins_follow : (w : World) (run : World → Outcome) (go : TaskOutcome → Outcome) → ((u : World) → Reaches R u.state (run u)) →
       ((u : World) (o : TaskOutcome) → ReachesTask R u.state o → Reaches R u.state (go o)) → Reaches R w.state (begins_scope p k w run go)
@@ -291,9 +291,9 @@ module _ {R : State → State → Type 0} (cl : Closed R) (p : Program) (k : Dee
     shape_follow (t.Shape.cases a ts) n pl m e w = valued_follow cl w.state _ _ _ (ev_follow a m e w) (λ v u. chosen_follow ts v m e u)
     shape_follow (t.Shape.branch a) n pl m e w =
         outside_follow cl m w _ (begins_follow w _ _ (λ u. ev_follow a true e u) (λ u o h. branch_follow cl u.state e o h))
-    shape_follow (t.Shape.sync ts) n pl m e w = outside_follow cl m w _ (started_follow all_of pl ts e no_arms w)
-    shape_follow (t.Shape.race ts) n pl m e w = outside_follow cl m w _ (started_follow first_of pl ts e no_arms w)
-    shape_follow (t.Shape.rush ts) n pl m e w = outside_follow cl m w _ (started_follow rush_of pl ts e no_arms w)
+    shape_follow (t.Shape.sync ts) n pl m e w = outside_follow cl m w _ (started_follow sync pl ts e no_arms w)
+    shape_follow (t.Shape.race ts) n pl m e w = outside_follow cl m w _ (started_follow race pl ts e no_arms w)
+    shape_follow (t.Shape.rush ts) n pl m e w = outside_follow cl m w _ (started_follow rush pl ts e no_arms w)
     shape_follow (t.Shape.spawn a) n pl m e w = spawn_follow a m e w
     shape_follow (t.Shape.sleep z) n pl m e w = outside_follow cl m w _ (suspended_follow cl (after z w.state) e w)
     shape_follow t.Shape.sleep_forever n pl m e w = outside_follow cl m w _ (suspended_follow cl never e w)

@@ -7,7 +7,7 @@ use Rattle.verse_tree.specs.Tree as t
 use Rattle.verse_tree.specs.Tree.{Tree, Trees, more_trees, no_trees}
 use Rattle.verse_value.specs.Val.{Val}
 use Rattle.verse_value.specs.Operations.{tuple_of}
-use Rattle.verse_meaning_state.specs.Turns.{Kind, all_of, first_of, rush_of}
+use Rattle.verse_meaning_state.specs.Turns.{Kind, sync, race, rush}
 use Rattle.verse_meaning_state.specs.Waits.{Wait, has}
 use Rattle.verse_meaning_state.specs.State.{stepped}
 use Rattle.verse_meaning_state.specs.Effects.{still}
@@ -85,7 +85,7 @@ race_armed pl w (stops h) gave_do runs_do a f g = tt
 race_armed pl w (sleeps s u) gave_do runs_do a f g = g s u a.1.0
 
 race_starts : (p : Program) (k : Deeper) (d : DeeperKeeps k) (pl : Place) (e : Env) (ts : Trees) (gs : Arms) (w : World) →
-    RaceKeeps pl w (started p k first_of pl ts e gs w)
+    RaceKeeps pl w (started p k race pl ts e gs w)
 unfolding begins_scope arm_gave settled
 race_starts p k d pl e no_trees gs w = race_settled p k d pl e gs w w (first_gave gs) refl refl
 race_starts p k d pl e (more_trees a ts) gs w = race_spends pl w.state.clock.left w _ (λ u h. further pl w u _ h (race_armed pl u
@@ -125,24 +125,24 @@ module _ (p : Program) (k : Deeper) where
   settles : GroupSettles p k
   unfolding settled or_stands arms_came arm_gave
   settles = record {
-    sync_waits = λ pl e gs w h. ap (λ x. or_stands p k x (rests (arms all_of pl e gs) w) (λ vs. told (still (tuple_of vs) w.state) pl e
+    sync_waits = λ pl e gs w h. ap (λ x. or_stands p k x (rests (arms sync pl e gs) w) (λ vs. told (still (tuple_of vs) w.state) pl e
         w)) h;
-    sync_ends = λ pl e gs vs w h. ap (λ x. or_stands p k x (rests (arms all_of pl e gs) w) (λ vs. told (still (tuple_of vs) w.state) pl e
+    sync_ends = λ pl e gs vs w h. ap (λ x. or_stands p k x (rests (arms sync pl e gs) w) (λ vs. told (still (tuple_of vs) w.state) pl e
         w)) h;
-    race_waits = λ pl e gs w h. ap (λ x. or_stands p k x (rests (arms first_of pl e gs) w) (λ v. on_went (cancel_arms p k gs w) (λ w.
+    race_waits = λ pl e gs w h. ap (λ x. or_stands p k x (rests (arms race pl e gs) w) (λ v. on_went (cancel_arms p k gs w) (λ w.
         value e v w))) h;
-    race_ends = λ pl e gs v w h. ap (λ x. or_stands p k x (rests (arms first_of pl e gs) w) (λ v. on_went (cancel_arms p k gs w) (λ w.
+    race_ends = λ pl e gs v w h. ap (λ x. or_stands p k x (rests (arms race pl e gs) w) (λ v. on_went (cancel_arms p k gs w) (λ w.
         value e v w))) h ∙ on_same (cancel_arms p k gs w) (run_back k (arms_deferred gs) w) _ (arms_back p k gs w);
-    rush_waits = λ pl e gs w h. ap (λ x. or_stands p k x (rests (arms rush_of pl e gs) w) (λ v. value e v (leave_all gs w))) h;
-    rush_ends = λ pl e gs v w h. ap (λ x. or_stands p k x (rests (arms rush_of pl e gs) w) (λ v. value e v (leave_all gs w))) h;
+    rush_waits = λ pl e gs w h. ap (λ x. or_stands p k x (rests (arms rush pl e gs) w) (λ v. value e v (leave_all gs w))) h;
+    rush_ends = λ pl e gs v w h. ap (λ x. or_stands p k x (rests (arms rush pl e gs) w) (λ v. value e v (leave_all gs w))) h;
     woken = λ kd pl e gs hs n v w u h. ap (λ x. arms_came x (λ gs w. settled p k kd pl e gs w)) h;
     begun = λ kd pl e gs w. refl;
     arm_rests = arm_rests;
     arm_ends = λ pl a ts e gs l v w u h f. (
-      arm_ends all_of pl a ts e gs l v w u h f,
+      arm_ends sync pl a ts e gs l v w u h f,
       (
-        arm_ends first_of pl a ts e gs l v w u h f,
-        arm_ends rush_of pl a ts e gs l v w u h f,
+        arm_ends race pl a ts e gs l v w u h f,
+        arm_ends rush pl a ts e gs l v w u h f,
       ),
     );
   }

@@ -8,7 +8,7 @@ use Rattle.verse_value.specs.Val.{Val}
 use Rattle.verse_value.specs.Operations.{tuple_of}
 use Rattle.verse_meaning_state.specs.State.{State}
 use Rattle.verse_meaning_state.specs.Waits.{Wait, has}
-use Rattle.verse_meaning_state.specs.Turns.{all_of, first_of, rush_of}
+use Rattle.verse_meaning_state.specs.Turns.{sync, race, rush}
 use Rattle.verse_meaning_state.specs.Effects.{still}
 use Rattle.verse_meaning.specs.Programs.{Program}
 use Rattle.verse_meaning.specs.Residuals.{Arms, Env, Residual, Role, Scope, Scopes, also, args, arms, arms_leaves, behind_leaves, body}
@@ -195,13 +195,13 @@ module _ (p : Program) (k : Deeper) where
 
   all_has : (i c : ℕ) (pl : Place) (e : Env) (gs : Arms) (w : World) (x : Option (List Val)) → all_gave gs ≡ x → c ≤ count i (arms_leaves
       gs) →
-      OutcomeHas i c (or_stands p k x (rests (arms all_of pl e gs) w) (λ vs. told (still (tuple_of vs) w.state) pl e w))
+      OutcomeHas i c (or_stands p k x (rests (arms sync pl e gs) w) (λ vs. told (still (tuple_of vs) w.state) pl e w))
   unfolding or_stands
   all_has i c pl e gs w None h a = a
   all_has i c pl e gs w (Some vs) h a = nothing_has i c _ (omega (arith, a, all_gave_none i gs vs h))
 
   all_came : (i c : ℕ) (pl : Place) (e : Env) (o : ArmsOutcome) → ArmsHave i c o →
-      OutcomeHas i c (arms_came o (λ gs w. settled p k all_of pl e gs w))
+      OutcomeHas i c (arms_came o (λ gs w. settled p k sync pl e gs w))
   unfolding arms_came settled
   all_came i c pl e (stand gs u) a = all_has i c pl e gs u (all_gave gs) refl a
   all_came i c pl e (stops_arms h) a = tt
@@ -211,26 +211,26 @@ module _ (p : Program) (k : Deeper) where
   none_gave x o go e = ap (λ y. or_stands p k y o go) e
 
   race_has : (i c : ℕ) (pl : Place) (e : Env) (gs : Arms) (u : World) → ((first_gave gs ≡ None) × (c ≤ count i (arms_leaves gs))) ⊎ (c ≤
-      0) → OutcomeHas i c (or_stands p k (first_gave gs) (rests (arms first_of pl e gs) u) (λ v. on_went (cancel_arms p k gs u) (λ w. value
+      0) → OutcomeHas i c (or_stands p k (first_gave gs) (rests (arms race pl e gs) u) (λ v. on_went (cancel_arms p k gs u) (λ w. value
       e v w)))
-  race_has i c pl e gs u (inl a) = subst (λ o. OutcomeHas i c o) (sym (none_gave (first_gave gs) (rests (arms first_of pl e gs) u) _ a.0))
+  race_has i c pl e gs u (inl a) = subst (λ o. OutcomeHas i c o) (sym (none_gave (first_gave gs) (rests (arms race pl e gs) u) _ a.0))
       a.1
   race_has i c pl e gs u (inr a) = nothing_has i c _ a
 
   rush_has : (i c : ℕ) (pl : Place) (e : Env) (gs : Arms) (u : World) → ((first_gave gs ≡ None) × (c ≤ count i (arms_leaves gs))) ⊎ (c ≤
-      0) → OutcomeHas i c (or_stands p k (first_gave gs) (rests (arms rush_of pl e gs) u) (λ v. value e v (leave_all gs u)))
-  rush_has i c pl e gs u (inl a) = subst (λ o. OutcomeHas i c o) (sym (none_gave (first_gave gs) (rests (arms rush_of pl e gs) u) _ a.0))
+      0) → OutcomeHas i c (or_stands p k (first_gave gs) (rests (arms rush pl e gs) u) (λ v. value e v (leave_all gs u)))
+  rush_has i c pl e gs u (inl a) = subst (λ o. OutcomeHas i c o) (sym (none_gave (first_gave gs) (rests (arms rush pl e gs) u) _ a.0))
       a.1
   rush_has i c pl e gs u (inr a) = nothing_has i c _ a
 
   race_came : (i c : ℕ) (pl : Place) (e : Env) (o : ArmsOutcome) → FirstHas i c o →
-      OutcomeHas i c (arms_came o (λ gs w. settled p k first_of pl e gs w))
+      OutcomeHas i c (arms_came o (λ gs w. settled p k race pl e gs w))
   unfolding arms_came settled
   race_came i c pl e (stand gs u) a = race_has i c pl e gs u a
   race_came i c pl e (stops_arms h) a = tt
 
   rush_came : (i c : ℕ) (pl : Place) (e : Env) (o : ArmsOutcome) → FirstHas i c o →
-      OutcomeHas i c (arms_came o (λ gs w. settled p k rush_of pl e gs w))
+      OutcomeHas i c (arms_came o (λ gs w. settled p k rush pl e gs w))
   unfolding arms_came settled
   rush_came i c pl e (stand gs u) a = rush_has i c pl e gs u a
   rush_came i c pl e (stops_arms h) a = tt
@@ -255,9 +255,9 @@ module _ (p : Program) (k : Deeper) (i n : ℕ) (v : Val) where
     resume_has (looped e a r) w q = turned_has i _ _ _ e _ (λ r. refl) (resume_has r w q)
     resume_has (generated e g cs a pl vs r) w q = valued_has i _ _ _ _ (λ r. refl) (resume_has r w q)
     resume_has (called e s) w q = call_end_has i _ e _ (resume_scope_has s w q)
-    resume_has (arms all_of pl e gs) w q = all_came p k i _ pl e _ (resume_all_have gs w q.1)
-    resume_has (arms first_of pl e gs) w q = race_came p k i _ pl e _ (resume_race_has gs w q.0 q.1)
-    resume_has (arms rush_of pl e gs) w q = rush_came p k i _ pl e _ (resume_rush_has gs w q.0 q.1)
+    resume_has (arms sync pl e gs) w q = all_came p k i _ pl e _ (resume_all_have gs w q.1)
+    resume_has (arms race pl e gs) w q = race_came p k i _ pl e _ (resume_race_has gs w q.0 q.1)
+    resume_has (arms rush pl e gs) w q = rush_came p k i _ pl e _ (resume_rush_has gs w q.0 q.1)
 
     pub resume_scope_has : (s : Scope) (w : World) → ScopeWaits s → TaskHas i (count i (scope_standing n s)) (resume_scope p k s n v w)
     resume_scope_has (scope q r bs) w a = both_tests i (λ c o. TaskHas i c o) (is_behind n bs) (behind_standing n bs ++ leaves r) (standing
@@ -272,27 +272,27 @@ module _ (p : Program) (k : Deeper) (i n : ℕ) (v : Val) where
         (behind_leaves bs []))) (element_has i _ _ bs (resume_scope_has s w a.0))) (fewer (λ c o. BehindHas i c o) _ _ _ (sym (count_both i
         (scope_leaves s) (behind_standing n bs))) (before_has i _ s _ (resume_behind_has bs w a.1)))
 
-    resume_all_have : (gs : Arms) (w : World) → ArmsWait gs → ArmsHave i (count i (arms_standing all_of n gs)) (resume_arms p k gs n v w)
+    resume_all_have : (gs : Arms) (w : World) → ArmsWait gs → ArmsHave i (count i (arms_standing sync n gs)) (resume_arms p k gs n v w)
     resume_all_have no_arms w a = tt
     resume_all_have (gave y gs) w a = gave_have i _ y _ (resume_all_have gs w a)
     resume_all_have (runs s gs) w a = both_tests i (λ c o. ArmsHave i c o) (has n (scope_leaves s)) (scope_standing n s ++ arms_leaves gs)
-        (scope_leaves s ++ arms_standing all_of n gs) _ _ (fewer (λ c o. ArmsHave i c o) _ _ _ (sym (count_both i (scope_standing n s)
+        (scope_leaves s ++ arms_standing sync n gs) _ _ (fewer (λ c o. ArmsHave i c o) _ _ _ (sym (count_both i (scope_standing n s)
         (arms_leaves gs))) (arm_has i _ _ gs (resume_scope_has s w a.0))) (fewer (λ c o. ArmsHave i c o) _ _ _ (sym (count_both i
-        (scope_leaves s) (arms_standing all_of n gs))) (runs_have i _ s _ (resume_all_have gs w a.1)))
+        (scope_leaves s) (arms_standing sync n gs))) (runs_have i _ s _ (resume_all_have gs w a.1)))
 
-    resume_race_has : (gs : Arms) (w : World) → first_gave gs ≡ None → ArmsWait gs → FirstHas i (count i (arms_standing first_of n gs))
+    resume_race_has : (gs : Arms) (w : World) → first_gave gs ≡ None → ArmsWait gs → FirstHas i (count i (arms_standing race n gs))
         (resume_arms p k gs n v w)
     resume_race_has no_arms w e a = tt
     resume_race_has (gave y gs) w e a = cc
     resume_race_has (runs s gs) w e a = both_tests i (λ c o. FirstHas i c o) (has n (scope_leaves s)) (scope_standing n s) (arms_standing
-        first_of n gs) _ _ (first_came i _ _ gs e (resume_scope_has s w a.0)) (first_runs i _ s _ (resume_race_has gs w e a.1))
+        race n gs) _ _ (first_came i _ _ gs e (resume_scope_has s w a.0)) (first_runs i _ s _ (resume_race_has gs w e a.1))
 
-    resume_rush_has : (gs : Arms) (w : World) → first_gave gs ≡ None → ArmsWait gs → FirstHas i (count i (arms_standing rush_of n gs))
+    resume_rush_has : (gs : Arms) (w : World) → first_gave gs ≡ None → ArmsWait gs → FirstHas i (count i (arms_standing rush n gs))
         (resume_arms p k gs n v w)
     resume_rush_has no_arms w e a = tt
     resume_rush_has (gave y gs) w e a = cc
     resume_rush_has (runs s gs) w e a = both_tests i (λ c o. FirstHas i c o) (has n (scope_leaves s)) (scope_standing n s) (arms_standing
-        rush_of n gs) _ _ (first_came i _ _ gs e (resume_scope_has s w a.0)) (first_runs i _ s _ (resume_rush_has gs w e a.1))
+        rush n gs) _ _ (first_came i _ _ gs e (resume_scope_has s w a.0)) (first_runs i _ s _ (resume_rush_has gs w e a.1))
 
 -- the forest
 grown_count : (i : ℕ) (fs gs : List (Option Scope)) → Grown fs gs → count i (forest_leaves fs) ≤ count i (forest_leaves gs)

@@ -11,7 +11,7 @@ use Rattle.verse_value.specs.Val.{Val, unit}
 use Rattle.verse_value.specs.Operations.{tuple_of}
 use Rattle.verse_meaning_state.specs.State.{State}
 use Rattle.verse_meaning_state.specs.Waits.{never, after}
-use Rattle.verse_meaning_state.specs.Turns.{Kind, all_of, first_of, rush_of}
+use Rattle.verse_meaning_state.specs.Turns.{Kind, sync, race, rush}
 use Rattle.verse_meaning_state.specs.Effects.{still}
 use Rattle.verse_meaning.specs.Programs.{Program, ref_at}
 use Rattle.verse_meaning.specs.Residuals as form
@@ -97,14 +97,14 @@ module _ (i : ℕ) (p : Program) (k : Deeper) (keeps : DeeperKeeps k) (d : Deepe
 
   settled_all : (c b : ℕ) (pl : Place) (e : Env) (gs : Arms) (w : World) (x : Option (List Val)) →
       c + (count i (arms_leaves gs) + stock i w) ≤ b →
-      OutcomeFits i c b (or_stands p k x (rests (arms all_of pl e gs) w) (λ vs. told (still (tuple_of vs) w.state) pl e w))
+      OutcomeFits i c b (or_stands p k x (rests (arms sync pl e gs) w) (λ vs. told (still (tuple_of vs) w.state) pl e w))
   unfolding or_stands
   settled_all c b pl e gs w None h = h
   settled_all c b pl e gs w (Some vs) h = told_fits i w _ pl e (still_memory w _) c b (omega (arith, h))
 
   settled_race : (c b : ℕ) (pl : Place) (e : Env) (gs : Arms) (w : World) (x : Option Val) →
       c + (count i (arms_leaves gs) + stock i w) ≤ b →
-      OutcomeFits i c b (or_stands p k x (rests (arms first_of pl e gs) w) (λ v. on_went (cancel_arms p k gs w) (λ w. value e v w)))
+      OutcomeFits i c b (or_stands p k x (rests (arms race pl e gs) w) (λ v. on_went (cancel_arms p k gs w) (λ w. value e v w)))
   unfolding or_stands
   settled_race c b pl e gs w None h = h
   settled_race c b pl e gs w (Some v) h = on_went_fits i w (cancel_arms p k gs w) _ (arms_keep p k keeps gs w) (λ u c b h. h) c b (omega
@@ -112,7 +112,7 @@ module _ (i : ℕ) (p : Program) (k : Deeper) (keeps : DeeperKeeps k) (d : Deepe
 
   settled_rush : (c b : ℕ) (pl : Place) (e : Env) (gs : Arms) (w : World) (x : Option Val) →
       c + (count i (arms_leaves gs) + stock i w) ≤ b →
-      OutcomeFits i c b (or_stands p k x (rests (arms rush_of pl e gs) w) (λ v. value e v (leave_all gs w)))
+      OutcomeFits i c b (or_stands p k x (rests (arms rush pl e gs) w) (λ v. value e v (leave_all gs w)))
   unfolding or_stands
   settled_rush c b pl e gs w None h = h
   settled_rush c b pl e gs w (Some v) h = subst (λ y. c + y ≤ b) (sym (left_stock i gs w)) h
@@ -120,16 +120,16 @@ module _ (i : ℕ) (p : Program) (k : Deeper) (keeps : DeeperKeeps k) (d : Deepe
   pub settled_fits : (kd : Kind) (pl : Place) (e : Env) (gs : Arms) (w : World) (c b : ℕ) →
       c + (count i (arms_leaves gs) + stock i w) ≤ b → OutcomeFits i c b (settled p k kd pl e gs w)
   unfolding settled
-  settled_fits all_of pl e gs w c b h = settled_all c b pl e gs w (all_gave gs) h
-  settled_fits first_of pl e gs w c b h = settled_race c b pl e gs w (first_gave gs) h
-  settled_fits rush_of pl e gs w c b h = settled_rush c b pl e gs w (first_gave gs) h
+  settled_fits sync pl e gs w c b h = settled_all c b pl e gs w (all_gave gs) h
+  settled_fits race pl e gs w c b h = settled_race c b pl e gs w (first_gave gs) h
+  settled_fits rush pl e gs w c b h = settled_rush c b pl e gs w (first_gave gs) h
 
   gave_fits : (kd : Kind) (pl : Place) (e : Env) (gs : Arms) (w : World) (go : World → Outcome) (c b : ℕ) →
       c + (count i (arms_leaves gs) + stock i w) ≤ b → OutcomeFits i c b (go w) → OutcomeFits i c b (arm_gave p k kd pl e gs w go)
   unfolding arm_gave
-  gave_fits all_of pl e gs w go c b h a = a
-  gave_fits first_of pl e gs w go c b h a = settled_fits first_of pl e gs w c b h
-  gave_fits rush_of pl e gs w go c b h a = a
+  gave_fits sync pl e gs w go c b h a = a
+  gave_fits race pl e gs w go c b h a = settled_fits race pl e gs w c b h
+  gave_fits rush pl e gs w go c b h a = a
 
   begins_out : (c c' b : ℕ) (w : World) (run : World → Outcome) (go : TaskOutcome → Outcome) → c + stock i w ≤ b → ((u : World) →
       Fits i u (run u)) → ((o : TaskOutcome) → TaskFits i c b o → OutcomeFits i c' b (go o)) → OutcomeFits i c' b (begins_scope p k w run
@@ -292,9 +292,9 @@ module _ (i : ℕ) (p : Program) (k : Deeper) (keeps : DeeperKeeps k) (d : Deepe
     shape_fits (t.Shape.cases a ts) n pl m e w = valued_fits i w _ _ _ (λ r. refl) (ev_fits a m e w) (λ v u. chosen_fits ts v m e u)
     shape_fits (t.Shape.branch a) n pl m e w =
         outside_fits i m w _ (begins_fits w _ _ (λ u. ev_fits a true e u) (λ u o h. branch_fits i u e o h))
-    shape_fits (t.Shape.sync ts) n pl m e w = outside_fits i m w _ (λ c b h. started_fits all_of pl ts e no_arms w c b (omega (arith, h)))
-    shape_fits (t.Shape.race ts) n pl m e w = outside_fits i m w _ (λ c b h. started_fits first_of pl ts e no_arms w c b (omega (arith, h)))
-    shape_fits (t.Shape.rush ts) n pl m e w = outside_fits i m w _ (λ c b h. started_fits rush_of pl ts e no_arms w c b (omega (arith, h)))
+    shape_fits (t.Shape.sync ts) n pl m e w = outside_fits i m w _ (λ c b h. started_fits sync pl ts e no_arms w c b (omega (arith, h)))
+    shape_fits (t.Shape.race ts) n pl m e w = outside_fits i m w _ (λ c b h. started_fits race pl ts e no_arms w c b (omega (arith, h)))
+    shape_fits (t.Shape.rush ts) n pl m e w = outside_fits i m w _ (λ c b h. started_fits rush pl ts e no_arms w c b (omega (arith, h)))
     shape_fits (t.Shape.spawn a) n pl m e w = spawn_fits a m e w
     shape_fits (t.Shape.sleep z) n pl m e w = outside_fits i m w _ (suspended_fits i (after z w.state) e w)
     shape_fits t.Shape.sleep_forever n pl m e w = outside_fits i m w _ (suspended_fits i never e w)

@@ -4,7 +4,7 @@ use Rattle.verse_base.specs.declared.places.Place.{Place}
 use Rattle.verse_value.specs.Val.{Val, unit}
 use Rattle.verse_meaning_state.specs.State.{State}
 use Rattle.verse_meaning_state.specs.Waits.{has}
-use Rattle.verse_meaning_state.specs.Turns.{Stage, going, closed, broken, amiss, first_of}
+use Rattle.verse_meaning_state.specs.Turns.{Stage, going, closed, broken, amiss, race}
 use Rattle.verse_meaning.specs.Programs.{Program}
 use Rattle.verse_meaning.specs.Residuals.{Env, Role, part, body, root, Residual, arms, Arms, Scope, scope, Scopes, none, also, scope_leaves}
 use Rattle.verse_meaning.specs.Residuals.{is_behind}
@@ -114,13 +114,13 @@ module _ (p : Program) (k : Deeper) (d : DeeperKeeps k) where
   race_went pl e v w u (quits h) a b = tt
 
   pub race_settled : (pl : Place) (e : Env) (gs : Arms) (w u : World) (x : Option Val) → first_gave gs ≡ x → u.behind ≡ w.behind →
-      RaceKeeps pl w (or_stands p k x (rests (arms first_of pl e gs) u) (λ v. on_went (cancel_arms p k gs u) (λ w. value e v w)))
+      RaceKeeps pl w (or_stands p k x (rests (arms race pl e gs) u) (λ v. on_went (cancel_arms p k gs u) (λ w. value e v w)))
   unfolding or_stands
   race_settled pl e gs w u None h a = (e, (gs, (refl, h)))
   race_settled pl e gs w u (Some v) h a = race_went pl e v w u (cancel_arms p k gs u) a (arms_keep p k d gs u)
 
   race_came : (pl : Place) (e : Env) (w : World) (o : ArmsOutcome) → KeepsArms w o →
-      RaceKeeps pl w (arms_came o (λ gs w. settled p k first_of pl e gs w))
+      RaceKeeps pl w (arms_came o (λ gs w. settled p k race pl e gs w))
   unfolding arms_came settled
   race_came pl e w (stand gs u) a = race_settled pl e gs w u (first_gave gs) refl a.0
   race_came pl e w (stops_arms h) a = tt

@@ -11,7 +11,7 @@ use Rattle.verse_value.specs.Val.{Val, unit}
 use Rattle.verse_value.specs.Operations.{tuple_of}
 use Rattle.verse_meaning_state.specs.State.{State}
 use Rattle.verse_meaning_state.specs.Waits.{never, after}
-use Rattle.verse_meaning_state.specs.Turns.{Kind, all_of, first_of, rush_of}
+use Rattle.verse_meaning_state.specs.Turns.{Kind, sync, race, rush}
 use Rattle.verse_meaning_state.specs.Effects.{still}
 use Rattle.verse_meaning.specs.Programs.{Program, ref_at}
 use Rattle.verse_meaning.specs.Residuals as form
@@ -114,35 +114,35 @@ module _ (p : Program) (k : Deeper) (d : DeeperHolds k) where
   scope_holds q outer (rests r u) b a = ((a.0, a.1.0), (b, a.1.1))
 
   settled_all : (pl : Place) (e : Env) (gs : Arms) (w : World) (x : Option (List Val)) → all_gave gs ≡ x → ArmsWait gs → Holds w
-      (or_stands p k x (rests (arms all_of pl e gs) w) (λ vs. told (still (tuple_of vs) w.state) pl e w))
+      (or_stands p k x (rests (arms sync pl e gs) w) (λ vs. told (still (tuple_of vs) w.state) pl e w))
   unfolding or_stands
   settled_all pl e gs w None h b a = ((h, b), a)
   settled_all pl e gs w (Some vs) h b a = told_holds w _ pl e a
 
   settled_race : (pl : Place) (e : Env) (gs : Arms) (w : World) (x : Option Val) → first_gave gs ≡ x → ArmsWait gs → Holds w
-      (or_stands p k x (rests (arms first_of pl e gs) w) (λ v. on_went (cancel_arms p k gs w) (λ w. value e v w)))
+      (or_stands p k x (rests (arms race pl e gs) w) (λ v. on_went (cancel_arms p k gs w) (λ w. value e v w)))
   unfolding or_stands
   settled_race pl e gs w None h b a = ((h, b), a)
   settled_race pl e gs w (Some v) h b a = on_went_holds w (cancel_arms p k gs w) _ (arms_holds gs w) (λ u h. h) a
 
   settled_rush : (pl : Place) (e : Env) (gs : Arms) (w : World) (x : Option Val) → first_gave gs ≡ x → ArmsWait gs → Holds w
-      (or_stands p k x (rests (arms rush_of pl e gs) w) (λ v. value e v (leave_all gs w)))
+      (or_stands p k x (rests (arms rush pl e gs) w) (λ v. value e v (leave_all gs w)))
   unfolding or_stands
   settled_rush pl e gs w None h b a = ((h, b), a)
   settled_rush pl e gs w (Some v) h b a = left_waits gs w a b
 
   pub settled_holds : (kd : Kind) (pl : Place) (e : Env) (gs : Arms) (w : World) → ArmsWait gs → Holds w (settled p k kd pl e gs w)
   unfolding settled
-  settled_holds all_of pl e gs w b = settled_all pl e gs w (all_gave gs) refl b
-  settled_holds first_of pl e gs w b = settled_race pl e gs w (first_gave gs) refl b
-  settled_holds rush_of pl e gs w b = settled_rush pl e gs w (first_gave gs) refl b
+  settled_holds sync pl e gs w b = settled_all pl e gs w (all_gave gs) refl b
+  settled_holds race pl e gs w b = settled_race pl e gs w (first_gave gs) refl b
+  settled_holds rush pl e gs w b = settled_rush pl e gs w (first_gave gs) refl b
 
   gave_holds : (kd : Kind) (pl : Place) (e : Env) (gs : Arms) (w : World) (go : World → Outcome) → ArmsWait gs → Holds w (go w) →
       Holds w (arm_gave p k kd pl e gs w go)
   unfolding arm_gave
-  gave_holds all_of pl e gs w go b a = a
-  gave_holds first_of pl e gs w go b a = settled_holds first_of pl e gs w b
-  gave_holds rush_of pl e gs w go b a = a
+  gave_holds sync pl e gs w go b a = a
+  gave_holds race pl e gs w go b a = settled_holds race pl e gs w b
+  gave_holds rush pl e gs w go b a = a
 
   begins_holds : (w : World) (run : World → Outcome) (go : TaskOutcome → Outcome) → ((u : World) → Holds u (run u)) →
       ((u : World) (o : TaskOutcome) → HoldsTask u o → Holds u (go o)) → Holds w (begins_scope p k w run go)
@@ -290,9 +290,9 @@ module _ (p : Program) (k : Deeper) (d : DeeperHolds k) where
     shape_holds (t.Shape.cases a ts) n pl m e w = valued_holds w _ _ _ (λ r q. q) (ev_holds a m e w) (λ v u. chosen_holds ts v m e u)
     shape_holds (t.Shape.branch a) n pl m e w =
         outside_holds m w _ (begins_holds w _ _ (λ u. ev_holds a true e u) (λ u o h. branch_holds u e o h))
-    shape_holds (t.Shape.sync ts) n pl m e w = outside_holds m w _ (started_holds all_of pl ts e no_arms w tt)
-    shape_holds (t.Shape.race ts) n pl m e w = outside_holds m w _ (started_holds first_of pl ts e no_arms w tt)
-    shape_holds (t.Shape.rush ts) n pl m e w = outside_holds m w _ (started_holds rush_of pl ts e no_arms w tt)
+    shape_holds (t.Shape.sync ts) n pl m e w = outside_holds m w _ (started_holds sync pl ts e no_arms w tt)
+    shape_holds (t.Shape.race ts) n pl m e w = outside_holds m w _ (started_holds race pl ts e no_arms w tt)
+    shape_holds (t.Shape.rush ts) n pl m e w = outside_holds m w _ (started_holds rush pl ts e no_arms w tt)
     shape_holds (t.Shape.spawn a) n pl m e w = spawn_holds a m e w
     shape_holds (t.Shape.sleep z) n pl m e w = outside_holds m w _ (suspended_holds (after z w.state) e w)
     shape_holds t.Shape.sleep_forever n pl m e w = outside_holds m w _ (suspended_holds never e w)

@@ -16,7 +16,7 @@ use Rattle.verse_value.specs.declared.modes.Mode.{Mode}
 use Rattle.verse_value.specs.declared.modes.Mode.TheVariants as mode
 use Rattle.verse_meaning_state.specs.State.{restored}
 use Rattle.verse_meaning_state.specs.Waits.{never, after}
-use Rattle.verse_meaning_state.specs.Turns.{Kind, all_of, first_of, rush_of}
+use Rattle.verse_meaning_state.specs.Turns.{Kind, sync, race, rush}
 use Rattle.verse_meaning_state.specs.Effects.{still, event_made}
 use Rattle.verse_meaning.specs.Programs.{Program, same_name, ref_at, enum_value, pattern_value, trees_list, holes_list, pieces, pairs_list}
 use Rattle.verse_meaning.specs.Programs.{givens_list, given_names}
@@ -263,16 +263,16 @@ module _ (p : Program) (k : Deeper) where
 
   -- Sync, Race and Rush: the group has its value, or is suspended
   unfoldable pub settled : Kind → Place → Env → Arms → World → Outcome
-  settled all_of pl e gs w = or_stands (all_gave gs) (rests (arms all_of pl e gs) w) (λ vs. told (still (tuple_of vs) w.state) pl e w)
-  settled first_of pl e gs w =
-      or_stands (first_gave gs) (rests (arms first_of pl e gs) w) (λ v. on_went (cancel_arms gs w) (λ w. value e v w))
-  settled rush_of pl e gs w = or_stands (first_gave gs) (rests (arms rush_of pl e gs) w) (λ v. value e v (leave_all gs w))
+  settled sync pl e gs w = or_stands (all_gave gs) (rests (arms sync pl e gs) w) (λ vs. told (still (tuple_of vs) w.state) pl e w)
+  settled race pl e gs w =
+      or_stands (first_gave gs) (rests (arms race pl e gs) w) (λ v. on_went (cancel_arms gs w) (λ w. value e v w))
+  settled rush pl e gs w = or_stands (first_gave gs) (rests (arms rush pl e gs) w) (λ v. value e v (leave_all gs w))
 
   -- an arm has given a value as it began: a race starts no other
   unfoldable pub arm_gave : Kind → Place → Env → Arms → World → (World → Outcome) → Outcome
-  arm_gave all_of pl e gs w go = go w
-  arm_gave first_of pl e gs w go = settled first_of pl e gs w
-  arm_gave rush_of pl e gs w go = go w
+  arm_gave sync pl e gs w go = go w
+  arm_gave race pl e gs w go = settled race pl e gs w
+  arm_gave rush pl e gs w go = go w
 
   -- an arm or the body of a `branch` begins: a step, and a scope with nothing behind it
   unfoldable pub begins_scope : World → (World → Outcome) → (TaskOutcome → Outcome) → Outcome
@@ -401,9 +401,9 @@ module _ (p : Program) (k : Deeper) where
     ev_shape (t.Shape.cases a ts) n pl m e w = valued (ev a m e w) (λ r. args e (form.choosing ts) [] r []) (λ v w. chosen ts v m e w)
     -- tasks
     ev_shape (t.Shape.branch a) n pl m e w = outside m w (λ w. begins_scope w (λ w. ev a true e w) (branch_started e))
-    ev_shape (t.Shape.sync ts) n pl m e w = outside m w (λ w. started all_of pl ts e no_arms w)
-    ev_shape (t.Shape.race ts) n pl m e w = outside m w (λ w. started first_of pl ts e no_arms w)
-    ev_shape (t.Shape.rush ts) n pl m e w = outside m w (λ w. started rush_of pl ts e no_arms w)
+    ev_shape (t.Shape.sync ts) n pl m e w = outside m w (λ w. started sync pl ts e no_arms w)
+    ev_shape (t.Shape.race ts) n pl m e w = outside m w (λ w. started race pl ts e no_arms w)
+    ev_shape (t.Shape.rush ts) n pl m e w = outside m w (λ w. started rush pl ts e no_arms w)
     ev_shape (t.Shape.spawn a) n pl m e w = spawned a m e w
     ev_shape (t.Shape.sleep d) n pl m e w = outside m w (λ w. suspended (after d w.state) e w)
     ev_shape t.Shape.sleep_forever n pl m e w = outside m w (λ w. suspended never e w)

@@ -8,7 +8,7 @@ use Rattle.verse_value.specs.Val.{array, Val, unit, falsity, no_vals}
 use Rattle.verse_value.specs.Operations.{tuple_of}
 use Rattle.verse_meaning_state.specs.State.{State, Clock, restored, stepped}
 use Rattle.verse_meaning_state.specs.Waits.{has, Wait}
-use Rattle.verse_meaning_state.specs.Turns.{Stage, going, closed, broken, amiss, first_of, Kind, all_of, rush_of}
+use Rattle.verse_meaning_state.specs.Turns.{Stage, going, closed, broken, amiss, race, Kind, sync, rush}
 use Rattle.verse_meaning_state.specs.Effects.{still}
 use Rattle.verse_meaning.specs.Programs.{Program}
 use Rattle.verse_meaning.specs.Residuals.{Env, Role, Residual, arms, Arms, Scope, scope, Scopes, none, also, scope_leaves, is_behind}
@@ -132,11 +132,11 @@ RaceKeeps pl w (failed s) = ⊥
 RaceKeeps pl w (returned v u) = ⊥
 RaceKeeps pl w (broke u) = ⊥
 RaceKeeps pl w (halted h) = Unit {0}
-RaceKeeps pl w (rests r u) = (e : Env) × ((gs : Arms) × ((r ≡ arms first_of pl e gs) × (first_gave gs ≡ None)))
+RaceKeeps pl w (rests r u) = (e : Env) × ((gs : Arms) × ((r ≡ arms race pl e gs) × (first_gave gs ≡ None)))
 
 abbrev pub RaceCancels : Type 0
 RaceCancels = (p : Program) (fuel : ℕ) (pl : Place) (e : Env) (gs : Arms) (n : ℕ) (v : Val) (w : World) →
-    RaceKeeps pl w (resume p (deeper p fuel) (arms first_of pl e gs) n v w)
+    RaceKeeps pl w (resume p (deeper p fuel) (arms race pl e gs) n v w)
 
 -- What is evaluated while a failure context is open leaves tasks, waits, signals and backgrounds as they were. Where it fails, memory
 -- becomes that of the entry, and only steps are gone.
@@ -306,7 +306,7 @@ ArmsStand = (p : Program) (fuel : ℕ) (gs : Arms) (n : ℕ) (v : Val) (w : Worl
 -- a race as it begins: with its value nothing of its arms is in the background; otherwise no arm has given a value
 abbrev pub RaceBegins : Type 0
 RaceBegins = (p : Program) (fuel : ℕ) (pl : Place) (ts : Trees) (e : Env) (w : World) →
-    RaceKeeps pl w (started p (deeper p fuel) first_of pl ts e no_arms w)
+    RaceKeeps pl w (started p (deeper p fuel) race pl ts e no_arms w)
 
 -- an arm or the body of a `branch`, begun in a world in which a step is spent
 abbrev pub begun_part : Program → Deeper → Tree → Env → World → TaskOutcome
@@ -315,20 +315,20 @@ begun_part p k a e w = scope_end p k part w.behind (ev p k a true e (set_behind 
 -- what a group comes to
 pub record GroupSettles (p : Program) (k : Deeper) : Type 0 where
   -- a `sync` gives the tuple of the values of all arms
-  pub sync_waits : (pl : Place) (e : Env) (gs : Arms) (w : World) → all_gave gs ≡ None → settled p k all_of pl e gs w ≡ rests
-      (arms all_of pl e gs) w
+  pub sync_waits : (pl : Place) (e : Env) (gs : Arms) (w : World) → all_gave gs ≡ None → settled p k sync pl e gs w ≡ rests
+      (arms sync pl e gs) w
   pub sync_ends : (pl : Place) (e : Env) (gs : Arms) (vs : List Val) (w : World) → all_gave gs ≡ Some vs →
-      settled p k all_of pl e gs w ≡ told (still (tuple_of vs) w.state) pl e w
+      settled p k sync pl e gs w ≡ told (still (tuple_of vs) w.state) pl e w
   -- with the first value of its arms a race has cancelled those that run, and goes on in the world that is then left
-  pub race_waits : (pl : Place) (e : Env) (gs : Arms) (w : World) → first_gave gs ≡ None → settled p k first_of pl e gs w ≡ rests
-      (arms first_of pl e gs) w
+  pub race_waits : (pl : Place) (e : Env) (gs : Arms) (w : World) → first_gave gs ≡ None → settled p k race pl e gs w ≡ rests
+      (arms race pl e gs) w
   pub race_ends : (pl : Place) (e : Env) (gs : Arms) (v : Val) (w : World) → first_gave gs ≡ Some v →
-      settled p k first_of pl e gs w ≡ on_went (run_back k (arms_deferred gs) w) (λ u. value e v u)
+      settled p k race pl e gs w ≡ on_went (run_back k (arms_deferred gs) w) (λ u. value e v u)
   -- with the first value of its arms a rush goes on, and those that run stand in the background
-  pub rush_waits : (pl : Place) (e : Env) (gs : Arms) (w : World) → first_gave gs ≡ None → settled p k rush_of pl e gs w ≡ rests
-      (arms rush_of pl e gs) w
+  pub rush_waits : (pl : Place) (e : Env) (gs : Arms) (w : World) → first_gave gs ≡ None → settled p k rush pl e gs w ≡ rests
+      (arms rush pl e gs) w
   pub rush_ends : (pl : Place) (e : Env) (gs : Arms) (v : Val) (w : World) → first_gave gs ≡ Some v →
-      settled p k rush_of pl e gs w ≡ value e v (leave_all gs w)
+      settled p k rush pl e gs w ≡ value e v (leave_all gs w)
   -- where an arm is woken, the group comes to what its arms then are
   pub woken : (kd : Kind) (pl : Place) (e : Env) (gs hs : Arms) (n : ℕ) (v : Val) (w u : World) → resume_arms p k gs n v w ≡ stand hs u →
       resume p k (arms kd pl e gs) n v w ≡ settled p k kd pl e hs u
@@ -339,9 +339,9 @@ pub record GroupSettles (p : Program) (k : Deeper) : Type 0 where
       started p k kd pl (more_trees a ts) e gs w ≡ started p k kd pl ts e (with_arm gs (runs s no_arms)) u
   pub arm_ends : (pl : Place) (a : Tree) (ts : Trees) (e : Env) (gs : Arms) (l : ℕ) (v : Val) (w u : World) →
       w.state.clock.left ≡ suc l → begun_part p k a e (with_state w (stepped l w.state)) ≡ ends v u →
-      (started p k all_of pl (more_trees a ts) e gs w ≡ started p k all_of pl ts e (with_arm gs (gave v no_arms)) u) ×
-      ((started p k first_of pl (more_trees a ts) e gs w ≡ settled p k first_of pl e (with_arm gs (gave v no_arms)) u) ×
-      (started p k rush_of pl (more_trees a ts) e gs w ≡ started p k rush_of pl ts e (with_arm gs (gave v no_arms)) u))
+      (started p k sync pl (more_trees a ts) e gs w ≡ started p k sync pl ts e (with_arm gs (gave v no_arms)) u) ×
+      ((started p k race pl (more_trees a ts) e gs w ≡ settled p k race pl e (with_arm gs (gave v no_arms)) u) ×
+      (started p k rush pl (more_trees a ts) e gs w ≡ started p k rush pl ts e (with_arm gs (gave v no_arms)) u))
 
 abbrev pub GroupsSettle : Type 0
 GroupsSettle = (p : Program) (fuel : ℕ) → GroupSettles p (deeper p fuel)

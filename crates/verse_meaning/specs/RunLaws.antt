@@ -3,7 +3,7 @@ use Rattle.std.specs.Prelude.{◌++◌, true, cond, Option, Some, None, ◌≡�
 use Rattle.verse_tree.specs.Tree.{Tree}
 use Rattle.verse_value.specs.Runs.{Line}
 use Rattle.verse_value.specs.Val.{Val}
-use Rattle.verse_meaning_state.specs.Turns.{Stage, amiss, broken, closed, going, Kind, all_of, first_of, rush_of}
+use Rattle.verse_meaning_state.specs.Turns.{Stage, amiss, broken, closed, going, Kind, sync, race, rush}
 use Rattle.verse_meaning_state.specs.State.{State, begun}
 use Rattle.verse_meaning_state.specs.Waits.{Wait, eqn, ltn, has}
 use Rattle.verse_meaning.specs.Programs.{Program}
@@ -79,9 +79,9 @@ DepthEnough = (p : Program) → DepthsAgree p
 
 -- what a group waits for has not come: all arms of a `sync`, the first of a `race` or a `rush`
 abbrev pub StillWaits : Kind → Arms → Type 0
-StillWaits all_of gs = all_gave gs ≡ None
-StillWaits first_of gs = first_gave gs ≡ None
-StillWaits rush_of gs = first_gave gs ≡ None
+StillWaits sync gs = all_gave gs ≡ None
+StillWaits race gs = first_gave gs ≡ None
+StillWaits rush gs = first_gave gs ≡ None
 
 -- every group of a residual, in its scopes and their backgrounds too
 abbrev mutual
@@ -184,10 +184,10 @@ abbrev mutual
   pub arms_standing : Kind → ℕ → Arms → List Wait
   arms_standing kd n no_arms = []
   arms_standing kd n (gave v gs) = arms_standing kd n gs
-  arms_standing all_of n (runs s gs) =
-      cond (has n (scope_leaves s)) (scope_standing n s ++ arms_leaves gs) (scope_leaves s ++ arms_standing all_of n gs)
-  arms_standing first_of n (runs s gs) = cond (has n (scope_leaves s)) (scope_standing n s) (arms_standing first_of n gs)
-  arms_standing rush_of n (runs s gs) = cond (has n (scope_leaves s)) (scope_standing n s) (arms_standing rush_of n gs)
+  arms_standing sync n (runs s gs) =
+      cond (has n (scope_leaves s)) (scope_standing n s ++ arms_leaves gs) (scope_leaves s ++ arms_standing sync n gs)
+  arms_standing race n (runs s gs) = cond (has n (scope_leaves s)) (scope_standing n s) (arms_standing race n gs)
+  arms_standing rush n (runs s gs) = cond (has n (scope_leaves s)) (scope_standing n s) (arms_standing rush n gs)
 
 abbrev pub forest_standing : ℕ → Forest → List Wait
 forest_standing n [] = []

@@ -9,9 +9,9 @@ use Rattle.verse_meaning_state.specs.Waits.{Wait, Due, least}
 -- what several arms give: the tuple of their values; the value of the first, and the others are cancelled; or it, and the others go on
 -- behind
 pub data Kind : Type 0 where
-  all_of : Kind
-  first_of : Kind
-  rush_of : Kind
+  sync : Kind
+  race : Kind
+  rush : Kind
 
 -- where a run stands between two turns; its tasks are an A
 pub data Stage (A : Type 0) : Type 0 where

@@ -8,7 +8,7 @@ use Rattle.verse_value.specs.Val.{Val}
 use Rattle.verse_value.specs.Operations.{tuple_of}
 use Rattle.verse_meaning_state.specs.State.{State}
 use Rattle.verse_meaning_state.specs.Waits.{has}
-use Rattle.verse_meaning_state.specs.Turns.{Kind, all_of, first_of, rush_of}
+use Rattle.verse_meaning_state.specs.Turns.{Kind, sync, race, rush}
 use Rattle.verse_meaning_state.specs.Effects.{still}
 use Rattle.verse_sorts.specs.Sorts as s
 use Rattle.verse_sorts.specs.Sorts.{Sort, Fits}
@@ -164,27 +164,27 @@ module _ (p : Program) (f : Found) where
         GroupGives f kd qs r → ArmsAre f p n t gs qs → Left p f n t a r (arms kd pl e gs) → KeptIn p f (LeftScope p f n) t w →
         Comes p f (turns n) any_names t a r (settled p (deeper p g) kd pl e gs w)
     unfolding settled or_stands
-    settled_typed n g t a all_of pl e gs qs r w m h i l k = by (all_gave gs) (all_given n t gs qs i)
+    settled_typed n g t a sync pl e gs qs r w m h i l k = by (all_gave gs) (all_given n t gs qs i)
       where
         by : (x : Option (List Val)) → AllGiven t qs x →
-            Comes p f (turns n) any_names t a r (or_stands p (deeper p g) x (o.rests (arms all_of pl e gs) w) (λ vs. told (still
+            Comes p f (turns n) any_names t a r (or_stands p (deeper p g) x (o.rests (arms sync pl e gs) w) (λ vs. told (still
             (tuple_of vs) w.state) pl e w))
         by None j = waits m (later_itself a.waits t) k l
         by (Some vs) j = up_to p f (turns n) h (told_typed p f (turns n) pl e k (still_told p f (turns n) a k (making.tuple f.up tt j)))
-    settled_typed n g t a first_of pl e gs qs r w m h i l k = by (first_gave gs) (first_given n t r gs qs h i)
+    settled_typed n g t a race pl e gs qs r w m h i l k = by (first_gave gs) (first_given n t r gs qs h i)
       where
         by : (x : Option Val) → FirstGiven t r x → Comes p f (turns n) any_names t a r (or_stands p (deeper p g) x (o.rests
-            (arms first_of pl e gs) w)
+            (arms race pl e gs) w)
             (λ y. on_went (cancel_arms p (deeper p g) gs w) (λ z. o.value e y z)))
         by None j = waits m (later_itself a.waits t) k l
         by (Some y) j =
             went_typed n t a r w (cancel_arms p (deeper p g) gs w) (λ z. o.value e y z) k
             (arms_undone n t gs qs i t g w grows_itself k.cells) ((cancel g).arms gs w)
             (λ u z d kp. gives (adds_later a.waits t u d) kp (is_more f.up d.grows j) tt)
-    settled_typed n g t a rush_of pl e gs qs r w m h i l k = by (first_gave gs) (first_given n t r gs qs h i)
+    settled_typed n g t a rush pl e gs qs r w m h i l k = by (first_gave gs) (first_given n t r gs qs h i)
       where
         by : (x : Option Val) → FirstGiven t r x → Comes p f (turns n) any_names t a r (or_stands p (deeper p g) x (o.rests
-            (arms rush_of pl e gs) w)
+            (arms rush pl e gs) w)
             (λ y. o.value e y (leave_all gs w)))
         by None j = waits m (later_itself a.waits t) k l
         by (Some y) j = gives (later_itself a.waits t) (leave_all_kept n t gs qs w i k) j tt
@@ -349,15 +349,15 @@ module _ (p : Program) (f : Found) where
               (λ y w. arm_gave p (deeper p g) kd pl e (with_arm gs (gave y no_arms)) w (λ w. started p (deeper p g) kd pl ts e
               (with_arm gs (gave y no_arms)) w))
               (λ s1 w. started p (deeper p g) kd pl ts e (with_arm gs (runs s1 no_arms)) w))
-          by all_of h y (task_ends {u = v} {v = x1} {w = z} gv kp j) next =
+          by sync h y (task_ends {u = v} {v = x1} {w = z} gv kp j) next =
               typed_from p f (turns n) (grows_later p f a.waits u v waits_here gv)
               (next v z (with_arm gs (gave x1 no_arms)) gv (with_arm_are n v gs (gave x1 no_arms) ds (q ∷ []) (arms_more n u v gs ds gv i)
               (j, tt)) kp)
-          by first_of h y (task_ends {u = v} {v = x1} {w = z} gv kp j) next =
+          by race h y (task_ends {u = v} {v = x1} {w = z} gv kp j) next =
               typed_from p f (turns n) (grows_later p f a.waits u v waits_here gv)
-              (group_typed n g v a first_of pl e (with_arm gs (gave x1 no_arms)) (ds ++ q ∷ []) r z waits_here (first_fits r ds q qs h)
+              (group_typed n g v a race pl e (with_arm gs (gave x1 no_arms)) (ds ++ q ∷ []) r z waits_here (first_fits r ds q qs h)
               (with_arm_are n v gs (gave x1 no_arms) ds (q ∷ []) (arms_more n u v gs ds gv i) (j, tt)) kp)
-          by rush_of h y (task_ends {u = v} {v = x1} {w = z} gv kp j) next =
+          by rush h y (task_ends {u = v} {v = x1} {w = z} gv kp j) next =
               typed_from p f (turns n) (grows_later p f a.waits u v waits_here gv)
               (next v z (with_arm gs (gave x1 no_arms)) gv (with_arm_are n v gs (gave x1 no_arms) ds (q ∷ []) (arms_more n u v gs ds gv i)
               (j, tt)) kp)

@@ -1,6 +1,6 @@
 -- What holds round the body of a task scope, by its role.
 use Rattle.std.specs.Prelude.{◌≡◌, ℕ, Bool, true, false, List, [], ◌∷◌, Some, None}
-use Rattle.verse_meaning_state.specs.Turns.{Kind, all_of, first_of, rush_of}
+use Rattle.verse_meaning_state.specs.Turns.{Kind, sync, race, rush}
 use Rattle.verse_sorts.specs.Sorts as s
 use Rattle.verse_sorts.specs.Sorts.{Sort, Fits}
 use Rattle.verse_sorts.specs.Typing.{at, Typing, Is}
@@ -49,6 +49,6 @@ module _ (f : Found) where
 
   -- what a group gives
   abbrev pub GroupGives : Kind → List Sort → Sort → Type 0
-  GroupGives all_of qs r = Fits f.up (s.tuple (sorts qs)) r
-  GroupGives first_of qs r = EachFits qs r
-  GroupGives rush_of qs r = EachFits qs r
+  GroupGives sync qs r = Fits f.up (s.tuple (sorts qs)) r
+  GroupGives race qs r = EachFits qs r
+  GroupGives rush qs r = EachFits qs r

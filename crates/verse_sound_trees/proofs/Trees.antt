@@ -11,7 +11,7 @@ use Rattle.verse_value.specs.Val.{Val}
 use Rattle.verse_value.specs.Operations.{text_val}
 use Rattle.verse_meaning_state.specs.State.{State}
 use Rattle.verse_meaning_state.specs.Waits.{Cause, never, after}
-use Rattle.verse_meaning_state.specs.Turns.{all_of, first_of, rush_of}
+use Rattle.verse_meaning_state.specs.Turns.{sync, race, rush}
 use Rattle.verse_names_declarations.specs.Names.{Table}
 use Rattle.verse_sorts.specs.Sorts as s
 use Rattle.verse_sorts.specs.Sorts.{Sort, Fits}
@@ -455,13 +455,13 @@ module _ (p : Program) (f : Found) (top : Level) (fuel : ℕ) (known : Known p f
     shape_well (t.Shape.branch b) a xs n pl t e h see =
         branch_well p f known.cancel top fuel a h.0 t (sort_at p f b) (f.sort n) e (λ g w. ev p (deeper p g) b true e w) h.2 (ev_well b
         (armed a) xs t e h.1 see)
-    shape_well (t.Shape.sync ts) a xs n pl t e h see = group_well p f known.cancel top fuel a h.0 t all_of pl e (f.sort n) ts
+    shape_well (t.Shape.sync ts) a xs n pl t e h see = group_well p f known.cancel top fuel a h.0 t sync pl e (f.sort n) ts
         (sorts_at p f ts) h.2 (armed_well ts a h.0 xs t e h.1 see)
     shape_well (t.Shape.race ts) a xs n pl t e h see =
-        group_well p f known.cancel top fuel a h.0 t first_of pl e (f.sort n) ts (sorts_at p f ts) (each_fits (armed a) xs
+        group_well p f known.cancel top fuel a h.0 t race pl e (f.sort n) ts (sorts_at p f ts) (each_fits (armed a) xs
         (f.sort n) ts h.1) (each_well ts a h.0 xs (f.sort n) t e h.1 see)
     shape_well (t.Shape.rush ts) a xs n pl t e h see =
-        group_well p f known.cancel top fuel a h.0 t rush_of pl e (f.sort n) ts (sorts_at p f ts) (each_fits (armed a) xs
+        group_well p f known.cancel top fuel a h.0 t rush pl e (f.sort n) ts (sorts_at p f ts) (each_fits (armed a) xs
         (f.sort n) ts h.1) (each_well ts a h.0 xs (f.sort n) t e h.1 see)
     shape_well (t.Shape.spawn b) a xs n pl t e h see = spawned_well b a xs n t e h see
     shape_well (t.Shape.sleep d) a xs n pl t e h see = sleeps_well t a (f.sort n) e (λ w. after d w.state) h.0

@@ -6,7 +6,7 @@ use Rattle.verse_code.specs.declared.codes.Code.{Code}
 use Rattle.verse_value.specs.Val as v
 use Rattle.verse_value.specs.Val.{Val}
 use Rattle.verse_meaning_state.specs.State.{State, Given, Signal, with_result, set_at}
-use Rattle.verse_meaning_state.specs.Turns.{Kind, all_of, first_of, rush_of}
+use Rattle.verse_meaning_state.specs.Turns.{Kind, sync, race, rush}
 use Rattle.verse_code_machine.specs.Tasks.{Handler, Note, Frame, Role, root, part, Who, did, Task, After, resuming}
 use Rattle.verse_code_machine.specs.Tasks.{closing, finishing, Up, begins, branching, spawning, clearing, Trees, world}
 use Rattle.verse_code_machine.specs.Cancelling.{without}
@@ -208,15 +208,15 @@ module _ (c : Code) (n : Notes) where
 
         by_kind : (k : Kind) → KindGives c n k (d.before ++ d.running ∷ d.after) d.result → Fine_step c n (arm_did k p (gs ++ did u ∷ []) ls y
             pre post us trees s (λ y. rested (y ∷ pre) post us trees s))
-        by_kind all_of g =
-            next_good c n ok d.result all_of p y _ (calm_for c n ok q ups) d.thread parts d.labels (subst (λ rs. KindGives c n all_of rs
+        by_kind sync g =
+            next_good c n ok d.result sync p y _ (calm_for c n ok q ups) d.thread parts d.labels (subst (λ rs. KindGives c n sync rs
             d.result) (sym (append_assoc d.before (d.running ∷ []) d.after)) g) (λ x same j. rested_good c n ok ups (calm_more c n ok x j
             (calm_for c n ok q ups)))
-        by_kind first_of (first_gives g) =
-            grouped_good c n ok d.result first_of p y _ (calm_for c n ok q ups) d.thread parts (first_gives (first_few d.before d.running
+        by_kind race (first_gives g) =
+            grouped_good c n ok d.result race p y _ (calm_for c n ok q ups) d.thread parts (first_gives (first_few d.before d.running
             d.after g)) (λ x same j. rested_good c n ok ups (calm_more c n ok x j (calm_for c n ok q ups)))
-        by_kind rush_of g =
-            next_good c n ok d.result rush_of p y _ (calm_for c n ok q ups) d.thread parts d.labels (subst (λ rs. KindGives c n rush_of rs
+        by_kind rush g =
+            next_good c n ok d.result rush p y _ (calm_for c n ok q ups) d.thread parts d.labels (subst (λ rs. KindGives c n rush rs
             d.result) (sym (append_assoc d.before (d.running ∷ []) d.after)) g) (λ x same j. rested_good c n ok ups (calm_more c n ok x j
             (calm_for c n ok q ups)))
     part_good u (ups_branch {y = y} other r ups) there role e i q =

@@ -17,7 +17,7 @@ use Rattle.verse_value.specs.Sizes.{fits}
 use Rattle.verse_value.specs.Operations.{tuple_of}
 use Rattle.verse_meaning_state.specs.State.{State, Given, Signal, stepped}
 use Rattle.verse_meaning_state.specs.Waits.{Cause, eqn}
-use Rattle.verse_meaning_state.specs.Turns.{Kind, all_of, first_of, rush_of}
+use Rattle.verse_meaning_state.specs.Turns.{Kind, sync, race, rush}
 use Rattle.verse_code_machine.specs.Tasks.{Handler, Note, Frame, root, part, Who, Part, did, runs, group, Thread, Task, After}
 use Rattle.verse_code_machine.specs.Tasks.{resuming, closing, finishing, Up, clearing, Trees, World, world, Step}
 use Rattle.verse_code_machine.specs.Tasks.{Next, Turn, machine, life_from, child_named, onto, among, starts, beneath_arms}
@@ -259,7 +259,7 @@ module _ (c : Code) (n : Notes) where
         (a : Sort) (k : Kind) (p : Place) (y : Thread) (stands : Task → Step) → Calm t y.who pre post us trees s → ThreadIs c n t a y →
         PartsAre c n t gs rs → KindGives c n k rs a → ((x : Task) → x.thread ≡ y → TaskIs c n t x → Fine_step (stands x)) →
         Fine_step (grouped k p gs y (world pre post us trees) s stands)
-    grouped_good {t = t} {pre = pre} {post = post} {us = us} {trees = trees} {s = s} {gs = gs} {rs = rs} a all_of p y stands q r ps
+    grouped_good {t = t} {pre = pre} {post = post} {us = us} {trees = trees} {s = s} {gs = gs} {rs = rs} a sync p y stands q r ps
         (all_give f) h = either (all_did gs) refl
       where
         sized : (vs : List Val) (b : Bool) (k : Error) → All c n t vs rs → Fine_step (tupled p (if b then gives (v.tuple (vals vs)) else
@@ -269,25 +269,25 @@ module _ (c : Code) (n : Notes) where
 
         either : (m : Option (List Val)) → all_did gs ≡ m → Fine_step (or_stands m (stands (record {
           thread = y;
-          rest = group all_of p gs;
+          rest = group sync p gs;
         })) (λ vs. tupled p (tuple_of vs) y (world pre post us trees) s))
         either None e = h _ refl (groups refl ps (all_give f) r)
         either (Some vs) e = sized vs (fits (v.tuple (vals vs))) _ (all_are vs ps e)
-    grouped_good {t = t} {pre = pre} {post = post} {us = us} {trees = trees} {s = s} {gs = gs} {rs = rs} a first_of p y stands q r ps
+    grouped_good {t = t} {pre = pre} {post = post} {us = us} {trees = trees} {s = s} {gs = gs} {rs = rs} a race p y stands q r ps
         (first_gives f) h = either (first_did gs) refl
       where
         either : (m : Option Val) → first_did gs ≡ m → Fine_step (or_stands m (stands (record {
           thread = y;
-          rest = group first_of p gs;
+          rest = group race p gs;
         })) (λ v. cancels (λ o s. resumes y v o s) (resuming y v) (beneath_arms y.who.path gs) (world pre post us trees) s))
         either None e = h _ refl (groups refl ps (first_gives f) r)
         either (Some v) e = cancels_resuming a y v (beneath_arms y.who.path gs) q r (first_is v ps f e)
-    grouped_good {t = t} {pre = pre} {post = post} {us = us} {trees = trees} {s = s} {gs = gs} {rs = rs} a rush_of p y stands q r ps
+    grouped_good {t = t} {pre = pre} {post = post} {us = us} {trees = trees} {s = s} {gs = gs} {rs = rs} a rush p y stands q r ps
         (rush_gives f) h = either (first_did gs) refl
       where
         either : (m : Option Val) → first_did gs ≡ m → Fine_step (or_stands m (stands (record {
           thread = y;
-          rest = group rush_of p gs;
+          rest = group rush p gs;
         })) (λ v. resumes y v (world pre post us trees) s))
         either None e = h _ refl (groups refl ps (rush_gives f) r)
         either (Some v) e = resumes_good a y v q r (first_is v ps f e)

@@ -4,7 +4,7 @@ use Rattle.verse_code.specs.declared.codes.Code.{Code}
 use Rattle.verse_value.specs.Val.{Val}
 use Rattle.verse_meaning_state.specs.State.{State, Given, Signal}
 use Rattle.verse_meaning_state.specs.Waits.{Cause, till, never, done, heard}
-use Rattle.verse_meaning_state.specs.Turns.{Kind, all_of, first_of, rush_of}
+use Rattle.verse_meaning_state.specs.Turns.{Kind, sync, race, rush}
 use Rattle.verse_code_machine.specs.Tasks.{Role, root, part, Who, Part, did, runs, asleep, group, Thread, Task, resuming, closing}
 use Rattle.verse_code_machine.specs.Tasks.{finishing, Up, begins, branching, spawning, clearing, Trees, World}
 use Rattle.verse_code_machine.specs.Runs.{Forest}
@@ -53,9 +53,9 @@ module _ (c : Code) (n : Notes) where
         PartsAre t (runs i ∷ gs) (a ∷ xs)
 
   pub data KindGives : Kind → List Sort → Sort → Type 0 where
-    all_give : {rs : List Sort} {a : Sort} → Fit c n (s.tuple (sorts rs)) a → KindGives all_of rs a
-    first_gives : {rs : List Sort} {u : Sort} → AllIn c n u rs → KindGives first_of rs u
-    rush_gives : {rs : List Sort} {u : Sort} → AllIn c n u rs → KindGives rush_of rs u
+    all_give : {rs : List Sort} {a : Sort} → Fit c n (s.tuple (sorts rs)) a → KindGives sync rs a
+    first_gives : {rs : List Sort} {u : Sort} → AllIn c n u rs → KindGives race rs u
+    rush_gives : {rs : List Sort} {u : Sort} → AllIn c n u rs → KindGives rush rs u
 
   -- an arm may begin with these locals
   pub record Starts (t : Typing) (ls : List Val) (l : ℕ) (r : Sort) : Type 0 where

@@ -20,7 +20,7 @@ use Rattle.vm_tasks_laws.proofs.Steps.{group_over}
 use Rattle.vm_running.specs.Views.{View, Aside, state_of}
 use Rattle.vm_tasks.specs.View.{slot_of, kind_of, part_of}
 use Rattle.vm_tasks.specs.declared.slots.Kind.{Kind}
-use Rattle.vm_tasks.specs.declared.slots.Kind.TheVariants.{All, First, Rush}
+use Rattle.vm_tasks.specs.declared.slots.Kind.TheVariants.{Sync, Race, Rush}
 use Rattle.vm_scheduler.specs.declared.tasks.Begins.{Begins}
 use Rattle.vm_scheduler.specs.declared.tasks.Tasks.{Tasks}
 use Rattle.vm_scheduler.specs.declared.tasks.Went.{Went}
@@ -75,41 +75,41 @@ module _ {W : Type 0} (pending : W → List Pending) where
         (c.stands a w o st bare sus);
   }
 
-  no_value : (k : Kind) (b : Begins) (w : Who) (o : World) (st : State) (stands : m.Task → Step) → k ≡ All →
+  no_value : (k : Kind) (b : Begins) (w : Who) (o : World) (st : State) (stands : m.Task → Step) → k ≡ Sync →
       is_some (all_did (map part_of b.arms.items)) ≡ false →
       grouped (kind_of k) b.place (map part_of b.arms.items) (threaded w b.thread) o st stands ≡
       stands (record { thread = threaded w b.thread; rest = m.group (kind_of k) b.place (map part_of b.arms.items) })
-  no_value All b w o st stands e none =
+  no_value Sync b w o st stands e none =
       ap (λ z. or_stands z (stands (record {
         thread = threaded w b.thread;
         rest =
-            m.group turns.all_of b.place (map part_of b.arms.items);
+            m.group turns.sync b.place (map part_of b.arms.items);
       })) (λ vs. tupled b.place (tuple_of vs) (threaded w b.thread) o st))
       (not_some (all_did (map part_of b.arms.items)) none)
-  no_value First b w o st stands e none = absurd (cc)
+  no_value Race b w o st stands e none = absurd (cc)
   no_value Rush b w o st stands e none = absurd (cc)
 
-  pub settles_not_all : (b : Begins) (r : Went) (v : View) (t s : Tasks W) → b.kind ≡ All →
+  pub settles_not_all : (b : Begins) (r : Went) (v : View) (t s : Tasks W) → b.kind ≡ Sync →
       is_some (all_did (map part_of b.arms.items)) ≡ false → StandsThere pending b r v t s → Settles pending b r v t v s
   settles_not_all b r v t s k none c = settles_as b r v t s (λ w o st stands. no_value b.kind b w o st stands k none) c
 
-  no_first : (k : Kind) (b : Begins) (w : Who) (o : World) (st : State) (stands : m.Task → Step) → k ≡ First →
+  no_first : (k : Kind) (b : Begins) (w : Who) (o : World) (st : State) (stands : m.Task → Step) → k ≡ Race →
       is_some (first_did (map part_of b.arms.items)) ≡ false →
       grouped (kind_of k) b.place (map part_of b.arms.items) (threaded w b.thread) o st stands ≡
       stands (record { thread = threaded w b.thread; rest = m.group (kind_of k) b.place (map part_of b.arms.items) })
-  no_first All b w o st stands e none = absurd (cc)
-  no_first First b w o st stands e none =
+  no_first Sync b w o st stands e none = absurd (cc)
+  no_first Race b w o st stands e none =
       ap (λ z. or_stands z (stands (record {
         thread = threaded w b.thread;
         rest =
-            m.group turns.first_of b.place (map part_of b.arms.items);
+            m.group turns.race b.place (map part_of b.arms.items);
       }))
       (λ v. cancels (λ o s. resumes (threaded w b.thread) v o s) (resuming (threaded w b.thread) v)
       (beneath_arms w.path (map part_of b.arms.items)) o st))
       (not_some (first_did (map part_of b.arms.items)) none)
   no_first Rush b w o st stands e none = absurd (cc)
 
-  pub settles_not_first : (b : Begins) (r : Went) (v : View) (t s : Tasks W) → b.kind ≡ First →
+  pub settles_not_first : (b : Begins) (r : Went) (v : View) (t s : Tasks W) → b.kind ≡ Race →
       is_some (first_did (map part_of b.arms.items)) ≡ false → StandsThere pending b r v t s → Settles pending b r v t v s
   settles_not_first b r v t s k none c = settles_as b r v t s (λ w o st stands. no_first b.kind b w o st stands k none) c
 
@@ -117,13 +117,13 @@ module _ {W : Type 0} (pending : W → List Pending) where
       is_some (first_did (map part_of b.arms.items)) ≡ false →
       grouped (kind_of k) b.place (map part_of b.arms.items) (threaded w b.thread) o st stands ≡
       stands (record { thread = threaded w b.thread; rest = m.group (kind_of k) b.place (map part_of b.arms.items) })
-  no_rush All b w o st stands e none = absurd (cc)
-  no_rush First b w o st stands e none = absurd (cc)
+  no_rush Sync b w o st stands e none = absurd (cc)
+  no_rush Race b w o st stands e none = absurd (cc)
   no_rush Rush b w o st stands e none =
       ap (λ z. or_stands z (stands (record {
         thread = threaded w b.thread;
         rest =
-            m.group turns.rush_of b.place (map part_of b.arms.items);
+            m.group turns.rush b.place (map part_of b.arms.items);
       })) (λ v. resumes (threaded w b.thread) v o st))
       (not_some (first_did (map part_of b.arms.items)) none)
 
@@ -133,17 +133,17 @@ module _ {W : Type 0} (pending : W → List Pending) where
 
   -- it has a value
 
-  all_have : (k : Kind) (b : Begins) (vs : List Val) (w : Who) (o : World) (st : State) (stands : m.Task → Step) → k ≡ All →
+  all_have : (k : Kind) (b : Begins) (vs : List Val) (w : Who) (o : World) (st : State) (stands : m.Task → Step) → k ≡ Sync →
       all_did (map part_of b.arms.items) ≡ Some vs →
       grouped (kind_of k) b.place (map part_of b.arms.items) (threaded w b.thread) o st stands ≡
       tupled b.place (tuple_of vs) (threaded w b.thread) o st
-  all_have All b vs w o st stands e some =
+  all_have Sync b vs w o st stands e some =
       ap (λ z. or_stands z (stands (record {
         thread = threaded w b.thread;
         rest =
-            m.group turns.all_of b.place (map part_of b.arms.items);
+            m.group turns.sync b.place (map part_of b.arms.items);
       })) (λ vs. tupled b.place (tuple_of vs) (threaded w b.thread) o st)) some
-  all_have First b vs w o st stands e some = absurd (cc)
+  all_have Race b vs w o st stands e some = absurd (cc)
   all_have Rush b vs w o st stands e some = absurd (cc)
 
   goes_on : (b : Begins) (x : Val) (r : Went) (v u : View) (t s : Tasks W) →
@@ -159,7 +159,7 @@ module _ {W : Type 0} (pending : W → List Pending) where
         (k.resumes a w o (group_free b.id w (map part_of b.arms.items) a o v t nested st) bare sus));
   }
 
-  pub tuple_ok : {E : Type 0} (d : Result Went E) (b : Begins) (vs : List Val) (x : Val) (v u : View) (t s : Tasks W) → b.kind ≡ All →
+  pub tuple_ok : {E : Type 0} (d : Result Went E) (b : Begins) (vs : List Val) (x : Val) (v u : View) (t s : Tasks W) → b.kind ≡ Sync →
       all_did (map part_of b.arms.items) ≡ Some vs → tuple_of vs ≡ gives x → IsTree t.tree →
       IfOk d (λ r. Resumes pending b.id b.thread x r v t u s) → IfOk d (λ r. Settles pending b r v t u s)
   tuple_ok (Err e) b vs x v u t s k some is nested h = tt
@@ -167,7 +167,7 @@ module _ {W : Type 0} (pending : W → List Pending) where
       goes_on b x r v u t s (λ w o st stands. all_have b.kind b vs w o st stands k some ∙
       ap (λ z. tupled b.place z (threaded w b.thread) o st) is) nested h
 
-  pub tuple_error : (b : Begins) (vs : List Val) (f : fault.Kind) (v : View) (t s : Tasks W) → b.kind ≡ All →
+  pub tuple_error : (b : Begins) (vs : List Val) (f : fault.Kind) (v : View) (t s : Tasks W) → b.kind ≡ Sync →
       all_did (map part_of b.arms.items) ≡ Some vs → tuple_of vs ≡ error f → Settles pending b (went.Over (ending.Error f b.place)) v t v s
   tuple_error b vs f v t s k some is = record {
     settles = λ a w o st bare sus. record {
@@ -178,7 +178,7 @@ module _ {W : Type 0} (pending : W → List Pending) where
     };
   }
 
-  pub tuple_stuck : (b : Begins) (vs : List Val) (v : View) (t s : Tasks W) → b.kind ≡ All → all_did (map part_of b.arms.items) ≡ Some vs →
+  pub tuple_stuck : (b : Begins) (vs : List Val) (v : View) (t s : Tasks W) → b.kind ≡ Sync → all_did (map part_of b.arms.items) ≡ Some vs →
       tuple_of vs ≡ stuck → Settles pending b (went.Over ending.Stuck) v t v s
   tuple_stuck b vs v t s k some is = record {
     settles = λ a w o st bare sus. record {
@@ -189,7 +189,7 @@ module _ {W : Type 0} (pending : W → List Pending) where
     };
   }
 
-  pub tuple_fails : (b : Begins) (vs : List Val) (v : View) (t s : Tasks W) → b.kind ≡ All → all_did (map part_of b.arms.items) ≡ Some vs →
+  pub tuple_fails : (b : Begins) (vs : List Val) (v : View) (t s : Tasks W) → b.kind ≡ Sync → all_did (map part_of b.arms.items) ≡ Some vs →
       tuple_of vs ≡ fails → Settles pending b (went.Over ending.Stuck) v t v s
   tuple_fails b vs v t s k some is = record {
     settles = λ a w o st bare sus. record {
@@ -203,13 +203,13 @@ module _ {W : Type 0} (pending : W → List Pending) where
   rush_has : (k : Kind) (b : Begins) (x : Val) (w : Who) (o : World) (st : State) (stands : m.Task → Step) → k ≡ Rush →
       first_did (map part_of b.arms.items) ≡ Some x →
       grouped (kind_of k) b.place (map part_of b.arms.items) (threaded w b.thread) o st stands ≡ resumes (threaded w b.thread) x o st
-  rush_has All b x w o st stands e some = absurd (cc)
-  rush_has First b x w o st stands e some = absurd (cc)
+  rush_has Sync b x w o st stands e some = absurd (cc)
+  rush_has Race b x w o st stands e some = absurd (cc)
   rush_has Rush b x w o st stands e some =
       ap (λ z. or_stands z (stands (record {
         thread = threaded w b.thread;
         rest =
-            m.group turns.rush_of b.place (map part_of b.arms.items);
+            m.group turns.rush b.place (map part_of b.arms.items);
       })) (λ v. resumes (threaded w b.thread) v o st)) some
 
   pub rush_ok : {E : Type 0} (d : Result Went E) (b : Begins) (x : Val) (v u : View) (t s : Tasks W) → b.kind ≡ Rush →
@@ -218,23 +218,23 @@ module _ {W : Type 0} (pending : W → List Pending) where
   rush_ok (Err e) b x v u t s k some nested h = tt
   rush_ok (Ok r) b x v u t s k some nested h = goes_on b x r v u t s (λ w o st stands. rush_has b.kind b x w o st stands k some) nested h
 
-  race_has : (k : Kind) (b : Begins) (x : Val) (w : Who) (o : World) (st : State) (stands : m.Task → Step) → k ≡ First →
+  race_has : (k : Kind) (b : Begins) (x : Val) (w : Who) (o : World) (st : State) (stands : m.Task → Step) → k ≡ Race →
       first_did (map part_of b.arms.items) ≡ Some x →
       grouped (kind_of k) b.place (map part_of b.arms.items) (threaded w b.thread) o st stands ≡
       cancels (λ o s. resumes (threaded w b.thread) x o s) (resuming (threaded w b.thread) x)
       (beneath_arms w.path (map part_of b.arms.items)) o st
-  race_has All b x w o st stands e some = absurd (cc)
-  race_has First b x w o st stands e some =
+  race_has Sync b x w o st stands e some = absurd (cc)
+  race_has Race b x w o st stands e some =
       ap (λ z. or_stands z (stands (record {
         thread = threaded w b.thread;
         rest =
-            m.group turns.first_of b.place (map part_of b.arms.items);
+            m.group turns.race b.place (map part_of b.arms.items);
       }))
       (λ v. cancels (λ o s. resumes (threaded w b.thread) v o s) (resuming (threaded w b.thread) v)
       (beneath_arms w.path (map part_of b.arms.items)) o st)) some
   race_has Rush b x w o st stands e some = absurd (cc)
 
-  pub race_ok : {E : Type 0} (d : Result Went E) (b : Begins) (x : Val) (v u : View) (t s : Tasks W) → b.kind ≡ First →
+  pub race_ok : {E : Type 0} (d : Result Went E) (b : Begins) (x : Val) (v u : View) (t s : Tasks W) → b.kind ≡ Race →
       first_did (map part_of b.arms.items) ≡ Some x → IfOk d (λ r. CancelsArms pending b.id b.thread x r v t u s) →
       IfOk d (λ r. Settles pending b r v t u s)
   race_ok (Err e) b x v u t s k some h = tt
@@ -276,15 +276,15 @@ module _ {W : Type 0} (pending : W → List Pending) where
 
   -- an arm has ended
 
-  first_ends : (k : Kind) (b : Begins) (w : Who) (o : World) (st : State) (stands : m.Task → Step) → k ≡ First →
+  first_ends : (k : Kind) (b : Begins) (w : Who) (o : World) (st : State) (stands : m.Task → Step) → k ≡ Race →
       arm_did (kind_of k) b.place (map part_of b.arms.items) (reverse b.labels.items)
       (threaded w b.thread) o.pre o.post o.ups o.trees st stands ≡ grouped (kind_of k) b.place (map part_of b.arms.items)
       (threaded w b.thread) o st stands
-  first_ends All b w o st stands e = absurd (cc)
-  first_ends First b w o st stands e = refl
+  first_ends Sync b w o st stands e = absurd (cc)
+  first_ends Race b w o st stands e = refl
   first_ends Rush b w o st stands e = absurd (cc)
 
-  pub ended_first : {E : Type 0} (d : Result Went E) (b : Begins) (v u : View) (t s : Tasks W) → b.kind ≡ First →
+  pub ended_first : {E : Type 0} (d : Result Went E) (b : Begins) (v u : View) (t s : Tasks W) → b.kind ≡ Race →
       IfOk d (λ r. Settles pending b r v t u s) → IfOk d (λ r. ArmEnded pending b r v t u s)
   ended_first (Err e) b v u t s k h = tt
   ended_first (Ok r) b v u t s k h = record {
@@ -292,15 +292,15 @@ module _ {W : Type 0} (pending : W → List Pending) where
         (sym (first_ends b.kind b w o (state_of a v) (on_rest o (state_of a v)) k)) (h.settles a w o st bare sus);
   }
 
-  other_ends : (k : Kind) (b : Begins) (w : Who) (o : World) (st : State) (stands : m.Task → Step) → (k ≡ First → ⊥) →
+  other_ends : (k : Kind) (b : Begins) (w : Who) (o : World) (st : State) (stands : m.Task → Step) → (k ≡ Race → ⊥) →
       arm_did (kind_of k) b.place (map part_of b.arms.items) (reverse b.labels.items)
       (threaded w b.thread) o.pre o.post o.ups o.trees st stands ≡ next_arm (kind_of k) b.place (map part_of b.arms.items)
       (reverse b.labels.items) (threaded w b.thread) o.pre o.post o.ups o.trees st stands
-  other_ends All b w o st stands d = refl
-  other_ends First b w o st stands d = absurd (d refl)
+  other_ends Sync b w o st stands d = refl
+  other_ends Race b w o st stands d = absurd (d refl)
   other_ends Rush b w o st stands d = refl
 
-  pub ended_other : {E : Type 0} (d : Result Went E) (b : Begins) (v u : View) (t s : Tasks W) → (b.kind ≡ First → ⊥) →
+  pub ended_other : {E : Type 0} (d : Result Went E) (b : Begins) (v u : View) (t s : Tasks W) → (b.kind ≡ Race → ⊥) →
       IfOk d (λ r. NextArm pending b r v t u s) → IfOk d (λ r. ArmEnded pending b r v t u s)
   ended_other (Err e) b v u t s k h = tt
   ended_other (Ok r) b v u t s k h = record {
@@ -308,7 +308,7 @@ module _ {W : Type 0} (pending : W → List Pending) where
         (sym (other_ends b.kind b w o (state_of a v) (on_rest o (state_of a v)) k)) (h.next a w o st bare sus);
   }
 
-  pub not_first : (k : Kind) (d : (k ≡ All) ⊎ (k ≡ Rush)) → k ≡ First → ⊥
-  not_first All d e = absurd (cc)
-  not_first First d e = elim d [ inl k ↦ absurd (cc) | inr k ↦ absurd (cc) ]
+  pub not_first : (k : Kind) (d : (k ≡ Sync) ⊎ (k ≡ Rush)) → k ≡ Race → ⊥
+  not_first Sync d e = absurd (cc)
+  not_first Race d e = elim d [ inl k ↦ absurd (cc) | inr k ↦ absurd (cc) ]
   not_first Rush d e = absurd (cc)

@@ -2,7 +2,7 @@
 
 ghost use Rattle.std.specs.Prelude.{◌≡◌, IfOk};
 ghost use Rattle.verse_value.specs.View.{val_of};
-ghost use Rattle.vm_tasks.specs.declared.slots.Kind.TheVariants.{All, First, Rush};
+ghost use Rattle.vm_tasks.specs.declared.slots.Kind.TheVariants.{Sync, Race, Rush};
 ghost use Rattle.vm_scheduler.specs.declared.tasks.Went.TheVariants.{Down};
 ghost use Rattle.vm_running.specs.Runners.{view_of};
 ghost use Rattle.vm_group.specs.Groups.{Hand, Settles, NextArm, ArmEnded, InGroup, CancelsArms};
@@ -56,8 +56,8 @@ pub fn arm_ended<H: Heap, W: Waits>(
         (view_of H.state run.new) tasks.new) }
 {
     match begins.kind {
-        Kind::First => settle(run, tasks, begins),
-        Kind::All | Kind::Rush => next_arm(run, tasks, begins),
+        Kind::Race => settle(run, tasks, begins),
+        Kind::Sync | Kind::Rush => next_arm(run, tasks, begins),
     }
 }
 
@@ -75,19 +75,19 @@ pub fn settle<H: Heap, W: Waits>(
     ensures above { IfOk result (λ r. r ≡ Down → tasks.new.ups ≡ tasks.old.ups) }
 {
     match begins.kind {
-        Kind::All => settle_all(run, tasks, begins),
-        Kind::First => settle_first(run, tasks, begins),
+        Kind::Sync => settle_sync(run, tasks, begins),
+        Kind::Race => settle_race(run, tasks, begins),
         Kind::Rush => settle_rush(run, tasks, begins),
     }
 }
 
-fn settle_all<H: Heap, W: Waits>(
+fn settle_sync<H: Heap, W: Waits>(
     run: &mut Runner<H>,
     tasks: &mut Tasks<W>,
     begins: Begins,
 ) -> Result<Went, Memory>
     requires hand { Hand W.pending begins (view_of H.state run.old) tasks.old }
-    requires kind { begins.kind ≡ All }
+    requires kind { begins.kind ≡ Sync }
     ensures settles { IfOk result
         (λ r. Settles W.pending begins r (view_of H.state run.old) tasks.old
         (view_of H.state run.new) tasks.new) }
@@ -107,13 +107,13 @@ fn settle_all<H: Heap, W: Waits>(
     }
 }
 
-fn settle_first<H: Heap, W: Waits>(
+fn settle_race<H: Heap, W: Waits>(
     run: &mut Runner<H>,
     tasks: &mut Tasks<W>,
     begins: Begins,
 ) -> Result<Went, Memory>
     requires hand { Hand W.pending begins (view_of H.state run.old) tasks.old }
-    requires kind { begins.kind ≡ First }
+    requires kind { begins.kind ≡ Race }
     ensures settles { IfOk result
         (λ r. Settles W.pending begins r (view_of H.state run.old) tasks.old
         (view_of H.state run.new) tasks.new) }

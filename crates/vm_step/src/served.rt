@@ -72,8 +72,8 @@ fn group_kind(number: u32) -> Kind
     ensures { kind_of result ≡ kind_meant number }
 {
     match number {
-        0 => Kind::All,
-        1 => Kind::First,
+        0 => Kind::Sync,
+        1 => Kind::Race,
         _ => Kind::Rush,
     }
 }

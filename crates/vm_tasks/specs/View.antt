@@ -11,7 +11,7 @@ use Rattle.vm_tasks.specs.declared.slots.Held.TheVariants.{ByMachine, Asleep, At
 use Rattle.vm_tasks.specs.declared.slots.Root.{Root}
 use Rattle.vm_tasks.specs.declared.slots.Root.TheVariants.{Part as APart, Main, Spawned}
 use Rattle.vm_tasks.specs.declared.slots.Kind.{Kind}
-use Rattle.vm_tasks.specs.declared.slots.Kind.TheVariants.{All, First, Rush}
+use Rattle.vm_tasks.specs.declared.slots.Kind.TheVariants.{Sync, Race, Rush}
 use Rattle.vm_tasks.specs.declared.slots.Arm.{Arm}
 use Rattle.vm_tasks.specs.declared.slots.Arm.TheVariants.{Did, Runs}
 
@@ -21,9 +21,9 @@ role_of Main = root None
 role_of (Spawned entry) = root (Some entry)
 
 abbrev pub kind_of : Kind → turns.Kind
-kind_of All = turns.all_of
-kind_of First = turns.first_of
-kind_of Rush = turns.rush_of
+kind_of Sync = turns.sync
+kind_of Race = turns.race
+kind_of Rush = turns.rush
 
 abbrev pub part_of : Arm → Part
 part_of (Did v) = did (val_of v)

@@ -17,9 +17,9 @@ pub enum Root {
 #[derive(Clone, Copy, Debug, PartialEq, Eq)]
 pub enum Kind {
     /// The tuple of their values.
-    All,
+    Sync,
     /// The value of the first, and the others are cancelled.
-    First,
+    Race,
     /// The value of the first, and the others go on behind.
     Rush,
 }

@@ -6,7 +6,7 @@ use Rattle.vm_ops.specs.Answers.{IsAnswerOrMemory}
 use Rattle.vm_tasks.specs.View.{part_of}
 use Rattle.vm_group.proofs.Settling.{settles_not_all, tuple_ok}
 use Rattle.vm_group.proofs.Downs.{task_runs}
-use Rattle.vm_group.proofs.groups.settle_all.Goals as goal
+use Rattle.vm_group.proofs.groups.settle_sync.Goals as goal
 
 pub returns-then-not-all_gave-clause-settles : goal.returns-then-not-all_gave-clause-settles
 returns-then-not-all_gave-clause-settles g c =

@@ -4,7 +4,7 @@ use Rattle.verse_code_machine.specs.Ends.{first_did}
 use Rattle.vm_tasks.specs.View.{part_of}
 use Rattle.vm_group.proofs.Settling.{settles_not_first, race_ok}
 use Rattle.vm_group.proofs.Downs.{race_runs}
-use Rattle.vm_group.proofs.groups.settle_first.Goals as goal
+use Rattle.vm_group.proofs.groups.settle_race.Goals as goal
 
 pub returns-then-not-one_gave-clause-settles : goal.returns-then-not-one_gave-clause-settles
 returns-then-not-one_gave-clause-settles g c =
