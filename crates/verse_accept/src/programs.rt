@@ -18,15 +18,13 @@ use crate::turns::{cut_all, lay_all, spell_all, too_large};
 use std::alloc::Global;
 use verse_base::places::Place;
 use verse_base::refusals::{Front, Refusal, Rule};
+use verse_base::rules::PROGRAM_TOO_LARGE;
 use verse_join::join;
 use verse_rules::programs::{Checked, check_program};
 use verse_rules::sizes::{MOST_SIZE, program_size};
 use verse_tree::items::Tree;
 use verse_tree::tables::Names;
 use verse_tree_items::items::ProgramTree;
-
-/// E098: a program is too large.
-const TOO_LARGE: Rule = Rule(98);
 
 /// Files have at most one result: items or a refusal.
 pub fn accepted_once()
@@ -101,7 +99,7 @@ fn bound(tree: &Tree, names: &Names) -> Result<(), Front>
         col: 1,
     };
     Err(Front::Refused(Refusal {
-        rule: TOO_LARGE,
+        rule: Rule(PROGRAM_TOO_LARGE),
         place,
     }))
 }

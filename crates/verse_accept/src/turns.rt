@@ -17,10 +17,8 @@ use std::alloc::Global;
 use verse_base::limits::MOST_FILE_BYTES;
 use verse_base::places::Place;
 use verse_base::refusals::{Front, Refusal, Rule};
+use verse_base::rules::FILE_TOO_LARGE;
 use verse_tree_items::items::ItemTrees;
-
-/// E002: a file has more bytes than a file may have.
-const TOO_LARGE: Rule = Rule(2);
 
 /// The refusal of the first file that is too large.
 pub(crate) fn too_large(files: &[Vec<u8>]) -> Option<Refusal>
@@ -40,7 +38,7 @@ pub(crate) fn too_large(files: &[Vec<u8>]) -> Option<Refusal>
                 col: 1,
             };
             return Some(Refusal {
-                rule: TOO_LARGE,
+                rule: Rule(FILE_TOO_LARGE),
                 place,
             });
         }

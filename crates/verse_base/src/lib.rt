@@ -1,7 +1,7 @@
 //! What every layer speaks of: places, rules and refusals, exact integers, and text in decimal.
 //!
-//! To be read in this order: `limits`; `places`, `refusals`, `rule_texts`, what is refused and
-//! where; `arithmetic`; `texts`.
+//! To be read in this order: `limits`; `places`, `refusals`, `rules`, `rule_texts`, what is
+//! refused and where; `arithmetic`; `texts`.
 #![tactic(auto)]
 
 pub mod arithmetic;
@@ -9,4 +9,5 @@ pub mod limits;
 pub mod places;
 pub mod refusals;
 pub mod rule_texts;
+pub mod rules;
 pub mod texts;

@@ -1,6 +1,7 @@
 -- The pass over a program answers the least rule of types that is broken, at its node.
 use Rattle.std.proofs.Common.{◌≡◌, ℕ, Bool, true, false, not, List, ◌∷◌, Option, refl, ap, sym, ◌∙◌, subst}
 use Rattle.std.specs.Prelude.{Some, None}
+use Rattle.verse_base.specs.declared.rules.TheConstants.{TYPES_DIFFER}
 use Rattle.verse_tree.specs.Tree.{Bytes}
 use Rattle.verse_tree.specs.ItemTree.{ItemTree}
 use Rattle.verse_tree.specs.PostOrder.{What, program, item, member, parameter, type_name, expression}
@@ -23,7 +24,7 @@ cut_code : (t : Ty) (o : Option ℕ) → (cut t o).code ≡ o
 cut_code t None = refl
 cut_code t (Some c) = refl
 
-served_code : (b : Bool) (t : Ty) (rs : List (ℕ × Bool)) → (served b (cut t (first_true rs))).code ≡ first_true ((50, not b) ∷ rs)
+served_code : (b : Bool) (t : Ty) (rs : List (ℕ × Bool)) → (served b (cut t (first_true rs))).code ≡ first_true ((TYPES_DIFFER, not b) ∷ rs)
 served_code true t rs = cut_code t (first_true rs)
 served_code false t rs = refl
 
@@ -33,7 +34,7 @@ judged_code f v = served_code (serves_as f v.around.used v.what (own f v).ty) (t
     (own_rules f v.around v.number v.what)
 
 -- the rules of a node have rising codes
-ascending : (f : Facts) (w : Around) (n : ℕ) (x : What) (b : Bool) → ascends ((50, b) ∷ own_rules f w n x) ≡ true
+ascending : (f : Facts) (w : Around) (n : ℕ) (x : What) (b : Bool) → ascends ((TYPES_DIFFER, b) ∷ own_rules f w n x) ≡ true
 ascending f w n (expression s) b = refl
 ascending f w n (item i) b = refl
 ascending f w n (member m) b = refl

@@ -11,11 +11,13 @@ ghost use Rattle.verse_check_typing.specs.Facts.{type_of, or_never};
 ghost use Rattle.verse_check_typing.specs.Parts as p;
 ghost use Rattle.verse_check_typing.specs.TypeRules as r;
 ghost use Rattle.verse_check_typing.specs.Views.{facts_of, judged_of, callee_of};
+ghost use Rattle.verse_base.specs.declared.rules.TheConstants.{MEMBERLESS, MISCOUNTED, TYPES_DIFFER, UNCALLABLE};
 
 use crate::arguments::{are_as_many, are_as_many_indices, do_arguments_fit, do_indices_fit};
 use sqlite_items::Boxed;
 use std::alloc::Global;
 use verse_base::refusals::Memory;
+use verse_base::rules::{MEMBERLESS, MISCOUNTED, TYPES_DIFFER, UNCALLABLE};
 use verse_check_typing::callees::{Callee, make_callee};
 use verse_check_typing::facts::Facts;
 use verse_check_typing::judged::{Judged, tested};
@@ -178,22 +180,22 @@ fn has_called_item(callee: Callee<'_>, parts: &[Expr]) -> bool
 fn call_code(facts: &Facts<'_>, callee: Callee<'_>, parts: &[Expr]) -> Result<Option<u16>, Memory>
     ensures { IfOk result (λ o. o ≡
         cond (not (c.arguments_fit (facts_of facts.now) (callee_of callee.entry)
-        (trees (map tree_of parts.now)))) (Some 50)
-        (cond (not (c.can_call (callee_of callee.entry))) (Some 51)
+        (trees (map tree_of parts.now)))) (Some TYPES_DIFFER)
+        (cond (not (c.can_call (callee_of callee.entry))) (Some UNCALLABLE)
         (cond (not (c.are_wanted (c.call_wanted (callee_of callee.entry))
-        (p.count (trees (map tree_of parts.now))))) (Some 52)
+        (p.count (trees (map tree_of parts.now))))) (Some MISCOUNTED)
         (cond (not (c.has_called_item (callee_of callee.entry) (trees (map tree_of parts.now))))
-        (Some 56) None)))) }
+        (Some MEMBERLESS) None)))) }
 {
     let text = string(facts.world.alloc)?;
     if !do_arguments_fit(facts, &text, callee, parts) {
-        Ok(Some(50))
+        Ok(Some(TYPES_DIFFER))
     } else if !can_call(callee) {
-        Ok(Some(51))
+        Ok(Some(UNCALLABLE))
     } else if !are_as_many(callee, parts) {
-        Ok(Some(52))
+        Ok(Some(MISCOUNTED))
     } else if !has_called_item(callee, parts) {
-        Ok(Some(56))
+        Ok(Some(MEMBERLESS))
     } else {
         Ok(None)
     }
@@ -202,18 +204,18 @@ fn call_code(facts: &Facts<'_>, callee: Callee<'_>, parts: &[Expr]) -> Result<Op
 fn index_code(facts: &Facts<'_>, callee: Callee<'_>, parts: &[Expr]) -> Result<Option<u16>, Memory>
     ensures { IfOk result (λ o. o ≡
         cond (not (c.indices_fit (facts_of facts.now) (callee_of callee.entry)
-        (trees (map tree_of parts.now)))) (Some 50)
-        (cond (not (c.can_stand_indexed (callee_of callee.entry))) (Some 51)
+        (trees (map tree_of parts.now)))) (Some TYPES_DIFFER)
+        (cond (not (c.can_stand_indexed (callee_of callee.entry))) (Some UNCALLABLE)
         (cond (not (c.are_wanted (c.index_wanted (callee_of callee.entry))
-        (p.count (trees (map tree_of parts.now))))) (Some 52) None))) }
+        (p.count (trees (map tree_of parts.now))))) (Some MISCOUNTED) None))) }
 {
     let text = string(facts.world.alloc)?;
     if !do_indices_fit(facts, &text, callee, parts) {
-        Ok(Some(50))
+        Ok(Some(TYPES_DIFFER))
     } else if !can_stand_indexed(callee) {
-        Ok(Some(51))
+        Ok(Some(UNCALLABLE))
     } else if !are_as_many_indices(callee, parts) {
-        Ok(Some(52))
+        Ok(Some(MISCOUNTED))
     } else {
         Ok(None)
     }
@@ -228,15 +230,15 @@ pub fn call(facts: &Facts<'_>, applied: &Applied) -> Result<Judged, Memory>
           code =
               cond (not (c.arguments_fit (facts_of facts.now)
               (callees.callee_of (facts_of facts.now) (applied_of applied.now).0)
-              (trees (applied_of applied.now).1))) (Some 50)
+              (trees (applied_of applied.now).1))) (Some TYPES_DIFFER)
               (cond (not (c.can_call (callees.callee_of (facts_of facts.now)
               (applied_of applied.now).0)))
-              (Some 51) (cond (not (c.are_wanted
+              (Some UNCALLABLE) (cond (not (c.are_wanted
               (c.call_wanted (callees.callee_of (facts_of facts.now) (applied_of applied.now).0))
-              (p.count (trees (applied_of applied.now).1)))) (Some 52)
+              (p.count (trees (applied_of applied.now).1)))) (Some MISCOUNTED)
               (cond (not (c.has_called_item
               (callees.callee_of (facts_of facts.now) (applied_of applied.now).0)
-              (trees (applied_of applied.now).1))) (Some 56) None)));
+              (trees (applied_of applied.now).1))) (Some MEMBERLESS) None)));
         }) }
 {
     let parts = applied.args.as_slice();
@@ -255,12 +257,12 @@ pub fn index(facts: &Facts<'_>, applied: &Applied) -> Result<Judged, Memory>
           code =
               cond (not (c.indices_fit (facts_of facts.now)
               (callees.callee_of (facts_of facts.now) (applied_of applied.now).0)
-              (trees (applied_of applied.now).1))) (Some 50)
+              (trees (applied_of applied.now).1))) (Some TYPES_DIFFER)
               (cond (not (c.can_stand_indexed
-              (callees.callee_of (facts_of facts.now) (applied_of applied.now).0))) (Some 51)
+              (callees.callee_of (facts_of facts.now) (applied_of applied.now).0))) (Some UNCALLABLE)
               (cond (not (c.are_wanted (c.index_wanted
               (callees.callee_of (facts_of facts.now) (applied_of applied.now).0))
-              (p.count (trees (applied_of applied.now).1)))) (Some 52) None));
+              (p.count (trees (applied_of applied.now).1)))) (Some MISCOUNTED) None));
         }) }
 {
     let parts = applied.args.as_slice();
@@ -292,11 +294,11 @@ pub fn spawn(facts: &Facts<'_>, part: &Expr) -> Result<Judged, Memory>
         record {
           ty = t.task (type_of (facts_of facts.now) (tree_of part.now));
           code =
-              cond (not (r.can_be_spawned (facts_of facts.now) (tree_of part.now))) (Some 51) None;
+              cond (not (r.can_be_spawned (facts_of facts.now) (tree_of part.now))) (Some UNCALLABLE) None;
         }) }
 {
     let alloc = facts.world.alloc;
     let content = copied(alloc, facts.type_of(part))?;
     let ty = Ty::Task(Boxed::new(alloc, content)?);
-    Ok(tested(ty, !can_be_spawned(facts, part), 51))
+    Ok(tested(ty, !can_be_spawned(facts, part), UNCALLABLE))
 }

@@ -9,10 +9,12 @@ ghost use Rattle.verse_check_typing.specs.Members as m;
 ghost use Rattle.verse_check_typing.specs.Rows as rows;
 ghost use Rattle.verse_check_typing.specs.TypeRules as r;
 ghost use Rattle.verse_check_typing.specs.Views.{facts_of, judged_of, numbers_of};
+ghost use Rattle.verse_base.specs.declared.rules.TheConstants.{LACKING, MEMBERLESS, TYPES_DIFFER, UNCALLABLE};
 
 use crate::members::field_by;
 use crate::names::class_type;
 use verse_base::refusals::Memory;
+use verse_base::rules::{LACKING, MEMBERLESS, TYPES_DIFFER, UNCALLABLE};
 use verse_check_typing::facts::Facts;
 use verse_check_typing::judged::Judged;
 use verse_check_typing::sets::NumberSet;
@@ -129,19 +131,19 @@ fn has_all(facts: &Facts<'_>, class: u32, parts: &[Given]) -> Result<bool, Memor
 fn class_code(facts: &Facts<'_>, class: u32, parts: &[Given]) -> Result<Option<u16>, Memory>
     ensures { IfOk result (λ c. c ≡
         cond (not (m.givens_fit (facts_of facts.now) class (givens (map given_of parts.now))))
-        (Some 50) (cond (not (m.has_all (facts_of facts.now) class
-        (givens (map given_of parts.now)))) (Some 55)
+        (Some TYPES_DIFFER) (cond (not (m.has_all (facts_of facts.now) class
+        (givens (map given_of parts.now)))) (Some LACKING)
         (cond (not (m.are_fields (facts_of facts.now) class (givens (map given_of parts.now))))
-        (Some 56) None))) }
+        (Some MEMBERLESS) None))) }
 {
     if !do_givens_fit(facts, class, parts) {
-        return Ok(Some(50));
+        return Ok(Some(TYPES_DIFFER));
     }
     if !has_all(facts, class, parts)? {
-        return Ok(Some(55));
+        return Ok(Some(LACKING));
     }
     if !are_fields(facts, class, parts) {
-        return Ok(Some(56));
+        return Ok(Some(MEMBERLESS));
     }
     Ok(None)
 }
@@ -153,17 +155,17 @@ fn instance_code(
 ) -> Result<Option<u16>, Memory>
     ensures { IfOk result (λ c. c ≡
         cond (not (r.on_class what (λ d.
-        m.givens_fit (facts_of facts.now) d (givens (map given_of parts.now))))) (Some 50)
-        (cond (not (r.is_class what)) (Some 51)
+        m.givens_fit (facts_of facts.now) d (givens (map given_of parts.now))))) (Some TYPES_DIFFER)
+        (cond (not (r.is_class what)) (Some UNCALLABLE)
         (cond (not (r.on_class what
-        (λ d. m.has_all (facts_of facts.now) d (givens (map given_of parts.now))))) (Some 55)
+        (λ d. m.has_all (facts_of facts.now) d (givens (map given_of parts.now))))) (Some LACKING)
         (cond (not (r.on_class what
         (λ d. m.are_fields (facts_of facts.now) d (givens (map given_of parts.now)))))
-        (Some 56) None)))) }
+        (Some MEMBERLESS) None)))) }
 {
     match what {
         Some(Ref::Class(class)) => class_code(facts, class, parts),
-        _ => Ok(Some(51)),
+        _ => Ok(Some(UNCALLABLE)),
     }
 }
 
@@ -175,13 +177,13 @@ pub fn instance(facts: &Facts<'_>, node: u32, parts: &[Given]) -> Result<Judged,
           code =
               cond (not (r.on_class (named_ref (facts_of facts.now) node)
               (λ d. m.givens_fit (facts_of facts.now) d (givens (map given_of parts.now)))))
-              (Some 50)
-              (cond (not (r.is_class (named_ref (facts_of facts.now) node))) (Some 51)
+              (Some TYPES_DIFFER)
+              (cond (not (r.is_class (named_ref (facts_of facts.now) node))) (Some UNCALLABLE)
               (cond (not (r.on_class (named_ref (facts_of facts.now) node)
-              (λ d. m.has_all (facts_of facts.now) d (givens (map given_of parts.now))))) (Some 55)
+              (λ d. m.has_all (facts_of facts.now) d (givens (map given_of parts.now))))) (Some LACKING)
               (cond (not (r.on_class (named_ref (facts_of facts.now) node)
               (λ d. m.are_fields (facts_of facts.now) d (givens (map given_of parts.now)))))
-              (Some 56) None)));
+              (Some MEMBERLESS) None)));
         }) }
 {
     let what = facts.named_ref(node);

@@ -13,9 +13,11 @@ ghost use Rattle.verse_check_typing.specs.Members as m;
 ghost use Rattle.verse_check_typing.specs.TypeRules as r;
 ghost use Rattle.verse_check_typing.specs.Views.{facts_of, judged_of};
 ghost use Rattle.verse_check_calls.specs.Views.{member_of as view};
+ghost use Rattle.verse_base.specs.declared.rules.TheConstants.{MEMBERLESS};
 
 use crate::names::field_type;
 use verse_base::refusals::Memory;
+use verse_base::rules::MEMBERLESS;
 use verse_check_typing::facts::Facts;
 use verse_check_typing::judged::{Judged, tested};
 use verse_names_declarations::members::Members;
@@ -188,13 +190,13 @@ fn judge_member(called: bool, member: Member) -> Judged
         record {
           ty = m.part_type (view member);
           code =
-              cond (not (m.may_stand called (view member))) (Some 56) None;
+              cond (not (m.may_stand called (view member))) (Some MEMBERLESS) None;
         } }
 {
     match member {
-        Member::Part(ty) => tested(ty, false, 56),
-        Member::Action => tested(Ty::Never, !called, 56),
-        Member::Missing => tested(Ty::Never, true, 56),
+        Member::Part(ty) => tested(ty, false, MEMBERLESS),
+        Member::Action => tested(Ty::Never, !called, MEMBERLESS),
+        Member::Missing => tested(Ty::Never, true, MEMBERLESS),
     }
 }
 
@@ -214,7 +216,7 @@ pub fn member_form(
               cond (not (m.may_stand (r.is_called (used_of used.entry))
               (m.member_of (facts_of facts.now)
               (ref_at (facts_of facts.now).refs (number_of_tree (tree_of object.now)))
-              (type_of (facts_of facts.now) (tree_of object.now)) name.now))) (Some 56) None;
+              (type_of (facts_of facts.now) (tree_of object.now)) name.now))) (Some MEMBERLESS) None;
         }) }
 {
     let found = member_of(facts, object, name)?;

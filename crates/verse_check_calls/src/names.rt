@@ -9,9 +9,11 @@ ghost use Rattle.verse_check_typing.specs.Members as m;
 ghost use Rattle.verse_check_typing.specs.Rows as rows;
 ghost use Rattle.verse_check_typing.specs.TypeRules as r;
 ghost use Rattle.verse_check_typing.specs.Views.{facts_of, judged_of};
+ghost use Rattle.verse_base.specs.declared.rules.TheConstants.{UNCALLABLE};
 
 use std::alloc::Global;
 use verse_base::refusals::Memory;
+use verse_base::rules::UNCALLABLE;
 use verse_check_typing::facts::{Facts, has_value};
 use verse_check_typing::judged::{Judged, tested};
 use verse_rules_types::joining::copied;
@@ -80,13 +82,13 @@ pub fn name(facts: &Facts<'_>, used: Used<'_>, node: u32) -> Result<Judged, Memo
           ty = rows.name_type (facts_of facts.now) (named_ref (facts_of facts.now) node);
           code = cond (not (r.has_value (named_ref (facts_of facts.now) node)) && not
               (r.takes_item (used_of used.entry) (named_ref (facts_of facts.now) node)))
-              (Some 51) None;
+              (Some UNCALLABLE) None;
         }) }
 {
     let what = facts.named_ref(node);
     let ty = name_type(facts, what)?;
     let broken = !has_value(what) && !takes_item(used, what);
-    Ok(tested(ty, broken, 51))
+    Ok(tested(ty, broken, UNCALLABLE))
 }
 
 /// The type of `Self` or of an instance.

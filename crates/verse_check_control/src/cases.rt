@@ -13,8 +13,10 @@ ghost use Rattle.verse_check_typing.specs.Rows.{value_type};
 ghost use Rattle.verse_check_typing.specs.Sets.{has_names, with_name};
 ghost use Rattle.verse_check_typing.specs.TypeRules.{is_enum_value};
 ghost use Rattle.verse_check_typing.specs.Views.{facts_of, judged_of, bytes_of, names_of};
+ghost use Rattle.verse_base.specs.declared.rules.TheConstants.{MEMBERLESS, TYPES_DIFFER, UNCOVERED};
 
 use verse_base::refusals::Memory;
+use verse_base::rules::{MEMBERLESS, TYPES_DIFFER, UNCOVERED};
 use verse_check_typing::facts::Facts;
 use verse_check_typing::judged::{Judged, code_if, tested};
 use verse_check_typing::parts::joined;
@@ -227,15 +229,15 @@ fn are_covered(facts: &Facts<'_>, subject: &Ty, arms: &[Expr]) -> Result<bool, M
 fn case_code(facts: &Facts<'_>, subject: &Ty, arms: &[Expr]) -> Result<Option<u16>, Memory>
     ensures { IfOk result (λ o. o ≡
         cond (not (c.can_case (facts_of facts.now) (ty_of subject.now)
-        (trees (map tree_of arms.now)))) (Some 50)
+        (trees (map tree_of arms.now)))) (Some TYPES_DIFFER)
         (cond (not (c.are_covered (facts_of facts.now) (ty_of subject.now)
-        (trees (map tree_of arms.now)))) (Some 58) None)) }
+        (trees (map tree_of arms.now)))) (Some UNCOVERED) None)) }
 {
     if !can_case(facts, subject, arms) {
-        return Ok(Some(50));
+        return Ok(Some(TYPES_DIFFER));
     }
     let is_covered = are_covered(facts, subject, arms)?;
-    Ok(code_if(!is_covered, 58))
+    Ok(code_if(!is_covered, UNCOVERED))
 }
 
 /// A `case`: the join of its arms, and never where its subject gives no value.
@@ -250,9 +252,9 @@ pub fn case_form(facts: &Facts<'_>, parts: &Cases) -> Result<Judged, Memory>
           code =
               cond (not (c.can_case (facts_of facts.now)
               (type_of (facts_of facts.now) (cases_of parts.now).0) (trees (cases_of parts.now).1)))
-              (Some 50) (cond (not (c.are_covered (facts_of facts.now)
+              (Some TYPES_DIFFER) (cond (not (c.are_covered (facts_of facts.now)
               (type_of (facts_of facts.now) (cases_of parts.now).0) (trees (cases_of parts.now).1)))
-              (Some 58) None);
+              (Some UNCOVERED) None);
         }) }
 {
     let subject = facts.type_of(parts.subject.get());
@@ -272,14 +274,14 @@ pub fn enum_pattern(facts: &Facts<'_>, node: u32, value: &[u8]) -> Judged
               value.now;
           code = cond (not
               (is_enum_value (facts_of facts.now) (named_ref (facts_of facts.now) node) value.now))
-              (Some 56) None;
+              (Some MEMBERLESS) None;
         } }
 {
     let named = facts.named_ref(node);
     tested(
         value_type(facts, named, value),
         !is_enum_value(facts, named, value),
-        56,
+        MEMBERLESS,
     )
 }
 

@@ -10,10 +10,12 @@ ghost use Rattle.verse_check_typing.specs.Parts as p;
 ghost use Rattle.verse_check_typing.specs.Rows.{loop_type};
 ghost use Rattle.verse_check_typing.specs.Sets.{has_number};
 ghost use Rattle.verse_check_typing.specs.Views.{facts_of, judged_of};
+ghost use Rattle.verse_base.specs.declared.rules.TheConstants.{TYPES_DIFFER};
 
 use sqlite_items::Boxed;
 use std::alloc::Global;
 use verse_base::refusals::Memory;
+use verse_base::rules::TYPES_DIFFER;
 use verse_check_typing::facts::Facts;
 use verse_check_typing::judged::{Judged, tested};
 use verse_check_typing::parts::are_ints;
@@ -76,12 +78,12 @@ pub fn for_form(facts: &Facts<'_>, parts: &ForParts) -> Result<Judged, Memory>
           ty = t.array (type_of (facts_of facts.now) (for_of parts.now).1);
           code =
               cond (not (l.all_take (facts_of facts.now) (trees (for_of parts.now).0)))
-              (Some 50) None;
+              (Some TYPES_DIFFER) None;
         }) }
 {
     let ty = array_of(facts.world.alloc, facts.type_of(parts.body.get()))?;
     let broken = !do_all_take(facts, parts.clauses.as_slice());
-    Ok(tested(ty, broken, 50))
+    Ok(tested(ty, broken, TYPES_DIFFER))
 }
 
 /// The `loop` of this node: void where a `break` leaves it, never where none does.

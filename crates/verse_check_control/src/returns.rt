@@ -8,8 +8,10 @@ ghost use Rattle.verse_check_typing.specs.Facts.{type_of};
 ghost use Rattle.verse_check_typing.specs.TypeRules.{fits_result};
 ghost use Rattle.verse_check_typing.specs.Views.{facts_of, judged_of};
 ghost use Rattle.verse_rules_walk.specs.Views.{around_of, now_written};
+ghost use Rattle.verse_base.specs.declared.rules.TheConstants.{TYPES_DIFFER};
 
 use verse_base::refusals::Memory;
+use verse_base::rules::TYPES_DIFFER;
 use verse_check_typing::facts::Facts;
 use verse_check_typing::judged::{Judged, tested};
 use verse_check_typing::spelling::spelled;
@@ -39,11 +41,11 @@ fn returning(facts: &Facts<'_>, wanted: Option<&TyExpr>, ty: &Ty) -> Result<Judg
           ty = t.never;
           code =
               cond (not (fits_result (facts_of facts.now) (option_map now_written wanted.entry)
-              (ty_of ty.now))) (Some 50) None;
+              (ty_of ty.now))) (Some TYPES_DIFFER) None;
         }) }
 {
     let does_fit = does_fit_result(facts, wanted, ty)?;
-    Ok(tested(Ty::Never, !does_fit, 50))
+    Ok(tested(Ty::Never, !does_fit, TYPES_DIFFER))
 }
 
 /// A `return` with this value; it gives none itself.
@@ -55,7 +57,7 @@ pub fn returned(facts: &Facts<'_>, around: Around<'_>, part: &Expr) -> Result<Ju
           ty = t.never;
           code =
               cond (not (fits_result (facts_of facts.now) (around_of around.entry).owner.result
-              (type_of (facts_of facts.now) (tree_of part.now)))) (Some 50) None;
+              (type_of (facts_of facts.now) (tree_of part.now)))) (Some TYPES_DIFFER) None;
         }) }
 {
     returning(facts, around.owner.result, facts.type_of(part))
@@ -71,7 +73,7 @@ pub fn returned_unit(facts: &Facts<'_>, around: Around<'_>) -> Result<Judged, Me
           code =
               cond (not (fits_result (facts_of facts.now) (around_of around.entry).owner.result
               t.void))
-              (Some 50) None;
+              (Some TYPES_DIFFER) None;
         }) }
 {
     returning(facts, around.owner.result, &Ty::Void)

@@ -7,8 +7,10 @@ ghost use Rattle.verse_rules_types.specs.Types as t;
 ghost use Rattle.verse_check_typing.specs.Parts as p;
 ghost use Rattle.verse_check_typing.specs.TypeRules.{is_alone};
 ghost use Rattle.verse_check_typing.specs.Views.{facts_of, judged_of};
+ghost use Rattle.verse_base.specs.declared.rules.TheConstants.{ALONE};
 
 use verse_base::refusals::Memory;
+use verse_base::rules::ALONE;
 use verse_check_typing::facts::Facts;
 use verse_check_typing::judged::{Judged, tested};
 use verse_check_typing::parts::{count, joined, tuple};
@@ -30,11 +32,11 @@ pub fn sync(facts: &Facts<'_>, parts: &[Expr]) -> Result<Judged, Memory>
     ensures { IfOk result (λ j. judged_of j ≡
         record {
           ty = t.tuple (p.types_of (facts_of facts.now) (trees (map tree_of parts.now)));
-          code = cond (is_alone (trees (map tree_of parts.now))) (Some 57) None;
+          code = cond (is_alone (trees (map tree_of parts.now))) (Some ALONE) None;
         }) }
 {
     let ty = tuple(facts, parts)?;
-    Ok(tested(ty, are_too_few(parts), 57))
+    Ok(tested(ty, are_too_few(parts), ALONE))
 }
 
 /// A `race` or a `rush`: the join of its arms.
@@ -45,9 +47,9 @@ pub fn race(facts: &Facts<'_>, parts: &[Expr]) -> Result<Judged, Memory>
         record {
           ty = p.joined (facts_of facts.now) (trees (map tree_of parts.now));
           code =
-              cond (is_alone (trees (map tree_of parts.now))) (Some 57) None;
+              cond (is_alone (trees (map tree_of parts.now))) (Some ALONE) None;
         }) }
 {
     let ty = joined(facts, parts)?;
-    Ok(tested(ty, are_too_few(parts), 57))
+    Ok(tested(ty, are_too_few(parts), ALONE))
 }

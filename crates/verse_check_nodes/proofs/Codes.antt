@@ -1,5 +1,8 @@
 -- The least code of a form and its type is that of all rules of an expression.
 use Rattle.std.proofs.Common.{◌≡◌, ℕ, Bool, true, false, [], ◌∷◌, refl}
+use Rattle.verse_base.specs.declared.rules.TheConstants.{ALONE, INCOMPARABLE, LACKING, MEMBERLESS}
+use Rattle.verse_base.specs.declared.rules.TheConstants.{MISCOUNTED, TYPES_DIFFER, TYPE_TOO_DEEP}
+use Rattle.verse_base.specs.declared.rules.TheConstants.{UNCALLABLE, UNCOVERED, UNROUNDED, UNSETTABLE}
 use Rattle.verse_tree.specs.Tree.{Shape}
 use Rattle.verse_rules_least.specs.Least.{first_true}
 use Rattle.verse_rules_walk.specs.Around.{Around}
@@ -11,8 +14,10 @@ use Rattle.verse_check_typing.specs.TypeRules.{unrounded, is_keyless, is_too_dee
 use Rattle.verse_check_nodes.specs.Codes.{least_code, code_with}
 
 in_order : (a b c d p e f g h i j q : Bool) →
-    first_true ((50, a) ∷ (51, b) ∷ (52, c) ∷ (53, d) ∷ (53, p) ∷ (54, e) ∷ (55, f) ∷ (56, g) ∷ (57, h) ∷ (58, i) ∷ (59, j) ∷ (70, q) ∷ [])
-    ≡ least_code (first_true ((50, a) ∷ (51, b) ∷ (52, c) ∷ (53, d) ∷ (54, e) ∷ (55, f) ∷ (56, g) ∷ (57, h) ∷ (58, i) ∷ (59, j) ∷ [])) p q
+    first_true ((TYPES_DIFFER, a) ∷ (UNCALLABLE, b) ∷ (MISCOUNTED, c) ∷ (INCOMPARABLE, d) ∷ (INCOMPARABLE, p) ∷ (UNSETTABLE, e)
+        ∷ (LACKING, f) ∷ (MEMBERLESS, g) ∷ (ALONE, h) ∷ (UNCOVERED, i) ∷ (UNROUNDED, j) ∷ (TYPE_TOO_DEEP, q) ∷ [])
+    ≡ least_code (first_true ((TYPES_DIFFER, a) ∷ (UNCALLABLE, b) ∷ (MISCOUNTED, c) ∷ (INCOMPARABLE, d) ∷ (UNSETTABLE, e)
+        ∷ (LACKING, f) ∷ (MEMBERLESS, g) ∷ (ALONE, h) ∷ (UNCOVERED, i) ∷ (UNROUNDED, j) ∷ [])) p q
 in_order true b c d p e f g h i j q = refl
 in_order false true c d p e f g h i j q = refl
 in_order false false true d p e f g h i j q = refl

@@ -1,5 +1,6 @@
 -- What is found of types and of expressions, and the least of several codes.
 use Rattle.std.specs.Prelude.{ℕ, nat_lt, Bool, cond, Option, Some, None}
+use Rattle.verse_base.specs.declared.rules.TheConstants.{INCOMPARABLE, TYPE_TOO_DEEP, UNSETTABLE}
 use Rattle.verse_tree.specs.Tree.{Shape}
 use Rattle.verse_rules_types.specs.Types.{Ty}
 use Rattle.verse_rules_least.specs.Least.{first_true}
@@ -19,8 +20,8 @@ of_type t = cut t (type_code t)
 
 -- the least of a form's code, E053 and E070, where the last two are broken
 abbrev pub least_code : Option ℕ → Bool → Bool → Option ℕ
-least_code (Some c) keyless deep = Some (cond (nat_lt c 54) c (cond keyless 53 c))
-least_code None keyless deep = cond keyless (Some 53) (cond deep (Some 70) None)
+least_code (Some c) keyless deep = Some (cond (nat_lt c UNSETTABLE) c (cond keyless INCOMPARABLE c))
+least_code None keyless deep = cond keyless (Some INCOMPARABLE) (cond deep (Some TYPE_TOO_DEEP) None)
 
 -- the least code of a form and its type
 abbrev pub code_with : Option ℕ → Ty → Option ℕ

@@ -6,7 +6,9 @@ ghost use Rattle.verse_check_typing.specs.Steps as s;
 ghost use Rattle.verse_check_typing.specs.TypeRules as r;
 ghost use Rattle.verse_check_typing.specs.Views.{judged_of};
 ghost use Rattle.verse_check_nodes.specs.Codes as c;
+ghost use Rattle.verse_base.specs.declared.rules.TheConstants.{INCOMPARABLE, UNSETTABLE};
 
+use verse_base::rules::{INCOMPARABLE, TYPE_TOO_DEEP, UNSETTABLE};
 use verse_check_typing::judged::Judged;
 use verse_check_typing::keys::has_keys;
 use verse_rules_types::kinds::{MOST_LEVELS, levels};
@@ -29,18 +31,22 @@ fn type_code(ty: &Ty) -> Option<u16>
     ensures { result ≡ c.type_code (ty_of ty.now) }
 {
     if is_keyless(ty) {
-        Some(53)
+        Some(INCOMPARABLE)
     } else if is_too_deep(ty) {
-        Some(70)
+        Some(TYPE_TOO_DEEP)
     } else {
         None
     }
 }
 
 fn least_code(code: u16, keyless: bool) -> u16
-    ensures { result ≡ cond (nat_lt code 54) code (cond keyless 53 code) }
+    ensures { result ≡ cond (nat_lt code UNSETTABLE) code (cond keyless INCOMPARABLE code) }
 {
-    if code < 54 || !keyless { code } else { 53 }
+    if code < UNSETTABLE || !keyless {
+        code
+    } else {
+        INCOMPARABLE
+    }
 }
 
 /// The least code of a form, which may be none, and its type.

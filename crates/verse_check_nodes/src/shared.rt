@@ -14,6 +14,7 @@ ghost use Rattle.verse_check_typing.specs.Steps.{formed};
 ghost use Rattle.verse_check_typing.specs.TypeRules as r;
 ghost use Rattle.verse_check_nodes.specs.Instances.{made_by};
 ghost use Rattle.verse_check_typing.specs.Views.{facts_of, judged_of};
+ghost use Rattle.verse_base.specs.declared.rules.TheConstants.{MEMBERLESS, TYPES_DIFFER};
 
 use sqlite_items::{Boxed, Items};
 use std::alloc::Global;
@@ -192,7 +193,7 @@ pub fn negative(facts: &Facts<'_>, part: &Expr) -> Result<Judged, Memory>
           ty = t.int;
           code =
               cond (not (p.is_int (type_of (facts_of facts.now) (tree_of part.now))))
-              (Some 50) None;
+              (Some TYPES_DIFFER) None;
         }) }
 {
     Ok(minus(facts, part))
@@ -215,7 +216,7 @@ pub fn value_pattern(facts: &Facts<'_>, node: u32, value: &[u8]) -> Result<Judge
           code = cond (not
               (r.is_enum_value (facts_of facts.now) (named_ref (facts_of facts.now) node)
               value.now))
-              (Some 56) None;
+              (Some MEMBERLESS) None;
         }) }
 {
     Ok(enum_pattern(facts, node, value))

@@ -12,9 +12,10 @@ ghost use Rattle.verse_check_typing.specs.Views.{facts_of, judged_of};
 ghost use Rattle.verse_check_nodes.specs.Codes as c;
 
 use verse_base::refusals::Memory;
-use verse_check_typing::lookups::function_by;
+use verse_base::rules::TYPES_DIFFER;
 use verse_check_typing::facts::Facts;
 use verse_check_typing::judged::Judged;
+use verse_check_typing::lookups::function_by;
 use verse_check_typing::spelling::spelled;
 use verse_rules_types::fitting::does_fit;
 use verse_rules_walk::arounds::Used;
@@ -72,7 +73,7 @@ fn served(serves: bool, found: Judged) -> Judged
     }
     Judged {
         ty: Ty::Never,
-        code: Some(50),
+        code: Some(TYPES_DIFFER),
     }
 }
 

@@ -1,5 +1,8 @@
 -- What is found at a node, and the pass from node to node.
 use Rattle.std.specs.Prelude.{ℕ, Bool, true, false, not, cond, nat_lt, ◌&&◌, List, [], ◌∷◌, ◌++◌, map, Option, Some, None, slice_get}
+use Rattle.verse_base.specs.declared.rules.TheConstants.{ALONE, INCOMPARABLE, LACKING, MEMBERLESS}
+use Rattle.verse_base.specs.declared.rules.TheConstants.{MISCOUNTED, TYPES_DIFFER, TYPE_TOO_DEEP}
+use Rattle.verse_base.specs.declared.rules.TheConstants.{UNCALLABLE, UNCOVERED, UNROUNDED, UNSETTABLE}
 use Rattle.verse_base.specs.declared.places.Place.{Place}
 use Rattle.verse_tree.specs.Tree.{Written, Tree, Shape}
 use Rattle.verse_tree.specs.Tree as s
@@ -27,16 +30,16 @@ use Rattle.verse_check_typing.specs.TypeRules.{unrounded, is_keyless, is_too_dee
 -- the rules of a form, the least code first
 abbrev pub form_rules : Facts → Around → ℕ → Shape → List (ℕ × Bool)
 form_rules f w n x =
-    (50, mismatched f w n x)
-    ∷ (51, uncallable f w n x)
-    ∷ (52, miscounted f x)
-    ∷ (53, incomparable f x)
-    ∷ (54, unsettable f x)
-    ∷ (55, lacking f n x)
-    ∷ (56, memberless f w n x)
-    ∷ (57, alone x)
-    ∷ (58, uncovered f x)
-    ∷ (59, unrounded f w x)
+    (TYPES_DIFFER, mismatched f w n x)
+    ∷ (UNCALLABLE, uncallable f w n x)
+    ∷ (MISCOUNTED, miscounted f x)
+    ∷ (INCOMPARABLE, incomparable f x)
+    ∷ (UNSETTABLE, unsettable f x)
+    ∷ (LACKING, lacking f n x)
+    ∷ (MEMBERLESS, memberless f w n x)
+    ∷ (ALONE, alone x)
+    ∷ (UNCOVERED, uncovered f x)
+    ∷ (UNROUNDED, unrounded f w x)
     ∷ []
 
 -- the type of a form, with the least code of these rules that is broken: what the row functions find
@@ -46,22 +49,22 @@ formed f w n x = record { ty = row f n x; code = first_true (form_rules f w n x)
 -- with those of its type
 abbrev pub expression_rules : Facts → Around → ℕ → Shape → List (ℕ × Bool)
 expression_rules f w n x =
-    (50, mismatched f w n x)
-    ∷ (51, uncallable f w n x)
-    ∷ (52, miscounted f x)
-    ∷ (53, incomparable f x)
-    ∷ (53, is_keyless (row f n x))
-    ∷ (54, unsettable f x)
-    ∷ (55, lacking f n x)
-    ∷ (56, memberless f w n x)
-    ∷ (57, alone x)
-    ∷ (58, uncovered f x)
-    ∷ (59, unrounded f w x)
-    ∷ (70, is_too_deep (row f n x))
+    (TYPES_DIFFER, mismatched f w n x)
+    ∷ (UNCALLABLE, uncallable f w n x)
+    ∷ (MISCOUNTED, miscounted f x)
+    ∷ (INCOMPARABLE, incomparable f x)
+    ∷ (INCOMPARABLE, is_keyless (row f n x))
+    ∷ (UNSETTABLE, unsettable f x)
+    ∷ (LACKING, lacking f n x)
+    ∷ (MEMBERLESS, memberless f w n x)
+    ∷ (ALONE, alone x)
+    ∷ (UNCOVERED, uncovered f x)
+    ∷ (UNROUNDED, unrounded f w x)
+    ∷ (TYPE_TOO_DEEP, is_too_deep (row f n x))
     ∷ []
 
 abbrev pub type_rules : Ty → List (ℕ × Bool)
-type_rules t = (53, is_keyless t) ∷ (70, is_too_deep t) ∷ []
+type_rules t = (INCOMPARABLE, is_keyless t) ∷ (TYPE_TOO_DEEP, is_too_deep t) ∷ []
 
 -- a function's node has the type of its result
 abbrev pub item_type : Facts → ItemTree → Ty
@@ -134,14 +137,14 @@ serves_as f u (program is) t = true
 -- what serves not breaks E050 and has the type never
 abbrev pub served : Bool → Judgement → Judgement
 served true j = j
-served false j = record { ty = never; code = Some 50 }
+served false j = record { ty = never; code = Some TYPES_DIFFER }
 
 abbrev pub judge : Facts → Node → Judgement
 judge f v = served (serves_as f v.around.used v.what (own f v).ty) (own f v)
 
 -- all rules at a node
 abbrev pub rules_at : Facts → Node → List (ℕ × Bool)
-rules_at f v = (50, not (serves_as f v.around.used v.what (own f v).ty)) ∷ own_rules f v.around v.number v.what
+rules_at f v = (TYPES_DIFFER, not (serves_as f v.around.used v.what (own f v).ty)) ∷ own_rules f v.around v.number v.what
 
 abbrev pub shape_ref : Facts → ℕ → Shape → Option Ref
 shape_ref f n (s.Shape.member a x) = member_ref f (type_of f a) x

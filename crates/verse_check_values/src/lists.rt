@@ -7,10 +7,12 @@ ghost use Rattle.verse_rules_types.specs.Types as t;
 ghost use Rattle.verse_check_typing.specs.Facts.{classes, type_of};
 ghost use Rattle.verse_check_typing.specs.Parts as p;
 ghost use Rattle.verse_check_typing.specs.Views.{facts_of, judged_of};
+ghost use Rattle.verse_base.specs.declared.rules.TheConstants.{TYPES_DIFFER};
 
 use sqlite_items::Boxed;
 use std::alloc::Global;
 use verse_base::refusals::Memory;
+use verse_base::rules::TYPES_DIFFER;
 use verse_check_typing::facts::Facts;
 use verse_check_typing::judged::{Judged, tested};
 use verse_check_typing::parts::{joined, string};
@@ -47,12 +49,12 @@ pub fn text_with_holes(facts: &Facts<'_>, parts: &[Hole]) -> Result<Judged, Memo
           ty = t.string;
           code =
               cond (not (p.have_texts (facts_of facts.now) (holes (map hole_of parts.now))))
-              (Some 50) None;
+              (Some TYPES_DIFFER) None;
         }) }
 {
     let text = string(facts.world.alloc)?;
     let broken = !have_texts(facts, &text, parts);
-    Ok(tested(text, broken, 50))
+    Ok(tested(text, broken, TYPES_DIFFER))
 }
 
 /// `array{..}`.

@@ -9,9 +9,11 @@ ghost use Rattle.verse_check_typing.specs.Facts.{classes, type_of, or_never};
 ghost use Rattle.verse_check_typing.specs.Parts as p;
 ghost use Rattle.verse_check_typing.specs.TypeRules as r;
 ghost use Rattle.verse_check_typing.specs.Views.{facts_of, judged_of};
+ghost use Rattle.verse_base.specs.declared.rules.TheConstants.{INCOMPARABLE, TYPES_DIFFER, UNROUNDED};
 
 use std::alloc::Global;
 use verse_base::refusals::Memory;
+use verse_base::rules::{INCOMPARABLE, TYPES_DIFFER, UNROUNDED};
 use verse_check_typing::builtins::{Builtin, builtin_by};
 use verse_check_typing::facts::Facts;
 use verse_check_typing::judged::{Judged, tested};
@@ -135,13 +137,13 @@ fn chain_code(
 ) -> Option<u16>
     ensures { result ≡ cond (not
         (p.do_chain (classes (facts_of facts.now)) operator (ty_of left.now) (ty_of right.now)))
-        (Some 50) (cond (p.is_quotient operator && not
-        (r.is_rounded (facts_of facts.now) (used_of used.entry))) (Some 59) None) }
+        (Some TYPES_DIFFER) (cond (p.is_quotient operator && not
+        (r.is_rounded (facts_of facts.now) (used_of used.entry))) (Some UNROUNDED) None) }
 {
     if !do_chain(facts.classes(), operator, left, right) {
-        Some(50)
+        Some(TYPES_DIFFER)
     } else if is_quotient(operator) && !is_rounded(facts, used) {
-        Some(59)
+        Some(UNROUNDED)
     } else {
         None
     }
@@ -162,9 +164,9 @@ pub fn chain(
           code =
               cond (not (p.do_chain (classes (facts_of facts.now)) operator
               (type_of (facts_of facts.now) (two_of two.now).0)
-              (type_of (facts_of facts.now) (two_of two.now).1))) (Some 50)
+              (type_of (facts_of facts.now) (two_of two.now).1))) (Some TYPES_DIFFER)
               (cond (p.is_quotient operator && not
-              (r.is_rounded (facts_of facts.now) (used_of used.entry))) (Some 59) None);
+              (r.is_rounded (facts_of facts.now) (used_of used.entry))) (Some UNROUNDED) None);
         }) }
 {
     let left = facts.type_of(two.left.get());
@@ -206,13 +208,13 @@ fn equality(facts: &Facts<'_>, left: &Ty, right: &Ty) -> Result<Judged, Memory>
           ty = ty_of left.now;
           code =
               cond (not (p.have_equality (classes (facts_of facts.now)) (ty_of left.now)
-              (ty_of right.now))) (Some 53) None;
+              (ty_of right.now))) (Some INCOMPARABLE) None;
         }) }
 {
     let alloc = facts.world.alloc;
     let broken = !have_equality(alloc, facts.classes(), left, right)?;
     let ty = copied(alloc, left)?;
-    Ok(tested(ty, broken, 53))
+    Ok(tested(ty, broken, INCOMPARABLE))
 }
 
 /// `E = F`, `E <> F`, `E < F`, `E <= F`, `E > F`, `E >= F`.
@@ -222,11 +224,11 @@ pub fn comparison(facts: &Facts<'_>, comparison: Comparison, two: &Two) -> Resul
           ty = p.compared_type comparison (type_of (facts_of facts.now) (two_of two.now).0);
           code = cond (not (p.is_equality comparison) && not
               (p.are_ints (type_of (facts_of facts.now) (two_of two.now).0)
-              (type_of (facts_of facts.now) (two_of two.now).1))) (Some 50)
+              (type_of (facts_of facts.now) (two_of two.now).1))) (Some TYPES_DIFFER)
               (cond (p.is_equality comparison && not
               (p.have_equality (classes (facts_of facts.now))
               (type_of (facts_of facts.now) (two_of two.now).0)
-              (type_of (facts_of facts.now) (two_of two.now).1))) (Some 53) None);
+              (type_of (facts_of facts.now) (two_of two.now).1))) (Some INCOMPARABLE) None);
         }) }
 {
     let left = facts.type_of(two.left.get());
@@ -234,7 +236,7 @@ pub fn comparison(facts: &Facts<'_>, comparison: Comparison, two: &Two) -> Resul
     if is_equality(comparison) {
         equality(facts, left, right)
     } else {
-        Ok(tested(Ty::Int, !are_ints(left, right), 50))
+        Ok(tested(Ty::Int, !are_ints(left, right), TYPES_DIFFER))
     }
 }
 
@@ -245,10 +247,10 @@ pub fn minus(facts: &Facts<'_>, part: &Expr) -> Judged
           ty = t.int;
           code =
               cond (not (p.is_int (type_of (facts_of facts.now) (tree_of part.now))))
-              (Some 50) None;
+              (Some TYPES_DIFFER) None;
         } }
 {
-    tested(Ty::Int, !is_int(facts.type_of(part)), 50)
+    tested(Ty::Int, !is_int(facts.type_of(part)), TYPES_DIFFER)
 }
 
 fn assigned_type(

@@ -7,10 +7,12 @@ ghost use Rattle.verse_rules_types.specs.Types as t;
 ghost use Rattle.verse_check_typing.specs.Facts.{type_of};
 ghost use Rattle.verse_check_typing.specs.Parts as p;
 ghost use Rattle.verse_check_typing.specs.Views.{facts_of, judged_of};
+ghost use Rattle.verse_base.specs.declared.rules.TheConstants.{TYPES_DIFFER};
 
 use sqlite_items::Boxed;
 use std::alloc::Global;
 use verse_base::refusals::Memory;
+use verse_base::rules::TYPES_DIFFER;
 use verse_check_typing::facts::Facts;
 use verse_check_typing::judged::{Judged, tested};
 use verse_check_typing::parts::last_type;
@@ -50,10 +52,10 @@ pub fn query(facts: &Facts<'_>, part: &Expr) -> Result<Judged, Memory>
           ty = p.queried_type (type_of (facts_of facts.now) (tree_of part.now));
           code =
               cond (not (p.can_query (type_of (facts_of facts.now) (tree_of part.now))))
-              (Some 50) None;
+              (Some TYPES_DIFFER) None;
         }) }
 {
     let content = facts.type_of(part);
     let ty = queried_type(facts.world.alloc, content)?;
-    Ok(tested(ty, !can_query(content), 50))
+    Ok(tested(ty, !can_query(content), TYPES_DIFFER))
 }

@@ -8,9 +8,11 @@ ghost use Rattle.verse_check_typing.specs.Members as m;
 ghost use Rattle.verse_check_typing.specs.Parts as p;
 ghost use Rattle.verse_check_typing.specs.TypeRules as r;
 ghost use Rattle.verse_check_typing.specs.Views.{facts_of, judged_of};
+ghost use Rattle.verse_base.specs.declared.rules.TheConstants.{TYPES_DIFFER, UNSETTABLE};
 
 use crate::operators::assigned;
 use verse_base::refusals::Memory;
+use verse_base::rules::{TYPES_DIFFER, UNSETTABLE};
 use verse_check_typing::facts::{Facts, has_value};
 use verse_check_typing::judged::Judged;
 use verse_tree::exprs::{Assign, Expr, Form, Two};
@@ -82,8 +84,8 @@ pub fn assignment(facts: &Facts<'_>, assign: Assign, two: &Two) -> Result<Judged
               cond (not (r.is_item (facts_of facts.now) (two_of two.now).0) && not
               (p.can_assign (classes (facts_of facts.now)) assign
               (type_of (facts_of facts.now) (two_of two.now).0)
-              (type_of (facts_of facts.now) (two_of two.now).1))) (Some 50)
-              (cond (not (r.can_be_set (facts_of facts.now) (two_of two.now).0)) (Some 54) None);
+              (type_of (facts_of facts.now) (two_of two.now).1))) (Some TYPES_DIFFER)
+              (cond (not (r.can_be_set (facts_of facts.now) (two_of two.now).0)) (Some UNSETTABLE) None);
         }) }
 {
     let target = two.left.get();
@@ -96,13 +98,13 @@ pub fn assignment(facts: &Facts<'_>, assign: Assign, two: &Two) -> Result<Judged
 
 fn assignment_code(facts: &Facts<'_>, target: &Expr, can: bool) -> Option<u16>
     ensures { result ≡ cond (not (r.is_item (facts_of facts.now) (tree_of target.now)) && not can)
-        (Some 50) (cond (not (r.can_be_set (facts_of facts.now) (tree_of target.now)))
-        (Some 54) None) }
+        (Some TYPES_DIFFER) (cond (not (r.can_be_set (facts_of facts.now) (tree_of target.now)))
+        (Some UNSETTABLE) None) }
 {
     if !is_item(facts, target) && !can {
-        Some(50)
+        Some(TYPES_DIFFER)
     } else if !can_be_set(facts, target) {
-        Some(54)
+        Some(UNSETTABLE)
     } else {
         None
     }

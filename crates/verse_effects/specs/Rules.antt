@@ -1,5 +1,8 @@
 -- The rules of effects, each at a single node.
 use Rattle.std.specs.Prelude.{ℕ, Bool, false, not, ◌&&◌, ◌||◌, List, [], ◌∷◌, ◌++◌, Option, None}
+use Rattle.verse_base.specs.declared.rules.TheConstants.{UNCAUGHT, NOT_UNDONE, NOT_ASYNC, SUSPENDS_TRIED}
+use Rattle.verse_base.specs.declared.rules.TheConstants.{SPECIFIERS_MISFIT, COMPUTES_MORE, LEAVES}
+use Rattle.verse_base.specs.declared.rules.TheConstants.{WRONG_BRACKETS, BEGINS_AGAIN}
 use Rattle.verse_base.specs.declared.places.Place.{Place}
 use Rattle.verse_tree.specs.ItemTree.{MemberTree, ItemTree}
 use Rattle.verse_tree.specs.Tree.{Shape}
@@ -40,22 +43,22 @@ begins_again w s = goes_behind s && w.repeats
 -- E066 is `leaves`, E067 is `wrong_brackets`
 abbrev pub expression_rules : Names → List Bool → Around → ℕ → Shape → List (ℕ × Bool)
 expression_rules k vars w n s =
-    (60, fails_uncaught k w s)
-    ∷ (61, lasts_wrongly k w s)
-    ∷ (62, suspends_wrongly k w s)
-    ∷ (63, suspends_tried k w s)
-    ∷ (65, computes_more k vars w n s)
-    ∷ (66, leaves w s)
-    ∷ (67, wrong_brackets k s)
-    ∷ (68, begins_again w s)
+    (UNCAUGHT, fails_uncaught k w s)
+    ∷ (NOT_UNDONE, lasts_wrongly k w s)
+    ∷ (NOT_ASYNC, suspends_wrongly k w s)
+    ∷ (SUSPENDS_TRIED, suspends_tried k w s)
+    ∷ (COMPUTES_MORE, computes_more k vars w n s)
+    ∷ (LEAVES, leaves w s)
+    ∷ (WRONG_BRACKETS, wrong_brackets k s)
+    ∷ (BEGINS_AGAIN, begins_again w s)
     ∷ []
 
 -- E064: specifiers do not fit
 abbrev pub item_rules : ItemTree → List (ℕ × Bool)
-item_rules i = (64, not (item_fits i)) ∷ []
+item_rules i = (SPECIFIERS_MISFIT, not (item_fits i)) ∷ []
 
 abbrev pub member_rules : MemberTree → List (ℕ × Bool)
-member_rules m = (64, not (member_fits m)) ∷ []
+member_rules m = (SPECIFIERS_MISFIT, not (member_fits m)) ∷ []
 
 -- the rules at a node, by what it is
 abbrev pub rules_of : Names → List Bool → Around → ℕ → What → List (ℕ × Bool)

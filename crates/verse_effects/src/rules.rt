@@ -11,6 +11,10 @@ use crate::forms::{
     can_fail, cannot_undo, does_leave, does_touch, goes_behind, has_wrong_brackets, is_async,
 };
 use crate::specifiers::{does_item_fit, does_member_fit};
+use verse_base::rules::{
+    BEGINS_AGAIN, COMPUTES_MORE, LEAVES, NOT_ASYNC, NOT_UNDONE, SPECIFIERS_MISFIT, SUSPENDS_TRIED,
+    UNCAUGHT, WRONG_BRACKETS,
+};
 use verse_rules_walk::arounds::Around;
 use verse_tree::exprs::Form;
 use verse_tree::items::{Item, Member};
@@ -66,21 +70,21 @@ pub fn expression_code(
         (r.expression_rules names.now vars.now (around_of around.entry) node (shape_of form.now)) }
 {
     if fails_uncaught(names, around, form) {
-        Some(60)
+        Some(UNCAUGHT)
     } else if lasts_wrongly(names, around, form) {
-        Some(61)
+        Some(NOT_UNDONE)
     } else if suspends_wrongly(names, around, form) {
-        Some(62)
+        Some(NOT_ASYNC)
     } else if suspends_tried(names, around, form) {
-        Some(63)
+        Some(SUSPENDS_TRIED)
     } else if computes_more(names, vars, around, node, form) {
-        Some(65)
+        Some(COMPUTES_MORE)
     } else if does_leave(around, form) {
-        Some(66)
+        Some(LEAVES)
     } else if has_wrong_brackets(names, form) {
-        Some(67)
+        Some(WRONG_BRACKETS)
     } else if begins_again(around, form) {
-        Some(68)
+        Some(BEGINS_AGAIN)
     } else {
         None
     }
@@ -90,7 +94,11 @@ pub fn expression_code(
 pub fn item_code(item: &Item) -> Option<u16>
     ensures { result ≡ first_true (r.item_rules (item_of item.now)) }
 {
-    if does_item_fit(item) { None } else { Some(64) }
+    if does_item_fit(item) {
+        None
+    } else {
+        Some(SPECIFIERS_MISFIT)
+    }
 }
 
 /// The code of the rule that a member breaks.
@@ -100,6 +108,6 @@ pub fn member_code(member: &Member) -> Option<u16>
     if does_member_fit(member) {
         None
     } else {
-        Some(64)
+        Some(SPECIFIERS_MISFIT)
     }
 }

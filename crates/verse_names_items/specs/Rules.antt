@@ -2,6 +2,8 @@
 use Rattle.std.specs.Prelude.{ℕ, Bool, true, false, cond, ◌&&◌, ◌||◌, not, List, [], ◌∷◌, Option, Some, None, is_some, is_none, slice_get}
 use Rattle.std.specs.Prelude.{codes}
 use Rattle.std.specs.Str.{bytes_eq}
+use Rattle.verse_base.specs.declared.rules.TheConstants.{NAME_DEFINED, NAME_UNKNOWN, CIRCULAR}
+use Rattle.verse_base.specs.declared.rules.TheConstants.{NO_MAIN, MISSHAPEN_MAIN, OVERRIDE_MISFITS}
 use Rattle.verse_tree.specs.Tree.{Bytes}
 use Rattle.verse_tree.specs.ItemTree.{FieldTree, FunTree, EnumTree, ClassTree, ItemTree}
 use Rattle.verse_tree.specs.ItemTree as i
@@ -162,10 +164,10 @@ misfits k s = false
 -- the rules at a node, the least code first
 abbrev pub rules_at : Known → Subject → List (ℕ × Bool)
 rules_at k s =
-    (40, is_defined k s)
-    ∷ (41, is_unknown k s)
-    ∷ (42, is_circular k s)
-    ∷ (43, lacks_main s)
-    ∷ (44, misshapes_main k s)
-    ∷ (45, misfits k s)
+    (NAME_DEFINED, is_defined k s)
+    ∷ (NAME_UNKNOWN, is_unknown k s)
+    ∷ (CIRCULAR, is_circular k s)
+    ∷ (NO_MAIN, lacks_main s)
+    ∷ (MISSHAPEN_MAIN, misshapes_main k s)
+    ∷ (OVERRIDE_MISFITS, misfits k s)
     ∷ []

@@ -15,6 +15,9 @@ ghost use Rattle.verse_names_items.specs.Rules as rules;
 use sqlite_items::Items;
 use std::alloc::Global;
 use verse_base::refusals::Memory;
+use verse_base::rules::{
+    CIRCULAR, MISSHAPEN_MAIN, NAME_DEFINED, NAME_UNKNOWN, NO_MAIN, OVERRIDE_MISFITS,
+};
 use verse_names_declarations::dictionaries::Calls;
 use verse_names_declarations::known::Known;
 use verse_names_declarations::members::Home;
@@ -24,19 +27,6 @@ use verse_rules_types::fitting::{does_fit, is_same};
 use verse_tree::items::{ClassItem, EnumItem, Field, Fun, Item, Spec};
 use verse_tree::names::Name;
 use verse_tree::tables::{Effects, FunInfo, Ref, Ty};
-
-/// A name that is visible already is defined.
-const DEFINED: u16 = 40;
-/// A name that is not visible.
-const UNKNOWN: u16 = 41;
-/// A class that inherits from itself.
-const CIRCULAR: u16 = 42;
-/// No Main.
-const NO_MAIN: u16 = 43;
-/// A Main that cannot start a program.
-const MISSHAPEN_MAIN: u16 = 44;
-/// An override that does not fit.
-const MISFIT: u16 = 45;
 
 fn is_taken(known: &Known, name: &[u8]) -> bool
     ensures { result ≡ rules.is_taken (known_of known.now) name.now }
@@ -64,7 +54,7 @@ pub fn type_name_code(known: &Known, name: &[u8]) -> Option<u16>
     if known.index.types.has(name) {
         None
     } else {
-        Some(UNKNOWN)
+        Some(NAME_UNKNOWN)
     }
 }
 
@@ -84,10 +74,10 @@ pub fn field_code(known: &Known, home: &Home, field: &Field) -> Option<u16>
         (rules.Subject.field (home_of home.now) (field_of field.now))) }
 {
     if is_field_defined(known, home, field.name.as_slice()) {
-        return Some(DEFINED);
+        return Some(NAME_DEFINED);
     }
     if is_marked(field.specs.as_slice()) || is_marked(field.var_specs.as_slice()) {
-        return Some(MISFIT);
+        return Some(OVERRIDE_MISFITS);
     }
     None
 }
@@ -173,14 +163,14 @@ pub fn method_code(known: &Known, home: &Home, number: u32, fun: &Fun) -> Option
 {
     let name = fun.name.as_slice();
     if is_method_defined(known, home, name) {
-        return Some(DEFINED);
+        return Some(NAME_DEFINED);
     }
     if is_marked(fun.effects.as_slice()) {
-        return Some(MISFIT);
+        return Some(OVERRIDE_MISFITS);
     }
     let marked = is_marked(fun.specs.as_slice());
     if misses_override(known, marked, number, home.above.methods.find(name)) {
-        return Some(MISFIT);
+        return Some(OVERRIDE_MISFITS);
     }
     None
 }
@@ -206,10 +196,10 @@ pub fn enum_code(alloc: Global, known: &Known, item: &EnumItem) -> Result<Option
 {
     let again = any_again(alloc, item.values.as_slice())?;
     if is_doubled(known, item.name.as_slice()) || again {
-        return Ok(Some(DEFINED));
+        return Ok(Some(NAME_DEFINED));
     }
     if is_marked(item.specs.as_slice()) {
-        return Ok(Some(MISFIT));
+        return Ok(Some(OVERRIDE_MISFITS));
     }
     Ok(None)
 }
@@ -239,16 +229,16 @@ pub fn class_code(known: &Known, number: u32, class: &ClassItem) -> Option<u16>
         (rules.rules_at (known_of known.now) (rules.Subject.class number (class_of class.now))) }
 {
     if is_doubled(known, class.name.as_slice()) {
-        return Some(DEFINED);
+        return Some(NAME_DEFINED);
     }
     if lacks_parent(known, &class.parent) {
-        return Some(UNKNOWN);
+        return Some(NAME_UNKNOWN);
     }
     if is_circular(known, number) {
         return Some(CIRCULAR);
     }
     if is_marked(class.specs.as_slice()) || is_marked(class.class_specs.as_slice()) {
-        return Some(MISFIT);
+        return Some(OVERRIDE_MISFITS);
     }
     None
 }
@@ -329,13 +319,13 @@ pub fn function_code(known: &Known, number: u32, fun: &Fun) -> Option<u16>
 {
     let name = fun.name.as_slice();
     if is_doubled(known, name) {
-        return Some(DEFINED);
+        return Some(NAME_DEFINED);
     }
     if is_main_name(name) && !can_start(&known.functions, number) {
         return Some(MISSHAPEN_MAIN);
     }
     if is_marked(fun.specs.as_slice()) || is_marked(fun.effects.as_slice()) {
-        return Some(MISFIT);
+        return Some(OVERRIDE_MISFITS);
     }
     None
 }

@@ -1,5 +1,6 @@
 -- What a node has to do with names, what it refers to, and the rules of names at it.
 use Rattle.std.specs.Prelude.{ℕ, Bool, false, ◌&&◌, ◌||◌, List, [], ◌∷◌, Option, Some, None, is_some, is_none}
+use Rattle.verse_base.specs.declared.rules.TheConstants.{NAME_DEFINED, NAME_UNKNOWN}
 use Rattle.verse_tree.specs.Tree.{Bytes, Shape, Givens, no_givens, more_givens}
 use Rattle.verse_tree.specs.Tree as t
 use Rattle.verse_tree.specs.declared.tables.Ref.{Ref}
@@ -75,4 +76,4 @@ is_unknown w s u = false
 
 -- the rules at a node, the least code first
 abbrev pub rules_at : World → Table → Subject → List (ℕ × Bool)
-rules_at w s u = (40, is_defined w s u) ∷ (41, is_unknown w s u) ∷ []
+rules_at w s u = (NAME_DEFINED, is_defined w s u) ∷ (NAME_UNKNOWN, is_unknown w s u) ∷ []

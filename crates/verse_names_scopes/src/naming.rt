@@ -18,16 +18,12 @@ use sqlite_items::Items;
 use std::alloc::Global;
 use verse_base::places::Place;
 use verse_base::refusals::Memory;
+use verse_base::rules::{NAME_DEFINED, NAME_UNKNOWN};
 use verse_names_declarations::dictionaries::{Calls, Dict};
 use verse_names_declarations::words::builtin;
 use verse_rules_least::faults::{Fault, fault_for, keep_first};
 use verse_tree::exprs::Given;
 use verse_tree::tables::Ref;
-
-/// A name is defined that is visible already.
-const DEFINED: u16 = 40;
-/// A name is not visible.
-const UNKNOWN: u16 = 41;
 
 /// What is visible throughout a body.
 #[derive(Clone, Copy)]
@@ -200,7 +196,7 @@ impl<'a> Naming<'a> {
     {
         let found = world.types.find(name);
         let broken = in_body && found.is_none();
-        self.note(node, place, found, code_where(broken, UNKNOWN))
+        self.note(node, place, found, code_where(broken, NAME_UNKNOWN))
     }
 
     /// `Self`.
@@ -210,7 +206,12 @@ impl<'a> Naming<'a> {
             (naming_of self.old)) }
     {
         let found = world.this();
-        self.note(node, place, found, code_where(found.is_none(), UNKNOWN))
+        self.note(
+            node,
+            place,
+            found,
+            code_where(found.is_none(), NAME_UNKNOWN),
+        )
     }
 
     /// A name that is used.
@@ -226,7 +227,12 @@ impl<'a> Naming<'a> {
             (used name.now) (naming_of self.old)) }
     {
         let found = self.find(world, name);
-        self.note(node, place, found, code_where(found.is_none(), UNKNOWN))
+        self.note(
+            node,
+            place,
+            found,
+            code_where(found.is_none(), NAME_UNKNOWN),
+        )
     }
 
     /// An instance of what is named.
@@ -245,9 +251,14 @@ impl<'a> Naming<'a> {
     {
         let found = self.find(world, name);
         if is_given_twice(self.alloc, parts)? {
-            return self.note(node, place, found, Some(DEFINED));
+            return self.note(node, place, found, Some(NAME_DEFINED));
         }
-        self.note(node, place, found, code_where(found.is_none(), UNKNOWN))
+        self.note(
+            node,
+            place,
+            found,
+            code_where(found.is_none(), NAME_UNKNOWN),
+        )
     }
 
     /// A definition of a name.
@@ -263,7 +274,7 @@ impl<'a> Naming<'a> {
             (defined name.now (ref.Local node)) (naming_of self.old)) }
     {
         let again = self.add(world, name, Ref::Local(node))?;
-        self.note(node, place, None, code_where(again, DEFINED))
+        self.note(node, place, None, code_where(again, NAME_DEFINED))
     }
 
     /// A definition of a key and a value.
@@ -281,6 +292,6 @@ impl<'a> Naming<'a> {
     {
         let again = self.add(world, key, Ref::Key(node))?;
         let second = self.add(world, value, Ref::Local(node))?;
-        self.note(node, place, None, code_where(again || second, DEFINED))
+        self.note(node, place, None, code_where(again || second, NAME_DEFINED))
     }
 }

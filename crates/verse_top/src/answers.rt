@@ -12,12 +12,10 @@ ghost use Rattle.verse_top.specs.Ends.{EachEndsSo};
 use std::alloc::Global;
 use verse_base::places::Place;
 use verse_base::refusals::{Memory, Refusal, Rule};
+use verse_base::rules::FILE_TOO_LARGE;
 use verse_top_texts::answers::Answer;
 use verse_top_texts::refusals::refusal_text;
 use verse_top_texts::verdicts::ok_text;
-
-/// E002: a file has more bytes than a file may have.
-const TOO_LARGE: Rule = Rule(2);
 
 /// Over files that tell what they hold a command has one answer.
 pub fn answered_once()
@@ -67,7 +65,7 @@ pub(crate) fn too_large(alloc: Global, names: &[String], file: u32) -> Result<An
         alloc,
         names,
         Refusal {
-            rule: TOO_LARGE,
+            rule: Rule(FILE_TOO_LARGE),
             place,
         },
     )
