@@ -1,5 +1,5 @@
-//! The rules that whole files, names, types, effects and whole programs break, each by its number. The
-//! rules of tokens and of lines stand where these are read.
+//! The rules that whole files, names, types, effects and whole programs break, each by its number.
+//! The rules of tokens and of lines stand where these are read.
 
 /// E002: a file has more bytes than a file may have.
 pub const FILE_TOO_LARGE: u16 = 2;

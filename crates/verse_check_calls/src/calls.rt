@@ -11,7 +11,8 @@ ghost use Rattle.verse_check_typing.specs.Facts.{type_of, or_never};
 ghost use Rattle.verse_check_typing.specs.Parts as p;
 ghost use Rattle.verse_check_typing.specs.TypeRules as r;
 ghost use Rattle.verse_check_typing.specs.Views.{facts_of, judged_of, callee_of};
-ghost use Rattle.verse_base.specs.declared.rules.TheConstants.{MEMBERLESS, MISCOUNTED, TYPES_DIFFER, UNCALLABLE};
+ghost use Rattle.verse_base.specs.declared.rules.TheConstants.{MEMBERLESS, MISCOUNTED};
+ghost use Rattle.verse_base.specs.declared.rules.TheConstants.{TYPES_DIFFER, UNCALLABLE};
 
 use crate::arguments::{are_as_many, are_as_many_indices, do_arguments_fit, do_indices_fit};
 use sqlite_items::Boxed;
@@ -259,7 +260,8 @@ pub fn index(facts: &Facts<'_>, applied: &Applied) -> Result<Judged, Memory>
               (callees.callee_of (facts_of facts.now) (applied_of applied.now).0)
               (trees (applied_of applied.now).1))) (Some TYPES_DIFFER)
               (cond (not (c.can_stand_indexed
-              (callees.callee_of (facts_of facts.now) (applied_of applied.now).0))) (Some UNCALLABLE)
+              (callees.callee_of (facts_of facts.now) (applied_of applied.now).0)))
+              (Some UNCALLABLE)
               (cond (not (c.are_wanted (c.index_wanted
               (callees.callee_of (facts_of facts.now) (applied_of applied.now).0))
               (p.count (trees (applied_of applied.now).1)))) (Some MISCOUNTED) None));
@@ -294,7 +296,8 @@ pub fn spawn(facts: &Facts<'_>, part: &Expr) -> Result<Judged, Memory>
         record {
           ty = t.task (type_of (facts_of facts.now) (tree_of part.now));
           code =
-              cond (not (r.can_be_spawned (facts_of facts.now) (tree_of part.now))) (Some UNCALLABLE) None;
+              cond (not (r.can_be_spawned (facts_of facts.now) (tree_of part.now)))
+              (Some UNCALLABLE) None;
         }) }
 {
     let alloc = facts.world.alloc;

@@ -9,7 +9,8 @@ ghost use Rattle.verse_check_typing.specs.Members as m;
 ghost use Rattle.verse_check_typing.specs.Rows as rows;
 ghost use Rattle.verse_check_typing.specs.TypeRules as r;
 ghost use Rattle.verse_check_typing.specs.Views.{facts_of, judged_of, numbers_of};
-ghost use Rattle.verse_base.specs.declared.rules.TheConstants.{LACKING, MEMBERLESS, TYPES_DIFFER, UNCALLABLE};
+ghost use Rattle.verse_base.specs.declared.rules.TheConstants.{LACKING, MEMBERLESS};
+ghost use Rattle.verse_base.specs.declared.rules.TheConstants.{TYPES_DIFFER, UNCALLABLE};
 
 use crate::members::field_by;
 use crate::names::class_type;
@@ -180,7 +181,8 @@ pub fn instance(facts: &Facts<'_>, node: u32, parts: &[Given]) -> Result<Judged,
               (Some TYPES_DIFFER)
               (cond (not (r.is_class (named_ref (facts_of facts.now) node))) (Some UNCALLABLE)
               (cond (not (r.on_class (named_ref (facts_of facts.now) node)
-              (λ d. m.has_all (facts_of facts.now) d (givens (map given_of parts.now))))) (Some LACKING)
+              (λ d. m.has_all (facts_of facts.now) d (givens (map given_of parts.now)))))
+              (Some LACKING)
               (cond (not (r.on_class (named_ref (facts_of facts.now) node)
               (λ d. m.are_fields (facts_of facts.now) d (givens (map given_of parts.now)))))
               (Some MEMBERLESS) None)));

@@ -216,7 +216,8 @@ pub fn member_form(
               cond (not (m.may_stand (r.is_called (used_of used.entry))
               (m.member_of (facts_of facts.now)
               (ref_at (facts_of facts.now).refs (number_of_tree (tree_of object.now)))
-              (type_of (facts_of facts.now) (tree_of object.now)) name.now))) (Some MEMBERLESS) None;
+              (type_of (facts_of facts.now) (tree_of object.now)) name.now)))
+              (Some MEMBERLESS) None;
         }) }
 {
     let found = member_of(facts, object, name)?;

@@ -2,7 +2,8 @@
 use Rattle.std.proofs.Common.{◌≡◌, ℕ, Bool, true, false, [], ◌∷◌, refl}
 use Rattle.verse_base.specs.declared.rules.TheConstants.{ALONE, INCOMPARABLE, LACKING, MEMBERLESS}
 use Rattle.verse_base.specs.declared.rules.TheConstants.{MISCOUNTED, TYPES_DIFFER, TYPE_TOO_DEEP}
-use Rattle.verse_base.specs.declared.rules.TheConstants.{UNCALLABLE, UNCOVERED, UNROUNDED, UNSETTABLE}
+use Rattle.verse_base.specs.declared.rules.TheConstants.{UNCALLABLE, UNCOVERED}
+use Rattle.verse_base.specs.declared.rules.TheConstants.{UNROUNDED, UNSETTABLE}
 use Rattle.verse_tree.specs.Tree.{Shape}
 use Rattle.verse_rules_least.specs.Least.{first_true}
 use Rattle.verse_rules_walk.specs.Around.{Around}
@@ -15,9 +16,9 @@ use Rattle.verse_check_nodes.specs.Codes.{least_code, code_with}
 
 in_order : (a b c d p e f g h i j q : Bool) →
     first_true ((TYPES_DIFFER, a) ∷ (UNCALLABLE, b) ∷ (MISCOUNTED, c) ∷ (INCOMPARABLE, d) ∷ (INCOMPARABLE, p) ∷ (UNSETTABLE, e)
-        ∷ (LACKING, f) ∷ (MEMBERLESS, g) ∷ (ALONE, h) ∷ (UNCOVERED, i) ∷ (UNROUNDED, j) ∷ (TYPE_TOO_DEEP, q) ∷ [])
+    ∷ (LACKING, f) ∷ (MEMBERLESS, g) ∷ (ALONE, h) ∷ (UNCOVERED, i) ∷ (UNROUNDED, j) ∷ (TYPE_TOO_DEEP, q) ∷ [])
     ≡ least_code (first_true ((TYPES_DIFFER, a) ∷ (UNCALLABLE, b) ∷ (MISCOUNTED, c) ∷ (INCOMPARABLE, d) ∷ (UNSETTABLE, e)
-        ∷ (LACKING, f) ∷ (MEMBERLESS, g) ∷ (ALONE, h) ∷ (UNCOVERED, i) ∷ (UNROUNDED, j) ∷ [])) p q
+    ∷ (LACKING, f) ∷ (MEMBERLESS, g) ∷ (ALONE, h) ∷ (UNCOVERED, i) ∷ (UNROUNDED, j) ∷ [])) p q
 in_order true b c d p e f g h i j q = refl
 in_order false true c d p e f g h i j q = refl
 in_order false false true d p e f g h i j q = refl

@@ -21,7 +21,8 @@ of_type t = cut t (type_code t)
 -- the least of a form's code, E053 and E070, where the last two are broken
 abbrev pub least_code : Option ℕ → Bool → Bool → Option ℕ
 least_code (Some c) keyless deep = Some (cond (nat_lt c UNSETTABLE) c (cond keyless INCOMPARABLE c))
-least_code None keyless deep = cond keyless (Some INCOMPARABLE) (cond deep (Some TYPE_TOO_DEEP) None)
+least_code None keyless deep =
+    cond keyless (Some INCOMPARABLE) (cond deep (Some TYPE_TOO_DEEP) None)
 
 -- the least code of a form and its type
 abbrev pub code_with : Option ℕ → Ty → Option ℕ

@@ -1,6 +1,7 @@
 -- What is found of an instance, before the rules of its type.
 use Rattle.std.specs.Prelude.{ℕ, not, cond, Some, None}
-use Rattle.verse_base.specs.declared.rules.TheConstants.{LACKING, MEMBERLESS, TYPES_DIFFER, UNCALLABLE}
+use Rattle.verse_base.specs.declared.rules.TheConstants.{LACKING, MEMBERLESS}
+use Rattle.verse_base.specs.declared.rules.TheConstants.{TYPES_DIFFER, UNCALLABLE}
 use Rattle.verse_tree.specs.Tree.{Givens}
 use Rattle.verse_check_typing.specs.Facts.{Facts, named_ref}
 use Rattle.verse_check_typing.specs.Judgement.{Judgement}

@@ -2,7 +2,8 @@
 use Rattle.std.specs.Prelude.{ℕ, Bool, true, false, not, cond, nat_lt, ◌&&◌, List, [], ◌∷◌, ◌++◌, map, Option, Some, None, slice_get}
 use Rattle.verse_base.specs.declared.rules.TheConstants.{ALONE, INCOMPARABLE, LACKING, MEMBERLESS}
 use Rattle.verse_base.specs.declared.rules.TheConstants.{MISCOUNTED, TYPES_DIFFER, TYPE_TOO_DEEP}
-use Rattle.verse_base.specs.declared.rules.TheConstants.{UNCALLABLE, UNCOVERED, UNROUNDED, UNSETTABLE}
+use Rattle.verse_base.specs.declared.rules.TheConstants.{UNCALLABLE, UNCOVERED}
+use Rattle.verse_base.specs.declared.rules.TheConstants.{UNROUNDED, UNSETTABLE}
 use Rattle.verse_base.specs.declared.places.Place.{Place}
 use Rattle.verse_tree.specs.Tree.{Written, Tree, Shape}
 use Rattle.verse_tree.specs.Tree as s
@@ -144,7 +145,9 @@ judge f v = served (serves_as f v.around.used v.what (own f v).ty) (own f v)
 
 -- all rules at a node
 abbrev pub rules_at : Facts → Node → List (ℕ × Bool)
-rules_at f v = (TYPES_DIFFER, not (serves_as f v.around.used v.what (own f v).ty)) ∷ own_rules f v.around v.number v.what
+rules_at f v =
+    (TYPES_DIFFER, not (serves_as f v.around.used v.what (own f v).ty))
+    ∷ own_rules f v.around v.number v.what
 
 abbrev pub shape_ref : Facts → ℕ → Shape → Option Ref
 shape_ref f n (s.Shape.member a x) = member_ref f (type_of f a) x

@@ -9,7 +9,8 @@ ghost use Rattle.verse_check_typing.specs.Facts.{classes, type_of, or_never};
 ghost use Rattle.verse_check_typing.specs.Parts as p;
 ghost use Rattle.verse_check_typing.specs.TypeRules as r;
 ghost use Rattle.verse_check_typing.specs.Views.{facts_of, judged_of};
-ghost use Rattle.verse_base.specs.declared.rules.TheConstants.{INCOMPARABLE, TYPES_DIFFER, UNROUNDED};
+ghost use Rattle.verse_base.specs.declared.rules.TheConstants.{INCOMPARABLE, TYPES_DIFFER};
+ghost use Rattle.verse_base.specs.declared.rules.TheConstants.{UNROUNDED};
 
 use std::alloc::Global;
 use verse_base::refusals::Memory;

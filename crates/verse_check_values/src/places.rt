@@ -85,7 +85,8 @@ pub fn assignment(facts: &Facts<'_>, assign: Assign, two: &Two) -> Result<Judged
               (p.can_assign (classes (facts_of facts.now)) assign
               (type_of (facts_of facts.now) (two_of two.now).0)
               (type_of (facts_of facts.now) (two_of two.now).1))) (Some TYPES_DIFFER)
-              (cond (not (r.can_be_set (facts_of facts.now) (two_of two.now).0)) (Some UNSETTABLE) None);
+              (cond (not (r.can_be_set (facts_of facts.now) (two_of two.now).0))
+              (Some UNSETTABLE) None);
         }) }
 {
     let target = two.left.get();

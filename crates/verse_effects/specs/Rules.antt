@@ -1,6 +1,7 @@
 -- The rules of effects, each at a single node.
 use Rattle.std.specs.Prelude.{ℕ, Bool, false, not, ◌&&◌, ◌||◌, List, [], ◌∷◌, ◌++◌, Option, None}
-use Rattle.verse_base.specs.declared.rules.TheConstants.{UNCAUGHT, NOT_UNDONE, NOT_ASYNC, SUSPENDS_TRIED}
+use Rattle.verse_base.specs.declared.rules.TheConstants.{UNCAUGHT, NOT_UNDONE}
+use Rattle.verse_base.specs.declared.rules.TheConstants.{NOT_ASYNC, SUSPENDS_TRIED}
 use Rattle.verse_base.specs.declared.rules.TheConstants.{SPECIFIERS_MISFIT, COMPUTES_MORE, LEAVES}
 use Rattle.verse_base.specs.declared.rules.TheConstants.{WRONG_BRACKETS, BEGINS_AGAIN}
 use Rattle.verse_base.specs.declared.places.Place.{Place}
