@@ -17,7 +17,7 @@ use Rattle.verse_accept_nodes.specs.Laws.{AcceptedShaped}
 use Rattle.verse_accept_classes.specs.Owners.{owned}
 use Rattle.verse_accept_fine.specs.Sorted.{sorted, up, program, lasts, signature_of, class_in}
 use Rattle.verse_accept_trees.specs.Laws.{Told}
-use Rattle.verse_accept_programs.specs.Laws.{ProgramsAreFine}
+use Rattle.verse_accept_sound.specs.Programs.{ProgramsAreFine}
 use Rattle.verse_accept_sound.proofs.Whole.{items_found}
 use Rattle.verse_accept_effects.specs.Laws.{Promised, gives, fails, waits, faults, ends_steps, AcceptedCallsArePromised}
 use Rattle.verse_accept_effects.specs.Laws.{AcceptedContextsEndAtOnce}

@@ -17,8 +17,8 @@ use Rattle.verse_meaning.specs.Runs.{deeper}
 use Rattle.verse_meaning.specs.Laws.{Calm, Leaves}
 use Rattle.verse_sorts.specs.Typing.{Typing, Are}
 use Rattle.verse_sound_rules.specs.Found.{Allowed}
-use Rattle.verse_sound_outcomes.specs.Names.{HasThis, Sees}
-use Rattle.verse_sound_outcomes.specs.Going.{Kept, turns}
+use Rattle.verse_sound_trees.specs.Names.{HasThis, Sees}
+use Rattle.verse_sound_trees.specs.Going.{Kept, turns}
 use Rattle.verse_sound_effects.specs.Contexts.{ContextsEnd}
 use Rattle.verse_accept_fine.specs.Sorted.{sorted, up, program, made_sort, lasts}
 use Rattle.verse_accept_trees.specs.Laws.{Told}

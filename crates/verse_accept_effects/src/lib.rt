@@ -6,7 +6,7 @@ ghost use Rattle.verse_accept_effects.specs.Laws.{AcceptedCallsArePromised};
 ghost use Rattle.verse_accept_effects.specs.Laws.{AcceptedContextsEndAtOnce};
 
 use verse_accept_nodes::accepted_trees_are_shaped;
-use verse_accept_programs::programs_are_fine;
+use verse_accept_sound::programs_are_fine;
 use verse_rules_walk::laws::nodes_in_order;
 use verse_sound_effects::{calls_are_promised, contexts_end_at_once};
 

@@ -1,2 +1,7 @@
+pub mod Shapes
+pub mod Bodies
+pub mod Inheriting
+pub mod Main
+pub mod Programs
 pub mod Told
 pub mod Whole

@@ -24,7 +24,7 @@ use Rattle.verse_accept_scopes.proofs.Whole.{walked_are_sites}
 use Rattle.verse_accept_fine.specs.Sorted.{sorted, program}
 use Rattle.verse_accept_trees.specs.Names.{ShapeNamed, WhatNamed, Named}
 use Rattle.verse_accept_trees.specs.Laws.{Told}
-use Rattle.verse_accept_programs.specs.Laws.{ProgramsAreFine}
+use Rattle.verse_accept_sound.specs.Programs.{ProgramsAreFine}
 use Rattle.verse_accept_sound.specs.Laws.{ItemsAreFine, ItemsGoRight, ItemsAreNeverStuck, AcceptedIsFine, AcceptedIsNeverStuck}
 use Rattle.verse_accept_sound.proofs.Told.{tables_tell}
 

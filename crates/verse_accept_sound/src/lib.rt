@@ -1,11 +1,15 @@
 //! A program that the front end accepts is never stuck: the checker has found sorts for all of it.
-//! Read `specs/Laws`; the definitions of soundness are those of `verse_sound_rules` and
-//! `verse_sound_runs`.
+//! Read `specs/Programs`, a program that breaks no rule is fine: its functions and methods, the
+//! defaults of its fields, its classes with their ancestors, and Main; and `specs/Laws`. The
+//! definitions of soundness are those of `verse_sound_rules` and `verse_sound_runs`.
 //!
-//! In `proofs/`: `Told`, what the tables tell of the types of nodes; `Whole`, the laws. `Whole` is
-//! public.
+//! In `proofs/`: `Shapes`, the shapes of bodies and defaults; `Bodies`, functions and defaults;
+//! `Inheriting`, what classes have of their ancestors; `Main`, what a run starts with; `Programs`,
+//! the law of a program; `Told`, what the tables tell of the types of nodes; `Whole`, the laws of
+//! accepted files. `Whole` is public.
 #![tactic(auto)]
 
+ghost use Rattle.verse_accept_sound.specs.Programs.{ProgramsAreFine};
 ghost use Rattle.verse_accept_sound.specs.Laws.{
   AcceptedIsFine,
   AcceptedIsNeverStuck,
@@ -15,9 +19,17 @@ ghost use Rattle.verse_accept_sound.specs.Laws.{
 };
 
 use verse_accept_nodes::accepted_trees_are_shaped;
-use verse_accept_programs::programs_are_fine;
+use verse_accept_trees::trees_are_fine;
 use verse_rules_walk::laws::nodes_in_order;
 use verse_sound_runs::{never_stuck, turns_go_right};
+
+/// For a program that breaks no rule, the sorts of the types that the checker has found are all
+/// that is asked of them.
+pub fn programs_are_fine()
+    ensures { ProgramsAreFine }
+{
+    trees_are_fine();
+}
 
 /// Accepted items are fine, with whatever tables tell rightly which nodes are arrays and events.
 pub fn accepted_items_are_fine()

@@ -48,8 +48,8 @@ use Rattle.verse_accept_fine.proofs.Rules.{not_not, and_left, and_right}
 use Rattle.verse_accept_fine.proofs.Base.{types, same_known}
 use Rattle.verse_accept_forms.specs.Plain.{Plain}
 use Rattle.verse_accept_forms.specs.Callees.{Callees, HasValue, HasObject, Rounds, Starts}
-use Rattle.verse_accept_targets.specs.Targets.{Targets}
-use Rattle.verse_accept_targets.specs.Targets as targets
+use Rattle.verse_accept_trees.specs.Targets.{Targets}
+use Rattle.verse_accept_trees.specs.Targets as targets
 use Rattle.verse_accept_trees.specs.Names.{Named}
 use Rattle.verse_accept_trees.specs.Needs.{Needs}
 use Rattle.verse_accept_trees.proofs.Nodes.{no, apart_from, IsForm, TakesForms, form_stands, stand_in, may_defer, no_generator}

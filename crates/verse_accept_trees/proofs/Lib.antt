@@ -1,3 +1,8 @@
+pub mod Paths
+pub mod Settable
+pub mod Aims
+pub mod Writes
+pub mod Targets
 pub mod Nodes
 pub mod Rounding
 pub mod Knot

@@ -40,7 +40,7 @@ use Rattle.verse_accept_fine.proofs.Rules.{or_left, or_right}
 use Rattle.verse_accept_fine.proofs.Names.{none_is, added}
 use Rattle.verse_accept_forms.specs.Plain.{Plain, PlainNeeds}
 use Rattle.verse_accept_forms.specs.Callees.{Callees, CalleesNeed, HasValue}
-use Rattle.verse_accept_targets.specs.Targets.{Targets, TargetsNeed}
+use Rattle.verse_accept_trees.specs.Targets.{Targets, TargetsNeed}
 use Rattle.verse_accept_trees.specs.Names.{Named}
 
 pub no : {A : Type 0} → false ≡ true → A

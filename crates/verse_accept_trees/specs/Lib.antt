@@ -1,3 +1,4 @@
+pub mod Targets
 pub mod Names
 pub mod Needs
 pub mod Laws

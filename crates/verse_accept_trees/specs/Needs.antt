@@ -2,7 +2,7 @@
 use Rattle.verse_accept_fine.specs.Needs.{InnerAllowed, ValuesNeed, ControlNeeds, NamingNeeds}
 use Rattle.verse_accept_forms.specs.Plain.{PlainNeeds}
 use Rattle.verse_accept_forms.specs.Callees.{CalleesNeed}
-use Rattle.verse_accept_targets.specs.Targets.{TargetsNeed}
+use Rattle.verse_accept_trees.specs.Targets.{TargetsNeed}
 
 pub record Needs : Type 0 where
   pub inner : InnerAllowed

@@ -27,8 +27,8 @@ use Rattle.verse_accept_fine.specs.Needs.{InnerAllowed}
 use Rattle.verse_accept_fine.specs.Sorted.{up, sorted, program, class_in, signature_of, Allows, written_sort}
 use Rattle.verse_accept_fine.proofs.Calls as calls
 use Rattle.verse_accept_trees.specs.Laws.{Told}
-use Rattle.verse_accept_programs.specs.Laws.{ProgramsAreFine}
-use Rattle.verse_accept_programs.proofs.Bodies.{same_effects}
+use Rattle.verse_accept_sound.specs.Programs.{ProgramsAreFine}
+use Rattle.verse_accept_sound.proofs.Bodies.{same_effects}
 use Rattle.verse_accept_sound.proofs.Whole as accepted
 use Rattle.verse_accept_waits.specs.Suspending.{suspends_in, suspending}
 use Rattle.verse_accept_waits.specs.Laws.{AcceptedCallsNeverRest}

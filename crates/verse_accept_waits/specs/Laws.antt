@@ -10,8 +10,8 @@ use Rattle.verse_meaning.specs.Residuals.{Env}
 use Rattle.verse_meaning.specs.Outcomes.{World}
 use Rattle.verse_meaning.specs.Runs.{deeper}
 use Rattle.verse_sorts.specs.Typing.{Typing, Are}
-use Rattle.verse_sound_outcomes.specs.Names.{HasThis}
-use Rattle.verse_sound_outcomes.specs.Going.{Kept, turns}
+use Rattle.verse_sound_trees.specs.Names.{HasThis}
+use Rattle.verse_sound_trees.specs.Going.{Kept, turns}
 use Rattle.verse_sound_waits.specs.Waits.{Stays}
 use Rattle.verse_accept_fine.specs.Sorted.{sorted, up, program, made_sort, lasts}
 use Rattle.verse_accept_trees.specs.Laws.{Told}

@@ -9,7 +9,7 @@ ghost use Rattle.verse_accept_waits.specs.Laws.{AcceptedCallsNeverRest};
 
 use verse_accept_fine::inner_allowed;
 use verse_accept_nodes::accepted_trees_are_shaped;
-use verse_accept_programs::programs_are_fine;
+use verse_accept_sound::programs_are_fine;
 use verse_rules_walk::laws::nodes_in_order;
 use verse_sound_waits::calls_never_rest;
 

@@ -8,7 +8,7 @@ ghost use Rattle.verse_lower_defers.specs.Laws.{AcceptedDefersShow};
 
 use lower_code_defers::fine_defers_show;
 use verse_accept_nodes::accepted_trees_are_shaped;
-use verse_accept_programs::programs_are_fine;
+use verse_accept_sound::programs_are_fine;
 use verse_rules_walk::laws::nodes_in_order;
 
 /// In the code of accepted files each `defer` has its Defer and its DeferEnd, and a Leave stands

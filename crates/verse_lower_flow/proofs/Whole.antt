@@ -14,7 +14,7 @@ use Rattle.verse_accept_nodes.specs.Laws.{AcceptedShaped, AcceptedStand}
 use Rattle.verse_accept_classes.specs.Laws.{Quiet}
 use Rattle.verse_accept_classes.proofs.Tables.{functions_found}
 use Rattle.verse_accept_fine.specs.Sorted.{sorted}
-use Rattle.verse_accept_programs.specs.Laws.{ProgramsAreFine}
+use Rattle.verse_accept_sound.specs.Programs.{ProgramsAreFine}
 use Rattle.verse_accept_sound.proofs.Told.{tables_tell}
 use Rattle.verse_accept_sound.proofs.Whole as sound
 use Rattle.verse_lower_sound.proofs.Tables.{items_found}

@@ -8,7 +8,7 @@ ghost use Rattle.verse_lower_flow.specs.Laws.{AcceptedFlowGoes};
 
 use lower_flow::fine_flow_goes;
 use verse_accept_nodes::{accepted_nodes_stand, accepted_trees_are_shaped};
-use verse_accept_programs::programs_are_fine;
+use verse_accept_sound::programs_are_fine;
 use verse_rules_walk::laws::nodes_in_order;
 
 /// In the code of accepted files no place that the flow reaches has an operation that is stuck by

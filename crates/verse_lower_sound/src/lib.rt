@@ -8,7 +8,7 @@ ghost use Rattle.verse_lower_sound.specs.Laws.{AcceptedArmsStand};
 
 use lower_sound::fine_arms_stand;
 use verse_accept_nodes::{accepted_nodes_stand, accepted_trees_are_shaped};
-use verse_accept_programs::programs_are_fine;
+use verse_accept_sound::programs_are_fine;
 use verse_rules_walk::laws::nodes_in_order;
 
 /// In the code of accepted files each arm stands behind its group, so no operation of it is stuck

@@ -8,9 +8,9 @@ use Rattle.verse_meaning.specs.Outcomes.{World, Outcome}
 use Rattle.verse_meaning.specs.Runs.{deeper}
 use Rattle.verse_meaning.specs.Laws.{Keeps, FailedContextLeaves, ContextsUndo, CancellingLeaves}
 use Rattle.verse_sound_rules.specs.Found.{Found, Allowed, Signature}
-use Rattle.verse_sound_outcomes.specs.Outcomes as well
-use Rattle.verse_sound_outcomes.specs.Outcomes.{any_names}
-use Rattle.verse_sound_outcomes.specs.Going.{turns, Comes}
+use Rattle.verse_sound_trees.specs.Outcomes as well
+use Rattle.verse_sound_trees.specs.Outcomes.{any_names}
+use Rattle.verse_sound_trees.specs.Going.{turns, Comes}
 use Rattle.verse_sound_runs.proofs.Calls.{no_true, turns_deep}
 use Rattle.verse_sound_effects.specs.Opening.{SameOrStuck, same, is_stuck, ContextsChangeNothing}
 use Rattle.verse_sound_effects.specs.Calls.{Promised, gives, fails, waits, faults, ends_steps, CallsArePromised}

@@ -16,10 +16,10 @@ use Rattle.verse_meaning.specs.Runs.{deeper}
 use Rattle.verse_meaning.specs.Laws.{Keeps, FailedContextLeaves, ContextsUndo, CancellingLeaves}
 use Rattle.verse_sound_rules.specs.Found.{Found, Allowed}
 use Rattle.verse_sound_rules.specs.Fine.{FineShape, seen_behind}
-use Rattle.verse_sound_outcomes.specs.Names.{Sees}
-use Rattle.verse_sound_outcomes.specs.Outcomes as well
-use Rattle.verse_sound_outcomes.specs.Outcomes.{any_names}
-use Rattle.verse_sound_outcomes.specs.Going.{Level, turns, Comes}
+use Rattle.verse_sound_trees.specs.Names.{Sees}
+use Rattle.verse_sound_trees.specs.Outcomes as well
+use Rattle.verse_sound_trees.specs.Outcomes.{any_names}
+use Rattle.verse_sound_trees.specs.Going.{Level, turns, Comes}
 use Rattle.verse_sound_trees.proofs.Trees.{ev_well}
 use Rattle.verse_sound_runs.proofs.Calls.{known_at, at_top}
 use Rattle.verse_sound_effects.specs.Contexts.{EndsAtOnce, holds, fails, faults, ends_steps, ContextsEndAtOnce}

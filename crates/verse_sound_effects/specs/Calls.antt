@@ -13,8 +13,8 @@ use Rattle.verse_meaning.specs.Runs.{deeper}
 use Rattle.verse_meaning.specs.Laws.{Calm, Leaves}
 use Rattle.verse_sound_rules.specs.Found.{Signature}
 use Rattle.verse_sound_rules.specs.Programs.{FineProgram}
-use Rattle.verse_sound_outcomes.specs.Names.{HasThis}
-use Rattle.verse_sound_outcomes.specs.Going.{Kept, turns}
+use Rattle.verse_sound_trees.specs.Names.{HasThis}
+use Rattle.verse_sound_trees.specs.Going.{Kept, turns}
 
 -- It fails only if the function decides. If the function does nothing lasting, the call ends at once, and tasks,
 -- waits, signals and the background are as they were.

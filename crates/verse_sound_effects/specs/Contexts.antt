@@ -18,8 +18,8 @@ use Rattle.verse_meaning.specs.Laws.{Calm, Leaves}
 use Rattle.verse_sound_rules.specs.Found.{Found, Allowed}
 use Rattle.verse_sound_rules.specs.Fine.{FineShape, seen_behind}
 use Rattle.verse_sound_rules.specs.Programs.{FineProgram}
-use Rattle.verse_sound_outcomes.specs.Names.{Sees}
-use Rattle.verse_sound_outcomes.specs.Going.{Kept, turns}
+use Rattle.verse_sound_trees.specs.Names.{Sees}
+use Rattle.verse_sound_trees.specs.Going.{Kept, turns}
 
 -- They hold or fail at once, or the run ends by an error or for want of steps. Where they hold or fail, tasks, waits,
 -- signals and the background are as they were, and only steps are gone from the clock.

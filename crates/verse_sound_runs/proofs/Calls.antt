@@ -25,20 +25,20 @@ use Rattle.verse_meaning.specs.Laws.{Keeps, ContextLeaves, ContextUndoes, Cancel
 use Rattle.verse_sound_rules.specs.Found.{Signature, Found, Allowed, in_function, in_default}
 use Rattle.verse_sound_rules.specs.Fine.{sort_at}
 use Rattle.verse_sound_rules.specs.Programs.{FineFound, FineFunction, FineDefault, FineParams, params_behind}
-use Rattle.verse_sound_outcomes.specs.Names.{HasThis, no_this, this_is, Sees}
-use Rattle.verse_sound_outcomes.specs.Outcomes.{Later, any_names, Cells, gives, fails, returns, breaks, faults, ends_steps, waits}
-use Rattle.verse_sound_outcomes.specs.Outcomes.{task_ends, task_lost, task_faults, task_ends_steps, task_sleeps}
-use Rattle.verse_sound_outcomes.specs.Waiting.{GivenOf}
-use Rattle.verse_sound_outcomes.specs.Going.{AllTasks, Dropped, KeptIn, LeftScope, Level, bare, turns, Kept, Comes, ComesTask}
-use Rattle.verse_sound_outcomes.specs.Going.{Within}
-use Rattle.verse_sound_outcomes.proofs.Names.{binds_value}
-use Rattle.verse_sound_outcomes.proofs.Waiting.{given_more, signals_more}
-use Rattle.verse_sound_outcomes.proofs.Worlds.{behind_more, tasks_more}
-use Rattle.verse_sound_outcomes.proofs.Going.{Ends, spends_typed, typed_from}
-use Rattle.verse_sound_forms.specs.Deep.{DeepTyped, Known}
-use Rattle.verse_sound_forms.proofs.Suspending.{grows_later}
-use Rattle.verse_sound_tasks.specs.Bounds.{Bounds}
-use Rattle.verse_sound_tasks.proofs.Scopes.{scope_typed, call_typed, call_bare}
+use Rattle.verse_sound_trees.specs.Names.{HasThis, no_this, this_is, Sees}
+use Rattle.verse_sound_trees.specs.Outcomes.{Later, any_names, Cells, gives, fails, returns, breaks, faults, ends_steps, waits}
+use Rattle.verse_sound_trees.specs.Outcomes.{task_ends, task_lost, task_faults, task_ends_steps, task_sleeps}
+use Rattle.verse_sound_trees.specs.Waiting.{GivenOf}
+use Rattle.verse_sound_trees.specs.Going.{AllTasks, Dropped, KeptIn, LeftScope, Level, bare, turns, Kept, Comes, ComesTask}
+use Rattle.verse_sound_trees.specs.Going.{Within}
+use Rattle.verse_sound_trees.proofs.Names.{binds_value}
+use Rattle.verse_sound_trees.proofs.Waiting.{given_more, signals_more}
+use Rattle.verse_sound_trees.proofs.Worlds.{behind_more, tasks_more}
+use Rattle.verse_sound_trees.proofs.Going.{Ends, spends_typed, typed_from}
+use Rattle.verse_sound_trees.specs.Deep.{DeepTyped, Known}
+use Rattle.verse_sound_trees.proofs.Suspending.{grows_later}
+use Rattle.verse_sound_trees.specs.Bounds.{Bounds}
+use Rattle.verse_sound_trees.proofs.Scopes.{scope_typed, call_typed, call_bare}
 use Rattle.verse_sound_trees.proofs.Trees.{ev_well}
 
 pub no_true : {A : Type 0} → false ≡ true → A
@@ -310,7 +310,7 @@ module _ (p : Program) (f : Found) where
             (in_root (Some (length z.state.clock.results)) (f.signature g) (sort_at p f fn.body) d ff.result) entry kept.behind
             (ev_well p f (turns n) h known fn.body (in_function (f.signature g) true) (params_behind fn.params []) u e1 (ff.body true
             (λ q. refl))
-            (Rattle.verse_sound_outcomes.proofs.Names.sees_more f (task_grows t (f.signature g).result) see) (turns n) h (at_top n h) tt u
+            (Rattle.verse_sound_trees.proofs.Names.sees_more f (task_grows t (f.signature g).result) see) (turns n) h (at_top n h) tt u
             (set_behind (with_state z (with_entry z.state)) none) grows_itself
             (record { cells = kept.cells; clock = kept.clock; behind = tt; tasks = kept.tasks }))))
 

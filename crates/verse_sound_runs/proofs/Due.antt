@@ -7,7 +7,7 @@ use Rattle.verse_meaning_state.specs.Waits.{least}
 use Rattle.verse_sorts.specs.Sorts as s
 use Rattle.verse_sorts.specs.Sorts.{Sort}
 use Rattle.verse_sorts.specs.Typing.{at, Typing, Is}
-use Rattle.verse_sound_outcomes.specs.Waiting.{GivenOf, SignalsOf, Clocked, CauseOf, WaitsOf}
+use Rattle.verse_sound_trees.specs.Waiting.{GivenOf, SignalsOf, Clocked, CauseOf, WaitsOf}
 
 module _ (up : ℕ → Option ℕ) where
   some_event : (a b : Sort) → Some (s.event a) ≡ Some (s.event b) → a ≡ b

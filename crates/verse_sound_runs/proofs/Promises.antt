@@ -7,8 +7,8 @@ use Rattle.verse_meaning.specs.Programs.{Program}
 use Rattle.verse_meaning.specs.Outcomes.{Outcome}
 use Rattle.verse_meaning.specs.Laws.{FailedContextLeaves, ContextsUndo, CancellingLeaves}
 use Rattle.verse_sound_rules.specs.Found.{Found, Allowed, Signature}
-use Rattle.verse_sound_outcomes.specs.Outcomes.{any_names, gives, fails, returns, breaks, faults, ends_steps, waits}
-use Rattle.verse_sound_outcomes.specs.Going.{Level, turns, Comes}
+use Rattle.verse_sound_trees.specs.Outcomes.{any_names, gives, fails, returns, breaks, faults, ends_steps, waits}
+use Rattle.verse_sound_trees.specs.Going.{Level, turns, Comes}
 use Rattle.verse_sound_runs.specs.Promises.{KeepsPromises, CallsKeepPromises}
 use Rattle.verse_sound_runs.proofs.Calls.{no_true, turns_deep}
 

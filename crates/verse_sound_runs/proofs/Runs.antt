@@ -24,10 +24,10 @@ use Rattle.verse_meaning.specs.RunLaws.{StepsCount}
 use Rattle.verse_sound_rules.specs.Found.{Found}
 use Rattle.verse_sound_rules.specs.Fine.{sort_at}
 use Rattle.verse_sound_rules.specs.Programs.{FineFound, FineMain, FineParams, Inputs, no_inputs, has_inputs, params_behind}
-use Rattle.verse_sound_outcomes.specs.Names.{no_this}
-use Rattle.verse_sound_outcomes.specs.Going.{turns as for_turns, KeptIn, LeftScope}
-use Rattle.verse_sound_tasks.specs.Bounds.{Bounds}
-use Rattle.verse_sound_tasks.proofs.Scopes.{scope_typed}
+use Rattle.verse_sound_trees.specs.Names.{no_this}
+use Rattle.verse_sound_trees.specs.Going.{turns as for_turns, KeptIn, LeftScope}
+use Rattle.verse_sound_trees.specs.Bounds.{Bounds}
+use Rattle.verse_sound_trees.proofs.Scopes.{scope_typed}
 use Rattle.verse_sound_trees.proofs.Trees.{ev_well}
 use Rattle.verse_sound_runs.proofs.Calls.{no_true, params_typed, sees_this, known_at, at_top}
 use Rattle.verse_sound_runs.proofs.Turns.{Sound, goes_on, is_done, is_waiting, is_until, is_out, breaks_off, breaks_out}
@@ -62,7 +62,7 @@ module _ (p : Program) (f : Found) where
   module _ (leave : (g : ℕ) → ContextLeaves p g) (undo : (g : ℕ) → ContextUndoes p (deeper p g)) (cancel : (g : ℕ) →
       CancelLeaves p (deeper p g)) (fine : FineFound p f) where
     start_typed : (n g : ℕ) (st : State) (m : FineMain p f) (e : Env) → KeptIn p f (LeftScope p f n) nothing (world st none []) →
-        Rattle.verse_sound_outcomes.specs.Names.Sees f nothing None (params_behind m.function.params []) e →
+        Rattle.verse_sound_trees.specs.Names.Sees f nothing None (params_behind m.function.params []) e →
         Sound p f n (came [] (entered p (deeper p g) (root None) m.function e true (world st none [])))
     start_typed n g st m e k see =
         came_sound p f n nothing s.any [] tt
@@ -90,7 +90,7 @@ module _ (p : Program) (f : Found) where
         no_entry : {A B : Type 0} {x : A} → None ≡ Some x → B
         no_entry h = cc
 
-    spends_sound : (n steps : ℕ) (m : FineMain p f) (e : Env) → Rattle.verse_sound_outcomes.specs.Names.Sees f nothing None
+    spends_sound : (n steps : ℕ) (m : FineMain p f) (e : Env) → Rattle.verse_sound_trees.specs.Names.Sees f nothing None
         (params_behind m.function.params []) e →
         Sound p f n (main_spends steps (begun steps) (λ s. came [] (entered p (deeper p s.clock.left) (root None) m.function e true
         (world s none []))))

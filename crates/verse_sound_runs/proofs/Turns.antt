@@ -19,12 +19,12 @@ use Rattle.verse_meaning.specs.Evaluating.{on_bool}
 use Rattle.verse_meaning.specs.Resuming.{resume_scope}
 use Rattle.verse_meaning.specs.Runs.{deeper, Forest, forest_leaves, came, woken, turn_taken}
 use Rattle.verse_sound_rules.specs.Found.{Found}
-use Rattle.verse_sound_outcomes.specs.Outcomes.{task_ends, task_lost, task_faults, task_ends_steps, task_sleeps}
-use Rattle.verse_sound_outcomes.specs.Waiting.{Clocked, WaitsOf}
-use Rattle.verse_sound_outcomes.specs.Going.{AllTasks, Dropped, LeftScope, turns, ComesTask}
-use Rattle.verse_sound_outcomes.proofs.Waiting.{waits_of_both}
-use Rattle.verse_sound_outcomes.proofs.Worlds.{tasks_more, tasks_fewer}
-use Rattle.verse_sound_tasks.proofs.Cancelling.{scope_waits, has_behind}
+use Rattle.verse_sound_trees.specs.Outcomes.{task_ends, task_lost, task_faults, task_ends_steps, task_sleeps}
+use Rattle.verse_sound_trees.specs.Waiting.{Clocked, WaitsOf}
+use Rattle.verse_sound_trees.specs.Going.{AllTasks, Dropped, LeftScope, turns, ComesTask}
+use Rattle.verse_sound_trees.proofs.Waiting.{waits_of_both}
+use Rattle.verse_sound_trees.proofs.Worlds.{tasks_more, tasks_fewer}
+use Rattle.verse_sound_trees.proofs.Cancelling.{scope_waits, has_behind}
 use Rattle.verse_sound_runs.proofs.Calls.{join_tasks}
 use Rattle.verse_sound_runs.proofs.Due.{DueOf, least_due}
 

@@ -9,8 +9,8 @@ use Rattle.verse_meaning.specs.Outcomes.{World, Outcome, value, failed, returned
 use Rattle.verse_meaning.specs.Runs.{deeper}
 use Rattle.verse_sound_rules.specs.Found.{Signature}
 use Rattle.verse_sound_rules.specs.Programs.{FineProgram}
-use Rattle.verse_sound_outcomes.specs.Names.{HasThis}
-use Rattle.verse_sound_outcomes.specs.Going.{Kept, turns}
+use Rattle.verse_sound_trees.specs.Names.{HasThis}
+use Rattle.verse_sound_trees.specs.Going.{Kept, turns}
 
 -- it fails only if the function decides, and waits only if it may last; `return` and `break` leave no call
 abbrev pub KeepsPromises : Signature → Outcome → Type 0

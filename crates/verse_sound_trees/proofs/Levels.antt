@@ -16,9 +16,9 @@ use Rattle.verse_meaning.specs.Forms.{elements_from, entries_in, domain_values, 
 use Rattle.verse_sound_rules.specs.Found.{Found}
 use Rattle.verse_sound_rules.specs.Fine.{Domain, domain_list, domain_map, domain_never, Generates, takes_elements}
 use Rattle.verse_sound_rules.specs.Fine.{takes_entries, takes_range, generated_behind}
-use Rattle.verse_sound_outcomes.specs.Names.{Sees}
-use Rattle.verse_sound_outcomes.specs.Going.{Level}
-use Rattle.verse_sound_outcomes.proofs.Names.{binds_value, binds_both, sees_more}
+use Rattle.verse_sound_trees.specs.Names.{Sees}
+use Rattle.verse_sound_trees.specs.Going.{Level}
+use Rattle.verse_sound_trees.proofs.Names.{binds_value, binds_both, sees_more}
 use Rattle.verse_sound_trees.proofs.Loops.{AllTaken, AreTaken}
 
 module _ (p : Program) (f : Found) (top : Level) (fuel : ℕ) where

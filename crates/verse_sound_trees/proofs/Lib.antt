@@ -1,3 +1,16 @@
+pub mod Names
+pub mod Waiting
+pub mod Worlds
+pub mod Going
+pub mod Leaves
+pub mod Suspending
+pub mod Objects
+pub mod Storing
+pub mod Operands
+pub mod Applying
+pub mod Cancelling
+pub mod Scopes
+pub mod Groups
 pub mod Lists
 pub mod Loops
 pub mod Statements

@@ -9,7 +9,7 @@ use Rattle.verse_meaning.specs.Residuals.{Env, Form, args}
 use Rattle.verse_meaning.specs.Outcomes.{World, valued}
 use Rattle.verse_meaning.specs.Forms.{Deeper}
 use Rattle.verse_meaning.specs.Evaluating.{ev, all_args, holed, paired_args, given_args, targets, targets_shape, indices}
-use Rattle.verse_sound_forms.proofs.Operands.{list_args}
+use Rattle.verse_sound_trees.proofs.Operands.{list_args}
 
 -- the object and the indices of what `set` writes to
 abbrev mutual

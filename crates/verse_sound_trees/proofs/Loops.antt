@@ -20,15 +20,15 @@ use Rattle.verse_meaning.specs.Evaluating.{ev}
 use Rattle.verse_meaning.specs.Resuming.{taken}
 use Rattle.verse_meaning.specs.Runs.{on_next, deeper}
 use Rattle.verse_sound_rules.specs.Found.{Found, Allowed, looped, deferred}
-use Rattle.verse_sound_outcomes.specs.Outcomes.{any_names, gives, fails, returns, breaks, faults, ends_steps, waits}
-use Rattle.verse_sound_outcomes.specs.Outcomes.{WentWell, goes_well}
-use Rattle.verse_sound_outcomes.specs.Outcomes.{quits_fault, quits_steps}
-use Rattle.verse_sound_outcomes.specs.Going.{Left, Level, bare, turns, Kept, LeftAt, Ready, Comes, Within}
-use Rattle.verse_sound_outcomes.proofs.Worlds.{later_itself, later_grows, fewer, sooner, below}
-use Rattle.verse_sound_outcomes.proofs.Going.{Ends, valued_typed, turned_typed, closing_typed, spends_typed, Frames}
-use Rattle.verse_sound_outcomes.proofs.Going.{left_frame}
-use Rattle.verse_sound_forms.proofs.Operands.{Well}
-use Rattle.verse_sound_tasks.proofs.Cancelling.{went_then}
+use Rattle.verse_sound_trees.specs.Outcomes.{any_names, gives, fails, returns, breaks, faults, ends_steps, waits}
+use Rattle.verse_sound_trees.specs.Outcomes.{WentWell, goes_well}
+use Rattle.verse_sound_trees.specs.Outcomes.{quits_fault, quits_steps}
+use Rattle.verse_sound_trees.specs.Going.{Left, Level, bare, turns, Kept, LeftAt, Ready, Comes, Within}
+use Rattle.verse_sound_trees.proofs.Worlds.{later_itself, later_grows, fewer, sooner, below}
+use Rattle.verse_sound_trees.proofs.Going.{Ends, valued_typed, turned_typed, closing_typed, spends_typed, Frames}
+use Rattle.verse_sound_trees.proofs.Going.{left_frame}
+use Rattle.verse_sound_trees.proofs.Operands.{Well}
+use Rattle.verse_sound_trees.proofs.Cancelling.{went_then}
 
 module _ (p : Program) (f : Found) (top : Level) (fuel : ℕ) where
   pub well_is : (t : Typing) (a : Allowed) (b : Sort) (go on : ℕ → World → Outcome) → ((g : ℕ) (w : World) → on g w ≡ go g w) →
@@ -38,7 +38,7 @@ module _ (p : Program) (f : Found) (top : Level) (fuel : ℕ) where
 
   pub well_up : (t : Typing) (a : Allowed) (b d : Sort) (go : ℕ → World → Outcome) → Fits f.up b d → Well p f top fuel t a b go →
       Well p f top fuel t a d go
-  well_up t a b d go h i l g sp rd u w gr k = Rattle.verse_sound_outcomes.proofs.Going.up_to p f l h (i l g sp rd u w gr k)
+  well_up t a b d go h i l g sp rd u w gr k = Rattle.verse_sound_trees.proofs.Going.up_to p f l h (i l g sp rd u w gr k)
 
   -- loops
   module _ (a : Allowed) (c : Bool) (b d : Sort) (x : Tree) (e : Env) (leaves_so : c ≡ true → Fits f.up s.unit d) where

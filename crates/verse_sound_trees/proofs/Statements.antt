@@ -16,14 +16,14 @@ use Rattle.verse_meaning.specs.Evaluating.{Statement, plain, defines, defers, ge
 use Rattle.verse_meaning.specs.Runs.{deeper}
 use Rattle.verse_sound_rules.specs.Found.{Found, Allowed, tried, deferred}
 use Rattle.verse_sound_rules.specs.Fine.{Defines, Generates, defined_behind, stated_behind}
-use Rattle.verse_sound_outcomes.specs.Names.{Holds, holds_cell, Sees}
-use Rattle.verse_sound_outcomes.specs.Outcomes.{gives, fails, returns, breaks, faults, ends_steps, waits}
-use Rattle.verse_sound_outcomes.specs.Going.{Level, Kept, Ready, Comes, Within}
-use Rattle.verse_sound_outcomes.proofs.Names.{binds_value, binds_local, sees_more}
-use Rattle.verse_sound_outcomes.proofs.Worlds.{later_itself}
-use Rattle.verse_sound_outcomes.proofs.Going.{Ends, valued_typed, typed_from, Frames, then}
-use Rattle.verse_sound_forms.proofs.Storing.{told_then, variable_told}
-use Rattle.verse_sound_forms.proofs.Operands.{Well}
+use Rattle.verse_sound_trees.specs.Names.{Holds, holds_cell, Sees}
+use Rattle.verse_sound_trees.specs.Outcomes.{gives, fails, returns, breaks, faults, ends_steps, waits}
+use Rattle.verse_sound_trees.specs.Going.{Level, Kept, Ready, Comes, Within}
+use Rattle.verse_sound_trees.proofs.Names.{binds_value, binds_local, sees_more}
+use Rattle.verse_sound_trees.proofs.Worlds.{later_itself}
+use Rattle.verse_sound_trees.proofs.Going.{Ends, valued_typed, typed_from, Frames, then}
+use Rattle.verse_sound_trees.proofs.Storing.{told_then, variable_told}
+use Rattle.verse_sound_trees.proofs.Operands.{Well}
 use Rattle.verse_sound_trees.proofs.Loops.{defer_typed}
 
 module _ (p : Program) (f : Found) where
@@ -144,13 +144,13 @@ module _ (p : Program) (f : Found) where
         (claused p (deeper p g) x e w (λ w. whole g w) (λ w. inner g w) (λ e y w. clauses p (deeper p g) ts false e y w))
     unfolding claused
     claused_typed l g sp t a xs ys e n qi r ts whole inner plain h see next w k =
-        valued_typed p f l _ _ (h l g sp (Rattle.verse_sound_outcomes.proofs.Worlds.ready_false l) t w grows_itself k)
+        valued_typed p f l _ _ (h l g sp (Rattle.verse_sound_trees.proofs.Worlds.ready_false l) t w grows_itself k)
         (λ u y z gr k1 i. next u e y z gr.grows (sees_more f gr.grows see) i k1) (λ u r m gr lr. no_wait m)
     claused_typed l g sp t a xs ys e n qi r ts whole inner (defines b) h see next w k =
-        valued_typed p f l _ _ (h.0 l g sp (Rattle.verse_sound_outcomes.proofs.Worlds.ready_false l) t w grows_itself k)
+        valued_typed p f l _ _ (h.0 l g sp (Rattle.verse_sound_trees.proofs.Worlds.ready_false l) t w grows_itself k)
         (λ u y z gr k1 i. defined_typed l g n u (tried a) a.this xs b e y r z _ h.2 (sees_more f gr.grows see) (is_up f.up i h.1) k1
         (λ o e1 z1 g2 se j k2. next o e1 y z1 (grows_on gr.grows g2.grows) se j k2)) (λ u r m gr lr. no_wait m)
     claused_typed l g sp t a xs ys e n qi r ts whole inner (defers x) h see next w k = absurd h
     claused_typed l g sp t a xs ys e n qi r ts whole inner (generates gn) h see next w k =
-        valued_typed p f l _ _ (h.0 l g sp (Rattle.verse_sound_outcomes.proofs.Worlds.ready_false l) t w grows_itself k)
+        valued_typed p f l _ _ (h.0 l g sp (Rattle.verse_sound_trees.proofs.Worlds.ready_false l) t w grows_itself k)
         (λ u y z gr k1 i. gives (later_itself false u) k1 i (sees_more f gr.grows see)) (λ u r m gr lr. no_wait m)

@@ -45,21 +45,21 @@ use Rattle.verse_sound_rules.specs.Fine.{target_sorts, target_sorts_of}
 use Rattle.verse_sound_rules.specs.Fine.{on_callee, on_member, on_statement, seen_behind, seen_after, stated_behind, Generates, Defines}
 use Rattle.verse_sound_rules.specs.Fine.{IsEnumValue, is_enum_value}
 use Rattle.verse_sound_rules.specs.Fine.{ArmFits, arm_fits, no_subject}
-use Rattle.verse_sound_outcomes.specs.Names.{Holds, holds_value, holds_cell, Sees}
-use Rattle.verse_sound_outcomes.specs.Outcomes.{any_names, gives, fails, returns, breaks}
-use Rattle.verse_sound_outcomes.specs.Going.{Level, bare, turns, Kept, LeftAt, Ready, Comes, Within}
-use Rattle.verse_sound_outcomes.proofs.Names.{sees_more}
-use Rattle.verse_sound_outcomes.proofs.Worlds.{later_itself, ready_false, cells_of}
-use Rattle.verse_sound_outcomes.proofs.Going.{forget, attempted_typed, told_typed, still_told, gives_value, up_to}
-use Rattle.verse_sound_outcomes.proofs.Going.{valued_typed, Frames, then}
-use Rattle.verse_sound_forms.specs.Deep.{Known}
-use Rattle.verse_sound_forms.proofs.Suspending.{outside_typed, suspended_typed}
-use Rattle.verse_sound_forms.proofs.Objects.{field_there, slot_told}
-use Rattle.verse_sound_forms.proofs.Storing.{event_told}
-use Rattle.verse_sound_forms.proofs.Operands.{list_args, Well, AllWell}
-use Rattle.verse_sound_forms.proofs.Applying.{form_well, this_there, known_there}
-use Rattle.verse_sound_tasks.specs.Bounds.{EachFits}
-use Rattle.verse_sound_tasks.proofs.Groups.{branch_well, group_well, AllArms}
+use Rattle.verse_sound_trees.specs.Names.{Holds, holds_value, holds_cell, Sees}
+use Rattle.verse_sound_trees.specs.Outcomes.{any_names, gives, fails, returns, breaks}
+use Rattle.verse_sound_trees.specs.Going.{Level, bare, turns, Kept, LeftAt, Ready, Comes, Within}
+use Rattle.verse_sound_trees.proofs.Names.{sees_more}
+use Rattle.verse_sound_trees.proofs.Worlds.{later_itself, ready_false, cells_of}
+use Rattle.verse_sound_trees.proofs.Going.{forget, attempted_typed, told_typed, still_told, gives_value, up_to}
+use Rattle.verse_sound_trees.proofs.Going.{valued_typed, Frames, then}
+use Rattle.verse_sound_trees.specs.Deep.{Known}
+use Rattle.verse_sound_trees.proofs.Suspending.{outside_typed, suspended_typed}
+use Rattle.verse_sound_trees.proofs.Objects.{field_there, slot_told}
+use Rattle.verse_sound_trees.proofs.Storing.{event_told}
+use Rattle.verse_sound_trees.proofs.Operands.{list_args, Well, AllWell}
+use Rattle.verse_sound_trees.proofs.Applying.{form_well, this_there, known_there}
+use Rattle.verse_sound_trees.specs.Bounds.{EachFits}
+use Rattle.verse_sound_trees.proofs.Groups.{branch_well, group_well, AllArms}
 use Rattle.verse_sound_trees.proofs.Lists.{all_are, holed_are, given_are, paired_are, targets_are, target_list, target_list_of, IsTarget}
 use Rattle.verse_sound_trees.proofs.Lists.{IsTargetOf}
 use Rattle.verse_sound_trees.proofs.Loops.{well_is, well_up, loop_well, takes_typed, generate_left, TakesWell, AreTaken}
@@ -226,7 +226,7 @@ module _ (p : Program) (f : Found) (top : Level) (fuel : ℕ) (known : Known p f
 
   -- what `sleep` gives, when it is due
   sleeps_well : (t : Typing) (a : Allowed) (q : Sort) (e : Env) (c : World → Cause) → a.waits ≡ true →
-      ((u : Typing) (w : World) → Rattle.verse_sound_outcomes.specs.Waiting.CauseOf f.up u q (c w)) →
+      ((u : Typing) (w : World) → Rattle.verse_sound_trees.specs.Waiting.CauseOf f.up u q (c w)) →
       WellOf t a q (λ g w. outside a.waits w (λ w. suspended (c w) e w))
   sleeps_well t a q e c h i l g sp rd u w gr k = outside_typed p f l u a q w _ h rd (λ n same.
       subst (λ l. Comes p f l any_names u a q (suspended (c w) e w)) (sym same) (suspended_typed p f n u a q (c w) e w h (i u w) (subst

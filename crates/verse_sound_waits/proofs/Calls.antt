@@ -11,7 +11,7 @@ use Rattle.verse_meaning.specs.Laws.{ContextLeaves, ContextUndoes, CancelLeaves,
 use Rattle.verse_meaning.specs.Laws.{CancellingLeaves}
 use Rattle.verse_sound_rules.specs.Found.{Found, in_function}
 use Rattle.verse_sound_rules.specs.Programs.{FineFound, FineFunction, params_behind}
-use Rattle.verse_sound_outcomes.specs.Names.{Sees}
+use Rattle.verse_sound_trees.specs.Names.{Sees}
 use Rattle.verse_sound_runs.proofs.Calls.{params_typed, sees_this}
 use Rattle.verse_sound_effects.specs.Opening.{OpenAndClosed, ContextsChangeNothing}
 use Rattle.verse_sound_waits.specs.Waits.{Stays}

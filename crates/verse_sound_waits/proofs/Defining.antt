@@ -12,11 +12,11 @@ use Rattle.verse_meaning.specs.Outcomes.{World, Outcome}
 use Rattle.verse_meaning.specs.Forms.{Deeper, defined, bound_to, variable_bound}
 use Rattle.verse_sound_rules.specs.Found.{Found, Allowed}
 use Rattle.verse_sound_rules.specs.Fine.{Defines, defined_behind}
-use Rattle.verse_sound_outcomes.specs.Names.{Holds, holds_cell, Sees}
-use Rattle.verse_sound_outcomes.specs.Going.{turns, Kept}
-use Rattle.verse_sound_outcomes.proofs.Names.{binds_value, binds_local, sees_more}
-use Rattle.verse_sound_outcomes.proofs.Going.{told_typed}
-use Rattle.verse_sound_forms.proofs.Storing.{variable_told}
+use Rattle.verse_sound_trees.specs.Names.{Holds, holds_cell, Sees}
+use Rattle.verse_sound_trees.specs.Going.{turns, Kept}
+use Rattle.verse_sound_trees.proofs.Names.{binds_value, binds_local, sees_more}
+use Rattle.verse_sound_trees.proofs.Going.{told_typed}
+use Rattle.verse_sound_trees.proofs.Storing.{variable_told}
 use Rattle.verse_sound_waits.specs.Waits.{Stays}
 use Rattle.verse_sound_waits.proofs.Passing.{told_stays, valued_stays}
 

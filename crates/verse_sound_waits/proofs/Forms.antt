@@ -28,18 +28,18 @@ use Rattle.verse_sound_rules.specs.Forms.{Filled, filled_no, filled_given, fille
 use Rattle.verse_sound_rules.specs.Forms.{IsDefault}
 use Rattle.verse_sound_rules.specs.Fine.{sort_at}
 use Rattle.verse_sound_rules.specs.Programs.{FineFound, FineDefault, Overrides}
-use Rattle.verse_sound_outcomes.specs.Names.{HasThis, no_this, this_is, Sees}
-use Rattle.verse_sound_outcomes.specs.Outcomes.{any_names}
-use Rattle.verse_sound_outcomes.specs.Going.{turns, Kept, Comes}
-use Rattle.verse_sound_outcomes.proofs.Names.{sees_more}
-use Rattle.verse_sound_outcomes.proofs.Worlds.{cells_of}
-use Rattle.verse_sound_outcomes.proofs.Going.{told_typed}
+use Rattle.verse_sound_trees.specs.Names.{HasThis, no_this, this_is, Sees}
+use Rattle.verse_sound_trees.specs.Outcomes.{any_names}
+use Rattle.verse_sound_trees.specs.Going.{turns, Kept, Comes}
+use Rattle.verse_sound_trees.proofs.Names.{sees_more}
+use Rattle.verse_sound_trees.proofs.Worlds.{cells_of}
+use Rattle.verse_sound_trees.proofs.Going.{told_typed}
 use Rattle.verse_sorts_values.specs.Operands.{HasNever, never_here}
-use Rattle.verse_sound_forms.proofs.Lists.{no_never, Given, is_given, is_not_given, given_typed}
-use Rattle.verse_sound_forms.proofs.Objects.{Object_of, object_of, object_there}
-use Rattle.verse_sound_forms.proofs.Storing.{variable_told}
-use Rattle.verse_sound_forms.proofs.Operands.{list_args}
-use Rattle.verse_sound_forms.proofs.Applying.{this_there}
+use Rattle.verse_sound_trees.proofs.Leaves.{no_never, Given, is_given, is_not_given, given_typed}
+use Rattle.verse_sound_trees.proofs.Objects.{Object_of, object_of, object_there}
+use Rattle.verse_sound_trees.proofs.Storing.{variable_told}
+use Rattle.verse_sound_trees.proofs.Operands.{list_args}
+use Rattle.verse_sound_trees.proofs.Applying.{this_there}
 use Rattle.verse_sound_trees.proofs.Trees.{ev_well}
 use Rattle.verse_sound_runs.proofs.Calls.{known_at, turns_deep, at_top, sees_this}
 use Rattle.verse_sound_effects.specs.Opening.{OpenAndClosed}

@@ -17,10 +17,10 @@ use Rattle.verse_meaning.specs.Forms.{Deeper}
 use Rattle.verse_meaning.specs.Evaluating.{scope_end, cancel_behind}
 use Rattle.verse_meaning.specs.Laws.{Calm}
 use Rattle.verse_sound_rules.specs.Found.{Found, Allowed, tried}
-use Rattle.verse_sound_outcomes.specs.Outcomes.{gives, fails, returns, breaks, faults, ends_steps, waits}
-use Rattle.verse_sound_outcomes.specs.Going.{turns, Kept, Comes}
-use Rattle.verse_sound_outcomes.proofs.Worlds.{later_grows, kept_again, kept_stepped}
-use Rattle.verse_sound_outcomes.proofs.Going.{Ends}
+use Rattle.verse_sound_trees.specs.Outcomes.{gives, fails, returns, breaks, faults, ends_steps, waits}
+use Rattle.verse_sound_trees.specs.Going.{turns, Kept, Comes}
+use Rattle.verse_sound_trees.proofs.Worlds.{later_grows, kept_again, kept_stepped}
+use Rattle.verse_sound_trees.proofs.Going.{Ends}
 use Rattle.verse_sound_effects.specs.Opening.{SameOrStuck, same, is_stuck}
 use Rattle.verse_sound_waits.specs.Waits.{Stays}
 

@@ -38,13 +38,13 @@ use Rattle.verse_sound_rules.specs.Fine.{sort_at, sorts_at, hole_sorts, pair_sor
 use Rattle.verse_sound_rules.specs.Fine.{object_sort}
 use Rattle.verse_sound_rules.specs.Fine.{target_sorts, target_sorts_of, on_statement, seen_behind, seen_after}
 use Rattle.verse_sound_rules.specs.Fine.{stated_behind, Generates, Defines}
-use Rattle.verse_sound_outcomes.specs.Names.{Sees}
-use Rattle.verse_sound_outcomes.specs.Outcomes.{any_names}
-use Rattle.verse_sound_outcomes.specs.Going.{turns, Kept, Comes, Within}
-use Rattle.verse_sound_outcomes.proofs.Names.{sees_more}
-use Rattle.verse_sound_outcomes.proofs.Going.{attempted_typed, gives_value}
-use Rattle.verse_sound_forms.specs.Deep.{Known}
-use Rattle.verse_sound_forms.proofs.Operands.{list_args}
+use Rattle.verse_sound_trees.specs.Names.{Sees}
+use Rattle.verse_sound_trees.specs.Outcomes.{any_names}
+use Rattle.verse_sound_trees.specs.Going.{turns, Kept, Comes, Within}
+use Rattle.verse_sound_trees.proofs.Names.{sees_more}
+use Rattle.verse_sound_trees.proofs.Going.{attempted_typed, gives_value}
+use Rattle.verse_sound_trees.specs.Deep.{Known}
+use Rattle.verse_sound_trees.proofs.Operands.{list_args}
 use Rattle.verse_sound_trees.proofs.Lists.{all_are, holed_are, given_are, paired_are, targets_are, target_list}
 use Rattle.verse_sound_trees.proofs.Lists.{target_list_of, IsTarget, IsTargetOf}
 use Rattle.verse_sound_trees.proofs.Statements.{head_of, head_sort_of}

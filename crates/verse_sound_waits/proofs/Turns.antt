@@ -23,10 +23,10 @@ use Rattle.verse_meaning.specs.Evaluating.{generates_from}
 use Rattle.verse_meaning.specs.Runs.{deeper, on_next}
 use Rattle.verse_sound_rules.specs.Found.{Found, Allowed}
 use Rattle.verse_sound_rules.specs.Fine.{on_callee, on_member, on_statement, Defines, stated_behind}
-use Rattle.verse_sound_outcomes.specs.Names.{Sees}
-use Rattle.verse_sound_outcomes.specs.Outcomes.{any_names}
-use Rattle.verse_sound_outcomes.specs.Going.{Level, turns, Kept, Comes}
-use Rattle.verse_sound_outcomes.proofs.Names.{sees_more}
+use Rattle.verse_sound_trees.specs.Names.{Sees}
+use Rattle.verse_sound_trees.specs.Outcomes.{any_names}
+use Rattle.verse_sound_trees.specs.Going.{Level, turns, Kept, Comes}
+use Rattle.verse_sound_trees.proofs.Names.{sees_more}
 use Rattle.verse_sound_trees.proofs.Loops.{AreTaken, NextTaken, next_taken, taken_more}
 use Rattle.verse_sound_waits.specs.Waits.{Stays, FormStays, ObjectStays, CalleeStays}
 use Rattle.verse_sound_waits.proofs.Defining.{defined_stays}

@@ -10,8 +10,8 @@ use Rattle.verse_meaning.specs.Outcomes.{World}
 use Rattle.verse_meaning.specs.Runs.{deeper}
 use Rattle.verse_sound_rules.specs.Found.{Found}
 use Rattle.verse_sound_rules.specs.Programs.{FineProgram}
-use Rattle.verse_sound_outcomes.specs.Names.{HasThis}
-use Rattle.verse_sound_outcomes.specs.Going.{Kept, turns}
+use Rattle.verse_sound_trees.specs.Names.{HasThis}
+use Rattle.verse_sound_trees.specs.Going.{Kept, turns}
 use Rattle.verse_sound_waits.specs.Waits.{Stays, NoWaits}
 
 -- nothing waits in the body of a function that does not suspend, and what overrides it does not

@@ -1,5 +1,0 @@
-pub mod Shapes
-pub mod Bodies
-pub mod Inheriting
-pub mod Main
-pub mod Whole

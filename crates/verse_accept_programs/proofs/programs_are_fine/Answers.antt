@@ -1,5 +1,0 @@
-use Rattle.verse_accept_programs.proofs.Whole.{programs_fine}
-use Rattle.verse_accept_programs.proofs.programs_are_fine.Goals as goal
-
-pub returns : goal.returns
-returns c = programs_fine c.trees_are_fine.ensures

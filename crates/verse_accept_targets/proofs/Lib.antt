@@ -1,5 +1,0 @@
-pub mod Paths
-pub mod Settable
-pub mod Aims
-pub mod Writes
-pub mod Whole

@@ -1,4 +1,0 @@
-pub mod Names
-pub mod Waiting
-pub mod Worlds
-pub mod Going

@@ -1,4 +1,0 @@
-pub mod Names
-pub mod Outcomes
-pub mod Waiting
-pub mod Going

@@ -1,3 +1,0 @@
-pub mod Cancelling
-pub mod Scopes
-pub mod Groups
