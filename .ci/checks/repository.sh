@@ -68,6 +68,9 @@ examples_are_named() {
   done
 }
 
+# Crates have type names in common; in a file a name is one type's.
+type_names_are_one() { python3 .ci/checks/type_names.py; }
+
 check handles_are_none
 check each_crate_has_wrong_bodies
 check each_crate_is_described
@@ -77,5 +80,6 @@ check no_more_lines_are_long
 check no_hole_is_left
 check nothing_made_is_kept
 check examples_are_named
+check type_names_are_one
 echo "$passed passed, $failed failed"
 [ "$failed" -eq 0 ]
