@@ -9,7 +9,7 @@ use Rattle.run_save_shots.specs.Lists.{Each}
 use Rattle.run_save_births.specs.Births.{births, Rising, KeepsBirth}
 use Rattle.run_save_births.specs.Everywhere.{FramesAre, ThreadIs, TasksAre, TreesAre, AfterIs, UpIs, UpsAre, WorldIs, Stands, Unborn}
 use Rattle.run_save_births.specs.Everywhere.{NotChild, TreesApart, StepApart}
-use Rattle.run_save_births.proofs.Ends.{Comes, same_frames, new_frame, new_child, new_root, Low}
+use Rattle.run_save_births.proofs.Kept.{Comes, same_frames, new_frame, new_child, new_root, Low}
 
 -- what follows for all tasks from what holds of each
 module _ (T U : Who → List ℕ → Type 0) (so : (w : Who) (ns : List ℕ) → T w ns → U w ns) where
@@ -259,7 +259,7 @@ module _ (path : List ℕ) (n : ℕ) where
         world = world_so T (NotChild path n m.state.clock.left) (λ w ns a. fresh_child m.state.clock.left most e few w ns (so w ns a)) m.world o;
       })
 
-  unborn_out : (most : ℕ) (q : Step) → Low most (Unborn path n most) (unborn_drop most) q → StepApart path n q
+  unborn_out : (most : ℕ) (q : Step) → Low (Unborn path n most) (unborn_drop most) most q → StepApart path n q
   unborn_out most (Next m) a = by_comes (unborn_comes stands a.holds.0)
     where
       so : (w : Who) (ns : List ℕ) → Unborn path n most w ns → Stands most w ns
@@ -280,7 +280,7 @@ module _ (path : List ℕ) (n : ℕ) where
   unborn_out most (Over e s) a = tt
   unborn_out most (Turn s tss) a = inl (subst (λ l. TreesAre (Unborn path n l) tss) (sym a.holds.0) a.holds.1)
 
-  child_out : (most : ℕ) (q : Step) → Low most (NotChild path n most) (child_drop most) q → StepApart path n q
+  child_out : (most : ℕ) (q : Step) → Low (NotChild path n most) (child_drop most) most q → StepApart path n q
   child_out most (Next m) a = by_comes (child_comes stands a.holds.0)
     where
       so : (w : Who) (ns : List ℕ) → NotChild path n most w ns → Stands most w ns
@@ -303,7 +303,7 @@ module _ (path : List ℕ) (n : ℕ) where
 
   -- what keeps what holds of all tasks keeps this
   pub out : (most : ℕ) (q : Step) (In : (Who → List ℕ → Type 0) → Type 0) → ((T : Who → List ℕ → Type 0)
-      (drops : (w : Who) (i k : ℕ) (ns : List ℕ) → T w (i ∷ k ∷ ns) → T w (k ∷ ns)) → In T → Low most T drops q) →
+      (drops : (w : Who) (i k : ℕ) (ns : List ℕ) → T w (i ∷ k ∷ ns) → T w (k ∷ ns)) → In T → Low T drops most q) →
       In (Unborn path n most) ⊎ In (NotChild path n most) → StepApart path n q
   out most q In f (inl a) = unborn_out most q (f (Unborn path n most) (unborn_drop most) a)
   out most q In f (inr a) = child_out most q (f (NotChild path n most) (child_drop most) a)

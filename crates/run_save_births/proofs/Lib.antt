@@ -1,4 +1,3 @@
-pub mod Ends
-pub mod Acts
+pub mod Kept
 pub mod Apart
 pub mod Runs

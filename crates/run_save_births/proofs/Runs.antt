@@ -1,94 +1,73 @@
 -- Births and numbers in every state of a run.
-use Rattle.std.proofs.Common.{◌≡◌, ◌⊎◌, ℕ, zero, suc, List, [], ◌∷◌, ◌++◌, Option, Some, None, Bool, true, false, cond, nat_lt, refl, ap, subst, ◌∙◌}
-use Rattle.std.proofs.Common.{arith}
+use Rattle.std.proofs.Common.{◌≡◌, ◌⊎◌, ℕ, List, [], ◌∷◌, ◌++◌, Option, Some, None, refl, ap, subst, ◌∙◌}
 use Rattle.std.specs.Prelude.{ℤ, slice_get}
 use mathlib.Core.Logic.{inl, inr}
 use Rattle.verse_code.specs.declared.codes.Func.{Func}
 use Rattle.verse_code.specs.declared.codes.Code.{Code}
 use Rattle.verse_value.specs.Val.{Val}
-use Rattle.verse_value.specs.declared.runs.Ending.TheVariants as ending
-use Rattle.verse_meaning_state.specs.State.{State, begun, spending, stepped, at_moment}
-use Rattle.verse_meaning_state.specs.Waits.{Wait, Due, least}
-use Rattle.verse_meaning_state.specs.Turns.{Stage, going, closed, broken, amiss, turn, turn_at, turns}
-use Rattle.verse_code_machine.specs.Tasks.{Who, Thread, Task, Machine, Step, Next, Over, Turn, tree_waits}
+use Rattle.verse_meaning_state.specs.State.{State, begun}
+use Rattle.verse_meaning_state.specs.Turns.{Stage, going, closed, broken, amiss, turns}
+use Rattle.verse_code_machine.specs.Tasks.{Who, Thread, Task, Machine}
 use Rattle.verse_code_machine.specs.Frames.{on_there}
 use Rattle.verse_code_machine.specs.Ends.{woken_in}
-use Rattle.verse_code_machine.specs.Runs.{step, carried, room, Forest, stage_of, turn_taken, main_starts, started, mach_after}
+use Rattle.verse_code_machine.specs.Runs.{step, Forest, turn_taken, main_starts, started, mach_after}
+use Rattle.verse_code_machine_births.specs.Stages.{StageIs}
+use Rattle.verse_code_machine_births.proofs.Kept.{is_new, new_root}
+use Rattle.verse_code_machine_births.proofs.Ends.{others, spending_low, woken_in_low}
+use Rattle.verse_code_machine_births.proofs.Acts.{there_low, act_low}
+use Rattle.verse_code_machine_births.proofs.Running.{Invariant, started_is, turns_is}
+use Rattle.verse_code_machine_births.proofs.Runs.{AnyArms}
 use Rattle.run_save_shots.specs.Lists.{Each}
 use Rattle.run_save_births.specs.Births.{births_of, KeepsBirth, NoChild, IsBorn, AreBorn}
-use Rattle.run_save_births.specs.Everywhere.{TasksAre, TreesAre, MachineIs, Stands, Unborn, NotChild, TreesApart, StepApart}
+use Rattle.run_save_births.specs.Everywhere.{FramesAre, TaskIs, BeginsIs, TasksAre, TreesAre, MachineIs, MachineApart, Stands}
+use Rattle.run_save_births.specs.Everywhere.{Unborn, NotChild, TreesApart, StepApart}
 use Rattle.run_save_births.specs.Laws.{OperationIsBorn, StageIsBorn, RunIsBorn, BirthsGoOn}
-use Rattle.run_save_births.proofs.Ends.{Low, new_root, others, spending_low, woken_in_low}
-use Rattle.run_save_births.proofs.Acts.{there_low, act_low}
+use Rattle.run_save_births.proofs.Kept.{frames_kept, Low, low_of}
 use Rattle.run_save_births.proofs.Apart.{out, trees_lower, same_number, same_paths}
 
 abbrev StageApart : List ℕ → ℕ → Stage Forest → Type 0
-StageApart path n (going s tss) = TreesApart path n s.clock.left tss
-StageApart path n (closed e s tss) = TreesApart path n s.clock.left tss
-StageApart path n (broken e s) = Unit {0}
-StageApart path n (amiss s) = Unit {0}
+StageApart path n = StageIs (TreesApart path n)
 
 step_low : (c : Code) (m : Machine) (T : Who → List ℕ → Type 0) (drops : (w : Who) (i k : ℕ) (ns : List ℕ) → T w (i ∷ k ∷ ns) → T w (k ∷ ns)) →
-    MachineIs T m → Low m.state.clock.left T drops (step c m)
-step_low c m T drops h = there_low m.state.clock.left T drops (slice_get c.ops m.frame.place) m.state _ (λ op. act_low m.state.clock.left T drops m.who
-    m.world m.state m.frame.life m.frame.place m.frame.handlers m.below refl (h.frames.0, h.frames.1.0) h.frames.1.1 h.world c op m.frame.locals m.frame.stack)
+    MachineIs T m → Low T drops m.state.clock.left (step c m)
+step_low c m T drops h =
+    let l = m.state.clock.left in
+    low_of T drops l (step c m) (there_low l (FramesAre T) AnyArms (TaskIs T) (BeginsIs T) (frames_kept T drops l)
+    (slice_get c.ops m.frame.place) m.state _ (λ op. act_low l (FramesAre T) AnyArms (TaskIs T) (BeginsIs T)
+    (frames_kept T drops l) m.who m.world m.state m.frame.life m.frame.place m.frame.handlers m.below refl h.frames
+    h.world c op m.frame.locals m.frame.stack))
 
 pub operation_is_born : OperationIsBorn
 operation_is_born c path n m a = out path n m.state.clock.left (step c m) (λ T. MachineIs T m) (step_low c m) a
 
-module _ (c : Code) (path : List ℕ) (n : ℕ) where
+module _ (path : List ℕ) (n : ℕ) where
   woken_apart : (i : ℕ) (v : Val) (s : State) (tss : Forest) → TreesApart path n s.clock.left tss → StepApart path n (woken_in i v [] tss s)
-  woken_apart i v s tss a = out path n s.clock.left (woken_in i v [] tss s) (λ T. TreesAre T tss) (λ T drops h. woken_in_low s.clock.left T drops i v [] tss
-      s refl tt h) a
+  woken_apart i v s tss a = out path n s.clock.left (woken_in i v [] tss s) (λ T. TreesAre T tss) (λ T drops h. low_of T drops s.clock.left (woken_in i v []
+      tss s) (woken_in_low s.clock.left (FramesAre T) AnyArms (TaskIs T) (BeginsIs T) (frames_kept T drops s.clock.left) i v [] tss s refl tt h)) a
 
   main_apart : (ns : List ℤ) (steps : ℕ) (f : Option Func) → StepApart path n (on_there f (begun steps) (λ f. main_starts ns (begun steps) f))
   main_apart ns steps f = out path n steps (on_there f (begun steps) (λ f. main_starts ns (begun steps) f)) (λ T. Unit {0})
-      (λ T drops h. there_low steps T drops f (begun steps) _ (λ (f : Func). spending_low steps T drops steps (begun steps) _ refl (λ l d. record {
-        holds = (new_root d, ((tt, tt), others steps T drops tt tt tt tt tt));
-      }))) (inl tt)
+      (λ T drops h. low_of T drops steps _ (there_low steps (FramesAre T) AnyArms (TaskIs T) (BeginsIs T) (frames_kept T drops steps) f (begun steps) _
+      (λ (f : Func). spending_low steps (FramesAre T) AnyArms (TaskIs T) (BeginsIs T) (frames_kept T drops steps) steps (begun steps) _ refl (λ l d. record {
+        holds = (
+          new_root d is_new,
+          others steps (FramesAre T) AnyArms (TaskIs T) (BeginsIs T) (frames_kept T drops steps) tt tt tt tt tt,
+        );
+      })))) (inl tt)
 
-  carried_apart : (k : ℕ) (q : Step) → StepApart path n q → StepApart path n (carried c k q)
-  carried_apart zero q h = h
-  carried_apart (suc k) (Next m) h = carried_apart k (step c m) (operation_is_born c path n m h)
-  carried_apart (suc k) (Over e s) h = h
-  carried_apart (suc k) (Turn s tss) h = h
+  invariant : (c : Code) → Invariant c (TreesApart path n) (MachineApart path n)
+  invariant c = record {
+    operates = operation_is_born c path n;
+    wakes = woken_apart;
+    fewer = λ l k tss e a. trees_lower path n l k tss e a;
+  }
 
-  stage_apart : (q : Step) → StepApart path n q → StageApart path n (stage_of q)
-  stage_apart (Next m) h = tt
-  stage_apart (Over e s) h = h
-  stage_apart (Turn s tss) h = h
+  turns_apart : (c : Code) (steps until k : ℕ) (g : Stage Forest) → StageApart path n g → StageApart path n (turns (turn_taken c steps until) k g)
+  turns_apart c = turns_is c (TreesApart path n) (MachineApart path n) (invariant c)
 
-  spent_apart : (steps left : ℕ) (s : State) (tss : Forest) (d : Due) → s.clock.left ≡ left → TreesApart path n s.clock.left tss →
-      StageApart path n (spending left s (closed ending.Steps s tss) (λ s. stage_of (carried c (room c steps) (woken_in d.number d.given.value [] tss
-      (at_moment d.given.moment s)))))
-  spent_apart steps zero s tss d e h = h
-  spent_apart steps (suc l) s tss d e h = stage_apart _ (carried_apart (room c steps) _ (woken_apart d.number d.given.value (at_moment d.given.moment
-      (stepped l s)) tss (trees_lower path n l s.clock.left tss (omega (arith, e)) h)))
-
-  late_apart : (late : Bool) (g h : Stage Forest) → StageApart path n g → StageApart path n h → StageApart path n (cond late g h)
-  late_apart true g h a b = a
-  late_apart false g h a b = b
-
-  due_apart : (steps until : ℕ) (s : State) (tss : Forest) (d : Option Due) → TreesApart path n s.clock.left tss →
-      StageApart path n (turn_at until d s tss (λ due s. stage_of (carried c (room c steps) (woken_in due.number due.given.value [] tss s))))
-  due_apart steps until s tss None h = h
-  due_apart steps until s tss (Some d) h = late_apart (nat_lt until d.given.moment) _ _ h (spent_apart steps s.clock.left s tss d refl h)
-
-  turn_apart : (steps until : ℕ) (s : State) (tss : Forest) (ws : List Wait) → TreesApart path n s.clock.left tss →
-      StageApart path n (turn until ws s tss (λ due s. stage_of (carried c (room c steps) (woken_in due.number due.given.value [] tss s))))
-  turn_apart steps until s tss [] h = h
-  turn_apart steps until s tss (w ∷ ws) h = due_apart steps until s tss (least s (w ∷ ws)) h
-
-  turns_apart : (steps until k : ℕ) (g : Stage Forest) → StageApart path n g → StageApart path n (turns (turn_taken c steps until) k g)
-  turns_apart steps until zero g h = h
-  turns_apart steps until (suc k) (going s tss) h =
-      turns_apart steps until k (turn_taken c steps until s tss) (turn_apart steps until s tss (tree_waits tss) h)
-  turns_apart steps until (suc k) (closed e s tss) h = h
-  turns_apart steps until (suc k) (broken e s) h = h
-  turns_apart steps until (suc k) (amiss s) h = h
-
-  started_apart : (ns : List ℤ) (steps : ℕ) → StageApart path n (started c ns steps)
-  started_apart ns steps = stage_apart _ (carried_apart (room c steps) _ (main_apart ns steps (slice_get c.functions c.main)))
+  started_apart : (c : Code) (ns : List ℤ) (steps : ℕ) → StageApart path n (started c ns steps)
+  started_apart c ns steps =
+      started_is c (TreesApart path n) (MachineApart path n) (invariant c) steps _ (main_apart ns steps (slice_get c.functions c.main))
 
 -- ---- for all paths and numbers
 
@@ -245,9 +224,9 @@ stage_born (broken e s) a = tt
 stage_born (amiss s) a = tt
 
 pub run_is_born : RunIsBorn
-run_is_born c ns steps until k = stage_born (mach_after c ns steps until k) (λ path n. turns_apart c path n steps until k (started c ns steps) (started_apart
-    c path n ns steps))
+run_is_born c ns steps until k = stage_born (mach_after c ns steps until k) (λ path n. turns_apart path n c steps until k (started c ns steps) (started_apart
+    path n c ns steps))
 
 pub births_go_on : BirthsGoOn
-births_go_on c steps until k s tss a = stage_born (turns (turn_taken c steps until) k (going s tss)) (λ path n. turns_apart c path n steps until k (going s
+births_go_on c steps until k s tss a = stage_born (turns (turn_taken c steps until) k (going s tss)) (λ path n. turns_apart path n c steps until k (going s
     tss) (from_born s.clock.left tss path n a))

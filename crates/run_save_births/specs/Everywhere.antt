@@ -1,9 +1,10 @@
 -- What holds of the name and the births of each task, wherever it stands.
 use Rattle.std.specs.Prelude.{◌≡◌, ◌⊎◌, ◌≤◌, ℕ, List, [], ◌∷◌, ◌++◌}
-use Rattle.verse_code_machine.specs.Tasks.{Frame, Who, Thread, Task, After, resuming}
-use Rattle.verse_code_machine.specs.Tasks.{closing, finishing, Up, begins, branching, spawning}
-use Rattle.verse_code_machine.specs.Tasks.{clearing, World, Machine, Step, Next, Over, Turn}
+use Rattle.verse_code_machine.specs.Tasks.{Frame, Who, Part, Thread, Task, After, Up, World, Machine}
+use Rattle.verse_code_machine.specs.Tasks.{Step}
 use Rattle.verse_code_machine.specs.Runs.{Forest}
+use Rattle.verse_code_machine_births.specs.Everywhere as every
+use Rattle.verse_code_machine_births.specs.Stages.{StepIs}
 use Rattle.run_save_shots.specs.Lists.{Each}
 use Rattle.run_save_births.specs.Births.{births, Rising, KeepsBirth}
 
@@ -16,35 +17,29 @@ module _ (T : Who → List ℕ → Type 0) where
   abbrev pub ThreadIs : Thread → Type 0
   ThreadIs x = FramesAre x.who (x.frame ∷ x.below)
 
+  abbrev pub TaskIs : Task → Type 0
+  TaskIs t = ThreadIs t.thread
+
+  abbrev pub BeginsIs : Thread → List Part → ℕ → Type 0
+  BeginsIs x gs number = ThreadIs x
+
   abbrev pub TasksAre : List Task → Type 0
-  TasksAre [] = Unit {0}
-  TasksAre (t ∷ ts) = ThreadIs t.thread × TasksAre ts
+  TasksAre = every.TasksAre ThreadIs TaskIs BeginsIs
 
   abbrev pub TreesAre : Forest → Type 0
-  TreesAre [] = Unit {0}
-  TreesAre (ts ∷ tss) = TasksAre ts × TreesAre tss
+  TreesAre = every.TreesAre ThreadIs TaskIs BeginsIs
 
   abbrev pub AfterIs : After → Type 0
-  AfterIs (resuming x v) = ThreadIs x
-  AfterIs (closing w v) = Unit {0}
-  AfterIs (finishing w entry v) = Unit {0}
+  AfterIs = every.AfterIs ThreadIs TaskIs BeginsIs
 
   abbrev pub UpIs : Up → Type 0
-  UpIs (begins x k p gs number ls) = ThreadIs x
-  UpIs (branching x) = ThreadIs x
-  UpIs (spawning x entry ps qs) = ThreadIs x × (TasksAre ps × TasksAre qs)
-  UpIs (clearing a ts) = AfterIs a × TasksAre ts
+  UpIs = every.UpIs ThreadIs TaskIs BeginsIs
 
   abbrev pub UpsAre : List Up → Type 0
-  UpsAre [] = Unit {0}
-  UpsAre (u ∷ us) = UpIs u × UpsAre us
+  UpsAre = every.UpsAre ThreadIs TaskIs BeginsIs
 
-  pub record WorldIs (o : World) : Type 0 where
-    pub pre : TasksAre o.pre
-    pub post : TasksAre o.post
-    pub ups : UpsAre o.ups
-    pub before : TreesAre o.trees.before
-    pub behind : TreesAre o.trees.behind
+  abbrev pub WorldIs : World → Type 0
+  WorldIs = every.WorldIs ThreadIs TaskIs BeginsIs
 
   pub record MachineIs (m : Machine) : Type 0 where
     pub frames : FramesAre m.who (m.frame ∷ m.below)
@@ -75,6 +70,4 @@ module _ (path : List ℕ) (n : ℕ) where
   TreesApart left tss = TreesAre (Unborn left) tss ⊎ TreesAre (NotChild left) tss
 
   abbrev pub StepApart : Step → Type 0
-  StepApart (Next m) = MachineApart m
-  StepApart (Over e s) = Unit {0}
-  StepApart (Turn s tss) = TreesApart s.clock.left tss
+  StepApart = StepIs TreesApart MachineApart

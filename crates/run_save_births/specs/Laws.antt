@@ -2,9 +2,10 @@
 use Rattle.std.specs.Prelude.{ℕ, ℤ, List}
 use Rattle.verse_code.specs.declared.codes.Code.{Code}
 use Rattle.verse_meaning_state.specs.State.{State}
-use Rattle.verse_meaning_state.specs.Turns.{Stage, going, closed, broken, amiss, turns}
+use Rattle.verse_meaning_state.specs.Turns.{Stage, going, turns}
 use Rattle.verse_code_machine.specs.Tasks.{Machine}
 use Rattle.verse_code_machine.specs.Runs.{Forest, step, mach_after, turn_taken}
+use Rattle.verse_code_machine_births.specs.Stages.{StageIs}
 use Rattle.run_save_births.specs.Births.{AreBorn}
 use Rattle.run_save_births.specs.Everywhere.{MachineApart, StepApart}
 
@@ -14,10 +15,7 @@ OperationIsBorn = (c : Code) (path : List ℕ) (n : ℕ) (m : Machine) → Machi
     StepApart path n (step c m)
 
 abbrev pub StageIsBorn : Stage Forest → Type 0
-StageIsBorn (going s tss) = AreBorn s.clock.left tss
-StageIsBorn (closed e s tss) = AreBorn s.clock.left tss
-StageIsBorn (broken e s) = Unit {0}
-StageIsBorn (amiss s) = Unit {0}
+StageIsBorn = StageIs AreBorn
 
 -- in every state of a run between two turns
 abbrev pub RunIsBorn : Type 0

@@ -4,7 +4,7 @@ use Rattle.verse_meaning_state.specs.State.{State}
 use Rattle.verse_code_machine.specs.Tasks.{Frame, Part, did, runs, Rest, asleep, group, Thread, Task}
 use Rattle.verse_code_machine.specs.Runs.{Forest}
 use Rattle.verse_code_machine_births.specs.Births.{Anyone, FramesBorn}
-use Rattle.verse_code_machine_births.specs.Everywhere as every
+use Rattle.verse_code_machine_births.specs.Framed as every
 use Rattle.verse_code_machine_parents.specs.Parents.{HandlersBorn}
 use Rattle.verse_code_machine_saved.specs.Numbers.{Numbering, Fixed, Prior, rest_as, frames_as, renumbered}
 use Rattle.run_save_shots.specs.Lists.{Each}

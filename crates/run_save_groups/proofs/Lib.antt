@@ -1,3 +1,2 @@
-pub mod Ends
-pub mod Acts
+pub mod Kept
 pub mod Runs

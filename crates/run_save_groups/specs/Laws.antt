@@ -2,9 +2,10 @@
 use Rattle.std.specs.Prelude.{ℕ, ℤ, List}
 use Rattle.verse_code.specs.declared.codes.Code.{Code}
 use Rattle.verse_meaning_state.specs.State.{State}
-use Rattle.verse_meaning_state.specs.Turns.{Stage, going, closed, broken, amiss, turns}
+use Rattle.verse_meaning_state.specs.Turns.{Stage, going, turns}
 use Rattle.verse_code_machine.specs.Tasks.{Machine}
 use Rattle.verse_code_machine.specs.Runs.{Forest, step, mach_after, turn_taken}
+use Rattle.verse_code_machine_births.specs.Stages as stages
 use Rattle.run_save_groups.specs.Arms.{TreesAre, MachineIs, StepIs}
 
 -- each operation keeps it
@@ -12,10 +13,7 @@ abbrev pub OperationKeepsArms : Type 0
 OperationKeepsArms = (c : Code) (m : Machine) → MachineIs m.state.clock.left m → StepIs (step c m)
 
 abbrev pub StageIs : Stage Forest → Type 0
-StageIs (going s tss) = TreesAre s.clock.left tss
-StageIs (closed e s tss) = TreesAre s.clock.left tss
-StageIs (broken e s) = Unit {0}
-StageIs (amiss s) = Unit {0}
+StageIs = stages.StageIs TreesAre
 
 -- in every state of a run between two turns
 abbrev pub RunKeepsArms : Type 0

@@ -1,5 +1,5 @@
--- What tasks do with one another keeps what holds of all frames and tasks.
-use Rattle.std.proofs.Common.{◌≡◌, ℕ, zero, suc, ◌<◌, ◌≤◌, List, [], ◌∷◌, ◌++◌, Option, Some, None, Bool, refl, arith}
+-- What tasks do with one another keeps what holds of all tasks.
+use Rattle.std.proofs.Common.{◌≡◌, ℕ, zero, suc, ◌≤◌, List, [], ◌∷◌, ◌++◌, Option, Some, None, Bool, refl, arith}
 use Rattle.std.proofs.lemmas.Bool.{cond_both}
 use Rattle.verse_base.specs.declared.places.Place.{Place}
 use Rattle.verse_value.specs.Val.{Val, unit, task}
@@ -14,7 +14,7 @@ use Rattle.verse_code_machine.specs.Tasks.{Handler, Frame, Role, root, part, Who
 use Rattle.verse_code_machine.specs.Tasks.{group, Thread, thread, Task}
 use Rattle.verse_code_machine.specs.Tasks.{After, resuming, closing, finishing, Up, begins, branching, spawning}
 use Rattle.verse_code_machine.specs.Tasks.{clearing, Trees, World, world}
-use Rattle.verse_code_machine.specs.Tasks.{Step, Next, Over, Turn, child_named, onto, among, planted, starts}
+use Rattle.verse_code_machine.specs.Tasks.{Step, Next, Over, Turn, onto, among, planted, starts}
 use Rattle.verse_code_machine.specs.Tasks.{waits_of, same_path}
 use Rattle.verse_code_machine.specs.Tasks.{since, beneath_arms}
 use Rattle.verse_code_machine.specs.Cancelling.{inserted, without, world_without, cancelled, on_deferred}
@@ -25,41 +25,40 @@ use Rattle.verse_code_machine.specs.Ends.{rested, suspends, is_run}
 use Rattle.verse_code_machine.specs.Ends.{with_did, joined, climbs, part_ends, root_ends, role_ends, ends_role, ends}
 use Rattle.verse_code_machine.specs.Ends.{returns_role, returns}
 use Rattle.verse_code_machine.specs.Ends.{follows, cleared, is_asleep, woken, woken_in}
-use Rattle.verse_code_machine_births.specs.Everywhere.{FrameIs, FramesAre, ThreadIs, TasksAre, TreesAre, AfterIs}
-use Rattle.verse_code_machine_births.specs.Everywhere.{UpsAre, WorldIs}
+use Rattle.verse_code_machine_births.specs.Everywhere as every
+use Rattle.verse_code_machine_births.specs.Everywhere.{WorldIs}
+use Rattle.verse_code_machine_births.proofs.Kept.{is_new, Comes, same_frames, new_child, moved, bared, Kept}
+use Rattle.verse_code_machine_births.proofs.Kept as kept
 
--- The steps that are left are not above one bound. What holds of all frames and tasks holds of a frame that begins
--- with
--- the steps that are then left, and of a task that begins, since it spends a step.
-module _ (most : ℕ) (Born : ℕ → Type 0) (Named : Who → Type 0) (new : (w : Who) → w.number < most → Named w) where
+-- so many steps are left before the operation
+module _ (most : ℕ) (F : Who → List Frame → Type 0) (R : Thread → List Part → Type 0) (OfTask : Task → Type 0)
+    (OfBegins : Thread → List Part → ℕ → Type 0) (law : Kept most F R OfTask OfBegins) where
   abbrev pub Is : State → Type 0
-  Is s = s.clock.left ≤ most
-
-  abbrev pub FramesIn : List Frame → Type 0
-  FramesIn = FramesAre Born Named
+  Is s = s.clock.left ≡ most
 
   abbrev pub ThreadIn : Thread → Type 0
-  ThreadIn = ThreadIs Born Named
+  ThreadIn = kept.OfThread F R
 
   abbrev pub TasksIn : List Task → Type 0
-  TasksIn = TasksAre Born Named
+  TasksIn = every.TasksAre ThreadIn OfTask OfBegins
 
   abbrev pub TreesIn : List (List Task) → Type 0
-  TreesIn = TreesAre Born Named
+  TreesIn = every.TreesAre ThreadIn OfTask OfBegins
 
   abbrev pub AfterIn : After → Type 0
-  AfterIn = AfterIs Born Named
+  AfterIn = every.AfterIs ThreadIn OfTask OfBegins
+
+  abbrev pub UpsIn : List Up → Type 0
+  UpsIn = every.UpsAre ThreadIn OfTask OfBegins
 
   abbrev pub WorldIn : World → Type 0
-  WorldIn = WorldIs Born Named
+  WorldIn = WorldIs ThreadIn OfTask OfBegins
 
   abbrev pub Others : List Task → List Task → List Up → Trees → Type 0
-  Others pre post us trees = WorldIs Born Named (world pre post us trees)
+  Others pre post us trees = WorldIn (world pre post us trees)
 
   abbrev pub StepIs : Step → Type 0
-  StepIs (Next m) = Is m.state × (Named m.who × ((Born m.state.clock.left → FrameIs Born Named m.frame) × (FramesIn
-      m.below ×
-      WorldIn m.world)))
+  StepIs (Next m) = Comes most F m.who (m.frame ∷ m.below) m.state.clock.left × WorldIn m.world
   StepIs (Over e s) = Unit {0}
   StepIs (Turn s tss) = Is s × TreesIn tss
 
@@ -69,10 +68,14 @@ module _ (most : ℕ) (Born : ℕ → Type 0) (Named : Who → Type 0) (new : (w
   pub over : {e : Ending} {s : State} → Low (Over e s)
   over = record { holds = tt }
 
-  pub others : {pre post : List Task} {us : List Up} {trees : Trees} → TasksIn pre → TasksIn post → UpsAre Born Named
-      us →
-      TreesIn trees.before →
-      TreesIn trees.behind → Others pre post us trees
+  least : {n : ℕ} → n ≡ most → n ≤ most
+  least e = omega (arith, e)
+
+  lower : {n : ℕ} → suc n ≡ most → n ≤ most
+  lower e = omega (arith, e)
+
+  pub others : {pre post : List Task} {us : List Up} {trees : Trees} → TasksIn pre → TasksIn post → UpsIn us →
+      TreesIn trees.before → TreesIn trees.behind → Others pre post us trees
   others a b c d e = record { pre = a; post = b; ups = c; before = d; behind = e }
 
   pub onto_are : (xs ts : List Task) → TasksIn xs → TasksIn ts → TasksIn (onto xs ts)
@@ -87,7 +90,7 @@ module _ (most : ℕ) (Born : ℕ → Type 0) (Named : Who → Type 0) (new : (w
   trees_are [] ts a b = b
   trees_are (x ∷ xs) ts a b = (a.0, trees_are xs ts a.1 b)
 
-  pub inserted_are : (t : Task) (ts : List Task) → ThreadIn t.thread → TasksIn ts → TasksIn (inserted t ts)
+  pub inserted_are : (t : Task) (ts : List Task) → OfTask t → TasksIn ts → TasksIn (inserted t ts)
   inserted_are t [] a b = (a, b)
   inserted_are t (x ∷ xs) a b =
       cond_both (starts t.thread.who.path x.thread.who.path) (x ∷ inserted t xs) (t ∷ x ∷ xs) TasksIn (λ e. (
@@ -122,32 +125,31 @@ module _ (most : ℕ) (Born : ℕ → Type 0) (Named : Who → Type 0) (new : (w
       )) (λ e.
       gone_behind_are f ts a.1)
 
-  pub spending_low : (k : ℕ) (s : State) (go : State → Step) → k ≤ most → ((l : ℕ) → l < most → l ≤ most → Low (go
-      (stepped l s))) →
-      Low (spending k s (Over ending.Steps s) go)
+  pub spending_low : (k : ℕ) (s : State) (go : State → Step) → k ≡ most →
+      ((l : ℕ) → suc l ≡ most → Low (go (stepped l s))) → Low (spending k s (Over ending.Steps s) go)
   spending_low zero s go h f = over
-  spending_low (suc l) s go h f = f l (omega (arith, h)) (omega (arith, h))
+  spending_low (suc l) s go h f = f l h
 
   pub resumes_low : (x : Thread) (v : Val) (o : World) (s : State) → Is s →
       ThreadIn x → WorldIn o → Low (resumes x v o s)
-  resumes_low x v o s h a b = record { holds = (h, (a.0, (λ e. a.1.0, (a.1.1, b)))) }
+  resumes_low x v o s h a b = record {
+    holds = (same_frames (least h) (law.becomes x.who x.frame _ x.below (moved refl refl) a), b);
+  }
 
   -- cancelling
   deferred_low : (rest : Step) (x : Who) (o : World) (s : State) (f : Frame) (fs : List Frame) (ds : List ℕ) →
-      Is s → Named x → FramesIn (f ∷ fs) → WorldIn o → Low rest → Low (on_deferred ds rest (λ q ds. clears_frame x o
-      s f fs q ds))
-  deferred_low rest x o s f fs [] h p a b l = l
-  deferred_low rest x o s f fs (q ∷ ds) h p a b l = spending_low s.clock.left s _ h (λ k d e. record {
-    holds = (e, (p, (λ g. (a.0.0, tt), (a.1, b))));
+      Is s → F x (f ∷ fs) → WorldIn o → Low rest → Low (on_deferred ds rest (λ q ds. clears_frame x o s f fs q ds))
+  deferred_low rest x o s f fs [] h a b l = l
+  deferred_low rest x o s f fs (q ∷ ds) h a b l = spending_low s.clock.left s _ h (λ k d. record {
+    holds = (same_frames (lower d) (law.becomes x f _ fs (bared refl refl) a), b);
   })
 
   pub frames_low : (next : State → Step) (x : Who) (o : World) (s : State) (fs : List Frame) →
-      Is s → Named x → FramesIn fs → WorldIn o → Low (next s) →
-      Low (clears_frames next x o s fs)
-  frames_low next x o s [] h p a b l = l
-  frames_low next x o s (f ∷ fs) h p a b l =
-      deferred_low (clears_frames next x o s fs) x o s f fs f.life.defers h p a b (frames_low next x o s fs h p a.1 b
-      l)
+      Is s → F x fs → WorldIn o → Low (next s) → Low (clears_frames next x o s fs)
+  frames_low next x o s [] h a b l = l
+  frames_low next x o s (f ∷ fs) h a b l =
+      deferred_low (clears_frames next x o s fs) x o s f fs f.life.defers h a b
+      (frames_low next x o s fs h (law.left x f fs a) b l)
 
   -- what follows where all is cancelled, in any world that is no heavier
   abbrev pub Follows : (World → State → Step) → After → Type 0
@@ -162,7 +164,7 @@ module _ (most : ℕ) (Born : ℕ → Type 0) (Named : Who → Type 0) (new : (w
   clears_low last after (t ∷ ts) o s f h a b c =
       frames_low (λ s. clears last after ts o s) t.thread.who (world o.pre o.post (clearing after ts ∷ o.ups)
       o.trees) s (t.thread.frame ∷
-      t.thread.below) h b.0.0 b.0.1
+      t.thread.below) h (law.thread t b.0)
       (others c.pre c.post ((a, b.1), c.ups) c.before c.behind) (clears_low last after ts o s f h a b.1 c)
 
   pub cancels_low : (last : World → State → Step) (after : After) (f : List ℕ → Bool) (o : World) (s : State) →
@@ -190,54 +192,45 @@ module _ (most : ℕ) (Born : ℕ → Type 0) (Named : Who → Type 0) (new : (w
   resuming_low : (x : Thread) (v : Val) → Follows (λ o s. resumes x v o s) (resuming x v)
   resuming_low x v o s h a b = resumes_low x v o s h a b
 
+  -- what follows where the task rests
+  abbrev pub Stands : Thread → (Task → Step) → Type 0
+  Stands x stands = (r : Rest) → kept.OfRest F R x r → Low (stands (record { thread = x; rest = r }))
+
   pub grouped_low : (k : Kind) (p : Place) (gs : List Part) (x : Thread) (o : World) (s : State) (stands : Task →
       Step) →
-      Is s → ThreadIn x → WorldIn o →
-      ((r : Rest) → Low (stands (record { thread = x; rest = r }))) → Low (grouped k p gs x o s stands)
-  grouped_low sync p gs x o s stands h a b f =
-      stands_low (all_did gs) _ _ (f (group sync p gs)) (λ vs. tupled_low p (tuple_of vs) x o s h a b)
-  grouped_low race p gs x o s stands h a b f = stands_low (first_did gs) _ _ (f (group race p gs)) (λ v.
+      Is s → ThreadIn x → R x gs → WorldIn o → Stands x stands → Low (grouped k p gs x o s stands)
+  grouped_low sync p gs x o s stands h a g b f =
+      stands_low (all_did gs) _ _ (f (group sync p gs) g) (λ vs. tupled_low p (tuple_of vs) x o s h a b)
+  grouped_low race p gs x o s stands h a g b f = stands_low (first_did gs) _ _ (f (group race p gs) g) (λ v.
       cancels_low (λ o s. resumes x v o s) (resuming x v) (beneath_arms x.who.path gs) o s (resuming_low x v) h a b)
-  grouped_low rush p gs x o s stands h a b f = stands_low (first_did gs) _ _ (f (group rush p gs)) (λ v.
+  grouped_low rush p gs x o s stands h a g b f = stands_low (first_did gs) _ _ (f (group rush p gs) g) (λ v.
       resumes_low x v o s h a b)
 
   pub next_low : (k : Kind) (p : Place) (gs : List Part) (ls : List ℕ) (x : Thread) (pre post : List Task) (us : List
       Up) (trees : Trees)
       (s : State) (stands : Task → Step) →
-      Is s → ThreadIn x → Others pre post us trees → ((r : Rest) →
-      Low (stands (record { thread = x; rest = r }))) →
+      Is s → ThreadIn x → R x gs → Others pre post us trees → Stands x stands →
       Low (next_arm k p gs ls x pre post us trees s stands)
-  next_low k p gs [] x pre post us trees s stands h a b f = grouped_low k p gs x (world pre post us trees) s stands h
-      a b f
-  next_low k p gs (l ∷ ls) x pre post us trees s stands h a b f = spending_low s.clock.left s _ h (λ m d e. record {
+  next_low k p gs [] x pre post us trees s stands h a g b f =
+      grouped_low k p gs x (world pre post us trees) s stands h a g b f
+  next_low k p gs (l ∷ ls) x pre post us trees s stands h a g b f = spending_low s.clock.left s _ h (λ m d. record {
     holds = (
-      e,
-      (
-        new (child_named x.who m) d,
-        (
-          λ g. (g, tt),
-          (
-            tt,
-            others b.pre b.post (a, b.ups) b.before
-                b.behind,
-          ),
-        ),
-      ),
+      new_child {g = x.frame} {fs = x.below} d is_new a,
+      others b.pre b.post (law.begins x gs m d a g, b.ups) b.before b.behind,
     );
   })
 
   pub did_low : (k : Kind) (p : Place) (gs : List Part) (ls : List ℕ) (x : Thread) (pre post : List Task) (us : List
       Up) (trees : Trees)
       (s : State) (stands : Task → Step) →
-      Is s → ThreadIn x → Others pre post us trees → ((r : Rest) →
-      Low (stands (record { thread = x; rest = r }))) →
+      Is s → ThreadIn x → R x gs → Others pre post us trees → Stands x stands →
       Low (arm_did k p gs ls x pre post us trees s stands)
-  did_low sync p gs ls x pre post us trees s stands h a b f = next_low sync p gs ls x pre post us trees s stands
-      h a b f
-  did_low race p gs ls x pre post us trees s stands h a b f = grouped_low race p gs x (world pre post us
-      trees) s stands h a b f
-  did_low rush p gs ls x pre post us trees s stands h a b f = next_low rush p gs ls x pre post us trees s
-      stands h a b f
+  did_low sync p gs ls x pre post us trees s stands h a g b f =
+      next_low sync p gs ls x pre post us trees s stands h a g b f
+  did_low race p gs ls x pre post us trees s stands h a g b f =
+      grouped_low race p gs x (world pre post us trees) s stands h a g b f
+  did_low rush p gs ls x pre post us trees s stands h a g b f =
+      next_low rush p gs ls x pre post us trees s stands h a g b f
 
   -- no task runs
   turn_low : (pre post : List Task) (trees : Trees) (s : State) → Is s →
@@ -255,12 +248,11 @@ module _ (most : ℕ) (Born : ℕ → Type 0) (Named : Who → Type 0) (new : (w
       Is s → Others pre post us trees → Low (rested pre post us trees s)
   rested_low [] pre post trees s h b = turn_low pre post trees s h b.pre b.post b.before b.behind
   rested_low (begins x k p gs m ls ∷ us) pre post trees s h b =
-      next_low k p (gs ++ runs m ∷ []) ls x pre post us trees s (λ y. rested (y ∷ pre) post us trees s) h b.ups.0
-      (others
-      b.pre b.post b.ups.1 b.before b.behind)
-      (λ r. rested_low us (record { thread = x; rest = r } ∷ pre) post trees s h (others (b.ups.0, b.pre) b.post
-      b.ups.1
-      b.before b.behind))
+      let own = law.begun x gs m b.ups.0 in
+      next_low k p (gs ++ runs m ∷ []) ls x pre post us trees s (λ y. rested (y ∷ pre) post us trees s) h own.0 own.1
+      (others b.pre b.post b.ups.1 b.before b.behind)
+      (λ r g. rested_low us (record { thread = x; rest = r } ∷ pre) post trees s h
+      (others (law.rests x r own.0 g, b.pre) b.post b.ups.1 b.before b.behind))
   rested_low (branching x ∷ us) pre post trees s h b =
       resumes_low x unit (world pre post us trees) s h b.ups.0 (others b.pre b.post b.ups.1 b.before b.behind)
   rested_low (spawning x entry ps qs ∷ us) pre post trees s h b =
@@ -276,29 +268,27 @@ module _ (most : ℕ) (Born : ℕ → Type 0) (Named : Who → Type 0) (new : (w
       ThreadIn x → WorldIn o → Low (suspends c x o s)
   suspends_low c x o s h a b =
       rested_low o.ups (record { thread = x; rest = asleep (waiting c s) } ∷ o.pre) o.post o.trees (drawn s) h (others
-      (a, b.pre) b.post b.ups b.before b.behind)
+      (law.rests x (asleep (waiting c s)) a tt, b.pre) b.post b.ups b.before b.behind)
 
   -- the end of a task
   joined_low : (number : ℕ) (v : Val) (r : Rest) (y : Task) (pre post : List Task) (trees : Trees) (s : State) →
-      Is s → ThreadIn y.thread →
-      Others pre post [] trees → Low (joined number v r y pre post trees s)
-  joined_low m v (asleep x) y pre post trees s h a b =
+      Is s → OfTask y → kept.OfRest F R y.thread r → Others pre post [] trees →
+      Low (joined number v r y pre post trees s)
+  joined_low m v (asleep x) y pre post trees s h a g b =
       turn_low pre (y ∷ post) trees s h b.pre (a, b.post) b.before b.behind
-  joined_low m v (group k p gs) y pre post trees s h a b = cond_both (is_run m gs) _ _ (λ z. Low z)
+  joined_low m v (group k p gs) y pre post trees s h a g b = cond_both (is_run m gs) _ _ (λ z. Low z)
       (λ e. grouped_low k p (with_did m v gs) y.thread (world pre post [] trees) s (λ y. rested (y ∷ pre) post []
-      trees s) h a b
-      (λ r. rested_low [] (record {
-        thread = y.thread;
-        rest =
-            r;
-      } ∷ pre) post trees s h (others (a, b.pre) b.post tt b.before b.behind)))
+      trees s) h (law.thread y a) (law.gives y.thread gs m v g) b
+      (λ r g. rested_low [] (record { thread = y.thread; rest = r } ∷ pre) post trees s h
+      (others (law.rests y.thread r (law.thread y a) g, b.pre) b.post tt b.before b.behind)))
       (λ e. turn_low pre (y ∷ post) trees s h b.pre (a, b.post) b.before b.behind)
 
   climbs_low : (up : List ℕ) (number : ℕ) (v : Val) (pre post : List Task) (trees : Trees) (s : State) →
       Is s → Others pre post [] trees → Low (climbs up number v pre post trees s)
   climbs_low up m v pre [] trees s h b = over
   climbs_low up m v pre (y ∷ post) trees s h b = cond_both (same_path up y.thread.who.path) _ _ (λ z. Low z)
-      (λ e. joined_low m v y.rest y pre post trees s h b.post.0 (others b.pre b.post.1 tt b.before b.behind))
+      (λ e. joined_low m v y.rest y pre post trees s h b.post.0 (law.rest y b.post.0)
+      (others b.pre b.post.1 tt b.before b.behind))
       (λ e. climbs_low up m v (y ∷ pre) post trees s h (others (b.post.0, b.pre) b.post.1 tt b.before b.behind))
 
   part_low : (us : List Up) (up : List ℕ) (number : ℕ) (v : Val) (pre post : List Task) (trees : Trees) (s : State) →
@@ -306,12 +296,11 @@ module _ (most : ℕ) (Born : ℕ → Type 0) (Named : Who → Type 0) (new : (w
       Low (part_ends up number v pre post us trees s)
   part_low [] up m v pre post trees s h b = climbs_low up m v pre post trees s h b
   part_low (begins x k p gs l ls ∷ us) up m v pre post trees s h b =
-      did_low k p (gs ++ did v ∷ []) ls x pre post us trees s (λ y. rested (y ∷ pre) post us trees s) h b.ups.0
-      (others
-      b.pre b.post b.ups.1 b.before b.behind)
-      (λ r. rested_low us (record { thread = x; rest = r } ∷ pre) post trees s h (others (b.ups.0, b.pre) b.post
-      b.ups.1
-      b.before b.behind))
+      let own = law.begun x gs l b.ups.0 in
+      did_low k p (gs ++ did v ∷ []) ls x pre post us trees s (λ y. rested (y ∷ pre) post us trees s) h own.0
+      (law.gave x gs l v own.1) (others b.pre b.post b.ups.1 b.before b.behind)
+      (λ r g. rested_low us (record { thread = x; rest = r } ∷ pre) post trees s h
+      (others (law.rests x r own.0 g, b.pre) b.post b.ups.1 b.before b.behind))
   part_low (branching x ∷ us) up m v pre post trees s h b =
       resumes_low x unit (world pre post us trees) s h b.ups.0 (others b.pre b.post b.ups.1 b.before b.behind)
   part_low (spawning x entry ps qs ∷ us) up m v pre post trees s h b = over
@@ -364,12 +353,12 @@ module _ (most : ℕ) (Born : ℕ → Type 0) (Named : Who → Type 0) (new : (w
   returns_role_low part x o born v s h b = over
 
   pub returns_low : (x : Who) (o : World) (born : ℕ) (v : Val) (s : State) (hs : List Handler) (bl : List Frame) →
-      Is s → Named x → FramesIn bl → WorldIn o → Low (returns x o born v s hs bl)
-  returns_low x o born v s (g ∷ hs) bl h p a b = over
-  returns_low x o born v s [] [] h p a b = returns_role_low x.role x o born v s h b
-  returns_low x o born v s [] (f ∷ bl) h p a b =
+      Is s → F x bl → WorldIn o → Low (returns x o born v s hs bl)
+  returns_low x o born v s (g ∷ hs) bl h a b = over
+  returns_low x o born v s [] [] h a b = returns_role_low x.role x o born v s h b
+  returns_low x o born v s [] (f ∷ bl) h a b =
       cancels_low (λ o s. resumes (thread x f bl) v o s) (resuming (thread x f bl) v) (since x.path born) o s
-      (resuming_low (thread x f bl) v) h (p, a) b
+      (resuming_low (thread x f bl) v) h a b
 
   follows_low : (after : After) → Follows (follows after) after
   follows_low (resuming x v) o s h a b = resumes_low x v o s h a b
@@ -392,8 +381,8 @@ module _ (most : ℕ) (Born : ℕ → Type 0) (Named : Who → Type 0) (new : (w
       Is s → Others pre post [] trees → Low (woken m v pre post trees s)
   woken_low m v pre [] trees s h b = over
   woken_low m v pre (y ∷ post) trees s h b = cond_both (is_asleep m y.rest) _ _ (λ z. Low z)
-      (λ e. resumes_low y.thread v (world pre post [] trees) s h b.post.0 (others b.pre b.post.1 tt b.before
-      b.behind))
+      (λ e. resumes_low y.thread v (world pre post [] trees) s h (law.thread y b.post.0)
+      (others b.pre b.post.1 tt b.before b.behind))
       (λ e. woken_low m v (y ∷ pre) post trees s h (others (b.post.0, b.pre) b.post.1 tt b.before b.behind))
 
   pub woken_in_low : (m : ℕ) (v : Val) (before behind : List (List Task)) (s : State) →

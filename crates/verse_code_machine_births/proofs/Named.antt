@@ -1,17 +1,17 @@
 -- Each task that stands after an operation stood before it, or has a number below the steps that were left.
-use Rattle.std.proofs.Common.{ℕ, ◌<◌, inl, inr, List, [], ◌∷◌, ◌++◌}
+use Rattle.std.proofs.Common.{ℕ, ◌<◌, refl, inl, inr, List, [], ◌∷◌, ◌++◌}
 use Rattle.verse_code_machine.specs.Tasks.{Handler, Frame, Who, Thread, Task, After, resuming, closing, finishing, Up}
 use Rattle.verse_code_machine.specs.Tasks.{begins, branching, spawning, clearing, World, Machine, Step, Next, Over}
 use Rattle.verse_code_machine.specs.Tasks.{Turn}
 use Rattle.verse_code_machine.specs.Ends.{woken_in}
 use Rattle.verse_code_machine.specs.Runs.{step, Forest}
-use Rattle.verse_code_machine_births.specs.Everywhere.{HandlersAre, FramesAre, ThreadIs, TasksAre, TreesAre, AfterIs}
-use Rattle.verse_code_machine_births.specs.Everywhere.{UpIs, UpsAre, WorldIs, MachineIs}
+use Rattle.verse_code_machine_births.specs.Framed.{HandlersAre, FramesAre, ThreadIs, TasksAre, TreesAre, AfterIs}
+use Rattle.verse_code_machine_births.specs.Framed.{TaskIs, BeginsIs, UpIs, UpsAre, WorldIs, MachineIs}
 use Rattle.verse_code_machine_births.specs.Later.{whos, tree_whos, after_whos, up_whos, ups_whos, world_whos, In}
 use Rattle.verse_code_machine_births.specs.Later.{here, later}
 use Rattle.verse_code_machine_births.specs.Later.{StoodOrBelow, Any, StepNamed, NewBelow, WokenBelow}
 use Rattle.verse_code_machine_births.proofs.Ends.{Low, woken_in_low}
-use Rattle.verse_code_machine_births.proofs.Runs.{same, step_low}
+use Rattle.verse_code_machine_births.proofs.Runs.{AnyArms, Held, framed_kept, step_low, running_so}
 
 in_first : (w : Who) (xs ys : List Who) → In w xs → In w (xs ++ ys)
 in_first w [] ys i = elim i [ ]
@@ -99,14 +99,12 @@ module _ (Named : Who → Type 0) where
     world = world_named m.world (λ w i. f w (later i));
   }
 
-  named_then : (most : ℕ) (new : (w : Who) → w.number < most → Named w) (q : Step) → Low most Any Named new q →
+  named_then : (most : ℕ) → ((w : Who) → w.number < most → Named w) → (q : Step) →
+      Low most (Held Any Named) AnyArms (TaskIs Any Named) (BeginsIs Any Named) (framed_kept Any Named most) q →
       StepNamed Named q
-  named_then most new (Next m) low = record {
-    who = low.holds.1.0;
-    frame = low.holds.1.1.0 tt;
-    below = low.holds.1.1.1.0;
-    world = low.holds.1.1.1.1;
-  }
+  named_then most new (Next m) low =
+      let own = running_so Any Named Any (λ n g. g) most new m.who m.frame m.below m.state.clock.left tt low.holds.0 in
+      record { who = own.0; frame = own.1.0; below = own.1.1; world = low.holds.1 }
   named_then most new (Over e s) low = tt
   named_then most new (Turn s tss) low = low.holds.1
 
@@ -115,14 +113,13 @@ new_below c m =
     let left = m.state.clock.left in
     let ws = m.who ∷ world_whos m.world in
     let new : (w : Who) → w.number < left → StoodOrBelow ws left w = λ w h. inr h in
-    named_then (StoodOrBelow ws left) left new (step c m) (step_low Any (StoodOrBelow ws left) c m new
+    named_then (StoodOrBelow ws left) left new (step c m) (step_low Any (StoodOrBelow ws left) c m
     (machine_named (StoodOrBelow ws left) m (λ w i. inl i)))
 
 pub woken_below : WokenBelow
 woken_below number v s tss =
     let left = s.clock.left in
-    let ws = tree_whos tss in
-    let new : (w : Who) → w.number < left → StoodOrBelow ws left w = λ w h. inr h in
-    named_then (StoodOrBelow ws left) left new (woken_in number v [] tss s) (woken_in_low left Any
-    (StoodOrBelow ws left) new number v [] tss s (same left) tt (trees_named (StoodOrBelow ws left) tss (λ w i. inl
-    i)))
+    let N = StoodOrBelow (tree_whos tss) left in
+    let new : (w : Who) → w.number < left → N w = λ w h. inr h in
+    named_then N left new (woken_in number v [] tss s) (woken_in_low left (Held Any N) AnyArms (TaskIs Any N)
+    (BeginsIs Any N) (framed_kept Any N left) number v [] tss s refl tt (trees_named N tss (λ w i. inl i)))

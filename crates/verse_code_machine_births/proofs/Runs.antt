@@ -1,27 +1,27 @@
 -- In every state of a run the frames began when no fewer steps were left; what begins has a number below those that
 -- were left.
-use Rattle.std.proofs.Common.{◌≡◌, ◌<◌, ◌≤◌, ℕ, zero, suc, List, [], ◌∷◌, Option, Some, None, Bool, true, false, cond}
-use Rattle.std.proofs.Common.{nat_lt, refl, arith}
+use Rattle.std.proofs.Common.{◌≡◌, ◌<◌, ◌≤◌, ℕ, suc, List, [], ◌∷◌, Option, Some, None, refl, sym, subst, arith}
 use Rattle.std.specs.Prelude.{ℤ, slice_get}
 use Rattle.verse_code.specs.declared.codes.Func.{Func}
 use Rattle.verse_code.specs.declared.codes.Code.{Code}
-use Rattle.verse_value.specs.declared.runs.Ending.TheVariants as ending
-use Rattle.verse_meaning_state.specs.State.{State, begun, spending, stepped, at_moment}
-use Rattle.verse_meaning_state.specs.Waits.{Wait, Due, least}
-use Rattle.verse_meaning_state.specs.Turns.{Stage, going, closed, broken, amiss, turn, turn_at, turns}
-use Rattle.verse_code_machine.specs.Tasks.{Handler, Frame, Who, Thread, Task, After, resuming, closing, finishing, Up}
+use Rattle.verse_value.specs.Val.{Val}
+use Rattle.verse_meaning_state.specs.State.{State, begun}
+use Rattle.verse_code_machine.specs.Tasks.{Handler, Frame, Who, Part, Rest, asleep, group, Thread, Task, After, resuming}
+use Rattle.verse_code_machine.specs.Tasks.{closing, finishing, Up}
 use Rattle.verse_code_machine.specs.Tasks.{begins, branching, spawning, clearing, World, Machine, Step, Next, Over}
 use Rattle.verse_code_machine.specs.Tasks.{Turn}
-use Rattle.verse_code_machine.specs.Tasks.{tree_waits}
 use Rattle.verse_code_machine.specs.Frames.{on_there}
 use Rattle.verse_code_machine.specs.Ends.{woken_in}
-use Rattle.verse_code_machine.specs.Runs.{step, carried, room, Forest, stage_of, turn_taken, main_starts, started}
-use Rattle.verse_code_machine_births.specs.Everywhere.{HandlersAre, FrameIs, FramesAre, ThreadIs, TasksAre, TreesAre}
-use Rattle.verse_code_machine_births.specs.Everywhere.{AfterIs, UpIs, UpsAre, WorldIs, MachineIs}
-use Rattle.verse_code_machine_births.specs.Births.{Anyone, TreesBorn, StepBorn, StageBorn, OperationKeepsBirths}
+use Rattle.verse_code_machine.specs.Runs.{step, Forest, main_starts, started}
+use Rattle.verse_code_machine_births.specs.Framed.{HandlersAre, FrameIs, FramesAre, ThreadIs, TaskIs, BeginsIs, TasksAre}
+use Rattle.verse_code_machine_births.specs.Framed.{TreesAre, AfterIs, UpIs, UpsAre, WorldIs, MachineIs}
+use Rattle.verse_code_machine_births.specs.Births.{Anyone, TreesBorn, MachineBorn, StepBorn, OperationKeepsBirths}
 use Rattle.verse_code_machine_births.specs.Births.{RunKeepsBirths}
+use Rattle.verse_code_machine_births.proofs.Kept.{Becomes, moved, tried, released, failed, bared, IsNew, is_new, Comes}
+use Rattle.verse_code_machine_births.proofs.Kept.{same_frames, new_frame, new_child, new_root, OfRest, Kept}
 use Rattle.verse_code_machine_births.proofs.Ends.{Low, others, spending_low, woken_in_low}
 use Rattle.verse_code_machine_births.proofs.Acts.{there_low, act_low}
+use Rattle.verse_code_machine_births.proofs.Running.{Invariant, started_is, turns_is}
 
 -- what follows from what holds of all births
 module _ (Born Other : ℕ → Type 0) (Named : Who → Type 0) (so : (n : ℕ) → Born n → Other n) where
@@ -32,7 +32,7 @@ module _ (Born Other : ℕ → Type 0) (Named : Who → Type 0) (so : (n : ℕ) 
   frame_so : (f : Frame) → FrameIs Born Named f → FrameIs Other Named f
   frame_so f h = (so f.life.born h.0, handlers_so f.handlers h.1)
 
-  frames_so : (fs : List Frame) → FramesAre Born Named fs → FramesAre Other Named fs
+  pub frames_so : (fs : List Frame) → FramesAre Born Named fs → FramesAre Other Named fs
   frames_so [] h = tt
   frames_so (f ∷ fs) h = (frame_so f h.0, frames_so fs h.1)
 
@@ -82,101 +82,136 @@ module _ (Born Other : ℕ → Type 0) (Named : Who → Type 0) (so : (n : ℕ) 
 pub same : (n : ℕ) → n ≤ n
 same n = omega arith
 
-fewer_so : (a b n : ℕ) → a ≤ b → b ≤ n → a ≤ n
+pub fewer_so : (a b n : ℕ) → a ≤ b → b ≤ n → a ≤ n
 fewer_so a b n h g = omega (arith, h, g)
 
+step_fewer : (l k : ℕ) → suc l ≡ k → l ≤ k
+step_fewer l k e = omega (arith, e)
+
+step_below : (l k : ℕ) → suc l ≡ k → l < k
+step_below l k e = omega (arith, e)
+
+-- nothing is asked of arms
+abbrev pub AnyArms : Thread → List Part → Type 0
+AnyArms x gs = Unit {0}
+
 module _ (Born : ℕ → Type 0) (Named : Who → Type 0) where
-  pub step_low : (c : Code) (m : Machine) (new : (w : Who) → w.number < m.state.clock.left → Named w) →
-      MachineIs Born Named m → Low m.state.clock.left Born Named new (step c m)
-  step_low c m new h =
-      there_low m.state.clock.left Born Named new (slice_get c.ops m.frame.place) m.state _ (λ op. act_low
-      m.state.clock.left Born Named new m.who m.world m.state m.frame.life m.frame.place m.frame.handlers m.below
-      (same m.state.clock.left) h.who h.frame h.below h.world c op m.frame.locals m.frame.stack)
+  -- of a name and frames
+  abbrev pub Held : Who → List Frame → Type 0
+  Held w fs = Named w × FramesAre Born Named fs
 
--- the steps that are left then are no more than before, and with those as the bound the frames began so
-born_then : (most : ℕ) (q : Step) →
-    ((n : ℕ) → n ≤ most → Low most (λ born. n ≤ born) Anyone (λ w h. tt) q) → StepBorn q
-born_then most (Next m) f =
-    let low = (f m.state.clock.left (f most (same most)).holds.0).holds in
-    record { who = tt; frame = low.1.1.0 (same m.state.clock.left); below = low.1.1.1.0; world = low.1.1.1.1 }
-born_then most (Over e s) f = tt
-born_then most (Turn s tss) f = (f s.clock.left (f most (same most)).holds.0).holds.1
+  pub frame_becomes : (f g : Frame) → Becomes f g → FrameIs Born Named f → FrameIs Born Named g
+  frame_becomes f g (moved e d) a = (subst Born e a.0, subst (HandlersAre Born Named) d a.1)
+  frame_becomes f g (tried h e d i) a =
+      (subst Born e a.0, subst (HandlersAre Born Named) (sym i) (subst Born d a.0, a.1))
+  frame_becomes f g (released h e d) a = (subst Born e a.0, (subst (HandlersAre Born Named) d a.1).1)
+  frame_becomes f g (failed h e d) a =
+      (subst Born e (subst (HandlersAre Born Named) d a.1).0, (subst (HandlersAre Born Named) d a.1).1)
+  frame_becomes f g (bared e d) a = (subst Born e a.0, subst (HandlersAre Born Named) (sym d) tt)
 
-pub operation_births : OperationKeepsBirths
-operation_births c m h = born_then m.state.clock.left (step c m) (λ n fewer.
-    step_low (λ born. n ≤ born) Anyone c m (λ w h. tt) (machine_so (λ born. m.state.clock.left ≤ born)
-    (λ born. n ≤ born) Anyone (λ born g. fewer_so n m.state.clock.left born fewer g) m h))
+  any_rest : (x : Thread) (r : Rest) → OfRest Held AnyArms x r
+  any_rest x (asleep w) = tt
+  any_rest x (group k p gs) = tt
+
+  pub framed_kept : (most : ℕ) → Kept most Held AnyArms (TaskIs Born Named) (BeginsIs Born Named)
+  framed_kept most = record {
+    left = λ w f fs a. (a.0, a.1.1);
+    becomes = λ w f g fs b a. (a.0, (frame_becomes f g b a.1.0, a.1.1));
+    rests = λ x r a g. a;
+    thread = λ t a. a;
+    rest = λ t a. any_rest t.thread t.rest;
+    begins = λ x gs number e a g. a;
+    begun = λ x gs number a. (a, tt);
+    none = λ x. tt;
+    gave = λ x gs number v a. tt;
+    gives = λ x gs number v a. tt;
+  }
+
+  pub step_low : (c : Code) (m : Machine) → MachineIs Born Named m →
+      Low m.state.clock.left Held AnyArms (TaskIs Born Named) (BeginsIs Born Named) (framed_kept m.state.clock.left)
+      (step c m)
+  step_low c m h =
+      there_low m.state.clock.left Held AnyArms (TaskIs Born Named) (BeginsIs Born Named)
+      (framed_kept m.state.clock.left) (slice_get c.ops m.frame.place) m.state _ (λ op. act_low m.state.clock.left
+      Held AnyArms (TaskIs Born Named) (BeginsIs Born Named) (framed_kept m.state.clock.left) m.who m.world m.state
+      m.frame.life m.frame.place m.frame.handlers m.below refl (h.who, (h.frame, h.below)) h.world c op
+      m.frame.locals m.frame.stack)
+
+  -- the task that runs behind an operation, with what follows of all births, and holds of those of new frames
+  module _ (Other : ℕ → Type 0) (so : (n : ℕ) → Born n → Other n) (most : ℕ)
+      (new : (w : Who) → w.number < most → Named w) where
+    new_is : (left : ℕ) (f : Frame) → Other left → IsNew left f → FrameIs Other Named f
+    new_is left f own n = (subst Other (sym n.born) own, subst (HandlersAre Other Named) (sym n.bare) tt)
+
+    pub running_so : (w : Who) (f : Frame) (fs : List Frame) (left : ℕ) → Other left → Comes most Held w (f ∷ fs) left →
+        Named w × (FrameIs Other Named f × FramesAre Other Named fs)
+    running_so w f fs left own (same_frames e a) =
+        (a.0, (frame_so Born Other Named so f a.1.0, frames_so Born Other Named so fs a.1.1))
+    running_so w f (g ∷ fs) left own (new_frame e n a) =
+        (a.0, (new_is left f own n, frames_so Born Other Named so (g ∷ fs) a.1))
+    running_so w f [] left own (new_child e n a) = (new w (step_below left most e), (new_is left f own n, tt))
+    running_so w f [] left own (new_root e n) = (new w (step_below left most e), (new_is left f own n, tt))
+
+pub comes_few : (most : ℕ) (H : Who → List Frame → Type 0) (w : Who) (fs : List Frame) (left : ℕ) →
+    Comes most H w fs left → left ≤ most
+comes_few most H w fs left (same_frames e a) = e
+comes_few most H w fs left (new_frame e n a) = step_fewer left most e
+comes_few most H w fs left (new_child e n a) = step_fewer left most e
+comes_few most H w fs left (new_root e n) = step_fewer left most e
+
+-- while so many steps are left
+abbrev pub Least : ℕ → ℕ → Type 0
+Least most born = most ≤ born
 
 trees_fewer : (a b : ℕ) (tss : Forest) → a ≤ b → TreesBorn b tss → TreesBorn a tss
-trees_fewer a b tss fewer h = trees_so (λ born. b ≤ born) (λ born. a ≤ born) Anyone (λ born g. fewer_so a b born
-    fewer g) tss h
+trees_fewer a b tss fewer h = trees_so (Least b) (Least a) Anyone (λ born g. fewer_so a b born fewer g) tss h
+
+-- the steps that are left then are no more than before, and all frames began with no fewer
+born_then : (most : ℕ) (q : Step) → Low most (Held (Least most) Anyone) AnyArms (TaskIs (Least most) Anyone)
+    (BeginsIs (Least most) Anyone) (framed_kept (Least most) Anyone most) q → StepBorn q
+born_then most (Next m) low =
+    let l = m.state.clock.left in
+    let few : l ≤ most = comes_few most (Held (Least most) Anyone) m.who (m.frame ∷ m.below) l low.holds.0 in
+    let so : (born : ℕ) → Least most born → Least l born = λ born g. fewer_so l most born few g in
+    let own = running_so (Least most) Anyone (Least l) so most (λ w h. tt) m.who m.frame m.below l (same l) low.holds.0 in
+    record {
+      who = tt;
+      frame = own.1.0;
+      below = own.1.1;
+      world = world_so (Least most) (Least l) Anyone so m.world low.holds.1;
+    }
+born_then most (Over e s) low = tt
+born_then most (Turn s tss) low = subst (λ l. TreesBorn l tss) (sym low.holds.0) low.holds.1
+
+pub operation_births : OperationKeepsBirths
+operation_births c m h =
+    born_then m.state.clock.left (step c m) (step_low (Least m.state.clock.left) Anyone c m h)
 
 -- a wait is woken
-woken_births : (number : ℕ) (v : _) (s : State) (tss : Forest) → TreesBorn s.clock.left tss →
+woken_births : (number : ℕ) (v : Val) (s : State) (tss : Forest) → TreesBorn s.clock.left tss →
     StepBorn (woken_in number v [] tss s)
-woken_births number v s tss h = born_then s.clock.left (woken_in number v [] tss s) (λ n fewer.
-    woken_in_low s.clock.left (λ born. n ≤ born) Anyone (λ w h. tt) number v [] tss s (same s.clock.left) tt
-    (trees_fewer n s.clock.left tss fewer h))
+woken_births number v s tss h =
+    let l = s.clock.left in
+    born_then l (woken_in number v [] tss s) (woken_in_low l (Held (Least l) Anyone) AnyArms (TaskIs (Least l) Anyone)
+    (BeginsIs (Least l) Anyone) (framed_kept (Least l) Anyone l) number v [] tss s refl tt h)
 
 main_births : (ns : List ℤ) (steps : ℕ) (f : Option Func) →
     StepBorn (on_there f (begun steps) (λ f. main_starts ns (begun steps) f))
-main_births ns steps f = born_then steps (on_there f (begun steps) (λ f. main_starts ns (begun steps) f)) (λ n fewer.
-    there_low steps (λ born. n ≤ born) Anyone (λ w h. tt) f (begun steps) _ (λ (f : Func). spending_low steps
-    (λ born. n ≤ born) Anyone (λ w h. tt) steps (begun steps) _ (same steps) (λ l d e. record {
-      holds = (
-        e,
-        (tt, (λ h. (h, tt), (tt, others steps (λ born. n ≤ born) Anyone (λ w h. tt) tt tt tt tt tt))),
-      );
+main_births ns steps f =
+    let law = framed_kept (Least steps) Anyone steps in
+    let H = Held (Least steps) Anyone in
+    let T = TaskIs (Least steps) Anyone in
+    let B = BeginsIs (Least steps) Anyone in
+    born_then steps (on_there f (begun steps) (λ f. main_starts ns (begun steps) f))
+    (there_low steps H AnyArms T B law f (begun steps) _ (λ (f : Func). spending_low steps H AnyArms T B law steps
+    (begun steps) _ refl (λ l d. record {
+      holds = (new_root d is_new, others steps H AnyArms T B law tt tt tt tt tt);
     })))
 
-module _ (c : Code) where
-  carried_births : (n : ℕ) (q : Step) → StepBorn q → StepBorn (carried c n q)
-  carried_births zero q h = h
-  carried_births (suc n) (Next m) h = carried_births n (step c m) (operation_births c m h)
-  carried_births (suc n) (Over e s) h = h
-  carried_births (suc n) (Turn s tss) h = h
-
-  stage_births : (q : Step) → StepBorn q → StageBorn (stage_of q)
-  stage_births (Next m) h = tt
-  stage_births (Over e s) h = h
-  stage_births (Turn s tss) h = h
-
-  spent_births : (steps left : ℕ) (s : State) (tss : Forest) (d : Due) → s.clock.left ≡ left →
-      TreesBorn s.clock.left tss →
-      StageBorn (spending left s (closed ending.Steps s tss) (λ s. stage_of (carried c (room c steps) (woken_in
-      d.number d.given.value [] tss (at_moment d.given.moment s)))))
-  spent_births steps zero s tss d e h = h
-  spent_births steps (suc l) s tss d e h =
-      stage_births _ (carried_births (room c steps) _ (woken_births d.number d.given.value (at_moment d.given.moment
-      (stepped l s)) tss (trees_fewer l s.clock.left tss (omega (arith, e)) h)))
-
-  late_births : (late : Bool) (g h : Stage Forest) → StageBorn g → StageBorn h → StageBorn (cond late g h)
-  late_births true g h a b = a
-  late_births false g h a b = b
-
-  due_births : (steps until : ℕ) (s : State) (tss : Forest) (d : Option Due) → TreesBorn s.clock.left tss →
-      StageBorn (turn_at until d s tss (λ due s. stage_of (carried c (room c steps) (woken_in due.number
-      due.given.value [] tss s))))
-  due_births steps until s tss None h = h
-  due_births steps until s tss (Some d) h =
-      late_births (nat_lt until d.given.moment) _ _ h (spent_births steps s.clock.left s tss d refl h)
-
-  turn_births : (steps until : ℕ) (s : State) (tss : Forest) (ws : List Wait) → TreesBorn s.clock.left tss →
-      StageBorn (turn until ws s tss (λ due s. stage_of (carried c (room c steps) (woken_in due.number
-      due.given.value [] tss s))))
-  turn_births steps until s tss [] h = h
-  turn_births steps until s tss (w ∷ ws) h = due_births steps until s tss (least s (w ∷ ws)) h
-
-  turns_births : (steps until k : ℕ) (g : Stage Forest) → StageBorn g → StageBorn (turns (turn_taken c steps until) k
-      g)
-  turns_births steps until zero g h = h
-  turns_births steps until (suc k) (going s tss) h =
-      turns_births steps until k (turn_taken c steps until s tss) (turn_births steps until s tss (tree_waits tss) h)
-  turns_births steps until (suc k) (closed e s tss) h = h
-  turns_births steps until (suc k) (broken e s) h = h
-  turns_births steps until (suc k) (amiss s) h = h
+invariant : (c : Code) → Invariant c TreesBorn MachineBorn
+invariant c = record { operates = operation_births c; wakes = woken_births; fewer = trees_fewer }
 
 pub run_births : RunKeepsBirths
 run_births c ns steps until k =
-    turns_births c steps until k (started c ns steps) (stage_births c _ (carried_births c (room c steps) _
-    (main_births ns steps (slice_get c.functions c.main))))
+    turns_is c TreesBorn MachineBorn (invariant c) steps until k (started c ns steps)
+    (started_is c TreesBorn MachineBorn (invariant c) steps _ (main_births ns steps (slice_get c.functions c.main)))

@@ -1,10 +1,11 @@
 -- Every frame began when no fewer steps were left than are left: in every state of every run.
 use Rattle.std.specs.Prelude.{ℕ, ◌≤◌, ℤ, List}
 use Rattle.verse_code.specs.declared.codes.Code.{Code}
-use Rattle.verse_meaning_state.specs.Turns.{Stage, going, closed, broken, amiss}
-use Rattle.verse_code_machine.specs.Tasks.{Frame, Who, Machine, Step, Next, Over, Turn}
+use Rattle.verse_meaning_state.specs.Turns.{Stage}
+use Rattle.verse_code_machine.specs.Tasks.{Frame, Who, Machine, Step}
 use Rattle.verse_code_machine.specs.Runs.{step, Forest, mach_after}
-use Rattle.verse_code_machine_births.specs.Everywhere.{FramesAre, TreesAre, MachineIs}
+use Rattle.verse_code_machine_births.specs.Stages.{StageIs, StepIs}
+use Rattle.verse_code_machine_births.specs.Framed.{FramesAre, TreesAre, MachineIs}
 
 -- of any name
 abbrev pub Anyone : Who → Type 0
@@ -20,15 +21,10 @@ abbrev pub MachineBorn : Machine → Type 0
 MachineBorn m = MachineIs (λ born. m.state.clock.left ≤ born) Anyone m
 
 abbrev pub StepBorn : Step → Type 0
-StepBorn (Next m) = MachineBorn m
-StepBorn (Over e s) = Unit {0}
-StepBorn (Turn s tss) = TreesBorn s.clock.left tss
+StepBorn = StepIs TreesBorn MachineBorn
 
 abbrev pub StageBorn : Stage Forest → Type 0
-StageBorn (going s tss) = TreesBorn s.clock.left tss
-StageBorn (closed e s tss) = TreesBorn s.clock.left tss
-StageBorn (broken e s) = Unit {0}
-StageBorn (amiss s) = Unit {0}
+StageBorn = StageIs TreesBorn
 
 -- each operation keeps it
 abbrev pub OperationKeepsBirths : Type 0

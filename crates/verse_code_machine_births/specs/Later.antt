@@ -13,7 +13,8 @@ use Rattle.verse_code_machine.specs.Tasks.{clearing, Trees, World, Machine, Step
 use Rattle.verse_code_machine.specs.Tasks.{Next, Over, Turn, since}
 use Rattle.verse_code_machine.specs.Ends.{next_arm, woken_in}
 use Rattle.verse_code_machine.specs.Runs.{step, Forest}
-use Rattle.verse_code_machine_births.specs.Everywhere.{TreesAre, MachineIs}
+use Rattle.verse_code_machine_births.specs.Stages.{StepIs}
+use Rattle.verse_code_machine_births.specs.Framed.{TreesAre, MachineIs}
 use Rattle.verse_code_machine_births.specs.Births.{FramesBorn, MachineBorn}
 
 -- the names of tasks, wherever they stand
@@ -58,9 +59,7 @@ abbrev pub Any : ℕ → Type 0
 Any born = Unit {0}
 
 abbrev pub StepNamed : (Who → Type 0) → Step → Type 0
-StepNamed Named (Next m) = MachineIs Any Named m
-StepNamed Named (Over e s) = Unit {0}
-StepNamed Named (Turn s tss) = TreesAre Any Named tss
+StepNamed Named = StepIs (λ left. TreesAre Any Named) (MachineIs Any Named)
 
 -- each task that stands after an operation stood before it, or has a number below the steps that
 -- were left
