@@ -40,7 +40,9 @@ use Rattle.run_save_chain.proofs.Meeting as m
 use Rattle.run_save_chain.proofs.Meeting.{pair_each, pair_both}
 use Rattle.run_save_chain.proofs.Orderly.{orderly_met}
 use Rattle.run_save_chain.proofs.Births.{Bare, born_met, arms_met, trees_each, each_trees}
-use Rattle.run_save_chain.proofs.Savable.{trees_alike, filled_sum, filled_each, task_fine, savable_again, scene}
+use Rattle.run_save_orders.proofs.Ordered.{filled_each}
+use Rattle.run_save_chain.proofs.Savable.{trees_alike, filled_sum, task_fine, savable_again, scene}
+use Rattle.run_save_same.proofs.Stopped.{can_go_on, tasks_count, tasks_free, trees_count, trees_free}
 
 bare_below : (c : Code) (n : ℕ) (fs : List Frame) → Each (LowerStill c n) fs → Each (λ (f : Frame). f.handlers ≡ []) fs
 bare_below c n [] a = tt
@@ -193,31 +195,6 @@ pub held_spelled : TreesAreSpelled → SpelledTreesAreTheSame → HeldSpelled
 held_spelled spelled same c steps until s tss x h y = held_again c steps until s tss h x y spelled same
 
 -- ---- a run goes on from what can be saved, and ends
-
-tasks_free : (ts : List Task) → AllStill ts → TasksAreFree ts
-tasks_free [] a = tt
-tasks_free (t ∷ ts) a = (a.0.free, tasks_free ts a.1)
-
-trees_free : (left : ℕ) (tss : Forest) → TreesRooted left tss → TreesAreFree tss
-trees_free left [] a = tt
-trees_free left (ts ∷ tss) a = (tasks_free ts a.1, trees_free left tss a.2)
-
-tasks_count : (ts : List Task) → tasks_frames ts ≡ tasks_sum (λ (t : Task). suc (length t.thread.below)) ts
-tasks_count [] = refl
-tasks_count (t ∷ ts) = let h = tasks_count ts in omega (arith, h)
-
-trees_count : (tss : Forest) → trees_frames tss ≡ trees_sum (λ (t : Task). suc (length t.thread.below)) tss
-trees_count [] = refl
-trees_count (ts ∷ tss) = let h = trees_count tss in let g = tasks_count ts in omega (arith, h, g)
-
-can_go_on : (c : Code) (steps until : ℕ) (s : State) (tss : Forest) → Savable c steps until s tss → CanGoOn s tss
-can_go_on c steps until s tss a = record {
-  are_free = trees_free s.clock.left tss a.rooted;
-  few = twice (trees_frames tss) _ s.clock.spent (trees_count tss) a.few_frames;
-}
-  where
-    twice : (n m k : ℕ) → n ≡ m → m ≤ k → n ≤ 2 * k
-    twice n m k e h = omega (arith, e, h)
 
 -- a run that has ended after some turns ends so after all its turns
 after_some : StaysOverFrom → (c : Code) (steps until k n : ℕ) (s t : State) (tss uss : Forest) →

@@ -27,6 +27,7 @@ use Rattle.run_save_kept.proofs.Sums.{reordered_sum}
 use Rattle.run_save_same.specs.Alike.{FrameAlike, FramesAlike, PartsAlike, RestAlike, TaskAlike, TasksAlike, TreesAlike}
 use Rattle.run_save_same.proofs.Pairs.{EachPair}
 use Rattle.run_save_chain.proofs.Meeting.{trees_same}
+use Rattle.run_save_orders.proofs.Ordered.{filled_each}
 
 -- ---- what was printed
 
@@ -63,11 +64,6 @@ pub filled_sum : (f : Task → ℕ) (tss : Forest) → trees_sum f (filled tss) 
 filled_sum f [] = refl
 filled_sum f ([] ∷ tss) = let h = filled_sum f tss in omega (arith, h)
 filled_sum f ((t ∷ ts) ∷ tss) = ap (λ n. tasks_sum f (t ∷ ts) + n) (filled_sum f tss)
-
-pub filled_each : (P : List Task → Type 0) (tss : Forest) → Each P tss → Each P (filled tss)
-filled_each P [] a = tt
-filled_each P ([] ∷ tss) a = filled_each P tss a.1
-filled_each P ((t ∷ ts) ∷ tss) a = (a.0, filled_each P tss a.1)
 
 -- ---- tasks
 

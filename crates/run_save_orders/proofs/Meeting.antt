@@ -12,10 +12,10 @@ use Rattle.verse_code_machine_saved.proofs.Paired.{Level, forests_meet}
 use Rattle.run_save_shots.specs.Lists.{Each}
 use Rattle.run_save_orders.specs.Roots.{Sorts, AreApart, TreesSorted, with_roots, TableSorts}
 
-some_is : {A : Type 0} {x y : A} → Some x ≡ Some y → x ≡ y
+pub some_is : {A : Type 0} {x y : A} → Some x ≡ Some y → x ≡ y
 some_is e = cc
 
-none_some : {A B : Type 0} {x : A} → None ≡ Some x → B
+pub none_some : {A B : Type 0} {x : A} → None ≡ Some x → B
 none_some e = cc
 
 ltn_is : (k n : ℕ) → ltn k n ≡ true → k < n

@@ -37,7 +37,7 @@ kept_is_same_but_order s tss x y = subst (λ w. Reordered (filled tss) w) (sym (
 
 -- ---- births
 
-filled_each : (P : List Task → Type 0) (tss : Forest) → Each P tss → Each P (filled tss)
+pub filled_each : (P : List Task → Type 0) (tss : Forest) → Each P tss → Each P (filled tss)
 filled_each P [] a = tt
 filled_each P ([] ∷ tss) a = filled_each P tss a.1
 filled_each P ((t ∷ ts) ∷ tss) a = (a.0, filled_each P tss a.1)

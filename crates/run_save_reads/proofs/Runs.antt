@@ -49,7 +49,7 @@ mark_bytes (letter ∷ letters) left bytes b =
     meets_then IsBytes IsBytes (letter_at letter left bytes) (mark_at letters left) (letter_bytes letter left bytes b)
     (λ rest p. mark_bytes letters left rest p)
 
-take_bytes : (n : ℕ) (bytes : List ℕ) → IsBytes bytes → IsBytes (take n bytes)
+pub take_bytes : (n : ℕ) (bytes : List ℕ) → IsBytes bytes → IsBytes (take n bytes)
 take_bytes zero bytes b i = omega arith
 take_bytes (suc n) [] b i = omega arith
 take_bytes (suc n) (x ∷ bytes) b zero = b 0

@@ -48,7 +48,7 @@ begins_here line more bytes e p =
     subst (λ l. start_at true false (l ++ 10 ∷ bytes) ≡ Ok bytes) (sym e)
     (found_at 61 (32 ∷ 115 ∷ 97 ∷ 118 ∷ 101 ∷ 100 ∷ 32 ∷ more) bytes (subst IsLine e p) refl)
 
-word_is_line : IsLine saved_word
+pub word_is_line : IsLine saved_word
 word_is_line =
     All-from_recursion (λ b. b ≢ 10) saved_word (
       omega arith,

@@ -5,6 +5,7 @@ use Rattle.verse_meaning_state.specs.Waits.{ltn}
 use Rattle.verse_code_machine_saved.specs.Numbers.{Pairs, AllAbove, Rising, NoneBelow}
 use Rattle.run_save_shots.specs.Lists.{Each, EachTwo}
 use Rattle.run_save_kept.proofs.Paths.{ltn_is, ltn_no}
+use Rattle.run_save_kept.proofs.Sums.{each_join}
 
 -- the first is below the second in both numbers
 abbrev pub IsBelow : ℕ × ℕ → ℕ × ℕ → Type 0
@@ -127,10 +128,6 @@ pub sorted_above : (bound : ℕ) (ps : Pairs) → Each (IsAbove bound) ps → No
 sorted_above bound ps a = none_below bound (sorted ps) (sorted_each (IsAbove bound) ps a)
 
 -- ---- two lists of pairs together
-
-pub each_join : {A : Type 0} (P : A → Type 0) (xs ys : List A) → Each P xs → Each P ys → Each P (xs ++ ys)
-each_join P [] ys a b = b
-each_join P (x ∷ xs) ys a b = (a.0, each_join P xs ys a.1 b)
 
 pub two_join : {A : Type 0} (R : A → A → Type 0) (xs ys : List A) → EachTwo R xs → EachTwo R ys →
     Each (λ x. Each (R x) ys) xs → EachTwo R (xs ++ ys)

@@ -32,14 +32,9 @@ use Rattle.run_save_resumes.proofs.Naming.{names_apart}
 use Rattle.run_save_same.specs.Alike.{TaskAlike, TreesAlike, TreesAreSpelled}
 use Rattle.run_save_same.proofs.Framing.{all_rested, Made, made}
 use Rattle.run_save_same.proofs.Pairs.{EachPair, grown_pair, trees_alike}
+use Rattle.run_save_orders.proofs.Meeting.{none_some, some_is}
 
 -- ---- lists
-
-some_is : {A : Type 0} {x y : A} → Some x ≡ Some y → x ≡ y
-some_is e = cc
-
-none_some : {A B : Type 0} {x : A} → None ≡ Some x → B
-none_some e = cc
 
 front_at : {A : Type 0} (xs ys : List A) (i : ℕ) (x : A) → nth xs i ≡ Some x → nth (xs ++ ys) i ≡ Some x
 front_at [] ys i x e = none_some e

@@ -66,23 +66,23 @@ held_goes_on savable orderly born arms c steps u w s t tss uss valid bytes le sh
 
 -- ---- what a run can go on from
 
-tasks_free : (ts : List Task) → AllStill ts → TasksAreFree ts
+pub tasks_free : (ts : List Task) → AllStill ts → TasksAreFree ts
 tasks_free [] a = tt
 tasks_free (t ∷ ts) a = (a.0.free, tasks_free ts a.1)
 
-trees_free : (left : ℕ) (tss : Forest) → TreesRooted left tss → TreesAreFree tss
+pub trees_free : (left : ℕ) (tss : Forest) → TreesRooted left tss → TreesAreFree tss
 trees_free left [] a = tt
 trees_free left (ts ∷ tss) a = (tasks_free ts a.1, trees_free left tss a.2)
 
-tasks_count : (ts : List Task) → tasks_frames ts ≡ tasks_sum (λ (t : Task). suc (length t.thread.below)) ts
+pub tasks_count : (ts : List Task) → tasks_frames ts ≡ tasks_sum (λ (t : Task). suc (length t.thread.below)) ts
 tasks_count [] = refl
 tasks_count (t ∷ ts) = let h = tasks_count ts in omega (arith, h)
 
-trees_count : (tss : Forest) → trees_frames tss ≡ trees_sum (λ (t : Task). suc (length t.thread.below)) tss
+pub trees_count : (tss : Forest) → trees_frames tss ≡ trees_sum (λ (t : Task). suc (length t.thread.below)) tss
 trees_count [] = refl
 trees_count (ts ∷ tss) = let h = trees_count tss in let g = tasks_count ts in omega (arith, h, g)
 
-can_go_on : (c : Code) (steps until : ℕ) (s : State) (tss : Forest) → Savable c steps until s tss → CanGoOn s tss
+pub can_go_on : (c : Code) (steps until : ℕ) (s : State) (tss : Forest) → Savable c steps until s tss → CanGoOn s tss
 can_go_on c steps until s tss a = record {
   are_free = trees_free s.clock.left tss a.rooted;
   few = twice (trees_frames tss) _ s.clock.spent (trees_count tss) a.few_frames;

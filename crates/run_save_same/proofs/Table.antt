@@ -18,7 +18,8 @@ use Rattle.run_save_kept.proofs.Paths.{same_self}
 use Rattle.run_save_births.specs.Births as b
 use Rattle.run_save_births.specs.Births.{births_of}
 use Rattle.run_save_orders.specs.Roots.{with_roots}
-use Rattle.run_save_same.proofs.Sorting.{Aligned, IsAbove, In, sorted, sorted_rises, sorted_above, each_join, two_join}
+use Rattle.run_save_kept.proofs.Sums.{each_join}
+use Rattle.run_save_same.proofs.Sorting.{Aligned, IsAbove, In, sorted, sorted_rises, sorted_above, two_join}
 use Rattle.run_save_same.proofs.Spelt.{kept_of, number_of, births_made, IsSpelt, Spelt}
 use Rattle.run_save_same.proofs.Depths.{frames_of}
 use Rattle.run_save_same.proofs.Aligning.{is_its, zipped, children, Falls, Kid, zipped_two, zipped_from, made_rises}

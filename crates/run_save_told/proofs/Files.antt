@@ -8,6 +8,7 @@ use Rattle.run_save_format.specs.Format.{IsLine, Begins, saved_word, StandsBehin
 use Rattle.run_save_format.specs.Whole.{behind_word, start_at}
 use Rattle.run_save_told.specs.Told.{StartStandsBehind}
 use Rattle.run_save_told.proofs.Telling.{Tells, tells, fails, tells_if, tells_as, told_is, Within}
+use Rattle.run_save_restores.proofs.Files.{word_is_line}
 
 line_on : (b : ℕ) (line : List ℕ) → eqb b 10 ≡ false → IsLine line → IsLine (b ∷ line)
 line_on b line e p = All-cons (λ b. b ≢ 10) b line (eqb-false b 10 e) p
@@ -27,13 +28,6 @@ word_in_line (w ∷ word) (b ∷ line) file p e =
     let same : w ≡ b = eqb-true w b k.0 in
     let on = word_in_line word line file (All-tail (λ b. b ≢ 10) w word p) k.1 in
     (on.0, ap (λ l. b ∷ l) on.1 ∙ ap (λ n. n ∷ (word ++ on.0)) (sym same))
-
-word_is_line : IsLine saved_word
-word_is_line =
-    All-from_recursion (λ b. b ≢ 10) saved_word (
-      omega arith,
-      (omega arith, (omega arith, (omega arith, (omega arith, (omega arith, (omega arith, (omega arith, tt))))))),
-    )
 
 -- a line that begins with the word begins with it in the file
 begins_here : (word more file : List ℕ) → behind_word word ((word ++ more) ++ file) ≡ true

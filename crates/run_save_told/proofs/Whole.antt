@@ -28,6 +28,7 @@ use Rattle.run_save_told.proofs.Values.{text_told}
 use Rattle.run_save_told.proofs.Stores.{AllLeft, tells_cells, tells_spawned}
 use Rattle.run_save_told.proofs.Tasks.{tells_tasks}
 use Rattle.run_save_told.proofs.Files.{tells_start, behind_within}
+use Rattle.run_save_reads.proofs.Runs.{take_bytes}
 
 -- ---- the mark
 
@@ -67,12 +68,6 @@ tells_coded left bytes (Ok c) b e low =
     (λ t. (let i = image_take bytes c b e in
     tells (subst (λ v. Image v c bytes) (version_is i.0 c bytes i.1 t) i.1)))
     (λ t. fails low)
-
-take_bytes : (n : ℕ) (bytes : List ℕ) → IsBytes bytes → IsBytes (take n bytes)
-take_bytes zero bytes b i = omega arith
-take_bytes (suc n) [] b i = omega arith
-take_bytes (suc n) (x ∷ bytes) b zero = b 0
-take_bytes (suc n) (x ∷ bytes) b (suc i) = take_bytes n bytes (rest_bytes x bytes b) i
 
 tells_code : {most : ℕ} → TellsField most imaged code_at
 unfolding code_at
