@@ -19,8 +19,8 @@ use verse_expr_reader::steps::{ReadFault, expect, take};
 use verse_grammar::phrases::Phrase;
 use verse_grammar::starts::Fixed;
 use verse_layout::toks::Tok;
-use verse_tree_nodes::trees::Tree;
 use verse_tree_nodes::statements;
+use verse_tree_nodes::trees::Tree;
 
 /// `if`, or what is joined by `or`.
 #[tactic(auto, using(crate::proofs::RuleSets::of_expr))]

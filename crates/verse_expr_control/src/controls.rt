@@ -20,8 +20,8 @@ use verse_grammar::phrases::Phrase;
 use verse_grammar::starts::{StmtStart, assign_at, begins_expr, stmt_start};
 use verse_layout::toks::Tok;
 use verse_tree::exprs::Assign;
-use verse_tree_nodes::trees::Tree;
 use verse_tree_nodes::statements;
+use verse_tree_nodes::trees::Tree;
 
 /// What is behind `set`.
 #[tactic(auto, using(crate::proofs::RuleSets::of_set))]

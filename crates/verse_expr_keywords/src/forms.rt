@@ -19,8 +19,8 @@ use verse_expr_reader::steps::{ReadFault, expect, take};
 use verse_grammar::phrases::Phrase;
 use verse_grammar::starts::Fixed;
 use verse_layout::toks::Tok;
-use verse_tree_nodes::trees::{Tree, Trees};
 use verse_tree_nodes::forms;
+use verse_tree_nodes::trees::{Tree, Trees};
 
 /// `for`
 #[tactic(auto, using(crate::proofs::RuleSets::of_for_form))]

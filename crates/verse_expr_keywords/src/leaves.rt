@@ -19,8 +19,8 @@ use verse_expr_reader::spans::text_at;
 use verse_expr_reader::steps::ReadFault;
 use verse_grammar::phrases::Phrase;
 use verse_layout::toks::Tok;
-use verse_tree_nodes::trees::Tree;
 use verse_tree_nodes::literals;
+use verse_tree_nodes::trees::Tree;
 
 /// What one tok can be.
 #[derive(Clone, Copy)]

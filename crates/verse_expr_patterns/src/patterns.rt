@@ -22,8 +22,8 @@ use verse_expr_reader::steps::{ReadFault, expect, next};
 use verse_grammar::phrases::Phrase;
 use verse_grammar::starts::{Fixed, PatternStart, int_at, pattern_start};
 use verse_layout::toks::Tok;
-use verse_tree_nodes::trees::Tree;
 use verse_tree_nodes::patterns;
+use verse_tree_nodes::trees::Tree;
 
 /// A pattern.
 #[tactic(auto, using(crate::proofs::RuleSets::of_pattern))]

@@ -21,8 +21,8 @@ use verse_grammar::starts::{Fixed, comparison_at, product_operator, sum_operator
 use verse_layout::toks::{Tok, TokKind};
 use verse_lex::tokens::{TokenKind, Word};
 use verse_tree::exprs::{Comparison, Operator};
-use verse_tree_nodes::trees::Tree;
 use verse_tree_nodes::operators;
+use verse_tree_nodes::trees::Tree;
 
 /// The operator with which a chain of this level goes on.
 fn chain_operator(level: Phrase, kind: TokKind) -> Option<Operator>

@@ -25,8 +25,8 @@ use verse_grammar::phrases::Phrase;
 use verse_grammar::starts::{Fixed, PostfixStart, postfix_start};
 use verse_layout::toks::Tok;
 use verse_tree::names::Name;
-use verse_tree_nodes::trees::{Tree, Trees};
 use verse_tree_nodes::operators;
+use verse_tree_nodes::trees::{Tree, Trees};
 
 /// A postfix without the tree that it is put to.
 #[derive(Drop)]

@@ -29,8 +29,8 @@ use verse_grammar::starts::{Fixed, PrimaryStart, primary_start};
 use verse_layout::toks::Tok;
 use verse_tree::names::Name;
 use verse_tree_nodes::lists::{Givens, Holes};
-use verse_tree_nodes::trees::Tree;
 use verse_tree_nodes::literals;
+use verse_tree_nodes::trees::Tree;
 
 /// A primary form.
 #[tactic(auto, using(crate::proofs::RuleSets::of_primary))]

@@ -18,11 +18,11 @@ use std::alloc::Global;
 use verse_base::refusals::Memory;
 use verse_grammar::starts::{Fixed, TypeStart, type_start};
 use verse_layout::toks::Tok;
-use verse_tree_nodes::written::{Written, Writtens};
 use verse_tree_nodes::types::{
     array_of, bare_event, char, event_of, int, logic, map_of, named, option_of, string, task_of,
     tuple_of, void,
 };
+use verse_tree_nodes::written::{Written, Writtens};
 
 /// A type.
 #[cycle(type_at)]

@@ -24,9 +24,9 @@ use verse_expr_reader::types::type_at;
 use verse_grammar::phrases::Phrase;
 use verse_grammar::starts::{Fixed, StmtStart, stmt_start};
 use verse_layout::toks::Tok;
+use verse_tree_nodes::statements;
 use verse_tree_nodes::trees::Tree;
 use verse_tree_nodes::written::Written;
-use verse_tree_nodes::statements;
 
 /// A statement.
 #[tactic(auto, using(crate::proofs::RuleSets::of_stmt))]

@@ -23,10 +23,10 @@ use verse_join_parts::type_numbering::number_type;
 use verse_tree::exprs::Expr;
 use verse_tree::items::{ClassItem, EnumItem, Field, Fun, Item, Member, Param, Spec, Using};
 use verse_tree::names::Name;
-use verse_tree_nodes::trees::Tree;
 use verse_tree_items::funs::{FunTree, Head, ParamTree, ParamTrees};
 use verse_tree_items::items::{ItemTree, ItemTrees};
 use verse_tree_items::members::{MemberTree, MemberTrees, member_field};
+use verse_tree_nodes::trees::Tree;
 
 /// A copy of the items with their nodes numbered from `next` on, and the number behind the last.
 pub fn number_items(alloc: Global, parts: &[Item], next: u32) -> Result<(ItemTrees, u32), Memory>

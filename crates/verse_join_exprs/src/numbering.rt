@@ -33,8 +33,8 @@ use verse_tree::exprs::{
 };
 use verse_tree::names::{Name, Text};
 use verse_tree_nodes::lists::{Givens, Holes, Pairs};
-use verse_tree_nodes::trees::{Tree, Trees};
 use verse_tree_nodes::parts::{alternative, choosing, returning, single, taking};
+use verse_tree_nodes::trees::{Tree, Trees};
 
 /// A copy of the node with its parts and itself numbered from `next` on, and the number behind it.
 #[cycle(number)]

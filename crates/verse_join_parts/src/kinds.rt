@@ -8,9 +8,9 @@ ghost use Rattle.verse_join_parts.specs.Kinds.{part_shape, two_shape, typed_shap
 
 use verse_tree::exprs::{Assign, Comparison, Form, Operator};
 use verse_tree::names::Name;
+use verse_tree_nodes::parts::{applied, two, with_type};
 use verse_tree_nodes::trees::{Tree, Trees};
 use verse_tree_nodes::written::Written;
-use verse_tree_nodes::parts::{applied, two, with_type};
 
 /// The kinds with one list of parts.
 #[derive(Clone, Copy)]

@@ -14,8 +14,8 @@ use sqlite_items::Boxed;
 use std::alloc::Global;
 use verse_base::refusals::Memory;
 use verse_tree::types::{MapTy, TyExpr, TyName};
-use verse_tree_nodes::written::{Written, Writtens};
 use verse_tree_nodes::types as made;
+use verse_tree_nodes::written::{Written, Writtens};
 
 /// A copy of the type with its names numbered from `next` on, and the number behind them.
 #[cycle(number_type)]

@@ -22,9 +22,9 @@ use verse_grammar::phrases::Phrase;
 use verse_grammar::starts::Fixed;
 use verse_layout::toks::Tok;
 use verse_tree::items::Spec;
+use verse_tree_items::funs::{FunTree, ParamTree, ParamTrees};
 use verse_tree_nodes::trees::Tree;
 use verse_tree_nodes::written::Written;
-use verse_tree_items::funs::{FunTree, ParamTree, ParamTrees};
 
 /// `X:t`
 #[tactic(auto, using(crate::proofs::RuleSets::of_param))]
