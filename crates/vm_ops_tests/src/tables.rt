@@ -25,6 +25,7 @@ ge | 0 | 0
 eq | () false true 0 '0 #0.0 @0 !0 ~0 ? [ { ( | () false true 0 '0 #0.0 @0 !0 ~0 ? [ { (
 ne | () false true 0 '0 #0.0 @0 !0 ~0 ? [ { ( | () false true 0 '0 #0.0 @0 !0 ~0 ? [ { (
 concat | [ | [
+joined | [ | [
 append | [ | () false true 0 '0 #0.0 @0 !0 ~0 ? [ { (
 array.2 | () false true 0 '0 #0.0 @0 !0 ~0 ? [ { ( | () false true 0 '0 #0.0 @0 !0 ~0 ? [ { (
 tuple.2 | () false true 0 '0 #0.0 @0 !0 ~0 ? [ { ( | () false true 0 '0 #0.0 @0 !0 ~0 ? [ { (
@@ -40,6 +41,7 @@ pub(crate) const INDICES: &str = "\
 
 // An operation on one value, and those that are not stuck with it.
 pub(crate) const ON_ONE: &str = "\
+key | false true 0 '0 #0.0 [
 neg | 0
 query | false true ?
 lend-query | false true ?
@@ -242,6 +244,26 @@ false lend-query | fail
 "ab 1 "b 2 map.2 "b lend-at | 2
 "ab 1 "b 2 map.2 "c lend-at | fail
 "ab 1 map.1 @1 lend-at | stuck
+"ab "c joined | "abc"
+1 array.1 [ joined | array{1}
+[ 1 array.1 joined | array{1}
+1 tuple.1 1 array.1 joined | stuck
+1 array.1 "ab some joined | stuck
+5 6 array.2 1 element | 6
+5 6 array.2 2 element | fail
+5 6 array.2 -1 element | fail
+5 6 array.2 true element | stuck
+"ab 1 "b 2 map.2 "b element | 2
+"ab 1 "b 2 map.2 "c element | fail
+"ab 1 map.1 @1 element | stuck
+1 some 0 element | stuck
+-5 key | -5
+false key | false
+'97 key | 0o61
+#1.2 key | #1.2
+"ab key | "ab"
+[ key | array{}
+1 array.1 key | stuck
 [ length | 0
 "abc length | 3
 1 2 array.2 length | 2
@@ -288,6 +310,7 @@ deep.200 tuple.1 | K2
 deep.199 array.1 deep.199 array.1 concat levels | 200
 [ deep.199 append levels | 200
 [ deep.200 append | K2
+deep.199 array.1 [ joined levels | 200
 1 array.1 deep.200 append | K2
 deep.200 () append | stuck
 "#;
@@ -306,6 +329,8 @@ pub(crate) const HEAVY_GROWN: &str = r#"heavy.3999998 1 append 2 array.1 concat 
 heavy.4000000 [ concat length | 3999999
 heavy.4000000 1 append | K2
 heavy.4000000 1 array.1 concat | K2
+heavy.3999999 1 array.1 joined weight | 4000000
+heavy.4000000 1 array.1 joined | K2
 1 array.1 heavy.4000000 concat | K2
 "#;
 

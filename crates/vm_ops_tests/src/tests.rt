@@ -23,13 +23,13 @@ fn count_right(alloc: Global, rows: &str) -> Result<u64, Fail> {
 
 #[test]
 fn rows_are_right(rt: HostRuntime) -> Result<(), Fail> {
-    assert_eq!(rt; count_right(rt.alloc(), ROWS)?, 220);
+    assert_eq!(rt; count_right(rt.alloc(), ROWS)?, 240);
     Ok(())
 }
 
 #[test]
 fn deep_values_are_right(rt: HostRuntime) -> Result<(), Fail> {
-    assert_eq!(rt; count_right(rt.alloc(), DEEP)?, 16);
+    assert_eq!(rt; count_right(rt.alloc(), DEEP)?, 17);
     Ok(())
 }
 
@@ -41,7 +41,7 @@ fn heavy_values_are_right(rt: HostRuntime) -> Result<(), Fail> {
 
 #[test]
 fn heavy_grown_arrays_are_right(rt: HostRuntime) -> Result<(), Fail> {
-    assert_eq!(rt; count_right(rt.alloc(), HEAVY_GROWN)?, 5);
+    assert_eq!(rt; count_right(rt.alloc(), HEAVY_GROWN)?, 7);
     Ok(())
 }
 
@@ -90,7 +90,7 @@ fn two_values_of_every_kind(rt: HostRuntime) -> Result<(), Fail> {
         try_two(rt.alloc(), word, firsts, seconds)?;
         count = count.saturating_add(1);
     }
-    assert_eq!(rt; count, 18);
+    assert_eq!(rt; count, 19);
     Ok(())
 }
 
@@ -133,6 +133,6 @@ fn one_value_of_every_kind(rt: HostRuntime) -> Result<(), Fail> {
             count = count.saturating_add(1);
         }
     }
-    assert_eq!(rt; count, 117);
+    assert_eq!(rt; count, 130);
     Ok(())
 }

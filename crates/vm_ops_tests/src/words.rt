@@ -5,13 +5,16 @@ use std::alloc::Global;
 use std::test::Fail;
 use verse_base::refusals::Kind;
 use verse_top_texts::printing::text;
+use verse_value::lookups::key_from;
 use verse_value::sizes::{levels, weight};
 use verse_value::values::{Entries, Value};
+use verse_value_writes::writes::WriteFault;
 use vm_ops::equality::{op_eq, op_ne};
 use vm_ops::faults::OpFault;
 use vm_ops::ints::{
     op_add, op_ceil, op_floor, op_ge, op_gt, op_le, op_lt, op_mod, op_mul, op_neg, op_sub,
 };
+use vm_ops::made::{element, join, key_value};
 use vm_ops::making::{op_append, op_array, op_concat, op_map, op_some, op_tuple};
 use vm_ops::parts::{at, item, length, op_at, op_item, op_length, op_query, query};
 use vm_ops::texts::{op_join, op_text};
@@ -149,8 +152,27 @@ fn counted(
     }
 }
 
+fn why(fault: WriteFault) -> OpFault {
+    match fault {
+        WriteFault::Memory => OpFault::Memory,
+        WriteFault::Fail => OpFault::Fail,
+        WriteFault::Fault(kind) => OpFault::Fault(kind),
+        WriteFault::Stuck => OpFault::Stuck,
+    }
+}
+
+// The value that the key of a value is; stuck where it is no key.
+fn as_key(alloc: Global, a: &Value) -> Result<Outcome, Fail> {
+    let Some(key) = key_from(alloc, a)? else {
+        return Ok(Err(OpFault::Stuck));
+    };
+    let value = key_value(alloc, &key)?;
+    Ok(Ok(value))
+}
+
 fn on_one(alloc: Global, word: &str, a: Value) -> Result<Outcome, Fail> {
     match word.as_bytes() {
+        b"key" => as_key(alloc, &a),
         b"neg" => Ok(op_neg(a)),
         b"some" => Ok(op_some(alloc, a)),
         b"query" => Ok(op_query(a)),
@@ -169,6 +191,8 @@ fn on_two(alloc: Global, word: &str, a: Value, b: Value) -> Result<Outcome, Fail
         b"append" => Ok(op_append(alloc, a, b)),
         b"at" => Ok(op_at(alloc, a, b)),
         b"lend-at" => lent(alloc, at(&a, &b)),
+        b"joined" => Ok(join(a, b).map_err(why)),
+        b"element" => Ok(element(alloc, &a, &b).map_err(why)),
         _ => on_two_compared(word, a, b),
     }
 }
@@ -199,7 +223,8 @@ fn on_two_ints(word: &str, a: Value, b: Value) -> Result<Outcome, Fail> {
 
 fn is_on_one(word: &str) -> bool {
     match word.as_bytes() {
-        b"neg"
+        b"key"
+        | b"neg"
         | b"some"
         | b"query"
         | b"length"
