@@ -1,7 +1,7 @@
 -- What holds of the name and the births of each task, wherever it stands.
 use Rattle.std.specs.Prelude.{◌≡◌, ◌⊎◌, ◌≤◌, ℕ, List, [], ◌∷◌, ◌++◌}
-use Rattle.verse_code_machine.specs.Tasks.{Frame, Who, Part, Thread, Task, After, Up, World, Machine}
-use Rattle.verse_code_machine.specs.Tasks.{Step}
+use Rattle.verse_code_machine.specs.Tasks.{Frame, Who, Part, Thread, Task, After, Up}
+use Rattle.verse_code_machine.specs.Tasks.{World, Machine, Step}
 use Rattle.verse_code_machine.specs.Runs.{Forest}
 use Rattle.verse_code_machine_births.specs.Everywhere as every
 use Rattle.verse_code_machine_births.specs.Stages.{StepIs}

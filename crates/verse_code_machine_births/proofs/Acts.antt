@@ -147,7 +147,6 @@ module _ (most : ℕ) (F : Who → List Frame → Type 0) (R : Thread → List P
       Stays (spending k s (Over ending.Steps s) go)
   spends = spending_low most F R OfTask OfBegins law
 
-
   only_low : (b : Bool) (s : State) (q : Step) → Stays q → Stays (only_where b s q)
   only_low true s q l = l
   only_low false s q l = closes
