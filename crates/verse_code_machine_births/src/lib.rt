@@ -1,7 +1,12 @@
 //! What begins later has a number below the births of all frames that stand, whatever the code, so
-//! that what a frame has begun is known by its numbers. `Everywhere` says what it is to hold of all
-//! frames and tasks; `Births` that each frame began when no fewer steps were left than are left;
-//! `Later` that what begins has a number below those steps, and counts as begun since each frame.
+//! that what a frame has begun is known by its numbers. `Everywhere` says what it is that something
+//! holds of all tasks, and `Stages` of what an operation comes to and of a run; `Framed` how all
+//! frames began; `Births` that each began when no fewer steps were left than are left; `Later` that
+//! what begins has a number below those steps, and counts as begun since each frame.
+//!
+//! The lemmas that crates above cite are of what holds of all tasks, whatever it is: `Kept`, what
+//! has to be so that each operation keeps it; `Ends` and `Acts`, that it does; `Running`, that it
+//! then holds in every state of a run.
 #![tactic(auto)]
 
 ghost use Rattle.verse_code_machine_births.specs.Births.{OperationKeepsBirths, RunKeepsBirths};
