@@ -33,7 +33,7 @@ use verse_tree_nodes::trees::Tree;
 use verse_tree_nodes::written::Written;
 
 /// What stands behind `class`; `tok` is the class's name.
-#[tactic(auto, using(crate::proofs::RuleSets::of_class_rest))]
+#[tactic(auto, using(crate::proofs::OfItems::of_class_rest))]
 pub fn class_rest<'t>(
     alloc: Global,
     bytes: &[u8],
@@ -57,7 +57,7 @@ pub fn class_rest<'t>(
 }
 
 /// The parent in round brackets, where there is one.
-#[tactic(auto, using(crate::proofs::RuleSets::of_parent))]
+#[tactic(auto, using(crate::proofs::OfItems::of_parent))]
 fn parent<'t>(
     alloc: Global,
     bytes: &[u8],
@@ -78,7 +78,7 @@ fn parent<'t>(
 }
 
 /// Members up to the end of the block.
-#[tactic(auto, using(crate::proofs::RuleSets::of_members))]
+#[tactic(auto, using(crate::proofs::OfItems::of_members))]
 fn members<'t>(
     alloc: Global,
     bytes: &[u8],
@@ -100,7 +100,7 @@ fn members<'t>(
 }
 
 /// The members from the first on, which begins at `start`.
-#[tactic(auto, using(crate::proofs::RuleSets::of_member_row))]
+#[tactic(auto, using(crate::proofs::OfItems::of_member_row))]
 fn member_row<'t>(
     alloc: Global,
     bytes: &[u8],
@@ -149,7 +149,7 @@ fn member<'t>(
 }
 
 /// A field with the `var` that is `tok`.
-#[tactic(auto, using(crate::proofs::RuleSets::of_var_member))]
+#[tactic(auto, using(crate::proofs::OfItems::of_var_member))]
 fn var_member<'t>(
     alloc: Global,
     bytes: &[u8],
@@ -173,7 +173,7 @@ fn var_member<'t>(
 }
 
 /// A field or a method with the name `tok`.
-#[tactic(auto, using(crate::proofs::RuleSets::of_named_member))]
+#[tactic(auto, using(crate::proofs::OfItems::of_named_member))]
 fn named_member<'t>(
     alloc: Global,
     bytes: &[u8],
@@ -193,7 +193,7 @@ fn named_member<'t>(
 }
 
 /// What stands behind the name `tok` and the specifiers of a member without `var`.
-#[tactic(auto, using(crate::proofs::RuleSets::of_member_rest))]
+#[tactic(auto, using(crate::proofs::OfItems::of_member_rest))]
 fn member_rest<'t>(
     alloc: Global,
     bytes: &[u8],
@@ -256,7 +256,7 @@ fn plain_rest<'t>(
 }
 
 /// The type of a field, and its default where it has one.
-#[tactic(auto, using(crate::proofs::RuleSets::of_field_rest))]
+#[tactic(auto, using(crate::proofs::OfItems::of_field_rest))]
 fn field_rest<'t>(
     alloc: Global,
     bytes: &[u8],
@@ -276,7 +276,7 @@ fn field_rest<'t>(
 }
 
 /// The default behind `=`, where there is one.
-#[tactic(auto, using(crate::proofs::RuleSets::of_default_value))]
+#[tactic(auto, using(crate::proofs::OfItems::of_default_value))]
 fn default_value<'t>(
     alloc: Global,
     bytes: &[u8],

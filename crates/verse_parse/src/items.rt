@@ -25,7 +25,7 @@ use verse_tree::names::Name;
 use verse_tree_items::items::ItemTree;
 
 /// An item.
-#[tactic(auto, using(crate::proofs::RuleSets::of_item))]
+#[tactic(auto, using(crate::proofs::OfItems::of_item))]
 pub fn item<'t>(
     alloc: Global,
     bytes: &[u8],
@@ -48,7 +48,7 @@ pub fn item<'t>(
 }
 
 /// The `using` that begins with `tok`.
-#[tactic(auto, using(crate::proofs::RuleSets::of_using_at))]
+#[tactic(auto, using(crate::proofs::OfItems::of_using_at))]
 fn using_at<'t>(
     alloc: Global,
     bytes: &[u8],
@@ -68,7 +68,7 @@ fn using_at<'t>(
 }
 
 /// A path in braces.
-#[tactic(auto, using(crate::proofs::RuleSets::of_using_rest))]
+#[tactic(auto, using(crate::proofs::OfItems::of_using_rest))]
 fn using_rest<'t>(
     alloc: Global,
     bytes: &[u8],
@@ -89,7 +89,7 @@ fn using_rest<'t>(
 }
 
 /// The item with the name `tok`.
-#[tactic(auto, using(crate::proofs::RuleSets::of_named_item))]
+#[tactic(auto, using(crate::proofs::OfItems::of_named_item))]
 fn named_item<'t>(
     alloc: Global,
     bytes: &[u8],
@@ -109,7 +109,7 @@ fn named_item<'t>(
 }
 
 /// What stands behind the name `tok` and the specifiers of an item.
-#[tactic(auto, using(crate::proofs::RuleSets::of_item_rest))]
+#[tactic(auto, using(crate::proofs::OfItems::of_item_rest))]
 fn item_rest<'t>(
     alloc: Global,
     bytes: &[u8],
@@ -134,7 +134,7 @@ fn item_rest<'t>(
 }
 
 /// What stands behind `:=`, an enum or a class; `tok` is its name.
-#[tactic(auto, using(crate::proofs::RuleSets::of_defined))]
+#[tactic(auto, using(crate::proofs::OfItems::of_defined))]
 fn defined<'t>(
     alloc: Global,
     bytes: &[u8],
