@@ -13,7 +13,7 @@ use Rattle.run_save_shots.specs.Lists.{Each, count}
 use Rattle.run_save_shots.specs.Kept.{Kept}
 use Rattle.run_save_shots.specs.Fitting.{Fits}
 use Rattle.run_save_shots.specs.Spelling.{state, trees, tasks_from}
-use Rattle.run_save_shots.specs.declared.limits.TheConstants.{MOST_STEPS}
+use Rattle.verse_base.specs.declared.limits.TheConstants.{MOST_STEPS}
 use Rattle.run_save_moves.specs.Fine.{TextsAreBytes}
 use Rattle.run_save_fits.specs.Held.{Savable}
 use Rattle.run_save_fits.specs.Laws.{InputsFit, SavableGoesOn}

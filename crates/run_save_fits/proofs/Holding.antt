@@ -21,7 +21,7 @@ use Rattle.verse_code_machine.specs.Runs.{Forest}
 use Rattle.verse_code_machine_parents.specs.Parents.{UpsRooted}
 use Rattle.run_save_shots.specs.Lists.{Each}
 use Rattle.run_save_shots.specs.Fitting.{IsSound, AreSound, PairsAreSound, ValueFits, ValuesFit, GivenFits, IsBlock}
-use Rattle.run_save_shots.specs.declared.limits.TheConstants.{MOST_NOW, MOST_MOMENT}
+use Rattle.verse_base.specs.declared.limits.TheConstants.{MOST_NOW, MOST_MOMENT}
 use Rattle.run_save_moves.specs.Fine.{Scene, SlotsFine, MemoryFine, HandlerFine, FrameFine, StateFine, Ticks, Changes, IsEvent}
 use Rattle.run_save_moves.specs.Moves as m
 use Rattle.run_save_moves.specs.Moves.{Point, Move, Leads, IsCalm, Holds, BehindCall, BehindWait, BehindGroup, CauseIs, NotYet, PartFits, given}

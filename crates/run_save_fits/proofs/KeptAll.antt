@@ -24,7 +24,7 @@ use Rattle.run_save_shots.specs.Kept.{KeptFrame, KeptTask, Kept}
 use Rattle.run_save_shots.specs.Fitting.{ValuesFit, GivenFits, TaskFits, waits_in, frames_in, is_root}
 use Rattle.run_save_shots.specs.Keeping as kp
 use Rattle.run_save_shots.specs.Keeping.{behind_parent, walked, walk, kept, Spells}
-use Rattle.run_save_shots.specs.declared.limits.TheConstants.{MOST_STEPS, MOST_NOW}
+use Rattle.verse_base.specs.declared.limits.TheConstants.{MOST_STEPS, MOST_NOW}
 use Rattle.run_save_fits.specs.Held.{WhoIs, is_main, TaskFine, Savable, tasks_sum, trees_sum, one, is_wait, is_task_of, unfinished}
 use Rattle.run_save_fits.specs.Laws.{FitsApart, StoppedRunFits, ResumedRunFits, StageSavable}
 use Rattle.run_save_fits.proofs.Holding.{each_more, each_front, each_back, each_as}

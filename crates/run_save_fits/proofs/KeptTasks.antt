@@ -26,7 +26,7 @@ use Rattle.run_save_shots.specs.Fitting.{ValueFits, ArmFits, IsBlock, FrameFits,
 use Rattle.run_save_shots.specs.Fitting.{is_running, GroupStands, RestFits, top_place, RootFits, TaskFits}
 use Rattle.run_save_shots.specs.Keeping as kp
 use Rattle.run_save_shots.specs.Keeping.{kept, place_of, task_of, role_in, arm_or, entry_of}
-use Rattle.run_save_shots.specs.declared.limits.TheConstants.{MOST_NOW}
+use Rattle.verse_base.specs.declared.limits.TheConstants.{MOST_NOW}
 use Rattle.run_save_moves.specs.Fine.{Scene, IsEvent}
 use Rattle.run_save_moves.specs.Moves.{BehindCall, BehindWait, BehindGroup, NotYet, PartFits}
 use Rattle.run_save_fits.specs.Held.{Has, IsSome, RoleIs, WhoIs, NoLater, FrameStill, LowerStill, CauseFine, RestFine, TaskFine, StateHeld}

@@ -11,7 +11,7 @@ use Rattle.verse_code_machine.specs.Tasks.{Up, begins, branching, spawning, clea
 use Rattle.verse_code_machine.specs.Cancelling.{without, world_without}
 use Rattle.verse_code_machine.specs.Runs.{Forest}
 use Rattle.run_save_shots.specs.Lists.{Each}
-use Rattle.run_save_shots.specs.declared.limits.TheConstants.{MOST_NOW}
+use Rattle.verse_base.specs.declared.limits.TheConstants.{MOST_NOW}
 use Rattle.run_save_moves.specs.Moves as m
 use Rattle.run_save_moves.specs.Moves.{Point, Move}
 use Rattle.run_save_fits.specs.Held as d

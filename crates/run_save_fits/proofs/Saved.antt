@@ -17,7 +17,7 @@ use Rattle.verse_code_machine.specs.Runs.{Forest, turn_taken, started, inputs_of
 use Rattle.verse_code_machine_parents.specs.Parents.{StageRooted}
 use Rattle.run_save_shots.specs.Lists.{Each}
 use Rattle.run_save_shots.specs.Fitting.{ValueFits, ValuesFit, GivenFits, AreSound}
-use Rattle.run_save_shots.specs.declared.limits.TheConstants.{MOST_NOW}
+use Rattle.verse_base.specs.declared.limits.TheConstants.{MOST_NOW}
 use Rattle.run_save_moves.specs.Fine.{Scene, TextsAreBytes}
 use Rattle.run_save_fits.specs.Held as d
 use Rattle.run_save_fits.specs.Held.{Savable, StateHeld, NoLater, trees_sum}

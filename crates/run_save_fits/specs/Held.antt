@@ -14,7 +14,7 @@ use Rattle.verse_code_machine.specs.Runs.{Forest}
 use Rattle.verse_code_machine_parents.specs.Parents.{TreesRooted}
 use Rattle.run_save_shots.specs.Lists.{Each}
 use Rattle.run_save_shots.specs.Fitting.{ValueFits, ValuesFit, IsBlock}
-use Rattle.run_save_shots.specs.declared.limits.TheConstants.{MOST_MOMENT}
+use Rattle.verse_base.specs.declared.limits.TheConstants.{MOST_MOMENT}
 use Rattle.run_save_moves.specs.Fine.{Scene, FrameFine, StateFine}
 use Rattle.run_save_moves.specs.Moves.{BehindCall, BehindWait, BehindGroup, NotYet, PartFits}
 

@@ -19,7 +19,7 @@ use Rattle.run_save_shots.specs.Keeping.{Spells}
 use Rattle.run_save_shots.specs.Fitting.{ValuesFit, GivenFits, TaskFits, waits_in, frames_in}
 use Rattle.run_save_shots.specs.Fitting.{ParentBefore, is_root}
 use Rattle.run_save_shots.specs.Fitting.{HasRoot, DepthFits}
-use Rattle.run_save_shots.specs.declared.limits.TheConstants.{MOST_STEPS, MOST_NOW}
+use Rattle.verse_base.specs.declared.limits.TheConstants.{MOST_STEPS, MOST_NOW}
 use Rattle.run_save_moves.specs.Fine.{TextsAreBytes}
 use Rattle.run_save_fits.specs.Held.{Savable}
 

@@ -1,7 +1,7 @@
 -- Tasks of a front.
 use Rattle.std.proofs.Common.{ℕ, zero, suc, ◌-◌, ltb, eqb, not, ◌&&◌, List, [], length, Option, Some, None, slice_get}
 use Rattle.verse_image.specs.Reading.{◌>>=◌}
-use Rattle.run_save_shots.specs.declared.limits.TheConstants.{MOST_MOMENT}
+use Rattle.verse_base.specs.declared.limits.TheConstants.{MOST_MOMENT}
 use Rattle.run_save_shots.specs.Fitting.{Stand, calls, sleeps, stays, awaits_task, awaits_event, gathers, goes_on, stand_at, top_place}
 use Rattle.run_save_format.specs.Values.{small_where}
 use Rattle.run_save_format.specs.Reading.{Known, cause_form, cause_of, contains, defers_at, form_at, frame_at, frames_at, frames_from}

@@ -5,7 +5,7 @@ use Rattle.verse_base.specs.declared.limits.TheConstants.{MOST_TRACE_BYTES}
 use Rattle.verse_code.specs.declared.codes.Code.{Code}
 use Rattle.verse_image.specs.declared.faults.Flaw.{Flaw}
 use Rattle.verse_image.specs.Reading.{◌>>=◌, flaw, image_at, letter_at, mark_at}
-use Rattle.run_save_shots.specs.declared.limits.TheConstants.{MOST_STEPS, MOST_NOW}
+use Rattle.verse_base.specs.declared.limits.TheConstants.{MOST_STEPS, MOST_NOW}
 use Rattle.run_save_shots.specs.Kept.{Kept}
 use Rattle.run_save_format.specs.Format.{mark}
 use Rattle.run_save_format.specs.Reading.{Found, code_at, coded, ended, is_written, numbers_at, parts_found_at}

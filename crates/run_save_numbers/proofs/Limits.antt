@@ -1,7 +1,7 @@
 -- Numbers are far below 2^64.
 use Rattle.std.proofs.Common.{ℕ, suc, ◌+◌, ◌*◌, ◌≤◌, arith}
 use Rattle.std.proofs.lemmas.Nat.{mul-le}
-use Rattle.run_save_shots.specs.declared.limits.TheConstants.{MOST_STEPS}
+use Rattle.verse_base.specs.declared.limits.TheConstants.{MOST_STEPS}
 
 pub few : (left spent n : ℕ) → left + spent ≤ MOST_STEPS → n ≤ spent → left + suc spent * n ≤ 10000000200000000
 few left spent n sum le =

@@ -1,6 +1,6 @@
 -- The numbers of a task that is kept, of its frames and of its children.
 use Rattle.std.specs.Prelude.{ℕ, zero, suc, ◌+◌, ◌≤◌, List, [], ◌∷◌, length}
-use Rattle.run_save_shots.specs.declared.limits.TheConstants.{MOST_STEPS}
+use Rattle.verse_base.specs.declared.limits.TheConstants.{MOST_STEPS}
 use Rattle.run_save_shots.specs.Lists.{Each, EachAt, from}
 use Rattle.run_save_shots.specs.Kept.{KeptTask, Kept}
 use Rattle.run_save_shots.specs.Fitting.{arms_of, ParentBefore}

@@ -1,7 +1,7 @@
 //! The first child of each kind that a task has.
 
 ghost use Rattle.std.specs.Prelude.{◌≡◌, ◌+◌, ◌*◌, ◌≤◌, suc, length, map, replicate, IfOk};
-ghost use Rattle.run_save_shots.specs.declared.limits.TheConstants.{MOST_STEPS};
+ghost use Rattle.verse_base.specs.declared.limits.TheConstants.{MOST_STEPS};
 ghost use Rattle.run_save_shots.specs.View.{task_of, shot_of};
 ghost use Rattle.run_save_shots.specs.Fitting.{arms_of};
 ghost use Rattle.run_save_numbers.specs.Marking.{marked, no_marks, with_child, with_children};

@@ -5,9 +5,8 @@ ghost use Rattle.verse_image.specs.Reading.{Gives};
 ghost use Rattle.run_save_format.specs.Reading.{at_most, numbers_at};
 
 use run_save_format::weights::Numbers;
-use run_save_shots::limits::{MOST_NOW, MOST_STEPS};
 use run_save_values::numbers::number_in;
-use verse_base::limits::MOST_TRACE_BYTES;
+use verse_base::limits::{MOST_NOW, MOST_STEPS, MOST_TRACE_BYTES};
 use verse_image::faults::ReadFault;
 
 /// A number that breaks a rule (S5) where it is above `most`.

@@ -13,7 +13,7 @@ use Rattle.verse_value.specs.Val.{Val}
 use Rattle.verse_value.specs.Store.{Cell, Store}
 use Rattle.verse_meaning_state.specs.State.{Given}
 use Rattle.verse_meaning_state.specs.Waits.{Cause, till, never, done, heard}
-use Rattle.run_save_shots.specs.declared.limits.TheConstants.{MOST_STEPS, MOST_NOW}
+use Rattle.verse_base.specs.declared.limits.TheConstants.{MOST_STEPS, MOST_NOW}
 use Rattle.run_save_shots.specs.Lists.{Each}
 use Rattle.run_save_shots.specs.Kept.{KeptRest, leaf, group, KeptTask, Kept}
 use Rattle.run_save_shots.specs.Fitting.{CauseFits, Fits, RestFits, Stand, TaskFits, stand_at, task_stand, top_place}

@@ -17,7 +17,7 @@ use Rattle.verse_value.specs.declared.runs.CellKind.{CellKind}
 use Rattle.verse_value.specs.declared.runs.CellKind.TheVariants as cell
 use Rattle.verse_meaning_state.specs.State.{Given}
 use Rattle.verse_meaning_state.specs.Waits.{Cause, till, never, done, heard, nth}
-use Rattle.run_save_shots.specs.declared.limits.TheConstants.{MOST_MOMENT}
+use Rattle.verse_base.specs.declared.limits.TheConstants.{MOST_MOMENT}
 use Rattle.run_save_shots.specs.Lists.{Each, EachTwo, AreDistinct}
 use Rattle.run_save_shots.specs.Kept.{KeptFrame, KeptRest, leaf, group, KeptTask}
 use Rattle.run_save_shots.specs.Fitting.{ArmFits, FrameFits, FramesSuit, IsBlock, RestSuits, RootFits, Stand}

@@ -7,7 +7,7 @@ use Rattle.verse_image.specs.Format as image
 use Rattle.verse_image.specs.Reading.{letter_at, mark_at}
 use Rattle.verse_image.proofs.ImageLaws.{image_again}
 use Rattle.verse_code.specs.declared.codes.Code.{Code}
-use Rattle.run_save_shots.specs.declared.limits.TheConstants.{MOST_STEPS, MOST_NOW}
+use Rattle.verse_base.specs.declared.limits.TheConstants.{MOST_STEPS, MOST_NOW}
 use Rattle.run_save_shots.specs.Fitting.{Fits}
 use Rattle.run_save_shots.specs.Kept.{Kept}
 use Rattle.run_save_format.specs.Format.{mark, imaged, numbers}

@@ -11,7 +11,7 @@ use Rattle.verse_code_machine_saved.specs.Resuming.{behind, apart, SameTrees}
 use Rattle.run_save_shots.specs.Kept.{Kept}
 use Rattle.run_save_shots.specs.Keeping.{Spells}
 use Rattle.run_save_shots.specs.Spelling.{state, trees}
-use Rattle.run_save_shots.specs.declared.limits.TheConstants.{MOST_STEPS, MOST_NOW}
+use Rattle.verse_base.specs.declared.limits.TheConstants.{MOST_STEPS, MOST_NOW}
 use Rattle.run_save_moves.specs.Fine.{TextsAreBytes}
 use Rattle.run_save_fits.specs.Laws.{InputsFit}
 use Rattle.run_save_resumes.specs.Laws.{Resumable}

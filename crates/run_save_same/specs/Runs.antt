@@ -10,7 +10,7 @@ use Rattle.verse_code_machine.specs.Runs.{Forest, mach_after}
 use Rattle.run_save_shots.specs.Kept.{Kept}
 use Rattle.run_save_shots.specs.Keeping.{Spells}
 use Rattle.run_save_shots.specs.Spelling.{trees}
-use Rattle.run_save_shots.specs.declared.limits.TheConstants.{MOST_NOW}
+use Rattle.verse_base.specs.declared.limits.TheConstants.{MOST_NOW}
 use Rattle.run_save_moves.specs.Fine.{TextsAreBytes}
 use Rattle.run_save_fits.specs.Laws.{InputsFit}
 use Rattle.run_save_kept.specs.Growing.{filled}

@@ -19,7 +19,7 @@ use Rattle.verse_value.specs.declared.runs.CellKind.TheVariants as cell
 use Rattle.verse_meaning_state.specs.State.{Given}
 use Rattle.verse_meaning_state.specs.Waits.{Cause, till, never, done, heard, nth}
 use Rattle.verse_code_machine.specs.Belonging.{StoreBelongs}
-use Rattle.run_save_shots.specs.declared.limits.TheConstants.{MOST_STEPS, MOST_NOW, MOST_MOMENT}
+use Rattle.verse_base.specs.declared.limits.TheConstants.{MOST_STEPS, MOST_NOW, MOST_MOMENT}
 use Rattle.run_save_shots.specs.Lists.{Each, EachAt, EachTwo, AreDistinct, count}
 use Rattle.run_save_shots.specs.Kept.{KeptFrame, KeptRest, leaf, group, KeptTask, Kept}
 

@@ -11,7 +11,7 @@ use Rattle.verse_code_machine.specs.Belonging.{StateBelongs}
 use Rattle.run_save_shots.specs.Kept.{Kept}
 use Rattle.run_save_shots.specs.Keeping.{Spells}
 use Rattle.run_save_shots.specs.Fitting.{Fits}
-use Rattle.run_save_shots.specs.declared.limits.TheConstants.{MOST_STEPS, MOST_NOW}
+use Rattle.verse_base.specs.declared.limits.TheConstants.{MOST_STEPS, MOST_NOW}
 use Rattle.run_save_moves.specs.Fine.{TextsAreBytes}
 use Rattle.run_save_fits.specs.Held.{Savable}
 use Rattle.run_save_fits.specs.Laws.{InputsFit}

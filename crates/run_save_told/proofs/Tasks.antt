@@ -6,7 +6,7 @@ use Rattle.task_tree.specs.declared.tasks.Role.{Role}
 use Rattle.task_tree.specs.declared.tasks.Role.TheVariants.{Arm, Behind}
 use Rattle.verse_image.specs.Format.{Field, byte, number, each}
 use Rattle.verse_image.specs.Reading.{◌>>=◌}
-use Rattle.run_save_shots.specs.declared.limits.TheConstants.{MOST_MOMENT}
+use Rattle.verse_base.specs.declared.limits.TheConstants.{MOST_MOMENT}
 use Rattle.run_save_shots.specs.Fitting.{Stand, calls, sleeps, stays, awaits_task, awaits_event, gathers, goes_on, stand_at, top_place}
 use Rattle.run_save_format.specs.Format.{wide, optional, list, maybe, value, standing, frame, cause, rest_field, task_field}
 use Rattle.run_save_format.specs.Values.{small_where}

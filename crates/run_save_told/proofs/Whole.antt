@@ -12,7 +12,7 @@ use Rattle.verse_image.specs.Numbers.{IsBytes}
 use Rattle.verse_image.specs.Reading.{image_at, letter_at, mark_at}
 use Rattle.verse_image.proofs.ImageLaws.{image_take}
 use Rattle.verse_image.proofs.NumberLaws.{rest_bytes}
-use Rattle.run_save_shots.specs.declared.limits.TheConstants.{MOST_STEPS, MOST_NOW}
+use Rattle.verse_base.specs.declared.limits.TheConstants.{MOST_STEPS, MOST_NOW}
 use Rattle.run_save_shots.specs.Kept.{Kept}
 use Rattle.run_save_format.specs.declared.weights.Numbers.{Numbers}
 use Rattle.run_save_format.specs.Faults.{ReadIsSaved, RunOrFault, SavedIsRead}

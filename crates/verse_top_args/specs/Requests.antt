@@ -1,4 +1,5 @@
 -- Which command a request asks for.
+use Rattle.verse_base.specs.declared.limits.TheConstants.{MOST_NOW, MOST_STEPS}
 use Rattle.std.specs.Prelude.{◌≡◌, ℕ, ◌≤◌, ℤ, List, [], ◌∷◌, map, string_bytes}
 use Rattle.std.specs.Prelude.{option_copied, unwrap_or}
 use Rattle.verse_top_args.specs.Words.{AreFiles, Command, Given, Gives, Inputs, IsFile, Options}
@@ -15,8 +16,8 @@ options_with r ints = record { steps = r.steps; until = r.until; inputs = ints; 
 
 -- the numbers are within their limits
 pub record IsWithin (r : Running) : Type 0 where
-  pub steps : r.steps ≤ 100000000
-  pub until : r.until ≤ 1000000000000
+  pub steps : r.steps ≤ MOST_STEPS
+  pub until : r.until ≤ MOST_NOW
 
 pub record AsksForRun (r : Running) (c : Command) : Type 0 where
   pub within : IsWithin r
@@ -36,7 +37,7 @@ pub record AsksForImage (make : List ℕ → Options → Command) (r : Running) 
 
 -- there is one file, and the horizon is within its limit
 pub record AsksForResume (r : Resuming) (c : Command) : Type 0 where
-  pub within : r.until ≤ 1000000000000
+  pub within : r.until ≤ MOST_NOW
   pub file : List ℕ
   pub one : map string_bytes r.files.now ≡ file ∷ []
   pub is : c ≡ resume file r.until r.heap
@@ -113,6 +114,6 @@ pub record Gave (words : List (List ℕ)) (r : Running) : Type 0 where
   pub gives : Gives no_options words given
   pub lists : Inputs given.inputs ints
   pub steps : r.steps ≡ unwrap_or given.steps 10000000
-  pub until : r.until ≡ unwrap_or given.until 1000000000000
+  pub until : r.until ≡ unwrap_or given.until MOST_NOW
   pub inputs : option_copied r.inputs ≡ given.inputs
   pub heap : r.heap ≡ given.heap

@@ -1,4 +1,5 @@
 -- The words of a command line, and the command that they are.
+use Rattle.verse_base.specs.declared.limits.TheConstants.{MOST_NOW, MOST_STEPS}
 use Rattle.std.specs.Prelude.{◌≡◌, ◌≢◌, ℕ, ◌≤◌, ℤ, List, [], ◌∷◌, ◌++◌, Bool, true, false, Option, Some, None, unwrap_or, length, codes}
 use Rattle.std.specs.Prelude.{decimal, FitsSigned}
 use Rattle.std.specs.Fmt.{signed_decimal}
@@ -91,9 +92,9 @@ no_options = record { steps = None; until = None; inputs = None; heap = false }
 -- after the options before, these words give the options in the end: in any order, each at most once
 pub data Gives : Given → List (List ℕ) → Given → Type 0 where
   none_left : {g : Given} → Gives g [] g
-  steps : {g h : Given} {value : List ℕ} {words : List (List ℕ)} (n : ℕ) → g.steps ≡ None → IsNumber 100000000 value n →
+  steps : {g h : Given} {value : List ℕ} {words : List (List ℕ)} (n : ℕ) → g.steps ≡ None → IsNumber MOST_STEPS value n →
       Gives (record g { steps = Some n }) words h → Gives g (codes "--steps" ∷ value ∷ words) h
-  until : {g h : Given} {value : List ℕ} {words : List (List ℕ)} (n : ℕ) → g.until ≡ None → IsNumber 1000000000000 value n →
+  until : {g h : Given} {value : List ℕ} {words : List (List ℕ)} (n : ℕ) → g.until ≡ None → IsNumber MOST_NOW value n →
       Gives (record g { until = Some n }) words h → Gives g (codes "--until" ∷ value ∷ words) h
   inputs : {g h : Given} {value : List ℕ} {words : List (List ℕ)} → g.inputs ≡ None →
       Gives (record g { inputs = Some value }) words h → Gives g (codes "--in" ∷ value ∷ words) h
@@ -109,7 +110,7 @@ pub data Inputs : Option (List ℕ) → List ℤ → Type 0 where
 abbrev pub options_of : Given → List ℤ → Options
 options_of g ns = record {
   steps = unwrap_or g.steps 10000000;
-  until = unwrap_or g.until 1000000000000;
+  until = unwrap_or g.until MOST_NOW;
   inputs = ns;
   heap = g.heap;
 }
@@ -128,7 +129,7 @@ pub data Says : List (List ℕ) → Command → Type 0 where
   -- steps and inputs are those of the run that was saved
   says_resume : {file : List ℕ} {words : List (List ℕ)} {g : Given} → IsFile file →
       Gives no_options words g → g.steps ≡ None → g.inputs ≡ None →
-      Says (codes "resume" ∷ file ∷ words) (resume file (unwrap_or g.until 1000000000000) g.heap)
+      Says (codes "resume" ∷ file ∷ words) (resume file (unwrap_or g.until MOST_NOW) g.heap)
   says_check : {files : List (List ℕ)} → AreFiles files → Says (codes "check" ∷ files) (check files)
   says_build : {files : List (List ℕ)} → AreFiles files → Says (codes "build" ∷ files) (build files)
   says_list : {file : List ℕ} → IsFile file → Says (codes "list" ∷ file ∷ []) (list file)

@@ -11,6 +11,7 @@ ghost use Rattle.verse_top_args.specs.Requests.{NoOptions, names_of};
 use crate::numbers::{inputs, is, lists_inputs, number};
 use crate::options::{Settings, all_options};
 use std::alloc::Global;
+use verse_base::limits::MOST_NOW;
 use verse_base::refusals::Memory;
 
 /// The most files that a program may have.
@@ -18,7 +19,7 @@ const MOST_FILES: usize = 16;
 /// The steps that a run may spend where the words don't say.
 pub const DEFAULT_STEPS: u64 = 10000000;
 /// The horizon of the clock where the words don't say, in milliseconds.
-pub const DEFAULT_UNTIL: u64 = 1000000000000;
+pub const DEFAULT_UNTIL: u64 = MOST_NOW;
 /// The least number of functions of a generated load.
 const LEAST_LOAD: u64 = 2;
 /// The greatest number of functions of a generated load.

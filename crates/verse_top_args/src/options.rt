@@ -1,15 +1,12 @@
 //! The options of a command line, in any order, each at most once.
+ghost use Rattle.verse_base.specs.declared.limits.TheConstants.{MOST_NOW, MOST_STEPS};
 ghost use Rattle.std.specs.Prelude.{◌≡◌, ℕ, List, false, true, map, string_bytes, ◌∷◌, ◌≤◌, length};
 ghost use Rattle.std.specs.Prelude.{IfSome, MatchOption, option_copied};
 ghost use Rattle.verse_top_args.specs.Words.{Gives, IsNumber, no_options};
 ghost use Rattle.verse_top_args.specs.Settings.{Continues, Wrong, given_of};
 
 use crate::numbers::{is, number};
-
-/// The most steps that a run may be given.
-const MOST_STEPS: u64 = 100000000;
-/// The latest horizon of the clock, in milliseconds.
-const MOST_UNTIL: u64 = 1000000000000;
+use verse_base::limits::{MOST_NOW, MOST_STEPS};
 
 /// The options given so far; the inputs by the word that lists them.
 #[derive(Clone, Copy)]
@@ -80,8 +77,8 @@ fn heap<'a>(given: Settings<'a>) -> Option<Settings<'a>>
 
 fn steps<'a>(given: Settings<'a>, value: &str) -> Option<Settings<'a>>
     ensures { MatchOption result ((n : ℕ) → given.entry.steps ≡ None →
-        ¬ (IsNumber 100000000 value.now n))
-        (λ g. (n : ℕ) × (given.entry.steps ≡ None) × IsNumber 100000000 value.now n ×
+        ¬ (IsNumber MOST_STEPS value.now n))
+        (λ g. (n : ℕ) × (given.entry.steps ≡ None) × IsNumber MOST_STEPS value.now n ×
         (given_of g ≡ record (given_of given.entry) { steps = Some n })) }
 {
     if given.steps.is_some() {
@@ -96,14 +93,14 @@ fn steps<'a>(given: Settings<'a>, value: &str) -> Option<Settings<'a>>
 
 fn until<'a>(given: Settings<'a>, value: &str) -> Option<Settings<'a>>
     ensures { MatchOption result ((n : ℕ) → given.entry.until ≡ None →
-        ¬ (IsNumber 1000000000000 value.now n))
-        (λ g. (n : ℕ) × (given.entry.until ≡ None) × IsNumber 1000000000000 value.now n ×
+        ¬ (IsNumber MOST_NOW value.now n))
+        (λ g. (n : ℕ) × (given.entry.until ≡ None) × IsNumber MOST_NOW value.now n ×
         (given_of g ≡ record (given_of given.entry) { until = Some n })) }
 {
     if given.until.is_some() {
         return None;
     }
-    let until = number(value, MOST_UNTIL)?;
+    let until = number(value, MOST_NOW)?;
     Some(Settings {
         until: Some(until),
         ..given

@@ -1,4 +1,5 @@
 -- What is written behind the trace of a run.
+use Rattle.verse_base.specs.declared.limits.TheConstants.{MOST_NOW, MOST_STEPS}
 use Rattle.std.specs.Prelude.{◌≡◌, ◌⊎◌, ℕ, ◌≤◌, List, [], ◌++◌, Bool, cond, length}
 use Rattle.verse_value.specs.Store.{Store}
 use Rattle.verse_value.specs.Runs.{Run}
@@ -22,5 +23,5 @@ FrontOf asked cells files r text = FirstLines asked cells text ⊎ (text ≡ res
 -- the limits of a run
 pub record IsWithin (o : Options) : Type 0 where
   pub inputs : length o.inputs ≤ 1000
-  pub steps : o.steps ≤ 100000000
-  pub until : o.until ≤ 1000000000000
+  pub steps : o.steps ≤ MOST_STEPS
+  pub until : o.until ≤ MOST_NOW

@@ -1,5 +1,6 @@
 //! The run of a code, written as it goes on.
 
+ghost use Rattle.verse_base.specs.declared.limits.TheConstants.{MOST_STEPS};
 ghost use Rattle.std.specs.Prelude.{◌≡◌, ◌≤◌, ℕ, List, Option, [], cond, IfErr, IfOk, OnOk};
 ghost use Rattle.verse_code.specs.Validity.{Valid};
 ghost use Rattle.verse_outside.specs.Held.{with_more};
@@ -56,7 +57,7 @@ pub(crate) fn stream<H: Heap + Drop, W: Waits + Drop, S: Sink>(
     stream_on(alloc, code, vm, asked.steps, asked.heap, out)
 }
 
-/// Takes all turns of a run that is at its start and may spend so many steps, at most 100000000,
+/// Takes all turns of a run that is at its start and may spend so many steps, at most `MOST_STEPS`,
 /// writes its text as it goes on, with the lines of its heap where these are asked for, and answers
 /// the status.
 pub fn stream_on<H: Heap + Drop, W: Waits + Drop, S: Sink>(
@@ -68,7 +69,7 @@ pub fn stream_on<H: Heap + Drop, W: Waits + Drop, S: Sink>(
     out: &mut S,
 ) -> Result<u8, Stop>
     requires valid { Valid code.now }
-    requires few { steps ≤ 100000000 }
+    requires few { steps ≤ MOST_STEPS }
     requires begun { (w : Course) × (w.steps ≡ steps) ×
         StandsAt H.state W.pending code.now w 0 [] vm }
     ensures leaves { (w : Course) → w.steps ≡ steps → w.heap ≡ lines →

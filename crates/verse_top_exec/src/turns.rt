@@ -1,5 +1,6 @@
 //! The turns of a run, each written when it is over.
 
+ghost use Rattle.verse_base.specs.declared.limits.TheConstants.{MOST_STEPS};
 ghost use Rattle.std.specs.Prelude.{◌≡◌, ◌≤◌, [], length};
 ghost use Rattle.verse_code.specs.Validity.{Valid};
 ghost use Rattle.vm_run.specs.Standing.{Belongs};
@@ -15,7 +16,7 @@ use verse_value::runs::Ending;
 use vm_run::laws::runs_hold;
 use vm_run::machines::Vm;
 
-/// Takes all turns of a run that is at its start and may spend so many steps, at most 100000000,
+/// Takes all turns of a run that is at its start and may spend so many steps, at most `MOST_STEPS`,
 /// and writes the lines of each.
 pub fn all_turns<H: Heap + Drop, W: Waits + Drop, S: Sink>(
     vm: &mut Vm<H, W>,
@@ -24,7 +25,7 @@ pub fn all_turns<H: Heap + Drop, W: Waits + Drop, S: Sink>(
     out: &mut S,
 ) -> Result<Ending, Stop>
     requires valid { Valid code.now }
-    requires few { steps ≤ 100000000 }
+    requires few { steps ≤ MOST_STEPS }
     requires begun { (w : Course) × (w.steps ≡ steps) ×
         StandsAt H.state W.pending code.now w 0 [] vm.old }
     ensures goes { (w : Course) → w.steps ≡ steps →

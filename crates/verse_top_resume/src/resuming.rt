@@ -1,5 +1,6 @@
 //! What is done with the bytes of a file of which the saved run goes on.
 
+ghost use Rattle.verse_base.specs.declared.limits.TheConstants.{MOST_NOW};
 ghost use Rattle.std.specs.Prelude.{◌≡◌, ◌≤◌, ℕ};
 ghost use Rattle.verse_top_exec.specs.Executions.{IsNothing};
 ghost use Rattle.verse_top_exec.specs.Leaving.{Leaves};
@@ -21,7 +22,7 @@ pub fn resumed_once()
     ensures { ResumedOnce }
 {}
 
-/// Goes on with the run that is saved in the file, to this horizon, at most 1000000000000, or tells
+/// Goes on with the run that is saved in the file, to this horizon, at most `MOST_NOW`, or tells
 /// why there is none, and answers the status. What is written of the run is written as it goes on,
 /// with the lines of its heap where these are asked for.
 pub fn resume_file<S: Sink>(
@@ -31,7 +32,7 @@ pub fn resume_file<S: Sink>(
     lines: bool,
     out: &mut S,
 ) -> Result<u8, Stop>
-    requires until { until ≤ 1000000000000 }
+    requires until { until ≤ MOST_NOW }
     ensures leaves { Leaves (Resumes file.now until lines) (ResumesSoFar file.now until lines)
         (S.faults out.old) (S.faults out.new) (S.taken out.old) (S.taken out.new) result }
     ensures later { S.faults out.old ≤ S.faults out.new }

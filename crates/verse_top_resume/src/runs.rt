@@ -1,5 +1,6 @@
 //! The run that goes on from what is kept.
 
+ghost use Rattle.verse_base.specs.declared.limits.TheConstants.{MOST_NOW};
 ghost use Rattle.std.specs.Prelude.{◌≡◌, ◌≤◌, []};
 ghost use Rattle.tx_heap.specs.State.{empty};
 ghost use Rattle.verse_code.specs.Validity.{Valid};
@@ -35,7 +36,7 @@ pub(crate) fn go_on<H: Heap + Drop, W: Waits + Drop, S: Sink>(
     requires fits { Fits code.now (shot_of shot) }
     requires heap { H.state heap ≡ empty }
     requires waits { W.pending waits ≡ [] }
-    requires until { until ≤ 1000000000000 }
+    requires until { until ≤ MOST_NOW }
     ensures leaves { Leaves (Comes code.now (course_from code.now (shot_of shot) until lines))
         (ComesSoFar code.now (course_from code.now (shot_of shot) until lines)) (S.faults out.old)
         (S.faults out.new) (S.taken out.old) (S.taken out.new) result }

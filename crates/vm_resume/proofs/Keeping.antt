@@ -2,7 +2,7 @@
 use Rattle.std.proofs.Common.{◌≤◌, ℕ, suc, subst, arith}
 use Rattle.verse_code.specs.declared.codes.Code.{Code}
 use Rattle.verse_code.specs.Validity.{Valid}
-use Rattle.run_save_shots.specs.declared.limits.TheConstants.{MOST_NOW}
+use Rattle.verse_base.specs.declared.limits.TheConstants.{MOST_NOW}
 use Rattle.run_save_moves.specs.Fine.{TextsAreBytes}
 use Rattle.run_save_fits.specs.Laws.{StageSavable, RunIsSavable, SavableGoesOn}
 use Rattle.run_save_premises.specs.Inputs.{FewInputsFit}

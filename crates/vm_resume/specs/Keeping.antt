@@ -1,7 +1,7 @@
 -- What is kept of a run that went on from what was kept.
 use Rattle.std.specs.Prelude.{◌≤◌, ℕ}
 use Rattle.verse_code.specs.declared.codes.Code.{Code}
-use Rattle.run_save_shots.specs.declared.limits.TheConstants.{MOST_NOW}
+use Rattle.verse_base.specs.declared.limits.TheConstants.{MOST_NOW}
 use Rattle.run_save_shots.specs.Kept.{Kept}
 use Rattle.run_save_shots.specs.Spelling.{state, trees}
 use Rattle.vm_run.specs.Origins.{Origin, from_state, CanBeRun}

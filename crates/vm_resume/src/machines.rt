@@ -1,5 +1,6 @@
 //! A machine between two turns, with its bounds.
 
+ghost use Rattle.verse_base.specs.declared.limits.TheConstants.{MOST_NOW};
 ghost use Rattle.std.specs.Prelude.{◌≡◌, ◌≤◌, [], IfOk};
 ghost use Rattle.verse_code.specs.Validity.{Valid};
 ghost use Rattle.tx_heap.specs.State.{empty};
@@ -23,7 +24,7 @@ use vm_run::machines::{Bounds, Vm};
 /// A machine that stands between two turns in the state that a shot spells which fits the code,
 /// over an empty heap and no waits. It has the steps that were left and counts on from those that
 /// were spent, and none of its lines was drained. The horizon is the last moment of a turn in
-/// milliseconds, at most 1000000000000; where it is below the least moment of a wait, the first
+/// milliseconds, at most `MOST_NOW`; where it is below the least moment of a wait, the first
 /// turn ends the run. The error is want of memory. The time goes with the size of the shot.
 pub fn from_shot<H: Heap + Drop, W: Waits + Drop>(
     alloc: Global,
@@ -37,7 +38,7 @@ pub fn from_shot<H: Heap + Drop, W: Waits + Drop>(
     requires fits { Fits code.now (shot_of shot) }
     requires heap { H.state heap ≡ empty }
     requires waits { W.pending waits ≡ [] }
-    requires until { until ≤ 1000000000000 }
+    requires until { until ≤ MOST_NOW }
     ensures { IfOk result (λ m. At H.state W.pending code.now
         (from_state (state (shot_of shot)) (trees code.now (shot_of shot)))
         (steps_of (shot_of shot)) until 0 [] m) }

@@ -1,4 +1,5 @@
 -- When a machine stands for the run of its code after so many calls.
+use Rattle.verse_base.specs.declared.limits.TheConstants.{MOST_NOW, MOST_STEPS}
 use Rattle.std.specs.Prelude.{◌≡◌, ◌≤◌, ℕ, zero, suc, ℤ, List, [], ◌++◌, length, map, Option, Some, None}
 use Rattle.verse_code.specs.declared.codes.Code.{Code}
 use Rattle.verse_value.specs.Val.{int, array, vals}
@@ -34,8 +35,8 @@ module _ {H W : Type 0} where
     pub steps_are : m.bounds.steps ≡ steps
     pub until_is : m.bounds.until ≡ until
     pub can : CanBeRun c origin steps
-    pub few_steps : steps ≤ 100000000
-    pub near : until ≤ 1000000000000
+    pub few_steps : steps ≤ MOST_STEPS
+    pub near : until ≤ MOST_NOW
 
 module _ {H W : Type 0} (state : H → Kept) (pending : W → List Pending) where
   -- how many waits are live, where that counts

@@ -1,5 +1,6 @@
 //! What a machine holds.
 
+ghost use Rattle.verse_base.specs.declared.limits.TheConstants.{MOST_NOW, MOST_STEPS};
 ghost use Rattle.std.specs.Prelude.{◌≡◌, ◌≤◌, List, [], length, map, IfOk};
 ghost use Rattle.verse_value.specs.Val.{int, array, vals};
 ghost use Rattle.verse_value.specs.View.{val_of};
@@ -72,7 +73,7 @@ impl<H: Drop, W: Drop> Drop for Vm<H, W> {
 
 impl<H: Heap + Drop, W: Waits + Drop> Vm<H, W> {
     /// A machine of which nothing has begun, over an empty heap and no waits. There are at most
-    /// 1000 inputs; steps are at most 100000000, and the horizon is at most 1000000000000.
+    /// 1000 inputs; steps are at most `MOST_STEPS`, and the horizon is at most `MOST_NOW`.
     pub fn new(
         alloc: Global,
         code: &Code,
@@ -85,8 +86,8 @@ impl<H: Heap + Drop, W: Waits + Drop> Vm<H, W> {
         requires heap { H.state heap ≡ empty }
         requires waits { W.pending waits ≡ [] }
         requires inputs { length inputs.now ≤ 1000 }
-        requires steps { bounds.steps ≤ 100000000 }
-        requires until { bounds.until ≤ 1000000000000 }
+        requires steps { bounds.steps ≤ MOST_STEPS }
+        requires until { bounds.until ≤ MOST_NOW }
         ensures { IfOk result (λ m.
             At H.state W.pending code.now (from_inputs inputs.now) bounds.steps bounds.until 0 []
             m) }
@@ -109,11 +110,11 @@ impl<H: Heap + Drop, W: Waits + Drop> Vm<H, W> {
         })
     }
 
-    /// A machine between two turns, which has these parts. Steps are at most 100000000, and the
-    /// horizon is at most 1000000000000. Takes no memory.
+    /// A machine between two turns, which has these parts. Steps are at most `MOST_STEPS`, and the
+    /// horizon is at most `MOST_NOW`. Takes no memory.
     pub fn from_parts(code: &Code, run: Runner<H>, tasks: Tasks<W>, bounds: Bounds) -> Vm<H, W>
-        requires steps { bounds.steps ≤ 100000000 }
-        requires until { bounds.until ≤ 1000000000000 }
+        requires steps { bounds.steps ≤ MOST_STEPS }
+        requires until { bounds.until ≤ MOST_NOW }
         ensures { (s : State) (trees : Forest) (past : List Line) →
             Rested W.pending s trees past (view_of H.state run) tasks →
             IsResumable code.now bounds.steps s trees →

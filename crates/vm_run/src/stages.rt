@@ -1,5 +1,6 @@
 //! The start of a run and its next turn, by the parts of a machine.
 
+ghost use Rattle.verse_base.specs.declared.limits.TheConstants.{MOST_STEPS};
 ghost use Rattle.std.specs.Prelude.{◌≡◌, ◌≤◌, ℕ, ℤ, List, map, IfOk, if◌then◌else◌};
 ghost use Rattle.verse_code.specs.Validity.{Valid};
 ghost use Rattle.verse_value.specs.Val.{int, array, vals};
@@ -29,7 +30,7 @@ pub(crate) fn begin<H: Heap, W: Waits>(
     steps: u64,
 ) -> Result<Phase, Memory>
     requires valid { Valid code.now }
-    requires few { steps ≤ 100000000 }
+    requires few { steps ≤ MOST_STEPS }
     requires can { CanBegin W.pending code.now (val_of inputs) steps
         (view_of H.state run.old) tasks.old }
     ensures { (ns : List ℤ) → val_of inputs ≡ array (vals (map int ns)) →
@@ -57,7 +58,7 @@ pub(crate) fn go<H: Heap, W: Waits>(
     bounds: Bounds,
 ) -> Result<Phase, Memory>
     requires valid { Valid code.now }
-    requires few { bounds.steps ≤ 100000000 }
+    requires few { bounds.steps ≤ MOST_STEPS }
     requires can { CanTurn W.pending code.now bounds.steps bounds.until
         (view_of H.state run.old) tasks.old }
     ensures { IfOk result (λ p. Turns W.pending code.now bounds.steps bounds.until p
@@ -78,7 +79,7 @@ fn follow<H: Heap, W: Waits>(
     steps: u64,
 ) -> Result<Phase, Memory>
     requires valid { Valid code.now }
-    requires few { steps ≤ 100000000 }
+    requires few { steps ≤ MOST_STEPS }
     requires whole { IsWholly W.pending code.now steps (view_of H.state run.old) tasks.old }
     ensures { IfOk result (λ p. Follows W.pending code.now steps p
         (view_of H.state run.old) tasks.old (view_of H.state run.new) tasks.new) }
