@@ -22,11 +22,7 @@ use Rattle.vm_running.specs.declared.runners.Did.TheVariants as did
 use Rattle.vm_running.specs.Views.{View, Aside, Ready, state_of, memories}
 use Rattle.vm_running.specs.Doings.{Doing, going, acts, goes_to, goes_on, where_fits, spends}
 use Rattle.vm_running.specs.Comes.{done, Ends, Comes, Leads}
-use Rattle.vm_running.proofs.Steps.{at, stays, sticks, fits_in, ready_as, comes_by}
-
--- to a place, whatever forbids it
-abbrev pub moves : ℕ → Doing
-moves q w x s f fs = Next (record { who = w; world = x; state = s; frame = record f { place = q }; below = fs })
+use Rattle.vm_running.proofs.Steps.{at, stays, sticks, fits_in, ready_as, comes_by, moves}
 
 ltn_yes : (n m : ℕ) → n < m → ltn n m ≡ true
 ltn_yes n zero h = absurd (omega (arith, h))
@@ -172,25 +168,3 @@ module _ {h : Kept} {tr : Trace} {l s n : ℕ} where
         ready = taken_ready f.frame.defers f fs gs q r e;
         inner = λ lt. taken_inner f.frame.defers f fs gs q e lt;
       }
-
-  -- the frame moves, and then the step is spent
-
-  pub ready_moved : (q : ℕ) (fs gs : List Framed) → Ready (at h tr l s n fs) → gs ≡ moved q fs → Ready (at h tr l s n gs)
-  ready_moved q [] gs r e = absurd (r.some refl)
-  ready_moved q (f ∷ fs) gs r e = rw e (ready_as (moved q (f ∷ fs)) r refl (λ none. absurd (omega (arith, ap length none))))
-
-  pub spends_moved : (q : ℕ) (fs gs : List Framed) (d : Did) (z : View) → fs ≢ [] → permits q fs ≡ true → gs ≡ moved q fs →
-      Comes (spends going) d (at h tr l s n gs) z → Comes (where_fits q (spends (moves q))) d (at h tr l s n fs) z
-  spends_moved q [] gs d z some sure e comes = absurd (some refl)
-  spends_moved q (f ∷ fs) gs d z some sure e comes =
-      record {
-        ends = λ a w x past. subst (λ p. Ends p d a w x z)
-            (sym (ap (λ b. m.only_where b (state_of a (at h tr l s n (f ∷ fs))) (done (spends (moves q)) a w x (at h tr l s n (f ∷ fs))))
-            (fits_in f.born f.frame.handlers (memories a.past h.copies tr.marks) q ∙ sure) ∙
-            ap (λ gs. done (spends going) a w x (at h tr l s n gs)) (sym e))) (comes.ends a w x past);
-        ready = comes.ready;
-      }
-
--- a step was spent, and the task goes on
-pub spent_on : {u v : View} → Leads (spends going) u going v → Comes (spends going) did.On u v
-spent_on lead = comes_by lead (record { ends = λ a w x past. (refl, past); ready = lead.ready })

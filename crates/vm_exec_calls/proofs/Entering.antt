@@ -22,7 +22,7 @@ use Rattle.vm_running.specs.declared.runners.Did.TheVariants as did
 use Rattle.vm_running.specs.Views.{View, Aside, Ready, state_of, memories}
 use Rattle.vm_running.specs.Doings.{Doing, acts, spends, popping_many}
 use Rattle.vm_running.specs.Comes.{done, Ends, Comes, Leads}
-use Rattle.vm_running.proofs.Steps.{at, stays, sticks, fits_in, ready_as, ok_by}
+use Rattle.vm_running.proofs.Steps.{at, stays, sticks, fits_in, ready_as, ok_by, many_more}
 use Rattle.vm_exec_calls.specs.Calling.{calls, calls_method, chosen_of}
 
 -- a frame begins on the others
@@ -32,14 +32,6 @@ opens g vs w x s f fs = Next (machine w x s (life_from s.clock.left) (m.locals_o
 units_same : (n : ℕ) → m.units n ≡ fiber.units n
 units_same zero = refl
 units_same (suc n) = ap (λ us. unit ∷ us) (units_same n)
-
--- one more operand, before the others
-many_more : (k : ℕ) (st us : List Val) (s : State) (go : List Val → List Val → Step) →
-    on_many k st us s (λ vs st. on_top st s (λ v st. go (v ∷ vs) st)) ≡ on_many (suc k) st us s go
-many_more zero [] us s go = refl
-many_more zero (v ∷ st) us s go = refl
-many_more (suc k) [] us s go = refl
-many_more (suc k) (v ∷ st) us s go = many_more k st (v ∷ us) s go
 
 module _ (h : Kept) (tr : Trace) (l s n : ℕ) where
   calls_same : (g : Func) (vs : List Val) (q : ℕ) (f : Framed) (fs gs : List Framed) → q ≡ suc f.frame.place →
@@ -63,10 +55,6 @@ module _ {h : Kept} {tr : Trace} {l s n : ℕ} where
       (done (spends (opens g vs)) a w x (at h tr l s n (moved (suc f.frame.place) (f ∷ fs)))))
       (fits_in f.born f.frame.handlers (memories a.past h.copies tr.marks) (suc f.frame.place) ∙
       (ap (fits f.frame.handlers) (sym one) ∙ barred)))
-
-  pub ready_moved : (q : ℕ) (fs gs : List Framed) → Ready (at h tr l s n fs) → gs ≡ moved q fs → Ready (at h tr l s n gs)
-  ready_moved q [] gs r e = absurd (r.some refl)
-  ready_moved q (f ∷ fs) gs r e = rw e (ready_as (moved q (f ∷ fs)) r refl (λ none. absurd (omega (arith, ap length none))))
 
   pub calls_moved : (g : Func) (vs : List Val) (q : ℕ) (fs gs : List Framed) (r : Did) (z : View) → fs ≢ [] → q ≡ place_of fs + 1 →
       permits q fs ≡ true → gs ≡ moved q fs → Comes (spends (opens g vs)) r (at h tr l s n gs) z → Comes (calls g vs) r (at h tr l s n fs) z

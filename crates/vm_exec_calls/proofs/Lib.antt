@@ -1,4 +1,3 @@
-pub mod Handed
 pub mod Entering
 pub mod Choosing
 pub mod Blocks

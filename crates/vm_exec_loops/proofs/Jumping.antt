@@ -22,16 +22,12 @@ use Rattle.vm_running.specs.declared.runners.Did.TheVariants as did
 use Rattle.vm_running.specs.Views.{View, Aside, Ready, state_of, memories}
 use Rattle.vm_running.specs.Doings.{Doing, going, goes_to, goes_on, where_fits, spends, putting}
 use Rattle.vm_running.specs.Comes.{done, Ends, Comes, Leads}
-use Rattle.vm_running.proofs.Steps.{at, stays, sticks, fits_in, fits_none, ready_as, comes_by}
+use Rattle.vm_running.proofs.Steps.{at, stays, sticks, fits_in, fits_none, ready_as, comes_by, moves}
 use Rattle.vm_exec_loops.specs.Domains.{is_domain, is_int}
 
 -- to the label where the two differ
 abbrev pub compares : ℕ → Val → Val → Doing
 compares label a b w x s f fs = m.goes w x s s f.life f.locals f.stack (cond (val_eq a b) (suc f.place) label) f.handlers fs
-
--- to a place, whatever forbids it
-abbrev pub moves : ℕ → Doing
-moves q w x s f fs = Next (record { who = w; world = x; state = s; frame = record f { place = q }; below = fs })
 
 -- into the local and the next, where the value is of some kind
 abbrev pub each_of : ℕ → Val → Doing
@@ -119,22 +115,6 @@ module _ {h : Kept} {tr : Trace} {l s n : ℕ} where
       Comes (where_fits q (spends (moves q))) (did.Over ending.Stuck) (at h tr l s n fs) (at h tr l s n gs)
   spends_barred q fs gs e = fits_none (spends (moves q)) q fs gs e
 
-  pub ready_moved : (q : ℕ) (fs gs : List Framed) → Ready (at h tr l s n fs) → gs ≡ moved q fs → Ready (at h tr l s n gs)
-  ready_moved q [] gs r e = absurd (r.some refl)
-  ready_moved q (f ∷ fs) gs r e = rw e (ready_as (moved q (f ∷ fs)) r refl (λ none. absurd (omega (arith, ap length none))))
-
-  pub spends_moved : (q : ℕ) (fs gs : List Framed) (d : Did) (z : View) → fs ≢ [] → permits q fs ≡ true → gs ≡ moved q fs →
-      Comes (spends going) d (at h tr l s n gs) z → Comes (where_fits q (spends (moves q))) d (at h tr l s n fs) z
-  spends_moved q [] gs d z some sure e comes = absurd (some refl)
-  spends_moved q (f ∷ fs) gs d z some sure e comes =
-      record {
-        ends = λ a w x past. subst (λ p. Ends p d a w x z)
-            (sym (ap (λ b. m.only_where b (state_of a (at h tr l s n (f ∷ fs))) (done (spends (moves q)) a w x (at h tr l s n (f ∷ fs))))
-            (fits_in f.born f.frame.handlers (memories a.past h.copies tr.marks) q ∙ sure) ∙
-            ap (λ gs. done (spends going) a w x (at h tr l s n gs)) (sym e))) (comes.ends a w x past);
-        ready = comes.ready;
-      }
-
   pub each_leads : (i : ℕ) (v : Val) (fs : List Framed) → Ready (at h tr l s n fs) → is_domain v ≡ true →
       Leads (each_of i v) (at h tr l s n fs) (putting i v (putting (suc i) (int (pos 0)) goes_on)) (at h tr l s n fs)
   each_leads i v [] r e = absurd (r.some refl)
@@ -187,10 +167,6 @@ module _ {h : Kept} {tr : Trace} {l s n : ℕ} where
 pub false_apart : (b : Bool) (u v : Val) → b ≡ false → (u ≡ v → b ≡ true) → u ≡ v → ⊥
 false_apart true u v e same is = absurd (cc)
 false_apart false u v e same is = absurd (let so = same is in cc)
-
--- a step was spent, and the task goes on
-pub spent_on : {u v : View} → Leads (spends going) u going v → Comes (spends going) did.On u v
-spent_on lead = comes_by lead (record { ends = λ a w x past. (refl, past); ready = lead.ready })
 
 -- the next local
 

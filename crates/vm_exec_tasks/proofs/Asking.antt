@@ -19,7 +19,7 @@ use Rattle.vm_running.specs.declared.runners.Did.TheVariants as did
 use Rattle.vm_running.specs.Views.{View, Ready, state_of, memories}
 use Rattle.vm_running.specs.Doings.{Doing}
 use Rattle.vm_running.specs.Comes.{done, Comes, Leads}
-use Rattle.vm_running.proofs.Steps.{at, stays, sticks, ready_as}
+use Rattle.vm_running.proofs.Steps.{at, stays, sticks, ready_as, ready_moved}
 use Rattle.vm_exec_tasks.specs.declared.asked.Asked.{Asked}
 use Rattle.vm_exec_tasks.specs.declared.asked.Asked.TheVariants as asked
 use Rattle.vm_exec_tasks.specs.Asking.{AsksFor, Asks, Settled, IsFree}
@@ -90,10 +90,6 @@ module _ {h : Kept} {tr : Trace} {l s n : ℕ} where
   free_leads go (f ∷ fs) r e =
       stays r (λ a w x. ap (λ b. m.only_where b (state_of a (at h tr l s n (f ∷ fs))) (done go a w x (at h tr l s n (f ∷ fs))))
       (sym (e (memories a.past h.copies tr.marks))))
-
-  pub ready_moved : (q : ℕ) (fs gs : List Framed) → Ready (at h tr l s n fs) → gs ≡ moved q fs → Ready (at h tr l s n gs)
-  ready_moved q [] gs r e = absurd (r.some refl)
-  ready_moved q (f ∷ fs) gs r e = rw e (ready_as (moved q (f ∷ fs)) r refl (λ none. absurd (omega (arith, ap length none))))
 
   pub asks_next : (go : Doing) (k : Asked) (z : View) (fs gs : List Framed) → fs ≢ [] → gs ≡ moved (place_of fs + 1) fs →
       Asks go k (at h tr l s n gs) z → Asks (after_next go) k (at h tr l s n fs) z
@@ -170,11 +166,3 @@ many_free k vs (f ∷ fs) gs e free = many_from k f.frame.stack [] vs f fs gs e 
 pub pushed_free : (v : Val) (fs gs : List Framed) → gs ≡ pushed v fs → IsFree fs → IsFree gs
 pushed_free v [] gs e free = subst IsFree (sym e) free
 pushed_free v (f ∷ fs) gs e free = subst IsFree (sym e) free
-
-pub none_of : {A P : Type 0} (o : Option A) → o ≡ None → IfNone o P → P
-none_of None e h = h
-none_of (Some x) e h = absurd (cc)
-
-pub some_of : {A : Type 0} (P : A → Type 0) (o : Option A) (x : A) → o ≡ Some x → IfSome o P → P x
-some_of P None x e h = absurd (cc)
-some_of P (Some y) x e h = let same : y ≡ x = cc in subst P same h

@@ -23,7 +23,7 @@ use Rattle.vm_running.specs.declared.runners.Did.TheVariants as did
 use Rattle.vm_running.specs.Views.{View, Ready, state_of, memories}
 use Rattle.vm_running.specs.Doings.{Doing, spends, popping_many}
 use Rattle.vm_running.specs.Comes.{done, Leads}
-use Rattle.vm_running.proofs.Steps.{at, stays, sticks}
+use Rattle.vm_running.proofs.Steps.{at, stays, sticks, many_more}
 use Rattle.vm_exec_calls.specs.Calling.{chosen_of}
 use Rattle.vm_exec_tasks.specs.declared.asked.Asked.{Asked}
 use Rattle.vm_exec_tasks.specs.declared.asked.Asked.TheVariants as asked
@@ -31,13 +31,6 @@ use Rattle.vm_exec_tasks.specs.declared.asked.Arms.{Arms}
 use Rattle.vm_exec_tasks.specs.declared.asked.Call.{Call}
 use Rattle.vm_exec_tasks.specs.Asking.{Asks, Settled, spawning_of, branching_of, arms_of}
 use Rattle.vm_exec_tasks.proofs.Asking.{asks_nothing, asks_by, asks_next, asks_same, after_next}
-
-many_more : (k : ℕ) (st us : List Val) (s : State) (go : List Val → List Val → Step) →
-    on_many k st us s (λ vs st. on_top st s (λ v st. go (v ∷ vs) st)) ≡ on_many (suc k) st us s go
-many_more zero [] us s go = refl
-many_more zero (v ∷ st) us s go = refl
-many_more (suc k) [] us s go = refl
-many_more (suc k) (v ∷ st) us s go = many_more k st (v ∷ us) s go
 
 -- a task of its own begins with a call
 abbrev pub begins : Func → List Val → Doing

@@ -179,14 +179,6 @@ pushed_as r u v y z e comes = rw (← e) comes
 
 -- what is known of what a call handed out
 
-pub none_of : {A P : Type 0} (o : Option A) → o ≡ None → IfNone o P → P
-none_of None e h = h
-none_of (Some x) e h = absurd (cc)
-
-pub some_of : {A : Type 0} (P : A → Type 0) (o : Option A) (x : A) → o ≡ Some x → IfSome o P → P x
-some_of P None x e h = absurd (cc)
-some_of P (Some y) x e h = let same : y ≡ x = cc in subst P same h
-
 module _ {h : Kept} {tr : Trace} {l s n : ℕ} where
   pub append_ok : {E : Type 0} (p : Option Place) (i : ℕ) (v w : Val) (r : Result Did E) (z : View) (fs gs hs : List Framed) →
       Ready (at h tr l s n fs) → popped fs ≡ Some (v, gs) → slice_get (locals_of gs) i ≡ Some w → hs ≡ with_local i val.unit gs →

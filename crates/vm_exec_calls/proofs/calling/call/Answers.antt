@@ -5,9 +5,9 @@ use Rattle.vm_frames.specs.Calls.{popped_many}
 use Rattle.vm_running.specs.Doings.{popping_many}
 use Rattle.vm_running.proofs.Steps.{comes_by, ok_by, one_leads, many_leads, many_none}
 use Rattle.vm_exec_calls.specs.Calling.{calls}
-use Rattle.vm_exec_calls.proofs.Handed.{none_of, some_of}
 use Rattle.vm_exec_calls.proofs.Choosing.{room_for, args_length}
 use Rattle.vm_exec_calls.proofs.calling.call.Goals as goal
+use Rattle.vm_running.proofs.Handed.{none_of, some_of}
 
 pub returns-in_default-2 : goal.returns-in_default-2
 returns-in_default-2 g c =

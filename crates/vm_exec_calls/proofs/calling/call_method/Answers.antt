@@ -3,10 +3,10 @@ use Rattle.verse_value.specs.View.{vals_of}
 use Rattle.vm_frames.specs.Calls.{popped_many}
 use Rattle.vm_running.proofs.Steps.{comes_by, ok_by, many_none, many_leads}
 use Rattle.vm_exec_calls.specs.Calling.{calls_method, chosen_of}
-use Rattle.vm_exec_calls.proofs.Handed.{none_of, some_of}
 use Rattle.vm_exec_calls.proofs.Choosing.{args_length}
 use Rattle.vm_exec_calls.proofs.Entering.{method_leads, chosen_ok, chosen_stuck}
 use Rattle.vm_exec_calls.proofs.calling.call_method.Goals as goal
+use Rattle.vm_running.proofs.Handed.{none_of, some_of}
 
 pub returns-in_default : goal.returns-in_default
 returns-in_default g c =

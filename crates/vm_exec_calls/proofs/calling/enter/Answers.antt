@@ -1,7 +1,7 @@
 use Rattle.std.proofs.Common.{◌≡◌, ◌+◌, true, false, sym, ap, ◌∙◌, rules}
 use Rattle.verse_value.specs.View.{vals_of}
-use Rattle.vm_running.proofs.Steps.{comes_by}
-use Rattle.vm_exec_calls.proofs.Entering.{opens, ready_moved, calls_barred, calls_moved, opens_comes}
+use Rattle.vm_running.proofs.Steps.{comes_by, ready_moved}
+use Rattle.vm_exec_calls.proofs.Entering.{opens, calls_barred, calls_moved, opens_comes}
 use Rattle.vm_exec_calls.proofs.calling.enter.Goals as goal
 
 pub returns-then-not-go : goal.returns-then-not-go

@@ -1,9 +1,8 @@
 use Rattle.std.proofs.Common.{◌≡◌, Some, true, false, sym, subst, ◌∙◌, arith, rules}
 use Rattle.vm_frames.specs.Calls.{taken}
 use Rattle.vm_running.specs.Doings.{spends, going}
-use Rattle.vm_running.proofs.Steps.{comes_by, fits_none}
-use Rattle.vm_exec_calls.proofs.Blocks.{moves, leave_few, leave_kept, leave_done, leave_more, ready_taken, ready_moved, spends_moved}
-use Rattle.vm_exec_calls.proofs.Blocks.{spent_on}
+use Rattle.vm_running.proofs.Steps.{comes_by, fits_none, moves, ready_moved, spends_moved, spent_on}
+use Rattle.vm_exec_calls.proofs.Blocks.{leave_few, leave_kept, leave_done, leave_more, ready_taken}
 use Rattle.vm_exec_calls.proofs.deferring.leave.Goals as goal
 
 pub returns-then-blocks-count : goal.returns-then-blocks-count

@@ -1,7 +1,8 @@
 use Rattle.std.proofs.Common.{◌≡◌, true, false, sym, ◌∙◌, rules}
 use Rattle.vm_running.specs.Doings.{going}
-use Rattle.vm_exec_loops.proofs.Jumping.{spends_barred, spends_moved, ready_moved, spent_on}
+use Rattle.vm_exec_loops.proofs.Jumping.{spends_barred}
 use Rattle.vm_exec_loops.proofs.jumps.again.Goals as goal
+use Rattle.vm_running.proofs.Steps.{spends_moved, ready_moved, spent_on}
 
 pub returns-then-not-go : goal.returns-then-not-go
 returns-then-not-go g c code =

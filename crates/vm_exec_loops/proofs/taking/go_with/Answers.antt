@@ -2,9 +2,9 @@ use Rattle.std.proofs.Common.{◌≡◌, ◌+◌, true, false, sym, ap, ◌∙�
 use Rattle.verse_value.specs.View.{val_of}
 use Rattle.vm_frames.specs.Calls.{with_local}
 use Rattle.vm_running.specs.Doings.{going}
-use Rattle.vm_exec_loops.proofs.Jumping.{spent_on}
 use Rattle.vm_exec_loops.proofs.Turns.{turn_barred, ready_written, turn_comes, moved_some, moved_length}
 use Rattle.vm_exec_loops.proofs.taking.go_with.Goals as goal
+use Rattle.vm_running.proofs.Steps.{spent_on}
 
 pub returns-then-not-go : goal.returns-then-not-go
 returns-then-not-go g c t is =

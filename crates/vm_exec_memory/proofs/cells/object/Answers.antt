@@ -5,8 +5,8 @@ use Rattle.verse_meaning_state.specs.Effects.{object_made}
 use Rattle.vm_frames.specs.Calls.{popped_many}
 use Rattle.vm_running.specs.Doings.{place_in, effects, popping_many}
 use Rattle.vm_running.proofs.Steps.{comes_by, ok_by, one_leads, many_leads, many_none}
-use Rattle.vm_exec_memory.proofs.Handed.{none_of, some_of}
 use Rattle.vm_exec_memory.proofs.cells.object.Goals as goal
+use Rattle.vm_running.proofs.Handed.{none_of, some_of}
 
 pub returns-in_default-2 : goal.returns-in_default-2
 returns-in_default-2 g c =

@@ -1,5 +1,5 @@
 use Rattle.std.proofs.Common.{◌≡◌, Some, [], true, false, refl, sym, ◌∙◌, rules, slice_get}
-use Rattle.vm_exec_tasks.proofs.Asking.{asks_by, asks_nothing, held_none, free_leads, free_bare, settled_moved, many_free, none_of, some_of}
+use Rattle.vm_exec_tasks.proofs.Asking.{asks_by, asks_nothing, held_none, free_leads, free_bare, settled_moved, many_free}
 use Rattle.vm_running.proofs.Steps.{many_leads, many_none, one_leads, one_none}
 use Rattle.vm_running.specs.Doings.{popping_many, with_one}
 use Rattle.verse_code.specs.declared.codes.Func.{Func}
@@ -9,6 +9,7 @@ use Rattle.vm_exec_calls.proofs.Choosing.{room_for, args_length}
 use Rattle.vm_exec_tasks.proofs.Starts.{begins, called, spawn_asks}
 use Rattle.vm_exec_tasks.proofs.Leaving.{like_by, like_many, like_moved, settles}
 use Rattle.vm_exec_tasks.proofs.starting.spawn.Goals as goal
+use Rattle.vm_running.proofs.Handed.{none_of, some_of}
 
 pub returns-then-not-is_free-clause-asks : goal.returns-then-not-is_free-clause-asks
 returns-then-not-is_free-clause-asks g c =

@@ -1,6 +1,5 @@
 use Rattle.std.proofs.Common.{◌≡◌, suc, ◌+◌, Some, [], true, false, refl, sym, ap, subst, ◌∙◌, arith, rules}
 use Rattle.vm_exec_tasks.proofs.Asking.{asks_by, asks_nothing, held_none, free_leads, free_bare, settled_moved, ready_same, many_free}
-use Rattle.vm_exec_tasks.proofs.Asking.{none_of, some_of}
 use Rattle.vm_running.proofs.Steps.{many_leads, many_none}
 use Rattle.verse_value.specs.View.{vals_of}
 use Rattle.vm_frames.specs.Calls.{popped_many}
@@ -9,6 +8,7 @@ use Rattle.vm_exec_calls.proofs.Choosing.{args_length}
 use Rattle.vm_exec_tasks.proofs.Starts.{begins_method, pops_method, method_leads, method_stuck, method_asks, called, spawn_asks}
 use Rattle.vm_exec_tasks.proofs.Leaving.{like_by, like_many, like_moved, settles, still_by}
 use Rattle.vm_exec_tasks.proofs.starting.spawn_method.Goals as goal
+use Rattle.vm_running.proofs.Handed.{none_of, some_of}
 
 pub returns-then-not-is_free-clause-asks : goal.returns-then-not-is_free-clause-asks
 returns-then-not-is_free-clause-asks g c =

@@ -2,11 +2,12 @@ use Rattle.std.proofs.Common.{◌≡◌, ◌+◌, Some, [], subst}
 use Rattle.verse_value.specs.View.{vals_of}
 use Rattle.vm_frames.specs.Calls.{popped_many}
 use Rattle.vm_running.specs.Doings.{place_in}
-use Rattle.vm_exec_values.proofs.Shapes.{none_of, some_of, many_stuck, many_comes}
+use Rattle.vm_exec_values.proofs.Shapes.{many_stuck, many_comes}
 use Rattle.verse_value.specs.Operations.{map_of}
 use Rattle.verse_code_machine.specs.Acts.{paired}
 use Rattle.vm_ops.specs.Answers.{IsAnswerOrMemory}
 use Rattle.vm_exec_values.proofs.collected.map.Goals as goal
+use Rattle.vm_running.proofs.Handed.{none_of, some_of}
 
 pub returns-in_default : goal.returns-in_default
 returns-in_default g c = many_stuck (c.args.count + c.args.count) (λ vs. map_of (paired vs))
