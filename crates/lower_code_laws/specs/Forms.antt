@@ -1,10 +1,12 @@
 -- The code of each form, row by row: each names a form and the operations that it must have.
-use Rattle.std.specs.Prelude.{◌≡◌, ℕ, nat_eq, pos, negsuc, List, [], ◌∷◌, map, Option, Some, None, Bool, false, codes}
+use Rattle.std.specs.Prelude.{◌≡◌, ℕ, nat_eq, pos, negsuc, List, [], ◌∷◌, map, Option, Some, None}
+use Rattle.std.specs.Prelude.{Bool, false, codes}
 use Rattle.verse_base.specs.declared.places.Place.{Place}
 use Rattle.verse_tree.specs.Tree.{Tree, tree, Shape, Trees, no_trees, more_trees, more_givens}
 use Rattle.verse_tree.specs.Tree.{no_givens, more_holes, no_holes}
 use Rattle.verse_tree.specs.Tree as t
-use Rattle.verse_tree.specs.ItemTree.{ClassTree, EnumTree, FieldTree, FunTree, field, method, enumeration, class, function}
+use Rattle.verse_tree.specs.ItemTree.{ClassTree, EnumTree, FieldTree, FunTree, field, method}
+use Rattle.verse_tree.specs.ItemTree.{enumeration, class, function}
 use Rattle.verse_tree.specs.declared.exprs.Assign.TheVariants as assign
 use Rattle.verse_tree.specs.declared.exprs.Comparison.TheVariants as comparison
 use Rattle.verse_tree.specs.declared.exprs.Operator.TheVariants as operator
@@ -63,7 +65,14 @@ defined x = part (t.Shape.definition x (int 1))
 --     M(A:int):void = 1
 -- F(A:int):void = 1
 abbrev pub an_enum : EnumTree
-an_enum = record { number = 30; place = at; name = codes "e"; specs = []; values = codes "A" ∷ codes "B" ∷ [] }
+an_enum = record {
+  number = 30;
+  place = at;
+  name = codes "e";
+  specs = [];
+  values =
+      codes "A" ∷ codes "B" ∷ [];
+}
 
 abbrev pub a_field : ℕ → List ℕ → Option Tree → FieldTree
 a_field n x default = record {
@@ -126,8 +135,9 @@ small_program = record {
       methods = 0 ∷ [];
     } ∷ [];
     enums = record { count = 2 } ∷ [];
-    refs = None ∷ Some (ref.Fun 1) ∷ Some (ref.Method 0 0) ∷ Some (ref.Field 0 1) ∷ Some (ref.Class 0) ∷ Some (ref.Enum 0) ∷
-        Some (ref.Builtin 0) ∷ Some (ref.Builtin 1) ∷ Some (ref.Builtin 2) ∷ Some (ref.Builtin 3) ∷ [];
+    refs = None ∷ Some (ref.Fun 1) ∷ Some (ref.Method 0 0) ∷ Some (ref.Field 0 1) ∷
+        Some (ref.Class 0) ∷ Some (ref.Enum 0) ∷ Some (ref.Builtin 0) ∷ Some (ref.Builtin 1) ∷
+        Some (ref.Builtin 2) ∷ Some (ref.Builtin 3) ∷ [];
   };
 }
 
@@ -165,7 +175,8 @@ differ n m = nat_eq n 40
 
 -- the operations of the node n, which is a form
 abbrev pub code_at : (n : ℕ) → Shape → List Op
-code_at n s = map item_op (shape_piece small_program differ s n at small_scope fresh first_spot).items
+code_at n s = map item_op (shape_piece small_program differ s n at small_scope fresh
+    first_spot).items
 
 abbrev pub code : Shape → List Op
 code s = code_at 0 s
@@ -191,9 +202,9 @@ pub record BlocksHaveCode : Type 0 where
   -- return 1
   pub returned : code (t.Shape.returned (int 1)) ≡ o.Int (pos 1) ∷ o.Return ∷ []
   -- defer{1}; return 2
-  pub returned_behind_defer : code (t.Shape.block (two deferred (part (t.Shape.returned (int 2))))) ≡
-      o.Defer 4 ∷ o.Int (pos 1) ∷ o.Drop ∷ o.DeferEnd ∷ o.Unit ∷ o.Drop ∷ o.Int (pos 2) ∷
-      o.Leave 0 ∷ o.Return ∷ o.Leave 0 ∷ []
+  pub returned_behind_defer : code
+      (t.Shape.block (two deferred (part (t.Shape.returned (int 2))))) ≡ o.Defer 4 ∷ o.Int (pos 1) ∷
+      o.Drop ∷ o.DeferEnd ∷ o.Unit ∷ o.Drop ∷ o.Int (pos 2) ∷ o.Leave 0 ∷ o.Return ∷ o.Leave 0 ∷ []
   -- return
   pub returned_unit : code t.Shape.returned_unit ≡ o.Unit ∷ o.Return ∷ []
   -- block: 1
@@ -205,8 +216,9 @@ pub record WritesHaveCode : Type 0 where
   pub set_variable : code (t.Shape.assignment assign.Set variable (int 1)) ≡
       o.Get 2 ∷ o.Int (pos 1) ∷ o.Store 0 0 0 0 ∷ []
   -- set V = W, where the types differ
-  pub set_of_another_type : code (t.Shape.assignment assign.Set (part_at 40 (t.Shape.name (codes "V"))) (int 1)) ≡
-      o.Get 2 ∷ o.Int (pos 1) ∷ o.Put 3 ∷ o.Get 3 ∷ o.Store 0 0 0 0 ∷ o.Drop ∷ o.Get 3 ∷ []
+  pub set_of_another_type : code
+      (t.Shape.assignment assign.Set (part_at 40 (t.Shape.name (codes "V"))) (int 1)) ≡ o.Get 2 ∷
+      o.Int (pos 1) ∷ o.Put 3 ∷ o.Get 3 ∷ o.Store 0 0 0 0 ∷ o.Drop ∷ o.Get 3 ∷ []
   -- set V += 1
   pub add_to_variable : code (t.Shape.assignment assign.Add variable (int 1)) ≡
       o.Get 2 ∷ o.Int (pos 1) ∷ o.Store 0 0 1 0 ∷ []
@@ -217,14 +229,16 @@ pub record WritesHaveCode : Type 0 where
   pub mul_variable : code (t.Shape.assignment assign.Mul variable (int 1)) ≡
       o.Get 2 ∷ o.Int (pos 1) ∷ o.Store 0 0 3 0 ∷ []
   -- set V[1] = 2
-  pub set_element : code (t.Shape.assignment assign.Set (part (t.Shape.index variable (one_of (int 1)))) (int 2)) ≡
-      o.Get 2 ∷ o.Int (pos 1) ∷ o.Int (pos 2) ∷ o.Store 0 1 0 0 ∷ []
+  pub set_element : code (t.Shape.assignment assign.Set
+      (part (t.Shape.index variable (one_of (int 1)))) (int 2)) ≡ o.Get 2 ∷ o.Int (pos 1) ∷
+      o.Int (pos 2) ∷ o.Store 0 1 0 0 ∷ []
   -- set N = 1
   pub set_own_field : code (t.Shape.assignment assign.Set own_field (int 1)) ≡
       o.Get 0 ∷ o.Int (pos 1) ∷ o.Store 1 0 0 0 ∷ []
   -- set X.N = 1
-  pub set_field : code (t.Shape.assignment assign.Set (part_at 3 (t.Shape.member constant (codes "N"))) (int 1)) ≡
-      o.Get 1 ∷ o.Int (pos 1) ∷ o.Store 1 0 0 0 ∷ []
+  pub set_field : code (t.Shape.assignment assign.Set
+      (part_at 3 (t.Shape.member constant (codes "N"))) (int 1)) ≡ o.Get 1 ∷ o.Int (pos 1) ∷
+      o.Store 1 0 0 0 ∷ []
 
 -- Failure contexts
 pub record AttemptsHaveCode : Type 0 where
@@ -236,9 +250,9 @@ pub record AttemptsHaveCode : Type 0 where
   pub if_alone : code (t.Shape.if_alone (one_of (int 1)) (int 2)) ≡
       o.Try 6 ∷ o.Int (pos 1) ∷ o.Drop ∷ o.Commit ∷ o.Int (pos 2) ∷ o.Jump 7 ∷ o.Unit ∷ []
   -- if (A := 1): A
-  pub if_defines : code (t.Shape.if_alone (one_of (defined (codes "A"))) (part (t.Shape.name (codes "A")))) ≡
-      o.Try 8 ∷ o.Int (pos 1) ∷ o.Put 3 ∷ o.Get 3 ∷ o.Drop ∷ o.Commit ∷ o.Get 3 ∷ o.Jump 9 ∷
-      o.Unit ∷ []
+  pub if_defines : code (t.Shape.if_alone (one_of (defined (codes "A")))
+      (part (t.Shape.name (codes "A")))) ≡ o.Try 8 ∷ o.Int (pos 1) ∷ o.Put 3 ∷ o.Get 3 ∷ o.Drop ∷
+      o.Commit ∷ o.Get 3 ∷ o.Jump 9 ∷ o.Unit ∷ []
   -- not 1
   pub negation : code (t.Shape.negation (int 1)) ≡
       o.Try 5 ∷ o.Int (pos 1) ∷ o.Drop ∷ o.Undo ∷ o.Fail ∷ o.Unit ∷ []
@@ -264,20 +278,21 @@ pub record LoopsHaveCode : Type 0 where
   pub loop_broken : code (t.Shape.loop_form (part t.Shape.break_form)) ≡
       o.Jump 3 ∷ o.Jump 4 ∷ o.Drop ∷ o.Again 1 ∷ o.Unit ∷ []
   -- loop: (1, break)
-  pub broken_above_an_operand : code (t.Shape.loop_form (part (t.Shape.tuple (two (int 1) (part t.Shape.break_form))))) ≡
-      o.Jump 5 ∷ o.Int (pos 1) ∷ o.Jump 6 ∷ o.Tuple 2 0 ∷ o.Drop ∷ o.Again 1 ∷ o.Drop ∷
-      o.Unit ∷ []
+  pub broken_above_an_operand : code
+      (t.Shape.loop_form (part (t.Shape.tuple (two (int 1) (part t.Shape.break_form))))) ≡
+      o.Jump 5 ∷ o.Int (pos 1) ∷ o.Jump 6 ∷ o.Tuple 2 0 ∷ o.Drop ∷ o.Again 1 ∷ o.Drop ∷ o.Unit ∷ []
   -- for (A : X): 1
   pub elements : code (t.Shape.for_form (one_of each_of_constant) (int 1)) ≡
       o.Array 0 0 ∷ o.Put 3 ∷ o.Try 12 ∷ o.Get 1 ∷ o.Commit ∷ o.Each 4 ∷ o.Jump 11 ∷
       o.Try 11 ∷ o.Commit ∷ o.Int (pos 1) ∷ o.Append 3 0 ∷ o.Take 4 6 7 ∷ o.Get 3 ∷ []
   -- for (K -> A : X): 1
-  pub entries : code (t.Shape.for_form (one_of (part (t.Shape.entries (codes "K") (codes "A") constant))) (int 1)) ≡
-      o.Array 0 0 ∷ o.Put 3 ∷ o.Try 12 ∷ o.Get 1 ∷ o.Commit ∷ o.Each 4 ∷ o.Jump 11 ∷
-      o.Try 11 ∷ o.Commit ∷ o.Int (pos 1) ∷ o.Append 3 0 ∷ o.Take 4 6 7 ∷ o.Get 3 ∷ []
+  pub entries : code (t.Shape.for_form
+      (one_of (part (t.Shape.entries (codes "K") (codes "A") constant))) (int 1)) ≡ o.Array 0 0 ∷
+      o.Put 3 ∷ o.Try 12 ∷ o.Get 1 ∷ o.Commit ∷ o.Each 4 ∷ o.Jump 11 ∷ o.Try 11 ∷ o.Commit ∷
+      o.Int (pos 1) ∷ o.Append 3 0 ∷ o.Take 4 6 7 ∷ o.Get 3 ∷ []
   -- for (I := 1..2): 3
-  pub range : code (t.Shape.for_form (one_of (part (t.Shape.range (codes "I") (int 1) (int 2)))) (int 3)) ≡
-      o.Array 0 0 ∷ o.Put 3 ∷ o.Try 13 ∷ o.Int (pos 1) ∷ o.Int (pos 2) ∷ o.Commit ∷
+  pub range : code (t.Shape.for_form (one_of (part (t.Shape.range (codes "I") (int 1) (int 2))))
+      (int 3)) ≡ o.Array 0 0 ∷ o.Put 3 ∷ o.Try 13 ∷ o.Int (pos 1) ∷ o.Int (pos 2) ∷ o.Commit ∷
       o.Range 4 ∷ o.Jump 12 ∷ o.Try 12 ∷ o.Commit ∷ o.Int (pos 3) ∷ o.Append 3 0 ∷
       o.Take 4 6 8 ∷ o.Get 3 ∷ []
   -- for (A : X, 1): 2
@@ -291,7 +306,8 @@ pub record LoopsHaveCode : Type 0 where
       o.Try 15 ∷ o.Int (pos 1) ∷ o.Put 8 ∷ o.Get 8 ∷ o.Drop ∷ o.Commit ∷ o.Int (pos 2) ∷
       o.Append 3 0 ∷ o.Take 4 6 7 ∷ o.Get 3 ∷ []
   -- case (X): 1 => 2, _ => 3
-  pub cases : code (t.Shape.cases constant (two (arm (t.Shape.integer_pattern (pos 1)) (int 2)) (arm t.Shape.any_pattern (int 3)))) ≡
+  pub cases : code (t.Shape.cases constant
+      (two (arm (t.Shape.integer_pattern (pos 1)) (int 2)) (arm t.Shape.any_pattern (int 3)))) ≡
       o.Get 1 ∷ o.Put 3 ∷ o.Int (pos 1) ∷ o.Get 3 ∷ o.Same 7 ∷ o.Int (pos 2) ∷ o.Jump 8 ∷
       o.Int (pos 3) ∷ []
   -- a pattern 1
@@ -367,8 +383,8 @@ pub record CallsHaveCode : Type 0 where
   pub method : code (t.Shape.call method_of_constant (one_of (int 1))) ≡
       o.Get 1 ∷ o.Int (pos 1) ∷ o.Method 0 1 ∷ []
   -- Print("a")
-  pub print : code (t.Shape.call (named_as 6 (codes "Print")) (one_of (part (t.Shape.text (codes "a"))))) ≡
-      o.Text 0 ∷ o.Print 0 ∷ []
+  pub print : code (t.Shape.call (named_as 6 (codes "Print"))
+      (one_of (part (t.Shape.text (codes "a"))))) ≡ o.Text 0 ∷ o.Print 0 ∷ []
   -- Floor(1 / 2)
   pub floor : code (t.Shape.call (named_as 7 (codes "Floor")) (one_of quotient_of)) ≡
       o.Int (pos 1) ∷ o.Int (pos 2) ∷ o.Floor 0 ∷ []
@@ -382,14 +398,15 @@ pub record CallsHaveCode : Type 0 where
   pub await_task : code (t.Shape.call (part (t.Shape.member constant (codes "Await"))) no_trees) ≡
       o.Get 1 ∷ o.AwaitTask ∷ []
   -- X.Await(), of an event
-  pub await_event : code (t.Shape.call (part (t.Shape.member (named_as 21 (codes "X")) (codes "Await"))) no_trees) ≡
-      o.Get 1 ∷ o.AwaitEvent ∷ []
+  pub await_event : code (t.Shape.call
+      (part (t.Shape.member (named_as 21 (codes "X")) (codes "Await"))) no_trees) ≡ o.Get 1 ∷
+      o.AwaitEvent ∷ []
   -- X.Signal()
   pub signal_unit : code (t.Shape.call (part (t.Shape.member constant (codes "Signal"))) no_trees) ≡
       o.Get 1 ∷ o.Unit ∷ o.Signal ∷ []
   -- X.Signal(1)
-  pub signal : code (t.Shape.call (part (t.Shape.member constant (codes "Signal"))) (one_of (int 1))) ≡
-      o.Get 1 ∷ o.Int (pos 1) ∷ o.Signal ∷ []
+  pub signal : code (t.Shape.call (part (t.Shape.member constant (codes "Signal")))
+      (one_of (int 1))) ≡ o.Get 1 ∷ o.Int (pos 1) ∷ o.Signal ∷ []
   -- X(0)
   pub item : code (t.Shape.call constant (one_of (int 0))) ≡ o.Get 1 ∷ o.Item 0 ∷ []
   -- X[1]
@@ -418,8 +435,9 @@ pub record ValuesHaveCode : Type 0 where
   -- "ab"
   pub text : code (t.Shape.text (codes "ab")) ≡ o.Text 0 ∷ []
   -- "ab{X}c{V}"
-  pub holes : code (t.Shape.holes (codes "ab") (more_holes constant (codes "c") (more_holes variable [] no_holes))) ≡
-      o.Text 0 ∷ o.Get 1 ∷ o.Text 1 ∷ o.Get 2 ∷ o.Load 0 ∷ o.Join 4 0 ∷ []
+  pub holes : code (t.Shape.holes (codes "ab")
+      (more_holes constant (codes "c") (more_holes variable [] no_holes))) ≡ o.Text 0 ∷ o.Get 1 ∷
+      o.Text 1 ∷ o.Get 2 ∷ o.Load 0 ∷ o.Join 4 0 ∷ []
   -- true
   pub truth : code t.Shape.truth ≡ o.True ∷ []
   -- false
@@ -442,8 +460,9 @@ pub record ValuesHaveCode : Type 0 where
   pub mapping : code (t.Shape.mapping (t.Pairs.more_pairs (int 1) (int 2) t.Pairs.no_pairs)) ≡
       o.Int (pos 1) ∷ o.Int (pos 2) ∷ o.Map 1 0 ∷ []
   -- c{N := 1}
-  pub instance : code_at 4 (t.Shape.instance (codes "c") (more_givens (codes "N") (int 1) no_givens)) ≡
-      o.Int (pos 1) ∷ o.Put 3 ∷ o.Call 2 ∷ o.Get 3 ∷ o.Object 0 0 ∷ []
+  pub instance : code_at 4 (t.Shape.instance (codes "c")
+      (more_givens (codes "N") (int 1) no_givens)) ≡ o.Int (pos 1) ∷ o.Put 3 ∷ o.Call 2 ∷ o.Get 3 ∷
+      o.Object 0 0 ∷ []
   -- event(int){}
   pub event : code (t.Shape.event t.Written.int) ≡ o.Event 0 ∷ []
   -- event(){}
@@ -468,11 +487,13 @@ pub record TasksHaveCode : Type 0 where
   -- spawn{F(1)}
   pub spawn_call : code (t.Shape.spawn call_of_function) ≡ o.Int (pos 1) ∷ o.Spawn 1 ∷ []
   -- spawn{M(1)}
-  pub spawn_own_method : code (t.Shape.spawn (part (t.Shape.call (named_as 2 (codes "M")) (one_of (int 1))))) ≡
-      o.Get 0 ∷ o.Int (pos 1) ∷ o.SpawnMethod 0 1 ∷ []
+  pub spawn_own_method : code (t.Shape.spawn
+      (part (t.Shape.call (named_as 2 (codes "M")) (one_of (int 1))))) ≡ o.Get 0 ∷ o.Int (pos 1) ∷
+      o.SpawnMethod 0 1 ∷ []
   -- spawn{X.M(1)}
-  pub spawn_method : code (t.Shape.spawn (part (t.Shape.call method_of_constant (one_of (int 1))))) ≡
-      o.Get 1 ∷ o.Int (pos 1) ∷ o.SpawnMethod 0 1 ∷ []
+  pub spawn_method : code (t.Shape.spawn
+      (part (t.Shape.call method_of_constant (one_of (int 1))))) ≡ o.Get 1 ∷ o.Int (pos 1) ∷
+      o.SpawnMethod 0 1 ∷ []
   -- Sleep(1.0)
   pub pause : code (t.Shape.sleep 1000) ≡ o.Sleep 1000 ∷ []
   -- Sleep(Inf)
@@ -485,6 +506,6 @@ pub record WrongHasCode : Type 0 where
   -- break outside a loop
   pub broken_outside : code t.Shape.break_form ≡ o.Arm 1 ∷ []
   -- if (return 1): 2
-  pub returned_in_attempt : code (t.Shape.if_alone (one_of (part (t.Shape.returned (int 1)))) (int 2)) ≡
-      o.Try 7 ∷ o.Int (pos 1) ∷ o.Arm 3 ∷ o.Drop ∷ o.Commit ∷ o.Int (pos 2) ∷ o.Jump 8 ∷
-      o.Unit ∷ []
+  pub returned_in_attempt : code
+      (t.Shape.if_alone (one_of (part (t.Shape.returned (int 1)))) (int 2)) ≡ o.Try 7 ∷
+      o.Int (pos 1) ∷ o.Arm 3 ∷ o.Drop ∷ o.Commit ∷ o.Int (pos 2) ∷ o.Jump 8 ∷ o.Unit ∷ []

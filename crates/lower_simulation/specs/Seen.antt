@@ -6,8 +6,9 @@ use Rattle.verse_meaning_state.specs.State.{State}
 use Rattle.verse_meaning_state.specs.Waits.{Wait}
 use Rattle.verse_meaning_state.specs.Turns.{Stage, going, closed, broken, amiss}
 
--- After some turns: the whole state, how the run has ended where it has, and the waits that are live, each with its number and
--- its cause, in order; none are told of a run that has ended within a turn.
+-- After some turns: the whole state, how the run has ended where it has, and the waits that are
+-- live, each with its number and its cause, in order; none are told of a run that has ended within
+-- a turn.
 pub data Seen : Type 0 where
   between : State → List Wait → Seen
   ended : Ending → State → List Wait → Seen

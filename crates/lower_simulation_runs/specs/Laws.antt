@@ -14,8 +14,8 @@ CodeMeansTheSame = (p : Program) (differ : ℕ → ℕ → Bool) (files : ℕ) �
     (ns : List ℤ) (steps until : ℕ) →
     mach (code_of p differ files) ns steps until ≡ mean p ns steps until
 
--- and after each number of turns both stand alike: store, trace, steps, moment, next number, results and signals, and
--- the waits that are live, number and cause, in order
+-- and after each number of turns both stand alike: store, trace, steps, moment, next number,
+-- results and signals, and the waits that are live, number and cause, in order
 abbrev pub TurnsAreTheSame : Type 0
 TurnsAreTheSame = (p : Program) (differ : ℕ → ℕ → Bool) (files : ℕ) → CanBeFollowed p files →
     (ns : List ℤ) (steps until k : ℕ) →

@@ -48,8 +48,8 @@ use Rattle.verse_code_machine.specs.Acts.{groups}
 use Rattle.lower_simulation_tasks.proofs.Roles.{part_goes}
 use Rattle.lower_simulation_tasks.proofs.Scopes.{beside_acc}
 
--- Arms on both sides: an arm has given a value, or it is the task of a number with all that it encloses. The numbers fall, from below hi down
--- to lo.
+-- Arms on both sides: an arm has given a value, or it is the task of a number with all that it encloses. The numbers fall, from below hi
+-- down to lo.
 pub data Legs (P : ScopeStands) (z : Setting) (a : Who) (lo m : ℕ) : ℕ → Arms → List Part → List Task → Type 0 where
   no_leg : {hi : ℕ} → lo ≤ hi → Legs P z a lo m hi no_arms [] []
   gave_leg : {hi : ℕ} {gs : Arms} {ps : List Part} {ts : List Task} (v : Val) → Legs P z a lo m hi gs ps ts →

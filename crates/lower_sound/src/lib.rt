@@ -3,8 +3,8 @@
 //! program that is fine; `Laws`.
 //!
 //! In `proofs/`: `Armed`, stretches of code whose arms stand, and the combinators; `Tables` and
-//! `Names`, what is visible has a local; `Counts`, what a form's operands tell of it; `Leaves`, what
-//! stands for no tree of its own; `Forms`, one clause a form; `Whole`, programs; `Example`, an
+//! `Names`, what is visible has a local; `Counts`, what a form's operands tell of it; `Leaves`,
+//! what stands for no tree of its own; `Forms`, one clause a form; `Whole`, programs; `Example`, an
 //! accepted program that calls what gives no value.
 #![tactic(auto)]
 

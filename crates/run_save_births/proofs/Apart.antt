@@ -150,8 +150,8 @@ less : (l k : ℕ) → suc l ≡ k → l ≤ k
 less l k e = omega (arith, e)
 
 -- of a task that comes out of an operation
-comes_stands : (T : Who → List ℕ → Type 0) (most : ℕ) → ((w : Who) (ns : List ℕ) → T w ns → Stands most w ns) → {w : Who} {ns : List ℕ} {left : ℕ} →
-    Comes T most w ns left → Stands left w ns
+comes_stands : (T : Who → List ℕ → Type 0) (most : ℕ) → ((w : Who) (ns : List ℕ) → T w ns → Stands most w ns) →
+    {w : Who} {ns : List ℕ} {left : ℕ} → Comes T most w ns left → Stands left w ns
 comes_stands T most so (same_frames {w = w} {ns = ns} {left = left} e a) = stands_lower left most w ns e (so w ns a)
 comes_stands T most so (new_frame {w = w} {n = n} {ns = ns} {left = left} e a) =
     let b = so w (n ∷ ns) a in record {
@@ -160,7 +160,11 @@ comes_stands T most so (new_frame {w = w} {n = n} {ns = ns} {left = left} e a) =
           b.above;
     }
 comes_stands T most so (new_child {w = w} {n = n} {ns = ns} {left = left} e a) =
-    let b = so w (n ∷ ns) a in record { rises = (omega arith, tt); above = above_end left w.path (above_lower left most w.path (less left most e) b.above) }
+    let b = so w (n ∷ ns) a in record {
+      rises = (omega arith, tt);
+      above =
+          above_end left w.path (above_lower left most w.path (less left most e) b.above);
+    }
 comes_stands T most so (new_root e) = record { rises = (omega arith, tt); above = (omega arith, tt) }
 
 comes_fewer : (T : Who → List ℕ → Type 0) (most : ℕ) {w : Who} {ns : List ℕ} {left : ℕ} → Comes T most w ns left → left ≤ most
@@ -205,8 +209,8 @@ module _ (path : List ℕ) (n : ℕ) where
   Either left most w ns As = As left w ns ⊎ ((suc n ≤ most) × ((w.path ≡ path → Each (λ k. k ≡ n → ⊥) ns) ⊎ (w.path ≡ path ++ n ∷ [] → ⊥)))
 
   -- a task that begins with the number
-  begins_so : (left most : ℕ) (w : Who) (ns : List ℕ) (As : ℕ → Who → List ℕ → Type 0) → suc n ≤ most → (w.path ≡ path) ⊎ (w.path ≡ path → ⊥) →
-      Either left most w ns As
+  begins_so : (left most : ℕ) (w : Who) (ns : List ℕ) (As : ℕ → Who → List ℕ → Type 0) → suc n ≤ most → (w.path ≡ path) ⊎
+      (w.path ≡ path → ⊥) → Either left most w ns As
   begins_so left most w ns As e (inl f) = inr (e, inr (λ g. longer_not path n (sym f ∙ g)))
   begins_so left most w ns As e (inr f) = inr (e, inl (λ g. absurd (f g)))
 
@@ -216,17 +220,22 @@ module _ (path : List ℕ) (n : ℕ) where
   unborn_comes {most = most} {w = w} {left = left} s (new_frame {n = i} {ns = ns} e a) = by_test (same_number n left)
     where
       by_test : (n ≡ left) ⊎ (n ≡ left → ⊥) → Either left most w (left ∷ i ∷ ns) (Unborn path n)
-      by_test (inl f) = inr (later left most f e, inr ((fresh_child left most (later left most f e) (less left most e) w (i ∷ ns) a.stands).other))
+      by_test (inl f) = inr (
+        later left most f e,
+        inr ((fresh_child left most (later left most f e) (less left most e) w (i ∷ ns) a.stands).other),
+      )
       by_test (inr f) = inl (record { stands = s; other = λ g. ((λ h. f (sym h)), a.other g) })
   unborn_comes {most = most} {left = left} s (new_child {w = w} e a) = by_test (same_number n left)
     where
       by_test : (n ≡ left) ⊎ (n ≡ left → ⊥) → Either left most (child_named w left) (left ∷ []) (Unborn path n)
-      by_test (inl f) = begins_so left most (child_named w left) (left ∷ []) (Unborn path n) (later left most f e) (same_paths (w.path ++ left ∷ []) path)
+      by_test (inl f) = begins_so left most (child_named w left) (left ∷ []) (Unborn path n) (later left most f e)
+          (same_paths (w.path ++ left ∷ []) path)
       by_test (inr f) = inl (record { stands = s; other = λ g. ((λ h. f (sym h)), tt) })
   unborn_comes {most = most} {left = left} s (new_root {entry = entry} e) = by_test (same_number n left)
     where
       by_test : (n ≡ left) ⊎ (n ≡ left → ⊥) → Either left most (root_named left entry) (left ∷ []) (Unborn path n)
-      by_test (inl f) = begins_so left most (root_named left entry) (left ∷ []) (Unborn path n) (later left most f e) (same_paths (left ∷ []) path)
+      by_test (inl f) = begins_so left most (root_named left entry) (left ∷ []) (Unborn path n) (later left most f e)
+          (same_paths (left ∷ []) path)
       by_test (inr f) = inl (record { stands = s; other = λ g. ((λ h. f (sym h)), tt) })
 
   child_comes : {most : ℕ} {w : Who} {ns : List ℕ} {left : ℕ} → Stands left w ns → Comes (NotChild path n most) most w ns left →
@@ -236,27 +245,32 @@ module _ (path : List ℕ) (n : ℕ) where
   child_comes {most = most} {left = left} s (new_child {w = w} e a) = by_test (same_number n left)
     where
       by_test : (n ≡ left) ⊎ (n ≡ left → ⊥) → Either left most (child_named w left) (left ∷ []) (NotChild path n)
-      by_test (inl f) = begins_so left most (child_named w left) (left ∷ []) (NotChild path n) (later left most f e) (same_paths (w.path ++ left ∷ []) path)
+      by_test (inl f) = begins_so left most (child_named w left) (left ∷ []) (NotChild path n) (later left most f e)
+          (same_paths (w.path ++ left ∷ []) path)
       by_test (inr f) = inl (record { stands = s; other = λ g. f (sym (ends_same w.path path left n g)) })
   child_comes {most = most} {left = left} s (new_root {entry = entry} e) = by_test (same_number n left)
     where
       by_test : (n ≡ left) ⊎ (n ≡ left → ⊥) → Either left most (root_named left entry) (left ∷ []) (NotChild path n)
-      by_test (inl f) = begins_so left most (root_named left entry) (left ∷ []) (NotChild path n) (later left most f e) (same_paths (left ∷ []) path)
+      by_test (inl f) = begins_so left most (root_named left entry) (left ∷ []) (NotChild path n) (later left most f e)
+          (same_paths (left ∷ []) path)
       by_test (inr f) = inl (record { stands = s; other = λ g. f (sym (ends_same [] path left n g)) })
 
   -- all tasks after an operation
-  module _ (T : Who → List ℕ → Type 0) (most : ℕ) (so : (w : Who) (ns : List ℕ) → T w ns → Stands most w ns) (m : Machine) (o : WorldIs T m.world)
-      (keeps : Each KeepsBirth (m.frame ∷ m.below)) (few : m.state.clock.left ≤ most) (stands : Stands m.state.clock.left m.who (births (m.frame ∷ m.below)))
+  module _ (T : Who → List ℕ → Type 0) (most : ℕ) (so : (w : Who) (ns : List ℕ) → T w ns → Stands most w ns) (m : Machine)
+      (o : WorldIs T m.world) (keeps : Each KeepsBirth (m.frame ∷ m.below)) (few : m.state.clock.left ≤ most)
+      (stands : Stands m.state.clock.left m.who (births (m.frame ∷ m.below)))
     where
-      by_number : suc n ≤ most → (m.who.path ≡ path → Each (λ k. k ≡ n → ⊥) (births (m.frame ∷ m.below))) ⊎ (m.who.path ≡ path ++ n ∷ [] → ⊥) →
-          StepApart path n (Next m)
+      by_number : suc n ≤ most → (m.who.path ≡ path → Each (λ k. k ≡ n → ⊥) (births (m.frame ∷ m.below))) ⊎
+          (m.who.path ≡ path ++ n ∷ [] → ⊥) → StepApart path n (Next m)
       by_number e (inl f) = inl (record {
         frames = (record { stands = stands; other = f }, keeps);
-        world = world_so T (Unborn path n m.state.clock.left) (λ w ns a. fresh_unborn m.state.clock.left most e few w ns (so w ns a)) m.world o;
+        world = world_so T (Unborn path n m.state.clock.left) (λ w ns a. fresh_unborn m.state.clock.left most e few w ns (so w ns a))
+            m.world o;
       })
       by_number e (inr f) = inr (record {
         frames = (record { stands = stands; other = f }, keeps);
-        world = world_so T (NotChild path n m.state.clock.left) (λ w ns a. fresh_child m.state.clock.left most e few w ns (so w ns a)) m.world o;
+        world = world_so T (NotChild path n m.state.clock.left) (λ w ns a. fresh_child m.state.clock.left most e few w ns (so w ns a))
+            m.world o;
       })
 
   unborn_out : (most : ℕ) (q : Step) → Low (Unborn path n most) (unborn_drop most) most q → StepApart path n q
@@ -274,7 +288,8 @@ module _ (path : List ℕ) (n : ℕ) where
       by_comes : Either m.state.clock.left most m.who (births (m.frame ∷ m.below)) (Unborn path n) → StepApart path n (Next m)
       by_comes (inl b) = inl (record {
         frames = (b, a.holds.1.0);
-        world = world_so (Unborn path n most) (Unborn path n m.state.clock.left) (unborn_lower m.state.clock.left most few) m.world a.holds.1.1;
+        world = world_so (Unborn path n most) (Unborn path n m.state.clock.left) (unborn_lower m.state.clock.left most few) m.world
+            a.holds.1.1;
       })
       by_comes (inr b) = by_number (Unborn path n most) most so m a.holds.1.1 a.holds.1.0 few stands b.0 b.1
   unborn_out most (Over e s) a = tt
@@ -295,7 +310,8 @@ module _ (path : List ℕ) (n : ℕ) where
       by_comes : Either m.state.clock.left most m.who (births (m.frame ∷ m.below)) (NotChild path n) → StepApart path n (Next m)
       by_comes (inl b) = inr (record {
         frames = (b, a.holds.1.0);
-        world = world_so (NotChild path n most) (NotChild path n m.state.clock.left) (child_lower m.state.clock.left most few) m.world a.holds.1.1;
+        world = world_so (NotChild path n most) (NotChild path n m.state.clock.left) (child_lower m.state.clock.left most few) m.world
+            a.holds.1.1;
       })
       by_comes (inr b) = by_number (NotChild path n most) most so m a.holds.1.1 a.holds.1.0 few stands b.0 b.1
   child_out most (Over e s) a = tt

@@ -28,8 +28,9 @@ use Rattle.run_save_births.proofs.Apart.{out, trees_lower, same_number, same_pat
 abbrev StageApart : List ℕ → ℕ → Stage Forest → Type 0
 StageApart path n = StageIs (TreesApart path n)
 
-step_low : (c : Code) (m : Machine) (T : Who → List ℕ → Type 0) (drops : (w : Who) (i k : ℕ) (ns : List ℕ) → T w (i ∷ k ∷ ns) → T w (k ∷ ns)) →
-    MachineIs T m → Low T drops m.state.clock.left (step c m)
+step_low : (c : Code) (m : Machine) (T : Who → List ℕ → Type 0)
+    (drops : (w : Who) (i k : ℕ) (ns : List ℕ) → T w (i ∷ k ∷ ns) → T w (k ∷ ns)) → MachineIs T m →
+    Low T drops m.state.clock.left (step c m)
 step_low c m T drops h =
     let l = m.state.clock.left in
     low_of T drops l (step c m) (there_low l (FramesAre T) AnyArms (TaskIs T) (BeginsIs T) (frames_kept T drops l)
@@ -42,13 +43,17 @@ operation_is_born c path n m a = out path n m.state.clock.left (step c m) (λ T.
 
 module _ (path : List ℕ) (n : ℕ) where
   woken_apart : (i : ℕ) (v : Val) (s : State) (tss : Forest) → TreesApart path n s.clock.left tss → StepApart path n (woken_in i v [] tss s)
-  woken_apart i v s tss a = out path n s.clock.left (woken_in i v [] tss s) (λ T. TreesAre T tss) (λ T drops h. low_of T drops s.clock.left (woken_in i v []
-      tss s) (woken_in_low s.clock.left (FramesAre T) AnyArms (TaskIs T) (BeginsIs T) (frames_kept T drops s.clock.left) i v [] tss s refl tt h)) a
+  woken_apart i v s tss a = out path n s.clock.left (woken_in i v [] tss s) (λ T. TreesAre T tss)
+      (λ T drops h. low_of T drops s.clock.left (woken_in i v [] tss s)
+      (woken_in_low s.clock.left (FramesAre T) AnyArms (TaskIs T) (BeginsIs T) (frames_kept T drops s.clock.left) i v [] tss s refl tt h)) a
 
-  main_apart : (ns : List ℤ) (steps : ℕ) (f : Option Func) → StepApart path n (on_there f (begun steps) (λ f. main_starts ns (begun steps) f))
+  main_apart : (ns : List ℤ) (steps : ℕ) (f : Option Func) →
+      StepApart path n (on_there f (begun steps) (λ f. main_starts ns (begun steps) f))
   main_apart ns steps f = out path n steps (on_there f (begun steps) (λ f. main_starts ns (begun steps) f)) (λ T. Unit {0})
-      (λ T drops h. low_of T drops steps _ (there_low steps (FramesAre T) AnyArms (TaskIs T) (BeginsIs T) (frames_kept T drops steps) f (begun steps) _
-      (λ (f : Func). spending_low steps (FramesAre T) AnyArms (TaskIs T) (BeginsIs T) (frames_kept T drops steps) steps (begun steps) _ refl (λ l d. record {
+      (λ T drops h. low_of T drops steps _ (there_low steps (FramesAre T) AnyArms (TaskIs T) (BeginsIs T) (frames_kept T drops steps) f
+      (begun steps) _
+      (λ (f : Func). spending_low steps (FramesAre T) AnyArms (TaskIs T) (BeginsIs T) (frames_kept T drops steps) steps (begun steps) _ refl
+      (λ l d. record {
         holds = (
           new_root d is_new,
           others steps (FramesAre T) AnyArms (TaskIs T) (BeginsIs T) (frames_kept T drops steps) tt tt tt tt tt,
@@ -62,7 +67,8 @@ module _ (path : List ℕ) (n : ℕ) where
     fewer = λ l k tss e a. trees_lower path n l k tss e a;
   }
 
-  turns_apart : (c : Code) (steps until k : ℕ) (g : Stage Forest) → StageApart path n g → StageApart path n (turns (turn_taken c steps until) k g)
+  turns_apart : (c : Code) (steps until k : ℕ) (g : Stage Forest) → StageApart path n g →
+      StageApart path n (turns (turn_taken c steps until) k g)
   turns_apart c = turns_is c (TreesApart path n) (MachineApart path n) (invariant c)
 
   started_apart : (c : Code) (ns : List ℤ) (steps : ℕ) → StageApart path n (started c ns steps)
@@ -105,17 +111,19 @@ module _ (left : ℕ) (tss : Forest) where
         by_path (inl e) = by_births (births_differ (births_of x) (subst (λ p. Each (NoChild tss p) (births_of x)) e a.apart))
         by_path (inr f) = inl (record { stands = stands_of x a; other = λ e. absurd (f e) })
 
-    tasks_apart : (ts : List Task) → Each (λ (t : Task). IsBorn left tss t.thread) ts → TasksAre (Unborn path n left) ts ⊎ NoChild tss path n
+    tasks_apart : (ts : List Task) → Each (λ (t : Task). IsBorn left tss t.thread) ts → TasksAre (Unborn path n left) ts ⊎
+        NoChild tss path n
     tasks_apart [] a = inl tt
     tasks_apart (t ∷ ts) a = both (task_apart t.thread a.0) (tasks_apart ts a.1)
       where
-        both : Unborn path n left t.thread.who (births_of t.thread) ⊎ NoChild tss path n → TasksAre (Unborn path n left) ts ⊎ NoChild tss path n →
-            TasksAre (Unborn path n left) (t ∷ ts) ⊎ NoChild tss path n
+        both : Unborn path n left t.thread.who (births_of t.thread) ⊎ NoChild tss path n → TasksAre (Unborn path n left) ts ⊎
+            NoChild tss path n → TasksAre (Unborn path n left) (t ∷ ts) ⊎ NoChild tss path n
         both (inl x) (inl y) = inl ((x, a.0.keeps), y)
         both (inl x) (inr y) = inr y
         both (inr x) y = inr x
 
-    all_apart : (uss : Forest) → Each (Each (λ (t : Task). IsBorn left tss t.thread)) uss → TreesAre (Unborn path n left) uss ⊎ NoChild tss path n
+    all_apart : (uss : Forest) → Each (Each (λ (t : Task). IsBorn left tss t.thread)) uss → TreesAre (Unborn path n left) uss ⊎
+        NoChild tss path n
     all_apart [] a = inl tt
     all_apart (ts ∷ uss) a = both (tasks_apart ts a.0) (all_apart uss a.1)
       where
@@ -125,12 +133,13 @@ module _ (left : ℕ) (tss : Forest) where
         both (inl x) (inr y) = inr y
         both (inr x) y = inr x
 
-    tasks_not : (ts : List Task) → Each (λ (t : Task). IsBorn left tss t.thread) ts → Each (λ (t : Task). t.thread.who.path ≡ path ++ n ∷ [] → ⊥) ts →
-        TasksAre (NotChild path n left) ts
+    tasks_not : (ts : List Task) → Each (λ (t : Task). IsBorn left tss t.thread) ts →
+        Each (λ (t : Task). t.thread.who.path ≡ path ++ n ∷ [] → ⊥) ts → TasksAre (NotChild path n left) ts
     tasks_not [] a b = tt
     tasks_not (t ∷ ts) a b = ((record { stands = stands_of t.thread a.0; other = b.0 }, a.0.keeps), tasks_not ts a.1 b.1)
 
-    trees_not : (uss : Forest) → Each (Each (λ (t : Task). IsBorn left tss t.thread)) uss → NoChild uss path n → TreesAre (NotChild path n left) uss
+    trees_not : (uss : Forest) → Each (Each (λ (t : Task). IsBorn left tss t.thread)) uss → NoChild uss path n →
+        TreesAre (NotChild path n left) uss
     trees_not [] a b = tt
     trees_not (ts ∷ uss) a b = (tasks_not ts a.0 b.0, trees_not uss a.1 b.1)
 
@@ -150,20 +159,20 @@ module _ (left : ℕ) (tss : Forest) where
     not_trees [] a = tt
     not_trees (ts ∷ uss) a = (not_tasks ts a.0, not_trees uss a.1)
 
-  pub trees_each : (T : Who → List ℕ → Type 0) (uss : Forest) → TreesAre T uss → Each (Each (λ (t : Task). T t.thread.who (births_of t.thread) × Each KeepsBirth
-      (t.thread.frame ∷ t.thread.below))) uss
+  pub trees_each : (T : Who → List ℕ → Type 0) (uss : Forest) → TreesAre T uss →
+      Each (Each (λ (t : Task). T t.thread.who (births_of t.thread) × Each KeepsBirth (t.thread.frame ∷ t.thread.below))) uss
   trees_each T [] a = tt
   trees_each T (ts ∷ uss) a = (tasks_each ts a.0, trees_each T uss a.1)
     where
-      tasks_each : (ts : List Task) → TasksAre T ts → Each (λ (t : Task). T t.thread.who (births_of t.thread) × Each KeepsBirth (t.thread.frame ∷
-          t.thread.below)) ts
+      tasks_each : (ts : List Task) → TasksAre T ts →
+          Each (λ (t : Task). T t.thread.who (births_of t.thread) × Each KeepsBirth (t.thread.frame ∷ t.thread.below)) ts
       tasks_each [] a = tt
       tasks_each (t ∷ ts) a = (a.0, tasks_each ts a.1)
 
   module _ (apart : (path : List ℕ) (n : ℕ) → TreesApart path n left tss) where
     -- one task of the trees, and a birth of one of its frames
-    birth_apart : (x : Thread) (ns ms : List ℕ) (k : ℕ) → births_of x ≡ ns ++ k ∷ ms → ((T : Who → List ℕ → Type 0) → TreesAre T tss → T x.who (births_of
-        x)) → NoChild tss x.who.path k
+    birth_apart : (x : Thread) (ns ms : List ℕ) (k : ℕ) → births_of x ≡ ns ++ k ∷ ms →
+        ((T : Who → List ℕ → Type 0) → TreesAre T tss → T x.who (births_of x)) → NoChild tss x.who.path k
     birth_apart x ns ms k e there = by_apart (apart x.who.path k)
       where
         no : Each (λ i. i ≡ k → ⊥) (births_of x) → ⊥
@@ -173,8 +182,8 @@ module _ (left : ℕ) (tss : Forest) where
         by_apart (inl a) = absurd (no ((there (Unborn x.who.path k left) a).other refl))
         by_apart (inr a) = not_trees x.who.path k tss a
 
-    births_apart : (x : Thread) (ns ms : List ℕ) → births_of x ≡ ns ++ ms → ((T : Who → List ℕ → Type 0) → TreesAre T tss → T x.who (births_of x)) →
-        Each (NoChild tss x.who.path) ms
+    births_apart : (x : Thread) (ns ms : List ℕ) → births_of x ≡ ns ++ ms →
+        ((T : Who → List ℕ → Type 0) → TreesAre T tss → T x.who (births_of x)) → Each (NoChild tss x.who.path) ms
     births_apart x ns [] e there = tt
     births_apart x ns (k ∷ ms) e there = (birth_apart x ns ms k e there, births_apart x (ns ++ k ∷ []) ms (e ∙ further ns) there)
       where
@@ -182,8 +191,8 @@ module _ (left : ℕ) (tss : Forest) where
         further [] = refl
         further (i ∷ ns) = ap (λ xs. i ∷ xs) (further ns)
 
-    thread_born : (x : Thread) → ((T : Who → List ℕ → Type 0) → TreesAre T tss → T x.who (births_of x) × Each KeepsBirth (x.frame ∷ x.below)) → IsBorn left
-        tss x
+    thread_born : (x : Thread) → ((T : Who → List ℕ → Type 0) → TreesAre T tss → T x.who (births_of x) ×
+        Each KeepsBirth (x.frame ∷ x.below)) → IsBorn left tss x
     thread_born x there = record {
       rises = stands.rises;
       keeps = keeps (apart [] 0);
@@ -205,12 +214,13 @@ module _ (left : ℕ) (tss : Forest) where
     abbrev Held : (Who → List ℕ → Type 0) → Task → Type 0
     Held T t = T t.thread.who (births_of t.thread) × Each KeepsBirth (t.thread.frame ∷ t.thread.below)
 
-    tasks_born : (ts : List Task) → ((T : Who → List ℕ → Type 0) → TreesAre T tss → Each (Held T) ts) → Each (λ (t : Task). IsBorn left tss t.thread) ts
+    tasks_born : (ts : List Task) → ((T : Who → List ℕ → Type 0) → TreesAre T tss → Each (Held T) ts) →
+        Each (λ (t : Task). IsBorn left tss t.thread) ts
     tasks_born [] there = tt
     tasks_born (t ∷ ts) there = (thread_born t.thread (λ T a. (there T a).0), tasks_born ts (λ T a. (there T a).1))
 
-    all_born : (uss : Forest) → ((T : Who → List ℕ → Type 0) → TreesAre T tss → Each (Each (Held T)) uss) → Each (Each (λ (t : Task). IsBorn left tss
-        t.thread)) uss
+    all_born : (uss : Forest) → ((T : Who → List ℕ → Type 0) → TreesAre T tss → Each (Each (Held T)) uss) →
+        Each (Each (λ (t : Task). IsBorn left tss t.thread)) uss
     all_born [] there = tt
     all_born (ts ∷ uss) there = (tasks_born ts (λ T a. (there T a).0), all_born uss (λ T a. (there T a).1))
 
@@ -224,9 +234,9 @@ stage_born (broken e s) a = tt
 stage_born (amiss s) a = tt
 
 pub run_is_born : RunIsBorn
-run_is_born c ns steps until k = stage_born (mach_after c ns steps until k) (λ path n. turns_apart path n c steps until k (started c ns steps) (started_apart
-    path n c ns steps))
+run_is_born c ns steps until k = stage_born (mach_after c ns steps until k)
+    (λ path n. turns_apart path n c steps until k (started c ns steps) (started_apart path n c ns steps))
 
 pub births_go_on : BirthsGoOn
-births_go_on c steps until k s tss a = stage_born (turns (turn_taken c steps until) k (going s tss)) (λ path n. turns_apart path n c steps until k (going s
-    tss) (from_born s.clock.left tss path n a))
+births_go_on c steps until k s tss a = stage_born (turns (turn_taken c steps until) k (going s tss))
+    (λ path n. turns_apart path n c steps until k (going s tss) (from_born s.clock.left tss path n a))

@@ -1,5 +1,6 @@
 -- What is counted in every state of a run: tasks, frames, waits, and the tasks of entries.
-use Rattle.std.proofs.Common.{◌≡◌, ℕ, zero, suc, ◌+◌, ◌≤◌, length, List, [], ◌∷◌, ◌++◌, Option, Some, None, Bool, true, false, refl, sym, subst, arith}
+use Rattle.std.proofs.Common.{◌≡◌, ℕ, zero, suc, ◌+◌, ◌≤◌, length, List, [], ◌∷◌, ◌++◌, Option, Some, None, Bool, true, false, refl, sym}
+use Rattle.std.proofs.Common.{subst, arith}
 use Rattle.std.proofs.Common.{ap, nat_lt}
 use Rattle.std.proofs.lemmas.List.{length-append}
 use Rattle.verse_base.specs.declared.places.Place.{Place}
@@ -205,20 +206,22 @@ entry_more (suc e) [] = omega arith
 entry_more zero (r ∷ rs) = omega arith
 entry_more (suc e) (r ∷ rs) = entry_more e rs
 
-pub entry_gives : (e d : ℕ) (rs : List (Option Given)) (g : Given) → unfinished (nth rs e) ≤ one (eqn e d) + unfinished (nth (set_at rs d (Some g)) e)
+pub entry_gives : (e d : ℕ) (rs : List (Option Given)) (g : Given) →
+    unfinished (nth rs e) ≤ one (eqn e d) + unfinished (nth (set_at rs d (Some g)) e)
 entry_gives e d [] g = omega arith
 entry_gives zero zero (r ∷ rs) g = let a = at_most_one (Some r) in omega (arith, a)
 entry_gives (suc e) zero (r ∷ rs) g = omega arith
 entry_gives zero (suc d) (r ∷ rs) g = omega arith
 entry_gives (suc e) (suc d) (r ∷ rs) g = entry_gives e d rs g
 
-pub gives_one : (e : ℕ) (entry : Option ℕ) (v : Val) (s : State) → 0 + (unfinished (nth s.clock.results e) + 0) ≤ is_task_of e (root entry) +
+pub gives_one : (e : ℕ) (entry : Option ℕ) (v : Val) (s : State) →
+    0 + (unfinished (nth s.clock.results e) + 0) ≤ is_task_of e (root entry) +
     (unfinished (nth (with_result entry v s).clock.results e) + 0)
 gives_one e None v s = omega arith
 gives_one e (Some d) v s = let a = entry_gives e d s.clock.results (record { value = v; moment = s.clock.now }) in omega (arith, a)
 
-pub same_results : (e : ℕ) (s u : State) → u.clock.results ≡ s.clock.results → unfinished (nth s.clock.results e) + 0 ≤ unfinished (nth u.clock.results e)
-    + 0
+pub same_results : (e : ℕ) (s u : State) → u.clock.results ≡ s.clock.results →
+    unfinished (nth s.clock.results e) + 0 ≤ unfinished (nth u.clock.results e) + 0
 same_results e s u h = let a = ap (λ rs. unfinished (nth rs e)) h in omega (arith, a)
 
 abbrev pub task_of : ℕ → Measure
@@ -375,6 +378,7 @@ lines_before = record {
   gone = λ t. omega arith;
   clears = λ w k l s e. omega (arith, e);
   finishes = λ w k e r. omega arith;
-  gives = λ e v s. let a = ap (λ (b : Before). b.bytes) (same_before e v s) in let d = ap (λ (b : Before). b.lines) (same_before e v s) in omega (arith, a, d);
+  gives = λ e v s. let a = ap (λ (b : Before). b.bytes) (same_before e v s) in let d =
+      ap (λ (b : Before). b.lines) (same_before e v s) in omega (arith, a, d);
   turns = λ l i s e. omega (arith, e);
 }

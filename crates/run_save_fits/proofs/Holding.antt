@@ -1,18 +1,22 @@
 -- What every state of a run holds: values within their limits, and frames that stand where they may.
-use Rattle.std.proofs.Common.{◌≡◌, ℕ, zero, suc, ◌+◌, ◌≤◌, ◌<◌, length, List, [], ◌∷◌, ◌++◌, Option, Some, None, Bool, true, false, cond, refl, sym}
+use Rattle.std.proofs.Common.{◌≡◌, ℕ, zero, suc, ◌+◌, ◌≤◌, ◌<◌, length, List, [], ◌∷◌, ◌++◌, Option, Some, None, Bool, true, false, cond}
+use Rattle.std.proofs.Common.{refl, sym}
 use Rattle.std.proofs.Common.{subst, ap, ◌∙◌, arith, ◌⊎◌}
 use mathlib.Core.Logic.{inl, inr}
 use Rattle.std.proofs.lemmas.List.{length-append}
 use Rattle.verse_base.specs.declared.places.Place.{Place}
 use Rattle.verse_code.specs.declared.codes.Code.{Code}
-use Rattle.verse_value.specs.Val.{Val, unit, falsity, truth, int, char, enum, object, event, task, some, array, mapping, tuple, Vals, no_vals}
+use Rattle.verse_value.specs.Val.{Val, unit, falsity, truth, int, char, enum, object, event, task, some, array, mapping, tuple, Vals}
+use Rattle.verse_value.specs.Val.{no_vals}
 use Rattle.verse_value.specs.Val.{more_vals, Pairs, no_pairs, more_pairs}
 use Rattle.verse_value.specs.Store.{Store, Cell}
 use Rattle.verse_meaning_state.specs.State.{State, Given, Signal, stepped, at_moment, with_result, drawn, with_entry, set_at}
 use Rattle.verse_meaning_state.specs.Waits.{Cause, till, never, done, heard, Wait, waiting, nth, eqn}
 use Rattle.verse_meaning_state.specs.Turns.{Kind}
-use Rattle.verse_code_machine.specs.Tasks.{Handler, Frame, Note, Role, root, part, Who, Part, did, runs, Rest, asleep, group, Thread, thread, Task}
-use Rattle.verse_code_machine.specs.Tasks.{After, resuming, closing, finishing, Up, begins, branching, spawning, clearing, Trees, World, world}
+use Rattle.verse_code_machine.specs.Tasks.{Handler, Frame, Note, Role, root, part, Who, Part, did, runs, Rest, asleep, group, Thread}
+use Rattle.verse_code_machine.specs.Tasks.{thread, Task}
+use Rattle.verse_code_machine.specs.Tasks.{After, resuming, closing, finishing, Up, begins, branching, spawning, clearing, Trees, World}
+use Rattle.verse_code_machine.specs.Tasks.{world}
 use Rattle.verse_code_machine.specs.Tasks.{Step, Next, Over, Turn, onto, starts, since, beneath_arms, root_named, child_named}
 use Rattle.verse_code_machine.specs.Frames.{free}
 use Rattle.verse_code_machine.specs.Cancelling.{without, inserted, gone_before, gone_behind, cancelled, world_without}
@@ -24,7 +28,8 @@ use Rattle.run_save_shots.specs.Fitting.{IsSound, AreSound, PairsAreSound, Value
 use Rattle.verse_base.specs.declared.limits.TheConstants.{MOST_NOW, MOST_MOMENT}
 use Rattle.run_save_moves.specs.Fine.{Scene, SlotsFine, MemoryFine, HandlerFine, FrameFine, StateFine, Ticks, Changes, IsEvent}
 use Rattle.run_save_moves.specs.Moves as m
-use Rattle.run_save_moves.specs.Moves.{Point, Move, Leads, IsCalm, Holds, BehindCall, BehindWait, BehindGroup, CauseIs, NotYet, PartFits, given}
+use Rattle.run_save_moves.specs.Moves.{Point, Move, Leads, IsCalm, Holds, BehindCall, BehindWait, BehindGroup, CauseIs, NotYet, PartFits}
+use Rattle.run_save_moves.specs.Moves.{given}
 use Rattle.run_save_moves.specs.Moves.{begun, ends_run, acts_next, turns_next, then_leads}
 use Rattle.run_save_fits.specs.Held as d
 use Rattle.run_save_fits.specs.Held.{Has, IsSome, RoleIs, WhoIs, NoLater}
@@ -75,7 +80,8 @@ module _ (P : Task → Type 0) where
 
   before_each : (f : List ℕ → Bool) (ts : List Task) → Each P ts → Each P (gone_before f ts)
   before_each f [] a = tt
-  before_each f (t ∷ ts) a = cond_each (f t.thread.who.path) _ _ (inserted_each t (gone_before f ts) a.0 (before_each f ts a.1)) (before_each f ts a.1)
+  before_each f (t ∷ ts) a = cond_each (f t.thread.who.path) _ _ (inserted_each t (gone_before f ts) a.0 (before_each f ts a.1))
+      (before_each f ts a.1)
 
   behind_each : (f : List ℕ → Bool) (ts : List Task) → Each P ts → Each P (gone_behind f ts)
   behind_each f [] a = tt
@@ -203,7 +209,8 @@ module _ (c : Code) (until : ℕ) (short : until ≤ MOST_NOW) where
 
   -- ---- a suspended task, and one that runs
 
-  free_none : (hs : List Handler) (ns : List Note) (fs : List Frame) → free hs ns fs ≡ true → (hs ≡ []) × Each (λ (f : Frame). f.handlers ≡ []) fs
+  free_none : (hs : List Handler) (ns : List Note) (fs : List Frame) → free hs ns fs ≡ true → (hs ≡ []) ×
+      Each (λ (f : Frame). f.handlers ≡ []) fs
   free_none (h ∷ hs) ns fs e = absurd (cc)
   free_none [] (n ∷ ns) fs e = absurd (cc)
   free_none [] [] [] e = (refl, tt)
@@ -212,12 +219,13 @@ module _ (c : Code) (until : ℕ) (short : until ≤ MOST_NOW) where
   still_frame : (z : Scene) (f : Frame) → FrameFine c z f → f.handlers ≡ [] → FrameStill z.entries f
   still_frame z f a e = record { locals = a.locals; stack = a.stack; defers = a.defers; handlers = e }
 
-  still_lower : (z : Scene) (fs : List Frame) → Each (LowerFine z) fs → Each (λ (f : Frame). f.handlers ≡ []) fs → Each (LowerStill z.entries) fs
+  still_lower : (z : Scene) (fs : List Frame) → Each (LowerFine z) fs → Each (λ (f : Frame). f.handlers ≡ []) fs →
+      Each (LowerStill z.entries) fs
   still_lower z [] a b = tt
   still_lower z (f ∷ fs) a b = ((still_frame z f a.0.0 b.0, a.0.1), still_lower z fs a.1 b.1)
 
-  still_thread : (z : Scene) (w : Who) (f : Frame) (fs : List Frame) → free f.handlers f.life.noted fs ≡ true → ThreadFine z (thread w f fs) →
-      ThreadStill z.entries (thread w f fs)
+  still_thread : (z : Scene) (w : Who) (f : Frame) (fs : List Frame) → free f.handlers f.life.noted fs ≡ true →
+      ThreadFine z (thread w f fs) → ThreadStill z.entries (thread w f fs)
   still_thread z w f fs e a = let h = free_none f.handlers f.life.noted fs e in
       record { named = a.named; frame = still_frame z f a.frame h.0; below = still_lower z fs a.below h.1 }
 
@@ -236,7 +244,8 @@ module _ (c : Code) (until : ℕ) (short : until ≤ MOST_NOW) where
     below = each_as (LowerStill z.entries) (LowerFine z) (λ f b. (fine_frame z f b.0, b.1)) x.below a.below;
   }
 
-  with_value : (z : Scene) (x : Thread) (v : Val) → ThreadFine z x → ValueFits z.entries v → ThreadFine z (thread x.who (given x.frame v) x.below)
+  with_value : (z : Scene) (x : Thread) (v : Val) → ThreadFine z x → ValueFits z.entries v →
+      ThreadFine z (thread x.who (given x.frame v) x.below)
   with_value z x v a b = record {
     named = a.named;
     frame = record { locals = a.frame.locals; stack = (b, a.frame.stack); defers = a.frame.defers; handlers = a.frame.handlers };
@@ -345,7 +354,8 @@ module _ (c : Code) (until : ℕ) (short : until ≤ MOST_NOW) where
   set_length (r ∷ rs) zero g = refl
   set_length (r ∷ rs) (suc e) g = ap suc (set_length rs e g)
 
-  set_later : (rs : List (Option Given)) (e : ℕ) (g : Given) → Each (NoLater until) rs → g.moment ≤ until → Each (NoLater until) (set_at rs e (Some g))
+  set_later : (rs : List (Option Given)) (e : ℕ) (g : Given) → Each (NoLater until) rs → g.moment ≤ until →
+      Each (NoLater until) (set_at rs e (Some g))
   set_later [] e g a b = tt
   set_later (r ∷ rs) zero g a b = (b, a.1)
   set_later (r ∷ rs) (suc e) g a b = (a.0, set_later rs e g a.1 b)
@@ -372,8 +382,8 @@ module _ (c : Code) (until : ℕ) (short : until ≤ MOST_NOW) where
   abbrev awaiting : Scene → Cause → Scene
   awaiting z cause = record { entries = z.entries; bytes = z.bytes; events = awaited cause z.events }
 
-  events_there : (s : State) (cause : Cause) (es : List ℕ) → CauseIs s cause → Each (IsEvent s.memory.store) es → Each (IsEvent s.memory.store)
-      (awaited cause es)
+  events_there : (s : State) (cause : Cause) (es : List ℕ) → CauseIs s cause → Each (IsEvent s.memory.store) es →
+      Each (IsEvent s.memory.store) (awaited cause es)
   events_there s (till moment) es i a = a
   events_there s never es i a = a
   events_there s (done entry) es i a = a
@@ -441,16 +451,17 @@ module _ (c : Code) (until : ℕ) (short : until ≤ MOST_NOW) where
       before = a.fine.before;
       entries = length-append s.clock.results (None ∷ []) ∙ one_more (length s.clock.results) z.entries a.fine.entries;
       memory = record {
-        slots = each_as (λ (d : Cell). ValuesFit z.entries d.slots) (λ (d : Cell). ValuesFit (suc z.entries) d.slots) (λ d b. lift_values z.entries (suc
-            z.entries) h d.slots b) s.memory.store a.fine.memory.slots;
+        slots = each_as (λ (d : Cell). ValuesFit z.entries d.slots) (λ (d : Cell). ValuesFit (suc z.entries) d.slots)
+            (λ d b. lift_values z.entries (suc z.entries) h d.slots b) s.memory.store a.fine.memory.slots;
         weight = a.fine.memory.weight;
         told = a.fine.memory.told;
         events = a.fine.memory.events;
       };
-      results = each_more (GivenFits (suc z.entries)) s.clock.results (None ∷ []) (each_as (GivenFits z.entries) (GivenFits (suc z.entries)) (lift_given
-          z.entries (suc z.entries) h) s.clock.results a.fine.results) (tt, tt);
-      signals = each_as (λ (g : Signal). ValueFits z.entries g.given.value) (λ (g : Signal). ValueFits (suc z.entries) g.given.value) (λ g b. lift_value
-          z.entries (suc z.entries) h g.given.value b) s.clock.signals a.fine.signals;
+      results = each_more (GivenFits (suc z.entries)) s.clock.results (None ∷ [])
+          (each_as (GivenFits z.entries) (GivenFits (suc z.entries)) (lift_given z.entries (suc z.entries) h) s.clock.results
+          a.fine.results) (tt, tt);
+      signals = each_as (λ (g : Signal). ValueFits z.entries g.given.value) (λ (g : Signal). ValueFits (suc z.entries) g.given.value)
+          (λ g b. lift_value z.entries (suc z.entries) h g.given.value b) s.clock.signals a.fine.signals;
     };
     now = a.now;
     results = each_more (NoLater until) s.clock.results (None ∷ []) a.results (tt, tt);
@@ -458,14 +469,16 @@ module _ (c : Code) (until : ℕ) (short : until ≤ MOST_NOW) where
 
   -- ---- groups and worlds
 
-  regroup : (z : Scene) (k : Kind) (p : Place) (gs : List Part) (i j : ℕ) (x : Thread) → i ≡ j → GroupFine z k p gs i x → GroupFine z k p gs j x
+  regroup : (z : Scene) (k : Kind) (p : Place) (gs : List Part) (i j : ℕ) (x : Thread) → i ≡ j → GroupFine z k p gs i x →
+      GroupFine z k p gs j x
   regroup z k p gs i j x e a = subst (λ n. GroupFine z k p gs n x) e a
 
   one_part : (z : Scene) (k : Kind) (p : Place) (gs : List Part) (g : Part) (ls : ℕ) (x : Thread) → PartFits z.entries g →
       GroupFine z k p gs (suc (length gs + ls)) x → GroupFine z k p (gs ++ g ∷ []) (length (gs ++ g ∷ []) + ls) x
   one_part z k p gs g ls x b a = record {
     still = a.still;
-    place = subst (λ n. BehindGroup c x.frame.place k p n) (sums (length gs) (length (gs ++ g ∷ [])) ls (length-append gs (g ∷ []))) a.place;
+    place = subst (λ n. BehindGroup c x.frame.place k p n) (sums (length gs) (length (gs ++ g ∷ [])) ls (length-append gs (g ∷ [])))
+        a.place;
     some = subst (λ n. 1 ≤ n) (sums (length gs) (length (gs ++ g ∷ [])) ls (length-append gs (g ∷ []))) a.some;
     parts = each_more (PartFits z.entries) gs (g ∷ []) a.parts (b, tt);
   }
@@ -491,8 +504,8 @@ module _ (c : Code) (until : ℕ) (short : until ≤ MOST_NOW) where
       two true h = (b, a.1)
       two false h = (tt, h)
 
-  others : {z : Scene} {n : ℕ} {pre post : List Task} {us : List Up} {trees : Trees} → TasksFine z n pre → TasksFine z n post → Each (UpFine z n) us →
-      TreesFine z n trees.before → TreesFine z n trees.behind → Others z n pre post us trees
+  others : {z : Scene} {n : ℕ} {pre post : List Task} {us : List Up} {trees : Trees} → TasksFine z n pre → TasksFine z n post →
+      Each (UpFine z n) us → TreesFine z n trees.before → TreesFine z n trees.behind → Others z n pre post us trees
   others a b d e f = record { pre_fine = a; post_fine = b; ups = d; before_fine = e; behind_fine = f }
 
   without_fine : (z : Scene) (n : ℕ) (f : List ℕ → Bool) (o : World) → WorldFine z n o → WorldFine z n (world_without f o)
@@ -535,23 +548,24 @@ module _ (c : Code) (until : ℕ) (short : until ≤ MOST_NOW) where
       a.2,
     ),
   )
-  keeps (m.suspends {w = w} {o = o} {s = s} {f = f} {fs = fs} {cause = cause} i p q) z a = let wide = awaiting_wide z s.clock.next cause in (
-    awaiting z cause,
-    (
-      drawn_held z s cause a.0 q,
-      others (
-        record {
-          still = lift_thread z.entries (awaiting z cause).entries wide.entries (thread w f fs) (still_thread z w f fs i.is_free a.1);
-          rest = (omega arith, p, cause_fine z s cause a.0 q);
-        },
-        lift_tasks z s.clock.next (awaiting z cause) (suc s.clock.next) wide o.pre a.2.pre_fine,
+  keeps (m.suspends {w = w} {o = o} {s = s} {f = f} {fs = fs} {cause = cause} i p q) z a = let wide =
+      awaiting_wide z s.clock.next cause in (
+        awaiting z cause,
+        (
+          drawn_held z s cause a.0 q,
+          others (
+            record {
+              still = lift_thread z.entries (awaiting z cause).entries wide.entries (thread w f fs) (still_thread z w f fs i.is_free a.1);
+              rest = (omega arith, p, cause_fine z s cause a.0 q);
+            },
+            lift_tasks z s.clock.next (awaiting z cause) (suc s.clock.next) wide o.pre a.2.pre_fine,
+          )
+              (lift_tasks z s.clock.next (awaiting z cause) (suc s.clock.next) wide o.post a.2.post_fine)
+              (lift_ups z s.clock.next (awaiting z cause) (suc s.clock.next) wide s.clock.left o.ups i.ups a.2.ups)
+              (lift_trees z s.clock.next (awaiting z cause) (suc s.clock.next) wide o.trees.before a.2.before_fine)
+              (lift_trees z s.clock.next (awaiting z cause) (suc s.clock.next) wide o.trees.behind a.2.behind_fine),
+        ),
       )
-          (lift_tasks z s.clock.next (awaiting z cause) (suc s.clock.next) wide o.post a.2.post_fine)
-          (lift_ups z s.clock.next (awaiting z cause) (suc s.clock.next) wide s.clock.left o.ups i.ups a.2.ups)
-          (lift_trees z s.clock.next (awaiting z cause) (suc s.clock.next) wide o.trees.before a.2.before_fine)
-          (lift_trees z s.clock.next (awaiting z cause) (suc s.clock.next) wide o.trees.behind a.2.behind_fine),
-    ),
-  )
   keeps (m.spawns {w = w} {o = o} {s = s} {f = f} {g = g} {fs = fs} {l = l} {place = place} {ls = ls} i e h v) z a = spawned
     where
       below_more : (i k : ℕ) → i ≡ k → i < suc k
@@ -569,7 +583,12 @@ module _ (c : Code) (until : ℕ) (short : until ≤ MOST_NOW) where
         more z,
         (
           entry_held z l s a.0,
-          record { named = (refl, refl); frame = begun_fine (more z) l place ls (lift_values z.entries (suc z.entries) (omega arith) ls (v z a.0.fine a.1.frame)); below = tt },
+          record {
+            named = (refl, refl);
+            frame = begun_fine (more z) l place ls
+                (lift_values z.entries (suc z.entries) (omega arith) ls (v z a.0.fine a.1.frame));
+            below = tt;
+          },
           others tt tt (
             (
               lift_thread z.entries (suc z.entries) (omega arith) (thread w g fs) own,
@@ -611,7 +630,10 @@ module _ (c : Code) (until : ℕ) (short : until ≤ MOST_NOW) where
     z,
     (
       a.0,
-      ((record { named = a.1.named; frame = a.1.below.0.0; below = a.1.below.1 }, (v z a.0.fine a.1.frame).0), gone_fine z s.clock.next (since w.path f.life.born) o a.2),
+      (
+        (record { named = a.1.named; frame = a.1.below.0.0; below = a.1.below.1 }, (v z a.0.fine a.1.frame).0),
+        gone_fine z s.clock.next (since w.path f.life.born) o a.2,
+      ),
       without_fine z s.clock.next (since w.path f.life.born) o a.2,
     ),
   )
@@ -654,7 +676,12 @@ module _ (c : Code) (until : ℕ) (short : until ≤ MOST_NOW) where
       others (
         record {
           still = a.1.still;
-          rest = (subst (λ i. BehindGroup c x.frame.place k p i) (none (length gs)) a.1.place, n, a.1.parts, subst (λ i. 1 ≤ i) (none (length gs)) a.1.some);
+          rest = (
+            subst (λ i. BehindGroup c x.frame.place k p i) (none (length gs)) a.1.place,
+            n,
+            a.1.parts,
+            subst (λ i. 1 ≤ i) (none (length gs)) a.1.some,
+          );
         },
         a.2.pre_fine,
       ) a.2.post_fine a.2.ups a.2.before_fine a.2.behind_fine,
@@ -668,7 +695,10 @@ module _ (c : Code) (until : ℕ) (short : until ≤ MOST_NOW) where
     z,
     (
       a.0,
-      ((fine_thread z x a.1.still, h z.entries a.1.parts), gone_fine z s.clock.next (beneath_arms x.who.path gs) (world pre post us trees) a.2),
+      (
+        (fine_thread z x a.1.still, h z.entries a.1.parts),
+        gone_fine z s.clock.next (beneath_arms x.who.path gs) (world pre post us trees) a.2,
+      ),
       without_fine z s.clock.next (beneath_arms x.who.path gs) (world pre post us trees) a.2,
     ),
   )
@@ -694,10 +724,11 @@ module _ (c : Code) (until : ℕ) (short : until ≤ MOST_NOW) where
     (
       a.0,
       with_value z x (task entry) (fine_thread z x a.1.ups.0.0) (task_fits z.entries entry a.1.ups.0.1),
-      others a.1.ups.0.2 a.1.ups.0.3 a.1.ups.1 a.1.before_fine (each_more (TasksFine z s.clock.next) trees.behind (onto pre post ∷ []) a.1.behind_fine (
-        onto_each (TaskFine z s.clock.next) pre post a.1.pre_fine a.1.post_fine,
-        tt,
-      )),
+      others a.1.ups.0.2 a.1.ups.0.3 a.1.ups.1 a.1.before_fine
+          (each_more (TasksFine z s.clock.next) trees.behind (onto pre post ∷ []) a.1.behind_fine (
+            onto_each (TaskFine z s.clock.next) pre post a.1.pre_fine a.1.post_fine,
+            tt,
+          )),
     ),
   )
   keeps (m.resumes {x = x} {v = v}) z a = (z, (a.0, with_value z x v a.1.0.0 a.1.0.1, a.2))
@@ -724,7 +755,13 @@ module _ (c : Code) (until : ℕ) (short : until ≤ MOST_NOW) where
       stepped_held z l s a.0,
       record {
         named = a.1.0;
-        frame = record { locals = a.1.1.0.locals; stack = a.1.1.0.stack; defers = (subst (Each (IsBlock c)) d a.1.1.0.defers).1; handlers = tt };
+        frame = record {
+          locals = a.1.1.0.locals;
+          stack = a.1.1.0.stack;
+          defers = (subst (Each (IsBlock c)) d a.1.1.0.defers).1;
+          handlers =
+              tt;
+        };
         below = a.1.1.1;
       },
       a.2,
@@ -771,7 +808,8 @@ module _ (c : Code) (until : ℕ) (short : until ≤ MOST_NOW) where
           a.0,
           record {
             still = b.still;
-            place = subst (λ i. BehindGroup c y.thread.frame.place k p i) (sums (length gs) (length (with_did n v gs)) (did_length n v gs)) q.0;
+            place = subst (λ i. BehindGroup c y.thread.frame.place k p i) (sums (length gs) (length (with_did n v gs)) (did_length n v gs))
+                q.0;
             some = subst (λ i. 1 ≤ i) (sums (length gs) (length (with_did n v gs)) (did_length n v gs)) q.3;
             parts = did_parts z.entries n v gs a.1 q.2;
           },

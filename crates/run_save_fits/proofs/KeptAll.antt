@@ -1,5 +1,6 @@
 -- What is kept of a whole run that stopped fits its code.
-use Rattle.std.proofs.Common.{◌≡◌, ℕ, zero, suc, ◌+◌, ◌≤◌, length, map, reverse, List, [], ◌∷◌, ◌++◌, Option, Some, None, Bool, true, false, cond}
+use Rattle.std.proofs.Common.{◌≡◌, ℕ, zero, suc, ◌+◌, ◌≤◌, length, map, reverse, List, [], ◌∷◌, ◌++◌, Option, Some, None, Bool, true, false}
+use Rattle.std.proofs.Common.{cond}
 use Rattle.std.proofs.Common.{refl, sym, subst, ap, ◌∙◌, arith}
 use Rattle.std.specs.Prelude.{◌≢◌, decimal}
 use Rattle.std.proofs.lemmas.List.{length-append}
@@ -75,8 +76,8 @@ module _ (f : Task → ℕ) where
 
   behind_sum : (y : Task) (xs : List Task) → tasks_sum f (behind_parent y xs) ≡ f y + tasks_sum f xs
   behind_sum y [] = refl
-  behind_sum y (x ∷ xs) = let h = behind_sum y xs in cond_sum (same_path y.thread.who.up x.thread.who.path) (x ∷ y ∷ xs) (x ∷ behind_parent y xs)
-      (f y + (f x + tasks_sum f xs)) (omega arith) (omega (arith, h))
+  behind_sum y (x ∷ xs) = let h = behind_sum y xs in cond_sum (same_path y.thread.who.up x.thread.who.path) (x ∷ y ∷ xs)
+      (x ∷ behind_parent y xs) (f y + (f x + tasks_sum f xs)) (omega arith) (omega (arith, h))
 
   walked_sum : (ys : List Task) → tasks_sum f (walked ys) ≡ tasks_sum f ys
   walked_sum [] = refl
@@ -88,7 +89,8 @@ module _ (f : Task → ℕ) where
 
   reordered_sum : {xs zs : Forest} → Reordered xs zs → trees_sum f zs ≡ trees_sum f xs
   reordered_sum no_elements = refl
-  reordered_sum (one_more {x = x} {xs = xs} {zs = zs} front back e o) = let h = reordered_sum o in let a = trees_join front (x ∷ back) in let b = trees_join front
+  reordered_sum (one_more {x = x} {xs = xs} {zs = zs} front back e o) = let h = reordered_sum o in let a =
+      trees_join front (x ∷ back) in let b = trees_join front
       back in let d = ap (trees_sum f) e in omega (arith, h, a, b, d)
 
   all_sum : {xs zs : Forest} → Reordered xs zs → tasks_sum f (walk zs) ≡ trees_sum f xs
@@ -123,8 +125,8 @@ many ys (z ∷ zs) = let h = many ys zs in omega (arith, h)
 frames_are : (c : Code) (ys zs : List Task) → frames_in (map (kp.task ys) zs) ≡ tasks_sum (λ (t : Task). suc (length t.thread.below)) zs
 frames_are c ys [] = refl
 frames_are c ys (z ∷ zs) = let h = frames_are c ys zs in let a = frames_number c z in
-    sums (length (kp.task ys z).frames) (suc (length z.thread.below)) (frames_in (map (kp.task ys) zs)) (tasks_sum (λ (t : Task). suc (length
-    t.thread.below)) zs) a h
+    sums (length (kp.task ys z).frames) (suc (length z.thread.below)) (frames_in (map (kp.task ys) zs))
+    (tasks_sum (λ (t : Task). suc (length t.thread.below)) zs) a h
   where
     sums : (a b m n : ℕ) → a ≡ b → m ≡ n → a + m ≡ b + n
     sums a b m n e f = omega (arith, e, f)
@@ -134,14 +136,15 @@ occurs n [] = 0
 occurs n (m ∷ ms) = one (eqn n m) + occurs n ms
 
 one_wait : (n : ℕ) (p : Option ℕ) (q : r.Role) (o : Option ℕ) (fs : List KeptFrame) (x : Rest) (ts : List KeptTask) →
-    occurs n (waits_in (record { parent = p; role = q; root = o; frames = fs; rest = kp.rest x } ∷ ts)) ≡ is_wait n x + occurs n (waits_in ts)
+    occurs n (waits_in (record { parent = p; role = q; root = o; frames = fs; rest = kp.rest x } ∷ ts)) ≡ is_wait n x +
+    occurs n (waits_in ts)
 one_wait n p q o fs (asleep w) ts = refl
 one_wait n p q o fs (group k s gs) ts = omega arith
 
 waits_are : (n : ℕ) (ys zs : List Task) → occurs n (waits_in (map (kp.task ys) zs)) ≡ tasks_sum (λ (t : Task). is_wait n t.rest) zs
 waits_are n ys [] = refl
-waits_are n ys (z ∷ zs) = let h = waits_are n ys zs in one_wait n (kp.task ys z).parent (kp.task ys z).role (kp.task ys z).root (kp.task ys z).frames z.rest
-    (map (kp.task ys) zs) ∙ ap (λ i. is_wait n z.rest + i) h
+waits_are n ys (z ∷ zs) = let h = waits_are n ys zs in one_wait n (kp.task ys z).parent (kp.task ys z).role (kp.task ys z).root
+    (kp.task ys z).frames z.rest (map (kp.task ys) zs) ∙ ap (λ i. is_wait n z.rest + i) h
 
 eqn_same : (n : ℕ) → eqn n n ≡ true
 eqn_same zero = refl
@@ -193,8 +196,8 @@ line_long l = let a = length-append (decimal l.moment) (32 ∷ (escaped l.bytes 
 
 lines_few : (ls : List Line) → length ls ≤ length (printed ls)
 lines_few [] = omega arith
-lines_few (l ∷ ls) = more (length ls) (length (line_bytes l.moment l.bytes)) (length (printed ls)) (length (printed (l ∷ ls))) (length-append (line_bytes
-    l.moment l.bytes) (printed ls)) (line_long l) (lines_few ls)
+lines_few (l ∷ ls) = more (length ls) (length (line_bytes l.moment l.bytes)) (length (printed ls)) (length (printed (l ∷ ls)))
+    (length-append (line_bytes l.moment l.bytes) (printed ls)) (line_long l) (lines_few ls)
   where
     more : (n a b all : ℕ) → all ≡ a + b → 1 ≤ a → n ≤ b → suc n ≤ all
     more n a b all e f g = omega (arith, e, f, g)
@@ -202,36 +205,42 @@ lines_few (l ∷ ls) = more (length ls) (length (line_bytes l.moment l.bytes)) (
 at_most : (a b n : ℕ) → a ≡ b → b ≤ n → a ≤ n
 at_most a b n e f = omega (arith, e, f)
 
-module _ (c : Code) (steps until : ℕ) (few : steps ≤ MOST_STEPS) (short : until ≤ MOST_NOW) (s : State) (tss ordered : Forest) (o : Reordered tss ordered)
-    (a : Savable c steps until s tss) (late : TreesLate until s tss) (belongs : StoreBelongs c.classes s.memory.store) where
+module _ (c : Code) (steps until : ℕ) (few : steps ≤ MOST_STEPS) (short : until ≤ MOST_NOW) (s : State) (tss ordered : Forest)
+    (o : Reordered tss ordered) (a : Savable c steps until s tss) (late : TreesLate until s tss)
+    (belongs : StoreBelongs c.classes s.memory.store) where
   -- of each task in the order that is kept
   of_all : (P : Task → Type 0) → Each (λ ts. Each P ts) tss → Each P (walk ordered)
   of_all P b = walk_each P ordered (reordered_each (λ ts. Each P ts) o b)
 
   names : Each (λ (y : Task). WhoIs y.thread.who) (walk ordered)
-  names = of_all (λ (y : Task). WhoIs y.thread.who) (each_as (λ ts. Each (TaskFine c a.scene s.clock.next) ts) (λ ts. Each (λ (y : Task). WhoIs
-      y.thread.who) ts) (λ ts b. each_as (TaskFine c a.scene s.clock.next) (λ (y : Task). WhoIs y.thread.who) (λ y d. d.still.named) ts b) tss a.trees)
+  names = of_all (λ (y : Task). WhoIs y.thread.who)
+      (each_as (λ ts. Each (TaskFine c a.scene s.clock.next) ts) (λ ts. Each (λ (y : Task). WhoIs y.thread.who) ts)
+      (λ ts b. each_as (TaskFine c a.scene s.clock.next) (λ (y : Task). WhoIs y.thread.who) (λ y d. d.still.named) ts b) tss a.trees)
 
   roots_run : Each (RootRuns s.clock.results) (walk ordered)
-  roots_run = each_within 0 (λ e (t : Task). is_task_of e t.thread.who.role) (λ e. unfinished (nth s.clock.results e)) (walk ordered) (λ e. at_most
-      (tasks_sum (λ (t : Task). is_task_of e t.thread.who.role) (walk ordered)) _ _ (all_sum (λ (t : Task). is_task_of e t.thread.who.role) o) (a.tasks_of e))
+  roots_run = each_within 0 (λ e (t : Task). is_task_of e t.thread.who.role) (λ e. unfinished (nth s.clock.results e)) (walk ordered)
+      (λ e. at_most (tasks_sum (λ (t : Task). is_task_of e t.thread.who.role) (walk ordered)) _ _
+      (all_sum (λ (t : Task). is_task_of e t.thread.who.role) o) (a.tasks_of e))
 
   frames_few : Each (λ (t : Task). (e : ℕ) → suc (length t.thread.below) ≤ s.clock.spent) (walk ordered)
-  frames_few = each_within 0 (λ e (t : Task). suc (length t.thread.below)) (λ e. s.clock.spent) (walk ordered) (λ e. at_most (tasks_sum (λ (t : Task). suc
-      (length t.thread.below)) (walk ordered)) _ _ (all_sum (λ (t : Task). suc (length t.thread.below)) o) a.few_frames)
+  frames_few = each_within 0 (λ e (t : Task). suc (length t.thread.below)) (λ e. s.clock.spent) (walk ordered)
+      (λ e. at_most (tasks_sum (λ (t : Task). suc (length t.thread.below)) (walk ordered)) _ _
+      (all_sum (λ (t : Task). suc (length t.thread.below)) o) a.few_frames)
 
   well : InWalk [] (walk ordered)
   well = walk_well s.clock.left ordered (reordered_each (λ ts. Rooted s.clock.left (whos ts)) o (each_rooted s.clock.left tss a.rooted))
 
   tasks_fit : Each (λ y. TaskFits c (kept s ordered) (kp.task (walk ordered) y)) (walk ordered)
-  tasks_fit = each_as (λ y. (TaskFine c a.scene s.clock.next y × RootRuns s.clock.results y) × (TaskLate until s y × ((e : ℕ) → suc (length y.thread.below) ≤
-      s.clock.spent))) (λ y. TaskFits c (kept s ordered) (kp.task (walk ordered) y))
+  tasks_fit = each_as (λ y. (TaskFine c a.scene s.clock.next y × RootRuns s.clock.results y) ×
+      (TaskLate until s y × ((e : ℕ) → suc (length y.thread.below) ≤ s.clock.spent)))
+      (λ y. TaskFits c (kept s ordered) (kp.task (walk ordered) y))
       (λ y b. task_fits c until a.scene s a.state ordered (walk ordered) y names b.0.0 b.0.1 b.1.0 (b.1.1 0)) (walk ordered)
-      (each_two (λ y. TaskFine c a.scene s.clock.next y × RootRuns s.clock.results y) (λ y. TaskLate until s y × ((e : ℕ) → suc (length y.thread.below) ≤
-      s.clock.spent)) (walk ordered)
-      (each_two (TaskFine c a.scene s.clock.next) (RootRuns s.clock.results) (walk ordered) (of_all (TaskFine c a.scene s.clock.next) a.trees) roots_run)
-      (each_two (TaskLate until s) (λ (t : Task). (e : ℕ) → suc (length t.thread.below) ≤ s.clock.spent) (walk ordered) (of_all (TaskLate until s) late)
-      frames_few))
+      (each_two (λ y. TaskFine c a.scene s.clock.next y × RootRuns s.clock.results y)
+      (λ y. TaskLate until s y × ((e : ℕ) → suc (length y.thread.below) ≤ s.clock.spent)) (walk ordered)
+      (each_two (TaskFine c a.scene s.clock.next) (RootRuns s.clock.results) (walk ordered)
+      (of_all (TaskFine c a.scene s.clock.next) a.trees) roots_run)
+      (each_two (TaskLate until s) (λ (t : Task). (e : ℕ) → suc (length t.thread.below) ≤ s.clock.spent) (walk ordered)
+      (of_all (TaskLate until s) late) frames_few))
 
   pub fits_apart : FitsApart c (kept s ordered)
   fits_apart = record {
@@ -239,24 +248,28 @@ module _ (c : Code) (steps until : ℕ) (few : steps ≤ MOST_STEPS) (short : un
     now = ends_early s.clock.now until MOST_NOW a.state.now short;
     next = a.few_waits;
     bytes = told s.clock.before.bytes a.scene.bytes (length (printed s.memory.trace)) _ a.state.fine.before a.state.fine.memory.told;
-    lines = lines s.clock.before.lines s.clock.before.bytes (length s.memory.trace) (length (printed s.memory.trace)) a.before (lines_few s.memory.trace);
+    lines = lines s.clock.before.lines s.clock.before.bytes (length s.memory.trace) (length (printed s.memory.trace)) a.before
+        (lines_few s.memory.trace);
     few_entries = a.few_entries;
-    few_tasks = at_most (length (map (kp.task (walk ordered)) (walk ordered))) _ _ (many (walk ordered) (walk ordered) ∙ all_sum (λ t. 1) o) a.few_tasks;
+    few_tasks = at_most (length (map (kp.task (walk ordered)) (walk ordered))) _ _ (many (walk ordered) (walk ordered) ∙ all_sum (λ t. 1) o)
+        a.few_tasks;
     cells = belongs;
     slots = subst (λ n. Each (λ (x : Cell). ValuesFit n x.slots) s.memory.store) (sym a.state.fine.entries) a.state.fine.memory.slots;
     weight = a.state.fine.memory.weight;
     spawned = subst (λ n. Each (GivenFits n) s.clock.results) (sym a.state.fine.entries) a.state.fine.results;
     tasks = each_map (TaskFits c (kept s ordered)) (kp.task (walk ordered)) (walk ordered) tasks_fit;
-    waits = distinct (waits_in (map (kp.task (walk ordered)) (walk ordered))) (λ n. no_more (occurs n (waits_in (map (kp.task (walk ordered)) (walk ordered)))) _
-        (one (ltn n s.clock.next)) (waits_are n (walk ordered) (walk ordered) ∙ all_sum (λ (t : Task). is_wait n t.rest) o) (a.waits n) (one_below (ltn n
-        s.clock.next)));
-    few_frames = at_most (frames_in (map (kp.task (walk ordered)) (walk ordered))) _ _ (frames_are c (walk ordered) (walk ordered) ∙ all_sum (λ (t : Task).
-        suc (length t.thread.below)) o) a.few_frames;
+    waits = distinct (waits_in (map (kp.task (walk ordered)) (walk ordered)))
+        (λ n. no_more (occurs n (waits_in (map (kp.task (walk ordered)) (walk ordered)))) _ (one (ltn n s.clock.next))
+        (waits_are n (walk ordered) (walk ordered) ∙ all_sum (λ (t : Task). is_wait n t.rest) o) (a.waits n)
+        (one_below (ltn n s.clock.next)));
+    few_frames = at_most (frames_in (map (kp.task (walk ordered)) (walk ordered))) _ _
+        (frames_are c (walk ordered) (walk ordered) ∙ all_sum (λ (t : Task). suc (length t.thread.below)) o) a.few_frames;
     parents = parents_fit (walk ordered) names well;
-    main = at_most_main (count (is_root None) (map (kp.task (walk ordered)) (walk ordered))) _ _ (main_fits (walk ordered) names well) (all_sum (λ (t : Task).
-        is_main t.thread.who.role) o) a.main;
-    roots = roots_fit (walk ordered) names s.clock.results (λ e. same (tasks_sum (λ (t : Task). is_task_of e t.thread.who.role) (walk ordered)) _ _ (all_sum (λ (t :
-        Task). is_task_of e t.thread.who.role) o) (a.tasks_of e) (a.runs_of e));
+    main = at_most_main (count (is_root None) (map (kp.task (walk ordered)) (walk ordered))) _ _ (main_fits (walk ordered) names well)
+        (all_sum (λ (t : Task). is_main t.thread.who.role) o) a.main;
+    roots = roots_fit (walk ordered) names s.clock.results
+        (λ e. same (tasks_sum (λ (t : Task). is_task_of e t.thread.who.role) (walk ordered)) _ _
+        (all_sum (λ (t : Task). is_task_of e t.thread.who.role) o) (a.tasks_of e) (a.runs_of e));
     depths = depths_fit c (walk ordered);
   }
     where
@@ -281,14 +294,18 @@ module _ (c : Code) (steps until : ℕ) (few : steps ≤ MOST_STEPS) (short : un
 module _ (c : Code) (steps until : ℕ) (few : steps ≤ MOST_STEPS) (short : until ≤ MOST_NOW) (s : State) (tss : Forest) (x : Kept) where
   fits_here : (g : Stage Forest) → g ≡ closed ending.Until s tss → StageSavable c steps until g → StageLate until g → StoreBelongs c.classes
       s.memory.store → Spells x s tss → FitsApart c x
-  fits_here g e a l b y = subst (FitsApart c) (sym y.is) (fits_apart c steps until few short s tss y.ordered y.reordered (subst (StageSavable c steps
-      until) e a) (subst (StageLate until) e l refl) b)
+  fits_here g e a l b y = subst (FitsApart c) (sym y.is)
+      (fits_apart c steps until few short s tss y.ordered y.reordered (subst (StageSavable c steps until) e a)
+      (subst (StageLate until) e l refl) b)
 
 pub stopped_run_fits : RunBelongs → StoppedRunFits
-stopped_run_fits belongs c ns steps until s tss x valid bytes inputs few short e y = fits_here c steps until few short s tss x (mach_after c ns steps until
-    (suc steps)) e (run_is_savable c ns steps until (suc steps) valid bytes inputs short) (turns_late c steps until (suc steps) (started c ns steps)
-    (within_late until _)) (subst (StageBelongs c.classes) e (belongs c ns steps until (suc steps))).0 y
+stopped_run_fits belongs c ns steps until s tss x valid bytes inputs few short e y =
+    fits_here c steps until few short s tss x (mach_after c ns steps until (suc steps)) e
+    (run_is_savable c ns steps until (suc steps) valid bytes inputs short)
+    (turns_late c steps until (suc steps) (started c ns steps) (within_late until _))
+    (subst (StageBelongs c.classes) e (belongs c ns steps until (suc steps))).0 y
 
 pub resumed_run_fits : ResumedRunFits
-resumed_run_fits c steps u v k s t tss uss x valid bytes few le short a e b y = fits_here c steps v few short t uss x (turns (turn_taken c steps v) k (going s
-    tss)) e (savable_goes_on c steps u v k s tss valid bytes le short a) (turns_late c steps v k (going s tss) tt) b y
+resumed_run_fits c steps u v k s t tss uss x valid bytes few le short a e b y =
+    fits_here c steps v few short t uss x (turns (turn_taken c steps v) k (going s tss)) e
+    (savable_goes_on c steps u v k s tss valid bytes le short a) (turns_late c steps v k (going s tss) tt) b y

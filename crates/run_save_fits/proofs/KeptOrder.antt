@@ -1,5 +1,6 @@
 -- How the tasks that are kept stand to their parents.
-use Rattle.std.proofs.Common.{◌≡◌, ℕ, zero, suc, ◌+◌, ◌≤◌, ◌<◌, length, map, reverse, List, [], ◌∷◌, ◌++◌, Option, Some, None, Bool, true, false}
+use Rattle.std.proofs.Common.{◌≡◌, ℕ, zero, suc, ◌+◌, ◌≤◌, ◌<◌, length, map, reverse, List, [], ◌∷◌, ◌++◌, Option, Some, None, Bool, true}
+use Rattle.std.proofs.Common.{false}
 use Rattle.std.proofs.Common.{cond, refl, sym, subst, ap, ◌∙◌, arith, option_map, ◌⊎◌}
 use Rattle.std.specs.Prelude.{pred, ◌&&◌, ◌≢◌, eqb}
 use mathlib.Core.Logic.{inl, inr}
@@ -43,8 +44,8 @@ place_stands : (path : List ℕ) (ys : List Task) (p : ℕ) → place_of path ys
 place_stands path [] p e = absurd (cc)
 place_stands path (y ∷ ys) p e = two (same_path path y.thread.who.path) refl e (λ q f. place_stands path ys q f)
   where
-    two : (b : Bool) → same_path path y.thread.who.path ≡ b → cond b (Some 0) (option_map suc (place_of path ys)) ≡ Some p → ((q : ℕ) → place_of path ys ≡
-        Some q → Stands path ys q) → Stands path (y ∷ ys) p
+    two : (b : Bool) → same_path path y.thread.who.path ≡ b → cond b (Some 0) (option_map suc (place_of path ys)) ≡ Some p →
+        ((q : ℕ) → place_of path ys ≡ Some q → Stands path ys q) → Stands path (y ∷ ys) p
     two true g f h = subst (Stands path (y ∷ ys)) (some_is 0 p f) (record {
       task = y;
       at_place = refl;
@@ -84,11 +85,14 @@ at_map f (x ∷ ys) (suc p) y e = at_map f ys p y e
 
 depth_fits : (c : Code) (ys : List Task) (y : Task) → DepthFits (map (kp.task ys) ys) (kp.task ys y)
 depth_fits c ys y p d e f = let s = place_stands y.thread.who.up ys p e in
-    let g = behind_is (kp.arm_in y.thread.who.number s.task.rest) (depth_of y.thread.who.number s.task) d (ap (λ o. role_in o y.thread.who.number) (sym
+    let g = behind_is (kp.arm_in y.thread.who.number s.task.rest) (depth_of y.thread.who.number s.task) d
+    (ap (λ o. role_in o y.thread.who.number) (sym
     s.is_found) ∙ f) in
-    subst (λ o. d < frames_of o) (sym (at_map (kp.task ys) ys p s.task s.at_place)) (subst (λ n. d < n) (sym (frames_number c s.task)) (subst (λ d. d < suc
-    (length s.task.thread.below)) g (before _ (length s.task.thread.below) (few (λ (f : Frame). ltn y.thread.who.number f.life.born) (s.task.thread.frame ∷
-    s.task.thread.below)))))
+    subst (λ o. d < frames_of o) (sym (at_map (kp.task ys) ys p s.task s.at_place))
+    (subst (λ n. d < n) (sym (frames_number c s.task))
+    (subst (λ d. d < suc (length s.task.thread.below)) g
+    (before _ (length s.task.thread.below) (few (λ (f : Frame). ltn y.thread.who.number f.life.born)
+    (s.task.thread.frame ∷ s.task.thread.below)))))
 
 pub depths_fit : (c : Code) (ys : List Task) → Each (DepthFits (map (kp.task ys) ys)) (map (kp.task ys) ys)
 depths_fit c ys = each_map (DepthFits (map (kp.task ys) ys)) (kp.task ys) ys (all ys)
@@ -123,12 +127,13 @@ abbrev pub InWalk : List Task → List Task → Type 0
 InWalk seen [] = Unit {0}
 InWalk seen (y ∷ ys) = Follows y.thread.who.role y.thread.who.up seen × InWalk (seen ++ y ∷ []) ys
 
-follows_more : (q : Role) (up : List ℕ) (xs ys : List Task) → ((path : List ℕ) → IsIn path xs → IsIn path ys) → Follows q up xs → Follows q up ys
+follows_more : (q : Role) (up : List ℕ) (xs ys : List Task) → ((path : List ℕ) → IsIn path xs → IsIn path ys) → Follows q up xs →
+    Follows q up ys
 follows_more (root e) up xs ys f a = tt
 follows_more part up xs ys f a = f up a
 
-end_more : (xs ys : List Task) (x : Task) → ((path : List ℕ) → IsIn path xs → IsIn path ys) → (path : List ℕ) → IsIn path (xs ++ x ∷ []) → IsIn path (ys ++ x
-    ∷ [])
+end_more : (xs ys : List Task) (x : Task) → ((path : List ℕ) → IsIn path xs → IsIn path ys) → (path : List ℕ) → IsIn path (xs ++ x ∷ []) →
+    IsIn path (ys ++ x ∷ [])
 end_more [] ys x f path (inl e) = in_back path ys (x ∷ []) (inl e)
 end_more [] ys x f path (inr h) = absurd h
 end_more (z ∷ xs) ys x f path (inl e) = in_front path ys (x ∷ []) (f path (inl e))
@@ -142,14 +147,15 @@ walk_more (z ∷ zs) xs ys f a = (
 )
 
 -- the parent is among those before, or among those to come
-put_behind : (y : Task) (zs seen : List Task) → Follows y.thread.who.role y.thread.who.up (seen ++ zs) → InWalk seen zs → InWalk seen (behind_parent y zs)
+put_behind : (y : Task) (zs seen : List Task) → Follows y.thread.who.role y.thread.who.up (seen ++ zs) → InWalk seen zs →
+    InWalk seen (behind_parent y zs)
 put_behind y [] seen a b = (subst (Follows y.thread.who.role y.thread.who.up) (append_nil seen) a, tt)
   where
     append_nil : (xs : List Task) → xs ++ [] ≡ xs
     append_nil [] = refl
     append_nil (x ∷ xs) = ap (λ zs. x ∷ zs) (append_nil xs)
-put_behind y (x ∷ zs) seen a b = two (same_path y.thread.who.up x.thread.who.path) refl (put_behind y zs (seen ++ x ∷ []) (subst (Follows y.thread.who.role
-    y.thread.who.up) (join seen x zs) a) b.1)
+put_behind y (x ∷ zs) seen a b = two (same_path y.thread.who.up x.thread.who.path) refl
+    (put_behind y zs (seen ++ x ∷ []) (subst (Follows y.thread.who.role y.thread.who.up) (join seen x zs) a) b.1)
   where
     join : (xs : List Task) (x : Task) (zs : List Task) → xs ++ x ∷ zs ≡ (xs ++ x ∷ []) ++ zs
     join [] x zs = refl
@@ -159,8 +165,8 @@ put_behind y (x ∷ zs) seen a b = two (same_path y.thread.who.up x.thread.who.p
     own (root e) up h = tt
     own part up h = in_back up seen (x ∷ []) (inl h)
 
-    two : (t : Bool) → same_path y.thread.who.up x.thread.who.path ≡ t → InWalk (seen ++ x ∷ []) (behind_parent y zs) → InWalk seen (cond t (x ∷ y ∷ zs) (x ∷
-        behind_parent y zs))
+    two : (t : Bool) → same_path y.thread.who.up x.thread.who.path ≡ t → InWalk (seen ++ x ∷ []) (behind_parent y zs) →
+        InWalk seen (cond t (x ∷ y ∷ zs) (x ∷ behind_parent y zs))
     two true e h = (
       b.0,
       (
@@ -191,11 +197,12 @@ cond_in path false xs ys a b = b
 
 one_in : (path : List ℕ) (y : Task) (zs : List Task) → IsIn path (y ∷ zs) → IsIn path (behind_parent y zs)
 one_in path y [] h = h
-one_in path y (x ∷ zs) (inl e) = cond_in path (same_path y.thread.who.up x.thread.who.path) (x ∷ y ∷ zs) (x ∷ behind_parent y zs) (inr (inl e)) (inr (one_in
-    path y zs (inl e)))
-one_in path y (x ∷ zs) (inr (inl e)) = cond_in path (same_path y.thread.who.up x.thread.who.path) (x ∷ y ∷ zs) (x ∷ behind_parent y zs) (inl e) (inl e)
-one_in path y (x ∷ zs) (inr (inr h)) = cond_in path (same_path y.thread.who.up x.thread.who.path) (x ∷ y ∷ zs) (x ∷ behind_parent y zs) (inr (inr h)) (inr (one_in
-    path y zs (inr h)))
+one_in path y (x ∷ zs) (inl e) = cond_in path (same_path y.thread.who.up x.thread.who.path) (x ∷ y ∷ zs) (x ∷ behind_parent y zs)
+    (inr (inl e)) (inr (one_in path y zs (inl e)))
+one_in path y (x ∷ zs) (inr (inl e)) = cond_in path (same_path y.thread.who.up x.thread.who.path) (x ∷ y ∷ zs) (x ∷ behind_parent y zs)
+    (inl e) (inl e)
+one_in path y (x ∷ zs) (inr (inr h)) = cond_in path (same_path y.thread.who.up x.thread.who.path) (x ∷ y ∷ zs) (x ∷ behind_parent y zs)
+    (inr (inr h)) (inr (one_in path y zs (inr h)))
 
 walked_in : (path : List ℕ) (ts : List Task) → IsIn path ts → IsIn path (walked ts)
 walked_in path [] h = h
@@ -205,8 +212,8 @@ walked_in path (y ∷ ys) (inr h) = one_in path y (walked ys) (inr (walked_in pa
 no_both : {A : Type 0} (e : Option ℕ) → root e ≡ part → A
 no_both e h = cc
 
-rooted_follows : (left : ℕ) (t : Task) (ts : List Task) → Rooted left (t.thread.who ∷ whos ts) → (q : Role) → t.thread.who.role ≡ q → Follows q t.thread.who.up
-    ts
+rooted_follows : (left : ℕ) (t : Task) (ts : List Task) → Rooted left (t.thread.who ∷ whos ts) → (q : Role) → t.thread.who.role ≡ q →
+    Follows q t.thread.who.up ts
 rooted_follows left t ts h (root e) f = tt
 rooted_follows left t ts (rooted_root {entry = entry} e f g h) part k = no_both entry (sym e ∙ k)
 rooted_follows left t ts (rooted_part e f g h i) part k = has_in t.thread.who.up t.thread.who.number ts h
@@ -217,7 +224,8 @@ rooted_rest left w ws (rooted_part e f g h i) = i
 
 walked_well : (left : ℕ) (ts : List Task) → Rooted left (whos ts) → InWalk [] (walked ts)
 walked_well left [] r = tt
-walked_well left (y ∷ ys) r = put_behind y (walked ys) [] (follows_more y.thread.who.role y.thread.who.up ys (walked ys) (λ path h. walked_in path ys h)
+walked_well left (y ∷ ys) r = put_behind y (walked ys) []
+    (follows_more y.thread.who.role y.thread.who.up ys (walked ys) (λ path h. walked_in path ys h)
     (rooted_follows left y ys r y.thread.who.role refl)) (walked_well left ys (rooted_rest left y.thread.who (whos ys) r))
 
 walk_join : (xs zs seen : List Task) → InWalk seen xs → InWalk (seen ++ xs) zs → InWalk seen (xs ++ zs)
@@ -234,16 +242,17 @@ walk_join (x ∷ xs) zs seen a b = (a.0, walk_join xs zs (seen ++ x ∷ []) a.1 
 
 pub walk_well : (left : ℕ) (tss : Forest) → Each (λ ts. Rooted left (whos ts)) tss → InWalk [] (walk tss)
 walk_well left [] r = tt
-walk_well left (ts ∷ tss) r = walk_join (walked ts) (walk tss) [] (walked_well left ts r.0) (walk_more (walk tss) [] (walked ts) (λ path h. absurd h) (walk_well
-    left tss r.1))
+walk_well left (ts ∷ tss) r = walk_join (walked ts) (walk tss) [] (walked_well left ts r.0)
+    (walk_more (walk tss) [] (walked ts) (λ path h. absurd h) (walk_well left tss r.1))
 
 -- the place of a parent that was seen
 seen_place : (path : List ℕ) (xs ys : List Task) → IsIn path xs → (p : ℕ) × (place_of path (xs ++ ys) ≡ Some p) × (p < length xs)
 seen_place path [] ys h = absurd h
 seen_place path (x ∷ xs) ys h = two (same_path path x.thread.who.path) refl h (λ g. seen_place path xs ys g)
   where
-    two : (b : Bool) → same_path path x.thread.who.path ≡ b → IsIn path (x ∷ xs) → (IsIn path xs → (p : ℕ) × (place_of path (xs ++ ys) ≡ Some p) × (p < length
-        xs)) → (p : ℕ) × (place_of path (x ∷ xs ++ ys) ≡ Some p) × (p < length (x ∷ xs))
+    two : (b : Bool) → same_path path x.thread.who.path ≡ b → IsIn path (x ∷ xs) →
+        (IsIn path xs → (p : ℕ) × (place_of path (xs ++ ys) ≡ Some p) × (p < length xs)) → (p : ℕ) ×
+        (place_of path (x ∷ xs ++ ys) ≡ Some p) × (p < length (x ∷ xs))
     two true e h r = (0, ap (λ b. cond b (Some 0) (option_map suc (place_of path (xs ++ ys)))) e, omega arith)
     two false e (inl g) r = absurd (no (same_path path x.thread.who.path) g e)
       where
@@ -282,9 +291,10 @@ same_test e d = by_case (eqb_tells e d)
     by_case (inr h) = h.0 ∙ sym (eqn_not e d h.1)
 
 module _ (ys : List Task) (names : Each (λ (y : Task). WhoIs y.thread.who) ys) where
-  parent_before : (front : List Task) (y : Task) (rest : List Task) → ys ≡ front ++ y ∷ rest → (q : Role) → RoleIs q y.thread.who → Follows q y.thread.who.up
-      front → ParentBefore (length front) (kp.task ys y)
-  parent_before front y rest e (root d) a b p f = absurd (none (place_of y.thread.who.up ys) p (ap (λ up. place_of up ys) a.0 ∙ no_place ys names) f)
+  parent_before : (front : List Task) (y : Task) (rest : List Task) → ys ≡ front ++ y ∷ rest → (q : Role) → RoleIs q y.thread.who →
+      Follows q y.thread.who.up front → ParentBefore (length front) (kp.task ys y)
+  parent_before front y rest e (root d) a b p f =
+      absurd (none (place_of y.thread.who.up ys) p (ap (λ up. place_of up ys) a.0 ∙ no_place ys names) f)
     where
       none : (o : Option ℕ) (p : ℕ) → o ≡ None → o ≡ Some p → ⊥
       none None p e f = cc
@@ -292,20 +302,21 @@ module _ (ys : List Task) (names : Each (λ (y : Task). WhoIs y.thread.who) ys) 
   parent_before front y rest e part a b p f = let s = seen_place y.thread.who.up front (y ∷ rest) b in
       subst (λ n. n < length front) (some_is s.0 p (sym s.1 ∙ (ap (place_of y.thread.who.up) (sym e) ∙ f))) s.2
 
-  parents_from : (front rest : List Task) → ys ≡ front ++ rest → Each (λ (y : Task). WhoIs y.thread.who) rest → InWalk front rest → EachAt ParentBefore (length
-      front) (map (kp.task ys) rest)
+  parents_from : (front rest : List Task) → ys ≡ front ++ rest → Each (λ (y : Task). WhoIs y.thread.who) rest → InWalk front rest →
+      EachAt ParentBefore (length front) (map (kp.task ys) rest)
   parents_from front [] e a b = tt
   parents_from front (y ∷ rest) e a b = (
     parent_before front y rest e y.thread.who.role a.0 b.0,
-    subst (λ n. EachAt ParentBefore n (map (kp.task ys) rest)) (one_longer front y) (parents_from (front ++ y ∷ []) rest (e ∙ joined_end front y rest) a.1 b.1),
+    subst (λ n. EachAt ParentBefore n (map (kp.task ys) rest)) (one_longer front y)
+        (parents_from (front ++ y ∷ []) rest (e ∙ joined_end front y rest) a.1 b.1),
   )
 
   pub parents_fit : InWalk [] ys → EachAt ParentBefore 0 (map (kp.task ys) ys)
   parents_fit a = parents_from [] ys refl names a
 
   -- Main has one task
-  one_root : (front : List Task) (y : Task) (rest : List Task) → ys ≡ front ++ y ∷ rest → (q : Role) → Follows q y.thread.who.up front → (n m : ℕ) → n ≤ m →
-      cond (is_child None (place_of y.thread.who.up ys) && is_child None (entry_of q)) (suc n) n ≤ is_main q + m
+  one_root : (front : List Task) (y : Task) (rest : List Task) → ys ≡ front ++ y ∷ rest → (q : Role) → Follows q y.thread.who.up front →
+      (n m : ℕ) → n ≤ m → cond (is_child None (place_of y.thread.who.up ys) && is_child None (entry_of q)) (suc n) n ≤ is_main q + m
   one_root front y rest e (root None) b n m h = most (is_child None (place_of y.thread.who.up ys) && true) n m h
     where
       most : (b : Bool) (n m : ℕ) → n ≤ m → cond b (suc n) n ≤ 1 + m
@@ -317,13 +328,14 @@ module _ (ys : List Task) (names : Each (λ (y : Task). WhoIs y.thread.who) ys) 
       none true n m h = omega (arith, h)
       none false n m h = omega (arith, h)
   one_root front y rest e part b n m h = let s = seen_place y.thread.who.up front (y ∷ rest) b in
-      subst (λ o. cond (is_child None o && is_child None None) (suc n) n ≤ 0 + m) (sym (ap (place_of y.thread.who.up) e ∙ s.1)) (omega (arith, h))
+      subst (λ o. cond (is_child None o && is_child None None) (suc n) n ≤ 0 + m) (sym (ap (place_of y.thread.who.up) e ∙ s.1))
+      (omega (arith, h))
 
-  main_from : (front rest : List Task) → ys ≡ front ++ rest → InWalk front rest → count (is_root None) (map (kp.task ys) rest) ≤ tasks_sum (λ (t : Task). is_main
-      t.thread.who.role) rest
+  main_from : (front rest : List Task) → ys ≡ front ++ rest → InWalk front rest →
+      count (is_root None) (map (kp.task ys) rest) ≤ tasks_sum (λ (t : Task). is_main t.thread.who.role) rest
   main_from front [] e b = omega arith
-  main_from front (y ∷ rest) e b = one_root front y rest e y.thread.who.role b.0 (count (is_root None) (map (kp.task ys) rest)) (tasks_sum (λ (t : Task). is_main
-      t.thread.who.role) rest) (main_from (front ++ y ∷ []) rest (e ∙ joined_end front y rest) b.1)
+  main_from front (y ∷ rest) e b = one_root front y rest e y.thread.who.role b.0 (count (is_root None) (map (kp.task ys) rest))
+      (tasks_sum (λ (t : Task). is_main t.thread.who.role) rest) (main_from (front ++ y ∷ []) rest (e ∙ joined_end front y rest) b.1)
 
   pub main_fits : InWalk [] ys → count (is_root None) (map (kp.task ys) ys) ≤ tasks_sum (λ (t : Task). is_main t.thread.who.role) ys
   main_fits a = main_from [] ys refl a
@@ -340,17 +352,19 @@ module _ (ys : List Task) (names : Each (λ (y : Task). WhoIs y.thread.who) ys) 
   one_task : (e : ℕ) (y : Task) (q : Role) → RoleIs q y.thread.who → (n : ℕ) →
       cond (is_child None (place_of y.thread.who.up ys) && is_child (Some e) (entry_of q)) (suc n) n ≡ is_task_of e q + n
   one_task e y (root None) a n = of_false (is_child None (place_of y.thread.who.up ys)) n
-  one_task e y (root (Some d)) a n = subst (λ o. cond (is_child None o && eqb e d) (suc n) n ≡ one (eqn e d) + n) (sym (ap (λ up. place_of up ys) a.0 ∙ no_place
-      ys names)) (subst (λ b. cond b (suc n) n ≡ one (eqn e d) + n) (sym (same_test e d)) (of_true (eqn e d) n))
+  one_task e y (root (Some d)) a n = subst (λ o. cond (is_child None o && eqb e d) (suc n) n ≡ one (eqn e d) + n)
+      (sym (ap (λ up. place_of up ys) a.0 ∙ no_place ys names))
+      (subst (λ b. cond b (suc n) n ≡ one (eqn e d) + n) (sym (same_test e d)) (of_true (eqn e d) n))
   one_task e y part a n = of_false (is_child None (place_of y.thread.who.up ys)) n
 
-  root_counts : (e : ℕ) (rest : List Task) → Each (λ (y : Task). WhoIs y.thread.who) rest → count (is_root (Some e)) (map (kp.task ys) rest) ≡ tasks_sum (λ (t :
-      Task). is_task_of e t.thread.who.role) rest
+  root_counts : (e : ℕ) (rest : List Task) → Each (λ (y : Task). WhoIs y.thread.who) rest →
+      count (is_root (Some e)) (map (kp.task ys) rest) ≡ tasks_sum (λ (t : Task). is_task_of e t.thread.who.role) rest
   root_counts e [] a = refl
-  root_counts e (y ∷ rest) a = one_task e y y.thread.who.role a.0 (count (is_root (Some e)) (map (kp.task ys) rest)) ∙ ap (λ n. is_task_of e y.thread.who.role + n)
-      (root_counts e rest a.1)
+  root_counts e (y ∷ rest) a = one_task e y y.thread.who.role a.0 (count (is_root (Some e)) (map (kp.task ys) rest)) ∙
+      ap (λ n. is_task_of e y.thread.who.role + n) (root_counts e rest a.1)
 
-  each_at : (rs : List (Option Given)) (n : ℕ) (P : ℕ → Option Given → Type 0) → ((i : ℕ) (x : Option Given) → nth rs i ≡ Some x → P (n + i) x) → EachAt P n rs
+  each_at : (rs : List (Option Given)) (n : ℕ) (P : ℕ → Option Given → Type 0) →
+      ((i : ℕ) (x : Option Given) → nth rs i ≡ Some x → P (n + i) x) → EachAt P n rs
   each_at [] n P f = tt
   each_at (r ∷ rs) n P f = (
     subst (λ i. P i r) (zeroes n) (f 0 r refl),
@@ -367,9 +381,11 @@ module _ (ys : List Task) (names : Each (λ (y : Task). WhoIs y.thread.who) ys) 
   runs_as None = refl
   runs_as (Some g) = refl
 
-  pub roots_fit : (rs : List (Option Given)) → ((e : ℕ) → tasks_sum (λ (t : Task). is_task_of e t.thread.who.role) ys ≡ unfinished (nth rs e)) → EachAt (HasRoot
-      (map (kp.task ys) ys)) 0 rs
-  roots_fit rs f = each_at rs 0 (HasRoot (map (kp.task ys) ys)) (λ i x e. subst (λ j. count (is_root (Some j)) (map (kp.task ys) ys) ≡ runs_once x) (none i)
+  pub roots_fit : (rs : List (Option Given)) →
+      ((e : ℕ) → tasks_sum (λ (t : Task). is_task_of e t.thread.who.role) ys ≡ unfinished (nth rs e)) →
+      EachAt (HasRoot (map (kp.task ys) ys)) 0 rs
+  roots_fit rs f = each_at rs 0 (HasRoot (map (kp.task ys) ys))
+      (λ i x e. subst (λ j. count (is_root (Some j)) (map (kp.task ys) ys) ≡ runs_once x) (none i)
       (root_counts i ys names ∙ (f i ∙ (ap unfinished e ∙ runs_as x))))
     where
       none : (i : ℕ) → i ≡ 0 + i

@@ -1,5 +1,6 @@
 -- What is kept of a task fits its code.
-use Rattle.std.proofs.Common.{◌≡◌, ℕ, zero, suc, ◌+◌, ◌-◌, ◌≤◌, ◌<◌, length, map, reverse, List, [], ◌∷◌, ◌++◌, Option, Some, None, Bool, true}
+use Rattle.std.proofs.Common.{◌≡◌, ℕ, zero, suc, ◌+◌, ◌-◌, ◌≤◌, ◌<◌, length, map, reverse, List, [], ◌∷◌, ◌++◌, Option, Some, None, Bool}
+use Rattle.std.proofs.Common.{true}
 use Rattle.std.proofs.Common.{false, cond, refl, sym, subst, ap, ◌∙◌, arith, option_map, ◌⊎◌}
 use Rattle.std.specs.Prelude.{pred, slice_get}
 use mathlib.Core.Logic.{inl, inr}
@@ -22,7 +23,8 @@ use Rattle.verse_code_machine.specs.Runs.{Forest}
 use Rattle.run_save_shots.specs.Lists.{Each, count}
 use Rattle.run_save_shots.specs.Kept as k
 use Rattle.run_save_shots.specs.Kept.{KeptFrame, KeptRest, KeptTask, Kept}
-use Rattle.run_save_shots.specs.Fitting.{ValueFits, ArmFits, IsBlock, FrameFits, FramesSuit, RestSuits, Stand, calls, gathers, stand_at, CauseFits}
+use Rattle.run_save_shots.specs.Fitting.{ValueFits, ArmFits, IsBlock, FrameFits, FramesSuit, RestSuits, Stand, calls, gathers, stand_at}
+use Rattle.run_save_shots.specs.Fitting.{CauseFits}
 use Rattle.run_save_shots.specs.Fitting.{is_running, GroupStands, RestFits, top_place, RootFits, TaskFits}
 use Rattle.run_save_shots.specs.Keeping as kp
 use Rattle.run_save_shots.specs.Keeping.{kept, place_of, task_of, role_in, arm_or, entry_of}
@@ -78,8 +80,8 @@ not_empty (x ∷ xs) a = refl
 
 pub no_place : (ys : List Task) → Each (λ (y : Task). WhoIs y.thread.who) ys → place_of [] ys ≡ None
 no_place [] a = refl
-no_place (y ∷ ys) a = cond_no (same_path [] y.thread.who.path) (Some 0) (option_map suc (place_of [] ys)) (not_empty y.thread.who.path (role_some
-    y.thread.who.role y.thread.who a.0)) ∙ ap (option_map suc) (no_place ys a.1)
+no_place (y ∷ ys) a = cond_no (same_path [] y.thread.who.path) (Some 0) (option_map suc (place_of [] ys))
+    (not_empty y.thread.who.path (role_some y.thread.who.role y.thread.who a.0)) ∙ ap (option_map suc) (no_place ys a.1)
 
 eqn_same : (n : ℕ) → eqn n n ≡ true
 eqn_same zero = refl
@@ -94,8 +96,9 @@ abbrev pub RootRuns : List (Option Given) → Task → Type 0
 RootRuns rs y = (e : ℕ) → is_task_of e y.thread.who.role ≤ unfinished (nth rs e)
 
 -- of the role of a task
-root_fits : (rs : List (Option Given)) (ys : List Task) (w : Who) (q : Role) → RoleIs q w → ((e : ℕ) → is_task_of e q ≤ unfinished (nth rs e)) →
-    Each (λ (y : Task). WhoIs y.thread.who) ys → RootFits (length rs) (place_of w.up ys) (entry_of q)
+root_fits : (rs : List (Option Given)) (ys : List Task) (w : Who) (q : Role) → RoleIs q w →
+    ((e : ℕ) → is_task_of e q ≤ unfinished (nth rs e)) → Each (λ (y : Task). WhoIs y.thread.who) ys →
+    RootFits (length rs) (place_of w.up ys) (entry_of q)
 root_fits rs ys w (root None) a h b = tt
 root_fits rs ys w (root (Some e)) a h b = subst (λ o. RootFits (length rs) o (Some e)) (sym (ap (λ up. place_of up ys) a.0 ∙ no_place ys b))
     (running_below rs e (below (is_task_of e (root (Some e))) (unfinished (nth rs e)) (ap one (eqn_same e)) (h e)))
@@ -135,8 +138,8 @@ module _ (c : Code) where
   at_call : (f : Frame) → BehindCall c f.place → stand_at c (kp.frame 0 f).place ≡ calls
   at_call f a = ap (stand_at c) (less f.place a.0 0 (none_more f.place a.0 a.1)) ∙ a.2
 
-  suit_above : (rest : KeptRest) (xs : List KeptFrame) (f : KeptFrame) → Each (λ (x : KeptFrame). stand_at c x.place ≡ calls) xs → RestSuits (stand_at
-      c f.place) rest → FramesSuit c rest (xs ++ f ∷ [])
+  suit_above : (rest : KeptRest) (xs : List KeptFrame) (f : KeptFrame) → Each (λ (x : KeptFrame). stand_at c x.place ≡ calls) xs →
+      RestSuits (stand_at c f.place) rest → FramesSuit c rest (xs ++ f ∷ [])
   suit_above rest [] f a b = b
   suit_above rest (x ∷ []) f a b = (a.0, b)
   suit_above rest (x ∷ y ∷ xs) f a b = (a.0, suit_above rest (y ∷ xs) f a.1 b)
@@ -147,8 +150,8 @@ module _ (c : Code) where
   top_is (x ∷ y ∷ xs) f = top_is (y ∷ xs) f
 
   pub frames_number : (y : Task) → length (kp.task [] y).frames ≡ suc (length y.thread.below)
-  frames_number y = length-append (map (kp.frame 0) (reverse y.thread.below)) (kp.frame (kp.arms_behind y.rest) y.thread.frame ∷ []) ∙ sums _ _
-      (map_length (kp.frame 0) (reverse y.thread.below) ∙ length-reverse y.thread.below)
+  frames_number y = length-append (map (kp.frame 0) (reverse y.thread.below)) (kp.frame (kp.arms_behind y.rest) y.thread.frame ∷ []) ∙
+      sums _ _ (map_length (kp.frame 0) (reverse y.thread.below) ∙ length-reverse y.thread.below)
     where
       sums : (n m : ℕ) → n ≡ m → n + 1 ≡ suc m
       sums n m e = omega (arith, e)
@@ -187,7 +190,8 @@ module _ (c : Code) where
   has_event s (x ∷ es) e a (inl h) = subst (IsEvent s.memory.store) (sym h) a.0
   has_event s (x ∷ es) e a (inr h) = has_event s es e a.1 h
 
-  still_runs : (m : ℕ) (rs : List (Option Given)) (e : ℕ) → Each (NoLater m) rs → e < length rs → Behind_ m (given_by (nth rs e)) → nth rs e ≡ Some None
+  still_runs : (m : ℕ) (rs : List (Option Given)) (e : ℕ) → Each (NoLater m) rs → e < length rs → Behind_ m (given_by (nth rs e)) →
+      nth rs e ≡ Some None
   still_runs m [] e a h b = absurd (omega (arith, h))
   still_runs m (None ∷ rs) zero a h b = refl
   still_runs m (Some g ∷ rs) zero a h b = let d = a.0 in absurd (omega (arith, b, d))
@@ -203,7 +207,8 @@ module _ (c : Code) where
     cause_fits n (done e) a b = still_runs until s.clock.results e held.results (subst (λ n. e < n) (sym held.fine.entries) a) b
     cause_fits n (heard d) a b = has_event s z.events d held.fine.memory.events a
 
-    rest_suits : (place : ℕ) (q : Rest) → RestFine c z s.clock.next place q → RestSuits (stand_at c (pred (place - kp.arms_behind q))) (kp.rest q)
+    rest_suits : (place : ℕ) (q : Rest) → RestFine c z s.clock.next place q →
+        RestSuits (stand_at c (pred (place - kp.arms_behind q))) (kp.rest q)
     rest_suits place (asleep w) a = let b = a.1 in
         subst (λ i. RestSuits (stand_at c i) (k.leaf w.number w.cause)) (sym (less place b.0 0 (none_more place b.0 b.1))) (b.2 w.number)
     rest_suits place (group j p gs) a = let b = a.0 in
@@ -215,30 +220,35 @@ module _ (c : Code) where
     rest_fits place (asleep w) a b = (a.0, cause_fits w.number w.cause a.2 b)
     rest_fits place (group j p gs) a b = let d = a.0 in (
       arms_fit (length s.clock.results) gs (subst (λ n. Each (PartFits n) gs) (sym held.fine.entries) a.2),
-      subst (λ i. GroupStands (stand_at c i) (map kp.arm gs)) (sym (less place d.index (length gs) d.is_behind)) (subst (λ t. GroupStands t (map
+      subst (λ i. GroupStands (stand_at c i) (map kp.arm gs)) (sym (less place d.index (length gs) d.is_behind))
+          (subst (λ t. GroupStands t (map
           kp.arm gs)) (sym d.stand) (group_stands d.number (length gs) d.where_at gs (subst (λ k. NotYet k gs) d.is_kind a.1) a.3)),
     )
 
-    pub task_fits : (ys : List Task) (y : Task) → Each (λ (y : Task). WhoIs y.thread.who) ys → TaskFine c z s.clock.next y → RootRuns s.clock.results y →
-        RestLate until s y.rest → suc (length y.thread.below) ≤ s.clock.spent → TaskFits c (kept s ordered) (kp.task ys y)
+    pub task_fits : (ys : List Task) (y : Task) → Each (λ (y : Task). WhoIs y.thread.who) ys → TaskFine c z s.clock.next y →
+        RootRuns s.clock.results y → RestLate until s y.rest → suc (length y.thread.below) ≤ s.clock.spent →
+        TaskFits c (kept s ordered) (kp.task ys y)
     task_fits ys y names a h b few = record {
       role = role_suits y.thread.who.up ys y.thread.who.number;
       root = root_fits s.clock.results ys y.thread.who y.thread.who.role a.still.named h names;
       few = subst (λ n. n ≤ s.clock.spent) (sym (frames_number y)) few;
       suit = suit_above (kp.rest y.rest) (map (kp.frame 0) (reverse y.thread.below)) (kp.frame (kp.arms_behind y.rest) y.thread.frame)
-          (each_map (λ (x : KeptFrame). stand_at c x.place ≡ calls) (kp.frame 0) (reverse y.thread.below) (each_reverse (λ (f : Frame). stand_at c (kp.frame
-          0 f).place ≡ calls) y.thread.below (lower_calls y.thread.below a.still.below)))
+          (each_map (λ (x : KeptFrame). stand_at c x.place ≡ calls) (kp.frame 0) (reverse y.thread.below)
+          (each_reverse (λ (f : Frame). stand_at c (kp.frame 0 f).place ≡ calls) y.thread.below (lower_calls y.thread.below a.still.below)))
           (rest_suits y.thread.frame.place y.rest a.rest);
-      frames = subst (λ n. Each (FrameFits c n) (kp.task ys y).frames) (sym held.fine.entries) (each_more (FrameFits c z.entries) (map (kp.frame 0) (reverse
-          y.thread.below)) (kp.frame (kp.arms_behind y.rest) y.thread.frame ∷ [])
-          (each_map (FrameFits c z.entries) (kp.frame 0) (reverse y.thread.below) (each_reverse (λ (f : Frame). FrameFits c z.entries (kp.frame 0 f))
-          y.thread.below (lower_fits y.thread.below a.still.below)))
+      frames = subst (λ n. Each (FrameFits c n) (kp.task ys y).frames) (sym held.fine.entries)
+          (each_more (FrameFits c z.entries) (map (kp.frame 0) (reverse y.thread.below))
+          (kp.frame (kp.arms_behind y.rest) y.thread.frame ∷ [])
+          (each_map (FrameFits c z.entries) (kp.frame 0) (reverse y.thread.below)
+          (each_reverse (λ (f : Frame). FrameFits c z.entries (kp.frame 0 f)) y.thread.below (lower_fits y.thread.below a.still.below)))
           (frame_fits z.entries (kp.arms_behind y.rest) y.thread.frame a.still.frame, tt));
-      rest = subst (λ i. RestFits (kept s ordered) (stand_at c i) (kp.rest y.rest)) (sym (top_is (map (kp.frame 0) (reverse y.thread.below)) (kp.frame
-          (kp.arms_behind y.rest) y.thread.frame))) (rest_fits y.thread.frame.place y.rest a.rest b);
+      rest = subst (λ i. RestFits (kept s ordered) (stand_at c i) (kp.rest y.rest))
+          (sym (top_is (map (kp.frame 0) (reverse y.thread.below)) (kp.frame (kp.arms_behind y.rest) y.thread.frame)))
+          (rest_fits y.thread.frame.place y.rest a.rest b);
     }
       where
-        lower_calls : (fs : List Frame) → Each (LowerStill c z.entries) fs → Each (λ (f : Frame). stand_at c (kp.frame 0 f).place ≡ calls) fs
+        lower_calls : (fs : List Frame) → Each (LowerStill c z.entries) fs →
+            Each (λ (f : Frame). stand_at c (kp.frame 0 f).place ≡ calls) fs
         lower_calls [] a = tt
         lower_calls (f ∷ fs) a = (at_call f a.0.1, lower_calls fs a.1)
 

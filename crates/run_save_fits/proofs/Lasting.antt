@@ -1,13 +1,16 @@
 -- An entry that runs has its task in every state of a run.
-use Rattle.std.proofs.Common.{◌≡◌, ℕ, zero, suc, ◌+◌, ◌≤◌, length, List, [], ◌∷◌, ◌++◌, Option, Some, None, Bool, true, false, cond, refl, sym, subst}
+use Rattle.std.proofs.Common.{◌≡◌, ℕ, zero, suc, ◌+◌, ◌≤◌, length, List, [], ◌∷◌, ◌++◌, Option, Some, None, Bool, true, false, cond, refl}
+use Rattle.std.proofs.Common.{sym, subst}
 use Rattle.std.proofs.Common.{ap, ◌∙◌, arith, ◌⊎◌}
 use mathlib.Core.Logic.{inl, inr}
 use Rattle.verse_code.specs.declared.codes.Code.{Code}
 use Rattle.verse_value.specs.Val.{Val}
 use Rattle.verse_meaning_state.specs.State.{State, Given, with_result, set_at}
 use Rattle.verse_meaning_state.specs.Waits.{waiting, eqn, nth}
-use Rattle.verse_code_machine.specs.Tasks.{Frame, Role, root, part, Who, Part, did, runs, asleep, group, Thread, thread, Task, After, resuming, closing, finishing}
-use Rattle.verse_code_machine.specs.Tasks.{Up, begins, branching, spawning, clearing, Trees, World, world, onto, starts, since, beneath_arms}
+use Rattle.verse_code_machine.specs.Tasks.{Frame, Role, root, part, Who, Part, did, runs, asleep, group, Thread, thread, Task, After}
+use Rattle.verse_code_machine.specs.Tasks.{resuming, closing, finishing}
+use Rattle.verse_code_machine.specs.Tasks.{Up, begins, branching, spawning, clearing, Trees, World, world, onto, starts, since}
+use Rattle.verse_code_machine.specs.Tasks.{beneath_arms}
 use Rattle.verse_code_machine.specs.Cancelling.{without, world_without}
 use Rattle.verse_code_machine.specs.Runs.{Forest}
 use Rattle.run_save_shots.specs.Lists.{Each}
@@ -48,7 +51,8 @@ start_root (j ∷ a) i n s = cond_false (eqn j n) (starts (a ++ i ∷ []) []) (n
 arms_root : (a : List ℕ) (gs : List Part) (n : ℕ) → IsSome a → beneath_arms a gs (n ∷ []) ≡ false
 arms_root a [] n s = refl
 arms_root a (did v ∷ gs) n s = arms_root a gs n s
-arms_root a (runs i ∷ gs) n s = cond_rest (starts (a ++ i ∷ []) (n ∷ [])) (beneath_arms a gs (n ∷ [])) (start_root a i n s) (arms_root a gs n s)
+arms_root a (runs i ∷ gs) n s = cond_rest (starts (a ++ i ∷ []) (n ∷ [])) (beneath_arms a gs (n ∷ [])) (start_root a i n s)
+    (arms_root a gs n s)
 
 -- ---- results
 
@@ -186,7 +190,8 @@ module _ (e : ℕ) where
   under_ups w (spawning x i ps qs ∷ us) a = a
   under_ups w (clearing b ts ∷ us) a = under_after b ts w us a
 
-  layers_more : (t : Task) (pre post : List Task) (us : List Up) → is_task_of e t.thread.who.role ≡ 0 → Layers pre post us → Layers (t ∷ pre) post us
+  layers_more : (t : Task) (pre post : List Task) (us : List Up) → is_task_of e t.thread.who.role ≡ 0 → Layers pre post us →
+      Layers (t ∷ pre) post us
   layers_more t pre post [] z a = tt
   layers_more t pre post (begins x k p gs n ls ∷ us) z a = layers_more t pre post us z a
   layers_more t pre post (branching x ∷ us) z a = layers_more t pre post us z a
@@ -197,19 +202,23 @@ module _ (e : ℕ) where
   fewer f [] = omega arith
   fewer f (t ∷ ts) = two (f t.thread.who.path) (without f ts) (fewer f ts)
     where
-      two : (b : Bool) (us : List Task) → of_tasks us ≤ of_tasks ts → of_tasks (cond b us (t ∷ us)) ≤ is_task_of e t.thread.who.role + of_tasks ts
+      two : (b : Bool) (us : List Task) → of_tasks us ≤ of_tasks ts →
+          of_tasks (cond b us (t ∷ us)) ≤ is_task_of e t.thread.who.role + of_tasks ts
       two true us h = omega (arith, h)
       two false us h = omega (arith, h)
 
-  layers_without : (f : List ℕ → Bool) (pre post : List Task) (us : List Up) → Layers pre post us → Layers (without f pre) (without f post) us
+  layers_without : (f : List ℕ → Bool) (pre post : List Task) (us : List Up) → Layers pre post us →
+      Layers (without f pre) (without f post) us
   layers_without f pre post [] a = tt
   layers_without f pre post (begins x k p gs n ls ∷ us) a = layers_without f pre post us a
   layers_without f pre post (branching x ∷ us) a = layers_without f pre post us a
-  layers_without f pre post (spawning x i ps qs ∷ us) a = let b = a.0 in let g = fewer f pre in let i = fewer f post in (omega (arith, b, g, i), a.1)
+  layers_without f pre post (spawning x i ps qs ∷ us) a = let b = a.0 in let g = fewer f pre in let i =
+      fewer f post in (omega (arith, b, g, i), a.1)
   layers_without f pre post (clearing b ts ∷ us) a = layers_without f pre post us a
 
   -- a task that ran, or began a group, stands among the others
-  layers_stand : (t : Task) (pre post : List Task) (us : List Up) → Under t.thread.who us → Layers pre post us → LayersBelow (t ∷ pre) post us
+  layers_stand : (t : Task) (pre post : List Task) (us : List Up) → Under t.thread.who us → Layers pre post us →
+      LayersBelow (t ∷ pre) post us
   layers_stand t pre post [] u a = tt
   layers_stand t pre post (begins x k p gs n ls ∷ us) u a = layers_more t pre post us u.0 a
   layers_stand t pre post (branching x ∷ us) u a = layers_more t pre post us u.0 a
@@ -235,7 +244,8 @@ module _ (e : ℕ) where
   layered (m.stands {k = k} {p = p} {gs = gs} {x = x} {pre = pre} {post = post} {us = us} n) a =
       (under_ups x.who us a.0, layers_stand (record { thread = x; rest = group k p gs }) pre post us a.0 a.1)
   layered (m.gathered v) a = a
-  layered (m.races {gs = gs} {x = x} {pre = pre} {post = post} {us = us} v) a = (a.0, layers_without (beneath_arms x.who.path gs) pre post us a.1)
+  layered (m.races {gs = gs} {x = x} {pre = pre} {post = post} {us = us} v) a =
+      (a.0, layers_without (beneath_arms x.who.path gs) pre post us a.1)
   layered m.rests_alone a = tt
   layered m.rests_arm a = a
   layered m.rests_behind a = a
@@ -272,7 +282,8 @@ module _ (e : ℕ) where
   trees_join [] ts = omega arith
   trees_join (x ∷ xs) ts = let a = trees_join xs ts in omega (arith, a)
 
-  among_sum : (ts : List Task) (before behind : Forest) → of_trees (before ++ ts ∷ behind) ≡ of_tasks ts + (of_trees before + of_trees behind)
+  among_sum : (ts : List Task) (before behind : Forest) →
+      of_trees (before ++ ts ∷ behind) ≡ of_tasks ts + (of_trees before + of_trees behind)
   among_sum ts before behind = let a = trees_join before (ts ∷ behind) in omega (arith, a)
 
   one_tree : (tss : Forest) (ts : List Task) → of_trees (tss ++ ts ∷ []) ≡ of_trees tss + of_tasks ts
@@ -287,25 +298,28 @@ module _ (e : ℕ) where
         no false i j = cc
     light part w a g = refl
 
-    stays_sum : (b : Bool) (n : ℕ) (t : Task) (ts us : List Task) → (b ≡ true → is_task_of e t.thread.who.role ≡ 0) → of_tasks us ≡ n → of_tasks (cond b us (t ∷
-        us)) ≡ is_task_of e t.thread.who.role + n
+    stays_sum : (b : Bool) (n : ℕ) (t : Task) (ts us : List Task) → (b ≡ true → is_task_of e t.thread.who.role ≡ 0) → of_tasks us ≡ n →
+        of_tasks (cond b us (t ∷ us)) ≡ is_task_of e t.thread.who.role + n
     stays_sum true n t ts us g i = let a = g refl in omega (arith, a, i)
     stays_sum false n t ts us g i = omega (arith, i)
 
     without_sum : (ts : List Task) → Each (λ (t : Task). WhoIs t.thread.who) ts → of_tasks (without f ts) ≡ of_tasks ts
     without_sum [] a = refl
-    without_sum (t ∷ ts) a = stays_sum (f t.thread.who.path) (of_tasks ts) t ts (without f ts) (light t.thread.who.role t.thread.who a.0) (without_sum ts a.1)
+    without_sum (t ∷ ts) a = stays_sum (f t.thread.who.path) (of_tasks ts) t ts (without f ts) (light t.thread.who.role t.thread.who a.0)
+        (without_sum ts a.1)
 
-    world_sum : (o : World) → Each (λ (t : Task). WhoIs t.thread.who) o.pre → Each (λ (t : Task). WhoIs t.thread.who) o.post → of_world (world_without f o) ≡
-        of_world o
+    world_sum : (o : World) → Each (λ (t : Task). WhoIs t.thread.who) o.pre → Each (λ (t : Task). WhoIs t.thread.who) o.post →
+        of_world (world_without f o) ≡ of_world o
     world_sum o a b = let i = without_sum o.pre a in let j = without_sum o.post b in omega (arith, i, j)
 
-  result_less : (entry : Option ℕ) (v : Val) (s : State) (n : ℕ) → still_open s ≤ is_task_of e (root entry) + n → still_open (with_result entry v s) ≤ n
+  result_less : (entry : Option ℕ) (v : Val) (s : State) (n : ℕ) → still_open s ≤ is_task_of e (root entry) + n →
+      still_open (with_result entry v s) ≤ n
   result_less None v s n a = omega (arith, a)
   result_less (Some i) v s n a = by_case (given_less e i s.clock.results (record { value = v; moment = s.clock.now }))
     where
-      by_case : (unfinished (nth (set_at s.clock.results i (Some (record { value = v; moment = s.clock.now }))) e) ≡ 0) ⊎ ((unfinished (nth (set_at
-          s.clock.results i (Some (record { value = v; moment = s.clock.now }))) e) ≡ unfinished (nth s.clock.results e)) × (one (eqn e i) ≡ 0)) →
+      by_case : (unfinished (nth (set_at s.clock.results i (Some (record { value = v; moment = s.clock.now }))) e) ≡ 0) ⊎
+          ((unfinished (nth (set_at s.clock.results i (Some (record { value = v; moment = s.clock.now }))) e) ≡
+          unfinished (nth s.clock.results e)) × (one (eqn e i) ≡ 0)) →
           unfinished (nth (set_at s.clock.results i (Some (record { value = v; moment = s.clock.now }))) e) ≤ n
       by_case (inl b) = omega (arith, b)
       by_case (inr b) = let p = b.0 in let q = b.1 in omega (arith, p, q, a)
@@ -315,20 +329,24 @@ module _ (e : ℕ) where
     names z n [] a = tt
     names z n (t ∷ ts) a = (a.0.still.named, names z n ts a.1)
 
-    since_sum : (w : Who) (b : ℕ) (o : World) (z : _) (n : ℕ) → WhoIs w → d.WorldFine c z n o → of_world (world_without (since w.path b) o) ≡ of_world o
-    since_sum w b o z n a i = world_sum (since w.path b) (λ j. since_root w.path b j (role_some w.role w a)) o (names z n o.pre i.pre_fine) (names z n o.post
-        i.post_fine)
+    since_sum : (w : Who) (b : ℕ) (o : World) (z : _) (n : ℕ) → WhoIs w → d.WorldFine c z n o →
+        of_world (world_without (since w.path b) o) ≡ of_world o
+    since_sum w b o z n a i = world_sum (since w.path b) (λ j. since_root w.path b j (role_some w.role w a)) o (names z n o.pre i.pre_fine)
+        (names z n o.post i.post_fine)
 
     pub lasts : {x y : Point} → Move c x y → h.Held c until short x → Layered x → Lasts x → Lasts y
-    lasts (m.stays {w = w} {o = o} {s = s} {u = u} i) k lay a = let b = ap (λ rs. unfinished (nth rs e)) i.ticks.results in omega (arith, a, b)
+    lasts (m.stays {w = w} {o = o} {s = s} {u = u} i) k lay a = let b =
+        ap (λ rs. unfinished (nth rs e)) i.ticks.results in omega (arith, a, b)
     lasts m.drops k lay a = a
     lasts (m.enters i j p v) k lay a = a
     lasts (m.suspends {w = w} {o = o} i p q) k lay a = let b = now_own w o.ups in omega (arith, a, b)
     lasts (m.spawns {w = w} {o = o} {s = s} i j g v) k lay a = let b = entry_new e s.clock.results in omega (arith, a, b)
     lasts (m.branches i j) k lay a = omega (arith, a)
     lasts (m.begins_group i p) k lay a = a
-    lasts (m.returns {w = w} {o = o} {s = s} {f = f} v) k lay a = let b = since_sum w f.life.born o k.0 s.clock.next k.1.1.named k.1.2 in omega (arith, a, b)
-    lasts (m.finishes {w = w} {o = o} {s = s} {f = f} {entry = entry} r v) k lay a = let b = since_sum w f.life.born o k.0 s.clock.next k.1.1.named k.1.2 in
+    lasts (m.returns {w = w} {o = o} {s = s} {f = f} v) k lay a = let b =
+        since_sum w f.life.born o k.0 s.clock.next k.1.1.named k.1.2 in omega (arith, a, b)
+    lasts (m.finishes {w = w} {o = o} {s = s} {f = f} {entry = entry} r v) k lay a = let b =
+        since_sum w f.life.born o k.0 s.clock.next k.1.1.named k.1.2 in
         let g = now_own w o.ups in let i = ap (is_task_of e) r in omega (arith, a, b, g, i)
     lasts (m.ends {w = w} {o = o} {s = s} {f = f} r v) k lay a = let b = since_sum w f.life.born o k.0 s.clock.next k.1.1.named k.1.2 in
         let g = now_own w o.ups in let i = ap (is_task_of e) r in omega (arith, a, b, g, i)
@@ -337,7 +355,8 @@ module _ (e : ℕ) where
     lasts (m.stands {x = x} {us = us} n) k lay a = let b = now_own x.who us in omega (arith, a, b)
     lasts (m.gathered v) k lay a = a
     lasts (m.races {gs = gs} {x = x} {pre = pre} {post = post} {us = us} {trees = trees} {s = s} v) k lay a =
-        let b = world_sum (beneath_arms x.who.path gs) (λ j. arms_root x.who.path gs j (role_some x.who.role x.who k.1.1.still.named)) (world pre post us trees)
+        let b = world_sum (beneath_arms x.who.path gs) (λ j. arms_root x.who.path gs j (role_some x.who.role x.who k.1.1.still.named))
+        (world pre post us trees)
         (names k.0 s.clock.next pre k.1.2.pre_fine) (names k.0 s.clock.next post k.1.2.post_fine) in omega (arith, a, b)
     lasts (m.rests_alone {pre = pre} {post = post} {trees = trees}) k lay a =
         let b = among_sum (onto pre post) trees.before trees.behind in let i = onto_sum pre post in omega (arith, a, b, i)
@@ -363,4 +382,5 @@ module _ (e : ℕ) where
         let b = among_sum (onto pre (y ∷ post)) trees.before trees.behind in let g = onto_sum pre (y ∷ post) in omega (arith, a, b, g)
     lasts (m.joins i r j) k lay a = omega (arith, a)
     lasts (m.woken {before = before} {behind = behind} {pre = pre} {post = post} {y = y} i r j) k lay a =
-        let b = ap of_trees i in let g = among_sum (onto pre (y ∷ post)) before behind in let l = onto_sum pre (y ∷ post) in omega (arith, a, b, g, l)
+        let b = ap of_trees i in let g = among_sum (onto pre (y ∷ post)) before behind in let l =
+        onto_sum pre (y ∷ post) in omega (arith, a, b, g, l)

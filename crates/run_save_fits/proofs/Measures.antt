@@ -1,5 +1,6 @@
 -- A measure of the tasks of a run that no move lets grow past its bound.
-use Rattle.std.proofs.Common.{◌≡◌, ℕ, zero, suc, ◌+◌, ◌≤◌, length, List, [], ◌∷◌, ◌++◌, Option, Some, None, Bool, true, false, cond, refl, sym}
+use Rattle.std.proofs.Common.{◌≡◌, ℕ, zero, suc, ◌+◌, ◌≤◌, length, List, [], ◌∷◌, ◌++◌, Option, Some, None, Bool, true, false, cond, refl}
+use Rattle.std.proofs.Common.{sym}
 use Rattle.std.proofs.Common.{subst, ap, ◌∙◌, arith}
 use Rattle.verse_base.specs.declared.places.Place.{Place}
 use Rattle.verse_code.specs.declared.codes.Code.{Code}
@@ -7,8 +8,10 @@ use Rattle.verse_value.specs.Val.{Val}
 use Rattle.verse_meaning_state.specs.State.{State, stepped, at_moment, with_result, drawn, with_entry}
 use Rattle.verse_meaning_state.specs.Waits.{Cause, Wait, waiting}
 use Rattle.verse_meaning_state.specs.Turns.{Kind}
-use Rattle.verse_code_machine.specs.Tasks.{Frame, Role, root, part, Who, Part, Rest, asleep, group, Thread, thread, Task, After, resuming, closing}
-use Rattle.verse_code_machine.specs.Tasks.{finishing, Up, begins, branching, spawning, clearing, Trees, World, world, Step, Next, Over, Turn}
+use Rattle.verse_code_machine.specs.Tasks.{Frame, Role, root, part, Who, Part, Rest, asleep, group, Thread, thread, Task, After, resuming}
+use Rattle.verse_code_machine.specs.Tasks.{closing}
+use Rattle.verse_code_machine.specs.Tasks.{finishing, Up, begins, branching, spawning, clearing, Trees, World, world, Step, Next, Over}
+use Rattle.verse_code_machine.specs.Tasks.{Turn}
 use Rattle.verse_code_machine.specs.Tasks.{root_named, child_named, onto, starts, since, beneath_arms}
 use Rattle.verse_code_machine.specs.Cancelling.{without, inserted, gone_before, gone_behind, cancelled, world_without}
 use Rattle.verse_code_machine.specs.Runs.{Forest}
@@ -34,12 +37,16 @@ pub record Measure : Type 0 where
   pub fewer_lost : (w : Who) (k : ℕ) → lost w k ≤ lost w (suc k)
   pub passed : (w : Who) (k : ℕ) → passes ≤ live w k
   pub ticks : (s u : State) → Ticks s.clock u.clock → bound s + used u ≤ bound u + used s
-  pub enters : (w : Who) (k l : ℕ) (s : State) → suc l ≡ s.clock.left → live w (suc k) + (bound s + used (stepped l s)) ≤ live w k + (bound (stepped l s) + used s)
-  pub begins : (w : Who) (l : ℕ) (s : State) → suc l ≡ s.clock.left → live (child_named w l) 1 + (bound s + used (stepped l s)) ≤ (bound (stepped l s) + used s)
+  pub enters : (w : Who) (k l : ℕ) (s : State) → suc l ≡ s.clock.left →
+      live w (suc k) + (bound s + used (stepped l s)) ≤ live w k + (bound (stepped l s) + used s)
+  pub begins : (w : Who) (l : ℕ) (s : State) → suc l ≡ s.clock.left →
+      live (child_named w l) 1 + (bound s + used (stepped l s)) ≤ (bound (stepped l s) + used s)
   pub spawns : (l : ℕ) (s : State) → suc l ≡ s.clock.left →
-      live (root_named l (Some (length s.clock.results))) 1 + (bound s + used (with_entry (stepped l s))) ≤ (bound (with_entry (stepped l s)) + used s)
+      live (root_named l (Some (length s.clock.results))) 1 + (bound s + used (with_entry (stepped l s))) ≤
+      (bound (with_entry (stepped l s)) + used s)
   pub draws : (w : Who) (f : Frame) (fs : List Frame) (cause : Cause) (s : State) →
-      task (record { thread = thread w f fs; rest = asleep (waiting cause s) }) + (bound s + used (drawn s)) ≤ live w (suc (length fs)) + (bound (drawn s) + used s)
+      task (record { thread = thread w f fs; rest = asleep (waiting cause s) }) + (bound s + used (drawn s)) ≤ live w (suc (length fs)) +
+      (bound (drawn s) + used s)
   pub stands : (x : Thread) (k : Kind) (p : Place) (gs : List Part) →
       task (record { thread = x; rest = group k p gs }) ≤ live x.who (suc (length x.below))
   pub woken : (y : Task) (w : Wait) → y.rest ≡ asleep w → live y.thread.who (suc (length y.thread.below)) ≤ task y + wake
@@ -47,10 +54,13 @@ pub record Measure : Type 0 where
       live y.thread.who (suc (length y.thread.below)) ≤ task y + passes
   pub dies : (w : Who) (k : ℕ) → lost w k ≤ live w k
   pub gone : (t : Task) → lost t.thread.who (suc (length t.thread.below)) ≤ task t
-  pub clears : (w : Who) (k l : ℕ) (s : State) → suc l ≡ s.clock.left → live w k + (bound s + used (stepped l s)) ≤ lost w k + (bound (stepped l s) + used s)
+  pub clears : (w : Who) (k l : ℕ) (s : State) → suc l ≡ s.clock.left →
+      live w k + (bound s + used (stepped l s)) ≤ lost w k + (bound (stepped l s) + used s)
   pub finishes : (w : Who) (k : ℕ) (entry : Option ℕ) → w.role ≡ root entry → result entry ≤ live w k
-  pub gives : (entry : Option ℕ) (v : Val) (s : State) → passes + (bound s + used (with_result entry v s)) ≤ result entry + (bound (with_result entry v s) + used s)
-  pub turns : (l moment : ℕ) (s : State) → suc l ≡ s.clock.left → wake + (bound s + used (at_moment moment (stepped l s))) ≤ (bound (at_moment moment (stepped l s)) + used s)
+  pub gives : (entry : Option ℕ) (v : Val) (s : State) →
+      passes + (bound s + used (with_result entry v s)) ≤ result entry + (bound (with_result entry v s) + used s)
+  pub turns : (l moment : ℕ) (s : State) → suc l ≡ s.clock.left →
+      wake + (bound s + used (at_moment moment (stepped l s))) ≤ (bound (at_moment moment (stepped l s)) + used s)
 
 module _ (w : Measure) where
   abbrev pub of_thread : Thread → ℕ
@@ -106,14 +116,15 @@ module _ (w : Measure) where
   trees_sum [] ts = omega arith
   trees_sum (x ∷ xs) ts = let h = trees_sum xs ts in omega (arith, h)
 
-  cond_is : (b : Bool) (xs ts : List Task) (n : ℕ) → (b ≡ true → of_tasks xs ≡ n) → (b ≡ false → of_tasks ts ≡ n) → of_tasks (cond b xs ts) ≡ n
+  cond_is : (b : Bool) (xs ts : List Task) (n : ℕ) → (b ≡ true → of_tasks xs ≡ n) → (b ≡ false → of_tasks ts ≡ n) →
+      of_tasks (cond b xs ts) ≡ n
   cond_is true xs ts n f g = f refl
   cond_is false xs ts n f g = g refl
 
   inserted_sum : (t : Task) (ts : List Task) → of_tasks (inserted t ts) ≡ w.task t + of_tasks ts
   inserted_sum t [] = refl
-  inserted_sum t (x ∷ xs) = let h = inserted_sum t xs in cond_is (starts t.thread.who.path x.thread.who.path) (x ∷ inserted t xs) (t ∷ x ∷ xs)
-      (w.task t + (w.task x + of_tasks xs)) (λ e. omega (arith, h)) (λ e. refl)
+  inserted_sum t (x ∷ xs) = let h = inserted_sum t xs in cond_is (starts t.thread.who.path x.thread.who.path) (x ∷ inserted t xs)
+      (t ∷ x ∷ xs) (w.task t + (w.task x + of_tasks xs)) (λ e. omega (arith, h)) (λ e. refl)
 
   -- of a list of which some are taken out
   split : (f : List ℕ → Bool) (t : Task) (ts xs : List Task) (all : ℕ) → of_tasks xs + of_tasks (without f ts) ≡ all →
@@ -137,12 +148,14 @@ module _ (w : Measure) where
       let b = before_sum f o.pre in
       let d = behind_sum f o.post in
       sums (of_tasks (cancelled f o)) (of_tasks (gone_before f o.pre)) (of_tasks (gone_behind f o.post)) (of_tasks (without f o.pre))
-      (of_tasks (without f o.post)) (of_tasks o.pre) (of_tasks o.post) (of_ups o.ups + (of_trees o.trees.before + of_trees o.trees.behind)) a b d
+      (of_tasks (without f o.post)) (of_tasks o.pre) (of_tasks o.post) (of_ups o.ups + (of_trees o.trees.before + of_trees o.trees.behind))
+      a b d
     where
       sums : (c x y p q pre post k : ℕ) → c ≡ x + y → x + p ≡ pre → y + q ≡ post → c + ((p + q) + k) ≡ (pre + post) + k
       sums c x y p q pre post k e f g = omega (arith, e, f, g)
 
-  among_sum : (ts : List Task) (before behind : Forest) → of_trees (before ++ ts ∷ behind) ≡ of_tasks ts + (of_trees before + of_trees behind)
+  among_sum : (ts : List Task) (before behind : Forest) →
+      of_trees (before ++ ts ∷ behind) ≡ of_tasks ts + (of_trees before + of_trees behind)
   among_sum ts before behind = let h = trees_sum before (ts ∷ behind) in omega (arith, h)
 
   none_more : (tss : Forest) (ts : List Task) → of_trees (tss ++ ts ∷ []) ≡ of_trees tss + of_tasks ts
@@ -193,7 +206,8 @@ module _ (w : Measure) where
       let d = among_sum (onto pre (y ∷ post)) trees.before trees.behind in let f = onto_sum pre (y ∷ post) in omega (arith, a, d, f)
   held (m.joins {y = y} {k = k} {p = p} {gs = gs} e r i) a = let t = w.joins y k p gs r in omega (arith, a, t)
   held (m.woken {before = before} {behind = behind} {pre = pre} {post = post} {y = y} {wait = wait} e r i) a =
-      let t = w.woken y wait r in let f = ap of_trees e in let d = among_sum (onto pre (y ∷ post)) before behind in let g = onto_sum pre (y ∷ post) in
+      let t = w.woken y wait r in let f = ap of_trees e in let d = among_sum (onto pre (y ∷ post)) before behind in let g =
+      onto_sum pre (y ∷ post) in
       omega (arith, a, t, f, d, g)
 
   abbrev pub StepHeld : Step → Type 0

@@ -1,5 +1,6 @@
 -- Every state of a run between two turns can be saved.
-use Rattle.std.proofs.Common.{◌≡◌, ℕ, zero, suc, ◌+◌, ◌≤◌, length, map, List, [], ◌∷◌, ◌++◌, Option, Some, None, Bool, true, false, cond, nat_lt}
+use Rattle.std.proofs.Common.{◌≡◌, ℕ, zero, suc, ◌+◌, ◌≤◌, length, map, List, [], ◌∷◌, ◌++◌, Option, Some, None, Bool, true, false, cond}
+use Rattle.std.proofs.Common.{nat_lt}
 use Rattle.std.proofs.Common.{refl, sym, subst, ap, arith}
 use Rattle.std.specs.Prelude.{ℤ, ◌-◌, slice_get}
 use Rattle.std.proofs.lemmas.Bool.Decides.{nat_tests}
@@ -8,7 +9,8 @@ use Rattle.verse_code.specs.declared.codes.Code.{Code}
 use Rattle.verse_code.specs.Validity.{Valid}
 use Rattle.verse_value.specs.Val.{Val, int, array, vals}
 use Rattle.verse_meaning_state.specs.State.{State, Given, Signal, begun, stepped, at_moment}
-use Rattle.verse_meaning_state.specs.Waits.{Cause, till, never, done, heard, Wait, eqn, ltn, nth, first_signal, given_by, due_of, Due, sooner, sooner_of}
+use Rattle.verse_meaning_state.specs.Waits.{Cause, till, never, done, heard, Wait, eqn, ltn, nth, first_signal, given_by, due_of, Due}
+use Rattle.verse_meaning_state.specs.Waits.{sooner, sooner_of}
 use Rattle.verse_meaning_state.specs.Waits.{least}
 use Rattle.verse_meaning_state.specs.Turns.{Stage, going, closed, broken, amiss, turns}
 use Rattle.verse_code_machine.specs.Tasks.{Task, tree_waits, root_named, world}
@@ -27,7 +29,8 @@ use Rattle.run_save_moves.specs.Moves.{Point, Move}
 use Rattle.run_save_moves.proofs.Values.{unit_fits, append_fit}
 use Rattle.run_save_fits.proofs.Measures.{Measure, of_trees, held}
 use Rattle.run_save_fits.proofs.Measures as w
-use Rattle.run_save_fits.proofs.Counted.{all_tasks, all_frames, all_drawn, all_entries, wait_of, task_of, main_task, sum_below, sum_above, lines_before}
+use Rattle.run_save_fits.proofs.Counted.{all_tasks, all_frames, all_drawn, all_entries, wait_of, task_of, main_task, sum_below, sum_above}
+use Rattle.run_save_fits.proofs.Counted.{lines_before}
 use Rattle.run_save_fits.proofs.Holding as h
 use Rattle.run_save_fits.proofs.Holding.{each_as}
 use Rattle.run_save_fits.proofs.Lasting as l
@@ -65,7 +68,8 @@ signal_fits : (n : ℕ) (gs : List Signal) (e i : ℕ) → Each (λ (g : Signal)
 signal_fits n [] e i a = tt
 signal_fits n (g ∷ gs) e i a = at (eqn e g.event) (ltn i g.next) (signal_fits n gs e i a.1)
   where
-    at : (p q : Bool) → GivenFits n (first_signal gs e i) → GivenFits n (cond p (cond q (Some g.given) (first_signal gs e i)) (first_signal gs e i))
+    at : (p q : Bool) → GivenFits n (first_signal gs e i) →
+        GivenFits n (cond p (cond q (Some g.given) (first_signal gs e i)) (first_signal gs e i))
     at true true b = a.0
     at true false b = b
     at false q b = b
@@ -80,7 +84,8 @@ due_fits n s i (heard e) a b = signal_fits n s.clock.signals e i b
 least_fits : (n : ℕ) (s : State) (ws : List Wait) → Each (GivenFits n) s.clock.results → Each (λ (g : Signal). ValueFits n g.given.value)
     s.clock.signals → DueFits n (least s ws)
 least_fits n s [] a b = tt
-least_fits n s (x ∷ ws) a b = of_fits n x.number (due_of s x.number x.cause) (least s ws) (due_fits n s x.number x.cause a b) (least_fits n s ws a b)
+least_fits n s (x ∷ ws) a b = of_fits n x.number (due_of s x.number x.cause) (least s ws) (due_fits n s x.number x.cause a b)
+    (least_fits n s ws a b)
 
 -- ---- Main's locals
 
@@ -121,11 +126,13 @@ module _ (c : Code) (valid : Valid c) (bytes : TextsAreBytes c) where
   count_wakes : (k : Measure) (until : ℕ) → t.Wakes c valid bytes (w.Held k) (counted k) until
   count_wakes k until s tss d l a e f g = let b = k.turns l d.given.moment s e in omega (arith, a, b)
 
-  count_turns : (k : Measure) (steps until i : ℕ) (g : Stage Forest) → Counts k g → StageRooted g → Counts k (turns (turn_taken c steps until) i g)
+  count_turns : (k : Measure) (steps until i : ℕ) (g : Stage Forest) → Counts k g → StageRooted g →
+      Counts k (turns (turn_taken c steps until) i g)
   count_turns k steps until i g a r = (t.turns_is c valid bytes (w.Held k) (counted k) until (count_wakes k until) steps i g a r).0
 
   abbrev Begins : Measure → ℕ → Type 0
-  Begins k steps = (l : ℕ) → suc l ≡ steps → k.live (root_named l None) 1 + k.used (stepped l (begun steps)) ≤ k.bound (stepped l (begun steps))
+  Begins k steps = (l : ℕ) → suc l ≡ steps →
+      k.live (root_named l None) 1 + k.used (stepped l (begun steps)) ≤ k.bound (stepped l (begun steps))
 
   count_starts : (k : Measure) (ns : List ℤ) (steps : ℕ) → Begins k steps → Counts k (started c ns steps)
   count_starts k ns steps b =
@@ -182,8 +189,9 @@ module _ (c : Code) (valid : Valid c) (bytes : TextsAreBytes c) where
         },
         record {
           named = (refl, refl);
-          frame = h.begun_fine c until short (record { entries = 0; bytes = 0; events = [] }) l f.entry (locals_of f (inputs_of f.params ns))
-              (append_fit 0 (inputs_of f.params ns) (units (f.locals - f.params)) (inputs_fit 0 f.params ns b) (units_fit 0 (f.locals - f.params)));
+          frame = h.begun_fine c until short (record { entries = 0; bytes = 0; events = [] }) l f.entry
+              (locals_of f (inputs_of f.params ns)) (append_fit 0 (inputs_of f.params ns) (units (f.locals - f.params))
+              (inputs_fit 0 f.params ns b) (units_fit 0 (f.locals - f.params)));
           below = tt;
         },
         record { pre_fine = tt; post_fine = tt; ups = tt; before_fine = tt; behind_fine = tt },
@@ -210,7 +218,8 @@ module _ (c : Code) (valid : Valid c) (bytes : TextsAreBytes c) where
     lasting_turns e steps i g a r = (t.turns_is c valid bytes (Both e) (both_keep e) until (both_wakes e) steps i g a r).0
 
     lasting_starts : (e : ℕ) (ns : List ℤ) (steps : ℕ) → InputsFit ns → Lasting e (started c ns steps)
-    lasting_starts e ns steps b = (t.started_is c valid bytes (Both e) (both_keep e) ns steps (λ f i j k. (hold_begins ns steps b f i j k, ((tt, tt), omega arith)))).0
+    lasting_starts e ns steps b = (t.started_is c valid bytes (Both e) (both_keep e) ns steps
+        (λ f i j k. (hold_begins ns steps b f i j k, ((tt, tt), omega arith)))).0
 
     -- all that is held and counted
     record Everything (steps : ℕ) (g : Stage Forest) : Type 0 where
@@ -338,15 +347,17 @@ module _ (c : Code) (valid : Valid c) (bytes : TextsAreBytes c) where
       tasks = bare (of_trees all_tasks tss) s.clock.spent a.few_tasks;
       frames = bare (of_trees all_frames tss) s.clock.spent a.few_frames;
       drawn = none (of_trees all_drawn tss) s.clock.next s.clock.spent (none_weigh all_drawn.task (λ x. refl) tss) a.few_waits;
-      entries = none (of_trees all_entries tss) (length s.clock.results) s.clock.spent (none_weigh all_entries.task (λ x. refl) tss) a.few_entries;
+      entries = none (of_trees all_entries tss) (length s.clock.results) s.clock.spent (none_weigh all_entries.task (λ x. refl) tss)
+          a.few_entries;
       waits = λ n. bare (of_trees (wait_of n) tss) (d.one (ltn n s.clock.next)) (a.waits n);
       tasks_of = λ e. bare (of_trees (task_of e) tss) (d.unfinished (nth s.clock.results e)) (a.tasks_of e);
       main = bare (of_trees main_task tss) 1 a.main;
-      below = none (of_trees (sum_below steps) tss) (s.clock.left + s.clock.spent) steps (none_weigh (sum_below steps).task (λ x. refl) tss) (same_le _ _
-          a.sum);
-      above = none (of_trees (sum_above steps) tss) steps (s.clock.left + s.clock.spent) (none_weigh (sum_above steps).task (λ x. refl) tss) (same_le _ _
-          (sym a.sum));
-      before = none (of_trees lines_before tss) s.clock.before.lines s.clock.before.bytes (none_weigh lines_before.task (λ x. refl) tss) a.before;
+      below = none (of_trees (sum_below steps) tss) (s.clock.left + s.clock.spent) steps (none_weigh (sum_below steps).task (λ x. refl) tss)
+          (same_le _ _ a.sum);
+      above = none (of_trees (sum_above steps) tss) steps (s.clock.left + s.clock.spent) (none_weigh (sum_above steps).task (λ x. refl) tss)
+          (same_le _ _ (sym a.sum));
+      before = none (of_trees lines_before tss) s.clock.before.lines s.clock.before.bytes (none_weigh lines_before.task (λ x. refl) tss)
+          a.before;
     }
       where
         none : (a k n : ℕ) → a ≡ 0 → k ≤ n → a + k ≤ n
@@ -360,5 +371,6 @@ run_is_savable c ns steps until k valid bytes inputs short = stage_savable c val
     (everything_turns c valid bytes until short steps k (started c ns steps) (everything_starts c valid bytes until short ns steps inputs))
 
 pub savable_goes_on : SavableGoesOn
-savable_goes_on c steps u v k s tss valid bytes le short a = stage_savable c valid bytes v short steps (turns (turn_taken c steps v) k (going s tss))
+savable_goes_on c steps u v k s tss valid bytes le short a =
+    stage_savable c valid bytes v short steps (turns (turn_taken c steps v) k (going s tss))
     (everything_turns c valid bytes v short steps k (going s tss) (from_savable c valid bytes v short steps u s tss le a))

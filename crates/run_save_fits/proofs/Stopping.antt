@@ -1,5 +1,6 @@
 -- At a horizon no wait that is left is due.
-use Rattle.std.proofs.Common.{◌≡◌, ℕ, zero, suc, ◌<◌, List, [], ◌∷◌, ◌++◌, Option, Some, None, Bool, true, false, cond, nat_lt, refl, sym, subst, arith}
+use Rattle.std.proofs.Common.{◌≡◌, ℕ, zero, suc, ◌<◌, List, [], ◌∷◌, ◌++◌, Option, Some, None, Bool, true, false, cond, nat_lt, refl, sym}
+use Rattle.std.proofs.Common.{subst, arith}
 use Rattle.std.proofs.lemmas.Bool.Decides.{nat_tests}
 use Rattle.verse_code.specs.declared.codes.Code.{Code}
 use Rattle.verse_value.specs.declared.runs.Ending.{Ending}
@@ -26,8 +27,8 @@ sooner_behind m n g None h = (h, tt)
 sooner_behind m n g (Some d) h = at (nat_lt d.given.moment g.moment) (nat_lt g.moment d.given.moment) (nat_lt d.number n) refl refl h
   where
     at : (a b c : Bool) → nat_lt d.given.moment g.moment ≡ a → nat_lt g.moment d.given.moment ≡ b →
-        DueBehind m (cond a (Some d) (cond b (Some (record { number = n; given = g })) (cond c (Some d) (Some (record { number = n; given = g }))))) →
-        (m < g.moment) × (m < d.given.moment)
+        DueBehind m (cond a (Some d) (cond b (Some (record { number = n; given = g }))
+        (cond c (Some d) (Some (record { number = n; given = g }))))) → (m < g.moment) × (m < d.given.moment)
     at true b c e f h = (grind (arith, nat_tests, e, h), h)
     at false true c e f h = (h, grind (arith, nat_tests, f, h))
     at false false true e f h = (grind (arith, nat_tests, e, f, h), h)
@@ -79,8 +80,8 @@ within_late m (Turn s tss) = tt
 
 module _ (c : Code) (steps m : ℕ) where
   spent_late : (left : ℕ) (s : State) (tss : Forest) (d : Due) →
-      StageLate m (spending left s (closed ending.Steps s tss) (λ s. stage_of (carried c (room c steps) (woken_in d.number d.given.value [] tss
-      (at_moment d.given.moment s)))))
+      StageLate m (spending left s (closed ending.Steps s tss)
+      (λ s. stage_of (carried c (room c steps) (woken_in d.number d.given.value [] tss (at_moment d.given.moment s)))))
   spent_late zero s tss d = λ e. cc
   spent_late (suc l) s tss d = within_late m _
 
@@ -89,16 +90,17 @@ module _ (c : Code) (steps m : ℕ) where
   cond_late true s tss g a b = λ e. a refl
   cond_late false s tss g a b = b
 
-  due_late : (s : State) (tss : Forest) (o : Option Due) → (DueBehind m o → TreesLate m s tss) → StageLate m (turn_at m o s tss (λ due s. stage_of (carried
-      c (room c steps) (woken_in due.number due.given.value [] tss s))))
+  due_late : (s : State) (tss : Forest) (o : Option Due) → (DueBehind m o → TreesLate m s tss) →
+      StageLate m (turn_at m o s tss (λ due s. stage_of (carried c (room c steps) (woken_in due.number due.given.value [] tss s))))
   due_late s tss None f = λ e. cc
-  due_late s tss (Some d) f = cond_late (nat_lt m d.given.moment) s tss _ (λ e. f (behind m d.given.moment e)) (spent_late s.clock.left s tss d)
+  due_late s tss (Some d) f = cond_late (nat_lt m d.given.moment) s tss _ (λ e. f (behind m d.given.moment e))
+      (spent_late s.clock.left s tss d)
     where
       behind : (m n : ℕ) → nat_lt m n ≡ true → m < n
       behind m n e = grind (arith, nat_tests, e)
 
-  taken_late : (s : State) (tss : Forest) (ws : List Wait) → (AllBehind m s ws → TreesLate m s tss) → StageLate m (turn m ws s tss (λ due s. stage_of
-      (carried c (room c steps) (woken_in due.number due.given.value [] tss s))))
+  taken_late : (s : State) (tss : Forest) (ws : List Wait) → (AllBehind m s ws → TreesLate m s tss) →
+      StageLate m (turn m ws s tss (λ due s. stage_of (carried c (room c steps) (woken_in due.number due.given.value [] tss s))))
   taken_late s tss [] f = λ e. cc
   taken_late s tss (w ∷ ws) f = due_late s tss (least s (w ∷ ws)) (λ h. f (all_behind m s (w ∷ ws) h))
 

@@ -53,14 +53,15 @@ module _ (c : Code) (valid : Valid c) (bytes : TextsAreBytes c) (P : Point → T
 
   -- the wait that is due may be woken
   abbrev pub Wakes : ℕ → Type 0
-  Wakes until = (s : State) (tss : Forest) (d : Due) (l : ℕ) → P (m.turns s tss) → suc l ≡ s.clock.left → least s (tree_waits tss) ≡ Some d →
-      nat_lt until d.given.moment ≡ false → P (m.wakes d.number d.given.value tss (at_moment d.given.moment (stepped l s)))
+  Wakes until = (s : State) (tss : Forest) (d : Due) (l : ℕ) → P (m.turns s tss) → suc l ≡ s.clock.left →
+      least s (tree_waits tss) ≡ Some d → nat_lt until d.given.moment ≡ false →
+      P (m.wakes d.number d.given.value tss (at_moment d.given.moment (stepped l s)))
 
   module _ (until : ℕ) (wakes : Wakes until) (steps : ℕ) where
     spent_is : (left : ℕ) (s : State) (tss : Forest) (d : Due) → s.clock.left ≡ left → P (m.turns s tss) → TreesRooted s.clock.left tss →
         least s (tree_waits tss) ≡ Some d → nat_lt until d.given.moment ≡ false →
-        StageIs (spending left s (closed ending.Steps s tss) (λ s. stage_of (carried c (room c steps) (woken_in d.number d.given.value [] tss
-        (at_moment d.given.moment s)))))
+        StageIs (spending left s (closed ending.Steps s tss)
+        (λ s. stage_of (carried c (room c steps) (woken_in d.number d.given.value [] tss (at_moment d.given.moment s)))))
     spent_is zero s tss d e a r f g = a
     spent_is (suc l) s tss d e a r f g = stage_is _ (carried_is (room c steps) _
         (leads_is (wakes_lead c d.number d.given.value (at_moment d.given.moment (stepped l s)) tss) (wakes s tss d l a (sym e) f g))
@@ -84,23 +85,24 @@ module _ (c : Code) (valid : Valid c) (bytes : TextsAreBytes c) (P : Point → T
         least_of : (s : State) (xs ys : List Wait) → xs ≡ ys → least s xs ≡ least s ys
         least_of s xs ys e = ap (least s) e
 
-    pub turns_is : (k : ℕ) (g : Stage Forest) → StageIs g → StageRooted g → StageIs (turns (turn_taken c steps until) k g) × StageRooted (turns
-        (turn_taken c steps until) k g)
+    pub turns_is : (k : ℕ) (g : Stage Forest) → StageIs g → StageRooted g → StageIs (turns (turn_taken c steps until) k g) ×
+        StageRooted (turns (turn_taken c steps until) k g)
     turns_is zero g a r = (a, r)
-    turns_is (suc k) (going s tss) a r = turns_is k (turn_taken c steps until s tss) (waits_is s tss (tree_waits tss) refl a r) (turn_roots c steps
-        until s tss (tree_waits tss) r)
+    turns_is (suc k) (going s tss) a r = turns_is k (turn_taken c steps until s tss) (waits_is s tss (tree_waits tss) refl a r)
+        (turn_roots c steps until s tss (tree_waits tss) r)
     turns_is (suc k) (closed e s tss) a r = (a, r)
     turns_is (suc k) (broken e s) a r = (a, r)
     turns_is (suc k) (amiss s) a r = (a, r)
 
   -- Main's start
   abbrev pub Starts : List ℤ → ℕ → Type 0
-  Starts ns steps = (f : Func) (l : ℕ) → slice_get c.functions c.main ≡ Some f → suc l ≡ steps → P (m.acts (at (root_named l None) (world [] [] []
-      (record { before = []; behind = [] })) (stepped l (begun steps)) (begins l f.entry (locals_of f (inputs_of f.params ns))) []))
+  Starts ns steps = (f : Func) (l : ℕ) → slice_get c.functions c.main ≡ Some f → suc l ≡ steps →
+      P (m.acts (at (root_named l None) (world [] [] [] (record { before = []; behind = [] })) (stepped l (begun steps))
+      (begins l f.entry (locals_of f (inputs_of f.params ns))) []))
 
   main_is : (ns : List ℤ) (steps : ℕ) → Starts ns steps → (f : Option Func) → slice_get c.functions c.main ≡ f →
-      StepIs (on_there f (begun steps) (λ f. main_starts ns (begun steps) f)) × StepRooted (on_there f (begun steps) (λ f. main_starts ns (begun
-      steps) f))
+      StepIs (on_there f (begun steps) (λ f. main_starts ns (begun steps) f)) ×
+      StepRooted (on_there f (begun steps) (λ f. main_starts ns (begun steps) f))
   main_is ns steps h None e = (tt, tt)
   main_is ns zero h (Some f) e = (tt, main_roots ns zero f)
   main_is ns (suc l) h (Some f) e = (h f l e refl, main_roots ns (suc l) f)

@@ -1,11 +1,15 @@
 -- The format of a saved run, field by field.
-use Rattle.std.specs.Prelude.{◌≡◌, ◌≢◌, ℕ, suc, ◌≤◌, All, List, [], ◌∷◌, ◌++◌, length, Option, Some, None}
+use Rattle.std.specs.Prelude.{◌≡◌, ◌≢◌, ℕ, suc, ◌≤◌, All, List, [], ◌∷◌, ◌++◌, length, Option, Some}
+use Rattle.std.specs.Prelude.{None}
 use Rattle.task_tree.specs.declared.tasks.Role.{Role}
 use Rattle.task_tree.specs.declared.tasks.Role.TheVariants.{Root, Arm, Behind}
 use Rattle.verse_code.specs.declared.codes.Code.{Code}
-use Rattle.verse_image.specs.Format.{Spelled, Field, ◌⨾◌, nothing, byte, plain, number, integer, each, flag, Image, version_of}
-use Rattle.verse_value.specs.Val.{Val, unit, falsity, truth, int, char, enum, object, event, task, some, array, mapping, tuple}
-use Rattle.verse_value.specs.Val.{Vals, no_vals, more_vals, list_of, Pairs, no_pairs, more_pairs, entries_of}
+use Rattle.verse_image.specs.Format.{Spelled, Field, ◌⨾◌, nothing, byte, plain, number, integer}
+use Rattle.verse_image.specs.Format.{each, flag, Image, version_of}
+use Rattle.verse_value.specs.Val.{Val, unit, falsity, truth, int, char, enum, object, event, task}
+use Rattle.verse_value.specs.Val.{some, array, mapping, tuple}
+use Rattle.verse_value.specs.Val.{Vals, no_vals, more_vals, list_of, Pairs, no_pairs, more_pairs}
+use Rattle.verse_value.specs.Val.{entries_of}
 use Rattle.verse_value.specs.declared.keys.Key.{Key}
 use Rattle.verse_value.specs.declared.keys.Key.TheVariants as key
 use Rattle.verse_value.specs.declared.runs.CellKind.{CellKind}
@@ -107,7 +111,8 @@ rest_field (leaf n c) = byte 0 ⨾ wide n ⨾ cause c
 rest_field (group arms) = byte 1 ⨾ list (maybe value) arms
 
 abbrev pub task_field : KeptTask → Field
-task_field t = optional t.parent ⨾ standing t.parent t.role t.root ⨾ list frame t.frames ⨾ rest_field t.rest
+task_field t = optional t.parent ⨾ standing t.parent t.role t.root ⨾ list frame t.frames ⨾
+    rest_field t.rest
 
 -- ---- the saved run
 
@@ -117,7 +122,8 @@ mark = 86 ∷ 83 ∷ 83 ∷ 86 ∷ 1 ∷ []
 
 -- the length of the code's image, as it is written, and its bytes
 abbrev pub imaged : Code → Field
-imaged code bytes rest = (image : List ℕ) × Image (version_of code) code image × (wide (length image) ⨾ plain image) bytes rest
+imaged code bytes rest = (image : List ℕ) × Image (version_of code) code image ×
+    (wide (length image) ⨾ plain image) bytes rest
 
 abbrev pub numbers : Kept → Field
 numbers s = wide s.left ⨾ wide s.spent ⨾ wide s.now ⨾ wide s.next ⨾ wide s.bytes ⨾ wide s.lines
@@ -125,7 +131,8 @@ numbers s = wide s.left ⨾ wide s.spent ⨾ wide s.now ⨾ wide s.next ⨾ wide
 -- the fields in their order
 abbrev pub fields : Code → Kept → Field
 fields code s =
-    plain mark ⨾ imaged code ⨾ numbers s ⨾ list cell_field s.cells ⨾ list (maybe given) s.spawned ⨾ list task_field s.tasks
+    plain mark ⨾ imaged code ⨾ numbers s ⨾ list cell_field s.cells ⨾ list (maybe given) s.spawned ⨾
+    list task_field s.tasks
 
 -- the bytes are the saved run of the code of which this is kept
 pub record Saved (code : Code) (s : Kept) (bytes : List ℕ) : Type 0 where
@@ -147,9 +154,10 @@ Begins word line = (more : List ℕ) × (line ≡ word ++ more)
 
 -- bytes stand behind the first line that begins with the word
 pub data StandsBehind : List ℕ → List ℕ → Type 0 where
-  this_line : {line bytes : List ℕ} → IsLine line → Begins saved_word line → StandsBehind (line ++ 10 ∷ bytes) bytes
-  later_line : {line file bytes : List ℕ} → IsLine line → (Begins saved_word line → ⊥) → StandsBehind file bytes →
-      StandsBehind (line ++ 10 ∷ file) bytes
+  this_line : {line bytes : List ℕ} → IsLine line → Begins saved_word line →
+      StandsBehind (line ++ 10 ∷ bytes) bytes
+  later_line : {line file bytes : List ℕ} → IsLine line → (Begins saved_word line → ⊥) →
+      StandsBehind file bytes → StandsBehind (line ++ 10 ∷ file) bytes
 
 -- the file has the saved run behind such a line
 pub record SavedFile (code : Code) (s : Kept) (file : List ℕ) : Type 0 where

@@ -1,16 +1,19 @@
 -- Reading values of a saved run, up to the first failing place.
-use Rattle.std.specs.Prelude.{ℕ, zero, suc, ◌+◌, ◌==◌, nat_lt, nat_le, Bool, true, ◌&&◌, List, [], ◌∷◌, length, take, drop}
+use Rattle.std.specs.Prelude.{ℕ, zero, suc, ◌+◌, ◌==◌, nat_lt, nat_le, Bool, true, ◌&&◌, List, []}
+use Rattle.std.specs.Prelude.{◌∷◌, length, take, drop}
 use Rattle.std.specs.Prelude.{Option, Some, None, slice_get, Result, Ok, Err, if◌then◌else◌}
 use Rattle.verse_image.specs.declared.faults.Flaw.{Flaw}
 use Rattle.verse_image.specs.Reading.{◌>>=◌, Reader, flaw, digits_at, integer_at}
-use Rattle.verse_value.specs.Val.{Val, unit, falsity, truth, int, char, enum, object, event, task, some, array, mapping, tuple, vals}
+use Rattle.verse_value.specs.Val.{Val, unit, falsity, truth, int, char, enum, object, event, task}
+use Rattle.verse_value.specs.Val.{some, array, mapping, tuple, vals}
 use Rattle.verse_value.specs.Val.{Pairs, no_pairs}
 use Rattle.verse_value.specs.declared.keys.Key.{Key}
 use Rattle.verse_value.specs.declared.keys.Key.TheVariants as key
 use Rattle.verse_value.specs.Entries.{key_place}
 use Rattle.verse_value.specs.Parts.{keys_in}
 use Rattle.verse_value.specs.Places.{with_last}
-use Rattle.verse_value.specs.declared.sizes.TheConstants.{MOST_WEIGHT, MOST_LEVELS, MOST_STORE_WEIGHT}
+use Rattle.verse_value.specs.declared.sizes.TheConstants.{MOST_WEIGHT, MOST_LEVELS}
+use Rattle.verse_value.specs.declared.sizes.TheConstants.{MOST_STORE_WEIGHT}
 use Rattle.run_save_format.specs.declared.forms.KeyForm.{KeyForm}
 use Rattle.run_save_format.specs.declared.forms.KeyForm.TheVariants as of_key
 use Rattle.run_save_format.specs.declared.forms.ValueForm.{ValueForm}
@@ -27,7 +30,8 @@ wide_at bytes = digits_at 10 18446744073709551616 (length bytes) bytes
 -- a number from the least to the most; with any other the rule fails at the number
 unfoldable pub number_in : (rule least most : ℕ) → Reader ℕ
 number_in rule least most bytes =
-    wide_at bytes >>= λ n. if nat_le least n.0 && nat_le n.0 most then Ok n else Err (flaw rule (length bytes))
+    wide_at bytes >>= λ n. if nat_le least n.0 &&
+    nat_le n.0 most then Ok n else Err (flaw rule (length bytes))
 
 -- 0 or 1
 abbrev pub flag_at : Reader ℕ
@@ -39,7 +43,8 @@ small_at = number_in 4 0 4294967295
 
 -- and one that a test lets through
 unfoldable pub small_where : (ℕ → Bool) → Reader ℕ
-small_where test bytes = small_at bytes >>= λ n. if test n.0 then Ok n else Err (flaw 5 (length bytes))
+small_where test bytes = small_at bytes >>= λ n. if test n.0 then Ok n else Err
+    (flaw 5 (length bytes))
 
 abbrev pub none_or : ℕ → Option ℕ
 none_or zero = None
@@ -72,7 +77,8 @@ each_at one (suc n) s bytes = do
 
 -- ---- weights
 
--- a part of this weight more: past the limit of all cells it fails at the cell, past that of a value at the part
+-- a part of this weight more: past the limit of all cells it fails at the cell, past that of a
+-- value at the part
 abbrev pub weighed : Where → (left weight : ℕ) → Load → Result Load Flaw
 weighed (Cell cell) left weight load =
     if nat_lt MOST_STORE_WEIGHT (load.cells + weight) then Err (flaw 5 cell) else
@@ -103,7 +109,8 @@ unfoldable pub text_key_at : Where → (left : ℕ) → Parts Key
 text_key_at w left load bytes = do
   n ← wide_at bytes
   more ← weighed w left n.0 load
-  if nat_lt (length n.1) n.0 then Err (flaw 3 0) else Ok ((key.Text (take n.0 n.1), more), drop n.0 n.1)
+  if nat_lt (length n.1) n.0 then Err (flaw 3 0) else Ok
+  ((key.Text (take n.0 n.1), more), drop n.0 n.1)
 
 unfoldable pub enum_key_at : Parts Key
 enum_key_at load bytes = do
@@ -114,8 +121,10 @@ enum_key_at load bytes = do
 -- the key of a form
 unfoldable pub key_form_at : Where → (left : ℕ) → KeyForm → Parts Key
 key_form_at w left of_key.Int load bytes = integer_at bytes >>= λ n. Ok ((key.Int n.0, load), n.1)
-key_form_at w left of_key.Logic load bytes = flag_at bytes >>= λ n. Ok ((key.Logic (n.0 == 1), load), n.1)
-key_form_at w left of_key.Char load bytes = number_in 5 0 255 bytes >>= λ n. Ok ((key.Char n.0, load), n.1)
+key_form_at w left of_key.Logic load bytes =
+    flag_at bytes >>= λ n. Ok ((key.Logic (n.0 == 1), load), n.1)
+key_form_at w left of_key.Char load bytes =
+    number_in 5 0 255 bytes >>= λ n. Ok ((key.Char n.0, load), n.1)
 key_form_at w left of_key.Enum load bytes = enum_key_at load bytes
 key_form_at w left of_key.Text load bytes = text_key_at w left load bytes
 
@@ -123,14 +132,16 @@ key_form_at w left of_key.Text load bytes = text_key_at w left load bytes
 unfoldable pub key_at : Where → (levels : ℕ) → Parts Key
 key_at w levels load bytes = do
   part ← part_at key_forms w load bytes
-  if levels == 0 then Err (flaw 5 (length bytes)) else key_form_at w (length bytes) part.0.0 part.0.1 part.1
+  if levels == 0 then Err (flaw 5 (length bytes)) else key_form_at w (length bytes) part.0.0
+  part.0.1 part.1
 
 -- ---- values
 
 abbrev pub value_forms : List ValueForm
 value_forms =
-    of_value.Unit ∷ of_value.False ∷ of_value.True ∷ of_value.Int ∷ of_value.Char ∷ of_value.Enum ∷ of_value.Object ∷ of_value.Event ∷
-    of_value.Task ∷ of_value.Option ∷ of_value.Array ∷ of_value.Map ∷ of_value.Tuple ∷ []
+    of_value.Unit ∷ of_value.False ∷ of_value.True ∷ of_value.Int ∷ of_value.Char ∷ of_value.Enum ∷
+    of_value.Object ∷ of_value.Event ∷ of_value.Task ∷ of_value.Option ∷ of_value.Array ∷
+    of_value.Map ∷ of_value.Tuple ∷ []
 
 unfoldable pub int_at : Parts Val
 int_at load bytes = integer_at bytes >>= λ n. Ok ((int n.0, load), n.1)
@@ -166,15 +177,18 @@ unfoldable pub option_at : Parts Val → Parts Val
 option_at part load bytes = part load bytes >>= λ v. Ok ((some v.0.0, v.0.1), v.1)
 
 unfoldable pub array_at : Parts Val → Parts Val
-array_at part load bytes = parts_at part load bytes >>= λ vs. Ok ((array (vals vs.0.0), vs.0.1), vs.1)
+array_at part load bytes = parts_at part load bytes >>= λ vs. Ok
+    ((array (vals vs.0.0), vs.0.1), vs.1)
 
 unfoldable pub tuple_at : Parts Val → Parts Val
-tuple_at part load bytes = parts_at part load bytes >>= λ vs. Ok ((tuple (vals vs.0.0), vs.0.1), vs.1)
+tuple_at part load bytes = parts_at part load bytes >>= λ vs. Ok
+    ((tuple (vals vs.0.0), vs.0.1), vs.1)
 
 -- a value at a key behind these pairs, whose first byte has so many left
 abbrev pub pair_with : Parts Val → (before : Pairs) → (left : ℕ) → Key → Option ℕ → Parts Pairs
 pair_with part before left k (Some place) load bytes = Err (flaw 5 left)
-pair_with part before left k None load bytes = part load bytes >>= λ v. Ok ((with_last before k v.0.0, v.0.1), v.1)
+pair_with part before left k None load bytes =
+    part load bytes >>= λ v. Ok ((with_last before k v.0.0, v.0.1), v.1)
 
 -- one more pair, whose key is none of those before
 unfoldable pub pair_at : Where → (levels : ℕ) → Parts Val → (before : Pairs) → Parts Pairs
@@ -190,10 +204,12 @@ pairs_from w levels part (suc n) before load bytes = do
   pairs_from w levels part n more.0.0 more.0.1 more.1
 
 unfoldable pub pairs_at : Where → (levels : ℕ) → Parts Val → Parts Pairs
-pairs_at w levels part load bytes = wide_at bytes >>= λ n. pairs_from w levels part n.0 no_pairs load n.1
+pairs_at w levels part load bytes =
+    wide_at bytes >>= λ n. pairs_from w levels part n.0 no_pairs load n.1
 
 unfoldable pub map_at : Where → (levels : ℕ) → Parts Val → Parts Val
-map_at w levels part load bytes = pairs_at w levels part load bytes >>= λ ps. Ok ((mapping ps.0.0, ps.0.1), ps.1)
+map_at w levels part load bytes =
+    pairs_at w levels part load bytes >>= λ ps. Ok ((mapping ps.0.0, ps.0.1), ps.1)
 
 -- the value of a form, in whose parts so many levels are left
 unfoldable pub value_form_at : Where → (levels : ℕ) → Parts Val → ValueForm → Parts Val
@@ -213,14 +229,16 @@ value_form_at w levels part of_value.Tuple load bytes = tuple_at part load bytes
 
 -- a value of at most so many levels; past them it fails at its first byte
 unfoldable pub part_value_at : Where → (levels : ℕ) → Parts Val
-part_value_at w zero load bytes = part_at value_forms w load bytes >>= λ part. Err (flaw 5 (length bytes))
+part_value_at w zero load bytes =
+    part_at value_forms w load bytes >>= λ part. Err (flaw 5 (length bytes))
 part_value_at w (suc levels) load bytes = do
   part ← part_at value_forms w load bytes
   value_form_at w levels (part_value_at w levels) part.0.0 part.0.1 part.1
 
 -- a whole value, where the cells read so far weigh so much
 unfoldable pub value_at : Where → ℕ → Reader (Val × ℕ)
-value_at w cells bytes = part_value_at w MOST_LEVELS (record { value = 0; cells = cells }) bytes >>= λ v. Ok ((v.0.0, v.0.1.cells), v.1)
+value_at w cells bytes = part_value_at w MOST_LEVELS (record { value = 0; cells = cells }) bytes >>=
+    λ v. Ok ((v.0.0, v.0.1.cells), v.1)
 
 unfoldable pub values_at : Where → ℕ → Reader (List Val × ℕ)
 values_at w cells bytes = wide_at bytes >>= λ n. each_at (value_at w) n.0 cells n.1

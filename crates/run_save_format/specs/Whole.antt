@@ -1,18 +1,21 @@
 -- The rules on the whole list: the first part that breaks one.
-use Rattle.std.specs.Prelude.{ℕ, suc, ◌+◌, ◌==◌, nat_lt, nat_le, Bool, true, false, not, ◌&&◌, ◌||◌, List, [], ◌∷◌, ◌++◌, length}
+use Rattle.std.specs.Prelude.{ℕ, suc, ◌+◌, ◌==◌, nat_lt, nat_le, Bool, true, false, not, ◌&&◌, ◌||◌}
+use Rattle.std.specs.Prelude.{List, [], ◌∷◌, ◌++◌, length}
 use Rattle.std.specs.Prelude.{Option, Some, None, slice_get, Result, Ok, Err, if◌then◌else◌}
 use Rattle.task_tree.specs.declared.tasks.Role.{Role}
 use Rattle.task_tree.specs.declared.tasks.Role.TheVariants.{Root, Arm, Behind}
 use Rattle.verse_code.specs.declared.codes.Code.{Code}
 use Rattle.verse_image.specs.declared.faults.Flaw.{Flaw}
 use Rattle.verse_image.specs.Reading.{◌>>=◌, flaw}
-use Rattle.verse_value.specs.Val.{Val, task, some, array, mapping, tuple, Vals, no_vals, more_vals, vals, Pairs, no_pairs}
+use Rattle.verse_value.specs.Val.{Val, task, some, array, mapping, tuple, Vals, no_vals, more_vals}
+use Rattle.verse_value.specs.Val.{vals, Pairs, no_pairs}
 use Rattle.verse_value.specs.Val.{more_pairs}
 use Rattle.verse_value.specs.Store.{Cell}
 use Rattle.verse_meaning_state.specs.State.{Given}
 use Rattle.run_save_shots.specs.Lists.{count}
 use Rattle.run_save_shots.specs.Kept.{KeptRest, leaf, group, KeptTask, Kept}
-use Rattle.run_save_shots.specs.Fitting.{Stand, gathers, task_stand, is_root, is_child_of, is_arm_of, runs_once, unfinished, frames_of}
+use Rattle.run_save_shots.specs.Fitting.{Stand, gathers, task_stand, is_root, is_child_of}
+use Rattle.run_save_shots.specs.Fitting.{is_arm_of, runs_once, unfinished, frames_of}
 use Rattle.run_save_shots.specs.Fitting.{is_running}
 use Rattle.run_save_format.specs.Format.{saved_word}
 use Rattle.run_save_format.specs.Reading.{Found, parts_found_at}
@@ -59,7 +62,8 @@ is_later at (Some p) = nat_le at p
 abbrev pub arms_break : List KeptTask → (at place : ℕ) → List (Option Val) → Bool
 arms_break ts at place [] = false
 arms_break ts at place (arm ∷ arms) =
-    not (count (is_arm_of at place) ts == unfinished (Some arm)) || arms_break ts at (suc place) arms
+    not (count (is_arm_of at place) ts == unfinished (Some arm)) ||
+    arms_break ts at (suc place) arms
 
 -- a child that is an arm of a place that there is not
 abbrev pub is_beyond : (at arms : ℕ) → KeptTask → Bool
@@ -76,7 +80,8 @@ group_breaks stand arms = true
 abbrev pub rest_breaks : Code → List KeptTask → (at : ℕ) → KeptTask → KeptRest → Bool
 rest_breaks c ts at t (leaf number cause) = false
 rest_breaks c ts at t (group arms) =
-    arms_break ts at 0 arms || any (is_beyond at (length arms)) ts || group_breaks (task_stand c t) arms
+    arms_break ts at 0 arms || any (is_beyond at (length arms)) ts ||
+    group_breaks (task_stand c t) arms
 
 abbrev pub is_group : Option KeptTask → Bool
 is_group None = false
@@ -85,7 +90,8 @@ is_group (Some t) = gathers_arms t.rest where
   gathers_arms (group arms) = true
   gathers_arms (leaf number cause) = false
 
--- beneath a parent of the list: an arm of a task that is at no group, or in the background of a frame that there is not
+-- beneath a parent of the list: an arm of a task that is at no group, or in the background of a
+-- frame that there is not
 abbrev pub role_breaks : Option KeptTask → Role → Bool
 role_breaks p Root = false
 role_breaks p (Arm place) = not (is_group p)
@@ -109,23 +115,26 @@ module _ (c : Code) (spent : ℕ) (ts : List KeptTask) where
   -- the task at a place, where the tasks before are these, with so many frames
   abbrev pub breaks_task : (before : List KeptTask) → (frames : ℕ) → KeptTask → Bool
   breaks_task before frames t =
-      is_later (length before) t.parent || is_root None t && any (is_root None) before || child_breaks ts t.parent t.role ||
-      any (is_disordered t.parent t.role) before || rest_breaks c ts (length before) t t.rest ||
-      nat_lt (suc spent) (frames + length t.frames)
+      is_later (length before) t.parent || is_root None t && any (is_root None) before ||
+      child_breaks ts t.parent t.role || any (is_disordered t.parent t.role) before ||
+      rest_breaks c ts (length before) t t.rest || nat_lt (suc spent) (frames + length t.frames)
 
   -- where the first task stands that breaks a rule
   abbrev pub broken_task : (before : List KeptTask) → (frames : ℕ) → List KeptTask → Option ℕ
   broken_task before frames [] = None
   broken_task before frames (t ∷ others) =
-      if breaks_task before frames t then Some (length before) else broken_task (before ++ t ∷ []) (frames + length t.frames) others
+      if breaks_task before frames t then Some (length before) else broken_task (before ++ t ∷ [])
+      (frames + length t.frames) others
 
 abbrev pub broken_entry : List KeptTask → ℕ → List (Option Given) → Option ℕ
 broken_entry ts entry [] = None
-broken_entry ts entry (g ∷ others) = if breaks_entry ts entry g then Some entry else broken_entry ts (suc entry) others
+broken_entry ts entry (g ∷ others) =
+    if breaks_entry ts entry g then Some entry else broken_entry ts (suc entry) others
 
 abbrev pub broken_cell : (entries : ℕ) → ℕ → List Cell → Option ℕ
 broken_cell n address [] = None
-broken_cell n address (c ∷ others) = if breaks_cell n c then Some address else broken_cell n (suc address) others
+broken_cell n address (c ∷ others) =
+    if breaks_cell n c then Some address else broken_cell n (suc address) others
 
 -- how many bytes are left at the part of a place
 abbrev pub left_at : List ℕ → Option ℕ → Option ℕ
@@ -155,7 +164,8 @@ behind_word [] line = true
 behind_word (w ∷ ws) [] = false
 behind_word (w ∷ ws) (b ∷ bytes) = w == b && behind_word ws bytes
 
--- behind the first line that begins with the word: whether a line begins here, and whether the line is such a one
+-- behind the first line that begins with the word: whether a line begins here, and whether the line
+-- is such a one
 unfoldable pub start_at : (begins is : Bool) → List ℕ → Result (List ℕ) Flaw
 start_at begins is [] = Err (flaw 1 0)
 start_at begins is (b ∷ bytes) =

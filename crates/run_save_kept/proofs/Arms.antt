@@ -67,7 +67,8 @@ members : (xs : List Task) → Each (λ t. (f : Task → ℕ) → f t ≤ tasks_
 members [] = tt
 members (x ∷ xs) = (
   (λ f. first (f x) (tasks_sum f xs)),
-  all_as (λ t. (f : Task → ℕ) → f t ≤ tasks_sum f xs) (λ t. (f : Task → ℕ) → f t ≤ f x + tasks_sum f xs) (λ t h f. second (f t) (f x) (tasks_sum f xs) (h
+  all_as (λ t. (f : Task → ℕ) → f t ≤ tasks_sum f xs) (λ t. (f : Task → ℕ) → f t ≤ f x + tasks_sum f xs)
+      (λ t h f. second (f t) (f x) (tasks_sum f xs) (h
       f)) xs (members xs),
 )
   where
@@ -82,8 +83,8 @@ member_at P [] i t a e = none_some e
 member_at P (x ∷ xs) zero t a e = subst P (some_is e) a.0
 member_at P (x ∷ xs) (suc i) t a e = member_at P xs i t a.1 e
 
-two_as : (M : Task → Type 0) (R S : Task → Task → Type 0) → ((t u : Task) → M t → M u → R t u → S t u) → (xs : List Task) → Each M xs → EachTwo R xs →
-    EachTwo S xs
+two_as : (M : Task → Type 0) (R S : Task → Task → Type 0) → ((t u : Task) → M t → M u → R t u → S t u) → (xs : List Task) → Each M xs →
+    EachTwo R xs → EachTwo S xs
 two_as M R S f [] a b = tt
 two_as M R S f (x ∷ xs) a b = (row xs a.1 b.0, two_as M R S f xs a.1 b.1)
   where
@@ -102,7 +103,8 @@ two_map S f (x ∷ xs) a = (row xs a.0, two_map S f xs a.1)
 -- ---- the task of a path
 
 -- it stands there, and is the first of its path
-pub placed : (q : List ℕ) (ys : List Task) (i : ℕ) → place_of q ys ≡ Some i → (y : Task) × (nth ys i ≡ Some y) × (q ≡ y.thread.who.path) × (task_of q ys ≡ Some y)
+pub placed : (q : List ℕ) (ys : List Task) (i : ℕ) → place_of q ys ≡ Some i → (y : Task) × (nth ys i ≡ Some y) × (q ≡ y.thread.who.path) ×
+    (task_of q ys ≡ Some y)
 placed q [] i e = none_some e
 placed q (x ∷ xs) i e = by_test (same_path q x.thread.who.path) refl i e (λ j. placed q xs j)
   where
@@ -121,12 +123,13 @@ placed q (x ∷ xs) i e = by_test (same_path q x.thread.who.path) refl i e (λ j
 pub found : (q : List ℕ) (ys : List Task) (i : ℕ) (y : Task) → nth ys i ≡ Some y → q ≡ y.thread.who.path → tasks_sum (is_named q) ys ≤ 1 →
     place_of q ys ≡ Some i
 found q [] i y e f h = none_some e
-found q (x ∷ xs) zero y e f h = ap (λ b. cond b (Some 0) (option_map suc (place_of q xs))) (is_same q x.thread.who.path (subst (λ (t : Task). q ≡
-    t.thread.who.path) (sym (some_is e)) f))
+found q (x ∷ xs) zero y e f h = ap (λ b. cond b (Some 0) (option_map suc (place_of q xs)))
+    (is_same q x.thread.who.path (subst (λ (t : Task). q ≡ t.thread.who.path) (sym (some_is e)) f))
 found q (x ∷ xs) (suc i) y e f h = by_test (same_path q x.thread.who.path) refl (found q xs i y e f)
   where
     there : 1 ≤ tasks_sum (is_named q) xs
-    there = let g = member_at (λ t. (f : Task → ℕ) → f t ≤ tasks_sum f xs) xs i y (members xs) e (is_named q) in let j = ap one (is_same q y.thread.who.path f)
+    there = let g = member_at (λ t. (f : Task → ℕ) → f t ≤ tasks_sum f xs) xs i y (members xs) e (is_named q) in let j =
+        ap one (is_same q y.thread.who.path f)
         in omega (arith, g, j)
 
     no : (i j : ℕ) → i + j ≤ 1 → i ≡ 1 → 1 ≤ j → ⊥
@@ -178,8 +181,8 @@ is_arm n (did v ∷ gs) zero e h = absurd (no (some_is e))
     no : did v ≡ runs n → ⊥
     no e = cc
 is_arm n (did v ∷ gs) (suc i) e h = ap (option_map suc) (is_arm n gs i e h)
-is_arm n (runs j ∷ gs) zero e h = ap (λ b. cond b (Some 0) (option_map suc (arm_of n gs))) (subst (λ k. eqn n k ≡ true) (same (sym (some_is e))) (eqn_same
-    n))
+is_arm n (runs j ∷ gs) zero e h = ap (λ b. cond b (Some 0) (option_map suc (arm_of n gs)))
+    (subst (λ k. eqn n k ≡ true) (same (sym (some_is e))) (eqn_same n))
   where
     same : {i j : ℕ} → runs i ≡ runs j → i ≡ j
     same e = cc
@@ -191,7 +194,8 @@ is_arm n (runs j ∷ gs) (suc i) e h = by_test (eqn n j) refl (is_arm n gs i e)
     less : (i j : ℕ) → i + j ≤ 1 → j ≤ 1
     less i j e = omega (arith, e)
 
-    by_test : (b : Bool) → eqn n j ≡ b → (runs_in n gs ≤ 1 → arm_of n gs ≡ Some i) → cond b (Some 0) (option_map suc (arm_of n gs)) ≡ Some (suc i)
+    by_test : (b : Bool) → eqn n j ≡ b → (runs_in n gs ≤ 1 → arm_of n gs ≡ Some i) →
+        cond b (Some 0) (option_map suc (arm_of n gs)) ≡ Some (suc i)
     by_test true g k = absurd (no (one (eqn n j)) (runs_in n gs) h (ap one g) (runs_there n gs i e))
     by_test false g k = ap (option_map suc) (k (less (one (eqn n j)) (runs_in n gs) h))
 
@@ -202,8 +206,8 @@ arm_runs n (did v ∷ gs) zero e = suc_not (arm_of n gs) e
 arm_runs n (did v ∷ gs) (suc i) e = arm_runs n gs i (suc_of (arm_of n gs) i e)
 arm_runs n (runs j ∷ gs) i e = by_test (eqn n j) i e (λ i. arm_runs n gs i)
   where
-    by_test : (b : Bool) (i : ℕ) → cond b (Some 0) (option_map suc (arm_of n gs)) ≡ Some i → ((i : ℕ) → arm_of n gs ≡ Some i → is_run n gs ≡ true) →
-        cond b true (is_run n gs) ≡ true
+    by_test : (b : Bool) (i : ℕ) → cond b (Some 0) (option_map suc (arm_of n gs)) ≡ Some i →
+        ((i : ℕ) → arm_of n gs ≡ Some i → is_run n gs ≡ true) → cond b true (is_run n gs) ≡ true
     by_test true i g h = refl
     by_test false zero g h = suc_not (arm_of n gs) g
     by_test false (suc i) g h = h i (suc_of (arm_of n gs) i g)
@@ -217,8 +221,8 @@ no_arm n [] e = refl
 no_arm n (did v ∷ gs) e = no_arm n gs (no_suc (arm_of n gs) e)
 no_arm n (runs j ∷ gs) e = by_test (eqn n j) e (no_arm n gs)
   where
-    by_test : (b : Bool) → cond b (Some 0) (option_map suc (arm_of n gs)) ≡ None → (arm_of n gs ≡ None → is_run n gs ≡ false) → cond b true (is_run n gs) ≡
-        false
+    by_test : (b : Bool) → cond b (Some 0) (option_map suc (arm_of n gs)) ≡ None → (arm_of n gs ≡ None → is_run n gs ≡ false) →
+        cond b true (is_run n gs) ≡ false
     by_test true g h = none_some (sym g)
     by_test false g h = h (no_suc (arm_of n gs) g)
 
@@ -268,7 +272,8 @@ nth_map f (x ∷ xs) (suc i) = nth_map f xs i
 
 count_less : (l k : ℕ) (fs : List Frame) → l ≤ k → count (λ (f : Frame). ltn k f.life.born) fs ≤ count (λ (f : Frame). ltn l f.life.born) fs
 count_less l k [] h = omega arith
-count_less l k (f ∷ fs) h = let g = count_less l k fs h in by_test (ltn k f.life.born) (ltn l f.life.born) (ltn_less l k f.life.born h) (count (λ (f :
+count_less l k (f ∷ fs) h = let g = count_less l k fs h in by_test (ltn k f.life.born) (ltn l f.life.born) (ltn_less l k f.life.born h)
+    (count (λ (f :
     Frame). ltn k f.life.born) fs) (count (λ (f : Frame). ltn l f.life.born) fs) g
   where
     by_test : (b d : Bool) → one b ≤ one d → (i j : ℕ) → i ≤ j → cond b (suc i) i ≤ cond d (suc j) j
@@ -315,12 +320,13 @@ module _ (ys : List Task) (names : Each Named ys) (unique : (p : List ℕ) → t
         root = (kp.task ys z).root;
         frames = (kp.task ys z).frames;
         rest = (kp.task ys z).rest;
-      })) (h.3 ∙ ap Some (same_task i y h.0 at h.1)) ∙ role_test i place (kp.task ys z).root (arm_in z.thread.who.number y.rest) (depth_of z.thread.who.number y)
+      })) (h.3 ∙ ap Some (same_task i y h.0 at h.1)) ∙
+          role_test i place (kp.task ys z).root (arm_in z.thread.who.number y.rest) (depth_of z.thread.who.number y)
           (kp.task ys z).frames (kp.task ys z).rest),
     )
 
-    tally : (g : Task → ℕ) (zs : List Task) → Each (λ z. one (is_arm_of i place (kp.task ys z)) ≡ g z) zs → count (is_arm_of i place) (map (kp.task ys) zs) ≡
-        tasks_sum g zs
+    tally : (g : Task → ℕ) (zs : List Task) → Each (λ z. one (is_arm_of i place (kp.task ys z)) ≡ g z) zs →
+        count (is_arm_of i place) (map (kp.task ys) zs) ≡ tasks_sum g zs
     tally g [] a = refl
     tally g (z ∷ zs) a = by_test (is_arm_of i place (kp.task ys z)) (g z) (tasks_sum g zs) a.0 (tally g zs a.1)
       where
@@ -336,8 +342,8 @@ module _ (ys : List Task) (names : Each Named ys) (unique : (p : List ℕ) → t
     no_child : ((n : ℕ) → matches (arm_in n y.rest) place ≡ false) → count (is_arm_of i place) (map (kp.task ys) ys) ≡ 0
     no_child f = tally (λ z. 0) ys (each ys) ∙ nothing ys
       where
-        by_test : (z : Task) → (is_child (Some i) (place_of z.thread.who.up ys) ≡ true) ⊎ (is_child (Some i) (place_of z.thread.who.up ys) ≡ false) →
-            one (is_arm_of i place (kp.task ys z)) ≡ 0
+        by_test : (z : Task) → (is_child (Some i) (place_of z.thread.who.up ys) ≡ true) ⊎
+            (is_child (Some i) (place_of z.thread.who.up ys) ≡ false) → one (is_arm_of i place (kp.task ys z)) ≡ 0
         by_test z (inl e) = ap one ((its_child z (child_is i (place_of z.thread.who.up ys) e)).1 ∙ f z.thread.who.number)
         by_test z (inr e) = ap one (other_child z e)
 
@@ -346,18 +352,21 @@ module _ (ys : List Task) (names : Each Named ys) (unique : (p : List ℕ) → t
         each (z ∷ zs) = (by_test z (two_ways (is_child (Some i) (place_of z.thread.who.up ys))), each zs)
 
     -- the arm that runs there is the task of its number
-    one_child : (gs : List Part) (n : ℕ) → ((m : ℕ) → arm_in m y.rest ≡ arm_of m gs) → nth gs place ≡ Some (runs n) → runs_in n gs ≤ 1 → Named y →
-        count (is_arm_of i place) (map (kp.task ys) ys) ≡ tasks_sum (is_named (y.thread.who.path ++ n ∷ [])) ys
+    one_child : (gs : List Part) (n : ℕ) → ((m : ℕ) → arm_in m y.rest ≡ arm_of m gs) → nth gs place ≡ Some (runs n) → runs_in n gs ≤ 1 →
+        Named y → count (is_arm_of i place) (map (kp.task ys) ys) ≡ tasks_sum (is_named (y.thread.who.path ++ n ∷ [])) ys
     one_child gs n same_arm e few own = tally (is_named (y.thread.who.path ++ n ∷ [])) ys (each ys names)
       where
-        by_number : (z : Task) → z.thread.who.path ≡ y.thread.who.path ++ z.thread.who.number ∷ [] → (eqn n z.thread.who.number ≡ true) ⊎ (eqn n
-            z.thread.who.number ≡ false) → one (matches (arm_in z.thread.who.number y.rest) place) ≡ is_named (y.thread.who.path ++ n ∷ []) z
+        by_number : (z : Task) → z.thread.who.path ≡ y.thread.who.path ++ z.thread.who.number ∷ [] → (eqn n z.thread.who.number ≡ true) ⊎
+            (eqn n z.thread.who.number ≡ false) → one (matches (arm_in z.thread.who.number y.rest) place) ≡
+            is_named (y.thread.who.path ++ n ∷ []) z
         by_number z p (inl f) = let g = eqn_is n z.thread.who.number f in
-            ap one (ap (λ o. matches o place) (same_arm z.thread.who.number ∙ (ap (λ m. arm_of m gs) (sym g) ∙ is_arm n gs place e few)) ∙ eqb_same place) ∙ sym (ap
-            one (is_same (y.thread.who.path ++ n ∷ []) z.thread.who.path (ap (λ m. y.thread.who.path ++ m ∷ []) g ∙ sym p)))
-        by_number z p (inr f) = ap one (off (two_ways (matches (arm_in z.thread.who.number y.rest) place))) ∙ sym (ap one (not_same (y.thread.who.path ++ n ∷
-            []) z.thread.who.path (λ h. clash (eqn n z.thread.who.number) (differ (end_is y.thread.who.path y.thread.who.path n z.thread.who.number (h ∙
-            p)).1) f)))
+            ap one (ap (λ o. matches o place) (same_arm z.thread.who.number ∙ (ap (λ m. arm_of m gs) (sym g) ∙ is_arm n gs place e few)) ∙
+            eqb_same place) ∙ sym (ap one (is_same (y.thread.who.path ++ n ∷ []) z.thread.who.path
+            (ap (λ m. y.thread.who.path ++ m ∷ []) g ∙ sym p)))
+        by_number z p (inr f) = ap one (off (two_ways (matches (arm_in z.thread.who.number y.rest) place))) ∙
+            sym (ap one (not_same (y.thread.who.path ++ n ∷ []) z.thread.who.path
+            (λ h. clash (eqn n z.thread.who.number) (differ (end_is y.thread.who.path y.thread.who.path n z.thread.who.number (h ∙ p)).1)
+            f)))
           where
             differ : n ≡ z.thread.who.number → eqn n z.thread.who.number ≡ true
             differ h = subst (λ m. eqn n m ≡ true) h (eqn_same n)
@@ -365,10 +374,11 @@ module _ (ys : List Task) (names : Each Named ys) (unique : (p : List ℕ) → t
             runs_as : {j k : ℕ} → Some (runs j) ≡ Some (runs k) → j ≡ k
             runs_as h = cc
 
-            off : (matches (arm_in z.thread.who.number y.rest) place ≡ true) ⊎ (matches (arm_in z.thread.who.number y.rest) place ≡ false) → matches (arm_in
-                z.thread.who.number y.rest) place ≡ false
-            off (inl h) = clash (eqn n z.thread.who.number) (differ (runs_as (sym e ∙ arm_is z.thread.who.number gs place (sym (same_arm z.thread.who.number) ∙
-                matches_is (arm_in z.thread.who.number y.rest) place h)))) f
+            off : (matches (arm_in z.thread.who.number y.rest) place ≡ true) ⊎ (matches (arm_in z.thread.who.number y.rest) place ≡ false) →
+                matches (arm_in z.thread.who.number y.rest) place ≡ false
+            off (inl h) = clash (eqn n z.thread.who.number)
+                (differ (runs_as (sym e ∙ arm_is z.thread.who.number gs place
+                (sym (same_arm z.thread.who.number) ∙ matches_is (arm_in z.thread.who.number y.rest) place h)))) f
             off (inr h) = h
 
         none_named : (z : Task) → Named z → (place_of z.thread.who.up ys ≡ Some i → ⊥) → is_named (y.thread.who.path ++ n ∷ []) z ≡ 0
@@ -376,18 +386,20 @@ module _ (ys : List Task) (names : Each Named ys) (unique : (p : List ℕ) → t
           where
             by_role : (q : _) → RoleIs q z.thread.who → y.thread.who.path ++ n ∷ [] ≡ z.thread.who.path → ⊥
             by_role (root entry) b h = root_no_part y.thread.who.path n z.thread.who.number (own_path y own) (h ∙ b.1)
-            by_role part b h = away (found z.thread.who.up ys i y at (sym (end_is y.thread.who.path z.thread.who.up n z.thread.who.number (h ∙ b.0)).0)
-                (unique z.thread.who.up))
+            by_role part b h = away (found z.thread.who.up ys i y at
+                (sym (end_is y.thread.who.path z.thread.who.up n z.thread.who.number (h ∙ b.0)).0) (unique z.thread.who.up))
 
-        by_test : (z : Task) → Named z → (is_child (Some i) (place_of z.thread.who.up ys) ≡ true) ⊎ (is_child (Some i) (place_of z.thread.who.up ys) ≡ false) →
+        by_test : (z : Task) → Named z → (is_child (Some i) (place_of z.thread.who.up ys) ≡ true) ⊎
+            (is_child (Some i) (place_of z.thread.who.up ys) ≡ false) →
             one (is_arm_of i place (kp.task ys z)) ≡ is_named (y.thread.who.path ++ n ∷ []) z
         by_test z a (inl f) = let h = its_child z (child_is i (place_of z.thread.who.up ys) f) in
             ap one h.1 ∙ by_number z (part_path z.thread.who.role z.thread.who a (subst IsSome (sym h.0) (own_path y own)) ∙ ap (λ up. up ++
             z.thread.who.number ∷ []) h.0) (two_ways (eqn n z.thread.who.number))
-        by_test z a (inr f) = ap one (other_child z f) ∙ sym (none_named z a (λ h. clash (is_child (Some i) (place_of z.thread.who.up ys)) (ap (is_child (Some
-            i)) h ∙ eqb_same i) f))
+        by_test z a (inr f) = ap one (other_child z f) ∙
+            sym (none_named z a (λ h. clash (is_child (Some i) (place_of z.thread.who.up ys)) (ap (is_child (Some i)) h ∙ eqb_same i) f))
 
-        each : (zs : List Task) → Each Named zs → Each (λ z. one (is_arm_of i place (kp.task ys z)) ≡ is_named (y.thread.who.path ++ n ∷ []) z) zs
+        each : (zs : List Task) → Each Named zs → Each
+            (λ z. one (is_arm_of i place (kp.task ys z)) ≡ is_named (y.thread.who.path ++ n ∷ []) z) zs
         each [] a = tt
         each (z ∷ zs) a = (by_test z a.0 (two_ways (is_child (Some i) (place_of z.thread.who.up ys))), each zs a.1)
 
@@ -405,13 +417,15 @@ module _ (ys : List Task) (names : Each Named ys) (unique : (p : List ℕ) → t
 
         asks : (n : ℕ) → runs_in n gs ≤ tasks_sum (awaits y.thread.who.path n) ys
         asks n = let h = member_at (λ t. (f : Task → ℕ) → f t ≤ tasks_sum f ys) ys i y (members ys) at (awaits y.thread.who.path n) in
-            subst (λ j. j ≤ tasks_sum (awaits y.thread.who.path n) ys) (ap (in_group (arms_of y.thread.who.path n) y.thread.who.path) e ∙ ap (λ b. cond b
-            (runs_in n gs) 0) (same_self y.thread.who.path)) h
+            subst (λ j. j ≤ tasks_sum (awaits y.thread.who.path n) ys)
+            (ap (in_group (arms_of y.thread.who.path n) y.thread.who.path) e ∙
+            ap (λ b. cond b (runs_in n gs) 0) (same_self y.thread.who.path)) h
 
         no_arm_there : (n : ℕ) → (nth gs place ≡ Some (runs n) → ⊥) → matches (arm_in n y.rest) place ≡ false
         no_arm_there n away = by_test (two_ways (matches (arm_in n y.rest) place))
           where
-            by_test : (matches (arm_in n y.rest) place ≡ true) ⊎ (matches (arm_in n y.rest) place ≡ false) → matches (arm_in n y.rest) place ≡ false
+            by_test : (matches (arm_in n y.rest) place ≡ true) ⊎ (matches (arm_in n y.rest) place ≡ false) →
+                matches (arm_in n y.rest) place ≡ false
             by_test (inl h) = absurd (away (arm_is n gs place (sym (same_arm n) ∙ matches_is (arm_in n y.rest) place h)))
             by_test (inr h) = h
 
@@ -431,22 +445,24 @@ module _ (ys : List Task) (names : Each Named ys) (unique : (p : List ℕ) → t
             never : {n : ℕ} → Some (did v) ≡ Some (runs n) → ⊥
             never h = cc
         by_part (Some (runs n)) f =
-            one_child i y at place gs n same_arm f (most (runs_in n gs) (tasks_sum (awaits y.thread.who.path n) ys) (tasks_sum (is_named (y.thread.who.path ++ n ∷
-            [])) ys) (asks n) (there y.thread.who.path (own_path y own) n) (unique (y.thread.who.path ++ n ∷ []))) own ∙ one_of (runs_in n gs) (tasks_sum
-            (awaits y.thread.who.path n) ys) (tasks_sum (is_named (y.thread.who.path ++ n ∷ [])) ys) (runs_there n gs place f) (asks n) (there
-            y.thread.who.path (own_path y own) n) (unique (y.thread.who.path ++ n ∷ []))
+            one_child i y at place gs n same_arm f (most (runs_in n gs) (tasks_sum (awaits y.thread.who.path n) ys)
+            (tasks_sum (is_named (y.thread.who.path ++ n ∷ [])) ys) (asks n) (there y.thread.who.path (own_path y own) n)
+            (unique (y.thread.who.path ++ n ∷ []))) own ∙
+            one_of (runs_in n gs) (tasks_sum (awaits y.thread.who.path n) ys) (tasks_sum (is_named (y.thread.who.path ++ n ∷ [])) ys)
+            (runs_there n gs place f) (asks n) (there y.thread.who.path (own_path y own) n) (unique (y.thread.who.path ++ n ∷ []))
 
     pub arms_fit : EachAt (ArmsRun (map (kp.task ys) ys)) 0 (map (kp.task ys) ys)
     arms_fit = each_at (ArmsRun (map (kp.task ys) ys)) 0 (map (kp.task ys) ys) (λ i x e. let h = of_map (kp.task ys) ys i x e in
-        subst (λ (t : KeptTask). ArmsRun (map (kp.task ys) ys) (0 + i) t) (sym h.2) (subst (λ j. ArmsRun (map (kp.task ys) ys) j (kp.task ys h.0)) (none i) (λ
-        place. arms_run i h.0 h.1 place h.0.rest refl)))
+        subst (λ (t : KeptTask). ArmsRun (map (kp.task ys) ys) (0 + i) t) (sym h.2)
+        (subst (λ j. ArmsRun (map (kp.task ys) ys) j (kp.task ys h.0)) (none i) (λ place. arms_run i h.0 h.1 place h.0.rest refl)))
       where
         none : (i : ℕ) → i ≡ 0 + i
         none i = omega arith
 
   -- ---- the order of siblings
 
-  module _ (later : (a : List ℕ) → IsSome a → (n k : ℕ) → n ≤ k → tasks_sum (weight (λ path. one (same_path (a ++ n ∷ []) path)) (skips a n k)) ys ≤ 1) where
+  module _ (later : (a : List ℕ) → IsSome a → (n k : ℕ) → n ≤ k →
+      tasks_sum (weight (λ path. one (same_path (a ++ n ∷ []) path)) (skips a n k)) ys ≤ 1) where
     abbrev Member : Task → Type 0
     Member t = Named t × ((f : Task → ℕ) → f t ≤ tasks_sum f ys)
 
@@ -459,40 +475,46 @@ module _ (ys : List Task) (names : Each Named ys) (unique : (p : List ℕ) → t
     sums_add f g (x ∷ xs) = let h = sums_add f g xs in omega (arith, h)
 
     -- an arm has no younger sibling in the background
-    no_younger : (y u : Task) (gs : List Part) (n m : ℕ) → Member y → Member u → in_group (skips y.thread.who.path n m) y.thread.who.path y.rest ≡
-        skips y.thread.who.path n m y.thread.who.path gs → u.thread.who.path ≡ y.thread.who.path ++ n ∷ [] → n < m → is_run m gs ≡ true → is_run n gs ≡ false → ⊥
+    no_younger : (y u : Task) (gs : List Part) (n m : ℕ) → Member y → Member u →
+        in_group (skips y.thread.who.path n m) y.thread.who.path y.rest ≡ skips y.thread.who.path n m y.thread.who.path gs →
+        u.thread.who.path ≡ y.thread.who.path ++ n ∷ [] → n < m → is_run m gs ≡ true → is_run n gs ≡ false → ⊥
     no_younger y u gs n m a b e p h f g =
         let i = a.1 (λ t. in_group (skips y.thread.who.path n m) t.thread.who.path t.rest) in
         let j = b.1 (is_named (y.thread.who.path ++ n ∷ [])) in
         let q = ap one (is_same (y.thread.who.path ++ n ∷ []) u.thread.who.path (sym p)) in
         let z = later y.thread.who.path (own_path y a.0) n m (less n m h) in
-        let s = sums_add (λ t. in_group (skips y.thread.who.path n m) t.thread.who.path t.rest) (is_named (y.thread.who.path ++ n ∷ [])) ys in
-        two (tasks_sum (λ t. in_group (skips y.thread.who.path n m) t.thread.who.path t.rest) ys) (tasks_sum (is_named (y.thread.who.path ++ n ∷ [])) ys)
-        (tasks_sum (weight (λ path. one (same_path (y.thread.who.path ++ n ∷ []) path)) (skips y.thread.who.path n m)) ys) _ _ s i (e ∙ skip) j q z
+        let s = sums_add (λ t. in_group (skips y.thread.who.path n m) t.thread.who.path t.rest) (is_named (y.thread.who.path ++ n ∷ []))
+        ys in
+        two (tasks_sum (λ t. in_group (skips y.thread.who.path n m) t.thread.who.path t.rest) ys)
+        (tasks_sum (is_named (y.thread.who.path ++ n ∷ [])) ys)
+        (tasks_sum (weight (λ path. one (same_path (y.thread.who.path ++ n ∷ []) path)) (skips y.thread.who.path n m)) ys) _ _ s i
+        (e ∙ skip) j q z
       where
         less : (i j : ℕ) → i < j → i ≤ j
         less i j h = omega (arith, h)
 
         skip : skips y.thread.who.path n m y.thread.who.path gs ≡ 1
-        skip = ap (λ b. cond b (cond (is_run m gs) (cond (is_run n gs) 0 1) 0) 0) (same_self y.thread.who.path) ∙ (ap (λ b. cond b (cond (is_run n gs) 0 1) 0)
-            f ∙ ap (λ b. cond b 0 1) g)
+        skip = ap (λ b. cond b (cond (is_run m gs) (cond (is_run n gs) 0 1) 0) 0) (same_self y.thread.who.path) ∙
+            (ap (λ b. cond b (cond (is_run n gs) 0 1) 0) f ∙ ap (λ b. cond b 0 1) g)
 
         two : (x y all i j : ℕ) → all ≡ x + y → i ≤ x → i ≡ 1 → j ≤ y → j ≡ 1 → all ≤ 1 → ⊥
         two x y all i j e f g h k l = omega (arith, e, f, g, h, k, l)
 
-    may_follow : (y t u : Task) → Member y → Member u → u.thread.who.path ≡ y.thread.who.path ++ u.thread.who.number ∷ [] → u.thread.who.number <
-        t.thread.who.number → (q : Rest) → y.rest ≡ q → (o p : Option ℕ) → arm_in t.thread.who.number q ≡ o → arm_in u.thread.who.number q ≡ p →
-        MayFollow (arm_or o (depth_of t.thread.who.number y)) (arm_or p (depth_of u.thread.who.number y))
-    may_follow y t u a b e h q r None None f g = depth_less u.thread.who.number t.thread.who.number y (less u.thread.who.number t.thread.who.number h)
+    may_follow : (y t u : Task) → Member y → Member u → u.thread.who.path ≡ y.thread.who.path ++ u.thread.who.number ∷ [] →
+        u.thread.who.number < t.thread.who.number → (q : Rest) → y.rest ≡ q → (o p : Option ℕ) → arm_in t.thread.who.number q ≡ o →
+        arm_in u.thread.who.number q ≡ p → MayFollow (arm_or o (depth_of t.thread.who.number y)) (arm_or p (depth_of u.thread.who.number y))
+    may_follow y t u a b e h q r None None f g =
+        depth_less u.thread.who.number t.thread.who.number y (less u.thread.who.number t.thread.who.number h)
       where
         less : (i j : ℕ) → i < j → i ≤ j
         less i j h = omega (arith, h)
     may_follow y t u a b e h q r None (Some j) f g = tt
     may_follow y t u a b e h q r (Some i) (Some j) f g = tt
     may_follow y t u a b e h (asleep w) r (Some i) None f g = none_some f
-    may_follow y t u a b e h (group k p gs) r (Some i) None f g = no_younger y u gs u.thread.who.number t.thread.who.number a b (ap (in_group (skips
-        y.thread.who.path u.thread.who.number t.thread.who.number) y.thread.who.path) r) e h (arm_runs t.thread.who.number gs i f) (no_arm
-        u.thread.who.number gs g)
+    may_follow y t u a b e h (group k p gs) r (Some i) None f g =
+        no_younger y u gs u.thread.who.number t.thread.who.number a b
+        (ap (in_group (skips y.thread.who.path u.thread.who.number t.thread.who.number) y.thread.who.path) r) e h
+        (arm_runs t.thread.who.number gs i f) (no_arm u.thread.who.number gs g)
 
     in_order : (t u : Task) → Member t → Member u → Older t u → InOrder (kp.task ys t) (kp.task ys u)
     in_order t u a b h p e f = let x = placed t.thread.who.up ys p e in let z = placed u.thread.who.up ys p f in
@@ -500,11 +522,13 @@ module _ (ys : List Task) (names : Each Named ys) (unique : (p : List ℕ) → t
         let path = z.2 ∙ ap (λ (t : Task). t.thread.who.path) same in
         let own = member_at Member ys p x.0 (both_each Named (λ t. (f : Task → ℕ) → f t ≤ tasks_sum f ys) ys names (members ys)) x.1 in
         let some = own_path x.0 own.0 in
-        subst (λ o. MayFollow (role_in o t.thread.who.number) (role_in (task_of u.thread.who.up ys) u.thread.who.number)) (sym x.3) (subst (λ o. MayFollow
-        (role_in (Some x.0) t.thread.who.number) (role_in o u.thread.who.number)) (sym (z.3 ∙ ap Some same)) (may_follow x.0 t u own b (part_path
-        u.thread.who.role u.thread.who b.0 (subst IsSome (sym path) some) ∙ ap (λ up. up ++ u.thread.who.number ∷ []) path) (h (subst IsSome (sym x.2) some)
-        (x.2 ∙ sym path)) x.0.rest refl (arm_in t.thread.who.number x.0.rest) (arm_in u.thread.who.number x.0.rest) refl refl))
+        subst (λ o. MayFollow (role_in o t.thread.who.number) (role_in (task_of u.thread.who.up ys) u.thread.who.number)) (sym x.3)
+        (subst (λ o. MayFollow (role_in (Some x.0) t.thread.who.number) (role_in o u.thread.who.number)) (sym (z.3 ∙ ap Some same))
+        (may_follow x.0 t u own b (part_path u.thread.who.role u.thread.who b.0 (subst IsSome (sym path) some) ∙
+        ap (λ up. up ++ u.thread.who.number ∷ []) path) (h (subst IsSome (sym x.2) some) (x.2 ∙ sym path)) x.0.rest refl
+        (arm_in t.thread.who.number x.0.rest) (arm_in u.thread.who.number x.0.rest) refl refl))
 
     pub order_fits : EachTwo Older ys → EachTwo InOrder (map (kp.task ys) ys)
-    order_fits a = two_map InOrder (kp.task ys) ys (two_as Member Older (λ t u. InOrder (kp.task ys t) (kp.task ys u)) in_order ys (both_each Named (λ t. (f :
-        Task → ℕ) → f t ≤ tasks_sum f ys) ys names (members ys)) a)
+    order_fits a = two_map InOrder (kp.task ys) ys
+        (two_as Member Older (λ t u. InOrder (kp.task ys t) (kp.task ys u)) in_order ys
+        (both_each Named (λ t. (f : Task → ℕ) → f t ≤ tasks_sum f ys) ys names (members ys)) a)

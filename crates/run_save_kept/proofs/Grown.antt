@@ -1,5 +1,6 @@
 -- The trees of tasks, planted task by task in the order in which they are kept, are the trees again.
-use Rattle.std.proofs.Common.{◌≡◌, ℕ, suc, ◌+◌, ◌≤◌, ◌<◌, length, map, List, [], ◌∷◌, ◌++◌, Bool, true, false, cond, refl, sym, subst, ap, ◌∙◌}
+use Rattle.std.proofs.Common.{◌≡◌, ℕ, suc, ◌+◌, ◌≤◌, ◌<◌, length, map, List, [], ◌∷◌, ◌++◌, Bool, true, false, cond, refl, sym, subst, ap}
+use Rattle.std.proofs.Common.{◌∙◌}
 use Rattle.std.proofs.Common.{arith, ◌⊎◌}
 use mathlib.Core.Logic.{inl, inr}
 use Rattle.verse_code_machine.specs.Tasks.{Role, root, part, Who, Task, same_path}
@@ -103,7 +104,10 @@ deeper (i ∷ a) [] x d e f g = absurd (never (length a) f)
     never : (n : ℕ) → suc n ≤ 0 → ⊥
     never n e = omega (arith, e)
 deeper (i ∷ a) (k ∷ b) [] d e f g = absurd d
-deeper (i ∷ a) (k ∷ b) (j ∷ x) d e f g = (d.0 ∙ sym e.0, deeper a b x d.1 e.1 (less (length a) (length b) f) (λ h. g (both (sym (d.0 ∙ sym e.0)) h)))
+deeper (i ∷ a) (k ∷ b) (j ∷ x) d e f g = (
+  d.0 ∙ sym e.0,
+  deeper a b x d.1 e.1 (less (length a) (length b) f) (λ h. g (both (sym (d.0 ∙ sym e.0)) h)),
+)
   where
     less : (n m : ℕ) → suc n ≤ suc m → n ≤ m
     less n m e = omega (arith, e)
@@ -136,7 +140,8 @@ down_beneath a q (x ∷ xs) n d = by_end d.1 (down_beneath a x.thread.who.path x
     own : Beneath q x.thread.who.path
     own = subst (Beneath q) (sym (n.0 ∙ ap (λ up. up ++ x.thread.who.number ∷ []) d.0)) (end_beneath q x.thread.who.number)
 
-    by_end : (x.thread.who.path ≡ a) ⊎ Down a x.thread.who.path xs → (Down a x.thread.who.path xs → Beneath x.thread.who.path a) → Beneath q a
+    by_end : (x.thread.who.path ≡ a) ⊎ Down a x.thread.who.path xs → (Down a x.thread.who.path xs → Beneath x.thread.who.path a) →
+        Beneath q a
     by_end (inl e) f = subst (Beneath q) e own
     by_end (inr e) f = beneath_on q x.thread.who.path a own (f e)
 
@@ -144,8 +149,8 @@ down_beneath a q (x ∷ xs) n d = by_end d.1 (down_beneath a x.thread.who.path x
 down_stays : (a q : List ℕ) (y : Task) (xs : List Task) → Each Ends xs → (a ≡ y.thread.who.up) ⊎ Beneath a y.thread.who.up → Beneath q a →
     Down y.thread.who.up q xs → Down a q (behind_parent y xs)
 down_stays a q y [] n h b d = absurd d
-down_stays a q y (x ∷ xs) n h b d = by_test (two_ways (same_path y.thread.who.up x.thread.who.path)) (two_ways (same_path a x.thread.who.path)) (λ g e. down_stays a
-    x.thread.who.path y xs n.1 h g e)
+down_stays a q y (x ∷ xs) n h b d = by_test (two_ways (same_path y.thread.who.up x.thread.who.path))
+    (two_ways (same_path a x.thread.who.path)) (λ g e. down_stays a x.thread.who.path y xs n.1 h g e)
   where
     last_longer : length x.thread.who.path ≡ suc (length q)
     last_longer = ap length (n.0 ∙ ap (λ up. up ++ x.thread.who.number ∷ []) d.0) ∙ one_longer q x.thread.who.number
@@ -155,20 +160,20 @@ down_stays a q y (x ∷ xs) n h b d = by_test (two_ways (same_path y.thread.who.
 
     at_parent : y.thread.who.up ≡ x.thread.who.path → (a ≡ y.thread.who.up) ⊎ Beneath a y.thread.who.up → x.thread.who.path ≡ a
     at_parent e (inl f) = sym (f ∙ e)
-    at_parent e (inr f) = absurd (equal (length q) (length x.thread.who.path) (length a) last_longer (beneath_longer q a b) (subst (λ u. length a < length u) e
-        (beneath_longer a y.thread.who.up f)))
+    at_parent e (inr f) = absurd (equal (length q) (length x.thread.who.path) (length a) last_longer (beneath_longer q a b)
+        (subst (λ u. length a < length u) e (beneath_longer a y.thread.who.up f)))
 
     -- the task encloses the parent, so it is the one of the path or encloses that
-    further : (x.thread.who.path ≡ y.thread.who.up) ⊎ Down y.thread.who.up x.thread.who.path xs → same_path y.thread.who.up x.thread.who.path ≡ false → Down
-        y.thread.who.up x.thread.who.path xs
+    further : (x.thread.who.path ≡ y.thread.who.up) ⊎ Down y.thread.who.up x.thread.who.path xs →
+        same_path y.thread.who.up x.thread.who.path ≡ false → Down y.thread.who.up x.thread.who.path xs
     further (inl e) f = clash (same_path y.thread.who.up x.thread.who.path) (is_same y.thread.who.up x.thread.who.path (sym e)) f
     further (inr e) f = e
 
-    encloses : Beneath x.thread.who.path y.thread.who.up → (a ≡ y.thread.who.up) ⊎ Beneath a y.thread.who.up → same_path a x.thread.who.path ≡ false → Beneath
-        x.thread.who.path a
+    encloses : Beneath x.thread.who.path y.thread.who.up → (a ≡ y.thread.who.up) ⊎ Beneath a y.thread.who.up →
+        same_path a x.thread.who.path ≡ false → Beneath x.thread.who.path a
     encloses e (inl f) g = subst (Beneath x.thread.who.path) (sym f) e
-    encloses e (inr f) g = deeper x.thread.who.path a y.thread.who.up e f (more (length q) (length x.thread.who.path) (length a) last_longer (beneath_longer q
-        a b)) (not_same_is g)
+    encloses e (inr f) g = deeper x.thread.who.path a y.thread.who.up e f
+        (more (length q) (length x.thread.who.path) (length a) last_longer (beneath_longer q a b)) (not_same_is g)
       where
         more : (i j k : ℕ) → j ≡ suc i → i < k → j ≤ k
         more i j k e f = omega (arith, e, f)
@@ -180,15 +185,17 @@ down_stays a q y (x ∷ xs) n h b d = by_test (two_ways (same_path y.thread.who.
             both true e f = cc
             both false e f = cc
 
-    by_test : (same_path y.thread.who.up x.thread.who.path ≡ true) ⊎ (same_path y.thread.who.up x.thread.who.path ≡ false) → (same_path a x.thread.who.path ≡
-        true) ⊎ (same_path a x.thread.who.path ≡ false) → (Beneath x.thread.who.path a → Down y.thread.who.up x.thread.who.path xs → Down a
-        x.thread.who.path (behind_parent y xs)) → Down a q (cond (same_path y.thread.who.up x.thread.who.path) (x ∷ y ∷ xs) (x ∷ behind_parent y xs))
+    by_test : (same_path y.thread.who.up x.thread.who.path ≡ true) ⊎ (same_path y.thread.who.up x.thread.who.path ≡ false) →
+        (same_path a x.thread.who.path ≡ true) ⊎ (same_path a x.thread.who.path ≡ false) →
+        (Beneath x.thread.who.path a → Down y.thread.who.up x.thread.who.path xs → Down a x.thread.who.path (behind_parent y xs)) →
+        Down a q (cond (same_path y.thread.who.up x.thread.who.path) (x ∷ y ∷ xs) (x ∷ behind_parent y xs))
     by_test (inl e) t f = subst (λ t. Down a q (cond t (x ∷ y ∷ xs) (x ∷ behind_parent y xs))) (sym e) (
       d.0,
       inl (at_parent (same_is y.thread.who.up
           x.thread.who.path e) h),
     )
-    by_test (inr e) (inl t) f = subst (λ t. Down a q (cond t (x ∷ y ∷ xs) (x ∷ behind_parent y xs))) (sym e) (d.0, inl (sym (same_is a x.thread.who.path t)))
+    by_test (inr e) (inl t) f = subst (λ t. Down a q (cond t (x ∷ y ∷ xs) (x ∷ behind_parent y xs))) (sym e)
+        (d.0, inl (sym (same_is a x.thread.who.path t)))
     by_test (inr e) (inr t) f = subst (λ t. Down a q (cond t (x ∷ y ∷ xs) (x ∷ behind_parent y xs))) (sym e) (
       d.0,
       inr (f (encloses (down_beneath
@@ -200,14 +207,14 @@ down_child : (q : List ℕ) (z : Task) (xs : List Task) → Down z.thread.who.up
 down_child q z [] d = absurd d
 down_child q z (x ∷ xs) d = by_test (two_ways (same_path z.thread.who.up x.thread.who.path)) (down_child x.thread.who.path z xs)
   where
-    further : (x.thread.who.path ≡ z.thread.who.up) ⊎ Down z.thread.who.up x.thread.who.path xs → same_path z.thread.who.up x.thread.who.path ≡ false → Down
-        z.thread.who.up x.thread.who.path xs
+    further : (x.thread.who.path ≡ z.thread.who.up) ⊎ Down z.thread.who.up x.thread.who.path xs →
+        same_path z.thread.who.up x.thread.who.path ≡ false → Down z.thread.who.up x.thread.who.path xs
     further (inl e) f = clash (same_path z.thread.who.up x.thread.who.path) (is_same z.thread.who.up x.thread.who.path (sym e)) f
     further (inr e) f = e
 
-    by_test : (same_path z.thread.who.up x.thread.who.path ≡ true) ⊎ (same_path z.thread.who.up x.thread.who.path ≡ false) → (Down z.thread.who.up
-        x.thread.who.path xs → Down z.thread.who.path x.thread.who.path (behind_parent z xs)) → Down z.thread.who.path q (cond (same_path z.thread.who.up
-        x.thread.who.path) (x ∷ z ∷ xs) (x ∷ behind_parent z xs))
+    by_test : (same_path z.thread.who.up x.thread.who.path ≡ true) ⊎ (same_path z.thread.who.up x.thread.who.path ≡ false) →
+        (Down z.thread.who.up x.thread.who.path xs → Down z.thread.who.path x.thread.who.path (behind_parent z xs)) →
+        Down z.thread.who.path q (cond (same_path z.thread.who.up x.thread.who.path) (x ∷ z ∷ xs) (x ∷ behind_parent z xs))
     by_test (inl e) f = subst (λ t. Down z.thread.who.path q (cond t (x ∷ z ∷ xs) (x ∷ behind_parent z xs))) (sym e) (
       d.0,
       inr (
@@ -216,7 +223,8 @@ down_child q z (x ∷ xs) d = by_test (two_ways (same_path z.thread.who.up x.thr
         inl refl,
       ),
     )
-    by_test (inr e) f = subst (λ t. Down z.thread.who.path q (cond t (x ∷ z ∷ xs) (x ∷ behind_parent z xs))) (sym e) (d.0, inr (f (further d.1 e)))
+    by_test (inr e) f = subst (λ t. Down z.thread.who.path q (cond t (x ∷ z ∷ xs) (x ∷ behind_parent z xs))) (sym e)
+        (d.0, inr (f (further d.1 e)))
 
 -- a root has none behind it
 alone : {A : Type 0} (n : ℕ) (v : Who) → WhoIs v → StandsBefore (n ∷ []) v.path → A
@@ -253,15 +261,17 @@ down left (z ∷ zs) l r a n k s b h = by_root r h (down left zs l.2 (rooted_tai
     ends = named_ends z l.0.named
 
     own : Each (λ (v : Who). Before (z.thread.who.up ++ z.thread.who.number ∷ []) v.path) (whos zs)
-    own = all_as (λ (v : Who). StandsBefore z.thread.who.path v.path) (λ (v : Who). Before (z.thread.who.up ++ z.thread.who.number ∷ []) v.path) (λ v c. subst (λ
-        p. Before p v.path) ends c.0) (whos zs) l.1
+    own = all_as (λ (v : Who). StandsBefore z.thread.who.path v.path)
+        (λ (v : Who). Before (z.thread.who.up ++ z.thread.who.number ∷ []) v.path) (λ v c. subst (λ p. Before p v.path) ends c.0) (whos zs)
+        l.1
 
     some_up : HasParent z.thread.who.up z.thread.who.number (whos zs) → z.thread.who.role ≡ part → IsSome z.thread.who.up
     some_up g e = (subst (λ q. RoleIs q z.thread.who) e l.0.named).1
 
     -- Main's task or a spawned one stands alone
-    single : (xs : List Task) → Each (λ (v : Who). StandsBefore z.thread.who.path v.path) (whos xs) → Lined left (whos xs) → z.thread.who.path ≡
-        z.thread.who.number ∷ [] → z.thread.who.up ≡ [] → z.thread.who.path ≡ a → Down a [] (behind_parent z (walked xs))
+    single : (xs : List Task) → Each (λ (v : Who). StandsBefore z.thread.who.path v.path) (whos xs) → Lined left (whos xs) →
+        z.thread.who.path ≡ z.thread.who.number ∷ [] → z.thread.who.up ≡ [] → z.thread.who.path ≡ a →
+        Down a [] (behind_parent z (walked xs))
     single [] b l p u e = (u, inl e)
     single (x ∷ xs) b l p u e = alone z.thread.who.number x.thread.who l.0.named (subst (λ q. StandsBefore q x.thread.who.path) p b.0)
 
@@ -277,14 +287,17 @@ down left (z ∷ zs) l r a n k s b h = by_root r h (down left zs l.2 (rooted_tai
     deep : HasParent a k (whos zs) → Beneath a z.thread.who.path
     deep g = between a n z.thread.who.path b.0 (before_path z.thread.who.path a k (whos zs) l.1 g)
 
-    by_root : Rooted left (z.thread.who ∷ whos zs) → HasParent a k (z.thread.who ∷ whos zs) → (IsSome z.thread.who.up → Each (λ (v : Who). Before
-        (z.thread.who.up ++ z.thread.who.number ∷ []) v.path) (whos zs) → HasParent z.thread.who.up z.thread.who.number (whos zs) → Down z.thread.who.up []
-        (walked zs)) → Down a [] (behind_parent z (walked zs))
+    by_root : Rooted left (z.thread.who ∷ whos zs) → HasParent a k (z.thread.who ∷ whos zs) →
+        (IsSome z.thread.who.up → Each (λ (v : Who). Before (z.thread.who.up ++ z.thread.who.number ∷ []) v.path) (whos zs) →
+        HasParent z.thread.who.up z.thread.who.number (whos zs) → Down z.thread.who.up [] (walked zs)) →
+        Down a [] (behind_parent z (walked zs))
     by_root (rooted_root e p g t) (here i j) f = single zs l.1 l.2 p (subst (λ q. RoleIs q z.thread.who) e l.0.named).0 i
     by_root (rooted_root e p g t) (later h) f = no_root p (deep h)
-    by_root (rooted_part e p g h t) (here i j) f = subst (λ q. Down q [] (behind_parent z (walked zs))) i (down_child [] z (walked zs) (f (some_up h e) own h))
-    by_root (rooted_part e p g h t) (later i) f = down_stays a [] z (walked zs) (walked_each Ends zs (line_ends left zs l.2)) (beneath_end a z.thread.who.up
-        z.thread.who.number (subst (Beneath a) ends (deep i))) s (f (some_up h e) own h)
+    by_root (rooted_part e p g h t) (here i j) f =
+        subst (λ q. Down q [] (behind_parent z (walked zs))) i (down_child [] z (walked zs) (f (some_up h e) own h))
+    by_root (rooted_part e p g h t) (later i) f =
+        down_stays a [] z (walked zs) (walked_each Ends zs (line_ends left zs l.2))
+        (beneath_end a z.thread.who.up z.thread.who.number (subst (Beneath a) ends (deep i))) s (f (some_up h e) own h)
 
 -- ---- planting
 
@@ -301,50 +314,57 @@ NoParent y z = same_path z.thread.who.up y.thread.who.path ≡ false
 
 fill_front : (y : Task) (cur zs : List Task) → Each (NoParent y) zs → fill (y ∷ cur) zs ≡ y ∷ fill cur zs
 fill_front y cur [] a = refl
-fill_front y cur (z ∷ zs) a = ap (λ t. fill (cond t (z ∷ y ∷ cur) (y ∷ before_parent z cur)) zs) a.0 ∙ fill_front y (before_parent z cur) zs a.1
+fill_front y cur (z ∷ zs) a = ap (λ t. fill (cond t (z ∷ y ∷ cur) (y ∷ before_parent z cur)) zs) a.0 ∙
+    fill_front y (before_parent z cur) zs a.1
 
 -- a task before all stays before all
-fill_down : (a : List ℕ) (x : Task) (cur : List Task) (y : Task) (zs : List Task) → y.thread.who.up ≡ a → Each (NoParent y) zs → Down a x.thread.who.path zs →
-    fill (x ∷ cur) (behind_parent y zs) ≡ y ∷ fill (x ∷ cur) zs
+fill_down : (a : List ℕ) (x : Task) (cur : List Task) (y : Task) (zs : List Task) → y.thread.who.up ≡ a → Each (NoParent y) zs →
+    Down a x.thread.who.path zs → fill (x ∷ cur) (behind_parent y zs) ≡ y ∷ fill (x ∷ cur) zs
 fill_down a x cur y [] e n d = absurd d
-fill_down a x cur y (z ∷ zs) e n d = by_test (two_ways (same_path y.thread.who.up z.thread.who.path)) (λ g. fill_down a z (x ∷ cur) y zs e n.1 g)
+fill_down a x cur y (z ∷ zs) e n d = by_test (two_ways (same_path y.thread.who.up z.thread.who.path))
+    (λ g. fill_down a z (x ∷ cur) y zs e n.1 g)
   where
     planted_first : before_parent z (x ∷ cur) ≡ z ∷ x ∷ cur
     planted_first = ap (λ t. cond t (z ∷ x ∷ cur) (x ∷ before_parent z cur)) (is_same z.thread.who.up x.thread.who.path d.0)
 
-    further : (z.thread.who.path ≡ a) ⊎ Down a z.thread.who.path zs → same_path y.thread.who.up z.thread.who.path ≡ false → Down a z.thread.who.path zs
+    further : (z.thread.who.path ≡ a) ⊎ Down a z.thread.who.path zs → same_path y.thread.who.up z.thread.who.path ≡ false →
+        Down a z.thread.who.path zs
     further (inl g) f = clash (same_path y.thread.who.up z.thread.who.path) (is_same y.thread.who.up z.thread.who.path (e ∙ sym g)) f
     further (inr g) f = g
 
-    by_test : (same_path y.thread.who.up z.thread.who.path ≡ true) ⊎ (same_path y.thread.who.up z.thread.who.path ≡ false) → (Down a z.thread.who.path zs → fill (z
-        ∷ x ∷ cur) (behind_parent y zs) ≡ y ∷ fill (z ∷ x ∷ cur) zs) → fill (x ∷ cur) (cond (same_path y.thread.who.up z.thread.who.path) (z ∷ y ∷ zs) (z ∷
-        behind_parent y zs)) ≡ y ∷ fill (before_parent z (x ∷ cur)) zs
-    by_test (inl f) g = ap (λ t. fill (x ∷ cur) (cond t (z ∷ y ∷ zs) (z ∷ behind_parent y zs))) f ∙ (ap (λ c. fill (before_parent y c) zs) planted_first ∙ (ap
-        (λ t. fill (cond t (y ∷ z ∷ x ∷ cur) (z ∷ before_parent y (x ∷ cur))) zs) f ∙ (fill_front y (z ∷ x ∷ cur) zs n.1 ∙ ap (λ c. y ∷ fill c zs) (sym
-        planted_first))))
-    by_test (inr f) g = ap (λ t. fill (x ∷ cur) (cond t (z ∷ y ∷ zs) (z ∷ behind_parent y zs))) f ∙ (ap (λ c. fill c (behind_parent y zs)) planted_first ∙ (g
-        (further d.1 f) ∙ ap (λ c. y ∷ fill c zs) (sym planted_first)))
+    by_test : (same_path y.thread.who.up z.thread.who.path ≡ true) ⊎ (same_path y.thread.who.up z.thread.who.path ≡ false) →
+        (Down a z.thread.who.path zs → fill (z ∷ x ∷ cur) (behind_parent y zs) ≡ y ∷ fill (z ∷ x ∷ cur) zs) →
+        fill (x ∷ cur) (cond (same_path y.thread.who.up z.thread.who.path) (z ∷ y ∷ zs) (z ∷ behind_parent y zs)) ≡ y ∷
+        fill (before_parent z (x ∷ cur)) zs
+    by_test (inl f) g = ap (λ t. fill (x ∷ cur) (cond t (z ∷ y ∷ zs) (z ∷ behind_parent y zs))) f ∙
+        (ap (λ c. fill (before_parent y c) zs) planted_first ∙
+        (ap (λ t. fill (cond t (y ∷ z ∷ x ∷ cur) (z ∷ before_parent y (x ∷ cur))) zs) f ∙
+        (fill_front y (z ∷ x ∷ cur) zs n.1 ∙ ap (λ c. y ∷ fill c zs) (sym planted_first))))
+    by_test (inr f) g = ap (λ t. fill (x ∷ cur) (cond t (z ∷ y ∷ zs) (z ∷ behind_parent y zs))) f ∙
+        (ap (λ c. fill c (behind_parent y zs)) planted_first ∙ (g (further d.1 f) ∙ ap (λ c. y ∷ fill c zs) (sym planted_first)))
 
 one_before : (y : Task) (xs : List Task) → Each (NoParent y) xs → Down y.thread.who.up [] xs → rebuilt (behind_parent y xs) ≡ y ∷ rebuilt xs
 one_before y [] n d = absurd d
 one_before y (x ∷ xs) n d = by_test (two_ways (same_path y.thread.who.up x.thread.who.path))
   where
-    further : (x.thread.who.path ≡ y.thread.who.up) ⊎ Down y.thread.who.up x.thread.who.path xs → same_path y.thread.who.up x.thread.who.path ≡ false → Down
-        y.thread.who.up x.thread.who.path xs
+    further : (x.thread.who.path ≡ y.thread.who.up) ⊎ Down y.thread.who.up x.thread.who.path xs →
+        same_path y.thread.who.up x.thread.who.path ≡ false → Down y.thread.who.up x.thread.who.path xs
     further (inl g) f = clash (same_path y.thread.who.up x.thread.who.path) (is_same y.thread.who.up x.thread.who.path (sym g)) f
     further (inr g) f = g
 
-    by_test : (same_path y.thread.who.up x.thread.who.path ≡ true) ⊎ (same_path y.thread.who.up x.thread.who.path ≡ false) → rebuilt (cond (same_path
-        y.thread.who.up x.thread.who.path) (x ∷ y ∷ xs) (x ∷ behind_parent y xs)) ≡ y ∷ fill (x ∷ []) xs
-    by_test (inl f) = ap (λ t. rebuilt (cond t (x ∷ y ∷ xs) (x ∷ behind_parent y xs))) f ∙ (ap (λ t. fill (cond t (y ∷ x ∷ []) (x ∷ [])) xs) f ∙ fill_front y (x
-        ∷ []) xs n.1)
-    by_test (inr f) = ap (λ t. rebuilt (cond t (x ∷ y ∷ xs) (x ∷ behind_parent y xs))) f ∙ fill_down y.thread.who.up x [] y xs refl n.1 (further d.1 f)
+    by_test : (same_path y.thread.who.up x.thread.who.path ≡ true) ⊎ (same_path y.thread.who.up x.thread.who.path ≡ false) →
+        rebuilt (cond (same_path y.thread.who.up x.thread.who.path) (x ∷ y ∷ xs) (x ∷ behind_parent y xs)) ≡ y ∷ fill (x ∷ []) xs
+    by_test (inl f) = ap (λ t. rebuilt (cond t (x ∷ y ∷ xs) (x ∷ behind_parent y xs))) f ∙
+        (ap (λ t. fill (cond t (y ∷ x ∷ []) (x ∷ [])) xs) f ∙ fill_front y (x ∷ []) xs n.1)
+    by_test (inr f) = ap (λ t. rebuilt (cond t (x ∷ y ∷ xs) (x ∷ behind_parent y xs))) f ∙
+        fill_down y.thread.who.up x [] y xs refl n.1 (further d.1 f)
 
-no_parents : (left : ℕ) (y : Task) (zs : List Task) → Each (λ (v : Who). StandsBefore y.thread.who.path v.path) (whos zs) → Lined left (whos zs) → Each (NoParent
-    y) zs
+no_parents : (left : ℕ) (y : Task) (zs : List Task) → Each (λ (v : Who). StandsBefore y.thread.who.path v.path) (whos zs) →
+    Lined left (whos zs) → Each (NoParent y) zs
 no_parents left y [] b l = tt
 no_parents left y (z ∷ zs) b l = (
-  not_same z.thread.who.up y.thread.who.path (λ e. no_child y.thread.who.path z.thread.who.number (subst (Before y.thread.who.path) (named_ends z l.0.named ∙ ap
+  not_same z.thread.who.up y.thread.who.path
+      (λ e. no_child y.thread.who.path z.thread.who.number (subst (Before y.thread.who.path) (named_ends z l.0.named ∙ ap
       (λ up. up ++ z.thread.who.number ∷ []) e) b.0.0)),
   no_parents left y zs b.1 l.2,
 )
@@ -373,16 +393,19 @@ root_stays y (x ∷ xs) a b = by_test (same_path y.thread.who.up x.thread.who.pa
     by_test true = (b.0, b.1, (a, b.2))
     by_test false = (b.0, b.1, behind_parts y xs a b.2)
 
-pub tree_again : (left : ℕ) (y : Task) (ys : List Task) → Rooted left (whos (y ∷ ys)) → Lined left (whos (y ∷ ys)) → (rebuilt (walked (y ∷ ys)) ≡ y ∷ ys) ×
-    OneRoot (walked (y ∷ ys))
+pub tree_again : (left : ℕ) (y : Task) (ys : List Task) → Rooted left (whos (y ∷ ys)) → Lined left (whos (y ∷ ys)) →
+    (rebuilt (walked (y ∷ ys)) ≡ y ∷ ys) × OneRoot (walked (y ∷ ys))
 tree_again left y [] (rooted_root {entry = entry} e p g t) l = (refl, (entry, e, tt))
 tree_again left y [] (rooted_part e p g h t) l = elim h [ ]
-tree_again left y (z ∷ zs) (rooted_root e p g t) l = alone y.thread.who.number z.thread.who l.2.0.named (subst (λ q. StandsBefore q z.thread.who.path) p l.1.0)
+tree_again left y (z ∷ zs) (rooted_root e p g t) l =
+    alone y.thread.who.number z.thread.who l.2.0.named (subst (λ q. StandsBefore q z.thread.who.path) p l.1.0)
 tree_again left y (z ∷ zs) (rooted_part e p g h t) l = let a = tree_again left z zs t l.2 in (
-  one_before y (walked (z ∷ zs)) (walked_each (NoParent y) (z ∷ zs) (no_parents left y (z ∷ zs) l.1 l.2)) (down left (z ∷ zs) l.2 t y.thread.who.up
-      y.thread.who.number y.thread.who.number (subst (λ q. RoleIs q y.thread.who) e l.0.named).1 (all_as (λ (v : Who). StandsBefore y.thread.who.path v.path)
-      (λ (v : Who). Before (y.thread.who.up ++ y.thread.who.number ∷ []) v.path) (λ v c. subst (λ q. Before q v.path) p c.0) (whos (z ∷ zs)) l.1) h) ∙ ap (λ xs.
-      y ∷ xs) a.0,
+  one_before y (walked (z ∷ zs)) (walked_each (NoParent y) (z ∷ zs) (no_parents left y (z ∷ zs) l.1 l.2))
+      (down left (z ∷ zs) l.2 t y.thread.who.up
+      y.thread.who.number y.thread.who.number (subst (λ q. RoleIs q y.thread.who) e l.0.named).1
+      (all_as (λ (v : Who). StandsBefore y.thread.who.path v.path)
+      (λ (v : Who). Before (y.thread.who.up ++ y.thread.who.number ∷ []) v.path) (λ v c. subst (λ q. Before q v.path) p c.0) (whos (z ∷ zs))
+      l.1) h) ∙ ap (λ xs. y ∷ xs) a.0,
   root_stays y (walked (z ∷ zs)) e a.1,
 )
 
@@ -403,25 +426,27 @@ first_none i j e = omega (arith, e)
 
 before_none : (y : Task) (ts : List Task) → tasks_sum (is_named y.thread.who.up) ts ≡ 0 → before_parent y ts ≡ ts
 before_none y [] e = refl
-before_none y (x ∷ xs) e = ap (λ t. cond t (y ∷ x ∷ xs) (x ∷ before_parent y xs)) (no_one (same_path y.thread.who.up x.thread.who.path) (tasks_sum (is_named
-    y.thread.who.up) xs) e) ∙ ap (λ zs. x ∷ zs) (before_none y xs (rest_none (one (same_path y.thread.who.up x.thread.who.path)) (tasks_sum (is_named
-    y.thread.who.up) xs) e))
+before_none y (x ∷ xs) e = ap (λ t. cond t (y ∷ x ∷ xs) (x ∷ before_parent y xs))
+    (no_one (same_path y.thread.who.up x.thread.who.path) (tasks_sum (is_named y.thread.who.up) xs) e) ∙
+    ap (λ zs. x ∷ zs) (before_none y xs (rest_none (one (same_path y.thread.who.up x.thread.who.path))
+    (tasks_sum (is_named y.thread.who.up) xs) e))
 
 both_lists : {x z : List Task} {xs zs : Forest} → x ≡ z → xs ≡ zs → x ∷ xs ≡ z ∷ zs
 both_lists e f = cc
 
 -- in the other trees nothing is planted
-map_last : (y : Task) (acc : Forest) (cur : List Task) → trees_sum (is_named y.thread.who.up) acc ≡ 0 → map (before_parent y) (acc ++ cur ∷ []) ≡ acc ++
-    before_parent y cur ∷ []
+map_last : (y : Task) (acc : Forest) (cur : List Task) → trees_sum (is_named y.thread.who.up) acc ≡ 0 →
+    map (before_parent y) (acc ++ cur ∷ []) ≡ acc ++ before_parent y cur ∷ []
 map_last y [] cur e = refl
-map_last y (ts ∷ acc) cur e = both_lists (before_none y ts (first_none (tasks_sum (is_named y.thread.who.up) ts) (trees_sum (is_named y.thread.who.up) acc) e))
+map_last y (ts ∷ acc) cur e = both_lists (before_none y ts
+    (first_none (tasks_sum (is_named y.thread.who.up) ts) (trees_sum (is_named y.thread.who.up) acc) e))
     (map_last y acc cur (rest_none (tasks_sum (is_named y.thread.who.up) ts) (trees_sum (is_named y.thread.who.up) acc) e))
 
-parts_grow : (acc : Forest) (cur ys : List Task) → Each IsPart ys → Each (λ (y : Task). trees_sum (is_named y.thread.who.up) acc ≡ 0) ys → grown (acc ++ cur ∷
-    []) ys ≡ acc ++ fill cur ys ∷ []
+parts_grow : (acc : Forest) (cur ys : List Task) → Each IsPart ys → Each (λ (y : Task). trees_sum (is_named y.thread.who.up) acc ≡ 0) ys →
+    grown (acc ++ cur ∷ []) ys ≡ acc ++ fill cur ys ∷ []
 parts_grow acc cur [] a b = refl
-parts_grow acc cur (y ∷ ys) a b = ap (λ q. grown (planted q y (acc ++ cur ∷ [])) ys) a.0 ∙ (ap (λ tss. grown tss ys) (map_last y acc cur b.0) ∙ parts_grow acc
-    (before_parent y cur) ys a.1 b.1)
+parts_grow acc cur (y ∷ ys) a b = ap (λ q. grown (planted q y (acc ++ cur ∷ [])) ys) a.0 ∙
+    (ap (λ tss. grown tss ys) (map_last y acc cur b.0) ∙ parts_grow acc (before_parent y cur) ys a.1 b.1)
 
 grown_join : (acc : Forest) (xs ys : List Task) → grown acc (xs ++ ys) ≡ grown (grown acc xs) ys
 grown_join acc [] ys = refl
@@ -436,13 +461,13 @@ end_nil [] = refl
 end_nil (us ∷ acc) = ap (λ xs. us ∷ xs) (end_nil acc)
 
 -- a tree, from its tasks in the order of the walk
-tree_grows : (acc : Forest) (xs : List Task) → OneRoot xs → Each (λ (y : Task). IsPart y → trees_sum (is_named y.thread.who.up) acc ≡ 0) xs → grown acc xs ≡ acc
-    ++ rebuilt xs ∷ []
+tree_grows : (acc : Forest) (xs : List Task) → OneRoot xs →
+    Each (λ (y : Task). IsPart y → trees_sum (is_named y.thread.who.up) acc ≡ 0) xs → grown acc xs ≡ acc ++ rebuilt xs ∷ []
 tree_grows acc [] a b = absurd a
 tree_grows acc (x ∷ xs) a b = ap (λ q. grown (planted q x acc) xs) a.1 ∙ parts_grow acc (x ∷ []) xs a.2 (given xs a.2 b.1)
   where
-    given : (ys : List Task) → Each IsPart ys → Each (λ (y : Task). IsPart y → trees_sum (is_named y.thread.who.up) acc ≡ 0) ys → Each (λ (y : Task). trees_sum
-        (is_named y.thread.who.up) acc ≡ 0) ys
+    given : (ys : List Task) → Each IsPart ys → Each (λ (y : Task). IsPart y → trees_sum (is_named y.thread.who.up) acc ≡ 0) ys →
+        Each (λ (y : Task). trees_sum (is_named y.thread.who.up) acc ≡ 0) ys
     given [] a b = tt
     given (y ∷ ys) a b = (b.0 a.0, given ys a.1 b.1)
 
@@ -455,7 +480,8 @@ trees_grow left acc ([] ∷ tss) r l n = trees_grow left acc tss r.1 l.1 (λ p. 
     none p = let h = n p in omega (arith, h)
 trees_grow left acc ((t ∷ ts) ∷ tss) r l n =
     let a = tree_again left t ts r.0 l.0 in
-    grown_join acc (walked (t ∷ ts)) (walk tss) ∙ (ap (λ f. grown f (walk tss)) (tree_grows acc (walked (t ∷ ts)) a.1 unplanted ∙ ap (λ xs. acc ++ xs ∷ []) a.0) ∙
+    grown_join acc (walked (t ∷ ts)) (walk tss) ∙
+    (ap (λ f. grown f (walk tss)) (tree_grows acc (walked (t ∷ ts)) a.1 unplanted ∙ ap (λ xs. acc ++ xs ∷ []) a.0) ∙
     (trees_grow left (acc ++ (t ∷ ts) ∷ []) tss r.1 l.1 (λ p. moved p) ∙ join_trees acc (t ∷ ts) (filled tss)))
   where
     moved : (p : List ℕ) → trees_sum (is_named p) (acc ++ (t ∷ ts) ∷ []) + trees_sum (is_named p) tss ≤ 1
@@ -465,10 +491,11 @@ trees_grow left acc ((t ∷ ts) ∷ tss) r l n =
     others i j k e f = omega (arith, e, f)
 
     unplanted : Each (λ (y : Task). IsPart y → trees_sum (is_named y.thread.who.up) acc ≡ 0) (walked (t ∷ ts))
-    unplanted = all_as (λ y. Named y × HasOwn (walked (t ∷ ts)) y) (λ (y : Task). IsPart y → trees_sum (is_named y.thread.who.up) acc ≡ 0) (λ y b e. others
-        (trees_sum (is_named y.thread.who.up) acc) (tasks_sum (is_named y.thread.who.up) (t ∷ ts)) (trees_sum (is_named y.thread.who.up) tss) (n
-        y.thread.who.up) (subst (λ i. 1 ≤ i) (walked_sum (is_named y.thread.who.up) (t ∷ ts)) (b.1 (subst (λ q. RoleIs q y.thread.who) e b.0).1))) (walked (t ∷
-        ts)) (walked_parents left (t ∷ ts) r.0 l.0)
+    unplanted = all_as (λ y. Named y × HasOwn (walked (t ∷ ts)) y) (λ (y : Task). IsPart y → trees_sum (is_named y.thread.who.up) acc ≡ 0)
+        (λ y b e. others (trees_sum (is_named y.thread.who.up) acc) (tasks_sum (is_named y.thread.who.up) (t ∷ ts))
+        (trees_sum (is_named y.thread.who.up) tss) (n y.thread.who.up)
+        (subst (λ i. 1 ≤ i) (walked_sum (is_named y.thread.who.up) (t ∷ ts)) (b.1 (subst (λ q. RoleIs q y.thread.who) e b.0).1)))
+        (walked (t ∷ ts)) (walked_parents left (t ∷ ts) r.0 l.0)
 
 each_rooted : (left : ℕ) (tss : Forest) → TreesRooted left tss → Each (λ ts. Rooted left (whos ts)) tss
 each_rooted left [] r = tt

@@ -54,16 +54,19 @@ whos_among : (f : List ℕ → Bool) (ts : List Task) → Among (whos (without f
 whos_among f [] = among_none
 whos_among f (t ∷ ts) = by_test (f t.thread.who.path) (whos_among f ts)
   where
-    by_test : (b : Bool) → Among (whos (without f ts)) (whos ts) → Among (whos (cond b (without f ts) (t ∷ without f ts))) (t.thread.who ∷ whos ts)
+    by_test : (b : Bool) → Among (whos (without f ts)) (whos ts) →
+        Among (whos (cond b (without f ts) (t ∷ without f ts))) (t.thread.who ∷ whos ts)
     by_test true h = among_more h
     by_test false h = among_both h
 
 line_without : (f : List ℕ → Bool) (xs : List Task) {vs ws : List Who} → Among vs ws → Among (line (without f xs) vs) (line xs ws)
 line_without f [] h = h
-line_without f (x ∷ xs) {vs = vs} {ws = ws} h = by_test (f x.thread.who.path) (line_without f xs (among_more h)) (line_without f xs (among_both h))
+line_without f (x ∷ xs) {vs = vs} {ws = ws} h =
+    by_test (f x.thread.who.path) (line_without f xs (among_more h)) (line_without f xs (among_both h))
   where
-    by_test : (b : Bool) → Among (line (without f xs) vs) (line xs (x.thread.who ∷ ws)) → Among (line (without f xs) (x.thread.who ∷ vs)) (line xs
-        (x.thread.who ∷ ws)) → Among (line (cond b (without f xs) (x ∷ without f xs)) vs) (line xs (x.thread.who ∷ ws))
+    by_test : (b : Bool) → Among (line (without f xs) vs) (line xs (x.thread.who ∷ ws)) →
+        Among (line (without f xs) (x.thread.who ∷ vs)) (line xs (x.thread.who ∷ ws)) →
+        Among (line (cond b (without f xs) (x ∷ without f xs)) vs) (line xs (x.thread.who ∷ ws))
     by_test true g h = g
     by_test false g h = h
 
@@ -213,8 +216,9 @@ pub trees_lower : (l k : ℕ) (tss : Forest) → l ≤ k → TreesLined k tss �
 trees_lower l k tss h a = all_as (λ ts. Lined k (whos ts)) (λ ts. Lined l (whos ts)) (λ ts b. lined_less l k (whos ts) h b) tss a
 
 rows_lower : {ws : List Who} {us : List Up} {trees : Trees} (l k : ℕ) → l ≤ k → Rows k ws us trees → Rows l ws us trees
-rows_lower {ws = ws} {us = us} {trees = trees} l k h a = rows (lined_less l k ws h a.own) (below_lower l k us h a.below) (trees_lower l k trees.before h
-    a.first) (trees_lower l k trees.behind h a.later)
+rows_lower {ws = ws} {us = us} {trees = trees} l k h a =
+    rows (lined_less l k ws h a.own) (below_lower l k us h a.below) (trees_lower l k trees.before h a.first)
+    (trees_lower l k trees.behind h a.later)
 
 rows_among : {left : ℕ} {vs ws : List Who} {us : List Up} {trees : Trees} → Among vs ws → Rows left ws us trees → Rows left vs us trees
 rows_among {left = left} h a = record { own = lined_among left h a.own; below = a.below; first = a.first; later = a.later }
@@ -241,8 +245,8 @@ one_lower : (l k : ℕ) → suc l ≡ k → l ≤ k
 one_lower l k e = omega (arith, e)
 
 -- of a tree that is suspended whole
-among_lined : (left : ℕ) (pre post : List Task) (trees : Trees) → Rows left (line pre (whos post)) [] trees → TreesLined left (trees.before ++ onto
-    pre post ∷ trees.behind)
+among_lined : (left : ℕ) (pre post : List Task) (trees : Trees) → Rows left (line pre (whos post)) [] trees →
+    TreesLined left (trees.before ++ onto pre post ∷ trees.behind)
 among_lined left pre post trees a = each_join (λ ts. Lined left (whos ts)) trees.before (onto pre post ∷ trees.behind) a.first (
   subst (Lined left) (sym
       (onto_line pre post)) a.own,
@@ -250,11 +254,12 @@ among_lined left pre post trees a = each_join (λ ts. Lined left (whos ts)) tree
 )
 
 -- a new child of the first
-puts_rows : {us vs : List Up} {trees : Trees} (l k : ℕ) (w : Who) (xs : List Task) (ws : List Who) → suc l ≡ k → (LinesBelow k us → LinesBelow k vs) →
-    Rows k (line xs (w ∷ ws)) us trees → Rows l (line xs (child_named w l ∷ w ∷ ws)) vs trees
-puts_rows {us = us} {vs = vs} {trees = trees} l k w xs ws e f a = rows (lined_puts l w (line_puts xs puts_here) (subst (λ n. Lined n (line xs (w ∷ ws)))
-    (sym e) a.own)) (below_lower l k vs (one_lower l k e) (f a.below)) (trees_lower l k trees.before (one_lower l k e) a.first) (trees_lower l k trees.behind
-    (one_lower l k e) a.later)
+puts_rows : {us vs : List Up} {trees : Trees} (l k : ℕ) (w : Who) (xs : List Task) (ws : List Who) → suc l ≡ k →
+    (LinesBelow k us → LinesBelow k vs) → Rows k (line xs (w ∷ ws)) us trees → Rows l (line xs (child_named w l ∷ w ∷ ws)) vs trees
+puts_rows {us = us} {vs = vs} {trees = trees} l k w xs ws e f a =
+    rows (lined_puts l w (line_puts xs puts_here) (subst (λ n. Lined n (line xs (w ∷ ws))) (sym e) a.own))
+    (below_lower l k vs (one_lower l k e) (f a.below)) (trees_lower l k trees.before (one_lower l k e) a.first)
+    (trees_lower l k trees.behind (one_lower l k e) a.later)
 
 pub lines : {c : Code} {x y : Point} → Move c x y → Lines x → Lines y
 lines (m.stays {s = s} {u = u} h) a = rows_lower u.clock.left s.clock.left h.ticks.left a
@@ -264,28 +269,34 @@ lines (m.suspends {w = w} {o = o} {s = s} {f = f} {fs = fs} i p q) a =
     rows_as (sym (ap (line o.pre) (seated_is s.clock.left w o.ups (whos o.post) i.ups))) a
 lines (m.spawns {w = w} {o = o} {s = s} {l = l} i e h v) a = let b = rows_lower l s.clock.left (one_lower l s.clock.left e) a in
     rows (record { named = (refl, refl); above = (omega arith, tt) }, tt, tt) (b.own, b.below) b.first b.later
-lines (m.branches {w = w} {o = o} {s = s} {l = l} i e) a = puts_rows l s.clock.left w o.pre (above o.ups (whos o.post)) e (λ b. b) (rows_as (sym (ap
-    (line o.pre) (seated_is s.clock.left w o.ups (whos o.post) i.ups))) a)
+lines (m.branches {w = w} {o = o} {s = s} {l = l} i e) a =
+    puts_rows l s.clock.left w o.pre (above o.ups (whos o.post)) e (λ b. b)
+    (rows_as (sym (ap (line o.pre) (seated_is s.clock.left w o.ups (whos o.post) i.ups))) a)
 lines (m.begins_group {w = w} {o = o} {s = s} i p) a =
     rows_as (sym (ap (line o.pre) (seated_is s.clock.left w o.ups (whos o.post) i.ups))) a
-lines (m.returns {w = w} {o = o} {f = f} v) a = rows_among (line_without (since w.path f.life.born) o.pre (row_of (Some w) o.ups (whos_among (since w.path
-    f.life.born) o.post))) a
-lines (m.finishes {w = w} {o = o} {f = f} r v) a = rows_among (line_without (since w.path f.life.born) o.pre (row_of None o.ups (whos_among (since w.path
-    f.life.born) o.post))) (rows_among (line_among o.pre (above_among w o.ups (whos o.post))) a)
-lines (m.ends {w = w} {o = o} {f = f} r v) a = rows_among (line_without (since w.path f.life.born) o.pre (row_of None o.ups (whos_among (since w.path
-    f.life.born) o.post))) (rows_among (line_among o.pre (above_among w o.ups (whos o.post))) a)
+lines (m.returns {w = w} {o = o} {f = f} v) a =
+    rows_among (line_without (since w.path f.life.born) o.pre (row_of (Some w) o.ups (whos_among (since w.path f.life.born) o.post))) a
+lines (m.finishes {w = w} {o = o} {f = f} r v) a =
+    rows_among (line_without (since w.path f.life.born) o.pre (row_of None o.ups (whos_among (since w.path f.life.born) o.post)))
+    (rows_among (line_among o.pre (above_among w o.ups (whos o.post))) a)
+lines (m.ends {w = w} {o = o} {f = f} r v) a =
+    rows_among (line_without (since w.path f.life.born) o.pre (row_of None o.ups (whos_among (since w.path f.life.born) o.post)))
+    (rows_among (line_among o.pre (above_among w o.ups (whos o.post))) a)
 lines (m.dies h) a = a
-lines (m.arm_begins {l = l} {x = x} {pre = pre} {post = post} {us = us} {s = s} e) a = puts_rows l s.clock.left x.who pre (above us (whos post)) e (λ b. b) a
+lines (m.arm_begins {l = l} {x = x} {pre = pre} {post = post} {us = us} {s = s} e) a =
+    puts_rows l s.clock.left x.who pre (above us (whos post)) e (λ b. b) a
 lines (m.stands n) a = a
 lines (m.gathered {x = x} {pre = pre} {post = post} {us = us} v) a = rows_among (line_among pre (seated_among x.who us (whos post))) a
-lines (m.races {gs = gs} {x = x} {pre = pre} {post = post} {us = us} v) a = rows_among (line_without (beneath_arms x.who.path gs) pre (row_of (Some x.who) us
-    (whos_among (beneath_arms x.who.path gs) post))) (rows_among (line_among pre (seated_among x.who us (whos post))) a)
+lines (m.races {gs = gs} {x = x} {pre = pre} {post = post} {us = us} v) a =
+    rows_among (line_without (beneath_arms x.who.path gs) pre (row_of (Some x.who) us (whos_among (beneath_arms x.who.path gs) post)))
+    (rows_among (line_among pre (seated_among x.who us (whos post))) a)
 lines (m.rests_alone {pre = pre} {post = post} {trees = trees} {s = s}) a = among_lined s.clock.left pre post trees a
 lines m.rests_arm a = rows a.own a.below a.first a.later
-lines (m.rests_behind {x = x} {pre = pre} {post = post} {us = us}) a = rows_among (line_among pre (seated_among x.who us (whos post))) (rows a.own a.below
-    a.first a.later)
-lines (m.rests_spawned {pre = pre} {post = post} {trees = trees} {s = s}) a = rows a.below.0 a.below.1 a.first (each_join (λ ts. Lined s.clock.left (whos
-    ts)) trees.behind (onto pre post ∷ []) a.later (subst (Lined s.clock.left) (sym (onto_line pre post)) a.own, tt))
+lines (m.rests_behind {x = x} {pre = pre} {post = post} {us = us}) a =
+    rows_among (line_among pre (seated_among x.who us (whos post))) (rows a.own a.below a.first a.later)
+lines (m.rests_spawned {pre = pre} {post = post} {trees = trees} {s = s}) a =
+    rows a.below.0 a.below.1 a.first (each_join (λ ts. Lined s.clock.left (whos ts)) trees.behind (onto pre post ∷ []) a.later
+    (subst (Lined s.clock.left) (sym (onto_line pre post)) a.own, tt))
 lines m.resumes a = a
 lines m.closes a = a
 lines (m.gives_result {entry = None}) a = a
@@ -296,14 +307,15 @@ lines m.frame_gone a = a
 lines (m.frame_clears {s = s} {l = l} e d) a = rows_lower l s.clock.left (one_lower l s.clock.left e) a
 lines m.ended_alone a = a
 lines m.ended_arm a = rows a.own a.below a.first a.later
-lines (m.ended_behind {x = x} {pre = pre} {post = post} {us = us}) a = rows_among (line_among pre (seated_among x.who us (whos post))) (rows a.own a.below
-    a.first a.later)
+lines (m.ended_behind {x = x} {pre = pre} {post = post} {us = us}) a =
+    rows_among (line_among pre (seated_among x.who us (whos post))) (rows a.own a.below a.first a.later)
 lines (m.ended_root {pre = pre} {post = post} {trees = trees} {s = s}) a = among_lined s.clock.left pre post trees a
 lines m.ended_spawned a = rows a.below.0 a.below.1 a.first a.later
 lines (m.climbs_on e) a = a
 lines (m.joins_no_group {y = y} {pre = pre} {post = post} {trees = trees} {s = s} e i) a = among_lined s.clock.left pre (y ∷ post) trees a
 lines (m.joins e r i) a = a
 lines (m.woken {before = before} {behind = rest} {pre = pre} {post = post} {y = y} {s = s} e r i) a =
-    let b = subst (TreesLined s.clock.left) e a in let d = back_each (λ ts. Lined s.clock.left (whos ts)) before (onto pre (y ∷ post) ∷ rest) b in
-    rows (subst (Lined s.clock.left) (onto_line pre (y ∷ post)) d.0) tt (front_each (λ ts. Lined s.clock.left (whos ts)) before (onto pre (y ∷ post) ∷
-    rest) b) d.1
+    let b = subst (TreesLined s.clock.left) e a in let d =
+    back_each (λ ts. Lined s.clock.left (whos ts)) before (onto pre (y ∷ post) ∷ rest) b in
+    rows (subst (Lined s.clock.left) (onto_line pre (y ∷ post)) d.0) tt
+    (front_each (λ ts. Lined s.clock.left (whos ts)) before (onto pre (y ∷ post) ∷ rest) b) d.1

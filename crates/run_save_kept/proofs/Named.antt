@@ -11,7 +11,8 @@ use Rattle.run_save_fits.proofs.Counted.{drawn_once}
 use Rattle.run_save_kept.specs.Orders.{last}
 use Rattle.run_save_kept.proofs.Paths.{two_ways, same_is, last_end, ltn_less}
 use Rattle.run_save_kept.proofs.Rails.{Railed}
-use Rattle.run_save_kept.proofs.Weights.{left_at, Special, spawned, branched, arm_begun, arm_ended, joined, weigh, Grown, lessens, special, grows}
+use Rattle.run_save_kept.proofs.Weights.{left_at, Special, spawned, branched, arm_begun, arm_ended, joined, weigh, Grown, lessens, special}
+use Rattle.run_save_kept.proofs.Weights.{grows}
 
 abbrev pub no_arms : List ℕ → List Part → ℕ
 no_arms path gs = 0
@@ -32,9 +33,11 @@ module _ (p : List ℕ) where
       equal : (i j k : ℕ) → i ≤ 1 → j ≡ 1 → i ≤ j
       equal i j k e f = omega (arith, e, f)
 
-      by_test : (same_path p (a ++ l ∷ []) ≡ true) ⊎ (same_path p (a ++ l ∷ []) ≡ false) → one (same_path p (a ++ l ∷ [])) ≤ one (eqn l (last p))
-      by_test (inl e) = let f = ap one e in let g = ap one (subst (λ i. eqn l i ≡ true) (sym (ap last (same_is p (a ++ l ∷ []) e) ∙ last_end a l)) (eqn_same
-          l)) in omega (arith, f, g)
+      by_test : (same_path p (a ++ l ∷ []) ≡ true) ⊎ (same_path p (a ++ l ∷ []) ≡ false) →
+          one (same_path p (a ++ l ∷ [])) ≤ one (eqn l (last p))
+      by_test (inl e) = let f = ap one e in let g =
+          ap one (subst (λ i. eqn l i ≡ true) (sym (ap last (same_is p (a ++ l ∷ []) e) ∙ last_end a l)) (eqn_same l)) in omega
+          (arith, f, g)
       by_test (inr e) = let f = ap one e in omega (arith, f)
 
   -- a number that is to come is no task's

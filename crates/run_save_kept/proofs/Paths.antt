@@ -1,5 +1,6 @@
 -- Paths of tasks, and the arms of groups.
-use Rattle.std.proofs.Common.{◌≡◌, ℕ, zero, suc, ◌+◌, ◌≤◌, ◌<◌, length, List, [], ◌∷◌, ◌++◌, Bool, true, false, cond, refl, sym, subst, ap, ◌∙◌}
+use Rattle.std.proofs.Common.{◌≡◌, ℕ, zero, suc, ◌+◌, ◌≤◌, ◌<◌, length, List, [], ◌∷◌, ◌++◌, Bool, true, false, cond, refl, sym, subst, ap}
+use Rattle.std.proofs.Common.{◌∙◌}
 use Rattle.std.proofs.Common.{arith, ◌⊎◌}
 use mathlib.Core.Logic.{inl, inr}
 use Rattle.std.proofs.lemmas.List.{length-append}
@@ -30,7 +31,8 @@ same_is [] [] e = refl
 same_is [] (j ∷ q) e = no_both (sym e)
 same_is (i ∷ p) [] e = no_both (sym e)
 same_is (i ∷ p) (j ∷ q) e =
-    cond_with (eqn i j) (same_path p q) false (λ b. b ≡ true → i ∷ p ≡ j ∷ q) (λ f g. both (eqn_is i j f) (same_is p q g)) (λ f g. no_both (sym g)) e
+    cond_with (eqn i j) (same_path p q) false (λ b. b ≡ true → i ∷ p ≡ j ∷ q) (λ f g. both (eqn_is i j f) (same_is p q g))
+    (λ f g. no_both (sym g)) e
   where
     both : {i j : ℕ} {p q : List ℕ} → i ≡ j → p ≡ q → i ∷ p ≡ j ∷ q
     both e f = cc
@@ -173,12 +175,14 @@ start_up (i ∷ a) k (j ∷ x) n e = by_test (two_ways (eqn i j)) (start_up a k 
         both : {i j : ℕ} {p q : List ℕ} → i ≡ j → p ≡ q → j ∷ p ≡ i ∷ q
         both e f = cc
 
-    by_test : (eqn i j ≡ true) ⊎ (eqn i j ≡ false) → (starts (a ++ k ∷ []) (x ++ n ∷ []) ≡ true → (starts (a ++ k ∷ []) x ≡ true) ⊎ (x ≡ a)) →
+    by_test : (eqn i j ≡ true) ⊎ (eqn i j ≡ false) →
+        (starts (a ++ k ∷ []) (x ++ n ∷ []) ≡ true → (starts (a ++ k ∷ []) x ≡ true) ⊎ (x ≡ a)) →
         (cond (eqn i j) (starts (a ++ k ∷ []) x) false ≡ true) ⊎ (j ∷ x ≡ i ∷ a)
     by_test (inl f) h = further f (h (subst (λ t. cond t (starts (a ++ k ∷ []) (x ++ n ∷ [])) false ≡ true) f e))
     by_test (inr f) h = no_both (sym (subst (λ t. cond t (starts (a ++ k ∷ []) (x ++ n ∷ [])) false ≡ true) f e))
 
-arms_up : (a : List ℕ) (gs : List Part) (x : List ℕ) (n : ℕ) → beneath_arms a gs (x ++ n ∷ []) ≡ true → (beneath_arms a gs x ≡ true) ⊎ (x ≡ a)
+arms_up : (a : List ℕ) (gs : List Part) (x : List ℕ) (n : ℕ) → beneath_arms a gs (x ++ n ∷ []) ≡ true → (beneath_arms a gs x ≡ true) ⊎
+    (x ≡ a)
 arms_up a [] x n e = no_both (sym e)
 arms_up a (did v ∷ gs) x n e = arms_up a gs x n e
 arms_up a (runs k ∷ gs) x n e = by_test (two_ways (starts (a ++ k ∷ []) (x ++ n ∷ []))) (arms_up a gs x n)
@@ -192,7 +196,8 @@ arms_up a (runs k ∷ gs) x n e = by_test (two_ways (starts (a ++ k ∷ []) (x +
     first (inr g) = inr g
 
     by_test : (starts (a ++ k ∷ []) (x ++ n ∷ []) ≡ true) ⊎ (starts (a ++ k ∷ []) (x ++ n ∷ []) ≡ false) →
-        (beneath_arms a gs (x ++ n ∷ []) ≡ true → (beneath_arms a gs x ≡ true) ⊎ (x ≡ a)) → (beneath_arms a (runs k ∷ gs) x ≡ true) ⊎ (x ≡ a)
+        (beneath_arms a gs (x ++ n ∷ []) ≡ true → (beneath_arms a gs x ≡ true) ⊎ (x ≡ a)) → (beneath_arms a (runs k ∷ gs) x ≡ true) ⊎
+        (x ≡ a)
     by_test (inl f) h = first (start_up a k x n f)
     by_test (inr f) h = later (starts (a ++ k ∷ []) x) (h (subst (λ t. cond t true (beneath_arms a gs (x ++ n ∷ [])) ≡ true) f e))
 
@@ -268,8 +273,8 @@ with_fewer n v [] e = no_both (sym e)
 with_fewer n v (did w ∷ gs) e = with_fewer n v gs e
 with_fewer n v (runs j ∷ gs) e = by_test (eqn n j) refl (λ f. with_fewer n v gs f) e
   where
-    by_test : (b : Bool) → eqn n j ≡ b → (is_run n gs ≡ true → suc (runs_in n (with_did n v gs)) ≡ runs_in n gs) → cond b true (is_run n gs) ≡ true →
-        suc (runs_in n (cond b (did v ∷ gs) (runs j ∷ with_did n v gs))) ≡ one b + runs_in n gs
+    by_test : (b : Bool) → eqn n j ≡ b → (is_run n gs ≡ true → suc (runs_in n (with_did n v gs)) ≡ runs_in n gs) →
+        cond b true (is_run n gs) ≡ true → suc (runs_in n (cond b (did v ∷ gs) (runs j ∷ with_did n v gs))) ≡ one b + runs_in n gs
     by_test true f h e = omega arith
     by_test false f h e = let g = h e in let i = ap one f in omega (arith, g, i)
 
@@ -278,8 +283,8 @@ with_most k n v [] = omega arith
 with_most k n v (did w ∷ gs) = with_most k n v gs
 with_most k n v (runs j ∷ gs) = by_test (eqn k j) (with_most k n v gs)
   where
-    by_test : (b : Bool) → runs_in n (with_did k v gs) ≤ runs_in n gs → runs_in n (cond b (did v ∷ gs) (runs j ∷ with_did k v gs)) ≤ one (eqn n j) +
-        runs_in n gs
+    by_test : (b : Bool) → runs_in n (with_did k v gs) ≤ runs_in n gs →
+        runs_in n (cond b (did v ∷ gs) (runs j ∷ with_did k v gs)) ≤ one (eqn n j) + runs_in n gs
     by_test true h = omega arith
     by_test false h = omega (arith, h)
 
@@ -333,4 +338,5 @@ with_run n k v (runs j ∷ gs) e = by_test (eqn k j) (two_ways (eqn n j)) (with_
         is_run n (cond b (did v ∷ gs) (runs j ∷ with_did k v gs)) ≡ true → cond (eqn n j) true (is_run n gs) ≡ true
     by_test b (inl f) h e = ap (λ t. cond t true (is_run n gs)) f
     by_test true (inr f) h e = subst (λ t. cond t true (is_run n gs) ≡ true) (sym f) e
-    by_test false (inr f) h e = subst (λ t. cond t true (is_run n gs) ≡ true) (sym f) (h (subst (λ t. cond t true (is_run n (with_did k v gs)) ≡ true) f e))
+    by_test false (inr f) h e = subst (λ t. cond t true (is_run n gs) ≡ true) (sym f)
+        (h (subst (λ t. cond t true (is_run n (with_did k v gs)) ≡ true) f e))

@@ -1,5 +1,6 @@
 -- Each arm that runs is a task of its parent's tree.
-use Rattle.std.proofs.Common.{◌≡◌, ℕ, suc, ◌+◌, ◌≤◌, ◌<◌, length, List, [], ◌∷◌, ◌++◌, Option, Bool, true, false, cond, refl, sym, subst, ap}
+use Rattle.std.proofs.Common.{◌≡◌, ℕ, suc, ◌+◌, ◌≤◌, ◌<◌, length, List, [], ◌∷◌, ◌++◌, Option, Bool, true, false, cond, refl, sym, subst}
+use Rattle.std.proofs.Common.{ap}
 use Rattle.std.proofs.Common.{◌∙◌, arith, ◌⊎◌}
 use mathlib.Core.Logic.{inl, inr}
 use Rattle.verse_code.specs.declared.codes.Code.{Code}
@@ -16,7 +17,8 @@ use Rattle.run_save_moves.specs.Moves as m
 use Rattle.run_save_moves.specs.Moves.{Point, Move, IsArmOf}
 use Rattle.run_save_fits.specs.Held.{IsSome, RoleIs, WhoIs, tasks_sum, one}
 use Rattle.run_save_kept.specs.Orders.{last, is_named, runs_in, arms_of, in_group, awaits, weight}
-use Rattle.run_save_kept.proofs.Paths.{two_ways, clash, one_most, same_is, is_same, not_same, end_is, root_no_part, shorter_not, Rises, since_rises, arms_rise}
+use Rattle.run_save_kept.proofs.Paths.{two_ways, clash, one_most, same_is, is_same, not_same, end_is, root_no_part, shorter_not, Rises}
+use Rattle.run_save_kept.proofs.Paths.{since_rises, arms_rise}
 use Rattle.run_save_kept.proofs.Paths.{runs_end, runs_did, no_run, with_fewer, with_most}
 use Rattle.run_save_kept.proofs.Sums.{onto_sum, fewer, stays_sum, none_stays, none_sum, each_join, front_each, back_each}
 use Rattle.run_save_kept.proofs.Rails.{head, Rail, Railed}
@@ -91,12 +93,13 @@ module _ (a : List ℕ) (some : IsSome a) (n : ℕ) where
   Present (m.rests pre post us trees s) =
       (due us + (asked pre + (asked post + asked_above us)) ≤ spare us + (there pre + (there post + there_above us))) × Others us trees
   Present (m.gathering k p gs ls x pre post us trees s) =
-      (arms_of a n x.who.path gs + (asked pre + (asked post + asked_above us)) ≤ lead x.who us + (there pre + (there post + there_above us))) × Others us
-      trees
+      (arms_of a n x.who.path gs + (asked pre + (asked post + asked_above us)) ≤ lead x.who us +
+      (there pre + (there post + there_above us))) × Others us trees
   Present (m.cancels b ts o s) = AllThere (lead (head b) o.ups) o.pre o.post o.ups × Others o.ups o.trees
   Present (m.going w fs o s) = AllThere (lead w o.ups) o.pre o.post o.ups × Others o.ups o.trees
   Present (m.ended r w v o s) = AllThere (lead w o.ups) o.pre o.post o.ups × Others o.ups o.trees
-  Present (m.climbs up i v pre post trees s) = (asked pre + asked post ≤ one (same_path child (up ++ i ∷ [])) + (there pre + there post)) × Others [] trees
+  Present (m.climbs up i v pre post trees s) = (asked pre + asked post ≤ one (same_path child (up ++ i ∷ [])) + (there pre + there post)) ×
+      Others [] trees
   Present (m.wakes i v tss s) = TreesThere tss
   Present (m.turns s tss) = TreesThere tss
 
@@ -115,7 +118,8 @@ module _ (a : List ℕ) (some : IsSome a) (n : ℕ) where
       by_test true = refl
       by_test false = refl
 
-  arms_end : (path : List ℕ) (gs : List Part) (i : ℕ) → arms_of a n path (gs ++ runs i ∷ []) ≡ arms_of a n path gs + arms_of a n path (runs i ∷ [])
+  arms_end : (path : List ℕ) (gs : List Part) (i : ℕ) →
+      arms_of a n path (gs ++ runs i ∷ []) ≡ arms_of a n path gs + arms_of a n path (runs i ∷ [])
   arms_end path gs i = by_test (same_path a path)
     where
       by_test : (t : Bool) → cond t (runs_in n (gs ++ runs i ∷ [])) 0 ≡ cond t (runs_in n gs) 0 + cond t (runs_in n (runs i ∷ [])) 0
@@ -145,7 +149,8 @@ module _ (a : List ℕ) (some : IsSome a) (n : ℕ) where
 
   -- no other task has the path, so none asks
   unasked : (ts : List Task) → tasks_sum (weight (has_path a) no_arms) ts ≡ 0 → asked ts ≡ 0
-  unasked ts e = none_sum (weight (has_path a) no_arms) (awaits a n) (λ t f. none_in t.thread.who.path t.rest (not_one (same_path a t.thread.who.path)
+  unasked ts e = none_sum (weight (has_path a) no_arms) (awaits a n)
+      (λ t f. none_in t.thread.who.path t.rest (not_one (same_path a t.thread.who.path)
       (second (in_group no_arms t.thread.who.path t.rest) (one (same_path a t.thread.who.path)) f))) ts e
     where
       second : (i j : ℕ) → i + j ≡ 0 → j ≡ 0
@@ -173,14 +178,15 @@ module _ (a : List ℕ) (some : IsSome a) (n : ℕ) where
 
   -- ---- some are taken out
 
-  module _ (w : Who) (f : List ℕ → Bool) (takes : Takes w.path f) (rises : Rises w.path f) (pre post : List Task) (us : List Up) (rail : Rail w us)
-      (alone : a ≡ w.path → (asked pre ≡ 0) × (asked post ≡ 0)) where
+  module _ (w : Who) (f : List ℕ → Bool) (takes : Takes w.path f) (rises : Rises w.path f) (pre post : List Task) (us : List Up)
+      (rail : Rail w us) (alone : a ≡ w.path → (asked pre ≡ 0) × (asked post ≡ 0)) where
     all_stay : f child ≡ false → (ts : List Task) → there (without f ts) ≡ there ts
-    all_stay e ts = stays_sum (is_named child) f (λ t g. ap one (not_same child t.thread.who.path (λ h. clash (f t.thread.who.path) g (ap f (sym h) ∙ e)))) ts
+    all_stay e ts = stays_sum (is_named child) f
+        (λ t g. ap one (not_same child t.thread.who.path (λ h. clash (f t.thread.who.path) g (ap f (sym h) ∙ e)))) ts
 
     none_left : f a ≡ true → (ts : List Task) → asked (without f ts) ≡ 0
-    none_left e ts = none_stays (awaits a n) f (λ t g. none_in t.thread.who.path t.rest (not_same a t.thread.who.path (λ h. clash (f t.thread.who.path) (ap f
-        (sym h) ∙ e) g))) ts
+    none_left e ts = none_stays (awaits a n) f
+        (λ t g. none_in t.thread.who.path t.rest (not_same a t.thread.who.path (λ h. clash (f t.thread.who.path) (ap f (sym h) ∙ e) g))) ts
 
     pub still_there : (v : ℕ) → AllThere v pre post us → AllThere v (without f pre) (without f post) us
     still_there v h = by_child (two_ways (f child))
@@ -210,8 +216,10 @@ module _ (a : List ℕ) (some : IsSome a) (n : ℕ) where
       has_path a w.path + of_others (has_path a) no_arms pre post us trees ≤ room a left → a ≡ w.path → (asked pre ≡ 0) × (asked post ≡ 0)
   alone_of left w pre post us trees h e =
       let f = ap one (is_same a w.path e) in let g = one_most (ltn left (suc (last a))) in (
-        unasked pre (first (has_path a w.path) (of_tasks (has_path a) no_arms pre) (of_tasks (has_path a) no_arms post) _ (room a left) h f g),
-        unasked post (second (has_path a w.path) (of_tasks (has_path a) no_arms pre) (of_tasks (has_path a) no_arms post) _ (room a left) h f g),
+        unasked pre (first (has_path a w.path) (of_tasks (has_path a) no_arms pre) (of_tasks (has_path a) no_arms post) _ (room a left) h f
+            g),
+        unasked post (second (has_path a w.path) (of_tasks (has_path a) no_arms pre) (of_tasks (has_path a) no_arms post) _
+            (room a left) h f g),
       )
     where
       first : (i x y z k : ℕ) → i + ((x + y) + z) ≤ k → i ≡ 1 → k ≤ 1 → x ≡ 0
@@ -229,7 +237,8 @@ module _ (a : List ℕ) (some : IsSome a) (n : ℕ) where
       by_test : (same_path a x.who.path ≡ true) ⊎ (same_path a x.who.path ≡ false) → (eqn n i ≡ true) ⊎ (eqn n i ≡ false) →
           arms_of a n x.who.path (runs i ∷ []) + 0 ≤ one (same_path child w.path) + 0
       by_test (inl e) (inl f) =
-          let g = ap one (is_same child w.path (ap (λ j. a ++ j ∷ []) (eqn_is n i f) ∙ (ap (λ path. path ++ i ∷ []) (same_is a x.who.path e) ∙ sym r.0))) in
+          let g = ap one (is_same child w.path (ap (λ j. a ++ j ∷ []) (eqn_is n i f) ∙
+          (ap (λ path. path ++ i ∷ []) (same_is a x.who.path e) ∙ sym r.0))) in
           let h = arms_on x.who.path (runs i ∷ []) e in let j = ap one f in omega (arith, g, h, j)
       by_test (inl e) (inr f) = let h = arms_on x.who.path (runs i ∷ []) e in let j = ap one f in omega (arith, h, j)
       by_test (inr e) f = let h = arms_off x.who.path (runs i ∷ []) e in omega (arith, h)
@@ -247,9 +256,10 @@ module _ (a : List ℕ) (some : IsSome a) (n : ℕ) where
   tree_there : (pre post : List Task) → asked pre + asked post ≤ there pre + there post → asked (onto pre post) ≤ there (onto pre post)
   tree_there pre post h = let f = onto_sum (awaits a n) pre post in let g = onto_sum (is_named child) pre post in omega (arith, h, f, g)
 
-  among_there : (pre post : List Task) (trees : Trees) → asked pre + asked post ≤ there pre + there post → TreesThere trees.before → TreesThere trees.behind →
-      TreesThere (trees.before ++ onto pre post ∷ trees.behind)
-  among_there pre post trees h f g = each_join (λ ts. asked ts ≤ there ts) trees.before (onto pre post ∷ trees.behind) f (tree_there pre post h, g)
+  among_there : (pre post : List Task) (trees : Trees) → asked pre + asked post ≤ there pre + there post → TreesThere trees.before →
+      TreesThere trees.behind → TreesThere (trees.before ++ onto pre post ∷ trees.behind)
+  among_there pre post trees h f g = each_join (λ ts. asked ts ≤ there ts) trees.before (onto pre post ∷ trees.behind) f
+      (tree_there pre post h, g)
 
   -- ---- the end of a task that no arm is
 
@@ -261,22 +271,25 @@ module _ (a : List ℕ) (some : IsSome a) (n : ℕ) where
       by_test true = no_run n gs (subst (λ j. is_run j gs ≡ false) (sym e) h)
       by_test false = refl
 
-  no_group : (up : List ℕ) (i : ℕ) (v : Val) (y : Task) (pre post : List Task) (trees : Trees) (left : ℕ) → same_path up y.thread.who.path ≡ true →
-      IsArmOf i y.rest false → has_path a (up ++ i ∷ []) + of_others (has_path a) no_arms pre (y ∷ post) [] trees ≤ room a left →
-      asked pre + asked (y ∷ post) ≤ one (same_path child (up ++ i ∷ [])) + (there pre + there (y ∷ post)) → asked pre + asked (y ∷ post) ≤ there pre + there
-      (y ∷ post)
+  no_group : (up : List ℕ) (i : ℕ) (v : Val) (y : Task) (pre post : List Task) (trees : Trees) (left : ℕ) →
+      same_path up y.thread.who.path ≡ true → IsArmOf i y.rest false →
+      has_path a (up ++ i ∷ []) + of_others (has_path a) no_arms pre (y ∷ post) [] trees ≤ room a left →
+      asked pre + asked (y ∷ post) ≤ one (same_path child (up ++ i ∷ [])) + (there pre + there (y ∷ post)) →
+      asked pre + asked (y ∷ post) ≤ there pre + there (y ∷ post)
   no_group up i v y pre post trees left e q h b = by_test (two_ways (same_path child (up ++ i ∷ [])))
     where
-      by_test : (same_path child (up ++ i ∷ []) ≡ true) ⊎ (same_path child (up ++ i ∷ []) ≡ false) → asked pre + asked (y ∷ post) ≤ there pre + there (y ∷
-          post)
+      by_test : (same_path child (up ++ i ∷ []) ≡ true) ⊎ (same_path child (up ++ i ∷ []) ≡ false) →
+          asked pre + asked (y ∷ post) ≤ there pre + there (y ∷ post)
       by_test (inl f) =
           let g = end_is a up n i (same_is child (up ++ i ∷ []) f) in
           let j = not_asked i y.thread.who.path y.rest q g.1 in
           let k = ap one (is_same a y.thread.who.path (g.0 ∙ same_is up y.thread.who.path e)) in
           let l = one_most (ltn left (suc (last a))) in
-          let t = unasked pre (first (has_path a (up ++ i ∷ [])) (in_group no_arms y.thread.who.path y.rest) (has_path a y.thread.who.path) (of_tasks (has_path a) no_arms pre) (of_tasks (has_path
+          let t = unasked pre (first (has_path a (up ++ i ∷ [])) (in_group no_arms y.thread.who.path y.rest) (has_path a y.thread.who.path)
+          (of_tasks (has_path a) no_arms pre) (of_tasks (has_path
           a) no_arms post) _ (room a left) h k l) in
-          let u = unasked post (second (has_path a (up ++ i ∷ [])) (in_group no_arms y.thread.who.path y.rest) (has_path a y.thread.who.path) (of_tasks (has_path a) no_arms pre) (of_tasks (has_path
+          let u = unasked post (second (has_path a (up ++ i ∷ [])) (in_group no_arms y.thread.who.path y.rest)
+          (has_path a y.thread.who.path) (of_tasks (has_path a) no_arms pre) (of_tasks (has_path
           a) no_arms post) _ (room a left) h k l) in
           omega (arith, j, t, u)
         where
@@ -287,14 +300,16 @@ module _ (a : List ℕ) (some : IsSome a) (n : ℕ) where
           second i w j x y z k h f g = omega (arith, h, f, g)
       by_test (inr f) = let g = ap one f in omega (arith, g, b)
 
-  joins : (up : List ℕ) (i : ℕ) (v : Val) (y : Task) (gs : List Part) (pre post : List Task) → same_path up y.thread.who.path ≡ true → in_group (arms_of a n)
-      y.thread.who.path y.rest ≡ arms_of a n y.thread.who.path gs → is_run i gs ≡ true →
+  joins : (up : List ℕ) (i : ℕ) (v : Val) (y : Task) (gs : List Part) (pre post : List Task) → same_path up y.thread.who.path ≡ true →
+      in_group (arms_of a n) y.thread.who.path y.rest ≡ arms_of a n y.thread.who.path gs → is_run i gs ≡ true →
       asked pre + asked (y ∷ post) ≤ one (same_path child (up ++ i ∷ [])) + (there pre + there (y ∷ post)) →
-      arms_of a n y.thread.who.path (with_did i v gs) + (asked pre + (asked post + 0)) ≤ one (same_path child y.thread.who.path) + (there pre + (there post + 0))
+      arms_of a n y.thread.who.path (with_did i v gs) + (asked pre + (asked post + 0)) ≤ one (same_path child y.thread.who.path) +
+      (there pre + (there post + 0))
   joins up i v y gs pre post e q r b = by_test (two_ways (same_path child (up ++ i ∷ [])))
     where
-      by_test : (same_path child (up ++ i ∷ []) ≡ true) ⊎ (same_path child (up ++ i ∷ []) ≡ false) → arms_of a n y.thread.who.path (with_did i v gs) + (asked
-          pre + (asked post + 0)) ≤ one (same_path child y.thread.who.path) + (there pre + (there post + 0))
+      by_test : (same_path child (up ++ i ∷ []) ≡ true) ⊎ (same_path child (up ++ i ∷ []) ≡ false) →
+          arms_of a n y.thread.who.path (with_did i v gs) + (asked pre + (asked post + 0)) ≤ one (same_path child y.thread.who.path) +
+          (there pre + (there post + 0))
       by_test (inl f) =
           let g = end_is a up n i (same_is child (up ++ i ∷ []) f) in
           let k = is_same a y.thread.who.path (g.0 ∙ same_is up y.thread.who.path e) in
@@ -313,17 +328,20 @@ module _ (a : List ℕ) (some : IsSome a) (n : ℕ) where
   present (m.branches i e) r d b = let g = b.0 in (omega (arith, g), b.1)
   present (m.begins_group {w = w} i p) r d b = let h = arms_none w.path in let g = b.0 in (omega (arith, h, g), b.1)
   present (m.returns {w = w} {o = o} {s = s} {f = f} v) r d b = (
-    still_there w (since w.path f.life.born) (since_takes w.path f.life.born) (since_rises w.path f.life.born) o.pre o.post o.ups r (alone_of
+    still_there w (since w.path f.life.born) (since_takes w.path f.life.born) (since_rises w.path f.life.born) o.pre o.post o.ups r
+        (alone_of
         s.clock.left w o.pre o.post o.ups o.trees d) (lead w o.ups) b.0,
     b.1,
   )
   present (m.finishes {w = w} {o = o} {s = s} {f = f} e v) r d b = (
-    still_there w (since w.path f.life.born) (since_takes w.path f.life.born) (since_rises w.path f.life.born) o.pre o.post o.ups r (alone_of
+    still_there w (since w.path f.life.born) (since_takes w.path f.life.born) (since_rises w.path f.life.born) o.pre o.post o.ups r
+        (alone_of
         s.clock.left w o.pre o.post o.ups o.trees d) (lead w o.ups) b.0,
     b.1,
   )
   present (m.ends {w = w} {o = o} {s = s} {f = f} e v) r d b = (
-    still_there w (since w.path f.life.born) (since_takes w.path f.life.born) (since_rises w.path f.life.born) o.pre o.post o.ups r (alone_of
+    still_there w (since w.path f.life.born) (since_takes w.path f.life.born) (since_rises w.path f.life.born) o.pre o.post o.ups r
+        (alone_of
         s.clock.left w o.pre o.post o.ups o.trees d) (lead w o.ups) b.0,
     b.1,
   )
@@ -332,11 +350,13 @@ module _ (a : List ℕ) (some : IsSome a) (n : ℕ) where
   present (m.stands {x = x} {us = us} i) r d b = let h = rests_there x.who us r in let g = b.0 in (omega (arith, h, g), b.1)
   present (m.gathered v) r d b = let g = b.0 in (omega (arith, g), b.1)
   present (m.races {gs = gs} {x = x} {pre = pre} {post = post} {us = us} {trees = trees} {s = s} v) r d b = let g = b.0 in (
-    still_there x.who (beneath_arms x.who.path gs) (arms_takes x.who.path gs) (arms_rise x.who.path gs) pre post us r (alone_of s.clock.left x.who pre post
+    still_there x.who (beneath_arms x.who.path gs) (arms_takes x.who.path gs) (arms_rise x.who.path gs) pre post us r
+        (alone_of s.clock.left x.who pre post
         us trees (omega (arith, d))) (lead x.who us) (omega (arith, g)),
     b.1,
   )
-  present (m.rests_alone {pre = pre} {post = post} {trees = trees}) r d b = let g = b.0 in among_there pre post trees (omega (arith, g)) b.1.1 b.1.2
+  present (m.rests_alone {pre = pre} {post = post} {trees = trees}) r d b = let g =
+      b.0 in among_there pre post trees (omega (arith, g)) b.1.1 b.1.2
   present (m.rests_arm {gs = gs} {n = i} {x = x}) r d b = let g = b.0 in let h = arms_end x.who.path gs i in (omega (arith, g, h), b.1)
   present m.rests_behind r d b = let g = b.0 in (omega (arith, g), b.1)
   present (m.rests_spawned {pre = pre} {post = post} {trees = trees}) r d b = let g = b.0 in (
@@ -354,7 +374,8 @@ module _ (a : List ℕ) (some : IsSome a) (n : ℕ) where
   present m.all_gone r d b = b
   present m.frame_gone r d b = b
   present (m.frame_clears e i) r d b = b
-  present (m.ended_alone {w = w}) r d b = let g = b.0 in let h = ap (λ path. one (same_path child path)) (part_path w r.0 r.1) in (omega (arith, g, h), b.1)
+  present (m.ended_alone {w = w}) r d b = let g = b.0 in let h =
+      ap (λ path. one (same_path child path)) (part_path w r.0 r.1) in (omega (arith, g, h), b.1)
   present (m.ended_arm {v = v} {gs = gs} {x = x}) r d b = let g = b.0 in let h = arms_did x.who.path gs v in (omega (arith, g, h), b.1)
   present m.ended_behind r d b = let g = b.0 in (omega (arith, g), b.1)
   present (m.ended_root {w = w} {entry = entry} {pre = pre} {post = post} {trees = trees}) r d b =

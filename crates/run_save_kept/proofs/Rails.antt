@@ -92,7 +92,8 @@ rails (m.arm_begins e) l a = (refl, a)
 rails (m.stands {x = x} {us = us} n) l a = rail_ups x.who us a
 rails (m.gathered v) l a = a
 rails (m.races {gs = gs} {x = x} {pre = pre} {post = post} {us = us} {trees = trees} v) l a = (
-  cancelled_each (Longer x.who) (beneath_arms x.who.path gs) (λ t e. longer ((arms_takes x.who.path gs).deeper t.thread.who.path e)) (world pre post us
+  cancelled_each (Longer x.who) (beneath_arms x.who.path gs) (λ t e. longer ((arms_takes x.who.path gs).deeper t.thread.who.path e))
+      (world pre post us
       trees),
   tt,
   a,
@@ -116,6 +117,7 @@ rails m.ended_spawned l a = a.1
 rails (m.climbs_on e) l a = tt
 rails (m.joins_no_group e i) l a = tt
 rails (m.joins {y = y} {pre = pre} {post = post} {s = s} e r i) l a = sits s.clock.left pre y.thread.who (whos post) l.own
-rails (m.woken {before = before} {behind = behind} {pre = pre} {post = post} {y = y} {s = s} e r i) l a = sits s.clock.left pre y.thread.who (whos post)
-    (subst (Lined s.clock.left) (onto_line pre (y ∷ post)) (back_each (λ ts. Lined s.clock.left (whos ts)) before (onto pre (y ∷ post) ∷ behind) (subst
-    (TreesLined s.clock.left) e l)).0)
+rails (m.woken {before = before} {behind = behind} {pre = pre} {post = post} {y = y} {s = s} e r i) l a =
+    sits s.clock.left pre y.thread.who (whos post)
+    (subst (Lined s.clock.left) (onto_line pre (y ∷ post))
+    (back_each (λ ts. Lined s.clock.left (whos ts)) before (onto pre (y ∷ post) ∷ behind) (subst (TreesLined s.clock.left) e l)).0)

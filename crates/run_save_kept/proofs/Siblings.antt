@@ -25,8 +25,9 @@ part_path (root entry) w a s = absurd (subst IsSome a.0 s)
 part_path part w a s = a.0
 
 older : (t u : Who) → WhoIs t → WhoIs u → Before t.path u.path → IsSome t.up → t.up ≡ u.up → u.number < t.number
-older t u a b h s e = siblings_fall t.up t.number u.number (subst (λ p. Before (t.up ++ t.number ∷ []) p) (part_path u.role u b (subst IsSome e s) ∙ ap
-    (λ up. up ++ u.number ∷ []) (sym e)) (subst (λ p. Before p u.path) (part_path t.role t a s) h))
+older t u a b h s e = siblings_fall t.up t.number u.number
+    (subst (λ p. Before (t.up ++ t.number ∷ []) p) (part_path u.role u b (subst IsSome e s) ∙ ap (λ up. up ++ u.number ∷ []) (sym e))
+    (subst (λ p. Before p u.path) (part_path t.role t a s) h))
 
 -- ---- lists
 
@@ -57,8 +58,8 @@ module _ (f : Task → ℕ) where
 
   behind_sum : (y : Task) (xs : List Task) → tasks_sum f (behind_parent y xs) ≡ f y + tasks_sum f xs
   behind_sum y [] = refl
-  behind_sum y (x ∷ xs) = let h = behind_sum y xs in cond_sum (same_path y.thread.who.up x.thread.who.path) (x ∷ y ∷ xs) (x ∷ behind_parent y xs)
-      (f y + (f x + tasks_sum f xs)) (omega arith) (omega (arith, h))
+  behind_sum y (x ∷ xs) = let h = behind_sum y xs in cond_sum (same_path y.thread.who.up x.thread.who.path) (x ∷ y ∷ xs)
+      (x ∷ behind_parent y xs) (f y + (f x + tasks_sum f xs)) (omega arith) (omega (arith, h))
 
   pub walked_sum : (ys : List Task) → tasks_sum f (walked ys) ≡ tasks_sum f ys
   walked_sum [] = refl
@@ -66,9 +67,11 @@ module _ (f : Task → ℕ) where
 
   pub walk_sum : (tss : Forest) → tasks_sum f (walk tss) ≡ trees_sum f tss
   walk_sum [] = refl
-  walk_sum (ts ∷ tss) = let a = tasks_join f (walked ts) (walk tss) in let b = walked_sum ts in let d = walk_sum tss in omega (arith, a, b, d)
+  walk_sum (ts ∷ tss) = let a = tasks_join f (walked ts) (walk tss) in let b = walked_sum ts in let d =
+      walk_sum tss in omega (arith, a, b, d)
 
-two_join : {A : Type 0} (R : A → A → Type 0) (xs ys : List A) → EachTwo R xs → EachTwo R ys → Each (λ x. Each (R x) ys) xs → EachTwo R (xs ++ ys)
+two_join : {A : Type 0} (R : A → A → Type 0) (xs ys : List A) → EachTwo R xs → EachTwo R ys → Each (λ x. Each (R x) ys) xs →
+    EachTwo R (xs ++ ys)
 two_join R [] ys a b d = b
 two_join R (x ∷ xs) ys a b d = (each_join (R x) xs ys a.0 d.0, two_join R xs ys a.1 b d.1)
 
@@ -81,7 +84,8 @@ trees_names left tss a = all_as (λ ts. Lined left (whos ts)) (λ ts. Each Named
 
 -- ---- one tree
 
-line_older : (t : Task) (us : List Task) → Named t → Each Named us → Each (λ (v : Who). StandsBefore t.thread.who.path v.path) (whos us) → Each (Older t) us
+line_older : (t : Task) (us : List Task) → Named t → Each Named us → Each (λ (v : Who). StandsBefore t.thread.who.path v.path) (whos us) →
+    Each (Older t) us
 line_older t [] a b d = tt
 line_older t (u ∷ us) a b d = (older t.thread.who u.thread.who a b.0 d.0.0, line_older t us a b.1 d.1)
 
@@ -89,7 +93,8 @@ nil_end : (xs : List Task) → xs ++ [] ≡ xs
 nil_end [] = refl
 nil_end (x ∷ xs) = ap (λ zs. x ∷ zs) (nil_end xs)
 
-in_end : (path : List ℕ) (seen : List Task) (x : Task) → (IsIn path seen → ⊥) → same_path path x.thread.who.path ≡ false → IsIn path (seen ++ x ∷ []) → ⊥
+in_end : (path : List ℕ) (seen : List Task) (x : Task) → (IsIn path seen → ⊥) → same_path path x.thread.who.path ≡ false →
+    IsIn path (seen ++ x ∷ []) → ⊥
 in_end path [] x out e (inl h) = both (same_path path x.thread.who.path) h e
   where
     both : (b : Bool) → b ≡ true → b ≡ false → ⊥
@@ -100,21 +105,23 @@ in_end path (y ∷ seen) x out e (inl h) = out (inl h)
 in_end path (y ∷ seen) x out e (inr h) = in_end path seen x (λ g. out (inr g)) e h
 
 -- no sibling stands before its parent
-no_sibling : (x y : Task) (seen : List Task) (q : Role) → RoleIs q x.thread.who → Follows q x.thread.who.up seen → (IsIn y.thread.who.up seen → ⊥) →
-    Older x y
+no_sibling : (x y : Task) (seen : List Task) (q : Role) → RoleIs q x.thread.who → Follows q x.thread.who.up seen →
+    (IsIn y.thread.who.up seen → ⊥) → Older x y
 no_sibling x y seen (root entry) a f out s e = absurd (subst IsSome a.0 s)
 no_sibling x y seen part a f out s e = absurd (out (subst (λ up. IsIn up seen) e f))
 
-put : (y : Task) (xs seen : List Task) → Each Named xs → InWalk seen xs → (IsIn y.thread.who.up seen → ⊥) → Each (Older y) xs → EachTwo Older xs →
-    EachTwo Older (behind_parent y xs)
+put : (y : Task) (xs seen : List Task) → Each Named xs → InWalk seen xs → (IsIn y.thread.who.up seen → ⊥) → Each (Older y) xs →
+    EachTwo Older xs → EachTwo Older (behind_parent y xs)
 put y [] seen n w out o t = (tt, tt)
-put y (x ∷ xs) seen n w out o t = by_test (same_path y.thread.who.up x.thread.who.path) refl (λ g. put y xs (seen ++ x ∷ []) n.1 w.1 g o.1 t.1)
+put y (x ∷ xs) seen n w out o t = by_test (same_path y.thread.who.up x.thread.who.path) refl
+    (λ g. put y xs (seen ++ x ∷ []) n.1 w.1 g o.1 t.1)
   where
     first : Older x y
     first = no_sibling x y seen x.thread.who.role n.0 w.0 out
 
-    by_test : (b : Bool) → same_path y.thread.who.up x.thread.who.path ≡ b → ((IsIn y.thread.who.up (seen ++ x ∷ []) → ⊥) → EachTwo Older (behind_parent y
-        xs)) → EachTwo Older (cond b (x ∷ y ∷ xs) (x ∷ behind_parent y xs))
+    by_test : (b : Bool) → same_path y.thread.who.up x.thread.who.path ≡ b →
+        ((IsIn y.thread.who.up (seen ++ x ∷ []) → ⊥) → EachTwo Older (behind_parent y xs)) →
+        EachTwo Older (cond b (x ∷ y ∷ xs) (x ∷ behind_parent y xs))
     by_test true e h = ((first, t.0), (o.1, t.1))
     by_test false e h = (behind_each (Older x) y xs first t.0, h (in_end y.thread.who.up seen x out e))
 
@@ -123,8 +130,8 @@ walked_well left ts r = subst (InWalk []) (nil_end (walked ts)) (walk_well left 
 
 walked_older : (left : ℕ) (ts : List Task) → Rooted left (whos ts) → Lined left (whos ts) → EachTwo Older (walked ts)
 walked_older left [] r a = tt
-walked_older left (y ∷ ys) r a = put y (walked ys) [] (walked_each Named ys (line_names left ys a.2)) (walked_well left ys (rooted_tail r)) (λ h. h)
-    (walked_each (Older y) ys (line_older y ys a.0.named (line_names left ys a.2) a.1)) (walked_older left ys (rooted_tail r) a.2)
+walked_older left (y ∷ ys) r a = put y (walked ys) [] (walked_each Named ys (line_names left ys a.2)) (walked_well left ys (rooted_tail r))
+    (λ h. h) (walked_each (Older y) ys (line_older y ys a.0.named (line_names left ys a.2) a.1)) (walked_older left ys (rooted_tail r) a.2)
 
 -- ---- all trees
 
@@ -142,7 +149,8 @@ front_in path [] ys h = absurd h
 abbrev pub HasOwn : List Task → Task → Type 0
 HasOwn all t = IsSome t.thread.who.up → 1 ≤ tasks_sum (is_named t.thread.who.up) all
 
-follows_parent : (q : Role) (t : Task) (seen rest : List Task) → RoleIs q t.thread.who → Follows q t.thread.who.up seen → HasOwn (seen ++ rest) t
+follows_parent : (q : Role) (t : Task) (seen rest : List Task) → RoleIs q t.thread.who → Follows q t.thread.who.up seen →
+    HasOwn (seen ++ rest) t
 follows_parent (root entry) t seen rest a f s = absurd (subst IsSome a.0 s)
 follows_parent part t seen rest a f s = in_sum t.thread.who.up (seen ++ rest) (front_in t.thread.who.up seen rest f)
 
@@ -157,20 +165,22 @@ parents_from seen (x ∷ xs) n w = (
   subst (λ all. Each (HasOwn all) xs) (sym (join seen x xs)) (parents_from (seen ++ x ∷ []) xs n.1 w.1),
 )
 
-pub walked_parents : (left : ℕ) (ts : List Task) → Rooted left (whos ts) → Lined left (whos ts) → Each (λ y. Named y × HasOwn (walked ts) y) (walked ts)
-walked_parents left ts r a = both (walked ts) (walked_each Named ts (line_names left ts a)) (parents_from [] (walked ts) (walked_each Named ts (line_names left
-    ts a)) (walked_well left ts r))
+pub walked_parents : (left : ℕ) (ts : List Task) → Rooted left (whos ts) → Lined left (whos ts) →
+    Each (λ y. Named y × HasOwn (walked ts) y) (walked ts)
+walked_parents left ts r a = both (walked ts) (walked_each Named ts (line_names left ts a))
+    (parents_from [] (walked ts) (walked_each Named ts (line_names left ts a)) (walked_well left ts r))
   where
     both : (xs : List Task) → Each Named xs → Each (HasOwn (walked ts)) xs → Each (λ y. Named y × HasOwn (walked ts) y) xs
     both [] a b = tt
     both (x ∷ xs) a b = ((a.0, b.0), both xs a.1 b.1)
 
 -- no task of one tree is a sibling of one of another
-apart : (xs ys : List Task) → ((p : List ℕ) → tasks_sum (is_named p) xs + tasks_sum (is_named p) ys ≤ 1) → Each (HasOwn ys) ys → (x : Task) →
-    HasOwn xs x → (us : List Task) → Each (HasOwn ys) us → Each (Older x) us
+apart : (xs ys : List Task) → ((p : List ℕ) → tasks_sum (is_named p) xs + tasks_sum (is_named p) ys ≤ 1) → Each (HasOwn ys) ys →
+    (x : Task) → HasOwn xs x → (us : List Task) → Each (HasOwn ys) us → Each (Older x) us
 apart xs ys one_name all x h [] a = tt
 apart xs ys one_name all x h (u ∷ us) a = (
-  (λ s e. absurd (no (tasks_sum (is_named x.thread.who.up) xs) (tasks_sum (is_named x.thread.who.up) ys) (one_name x.thread.who.up) (h s) (subst (λ up.
+  (λ s e. absurd (no (tasks_sum (is_named x.thread.who.up) xs) (tasks_sum (is_named x.thread.who.up) ys) (one_name x.thread.who.up) (h s)
+      (subst (λ up.
       1 ≤ tasks_sum (is_named up) ys) (sym e) (a.0 (subst IsSome e s))))),
   apart xs ys one_name all x h us a.1,
 )
@@ -181,12 +191,13 @@ apart xs ys one_name all x h (u ∷ us) a = (
 pub walk_older : (left : ℕ) (tss : Forest) → Each (λ ts. Rooted left (whos ts)) tss → Each (λ ts. Lined left (whos ts)) tss →
     ((p : List ℕ) → tasks_sum (is_named p) (walk tss) ≤ 1) → EachTwo Older (walk tss)
 walk_older left [] r a n = tt
-walk_older left (ts ∷ tss) r a n = two_join Older (walked ts) (walk tss) (walked_older left ts r.0 a.0) (walk_older left tss r.1 a.1 (λ p. second
-    (tasks_sum (is_named p) (walked ts)) (tasks_sum (is_named p) (walk tss)) (tasks_sum (is_named p) (walk (ts ∷ tss))) (tasks_join (is_named p) (walked
-    ts) (walk tss)) (n p)))
-    (all_as (HasOwn (walked ts)) (λ x. Each (Older x) (walk tss)) (λ x h. apart (walked ts) (walk tss) (λ p. both (tasks_sum (is_named p) (walked ts)
-    + tasks_sum (is_named p) (walk tss)) (tasks_sum (is_named p) (walk (ts ∷ tss))) (tasks_join (is_named p) (walked ts) (walk tss)) (n p)) others x h (walk
-    tss) others) (walked ts) (parents_from [] (walked ts) (walked_each Named ts (line_names left ts a.0)) (walked_well left ts r.0)))
+walk_older left (ts ∷ tss) r a n = two_join Older (walked ts) (walk tss) (walked_older left ts r.0 a.0)
+    (walk_older left tss r.1 a.1 (λ p. second (tasks_sum (is_named p) (walked ts)) (tasks_sum (is_named p) (walk tss))
+    (tasks_sum (is_named p) (walk (ts ∷ tss))) (tasks_join (is_named p) (walked ts) (walk tss)) (n p)))
+    (all_as (HasOwn (walked ts)) (λ x. Each (Older x) (walk tss))
+    (λ x h. apart (walked ts) (walk tss) (λ p. both (tasks_sum (is_named p) (walked ts) + tasks_sum (is_named p) (walk tss))
+    (tasks_sum (is_named p) (walk (ts ∷ tss))) (tasks_join (is_named p) (walked ts) (walk tss)) (n p)) others x h (walk tss) others)
+    (walked ts) (parents_from [] (walked ts) (walked_each Named ts (line_names left ts a.0)) (walked_well left ts r.0)))
   where
     others : Each (HasOwn (walk tss)) (walk tss)
     others = parents_from [] (walk tss) (walk_each Named tss (trees_names left tss a.1)) (walk_well left tss r.1)

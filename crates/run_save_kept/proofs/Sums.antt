@@ -19,26 +19,27 @@ module _ (f : Task → ℕ) where
   onto_sum [] ts = omega arith
   onto_sum (x ∷ xs) ts = let h = onto_sum xs (x ∷ ts) in omega (arith, h)
 
-  pub among_sum : (ts : List Task) (before behind : Forest) → trees_sum f (before ++ ts ∷ behind) ≡ tasks_sum f ts + (trees_sum f before + trees_sum
-      f behind)
+  pub among_sum : (ts : List Task) (before behind : Forest) →
+      trees_sum f (before ++ ts ∷ behind) ≡ tasks_sum f ts + (trees_sum f before + trees_sum f behind)
   among_sum ts before behind = let h = trees_join before (ts ∷ behind) in omega (arith, h)
 
   pub one_tree : (tss : Forest) (ts : List Task) → trees_sum f (tss ++ ts ∷ []) ≡ trees_sum f tss + tasks_sum f ts
   one_tree tss ts = let h = trees_join tss (ts ∷ []) in omega (arith, h)
 
-  cond_is : (b : Bool) (xs ts : List Task) (n : ℕ) → (b ≡ true → tasks_sum f xs ≡ n) → (b ≡ false → tasks_sum f ts ≡ n) → tasks_sum f (cond b xs
-      ts) ≡ n
+  cond_is : (b : Bool) (xs ts : List Task) (n : ℕ) → (b ≡ true → tasks_sum f xs ≡ n) → (b ≡ false → tasks_sum f ts ≡ n) →
+      tasks_sum f (cond b xs ts) ≡ n
   cond_is true xs ts n g h = g refl
   cond_is false xs ts n g h = h refl
 
   inserted_sum : (t : Task) (ts : List Task) → tasks_sum f (inserted t ts) ≡ f t + tasks_sum f ts
   inserted_sum t [] = refl
-  inserted_sum t (x ∷ xs) = let h = inserted_sum t xs in cond_is (starts t.thread.who.path x.thread.who.path) (x ∷ inserted t xs) (t ∷ x ∷ xs)
-      (f t + (f x + tasks_sum f xs)) (λ e. omega (arith, h)) (λ e. refl)
+  inserted_sum t (x ∷ xs) = let h = inserted_sum t xs in cond_is (starts t.thread.who.path x.thread.who.path) (x ∷ inserted t xs)
+      (t ∷ x ∷ xs) (f t + (f x + tasks_sum f xs)) (λ e. omega (arith, h)) (λ e. refl)
 
   -- of a list of which some are taken out
-  split : (g : List ℕ → Bool) (t : Task) (ts xs : List Task) (all : ℕ) → tasks_sum f xs + tasks_sum f (without g ts) ≡ all → (ys : List Task) →
-      tasks_sum f ys ≡ f t + tasks_sum f xs → (b : Bool) → tasks_sum f (cond b ys xs) + tasks_sum f (cond b (without g ts) (t ∷ without g ts)) ≡ f t + all
+  split : (g : List ℕ → Bool) (t : Task) (ts xs : List Task) (all : ℕ) → tasks_sum f xs + tasks_sum f (without g ts) ≡ all →
+      (ys : List Task) → tasks_sum f ys ≡ f t + tasks_sum f xs → (b : Bool) →
+      tasks_sum f (cond b ys xs) + tasks_sum f (cond b (without g ts) (t ∷ without g ts)) ≡ f t + all
   split g t ts xs all e ys h true = omega (arith, e, h)
   split g t ts xs all e ys h false = omega (arith, e)
 
@@ -49,10 +50,12 @@ module _ (f : Task → ℕ) where
 
   pub behind_sum : (g : List ℕ → Bool) (ts : List Task) → tasks_sum f (gone_behind g ts) + tasks_sum f (without g ts) ≡ tasks_sum f ts
   behind_sum g [] = refl
-  behind_sum g (t ∷ ts) = split g t ts (gone_behind g ts) (tasks_sum f ts) (behind_sum g ts) (t ∷ gone_behind g ts) refl (g t.thread.who.path)
+  behind_sum g (t ∷ ts) = split g t ts (gone_behind g ts) (tasks_sum f ts) (behind_sum g ts) (t ∷ gone_behind g ts) refl
+      (g t.thread.who.path)
 
-  pub cancelled_sum : (g : List ℕ → Bool) (o : World) → tasks_sum f (cancelled g o) + (tasks_sum f (without g o.pre) + tasks_sum f (without g
-      o.post)) ≡ tasks_sum f o.pre + tasks_sum f o.post
+  pub cancelled_sum : (g : List ℕ → Bool) (o : World) →
+      tasks_sum f (cancelled g o) + (tasks_sum f (without g o.pre) + tasks_sum f (without g o.post)) ≡ tasks_sum f o.pre +
+      tasks_sum f o.post
   cancelled_sum g o =
       let a = tasks_join (gone_before g o.pre) (gone_behind g o.post) in
       let b = before_sum g o.pre in
@@ -84,14 +87,16 @@ pub none_stays : (f : Task → ℕ) (g : List ℕ → Bool) → ((t : Task) → 
 none_stays f g h [] = refl
 none_stays f g h (t ∷ ts) = by_test (g t.thread.who.path) (h t) (none_stays f g h ts)
   where
-    by_test : (b : Bool) → (b ≡ false → f t ≡ 0) → tasks_sum f (without g ts) ≡ 0 → tasks_sum f (cond b (without g ts) (t ∷ without g ts)) ≡ 0
+    by_test : (b : Bool) → (b ≡ false → f t ≡ 0) → tasks_sum f (without g ts) ≡ 0 →
+        tasks_sum f (cond b (without g ts) (t ∷ without g ts)) ≡ 0
     by_test true k e = e
     by_test false k e = let d = k refl in omega (arith, d, e)
 
 -- where one weighs nothing, another weighs nothing
 pub none_sum : (f g : Task → ℕ) → ((t : Task) → f t ≡ 0 → g t ≡ 0) → (ts : List Task) → tasks_sum f ts ≡ 0 → tasks_sum g ts ≡ 0
 none_sum f g h [] e = refl
-none_sum f g h (t ∷ ts) e = both (g t) (tasks_sum g ts) (h t (first (f t) (tasks_sum f ts) e)) (none_sum f g h ts (rest (f t) (tasks_sum f ts) e))
+none_sum f g h (t ∷ ts) e = both (g t) (tasks_sum g ts) (h t (first (f t) (tasks_sum f ts) e))
+    (none_sum f g h ts (rest (f t) (tasks_sum f ts) e))
   where
     first : (a b : ℕ) → a + b ≡ 0 → a ≡ 0
     first a b e = omega (arith, e)
@@ -111,7 +116,8 @@ sums_as f g h (t ∷ ts) = both (f t) (g t) (tasks_sum f ts) (tasks_sum g ts) (h
 
 pub trees_as : (f g : Task → ℕ) → ((t : Task) → f t ≡ g t) → (tss : Forest) → trees_sum f tss ≡ trees_sum g tss
 trees_as f g h [] = refl
-trees_as f g h (ts ∷ tss) = both (tasks_sum f ts) (tasks_sum g ts) (trees_sum f tss) (trees_sum g tss) (sums_as f g h ts) (trees_as f g h tss)
+trees_as f g h (ts ∷ tss) = both (tasks_sum f ts) (tasks_sum g ts) (trees_sum f tss) (trees_sum g tss) (sums_as f g h ts)
+    (trees_as f g h tss)
   where
     both : (a b x y : ℕ) → a ≡ b → x ≡ y → a + x ≡ b + y
     both a b x y e f = omega (arith, e, f)
@@ -126,8 +132,8 @@ sums_most f g i h (t ∷ ts) = both (f t) (g t) (i t) (tasks_sum f ts) (tasks_su
 
 pub trees_most : (f g i : Task → ℕ) → ((t : Task) → f t ≤ g t + i t) → (tss : Forest) → trees_sum f tss ≤ trees_sum g tss + trees_sum i tss
 trees_most f g i h [] = omega arith
-trees_most f g i h (ts ∷ tss) = both (tasks_sum f ts) (tasks_sum g ts) (tasks_sum i ts) (trees_sum f tss) (trees_sum g tss) (trees_sum i tss)
-    (sums_most f g i h ts) (trees_most f g i h tss)
+trees_most f g i h (ts ∷ tss) = both (tasks_sum f ts) (tasks_sum g ts) (tasks_sum i ts) (trees_sum f tss) (trees_sum g tss)
+    (trees_sum i tss) (sums_most f g i h ts) (trees_most f g i h tss)
   where
     both : (a b d x y z : ℕ) → a ≤ b + d → x ≤ y + z → a + x ≤ (b + y) + (d + z)
     both a b d x y z e f = omega (arith, e, f)
@@ -170,12 +176,13 @@ module _ (P : Task → Type 0) (g : List ℕ → Bool) (h : (t : Task) → g t.t
 
   before_each : (ts : List Task) → Each P (gone_before g ts)
   before_each [] = tt
-  before_each (t ∷ ts) = cond_each (g t.thread.who.path) (inserted t (gone_before g ts)) (gone_before g ts) (λ e. inserted_each t (gone_before g ts) (h t
-      e) (before_each ts)) (λ e. before_each ts)
+  before_each (t ∷ ts) = cond_each (g t.thread.who.path) (inserted t (gone_before g ts)) (gone_before g ts)
+      (λ e. inserted_each t (gone_before g ts) (h t e) (before_each ts)) (λ e. before_each ts)
 
   behind_each : (ts : List Task) → Each P (gone_behind g ts)
   behind_each [] = tt
-  behind_each (t ∷ ts) = cond_each (g t.thread.who.path) (t ∷ gone_behind g ts) (gone_behind g ts) (λ e. (h t e, behind_each ts)) (λ e. behind_each ts)
+  behind_each (t ∷ ts) = cond_each (g t.thread.who.path) (t ∷ gone_behind g ts) (gone_behind g ts) (λ e. (h t e, behind_each ts))
+      (λ e. behind_each ts)
 
   pub cancelled_each : (o : World) → Each P (cancelled g o)
   cancelled_each o = each_join P (gone_before g o.pre) (gone_behind g o.post) (before_each o.pre) (behind_each o.post)

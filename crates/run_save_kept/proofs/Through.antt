@@ -44,8 +44,8 @@ at_most a b k e f = omega (arith, e, f)
 orderly : (s : State) (tss : Forest) → Together (m.turns s tss) → Orderly s.clock.left tss
 orderly s tss a = record {
   lines = a.standing;
-  names = λ p. at_most (trees_sum (is_named p) tss) (trees_sum (weight (has_path p) no_arms) tss) (room p s.clock.left) (trees_as (is_named p)
-      (weight (has_path p) no_arms) (name_weighs p) tss) (a.names p);
+  names = λ p. at_most (trees_sum (is_named p) tss) (trees_sum (weight (has_path p) no_arms) tss) (room p s.clock.left)
+      (trees_as (is_named p) (weight (has_path p) no_arms) (name_weighs p) tss) (a.names p);
   arms = λ b some n. a.arms b some n;
   younger = λ b some n k le. a.younger b some n k le;
 }
@@ -54,8 +54,8 @@ from_orderly : (s : State) (tss : Forest) → Orderly s.clock.left tss → Toget
 from_orderly s tss a = record {
   standing = a.lines;
   railed = tt;
-  names = λ p. at_most (trees_sum (weight (has_path p) no_arms) tss) (trees_sum (is_named p) tss) (room p s.clock.left) (sym (trees_as (is_named p)
-      (weight (has_path p) no_arms) (name_weighs p) tss)) (a.names p);
+  names = λ p. at_most (trees_sum (weight (has_path p) no_arms) tss) (trees_sum (is_named p) tss) (room p s.clock.left)
+      (sym (trees_as (is_named p) (weight (has_path p) no_arms) (name_weighs p) tss)) (a.names p);
   arms = λ b some n. a.arms b some n;
   younger = λ b some n k le. a.younger b some n k le;
 }
@@ -89,8 +89,8 @@ module _ (c : Code) (valid : Valid c) (bytes : TextsAreBytes c) where
   wakes until s tss d l a e f g = record {
     standing = trees_lower l s.clock.left tss (lower l s.clock.left e) a.standing;
     railed = tt;
-    names = λ p. trans_le (trees_sum (weight (has_path p) no_arms) tss) (room p s.clock.left) (room p l) (a.names p) (ltn_less l s.clock.left (suc (last
-        p)) (lower l s.clock.left e));
+    names = λ p. trans_le (trees_sum (weight (has_path p) no_arms) tss) (room p s.clock.left) (room p l) (a.names p)
+        (ltn_less l s.clock.left (suc (last p)) (lower l s.clock.left e));
     arms = λ b some n. a.arms b some n;
     younger = λ b some n k le. a.younger b some n k le;
   }
@@ -99,8 +99,8 @@ module _ (c : Code) (valid : Valid c) (bytes : TextsAreBytes c) where
   begins ns steps f l i e = record {
     standing = rows (record { named = (refl, refl); above = (omega arith, tt) }, tt, tt) tt tt tt;
     railed = (refl, refl);
-    names = λ p. bare_room (one (same_path p (l ∷ []))) (room p l) (first_of (one (same_path p (l ∷ []))) (room p (suc l)) (room p l) (fresh p [] l (suc l)
-        refl));
+    names = λ p. bare_room (one (same_path p (l ∷ []))) (room p l)
+        (first_of (one (same_path p (l ∷ []))) (room p (suc l)) (room p l) (fresh p [] l (suc l) refl));
     arms = λ b some n. (omega arith, (tt, tt, tt));
     younger = λ b some n k le. bare (one (same_path (b ++ n ∷ []) (l ∷ []))) (one_most (same_path (b ++ n ∷ []) (l ∷ [])));
   }
@@ -114,19 +114,20 @@ module _ (c : Code) (valid : Valid c) (bytes : TextsAreBytes c) where
   stage_orderly (broken e s) a = tt
   stage_orderly (amiss s) a = tt
 
-  after : (steps until k : ℕ) (g : Stage Forest) → Stands g → StageRooted g → StageOrderly (turns (turn_taken c steps until) k g) × StageRooted (turns
-      (turn_taken c steps until) k g)
+  after : (steps until k : ℕ) (g : Stage Forest) → Stands g → StageRooted g → StageOrderly (turns (turn_taken c steps until) k g) ×
+      StageRooted (turns (turn_taken c steps until) k g)
   after steps until k g a r = let b = t.turns_is c valid bytes Together (together {c = c}) until (wakes until) steps k g a r in
       (stage_orderly (turns (turn_taken c steps until) k g) b.0, b.1)
 
-pub run_stands : (c : Code) (ns : List ℤ) (steps until k : ℕ) → Valid c → TextsAreBytes c → StageOrderly (mach_after c ns steps until k) × StageRooted
-    (mach_after c ns steps until k)
-run_stands c ns steps until k valid bytes = let s = t.started_is c valid bytes Together (together {c = c}) ns steps (begins c valid bytes ns steps) in
+pub run_stands : (c : Code) (ns : List ℤ) (steps until k : ℕ) → Valid c → TextsAreBytes c → StageOrderly (mach_after c ns steps until k) ×
+    StageRooted (mach_after c ns steps until k)
+run_stands c ns steps until k valid bytes = let s =
+    t.started_is c valid bytes Together (together {c = c}) ns steps (begins c valid bytes ns steps) in
     after c valid bytes steps until k (started c ns steps) s.0 s.1
 
 pub stands_on : (c : Code) (steps until k : ℕ) (s : State) (tss : Forest) → Valid c → TextsAreBytes c → TreesRooted s.clock.left tss →
-    Orderly s.clock.left tss → StageOrderly (turns (turn_taken c steps until) k (going s tss)) × StageRooted (turns (turn_taken c steps until) k (going s
-    tss))
+    Orderly s.clock.left tss → StageOrderly (turns (turn_taken c steps until) k (going s tss)) ×
+    StageRooted (turns (turn_taken c steps until) k (going s tss))
 stands_on c steps until k s tss valid bytes r a = after c valid bytes steps until k (going s tss) (from_orderly s tss a) r
 
 pub run_is_orderly : RunIsOrderly

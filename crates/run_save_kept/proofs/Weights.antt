@@ -7,7 +7,8 @@ use Rattle.verse_value.specs.Val.{Val}
 use Rattle.verse_meaning_state.specs.State.{State, stepped, with_result, with_entry}
 use Rattle.verse_meaning_state.specs.Turns.{Kind}
 use Rattle.verse_code_machine.specs.Tasks.{Frame, part, Who, Part, did, group, Thread, thread, Task, Up, begins}
-use Rattle.verse_code_machine.specs.Tasks.{runs, branching, spawning, clearing, Trees, World, world, root_named, child_named, onto, since, beneath_arms, same_path}
+use Rattle.verse_code_machine.specs.Tasks.{runs, branching, spawning, clearing, Trees, World, world, root_named, child_named, onto, since}
+use Rattle.verse_code_machine.specs.Tasks.{beneath_arms, same_path}
 use Rattle.verse_code_machine.specs.Cancelling.{without, cancelled}
 use Rattle.verse_code_machine.specs.Ends.{is_run, with_did}
 use Rattle.verse_code_machine.specs.Runs.{Forest}
@@ -34,19 +35,21 @@ left_at (m.turns s tss) = s.clock.left
 pub data Special : Point → Point → Type 0 where
   spawned : {w : Who} {o : World} {s : State} {f g : Frame} {fs : List Frame} {l place : ℕ} {ls : List Val} → suc l ≡ s.clock.left →
       Special (m.acts (at w o s f fs)) (m.acts (at (root_named l (Some (length s.clock.results)))
-      (world [] [] (spawning (thread w g fs) (length s.clock.results) o.pre o.post ∷ o.ups) o.trees) (with_entry (stepped l s)) (begun l place ls) []))
+      (world [] [] (spawning (thread w g fs) (length s.clock.results) o.pre o.post ∷ o.ups) o.trees) (with_entry (stepped l s))
+      (begun l place ls) []))
   branched : {w : Who} {o : World} {s : State} {f : Frame} {fs : List Frame} {l place : ℕ} → suc l ≡ s.clock.left →
-      Special (m.acts (at w o s f fs)) (m.acts (at (child_named w l) (world o.pre o.post (branching (thread w f fs) ∷ o.ups) o.trees) (stepped l s) (begun l
-      place f.locals) []))
-  arm_begun : {k : Kind} {p : Place} {gs : List Part} {n l : ℕ} {ls : List ℕ} {x : Thread} {pre post : List Task} {us : List Up} {trees : Trees} {s :
-      State} → suc l ≡ s.clock.left →
-      Special (m.gathering k p gs (n ∷ ls) x pre post us trees s) (m.acts (at (child_named x.who l) (world pre post (begins x k p gs l ls ∷ us) trees)
-      (stepped l s) (begun l n x.frame.locals) []))
-  arm_ended : {w : Who} {v : Val} {k : Kind} {p : Place} {gs : List Part} {n : ℕ} {ls : List ℕ} {x : Thread} {pre post : List Task} {us : List Up}
-      {trees : Trees} {s : State} →
-      Special (m.ended part w v (world pre post (begins x k p gs n ls ∷ us) trees) s) (m.gathering k p (gs ++ did v ∷ []) ls x pre post us trees s)
-  joined : {up : List ℕ} {n : ℕ} {v : Val} {y : Task} {k : Kind} {p : Place} {gs : List Part} {pre post : List Task} {trees : Trees} {s : State} →
-      same_path up y.thread.who.path ≡ true → y.rest ≡ group k p gs → is_run n gs ≡ true →
+      Special (m.acts (at w o s f fs)) (m.acts (at (child_named w l) (world o.pre o.post (branching (thread w f fs) ∷ o.ups) o.trees)
+      (stepped l s) (begun l place f.locals) []))
+  arm_begun : {k : Kind} {p : Place} {gs : List Part} {n l : ℕ} {ls : List ℕ} {x : Thread} {pre post : List Task} {us : List Up}
+      {trees : Trees} {s : State} → suc l ≡ s.clock.left →
+      Special (m.gathering k p gs (n ∷ ls) x pre post us trees s)
+      (m.acts (at (child_named x.who l) (world pre post (begins x k p gs l ls ∷ us) trees) (stepped l s) (begun l n x.frame.locals) []))
+  arm_ended : {w : Who} {v : Val} {k : Kind} {p : Place} {gs : List Part} {n : ℕ} {ls : List ℕ} {x : Thread} {pre post : List Task}
+      {us : List Up} {trees : Trees} {s : State} →
+      Special (m.ended part w v (world pre post (begins x k p gs n ls ∷ us) trees) s)
+      (m.gathering k p (gs ++ did v ∷ []) ls x pre post us trees s)
+  joined : {up : List ℕ} {n : ℕ} {v : Val} {y : Task} {k : Kind} {p : Place} {gs : List Part} {pre post : List Task} {trees : Trees}
+      {s : State} → same_path up y.thread.who.path ≡ true → y.rest ≡ group k p gs → is_run n gs ≡ true →
       Special (m.climbs up n v pre (y ∷ post) trees s) (m.gathering k p (with_did n v gs) [] y.thread pre post [] trees s)
 
 module _ (h : List ℕ → ℕ) (b : List ℕ → List Part → ℕ) where
@@ -98,8 +101,8 @@ module _ (h : List ℕ → ℕ) (b : List ℕ → List Part → ℕ) where
   same : (n : ℕ) → n ≤ n
   same n = omega arith
 
-  cancels_less : (f : List ℕ → Bool) (w : ℕ) (o : World) → (w + of_tasks (cancelled f o)) + of_others (without f o.pre) (without f o.post) o.ups o.trees ≤
-      w + of_world o
+  cancels_less : (f : List ℕ → Bool) (w : ℕ) (o : World) →
+      (w + of_tasks (cancelled f o)) + of_others (without f o.pre) (without f o.post) o.ups o.trees ≤ w + of_world o
   cancels_less f w o = let e = cancelled_sum (weight h b) f o in omega (arith, e)
 
   part_path : (w : Who) → w.role ≡ part → WhoIs w → w.path ≡ w.up ++ w.number ∷ []
@@ -150,5 +153,6 @@ module _ (h : List ℕ → ℕ) (b : List ℕ → List Part → ℕ) where
       lessens (omega (arith, d, e)) (omega arith)
   grows none (m.joins e i j) r = special (joined e i j)
   grows none (m.woken {before = before} {behind = behind} {pre = pre} {post = post} {y = y} e i j) r =
-      let f = ap of_trees e in let d = among_sum (weight h b) (onto pre (y ∷ post)) before behind in let g = onto_sum (weight h b) pre (y ∷ post) in
+      let f = ap of_trees e in let d = among_sum (weight h b) (onto pre (y ∷ post)) before behind in let g =
+      onto_sum (weight h b) pre (y ∷ post) in
       lessens (omega (arith, f, d, g)) (omega arith)

@@ -54,21 +54,22 @@ module _ (left : ℕ) (tss ordered : Forest) (o : Reordered tss ordered) (a : Or
   sums f = walk_sum f ordered ∙ reordered_sum f o
 
   unique : (p : List ℕ) → tasks_sum (is_named p) (walk ordered) ≤ 1
-  unique p = at_most (tasks_sum (is_named p) (walk ordered)) (trees_sum (is_named p) tss) 1 (sums (is_named p)) (further (trees_sum (is_named p) tss)
-      (one (ltn left (suc (last p)))) 1 (a.names p) (one_most (ltn left (suc (last p)))))
+  unique p = at_most (tasks_sum (is_named p) (walk ordered)) (trees_sum (is_named p) tss) 1 (sums (is_named p))
+      (further (trees_sum (is_named p) tss) (one (ltn left (suc (last p)))) 1 (a.names p) (one_most (ltn left (suc (last p)))))
 
   there : (b : List ℕ) → IsSome b → (n : ℕ) → tasks_sum (awaits b n) (walk ordered) ≤ tasks_sum (is_named (b ++ n ∷ [])) (walk ordered)
-  there b some n = between (tasks_sum (awaits b n) (walk ordered)) (trees_sum (awaits b n) tss) (tasks_sum (is_named (b ++ n ∷ [])) (walk ordered))
-      (trees_sum (is_named (b ++ n ∷ [])) tss) (sums (awaits b n)) (sums (is_named (b ++ n ∷ []))) (trees_less (awaits b n) (is_named (b ++ n ∷ [])) tss
-      (a.arms b some n))
+  there b some n = between (tasks_sum (awaits b n) (walk ordered)) (trees_sum (awaits b n) tss)
+      (tasks_sum (is_named (b ++ n ∷ [])) (walk ordered)) (trees_sum (is_named (b ++ n ∷ [])) tss) (sums (awaits b n))
+      (sums (is_named (b ++ n ∷ []))) (trees_less (awaits b n) (is_named (b ++ n ∷ [])) tss (a.arms b some n))
     where
       between : (i j k l : ℕ) → i ≡ j → k ≡ l → j ≤ l → i ≤ k
       between i j k l e f g = omega (arith, e, f, g)
 
-  later : (b : List ℕ) → IsSome b → (n k : ℕ) → n ≤ k → tasks_sum (weight (λ path. one (same_path (b ++ n ∷ []) path)) (skips b n k)) (walk ordered) ≤ 1
-  later b some n k le = at_most (tasks_sum (weight (λ path. one (same_path (b ++ n ∷ []) path)) (skips b n k)) (walk ordered)) (trees_sum (weight (λ path.
-      one (same_path (b ++ n ∷ []) path)) (skips b n k)) tss) 1 (sums (weight (λ path. one (same_path (b ++ n ∷ []) path)) (skips b n k))) (a.younger b
-      some n k le)
+  later : (b : List ℕ) → IsSome b → (n k : ℕ) → n ≤ k →
+      tasks_sum (weight (λ path. one (same_path (b ++ n ∷ []) path)) (skips b n k)) (walk ordered) ≤ 1
+  later b some n k le = at_most (tasks_sum (weight (λ path. one (same_path (b ++ n ∷ []) path)) (skips b n k)) (walk ordered))
+      (trees_sum (weight (λ path. one (same_path (b ++ n ∷ []) path)) (skips b n k)) tss) 1
+      (sums (weight (λ path. one (same_path (b ++ n ∷ []) path)) (skips b n k))) (a.younger b some n k le)
 
   pub fits_whole : (c : Code) (s : State) → FitsApart c (kept s ordered) → Fits c (kept s ordered)
   fits_whole c s f = record {
@@ -97,11 +98,11 @@ module _ (left : ℕ) (tss ordered : Forest) (o : Reordered tss ordered) (a : Or
 pub saved_states_fit : StoppedRunFits → SavedStatesFit
 saved_states_fit law c ns steps until s tss x valid bytes inputs few short e y =
     let b = run_stands c ns steps until (suc steps) valid bytes in
-    subst (Fits c) (sym y.is) (fits_whole s.clock.left tss y.ordered y.reordered (subst StageOrderly e b.0) (subst StageRooted e b.1) c s (subst (FitsApart
-    c) y.is (law c ns steps until s tss x valid bytes inputs few short e y)))
+    subst (Fits c) (sym y.is) (fits_whole s.clock.left tss y.ordered y.reordered (subst StageOrderly e b.0) (subst StageRooted e b.1) c s
+    (subst (FitsApart c) y.is (law c ns steps until s tss x valid bytes inputs few short e y)))
 
 pub resumed_states_fit : ResumedRunFits → ResumedStatesFit
 resumed_states_fit law c steps u v k s t tss uss x valid bytes few le short a d e belongs y =
     let b = stands_on c steps v k s tss valid bytes a.rooted d in
-    subst (Fits c) (sym y.is) (fits_whole t.clock.left uss y.ordered y.reordered (subst StageOrderly e b.0) (subst StageRooted e b.1) c t (subst (FitsApart
-    c) y.is (law c steps u v k s t tss uss x valid bytes few le short a e belongs y)))
+    subst (Fits c) (sym y.is) (fits_whole t.clock.left uss y.ordered y.reordered (subst StageOrderly e b.0) (subst StageRooted e b.1) c t
+    (subst (FitsApart c) y.is (law c steps u v k s t tss uss x valid bytes few le short a e belongs y)))

@@ -4,7 +4,8 @@ use Rattle.std.proofs.Common.{◌⊎◌}
 use mathlib.Core.Logic.{inl, inr}
 use Rattle.verse_code.specs.declared.codes.Code.{Code}
 use Rattle.verse_meaning_state.specs.Waits.{ltn}
-use Rattle.verse_code_machine.specs.Tasks.{Part, did, runs, Rest, asleep, group, thread, Task, Up, begins, branching, spawning, clearing, Trees}
+use Rattle.verse_code_machine.specs.Tasks.{Part, did, runs, Rest, asleep, group, thread, Task, Up, begins, branching, spawning, clearing}
+use Rattle.verse_code_machine.specs.Tasks.{Trees}
 use Rattle.verse_code_machine.specs.Tasks.{world, child_named, same_path}
 use Rattle.verse_meaning_state.specs.State.{stepped}
 use Rattle.verse_code_machine.specs.Ends.{is_run, with_did}
@@ -12,7 +13,8 @@ use Rattle.run_save_moves.specs.Moves as m
 use Rattle.run_save_moves.specs.Moves.{Point, Move}
 use Rattle.run_save_fits.specs.Held.{IsSome, one}
 use Rattle.run_save_kept.specs.Orders.{last, skips, in_group, weight}
-use Rattle.run_save_kept.proofs.Paths.{two_ways, clash, one_most, same_is, is_same, not_same, end_is, last_end, root_no_part, ltn_not, ltn_is, ltn_no}
+use Rattle.run_save_kept.proofs.Paths.{two_ways, clash, one_most, same_is, is_same, not_same, end_is, last_end, root_no_part, ltn_not}
+use Rattle.run_save_kept.proofs.Paths.{ltn_is, ltn_no}
 use Rattle.run_save_kept.proofs.Paths.{run_end, run_new, run_did, run_more, with_other, with_run}
 use Rattle.run_save_kept.proofs.Sums.{sums_most, trees_most}
 use Rattle.run_save_kept.proofs.Rails.{Railed}
@@ -67,8 +69,8 @@ module _ (a : List ℕ) (some : IsSome a) (n k : ℕ) (le : n ≤ k) where
 
   skips_less : (path : List ℕ) (gs hs : List Part) → is_run n hs ≡ is_run n gs → (is_run k gs ≡ true → is_run k hs ≡ true) →
       skips a n k path gs ≤ skips a n k path hs
-  skips_less path gs hs e f = subst (λ v. by (same_path a path) (is_run k gs) v ≤ skips a n k path hs) e (by_less (same_path a path) (is_run k gs)
-      (is_run n hs) (is_run k hs) f)
+  skips_less path gs hs e f = subst (λ v. by (same_path a path) (is_run k gs) v ≤ skips a n k path hs) e
+      (by_less (same_path a path) (is_run k gs) (is_run n hs) (is_run k hs) f)
 
   -- ---- where no other has the path, no other weighs
 
@@ -84,21 +86,28 @@ module _ (a : List ℕ) (some : IsSome a) (n k : ℕ) (le : n ≤ k) where
   ups_most (begins x j p gs i ls ∷ us) = let h = skips_most x.who.path (gs ++ runs i ∷ []) in let g = ups_most us in omega (arith, h, g)
   ups_most (branching x ∷ us) = let g = ups_most us in omega (arith, g)
   ups_most (spawning x entry ps qs ∷ us) =
-      let h = sums_most (weight (has_path child) (skips a n k)) (weight (has_path child) no_arms) (weight (has_path a) no_arms) task_most ps in
-      let i = sums_most (weight (has_path child) (skips a n k)) (weight (has_path child) no_arms) (weight (has_path a) no_arms) task_most qs in
+      let h = sums_most (weight (has_path child) (skips a n k)) (weight (has_path child) no_arms) (weight (has_path a) no_arms) task_most
+      ps in
+      let i = sums_most (weight (has_path child) (skips a n k)) (weight (has_path child) no_arms) (weight (has_path a) no_arms) task_most
+      qs in
       let g = ups_most us in omega (arith, h, i, g)
   ups_most (clearing b ts ∷ us) =
-      let h = sums_most (weight (has_path child) (skips a n k)) (weight (has_path child) no_arms) (weight (has_path a) no_arms) task_most ts in
+      let h = sums_most (weight (has_path child) (skips a n k)) (weight (has_path child) no_arms) (weight (has_path a) no_arms) task_most
+      ts in
       let g = ups_most us in omega (arith, h, g)
 
   most : (pre post : List Task) (us : List Up) (trees : Trees) → of_others (has_path child) (skips a n k) pre post us trees ≤
       of_others (has_path child) no_arms pre post us trees + of_others (has_path a) no_arms pre post us trees
   most pre post us trees =
-      let d = sums_most (weight (has_path child) (skips a n k)) (weight (has_path child) no_arms) (weight (has_path a) no_arms) task_most pre in
-      let e = sums_most (weight (has_path child) (skips a n k)) (weight (has_path child) no_arms) (weight (has_path a) no_arms) task_most post in
+      let d = sums_most (weight (has_path child) (skips a n k)) (weight (has_path child) no_arms) (weight (has_path a) no_arms) task_most
+      pre in
+      let e = sums_most (weight (has_path child) (skips a n k)) (weight (has_path child) no_arms) (weight (has_path a) no_arms) task_most
+      post in
       let f = ups_most us in
-      let g = trees_most (weight (has_path child) (skips a n k)) (weight (has_path child) no_arms) (weight (has_path a) no_arms) task_most trees.before in
-      let h = trees_most (weight (has_path child) (skips a n k)) (weight (has_path child) no_arms) (weight (has_path a) no_arms) task_most trees.behind in
+      let g = trees_most (weight (has_path child) (skips a n k)) (weight (has_path child) no_arms) (weight (has_path a) no_arms) task_most
+      trees.before in
+      let h = trees_most (weight (has_path child) (skips a n k)) (weight (has_path child) no_arms) (weight (has_path a) no_arms) task_most
+      trees.behind in
       omega (arith, d, e, f, g, h)
 
   -- ---- a task that begins
@@ -128,10 +137,12 @@ module _ (a : List ℕ) (some : IsSome a) (n k : ℕ) (le : n ≤ k) where
 
   by_special : {x y : Point} → Special x y → Railed x → ((p : List ℕ) → Named p x) → Young x → Young y
   by_special (spawned {l = l} e) r names b = let h = root_other l in omega (arith, h, b)
-  by_special (branched {w = w} {o = o} {s = s} {f = f} {fs = fs} {l = l} {place = place} e) r names b = by_test (two_ways (same_path child (w.path ++ l ∷ [])))
+  by_special (branched {w = w} {o = o} {s = s} {f = f} {fs = fs} {l = l} {place = place} e) r names b =
+      by_test (two_ways (same_path child (w.path ++ l ∷ [])))
     where
-      by_test : (same_path child (w.path ++ l ∷ []) ≡ true) ⊎ (same_path child (w.path ++ l ∷ []) ≡ false) → Young (m.acts (m.at (child_named w l) (world
-          o.pre o.post (branching (thread w f fs) ∷ o.ups) o.trees) (stepped l s) (m.begun l place f.locals) []))
+      by_test : (same_path child (w.path ++ l ∷ []) ≡ true) ⊎ (same_path child (w.path ++ l ∷ []) ≡ false) →
+          Young (m.acts (m.at (child_named w l) (world o.pre o.post (branching (thread w f fs) ∷ o.ups) o.trees) (stepped l s)
+          (m.begun l place f.locals) []))
       by_test (inl q) =
           let i = end_is a w.path n l (same_is child (w.path ++ l ∷ []) q) in
           let g = names child in let h = to_come l s.clock.left e (same_most n l i.1) in
@@ -142,23 +153,28 @@ module _ (a : List ℕ) (some : IsSome a) (n k : ℕ) (le : n ≤ k) where
           same_most : (i j : ℕ) → i ≡ j → i ≤ j
           same_most i j e = omega (arith, e)
       by_test (inr q) = let h = ap one q in omega (arith, h, b)
-  by_special (arm_begun {k = kind} {p = p} {gs = gs} {n = label} {l = l} {ls = ls} {x = x} {pre = pre} {post = post} {us = us} {trees = trees} {s = s} e) r names b = by_parent (two_ways (same_path a
-      x.who.path))
+  by_special (arm_begun {k = kind} {p = p} {gs = gs} {n = label} {l = l} {ls = ls} {x = x} {pre = pre} {post = post} {us = us}
+      {trees = trees} {s = s} e) r names b = by_parent (two_ways (same_path a x.who.path))
     where
-      by_child : same_path a x.who.path ≡ true → n ≤ l → (same_path child (x.who.path ++ l ∷ []) ≡ true) ⊎ (same_path child (x.who.path ++ l ∷ []) ≡ false) →
+      by_child : same_path a x.who.path ≡ true → n ≤ l → (same_path child (x.who.path ++ l ∷ []) ≡ true) ⊎
+          (same_path child (x.who.path ++ l ∷ []) ≡ false) →
           has_path child (x.who.path ++ l ∷ []) + skips a n k x.who.path (gs ++ runs l ∷ []) ≤ 1
       by_child q i (inl t) =
           let u = end_is a x.who.path n l (same_is child (x.who.path ++ l ∷ []) t) in
           let v = skips_in x.who.path (gs ++ runs l ∷ []) (subst (λ j. is_run j (gs ++ runs l ∷ []) ≡ true) (sym u.1) (run_new l gs)) in
           let z = one_most (same_path child (x.who.path ++ l ∷ [])) in omega (arith, v, z)
-      by_child q i (inr t) = let u = ap one t in let v = skips_most x.who.path (gs ++ runs l ∷ []) in let z = one_most (same_path a x.who.path) in
+      by_child q i (inr t) = let u = ap one t in let v = skips_most x.who.path (gs ++ runs l ∷ []) in let z =
+          one_most (same_path a x.who.path) in
           omega (arith, u, v, z)
 
-      by_number : same_path a x.who.path ≡ true → (ltn l n ≡ true) ⊎ (ltn l n ≡ false) → Young (m.acts (m.at (child_named x.who l) (world pre post (begins x kind p gs l ls ∷ us) trees) (stepped l s) (m.begun l label x.frame.locals) []))
+      by_number : same_path a x.who.path ≡ true → (ltn l n ≡ true) ⊎ (ltn l n ≡ false) →
+          Young (m.acts (m.at (child_named x.who l) (world pre post (begins x kind p gs l ls ∷ us) trees) (stepped l s)
+          (m.begun l label x.frame.locals) []))
       by_number q (inl i) =
           let h = ltn_is l n i in
           let t = other_number x.who.path l (no_equal n l h) in
-          let u = skips_less x.who.path (gs ++ runs l ∷ []) gs (sym (run_end n l gs (no_equal n l h))) (λ f. sym (run_end k l gs (no_equal k l (far l n k h
+          let u = skips_less x.who.path (gs ++ runs l ∷ []) gs (sym (run_end n l gs (no_equal n l h)))
+          (λ f. sym (run_end k l gs (no_equal k l (far l n k h
           le))) ∙ f) in
           omega (arith, t, u, b)
         where
@@ -171,45 +187,50 @@ module _ (a : List ℕ) (some : IsSome a) (n k : ℕ) (le : n ≤ k) where
           let z = by_child q (ltn_no l n i) (two_ways (same_path child (x.who.path ++ l ∷ []))) in
           omega (arith, g, h, j, t, u, v, z)
 
-      by_parent : (same_path a x.who.path ≡ true) ⊎ (same_path a x.who.path ≡ false) → Young (m.acts (m.at (child_named x.who l) (world pre post (begins x kind p gs l ls ∷ us) trees) (stepped l s) (m.begun l label x.frame.locals) []))
+      by_parent : (same_path a x.who.path ≡ true) ⊎ (same_path a x.who.path ≡ false) →
+          Young (m.acts (m.at (child_named x.who l) (world pre post (begins x kind p gs l ls ∷ us) trees) (stepped l s)
+          (m.begun l label x.frame.locals) []))
       by_parent (inl q) = by_number q (two_ways (ltn l n))
       by_parent (inr q) =
           let t = other_parent x.who.path l q in let u = skips_off x.who.path (gs ++ runs l ∷ []) q in omega (arith, t, u, b)
-  by_special (arm_ended {w = w} {v = v} {k = kind} {p = p} {gs = gs} {n = i} {ls = ls} {x = x} {pre = pre} {post = post} {us = us} {trees = trees} {s = s}) r names b = by_test (two_ways
-      (same_path child w.path))
+  by_special (arm_ended {w = w} {v = v} {k = kind} {p = p} {gs = gs} {n = i} {ls = ls} {x = x} {pre = pre} {post = post} {us = us}
+      {trees = trees} {s = s}) r names b = by_test (two_ways (same_path child w.path))
     where
       other : same_path child w.path ≡ false → same_path a x.who.path ≡ true → n ≡ i → ⊥
-      other f g h = clash (same_path child w.path) (is_same child w.path (ap (λ j. a ++ j ∷ []) h ∙ (ap (λ path. path ++ i ∷ []) (same_is a x.who.path g) ∙
-          sym r.1.0))) f
+      other f g h = clash (same_path child w.path)
+          (is_same child w.path (ap (λ j. a ++ j ∷ []) h ∙ (ap (λ path. path ++ i ∷ []) (same_is a x.who.path g) ∙ sym r.1.0))) f
 
       by_parent : same_path child w.path ≡ false → (same_path a x.who.path ≡ true) ⊎ (same_path a x.who.path ≡ false) →
           skips a n k x.who.path (gs ++ did v ∷ []) ≤ skips a n k x.who.path (gs ++ runs i ∷ [])
-      by_parent f (inl g) = skips_less x.who.path (gs ++ did v ∷ []) (gs ++ runs i ∷ []) (run_end n i gs (other f g) ∙ sym (run_did n v gs)) (λ e. run_more k i
-          gs (sym (run_did k v gs) ∙ e))
+      by_parent f (inl g) = skips_less x.who.path (gs ++ did v ∷ []) (gs ++ runs i ∷ []) (run_end n i gs (other f g) ∙ sym (run_did n v gs))
+          (λ e. run_more k i gs (sym (run_did k v gs) ∙ e))
       by_parent f (inr g) = let h = skips_off x.who.path (gs ++ did v ∷ []) g in omega (arith, h)
 
-      by_test : (same_path child w.path ≡ true) ⊎ (same_path child w.path ≡ false) → Young (m.gathering kind p (gs ++ did v ∷ []) ls x pre post us trees s)
+      by_test : (same_path child w.path ≡ true) ⊎ (same_path child w.path ≡ false) →
+          Young (m.gathering kind p (gs ++ did v ∷ []) ls x pre post us trees s)
       by_test (inl f) = let h = ap one f in let g = skips_most x.who.path (gs ++ did v ∷ []) in let z = one_most (same_path a x.who.path) in
           omega (arith, h, g, z, b)
       by_test (inr f) = let h = by_parent f (two_ways (same_path a x.who.path)) in omega (arith, h, b)
-  by_special (joined {up = up} {n = i} {v = v} {y = y} {k = kind} {p = p} {gs = gs} {pre = pre} {post = post} {trees = trees} {s = s} e q g) r names b = by_test (two_ways (same_path child (up ++ i
-      ∷ [])))
+  by_special (joined {up = up} {n = i} {v = v} {y = y} {k = kind} {p = p} {gs = gs} {pre = pre} {post = post} {trees = trees} {s = s} e q g)
+      r names b = by_test (two_ways (same_path child (up ++ i ∷ [])))
     where
       rest : in_group (skips a n k) y.thread.who.path y.rest ≡ skips a n k y.thread.who.path gs
       rest = ap (in_group (skips a n k) y.thread.who.path) q
 
       other : same_path child (up ++ i ∷ []) ≡ false → same_path a y.thread.who.path ≡ true → n ≡ i → ⊥
-      other f g h = clash (same_path child (up ++ i ∷ [])) (is_same child (up ++ i ∷ []) (ap (λ j. a ++ j ∷ []) h ∙ ap (λ path. path ++ i ∷ []) (same_is a
-          y.thread.who.path g ∙ sym (same_is up y.thread.who.path e)))) f
+      other f g h = clash (same_path child (up ++ i ∷ []))
+          (is_same child (up ++ i ∷ []) (ap (λ j. a ++ j ∷ []) h ∙
+          ap (λ path. path ++ i ∷ []) (same_is a y.thread.who.path g ∙ sym (same_is up y.thread.who.path e)))) f
 
-      by_parent : same_path child (up ++ i ∷ []) ≡ false → (same_path a y.thread.who.path ≡ true) ⊎ (same_path a y.thread.who.path ≡ false) →
-          skips a n k y.thread.who.path (with_did i v gs) ≤ skips a n k y.thread.who.path gs
+      by_parent : same_path child (up ++ i ∷ []) ≡ false → (same_path a y.thread.who.path ≡ true) ⊎
+          (same_path a y.thread.who.path ≡ false) → skips a n k y.thread.who.path (with_did i v gs) ≤ skips a n k y.thread.who.path gs
       by_parent f (inl h) = skips_less y.thread.who.path (with_did i v gs) gs (sym (with_other n i v gs (other f h))) (with_run k i v gs)
       by_parent f (inr h) = let j = skips_off y.thread.who.path (with_did i v gs) h in omega (arith, j)
 
-      by_test : (same_path child (up ++ i ∷ []) ≡ true) ⊎ (same_path child (up ++ i ∷ []) ≡ false) → Young (m.gathering kind p (with_did i v gs) [] y.thread pre
-          post [] trees s)
-      by_test (inl f) = let h = ap one f in let j = skips_most y.thread.who.path (with_did i v gs) in let z = one_most (same_path a y.thread.who.path) in
+      by_test : (same_path child (up ++ i ∷ []) ≡ true) ⊎ (same_path child (up ++ i ∷ []) ≡ false) →
+          Young (m.gathering kind p (with_did i v gs) [] y.thread pre post [] trees s)
+      by_test (inl f) = let h = ap one f in let j = skips_most y.thread.who.path (with_did i v gs) in let z =
+          one_most (same_path a y.thread.who.path) in
           omega (arith, h, j, z, b)
       by_test (inr f) = let h = by_parent f (two_ways (same_path a y.thread.who.path)) in let j = rest in omega (arith, h, j, b)
 

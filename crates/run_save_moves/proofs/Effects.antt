@@ -1,5 +1,6 @@
 -- What an operation leaves of a memory that is fine.
-use Rattle.std.proofs.Common.{◌≡◌, ℕ, zero, suc, ◌+◌, ◌≤◌, length, List, [], ◌∷◌, ◌++◌, Option, Some, None, Bool, true, false, cond, refl, sym}
+use Rattle.std.proofs.Common.{◌≡◌, ℕ, zero, suc, ◌+◌, ◌≤◌, length, List, [], ◌∷◌, ◌++◌, Option, Some, None, Bool, true, false, cond, refl}
+use Rattle.std.proofs.Common.{sym}
 use Rattle.std.proofs.Common.{subst, ap, ◌∙◌, arith, nat_le, option_map, slice_get}
 use Rattle.std.specs.Prelude.{slice_set, if◌then◌else◌, option_and_then}
 use Rattle.std.proofs.lemmas.Bool.Decides.{nat_tests}
@@ -55,15 +56,16 @@ events_more : (xs : Store) (d : Cell) (es : List ℕ) → Each (IsEvent xs) es �
 events_more xs d [] a = tt
 events_more xs d (e ∷ es) a = (event_more xs d e a.0, events_more xs d es a.1)
 
-slots_more : (c : Code) (z : Scene) (xs : Store) (d : Cell) → SlotsFine c z xs → ValuesFit z.entries d.slots → SlotsFine c z (with_cell xs d)
+slots_more : (c : Code) (z : Scene) (xs : Store) (d : Cell) → SlotsFine c z xs → ValuesFit z.entries d.slots →
+    SlotsFine c z (with_cell xs d)
 slots_more c z [] d a b = (b, tt)
 slots_more c z (x ∷ xs) d a b = (a.0, slots_more c z xs d a.1 b)
 
 light : (n k : ℕ) → nat_le n k ≡ true → n ≤ k
 light n k e = grind (arith, nat_tests)
 
-with_memory : (c : Code) (z : Scene) (s : State) (store : Store) → StateFine c z s → SlotsFine c z store → store_weight store ≤ MOST_STORE_WEIGHT →
-    Each (IsEvent store) z.events → StateFine c z (with_store s store)
+with_memory : (c : Code) (z : Scene) (s : State) (store : Store) → StateFine c z s → SlotsFine c z store →
+    store_weight store ≤ MOST_STORE_WEIGHT → Each (IsEvent store) z.events → StateFine c z (with_store s store)
 with_memory c z s store k a b e = record {
   before = k.before;
   entries = k.entries;
@@ -75,7 +77,8 @@ with_memory c z s store k a b e = record {
 pub made_ticks : (names : ℕ → Val) (d : Cell) (s : State) → EffectTicks s (made names d s)
 made_ticks names d s = two (nat_le (store_weight (with_cell s.memory.store d)) MOST_STORE_WEIGHT)
   where
-    two : (b : Bool) → EffectTicks s (added (if b then gives (with_cell s.memory.store d) else error kind.Store) (names (length s.memory.store)) s)
+    two : (b : Bool) → EffectTicks s (added (if b then gives (with_cell s.memory.store d) else error kind.Store)
+        (names (length s.memory.store)) s)
     two true = same_ticks s.clock
     two false = tt
 
@@ -83,8 +86,8 @@ pub made_fine : (c : Code) (z : Scene) (names : ℕ → Val) → ((n a : ℕ) �
     ValuesFit z.entries d.slots → EffectFine c z (made names d s)
 made_fine c z names f d s k a = two (nat_le (store_weight (with_cell s.memory.store d)) MOST_STORE_WEIGHT) refl
   where
-    two : (b : Bool) → nat_le (store_weight (with_cell s.memory.store d)) MOST_STORE_WEIGHT ≡ b → EffectFine c z (added (if b then gives (with_cell
-        s.memory.store d) else error kind.Store) (names (length s.memory.store)) s)
+    two : (b : Bool) → nat_le (store_weight (with_cell s.memory.store d)) MOST_STORE_WEIGHT ≡ b →
+        EffectFine c z (added (if b then gives (with_cell s.memory.store d) else error kind.Store) (names (length s.memory.store)) s)
     two true e = (
       f z.entries (length s.memory.store),
       with_memory c z s (with_cell s.memory.store d) k (slots_more c z s.memory.store d k.memory.slots a)
@@ -137,7 +140,8 @@ read_fine c z slot truth s k = tt
 read_fine c z slot (int m) s k = tt
 read_fine c z slot (char m) s k = tt
 read_fine c z slot (enum m l) s k = tt
-read_fine c z slot (object m) s k = still_fine c z (read_slot s.memory.store m slot) s k (or_fits z.entries stuck (slot_of s.memory.store m slot) tt (slot_fits c z s.memory.store m slot k.memory.slots))
+read_fine c z slot (object m) s k = still_fine c z (read_slot s.memory.store m slot) s k
+    (or_fits z.entries stuck (slot_of s.memory.store m slot) tt (slot_fits c z s.memory.store m slot k.memory.slots))
 read_fine c z slot (event m) s k = tt
 read_fine c z slot (task m) s k = tt
 read_fine c z slot (some w) s k = tt
@@ -147,19 +151,21 @@ read_fine c z slot (tuple vs) s k = tt
 
 -- ---- writing
 
-set_kinds : (xs : Store) (i : ℕ) (d f : Cell) (e : ℕ) → slice_get xs i ≡ Some d → f.kind ≡ d.kind → IsEvent xs e → IsEvent (slice_set xs i f) e
+set_kinds : (xs : Store) (i : ℕ) (d f : Cell) (e : ℕ) → slice_get xs i ≡ Some d → f.kind ≡ d.kind → IsEvent xs e →
+    IsEvent (slice_set xs i f) e
 set_kinds [] i d f e h k g = g
 set_kinds (x ∷ xs) zero d f zero h k g = ap (λ n. Some n) k ∙ (ap (option_map (λ (d : Cell). d.kind)) (sym h) ∙ g)
 set_kinds (x ∷ xs) zero d f (suc e) h k g = g
 set_kinds (x ∷ xs) (suc i) d f zero h k g = g
 set_kinds (x ∷ xs) (suc i) d f (suc e) h k g = set_kinds xs i d f e h k g
 
-set_events : (xs : Store) (i : ℕ) (d f : Cell) (es : List ℕ) → slice_get xs i ≡ Some d → f.kind ≡ d.kind → Each (IsEvent xs) es → Each (IsEvent
-    (slice_set xs i f)) es
+set_events : (xs : Store) (i : ℕ) (d f : Cell) (es : List ℕ) → slice_get xs i ≡ Some d → f.kind ≡ d.kind → Each (IsEvent xs) es →
+    Each (IsEvent (slice_set xs i f)) es
 set_events xs i d f [] h k a = tt
 set_events xs i d f (e ∷ es) h k a = (set_kinds xs i d f e h k a.0, set_events xs i d f es h k a.1)
 
-set_slots : (c : Code) (z : Scene) (xs : Store) (i : ℕ) (d : Cell) → SlotsFine c z xs → ValuesFit z.entries d.slots → SlotsFine c z (slice_set xs i d)
+set_slots : (c : Code) (z : Scene) (xs : Store) (i : ℕ) (d : Cell) → SlotsFine c z xs → ValuesFit z.entries d.slots →
+    SlotsFine c z (slice_set xs i d)
 set_slots c z [] i d a b = tt
 set_slots c z (x ∷ xs) zero d a b = (b, a.1)
 set_slots c z (x ∷ xs) (suc i) d a b = (a.0, set_slots c z xs i d a.1 b)
@@ -175,8 +181,8 @@ stored_slots c z xs i slot v None e a b = a
 stored_slots c z xs i slot v (Some d) e a b =
     set_slots c z xs i (with_slot d slot v) a (set_values z.entries d.slots slot v (subst (CellFits z.entries) e (cell_fits c z xs i a)) b)
 
-stored_events : (xs : Store) (i slot : ℕ) (v : Val) (o : Option Cell) (es : List ℕ) → slice_get xs i ≡ o → Each (IsEvent xs) es → Each (IsEvent
-    (with_cell_slot o xs i slot v)) es
+stored_events : (xs : Store) (i slot : ℕ) (v : Val) (o : Option Cell) (es : List ℕ) → slice_get xs i ≡ o → Each (IsEvent xs) es →
+    Each (IsEvent (with_cell_slot o xs i slot v)) es
 stored_events xs i slot v None es e a = a
 stored_events xs i slot v (Some d) es e a = set_events xs i d (with_slot d slot v) es e refl a
 
@@ -201,11 +207,12 @@ written_ticks slot path i v (array vs) s = tt
 written_ticks slot path i v (mapping ps) s = tt
 written_ticks slot path i v (tuple vs) s = tt
 
-sized_fine : (c : Code) (z : Scene) (store : Store) (v : Val) (s : State) → StateFine c z s → SlotsFine c z store → Each (IsEvent store) z.events →
-    ValueFits z.entries v → EffectFine c z (changed (sized_store store v) s)
+sized_fine : (c : Code) (z : Scene) (store : Store) (v : Val) (s : State) → StateFine c z s → SlotsFine c z store →
+    Each (IsEvent store) z.events → ValueFits z.entries v → EffectFine c z (changed (sized_store store v) s)
 sized_fine c z store v s k a b d = two (nat_le (store_weight store) MOST_STORE_WEIGHT) refl
   where
-    two : (t : Bool) → nat_le (store_weight store) MOST_STORE_WEIGHT ≡ t → EffectFine c z (changed (if t then gives (store, v) else error kind.Store) s)
+    two : (t : Bool) → nat_le (store_weight store) MOST_STORE_WEIGHT ≡ t →
+        EffectFine c z (changed (if t then gives (store, v) else error kind.Store) s)
     two true e = (d, with_memory c z s store k a (light (store_weight store) MOST_STORE_WEIGHT e) b)
     two false e = tt
 
@@ -219,19 +226,22 @@ with_fine c z i slot (error e) s k a = tt
 with_fine c z i slot stuck s k a = tt
 
 in_fine : (c : Code) (z : Scene) (i slot : ℕ) (path : List Val) (m : Mode) (v : Val) (o : Option Val) (s : State) → StateFine c z s →
-    ValueFits z.entries v → ValuesFit z.entries path → OneFits z.entries o → EffectFine c z (changed (write_in s.memory.store i slot path m v o) s)
+    ValueFits z.entries v → ValuesFit z.entries path → OneFits z.entries o →
+    EffectFine c z (changed (write_in s.memory.store i slot path m v o) s)
 in_fine c z i slot path m v None s k a b d = tt
-in_fine c z i slot path m v (Some from) s k a b d = with_fine c z i slot (write_at path m v from) s k (write_fits z.entries path m v from b a d)
+in_fine c z i slot path m v (Some from) s k a b d =
+    with_fine c z i slot (write_at path m v from) s k (write_fits z.entries path m v from b a d)
 
-pub written_fine : (c : Code) (z : Scene) (slot : ℕ) (path : List Val) (m : Mode) (v d : Val) (s : State) → StateFine c z s → ValueFits z.entries v →
-    ValuesFit z.entries path → EffectFine c z (slot_written slot path m v d s)
+pub written_fine : (c : Code) (z : Scene) (slot : ℕ) (path : List Val) (m : Mode) (v d : Val) (s : State) → StateFine c z s →
+    ValueFits z.entries v → ValuesFit z.entries path → EffectFine c z (slot_written slot path m v d s)
 written_fine c z slot path i v unit s k a b = tt
 written_fine c z slot path i v falsity s k a b = tt
 written_fine c z slot path i v truth s k a b = tt
 written_fine c z slot path i v (int m) s k a b = tt
 written_fine c z slot path i v (char m) s k a b = tt
 written_fine c z slot path i v (enum m l) s k a b = tt
-written_fine c z slot path i v (object m) s k a b = in_fine c z m slot path i v (slot_of s.memory.store m slot) s k a b (slot_fits c z s.memory.store m slot k.memory.slots)
+written_fine c z slot path i v (object m) s k a b =
+    in_fine c z m slot path i v (slot_of s.memory.store m slot) s k a b (slot_fits c z s.memory.store m slot k.memory.slots)
 written_fine c z slot path i v (event m) s k a b = tt
 written_fine c z slot path i v (task m) s k a b = tt
 written_fine c z slot path i v (some w) s k a b = tt
@@ -243,9 +253,10 @@ written_fine c z slot path i v (tuple vs) s k a b = tt
 
 printed_more : (ls : List Line) (l : Line) → length (printed (ls ++ l ∷ [])) ≡ length (printed ls) + length (line_bytes l.moment l.bytes)
 printed_more [] l = length-append (line_bytes l.moment l.bytes) [] ∙ omega arith
-printed_more (k ∷ ls) l = length-append (line_bytes k.moment k.bytes) (printed (ls ++ l ∷ [])) ∙ (ap (λ n. length (line_bytes k.moment k.bytes) + n)
-    (printed_more ls l) ∙ (sums (length (line_bytes k.moment k.bytes)) (length (printed ls)) (length (line_bytes l.moment l.bytes)) ∙ ap (λ n. n +
-    length (line_bytes l.moment l.bytes)) (sym (length-append (line_bytes k.moment k.bytes) (printed ls)))))
+printed_more (k ∷ ls) l = length-append (line_bytes k.moment k.bytes) (printed (ls ++ l ∷ [])) ∙
+    (ap (λ n. length (line_bytes k.moment k.bytes) + n) (printed_more ls l) ∙
+    (sums (length (line_bytes k.moment k.bytes)) (length (printed ls)) (length (line_bytes l.moment l.bytes)) ∙
+    ap (λ n. n + length (line_bytes l.moment l.bytes)) (sym (length-append (line_bytes k.moment k.bytes) (printed ls)))))
   where
     sums : (a b c : ℕ) → a + (b + c) ≡ (a + b) + c
     sums a b c = omega arith
@@ -333,8 +344,8 @@ signals_more : (n : ℕ) (gs : List Signal) (g : Signal) → Each (λ (g : Signa
 signals_more n [] g a b = (b, tt)
 signals_more n (h ∷ gs) g a b = (a.0, signals_more n gs g a.1 b)
 
-pub sent_fine : (c : Code) (z : Scene) (e : Option ℕ) (v : Val) (s : State) → StateFine c z s → ValueFits z.entries v → EffectFine c z (signal_sent e v
-    s)
+pub sent_fine : (c : Code) (z : Scene) (e : Option ℕ) (v : Val) (s : State) → StateFine c z s → ValueFits z.entries v →
+    EffectFine c z (signal_sent e v s)
 sent_fine c z None v s k a = tt
 sent_fine c z (Some e) v s k a = (
   unit_fits z.entries,

@@ -1,5 +1,6 @@
 -- What tasks do with one another goes by moves.
-use Rattle.std.proofs.Common.{◌≡◌, ℕ, zero, suc, List, [], ◌∷◌, ◌++◌, Option, Some, None, Bool, true, false, cond, refl, sym, subst, ap, ◌∙◌}
+use Rattle.std.proofs.Common.{◌≡◌, ℕ, zero, suc, List, [], ◌∷◌, ◌++◌, Option, Some, None, Bool, true, false, cond, refl, sym, subst, ap}
+use Rattle.std.proofs.Common.{◌∙◌}
 use Rattle.verse_code.specs.declared.codes.Code.{Code}
 use Rattle.verse_base.specs.declared.places.Place.{Place}
 use Rattle.verse_value.specs.Val.{Val, unit, task}
@@ -10,13 +11,17 @@ use Rattle.verse_value.specs.declared.runs.Ending.TheVariants as ending
 use Rattle.verse_meaning_state.specs.State.{State, spending, stepped, with_result, drawn}
 use Rattle.verse_meaning_state.specs.Waits.{Cause, waiting, has, eqn}
 use Rattle.verse_meaning_state.specs.Turns.{Kind, sync, race, rush}
-use Rattle.verse_code_machine.specs.Tasks.{Handler, Frame, Role, root, part, Who, Part, did, runs, Rest, asleep, group, Thread, thread, Task}
-use Rattle.verse_code_machine.specs.Tasks.{After, resuming, closing, finishing, Up, begins, branching, spawning, clearing, Trees, World, world}
+use Rattle.verse_code_machine.specs.Tasks.{Handler, Frame, Role, root, part, Who, Part, did, runs, Rest, asleep, group, Thread, thread}
+use Rattle.verse_code_machine.specs.Tasks.{Task}
+use Rattle.verse_code_machine.specs.Tasks.{After, resuming, closing, finishing, Up, begins, branching, spawning, clearing, Trees, World}
+use Rattle.verse_code_machine.specs.Tasks.{world}
 use Rattle.verse_code_machine.specs.Tasks.{Step, Over, Turn, onto, among, waits_of, same_path, since, beneath_arms}
 use Rattle.verse_code_machine.specs.Cancelling.{world_without, cancelled, on_deferred, clears_frame, clears_frames, clears, cancels}
 use Rattle.verse_code_machine.specs.Frames.{behind}
-use Rattle.verse_code_machine.specs.Ends.{resumes, all_did, first_did, tupled, or_stands, grouped, next_arm, arm_did, rested, suspends, is_run}
-use Rattle.verse_code_machine.specs.Ends.{with_did, joined, climbs, part_ends, root_ends, role_ends, follows, cleared, is_asleep, woken, woken_in}
+use Rattle.verse_code_machine.specs.Ends.{resumes, all_did, first_did, tupled, or_stands, grouped, next_arm, arm_did, rested, suspends}
+use Rattle.verse_code_machine.specs.Ends.{is_run}
+use Rattle.verse_code_machine.specs.Ends.{with_did, joined, climbs, part_ends, root_ends, role_ends, follows, cleared, is_asleep, woken}
+use Rattle.verse_code_machine.specs.Ends.{woken_in}
 use Rattle.verse_code_machine.specs.Runs.{Forest}
 use Rattle.run_save_shots.specs.Lists.{Each}
 use Rattle.run_save_shots.specs.Fitting.{ValueFits, ValuesFit}
@@ -42,7 +47,8 @@ module _ (c : Code) where
   pub frames_leads : (next : State → Step) (w : Who) (o : World) (s : State) (fs : List Frame) → Leads c (m.going w [] o s) (next s) →
       Leads c (m.going w fs o s) (clears_frames next w o s fs)
   frames_leads next w o s [] l = l
-  frames_leads next w o s (f ∷ fs) l = deferred_leads w o s f fs _ f.life.defers refl (then_leads m.frame_gone (frames_leads next w o s fs l))
+  frames_leads next w o s (f ∷ fs) l = deferred_leads w o s f fs _ f.life.defers refl
+      (then_leads m.frame_gone (frames_leads next w o s fs l))
 
   -- what follows where all is cancelled
   abbrev pub Follows : (World → State → Step) → After → Type 0
@@ -73,31 +79,36 @@ module _ (c : Code) where
   first_fits n (did v ∷ gs) a = a.0
   first_fits n (runs m ∷ gs) a = first_fits n gs a.1
 
-  stands_leads : {A : Type 0} (x : Point) (o : Option A) (q : Step) (go : A → Step) → (o ≡ None → Leads c x q) → ((a : A) → o ≡ Some a → Leads c x
-      (go a)) → Leads c x (or_stands o q go)
+  stands_leads : {A : Type 0} (x : Point) (o : Option A) (q : Step) (go : A → Step) → (o ≡ None → Leads c x q) →
+      ((a : A) → o ≡ Some a → Leads c x (go a)) → Leads c x (or_stands o q go)
   stands_leads x None q go l f = l refl
   stands_leads x (Some a) q go l f = f a refl
 
-  tupled_leads : (y : Point) (p : Place) (a : Answer Val) (x : Thread) (o : World) (s : State) → ((v : Val) → a ≡ gives v → Leads c y (resumes x v o
-      s)) → Leads c y (tupled p a x o s)
+  tupled_leads : (y : Point) (p : Place) (a : Answer Val) (x : Thread) (o : World) (s : State) →
+      ((v : Val) → a ≡ gives v → Leads c y (resumes x v o s)) → Leads c y (tupled p a x o s)
   tupled_leads y p (gives v) x o s f = f v refl
   tupled_leads y p fails x o s f = ends_run
   tupled_leads y p (error k) x o s f = ends_run
   tupled_leads y p stuck x o s f = ends_run
 
   module _ (k : Kind) (p : Place) (x : Thread) (pre post : List Task) (us : List Up) (trees : Trees) (s : State) (go : Task → Step)
-      (f : (r : Rest) → Leads c (m.rests (record { thread = x; rest = r } ∷ pre) post us trees s) (go (record { thread = x; rest = r }))) where
+      (f : (r : Rest) → Leads c (m.rests (record { thread = x; rest = r } ∷ pre) post us trees s)
+      (go (record { thread = x; rest = r }))) where
     -- all arms have begun
     pub grouped_leads : (j : Kind) → j ≡ k → (gs : List Part) →
         Leads c (m.gathering k p gs [] x pre post us trees s) (grouped j p gs x (world pre post us trees) s go)
-    grouped_leads sync e gs = subst (λ k. Leads c (m.gathering k p gs [] x pre post us trees s) (grouped sync p gs x (world pre post us trees) s go)) e
+    grouped_leads sync e gs = subst (λ k. Leads c (m.gathering k p gs [] x pre post us trees s)
+        (grouped sync p gs x (world pre post us trees) s go)) e
         (stands_leads _ (all_did gs) _ _ (λ n. then_leads (m.stands n) (f (group sync p gs)))
-        (λ vs n. tupled_leads _ p (tuple_of vs) x (world pre post us trees) s (λ v h. then_leads (m.gathered (λ i a. subst (AnswerFits i) h
-        (tuple_fits i vs (subst (AllFit i) n (all_fit i gs a))))) acts_next)))
-    grouped_leads race e gs = subst (λ k. Leads c (m.gathering k p gs [] x pre post us trees s) (grouped race p gs x (world pre post us trees) s go)) e
+        (λ vs n. tupled_leads _ p (tuple_of vs) x (world pre post us trees) s
+        (λ v h. then_leads (m.gathered (λ i a. subst (AnswerFits i) h (tuple_fits i vs (subst (AllFit i) n (all_fit i gs a))))) acts_next)))
+    grouped_leads race e gs = subst (λ k. Leads c (m.gathering k p gs [] x pre post us trees s)
+        (grouped race p gs x (world pre post us trees) s go)) e
         (stands_leads _ (first_did gs) _ _ (λ n. then_leads (m.stands n) (f (group race p gs)))
-        (λ v n. then_leads (m.races (λ i a. subst (OneFits i) n (first_fits i gs a))) (clears_leads _ (resuming x v) (resuming_leads x v) _ _ s)))
-    grouped_leads rush e gs = subst (λ k. Leads c (m.gathering k p gs [] x pre post us trees s) (grouped rush p gs x (world pre post us trees) s go)) e
+        (λ v n. then_leads (m.races (λ i a. subst (OneFits i) n (first_fits i gs a)))
+        (clears_leads _ (resuming x v) (resuming_leads x v) _ _ s)))
+    grouped_leads rush e gs = subst (λ k. Leads c (m.gathering k p gs [] x pre post us trees s)
+        (grouped rush p gs x (world pre post us trees) s go)) e
         (stands_leads _ (first_did gs) _ _ (λ n. then_leads (m.stands n) (f (group rush p gs)))
         (λ v n. then_leads (m.gathered (λ i a. subst (OneFits i) n (first_fits i gs a))) acts_next))
 
@@ -112,21 +123,23 @@ module _ (c : Code) where
   some_did (did w ∷ gs) v e = cc
   some_did (runs n ∷ gs) v e = some_did gs v e
 
-  did_leads : (k : Kind) (p : Place) (gs : List Part) (v : Val) (ls : List ℕ) (x : Thread) (pre post : List Task) (us : List Up) (trees : Trees)
+  did_leads : (k : Kind) (p : Place) (gs : List Part) (v : Val) (ls : List ℕ) (x : Thread) (pre post : List Task) (us : List Up)
+      (trees : Trees)
       (s : State) (go : Task → Step) → ((r : Rest) → Leads c (m.rests (record { thread = x; rest = r } ∷ pre) post us trees s) (go (record {
         thread =
             x;
         rest = r;
-      }))) → Leads c (m.gathering k p (gs ++ did v ∷ []) ls x pre post us trees s) (arm_did k p (gs ++ did v ∷ []) ls x pre post us trees s go)
+      }))) → Leads c (m.gathering k p (gs ++ did v ∷ []) ls x pre post us trees s)
+      (arm_did k p (gs ++ did v ∷ []) ls x pre post us trees s go)
   did_leads sync p gs v ls x pre post us trees s go f = next_leads sync p x pre post us trees s go f (gs ++ did v ∷ []) ls
   did_leads race p gs v ls x pre post us trees s go f = stands_leads _ (first_did (gs ++ did v ∷ [])) _ _ (λ n. absurd (some_did gs v n))
-      (λ w n. then_leads (m.races (λ i a. subst (OneFits i) n (first_fits i (gs ++ did v ∷ []) a))) (clears_leads _ (resuming x w) (resuming_leads
-      x w) _ _ s))
+      (λ w n. then_leads (m.races (λ i a. subst (OneFits i) n (first_fits i (gs ++ did v ∷ []) a)))
+      (clears_leads _ (resuming x w) (resuming_leads x w) _ _ s))
   did_leads rush p gs v ls x pre post us trees s go f = next_leads rush p x pre post us trees s go f (gs ++ did v ∷ []) ls
 
   -- no task runs
-  pub rested_leads : (us : List Up) (pre post : List Task) (trees : Trees) (s : State) → Leads c (m.rests pre post us trees s) (rested pre post us
-      trees s)
+  pub rested_leads : (us : List Up) (pre post : List Task) (trees : Trees) (s : State) →
+      Leads c (m.rests pre post us trees s) (rested pre post us trees s)
   rested_leads [] pre post trees s = then_leads m.rests_alone turns_next
   rested_leads (begins x k p gs n ls ∷ us) pre post trees s =
       then_leads m.rests_arm (next_leads k p x pre post us trees s (λ y. rested (y ∷ pre) post us trees s) (λ r. rested_leads us (record {
@@ -147,21 +160,23 @@ module _ (c : Code) where
   joined_leads up n v (asleep w) y pre post trees s e h =
       then_leads (m.joins_no_group h (subst (λ r. IsArmOf n r false) (sym e) refl)) turns_next
   joined_leads up n v (group k p gs) y pre post trees s e h = cond_leads (is_run n gs) _ _
-      (λ i. then_leads (m.joins h e i) (grouped_leads k p y.thread pre post [] trees s (λ y. rested (y ∷ pre) post [] trees s) (λ r. rested_leads
-      [] (record { thread = y.thread; rest = r } ∷ pre) post trees s) k refl (with_did n v gs)))
+      (λ i. then_leads (m.joins h e i) (grouped_leads k p y.thread pre post [] trees s (λ y. rested (y ∷ pre) post [] trees s)
+      (λ r. rested_leads [] (record { thread = y.thread; rest = r } ∷ pre) post trees s) k refl (with_did n v gs)))
       (λ i. then_leads (m.joins_no_group h (subst (λ r. IsArmOf n r false) (sym e) i)) turns_next)
 
-  climbs_leads : (up : List ℕ) (n : ℕ) (v : Val) (pre post : List Task) (trees : Trees) (s : State) → Leads c (m.climbs up n v pre post trees s)
-      (climbs up n v pre post trees s)
+  climbs_leads : (up : List ℕ) (n : ℕ) (v : Val) (pre post : List Task) (trees : Trees) (s : State) →
+      Leads c (m.climbs up n v pre post trees s) (climbs up n v pre post trees s)
   climbs_leads up n v pre [] trees s = ends_run
   climbs_leads up n v pre (y ∷ post) trees s = cond_leads (same_path up y.thread.who.path) _ _
-      (λ h. joined_leads up n v y.rest y pre post trees s refl h) (λ h. then_leads (m.climbs_on h) (climbs_leads up n v (y ∷ pre) post trees s))
+      (λ h. joined_leads up n v y.rest y pre post trees s refl h)
+      (λ h. then_leads (m.climbs_on h) (climbs_leads up n v (y ∷ pre) post trees s))
 
   part_leads : (us : List Up) (w : Who) (v : Val) (pre post : List Task) (trees : Trees) (s : State) →
       Leads c (m.ended part w v (world pre post us trees) s) (part_ends w.up w.number v pre post us trees s)
   part_leads [] w v pre post trees s = then_leads m.ended_alone (climbs_leads w.up w.number v pre post trees s)
   part_leads (begins x k p gs n ls ∷ us) w v pre post trees s =
-      then_leads m.ended_arm (did_leads k p gs v ls x pre post us trees s (λ y. rested (y ∷ pre) post us trees s) (λ r. rested_leads us (record {
+      then_leads m.ended_arm (did_leads k p gs v ls x pre post us trees s (λ y. rested (y ∷ pre) post us trees s)
+      (λ r. rested_leads us (record {
         thread = x;
         rest = r;
       } ∷ pre) post trees s))
@@ -187,10 +202,11 @@ module _ (c : Code) where
   follows_leads (finishing w entry v) o s = then_leads m.gives_result (role_leads (root entry) w v o (with_result entry v s))
 
   pub closing_leads : (w : Who) (v : Val) → w.role ≡ part → Follows (λ o s. role_ends part w v o s) (closing w v)
-  closing_leads w v e o s = then_leads m.closes (subst (λ r. Leads c (m.ended r w v o s) (role_ends part w v o s)) (sym e) (role_leads part w v o s))
+  closing_leads w v e o s = then_leads m.closes
+      (subst (λ r. Leads c (m.ended r w v o s) (role_ends part w v o s)) (sym e) (role_leads part w v o s))
 
-  pub cleared_leads : (us : List Up) (w : Who) (pre post : List Task) (trees : Trees) (s : State) → Leads c (m.going w [] (world pre post us trees)
-      s) (cleared us pre post trees s)
+  pub cleared_leads : (us : List Up) (w : Who) (pre post : List Task) (trees : Trees) (s : State) →
+      Leads c (m.going w [] (world pre post us trees) s) (cleared us pre post trees s)
   cleared_leads [] w pre post trees s = ends_run
   cleared_leads (clearing after ts ∷ us) w pre post trees s =
       then_leads m.all_gone (clears_leads (follows after) after (follows_leads after) ts (world pre post us trees) s)
@@ -199,8 +215,8 @@ module _ (c : Code) where
   cleared_leads (spawning x entry ps qs ∷ us) w pre post trees s = ends_run
 
   -- a wait is woken
-  asleep_is : (n : ℕ) (r : Rest) (x : Point) (q : Step) → is_asleep n r ≡ true → ((w : _) → r ≡ asleep w → eqn n w.number ≡ true → Leads c x q) →
-      Leads c x q
+  asleep_is : (n : ℕ) (r : Rest) (x : Point) (q : Step) → is_asleep n r ≡ true →
+      ((w : _) → r ≡ asleep w → eqn n w.number ≡ true → Leads c x q) → Leads c x q
   asleep_is n (asleep w) x q e f = f w refl e
   asleep_is n (group k p gs) x q e f = cc
 
@@ -209,8 +225,8 @@ module _ (c : Code) where
       Leads c (m.wakes n v tss s) (woken n v pre post (record { before = before; behind = behind }) s)
   woken_leads n v before behind tss s pre [] e = ends_run
   woken_leads n v before behind tss s pre (y ∷ post) e = cond_leads (is_asleep n y.rest) _ _
-      (λ h. asleep_is n y.rest _ _ h (λ w i j. then_leads (m.woken {before = before} {behind = behind} {pre = pre} {post = post} {y = y} e i j)
-      acts_next))
+      (λ h. asleep_is n y.rest _ _ h (λ w i j. then_leads
+      (m.woken {before = before} {behind = behind} {pre = pre} {post = post} {y = y} e i j) acts_next))
       (λ h. woken_leads n v before behind tss s (y ∷ pre) post e)
 
   assoc : (xs : Forest) (ts : List Task) (ys : Forest) → xs ++ ts ∷ ys ≡ (xs ++ ts ∷ []) ++ ys

@@ -1,5 +1,6 @@
 -- What an operation gives from values of a run is one.
-use Rattle.std.proofs.Common.{◌≡◌, ℕ, zero, suc, ◌+◌, ◌≤◌, ◌<◌, length, List, [], ◌∷◌, ◌++◌, Option, Some, None, Bool, true, false, cond, refl, sym}
+use Rattle.std.proofs.Common.{◌≡◌, ℕ, zero, suc, ◌+◌, ◌≤◌, ◌<◌, length, List, [], ◌∷◌, ◌++◌, Option, Some, None, Bool, true, false, cond}
+use Rattle.std.proofs.Common.{refl, sym}
 use Rattle.std.proofs.Common.{subst, ap, ◌∙◌, arith, nat_le, option_map}
 use Rattle.std.specs.Prelude.{ℤ, pos, negsuc, neg_ℤ, ◌+ℤ◌, ◌-ℤ◌, ◌*ℤ◌, int_le, not, ◌&&◌, if◌then◌else◌, slice_get, max, ◌%◌, ◌/◌, ◌==◌}
 use Rattle.std.specs.Fmt.{signed_decimal, digits, digits_onto, digit_glyph}
@@ -15,7 +16,8 @@ use Rattle.verse_code.specs.declared.operations.Op.{Op}
 use Rattle.verse_code.specs.declared.operations.Op.TheVariants as o
 use Rattle.verse_code.specs.declared.codes.Code.{Code}
 use Rattle.verse_code.specs.Validity.{Valid, IsText}
-use Rattle.verse_value.specs.Val.{Val, unit, falsity, truth, int, char, enum, object, event, task, some, array, mapping, tuple, Vals, no_vals}
+use Rattle.verse_value.specs.Val.{Val, unit, falsity, truth, int, char, enum, object, event, task, some, array, mapping, tuple, Vals}
+use Rattle.verse_value.specs.Val.{no_vals}
 use Rattle.verse_value.specs.Val.{more_vals, vals, Pairs, no_pairs, more_pairs}
 use Rattle.verse_value.specs.Keys.{key_eq, byte_of, with_byte, bytes_of, chars, key_of, key_val, at_key}
 use Rattle.verse_value.specs.Sizes.{fits, weight_of, weights, pair_weights, levels_of, most_levels, most_pair_levels, key_weight}
@@ -23,10 +25,14 @@ use Rattle.verse_value.specs.Parts.{joined}
 use Rattle.verse_value.specs.Places.{nth, Step, part, outside, absent, misfit, step_in, in_array, in_map, part_or}
 use Rattle.verse_value.specs.Answer.{Answer, gives, fails, error, stuck, given_or}
 use Rattle.verse_value.specs.Equality.{val_eq}
-use Rattle.verse_value.specs.Operations.{ranged, is_int, sized, on_ints, sum_of, difference_of, product_of, negation_of, divided, floor_of, ceil_of}
-use Rattle.verse_value.specs.Operations.{modulo_of, left_where, less_of, at_most_of, greater_of, at_least_of, equal_of, unequal_of, concat_of}
-use Rattle.verse_value.specs.Operations.{append_of, text_val, hole_bytes, both_bytes, holes_bytes, sized_text, join_of, array_of, tuple_of, option_of}
-use Rattle.verse_value.specs.Operations.{with_entry, with_entries, keyed_with, keyed, sized_map, map_of, query_of, item_of, step_answer, at_of}
+use Rattle.verse_value.specs.Operations.{ranged, is_int, sized, on_ints, sum_of, difference_of, product_of, negation_of, divided, floor_of}
+use Rattle.verse_value.specs.Operations.{ceil_of}
+use Rattle.verse_value.specs.Operations.{modulo_of, left_where, less_of, at_most_of, greater_of, at_least_of, equal_of, unequal_of}
+use Rattle.verse_value.specs.Operations.{concat_of}
+use Rattle.verse_value.specs.Operations.{append_of, text_val, hole_bytes, both_bytes, holes_bytes, sized_text, join_of, array_of, tuple_of}
+use Rattle.verse_value.specs.Operations.{option_of}
+use Rattle.verse_value.specs.Operations.{with_entry, with_entries, keyed_with, keyed, sized_map, map_of, query_of, item_of, step_answer}
+use Rattle.verse_value.specs.Operations.{at_of}
 use Rattle.verse_value.specs.Operations.{count, entry_count, length_of, nth_entry, taken_of}
 use Rattle.verse_value.specs.declared.keys.Key.{Key}
 use Rattle.verse_value.specs.declared.keys.Key.TheVariants as key
@@ -54,7 +60,8 @@ small_of v e = both_below (weight_of v) 4000000 (levels_of v) 200 e
 pub fits_of : (v : Val) → weight_of v ≤ 4000000 → levels_of v ≤ 200 → fits v ≡ true
 fits_of v e f = both_fit (weight_of v) 4000000 (levels_of v) 200 e f
 
-pub if_gives : (n : ℕ) (b : Bool) (a x : Answer Val) → (b ≡ true → AnswerFits n a) → (b ≡ false → AnswerFits n x) → AnswerFits n (if b then a else x)
+pub if_gives : (n : ℕ) (b : Bool) (a x : Answer Val) → (b ≡ true → AnswerFits n a) → (b ≡ false → AnswerFits n x) →
+    AnswerFits n (if b then a else x)
 if_gives n true a x f g = f refl
 if_gives n false a x f g = g refl
 
@@ -135,10 +142,12 @@ divided_fits : (n : ℕ) (d : ℤ) (a : Answer Val) → AnswerFits n a → Answe
 divided_fits n d a h = if_gives n (int_eq d (pos 0)) fails a (λ e. tt) (λ e. h)
 
 pub floor_fits : (n : ℕ) (a b : Val) → ValueFits n a → ValueFits n b → AnswerFits n (floor_of a b)
-floor_fits n a b p q = ints_fit n (λ x y. divided y (ranged (floor_quotient x y))) (λ x y. divided_fits n y _ (ranged_fits n (floor_quotient x y))) a b
+floor_fits n a b p q = ints_fit n (λ x y. divided y (ranged (floor_quotient x y)))
+    (λ x y. divided_fits n y _ (ranged_fits n (floor_quotient x y))) a b
 
 pub ceil_fits : (n : ℕ) (a b : Val) → ValueFits n a → ValueFits n b → AnswerFits n (ceil_of a b)
-ceil_fits n a b p q = ints_fit n (λ x y. divided y (ranged (ceil_quotient x y))) (λ x y. divided_fits n y _ (ranged_fits n (ceil_quotient x y))) a b
+ceil_fits n a b p q = ints_fit n (λ x y. divided y (ranged (ceil_quotient x y)))
+    (λ x y. divided_fits n y _ (ranged_fits n (ceil_quotient x y))) a b
 
 pub modulo_fits : (n : ℕ) (a b : Val) → ValueFits n a → ValueFits n b → AnswerFits n (modulo_of a b)
 modulo_fits n a b p q =
@@ -151,13 +160,15 @@ pub less_fits : (n : ℕ) (a b : Val) → ValueFits n a → ValueFits n b → An
 less_fits n a b p q = ints_fit n (λ x y. left_where (lt_z x y) (int x)) (λ x y. left_fits n (lt_z x y) (int x) (int_fits n x)) a b
 
 pub at_most_fits : (n : ℕ) (a b : Val) → ValueFits n a → ValueFits n b → AnswerFits n (at_most_of a b)
-at_most_fits n a b p q = ints_fit n (λ x y. left_where (not (lt_z y x)) (int x)) (λ x y. left_fits n (not (lt_z y x)) (int x) (int_fits n x)) a b
+at_most_fits n a b p q = ints_fit n (λ x y. left_where (not (lt_z y x)) (int x))
+    (λ x y. left_fits n (not (lt_z y x)) (int x) (int_fits n x)) a b
 
 pub greater_fits : (n : ℕ) (a b : Val) → ValueFits n a → ValueFits n b → AnswerFits n (greater_of a b)
 greater_fits n a b p q = ints_fit n (λ x y. left_where (lt_z y x) (int x)) (λ x y. left_fits n (lt_z y x) (int x) (int_fits n x)) a b
 
 pub at_least_fits : (n : ℕ) (a b : Val) → ValueFits n a → ValueFits n b → AnswerFits n (at_least_of a b)
-at_least_fits n a b p q = ints_fit n (λ x y. left_where (not (lt_z x y)) (int x)) (λ x y. left_fits n (not (lt_z x y)) (int x) (int_fits n x)) a b
+at_least_fits n a b p q = ints_fit n (λ x y. left_where (not (lt_z x y)) (int x))
+    (λ x y. left_fits n (not (lt_z x y)) (int x) (int_fits n x)) a b
 
 pub equal_fits : (n : ℕ) (a b : Val) → ValueFits n a → ValueFits n b → AnswerFits n (equal_of a b)
 equal_fits n a b p q = left_fits n (val_eq a b) a p
@@ -232,7 +243,8 @@ append_of_fits n (object m) v p q = tt
 append_of_fits n (event m) v p q = tt
 append_of_fits n (task m) v p q = tt
 append_of_fits n (some w) v p q = tt
-append_of_fits n (array vs) v p q = sized_fits n (array (joined vs (more_vals v no_vals))) (joined_sound n vs (more_vals v no_vals) p.sound (q.sound, tt))
+append_of_fits n (array vs) v p q = sized_fits n (array (joined vs (more_vals v no_vals)))
+    (joined_sound n vs (more_vals v no_vals) p.sound (q.sound, tt))
 append_of_fits n (mapping ps) v p q = tt
 append_of_fits n (tuple vs) v p q = tt
 
@@ -286,7 +298,8 @@ item_fits n (task m) i p = tt
 item_fits n (some w) i p = tt
 item_fits n (array vs) i p = tt
 item_fits n (mapping ps) i p = tt
-item_fits n (tuple vs) i p = let s = small_of (tuple vs) p.small in or_fits n stuck (nth vs i) tt (nth_fits n vs i (inside (weights vs) 4000000 s.0) (inside (most_levels vs) 200 s.1) p.sound)
+item_fits n (tuple vs) i p = let s = small_of (tuple vs) p.small in or_fits n stuck (nth vs i) tt
+    (nth_fits n vs i (inside (weights vs) 4000000 s.0) (inside (most_levels vs) 200 s.1) p.sound)
 
 content_fits : (n : ℕ) (v : Val) → ValueFits n (some v) → ValueFits n v
 content_fits n v p = let s = small_of (some v) p.small in
@@ -504,19 +517,21 @@ apart k l e = laws-law.symm l k ∙ e
 still_absent : (ps : Pairs) (k : Key) (v : Val) (l : Key) → key_eq l k ≡ false → at_key ps l ≡ None → at_key (with_entry ps k v) l ≡ None
 still_absent no_pairs k v l e f = none_if (key_eq l k) v None e refl
 still_absent (more_pairs j w ps) k v l e f = let g = if_none (key_eq l j) w (at_key ps l) f in
-    two (key_eq k j) (none_if (key_eq l j) v (at_key ps l) g.0 g.1) (none_if (key_eq l j) w (at_key (with_entry ps k v) l) g.0 (still_absent ps k v l e g.1))
+    two (key_eq k j) (none_if (key_eq l j) v (at_key ps l) g.0 g.1)
+    (none_if (key_eq l j) w (at_key (with_entry ps k v) l) g.0 (still_absent ps k v l e g.1))
   where
     two : (b : Bool) → at_key (more_pairs j v ps) l ≡ None → at_key (more_pairs j w (with_entry ps k v)) l ≡ None →
         at_key (if b then more_pairs j v ps else more_pairs j w (with_entry ps k v)) l ≡ None
     two true a b = a
     two false a b = b
 
-entry_sound : (n : ℕ) (ps : Pairs) (k : Key) (v : Val) → PairsAreSound n ps → KeyIsSound k → IsSound n v → PairsAreSound n (with_entry ps k v)
+entry_sound : (n : ℕ) (ps : Pairs) (k : Key) (v : Val) → PairsAreSound n ps → KeyIsSound k → IsSound n v →
+    PairsAreSound n (with_entry ps k v)
 entry_sound n no_pairs k v a b c = (b, c, refl, tt)
 entry_sound n (more_pairs j w ps) k v a b c = two (key_eq k j) refl (entry_sound n ps k v a.3 b c)
   where
-    two : (t : Bool) → key_eq k j ≡ t → PairsAreSound n (with_entry ps k v) → PairsAreSound n (if t then more_pairs j v ps else more_pairs j w
-        (with_entry ps k v))
+    two : (t : Bool) → key_eq k j ≡ t → PairsAreSound n (with_entry ps k v) →
+        PairsAreSound n (if t then more_pairs j v ps else more_pairs j w (with_entry ps k v))
     two true e h = (a.0, c, a.2, a.3)
     two false e h = (a.0, a.1, still_absent ps k v j (apart k j e) a.2, h)
 
@@ -540,7 +555,8 @@ keyed_with_sound n (Some k) v (Some es) a b c = ((a, b), c)
 paired_sound : (n : ℕ) (vs : List Val) → ValuesFit n vs → MaybeEntries n (keyed (paired vs))
 paired_sound n [] a = tt
 paired_sound n (k ∷ []) a = tt
-paired_sound n (k ∷ v ∷ vs) a = keyed_with_sound n (key_of k) v (keyed (paired vs)) (key_sound n k a.0.sound) a.1.0.sound (paired_sound n vs a.1.1)
+paired_sound n (k ∷ v ∷ vs) a = keyed_with_sound n (key_of k) v (keyed (paired vs)) (key_sound n k a.0.sound) a.1.0.sound
+    (paired_sound n vs a.1.1)
 
 sized_map_fits : (n : ℕ) (o : Option (List (Key × Val))) → MaybeEntries n o → AnswerFits n (sized_map o)
 sized_map_fits n None a = tt
@@ -695,7 +711,8 @@ taken_from_fits n truth b p q = tt
 taken_from_fits n (int m) unit p q = tt
 taken_from_fits n (int m) falsity p q = tt
 taken_from_fits n (int m) truth p q = tt
-taken_from_fits n (int m) (int j) p q = cond_taken n (int_le m j) (takes (int m) unit 0 (next_low m j)) ended (int_fits n m, unit_fits n, low_fits n (int_eq m j) (m +ℤ pos 1)) tt
+taken_from_fits n (int m) (int j) p q = cond_taken n (int_le m j) (takes (int m) unit 0 (next_low m j)) ended
+    (int_fits n m, unit_fits n, low_fits n (int_eq m j) (m +ℤ pos 1)) tt
 taken_from_fits n (int m) (char j) p q = tt
 taken_from_fits n (int m) (enum j l) p q = tt
 taken_from_fits n (int m) (object j) p q = tt
@@ -729,7 +746,8 @@ taken_from_fits n (mapping ps) unit p q = tt
 taken_from_fits n (mapping ps) falsity p q = tt
 taken_from_fits n (mapping ps) truth p q = tt
 taken_from_fits n (mapping ps) (int (pos j)) p q = let s = small_of (mapping ps) p.small in at_place_fits n j (taken_of (mapping ps) j)
-    (taken_entry n (nth_entry ps j) (nth_entry_fits n ps j (inside (pair_weights ps) 4000000 s.0) (inside (most_pair_levels ps) 200 s.1) p.sound))
+    (taken_entry n (nth_entry ps j) (nth_entry_fits n ps j (inside (pair_weights ps) 4000000 s.0) (inside (most_pair_levels ps) 200 s.1)
+    p.sound))
 taken_from_fits n (mapping ps) (int (negsuc j)) p q = tt
 taken_from_fits n (mapping ps) (char j) p q = tt
 taken_from_fits n (mapping ps) (enum j l) p q = tt

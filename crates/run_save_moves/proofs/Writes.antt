@@ -1,14 +1,18 @@
 -- What a write at a path leaves in a slot fits, and so does the value written.
-use Rattle.std.proofs.Common.{◌≡◌, ℕ, zero, suc, ◌+◌, ◌≤◌, List, [], ◌∷◌, Option, Some, None, Bool, true, false, refl, sym, subst, ap, ◌∙◌, arith}
+use Rattle.std.proofs.Common.{◌≡◌, ℕ, zero, suc, ◌+◌, ◌≤◌, List, [], ◌∷◌, Option, Some, None, Bool, true, false, refl, sym, subst, ap, ◌∙◌}
+use Rattle.std.proofs.Common.{arith}
 use Rattle.std.specs.Prelude.{ℤ, pos, negsuc, ◌+ℤ◌, ◌-ℤ◌, ◌*ℤ◌, if◌then◌else◌, max}
 use Rattle.verse_base.specs.declared.refusals.Kind.TheVariants.{Overflow, Size}
-use Rattle.verse_value.specs.Val.{Val, unit, falsity, truth, int, char, enum, object, event, task, some, array, mapping, tuple, Vals, no_vals}
+use Rattle.verse_value.specs.Val.{Val, unit, falsity, truth, int, char, enum, object, event, task, some, array, mapping, tuple, Vals}
+use Rattle.verse_value.specs.Val.{no_vals}
 use Rattle.verse_value.specs.Val.{more_vals, Pairs, no_pairs, more_pairs}
 use Rattle.verse_value.specs.Keys.{key_eq, key_of, at_key}
 use Rattle.verse_value.specs.Sizes.{fits, weight_of, weights, pair_weights, levels_of, most_levels, most_pair_levels}
 use Rattle.verse_value.specs.Parts.{joined}
-use Rattle.verse_value.specs.Places.{nth, Step, part, outside, absent, misfit, step_in, in_array, in_map, part_or, End, there, new_key, nowhere}
-use Rattle.verse_value.specs.Places.{unfit, at_absent, end_from, end_of, with_nth, with_key, array_with, map_with, changed, put, push, with_last}
+use Rattle.verse_value.specs.Places.{nth, Step, part, outside, absent, misfit, step_in, in_array, in_map, part_or, End, there, new_key}
+use Rattle.verse_value.specs.Places.{nowhere}
+use Rattle.verse_value.specs.Places.{unfit, at_absent, end_from, end_of, with_nth, with_key, array_with, map_with, changed, put, push}
+use Rattle.verse_value.specs.Places.{with_last}
 use Rattle.verse_value.specs.Places.{pushed, applied, path_to_map, last_key}
 use Rattle.verse_value.specs.Answer.{Answer, gives, fails, error, stuck}
 use Rattle.verse_value.specs.Operations.{ranged, is_int, combined, sized_slot, overwritten, key_made, written_at, write_at}
@@ -29,8 +33,8 @@ if_other false v o e = refl
 
 -- ---- a part that is changed
 
-with_nth_sound : (n : ℕ) (f : Val → Val) (vs : Vals) (i : ℕ) → AreSound n vs → ((x : Val) → nth vs i ≡ Some x → IsSound n x → IsSound n (f x)) →
-    AreSound n (with_nth vs i f)
+with_nth_sound : (n : ℕ) (f : Val → Val) (vs : Vals) (i : ℕ) → AreSound n vs →
+    ((x : Val) → nth vs i ≡ Some x → IsSound n x → IsSound n (f x)) → AreSound n (with_nth vs i f)
 with_nth_sound n f no_vals i a h = tt
 with_nth_sound n f (more_vals v vs) zero a h = (h v refl a.0, a.1)
 with_nth_sound n f (more_vals v vs) (suc i) a h = (a.0, with_nth_sound n f vs i a.1 h)
@@ -38,19 +42,19 @@ with_nth_sound n f (more_vals v vs) (suc i) a h = (a.0, with_nth_sound n f vs i 
 absent_with : (ps : Pairs) (k : Key) (f : Val → Val) (l : Key) → at_key ps l ≡ None → at_key (with_key ps k f) l ≡ None
 absent_with no_pairs k f l e = refl
 absent_with (more_pairs j v ps) k f l e = let g = if_none (key_eq l j) v (at_key ps l) e in
-    two (key_eq k j) (none_if (key_eq l j) (f v) (at_key ps l) g.0 g.1) (none_if (key_eq l j) v (at_key (with_key ps k f) l) g.0 (absent_with ps k f l
-    g.1))
+    two (key_eq k j) (none_if (key_eq l j) (f v) (at_key ps l) g.0 g.1)
+    (none_if (key_eq l j) v (at_key (with_key ps k f) l) g.0 (absent_with ps k f l g.1))
   where
     two : (b : Bool) → at_key (more_pairs j (f v) ps) l ≡ None → at_key (more_pairs j v (with_key ps k f)) l ≡ None →
         at_key (if b then more_pairs j (f v) ps else more_pairs j v (with_key ps k f)) l ≡ None
     two true a b = a
     two false a b = b
 
-with_key_sound : (n : ℕ) (f : Val → Val) (ps : Pairs) (k : Key) → PairsAreSound n ps → ((x : Val) → at_key ps k ≡ Some x → IsSound n x → IsSound n
-    (f x)) → PairsAreSound n (with_key ps k f)
+with_key_sound : (n : ℕ) (f : Val → Val) (ps : Pairs) (k : Key) → PairsAreSound n ps →
+    ((x : Val) → at_key ps k ≡ Some x → IsSound n x → IsSound n (f x)) → PairsAreSound n (with_key ps k f)
 with_key_sound n f no_pairs k a h = tt
-with_key_sound n f (more_pairs l v ps) k a h = two (key_eq k l) refl (λ e. with_key_sound n f ps k a.3 (λ x g. h x (if_other (key_eq k l) v (at_key
-    ps k) e ∙ g)))
+with_key_sound n f (more_pairs l v ps) k a h =
+    two (key_eq k l) refl (λ e. with_key_sound n f ps k a.3 (λ x g. h x (if_other (key_eq k l) v (at_key ps k) e ∙ g)))
   where
     two : (b : Bool) → key_eq k l ≡ b → (key_eq k l ≡ false → PairsAreSound n (with_key ps k f)) →
         PairsAreSound n (if b then more_pairs l (f v) ps else more_pairs l v (with_key ps k f))
@@ -76,8 +80,8 @@ array_sound n f vs (array ws) a h = a
 array_sound n f vs (mapping qs) a h = a
 array_sound n f vs (tuple ws) a h = a
 
-map_sound : (n : ℕ) (f : Val → Val) (ps : Pairs) (o : Option Key) → PairsAreSound n ps → ((x : Val) → in_map ps o ≡ part x → IsSound n x → IsSound n
-    (f x)) → PairsAreSound n (map_with ps o f)
+map_sound : (n : ℕ) (f : Val → Val) (ps : Pairs) (o : Option Key) → PairsAreSound n ps →
+    ((x : Val) → in_map ps o ≡ part x → IsSound n x → IsSound n (f x)) → PairsAreSound n (map_with ps o f)
 map_sound n f ps None a h = a
 map_sound n f ps (Some k) a h = with_key_sound n f ps k a (λ x e. h x (ap (part_or absent) e))
 
@@ -117,8 +121,8 @@ lacks : (o : Option Val) → end_from (part_or absent o) [] (end_of []) ≡ new_
 lacks None e = refl
 lacks (Some x) e = absurd (cc)
 
-pushed_sound : (n : ℕ) (i : Val) (k : Key) (v slot : Val) → end_of (i ∷ []) slot ≡ new_key → key_of i ≡ Some k → KeyIsSound k → IsSound n v →
-    IsSound n slot → IsSound n (pushed k v slot)
+pushed_sound : (n : ℕ) (i : Val) (k : Key) (v slot : Val) → end_of (i ∷ []) slot ≡ new_key → key_of i ≡ Some k → KeyIsSound k →
+    IsSound n v → IsSound n slot → IsSound n (pushed k v slot)
 pushed_sound n i k v unit e f a b c = c
 pushed_sound n i k v falsity e f a b c = c
 pushed_sound n i k v truth e f a b c = c
@@ -130,15 +134,17 @@ pushed_sound n i k v (event j) e f a b c = c
 pushed_sound n i k v (task j) e f a b c = c
 pushed_sound n i k v (some y) e f a b c = c
 pushed_sound n i k v (array vs) e f a b c = c
-pushed_sound n i k v (mapping ps) e f a b c = last_sound n ps k v c a b (lacks (at_key ps k) (subst (λ o. end_from (in_map ps o) [] (end_of []) ≡ new_key) f e))
+pushed_sound n i k v (mapping ps) e f a b c =
+    last_sound n ps k v c a b (lacks (at_key ps k) (subst (λ o. end_from (in_map ps o) [] (end_of []) ≡ new_key) f e))
 pushed_sound n i k v (tuple vs) e f a b c = c
 
-push_sound : (n : ℕ) (path : List Val) (k : Key) (v slot : Val) → end_of path slot ≡ new_key → last_key path ≡ Some k → KeyIsSound k → IsSound n v →
-    IsSound n slot → IsSound n (applied (path_to_map path) (push k v) slot)
+push_sound : (n : ℕ) (path : List Val) (k : Key) (v slot : Val) → end_of path slot ≡ new_key → last_key path ≡ Some k → KeyIsSound k →
+    IsSound n v → IsSound n slot → IsSound n (applied (path_to_map path) (push k v) slot)
 push_sound n [] k v slot e f a b c = absurd (cc)
 push_sound n (i ∷ []) k v slot e f a b c = pushed_sound n i k v slot e f a b c
-push_sound n (i ∷ j ∷ path) k v slot e f a b c = changed_sound n (applied (path_to_map (j ∷ path)) (push k v)) slot i c (λ x g d. push_sound n (j ∷
-    path) k v x (subst (λ y. end_from y (j ∷ path) (end_of (j ∷ path)) ≡ new_key) g e) f a b d)
+push_sound n (i ∷ j ∷ path) k v slot e f a b c =
+    changed_sound n (applied (path_to_map (j ∷ path)) (push k v)) slot i c
+    (λ x g d. push_sound n (j ∷ path) k v x (subst (λ y. end_from y (j ∷ path) (end_of (j ∷ path)) ≡ new_key) g e) f a b d)
 
 -- ---- the value written is no larger than the slot's
 
@@ -158,11 +164,12 @@ not_outside x e = cc
 not_absent : (x : Val) → absent ≡ part x → ⊥
 not_absent x e = cc
 
-nth_within : (f : Val → Val) (vs : Vals) (i : ℕ) (x : Val) → nth vs i ≡ Some x → (weight_of (f x) ≤ weights (with_nth vs i f)) × (levels_of (f x) ≤
-    most_levels (with_nth vs i f))
+nth_within : (f : Val → Val) (vs : Vals) (i : ℕ) (x : Val) → nth vs i ≡ Some x → (weight_of (f x) ≤ weights (with_nth vs i f)) ×
+    (levels_of (f x) ≤ most_levels (with_nth vs i f))
 nth_within f no_vals i x e = absurd (cc)
-nth_within f (more_vals v vs) zero x e = subst (λ y. (weight_of (f y) ≤ weights (more_vals (f v) vs)) × (levels_of (f y) ≤ most_levels (more_vals (f
-    v) vs))) (some_is v x e) (omega arith, omega arith)
+nth_within f (more_vals v vs) zero x e = subst
+    (λ y. (weight_of (f y) ≤ weights (more_vals (f v) vs)) × (levels_of (f y) ≤ most_levels (more_vals (f v) vs))) (some_is v x e)
+    (omega arith, omega arith)
 nth_within f (more_vals v vs) (suc i) x e = let h = nth_within f vs i x e in (
   more (weight_of (f x)) (weight_of v) (weights (with_nth vs i f)) h.0,
   most (levels_of (f x)) (levels_of v) (most_levels (with_nth vs i f)) h.1,
@@ -179,19 +186,21 @@ key_within : (f : Val → Val) (ps : Pairs) (k : Key) (x : Val) → at_key ps k 
 key_within f no_pairs k x e = absurd (cc)
 key_within f (more_pairs l v ps) k x e = two (key_eq k l) e (λ g. key_within f ps k x g)
   where
-    two : (b : Bool) → (if b then Some v else at_key ps k) ≡ Some x → (at_key ps k ≡ Some x → (weight_of (f x) ≤ pair_weights (with_key ps k f)) ×
+    two : (b : Bool) → (if b then Some v else at_key ps k) ≡ Some x →
+        (at_key ps k ≡ Some x → (weight_of (f x) ≤ pair_weights (with_key ps k f)) ×
         (levels_of (f x) ≤ most_pair_levels (with_key ps k f))) →
         (weight_of (f x) ≤ pair_weights (if b then more_pairs l (f v) ps else more_pairs l v (with_key ps k f))) ×
         (levels_of (f x) ≤ most_pair_levels (if b then more_pairs l (f v) ps else more_pairs l v (with_key ps k f)))
-    two true g r = subst (λ y. (weight_of (f y) ≤ pair_weights (more_pairs l (f v) ps)) × (levels_of (f y) ≤ most_pair_levels (more_pairs l (f v) ps)))
-        (some_is v x g) (omega arith, omega arith)
+    two true g r = subst (λ y. (weight_of (f y) ≤ pair_weights (more_pairs l (f v) ps)) ×
+        (levels_of (f y) ≤ most_pair_levels (more_pairs l (f v) ps))) (some_is v x g) (omega arith, omega arith)
     two false g r = let h = r g in let a = h.0 in let b = h.1 in (omega (arith, a), omega (arith, b))
 
 array_within : (f : Val → Val) (vs : Vals) (i x : Val) → in_array vs i ≡ part x → Within (f x) (array (array_with vs i f))
 array_within f vs unit x e = absurd (cc)
 array_within f vs falsity x e = absurd (cc)
 array_within f vs truth x e = absurd (cc)
-array_within f vs (int (pos m)) x e = let h = nth_within f vs m x (part_is outside (nth vs m) x (not_outside x) e) in let a = h.0 in let b = h.1 in
+array_within f vs (int (pos m)) x e = let h = nth_within f vs m x (part_is outside (nth vs m) x (not_outside x) e) in let a = h.0 in let b =
+    h.1 in
     (omega (arith, a), omega (arith, b))
 array_within f vs (int (negsuc m)) x e = absurd (cc)
 array_within f vs (char c) x e = absurd (cc)
@@ -206,7 +215,8 @@ array_within f vs (tuple ws) x e = absurd (cc)
 
 map_within : (f : Val → Val) (ps : Pairs) (o : Option Key) (x : Val) → in_map ps o ≡ part x → Within (f x) (mapping (map_with ps o f))
 map_within f ps None x e = absurd (cc)
-map_within f ps (Some k) x e = let h = key_within f ps k x (part_is absent (at_key ps k) x (not_absent x) e) in let a = h.0 in let b = h.1 in
+map_within f ps (Some k) x e = let h = key_within f ps k x (part_is absent (at_key ps k) x (not_absent x) e) in let a = h.0 in let b =
+    h.1 in
     (omega (arith, a), omega (arith, b))
 
 part_within : (f : Val → Val) (v i x : Val) → step_in v i ≡ part x → Within (f x) (changed v i f)
@@ -235,8 +245,9 @@ put_within : (path : List Val) (new slot old : Val) → end_of path slot ≡ the
 put_within [] new slot old e = (omega arith, omega arith)
 put_within (i ∷ path) new slot old e = by_step (step_in slot i) refl e (λ x g. put_within path new x old g)
   where
-    by_step : (y : Step) → step_in slot i ≡ y → end_from y path (end_of path) ≡ there old → ((x : Val) → end_of path x ≡ there old → Within new
-        (applied path (put new) x)) → Within new (changed slot i (applied path (put new)))
+    by_step : (y : Step) → step_in slot i ≡ y → end_from y path (end_of path) ≡ there old →
+        ((x : Val) → end_of path x ≡ there old → Within new (applied path (put new) x)) →
+        Within new (changed slot i (applied path (put new)))
     by_step (part x) f g r = within_both new (applied path (put new) x) (changed slot i (applied path (put new))) (r x g)
         (part_within (applied path (put new)) slot i x f)
     by_step outside f g r = absurd (cc)
@@ -321,7 +332,8 @@ end_sound : (n : ℕ) (path : List Val) (slot : Val) → IsSound n slot → EndS
 end_sound n [] slot a = a
 end_sound n (i ∷ path) slot a = by_step (step_in slot i) (step_sound n slot i a) (λ x b. end_sound n path x b)
   where
-    by_step : (y : Step) → StepSound n y → ((x : Val) → IsSound n x → EndSound n (end_of path x)) → EndSound n (end_from y path (end_of path))
+    by_step : (y : Step) → StepSound n y → ((x : Val) → IsSound n x → EndSound n (end_of path x)) →
+        EndSound n (end_from y path (end_of path))
     by_step (part x) b r = r x b
     by_step outside b r = tt
     by_step absent b r = absent_sound n path
@@ -456,17 +468,17 @@ last_key_sound n [] a = tt
 last_key_sound n (i ∷ []) a = key_sound n i a.0.sound
 last_key_sound n (i ∷ j ∷ path) a = last_key_sound n (j ∷ path) a.1
 
-key_fits : (n : ℕ) (path : List Val) (m : Mode) (v slot : Val) (o : Option Key) → end_of path slot ≡ new_key → last_key path ≡ o → KeyFits o →
-    ValueFits n v → IsSound n slot → TwoFit n (key_made path m v slot o)
-key_fits n path Set v slot (Some k) e f a b c = sized_two n (applied (path_to_map path) (push k v) slot) v (push_sound n path k v slot e f a b.sound c)
-    (λ g. b)
+key_fits : (n : ℕ) (path : List Val) (m : Mode) (v slot : Val) (o : Option Key) → end_of path slot ≡ new_key → last_key path ≡ o →
+    KeyFits o → ValueFits n v → IsSound n slot → TwoFit n (key_made path m v slot o)
+key_fits n path Set v slot (Some k) e f a b c =
+    sized_two n (applied (path_to_map path) (push k v) slot) v (push_sound n path k v slot e f a b.sound c) (λ g. b)
 key_fits n path Set v slot None e f a b c = tt
 key_fits n path Add v slot o e f a b c = tt
 key_fits n path Sub v slot o e f a b c = tt
 key_fits n path Mul v slot o e f a b c = tt
 
-pub write_fits : (n : ℕ) (path : List Val) (m : Mode) (v slot : Val) → ValuesFit n path → ValueFits n v → ValueFits n slot → TwoFit n (write_at path m
-    v slot)
+pub write_fits : (n : ℕ) (path : List Val) (m : Mode) (v slot : Val) → ValuesFit n path → ValueFits n v → ValueFits n slot →
+    TwoFit n (write_at path m v slot)
 write_fits n path m v slot a b c = by_end (end_of path slot) refl (end_sound n path slot c.sound)
   where
     by_end : (e : End) → end_of path slot ≡ e → EndSound n e → TwoFit n (written_at e path m v slot)

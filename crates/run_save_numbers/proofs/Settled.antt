@@ -121,7 +121,8 @@ module _ (s : Kept) where
       Each Light (outer s n us s.tasks)
   light can n [] fs = tt
   light can n (u ∷ us) fs =
-      let top : carry (first s (is_begun_since n (length u.frames)) s.tasks) (table (λ x. first s (is_at n x) s.tasks) 0 (length u.frames)) ≡
+      let top : carry (first s (is_begun_since n (length u.frames)) s.tasks)
+      (table (λ x. first s (is_at n x) s.tasks) 0 (length u.frames)) ≡
       first s (is_begun_since n 0) s.tasks = carried n 0 (length u.frames) (length u.frames) s.tasks (omega arith) in
       let long : length (table (λ x. first s (is_at n x) s.tasks) 0 (length u.frames)) ≡ length u.frames =
       length_table (λ x. first s (is_at n x) s.tasks) 0 (length u.frames) in

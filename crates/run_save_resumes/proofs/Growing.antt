@@ -50,16 +50,17 @@ module _ (f : Task → ℕ) (y : Task) where
   before_more [] = omega arith
   before_more (x ∷ xs) = by_test (same_path y.thread.who.up x.thread.who.path) (before_more xs)
     where
-      by_test : (b : Bool) → tasks_sum f (before_parent y xs) ≤ tasks_sum f xs + f y → tasks_sum f (cond b (y ∷ x ∷ xs) (x ∷ before_parent y xs)) ≤ (f x +
-          tasks_sum f xs) + f y
+      by_test : (b : Bool) → tasks_sum f (before_parent y xs) ≤ tasks_sum f xs + f y →
+          tasks_sum f (cond b (y ∷ x ∷ xs) (x ∷ before_parent y xs)) ≤ (f x + tasks_sum f xs) + f y
       by_test true h = omega arith
       by_test false h = omega (arith, h)
 
   -- where its parent is not among them nothing is planted
   before_none : (ts : List Task) → tasks_sum (is_named y.thread.who.up) ts ≡ 0 → before_parent y ts ≡ ts
   before_none [] e = refl
-  before_none (x ∷ xs) e = by_test (same_path y.thread.who.up x.thread.who.path) (no_one (same_path y.thread.who.up x.thread.who.path) (tasks_sum (is_named
-      y.thread.who.up) xs) e) (before_none xs (rest (one (same_path y.thread.who.up x.thread.who.path)) (tasks_sum (is_named y.thread.who.up) xs) e))
+  before_none (x ∷ xs) e = by_test (same_path y.thread.who.up x.thread.who.path)
+      (no_one (same_path y.thread.who.up x.thread.who.path) (tasks_sum (is_named y.thread.who.up) xs) e)
+      (before_none xs (rest (one (same_path y.thread.who.up x.thread.who.path)) (tasks_sum (is_named y.thread.who.up) xs) e))
     where
       rest : (i j : ℕ) → i + j ≡ 0 → j ≡ 0
       rest i j e = omega (arith, e)
@@ -70,8 +71,9 @@ module _ (f : Task → ℕ) (y : Task) where
 
   map_none : (tss : Forest) → trees_sum (is_named y.thread.who.up) tss ≡ 0 → map (before_parent y) tss ≡ tss
   map_none [] e = refl
-  map_none (ts ∷ tss) e = both (before_none ts (first (tasks_sum (is_named y.thread.who.up) ts) (trees_sum (is_named y.thread.who.up) tss) e)) (map_none tss
-      (rest (tasks_sum (is_named y.thread.who.up) ts) (trees_sum (is_named y.thread.who.up) tss) e))
+  map_none (ts ∷ tss) e = both (before_none ts
+      (first (tasks_sum (is_named y.thread.who.up) ts) (trees_sum (is_named y.thread.who.up) tss) e))
+      (map_none tss (rest (tasks_sum (is_named y.thread.who.up) ts) (trees_sum (is_named y.thread.who.up) tss) e))
     where
       first : (i j : ℕ) → i + j ≡ 0 → i ≡ 0
       first i j e = omega (arith, e)
@@ -86,29 +88,34 @@ module _ (f : Task → ℕ) (y : Task) where
   map_more [] h = omega arith
   map_more (ts ∷ tss) h = by_count (tasks_sum (is_named y.thread.who.up) ts) refl (map_more tss)
     where
-      by_count : (n : ℕ) → tasks_sum (is_named y.thread.who.up) ts ≡ n → (trees_sum (is_named y.thread.who.up) tss ≤ 1 → trees_sum f (map (before_parent y)
-          tss) ≤ trees_sum f tss + f y) → tasks_sum f (before_parent y ts) + trees_sum f (map (before_parent y) tss) ≤ (tasks_sum f ts + trees_sum f tss) + f y
-      by_count zero e g = let a = ap (tasks_sum f) (before_none ts e) in let b = g (less (tasks_sum (is_named y.thread.who.up) ts) (trees_sum (is_named
-          y.thread.who.up) tss) h) in omega (arith, a, b)
+      by_count : (n : ℕ) → tasks_sum (is_named y.thread.who.up) ts ≡ n →
+          (trees_sum (is_named y.thread.who.up) tss ≤ 1 → trees_sum f (map (before_parent y) tss) ≤ trees_sum f tss + f y) →
+          tasks_sum f (before_parent y ts) + trees_sum f (map (before_parent y) tss) ≤ (tasks_sum f ts + trees_sum f tss) + f y
+      by_count zero e g = let a = ap (tasks_sum f) (before_none ts e) in let b =
+          g (less (tasks_sum (is_named y.thread.who.up) ts) (trees_sum (is_named y.thread.who.up) tss) h) in omega (arith, a, b)
         where
           less : (i j : ℕ) → i + j ≤ 1 → j ≤ 1
           less i j e = omega (arith, e)
-      by_count (suc n) e g = let a = before_more ts in let b = ap (trees_sum f) (map_none tss (others (tasks_sum (is_named y.thread.who.up) ts) (trees_sum
-          (is_named y.thread.who.up) tss) n h e)) in omega (arith, a, b)
+      by_count (suc n) e g = let a = before_more ts in let b =
+          ap (trees_sum f) (map_none tss (others (tasks_sum (is_named y.thread.who.up) ts) (trees_sum (is_named y.thread.who.up) tss) n h
+          e)) in omega (arith, a, b)
         where
           others : (i j n : ℕ) → i + j ≤ 1 → i ≡ suc n → j ≡ 0
           others i j n e f = omega (arith, e, f)
 
-  planted_more : (q : Role) (tss : Forest) → trees_sum (is_named y.thread.who.up) tss ≤ 1 → trees_sum f (planted q y tss) ≤ trees_sum f tss + f y
+  planted_more : (q : Role) (tss : Forest) → trees_sum (is_named y.thread.who.up) tss ≤ 1 →
+      trees_sum f (planted q y tss) ≤ trees_sum f tss + f y
   planted_more (root entry) tss h = let a = one_tree f tss (y ∷ []) in omega (arith, a)
   planted_more part tss h = map_more tss h
 
 -- no more is in the trees than was planted
 pub grown_sum : (ys done : List Task) (tss : Forest) → ((f : Task → ℕ) → trees_sum f tss ≤ tasks_sum f done) →
-    ((p : List ℕ) → tasks_sum (is_named p) done + tasks_sum (is_named p) ys ≤ 1) → (f : Task → ℕ) → trees_sum f (grown tss ys) ≤ tasks_sum f done + tasks_sum f ys
+    ((p : List ℕ) → tasks_sum (is_named p) done + tasks_sum (is_named p) ys ≤ 1) → (f : Task → ℕ) →
+    trees_sum f (grown tss ys) ≤ tasks_sum f done + tasks_sum f ys
 grown_sum [] done tss h u f = let a = h f in omega (arith, a)
 grown_sum (y ∷ ys) done tss h u f =
-    let a = grown_sum ys (done ++ y ∷ []) (planted y.thread.who.role y tss) (λ g. more g) (λ p. same p) f in let b = tasks_join f done (y ∷ []) in
+    let a = grown_sum ys (done ++ y ∷ []) (planted y.thread.who.role y tss) (λ g. more g) (λ p. same p) f in let b =
+    tasks_join f done (y ∷ []) in
     omega (arith, a, b)
   where
     below : (i j k : ℕ) → i ≤ j → j + k ≤ 1 → i ≤ 1
@@ -116,7 +123,8 @@ grown_sum (y ∷ ys) done tss h u f =
 
     more : (g : Task → ℕ) → trees_sum g (planted y.thread.who.role y tss) ≤ tasks_sum g (done ++ y ∷ [])
     more g =
-        let a = planted_more g y y.thread.who.role tss (below (trees_sum (is_named y.thread.who.up) tss) (tasks_sum (is_named y.thread.who.up) done) (tasks_sum
+        let a = planted_more g y y.thread.who.role tss
+        (below (trees_sum (is_named y.thread.who.up) tss) (tasks_sum (is_named y.thread.who.up) done) (tasks_sum
         (is_named y.thread.who.up) (y ∷ ys)) (h (is_named y.thread.who.up)) (u y.thread.who.up)) in
         let b = h g in let d = tasks_join g done (y ∷ []) in omega (arith, a, b, d)
 

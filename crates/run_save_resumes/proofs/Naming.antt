@@ -1,5 +1,6 @@
 -- No two of the tasks that are spelled have one path.
-use Rattle.std.proofs.Common.{◌≡◌, ℕ, zero, suc, ◌+◌, ◌*◌, ◌≤◌, length, List, [], ◌∷◌, ◌++◌, Option, Some, None, Bool, true, false, cond, refl}
+use Rattle.std.proofs.Common.{◌≡◌, ℕ, zero, suc, ◌+◌, ◌*◌, ◌≤◌, length, List, [], ◌∷◌, ◌++◌, Option, Some, None, Bool, true, false, cond}
+use Rattle.std.proofs.Common.{refl}
 use Rattle.std.proofs.Common.{subst, ap, ◌∙◌, arith}
 use Rattle.verse_code.specs.declared.codes.Code.{Code}
 use Rattle.verse_meaning_state.specs.Waits.{eqn, ltn}
@@ -95,7 +96,8 @@ module _ (c : Code) (s : Kept) where
   with_named at t ts p w [] = omega arith
   with_named at t ts p w (f ∷ fs) = omega arith
 
-  numbered : (p : List ℕ) (ws : List Who) (ts : List KeptTask) → tasks_sum (is_named p) (tasks_from c s ws ts) ≤ one (ltn (last p) (suc (number_at s ts)))
+  numbered : (p : List ℕ) (ws : List Who) (ts : List KeptTask) →
+      tasks_sum (is_named p) (tasks_from c s ws ts) ≤ one (ltn (last p) (suc (number_at s ts)))
   numbered p ws [] = omega arith
   numbered p ws (t ∷ ts) =
       let w = who c s (length ws) t ts ws in

@@ -25,7 +25,8 @@ frames_of t = suc (length t.thread.below)
 
 bare_free : (f : Frame) (fs : List Frame) → Bare f → Each Bare fs → free f.handlers f.life.noted fs ≡ true
 bare_free f [] a b = ap (λ hs. free hs f.life.noted []) a.handlers ∙ ap (λ ns. free [] ns []) a.noted
-bare_free f (g ∷ fs) a b = ap (λ hs. free hs f.life.noted (g ∷ fs)) a.handlers ∙ (ap (λ ns. free [] ns (g ∷ fs)) a.noted ∙ bare_free g fs b.0 b.1)
+bare_free f (g ∷ fs) a b = ap (λ hs. free hs f.life.noted (g ∷ fs)) a.handlers ∙
+    (ap (λ ns. free [] ns (g ∷ fs)) a.noted ∙ bare_free g fs b.0 b.1)
 
 each_join : (P : Task → Type 0) (xs ys : List Task) → Each P xs → Each P ys → Each P (xs ++ ys)
 each_join P [] ys a b = b
@@ -68,11 +69,13 @@ module _ (c : Code) where
 
   module _ (s : Kept) where
     module _ (at : ℕ) (t : KeptTask) (ts : List KeptTask) where
-      from_bare : (depth : ℕ) (fs : List KeptFrame) (below : List Frame) → Each Bare below → Each Bare (frames_from c s at t ts depth fs below)
+      from_bare : (depth : ℕ) (fs : List KeptFrame) (below : List Frame) → Each Bare below →
+          Each Bare (frames_from c s at t ts depth fs below)
       from_bare depth [] below a = a
       from_bare depth (f ∷ fs) below a = from_bare (suc depth) fs _ (record { handlers = refl; noted = refl }, a)
 
-      from_length : (depth : ℕ) (fs : List KeptFrame) (below : List Frame) → length (frames_from c s at t ts depth fs below) ≡ length fs + length below
+      from_length : (depth : ℕ) (fs : List KeptFrame) (below : List Frame) →
+          length (frames_from c s at t ts depth fs below) ≡ length fs + length below
       from_length depth [] below = omega arith
       from_length depth (f ∷ fs) below = from_length (suc depth) fs _ ∙ sums (length fs) (length below)
         where
@@ -89,8 +92,9 @@ module _ (c : Code) where
 
     all_bare : (ws : List Who) (ts : List KeptTask) → Each TaskIsBare (tasks_from c s ws ts)
     all_bare ws [] = tt
-    all_bare ws (t ∷ ts) = each_join TaskIsBare (task c s (length ws) t ts ws) _ (with_bare (length ws) t ts (who c s (length ws) t ts ws) (frames_from c s
-        (length ws) t ts 0 t.frames []) (from_bare (length ws) t ts 0 t.frames [] tt)) (all_bare (ws ++ who c s (length ws) t ts ws ∷ []) ts)
+    all_bare ws (t ∷ ts) = each_join TaskIsBare (task c s (length ws) t ts ws) _
+        (with_bare (length ws) t ts (who c s (length ws) t ts ws) (frames_from c s (length ws) t ts 0 t.frames [])
+        (from_bare (length ws) t ts 0 t.frames [] tt)) (all_bare (ws ++ who c s (length ws) t ts ws ∷ []) ts)
 
     all_count : (ws : List Who) (ts : List KeptTask) → tasks_sum frames_of (tasks_from c s ws ts) ≤ frames_in ts
     all_count ws [] = omega arith
@@ -112,7 +116,8 @@ module _ (c : Code) where
         let a = trees_count (trees c s) in
         let b = grown_sum (tasks_from c s [] s.tasks) [] [] (λ f. omega arith) (λ p. alone p) frames_of in
         let d = all_count [] s.tasks in
-        sums (trees_frames (trees c s)) (trees_sum frames_of (trees c s)) (tasks_sum frames_of (tasks_from c s [] s.tasks)) (frames_in s.tasks) a b d
+        sums (trees_frames (trees c s)) (trees_sum frames_of (trees c s)) (tasks_sum frames_of (tasks_from c s [] s.tasks))
+        (frames_in s.tasks) a b d
       where
         alone : (p : List ℕ) → 0 + tasks_sum (is_named p) (tasks_from c s [] s.tasks) ≤ 1
         alone p = let h = names_apart c s p in omega (arith, h)
@@ -139,7 +144,8 @@ pub fits_is_resumable : FitsIsResumable
 fits_is_resumable c x a = record {
   can = record {
     are_free = trees_free (trees c x) (bare_trees c x);
-    few = further (trees_frames (trees c x)) (frames_in x.tasks) (2 * x.spent) (few_frames c x) (twice x.spent x.tasks a.few_tasks a.few_frames);
+    few = further (trees_frames (trees c x)) (frames_in x.tasks) (2 * x.spent) (few_frames c x)
+        (twice x.spent x.tasks a.few_tasks a.few_frames);
   };
   state_belongs = a.cells;
   trees_belong = trees_belong c (trees c x) (bare_trees c x);
@@ -149,4 +155,5 @@ pub fitting_run_ends : RunsEndFrom → FittingRunEnds
 fitting_run_ends law c x until valid a = law c (x.left + x.spent) until _ _ valid refl (fits_is_resumable c x a).can
 
 pub fitting_run_belongs : RunBelongsFrom → FittingRunBelongs
-fitting_run_belongs law c x until k a = let r = fits_is_resumable c x a in law c (x.left + x.spent) until k _ _ r.state_belongs r.trees_belong
+fitting_run_belongs law c x until k a = let r =
+    fits_is_resumable c x a in law c (x.left + x.spent) until k _ _ r.state_belongs r.trees_belong

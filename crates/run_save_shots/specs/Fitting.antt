@@ -8,7 +8,8 @@ use Rattle.verse_base.specs.declared.limits.TheConstants.{MOST_TRACE_BYTES}
 use Rattle.verse_code.specs.declared.operations.Op.{Op}
 use Rattle.verse_code.specs.declared.operations.Op.TheVariants as o
 use Rattle.verse_code.specs.declared.codes.Code.{Code}
-use Rattle.verse_value.specs.Val.{Val, char, task, some, array, mapping, tuple, Vals, no_vals, more_vals, Pairs, no_pairs, more_pairs}
+use Rattle.verse_value.specs.Val.{Val, char, task, some, array, mapping, tuple, Vals, no_vals}
+use Rattle.verse_value.specs.Val.{more_vals, Pairs, no_pairs, more_pairs}
 use Rattle.verse_value.specs.declared.keys.Key.{Key}
 use Rattle.verse_value.specs.declared.keys.Key.TheVariants as key
 use Rattle.verse_value.specs.Keys.{at_key}
@@ -30,8 +31,8 @@ KeyIsSound (key.Char c) = c ≤ 255
 KeyIsSound (key.Text bytes) = Each (λ b. b ≤ 255) bytes
 KeyIsSound k = Unit {0}
 
--- among so many spawned entries: a char is a byte, a task names an entry, and the keys of a map are distinct; an object or an event may
--- have any number
+-- among so many spawned entries: a char is a byte, a task names an entry, and the keys of a map are
+-- distinct; an object or an event may have any number
 abbrev mutual
   pub IsSound : (entries : ℕ) → Val → Type 0
   IsSound n (char c) = c ≤ 255
@@ -48,7 +49,8 @@ abbrev mutual
 
   pub PairsAreSound : ℕ → Pairs → Type 0
   PairsAreSound n no_pairs = Unit {0}
-  PairsAreSound n (more_pairs k v ps) = KeyIsSound k × IsSound n v × (at_key ps k ≡ None) × PairsAreSound n ps
+  PairsAreSound n (more_pairs k v ps) = KeyIsSound k × IsSound n v × (at_key ps k ≡ None) ×
+      PairsAreSound n ps
 
 -- a value of a run: neither too heavy nor too deep, and sound
 pub record ValueFits (entries : ℕ) (v : Val) : Type 0 where
@@ -96,7 +98,8 @@ stand_in (Some op) = stand_of op
 abbrev pub stand_at : Code → ℕ → Stand
 stand_at c place = stand_in (slice_get c.ops place)
 
--- a task whose top frame stands there waits for this: a moment, nothing, a task, an event, or so many arms
+-- a task whose top frame stands there waits for this: a moment, nothing, a task, an event, or so
+-- many arms
 abbrev pub RestSuits : Stand → KeptRest → Type 0
 RestSuits sleeps (leaf n (till moment)) = Unit {0}
 RestSuits stays (leaf n never) = Unit {0}
@@ -132,7 +135,8 @@ abbrev pub CauseFits : Kept → Cause → Type 0
 CauseFits s (till moment) = (s.now ≤ moment) × (moment ≤ MOST_MOMENT)
 CauseFits s never = Unit {0}
 CauseFits s (done entry) = nth s.spawned entry ≡ Some None
-CauseFits s (heard event) = option_map (λ (c : Cell). c.kind) (slice_get s.cells event) ≡ Some cell.Event
+CauseFits s (heard event) = option_map (λ (c : Cell). c.kind) (slice_get s.cells event) ≡
+    Some cell.Event
 
 abbrev pub is_running : Option Val → Bool
 is_running None = true
@@ -140,7 +144,8 @@ is_running (Some v) = false
 
 -- an arm is unfinished, and only a `sync` has finished ones
 abbrev pub GroupStands : Stand → List (Option Val) → Type 0
-GroupStands (gathers k m p) arms = (1 ≤ count is_running arms) × ((k ≡ 0) ⊎ (count is_running arms ≡ length arms))
+GroupStands (gathers k m p) arms = (1 ≤ count is_running arms) ×
+    ((k ≡ 0) ⊎ (count is_running arms ≡ length arms))
 GroupStands stand arms = ⊥
 
 -- in a task that stands there
@@ -220,7 +225,8 @@ unfinished None = 0
 
 -- its unfinished arms, and no others, have one child each
 abbrev pub ArmsRun : List KeptTask → ℕ → KeptTask → Type 0
-ArmsRun ts at t = (place : ℕ) → count (is_arm_of at place) ts ≡ unfinished (nth (arms_of t.rest) place)
+ArmsRun ts at t = (place : ℕ) →
+    count (is_arm_of at place) ts ≡ unfinished (nth (arms_of t.rest) place)
 
 abbrev pub frames_of : Option KeptTask → ℕ
 frames_of None = 0

@@ -1,12 +1,14 @@
 -- What is kept of a state and of the trees of tasks.
-use Rattle.std.specs.Prelude.{◌≡◌, ℕ, suc, pred, ◌+◌, ◌-◌, cond, List, [], ◌∷◌, ◌++◌, length, map, reverse, Option, Some, None, option_map}
+use Rattle.std.specs.Prelude.{◌≡◌, ℕ, suc, pred, ◌+◌, ◌-◌, cond, List, [], ◌∷◌, ◌++◌, length, map}
+use Rattle.std.specs.Prelude.{reverse, Option, Some, None, option_map}
 use Rattle.task_tree.specs.declared.tasks.Role as r
 use Rattle.task_tree.specs.declared.tasks.Role.TheVariants.{Root, Arm, Behind}
 use Rattle.verse_value.specs.Val.{Val}
 use Rattle.verse_meaning_state.specs.State.{State}
 use Rattle.verse_meaning_state.specs.Waits.{eqn, ltn}
 use Rattle.verse_meaning_state.specs.Effects.{printed_by}
-use Rattle.verse_code_machine.specs.Tasks.{Frame, Role, root, part, Part, did, runs, Rest, asleep, group, Task, same_path}
+use Rattle.verse_code_machine.specs.Tasks.{Frame, Role, root, part, Part, did, runs, Rest, asleep}
+use Rattle.verse_code_machine.specs.Tasks.{group, Task, same_path}
 use Rattle.verse_code_machine.specs.Runs.{Forest}
 use Rattle.run_save_shots.specs.Kept as k
 use Rattle.run_save_shots.specs.Kept.{KeptFrame, KeptRest, KeptTask, Kept}
@@ -14,7 +16,8 @@ use Rattle.run_save_shots.specs.Lists.{count, Reordered}
 
 -- ---- the order
 
--- A tree has each task behind all that it encloses. Here it stands before them, and so before the later children of its parent.
+-- A tree has each task behind all that it encloses. Here it stands before them, and so before the
+-- later children of its parent.
 abbrev pub behind_parent : Task → List Task → List Task
 behind_parent y [] = y ∷ []
 behind_parent y (x ∷ xs) = cond (same_path y.thread.who.up x.thread.who.path) (x ∷ y ∷ xs) (x ∷ behind_parent y xs)
@@ -33,7 +36,8 @@ walk (ts ∷ tss) = walked ts ++ walk tss
 -- where the task of a path stands
 abbrev pub place_of : List ℕ → List Task → Option ℕ
 place_of path [] = None
-place_of path (y ∷ ys) = cond (same_path path y.thread.who.path) (Some 0) (option_map suc (place_of path ys))
+place_of path (y ∷ ys) = cond (same_path path y.thread.who.path) (Some 0)
+    (option_map suc (place_of path ys))
 
 abbrev pub task_of : List ℕ → List Task → Option Task
 task_of path [] = None

@@ -6,7 +6,8 @@ use Rattle.verse_value.specs.Store.{Store}
 use Rattle.verse_meaning_state.specs.State.{Given}
 use Rattle.verse_meaning_state.specs.Waits.{Cause}
 
--- a frame: the operation at which it stands, its locals, its operands and its deferred blocks, the last one of each at the end
+-- a frame: the operation at which it stands, its locals, its operands and its deferred blocks, the
+-- last one of each at the end
 pub record KeptFrame : Type 0 where
   pub place : ℕ
   pub locals : List Val

@@ -33,5 +33,5 @@ count test (x ∷ xs) = cond (test x) (suc (count test xs)) (count test xs)
 -- two lists of the same elements
 pub data Reordered {A : Type 0} : List A → List A → Type 0 where
   no_elements : Reordered [] []
-  one_more : {x : A} {xs zs : List A} (front back : List A) → zs ≡ front ++ x ∷ back → Reordered xs (front ++ back) →
-      Reordered (x ∷ xs) zs
+  one_more : {x : A} {xs zs : List A} (front back : List A) → zs ≡ front ++ x ∷ back →
+      Reordered xs (front ++ back) → Reordered (x ∷ xs) zs

@@ -1,5 +1,6 @@
 -- Numbers and names for the tasks that are kept.
-use Rattle.std.specs.Prelude.{ℕ, suc, ◌+◌, ◌*◌, nat_le, Bool, true, false, ◌&&◌, List, length, Option, Some, None}
+use Rattle.std.specs.Prelude.{ℕ, suc, ◌+◌, ◌*◌, nat_le, Bool, true, false, ◌&&◌, List, length}
+use Rattle.std.specs.Prelude.{Option, Some, None}
 use Rattle.task_tree.specs.declared.tasks.Role.{Role}
 use Rattle.task_tree.specs.declared.tasks.Role.TheVariants.{Root, Arm, Behind}
 use Rattle.verse_meaning_state.specs.Waits.{nth}
@@ -18,15 +19,16 @@ is_since depth Root = false
 abbrev pub is_begun_since : (at depth : ℕ) → KeptTask → Bool
 is_begun_since at depth t = is_child_of at t && is_since depth t.role
 
--- Numbers fall along the list of tasks, from one to the next by more than a task has frames. They are above the steps that are left, so
--- that what begins later has lower ones.
+-- Numbers fall along the list of tasks, from one to the next by more than a task has frames. They
+-- are above the steps that are left, so that what begins later has lower ones.
 module _ (s : Kept) where
   -- of the task with which these begin
   abbrev pub number_at : List KeptTask → ℕ
   number_at ts = s.left + suc s.spent * length ts
 
-  -- The frame of a depth of the task at a place, behind which these tasks stand: above the number of the first task that it or a frame
-  -- above it has begun, and above those frames, of which there are so many with itself.
+  -- The frame of a depth of the task at a place, behind which these tasks stand: above the number
+  -- of the first task that it or a frame above it has begun, and above those frames, of which there
+  -- are so many with itself.
   abbrev pub born_at : (at depth frames : ℕ) → List KeptTask → ℕ
   born_at at depth frames ts = number_at (from (is_begun_since at depth) ts) + frames
 

@@ -1,11 +1,13 @@
 -- The state and the trees of tasks that what is kept of a run spells.
-use Rattle.std.specs.Prelude.{ℕ, zero, suc, ◌+◌, cond, List, [], ◌∷◌, ◌++◌, length, map, reverse, Option, Some, None}
+use Rattle.std.specs.Prelude.{ℕ, zero, suc, ◌+◌, cond, List, [], ◌∷◌, ◌++◌, length, map, reverse}
+use Rattle.std.specs.Prelude.{Option, Some, None}
 use Rattle.verse_base.specs.declared.places.Place.{Place}
 use Rattle.verse_code.specs.declared.codes.Code.{Code}
 use Rattle.verse_value.specs.Val.{Val}
 use Rattle.verse_meaning_state.specs.State.{State}
 use Rattle.verse_meaning_state.specs.Turns.{sync}
-use Rattle.verse_code_machine.specs.Tasks.{Frame, root, part, Role, Who, Part, did, runs, Rest, asleep, group, Task, thread, same_path}
+use Rattle.verse_code_machine.specs.Tasks.{Frame, root, part, Role, Who, Part, did, runs, Rest}
+use Rattle.verse_code_machine.specs.Tasks.{asleep, group, Task, thread, same_path}
 use Rattle.verse_code_machine.specs.Acts.{kind_of, place_at}
 use Rattle.verse_code_machine.specs.Runs.{Forest}
 use Rattle.run_save_shots.specs.Kept as k
@@ -69,7 +71,8 @@ module _ (c : Code) (s : Kept) where
     abbrev pub frames_from : ℕ → List KeptFrame → List Frame → List Frame
     frames_from depth [] below = below
     frames_from depth (f ∷ fs) below =
-        frames_from (suc depth) fs (frame (born s at depth (t ∷ ts) (suc (length fs)) ts) (arms_behind fs (arms_of t.rest)) f ∷ below)
+        frames_from (suc depth) fs (frame (born s at depth (t ∷ ts) (suc (length fs)) ts)
+        (arms_behind fs (arms_of t.rest)) f ∷ below)
 
     -- the arms from a place on
     abbrev pub parts_from : ℕ → List (Option Val) → List Part
@@ -95,14 +98,16 @@ module _ (c : Code) (s : Kept) where
   -- the tasks of a rest of the list, where those before it have these names
   abbrev pub tasks_from : List Who → List KeptTask → List Task
   tasks_from ws [] = []
-  tasks_from ws (t ∷ ts) = task (length ws) t ts ws ++ tasks_from (ws ++ who (length ws) t ts ws ∷ []) ts
+  tasks_from ws (t ∷ ts) = task (length ws) t ts ws ++
+      tasks_from (ws ++ who (length ws) t ts ws ∷ []) ts
 
 -- ---- their trees
 
 -- a task stands behind all that it encloses, so its next child stands before it
 abbrev pub before_parent : Task → List Task → List Task
 before_parent y [] = []
-before_parent y (x ∷ xs) = cond (same_path y.thread.who.up x.thread.who.path) (y ∷ x ∷ xs) (x ∷ before_parent y xs)
+before_parent y (x ∷ xs) = cond (same_path y.thread.who.up x.thread.who.path) (y ∷ x ∷ xs)
+    (x ∷ before_parent y xs)
 
 abbrev pub planted : Role → Task → Forest → Forest
 planted (root entry) y tss = tss ++ (y ∷ []) ∷ []

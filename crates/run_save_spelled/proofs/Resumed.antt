@@ -125,7 +125,8 @@ module _ (c : Code) (s : Kept) where
       let plain : Each Plain (flat (trees c s)) = reordered_each Plain (onto [] ys) (flat (trees c s)) h.reordered
       (onto_each Plain [] ys tt (plain_tasks s.tasks [] fs)) in
       let sum : tasks_frames (onto [] ys) ≡ tasks_frames (flat (trees c s)) =
-      reordered_sum (λ (y : Task). suc (length y.thread.below)) tasks_frames refl (λ y zs. refl) (onto [] ys) (flat (trees c s)) h.reordered in
+      reordered_sum (λ (y : Task). suc (length y.thread.below)) tasks_frames refl (λ y zs. refl) (onto [] ys) (flat (trees c s))
+      h.reordered in
       record {
         can = record {
           are_free = trees_free (trees c s) plain;

@@ -9,7 +9,8 @@ use Rattle.task_tree.specs.Removing.{Added, IsEnd}
 use Rattle.verse_code_machine.specs.Tasks as m
 use Rattle.verse_code_machine.specs.Tasks.{Who, root, part, root_named, child_named}
 use Rattle.verse_code_machine.specs.Runs.{Forest}
-use Rattle.vm_tasks_laws.specs.Slots.{Slot, Entry, slept, Parent, no_parent, under, arms_at, number_of, named, RoleFits, Shows, ArmedBy, Seen}
+use Rattle.vm_tasks_laws.specs.Slots.{Slot, Entry, slept, Parent, no_parent, under, arms_at, number_of, named, RoleFits, Shows, ArmedBy}
+use Rattle.vm_tasks_laws.specs.Slots.{Seen}
 use Rattle.vm_tasks_laws.specs.Roses.{Rose, empty, node, post, pre_all, GoodTrees}
 use Rattle.vm_tasks_laws.specs.Standing.{Deal, trees_entries, Shown, none_shown, tree_shown, Planted, Rests}
 use Rattle.vm_tasks_laws.proofs.Lists as laws
@@ -197,7 +198,8 @@ module _ {T : Type 0} (slot : T → Slot) where
             armed = subst (λ n. ArmedBy (slot p.task.item).since (arms_at x.rest) n) (sym kept.number)
                 (subst (λ (v : Task T). ArmedBy (slot v.item).since (arms_at x.rest) y.thread.who.number) same.1 armed);
           } in
-          let q = grown slot p tree u (slept y) new added here seen (same_each (λ v. number_of slot u < number_of slot v) tasks (least tasks less))
+          let q = grown slot p tree u (slept y) new added here seen
+          (same_each (λ v. number_of slot u < number_of slot v) tasks (least tasks less))
           in
           record {
             trees = parts.first ++ q.current ∷ k.1;

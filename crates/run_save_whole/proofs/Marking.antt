@@ -27,7 +27,8 @@ abbrev pub after : ℕ → List KeptTask → Marks → Marks
 after at [] m = m
 after at (t ∷ ts) m = after at ts (step at t.parent t.role m)
 
-same_marks : (ms : List Marks) (at parent place : ℕ) → cond (eqb at parent) (marked (get_or ms parent unmarked) place) (get_or ms at unmarked) ≡
+same_marks : (ms : List Marks) (at parent place : ℕ) →
+    cond (eqb at parent) (marked (get_or ms parent unmarked) place) (get_or ms at unmarked) ≡
     cond (eqb at parent) (marked (get_or ms at unmarked) place) (get_or ms at unmarked)
 same_marks ms at parent place = by (eqb at parent) refl
   where

@@ -1,5 +1,6 @@
 -- What is counted of all tasks about each entry and each task.
-use Rattle.std.specs.Prelude.{ℕ, suc, ◌+◌, ◌==◌, Bool, true, false, not, ◌&&◌, ◌||◌, max, nat_lt, if◌then◌else◌, List, [], ◌∷◌}
+use Rattle.std.specs.Prelude.{ℕ, suc, ◌+◌, ◌==◌, Bool, true, false, not, ◌&&◌, ◌||◌, max, nat_lt}
+use Rattle.std.specs.Prelude.{if◌then◌else◌, List, [], ◌∷◌}
 use Rattle.std.specs.Prelude.{length, map, set, get_or, replicate, Option, Some, None}
 use Rattle.task_tree.specs.declared.tasks.Role.{Role}
 use Rattle.task_tree.specs.declared.tasks.Role.TheVariants.{Root, Arm, Behind}
@@ -32,7 +33,8 @@ with_roots counts (t ∷ ts) = with_roots (with_root counts t.parent t.root) ts
 
 -- ---- arms
 
--- of the children of a task that are arms how many there are of each place, and whether there is one of another place
+-- of the children of a task that are arms how many there are of each place, and whether there is
+-- one of another place
 abbrev pub Marks : Type 0
 Marks = List ℕ × Bool
 
@@ -75,7 +77,8 @@ is_under f depth = f.closed || nat_lt depth f.depth
 
 abbrev pub with_child : List Floor → Option ℕ → Role → List Floor
 with_child floors None role = floors
-with_child floors (Some parent) role = set floors parent (raised (get_or floors parent open_floor) role)
+with_child floors (Some parent) role =
+    set floors parent (raised (get_or floors parent open_floor) role)
 
 abbrev pub with_children : List Floor → List KeptTask → List Floor
 with_children floors [] = floors
@@ -86,12 +89,14 @@ with_children floors (t ∷ ts) = with_children (with_child floors t.parent t.ro
 -- among entries from a number on
 abbrev pub wrong_entry : (roots : List ℕ) → ℕ → List (Option Given) → Option ℕ
 wrong_entry roots n [] = None
-wrong_entry roots n (g ∷ gs) = if not (get_or roots n 0 == runs_once g) then Some n else wrong_entry roots (suc n) gs
+wrong_entry roots n (g ∷ gs) =
+    if not (get_or roots n 0 == runs_once g) then Some n else wrong_entry roots (suc n) gs
 
 -- among arms from a place on
 abbrev pub wrong_arm : (counts : List ℕ) → ℕ → List (Option Val) → Bool
 wrong_arm counts n [] = false
-wrong_arm counts n (arm ∷ arms) = not (get_or counts n 0 == unfinished (Some arm)) || wrong_arm counts (suc n) arms
+wrong_arm counts n (arm ∷ arms) =
+    not (get_or counts n 0 == unfinished (Some arm)) || wrong_arm counts (suc n) arms
 
 abbrev pub wrong_rest : Stand → Marks → KeptRest → Bool
 wrong_rest stand m (leaf number cause) = false
@@ -105,14 +110,18 @@ is_low floors (Some parent) (Behind depth) = is_under (get_or floors parent open
 is_low floors parent role = false
 
 module _ (c : Code) (spent : ℕ) (ts : List KeptTask) where
-  abbrev pub breaks_at : (at : ℕ) → Marks → (has_main : Bool) → (floors : List Floor) → (frames : ℕ) → KeptTask → Bool
+  abbrev pub breaks_at : (at : ℕ) → Marks → (has_main : Bool) → (floors : List Floor) →
+      (frames : ℕ) → KeptTask → Bool
   breaks_at at m has_main floors frames t =
-      is_later at t.parent || is_root None t && has_main || child_breaks ts t.parent t.role || is_low floors t.parent t.role ||
-      rest_wrong c t m || nat_lt (suc spent) (frames + length t.frames)
+      is_later at t.parent || is_root None t && has_main || child_breaks ts t.parent t.role ||
+      is_low floors t.parent t.role || rest_wrong c t m ||
+      nat_lt (suc spent) (frames + length t.frames)
 
   -- from a place on
-  abbrev pub wrong_task : List Marks → (at : ℕ) → (has_main : Bool) → (floors : List Floor) → (frames : ℕ) → List KeptTask → Option ℕ
+  abbrev pub wrong_task : List Marks → (at : ℕ) → (has_main : Bool) → (floors : List Floor) →
+      (frames : ℕ) → List KeptTask → Option ℕ
   wrong_task ms at has_main floors frames [] = None
   wrong_task ms at has_main floors frames (t ∷ others) =
       if breaks_at at (get_or ms at unmarked) has_main floors frames t then Some at else
-      wrong_task ms (suc at) (has_main || is_root None t) (with_child floors t.parent t.role) (frames + length t.frames) others
+      wrong_task ms (suc at) (has_main || is_root None t) (with_child floors t.parent t.role)
+      (frames + length t.frames) others

@@ -16,7 +16,8 @@ IsAllowed (WakeTask task now) ps = Unit {0}
 abbrev pub after : Call → List Pending → List Pending
 after (Add wait) ps = added ps wait
 after (Remove number) ps = removed number ps
-after (WakeEvent cell signal now) ps = woken (kind.Event cell) (record { at = now; cause = signal }) ps
+after (WakeEvent cell signal now) ps =
+    woken (kind.Event cell) (record { at = now; cause = signal }) ps
 after (WakeTask task now) ps = woken (kind.Task task) (record { at = now; cause = 0 }) ps
 
 -- each call may be made when its turn comes

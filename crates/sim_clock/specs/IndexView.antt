@@ -4,7 +4,8 @@ use Rattle.std.specs.BTreeSet.{btree_set_len}
 use Rattle.sim_clock.specs.Marked.{has}
 use Rattle.sim_clock.specs.Queued.{has_in}
 use Rattle.sim_clock.specs.declared.places.Where.{Where}
-use Rattle.sim_clock.specs.declared.places.Where.TheVariants.{Timed, OnEvent, OnTask, Woken, Nowhere}
+use Rattle.sim_clock.specs.declared.places.Where.TheVariants.{Timed, OnEvent, OnTask, Woken}
+use Rattle.sim_clock.specs.declared.places.Where.TheVariants.{Nowhere}
 use Rattle.sim_clock.specs.declared.index.Index.{Index}
 
 abbrev pub holds : Index → Where → ℕ → Bool

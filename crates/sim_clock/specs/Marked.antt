@@ -13,7 +13,8 @@ has pairs a n = contains pair_cmp pairs (a, n)
 
 -- the new set has this pair exactly where `there` says so, and others as the old one
 abbrev pub Marks : (ℕ → ℕ → Bool) → (ℕ → ℕ → Bool) → ℕ → ℕ → Bool → Type 0
-Marks old new a n there = (x m : ℕ) → new x m ≡ (if nat_eq x a && nat_eq m n then there else old x m)
+Marks old new a n there = (x m : ℕ) →
+    new x m ≡ (if nat_eq x a && nat_eq m n then there else old x m)
 
 abbrev pub comes_first : ℕ → ℕ → ℕ → ℕ → Bool
 comes_first a n b m = nat_lt a b || (nat_eq a b && nat_lt n m)

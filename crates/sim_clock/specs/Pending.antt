@@ -1,5 +1,6 @@
 -- Waits in the order in which they were added, and when they are due.
-use Rattle.std.specs.Prelude.{ℕ, nat_eq, nat_lt, Bool, false, ◌||◌, ◌&&◌, ◌<◌, List, [], ◌∷◌, ◌++◌, map, Option, Some, None, if◌then◌else◌}
+use Rattle.std.specs.Prelude.{ℕ, nat_eq, nat_lt, Bool, false, ◌||◌, ◌&&◌, ◌<◌, List, [], ◌∷◌, ◌++◌}
+use Rattle.std.specs.Prelude.{map, Option, Some, None, if◌then◌else◌}
 use Rattle.sim_clock.specs.declared.waits.Wait.{Wait}
 use Rattle.sim_clock.specs.declared.waits.WaitKind.{WaitKind}
 use Rattle.sim_clock.specs.declared.waits.WaitKind.TheVariants.{At, Never, Task, Event}
@@ -38,7 +39,8 @@ or_else (Some wake) other = Some wake
 
 -- a wait that has a moment keeps it
 abbrev pub woken_one : WaitKind → Wake → Pending → Pending
-woken_one kind wake p = if waits_alike p.wait.kind kind then record p { wake = or_else p.wake (Some wake) } else p
+woken_one kind wake p = if waits_alike p.wait.kind kind then record p
+    { wake = or_else p.wake (Some wake) } else p
 
 -- all that wait for this get the moment
 abbrev pub woken : WaitKind → Wake → List Pending → List Pending
@@ -46,7 +48,8 @@ woken kind wake ps = map (woken_one kind wake) ps
 
 abbrev pub due_from : Wait → Option Wake → Option Due
 due_from wait None = None
-due_from wait (Some wake) = Some (record { at = wake.at; number = wait.number; task = wait.task; cause = wake.cause })
+due_from wait (Some wake) = Some
+    (record { at = wake.at; number = wait.number; task = wait.task; cause = wake.cause })
 
 abbrev pub due_of : Pending → Option Due
 due_of p = due_from p.wait p.wake

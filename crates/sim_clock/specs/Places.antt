@@ -1,11 +1,13 @@
 -- Where a wait stands among others: by its moment, or by what it waits for.
-use Rattle.std.specs.Prelude.{◌≡◌, ℕ, nat_eq, Bool, false, ◌&&◌, ◌||◌, Option, Some, None, if◌then◌else◌}
+use Rattle.std.specs.Prelude.{◌≡◌, ℕ, nat_eq, Bool, false, ◌&&◌, ◌||◌, Option, Some, None}
+use Rattle.std.specs.Prelude.{if◌then◌else◌}
 use Rattle.sim_clock.specs.declared.waits.WaitKind.{WaitKind}
 use Rattle.sim_clock.specs.declared.waits.WaitKind.TheVariants.{At, Never, Task, Event}
 use Rattle.sim_clock.specs.declared.waits.Wake.{Wake}
 use Rattle.sim_clock.specs.declared.waits.Pending.{Pending}
 use Rattle.sim_clock.specs.declared.places.Where.{Where}
-use Rattle.sim_clock.specs.declared.places.Where.TheVariants.{Timed, OnEvent, OnTask, Woken, Nowhere}
+use Rattle.sim_clock.specs.declared.places.Where.TheVariants.{Timed, OnEvent, OnTask, Woken}
+use Rattle.sim_clock.specs.declared.places.Where.TheVariants.{Nowhere}
 
 -- what waits for something stands there until it is woken
 abbrev pub or_woken : Where → Option Wake → Where
@@ -31,7 +33,8 @@ same_place _ _ = false
 
 -- the wait with this number stands at this place in the new and not the old, or the other way round
 abbrev pub Stands : (Where → ℕ → Bool) → (Where → ℕ → Bool) → Where → ℕ → Bool → Type 0
-Stands old new place number there = (w : Where) (m : ℕ) → new w m ≡ (if same_place w place && nat_eq m number then there else old w m)
+Stands old new place number there = (w : Where) (m : ℕ) →
+    new w m ≡ (if same_place w place && nat_eq m number then there else old w m)
 
 -- what stands there waits for an event or a task
 abbrev pub IsAsleep : Where → Type 0

@@ -1,5 +1,6 @@
 -- Pairs of numbers in a list, in order.
-use Rattle.std.specs.Prelude.{◌≡◌, ◌<◌, ◌≤◌, ℕ, nat_eq, Bool, true, ◌&&◌, List, length, slice_index_or}
+use Rattle.std.specs.Prelude.{◌≡◌, ◌<◌, ◌≤◌, ℕ, nat_eq, Bool, true, ◌&&◌, List, length}
+use Rattle.std.specs.Prelude.{slice_index_or}
 use Rattle.std.specs.List.{list_any}
 use Rattle.sim_clock.specs.Marked.{comes_first}
 
@@ -16,7 +17,8 @@ pair_at ps i = slice_index_or ps i (0, 0)
 
 -- each pair comes before all behind it
 abbrev pub InOrder : List (ℕ × ℕ) → Type 0
-InOrder ps = (i j : ℕ) → i < j → j < length ps → comes_first (pair_at ps i).0 (pair_at ps i).1 (pair_at ps j).0 (pair_at ps j).1 ≡ true
+InOrder ps = (i j : ℕ) → i < j → j < length ps →
+    comes_first (pair_at ps i).0 (pair_at ps i).1 (pair_at ps j).0 (pair_at ps j).1 ≡ true
 
 -- the pair stands at this place
 pub record IsPlace (ps : List (ℕ × ℕ)) (a n i : ℕ) : Type 0 where
@@ -28,4 +30,5 @@ pub record IsPlace (ps : List (ℕ × ℕ)) (a n i : ℕ) : Type 0 where
 pub record IsGap (ps : List (ℕ × ℕ)) (a n i : ℕ) : Type 0 where
   pub within : i ≤ length ps
   pub before : (j : ℕ) → j < i → comes_first (pair_at ps j).0 (pair_at ps j).1 a n ≡ true
-  pub behind : (j : ℕ) → i ≤ j → j < length ps → comes_first a n (pair_at ps j).0 (pair_at ps j).1 ≡ true
+  pub behind : (j : ℕ) → i ≤ j → j < length ps →
+      comes_first a n (pair_at ps j).0 (pair_at ps j).1 ≡ true

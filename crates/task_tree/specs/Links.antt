@@ -1,10 +1,12 @@
 -- The numbers of the tasks that stand next to a task.
-use Rattle.std.specs.Prelude.{◌≡◌, ℕ, eqb, Bool, false, List, [], ◌∷◌, ◌++◌, Option, Some, None, if◌then◌else◌, option_map, length}
+use Rattle.std.specs.Prelude.{◌≡◌, ℕ, eqb, Bool, false, List, [], ◌∷◌, ◌++◌, Option, Some, None}
+use Rattle.std.specs.Prelude.{if◌then◌else◌, option_map, length}
 use Rattle.slab.specs.Slab.{Slab, get, slab_len}
 use Rattle.task_tree.specs.declared.nodes.Node.{Node}
 use Rattle.task_tree.specs.declared.nodes.Links.{Links}
 use Rattle.task_tree.specs.declared.nodes.Change.{Change}
-use Rattle.task_tree.specs.declared.nodes.Change.TheVariants.{Youngest, Before, Behind, Past, Becomes}
+use Rattle.task_tree.specs.declared.nodes.Change.TheVariants.{Youngest, Before, Behind, Past}
+use Rattle.task_tree.specs.declared.nodes.Change.TheVariants.{Becomes}
 use Rattle.task_tree.specs.Tasks.{Task, task_at, first, youngest}
 use Rattle.task_tree.specs.Nested.{IsTree}
 
@@ -42,7 +44,8 @@ module _ {T : Type 0} where
 
   -- the node at this key, where there is one, is changed
   pub record Changes (old new : Slab (Node T)) (key : Option ℕ) (change : Change) : Type 0 where
-    pub nodes : (n : ℕ) → get new n ≡ (if is_at key n then option_map (changed change) (get old n) else get old n)
+    pub nodes : (n : ℕ) → get new n ≡
+        (if is_at key n then option_map (changed change) (get old n) else get old n)
     pub count : slab_len new ≡ slab_len old
 
   -- the number of the last task
@@ -57,7 +60,12 @@ module _ {T : Type 0} where
     parent = t.parent;
     role = t.role;
     item = t.item;
-    links = record { youngest = youngest (Some t.number) back; older = youngest t.parent front; before = last front; behind = first back };
+    links = record {
+      youngest = youngest (Some t.number) back;
+      older = youngest t.parent front;
+      before = last front;
+      behind = first back;
+    };
   }
 
   -- the task that a node stands for
@@ -66,12 +74,14 @@ module _ {T : Type 0} where
 
   -- each task has its node, and there are no others
   pub record Linked (nodes : Slab (Node T)) (ts : List (Task T)) : Type 0 where
-    pub each : (front back : List (Task T)) (t : Task T) → ts ≡ front ++ t ∷ back → get nodes t.number ≡ Some (node_at front t back)
+    pub each : (front back : List (Task T)) (t : Task T) → ts ≡ front ++ t ∷ back →
+        get nodes t.number ≡ Some (node_at front t back)
     pub others : (n : ℕ) → task_at n ts ≡ None → get nodes n ≡ None
     pub count : slab_len nodes ≡ length ts
 
   -- nodes, the first task and the last one without a parent are those of these tasks
-  pub record Whole (nodes : Slab (Node T)) (head tail : Option ℕ) (ts : List (Task T)) : Type 0 where
+  pub record Whole (nodes : Slab (Node T)) (head tail : Option ℕ) (ts : List (Task T)) :
+      Type 0 where
     pub tree : IsTree ts
     pub linked : Linked nodes ts
     pub head_is : head ≡ first ts

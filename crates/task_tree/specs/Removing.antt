@@ -23,10 +23,13 @@ module _ {T : Type 0} where
     pub not_behind : Each (λ t. Under ts n t.number → ⊥) back
 
   -- the old tasks of which this holds are gone, and the others are left, both in their order
-  pub data Parts (P : Task T → Type 0) : List (Task T) → List (Task T) → List (Task T) → Type 0 where
+  pub data Parts (P : Task T → Type 0) : List (Task T) → List (Task T) → List (Task T) →
+      Type 0 where
     all_parted : Parts P [] [] []
-    one_goes : {old gone left : List (Task T)} (t : Task T) → P t → Parts P old gone left → Parts P (t ∷ old) (t ∷ gone) left
-    one_stays : {old gone left : List (Task T)} (t : Task T) → (P t → ⊥) → Parts P old gone left → Parts P (t ∷ old) gone (t ∷ left)
+    one_goes : {old gone left : List (Task T)} (t : Task T) → P t → Parts P old gone left →
+        Parts P (t ∷ old) (t ∷ gone) left
+    one_stays : {old gone left : List (Task T)} (t : Task T) → (P t → ⊥) → Parts P old gone left →
+        Parts P (t ∷ old) gone (t ∷ left)
 
   -- the task with this number, and all that it encloses
   abbrev pub Cancels : ℕ → List (Task T) → List (Task T) → List (Task T) → Type 0
@@ -68,4 +71,5 @@ module _ {T : Type 0} where
   -- what a visitor may be when it was told of these tasks, of the last one first
   abbrev pub Visited : {V : Type 0} → (V → ℕ → T → V → Type 0) → V → List (Task T) → V → Type 0
   Visited leaves old [] new = new ≡ old
-  Visited {V} leaves old (t ∷ ts) new = (mid : V) × Visited leaves old ts mid × leaves mid t.number t.item new
+  Visited {V} leaves old (t ∷ ts) new = (mid : V) × Visited leaves old ts mid ×
+      leaves mid t.number t.item new

@@ -1,5 +1,7 @@
--- Tasks in the order in which they are written down: each before the tasks that it encloses, and siblings as they were added.
-use Rattle.std.specs.Prelude.{◌≡◌, ℕ, eqb, Bool, true, false, List, [], ◌∷◌, Option, Some, None, IsSome, if◌then◌else◌, option_map}
+-- Tasks in the order in which they are written down: each before the tasks that it encloses, and
+-- siblings as they were added.
+use Rattle.std.specs.Prelude.{◌≡◌, ℕ, eqb, Bool, true, false, List, [], ◌∷◌, Option, Some, None}
+use Rattle.std.specs.Prelude.{IsSome, if◌then◌else◌, option_map}
 use Rattle.task_tree.specs.declared.tasks.Role.{Role}
 use Rattle.task_tree.specs.declared.tasks.Role.TheVariants.{Root, Arm, Behind}
 use Rattle.task_tree.specs.declared.tasks.Finished.{Finished}
@@ -60,7 +62,8 @@ module _ {T : Type 0} where
   -- the number of the last task with this parent, or of the last one with none
   abbrev pub youngest : Option ℕ → List (Task T) → Option ℕ
   youngest p [] = None
-  youngest p (t ∷ ts) = or_else (youngest p ts) (if is_child p t.parent then Some t.number else None)
+  youngest p (t ∷ ts) = or_else (youngest p ts)
+      (if is_child p t.parent then Some t.number else None)
 
   abbrev pub HasNoChild : ℕ → List (Task T) → Type 0
   HasNoChild n ts = youngest (Some n) ts ≡ None
@@ -73,7 +76,8 @@ module _ {T : Type 0} where
   -- the task with this number changed
   abbrev pub changed_at : ℕ → (Task T → Task T) → List (Task T) → List (Task T)
   changed_at n change [] = []
-  changed_at n change (t ∷ ts) = if eqb t.number n then change t ∷ ts else t ∷ changed_at n change ts
+  changed_at n change (t ∷ ts) =
+      if eqb t.number n then change t ∷ ts else t ∷ changed_at n change ts
 
   abbrev pub with_role : ℕ → Role → List (Task T) → List (Task T)
   with_role n role = changed_at n (λ t. record t { role = role })

@@ -12,7 +12,11 @@ module _ {T : Type 0} where
   walk zero nodes at = []
   walk (suc n) nodes at = elim at [
     | None ↦ []
-    | Some k ↦ elim (get nodes k) [ None ↦ [] | Some node ↦ task_of k node ∷ walk n nodes node.links.behind ]
+    | Some k ↦ elim (get nodes k) [
+      | None ↦ []
+      | Some node ↦
+          task_of k node ∷ walk n nodes node.links.behind
+    ]
   ]
 
   abbrev pub tasks_of : Inside T → List (Task T)

@@ -13,4 +13,5 @@ pub data Above (os : List Class) : ℕ → ℕ → Type 0 where
 -- the second function is the first one, or overrides one that stands for it
 pub data Over (k : Known) : ℕ → ℕ → Type 0 where
   same : {g : ℕ} → Over k g g
-  overrides : {g h n : ℕ} → Over k g h → can_override k.outline (slice_get k.functions n) (slice_get k.functions h) ≡ true → Over k g n
+  overrides : {g h n : ℕ} → Over k g h →
+      can_override k.outline (slice_get k.functions n) (slice_get k.functions h) ≡ true → Over k g n

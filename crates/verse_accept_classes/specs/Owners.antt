@@ -1,6 +1,7 @@
 -- The functions and methods of a program, by their numbers, each with its class.
 use Rattle.std.specs.Prelude.{ℕ, List, [], ◌∷◌, ◌++◌, Option, Some, None}
-use Rattle.verse_tree.specs.ItemTree.{FunTree, MemberTree, field, method, ItemTree, using, enumeration, class, function}
+use Rattle.verse_tree.specs.ItemTree.{FunTree, MemberTree, field, method, ItemTree, using}
+use Rattle.verse_tree.specs.ItemTree.{enumeration, class, function}
 use Rattle.verse_names_declarations.specs.Counting.{Counted}
 use Rattle.verse_names_declarations.specs.declared.counting.Counts.{Counts}
 use Rattle.verse_names_declarations.specs.Known.{Known}

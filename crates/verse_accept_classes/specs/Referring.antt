@@ -53,9 +53,11 @@ module _ (is : List ItemTree) where
 
   -- in a world of a program
   pub record Names (w : World) : Type 0 where
-    pub names : (n : ℕ) (xs : Table) → Each (λ (e : Bytes × Ref). LocalBelow n e.1) xs → (x : Bytes) (r : Ref) → visible w xs x ≡ Some r →
-        IsThere w.class r
+    pub names : (n : ℕ) (xs : Table) → Each (λ (e : Bytes × Ref). LocalBelow n e.1) xs →
+        (x : Bytes) (r : Ref) → visible w xs x ≡ Some r → IsThere w.class r
     -- and local names are found among those that are visible
-    pub locals : (xs : Table) (x : Bytes) (n : ℕ) → visible w xs x ≡ Some (ref.Local n) → look x xs ≡ Some (ref.Local n)
-    pub keys : (xs : Table) (x : Bytes) (n : ℕ) → visible w xs x ≡ Some (ref.Key n) → look x xs ≡ Some (ref.Key n)
+    pub locals : (xs : Table) (x : Bytes) (n : ℕ) → visible w xs x ≡ Some (ref.Local n) →
+        look x xs ≡ Some (ref.Local n)
+    pub keys : (xs : Table) (x : Bytes) (n : ℕ) → visible w xs x ≡ Some (ref.Key n) →
+        look x xs ≡ Some (ref.Key n)
     pub types : w.types ≡ (known is).index.types

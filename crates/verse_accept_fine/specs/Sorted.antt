@@ -1,5 +1,7 @@
--- What the checker has found of a program, as sorts, and what may happen at a node by what stands round it.
-use Rattle.std.specs.Prelude.{◌≡◌, ℕ, ◌-◌, Bool, true, false, ◌||◌, List, [], map, Option, Some, None, option_map, slice_get}
+-- What the checker has found of a program, as sorts, and what may happen at a node by what stands
+-- round it.
+use Rattle.std.specs.Prelude.{◌≡◌, ℕ, ◌-◌, Bool, true, false, ◌||◌, List, [], map, Option, Some}
+use Rattle.std.specs.Prelude.{None, option_map, slice_get}
 use Rattle.verse_base.specs.declared.places.Place.{Place}
 use Rattle.verse_tree.specs.Tree.{Written, Shape}
 use Rattle.verse_tree.specs.ItemTree.{ItemTree}
@@ -48,7 +50,14 @@ class_in None = None
 class_in (Some o) = o.class
 
 abbrev pub signature_of : Option FunInfo → Option ℕ → Signature
-signature_of None c = record { params = []; result = s.any; decides = false; lasts = false; this = c }
+signature_of None c = record {
+  params = [];
+  result = s.any;
+  decides = false;
+  lasts = false;
+  this =
+      c;
+}
 signature_of (Some f) c = record {
   params = map made_sort f.params;
   result = made_sort f.result;
@@ -75,12 +84,19 @@ module _ (is : List ItemTree) where
     is_var = λ n. var_at (final is).vars n;
     up = up;
     slots = λ c. map field_sort (fields_of (final is) c);
-    signature = λ g. signature_of (slice_get (completed is).funs g) (class_in (slice_get (owned (known is).items) g));
+    signature = λ g. signature_of (slice_get (completed is).funs g)
+        (class_in (slice_get (owned (known is).items) g));
   }
 
   -- which nodes are arrays and events is told by tables of types
   abbrev pub program : (ℕ → Bool) → (ℕ → Bool) → Program
-  program arrays events = record { items = is; names = completed is; is_array = arrays; is_event = events }
+  program arrays events = record {
+    items = is;
+    names = completed is;
+    is_array = arrays;
+    is_event =
+        events;
+  }
 
   -- what is found at the expression of a number
   abbrev pub At : World → Around → Table → ℕ → Place → Shape → Type 0
@@ -95,8 +111,10 @@ module _ (is : List ItemTree) where
     pub tried : a.is_caught ≡ true → a.is_tried ≡ true
     pub result : a.may_return ≡ true → b.result ≡ option_map written_sort a.owner.result
     pub loop : a.may_break ≡ true → (m : ℕ) × (a.enclosing ≡ Some m)
-    pub breaks : a.may_break ≡ true → (m : ℕ) → a.enclosing ≡ Some m → b.breaks ≡ has_number m (final is).left
-    pub waits : a.is_tried ≡ false → a.is_deferred ≡ false → lasts a.owner.effects ≡ true → b.waits ≡ true
+    pub breaks : a.may_break ≡ true → (m : ℕ) → a.enclosing ≡ Some m →
+        b.breaks ≡ has_number m (final is).left
+    pub waits : a.is_tried ≡ false → a.is_deferred ≡ false → lasts a.owner.effects ≡ true →
+        b.waits ≡ true
     pub this : b.this ≡ w.class
 
 abbrev pub is_array_type : Ty → Bool

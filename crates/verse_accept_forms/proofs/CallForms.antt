@@ -20,7 +20,8 @@ use Rattle.verse_check_typing.specs.Keys.{has_keys}
 use Rattle.verse_check_typing.specs.Parts.{count, first_from, is_int, is_void, are_ints}
 use Rattle.verse_check_typing.specs.Parts as parts
 use Rattle.verse_check_typing.specs.Callees as types
-use Rattle.verse_check_typing.specs.Calls.{are_wanted, call_wanted, call_type, index_wanted, index_type, arguments_fit, indices_fit, can_call}
+use Rattle.verse_check_typing.specs.Calls.{are_wanted, call_wanted, call_type, index_wanted, index_type, arguments_fit, indices_fit}
+use Rattle.verse_check_typing.specs.Calls.{can_call}
 use Rattle.verse_check_typing.specs.Calls.{can_stand_indexed, can_index, would_fit, would_be_quotient, element_of, has_item, item_of}
 use Rattle.verse_check_typing.specs.Calls.{has_called_item, takes_one_item, takes_one_index, is_there, ty_by, tree_place, ty_at as type_in}
 use Rattle.verse_check_typing.specs.Steps.{params_at}
@@ -62,8 +63,10 @@ use Rattle.verse_accept_fine.proofs.Calls as calls
 use Rattle.verse_accept_fine.proofs.Calls.{and_true, served, class_entry}
 use Rattle.verse_accept_forms.specs.Callees.{HasValue, HasObject, Rounds}
 use Rattle.verse_accept_forms.proofs.Operands.{sorts_of, no_operands, one_operand, two_ints, not_one, used_allows}
-use Rattle.verse_accept_forms.proofs.CalleeKinds.{Kind, IsWait, IsValue, IsFixed, fixed_int, fixed_enum, is_function, is_own, is_method, is_print}
-use Rattle.verse_accept_forms.proofs.CalleeKinds.{is_floor, is_ceiling, is_modulo, is_task, is_event, is_signal, is_nowhere, as_value, is_item}
+use Rattle.verse_accept_forms.proofs.CalleeKinds.{Kind, IsWait, IsValue, IsFixed, fixed_int, fixed_enum, is_function, is_own, is_method}
+use Rattle.verse_accept_forms.proofs.CalleeKinds.{is_print}
+use Rattle.verse_accept_forms.proofs.CalleeKinds.{is_floor, is_ceiling, is_modulo, is_task, is_event, is_signal, is_nowhere, as_value}
+use Rattle.verse_accept_forms.proofs.CalleeKinds.{is_item}
 use Rattle.verse_accept_forms.proofs.CalleeKinds.{is_fixed, effects_of, object_of}
 
 -- ---- the number that a literal is

@@ -20,7 +20,8 @@ use Rattle.verse_names_scopes.specs.Visible.{World, visible}
 use Rattle.verse_names_scopes.specs.Subjects.{subject, this_ref, rules_at}
 use Rattle.verse_check_typing.specs.Refs as refs
 use Rattle.verse_check_typing.specs.Facts.{Facts, type_of, class_members}
-use Rattle.verse_check_typing.specs.Members.{part, action, missing, part_type, may_stand, by_ref, member_at, field_by, method_by, method_named}
+use Rattle.verse_check_typing.specs.Members.{part, action, missing, part_type, may_stand, by_ref, member_at, field_by, method_by}
+use Rattle.verse_check_typing.specs.Members.{method_named}
 use Rattle.verse_check_typing.specs.Members.{member_ref, type_member, member_of, is_value}
 use Rattle.verse_check_typing.specs.Callees as types
 use Rattle.verse_check_typing.specs.Rows.{name_type, value_type}
@@ -352,9 +353,10 @@ module _ (is : List ItemTree) (arrays events : ℕ → Bool) where
                 (found None (Some j) fi fj) o.there)
             by None None fi fj st = absurd (cc)
 
-        fixed : (u : Ty) (f1 : Bool) → ty_at is k ≡ u → member_ref F u z ≡ None → types.action_of u z (ty_at is m) ≡ types.value (ty_at is m) →
-            (l : Bool) → bytes_eq z (codes "Length") ≡ l → may_stand f1 (cond l (part ty.int) missing) ≡ true →
-            ty_at is m ≡ part_type (cond l (part ty.int) missing) → (x : Callee) → Kind e y pl x
+        fixed : (u : Ty) (f1 : Bool) → ty_at is k ≡ u → member_ref F u z ≡ None →
+            types.action_of u z (ty_at is m) ≡ types.value (ty_at is m) → (l : Bool) → bytes_eq z (codes "Length") ≡ l →
+            may_stand f1 (cond l (part ty.int) missing) ≡ true → ty_at is m ≡ part_type (cond l (part ty.int) missing) → (x : Callee) →
+            Kind e y pl x
         fixed u f1 f g i true fl st own x =
             is_fixed ty.int fixed_int (callee_none u f g (types.value ty.int) (i ∙ ap types.value own)) x
         fixed u f1 f g i false fl st own x = absurd (cc)
@@ -399,7 +401,8 @@ module _ (is : List ItemTree) (arrays events : ℕ → Bool) where
                 Kind e y pl (cond i (of_object (form.awaiting true)) (cond j (of_object form.signalling) (of_value y)))
             by true fi j fj =
                 is_event u plain (ap sort_of f)
-                (callee_none (ty.event u) f refl (types.await u) (acts true j (as_codes z await_name true fi) (as_codes z signal_name j fj)))
+                (callee_none (ty.event u) f refl (types.await u)
+                (acts true j (as_codes z await_name true fi) (as_codes z signal_name j fj)))
                 (does_none (ty.event u) f refl plain c.Await (awaits z fi))
             by false fi true fj =
                 is_signal u plain (ap sort_of f)
@@ -443,7 +446,8 @@ module _ (is : List ItemTree) (arrays events : ℕ → Bool) where
           where
             typed : NoEnum (refs.ref_at F.refs k) → Kind e y pl (callee_of whole e y pl)
             typed plain =
-                let only = type_only is arrays events fields_agree_all field_names_agree quiet (refs.ref_at F.refs k) (ty_at is k) z plain in
+                let only = type_only is arrays events fields_agree_all field_names_agree quiet (refs.ref_at F.refs k) (ty_at is k) z
+                plain in
                 let stands : may_stand (is_called d.used) (type_member F (ty_at is k) z) ≡ true =
                 ap (may_stand (is_called d.used)) (sym only)
                 ∙ not_not _ (base.types is w d xs m q (t.Shape.member object z) h).member in

@@ -62,7 +62,8 @@ use Rattle.verse_accept_fine.proofs.Calls.{served, class_entry}
 use Rattle.verse_accept_forms.specs.Callees.{HasObject, Starts}
 use Rattle.verse_accept_forms.proofs.Operands.{sorts_of, used_allows}
 use Rattle.verse_accept_forms.proofs.CalleeKinds.{Kind, kind_of, is_function, is_own, is_method, is_print, is_floor, is_ceiling, is_modulo}
-use Rattle.verse_accept_forms.proofs.CalleeKinds.{is_task, is_event, is_signal, is_nowhere, as_value, is_item, is_fixed, effects_of, object_of}
+use Rattle.verse_accept_forms.proofs.CalleeKinds.{is_task, is_event, is_signal, is_nowhere, as_value, is_item, is_fixed, effects_of}
+use Rattle.verse_accept_forms.proofs.CalleeKinds.{object_of}
 
 caught_not : (q r : Bool) → (q && not r) ≡ false → q ≡ true → r ≡ true
 caught_not true true h e = refl

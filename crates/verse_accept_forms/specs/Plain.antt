@@ -21,7 +21,8 @@ use Rattle.verse_accept_rows.specs.Found.{final}
 use Rattle.verse_accept_fine.specs.Sorted.{all_classes, up, Allows}
 use Rattle.verse_accept_fine.specs.Needs as needs
 
-module _ (is : List ItemTree) (arrays events : ℕ → Bool) (w : World) (a : Around) (xs : Table) (b : Allowed) (n : ℕ) (p : Place) where
+module _ (is : List ItemTree) (arrays events : ℕ → Bool) (w : World) (a : Around) (xs : Table)
+    (b : Allowed) (n : ℕ) (p : Place) where
   abbrev pub own : Sort
   own = needs.own is arrays events w a xs b n p
 
@@ -45,23 +46,29 @@ module _ (is : List ItemTree) (arrays events : ℕ → Bool) (w : World) (a : Ar
     pub defer : (e : Tree) → Is (t.Shape.defer e) → Fits (up is) s.unit own
     pub constant : (x : Bytes) (e : Tree) → Is (t.Shape.definition x e) → Fits (up is) (part e) own
     pub typed : (x : Bytes) (v : Written) (e : Tree) → Is (t.Shape.typed x v e) →
-        fits (all_classes is) (type_of (final is) e) (spelled (final is) v) ≡ true → Give form.defining (part e ∷ [])
+        fits (all_classes is) (type_of (final is) e) (spelled (final is) v) ≡ true →
+        Give form.defining (part e ∷ [])
     pub variable : (x : Bytes) (v : Written) (e : Tree) → Is (t.Shape.variable x v e) →
-        fits (all_classes is) (type_of (final is) e) (spelled (final is) v) ≡ true → Give (form.varying p) (part e ∷ [])
+        fits (all_classes is) (type_of (final is) e) (spelled (final is) v) ≡ true →
+        Give (form.varying p) (part e ∷ [])
     pub returned : (e : Tree) → Is (t.Shape.returned e) → a.may_return ≡ true
     pub returned_unit : Is t.Shape.returned_unit → a.may_return ≡ true
     -- failure contexts
-    pub if_alone : (ts : Trees) (e : Tree) → Is (t.Shape.if_alone ts e) → Fits (up is) (part e) own × Fits (up is) s.unit own
+    pub if_alone : (ts : Trees) (e : Tree) → Is (t.Shape.if_alone ts e) →
+        Fits (up is) (part e) own × Fits (up is) s.unit own
     pub negation : (e : Tree) → Is (t.Shape.negation e) → (b.fails ≡ true) × Fits (up is) s.unit own
     pub logic : (ts : Trees) → Is (t.Shape.logic ts) → Fits (up is) s.logic own
     -- a quotient stands as the argument of Floor or Ceil alone, where its failure is taken
-    pub quotient : (e f : Tree) → Is (t.Shape.chained op.Div e f) → (is_rounded (final is) a.used ≡ true) × (b.fails ≡ true)
+    pub quotient : (e f : Tree) → Is (t.Shape.chained op.Div e f) →
+        (is_rounded (final is) a.used ≡ true) × (b.fails ≡ true)
     -- a name that may not stand here for a function, a class or an enum has a value
-    pub named : (x : Bytes) → Is (t.Shape.name x) → takes_item a.used (visible w xs x) ≡ false → has_value (visible w xs x) ≡ true
+    pub named : (x : Bytes) → Is (t.Shape.name x) → takes_item a.used (visible w xs x) ≡ false →
+        has_value (visible w xs x) ≡ true
     -- events, loops and blocks
     pub event : (v : Written) → Is (t.Shape.event v) → (q : Sort) × Fits (up is) (s.event q) own
     pub bare_event : Is t.Shape.bare_event → (q : Sort) × Fits (up is) (s.event q) own
-    pub for_form : (ts : Trees) (e : Tree) → Is (t.Shape.for_form ts e) → Fits (up is) (s.list (part e)) own
+    pub for_form : (ts : Trees) (e : Tree) → Is (t.Shape.for_form ts e) →
+        Fits (up is) (s.list (part e)) own
     pub block_form : (e : Tree) → Is (t.Shape.block_form e) → Fits (up is) (part e) own
     -- tasks
     pub branch : (e : Tree) → Is (t.Shape.branch e) → (b.waits ≡ true) × Fits (up is) s.unit own
@@ -69,5 +76,5 @@ module _ (is : List ItemTree) (arrays events : ℕ → Bool) (w : World) (a : Ar
     pub sleep_forever : Is t.Shape.sleep_forever → (b.waits ≡ true) × Fits (up is) s.unit own
 
 abbrev pub PlainNeeds : Type 0
-PlainNeeds = (is : List ItemTree) (arrays events : ℕ → Bool) (w : World) (a : Around) (xs : Table) (b : Allowed) → Allows is w a b →
-    (n : ℕ) (p : Place) → Plain is arrays events w a xs b n p
+PlainNeeds = (is : List ItemTree) (arrays events : ℕ → Bool) (w : World) (a : Around) (xs : Table)
+    (b : Allowed) → Allows is w a b → (n : ℕ) (p : Place) → Plain is arrays events w a xs b n p

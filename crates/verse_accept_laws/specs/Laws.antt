@@ -9,6 +9,7 @@ use Rattle.lower_simulation_runs.specs.Programs.{CanBeFollowed}
 
 -- its code can be valid and does what it means
 abbrev pub AcceptedCanBeFollowed : Type 0
-AcceptedCanBeFollowed = (made : Made) (files : List (List ℕ)) → 1 ≤ length files → length files ≤ 16 →
+AcceptedCanBeFollowed = (made : Made) (files : List (List ℕ)) → 1 ≤ length files →
+    length files ≤ 16 →
     Accepts files (map item_of made.tree.items) → made.names ≡ completed (map item_of made.tree.items) →
     CanBeFollowed (program_of made) (length files)

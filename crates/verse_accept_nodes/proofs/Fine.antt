@@ -4,7 +4,8 @@ use Rattle.verse_base.specs.declared.places.Place.{Place}
 use Rattle.verse_tree.specs.Tree.{Bytes, Written, Writtens, Tree, tree, Shape, Trees, Holes, Pairs, Givens}
 use Rattle.verse_tree.specs.Tree as t
 use Rattle.verse_tree.specs.View.{writtens, trees, holes, pairs, givens}
-use Rattle.verse_tree.specs.PostOrder.{Node, What, expression, parameter, written_order, writtens_order, post_order, parts, trees_order, holes_order}
+use Rattle.verse_tree.specs.PostOrder.{Node, What, expression, parameter, written_order, writtens_order, post_order, parts, trees_order}
+use Rattle.verse_tree.specs.PostOrder.{holes_order}
 use Rattle.verse_tree.specs.PostOrder.{pairs_order, givens_order}
 use Rattle.verse_tree.specs.Numbering.{written_nodes, written_numbered, writtens_numbered, nodes, shape_nodes, numbered, shape_numbered}
 use Rattle.verse_tree.specs.Numbering.{trees_numbered}

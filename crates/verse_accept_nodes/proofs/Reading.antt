@@ -26,7 +26,8 @@ module _ (files : ℕ) where
   -- ---- types
 
   mutual
-    pub type_fits : {b : List ℕ} {ks rest : List Tok} {w : Written} → IsType b ks w rest → ToksFit b ks → FineWritten files w × ToksFit b rest
+    pub type_fits : {b : List ℕ} {ks rest : List Tok} {w : Written} → IsType b ks w rest → ToksFit b ks → FineWritten files w ×
+        ToksFit b rest
     type_fits (y.IsType.type_int h) f = (record { fit = λ n. tt }, f.1)
     type_fits (y.IsType.type_logic h) f = (record { fit = λ n. tt }, f.1)
     type_fits (y.IsType.type_char h) f = (record { fit = λ n. tt }, f.1)
@@ -56,8 +57,8 @@ module _ (files : ℕ) where
         let q = type_fits d r.1.1 in
         (each_joined (FineWritten files) ws _ r.0 (q.0, tt), q.1)
 
-  event_fits : {b : List ℕ} {ks rest : List Tok} {u : Option Written} → BracketType b ks u rest → (k : Tok) → TokFits files b k → ToksFit b ks →
-      FineTree files (event_at k u) × ToksFit b rest
+  event_fits : {b : List ℕ} {ks rest : List Tok} {u : Option Written} → BracketType b ks u rest → (k : Tok) → TokFits files b k →
+      ToksFit b ks → FineTree files (event_at k u) × ToksFit b rest
   event_fits (x.BracketType.bracket_type ho d hc) k h f =
       let r = type_fits d f.1 in (fine files h.place (λ n. tt) (λ n. r.0.fit n), r.1.1)
   event_fits (x.BracketType.no_bracket_type ho hc) k h f = (fine files h.place (λ n. tt) (λ n. tt), f.1.1)
@@ -66,7 +67,8 @@ module _ (files : ℕ) where
 
   module _ (b : List ℕ) (small : length b ≤ MOST_FILE_BYTES) where
     mutual
-      pub phrase_fits : {q : Phrase} {ks rest : List Tok} {t : Tree} → Reads b q ks t rest → ToksFit b ks → FineTree files t × ToksFit b rest
+      pub phrase_fits : {q : Phrase} {ks rest : List Tok} {t : Tree} → Reads b q ks t rest → ToksFit b ks → FineTree files t ×
+          ToksFit b rest
       phrase_fits (x.Reads.block {ts = ts} h d) f =
           let r = until_fits d f.1 in
           let all = fine_trees files ts r.0 in

@@ -89,7 +89,10 @@ module _ (files : ℕ) (bytes : List ℕ) where
           let r = inside_fits d f.1 in (
             (
               record { place = f.0.place; kind = f.0.kind; named = λ e. f.0.named (same_plain e) },
-              each_joined WrittenFits ws _ r.0 (record { place = r.1.0.place; kind = r.1.0.kind; named = λ e. r.1.0.named (same_plain e) }, tt),
+              each_joined WrittenFits ws _ r.0 (
+                record { place = r.1.0.place; kind = r.1.0.kind; named = λ e. r.1.0.named (same_plain e) },
+                tt,
+              ),
             ),
             r.1.1,
           )
@@ -98,7 +101,8 @@ module _ (files : ℕ) (bytes : List ℕ) where
           let q = lines_fits e r.1 in (
             (
               record { place = f.0.place; kind = tt; named = λ e. cc },
-              each_joined WrittenFits ws _ r.0 (each_joined WrittenFits vs _ q.0 (record { place = q.1.0.place; kind = tt; named = λ e. cc }, tt)),
+              each_joined WrittenFits ws _ r.0 (each_joined WrittenFits vs _ q.0
+                  (record { place = q.1.0.place; kind = tt; named = λ e. cc }, tt)),
             ),
             q.1.1,
           )

@@ -20,7 +20,8 @@ use Rattle.lower_simulation_runs.specs.Programs.{NodeStands}
 abbrev pub IsNew : Bytes → Type 0
 IsNew x = same_name this_name x ≡ false
 
--- the names that the node n defines are not that of `Self`, and the domain of keys and values is the node before
+-- the names that the node n defines are not that of `Self`, and the domain of keys and values is
+-- the node before
 abbrev pub ShapeNames : ℕ → Shape → Type 0
 ShapeNames n (t.Shape.definition x e) = IsNew x
 ShapeNames n (t.Shape.typed x w e) = IsNew x
@@ -39,7 +40,8 @@ abbrev pub NodeNames : Node → Type 0
 NodeNames v = WhatNames v.number v.what
 
 abbrev pub AcceptedNames : Type 0
-AcceptedNames = (files : List (List ℕ)) (is : List ItemTree) → Accepts files is → All NodeNames (items_order is)
+AcceptedNames = (files : List (List ℕ)) (is : List ItemTree) → Accepts files is →
+    All NodeNames (items_order is)
 
 -- ---- shapes, places, texts and patterns
 

@@ -2,10 +2,12 @@
 //! the definitions in `specs/Laws`, with those of `lower_bounds` and `lower_simulation_runs`.
 //!
 //! In `proofs/`: `Tokens` and `Toks`, tokens and their layout stand in the file; `Texts`, what the
-//! grammar takes from a tok; `Fine`, `Reading` and `ReadingItems`, the nodes of what is spelled fit;
+//! grammar takes from a tok; `Fine`, `Reading` and `ReadingItems`, the nodes of what is spelled
+//! fit;
 //! `Files`, all files of a program; `ByParts`, what nodes have by what their parts have; `Settled`,
-//! what is left to the rules at single nodes; `Plain` and `Visited`, what the patterns of enums refer
-//! to; `Enums`, which value that is; `Rules`, what the rules of types leave; `Accepted`, the laws.
+//! what is left to the rules at single nodes; `Plain` and `Visited`, what the patterns of enums
+//! refer to; `Enums`, which value that is; `Rules`, what the rules of types leave; `Accepted`, the
+//! laws.
 #![tactic(auto)]
 
 ghost use Rattle.verse_accept_nodes.specs.Laws.{

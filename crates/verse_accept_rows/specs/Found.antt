@@ -5,7 +5,8 @@ use Rattle.verse_rules_least.specs.Least.{first_true}
 use Rattle.verse_check_typing.specs.Refs.{ref_at}
 use Rattle.verse_check_typing.specs.Sets.{has_number}
 use Rattle.verse_check_typing.specs.Facts.{Facts, world_of, type_at, var_at}
-use Rattle.verse_check_typing.specs.Steps.{facts, own_rules, serves_as, type_by, ref_by, loop_left, defines_variable}
+use Rattle.verse_check_typing.specs.Steps.{facts, own_rules, serves_as, type_by, ref_by, loop_left}
+use Rattle.verse_check_typing.specs.Steps.{defines_variable}
 use Rattle.verse_check.specs.Checking.{all_seen}
 use Rattle.verse_effects.specs.Rules as effects
 use Rattle.verse_names_scopes.specs.Subjects as names

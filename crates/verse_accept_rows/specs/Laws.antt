@@ -12,8 +12,10 @@ use Rattle.verse_accept_rows.specs.Found.{Found}
 
 -- at each node, by what is found at all of them
 abbrev pub AllFound : Type 0
-AllFound = (is : List ItemTree) → ItemsShaped is → AreNumbered is → IsSound is → Each (Found is) (program_sites is)
+AllFound = (is : List ItemTree) → ItemsShaped is → AreNumbered is → IsSound is →
+    Each (Found is) (program_sites is)
 
 -- and so form by form
 abbrev pub ItemsFound : Type 0
-ItemsFound = (is : List ItemTree) → ItemsShaped is → AreNumbered is → IsSound is → OnItems (Found is) (known is) [] (known is).items
+ItemsFound = (is : List ItemTree) → ItemsShaped is → AreNumbered is → IsSound is →
+    OnItems (Found is) (known is) [] (known is).items

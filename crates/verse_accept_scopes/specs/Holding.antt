@@ -1,9 +1,13 @@
--- What holds at each node of a program, form by form: that of the parts, where each part is numbered below the whole, and that of the node.
+-- What holds at each node of a program, form by form: that of the parts, where each part is
+-- numbered below the whole, and that of the node.
 use Rattle.std.specs.Prelude.{ℕ, ◌+◌, ◌<◌, Bool, true, false, List, [], ◌∷◌, Option, Some, None}
-use Rattle.verse_tree.specs.Tree.{Written, Writtens, no_writtens, more_writtens, Tree, tree, Shape, Trees, no_trees, more_trees}
-use Rattle.verse_tree.specs.Tree.{Holes, no_holes, more_holes, Pairs, no_pairs, more_pairs, Givens, no_givens, more_givens}
+use Rattle.verse_tree.specs.Tree.{Written, Writtens, no_writtens, more_writtens, Tree, tree, Shape}
+use Rattle.verse_tree.specs.Tree.{Trees, no_trees, more_trees}
+use Rattle.verse_tree.specs.Tree.{Holes, no_holes, more_holes, Pairs, no_pairs, more_pairs, Givens}
+use Rattle.verse_tree.specs.Tree.{no_givens, more_givens}
 use Rattle.verse_tree.specs.Tree as t
-use Rattle.verse_tree.specs.ItemTree.{FieldTree, ParamTree, FunTree, MemberTree, field, method, ItemTree, using, enumeration, class}
+use Rattle.verse_tree.specs.ItemTree.{FieldTree, ParamTree, FunTree, MemberTree, field, method}
+use Rattle.verse_tree.specs.ItemTree.{ItemTree, using, enumeration, class}
 use Rattle.verse_tree.specs.ItemTree.{function}
 use Rattle.verse_tree.specs.PostOrder.{expression, type_name}
 use Rattle.verse_names_declarations.specs.Names.{Table}
@@ -14,11 +18,14 @@ use Rattle.verse_names_scopes.specs.Visible.{World, inside}
 use Rattle.verse_names_scopes.specs.Visible as visible
 use Rattle.verse_names_scopes.specs.Subjects.{subject, locals_behind}
 use Rattle.verse_names_scopes.specs.Subjects as u
-use Rattle.verse_rules_walk.specs.Around.{Around, value, callee, object, target, spawned, argument, outside, default_around, used_as}
+use Rattle.verse_rules_walk.specs.Around.{Around, value, callee, object, target, spawned, argument}
+use Rattle.verse_rules_walk.specs.Around.{outside, default_around, used_as}
 use Rattle.verse_rules_walk.specs.Around.{freely}
-use Rattle.verse_rules_walk.specs.Around.{caught, looped, repeated, armed, deferred, left_of, indexed}
+use Rattle.verse_rules_walk.specs.Around.{caught, looped, repeated, armed, deferred, left_of}
+use Rattle.verse_rules_walk.specs.Around.{indexed}
 use Rattle.verse_rules_walk.specs.Nodes.{number_of_tree, round_body}
-use Rattle.verse_accept_scopes.specs.Sites.{Site, behind, all_behind, param_subject, params_behind, site, param_site, member_site}
+use Rattle.verse_accept_scopes.specs.Sites.{Site, behind, all_behind, param_subject, params_behind}
+use Rattle.verse_accept_scopes.specs.Sites.{site, param_site, member_site}
 use Rattle.verse_accept_scopes.specs.Sites.{item_site}
 
 module _ (P : Site → Type 0) (w : World) where
@@ -48,19 +55,26 @@ module _ (P : Site → Type 0) (w : World) where
     OnShape n a xs (t.Shape.block ts) = OnAll n (freely a) xs ts
     OnShape n a xs (t.Shape.defer b) = OnPart n (deferred a) xs b
     OnShape n a xs (t.Shape.definition x b) = OnPart n (freely a) xs b
-    OnShape n a xs (t.Shape.typed x ty b) = OnWritten a true xs ty × OnPart n (used_as (value ty) a) xs b
-    OnShape n a xs (t.Shape.variable x ty b) = OnWritten a true xs ty × OnPart n (used_as (value ty) a) xs b
-    OnShape n a xs (t.Shape.assignment m b c) = OnPart n (used_as target a) xs b × OnPart n (freely a) xs c
+    OnShape n a xs (t.Shape.typed x ty b) = OnWritten a true xs ty ×
+        OnPart n (used_as (value ty) a) xs b
+    OnShape n a xs (t.Shape.variable x ty b) = OnWritten a true xs ty ×
+        OnPart n (used_as (value ty) a) xs b
+    OnShape n a xs (t.Shape.assignment m b c) = OnPart n (used_as target a) xs b ×
+        OnPart n (freely a) xs c
     OnShape n a xs (t.Shape.returned b) = OnPart n (freely a) xs b
     OnShape n a xs (t.Shape.if_else ts b c) =
-        OnAll n (caught a) xs ts × OnPart n (freely a) (all_behind w ts xs) b × OnPart n (freely a) xs c
-    OnShape n a xs (t.Shape.if_alone ts b) = OnAll n (caught a) xs ts × OnPart n (freely a) (all_behind w ts xs) b
+        OnAll n (caught a) xs ts × OnPart n (freely a) (all_behind w ts xs) b ×
+        OnPart n (freely a) xs c
+    OnShape n a xs (t.Shape.if_alone ts b) = OnAll n (caught a) xs ts ×
+        OnPart n (freely a) (all_behind w ts xs) b
     OnShape n a xs (t.Shape.chained x b c) = OnPart n (left_of x a) xs b × OnPart n (freely a) xs c
     OnShape n a xs (t.Shape.compared x b c) = OnPart n (freely a) xs b × OnPart n (freely a) xs c
     OnShape n a xs (t.Shape.negation b) = OnPart n (caught a) xs b
     OnShape n a xs (t.Shape.minus b) = OnPart n (freely a) xs b
-    OnShape n a xs (t.Shape.call b ts) = OnPart n (used_as callee a) xs b × OnArguments n a xs (number_of_tree b) 0 ts
-    OnShape n a xs (t.Shape.index b ts) = OnPart n (indexed a) xs b × OnArguments n a xs (number_of_tree b) 0 ts
+    OnShape n a xs (t.Shape.call b ts) = OnPart n (used_as callee a) xs b ×
+        OnArguments n a xs (number_of_tree b) 0 ts
+    OnShape n a xs (t.Shape.index b ts) = OnPart n (indexed a) xs b ×
+        OnArguments n a xs (number_of_tree b) 0 ts
     OnShape n a xs (t.Shape.member b x) = OnPart n (used_as object a) xs b
     OnShape n a xs (t.Shape.query b) = OnPart n (freely a) xs b
     OnShape n a xs (t.Shape.holes x hs) = OnHoles n (freely a) xs hs
@@ -71,7 +85,8 @@ module _ (P : Site → Type 0) (w : World) where
     OnShape n a xs (t.Shape.mapping ps) = OnPairs n (freely a) xs ps
     OnShape n a xs (t.Shape.instance x gs) = OnGivens n (freely a) xs gs
     OnShape n a xs (t.Shape.event ty) = OnWritten a true xs ty
-    OnShape n a xs (t.Shape.for_form ts b) = OnAll n (caught a) xs ts × OnPart n (repeated a) (all_behind w ts xs) b
+    OnShape n a xs (t.Shape.for_form ts b) = OnAll n (caught a) xs ts ×
+        OnPart n (repeated a) (all_behind w ts xs) b
     OnShape n a xs (t.Shape.loop_form b) = OnPart n (looped n a) xs b
     OnShape n a xs (t.Shape.block_form b) = OnPart n (freely a) xs b
     OnShape n a xs (t.Shape.branch b) = OnPart n (armed a) xs b
@@ -87,7 +102,8 @@ module _ (P : Site → Type 0) (w : World) where
     OnShape n a xs s = Unit {0}
 
     pub OnPart : ℕ → Around → Table → Tree → Type 0
-    OnPart n a xs (tree m p s) = (m < n) × OnShape m a xs s × P (site w m p a xs (expression s) (subject m s))
+    OnPart n a xs (tree m p s) = (m < n) × OnShape m a xs s ×
+        P (site w m p a xs (expression s) (subject m s))
 
     -- each seeing the names that were defined before it
     pub OnAll : ℕ → Around → Table → Trees → Type 0
@@ -102,7 +118,8 @@ module _ (P : Site → Type 0) (w : World) where
     -- the arguments for the callee with the number f, from the place i on
     pub OnArguments : ℕ → Around → Table → ℕ → ℕ → Trees → Type 0
     OnArguments n a xs f i no_trees = Unit {0}
-    OnArguments n a xs f i (more_trees e es) = OnPart n (used_as (argument f i) a) xs e × OnArguments n a xs f (i + 1) es
+    OnArguments n a xs f i (more_trees e es) = OnPart n (used_as (argument f i) a) xs e ×
+        OnArguments n a xs f (i + 1) es
 
     pub OnHoles : ℕ → Around → Table → Holes → Type 0
     OnHoles n a xs no_holes = Unit {0}
@@ -119,7 +136,8 @@ module _ (P : Site → Type 0) (w : World) where
   abbrev pub OnParams : Table → List ParamTree → Type 0
   OnParams xs [] = Unit {0}
   OnParams xs (p ∷ ps) =
-      OnWritten outside false xs p.written × P (param_site w xs p) × OnParams (locals_behind w (param_subject p) xs) ps
+      OnWritten outside false xs p.written × P (param_site w xs p) ×
+      OnParams (locals_behind w (param_subject p) xs) ps
 
   -- a function's body sees its parameters
   abbrev pub OnFun : Table → FunTree → Type 0
@@ -148,7 +166,8 @@ module _ (P : Site → Type 0) where
     abbrev pub OnItem : Table → ItemTree → Counts → Type 0
     OnItem xs (using u) c = P (item_site k xs (using u))
     OnItem xs (enumeration e) c = P (item_site k xs (enumeration e))
-    OnItem xs (class d) c = OnMembers (visible.outside k) (inside k c.classes) xs d.members × P (item_site k xs (class d))
+    OnItem xs (class d) c = OnMembers (visible.outside k) (inside k c.classes) xs d.members ×
+        P (item_site k xs (class d))
     OnItem xs (function f) c = OnFun P (visible.outside k) xs f × P (item_site k xs (function f))
 
     abbrev pub OnItems : Table → List Counted → Type 0

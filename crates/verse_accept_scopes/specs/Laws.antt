@@ -19,20 +19,28 @@ use Rattle.verse_accept_scopes.specs.Holding.{OnItems}
 
 -- the nodes that are walked are the sites
 abbrev pub WalkedAreSites : Type 0
-WalkedAreSites = (is : List ItemTree) → ItemsShaped is → map node_of (program_sites is) ≡ items_nodes is
+WalkedAreSites = (is : List ItemTree) → ItemsShaped is →
+    map node_of (program_sites is) ≡ items_nodes is
 
 -- the visit of the program's own node
 abbrev pub own_visit : List ItemTree → Visit
-own_visit is = record { number = length (items_order is); place = program_place; subject = quiet; world = outside (known is); locals = [] }
+own_visit is = record {
+  number = length (items_order is);
+  place = program_place;
+  subject = quiet;
+  world = outside (known is);
+  locals = [];
+}
 
 -- the nodes whose names are looked up are the sites too, each with the names of its place
 abbrev pub VisitsAreSites : Type 0
-VisitsAreSites = (is : List ItemTree) → ItemsShaped is → program_visits is ≡ map visit_of (program_sites is) ++ own_visit is ∷ []
+VisitsAreSites = (is : List ItemTree) → ItemsShaped is →
+    program_visits is ≡ map visit_of (program_sites is) ++ own_visit is ∷ []
 
 -- the site i has the number i
 abbrev pub SitesInRow : Type 0
-SitesInRow = (is : List ItemTree) → ItemsShaped is → AreNumbered is → (i : ℕ) (v : Site) → slice_get (program_sites is) i ≡ Some v →
-    v.number ≡ i
+SitesInRow = (is : List ItemTree) → ItemsShaped is → AreNumbered is → (i : ℕ) (v : Site) →
+    slice_get (program_sites is) i ≡ Some v → v.number ≡ i
 
 -- the nodes of the parts of a node
 abbrev pub parts_of : ℕ → Around → What → List Node
@@ -45,9 +53,8 @@ LocalBelow n (ref.Local m) = m < n
 LocalBelow n (ref.Key m) = m < n
 LocalBelow n r = ⊥
 
--- below a node are numbered its parts, the nodes of the names that are visible at it, and the callee whose argument it is; above it the
--- loop
--- round it
+-- below a node are numbered its parts, the nodes of the names that are visible at it, and the
+-- callee whose argument it is; above it the loop round it
 pub record Stands (v : Site) : Type 0 where
   pub parts : Each (λ (u : Node). u.number < v.number) (parts_of v.number v.around v.what)
   pub locals : Each (λ (e : Bytes × Ref). LocalBelow v.number e.1) v.locals
@@ -59,5 +66,5 @@ SitesStand = (is : List ItemTree) → ItemsShaped is → AreNumbered is → Each
 
 -- what holds of each site holds on the items, form by form
 abbrev pub HoldsOnItems : Type 1
-HoldsOnItems = (P : Site → Type 0) (is : List ItemTree) → ItemsShaped is → AreNumbered is → Each P (program_sites is) →
-    OnItems P (known is) [] (known is).items
+HoldsOnItems = (P : Site → Type 0) (is : List ItemTree) → ItemsShaped is → AreNumbered is →
+    Each P (program_sites is) → OnItems P (known is) [] (known is).items

@@ -173,7 +173,8 @@ module _ (is : List ItemTree) (arrays events : ℕ → Bool) (told : Told is arr
     result_is : sort_of (rows.spelled (final is) o.tree.written) ≡ (own_signature o).result
     result_is = ap sort_of written_is ∙ sym (sort_made (spelled types o.tree.written))
 
-    body_allows : (m : Bool) → ((own_signature o).lasts ≡ true → m ≡ true) → Allows is W (round_body o.tree) (in_function (own_signature o) m)
+    body_allows : (m : Bool) → ((own_signature o).lasts ≡ true → m ≡ true) →
+        Allows is W (round_body o.tree) (in_function (own_signature o) m)
     body_allows m h =
         let eff = same_effects o.tree.effects in
         record {
@@ -194,7 +195,8 @@ module _ (is : List ItemTree) (arrays events : ℕ → Bool) (told : Told is arr
         (all_owned_shaped is Rattle.verse_names_declarations.specs.Counting.no_counts shaped) there in
         subst (λ ys. Fine whole found (in_function (own_signature o) m) ys o.tree.body) (same_behind W names [] o.tree.params on_body.0)
         (trees is arrays events told quiet functions W names (round_body o.tree) (in_function (own_signature o) m) (body_allows m h)
-        (λ e. (o.tree.written, refl)) o.tree.written refl (sites.params_behind W o.tree.params []) o.tree.body shape.2 on_body.2 named_body.2)
+        (λ e. (o.tree.written, refl)) o.tree.written refl (sites.params_behind W o.tree.params []) o.tree.body shape.2 on_body.2
+        named_body.2)
 
     pub own_params : FineParams whole found [] o.tree.params (own_signature o).params
     own_params = params_fine W (world_names o.class) [] o.tree.params on_body.0 named_body.0
@@ -258,8 +260,8 @@ module _ (is : List ItemTree) (arrays events : ℕ → Bool) (told : Told is arr
         let own : Shaped as_expression (tree n p x) = subst DefaultShaped e shape.1 in
         let agreed = all_written_agrees is (worlds.outside (known is)) outer.types outside false [] d.written found_field.0 in
         record {
-          value = λ m. trees is arrays events told quiet functions (worlds.outside (known is)) outer (default_around d.written) (in_default m)
-              (default_allows m) (λ f. no f) d.written refl [] (tree n p x) (as_a_body (tree n p x) own) on new;
+          value = λ m. trees is arrays events told quiet functions (worlds.outside (known is)) outer (default_around d.written)
+              (in_default m) (default_allows m) (λ f. no f) d.written refl [] (tree n p x) (as_a_body (tree n p x) own) on new;
           fits = subst (λ q. Fits (up is) (sort_of (ty_at is n)) q)
               (ap sort_of agreed ∙ sym (sort_made (spelled types d.written)))
               (fits_sort (all_classes is) (ty_at is n) (rows.spelled (final is) d.written) on.1.serves);

@@ -11,7 +11,8 @@ use Rattle.verse_names_declarations.specs.Functions.{Function, fun_function, par
 use Rattle.verse_names_declarations.specs.Counting.{counted, counts_after, funs_after, no_counts}
 use Rattle.verse_names_declarations.specs.declared.counting.Counts.{Counts}
 use Rattle.verse_names_declarations.specs.Known.{Known, known}
-use Rattle.verse_names_items.specs.Rules.{is_main_name, has_main, is_ints, takes_inputs, is_void, is_start, can_start, misshapes_main, lacks_main}
+use Rattle.verse_names_items.specs.Rules.{is_main_name, has_main, is_ints, takes_inputs, is_void, is_start, can_start, misshapes_main}
+use Rattle.verse_names_items.specs.Rules.{lacks_main}
 use Rattle.verse_names_items.specs.Rules.{rules_at}
 use Rattle.verse_names_items.specs.Rules as rules
 use Rattle.verse_names_items.specs.Nodes.{one, fun_declared, item_declared, items_declared, ItemsBreak}
@@ -104,13 +105,14 @@ module _ (all : List ItemTree) where
   abbrev HasStart : List ItemTree → Type 0
   HasStart is = (f : FunTree) × (main_in is ≡ Some f) × Starts all f
 
-  behind_methods : (c n : ℕ) (ms : List MemberTree) (us : List Owned) → Placed os n (methods_owned c ms ++ us) → Placed os (funs_after ms n) us
+  behind_methods : (c n : ℕ) (ms : List MemberTree) (us : List Owned) → Placed os n (methods_owned c ms ++ us) →
+      Placed os (funs_after ms n) us
   behind_methods c n [] us h = h
   behind_methods c n (field d ∷ ms) us h = behind_methods c n ms us h
   behind_methods c n (method f ∷ ms) us h = behind_methods c (n + 1) ms us h.1
 
-  find_start : (is : List ItemTree) (n : Counts) → Placed os n.funs (owned (counted n is)) → Each (Kept k) (items_declared k (counted n is)) →
-      has_main is ≡ true → HasStart is
+  find_start : (is : List ItemTree) (n : Counts) → Placed os n.funs (owned (counted n is)) →
+      Each (Kept k) (items_declared k (counted n is)) → has_main is ≡ true → HasStart is
   find_start [] n p h m = cc
   find_start (using u ∷ is) n p h m = find_start is (counts_after (using u) n) p h.1 m
   find_start (enumeration e ∷ is) n p h m = find_start is (counts_after (enumeration e) n) p h.1 m

@@ -16,16 +16,19 @@ use Rattle.verse_accept_trees.specs.Laws.{Told}
 
 -- of accepted items, where tables tell which nodes are arrays and events
 abbrev pub ItemsAreFine : Type 0
-ItemsAreFine = (files : List (List ℕ)) (is : List ItemTree) → Accepts files is → (arrays events : ℕ → Bool) → Told is arrays events →
-    FineProgram (program is arrays events)
+ItemsAreFine = (files : List (List ℕ)) (is : List ItemTree) → Accepts files is →
+    (arrays events : ℕ → Bool) → Told is arrays events → FineProgram (program is arrays events)
 
--- their run goes right in each turn, and never ends stuck, for all inputs, bounds of steps and horizons
+-- their run goes right in each turn, and never ends stuck, for all inputs, bounds of steps and
+-- horizons
 abbrev pub ItemsGoRight : Type 0
-ItemsGoRight = (files : List (List ℕ)) (is : List ItemTree) → Accepts files is → (arrays events : ℕ → Bool) → Told is arrays events →
-    (ns : List ℤ) (steps until k : ℕ) → GoesRight (after (program is arrays events) ns steps until k)
+ItemsGoRight = (files : List (List ℕ)) (is : List ItemTree) → Accepts files is →
+    (arrays events : ℕ → Bool) → Told is arrays events → (ns : List ℤ) (steps until k : ℕ) →
+    GoesRight (after (program is arrays events) ns steps until k)
 
 abbrev pub ItemsAreNeverStuck : Type 0
-ItemsAreNeverStuck = (files : List (List ℕ)) (is : List ItemTree) → Accepts files is → (arrays events : ℕ → Bool) →
+ItemsAreNeverStuck = (files : List (List ℕ)) (is : List ItemTree) → Accepts files is →
+    (arrays events : ℕ → Bool) →
     Told is arrays events → (ns : List ℤ) (steps until : ℕ) → (mean (program is arrays events) ns steps until).ending ≢ ending.Stuck
 
 -- a program with the names and the types of its nodes
@@ -35,9 +38,10 @@ pub record IsTold (made : Made) : Type 0 where
 
 -- of what is answered for accepted files
 abbrev pub AcceptedIsFine : Type 0
-AcceptedIsFine = (files : List (List ℕ)) (made : Made) → Accepts files (map item_of made.tree.items) → IsTold made →
-    FineProgram (program_of made)
+AcceptedIsFine = (files : List (List ℕ)) (made : Made) →
+    Accepts files (map item_of made.tree.items) → IsTold made → FineProgram (program_of made)
 
 abbrev pub AcceptedIsNeverStuck : Type 0
-AcceptedIsNeverStuck = (files : List (List ℕ)) (made : Made) → Accepts files (map item_of made.tree.items) → IsTold made →
-    (ns : List ℤ) (steps until : ℕ) → (mean (program_of made) ns steps until).ending ≢ ending.Stuck
+AcceptedIsNeverStuck = (files : List (List ℕ)) (made : Made) →
+    Accepts files (map item_of made.tree.items) → IsTold made → (ns : List ℤ) (steps until : ℕ) →
+    (mean (program_of made) ns steps until).ending ≢ ending.Stuck

@@ -11,8 +11,9 @@ use Rattle.verse_accept_fine.specs.Sorted.{sorted, program}
 use Rattle.verse_accept_trees.specs.Names.{Named}
 use Rattle.verse_accept_trees.specs.Laws.{Told}
 
--- where its trees have the shapes of those that are spelled, its nodes are numbered, no name that it defines is `Self`, and the tables
--- tell which nodes are arrays and events
+-- where its trees have the shapes of those that are spelled, its nodes are numbered, no name that
+-- it defines is `Self`, and the tables tell which nodes are arrays and events
 abbrev pub ProgramsAreFine : Type 0
-ProgramsAreFine = (is : List ItemTree) (arrays events : ℕ → Bool) → Told is arrays events → ItemsShaped is → AreNumbered is →
+ProgramsAreFine = (is : List ItemTree) (arrays events : ℕ → Bool) → Told is arrays events →
+    ItemsShaped is → AreNumbered is →
     IsSound is → Each Named (program_sites is) → FineFound (program is arrays events) (sorted is)

@@ -157,13 +157,14 @@ module _ (is : List ItemTree) (arrays events : ℕ → Bool) where
 
       -- ---- an index
 
-      more_steps : (d : Around) (m : ℕ) (q : Place) (f : Tree) (ts : Trees) → At is w d xs m q (t.Shape.index f ts) → IsValue is arrays events f →
-          has_keys (type_of F f) ≡ true → Steps (type_of F f) ts (ty_at is m)
+      more_steps : (d : Around) (m : ℕ) (q : Place) (f : Tree) (ts : Trees) → At is w d xs m q (t.Shape.index f ts) →
+          IsValue is arrays events f → has_keys (type_of F f) ≡ true → Steps (type_of F f) ts (ty_at is m)
       more_steps d m q f ts h g k =
           let fit : can_index F (type_of F f) ts ≡ true =
           ap (λ z. indices_fit F z ts) (sym g.callee) ∙ not_not _ (base.types is w d xs m q (t.Shape.index f ts) h).matched in
           let number : are_wanted (takes_one_index (type_of F f)) (count ts) ≡ true =
-          ap (λ z. are_wanted (index_wanted z) (count ts)) (sym g.callee) ∙ not_not _ (base.types is w d xs m q (t.Shape.index f ts) h).counted in
+          ap (λ z. are_wanted (index_wanted z) (count ts)) (sym g.callee) ∙
+          not_not _ (base.types is w d xs m q (t.Shape.index f ts) h).counted in
           steps (ty_at is m) (indexing F (type_of F f) ts fit number) fit k
           (its_row is w d xs m q (t.Shape.index f ts) h ∙ ap (λ z. index_type z ts) g.callee)
 
@@ -186,21 +187,22 @@ module _ (is : List ItemTree) (arrays events : ℕ → Bool) where
           aim_local : (k : ℕ) → visible w xs x ≡ Some (ref.Local k) → is_variable F (Some (ref.Local k)) ≡ true → Aim name
           aim_local k f v =
               at_once m q (t.Shape.name x) [] (ty_at is k)
-              (subst (λ o. Placed whole found b xs (base_named whole o x) [] (sort_of (ty_at is k))) (sym (same_known (slice_get F.refs m) ∙ found_ref ∙ f))
-              (takes.in_local (names.locals xs x k f) v))
+              (subst (λ o. Placed whole found b xs (base_named whole o x) [] (sort_of (ty_at is k)))
+              (sym (same_known (slice_get F.refs m) ∙ found_ref ∙ f)) (takes.in_local (names.locals xs x k f) v))
               (its_row is w d xs m q (t.Shape.name x) h ∙ ap (name_type F) (sym h.ref ∙ found_ref ∙ f)) fit_no
-              (value_by is arrays events m q (t.Shape.name x) (Some (ref.Local k)) (found_ref ∙ f) refl refl) (keyed d m q (t.Shape.name x) h)
-              (ap (λ o. not (has_value o)) (found_ref ∙ f)) tt
+              (value_by is arrays events m q (t.Shape.name x) (Some (ref.Local k)) (found_ref ∙ f) refl refl)
+              (keyed d m q (t.Shape.name x) h) (ap (λ o. not (has_value o)) (found_ref ∙ f)) tt
 
           aim_own : (c i : ℕ) → visible w xs x ≡ Some (ref.Field c i) → Aim name
           aim_own c i f =
               let there = names.names m xs h.stands.locals x (ref.Field c i) f in
               at_once m q (t.Shape.name x) [] (field_type F c i)
-              (subst (λ o. Placed whole found b xs (base_named whole o x) [] (sort_of (field_type F c i))) (sym (same_known (slice_get F.refs m) ∙ found_ref ∙ f))
+              (subst (λ o. Placed whole found b xs (base_named whole o x) [] (sort_of (field_type F c i)))
+              (sym (same_known (slice_get F.refs m) ∙ found_ref ∙ f))
               (takes.in_own c (allows.this ∙ there.0) (slot_of is arrays events fields_agree_all quiet c i there.1)))
               (its_row is w d xs m q (t.Shape.name x) h ∙ ap (name_type F) (sym h.ref ∙ found_ref ∙ f)) fit_no
-              (value_by is arrays events m q (t.Shape.name x) (Some (ref.Field c i)) (found_ref ∙ f) refl refl) (keyed d m q (t.Shape.name x) h)
-              (ap (λ o. not (has_value o)) (found_ref ∙ f)) tt
+              (value_by is arrays events m q (t.Shape.name x) (Some (ref.Field c i)) (found_ref ∙ f) refl refl)
+              (keyed d m q (t.Shape.name x) h) (ap (λ o. not (has_value o)) (found_ref ∙ f)) tt
 
           name_by : {o : Option Ref} → visible w xs x ≡ o → is_variable F o ≡ true → Varies o → Aim name
           name_by f v (by_local {k = k}) = aim_local k f v
@@ -231,12 +233,13 @@ module _ (is : List ItemTree) (arrays events : ℕ → Bool) where
           field_row : ty_at is m ≡ field_type F c i
           field_row =
               its_row is w d xs m q (t.Shape.member (tree k o y) x) h
-              ∙ ap part_type (type_only is arrays events fields_agree_all field_names_agree quiet (refs.ref_at F.refs k) (ty_at is k) x plain)
-              ∙ ap (λ z. part_type (type_member F z x)) f ∙ ap (λ z. part_type (by_ref F (member_at c z (method_by F c x)))) fi
+              ∙ ap part_type (type_only is arrays events fields_agree_all field_names_agree quiet (refs.ref_at F.refs k) (ty_at is k) x
+              plain) ∙ ap (λ z. part_type (type_member F z x)) f ∙ ap (λ z. part_type (by_ref F (member_at c z (method_by F c x)))) fi
 
           field_placed : Placed whole found b xs (base_of whole member) (s.obj c ∷ []) (sort_of (field_type F c i))
           field_placed =
-              let named = (field_names_agree is quiet c (field_within is arrays events fields_agree_all field_names_agree quiet c x i fi)).place x i fi in
+              let named = (field_names_agree is quiet c (field_within is arrays events fields_agree_all field_names_agree quiet c x i
+              fi)).place x i fi in
               subst (λ z. Placed whole found b xs (base_member whole z) (s.obj c ∷ []) (sort_of (field_type F c i)))
               (sym (same_known (slice_get F.refs m) ∙ h.ref ∙ leads))
               (takes.in_field (slot_of is arrays events fields_agree_all quiet c i (record { tree = named.0; there = named.1 })))

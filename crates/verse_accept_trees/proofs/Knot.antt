@@ -34,7 +34,8 @@ use Rattle.verse_sorts_types.specs.SortOf.{sort_of}
 use Rattle.verse_sound_rules.specs.Found.{Allowed}
 use Rattle.verse_sound_rules.specs.Found as allowed
 use Rattle.verse_sound_rules.specs.Fine.{seen_behind, on_callee, on_member, sort_at, sorts_at, object_sort, ArmFits, IsEnumValue}
-use Rattle.verse_sound_rules.specs.Fine.{is_enum_value, Fine, FineShape, FineAll, FineClauses, FineObject, FineObjectOf, FineTrees, FineHoles, FinePairs}
+use Rattle.verse_sound_rules.specs.Fine.{is_enum_value, Fine, FineShape, FineAll, FineClauses, FineObject, FineObjectOf, FineTrees}
+use Rattle.verse_sound_rules.specs.Fine.{FineHoles, FinePairs}
 use Rattle.verse_sound_rules.specs.Fine.{FineGivens, FineEach, FineArms, FineMoreArms, FineArm, FineQuotient, FineTarget, FineSpawned}
 use Rattle.verse_accept_scopes.specs.Sites.{site, behind, all_behind}
 use Rattle.verse_accept_scopes.specs.Holding.{On, OnShape, OnPart, OnAll, OnEach, OnArguments, OnHoles, OnPairs, OnGivens}
@@ -53,7 +54,8 @@ use Rattle.verse_accept_trees.specs.Targets as targets
 use Rattle.verse_accept_trees.specs.Names.{Named}
 use Rattle.verse_accept_trees.specs.Needs.{Needs}
 use Rattle.verse_accept_trees.proofs.Nodes.{no, apart_from, IsForm, TakesForms, form_stands, stand_in, may_defer, no_generator}
-use Rattle.verse_accept_trees.proofs.Nodes.{statement_stands, clause_stands, clauses_all, some_all, two_all, holes_all, behind_is, all_behind_is}
+use Rattle.verse_accept_trees.proofs.Nodes.{statement_stands, clause_stands, clauses_all, some_all, two_all, holes_all, behind_is}
+use Rattle.verse_accept_trees.proofs.Nodes.{all_behind_is}
 use Rattle.verse_accept_trees.proofs.Rounding.{NoQuotient, callee_rounds, target_rounds, indexed_rounds, indexed_starts, indexed_path}
 
 module _ (is : List ItemTree) (arrays events : ℕ → Bool) (quiet : Quiet is) (functions : FunctionsStand is) (laws : Needs)
@@ -283,8 +285,9 @@ module _ (is : List ItemTree) (arrays events : ℕ → Bool) (quiet : Quiet is) 
 
   -- the type of an arm is that of its body
   arm_type : (n : ℕ) (p : Place) (a : Around) (xs : Table) (e : Tree) (m : ℕ) (o : Place) (s : Shape) →
-      At is w a xs n p (t.Shape.arm e (tree m o s)) → (q r : Sort) → ArmFits whole found q (needs.part is arrays events (tree n p (t.Shape.arm
-      e (tree m o s)))) r → ArmFits whole found q (needs.part is arrays events (tree m o s)) r
+      At is w a xs n p (t.Shape.arm e (tree m o s)) → (q r : Sort) →
+      ArmFits whole found q (needs.part is arrays events (tree n p (t.Shape.arm e (tree m o s)))) r →
+      ArmFits whole found q (needs.part is arrays events (tree m o s)) r
   arm_type n p a xs e m o s h q r f = subst (λ u. ArmFits whole found q (sort_of u) r) h.type f
 
   -- a member, by what its object refers to
@@ -335,8 +338,8 @@ module _ (is : List ItemTree) (arrays events : ℕ → Bool) (quiet : Quiet is) 
         ((z : Form) → f ≡ of_value z → HasValue is arrays events w a xs b n p (tree m q s) → Fine whole found b xs (tree m q s)) →
         on_callee f (λ x. GiveAt a b xs n p x operands)
         (λ x. HasObject is (tree m q s) × GiveAt a b xs n p x with_object)
-        (λ x. HasValue is arrays events w a xs b n p (tree m q s) × GiveAt a b xs n p x (needs.part is arrays events (tree m q s) ∷ operands))
-        (λ x. ⊥) →
+        (λ x. HasValue is arrays events w a xs b n p (tree m q s) ×
+        GiveAt a b xs n p x (needs.part is arrays events (tree m q s) ∷ operands)) (λ x. ⊥) →
         on_callee f (λ x. FineTrees whole found b xs ts × GiveAt a b xs n p x operands)
         (λ x. FineObject whole found b xs (tree m q s) × FineTrees whole found b xs ts × GiveAt a b xs n p x with_object)
         (λ x. Fine whole found b xs (tree m q s) × FineTrees whole found b xs ts × GiveAt a b xs n p x (sort_at whole found (tree m q s) ∷
@@ -370,8 +373,10 @@ module _ (is : List ItemTree) (arrays events : ℕ → Bool) (quiet : Quiet is) 
     -- blocks and statements
     shape_fine a b c xs n p (t.Shape.block ts) g i v h k o l =
         (all_fine true (around.freely a) b (freely c) refl xs n ts g h k, (values_at c xs n p).block ts o)
-    shape_fine a b c xs n p (t.Shape.definition x (tree m q s)) g i v h k o l =
-        (part_fine as_expression tt (around.freely a) b (freely c) refl serves_free xs n (tree m q s) g h k, (values_at c xs n p).definition x (tree m q s) o)
+    shape_fine a b c xs n p (t.Shape.definition x (tree m q s)) g i v h k o l = (
+      part_fine as_expression tt (around.freely a) b (freely c) refl serves_free xs n (tree m q s) g h k,
+      (values_at c xs n p).definition x (tree m q s) o,
+    )
     shape_fine a b c xs n p (t.Shape.typed x u (tree m q s)) g i v h k o l = (
       part_fine as_expression tt (used_as (value u) a) b (used c (value u)) refl serves_value xs n (tree m q s) g.1 h.1 k.1,
       (plain_at c xs n p).typed x u (tree m q s) o h.1.2.serves,
@@ -387,8 +392,10 @@ module _ (is : List ItemTree) (arrays events : ℕ → Bool) (quiet : Quiet is) 
       (targets_at c xs n p).assignment m e (tree j q s) o h.0,
     )
     shape_fine a b c xs n p (t.Shape.returned (tree m q s)) g i v h k o l =
-        let r = must_return a b c ((plain_at c xs n p).returned (tree m q s) o) in
-        (part_fine as_expression tt (around.freely a) b (freely c) refl serves_free xs n (tree m q s) g h k, (control_at c xs n p).returned r.0 (tree m q s) o r.1)
+        let r = must_return a b c ((plain_at c xs n p).returned (tree m q s) o) in (
+          part_fine as_expression tt (around.freely a) b (freely c) refl serves_free xs n (tree m q s) g h k,
+          (control_at c xs n p).returned r.0 (tree m q s) o r.1,
+        )
     shape_fine a b c xs n p t.Shape.returned_unit g i v h k o l =
         let r = must_return a b c ((plain_at c xs n p).returned_unit o) in
         (control_at c xs n p).returned_unit r.0 o r.1
@@ -466,10 +473,14 @@ module _ (is : List ItemTree) (arrays events : ℕ → Bool) (quiet : Quiet is) 
       part_fine as_expression tt (around.freely a) b (freely c) refl serves_free xs n (tree j r z) g.1 h.1 k.1,
       (values_at c xs n p).compared x (tree m q s) (tree j r z) o,
     )
-    shape_fine a b c xs n p (t.Shape.minus (tree m q s)) g i v h k o l =
-        (part_fine as_expression tt (around.freely a) b (freely c) refl serves_free xs n (tree m q s) g h k, (values_at c xs n p).minus (tree m q s) o)
-    shape_fine a b c xs n p (t.Shape.query (tree m q s)) g i v h k o l =
-        (part_fine as_expression tt (around.freely a) b (freely c) refl serves_free xs n (tree m q s) g h k, (values_at c xs n p).query (tree m q s) o)
+    shape_fine a b c xs n p (t.Shape.minus (tree m q s)) g i v h k o l = (
+      part_fine as_expression tt (around.freely a) b (freely c) refl serves_free xs n (tree m q s) g h k,
+      (values_at c xs n p).minus (tree m q s) o,
+    )
+    shape_fine a b c xs n p (t.Shape.query (tree m q s)) g i v h k o l = (
+      part_fine as_expression tt (around.freely a) b (freely c) refl serves_free xs n (tree m q s) g h k,
+      (values_at c xs n p).query (tree m q s) o,
+    )
     -- members, calls, indices
     shape_fine a b c xs n p (t.Shape.member (tree m q s) x) g i v h k o l =
         member_made a b c xs n p m q s x o v (refs.ref_at (final is).refs m) refl
@@ -480,8 +491,8 @@ module _ (is : List ItemTree) (arrays events : ℕ → Bool) (quiet : Quiet is) 
         (λ d. arguments_fine a b c xs n m 0 (round_of a xs n (tree m q s) (picked ts) p _ g.0 h.0 refl d) ts g.1 h.1 k.1)
         (λ d. object_in (used_as callee a) b (used c callee) xs m q s g.0.1 d h.0.1 k.0.1)
         (λ z e d. shape_fine (used_as callee a) b (used c callee) xs m q s g.0.1 (form_stands as_expression tt s g.0.0)
-        (callee_valued a (used_as callee a) b n p (used c callee) refl refl refl xs m q s d (picked ts) z p e h.0.2) h.0.1 k.0.1 h.0.2 k.0.2)
-        (λ z d. quotient_fine a b c xs n p m ts z g.1 d h.1 k.1)
+        (callee_valued a (used_as callee a) b n p (used c callee) refl refl refl xs m q s d (picked ts) z p e h.0.2) h.0.1 k.0.1 h.0.2
+        k.0.2) (λ z d. quotient_fine a b c xs n p m ts z g.1 d h.1 k.1)
         ((callees_at c xs n p).call (tree m q s) ts o v h.0 h.1)
     shape_fine a b c xs n p (t.Shape.index (tree m q s) ts) g i v h k o l =
         index_made a b xs n p m q s ts (callee_of whole (tree m q s) form.indexing p)
@@ -534,7 +545,8 @@ module _ (is : List ItemTree) (arrays events : ℕ → Bool) (quiet : Quiet is) 
     shape_fine a b c xs n p (t.Shape.branch (tree m q s)) g i v h k o l =
         let f = (plain_at c xs n p).branch (tree m q s) o in (
           f.0,
-          part_fine as_block tt (around.armed a) (allowed.armed b) (armed c ((control_at c xs n p).untried (t.Shape.branch (tree m q s)) o refl))
+          part_fine as_block tt (around.armed a) (allowed.armed b)
+              (armed c ((control_at c xs n p).untried (t.Shape.branch (tree m q s)) o refl))
               refl serves_free xs n (tree m q s) g h k,
           f.1,
         )
@@ -547,13 +559,15 @@ module _ (is : List ItemTree) (arrays events : ℕ → Bool) (quiet : Quiet is) 
     shape_fine a b c xs n p (t.Shape.race ts) g i v h k o l =
         let f = control_at c xs n p in (
           f.waits (t.Shape.race ts) o refl,
-          each_fine (around.armed a) (allowed.armed b) (armed c (f.untried (t.Shape.race ts) o refl)) refl xs n ts g (needs.own is arrays events w a
+          each_fine (around.armed a) (allowed.armed b) (armed c (f.untried (t.Shape.race ts) o refl)) refl xs n ts g
+              (needs.own is arrays events w a
               xs b n p) (f.race ts o) h k,
         )
     shape_fine a b c xs n p (t.Shape.rush ts) g i v h k o l =
         let f = control_at c xs n p in (
           f.waits (t.Shape.rush ts) o refl,
-          each_fine (around.armed a) (allowed.armed b) (armed c (f.untried (t.Shape.rush ts) o refl)) refl xs n ts g (needs.own is arrays events w a
+          each_fine (around.armed a) (allowed.armed b) (armed c (f.untried (t.Shape.rush ts) o refl)) refl xs n ts g
+              (needs.own is arrays events w a
               xs b n p) (f.rush ts o) h k,
         )
     shape_fine a b c xs n p (t.Shape.spawn e) g i v h k o l =
@@ -580,7 +594,8 @@ module _ (is : List ItemTree) (arrays events : ℕ → Bool) (quiet : Quiet is) 
         (plain_at c xs j q).constant x (tree i r z) h.0.2,
         (naming_at c xs j q).constant x (tree i r z) h.0.2 k.0.2,
       ),
-      subst (λ ys. FineAll whole found m b ys ts) (behind_is is w n a xs (tree j q (t.Shape.definition x (tree i r z))) h.0) (all_fine m a b c u (behind w (tree j q (t.Shape.definition x (tree i r z))) xs) n ts g.1 h.1 k.1),
+      subst (λ ys. FineAll whole found m b ys ts) (behind_is is w n a xs (tree j q (t.Shape.definition x (tree i r z))) h.0)
+          (all_fine m a b c u (behind w (tree j q (t.Shape.definition x (tree i r z))) xs) n ts g.1 h.1 k.1),
     )
     all_fine m a b c u xs n (more_trees (tree j q (t.Shape.typed x y (tree i r z))) ts) g h k = (
       (
@@ -588,7 +603,8 @@ module _ (is : List ItemTree) (arrays events : ℕ → Bool) (quiet : Quiet is) 
         (naming_at c xs j q).typed_value x y (tree i r z) h.0.2 h.0.1.1.2.serves,
         (naming_at c xs j q).typed x y (tree i r z) h.0.2 k.0.2,
       ),
-      subst (λ ys. FineAll whole found m b ys ts) (behind_is is w n a xs (tree j q (t.Shape.typed x y (tree i r z))) h.0) (all_fine m a b c u (behind w (tree j q (t.Shape.typed x y (tree i r z))) xs) n ts g.1 h.1 k.1),
+      subst (λ ys. FineAll whole found m b ys ts) (behind_is is w n a xs (tree j q (t.Shape.typed x y (tree i r z))) h.0)
+          (all_fine m a b c u (behind w (tree j q (t.Shape.typed x y (tree i r z))) xs) n ts g.1 h.1 k.1),
     )
     all_fine m a b c u xs n (more_trees (tree j q (t.Shape.variable x y (tree i r z))) ts) g h k = (
       (
@@ -596,7 +612,8 @@ module _ (is : List ItemTree) (arrays events : ℕ → Bool) (quiet : Quiet is) 
         (naming_at c xs j q).variable_value x y (tree i r z) h.0.2 h.0.1.1.2.serves,
         (naming_at c xs j q).variable x y (tree i r z) h.0.2 k.0.2,
       ),
-      subst (λ ys. FineAll whole found m b ys ts) (behind_is is w n a xs (tree j q (t.Shape.variable x y (tree i r z))) h.0) (all_fine m a b c u (behind w (tree j q (t.Shape.variable x y (tree i r z))) xs) n ts g.1 h.1 k.1),
+      subst (λ ys. FineAll whole found m b ys ts) (behind_is is w n a xs (tree j q (t.Shape.variable x y (tree i r z))) h.0)
+          (all_fine m a b c u (behind w (tree j q (t.Shape.variable x y (tree i r z))) xs) n ts g.1 h.1 k.1),
     )
     all_fine m a b c u xs n (more_trees (tree j q (t.Shape.defer (tree i r z))) ts) g h k = (
       (
@@ -604,7 +621,8 @@ module _ (is : List ItemTree) (arrays events : ℕ → Bool) (quiet : Quiet is) 
         part_fine as_block tt (around.deferred a) (allowed.deferred b) (deferred c) refl serves_free xs j (tree i r z) g.0.1 h.0.1 k.0.1,
         (plain_at c xs j q).defer (tree i r z) h.0.2,
       ),
-      subst (λ ys. FineAll whole found m b ys ts) (behind_is is w n a xs (tree j q (t.Shape.defer (tree i r z))) h.0) (all_fine m a b c u (behind w (tree j q (t.Shape.defer (tree i r z))) xs) n ts g.1 h.1 k.1),
+      subst (λ ys. FineAll whole found m b ys ts) (behind_is is w n a xs (tree j q (t.Shape.defer (tree i r z))) h.0)
+          (all_fine m a b c u (behind w (tree j q (t.Shape.defer (tree i r z))) xs) n ts g.1 h.1 k.1),
     )
     all_fine m a b c u xs n (more_trees (tree j q (t.Shape.elements x e)) ts) g h k = no_generator m g.0.0
     all_fine m a b c u xs n (more_trees (tree j q (t.Shape.entries x y e)) ts) g h k = no_generator m g.0.0
@@ -612,7 +630,8 @@ module _ (is : List ItemTree) (arrays events : ℕ → Bool) (quiet : Quiet is) 
     all_fine m a b c u xs n (more_trees (tree j q s) ts) g h k = (
       shape_fine a b c xs j q s g.0.1 (statement_stands m s g.0.0 refl) (serves_valued a b c u serves_free xs j q s h.0.2) h.0.1 k.0.1 h.0.2
           k.0.2,
-      subst (λ ys. FineAll whole found m b ys ts) (behind_is is w n a xs (tree j q s) h.0) (all_fine m a b c u (behind w (tree j q s) xs) n ts g.1 h.1 k.1),
+      subst (λ ys. FineAll whole found m b ys ts) (behind_is is w n a xs (tree j q s) h.0)
+          (all_fine m a b c u (behind w (tree j q s) xs) n ts g.1 h.1 k.1),
     )
 
     -- ---- the clauses of a `for`
@@ -626,7 +645,9 @@ module _ (is : List ItemTree) (arrays events : ℕ → Bool) (quiet : Quiet is) 
         (plain_at c xs j q).constant x (tree i r z) h.0.2,
         (naming_at c xs j q).constant x (tree i r z) h.0.2 k.0.2,
       ),
-      subst (λ ys. FineClauses whole found b ys ts) (behind_is is w n a xs (tree j q (t.Shape.definition x (tree i r z))) h.0) (clauses_fine a b c u (behind w (tree j q (t.Shape.definition x (tree i r z))) xs) n ts g.1 (takes_rest (tree j q (t.Shape.definition x (tree i r z))) ts d) h.1 k.1),
+      subst (λ ys. FineClauses whole found b ys ts) (behind_is is w n a xs (tree j q (t.Shape.definition x (tree i r z))) h.0)
+          (clauses_fine a b c u (behind w (tree j q (t.Shape.definition x (tree i r z))) xs) n ts g.1
+          (takes_rest (tree j q (t.Shape.definition x (tree i r z))) ts d) h.1 k.1),
     )
     clauses_fine a b c u xs n (more_trees (tree j q (t.Shape.typed x y e)) ts) g d h k = no g.0.0
     clauses_fine a b c u xs n (more_trees (tree j q (t.Shape.variable x y e)) ts) g d h k = no g.0.0
@@ -636,25 +657,38 @@ module _ (is : List ItemTree) (arrays events : ℕ → Bool) (quiet : Quiet is) 
         part_fine as_expression tt (around.freely a) b (freely c) refl serves_free xs j (tree i r z) g.0.1 h.0.1 k.0.1,
         (naming_at c xs j q).elements x (tree i r z) h.0.2 k.0.2 (takes_first (tree j q (t.Shape.elements x (tree i r z))) ts d),
       ),
-      subst (λ ys. FineClauses whole found b ys ts) (behind_is is w n a xs (tree j q (t.Shape.elements x (tree i r z))) h.0) (clauses_fine a b c u (behind w (tree j q (t.Shape.elements x (tree i r z))) xs) n ts g.1 (takes_rest (tree j q (t.Shape.elements x (tree i r z))) ts d) h.1 k.1),
+      subst (λ ys. FineClauses whole found b ys ts) (behind_is is w n a xs (tree j q (t.Shape.elements x (tree i r z))) h.0)
+          (clauses_fine a b c u (behind w (tree j q (t.Shape.elements x (tree i r z))) xs) n ts g.1
+          (takes_rest (tree j q (t.Shape.elements x (tree i r z))) ts d) h.1 k.1),
     )
     clauses_fine a b c u xs n (more_trees (tree j q (t.Shape.entries x y (tree i r z))) ts) g d h k = (
       (
         part_fine as_expression tt (around.freely a) b (freely c) refl serves_free xs j (tree i r z) g.0.1 h.0.1 k.0.1,
-        (naming_at c xs j q).entries x y (tree i r z) h.0.2 k.0.2.0 k.0.2.1 (takes_first (tree j q (t.Shape.entries x y (tree i r z))) ts d) k.0.2.2,
+        (naming_at c xs j q).entries x y (tree i r z) h.0.2 k.0.2.0 k.0.2.1 (takes_first (tree j q (t.Shape.entries x y (tree i r z))) ts d)
+            k.0.2.2,
       ),
-      subst (λ ys. FineClauses whole found b ys ts) (behind_is is w n a xs (tree j q (t.Shape.entries x y (tree i r z))) h.0) (clauses_fine a b c u (behind w (tree j q (t.Shape.entries x y (tree i r z))) xs) n ts g.1 (takes_rest (tree j q (t.Shape.entries x y (tree i r z))) ts d) h.1 k.1),
+      subst (λ ys. FineClauses whole found b ys ts) (behind_is is w n a xs (tree j q (t.Shape.entries x y (tree i r z))) h.0)
+          (clauses_fine a b c u (behind w (tree j q (t.Shape.entries x y (tree i r z))) xs) n ts g.1
+          (takes_rest (tree j q (t.Shape.entries x y (tree i r z))) ts d) h.1 k.1),
     )
     clauses_fine a b c u xs n (more_trees (tree j q (t.Shape.range x (tree i r z) (tree l y s))) ts) g d h k = (
       (
-        (part_fine as_expression tt (around.freely a) b (freely c) refl serves_free xs j (tree i r z) g.0.1.0 h.0.1.0 k.0.1.0, part_fine as_expression tt (around.freely a) b (freely c) refl serves_free xs j (tree l y s) g.0.1.1 h.0.1.1 k.0.1.1),
-        (naming_at c xs j q).range x (tree i r z) (tree l y s) h.0.2 k.0.2 (takes_first (tree j q (t.Shape.range x (tree i r z) (tree l y s))) ts d),
+        (
+          part_fine as_expression tt (around.freely a) b (freely c) refl serves_free xs j (tree i r z) g.0.1.0 h.0.1.0 k.0.1.0,
+          part_fine as_expression tt (around.freely a) b (freely c) refl serves_free xs j (tree l y s) g.0.1.1 h.0.1.1 k.0.1.1,
+        ),
+        (naming_at c xs j q).range x (tree i r z) (tree l y s) h.0.2 k.0.2
+            (takes_first (tree j q (t.Shape.range x (tree i r z) (tree l y s))) ts d),
       ),
-      subst (λ ys. FineClauses whole found b ys ts) (behind_is is w n a xs (tree j q (t.Shape.range x (tree i r z) (tree l y s))) h.0) (clauses_fine a b c u (behind w (tree j q (t.Shape.range x (tree i r z) (tree l y s))) xs) n ts g.1 (takes_rest (tree j q (t.Shape.range x (tree i r z) (tree l y s))) ts d) h.1 k.1),
+      subst (λ ys. FineClauses whole found b ys ts) (behind_is is w n a xs (tree j q (t.Shape.range x (tree i r z) (tree l y s))) h.0)
+          (clauses_fine a b c u (behind w (tree j q (t.Shape.range x (tree i r z) (tree l y s))) xs) n ts g.1
+          (takes_rest (tree j q (t.Shape.range x (tree i r z) (tree l y s))) ts d) h.1 k.1),
     )
     clauses_fine a b c u xs n (more_trees (tree j q s) ts) g d h k = (
-      shape_fine a b c xs j q s g.0.1 (clause_stands s g.0.0 refl) (serves_valued a b c u serves_free xs j q s h.0.2) h.0.1 k.0.1 h.0.2 k.0.2,
-      subst (λ ys. FineClauses whole found b ys ts) (behind_is is w n a xs (tree j q s) h.0) (clauses_fine a b c u (behind w (tree j q s) xs) n ts g.1 (takes_rest (tree j q s) ts d) h.1 k.1),
+      shape_fine a b c xs j q s g.0.1 (clause_stands s g.0.0 refl) (serves_valued a b c u serves_free xs j q s h.0.2) h.0.1 k.0.1 h.0.2
+          k.0.2,
+      subst (λ ys. FineClauses whole found b ys ts) (behind_is is w n a xs (tree j q s) h.0)
+          (clauses_fine a b c u (behind w (tree j q s) xs) n ts g.1 (takes_rest (tree j q s) ts d) h.1 k.1),
     )
 
     -- ---- operands
@@ -678,25 +712,32 @@ module _ (is : List ItemTree) (arrays events : ℕ → Bool) (quiet : Quiet is) 
     holes_fine : (a : Around) (b : Allowed) (c : Here a b) (xs : Table) (n : ℕ) (hs : Holes) → AllHoles hs →
         OnHoles (Found is) w n (around.freely a) xs hs → OnHoles Named w n (around.freely a) xs hs → FineHoles whole found b xs hs
     holes_fine a b c xs n no_holes g h k = tt
-    holes_fine a b c xs n (more_holes e x hs) g h k =
-        (part_fine as_expression tt (around.freely a) b (freely c) refl serves_free xs n e g.0 h.0 k.0, holes_fine a b c xs n hs g.1 h.1 k.1)
+    holes_fine a b c xs n (more_holes e x hs) g h k = (
+      part_fine as_expression tt (around.freely a) b (freely c) refl serves_free xs n e g.0 h.0 k.0,
+      holes_fine a b c xs n hs g.1 h.1 k.1,
+    )
 
     pairs_fine : (a : Around) (b : Allowed) (c : Here a b) (xs : Table) (n : ℕ) (ps : t.Pairs) → PairsShaped ps →
         OnPairs (Found is) w n (around.freely a) xs ps → OnPairs Named w n (around.freely a) xs ps → FinePairs whole found b xs ps
     pairs_fine a b c xs n t.Pairs.no_pairs g h k = tt
-    pairs_fine a b c xs n (t.Pairs.more_pairs e f ps) g h k =
-        (part_fine as_expression tt (around.freely a) b (freely c) refl serves_free xs n e g.0 h.0 k.0, part_fine as_expression tt (around.freely a) b (freely c) refl serves_free xs n f g.1 h.1 k.1, pairs_fine a b c xs n ps g.2 h.2 k.2)
+    pairs_fine a b c xs n (t.Pairs.more_pairs e f ps) g h k = (
+      part_fine as_expression tt (around.freely a) b (freely c) refl serves_free xs n e g.0 h.0 k.0,
+      part_fine as_expression tt (around.freely a) b (freely c) refl serves_free xs n f g.1 h.1 k.1,
+      pairs_fine a b c xs n ps g.2 h.2 k.2,
+    )
 
     givens_fine : (a : Around) (b : Allowed) (c : Here a b) (xs : Table) (n : ℕ) (gs : Givens) → GivensShaped gs →
         OnGivens (Found is) w n (around.freely a) xs gs → OnGivens Named w n (around.freely a) xs gs → FineGivens whole found b xs gs
     givens_fine a b c xs n no_givens g h k = tt
-    givens_fine a b c xs n (more_givens x e gs) g h k =
-        (part_fine as_expression tt (around.freely a) b (freely c) refl serves_free xs n e g.0 h.0 k.0, givens_fine a b c xs n gs g.1 h.1 k.1)
+    givens_fine a b c xs n (more_givens x e gs) g h k = (
+      part_fine as_expression tt (around.freely a) b (freely c) refl serves_free xs n e g.0 h.0 k.0,
+      givens_fine a b c xs n gs g.1 h.1 k.1,
+    )
 
     -- the arguments of a callee that is neither Floor nor Ceil
     arguments_fine : (a : Around) (b : Allowed) (c : Here a b) (xs : Table) (n f i : ℕ) →
-        is_round (refs.ref_at (final is).refs f) ≡ false → (ts : Trees) → AllShaped as_expression ts → OnArguments (Found is) w n a xs f i ts →
-        OnArguments Named w n a xs f i ts → FineTrees whole found b xs ts
+        is_round (refs.ref_at (final is).refs f) ≡ false → (ts : Trees) → AllShaped as_expression ts →
+        OnArguments (Found is) w n a xs f i ts → OnArguments Named w n a xs f i ts → FineTrees whole found b xs ts
     arguments_fine a b c xs n f i r no_trees g h k = tt
     arguments_fine a b c xs n f i r (more_trees e ts) g h k = (
       part_fine as_expression tt (used_as (argument f i) a) b (used c (argument f i)) refl (serves_argument r) xs n e g.0 h.0 k.0,
@@ -753,7 +794,8 @@ module _ (is : List ItemTree) (arrays events : ℕ → Bool) (quiet : Quiet is) 
     quotient_fine a b c xs n p m ts f g d h k = absurd d
 
     spawned_fine : (a : Around) (b : Allowed) (c : Here a b) (xs : Table) (n : ℕ) (p : Place) (e : Tree) → Shaped as_expression e →
-        P n (used_as spawned a) xs e → N n (used_as spawned a) xs e → Starts is arrays events w a xs b n p e → FineSpawned whole found b xs n e
+        P n (used_as spawned a) xs e → N n (used_as spawned a) xs e → Starts is arrays events w a xs b n p e →
+        FineSpawned whole found b xs n e
     spawned_fine a b c xs n p (tree m q (t.Shape.call (tree i y z) ts)) g h k r =
         started_made a b xs n p i y z ts (callee_of whole (tree i y z) (form.picking None) q)
         (λ d. arguments_fine (used_as spawned a) b (used c spawned) xs m i 0
@@ -772,7 +814,8 @@ module _ (is : List ItemTree) (arrays events : ℕ → Bool) (quiet : Quiet is) 
         (object_valued (used_as object a) b (used c object) refl xs i r z h.1.2 f) h.1.1 k.1.1 h.1.2 k.1.2
     target_fine a b c xs n (tree m q (t.Shape.index e ts)) g s f h k = (
       target_fine (around.indexed a) b (used c (around.indexed_use a.used)) xs m e g.1.0 s f h.1.0 k.1.0,
-      arguments_fine a b c xs m (number_of_tree e) 0 (target_rounds is arrays events w (around.indexed a) xs m e h.1.0 s) ts g.1.1 h.1.1 k.1.1,
+      arguments_fine a b c xs m (number_of_tree e) 0 (target_rounds is arrays events w (around.indexed a) xs m e h.1.0 s) ts g.1.1 h.1.1
+          k.1.1,
     )
     target_fine a b c xs n (tree m q s) g e f h k = no e
 

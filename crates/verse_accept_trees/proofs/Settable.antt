@@ -70,7 +70,8 @@ pub data Indexing : Ty → Trees → Type 0 where
   of_array : {u : Ty} {ts : Trees} → One ts → Indexing (ty.array u) ts
   of_map : {l u : Ty} {ts : Trees} → One ts → Indexing (ty.mapping l u) ts
 
-pub indexing : (f : Facts) (u : Ty) (ts : Trees) → can_index f u ts ≡ true → are_wanted (takes_one_index u) (count ts) ≡ true → Indexing u ts
+pub indexing : (f : Facts) (u : Ty) (ts : Trees) → can_index f u ts ≡ true → are_wanted (takes_one_index u) (count ts) ≡ true →
+    Indexing u ts
 indexing f ty.never ts i w = of_nothing
 indexing f (ty.array u) ts i w = of_array (one ts w)
 indexing f (ty.mapping l u) ts i w = of_map (one ts w)

@@ -58,8 +58,8 @@ module _ (is : List ItemTree) (arrays events : ℕ → Bool) (w : World) (a : Ar
         (target_sorts whole (sorted is) e ++ sort_of (type_of F f) ∷ []) (sort_of (ty_at is n))
     gives place =
         gives_by is arrays events b xs n p e place
-        (λ some. caught is arrays events w a xs b allows n p (t.Shape.assignment m e f) h (place.ends some)) m (type_of F e) (type_of F f) refl
-        (guarded (not (is_item F e)) (can_assign (all_classes is) m (type_of F e) (type_of F f))
+        (λ some. caught is arrays events w a xs b allows n p (t.Shape.assignment m e f) h (place.ends some)) m (type_of F e) (type_of F f)
+        refl (guarded (not (is_item F e)) (can_assign (all_classes is) m (type_of F e) (type_of F f))
         (base.types is w a xs n p (t.Shape.assignment m e f) h).matched (ap not place.no_item))
         (its_row is w a xs n p (t.Shape.assignment m e f) h)
 

@@ -34,17 +34,22 @@ module _ (is : List ItemTree) where
     HasObjectIn (t.Shape.index e ts) = HasObject e
     HasObjectIn x = Unit {0}
 
-module _ (is : List ItemTree) (arrays events : ℕ → Bool) (w : World) (a : Around) (xs : Table) (b : Allowed) (n : ℕ) (p : Place) where
+module _ (is : List ItemTree) (arrays events : ℕ → Bool) (w : World) (a : Around) (xs : Table)
+    (b : Allowed) (n : ℕ) (p : Place) where
   pub record Targets : Type 0 where
     -- a name, a member, or indices behind one
-    pub settable : (m : Assign) (e f : Tree) → Is is arrays events w a xs b n p (t.Shape.assignment m e f) → can_be_set (final is) e ≡ true
-    pub object : (m : Assign) (e f : Tree) → Is is arrays events w a xs b n p (t.Shape.assignment m e f) →
+    pub settable : (m : Assign) (e f : Tree) →
+        Is is arrays events w a xs b n p (t.Shape.assignment m e f) → can_be_set (final is) e ≡ true
+    pub object : (m : Assign) (e f : Tree) →
+        Is is arrays events w a xs b n p (t.Shape.assignment m e f) →
         OnPart (Found is) w n (used_as around.target a) xs e → HasObject is e
-    pub assignment : (m : Assign) (e f : Tree) → Is is arrays events w a xs b n p (t.Shape.assignment m e f) →
+    pub assignment : (m : Assign) (e f : Tree) →
+        Is is arrays events w a xs b n p (t.Shape.assignment m e f) →
         OnPart (Found is) w n (used_as around.target a) xs e →
         Give is arrays events w a xs b n p (form.storing (base_of (program is arrays events) e) (mode_of m) p)
         (target_sorts (program is arrays events) (sorted is) e ++ part is arrays events f ∷ [])
 
 abbrev pub TargetsNeed : Type 0
-TargetsNeed = (is : List ItemTree) → Quiet is → (arrays events : ℕ → Bool) (w : World) (a : Around) (xs : Table) (b : Allowed) →
+TargetsNeed = (is : List ItemTree) → Quiet is →
+    (arrays events : ℕ → Bool) (w : World) (a : Around) (xs : Table) (b : Allowed) →
     Allows is w a b → Names is w → (n : ℕ) (p : Place) → Targets is arrays events w a xs b n p

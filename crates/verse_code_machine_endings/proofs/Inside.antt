@@ -23,17 +23,22 @@ use Rattle.verse_meaning_state.specs.Turns.{Kind, sync, race, rush}
 use Rattle.verse_meaning_state.specs.Effects.{Effect, still, variable_made, object_made, event_made, slot_read, slot_written, line_printed}
 use Rattle.verse_meaning_state.specs.Effects.{event_of, task_of, signal_sent}
 use Rattle.verse_code_machine.specs.Tasks as t
-use Rattle.verse_code_machine.specs.Tasks.{Life, Handler, Frame, Note, to, gone, Role, root, part, Who, Part, did, runs, Rest, asleep, group}
-use Rattle.verse_code_machine.specs.Tasks.{Thread, thread, Task, After, resuming, closing, finishing, Up, begins, branching, spawning, clearing}
-use Rattle.verse_code_machine.specs.Tasks.{Trees, World, world, Step, Next, Over, Turn, onto, among, same_path, since, beneath_arms, waits_of}
-use Rattle.verse_code_machine.specs.Frames.{on_top, on_two, on_many, on_there, only_where, fits, goes, failing, faulting, answered, answered_to}
+use Rattle.verse_code_machine.specs.Tasks.{Life, Handler, Frame, Note, to, gone, Role, root, part, Who, Part, did, runs, Rest, asleep}
+use Rattle.verse_code_machine.specs.Tasks.{group}
+use Rattle.verse_code_machine.specs.Tasks.{Thread, thread, Task, After, resuming, closing, finishing, Up, begins, branching, spawning}
+use Rattle.verse_code_machine.specs.Tasks.{clearing}
+use Rattle.verse_code_machine.specs.Tasks.{Trees, World, world, Step, Next, Over, Turn, onto, among, same_path, since, beneath_arms}
+use Rattle.verse_code_machine.specs.Tasks.{waits_of}
+use Rattle.verse_code_machine.specs.Frames.{on_top, on_two, on_many, on_there, only_where, fits, goes, failing, faulting, answered}
+use Rattle.verse_code_machine.specs.Frames.{answered_to}
 use Rattle.verse_code_machine.specs.Frames.{enters, method_of, free, nothing, clean, kept_defers, kept_noted, put}
 use Rattle.verse_code_machine.specs.Cancelling.{world_without, cancelled, on_deferred, clears_frames, clears, cancels}
 use Rattle.verse_code_machine.specs.Ends.{all_did, first_did, tupled, or_stands, grouped, next_arm, arm_did, rested, suspends, is_run}
 use Rattle.verse_code_machine.specs.Ends.{with_did, joined, climbs, part_ends, root_ends, role_ends, ends_role, ends, returns_role, returns}
 use Rattle.verse_code_machine.specs.Ends.{follows, cleared, is_asleep, woken, woken_in}
 use Rattle.verse_code_machine.specs.Acts.{Taken, ended, takes, unfit, taken_from, takes_step, place_at, mode_of, kind_of, paired, on_domain}
-use Rattle.verse_code_machine.specs.Acts.{on_int, awaits, spawns, labels, after_arms, groups, on_noted, on_defer, on_note, frame, unary, binary}
+use Rattle.verse_code_machine.specs.Acts.{on_int, awaits, spawns, labels, after_arms, groups, on_noted, on_defer, on_note, frame, unary}
+use Rattle.verse_code_machine.specs.Acts.{binary}
 use Rattle.verse_code_machine.specs.Acts.{collects, leaves, on_handler, act}
 use Rattle.verse_code_machine_endings.specs.Endings.{IsInner}
 

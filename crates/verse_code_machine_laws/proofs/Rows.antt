@@ -1,7 +1,8 @@
 -- The rows, computed.
 use Rattle.std.proofs.Common.{◌≡◌, refl}
 use Rattle.std.specs.Fmt.{digits}
-use Rattle.verse_code_machine_laws.specs.Rows.{ValuesRun, CellsRun, AttemptsRun, CallsRun, DomainsRun, DeferredRun, TasksRun, CancellingRuns}
+use Rattle.verse_code_machine_laws.specs.Rows.{ValuesRun, CellsRun, AttemptsRun, CallsRun, DomainsRun, DeferredRun, TasksRun}
+use Rattle.verse_code_machine_laws.specs.Rows.{CancellingRuns}
 
 pub values_run : ValuesRun
 unfolding digits

@@ -38,7 +38,8 @@ function n m k = record { params = n; locals = m; entry = k; suspends = true }
 abbrev pub class : ℕ → List ℕ → Class
 class n fs = record { slots = n; methods = fs }
 
--- a code of functions, classes and operations, with two texts and two places; Main is its first function
+-- a code of functions, classes and operations, with two texts and two places; Main is its first
+-- function
 abbrev pub code : List Func → List Class → List Op → Code
 code fs cs ops = record {
   files = 1;

@@ -29,21 +29,24 @@ use Rattle.verse_meaning_state.specs.Waits.{never, done, heard, after, ltn, nth}
 use Rattle.verse_meaning_state.specs.Turns.{Kind}
 use Rattle.verse_meaning_state.specs.Effects.{Effect, still, added, slot_read, changed, slot_written, printed, printed_by, line_told}
 use Rattle.verse_meaning_state.specs.Effects.{text_printed, line_printed, event_of, class_of, task_of, signal_sent}
-use Rattle.verse_code_machine.specs.Tasks.{Life, Handler, Frame, Note, to, gone, Who, thread, World, Step, Next, Over, Machine, machine, world}
+use Rattle.verse_code_machine.specs.Tasks.{Life, Handler, Frame, Note, to, gone, Who, thread, World, Step, Next, Over, Machine, machine}
+use Rattle.verse_code_machine.specs.Tasks.{world}
 use Rattle.verse_code_machine.specs.Tasks.{branching, child_named, life_from, root_named}
 use Rattle.verse_code_machine.specs.Frames.{on_top, on_two, on_many, on_there, only_where, put, fits, goes, failing, faulting, answered}
 use Rattle.verse_code_machine.specs.Frames.{answered_to, enters, method_of, taking, classed, free, kept_defers, kept_noted}
 use Rattle.verse_code_machine.specs.Cancelling.{clears_frames}
 use Rattle.verse_code_machine.specs.Ends.{cleared}
 use Rattle.verse_code_machine.specs.Acts.{place_at, mode_of, kind_of, paired, Taken, ended, takes, unfit, taken_from, takes_step, on_domain}
-use Rattle.verse_code_machine.specs.Acts.{on_int, awaits, spawns, labels, after_arms, groups, on_noted, on_defer, on_note, frame, unary, binary}
+use Rattle.verse_code_machine.specs.Acts.{on_int, awaits, spawns, labels, after_arms, groups, on_noted, on_defer, on_note, frame, unary}
+use Rattle.verse_code_machine.specs.Acts.{binary}
 use Rattle.verse_code_machine.specs.Acts.{collects, leaves, on_handler, act}
 use Rattle.verse_code_machine.specs.Runs.{step}
 use Rattle.verse_code_machine_saved.specs.Numbers.{life_as, handler_as, handlers_as, frames_as, who_as, world_as, machine_as}
 use Rattle.verse_code_machine_saved.specs.Numbers.{OperationRenumbered}
 use Rattle.verse_code_machine_saved.proofs.Settings.{Setting, S, Is, memory_is, signal_is, entry_is, WorldIs, others, Same, over, plain}
 use Rattle.verse_code_machine_saved.proofs.Settings.{all_world}
-use Rattle.verse_code_machine_saved.proofs.Ends.{spending_same, resumes_same, frames_same, next_same, suspends_same, ends_same, returns_same}
+use Rattle.verse_code_machine_saved.proofs.Ends.{spending_same, resumes_same, frames_same, next_same, suspends_same, ends_same}
+use Rattle.verse_code_machine_saved.proofs.Ends.{returns_same}
 use Rattle.verse_code_machine_saved.proofs.Ends.{cleared_same, new_child}
 
 next_at : (w v : Who) (o : World) (s : State) (k j : Life) (ls : List Val) (q : ℕ) (bl : List Frame) → w ≡ v → k ≡ j →
@@ -148,7 +151,8 @@ module _ (k : Setting) where
       subst (λ n. Both (line_told bytes s) (cond (nat_le (n + length (line_bytes s.clock.now bytes)) MOST_TRACE_BYTES) (gives (
         unit,
         with_line (S k s) l,
-      )) (error kind.Trace))) (sym (counted s h)) (line_at (nat_le (printed_by s + length (line_bytes s.clock.now bytes)) MOST_TRACE_BYTES) l s h)
+      )) (error kind.Trace))) (sym (counted s h))
+      (line_at (nat_le (printed_by s + length (line_bytes s.clock.now bytes)) MOST_TRACE_BYTES) l s h)
 
   text_both : (bytes : Option (List ℕ)) (s : State) → Is k s → Both (text_printed bytes s) (text_printed bytes (S k s))
   text_both None s h = none_both
@@ -292,12 +296,14 @@ module _ (k : Setting) where
   int_same (tuple vs) s q p l = over k
 
   goes_same : (y : Who) (o : World) (s u : State) (g : Life) (ls st : List Val) (q : ℕ) (hs : List Handler) (bl : List Frame) → Is k u →
-      WorldIs k o → Same k (goes y o s u g ls st q hs bl) (goes (who_as k.prior.numbers y) (world_as k.prior o) (S k s) (S k u) (life_as k.prior.numbers y.path g) ls st q
+      WorldIs k o → Same k (goes y o s u g ls st q hs bl)
+      (goes (who_as k.prior.numbers y) (world_as k.prior o) (S k s) (S k u) (life_as k.prior.numbers y.path g) ls st q
       (handlers_as k.prior y.path hs) (frames_as k.prior y.path bl))
   goes_same y o s u g ls st q hs bl h b = only_same _ _ s _ _ (fits_same y.path hs q) (record { is = refl; holds = (h, b) })
 
   failing_same : (y : Who) (o : World) (s : State) (ls : List Val) (hs : List Handler) (bl : List Frame) → Is k s → WorldIs k o →
-      Same k (failing y o s ls hs bl) (failing (who_as k.prior.numbers y) (world_as k.prior o) (S k s) ls (handlers_as k.prior y.path hs) (frames_as k.prior y.path bl))
+      Same k (failing y o s ls hs bl) (failing (who_as k.prior.numbers y) (world_as k.prior o) (S k s) ls (handlers_as k.prior y.path hs)
+      (frames_as k.prior y.path bl))
   failing_same y o s ls (a ∷ hs) bl h b = goes_same y o s (restored a.memory s) a.life ls a.stack a.label hs bl (memory_is k a.memory s h) b
   failing_same y o s ls [] [] h b = over k
   failing_same y o s ls [] (f ∷ bl) h b = failing_same y o s f.locals f.handlers bl h b
@@ -375,7 +381,8 @@ module _ (k : Setting) (y : Who) (x : World) (s : State) (g : Life) (pc : ℕ) (
   }))
 
   awaits_here : (q : Option (Option Given)) (entry : ℕ) (ls st : List Val) →
-      Same k (awaits q entry (thread y (frame g ls st (suc pc) hs) bl) x s) (awaits q entry (thread Y (frame (As g) ls st (suc pc) HS) BL) X U)
+      Same k (awaits q entry (thread y (frame g ls st (suc pc) hs) bl) x s)
+      (awaits q entry (thread Y (frame (As g) ls st (suc pc) HS) BL) X U)
   awaits_here None entry ls st = over k
   awaits_here (Some None) entry ls st = suspends_same k (done entry) (thread y (frame g ls st (suc pc) hs) bl) x s z i
   awaits_here (Some (Some v)) entry ls st = resumes_same k (thread y (frame g ls st (suc pc) hs) bl) v.value x s z i
@@ -419,8 +426,9 @@ module _ (k : Setting) (y : Who) (x : World) (s : State) (g : Life) (pc : ℕ) (
 
   note_here : (t : Note) (ns : List Note) (ls st : List Val) →
       Same k (on_note t (λ q. goes y x s s (record g { noted = ns }) ls st q hs bl) (clears_frames (λ s. cleared x.ups x.pre x.post
-      x.trees s) y x s (frame (record g { noted = ns }) ls st pc hs ∷ bl))) (on_note t (λ q. goes Y X U U (record (As g) { noted = ns }) ls st
-      q HS BL) (clears_frames (λ s. cleared X.ups X.pre X.post X.trees s) Y X U (frame (record (As g) { noted = ns }) ls st pc HS ∷ BL)))
+      x.trees s) y x s (frame (record g { noted = ns }) ls st pc hs ∷ bl)))
+      (on_note t (λ q. goes Y X U U (record (As g) { noted = ns }) ls st q HS BL)
+      (clears_frames (λ s. cleared X.ups X.pre X.post X.trees s) Y X U (frame (record (As g) { noted = ns }) ls st pc HS ∷ BL)))
   note_here (to q) ns ls st = goes_here s (record g { noted = ns }) ls st q z
   note_here gone ns ls st =
       frames_same k (cleared x.ups x.pre x.post x.trees) (cleared X.ups X.pre X.post X.trees) y x s (frame (record g { noted = ns }) ls
@@ -428,8 +436,9 @@ module _ (k : Setting) (y : Who) (x : World) (s : State) (g : Life) (pc : ℕ) (
 
   noted_here : (ns : List Note) (ls st : List Val) →
       Same k (on_noted ns s (λ t ns. on_note t (λ q. goes y x s s (record g { noted = ns }) ls st q hs bl) (clears_frames (λ s. cleared
-      x.ups x.pre x.post x.trees s) y x s (frame (record g { noted = ns }) ls st pc hs ∷ bl)))) (on_noted ns U (λ t ns. on_note t (λ q. goes Y X
-      U U (record (As g) { noted = ns }) ls st q HS BL) (clears_frames (λ s. cleared X.ups X.pre X.post X.trees s) Y X U (frame (record (As g) {
+      x.ups x.pre x.post x.trees s) y x s (frame (record g { noted = ns }) ls st pc hs ∷ bl))))
+      (on_noted ns U (λ t ns. on_note t (λ q. goes Y X U U (record (As g) { noted = ns }) ls st q HS BL)
+      (clears_frames (λ s. cleared X.ups X.pre X.post X.trees s) Y X U (frame (record (As g) {
         noted = ns;
       }) ls st pc HS ∷ BL))))
   noted_here [] ls st = over k
@@ -442,9 +451,10 @@ module _ (k : Setting) (y : Who) (x : World) (s : State) (g : Life) (pc : ℕ) (
   handler_here (h ∷ js) go go' f = f h js
 
   branch_here : (u : ℕ) → u < k.bound → Is k (stepped u s) → (l : ℕ) (ls st : List Val) →
-      Same k (Next (machine (child_named y u) (world x.pre x.post (branching (thread y (frame g ls st l hs) bl) ∷ x.ups) x.trees) (stepped u s)
-      (life_from u) ls [] (suc pc) [] [])) (Next (machine (child_named Y u) (world X.pre X.post (branching (thread Y (frame (As g) ls st l HS)
-      BL) ∷ X.ups) X.trees) (stepped u U) (life_from u) ls [] (suc pc) [] []))
+      Same k (Next (machine (child_named y u) (world x.pre x.post (branching (thread y (frame g ls st l hs) bl) ∷ x.ups) x.trees)
+      (stepped u s) (life_from u) ls [] (suc pc) [] []))
+      (Next (machine (child_named Y u) (world X.pre X.post (branching (thread Y (frame (As g) ls st l HS) BL) ∷ X.ups) X.trees)
+      (stepped u U) (life_from u) ls [] (suc pc) [] []))
   branch_here u h z l ls st = record {
     is = next_at _ _ _ _ _ _ _ _ _ (new_child k y u h) (born_here (y.path ++ u ∷ []) u h);
     holds = (z, others k i.pre i.post (tt, i.ups) i.before i.behind);
@@ -486,37 +496,67 @@ module _ (k : Setting) (y : Who) (x : World) (s : State) (g : Life) (pc : ℕ) (
   act_same c o.Length ls st = unary_here length_of None ls st
   act_same c (o.New p) ls st = top_same k st s _ _ (λ a st. answered_here (place_at c p) _ _ ls st (added_both k _ _ s z))
   act_same c (o.Load m) ls st = top_same k st s _ _ (λ a st. answered_here None _ _ ls st (read_both k m a s z))
-  act_same c (o.Store m j kd p) ls st = top_same k st s _ _ (λ a st. many_same k j st [] s _ _ (λ path st. top_same k st s _ _ (λ w st. answered_here (place_at c p) _ _ ls st (written_both k m path (mode_of kd) a w s z))))
-  act_same c (o.Object m p) ls st = there_same k (slice_get c.classes m) s _ _ (λ (q : Class). many_same k q.slots st [] s _ _ (λ vs st. answered_here (place_at c p) _ _ ls st (added_both k _ _ s z)))
+  act_same c (o.Store m j kd p) ls st = top_same k st s _ _
+      (λ a st. many_same k j st [] s _ _ (λ path st. top_same k st s _ _
+      (λ w st. answered_here (place_at c p) _ _ ls st (written_both k m path (mode_of kd) a w s z))))
+  act_same c (o.Object m p) ls st = there_same k (slice_get c.classes m) s _ _
+      (λ (q : Class). many_same k q.slots st [] s _ _ (λ vs st. answered_here (place_at c p) _ _ ls st (added_both k _ _ s z)))
   act_same c (o.Event p) ls st = answered_here (place_at c p) _ _ ls st (added_both k _ _ s z)
   act_same c (o.Jump l) ls st = goes_here s g ls st l z
   act_same c (o.Same l) ls st = two_same k st s _ _ (λ a d st. goes_here s g ls st _ z)
-  act_same c (o.Again l) ls st = only_same k _ _ s _ _ (fits_same k y.path hs l) (spending_same k s _ _ z (λ u e z. record { is = refl; holds = (z, i) }))
-  act_same c (o.Try l) ls st = goes_same k y x s s g ls [] (suc pc) (record { made = pc; label = l; stack = st; memory = s.memory; life = g } ∷ hs) bl z i
+  act_same c (o.Again l) ls st = only_same k _ _ s _ _ (fits_same k y.path hs l)
+      (spending_same k s _ _ z (λ u e z. record { is = refl; holds = (z, i) }))
+  act_same c (o.Try l) ls st = goes_same k y x s s g ls [] (suc pc)
+      (record { made = pc; label = l; stack = st; memory = s.memory; life = g } ∷ hs) bl z i
   act_same c o.Commit ls st = handler_here hs _ _ (λ h hs. goes_same k y x s s g ls (st ++ h.stack) (suc pc) hs bl z i)
-  act_same c o.Undo ls st = handler_here hs _ _ (λ h hs. goes_same k y x s (restored h.memory s) g ls (st ++ h.stack) (suc pc) hs bl (memory_is k h.memory s z) i)
+  act_same c o.Undo ls st = handler_here hs _ _
+      (λ h hs. goes_same k y x s (restored h.memory s) g ls (st ++ h.stack) (suc pc) hs bl (memory_is k h.memory s z) i)
   act_same c o.Fail ls st = failing_same k y x s ls hs bl z i
-  act_same c (o.Call m) ls st = there_same k (slice_get c.functions m) s _ _ (λ (q : Func). many_same k q.params st [] s _ _ (λ vs st. enters_here q vs ls st))
-  act_same c (o.Method m j) ls st = many_same k j st [] s _ _ (λ vs st. top_same k st s _ _ (λ a st. there_as k _ _ s _ _ (method_same k c m j a s) (λ q. enters_here q (a ∷ vs) ls st)))
+  act_same c (o.Call m) ls st = there_same k (slice_get c.functions m) s _ _
+      (λ (q : Func). many_same k q.params st [] s _ _ (λ vs st. enters_here q vs ls st))
+  act_same c (o.Method m j) ls st = many_same k j st [] s _ _
+      (λ vs st. top_same k st s _ _ (λ a st. there_as k _ _ s _ _ (method_same k c m j a s) (λ q. enters_here q (a ∷ vs) ls st)))
   act_same c o.Return ls st = top_same k st s _ _ (λ a st. only_same k _ _ s _ _ refl (returns_same k y x g.born a s hs bl path z i))
-  act_same c (o.Each l) ls st = top_same k st s _ _ (λ a st. domain_same k a s _ _ (there_same k (put ls l a) s _ _ (λ ls. there_same k (put ls (suc l) (int (pos 0))) s _ _ (λ ls. goes_here s g ls st (suc pc) z))))
-  act_same c (o.Range l) ls st = two_same k st s _ _ (λ a d st. int_same k a s _ _ (int_same k d s _ _ (there_same k (put ls l a) s _ _ (λ ls. there_same k (put ls (suc l) d) s _ _ (λ ls. goes_here s g ls st (suc pc) z)))))
-  act_same c (o.Take l d m) ls st = there_same k (nth ls l) s _ _ (λ a. there_same k (nth ls (suc l)) s _ _ (λ w. there_same k (nth ls d) s _ _ (λ q. there_same k (nth ls (suc d)) s _ _ (λ r. takes_here (taken_from a w) l d m ls st))))
-  act_same c (o.Append l p) ls st = top_same k st s _ _ (λ a st. there_same k (nth ls l) s _ _ (λ w. into_here (place_at c p) l (append_of w a) ls st))
+  act_same c (o.Each l) ls st = top_same k st s _ _
+      (λ a st. domain_same k a s _ _ (there_same k (put ls l a) s _ _
+      (λ ls. there_same k (put ls (suc l) (int (pos 0))) s _ _ (λ ls. goes_here s g ls st (suc pc) z))))
+  act_same c (o.Range l) ls st = two_same k st s _ _
+      (λ a d st. int_same k a s _ _ (int_same k d s _ _
+      (there_same k (put ls l a) s _ _ (λ ls. there_same k (put ls (suc l) d) s _ _ (λ ls. goes_here s g ls st (suc pc) z)))))
+  act_same c (o.Take l d m) ls st = there_same k (nth ls l) s _ _
+      (λ a. there_same k (nth ls (suc l)) s _ _ (λ w. there_same k (nth ls d) s _ _
+      (λ q. there_same k (nth ls (suc d)) s _ _ (λ r. takes_here (taken_from a w) l d m ls st))))
+  act_same c (o.Append l p) ls st = top_same k st s _ _
+      (λ a st. there_same k (nth ls l) s _ _ (λ w. into_here (place_at c p) l (append_of w a) ls st))
   act_same c (o.Print p) ls st = top_same k st s _ _ (λ a st. answered_here (place_at c p) _ _ ls st (printed_both k a s z))
-  act_same c (o.Sleep m) ls st = only_same k _ _ s _ _ (free_same k y.path hs g.noted bl) (suspends_same k (after m s) (thread y (frame g ls st (suc pc) hs) bl) x s z i)
-  act_same c o.Forever ls st = only_same k _ _ s _ _ (free_same k y.path hs g.noted bl) (suspends_same k never (thread y (frame g ls st (suc pc) hs) bl) x s z i)
-  act_same c o.AwaitTask ls st = only_same k _ _ s _ _ (free_same k y.path hs g.noted bl) (top_same k st s _ _ (λ a st. there_same k (task_of a) s _ _ (λ entry. awaits_here (nth s.clock.results entry) entry ls st)))
-  act_same c o.AwaitEvent ls st = only_same k _ _ s _ _ (free_same k y.path hs g.noted bl) (top_same k st s _ _ (λ a st. there_as k _ _ s _ _ (event_same k a s) (λ w. suspends_same k (heard w) (thread y (frame g ls st (suc pc) hs) bl) x s z i)))
-  act_same c o.Signal ls st = only_same k _ _ s _ _ (free_same k y.path hs g.noted bl) (two_same k st s _ _ (λ a w st. answered_here None _ _ ls st (subst (λ e. Both k (signal_sent (event_of a s) w s) (signal_sent e w U)) (sym (event_same k a s)) (sent_both k (event_of a s) w s z))))
-  act_same c (o.Spawn m) ls st = only_same k _ _ s _ _ (free_same k y.path hs g.noted bl) (there_same k (slice_get c.functions m) s _ _ (λ (q : Func). many_same k q.params st [] s _ _ (λ vs st. spawns_here q vs ls st)))
-  act_same c (o.SpawnMethod m j) ls st = only_same k _ _ s _ _ (free_same k y.path hs g.noted bl) (many_same k j st [] s _ _ (λ vs st. top_same k st s _ _ (λ a st. there_as k _ _ s _ _ (method_same k c m j a s) (λ q. spawns_here q (a ∷ vs) ls st))))
-  act_same c (o.Group kd m p) ls st = only_same k _ _ s _ _ (free_same k y.path hs g.noted bl) (there_same k (place_at c p) s _ _ (λ q. there_same k (labels c.ops (suc pc) m) s _ _ (λ ks. groups_here (kind_of kd) q ks (after_arms (suc pc) m) ls st)))
+  act_same c (o.Sleep m) ls st = only_same k _ _ s _ _ (free_same k y.path hs g.noted bl)
+      (suspends_same k (after m s) (thread y (frame g ls st (suc pc) hs) bl) x s z i)
+  act_same c o.Forever ls st = only_same k _ _ s _ _ (free_same k y.path hs g.noted bl)
+      (suspends_same k never (thread y (frame g ls st (suc pc) hs) bl) x s z i)
+  act_same c o.AwaitTask ls st = only_same k _ _ s _ _ (free_same k y.path hs g.noted bl)
+      (top_same k st s _ _ (λ a st. there_same k (task_of a) s _ _ (λ entry. awaits_here (nth s.clock.results entry) entry ls st)))
+  act_same c o.AwaitEvent ls st = only_same k _ _ s _ _ (free_same k y.path hs g.noted bl)
+      (top_same k st s _ _ (λ a st. there_as k _ _ s _ _ (event_same k a s)
+      (λ w. suspends_same k (heard w) (thread y (frame g ls st (suc pc) hs) bl) x s z i)))
+  act_same c o.Signal ls st = only_same k _ _ s _ _ (free_same k y.path hs g.noted bl)
+      (two_same k st s _ _ (λ a w st. answered_here None _ _ ls st
+      (subst (λ e. Both k (signal_sent (event_of a s) w s) (signal_sent e w U)) (sym (event_same k a s))
+      (sent_both k (event_of a s) w s z))))
+  act_same c (o.Spawn m) ls st = only_same k _ _ s _ _ (free_same k y.path hs g.noted bl)
+      (there_same k (slice_get c.functions m) s _ _ (λ (q : Func). many_same k q.params st [] s _ _ (λ vs st. spawns_here q vs ls st)))
+  act_same c (o.SpawnMethod m j) ls st = only_same k _ _ s _ _ (free_same k y.path hs g.noted bl)
+      (many_same k j st [] s _ _ (λ vs st. top_same k st s _ _
+      (λ a st. there_as k _ _ s _ _ (method_same k c m j a s) (λ q. spawns_here q (a ∷ vs) ls st))))
+  act_same c (o.Group kd m p) ls st = only_same k _ _ s _ _ (free_same k y.path hs g.noted bl)
+      (there_same k (place_at c p) s _ _ (λ q. there_same k (labels c.ops (suc pc) m) s _ _
+      (λ ks. groups_here (kind_of kd) q ks (after_arms (suc pc) m) ls st)))
   act_same c (o.Arm l) ls st = over k
-  act_same c (o.Branch l) ls st = only_same k _ _ s _ _ (free_same k y.path hs g.noted bl) (spending_same k s _ _ z (λ u h z. branch_here u h z l ls st))
+  act_same c (o.Branch l) ls st = only_same k _ _ s _ _ (free_same k y.path hs g.noted bl)
+      (spending_same k s _ _ z (λ u h z. branch_here u h z l ls st))
   act_same c o.ArmEnd ls st = top_same k st s _ _ (λ a st. only_same k _ _ s _ _ refl (ends_same k y x g.born a s hs bl path z i))
   act_same c (o.Defer l) ls st = goes_here s _ ls st l z
-  act_same c (o.Leave m) ls st = only_same k _ _ s _ _ refl (only_same k _ _ s _ _ (ap (λ k. not (ltn m k)) (defers_same k y.path hs)) (leaves_here (ltn m (length g.defers)) ls st))
+  act_same c (o.Leave m) ls st = only_same k _ _ s _ _ refl
+      (only_same k _ _ s _ _ (ap (λ k. not (ltn m k)) (defers_same k y.path hs)) (leaves_here (ltn m (length g.defers)) ls st))
   act_same c o.DeferEnd ls st = only_same k _ _ s _ _ (ap (λ k. ltn k (length g.noted)) (noted_same k y.path hs)) (noted_here g.noted ls st)
 
 pub steps_same : (k : Setting) (c : Code) (x : Machine) → k.IsPath x.who.path → Is k x.state → WorldIs k x.world →

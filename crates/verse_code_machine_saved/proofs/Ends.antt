@@ -1,5 +1,6 @@
 -- What tasks do with one another, they do in the other run too.
-use Rattle.std.proofs.Common.{◌≡◌, ℕ, zero, suc, ◌<◌, List, [], ◌∷◌, ◌++◌, Option, Some, None, Bool, true, false, cond, refl, sym, ap, ◌∙◌, subst, arith}
+use Rattle.std.proofs.Common.{◌≡◌, ℕ, zero, suc, ◌<◌, List, [], ◌∷◌, ◌++◌, Option, Some, None, Bool, true, false, cond, refl, sym, ap, ◌∙◌}
+use Rattle.std.proofs.Common.{subst, arith}
 use Rattle.verse_base.specs.declared.places.Place.{Place}
 use Rattle.verse_value.specs.Val.{Val, unit, task}
 use Rattle.verse_value.specs.Answer.{Answer, gives, fails, error, stuck}
@@ -8,17 +9,22 @@ use Rattle.verse_value.specs.declared.runs.Ending.TheVariants as ending
 use Rattle.verse_meaning_state.specs.State.{State, spending, stepped, with_result, drawn}
 use Rattle.verse_meaning_state.specs.Waits.{Wait, Cause, waiting, has, eqn}
 use Rattle.verse_meaning_state.specs.Turns.{Kind, sync, race, rush}
-use Rattle.verse_code_machine.specs.Tasks.{Handler, Frame, Role, root, part, Who, Part, did, runs, Rest, asleep, group, Thread, thread, Task}
-use Rattle.verse_code_machine.specs.Tasks.{After, resuming, closing, finishing, Up, begins, branching, spawning, clearing, Trees, World, world}
-use Rattle.verse_code_machine.specs.Tasks.{Step, Next, Over, Turn, onto, among, planted, waits_of, child_named, machine, life_from, waits_with}
+use Rattle.verse_code_machine.specs.Tasks.{Handler, Frame, Role, root, part, Who, Part, did, runs, Rest, asleep, group, Thread, thread}
+use Rattle.verse_code_machine.specs.Tasks.{Task}
+use Rattle.verse_code_machine.specs.Tasks.{After, resuming, closing, finishing, Up, begins, branching, spawning, clearing, Trees, World}
+use Rattle.verse_code_machine.specs.Tasks.{world}
+use Rattle.verse_code_machine.specs.Tasks.{Step, Next, Over, Turn, onto, among, planted, waits_of, child_named, machine, life_from}
+use Rattle.verse_code_machine.specs.Tasks.{waits_with}
 use Rattle.verse_code_machine.specs.Cancelling.{world_without, cancelled, on_deferred, clears_frame, clears_frames, clears, cancels}
 use Rattle.verse_code_machine.specs.Frames.{behind}
-use Rattle.verse_code_machine.specs.Ends.{resumes, all_did, first_did, tupled, or_stands, grouped, next_arm, arm_did, rested, suspends, is_run}
+use Rattle.verse_code_machine.specs.Ends.{resumes, all_did, first_did, tupled, or_stands, grouped, next_arm, arm_did, rested, suspends}
+use Rattle.verse_code_machine.specs.Ends.{is_run}
 use Rattle.verse_code_machine.specs.Ends.{with_did, joined, climbs, part_ends, root_ends, role_ends, ends_role, ends, returns_role, returns}
 use Rattle.verse_code_machine.specs.Ends.{follows, cleared, is_asleep, woken, woken_in}
 use Rattle.verse_code_machine.specs.Runs.{Forest}
 use Rattle.verse_code_machine_saved.specs.Numbers.{Numbering, Prior, WakingRenumbered, path_as, handlers_as, frame_as, frames_as, who_as}
-use Rattle.verse_code_machine_saved.specs.Numbers.{thread_as, parts_as, rest_as, task_as, tasks_as, trees_as, after_as, ups_as, world_as, SameTest}
+use Rattle.verse_code_machine_saved.specs.Numbers.{thread_as, parts_as, rest_as, task_as, tasks_as, trees_as, after_as, ups_as, world_as}
+use Rattle.verse_code_machine_saved.specs.Numbers.{SameTest}
 use Rattle.verse_code_machine_saved.proofs.Numbers.{cancelled_as, since_as, arms_as, path_end, same_as, eqn_number, path_is}
 use Rattle.verse_code_machine_saved.proofs.Settings.{Setting, S, Is, steps_is, draws_is, result_is, RestIs, TreesAre, WorldIs, Others}
 use Rattle.verse_code_machine_saved.proofs.Settings.{others, Same, over, onto_are, trees_are, without_are, plain, all_trees}
@@ -258,7 +264,8 @@ module _ (k : Setting) where
       (grouped d p hs (thread_as Z y.thread) (world_as Z (world pre post [] trees)) (T s) (λ y. rested (y ∷ tasks_as Z pre) (tasks_as Z
       post) [] (world_as Z (world pre post [] trees)).trees (T s)))) (sym (with_same y.thread.who.path n v gs))
       (grouped_same d p (with_did n v gs) y.thread (world pre post [] trees) s _ _ h b
-      (λ q c. rested_same [] (record { thread = y.thread; rest = q } ∷ pre) post trees s h (others k (c, b.pre) b.post tt b.before b.behind))))
+      (λ q c. rested_same [] (record { thread = y.thread; rest = q } ∷ pre) post trees s h
+      (others k (c, b.pre) b.post tt b.before b.behind))))
       (turn_same pre (y ∷ post) trees s h (others k b.pre (a, b.post) tt b.before b.behind))
 
   climbs_same : (up : List ℕ) (n : ℕ) (v : Val) (pre post : List Task) (trees : Trees) (s : State) → Is k s → Others k pre post [] trees →

@@ -31,7 +31,8 @@ on_step (Turn s tss) = tt
 abbrev Either : State → Forest → (a b : Stage Forest) → Type 0
 Either s tss a b = (a ≡ closed ending.Until s tss) ⊎ ((a ≡ b) × IsOn a)
 
-module _ (go : Due → State → Stage Forest) (on : (d : Due) (s : State) → IsOn (go d s)) (u v : ℕ) (le : u ≤ v) (s : State) (tss : Forest) where
+module _ (go : Due → State → Stage Forest) (on : (d : Due) (s : State) → IsOn (go d s)) (u v : ℕ) (le : u ≤ v) (s : State)
+    (tss : Forest) where
   spent_on : (left : ℕ) (d : Due) → IsOn (spending left s (closed ending.Steps s tss) (λ s. go d (at_moment d.given.moment s)))
   spent_on zero d = λ e. grind (arith, e)
   spent_on (suc left) d = on d (at_moment d.given.moment (stepped left s))
@@ -137,7 +138,8 @@ joined take (suc k) j (amiss s) = stays take j (amiss s) tt ∙ sym (stays take 
 pub goes_more : (c : Code) (steps u v k : ℕ) → u ≤ v → (g : Stage Forest) (s : State) (tss : Forest) → IsOn g →
     IsOver (turns (turn_taken c steps v) (suc steps) g) → turns (turn_taken c steps u) k g ≡ closed ending.Until s tss →
     after_from c steps v s tss ≡ turns (turn_taken c steps v) (suc steps) g
-goes_more c steps u v k le g s tss o over e = end (stood (turn_taken c steps u) (turn_taken c steps v) (turn_either c steps u v le) k g s tss o e)
+goes_more c steps u v k le g s tss o over e =
+    end (stood (turn_taken c steps u) (turn_taken c steps v) (turn_either c steps u v le) k g s tss o e)
   where
     take : State → Forest → Stage Forest
     take = turn_taken c steps v
@@ -145,15 +147,16 @@ goes_more c steps u v k le g s tss o over e = end (stood (turn_taken c steps u) 
     end : Stood (turn_taken c steps v) k g s tss → after_from c steps v s tss ≡ turns (turn_taken c steps v) (suc steps) g
     end r =
         ap (turns (turn_taken c steps v) (suc steps)) (sym r.is) ∙ joined (turn_taken c steps v) r.turns_before (suc steps) g ∙
-        ap (λ n. turns (turn_taken c steps v) n g) (swap r.turns_before) ∙ sym (joined (turn_taken c steps v) (suc steps) r.turns_before g) ∙
-        over_turns (turn_taken c steps v) r.turns_before _ over
+        ap (λ n. turns (turn_taken c steps v) n g) (swap r.turns_before) ∙
+        sym (joined (turn_taken c steps v) (suc steps) r.turns_before g) ∙ over_turns (turn_taken c steps v) r.turns_before _ over
       where
         swap : (n : ℕ) → n + suc steps ≡ suc steps + n
         swap n = omega arith
 
 pub horizon_moves : RunsEnd → HorizonMoves
 horizon_moves runs_end c ns steps u v s tss valid le e =
-    ap (run_of tree_waits) (goes_more c steps u v (suc steps) le (started c ns steps) s tss (on_step _) (runs_end c ns steps v valid).over e)
+    ap (run_of tree_waits) (goes_more c steps u v (suc steps) le (started c ns steps) s tss (on_step _) (runs_end c ns steps v valid).over
+    e)
 
 pub horizon_moves_again : HorizonMovesAgain
 horizon_moves_again c steps u v s t tss uss le over e =

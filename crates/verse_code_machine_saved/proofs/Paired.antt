@@ -5,7 +5,8 @@ use Rattle.verse_meaning_state.specs.State.{State}
 use Rattle.verse_code_machine.specs.Tasks.{Note, Handler, Frame, Role, Who, Part, did, runs, Rest, asleep, group, Thread, Task}
 use Rattle.verse_code_machine.specs.Runs.{Forest}
 use Rattle.verse_code_machine_saved.specs.Numbers.{Numbering, Prior, Pairs, beside, turned, spread, path_from, path_as, parts_as}
-use Rattle.verse_code_machine_saved.specs.Numbers.{rest_as, who_as, handlers_as, frame_as, frames_as, thread_as, task_as, tasks_as, trees_as}
+use Rattle.verse_code_machine_saved.specs.Numbers.{rest_as, who_as, handlers_as, frame_as, frames_as, thread_as, task_as, tasks_as}
+use Rattle.verse_code_machine_saved.specs.Numbers.{trees_as}
 use Rattle.verse_code_machine_saved.specs.Numbers.{renumbered}
 use Rattle.verse_code_machine_saved.specs.Resuming.{prior}
 use Rattle.verse_code_machine_saved.specs.Pairing.{IsPair, PathsPaired, WhoPaired, FramePaired, FramesPaired, ThreadPaired, PartPaired}

@@ -1,5 +1,6 @@
 -- At a horizon no wait that is left is due.
-use Rattle.std.proofs.Common.{◌≡◌, ℕ, zero, suc, ◌<◌, List, [], ◌∷◌, Option, Some, None, Bool, true, false, cond, nat_lt, refl, arith, subst}
+use Rattle.std.proofs.Common.{◌≡◌, ℕ, zero, suc, ◌<◌, List, [], ◌∷◌, Option, Some, None, Bool, true, false, cond, nat_lt, refl, arith}
+use Rattle.std.proofs.Common.{subst}
 use Rattle.std.proofs.lemmas.Bool.Decides.{nat_tests}
 use Rattle.verse_value.specs.declared.runs.Ending.TheVariants as ending
 use Rattle.verse_meaning_state.specs.State.{State, Given, Signal, spending, at_moment}
@@ -28,8 +29,8 @@ sooner_behind m n g (Some d) h =
     at (nat_lt d.given.moment g.moment) (nat_lt g.moment d.given.moment) (nat_lt d.number n) refl refl h
   where
     at : (a b c : Bool) → nat_lt d.given.moment g.moment ≡ a → nat_lt g.moment d.given.moment ≡ b →
-        DueBehind m (cond a (Some d) (cond b (Some (record { number = n; given = g })) (cond c (Some d) (Some (record { number = n; given = g }))))) →
-        (m < g.moment) × (m < d.given.moment)
+        DueBehind m (cond a (Some d) (cond b (Some (record { number = n; given = g }))
+        (cond c (Some d) (Some (record { number = n; given = g }))))) → (m < g.moment) × (m < d.given.moment)
     at true b c e f h = (grind (arith, nat_tests, e, h), h)
     at false true c e f h = (h, grind (arith, nat_tests, f, h))
     at false false true e f h = (grind (arith, nat_tests, e, f, h), h)
@@ -55,7 +56,8 @@ first_by m (g ∷ gs) e n l h = at (eqn e g.event) (ltn n g.next) (first_by m gs
     at true false f h = f h
     at false b f h = f h
 
-given_by_then : (m : ℕ) (rs : List (Option Given)) (e : ℕ) → NoResultLater m rs → Behind m (given_by (nth rs e)) → given_by (nth rs e) ≡ None
+given_by_then : (m : ℕ) (rs : List (Option Given)) (e : ℕ) → NoResultLater m rs → Behind m (given_by (nth rs e)) →
+    given_by (nth rs e) ≡ None
 given_by_then m [] e l h = refl
 given_by_then m (None ∷ rs) zero l h = refl
 given_by_then m (Some g ∷ rs) zero l h = absurd (omega (arith, h, l.0))

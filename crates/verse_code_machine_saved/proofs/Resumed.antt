@@ -15,7 +15,8 @@ use Rattle.verse_code_machine.specs.Runs.{Forest, carried, room, stage_of, turn_
 use Rattle.verse_code_machine.specs.Laws.{IsOver, RunsEnd}
 use Rattle.verse_code_machine_saved.specs.Horizons.{NoLater, NoResultLater, NoneNewer, Unheard, Undone, Stopped, after_from, run_from}
 use Rattle.verse_code_machine_saved.specs.Numbers.{Numbering, state_as, step_as, trees_as, renumbered}
-use Rattle.verse_code_machine_saved.specs.Resuming.{apart, behind, prior, SameTrees, Within, RunResumed, RunResumedAgain, ResumedRunEnds, StepsKept}
+use Rattle.verse_code_machine_saved.specs.Resuming.{apart, behind, prior, SameTrees, Within, RunResumed, RunResumedAgain, ResumedRunEnds}
+use Rattle.verse_code_machine_saved.specs.Resuming.{StepsKept}
 use Rattle.verse_code_machine_saved.proofs.Horizons.{on_step, goes_more, horizon_moves, horizon_moves_again, stopped_turn, stopped_again}
 use Rattle.verse_code_machine_saved.proofs.Reached.{none_reached}
 use Rattle.verse_code_machine_saved.proofs.Settings.{Setting, Keeping, StepIs, Same, all_trees, others, steps_is}
@@ -39,7 +40,8 @@ none_last m [] a = tt
 none_last m (None ∷ rs) a = none_last m rs a
 none_last m (Some g ∷ rs) a = (a.0, none_last m rs a.1)
 
-set_later : (m : ℕ) (rs : List (Option Given)) (e : ℕ) (g : Given) → g.moment ≤ m → NoResultLater m rs → NoResultLater m (set_at rs e (Some g))
+set_later : (m : ℕ) (rs : List (Option Given)) (e : ℕ) (g : Given) → g.moment ≤ m → NoResultLater m rs →
+    NoResultLater m (set_at rs e (Some g))
 set_later m [] e g h a = tt
 set_later m (None ∷ rs) zero g h a = (h, a)
 set_later m (Some x ∷ rs) zero g h a = (h, a.1)
@@ -152,7 +154,8 @@ resumed : (c : Code) (steps v : ℕ) (s : State) (tss uss : Forest) → SameTree
     Unheard s.clock.signals (tree_waits tss) → behind s.memory.trace (run_from c steps v (apart s) uss) ≡ run_from c steps v s tss
 resumed c steps v s tss uss m newer unheard =
     let z = prior m.other s in
-    sym (run_behind c steps v z (apart s) uss m.other_rises m.other_fixed refl newer (subst (Unheard s.clock.signals) (same_waits s tss uss m) unheard)) ∙
+    sym (run_behind c steps v z (apart s) uss m.other_rises m.other_fixed refl newer
+    (subst (Unheard s.clock.signals) (same_waits s tss uss m) unheard)) ∙
     ap (λ u. run_from c steps v u (trees_as z uss)) (whole m.other s) ∙ ap (run_from c steps v s) (sym m.meet) ∙
     run_renumbered_to c steps v s tss m.own m.own_rises m.own_fixed
 

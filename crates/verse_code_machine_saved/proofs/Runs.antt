@@ -1,5 +1,6 @@
 -- A run is the same with other numbers, and behind signals and lines of before.
-use Rattle.std.proofs.Common.{◌≡◌, ℕ, zero, suc, ◌≤◌, length, List, [], ◌∷◌, ◌++◌, Option, Some, None, Bool, true, false, cond, nat_lt, refl, sym, ap}
+use Rattle.std.proofs.Common.{◌≡◌, ℕ, zero, suc, ◌≤◌, length, List, [], ◌∷◌, ◌++◌, Option, Some, None, Bool, true, false, cond, nat_lt}
+use Rattle.std.proofs.Common.{refl, sym, ap}
 use Rattle.std.proofs.Common.{◌∙◌, subst, arith}
 use Rattle.std.proofs.lemmas.Bool.Decides.{nat_tests}
 use Rattle.verse_code.specs.declared.codes.Code.{Code}
@@ -136,7 +137,8 @@ module _ (k : Setting) (c : Code) (along : Along k c) where
   run_alike _ _ (both_miss {s}) = refl
 
   module _ (unheard : (w : Wait) → k.IsWait w → IsUnheard k.prior.signals w) where
-    task_unheard : (ts : List Task) (ws : List Wait) → TasksAre k ts → Unheard k.prior.signals ws → Unheard k.prior.signals (waits_of ts ++ ws)
+    task_unheard : (ts : List Task) (ws : List Wait) → TasksAre k ts → Unheard k.prior.signals ws →
+        Unheard k.prior.signals (waits_of ts ++ ws)
     task_unheard [] ws a b = b
     task_unheard (t ∷ ts) ws a b = front t.rest a.0 (task_unheard ts ws a.1 b)
       where
@@ -156,8 +158,8 @@ module _ (k : Setting) (c : Code) (along : Along k c) where
       moves_is : (m : ℕ) (s : State) → m ≤ until → Is k s → Is k (at_moment m s)
       moves_is m s e h = record { few = h.few; counts = h.counts; holds = moves m s e h.holds }
 
-      spent_alike : (left : ℕ) (s : State) (tss : Forest) (d : Due) → left ≡ s.clock.left → d.given.moment ≤ until → Is k s → TreesAre k tss →
-          along.Trees s tss →
+      spent_alike : (left : ℕ) (s : State) (tss : Forest) (d : Due) → left ≡ s.clock.left → d.given.moment ≤ until → Is k s →
+          TreesAre k tss → along.Trees s tss →
           Alike (spending left s (closed ending.Steps s tss) (λ s. wakes tss d (at_moment d.given.moment s)))
           (spending left (S k s) (closed ending.Steps (S k s) (trees_as k.prior tss)) (λ s. wakes (trees_as k.prior tss) d (at_moment
           d.given.moment s)))
@@ -210,7 +212,8 @@ first_none [] e n m h a = refl
 first_none (g ∷ gs) e n m h a =
     at (eqn e g.event) (ltn n g.next) (ltn_no n g.next (omega (arith, h, a.0))) (first_none gs e n m h a.1)
   where
-    at : (b c : Bool) → c ≡ false → first_signal gs e n ≡ None → cond b (cond c (Some g.given) (first_signal gs e n)) (first_signal gs e n) ≡ None
+    at : (b c : Bool) → c ≡ false → first_signal gs e n ≡ None →
+        cond b (cond c (Some g.given) (first_signal gs e n)) (first_signal gs e n) ≡ None
     at true c f i = ap (λ c. cond c (Some g.given) (first_signal gs e n)) f ∙ i
     at false c f i = i
 
@@ -250,8 +253,9 @@ module _ (k : Setting) (of : (w : Wait) → IsUnheard k.prior.signals w → k.Is
   trees_unheard [] h = tt
   trees_unheard (ts ∷ tss) h = let a = rests_are ts (tree_waits tss) h in (a.0, trees_unheard tss a.1)
 
-module _ (c : Code) (steps until : ℕ) (z : Prior) (s : State) (tss : Forest) (rises : Rises z.numbers) (fixed : Fixed z.numbers s.clock.left)
-    (counts : Counts z s) (newer : NoneNewer s.clock.next z.signals) (unheard : Unheard z.signals (tree_waits tss)) where
+module _ (c : Code) (steps until : ℕ) (z : Prior) (s : State) (tss : Forest) (rises : Rises z.numbers)
+    (fixed : Fixed z.numbers s.clock.left) (counts : Counts z s) (newer : NoneNewer s.clock.next z.signals)
+    (unheard : Unheard z.signals (tree_waits tss)) where
   abbrev K : Setting
   K = unheard_setting z s.clock.left s.clock.next rises fixed newer
 

@@ -5,7 +5,8 @@ use Rattle.verse_value.specs.Val.{Val}
 use Rattle.verse_value.specs.declared.runs.Ending.{Ending}
 use Rattle.verse_meaning_state.specs.State.{State, Memory, stepped, drawn, restored, with_result, signalled, with_entry}
 use Rattle.verse_meaning_state.specs.Waits.{Wait, Cause, waiting}
-use Rattle.verse_code_machine.specs.Tasks.{Rest, asleep, group, Task, Up, begins, branching, spawning, clearing, Trees, World, world, Step, Next}
+use Rattle.verse_code_machine.specs.Tasks.{Rest, asleep, group, Task, Up, begins, branching, spawning, clearing, Trees, World, world, Step}
+use Rattle.verse_code_machine.specs.Tasks.{Next}
 use Rattle.verse_code_machine.specs.Tasks.{Over, Turn, onto}
 use Rattle.verse_code_machine.specs.Cancelling.{without}
 use Rattle.verse_code_machine.specs.Runs.{Forest}

@@ -1,7 +1,8 @@
 -- Two numberings in the same order have a common one.
 use Rattle.std.proofs.Common.{◌≡◌, ℕ, ◌+◌, ◌≤◌, ◌<◌, List, [], ◌∷◌, ◌++◌, Bool, true, false, cond, nat_le, refl, sym, ap, ◌∙◌, subst, arith}
 use Rattle.std.proofs.lemmas.Bool.Decides.{nat_tests}
-use Rattle.verse_code_machine_saved.specs.Numbers.{Rises, Fixed, Pairs, AllAbove, Rising, NoneBelow, beside, turned, spread, Meeting, NumberingsMeet}
+use Rattle.verse_code_machine_saved.specs.Numbers.{Rises, Fixed, Pairs, AllAbove, Rising, NoneBelow, beside, turned, spread, Meeting}
+use Rattle.verse_code_machine_saved.specs.Numbers.{NumberingsMeet}
 
 Under : ℕ → Pairs → Type 0
 Under k [] = Unit {0}
@@ -31,7 +32,8 @@ grows : (ps : Pairs) (n m k : ℕ) → n ≤ m → Rising ps → Under k ps → 
 unfolding Under
 grows [] n m k h r u = omega arith
 grows (p ∷ ps) n m k h r u =
-    at (nat_le p.0 n) (nat_le p.0 m) refl refl (grows ps n m p.1 h r.1 (above_under p ps r.0)) (at_least ps m p.1 r.1 (above_under p ps r.0))
+    at (nat_le p.0 n) (nat_le p.0 m) refl refl (grows ps n m p.1 h r.1 (above_under p ps r.0))
+    (at_least ps m p.1 r.1 (above_under p ps r.0))
   where
     at : (b c : Bool) → nat_le p.0 n ≡ b → nat_le p.0 m ≡ c → beside n ps p.1 ≤ beside m ps p.1 → p.1 ≤ beside m ps p.1 →
         cond b (beside n ps p.1) k ≤ cond c (beside m ps p.1) k
@@ -56,8 +58,8 @@ above_of (y ∷ front) x p back a = above_of front x p back a.2
 beside_at : (front back : Pairs) (p : ℕ × ℕ) (k : ℕ) → Rising (front ++ p ∷ back) → beside p.0 (front ++ p ∷ back) k ≡ p.1
 beside_at [] back p k r = ap (λ c. cond c (beside p.0 back p.1) k) (yes p.0 p.0 (omega arith)) ∙ behind_none back p p.1 r.0
 beside_at (x ∷ front) back p k r =
-    ap (λ c. cond c (beside p.0 (front ++ p ∷ back) x.1) k) (yes x.0 p.0 (omega (arith, above_of front x p back r.0))) ∙ beside_at front back
-    p x.1 r.1
+    ap (λ c. cond c (beside p.0 (front ++ p ∷ back) x.1) k) (yes x.0 p.0 (omega (arith, above_of front x p back r.0))) ∙
+    beside_at front back p x.1 r.1
 
 turned_above : (p : ℕ × ℕ) (ps : Pairs) → AllAbove p ps → AllAbove (p.1, p.0) (turned ps)
 turned_above p [] a = tt

@@ -62,7 +62,8 @@ Undone rs [] = Unit {0}
 Undone rs (w ∷ ws) = ((entry : ℕ) → w.cause ≡ done entry → given_by (nth rs entry) ≡ None) ×
     Undone rs ws
 
--- where a run stopped at its horizon, no signal reaches a wait that is left, and none waits for a task that is over
+-- where a run stopped at its horizon, no signal reaches a wait that is left, and none waits for a
+-- task that is over
 abbrev pub NoneReached : Type 0
 NoneReached = (until : ℕ) (s t : State) (tss uss : Forest) (go : Due → State → Stage Forest) →
     ((d : Due) (s : State) → go d s ≡ closed ending.Until t uss → ⊥) →

@@ -1,13 +1,17 @@
--- A run seen from another: its tasks have other numbers, in the same order, and signals and lines stand before its own.
-use Rattle.std.specs.Prelude.{◌≡◌, ◌<◌, ◌≤◌, ◌+◌, cond, nat_le, ℕ, List, [], ◌∷◌, ◌++◌, length, Bool}
+-- A run seen from another: its tasks have other numbers, in the same order, and signals and lines
+-- stand before its own.
+use Rattle.std.specs.Prelude.{◌≡◌, ◌<◌, ◌≤◌, ◌+◌, cond, nat_le, ℕ, List, [], ◌∷◌, ◌++◌, length}
+use Rattle.std.specs.Prelude.{Bool}
 use Rattle.verse_code.specs.declared.codes.Code.{Code}
 use Rattle.verse_value.specs.Runs.{Line}
 use Rattle.verse_value.specs.Val.{Val}
 use Rattle.verse_meaning_state.specs.State.{State, Memory, Before, Signal}
 use Rattle.verse_meaning_state.specs.Effects.{printed}
 use Rattle.verse_code_machine.specs.Tasks as m
-use Rattle.verse_code_machine.specs.Tasks.{Life, Handler, Frame, Who, Part, did, runs, Rest, asleep, group, Thread, Task, After, resuming}
-use Rattle.verse_code_machine.specs.Tasks.{closing, finishing, Up, begins, branching, spawning, clearing, World, since, beneath_arms, Machine}
+use Rattle.verse_code_machine.specs.Tasks.{Life, Handler, Frame, Who, Part, did, runs, Rest, asleep}
+use Rattle.verse_code_machine.specs.Tasks.{group, Thread, Task, After, resuming}
+use Rattle.verse_code_machine.specs.Tasks.{closing, finishing, Up, begins, branching, spawning}
+use Rattle.verse_code_machine.specs.Tasks.{clearing, World, since, beneath_arms, Machine}
 use Rattle.verse_code_machine.specs.Tasks.{Step, Next, Over, Turn}
 use Rattle.verse_code_machine.specs.Cancelling.{cancelled, world_without}
 use Rattle.verse_code_machine.specs.Ends.{woken_in}
@@ -40,7 +44,13 @@ module _ (r : Numbering) where
 
   -- of a task whose path is its parent's and its number
   abbrev pub who_as : Who → Who
-  who_as w = record { path = path_as w.path; up = path_as w.up; number = r w.up w.number; role = w.role }
+  who_as w = record {
+    path = path_as w.path;
+    up = path_as w.up;
+    number = r w.up w.number;
+    role =
+        w.role;
+  }
 
   abbrev pub parts_as : List ℕ → List Part → List Part
   parts_as a [] = []
@@ -51,8 +61,8 @@ module _ (r : Numbering) where
   rest_as a (asleep w) = asleep w
   rest_as a (group k p gs) = group k p (parts_as a gs)
 
--- what the other run has beside: the numbers of its tasks, the signals and the lines before those of this run, and what was printed
--- before its trace
+-- what the other run has beside: the numbers of its tasks, the signals and the lines before those
+-- of this run, and what was printed before its trace
 pub record Prior : Type 0 where
   pub numbers : Numbering
   pub signals : List Signal
@@ -96,10 +106,19 @@ module _ (z : Prior) where
   frames_as a (f ∷ fs) = frame_as a f ∷ frames_as a fs
 
   abbrev pub thread_as : Thread → Thread
-  thread_as x = record { who = who_as z.numbers x.who; frame = frame_as x.who.path x.frame; below = frames_as x.who.path x.below }
+  thread_as x = record {
+    who = who_as z.numbers x.who;
+    frame = frame_as x.who.path x.frame;
+    below =
+        frames_as x.who.path x.below;
+  }
 
   abbrev pub task_as : Task → Task
-  task_as t = record { thread = thread_as t.thread; rest = rest_as z.numbers t.thread.who.path t.rest }
+  task_as t = record {
+    thread = thread_as t.thread;
+    rest =
+        rest_as z.numbers t.thread.who.path t.rest;
+  }
 
   abbrev pub tasks_as : List Task → List Task
   tasks_as [] = []
@@ -115,7 +134,8 @@ module _ (z : Prior) where
   after_as (finishing w entry v) = finishing (who_as z.numbers w) entry v
 
   abbrev pub up_as : Up → Up
-  up_as (begins x k p gs n ls) = begins (thread_as x) k p (parts_as z.numbers x.who.path gs) (z.numbers x.who.path n) ls
+  up_as (begins x k p gs n ls) =
+      begins (thread_as x) k p (parts_as z.numbers x.who.path gs) (z.numbers x.who.path n) ls
   up_as (branching x) = branching (thread_as x)
   up_as (spawning x entry ps qs) = spawning (thread_as x) entry (tasks_as ps) (tasks_as qs)
   up_as (clearing a ts) = clearing (after_as a) (tasks_as ts)
@@ -154,26 +174,31 @@ SameTest r f g = (x : List ℕ) → g (path_as r x) ≡ f x
 
 -- what is cancelled is so under other numbers, in the same order
 abbrev pub CancelledRenumbered : Type 0
-CancelledRenumbered = (z : Prior) (f g : List ℕ → Bool) (o : World) → Rises z.numbers → SameTest z.numbers f g →
-    (cancelled g (world_as z o) ≡ tasks_as z (cancelled f o)) × (world_without g (world_as z o) ≡ world_as z (world_without f o))
+CancelledRenumbered = (z : Prior) (f g : List ℕ → Bool) (o : World) → Rises z.numbers →
+    SameTest z.numbers f g → (cancelled g (world_as z o) ≡ tasks_as z (cancelled f o)) ×
+    (world_without g (world_as z o) ≡ world_as z (world_without f o))
 
 -- what a frame has begun, and the arms of a group
 abbrev pub SinceRenumbered : Type 0
-SinceRenumbered = (r : Numbering) (a : List ℕ) (n : ℕ) → Rises r → SameTest r (since a n) (since (path_as r a) (r a n))
+SinceRenumbered = (r : Numbering) (a : List ℕ) (n : ℕ) → Rises r →
+    SameTest r (since a n) (since (path_as r a) (r a n))
 
 abbrev pub ArmsRenumbered : Type 0
 ArmsRenumbered = (r : Numbering) (a : List ℕ) (gs : List Part) → Rises r →
     SameTest r (beneath_arms a gs) (beneath_arms (path_as r a) (parts_as r a gs))
 
--- an operation does in the other run what it does in this one, where the numbers to come are as they were
+-- an operation does in the other run what it does in this one, where the numbers to come are as
+-- they were
 abbrev pub OperationRenumbered : Type 0
-OperationRenumbered = (z : Prior) (c : Code) (x : Machine) → Rises z.numbers → Fixed z.numbers x.state.clock.left → Counts z x.state →
+OperationRenumbered = (z : Prior) (c : Code) (x : Machine) → Rises z.numbers →
+    Fixed z.numbers x.state.clock.left → Counts z x.state →
     step c (machine_as z x) ≡ step_as z (step c x)
 
 -- and so does a waking
 abbrev pub WakingRenumbered : Type 0
-WakingRenumbered = (z : Prior) (n : ℕ) (v : Val) (s : State) (tss : Forest) → Rises z.numbers → Fixed z.numbers s.clock.left →
-    Counts z s → woken_in n v [] (trees_as z tss) (state_as z s) ≡ step_as z (woken_in n v [] tss s)
+WakingRenumbered = (z : Prior) (n : ℕ) (v : Val) (s : State) (tss : Forest) → Rises z.numbers →
+    Fixed z.numbers s.clock.left → Counts z s →
+    woken_in n v [] (trees_as z tss) (state_as z s) ≡ step_as z (woken_in n v [] tss s)
 
 -- other numbers alone
 abbrev pub renumbered : Numbering → State → Prior
@@ -181,8 +206,9 @@ renumbered r s = record { numbers = r; signals = []; lines = []; before = s.cloc
 
 -- a run from trees of tasks is the same from trees with other numbers in the same order
 abbrev pub RunRenumbered : Type 0
-RunRenumbered = (c : Code) (steps until : ℕ) (s : State) (tss uss : Forest) (r q : Numbering) → Rises r → Rises q →
-    Fixed r s.clock.left → Fixed q s.clock.left → trees_as (renumbered r s) tss ≡ trees_as (renumbered q s) uss →
+RunRenumbered = (c : Code) (steps until : ℕ) (s : State) (tss uss : Forest) (r q : Numbering) →
+    Rises r → Rises q → Fixed r s.clock.left → Fixed q s.clock.left →
+    trees_as (renumbered r s) tss ≡ trees_as (renumbered q s) uss →
     run_from c steps until s tss ≡ run_from c steps until s uss
 
 -- beneath each path pairs of numbers, in both of which they rise, none below the bound
@@ -215,10 +241,12 @@ spread f a n = n + beside n (f a) 0
 
 -- both numbers of a pair come to the same one
 abbrev pub Meeting : Pairs → Type 0
-Meeting ps = (p : ℕ × ℕ) (front back : Pairs) → ps ≡ front ++ p ∷ back → p.0 + beside p.0 ps 0 ≡ p.1 + beside p.1 (turned ps) 0
+Meeting ps = (p : ℕ × ℕ) (front back : Pairs) → ps ≡ front ++ p ∷ back →
+    p.0 + beside p.0 ps 0 ≡ p.1 + beside p.1 (turned ps) 0
 
 -- two numberings in the same order have a common one
 abbrev pub NumberingsMeet : Type 0
-NumberingsMeet = (f : List ℕ → Pairs) (bound : ℕ) → ((a : List ℕ) → Rising (f a)) → ((a : List ℕ) → NoneBelow bound (f a)) →
-    (Rises (spread f) × Fixed (spread f) bound) × (Rises (spread (λ a. turned (f a))) × Fixed (spread (λ a. turned (f a))) bound) ×
+NumberingsMeet = (f : List ℕ → Pairs) (bound : ℕ) → ((a : List ℕ) → Rising (f a)) →
+    ((a : List ℕ) → NoneBelow bound (f a)) → (Rises (spread f) × Fixed (spread f) bound) ×
+    (Rises (spread (λ a. turned (f a))) × Fixed (spread (λ a. turned (f a))) bound) ×
     ((a : List ℕ) → Meeting (f a))

@@ -2,12 +2,14 @@
 use Rattle.std.specs.Prelude.{◌≡◌, ℕ, List, [], ◌∷◌, ◌++◌, Some, false, cond}
 use Rattle.verse_meaning_state.specs.State.{State}
 use Rattle.verse_meaning_state.specs.Waits.{nth}
-use Rattle.verse_code_machine.specs.Tasks.{Frame, Who, Part, did, runs, Rest, asleep, group, Thread, Task, same_path}
+use Rattle.verse_code_machine.specs.Tasks.{Frame, Who, Part, did, runs, Rest, asleep, group, Thread}
+use Rattle.verse_code_machine.specs.Tasks.{Task, same_path}
 use Rattle.verse_code_machine.specs.Runs.{Forest}
 use Rattle.verse_code_machine_saved.specs.Numbers.{Pairs, Rising, NoneBelow}
 use Rattle.verse_code_machine_saved.specs.Resuming.{SameTrees}
 
--- for each path of the first trees the pairs beneath it, and for each path of the others the one of the first
+-- for each path of the first trees the pairs beneath it, and for each path of the others the one of
+-- the first
 module _ (f : List ℕ → Pairs) (first : List ℕ → List ℕ) where
   -- beneath the path a the number n, beneath b the number m
   pub record IsPair (a b : List ℕ) (n m : ℕ) : Type 0 where
@@ -87,8 +89,9 @@ module _ (f : List ℕ → Pairs) (first : List ℕ → List ℕ) where
 
 -- such trees come to the same under two numberings, so either can be resumed
 abbrev pub TreesMeet : Type 0
-TreesMeet = (f : List ℕ → Pairs) (first : List ℕ → List ℕ) (s : State) (tss uss : Forest) → ((a : List ℕ) → Rising (f a)) →
-    ((a : List ℕ) → NoneBelow s.clock.left (f a)) → TreesPaired f first tss uss → SameTrees s tss uss
+TreesMeet = (f : List ℕ → Pairs) (first : List ℕ → List ℕ) (s : State) (tss uss : Forest) →
+    ((a : List ℕ) → Rising (f a)) → ((a : List ℕ) → NoneBelow s.clock.left (f a)) →
+    TreesPaired f first tss uss → SameTrees s tss uss
 
 -- a task's path in both, and the pairs beneath it
 pub record Entry : Type 0 where
@@ -108,7 +111,8 @@ path_at (e ∷ es) b = cond (same_path e.other b) e.path (path_at es b)
 -- no two entries have one path
 abbrev pub IsAlone : Entry → List Entry → Type 0
 IsAlone e [] = Unit {0}
-IsAlone e (d ∷ ds) = (same_path e.path d.path ≡ false) × (same_path e.other d.other ≡ false) × IsAlone e ds
+IsAlone e (d ∷ ds) = (same_path e.path d.path ≡ false) × (same_path e.other d.other ≡ false) ×
+    IsAlone e ds
 
 abbrev pub AreDistinct : List Entry → Type 0
 AreDistinct [] = Unit {0}
@@ -121,8 +125,9 @@ AreOrdered bound (e ∷ es) = Rising e.pairs × NoneBelow bound e.pairs × AreOr
 
 -- the pairs of the entry at a place are pairs
 abbrev pub TablePairs : Type 0
-TablePairs = (es : List Entry) (i : ℕ) (e : Entry) (front back : Pairs) (n m : ℕ) → AreDistinct es → nth es i ≡ Some e →
-    e.pairs ≡ front ++ (n, m) ∷ back → IsPair (pairs_at es) (path_at es) e.path e.other n m
+TablePairs = (es : List Entry) (i : ℕ) (e : Entry) (front back : Pairs) (n m : ℕ) → AreDistinct es →
+    nth es i ≡ Some e → e.pairs ≡ front ++ (n, m) ∷ back →
+    IsPair (pairs_at es) (path_at es) e.path e.other n m
 
 -- so trees whose numbers are paired by a table of their tasks are such trees
 abbrev pub TableMeets : Type 0

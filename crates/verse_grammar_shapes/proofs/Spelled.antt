@@ -15,7 +15,8 @@ use Rattle.verse_grammar.specs.Exprs as x
 use Rattle.verse_grammar.specs.declared.phrases.Phrase.{Phrase}
 use Rattle.verse_grammar_shapes.specs.ShapeLaws.{stand_of}
 use Rattle.verse_grammar_shapes.proofs.Moved.{moved, statement_part, expression_statement, expression_body, block_body, generator_clause}
-use Rattle.verse_grammar_shapes.proofs.Moved.{expression_clause, as_operand, some_more, some_all, clauses_more, holes_more, some_holes, pairs_more}
+use Rattle.verse_grammar_shapes.proofs.Moved.{expression_clause, as_operand, some_more, some_all, clauses_more, holes_more, some_holes}
+use Rattle.verse_grammar_shapes.proofs.Moved.{pairs_more}
 use Rattle.verse_grammar_shapes.proofs.Moved.{givens_more, some_written_more}
 
 mutual

@@ -6,7 +6,8 @@ use Rattle.verse_code.specs.declared.operations.Op.{Op}
 use Rattle.verse_listing_lines.specs.declared.tables.Tables.{Tables}
 use Rattle.verse_listing_lines.specs.Lines.{Pieces, pieces, with_byte}
 use Rattle.verse_listing.specs.declared.faults.Flaw.{Flaw}
-use Rattle.verse_listing.specs.Reading.{Stage, first, second, among_tables, among_operations, step, flaw, code_with, ended, on_line, read_lines}
+use Rattle.verse_listing.specs.Reading.{Stage, first, second, among_tables, among_operations, step, flaw, code_with, ended, on_line}
+use Rattle.verse_listing.specs.Reading.{read_lines}
 use Rattle.verse_listing.specs.Reading.{listing_at}
 use Rattle.verse_listing.specs.Laws.{FaultStays, FrontOf, AreLines, FrontHasNoFault}
 

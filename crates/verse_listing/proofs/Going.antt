@@ -8,7 +8,8 @@ use Rattle.verse_code.specs.declared.validity.Sizes.{Sizes}
 use Rattle.verse_listing_lines.specs.declared.faults.LineFault.{LineFault}
 use Rattle.verse_listing_lines.specs.declared.faults.LineFault.TheVariants as lines
 use Rattle.verse_listing_lines.specs.declared.tables.Tables.{Tables}
-use Rattle.verse_listing_lines.specs.Lines.{◌>>=◌, Pieces, pieces, with_byte, words, files_of, ops_of, op_of, no_tables, sizes_with, table_line_of}
+use Rattle.verse_listing_lines.specs.Lines.{◌>>=◌, Pieces, pieces, with_byte, words, files_of, ops_of, op_of, no_tables, sizes_with}
+use Rattle.verse_listing_lines.specs.Lines.{table_line_of}
 use Rattle.verse_listing_lines.specs.Answers.{with_piece, Breaks}
 use Rattle.verse_listing.specs.declared.faults.Flaw.{Flaw}
 use Rattle.verse_listing.specs.declared.faults.ReadFault.{ReadFault}
@@ -68,7 +69,8 @@ pub first_breaks : (e : LineFault) (line : List ℕ) → Breaks e (files_of (wor
 unfolding step
 first_breaks e line b = breaks_then e (files_of (words line)) (λ files. Ok (second files)) b
 
-pub second_ok : (files : ℕ) (line : List ℕ) (ops : ℕ) → ops_of (words line) ≡ Ok ops → step (second files) line ≡ Ok (among_tables files ops no_tables)
+pub second_ok : (files : ℕ) (line : List ℕ) (ops : ℕ) → ops_of (words line) ≡ Ok ops →
+    step (second files) line ≡ Ok (among_tables files ops no_tables)
 unfolding step
 second_ok files line ops e = rw e refl
 
@@ -106,8 +108,8 @@ ops_break e files count t main done sizes at line s a lt b =
 
 -- ---- the end
 
-pub ends_well : (files count : ℕ) (t : Tables) (main : ℕ) (done : List Op) (n : ℕ) (bytes : List ℕ) → length done ≡ count → length bytes ≡ 0 →
-    read_on (among_operations files count t main done) n bytes ≡ Ok (code_with files t main done)
+pub ends_well : (files count : ℕ) (t : Tables) (main : ℕ) (done : List Op) (n : ℕ) (bytes : List ℕ) → length done ≡ count →
+    length bytes ≡ 0 → read_on (among_operations files count t main done) n bytes ≡ Ok (code_with files t main done)
 unfolding read_lines ended pieces
 ends_well files count t main done n [] e z = let test : ltb (length done) count ≡ false = le-ltb _ _ (omega arith) in rw test refl
 ends_well files count t main done n (b ∷ bytes) e z = absurd (omega arith)
@@ -129,7 +131,7 @@ line_follows files count t main done n b bytes ([], c ∷ last) e h = refl
 line_follows files count t main done n b bytes (line ∷ others, last) e h =
     let test : ltb (length done) count ≡ false = le-ltb _ _ (omega arith) in rw test refl
 
-pub ends_badly : (files count : ℕ) (t : Tables) (main : ℕ) (done : List Op) (n : ℕ) (bytes : List ℕ) → length done ≡ count → 1 ≤ length bytes →
-    read_on (among_operations files count t main done) n bytes ≡ Err (flaw 1 n)
+pub ends_badly : (files count : ℕ) (t : Tables) (main : ℕ) (done : List Op) (n : ℕ) (bytes : List ℕ) → length done ≡ count →
+    1 ≤ length bytes → read_on (among_operations files count t main done) n bytes ≡ Err (flaw 1 n)
 ends_badly files count t main done n [] e z = absurd (omega arith)
 ends_badly files count t main done n (b ∷ bytes) e z = line_follows files count t main done n b bytes (pieces 10 (b ∷ bytes)) e refl

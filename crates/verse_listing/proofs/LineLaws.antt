@@ -1,5 +1,6 @@
 -- A line that gives something is written so, and what is written so gives it: the numbers and texts of lines.
-use Rattle.std.proofs.Common.{◌≡◌, ℕ, zero, suc, ◌+◌, ◌-◌, ◌*◌, ◌/◌, ◌%◌, ◌<◌, ◌≤◌, ℤ, pos, negsuc, Bool, true, false, cond, ◌&&◌, eqb, ltb, leb}
+use Rattle.std.proofs.Common.{◌≡◌, ℕ, zero, suc, ◌+◌, ◌-◌, ◌*◌, ◌/◌, ◌%◌, ◌<◌, ◌≤◌, ℤ, pos, negsuc, Bool, true, false, cond, ◌&&◌, eqb, ltb}
+use Rattle.std.proofs.Common.{leb}
 use Rattle.std.proofs.Common.{inl, inr, List, [], ◌∷◌, map, length, decimal, Option, Some, None, slice_get, Result, Ok, Err, refl, sym}
 use Rattle.std.proofs.Common.{ap, subst, ◌∙◌, arith}
 use Rattle.std.specs.Fmt.{signed_decimal}
@@ -13,7 +14,8 @@ use Rattle.verse_listing_format.specs.Names.{is_same}
 use Rattle.verse_listing_format.specs.Numbers.{Number, number_of}
 use Rattle.verse_listing_format.specs.Format.{Word, hex, hex_digit, flag, IsSizedPlace, IsNumber}
 use Rattle.verse_listing_format.proofs.NumberWords.{number_written, number_read}
-use Rattle.verse_listing_lines.specs.Lines.{◌>>=◌, given, numbers, field, only_field, fields, digit_of, bytes_of, short_text, text_of, place_of}
+use Rattle.verse_listing_lines.specs.Lines.{◌>>=◌, given, numbers, field, only_field, fields, digit_of, bytes_of, short_text, text_of}
+use Rattle.verse_listing_lines.specs.Lines.{place_of}
 use Rattle.verse_listing_lines.specs.Lines.{function_of, class_of, may_begin, main_of}
 use Rattle.verse_listing.proofs.WordLaws.{AllFit, number_words}
 
@@ -145,7 +147,8 @@ place_is files (f ∷ l ∷ c ∷ d ∷ ns) p e = absurd cc
 place_is files (f ∷ l ∷ c ∷ []) p e =
     let q = bind_ok (field 0 files f) (λ file. field 1 4294967296 l >>= λ line. field 1 4294967296 c >>= λ col.
     Ok (record { file = file; line = line; col = col })) p e in
-    let r = bind_ok (field 1 4294967296 l) (λ line. field 1 4294967296 c >>= λ col. Ok (record { file = q.0; line = line; col = col })) p q.2 in
+    let r = bind_ok (field 1 4294967296 l) (λ line. field 1 4294967296 c >>= λ col. Ok (record { file = q.0; line = line; col = col })) p
+    q.2 in
     let s = bind_ok (field 1 4294967296 c) (λ col. Ok (record { file = q.0; line = r.0; col = col })) p r.2 in
     let file = field_is 0 files q.0 f q.1 in
     let line = field_is 1 4294967296 r.0 l r.1 in
@@ -293,7 +296,8 @@ main_is functions ns main e =
     subst (λ main. (ns ≡ known (pos main ∷ [])) × IsMain functions main × (main < 4294967296)) g.1
     (n.0, main_from functions p.0 (slice_get functions p.0) refl g.0, n.2)
 
-pub main_again : (functions : List Func) (main : ℕ) → IsMain functions main → main < 4294967296 → main_of functions (known (pos main ∷ [])) ≡ Ok main
+pub main_again : (functions : List Func) (main : ℕ) → IsMain functions main → main < 4294967296 →
+    main_of functions (known (pos main ∷ [])) ≡ Ok main
 unfolding main_of
 main_again functions main h lt =
     let begins : may_begin (slice_get functions main) ≡ true = ap may_begin h.1 ∙ le-leb h.0.params 1 h.2 in
@@ -328,13 +332,16 @@ digit_again : (h : ℕ) → h < 16 → digit_of (hex_digit h) ≡ Some h
 digit_again h lt = elim (cases_lt h 10) [
   | inl low ↦
       let test : ltb h 10 ≡ true = lt-ltb _ _ low in
-      let one : (leb 48 (48 + h) && leb (48 + h) 57) ≡ true = and_from _ _ (le-leb 48 (48 + h) (omega arith)) (le-leb (48 + h) 57 (omega arith)) in
+      let one : (leb 48 (48 + h) && leb (48 + h) 57) ≡ true =
+      and_from _ _ (le-leb 48 (48 + h) (omega arith)) (le-leb (48 + h) 57 (omega arith)) in
       let back : 48 + h - 48 ≡ h = omega arith in
       rw (test, one, back) refl
   | inr high ↦
       let test : ltb h 10 ≡ false = le-ltb _ _ high in
-      let one : (leb 48 (87 + h) && leb (87 + h) 57) ≡ false = and_right (leb 48 (87 + h)) (leb (87 + h) 57) (lt-leb (87 + h) 57 (omega arith)) in
-      let two : (leb 97 (87 + h) && leb (87 + h) 102) ≡ true = and_from _ _ (le-leb 97 (87 + h) (omega arith)) (le-leb (87 + h) 102 (omega arith)) in
+      let one : (leb 48 (87 + h) && leb (87 + h) 57) ≡ false =
+      and_right (leb 48 (87 + h)) (leb (87 + h) 57) (lt-leb (87 + h) 57 (omega arith)) in
+      let two : (leb 97 (87 + h) && leb (87 + h) 102) ≡ true =
+      and_from _ _ (le-leb 97 (87 + h) (omega arith)) (le-leb (87 + h) 102 (omega arith)) in
       let back : 87 + h - 87 ≡ h = omega arith in
       rw (test, one, two, back) refl
 ]
@@ -347,7 +354,8 @@ unfolding bytes_of
 bytes_are [] text e = subst (λ text. ([] ≡ hex text) × EachByte text) (ok_is [] text e) (refl, tt)
 bytes_are (a ∷ []) text e = absurd cc
 bytes_are (a ∷ b ∷ digits) text e =
-    let p = bind_ok (given 1 (digit_of a)) (λ h. given 1 (digit_of b) >>= λ l. bytes_of digits >>= λ bytes. Ok ((h * 16 + l) ∷ bytes)) text e in
+    let p = bind_ok (given 1 (digit_of a)) (λ h. given 1 (digit_of b) >>= λ l. bytes_of digits >>= λ bytes. Ok ((h * 16 + l) ∷ bytes)) text
+    e in
     let q = bind_ok (given 1 (digit_of b)) (λ l. bytes_of digits >>= λ bytes. Ok ((p.0 * 16 + l) ∷ bytes)) text p.2 in
     let r = bind_ok (bytes_of digits) (λ bytes. Ok ((p.0 * 16 + q.0) ∷ bytes)) text q.2 in
     let high = digit_is a p.0 (given_is 1 (digit_of a) p.0 p.1) in

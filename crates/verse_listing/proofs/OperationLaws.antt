@@ -1,5 +1,6 @@
 -- A line that gives an operation is written so, and what is written so gives it.
-use Rattle.std.proofs.Common.{◌≡◌, ℕ, zero, suc, ◌+◌, ◌<◌, ℤ, pos, negsuc, Bool, true, false, cond, not, ◌&&◌, eqb, List, [], ◌∷◌, ◌++◌, length}
+use Rattle.std.proofs.Common.{◌≡◌, ℕ, zero, suc, ◌+◌, ◌<◌, ℤ, pos, negsuc, Bool, true, false, cond, not, ◌&&◌, eqb, List, [], ◌∷◌, ◌++◌}
+use Rattle.std.proofs.Common.{length}
 use Rattle.std.proofs.Common.{decimal, Option, Some, None, slice_get, Result, Ok, Err, refl, sym, ap, subst, ◌∙◌, arith}
 use Rattle.std.specs.Prelude.{unwrap_or}
 use Rattle.std.proofs.lemmas.Bool.{and_parts, and_from, eqb-true, eq-eqb}
@@ -58,7 +59,8 @@ operands_fit (os.Four a b c d) h =
 
 -- operands that were taken: of an integer its size is not known by this
 abbrev Taken : Sizes → ℕ → Operands → List Number → List Number → Type 0
-Taken sizes at xs ns rest = (ns ≡ known (operand_numbers xs) ++ rest) × (AllFit (operand_numbers xs) → AreSized xs) × (all_suit sizes at xs ≡ true)
+Taken sizes at xs ns rest = (ns ≡ known (operand_numbers xs) ++ rest) × (AllFit (operand_numbers xs) → AreSized xs) ×
+    (all_suit sizes at xs ≡ true)
 
 operand_is : (sizes : Sizes) (at : ℕ) (kind : OperandKind) (ns : List Number) (x : ℕ × List Number) → operand_at sizes at kind ns ≡ Ok x →
     (ns ≡ Some (pos x.0) ∷ x.1) × IsNumber x.0 × (suits_kind sizes at kind x.0 ≡ true)
@@ -254,7 +256,8 @@ record IsFormed (sizes : Sizes) (at : ℕ) (o : Option Form) (ns : List Number) 
   sized : AllFit (operand_numbers (filled p (shape_of form))) → AreSized (filled p (shape_of form))
   suits : all_suit sizes at (filled p (shape_of form)) ≡ true
 
-formed_is : (sizes : Sizes) (at : ℕ) (o : Option Form) (ns : List Number) (op : Op) → formed sizes at o ns ≡ Ok op → IsFormed sizes at o ns op
+formed_is : (sizes : Sizes) (at : ℕ) (o : Option Form) (ns : List Number) (op : Op) → formed sizes at o ns ≡ Ok op →
+    IsFormed sizes at o ns op
 unfolding formed
 formed_is sizes at None ns op e = absurd cc
 formed_is sizes at (Some f) ns op e =
@@ -312,7 +315,8 @@ op_is sizes at (index ∷ name ∷ ws) op e =
     let xs : operands_of op ≡ filled f.p (shape_of f.form) = ap operands_of (sym f.makes) ∙ r.1 in
     let words = numbers_read ws (operand_numbers (filled f.p (shape_of f.form))) (n.1 ∙ ap Ok f.numbers) in
     let first = number_read index (pos at) (given_is 1 (number_of index) i.0 i.1 ∙ ap Some (index_is at i.0 t.0)) in
-    let named : name ≡ name_of op = sym (ap (λ (k : ℕ). unwrap_or (slice_get names k) []) code ∙ ap (λ (o : Option Word). unwrap_or o []) c.name_at) in
+    let named : name ≡ name_of op = sym (ap (λ (k : ℕ). unwrap_or (slice_get names k) []) code ∙
+    ap (λ (o : Option Word). unwrap_or o []) c.name_at) in
     let listed : ws ≡ operands (operands_of op) = words.0 ∙ sym (operand_words (filled f.p (shape_of f.form))) ∙ ap operands (sym xs) in
     record {
       written = ap (λ (k : Word). k ∷ name ∷ ws) first.1 ∙ ap (λ (k : Word). decimal at ∷ k ∷ ws) named ∙
@@ -332,5 +336,6 @@ op_again sizes at op lt z t =
     ap numbers (operand_words (operands_of op)) ∙ numbers_written _ (operands_fit (operands_of op) z) in
     let here : eqb at at ≡ true = eq-eqb at at refl in
     let got : parts_at sizes at (shape_of f.form) (known (operand_numbers (operands_of op))) ≡ Ok (parts_for (operands_of op), []) =
-    ap (λ (z : Shape). parts_at sizes at z (known (operand_numbers (operands_of op)))) f.shaped ∙ parts_again sizes at (operands_of op) z t in
+    ap (λ (z : Shape). parts_at sizes at z (known (operand_numbers (operands_of op)))) f.shaped ∙
+    parts_again sizes at (operands_of op) z t in
     rw (index, ns, found.1, here, found.0, f.at, got, f.makes) refl

@@ -83,7 +83,8 @@ op_solid at op lt h = (
   solid_decimal at (omega arith),
   (
     solid_name op,
-    subst AreSolid (sym (operand_words (operands_of op))) (solid_numbers (operand_numbers (operands_of op)) (operands_fit (operands_of op) h)),
+    subst AreSolid (sym (operand_words (operands_of op)))
+        (solid_numbers (operand_numbers (operands_of op)) (operands_fit (operands_of op) h)),
   ),
 )
 
@@ -99,9 +100,9 @@ abbrev CanAll : {A : Type 0} → (List A → A → Type 0) → List A → List A
 CanAll Can done [] = Unit {0}
 CanAll Can done (x ∷ xs) = Can done x × CanAll Can (done ++ x ∷ []) xs
 
-runs : {A : Type 0} (line : A → Line) (stage : List A → Stage) (Can : List A → A → Type 0) (rest : List (List ℕ)) (last : List ℕ) (code : Code) →
-    ((done : List A) (x : A) → Can done x → step (stage done) (spaced (line x)) ≡ Ok (stage (done ++ x ∷ []))) → (done xs : List A) →
-    CanAll Can done xs → ((n : ℕ) → read_lines (stage (done ++ xs)) n rest last ≡ Ok code) → (n : ℕ) →
+runs : {A : Type 0} (line : A → Line) (stage : List A → Stage) (Can : List A → A → Type 0) (rest : List (List ℕ)) (last : List ℕ)
+    (code : Code) → ((done : List A) (x : A) → Can done x → step (stage done) (spaced (line x)) ≡ Ok (stage (done ++ x ∷ []))) →
+    (done xs : List A) → CanAll Can done xs → ((n : ℕ) → read_lines (stage (done ++ xs)) n rest last ≡ Ok code) → (n : ℕ) →
     read_lines (stage done) n (map spaced (map line xs) ++ rest) last ≡ Ok code
 runs line stage Can rest last code taken done [] c h n =
     subst (λ k. read_lines (stage k) n rest last ≡ Ok code) (append-nil done) (h n)
@@ -257,7 +258,8 @@ solid_map : {A : Type 0} (P : A → Type 0) (line : A → Line) (xs : List A) �
 solid_map P line [] f h = tt
 solid_map P line (x ∷ xs) f h = (is_solid_line (line x) (f x h.0), solid_map P line xs f h.1)
 
-solid_ops : (sizes : Sizes) (from : ℕ) (ops : List Op) → from + length ops ≤ 16777216 → SuitFrom sizes from ops → SolidLines (op_lines from ops)
+solid_ops : (sizes : Sizes) (from : ℕ) (ops : List Op) → from + length ops ≤ 16777216 → SuitFrom sizes from ops →
+    SolidLines (op_lines from ops)
 solid_ops sizes from [] le h = tt
 solid_ops sizes from (op ∷ ops) le h =
     (is_solid_line (op_line from op) (op_solid from op (omega arith) h.0.0), solid_ops sizes (suc from) ops (omega arith) h.1)
@@ -266,8 +268,9 @@ solid_ops sizes from (op ∷ ops) le h =
 flat : (a b c d e : List Line) →
     map spaced ((a ++ (b ++ (c ++ d))) ++ e) ≡ map spaced a ++ (map spaced b ++ (map spaced c ++ (map spaced d ++ map spaced e)))
 flat a b c d e =
-    ap (map spaced) (append_assoc a (b ++ (c ++ d)) e ∙ ap (λ k. a ++ k) (append_assoc b (c ++ d) e ∙ ap (λ k. b ++ k) (append_assoc c d e))) ∙
-    map-append spaced a (b ++ (c ++ (d ++ e))) ∙ ap (λ k. map spaced a ++ k) (map-append spaced b (c ++ (d ++ e)) ∙
+    ap (map spaced) (append_assoc a (b ++ (c ++ d)) e ∙
+    ap (λ k. a ++ k) (append_assoc b (c ++ d) e ∙ ap (λ k. b ++ k) (append_assoc c d e))) ∙ map-append spaced a (b ++ (c ++ (d ++ e))) ∙
+    ap (λ k. map spaced a ++ k) (map-append spaced b (c ++ (d ++ e)) ∙
     ap (λ k. map spaced b ++ k) (map-append spaced c (d ++ e) ∙ ap (λ k. map spaced c ++ k) (map-append spaced d e)))
 
 main_low : (code : Code) → Valid code → code.main < 4294967296
@@ -286,13 +289,14 @@ lines_solid code v r =
       (
         is_solid_line (ops_line (length code.ops)) (ops_solid (length code.ops) ops.1),
         solid_append (table_lines code.texts code.places code.functions code.classes) (main_line code.main ∷ op_lines 0 code.ops)
-            (solid_append (map text_line code.texts) (map place_line code.places ++ (map function_line code.functions ++ map class_line code.classes))
+            (solid_append (map text_line code.texts) (map place_line code.places ++
+            (map function_line code.functions ++ map class_line code.classes))
             (solid_map IsReadText text_line code.texts (λ x h. text_solid x) r.texts)
             (solid_append (map place_line code.places) (map function_line code.functions ++ map class_line code.classes)
             (solid_map (IsReadPlace code.files) place_line code.places (λ x h. place_solid code.files x files.1 h) r.places)
             (solid_append (map function_line code.functions) (map class_line code.classes)
-            (solid_map (IsFunction (length code.ops)) function_line code.functions (λ x h. function_solid (length code.ops) x ops.1 h) r.functions)
-            (solid_map (IsReadClass (length code.functions)) class_line code.classes
+            (solid_map (IsFunction (length code.ops)) function_line code.functions (λ x h. function_solid (length code.ops) x ops.1 h)
+            r.functions) (solid_map (IsReadClass (length code.functions)) class_line code.classes
             (λ x h. class_solid (length code.functions) x v.counts.functions h) r.classes)))) (
               is_solid_line (main_line code.main) (main_solid code.main (main_low code v)),
               solid_ops (sizes_of code) 0 code.ops (omega arith) r.ops,
@@ -315,7 +319,8 @@ behind_tables code v r n =
     let rest = map spaced (main_line code.main ∷ op_lines 0 code.ops) in
     let classes = class_run code.files ops code.texts code.places code.functions code.classes rest code v.counts.functions r.classes
     v.counts.classes main in
-    let functions = function_run code.files ops code.texts code.places code.functions (map spaced (map class_line code.classes) ++ rest) code
+    let functions = function_run code.files ops code.texts code.places code.functions (map spaced (map class_line code.classes) ++ rest)
+    code
     v.counts.ops.1 r.functions v.counts.functions classes in
     let places = place_run code.files ops code.texts code.places
     (map spaced (map function_line code.functions) ++ (map spaced (map class_line code.classes) ++ rest)) code v.counts.files.1 r.places

@@ -12,12 +12,14 @@ use Rattle.verse_code.specs.declared.validity.Sizes.{Sizes}
 use Rattle.verse_code.specs.Operations.{operands_of}
 use Rattle.verse_code.specs.Validity.{IsText, IsPlace, IsFunction, IsClass, IsMain, all_suit, sizes_of, Valid}
 use Rattle.verse_listing_format.specs.Format.{Word, Line, files_line, ops_line, text_line, place_line, function_line, class_line, main_line}
-use Rattle.verse_listing_format.specs.Format.{op_line, op_lines, table_lines, lines, spaced, AreBytes, IsSizedPlace, AreSized, IsSized, Listing}
+use Rattle.verse_listing_format.specs.Format.{op_line, op_lines, table_lines, lines, spaced, AreBytes, IsSizedPlace, AreSized, IsSized}
+use Rattle.verse_listing_format.specs.Format.{Listing}
 use Rattle.verse_listing_lines.specs.declared.tables.Tables.{Tables}
 use Rattle.verse_listing_lines.specs.declared.tables.Keyword.{Keyword}
 use Rattle.verse_listing_lines.specs.declared.tables.Keyword.TheVariants as k
 use Rattle.verse_listing_lines.specs.Lines.{◌>>=◌, pieces, words, files_of, ops_of, op_of, no_tables, sizes_with, text_told, place_told}
-use Rattle.verse_listing_lines.specs.Lines.{function_told, class_told, main_told, Told, with_text, with_place, with_function, with_class, told}
+use Rattle.verse_listing_lines.specs.Lines.{function_told, class_told, main_told, Told, with_text, with_place, with_function, with_class}
+use Rattle.verse_listing_lines.specs.Lines.{told}
 use Rattle.verse_listing_lines.specs.Lines.{keyword_of, table_line_of}
 use Rattle.verse_listing.specs.declared.faults.Flaw.{Flaw}
 use Rattle.verse_listing.specs.Reading.{Stage, first, second, among_tables, among_operations, stage_with, step, flaw, code_with, ended}
@@ -107,7 +109,8 @@ unfolding told
 grown_text files ops t w ws x h key e =
     let p = bind_ok (text_told t ws) (λ text. Ok (with_text t text)) x e in
     let y = tells_text t ws p.0 p.1 in
-    let line : text_line p.0 ≡ w ∷ ws = keyed w (codes "text") ws _ (text_line p.0) (keyword_is w k.Text key) y.written (text_line_is p.0) in
+    let line : text_line p.0 ≡ w ∷ ws = keyed w (codes "text") ws _ (text_line p.0) (keyword_is w k.Text key) y.written
+    (text_line_is p.0) in
     subst (Grown files ops t (w ∷ ws)) (ok_is (with_text t p.0) x p.2) (record {
       fits = record {
         files_within = h.files_within;
@@ -226,7 +229,8 @@ grown files ops t (w ∷ ws) x h e = by_keyword (keyword_of w) refl e
 
 -- ---- a line of an operation
 
-op_lines_more : (from : ℕ) (ops : List Op) (op : Op) → op_lines from (ops ++ op ∷ []) ≡ op_lines from ops ++ op_line (from + length ops) op ∷ []
+op_lines_more : (from : ℕ) (ops : List Op) (op : Op) →
+    op_lines from (ops ++ op ∷ []) ≡ op_lines from ops ++ op_line (from + length ops) op ∷ []
 op_lines_more from [] op = let here : from ≡ from + 0 = omega arith in ap (λ (n : ℕ). op_line n op ∷ []) here
 op_lines_more from (x ∷ ops) op =
     let there : suc from + length ops ≡ from + suc (length ops) = omega arith in
@@ -255,11 +259,12 @@ steps_words s t line f e = record {
 
 op_step : (files ops : ℕ) (t : Tables) (main : ℕ) (done : List Op) (next : Stage) (line : List ℕ) (test : Bool) →
     OperationsFit files ops t main done → ltb (length done) ops ≡ test →
-    cond test (op_of (sizes_with ops t) (length done) (words line) >>= λ op. Ok (among_operations files ops t main (done ++ op ∷ []))) (Err 1)
-    ≡ Ok next → Steps (among_operations files ops t main done) next line
+    cond test (op_of (sizes_with ops t) (length done) (words line) >>= λ op. Ok (among_operations files ops t main (done ++ op ∷ [])))
+    (Err 1) ≡ Ok next → Steps (among_operations files ops t main done) next line
 op_step files ops t main done next line false h test e = absurd cc
 op_step files ops t main done next line true h test e =
-    let p = bind_ok (op_of (sizes_with ops t) (length done) (words line)) (λ op. Ok (among_operations files ops t main (done ++ op ∷ []))) next e
+    let p = bind_ok (op_of (sizes_with ops t) (length done) (words line)) (λ op. Ok (among_operations files ops t main (done ++ op ∷ [])))
+    next e
     in
     let low : length done < ops = ltb-true _ _ test in
     let x = op_is (sizes_with ops t) (length done) (words line) p.0 p.1 in
@@ -270,8 +275,8 @@ op_step files ops t main done next line true h test e =
       tables = h.tables;
       main_is = h.main_is;
       few = one_more done p.0 ops low;
-      suit = suit_more (sizes_with ops t) 0 done p.0 h.suit x.sized (subst (λ (n : ℕ). all_suit (sizes_with ops t) n (operands_of p.0) ≡ true)
-          (count (length done)) x.suits);
+      suit = suit_more (sizes_with ops t) 0 done p.0 h.suit x.sized
+          (subst (λ (n : ℕ). all_suit (sizes_with ops t) n (operands_of p.0) ≡ true) (count (length done)) x.suits);
     })
     (ap (λ k. Lead files ops (table_lines t.texts t.places t.functions t.classes ++ main_line main ∷ k))
     (op_lines_more 0 done p.0 ∙ ap (λ (n : ℕ). op_lines 0 done ++ op_line n p.0 ∷ []) (sym (count (length done)))) ∙
@@ -365,7 +370,8 @@ read_valid files ops t main done h e =
           (suit_at (sizes_with ops t) 0 at done op h.suit f)));
     }
 
-read_sized : (files ops : ℕ) (t : Tables) (main : ℕ) (done : List Op) → OperationsFit files ops t main done → IsSized (code_with files t main done)
+read_sized : (files ops : ℕ) (t : Tables) (main : ℕ) (done : List Op) → OperationsFit files ops t main done →
+    IsSized (code_with files t main done)
 read_sized files ops t main done h = record {
   texts = all_map IsReadText AreBytes t.texts (λ x p. All-from_recursion (λ (b : ℕ). b ≤ 255) x p.1) h.tables.texts;
   places = all_map (IsReadPlace files) IsSizedPlace t.places (λ x p. p.1) h.tables.places;
@@ -379,9 +385,9 @@ pub record IsRead (s : Stage) (ls : List (List ℕ)) (last : List ℕ) (code : C
   pub valid : Valid code
   pub sized : IsSized code
 
-ended_well : (files ops : ℕ) (t : Tables) (main : ℕ) (done : List Op) (n : ℕ) (code : Code) (test : Bool) → OperationsFit files ops t main done →
-    ltb (length done) ops ≡ test → cond test (Err (flaw 1 n)) (Ok (code_with files t main done)) ≡ Ok code →
-    IsRead (among_operations files ops t main done) [] [] code
+ended_well : (files ops : ℕ) (t : Tables) (main : ℕ) (done : List Op) (n : ℕ) (code : Code) (test : Bool) →
+    OperationsFit files ops t main done → ltb (length done) ops ≡ test →
+    cond test (Err (flaw 1 n)) (Ok (code_with files t main done)) ≡ Ok code → IsRead (among_operations files ops t main done) [] [] code
 ended_well files ops t main done n code true h test e = absurd cc
 ended_well files ops t main done n code false h test e =
     let all : ops ≤ length done = ltb-false _ _ test in

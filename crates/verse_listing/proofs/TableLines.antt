@@ -14,8 +14,10 @@ use Rattle.verse_listing_lines.specs.declared.tables.Tables.{Tables}
 use Rattle.verse_listing_lines.specs.declared.tables.Keyword.{Keyword}
 use Rattle.verse_listing_lines.specs.declared.tables.Keyword.TheVariants as k
 use Rattle.verse_listing_lines.specs.Lines.{◌>>=◌, numbers, numbers_behind, only_field, files_of, ops_of, text_of, place_of, function_of}
-use Rattle.verse_listing_lines.specs.Lines.{class_of, main_of, in_texts, in_places, in_functions, with_room, text_told, place_told, function_told}
-use Rattle.verse_listing_lines.specs.Lines.{class_told, main_told, with_text, with_place, with_function, with_class, told, keyword_of, table_line_of}
+use Rattle.verse_listing_lines.specs.Lines.{class_of, main_of, in_texts, in_places, in_functions, with_room, text_told, place_told}
+use Rattle.verse_listing_lines.specs.Lines.{function_told}
+use Rattle.verse_listing_lines.specs.Lines.{class_told, main_told, with_text, with_place, with_function, with_class, told, keyword_of}
+use Rattle.verse_listing_lines.specs.Lines.{table_line_of}
 use Rattle.verse_listing.proofs.WordLaws.{number_words}
 use Rattle.verse_listing.proofs.LineLaws.{bind_ok, test_ok, same_is, known, numbers_read, numbers_written, only_is, field_of}
 use Rattle.verse_listing.proofs.LineLaws.{natural_words, place_numbers, place_is, place_again, place_fits, function_numbers, function_is}
@@ -128,7 +130,8 @@ pub record TellsFunction (ops : ℕ) (t : Tables) (ws : List Word) (entry : Func
   pub room : length t.functions < 4294967295
   pub no_classes : t.classes ≡ []
 
-pub tells_function : (ops : ℕ) (t : Tables) (ws : List Word) (entry : Func) → function_told ops t ws ≡ Ok entry → TellsFunction ops t ws entry
+pub tells_function : (ops : ℕ) (t : Tables) (ws : List Word) (entry : Func) → function_told ops t ws ≡ Ok entry →
+    TellsFunction ops t ws entry
 unfolding function_told
 tells_function ops t ws entry e =
     let r = room_is (in_functions t) (numbers ws >>= function_of ops) t.functions entry e in
@@ -219,7 +222,8 @@ place_more texts places place functions classes f g =
 
 pub function_more : (texts : List (List ℕ)) (places : List Place) (functions : List Func) (function : Func) (classes : List Class) →
     classes ≡ [] →
-    table_lines texts places (functions ++ function ∷ []) classes ≡ table_lines texts places functions classes ++ function_line function ∷ []
+    table_lines texts places (functions ++ function ∷ []) classes ≡ table_lines texts places functions classes ++ function_line function ∷
+    []
 function_more texts places functions function classes g =
     rw g (ap (λ k. map text_line texts ++ (map place_line places ++ k)) (append-nil (map function_line (functions ++ function ∷ [])) ∙
     map-append function_line functions (function ∷ []) ∙
@@ -231,8 +235,8 @@ function_more texts places functions function classes g =
 pub class_more : (texts : List (List ℕ)) (places : List Place) (functions : List Func) (classes : List Class) (class : Class) →
     table_lines texts places functions (classes ++ class ∷ []) ≡ table_lines texts places functions classes ++ class_line class ∷ []
 class_more texts places functions classes class =
-    ap (λ k. map text_line texts ++ (map place_line places ++ (map function_line functions ++ k))) (map-append class_line classes (class ∷ [])) ∙
-    ap (λ k. map text_line texts ++ (map place_line places ++ k))
+    ap (λ k. map text_line texts ++ (map place_line places ++ (map function_line functions ++ k)))
+    (map-append class_line classes (class ∷ [])) ∙ ap (λ k. map text_line texts ++ (map place_line places ++ k))
     (sym (append_assoc (map function_line functions) (map class_line classes) (class_line class ∷ []))) ∙
     ap (λ k. map text_line texts ++ k)
     (sym (append_assoc (map place_line places) (map function_line functions ++ map class_line classes) (class_line class ∷ []))) ∙
@@ -252,8 +256,8 @@ text_taken files ops t text o h few =
     let r : (text_of (text_words text) >>= with_room t.texts) ≡ Ok text = room_again _ t.texts text (text_again text h.0 h.1) few in
     ap (table_line_of files ops t) (text_line_is text) ∙ rw (o, r) refl
 
-pub place_taken : (files ops : ℕ) (t : Tables) (place : Place) → in_places t ≡ true → files ≤ 16 → IsPlace files place × IsSizedPlace place →
-    length t.places < 4294967295 → table_line_of files ops t (place_line place) ≡ Ok (with_place t place)
+pub place_taken : (files ops : ℕ) (t : Tables) (place : Place) → in_places t ≡ true → files ≤ 16 → IsPlace files place ×
+    IsSizedPlace place → length t.places < 4294967295 → table_line_of files ops t (place_line place) ≡ Ok (with_place t place)
 unfolding told place_told
 place_taken files ops t place o le h few =
     let ns : (numbers (number_words (place_numbers place)) >>= place_of files) ≡ Ok place =
@@ -279,7 +283,8 @@ class_taken files ops t class le h few =
     numbers_written (class_numbers class) (class_fits (length t.functions) class le h) in
     let made : (numbers (decimal class.slots ∷ map decimal class.methods) >>= class_of (length t.functions)) ≡ Ok class =
     rw ns (class_again (length t.functions) class h) in
-    let r = room_again (numbers (decimal class.slots ∷ map decimal class.methods) >>= class_of (length t.functions)) t.classes class made few
+    let r = room_again (numbers (decimal class.slots ∷ map decimal class.methods) >>= class_of (length t.functions)) t.classes class made
+    few
     in rw r refl
 
 pub main_taken : (files ops : ℕ) (t : Tables) (main : ℕ) → IsMain t.functions main → main < 4294967296 →

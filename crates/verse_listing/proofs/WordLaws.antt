@@ -1,5 +1,6 @@
 -- Lines and words: what was joined is cut again, and what was cut joins.
-use Rattle.std.proofs.Common.{◌≡◌, ◌≢◌, ℕ, zero, suc, ◌+◌, ◌/◌, ◌%◌, ◌^◌, ◌≤◌, ◌<◌, ℤ, pos, negsuc, Bool, true, false, cond, ◌&&◌, eqb, ltb, leb}
+use Rattle.std.proofs.Common.{◌≡◌, ◌≢◌, ℕ, zero, suc, ◌+◌, ◌/◌, ◌%◌, ◌^◌, ◌≤◌, ◌<◌, ℤ, pos, negsuc, Bool, true, false, cond, ◌&&◌, eqb, ltb}
+use Rattle.std.proofs.Common.{leb}
 use Rattle.std.proofs.Common.{List, [], ◌∷◌, ◌++◌, map, decimal, refl, sym, ap, ◌∙◌, arith}
 use Rattle.std.specs.Fmt.{signed_decimal}
 use Rattle.std.specs.Prelude.{slice_get, unwrap_or}
@@ -50,7 +51,8 @@ spelled_glue (l ∷ ls) = ap (λ k. spaced l ++ 10 ∷ k) (spelled_glue ls)
 
 -- bytes whose last line feed ends them are the text of their lines
 pub spelled_lines : (bytes : List ℕ) (ls : List Line) → (pieces 10 bytes).0 ≡ map spaced ls → (pieces 10 bytes).1 ≡ [] → bytes ≡ spelled ls
-spelled_lines bytes ls e f = sym (glued 10 bytes) ∙ ap (λ k. glue 10 k (pieces 10 bytes).1) e ∙ ap (glue 10 (map spaced ls)) f ∙ sym (spelled_glue ls)
+spelled_lines bytes ls e f = sym (glued 10 bytes) ∙ ap (λ k. glue 10 k (pieces 10 bytes).1) e ∙ ap (glue 10 (map spaced ls)) f ∙
+    sym (spelled_glue ls)
 
 -- ---- what was joined is cut again
 
@@ -74,7 +76,8 @@ free_append end b (x ∷ xs) ys n f g = (f.0, free_append end b xs ys n f.1 g)
 free_spaced : (ws : List Word) → AreSolid ws → Free 10 (spaced ws)
 free_spaced [] s = tt
 free_spaced (w ∷ []) s = free_solid 10 w (omega arith) s.0
-free_spaced (w ∷ v ∷ ws) s = free_append 10 32 w (spaced (v ∷ ws)) (λ e. omega arith) (free_solid 10 w (omega arith) s.0) (free_spaced (v ∷ ws) s.1)
+free_spaced (w ∷ v ∷ ws) s = free_append 10 32 w (spaced (v ∷ ws)) (λ e. omega arith) (free_solid 10 w (omega arith) s.0)
+    (free_spaced (v ∷ ws) s.1)
 
 pub words_spaced : (w : Word) (ws : List Word) → AreSolid (w ∷ ws) → words (spaced (w ∷ ws)) ≡ w ∷ ws
 words_spaced w [] s = ap (λ (x : Pieces). x.0 ++ x.1 ∷ []) (cut_none 32 w (free_solid 32 w (omega arith) s.0))

@@ -23,7 +23,8 @@ fault_at line lines.Memory = reading.Memory
 fault_at line (lines.Broken rule) = reading.Bad (flaw rule line)
 
 -- what was read leads to the answer of going on from there
-abbrev pub Leads : {X : Type 0} → (X → Result Code Flaw) → Result X ReadFault → Result Code Flaw → Type 0
+abbrev pub Leads : {X : Type 0} → (X → Result Code Flaw) → Result X ReadFault → Result Code Flaw →
+    Type 0
 Leads go (Ok x) read = read ≡ go x
 Leads go (Err e) read = Stops e read
 
@@ -42,7 +43,8 @@ IsOpen stage = Unit {0}
 
 -- a line was cut off, and each stage goes on behind it; or none is there
 abbrev pub IsCut : Left → Result (Bor (List ℕ) × Left) ReadFault → Type 0
-IsCut left (Ok x) = (stage : Stage) → left_gives stage left ≡ on_line left.line (step stage x.0.now) (λ next. left_gives next x.1)
+IsCut left (Ok x) = (stage : Stage) →
+    left_gives stage left ≡ on_line left.line (step stage x.0.now) (λ next. left_gives next x.1)
 IsCut left (Err e) = (stage : Stage) → IsOpen stage → Stops e (left_gives stage left)
 
 -- an answer tells what reading the bytes gives, unless memory ran out

@@ -19,7 +19,8 @@ abbrev pub line_feeds : List ℕ → ℕ
 line_feeds bytes = length (pieces 10 bytes).0
 
 abbrev pub FaultStays : Type 0
-FaultStays = (bytes more : List ℕ) (f : Flaw) → listing_at bytes ≡ Err f → f.line ≤ line_feeds bytes → listing_at (bytes ++ more) ≡ Err f
+FaultStays = (bytes more : List ℕ) (f : Flaw) → listing_at bytes ≡ Err f →
+    f.line ≤ line_feeds bytes → listing_at (bytes ++ more) ≡ Err f
 
 -- What the lines before a failing line give: a code, where the failing line follows the last; or
 -- that the line is missing.
@@ -33,12 +34,14 @@ pub record AreLines (n : ℕ) (bytes : List ℕ) : Type 0 where
   pub whole : (pieces 10 bytes).1 ≡ []
 
 abbrev pub FrontHasNoFault : Type 0
-FrontHasNoFault = (front behind : List ℕ) (f : Flaw) (n : ℕ) → listing_at (front ++ behind) ≡ Err f → f.line ≡ suc n → AreLines n front →
+FrontHasNoFault = (front behind : List ℕ) (f : Flaw) (n : ℕ) →
+    listing_at (front ++ behind) ≡ Err f → f.line ≡ suc n → AreLines n front →
     FrontOf f (listing_at front)
 
 -- a fault that is answered: the lines before its line have none
 abbrev pub NoneBefore : List ℕ → Result Code ListFault → Type 0
 NoneBefore bytes (Ok code) = Unit {0}
 NoneBefore bytes (Err faults.Memory) = Unit {0}
-NoneBefore bytes (Err (faults.Bad rule line)) = (front behind : List ℕ) (n : ℕ) → bytes ≡ front ++ behind → line ≡ suc n → AreLines n front →
+NoneBefore bytes (Err (faults.Bad rule line)) = (front behind : List ℕ) (n : ℕ) →
+    bytes ≡ front ++ behind → line ≡ suc n → AreLines n front →
     FrontOf (flaw rule line) (listing_at front)

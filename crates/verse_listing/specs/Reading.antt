@@ -1,10 +1,12 @@
 -- Reading a listing line by line, up to the first failing line.
-use Rattle.std.specs.Prelude.{ℕ, suc, nat_lt, List, [], ◌∷◌, ◌++◌, length, Some, None, Result, Ok, Err}
+use Rattle.std.specs.Prelude.{ℕ, suc, nat_lt, List, [], ◌∷◌, ◌++◌, length, Some, None, Result, Ok}
+use Rattle.std.specs.Prelude.{Err}
 use Rattle.std.specs.Prelude.{if◌then◌else◌}
 use Rattle.verse_code.specs.declared.operations.Op.{Op}
 use Rattle.verse_code.specs.declared.codes.Code.{Code}
 use Rattle.verse_listing_lines.specs.declared.tables.Tables.{Tables}
-use Rattle.verse_listing_lines.specs.Lines.{◌>>=◌, pieces, words, files_of, ops_of, op_of, no_tables, sizes_with, Told, table_line_of}
+use Rattle.verse_listing_lines.specs.Lines.{◌>>=◌, pieces, words, files_of, ops_of, op_of}
+use Rattle.verse_listing_lines.specs.Lines.{no_tables, sizes_with, Told, table_line_of}
 use Rattle.verse_listing.specs.declared.faults.Flaw.{Flaw}
 
 -- where a line stands: what the lines before it gave
@@ -23,11 +25,12 @@ stage_with files ops (t, Some main) = among_operations files ops t main []
 unfoldable pub step : Stage → List ℕ → Result Stage ℕ
 step first line = files_of (words line) >>= λ files. Ok (second files)
 step (second files) line = ops_of (words line) >>= λ ops. Ok (among_tables files ops no_tables)
-step (among_tables files ops t) line = table_line_of files ops t (words line) >>= λ told. Ok (stage_with files ops told)
+step (among_tables files ops t) line =
+    table_line_of files ops t (words line) >>= λ told. Ok (stage_with files ops told)
 step (among_operations files ops t main done) line =
     if nat_lt (length done) ops
-    then (op_of (sizes_with ops t) (length done) (words line) >>= λ op. Ok (among_operations files ops t main (done ++ op ∷ [])))
-    else Err 1
+    then (op_of (sizes_with ops t) (length done) (words line) >>= λ op. Ok
+    (among_operations files ops t main (done ++ op ∷ []))) else Err 1
 
 -- ---- the listing
 
@@ -47,7 +50,8 @@ code_with files t main ops = record {
 
 -- the lines end where this line would stand; behind the last line feed stands what is last
 unfoldable pub ended : ℕ → List ℕ → Stage → Result Code Flaw
-ended n [] (among_operations files ops t main done) = if nat_lt (length done) ops then Err (flaw 1 n) else Ok (code_with files t main done)
+ended n [] (among_operations files ops t main done) =
+    if nat_lt (length done) ops then Err (flaw 1 n) else Ok (code_with files t main done)
 ended n last stage = Err (flaw 1 n)
 
 abbrev pub on_line : ℕ → Result Stage ℕ → (Stage → Result Code Flaw) → Result Code Flaw
@@ -57,11 +61,13 @@ on_line n (Err rule) go = Err (flaw rule n)
 -- from this stage and the line of this number on
 unfoldable pub read_lines : Stage → ℕ → List (List ℕ) → List ℕ → Result Code Flaw
 read_lines stage n [] last = ended n last stage
-read_lines stage n (line ∷ others) last = on_line n (step stage line) (λ next. read_lines next (suc n) others last)
+read_lines stage n (line ∷ others) last =
+    on_line n (step stage line) (λ next. read_lines next (suc n) others last)
 
 abbrev pub read_on : Stage → ℕ → List ℕ → Result Code Flaw
 read_on stage n bytes = read_lines stage n (pieces 10 bytes).0 (pieces 10 bytes).1
 
--- the code whose listing the bytes are, or the first failing line, counted from 1, with the rule that it breaks
+-- the code whose listing the bytes are, or the first failing line, counted from 1, with the rule
+-- that it breaks
 abbrev pub listing_at : List ℕ → Result Code Flaw
 listing_at bytes = read_on first 1 bytes

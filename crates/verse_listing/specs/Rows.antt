@@ -32,7 +32,10 @@ return = codes "1" ∷ codes "Return" ∷ []
 
 pub record Rows : Type 0 where
   pub listed : listing_at (spelled (rows (unit ∷ return ∷ []))) ≡ Ok small
-  pub unknown_name : listing_at (spelled (rows ((codes "0" ∷ codes "Unti" ∷ []) ∷ return ∷ []))) ≡ Err (flaw 2 5)
-  pub wrong_operand : listing_at (spelled (rows ((codes "0" ∷ codes "Jump" ∷ codes "0" ∷ []) ∷ return ∷ []))) ≡ Err (flaw 3 5)
-  pub wrong_index : listing_at (spelled (rows (unit ∷ (codes "2" ∷ codes "Return" ∷ []) ∷ []))) ≡ Err (flaw 4 6)
+  pub unknown_name : listing_at (spelled (rows ((codes "0" ∷ codes "Unti" ∷ []) ∷ return ∷ []))) ≡
+      Err (flaw 2 5)
+  pub wrong_operand : listing_at
+      (spelled (rows ((codes "0" ∷ codes "Jump" ∷ codes "0" ∷ []) ∷ return ∷ []))) ≡ Err (flaw 3 5)
+  pub wrong_index : listing_at (spelled (rows (unit ∷ (codes "2" ∷ codes "Return" ∷ []) ∷ []))) ≡
+      Err (flaw 4 6)
   pub missing_line : listing_at (spelled (rows (unit ∷ []))) ≡ Err (flaw 1 6)

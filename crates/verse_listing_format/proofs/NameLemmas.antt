@@ -13,7 +13,8 @@ pub among_step : (ns : List (List ℕ)) (i at : ℕ) (name word : List ℕ) → 
     place_among at (drop i ns) word ≡ (if is_same name word then Some at else place_among (suc at) (drop (suc i) ns) word)
 unfolding place_among
 among_step [] i at name word e = absurd cc
-among_step (n ∷ ns) zero at name word e = let same : n ≡ name = cc in ap (λ m. if is_same m word then Some at else place_among (suc at) ns word) same
+among_step (n ∷ ns) zero at name word e = let same : n ≡ name =
+    cc in ap (λ m. if is_same m word then Some at else place_among (suc at) ns word) same
 among_step (n ∷ ns) (suc i) at name word e = among_step ns i at name word e
 
 pub found_at : (i : ℕ) (name word : List ℕ) → slice_get names i ≡ Some name → is_same name word ≡ true →

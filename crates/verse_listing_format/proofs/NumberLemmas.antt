@@ -23,7 +23,8 @@ pub record Counts (word : List ℕ) (i n : ℕ) : Type 0 where
 pub counts_on : (word : List ℕ) (i d n m : ℕ) → i < length word → get_or word i 0 ≡ d → is_digit d ≡ true →
     m ≡ min (n * 10 + (d - 48)) MOST → Counts word i n → Counts word (i + 1) m
 counts_on word i d n m lt e t is c =
-    let here : are_digits (drop i word) ≡ (is_digit (get_or word i 0) && are_digits (drop (i + 1) word)) = at_drop_more are_digits word i 0 lt in
+    let here : are_digits (drop i word) ≡ (is_digit (get_or word i 0) && are_digits (drop (i + 1) word)) =
+    at_drop_more are_digits word i 0 lt in
     let digits : are_digits (drop (i + 1) word) ≡ are_digits (drop i word) = sym (here ∙ rw (e, t) refl) in
     let next : value_on n (drop i word) ≡ value_on (n * 10 + (d - 48)) (drop (i + 1) word) =
     at_drop_more (value_on n) word i 0 lt ∙ ap (λ (k : ℕ). value_on (n * 10 + (k - 48)) (drop (i + 1) word)) e in
@@ -45,7 +46,8 @@ counts_end word i n le t c =
 pub counts_stop : (word : List ℕ) (i d n : ℕ) → i < length word → get_or word i 0 ≡ d → is_digit d ≡ false → Counts word i n →
     natural_of word ≡ None
 counts_stop word i d n lt e t c =
-    let here : are_digits (drop i word) ≡ (is_digit (get_or word i 0) && are_digits (drop (i + 1) word)) = at_drop_more are_digits word i 0 lt in
+    let here : are_digits (drop i word) ≡ (is_digit (get_or word i 0) && are_digits (drop (i + 1) word)) =
+    at_drop_more are_digits word i 0 lt in
     let digits : are_digits word ≡ false = sym c.digits ∙ here ∙ rw (e, t) refl in
     let whole : is_natural word ≡ false = and_right _ _ digits in
     rw whole refl

@@ -4,9 +4,11 @@ use Rattle.std.proofs.Common.{List, [], ◌∷◌, length, get_or, Some, None, d
 use Rattle.std.specs.Fmt.{signed_decimal}
 use Rattle.std.specs.Prelude.{if◌then◌else◌}
 use Rattle.std.proofs.lemmas.Bool.{and_from, and_parts as both, lt-ltb, le-leb, leb-true, ltb-true, eqb-true, ne_eqb}
-use Rattle.std.proofs.lemmas.Fmt.{digits_decimal, digits_value-decimal, decimal_nonempty, first_decimal, decimal_digit, decimal-digits_value}
+use Rattle.std.proofs.lemmas.Fmt.{digits_decimal, digits_value-decimal, decimal_nonempty, first_decimal, decimal_digit}
+use Rattle.std.proofs.lemmas.Fmt.{decimal-digits_value}
 use Rattle.std.proofs.lemmas.Str.Parse.{IsDigitsTest, IsNumeralModel, numerals_by_fold}
-use Rattle.verse_listing_format.specs.Numbers.{is_digit, are_digits, begins_well, is_natural, value_on, value, plain, negated, Fits, number_of}
+use Rattle.verse_listing_format.specs.Numbers.{is_digit, are_digits, begins_well, is_natural, value_on, value, plain, negated, Fits}
+use Rattle.verse_listing_format.specs.Numbers.{number_of}
 use Rattle.verse_listing_format.specs.Laws.{WrittenIsRead, ReadIsWritten}
 
 tells : IsDigitsTest (λ ds. are_digits ds ≡ true)

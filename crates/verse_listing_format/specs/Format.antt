@@ -1,11 +1,13 @@
 -- The format of a listing, line by line.
-use Rattle.std.specs.Prelude.{◌≡◌, ℕ, ◌≤◌, suc, ◌+◌, ◌/◌, ◌%◌, nat_lt, if◌then◌else◌, Bool, true, false, List, [], ◌∷◌, ◌++◌, length, map}
+use Rattle.std.specs.Prelude.{◌≡◌, ℕ, ◌≤◌, suc, ◌+◌, ◌/◌, ◌%◌, nat_lt, if◌then◌else◌, Bool, true}
+use Rattle.std.specs.Prelude.{false, List, [], ◌∷◌, ◌++◌, length, map}
 use Rattle.std.specs.Prelude.{All, codes, decimal}
 use Rattle.std.specs.Fmt.{signed_decimal}
 use Rattle.verse_base.specs.declared.places.Place.{Place}
 use Rattle.verse_code.specs.declared.operands.Operand.{Operand}
 use Rattle.verse_code.specs.declared.operands.Operands.{Operands}
-use Rattle.verse_code.specs.declared.operands.Operands.TheVariants.{Bare, Integer, One, Two, Three, Four}
+use Rattle.verse_code.specs.declared.operands.Operands.TheVariants.{Bare, Integer, One, Two, Three}
+use Rattle.verse_code.specs.declared.operands.Operands.TheVariants.{Four}
 use Rattle.verse_code.specs.declared.operations.Op.{Op}
 use Rattle.verse_code.specs.declared.codes.Func.{Func}
 use Rattle.verse_code.specs.declared.codes.Class.{Class}
@@ -52,7 +54,8 @@ flag false = 0
 flag true = 1
 
 abbrev pub function_line : Func → Line
-function_line f = codes "func" ∷ decimal f.params ∷ decimal f.locals ∷ decimal f.entry ∷ decimal (flag f.suspends) ∷ []
+function_line f = codes "func" ∷ decimal f.params ∷ decimal f.locals ∷ decimal f.entry ∷
+    decimal (flag f.suspends) ∷ []
 
 abbrev pub class_line : Class → Line
 class_line c = codes "class" ∷ decimal c.slots ∷ map decimal c.methods
@@ -84,12 +87,14 @@ op_lines at (op ∷ ops) = op_line at op ∷ op_lines (suc at) ops
 
 abbrev pub table_lines : List (List ℕ) → List Place → List Func → List Class → List Line
 table_lines texts places functions classes =
-    map text_line texts ++ (map place_line places ++ (map function_line functions ++ map class_line classes))
+    map text_line texts ++ (map place_line places ++
+    (map function_line functions ++ map class_line classes))
 
 abbrev pub lines : Code → List Line
 lines code =
     files_line code.files ∷ ops_line (length code.ops) ∷
-    (table_lines code.texts code.places code.functions code.classes ++ main_line code.main ∷ op_lines 0 code.ops)
+    (table_lines code.texts code.places code.functions code.classes ++ main_line code.main ∷
+    op_lines 0 code.ops)
 
 -- ---- their text
 

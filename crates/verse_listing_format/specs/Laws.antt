@@ -7,4 +7,5 @@ abbrev pub WrittenIsRead : Type 0
 WrittenIsRead = (n : ℤ) → Fits n → number_of (signed_decimal n) ≡ Some (Some n)
 
 abbrev pub ReadIsWritten : Type 0
-ReadIsWritten = (word : List ℕ) (n : ℤ) → number_of word ≡ Some (Some n) → Fits n × (word ≡ signed_decimal n)
+ReadIsWritten = (word : List ℕ) (n : ℤ) → number_of word ≡ Some (Some n) → Fits n ×
+    (word ≡ signed_decimal n)

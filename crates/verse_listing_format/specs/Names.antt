@@ -1,5 +1,6 @@
 -- The names of the operations, in the order of their codes.
-use Rattle.std.specs.Prelude.{ℕ, suc, List, [], ◌∷◌, Option, Some, None, codes, slice_get, unwrap_or, nat_eq, if◌then◌else◌, Bool}
+use Rattle.std.specs.Prelude.{ℕ, suc, List, [], ◌∷◌, Option, Some, None, codes, slice_get}
+use Rattle.std.specs.Prelude.{unwrap_or, nat_eq, if◌then◌else◌, Bool}
 use Rattle.std.specs.Cmp.Lexicographic.{pointwise}
 use Rattle.verse_code.specs.declared.operations.Op.{Op}
 use Rattle.verse_code.specs.Operations.{code_of}
@@ -85,7 +86,8 @@ is_same a b = pointwise nat_eq a b
 -- the place of a name among names, of which the first has this place
 unfoldable pub place_among : ℕ → List (List ℕ) → List ℕ → Option ℕ
 place_among at [] word = None
-place_among at (name ∷ others) word = if is_same name word then Some at else place_among (suc at) others word
+place_among at (name ∷ others) word =
+    if is_same name word then Some at else place_among (suc at) others word
 
 -- the code of the operation of this name
 abbrev pub code_named : List ℕ → Option ℕ

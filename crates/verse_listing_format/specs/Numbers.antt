@@ -1,5 +1,6 @@
 -- Words that are numbers.
-use Rattle.std.specs.Prelude.{ℕ, ◌+◌, ◌-◌, ◌*◌, ◌<◌, ℤ, pos, negsuc, Bool, true, false, not, ◌&&◌, nat_lt, nat_le, ◌==◌, if◌then◌else◌, min}
+use Rattle.std.specs.Prelude.{ℕ, ◌+◌, ◌-◌, ◌*◌, ◌<◌, ℤ, pos, negsuc, Bool, true, false, not, ◌&&◌}
+use Rattle.std.specs.Prelude.{nat_lt, nat_le, ◌==◌, if◌then◌else◌, min}
 use Rattle.std.specs.Prelude.{List, [], ◌∷◌, Option, Some, None}
 
 abbrev pub is_digit : ℕ → Bool
@@ -45,8 +46,9 @@ Fits (negsuc n) = n < 9223372036854775808
 abbrev pub number_of : List ℕ → Option Number
 number_of [] = None
 number_of (b ∷ bytes) =
-    if b == 45 then (if is_natural bytes && nat_lt 0 (value bytes) then Some (negated (value bytes)) else None) else
-    (if is_natural (b ∷ bytes) then Some (plain (value (b ∷ bytes))) else None)
+    if b == 45 then (if is_natural bytes &&
+    nat_lt 0 (value bytes) then Some (negated (value bytes)) else None)
+    else (if is_natural (b ∷ bytes) then Some (plain (value (b ∷ bytes))) else None)
 
 -- the greatest number that is counted; a greater one counts as this
 abbrev pub MOST : ℕ

@@ -1,7 +1,8 @@
 //! Numbers are read.
 
 ghost use Rattle.std.specs.Prelude.{◌≡◌, ◌<◌};
-ghost use Rattle.verse_listing_format.specs.Numbers.{begins_well, natural_of, plain, negated, number_of};
+ghost use Rattle.verse_listing_format.specs.Numbers.{begins_well, natural_of, plain, negated};
+ghost use Rattle.verse_listing_format.specs.Numbers.{number_of};
 
 fn begins_well(word: &[u8]) -> bool
     ensures { result ≡ begins_well word.now }

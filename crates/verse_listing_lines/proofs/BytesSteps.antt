@@ -1,5 +1,6 @@
 -- The bytes of a word, two digits after the other.
-use Rattle.std.proofs.Common.{◌≡◌, ℕ, ◌+◌, ◌-◌, ◌*◌, ◌≤◌, ◌<◌, List, [], ◌∷◌, ◌++◌, length, get_or, take, drop, Option, Some, None, ◌⊎◌, inl, inr}
+use Rattle.std.proofs.Common.{◌≡◌, ℕ, ◌+◌, ◌-◌, ◌*◌, ◌≤◌, ◌<◌, List, [], ◌∷◌, ◌++◌, length, get_or, take, drop, Option, Some, None, ◌⊎◌}
+use Rattle.std.proofs.Common.{inl, inr}
 use Rattle.std.proofs.Common.{Result, Ok, Err, refl, sym, ap, ◌∙◌, arith}
 use Rattle.std.proofs.lemmas.List.{append-nil, take_all}
 use Rattle.verse_listing_lines.specs.Lines.{◌>>=◌, given, digit_of, bytes_of}
@@ -33,7 +34,8 @@ bytes_stop front (a ∷ b ∷ digits) total le (inr h) t = sym t ∙ by_first (d
     by_first None = refl
     by_first (Some n) = rw h refl
 
-pub bytes_end : (front left : List ℕ) (total : Result (List ℕ) ℕ) → length left ≡ 0 → with_front front (bytes_of left) ≡ total → total ≡ Ok front
+pub bytes_end : (front left : List ℕ) (total : Result (List ℕ) ℕ) → length left ≡ 0 → with_front front (bytes_of left) ≡ total →
+    total ≡ Ok front
 unfolding bytes_of
 bytes_end front [] total e t = sym t ∙ ap Ok (append-nil front)
 bytes_end front (a ∷ left) total e t = absurd (omega arith)

@@ -44,6 +44,7 @@ cut_byte end at bytes front back h lt is e f =
     let split : bytes ≡ take at bytes ++ end ∷ drop (at + 1) bytes =
     sym (take-append-drop at bytes) ∙ ap (λ k. take at bytes ++ k) (drop_more bytes at 0 lt ∙ ap (λ k. k ∷ drop (at + 1) bytes) is) in
     let rest : drop 1 back ≡ drop (at + 1) bytes = ap (drop 1) (f ∙ drop_more bytes at 0 lt) in
-    let whole : take (length back - 1) (drop 1 back) ≡ drop 1 back = take_all (length back - 1) (drop 1 back) (omega (arith, length-drop 1 back)) in
+    let whole : take (length back - 1) (drop 1 back) ≡ drop 1 back =
+    take_all (length back - 1) (drop 1 back) (omega (arith, length-drop 1 back)) in
     ap (pieces end) split ∙ cut_one end (take at bytes) (drop (at + 1) bytes) (free_by_index end at bytes h) ∙
     rw (e, whole, rest) refl

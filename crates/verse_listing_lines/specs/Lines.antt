@@ -1,6 +1,8 @@
 -- What the lines of a listing give, and which rule a line breaks.
-use Rattle.std.specs.Prelude.{ℕ, ◌+◌, ◌-◌, ◌*◌, ℤ, pos, Bool, true, false, not, ◌&&◌, ◌||◌, nat_lt, nat_le, ◌==◌, List, [], ◌∷◌}
-use Rattle.std.specs.Prelude.{◌++◌, length, Option, Some, None, slice_get, Result, Ok, Err, if◌then◌else◌, codes}
+use Rattle.std.specs.Prelude.{ℕ, ◌+◌, ◌-◌, ◌*◌, ℤ, pos, Bool, true, false, not, ◌&&◌, ◌||◌, nat_lt}
+use Rattle.std.specs.Prelude.{nat_le, ◌==◌, List, [], ◌∷◌}
+use Rattle.std.specs.Prelude.{◌++◌, length, Option, Some, None, slice_get, Result, Ok, Err}
+use Rattle.std.specs.Prelude.{if◌then◌else◌, codes}
 use Rattle.verse_base.specs.declared.places.Place.{Place}
 use Rattle.verse_code.specs.declared.operands.OperandKind.{OperandKind}
 use Rattle.verse_code.specs.declared.operations.Op.{Op}
@@ -15,7 +17,8 @@ use Rattle.verse_code.specs.Validity.{suits_kind}
 use Rattle.verse_listing_format.specs.Names.{is_same, code_named}
 use Rattle.verse_listing_format.specs.Numbers.{Number, number_of}
 use Rattle.verse_listing_format.specs.Format.{Word, Line}
-use Rattle.verse_listing_lines.specs.declared.fields.TheConstants.{NUMBER_END, FILES_END, OPERATIONS_END, TEXT_END}
+use Rattle.verse_listing_lines.specs.declared.fields.TheConstants.{NUMBER_END, FILES_END}
+use Rattle.verse_listing_lines.specs.declared.fields.TheConstants.{OPERATIONS_END, TEXT_END}
 use Rattle.verse_listing_lines.specs.declared.tables.Tables.{Tables}
 use Rattle.verse_listing_lines.specs.declared.tables.Keyword.{Keyword}
 use Rattle.verse_listing_lines.specs.declared.tables.Keyword.TheVariants as k
@@ -38,7 +41,8 @@ with_byte b (piece ∷ others, last) = ((b ∷ piece) ∷ others, last)
 
 unfoldable pub pieces : ℕ → List ℕ → Pieces
 pieces end [] = ([], [])
-pieces end (b ∷ bytes) = if b == end then ([] ∷ (pieces end bytes).0, (pieces end bytes).1) else with_byte b (pieces end bytes)
+pieces end (b ∷ bytes) = if b == end then ([] ∷ (pieces end bytes).0, (pieces end bytes).1)
+    else with_byte b (pieces end bytes)
 
 -- the words of a line, with spaces between
 abbrev pub words : List ℕ → Line
@@ -93,7 +97,8 @@ ops_of line = numbers_behind (codes "ops") line >>= only_field 1 OPERATIONS_END
 -- what a lower hexadecimal digit is worth
 abbrev pub digit_of : ℕ → Option ℕ
 digit_of b =
-    if nat_le 48 b && nat_le b 57 then Some (b - 48) else (if nat_le 97 b && nat_le b 102 then Some (b - 87) else None)
+    if nat_le 48 b && nat_le b 57 then Some (b - 48)
+    else (if nat_le 97 b && nat_le b 102 then Some (b - 87) else None)
 
 -- two digits for each byte
 unfoldable pub bytes_of : Word → Result (List ℕ) ℕ
@@ -137,7 +142,8 @@ class_of functions [] = Err 1
 class_of functions (s ∷ ms) = do
   slots ← field 0 NUMBER_END s
   methods ← fields functions ms
-  if nat_lt (length methods) NUMBER_END then Ok (record { slots = slots; methods = methods }) else Err 3
+  if nat_lt (length methods) NUMBER_END then Ok (record { slots = slots; methods = methods })
+  else Err 3
 
 -- a run may begin with a function that is there, and takes nothing or the inputs
 abbrev pub may_begin : Option Func → Bool
@@ -145,7 +151,8 @@ may_begin None = false
 may_begin (Some f) = nat_le f.params 1
 
 unfoldable pub main_of : List Func → List Number → Result ℕ ℕ
-main_of functions ns = only_field 0 NUMBER_END ns >>= λ n. if may_begin (slice_get functions n) then Ok n else Err 3
+main_of functions ns = only_field 0 NUMBER_END ns >>= λ n. if may_begin (slice_get functions n)
+    then Ok n else Err 3
 
 -- ---- the lines of operations
 
@@ -164,7 +171,8 @@ is_name (b ∷ bytes) = are_letters (b ∷ bytes)
 -- an operand of a kind, in the operation of index at, and the numbers behind it
 unfoldable pub operand_at : Sizes → ℕ → OperandKind → List Number → Result (ℕ × List Number) ℕ
 operand_at sizes at kind [] = Err 3
-operand_at sizes at kind (n ∷ ns) = field 0 NUMBER_END n >>= λ a. if suits_kind sizes at kind a then Ok (a, ns) else Err 3
+operand_at sizes at kind (n ∷ ns) =
+    field 0 NUMBER_END n >>= λ a. if suits_kind sizes at kind a then Ok (a, ns) else Err 3
 
 abbrev pub integer_at : List Number → Result (ℤ × List Number) ℕ
 integer_at (Some n ∷ ns) = Ok (n, ns)
@@ -226,7 +234,8 @@ op_of sizes at (index ∷ []) = Err 1
 op_of sizes at (index ∷ name ∷ operands) = do
   i ← given 1 (number_of index)
   ns ← numbers operands
-  if not (is_name name) then Err 1 else (if is_index at i then named sizes at (code_named name) ns else Err 4)
+  if not (is_name name) then Err 1
+  else (if is_index at i then named sizes at (code_named name) ns else Err 4)
 
 abbrev pub sizes_with : ℕ → Tables → Sizes
 sizes_with ops t = record {
@@ -260,10 +269,12 @@ unfoldable pub text_told : Tables → List Word → Result (List ℕ) ℕ
 text_told t words = if in_texts t then (text_of words >>= with_room t.texts) else Err 1
 
 unfoldable pub place_told : ℕ → Tables → List Word → Result Place ℕ
-place_told files t words = if in_places t then (numbers words >>= place_of files >>= with_room t.places) else Err 1
+place_told files t words = if in_places t
+    then (numbers words >>= place_of files >>= with_room t.places) else Err 1
 
 unfoldable pub function_told : ℕ → Tables → List Word → Result Func ℕ
-function_told ops t words = if in_functions t then (numbers words >>= function_of ops >>= with_room t.functions) else Err 1
+function_told ops t words = if in_functions t
+    then (numbers words >>= function_of ops >>= with_room t.functions) else Err 1
 
 unfoldable pub class_told : Tables → List Word → Result Class ℕ
 class_told t words = numbers words >>= class_of (length t.functions) >>= with_room t.classes
@@ -291,8 +302,10 @@ with_class t class = (record t { classes = t.classes ++ class ∷ [] }, None)
 unfoldable pub told : ℕ → ℕ → Tables → Option Keyword → List Word → Result Told ℕ
 told files ops t None words = Err 1
 told files ops t (Some k.Text) words = text_told t words >>= λ text. Ok (with_text t text)
-told files ops t (Some k.Place) words = place_told files t words >>= λ place. Ok (with_place t place)
-told files ops t (Some k.Func) words = function_told ops t words >>= λ function. Ok (with_function t function)
+told files ops t (Some k.Place) words =
+    place_told files t words >>= λ place. Ok (with_place t place)
+told files ops t (Some k.Func) words =
+    function_told ops t words >>= λ function. Ok (with_function t function)
 told files ops t (Some k.Class) words = class_told t words >>= λ class. Ok (with_class t class)
 told files ops t (Some k.Main) words = main_told t words >>= λ main. Ok (t, Some main)
 

@@ -3,7 +3,8 @@
 ghost use Rattle.std.specs.Prelude.{◌≡◌, ◌<◌, pos, slice_get};
 ghost use Rattle.verse_code.specs.Forms.{forms};
 ghost use Rattle.verse_listing_format.specs.Names.{code_named};
-ghost use Rattle.verse_listing_lines.specs.Lines.{operand_at, integer_at, parts, parts_at, all_taken};
+ghost use Rattle.verse_listing_lines.specs.Lines.{operand_at, integer_at, parts, parts_at};
+ghost use Rattle.verse_listing_lines.specs.Lines.{all_taken};
 ghost use Rattle.verse_listing_lines.specs.Lines.{formed, named, is_index, op_of, words};
 ghost use Rattle.verse_listing_lines.specs.Answers.{Gives};
 

@@ -2,7 +2,8 @@
 
 ghost use Rattle.std.specs.Prelude.{◌≡◌, ◌∷◌, [], ◌<◌, length, IfSome, MatchOption};
 ghost use Rattle.std.specs.Prelude.{option_copied};
-ghost use Rattle.verse_listing_lines.specs.Lines.{pieces, words, numbers, numbers_behind, is_letter};
+ghost use Rattle.verse_listing_lines.specs.Lines.{pieces, words, numbers, numbers_behind};
+ghost use Rattle.verse_listing_lines.specs.Lines.{is_letter};
 ghost use Rattle.verse_listing_lines.specs.Lines.{is_name};
 ghost use Rattle.verse_listing_lines.specs.Answers.{Gives, with_piece, words_left};
 

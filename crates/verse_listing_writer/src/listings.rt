@@ -4,7 +4,8 @@ ghost use Rattle.std.specs.Prelude.{◌≡◌, ◌++◌, All, IfOk, OnOk, map};
 ghost use Rattle.verse_code.specs.Operations.{operands_of};
 ghost use Rattle.verse_code.specs.Validity.{Valid};
 ghost use Rattle.verse_listing_format.specs.Format.{AreBytes, AreSized, IsNumber, IsSizedPlace};
-ghost use Rattle.verse_listing_format.specs.Format.{class_line, function_line, op_lines, place_line};
+ghost use Rattle.verse_listing_format.specs.Format.{class_line, function_line, op_lines};
+ghost use Rattle.verse_listing_format.specs.Format.{place_line};
 ghost use Rattle.verse_listing_format.specs.Format.{Listing, spelled, table_lines, text_line};
 ghost use Rattle.verse_listing_writer.specs.Writing.{AreSizedTables};
 

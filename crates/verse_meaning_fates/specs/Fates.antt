@@ -77,4 +77,5 @@ EachHasOneFate = (p : Program) (ns : List ℤ) (steps until k i : ℕ) →
     count i (stage_leaves (after p ns steps until k))
     + to_come i (stage_state (after p ns steps until k))
     + woken_in p until i k (started p ns steps)
-    + (cancelled_at_start i (started p ns steps) + cancelled_in p until i k (started p ns steps)) ≡ 1
+    + (cancelled_at_start i (started p ns steps) + cancelled_in p until i k (started p ns steps)) ≡
+    1

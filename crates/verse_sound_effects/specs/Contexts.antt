@@ -1,4 +1,5 @@
--- What the conditions of a failure context come to, in a program for which the checker has found sorts.
+-- What the conditions of a failure context come to, in a program for which the checker has found
+-- sorts.
 use Rattle.std.specs.Prelude.{ℕ, false}
 use Rattle.verse_base.specs.declared.places.Place.{Place}
 use Rattle.verse_base.specs.declared.refusals.Kind.{Kind as Error}
@@ -21,8 +22,9 @@ use Rattle.verse_sound_rules.specs.Programs.{FineProgram}
 use Rattle.verse_sound_trees.specs.Names.{Sees}
 use Rattle.verse_sound_trees.specs.Going.{Kept, turns}
 
--- They hold or fail at once, or the run ends by an error or for want of steps. Where they hold or fail, tasks, waits,
--- signals and the background are as they were, and only steps are gone from the clock.
+-- They hold or fail at once, or the run ends by an error or for want of steps. Where they hold or
+-- fail, tasks, waits, signals and the background are as they were, and only steps are gone from the
+-- clock.
 pub data EndsAtOnce (w : World) : Outcome → Type 0 where
   holds : {e : Env} {v : Val} {u : World} → Leaves false w u → EndsAtOnce w (value e v u)
   fails : {s : State} → Calm w.state.clock s.clock → EndsAtOnce w (failed s)
@@ -30,7 +32,8 @@ pub data EndsAtOnce (w : World) : Outcome → Type 0 where
   ends_steps : {s : State} → EndsAtOnce w (halted (out s))
 
 -- of each form that has a failure context, at the node of a number, with these names visible
-pub record ContextsEnd (p : Program) (f : Found) (fuel : ℕ) (t : Typing) (a : Allowed) (xs : Table) (e : Env)
+pub record ContextsEnd (p : Program) (f : Found) (fuel : ℕ) (t : Typing) (a : Allowed) (xs : Table)
+    (e : Env)
     (w : World) (n : ℕ) (pl : Place) : Type 0 where
   pub if_else : (cs : Trees) (b d : Tree) → FineShape p f a xs n pl (trees.Shape.if_else cs b d) →
       EndsAtOnce w (statements p (deeper p fuel) cs false e unit w)
@@ -50,10 +53,13 @@ pub record ContextsEnd (p : Program) (f : Found) (fuel : ℕ) (t : Typing) (a : 
   -- and those behind one that has given its names
   pub filters : (c : Tree) (cs : Trees) (b : Tree) (e1 : Env) →
       FineShape p f a xs n pl (trees.Shape.for_form (more_trees c cs) b) →
-      Sees f t a.this (seen_behind c xs) e1 → EndsAtOnce w (clauses p (deeper p fuel) cs false e1 unit w)
+      Sees f t a.this (seen_behind c xs) e1 →
+      EndsAtOnce w (clauses p (deeper p fuel) cs false e1 unit w)
 
--- in all environments in which the names are bound as the checker has them, and all worlds that are kept
+-- in all environments in which the names are bound as the checker has them, and all worlds that are
+-- kept
 abbrev pub ContextsEndAtOnce : Type 0
-ContextsEndAtOnce = (p : Program) (h : FineProgram p) (turn_count fuel : ℕ) (t : Typing) (a : Allowed) (xs : Table)
-    (e : Env) (w : World) (n : ℕ) (pl : Place) → Sees h.found t a.this xs e →
-    Kept p h.found (turns turn_count) t w → ContextsEnd p h.found fuel t a xs e w n pl
+ContextsEndAtOnce = (p : Program) (h : FineProgram p) (turn_count fuel : ℕ) (t : Typing)
+    (a : Allowed) (xs : Table) (e : Env) (w : World) (n : ℕ) (pl : Place) →
+    Sees h.found t a.this xs e → Kept p h.found (turns turn_count) t w →
+    ContextsEnd p h.found fuel t a xs e w n pl

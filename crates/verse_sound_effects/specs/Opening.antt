@@ -1,5 +1,5 @@
--- What an open failure context changes of an evaluation: nothing, but that what takes time and what cannot be undone
--- is stuck there.
+-- What an open failure context changes of an evaluation: nothing, but that what takes time and what
+-- cannot be undone is stuck there.
 use Rattle.std.specs.Prelude.{ℕ, List, Option, true, false}
 use Rattle.verse_tree.specs.Tree.{Tree}
 use Rattle.verse_value.specs.Val.{Val}

@@ -23,15 +23,22 @@ main_function = record {
   params = [];
   effects = [];
   written = t.Written.void;
-  body = tree 4 here (t.Shape.block (more_trees (tree 1 here (t.Shape.definition x_name (tree 0 here (t.Shape.integer (pos 1)))))
-      (more_trees (tree 3 here (t.Shape.chained op.Add (tree 2 here (t.Shape.name x_name)) (tree 0 here (t.Shape.integer (pos 2)))))
-      no_trees)));
+  body = tree 4 here (t.Shape.block
+      (more_trees (tree 1 here (t.Shape.definition x_name (tree 0 here (t.Shape.integer (pos 1)))))
+      (more_trees (tree 3 here (t.Shape.chained op.Add (tree 2 here (t.Shape.name x_name))
+      (tree 0 here (t.Shape.integer (pos 2))))) no_trees)));
 }
 
 abbrev pub small : Program
 small = record {
   items = function main_function ∷ [];
-  names = record { funs = []; classes = []; enums = []; refs = None ∷ None ∷ Some (ref.Local 1) ∷ [] };
+  names = record {
+    funs = [];
+    classes = [];
+    enums = [];
+    refs =
+        None ∷ None ∷ Some (ref.Local 1) ∷ [];
+  };
   is_array = λ n. false;
   is_event = λ n. false;
 }

@@ -16,7 +16,8 @@ GoesRight (amiss st) = ⊥
 
 -- a program for which the checker has found sorts goes right in each turn
 abbrev pub TurnsGoRight : Type 0
-TurnsGoRight = (p : Program) → FineProgram p → (ns : List ℤ) (steps until k : ℕ) → GoesRight (after p ns steps until k)
+TurnsGoRight = (p : Program) → FineProgram p → (ns : List ℤ) (steps until k : ℕ) →
+    GoesRight (after p ns steps until k)
 
 -- and its run is never stuck, for all inputs, bounds of steps and horizons
 abbrev pub NeverStuck : Type 0

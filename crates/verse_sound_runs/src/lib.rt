@@ -3,8 +3,8 @@
 //! `verse_sound_rules`.
 //!
 //! In `proofs/`: `Calls`, all that begins by a step, as deep as there are steps; `Due`, which wait
-//! is next; `Turns`, one turn; `Steps`, a turn spends a step; `Runs`, whole runs; `Examples`, a small
-//! program that is fine; `Promises`, what effects promise of calls.
+//! is next; `Turns`, one turn; `Steps`, a turn spends a step; `Runs`, whole runs; `Examples`, a
+//! small program that is fine; `Promises`, what effects promise of calls.
 #![tactic(auto)]
 
 ghost use Rattle.verse_sound_runs.specs.Laws.{NeverStuck, SmallIsFine, TurnsGoRight};

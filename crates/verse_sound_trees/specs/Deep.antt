@@ -21,18 +21,23 @@ use Rattle.verse_sound_trees.specs.Going.{Level, Kept, Ready, Comes, Within}
 
 module _ (p : Program) (f : Found) where
   pub record DeepTyped (l : Level) (k : Deeper) : Type 0 where
-    pub calls : (t : Typing) (a : Allowed) (g : ℕ) (function : FunTree) (o : Option Val) (vs : List Val) (e : Env) (w : World) →
-        fun_at p g ≡ Some function → Ready l a.waits → ((f.signature g).decides ≡ true → a.fails ≡ true) →
-        ((f.signature g).lasts ≡ true → a.waits ≡ true) → HasThis f t (f.signature g).this o → Are f.up t vs (f.signature g).params →
-        Kept p f l t w → Comes p f l any_names t a (f.signature g).result (k.calls g o vs a.waits e w)
-    pub spawns : (t : Typing) (a : Allowed) (g : ℕ) (function : FunTree) (o : Option Val) (vs : List Val) (e : Env) (w : World) →
-        fun_at p g ≡ Some function → Ready l a.waits → a.waits ≡ true → (f.signature g).decides ≡ false →
-        HasThis f t (f.signature g).this o → Are f.up t vs (f.signature g).params →
-        Kept p f l t w → Comes p f l any_names t a (s.task (f.signature g).result) (k.spawns g o vs e w)
-    pub defaults : (t : Typing) (a : Allowed) (b : Tree) (q : Sort) (e : Env) (w : World) → IsDefault p f b q → Ready l a.waits →
-        Kept p f l t w → Comes p f l any_names t a q (k.defaults b a.waits e w)
+    pub calls : (t : Typing) (a : Allowed) (g : ℕ) (function : FunTree) (o : Option Val)
+        (vs : List Val) (e : Env) (w : World) → fun_at p g ≡ Some function → Ready l a.waits →
+        ((f.signature g).decides ≡ true → a.fails ≡ true) →
+        ((f.signature g).lasts ≡ true → a.waits ≡ true) → HasThis f t (f.signature g).this o →
+        Are f.up t vs (f.signature g).params → Kept p f l t w →
+        Comes p f l any_names t a (f.signature g).result (k.calls g o vs a.waits e w)
+    pub spawns : (t : Typing) (a : Allowed) (g : ℕ) (function : FunTree) (o : Option Val)
+        (vs : List Val) (e : Env) (w : World) → fun_at p g ≡ Some function → Ready l a.waits →
+        a.waits ≡ true → (f.signature g).decides ≡ false → HasThis f t (f.signature g).this o →
+        Are f.up t vs (f.signature g).params → Kept p f l t w →
+        Comes p f l any_names t a (s.task (f.signature g).result) (k.spawns g o vs e w)
+    pub defaults : (t : Typing) (a : Allowed) (b : Tree) (q : Sort) (e : Env) (w : World) →
+        IsDefault p f b q → Ready l a.waits → Kept p f l t w →
+        Comes p f l any_names t a q (k.defaults b a.waits e w)
 
-  -- what is known before a level and a depth: the laws of the meaning, what the checker has found, and what begins by a step
+  -- what is known before a level and a depth: the laws of the meaning, what the checker has found,
+  -- and what begins by a step
   pub record Known (top : Level) (fuel : ℕ) : Type 0 where
     pub leave : (g : ℕ) → ContextLeaves p g
     pub undo : (g : ℕ) → ContextUndoes p (deeper p g)

@@ -1,13 +1,16 @@
 -- What is left of an evaluation goes on well for so many turns.
-use Rattle.std.specs.Prelude.{◌≡◌, ◌<◌, ◌≤◌, ℕ, zero, suc, Bool, true, false, List, [], ◌∷◌, Option, Some, None, ◌⊎◌}
+use Rattle.std.specs.Prelude.{◌≡◌, ◌<◌, ◌≤◌, ℕ, zero, suc, Bool, true, false, List, [], ◌∷◌, Option}
+use Rattle.std.specs.Prelude.{Some, None, ◌⊎◌}
 use Rattle.verse_value.specs.Val.{Val}
 use Rattle.verse_meaning_state.specs.Waits.{has}
 use Rattle.verse_sorts.specs.Sorts.{Sort}
 use Rattle.verse_sorts.specs.Typing.{at, Typing, Grows, Is}
 use Rattle.verse_meaning.specs.Programs.{Program}
-use Rattle.verse_meaning.specs.Residuals.{Env, Residual, leaves, Scope, Scopes, none, also, scope_leaves}
+use Rattle.verse_meaning.specs.Residuals.{Env, Residual, leaves, Scope, Scopes, none, also}
+use Rattle.verse_meaning.specs.Residuals.{scope_leaves}
 use Rattle.verse_meaning.specs.Outcomes.{World, Outcome, TaskOutcome, Went}
-use Rattle.verse_meaning.specs.Evaluating.{cancel_kids, cancel_own, cancel_scope_kids, cancel_scope_own}
+use Rattle.verse_meaning.specs.Evaluating.{cancel_kids, cancel_own, cancel_scope_kids}
+use Rattle.verse_meaning.specs.Evaluating.{cancel_scope_own}
 use Rattle.verse_meaning.specs.Resuming.{resume, resume_scope}
 use Rattle.verse_meaning.specs.Runs.{deeper}
 use Rattle.verse_sound_rules.specs.Found.{Found, Allowed}
@@ -23,7 +26,8 @@ abbrev pub Ready : Level → (waits : Bool) → Type 0
 Ready bare m = m ≡ false
 Ready (turns n) m = Unit {0}
 
--- what is shown before a level and a depth: fewer turns at every depth, and as many at no greater depth
+-- what is shown before a level and a depth: fewer turns at every depth, and as many at no greater
+-- depth
 abbrev pub Within : Level → ℕ → Level → ℕ → Type 0
 Within bare fuel bare g = g ≤ fuel
 Within bare fuel (turns m) g = ⊥
@@ -48,36 +52,42 @@ Dropped L t q = (b : Sort) × L t false b q
 module _ (p : Program) (f : Found) where
   -- at every depth, from memory that is kept, to memory that is kept
   abbrev pub Undoes : (ℕ → World → Went) → Typing → Type 0
-  Undoes go t = (u : Typing) (fuel : ℕ) (w : World) → Grows t u → Cells f u w → WentWell f u (go fuel w)
+  Undoes go t = (u : Typing) (fuel : ℕ) (w : World) → Grows t u → Cells f u w →
+      WentWell f u (go fuel w)
 
   abbrev pub Cancels : Typing → Residual → Type 0
-  Cancels t r = Undoes (λ k w. cancel_kids p (deeper p k) r w) t × Undoes (λ k w. cancel_own p (deeper p k) r w) t
+  Cancels t r = Undoes (λ k w. cancel_kids p (deeper p k) r w) t ×
+      Undoes (λ k w. cancel_own p (deeper p k) r w) t
 
   abbrev pub CancelsScope : Typing → Scope → Type 0
-  CancelsScope t q = Undoes (λ k w. cancel_scope_kids p (deeper p k) q w) t × Undoes (λ k w. cancel_scope_own p (deeper p k) q w) t
+  CancelsScope t q = Undoes (λ k w. cancel_scope_kids p (deeper p k) q w) t ×
+      Undoes (λ k w. cancel_scope_own p (deeper p k) q w) t
 
   -- a world between two turns, where what is suspended is L
-  pub record KeptIn (L : Typing → Bool → Sort → Scope → Type 0) (t : Typing) (w : World) : Type 0 where
+  pub record KeptIn (L : Typing → Bool → Sort → Scope → Type 0) (t : Typing) (w : World) :
+      Type 0 where
     pub cells : Cells f t w
     pub clock : Clocked f.up t w.state.clock
     pub behind : AllBehind (Dropped L t) w.behind
     pub tasks : AllTasks (Dropped L t) w.tasks
 
-  -- It can be cancelled, and its waits are of their sorts. Behind a wait that is woken with a value of its sort stands an outcome of the
-  -- sort, what is left of which goes on well for a turn less.
+  -- It can be cancelled, and its waits are of their sorts. Behind a wait that is woken with a value
+  -- of its sort stands an outcome of the sort, what is left of which goes on well for a turn less.
   abbrev mutual
     pub Left : ℕ → Typing → Allowed → Sort → Residual → Type 0
     Left zero u a b r = Cancels u r × WaitsOf f.up u (leaves r)
-    Left (suc n) u a b r = Left n u a b r × ((o : Typing) (fuel i : ℕ) (x : Val) (c : Sort) (w : World) → Grows u o →
-        at o.waits i ≡ Some c →
-        Is f.up o x c → has i (leaves r) ≡ true → KeptIn (LeftScope n) o w →
+    Left (suc n) u a b r = Left n u a b r ×
+        ((o : Typing) (fuel i : ℕ) (x : Val) (c : Sort) (w : World) → Grows u o →
+        at o.waits i ≡ Some c → Is f.up o x c → has i (leaves r) ≡ true → KeptIn (LeftScope n) o w →
         Typed f (KeptIn (LeftScope n)) (Left n) any_names o a b (resume p (deeper p fuel) r i x w))
 
     pub LeftScope : ℕ → Typing → Bool → Sort → Scope → Type 0
     LeftScope zero u c b q = CancelsScope u q × WaitsOf f.up u (scope_leaves q)
-    LeftScope (suc n) u c b q = LeftScope n u c b q × ((o : Typing) (fuel i : ℕ) (x : Val) (d : Sort) (w : World) → Grows u o →
-        at o.waits i ≡ Some d → Is f.up o x d → has i (scope_leaves q) ≡ true → KeptIn (LeftScope n) o w →
-        TypedTask f (KeptIn (LeftScope n)) (LeftScope n) o c true b (resume_scope p (deeper p fuel) q i x w))
+    LeftScope (suc n) u c b q = LeftScope n u c b q ×
+        ((o : Typing) (fuel i : ℕ) (x : Val) (d : Sort) (w : World) → Grows u o →
+        at o.waits i ≡ Some d → Is f.up o x d → has i (scope_leaves q) ≡ true →
+        KeptIn (LeftScope n) o w → TypedTask f (KeptIn (LeftScope n)) (LeftScope n) o c true b
+        (resume_scope p (deeper p fuel) q i x w))
 
   abbrev pub Kept : Level → Typing → World → Type 0
   Kept bare = Cells f

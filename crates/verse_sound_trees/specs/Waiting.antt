@@ -14,13 +14,16 @@ module _ (up : ℕ → Option ℕ) where
 
   abbrev pub SignalsOf : Typing → List Signal → Type 0
   SignalsOf t [] = Unit {0}
-  SignalsOf t (g ∷ gs) = ((a : Sort) × (at t.cells g.event ≡ Some (s.event a)) × Is up t g.given.value a) × SignalsOf t gs
+  SignalsOf t (g ∷ gs) = ((a : Sort) × (at t.cells g.event ≡ Some (s.event a)) ×
+      Is up t g.given.value a) × SignalsOf t gs
 
-  -- the tasks have given what their entries say, the signals carry what their events say, and each wait has a number
+  -- the tasks have given what their entries say, the signals carry what their events say, and each
+  -- wait has a number
   pub record Clocked (t : Typing) (c : Clock) : Type 0 where
     pub entries : length c.results ≡ length t.entries
     pub waits : c.next ≡ length t.waits
-    pub results : (i : ℕ) (a : Sort) → at t.entries i ≡ Some a → GivenOf t a (given_by (nth c.results i))
+    pub results : (i : ℕ) (a : Sort) → at t.entries i ≡ Some a →
+        GivenOf t a (given_by (nth c.results i))
     pub signals : SignalsOf t c.signals
 
   -- what a wait of this cause gives
@@ -33,4 +36,5 @@ module _ (up : ℕ → Option ℕ) where
   -- each wait of a list has a cause of its number's sort
   abbrev pub WaitsOf : Typing → List Wait → Type 0
   WaitsOf t [] = Unit {0}
-  WaitsOf t (w ∷ ws) = ((a : Sort) × (at t.waits w.number ≡ Some a) × CauseOf t a w.cause) × WaitsOf t ws
+  WaitsOf t (w ∷ ws) = ((a : Sort) × (at t.waits w.number ≡ Some a) × CauseOf t a w.cause) ×
+      WaitsOf t ws

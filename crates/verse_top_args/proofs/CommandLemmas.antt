@@ -1,6 +1,7 @@
 -- The words are one command.
 use Rattle.std.proofs.Common.{◌≡◌, ◌≢◌, ◌↔◌, ℕ, ℤ, Option, Some, None, List, [], ◌∷◌, ◌++◌, codes, refl, sym, ap, ◌∙◌, subst, ◌≤◌, length}
-use Rattle.std.proofs.Common.{unwrap_or, Result, Ok, Err, IfOk, Bool, true, false, map, string_bytes, append-nil, arith, ◌<◌, slice_index_or}
+use Rattle.std.proofs.Common.{unwrap_or, Result, Ok, Err, IfOk, Bool, true, false, map, string_bytes, append-nil, arith, ◌<◌}
+use Rattle.std.proofs.Common.{slice_index_or}
 use Rattle.std.specs.Str.{bytes_eq}
 use Rattle.std.proofs.lemmas.Slice.Eq.{bytes_eq-Decides}
 use Rattle.verse_top_args.specs.Words.{AreFiles, Command, EachIsFile, Given, Gives, Inputs, IsFile, IsIntList, IsNumber, SayOnce, Says}
@@ -154,7 +155,8 @@ one_are make word {files = files} {options = options} {file = file} spelled is p
 executes_of : (make : List ℕ → Options → Command) (word : List ℕ) {words files options behind : List (List ℕ)} {file : List ℕ}
     {given : Given} {ints : List ℤ} → words ≡ word ∷ file ∷ behind → IsFile file → Gives no_options behind given →
     Inputs given.inputs ints → Parted words word files options → Executes make files options (make file (options_of given ints))
-executes_of make word {files = files} {options = options} {behind = behind} {file = file} {given = given} {ints = ints} spelled is gives lists p =
+executes_of make word {files = files} {options = options} {behind = behind} {file = file} {given = given} {ints = ints} spelled is gives
+    lists p =
     let same = parted_once (file ∷ []) files behind options (one_file is).each p.each (options_begin gives) p.behind (cc (spelled, p.is)) in
     record {
       file = file;

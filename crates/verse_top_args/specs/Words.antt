@@ -1,6 +1,7 @@
 -- The words of a command line, and the command that they are.
 use Rattle.verse_base.specs.declared.limits.TheConstants.{MOST_NOW, MOST_STEPS}
-use Rattle.std.specs.Prelude.{◌≡◌, ◌≢◌, ℕ, ◌≤◌, ℤ, List, [], ◌∷◌, ◌++◌, Bool, true, false, Option, Some, None, unwrap_or, length, codes}
+use Rattle.std.specs.Prelude.{◌≡◌, ◌≢◌, ℕ, ◌≤◌, ℤ, List, [], ◌∷◌, ◌++◌, Bool, true, false, Option}
+use Rattle.std.specs.Prelude.{Some, None, unwrap_or, length, codes}
 use Rattle.std.specs.Prelude.{decimal, FitsSigned}
 use Rattle.std.specs.Fmt.{signed_decimal}
 use Rattle.std.specs.Int.{w64}
@@ -77,7 +78,8 @@ pub record IsInt (word : List ℕ) (n : ℤ) : Type 0 where
 -- ints with commas between them
 pub data IsIntList : List ℕ → List ℤ → Type 0 where
   last : {n : ℤ} {word : List ℕ} → IsInt word n → IsIntList word (n ∷ [])
-  more : {n : ℤ} {ns : List ℤ} {first rest : List ℕ} → IsInt first n → IsIntList rest ns → IsIntList (first ++ 44 ∷ rest) (n ∷ ns)
+  more : {n : ℤ} {ns : List ℤ} {first rest : List ℕ} → IsInt first n → IsIntList rest ns →
+      IsIntList (first ++ 44 ∷ rest) (n ∷ ns)
 
 -- the options given so far; the inputs by the word that lists them
 pub record Given : Type 0 where
@@ -89,12 +91,15 @@ pub record Given : Type 0 where
 abbrev pub no_options : Given
 no_options = record { steps = None; until = None; inputs = None; heap = false }
 
--- after the options before, these words give the options in the end: in any order, each at most once
+-- after the options before, these words give the options in the end: in any order, each at most
+-- once
 pub data Gives : Given → List (List ℕ) → Given → Type 0 where
   none_left : {g : Given} → Gives g [] g
-  steps : {g h : Given} {value : List ℕ} {words : List (List ℕ)} (n : ℕ) → g.steps ≡ None → IsNumber MOST_STEPS value n →
+  steps : {g h : Given} {value : List ℕ} {words : List (List ℕ)} (n : ℕ) → g.steps ≡ None →
+      IsNumber MOST_STEPS value n →
       Gives (record g { steps = Some n }) words h → Gives g (codes "--steps" ∷ value ∷ words) h
-  until : {g h : Given} {value : List ℕ} {words : List (List ℕ)} (n : ℕ) → g.until ≡ None → IsNumber MOST_NOW value n →
+  until : {g h : Given} {value : List ℕ} {words : List (List ℕ)} (n : ℕ) → g.until ≡ None →
+      IsNumber MOST_NOW value n →
       Gives (record g { until = Some n }) words h → Gives g (codes "--until" ∷ value ∷ words) h
   inputs : {g h : Given} {value : List ℕ} {words : List (List ℕ)} → g.inputs ≡ None →
       Gives (record g { inputs = Some value }) words h → Gives g (codes "--in" ∷ value ∷ words) h
@@ -104,7 +109,8 @@ pub data Gives : Given → List (List ℕ) → Given → Type 0 where
 -- what Main is given: the 1 to 1000 ints that the word of `--in` lists, and nothing without it
 pub data Inputs : Option (List ℕ) → List ℤ → Type 0 where
   not_given : Inputs None []
-  listed : {word : List ℕ} {ns : List ℤ} → IsIntList word ns → length ns ≤ 1000 → Inputs (Some word) ns
+  listed : {word : List ℕ} {ns : List ℤ} → IsIntList word ns → length ns ≤ 1000 →
+      Inputs (Some word) ns
 
 -- an option that is not given has its default
 abbrev pub options_of : Given → List ℤ → Options
@@ -117,10 +123,11 @@ options_of g ns = record {
 
 -- the words after the program's name, and the command that they are
 pub data Says : List (List ℕ) → Command → Type 0 where
-  says_run : {files words : List (List ℕ)} {g : Given} {ns : List ℤ} → AreFiles files → Gives no_options words g → Inputs g.inputs ns →
+  says_run : {files words : List (List ℕ)} {g : Given} {ns : List ℤ} → AreFiles files →
+      Gives no_options words g → Inputs g.inputs ns →
       Says (codes "run" ∷ files ++ words) (run files (options_of g ns))
-  says_exec : {file : List ℕ} {words : List (List ℕ)} {g : Given} {ns : List ℤ} → IsFile file → Gives no_options words g →
-      Inputs g.inputs ns →
+  says_exec : {file : List ℕ} {words : List (List ℕ)} {g : Given} {ns : List ℤ} → IsFile file →
+      Gives no_options words g → Inputs g.inputs ns →
       Says (codes "exec" ∷ file ∷ words) (exec file (options_of g ns))
   -- the lines of the heap can't be asked for
   says_save : {file : List ℕ} {words : List (List ℕ)} {g : Given} {ns : List ℤ} → IsFile file →
@@ -133,10 +140,12 @@ pub data Says : List (List ℕ) → Command → Type 0 where
   says_check : {files : List (List ℕ)} → AreFiles files → Says (codes "check" ∷ files) (check files)
   says_build : {files : List (List ℕ)} → AreFiles files → Says (codes "build" ∷ files) (build files)
   says_list : {file : List ℕ} → IsFile file → Says (codes "list" ∷ file ∷ []) (list file)
-  says_assemble : {file : List ℕ} → IsFile file → Says (codes "assemble" ∷ file ∷ []) (assemble file)
+  says_assemble : {file : List ℕ} → IsFile file →
+      Says (codes "assemble" ∷ file ∷ []) (assemble file)
   says_verify : {image notes : List ℕ} → IsFile image → IsFile notes →
       Says (codes "verify" ∷ image ∷ notes ∷ []) (verify image notes)
-  says_load : {word : List ℕ} {n : ℕ} → IsNumber 1000 word n → 2 ≤ n → Says (codes "load" ∷ word ∷ []) (load n)
+  says_load : {word : List ℕ} {n : ℕ} → IsNumber 1000 word n → 2 ≤ n →
+      Says (codes "load" ∷ word ∷ []) (load n)
 
 -- no words are two commands
 abbrev pub SayOnce : Type 0

@@ -6,7 +6,8 @@ use Rattle.verse_meaning_state.specs.Texts.{heap_lines}
 
 -- the cell of this address, where there is one
 abbrev pub cell_at : Store → ℕ → Cell
-cell_at cells address = unwrap_or (slice_get cells address) (record { kind = cell.Event; slots = [] })
+cell_at cells address = unwrap_or (slice_get cells address)
+    (record { kind = cell.Event; slots = [] })
 
 -- the lines of the first n cells, where they are asked for
 abbrev pub lines_of : Bool → Store → ℕ → List ℕ

@@ -10,4 +10,5 @@ use Rattle.verse_top_exec.specs.Executions.{run_with}
 -- the status of its ending, and the line of the ending with that of the number of lines behind it
 pub record Counts (c : Code) (o : Options) (status : ℕ) (text : List ℕ) : Type 0 where
   pub status_is : status ≡ ending_status (run_with c o).ending
-  pub text_is : text ≡ ending_line c.files (run_with c o) ++ lines_line (length (run_with c o).trace)
+  pub text_is : text ≡ ending_line c.files (run_with c o) ++
+      lines_line (length (run_with c o).trace)

@@ -21,7 +21,13 @@ pub record Course : Type 0 where
 
 -- from the inputs
 abbrev pub course_of : Options → Course
-course_of o = record { origin = from_inputs o.inputs; steps = o.steps; until = o.until; heap = o.heap }
+course_of o = record {
+  origin = from_inputs o.inputs;
+  steps = o.steps;
+  until = o.until;
+  heap =
+      o.heap;
+}
 
 -- after a first call and so many turns more
 abbrev pub stage_on : Code → Course → ℕ → Stage Forest

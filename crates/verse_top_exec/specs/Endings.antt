@@ -18,7 +18,8 @@ last_run l = ended l.ending l.now l.steps l.live
 
 -- these lines, or the first of the heap alone
 abbrev pub FrontOf : Bool → Store → (files : ℕ) → Run → List ℕ → Type 0
-FrontOf asked cells files r text = FirstLines asked cells text ⊎ (text ≡ rest_text asked cells files r)
+FrontOf asked cells files r text = FirstLines asked cells text ⊎
+    (text ≡ rest_text asked cells files r)
 
 -- the limits of a run
 pub record IsWithin (o : Options) : Type 0 where

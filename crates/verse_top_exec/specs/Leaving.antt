@@ -14,7 +14,8 @@ abbrev pub WroteFront : (List ℕ → Type 0) → (old new : Option (List ℕ)) 
 WroteFront Kind old new = (text : List ℕ) × (Kind text × TookPrefix old text new)
 
 -- memory ran out behind a text of one kind, or the sink failed within a text of another
-abbrev pub Stopped : (SoFar Cut : List ℕ → Type 0) → (before now : ℕ) → (old new : Option (List ℕ)) → Stop → Type 0
+abbrev pub Stopped : (SoFar Cut : List ℕ → Type 0) → (before now : ℕ) →
+    (old new : Option (List ℕ)) → Stop → Type 0
 Stopped SoFar Cut before now old new stop.Memory = Wrote SoFar old new
 Stopped SoFar Cut before now old new stop.Failed = Rose before now × WroteFront Cut old new
 
@@ -23,7 +24,8 @@ abbrev pub Either : (Whole : ℕ → List ℕ → Type 0) → (SoFar : List ℕ 
 Either Whole SoFar text = ((status : ℕ) × Whole status text) ⊎ SoFar text
 
 -- the whole text was written, or it stopped within it
-abbrev pub Leaves : (Whole : ℕ → List ℕ → Type 0) → (SoFar : List ℕ → Type 0) → (before now : ℕ) → (old new : Option (List ℕ)) →
-    Result ℕ Stop → Type 0
+abbrev pub Leaves : (Whole : ℕ → List ℕ → Type 0) → (SoFar : List ℕ → Type 0) → (before now : ℕ) →
+    (old new : Option (List ℕ)) → Result ℕ Stop → Type 0
 Leaves Whole SoFar before now old new (Ok status) = Wrote (Whole status) old new
-Leaves Whole SoFar before now old new (Err s) = Stopped SoFar (Either Whole SoFar) before now old new s
+Leaves Whole SoFar before now old new (Err s) =
+    Stopped SoFar (Either Whole SoFar) before now old new s

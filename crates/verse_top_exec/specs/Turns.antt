@@ -31,7 +31,8 @@ pub data Written (c : Code) (w : Course) : ℕ → List Line → Type 0 where
   unbegun : Written c w 0 []
   begun : (k : ℕ) → ending_in (stage_on c w k) ≡ None → Written c w (suc k) (lines_on c w k)
 
-module _ {H W : Type 0} (state : H → Kept) (pending : W → List Pending) (c : Code) (w : Course) where
+module _ {H W : Type 0} (state : H → Kept) (pending : W → List Pending) (c : Code)
+    (w : Course) where
   -- the machine stands after so many calls, and these lines were drained
   abbrev pub StandsAt : (calls : ℕ) → List Line → Vm H W → Type 0
   StandsAt calls past m = At state pending c w.origin w.steps w.until calls past m
@@ -50,7 +51,8 @@ module _ {H W : Type 0} (state : H → Kept) (pending : W → List Pending) (c :
     pub steps : r.steps ≡ m.run.spent
     pub live : LiveIs state pending r.live m
 
-  -- the run has ended, and its trace is written; the machine stands after so many calls, and is over
+  -- the run has ended, and its trace is written; the machine stands after so many calls, and is
+  -- over
   pub record Ended (e : Ending) (old new : Option (List ℕ)) (m : Vm H W) : Type 0 where
     pub ending : e ≡ (run_on c w).ending
     pub shown : Shown (run_on c w) m
@@ -60,6 +62,7 @@ module _ {H W : Type 0} (state : H → Kept) (pending : W → List Pending) (c :
     pub at : StandsAt calls past m
     pub over : m.phase ≡ phase.Ended e
 
-  abbrev pub Goes : (before now : ℕ) → (old new : Option (List ℕ)) → Vm H W → Result Ending Stop → Type 0
+  abbrev pub Goes : (before now : ℕ) → (old new : Option (List ℕ)) → Vm H W → Result Ending Stop →
+      Type 0
   Goes before now old new m (Ok e) = Ended e old new m
   Goes before now old new m (Err s) = Stopped (ComesSoFar c w) (ComesSoFar c w) before now old new s

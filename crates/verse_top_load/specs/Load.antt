@@ -34,7 +34,9 @@ print_line = codes "    Print(\"{S}\")\n"
 
 abbrev pub function_text : ℕ → List ℕ
 function_text i =
-    head_line i ++ (variable_line ++ (for_line ++ (inner_print_line ++ (race_line ++ (long_pause_line ++ (pause_line i ++ print_line))))))
+    head_line i ++ (variable_line ++
+    (for_line ++ (inner_print_line ++
+    (race_line ++ (long_pause_line ++ (pause_line i ++ print_line))))))
 
 -- ---- Main, which waits for all of them
 

@@ -15,7 +15,14 @@ live_of ending.Stuck live = None
 
 -- a run of which the last line tells the end alone
 abbrev pub ended : Ending → (now steps live : ℕ) → Run
-ended e now steps live = record { trace = []; store = []; ending = e; now = now; steps = steps; live = live_of e live }
+ended e now steps live = record {
+  trace = [];
+  store = [];
+  ending = e;
+  now = now;
+  steps = steps;
+  live = live_of e live;
+}
 
 -- the status that goes with an ending
 abbrev pub ending_status : Ending → ℕ

@@ -3,4 +3,5 @@ use Rattle.std.specs.Prelude.{ℕ, List, ◌++◌, codes, decimal}
 
 -- the rule that fails, and its offset
 abbrev pub image_line : (rule offset : ℕ) → List ℕ
-image_line rule offset = codes "= image I" ++ (decimal rule ++ (codes " " ++ (decimal offset ++ codes "\n")))
+image_line rule offset = codes "= image I" ++
+    (decimal rule ++ (codes " " ++ (decimal offset ++ codes "\n")))

@@ -1,5 +1,6 @@
 -- The line that tells a refusal.
-use Rattle.std.specs.Prelude.{ℕ, List, [], ◌∷◌, ◌++◌, length, cond, nat_le, slice_get, codes, decimal, unwrap_or}
+use Rattle.std.specs.Prelude.{ℕ, List, [], ◌∷◌, ◌++◌, length, cond, nat_le, slice_get, codes}
+use Rattle.std.specs.Prelude.{decimal, unwrap_or}
 use Rattle.verse_base.specs.RuleText.{rule_text_of}
 use Rattle.verse_base.specs.declared.places.Place.{Place}
 use Rattle.verse_base.specs.declared.refusals.Refusal.{Refusal}
@@ -9,7 +10,8 @@ line_and_column place = decimal place.line ++ 58 ∷ decimal place.col
 
 -- the name of the file, where there are several
 abbrev pub file_before : List (List ℕ) → ℕ → List ℕ
-file_before names file = cond (nat_le 2 (length names)) (unwrap_or (slice_get names file) [] ++ codes ":") []
+file_before names file = cond (nat_le 2 (length names))
+    (unwrap_or (slice_get names file) [] ++ codes ":") []
 
 -- a rule's number is printed in three digits
 abbrev pub rule_code : ℕ → List ℕ

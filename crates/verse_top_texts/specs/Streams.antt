@@ -20,8 +20,8 @@ trace_text stage = printed (state_in stage).memory.trace
 abbrev pub lines_so_far : Run → (heap : Bool) → (n : ℕ) → List ℕ
 lines_so_far r heap n = printed r.trace ++ cond heap (heap_lines 0 (take n r.store)) []
 
--- What may stand written before the whole text, by the stages after the start and so many turns: nothing, the trace after some turns, or
--- the whole trace and some of the lines that follow.
+-- What may stand written before the whole text, by the stages after the start and so many turns:
+-- nothing, the trace after some turns, or the whole trace and some of the lines that follow.
 pub data Streams {A : Type 0} (stages : ℕ → Stage A) (r : Run) (heap : Bool) : List ℕ → Type 0 where
   nothing : Streams stages r heap []
   turns : (k : ℕ) → Streams stages r heap (trace_text (stages k))

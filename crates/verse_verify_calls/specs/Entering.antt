@@ -16,9 +16,12 @@ module _ (h : Here) where
 
   -- the same, and calls or spawns a function
   abbrev pub enters : FuncNote → t.Made → List Sort → Stepped
-  enters g m st = leads (to (code_in h) (table_in h) (spot_in h) h.index (suc h.index) (m ∷ []) st ∷ []) [] (Some g)
+  enters g m st = leads (to (code_in h) (table_in h) (spot_in h) h.index (suc h.index) (m ∷ []) st ∷
+      []) [] (Some g)
 
   -- a method of an object, with so many arguments
-  abbrev pub enters_method : FuncNote → (count : ℕ) → t.Made → (object : Sort) → (args st : List Sort) → Stepped
+  abbrev pub enters_method : FuncNote → (count : ℕ) → t.Made → (object : Sort) →
+      (args st : List Sort) → Stepped
   enters_method g k m a xs st =
-      need 6 (eqn (length g.params) (suc k)) (need 5 (each_fit (classes_in h) (a ∷ xs) g.params) (enters g m st))
+      need 6 (eqn (length g.params) (suc k))
+      (need 5 (each_fit (classes_in h) (a ∷ xs) g.params) (enters g m st))

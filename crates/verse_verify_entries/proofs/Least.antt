@@ -43,7 +43,8 @@ module _ (c : Code) (t : Table) where
   asked_there k f g i e = ap (λ j. asked k f g j) (sym e) ∙ ap (λ b. cond b (begins_there c t k f g) true) (eqn_same f.entry)
 
   asked_before : (m k : ℕ) (f : Func) (g : FuncNote) (i : ℕ) → i < lesser c t m k f g → asked k f g i ≡ true
-  asked_before m k f g i h = cond_with (eqn f.entry i) (on_spot (spot_at t i) (λ q. begins c t k f g q)) true (λ b. b ≡ true) (λ e. at_entry (eqn_is f.entry i e)) (λ e. refl)
+  asked_before m k f g i h = cond_with (eqn f.entry i) (on_spot (spot_at t i) (λ q. begins c t k f g q)) true (λ b. b ≡ true)
+      (λ e. at_entry (eqn_is f.entry i e)) (λ e. refl)
     where
       go : (b : Bool) → i < cond b m (min m f.entry) → f.entry ≡ i → b ≡ true
       go true h e = refl
@@ -56,8 +57,8 @@ module _ (c : Code) (t : Table) where
   least_first m k [] gs i h = refl
   least_first m k (f ∷ fs) [] i h = absurd (omega (arith, h))
   least_first m k (f ∷ fs) (g ∷ gs) i h =
-      ap₂ (λ a b. a && b) (asked_before m k f g i (below h (least_most (lesser c t m k f g) (suc k) fs gs))) (least_first (lesser c t m k f g) (suc k)
-      fs gs i h)
+      ap₂ (λ a b. a && b) (asked_before m k f g i (below h (least_most (lesser c t m k f g) (suc k) fs gs)))
+      (least_first (lesser c t m k f g) (suc k) fs gs i h)
     where
       below : {i j n : ℕ} → i < j → j ≤ n → i < n
       below h l = omega (arith, h, l)
@@ -66,8 +67,9 @@ module _ (c : Code) (t : Table) where
       begins_at c t k fs gs (least_from c t m k fs gs) ≡ false
   least_broken m k [] gs h = absurd (omega (arith, h))
   least_broken m k (f ∷ fs) [] h = refl
-  least_broken m k (f ∷ fs) (g ∷ gs) h = under_or_at i n (least_most n (suc k) fs gs) (λ l. ap (λ b. asked k f g i && b) (least_broken n (suc k)
-      fs gs l) ∙ and_false (asked k f g i)) (λ e. ap (λ b. b && begins_at c t (suc k) fs gs i) (here (begins_there c t k f g) refl i e h))
+  least_broken m k (f ∷ fs) (g ∷ gs) h = under_or_at i n (least_most n (suc k) fs gs)
+      (λ l. ap (λ b. asked k f g i && b) (least_broken n (suc k) fs gs l) ∙ and_false (asked k f g i))
+      (λ e. ap (λ b. b && begins_at c t (suc k) fs gs i) (here (begins_there c t k f g) refl i e h))
     where
       n : ℕ
       n = lesser c t m k f g

@@ -13,7 +13,8 @@ use Rattle.verse_verify_faults.specs.Faults.{begins, on_spot, is_none, is_nil}
 -- a state with no arm, operand, Try or deferred block
 abbrev pub bare : Spot → Bool
 bare q =
-    is_none q.arm && is_nil q.stack && is_nil q.tries && is_none q.block && is_nil q.outer && eqn q.under 0 && is_nil q.defers
+    is_none q.arm && is_nil q.stack && is_nil q.tries && is_none q.block && is_nil q.outer &&
+    eqn q.under 0 && is_nil q.defers
 
 -- sorts ask nothing of locals
 abbrev pub all_nothing : List ClassNote → List Sort → Bool

@@ -46,9 +46,10 @@ module _ (h : Here) (l d label : ℕ) (st : List Sort) where
 
   both_there : (a b : Option Sort) (x y : Sort) → Some x ≡ a → Some y ≡ b → t.may_take (classes_in h) a ≡ true →
       t.may_number (classes_in h) b ≡ true → take_by a b ≡ on_there 5 (t.taken (classes_in h) x) (λ k. takes (written_of k))
-  both_there a b x y e f g i = ap (λ a. take_by a b) (sym e) ∙ ap (take_by (Some x)) (sym f) ∙ need_both (t.may_take (classes_in h) (Some x))
-      (t.may_number (classes_in h) (Some y)) (on_there 5 (t.taken (classes_in h) x) (λ k. takes (written_of k))) (ap (t.may_take (classes_in
-      h)) e ∙ g) (ap (t.may_number (classes_in h)) f ∙ i)
+  both_there a b x y e f g i = ap (λ a. take_by a b) (sym e) ∙ ap (take_by (Some x)) (sym f) ∙
+      need_both (t.may_take (classes_in h) (Some x)) (t.may_number (classes_in h) (Some y))
+      (on_there 5 (t.taken (classes_in h) x) (λ k. takes (written_of k))) (ap (t.may_take (classes_in h)) e ∙ g)
+      (ap (t.may_number (classes_in h)) f ∙ i)
 
   pub takes_this : (a b : Option Sort) (x y : Sort) (q : Written) → Some x ≡ a → Some y ≡ b → t.may_take (classes_in h) a ≡ true →
       t.may_number (classes_in h) b ≡ true → Some q ≡ option_map written_of (t.taken (classes_in h) x) → take_by a b ≡ takes q

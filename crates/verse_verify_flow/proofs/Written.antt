@@ -106,8 +106,8 @@ module _ (h : Here) (st : List s.Sort) (l d label : ℕ) (q : Taking) where
   taken_far p o = three_past h.spot.now.locals.items d (made_of q.value) (made_of q.beside) (l + q.far) (made_of q.last) takes p o
 
   pub taken_there : suc d < length h.spot.now.locals.items → l + q.far < length h.spot.now.locals.items →
-      writes_taken h l d label (writes_of q) st ≡ takes (set (set (set (before h.spot.now.locals.items) d (made_of q.value)) (suc d) (made_of
-      q.beside)) (l + q.far) (made_of q.last))
+      writes_taken h l d label (writes_of q) st ≡
+      takes (set (set (set (before h.spot.now.locals.items) d (made_of q.value)) (suc d) (made_of q.beside)) (l + q.far) (made_of q.last))
   taken_there p o = three_there h.spot.now.locals.items d (made_of q.value) (made_of q.beside) (l + q.far) (made_of q.last) takes p o
 
 -- the rule that is broken where locals are written that are there
@@ -115,8 +115,9 @@ module _ (h : Here) (st : List Sort) (j : ℕ) (r : Bool) where
   pub one_rule : (l : ℕ) (m : Made) → l < length h.spot.now.locals.items → j ≡ suc h.index →
       r ≡ suited h (goes_written h j (record { local = l; made = m } ∷ []) st ∷ []) →
       settled h r (l ∷ []) None ≡ rule_by h (writes_one h l (made_of m) (operands st))
-  one_rule l m p e f = ap (λ b. settled h b (l ∷ []) None) (f ∙ ap (λ j. suited h (goes_written h j (record { local = l; made = m } ∷ []) st ∷
-      [])) e) ∙ sym (ap (rule_by h) (one_there h.spot.now.locals.items l (made_of m) (λ ls. wrote h ls (l ∷ []) (operands st)) p))
+  one_rule l m p e f = ap (λ b. settled h b (l ∷ []) None)
+      (f ∙ ap (λ j. suited h (goes_written h j (record { local = l; made = m } ∷ []) st ∷ [])) e) ∙
+      sym (ap (rule_by h) (one_there h.spot.now.locals.items l (made_of m) (λ ls. wrote h ls (l ∷ []) (operands st)) p))
 
   pub two_rule : (l k : ℕ) (m n : Made) → k ≡ suc l → suc l < length h.spot.now.locals.items → j ≡ suc h.index →
       r ≡ suited h (goes_written h j (record { local = l; made = m } ∷ record { local = k; made = n } ∷ []) st ∷ []) →

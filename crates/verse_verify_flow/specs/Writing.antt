@@ -23,9 +23,13 @@ module _ (h : Here) where
   writes_one l m st = on_there 6 (put locals_in l m) (λ ls. wrote ls (l ∷ []) st)
 
   abbrev pub writes_two : ℕ → (m n : t.Made) → List Sort → Stepped
-  writes_two l m n st = on_there 6 (put locals_in l m) (λ ls. on_there 6 (put ls (suc l) n) (λ ms. wrote ms (l ∷ suc l ∷ []) st))
+  writes_two l m n st = on_there 6 (put locals_in l m)
+      (λ ls. on_there 6 (put ls (suc l) n) (λ ms. wrote ms (l ∷ suc l ∷ []) st))
 
   -- a value is taken from a domain: what is written, in turn
   abbrev pub writes_taken : (l d label : ℕ) → t.Made × t.Made × ℕ × t.Made → List Sort → Stepped
-  writes_taken l d label q st = on_there 6 (put locals_in d q.0) (λ xs. on_there 6 (put xs (suc d) q.1) (λ ys. on_there 6 (put ys (l + q.2)
-      q.3) (λ zs. leads (to_state (suc h.index) st ∷ record (to_state label st) { locals = zs } ∷ []) (l ∷ suc l ∷ d ∷ suc d ∷ []) None)))
+  writes_taken l d label q st = on_there 6 (put locals_in d q.0)
+      (λ xs. on_there 6 (put xs (suc d) q.1)
+      (λ ys. on_there 6 (put ys (l + q.2) q.3)
+      (λ zs. leads (to_state (suc h.index) st ∷ record (to_state label st) { locals = zs } ∷ [])
+      (l ∷ suc l ∷ d ∷ suc d ∷ []) None)))

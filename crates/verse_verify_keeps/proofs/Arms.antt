@@ -22,8 +22,8 @@ module _ (c : Code) (t : Table) where
 
   pub further : (x m i : ℕ) → i < m → not (is_none (label_of (slice_get c.ops (suc x + i)))) ≡ true →
       are_arms c t (suc x + (i + 1)) (m - (i + 1)) ≡ are_arms c t (suc x + i) (m - i)
-  further x m i h y = sym (one_less (suc x + i) m i h ∙ ap (λ b. b && are_arms c t (suc (suc x + i)) (m - (i + 1))) y ∙ ap (λ n. are_arms c t n
-      (m - (i + 1))) (plus x i))
+  further x m i h y = sym (one_less (suc x + i) m i h ∙ ap (λ b. b && are_arms c t (suc (suc x + i)) (m - (i + 1))) y ∙
+      ap (λ n. are_arms c t n (m - (i + 1))) (plus x i))
     where
       plus : (x i : ℕ) → suc (suc x + i) ≡ suc x + (i + 1)
       plus x i = omega arith

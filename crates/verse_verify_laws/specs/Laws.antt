@@ -11,12 +11,13 @@ use Rattle.verse_verify_faults.specs.Spots.{Table, notes_of}
 use Rattle.verse_verify_faults.specs.Faults.{notes_fault}
 use Rattle.verse_verify_faults.specs.Reading.{verdict}
 
--- as many notes as the code has classes, functions, parameters and operations: so are those that bytes give
+-- as many notes as the code has classes, functions, parameters and operations: so are those that
+-- bytes give
 pub record Formed (c : Code) (t : Table) : Type 0 where
   pub classes : length t.classes ≡ length c.classes
   pub functions : length t.functions ≡ length c.functions
-  pub params : (k : ℕ) (f : Func) (g : FuncNote) → slice_get c.functions k ≡ Some f → slice_get t.functions k ≡ Some g →
-      length g.params ≡ f.params
+  pub params : (k : ℕ) (f : Func) (g : FuncNote) → slice_get c.functions k ≡ Some f →
+      slice_get t.functions k ≡ Some g → length g.params ≡ f.params
   pub spots : length t.spots ≡ length c.ops
 
 -- notes that break none of V2 to V9 fulfil the rules

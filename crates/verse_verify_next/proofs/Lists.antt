@@ -1,5 +1,6 @@
 -- Lists that are compared one by one, and lists whose top is last in memory.
-use Rattle.std.proofs.Common.{◌≡◌, ℕ, zero, suc, ◌-◌, ◌<◌, List, [], ◌∷◌, ◌++◌, length, map, reverse, take, drop, Bool, true, false, refl, sym, ap, ◌∙◌, arith}
+use Rattle.std.proofs.Common.{◌≡◌, ℕ, zero, suc, ◌-◌, ◌<◌, List, [], ◌∷◌, ◌++◌, length, map, reverse, take, drop, Bool, true, false, refl}
+use Rattle.std.proofs.Common.{sym, ap, ◌∙◌, arith}
 use Rattle.std.specs.Prelude.{◌&&◌}
 use Rattle.std.proofs.lemmas.List.{reverse-append, map-append, take-append-drop, length-reverse, length-map, length-drop}
 use Rattle.std.proofs.Math.Seq.{drop-append_seam, take-append_seam}
@@ -105,12 +106,14 @@ module _ {A B : Type 0} (f : A → B) where
   high_length h xs = length-reverse (map f (drop h xs)) ∙ length-map (drop h xs) f ∙ length-drop h xs
 
   pub low_is : (h : ℕ) (xs : List A) → reverse (map f (take h xs)) ≡ drop (length xs - h) (reverse (map f xs))
-  low_is h xs = sym (ap (drop (length xs - h)) (cut h xs) ∙ ap (λ n. drop n (reverse (map f (drop h xs)) ++ reverse (map f (take h xs)))) (sym
-      (high_length h xs)) ∙ drop-append_seam (reverse (map f (drop h xs))) (reverse (map f (take h xs))))
+  low_is h xs = sym (ap (drop (length xs - h)) (cut h xs) ∙
+      ap (λ n. drop n (reverse (map f (drop h xs)) ++ reverse (map f (take h xs)))) (sym (high_length h xs)) ∙
+      drop-append_seam (reverse (map f (drop h xs))) (reverse (map f (take h xs))))
 
   pub high_is : (h : ℕ) (xs : List A) → reverse (map f (drop h xs)) ≡ take (length xs - h) (reverse (map f xs))
-  high_is h xs = sym (ap (take (length xs - h)) (cut h xs) ∙ ap (λ n. take n (reverse (map f (drop h xs)) ++ reverse (map f (take h xs)))) (sym
-      (high_length h xs)) ∙ take-append_seam (reverse (map f (drop h xs))) (reverse (map f (take h xs))))
+  high_is h xs = sym (ap (take (length xs - h)) (cut h xs) ∙
+      ap (λ n. take n (reverse (map f (drop h xs)) ++ reverse (map f (take h xs)))) (sym (high_length h xs)) ∙
+      take-append_seam (reverse (map f (drop h xs))) (reverse (map f (take h xs))))
 
 pub stack_length : (st : List Made) → length (operands st) ≡ length st
 stack_length st = length-reverse (sorts_of st) ∙ length-map st sort_of

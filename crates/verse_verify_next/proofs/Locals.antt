@@ -47,8 +47,9 @@ eqn_same (suc k) = eqn_same k
 
 one_after : (ls : List t.Made) (w : Write) (n k : ℕ) → w.local ≡ n + k → each_after ls (w ∷ []) k ≡ set ls n (made_of w.made)
 one_after [] w n k e = refl
-one_after (m ∷ ls) w zero k e = ap (λ b. cond b (made_of w.made) m ∷ each_after ls (w ∷ []) (suc k)) (ap (λ i. eqn i k) (plain k w.local e) ∙
-    eqn_same k) ∙ ap (λ zs. made_of w.made ∷ zs) (beyond ls m k (suc k) w (plain k w.local e) (omega arith))
+one_after (m ∷ ls) w zero k e = ap (λ b. cond b (made_of w.made) m ∷ each_after ls (w ∷ []) (suc k))
+    (ap (λ i. eqn i k) (plain k w.local e) ∙ eqn_same k) ∙
+    ap (λ zs. made_of w.made ∷ zs) (beyond ls m k (suc k) w (plain k w.local e) (omega arith))
   where
     plain : (k l : ℕ) → l ≡ 0 + k → l ≡ k
     plain k l e = omega (arith, e)

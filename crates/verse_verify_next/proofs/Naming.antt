@@ -1,5 +1,6 @@
 -- The open Trys of a frame: those of the frame, the innermost last in memory, and those around its deferred block.
-use Rattle.std.proofs.Common.{◌≡◌, ℕ, zero, suc, ◌+◌, ◌-◌, ◌<◌, ◌≤◌, List, [], ◌∷◌, ◌++◌, length, map, reverse, drop, Bool, true, false, cond}
+use Rattle.std.proofs.Common.{◌≡◌, ℕ, zero, suc, ◌+◌, ◌-◌, ◌<◌, ◌≤◌, List, [], ◌∷◌, ◌++◌, length, map, reverse, drop, Bool, true, false}
+use Rattle.std.proofs.Common.{cond}
 use Rattle.std.proofs.Common.{refl, sym, ap, ◌∙◌, arith}
 use Rattle.std.specs.Prelude.{◌&&◌, Some, None, get_or, slice_get}
 use Rattle.std.specs.Option.{option_map}
@@ -25,7 +26,9 @@ more_marks m ms = ap (map (λ (x : p.Mark). x.index)) (reverse-append (mark_of m
     x.index) (reverse (map mark_of ms)) (mark_of m ∷ [])
 
 pub names_length : (ms : List Mark) (outer : List ℕ) → length (of_marks ms ++ outer) ≡ length ms + length outer
-names_length ms outer = length-append (of_marks ms) outer ∙ ap (λ n. n + length outer) (length-map (reverse (map mark_of ms)) (λ (m : p.Mark). m.index) ∙ length-reverse (map mark_of ms) ∙ length-map ms mark_of)
+names_length ms outer = length-append (of_marks ms) outer ∙
+    ap (λ n. n + length outer) (length-map (reverse (map mark_of ms)) (λ (m : p.Mark). m.index) ∙ length-reverse (map mark_of ms) ∙
+    length-map ms mark_of)
 
 beyond_front : {A : Type 0} (xs ys : List A) (i : ℕ) → length xs ≤ i → slice_get (xs ++ ys) i ≡ slice_get ys (i - length xs)
 beyond_front [] ys i h = ap (slice_get ys) (all i)
@@ -202,9 +205,10 @@ module _ (c : Code) (t : Table) where
       (length xs ≤ length ys → ends_with c t xs ys ≡ same_numbers xs (drop (length ys - length xs) ys)) →
       ends_with c t xs (y ∷ ys) ≡ same_numbers xs (drop (suc (length ys) - length xs) (y ∷ ys))
   shorter_more xs y ys h more = under_or_at (length xs) (suc (length ys)) (less h) (λ k. ap (λ b. cond b true (ends_with c t xs ys))
-      (other_length xs (y ∷ ys) (λ e. differ (length xs) (length ys) k e)) ∙ more (down (length xs) (length ys) k) ∙ ap (λ n. same_numbers xs
-      (drop n (y ∷ ys))) (next (length xs) (length ys) k)) (λ e. same_or xs (y ∷ ys) (ends_with c t xs ys) (longer xs ys (under (length xs)
-      (length ys) e)) ∙ ap (λ n. same_numbers xs (drop n (y ∷ ys))) (sym (all (length xs) (length ys) e)))
+      (other_length xs (y ∷ ys) (λ e. differ (length xs) (length ys) k e)) ∙ more (down (length xs) (length ys) k) ∙
+      ap (λ n. same_numbers xs (drop n (y ∷ ys))) (next (length xs) (length ys) k))
+      (λ e. same_or xs (y ∷ ys) (ends_with c t xs ys) (longer xs ys (under (length xs) (length ys) e)) ∙
+      ap (λ n. same_numbers xs (drop n (y ∷ ys))) (sym (all (length xs) (length ys) e)))
     where
       less : {m n : ℕ} → m ≤ n → m < suc n
       less h = omega (arith, h)

@@ -1,12 +1,14 @@
 -- An operation and the state at it, as the definitions see them.
-use Rattle.std.specs.Prelude.{ℕ, List, ◌++◌, Option, Some, None, Bool, false, ◌&&◌, map, reverse, cond, slice_get}
+use Rattle.std.specs.Prelude.{ℕ, List, ◌++◌, Option, Some, None, Bool, false, ◌&&◌, map, reverse}
+use Rattle.std.specs.Prelude.{cond, slice_get}
 use Rattle.verse_code.specs.declared.codes.Code.{Code}
 use Rattle.verse_meaning_state.specs.Waits.{eqn}
 use Rattle.verse_sorts.specs.Sorts as s
 use Rattle.verse_verify_kept.specs.Notes as n
 use Rattle.verse_verify_faults.specs.Spots as p
 use Rattle.verse_verify_faults.specs.Stepping.{Stepped, Goes}
-use Rattle.verse_verify_faults.specs.Faults.{by_step, all_suit, same_arm, same_number, same_numbers, keeps_8}
+use Rattle.verse_verify_faults.specs.Faults.{by_step, all_suit, same_arm, same_number, same_numbers}
+use Rattle.verse_verify_faults.specs.Faults.{keeps_8}
 use Rattle.verse_verify_faults.specs.Faults.{keeps_9}
 use Rattle.verse_verify_notes.specs.declared.sorts.Sort.{Sort}
 use Rattle.verse_verify_notes.specs.View.{sorts_of, spot_of, table_of}
@@ -65,5 +67,6 @@ rule_by h q = by_step (code_in h) (table_in h) h.index (spot_in h) h.op q
 -- the same, where it is known whether the next states suit
 abbrev pub settled : Here → Bool → List ℕ → Option n.FuncNote → Option ℕ
 settled h suit ws callee =
-    cond suit (cond (keeps_8 (code_in h) (table_in h) h.index (spot_in h) h.op ws callee) (cond (keeps_9 (code_in h) (table_in h) h.index
-    (spot_in h) h.op callee) None (Some 9)) (Some 8)) (Some 7)
+    cond suit (cond (keeps_8 (code_in h) (table_in h) h.index (spot_in h) h.op ws callee)
+    (cond (keeps_9 (code_in h) (table_in h) h.index (spot_in h) h.op callee) None (Some 9))
+    (Some 8)) (Some 7)

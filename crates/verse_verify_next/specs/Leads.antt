@@ -16,16 +16,19 @@ module _ (h : Here) where
   goes_to j made st = to (code_in h) (table_in h) (spot_in h) h.index j (pushed made) (operands st)
 
   abbrev pub goes_written : ℕ → List Write → List Sort → Goes
-  goes_written j ws st = record (goes_to j None st) { locals = written (map t.is (spot_in h).locals) ws }
+  goes_written j ws st = record (goes_to j None st)
+      { locals = written (map t.is (spot_in h).locals) ws }
 
   -- in a Try more, or in one less
   abbrev pub goes_in : List Sort → Goes
   goes_in st = record (goes_to (suc h.index) None st) {
-    tries = Some (record { index = h.index; height = length (spot_in h).stack } ∷ (spot_in h).tries);
+    tries = Some (record { index = h.index; height = length (spot_in h).stack } ∷
+        (spot_in h).tries);
   }
 
   abbrev pub goes_out : List Sort → List Sort → Goes
-  goes_out ls st = record (goes_to (suc h.index) None st) { tries = tails (spot_in h).tries; locals = map t.is (sorts_of ls) }
+  goes_out ls st = record (goes_to (suc h.index) None st)
+      { tries = tails (spot_in h).tries; locals = map t.is (sorts_of ls) }
 
   -- with these blocks deferred
   abbrev pub goes_deferring : ℕ → List ℕ → List Sort → Goes

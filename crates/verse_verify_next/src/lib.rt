@@ -2,7 +2,8 @@
 //!
 //! To be read in this order: `heres`, an operation and the state at it; `operands`, what it pops;
 //! `mades`, what it makes; `stacks`, `rows` and `parts`, whether a next state has that stack, those
-//! locals, and that arm, block and open Trys; `names`, all open Trys; `leading`, whole states. `specs/Heres` and
+//! locals, and that arm, block and open Trys; `names`, all open Trys; `leading`, whole states.
+//! `specs/Heres` and
 //! `specs/Mades` say what they are to the definitions.
 #![tactic(auto)]
 

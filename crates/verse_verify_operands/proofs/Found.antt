@@ -1,5 +1,6 @@
 -- What an operation finds, and what the definitions pass on.
-use Rattle.std.proofs.Common.{◌≡◌, ℕ, zero, suc, ◌+◌, ◌-◌, ◌<◌, ◌≤◌, List, [], ◌∷◌, ◌++◌, length, map, reverse, take, drop, refl, sym, ap, ◌∙◌, arith}
+use Rattle.std.proofs.Common.{◌≡◌, ℕ, zero, suc, ◌+◌, ◌-◌, ◌<◌, ◌≤◌, List, [], ◌∷◌, ◌++◌, length, map, reverse, take, drop, refl, sym, ap}
+use Rattle.std.proofs.Common.{◌∙◌, arith}
 use Rattle.std.specs.Prelude.{Option, Some, None, slice_get}
 use Rattle.verse_sorts.specs.Typing.{at}
 use Rattle.std.proofs.lemmas.List.{reverse-append, reverse-reverse, append_assoc, append-nil, map-append, take-append-drop, length-reverse}
@@ -56,8 +57,8 @@ methods_by c t a m nothing go = refl
 -- operands that are popped together
 popped_front : (zs st xs : List Sort) → popped (length zs) (zs ++ st) xs ≡ Some (reverse zs ++ xs, st)
 popped_front [] st xs = refl
-popped_front (z ∷ zs) st xs = popped_front zs st (z ∷ xs) ∙ ap (λ ys. Some (ys, st)) (sym (ap (λ ys. ys ++ xs) (reverse-append (z ∷ []) zs) ∙
-    append_assoc (reverse zs) (z ∷ []) xs))
+popped_front (z ∷ zs) st xs = popped_front zs st (z ∷ xs) ∙
+    ap (λ ys. Some (ys, st)) (sym (ap (λ ys. ys ++ xs) (reverse-append (z ∷ []) zs) ∙ append_assoc (reverse zs) (z ∷ []) xs))
 
 operands_length : (st : List Kept) → length (operands st) ≡ length st
 operands_length st = length-reverse (sorts_of st) ∙ length-map st sort_of

@@ -1,5 +1,6 @@
 -- What an operation finds, as a result: what the definitions pass on, or the rule that they break.
-use Rattle.std.specs.Prelude.{ℕ, zero, suc, List, [], ◌∷◌, length, Option, Some, None, Result, Ok, Err, cond, nat_lt, slice_get}
+use Rattle.std.specs.Prelude.{ℕ, zero, suc, List, [], ◌∷◌, length, Option, Some, None, Result, Ok}
+use Rattle.std.specs.Prelude.{Err, cond, nat_lt, slice_get}
 use Rattle.verse_code.specs.declared.operations.Op.{Op}
 use Rattle.verse_code.specs.declared.codes.Code.{Code}
 use Rattle.verse_sorts.specs.Sorts as s
@@ -8,7 +9,8 @@ use Rattle.verse_verify_kept.specs.Notes.{ClassNote, FuncNote}
 use Rattle.verse_verify_kept.specs.Rules.{at_sort}
 use Rattle.verse_verify_faults.specs.Spots.{Table}
 use Rattle.verse_verify_faults.specs.Stepping as t
-use Rattle.verse_verify_faults.specs.Stepping.{Stepped, Taking, breaks, slots_at, note_of, methods_of, step}
+use Rattle.verse_verify_faults.specs.Stepping.{Stepped, Taking, breaks, slots_at, note_of}
+use Rattle.verse_verify_faults.specs.Stepping.{methods_of, step}
 use Rattle.verse_verify_notes.specs.declared.sorts.Sort as made
 use Rattle.verse_verify_next.specs.declared.heres.Here.{Here}
 use Rattle.verse_verify_next.specs.Heres.{code_in, table_in, spot_in, operands, rule_by}
@@ -54,7 +56,8 @@ method_there (Some g) = Ok (Some g)
 
 -- the method of an object, or nothing where there is no value
 abbrev pub method_in : Code → Table → Sort → ℕ → Result (Option FuncNote) ℕ
-method_in c t (s.obj k) m = method_there (note_of t.functions (methods_of (slice_get c.classes k) m))
+method_in c t (s.obj k) m = method_there
+    (note_of t.functions (methods_of (slice_get c.classes k) m))
 method_in c t s.never m = Ok None
 method_in c t a m = Err 5
 

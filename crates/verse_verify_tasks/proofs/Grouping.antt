@@ -1,5 +1,6 @@
 -- What the arms of a Group give together, and to where it leads.
-use Rattle.std.proofs.Common.{◌≡◌, ℕ, zero, suc, ◌+◌, ◌<◌, ◌≤◌, List, [], ◌∷◌, length, Bool, true, false, cond, refl, sym, ap, subst, ◌∙◌, arith}
+use Rattle.std.proofs.Common.{◌≡◌, ℕ, zero, suc, ◌+◌, ◌<◌, ◌≤◌, List, [], ◌∷◌, length, Bool, true, false, cond, refl, sym, ap, subst, ◌∙◌}
+use Rattle.std.proofs.Common.{arith}
 use Rattle.std.specs.Prelude.{◌≢◌, not, ◌&&◌, Option, Some, None}
 use Rattle.verse_meaning_state.specs.Waits.{eqn}
 use Rattle.verse_sorts.specs.Sorts as s
@@ -8,7 +9,8 @@ use Rattle.verse_verify_kept.specs.Notes.{ClassNote}
 use Rattle.verse_verify_kept.specs.Rules.{sorts}
 use Rattle.verse_verify_faults.specs.Fitting.{fit, fit_each, all_fit, on_tuple}
 use Rattle.verse_verify_faults.specs.Spots.{Spot, spot_at}
-use Rattle.verse_verify_faults.specs.Stepping.{Goes, arm_at, arm_labels, with_label, arm_of, arm_results, arm_sorts, arms_at, behind_arm, grouped}
+use Rattle.verse_verify_faults.specs.Stepping.{Goes, arm_at, arm_labels, with_label, arm_of, arm_results, arm_sorts, arms_at, behind_arm}
+use Rattle.verse_verify_faults.specs.Stepping.{grouped}
 use Rattle.verse_verify_faults.specs.Faults.{holds, is_none, on_spot, suits}
 use Rattle.verse_verify_next.specs.declared.heres.Here.{Here}
 use Rattle.verse_verify_next.specs.Heres.{code_in, table_in, classes_in, spot_in, suited}
@@ -71,8 +73,8 @@ module _ (h : Here) where
 
   pub group_by : (kind m : ℕ) (st : List _) →
       suited h (group_goes h kind m st) ≡ do_begin h m && suited h (group_ends h kind m st ∷ [])
-  group_by kind m st = arms_then (labels_in h m) (group_ends h kind m st ∷ []) ∙ ap (λ b. b && suited h (group_ends h kind m st ∷ [])) (begins
-      (suc h.index) m)
+  group_by kind m st = arms_then (labels_in h m) (group_ends h kind m st ∷ []) ∙
+      ap (λ b. b && suited h (group_ends h kind m st ∷ [])) (begins (suc h.index) m)
 
   -- where all are Arms that may begin, all of them give something
   starts : (l : ℕ) → label_suits h (Some l) ≡ true → (a : Sort) × (sort_there h (Some l) ≡ Some a)
@@ -104,7 +106,8 @@ module _ (h : Here) where
         are = ap (λ o. arm_sorts (table_in h) (with_label o (arm_labels (code_in h).ops (suc a) m))) e ∙ ap (λ o. behind_arm o (arm_sorts
             (table_in h) (arm_labels (code_in h).ops (suc a) m))) x.1 ∙ ap (behind_arm (Some x.0)) k.are;
         count = ap (λ o. length (with_label o (arm_labels (code_in h).ops (suc a) m))) e ∙ ap suc k.count;
-        fit = λ b. ap (λ r. fit (classes_in h) x.0 b && r) (k.fit b) ∙ ap (λ r. r && all_from (λ n. arm_fits h n b) (suc a) m) (sym (this b));
+        fit = λ b. ap (λ r. fit (classes_in h) x.0 b && r) (k.fit b) ∙
+            ap (λ r. r && all_from (λ n. arm_fits h n b) (suc a) m) (sym (this b));
         fill = fills;
       }
         where
@@ -116,7 +119,8 @@ module _ (h : Here) where
           turn true false r = refl
           turn false false r = refl
 
-          fills : (ys : Sorts) → fit_each (classes_in h) (more_sorts x.0 (sorts k.given)) ys ≡ eqn (size ys) (suc m) && each_from (arm_fits h) a ys
+          fills : (ys : Sorts) → fit_each (classes_in h) (more_sorts x.0 (sorts k.given)) ys ≡ eqn (size ys) (suc m) &&
+              each_from (arm_fits h) a ys
           fills no_sorts = refl
           fills (more_sorts b ys) = ap (λ r. fit (classes_in h) x.0 b && r) (k.fill ys) ∙ turn (fit (classes_in h) x.0 b) (eqn (size ys) m)
               (each_from (arm_fits h) (suc a) ys) ∙ ap (λ r. eqn (size ys) m && (r && each_from (arm_fits h) (suc a) ys)) (sym (this b))
@@ -132,14 +136,16 @@ module _ (h : Here) where
   -- there are as many labels as operations only where all are Arms
   counted : (a m : ℕ) → eqn (length (arm_labels (code_in h).ops a m)) m ≡ all_from (is_arm h) a m
   counted a zero = refl
-  counted a (suc m) = go (label_at h a) (arm_labels (code_in h).ops (suc a) m) m (few (suc a) m) ∙ ap (λ b. is_arm h a && b) (counted (suc a) m)
+  counted a (suc m) = go (label_at h a) (arm_labels (code_in h).ops (suc a) m) m (few (suc a) m) ∙
+      ap (λ b. is_arm h a && b) (counted (suc a) m)
     where
       below : (n m : ℕ) → n ≤ m → eqn n (suc m) ≡ false
       below zero m k = refl
       below (suc n) zero k = absurd (omega (arith, k))
       below (suc n) (suc m) k = below n m (omega (arith, k))
 
-      go : (l : Option ℕ) (ls : List ℕ) (m : ℕ) → length ls ≤ m → eqn (length (with_label l ls)) (suc m) ≡ not (is_none l) && eqn (length ls) m
+      go : (l : Option ℕ) (ls : List ℕ) (m : ℕ) → length ls ≤ m →
+          eqn (length (with_label l ls)) (suc m) ≡ not (is_none l) && eqn (length ls) m
       go None ls m k = below (length ls) m k
       go (Some l) ls m k = refl
 

@@ -1,5 +1,6 @@
 -- The Arms behind a Group, operation by operation.
-use Rattle.std.specs.Prelude.{ℕ, zero, suc, ◌+◌, List, [], ◌∷◌, Option, Some, None, Bool, true, false, not, ◌&&◌}
+use Rattle.std.specs.Prelude.{ℕ, zero, suc, ◌+◌, List, [], ◌∷◌, Option, Some, None, Bool, true}
+use Rattle.std.specs.Prelude.{false, not, ◌&&◌}
 use Rattle.std.specs.Prelude.{slice_get}
 use Rattle.verse_meaning_state.specs.Waits.{eqn}
 use Rattle.verse_code_machine.specs.Acts.{label_of}
@@ -7,7 +8,8 @@ use Rattle.verse_sorts.specs.Sorts.{Sort, Sorts, no_sorts, more_sorts}
 use Rattle.verse_verify_faults.specs.Fitting.{fit}
 use Rattle.verse_verify_faults.specs.Spots.{spot_at}
 use Rattle.verse_verify_faults.specs.Stepping as t
-use Rattle.verse_verify_faults.specs.Stepping.{Goes, arm_labels, with_label, arm_of, arm_results, arms_at, grouped, to}
+use Rattle.verse_verify_faults.specs.Stepping.{Goes, arm_labels, with_label, arm_of, arm_results}
+use Rattle.verse_verify_faults.specs.Stepping.{arms_at, grouped, to}
 use Rattle.verse_verify_faults.specs.Faults.{is_none}
 use Rattle.verse_verify_notes.specs.declared.sorts.Sort.{Sort as Kept}
 use Rattle.verse_verify_next.specs.declared.heres.Here.{Here}
@@ -76,7 +78,9 @@ module _ (h : Here) where
 
   -- to where a Group leads behind its arms, and to where it leads
   abbrev pub group_ends : ℕ → ℕ → List Kept → Goes
-  group_ends kind m st = to (code_in h) (table_in h) (spot_in h) h.index (suc h.index + m) (grouped_in kind m ∷ []) (operands st)
+  group_ends kind m st = to (code_in h) (table_in h) (spot_in h) h.index (suc h.index + m)
+      (grouped_in kind m ∷ []) (operands st)
 
   abbrev pub group_goes : ℕ → ℕ → List Kept → List Goes
-  group_goes kind m st = arms_at (code_in h) (table_in h) (spot_in h) h.index (labels_in m) (group_ends kind m st ∷ [])
+  group_goes kind m st = arms_at (code_in h) (table_in h) (spot_in h) h.index (labels_in m)
+      (group_ends kind m st ∷ [])

@@ -9,7 +9,8 @@ use Rattle.verse_verify_next.specs.Heres.{code_in, table_in, spot_in, operands, 
 module _ (h : Here) where
   -- those that push on the operands that are left
   abbrev pub pushing : List t.Made → List Sort → Option ℕ
-  pushing made st = rule_by h (goes_on (code_in h) (table_in h) (spot_in h) h.index made (operands st))
+  pushing made st = rule_by h (goes_on (code_in h) (table_in h) (spot_in h) h.index made
+      (operands st))
 
   -- those that make an int of two
   abbrev pub counting : List Sort → Option ℕ

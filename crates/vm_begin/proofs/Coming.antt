@@ -11,7 +11,8 @@ use Rattle.verse_value.specs.declared.runs.Ending.TheVariants as ending
 use Rattle.verse_base.specs.declared.places.Place.{Place}
 use Rattle.verse_meaning_state.specs.Turns.{Kind}
 use Rattle.verse_meaning_state.specs.State.{State, spending, with_entry}
-use Rattle.verse_code_machine.specs.Tasks.{Who, World, world, Step, Next, Over, machine, life_from, root_named, child_named, begins, spawning}
+use Rattle.verse_code_machine.specs.Tasks.{Who, World, world, Step, Next, Over, machine, life_from, root_named, child_named, begins}
+use Rattle.verse_code_machine.specs.Tasks.{spawning}
 use Rattle.verse_code_machine.specs.Frames as frames
 use Rattle.sim_clock.specs.declared.waits.Pending.{Pending}
 use Rattle.vm_frames.specs.Framed.{Framed, locals_of}

@@ -16,8 +16,11 @@ use Rattle.vm_scheduler.specs.Meets.{MovesOn}
 
 module _ {W : Type 0} (pending : W → List Pending) where
   -- whatever follows where the task stands at its group
-  pub record BeginsArm (b : Begins) (label : ℕ) (r : Went) (v : View) (t : Tasks W) (u : View) (s : Tasks W) : Type 0 where
+  pub record BeginsArm (b : Begins) (label : ℕ) (r : Went) (v : View) (t : Tasks W) (u : View)
+      (s : Tasks W) : Type 0 where
     pub begins : (a : Aside) (w : Who) (o : World) (stands : m.Task → Step) →
-        Standing pending (held b.id w (Some (map part_of b.arms.items)) ∷ []) a o v t → Bare v → Suspended w.number b.thread →
-        MovesOn pending (next_arm (kind_of b.kind) b.place (map part_of b.arms.items) (label ∷ reverse b.labels.items)
-        (threaded w b.thread) o.pre o.post o.ups o.trees (state_of a v) stands) a.past r u s
+        Standing pending (held b.id w (Some (map part_of b.arms.items)) ∷ []) a o v t → Bare v →
+        Suspended w.number b.thread → MovesOn pending
+        (next_arm (kind_of b.kind) b.place (map part_of b.arms.items)
+        (label ∷ reverse b.labels.items) (threaded w b.thread) o.pre o.post o.ups o.trees
+        (state_of a v) stands) a.past r u s

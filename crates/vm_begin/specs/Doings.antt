@@ -4,15 +4,17 @@ use Rattle.verse_base.specs.declared.places.Place.{Place}
 use Rattle.verse_code.specs.declared.codes.Func.{Func}
 use Rattle.verse_value.specs.Val.{Val}
 use Rattle.verse_meaning_state.specs.Turns.{Kind}
-use Rattle.verse_code_machine.specs.Tasks.{thread, branching, world, Next, machine, life_from, child_named}
+use Rattle.verse_code_machine.specs.Tasks.{thread, branching, world, Next, machine, life_from}
+use Rattle.verse_code_machine.specs.Tasks.{child_named}
 use Rattle.verse_code_machine.specs.Acts.{spawns, groups}
 use Rattle.vm_running.specs.Doings.{Doing, spends}
 
 -- a task behind begins at a place
 abbrev pub branches_at : ℕ → Doing
 branches_at q w x s f fs =
-    Next (machine (child_named w s.clock.left) (world x.pre x.post (branching (thread w f fs) ∷ x.ups) x.trees) s
-    (life_from s.clock.left) f.locals [] q [] [])
+    Next (machine (child_named w s.clock.left)
+    (world x.pre x.post (branching (thread w f fs) ∷ x.ups) x.trees) s (life_from s.clock.left)
+    f.locals [] q [] [])
 
 abbrev pub branches : ℕ → Doing
 branches q = spends (branches_at q)

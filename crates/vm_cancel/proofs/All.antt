@@ -59,7 +59,8 @@ still_frames next w o s [] e = refl
 still_frames next w o s (f ∷ fs) e = by_defers f.life.defers e (λ h. still_frames next w o s fs h)
   where
     by_defers : (ds : List ℕ) → cond (is_some ds) true (any_defers fs) ≡ false →
-        (any_defers fs ≡ false → clears_frames next w o s fs ≡ next s) → on_deferred ds (clears_frames next w o s fs) (λ q ds. clears_frame w o s f fs q ds) ≡ next s
+        (any_defers fs ≡ false → clears_frames next w o s fs ≡ next s) →
+        on_deferred ds (clears_frames next w o s fs) (λ q ds. clears_frame w o s f fs q ds) ≡ next s
     by_defers [] e later = later e
     by_defers (d ∷ ds) e later = absurd (cc)
 

@@ -1,5 +1,6 @@
 -- What is cancelled on both sides, and the blocks that run then.
-use Rattle.std.proofs.Common.{◌≡◌, inl, inr, ℕ, Bool, true, false, cond, List, [], ◌∷◌, ◌++◌, map, reverse, Option, Some, None, refl, sym, ap}
+use Rattle.std.proofs.Common.{◌≡◌, inl, inr, ℕ, Bool, true, false, cond, List, [], ◌∷◌, ◌++◌, map, reverse, Option, Some, None, refl, sym}
+use Rattle.std.proofs.Common.{ap}
 use Rattle.std.proofs.Common.{subst, ◌∙◌}
 use Rattle.std.specs.Global.{Vec}
 use Rattle.std.proofs.lemmas.List.{reverse-reverse, reverse-append}
@@ -101,8 +102,8 @@ module _ {W : Type 0} (pending : W → List Pending) where
 
     cancelled_so : (w : Who) (arms : Option (List Part)) (f : List ℕ → Bool) (a : Aside) (o : World) (v : View) →
         Standing pending (held id w arms ∷ []) a o v t → ((y x : List ℕ) → f y ≡ true → m.starts y x ≡ true → f x ≡ true) →
-        KeepsEach t.tree tree t.gone behind → CancelsAs any_deferred pending frames_in t.tree tree t.gone behind (ids t) (held id w arms) o f →
-        Cancelled pending id w arms f a o v after_it
+        KeepsEach t.tree tree t.gone behind → CancelsAs any_deferred pending frames_in t.tree tree t.gone behind (ids t) (held id w arms) o
+        f → Cancelled pending id w arms f a o v after_it
     cancelled_so w arms f a o v s closed each c =
         let was : (fs : List Framed) → In fs behind.frames.items → Unguarded fs = λ fs i.
         elim (each.frames kept fs i) [

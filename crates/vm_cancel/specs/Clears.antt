@@ -42,7 +42,8 @@ pub record ClearsFrames (fs : List Framed) (r : Went) (v u : View) : Type 0 wher
 
 module _ {W : Type 0} where
   -- what is still to be cancelled when the block of a task runs
-  pub record Begun (last : World → State → Step) (after : m.After) (todo : List m.Task) (a : Aside) (o : World) (v : View) (t : Tasks W)
+  pub record Begun (last : World → State → Step) (after : m.After) (todo : List m.Task) (a : Aside)
+      (o : World) (v : View) (t : Tasks W)
       (u : View) (s : Tasks W) : Type 0 where
     pub who : Who
     pub front : List m.Task
@@ -50,18 +51,24 @@ module _ {W : Type 0} where
     pub later : List m.Task
     pub was : todo ≡ front ++ it ∷ later
     pub who_is : who ≡ it.thread.who
-    pub is : clears last after todo o (state_of a v) ≡ done going a who (world o.pre o.post (clearing after later ∷ o.ups) o.trees) u
+    pub is : clears last after todo o (state_of a v) ≡
+        done going a who (world o.pre o.post (clearing after later ∷ o.ups) o.trees) u
     pub runs : Runs a v u
     pub later_is : map frames_in (reverse s.gone.frames.items) ≡ map frames_at (deferring later)
     pub unguarded : AllUnguarded s.gone.frames.items
     pub still : s ≡ record t { gone = record t.gone { frames = s.gone.frames } }
 
-  abbrev pub AllTo : (World → State → Step) → m.After → List m.Task → Went → Aside → World → View → Tasks W → View → Tasks W → Type 0
+  abbrev pub AllTo : (World → State → Step) → m.After → List m.Task → Went → Aside → World → View →
+      Tasks W → View → Tasks W → Type 0
   AllTo last after todo went.On a o v t u s = Begun last after todo a o v t u s
-  AllTo last after todo (went.Over e) a o v t u s = (clears last after todo o (state_of a v) ≡ Over e (state_of a v)) × (u ≡ v)
-  AllTo last after todo went.Down a o v t u s = (clears last after todo o (state_of a v) ≡ last o (state_of a v)) × (u ≡ v) ×
-      (s.gone.frames.items ≡ []) × (s ≡ record t { gone = record t.gone { frames = s.gone.frames } })
+  AllTo last after todo (went.Over e) a o v t u s =
+      (clears last after todo o (state_of a v) ≡ Over e (state_of a v)) × (u ≡ v)
+  AllTo last after todo went.Down a o v t u s =
+      (clears last after todo o (state_of a v) ≡ last o (state_of a v)) × (u ≡ v) ×
+      (s.gone.frames.items ≡ []) × (s ≡
+      record t { gone = record t.gone { frames = s.gone.frames } })
 
   pub record ClearsAll (r : Went) (v : View) (t : Tasks W) (u : View) (s : Tasks W) : Type 0 where
-    pub clears : (last : World → State → Step) (after : m.After) (todo : List m.Task) (a : Aside) (o : World) → Bare v →
-        map frames_in (reverse t.gone.frames.items) ≡ map frames_at (deferring todo) → AllTo last after todo r a o v t u s
+    pub clears : (last : World → State → Step) (after : m.After) (todo : List m.Task) (a : Aside)
+        (o : World) → Bare v → map frames_in (reverse t.gone.frames.items) ≡
+        map frames_at (deferring todo) → AllTo last after todo r a o v t u s

@@ -26,19 +26,25 @@ module _ {W : Type 0} (pending : W → List Pending) where
 
   -- what a call has come to, and then those above where no task runs
   pub record RestsOn (d r : Went) (v : View) (t : Tasks W) (u : View) (s : Tasks W) : Type 0 where
-    pub rests : (q : Step) (past : List Line) → Moves pending q past d v t → Meets pending q past r u s
+    pub rests : (q : Step) (past : List Line) → Moves pending q past d v t →
+        Meets pending q past r u s
 
-  abbrev pub FromHand : (Begins → World → State → Who → Step) → Begins → Went → View → Tasks W → View → Tasks W → Type 0
+  abbrev pub FromHand : (Begins → World → State → Who → Step) → Begins → Went → View → Tasks W →
+      View → Tasks W → Type 0
   FromHand step b r v t u s =
-      (a : Aside) (w : Who) (o : World) → Standing pending (held b.id w (Some (map part_of b.arms.items)) ∷ []) a o v t → Bare v →
+      (a : Aside) (w : Who) (o : World) →
+      Standing pending (held b.id w (Some (map part_of b.arms.items)) ∷ []) a o v t → Bare v →
       Suspended w.number b.thread → Meets pending (step b o (state_of a v) w) a.past r u s
 
   -- the group of a task in hand has its value, or the task stands at it
-  pub record SettlesOn (b : Begins) (r : Went) (v : View) (t : Tasks W) (u : View) (s : Tasks W) : Type 0 where
-    pub meets : FromHand (λ b o s w. grouped (kind_of b.kind) b.place (map part_of b.arms.items) (threaded w b.thread) o s (on_rest o s)) b
-        r v t u s
+  pub record SettlesOn (b : Begins) (r : Went) (v : View) (t : Tasks W) (u : View) (s : Tasks W) :
+      Type 0 where
+    pub meets : FromHand (λ b o s w. grouped (kind_of b.kind) b.place (map part_of b.arms.items)
+        (threaded w b.thread) o s (on_rest o s)) b r v t u s
 
   -- an arm has ended as it began
-  pub record ArmEndsOn (b : Begins) (r : Went) (v : View) (t : Tasks W) (u : View) (s : Tasks W) : Type 0 where
-    pub meets : FromHand (λ b o s w. arm_did (kind_of b.kind) b.place (map part_of b.arms.items) (reverse b.labels.items)
-        (threaded w b.thread) o.pre o.post o.ups o.trees s (on_rest o s)) b r v t u s
+  pub record ArmEndsOn (b : Begins) (r : Went) (v : View) (t : Tasks W) (u : View) (s : Tasks W) :
+      Type 0 where
+    pub meets : FromHand (λ b o s w. arm_did (kind_of b.kind) b.place (map part_of b.arms.items)
+        (reverse b.labels.items) (threaded w b.thread) o.pre o.post o.ups o.trees s (on_rest o s)) b
+        r v t u s

@@ -29,18 +29,22 @@ is_part (root entry) = false
 is_part part = true
 
 -- the parent of a part that is gone, in the tree and among those behind
-pub record Parent (tree : Tree) (id : ℕ) (w : Who) (xs ys : List m.Task) (trees : Trees) : Type 0 where
+pub record Parent (tree : Tree) (id : ℕ) (w : Who) (xs ys : List m.Task) (trees : Trees) :
+    Type 0 where
   pub task : Task (Slot (List Framed))
   pub earlier : List m.Task
   pub it : m.Task
   pub later : List m.Task
   pub at_it : task_at id tree ≡ Some task
   pub shows : Shows id (slot_of frames_in task.item).held (slept it)
-  pub found : (x : Val) (s : State) → climbs w.up w.number x xs ys trees s ≡ joined w.number x it.rest it (passed earlier xs) later trees s
+  pub found : (x : Val) (s : State) →
+      climbs w.up w.number x xs ys trees s ≡
+      joined w.number x it.rest it (passed earlier xs) later trees s
   pub stays : Rests (slot_of frames_in) tree (among (onto (passed earlier xs) (it ∷ later)) trees)
   pub goes : (item : Slot (List Framed)) (x : Val) (gs : List Part) →
-      slot_of frames_in item ≡ record (slot_of frames_in task.item) { held = by_machine } → arms_at it.rest ≡ Some gs →
-      Stands (slot_of frames_in) (with_item id tree item) [] (held id it.thread.who (Some (with_did w.number x gs)) ∷ [])
+      slot_of frames_in item ≡ record (slot_of frames_in task.item) { held = by_machine } →
+      arms_at it.rest ≡ Some gs → Stands (slot_of frames_in) (with_item id tree item) []
+      (held id it.thread.who (Some (with_did w.number x gs)) ∷ [])
       (world (passed earlier xs) later [] trees)
 
 module _ {W : Type 0} (pending : W → List Pending) where
@@ -86,7 +90,8 @@ module _ {W : Type 0} (pending : W → List Pending) where
     pub role : who.role ≡ root entry
 
   -- and the nearest above is taken off
-  pub record Gone (up : Up) (a : Aside) (w : Who) (o : World) (v : View) (t : Tasks W) : Type 0 where
+  pub record Gone (up : Up) (a : Aside) (w : Who) (o : World) (v : View) (t : Tasks W) :
+      Type 0 where
     pub tree : Tree
     pub id : ℕ
     pub ended : Ended tree t.tree id
@@ -112,7 +117,8 @@ module _ {W : Type 0} (pending : W → List Pending) where
     pub role : who.role ≡ root entry
 
   -- a part is gone from the tree, and none is above; its parent is this one
-  pub record Joining (id number : ℕ) (a : Aside) (w : Who) (o : World) (v : View) (t : Tasks W) : Type 0 where
+  pub record Joining (id number : ℕ) (a : Aside) (w : Who) (o : World) (v : View) (t : Tasks W) :
+      Type 0 where
     pub parent : Parent t.tree id w o.pre o.post o.trees
     pub number_is : w.number ≡ number
     pub clock : Clocked pending a v t
@@ -128,27 +134,36 @@ module _ {W : Type 0} (pending : W → List Pending) where
     pub here : Joining id number aside who world v t
 
   -- an arm or a task behind is over with the value
-  pub record PartOver (x : Val) (r : Went) (v : View) (t : Tasks W) (u : View) (s : Tasks W) : Type 0 where
+  pub record PartOver (x : Val) (r : Went) (v : View) (t : Tasks W) (u : View) (s : Tasks W) :
+      Type 0 where
     pub meets : (a : Aside) (w : Who) (o : World) → Lone a w o v t → w.role ≡ part →
         Meets pending (role_ends part w x o (state_of a v)) a.past r u s
 
-  pub record PartGone (up : Up) (x : Val) (r : Went) (v : View) (t : Tasks W) (u : View) (s : Tasks W) : Type 0 where
+  pub record PartGone (up : Up) (x : Val) (r : Went) (v : View) (t : Tasks W) (u : View)
+      (s : Tasks W) : Type 0 where
     pub meets : (a : Aside) (w : Who) (o : World) → Gone up a w o v t →
-        Meets pending (part_ends w.up w.number x o.pre o.post o.ups o.trees (state_of a v)) a.past r u s
+        Meets pending (part_ends w.up w.number x o.pre o.post o.ups o.trees (state_of a v)) a.past r
+        u s
 
-  pub record Joined (id number : ℕ) (x : Val) (r : Went) (v : View) (t : Tasks W) (u : View) (s : Tasks W) : Type 0 where
+  pub record Joined (id number : ℕ) (x : Val) (r : Went) (v : View) (t : Tasks W) (u : View)
+      (s : Tasks W) : Type 0 where
     pub meets : (a : Aside) (w : Who) (o : World) → Joining id number a w o v t →
         Meets pending (climbs w.up w.number x o.pre o.post o.trees (state_of a v)) a.past r u s
 
   -- Main or a spawned task is over with the value
-  pub record RootOver (x : Val) (r : Went) (v : View) (t : Tasks W) (u : View) (s : Tasks W) : Type 0 where
-    pub meets : (a : Aside) (w : Who) (entry : Option ℕ) (o : World) → Lone a w o v t → w.role ≡ root entry →
-        Meets pending (role_ends (root entry) w x o (with_result entry x (state_of a v))) a.past r u s
+  pub record RootOver (x : Val) (r : Went) (v : View) (t : Tasks W) (u : View) (s : Tasks W) :
+      Type 0 where
+    pub meets : (a : Aside) (w : Who) (entry : Option ℕ) (o : World) → Lone a w o v t →
+        w.role ≡ root entry → Meets pending
+        (role_ends (root entry) w x o (with_result entry x (state_of a v))) a.past r u s
 
   pub record RootLeaves (r : Went) (v : View) (t : Tasks W) (u : View) (s : Tasks W) : Type 0 where
-    pub meets : (a : Aside) (w : Who) (entry : Option ℕ) (o : World) → Off a w o v t → w.role ≡ root entry →
-        Meets pending (root_ends o.pre o.post o.ups o.trees (state_of a v)) a.past r u s
+    pub meets : (a : Aside) (w : Who) (entry : Option ℕ) (o : World) → Off a w o v t →
+        w.role ≡ root entry → Meets pending (root_ends o.pre o.post o.ups o.trees (state_of a v))
+        a.past r u s
 
-  pub record RootGone (up : Up) (r : Went) (v : View) (t : Tasks W) (u : View) (s : Tasks W) : Type 0 where
-    pub meets : (a : Aside) (w : Who) (entry : Option ℕ) (o : World) → Gone up a w o v t → w.role ≡ root entry →
-        Meets pending (root_ends o.pre o.post o.ups o.trees (state_of a v)) a.past r u s
+  pub record RootGone (up : Up) (r : Went) (v : View) (t : Tasks W) (u : View) (s : Tasks W) :
+      Type 0 where
+    pub meets : (a : Aside) (w : Who) (entry : Option ℕ) (o : World) → Gone up a w o v t →
+        w.role ≡ root entry → Meets pending (root_ends o.pre o.post o.ups o.trees (state_of a v))
+        a.past r u s

@@ -10,7 +10,8 @@ use Rattle.vm_running.specs.Doings.{Doing}
 
 -- the frame goes on at its next place, with a new frame on it
 abbrev pub calls : Func → List Val → Doing
-calls g vs w x s f fs = only_where (fits f.handlers (suc f.place)) s (enters g vs w x s (record f { place = suc f.place } ∷ fs))
+calls g vs w x s f fs = only_where (fits f.handlers (suc f.place)) s
+    (enters g vs w x s (record f { place = suc f.place } ∷ fs))
 
 -- method n of the first value's class, where it takes that and m arguments
 abbrev pub chosen_of : Code → (n m : ℕ) → List Val → State → Option Func

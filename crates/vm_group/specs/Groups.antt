@@ -23,10 +23,13 @@ abbrev pub on_rest : World → State → m.Task → Step
 on_rest o s y = rested (y ∷ o.pre) o.post o.ups o.trees s
 
 module _ {W : Type 0} (pending : W → List Pending) where
-  -- from wherever the task of a group is in hand, with these arms, a step of the definition comes to what is answered
-  abbrev pub InHand : (Begins → World → State → Who → Step) → Begins → Went → View → Tasks W → View → Tasks W → Type 0
+  -- from wherever the task of a group is in hand, with these arms, a step of the definition comes
+  -- to what is answered
+  abbrev pub InHand : (Begins → World → State → Who → Step) → Begins → Went → View → Tasks W →
+      View → Tasks W → Type 0
   InHand step b r v t u s =
-      (a : Aside) (w : Who) (o : World) → Standing pending (held b.id w (Some (map part_of b.arms.items)) ∷ []) a o v t → Bare v →
+      (a : Aside) (w : Who) (o : World) →
+      Standing pending (held b.id w (Some (map part_of b.arms.items)) ∷ []) a o v t → Bare v →
       Suspended w.number b.thread → Moves pending (step b o (state_of a v) w) a.past r u s
 
   -- the task of a group is in hand, somewhere
@@ -34,26 +37,37 @@ module _ {W : Type 0} (pending : W → List Pending) where
     pub aside : Aside
     pub who : Who
     pub world : World
-    pub standing : Standing pending (held b.id who (Some (map part_of b.arms.items)) ∷ []) aside world v t
+    pub standing : Standing pending (held b.id who (Some (map part_of b.arms.items)) ∷ []) aside
+        world v t
     pub bare : Bare v
     pub suspended : Suspended who.number b.thread
 
-  pub record Settles (b : Begins) (r : Went) (v : View) (t : Tasks W) (u : View) (s : Tasks W) : Type 0 where
-    pub settles : InHand (λ b o s w. grouped (kind_of b.kind) b.place (map part_of b.arms.items) (threaded w b.thread) o s (on_rest o s)) b
+  pub record Settles (b : Begins) (r : Went) (v : View) (t : Tasks W) (u : View) (s : Tasks W) :
+      Type 0 where
+    pub settles : InHand (λ b o s w. grouped (kind_of b.kind) b.place (map part_of b.arms.items)
+        (threaded w b.thread) o s (on_rest o s)) b r v t u s
+
+  pub record NextArm (b : Begins) (r : Went) (v : View) (t : Tasks W) (u : View) (s : Tasks W) :
+      Type 0 where
+    pub next : InHand (λ b o s w. next_arm (kind_of b.kind) b.place (map part_of b.arms.items)
+        (reverse b.labels.items) (threaded w b.thread) o.pre o.post o.ups o.trees s (on_rest o s)) b
         r v t u s
 
-  pub record NextArm (b : Begins) (r : Went) (v : View) (t : Tasks W) (u : View) (s : Tasks W) : Type 0 where
-    pub next : InHand (λ b o s w. next_arm (kind_of b.kind) b.place (map part_of b.arms.items) (reverse b.labels.items)
-        (threaded w b.thread) o.pre o.post o.ups o.trees s (on_rest o s)) b r v t u s
-
-  pub record ArmEnded (b : Begins) (r : Went) (v : View) (t : Tasks W) (u : View) (s : Tasks W) : Type 0 where
-    pub ended : InHand (λ b o s w. arm_did (kind_of b.kind) b.place (map part_of b.arms.items) (reverse b.labels.items)
-        (threaded w b.thread) o.pre o.post o.ups o.trees s (on_rest o s)) b r v t u s
+  pub record ArmEnded (b : Begins) (r : Went) (v : View) (t : Tasks W) (u : View) (s : Tasks W) :
+      Type 0 where
+    pub ended : InHand (λ b o s w. arm_did (kind_of b.kind) b.place (map part_of b.arms.items)
+        (reverse b.labels.items) (threaded w b.thread) o.pre o.post o.ups o.trees s (on_rest o s)) b
+        r v t u s
 
   -- it stands at its group
-  pub record StandsThere (b : Begins) (r : Went) (v : View) (t : Tasks W) (s : Tasks W) : Type 0 where
+  pub record StandsThere (b : Begins) (r : Went) (v : View) (t : Tasks W) (s : Tasks W) :
+      Type 0 where
     pub stands : InHand (λ b o s w. on_rest o s
-        (record { thread = threaded w b.thread; rest = m.group (kind_of b.kind) b.place (map part_of b.arms.items) })) b r v t v s
+        (record {
+          thread = threaded w b.thread;
+          rest =
+              m.group (kind_of b.kind) b.place (map part_of b.arms.items);
+        })) b r v t v s
 
   -- a task at a group is in hand, somewhere
   pub record InGroup (id : ℕ) (fs : List Framed) (v : View) (t : Tasks W) : Type 0 where
@@ -66,8 +80,9 @@ module _ {W : Type 0} (pending : W → List Pending) where
     pub suspended : Suspended who.number fs
 
   -- the arms are cancelled, and it goes on
-  pub record CancelsArms (id : ℕ) (fs : List Framed) (x : Val) (r : Went) (v : View) (t : Tasks W) (u : View) (s : Tasks W) : Type 0 where
-    pub cancels : (a : Aside) (w : Who) (gs : List m.Part) (o : World) → Standing pending (held id w (Some gs) ∷ []) a o v t → Bare v →
-        Suspended w.number fs →
-        MovesOn pending (cancels (λ o s. resumes (threaded w fs) x o s) (resuming (threaded w fs) x) (beneath_arms w.path gs) o
-        (state_of a v)) a.past r u s
+  pub record CancelsArms (id : ℕ) (fs : List Framed) (x : Val) (r : Went) (v : View) (t : Tasks W)
+      (u : View) (s : Tasks W) : Type 0 where
+    pub cancels : (a : Aside) (w : Who) (gs : List m.Part) (o : World) →
+        Standing pending (held id w (Some gs) ∷ []) a o v t → Bare v → Suspended w.number fs →
+        MovesOn pending (cancels (λ o s. resumes (threaded w fs) x o s) (resuming (threaded w fs) x)
+        (beneath_arms w.path gs) o (state_of a v)) a.past r u s

@@ -25,7 +25,8 @@ module _ {W : Type 0} (pending : W → List Pending) where
     pub after : After
     pub after_is : t.after ≡ Some after
     pub follows_is : IsAfter t.tree t.id after f
-    pub standing : Standing pending (held t.id (who_after f) None ∷ []) a o v (record t { after = None })
+    pub standing : Standing pending (held t.id (who_after f) None ∷ []) a o v
+        (record t { after = None })
     pub bare : Bare v
 
   pub record IsAtEnd (v : View) (t : Tasks W) : Type 0 where
@@ -35,11 +36,12 @@ module _ {W : Type 0} (pending : W → List Pending) where
     pub here : AtEnd follows aside world v t
 
   pub record Follows (r : Went) (v : View) (t : Tasks W) (u : View) (s : Tasks W) : Type 0 where
-    pub meets : (f : m.After) (a : Aside) (o : World) → AtEnd f a o v t → Meets pending (follows f o (state_of a v)) a.past r u s
+    pub meets : (f : m.After) (a : Aside) (o : World) → AtEnd f a o v t →
+        Meets pending (follows f o (state_of a v)) a.past r u s
 
   -- these are cancelled: they are off the tree, and their frames are kept
-  pub record Cleared (id : ℕ) (after : After) (f : m.After) (todo : List m.Task) (a : Aside) (o : World) (v : View) (t : Tasks W) :
-      Type 0 where
+  pub record Cleared (id : ℕ) (after : After) (f : m.After) (todo : List m.Task) (a : Aside)
+      (o : World) (v : View) (t : Tasks W) : Type 0 where
     pub bare : Bare v
     pub clock : Clocked pending a v t
     pub stands : Stands (slot_of frames_in) t.tree (ids t) (held id (who_after f) None ∷ []) o
@@ -56,6 +58,8 @@ module _ {W : Type 0} (pending : W → List Pending) where
     pub world : World
     pub here : Cleared id after follows todo aside world v t
 
-  pub record Unwinds (id : ℕ) (after : After) (r : Went) (v : View) (t : Tasks W) (u : View) (s : Tasks W) : Type 0 where
-    pub meets : (f : m.After) (todo : List m.Task) (a : Aside) (o : World) → Cleared id after f todo a o v t →
+  pub record Unwinds (id : ℕ) (after : After) (r : Went) (v : View) (t : Tasks W) (u : View)
+      (s : Tasks W) : Type 0 where
+    pub meets : (f : m.After) (todo : List m.Task) (a : Aside) (o : World) →
+        Cleared id after f todo a o v t →
         Meets pending (clears (follows f) f todo o (state_of a v)) a.past r u s

@@ -12,7 +12,8 @@ use Rattle.verse_meaning_state.specs.Turns.{closed, amiss, turn, turn_at}
 use Rattle.verse_code_machine.specs.Tasks.{Task, Trees, Who, World, Step, waits_of}
 use Rattle.verse_code_machine.specs.Ends.{is_asleep, woken, woken_in}
 use Rattle.verse_code_machine.specs.Runs.{Forest, main_starts}
-use Rattle.verse_code_machine.specs.Belonging.{StoreBelongs, StateBelongs, TasksBelong, TreesBelong, StepBelongs, StageBelongs, OperationKeeps}
+use Rattle.verse_code_machine.specs.Belonging.{StoreBelongs, StateBelongs, TasksBelong, TreesBelong, StepBelongs, StageBelongs}
+use Rattle.verse_code_machine.specs.Belonging.{OperationKeeps}
 use Rattle.vm_frames.specs.Framed.{Framed}
 use Rattle.vm_frames.specs.Machine.{frames_with}
 use Rattle.vm_running.specs.Views.{View, Aside, state_of, memories}

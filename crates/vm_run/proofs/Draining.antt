@@ -198,10 +198,14 @@ module _ {H W : Type 0} (state : H → Kept) (pending : W → List Pending) wher
     still_over : (t : Trace) (o : Option Ending) → t ≡ drained m.run.trace →
         lines_after c origin steps until k ≡ past ++ map line_of m.run.trace.kept →
         IfSome o (λ e. (e ≡ (whole_run c origin steps until).ending) × IsEnd state pending (whole_run c origin steps until) past m) →
-        IfSome o (λ e. (e ≡ (whole_run c origin steps until).ending) × IsEnd state pending (whole_run c origin steps until) (lines_after c origin steps until k)
-        (with_trace m t))
+        IfSome o (λ e. (e ≡ (whole_run c origin steps until).ending) ×
+        IsEnd state pending (whole_run c origin steps until) (lines_after c origin steps until k) (with_trace m t))
     still_over t None e is h = tt
-    still_over t (Some f) e is h = (h.0, drained_end (whole_run c origin steps until) past (lines_after c origin steps until k) m t e is h.1)
+    still_over t (Some f) e is h = (
+      h.0,
+      drained_end (whole_run c origin steps until) past (lines_after c origin steps until k) m t e is
+          h.1,
+    )
 
     pub drained_at : (o : Option Ending) (t : Trace) → t ≡ drained m.run.trace → Turned state pending c origin steps until k past o m →
         At state pending c origin steps until (suc k) (lines_after c origin steps until k) (with_trace m t)
@@ -232,15 +236,16 @@ module _ {H W : Type 0} (state : H → Kept) (pending : W → List Pending) wher
         }
 
     pub took_part : (o : Option Ending) (old new : Option (List ℕ)) →
-        TookPrefix old (trace.printed (outside m.run.trace.kept m.run.trace.marks)) new → Turned state pending c origin steps until k past o m →
-        TookPart past (lines_after c origin steps until k) old new
+        TookPrefix old (trace.printed (outside m.run.trace.kept m.run.trace.marks)) new →
+        Turned state pending c origin steps until k past o m → TookPart past (lines_after c origin steps until k) old new
     took_part o old new took h = record {
       more = map line_of m.run.trace.kept;
       all_are = all_lines (stage_after c origin steps until k) past m h.at.holds;
-      taken = subst (λ bs. TookPrefix old bs new) (outside_printed m.run.trace (no_marks (stage_after c origin steps until k) past m h.at.holds))
-          took;
+      taken = subst (λ bs. TookPrefix old bs new)
+          (outside_printed m.run.trace (no_marks (stage_after c origin steps until k) past m h.at.holds)) took;
     }
 
     pub none_kept : (o : Option Ending) (t : Trace) → t ≡ drained m.run.trace → Turned state pending c origin steps until k past o m →
         t.kept ≡ []
-    none_kept o t e h = ap (λ (t : Trace). t.kept) e ∙ kept_gone m.run.trace (no_marks (stage_after c origin steps until k) past m h.at.holds)
+    none_kept o t e h = ap (λ (t : Trace). t.kept) e ∙
+        kept_gone m.run.trace (no_marks (stage_after c origin steps until k) past m h.at.holds)

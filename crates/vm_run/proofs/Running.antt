@@ -75,7 +75,8 @@ module _ {H W : Type 0} (state : H → Kept) (pending : W → List Pending) (c :
         at = record {
           bound = t.at.bound;
           holds =
-              subst (λ z. Holds state pending z past n) (sym (over_same c origin steps until k (law c origin steps until valid t.at.bound.can) o.0)) t.at.holds;
+              subst (λ z. Holds state pending z past n) (sym
+              (over_same c origin steps until k (law c origin steps until valid t.at.bound.can) o.0)) t.at.holds;
         };
         answer = t.over.0;
         over = t.over.1;

@@ -28,7 +28,8 @@ abbrev pub whole_run : Code → Origin → (steps until : ℕ) → Run
 whole_run c (from_inputs ns) steps until = mach c ns steps until
 whole_run c (from_state s trees) steps until = run_from c steps until s trees
 
--- a run of so many steps can go on from the state: they are those left and those spent, and the state belongs to the code
+-- a run of so many steps can go on from the state: they are those left and those spent, and the
+-- state belongs to the code
 pub record IsResumable (c : Code) (steps : ℕ) (s : State) (trees : Forest) : Type 0 where
   pub steps_are : s.clock.left + s.clock.spent ≡ steps
   pub can : CanGoOn s trees
@@ -40,8 +41,9 @@ abbrev pub CanBeRun : Code → Origin → ℕ → Type 0
 CanBeRun c (from_inputs ns) steps = length ns ≤ 1000
 CanBeRun c (from_state s trees) steps = IsResumable c steps s trees
 
--- Each turn's operations come to an end, and so does the run, and is over then; its states belong to the code. A call more than there are
--- steps is at the end. Before a turn a run is over with other endings than within one.
+-- Each turn's operations come to an end, and so does the run, and is over then; its states belong
+-- to the code. A call more than there are steps is at the end. Before a turn a run is over with
+-- other endings than within one.
 pub record RunHolds (c : Code) (origin : Origin) (steps until : ℕ) : Type 0 where
   pub whole : (k : ℕ) → IsWhole (stage_after c origin steps until k)
   pub over : IsOver (stage_after c origin steps until (suc steps))
@@ -49,8 +51,10 @@ pub record RunHolds (c : Code) (origin : Origin) (steps until : ℕ) : Type 0 wh
       stage_after c origin steps until (k + j) ≡ stage_after c origin steps until k
   pub belongs : (k : ℕ) → StageBelongs c.classes (stage_after c origin steps until k)
   pub ends : (k : ℕ) → EndsSo (stage_after c origin steps until k)
-  pub run : whole_run c origin steps until ≡ run_of tree_waits (stage_after c origin steps until (suc steps))
+  pub run : whole_run c origin steps until ≡
+      run_of tree_waits (stage_after c origin steps until (suc steps))
 
 -- of each run
 abbrev pub RunsHold : Type 0
-RunsHold = (c : Code) (origin : Origin) (steps until : ℕ) → Valid c → CanBeRun c origin steps → RunHolds c origin steps until
+RunsHold = (c : Code) (origin : Origin) (steps until : ℕ) → Valid c → CanBeRun c origin steps →
+    RunHolds c origin steps until

@@ -1,6 +1,7 @@
 -- When a machine stands for the run of its code after so many calls.
 use Rattle.verse_base.specs.declared.limits.TheConstants.{MOST_NOW, MOST_STEPS}
-use Rattle.std.specs.Prelude.{◌≡◌, ◌≤◌, ℕ, zero, suc, ℤ, List, [], ◌++◌, length, map, Option, Some, None}
+use Rattle.std.specs.Prelude.{◌≡◌, ◌≤◌, ℕ, zero, suc, ℤ, List, [], ◌++◌, length, map, Option, Some}
+use Rattle.std.specs.Prelude.{None}
 use Rattle.verse_code.specs.declared.codes.Code.{Code}
 use Rattle.verse_value.specs.Val.{int, array, vals}
 use Rattle.verse_value.specs.View.{val_of}
@@ -20,7 +21,8 @@ use Rattle.vm_run.specs.Origins.{Origin, from_inputs, from_state, stage_after, C
 use Rattle.vm_run.specs.declared.machines.Vm.{Vm}
 use Rattle.vm_run.specs.declared.machines.Phase.TheVariants as phase
 
--- the memory, the moment and the steps of a state, of whose lines these were drained; no mark is open
+-- the memory, the moment and the steps of a state, of whose lines these were drained; no mark is
+-- open
 pub record Shows (s : State) (past : List Line) (v : View) : Type 0 where
   pub trace : s.memory.trace ≡ past ++ map line_of v.trace.kept
   pub store : s.memory.store ≡ v.heap.cells
@@ -44,7 +46,8 @@ module _ {H W : Type 0} (state : H → Kept) (pending : W → List Pending) wher
   LiveIs None m = Unit {0}
   LiveIs (Some live) m = live ≡ length (pending m.tasks.gone.waits)
 
-  -- the run is over: it has the ending of a run, its trace, of which these lines were drained, and its store
+  -- the run is over: it has the ending of a run, its trace, of which these lines were drained, and
+  -- its store
   pub record IsEnd (r : Run) (past : List Line) (m : Vm H W) : Type 0 where
     pub ended : m.phase ≡ phase.Ended r.ending
     pub trace : r.trace ≡ past ++ map line_of m.run.trace.kept
@@ -69,7 +72,8 @@ module _ {H W : Type 0} (state : H → Kept) (pending : W → List Pending) wher
     pub shows : Shows s past (view_of state m.run)
 
   -- the run is over before a turn
-  pub record IsClosed (e : Ending) (s : State) (trees : Forest) (past : List Line) (m : Vm H W) : Type 0 where
+  pub record IsClosed (e : Ending) (s : State) (trees : Forest) (past : List Line) (m : Vm H W) :
+      Type 0 where
     pub rests : IsResting s trees past m
     pub end : IsEnd (run_closed e s (length (tree_waits trees))) past m
 
@@ -94,17 +98,21 @@ module _ {H W : Type 0} (state : H → Kept) (pending : W → List Pending) wher
   HoldsFirst (from_inputs ns) steps past m = IsUnbegun ns steps past m
   HoldsFirst (from_state s trees) steps past m = Holds (going s trees) past m
 
-  -- what it holds after so many calls: the first starts `Main` where the run is from inputs, and each other one takes a turn
+  -- what it holds after so many calls: the first starts `Main` where the run is from inputs, and
+  -- each other one takes a turn
   abbrev pub HoldsAfter : Code → Origin → (steps until k : ℕ) → List Line → Vm H W → Type 0
   HoldsAfter c origin steps until zero past m = HoldsFirst origin steps past m
   HoldsAfter c origin steps until (suc k) past m = Holds (stage_after c origin steps until k) past m
 
-  -- it stands for the run of a code from an origin with these bounds after so many calls, and these lines were drained
-  pub record At (c : Code) (origin : Origin) (steps until k : ℕ) (past : List Line) (m : Vm H W) : Type 0 where
+  -- it stands for the run of a code from an origin with these bounds after so many calls, and these
+  -- lines were drained
+  pub record At (c : Code) (origin : Origin) (steps until k : ℕ) (past : List Line) (m : Vm H W) :
+      Type 0 where
     pub bound : IsBound c origin steps until m
     pub holds : HoldsAfter c origin steps until k past m
 
   -- it stands for some run of the code, or there was no memory for it
   pub data Belongs (c : Code) (m : Vm H W) : Type 0 where
-    stands : (origin : Origin) (steps until k : ℕ) (past : List Line) → At c origin steps until k past m → Belongs c m
+    stands : (origin : Origin) (steps until k : ℕ) (past : List Line) →
+        At c origin steps until k past m → Belongs c m
     lost : m.phase ≡ phase.Lost → Belongs c m

@@ -45,19 +45,23 @@ pub record TookPart (past all : List Line) (old new : Option (List ℕ)) : Type 
 
 module _ {H W : Type 0} (state : H → Kept) (pending : W → List Pending) where
   -- it has gone on by one call, and answers the ending where the run is over
-  pub record Turned (c : Code) (origin : Origin) (steps until k : ℕ) (past : List Line) (o : Option Ending) (m : Vm H W) : Type 0 where
+  pub record Turned (c : Code) (origin : Origin) (steps until k : ℕ) (past : List Line)
+      (o : Option Ending) (m : Vm H W) : Type 0 where
     pub at : At state pending c origin steps until (suc k) past m
     pub answer : o ≡ ending_in (stage_after c origin steps until k)
-    pub over : IfSome o (λ e. (e ≡ (whole_run c origin steps until).ending) × IsEnd state pending (whole_run c origin steps until) past m)
+    pub over : IfSome o (λ e. (e ≡ (whole_run c origin steps until).ending) ×
+        IsEnd state pending (whole_run c origin steps until) past m)
 
   -- it has gone on, and all lines are drained
-  pub record TurnedTo (c : Code) (origin : Origin) (steps until k : ℕ) (past : List Line) (o : Option Ending) (old new : Option (List ℕ))
+  pub record TurnedTo (c : Code) (origin : Origin) (steps until k : ℕ) (past : List Line)
+      (o : Option Ending) (old new : Option (List ℕ))
       (m : Vm H W) : Type 0 where
     pub turned : Turned c origin steps until k (lines_after c origin steps until k) o m
     pub took : TookLines past (lines_after c origin steps until k) old new
 
   -- the run is over
-  pub record Ran (c : Code) (origin : Origin) (steps until : ℕ) (past : List Line) (e : Ending) (m : Vm H W) : Type 0 where
+  pub record Ran (c : Code) (origin : Origin) (steps until : ℕ) (past : List Line) (e : Ending)
+      (m : Vm H W) : Type 0 where
     pub at : At state pending c origin steps until (suc (suc steps)) past m
     pub answer : e ≡ (whole_run c origin steps until).ending
     pub over : IsEnd state pending (whole_run c origin steps until) past m

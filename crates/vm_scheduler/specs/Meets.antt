@@ -64,5 +64,7 @@ module _ {W : Type 0} (pending : W → List Pending) where
   Meets q past went.Down v t = TurnsOver q past v t
 
   -- from wherever a task runs a doing comes to what is answered
-  pub record Comes (d : Doing) (r : Went) (v : View) (t : Tasks W) (u : View) (s : Tasks W) : Type 0 where
-    pub comes : (m : Scene) → Going pending m v t → Meets (done d m.aside m.who m.world v) m.aside.past r u s
+  pub record Comes (d : Doing) (r : Went) (v : View) (t : Tasks W) (u : View) (s : Tasks W) :
+      Type 0 where
+    pub comes : (m : Scene) → Going pending m v t →
+        Meets (done d m.aside m.who m.world v) m.aside.past r u s

@@ -14,6 +14,8 @@ use Rattle.vm_scheduler.specs.Standing.{Standing, Bare}
 use Rattle.vm_scheduler.specs.Meets.{MovesOn}
 
 module _ {W : Type 0} (pending : W → List Pending) where
-  pub record Resumes (id : ℕ) (fs : List Framed) (x : Val) (r : Went) (v : View) (t : Tasks W) (u : View) (s : Tasks W) : Type 0 where
-    pub resumes : (a : Aside) (w : Who) (o : World) → Standing pending (held id w None ∷ []) a o v t → Bare v → Suspended w.number fs →
+  pub record Resumes (id : ℕ) (fs : List Framed) (x : Val) (r : Went) (v : View) (t : Tasks W)
+      (u : View) (s : Tasks W) : Type 0 where
+    pub resumes : (a : Aside) (w : Who) (o : World) →
+        Standing pending (held id w None ∷ []) a o v t → Bare v → Suspended w.number fs →
         MovesOn pending (resumes (threaded w fs) x o (state_of a v)) a.past r u s

@@ -54,7 +54,8 @@ OfEntry P (Spawned entry) = P entry
 
 abbrev pub AllUntold : List (Option Given) → (ℕ → ℕ) → Tree → Type 0
 AllUntold results number [] = Unit {0}
-AllUntold results number (t ∷ ts) = OfEntry (λ entry. (nth results entry ≡ Some None) × (number entry ≡ t.number)) t.item.root ×
+AllUntold results number (t ∷ ts) =
+    OfEntry (λ entry. (nth results entry ≡ Some None) × (number entry ≡ t.number)) t.item.root ×
     AllUntold results number ts
 
 -- spawned tasks that are live have given nothing yet, and no two of them are of one entry
@@ -73,7 +74,8 @@ module _ {W : Type 0} where
   ids t = map id_of (ups_of t.ups.items)
 
   module _ (pending : W → List Pending) where
-    -- the clock, results and signals are those of the tasks, and the waits are those of the tasks that are asleep
+    -- the clock, results and signals are those of the tasks, and the waits are those of the tasks
+    -- that are asleep
     pub record Clocked (a : Aside) (v : View) (t : Tasks W) : Type 0 where
       pub past : IsPast a v
       pub next : a.next ≡ t.next
@@ -83,8 +85,10 @@ module _ {W : Type 0} where
       pub fine : AllFine v.left t.tree
       pub untold : Untold t.results.items t.tree
 
-    -- nothing is being cancelled; these entries are of the tasks that neither wait nor are above one that runs
-    pub record Standing (run : List Entry) (a : Aside) (o : World) (v : View) (t : Tasks W) : Type 0 where
+    -- nothing is being cancelled; these entries are of the tasks that neither wait nor are above
+    -- one that runs
+    pub record Standing (run : List Entry) (a : Aside) (o : World) (v : View) (t : Tasks W) :
+        Type 0 where
       pub clock : Clocked a v t
       pub stands : Stands (slot_of frames_in) t.tree (ids t) run o
       pub ups : UpsAre (ups_of t.ups.items) o.ups

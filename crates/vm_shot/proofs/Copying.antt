@@ -59,7 +59,8 @@ pub cell_made : (o : Option Cell) (k : CellKind) (vs : List Val) → option_map 
     option_map (λ (c : Cell). c.slots) o ≡ Some vs → o ≡ Some (record { kind = k; slots = vs })
 cell_made None k vs e f = absurd (cc)
 cell_made (Some c) k vs e f =
-    ap Some (ap (λ (k : CellKind). record { kind = k; slots = c.slots }) (own e) ∙ ap (λ (vs : List Val). record { kind = k; slots = vs }) (own f))
+    ap Some (ap (λ (k : CellKind). record { kind = k; slots = c.slots }) (own e) ∙
+    ap (λ (vs : List Val). record { kind = k; slots = vs }) (own f))
 
 within : (vs : List Val) (i : ℕ) → i < length vs → IsSome (slice_get vs i)
 within [] i lt = absurd (omega (arith, lt))
@@ -97,6 +98,6 @@ slot_is cells n slot v e = by_cell (slice_get cells n) e
     by_cell None e = absurd (cc)
     by_cell (Some c) e = e
 
-pub slot_taken : (cells : Store) (n slot : ℕ) (v : Val) (vs : List Val) → slot_of cells n slot ≡ Some v → vs ≡ take slot (slots_at cells n) →
-    vs ++ v ∷ [] ≡ take (slot + 1) (slots_at cells n)
+pub slot_taken : (cells : Store) (n slot : ℕ) (v : Val) (vs : List Val) → slot_of cells n slot ≡ Some v →
+    vs ≡ take slot (slots_at cells n) → vs ++ v ∷ [] ≡ take (slot + 1) (slots_at cells n)
 slot_taken cells n slot v vs e so = one_taken (slots_at cells n) vs slot v (slot_is cells n slot v e) so

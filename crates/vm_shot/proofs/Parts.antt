@@ -71,8 +71,8 @@ module _ {W : Type 0} (pending : W → List Pending) where
           ap (λ (w : ℕ). record x { left = w }) a ∙
           (ap (λ (w : ℕ). record x { left = y.left; spent = w }) b ∙
           (ap (λ (w : ℕ). record x { left = y.left; spent = y.spent; now = w }) c ∙
-          (ap (λ (w : ℕ). record y { next = w; bytes = x.bytes; lines = x.lines; cells = x.cells; spawned = x.spawned; tasks = x.tasks }) d ∙
-          (ap (λ (w : ℕ). record y { bytes = w; lines = x.lines; cells = x.cells; spawned = x.spawned; tasks = x.tasks }) e ∙
+          (ap (λ (w : ℕ). record y { next = w; bytes = x.bytes; lines = x.lines; cells = x.cells; spawned = x.spawned; tasks = x.tasks })
+          d ∙ (ap (λ (w : ℕ). record y { bytes = w; lines = x.lines; cells = x.cells; spawned = x.spawned; tasks = x.tasks }) e ∙
           (ap (λ (w : ℕ). record y { lines = w; cells = x.cells; spawned = x.spawned; tasks = x.tasks }) f ∙
           (ap (λ (w : Store). record y { cells = w; spawned = x.spawned; tasks = x.tasks }) g ∙
           (ap (λ (w : List (Option Given)). record y { spawned = w; tasks = x.tasks }) h ∙

@@ -10,4 +10,5 @@ slots_at cells address = unwrap_or (option_map (λ (c : Cell). c.slots) (slice_g
 
 -- the cell is there, and it has so many slots
 abbrev pub HasSlots : Store → (address count : ℕ) → Type 0
-HasSlots cells address count = option_map (λ (c : Cell). length c.slots) (slice_get cells address) ≡ Some count
+HasSlots cells address count =
+    option_map (λ (c : Cell). length c.slots) (slice_get cells address) ≡ Some count

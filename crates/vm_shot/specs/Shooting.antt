@@ -9,7 +9,8 @@ use Rattle.vm_scheduler.specs.declared.tasks.Tasks.{Tasks}
 use Rattle.vm_scheduler.specs.Going.{Resting}
 
 -- between two turns, with cells that belong to the code
-pub record CanBeShot {W : Type 0} (pending : W → List Pending) (c : Code) (v : View) (t : Tasks W) : Type 0 where
+pub record CanBeShot {W : Type 0} (pending : W → List Pending) (c : Code) (v : View) (t : Tasks W) :
+    Type 0 where
   pub aside : Aside
   pub trees : Forest
   pub resting : Resting pending aside trees v t

@@ -87,8 +87,8 @@ index n at some most = omega (arith, some, most)
 next : (n at : ℕ) → 0 < at → at ≤ n → suc (n - at) ≡ n - (at - 1)
 next n at some most = omega (arith, some, most)
 
-pub frames_step : (fs : List Framed) (at arms : ℕ) (xs ys : List FrameShot) (all : List KeptFrame) (f : FrameShot) → 0 < at → at ≤ length fs →
-    option_map (λ (g : Framed). frame arms (bare g)) (framed_at (at - 1) fs) ≡ Some (frame_of f) → ys ≡ xs ++ f ∷ [] →
+pub frames_step : (fs : List Framed) (at arms : ℕ) (xs ys : List FrameShot) (all : List KeptFrame) (f : FrameShot) → 0 < at →
+    at ≤ length fs → option_map (λ (g : Framed). frame arms (bare g)) (framed_at (at - 1) fs) ≡ Some (frame_of f) → ys ≡ xs ++ f ∷ [] →
     map frame_of xs ++ from_top arms (drop (length fs - at) fs) ≡ all → map frame_of ys ++ from_top 0 (drop (length fs - (at - 1)) fs) ≡ all
 frames_step fs at arms xs ys all f some most e more so =
     let o = at_it (slice_get fs (length fs - at)) arms (frame_of f) (subst (λ n. option_map (λ (g : Framed). frame arms (bare g)) (slice_get
@@ -135,8 +135,8 @@ module _ (n : ℕ) (fs : List Framed) (at b : ℕ) (some : 0 < at) (most : at �
       fs) at some most) e)
 
   counted : (t : Bool) → ltn n b ≡ t →
-      began_before n (drop (length fs - at) fs) ≡ cond t (suc (began_before n (drop (length fs - (at - 1)) fs))) (began_before n (drop (length
-      fs - (at - 1)) fs))
+      began_before n (drop (length fs - at) fs) ≡
+      cond t (suc (began_before n (drop (length fs - (at - 1)) fs))) (began_before n (drop (length fs - (at - 1)) fs))
   counted t h =
       let k = began_before n (drop (suc (length fs - at)) fs) in
       ap (began_before n) (drop_next fs (length fs - at) own.0 own.1) ∙

@@ -43,7 +43,8 @@ abbrev pub AllShorter : ℕ → List m.Task → Type 0
 AllShorter n [] = Unit {0}
 AllShorter n (x ∷ xs) = (length x.thread.who.path < n) × AllShorter n xs
 
-shorter_more : (n k : ℕ) (xs : List m.Task) (y : m.Task) → n < k → length y.thread.who.path ≡ n → AllShorter n xs → AllShorter k (xs ++ y ∷ [])
+shorter_more : (n k : ℕ) (xs : List m.Task) (y : m.Task) → n < k → length y.thread.who.path ≡ n → AllShorter n xs →
+    AllShorter k (xs ++ y ∷ [])
 shorter_more n k [] y h e a = (omega (arith, h, e), tt)
 shorter_more n k (x ∷ xs) y h e a = let f = a.0 in (omega (arith, h, f), shorter_more n k xs y h e a.1)
 

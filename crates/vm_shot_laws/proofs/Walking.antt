@@ -112,7 +112,8 @@ module _ {T : Type 0} (slot : T → Slot) where
     pairs_append Alike (pre k) (pre r) kp rp (alike_told (under t (slept y)) _ k ks kp g.2 a) (alike_told q _ r rs rp g.3 b),
   )
 
-  alike_all : (cs : List (Rose T)) (tss : Forest) (ps : List m.Task) → GoodTrees slot cs → Arranged cs tss ps → AllPairs Alike (pre_all cs) ps
+  alike_all : (cs : List (Rose T)) (tss : Forest) (ps : List m.Task) → GoodTrees slot cs → Arranged cs tss ps →
+      AllPairs Alike (pre_all cs) ps
   alike_all cs tss ps g none_arranged = tt
   alike_all cs tss ps g (empty_arranged {tss = uss} a) = alike_all cs uss ps g a
   alike_all cs tss ps g (tree_arranged {c = c} {cs = ds} {ts = ts} {qs = qs} {tss = uss} {ps = rs} t a) =
@@ -142,7 +143,8 @@ module _ {T : Type 0} (slot : T → Slot) where
     )
 
     beneath_all : (cs : List (Rose T)) (tss : Forest) (ps : List m.Task) → GoodTrees slot cs →
-        ((u : Task T) (z : m.Task) → Both u z (pre_all cs) ps → Both u z all ys) → Arranged cs tss ps → AllPairs (Beneath all ys) (pre_all cs) ps
+        ((u : Task T) (z : m.Task) → Both u z (pre_all cs) ps → Both u z all ys) → Arranged cs tss ps →
+        AllPairs (Beneath all ys) (pre_all cs) ps
     beneath_all cs tss ps g f none_arranged = tt
     beneath_all cs tss ps g f (empty_arranged {tss = uss} a) = beneath_all cs uss ps g f a
     beneath_all cs tss ps g f (tree_arranged {c = c} {cs = ds} {ts = ts} {qs = qs} {tss = uss} {ps = rs} t a) =
@@ -227,8 +229,8 @@ module _ {T : Type 0} (slot : T → Slot) where
   found u z ts ys (first_both {xs = xs} {ys = zs}) a d f =
       let path = z.thread.who.path in
       record {
-        place = ap (λ b. cond b (Some 0) (option_map suc (place_of path zs))) (same_self path) ∙ sym (ap (λ b. if b then Some 0 else option_map
-            suc (place_in u.number xs)) (self_number u.number));
+        place = ap (λ b. cond b (Some 0) (option_map suc (place_of path zs))) (same_self path) ∙
+            sym (ap (λ b. if b then Some 0 else option_map suc (place_in u.number xs)) (self_number u.number));
         there = ap (λ b. cond b (Some z) (task_of path zs)) (same_self path);
         own = ap (λ b. if b then Some u else task_at u.number xs) (self_number u.number);
       }
@@ -250,7 +252,8 @@ module _ {T : Type 0} (slot : T → Slot) where
   no_place (t ∷ ts) [] a = absurd a
   no_place (t ∷ ts) (y ∷ ys) a =
       let k = no_place ts ys a.1 in
-      let none : same_path [] y.thread.who.path ≡ false = ap (λ p. same_path [] p) a.0.path ∙ no_end y.thread.who.up y.thread.who.number in (
+      let none : same_path [] y.thread.who.path ≡ false =
+      ap (λ p. same_path [] p) a.0.path ∙ no_end y.thread.who.up y.thread.who.number in (
         ap (λ b. cond b (Some 0) (option_map suc (place_of [] ys))) none ∙ ap (option_map suc) k.0,
         ap (λ b. cond b (Some y) (task_of [] ys)) none ∙ k.1,
       )
@@ -266,8 +269,8 @@ module _ {T : Type 0} (slot : T → Slot) where
 
   kept_one : (all : List (Task T)) (ys : List m.Task) (t : Task T) (y : m.Task) → AllPairs Alike all ys → Distinct all →
       ((n : ℕ) → many n ys ≤ 1) → Alike t y → Beneath all ys t y → kept_task slot all t ≡ kp.task ys y
-  kept_one all ys t y a d f k b = same_task (kept_task slot all t) (kp.task ys y) (parent_is b) (role_is b) (ap kp.entry_of (sym k.role)) (frames_are (slot t.item).held k.shows)
-      (rest_is (slot t.item).held k.shows)
+  kept_one all ys t y a d f k b = same_task (kept_task slot all t) (kp.task ys y) (parent_is b) (role_is b) (ap kp.entry_of (sym k.role))
+      (frames_are (slot t.item).held k.shows) (rest_is (slot t.item).held k.shows)
     where
       parent_is : Beneath all ys t y → parent_place t.parent all ≡ place_of y.thread.who.up ys
       parent_is (alone e g) = ap (λ p. parent_place p all) e ∙ sym (ap (λ p. place_of p ys) g ∙ (no_place all ys a).0)
@@ -322,7 +325,8 @@ module _ {T : Type 0} (slot : T → Slot) where
   many_behind n y [] = refl
   many_behind n y (x ∷ xs) = two (same_path y.thread.who.up x.thread.who.path) (many_behind n y xs)
     where
-      turned : (b c : Bool) (k : ℕ) → cond b (suc (cond c (suc k) k)) (cond c (suc k) k) ≡ cond c (suc (cond b (suc k) k)) (cond b (suc k) k)
+      turned : (b c : Bool) (k : ℕ) → cond b (suc (cond c (suc k) k)) (cond c (suc k) k) ≡
+          cond c (suc (cond b (suc k) k)) (cond b (suc k) k)
       turned true true k = refl
       turned true false k = refl
       turned false true k = refl
@@ -372,7 +376,8 @@ module _ {T : Type 0} (slot : T → Slot) where
       let alike = alike_all rests.roots o.ordered ys good o.are in
       let beneath = beneath_all tasks ys rests.roots o.ordered ys good (λ u z h. h) o.are in
       let walk_is : walk o.ordered ≡ ys = walk_told slot rests.roots o.ordered ys good o.are in
-      let few : (n : ℕ) → many n ys ≤ 1 = λ n. subst (λ k. k ≤ 1) (numbered_same n tss o.ordered o.reordered ∙ (sym (many_walk n o.ordered) ∙
+      let few : (n : ℕ) → many n ys ≤ 1 = λ n. subst (λ k. k ≤ 1)
+      (numbered_same n tss o.ordered o.reordered ∙ (sym (many_walk n o.ordered) ∙
       ap (many n) walk_is)) (apart n) in
       let distinct : Distinct tasks = subst Distinct rests.tasks_are tree.distinct in
       record {

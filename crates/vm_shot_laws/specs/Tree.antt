@@ -1,5 +1,5 @@
--- What is kept of the tasks of a tree, as the tree has them: each before those that it encloses, and
--- siblings in the order in which they began.
+-- What is kept of the tasks of a tree, as the tree has them: each before those that it encloses,
+-- and siblings in the order in which they began.
 use Rattle.std.specs.Prelude.{ℕ, suc, eqb, List, [], ◌∷◌, map}
 use Rattle.std.specs.Prelude.{Option, Some, None, option_map, if◌then◌else◌}
 use Rattle.task_tree.specs.Tasks.{Task, task_at}

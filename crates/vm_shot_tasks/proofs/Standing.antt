@@ -95,8 +95,9 @@ module _ {T : Type 0} where
       back = here.back;
       is = here.is ∙ turned here.front here.task here.back;
       at = behind;
-      so = e ∙ (ap (λ w. w ++ id ∷ []) here.so ∙ (ap (λ n. numbers here.front ++ n ∷ []) (sym here.number) ∙ sym (map-append (λ (t : Task T).
-          t.number) here.front (here.task ∷ []))));
+      so = e ∙ (ap (λ w. w ++ id ∷ []) here.so ∙
+          (ap (λ n. numbers here.front ++ n ∷ []) (sym here.number) ∙
+          sym (map-append (λ (t : Task T). t.number) here.front (here.task ∷ []))));
     }
 
     pub falls : left_from (after id ts) ts < left_from (Some id) ts
@@ -199,7 +200,8 @@ module _ {T K X : Type 0} (kept : Task T → K) (seen : X → K) where
       ap (map seen) more ∙
       (map-append seen xs (x ∷ []) ∙
       (ap (λ w. w ++ seen x ∷ []) so ∙
-      (ap (λ k. take n (map kept ts) ++ k ∷ []) (sym same) ∙ sym (take_next (map kept ts) n (kept p.task) (map_at kept ts n p.task p.there)))))
+      (ap (λ k. take n (map kept ts) ++ k ∷ []) (sym same) ∙
+      sym (take_next (map kept ts) n (kept p.task) (map_at kept ts n p.task p.there)))))
 
   pub all_kept : (ts : List (Task T)) (n : ℕ) (xs : List X) → length ts ≤ n → map seen xs ≡ take n (map kept ts) →
       map seen xs ≡ map kept ts

@@ -36,7 +36,8 @@ module _ {W : Type 0} (pending : W → List Pending) where
     pub are : ups_of ups.items ≡ x ∷ ups_of t.ups.items
     pub idle : Idle v (record t { ups = ups })
 
-  pub record GoesUp (x : Up) (r : Went) (v : View) (t : Tasks W) (u : View) (s : Tasks W) : Type 0 where
+  pub record GoesUp (x : Up) (r : Went) (v : View) (t : Tasks W) (u : View) (s : Tasks W) :
+      Type 0 where
     pub goes : (ups : Vec Up) (a : Aside) (o : World) → ups_of ups.items ≡ x ∷ ups_of t.ups.items →
         Standing pending [] a o v (record t { ups = ups }) → Bare v →
         Moves pending (rested o.pre o.post o.ups o.trees (state_of a v)) a.past r u s
@@ -46,13 +47,17 @@ module _ {W : Type 0} (pending : W → List Pending) where
     pub aside : Aside
     pub who : Who
     pub world : World
-    pub standing : Standing pending (held b.id who (Some (map part_of b.arms.items ++ runs b.number ∷ [])) ∷ []) aside world v t
+    pub standing : Standing pending
+        (held b.id who (Some (map part_of b.arms.items ++ runs b.number ∷ [])) ∷ []) aside world v t
     pub bare : Bare v
     pub suspended : Suspended who.number b.thread
 
-  pub record GroupUp (b : Begins) (r : Went) (v : View) (t : Tasks W) (u : View) (s : Tasks W) : Type 0 where
+  pub record GroupUp (b : Begins) (r : Went) (v : View) (t : Tasks W) (u : View) (s : Tasks W) :
+      Type 0 where
     pub goes : (a : Aside) (w : Who) (o : World) →
-        Standing pending (held b.id w (Some (map part_of b.arms.items ++ runs b.number ∷ [])) ∷ []) a o v t → Bare v →
-        Suspended w.number b.thread →
-        Moves pending (next_arm (kind_of b.kind) b.place (map part_of b.arms.items ++ runs b.number ∷ []) (reverse b.labels.items)
-        (threaded w b.thread) o.pre o.post o.ups o.trees (state_of a v) (on_rest o (state_of a v))) a.past r u s
+        Standing pending (held b.id w (Some (map part_of b.arms.items ++ runs b.number ∷ [])) ∷ [])
+        a o v t → Bare v → Suspended w.number b.thread →
+        Moves pending (next_arm (kind_of b.kind) b.place
+        (map part_of b.arms.items ++ runs b.number ∷ []) (reverse b.labels.items)
+        (threaded w b.thread) o.pre o.post o.ups o.trees (state_of a v) (on_rest o (state_of a v)))
+        a.past r u s

@@ -13,7 +13,8 @@ use Rattle.vm_scheduler.specs.Standing.{NoneOf, Clocked}
 
 -- with a result, as of a moment: the state is then `with_result`
 abbrev pub result_in : ℕ → Val → ℕ → Aside → Aside
-result_in entry x moment a = record a { results = set_at a.results entry (Some (record { value = x; moment = moment })) }
+result_in entry x moment a = record a
+    { results = set_at a.results entry (Some (record { value = x; moment = moment })) }
 
 -- the values of results
 abbrev pub shown : Option (Option Value) → Option (Option Val)
@@ -34,5 +35,6 @@ pub record IsOver {W : Type 0} (entry : ℕ) (t : Tasks W) : Type 0 where
 module _ {W : Type 0} (pending : W → List Pending) where
   -- the clock has the result, those that await it are woken, and all else is as it was
   pub record Gives (entry : ℕ) (x : Val) (v : View) (t s : Tasks W) : Type 0 where
-    pub clock : (a : Aside) → Clocked pending a v t → Clocked pending (result_in entry x v.moment a) v s
+    pub clock : (a : Aside) → Clocked pending a v t →
+        Clocked pending (result_in entry x v.moment a) v s
     pub still : s ≡ record t { gone = record t.gone { waits = s.gone.waits }; results = s.results }

@@ -1,5 +1,6 @@
 -- The frames of a task looked through from the top.
-use Rattle.std.proofs.Common.{◌≡◌, ◌≢◌, ◌<◌, ◌≤◌, ◌-◌, ℕ, zero, suc, List, [], ◌∷◌, length, drop, Option, Some, None, Bool, true, false, cond}
+use Rattle.std.proofs.Common.{◌≡◌, ◌≢◌, ◌<◌, ◌≤◌, ◌-◌, ℕ, zero, suc, List, [], ◌∷◌, length, drop, Option, Some, None, Bool, true, false}
+use Rattle.std.proofs.Common.{cond}
 use Rattle.std.proofs.Common.{refl, sym, ap, subst, ◌∙◌, arith, reverse}
 use Rattle.std.specs.Prelude.{slice_get, option_map}
 use Rattle.std.proofs.lemmas.List.{length-reverse, nil_from_length}
@@ -26,7 +27,8 @@ below_the_next (g ∷ fs) (suc k) f e none = below_the_next fs k f e none
 pub next_has : (fs : List Framed) (k : ℕ) (f : Framed) → slice_get fs k ≡ Some f → f.frame.defers ≢ [] →
     any_deferred (drop k fs) ≡ true
 next_has [] k f e some = absurd (cc)
-next_has (g ∷ fs) zero f e some = some_has g.frame.defers (any_deferred fs) (λ none. some (ap (λ (f : Framed). f.frame.defers) (sym (same e)) ∙ none))
+next_has (g ∷ fs) zero f e some = some_has g.frame.defers (any_deferred fs)
+    (λ none. some (ap (λ (f : Framed). f.frame.defers) (sym (same e)) ∙ none))
   where
     same : {g f : Framed} → Some g ≡ Some f → g ≡ f
     same e = cc

@@ -27,8 +27,8 @@ module _ {T : Type 0} (P : Task T → Type 0) where
       let tails : xs ≡ front ++ u ∷ back = cc in omega (arith, shorter xs ys zs r front u back tails p)
 
 module _ {F W : Type 0} (has_blocks : F → Bool) (pending : W → List Pending) where
-  told_both : (a b : List (Task (Slot F))) (x y z : Gone F W) → Visited (Leaves has_blocks pending) x b y → Visited (Leaves has_blocks pending) y a z →
-      Visited (Leaves has_blocks pending) x (a ++ b) z
+  told_both : (a b : List (Task (Slot F))) (x y z : Gone F W) → Visited (Leaves has_blocks pending) x b y →
+      Visited (Leaves has_blocks pending) y a z → Visited (Leaves has_blocks pending) x (a ++ b) z
   told_both [] b x y z v w = subst (λ g. Visited (Leaves has_blocks pending) x b g) (sym w) v
   told_both (t ∷ a) b x y z v w = (w.0, told_both a b x y w.0 v w.1, w.2)
 
@@ -38,7 +38,8 @@ module _ {F W : Type 0} (has_blocks : F → Bool) (pending : W → List Pending)
 
   pub one_cleared : (ts mid new : List (Task (Slot F))) (id bound child : ℕ) (x y z : Gone F W) (list : List (Task (Slot F))) → IsTree ts →
       IsYounger ts id bound child → Cancels child ts list mid →
-      Visited (Leaves has_blocks pending) x list y → Cleared has_blocks pending id bound mid new y z → Cleared has_blocks pending id bound ts new x z
+      Visited (Leaves has_blocks pending) x list y → Cleared has_blocks pending id bound mid new y z →
+      Cleared has_blocks pending id bound ts new x z
   one_cleared ts mid new id bound child x y z list tree young cancels told c = record {
     gone = c.gone ++ list;
     cancels = λ frames. one_younger child young.task list mid c.gone tree young.youngest_is young.at_it young.less cancels

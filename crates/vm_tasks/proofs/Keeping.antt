@@ -79,6 +79,7 @@ module _ {F W : Type 0} (has_blocks : F → Bool) (pending : W → List Pending)
         elim (in_either f before.frames.items (frames_back has_blocks c.gone)
         (subst (λ z. In f z) (told_frames has_blocks pending c.gone before behind c.told l).1 i)) [
           | inl k ↦ inl k
-          | inr k ↦ let r = back_in has_blocks f c.gone k in inr (r.0, since_gone _ id bound old c.gone new r.0 (c.cancels no_frames) r.1, r.2)
+          | inr k ↦ let r = back_in has_blocks f c.gone k in inr
+              (r.0, since_gone _ id bound old c.gone new r.0 (c.cancels no_frames) r.1, r.2)
         ];
   }

@@ -1,5 +1,6 @@
 -- Where frames of cancelled tasks are lost.
-use Rattle.std.proofs.Common.{◌≡◌, ◌≢◌, ◌≤◌, ◌⊎◌, inl, inr, ℕ, ◌+◌, Bool, true, false, List, [], ◌∷◌, length, refl, sym, ap, subst, ◌∙◌, arith}
+use Rattle.std.proofs.Common.{◌≡◌, ◌≢◌, ◌≤◌, ◌⊎◌, inl, inr, ℕ, ◌+◌, Bool, true, false, List, [], ◌∷◌, length, refl, sym, ap, subst, ◌∙◌}
+use Rattle.std.proofs.Common.{arith}
 use Rattle.std.specs.Prelude.{vec_capacity}
 use Rattle.std.proofs.lemmas.List.{length-append}
 use Rattle.task_tree.specs.Tasks.{Task}
@@ -20,7 +21,8 @@ module _ {F : Type 0} where
   parts_count R old gone left (one_goes {old = xs} {gone = ys} {left = zs} u r q) = omega (arith, parts_count R xs ys zs q)
   parts_count R old gone left (one_stays {old = xs} {gone = ys} {left = zs} u r q) = omega (arith, parts_count R xs ys zs q)
 
-  gone_is : (R : Task (Slot F) → Type 0) (old gone left : List (Task (Slot F))) (t : Task (Slot F)) → Parts R old gone left → In t gone → R t
+  gone_is : (R : Task (Slot F) → Type 0) (old gone left : List (Task (Slot F))) (t : Task (Slot F)) → Parts R old gone left → In t gone →
+      R t
   gone_is R old gone left t all_parted i = elim i [ ]
   gone_is R old gone left t (one_goes {old = xs} {gone = ys} {left = zs} u r q) first_in = r
   gone_is R old gone left t (one_goes {old = xs} {gone = ys} {left = zs} u r q) (later_in _ i) = gone_is R xs ys zs t q i
@@ -102,7 +104,8 @@ module _ {F W : Type 0} (has_blocks : F → Bool) (pending : W → List Pending)
       let n = since_count _ id bound old c.gone new (c.cancels no_frames) in
       record {
         with_room = λ r. (
-          same_bool behind.lost before.lost (f.none_lost (omega (arith, r, n))) (λ l. (told_frames has_blocks pending c.gone before behind c.told l).0),
+          same_bool behind.lost before.lost (f.none_lost (omega (arith, r, n)))
+              (λ l. (told_frames has_blocks pending c.gone before behind c.told l).0),
           omega (arith, r, n, f.few, f.room),
         );
         cause = λ l.

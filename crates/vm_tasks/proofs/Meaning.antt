@@ -1,5 +1,6 @@
 -- Changes of the tree, told by the definition.
-use Rattle.std.proofs.Common.{◌≡◌, ℕ, ◌<◌, ◌≤◌, Bool, true, false, cond, List, [], ◌∷◌, ◌++◌, map, Some, None, refl, sym, ap, subst, ◌∙◌, append_assoc}
+use Rattle.std.proofs.Common.{◌≡◌, ℕ, ◌<◌, ◌≤◌, Bool, true, false, cond, List, [], ◌∷◌, ◌++◌, map, Some, None, refl, sym, ap, subst, ◌∙◌}
+use Rattle.std.proofs.Common.{append_assoc}
 use Rattle.std.proofs.lemmas.List.{append-nil}
 use Rattle.task_tree.specs.Tasks.{Task}
 use Rattle.task_tree.specs.Nested.{IsTree}
@@ -154,8 +155,8 @@ module _ {F W : Type 0} (has_blocks : F → Bool) (pending : W → List Pending)
   no_wait frames id (Asleep f n kind) xs ps = refl
   no_wait frames id (AtGroup f g) xs ps = refl
 
-  told_waits : (frames : F → Frame × List Frame) (gone : List (Task (Slot F))) (x y : Gone F W) → Visited (Leaves has_blocks pending) x gone y →
-      pending y.waits ≡ all_removed (sleeping (slot_of frames) gone) (pending x.waits)
+  told_waits : (frames : F → Frame × List Frame) (gone : List (Task (Slot F))) (x y : Gone F W) →
+      Visited (Leaves has_blocks pending) x gone y → pending y.waits ≡ all_removed (sleeping (slot_of frames) gone) (pending x.waits)
   told_waits frames [] x y v = ap (λ (z : Gone F W). pending z.waits) v
   told_waits frames (t ∷ ts) x y v =
       v.2.waits ∙ (ap (λ ps. without_wait t.item.held ps) (told_waits frames ts x v.0 v.1) ∙
@@ -178,13 +179,17 @@ module _ {F W : Type 0} (has_blocks : F → Bool) (pending : W → List Pending)
 
   cancels_as : (frames : F → Frame × List Frame) (old gone new : List (Task (Slot F))) (before behind : Gone F W) (ids : List ℕ)
       (e : table.Entry) (o : World) (f : List ℕ → Bool) →
-      Agrees has_blocks frames → Visited (Leaves has_blocks pending) before gone behind → CancelledToo (slot_of frames) old gone new ids e o f →
-      CancelsAs has_blocks pending frames old new before behind ids e o f
+      Agrees has_blocks frames → Visited (Leaves has_blocks pending) before gone behind →
+      CancelledToo (slot_of frames) old gone new ids e o f → CancelsAs has_blocks pending frames old new before behind ids e o f
   cancels_as frames old gone new before behind ids e o f agree v c = record {
     stands = c.stands;
     timed = λ s t. subst (λ ps. Timed (sleeping (slot_of frames) new) ps s) (sym (told_waits frames gone before behind v))
         (stretch_timed (slot_of frames) old new c.first gone c.last (pending before.waits) s c.were c.are t);
-    kept = λ l. (frames_back has_blocks gone, (told_frames gone before behind v l).1, frames_told has_blocks frames agree gone (cancelled f o) c.told);
+    kept = λ l. (
+      frames_back has_blocks gone,
+      (told_frames gone before behind v l).1,
+      frames_told has_blocks frames agree gone (cancelled f o) c.told,
+    );
   }
 
   pub scope_so : (id bound : ℕ) (old new : List (Task (Slot F))) (before behind : Gone F W) →

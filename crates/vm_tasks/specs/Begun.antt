@@ -9,7 +9,8 @@ use Rattle.vm_tasks.specs.declared.slots.Root.{Root}
 use Rattle.vm_tasks.specs.declared.slots.Held.{Held}
 use Rattle.vm_tasks.specs.declared.slots.Held.TheVariants.{ByMachine}
 
--- an arm, and a task behind, has this role in the tree; which of both it is the machine does not ask there
+-- an arm, and a task behind, has this role in the tree; which of both it is the machine does not
+-- ask there
 abbrev pub role_under : Option ℕ → Role
 role_under None = role.Root
 role_under (Some p) = role.Behind 0
@@ -19,9 +20,16 @@ module _ {F : Type 0} where
   new_slot n root = record { number = n; since = n; root = root; held = ByMachine }
 
   -- a task that the machine runs stands behind its siblings
-  pub record Begun (old new : List (Task (Slot F))) (parent : Option ℕ) (id n : ℕ) (root : Root) : Type 0 where
+  pub record Begun (old new : List (Task (Slot F))) (parent : Option ℕ) (id n : ℕ) (root : Root) :
+      Type 0 where
     pub fresh : task_at id old ≡ None
-    pub added : Added (record { number = id; parent = parent; role = role_under parent; item = new_slot n root }) old new
+    pub added : Added (record {
+      number = id;
+      parent = parent;
+      role = role_under parent;
+      item =
+          new_slot n root;
+    }) old new
 
   -- with the frames elsewhere
   pub record Reheld (old new : List (Task (Slot F))) (id : ℕ) (h : Held F) : Type 0 where

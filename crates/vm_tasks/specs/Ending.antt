@@ -1,4 +1,5 @@
--- What the end of a task, a waking and a falling asleep are in the machine's definition, for every world that the tree stands for.
+-- What the end of a task, a waking and a falling asleep are in the machine's definition, for every
+-- world that the tree stands for.
 use Rattle.std.specs.Prelude.{◌≡◌, ◌≤◌, ℕ, List, [], ◌∷◌, ◌++◌, Option, Some, None}
 use Rattle.task_tree.specs.Tasks.{Task, HasNoChild}
 use Rattle.verse_base.specs.declared.places.Place.{Place}
@@ -7,7 +8,8 @@ use Rattle.verse_meaning_state.specs.State.{State, drawn}
 use Rattle.verse_meaning_state.specs.Waits.{Due, nth}
 use Rattle.verse_meaning_state.specs.Turns as turns
 use Rattle.verse_code_machine.specs.Tasks as m
-use Rattle.verse_code_machine.specs.Tasks.{Frame, root, part, Who, Part, did, Thread, Up, begins, branching, spawning, Trees, World, world, onto}
+use Rattle.verse_code_machine.specs.Tasks.{Frame, root, part, Who, Part, did, Thread, Up, begins}
+use Rattle.verse_code_machine.specs.Tasks.{branching, spawning, Trees, World, world, onto}
 use Rattle.verse_code_machine.specs.Tasks.{among}
 use Rattle.verse_code_machine.specs.Ends.{resumes, woken_in}
 use Rattle.sim_clock.specs.declared.waits.WaitKind.{WaitKind}
@@ -28,36 +30,47 @@ module _ {F : Type 0} where
   -- the task with this number has no children, where all of them began before it did
   abbrev pub IsAlone : List (Task (Slot F)) → (id bound : ℕ) → Type 0
   IsAlone tasks id bound =
-      (frames : F → Frame × List Frame) (ids : List ℕ) (w : Who) (arms : Option (List Part)) (o : World) → w.number ≤ bound →
-      Stands (slot_of frames) tasks ids (held id w arms ∷ []) o → HasNoChild id tasks
+      (frames : F → Frame × List Frame) (ids : List ℕ) (w : Who) (arms : Option (List Part))
+      (o : World) → w.number ≤ bound → Stands (slot_of frames) tasks ids (held id w arms ∷ []) o →
+      HasNoChild id tasks
 
   -- the end of a task, by what waits for it
   pub record Ended (old new : List (Task (Slot F))) (id : ℕ) : Type 0 where
     -- an arm as it began
-    pub arm : (frames : F → Frame × List Frame) (j : ℕ) (ids : List ℕ) (w : Who) (x : Thread) (k : turns.Kind) (p : Place) (gs : List Part)
-        (n : ℕ) (ls : List ℕ) (us : List Up) (xs ys : List m.Task) (trees : Trees) (v : Val) →
-        Stands (slot_of frames) old (j ∷ ids) (held id w None ∷ []) (world xs ys (begins x k p gs n ls ∷ us) trees) →
-        Stands (slot_of frames) new ids (held j x.who (Some (gs ++ did v ∷ [])) ∷ []) (world xs ys us trees)
+    pub arm : (frames : F → Frame × List Frame) (j : ℕ) (ids : List ℕ) (w : Who) (x : Thread)
+        (k : turns.Kind) (p : Place) (gs : List Part) (n : ℕ) (ls : List ℕ) (us : List Up)
+        (xs ys : List m.Task) (trees : Trees) (v : Val) →
+        Stands (slot_of frames) old (j ∷ ids) (held id w None ∷ [])
+        (world xs ys (begins x k p gs n ls ∷ us) trees) →
+        Stands (slot_of frames) new ids (held j x.who (Some (gs ++ did v ∷ [])) ∷ [])
+        (world xs ys us trees)
     -- a task behind as it began
-    pub behind : (frames : F → Frame × List Frame) (j : ℕ) (ids : List ℕ) (w : Who) (x : Thread) (us : List Up) (xs ys : List m.Task)
-        (trees : Trees) →
-        Stands (slot_of frames) old (j ∷ ids) (held id w None ∷ []) (world xs ys (branching x ∷ us) trees) →
+    pub behind : (frames : F → Frame × List Frame) (j : ℕ) (ids : List ℕ) (w : Who) (x : Thread)
+        (us : List Up) (xs ys : List m.Task) (trees : Trees) →
+        Stands (slot_of frames) old (j ∷ ids) (held id w None ∷ [])
+        (world xs ys (branching x ∷ us) trees) →
         Stands (slot_of frames) new ids (held j x.who None ∷ []) (world xs ys us trees)
     -- a part in a later turn
-    pub later : (frames : F → Frame × List Frame) (ids : List ℕ) (w : Who) (xs ys : List m.Task) (trees : Trees) → w.role ≡ part →
-        Stands (slot_of frames) old ids (held id w None ∷ []) (world xs ys [] trees) → Joins (slot_of frames) old id w xs ys trees
+    pub later : (frames : F → Frame × List Frame) (ids : List ℕ) (w : Who) (xs ys : List m.Task)
+        (trees : Trees) → w.role ≡ part →
+        Stands (slot_of frames) old ids (held id w None ∷ []) (world xs ys [] trees) →
+        Joins (slot_of frames) old id w xs ys trees
     -- a spawned task as it began
-    pub spawned : (frames : F → Frame × List Frame) (j : ℕ) (ids : List ℕ) (w : Who) (entry : Option ℕ) (x : Thread) (number : ℕ)
-        (xs ys ps qs : List m.Task) (us : List Up) (trees : Trees) → w.role ≡ root entry →
-        Stands (slot_of frames) old (j ∷ ids) (held id w None ∷ []) (world xs ys (spawning x number ps qs ∷ us) trees) →
+    pub spawned : (frames : F → Frame × List Frame) (j : ℕ) (ids : List ℕ) (w : Who)
+        (entry : Option ℕ) (x : Thread) (number : ℕ) (xs ys ps qs : List m.Task) (us : List Up)
+        (trees : Trees) → w.role ≡ root entry →
+        Stands (slot_of frames) old (j ∷ ids) (held id w None ∷ [])
+        (world xs ys (spawning x number ps qs ∷ us) trees) →
         Stands (slot_of frames) new ids (held j x.who None ∷ []) (world ps qs us trees)
     -- Main, or a spawned task in a later turn
-    pub alone : (frames : F → Frame × List Frame) (ids : List ℕ) (w : Who) (entry : Option ℕ) (xs ys : List m.Task) (trees : Trees) →
-        w.role ≡ root entry →
-        Stands (slot_of frames) old ids (held id w None ∷ []) (world xs ys [] trees) → Rests (slot_of frames) new (among (onto xs ys) trees)
+    pub alone : (frames : F → Frame × List Frame) (ids : List ℕ) (w : Who) (entry : Option ℕ)
+        (xs ys : List m.Task) (trees : Trees) → w.role ≡ root entry →
+        Stands (slot_of frames) old ids (held id w None ∷ []) (world xs ys [] trees) →
+        Rests (slot_of frames) new (among (onto xs ys) trees)
 
   -- the clock's next wait is that of the definition: its task goes on in the same world
-  pub record Woken (frames : F → Frame × List Frame) (new : List (Task (Slot F))) (id : ℕ) (h : Held F) (tss : List (List m.Task))
+  pub record Woken (frames : F → Frame × List Frame) (new : List (Task (Slot F))) (id : ℕ)
+      (h : Held F) (tss : List (List m.Task))
       (ps : List Pending) (s : State) (d : Due) (e : ClockDue) (u : State) : Type 0 where
     pub it : m.Task
     pub other : World
@@ -73,8 +86,9 @@ module _ {F : Type 0} where
 
   abbrev pub Wakes : List (Task (Slot F)) → List (Task (Slot F)) → ℕ → Held F → Type 0
   Wakes old new id h =
-      (frames : F → Frame × List Frame) (tss : List (List m.Task)) (ps : List Pending) (s : State) (d : Due) (e : ClockDue) (u : State) →
-      e.task ≡ id → Rests (slot_of frames) old tss → Timed (sleeping (slot_of frames) old) ps s → NextIs s ps d e →
+      (frames : F → Frame × List Frame) (tss : List (List m.Task)) (ps : List Pending) (s : State)
+      (d : Due) (e : ClockDue) (u : State) → e.task ≡ id → Rests (slot_of frames) old tss →
+      Timed (sleeping (slot_of frames) old) ps s → NextIs s ps d e →
       Woken frames new id h tss ps s d e u
 
 -- what the task would wait for has not come yet
@@ -86,7 +100,8 @@ IsUntold s (Event cell) = Unit {0}
 
 module _ {F W : Type 0} (pending : W → List Pending) where
   -- the clock has one wait more, of the next number
-  abbrev pub FallsAsleep : List (Task (Slot F)) → List (Task (Slot F)) → Gone F W → Gone F W → (id n : ℕ) → WaitKind → Type 0
+  abbrev pub FallsAsleep : List (Task (Slot F)) → List (Task (Slot F)) → Gone F W → Gone F W →
+      (id n : ℕ) → WaitKind → Type 0
   FallsAsleep old new before behind id n kind =
       (frames : F → Frame × List Frame) (ids : List ℕ) (w : Who) (o : World) (s : State) →
       Stands (slot_of frames) old ids (held id w None ∷ []) o → n ≡ s.clock.next → IsUntold s kind →

@@ -1,5 +1,6 @@
 -- What is told of a cancelled task, and of all that a task has begun since so many steps were left.
-use Rattle.std.specs.Prelude.{◌≡◌, ◌≢◌, ◌⊎◌, ◌<◌, ◌≤◌, ℕ, ◌+◌, Bool, true, false, cond, List, [], ◌∷◌, ◌++◌, length, Some, vec_capacity}
+use Rattle.std.specs.Prelude.{◌≡◌, ◌≢◌, ◌⊎◌, ◌<◌, ◌≤◌, ℕ, ◌+◌, Bool, true, false, cond, List, []}
+use Rattle.std.specs.Prelude.{◌∷◌, ◌++◌, length, Some, vec_capacity}
 use Rattle.task_tree.specs.Tasks.{Task, task_at, youngest}
 use Rattle.task_tree.specs.Removing.{Visited}
 use Rattle.verse_code_machine.specs.Tasks.{Frame}
@@ -31,7 +32,8 @@ module _ {F : Type 0} where
     pub less : task.item.number < bound
 
   abbrev pub NoYounger : List (Task (Slot F)) → ℕ → ℕ → Type 0
-  NoYounger ts id bound = (c : ℕ) (u : Task (Slot F)) → youngest (Some id) ts ≡ Some c → task_at c ts ≡ Some u → bound ≤ u.item.number
+  NoYounger ts id bound = (c : ℕ) (u : Task (Slot F)) → youngest (Some id) ts ≡ Some c →
+      task_at c ts ≡ Some u → bound ≤ u.item.number
 
 -- an element of a list
 pub data In {A : Type 0} (x : A) : List A → Type 0 where
@@ -75,24 +77,31 @@ module _ {F W : Type 0} where
         In f before.frames.items ⊎ ((t : Task (Slot F)) × In t old × In f (frames_in t.item.held))
 
 module _ {F W : Type 0} (has_blocks : F → Bool) where
-  -- Frames are lost only for want of memory: not where there is room for all, and not where no cancelled task had a deferred block. No
-  -- memory is taken then.
+  -- Frames are lost only for want of memory: not where there is room for all, and not where no
+  -- cancelled task had a deferred block. No memory is taken then.
   pub record LosesFew (old new : List (Task (Slot F))) (before behind : Gone F W) : Type 0 where
     pub with_room : HasRoom old before → (behind.lost ≡ before.lost) × HasRoom new behind
     pub cause : behind.lost ≡ true → (before.lost ≡ true) ⊎ HadBlocks has_blocks old new
-    pub none : NoneDefers has_blocks old new → (behind.frames ≡ before.frames) × (behind.lost ≡ before.lost)
+    pub none : NoneDefers has_blocks old new → (behind.frames ≡ before.frames) ×
+        (behind.lost ≡ before.lost)
 
   module _ (pending : W → List Pending) where
-    -- the wait is gone, and frames with a deferred block stand behind those of tasks that were cancelled before, or some were lost
+    -- the wait is gone, and frames with a deferred block stand behind those of tasks that were
+    -- cancelled before, or some were lost
     pub record Leaves (old : Gone F W) (id : ℕ) (item : Slot F) (new : Gone F W) : Type 0 where
       pub waits : pending new.waits ≡ without_wait item.held (pending old.waits)
-      pub kept : new.lost ≡ false → (old.lost ≡ false) × (new.frames.items ≡ old.frames.items ++ kept_in has_blocks item.held)
-      pub cause : new.lost ≡ true → (old.lost ≡ true) ⊎ ((kept_in has_blocks item.held ≢ []) × IsFull old)
-      pub none : kept_in has_blocks item.held ≡ [] → (new.frames ≡ old.frames) × (new.lost ≡ old.lost)
+      pub kept : new.lost ≡ false → (old.lost ≡ false) ×
+          (new.frames.items ≡ old.frames.items ++ kept_in has_blocks item.held)
+      pub cause : new.lost ≡ true → (old.lost ≡ true) ⊎
+          ((kept_in has_blocks item.held ≢ []) × IsFull old)
+      pub none : kept_in has_blocks item.held ≡ [] → (new.frames ≡ old.frames) ×
+          (new.lost ≡ old.lost)
       pub few : length new.frames.items ≤ length old.frames.items + 1
       pub room : vec_capacity old.frames ≤ vec_capacity new.frames
 
-    pub record Cleared (id bound : ℕ) (old new : List (Task (Slot F))) (before behind : Gone F W) : Type 0 where
+    pub record Cleared (id bound : ℕ) (old new : List (Task (Slot F))) (before behind : Gone F W) :
+        Type 0 where
       pub gone : List (Task (Slot F))
-      pub cancels : (frames : F → Frame × List Frame) → CancelsSince (slot_of frames) id bound old gone new
+      pub cancels : (frames : F → Frame × List Frame) →
+          CancelsSince (slot_of frames) id bound old gone new
       pub told : Visited Leaves before gone behind

@@ -7,7 +7,13 @@ use Rattle.vm_tasks.specs.Begun.{role_under}
 
 module _ {F : Type 0} where
   abbrev pub put_task : Option ℕ → ℕ → Slot F → Task (Slot F)
-  put_task parent id slot = record { number = id; parent = parent; role = role_under parent; item = slot }
+  put_task parent id slot = record {
+    number = id;
+    parent = parent;
+    role = role_under parent;
+    item =
+        slot;
+  }
 
   -- a task of its own stands behind all others
   pub record PutRoot (old new : List (Task (Slot F))) (id : ℕ) (slot : Slot F) : Type 0 where

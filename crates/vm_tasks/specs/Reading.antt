@@ -1,5 +1,6 @@
 -- What is read of a task that is suspended.
-use Rattle.std.specs.Prelude.{ℕ, suc, nat_eq, Bool, false, List, [], ◌∷◌, Option, Some, None, if◌then◌else◌}
+use Rattle.std.specs.Prelude.{ℕ, suc, nat_eq, Bool, false, List, [], ◌∷◌, Option, Some, None}
+use Rattle.std.specs.Prelude.{if◌then◌else◌}
 use Rattle.sim_clock.specs.declared.waits.WaitKind.{WaitKind}
 use Rattle.vm_tasks.specs.declared.slots.Held.{Held}
 use Rattle.vm_tasks.specs.declared.slots.Held.TheVariants.{ByMachine, Asleep, AtGroup}
@@ -33,7 +34,8 @@ is_child number (Runs n) = nat_eq n number
 -- the place of the first that is, where `before` arms stand before these
 abbrev pub place_from : ℕ → (before : ℕ) → List Arm → Option ℕ
 place_from number before [] = None
-place_from number before (arm ∷ arms) = if is_child number arm then Some before else place_from number (suc before) arms
+place_from number before (arm ∷ arms) =
+    if is_child number arm then Some before else place_from number (suc before) arms
 
 abbrev pub arm_place : ℕ → List Arm → Option ℕ
 arm_place number arms = place_from number 0 arms

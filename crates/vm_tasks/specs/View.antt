@@ -1,4 +1,5 @@
--- What a slot stands for, where `frames` are a task's frames in the machine's definition, the top one and those below it.
+-- What a slot stands for, where `frames` are a task's frames in the machine's definition, the top
+-- one and those below it.
 use Rattle.std.specs.Prelude.{List, map, Some, None}
 use Rattle.verse_value.specs.View.{val_of}
 use Rattle.verse_meaning_state.specs.Turns as turns
@@ -32,8 +33,16 @@ part_of (Runs n) = runs n
 module _ {F : Type 0} (frames : F → Frame × List Frame) where
   abbrev pub held_of : Held F → table.Held
   held_of ByMachine = table.by_machine
-  held_of (Asleep f n kind) = table.by_itself (frames f).0 (frames f).1 (asleep (record { number = n; cause = cause_of kind }))
-  held_of (AtGroup f g) = table.by_itself (frames f).0 (frames f).1 (group (kind_of g.kind) g.place (map part_of g.arms.items))
+  held_of (Asleep f n kind) = table.by_itself (frames f).0 (frames f).1
+      (asleep (record { number = n; cause = cause_of kind }))
+  held_of (AtGroup f g) = table.by_itself (frames f).0 (frames f).1
+      (group (kind_of g.kind) g.place (map part_of g.arms.items))
 
   abbrev pub slot_of : Slot F → table.Slot
-  slot_of s = record { number = s.number; since = s.since; role = role_of s.root; held = held_of s.held }
+  slot_of s = record {
+    number = s.number;
+    since = s.since;
+    role = role_of s.root;
+    held =
+        held_of s.held;
+  }

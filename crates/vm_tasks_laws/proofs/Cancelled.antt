@@ -15,7 +15,8 @@ use Rattle.vm_tasks_laws.specs.Standing.{Planted, onto_entries}
 use Rattle.vm_tasks_laws.specs.Cancelling.{younger, older, back_entries}
 use Rattle.vm_tasks_laws.specs.Told.{AllPairs, IsTold}
 use Rattle.vm_tasks_laws.proofs.Lists.{Each, each_append, each_parts, each_weaker}
-use Rattle.vm_tasks_laws.proofs.Paths.{eqn_is, eqn_same, ltn_yes, ltn_no, ltn_not, starts_front, starts_fork, Apart, forks, above, starts_apart}
+use Rattle.vm_tasks_laws.proofs.Paths.{eqn_is, eqn_same, ltn_yes, ltn_no, ltn_not, starts_front, starts_fork, Apart, forks, above}
+use Rattle.vm_tasks_laws.proofs.Paths.{starts_apart}
 use Rattle.vm_tasks_laws.proofs.Paths.{since_apart, since_child}
 use Rattle.vm_tasks_laws.proofs.Holes.{before, after, parent_at, outside, Below, all_below, path_is}
 use Rattle.vm_tasks_laws.proofs.Spots.{post_join, Spot, spot_of, fronts, backs, refill}

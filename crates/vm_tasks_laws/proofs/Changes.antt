@@ -8,7 +8,8 @@ use Rattle.task_tree.specs.Removing as r
 use Rattle.task_tree.proofs.Standing.{changed_here, without_at, inner}
 use Rattle.task_tree.proofs.Ending.{block_children}
 use Rattle.task_tree.proofs.Under.{block_under, not_under}
-use Rattle.vm_tasks_laws.specs.Slots.{Slot, Entry, path_of, who_of, named, Parent, no_parent, under, id_of, path_under, number_of, Armed, Seen}
+use Rattle.vm_tasks_laws.specs.Slots.{Slot, Entry, path_of, who_of, named, Parent, no_parent, under, id_of, path_under, number_of, Armed}
+use Rattle.vm_tasks_laws.specs.Slots.{Seen}
 use Rattle.vm_tasks_laws.specs.Slots.{RoleFits, Shows}
 use Rattle.vm_tasks_laws.specs.Roses.{Rose, empty, node, pre, post, IsOne, pre_all, Good, GoodTrees}
 use Rattle.vm_tasks_laws.specs.Standing.{Deal, Planted}

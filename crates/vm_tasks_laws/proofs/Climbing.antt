@@ -7,7 +7,8 @@ use Rattle.verse_value.specs.Val.{Val}
 use Rattle.verse_meaning_state.specs.State.{State}
 use Rattle.verse_meaning_state.specs.Waits.{Wait, eqn, has}
 use Rattle.verse_code_machine.specs.Tasks as m
-use Rattle.verse_code_machine.specs.Tasks.{Rest, asleep, group, Trees, world, Step, waits_with, waits_of, tree_waits, same_path, onto, among}
+use Rattle.verse_code_machine.specs.Tasks.{Rest, asleep, group, Trees, world, Step, waits_with, waits_of, tree_waits, same_path, onto}
+use Rattle.verse_code_machine.specs.Tasks.{among}
 use Rattle.verse_code_machine.specs.Ends.{resumes, joined, climbs, is_asleep, woken, woken_in}
 use Rattle.vm_tasks_laws.specs.Slots.{Slot, Entry, slept, path_of, no_parent, under, number_of}
 use Rattle.vm_tasks_laws.specs.Roses.{Rose, empty, node, pre, post, IsOne, pre_all, Good}

@@ -10,7 +10,8 @@ use Rattle.verse_value.specs.Val.{Val}
 use Rattle.verse_meaning_state.specs.Waits.{ltn}
 use Rattle.verse_meaning_state.specs.Turns.{Kind}
 use Rattle.verse_code_machine.specs.Tasks as m
-use Rattle.verse_code_machine.specs.Tasks.{Role, root, part, Who, Part, did, runs, Rest, asleep, group, Thread, Up, begins, branching, spawning}
+use Rattle.verse_code_machine.specs.Tasks.{Role, root, part, Who, Part, did, runs, Rest, asleep, group, Thread, Up, begins, branching}
+use Rattle.verse_code_machine.specs.Tasks.{spawning}
 use Rattle.verse_code_machine.specs.Tasks.{clearing, Trees, World, world, onto, among, planted, same_path}
 use Rattle.verse_code_machine.specs.Ends.{is_run, with_did, climbs}
 use Rattle.vm_tasks_laws.specs.Slots.{Slot, by_machine, Entry, slept, held, who_of, path_of, arms_of, Parent, no_parent, under, id_of}
@@ -27,7 +28,8 @@ use Rattle.vm_tasks_laws.proofs.Spots.{join, Spot}
 use Rattle.vm_tasks_laws.proofs.Changes.{Tops, reseated, reentered, without_it, one_less, RootGone, root_gone}
 use Rattle.vm_tasks_laws.proofs.Mirror.{onto_append}
 use Rattle.vm_tasks_laws.proofs.Cancelled.{planted_of}
-use Rattle.vm_tasks_laws.proofs.Climbing.{onto_passed, onto_slept, slept_cut, climbs_to, shown_append, shown_cut, siblings_tops, tops_join, Over}
+use Rattle.vm_tasks_laws.proofs.Climbing.{onto_passed, onto_slept, slept_cut, climbs_to, shown_append, shown_cut, siblings_tops, tops_join}
+use Rattle.vm_tasks_laws.proofs.Climbing.{Over}
 use Rattle.vm_tasks_laws.proofs.Climbing.{over, siblings_above, after_parent, above_gone}
 use Rattle.vm_tasks_laws.proofs.Steps.{trees_append, is_run_more, is_run_did, is_run_with, at_spot, running_spot, is_held}
 use Rattle.vm_tasks_laws.proofs.Overs.{shown_head, no_entries, no_kids, longer}

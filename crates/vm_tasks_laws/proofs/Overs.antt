@@ -7,14 +7,17 @@ use Rattle.task_tree.specs.Nested.{IsTree}
 use Rattle.task_tree.specs.Removing.{Added}
 use Rattle.task_tree.proofs.Standing.{never}
 use Rattle.verse_code_machine.specs.Tasks as m
-use Rattle.verse_code_machine.specs.Tasks.{Role, root, part, Who, Part, did, runs, Rest, asleep, group, Thread, Up, begins, branching, spawning}
-use Rattle.verse_code_machine.specs.Tasks.{clearing, Trees, World, world, root_named, child_named, onto, among, planted, since, beneath_arms}
+use Rattle.verse_code_machine.specs.Tasks.{Role, root, part, Who, Part, did, runs, Rest, asleep, group, Thread, Up, begins, branching}
+use Rattle.verse_code_machine.specs.Tasks.{spawning}
+use Rattle.verse_code_machine.specs.Tasks.{clearing, Trees, World, world, root_named, child_named, onto, among, planted, since}
+use Rattle.verse_code_machine.specs.Tasks.{beneath_arms}
 use Rattle.verse_code_machine.specs.Tasks.{same_path}
 use Rattle.verse_code_machine.specs.Cancelling.{world_without, cancelled}
 use Rattle.verse_code_machine.specs.Cancelling as can
 use Rattle.vm_tasks_laws.specs.Slots.{Slot, by_machine, Entry, slept, held, Parent, no_parent, under, number_of, Seen, RoleFits, Shows}
 use Rattle.vm_tasks_laws.specs.Roses.{Rose, empty, node, pre, post, Good, GoodTrees}
-use Rattle.vm_tasks_laws.specs.Standing.{onto_entries, trees_entries, ups_entries, ups_trees, Deal, Shown, none_shown, empty_shown, tree_shown}
+use Rattle.vm_tasks_laws.specs.Standing.{onto_entries, trees_entries, ups_entries, ups_trees, Deal, Shown, none_shown, empty_shown}
+use Rattle.vm_tasks_laws.specs.Standing.{tree_shown}
 use Rattle.vm_tasks_laws.specs.Standing.{Planted, Stands, Rests}
 use Rattle.vm_tasks_laws.specs.Cancelling.{CancelsSince, younger, older, back_entries}
 use Rattle.vm_tasks_laws.specs.Together.{CancelledToo}

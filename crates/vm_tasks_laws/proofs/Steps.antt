@@ -10,11 +10,14 @@ use Rattle.verse_value.specs.Val.{Val}
 use Rattle.verse_meaning_state.specs.Waits.{eqn, ltn}
 use Rattle.verse_meaning_state.specs.Turns.{Kind}
 use Rattle.verse_code_machine.specs.Tasks as m
-use Rattle.verse_code_machine.specs.Tasks.{Frame, Role, root, part, Who, Part, did, runs, Rest, asleep, group, Thread, thread, After, Up, begins}
-use Rattle.verse_code_machine.specs.Tasks.{branching, spawning, clearing, Trees, World, world, root_named, child_named, onto, among, planted}
+use Rattle.verse_code_machine.specs.Tasks.{Frame, Role, root, part, Who, Part, did, runs, Rest, asleep, group, Thread, thread, After, Up}
+use Rattle.verse_code_machine.specs.Tasks.{begins}
+use Rattle.verse_code_machine.specs.Tasks.{branching, spawning, clearing, Trees, World, world, root_named, child_named, onto, among}
+use Rattle.verse_code_machine.specs.Tasks.{planted}
 use Rattle.verse_code_machine.specs.Tasks.{since, beneath_arms, same_path}
 use Rattle.verse_code_machine.specs.Ends.{is_run, with_did}
-use Rattle.vm_tasks_laws.specs.Slots.{Slot, Held, by_machine, by_itself, Entry, slept, held, arms_at, under, number_of, ArmedBy, Seen, RoleFits}
+use Rattle.vm_tasks_laws.specs.Slots.{Slot, Held, by_machine, by_itself, Entry, slept, held, arms_at, under, number_of, ArmedBy, Seen}
+use Rattle.vm_tasks_laws.specs.Slots.{RoleFits}
 use Rattle.vm_tasks_laws.specs.Slots.{Shows}
 use Rattle.vm_tasks_laws.specs.Roses.{Rose, empty, node, pre, post}
 use Rattle.vm_tasks_laws.specs.Standing.{onto_entries, trees_entries, ups_entries, Planted, Stands}

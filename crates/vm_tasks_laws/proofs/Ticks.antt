@@ -5,7 +5,8 @@ use Rattle.std.proofs.lemmas.Bool.Decides.{nat_tests}
 use Rattle.task_tree.proofs.Standing.{never}
 use Rattle.verse_value.specs.Val.{Val, unit}
 use Rattle.verse_meaning_state.specs.State.{State, Given, Signal, signalled, with_result, with_entry, set_at, drawn}
-use Rattle.verse_meaning_state.specs.Waits.{Wait, Cause, till, never as forever, done, heard, eqn, ltn, nth, first_signal, given_by, Due, due_of}
+use Rattle.verse_meaning_state.specs.Waits.{Wait, Cause, till, never as forever, done, heard, eqn, ltn, nth, first_signal, given_by, Due}
+use Rattle.verse_meaning_state.specs.Waits.{due_of}
 use Rattle.sim_clock.specs.declared.waits.Wait.{Wait as ClockWait}
 use Rattle.sim_clock.specs.declared.waits.WaitKind.{WaitKind}
 use Rattle.sim_clock.specs.declared.waits.WaitKind.TheVariants.{At, Never, Task as OnTask, Event}
@@ -14,7 +15,8 @@ use Rattle.sim_clock.specs.declared.waits.Due.{Due as ClockDue}
 use Rattle.sim_clock.specs.declared.waits.Pending.{Pending}
 use Rattle.sim_clock.specs.Pending.{IsAboveAll, given, added, removed, waits_alike, or_else, woken_one, woken}
 use Rattle.vm_tasks_laws.specs.Standing.{Deal, one_dealt}
-use Rattle.vm_tasks_laws.specs.Clocks.{cause_of, wait_of, value_for, IsDue, IsTimed, AllTimed, AllAbove, Rising, NoneNewer, told, Timed, NextIs}
+use Rattle.vm_tasks_laws.specs.Clocks.{cause_of, wait_of, value_for, IsDue, IsTimed, AllTimed, AllAbove, Rising, NoneNewer, told, Timed}
+use Rattle.vm_tasks_laws.specs.Clocks.{NextIs}
 use Rattle.vm_tasks_laws.proofs.Lists.{in_first, between, in_second, cut}
 use Rattle.vm_tasks_laws.proofs.Paths.{eqn_same, eqn_other, eqn_is, ltn_yes, ltn_no}
 use Rattle.vm_tasks_laws.proofs.Trees.{move, move_back, deal_first}

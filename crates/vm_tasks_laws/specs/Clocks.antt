@@ -3,7 +3,8 @@ use Rattle.std.specs.Prelude.{◌≡◌, ◌<◌, ◌≤◌, ℕ, List, [], ◌�
 use Rattle.task_tree.specs.Tasks.{Task}
 use Rattle.verse_value.specs.Val.{Val, unit}
 use Rattle.verse_meaning_state.specs.State.{State, Given, Signal}
-use Rattle.verse_meaning_state.specs.Waits.{Cause, till, never, done, heard, Wait, nth, given_by, due_of, Due}
+use Rattle.verse_meaning_state.specs.Waits.{Cause, till, never, done, heard, Wait, nth, given_by}
+use Rattle.verse_meaning_state.specs.Waits.{due_of, Due}
 use Rattle.verse_code_machine.specs.Tasks.{Rest, asleep, group}
 use Rattle.sim_clock.specs.declared.waits.Wait.{Wait as ClockWait}
 use Rattle.sim_clock.specs.declared.waits.WaitKind.{WaitKind}
@@ -28,7 +29,8 @@ wait_of w = record { number = w.number; cause = cause_of w.kind }
 abbrev pub value_for : State → Cause → (signal : ℕ) → Option Val
 value_for s (till moment) c = Some unit
 value_for s never c = None
-value_for s (done entry) c = option_map (λ (g : Given). g.value) (given_by (nth s.clock.results entry))
+value_for s (done entry) c = option_map (λ (g : Given). g.value)
+    (given_by (nth s.clock.results entry))
 value_for s (heard event) c = option_map (λ (g : Signal). g.given.value) (nth s.clock.signals c)
 
 -- a wait has the moment that the definition has for it, if any, and goes on with the value

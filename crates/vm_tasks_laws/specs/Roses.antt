@@ -1,4 +1,5 @@
--- Tasks that enclose tasks: each with what the machine's definition has for it, those beneath it, and its later siblings.
+-- Tasks that enclose tasks: each with what the machine's definition has for it, those beneath it,
+-- and its later siblings.
 use Rattle.std.specs.Prelude.{◌<◌, ℕ, List, [], ◌∷◌, ◌++◌}
 use Rattle.task_tree.specs.Tasks.{Task}
 use Rattle.vm_tasks_laws.specs.Slots.{Slot, Entry, Parent, no_parent, under, number_of, Seen}
@@ -32,8 +33,8 @@ module _ {T : Type 0} (slot : T → Slot) where
   -- siblings began one after another: their numbers fall
   abbrev pub Good : Parent T → ℕ → Rose T → Type 0
   Good q most empty = Unit {0}
-  Good q most (node t e k r) = Seen slot q t e × (number_of slot t < most) × Good (under t e) (number_of slot t) k ×
-      Good q (number_of slot t) r
+  Good q most (node t e k r) = Seen slot q t e × (number_of slot t < most) ×
+      Good (under t e) (number_of slot t) k × Good q (number_of slot t) r
 
   pub record GoodTree (c : Rose T) : Type 0 where
     pub one : IsOne c

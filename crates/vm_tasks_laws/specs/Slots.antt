@@ -6,7 +6,8 @@ use Rattle.verse_code_machine.specs.Tasks.{Frame, Role, root, part, Who, Part, R
 use Rattle.verse_code_machine.specs.Ends.{is_run}
 use Rattle.verse_meaning_state.specs.Waits.{ltn}
 
--- a task's frames are with the machine while it runs, or waits until another task is suspended or over
+-- a task's frames are with the machine while it runs, or waits until another task is suspended or
+-- over
 pub data Held : Type 0 where
   by_machine : Held
   by_itself : (frame : Frame) (below : List Frame) → Rest → Held

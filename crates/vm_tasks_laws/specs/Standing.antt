@@ -2,7 +2,8 @@
 use Rattle.std.specs.Prelude.{◌≡◌, ℕ, List, [], ◌∷◌, ◌++◌, map, Some, None}
 use Rattle.task_tree.specs.Tasks.{Task}
 use Rattle.verse_code_machine.specs.Tasks as m
-use Rattle.verse_code_machine.specs.Tasks.{Who, runs, After, resuming, closing, finishing, Up, begins, branching, spawning, clearing, World}
+use Rattle.verse_code_machine.specs.Tasks.{Who, runs, After, resuming, closing, finishing, Up}
+use Rattle.verse_code_machine.specs.Tasks.{begins, branching, spawning, clearing, World}
 use Rattle.vm_tasks_laws.specs.Slots.{Slot, Entry, slept, held, who_of}
 use Rattle.vm_tasks_laws.specs.Roses.{Rose, post, pre_all, GoodTrees}
 
@@ -23,7 +24,8 @@ who_after (finishing w entry v) = w
 abbrev pub ups_entries : List ℕ → List Up → List Entry
 ups_entries ids [] = []
 ups_entries [] (u ∷ us) = []
-ups_entries (i ∷ ids) (begins x k p gs n ls ∷ us) = held i x.who (Some (gs ++ runs n ∷ [])) ∷ ups_entries ids us
+ups_entries (i ∷ ids) (begins x k p gs n ls ∷ us) =
+    held i x.who (Some (gs ++ runs n ∷ [])) ∷ ups_entries ids us
 ups_entries (i ∷ ids) (branching x ∷ us) = held i x.who None ∷ ups_entries ids us
 ups_entries (i ∷ ids) (spawning x entry ps qs ∷ us) = []
 ups_entries (i ∷ ids) (clearing a ts ∷ us) = held i (who_after a) None ∷ ups_entries ids us
@@ -60,19 +62,22 @@ RunChained (e ∷ es) us = BegunBy us (who_of e) × Chained us
 -- two lists of the same elements
 pub data Deal {A : Type 0} : List A → List A → Type 0 where
   none_dealt : Deal [] []
-  one_dealt : {x : A} {xs zs : List A} (front back : List A) → zs ≡ front ++ x ∷ back → Deal xs (front ++ back) → Deal (x ∷ xs) zs
+  one_dealt : {x : A} {xs zs : List A} (front back : List A) → zs ≡ front ++ x ∷ back →
+      Deal xs (front ++ back) → Deal (x ∷ xs) zs
 
 module _ {T : Type 0} where
   -- these are the trees, and there may be empty ones among them
   pub data Shown : List (Rose T) → List (List Entry) → Type 0 where
     none_shown : Shown [] []
-    empty_shown : {cs : List (Rose T)} {ess : List (List Entry)} → Shown cs ess → Shown cs ([] ∷ ess)
-    tree_shown : {c : Rose T} {cs : List (Rose T)} {es : List Entry} {ess : List (List Entry)} → post c ≡ es → Shown cs ess →
-        Shown (c ∷ cs) (es ∷ ess)
+    empty_shown : {cs : List (Rose T)} {ess : List (List Entry)} → Shown cs ess →
+        Shown cs ([] ∷ ess)
+    tree_shown : {c : Rose T} {cs : List (Rose T)} {es : List Entry} {ess : List (List Entry)} →
+        post c ≡ es → Shown cs ess → Shown (c ∷ cs) (es ∷ ess)
 
 module _ {T : Type 0} (slot : T → Slot) where
   -- the tasks of a tree: one in which these stand, and others
-  pub record Planted (tasks : List (Task T)) (others : List (Rose T)) (es : List Entry) : Type 0 where
+  pub record Planted (tasks : List (Task T)) (others : List (Rose T)) (es : List Entry) :
+      Type 0 where
     pub current : Rose T
     pub roots : List (Rose T)
     pub dealt : Deal (current ∷ others) roots
@@ -80,12 +85,16 @@ module _ {T : Type 0} (slot : T → Slot) where
     pub good : GoodTrees slot (current ∷ others)
     pub current_is : post current ≡ es
 
-  -- the tasks of a tree, where the tasks `run` stand between those before and those behind in a world
-  pub record Stands (tasks : List (Task T)) (ids : List ℕ) (run : List Entry) (o : World) : Type 0 where
+  -- the tasks of a tree, where the tasks `run` stand between those before and those behind in a
+  -- world
+  pub record Stands (tasks : List (Task T)) (ids : List ℕ) (run : List Entry) (o : World) :
+      Type 0 where
     pub others : List (Rose T)
-    pub planted : Planted tasks others (onto_entries o.pre (run ++ (ups_entries ids o.ups ++ map slept o.post)))
+    pub planted : Planted tasks others
+        (onto_entries o.pre (run ++ (ups_entries ids o.ups ++ map slept o.post)))
     pub chain : RunChained run o.ups
-    pub others_are : Shown others (ups_trees ids o.ups ++ (trees_entries o.trees.before ++ trees_entries o.trees.behind))
+    pub others_are : Shown others (ups_trees ids o.ups ++
+        (trees_entries o.trees.before ++ trees_entries o.trees.behind))
 
   -- between two turns
   pub record Rests (tasks : List (Task T)) (tss : List (List m.Task)) : Type 0 where

@@ -1,4 +1,5 @@
--- What the tree of tasks and the definition come to together: after a cancelling, at the end of a part, at a waking.
+-- What the tree of tasks and the definition come to together: after a cancelling, at the end of a
+-- part, at a waking.
 use Rattle.std.specs.Prelude.{◌≡◌, ℕ, Bool, List, [], ◌∷◌, ◌++◌, Some, None}
 use Rattle.task_tree.specs.Tasks.{Task, task_at, with_item, without}
 use Rattle.verse_value.specs.Val.{Val}
@@ -23,7 +24,8 @@ passed (y ∷ ys) xs = passed ys (y ∷ xs)
 
 module _ {T : Type 0} (slot : T → Slot) where
   -- what is cancelled is gone on both sides, and was told in the definition's order
-  pub record CancelledToo (tasks gone new : List (Task T)) (ids : List ℕ) (e : Entry) (o : World) (f : List ℕ → Bool) : Type 0 where
+  pub record CancelledToo (tasks gone new : List (Task T)) (ids : List ℕ) (e : Entry) (o : World)
+      (f : List ℕ → Bool) : Type 0 where
     pub stands : Stands slot new ids (e ∷ []) (world_without f o)
     pub told : AllPairs (IsTold slot) (backwards gone) (cancelled f o)
     pub first : List (Task T)
@@ -32,7 +34,8 @@ module _ {T : Type 0} (slot : T → Slot) where
     pub are : new ≡ first ++ last
 
   -- the parent of a task that is over, in the tree and among those behind
-  pub record Joins (tasks : List (Task T)) (i : ℕ) (w : Who) (xs ys : List m.Task) (trees : Trees) : Type 0 where
+  pub record Joins (tasks : List (Task T)) (i : ℕ) (w : Who) (xs ys : List m.Task) (trees : Trees) :
+      Type 0 where
     pub id : ℕ
     pub task : Task T
     pub earlier : List m.Task
@@ -44,14 +47,17 @@ module _ {T : Type 0} (slot : T → Slot) where
     pub found : (v : Val) (s : State) → climbs w.up w.number v xs ys trees s ≡
         joined w.number v parent.rest parent (passed earlier xs) later trees s
     -- it waits on, or goes on with its group
-    pub stays : Rests slot (without i tasks) (among (onto (passed earlier xs) (parent ∷ later)) trees)
-    pub goes : (item : T) (v : Val) (gs : List Part) → slot item ≡ record (slot task.item) { held = by_machine } →
-        arms_at parent.rest ≡ Some gs →
-        Stands slot (with_item id (without i tasks) item) [] (held id parent.thread.who (Some (with_did w.number v gs)) ∷ [])
+    pub stays : Rests slot (without i tasks)
+        (among (onto (passed earlier xs) (parent ∷ later)) trees)
+    pub goes : (item : T) (v : Val) (gs : List Part) →
+        slot item ≡ record (slot task.item) { held = by_machine } → arms_at parent.rest ≡ Some gs →
+        Stands slot (with_item id (without i tasks) item) []
+        (held id parent.thread.who (Some (with_did w.number v gs)) ∷ [])
         (world (passed earlier xs) later [] trees)
 
   -- the task whose wait is due
-  pub record Wakes (tasks : List (Task T)) (tss : List (List m.Task)) (s : State) (d : Due) (e : ClockDue) (u : State) : Type 0 where
+  pub record Wakes (tasks : List (Task T)) (tss : List (List m.Task)) (s : State) (d : Due)
+      (e : ClockDue) (u : State) : Type 0 where
     pub task : Task T
     pub frame : Frame
     pub below : List Frame

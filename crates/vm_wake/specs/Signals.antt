@@ -7,4 +7,5 @@ use Rattle.vm_running.specs.Doings.{Doing}
 
 -- the task goes on
 abbrev pub signals : ℕ → Val → Doing
-signals event v w x s f fs = Next (record { who = w; world = x; state = signalled event v s; frame = f; below = fs })
+signals event v w x s f fs = Next
+    (record { who = w; world = x; state = signalled event v s; frame = f; below = fs })

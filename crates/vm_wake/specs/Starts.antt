@@ -34,5 +34,6 @@ module _ {W : Type 0} (pending : W → List Pending) where
     pub signals : t.signals.items ≡ []
 
   -- Main runs, or the run is over
-  pub record MainStarts (f : Func) (ns : List ℤ) (r : Went) (v u : View) (s : Tasks W) : Type 0 where
+  pub record MainStarts (f : Func) (ns : List ℤ) (r : Went) (v u : View) (s : Tasks W) :
+      Type 0 where
     pub starts : MovesOn pending (main_starts ns (begun v.left) f) [] r u s

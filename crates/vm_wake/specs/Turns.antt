@@ -19,9 +19,10 @@ use Rattle.vm_scheduler.specs.Going.{Resting}
 use Rattle.vm_scheduler.specs.Meets.{GoesOn}
 
 -- the run is over before the turn
-pub record Closes {W : Type 0} (until : ℕ) (e : Ending) (a : Aside) (tss : Forest) (v : View) (t : Tasks W) (u : View) (s : Tasks W) :
-    Type 0 where
-  pub is : (go : Due → State → Stage Forest) → turn until (tree_waits tss) (state_of a v) tss go ≡ closed e (state_of a v) tss
+pub record Closes {W : Type 0} (until : ℕ) (e : Ending) (a : Aside) (tss : Forest) (v : View)
+    (t : Tasks W) (u : View) (s : Tasks W) : Type 0 where
+  pub is : (go : Due → State → Stage Forest) →
+      turn until (tree_waits tss) (state_of a v) tss go ≡ closed e (state_of a v) tss
   pub view : u ≡ v
   pub tasks : s ≡ t
 
@@ -36,7 +37,8 @@ module _ {W : Type 0} (pending : W → List Pending) where
   pub record Turns (until : ℕ) (a : Aside) (tss : Forest) (v u : View) (s : Tasks W) : Type 0 where
     pub due : Due
     pub state : State
-    pub is : (go : Due → State → Stage Forest) → turn until (tree_waits tss) (state_of a v) tss go ≡ go due state
+    pub is : (go : Due → State → Stage Forest) →
+        turn until (tree_waits tss) (state_of a v) tss go ≡ go due state
     pub goes : GoesOn pending (woken_in due.number due.given.value [] tss state) a.past u s
 
   abbrev pub TurnsTo : ℕ → Went → Aside → Forest → View → Tasks W → View → Tasks W → Type 0
@@ -45,8 +47,10 @@ module _ {W : Type 0} (pending : W → List Pending) where
   TurnsTo until went.Down a tss v t u s = ⊥
 
   -- from wherever no task runs
-  pub record TakesTurn (until : ℕ) (r : Went) (v : View) (t : Tasks W) (u : View) (s : Tasks W) : Type 0 where
-    pub takes : (a : Aside) (tss : Forest) → Resting pending a tss v t → TurnsTo until r a tss v t u s
+  pub record TakesTurn (until : ℕ) (r : Went) (v : View) (t : Tasks W) (u : View) (s : Tasks W) :
+      Type 0 where
+    pub takes : (a : Aside) (tss : Forest) → Resting pending a tss v t →
+        TurnsTo until r a tss v t u s
 
   -- a task runs
   abbrev pub RunsNow : Step → List Line → Went → View → Tasks W → Type 0
@@ -62,6 +66,8 @@ module _ {W : Type 0} (pending : W → List Pending) where
     pub resting : Resting pending aside trees v t
     pub next : NextIs (state_of aside v) (pending t.gone.waits) due e
 
-  pub record WakesNext (e : ClockDue) (r : Went) (v : View) (t : Tasks W) (u : View) (s : Tasks W) : Type 0 where
-    pub wakes : (a : Aside) (tss : Forest) (d : Due) → Resting pending a tss v t → NextIs (state_of a v) (pending t.gone.waits) d e →
+  pub record WakesNext (e : ClockDue) (r : Went) (v : View) (t : Tasks W) (u : View) (s : Tasks W) :
+      Type 0 where
+    pub wakes : (a : Aside) (tss : Forest) (d : Due) → Resting pending a tss v t →
+        NextIs (state_of a v) (pending t.gone.waits) d e →
         RunsNow (woken_in d.number d.given.value [] tss (state_of a v)) a.past r u s

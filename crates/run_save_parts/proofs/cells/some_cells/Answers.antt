@@ -22,8 +22,9 @@ returns-in_err-cell c =
 
 pub cells-preserved : goal.cells-preserved
 cells-preserved c =
-    rw (c.in_ok-push-2.ensures.items, c.in_ok-push.ensures.items) (each_goes_on cell_of (noted_at (cell_at c.args.classes.now)) c.cells.cells.items c.args.count
-    c.cells._i (c.cells.weight, c.cells.lefts.items) c.cells.rest.now c.in_ok-cell.cell
+    rw (c.in_ok-push-2.ensures.items, c.in_ok-push.ensures.items)
+    (each_goes_on cell_of (noted_at (cell_at c.args.classes.now)) c.cells.cells.items c.args.count c.cells._i
+    (c.cells.weight, c.cells.lefts.items) c.cells.rest.now c.in_ok-cell.cell
     (c.in_ok-cell.more, c.cells.lefts.items ++ length c.cells.rest.now ∷ []) c.in_ok-cell.after.now
     (each_at (noted_at (cell_at c.args.classes.now)) c.args.count (0, []) c.args.bytes.now) c.cells-test.true
     (noted (cell_at c.args.classes.now) c.cells.weight c.in_ok-cell.more c.cells.lefts.items c.cells.rest.now (cell_of c.in_ok-cell.cell)

@@ -18,7 +18,8 @@ pub values-preserved : goal.values-preserved
 values-preserved c =
     rw c.in_ok-push.ensures.items (each_goes_on val_of (value_at c.args.place) c.values.values.items c.args.count c.values._i c.values.cells
     c.values.rest.now c.in_ok-value.value c.in_ok-value.more c.in_ok-value.after.now
-    (each_at (value_at c.args.place) c.args.count c.args.cells c.args.bytes.now) c.values-test.true c.in_ok-value.ensures c.values.invariant)
+    (each_at (value_at c.args.place) c.args.count c.args.cells c.args.bytes.now) c.values-test.true c.in_ok-value.ensures
+    c.values.invariant)
 
 pub returns : goal.returns
 returns c = each_is_done (value_at c.args.place) (vals_of c.values.values.items) c.args.count c.values._i c.values.cells c.values.rest.now

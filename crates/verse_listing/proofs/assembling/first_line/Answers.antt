@@ -12,4 +12,5 @@ returns-in-Ok-clause-leads c =
 pub returns-in-Err-clause-leads : goal.returns-in-Err-clause-leads
 returns-in-Err-clause-leads c =
     on_broken c.args.left.line (step first c.in_ok-line.line.now) (λ next. left_gives next c.in_ok-line.behind)
-    (left_gives first c.args.left) c.in-Err.fault c.fault.result (first_breaks c.in-Err.fault c.in_ok-line.line.now c.in-Err.ensures) c.fault.ensures (c.in_ok-line.ensures.cut first)
+    (left_gives first c.args.left) c.in-Err.fault c.fault.result (first_breaks c.in-Err.fault c.in_ok-line.line.now c.in-Err.ensures)
+    c.fault.ensures (c.in_ok-line.ensures.cut first)

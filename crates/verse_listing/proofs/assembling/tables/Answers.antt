@@ -9,10 +9,13 @@ use Rattle.verse_listing.proofs.assembling.tables.Goals as goal
 pub lines-preserved : goal.lines-preserved
 lines-preserved c =
     let stage = among_tables c.args.files c.args.ops c.lines.tables in
-    let told : table_line_of c.args.files c.args.ops c.lines.tables (words c.in_ok-line.line.now) ≡ Ok (c.line.new.self, None) = search rules in (
-      c.lines.invariant.0 ∙ on_ok c.lines.here.line (step stage c.in_ok-line.line.now) (among_tables c.args.files c.args.ops c.line.new.self)
+    let told : table_line_of c.args.files c.args.ops c.lines.tables (words c.in_ok-line.line.now) ≡ Ok (c.line.new.self, None) =
+    search rules in (
+      c.lines.invariant.0 ∙ on_ok c.lines.here.line (step stage c.in_ok-line.line.now)
+          (among_tables c.args.files c.args.ops c.line.new.self)
           (λ next. left_gives next c.in_ok-line.behind) (left_gives stage c.lines.here)
-          (tables_ok c.args.files c.args.ops c.lines.tables c.line.new.self None c.in_ok-line.line.now told) (c.in_ok-line.ensures.cut stage),
+          (tables_ok c.args.files c.args.ops c.lines.tables c.line.new.self None c.in_ok-line.line.now told)
+          (c.in_ok-line.ensures.cut stage),
       c.in_ok-line.ensures.counted,
       c.in-Ok-None.ensures.functions,
     )
@@ -20,7 +23,8 @@ lines-preserved c =
 pub returns-in-Ok-Some-clause-leads : goal.returns-in-Ok-Some-clause-leads
 returns-in-Ok-Some-clause-leads c =
     let stage = among_tables c.args.files c.args.ops c.lines.tables in
-    let told : table_line_of c.args.files c.args.ops c.lines.tables (words c.in_ok-line.line.now) ≡ Ok (c.line.new.self, Some c.in-Ok-Some.main) =
+    let told : table_line_of c.args.files c.args.ops c.lines.tables (words c.in_ok-line.line.now) ≡
+    Ok (c.line.new.self, Some c.in-Ok-Some.main) =
     search rules in
     rw c.in-Ok-Some.field-0-is (c.lines.invariant.0 ∙ on_ok c.lines.here.line (step stage c.in_ok-line.line.now)
     (among_operations c.args.files c.args.ops c.line.new.self c.in-Ok-Some.main []) (λ next. left_gives next c.in_ok-line.behind)

@@ -4,7 +4,8 @@ use Rattle.verse_listing_format.proofs.NameLemmas.{found_at, not_at, not_found}
 use Rattle.verse_listing_format.proofs.names.code_named.Goals as goal
 
 pub returns-then-eq-clause-code : goal.returns-then-eq-clause-code
-returns-then-eq-clause-code c = sym (found_at c.codes.code c.name_at.result.now c.args.name.now (sym c.name_at.ensures) (search rules) c.codes.invariant)
+returns-then-eq-clause-code c = sym (found_at c.codes.code c.name_at.result.now c.args.name.now (sym c.name_at.ensures) (search rules)
+    c.codes.invariant)
 
 pub codes-preserved : goal.codes-preserved
 codes-preserved c = not_at c.codes.code c.name_at.result.now c.args.name.now (sym c.name_at.ensures) (search rules) c.codes.invariant

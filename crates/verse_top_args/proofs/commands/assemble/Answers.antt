@@ -6,8 +6,8 @@ use Rattle.verse_top_args.proofs.commands.assemble.Goals as goal
 
 pub returns-then-is_alone-clause-asks : goal.returns-then-is_alone-clause-asks
 returns-then-is_alone-clause-asks c =
-    is_alone assemble _ (λ file is. says_assemble is) (map string_bytes c.args.files.now) (map string_bytes c.args.options.now) c.requires.are
-    (alone_words string_bytes c.args.files.now c.args.options.now (c.is_alone.ensures.0 c.if-is_alone.true))
+    is_alone assemble _ (λ file is. says_assemble is) (map string_bytes c.args.files.now) (map string_bytes c.args.options.now)
+    c.requires.are (alone_words string_bytes c.args.files.now c.args.options.now (c.is_alone.ensures.0 c.if-is_alone.true))
 
 pub returns-else-is_alone-clause-asks : goal.returns-else-is_alone-clause-asks
 returns-else-is_alone-clause-asks c =

@@ -5,6 +5,6 @@ use Rattle.verse_verify_entries.proofs.entries.least_entry.Goals as goal
 
 pub returns-in_default : goal.returns-in_default
 returns-in_default c =
-    sym (no_notes c.args.code.now (table_of c.args.table.now) c.funcs.least c.funcs.number c.args.code.now.functions c.funcs.rest.now c.funcs.number (omega
-    (arith, c.funcs-test.true, ap length c.as_slice-func-items.ensures)) c.in_default.ensures.cases) ∙
+    sym (no_notes c.args.code.now (table_of c.args.table.now) c.funcs.least c.funcs.number c.args.code.now.functions c.funcs.rest.now
+    c.funcs.number (omega (arith, c.funcs-test.true, ap length c.as_slice-func-items.ensures)) c.in_default.ensures.cases) ∙
     c.funcs.invariant

@@ -13,5 +13,6 @@ returns-then-next-count c =
     (operands c.args.st.now)) (omega (arith, c.if-next-count.true))))
 
 pub returns : goal.returns
-returns c = c.settle.ensures ∙ two_rule c.args.here.now c.args.st.now c.next.result c.does_lead_written-suits.result c.args.local (c.args.local
-    + 1) c.args.made c.args.behind (omega arith) (omega (arith, c.if-next-count.false)) c.next.ensures c.does_lead_written-suits.ensures
+returns c = c.settle.ensures ∙ two_rule c.args.here.now c.args.st.now c.next.result c.does_lead_written-suits.result c.args.local
+    (c.args.local + 1) c.args.made c.args.behind (omega arith) (omega (arith, c.if-next-count.false)) c.next.ensures
+    c.does_lead_written-suits.ensures

@@ -12,6 +12,6 @@ names-preserved c =
     let name = c.in-Some.name in
     let there : slice_get ns c.names.at ≡ Some name = sym c.name_at.ensures ∙ c.in-Some.is in
     let this : is_around (code_in h) (table_in h) h.index name ≡ true = sym c.is_around.ensures ∙ c.if-not-is_around.false in
-    sym (ap (all_around (code_in h) (table_in h) h.index) (from_name ns c.names.at name there) ∙ ap (λ b. b && all_around (code_in h) (table_in h)
-    h.index (drop (c.names.at + 1) ns)) this) ∙
+    sym (ap (all_around (code_in h) (table_in h) h.index) (from_name ns c.names.at name there) ∙
+    ap (λ b. b && all_around (code_in h) (table_in h) h.index (drop (c.names.at + 1) ns)) this) ∙
     c.names.invariant

@@ -10,5 +10,6 @@ pub arms-preserved : goal.arms-preserved
 arms-preserved c =
     let h = c.args.here.now in
     let this : not (is_none (label_of (slice_get (code_in h).ops (suc h.index + c.arms.i)))) ≡ true =
-    ap (λ n. not (is_none (label_of (slice_get (code_in h).ops n)))) (sym c.behind.ensures) ∙ sym c.is_arm.ensures ∙ c.if-not-is_arm.false in
+    ap (λ n. not (is_none (label_of (slice_get (code_in h).ops n)))) (sym c.behind.ensures) ∙ sym c.is_arm.ensures ∙
+    c.if-not-is_arm.false in
     further (code_in h) (table_in h) h.index c.args.count c.arms.i (omega (arith, c.arms-test.true)) this ∙ c.arms.invariant

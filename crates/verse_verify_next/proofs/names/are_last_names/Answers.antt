@@ -7,7 +7,8 @@ use Rattle.verse_verify_next.proofs.names.are_last_names.Goals as goal
 pub returns-then-numbers-count : goal.returns-then-numbers-count
 returns-then-numbers-count c =
     let h = c.args.here.now in
-    sym (longer (code_in h) (table_in h) c.args.numbers.now (names_in h) (omega (arith, c.if-numbers-count.true, c.names_count-count.ensures)))
+    sym (longer (code_in h) (table_in h) c.args.numbers.now (names_in h)
+    (omega (arith, c.if-numbers-count.true, c.names_count-count.ensures)))
 
 pub returns : goal.returns
 returns c =

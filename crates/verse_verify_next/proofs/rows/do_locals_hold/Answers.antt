@@ -6,5 +6,5 @@ use Rattle.verse_verify_next.proofs.Locals.{written_each}
 use Rattle.verse_verify_next.proofs.rows.do_locals_hold.Goals as goal
 
 pub returns : goal.returns
-returns c = c.do_rows_hold.ensures ∙ ap (λ ls. each_holds (classes_of c.args.classes.now) ls (sorts_of c.args.others.now)) (sym (written_each
-    (map t.is (sorts_of c.args.locals.now)) c.args.writes.now))
+returns c = c.do_rows_hold.ensures ∙ ap (λ ls. each_holds (classes_of c.args.classes.now) ls (sorts_of c.args.others.now))
+    (sym (written_each (map t.is (sorts_of c.args.locals.now)) c.args.writes.now))

@@ -13,8 +13,9 @@ pub returns-in_err-note : goal.returns-in_err-note
 returns-in_err-note c =
     let p = err_from_is_err_and c.from_residual.result c.from_residual.ensures.1 in
     rw (p.1, p.2) (each_ends c.args.code.now (class_at c.args.code.now) c.in_err-note.field-0.0 (map class_of c.classes.notes.items)
-    c.args.all.now c.classes.known-index c.known-item.result _ c.classes.rest.now (each_at c.args.code.now (class_at c.args.code.now) c.args.all.now
-    c.args.bytes.now) (omega arith) c.known-item.is c.in_err-note.ensures c.classes.invariant)
+    c.args.all.now c.classes.known-index c.known-item.result _ c.classes.rest.now
+    (each_at c.args.code.now (class_at c.args.code.now) c.args.all.now c.args.bytes.now) (omega arith) c.known-item.is c.in_err-note.ensures
+    c.classes.invariant)
 
 pub classes-preserved : goal.classes-preserved
 classes-preserved c =

@@ -7,14 +7,16 @@ pub returns-then-not-may_begin : goal.returns-then-not-may_begin
 returns-then-not-may_begin c =
     let h = c.args.here.now in
     let i = c.arms.i in
-    let no : may_begin h (suc h.index + i) ≡ false = ap (λ n. may_begin h n) (sym c.behind.ensures) ∙ sym c.may_begin.ensures ∙ c.if-not-may_begin.true in
+    let no : may_begin h (suc h.index + i) ≡ false =
+    ap (λ n. may_begin h n) (sym c.behind.ensures) ∙ sym c.may_begin.ensures ∙ c.if-not-may_begin.true in
     sym (stops (may_begin h) (suc h.index + i) c.args.count i (omega (arith, c.arms-test.true)) no) ∙ c.arms.invariant
 
 pub arms-preserved : goal.arms-preserved
 arms-preserved c =
     let h = c.args.here.now in
     let i = c.arms.i in
-    let yes : may_begin h (suc h.index + i) ≡ true = ap (λ n. may_begin h n) (sym c.behind.ensures) ∙ sym c.may_begin.ensures ∙ c.if-not-may_begin.false in
+    let yes : may_begin h (suc h.index + i) ≡ true =
+    ap (λ n. may_begin h n) (sym c.behind.ensures) ∙ sym c.may_begin.ensures ∙ c.if-not-may_begin.false in
     further (may_begin h) (suc h.index) c.args.count i (omega (arith, c.arms-test.true)) yes ∙ c.arms.invariant
 
 pub returns : goal.returns

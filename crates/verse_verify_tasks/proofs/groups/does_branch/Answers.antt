@@ -11,11 +11,13 @@ returns-then-not-does_arm_begin c =
     let h = c.args.here.now in
     let begun : suited h (arm_begins h (suc h.index) ∷ []) ≡ c.does_arm_begin.result = sym (c.does_arm_begin.ensures ∙ ap (λ n. suited h
     (arm_begins h n ∷ [])) c.next.ensures) in
-    first_fails h (arm_begins h (suc h.index)) (goes_to h c.args.label (Some m.Unit) c.args.st.now ∷ []) (begun ∙ c.if-not-does_arm_begin.true)
+    first_fails h (arm_begins h (suc h.index)) (goes_to h c.args.label (Some m.Unit) c.args.st.now ∷ [])
+    (begun ∙ c.if-not-does_arm_begin.true)
 
 pub returns : goal.returns
 returns c =
     let h = c.args.here.now in
     let begun : suited h (arm_begins h (suc h.index) ∷ []) ≡ c.does_arm_begin.result = sym (c.does_arm_begin.ensures ∙ ap (λ n. suited h
     (arm_begins h n ∷ [])) c.next.ensures) in
-    c.does_lead_to.ensures ∙ second_tells h (arm_begins h (suc h.index)) (goes_to h c.args.label (Some m.Unit) c.args.st.now ∷ []) (begun ∙ c.if-not-does_arm_begin.false)
+    c.does_lead_to.ensures ∙ second_tells h (arm_begins h (suc h.index)) (goes_to h c.args.label (Some m.Unit) c.args.st.now ∷ [])
+    (begun ∙ c.if-not-does_arm_begin.false)

@@ -8,8 +8,8 @@ use Rattle.verse_verify_tasks.proofs.groups.does_group_lead.Goals as goal
 pub returns-then-not-do_begin : goal.returns-then-not-do_begin
 returns-then-not-do_begin c =
     let h = c.args.here.now in
-    sym (group_by h c.args.kind c.args.arms c.args.st.now ∙ ap (λ b. b && suited h (group_ends h c.args.kind c.args.arms c.args.st.now ∷ [])) (sym
-    c.do_begin.ensures ∙ c.if-not-do_begin.true))
+    sym (group_by h c.args.kind c.args.arms c.args.st.now ∙
+    ap (λ b. b && suited h (group_ends h c.args.kind c.args.arms c.args.st.now ∷ [])) (sym c.do_begin.ensures ∙ c.if-not-do_begin.true))
 
 pub returns : goal.returns
 returns c =

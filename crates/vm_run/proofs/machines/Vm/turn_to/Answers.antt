@@ -14,8 +14,9 @@ returns-in_err-drain-clause-belongs g c =
 
 pub returns-clause-turned : goal.returns-clause-turned
 returns-clause-turned g c origin steps until k past at =
-    turned_to g.H.Heap.state g.W.Waits.pending c.args.code.now origin steps until k past c.turn.new.self c.in_ok-ending.ending c.drain.new.self
-    _ _ c.in_ok-drain.ensures.drained c.in_ok-drain.ensures.written (c.in_ok-ending.ensures.turned origin steps until k past at)
+    turned_to g.H.Heap.state g.W.Waits.pending c.args.code.now origin steps until k past c.turn.new.self c.in_ok-ending.ending
+    c.drain.new.self _ _ c.in_ok-drain.ensures.drained c.in_ok-drain.ensures.written
+    (c.in_ok-ending.ensures.turned origin steps until k past at)
 
 pub returns-clause-kept : goal.returns-clause-kept
 returns-clause-kept g c =
