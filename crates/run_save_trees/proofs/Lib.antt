@@ -2,7 +2,7 @@ pub mod Firsts
 pub mod Arms
 pub mod Puts
 mod Lists
-mod Groups
+pub mod Groups
 mod Threads
 mod Slots
 mod Trees

@@ -4,7 +4,7 @@
 //! a task more is, and `Laws` what all tasks together stand for.
 //!
 //! The public lemmas, which crates above cite, are those of `proofs/Firsts`, `proofs/Arms`,
-//! `proofs/Puts`, `proofs/Restoring`, `proofs/Ends` and `proofs/Suiting`.
+//! `proofs/Puts`, `proofs/Groups`, `proofs/Restoring`, `proofs/Ends` and `proofs/Suiting`.
 #![tactic(auto)]
 
 pub mod tables;

@@ -2,10 +2,10 @@
 //! and by name, what a class has of its ancestors, what names stand for, and written types. Read
 //! `Owners`, `Inheriting` and `Referring`, then `Laws`.
 //!
-//! In `proofs/`: `Functions`, the function of a number; `Sums`, `Lines`, `Ancestors` and `Circles`,
-//! lines of ancestors that end; `Parents`, `Classes`, `Fields` and `Apart`, fields and their names;
-//! `Methods`, what stands at their places; `Referring`, what names stand for; `Tables` and
-//! `Bodies`, the laws.
+//! In `proofs/`, whose files are the lemmas that crates above cite: `Functions`, the function of a
+//! number; `Sums`, `Lines`, `Ancestors` and `Circles`, lines of ancestors that end; `Parents`,
+//! `Classes`, `Fields` and `Apart`, fields and their names; `Methods`, what stands at their places;
+//! `Referring`, what names stand for; `Tables` and `Bodies`, the laws.
 #![tactic(auto)]
 
 ghost use Rattle.verse_accept_classes.specs.Laws.{

@@ -19,8 +19,8 @@ use Rattle.verse_names_items.specs.Tables.{fun_number, fun_numbers, class_tables
 use Rattle.verse_rules.specs.Naming.{made_class}
 use Rattle.lower_bounds.proofs.Lists.{Each}
 use Rattle.lower_simulation_runs.specs.Programs.{methods_defined, defined_in}
-use Rattle.verse_accept_tables.proofs.Sums.{total, weight, taken, within}
-use Rattle.verse_accept_tables.proofs.Lines.{NoCircle, line_distinct}
+use Rattle.verse_accept_classes.proofs.Sums.{total, weight, taken, within}
+use Rattle.verse_accept_classes.proofs.Lines.{NoCircle, line_distinct}
 
 one_more : (x : Bytes) (r : Ref) (t : Table) → length (put x r t) ≤ suc (length t)
 one_more x r [] = omega arith

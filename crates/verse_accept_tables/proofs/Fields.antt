@@ -16,9 +16,9 @@ use Rattle.verse_rules.specs.Naming.{made_field, made_class}
 use Rattle.verse_meaning_state.specs.Waits.{nth}
 use Rattle.verse_meaning.specs.Programs.{classes, fields_from}
 use Rattle.verse_meaning.specs.Programs as programs
-use Rattle.verse_accept_tables.proofs.Classes.{tree_of, notes_are, outline_many}
-use Rattle.verse_accept_tables.proofs.Parents.{at, parent_is, parents_within}
-use Rattle.verse_accept_tables.proofs.Lines.{ends_above, ends, NoCircle, all_end}
+use Rattle.verse_accept_classes.proofs.Classes.{tree_of, notes_are, outline_many}
+use Rattle.verse_accept_classes.proofs.Parents.{at, parent_is, parents_within}
+use Rattle.verse_accept_classes.proofs.Lines.{ends_above, ends, NoCircle, all_end}
 
 -- ---- the fields of one class
 

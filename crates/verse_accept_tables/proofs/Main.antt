@@ -16,12 +16,13 @@ use Rattle.verse_names_items.specs.Rules.{lacks_main, rules_at}
 use Rattle.verse_names_items.specs.Rules as rules
 use Rattle.verse_names_items.specs.Nodes.{one, fun_declared, item_declared, items_declared, ItemsBreak}
 use Rattle.verse_meaning.specs.Programs.{main_name, main_in}
-use Rattle.lower_bounds.proofs.Lists.{Each, each_first, each_rest}
+use Rattle.verse_accept_scopes.specs.Lists.{Each}
+use Rattle.verse_accept_scopes.proofs.Rows.{each_first, each_rest}
 use Rattle.lower_simulation_runs.specs.Programs.{a_function, defined_in}
-use Rattle.verse_accept_tables.proofs.Names.{same_bytes}
+use Rattle.verse_accept_classes.proofs.Names.{same_bytes}
 use Rattle.verse_accept_tables.proofs.Functions.{as_function, functions_are}
 use Rattle.verse_accept_tables.proofs.Standing.{Last, next, whole}
-use Rattle.verse_accept_tables.proofs.Circles.{Kept, program_kept, holds_here}
+use Rattle.verse_accept_classes.proofs.Circles.{Kept, program_kept, holds_here}
 
 -- what takes no more than the inputs
 few_types : (ts : List Ty) → takes_inputs ts ≡ true → length ts ≤ 1

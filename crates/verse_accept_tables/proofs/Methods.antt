@@ -17,7 +17,7 @@ use Rattle.verse_rules.specs.Naming.{made_class}
 use Rattle.verse_meaning.specs.Programs.{method_in}
 use Rattle.lower_bounds.proofs.Lists.{Each, each_joined}
 use Rattle.lower_simulation_runs.specs.Programs.{a_method, methods_defined, defined_in}
-use Rattle.verse_accept_tables.proofs.Places.{Placed, first_placed}
+use Rattle.verse_accept_classes.proofs.Places.{Placed, first_placed}
 use Rattle.verse_accept_tables.proofs.Standing.{AllStand, put_stands, Last, next, whole}
 
 module _ (all : List ItemTree) where

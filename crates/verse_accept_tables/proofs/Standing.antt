@@ -14,7 +14,7 @@ use Rattle.verse_names_declarations.specs.Known.{Index, indexed, index_all, no_i
 use Rattle.verse_meaning.specs.Programs.{classes}
 use Rattle.lower_bounds.proofs.Lists.{Each}
 use Rattle.lower_simulation_runs.specs.Programs.{Defined, a_function, methods_defined, defined_in}
-use Rattle.verse_accept_tables.proofs.Places.{Placed, all_placed}
+use Rattle.verse_accept_classes.proofs.Places.{Placed, all_placed}
 
 -- ---- tables of names
 

@@ -26,10 +26,10 @@ use Rattle.verse_accept_tables.proofs.Numbers.{defined_apart, defaults_apart}
 use Rattle.verse_accept_tables.proofs.Functions.{numbers_are, as_many, bodies_many}
 use Rattle.verse_accept_tables.proofs.Members.{all_there, ref_there}
 use Rattle.verse_accept_tables.proofs.Methods.{IsMethod, HasMethods, method_there, classes_fit}
-use Rattle.verse_accept_tables.proofs.Classes.{classes_many}
+use Rattle.verse_accept_classes.proofs.Classes.{classes_many}
 use Rattle.verse_accept_tables.proofs.Fields.{fields_agree}
-use Rattle.verse_accept_tables.proofs.Lines.{NoCircle}
-use Rattle.verse_accept_tables.proofs.Circles.{no_circle}
+use Rattle.verse_accept_classes.proofs.Lines.{NoCircle}
+use Rattle.verse_accept_classes.proofs.Circles.{no_circle}
 use Rattle.verse_accept_tables.proofs.Counts.{HasFew, classes_few, defined_few}
 use Rattle.verse_accept_tables.proofs.Main.{main_found}
 

@@ -2,10 +2,9 @@
 //! begins them, and they are small enough. So the names of such a program are what lowering asks
 //! for. Read `Sound`, what is known of an accepted program, then `Laws`.
 //!
-//! In `proofs/`: `Numbers`, `Functions` and `Classes` have what the tables count; `Standing`,
-//! `Passing`, `Referring` and `Members` what names stand for; `Methods`, `Sums`, `Lines`,
-//! `Parents`, `Fields` and `Counts` what a class has of its ancestors; `Circles` and `Main` what
-//! follows where no rule of names is broken; `Whole` the laws.
+//! In `proofs/`: `Numbers` and `Functions` have what the tables count; `Standing`, `Passing`,
+//! `Referring` and `Members` what names stand for; `Methods`, `Fields` and `Counts` what a class has
+//! of its ancestors; `Main` what follows where no rule of names is broken; `Whole` the laws.
 #![tactic(auto)]
 
 ghost use Rattle.verse_accept_tables.specs.Laws.{MainStands, NumbersStand, SizeFits, TablesStand};
