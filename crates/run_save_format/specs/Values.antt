@@ -109,8 +109,8 @@ unfoldable pub text_key_at : Where → (left : ℕ) → Parts Key
 text_key_at w left load bytes = do
   n ← wide_at bytes
   more ← weighed w left n.0 load
-  if nat_lt (length n.1) n.0 then Err (flaw 3 0) else Ok
-  ((key.Text (take n.0 n.1), more), drop n.0 n.1)
+  if nat_lt (length n.1) n.0 then Err (flaw 3 0)
+      else Ok ((key.Text (take n.0 n.1), more), drop n.0 n.1)
 
 unfoldable pub enum_key_at : Parts Key
 enum_key_at load bytes = do
@@ -132,8 +132,8 @@ key_form_at w left of_key.Text load bytes = text_key_at w left load bytes
 unfoldable pub key_at : Where → (levels : ℕ) → Parts Key
 key_at w levels load bytes = do
   part ← part_at key_forms w load bytes
-  if levels == 0 then Err (flaw 5 (length bytes)) else key_form_at w (length bytes) part.0.0
-  part.0.1 part.1
+  if levels == 0 then Err (flaw 5 (length bytes))
+      else key_form_at w (length bytes) part.0.0 part.0.1 part.1
 
 -- ---- values
 

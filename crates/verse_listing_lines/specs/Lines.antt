@@ -143,7 +143,7 @@ class_of functions (s ∷ ms) = do
   slots ← field 0 NUMBER_END s
   methods ← fields functions ms
   if nat_lt (length methods) NUMBER_END then Ok (record { slots = slots; methods = methods })
-  else Err 3
+      else Err 3
 
 -- a run may begin with a function that is there, and takes nothing or the inputs
 abbrev pub may_begin : Option Func → Bool
@@ -235,7 +235,7 @@ op_of sizes at (index ∷ name ∷ operands) = do
   i ← given 1 (number_of index)
   ns ← numbers operands
   if not (is_name name) then Err 1
-  else (if is_index at i then named sizes at (code_named name) ns else Err 4)
+      else (if is_index at i then named sizes at (code_named name) ns else Err 4)
 
 abbrev pub sizes_with : ℕ → Tables → Sizes
 sizes_with ops t = record {
