@@ -1,0 +1,4 @@
+mod Steps
+pub mod Laws
+pub mod Loops
+pub mod RuleSets
