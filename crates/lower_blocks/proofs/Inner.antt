@@ -102,14 +102,13 @@ module _ (p : Program) (sc : Scope) (a : Around) where
       c ≡ made (inner_code p e sc a) b
   inner_by e i b c h is = is ∙ ap (λ k. made (inside_code p k sc a) b) (sym h) ∙ ap (λ f. made f b) (sym (inner_is e))
 
-  pub ends_by : (e l r left right : Tree) (here : Scope) (above : Around) (b c d : Built) →
-      inside e ≡ both_ends l r → left ≡ l →
-      right ≡ r → here ≡ sc →
-      above ≡ up a → c ≡ made (tree_code p left sc a) b → d ≡ made (tree_code p right here above) c →
-      d ≡ made (inner_code p e sc a) b
-  ends_by e l r left right here above b c d h x y s u f g =
-      inner_by e (both_ends l r) b d h
-      (g ∙ ap (λ k. made (tree_code p right here k) c) u ∙ ap (λ k. made (tree_code p right k (up a)) c) s
+  -- both ends of a range, one by one
+  pub ends_by : (l r left right : Tree) (here : Scope) (above : Around) (b c d : Built) → left ≡ l →
+      right ≡ r → here ≡ sc → above ≡ up a → c ≡ made (tree_code p left sc a) b →
+      d ≡ made (tree_code p right here above) c →
+      d ≡ made (inside_code p (both_ends l r) sc a) b
+  ends_by l r left right here above b c d x y s u f g =
+      g ∙ ap (λ k. made (tree_code p right here k) c) u ∙ ap (λ k. made (tree_code p right k (up a)) c) s
       ∙ ap (λ k. made (tree_code p k sc (up a)) c) y
       ∙ ap (made (tree_code p r sc (up a))) (f ∙ ap (λ k. made (tree_code p k sc a) b) x)
-      ∙ sym (made_then (tree_code p l sc a) (tree_code p r sc (up a)) b))
+      ∙ sym (made_then (tree_code p l sc a) (tree_code p r sc (up a)) b)

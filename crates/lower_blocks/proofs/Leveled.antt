@@ -97,21 +97,26 @@ pub cut_levels : (l : ℕ) (sc here there r : Scope) → l ≡ length sc → her
 cut_levels l sc here there r h s e is =
     is ∙ ap (λ k. cut_to k there) h ∙ ap (cut_to (length sc)) (e.1 ∙ ap (λ k. e.0 ++ k) s) ∙ hidden_cut e.0 sc
 
-pub for_by : (p : Program) (cs ds : Trees) (t body : Tree) (sc here there : Scope) (a around : Around)
-    (l m : ℕ) (q : Bool)
-    (ts us vs : List Turn)
-    (b c d r : Built) → l ≡ length sc → here ≡ hidden ∷ sc → around ≡ enclosed a → ds ≡ cs → body ≡ t → ts ≡ [] →
-    Leads (levels_code p ds here around) q ts us there b c →
-    d ≡ cond q (made (body_code p body a l m there) c) c → vs ≡ us →
-    r ≡ turns_closed vs d →
-    r ≡ made (for_code p cs t sc a m) b
-for_by p cs ds t body sc here there a around l m q ts us vs b c d r h s k e f n leads g v is =
-    is ∙ ap (λ k. turns_closed k d) v ∙ ap (turns_closed us) g ∙ leads.leads (body_code p body a l m)
-    ∙ ap (λ k. turns_closed k (made (levels_code p ds here around (body_code p body a l m)) b)) n
-    ∙ ap (λ k. made (levels_code p k here around (body_code p body a l m)) b) e
-    ∙ ap (λ k. made (levels_code p cs k around (body_code p body a l m)) b) s
-    ∙ ap (λ k. made (levels_code p cs (hidden ∷ sc) k (body_code p body a l m)) b) k
-    ∙ ap (λ k. made (levels_code p cs (hidden ∷ sc) (enclosed a) (body_code p k a l m)) b) f
+-- the clauses and the body behind them, where the body takes part in them alone that go on
+pub turns_by : (p : Program) (cs ds : Trees) (t body : Tree) (sc there : Scope) (a around : Around) (l m : ℕ) (q : Bool)
+    (ts us : List Turn) (b c d : Built) → around ≡ enclosed a → ds ≡ cs → body ≡ t →
+    Leads (levels_code p ds sc around) q ts us there b c →
+    d ≡ cond q (made (body_code p body a l m there) c) c →
+    turns_closed us d ≡ turns_closed ts (made (levels_code p cs sc (enclosed a) (body_code p t a l m)) b)
+turns_by p cs ds t body sc there a around l m q ts us b c d k e f leads g =
+    ap (turns_closed us) g ∙ leads.leads (body_code p body a l m)
+    ∙ ap (λ k. turns_closed ts (made (levels_code p k sc around (body_code p body a l m)) b)) e
+    ∙ ap (λ k. turns_closed ts (made (levels_code p cs sc k (body_code p body a l m)) b)) k
+    ∙ ap (λ k. turns_closed ts (made (levels_code p cs sc (enclosed a) (body_code p k a l m)) b)) f
+
+pub for_by : (p : Program) (cs : Trees) (t : Tree) (sc here : Scope) (a : Around) (l m : ℕ) (ts us vs : List Turn)
+    (b d r : Built) → l ≡ length sc → here ≡ hidden ∷ sc → ts ≡ [] →
+    turns_closed us d ≡ turns_closed ts (made (levels_code p cs here (enclosed a) (body_code p t a l m)) b) →
+    vs ≡ us → r ≡ turns_closed vs d → r ≡ made (for_code p cs t sc a m) b
+for_by p cs t sc here a l m ts us vs b d r h s n g v is =
+    is ∙ ap (λ k. turns_closed k d) v ∙ g
+    ∙ ap (λ k. turns_closed k (made (levels_code p cs here (enclosed a) (body_code p t a l m)) b)) n
+    ∙ ap (λ k. made (levels_code p cs k (enclosed a) (body_code p t a l m)) b) s
     ∙ ap (λ k. made (levels_code p cs (hidden ∷ sc) (enclosed a) (body_code p t a k m)) b) h
 
 pub for_whole : (p : Program) (cs : Trees) (e : Tree) (pl : Place) (sc : Scope) (a : Around) (l m n : ℕ)

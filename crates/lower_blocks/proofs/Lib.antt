@@ -9,3 +9,4 @@ mod Claused
 mod Leveled
 mod NoPatterns
 mod Arming
+mod Formed

@@ -31,22 +31,30 @@ module _ (p : Program) (e : Tree) (sc : Scope) (a : Around) where
       by_kind plain b c h
       (is ∙ sym (stated_plain (program_of p) (differ_of p) sc (tree_code p e sc a) (inner_code p e sc a) b))
 
-  pub definition_stated : (x : Binder) (here : Scope) (b c d : Built) → statement_of e ≡ defines x →
-      c ≡ made (inner_code p e sc a) b →
+  -- the steps of a definition and of a deferred block
+  pub defined_by : (x : Binder) (here : Scope) (b c d : Built) → c ≡ made (inner_code p e sc a) b →
       here ≡ sc →
-      d ≡ made (bind x (length here)) c → d ≡ made (stated_code p e sc a) b
-  definition_stated x here b c d h f s g =
-      by_kind (defines x) b d h
-      (g ∙ ap (λ k. made (bind x (length k)) c) s ∙ ap (made (bind x (length sc))) f
-      ∙ sym (stated_defines (program_of p) (differ_of p) sc x (tree_code p e sc a) (inner_code p e sc a) b))
+      d ≡ made (bind x (length here)) c → d ≡ made (bind x (length sc)) (made (inner_code p e sc a) b)
+  defined_by x here b c d f s g = g ∙ ap (λ k. made (bind x (length k)) c) s ∙ ap (made (bind x (length sc))) f
 
-  pub defer_stated : (t : Tree) (n : ℕ) (b c d r : Built) → statement_of e ≡ defers t → n ≡ length b.ops →
-      c ≡ pushed (o.Defer 0) b →
-      d ≡ made (inner_code p e sc a) c → r ≡ defer_ended n d → r ≡ made (stated_code p e sc a) b
-  defer_stated t n b c d r h m f g is =
+  pub deferred_by : (n : ℕ) (b c d r : Built) → n ≡ length b.ops → c ≡ pushed (o.Defer 0) b →
+      d ≡ made (inner_code p e sc a) c → r ≡ defer_ended n d →
+      r ≡ defer_ended (length b.ops) (made (inner_code p e sc a) (pushed (o.Defer 0) b))
+  deferred_by n b c d r m f g is =
+      is ∙ ap (λ k. defer_ended k d) m ∙ ap (defer_ended (length b.ops)) (g ∙ ap (made (inner_code p e sc a)) f)
+
+  pub definition_stated : (x : Binder) (b d : Built) → statement_of e ≡ defines x →
+      d ≡ made (bind x (length sc)) (made (inner_code p e sc a) b) → d ≡ made (stated_code p e sc a) b
+  definition_stated x b d h is =
+      by_kind (defines x) b d h
+      (is ∙ sym (stated_defines (program_of p) (differ_of p) sc x (tree_code p e sc a) (inner_code p e sc a) b))
+
+  pub defer_stated : (t : Tree) (b r : Built) → statement_of e ≡ defers t →
+      r ≡ defer_ended (length b.ops) (made (inner_code p e sc a) (pushed (o.Defer 0) b)) →
+      r ≡ made (stated_code p e sc a) b
+  defer_stated t b r h is =
       by_kind (defers t) b r h
-      (is ∙ ap (λ k. defer_ended k d) m ∙ ap (defer_ended (length b.ops)) (g ∙ ap (made (inner_code p e sc a)) f)
-      ∙ sym (stated_defers (program_of p) (differ_of p) sc t (tree_code p e sc a) (inner_code p e sc a) b))
+      (is ∙ sym (stated_defers (program_of p) (differ_of p) sc t (tree_code p e sc a) (inner_code p e sc a) b))
 
   pub generator_stated : (g : Generator) (b c : Built) → statement_of e ≡ generates g → c ≡ made stuck b →
       c ≡ made (stated_code p e sc a) b

@@ -1,10 +1,12 @@
 -- The clauses of a `for`, whose generators stay open while those behind them are lowered.
-use Rattle.std.specs.Prelude.{◌≡◌, List, Bool, cond}
+use Rattle.std.specs.Prelude.{◌≡◌, ℕ, suc, List, Bool, cond, length}
+use Rattle.verse_code.specs.declared.operations.Op.TheVariants as o
+use Rattle.verse_meaning.specs.Residuals.{Generator}
 use Rattle.verse_meaning.specs.Evaluating.{Statement, plain, defines, defers, generates}
 use Rattle.lower_code.specs.Pieces.{Maker}
 use Rattle.lower_code.specs.Scopes.{Scope}
-use Rattle.lower_code.specs.Lowering.{with_binder, with_generator}
-use Rattle.lower_expr.specs.Building.{Built, made}
+use Rattle.lower_code.specs.Lowering.{with_binder, with_generator, taking}
+use Rattle.lower_expr.specs.Building.{Built, pushed, with_local, made}
 use Rattle.lower_fail.specs.declared.loops.Turn.{Turn}
 use Rattle.lower_fail.specs.Attempts.{turns_closed}
 
@@ -22,3 +24,8 @@ scope_claused plain sc = sc
 scope_claused (defines b) sc = with_binder b sc
 scope_claused (defers d) sc = sc
 scope_claused (generates g) sc = with_generator g sc
+
+-- the index of the jump of a generator whose first local is the one behind the scope
+abbrev pub turns_at : Generator → Scope → Built → ℕ
+turns_at g sc b =
+    length (pushed (taking g (length sc)) (pushed o.Commit (with_local (suc (suc (suc (length sc)))) b))).ops

@@ -49,7 +49,6 @@ pub fn block<
 }
 
 /// The value of a constant, which is defined where no name is seen behind it.
-#[tactic(auto, using(lower_expr::proofs::Laws::made_then))]
 pub fn constant<
     'a,
     F: Fn(
@@ -113,7 +112,6 @@ pub fn variable<
 }
 
 /// `return E`
-#[tactic(auto, using(lower_expr::proofs::Laws::made_then))]
 pub fn returned<
     'a,
     F: Fn(

@@ -28,7 +28,6 @@ use verse_base::refusals::Memory;
 use verse_tree::exprs::{Expr, IfParts, Two};
 
 /// `not E`
-#[tactic(auto, using(lower_fail::proofs::Forms::not_law))]
 pub fn negation<
     'a,
     F: Fn(
@@ -55,11 +54,11 @@ pub fn negation<
 {
     let begun = try_begin(builder)?;
     lowering.part(builder, scopes, around.enclosed(), part)?;
-    not_end(builder, begun)
+    not_end(builder, begun)?;
+    Ok(())
 }
 
 /// `E or F`
-#[tactic(auto, using(lower_fail::proofs::Forms::or_law))]
 pub fn or<
     'a,
     F: Fn(
@@ -88,11 +87,11 @@ pub fn or<
     lowering.part(builder, scopes, around.enclosed(), left(two))?;
     let jump = or_mid(builder, begun)?;
     lowering.part(builder, scopes, around, right(two))?;
-    jump_end(builder, jump)
+    jump_end(builder, jump)?;
+    Ok(())
 }
 
 /// `E and F`
-#[tactic(auto, using(lower_expr::proofs::Laws::made_then, lower_expr::proofs::Laws::made_one))]
 pub fn and<
     'a,
     F: Fn(
@@ -119,7 +118,9 @@ pub fn and<
 {
     lowering.part(builder, scopes, around, left(two))?;
     and_mid(builder)?;
-    lowering.part(builder, scopes, around, right(two))
+    let behind = right(two);
+    lowering.part(builder, scopes, around, behind)?;
+    Ok(())
 }
 
 /// The conditions of an `if` and the part that is taken where they hold.
@@ -232,7 +233,6 @@ pub fn if_form<
 }
 
 /// `option{}`
-#[tactic(auto, using(lower_fail::proofs::Forms::option_law))]
 pub fn option<
     'a,
     F: Fn(
@@ -260,11 +260,11 @@ pub fn option<
 {
     let begun = try_begin(builder)?;
     own_statements(lowering, builder, scopes, around.enclosed(), parts)?;
-    option_end(builder, begun, place)
+    option_end(builder, begun, place)?;
+    Ok(())
 }
 
 /// `logic{}`
-#[tactic(auto, using(lower_fail::proofs::Forms::logic_law))]
 pub fn logic<
     'a,
     F: Fn(
@@ -291,5 +291,6 @@ pub fn logic<
 {
     let begun = try_begin(builder)?;
     own_statements(lowering, builder, scopes, around.enclosed(), parts)?;
-    logic_end(builder, begun)
+    logic_end(builder, begun)?;
+    Ok(())
 }

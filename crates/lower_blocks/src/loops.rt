@@ -1,22 +1,22 @@
 //! Loops: `loop` and `for`.
 
-ghost use Rattle.std.specs.Prelude.{◌≡◌, suc, map, length, cond, OnOk, IfOk};
+ghost use Rattle.std.specs.Prelude.{◌≡◌, map, length, cond, OnOk, IfOk};
 ghost use Rattle.verse_tree.specs.Tree as t;
 ghost use Rattle.verse_tree.specs.View.{tree_of, for_of, trees};
-ghost use Rattle.verse_code.specs.declared.operations.Op.TheVariants as o;
 ghost use Rattle.verse_meaning.specs.Evaluating as e;
+ghost use Rattle.lower_code.specs.Arounds as a;
 ghost use Rattle.lower_code.specs.Lowering as l;
 ghost use Rattle.lower_lookup.specs.Statements.{generator_view};
-ghost use Rattle.lower_expr.specs.Building.{built, made, pushed, with_local};
+ghost use Rattle.lower_expr.specs.Building.{built, made};
 ghost use Rattle.lower_expr.specs.Locals.{scope_of};
-ghost use Rattle.lower_fail.specs.Attempts.{turns_begun};
+ghost use Rattle.lower_fail.specs.Attempts.{turns_begun, turns_closed};
 ghost use Rattle.lower_parts.specs.Parts.{form_code, Lowers, no_place, Grown};
-ghost use Rattle.lower_blocks.specs.Codes.{claused_code, levels_code};
+ghost use Rattle.lower_blocks.specs.Codes.{inner_code, claused_code, levels_code};
 ghost use Rattle.lower_blocks.specs.Codes.{body_code, for_code};
-ghost use Rattle.lower_blocks.specs.Levels.{Leads, scope_claused};
+ghost use Rattle.lower_blocks.specs.Levels.{Leads, scope_claused, turns_at};
 
 use crate::parts::{body, clauses};
-use crate::statements::{bind, inner};
+use crate::statements::{defined, inner};
 use lower_code::arounds::Around;
 use lower_expr::builder::Builder;
 use lower_expr::scopes::{Scopes, Slot};
@@ -34,7 +34,6 @@ use verse_code::operations::Op;
 use verse_tree::exprs::{Expr, ForParts};
 
 /// `loop` and its block.
-#[tactic(auto, using(lower_fail::proofs::Forms::loop_law))]
 pub fn loop_form<
     'a,
     F: Fn(
@@ -61,7 +60,8 @@ pub fn loop_form<
 {
     let mark = loop_begin(builder)?;
     lowering.part(builder, scopes, around.looped(), part)?;
-    loop_end(builder, mark)
+    loop_end(builder, mark)?;
+    Ok(())
 }
 
 fn taking(generator: Generator<'_>, local: u32) -> Op
@@ -100,9 +100,8 @@ fn generate<'a>(
     generator: Generator<'a>,
 ) -> Result<Turn, Memory>
     ensures local { IfOk result (λ turn. turn.local ≡ length (scope_of scopes.old)) }
-    ensures begun { IfOk result (λ turn. turn.begun ≡ length (pushed (l.taking (generator_view
-        generator.entry) (length (scope_of scopes.old))) (pushed o.Commit (with_local (suc (suc
-        (suc (length (scope_of scopes.old))))) (built builder.old)))).ops) }
+    ensures begun { IfOk result (λ turn. turn.begun ≡ turns_at (generator_view generator.entry)
+        (scope_of scopes.old) (built builder.old)) }
     ensures added { OnOk result (built builder.new ≡ turns_begun (l.taking (generator_view
         generator.entry) (length (scope_of scopes.old))) (length (scope_of scopes.old)) (built
         builder.old)) }
@@ -112,6 +111,43 @@ fn generate<'a>(
     let local = scopes.count()?;
     let turn = for_domain(builder, taking(generator, local), local)?;
     four_locals(scopes, generator)?;
+    Ok(turn)
+}
+
+/// A generator with its domain.
+fn generated<
+    'a,
+    F: Fn(
+        &'a Tables<'a>,
+        u32,
+        &mut Builder,
+        &mut Scopes<'a>,
+        Around,
+        &'a Expr,
+    ) -> Result<(), Memory>,
+>(
+    lowering: &Lowering<'a, F>,
+    builder: &mut Builder,
+    scopes: &mut Scopes<'a>,
+    around: Around,
+    generator: Generator<'a>,
+    part: &'a Expr,
+) -> Result<Turn, Memory>
+    requires nests { Lowers lowering.now.depth (F.pre lowering.now.nested)
+        (F.post lowering.now.nested) }
+    ensures local { IfOk result (λ turn. turn.local ≡ length (scope_of scopes.old)) }
+    ensures begun { IfOk result (λ turn. turn.begun ≡ turns_at (generator_view generator.entry)
+        (scope_of scopes.old) (made (inner_code lowering.now.tables.now.program.now
+        (tree_of part.now) (scope_of scopes.old) around) (built builder.old))) }
+    ensures added { OnOk result (built builder.new ≡ turns_begun (l.taking (generator_view
+        generator.entry) (length (scope_of scopes.old))) (length (scope_of scopes.old)) (made
+        (inner_code lowering.now.tables.now.program.now (tree_of part.now) (scope_of scopes.old)
+        around) (built builder.old))) }
+    ensures scopes { OnOk result (scope_of scopes.new ≡ l.with_generator (generator_view
+        generator.entry) (scope_of scopes.old)) }
+{
+    inner(lowering, builder, scopes, around, part)?;
+    let turn = generate(builder, scopes, generator)?;
     Ok(turn)
 }
 
@@ -150,8 +186,7 @@ fn clause<
             Ok(true)
         }
         Statement::Defines(binder) => {
-            inner(lowering, builder, scopes, around, part)?;
-            bind(builder, scopes, binder)?;
+            defined(lowering, builder, scopes, around, binder, part)?;
             builder.op(Op::Drop)?;
             Ok(true)
         }
@@ -160,8 +195,7 @@ fn clause<
             Ok(false)
         }
         Statement::Generates(generator) => {
-            inner(lowering, builder, scopes, around, part)?;
-            let turn = generate(builder, scopes, generator)?;
+            let turn = generated(lowering, builder, scopes, around, generator, part)?;
             turns.push(turn)?;
             Ok(true)
         }
@@ -241,6 +275,51 @@ fn for_value<
     Ok(())
 }
 
+/// The clauses of a `for` whose result is in a local, and its body behind them.
+fn for_turns<
+    'a,
+    F: Fn(
+        &'a Tables<'a>,
+        u32,
+        &mut Builder,
+        &mut Scopes<'a>,
+        Around,
+        &'a Expr,
+    ) -> Result<(), Memory>,
+>(
+    lowering: &Lowering<'a, F>,
+    builder: &mut Builder,
+    scopes: &mut Scopes<'a>,
+    around: Around,
+    mark: ForMark,
+    local: u32,
+    turns: &mut Vec<Turn>,
+    parts: &'a ForParts,
+) -> Result<(), Memory>
+    requires nests { Lowers lowering.now.depth (F.pre lowering.now.nested)
+        (F.post lowering.now.nested) }
+    ensures code { OnOk result (turns_closed turns.new.items (built builder.new) ≡ turns_closed
+        turns.old.items (made (levels_code lowering.now.tables.now.program.now (trees (for_of
+        parts.now).0) (scope_of scopes.old) (a.enclosed around) (body_code
+        lowering.now.tables.now.program.now (for_of parts.now).1 around local mark.place)) (built
+        builder.old))) }
+    ensures scopes { OnOk result (Grown (scope_of scopes.old) (scope_of scopes.new)) }
+{
+    let enclosed = around.enclosed();
+    let goes_on = levels(lowering, builder, scopes, enclosed, turns, clauses(parts))?;
+    for_value(
+        lowering,
+        builder,
+        scopes,
+        around,
+        mark,
+        local,
+        goes_on,
+        body(parts),
+    )?;
+    Ok(())
+}
+
 /// What stands in the attempt of a `for`.
 fn for_inside<
     'a,
@@ -271,24 +350,8 @@ fn for_inside<
     let local = scopes.count()?;
     scopes.add(Slot::Hidden)?;
     let mut turns = Vec::new(alloc);
-    let enclosed = around.enclosed();
-    let goes_on = levels(
-        lowering,
-        builder,
-        scopes,
-        enclosed,
-        &mut turns,
-        clauses(parts),
-    )?;
-    for_value(
-        lowering,
-        builder,
-        scopes,
-        around,
-        mark,
-        local,
-        goes_on,
-        body(parts),
+    for_turns(
+        lowering, builder, scopes, around, mark, local, &mut turns, parts,
     )?;
     turns_end(builder, &turns)?;
     scopes.cut(local);

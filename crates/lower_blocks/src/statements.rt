@@ -9,12 +9,13 @@ ghost use Rattle.verse_code.specs.declared.operations.Op.TheVariants as o;
 ghost use Rattle.lower_code.specs.Pieces.{when, one};
 ghost use Rattle.lower_code.specs.Lowering as l;
 ghost use Rattle.lower_lookup.specs.Statements.{binder_view};
-ghost use Rattle.lower_expr.specs.Building.{built, made};
+ghost use Rattle.lower_expr.specs.Building.{built, made, pushed};
 ghost use Rattle.lower_expr.specs.Endings.{ending_code};
 ghost use Rattle.lower_expr.specs.Locals.{scope_of};
+ghost use Rattle.lower_fail.specs.Attempts.{defer_ended};
 ghost use Rattle.lower_parts.specs.Parts.{Lowers};
-ghost use Rattle.lower_blocks.specs.Insides.{inside, inside_shape, within_view};
-ghost use Rattle.lower_blocks.specs.Codes.{inner_code, stated_code, around_behind};
+ghost use Rattle.lower_blocks.specs.Insides.{inside, inside_shape, within_view, both_ends};
+ghost use Rattle.lower_blocks.specs.Codes.{inner_code, inside_code, stated_code, around_behind};
 ghost use Rattle.lower_blocks.specs.Codes.{statements_code, more_code};
 
 use crate::parts::{left, right};
@@ -65,6 +66,36 @@ fn tree_within<'a>(part: &'a Expr) -> Within<'a>
     form_within(&part.form)
 }
 
+/// Both ends of a range.
+fn range_ends<
+    'a,
+    F: Fn(
+        &'a Tables<'a>,
+        u32,
+        &mut Builder,
+        &mut Scopes<'a>,
+        Around,
+        &'a Expr,
+    ) -> Result<(), Memory>,
+>(
+    lowering: &Lowering<'a, F>,
+    builder: &mut Builder,
+    scopes: &mut Scopes<'a>,
+    around: Around,
+    two: &'a Two,
+) -> Result<(), Memory>
+    requires nests { Lowers lowering.now.depth (F.pre lowering.now.nested)
+        (F.post lowering.now.nested) }
+    ensures code { OnOk result (built builder.new ≡ made (inside_code
+        lowering.now.tables.now.program.now (both_ends (two_of two.now).0 (two_of two.now).1)
+        (scope_of scopes.old) around) (built builder.old)) }
+    ensures scopes { OnOk result (scope_of scopes.new ≡ scope_of scopes.old) }
+{
+    lowering.part(builder, scopes, around, left(two))?;
+    lowering.part(builder, scopes, around.up()?, right(two))?;
+    Ok(())
+}
+
 /// The code of what stands in a statement or a clause.
 pub fn inner<
     'a,
@@ -94,10 +125,7 @@ pub fn inner<
         Within::Nothing => builder.stuck()?,
         Within::Part(value) => lowering.part(builder, scopes, around, value)?,
         Within::Deferred(block) => lowering.part(builder, scopes, around.enclosed(), block)?,
-        Within::Ends(ends) => {
-            lowering.part(builder, scopes, around, left(ends))?;
-            lowering.part(builder, scopes, around.up()?, right(ends))?;
-        }
+        Within::Ends(two) => range_ends(lowering, builder, scopes, around, two)?,
     }
     Ok(())
 }
@@ -142,6 +170,69 @@ pub fn bind<'a>(
     Ok(())
 }
 
+/// The value of a definition, with its name.
+pub fn defined<
+    'a,
+    F: Fn(
+        &'a Tables<'a>,
+        u32,
+        &mut Builder,
+        &mut Scopes<'a>,
+        Around,
+        &'a Expr,
+    ) -> Result<(), Memory>,
+>(
+    lowering: &Lowering<'a, F>,
+    builder: &mut Builder,
+    scopes: &mut Scopes<'a>,
+    around: Around,
+    binder: Binder<'a>,
+    part: &'a Expr,
+) -> Result<(), Memory>
+    requires nests { Lowers lowering.now.depth (F.pre lowering.now.nested)
+        (F.post lowering.now.nested) }
+    ensures code { OnOk result (built builder.new ≡ made (l.bind (binder_view binder.entry)
+        (length (scope_of scopes.old))) (made (inner_code lowering.now.tables.now.program.now
+        (tree_of part.now) (scope_of scopes.old) around) (built builder.old))) }
+    ensures scopes { OnOk result (scope_of scopes.new ≡ l.with_binder (binder_view binder.entry)
+        (scope_of scopes.old)) }
+{
+    inner(lowering, builder, scopes, around, part)?;
+    bind(builder, scopes, binder)?;
+    Ok(())
+}
+
+/// A deferred block.
+fn deferred<
+    'a,
+    F: Fn(
+        &'a Tables<'a>,
+        u32,
+        &mut Builder,
+        &mut Scopes<'a>,
+        Around,
+        &'a Expr,
+    ) -> Result<(), Memory>,
+>(
+    lowering: &Lowering<'a, F>,
+    builder: &mut Builder,
+    scopes: &mut Scopes<'a>,
+    around: Around,
+    part: &'a Expr,
+) -> Result<(), Memory>
+    requires nests { Lowers lowering.now.depth (F.pre lowering.now.nested)
+        (F.post lowering.now.nested) }
+    ensures code { OnOk result (built builder.new ≡ defer_ended (length (built builder.old).ops)
+        (made (inner_code lowering.now.tables.now.program.now (tree_of part.now)
+        (scope_of scopes.old) around) (pushed (o.Defer 0) (built builder.old)))) }
+    ensures scopes { OnOk result (scope_of scopes.new ≡ scope_of scopes.old) }
+{
+    let begun = defer_begin(builder)?;
+    inner(lowering, builder, scopes, around, part)?;
+    defer_end(builder, begun)?;
+    Ok(())
+}
+
 /// A statement; where the statements behind it stand.
 fn stated<
     'a,
@@ -176,14 +267,11 @@ fn stated<
             Ok(around)
         }
         Statement::Defines(binder) => {
-            inner(lowering, builder, scopes, around, part)?;
-            bind(builder, scopes, binder)?;
+            defined(lowering, builder, scopes, around, binder, part)?;
             Ok(around)
         }
         Statement::Defers(_) => {
-            let begun = defer_begin(builder)?;
-            inner(lowering, builder, scopes, around, part)?;
-            defer_end(builder, begun)?;
+            deferred(lowering, builder, scopes, around, part)?;
             Ok(around.deferring()?)
         }
         Statement::Generates(_) => {

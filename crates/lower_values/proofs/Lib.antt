@@ -1,3 +1,4 @@
+mod Ended
 mod Holes
 mod Keys
 mod Fields

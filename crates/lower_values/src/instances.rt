@@ -38,7 +38,6 @@ fn value(given: &Given) -> &Expr
 }
 
 /// The value of a field, which goes into a local.
-#[tactic(auto, using(lower_expr::proofs::Laws::made_then))]
 fn given<
     'a,
     F: Fn(

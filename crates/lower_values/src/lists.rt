@@ -22,7 +22,6 @@ use verse_code::operations::Op;
 use verse_tree::exprs::Expr;
 
 /// Operands, and what ends them.
-#[tactic(auto, using(lower_expr::proofs::Laws::made_then))]
 fn all<
     'a,
     F: Fn(

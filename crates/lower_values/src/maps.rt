@@ -35,7 +35,6 @@ fn value(pair: &Pair) -> &Expr
 }
 
 /// A key and its value.
-#[tactic(auto, using(lower_expr::proofs::Laws::made_then))]
 fn pair<
     'a,
     F: Fn(

@@ -22,7 +22,6 @@ use verse_code::operations::Op;
 use verse_tree::exprs::{Comparison, Expr, Operator, Two};
 
 /// A part, and what ends it.
-#[tactic(auto, using(lower_expr::proofs::Laws::made_then))]
 fn one<
     'a,
     F: Fn(
@@ -49,7 +48,8 @@ fn one<
     ensures scopes { OnOk result (scope_of scopes.new ≡ scope_of scopes.old) }
 {
     lowering.part(builder, scopes, around, part)?;
-    builder.ending(ending)
+    builder.ending(ending)?;
+    Ok(())
 }
 
 fn left(parts: &Two) -> &Expr
@@ -65,7 +65,6 @@ fn right(parts: &Two) -> &Expr
 }
 
 /// Two parts, and what ends them.
-#[tactic(auto, using(lower_expr::proofs::Laws::made_then))]
 fn two<
     'a,
     F: Fn(

@@ -64,7 +64,6 @@ fn behind(hole: &Hole) -> &[u8]
 }
 
 /// A hole, and the piece of text behind it.
-#[tactic(auto, using(lower_expr::proofs::Laws::made_then))]
 fn hole<
     'a,
     F: Fn(
@@ -132,7 +131,6 @@ fn all<
 }
 
 /// A text with holes.
-#[tactic(auto, using(lower_expr::proofs::Laws::made_then))]
 pub fn text<
     'a,
     F: Fn(

@@ -18,10 +18,9 @@ pub returns-in_ok-op-in-Defines-clause-code : goal.returns-in_ok-op-in-Defines-c
 returns-in_ok-op-in-Defines-clause-code g c =
     definition_claused c.args.lowering.now.tables.now.program.now (tree_of c.args.part.now)
     (scope_of c.args.scopes.now) c.args.around
-    (binder_view c.in-Defines.binder) c.args.turns.now.items _ _ (built c.args.builder.now) _ _ _
-    (sym c.statement_of.ensures ∙ ap statement_view c.in-Defines.is) c.in_ok-inner-in-Defines.ensures.code
-    c.in_ok-inner-in-Defines.ensures.scopes c.in_ok-bind-in-Defines.ensures.code c.in_ok-bind-in-Defines.ensures.scopes
-    c.in_ok-op-in-Defines.ensures
+    (binder_view c.in-Defines.binder) c.args.turns.now.items _ (built c.args.builder.now) _ _
+    (sym c.statement_of.ensures ∙ ap statement_view c.in-Defines.is) c.in_ok-defined-in-Defines.ensures.code
+    c.in_ok-defined-in-Defines.ensures.scopes c.in_ok-op-in-Defines.ensures
 
 pub returns-in_ok-stuck-in-Defers-clause-code : goal.returns-in_ok-stuck-in-Defers-clause-code
 returns-in_ok-stuck-in-Defers-clause-code g c =
@@ -34,9 +33,8 @@ pub returns-in_ok-push-in-Generates-clause-code : goal.returns-in_ok-push-in-Gen
 returns-in_ok-push-in-Generates-clause-code g c =
     generator_claused c.args.lowering.now.tables.now.program.now (tree_of c.args.part.now)
     (scope_of c.args.scopes.now) c.args.around
-    (generator_view c.in-Generates.generator) c.args.turns.now.items _ c.in_ok-turn-in-Generates.turn _ _
-    (built c.args.builder.now) _ _
-    (sym c.statement_of.ensures ∙ ap statement_view c.in-Generates.is) c.in_ok-inner-in-Generates.ensures.code
-    c.in_ok-inner-in-Generates.ensures.scopes c.in_ok-turn-in-Generates.ensures.local
+    (generator_view c.in-Generates.generator) c.args.turns.now.items _ c.in_ok-turn-in-Generates.turn _
+    (built c.args.builder.now) _
+    (sym c.statement_of.ensures ∙ ap statement_view c.in-Generates.is) c.in_ok-turn-in-Generates.ensures.local
     c.in_ok-turn-in-Generates.ensures.begun c.in_ok-turn-in-Generates.ensures.added
     c.in_ok-turn-in-Generates.ensures.scopes c.in_ok-push-in-Generates.ensures.items

@@ -1,10 +1,10 @@
 use Rattle.std.proofs.Common.{sym, ap, ◌∙◌}
-use Rattle.verse_tree.specs.View.{tree_of}
+use Rattle.verse_tree.specs.View.{tree_of, two_of}
 use Rattle.lower_expr.specs.Building.{built, made}
 use Rattle.lower_expr.specs.Locals.{scope_of}
 use Rattle.lower_parts.specs.Parts.{tree_code}
-use Rattle.lower_blocks.specs.Insides.{nothing_inside, one_part, deferred, within_view}
-use Rattle.lower_blocks.proofs.Inner.{inner_by, ends_by}
+use Rattle.lower_blocks.specs.Insides.{nothing_inside, one_part, deferred, both_ends, within_view}
+use Rattle.lower_blocks.proofs.Inner.{inner_by}
 use Rattle.lower_blocks.proofs.statements.inner.Goals as goal
 
 pub returns-in_ok-stuck-in-Nothing-clause-code : goal.returns-in_ok-stuck-in-Nothing-clause-code
@@ -36,11 +36,9 @@ returns-in_ok-part-in-Deferred-clause-code g c =
     k)
     (built c.args.builder.now)) c.enclosed.ensures)
 
-pub returns-in_ok-part-in-Ends-2-clause-code : goal.returns-in_ok-part-in-Ends-2-clause-code
-returns-in_ok-part-in-Ends-2-clause-code g c =
-    ends_by c.args.lowering.now.tables.now.program.now (scope_of c.args.scopes.now)
-    c.args.around (tree_of c.args.part.now)
-    _ _ _ _ _ _ (built c.args.builder.now) _ _
-    (sym c.tree_within.ensures ∙ ap within_view c.in-Ends.is) c.left.ensures c.right.ensures
-    c.in_ok-part-in-Ends.ensures.scopes
-    c.in_ok-up-in-Ends.ensures c.in_ok-part-in-Ends.ensures.code c.in_ok-part-in-Ends-2.ensures.code
+pub returns-in_ok-range_ends-in-Ends-clause-code : goal.returns-in_ok-range_ends-in-Ends-clause-code
+returns-in_ok-range_ends-in-Ends-clause-code g c =
+    inner_by c.args.lowering.now.tables.now.program.now (scope_of c.args.scopes.now) c.args.around
+    (tree_of c.args.part.now)
+    (both_ends (two_of c.in-Ends.two.now).0 (two_of c.in-Ends.two.now).1) (built c.args.builder.now) _
+    (sym c.tree_within.ensures ∙ ap within_view c.in-Ends.is) c.in_ok-range_ends-in-Ends.ensures.code

@@ -13,22 +13,19 @@ returns-in_ok-part-in-Plain-clause-code g c =
     (built c.args.builder.now) _
     (sym c.statement_of.ensures ∙ ap statement_view c.in-Plain.is) c.in_ok-part-in-Plain.ensures.code
 
-pub returns-in_ok-bind-in-Defines-clause-code : goal.returns-in_ok-bind-in-Defines-clause-code
-returns-in_ok-bind-in-Defines-clause-code g c =
+pub returns-in_ok-defined-in-Defines-clause-code : goal.returns-in_ok-defined-in-Defines-clause-code
+returns-in_ok-defined-in-Defines-clause-code g c =
     definition_stated c.args.lowering.now.tables.now.program.now (tree_of c.args.part.now)
     (scope_of c.args.scopes.now) c.args.around
-    (binder_view c.in-Defines.binder) _ (built c.args.builder.now) _ _
-    (sym c.statement_of.ensures ∙ ap statement_view c.in-Defines.is)
-    c.in_ok-inner-in-Defines.ensures.code c.in_ok-inner-in-Defines.ensures.scopes c.in_ok-bind-in-Defines.ensures.code
+    (binder_view c.in-Defines.binder) (built c.args.builder.now) _
+    (sym c.statement_of.ensures ∙ ap statement_view c.in-Defines.is) c.in_ok-defined-in-Defines.ensures.code
 
 pub returns-in_ok-deferring-in-Defers-clause-code : goal.returns-in_ok-deferring-in-Defers-clause-code
 returns-in_ok-deferring-in-Defers-clause-code g c =
     defer_stated c.args.lowering.now.tables.now.program.now (tree_of c.args.part.now)
     (scope_of c.args.scopes.now) c.args.around
-    (tree_of c.in-Defers.field-0.now) _ (built c.args.builder.now) _ _ _
-    (sym c.statement_of.ensures ∙ ap statement_view c.in-Defers.is)
-    c.in_ok-begun-in-Defers.ensures.begun c.in_ok-begun-in-Defers.ensures.added c.in_ok-inner-in-Defers.ensures.code
-    c.in_ok-defer_end-in-Defers.ensures
+    (tree_of c.in-Defers.field-0.now) (built c.args.builder.now) _
+    (sym c.statement_of.ensures ∙ ap statement_view c.in-Defers.is) c.in_ok-deferred-in-Defers.ensures.code
 
 pub returns-in_ok-stuck-in-Generates-clause-code : goal.returns-in_ok-stuck-in-Generates-clause-code
 returns-in_ok-stuck-in-Generates-clause-code g c =

@@ -1,15 +1,12 @@
-use Rattle.std.proofs.Common.{rules, ◌≡◌, ap, ◌∙◌}
-use Rattle.lower_expr.proofs.Laws.{made_then}
+use Rattle.verse_tree.specs.View.{two_of}
+use Rattle.lower_expr.specs.Building.{built}
+use Rattle.lower_expr.specs.Locals.{scope_of}
+use Rattle.lower_values.proofs.Ended.{two_by}
 use Rattle.lower_values.proofs.operators.two.Goals as goal
 
 pub returns-clause-code : goal.returns-clause-code
-returns-clause-code g c = search (
-  made_then,
-  c.in_ok-part.ensures.code,
-  c.in_ok-part.ensures.scopes,
-  c.in_ok-part-2.ensures.code,
-  c.in_ok-ending.ensures,
-  c.in_ok-above.ensures,
-  c.left.ensures,
-  c.right.ensures,
-)
+returns-clause-code g c =
+    two_by c.args.lowering.now.tables.now.program.now (scope_of c.args.scopes.now) c.args.around
+    (two_of c.args.parts.now).0 (two_of c.args.parts.now).1 _ _ c.args.ending _ _ (built c.args.builder.now) _ _ _ c.left.ensures
+    c.right.ensures c.in_ok-part.ensures.scopes c.in_ok-above.ensures c.in_ok-part.ensures.code
+    c.in_ok-part-2.ensures.code c.in_ok-ending.ensures

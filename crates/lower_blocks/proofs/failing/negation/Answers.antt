@@ -1,0 +1,11 @@
+use Rattle.verse_tree.specs.View.{tree_of}
+use Rattle.lower_expr.specs.Building.{built}
+use Rattle.lower_expr.specs.Locals.{scope_of}
+use Rattle.lower_blocks.proofs.Formed.{negation_by}
+use Rattle.lower_blocks.proofs.failing.negation.Goals as goal
+
+pub returns-clause-code : goal.returns-clause-code
+returns-clause-code g c =
+    negation_by c.args.lowering.now.tables.now.program.now (scope_of c.args.scopes.now) c.args.around
+    (tree_of c.args.part.now) _ _ (built c.args.builder.now) _ _ _ c.enclosed.ensures c.in_ok-begun.ensures.begun
+    c.in_ok-begun.ensures.added c.in_ok-part.ensures.code c.in_ok-not_end.ensures
