@@ -21,12 +21,21 @@ impl From<Memory> for Unlike {
     }
 }
 
-/// A fiber and its model.
-#[derive(Drop)]
+/// A fiber and its model, let go by one call.
 struct Both {
     alloc: Global,
     fiber: Fiber,
     model: Model,
+}
+
+impl Drop for Both {
+    fn drop(self) {
+        let Self {
+            alloc: _,
+            fiber: _,
+            model: _,
+        } = self;
+    }
 }
 
 /// A call for a number that was drawn.

@@ -123,6 +123,17 @@ fn call_all(
     Ok(())
 }
 
+fn play_on(
+    alloc: Global,
+    fiber: &mut Fiber,
+    calls: &[Call],
+    told: &mut Vec<i64>,
+    out: &mut Vec<i64>,
+) -> Result<(), Memory> {
+    call_all(alloc, fiber, calls, told)?;
+    seen(fiber, out)
+}
+
 /// Does calls on a fiber of one frame, and tells their answers and what is then seen.
 pub fn play(
     alloc: Global,
@@ -131,19 +142,40 @@ pub fn play(
     out: &mut Vec<i64>,
 ) -> Result<(), Memory> {
     let mut fiber = begin(alloc, 5)?;
-    call_all(alloc, &mut fiber, calls, told)?;
-    seen(&fiber, out)
+    play_on(alloc, &mut fiber, calls, told, out)
+}
+
+fn see_copy(alloc: Global, fiber: &Fiber, out: &mut Vec<i64>) -> Result<(), Memory>
+    requires { fiber.now ≢ [] }
+{
+    let copy = fiber.copy_at(alloc, 11)?;
+    seen(&copy, out)
+}
+
+fn set_and_copy(alloc: Global, fiber: &mut Fiber, out: &mut Vec<i64>) -> Result<(), Memory> {
+    let _ = call_any(alloc, fiber, Call::Set(1, 8))?;
+    if fiber.depth() == 0 {
+        return Ok(());
+    }
+    see_copy(alloc, fiber, out)
 }
 
 /// What is seen of a copy.
 pub fn copied(alloc: Global, out: &mut Vec<i64>) -> Result<(), Memory> {
     let mut fiber = begin(alloc, 5)?;
-    let _ = call_any(alloc, &mut fiber, Call::Set(1, 8))?;
-    if fiber.depth() == 0 {
-        return Ok(());
-    }
-    let copy = fiber.copy_at(alloc, 11)?;
-    seen(&copy, out)
+    set_and_copy(alloc, &mut fiber, out)
+}
+
+fn play_behind_two(
+    alloc: Global,
+    fiber: &mut Fiber,
+    calls: &[Call],
+    told: &mut Vec<i64>,
+    out: &mut Vec<i64>,
+) -> Result<(), Memory> {
+    add_frame(alloc, fiber)?;
+    shown(fiber, out)?;
+    call_all(alloc, fiber, calls, told)
 }
 
 /// Shows two frames that are rebuilt, and does calls on them.
@@ -154,7 +186,5 @@ pub fn play_rebuilt(
     out: &mut Vec<i64>,
 ) -> Result<(), Memory> {
     let mut fiber = rebuilt(alloc)?;
-    add_frame(alloc, &mut fiber)?;
-    shown(&fiber, out)?;
-    call_all(alloc, &mut fiber, calls, told)
+    play_behind_two(alloc, &mut fiber, calls, told, out)
 }

@@ -79,6 +79,14 @@ fn bare(kind: &str) -> Call {
     }
 }
 
+fn number(word: &str) -> Option<i64> {
+    word.parse::<i64>().ok()
+}
+
+fn small(word: &str) -> Option<u32> {
+    u32::try_from(number(word)?).ok()
+}
+
 fn parsed(word: &str) -> Option<Call> {
     let (kind, numbers) = word.split_once(".")?;
     if numbers.is_empty() {
@@ -86,10 +94,10 @@ fn parsed(word: &str) -> Option<Call> {
     }
     match numbers.split_once(".") {
         Some((first, second)) => {
-            let first = first.parse::<u32>().ok()?;
-            Some(with_two(kind, first, second.parse::<u32>().ok()?))
+            let first = small(first)?;
+            Some(with_two(kind, first, small(second)?))
         }
-        None => Some(with_number(kind, numbers.parse::<u32>().ok()?)),
+        None => Some(with_number(kind, small(numbers)?)),
     }
 }
 
@@ -105,9 +113,9 @@ fn calls(alloc: Global, text: &str) -> Result<Vec<Call>, Memory> {
     Ok(all)
 }
 
-fn is_number(number: Option<&i64>, word: &str) -> bool {
-    match (number, word.parse::<i64>()) {
-        (Some(number), Ok(expected)) => *number == expected,
+fn is_number(found: Option<&i64>, word: &str) -> bool {
+    match (found, number(word)) {
+        (Some(found), Some(expected)) => *found == expected,
         _ => false,
     }
 }

@@ -5,7 +5,9 @@ use sim_clock::calls::{Call, run};
 use sim_clock::map_waits::MapWaits;
 use sim_clock::vec_waits::VecWaits;
 use sim_clock::waits::{Due, Wait, WaitKind, Waits};
+use std::alloc::Global;
 use std::test::Fail;
+use verse_base::refusals::Memory;
 
 /// Calls from an empty start, and then how many waits there are and which is due next.
 ///
@@ -51,58 +53,88 @@ e1 e2 e3 s3.3.30 s2.2.20 s1.1.10 r1 r0 = 1 30.2.3
 a18446744073709551615 = 1 18446744073709551615.0.0
 ";
 
+fn number(word: &str) -> Result<u64, Fail> {
+    let number = word.parse::<u64>()?;
+    Ok(number)
+}
+
+fn small(word: &str) -> Result<u32, Fail> {
+    match u32::try_from(number(word)?) {
+        Ok(number) => Ok(number),
+        Err(_) => Err(Fail::from("a small number")),
+    }
+}
+
 fn two(words: &str) -> Result<(u32, u64), Fail> {
     let (first, second) = words.split_once(".").ok_or("two numbers")?;
-    let first = first.parse::<u32>()?;
-    let second = second.parse::<u64>()?;
+    let first = small(first)?;
+    let second = number(second)?;
     Ok((first, second))
+}
+
+fn at(moment: &str) -> Result<WaitKind, Fail> {
+    Ok(WaitKind::At(number(moment)?))
+}
+
+fn for_task(task: &str) -> Result<WaitKind, Fail> {
+    Ok(WaitKind::Task(small(task)?))
+}
+
+fn for_event(cell: &str) -> Result<WaitKind, Fail> {
+    Ok(WaitKind::Event(small(cell)?))
 }
 
 fn kind(word: &str) -> Result<Option<WaitKind>, Fail> {
     if word == "n" {
         return Ok(Some(WaitKind::Never));
     }
-    if let Some(moment) = word.strip_prefix("a") {
-        let moment = moment.parse::<u64>()?;
-        return Ok(Some(WaitKind::At(moment)));
+    let Some((letter, number)) = word.split_at_checked(1) else {
+        return Ok(None);
+    };
+    match letter.as_bytes() {
+        b"a" => at(number).map(Some),
+        b"t" => for_task(number).map(Some),
+        b"e" => for_event(number).map(Some),
+        _ => Ok(None),
     }
-    if let Some(task) = word.strip_prefix("t") {
-        let task = task.parse::<u32>()?;
-        return Ok(Some(WaitKind::Task(task)));
-    }
-    if let Some(cell) = word.strip_prefix("e") {
-        let cell = cell.parse::<u32>()?;
-        return Ok(Some(WaitKind::Event(cell)));
-    }
-    Ok(None)
 }
 
-fn wake<W: Waits>(waits: &mut Numbered<W>, word: &str) -> Result<(), Fail> {
-    if let Some(numbers) = word.strip_prefix("d") {
-        let (task, now) = two(numbers)?;
-        waits.wake_task(task, now);
-        return Ok(());
-    }
-    let numbers = word.strip_prefix("s").ok_or("a wake")?;
+fn wake_task<W: Waits>(waits: &mut Numbered<W>, numbers: &str) -> Result<(), Fail> {
+    let (task, now) = two(numbers)?;
+    waits.wake_task(task, now);
+    Ok(())
+}
+
+fn wake_event<W: Waits>(waits: &mut Numbered<W>, numbers: &str) -> Result<(), Fail> {
     let (cell, rest) = numbers.split_once(".").ok_or("three numbers")?;
     let (signal, now) = two(rest)?;
-    let cell = cell.parse::<u32>()?;
+    let cell = small(cell)?;
     waits.wake_event(cell, u64::from(signal), now);
     Ok(())
 }
 
-fn play<W: Waits>(waits: &mut Numbered<W>, word: &str) -> Result<(), Fail> {
-    if let Some(number) = word.strip_prefix("r") {
-        let number = number.parse::<u64>()?;
-        waits.remove(number);
-        return Ok(());
+fn remove<W: Waits>(waits: &mut Numbered<W>, word: &str) -> Result<(), Fail> {
+    waits.remove(number(word)?);
+    Ok(())
+}
+
+fn change<W: Waits>(waits: &mut Numbered<W>, word: &str) -> Result<(), Fail> {
+    let (letter, numbers) = word.split_at_checked(1).ok_or("a call")?;
+    match letter.as_bytes() {
+        b"d" => wake_task(waits, numbers),
+        b"s" => wake_event(waits, numbers),
+        b"r" => remove(waits, numbers),
+        _ => Err(Fail::from("a wake")),
     }
+}
+
+fn play<W: Waits>(waits: &mut Numbered<W>, word: &str) -> Result<(), Fail> {
     match kind(word)? {
         Some(kind) => {
             let _ = waits.add(kind)?;
             Ok(())
         }
-        None => wake(waits, word),
+        None => change(waits, word),
     }
 }
 
@@ -111,79 +143,97 @@ fn due(word: &str) -> Result<Option<Due>, Fail> {
         return Ok(None);
     }
     let (at, rest) = word.split_once(".").ok_or("three numbers")?;
-    let (number, cause) = two(rest)?;
-    let at = at.parse::<u64>()?;
+    let at = number(at)?;
+    let (id, cause) = two(rest)?;
     Ok(Some(Due {
         at,
-        number: u64::from(number),
-        task: (number as usize).saturating_add(100),
+        number: u64::from(id),
+        task: (id as usize).saturating_add(100),
         cause,
     }))
 }
 
-#[test]
-fn waits_in_a_list(rt: HostRuntime) -> Result<(), Fail> {
+fn play_all<W: Waits>(waits: &mut Numbered<W>, calls: &str) -> Result<(), Fail> {
+    for word in calls.split_whitespace() {
+        play(waits, word)?;
+    }
+    Ok(())
+}
+
+// whether there are as many waits as a row says, and the one that it says is due next
+fn is_end<W: Waits>(waits: &W, end: &str) -> Result<bool, Fail> {
+    let (len, next) = end.split_once(" ").ok_or("an end")?;
+    let len = number(len)?;
+    let expected = due(next)?;
+    Ok(waits.len() == len && waits.next() == expected)
+}
+
+fn is_played_so<W: Waits>(waits: &mut Numbered<W>, row: &str) -> Result<bool, Fail> {
+    let (calls, end) = row.split_once("= ").ok_or("a row")?;
+    play_all(waits, calls)?;
+    is_end(waits.waits(), end)
+}
+
+/// Which implementation is meant.
+#[derive(Clone, Copy)]
+enum About {
+    Lists,
+    Maps,
+}
+
+fn is_right(alloc: Global, about: About, row: &str) -> Result<bool, Fail> {
+    match about {
+        About::Lists => is_played_so(&mut Numbered::new(VecWaits::new(alloc)), row),
+        About::Maps => is_played_so(&mut Numbered::new(MapWaits::new(alloc)), row),
+    }
+}
+
+// how many rows there are; the first that ends otherwise is a failure
+fn count_right(alloc: Global, about: About) -> Result<u64, Fail> {
     let mut count = 0u64;
-    for line in ROWS.lines() {
-        let (calls, end) = line.split_once("= ").ok_or("a row")?;
-        let (len, next) = end.split_once(" ").ok_or("an end")?;
-        let mut waits = Numbered::new(VecWaits::new(rt.alloc()));
-        for word in calls.split_whitespace() {
-            play(&mut waits, word)?;
+    for row in ROWS.lines() {
+        if !is_right(alloc, about, row)? {
+            return Err(Fail::from(row));
         }
-        let expected = due(next)?;
-        let len = len.parse::<u64>()?;
-        assert_eq!(rt; waits.waits().next(), expected, "{line}");
-        assert_eq!(rt; waits.waits().len(), len, "{line}");
         count = count.saturating_add(1);
     }
-    assert_eq!(rt; count, 35);
+    Ok(count)
+}
+
+#[test]
+fn waits_in_a_list(rt: HostRuntime) -> Result<(), Fail> {
+    assert!(rt; count_right(rt.alloc(), About::Lists)? == 35);
     Ok(())
 }
 
 #[test]
 fn waits_in_maps(rt: HostRuntime) -> Result<(), Fail> {
-    let mut count = 0u64;
-    for line in ROWS.lines() {
-        let (calls, end) = line.split_once("= ").ok_or("a row")?;
-        let (len, next) = end.split_once(" ").ok_or("an end")?;
-        let mut waits = Numbered::new(MapWaits::new(rt.alloc()));
-        for word in calls.split_whitespace() {
-            play(&mut waits, word)?;
-        }
-        let expected = due(next)?;
-        let len = len.parse::<u64>()?;
-        assert_eq!(rt; waits.waits().next(), expected, "{line}");
-        assert_eq!(rt; waits.waits().len(), len, "{line}");
-        count = count.saturating_add(1);
-    }
-    assert_eq!(rt; count, 35);
+    assert!(rt; count_right(rt.alloc(), About::Maps)? == 35);
     Ok(())
 }
 
-#[test]
-fn a_wait_of_a_task(rt: HostRuntime) -> Result<(), Fail> {
-    let mut list = Numbered::new(VecWaits::new(rt.alloc()));
-    let mut maps = Numbered::new(MapWaits::new(rt.alloc()));
+// whether the wait of the task 101 is found, and none of a task that has none
+fn is_found<W: Waits>(waits: &mut Numbered<W>) -> Result<bool, Fail> {
+    play_all(waits, "a50 n e3")?;
+    let found = waits.waits().wait_of(101);
     let expected = Some(Wait {
         number: 1,
         task: 101,
         kind: WaitKind::Never,
     });
-    for word in "a50 n e3".split_whitespace() {
-        play(&mut list, word)?;
-        play(&mut maps, word)?;
-    }
-    assert_eq!(rt; list.waits().wait_of(101), expected);
-    assert_eq!(rt; maps.waits().wait_of(101), expected);
-    assert_eq!(rt; list.waits().wait_of(7), None);
-    assert_eq!(rt; maps.waits().wait_of(7), None);
-    Ok(())
+    Ok(found == expected && waits.waits().wait_of(7).is_none())
 }
 
 #[test]
-fn lists_of_calls(rt: HostRuntime) -> Result<(), Fail> {
-    let mut waits = MapWaits::new(rt.alloc());
+fn a_wait_of_a_task(rt: HostRuntime) -> Result<(), Fail> {
+    assert!(rt; is_found(&mut Numbered::new(VecWaits::new(rt.alloc())))?);
+    assert!(rt; is_found(&mut Numbered::new(MapWaits::new(rt.alloc())))?);
+    Ok(())
+}
+
+// what is due behind a list of calls
+fn due_behind_calls(alloc: Global) -> Result<Option<Due>, Memory> {
+    let mut waits = MapWaits::new(alloc);
     let wait = Wait {
         number: 3,
         task: 4,
@@ -196,12 +246,17 @@ fn lists_of_calls(rt: HostRuntime) -> Result<(), Fail> {
         Call::Remove(4),
     ];
     run(&mut waits, &calls)?;
+    Ok(waits.next())
+}
+
+#[test]
+fn lists_of_calls(rt: HostRuntime) -> Result<(), Fail> {
     let expected = Some(Due {
         at: 7,
         number: 3,
         task: 4,
         cause: 6,
     });
-    assert_eq!(rt; waits.next(), expected);
+    assert!(rt; due_behind_calls(rt.alloc())? == expected);
     Ok(())
 }

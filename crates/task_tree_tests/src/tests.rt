@@ -2,6 +2,7 @@
 
 use crate::guarded::{add, cancel, cancel_behind, finish, leave_behind, role};
 use crate::seen::{Falling, Seen};
+use std::alloc::Global;
 use std::test::Fail;
 use task_tree::tasks::{Finished, Role};
 use task_tree::tree::TaskTree;
@@ -84,11 +85,24 @@ struct Play {
     seen: Seen,
 }
 
-fn number(numbers: &Vec<usize>, item: &str) -> Result<usize, Fail> {
-    let item = item.parse::<usize>()?;
-    let place = item.checked_sub(1).ok_or("an item")?;
-    let found = numbers.get(place).ok_or("a task")?;
-    Ok(*found)
+fn number(word: &str) -> Result<u64, Fail> {
+    let number = word.parse::<u64>()?;
+    Ok(number)
+}
+
+fn small(word: &str) -> Result<u32, Fail> {
+    match u32::try_from(number(word)?) {
+        Ok(number) => Ok(number),
+        Err(_) => Err(Fail::from("a small number")),
+    }
+}
+
+fn id_of(ids: &[usize], item: &str) -> Result<usize, Fail> {
+    let place = number(item)?.checked_sub(1).ok_or("an item")?;
+    match ids.get(place as usize) {
+        Some(id) => Ok(*id),
+        None => Err(Fail::from("a task")),
+    }
 }
 
 impl Play {
@@ -99,19 +113,23 @@ impl Play {
         Ok(())
     }
 
+    fn arm(&mut self, id: usize, number: u32) -> Result<bool, Fail> {
+        self.add(Some(id), Role::Arm(number))?;
+        Ok(true)
+    }
+
+    fn behind(&mut self, id: usize, number: u32) -> Result<bool, Fail> {
+        self.add(Some(id), Role::Behind(number))?;
+        Ok(true)
+    }
+
     fn two(&mut self, kind: &str, id: usize, number: u32) -> Result<bool, Fail> {
-        if kind == "a" {
-            self.add(Some(id), Role::Arm(number))?;
-            return Ok(true);
+        match kind.as_bytes() {
+            b"a" => self.arm(id, number),
+            b"b" => self.behind(id, number),
+            b"l" => Ok(leave_behind(&mut self.tree, id, number)),
+            _ => Ok(cancel_behind(&mut self.tree, id, number, &mut self.seen)),
         }
-        if kind == "b" {
-            self.add(Some(id), Role::Behind(number))?;
-            return Ok(true);
-        }
-        if kind == "l" {
-            return Ok(leave_behind(&mut self.tree, id, number));
-        }
-        Ok(cancel_behind(&mut self.tree, id, number, &mut self.seen))
     }
 
     fn one(&mut self, kind: &str, id: usize) -> bool {
@@ -121,23 +139,41 @@ impl Play {
         cancel(&mut self.tree, id, &mut self.seen)
     }
 
+    fn two_of(&mut self, kind: &str, item: &str, second: &str) -> Result<bool, Fail> {
+        let id = id_of(self.numbers.as_slice(), item)?;
+        let second = small(second)?;
+        self.two(kind, id, second)
+    }
+
+    fn one_of(&mut self, kind: &str, item: &str) -> Result<bool, Fail> {
+        let id = id_of(self.numbers.as_slice(), item)?;
+        Ok(self.one(kind, id))
+    }
+
+    fn named(&mut self, word: &str) -> Result<bool, Fail> {
+        let (kind, rest) = word.split_once(":").ok_or("a word")?;
+        match rest.split_once(".") {
+            Some((item, second)) => self.two_of(kind, item, second),
+            None => self.one_of(kind, rest),
+        }
+    }
+
     fn word(&mut self, word: &str) -> Result<bool, Fail> {
         if word == "r" {
             self.add(None, Role::Root)?;
             return Ok(true);
         }
-        let (kind, rest) = word.split_once(":").ok_or("a word")?;
-        match rest.split_once(".") {
-            Some((item, second)) => {
-                let id = number(&self.numbers, item)?;
-                let second = second.parse::<u32>()?;
-                self.two(kind, id, second)
-            }
-            None => {
-                let id = number(&self.numbers, rest)?;
-                Ok(self.one(kind, id))
+        self.named(word)
+    }
+
+    /// Whether all words are calls that are made.
+    fn words(&mut self, words: &str) -> Result<bool, Fail> {
+        for word in words.split_whitespace() {
+            if !self.word(word)? {
+                return Ok(false);
             }
         }
+        Ok(true)
     }
 
     /// The items in their order, as digits.
@@ -159,100 +195,166 @@ fn digits(word: &str) -> Result<u64, Fail> {
     if word == "-" {
         return Ok(0);
     }
-    let digits = word.parse::<u64>()?;
-    Ok(digits)
+    number(word)
+}
+
+fn begun(alloc: Global) -> Play {
+    Play {
+        tree: TaskTree::new(alloc),
+        numbers: Vec::new(alloc),
+        seen: Seen {
+            count: 0,
+            digits: 0,
+        },
+    }
+}
+
+// whether the items stand and were told of as a row has it
+fn is_end(play: &Play, end: &str) -> Result<bool, Fail> {
+    let (order, told) = end.split_once(" ").ok_or("an end")?;
+    let order = digits(order)?;
+    let told = digits(told)?;
+    Ok(play.order() == order && play.seen.digits == told)
+}
+
+fn is_played_so(play: &mut Play, row: &str) -> Result<bool, Fail> {
+    let (calls, end) = row.split_once(" = ").ok_or("a row")?;
+    Ok(play.words(calls)? && is_end(play, end)?)
+}
+
+// how many rows there are; the first that is played otherwise is a failure
+fn count_right(alloc: Global) -> Result<u64, Fail> {
+    let mut count = 0u64;
+    for row in ROWS.lines() {
+        if !is_played_so(&mut begun(alloc), row)? {
+            return Err(Fail::from(row));
+        }
+        count = count.saturating_add(1);
+    }
+    Ok(count)
 }
 
 #[test]
 fn rows(rt: HostRuntime) -> Result<(), Fail> {
-    let mut count = 0u64;
-    for line in ROWS.lines() {
-        let (calls, end) = line.split_once(" = ").ok_or("a row")?;
-        let (order, told) = end.split_once(" ").ok_or("an end")?;
-        let mut play = Play {
-            tree: TaskTree::new(rt.alloc()),
-            numbers: Vec::new(rt.alloc()),
-            seen: Seen {
-                count: 0,
-                digits: 0,
-            },
-        };
-        for word in calls.split_whitespace() {
-            let made = play.word(word)?;
-            assert!(rt; made, "{line}");
-        }
-        let order = digits(order)?;
-        let told = digits(told)?;
-        assert_eq!(rt; play.order(), order, "{line}");
-        assert_eq!(rt; play.seen.digits, told, "{line}");
-        count = count.saturating_add(1);
-    }
-    assert_eq!(rt; count, 60);
+    assert!(rt; count_right(rt.alloc())? == 60);
     Ok(())
 }
 
-#[test]
-fn a_long_chain(rt: HostRuntime) -> Result<(), Fail> {
-    let mut tree = TaskTree::new(rt.alloc());
-    let first = add(&mut tree, None, Role::Root, 1)?.ok_or("a root")?;
+// adds a task, which there is room for
+fn added(
+    tree: &mut TaskTree<u64>,
+    parent: Option<usize>,
+    as_role: Role,
+    item: u64,
+) -> Result<usize, Fail> {
+    match add(tree, parent, as_role, item)? {
+        Some(id) => Ok(id),
+        None => Err(Fail::from("a place")),
+    }
+}
+
+// a chain of the items 1 to 1000
+fn chain(tree: &mut TaskTree<u64>) -> Result<usize, Fail> {
+    let first = added(tree, None, Role::Root, 1)?;
     let mut last = first;
     for item in 2..1001u64 {
-        last = add(&mut tree, Some(last), Role::Arm(0), item)?.ok_or("a child")?;
+        last = added(tree, Some(last), Role::Arm(0), item)?;
     }
+    Ok(first)
+}
+
+// whether a chain is cancelled from its end on
+fn is_chain_cancelled(tree: &mut TaskTree<u64>, first: usize) -> bool {
     let mut falling = Falling {
         count: 0,
         last: 1001,
         fell: true,
     };
-    let made = cancel(&mut tree, first, &mut falling);
-    assert!(rt; made);
     let expected = Falling {
         count: 1000,
         last: 1,
         fell: true,
     };
-    assert_eq!(rt; falling, expected);
-    assert_eq!(rt; tree.first(), None);
-    let again = add(&mut tree, None, Role::Root, 7)?.ok_or("a root")?;
-    assert!(rt; again < 1000);
+    cancel(tree, first, &mut falling) && falling == expected && tree.first().is_none()
+}
+
+#[test]
+fn a_long_chain(rt: HostRuntime) -> Result<(), Fail> {
+    let mut tree = TaskTree::new(rt.alloc());
+    let first = chain(&mut tree)?;
+    assert!(rt; is_chain_cancelled(&mut tree, first));
+    assert!(rt; added(&mut tree, None, Role::Root, 7)? < 1000);
     Ok(())
+}
+
+/// A task, and one that is its child.
+#[derive(Clone, Copy)]
+struct Two {
+    root: usize,
+    arm: usize,
+}
+
+fn root_and_arm(tree: &mut TaskTree<u64>) -> Result<Two, Fail> {
+    let root = added(tree, None, Role::Root, 1)?;
+    let arm = added(tree, Some(root), Role::Arm(3), 2)?;
+    Ok(Two { root, arm })
+}
+
+fn are_told(tree: &TaskTree<u64>, two: Two) -> bool {
+    tree.parent(two.arm) == Some(two.root)
+        && tree.parent(two.root).is_none()
+        && role(tree, two.arm) == Some(Role::Arm(3))
+        && tree.has_children(two.root)
+        && !tree.has_children(two.arm)
+        && tree.is_live(two.arm)
+}
+
+fn is_left_behind(tree: &mut TaskTree<u64>, arm: usize) -> bool {
+    leave_behind(tree, arm, 4)
+        && !leave_behind(tree, arm, 4)
+        && role(tree, arm) == Some(Role::Behind(4))
+}
+
+fn are_items_kept(tree: &mut TaskTree<u64>, two: Two) -> bool {
+    if let Some(item) = tree.get_mut(two.arm) {
+        *item = 9;
+    }
+    tree.get(two.arm).copied() == Some(9) && tree.get(two.root).copied() == Some(1)
+}
+
+fn is_arm_finished(tree: &mut TaskTree<u64>, two: Two) -> bool {
+    match finish(tree, two.arm) {
+        Some(Finished::Child { parent, role, item }) => {
+            parent == two.root && role == Role::Behind(4) && item == 9
+        }
+        _ => false,
+    }
+}
+
+fn is_root_finished(tree: &mut TaskTree<u64>, root: usize) -> bool {
+    match finish(tree, root) {
+        Some(Finished::Alone(item)) => item == 1,
+        _ => false,
+    }
+}
+
+fn are_finished(tree: &mut TaskTree<u64>, two: Two) -> bool {
+    finish(tree, two.root).is_none()
+        && is_arm_finished(tree, two)
+        && !tree.is_live(two.arm)
+        && tree.get(two.arm).is_none()
+        && is_root_finished(tree, two.root)
+        && tree.first().is_none()
 }
 
 #[test]
 fn each_call(rt: HostRuntime) -> Result<(), Fail> {
     let mut tree = TaskTree::new(rt.alloc());
     tree.is_nested();
-    let root = add(&mut tree, None, Role::Root, 1)?.ok_or("a root")?;
-    let arm = add(&mut tree, Some(root), Role::Arm(3), 2)?.ok_or("an arm")?;
-    assert_eq!(rt; tree.parent(arm), Some(root));
-    assert_eq!(rt; tree.parent(root), None);
-    assert_eq!(rt; role(&tree, arm), Some(Role::Arm(3)));
-    assert!(rt; tree.has_children(root));
-    assert!(rt; !tree.has_children(arm));
-    assert!(rt; tree.is_live(arm));
-    assert!(rt; leave_behind(&mut tree, arm, 4));
-    assert!(rt; !leave_behind(&mut tree, arm, 4));
-    assert_eq!(rt; role(&tree, arm), Some(Role::Behind(4)));
-    if let Some(item) = tree.get_mut(arm) {
-        *item = 9;
-    }
-    assert_eq!(rt; tree.get(arm).copied(), Some(9));
-    assert_eq!(rt; tree.get(root).copied(), Some(1));
-    assert!(rt; finish(&mut tree, root).is_none());
-    match finish(&mut tree, arm) {
-        Some(Finished::Child { parent, role, item }) => {
-            assert_eq!(rt; parent, root);
-            assert_eq!(rt; role, Role::Behind(4));
-            assert_eq!(rt; item, 9);
-        }
-        _ => return Err("a child".into()),
-    }
-    assert!(rt; !tree.is_live(arm));
-    assert!(rt; tree.get(arm).is_none());
-    match finish(&mut tree, root) {
-        Some(Finished::Alone(item)) => assert_eq!(rt; item, 1),
-        _ => return Err("alone".into()),
-    }
-    assert_eq!(rt; tree.first(), None);
+    let two = root_and_arm(&mut tree)?;
+    assert!(rt; are_told(&tree, two));
+    assert!(rt; is_left_behind(&mut tree, two.arm));
+    assert!(rt; are_items_kept(&mut tree, two));
+    assert!(rt; are_finished(&mut tree, two));
     Ok(())
 }

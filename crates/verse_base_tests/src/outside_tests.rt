@@ -1,7 +1,8 @@
 //! Tests of files and sinks.
 
-use std::alloc::Global;
+use std::alloc::{AllocError, Global};
 use std::test::Fail;
+use verse_base::refusals::Memory;
 use verse_outside::files::{Files, LoadFault};
 use verse_outside::memory_files::MemFiles;
 use verse_outside::memory_sinks::MemSink;
@@ -35,73 +36,121 @@ fn shown(answer: Result<Vec<u8>, LoadFault>, wanted: &str) -> bool {
     }
 }
 
+fn fill(files: &mut MemFiles) -> Result<(), Memory> {
+    files.add("a", b"first")?;
+    files.add("b", b"second")?;
+    files.add("a", b"hello")?;
+    files.fail_at(3)
+}
+
+fn number(word: &str) -> Option<usize> {
+    let number = word.parse::<i64>().ok()?;
+    Some(number.unsigned_abs() as usize)
+}
+
+fn is_load_right(alloc: Global, files: &mut MemFiles, row: &str) -> Option<bool> {
+    let (name, rest) = row.split_once(' ')?;
+    let (most, wanted) = rest.split_once(' ')?;
+    let most = number(most)?;
+    Some(shown(files.load(alloc, name, most), wanted))
+}
+
 #[test]
 fn loads(rt: HostRuntime) -> Result<(), Fail> {
     let mut files = MemFiles::new(rt.alloc());
-    files.add("a", b"first").map_err(|_| "memory")?;
-    files.add("b", b"second").map_err(|_| "memory")?;
-    files.add("a", b"hello").map_err(|_| "memory")?;
-    files.fail_at(3).map_err(|_| "memory")?;
-    for line in LOADS.lines() {
-        let (name, rest) = line.split_once(' ').ok_or("a name")?;
-        let (most, wanted) = rest.split_once(' ').ok_or("two words")?;
-        let most = most.parse::<usize>().map_err(|_| "a number")?;
-        assert!(rt; shown(files.load(rt.alloc(), name, most), wanted), "{line}");
+    fill(&mut files)?;
+    for row in LOADS.lines() {
+        if !is_load_right(rt.alloc(), &mut files, row).unwrap_or(false) {
+            return Err(Fail::from(row));
+        }
     }
     Ok(())
 }
 
-fn writes_as(alloc: Global, line: &str) -> Result<bool, Fail> {
-    let (room, rest) = line.split_once(' ').ok_or("the room")?;
-    let (most, rest) = rest.split_once(' ').ok_or("most")?;
-    let (failing, rest) = rest.split_once(' ').ok_or("the failing write")?;
-    let (piece, rest) = rest.split_once(' ').ok_or("the piece")?;
-    let (whole, taken) = rest.split_once(' ').ok_or("two words")?;
-    let room = room.parse::<usize>().map_err(|_| "a number")?;
-    let most = most.parse::<usize>().map_err(|_| "a number")?.max(1);
-    let failing = failing.parse::<u64>().map_err(|_| "a number")?;
-    let mut sink = MemSink::new(alloc, room, most).map_err(|_| "memory")?;
-    sink.fail_at(failing).map_err(|_| "memory")?;
-    let answer = write_all(&mut sink, piece.as_bytes());
-    let bytes = sink.taken();
-    let same = if taken == "." {
+// a number, and what is behind it
+fn number_first(row: &str) -> Option<(usize, &str)> {
+    let (word, rest) = row.split_once(' ')?;
+    Some((number(word)?, rest))
+}
+
+fn sink(alloc: Global, room: usize, most: usize, failing: usize) -> Result<MemSink, Memory> {
+    let mut sink = MemSink::new(alloc, room, most.max(1))?;
+    sink.fail_at(failing as u64)?;
+    Ok(sink)
+}
+
+fn sink_of(alloc: Global, row: &str) -> Option<(MemSink, &str)> {
+    let (room, rest) = number_first(row)?;
+    let (most, rest) = number_first(rest)?;
+    let (failing, rest) = number_first(rest)?;
+    let sink = sink(alloc, room, most, failing).ok()?;
+    Some((sink, rest))
+}
+
+fn are_taken(bytes: &[u8], taken: &str) -> bool {
+    if taken == "." {
         bytes.is_empty()
     } else {
         bytes == taken.as_bytes()
-    };
-    Ok(same && answer.is_ok() == (whole == "whole"))
+    }
+}
+
+fn is_written_so(sink: &mut MemSink, rest: &str) -> Option<bool> {
+    let (piece, rest) = rest.split_once(' ')?;
+    let (whole, taken) = rest.split_once(' ')?;
+    let answer = write_all(sink, piece.as_bytes());
+    Some(are_taken(sink.taken(), taken) && answer.is_ok() == (whole == "whole"))
+}
+
+fn is_write_right(alloc: Global, row: &str) -> Option<bool> {
+    let (mut sink, rest) = sink_of(alloc, row)?;
+    is_written_so(&mut sink, rest)
 }
 
 #[test]
 fn writes(rt: HostRuntime) -> Result<(), Fail> {
-    for line in WRITES.lines() {
-        assert!(rt; writes_as(rt.alloc(), line)?, "{line}");
+    for row in WRITES.lines() {
+        if !is_write_right(rt.alloc(), row).unwrap_or(false) {
+            return Err(Fail::from(row));
+        }
     }
     Ok(())
 }
 
+fn is_sure(alloc: Global) -> Result<bool, AllocError> {
+    let bytes = Vec::from_slice(alloc, b"hello")?;
+    let mut files = SureFiles::new(alloc, bytes);
+    let is_loaded = shown(files.load(alloc, "any", 4), "hell");
+    let mut sink = SureSink::new();
+    Ok(is_loaded && sink.write(b"hello") == Ok(5))
+}
+
 #[test]
 fn sure(rt: HostRuntime) -> Result<(), Fail> {
-    let bytes = Vec::from_slice(rt.alloc(), b"hello")?;
-    let mut files = SureFiles::new(rt.alloc(), bytes);
-    assert!(rt; shown(files.load(rt.alloc(), "any", 4), "hell"));
-    let mut sink = SureSink::new();
-    assert!(rt; sink.write(b"hello") == Ok(5));
+    assert!(rt; is_sure(rt.alloc())?);
     Ok(())
+}
+
+// whether a file is loaded that is written first, and not where it is removed
+fn are_loaded(rt: &HostRuntime, name: &str) -> Result<bool, Fail> {
+    std::fs::write(rt, name, "hello")?;
+    let mut files = StdFiles::new(rt);
+    let is_whole = shown(files.load(rt.alloc(), name, 9), "hello");
+    let is_front = shown(files.load(rt.alloc(), name, 4), "hell");
+    std::fs::remove_file(rt, name)?;
+    Ok(is_whole && is_front && shown(files.load(rt.alloc(), name, 9), "-"))
+}
+
+// whether a write fails where there is room for a part of it
+fn is_part_taken() -> bool {
+    let mut taken = [0u8; 4];
+    let mut sink = StdSink::new(&mut taken[..]);
+    write_all(&mut sink, b"hello").is_err() && taken == *b"hell"
 }
 
 #[test]
 fn standard(rt: HostRuntime) -> Result<(), Fail> {
-    let name = "verse_outside_test_file";
-    std::fs::write(&rt, name, "hello")?;
-    let mut files = StdFiles::new(&rt);
-    assert!(rt; shown(files.load(rt.alloc(), name, 9), "hello"));
-    assert!(rt; shown(files.load(rt.alloc(), name, 4), "hell"));
-    std::fs::remove_file(&rt, name)?;
-    assert!(rt; shown(files.load(rt.alloc(), name, 9), "-"));
-    let mut taken = [0u8; 4];
-    let mut sink = StdSink::new(&mut taken[..]);
-    assert!(rt; write_all(&mut sink, b"hello").is_err());
-    assert!(rt; taken == *b"hell");
+    assert!(rt; are_loaded(&rt, "verse_outside_test_file")?);
+    assert!(rt; is_part_taken());
     Ok(())
 }

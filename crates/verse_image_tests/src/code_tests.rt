@@ -1,6 +1,8 @@
 //! Tests of operations, their shapes and what suits them.
 
-use std::alloc::Global;
+ghost use Rattle.std.specs.Prelude.{◌<◌};
+
+use std::alloc::{AllocError, Global};
 use std::test::Fail;
 use verse_base::places::Place;
 use verse_code::codes::{Class, Code, Func};
@@ -80,9 +82,10 @@ const OPERATIONS: &str = "\
 65|Leave(1)|One(Operand(Number, 1))
 66|DeferEnd|Bare";
 
-#[test]
-fn operations(rt: HostRuntime) -> Result<(), Fail> {
-    let alloc = rt.alloc();
+// whether the operation of this code is the one of a line, with its operands and its code
+fn is_operation(alloc: Global, code: u8, line: &str) -> Result<bool, Fail>
+    requires { code < 67 }
+{
     let parts = Parts {
         integer: -5,
         a: 1,
@@ -90,47 +93,73 @@ fn operations(rt: HostRuntime) -> Result<(), Fail> {
         c: 3,
         d: 4,
     };
+    let op = make_op(code, parts);
+    let operands = op.operands();
+    let told = format!(in alloc; "{code}|{op:?}|{operands:?}")?;
+    Ok(told.as_str() == line && op.code() == code && shape_at(code).is_some())
+}
+
+// how many lines there are; the first that has another operation is a failure
+fn count_right(alloc: Global) -> Result<u8, Fail> {
     let mut code = 0u8;
     for line in OPERATIONS.lines() {
-        if code < 67 {
-            let op = make_op(code, parts);
-            assert_eq!(rt; op.code(), code);
-            let operands = op.operands();
-            let told = format!(in alloc; "{code}|{op:?}|{operands:?}")?;
-            assert_eq!(rt; told.as_str(), line);
-            assert!(rt; shape_at(code).is_some());
+        if code >= 67 || !is_operation(alloc, code, line)? {
+            return Err(Fail::from(line));
         }
         code = code.saturating_add(1);
     }
-    assert_eq!(rt; code, 67);
+    Ok(code)
+}
+
+#[test]
+fn operations(rt: HostRuntime) -> Result<(), Fail> {
+    assert!(rt; count_right(rt.alloc())? == 67);
     assert!(rt; shape_at(67).is_none());
     Ok(())
 }
 
-/// Unit, Print 0 and Return, with one entry in each table.
-fn small(alloc: Global, main: u32) -> Result<Code, Fail> {
+fn texts(alloc: Global) -> Result<Table<Table<u8>>, AllocError> {
     let mut texts = Table::new(alloc);
     texts.push(Table::from_slice(alloc, b"Hi")?)?;
-    let mut places = Table::new(alloc);
-    places.push(Place {
+    Ok(texts)
+}
+
+fn places(alloc: Global) -> Result<Table<Place>, AllocError> {
+    let place = Place {
         file: 0,
         line: 1,
         col: 1,
-    })?;
-    let mut functions = Table::new(alloc);
-    functions.push(Func {
+    };
+    Table::from_slice(alloc, &[place])
+}
+
+fn functions(alloc: Global) -> Result<Table<Func>, AllocError> {
+    let function = Func {
         params: 0,
         locals: 0,
         entry: 0,
         suspends: false,
-    })?;
-    let mut classes = Table::new(alloc);
+    };
+    Table::from_slice(alloc, &[function])
+}
+
+fn classes(alloc: Global) -> Result<Table<Class>, AllocError> {
     let mut methods = Vec::new(alloc);
     methods.push(0u32)?;
+    let mut classes = Table::new(alloc);
     classes.push(Class {
         slots: 1,
         methods: Table::from_vec(methods),
     })?;
+    Ok(classes)
+}
+
+/// Unit, Print 0 and Return, with one entry in each table.
+fn small(alloc: Global, main: u32) -> Result<Code, AllocError> {
+    let texts = texts(alloc)?;
+    let places = places(alloc)?;
+    let functions = functions(alloc)?;
+    let classes = classes(alloc)?;
     let ops = Table::from_slice(alloc, &[Op::Text(0), Op::Print(0), Op::Return])?;
     Ok(Code {
         files: 1,
@@ -143,21 +172,40 @@ fn small(alloc: Global, main: u32) -> Result<Code, Fail> {
     })
 }
 
+fn are_three(ops: &Table<Op>) -> bool {
+    ops.len() == 3 && ops.get(2).is_some() && ops.get(3).is_none()
+}
+
+fn are_ops(ops: Table<Op>) -> bool {
+    ops.into_vec().as_slice() == [Op::Text(0), Op::Print(0), Op::Return].as_slice()
+}
+
 #[test]
 fn validity(rt: HostRuntime) -> Result<(), Fail> {
-    let alloc = rt.alloc();
-    let code = small(alloc, 0)?;
+    let code = small(rt.alloc(), 0)?;
     assert!(rt; is_valid(&code));
-    assert_eq!(rt; code.ops.len(), 3);
-    assert!(rt; code.ops.get(2).is_some());
-    assert!(rt; code.ops.get(3).is_none());
-    let ops = code.ops.into_vec();
-    assert_eq!(rt;
-        ops.as_slice(),
-        [Op::Text(0), Op::Print(0), Op::Return].as_slice()
-    );
-    assert!(rt; !is_valid(&small(alloc, 1)?));
+    assert!(rt; are_three(&code.ops));
+    assert!(rt; are_ops(code.ops));
+    assert!(rt; !is_valid(&small(rt.alloc(), 1)?));
     Ok(())
+}
+
+fn are_kinds_suited(sizes: &Sizes) -> bool {
+    suits_kind(sizes, 1, OperandKind::Ahead, 2)
+        && !suits_kind(sizes, 1, OperandKind::Ahead, 1)
+        && !suits_kind(sizes, 1, OperandKind::Class, 0)
+}
+
+fn are_operands_suited(sizes: &Sizes) -> bool {
+    all_suit(sizes, 1, Op::Jump(2).operands()) && !all_suit(sizes, 1, Op::Again(1).operands())
+}
+
+fn are_labels_told() -> bool {
+    Op::Jump(2).label() == Some(2) && Op::Unit.label().is_none()
+}
+
+fn is_operand_itself() -> bool {
+    Operand(OperandKind::Mode, 3) == Operand(OperandKind::Mode, 3)
 }
 
 #[test]
@@ -169,16 +217,9 @@ fn operands(rt: HostRuntime) -> Result<(), Fail> {
         functions: 1,
         classes: 0,
     };
-    assert!(rt; suits_kind(&sizes, 1, OperandKind::Ahead, 2));
-    assert!(rt; !suits_kind(&sizes, 1, OperandKind::Ahead, 1));
-    assert!(rt; !suits_kind(&sizes, 1, OperandKind::Class, 0));
-    assert_eq!(rt; Op::Jump(2).label(), Some(2));
-    assert_eq!(rt; Op::Unit.label(), None);
-    assert!(rt; all_suit(&sizes, 1, Op::Jump(2).operands()));
-    assert!(rt; !all_suit(&sizes, 1, Op::Again(1).operands()));
-    assert_eq!(rt;
-        Operand(OperandKind::Mode, 3),
-        Operand(OperandKind::Mode, 3)
-    );
+    assert!(rt; are_kinds_suited(&sizes));
+    assert!(rt; are_operands_suited(&sizes));
+    assert!(rt; are_labels_told());
+    assert!(rt; is_operand_itself());
     Ok(())
 }

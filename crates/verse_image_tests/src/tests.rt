@@ -1,8 +1,11 @@
 //! Tests of images.
 
+ghost use Rattle.verse_code.specs.Validity.{Valid};
+
 use crate::again::read_again;
 use std::alloc::Global;
 use std::test::Fail;
+use verse_code::codes::Code;
 use verse_code::validity::is_valid;
 use verse_image::decoding::decode;
 use verse_image::encoding::encode;
@@ -73,65 +76,129 @@ fn bytes_of(alloc: Global, hex: &str) -> Result<Vec<u8>, Fail> {
     Ok(bytes)
 }
 
-/// What decoding tells; an image that is read is written again as it was.
+fn ops_told(alloc: Global, code: &Code) -> Result<String, Fail> {
+    let valid = if is_valid(code) { "ok" } else { "invalid" };
+    let ops = code.ops.as_slice();
+    Ok(format!(in alloc; "{valid} {ops:?}")?)
+}
+
+fn fault_told(alloc: Global, fault: ImageFault) -> Result<String, Fail> {
+    match fault {
+        ImageFault::Memory => Ok(String::from_str(alloc, "memory")?),
+        ImageFault::Bad { rule, at } => Ok(format!(in alloc; "I{rule} {at}")?),
+    }
+}
+
+/// What decoding tells.
 fn told(alloc: Global, bytes: &[u8]) -> Result<String, Fail> {
     match decode(alloc, bytes) {
-        Ok(code) => {
-            let ops = code.ops.as_slice();
-            let valid = is_valid(&code);
-            Ok(format!(in alloc; "{} {ops:?}", if valid { "ok" } else { "invalid" })?)
-        }
-        Err(ImageFault::Memory) => Ok(format!(in alloc; "memory")?),
-        Err(ImageFault::Bad { rule, at }) => Ok(format!(in alloc; "I{rule} {at}")?),
+        Ok(code) => ops_told(alloc, &code),
+        Err(fault) => fault_told(alloc, fault),
     }
+}
+
+fn is_told(alloc: Global, bytes: &[u8], expected: &str) -> Result<bool, Fail> {
+    let told = told(alloc, bytes)?;
+    Ok(told.as_str() == expected)
+}
+
+// the bytes of a row, and what they spell
+fn row_parts(alloc: Global, row: &str) -> Result<(Vec<u8>, &str), Fail> {
+    let (hex, expected) = row.split_once(' ').ok_or("a line has two parts")?;
+    let bytes = bytes_of(alloc, hex)?;
+    Ok((bytes, expected))
+}
+
+fn is_right(alloc: Global, row: &str) -> Result<bool, Fail> {
+    let (bytes, expected) = row_parts(alloc, row)?;
+    is_told(alloc, bytes.as_slice(), expected)
+}
+
+fn count_right(alloc: Global) -> Result<u64, Fail> {
+    let mut count = 0u64;
+    for row in ROWS.lines() {
+        if !is_right(alloc, row)? {
+            return Err(Fail::from(row));
+        }
+        count = count.saturating_add(1);
+    }
+    Ok(count)
 }
 
 #[test]
 fn rows(rt: HostRuntime) -> Result<(), Fail> {
-    let alloc = rt.alloc();
-    let mut count = 0u64;
-    for line in ROWS.lines() {
-        let (hex, expected) = line.split_once(' ').ok_or("a line has two parts")?;
-        let bytes = bytes_of(alloc, hex)?;
-        assert_eq!(rt; told(alloc, bytes.as_slice())?.as_str(), expected, "{line}");
-        count = count.saturating_add(1);
-    }
-    assert_eq!(rt; count, 44);
+    assert!(rt; count_right(rt.alloc())? == 44);
     Ok(())
+}
+
+// whether the code is read again from its image
+fn is_read_again(alloc: Global, code: &Code) -> Result<bool, ImageFault>
+    requires { Valid code.now }
+{
+    let read = read_again(alloc, code)?;
+    Ok(read.ops.as_slice() == code.ops.as_slice())
+}
+
+// whether the image of the code is these bytes
+fn is_image(alloc: Global, code: &Code, bytes: &[u8]) -> Result<bool, Fail>
+    requires { Valid code.now }
+{
+    match encode(alloc, code) {
+        Ok(image) => Ok(bytes == image.as_slice()),
+        Err(_) => Err(Fail::from("memory")),
+    }
+}
+
+// whether the bytes are an image that is written again as it was
+fn is_written_again(alloc: Global, row: &str) -> Result<bool, Fail> {
+    let (bytes, _) = row_parts(alloc, row)?;
+    let Ok(code) = decode(alloc, bytes.as_slice()) else {
+        return Ok(false);
+    };
+    if !is_read_again(alloc, &code)? {
+        return Err(Fail::from(row));
+    }
+    is_image(alloc, &code, bytes.as_slice())
+}
+
+fn count_written_again(alloc: Global) -> Result<u64, Fail> {
+    let mut count = 0u64;
+    for row in ROWS.lines() {
+        if is_written_again(alloc, row)? {
+            count = count.saturating_add(1);
+        }
+    }
+    Ok(count)
 }
 
 #[test]
 fn written_again(rt: HostRuntime) -> Result<(), Fail> {
-    let alloc = rt.alloc();
-    let mut count = 0u64;
-    for line in ROWS.lines() {
-        let (hex, expected) = line.split_once(' ').ok_or("a line has two parts")?;
-        let bytes = bytes_of(alloc, hex)?;
-        if let Ok(code) = decode(alloc, bytes.as_slice()) {
-            let image = encode(alloc, &code).map_err(|_| "memory")?;
-            let read = read_again(alloc, &code).map_err(|_| "memory")?;
-            assert!(rt; read.ops.as_slice() == code.ops.as_slice());
-            if bytes.as_slice() == image.as_slice() {
-                count = count.saturating_add(1);
-            }
+    assert!(rt; count_written_again(rt.alloc())? == 12);
+    Ok(())
+}
+
+// whether an image that ends here ends too early
+fn is_cut_told(alloc: Global, bytes: &[u8]) -> Result<bool, Fail> {
+    let expected = format!(in alloc; "I3 {}", bytes.len())?;
+    is_told(alloc, bytes, expected.as_str())
+}
+
+fn are_cuts_told(alloc: Global, all: &[u8]) -> Result<bool, Fail> {
+    for end in 0..all.len() {
+        if !is_cut_told(alloc, &all[..end])? {
+            return Ok(false);
         }
     }
-    assert_eq!(rt; count, 12);
-    Ok(())
+    Ok(true)
 }
 
 #[test]
 fn cut_and_longer(rt: HostRuntime) -> Result<(), Fail> {
     let alloc = rt.alloc();
-    let line = ROWS.lines().next().ok_or("there are rows")?;
-    let (hex, _expected) = line.split_once(' ').ok_or("a line has two parts")?;
-    let mut bytes = bytes_of(alloc, hex)?;
-    let all = bytes.as_slice();
-    for end in 0..all.len() {
-        let expected = format!(in alloc; "I3 {end}")?;
-        assert_eq!(rt; told(alloc, &all[..end])?.as_str(), expected.as_str());
-    }
+    let row = ROWS.lines().next().ok_or("there are rows")?;
+    let (mut bytes, _) = row_parts(alloc, row)?;
+    assert!(rt; are_cuts_told(alloc, bytes.as_slice())?);
     bytes.push(0)?;
-    assert_eq!(rt; told(alloc, bytes.as_slice())?.as_str(), "I7 17");
+    assert!(rt; is_told(alloc, bytes.as_slice(), "I7 17")?);
     Ok(())
 }

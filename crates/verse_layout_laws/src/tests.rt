@@ -235,29 +235,41 @@ fn kind_of(byte: u8) -> TokenKind {
     }
 }
 
-fn text_of(alloc: Global, source: &[u8]) -> Result<Vec<u8>, AllocError> {
-    let mut text = Vec::new(alloc);
-    for byte in source {
-        let read = match *byte {
-            b'|' => b'\n',
-            b'_' => b' ',
-            b'>' => b'\t',
-            other => other,
-        };
-        text.push(read)?;
-    }
-    Ok(text)
+/// Whose notation it is.
+#[derive(Clone, Copy)]
+enum About {
+    Rows,
+    Files,
 }
 
-fn file_of(alloc: Global, source: &[u8]) -> Result<Vec<u8>, AllocError> {
+fn byte_of_row(byte: u8) -> u8 {
+    match byte {
+        b'|' => b'\n',
+        b'_' => b' ',
+        b'>' => b'\t',
+        other => other,
+    }
+}
+
+fn byte_of_file(byte: u8) -> u8 {
+    match byte {
+        b'|' => b'\n',
+        b'^' => b'\t',
+        other => other,
+    }
+}
+
+fn byte_of(about: About, byte: u8) -> u8 {
+    match about {
+        About::Rows => byte_of_row(byte),
+        About::Files => byte_of_file(byte),
+    }
+}
+
+fn text_of(alloc: Global, about: About, source: &[u8]) -> Result<Vec<u8>, AllocError> {
     let mut text = Vec::new(alloc);
     for byte in source {
-        let read = match *byte {
-            b'|' => b'\n',
-            b'^' => b'\t',
-            other => other,
-        };
-        text.push(read)?;
+        text.push(byte_of(about, *byte))?;
     }
     Ok(text)
 }
@@ -374,38 +386,59 @@ fn layout_of(alloc: Global, bytes: &[u8]) -> Result<Vec<Tok>, Front>
     layout(alloc, bytes, tokens.as_slice())
 }
 
-#[test]
-fn files(rt: HostRuntime) -> Result<(), Fail> {
-    for row in FILES.lines() {
-        let Some((source, wanted)) = row.split_once("~") else {
-            continue
-        };
-        let text = file_of(rt.alloc(), source.as_bytes())?;
-        assert!(rt; text.len() <= MOST_FILE_BYTES);
-        let answer = layout_of(rt.alloc(), text.as_slice());
-        let shown = show(rt.alloc(), text.as_slice(), wanted, answer)?;
-        assert_eq!(rt; shown.as_str().trim_end(), wanted, "{source}");
+fn layout_of_signs(alloc: Global, bytes: &[u8]) -> Result<Vec<Tok>, Front>
+    requires { length bytes.now ≤ MOST_FILE_BYTES }
+{
+    let tokens = tokens_of(alloc, bytes)?;
+    if !all_lie(bytes, tokens.as_slice()) {
+        return Err(Front::Memory);
+    }
+    layout(alloc, bytes, tokens.as_slice())
+}
+
+fn answer(alloc: Global, about: About, bytes: &[u8]) -> Result<Vec<Tok>, Front>
+    requires { length bytes.now ≤ MOST_FILE_BYTES }
+{
+    match about {
+        About::Rows => layout_of_signs(alloc, bytes),
+        About::Files => layout_of(alloc, bytes),
+    }
+}
+
+fn shown(alloc: Global, about: About, source: &str, wanted: &str) -> Result<String, Fail> {
+    let text = text_of(alloc, about, source.as_bytes())?;
+    if MOST_FILE_BYTES < text.len() {
+        return Err(Fail::from("a row is short"));
+    }
+    let answer = answer(alloc, about, text.as_slice());
+    show(alloc, text.as_slice(), wanted, answer)
+}
+
+fn is_right(alloc: Global, about: About, row: &str) -> Result<bool, Fail> {
+    let (source, wanted) = row.split_once("~").ok_or("a row has two parts")?;
+    let shown = shown(alloc, about, source, wanted)?;
+    Ok(shown.as_str().trim_end() == wanted)
+}
+
+/// The first row that is not as it is written is a failure.
+fn check_rows(alloc: Global, about: About, rows: &str) -> Result<(), Fail> {
+    for row in rows.lines() {
+        if !is_right(alloc, about, row)? {
+            return Err(Fail::from(row));
+        }
     }
     Ok(())
 }
 
 #[test]
+fn files(rt: HostRuntime) -> Result<(), Fail> {
+    check_rows(rt.alloc(), About::Files, FILES)
+}
+
+#[test]
 fn rows(rt: HostRuntime) -> Result<(), Fail> {
-    for row in ROWS.lines() {
-        let Some((source, wanted)) = row.split_once("~") else {
-            continue
-        };
-        let text = text_of(rt.alloc(), source.as_bytes())?;
-        let tokens = tokens_of(rt.alloc(), text.as_slice())?;
-        assert!(rt; text.len() <= MOST_FILE_BYTES);
-        let lie = all_lie(text.as_slice(), tokens.as_slice());
-        assert!(rt; lie);
-        let answer = layout(rt.alloc(), text.as_slice(), tokens.as_slice());
-        let shown = show(rt.alloc(), text.as_slice(), wanted, answer)?;
-        assert_eq!(rt; shown.as_str().trim_end(), wanted, "{source}");
-    }
     one_layout();
     one_refusal();
     seps_stand();
-    Ok(())
+    check_rows(rt.alloc(), About::Rows, ROWS)
 }

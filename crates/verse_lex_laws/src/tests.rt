@@ -148,44 +148,69 @@ allocates await char32 converges do float interface live module profile rational
 struct super type upon varies weak_map when where writes ⇒ LeftOut 0-6 1:1 in 0-0; LeftOut 7-12 1:8; LeftOut 13-17 1:14; LeftOut 18-22 1:19; LeftOut 23-29 1:24; LeftOut 30-38 1:31; LeftOut 39-43 1:40; LeftOut 44-49 1:45; LeftOut 50-56 1:51
 "###;
 
+/// The bytes that a byte of a line stands for.
+fn bytes_for(byte: &u8) -> &[u8] {
+    match *byte {
+        b'^' => b"\n".as_slice(),
+        b'$' => b"\r".as_slice(),
+        b'%' => b"\t".as_slice(),
+        b'!' => b"\xFF".as_slice(),
+        b'`' => b"\xEF\xBB\xBF".as_slice(),
+        _ => std::slice::from_ref(byte),
+    }
+}
+
 /// The bytes of the file that a line of the table has.
 fn file_of(alloc: Global, text: &str) -> Result<Vec<u8>, AllocError> {
     let mut file = Vec::new(alloc);
     for byte in text.as_bytes() {
-        match *byte {
-            b'^' => file.push(b'\n')?,
-            b'$' => file.push(b'\r')?,
-            b'%' => file.push(b'\t')?,
-            b'!' => file.push(0xFF)?,
-            b'`' => file.extend_from_slice(b"\xEF\xBB\xBF".as_slice())?,
-            other => file.push(other)?,
-        }
+        file.extend_from_slice(bytes_for(byte))?;
     }
     Ok(file)
+}
+
+/// What the characters of a text token stand for, as the table has it.
+fn describe_text(
+    out: &mut String,
+    alloc: Global,
+    file: &[u8],
+    token: &Token,
+) -> Result<(), AllocError> {
+    match text_bytes(alloc, file, token) {
+        Ok(bytes) => write!(out, "={:?}", bytes.as_slice())?,
+        Err(_) => out.push_str("=no memory")?,
+    }
+    Ok(())
+}
+
+fn is_text(token: &Token) -> bool {
+    matches!(
+        token.kind,
+        TokenKind::Text | TokenKind::TextOpen | TokenKind::TextMid | TokenKind::TextClose
+    )
+}
+
+fn describe_place(out: &mut String, token: &Token) -> Result<(), AllocError> {
+    write!(out, " {}-{}", token.start, token.end)?;
+    write!(out, " {}:{}", token.place.line, token.place.col)?;
+    Ok(())
+}
+
+fn describe_indent(out: &mut String, indent: Option<(u32, u32)>) -> Result<(), AllocError> {
+    if let Some((from, to)) = indent {
+        write!(out, " in {from}-{to}")?;
+    }
+    Ok(())
 }
 
 /// A token as the table has it.
 fn describe(out: &mut String, alloc: Global, file: &[u8], token: &Token) -> Result<(), AllocError> {
     write!(out, "{:?}", token.kind)?;
-    if let TokenKind::Text
-    | TokenKind::TextOpen
-    | TokenKind::TextMid
-    | TokenKind::TextClose = token.kind
-    {
-        match text_bytes(alloc, file, token) {
-            Ok(bytes) => write!(out, "={:?}", bytes.as_slice())?,
-            Err(_) => out.push_str("=no memory")?,
-        }
+    if is_text(token) {
+        describe_text(out, alloc, file, token)?;
     }
-    write!(
-        out,
-        " {}-{} {}:{}",
-        token.start, token.end, token.place.line, token.place.col
-    )?;
-    if let Some((from, to)) = token.indent {
-        write!(out, " in {from}-{to}")?;
-    }
-    Ok(())
+    describe_place(out, token)?;
+    describe_indent(out, token.indent)
 }
 
 /// What a line of the table says of this file.

@@ -43,60 +43,67 @@ fn program(alloc: Global, row: &str) -> Result<ProgramTree, Fail>
     Ok(tree)
 }
 
-// the rule of a refusal, its line and its column, or only zeros
-fn told(why: Option<Front>) -> (u16, u32, u32) {
+// whether a refusal is by this rule, at this line and column
+fn is_told(why: Option<Front>, code: u32, line: u32, col: u32) -> bool {
     match why {
-        Some(Front::Refused(refusal)) => { (refusal.rule.0, refusal.place.line, refusal.place.col) }
-        Some(Front::Memory) => (1, 0, 0),
-        None => (0, 0, 0),
+        Some(Front::Refused(refusal)) => {
+            let place = refusal.place;
+            u32::from(refusal.rule.0) == code && place.line == line && place.col == col
+        }
+        Some(Front::Memory) => false,
+        None => code == 0 && line == 0 && col == 0,
     }
 }
 
-fn expected(code: &str, place: &str) -> Result<(u16, u32, u32), Fail> {
-    let code = code.parse::<u16>().map_err(|_| "a code")?;
+fn small(word: &str) -> Result<u32, Fail> {
+    let number = word.parse::<u32>()?;
+    Ok(number)
+}
+
+// whether a refusal is as a row has it; only zeros stand for none
+fn is_expected(why: Option<Front>, code: &str, place: &str) -> Result<bool, Fail> {
     let (line, col) = place.split_once(':').ok_or("a place")?;
-    let line = line.parse::<u32>().map_err(|_| "a line")?;
-    let col = col.parse::<u32>().map_err(|_| "a column")?;
-    Ok((code, line, col))
+    let code = small(code)?;
+    let line = small(line)?;
+    let col = small(col)?;
+    Ok(is_told(why, code, line, col))
 }
 
-#[test]
-fn items_are_refused(rt: HostRuntime) -> Result<(), Fail> {
-    let alloc = rt.alloc();
-    let mut count = 0u64;
-    for line in REFUSED.lines() {
-        let (code, rest) = line.split_once(' ').ok_or("a row has a code")?;
-        let (place, row) = rest.split_once(' ').ok_or("a row has a place")?;
-        let tree = program(alloc, row)?;
-        let why = define(alloc, tree.get()).err();
-        assert_eq!(rt; told(why), expected(code, place)?, "{line}");
-        count = count.saturating_add(1);
+// the first word, and what is behind it
+fn cut(row: &str) -> Result<(&str, &str), Fail> {
+    match row.split_once(' ') {
+        Some(parts) => Ok(parts),
+        None => Err(Fail::from("a row has words")),
     }
-    assert_eq!(rt; count, 57);
-    Ok(())
+}
+
+fn why_items(alloc: Global, row: &str) -> Result<Option<Front>, Fail> {
+    let tree = program(alloc, row)?;
+    Ok(define(alloc, tree.get()).err())
+}
+
+fn is_refused_so(alloc: Global, code: &str, rest: &str) -> Result<bool, Fail> {
+    let (place, row) = cut(rest)?;
+    let why = why_items(alloc, row)?;
+    is_expected(why, code, place)
 }
 
 // what the items of a program define
-fn written(alloc: Global, row: &str) -> Result<Vec<u8>, Fail> {
-    let tree = program(alloc, row)?;
-    let tables = define(alloc, tree.get()).map_err(|_| "the items are fine")?;
-    let mut out = Vec::new(alloc);
-    write_tables(&mut out, &tables)?;
-    Ok(out)
+fn defined(alloc: Global, tree: &ProgramTree) -> Result<Tables, Fail>
+    requires counted { IsNumbered (map item_of tree.now.items) tree.now.nodes }
+{
+    match define(alloc, tree.get()) {
+        Ok(tables) => Ok(tables),
+        Err(_) => Err(Fail::from("the items are fine")),
+    }
 }
 
-#[test]
-fn items_define_tables(rt: HostRuntime) -> Result<(), Fail> {
-    let alloc = rt.alloc();
-    let mut count = 0u64;
-    for line in TABLES.lines() {
-        let (tables, row) = line.split_once(' ').ok_or("a row has tables")?;
-        let out = written(alloc, row)?;
-        assert!(rt; out.as_slice() == tables.as_bytes(), "{line}");
-        count = count.saturating_add(1);
-    }
-    assert_eq!(rt; count, 15);
-    Ok(())
+fn are_written_so(alloc: Global, text: &str, row: &str) -> Result<bool, Fail> {
+    let tree = program(alloc, row)?;
+    let tables = defined(alloc, &tree)?;
+    let mut out = Vec::new(alloc);
+    write_tables(&mut out, &tables)?;
+    Ok(out.as_slice() == text.as_bytes())
 }
 
 fn builtin_of(number: u32) -> Option<Ref> {
@@ -123,9 +130,18 @@ fn ref_of(letter: &str, number: u32, part: u32) -> Option<Ref> {
 // a number, and the one behind a dot, or 0
 fn numbers(word: &str) -> Result<(u32, u32), Fail> {
     let (first, second) = word.split_once('.').unwrap_or((word, "0"));
-    let first = first.parse::<u32>().map_err(|_| "a number")?;
-    let second = second.parse::<u32>().map_err(|_| "a second number")?;
+    let first = small(first)?;
+    let second = small(second)?;
     Ok((first, second))
+}
+
+// a node, and what it refers to
+fn node_and_ref(word: &str) -> Result<(u32, Option<Ref>), Fail> {
+    let (node, rest) = word.split_once('.').ok_or("a node")?;
+    let (letter, rest) = rest.split_once('.').ok_or("what it refers to")?;
+    let node = small(node)?;
+    let (number, part) = numbers(rest)?;
+    Ok((node, ref_of(letter, number, part)))
 }
 
 // lets a node refer to something, behind those that refer to nothing
@@ -143,11 +159,8 @@ fn refs_of(alloc: Global, words: &str) -> Result<Items<Option<Ref>>, Fail> {
         return Ok(refs);
     }
     for word in words.split(',') {
-        let (node, rest) = word.split_once('.').ok_or("a node")?;
-        let (letter, rest) = rest.split_once('.').ok_or("what it refers to")?;
-        let node = node.parse::<u32>().map_err(|_| "a number of a node")?;
-        let (number, part) = numbers(rest)?;
-        refer(&mut refs, node, ref_of(letter, number, part))?;
+        let (node, to) = node_and_ref(word)?;
+        refer(&mut refs, node, to)?;
     }
     Ok(refs)
 }
@@ -169,24 +182,61 @@ fn names_of(tables: Tables, refs: Items<Option<Ref>>) -> Names {
 // why the effects of a program are refused
 fn why_effects(alloc: Global, words: &str, row: &str) -> Result<Option<Front>, Fail> {
     let tree = program(alloc, row)?;
-    let tables = define(alloc, tree.get()).map_err(|_| "the items are fine")?;
     let refs = refs_of(alloc, words)?;
-    let names = names_of(tables, refs);
+    let names = names_of(defined(alloc, &tree)?, refs);
     Ok(effects(alloc, tree.get(), &names).err())
+}
+
+fn are_effects_refused_so(alloc: Global, code: &str, rest: &str) -> Result<bool, Fail> {
+    let (place, rest) = cut(rest)?;
+    let (words, row) = cut(rest)?;
+    let why = why_effects(alloc, words, row)?;
+    is_expected(why, code, place)
+}
+
+/// What the rows of a table are about.
+#[derive(Clone, Copy)]
+enum About {
+    Items,
+    Tables,
+    Effects,
+}
+
+fn is_right(alloc: Global, about: About, row: &str) -> Result<bool, Fail> {
+    let (first, rest) = cut(row)?;
+    match about {
+        About::Items => is_refused_so(alloc, first, rest),
+        About::Tables => are_written_so(alloc, first, rest),
+        About::Effects => are_effects_refused_so(alloc, first, rest),
+    }
+}
+
+// how many rows are as they are written; the first other one is a failure
+fn count_right(alloc: Global, about: About, rows: &str) -> Result<u64, Fail> {
+    let mut count = 0u64;
+    for row in rows.lines() {
+        if !is_right(alloc, about, row)? {
+            return Err(Fail::from(row));
+        }
+        count = count.saturating_add(1);
+    }
+    Ok(count)
+}
+
+#[test]
+fn items_are_refused(rt: HostRuntime) -> Result<(), Fail> {
+    assert!(rt; count_right(rt.alloc(), About::Items, REFUSED)? == 57);
+    Ok(())
+}
+
+#[test]
+fn items_define_tables(rt: HostRuntime) -> Result<(), Fail> {
+    assert!(rt; count_right(rt.alloc(), About::Tables, TABLES)? == 15);
+    Ok(())
 }
 
 #[test]
 fn effects_are_refused(rt: HostRuntime) -> Result<(), Fail> {
-    let alloc = rt.alloc();
-    let mut count = 0u64;
-    for line in EFFECTS.lines() {
-        let (code, rest) = line.split_once(' ').ok_or("a row has a code")?;
-        let (place, rest) = rest.split_once(' ').ok_or("a row has a place")?;
-        let (words, row) = rest.split_once(' ').ok_or("a row has names")?;
-        let why = why_effects(alloc, words, row)?;
-        assert_eq!(rt; told(why), expected(code, place)?, "{line}");
-        count = count.saturating_add(1);
-    }
-    assert_eq!(rt; count, 93);
+    assert!(rt; count_right(rt.alloc(), About::Effects, EFFECTS)? == 93);
     Ok(())
 }

@@ -6,7 +6,7 @@
 //! Class 0 is a root, 1 and 2 inherit from 0, and 3 from 1. Class 2 is unique.
 
 use sqlite_items::{Boxed, Items};
-use std::alloc::Global;
+use std::alloc::{AllocError, Global};
 use std::test::Fail;
 use verse_base::refusals::Memory;
 use verse_rules_types::fitting::{does_fit, is_same};
@@ -49,63 +49,162 @@ fn simple(letter: u8) -> Option<Ty> {
     }
 }
 
-fn top(types: &mut Vec<Ty>) -> Result<Ty, Fail> {
-    let ty = types.pop().ok_or("a type is missing")?;
-    Ok(ty)
+/// A type, let go by one call.
+struct Slot {
+    ty: Ty,
 }
 
-fn boxed(alloc: Global, ty: Ty) -> Result<Boxed<Ty>, Memory> {
-    Ok(Boxed::new(alloc, ty)?)
+impl Drop for Slot {
+    fn drop(self) {
+        let Self { ty: _ } = self;
+    }
 }
 
-fn of_one(alloc: Global, letter: u8, part: Ty) -> Result<Ty, Memory> {
-    let part = boxed(alloc, part)?;
+impl Slot {
+    fn new(ty: Ty) -> Slot {
+        Slot { ty }
+    }
+
+    fn get(&self) -> &Ty {
+        &self.ty
+    }
+
+    fn into_ty(self) -> Ty {
+        let Self { ty } = self;
+        ty
+    }
+
+    fn boxed(self, alloc: Global) -> Result<Boxed<Ty>, AllocError> {
+        Boxed::new(alloc, self.into_ty())
+    }
+}
+
+/// Types, the last one on top.
+struct Stack {
+    types: Vec<Ty>,
+}
+
+impl Drop for Stack {
+    fn drop(self) {
+        let Self { types: _ } = self;
+    }
+}
+
+impl Stack {
+    fn new(alloc: Global) -> Stack {
+        Stack {
+            types: Vec::new(alloc),
+        }
+    }
+
+    fn push(&mut self, slot: Slot) -> Result<(), AllocError> {
+        self.types.push(slot.into_ty())?;
+        Ok(())
+    }
+
+    fn pop(&mut self) -> Result<Slot, Fail> {
+        match self.types.pop() {
+            Some(ty) => Ok(Slot::new(ty)),
+            None => Err(Fail::from("a type is missing")),
+        }
+    }
+}
+
+fn with_part(letter: u8, part: Boxed<Ty>) -> Slot {
     match letter {
-        b'?' => Ok(Ty::Option(part)),
-        b'a' => Ok(Ty::Array(part)),
-        b't' => Ok(Ty::Task(part)),
-        _ => Ok(Ty::Event(part)),
+        b'?' => Slot::new(Ty::Option(part)),
+        b'a' => Slot::new(Ty::Array(part)),
+        b't' => Slot::new(Ty::Task(part)),
+        _ => Slot::new(Ty::Event(part)),
     }
 }
 
-fn tuple(alloc: Global, first: Option<Ty>, second: Ty) -> Result<Ty, Memory> {
-    let mut parts = Items::new(alloc);
-    if let Some(first) = first {
-        parts.push(first)?;
+fn of_one(alloc: Global, letter: u8, part: Slot) -> Result<Slot, AllocError> {
+    let part = part.boxed(alloc)?;
+    Ok(with_part(letter, part))
+}
+
+/// The parts of a tuple.
+struct Parts {
+    items: Items<Ty>,
+}
+
+impl Drop for Parts {
+    fn drop(self) {
+        let Self { items: _ } = self;
     }
+}
+
+impl Parts {
+    fn new(alloc: Global) -> Parts {
+        Parts {
+            items: Items::new(alloc),
+        }
+    }
+
+    fn push(&mut self, part: Slot) -> Result<(), AllocError> {
+        self.items.push(part.into_ty())?;
+        Ok(())
+    }
+
+    fn into_tuple(self) -> Slot {
+        let Self { items } = self;
+        Slot::new(Ty::Tuple(items))
+    }
+}
+
+fn pair(alloc: Global, first: Slot, second: Slot) -> Result<Slot, AllocError> {
+    let mut parts = Parts::new(alloc);
+    parts.push(first)?;
     parts.push(second)?;
-    Ok(Ty::Tuple(parts))
+    Ok(parts.into_tuple())
 }
 
-fn map(alloc: Global, key: Ty, value: Ty) -> Result<Ty, Memory> {
-    let key = boxed(alloc, key)?;
-    let value = boxed(alloc, value)?;
-    Ok(Ty::Map(MapOf { key, value }))
+fn alone(alloc: Global, part: Slot) -> Result<Slot, AllocError> {
+    let mut parts = Parts::new(alloc);
+    parts.push(part)?;
+    Ok(parts.into_tuple())
+}
+
+fn map(alloc: Global, key: Slot, value: Slot) -> Result<Slot, AllocError> {
+    let key = key.boxed(alloc)?;
+    let value = value.boxed(alloc)?;
+    Ok(Slot::new(Ty::Map(MapOf { key, value })))
+}
+
+/// What a letter makes of the types before it.
+fn made(alloc: Global, types: &mut Stack, letter: u8) -> Result<Slot, Fail> {
+    let last = types.pop()?;
+    match letter {
+        b'm' => Ok(map(alloc, types.pop()?, last)?),
+        b'p' => Ok(pair(alloc, types.pop()?, last)?),
+        b's' => Ok(alone(alloc, last)?),
+        _ => Ok(of_one(alloc, letter, last)?),
+    }
 }
 
 /// Puts what a letter stands for behind the types before it.
-fn step(alloc: Global, types: &mut Vec<Ty>, letter: u8) -> Result<(), Fail> {
-    if let Some(ty) = simple(letter) {
-        types.push(ty)?;
-        return Ok(());
-    }
-    let last = top(types)?;
-    let made = match letter {
-        b'm' => map(alloc, top(types)?, last)?,
-        b'p' => tuple(alloc, Some(top(types)?), last)?,
-        b's' => tuple(alloc, None, last)?,
-        _ => of_one(alloc, letter, last)?,
+fn step(alloc: Global, types: &mut Stack, letter: u8) -> Result<(), Fail> {
+    let slot = match simple(letter) {
+        Some(ty) => Slot::new(ty),
+        None => made(alloc, types, letter)?,
     };
-    types.push(made)?;
-    Ok(())
+    Ok(types.push(slot)?)
 }
 
-fn written(alloc: Global, word: &str) -> Result<Ty, Fail> {
-    let mut types = Vec::new(alloc);
+fn written(alloc: Global, word: &str) -> Result<Slot, Fail> {
+    let mut types = Stack::new(alloc);
     for letter in word.as_bytes() {
         step(alloc, &mut types, *letter)?;
     }
-    top(&mut types)
+    types.pop()
+}
+
+fn cut(row: &str) -> Result<(&str, &str), Fail> {
+    match row.split_once(' ') {
+        Some(parts) => Ok(parts),
+        None => Err(Fail::from("a row has words")),
+    }
 }
 
 /// The first type, the second, and what they join to. The first fits the second exactly where they
@@ -156,22 +255,35 @@ iip is v
 fip lvp lvp
 ";
 
+// What the types of a row join to is the type that it has, exactly where the first fits the second
+// that is the second.
+fn join_so(classes: &[ClassInfo], first: &Slot, second: &Slot, joined: &Slot, to: &Slot) -> bool {
+    let fits = does_fit(classes, first.get(), second.get());
+    is_same(joined.get(), to.get()) && fits == is_same(to.get(), second.get())
+}
+
+fn joined(
+    alloc: Global,
+    classes: &[ClassInfo],
+    first: &Slot,
+    second: &Slot,
+) -> Result<Slot, Memory> {
+    Ok(Slot::new(join_of(alloc, classes, first.get(), second.get())?))
+}
+
+fn is_join_right(alloc: Global, classes: &[ClassInfo], row: &str) -> Result<bool, Fail> {
+    let (first, rest) = cut(row)?;
+    let (second, to) = cut(rest)?;
+    let first = written(alloc, first)?;
+    let second = written(alloc, second)?;
+    let joined = joined(alloc, classes, &first, &second)?;
+    let to = written(alloc, to)?;
+    Ok(join_so(classes, &first, &second, &joined, &to))
+}
+
 #[test]
 fn types_join(rt: HostRuntime) -> Result<(), Fail> {
-    let alloc = rt.alloc();
-    let classes = classes(alloc)?;
-    for line in JOINS.lines() {
-        let (first, rest) = line.split_once(' ').ok_or("a row has three words")?;
-        let (second, third) = rest.split_once(' ').ok_or("a row has three words")?;
-        let first = written(alloc, first)?;
-        let second = written(alloc, second)?;
-        let expected = written(alloc, third)?;
-        let joined = join_of(alloc, classes.as_slice(), &first, &second)?;
-        assert!(rt; is_same(&joined, &expected), "{line}");
-        let fits = does_fit(classes.as_slice(), &first, &second);
-        assert_eq!(rt; fits, is_same(&expected, &second), "{line}");
-    }
-    Ok(())
+    check_rows(rt.alloc(), About::Joins, JOINS)
 }
 
 /// A type, whether it is a key, whether it has equality, and how many levels it has.
@@ -201,23 +313,46 @@ is no yes 2
 iaaaa no yes 5
 ";
 
+// Whether a type is a key and whether it has equality is told by `yes`.
+fn are_kinds(classes: &[ClassInfo], ty: &Ty, key: &str, equality: &str) -> bool {
+    is_key(ty) == (key == "yes") && is_comparable(classes, ty) == (equality == "yes")
+}
+
+fn is_kind_right(alloc: Global, classes: &[ClassInfo], row: &str) -> Result<bool, Fail> {
+    let (word, rest) = cut(row)?;
+    let (key, rest) = cut(rest)?;
+    let (equality, count) = cut(rest)?;
+    let slot = written(alloc, word)?;
+    let count = count.parse::<u32>()?;
+    Ok(are_kinds(classes, slot.get(), key, equality) && levels(slot.get()) == count)
+}
+
 #[test]
 fn types_have_kinds(rt: HostRuntime) -> Result<(), Fail> {
-    let alloc = rt.alloc();
+    check_rows(rt.alloc(), About::Kinds, KINDS)
+}
+
+/// What the rows of a table are about.
+#[derive(Clone, Copy)]
+enum About {
+    Joins,
+    Kinds,
+}
+
+fn is_right(alloc: Global, about: About, classes: &[ClassInfo], row: &str) -> Result<bool, Fail> {
+    match about {
+        About::Joins => is_join_right(alloc, classes, row),
+        About::Kinds => is_kind_right(alloc, classes, row),
+    }
+}
+
+/// The first row that is not as it is written is a failure.
+fn check_rows(alloc: Global, about: About, rows: &str) -> Result<(), Fail> {
     let classes = classes(alloc)?;
-    for line in KINDS.lines() {
-        let (word, rest) = line.split_once(' ').ok_or("a row has four words")?;
-        let (key, rest) = rest.split_once(' ').ok_or("a row has four words")?;
-        let (equality, count) = rest.split_once(' ').ok_or("a row has four words")?;
-        let count = count.parse::<u32>().map_err(|_| "a number")?;
-        let ty = written(alloc, word)?;
-        assert_eq!(rt; is_key(&ty), key == "yes", "{line}");
-        assert_eq!(rt;
-            is_comparable(classes.as_slice(), &ty),
-            equality == "yes",
-            "{line}"
-        );
-        assert_eq!(rt; levels(&ty), count, "{line}");
+    for row in rows.lines() {
+        if !is_right(alloc, about, classes.as_slice(), row)? {
+            return Err(Fail::from(row));
+        }
     }
     Ok(())
 }
