@@ -28,4 +28,5 @@ scope_claused (generates g) sc = with_generator g sc
 -- the index of the jump of a generator whose first local is the one behind the scope
 abbrev pub turns_at : Generator → Scope → Built → ℕ
 turns_at g sc b =
-    length (pushed (taking g (length sc)) (pushed o.Commit (with_local (suc (suc (suc (length sc)))) b))).ops
+    length (pushed (taking g (length sc))
+    (pushed o.Commit (with_local (suc (suc (suc (length sc)))) b))).ops

@@ -189,7 +189,8 @@ fn notes_are_verified(rt: HostRuntime) -> Result<(), Fail> {
     Ok(())
 }
 
-// the status, the options, the image, and how what `save` writes of it begins: all of it, where no run is saved; then the options, the status and the text of `resume`
+// the status, the options, the image, and how what `save` writes of it begins: all of it, where no
+// run is saved; then the options, the status and the text of `resume`
 const SAVES: &str =
     "3`--until 500`RACE`= saved at 0 steps 3 live 2~``0`1000 fast~1000 after~= done at 1000 steps 4 live 0~
 3`--until 999`RACE`= saved at 0 steps 3 live 2~`--until 999`3`= until at 0 steps 3 live 2~
