@@ -8,7 +8,7 @@ use Rattle.verse_code.specs.declared.operations.Op.{Op}
 use Rattle.verse_code.specs.declared.operations.Op.TheVariants as o
 use Rattle.verse_code.specs.Validity.{Valid}
 use Rattle.verse_code_machine.specs.Acts.{place_at}
-use Rattle.run_save_shots.specs.Fitting.{gathers, stand_of, stand_in, stand_at}
+use Rattle.run_save_shots.specs.Fitting.{gathers, goes_on, stand_of, stand_in, stand_at}
 use Rattle.run_save_shots.specs.Spelling.{or_nowhere}
 use Rattle.run_save_trees.proofs.Groups.{group_of}
 
