@@ -15,7 +15,6 @@ ghost use Rattle.verse_rules_walk.specs.Nodes.{node, param_node, member_node, it
 ghost use Rattle.verse_rules_walk.specs.Nodes.{items_nodes};
 ghost use Rattle.verse_rules_walk.specs.Order.{AreNumbered};
 ghost use Rattle.verse_rules_walk.specs.Passes.{tree_node};
-ghost use Rattle.verse_rules_walk.specs.Through.{through_items};
 ghost use Rattle.verse_rules_walk.specs.Views.{around_of};
 ghost use Rattle.verse_check_typing.specs.Steps.{Sight, seen, facts, shape_ref, shape_defines};
 ghost use Rattle.verse_check_typing.specs.Steps.{noted, step};
@@ -314,8 +313,8 @@ fn see_by(
 }
 
 fn see_in(alloc: Global, items: &[Item], world: &World<'_>) -> Result<Seen, Memory>
-    ensures { IfOk result (λ s. sight_of s ≡ through_items (step (world_of world.now))
-        (map item_of items.now) begun) }
+    ensures { IfOk result (λ s. sight_of s ≡
+        seen (world_of world.now) (items_nodes (map item_of items.now))) }
 {
     let mut seen = Seen::new(alloc);
     walk_items(&TypesPass { world }, &mut seen, items)?;

@@ -8,8 +8,7 @@ use Rattle.verse_rules_least.proofs.Least.{first_finds, least_kept, placed_kept}
 use Rattle.verse_rules_walk.specs.Around.{Around}
 use Rattle.verse_rules_walk.specs.Nodes.{Node, number_of, place_of, items_nodes}
 use Rattle.verse_rules_walk.specs.Order.{AreNumbered}
-use Rattle.verse_rules_walk.specs.Through.{through_items}
-use Rattle.verse_rules_walk.proofs.Through.{through_items_nodes}
+use Rattle.verse_rules_least.specs.Least.{each}
 use Rattle.verse_rules_walk.proofs.Order.{numbers_rise}
 use Rattle.verse_effects.specs.Rules.{rules_of, rules_at, step, Breaks, begun, Answers}
 use Rattle.verse_effects.specs.declared.seen.Seen.{Seen}
@@ -26,11 +25,10 @@ ascending k vars w n (type_name x) = refl
 finds : (k : Names) (v : Node) (x : Seen) → Finds (Breaks k v x) (first_true (rules_at k x.vars v))
 finds k v x = first_finds (rules_at k x.vars v) (ascending k x.vars v.around v.number v.what)
 
-pub answers : (k : Names) (is : List ItemTree) → AreNumbered is → Answers k (items_nodes is) (through_items (step k) is begun).fault
+pub answers : (k : Names) (is : List ItemTree) → AreNumbered is → Answers k (items_nodes is) (each (step k) (items_nodes is) begun).fault
 unfolding step
 answers k is h =
-    let vs = items_nodes is in
-    subst (λ (x : Seen). Answers k vs x.fault) (sym (through_items_nodes (step k) is begun)) (
+    let vs = items_nodes is in (
       least_kept number_of place_of (step k) (Breaks k) (λ v x. first_true (rules_at k x.vars v)) (finds k) (λ x. x.fault)
           (λ v x. refl) vs begun (numbers_rise is h) refl,
       placed_kept number_of place_of (step k) (Breaks k) (λ v x. first_true (rules_at k x.vars v)) (finds k) (λ x. x.fault)

@@ -11,7 +11,7 @@ ghost use Rattle.verse_rules_least.specs.Least.{refusal_of};
 ghost use Rattle.verse_rules_walk.specs.Nodes.{items_nodes, param_node, member_node, item_node};
 ghost use Rattle.verse_rules_walk.specs.Order.{AreNumbered};
 ghost use Rattle.verse_rules_walk.specs.Passes.{tree_node};
-ghost use Rattle.verse_rules_walk.specs.Through.{through_items};
+ghost use Rattle.verse_rules_least.specs.Least.{each};
 ghost use Rattle.verse_rules_walk.specs.Views.{around_of};
 ghost use Rattle.verse_effects.specs.Rules.{noted, step, begun, BreaksAt, Answers, IsLeastBroken};
 ghost use Rattle.verse_effects.specs.declared.seen.Seen.{Seen as SeenValue};
@@ -154,7 +154,7 @@ pub fn effects(alloc: Global, tree: &Tree, names: &Names) -> Result<(), Front>
 
 fn see(alloc: Global, tree: &Tree, names: &Names) -> Result<Seen, Memory>
     ensures { IfOk result (λ s. s ≡
-        through_items (step names.now) (map item_of tree.now.items) begun) }
+        each (step names.now) (items_nodes (map item_of tree.now.items)) begun) }
 {
     let mut seen = Seen {
         vars: Items::new(alloc),

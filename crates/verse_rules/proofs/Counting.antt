@@ -1,5 +1,5 @@
 -- The fields that are counted from node to node are those of all instance expressions.
-use Rattle.std.proofs.Common.{◌≡◌, ℕ, ◌+◌, List, [], ◌∷◌, Option, min, ap, ◌∙◌, arith}
+use Rattle.std.proofs.Common.{◌≡◌, ℕ, ◌+◌, List, [], ◌∷◌, Option, min, ap, sym, ◌∙◌, arith}
 use Rattle.std.specs.Prelude.{Some, None}
 use Rattle.verse_tree.specs.Tree.{Written, Writtens, no_writtens, more_writtens, Tree, tree, Shape, Trees, no_trees, more_trees, Holes}
 use Rattle.verse_tree.specs.Tree.{no_holes, more_holes, Pairs, no_pairs, more_pairs, Givens, no_givens, more_givens}
@@ -13,10 +13,12 @@ use Rattle.verse_tree.specs.declared.tables.Names.{Names}
 use Rattle.verse_rules_walk.specs.Around.{Around, value, callee, object, target, spawned, argument, outside, default_around, used_as, freely}
 use Rattle.verse_rules_walk.specs.Around.{caught, looped, repeated, armed, deferred, left_of}
 use Rattle.verse_rules_walk.specs.Around.{indexed}
-use Rattle.verse_rules_walk.specs.Nodes.{number_of_tree, round_body}
+use Rattle.verse_rules_walk.specs.Nodes.{number_of_tree, round_body, items_nodes}
 use Rattle.verse_rules_walk.specs.Through.{through_written, through_writtens, through, through_shape, through_trees, through_arguments}
 use Rattle.verse_rules_walk.specs.Through.{through_holes, through_pairs, through_givens, through_param, through_params, through_fun}
 use Rattle.verse_rules_walk.specs.Through.{through_default, through_field, through_member, through_members, through_item, through_items}
+use Rattle.verse_rules_walk.proofs.Through.{through_items_nodes}
+use Rattle.verse_rules_least.specs.Least.{each}
 use Rattle.verse_rules.specs.Counting.{shape_adds, counted}
 
 abbrev top : ℕ
@@ -237,5 +239,5 @@ module _ (k : Names) where
   of_items [] = nothing
   of_items (i ∷ is) = both (through_item (counted k) i) (through_items (counted k) is) (of_item i) (of_items is)
 
-  pub all_counted : (is : List ItemTree) → through_items (counted k) is 0 ≡ min (items_fields k is) top
-  all_counted is = ap (through_items (counted k) is) (omega arith) ∙ (of_items is).on 0 ∙ ap (λ (y : ℕ). min y top) (omega arith)
+  pub all_counted : (is : List ItemTree) → each (counted k) (items_nodes is) 0 ≡ min (items_fields k is) top
+  all_counted is = sym (through_items_nodes (counted k) is 0) ∙ ap (through_items (counted k) is) (omega arith) ∙ (of_items is).on 0 ∙ ap (λ (y : ℕ). min y top) (omega arith)

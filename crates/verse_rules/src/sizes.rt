@@ -6,7 +6,8 @@ ghost use Rattle.verse_tree.specs.ItemView.{item_of};
 ghost use Rattle.verse_tree.specs.Numbering.{program_nodes};
 ghost use Rattle.verse_tree.specs.Sizes.{class_fields, fields_at, items_fields};
 ghost use Rattle.verse_rules_walk.specs.Passes.{part_node};
-ghost use Rattle.verse_rules_walk.specs.Through.{through_items};
+ghost use Rattle.verse_rules_least.specs.Least.{each};
+ghost use Rattle.verse_rules_walk.specs.Nodes.{items_nodes};
 ghost use Rattle.verse_rules_walk.specs.Views.{around_of};
 ghost use Rattle.verse_rules.specs.Sound.{SizesAgree};
 ghost use Rattle.verse_rules.specs.Counting.{counted, shape_adds, what_adds};
@@ -121,7 +122,7 @@ fn fields_in(tree: &Tree, names: &Names) -> Result<u64, Memory>
 
 fn count_fields(tree: &Tree, names: &Names) -> Result<u64, Memory>
     ensures { IfOk result (λ f. f ≡
-        through_items (counted names.now) (map item_of tree.now.items) 0) }
+        each (counted names.now) (items_nodes (map item_of tree.now.items)) 0) }
 {
     let mut count = Count { fields: 0 };
     walk_items(&CountPass { names }, &mut count, tree.items.as_slice())?;

@@ -7,6 +7,8 @@ ghost use Rattle.verse_tree.specs.ItemView.{param_of, fun_of, field_of, member_o
 ghost use Rattle.verse_rules_walk.specs.Through.{through_params, through_fun, through_default};
 ghost use Rattle.verse_rules_walk.specs.Through.{through_field, through_member, through_members};
 ghost use Rattle.verse_rules_walk.specs.Through.{through_item, through_items};
+ghost use Rattle.verse_rules_walk.specs.Nodes.{items_nodes};
+ghost use Rattle.verse_rules_least.specs.Least.{each};
 
 use crate::arounds::{body_around, default_around, effects_written, outside};
 use crate::passes::{Part, Pass};
@@ -19,7 +21,15 @@ use verse_tree::items::{Field, Fun, Item, Member, Param};
 use verse_tree::types::TyExpr;
 
 /// Does a pass at all nodes of a program's items, in the order of their numbers.
+#[tactic(auto, using(crate::proofs::Through::through_items_nodes))]
 pub fn walk_items<P: Pass>(pass: &P, seen: &mut P::Seen, items: &[Item]) -> Result<(), Memory>
+    ensures { OnOk result (P.sight seen.new ≡
+        each (P.step pass.now) (items_nodes (map item_of items.now)) (P.sight seen.old)) }
+{
+    walk_in_turn(pass, seen, items)
+}
+
+fn walk_in_turn<P: Pass>(pass: &P, seen: &mut P::Seen, items: &[Item]) -> Result<(), Memory>
     ensures { OnOk result (P.sight seen.new ≡
         through_items (P.step pass.now) (map item_of items.now) (P.sight seen.old)) }
 {
