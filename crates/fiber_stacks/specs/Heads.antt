@@ -1,5 +1,6 @@
 -- What a frame has beside its levels: a place, locals, and the bounds of its handlers.
-use Rattle.std.specs.Prelude.{ℕ, suc, ◌+◌, List, [], ◌∷◌, ◌++◌, length, reverse, set, Bool, true, false}
+use Rattle.std.specs.Prelude.{ℕ, suc, ◌+◌, List, [], ◌∷◌, ◌++◌, length, reverse, set, Bool, true}
+use Rattle.std.specs.Prelude.{false}
 use Rattle.fiber_stacks.specs.declared.heads.Bounds.{Bounds}
 use Rattle.fiber_stacks.specs.Layers.{top, closed}
 
@@ -11,7 +12,8 @@ pub record Head (T : Type 0) : Type 0 where
 
 abbrev pub heads : {T : Type 0} → List ℕ → List (List T) → List (List Bounds) → List (Head T)
 heads [] ls bs = []
-heads (p ∷ ps) ls bs = record { place = p; locals = top ls; bounds = reverse (top bs) } ∷ heads ps (closed ls) (closed bs)
+heads (p ∷ ps) ls bs = record { place = p; locals = top ls; bounds = reverse (top bs) } ∷
+    heads ps (closed ls) (closed bs)
 
 abbrev pub new_head : {T : Type 0} → ℕ → Head T
 new_head place = record { place = place; locals = []; bounds = [] }

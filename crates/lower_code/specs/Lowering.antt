@@ -1,7 +1,9 @@
 -- The code of each form: one case for each, as the meaning has them.
-use Rattle.std.specs.Prelude.{ℕ, suc, length, neg_ℤ, ◌+◌, nat_eq, List, [], ◌∷◌, Option, Some, None, Bool, true, false, cond}
+use Rattle.std.specs.Prelude.{ℕ, suc, length, neg_ℤ, ◌+◌, nat_eq, List, [], ◌∷◌, Option, Some, None}
+use Rattle.std.specs.Prelude.{Bool, true, false, cond}
 use Rattle.verse_base.specs.declared.places.Place.{Place}
-use Rattle.verse_tree.specs.Tree.{Bytes, Tree, tree, Shape, Trees, no_trees, more_trees, Holes, no_holes, more_holes, Givens, no_givens}
+use Rattle.verse_tree.specs.Tree.{Bytes, Tree, tree, Shape, Trees, no_trees, more_trees, Holes}
+use Rattle.verse_tree.specs.Tree.{no_holes, more_holes, Givens, no_givens}
 use Rattle.verse_tree.specs.Tree.{more_givens}
 use Rattle.verse_tree.specs.Tree as t
 use Rattle.verse_tree.specs.ItemTree.{FieldTree, FunTree}
@@ -13,19 +15,26 @@ use Rattle.verse_tree.specs.declared.tables.Ref.TheVariants as ref
 use Rattle.verse_code.specs.declared.operations.Op.{Op}
 use Rattle.verse_code.specs.declared.operations.Op.TheVariants as o
 use Rattle.verse_value.specs.Val.{Val, enum}
-use Rattle.verse_meaning.specs.Programs.{Program, same_name, ref_at, pattern_value, fields_of, fun_at}
+use Rattle.verse_meaning.specs.Programs.{Program, same_name, ref_at, pattern_value, fields_of}
+use Rattle.verse_meaning.specs.Programs.{fun_at}
 use Rattle.verse_meaning.specs.Residuals as form
-use Rattle.verse_meaning.specs.Residuals.{Form, Base, in_variable, in_self, in_object, nowhere, Binder, no_name, a_constant, a_variable}
+use Rattle.verse_meaning.specs.Residuals.{Form, Base, in_variable, in_self, in_object, nowhere}
+use Rattle.verse_meaning.specs.Residuals.{Binder, no_name, a_constant, a_variable}
 use Rattle.verse_meaning.specs.Residuals.{Generator, of_elements, of_entries, of_range}
-use Rattle.verse_meaning.specs.Evaluating.{Statement, statement_of, plain, defines, defers, generates, Callee, alone, of_object, of_value}
-use Rattle.verse_meaning.specs.Evaluating.{of_quotient, no_callee, none_left, number_of, picked, member_form, callee_of, spawned_callee}
+use Rattle.verse_meaning.specs.Evaluating.{Statement, statement_of, plain, defines, defers}
+use Rattle.verse_meaning.specs.Evaluating.{generates, Callee, alone, of_object, of_value}
+use Rattle.verse_meaning.specs.Evaluating.{of_quotient, no_callee, none_left, number_of, picked}
+use Rattle.verse_meaning.specs.Evaluating.{member_form, callee_of, spawned_callee}
 use Rattle.verse_meaning.specs.Evaluating.{base_of, mode_of, enum_member, class_ref}
-use Rattle.lower_code.specs.Pieces.{Spot, Maker, past, nothing, one, placed, numbering, texted, kept, put_away, stuck, when, when_else}
+use Rattle.lower_code.specs.Pieces.{Spot, Maker, past, nothing, one, placed, numbering, texted}
+use Rattle.lower_code.specs.Pieces.{kept, put_away, stuck, when, when_else}
 use Rattle.lower_code.specs.Pieces.{ahead, either, looping, turning, group_of, arms_spot, ◌then◌}
 use Rattle.lower_code.specs.declared.arounds.Around.{Around}
-use Rattle.lower_code.specs.Scopes.{constant_at, variable_at, hidden, Scope, find, read_found, read_this, field_of_this, is_fixed}
+use Rattle.lower_code.specs.Scopes.{constant_at, variable_at, hidden, Scope, find, read_found}
+use Rattle.lower_code.specs.Scopes.{read_this, field_of_this, is_fixed}
 use Rattle.lower_code.specs.Scopes.{is_varies, this_found, push_fixed, push_varies}
-use Rattle.lower_code.specs.Arounds.{fresh, up, raised, looped, deferring, enclosed, returning, breaking}
+use Rattle.lower_code.specs.Arounds.{fresh, up, raised, looped, deferring, enclosed, returning}
+use Rattle.lower_code.specs.Arounds.{breaking}
 use Rattle.lower_code.specs.Applied.{finish, start, started, storing, slot_of, mode_number}
 use Rattle.lower_code.specs.Defaults.{default_number}
 
@@ -79,7 +88,8 @@ with_binder no_name sc = sc
 with_binder (a_constant x) sc = constant_at x ∷ sc
 with_binder (a_variable x pl) sc = variable_at x ∷ sc
 
--- the value of a definition goes into the local l, or into a variable's cell; then it is there again
+-- the value of a definition goes into the local l, or into a variable's cell; then it is there
+-- again
 abbrev pub bind : Binder → (l : ℕ) → Maker
 bind no_name l = nothing
 bind (a_constant x) l = kept l
@@ -119,7 +129,8 @@ keeps assign.Set b = b
 keeps x b = false
 
 -- how a callee is called
-unfoldable pub by_callee : Callee → (Form → Maker) → (Form → Maker) → (Form → Maker) → (Form → Maker) → Maker
+unfoldable pub by_callee : Callee → (Form → Maker) → (Form → Maker) → (Form → Maker) →
+    (Form → Maker) → Maker
 by_callee (alone f) on_alone on_object on_value on_quotient = on_alone f
 by_callee (of_object f) on_alone on_object on_value on_quotient = on_object f
 by_callee (of_value f) on_alone on_object on_value on_quotient = on_value f
@@ -133,7 +144,8 @@ given_local x (more_givens y a gs) l = cond (same_name x y) (Some l) (given_loca
 
 -- kind 0 is `sync`, 1 is `race`, 2 is `rush`
 unfoldable pub grouped : (kind arms : ℕ) → Place → (Spot → List ℕ) → Maker → Maker
-grouped kind m pl begins arms s = group_of kind m pl s (arms_spot m s) (begins (arms_spot m s)) (arms (arms_spot m s))
+grouped kind m pl begins arms s =
+    group_of kind m pl s (arms_spot m s) (begins (arms_spot m s)) (arms (arms_spot m s))
 
 -- `differ` is whether two nodes have different types, by their numbers
 module _ (p : Program) (differ : ℕ → ℕ → Bool) where
@@ -171,11 +183,13 @@ module _ (p : Program) (differ : ℕ → ℕ → Bool) where
   -- all fields of a class, in their order; those that are given lie in locals from l on
   abbrev pub field_ops : List FieldTree → Givens → (l : ℕ) → Maker
   field_ops [] gs l = nothing
-  field_ops (f ∷ fs) gs l = field_op (given_local f.name gs l) f.default f.number then field_ops fs gs l
+  field_ops (f ∷ fs) gs l = field_op (given_local f.name gs l) f.default f.number then field_ops fs
+      gs l
 
   unfoldable pub instance_of : Option ℕ → Place → Givens → (l : ℕ) → Maker → Maker
   instance_of None pl gs l given = stuck
-  instance_of (Some c) pl gs l given = given then field_ops (fields_of p c) gs l then placed pl (o.Object c)
+  instance_of (Some c) pl gs l given =
+      given then field_ops (fields_of p c) gs l then placed pl (o.Object c)
 
   unfoldable pub named : Option Ref → Bytes → Scope → Maker
   named (Some (ref.Field c n)) x sc = field_of_this (this_found sc) n
@@ -228,7 +242,8 @@ module _ (p : Program) (differ : ℕ → ℕ → Bool) where
   unfoldable pub stated : Statement → Scope → (whole inner : Maker) → Maker
   stated plain sc whole inner = whole
   stated (defines b) sc whole inner = inner then bind b (length sc)
-  stated (defers d) sc whole inner = ahead o.Defer (inner then one o.Drop then one o.DeferEnd) then one o.Unit
+  stated (defers d) sc whole inner =
+      ahead o.Defer (inner then one o.Drop then one o.DeferEnd) then one o.Unit
   stated (generates g) sc whole inner = stuck
 
   abbrev pub around_stated : Statement → Around → Around
@@ -236,11 +251,14 @@ module _ (p : Program) (differ : ℕ → ℕ → Bool) where
   around_stated other a = a
 
   -- a clause of a `for`, with what comes behind it
-  unfoldable pub claused : Statement → Scope → (whole inner : Maker) → (rest : Scope → Maker) → Maker
+  unfoldable pub claused : Statement → Scope → (whole inner : Maker) → (rest : Scope → Maker) →
+      Maker
   claused plain sc whole inner rest = whole then one o.Drop then rest sc
-  claused (defines b) sc whole inner rest = inner then bind b (length sc) then one o.Drop then rest (with_binder b sc)
+  claused (defines b) sc whole inner rest =
+      inner then bind b (length sc) then one o.Drop then rest (with_binder b sc)
   claused (defers d) sc whole inner rest = stuck
-  claused (generates g) sc whole inner rest = inner then turning (taking g (length sc)) (length sc) (rest (with_generator g sc))
+  claused (generates g) sc whole inner rest =
+      inner then turning (taking g (length sc)) (length sc) (rest (with_generator g sc))
 
   abbrev mutual
     pub piece : Tree → Scope → Around → Maker
@@ -250,47 +268,63 @@ module _ (p : Program) (differ : ℕ → ℕ → Bool) where
     -- blocks and statements
     shape_piece (t.Shape.block cs) n pl sc a = statements cs sc a
     shape_piece (t.Shape.defer b) n pl sc a = stuck
-    shape_piece (t.Shape.definition x b) n pl sc a = piece b sc a then bind (a_constant x) (length sc)
+    shape_piece (t.Shape.definition x b) n pl sc a =
+        piece b sc a then bind (a_constant x) (length sc)
     shape_piece (t.Shape.typed x w b) n pl sc a = piece b sc a then bind (a_constant x) (length sc)
-    shape_piece (t.Shape.variable x w b) n pl sc a = piece b sc a then bind (a_variable x pl) (length sc)
+    shape_piece (t.Shape.variable x w b) n pl sc a =
+        piece b sc a then bind (a_variable x pl) (length sc)
     shape_piece (t.Shape.assignment x b c) n pl sc a =
-        target_piece b (base_of p b) sc a then piece c sc (up (raised (target_operands b) a)) then when_else (has_base b (base_of p b) sc)
-        (numbering pl (λ m. storing (o.Store (slot_of (base_of p b)) (target_operands b) (mode_number (mode_of x)) m) (keeps x (differ (number_of b)
-        (number_of c))) (length sc)))
+        target_piece b (base_of p b) sc a then piece c sc (up (raised (target_operands b) a))
+        then when_else (has_base b (base_of p b) sc)
+        (numbering pl (λ m. storing (o.Store (slot_of (base_of p b)) (target_operands b)
+        (mode_number (mode_of x)) m) (keeps x (differ (number_of b) (number_of c))) (length sc)))
     shape_piece (t.Shape.returned b) n pl sc a = piece b sc a then returning a
     shape_piece t.Shape.returned_unit n pl sc a = one o.Unit then returning a
     shape_piece t.Shape.break_form n pl sc a = breaking a
     -- failure contexts
     shape_piece (t.Shape.if_else cs b c) n pl sc a =
-        either o.Try (statements cs sc (enclosed a) then one o.Drop then one o.Commit then piece b (scope_behind cs sc) a) (piece c sc a)
+        either o.Try (statements cs sc (enclosed a) then one o.Drop then one o.Commit then piece b
+        (scope_behind cs sc) a) (piece c sc a)
     shape_piece (t.Shape.if_alone cs b) n pl sc a =
-        either o.Try (statements cs sc (enclosed a) then one o.Drop then one o.Commit then piece b (scope_behind cs sc) a) (one o.Unit)
-    shape_piece (t.Shape.negation b) n pl sc a = ahead o.Try (piece b sc (enclosed a) then one o.Drop then one o.Undo then one o.Fail) then one o.Unit
+        either o.Try (statements cs sc (enclosed a) then one o.Drop then one o.Commit then piece b
+        (scope_behind cs sc) a) (one o.Unit)
+    shape_piece (t.Shape.negation b) n pl sc a =
+        ahead o.Try (piece b sc (enclosed a) then one o.Drop then one o.Undo then one o.Fail)
+        then one o.Unit
     shape_piece (t.Shape.option cs) n pl sc a =
-        either o.Try (statements cs sc (enclosed a) then one o.Commit then placed pl o.Some) (one o.False)
+        either o.Try (statements cs sc (enclosed a) then one o.Commit then placed pl o.Some)
+        (one o.False)
     shape_piece (t.Shape.logic cs) n pl sc a =
-        either o.Try (statements cs sc (enclosed a) then one o.Drop then one o.Commit then one o.True) (one o.False)
-    shape_piece (t.Shape.chained op.Or b c) n pl sc a = either o.Try (piece b sc (enclosed a) then one o.Commit) (piece c sc a)
-    shape_piece (t.Shape.for_form cs b) n pl sc a = numbering pl (λ m. one (o.Array 0 m) then put_away (length sc) then
-        ahead o.Try (levels cs (hidden ∷ sc) (enclosed a) (λ inside. one o.Commit then piece b inside a then one (o.Append (length sc) m))) then
-        one (o.Get (length sc)))
+        either o.Try (statements cs sc (enclosed a) then one o.Drop then one o.Commit then one
+        o.True) (one o.False)
+    shape_piece (t.Shape.chained op.Or b c) n pl sc a =
+        either o.Try (piece b sc (enclosed a) then one o.Commit) (piece c sc a)
+    shape_piece (t.Shape.for_form cs b) n pl sc a =
+        numbering pl (λ m. one (o.Array 0 m) then put_away (length sc) then ahead o.Try
+        (levels cs (hidden ∷ sc) (enclosed a)
+        (λ inside. one o.Commit then piece b inside a then one (o.Append (length sc) m))) then one
+        (o.Get (length sc)))
     -- operators
     shape_piece (t.Shape.chained op.Div b c) n pl sc a = stuck
-    shape_piece (t.Shape.chained op.And b c) n pl sc a = piece b sc a then one o.Drop then piece c sc a
-    shape_piece (t.Shape.chained x b c) n pl sc a = piece b sc a then piece c sc (up a) then finish (form.computing x (p.is_array n) pl) 2 true
-    shape_piece (t.Shape.compared x b c) n pl sc a = piece b sc a then piece c sc (up a) then finish (form.comparing x) 2 true
+    shape_piece (t.Shape.chained op.And b c) n pl sc a =
+        piece b sc a then one o.Drop then piece c sc a
+    shape_piece (t.Shape.chained x b c) n pl sc a =
+        piece b sc a then piece c sc (up a) then finish (form.computing x (p.is_array n) pl) 2 true
+    shape_piece (t.Shape.compared x b c) n pl sc a =
+        piece b sc a then piece c sc (up a) then finish (form.comparing x) 2 true
     shape_piece (t.Shape.minus b) n pl sc a = piece b sc a then finish (form.negating pl) 1 true
     shape_piece (t.Shape.query b) n pl sc a = piece b sc a then finish form.querying 1 true
     -- members, calls, indices
     shape_piece (t.Shape.member b x) n pl sc a =
         membered (enum_member p b x) (piece b sc a then finish (member_form (ref_at p n) x) 1 true)
     shape_piece (t.Shape.call b ts) n pl sc a = by_callee (callee_of p b (picked ts) pl)
-        (λ f. start f sc then args ts sc (started f a) then finish f (how_many ts) (form_fits f (how_many ts) sc))
+        (λ f. start f sc then args ts sc (started f a) then finish f (how_many ts)
+        (form_fits f (how_many ts) sc))
         (λ f. inner b sc a then args ts sc (up a) then finish f (how_many ts) true)
-        (λ f. piece b sc a then finish f 0 true)
-        (λ f. quotient ts sc a then finish f 2 true)
+        (λ f. piece b sc a then finish f 0 true) (λ f. quotient ts sc a then finish f 2 true)
     shape_piece (t.Shape.index b ts) n pl sc a = by_callee (callee_of p b form.indexing pl)
-        (λ f. start f sc then args ts sc (started f a) then finish f (how_many ts) (form_fits f (how_many ts) sc))
+        (λ f. start f sc then args ts sc (started f a) then finish f (how_many ts)
+        (form_fits f (how_many ts) sc))
         (λ f. inner b sc a then args ts sc (up a) then finish f (how_many ts) true)
         (λ f. piece b sc a then args ts sc (up a) then finish f (how_many ts) true)
         (λ f. quotient ts sc a then finish f 2 true)
@@ -298,48 +332,62 @@ module _ (p : Program) (differ : ℕ → ℕ → Bool) where
     shape_piece (t.Shape.integer z) n pl sc a = one (o.Int z)
     shape_piece (t.Shape.character c) n pl sc a = one (o.Char c)
     shape_piece (t.Shape.text bs) n pl sc a = texted bs
-    shape_piece (t.Shape.holes bs hs) n pl sc a = text_if bs then holed hs sc (raised (one_if (is_text bs) 0) a) then
-        finish (form.joining [] pl) (one_if (is_text bs) (joined_parts hs)) true
+    shape_piece (t.Shape.holes bs hs) n pl sc a =
+        text_if bs then holed hs sc (raised (one_if (is_text bs) 0) a) then finish
+        (form.joining [] pl) (one_if (is_text bs) (joined_parts hs)) true
     shape_piece t.Shape.truth n pl sc a = one o.True
     shape_piece t.Shape.falsehood n pl sc a = one o.False
     shape_piece t.Shape.this n pl sc a = read_this (this_found sc)
     shape_piece (t.Shape.name x) n pl sc a = named (ref_at p n) x sc
     -- values that are made
-    shape_piece (t.Shape.tuple ts) n pl sc a = args ts sc a then finish (form.making_tuple pl) (how_many ts) true
-    shape_piece (t.Shape.array ts) n pl sc a = args ts sc a then finish (form.making_array pl) (how_many ts) true
-    shape_piece (t.Shape.mapping ps) n pl sc a = paired_args ps sc a then finish (form.making_map pl) (pairs_in ps) true
-    shape_piece (t.Shape.instance x gs) n pl sc a = instance_of (class_ref p (ref_at p n)) pl gs (length sc) (given_args gs sc a)
+    shape_piece (t.Shape.tuple ts) n pl sc a =
+        args ts sc a then finish (form.making_tuple pl) (how_many ts) true
+    shape_piece (t.Shape.array ts) n pl sc a =
+        args ts sc a then finish (form.making_array pl) (how_many ts) true
+    shape_piece (t.Shape.mapping ps) n pl sc a =
+        paired_args ps sc a then finish (form.making_map pl) (pairs_in ps) true
+    shape_piece (t.Shape.instance x gs) n pl sc a =
+        instance_of (class_ref p (ref_at p n)) pl gs (length sc) (given_args gs sc a)
     shape_piece (t.Shape.event w) n pl sc a = placed pl o.Event
     shape_piece t.Shape.bare_event n pl sc a = placed pl o.Event
     -- loops and blocks
     shape_piece (t.Shape.loop_form b) n pl sc a = looping (piece b sc (looped a))
     shape_piece (t.Shape.block_form b) n pl sc a = piece b sc a
-    shape_piece (t.Shape.cases b ts) n pl sc a = piece b sc a then put_away (length sc) then arms ts (length sc) (hidden ∷ sc) a
+    shape_piece (t.Shape.cases b ts) n pl sc a =
+        piece b sc a then put_away (length sc) then arms ts (length sc) (hidden ∷ sc) a
     -- tasks
     shape_piece (t.Shape.branch b) n pl sc a = ahead o.Branch (piece b sc fresh then one o.ArmEnd)
-    shape_piece (t.Shape.sync ts) n pl sc a = grouped 0 (how_many ts) pl (arm_spots ts sc) (task_arms ts sc)
-    shape_piece (t.Shape.race ts) n pl sc a = grouped 1 (how_many ts) pl (arm_spots ts sc) (task_arms ts sc)
-    shape_piece (t.Shape.rush ts) n pl sc a = grouped 2 (how_many ts) pl (arm_spots ts sc) (task_arms ts sc)
+    shape_piece (t.Shape.sync ts) n pl sc a =
+        grouped 0 (how_many ts) pl (arm_spots ts sc) (task_arms ts sc)
+    shape_piece (t.Shape.race ts) n pl sc a =
+        grouped 1 (how_many ts) pl (arm_spots ts sc) (task_arms ts sc)
+    shape_piece (t.Shape.rush ts) n pl sc a =
+        grouped 2 (how_many ts) pl (arm_spots ts sc) (task_arms ts sc)
     shape_piece (t.Shape.spawn b) n pl sc a = spawned b sc a
     shape_piece (t.Shape.sleep d) n pl sc a = one (o.Sleep d)
     shape_piece t.Shape.sleep_forever n pl sc a = one o.Forever
     -- generators, arms of a `case` and patterns are no forms of their own
     shape_piece s n pl sc a = stuck
 
-    -- statements or conditions, the last one's value stays; where there is a deferred block, it runs behind them
+    -- statements or conditions, the last one's value stays; where there is a deferred block, it
+    -- runs behind them
     pub statements : Trees → Scope → Around → Maker
     statements no_trees sc a = one o.Unit
-    statements (more_trees b cs) sc a = stated (statement_of b) sc (piece b sc a) (inner b sc a) then
-        more_statements cs (scope_stated (statement_of b) sc) (around_stated (statement_of b) a) then
-        when (any_defer (more_trees b cs)) (one (o.Leave a.defers))
+    statements (more_trees b cs) sc a =
+        stated (statement_of b) sc (piece b sc a) (inner b sc a) then more_statements cs
+        (scope_stated (statement_of b) sc) (around_stated (statement_of b) a) then when
+        (any_defer (more_trees b cs)) (one (o.Leave a.defers))
 
     -- those behind the first
     pub more_statements : Trees → Scope → Around → Maker
     more_statements no_trees sc a = nothing
-    more_statements (more_trees b cs) sc a = one o.Drop then stated (statement_of b) sc (piece b sc a) (inner b sc a) then
-        more_statements cs (scope_stated (statement_of b) sc) (around_stated (statement_of b) a)
+    more_statements (more_trees b cs) sc a =
+        one o.Drop then stated (statement_of b) sc (piece b sc a) (inner b sc a)
+        then more_statements cs (scope_stated (statement_of b) sc)
+        (around_stated (statement_of b) a)
 
-    -- the part of a definition, a deferred block, the object of a member, the domain of a generator or both ends of its range
+    -- the part of a definition, a deferred block, the object of a member, the domain of a generator
+    -- or both ends of its range
     pub inner : Tree → Scope → Around → Maker
     inner (tree n pl s) sc a = inner_shape s sc a
 
@@ -361,16 +409,19 @@ module _ (p : Program) (differ : ℕ → ℕ → Bool) where
 
     pub holed : Holes → Scope → Around → Maker
     holed no_holes sc a = nothing
-    holed (more_holes b bs hs) sc a = piece b sc a then text_if bs then holed hs sc (raised (suc (one_if (is_text bs) 0)) a)
+    holed (more_holes b bs hs) sc a =
+        piece b sc a then text_if bs then holed hs sc (raised (suc (one_if (is_text bs) 0)) a)
 
     pub paired_args : t.Pairs → Scope → Around → Maker
     paired_args t.Pairs.no_pairs sc a = nothing
-    paired_args (t.Pairs.more_pairs b c ps) sc a = piece b sc a then piece c sc (up a) then paired_args ps sc (up (up a))
+    paired_args (t.Pairs.more_pairs b c ps) sc a =
+        piece b sc a then piece c sc (up a) then paired_args ps sc (up (up a))
 
     -- each value that an instance is given goes into a local
     pub given_args : Givens → Scope → Around → Maker
     given_args no_givens sc a = nothing
-    given_args (more_givens x b gs) sc a = piece b sc a then put_away (length sc) then given_args gs (hidden ∷ sc) a
+    given_args (more_givens x b gs) sc a =
+        piece b sc a then put_away (length sc) then given_args gs (hidden ∷ sc) a
 
     -- Floor and Ceil take the dividend and the divisor of their one argument
     pub quotient : Trees → Scope → Around → Maker
@@ -391,13 +442,15 @@ module _ (p : Program) (differ : ℕ → ℕ → Bool) where
     pub target_shape : Shape → Base → Scope → Around → Maker
     target_shape (t.Shape.name x) base sc a = base_code base sc
     target_shape (t.Shape.member b x) base sc a = piece b sc a
-    target_shape (t.Shape.index b ts) base sc a = target_piece b base sc a then args ts sc (up (raised (target_operands b) a))
+    target_shape (t.Shape.index b ts) base sc a =
+        target_piece b base sc a then args ts sc (up (raised (target_operands b) a))
     target_shape s base sc a = stuck
 
     -- the clauses of a `for`; behind the last stands the body
     pub levels : Trees → Scope → Around → (body : Scope → Maker) → Maker
     levels no_trees sc a body = body sc
-    levels (more_trees c cs) sc a body = claused (statement_of c) sc (piece c sc a) (inner c sc a) (λ sc. levels cs sc a body)
+    levels (more_trees c cs) sc a body =
+        claused (statement_of c) sc (piece c sc a) (inner c sc a) (λ sc. levels cs sc a body)
 
     -- the arms of a `case` whose subject is in local l
     pub arms : Trees → (l : ℕ) → Scope → Around → Maker
@@ -418,16 +471,18 @@ module _ (p : Program) (differ : ℕ → ℕ → Bool) where
     -- where the arms begin
     pub arm_spots : Trees → Scope → Spot → List ℕ
     arm_spots no_trees sc s = []
-    arm_spots (more_trees b ts) sc s = s.at ∷ arm_spots ts sc (past s ((piece b sc fresh then one o.ArmEnd) s))
+    arm_spots (more_trees b ts) sc s =
+        s.at ∷ arm_spots ts sc (past s ((piece b sc fresh then one o.ArmEnd) s))
 
     -- the call that a `spawn` starts
     pub spawned : Tree → Scope → Around → Maker
     spawned (tree n pl s) sc a = spawned_shape s pl sc a
 
     pub spawned_shape : Shape → Place → Scope → Around → Maker
-    spawned_shape (t.Shape.call b ts) pl sc a = by_callee (spawned_callee (callee_of p b (form.picking None) pl))
-        (λ f. start f sc then args ts sc (started f a) then finish f (how_many ts) (form_fits f (how_many ts) sc))
-        (λ f. inner b sc a then args ts sc (up a) then finish f (how_many ts) true)
-        (λ f. stuck)
+    spawned_shape (t.Shape.call b ts) pl sc a =
+        by_callee (spawned_callee (callee_of p b (form.picking None) pl))
+        (λ f. start f sc then args ts sc (started f a) then finish f (how_many ts)
+        (form_fits f (how_many ts) sc))
+        (λ f. inner b sc a then args ts sc (up a) then finish f (how_many ts) true) (λ f. stuck)
         (λ f. stuck)
     spawned_shape s pl sc a = stuck

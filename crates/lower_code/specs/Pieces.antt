@@ -1,22 +1,27 @@
--- Stretches of code, and how they are put together. A label is the place of the spot at which it stands.
-use Rattle.std.specs.Prelude.{max, ℕ, zero, suc, ◌-◌, List, [], ◌∷◌, ◌++◌, map, Bool, true, false, cond}
+-- Stretches of code, and how they are put together. A label is the place of the spot at which it
+-- stands.
+use Rattle.std.specs.Prelude.{max, ℕ, zero, suc, ◌-◌, List, [], ◌∷◌, ◌++◌, map, Bool, true, false}
+use Rattle.std.specs.Prelude.{cond}
 use Rattle.verse_base.specs.declared.places.Place.{Place}
 use Rattle.verse_tree.specs.Tree.{Bytes}
 use Rattle.verse_code.specs.declared.operations.Op.{Op}
 use Rattle.verse_code.specs.declared.operations.Op.TheVariants as o
 
--- where a stretch begins: the index of its first operation, and the number of the next place and text of the tables
+-- where a stretch begins: the index of its first operation, and the number of the next place and
+-- text of the tables
 pub record Spot : Type 0 where
   pub at : ℕ
   pub place : ℕ
   pub text : ℕ
 
--- an operation, or a jump out of the innermost loop, with the number of operands above those of the loop
+-- an operation, or a jump out of the innermost loop, with the number of operands above those of the
+-- loop
 pub data Item : Type 0 where
   sure : Op → Item
   leaving : (height : ℕ) → Item
 
--- a stretch: its operations, the places and texts that it adds to the tables, and how many locals a frame needs for it
+-- a stretch: its operations, the places and texts that it adds to the tables, and how many locals a
+-- frame needs for it
 pub record Piece : Type 0 where
   pub items : List Item
   pub places : List Place
@@ -83,7 +88,8 @@ placed pl op s = record { items = sure (op s.place) ∷ []; places = pl ∷ []; 
 
 -- a new place, and what uses its number
 abbrev pub numbering : Place → (ℕ → Maker) → Maker
-numbering pl f s = joined_at s (record { items = []; places = pl ∷ []; texts = []; locals = 0 }) (f s.place)
+numbering pl f s = joined_at s (record { items = []; places = pl ∷ []; texts = []; locals = 0 })
+    (f s.place)
 
 abbrev pub texted : Bytes → Maker
 texted bs s = record { items = sure (o.Text s.text) ∷ []; places = []; texts = bs ∷ []; locals = 0 }
@@ -139,8 +145,8 @@ either_from op p s g = either_of op p s (g s)
 abbrev pub either : (ℕ → Op) → Maker → Maker → Maker
 either op f g s = either_from op (f (next s)) (next (past (next s) (f (next s)))) g
 
--- Loops: what leaves one is closed where the loop is complete. With n operands above the loop's, it goes on at the n-th last Drop
--- before `out`.
+-- Loops: what leaves one is closed where the loop is complete. With n operands above the loop's, it
+-- goes on at the n-th last Drop before `out`.
 abbrev pub closed : (out : ℕ) → Item → Item
 closed out (sure op) = sure op
 closed out (leaving n) = sure (o.Jump (out - n))
@@ -161,7 +167,8 @@ from_here f s = f s.at s
 -- a loop whose operations are p, which begins at s and ends before e
 abbrev pub closing_of : Piece → (e : Spot) → Piece
 closing_of p e = record {
-  items = map (closed (later (deepest p.items) e.at)) p.items ++ drops (deepest p.items) (sure o.Unit ∷ []);
+  items = map (closed (later (deepest p.items) e.at)) p.items ++
+      drops (deepest p.items) (sure o.Unit ∷ []);
   places = p.places;
   texts = p.texts;
   locals = p.locals;
@@ -179,9 +186,9 @@ looping f = closing (from_here (λ a. ahead o.Jump (f then one o.Drop) then one 
 abbrev pub using_locals : (n : ℕ) → Maker
 using_locals n s = plain [] n
 
--- Turns of a generator: its domain, or both ends of its range, are on the stack. The local of the domain is the first of four from l on,
--- that of the element the third.
--- Commit; Each or Range; Jump T; B: Try T; the clauses and what is in them; T: Take B
+-- Turns of a generator: its domain, or both ends of its range, are on the stack. The local of the
+-- domain is the first of four from l on, that of the element the third. Commit; Each or Range; Jump
+-- T; B: Try T; the clauses and what is in them; T: Take B
 abbrev pub turning : Op → (l : ℕ) → Maker → Maker
 turning op l f = using_locals (suc (suc (suc (suc l)))) then one o.Commit then one op then
     from_here (λ a. ahead o.Jump (ahead o.Try f) then one (o.Take l (suc (suc l)) (suc a)))

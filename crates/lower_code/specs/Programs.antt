@@ -1,7 +1,9 @@
 -- The code of a whole program: its functions, then the defaults of fields, and its tables.
-use Rattle.std.specs.Prelude.{max, ℕ, suc, ◌+◌, List, [], ◌∷◌, ◌++◌, length, map, codes, Option, Some, None, Bool, true, false, cond}
+use Rattle.std.specs.Prelude.{max, ℕ, suc, ◌+◌, List, [], ◌∷◌, ◌++◌, length, map, codes, Option}
+use Rattle.std.specs.Prelude.{Some, None, Bool, true, false, cond}
 use Rattle.verse_tree.specs.Tree.{Bytes, Tree}
-use Rattle.verse_tree.specs.ItemTree.{SpecTree, FieldTree, FunTree, ParamTree, MemberTree, field, method, ItemTree, using}
+use Rattle.verse_tree.specs.ItemTree.{SpecTree, FieldTree, FunTree, ParamTree, MemberTree, field}
+use Rattle.verse_tree.specs.ItemTree.{method, ItemTree, using}
 use Rattle.verse_tree.specs.ItemTree.{enumeration, class, function}
 use Rattle.verse_tree.specs.declared.tables.ClassInfo.{ClassInfo}
 use Rattle.verse_code.specs.declared.operations.Op.{Op}
@@ -11,7 +13,8 @@ use Rattle.verse_code.specs.declared.codes.Class.{Class}
 use Rattle.verse_code.specs.declared.codes.Code.{Code}
 use Rattle.verse_meaning.specs.Programs.{Program, same_name, main_name}
 use Rattle.verse_meaning.specs.Forms.{this_name}
-use Rattle.lower_code.specs.Pieces.{Spot, Item, sure, leaving, Piece, Maker, past, nothing, one, ◌then◌}
+use Rattle.lower_code.specs.Pieces.{Spot, Item, sure, leaving, Piece, Maker, past, nothing, one}
+use Rattle.lower_code.specs.Pieces.{◌then◌}
 use Rattle.lower_code.specs.Scopes.{Scope, constant_at}
 use Rattle.lower_code.specs.Arounds.{fresh}
 use Rattle.lower_code.specs.Defaults.{defaults_in}

@@ -1,6 +1,7 @@
 -- What one item, or one member, adds to the lists of a program.
 use Rattle.std.specs.Prelude.{List, [], ◌∷◌, ◌++◌}
-use Rattle.verse_tree.specs.ItemTree.{EnumTree, FieldTree, MemberTree, field, method, ItemTree, using, enumeration, class, function}
+use Rattle.verse_tree.specs.ItemTree.{EnumTree, FieldTree, MemberTree, field, method, ItemTree}
+use Rattle.verse_tree.specs.ItemTree.{using, enumeration, class, function}
 use Rattle.verse_tree.specs.declared.items.Item.{Item}
 use Rattle.verse_tree.specs.declared.items.Item.TheVariants as item
 use Rattle.verse_tree.specs.declared.items.ClassItem.{ClassItem}

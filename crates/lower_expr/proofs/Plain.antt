@@ -25,10 +25,12 @@ made_when_else false f b = refl
 
 pub leaving_some : (n : ℕ) (a : Around) (b : Built) → n < a.defers → made (leaving_to n a) b ≡ pushed (o.Leave n) b
 leaving_some n a b h =
-    made_when (nat_lt n a.defers) (one (o.Leave n)) b ∙ ap (λ c. cond c (made (one (o.Leave n)) b) b) (lt-ltb n a.defers h) ∙ made_one (o.Leave n) b
+    made_when (nat_lt n a.defers) (one (o.Leave n)) b ∙ ap (λ c. cond c (made (one (o.Leave n)) b) b) (lt-ltb n a.defers h) ∙
+    made_one (o.Leave n) b
 
 pub leaving_none : (n : ℕ) (a : Around) (b : Built) → a.defers ≤ n → made (leaving_to n a) b ≡ b
-leaving_none n a b h = made_when (nat_lt n a.defers) (one (o.Leave n)) b ∙ ap (λ c. cond c (made (one (o.Leave n)) b) b) (le-ltb n a.defers h)
+leaving_none n a b h = made_when (nat_lt n a.defers) (one (o.Leave n)) b ∙
+    ap (λ c. cond c (made (one (o.Leave n)) b) b) (le-ltb n a.defers h)
 
 pub no_text : (bs : Bytes) (b : Built) → length bs < 1 → made (text_if bs) b ≡ b
 no_text [] b h = made_nothing b
@@ -40,7 +42,8 @@ vary_law p l b =
     made_then (placed p o.New) (kept l then one (o.Load 0)) b ∙ made_then (kept l) (one (o.Load 0)) (made (placed p o.New) b)
     ∙ made_one (o.Load 0) (made (kept l) (made (placed p o.New) b)) ∙ ap (λ c. pushed (o.Load 0) (made (kept l) c)) (made_placed p o.New b)
 
-pub storing_law : (op : Op) (l : ℕ) (b : Built) → made (storing op true l) b ≡ pushed (o.Get l) (pushed o.Drop (pushed op (made (kept l) b)))
+pub storing_law : (op : Op) (l : ℕ) (b : Built) →
+    made (storing op true l) b ≡ pushed (o.Get l) (pushed o.Drop (pushed op (made (kept l) b)))
 storing_law op l b =
     made_then (kept l) (one op then one o.Drop then one (o.Get l)) b ∙ search (made_then, made_one)
 

@@ -1,5 +1,6 @@
 -- The scope of the locals.
-use Rattle.std.proofs.Common.{◌≡◌, ℕ, suc, ◌+◌, ◌-◌, ◌<◌, List, [], ◌∷◌, ◌++◌, length, take, drop, Bool, true, false, cond, refl, sym, ap, ◌∙◌, arith, length-append, length-take-le, take_all, get_or, Some, None}
+use Rattle.std.proofs.Common.{◌≡◌, ℕ, suc, ◌+◌, ◌-◌, ◌<◌, List, [], ◌∷◌, ◌++◌, length, take, drop, Bool, true, false, cond, refl, sym, ap}
+use Rattle.std.proofs.Common.{◌∙◌, arith, length-append, length-take-le, take_all, get_or, Some, None}
 use Rattle.std.proofs.Math.Seq.{drop-append_seam}
 use Rattle.std.proofs.lemmas.List.{take_more}
 use Rattle.std.specs.Prelude.{◌≤◌}
@@ -63,7 +64,8 @@ found_later x (s.variable_at y) sc l h = by (same_name x y) h
 found_later x s.hidden sc l h = refl
 
 -- the slots below n
-below : (xs : List Slot) (m n : ℕ) (y : Slot) → m ≡ n + 1 → n < length xs → y ≡ get_or xs n y → scope_from (take m xs) [] ≡ slot_of y ∷ scope_from (take n xs) []
+below : (xs : List Slot) (m n : ℕ) (y : Slot) → m ≡ n + 1 → n < length xs → y ≡ get_or xs n y →
+    scope_from (take m xs) [] ≡ slot_of y ∷ scope_from (take n xs) []
 below xs m n y e h is =
     ap (λ k. scope_from (take k xs) []) e ∙ ap (λ k. scope_from k []) (take_more xs n y h) ∙ scope_more (take n xs) (get_or xs n y) []
     ∙ ap (λ z. slot_of z ∷ scope_from (take n xs) []) (sym is)
@@ -71,7 +73,8 @@ below xs m n y e h is =
 below_length : (xs : List Slot) (n : ℕ) → n ≤ length xs → length (scope_from (take n xs) []) ≡ n
 below_length xs n h = omega (arith, h, scope_length (take n xs) [], length-take-le n xs h)
 
-pub looks_from : (x : Bytes) (xs : List Slot) (n : ℕ) → n ≡ length (scope_from xs []) → s.find x (scope_from (take n xs) []) ≡ s.find x (scope_from xs [])
+pub looks_from : (x : Bytes) (xs : List Slot) (n : ℕ) → n ≡ length (scope_from xs []) →
+    s.find x (scope_from (take n xs) []) ≡ s.find x (scope_from xs [])
 looks_from x xs n e =
     let all : length xs ≤ n = omega (arith, e, scope_length xs []) in
     ap (λ k. s.find x (scope_from k [])) (take_all n xs all)
@@ -81,7 +84,8 @@ pub looks_at : (x : Bytes) (xs : List Slot) (m n : ℕ) (y : Slot) (r all : s.Fo
     found_in x (slot_of y) n ≡ Some r → s.find x (scope_from (take m xs) []) ≡ all → r ≡ all
 looks_at x xs m n y r all e h is f g =
     let long : n ≤ length xs = omega (arith, h) in
-    sym (found_first x (slot_of y) (scope_from (take n xs) []) r (ap (found_in x (slot_of y)) (below_length xs n long) ∙ f)) ∙ ap (s.find x) (sym (below xs m n y e h is)) ∙ g
+    sym (found_first x (slot_of y) (scope_from (take n xs) []) r (ap (found_in x (slot_of y)) (below_length xs n long) ∙ f)) ∙
+    ap (s.find x) (sym (below xs m n y e h is)) ∙ g
 
 pub looks_on : (x : Bytes) (xs : List Slot) (m n : ℕ) (y : Slot) (all : s.Found) → m ≡ n + 1 → n < length xs → y ≡ get_or xs n y →
     found_in x (slot_of y) n ≡ None → s.find x (scope_from (take m xs) []) ≡ all → s.find x (scope_from (take n xs) []) ≡ all

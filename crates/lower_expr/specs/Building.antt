@@ -1,5 +1,6 @@
 -- The code so far, what the builder's calls make of it, and what a stretch of code adds to it.
-use Rattle.std.specs.Prelude.{zero, drop, take, ◌-◌, max, ℕ, suc, List, [], ◌∷◌, ◌++◌, length, map, Option, Some, None, slice_get, slice_set}
+use Rattle.std.specs.Prelude.{zero, drop, take, ◌-◌, max, ℕ, suc, List, [], ◌∷◌, ◌++◌, length, map}
+use Rattle.std.specs.Prelude.{Option, Some, None, slice_get, slice_set}
 use Rattle.verse_base.specs.declared.places.Place.{Place}
 use Rattle.verse_tree.specs.Tree.{Bytes}
 use Rattle.verse_code.specs.declared.operations.Op.{Op}
@@ -7,8 +8,9 @@ use Rattle.verse_code.specs.declared.operations.Op.TheVariants as o
 use Rattle.lower_code.specs.Pieces.{Spot, Item, sure, leaving, Piece, Maker}
 use Rattle.lower_expr.specs.declared.builder.Builder.{Builder}
 
--- the operations so far, in which a label that is open is 0; the indices of the jumps that leave the innermost loop, in which a label
--- is the number of operands above those of the loop; the tables; how many locals are needed
+-- the operations so far, in which a label that is open is 0; the indices of the jumps that leave
+-- the innermost loop, in which a label is the number of operands above those of the loop; the
+-- tables; how many locals are needed
 pub record Built : Type 0 where
   pub ops : List Op
   pub exits : List ℕ
@@ -17,7 +19,13 @@ pub record Built : Type 0 where
   pub locals : ℕ
 
 unfoldable pub built : Builder → Built
-built b = record { ops = b.ops.items; exits = b.exits.items; places = b.places; texts = b.texts; locals = b.locals }
+built b = record {
+  ops = b.ops.items;
+  exits = b.exits.items;
+  places = b.places;
+  texts = b.texts;
+  locals = b.locals;
+}
 
 abbrev pub empty : Built
 empty = record { ops = []; exits = []; places = []; texts = []; locals = 0 }

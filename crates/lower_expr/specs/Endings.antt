@@ -2,7 +2,8 @@
 use Rattle.std.specs.Prelude.{ℕ}
 use Rattle.verse_code.specs.declared.operations.Op.{Op}
 use Rattle.verse_code.specs.declared.operations.Op.TheVariants as o
-use Rattle.lower_code.specs.Pieces.{Maker, nothing, one, placed, numbering, put_away, kept, stuck, when_else, ◌then◌}
+use Rattle.lower_code.specs.Pieces.{Maker, nothing, one, placed, numbering, put_away, kept, stuck}
+use Rattle.lower_code.specs.Pieces.{when_else, ◌then◌}
 use Rattle.lower_code.specs.Arounds.{returning, breaking}
 use Rattle.lower_code.specs.Applied.{storing, dropping}
 use Rattle.lower_expr.specs.declared.endings.Ending.{Ending}

@@ -66,8 +66,8 @@ fn picking(number: Option<u64>) -> Result<Ending, Memory>
     }
 }
 
-/// The operations of an action on so many operands; whether a called function takes so many, or there
-/// is the object of the method.
+/// The operations of an action on so many operands; whether a called function takes so many, or
+/// there is the object of the method.
 pub fn applied(action: Action, count: u32, fits: bool) -> Result<Ending, Memory>
     ensures { IfOk result (λ ending. ending_code ending ≡ p.finish (form_of action) count fits) }
 {

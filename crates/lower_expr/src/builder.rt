@@ -3,8 +3,10 @@
 ghost use Rattle.std.specs.Prelude.{◌≡◌, ◌↔◌, IsTrue, [], suc, length, drop, slice_get, OnOk, IfOk};
 ghost use Rattle.lower_expr.specs.Building.{built, empty, pushed, with_place, with_text};
 ghost use Rattle.lower_expr.specs.Building.{with_local, with_locals, patched, ended_here};
-ghost use Rattle.lower_expr.specs.Building.{relabelled, opened_jump, height_of, deepest_at, dropped};
-ghost use Rattle.lower_expr.specs.Building.{led_out, exit_closed, all_closed, with_exits, loop_ended};
+ghost use Rattle.lower_expr.specs.Building.{relabelled, opened_jump, height_of, deepest_at};
+ghost use Rattle.lower_expr.specs.Building.{dropped};
+ghost use Rattle.lower_expr.specs.Building.{led_out, exit_closed, all_closed, with_exits};
+ghost use Rattle.lower_expr.specs.Building.{loop_ended};
 
 use std::alloc::Global;
 use verse_base::limits::MOST_OPERATIONS;

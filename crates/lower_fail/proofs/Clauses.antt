@@ -18,7 +18,8 @@ module _ (p : Program) (k : ℕ → ℕ → Bool) (sc : Scope) where
   unfolding stated
   stated_plain whole inner b = refl
 
-  pub stated_defines : (x : Binder) (whole inner : Maker) (b : Built) → made (stated p k (defines x) sc whole inner) b ≡ made (bind x (length sc)) (made inner b)
+  pub stated_defines : (x : Binder) (whole inner : Maker) (b : Built) →
+      made (stated p k (defines x) sc whole inner) b ≡ made (bind x (length sc)) (made inner b)
   unfolding stated
   stated_defines x whole inner b = made_then inner (bind x (length sc)) b
 
@@ -35,16 +36,18 @@ module _ (p : Program) (k : ℕ → ℕ → Bool) (sc : Scope) where
       made (claused p k plain sc whole inner rest) b ≡ made (rest sc) (pushed o.Drop (made whole b))
   unfolding claused
   claused_plain whole inner rest b =
-      made_then whole (one o.Drop then rest sc) b ∙ made_then (one o.Drop) (rest sc) (made whole b) ∙ ap (made (rest sc)) (made_one o.Drop (made whole b))
+      made_then whole (one o.Drop then rest sc) b ∙ made_then (one o.Drop) (rest sc) (made whole b) ∙
+      ap (made (rest sc)) (made_one o.Drop (made whole b))
 
   pub claused_defines : (x : Binder) (whole inner : Maker) (rest : Scope → Maker) (b : Built) →
-      made (claused p k (defines x) sc whole inner rest) b ≡ made (rest (with_binder x sc)) (pushed o.Drop (made (bind x (length sc)) (made inner b)))
+      made (claused p k (defines x) sc whole inner rest) b ≡
+      made (rest (with_binder x sc)) (pushed o.Drop (made (bind x (length sc)) (made inner b)))
   unfolding claused
   claused_defines x whole inner rest b =
       let f : Maker = bind x (length sc) in
       let r : Maker = rest (with_binder x sc) in
-      made_then inner (f then one o.Drop then r) b ∙ made_then f (one o.Drop then r) (made inner b) ∙ made_then (one o.Drop) r (made f (made inner b))
-      ∙ ap (made r) (made_one o.Drop (made f (made inner b)))
+      made_then inner (f then one o.Drop then r) b ∙ made_then f (one o.Drop then r) (made inner b) ∙
+      made_then (one o.Drop) r (made f (made inner b)) ∙ ap (made r) (made_one o.Drop (made f (made inner b)))
 
   pub claused_defers : (d : Tree) (whole inner : Maker) (rest : Scope → Maker) (b : Built) →
       made (claused p k (defers d) sc whole inner rest) b ≡ made stuck b
@@ -54,8 +57,8 @@ module _ (p : Program) (k : ℕ → ℕ → Bool) (sc : Scope) where
   -- the rest stands in the turns of the generator
   pub claused_generates : (g : Generator) (whole inner : Maker) (rest : Scope → Maker) (b : Built) →
       made (claused p k (generates g) sc whole inner rest) b ≡
-      turns_ended (length (pushed (taking g (length sc)) (pushed o.Commit (with_local (suc (suc (suc (length sc)))) (made inner b)))).ops) (length sc)
-      (made (rest (with_generator g sc)) (turns_begun (taking g (length sc)) (length sc) (made inner b)))
+      turns_ended (length (pushed (taking g (length sc)) (pushed o.Commit (with_local (suc (suc (suc (length sc)))) (made inner b)))).ops)
+      (length sc) (made (rest (with_generator g sc)) (turns_begun (taking g (length sc)) (length sc) (made inner b)))
   unfolding claused
   claused_generates g whole inner rest b =
       made_then inner (turning (taking g (length sc)) (length sc) (rest (with_generator g sc))) b
@@ -66,7 +69,8 @@ module _ (p : Program) (k : ℕ → ℕ → Bool) (s : Shape) (l : ℕ) (body re
   unfolding arm_by
   arm_last any = refl
 
-  pub arm_any : made (arm_by p k s l false true body rest) b ≡ ended_here (length (made body b).ops) (made rest (pushed (o.Jump 0) (made body b)))
+  pub arm_any : made (arm_by p k s l false true body rest) b ≡
+      ended_here (length (made body b).ops) (made rest (pushed (o.Jump 0) (made body b)))
   unfolding arm_by
   arm_any = any_law body rest b
 

@@ -4,12 +4,15 @@ use Rattle.std.proofs.Common.{length-append, [], ◌∷◌}
 use Rattle.verse_base.specs.declared.places.Place.{Place}
 use Rattle.verse_code.specs.declared.operations.Op.{Op}
 use Rattle.verse_code.specs.declared.operations.Op.TheVariants as o
-use Rattle.lower_code.specs.Pieces.{Maker, one, placed, numbering, put_away, ◌then◌, ahead, either, looping, turning, from_here, using_locals}
+use Rattle.lower_code.specs.Pieces.{Maker, one, placed, numbering, put_away, ◌then◌, ahead, either, looping, turning, from_here}
+use Rattle.lower_code.specs.Pieces.{using_locals}
 use Rattle.lower_expr.specs.Building.{Built, pushed, with_place, with_local, ended_here, made, loop_ended}
-use Rattle.lower_expr.proofs.Laws.{made_then, made_one, made_placed, made_numbering, made_put_away, made_jump, made_try, made_defer, made_either_try}
+use Rattle.lower_expr.proofs.Laws.{made_then, made_one, made_placed, made_numbering, made_put_away, made_jump, made_try, made_defer}
+use Rattle.lower_expr.proofs.Laws.{made_either_try}
 use Rattle.lower_expr.proofs.Laws.{made_either_same, made_from_here, made_using_locals}
 use Rattle.lower_expr.proofs.Closing.{made_closing}
-use Rattle.lower_fail.specs.Attempts.{other_begun, held, if_alone_ended, not_ended, or_false, option_ended, logic_ended, turned, loop_over, for_begun}
+use Rattle.lower_fail.specs.Attempts.{other_begun, held, if_alone_ended, not_ended, or_false, option_ended, logic_ended, turned, loop_over}
+use Rattle.lower_fail.specs.Attempts.{for_begun}
 use Rattle.lower_fail.specs.Attempts.{for_ended, turns_begun, turns_ended, same_begun, defer_ended}
 
 -- `if`, with the conditions and both parts
@@ -49,14 +52,17 @@ unfolding defer_ended
 defer_law f b = search (made_then, made_one, made_defer)
 
 loop_turned : (f : Maker) (b : Built) →
-    made (from_here (λ a. ahead o.Jump (f then one o.Drop) then one (o.Again (suc a)))) b ≡ turned (length b.ops) (made f (pushed (o.Jump 0) b))
+    made (from_here (λ a. ahead o.Jump (f then one o.Drop) then one (o.Again (suc a)))) b ≡
+    turned (length b.ops) (made f (pushed (o.Jump 0) b))
 unfolding turned
-loop_turned f b = made_from_here (λ a. ahead o.Jump (f then one o.Drop) then one (o.Again (suc a))) b ∙ search (made_then, made_one, made_jump)
+loop_turned f b = made_from_here (λ a. ahead o.Jump (f then one o.Drop) then one (o.Again (suc a))) b ∙
+    search (made_then, made_one, made_jump)
 
 pub loop_law : (f : Maker) (b : Built) → made (looping f) b ≡ loop_over (length b.ops) (length b.exits) (made f (pushed (o.Jump 0) b))
 unfolding loop_over
 loop_law f b =
-    made_closing (from_here (λ a. ahead o.Jump (f then one o.Drop) then one (o.Again (suc a)))) b ∙ ap (loop_ended (length b.exits)) (loop_turned f b)
+    made_closing (from_here (λ a. ahead o.Jump (f then one o.Drop) then one (o.Again (suc a)))) b ∙
+    ap (loop_ended (length b.exits)) (loop_turned f b)
 
 -- the arm of a pattern that is compared, with the arms behind it
 pub same_law : (g : Maker) (l : ℕ) (f rest : Maker) (b : Built) → made (g then one (o.Get l) then either o.Same f rest) b ≡
@@ -76,7 +82,8 @@ pub for_law : (p : Place) (l : ℕ) (f : ℕ → Maker) (b : Built) →
     for_ended (length (pushed (o.Put l) (with_local l (pushed (o.Array 0 (length b.places)) (with_place p b)))).ops) l
     (made (f (length b.places)) (for_begun p l b))
 unfolding for_ended for_begun
-for_law p l f b = made_numbering p (λ m. one (o.Array 0 m) then put_away l then ahead o.Try (f m) then one (o.Get l)) b ∙ search (made_then, made_one, made_put_away, made_try)
+for_law p l f b = made_numbering p (λ m. one (o.Array 0 m) then put_away l then ahead o.Try (f m) then one (o.Get l)) b ∙
+    search (made_then, made_one, made_put_away, made_try)
 
 using_four : (l : ℕ) (b : Built) → made (using_locals (suc (suc (suc (suc l))))) b ≡ with_local (suc (suc (suc l))) b
 unfolding with_local

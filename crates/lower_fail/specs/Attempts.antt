@@ -18,7 +18,8 @@ unfoldable pub if_alone_ended : (begun : ℕ) → Built → Built
 if_alone_ended begun b = ended_here (length b.ops) (pushed o.Unit (other_begun begun b))
 
 unfoldable pub not_ended : (begun : ℕ) → Built → Built
-not_ended begun b = pushed o.Unit (ended_here begun (pushed o.Fail (pushed o.Undo (pushed o.Drop b))))
+not_ended begun b = pushed o.Unit
+    (ended_here begun (pushed o.Fail (pushed o.Undo (pushed o.Drop b))))
 
 -- behind what holds: an attempt gives it, or false
 unfoldable pub or_false : (begun : ℕ) → Built → Built
@@ -26,7 +27,8 @@ or_false begun b = ended_here (length b.ops) (pushed o.False (other_begun begun 
 
 unfoldable pub option_ended : (begun : ℕ) → Place → Built → Built
 option_ended begun p b =
-    or_false begun (pushed (o.Some (length (pushed o.Commit b).places)) (with_place p (pushed o.Commit b)))
+    or_false begun (pushed (o.Some (length (pushed o.Commit b).places))
+    (with_place p (pushed o.Commit b)))
 
 unfoldable pub logic_ended : (begun : ℕ) → Built → Built
 logic_ended begun b = or_false begun (pushed o.True (held b))
@@ -40,18 +42,21 @@ loop_over begun exits b = loop_ended exits (turned begun b)
 
 -- the result of a `for` is in local l
 unfoldable pub for_begun : Place → (l : ℕ) → Built → Built
-for_begun p l b = pushed (o.Try 0) (pushed (o.Put l) (with_local l (pushed (o.Array 0 (length b.places)) (with_place p b))))
+for_begun p l b = pushed (o.Try 0)
+    (pushed (o.Put l) (with_local l (pushed (o.Array 0 (length b.places)) (with_place p b))))
 
 unfoldable pub for_ended : (begun l : ℕ) → Built → Built
 for_ended begun l b = pushed (o.Get l) (ended_here begun b)
 
 -- the turns of a generator, whose domain is in local l
 unfoldable pub turns_begun : Op → (l : ℕ) → Built → Built
-turns_begun op l b = pushed (o.Try 0) (pushed (o.Jump 0) (pushed op (pushed o.Commit (with_local (suc (suc (suc l))) b))))
+turns_begun op l b = pushed (o.Try 0)
+    (pushed (o.Jump 0) (pushed op (pushed o.Commit (with_local (suc (suc (suc l))) b))))
 
 -- `begun` is the index of the jump to the Take, with the Try behind it
 unfoldable pub turns_ended : (begun l : ℕ) → Built → Built
-turns_ended begun l b = pushed (o.Take l (suc (suc l)) (suc begun)) (ended_here begun (ended_here (suc begun) b))
+turns_ended begun l b = pushed (o.Take l (suc (suc l)) (suc begun))
+    (ended_here begun (ended_here (suc begun) b))
 
 -- Arms of a `case` whose subject is in local l.
 unfoldable pub same_begun : (l : ℕ) → Built → Built

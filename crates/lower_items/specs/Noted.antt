@@ -1,6 +1,7 @@
 -- Numbers with what came first with each; and functions by the numbers of their nodes.
 use Rattle.std.specs.Prelude.{ℕ, nat_eq, cond, List, [], ◌∷◌, length, Option, Some, None}
-use Rattle.verse_tree.specs.ItemTree.{FunTree, MemberTree, field, method, ItemTree, using, enumeration, class, function}
+use Rattle.verse_tree.specs.ItemTree.{FunTree, MemberTree, field, method, ItemTree, using}
+use Rattle.verse_tree.specs.ItemTree.{enumeration, class, function}
 use Rattle.lower_items.specs.declared.noted.Noted.{Noted}
 
 abbrev pub Entries : Type 0

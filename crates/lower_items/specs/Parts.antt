@@ -1,6 +1,7 @@
 -- What one item, or one member, adds to the functions of the code.
 use Rattle.std.specs.Prelude.{ℕ, ◌+◌, List, [], ◌∷◌, Bool, false}
-use Rattle.verse_tree.specs.ItemTree.{MemberTree, field, method, ItemTree, using, enumeration, class, function}
+use Rattle.verse_tree.specs.ItemTree.{MemberTree, field, method, ItemTree, using, enumeration}
+use Rattle.verse_tree.specs.ItemTree.{class, function}
 use Rattle.verse_meaning.specs.Programs.{same_name, main_name}
 use Rattle.verse_meaning.specs.Forms.{this_name}
 use Rattle.lower_code.specs.Scopes.{constant_at}

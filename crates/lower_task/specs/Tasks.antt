@@ -24,7 +24,8 @@ arms_open zero b = b
 arms_open (suc n) b = arms_open n (pushed (o.Arm 0) b)
 
 unfoldable pub group_begun : (kind arms : ℕ) → Place → Built → Built
-group_begun k n p b = pushed (o.Jump 0) (arms_open n (pushed (o.Group k n (length b.places)) (with_place p b)))
+group_begun k n p b = pushed (o.Jump 0)
+    (arms_open n (pushed (o.Group k n (length b.places)) (with_place p b)))
 
 unfoldable pub branch_ended : (begun : ℕ) → Built → Built
 branch_ended begun b = ended_here begun (pushed o.ArmEnd b)

@@ -1,5 +1,6 @@
 -- Reading a saved run from left to right, up to the first failing place.
-use Rattle.std.specs.Prelude.{ℕ, zero, suc, ◌+◌, ◌-◌, ◌==◌, nat_lt, Bool, true, false, not, ◌&&◌, List, [], ◌∷◌, ◌++◌, length, take}
+use Rattle.std.specs.Prelude.{ℕ, zero, suc, ◌+◌, ◌-◌, ◌==◌, nat_lt, Bool, true, false, not, ◌&&◌}
+use Rattle.std.specs.Prelude.{List, [], ◌∷◌, ◌++◌, length, take}
 use Rattle.std.specs.Prelude.{drop, Option, Some, None, slice_get, Result, Ok, Err, if◌then◌else◌}
 use Rattle.task_tree.specs.declared.tasks.Role.{Role}
 use Rattle.task_tree.specs.declared.tasks.Role.TheVariants.{Root, Arm, Behind}
@@ -17,14 +18,16 @@ use Rattle.verse_meaning_state.specs.State.{Given}
 use Rattle.verse_meaning_state.specs.Waits.{Cause, till, never, done, heard}
 use Rattle.verse_base.specs.declared.limits.TheConstants.{MOST_STEPS, MOST_NOW, MOST_MOMENT}
 use Rattle.run_save_shots.specs.Kept.{KeptFrame, KeptRest, leaf, group, KeptTask, Kept}
-use Rattle.run_save_shots.specs.Fitting.{Stand, calls, sleeps, stays, awaits_task, awaits_event, gathers, goes_on, stand_at, is_defer}
+use Rattle.run_save_shots.specs.Fitting.{Stand, calls, sleeps, stays, awaits_task, awaits_event}
+use Rattle.run_save_shots.specs.Fitting.{gathers, goes_on, stand_at, is_defer}
 use Rattle.run_save_shots.specs.Fitting.{top_place}
 use Rattle.run_save_format.specs.declared.forms.CellForm.{CellForm}
 use Rattle.run_save_format.specs.declared.forms.CellForm.TheVariants as of_cell
 use Rattle.run_save_format.specs.declared.weights.Where.TheVariants as place
 use Rattle.run_save_format.specs.declared.weights.Numbers.{Numbers}
 use Rattle.run_save_format.specs.Format.{mark}
-use Rattle.run_save_format.specs.Values.{wide_at, number_in, flag_at, small_at, small_where, optional_at, choice_at, each_at, weighed}
+use Rattle.run_save_format.specs.Values.{wide_at, number_in, flag_at, small_at, small_where}
+use Rattle.run_save_format.specs.Values.{optional_at, choice_at, each_at, weighed}
 use Rattle.run_save_format.specs.Values.{value_at, values_at}
 
 -- ---- lists
@@ -38,12 +41,14 @@ many_at one (suc n) bytes = do
   Ok (first.0 ∷ others.0, others.1)
 
 -- with how many bytes were left at the first one of each
-unfoldable pub noted_at : {A S : Type 0} → (S → Reader (A × S)) → S × List ℕ → Reader (A × (S × List ℕ))
+unfoldable pub noted_at : {A S : Type 0} → (S → Reader (A × S)) → S × List ℕ →
+    Reader (A × (S × List ℕ))
 noted_at one s bytes = one s.0 bytes >>= λ x. Ok ((x.0.0, (x.0.1, s.1 ++ length bytes ∷ [])), x.1)
 
 -- what is there, or nothing
 unfoldable pub maybe_at : {A : Type 0} → Reader A → Reader (Option A)
-maybe_at one bytes = flag_at bytes >>= λ n. if n.0 == 0 then Ok (None, n.1) else (one n.1 >>= λ x. Ok (Some x.0, x.1))
+maybe_at one bytes = flag_at bytes >>= λ n. if n.0 == 0 then Ok (None, n.1)
+    else (one n.1 >>= λ x. Ok (Some x.0, x.1))
 
 -- outside of cells
 unfoldable pub free_value_at : (entries : ℕ) → Reader Val
@@ -69,7 +74,8 @@ unfoldable pub code_at : Reader Code
 code_at bytes = do
   n ← wide_at bytes
   if nat_lt (length n.1) n.0 then Err (flaw 3 0) else
-      (coded (length n.1) (take n.0 n.1) (image_at (take n.0 n.1)) >>= λ code. Ok (code, drop n.0 n.1))
+      (coded (length n.1) (take n.0 n.1) (image_at (take n.0 n.1)) >>= λ code. Ok
+      (code, drop n.0 n.1))
 
 -- a number that breaks a rule where it is above the most
 abbrev pub at_most : ℕ → Reader ℕ
@@ -83,7 +89,17 @@ numbers_at bytes = do
   next ← at_most spent.0 now.1
   printed ← at_most MOST_TRACE_BYTES next.1
   lines ← at_most printed.0 printed.1
-  Ok (record { left = left.0; spent = spent.0; now = now.0; next = next.0; bytes = printed.0; lines = lines.0 }, lines.1)
+  Ok (
+    record {
+      left = left.0;
+      spent = spent.0;
+      now = now.0;
+      next = next.0;
+      bytes = printed.0;
+      lines = lines.0;
+    },
+    lines.1,
+  )
 
 -- ---- cells and spawned entries
 
@@ -91,14 +107,16 @@ abbrev pub cell_forms : List CellForm
 cell_forms = of_cell.Var ∷ of_cell.Event ∷ of_cell.Object ∷ []
 
 -- what the cell is, and how many slots it has
-abbrev pub object_of : (left class : ℕ) → Option Class → List ℕ → Result ((CellKind × ℕ) × List ℕ) Flaw
+abbrev pub object_of : (left class : ℕ) → Option Class → List ℕ →
+    Result ((CellKind × ℕ) × List ℕ) Flaw
 object_of left class None bytes = Err (flaw 5 left)
 object_of left class (Some c) bytes = Ok ((cell.Object class, c.slots), bytes)
 
 unfoldable pub kind_form_at : List Class → CellForm → Reader (CellKind × ℕ)
 kind_form_at classes of_cell.Var bytes = Ok ((cell.Var, 1), bytes)
 kind_form_at classes of_cell.Event bytes = Ok ((cell.Event, 0), bytes)
-kind_form_at classes of_cell.Object bytes = small_at bytes >>= λ n. object_of (length bytes) n.0 (slice_get classes n.0) n.1
+kind_form_at classes of_cell.Object bytes =
+    small_at bytes >>= λ n. object_of (length bytes) n.0 (slice_get classes n.0) n.1
 
 unfoldable pub kind_at : List Class → Reader (CellKind × ℕ)
 kind_at classes bytes = choice_at cell_forms bytes >>= λ form. kind_form_at classes form.0 form.1
@@ -126,7 +144,8 @@ given_at entries bytes = do
   Ok (record { value = v.0; moment = moment.0 }, moment.1)
 
 unfoldable pub entry_at : (entries : ℕ) → List ℕ → Reader (Option Given × List ℕ)
-entry_at entries lefts bytes = maybe_at (given_at entries) bytes >>= λ g. Ok ((g.0, lefts ++ length bytes ∷ []), g.1)
+entry_at entries lefts bytes =
+    maybe_at (given_at entries) bytes >>= λ g. Ok ((g.0, lefts ++ length bytes ∷ []), g.1)
 
 unfoldable pub spawned_at : (spent : ℕ) → Reader (List (Option Given) × List ℕ)
 spawned_at spent bytes = at_most spent bytes >>= λ n. each_at (entry_at n.0) n.0 [] n.1
@@ -176,7 +195,8 @@ contains n (m ∷ ms) = if n == m then true else contains n ms
 
 -- a number of one of so many forms, which must be this one
 unfoldable pub form_at : (forms form : ℕ) → Reader ℕ
-form_at forms form bytes = number_in 4 0 (forms - 1) bytes >>= λ n. if n.0 == form then Ok n else Err (flaw 5 (length bytes))
+form_at forms form bytes = number_in 4 0 (forms - 1) bytes >>= λ n. if n.0 == form then Ok n
+    else Err (flaw 5 (length bytes))
 
 -- the form of what is waited for, where the top frame stands; 4 is none
 abbrev pub cause_form : Stand → ℕ
@@ -215,14 +235,17 @@ module _ (x : Known) where
   -- what is waited for, where the top frame stands
   unfoldable pub cause_of : Stand → Reader Cause
   cause_of sleeps bytes = number_in 5 x.numbers.now MOST_MOMENT bytes >>= λ n. Ok (till n.0, n.1)
-  cause_of awaits_task bytes = small_where (λ n. is_running (slice_get x.spawned n)) bytes >>= λ n. Ok (done n.0, n.1)
-  cause_of awaits_event bytes = small_where (λ n. is_event (slice_get x.cells n)) bytes >>= λ n. Ok (heard n.0, n.1)
+  cause_of awaits_task bytes = small_where (λ n. is_running (slice_get x.spawned n)) bytes >>= λ n.
+      Ok (done n.0, n.1)
+  cause_of awaits_event bytes = small_where (λ n. is_event (slice_get x.cells n)) bytes >>= λ n. Ok
+      (heard n.0, n.1)
   cause_of stand bytes = Ok (never, bytes)
 
   -- a wait's number, which is none of these
   unfoldable pub wait_at : List ℕ → Reader ℕ
   wait_at waits bytes =
-      wide_at bytes >>= λ n. if nat_lt n.0 x.numbers.next && not (contains n.0 waits) then Ok n else Err (flaw 5 (length bytes))
+      wide_at bytes >>= λ n. if nat_lt n.0 x.numbers.next &&
+      not (contains n.0 waits) then Ok n else Err (flaw 5 (length bytes))
 
   unfoldable pub leaf_at : Stand → List ℕ → Reader (KeptRest × List ℕ)
   leaf_at stand waits bytes = do
@@ -247,7 +270,8 @@ module _ (x : Known) where
   is_entry (Some entry) = nat_lt entry (length x.spawned)
 
   unfoldable pub root_at : Reader (Option ℕ)
-  root_at bytes = optional_at bytes >>= λ root. if is_entry root.0 then Ok root else Err (flaw 5 (length bytes))
+  root_at bytes = optional_at bytes >>= λ root. if is_entry root.0 then Ok root else Err
+      (flaw 5 (length bytes))
 
   -- without a parent the root, with one the role
   unfoldable pub standing_at : Option ℕ → Reader (Role × Option ℕ)
@@ -264,7 +288,16 @@ module _ (x : Known) where
     frames ← frames_at standing.1
     rest ← rest_at (stand_at x.code (top_place frames.0)) waits frames.1
     Ok (
-      (record { parent = parent.0; role = standing.0.0; root = standing.0.1; frames = frames.0; rest = rest.0.0 }, rest.0.1),
+      (
+        record {
+          parent = parent.0;
+          role = standing.0.0;
+          root = standing.0.1;
+          frames = frames.0;
+          rest = rest.0.0;
+        },
+        rest.0.1,
+      ),
       rest.1,
     )
 
@@ -310,7 +343,13 @@ parts_found_at bytes = do
   numbers ← numbers_at code.1
   cells ← cells_at code.0.classes numbers.1
   spawned ← spawned_at numbers.0.spent cells.1
-  tasks ← tasks_at (record { code = code.0; numbers = numbers.0; cells = cells.0.0; spawned = spawned.0.0 }) spawned.1
+  tasks ← tasks_at (record {
+    code = code.0;
+    numbers = numbers.0;
+    cells = cells.0.0;
+    spawned =
+        spawned.0.0;
+  }) spawned.1
   ended
       (record {
         code = code.0;

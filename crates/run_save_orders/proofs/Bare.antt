@@ -4,7 +4,8 @@ use Rattle.verse_code.specs.declared.codes.Code.{Code}
 use Rattle.verse_meaning_state.specs.State.{State}
 use Rattle.verse_code_machine.specs.Tasks.{Frame, Who, Part, did, runs, Rest, asleep, group, Task}
 use Rattle.verse_code_machine.specs.Runs.{Forest}
-use Rattle.verse_code_machine_saved.specs.Numbers.{Numbering, Prior, path_from, path_as, who_as, parts_as, rest_as, handlers_as, frame_as, frames_as, task_as, tasks_as}
+use Rattle.verse_code_machine_saved.specs.Numbers.{Numbering, Prior, path_from, path_as, who_as, parts_as, rest_as, handlers_as, frame_as}
+use Rattle.verse_code_machine_saved.specs.Numbers.{frames_as, task_as, tasks_as}
 use Rattle.verse_code_machine_saved.specs.Numbers.{trees_as, renumbered}
 use Rattle.verse_code_machine_saved.specs.Resuming.{prior, SameTrees}
 use Rattle.run_save_shots.specs.Lists.{Each}
@@ -41,8 +42,15 @@ module _ (c : Code) (x : Scene) (next : ℕ) (z : Prior) where
   seen = record { numbers = itself; signals = z.signals; lines = z.lines; before = z.before }
 
   frame_is : (a : List ℕ) (f : Frame) → f.handlers ≡ [] → frame_as seen a f ≡ f
-  frame_is a f e = ap (λ hs. record { life = f.life; locals = f.locals; stack = f.stack; place = f.place; handlers = handlers_as seen a hs }) e ∙
-      ap (λ hs. record { life = f.life; locals = f.locals; stack = f.stack; place = f.place; handlers = hs }) (sym e)
+  frame_is a f e = ap (λ hs. record {
+    life = f.life;
+    locals = f.locals;
+    stack = f.stack;
+    place = f.place;
+    handlers =
+        handlers_as seen a hs;
+  }) e ∙ ap (λ hs. record { life = f.life; locals = f.locals; stack = f.stack; place = f.place; handlers = hs })
+      (sym e)
 
   frames_is : (a : List ℕ) (fs : List Frame) → Each (LowerStill c x.entries) fs → frames_as seen a fs ≡ fs
   frames_is a [] h = refl
@@ -52,12 +60,14 @@ module _ (c : Code) (x : Scene) (next : ℕ) (z : Prior) where
   with_parts w f fs r = record { thread = record { who = w; frame = f; below = fs }; rest = r }
 
   task_is : (t : Task) → TaskFine c x next t → task_as seen t ≡ t
-  task_is t h = parts (who_is t.thread.who) (frame_is t.thread.who.path t.thread.frame h.still.frame.handlers) (frames_is t.thread.who.path t.thread.below
-      h.still.below) (rest_is t.thread.who.path t.rest)
+  task_is t h = parts (who_is t.thread.who) (frame_is t.thread.who.path t.thread.frame h.still.frame.handlers)
+      (frames_is t.thread.who.path t.thread.below h.still.below) (rest_is t.thread.who.path t.rest)
     where
-      parts : {w v : Who} {f g : Frame} {fs gs : List Frame} {r q : Rest} → w ≡ v → f ≡ g → fs ≡ gs → r ≡ q → with_parts w f fs r ≡ with_parts v g gs q
-      parts {w = w} {v = v} {f = f} {g = g} {fs = fs} {gs = gs} {r = r} e i j k = ap (λ w. with_parts w f fs r) e ∙ ap (λ f. with_parts v f fs r) i ∙
-          ap (λ fs. with_parts v g fs r) j ∙ ap (λ r. with_parts v g gs r) k
+      parts : {w v : Who} {f g : Frame} {fs gs : List Frame} {r q : Rest} → w ≡ v → f ≡ g → fs ≡ gs → r ≡ q →
+          with_parts w f fs r ≡ with_parts v g gs q
+      parts {w = w} {v = v} {f = f} {g = g} {fs = fs} {gs = gs} {r = r} e i j k =
+          ap (λ w. with_parts w f fs r) e ∙ ap (λ f. with_parts v f fs r) i ∙ ap (λ fs. with_parts v g fs r) j ∙
+          ap (λ r. with_parts v g gs r) k
 
   tasks_is : (ts : List Task) → TasksFine c x next ts → tasks_as seen ts ≡ ts
   tasks_is [] h = refl

@@ -24,11 +24,12 @@ filled_again ((t ∷ ts) ∷ tss) = ap (λ w. (t ∷ ts) ∷ w) (filled_again ts
 
 filled_reordered : {xs zs : Forest} → Reordered xs zs → Reordered (filled xs) (filled zs)
 filled_reordered no_elements = no_elements
-filled_reordered (one_more {x = x} {xs = xs} {zs = zs} front back e r) = by_tree x (subst (λ w. Reordered (filled xs) w) (filled_join front back)
-    (filled_reordered r)) (ap filled e ∙ filled_join front (x ∷ back))
+filled_reordered (one_more {x = x} {xs = xs} {zs = zs} front back e r) =
+    by_tree x (subst (λ w. Reordered (filled xs) w) (filled_join front back) (filled_reordered r))
+    (ap filled e ∙ filled_join front (x ∷ back))
   where
-    by_tree : (x : List Task) → Reordered (filled xs) (filled front ++ filled back) → filled zs ≡ filled front ++ filled (x ∷ back) → Reordered (filled (x ∷
-        xs)) (filled zs)
+    by_tree : (x : List Task) → Reordered (filled xs) (filled front ++ filled back) → filled zs ≡ filled front ++ filled (x ∷ back) →
+        Reordered (filled (x ∷ xs)) (filled zs)
     by_tree [] q f = subst (λ w. Reordered (filled xs) w) (sym f) q
     by_tree (t ∷ ts) q f = one_more (filled front) (filled back) f q
 
@@ -51,17 +52,20 @@ module _ (left : ℕ) (tss ordered : Forest) (o : Reordered tss ordered) where
     rises = a.rises;
     keeps = a.keeps;
     above = a.above;
-    apart = all_as (NoChild tss x.who.path) (NoChild (filled ordered) x.who.path) (λ n b. moved (Each (λ (t : Task). t.thread.who.path ≡ x.who.path ++ n ∷ [] →
-        ⊥)) b) (births_of x) a.apart;
+    apart = all_as (NoChild tss x.who.path) (NoChild (filled ordered) x.who.path)
+        (λ n b. moved (Each (λ (t : Task). t.thread.who.path ≡ x.who.path ++ n ∷ [] → ⊥)) b) (births_of x) a.apart;
   }
 
   are_born_so : AreBorn left tss → AreBorn left (filled ordered)
-  are_born_so a = moved (Each (λ (t : Task). IsBorn left (filled ordered) t.thread)) (all_as (Each (λ (t : Task). IsBorn left tss t.thread)) (Each (λ (t :
-      Task). IsBorn left (filled ordered) t.thread)) (λ ts b. all_as (λ (t : Task). IsBorn left tss t.thread) (λ (t : Task). IsBorn left (filled ordered)
+  are_born_so a = moved (Each (λ (t : Task). IsBorn left (filled ordered) t.thread))
+      (all_as (Each (λ (t : Task). IsBorn left tss t.thread)) (Each (λ (t :
+      Task). IsBorn left (filled ordered) t.thread))
+      (λ ts b. all_as (λ (t : Task). IsBorn left tss t.thread) (λ (t : Task). IsBorn left (filled ordered)
       t.thread) (λ t d. born_so t.thread d) ts b) tss a)
 
 pub kept_is_born : RunIsBorn → KeptIsBorn
-kept_is_born law c ns steps u s tss x e y = are_born_so s.clock.left tss y.ordered y.reordered (subst StageIsBorn e (law c ns steps u (suc steps)))
+kept_is_born law c ns steps u s tss x e y =
+    are_born_so s.clock.left tss y.ordered y.reordered (subst StageIsBorn e (law c ns steps u (suc steps)))
 
 pub kept_run_is_the_run : RunIsSavable → RunReordered → RunResumed → RunRenumbered → KeptRunIsTheRun
 kept_run_is_the_run savable reordered resumed renumbered c ns steps u v s tss x valid bytes inputs le short e y m =
@@ -69,8 +73,9 @@ kept_run_is_the_run savable reordered resumed renumbered c ns steps u v s tss x 
     let o = kept_is_same_but_order s tss x y in
     let is : state x ≡ apart s = ap state y.is in
     let n : SameTrees (apart s) (filled y.ordered) (trees c x) = subst (λ t. SameTrees t (filled y.ordered) (trees c x)) is m in
-    ap (behind s.memory.trace) (ap (λ t. run_from c steps v t (trees c x)) is ∙ (sym (renumbered c steps v (apart s) (filled y.ordered) (trees c x) n.own n.other
-    n.own_rises n.other_rises n.own_fixed n.other_fixed n.meet) ∙ sym (reordered c steps v (apart s) tss (filled y.ordered) valid bytes (record {
+    ap (behind s.memory.trace) (ap (λ t. run_from c steps v t (trees c x)) is ∙
+    (sym (renumbered c steps v (apart s) (filled y.ordered) (trees c x) n.own n.other n.own_rises n.other_rises n.own_fixed n.other_fixed
+    n.meet) ∙ sym (reordered c steps v (apart s) tss (filled y.ordered) valid bytes (record {
       rooted = a.rooted;
       waits = a.waits;
     }) o))) ∙ (resumed c ns steps u v s tss tss valid le e (same_trees c a.scene s.clock.next s tss a.trees)).1

@@ -101,7 +101,8 @@ module _ {A : Type 0} where
   none_behind (x ∷ xs) = ap (λ w. x ∷ w) (none_behind xs)
 
   pub at_end : (x : A) (xs zs : List A) → Reordered xs zs → Reordered (xs ++ x ∷ []) (zs ++ x ∷ [])
-  at_end x xs zs r = insert x xs [] zs [] (subst (λ w. Reordered w (zs ++ [])) (sym (none_behind xs)) (subst (λ w. Reordered xs w) (sym (none_behind zs)) r))
+  at_end x xs zs r = insert x xs [] zs [] (subst (λ w. Reordered w (zs ++ [])) (sym (none_behind xs))
+      (subst (λ w. Reordered xs w) (sym (none_behind zs)) r))
 
 -- ---- trees
 
@@ -139,10 +140,12 @@ stood ((t ∷ us) ∷ uss) (y ∷ f) ts b e = further (stood uss f ts b (tail_is
 -- one tree more, behind the others or among them
 pub one_among : (ts : List Task) (a b c d : Forest) → Reordered (filled (a ++ b)) (filled (c ++ d)) →
     Reordered (filled (a ++ ts ∷ b)) (filled (c ++ ts ∷ d))
-one_among ts a b c d r = subst (λ w. Reordered w (filled (c ++ ts ∷ d))) (sym (filled_join a (ts ∷ b))) (subst (λ w. Reordered (filled a ++ filled (ts ∷ b)) w)
-    (sym (filled_join c (ts ∷ d))) (by_tree ts (subst (λ w. Reordered w (filled c ++ filled d)) (filled_join a b) (subst (λ w. Reordered (filled (a ++ b)) w)
-    (filled_join c d) r))))
+one_among ts a b c d r = subst (λ w. Reordered w (filled (c ++ ts ∷ d))) (sym (filled_join a (ts ∷ b)))
+    (subst (λ w. Reordered (filled a ++ filled (ts ∷ b)) w) (sym (filled_join c (ts ∷ d)))
+    (by_tree ts (subst (λ w. Reordered w (filled c ++ filled d)) (filled_join a b)
+    (subst (λ w. Reordered (filled (a ++ b)) w) (filled_join c d) r))))
   where
-    by_tree : (ts : List Task) → Reordered (filled a ++ filled b) (filled c ++ filled d) → Reordered (filled a ++ filled (ts ∷ b)) (filled c ++ filled (ts ∷ d))
+    by_tree : (ts : List Task) → Reordered (filled a ++ filled b) (filled c ++ filled d) →
+        Reordered (filled a ++ filled (ts ∷ b)) (filled c ++ filled (ts ∷ d))
     by_tree [] q = q
     by_tree (t ∷ ts) q = insert (t ∷ ts) (filled a) (filled b) (filled c) (filled d) q

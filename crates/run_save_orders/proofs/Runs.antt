@@ -1,5 +1,6 @@
 -- A run is the same from trees in another order.
-use Rattle.std.proofs.Common.{◌≡◌, ℕ, zero, suc, ◌+◌, ◌≤◌, List, [], ◌∷◌, ◌++◌, length, Option, Some, None, Bool, true, false, cond, refl, sym, subst, ap}
+use Rattle.std.proofs.Common.{◌≡◌, ℕ, zero, suc, ◌+◌, ◌≤◌, List, [], ◌∷◌, ◌++◌, length, Option, Some, None, Bool, true, false, cond, refl}
+use Rattle.std.proofs.Common.{sym, subst, ap}
 use Rattle.std.proofs.Common.{◌∙◌, append_assoc, arith, nat_lt}
 use Rattle.std.specs.Prelude.{slice_get}
 use Rattle.verse_code.specs.declared.codes.Code.{Code}
@@ -25,7 +26,8 @@ use Rattle.run_save_fits.proofs.Turning as t
 use Rattle.run_save_kept.specs.Growing.{filled}
 use Rattle.run_save_kept.proofs.Paths.{one_most}
 use Rattle.run_save_kept.proofs.Sums as sums
-use Rattle.run_save_orders.specs.Laws.{SameButOrder, StagesSame, both_go, both_closed, both_broken, both_amiss, TurnsReordered, RunReordered}
+use Rattle.run_save_orders.specs.Laws.{SameButOrder, StagesSame, both_go, both_closed, both_broken, both_amiss, TurnsReordered}
+use Rattle.run_save_orders.specs.Laws.{RunReordered}
 use Rattle.run_save_orders.proofs.Ends.{Alike, nexts, overs, turns as turned, woken_both}
 use Rattle.run_save_orders.proofs.Acts.{there_are, act_are}
 use Rattle.run_save_orders.proofs.Orders.{Taken, extract, filled_join, Stood, stood, one_among, same_length}
@@ -36,10 +38,11 @@ abbrev Beside : Trees → Trees → Type 0
 Beside t u = SameButOrder (t.before ++ t.behind) (u.before ++ u.behind)
 
 plants : (t u : Trees) (ts : List Task) → Beside t u → Beside (planted t ts) (planted u ts)
-plants t u ts r = subst (λ w. SameButOrder w (u.before ++ (u.behind ++ ts ∷ []))) (append_assoc t.before t.behind (ts ∷ [])) (subst (λ w. SameButOrder
-    ((t.before ++ t.behind) ++ ts ∷ []) w) (append_assoc u.before u.behind (ts ∷ [])) (one_among ts (t.before ++ t.behind) [] (u.before ++ u.behind) []
-    (subst (λ w. SameButOrder w ((u.before ++ u.behind) ++ [])) (sym (none_more (t.before ++ t.behind))) (subst (λ w. SameButOrder (t.before ++ t.behind) w)
-    (sym (none_more (u.before ++ u.behind))) r))))
+plants t u ts r = subst (λ w. SameButOrder w (u.before ++ (u.behind ++ ts ∷ []))) (append_assoc t.before t.behind (ts ∷ []))
+    (subst (λ w. SameButOrder ((t.before ++ t.behind) ++ ts ∷ []) w) (append_assoc u.before u.behind (ts ∷ []))
+    (one_among ts (t.before ++ t.behind) [] (u.before ++ u.behind) []
+    (subst (λ w. SameButOrder w ((u.before ++ u.behind) ++ [])) (sym (none_more (t.before ++ t.behind)))
+    (subst (λ w. SameButOrder (t.before ++ t.behind) w) (sym (none_more (u.before ++ u.behind))) r))))
   where
     none_more : (xs : Forest) → xs ++ [] ≡ xs
     none_more [] = refl
@@ -53,8 +56,8 @@ Same = Alike Beside
 -- the first tree with a wait of the number, or there is none
 data Found (n : ℕ) (tss : Forest) : Type 0 where
   nowhere : trees_sum (of_number n) tss ≡ 0 → Found n tss
-  found : (front : Forest) (ts : List Task) (back : Forest) → tss ≡ front ++ ts ∷ back → trees_sum (of_number n) front ≡ 0 → has n (waits_of ts) ≡ true →
-      Found n tss
+  found : (front : Forest) (ts : List Task) (back : Forest) → tss ≡ front ++ ts ∷ back → trees_sum (of_number n) front ≡ 0 →
+      has n (waits_of ts) ≡ true → Found n tss
 
 find : (n : ℕ) (tss : Forest) → Found n tss
 find n [] = nowhere refl
@@ -75,7 +78,8 @@ find n (ts ∷ tss) = by_test (tasks_sum (of_number n) ts) refl (find n tss)
             zero_not k e = omega (arith, e)
         some_has n (w ∷ ws) k e f = by_number (eqn n w.number) (λ k. some_has n ws k) e f
           where
-            by_number : (b : Bool) → ((k : ℕ) → count n ws ≡ suc k → has n ws ≡ false → ⊥) → one b + count n ws ≡ suc k → cond b true (has n ws) ≡ false → ⊥
+            by_number : (b : Bool) → ((k : ℕ) → count n ws ≡ suc k → has n ws ≡ false → ⊥) → one b + count n ws ≡ suc k →
+                cond b true (has n ws) ≡ false → ⊥
             by_number true h e f = no_both f
             by_number false h e f = h k (omega (arith, e)) f
 
@@ -101,21 +105,22 @@ passed n v before [] rest s e = ap (λ w. woken_in n v w rest s) (sym (none_more
     none_more [] = refl
     none_more (x ∷ xs) = ap (λ w. x ∷ w) (none_more xs)
 passed n v before (ts ∷ front) rest s e =
-    ap (λ b. cond b (woken n v [] ts (record { before = before; behind = front ++ rest }) s) (woken_in n v (before ++ ts ∷ []) (front ++ rest) s))
-    (tree_none n
+    ap (λ b. cond b (woken n v [] ts (record { before = before; behind = front ++ rest }) s)
+    (woken_in n v (before ++ ts ∷ []) (front ++ rest) s)) (tree_none n
     ts (first_none (tasks_sum (of_number n) ts) (trees_sum (of_number n) front) e)) ∙
     (passed n v (before ++ ts ∷ []) front rest s (rest_none (tasks_sum (of_number n) ts) (trees_sum (of_number n) front) e) ∙
     ap (λ w. woken_in n v w rest s) (append_assoc before (ts ∷ []) front))
 
-woken_none : (n : ℕ) (v : Val) (before tss : Forest) (s : State) → trees_sum (of_number n) tss ≡ 0 → woken_in n v before tss s ≡ Over ending.Stuck s
+woken_none : (n : ℕ) (v : Val) (before tss : Forest) (s : State) → trees_sum (of_number n) tss ≡ 0 →
+    woken_in n v before tss s ≡ Over ending.Stuck s
 woken_none n v before [] s e = refl
 woken_none n v before (ts ∷ tss) s e =
-    ap (λ b. cond b (woken n v [] ts (record { before = before; behind = tss }) s) (woken_in n v (before ++ ts ∷ []) tss s)) (tree_none n ts (first_none
-    (tasks_sum (of_number n) ts) (trees_sum (of_number n) tss) e)) ∙
+    ap (λ b. cond b (woken n v [] ts (record { before = before; behind = tss }) s) (woken_in n v (before ++ ts ∷ []) tss s))
+    (tree_none n ts (first_none (tasks_sum (of_number n) ts) (trees_sum (of_number n) tss) e)) ∙
     woken_none n v (before ++ ts ∷ []) tss s (rest_none (tasks_sum (of_number n) ts) (trees_sum (of_number n) tss) e)
 
-woken_at : (n : ℕ) (v : Val) (front : Forest) (ts : List Task) (back : Forest) (s : State) → trees_sum (of_number n) front ≡ 0 → has n (waits_of ts) ≡ true →
-    woken_in n v [] (front ++ ts ∷ back) s ≡ woken n v [] ts (record { before = front; behind = back }) s
+woken_at : (n : ℕ) (v : Val) (front : Forest) (ts : List Task) (back : Forest) (s : State) → trees_sum (of_number n) front ≡ 0 →
+    has n (waits_of ts) ≡ true → woken_in n v [] (front ++ ts ∷ back) s ≡ woken n v [] ts (record { before = front; behind = back }) s
 woken_at n v front ts back s e f = passed n v [] front (ts ∷ back) s e ∙
     ap (λ b. cond b (woken n v [] ts (record { before = front; behind = back }) s) (woken_in n v (front ++ ts ∷ []) back s)) f
 
@@ -137,41 +142,47 @@ Once tss = (n : ℕ) → trees_sum (of_number n) tss ≤ 1
 alone : (a b c : ℕ) → a + (b + c) ≤ 1 → 1 ≤ b → a ≡ 0
 alone a b c e f = omega (arith, e, f)
 
-woken_same : (n : ℕ) (v : Val) (s : State) (tss uss : Forest) → SameButOrder tss uss → Once tss → Same (woken_in n v [] tss s) (woken_in n v [] uss s)
+woken_same : (n : ℕ) (v : Val) (s : State) (tss uss : Forest) → SameButOrder tss uss → Once tss →
+    Same (woken_in n v [] tss s) (woken_in n v [] uss s)
 woken_same n v s tss uss r once = by_found (find n tss)
   where
     by_found : Found n tss → Same (woken_in n v [] tss s) (woken_in n v [] uss s)
-    by_found (nowhere e) = subst (λ w. Same w (woken_in n v [] uss s)) (sym (woken_none n v [] tss s e)) (subst (λ w. Same (Over ending.Stuck s) w) (sym
-        (woken_none n v [] uss s (same_sum (of_number n) tss uss r ∙ e))) overs)
-    by_found (found front ts back e f g) = by_taken (extract ts (filled front) (filled back) (filled uss) (subst (λ w. Reordered w (filled uss)) (ap
-        filled e ∙
+    by_found (nowhere e) = subst (λ w. Same w (woken_in n v [] uss s)) (sym (woken_none n v [] tss s e))
+        (subst (λ w. Same (Over ending.Stuck s) w) (sym (woken_none n v [] uss s (same_sum (of_number n) tss uss r ∙ e))) overs)
+    by_found (found front ts back e f g) = by_taken
+        (extract ts (filled front) (filled back) (filled uss) (subst (λ w. Reordered w (filled uss)) (ap filled e ∙
         (filled_join front (ts ∷ back) ∙ ap (λ w. filled front ++ w) (filled_at n ts back g))) r))
       where
         by_taken : Taken ts (filled front ++ filled back) (filled uss) → Same (woken_in n v [] tss s) (woken_in n v [] uss s)
         by_taken a = by_stood (stood uss a.front ts a.back a.is)
           where
             by_stood : Stood a.front ts a.back uss → Same (woken_in n v [] tss s) (woken_in n v [] uss s)
-            by_stood b = subst (λ w. Same (woken_in n v [] w s) (woken_in n v [] uss s)) (sym e) (subst (λ w. Same (woken_in n v [] (front ++ ts ∷ back) s)
-                (woken_in n v [] w s)) (sym b.is) (subst (λ w. Same w (woken_in n v [] (b.front ++ ts ∷ b.back) s)) (sym (woken_at n v front ts back s f g))
-                (subst (λ w. Same (woken n v [] ts (record { before = front; behind = back }) s) w) (sym (woken_at n v b.front ts b.back s none g))
-                (woken_both Beside plants (record { before = front; behind = back }) (record { before = b.front; behind = b.back }) beside n v [] ts s))))
+            by_stood b = subst (λ w. Same (woken_in n v [] w s) (woken_in n v [] uss s)) (sym e)
+                (subst (λ w. Same (woken_in n v [] (front ++ ts ∷ back) s) (woken_in n v [] w s)) (sym b.is)
+                (subst (λ w. Same w (woken_in n v [] (b.front ++ ts ∷ b.back) s)) (sym (woken_at n v front ts back s f g))
+                (subst (λ w. Same (woken n v [] ts (record { before = front; behind = back }) s) w)
+                (sym (woken_at n v b.front ts b.back s none g))
+                (woken_both Beside plants (record { before = front; behind = back }) (record { before = b.front; behind = b.back }) beside n
+                v [] ts s))))
               where
                 none : trees_sum (of_number n) b.front ≡ 0
-                none = alone (trees_sum (of_number n) b.front) (tasks_sum (of_number n) ts) (trees_sum (of_number n) b.back) (subst (λ k. k ≤ 1) (sym
-                    (same_sum (of_number n) tss uss r) ∙ (ap (trees_sum (of_number n)) b.is ∙ sums.trees_join (of_number n) b.front (ts ∷ b.back))) (once n))
+                none = alone (trees_sum (of_number n) b.front) (tasks_sum (of_number n) ts) (trees_sum (of_number n) b.back)
+                    (subst (λ k. k ≤ 1) (sym (same_sum (of_number n) tss uss r) ∙
+                    (ap (trees_sum (of_number n)) b.is ∙ sums.trees_join (of_number n) b.front (ts ∷ b.back))) (once n))
                     (subst (λ k. 1 ≤ k) (tasks_count n ts) (has_some n (waits_of ts) g))
 
                 beside : SameButOrder (front ++ back) (b.front ++ b.back)
-                beside = subst (λ w. Reordered w (filled (b.front ++ b.back))) (sym (filled_join front back)) (subst (λ w. Reordered (filled front ++ filled
-                    back) w) (sym (filled_join b.front b.back ∙ (ap (λ w. w ++ filled b.back) b.before ∙ ap (λ w. a.front ++ w) b.behind))) a.rest)
+                beside = subst (λ w. Reordered w (filled (b.front ++ b.back))) (sym (filled_join front back))
+                    (subst (λ w. Reordered (filled front ++ filled back) w)
+                    (sym (filled_join b.front b.back ∙ (ap (λ w. w ++ filled b.back) b.before ∙ ap (λ w. a.front ++ w) b.behind))) a.rest)
 
 -- ---- operations
 
 one_same : (c : Code) (n : ℕ) → ((q p : Step) → Same q p → Same (carried c n q) (carried c n p)) → (q p : Step) → Same q p →
     Same (carried c (suc n) q) (carried c (suc n) p)
 one_same c n go q p (nexts {w = y} {pre = pre} {post = post} {us = us} {t = t} {u = u} {s = s} {f = f} {fs = fs} r) =
-    go _ _ (there_are Beside plants t u r (slice_get c.ops f.place) s _ _ (λ op. act_are Beside plants t u r y pre post us s f.life f.place f.handlers fs c op
-    f.locals f.stack))
+    go _ _ (there_are Beside plants t u r (slice_get c.ops f.place) s _ _
+    (λ op. act_are Beside plants t u r y pre post us s f.life f.place f.handlers fs c op f.locals f.stack))
 one_same c n go q p overs = overs
 one_same c n go q p (turned ts r) = turned ts r
 
@@ -194,7 +205,8 @@ module _ (c : Code) (steps until : ℕ) where
     goes_same : (d : Due) (s : State) → StagesSame (Goes tss d s) (Goes uss d s)
     goes_same d s = stage_same _ _ (step_same c (room c steps) _ _ (woken_same d.number d.given.value s tss uss r once))
 
-    spent_same : (left : ℕ) (d : Due) → StagesSame (spending left s (closed ending.Steps s tss) (λ s. Goes tss d (at_moment d.given.moment s)))
+    spent_same : (left : ℕ) (d : Due) → StagesSame
+        (spending left s (closed ending.Steps s tss) (λ s. Goes tss d (at_moment d.given.moment s)))
         (spending left s (closed ending.Steps s uss) (λ s. Goes uss d (at_moment d.given.moment s)))
     spent_same zero d = both_closed r
     spent_same (suc l) d = goes_same d (at_moment d.given.moment (stepped l s))
@@ -207,8 +219,8 @@ module _ (c : Code) (steps until : ℕ) where
     due_same None = both_closed r
     due_same (Some d) = late_same (nat_lt until d.given.moment) _ _ _ _ (both_closed r) (spent_same s.clock.left d)
 
-    waits_same : (xs zs : List Wait) → Reordered xs zs → least s xs ≡ least s zs → StagesSame (turn until xs s tss (Goes tss)) (turn until zs s uss (Goes
-        uss))
+    waits_same : (xs zs : List Wait) → Reordered xs zs → least s xs ≡ least s zs →
+        StagesSame (turn until xs s tss (Goes tss)) (turn until zs s uss (Goes uss))
     waits_same [] [] a e = both_closed r
     waits_same [] (z ∷ zs) a e = fewer (same_length a)
       where
@@ -225,11 +237,12 @@ module _ (c : Code) (steps until : ℕ) where
             no : (n : ℕ) → suc n ≡ 0 → ⊥
             no n e = omega (arith, e)
     waits_same (x ∷ xs) (z ∷ zs) a e =
-        subst (λ o. StagesSame (turn_at until (least s (x ∷ xs)) s tss (Goes tss)) (turn_at until o s uss (Goes uss))) e (due_same (least s (x ∷ xs)))
+        subst (λ o. StagesSame (turn_at until (least s (x ∷ xs)) s tss (Goes tss)) (turn_at until o s uss (Goes uss))) e
+        (due_same (least s (x ∷ xs)))
 
     turn_same : StagesSame (turn_taken c steps until s tss) (turn_taken c steps until s uss)
-    turn_same = waits_same (tree_waits tss) (tree_waits uss) (same_waits tss uss r) (least_same s (same_waits tss uss r) (unlike_of (tree_waits uss) (λ n.
-        subst
+    turn_same = waits_same (tree_waits tss) (tree_waits uss) (same_waits tss uss r)
+        (least_same s (same_waits tss uss r) (unlike_of (tree_waits uss) (λ n. subst
         (λ k. k ≤ 1) (sym (trees_count n uss ∙ same_sum (of_number n) tss uss r)) (once n))))
 
   module _ (valid : Valid c) (bytes : TextsAreBytes c) where
@@ -256,11 +269,12 @@ module _ (c : Code) (steps until : ℕ) where
         at_most : (i k : ℕ) → i + 0 ≤ k → k ≤ 1 → i ≤ 1
         at_most i k e f = omega (arith, e, f)
 
-    turns_same : (k : ℕ) (g h : Stage Forest) → StagesSame g h → ((n : ℕ) → Counts n g) → StageRooted g → StagesSame (turns (turn_taken c steps until) k g)
-        (turns (turn_taken c steps until) k h)
+    turns_same : (k : ℕ) (g h : Stage Forest) → StagesSame g h → ((n : ℕ) → Counts n g) → StageRooted g →
+        StagesSame (turns (turn_taken c steps until) k g) (turns (turn_taken c steps until) k h)
     turns_same zero g h a b r = a
     turns_same (suc k) g h (both_go {s = s} {tss = tss} {uss = uss} a) b r =
-        let d = one_turn s tss b r in turns_same k (turn_taken c steps until s tss) (turn_taken c steps until s uss) (turn_same s tss uss a (once_of s tss
+        let d = one_turn s tss b r in turns_same k (turn_taken c steps until s tss) (turn_taken c steps until s uss)
+        (turn_same s tss uss a (once_of s tss
         b)) d.0
         d.1
     turns_same (suc k) g h (both_closed a) b r = both_closed a
@@ -268,8 +282,8 @@ module _ (c : Code) (steps until : ℕ) where
     turns_same (suc k) g h both_amiss b r = both_amiss
 
 pub turns_reordered : TurnsReordered
-turns_reordered c steps until k s tss uss valid bytes a r = turns_same c steps until valid bytes k (going s tss) (going s uss) (both_go r) (λ n. bare
-    (trees_sum
+turns_reordered c steps until k s tss uss valid bytes a r =
+    turns_same c steps until valid bytes k (going s tss) (going s uss) (both_go r) (λ n. bare (trees_sum
     (of_number n) tss) (one (ltn n s.clock.next)) (a.waits n)) a.rooted
   where
     bare : (i k : ℕ) → i ≤ k → i + 0 ≤ k

@@ -94,7 +94,8 @@ unlike_of (w ∷ ws) f = (
     fewer : (a b : ℕ) → a + b ≤ 1 → b ≤ 1
     fewer a b e = omega (arith, e)
 
-unlike_parts : (a : List Wait) (w : Wait) (b : List Wait) → Unlike (a ++ w ∷ b) → Each (λ v. v.number ≡ w.number → ⊥) (a ++ b) × Unlike (a ++ b)
+unlike_parts : (a : List Wait) (w : Wait) (b : List Wait) → Unlike (a ++ w ∷ b) → Each (λ v. v.number ≡ w.number → ⊥) (a ++ b) ×
+    Unlike (a ++ b)
 unlike_parts [] w b u = u
 unlike_parts (v ∷ a) w b u =
     let r = unlike_parts a w b u.1 in
@@ -106,7 +107,8 @@ sooner_swaps : (n k : ℕ) (g h : Given) (o : Option Due) → (n ≡ k → ⊥) 
 sooner_swaps n k g h None d = grind (arith, nat_tests)
 sooner_swaps n k g h (Some e) d = grind (arith, nat_tests)
 
-sooner_of_swaps : (n k : ℕ) (a b : Option Given) (o : Option Due) → (n ≡ k → ⊥) → sooner_of n a (sooner_of k b o) ≡ sooner_of k b (sooner_of n a o)
+sooner_of_swaps : (n k : ℕ) (a b : Option Given) (o : Option Due) → (n ≡ k → ⊥) →
+    sooner_of n a (sooner_of k b o) ≡ sooner_of k b (sooner_of n a o)
 sooner_of_swaps n k None b o d = refl
 sooner_of_swaps n k (Some g) None o d = refl
 sooner_of_swaps n k (Some g) (Some h) o d = sooner_swaps n k g h o d
@@ -137,9 +139,11 @@ filled_waits ((t ∷ ts) ∷ tss) = ap (λ w. waits_of (t ∷ ts) ++ w) (filled_
 
 waits_reorder : {xs zs : Forest} → Reordered xs zs → Reordered (tree_waits xs) (tree_waits zs)
 waits_reorder no_elements = no_elements
-waits_reorder (one_more {x = x} {xs = xs} f g e r) = subst (λ w. Reordered (waits_of x ++ tree_waits xs) w) (sym (ap tree_waits e ∙ waits_join f (x ∷ g)))
-    (with_block (waits_of x) (tree_waits xs) (tree_waits f) (tree_waits g) (subst (λ w. Reordered (tree_waits xs) w) (waits_join f g) (waits_reorder r)))
+waits_reorder (one_more {x = x} {xs = xs} f g e r) =
+    subst (λ w. Reordered (waits_of x ++ tree_waits xs) w) (sym (ap tree_waits e ∙ waits_join f (x ∷ g)))
+    (with_block (waits_of x) (tree_waits xs) (tree_waits f) (tree_waits g)
+    (subst (λ w. Reordered (tree_waits xs) w) (waits_join f g) (waits_reorder r)))
 
 pub same_waits : (tss uss : Forest) → Reordered (filled tss) (filled uss) → Reordered (tree_waits tss) (tree_waits uss)
-same_waits tss uss r = subst (λ w. Reordered w (tree_waits uss)) (filled_waits tss) (subst (λ w. Reordered (tree_waits (filled tss)) w) (filled_waits uss)
-    (waits_reorder r))
+same_waits tss uss r = subst (λ w. Reordered w (tree_waits uss)) (filled_waits tss)
+    (subst (λ w. Reordered (tree_waits (filled tss)) w) (filled_waits uss) (waits_reorder r))

@@ -25,12 +25,13 @@ pub record Rested (f : Frame) : Type 0 where
   pub noted : f.life.noted ≡ []
   pub handlers : f.handlers ≡ []
 
-rested_by : (f : Frame) (hs : List Handler) (ns : List Note) (fs : List Frame) → f.handlers ≡ hs → f.life.noted ≡ ns → free hs ns fs ≡ true → Rested f × Each
-    Rested fs
+rested_by : (f : Frame) (hs : List Handler) (ns : List Note) (fs : List Frame) → f.handlers ≡ hs → f.life.noted ≡ ns →
+    free hs ns fs ≡ true → Rested f × Each Rested fs
 rested_by f (h ∷ hs) ns fs g i e = absurd (cc)
 rested_by f [] (n ∷ ns) fs g i e = absurd (cc)
 rested_by f [] [] [] g i e = (record { noted = i; handlers = g }, tt)
-rested_by f [] [] (x ∷ fs) g i e = let a = rested_by x x.handlers x.life.noted fs refl refl e in (record { noted = i; handlers = g }, (a.0, a.1))
+rested_by f [] [] (x ∷ fs) g i e = let a =
+    rested_by x x.handlers x.life.noted fs refl refl e in (record { noted = i; handlers = g }, (a.0, a.1))
 
 pub all_rested : (f : Frame) (fs : List Frame) → free f.handlers f.life.noted fs ≡ true → Rested f × Each Rested fs
 all_rested f fs e = rested_by f f.handlers f.life.noted fs refl refl e
@@ -95,8 +96,10 @@ module _ (c : Code) (s : Kept) (at : ℕ) (t : KeptTask) (ts : List KeptTask) wh
       Came (turned fs acc) top (frames_from c s at t ts depth (map (kp.frame 0) fs ++ top ∷ []) made)
   frames_again depth [] top acc made a b = record { birth = _; below = made; is = refl; alike = b }
   frames_again depth (f ∷ fs) top acc made a b = frames_again (suc depth) fs top (f ∷ acc) _ a.1 (
-    subst (λ n. FrameAlike f (sp.frame (sp.born s at depth (t ∷ ts) (suc (length (map (kp.frame 0) fs ++ top ∷ []))) ts) n (kp.frame 0 f))) (sym
-        (more_behind (map (kp.frame 0) fs) top (arms_of t.rest))) (frame_again _ 0 a.0.behind.0 f a.0.rested (bare f.place a.0.behind.0 a.0.behind.1)),
+    subst (λ n. FrameAlike f (sp.frame (sp.born s at depth (t ∷ ts) (suc (length (map (kp.frame 0) fs ++ top ∷ []))) ts) n (kp.frame 0 f)))
+        (sym
+        (more_behind (map (kp.frame 0) fs) top (arms_of t.rest)))
+        (frame_again _ 0 a.0.behind.0 f a.0.rested (bare f.place a.0.behind.0 a.0.behind.1)),
     b,
   )
 
@@ -138,34 +141,39 @@ pub record Made (c : Code) (s : Kept) (at : ℕ) (t : KeptTask) (ts : List KeptT
   pub below : FramesAlike y.thread.below task.thread.below
   pub rest : RestAlike y.rest task.rest
 
-module _ (c : Code) (s : Kept) (z : Scene) (next : ℕ) (ys : List Task) (y : Task) (fine : TaskFine c z next y) (rested : Rested y.thread.frame × Each Rested
+module _ (c : Code) (s : Kept) (z : Scene) (next : ℕ) (ys : List Task) (y : Task) (fine : TaskFine c z next y)
+    (rested : Rested y.thread.frame × Each Rested
     y.thread.below) (at : ℕ) (ts : List KeptTask) where
   lower : (fs : List Frame) → Each (LowerStill c z.entries) fs → Each Rested fs → Each (Lower c) fs
   lower [] a b = tt
   lower (f ∷ fs) a b = (record { rested = b.0; behind = a.0.1 }, lower fs a.1 b.1)
 
-  came : Came c s at (kp.task ys y) ts y.thread.below (kp.frame (kp.arms_behind y.rest) y.thread.frame) (frames_from c s at (kp.task ys y) ts 0 (kp.task ys
-      y).frames [])
-  came = subst (λ fs. Came c s at (kp.task ys y) ts fs (kp.frame (kp.arms_behind y.rest) y.thread.frame) (frames_from c s at (kp.task ys y) ts 0 (kp.task ys
-      y).frames [])) (turned_back y.thread.below) (frames_again c s at (kp.task ys y) ts 0 (reverse y.thread.below) (kp.frame (kp.arms_behind y.rest)
-      y.thread.frame) [] [] (each_reverse (Lower c) y.thread.below (lower y.thread.below fine.still.below rested.1)) tt)
+  came : Came c s at (kp.task ys y) ts y.thread.below (kp.frame (kp.arms_behind y.rest) y.thread.frame)
+      (frames_from c s at (kp.task ys y) ts 0 (kp.task ys y).frames [])
+  came = subst (λ fs. Came c s at (kp.task ys y) ts fs (kp.frame (kp.arms_behind y.rest) y.thread.frame)
+      (frames_from c s at (kp.task ys y) ts 0 (kp.task ys y).frames [])) (turned_back y.thread.below)
+      (frames_again c s at (kp.task ys y) ts 0 (reverse y.thread.below) (kp.frame (kp.arms_behind y.rest) y.thread.frame) [] []
+      (each_reverse (Lower c) y.thread.below (lower y.thread.below fine.still.below rested.1)) tt)
 
-  top_again : (birth : ℕ) → FrameAlike y.thread.frame (sp.frame birth (length (arms_of (kp.rest y.rest))) (kp.frame (kp.arms_behind y.rest) y.thread.frame))
+  top_again : (birth : ℕ) → FrameAlike y.thread.frame
+      (sp.frame birth (length (arms_of (kp.rest y.rest))) (kp.frame (kp.arms_behind y.rest) y.thread.frame))
   top_again birth = let h = top_behind c z next y.thread.frame.place y.rest fine.rest in
-      subst (λ n. FrameAlike y.thread.frame (sp.frame birth n (kp.frame (kp.arms_behind y.rest) y.thread.frame))) (sym (arms_number y.rest)) (frame_again birth
-      (kp.arms_behind y.rest) h.0 y.thread.frame rested.0 h.1)
+      subst (λ n. FrameAlike y.thread.frame (sp.frame birth n (kp.frame (kp.arms_behind y.rest) y.thread.frame))) (sym (arms_number y.rest))
+      (frame_again birth (kp.arms_behind y.rest) h.0 y.thread.frame rested.0 h.1)
 
-  rest_again : (q : Rest) → y.rest ≡ q → RestFine c z next y.thread.frame.place q → RestAlike q (sp.rest c s at (kp.task ys y) ts (kp.rest q))
+  rest_again : (q : Rest) → y.rest ≡ q → RestFine c z next y.thread.frame.place q →
+      RestAlike q (sp.rest c s at (kp.task ys y) ts (kp.rest q))
   rest_again (asleep w) e a = refl
-  rest_again (group j p gs) e a = subst (λ o. RestAlike (group j p gs) (gathered c o (parts_from c s at (kp.task ys y) ts 0 (map kp.arm gs)))) (sym stands) (
-    a.0.is_kind,
-    sym (ap or_nowhere a.0.is_source),
-    parts_again c s at (kp.task ys y) ts 0 gs,
-  )
+  rest_again (group j p gs) e a = subst (λ o. RestAlike (group j p gs)
+      (gathered c o (parts_from c s at (kp.task ys y) ts 0 (map kp.arm gs)))) (sym stands) (
+        a.0.is_kind,
+        sym (ap or_nowhere a.0.is_source),
+        parts_again c s at (kp.task ys y) ts 0 gs,
+      )
     where
       place : top_place (kp.task ys y).frames ≡ a.0.index
-      place = top_is (map (kp.frame 0) (reverse y.thread.below)) (kp.frame (kp.arms_behind y.rest) y.thread.frame) ∙ (ap (λ q. pred (y.thread.frame.place -
-          kp.arms_behind q)) e ∙ less y.thread.frame.place a.0.index (length gs) a.0.is_behind)
+      place = top_is (map (kp.frame 0) (reverse y.thread.below)) (kp.frame (kp.arms_behind y.rest) y.thread.frame) ∙
+          (ap (λ q. pred (y.thread.frame.place - kp.arms_behind q)) e ∙ less y.thread.frame.place a.0.index (length gs) a.0.is_behind)
 
       stands : task_stand c (kp.task ys y) ≡ gathers a.0.number (length gs) a.0.where_at
       stands = ap (stand_at c) place ∙ a.0.stand
@@ -173,8 +181,8 @@ module _ (c : Code) (s : Kept) (z : Scene) (next : ℕ) (ys : List Task) (y : Ta
   pub made : (ws : List Who) → Made c s at (kp.task ys y) ts ws y
   made ws = record {
     task = record {
-      thread = thread (who c s at (kp.task ys y) ts ws) (sp.frame came.birth (length (arms_of (kp.rest y.rest))) (kp.frame (kp.arms_behind y.rest)
-          y.thread.frame)) came.below;
+      thread = thread (who c s at (kp.task ys y) ts ws)
+          (sp.frame came.birth (length (arms_of (kp.rest y.rest))) (kp.frame (kp.arms_behind y.rest) y.thread.frame)) came.below;
       rest = sp.rest c s at (kp.task ys y) ts (kp.rest y.rest);
     };
     is = ap (with_frames c s at (kp.task ys y) ts (who c s at (kp.task ys y) ts ws)) came.is;

@@ -1,5 +1,6 @@
 -- What is kept of a state spells its trees again, but for the numbers.
-use Rattle.std.proofs.Common.{◌≡◌, ℕ, zero, suc, ◌+◌, ◌≤◌, ◌<◌, length, map, List, [], ◌∷◌, ◌++◌, Option, Some, None, Bool, true, false, refl, sym, subst}
+use Rattle.std.proofs.Common.{◌≡◌, ℕ, zero, suc, ◌+◌, ◌≤◌, ◌<◌, length, map, List, [], ◌∷◌, ◌++◌, Option, Some, None, Bool, true, false}
+use Rattle.std.proofs.Common.{refl, sym, subst}
 use Rattle.std.proofs.Common.{ap, ◌∙◌, arith, ◌⊎◌, cond, option_map}
 use mathlib.Core.Logic.{inl, inr}
 use Rattle.verse_code.specs.declared.codes.Code.{Code}
@@ -116,8 +117,8 @@ unfound q (x ∷ xs) e = by_test (same_path q x.thread.who.path) e (unfound q xs
     no_suc None e = refl
     no_suc (Some i) e = none_some (sym e)
 
-    by_test : (b : Bool) → cond b (Some 0) (option_map suc (place_of q xs)) ≡ None → (place_of q xs ≡ None → tasks_sum (is_named q) xs ≡ 0) → one b + tasks_sum
-        (is_named q) xs ≡ 0
+    by_test : (b : Bool) → cond b (Some 0) (option_map suc (place_of q xs)) ≡ None →
+        (place_of q xs ≡ None → tasks_sum (is_named q) xs ≡ 0) → one b + tasks_sum (is_named q) xs ≡ 0
     by_test true g h = none_some (sym g)
     by_test false g h = let k = h (no_suc (place_of q xs) g) in omega (arith, k)
 
@@ -139,7 +140,8 @@ module _ (c : Code) (x : Kept) (z : Scene) (next : ℕ) (ys us : List Task) (nam
   abbrev Given : Task → Type 0
   Given y = TaskFine c z next y × Still y.thread × HasOwn ys y
 
-  called : (fu rest : List Task) (y : Task) (n : ℕ) → us ≡ fu ++ rest → Named y → HasOwn ys y → ((p : ℕ) → place_of y.thread.who.up ys ≡ Some p → p < length fu) →
+  called : (fu rest : List Task) (y : Task) (n : ℕ) → us ≡ fu ++ rest → Named y → HasOwn ys y →
+      ((p : ℕ) → place_of y.thread.who.up ys ≡ Some p → p < length fu) →
       Called ys us y (named (parent_in (whos fu) (place_of y.thread.who.up ys)) (entry_of y.thread.who.role) n)
   called fu rest y n e own has below = by_place (place_of y.thread.who.up ys) refl
     where
@@ -158,26 +160,28 @@ module _ (c : Code) (x : Kept) (z : Scene) (next : ℕ) (ys us : List Task) (nam
       part_role (root entry) a p f = absurd (no_both (place_of y.thread.who.up ys) p (ap (λ up. place_of up ys) a.0 ∙ no_place ys names) f)
       part_role part a p f = refl
 
-      by_place : (o : Option ℕ) → place_of y.thread.who.up ys ≡ o → Called ys us y (named (parent_in (whos fu) o) (entry_of y.thread.who.role) n)
+      by_place : (o : Option ℕ) → place_of y.thread.who.up ys ≡ o →
+          Called ys us y (named (parent_in (whos fu) o) (entry_of y.thread.who.role) n)
       by_place None f = record {
         role = root_role y.thread.who.role own refl f;
         named = tt;
         root_up = λ g. refl;
         part_up = λ p g. absurd (no_both (place_of y.thread.who.up ys) p f g);
       }
-      by_place (Some p) f = let h = who_at fu p (below p f) in subst (λ o. Called ys us y (named o (entry_of y.thread.who.role) n)) (sym h.2) (record {
-        role = part_role y.thread.who.role own p f;
-        named = some_end h.0.thread.who.path n;
-        root_up = λ g. absurd (no_both (place_of y.thread.who.up ys) p g f);
-        part_up = λ q g. (h.0, ap (nth us) (some_is (sym g ∙ f)) ∙ (ap (λ l. nth l p) e ∙ front_at fu rest p h.0 h.1), refl);
-      })
+      by_place (Some p) f = let h = who_at fu p (below p f) in subst (λ o. Called ys us y (named o (entry_of y.thread.who.role) n))
+          (sym h.2) (record {
+            role = part_role y.thread.who.role own p f;
+            named = some_end h.0.thread.who.path n;
+            root_up = λ g. absurd (no_both (place_of y.thread.who.up ys) p g f);
+            part_up = λ q g. (h.0, ap (nth us) (some_is (sym g ∙ f)) ∙ (ap (λ l. nth l p) e ∙ front_at fu rest p h.0 h.1), refl);
+          })
 
   abbrev More : List Task → List Task → List Task
   More fu zs = tasks_from c x (whos fu) (map (kp.task ys) zs)
 
   -- each of a rest of the list, where these were spelled before
-  facts : (fu zs : List Task) → us ≡ fu ++ More fu zs → Each Named zs → Each Given zs → EachAt ParentBefore (length fu) (map (kp.task ys) zs) →
-      EachPair (Fact ys us) zs (More fu zs)
+  facts : (fu zs : List Task) → us ≡ fu ++ More fu zs → Each Named zs → Each Given zs →
+      EachAt ParentBefore (length fu) (map (kp.task ys) zs) → EachPair (Fact ys us) zs (More fu zs)
   facts fu [] e n g p = tt
   facts fu (y ∷ zs) e n g p = subst (EachPair (Fact ys us) (y ∷ zs)) (sym step) (
     fact,
@@ -186,14 +190,17 @@ module _ (c : Code) (x : Kept) (z : Scene) (next : ℕ) (ys us : List Task) (nam
   )
     where
       m : Made c x (length (whos fu)) (kp.task ys y) (map (kp.task ys) zs) (whos fu) y
-      m = made c x z next ys y g.0.0 (all_rested y.thread.frame y.thread.below g.0.1.free) (length (whos fu)) (map (kp.task ys) zs) (whos fu)
+      m = made c x z next ys y g.0.0 (all_rested y.thread.frame y.thread.below g.0.1.free) (length (whos fu)) (map (kp.task ys) zs)
+          (whos fu)
 
       step : More fu (y ∷ zs) ≡ m.task ∷ More (fu ++ m.task ∷ []) zs
-      step = ap (λ l. l ++ tasks_from c x (whos fu ++ sp.who c x (length (whos fu)) (kp.task ys y) (map (kp.task ys) zs) (whos fu) ∷ []) (map (kp.task ys) zs))
-          m.is ∙ ap (λ ws. m.task ∷ tasks_from c x ws (map (kp.task ys) zs)) (ap (λ w. whos fu ++ w ∷ []) (sym m.who_is) ∙ sym (whos_end fu m.task))
+      step = ap (λ l. l ++ tasks_from c x (whos fu ++ sp.who c x (length (whos fu)) (kp.task ys y) (map (kp.task ys) zs) (whos fu) ∷ [])
+          (map (kp.task ys) zs)) m.is ∙ ap (λ ws. m.task ∷ tasks_from c x ws (map (kp.task ys) zs))
+          (ap (λ w. whos fu ++ w ∷ []) (sym m.who_is) ∙ sym (whos_end fu m.task))
 
       name : Called ys us y m.task.thread.who
-      name = subst (Called ys us y) (sym m.who_is) (called fu (More fu (y ∷ zs)) y (number_at x (kp.task ys y ∷ map (kp.task ys) zs)) e n.0 g.0.2 p.0)
+      name = subst (Called ys us y) (sym m.who_is)
+          (called fu (More fu (y ∷ zs)) y (number_at x (kp.task ys y ∷ map (kp.task ys) zs)) e n.0 g.0.2 p.0)
 
       fact : Fact ys us y m.task
       fact = record {
@@ -208,21 +215,23 @@ module _ (c : Code) (x : Kept) (z : Scene) (next : ℕ) (ys us : List Task) (nam
 abbrev pub At : (ys us : List Task) → Task → Task → Type 0
 At ys us y u = (i : ℕ) × (nth ys i ≡ Some y) × (nth us i ≡ Some u) × Fact ys us y u
 
-placed_pairs : (ys us xs vs : List Task) (n : ℕ) → ((i : ℕ) (t : Task) → nth xs i ≡ Some t → nth ys (n + i) ≡ Some t) → ((i : ℕ) (t : Task) → nth vs i ≡ Some t →
-    nth us (n + i) ≡ Some t) → EachPair (Fact ys us) xs vs → EachPair (At ys us) xs vs
+placed_pairs : (ys us xs vs : List Task) (n : ℕ) → ((i : ℕ) (t : Task) → nth xs i ≡ Some t → nth ys (n + i) ≡ Some t) →
+    ((i : ℕ) (t : Task) → nth vs i ≡ Some t → nth us (n + i) ≡ Some t) → EachPair (Fact ys us) xs vs → EachPair (At ys us) xs vs
 placed_pairs ys us [] [] n f g a = tt
 placed_pairs ys us [] (v ∷ vs) n f g a = absurd a
 placed_pairs ys us (x ∷ xs) [] n f g a = absurd a
 placed_pairs ys us (x ∷ xs) (v ∷ vs) n f g a = (
   (n + 0, f 0 x refl, g 0 v refl, a.0),
-  placed_pairs ys us xs vs (suc n) (λ i t e. subst (λ j. nth ys j ≡ Some t) (sums n i) (f (suc i) t e)) (λ i t e. subst (λ j. nth us j ≡ Some t) (sums n i) (g
+  placed_pairs ys us xs vs (suc n) (λ i t e. subst (λ j. nth ys j ≡ Some t) (sums n i) (f (suc i) t e))
+      (λ i t e. subst (λ j. nth us j ≡ Some t) (sums n i) (g
       (suc i) t e)) a.1,
 )
   where
     sums : (n i : ℕ) → n + suc i ≡ suc n + i
     sums n i = omega arith
 
-module _ (ys us : List Task) (unique : (p : List ℕ) → tasks_sum (is_named p) ys ≤ 1) (apart : (p : List ℕ) → tasks_sum (is_named p) us ≤ 1) where
+module _ (ys us : List Task) (unique : (p : List ℕ) → tasks_sum (is_named p) ys ≤ 1)
+    (apart : (p : List ℕ) → tasks_sum (is_named p) us ≤ 1) where
   empty_not : (p : List ℕ) → IsSome p → same_path [] p ≡ false
   empty_not [] s = absurd s
   empty_not (i ∷ p) s = refl
@@ -232,28 +241,33 @@ module _ (ys us : List Task) (unique : (p : List ℕ) → tasks_sum (is_named p)
       same_path y.thread.who.up t.thread.who.path ≡ same_path u.thread.who.up v.thread.who.path
   tests y u t v a b = by_place (place_of y.thread.who.up ys) refl
     where
-      by_place : (o : Option ℕ) → place_of y.thread.who.up ys ≡ o → same_path y.thread.who.up t.thread.who.path ≡ same_path u.thread.who.up v.thread.who.path
-      by_place None e = not_same y.thread.who.up t.thread.who.path (λ f. none_some (sym e ∙ found y.thread.who.up ys b.0 t b.1 f (unique y.thread.who.up))) ∙ sym
-          (ap (λ up. same_path up v.thread.who.path) (a.3.root_up e) ∙ empty_not v.thread.who.path b.3.named)
+      by_place : (o : Option ℕ) → place_of y.thread.who.up ys ≡ o →
+          same_path y.thread.who.up t.thread.who.path ≡ same_path u.thread.who.up v.thread.who.path
+      by_place None e = not_same y.thread.who.up t.thread.who.path
+          (λ f. none_some (sym e ∙ found y.thread.who.up ys b.0 t b.1 f (unique y.thread.who.up))) ∙
+          sym (ap (λ up. same_path up v.thread.who.path) (a.3.root_up e) ∙ empty_not v.thread.who.path b.3.named)
       by_place (Some p) e = by_test (two_ways (same_path y.thread.who.up t.thread.who.path))
         where
           h : (w : Task) × (nth us p ≡ Some w) × (u.thread.who.up ≡ w.thread.who.path)
           h = a.3.part_up p e
 
-          by_test : (same_path y.thread.who.up t.thread.who.path ≡ true) ⊎ (same_path y.thread.who.up t.thread.who.path ≡ false) → same_path y.thread.who.up
-              t.thread.who.path ≡ same_path u.thread.who.up v.thread.who.path
+          by_test : (same_path y.thread.who.up t.thread.who.path ≡ true) ⊎ (same_path y.thread.who.up t.thread.who.path ≡ false) →
+              same_path y.thread.who.up t.thread.who.path ≡ same_path u.thread.who.up v.thread.who.path
           by_test (inl f) =
-              let same = some_is (sym e ∙ found y.thread.who.up ys b.0 t b.1 (same_is y.thread.who.up t.thread.who.path f) (unique y.thread.who.up)) in
+              let same = some_is (sym e ∙ found y.thread.who.up ys b.0 t b.1 (same_is y.thread.who.up t.thread.who.path f)
+              (unique y.thread.who.up)) in
               let task = some_is (sym h.1 ∙ (ap (nth us) same ∙ b.2)) in
               f ∙ sym (is_same u.thread.who.up v.thread.who.path (h.2 ∙ ap (λ (w : Task). w.thread.who.path) task))
-          by_test (inr f) = f ∙ sym (not_same u.thread.who.up v.thread.who.path (λ g. other (some_is (sym (found w_path us p h.0 h.1 refl (apart w_path)) ∙ found
-              w_path us b.0 v b.2 (sym h.2 ∙ g) (apart w_path)))))
+          by_test (inr f) = f ∙ sym (not_same u.thread.who.up v.thread.who.path
+              (λ g. other (some_is (sym (found w_path us p h.0 h.1 refl (apart w_path)) ∙
+              found w_path us b.0 v b.2 (sym h.2 ∙ g) (apart w_path)))))
             where
               w_path : List ℕ
               w_path = h.0.thread.who.path
 
               other : p ≡ b.0 → ⊥
-              other same = let q = placed y.thread.who.up ys p e in both (same_path y.thread.who.up t.thread.who.path) (is_same y.thread.who.up t.thread.who.path
+              other same = let q = placed y.thread.who.up ys p e in both (same_path y.thread.who.up t.thread.who.path)
+                  (is_same y.thread.who.up t.thread.who.path
                   (q.2 ∙ ap (λ (w : Task). w.thread.who.path) (some_is (sym q.1 ∙ (ap (nth ys) same ∙ b.1))))) f
                 where
                   both : (b : Bool) → b ≡ true → b ≡ false → ⊥
@@ -270,11 +284,12 @@ orderly_again left tss ordered o a = record {
   lines = reordered_each (λ ts. Lined left (whos ts)) o a.lines;
   names = λ p. at_most _ _ _ (reordered_sum (is_named p) o) (a.names p);
   arms = λ b some n. reordered_each (λ ts. tasks_sum (awaits b n) ts ≤ tasks_sum (is_named (b ++ n ∷ [])) ts) o (a.arms b some n);
-  younger = λ b some n k le. at_most _ _ _ (reordered_sum (weight (λ path. one (same_path (b ++ n ∷ []) path)) (skips b n k)) o) (a.younger b some n k le);
+  younger = λ b some n k le. at_most _ _ _ (reordered_sum (weight (λ path. one (same_path (b ++ n ∷ []) path)) (skips b n k)) o)
+      (a.younger b some n k le);
 }
 
-module _ (c : Code) (steps until : ℕ) (s : State) (tss ordered : Forest) (o : Reordered tss ordered) (a : Savable c steps until s tss) (b : Orderly s.clock.left
-    tss) where
+module _ (c : Code) (steps until : ℕ) (s : State) (tss ordered : Forest) (o : Reordered tss ordered) (a : Savable c steps until s tss)
+    (b : Orderly s.clock.left tss) where
   abbrev pub all : List Task
   all = walk ordered
 
@@ -294,38 +309,45 @@ module _ (c : Code) (steps until : ℕ) (s : State) (tss ordered : Forest) (o : 
   names = walk_each Named ordered (trees_names s.clock.left ordered again.lines)
 
   pub unique : (p : List ℕ) → tasks_sum (is_named p) all ≤ 1
-  unique p = at_most (tasks_sum (is_named p) all) (trees_sum (is_named p) ordered) 1 (walk_sum (is_named p) ordered) (further (trees_sum (is_named p) ordered)
-      (one (ltn s.clock.left (suc (last p)))) (again.names p) (one_most (ltn s.clock.left (suc (last p)))))
+  unique p = at_most (tasks_sum (is_named p) all) (trees_sum (is_named p) ordered) 1 (walk_sum (is_named p) ordered)
+      (further (trees_sum (is_named p) ordered) (one (ltn s.clock.left (suc (last p)))) (again.names p)
+      (one_most (ltn s.clock.left (suc (last p)))))
     where
       further : (i j : ℕ) → i ≤ j → j ≤ 1 → i ≤ 1
       further i j e f = omega (arith, e, f)
 
   pub apart : (p : List ℕ) → tasks_sum (is_named p) spelled ≤ 1
-  apart p = at_most (tasks_sum (is_named p) spelled) (r.tasks_sum (r.is_named p) spelled) 1 (sum_as p spelled) (names_apart c (kept s ordered) p)
+  apart p = at_most (tasks_sum (is_named p) spelled) (r.tasks_sum (r.is_named p) spelled) 1 (sum_as p spelled)
+      (names_apart c (kept s ordered) p)
 
   fine : Each (TaskFine c a.scene s.clock.next) all
   fine = walk_each (TaskFine c a.scene s.clock.next) ordered (reordered_each (λ ts. Each (TaskFine c a.scene s.clock.next) ts) o a.trees)
 
   pub given : Each (λ y. TaskFine c a.scene s.clock.next y × Still y.thread × HasOwn all y) all
-  given = three all fine (walk_each (λ (t : Task). Still t.thread) ordered still) (parents_from [] all names (walk_well s.clock.left ordered rooted))
+  given = three all fine (walk_each (λ (t : Task). Still t.thread) ordered still)
+      (parents_from [] all names (walk_well s.clock.left ordered rooted))
     where
-      three : (zs : List Task) → Each (TaskFine c a.scene s.clock.next) zs → Each (λ (t : Task). Still t.thread) zs → Each (HasOwn all) zs → Each (λ y. TaskFine c
-          a.scene s.clock.next y × Still y.thread × HasOwn all y) zs
+      three : (zs : List Task) → Each (TaskFine c a.scene s.clock.next) zs → Each (λ (t : Task). Still t.thread) zs → Each (HasOwn all) zs →
+          Each (λ y. TaskFine c a.scene s.clock.next y × Still y.thread × HasOwn all y) zs
       three [] f g h = tt
       three (y ∷ zs) f g h = ((f.0, g.0, h.0), three zs f.1 g.1 h.1)
 
   pub pairs : EachPair (At all spelled) all spelled
-  pairs = placed_pairs all spelled all spelled 0 (λ i t e. subst (λ j. nth all j ≡ Some t) (none i) e) (λ i t e. subst (λ j. nth spelled j ≡ Some t) (none i) e)
-      (facts c (kept s ordered) a.scene s.clock.next all spelled names [] all refl names given (parents_fit all names (walk_well s.clock.left ordered rooted)))
+  pairs = placed_pairs all spelled all spelled 0 (λ i t e. subst (λ j. nth all j ≡ Some t) (none i) e)
+      (λ i t e. subst (λ j. nth spelled j ≡ Some t) (none i) e)
+      (facts c (kept s ordered) a.scene s.clock.next all spelled names [] all refl names given
+      (parents_fit all names (walk_well s.clock.left ordered rooted)))
     where
       none : (i : ℕ) → i ≡ 0 + i
       none i = omega arith
 
   pub are_spelled : TreesAlike (filled ordered) (trees c (kept s ordered))
-  are_spelled = subst (λ f. TreesAlike f (grown [] spelled)) (trees_again s.clock.left ordered (rooted_trees s.clock.left ordered rooted still) again)
-      (trees_alike (At all spelled) (tests all spelled unique apart) (λ y u k. k.3.alike.role) (λ y u k. k.3.alike) (grown [] all) (grown [] spelled) (grown_pair
-      (At all spelled) (tests all spelled unique apart) (λ y u k. k.3.alike.role) all spelled [] [] pairs tt))
+  are_spelled = subst (λ f. TreesAlike f (grown [] spelled))
+      (trees_again s.clock.left ordered (rooted_trees s.clock.left ordered rooted still) again)
+      (trees_alike (At all spelled) (tests all spelled unique apart) (λ y u k. k.3.alike.role) (λ y u k. k.3.alike) (grown [] all)
+      (grown [] spelled) (grown_pair (At all spelled) (tests all spelled unique apart) (λ y u k. k.3.alike.role) all spelled [] [] pairs
+      tt))
 
 pub trees_are_spelled : TreesAreSpelled
-trees_are_spelled c steps until s tss x a b y = subst (λ k. TreesAlike (filled y.ordered) (trees c k)) (sym y.is) (are_spelled c steps until s tss y.ordered
-    y.reordered a b)
+trees_are_spelled c steps until s tss x a b y =
+    subst (λ k. TreesAlike (filled y.ordered) (trees c k)) (sym y.is) (are_spelled c steps until s tss y.ordered y.reordered a b)

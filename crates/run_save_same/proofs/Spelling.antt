@@ -42,6 +42,7 @@ filled_wait ((t ∷ ts) ∷ tss) = ap (λ ws. waits_of (t ∷ ts) ++ ws) (filled
 
 pub stopped_run_is_spelled : RunIsSavable → RunIsOrderly → StoppedRunIsSpelled
 stopped_run_is_spelled savable orderly c ns steps until s tss x valid bytes inputs short e y =
-    let a = trees_are_spelled c steps until s tss x (subst (StageSavable c steps until) e (savable c ns steps until (suc steps) valid bytes inputs short))
+    let a = trees_are_spelled c steps until s tss x
+    (subst (StageSavable c steps until) e (savable c ns steps until (suc steps) valid bytes inputs short))
     (subst StageOrderly e (orderly c ns steps until (suc steps) valid bytes)) y in
     record { alike = a; waits = sym (trees_wait (filled y.ordered) (trees c x) a) ∙ filled_wait y.ordered }

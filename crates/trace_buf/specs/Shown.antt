@@ -31,4 +31,5 @@ pub record IsWhole (s : Inside) : Type 0 where
   pub size : s.bytes ≡ s.drained_bytes + length (printed (map line_of s.lines.items))
   pub limit : s.bytes ≤ MOST_TRACE_BYTES
   pub few : s.drained_lines ≤ s.drained_bytes
-  pub stands : Stands s.drained_lines s.drained_bytes (map line_of s.lines.items) (reverse s.marks.items)
+  pub stands : Stands s.drained_lines s.drained_bytes (map line_of s.lines.items)
+      (reverse s.marks.items)

@@ -1,5 +1,6 @@
 -- What undoes a change.
-use Rattle.std.proofs.Common.{◌≡◌, ℤ, true, List, [], ◌∷◌, length, Option, Some, None, IsSome, IfSome, OnSome, refl, sym, ap, subst, ◌∙◌, arith}
+use Rattle.std.proofs.Common.{◌≡◌, ℤ, true, List, [], ◌∷◌, length, Option, Some, None, IsSome, IfSome, OnSome, refl, sym, ap, subst, ◌∙◌}
+use Rattle.std.proofs.Common.{arith}
 use Rattle.std.specs.Option.{is_some}
 use Rattle.std.proofs.lemmas.List.{length_push, take_at}
 use Rattle.verse_value.specs.Val.{Val, int}

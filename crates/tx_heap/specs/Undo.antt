@@ -1,5 +1,6 @@
 -- What a log undoes. Entries stand in the order of the changes, marks the newest first.
-use Rattle.std.specs.Prelude.{◌≡◌, Option, Some, None, IsSome, ◌<◌, ◌≤◌, ◌+◌, ◌-◌, ℕ, List, [], ◌∷◌, length, take, drop}
+use Rattle.std.specs.Prelude.{◌≡◌, Option, Some, None, IsSome, ◌<◌, ◌≤◌, ◌+◌, ◌-◌, ℕ, List, [], ◌∷◌}
+use Rattle.std.specs.Prelude.{length, take, drop}
 use Rattle.verse_value.specs.Val.{Val}
 use Rattle.verse_value.specs.View.{val_of, vals_of}
 use Rattle.verse_value.specs.Store.{Store, slot_of, stored}
@@ -21,12 +22,14 @@ changed (Some v) at f cells = stored cells at.cell at.slot (f v)
 -- the cells before a change
 abbrev pub back : Entry → Store → Store
 back (entry.Slot at old) cells = stored cells at.cell at.slot (val_of old)
-back (entry.Part at path undo) cells = changed (slot_of cells at.cell at.slot) at (undone (vals_of path) undo) cells
+back (entry.Part at path undo) cells =
+    changed (slot_of cells at.cell at.slot) at (undone (vals_of path) undo) cells
 back entry.Added cells = without_last cells
 
 abbrev pub CanGoBack : Entry → Store → Type 0
 CanGoBack (entry.Slot at old) cells = IsSome (slot_of cells at.cell at.slot)
-CanGoBack (entry.Part at path undo) cells = CanUndoIn (vals_of path) undo (slot_of cells at.cell at.slot)
+CanGoBack (entry.Part at path undo) cells =
+    CanUndoIn (vals_of path) undo (slot_of cells at.cell at.slot)
 CanGoBack entry.Added cells = 0 < length cells
 
 -- the cells before all these changes: the newest is undone first
@@ -66,11 +69,13 @@ pub record IsWhole (log : List Entry) (marks : List Mark) (cells : Store) : Type
   pub weighed : AllWeighed marks (copies log cells marks)
 
 -- how far the undoing of `all` to `start` entries has come
-pub record Undoing (start : ℕ) (all : List Entry) (before : Held) (log : List Entry) (now : Held) : Type 0 where
+pub record Undoing (start : ℕ) (all : List Entry) (before : Held) (log : List Entry) (now : Held) :
+    Type 0 where
   pub within : start ≤ length log
   pub front : log ≡ take (length log) all
   pub undoable : Undoable log (store_of now)
-  pub alike : (m : ℕ) → m ≤ start → rewound (drop m log) (store_of now) ≡ rewound (drop m all) (store_of before)
+  pub alike : (m : ℕ) → m ≤ start →
+      rewound (drop m log) (store_of now) ≡ rewound (drop m all) (store_of before)
   pub count : now.accesses + length log ≤ before.accesses + length all
 
 -- a write went from one value of the slot to another, and can be undone

@@ -1,6 +1,7 @@
--- What the front end makes of the files of a program: its items, or a refusal with its place, layer by layer. Each layer goes over all
--- files before the next one begins.
-use Rattle.std.specs.Prelude.{◌≡◌, ℕ, ◌<◌, ◌≤◌, List, [], Option, Some, None, length, slice_get, drop}
+-- What the front end makes of the files of a program: its items, or a refusal with its place, layer
+-- by layer. Each layer goes over all files before the next one begins.
+use Rattle.std.specs.Prelude.{◌≡◌, ℕ, ◌<◌, ◌≤◌, List, [], Option, Some, None, length, slice_get}
+use Rattle.std.specs.Prelude.{drop}
 use Rattle.std.specs.List.{flat_map}
 use Rattle.verse_base.specs.declared.limits.TheConstants.{MOST_FILE_BYTES}
 use Rattle.verse_base.specs.declared.places.Place.{Place}
@@ -33,7 +34,8 @@ place_or (Some k) place = k.place
 
 -- the place of the tok of this index, or the file's end
 abbrev pub tok_place : ℕ → List ℕ → List Tok → ℕ → Place
-tok_place file bytes toks index = place_or (slice_get toks index) (place_at file bytes (length bytes))
+tok_place file bytes toks index =
+    place_or (slice_get toks index) (place_at file bytes (length bytes))
 
 abbrev pub refusal : ℕ → Place → Refusal
 refusal rule place = record { rule = record { 0 = rule }; place = place }
@@ -54,7 +56,8 @@ pub record Laid : Type 0 where
 abbrev pub sized : ℕ → Stage (List ℕ) (List ℕ)
 sized file = record {
   makes = λ (bs : List ℕ) (cs : List ℕ). (cs ≡ bs) × (length bs ≤ MOST_FILE_BYTES);
-  refuses = λ (bs : List ℕ) (r : Refusal). (MOST_FILE_BYTES < length bs) × (r ≡ refusal 2 (first_place file));
+  refuses = λ (bs : List ℕ) (r : Refusal). (MOST_FILE_BYTES < length bs) ×
+      (r ≡ refusal 2 (first_place file));
 }
 
 abbrev pub cutting : ℕ → Stage (List ℕ) Cut
@@ -72,9 +75,11 @@ laying file = record {
 -- the items that the toks spell, which no other items are
 abbrev pub spelling : ℕ → Stage Laid (List ItemTree)
 spelling file = record {
-  makes = λ (l : Laid) (is : List ItemTree). Program l.bytes l.toks is [] × ((js : List ItemTree) → Program l.bytes l.toks js [] → js ≡ is);
+  makes = λ (l : Laid) (is : List ItemTree). Program l.bytes l.toks is [] ×
+      ((js : List ItemTree) → Program l.bytes l.toks js [] → js ≡ is);
   refuses = λ (l : Laid) (r : Refusal).
-      (index : ℕ) × IsStuck l.toks index × (r ≡ refusal (stop_rule (ahead (drop index l.toks))) (tok_place file l.bytes l.toks index));
+      (index : ℕ) × IsStuck l.toks index ×
+      (r ≡ refusal (stop_rule (ahead (drop index l.toks))) (tok_place file l.bytes l.toks index));
 }
 
 -- ---- the layers over the whole program
@@ -85,21 +90,24 @@ all_items iss = flat_map (λ (is : List ItemTree). is) iss
 -- the items of all files, their nodes numbered in written post-order
 abbrev pub joining : Stage (List (List ItemTree)) (List ItemTree)
 joining = record {
-  makes = λ (iss : List (List ItemTree)) (is : List ItemTree). is ≡ items_numbered (all_items iss) 0;
+  makes = λ (iss : List (List ItemTree)) (is : List ItemTree). is ≡
+      items_numbered (all_items iss) 0;
   refuses = λ (iss : List (List ItemTree)) (r : Refusal). ⊥;
 }
 
 -- a program that breaks no rule of names
 abbrev pub naming : Stage (List ItemTree) (List ItemTree)
 naming = record {
-  makes = λ (is : List ItemTree) (js : List ItemTree). (js ≡ is) × ((n c : ℕ) → NamesBreak is n c → ⊥);
+  makes = λ (is : List ItemTree) (js : List ItemTree). (js ≡ is) ×
+      ((n c : ℕ) → NamesBreak is n c → ⊥);
   refuses = λ (is : List ItemTree) (r : Refusal). IsMisnamed is r;
 }
 
 -- a program that breaks no rule of types or effects
 abbrev pub typing : Stage (List ItemTree) (List ItemTree)
 typing = record {
-  makes = λ (is : List ItemTree) (js : List ItemTree). (js ≡ is) × ((n c : ℕ) → BodiesBreak is n c → ⊥);
+  makes = λ (is : List ItemTree) (js : List ItemTree). (js ≡ is) ×
+      ((n c : ℕ) → BodiesBreak is n c → ⊥);
   refuses = λ (is : List ItemTree) (r : Refusal). IsMistyped is r;
 }
 
@@ -107,7 +115,8 @@ typing = record {
 abbrev pub bounding : Stage (List ItemTree) (List ItemTree)
 bounding = record {
   makes = λ (is : List ItemTree) (js : List ItemTree). (js ≡ is) × (size_of is ≤ most_size);
-  refuses = λ (is : List ItemTree) (r : Refusal). (most_size < size_of is) × (r ≡ refusal 98 program_place);
+  refuses = λ (is : List ItemTree) (r : Refusal). (most_size < size_of is) ×
+      (r ≡ refusal 98 program_place);
 }
 
 -- the rules over the whole program, one group behind the other

@@ -30,7 +30,8 @@ module _ {A B : Type 0} (s : ℕ → Stage A B) where
   -- the first file that it refuses
   abbrev pub refuses_first : ℕ → List A → Refusal → Type 0
   refuses_first n [] r = ⊥
-  refuses_first n (a ∷ as1) r = (s n).refuses a r ⊎ ((b : B) × (s n).makes a b × refuses_first (suc n) as1 r)
+  refuses_first n (a ∷ as1) r = (s n).refuses a r ⊎
+      ((b : B) × (s n).makes a b × refuses_first (suc n) as1 r)
 
   -- a layer over the files in turn
   abbrev pub in_turn : Stage (List A) (List B)

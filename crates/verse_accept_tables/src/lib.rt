@@ -3,8 +3,8 @@
 //! for. Read `Sound`, what is known of an accepted program, then `Laws`.
 //!
 //! In `proofs/`: `Numbers` and `Functions` have what the tables count; `Standing`, `Passing`,
-//! `Referring` and `Members` what names stand for; `Methods`, `Fields` and `Counts` what a class has
-//! of its ancestors; `Main` what follows where no rule of names is broken; `Whole` the laws.
+//! `Referring` and `Members` what names stand for; `Methods`, `Fields` and `Counts` what a class
+//! has of its ancestors; `Main` what follows where no rule of names is broken; `Whole` the laws.
 #![tactic(auto)]
 
 ghost use Rattle.verse_accept_tables.specs.Laws.{MainStands, NumbersStand, SizeFits, TablesStand};

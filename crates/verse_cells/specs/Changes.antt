@@ -1,5 +1,6 @@
 -- Changes of one slot.
-use Rattle.std.specs.Prelude.{◌≡◌, ◌≢◌, ℕ, ℤ, ◌+◌, min, nat_le, List, take, length, ◌-◌, Option, Some, None, option_map, Result, Ok, Err}
+use Rattle.std.specs.Prelude.{◌≡◌, ◌≢◌, ℕ, ℤ, ◌+◌, min, nat_le, List, take, length, ◌-◌, Option}
+use Rattle.std.specs.Prelude.{Some, None, option_map, Result, Ok, Err}
 use Rattle.std.specs.Prelude.{if◌then◌else◌, slice_get, slice_set}
 use Rattle.verse_base.specs.declared.refusals.Kind.TheVariants as kind
 use Rattle.verse_value.specs.Val.{Val, int}
@@ -18,7 +19,8 @@ use Rattle.verse_cells.specs.declared.slots.Wanted.TheVariants.{Copy, Nothing}
 
 -- a slot may grow by no more than the weight that is spare
 abbrev pub spared : ℕ → Val → Result (Val × Val) WriteFault → Result (Val × Val) WriteFault
-spared spare from (Ok w) = if nat_le (weight_of w.0) (weight_of from + spare) then Ok w else Err (Fault kind.Store)
+spared spare from (Ok w) = if nat_le (weight_of w.0) (weight_of from + spare) then Ok w else Err
+    (Fault kind.Store)
 spared spare from (Err fault) = Err fault
 
 -- what a write in a slot comes to: its new value and the value written, or why there is neither
@@ -32,8 +34,8 @@ IsWanted Copy copy wrote = option_map val_of copy ≡ Some wrote
 IsWanted Nothing copy wrote = copy ≡ None
 
 -- what a write hands out where the slot went from one value to another
-pub record IsWrite (spare : ℕ) (path : List Val) (mode : Mode) (value : Val) (wanted : Wanted) (change : Change) (from to : Val) :
-    Type 0 where
+pub record IsWrite (spare : ℕ) (path : List Val) (mode : Mode) (value : Val) (wanted : Wanted)
+    (change : Change) (from to : Val) : Type 0 where
   pub wrote : Val
   pub gives : spared spare from (written path mode value from) ≡ Ok (to, wrote)
   pub answers : IsWanted wanted change.value wrote

@@ -16,7 +16,8 @@ use Rattle.verse_rules_walk.proofs.Order.{numbers_rise}
 use Rattle.verse_names_declarations.specs.Known.{known}
 use Rattle.verse_names_declarations.specs.Lines.{Members}
 use Rattle.verse_check_typing.specs.Facts.{World, Facts, class_members, enum_values, world_of}
-use Rattle.verse_check_typing.specs.Steps.{Sight, facts, own_rules, rules_at, type_by, own, serves_as, cut, served, judge, step, Breaks, begun}
+use Rattle.verse_check_typing.specs.Steps.{Sight, facts, own_rules, rules_at, type_by, own, serves_as, cut, served, judge, step, Breaks}
+use Rattle.verse_check_typing.specs.Steps.{begun}
 use Rattle.verse_check_typing.specs.Steps.{seen}
 use Rattle.verse_check.specs.Checking.{world_by, all_seen, TellsTypes}
 

@@ -19,9 +19,11 @@ world_by k ms vs = record { names = k; members = ms; values = vs }
 abbrev pub all_seen : Names → List ItemTree → Sight
 all_seen k is = seen (world_of k is) (items_nodes is)
 
--- the type of each node is the one that it is judged to have by what is found at the nodes before it
+-- the type of each node is the one that it is judged to have by what is found at the nodes before
+-- it
 abbrev pub AreTypes : World → List Node → List Ty → Type 0
-AreTypes k vs ts = (i : ℕ) (v : Node) → slice_get vs i ≡ Some v → slice_get ts i ≡ Some (judge (facts k (seen k (take i vs))) v).ty
+AreTypes k vs ts = (i : ℕ) (v : Node) → slice_get vs i ≡ Some v →
+    slice_get ts i ≡ Some (judge (facts k (seen k (take i vs))) v).ty
 
 abbrev pub AreTypesOf : Names → List ItemTree → List Ty → Type 0
 AreTypesOf k is ts = AreTypes (world_of k is) (items_nodes is) ts

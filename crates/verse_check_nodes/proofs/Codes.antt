@@ -10,7 +10,8 @@ use Rattle.verse_rules_walk.specs.Around.{Around}
 use Rattle.verse_check_typing.specs.Facts.{Facts}
 use Rattle.verse_check_typing.specs.Rows.{row}
 use Rattle.verse_check_typing.specs.Steps.{form_rules, expression_rules}
-use Rattle.verse_check_typing.specs.TypeRules.{mismatched, uncallable, miscounted, incomparable, unsettable, lacking, memberless, alone, uncovered}
+use Rattle.verse_check_typing.specs.TypeRules.{mismatched, uncallable, miscounted, incomparable, unsettable, lacking, memberless, alone}
+use Rattle.verse_check_typing.specs.TypeRules.{uncovered}
 use Rattle.verse_check_typing.specs.TypeRules.{unrounded, is_keyless, is_too_deep}
 use Rattle.verse_check_nodes.specs.Codes.{least_code, code_with}
 

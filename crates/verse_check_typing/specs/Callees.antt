@@ -52,7 +52,8 @@ abbrev pub task_action : Bytes → Ty → Ty → Callee
 task_action x u t = cond (bytes_eq x (codes "Await")) (await u) (value t)
 
 abbrev pub event_action : Bytes → Ty → Ty → Callee
-event_action x u t = cond (bytes_eq x (codes "Await")) (await u) (cond (bytes_eq x (codes "Signal")) (signal u) (value t))
+event_action x u t = cond (bytes_eq x (codes "Await")) (await u)
+    (cond (bytes_eq x (codes "Signal")) (signal u) (value t))
 
 -- a member that refers to nothing, by the type of its object
 abbrev pub action_of : Ty → Bytes → Ty → Callee

@@ -1,12 +1,16 @@
 -- Calls with round brackets, and with square ones, which are an index behind what is no function.
-use Rattle.std.specs.Prelude.{ℕ, zero, suc, ℤ, pos, negsuc, Bool, true, false, not, cond, nat_eq, ◌&&◌, length, Option, Some, None}
+use Rattle.std.specs.Prelude.{ℕ, zero, suc, ℤ, pos, negsuc, Bool, true, false, not, cond, nat_eq}
+use Rattle.std.specs.Prelude.{◌&&◌, length, Option, Some, None}
 use Rattle.verse_tree.specs.Tree.{Tree, tree, Shape, Trees, no_trees, more_trees}
 use Rattle.verse_tree.specs.Tree as s
-use Rattle.verse_rules_types.specs.Types.{Ty, Tys, never, void, int, string, array, mapping, tuple, no_tys, more_tys, ty_of}
+use Rattle.verse_rules_types.specs.Types.{Ty, Tys, never, void, int, string, array, mapping, tuple}
+use Rattle.verse_rules_types.specs.Types.{no_tys, more_tys, ty_of}
 use Rattle.verse_rules_types.specs.Fitting.{fits}
 use Rattle.verse_check_typing.specs.Facts.{Facts, classes, type_of, or_never}
-use Rattle.verse_check_typing.specs.Parts.{count, first_from, second_from, is_never, is_void, is_int, is_quotient}
-use Rattle.verse_check_typing.specs.Callees.{Callee, function, print, round, modulo, await, signal, item, value}
+use Rattle.verse_check_typing.specs.Parts.{count, first_from, second_from, is_never, is_void}
+use Rattle.verse_check_typing.specs.Parts.{is_int, is_quotient}
+use Rattle.verse_check_typing.specs.Callees.{Callee, function, print, round, modulo, await, signal}
+use Rattle.verse_check_typing.specs.Callees.{item, value}
 
 abbrev pub ty_at : Tys → ℕ → Option Ty
 ty_at no_tys i = None
@@ -104,7 +108,8 @@ index_fits f (array t) es = would_be_int (first_from f es)
 index_fits f (mapping k t) es = would_fit f (first_from f es) k
 index_fits f t es = false
 
--- an array with an int or a map with what fits its key; with several arguments it is their number that is wrong
+-- an array with an int or a map with what fits its key; with several arguments it is their number
+-- that is wrong
 abbrev pub can_index : Facts → Ty → Trees → Bool
 can_index f never es = true
 can_index f (array t) es = cond (nat_eq (count es) 1) (index_fits f (array t) es) true

@@ -61,7 +61,8 @@ is_of_enum e (enum d) = nat_eq d e
 is_of_enum e t = false
 
 abbrev pub with_valued : Facts → ℕ → ℕ → Shape → List Bytes → List Bytes
-with_valued f e n (s.Shape.enum_pattern x y) ys = cond (is_of_enum e (type_at f.types n)) (with_name y ys) ys
+with_valued f e n (s.Shape.enum_pattern x y) ys =
+    cond (is_of_enum e (type_at f.types n)) (with_name y ys) ys
 with_valued f e n s ys = ys
 
 abbrev pub with_pattern : Facts → ℕ → Tree → List Bytes → List Bytes

@@ -1,5 +1,6 @@
 -- What is known at a node: the tables of a program, and what was found at the nodes before it.
-use Rattle.std.specs.Prelude.{ℕ, ◌+◌, Bool, false, List, [], ◌∷◌, ◌++◌, length, Option, Some, None, slice_get}
+use Rattle.std.specs.Prelude.{ℕ, ◌+◌, Bool, false, List, [], ◌∷◌, ◌++◌, length, Option, Some, None}
+use Rattle.std.specs.Prelude.{slice_get}
 use Rattle.verse_tree.specs.Tree.{Bytes, Tree, Trees, no_trees, more_trees}
 use Rattle.verse_tree.specs.ItemTree.{ItemTree, using, enumeration, class, function}
 use Rattle.verse_tree.specs.declared.tables.Names.{Names}

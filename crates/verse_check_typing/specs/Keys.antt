@@ -1,6 +1,7 @@
 -- Types whose maps have keys that can be keys.
 use Rattle.std.specs.Prelude.{Bool, true, ◌&&◌}
-use Rattle.verse_rules_types.specs.Types.{Ty, Tys, option, array, task, event, mapping, tuple, no_tys, more_tys}
+use Rattle.verse_rules_types.specs.Types.{Ty, Tys, option, array, task, event, mapping, tuple}
+use Rattle.verse_rules_types.specs.Types.{no_tys, more_tys}
 use Rattle.verse_rules_types.specs.Kinds.{is_key}
 
 abbrev mutual

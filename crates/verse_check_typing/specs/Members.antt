@@ -1,5 +1,6 @@
 -- Members by their names, of classes and of other types.
-use Rattle.std.specs.Prelude.{ℕ, ◌+◌, Bool, true, false, not, cond, ◌&&◌, ◌||◌, List, [], ◌∷◌, map, Option, Some, None, slice_get, codes}
+use Rattle.std.specs.Prelude.{ℕ, ◌+◌, Bool, true, false, not, cond, ◌&&◌, ◌||◌, List, [], ◌∷◌, map}
+use Rattle.std.specs.Prelude.{Option, Some, None, slice_get, codes}
 use Rattle.std.specs.Str.{bytes_eq}
 use Rattle.verse_tree.specs.Tree.{Bytes, Tree, Givens, no_givens, more_givens}
 use Rattle.verse_tree.specs.declared.tables.FieldInfo.{FieldInfo}
@@ -140,7 +141,8 @@ fits_field f c t (Some i) = fits (classes f) t (field_type f c i)
 -- each value fits its field, where there is a field of its name
 abbrev pub givens_fit : Facts → ℕ → Givens → Bool
 givens_fit f c no_givens = true
-givens_fit f c (more_givens x e gs) = fits_field f c (type_of f e) (field_by f c x) && givens_fit f c gs
+givens_fit f c (more_givens x e gs) =
+    fits_field f c (type_of f e) (field_by f c x) && givens_fit f c gs
 
 abbrev pub is_place : Option ℕ → Bool
 is_place None = false

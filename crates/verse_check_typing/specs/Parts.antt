@@ -1,13 +1,16 @@
 -- The types of several parts, and what operators make of types.
-use Rattle.std.specs.Prelude.{ℕ, ◌+◌, Bool, true, false, not, cond, ◌&&◌, ◌||◌, List, Option, Some, None}
-use Rattle.verse_tree.specs.Tree.{Tree, Trees, no_trees, more_trees, Holes, no_holes, more_holes, Pairs, no_pairs, more_pairs}
+use Rattle.std.specs.Prelude.{ℕ, ◌+◌, Bool, true, false, not, cond, ◌&&◌, ◌||◌, List, Option, Some}
+use Rattle.std.specs.Prelude.{None}
+use Rattle.verse_tree.specs.Tree.{Tree, Trees, no_trees, more_trees, Holes, no_holes, more_holes}
+use Rattle.verse_tree.specs.Tree.{Pairs, no_pairs, more_pairs}
 use Rattle.verse_tree.specs.declared.exprs.Operator.{Operator}
 use Rattle.verse_tree.specs.declared.exprs.Operator.TheVariants as o
 use Rattle.verse_tree.specs.declared.exprs.Comparison.{Comparison}
 use Rattle.verse_tree.specs.declared.exprs.Comparison.TheVariants as c
 use Rattle.verse_tree.specs.declared.exprs.Assign.{Assign}
 use Rattle.verse_tree.specs.declared.exprs.Assign.TheVariants as a
-use Rattle.verse_rules_types.specs.Types.{Ty, Tys, never, nil, void, int, logic, char, string, option, array, mapping, no_tys, more_tys, Class}
+use Rattle.verse_rules_types.specs.Types.{Ty, Tys, never, nil, void, int, logic, char, string}
+use Rattle.verse_rules_types.specs.Types.{option, array, mapping, no_tys, more_tys, Class}
 use Rattle.verse_rules_types.specs.Fitting.{fits, join}
 use Rattle.verse_rules_types.specs.Kinds.{is_comparable}
 use Rattle.verse_rules_walk.specs.Nodes.{number_of_tree}

@@ -1,5 +1,6 @@
 -- What nodes refer to, by their numbers, and the functions that references stand for.
-use Rattle.std.specs.Prelude.{ℕ, Bool, true, false, cond, nat_eq, List, Option, Some, None, slice_get}
+use Rattle.std.specs.Prelude.{ℕ, Bool, true, false, cond, nat_eq, List, Option, Some, None}
+use Rattle.std.specs.Prelude.{slice_get}
 use Rattle.verse_tree.specs.declared.tables.Names.{Names}
 use Rattle.verse_tree.specs.declared.tables.FunInfo.{FunInfo}
 use Rattle.verse_tree.specs.declared.tables.ClassInfo.{ClassInfo}
@@ -43,4 +44,5 @@ function_by k (Some r) = function_of k r
 -- `Print`, `Floor`, `Ceil` and `Mod` by their numbers
 abbrev pub builtin_by : ℕ → Option Builtin
 builtin_by i = cond (nat_eq i 0) (Some b.Print)
-    (cond (nat_eq i 1) (Some b.Round) (cond (nat_eq i 2) (Some b.Round) (cond (nat_eq i 3) (Some b.Modulo) None)))
+    (cond (nat_eq i 1) (Some b.Round)
+    (cond (nat_eq i 2) (Some b.Round) (cond (nat_eq i 3) (Some b.Modulo) None)))

@@ -4,14 +4,16 @@ use Rattle.verse_tree.specs.Tree.{Bytes, Tree, tree, Shape}
 use Rattle.verse_tree.specs.Tree as s
 use Rattle.verse_tree.specs.declared.tables.Ref.{Ref}
 use Rattle.verse_tree.specs.declared.tables.Ref.TheVariants as ref
-use Rattle.verse_rules_types.specs.Types.{Ty, never, nil, void, int, logic, char, string, enum, class, option, array, task, event, mapping, tuple}
+use Rattle.verse_rules_types.specs.Types.{Ty, never, nil, void, int, logic, char, string, enum}
+use Rattle.verse_rules_types.specs.Types.{class, option, array, task, event, mapping, tuple}
 use Rattle.verse_rules_types.specs.Fitting.{join}
 use Rattle.verse_check_typing.specs.Refs.{ref_at}
 use Rattle.verse_rules_walk.specs.Nodes.{number_of_tree}
 use Rattle.verse_check_typing.specs.Sets.{has_number}
 use Rattle.verse_check_typing.specs.Facts.{Facts, classes, named_ref, type_at, type_of}
 use Rattle.verse_check_typing.specs.Spelling.{spelled_by}
-use Rattle.verse_check_typing.specs.Parts.{types_of, joined, keys_from, values_from, last_type, chain_type, compared_type, assigned_type}
+use Rattle.verse_check_typing.specs.Parts.{types_of, joined, keys_from, values_from, last_type}
+use Rattle.verse_check_typing.specs.Parts.{chain_type, compared_type, assigned_type}
 use Rattle.verse_check_typing.specs.Parts.{queried_type}
 use Rattle.verse_check_typing.specs.Members.{field_type, member_of, part_type, is_value}
 use Rattle.verse_check_typing.specs.Callees.{callee_of}
@@ -23,7 +25,8 @@ use Rattle.verse_check_typing.specs.Cases.{case_type}
 abbrev pub spelled : Facts → s.Written → Ty
 spelled f w = spelled_by f.world.names.refs w
 
--- a name stands for a value of the type of its definition; K of `K -> V : M` is told by the type of M, the node before
+-- a name stands for a value of the type of its definition; K of `K -> V : M` is told by the type of
+-- M, the node before
 abbrev pub name_type : Facts → Option Ref → Ty
 name_type f None = never
 name_type f (Some (ref.Local m)) = type_at f.types m
@@ -69,7 +72,8 @@ row f n (s.Shape.negation a) = void
 row f n (s.Shape.minus a) = int
 row f n (s.Shape.call a ts) = call_type (callee_of f a) ts
 row f n (s.Shape.index a ts) = index_type (callee_of f a) ts
-row f n (s.Shape.member a x) = part_type (member_of f (ref_at f.refs (number_of_tree a)) (type_of f a) x)
+row f n (s.Shape.member a x) =
+    part_type (member_of f (ref_at f.refs (number_of_tree a)) (type_of f a) x)
 row f n (s.Shape.query a) = queried_type (type_of f a)
 row f n (s.Shape.integer x) = int
 row f n (s.Shape.character x) = char

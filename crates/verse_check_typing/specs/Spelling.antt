@@ -3,7 +3,8 @@ use Rattle.std.specs.Prelude.{ℕ, List, Option, Some, None}
 use Rattle.verse_tree.specs.Tree.{Written, Writtens, no_writtens, more_writtens}
 use Rattle.verse_tree.specs.Tree as t
 use Rattle.verse_tree.specs.declared.tables.Ref.{Ref}
-use Rattle.verse_rules_types.specs.Types.{Ty, Tys, void, int, logic, char, string, option, array, task, event, mapping, tuple, no_tys, more_tys}
+use Rattle.verse_rules_types.specs.Types.{Ty, Tys, void, int, logic, char, string, option, array}
+use Rattle.verse_rules_types.specs.Types.{task, event, mapping, tuple, no_tys, more_tys}
 use Rattle.verse_names_declarations.specs.Functions.{named_type}
 use Rattle.verse_check_typing.specs.Refs.{ref_at}
 

@@ -1,5 +1,6 @@
 -- What is found at a node, and the pass from node to node.
-use Rattle.std.specs.Prelude.{ℕ, Bool, true, false, not, cond, nat_lt, ◌&&◌, List, [], ◌∷◌, ◌++◌, map, Option, Some, None, slice_get}
+use Rattle.std.specs.Prelude.{ℕ, Bool, true, false, not, cond, nat_lt, ◌&&◌, List, [], ◌∷◌, ◌++◌}
+use Rattle.std.specs.Prelude.{map, Option, Some, None, slice_get}
 use Rattle.verse_base.specs.declared.rules.TheConstants.{ALONE, INCOMPARABLE, LACKING, MEMBERLESS}
 use Rattle.verse_base.specs.declared.rules.TheConstants.{MISCOUNTED, TYPES_DIFFER, TYPE_TOO_DEEP}
 use Rattle.verse_base.specs.declared.rules.TheConstants.{UNCALLABLE, UNCOVERED}
@@ -7,25 +8,30 @@ use Rattle.verse_base.specs.declared.rules.TheConstants.{UNROUNDED, UNSETTABLE}
 use Rattle.verse_base.specs.declared.places.Place.{Place}
 use Rattle.verse_tree.specs.Tree.{Written, Tree, Shape}
 use Rattle.verse_tree.specs.Tree as s
-use Rattle.verse_tree.specs.ItemTree.{MemberTree, field, method, ItemTree, using, enumeration, class, function}
-use Rattle.verse_tree.specs.PostOrder.{What, program, item, member, parameter, type_name, expression}
+use Rattle.verse_tree.specs.ItemTree.{MemberTree, field, method, ItemTree, using, enumeration}
+use Rattle.verse_tree.specs.ItemTree.{class, function}
+use Rattle.verse_tree.specs.PostOrder.{What, program, item, member, parameter, type_name}
+use Rattle.verse_tree.specs.PostOrder.{expression}
 use Rattle.verse_tree.specs.declared.tables.Ref.{Ref}
 use Rattle.verse_tree.specs.declared.tables.FunInfo.{FunInfo}
 use Rattle.verse_tree.specs.declared.tables.Ty.{Ty as Made}
 use Rattle.verse_rules_types.specs.Types.{Ty, never, void, ty_of}
 use Rattle.verse_rules_types.specs.Fitting.{fits}
 use Rattle.verse_names_declarations.specs.Functions.{named_type}
-use Rattle.verse_rules_least.specs.Least.{each, fault_at, first, first_true, Holds, Told, Placed, Broken, IsLeast, StandsAt}
+use Rattle.verse_rules_least.specs.Least.{each, fault_at, first, first_true, Holds, Told, Placed}
+use Rattle.verse_rules_least.specs.Least.{Broken, IsLeast, StandsAt}
 use Rattle.verse_rules_least.specs.declared.faults.Fault.{Fault}
 use Rattle.verse_check_typing.specs.Refs.{ref_at, function_by}
-use Rattle.verse_rules_walk.specs.Around.{Used, free, callee, object, argument, value, target, base, spawned, Around}
+use Rattle.verse_rules_walk.specs.Around.{Used, free, callee, object, argument, value, target, base}
+use Rattle.verse_rules_walk.specs.Around.{spawned, Around}
 use Rattle.verse_rules_walk.specs.Nodes.{Node, number_of, place_of}
 use Rattle.verse_check_typing.specs.Sets.{with_number}
 use Rattle.verse_check_typing.specs.Facts.{World, Facts, classes, named_ref, type_of}
 use Rattle.verse_check_typing.specs.Judgement.{Judgement}
 use Rattle.verse_check_typing.specs.Members.{member_ref}
 use Rattle.verse_check_typing.specs.Rows.{spelled, row}
-use Rattle.verse_check_typing.specs.TypeRules.{mismatched, uncallable, miscounted, incomparable, unsettable, lacking, memberless, alone, uncovered}
+use Rattle.verse_check_typing.specs.TypeRules.{mismatched, uncallable, miscounted, incomparable}
+use Rattle.verse_check_typing.specs.TypeRules.{unsettable, lacking, memberless, alone, uncovered}
 use Rattle.verse_check_typing.specs.TypeRules.{unrounded, is_keyless, is_too_deep}
 
 -- the rules of a form, the least code first
@@ -43,7 +49,8 @@ form_rules f w n x =
     ∷ (UNROUNDED, unrounded f w x)
     ∷ []
 
--- the type of a form, with the least code of these rules that is broken: what the row functions find
+-- the type of a form, with the least code of these rules that is broken: what the row functions
+-- find
 abbrev pub formed : Facts → Around → ℕ → Shape → Judgement
 formed f w n x = record { ty = row f n x; code = first_true (form_rules f w n x) }
 
@@ -115,7 +122,8 @@ fits_param f t (Some p) = fits (classes f) t (ty_of p)
 abbrev pub params_at : Facts → ℕ → List Made
 params_at f c = params_of (function_by f.world.names (ref_at f.refs c))
 
--- a value of this type may be used so: it fits the written type or the parameter for which it stands
+-- a value of this type may be used so: it fits the written type or the parameter for which it
+-- stands
 abbrev pub serves : Facts → Used → Ty → Bool
 serves f (value w) t = fits (classes f) t (spelled f w)
 serves f (argument c i) t = fits_param f t (slice_get (params_at f c) i)
@@ -126,7 +134,8 @@ serves f target t = true
 serves f base t = true
 serves f spawned t = true
 
--- an expression is used as what stands round it says; the names in its type stand there too, and are no values
+-- an expression is used as what stands round it says; the names in its type stand there too, and
+-- are no values
 abbrev pub serves_as : Facts → Used → What → Ty → Bool
 serves_as f u (expression x) t = serves f u t
 serves_as f u (item i) t = true
@@ -212,8 +221,8 @@ noted n p j r defines left x = record {
 }
 
 unfoldable pub step : World → Node → Sight → Sight
-step k v x = noted v.number v.place (judge (facts k x) v) (ref_by (facts k x) v.number v.what) (defines_variable v.what)
-    (with_loop (loop_left v.around v.what) x.left) x
+step k v x = noted v.number v.place (judge (facts k x) v) (ref_by (facts k x) v.number v.what)
+    (defines_variable v.what) (with_loop (loop_left v.around v.what) x.left) x
 
 -- a node breaks the rule c
 abbrev pub Breaks : World → Node → Sight → ℕ → Type 0
@@ -235,4 +244,5 @@ abbrev pub Answers : World → List Node → Option Fault → Type 0
 Answers k vs o = Told number_of (step k) (Breaks k) vs begun o × Placed number_of place_of vs o
 
 abbrev pub IsLeastBroken : World → List Node → Fault → Type 0
-IsLeastBroken k vs f = IsLeast number_of (step k) (Breaks k) vs begun f × StandsAt number_of place_of vs f
+IsLeastBroken k vs f = IsLeast number_of (step k) (Breaks k) vs begun f ×
+    StandsAt number_of place_of vs f

@@ -1,6 +1,8 @@
 -- The rules of types at single nodes, each with the forms that it concerns.
-use Rattle.std.specs.Prelude.{ℕ, Bool, true, false, not, cond, nat_lt, ◌&&◌, ◌||◌, List, [], ◌∷◌, Option, Some, None}
-use Rattle.verse_tree.specs.Tree.{Bytes, Written, Tree, tree, Shape, Trees, no_trees, more_trees, Givens}
+use Rattle.std.specs.Prelude.{ℕ, Bool, true, false, not, cond, nat_lt, ◌&&◌, ◌||◌, List, [], ◌∷◌}
+use Rattle.std.specs.Prelude.{Option, Some, None}
+use Rattle.verse_tree.specs.Tree.{Bytes, Written, Tree, tree, Shape, Trees, no_trees, more_trees}
+use Rattle.verse_tree.specs.Tree.{Givens}
 use Rattle.verse_tree.specs.Tree as s
 use Rattle.verse_tree.specs.declared.tables.Ref.{Ref}
 use Rattle.verse_tree.specs.declared.tables.Ref.TheVariants as ref
@@ -10,15 +12,19 @@ use Rattle.verse_rules_types.specs.Kinds.{levels}
 use Rattle.verse_check_typing.specs.Refs.{ref_at, builtin_by}
 use Rattle.verse_check_typing.specs.declared.builtins.Builtin.{Builtin}
 use Rattle.verse_check_typing.specs.declared.builtins.Builtin.TheVariants as b
-use Rattle.verse_rules_walk.specs.Around.{Used, free, callee, object, argument, value, target, base, spawned, Around}
+use Rattle.verse_rules_walk.specs.Around.{Used, free, callee, object, argument, value, target, base}
+use Rattle.verse_rules_walk.specs.Around.{spawned, Around}
 use Rattle.verse_rules_walk.specs.Nodes.{number_of_tree}
 use Rattle.verse_check_typing.specs.Facts.{Facts, classes, named_ref, type_of, var_at}
 use Rattle.verse_check_typing.specs.Keys.{has_keys}
-use Rattle.verse_check_typing.specs.Parts.{count, do_chain, is_quotient, is_equality, are_ints, is_int, have_equality, can_assign, can_query}
+use Rattle.verse_check_typing.specs.Parts.{count, do_chain, is_quotient, is_equality, are_ints}
+use Rattle.verse_check_typing.specs.Parts.{is_int, have_equality, can_assign, can_query}
 use Rattle.verse_check_typing.specs.Parts.{have_texts}
-use Rattle.verse_check_typing.specs.Members.{is_var_field, member_of, may_stand, givens_fit, are_fields, has_all, is_value}
+use Rattle.verse_check_typing.specs.Members.{is_var_field, member_of, may_stand, givens_fit}
+use Rattle.verse_check_typing.specs.Members.{are_fields, has_all, is_value}
 use Rattle.verse_check_typing.specs.Callees.{callee_of}
-use Rattle.verse_check_typing.specs.Calls.{arguments_fit, indices_fit, call_wanted, index_wanted, are_wanted, can_call, can_stand_indexed}
+use Rattle.verse_check_typing.specs.Calls.{arguments_fit, indices_fit, call_wanted, index_wanted}
+use Rattle.verse_check_typing.specs.Calls.{are_wanted, can_call, can_stand_indexed}
 use Rattle.verse_check_typing.specs.Calls.{has_called_item, is_suspending}
 use Rattle.verse_check_typing.specs.Loops.{all_take}
 use Rattle.verse_check_typing.specs.Cases.{can_case, are_covered}
@@ -52,7 +58,8 @@ is_enum (Some (ref.Enum e)) = true
 is_enum (Some r) = false
 is_enum None = false
 
--- where the name of a function, a class or an enum may stand: before brackets, as the target of a `set`, and that of an enum before a dot
+-- where the name of a function, a class or an enum may stand: before brackets, as the target of a
+-- `set`, and that of an enum before a dot
 abbrev pub takes_item : Used → Option Ref → Bool
 takes_item callee r = true
 takes_item base r = true
@@ -140,11 +147,13 @@ is_enum_value f None x = false
 
 -- E050: types do not match
 abbrev pub mismatched : Facts → Around → ℕ → Shape → Bool
-mismatched f w n (s.Shape.assignment m a b) = not (is_item f a) && not (can_assign (classes f) m (type_of f a) (type_of f b))
+mismatched f w n (s.Shape.assignment m a b) =
+    not (is_item f a) && not (can_assign (classes f) m (type_of f a) (type_of f b))
 mismatched f w n (s.Shape.returned a) = not (fits_result f w.owner.result (type_of f a))
 mismatched f w n s.Shape.returned_unit = not (fits_result f w.owner.result void)
 mismatched f w n (s.Shape.chained o a b) = not (do_chain (classes f) o (type_of f a) (type_of f b))
-mismatched f w n (s.Shape.compared o a b) = not (is_equality o) && not (are_ints (type_of f a) (type_of f b))
+mismatched f w n (s.Shape.compared o a b) =
+    not (is_equality o) && not (are_ints (type_of f a) (type_of f b))
 mismatched f w n (s.Shape.minus a) = not (is_int (type_of f a))
 mismatched f w n (s.Shape.call a ts) = not (arguments_fit f (callee_of f a) ts)
 mismatched f w n (s.Shape.index a ts) = not (indices_fit f (callee_of f a) ts)
@@ -157,7 +166,8 @@ mismatched f w n x = false
 
 -- E051: what cannot be called, and the name of what is no value as a value
 abbrev pub uncallable : Facts → Around → ℕ → Shape → Bool
-uncallable f w n (s.Shape.name x) = not (has_value (named_ref f n)) && not (takes_item w.used (named_ref f n))
+uncallable f w n (s.Shape.name x) =
+    not (has_value (named_ref f n)) && not (takes_item w.used (named_ref f n))
 uncallable f w n (s.Shape.call a ts) = not (can_call (callee_of f a))
 uncallable f w n (s.Shape.index a ts) = not (can_stand_indexed (callee_of f a))
 uncallable f w n (s.Shape.instance x gs) = not (is_class (named_ref f n))
@@ -172,7 +182,8 @@ miscounted f x = false
 
 -- E053: what has no equality is compared
 abbrev pub incomparable : Facts → Shape → Bool
-incomparable f (s.Shape.compared o a b) = is_equality o && not (have_equality (classes f) (type_of f a) (type_of f b))
+incomparable f (s.Shape.compared o a b) =
+    is_equality o && not (have_equality (classes f) (type_of f a) (type_of f b))
 incomparable f x = false
 
 -- E054: what cannot be set
@@ -187,7 +198,9 @@ lacking f n x = false
 
 -- E056: no such member
 abbrev pub memberless : Facts → Around → ℕ → Shape → Bool
-memberless f w n (s.Shape.member a x) = not (may_stand (is_called w.used) (member_of f (ref_at f.refs (number_of_tree a)) (type_of f a) x))
+memberless f w n (s.Shape.member a x) =
+    not (may_stand (is_called w.used)
+    (member_of f (ref_at f.refs (number_of_tree a)) (type_of f a) x))
 memberless f w n (s.Shape.call a ts) = not (has_called_item (callee_of f a) ts)
 memberless f w n (s.Shape.instance x gs) = not (on_class (named_ref f n) (λ c. are_fields f c gs))
 memberless f w n (s.Shape.enum_pattern x y) = not (is_enum_value f (named_ref f n) y)

@@ -26,7 +26,12 @@ abbrev pub numbers_of : NumberSet → List ℕ
 numbers_of s = s.numbers.keys
 
 abbrev pub world_of : World → f.World
-world_of w = record { names = w.names.now; members = map members_view w.members.now; values = map names_of w.values.now }
+world_of w = record {
+  names = w.names.now;
+  members = map members_view w.members.now;
+  values =
+      map names_of w.values.now;
+}
 
 abbrev pub facts_of : Facts → f.Facts
 facts_of f = record {

@@ -15,9 +15,10 @@ filled p s.Bare = os.Bare
 filled p s.Integer = os.Integer p.integer
 filled p (s.One k) = os.One (record { 0 = k; 1 = p.a })
 filled p (s.Two k l) = os.Two (record { 0 = k; 1 = p.a }) (record { 0 = l; 1 = p.b })
-filled p (s.Three k l m) = os.Three (record { 0 = k; 1 = p.a }) (record { 0 = l; 1 = p.b }) (record { 0 = m; 1 = p.c })
-filled p (s.Four k l m n) = os.Four (record { 0 = k; 1 = p.a }) (record { 0 = l; 1 = p.b }) (record { 0 = m; 1 = p.c })
-    (record { 0 = n; 1 = p.d })
+filled p (s.Three k l m) = os.Three (record { 0 = k; 1 = p.a }) (record { 0 = l; 1 = p.b })
+    (record { 0 = m; 1 = p.c })
+filled p (s.Four k l m n) = os.Four (record { 0 = k; 1 = p.a }) (record { 0 = l; 1 = p.b })
+    (record { 0 = m; 1 = p.c }) (record { 0 = n; 1 = p.d })
 
 -- the shape of operands
 abbrev pub shape_for : Operands → Shape
@@ -43,7 +44,8 @@ parts_for (os.Four a b c d) = parts (pos 0) a.1 b.1 c.1 d.1
 -- The forms from a code on make operations of their codes, with their operands
 abbrev pub Right : ℕ → List Form → Type 0
 Right code [] = Unit {0}
-Right code (f ∷ fs) = ((p : Parts) → (code_of (made p f) ≡ code) × (operands_of (made p f) ≡ filled p (shape_of f))) × Right (suc code) fs
+Right code (f ∷ fs) = ((p : Parts) → (code_of (made p f) ≡ code) ×
+    (operands_of (made p f) ≡ filled p (shape_of f))) × Right (suc code) fs
 
 -- an operation stands in the table at its code, and its operands make it
 pub record HasForm (op : Op) : Type 0 where

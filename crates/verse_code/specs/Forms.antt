@@ -1,7 +1,9 @@
 -- The operations in the order of their codes, each with its operands and how it is made of them.
 use Rattle.std.specs.Prelude.{ℕ, ℤ, List, [], ◌∷◌}
 use Rattle.verse_code.specs.declared.operands.OperandKind.{OperandKind}
-use Rattle.verse_code.specs.declared.operands.OperandKind.TheVariants.{Number, Char, Text, Place, Function, Class, Ahead, Behind, Mode}
+use Rattle.verse_code.specs.declared.operands.OperandKind.TheVariants.{Number, Char, Text, Place}
+use Rattle.verse_code.specs.declared.operands.OperandKind.TheVariants.{Function, Class, Ahead}
+use Rattle.verse_code.specs.declared.operands.OperandKind.TheVariants.{Behind, Mode}
 use Rattle.verse_code.specs.declared.operands.OperandKind.TheVariants.{Group, Arms, Pause}
 use Rattle.verse_code.specs.declared.operations.Op.{Op}
 use Rattle.verse_code.specs.declared.operations.Op.TheVariants as o

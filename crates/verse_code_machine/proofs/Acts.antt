@@ -25,7 +25,8 @@ use Rattle.verse_value.specs.Storing.{read_slot, write_slot}
 use Rattle.verse_value.specs.declared.runs.Ending.TheVariants as ending
 use Rattle.verse_meaning_state.specs.State.{State, Given, spending, restored}
 use Rattle.verse_meaning_state.specs.Waits.{Cause, never, done, heard, after, ltn, nth}
-use Rattle.verse_meaning_state.specs.Effects.{Effect, still, added, variable_made, object_made, event_made, slot_read, changed, slot_written}
+use Rattle.verse_meaning_state.specs.Effects.{Effect, still, added, variable_made, object_made, event_made, slot_read, changed}
+use Rattle.verse_meaning_state.specs.Effects.{slot_written}
 use Rattle.verse_meaning_state.specs.Effects.{text_printed, line_printed, event_of, task_of}
 use Rattle.verse_meaning_state.specs.Effects.{signal_sent}
 use Rattle.verse_code_machine.specs.Tasks.{Life, Handler, Frame, Note, to, gone, Who, thread, World, Step, Next, Over, machine}
@@ -34,7 +35,8 @@ use Rattle.verse_code_machine.specs.Frames.{answered_to, enters, method_of, free
 use Rattle.verse_code_machine.specs.Cancelling.{clears_frames}
 use Rattle.verse_code_machine.specs.Ends.{suspends, cleared}
 use Rattle.verse_code_machine.specs.Acts.{place_at, mode_of, kind_of, paired, Taken, ended, takes, unfit, taken_from, takes_step, on_domain}
-use Rattle.verse_code_machine.specs.Acts.{on_int, awaits, spawns, labels, after_arms, groups, on_noted, on_defer, on_note, frame, unary, binary}
+use Rattle.verse_code_machine.specs.Acts.{on_int, awaits, spawns, labels, after_arms, groups, on_noted, on_defer, on_note, frame, unary}
+use Rattle.verse_code_machine.specs.Acts.{binary}
 use Rattle.verse_code_machine.specs.Acts.{collects, leaves, on_handler, act}
 use Rattle.verse_code_machine.proofs.Weights.{Kept, kept_more, FramesAre, ThreadIs, WorldIs, frames_weight, world_weight, steps_weight, Low}
 use Rattle.verse_code_machine.proofs.Weights.{over}

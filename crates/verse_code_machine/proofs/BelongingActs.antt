@@ -20,7 +20,8 @@ use Rattle.verse_value.specs.Storing.{read_slot}
 use Rattle.verse_value.specs.declared.runs.Ending.TheVariants as ending
 use Rattle.verse_meaning_state.specs.State.{State, Given, spending, restored}
 use Rattle.verse_meaning_state.specs.Waits.{never, done, heard, after, ltn, nth}
-use Rattle.verse_meaning_state.specs.Effects.{Effect, still, added, variable_made, object_made, event_made, slot_read, changed, slot_written}
+use Rattle.verse_meaning_state.specs.Effects.{Effect, still, added, variable_made, object_made, event_made, slot_read, changed}
+use Rattle.verse_meaning_state.specs.Effects.{slot_written}
 use Rattle.verse_meaning_state.specs.Effects.{text_printed, line_printed, event_of, task_of}
 use Rattle.verse_meaning_state.specs.Effects.{signal_sent}
 use Rattle.verse_code_machine.specs.Tasks.{Life, Handler, Frame, Note, to, gone, Who, thread, World, Step, Next, Over, machine}
@@ -29,7 +30,8 @@ use Rattle.verse_code_machine.specs.Frames.{answered_to, enters, method_of, free
 use Rattle.verse_code_machine.specs.Cancelling.{clears_frames}
 use Rattle.verse_code_machine.specs.Ends.{cleared}
 use Rattle.verse_code_machine.specs.Acts.{place_at, mode_of, kind_of, paired, Taken, ended, takes, unfit, taken_from, takes_step, on_domain}
-use Rattle.verse_code_machine.specs.Acts.{on_int, awaits, spawns, labels, after_arms, groups, on_noted, on_defer, on_note, frame, unary, binary}
+use Rattle.verse_code_machine.specs.Acts.{on_int, awaits, spawns, labels, after_arms, groups, on_noted, on_defer, on_note, frame, unary}
+use Rattle.verse_code_machine.specs.Acts.{binary}
 use Rattle.verse_code_machine.specs.Acts.{collects, leaves, on_handler, act}
 use Rattle.std.proofs.lemmas.List.{length-set}
 use Rattle.verse_value.specs.Store.{Cell, with_cell, with_slot, with_cell_slot, stored, slot_of}
@@ -39,7 +41,8 @@ use Rattle.verse_value.specs.declared.runs.CellKind.TheVariants as cell
 use Rattle.verse_value.specs.declared.modes.Mode.{Mode}
 use Rattle.verse_code_machine.specs.Belonging.{class_slots, slots_of, CellBelongs, StoreBelongs, StateBelongs, HandlersBelong, FramesBelong}
 use Rattle.verse_code_machine.specs.Belonging.{WorldBelongs}
-use Rattle.verse_code_machine.proofs.BelongingEnds.{Low, over, others, spending_low, resumes_low, frames_low, next_low, suspends_low, ends_low}
+use Rattle.verse_code_machine.proofs.BelongingEnds.{Low, over, others, spending_low, resumes_low, frames_low, next_low, suspends_low}
+use Rattle.verse_code_machine.proofs.BelongingEnds.{ends_low}
 use Rattle.verse_code_machine.proofs.BelongingEnds.{returns_low, cleared_low}
 
 module _ (cs : List Class) where

@@ -11,15 +11,20 @@ use Rattle.verse_value.specs.declared.runs.Ending.TheVariants as ending
 use Rattle.verse_meaning_state.specs.State.{State, spending, stepped, with_result, drawn}
 use Rattle.verse_meaning_state.specs.Waits.{Cause, waiting, has}
 use Rattle.verse_meaning_state.specs.Turns.{Kind, sync, race, rush}
-use Rattle.verse_code_machine.specs.Tasks.{Handler, Frame, Role, root, part, Who, Part, did, runs, Rest, asleep, group, Thread, thread, Task}
-use Rattle.verse_code_machine.specs.Tasks.{After, resuming, closing, finishing, Up, begins, branching, spawning, clearing, Trees, World, world}
+use Rattle.verse_code_machine.specs.Tasks.{Handler, Frame, Role, root, part, Who, Part, did, runs, Rest, asleep, group, Thread, thread}
+use Rattle.verse_code_machine.specs.Tasks.{Task}
+use Rattle.verse_code_machine.specs.Tasks.{After, resuming, closing, finishing, Up, begins, branching, spawning, clearing, Trees, World}
+use Rattle.verse_code_machine.specs.Tasks.{world}
 use Rattle.verse_code_machine.specs.Tasks.{Step, Over, Turn, onto, among, planted, starts, waits_of, same_path, since, beneath_arms}
-use Rattle.verse_code_machine.specs.Cancelling.{inserted, without, world_without, cancelled, on_deferred, clears_frame, clears_frames, clears}
+use Rattle.verse_code_machine.specs.Cancelling.{inserted, without, world_without, cancelled, on_deferred, clears_frame, clears_frames}
+use Rattle.verse_code_machine.specs.Cancelling.{clears}
 use Rattle.verse_code_machine.specs.Cancelling.{cancels, gone_before, gone_behind}
-use Rattle.verse_code_machine.specs.Ends.{resumes, all_did, first_did, tupled, or_stands, grouped, next_arm, arm_did, rested, suspends, is_run}
+use Rattle.verse_code_machine.specs.Ends.{resumes, all_did, first_did, tupled, or_stands, grouped, next_arm, arm_did, rested, suspends}
+use Rattle.verse_code_machine.specs.Ends.{is_run}
 use Rattle.verse_code_machine.specs.Ends.{with_did, joined, climbs, part_ends, root_ends, role_ends, ends_role, ends, returns_role, returns}
 use Rattle.verse_code_machine.specs.Ends.{follows, cleared, is_asleep, woken, woken_in}
-use Rattle.verse_code_machine.specs.Belonging.{StateBelongs, FrameBelongs, FramesBelong, ThreadBelongs, TasksBelong, TreesBelong, AfterBelongs}
+use Rattle.verse_code_machine.specs.Belonging.{StateBelongs, FrameBelongs, FramesBelong, ThreadBelongs, TasksBelong, TreesBelong}
+use Rattle.verse_code_machine.specs.Belonging.{AfterBelongs}
 use Rattle.verse_code_machine.specs.Belonging.{UpsBelong, WorldBelongs, StepBelongs}
 
 module _ (cs : List Class) where

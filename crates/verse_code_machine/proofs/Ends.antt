@@ -9,16 +9,22 @@ use Rattle.verse_value.specs.declared.runs.Ending.TheVariants as ending
 use Rattle.verse_meaning_state.specs.State.{State, spending, stepped, with_result, drawn}
 use Rattle.verse_meaning_state.specs.Waits.{Cause, waiting, has}
 use Rattle.verse_meaning_state.specs.Turns.{Kind, sync, race, rush}
-use Rattle.verse_code_machine.specs.Tasks.{Handler, Frame, Role, root, part, Who, Part, did, runs, Rest, asleep, group, Thread, thread, Task}
-use Rattle.verse_code_machine.specs.Tasks.{After, resuming, closing, finishing, Up, begins, branching, spawning, clearing, Trees, World, world}
+use Rattle.verse_code_machine.specs.Tasks.{Handler, Frame, Role, root, part, Who, Part, did, runs, Rest, asleep, group, Thread, thread}
+use Rattle.verse_code_machine.specs.Tasks.{Task}
+use Rattle.verse_code_machine.specs.Tasks.{After, resuming, closing, finishing, Up, begins, branching, spawning, clearing, Trees, World}
+use Rattle.verse_code_machine.specs.Tasks.{world}
 use Rattle.verse_code_machine.specs.Tasks.{Step, Over, Turn, onto, among, planted, waits_of, same_path, since, beneath_arms}
-use Rattle.verse_code_machine.specs.Cancelling.{world_without, cancelled, on_deferred, clears_frame, clears_frames, clears, cancels, gone_before}
+use Rattle.verse_code_machine.specs.Cancelling.{world_without, cancelled, on_deferred, clears_frame, clears_frames, clears, cancels}
+use Rattle.verse_code_machine.specs.Cancelling.{gone_before}
 use Rattle.verse_code_machine.specs.Cancelling.{gone_behind}
-use Rattle.verse_code_machine.specs.Ends.{resumes, all_did, first_did, tupled, or_stands, grouped, next_arm, arm_did, rested, suspends, is_run}
+use Rattle.verse_code_machine.specs.Ends.{resumes, all_did, first_did, tupled, or_stands, grouped, next_arm, arm_did, rested, suspends}
+use Rattle.verse_code_machine.specs.Ends.{is_run}
 use Rattle.verse_code_machine.specs.Ends.{with_did, joined, climbs, part_ends, root_ends, role_ends, ends_role, ends, returns_role, returns}
 use Rattle.verse_code_machine.specs.Ends.{follows, cleared, is_asleep, woken, woken_in}
-use Rattle.verse_code_machine.proofs.Weights.{FramesAre, ThreadIs, TasksAre, TreesAre, AfterIs, UpsAre, WorldIs, frame_weight, frames_weight}
-use Rattle.verse_code_machine.proofs.Weights.{thread_weight, tasks_weight, trees_weight, after_weight, others_weight, world_weight, steps_weight}
+use Rattle.verse_code_machine.proofs.Weights.{FramesAre, ThreadIs, TasksAre, TreesAre, AfterIs, UpsAre, WorldIs, frame_weight}
+use Rattle.verse_code_machine.proofs.Weights.{frames_weight}
+use Rattle.verse_code_machine.proofs.Weights.{thread_weight, tasks_weight, trees_weight, after_weight, others_weight, world_weight}
+use Rattle.verse_code_machine.proofs.Weights.{steps_weight}
 use Rattle.verse_code_machine.proofs.Weights.{Low, over, onto_weight, tasks_more, trees_more, without_before, without_behind, onto_are}
 use Rattle.verse_code_machine.proofs.Weights.{tasks_are, trees_are, without_are, gone_before_are, gone_behind_are}
 

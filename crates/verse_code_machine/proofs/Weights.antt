@@ -3,7 +3,8 @@ use Rattle.std.proofs.Common.{◌≡◌, ℕ, length, ◌+◌, ◌*◌, ◌-◌,
 use Rattle.std.proofs.lemmas.Bool.{cond_both}
 use Rattle.verse_value.specs.declared.runs.Ending.{Ending}
 use Rattle.verse_meaning_state.specs.State.{State}
-use Rattle.verse_code_machine.specs.Tasks.{Handler, Frame, Thread, Task, After, resuming, closing, finishing, Up, begins, branching, spawning}
+use Rattle.verse_code_machine.specs.Tasks.{Handler, Frame, Thread, Task, After, resuming, closing, finishing, Up, begins, branching}
+use Rattle.verse_code_machine.specs.Tasks.{spawning}
 use Rattle.verse_code_machine.specs.Tasks.{clearing, Trees, World, Machine, Step, Next, Over, Turn, onto, starts}
 use Rattle.verse_code_machine.specs.Frames.{fits}
 use Rattle.verse_code_machine.specs.Cancelling.{without, inserted, gone_before, gone_behind}

@@ -118,7 +118,8 @@ module _ (c : Code) (valid : AreOperations c) where
   turn_within steps until k s tss [] h = tt
   turn_within steps until k s tss (x ∷ ws) h = due_within steps until k s tss (least s (x ∷ ws)) h
 
-  pub turns_within : (steps until k j : ℕ) (g : Stage Forest) → Within steps k g → Within steps (k + j) (turns (turn_taken c steps until) j g)
+  pub turns_within : (steps until k j : ℕ) (g : Stage Forest) → Within steps k g →
+      Within steps (k + j) (turns (turn_taken c steps until) j g)
   turns_within steps until k zero g h = subst (λ z. Within steps z g) (omega arith) h
   turns_within steps until k (suc j) (going s tss) h =
       subst (λ z. Within steps z (turns (turn_taken c steps until) j (turn_taken c steps until s tss))) (omega arith) (turns_within steps

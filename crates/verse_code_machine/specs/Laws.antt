@@ -28,5 +28,6 @@ RunsEnd = (c : Code) (ns : List ℤ) (steps until : ℕ) → Valid c → RunEnds
 
 -- a run that is over stays over
 abbrev pub StaysOver : Type 0
-StaysOver = (c : Code) (ns : List ℤ) (steps until k j : ℕ) → IsOver (mach_after c ns steps until k) →
+StaysOver = (c : Code) (ns : List ℤ) (steps until k j : ℕ) →
+    IsOver (mach_after c ns steps until k) →
     mach_after c ns steps until (k + j) ≡ mach_after c ns steps until k

@@ -14,8 +14,8 @@ use Rattle.verse_code_machine_parents.proofs.Lists.{cond_with}
 inserts : (t : Task) (ts : List Task) → Inserts t ts (inserted t ts)
 inserts t [] = first_of
 inserts t (x ∷ xs) =
-    cond_with (starts t.thread.who.path x.thread.who.path) (x ∷ inserted t xs) (t ∷ x ∷ xs) (Inserts t (x ∷ xs)) (λ e. behind (inserts t xs))
-    (λ e. first_of)
+    cond_with (starts t.thread.who.path x.thread.who.path) (x ∷ inserted t xs) (t ∷ x ∷ xs) (Inserts t (x ∷ xs))
+    (λ e. behind (inserts t xs)) (λ e. first_of)
 
 -- both lists by one test
 by_test : (f : List ℕ → Bool) (t : Task) (ts gs hs ks : List Task) → Splits f ts gs ks → Inserts t gs hs →
@@ -87,18 +87,21 @@ both_each are (x ∷ xs) ys a b = (a.0, both_each are xs ys a.1 b)
 tree_from : {left : ℕ} {pre post : List Task} {w : Who} {us : List Up} → Tree left pre post w us →
     EachTask (λ t. AllFrom left t.thread.who.path) (pre ++ post)
 tree_from {left = left} {pre = pre} {post = post} (running {w = w} {us = us} r f u) =
-    both_each (λ t. AllFrom left t.thread.who.path) pre post split.0 (whos_each (AllFrom left) post (after_each (AllFrom left) (chain us) (whos post) split.1.1))
+    both_each (λ t. AllFrom left t.thread.who.path) pre post split.0
+    (whos_each (AllFrom left) post (after_each (AllFrom left) (chain us) (whos post) split.1.1))
   where
     split : EachTask (λ t. AllFrom left t.thread.who.path) pre × EachWho (AllFrom left) (w ∷ chain us ++ whos post)
     split = line_each (AllFrom left) pre (w ∷ chain us ++ whos post) (paths_from r)
 tree_from (before_resuming b bs st f t) = tree_from t
 tree_from {left = left} {pre = pre} {post = post} (before_closing {us = us} b bs st l) =
-    both_each (λ t. AllFrom left t.thread.who.path) pre post split.0 (whos_each (AllFrom left) post (after_each (AllFrom left) (chain us) (whos post) split.1))
+    both_each (λ t. AllFrom left t.thread.who.path) pre post split.0
+    (whos_each (AllFrom left) post (after_each (AllFrom left) (chain us) (whos post) split.1))
   where
     split : EachTask (λ t. AllFrom left t.thread.who.path) pre × EachWho (AllFrom left) (chain us ++ whos post)
     split = line_each (AllFrom left) pre (chain us ++ whos post) (paths_from l.others)
 tree_from {left = left} {pre = pre} {post = post} (before_finishing {us = us} b bs st l) =
-    both_each (λ t. AllFrom left t.thread.who.path) pre post split.0 (whos_each (AllFrom left) post (after_each (AllFrom left) (chain us) (whos post) split.1))
+    both_each (λ t. AllFrom left t.thread.who.path) pre post split.0
+    (whos_each (AllFrom left) post (after_each (AllFrom left) (chain us) (whos post) split.1))
   where
     split : EachTask (λ t. AllFrom left t.thread.who.path) pre × EachWho (AllFrom left) (chain us ++ whos post)
     split = line_each (AllFrom left) pre (chain us ++ whos post) (paths_from l.others)

@@ -12,14 +12,17 @@ use Rattle.verse_meaning_state.specs.State.{State, spending, stepped, with_resul
 use Rattle.verse_meaning_state.specs.Waits.{Cause, waiting, has}
 use Rattle.verse_meaning_state.specs.Turns.{Kind, sync, race, rush}
 use Rattle.verse_code_machine.specs.Tasks.{Life, Handler, Frame, Note, Role, root, part, Who, Part, did, runs, Rest, asleep, group, Thread}
-use Rattle.verse_code_machine.specs.Tasks.{thread, Task, After, resuming, closing, finishing, Up, begins, branching, spawning, clearing, Trees}
+use Rattle.verse_code_machine.specs.Tasks.{thread, Task, After, resuming, closing, finishing, Up, begins, branching, spawning, clearing}
+use Rattle.verse_code_machine.specs.Tasks.{Trees}
 use Rattle.verse_code_machine.specs.Tasks.{World, world, Step, Over, Turn, child_named, onto, among, planted, starts, waits_of}
 use Rattle.verse_code_machine.specs.Tasks.{same_path, since, beneath_arms}
 use Rattle.verse_code_machine.specs.Frames.{free}
-use Rattle.verse_code_machine.specs.Cancelling.{inserted, without, world_without, cancelled, on_deferred, clears_frame, clears_frames, clears}
+use Rattle.verse_code_machine.specs.Cancelling.{inserted, without, world_without, cancelled, on_deferred, clears_frame, clears_frames}
+use Rattle.verse_code_machine.specs.Cancelling.{clears}
 use Rattle.verse_code_machine.specs.Cancelling.{cancels, gone_before, gone_behind}
 use Rattle.verse_code_machine.specs.Runs.{Forest}
-use Rattle.verse_code_machine.specs.Ends.{resumes, all_did, first_did, tupled, or_stands, grouped, next_arm, arm_did, rested, suspends, is_run}
+use Rattle.verse_code_machine.specs.Ends.{resumes, all_did, first_did, tupled, or_stands, grouped, next_arm, arm_did, rested, suspends}
+use Rattle.verse_code_machine.specs.Ends.{is_run}
 use Rattle.verse_code_machine.specs.Ends.{with_did, joined, climbs, part_ends, root_ends, role_ends, ends_role, ends, returns_role, returns}
 use Rattle.verse_code_machine.specs.Ends.{follows, cleared, is_asleep, woken, woken_in}
 use Rattle.verse_code_machine_parents.specs.Parents.{whos, line, here, later, Rooted, rooted_part, Beneath}
@@ -269,7 +272,8 @@ born_falls n g hs [] b = tt
 born_falls n g hs (f ∷ fs) b = b
 
 deferred_low : (rest : Step) (w : Who) (o : World) (s : State) (f : Frame) (fs : List Frame) (ds : List ℕ) → Born w.number f.life
-    f.handlers fs → (is_clearing o.ups ≡ true → Down fs) → WorldRooted s.clock.left w o → Low rest → Low (on_deferred ds rest (λ q ds. clears_frame w o s f fs q ds))
+    f.handlers fs → (is_clearing o.ups ≡ true → Down fs) → WorldRooted s.clock.left w o → Low rest →
+    Low (on_deferred ds rest (λ q ds. clears_frame w o s f fs q ds))
 deferred_low rest w o s f fs [] b d r l = l
 deferred_low rest w o s f fs (q ∷ ds) b d r l = spending_low s.clock.left s _ (λ k e. record {
   holds = record {
@@ -282,8 +286,8 @@ pub frames_low : (next : State → Step) (w : Who) (o : World) (s : State) (fs :
     (is_clearing o.ups ≡ true → Falls fs) → WorldRooted s.clock.left w o → Low (next s) → Low (clears_frames next w o s fs)
 frames_low next w o s [] b d r l = l
 frames_low next w o s (f ∷ fs) b d r l =
-    deferred_low (clears_frames next w o s fs) w o s f fs f.life.defers b d r (frames_low next w o s fs (born_falls w.number f.life f.handlers fs b) (λ e.
-    down_falls fs (d e)) r l)
+    deferred_low (clears_frames next w o s fs) w o s f fs f.life.defers b d r
+    (frames_low next w o s fs (born_falls w.number f.life f.handlers fs b) (λ e. down_falls fs (d e)) r l)
 
 -- what goes on where all is cancelled
 pub data Ready (left : ℕ) (pre post : List Task) (us : List Up) : After → Type 0 where
@@ -386,8 +390,8 @@ pub grouped_low : (k : Kind) (p : Place) (gs : List Part) (x : Thread) (pre post
 grouped_low sync p gs x pre post us trees s stands i r f =
     stands_low (all_did gs) _ _ (f (group sync p gs)) (λ vs. tupled_low p (tuple_of vs) x pre post us trees s i r)
 grouped_low race p gs x pre post us trees s stands i r f = stands_low (first_did gs) _ _ (f (group race p gs)) (λ v.
-    cancels_resuming x v (beneath_arms x.who.path gs) (world pre post us trees) s (arms_takes x.who.path gs) (framed_still us i (follow_clear
-    x.who us r.follow)) (runs_world r))
+    cancels_resuming x v (beneath_arms x.who.path gs) (world pre post us trees) s (arms_takes x.who.path gs)
+    (framed_still us i (follow_clear x.who us r.follow)) (runs_world r))
 grouped_low rush p gs x pre post us trees s stands i r f =
     stands_low (first_did gs) _ _ (f (group rush p gs)) (λ v. still_resumes x v pre post us trees s i r)
 
@@ -591,7 +595,8 @@ role_low part w v o s l i = part_low o.ups w w.up w.number v o.pre o.post o.tree
 pub leaves_tree : {left : ℕ} {w : Who} {pre post : List Task} {us : List Up} {trees : Trees} (born : ℕ) → born ≡ w.number →
     Runs left w pre post us trees → Leaving left (without (since w.path born) pre) (without (since w.path born) post) us w
 leaves_tree {left = left} {w = w} {pre = pre} {post = post} {us = us} born e r = record {
-  others = (keeps_line takes left pre (keeps_off w (λ n l. since_child w.path born n (subst (λ m. n < m) (sym e) l)) chained)).rooted r.list;
+  others = (keeps_line takes left pre (keeps_off w (λ n l. since_child w.path born n (subst (λ m. n < m) (sym e) l)) chained)).rooted
+      r.list;
   own = (keeps_one w (stays takes left w.path (same_length (length w.path))) chained).rooted (line_tail pre r.list);
   follow = r.follow;
   ups = r.ups;
@@ -675,7 +680,8 @@ cleared_low us pre post trees s (running {w = w} r e u) o = by_ups us e
     by_ups (spawning x entry ps qs ∷ us) e = over
     by_ups (clearing after ts ∷ us) e = elim e [ ]
 cleared_low _ pre post trees s (before_resuming {y = y} {v = v} {ts = ts} {us = us} b bs st f t) o =
-    clears_low (follows (resuming y v)) (resuming y v) ts (world pre post us trees) s (follows_low (resuming y v)) (ready_resuming f t) o bs st
+    clears_low (follows (resuming y v)) (resuming y v) ts (world pre post us trees) s (follows_low (resuming y v)) (ready_resuming f t) o bs
+    st
 cleared_low _ pre post trees s (before_closing {x = x} {v = v} {ts = ts} {us = us} b bs st l) o =
     clears_low (follows (closing x v)) (closing x v) ts (world pre post us trees) s (follows_low (closing x v)) (ready_closing l) o bs st
 cleared_low _ pre post trees s (before_finishing {x = x} {entry = entry} {v = v} {ts = ts} {us = us} b bs st l) o =

@@ -7,7 +7,8 @@ use Rattle.verse_meaning_state.specs.Waits.{eqn, ltn}
 use Rattle.verse_code_machine.specs.Tasks.{Who, Part, did, runs, Task, Up, begins, branching, spawning, clearing, onto, starts, since}
 use Rattle.verse_code_machine.specs.Tasks.{beneath_arms}
 use Rattle.verse_code_machine.specs.Cancelling.{without}
-use Rattle.verse_code_machine_parents.specs.Parents.{whos, line, HasParent, here, later, Rooted, rooted_no, rooted_root, rooted_part, Beneath}
+use Rattle.verse_code_machine_parents.specs.Parents.{whos, line, HasParent, here, later, Rooted, rooted_no, rooted_root, rooted_part}
+use Rattle.verse_code_machine_parents.specs.Parents.{Beneath}
 use Rattle.verse_code_machine_parents.specs.Parents.{chain, Follow}
 
 pub no_both : {A : Type 0} → true ≡ false → A
@@ -213,7 +214,8 @@ module _ {a : List ℕ} {f : List ℕ → Bool} (takes : Takes a f) (left : ℕ)
       subst (Keeps f left (t.thread.who ∷ whos ts)) (sym (whos_cond (f t.thread.who.path) t (without f ts) (without f ts) refl)) (keeps_task
       t ts (keeps_whos ts))
 
-  line_cond : (b : Bool) (t : Task) (ts : List Task) (vs : List Who) → line (cond b ts (t ∷ ts)) vs ≡ line ts (cond b vs (t.thread.who ∷ vs))
+  line_cond : (b : Bool) (t : Task) (ts : List Task) (vs : List Who) →
+      line (cond b ts (t ∷ ts)) vs ≡ line ts (cond b vs (t.thread.who ∷ vs))
   line_cond true t ts vs = refl
   line_cond false t ts vs = refl
 

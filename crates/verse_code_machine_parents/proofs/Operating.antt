@@ -1,5 +1,6 @@
 -- Each operation keeps that parents stand.
-use Rattle.std.proofs.Common.{◌≡◌, ℕ, zero, suc, ◌≤◌, length, ◌+◌, List, [], ◌∷◌, Option, Some, None, Bool, true, false, cond, refl, sym, subst}
+use Rattle.std.proofs.Common.{◌≡◌, ℕ, zero, suc, ◌≤◌, length, ◌+◌, List, [], ◌∷◌, Option, Some, None, Bool, true, false, cond, refl, sym}
+use Rattle.std.proofs.Common.{subst}
 use Rattle.std.proofs.Common.{arith, ◌∙◌}
 use Rattle.std.specs.Prelude.{pos, not, slice_get}
 use Rattle.verse_base.specs.declared.places.Place.{Place}
@@ -30,13 +31,15 @@ use Rattle.verse_code_machine.specs.Frames.{answered_to, enters, method_of, free
 use Rattle.verse_code_machine.specs.Cancelling.{clears_frames}
 use Rattle.verse_code_machine.specs.Ends.{cleared}
 use Rattle.verse_code_machine.specs.Acts.{place_at, mode_of, kind_of, paired, Taken, ended, takes, unfit, taken_from, takes_step, on_domain}
-use Rattle.verse_code_machine.specs.Acts.{on_int, awaits, spawns, labels, after_arms, groups, on_noted, on_defer, on_note, frame, unary, binary}
+use Rattle.verse_code_machine.specs.Acts.{on_int, awaits, spawns, labels, after_arms, groups, on_noted, on_defer, on_note, frame, unary}
+use Rattle.verse_code_machine.specs.Acts.{binary}
 use Rattle.verse_code_machine.specs.Acts.{collects, leaves, on_handler, act}
 use Rattle.verse_code_machine_parents.specs.Parents.{rooted_no, rooted_root, HandlersBorn, HasGone, later_gone, AllGone}
 use Rattle.verse_code_machine_parents.specs.Parents.{Closed, Marked, marked, marked_below, is_clearing, Framed, Still, WorldRooted}
 use Rattle.verse_code_machine_parents.proofs.Lists.{no_both, rooted_less, child_beneath}
 use Rattle.verse_code_machine_parents.proofs.Leaving.{Low, over, others_of, ups_less, trees_less, world_less, spending_low}
-use Rattle.verse_code_machine_parents.proofs.Leaving.{one_less, reborn, not_clearing, Runs, runs_of, runs_world, still_resumes, Down, down_closed}
+use Rattle.verse_code_machine_parents.proofs.Leaving.{one_less, reborn, not_clearing, Runs, runs_of, runs_world, still_resumes, Down}
+use Rattle.verse_code_machine_parents.proofs.Leaving.{down_closed}
 use Rattle.verse_code_machine_parents.proofs.Leaving.{down_marked, frames_low, child_runs, next_low, suspends_low, ends_low, returns_low}
 use Rattle.verse_code_machine_parents.proofs.Leaving.{cleared_low}
 
@@ -300,7 +303,8 @@ module _ (y : Who) (x : World) (s : State) (g : Life) (pc : ℕ) (hs : List Hand
   awaits_here None entry ls st e = over
   awaits_here (Some None) entry ls st e = suspends_here (done entry) ls st e
   awaits_here (Some (Some v)) entry ls st e =
-      still_resumes (thread y (frame g ls st (suc pc) hs) bl) v.value x.pre x.post x.ups x.trees s (still_here ls st (suc pc) e) (runs_here e)
+      still_resumes (thread y (frame g ls st (suc pc) hs) bl) v.value x.pre x.post x.ups x.trees s (still_here ls st (suc pc) e)
+      (runs_here e)
 
   spawns_here : (f : Func) (vs ls st : List Val) → free hs g.noted bl ≡ true →
       Low (spawns f vs (thread y (frame g ls st (suc pc) hs) bl) x s)
@@ -348,8 +352,8 @@ module _ (y : Who) (x : World) (s : State) (g : Life) (pc : ℕ) (hs : List Hand
       Low (groups kd p ks q y x s g ls st hs bl)
   groups_here kd p [] q ls st e = over
   groups_here kd p (l ∷ ks) q ls st e =
-      next_low kd p [] (l ∷ ks) (thread y (frame g ls st q hs) bl) x.pre x.post x.ups x.trees s (λ t. Over ending.Stuck s) (still_here ls st q
-      e) (runs_here e) (λ r. over)
+      next_low kd p [] (l ∷ ks) (thread y (frame g ls st q hs) bl) x.pre x.post x.ups x.trees s (λ t. Over ending.Stuck s)
+      (still_here ls st q e) (runs_here e) (λ r. over)
 
   takes_here : (t : Taken) (l d label : ℕ) (ls st : List Val) → Low (takes_step t l d label y x s g ls st pc hs bl)
   takes_here ended l d label ls st = goes_here s ls st (suc pc) refl
@@ -478,7 +482,8 @@ module _ (y : Who) (x : World) (s : State) (g : Life) (pc : ℕ) (hs : List Hand
   act_low c (o.Method m j) ls st =
       many_low j st [] s _ (λ vs st. top_low st s _ (λ a st. there_low (method_of c m j a s) s _ (λ q. enters_here q (a ∷ vs) ls st)))
   act_low c o.Return ls st =
-      top_low st s _ (λ a st. only_low (nothing g.defers g.noted) s _ (λ e. returns_low y x g a s hs bl k (none_noted g.defers g.noted e) i))
+      top_low st s _ (λ a st. only_low (nothing g.defers g.noted) s _
+      (λ e. returns_low y x g a s hs bl k (none_noted g.defers g.noted e) i))
   act_low c (o.Each l) ls st =
       top_low st s _ (λ a st. domain_low a s _ (there_low (put ls l a) s _ (λ ls. there_low (put ls (suc l) (int (pos 0))) s _ (λ ls.
       goes_here s ls st (suc pc) refl))))

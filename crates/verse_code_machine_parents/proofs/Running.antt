@@ -54,8 +54,8 @@ module _ (c : Code) where
   stage_roots (Turn s tss) a = a
 
   spent_roots : (steps left : ℕ) (s : State) (tss : Forest) (d : Due) → s.clock.left ≡ left → TreesRooted s.clock.left tss →
-      StageRooted (spending left s (closed ending.Steps s tss) (λ s. stage_of (carried c (room c steps) (woken_in d.number d.given.value [] tss
-      (at_moment d.given.moment s)))))
+      StageRooted (spending left s (closed ending.Steps s tss)
+      (λ s. stage_of (carried c (room c steps) (woken_in d.number d.given.value [] tss (at_moment d.given.moment s)))))
   spent_roots steps zero s tss d e a = a
   spent_roots steps (suc l) s tss d e a =
       stage_roots _ (carried_roots (room c steps) _ (woken_roots d.number d.given.value (at_moment d.given.moment (stepped l s)) tss
@@ -71,8 +71,8 @@ module _ (c : Code) where
   due_roots steps until s tss (Some d) a =
       late_roots (nat_lt until d.given.moment) _ _ a (spent_roots steps s.clock.left s tss d refl a)
 
-  pub turn_roots : (steps until : ℕ) (s : State) (tss : Forest) (ws : List Wait) → TreesRooted s.clock.left tss → StageRooted (turn until ws s tss
-      (λ due s. stage_of (carried c (room c steps) (woken_in due.number due.given.value [] tss s))))
+  pub turn_roots : (steps until : ℕ) (s : State) (tss : Forest) (ws : List Wait) → TreesRooted s.clock.left tss →
+      StageRooted (turn until ws s tss (λ due s. stage_of (carried c (room c steps) (woken_in due.number due.given.value [] tss s))))
   turn_roots steps until s tss [] a = a
   turn_roots steps until s tss (w ∷ ws) a = due_roots steps until s tss (least s (w ∷ ws)) a
 

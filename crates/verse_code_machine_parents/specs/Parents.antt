@@ -2,8 +2,10 @@
 use Rattle.std.specs.Prelude.{◌≡◌, ℕ, ◌≤◌, ◌<◌, ℤ, List, [], ◌∷◌, ◌++◌, Option, Bool, true, false}
 use Rattle.verse_code.specs.declared.codes.Code.{Code}
 use Rattle.verse_meaning_state.specs.Turns.{Stage, going, closed, broken, amiss}
-use Rattle.verse_code_machine.specs.Tasks.{Life, Handler, Frame, Note, gone, root, part, Who, Thread, Task, resuming, closing, finishing, Up}
-use Rattle.verse_code_machine.specs.Tasks.{begins, branching, spawning, clearing, World, Machine, Step, Next, Over, Turn}
+use Rattle.verse_code_machine.specs.Tasks.{Life, Handler, Frame, Note, gone, root, part, Who}
+use Rattle.verse_code_machine.specs.Tasks.{Thread, Task, resuming, closing, finishing, Up}
+use Rattle.verse_code_machine.specs.Tasks.{begins, branching, spawning, clearing, World, Machine}
+use Rattle.verse_code_machine.specs.Tasks.{Step, Next, Over, Turn}
 use Rattle.verse_code_machine.specs.Frames.{free}
 use Rattle.verse_code_machine.specs.Runs.{step, Forest, mach_after}
 
@@ -21,13 +23,14 @@ pub data HasParent (up : List ℕ) (number : ℕ) : List Who → Type 0 where
   here : {w : Who} {ws : List Who} → w.path ≡ up → number < w.number → HasParent up number (w ∷ ws)
   later : {w : Who} {ws : List Who} → HasParent up number ws → HasParent up number (w ∷ ws)
 
--- each arm and each task behind stands before its parent, and began later; no task began with fewer steps than are left
+-- each arm and each task behind stands before its parent, and began later; no task began with fewer
+-- steps than are left
 pub data Rooted (left : ℕ) : List Who → Type 0 where
   rooted_no : Rooted left []
-  rooted_root : {w : Who} {ws : List Who} {entry : Option ℕ} → w.role ≡ root entry → w.path ≡ w.number ∷ [] → left ≤ w.number →
-      Rooted left ws → Rooted left (w ∷ ws)
-  rooted_part : {w : Who} {ws : List Who} → w.role ≡ part → w.path ≡ w.up ++ w.number ∷ [] → left ≤ w.number →
-      HasParent w.up w.number ws → Rooted left ws → Rooted left (w ∷ ws)
+  rooted_root : {w : Who} {ws : List Who} {entry : Option ℕ} → w.role ≡ root entry →
+      w.path ≡ w.number ∷ [] → left ≤ w.number → Rooted left ws → Rooted left (w ∷ ws)
+  rooted_part : {w : Who} {ws : List Who} → w.role ≡ part → w.path ≡ w.up ++ w.number ∷ [] →
+      left ≤ w.number → HasParent w.up w.number ws → Rooted left ws → Rooted left (w ∷ ws)
 
 -- the second path goes on from the first
 pub record Beneath (a x : List ℕ) : Type 0 where
@@ -46,12 +49,14 @@ chain (clearing after ts ∷ us) = []
 -- each of them encloses the one before; none is cancelled
 abbrev pub Follow : Who → List Up → Type 0
 Follow w [] = Unit {0}
-Follow w (begins y k p gs number ls ∷ us) = (w.role ≡ part) × Beneath y.who.path w.path × Follow y.who us
+Follow w (begins y k p gs number ls ∷ us) = (w.role ≡ part) × Beneath y.who.path w.path ×
+    Follow y.who us
 Follow w (branching y ∷ us) = (w.role ≡ part) × Beneath y.who.path w.path × Follow y.who us
 Follow w (spawning y entry ps qs ∷ us) = Unit {0}
 Follow w (clearing after ts ∷ us) = ⊥
 
--- the frame with which a task began has the task's number, and so have the copies that its open Trys keep
+-- the frame with which a task began has the task's number, and so have the copies that its open
+-- Trys keep
 abbrev pub HandlersBorn : ℕ → List Handler → Type 0
 HandlersBorn n [] = Unit {0}
 HandlersBorn n (h ∷ hs) = (h.life.born ≡ n) × HandlersBorn n hs
@@ -77,7 +82,8 @@ Closed (f ∷ fs) = (f.handlers ≡ []) × Closed fs
 -- one of the frames is being cancelled, and those below it have no open Try
 pub data Marked : Life → List Handler → List Frame → Type 0 where
   marked : {g : Life} {hs : List Handler} {fs : List Frame} → HasGone g.noted → AllGone hs → Closed fs → Marked g hs fs
-  marked_below : {g : Life} {hs : List Handler} {f : Frame} {fs : List Frame} → Marked f.life f.handlers fs → Marked g hs (f ∷ fs)
+  marked_below : {g : Life} {hs : List Handler} {f : Frame} {fs : List Frame} →
+      Marked f.life f.handlers fs → Marked g hs (f ∷ fs)
 
 -- the task that runs is cancelled
 abbrev pub is_clearing : List Up → Bool
@@ -88,7 +94,8 @@ is_clearing (spawning y entry ps qs ∷ us) = false
 is_clearing (clearing after ts ∷ us) = true
 
 -- the frames of the task that runs
-pub record Framed (w : Who) (us : List Up) (g : Life) (hs : List Handler) (fs : List Frame) : Type 0 where
+pub record Framed (w : Who) (us : List Up) (g : Life) (hs : List Handler) (fs : List Frame) :
+    Type 0 where
   pub born : Born w.number g hs fs
   pub mark : is_clearing us ≡ true → Marked g hs fs
 
@@ -114,7 +121,8 @@ UpsRooted left [] = Unit {0}
 UpsRooted left (begins y k p gs number ls ∷ us) = Still y × UpsRooted left us
 UpsRooted left (branching y ∷ us) = Still y × UpsRooted left us
 UpsRooted left (spawning y entry ps qs ∷ us) =
-    Still y × (AllStill ps × AllStill qs) × (Rooted left (line ps (y.who ∷ chain us ++ whos qs)) × Follow y.who us) × UpsRooted left us
+    Still y × (AllStill ps × AllStill qs) ×
+    (Rooted left (line ps (y.who ∷ chain us ++ whos qs)) × Follow y.who us) × UpsRooted left us
 UpsRooted left (clearing after ts ∷ us) = ⊥
 
 -- a cancelled task, and those that are cancelled next, are beneath the one that goes on
@@ -128,17 +136,21 @@ pub record Leaving (left : ℕ) (pre post : List Task) (us : List Up) (w : Who) 
   pub follow : Follow w us
   pub ups : UpsRooted left us
 
--- the tree of the task that runs; where that is cancelled, without it and those that are cancelled next
+-- the tree of the task that runs; where that is cancelled, without it and those that are cancelled
+-- next
 pub data Tree (left : ℕ) (pre post : List Task) : Who → List Up → Type 0 where
-  running : {w : Who} {us : List Up} → Rooted left (line pre (w ∷ chain us ++ whos post)) → Follow w us → UpsRooted left us →
-      Tree left pre post w us
-  before_resuming : {w : Who} {y : Thread} {v : _} {ts : List Task} {us : List Up} → Beneath y.who.path w.path → AllBeneath y.who.path ts →
-      AllStill ts → Framed y.who us y.frame.life y.frame.handlers y.below → Tree left pre post y.who us →
+  running : {w : Who} {us : List Up} → Rooted left (line pre (w ∷ chain us ++ whos post)) →
+      Follow w us → UpsRooted left us → Tree left pre post w us
+  before_resuming : {w : Who} {y : Thread} {v : _} {ts : List Task} {us : List Up} →
+      Beneath y.who.path w.path → AllBeneath y.who.path ts → AllStill ts →
+      Framed y.who us y.frame.life y.frame.handlers y.below → Tree left pre post y.who us →
       Tree left pre post w (clearing (resuming y v) ts ∷ us)
-  before_closing : {w x : Who} {v : _} {ts : List Task} {us : List Up} → Beneath x.path w.path → AllBeneath x.path ts → AllStill ts →
-      Leaving left pre post us x → Tree left pre post w (clearing (closing x v) ts ∷ us)
-  before_finishing : {w x : Who} {entry : Option ℕ} {v : _} {ts : List Task} {us : List Up} → Beneath x.path w.path →
-      AllBeneath x.path ts → AllStill ts → Leaving left pre post us x → Tree left pre post w (clearing (finishing x entry v) ts ∷ us)
+  before_closing : {w x : Who} {v : _} {ts : List Task} {us : List Up} → Beneath x.path w.path →
+      AllBeneath x.path ts → AllStill ts → Leaving left pre post us x →
+      Tree left pre post w (clearing (closing x v) ts ∷ us)
+  before_finishing : {w x : Who} {entry : Option ℕ} {v : _} {ts : List Task} {us : List Up} →
+      Beneath x.path w.path → AllBeneath x.path ts → AllStill ts → Leaving left pre post us x →
+      Tree left pre post w (clearing (finishing x entry v) ts ∷ us)
 
 pub record WorldRooted (left : ℕ) (w : Who) (o : World) : Type 0 where
   pub tree : Tree left o.pre o.post w o.ups
@@ -168,4 +180,5 @@ OperationRoots = (c : Code) (m : Machine) → MachineRooted m → StepRooted (st
 
 -- they stand between all turns of a run
 abbrev pub RunRoots : Type 0
-RunRoots = (c : Code) (ns : List ℤ) (steps until k : ℕ) → StageRooted (mach_after c ns steps until k)
+RunRoots = (c : Code) (ns : List ℤ) (steps until k : ℕ) →
+    StageRooted (mach_after c ns steps until k)

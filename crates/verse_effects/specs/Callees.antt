@@ -1,5 +1,6 @@
 -- What is called, by the tables of names.
-use Rattle.std.specs.Prelude.{ℕ, Bool, true, false, cond, not, ◌&&◌, ◌||◌, Option, Some, None, slice_get, codes, nat_eq}
+use Rattle.std.specs.Prelude.{ℕ, Bool, true, false, cond, not, ◌&&◌, ◌||◌, Option, Some, None}
+use Rattle.std.specs.Prelude.{slice_get, codes, nat_eq}
 use Rattle.std.specs.Str.{bytes_eq}
 use Rattle.verse_tree.specs.Tree.{Bytes, Tree, tree, Shape}
 use Rattle.verse_tree.specs.Tree as t
@@ -38,7 +39,8 @@ callee_of_class k m (Some info) = callee_of_method k (slice_get info.methods m)
 
 -- `Print`, `Floor`, `Ceil`, `Mod`
 abbrev pub builtin : ℕ → Callee
-builtin b = cond (nat_eq b 0) c.Print (cond (nat_eq b 1) c.Round (cond (nat_eq b 2) c.Round (cond (nat_eq b 3) c.Modulo c.Other)))
+builtin b = cond (nat_eq b 0) c.Print
+    (cond (nat_eq b 1) c.Round (cond (nat_eq b 2) c.Round (cond (nat_eq b 3) c.Modulo c.Other)))
 
 abbrev pub callee_of_ref : Names → Ref → Callee
 callee_of_ref k (ref.Local n) = c.Other
@@ -64,7 +66,8 @@ is_enum None = false
 -- what a member is that is none of a class: behind the name of an enum it is a value
 abbrev pub own_member : Bool → Bytes → Callee
 own_member true x = c.Other
-own_member false x = cond (bytes_eq x (codes "Await")) c.Await (cond (bytes_eq x (codes "Signal")) c.Signal c.Other)
+own_member false x = cond (bytes_eq x (codes "Await")) c.Await
+    (cond (bytes_eq x (codes "Signal")) c.Signal c.Other)
 
 abbrev pub callee_by_shape : Names → Shape → Callee
 callee_by_shape k (t.Shape.member e x) = own_member (is_enum (ref_at k (number_of_tree e))) x

@@ -1,5 +1,6 @@
 -- Which forms can fail, cannot be undone, suspend, or do more than compute.
-use Rattle.std.specs.Prelude.{ℕ, Bool, true, false, cond, not, ◌&&◌, ◌||◌, List, [], ◌∷◌, Option, Some, None, slice_get}
+use Rattle.std.specs.Prelude.{ℕ, Bool, true, false, cond, not, ◌&&◌, ◌||◌, List, [], ◌∷◌, Option}
+use Rattle.std.specs.Prelude.{Some, None, slice_get}
 use Rattle.verse_tree.specs.Tree.{Tree, tree, Shape}
 use Rattle.verse_tree.specs.Tree as t
 use Rattle.verse_tree.specs.declared.tables.Names.{Names}
@@ -9,8 +10,10 @@ use Rattle.verse_tree.specs.declared.tables.Ref.{Ref}
 use Rattle.verse_tree.specs.declared.tables.Ref.TheVariants as ref
 use Rattle.verse_tree.specs.declared.exprs.Operator.{Operator}
 use Rattle.verse_tree.specs.declared.exprs.Operator.TheVariants as o
-use Rattle.verse_rules_walk.specs.Around.{Used, free, callee, object, argument, value, target, base, spawned, Around}
-use Rattle.verse_effects.specs.Callees.{ref_at, callee_of, is_function, call_fails, call_lasts, call_suspends, call_touches}
+use Rattle.verse_rules_walk.specs.Around.{Used, free, callee, object, argument, value, target, base}
+use Rattle.verse_rules_walk.specs.Around.{spawned, Around}
+use Rattle.verse_effects.specs.Callees.{ref_at, callee_of, is_function, call_fails, call_lasts}
+use Rattle.verse_effects.specs.Callees.{call_suspends, call_touches}
 use Rattle.verse_effects.specs.declared.callees.Callee.{Callee}
 
 -- a node is on the path of the target of a `set`
@@ -50,7 +53,8 @@ is_index k s = false
 abbrev pub ends_in_index : Names → Tree → Bool
 ends_in_index k (tree n p s) = is_index k s
 
--- square brackets behind what is no function are an index, which can fail; on the path of a `set` it is the `set` that can
+-- square brackets behind what is no function are an index, which can fail; on the path of a `set`
+-- it is the `set` that can
 abbrev pub index_fails : Used → Callee → Bool
 index_fails u c = cond (is_function c) (call_fails c) (not (is_on_path u))
 
@@ -93,7 +97,8 @@ abbrev pub entry_holds : Option Bool → Bool
 entry_holds None = false
 entry_holds (Some b) = b
 
--- what is referred to is a variable or a `var` field; which nodes define variables is told by their numbers
+-- what is referred to is a variable or a `var` field; which nodes define variables is told by their
+-- numbers
 abbrev pub is_variable : Names → List Bool → Option Ref → Bool
 is_variable k vars (Some (ref.Local n)) = entry_holds (slice_get vars n)
 is_variable k vars (Some (ref.Field c i)) = var_field_of (slice_get k.classes c) i

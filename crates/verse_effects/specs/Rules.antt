@@ -7,13 +7,16 @@ use Rattle.verse_base.specs.declared.rules.TheConstants.{WRONG_BRACKETS, BEGINS_
 use Rattle.verse_base.specs.declared.places.Place.{Place}
 use Rattle.verse_tree.specs.ItemTree.{MemberTree, ItemTree}
 use Rattle.verse_tree.specs.Tree.{Shape}
-use Rattle.verse_tree.specs.PostOrder.{What, program, item, member, parameter, type_name, expression}
+use Rattle.verse_tree.specs.PostOrder.{What, program, item, member, parameter, type_name}
+use Rattle.verse_tree.specs.PostOrder.{expression}
 use Rattle.verse_tree.specs.declared.tables.Names.{Names}
-use Rattle.verse_rules_least.specs.Least.{fault_at, first, first_true, Holds, Told, Placed, Broken, IsLeast, StandsAt}
+use Rattle.verse_rules_least.specs.Least.{fault_at, first, first_true, Holds, Told, Placed, Broken}
+use Rattle.verse_rules_least.specs.Least.{IsLeast, StandsAt}
 use Rattle.verse_rules_least.specs.declared.faults.Fault.{Fault}
 use Rattle.verse_rules_walk.specs.Around.{Around}
 use Rattle.verse_rules_walk.specs.Nodes.{Node, number_of, place_of}
-use Rattle.verse_effects.specs.Forms.{can_fail, cannot_undo, is_async, touches, leaves, wrong_brackets, goes_behind, defines_variable}
+use Rattle.verse_effects.specs.Forms.{can_fail, cannot_undo, is_async, touches, leaves}
+use Rattle.verse_effects.specs.Forms.{wrong_brackets, goes_behind, defines_variable}
 use Rattle.verse_effects.specs.Specifiers.{item_fits, member_fits}
 use Rattle.verse_effects.specs.declared.seen.Seen.{Seen}
 
@@ -21,7 +24,8 @@ use Rattle.verse_effects.specs.declared.seen.Seen.{Seen}
 abbrev pub fails_uncaught : Names → Around → Shape → Bool
 fails_uncaught k w s = can_fail k w s && not w.is_caught
 
--- E061: what cannot be undone stands in a failure context, in a `defer`, or in what can be undone as a whole
+-- E061: what cannot be undone stands in a failure context, in a `defer`, or in what can be undone
+-- as a whole
 abbrev pub lasts_wrongly : Names → Around → Shape → Bool
 lasts_wrongly k w s = cannot_undo k s && (w.is_tried || w.owner.effects.transacts || w.is_deferred)
 
@@ -83,7 +87,11 @@ is_variable_node (type_name x) = false
 
 -- which nodes define variables so far, and the first fault among them, with one more node
 abbrev pub noted : ℕ → Place → Option ℕ → Bool → Seen → Seen
-noted n p c defines x = record { vars = x.vars ++ defines ∷ []; fault = first x.fault (fault_at n p c) }
+noted n p c defines x = record {
+  vars = x.vars ++ defines ∷ [];
+  fault =
+      first x.fault (fault_at n p c);
+}
 
 unfoldable pub step : Names → Node → Seen → Seen
 step k v x = noted v.number v.place (first_true (rules_at k x.vars v)) (is_variable_node v.what) x
@@ -104,4 +112,5 @@ abbrev pub Answers : Names → List Node → Option Fault → Type 0
 Answers k vs o = Told number_of (step k) (Breaks k) vs begun o × Placed number_of place_of vs o
 
 abbrev pub IsLeastBroken : Names → List Node → Fault → Type 0
-IsLeastBroken k vs f = IsLeast number_of (step k) (Breaks k) vs begun f × StandsAt number_of place_of vs f
+IsLeastBroken k vs f = IsLeast number_of (step k) (Breaks k) vs begun f ×
+    StandsAt number_of place_of vs f

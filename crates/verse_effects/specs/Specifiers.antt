@@ -2,7 +2,8 @@
 use Rattle.std.specs.Prelude.{Bool, true, cond, not, ◌&&◌, ◌||◌, List, [], ◌∷◌, codes}
 use Rattle.std.specs.Str.{bytes_eq}
 use Rattle.verse_tree.specs.Tree.{Bytes}
-use Rattle.verse_tree.specs.ItemTree.{SpecTree, FieldTree, FunTree, MemberTree, field, method, ItemTree, using, enumeration, class}
+use Rattle.verse_tree.specs.ItemTree.{SpecTree, FieldTree, FunTree, MemberTree, field, method}
+use Rattle.verse_tree.specs.ItemTree.{ItemTree, using, enumeration, class}
 use Rattle.verse_tree.specs.ItemTree.{function}
 use Rattle.verse_tree.specs.declared.tables.Effects.{Effects}
 use Rattle.verse_rules_walk.specs.Specifiers.{writes, written_effects}
@@ -11,7 +12,8 @@ use Rattle.verse_effects.specs.declared.specifiers.Spot.TheVariants as s
 
 -- a specifier of a name
 abbrev pub is_access : Bytes → Bool
-is_access x = bytes_eq x (codes "public") || bytes_eq x (codes "private") || bytes_eq x (codes "protected") || bytes_eq x (codes "internal")
+is_access x = bytes_eq x (codes "public") || bytes_eq x (codes "private") ||
+    bytes_eq x (codes "protected") || bytes_eq x (codes "internal")
 
 abbrev pub is_override : Bytes → Bool
 is_override x = bytes_eq x (codes "override")
@@ -20,8 +22,8 @@ abbrev pub is_unique : Bytes → Bool
 is_unique x = bytes_eq x (codes "unique")
 
 abbrev pub is_effect : Bytes → Bool
-is_effect x = bytes_eq x (codes "computes") || bytes_eq x (codes "transacts") || bytes_eq x (codes "decides") || bytes_eq x
-    (codes "suspends")
+is_effect x = bytes_eq x (codes "computes") || bytes_eq x (codes "transacts") ||
+    bytes_eq x (codes "decides") || bytes_eq x (codes "suspends")
 
 -- a specifier may stand here
 abbrev pub belongs : Spot → Bytes → Bool
@@ -40,12 +42,13 @@ at_most_once x [] = true
 at_most_once x (y ∷ ys) = cond (bytes_eq y.name x) (not (writes x ys)) (at_most_once x ys)
 
 abbrev pub names_once : List SpecTree → Bool
-names_once ss = at_most_once (codes "public") ss && at_most_once (codes "private") ss && at_most_once (codes "protected") ss && at_most_once
-    (codes "internal") ss && at_most_once (codes "override") ss
+names_once ss = at_most_once (codes "public") ss && at_most_once (codes "private") ss &&
+    at_most_once (codes "protected") ss && at_most_once (codes "internal") ss &&
+    at_most_once (codes "override") ss
 
 abbrev pub effects_once : List SpecTree → Bool
-effects_once ss = at_most_once (codes "computes") ss && at_most_once (codes "transacts") ss && at_most_once
-    (codes "decides") ss && at_most_once (codes "suspends") ss
+effects_once ss = at_most_once (codes "computes") ss && at_most_once (codes "transacts") ss &&
+    at_most_once (codes "decides") ss && at_most_once (codes "suspends") ss
 
 -- none of those that may stand here stands twice
 abbrev pub all_once : Spot → List SpecTree → Bool
@@ -57,12 +60,15 @@ all_once s.Effect ss = effects_once ss
 abbrev pub do_fit : Spot → List SpecTree → Bool
 do_fit at ss = all_belong at ss && all_once at ss
 
--- `computes` and `transacts` exclude one another, as do `decides` and `suspends`; `decides` stands with one of the first two
+-- `computes` and `transacts` exclude one another, as do `decides` and `suspends`; `decides` stands
+-- with one of the first two
 abbrev pub do_combine : Effects → Bool
-do_combine e = not (e.computes && e.transacts) && not (e.decides && e.suspends) && (not e.decides || e.computes || e.transacts)
+do_combine e = not (e.computes && e.transacts) && not (e.decides && e.suspends) &&
+    (not e.decides || e.computes || e.transacts)
 
 abbrev pub fun_fits : Spot → FunTree → Bool
-fun_fits at f = do_fit at f.specs && do_fit s.Effect f.effects && do_combine (written_effects f.effects)
+fun_fits at f = do_fit at f.specs && do_fit s.Effect f.effects &&
+    do_combine (written_effects f.effects)
 
 abbrev pub field_fits : FieldTree → Bool
 field_fits f = do_fit s.Name f.var_specs && do_fit s.Name f.specs

@@ -11,12 +11,13 @@ use Rattle.verse_expr_precedence.specs.Compares.{Compares}
 
 -- behind a sum: a comparison, and what `and` and then `or` join to it
 pub data ExprBehind (b : List ℕ) (left : Tree) : List Tok → Tree → List Tok → Type 0 where
-  behind : {ks ls ms rest : List Tok} {e f g : Tree} → Compares b left ks e ls → Chain b p.And e ls f ms → Chain b p.Or f ms g rest →
-      ExprBehind b left ks g rest
+  behind : {ks ls ms rest : List Tok} {e f g : Tree} → Compares b left ks e ls →
+      Chain b p.And e ls f ms → Chain b p.Or f ms g rest → ExprBehind b left ks g rest
 
 -- behind the start of a range: its end
 pub data EndsRange (b : List ℕ) : List Tok → Tree → List Tok → Type 0 where
-  ends : {d : Tok} {ks rest : List Tok} {e : Tree} → d.kind ≡ mark m.DotDot → Reads b p.Sum ks e rest → EndsRange b (d ∷ ks) e rest
+  ends : {d : Tok} {ks rest : List Tok} {e : Tree} → d.kind ≡ mark m.DotDot →
+      Reads b p.Sum ks e rest → EndsRange b (d ∷ ks) e rest
 
 abbrev pub end_symbols : List Symbol
 end_symbols = a (mark m.DotDot) ∷ rule (phrase p.Sum) ∷ []

@@ -5,7 +5,8 @@ use Rattle.verse_grammar.proofs.Sticking.{sticks_primary_for_1, sticks_primary_f
 use Rattle.verse_grammar.proofs.Going.{goes_start}
 use Rattle.verse_expr_keywords.proofs.Clauses.{clauses_eaten, clauses_stuck_between, clauses_stuck_at_end, case_stuck_behind}
 use Rattle.verse_grammar.proofs.StickingParts.{sticks_clauses_1, sticks_case_rest_1, sticks_case_rest_2}
-use Rattle.verse_expr_keywords.proofs.WordForms.{list_reads, list_eaten, list_stuck_before, list_stuck_inside, body_reads, body_eaten, body_stuck}
+use Rattle.verse_expr_keywords.proofs.WordForms.{list_reads, list_eaten, list_stuck_before, list_stuck_inside, body_reads, body_eaten}
+use Rattle.verse_expr_keywords.proofs.WordForms.{body_stuck}
 
 pub ruleset of_for_form = (for_form, eats_primary_for, sticks_primary_for_1, sticks_primary_for_2, sticks_primary_for_3)
 

@@ -14,5 +14,5 @@ arm_rest = a (mark m.FatArrow) ∷ rule (phrase p.Body) ∷ []
 
 -- the arrow, and the body behind it
 pub data IsArmRest (b : List ℕ) : List Tok → Tree → List Tok → Type 0 where
-  behind_arrow : {o : Tok} {ls rest : List Tok} {f : Tree} → o.kind ≡ mark m.FatArrow → Reads b p.Body ls f rest →
-      IsArmRest b (o ∷ ls) f rest
+  behind_arrow : {o : Tok} {ls rest : List Tok} {f : Tree} → o.kind ≡ mark m.FatArrow →
+      Reads b p.Body ls f rest → IsArmRest b (o ∷ ls) f rest

@@ -12,7 +12,8 @@ use Rattle.verse_grammar.proofs.Going.{goes_postfix_tail_round, goes_postfix_tai
 use Rattle.verse_grammar.proofs.Going.{stuck_postfix_tail_round_1, stuck_postfix_tail_square_1, stuck_postfix_tail_dot_1}
 use Rattle.verse_expr_precedence.specs.declared.postfixes.Suffix.{Suffix}
 use Rattle.verse_expr_precedence.specs.Postfixing.{joined, OnePostfix, one_call, one_index, one_member, one_query, PostfixEats, eats_call}
-use Rattle.verse_expr_precedence.specs.Postfixing.{eats_index, eats_member, eats_query, PostfixSticks, sticks_call, sticks_index, sticks_member}
+use Rattle.verse_expr_precedence.specs.Postfixing.{eats_index, eats_member, eats_query, PostfixSticks, sticks_call, sticks_index}
+use Rattle.verse_expr_precedence.specs.Postfixing.{sticks_member}
 
 more : {b : List ℕ} {s : PostfixStart} {k : Tok} {ks ls rest : List Tok} {e f : Tree} {x : Suffix} → postfix_start k.kind ≡ Some s →
     Postfixes b e ks f (k ∷ ls) → OnePostfix b s ls x rest →

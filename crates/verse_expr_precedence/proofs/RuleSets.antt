@@ -13,7 +13,8 @@ use Rattle.verse_expr_precedence.proofs.Comparing.{compared_sums}
 use Rattle.verse_grammar.proofs.StickingParts.{sticks_comparison_tail_at_1}
 use Rattle.verse_expr_precedence.specs.Compares.{alone, with_another}
 use Rattle.verse_expr_precedence.proofs.Postfixed.{stuck_postfix}
-use Rattle.verse_expr_precedence.specs.Postfixing.{one_call, eats_call, sticks_call, one_index, eats_index, sticks_index, one_member, eats_member}
+use Rattle.verse_expr_precedence.specs.Postfixing.{one_call, eats_call, sticks_call, one_index, eats_index, sticks_index, one_member}
+use Rattle.verse_expr_precedence.specs.Postfixing.{eats_member}
 use Rattle.verse_expr_precedence.specs.Postfixing.{sticks_member}
 
 pub ruleset of_chain_tail = (chain_none, goes_start, goes_eats, stuck_chain, eats_chain_tail_other)

@@ -10,5 +10,6 @@ use Rattle.verse_grammar.specs.declared.phrases.Phrase.TheVariants as p
 
 pub data Compares (b : List ℕ) (left : Tree) : List Tok → Tree → List Tok → Type 0 where
   alone : {rest : List Tok} → Compares b left rest left rest
-  with_another : {k : Tok} {ls rest : List Tok} {o : Comparison} {f : Tree} → comparison_at k.kind ≡ Some o → Reads b p.Sum ls f rest →
+  with_another : {k : Tok} {ls rest : List Tok} {o : Comparison} {f : Tree} →
+      comparison_at k.kind ≡ Some o → Reads b p.Sum ls f rest →
       Compares b left (k ∷ ls) (at k (t.Shape.compared o left f)) rest

@@ -26,24 +26,33 @@ joined place e suffix.Query = tree 0 place (t.Shape.query e)
 
 -- the postfix that the toks behind its first are, by what it begins with
 pub data OnePostfix (b : List ℕ) : PostfixStart → List Tok → Suffix → List Tok → Type 0 where
-  one_call : {ks rest : List Tok} {es : List Expr} → Until b p.Expr (mark m.Comma) (mark m.RoundClose) ks (map tree_of es) rest →
+  one_call : {ks rest : List Tok} {es : List Expr} →
+      Until b p.Expr (mark m.Comma) (mark m.RoundClose) ks (map tree_of es) rest →
       OnePostfix b postfix.Round ks (suffix.Call es) rest
-  one_index : {ks rest : List Tok} {es : List Expr} → Until b p.Expr (mark m.Comma) (mark m.SquareClose) ks (map tree_of es) rest →
+  one_index : {ks rest : List Tok} {es : List Expr} →
+      Until b p.Expr (mark m.Comma) (mark m.SquareClose) ks (map tree_of es) rest →
       OnePostfix b postfix.Square ks (suffix.Index es) rest
-  one_member : {n : Tok} {rest : List Tok} → n.kind ≡ name → OnePostfix b postfix.Dot (n ∷ rest) (suffix.Member (name_at b n)) rest
+  one_member : {n : Tok} {rest : List Tok} → n.kind ≡ name →
+      OnePostfix b postfix.Dot (n ∷ rest) (suffix.Member (name_at b n)) rest
   one_query : {rest : List Tok} → OnePostfix b postfix.Question rest suffix.Query rest
 
 -- the toks of the postfix behind its first
 pub data PostfixEats : PostfixStart → List Tok → List Tok → Type 0 where
-  eats_call : {ks rest : List Tok} → EatsRule (until p.Expr (mark m.Comma) (mark m.RoundClose)) ks rest → PostfixEats postfix.Round ks rest
-  eats_index : {ks rest : List Tok} → EatsRule (until p.Expr (mark m.Comma) (mark m.SquareClose)) ks rest →
+  eats_call : {ks rest : List Tok} →
+      EatsRule (until p.Expr (mark m.Comma) (mark m.RoundClose)) ks rest →
+      PostfixEats postfix.Round ks rest
+  eats_index : {ks rest : List Tok} →
+      EatsRule (until p.Expr (mark m.Comma) (mark m.SquareClose)) ks rest →
       PostfixEats postfix.Square ks rest
-  eats_member : {n : Tok} {rest : List Tok} → n.kind ≡ name → PostfixEats postfix.Dot (n ∷ rest) rest
+  eats_member : {n : Tok} {rest : List Tok} → n.kind ≡ name →
+      PostfixEats postfix.Dot (n ∷ rest) rest
   eats_query : {rest : List Tok} → PostfixEats postfix.Question rest rest
 
 pub data PostfixSticks : PostfixStart → List Tok → ℕ → Type 0 where
-  sticks_call : {ks : List Tok} {left : ℕ} → SticksRule (until p.Expr (mark m.Comma) (mark m.RoundClose)) ks left →
+  sticks_call : {ks : List Tok} {left : ℕ} →
+      SticksRule (until p.Expr (mark m.Comma) (mark m.RoundClose)) ks left →
       PostfixSticks postfix.Round ks left
-  sticks_index : {ks : List Tok} {left : ℕ} → SticksRule (until p.Expr (mark m.Comma) (mark m.SquareClose)) ks left →
+  sticks_index : {ks : List Tok} {left : ℕ} →
+      SticksRule (until p.Expr (mark m.Comma) (mark m.SquareClose)) ks left →
       PostfixSticks postfix.Square ks left
   sticks_member : {ks : List Tok} → ahead ks ≢ Some name → PostfixSticks postfix.Dot ks (length ks)

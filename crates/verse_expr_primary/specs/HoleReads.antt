@@ -6,5 +6,5 @@ use Rattle.verse_grammar.specs.Exprs.{Reads, HoleRow}
 use Rattle.verse_grammar.specs.declared.phrases.Phrase.TheVariants as p
 
 pub data HoleRead (b : List ℕ) : List Tok → List (Tree × Bytes) → Tree → List Tok → Type 0 where
-  hole_read : {ks ls rest : List Tok} {hs : List (Tree × Bytes)} {e : Tree} → HoleRow b ks hs ls → Reads b p.Expr ls e rest →
-      HoleRead b ks hs e rest
+  hole_read : {ks ls rest : List Tok} {hs : List (Tree × Bytes)} {e : Tree} → HoleRow b ks hs ls →
+      Reads b p.Expr ls e rest → HoleRead b ks hs e rest

@@ -12,9 +12,11 @@ use Rattle.verse_grammar.specs.declared.phrases.Phrase.TheVariants as p
 
 -- others behind a comma, or none
 pub data RoundRest (b : List ℕ) : List Tok → Option (List Tree) → List Tok → Type 0 where
-  only_one : {c : Tok} {rest : List Tok} → c.kind ≡ mark m.RoundClose → RoundRest b (c ∷ rest) None rest
+  only_one : {c : Tok} {rest : List Tok} → c.kind ≡ mark m.RoundClose →
+      RoundRest b (c ∷ rest) None rest
   several : {s : Tok} {ls rest : List Tok} {es : List Tree} → s.kind ≡ mark m.Comma →
-      Closed b p.Expr (mark m.Comma) (mark m.RoundClose) ls es rest → RoundRest b (s ∷ ls) (Some es) rest
+      Closed b p.Expr (mark m.Comma) (mark m.RoundClose) ls es rest →
+      RoundRest b (s ∷ ls) (Some es) rest
 
 -- one expression is itself, and several are a tuple
 abbrev pub rounded : Place → Tree → Option (List Tree) → Tree

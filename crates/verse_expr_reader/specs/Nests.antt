@@ -20,11 +20,15 @@ pub record IsRead (b : List ℕ) (q : Phrase) (ks : List Tok) (found : Expr × �
   pub some : 0 < found.1
   pub within : found.1 ≤ length ks
 
-pub record Nests (b : List ℕ) (most : ℕ) (pre : Global → Bor (List ℕ) → Phrase → Bor (List Tok) → Type 0)
-    (post : Global → Bor (List ℕ) → Phrase → Bor (List Tok) → Result (Expr × ℕ) ReadFault → Type 0) : Type 0 where
-  pub callable : (alloc : Global) (bs : Bor (List ℕ)) (q : Phrase) (ts : Bor (List Tok)) → bs.now ≡ b → length ts.now < most →
-      pre alloc bs q ts
-  pub reads : (alloc : Global) (bs : Bor (List ℕ)) (q : Phrase) (ts : Bor (List Tok)) (r : Result (Expr × ℕ) ReadFault) → bs.now ≡ b →
-      post alloc bs q ts r → IfOk r (IsRead b q ts.now)
-  pub sticks : (alloc : Global) (bs : Bor (List ℕ)) (q : Phrase) (ts : Bor (List Tok)) (r : Result (Expr × ℕ) ReadFault) (left : ℕ) →
-      bs.now ≡ b → post alloc bs q ts r → IsErrOf r (read_fault.Stuck left) → SticksRule (phrase q) ts.now left
+pub record Nests (b : List ℕ) (most : ℕ)
+    (pre : Global → Bor (List ℕ) → Phrase → Bor (List Tok) → Type 0)
+    (post : Global → Bor (List ℕ) → Phrase → Bor (List Tok) → Result (Expr × ℕ) ReadFault →
+    Type 0) : Type 0 where
+  pub callable : (alloc : Global) (bs : Bor (List ℕ)) (q : Phrase) (ts : Bor (List Tok)) →
+      bs.now ≡ b → length ts.now < most → pre alloc bs q ts
+  pub reads : (alloc : Global) (bs : Bor (List ℕ)) (q : Phrase) (ts : Bor (List Tok))
+      (r : Result (Expr × ℕ) ReadFault) → bs.now ≡ b → post alloc bs q ts r →
+      IfOk r (IsRead b q ts.now)
+  pub sticks : (alloc : Global) (bs : Bor (List ℕ)) (q : Phrase) (ts : Bor (List Tok))
+      (r : Result (Expr × ℕ) ReadFault) (left : ℕ) → bs.now ≡ b → post alloc bs q ts r →
+      IsErrOf r (read_fault.Stuck left) → SticksRule (phrase q) ts.now left

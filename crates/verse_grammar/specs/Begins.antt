@@ -1,4 +1,5 @@
--- Which lists of toks are phrases and programs, and which begin one. Only the kinds of toks count for that.
+-- Which lists of toks are phrases and programs, and which begin one. Only the kinds of toks count
+-- for that.
 use Rattle.std.specs.Prelude.{◌≡◌, ℕ, ◌+◌, ◌<◌, List, [], ◌∷◌, ◌++◌, length, take, map}
 use Rattle.verse_layout.specs.declared.toks.TokKind.{TokKind}
 use Rattle.verse_layout.specs.declared.toks.Tok.{Tok}
@@ -18,8 +19,10 @@ pub data Whole : Type 0 where
 -- the toks are one, in some file
 pub data IsWhole : Whole → List Tok → Type 0 where
   is_type : {b : List ℕ} {ks : List Tok} {u : Written} → IsType b ks u [] → IsWhole a_type ks
-  is_phrase : {b : List ℕ} {q : Phrase} {ks : List Tok} {e : Tree} → Reads b q ks e [] → IsWhole (a_phrase q) ks
-  is_program : {b : List ℕ} {ks : List Tok} {is : List ItemTree} → Program b ks is [] → IsWhole a_program ks
+  is_phrase : {b : List ℕ} {q : Phrase} {ks : List Tok} {e : Tree} → Reads b q ks e [] →
+      IsWhole (a_phrase q) ks
+  is_program : {b : List ℕ} {ks : List Tok} {is : List ItemTree} → Program b ks is [] →
+      IsWhole a_program ks
 
 abbrev pub kinds : List Tok → List TokKind
 kinds ks = map (λ (k : Tok). k.kind) ks
@@ -31,7 +34,8 @@ pub record Begins (whole : Whole) (ks : List Tok) : Type 0 where
   pub is_whole : IsWhole whole all
   pub begins : kinds all ≡ kinds ks ++ behind
 
--- the first so many toks begin one, and with the next tok they do not; at the end they begin one and are none
+-- the first so many toks begin one, and with the next tok they do not; at the end they begin one
+-- and are none
 pub record Stops (whole : Whole) (ks : List Tok) (index : ℕ) : Type 0 where
   pub before : Begins whole (take index ks)
   pub beyond : index < length ks → Begins whole (take (index + 1) ks) → ⊥

@@ -1,4 +1,5 @@
--- A rule that ends in itself, part of the way: what it does from the later place it does from the earlier.
+-- A rule that ends in itself, part of the way: what it does from the later place it does from the
+-- earlier.
 use Rattle.std.specs.Prelude.{ℕ, List}
 use Rattle.verse_layout.specs.declared.toks.Tok.{Tok}
 use Rattle.verse_grammar.specs.Symbols.{Rule}

@@ -1,10 +1,12 @@
 -- The format of an image, field by field.
-use Rattle.std.specs.Prelude.{◌≡◌, ℕ, ◌+◌, ◌-◌, ◌/◌, ◌%◌, ◌<◌, ◌≤◌, ℤ, pos, negsuc, Bool, true, false, ◌⊎◌, List, [], ◌∷◌, ◌++◌, length}
+use Rattle.std.specs.Prelude.{◌≡◌, ℕ, ◌+◌, ◌-◌, ◌/◌, ◌%◌, ◌<◌, ◌≤◌, ℤ, pos, negsuc, Bool, true}
+use Rattle.std.specs.Prelude.{false, ◌⊎◌, List, [], ◌∷◌, ◌++◌, length}
 use Rattle.std.specs.Prelude.{All, nat_le, if◌then◌else◌}
 use Rattle.verse_base.specs.declared.places.Place.{Place}
 use Rattle.verse_code.specs.declared.operands.Operand.{Operand}
 use Rattle.verse_code.specs.declared.operands.Operands.{Operands}
-use Rattle.verse_code.specs.declared.operands.Operands.TheVariants.{Bare, Integer, One, Two, Three, Four}
+use Rattle.verse_code.specs.declared.operands.Operands.TheVariants.{Bare, Integer, One, Two, Three}
+use Rattle.verse_code.specs.declared.operands.Operands.TheVariants.{Four}
 use Rattle.verse_code.specs.declared.operations.Op.{Op}
 use Rattle.verse_code.specs.declared.codes.Func.{Func}
 use Rattle.verse_code.specs.declared.codes.Class.{Class}
@@ -14,24 +16,26 @@ use Rattle.verse_code.specs.Validity.{Valid}
 
 -- ---- numbers
 
--- A number below 128 is one byte. Any other is a byte with its low seven bits and 128 more, and then
--- the number without them: unsigned LEB128, in its one shortest spelling.
+-- A number below 128 is one byte. Any other is a byte with its low seven bits and 128 more, and
+-- then the number without them: unsigned LEB128, in its one shortest spelling.
 pub data Spelled : ℕ → List ℕ → List ℕ → Type 0 where
   one_byte : {n : ℕ} {rest : List ℕ} → n < 128 → Spelled n (n ∷ rest) rest
-  more_bytes : {n b : ℕ} {bytes rest : List ℕ} → 128 ≤ n → b ≡ 128 + n % 128 → Spelled (n / 128) bytes rest → Spelled n (b ∷ bytes) rest
+  more_bytes : {n b : ℕ} {bytes rest : List ℕ} → 128 ≤ n → b ≡ 128 + n % 128 →
+      Spelled (n / 128) bytes rest → Spelled n (b ∷ bytes) rest
 
 -- seven bits as they stand, or each of them turned over
 abbrev pub seven_bits : Bool → ℕ → ℕ
 seven_bits false bits = bits
 seven_bits true bits = 127 - bits
 
--- A size below 64 is one byte. Any other is a byte with its low seven bits and 128 more, and then the
--- size without them. The bits of a negative number are turned over.
+-- A size below 64 is one byte. Any other is a byte with its low seven bits and 128 more, and then
+-- the size without them. The bits of a negative number are turned over.
 pub data SignedSpelled : Bool → ℕ → List ℕ → List ℕ → Type 0 where
-  one_signed : {negative : Bool} {size b : ℕ} {rest : List ℕ} → size < 64 → b ≡ seven_bits negative size →
-      SignedSpelled negative size (b ∷ rest) rest
-  more_signed : {negative : Bool} {size b : ℕ} {bytes rest : List ℕ} → 64 ≤ size → b ≡ 128 + seven_bits negative (size % 128) →
-      SignedSpelled negative (size / 128) bytes rest → SignedSpelled negative size (b ∷ bytes) rest
+  one_signed : {negative : Bool} {size b : ℕ} {rest : List ℕ} → size < 64 →
+      b ≡ seven_bits negative size → SignedSpelled negative size (b ∷ rest) rest
+  more_signed : {negative : Bool} {size b : ℕ} {bytes rest : List ℕ} → 64 ≤ size →
+      b ≡ 128 + seven_bits negative (size % 128) → SignedSpelled negative (size / 128) bytes rest →
+      SignedSpelled negative size (b ∷ bytes) rest
 
 -- ---- fields
 
@@ -121,12 +125,13 @@ head version files ops = plain mark ⨾ byte version ⨾ number files ⨾ number
 -- the tables, and the function that a run begins with
 abbrev pub tables : Code → Field
 tables code =
-    table text code.texts ⨾ table place code.places ⨾ table function code.functions ⨾ table class code.classes
-    ⨾ number code.main
+    table text code.texts ⨾ table place code.places ⨾ table function code.functions ⨾ table class
+    code.classes ⨾ number code.main
 
 -- the fields of an image of this version, in their order
 abbrev pub fields : ℕ → Code → Field
-fields version code = head version code.files (length code.ops) ⨾ tables code ⨾ each operation code.ops
+fields version code = head version code.files (length code.ops) ⨾ tables code ⨾ each operation
+    code.ops
 
 -- version 1 has the operations up to 63, and version 2 all
 abbrev pub IsVersion : ℕ → Code → Type 0

@@ -25,10 +25,11 @@ SpelledIsRead = (more end n : ℕ) (bytes rest : List ℕ) → below end n bytes
     digits_at (suc more) end (length bytes) bytes ≡ Ok (n, rest)
 
 abbrev pub SignedIsSpelled : Type 0
-SignedIsSpelled = (most end : ℕ) (bytes : List ℕ) (x : (Bool × ℕ) × List ℕ) → 64 ≤ end → IsBytes bytes →
-    signed_digits_at most end (length bytes) bytes ≡ Ok x → (x.0.1 < end) × SignedSpelled x.0.0 x.0.1 bytes x.1
+SignedIsSpelled = (most end : ℕ) (bytes : List ℕ) (x : (Bool × ℕ) × List ℕ) → 64 ≤ end →
+    IsBytes bytes → signed_digits_at most end (length bytes) bytes ≡ Ok x → (x.0.1 < end) ×
+    SignedSpelled x.0.0 x.0.1 bytes x.1
 
 abbrev pub SignedIsRead : Type 0
-SignedIsRead = (more end : ℕ) (negative : Bool) (size : ℕ) (bytes rest : List ℕ) → SignedSpelled negative size bytes rest → size < end →
-    size < signed_room more →
+SignedIsRead = (more end : ℕ) (negative : Bool) (size : ℕ) (bytes rest : List ℕ) →
+    SignedSpelled negative size bytes rest → size < end → size < signed_room more →
     signed_digits_at (suc more) end (length bytes) bytes ≡ Ok ((negative, size), rest)

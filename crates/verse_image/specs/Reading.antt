@@ -1,6 +1,8 @@
 -- Reading an image from left to right, up to the first failing place.
-use Rattle.std.specs.Prelude.{◌≡◌, ℕ, zero, suc, ◌+◌, ◌-◌, ◌*◌, ℤ, pos, negsuc, Bool, true, false, ◌&&◌, ◌||◌, nat_lt, nat_le, ◌==◌, List}
-use Rattle.std.specs.Prelude.{[], ◌∷◌, length, take, drop, Option, Some, None, slice_get, Result, Ok, Err, if◌then◌else◌}
+use Rattle.std.specs.Prelude.{◌≡◌, ℕ, zero, suc, ◌+◌, ◌-◌, ◌*◌, ℤ, pos, negsuc, Bool, true, false}
+use Rattle.std.specs.Prelude.{◌&&◌, ◌||◌, nat_lt, nat_le, ◌==◌, List}
+use Rattle.std.specs.Prelude.{[], ◌∷◌, length, take, drop, Option, Some, None, slice_get, Result}
+use Rattle.std.specs.Prelude.{Ok, Err, if◌then◌else◌}
 use Rattle.verse_base.specs.declared.places.Place.{Place}
 use Rattle.verse_code.specs.declared.operands.OperandKind.{OperandKind}
 use Rattle.verse_code.specs.declared.operations.Op.{Op}
@@ -11,7 +13,8 @@ use Rattle.verse_code.specs.declared.codes.Func.{Func}
 use Rattle.verse_code.specs.declared.codes.Class.{Class}
 use Rattle.verse_code.specs.declared.codes.Code.{Code}
 use Rattle.verse_code.specs.declared.validity.Sizes.{Sizes}
-use Rattle.verse_image.specs.declared.numbers.TheConstants.{NUMBER_END, FILES_END, OPERATIONS_END, TEXT_END}
+use Rattle.verse_image.specs.declared.numbers.TheConstants.{NUMBER_END, FILES_END, OPERATIONS_END}
+use Rattle.verse_image.specs.declared.numbers.TheConstants.{TEXT_END}
 use Rattle.verse_code.specs.Forms.{Form, forms, shape_of, made}
 use Rattle.verse_code.specs.Validity.{suits_kind}
 use Rattle.verse_image.specs.declared.tables.Tables.{Tables}
@@ -53,7 +56,8 @@ byte_at (b ∷ rest) = Ok (b, rest)
 -- a byte that goes on, and the number that the bytes after it spell
 abbrev pub with_high : ℕ → ℕ → ℕ → ℕ × List ℕ → Result (ℕ × List ℕ) Flaw
 with_high end left b high =
-    if nat_lt 0 high.0 && nat_lt (b - 128 + 128 * high.0) end then Ok (b - 128 + 128 * high.0, high.1) else Err (flaw 4 left)
+    if nat_lt 0 high.0 && nat_lt (b - 128 + 128 * high.0) end then Ok
+    (b - 128 + 128 * high.0, high.1) else Err (flaw 4 left)
 
 -- a number of at most so many bytes, below end
 unfoldable pub digits_at : ℕ → ℕ → ℕ → Reader ℕ
@@ -66,7 +70,8 @@ number_at bytes = digits_at 5 4294967296 (length bytes) bytes
 
 -- a table's number, from least on and below end
 unfoldable pub within_at : ℕ → ℕ → Reader ℕ
-within_at least end bytes = number_at bytes >>= λ n. if nat_le least n.0 && nat_lt n.0 end then Ok n else Err (flaw 5 (length bytes))
+within_at least end bytes = number_at bytes >>= λ n. if nat_le least n.0 &&
+    nat_lt n.0 end then Ok n else Err (flaw 5 (length bytes))
 
 abbrev pub seven_bits : Bool → ℕ → ℕ
 seven_bits negative bits = if negative then 127 - bits else bits
@@ -82,14 +87,16 @@ signed_digits_at zero end left bytes = Err (flaw 4 left)
 signed_digits_at (suc most) end left bytes =
     byte_at bytes >>= λ b.
     if nat_lt b.0 64 then Ok ((false, b.0), b.1) else
-    if nat_lt b.0 128 then Ok ((true, 127 - b.0), b.1) else (signed_digits_at most end left b.1 >>= signed_with_high end left b.0)
+    if nat_lt b.0 128 then Ok ((true, 127 - b.0), b.1)
+    else (signed_digits_at most end left b.1 >>= signed_with_high end left b.0)
 
 abbrev pub with_sign : Bool → ℕ → ℤ
 with_sign false size = pos size
 with_sign true size = negsuc size
 
 unfoldable pub integer_at : Reader ℤ
-integer_at bytes = signed_digits_at 10 9223372036854775808 (length bytes) bytes >>= λ n. Ok (with_sign n.0.0 n.0.1, n.1)
+integer_at bytes = signed_digits_at 10 9223372036854775808 (length bytes) bytes >>= λ n. Ok
+    (with_sign n.0.0 n.0.1, n.1)
 
 -- ---- tables
 
@@ -124,7 +131,10 @@ function_at ops bytes = do
   locals ← within_at params.0 OPERATIONS_END params.1
   entry ← within_at 0 ops locals.1
   suspends ← within_at 0 2 entry.1
-  Ok (record { params = params.0; locals = locals.0; entry = entry.0; suspends = suspends.0 == 1 }, suspends.1)
+  Ok (
+    record { params = params.0; locals = locals.0; entry = entry.0; suspends = suspends.0 == 1 },
+    suspends.1,
+  )
 
 unfoldable pub class_at : ℕ → Reader Class
 class_at functions bytes = do
@@ -138,7 +148,8 @@ may_begin None = false
 may_begin (Some f) = nat_le f.params 1
 
 unfoldable pub main_at : List Func → Reader ℕ
-main_at functions bytes = number_at bytes >>= λ n. if may_begin (slice_get functions n.0) then Ok n else Err (flaw 5 (length bytes))
+main_at functions bytes = number_at bytes >>= λ n. if may_begin (slice_get functions n.0) then Ok n
+    else Err (flaw 5 (length bytes))
 
 -- ---- operations
 
@@ -184,7 +195,8 @@ form_at sizes at left (Some form) bytes = do
 unfoldable pub op_at : Sizes → ℕ → ℕ → Reader Op
 op_at sizes top at bytes = do
   code ← byte_at bytes
-  if nat_lt top code.0 then Err (flaw 6 (length bytes)) else form_at sizes at (length bytes) (slice_get forms code.0) code.1
+  if nat_lt top code.0 then Err (flaw 6 (length bytes)) else form_at sizes at (length bytes)
+      (slice_get forms code.0) code.1
 
 -- so many operations, from index at on
 unfoldable pub ops_at : Sizes → ℕ → ℕ → ℕ → Reader (List Op)
@@ -198,7 +210,8 @@ ops_at sizes top at (suc n) bytes = do
 
 -- the bytes behind a letter of the mark; left is how many there are from the mark on
 unfoldable pub letter_at : ℕ → ℕ → List ℕ → Result (List ℕ) Flaw
-letter_at letter left bytes = byte_at bytes >>= λ b. if b.0 == letter then Ok b.1 else Err (flaw 1 left)
+letter_at letter left bytes = byte_at bytes >>= λ b. if b.0 == letter then Ok b.1 else Err
+    (flaw 1 left)
 
 -- the bytes behind the mark
 abbrev pub mark_at : List ℕ → ℕ → List ℕ → Result (List ℕ) Flaw
@@ -206,7 +219,8 @@ mark_at [] left bytes = Ok bytes
 mark_at (letter ∷ letters) left bytes = letter_at letter left bytes >>= mark_at letters left
 
 unfoldable pub version_at : Reader ℕ
-version_at bytes = byte_at bytes >>= λ b. if b.0 == 1 || b.0 == 2 then Ok b else Err (flaw 2 (length bytes))
+version_at bytes = byte_at bytes >>= λ b. if b.0 == 1 ||
+    b.0 == 2 then Ok b else Err (flaw 2 (length bytes))
 
 -- the greatest code of an operation
 abbrev pub top_of : ℕ → ℕ
@@ -228,7 +242,16 @@ tables_at files ops bytes = do
   functions ← table_at (function_at ops) places.1
   classes ← table_at (class_at (length functions.0)) functions.1
   main ← main_at functions.0 classes.1
-  Ok (record { texts = texts.0; places = places.0; functions = functions.0; classes = classes.0; main = main.0 }, main.1)
+  Ok (
+    record {
+      texts = texts.0;
+      places = places.0;
+      functions = functions.0;
+      classes = classes.0;
+      main = main.0;
+    },
+    main.1,
+  )
 
 abbrev pub sizes_with : ℕ → Tables → Sizes
 sizes_with ops tables = record {
@@ -263,8 +286,10 @@ image_at bytes = do
   ops ← ops_at (sizes_with head.0.2 tables.0) (top_of head.0.0) 0 head.0.2 tables.1
   ended (code_with head.0.1 tables.0 ops.0) ops.1
 
--- an answer tells what reading the bytes gives, unless memory ran out: a failing place by its offset
+-- an answer tells what reading the bytes gives, unless memory ran out: a failing place by its
+-- offset
 abbrev pub Tells : List ℕ → Result Code ImageFault → Result Code Flaw → Type 0
 Tells bytes (Ok code) read = read ≡ Ok code
 Tells bytes (Err images.Memory) read = Unit {0}
-Tells bytes (Err (images.Bad rule at)) read = (left : ℕ) × (read ≡ Err (flaw rule left)) × (at ≡ length bytes - left)
+Tells bytes (Err (images.Bad rule at)) read = (left : ℕ) × (read ≡ Err (flaw rule left)) ×
+    (at ≡ length bytes - left)

@@ -4,4 +4,5 @@ use Rattle.verse_image.specs.Format.{Field}
 
 -- new is old and then the field, whatever follows it
 abbrev pub Writes : Field → List ℕ → List ℕ → Type 0
-Writes field old new = (piece : List ℕ) × (new ≡ old ++ piece) × ((rest : List ℕ) → field (piece ++ rest) rest)
+Writes field old new = (piece : List ℕ) × (new ≡ old ++ piece) ×
+    ((rest : List ℕ) → field (piece ++ rest) rest)

@@ -1,5 +1,7 @@
--- The toks of what is written, one after the other, and the answer within the load: a form between the blocks and the code.
-use Rattle.std.specs.Prelude.{Bool, true, false, not, ◌&&◌, if◌then◌else◌, nat_le, List, [], ◌∷◌, ◌++◌, Option, Some, None, Result, Ok, Err}
+-- The toks of what is written, one after the other, and the answer within the load: a form between
+-- the blocks and the code.
+use Rattle.std.specs.Prelude.{Bool, true, false, not, ◌&&◌, if◌then◌else◌, nat_le, List, [], ◌∷◌}
+use Rattle.std.specs.Prelude.{◌++◌, Option, Some, None, Result, Ok, Err}
 use Rattle.verse_base.specs.declared.limits.TheConstants.{MOST_LOAD}
 use Rattle.verse_base.specs.declared.refusals.Refusal.{Refusal}
 use Rattle.verse_layout.specs.declared.toks.Tok.{Tok}
@@ -22,7 +24,8 @@ abbrev pub spaced : Bool → Option Tok → List Written → List Tok
 spaced can waiting [] = []
 spaced can waiting (sep s ∷ ws) = spaced can (first_sep waiting s) ws
 spaced can waiting (no_sep ∷ ws) = spaced can None ws
-spaced can waiting (tok k ∷ ws) = kept_sep (can && not (is_close k.kind)) waiting ++ k ∷ spaced (not (is_open k.kind)) None ws
+spaced can waiting (tok k ∷ ws) =
+    kept_sep (can && not (is_close k.kind)) waiting ++ k ∷ spaced (not (is_open k.kind)) None ws
 
 -- the toks, or why there are none
 abbrev pub Answer : Type 0
@@ -40,5 +43,5 @@ ended (Some r) = Err r
 abbrev pub bounded : Counts → List Tok → Option Refusal → Answer
 bounded s [] stop = ended stop
 bounded s (k ∷ ks) stop =
-    if nat_le (load (after_tok k s)) MOST_LOAD then with_front (k ∷ []) (bounded (after_tok k s) ks stop)
-    else Err (refusal NESTING k.place)
+    if nat_le (load (after_tok k s)) MOST_LOAD then with_front (k ∷ [])
+    (bounded (after_tok k s) ks stop) else Err (refusal NESTING k.place)

@@ -1,5 +1,6 @@
 -- A file's tokens with its lines: each token knows the indentation of the line that it begins.
-use Rattle.std.specs.Prelude.{ℕ, ◌≤◌, Bool, true, ◌&&◌, nat_eq, nat_lt, List, [], ◌∷◌, map, length, Option, IfSome, option_map, is_some}
+use Rattle.std.specs.Prelude.{ℕ, ◌≤◌, Bool, true, ◌&&◌, nat_eq, nat_lt, List, [], ◌∷◌, map, length}
+use Rattle.std.specs.Prelude.{Option, IfSome, option_map, is_some}
 use Rattle.std.specs.Prelude.{slice_range}
 use Rattle.std.specs.List.{starts_with}
 use Rattle.std.specs.Cmp.Lexicographic.{pointwise}
@@ -18,7 +19,11 @@ abbrev pub indentation_of : List ℕ → ℕ × ℕ → List ℕ
 indentation_of bytes span = slice_range bytes span.0 span.1
 
 abbrev pub cell_of : List ℕ → Token → Cell
-cell_of bytes token = record { token = token; line = option_map (indentation_of bytes) token.indent }
+cell_of bytes token = record {
+  token = token;
+  line =
+      option_map (indentation_of bytes) token.indent;
+}
 
 -- the token's indentation lies within the bytes
 abbrev pub Lies : List ℕ → Token → Type 0
@@ -56,7 +61,13 @@ mark_at kind s = record { kind = kind; start = s.at; end = s.at; place = s.place
 
 -- a token as a tok of this kind
 abbrev pub tok_as : TokKind → Token → Tok
-tok_as kind token = record { kind = kind; start = token.start; end = token.end; place = token.place }
+tok_as kind token = record {
+  kind = kind;
+  start = token.start;
+  end = token.end;
+  place =
+      token.place;
+}
 
 abbrev pub passed : Token → Tok
 passed token = tok_as (t.Plain token.kind) token

@@ -17,14 +17,19 @@ file_of (t ∷ ts) = t.place.file
 
 -- the file's end
 abbrev pub end_of : List ℕ → List Token → Spot
-end_of bytes tokens = record { at = length bytes; place = place_at (file_of tokens) bytes (length bytes) }
+end_of bytes tokens = record {
+  at = length bytes;
+  place =
+      place_at (file_of tokens) bytes (length bytes);
+}
 
 -- no tok brings the load above its bound
 abbrev pub IsWithin : Counts → List Tok → Type 0
 IsWithin s [] = Unit {0}
 IsWithin s (k ∷ ks) = (load (after_tok k s) ≤ MOST_LOAD) × IsWithin (after_tok k s) ks
 
--- The tokens are a block, the toks are that block written out, with a Sep only where one stands, and within the load.
+-- The tokens are a block, the toks are that block written out, with a Sep only where one stands,
+-- and within the load.
 pub record IsLayout (bytes : List ℕ) (tokens : List Token) (toks : List Tok) : Type 0 where
   pub written : List Written
   pub block : IsFile (end_of bytes tokens) (cells_of bytes tokens) written
@@ -33,12 +38,13 @@ pub record IsLayout (bytes : List ℕ) (tokens : List Token) (toks : List Tok) :
 
 -- there is at most one list of toks
 abbrev pub OneLayout : Type 0
-OneLayout = (bytes : List ℕ) (tokens : List Token) (ks js : List Tok) → IsLayout bytes tokens ks → IsLayout bytes tokens js → ks ≡ js
+OneLayout = (bytes : List ℕ) (tokens : List Token) (ks js : List Tok) → IsLayout bytes tokens ks →
+    IsLayout bytes tokens js → ks ≡ js
 
 abbrev pub HasLayout : List ℕ → List Token → Type 0
 HasLayout bytes tokens = (ks : List Tok) × IsLayout bytes tokens ks
 
 -- the tokens of a file have their indentations within its bytes
 abbrev pub LexedLie : Type 0
-LexedLie = (file : ℕ) (bytes : List ℕ) (tokens : List Token) → AreTokens file bytes tokens → Rise 0 tokens (length bytes) →
-    All (Lies bytes) tokens
+LexedLie = (file : ℕ) (bytes : List ℕ) (tokens : List Token) → AreTokens file bytes tokens →
+    Rise 0 tokens (length bytes) → All (Lies bytes) tokens

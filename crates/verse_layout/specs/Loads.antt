@@ -1,10 +1,12 @@
 -- The nesting load of a list of toks.
-use Rattle.std.specs.Prelude.{ℕ, ◌≡◌, ◌+◌, ◌<◌, ◌≤◌, reverse, Bool, true, false, if◌then◌else◌, List, [], ◌∷◌}
+use Rattle.std.specs.Prelude.{ℕ, ◌≡◌, ◌+◌, ◌<◌, ◌≤◌, reverse, Bool, true, false, if◌then◌else◌}
+use Rattle.std.specs.Prelude.{List, [], ◌∷◌}
 use Rattle.verse_base.specs.declared.limits.TheConstants.{MOST_LOAD}
 use Rattle.verse_layout.specs.declared.toks.Tok.{Tok}
 use Rattle.verse_layout.specs.declared.loads.Count.{Count}
 use Rattle.verse_layout.specs.declared.loads.Weight.{Weight}
-use Rattle.verse_layout.specs.declared.loads.Weight.TheVariants.{Keeps, Adds, Begins, Ends, Resets, ResetsHole}
+use Rattle.verse_layout.specs.declared.loads.Weight.TheVariants.{Keeps, Adds, Begins, Ends, Resets}
+use Rattle.verse_layout.specs.declared.loads.Weight.TheVariants.{ResetsHole}
 use Rattle.verse_layout.specs.Weights.{weight_of}
 
 -- the frames that are open, the innermost first; the file's own is always there

@@ -8,7 +8,8 @@ use Rattle.verse_layout.specs.Frames.{Walk, write}
 
 abbrev pub rest_of : Writer → Walk → Answer
 rest_of w x = with_front w.output.toks.items
-    (bounded (open_counts w.output.load.inner w.output.load.outer.items) (spaced w.can_separate w.waiting x.written) x.stop)
+    (bounded (open_counts w.output.load.inner w.output.load.outer.items)
+    (spaced w.can_separate w.waiting x.written) x.stop)
 
 abbrev pub after_tok : Tok → Walk → Walk
 after_tok k x = write (tok k) x

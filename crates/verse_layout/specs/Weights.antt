@@ -9,7 +9,8 @@ use Rattle.verse_lex.specs.declared.tokens.Word.TheVariants as w
 use Rattle.verse_layout.specs.declared.toks.TokKind.{TokKind}
 use Rattle.verse_layout.specs.declared.toks.TokKind.TheVariants as t
 use Rattle.verse_layout.specs.declared.loads.Weight.{Weight}
-use Rattle.verse_layout.specs.declared.loads.Weight.TheVariants.{Keeps, Adds, Begins, Ends, Resets, ResetsHole}
+use Rattle.verse_layout.specs.declared.loads.Weight.TheVariants.{Keeps, Adds, Begins, Ends, Resets}
+use Rattle.verse_layout.specs.declared.loads.Weight.TheVariants.{ResetsHole}
 
 abbrev pub word_weight : Word → Weight
 word_weight w.True = Keeps

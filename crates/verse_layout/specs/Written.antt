@@ -46,14 +46,15 @@ sep_between j gap k = if is_open j.kind || is_close k.kind then [] else gap_sep 
 -- What is written behind a tok, and the toks that it becomes. No Sep stands at the end.
 pub data SpacedBehind : Tok → List Written → List Tok → Type 0 where
   last_gap : {j : Tok} {gap : List Written} → is_gap gap ≡ true → SpacedBehind j gap []
-  next_tok : {j k : Tok} (gap : List Written) {ws : List Written} {ks : List Tok} → is_gap gap ≡ true → SpacedBehind k ws ks →
+  next_tok : {j k : Tok} (gap : List Written) {ws : List Written} {ks : List Tok} →
+      is_gap gap ≡ true → SpacedBehind k ws ks →
       SpacedBehind j (gap ++ tok k ∷ ws) (sep_between j gap k ++ k ∷ ks)
 
 -- What is written, and the toks that it becomes. No Sep stands at the beginning.
 pub data Spaced : List Written → List Tok → Type 0 where
   only_gap : {gap : List Written} → is_gap gap ≡ true → Spaced gap []
-  first_tok : {k : Tok} (gap : List Written) {ws : List Written} {ks : List Tok} → is_gap gap ≡ true → SpacedBehind k ws ks →
-      Spaced (gap ++ tok k ∷ ws) (k ∷ ks)
+  first_tok : {k : Tok} (gap : List Written) {ws : List Written} {ks : List Tok} →
+      is_gap gap ≡ true → SpacedBehind k ws ks → Spaced (gap ++ tok k ∷ ws) (k ∷ ks)
 
 abbrev pub refusal : Rule → Place → Refusal
 refusal rule place = record { rule = rule; place = place }

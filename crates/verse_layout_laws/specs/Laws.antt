@@ -11,12 +11,13 @@ use Rattle.verse_layout.specs.Refusals.{IsRefused}
 
 -- a list of tokens has at most one refusal
 abbrev pub OneRefusal : Type 0
-OneRefusal = (bytes : List ℕ) (tokens : List Token) (r s : Refusal) → IsRefused bytes tokens r → IsRefused bytes tokens s → r ≡ s
+OneRefusal = (bytes : List ℕ) (tokens : List Token) (r s : Refusal) → IsRefused bytes tokens r →
+    IsRefused bytes tokens s → r ≡ s
 
 -- and none where it has a layout
 abbrev pub LaidOrRefused : Type 0
-LaidOrRefused = (bytes : List ℕ) (tokens : List Token) (ks : List Tok) (r : Refusal) → IsLayout bytes tokens ks → IsRefused bytes tokens r →
-    ⊥
+LaidOrRefused = (bytes : List ℕ) (tokens : List Token) (ks : List Tok) (r : Refusal) →
+    IsLayout bytes tokens ks → IsRefused bytes tokens r → ⊥
 
 abbrev pub is_sep : TokKind → Bool
 is_sep t.Sep = true
@@ -37,5 +38,5 @@ pub record Separates (before behind : List Tok) : Type 0 where
 
 -- every Sep of a layout separates two toks
 abbrev pub SepsStand : Type 0
-SepsStand = (bytes : List ℕ) (tokens : List Token) (before behind : List Tok) (s : Tok) → IsLayout bytes tokens (before ++ s ∷ behind) →
-    s.kind ≡ t.Sep → Separates before behind
+SepsStand = (bytes : List ℕ) (tokens : List Token) (before behind : List Tok) (s : Tok) →
+    IsLayout bytes tokens (before ++ s ∷ behind) → s.kind ≡ t.Sep → Separates before behind

@@ -1,5 +1,6 @@
 -- Comments that begin with `<#` and end with their `#>`.
-use Rattle.std.specs.Prelude.{ℕ, zero, suc, ◌+◌, ◌≤◌, Bool, ◌==◌, ◌&&◌, not, if◌then◌else◌, List, [], ◌∷◌}
+use Rattle.std.specs.Prelude.{ℕ, zero, suc, ◌+◌, ◌≤◌, Bool, ◌==◌, ◌&&◌, not, if◌then◌else◌, List}
+use Rattle.std.specs.Prelude.{[], ◌∷◌}
 use Rattle.verse_lex.specs.declared.comments.Close.{Close}
 use Rattle.verse_lex.specs.declared.comments.Close.TheVariants as k
 

@@ -1,5 +1,6 @@
 -- What the characters of a text stand for.
-use Rattle.std.specs.Prelude.{ℕ, ◌+◌, ◌-◌, ◌==◌, if◌then◌else◌, List, [], ◌∷◌, take, drop, unwrap_or}
+use Rattle.std.specs.Prelude.{ℕ, ◌+◌, ◌-◌, ◌==◌, if◌then◌else◌, List, [], ◌∷◌, take, drop}
+use Rattle.std.specs.Prelude.{unwrap_or}
 use Rattle.verse_lex.specs.Texts.{escape}
 use Rattle.verse_lex.specs.declared.tokens.Token.{Token}
 

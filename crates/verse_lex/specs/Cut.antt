@@ -1,5 +1,6 @@
 -- A file's bytes are cut into pieces.
-use Rattle.std.specs.Prelude.{◌≡◌, ℕ, ◌+◌, ◌-◌, ◌≤◌, ◌<◌, Bool, ◌==◌, ◌&&◌, if◌then◌else◌, List, [], ◌∷◌, length, take, drop, Option, Some}
+use Rattle.std.specs.Prelude.{◌≡◌, ℕ, ◌+◌, ◌-◌, ◌≤◌, ◌<◌, Bool, ◌==◌, ◌&&◌, if◌then◌else◌, List, []}
+use Rattle.std.specs.Prelude.{◌∷◌, length, take, drop, Option, Some}
 use Rattle.std.specs.Prelude.{None, is_some}
 use Rattle.std.specs.Str.{IsUtf8, IsValidUpTo}
 use Rattle.verse_base.specs.declared.places.Place.{Place}
@@ -50,7 +51,8 @@ past here count bs = record here { at = here.at + count; place = after here.plac
 
 -- behind a line end no token of the line was met yet
 abbrev pub past_line : Cursor → ℕ → List ℕ → Cursor
-past_line here count bs = record (past here count bs) { line = Some (indentation (here.at + count) (drop count bs)) }
+past_line here count bs = record (past here count bs)
+    { line = Some (indentation (here.at + count) (drop count bs)) }
 
 -- a text that opens a hole is the one round it, and the end of a text leaves it
 abbrev pub hole_after : Option Place → Place → TokenKind → Option Place
@@ -59,11 +61,19 @@ hole_after hole place k.TextClose = None
 hole_after hole place other = hole
 
 abbrev pub past_token : Cursor → TokenKind → ℕ → List ℕ → Cursor
-past_token here kind count bs = record (past here count bs) { hole = hole_after here.hole here.place kind; line = None }
+past_token here kind count bs =
+    record (past here count bs) { hole = hole_after here.hole here.place kind; line = None }
 
 -- a token here; the first of a line has the line's indentation
 abbrev pub token : Cursor → TokenKind → ℕ → Token
-token here kind count = record { kind = kind; start = here.at; end = here.at + count; place = here.place; indent = here.line }
+token here kind count = record {
+  kind = kind;
+  start = here.at;
+  end = here.at + count;
+  place =
+      here.place;
+  indent = here.line;
+}
 
 abbrev pub in_hole : Cursor → Bool
 in_hole here = is_some here.hole
@@ -77,9 +87,10 @@ pub data Cuts : Cursor → List ℕ → List Token → Cursor → List ℕ → T
   cuts_line : {here there : Cursor} {bs cs : List ℕ} {ts : List Token} {count : ℕ} →
       piece_at (in_hole here) bs ≡ n.LineEnd count →
       Cuts (past_line here count bs) (drop count bs) ts there cs → Cuts here bs ts there cs
-  cuts_token : {here there : Cursor} {bs cs : List ℕ} {ts : List Token} {kind : TokenKind} {count : ℕ} →
-      piece_at (in_hole here) bs ≡ n.Token kind count →
-      Cuts (past_token here kind count bs) (drop count bs) ts there cs → Cuts here bs (token here kind count ∷ ts) there cs
+  cuts_token : {here there : Cursor} {bs cs : List ℕ} {ts : List Token} {kind : TokenKind}
+      {count : ℕ} → piece_at (in_hole here) bs ≡ n.Token kind count →
+      Cuts (past_token here kind count bs) (drop count bs) ts there cs →
+      Cuts here bs (token here kind count ∷ ts) there cs
 
 -- the file's first byte behind the byte-order mark, where its first line begins
 abbrev pub start : ℕ → List ℕ → Cursor
@@ -109,16 +120,19 @@ refusal_of here bs n.End = None
 refusal_of here bs (n.Separator count) = None
 refusal_of here bs (n.LineEnd count) = None
 refusal_of here bs (n.Token kind count) = None
-refusal_of here bs (n.Bad rule count) = Some (record { rule = rule; place = (past here count bs).place })
+refusal_of here bs (n.Bad rule count) =
+    Some (record { rule = rule; place = (past here count bs).place })
 refusal_of here bs n.HoleEnd = Some (record { rule = TEXT_END; place = opening here here.hole })
 
 -- a byte begins no character, or else the first place where no piece goes on breaks a rule
 pub data IsRefused (file : ℕ) (bs : List ℕ) (refusal : Refusal) : Type 0 where
-  no_text : {offset : ℕ} → IsValidUpTo bs offset → refusal ≡ record { rule = NOT_UTF8; place = place_at file bs offset } →
+  no_text : {offset : ℕ} → IsValidUpTo bs offset →
+      refusal ≡ record { rule = NOT_UTF8; place = place_at file bs offset } →
       IsRefused file bs refusal
   no_piece : {before : List Token} {there : Cursor} {behind : List ℕ} →
       IsUtf8 bs → Cuts (start file bs) (body bs) before there behind →
-      refusal_of there behind (piece_at (in_hole there) behind) ≡ Some refusal → IsRefused file bs refusal
+      refusal_of there behind (piece_at (in_hole there) behind) ≡ Some refusal →
+      IsRefused file bs refusal
 
 -- spans follow each other from here on, and end there
 abbrev pub Rise : ℕ → List Token → ℕ → Type 0
@@ -140,10 +154,13 @@ pub record IsBounded (here : Cursor) (bs : List ℕ) (len : ℕ) : Type 0 where
 
 -- there is at most one answer
 abbrev pub OneCut : Type 0
-OneCut = (file : ℕ) (bs : List ℕ) (ts us : List Token) → AreTokens file bs ts → AreTokens file bs us → ts ≡ us
+OneCut = (file : ℕ) (bs : List ℕ) (ts us : List Token) → AreTokens file bs ts →
+    AreTokens file bs us → ts ≡ us
 
 abbrev pub OneRefusal : Type 0
-OneRefusal = (file : ℕ) (bs : List ℕ) (r s : Refusal) → IsRefused file bs r → IsRefused file bs s → r ≡ s
+OneRefusal = (file : ℕ) (bs : List ℕ) (r s : Refusal) → IsRefused file bs r → IsRefused file bs s →
+    r ≡ s
 
 abbrev pub CutOrRefused : Type 0
-CutOrRefused = (file : ℕ) (bs : List ℕ) (ts : List Token) (r : Refusal) → AreTokens file bs ts → IsRefused file bs r → ⊥
+CutOrRefused = (file : ℕ) (bs : List ℕ) (ts : List Token) (r : Refusal) → AreTokens file bs ts →
+    IsRefused file bs r → ⊥

@@ -1,5 +1,6 @@
 -- The numbers that digits spell.
-use Rattle.std.specs.Prelude.{ℕ, ◌+◌, ◌-◌, ◌*◌, ◌^◌, nat_lt, if◌then◌else◌, List, [], ◌∷◌, ◌++◌, length}
+use Rattle.std.specs.Prelude.{ℕ, ◌+◌, ◌-◌, ◌*◌, ◌^◌, nat_lt, if◌then◌else◌, List, [], ◌∷◌, ◌++◌}
+use Rattle.std.specs.Prelude.{length}
 use Rattle.verse_lex.specs.Bytes.{is_digit}
 
 -- the decimal number that goes on with these digits
@@ -21,6 +22,7 @@ hexadecimal_on n (d ∷ ds) = hexadecimal_on (n * 16 + hex_value d) ds
 abbrev pub hexadecimal : List ℕ → ℕ
 hexadecimal ds = hexadecimal_on 0 ds
 
--- a thousand times the number with these digits before and behind the point, of which at most three are behind it
+-- a thousand times the number with these digits before and behind the point, of which at most three
+-- are behind it
 abbrev pub thousandths : List ℕ → List ℕ → ℕ
 thousandths whole fraction = decimal (whole ++ fraction) * 10 ^ (3 - length fraction)

@@ -1,7 +1,9 @@
 -- What begins at a place.
-use Rattle.std.specs.Prelude.{ℕ, ◌+◌, ◌<◌, ◌^◌, Bool, ◌==◌, ◌&&◌, ◌||◌, ◌≤◌, not, if◌then◌else◌, List, [], ◌∷◌, length, take, drop, Option}
+use Rattle.std.specs.Prelude.{ℕ, ◌+◌, ◌<◌, ◌^◌, Bool, ◌==◌, ◌&&◌, ◌||◌, ◌≤◌, not, if◌then◌else◌}
+use Rattle.std.specs.Prelude.{List, [], ◌∷◌, length, take, drop, Option}
 use Rattle.std.specs.Prelude.{Some, None, nat_le, nat_lt, pos, slice_get}
-use Rattle.verse_lex.specs.Bytes.{in_name, in_line, is_digit, is_hex_digit, is_blank, letter_at, digit_at, hex_digit_at, is_letter, is_at}
+use Rattle.verse_lex.specs.Bytes.{in_name, in_line, is_digit, is_hex_digit, is_blank, letter_at}
+use Rattle.verse_lex.specs.Bytes.{digit_at, hex_digit_at, is_letter, is_at}
 use Rattle.verse_lex.specs.Bytes.{run}
 use Rattle.verse_lex.specs.Words.{name_kind, look_up}
 use Rattle.verse_lex.specs.Marks.{doubles, singles}
@@ -13,12 +15,14 @@ use Rattle.verse_lex.specs.declared.tokens.Mark.{Mark}
 use Rattle.verse_lex.specs.declared.tokens.TokenKind.{TokenKind}
 use Rattle.verse_lex.specs.declared.tokens.TokenKind.TheVariants as k
 use Rattle.verse_lex.specs.declared.pieces.Next.{Next}
-use Rattle.verse_lex.specs.declared.pieces.Next.TheVariants.{End, Separator, LineEnd, Token, Bad, HoleEnd}
+use Rattle.verse_lex.specs.declared.pieces.Next.TheVariants.{End, Separator, LineEnd, Token, Bad}
+use Rattle.verse_lex.specs.declared.pieces.Next.TheVariants.{HoleEnd}
 use Rattle.verse_lex.specs.declared.texts.Ending.{Ending}
 use Rattle.verse_lex.specs.declared.texts.Ending.TheVariants as e
 use Rattle.verse_lex.specs.declared.comments.Close.{Close}
 use Rattle.verse_lex.specs.declared.comments.Close.TheVariants as c
-use Rattle.verse_lex.specs.declared.rules.TheConstants.{UNEXPECTED, TEXT_END, COMMENT_END, ESCAPE, INTEGER, DURATION, CHARACTER}
+use Rattle.verse_lex.specs.declared.rules.TheConstants.{UNEXPECTED, TEXT_END, COMMENT_END, ESCAPE}
+use Rattle.verse_lex.specs.declared.rules.TheConstants.{INTEGER, DURATION, CHARACTER}
 
 -- Marks: the longest.
 abbrev pub mark_next : Option Mark → Option Mark → Next
@@ -47,8 +51,9 @@ integer bs value n = if nat_le (2 ^ 63) value then Bad INTEGER 0 else ended bs (
 -- the digits before the point, and those behind it
 abbrev pub duration : List ℕ → List ℕ → List ℕ → ℕ → Next
 duration bs whole fraction n =
-    if nat_lt 3 (length fraction) || nat_lt MOST_DURATION (thousandths whole fraction) then Bad DURATION 0
-    else ended bs (k.Dec (thousandths whole fraction)) n
+    if nat_lt 3 (length fraction) ||
+    nat_lt MOST_DURATION (thousandths whole fraction) then Bad DURATION 0 else ended bs
+    (k.Dec (thousandths whole fraction)) n
 
 -- `0x` and a hexadecimal digit
 abbrev pub is_hexadecimal : List ℕ → Bool
@@ -135,7 +140,8 @@ is_lone_at bs n = is_at bs n 13 && not (is_at bs (n + 1) 10)
 
 -- up to the line's end
 abbrev pub line_comment : List ℕ → Next
-line_comment bs = let n = run in_line bs in if is_lone_at bs n then Bad UNEXPECTED n else Separator n
+line_comment bs = let n = run in_line bs in if is_lone_at bs n then Bad UNEXPECTED n else Separator
+    n
 
 -- What stands in holes too.
 abbrev pub common : List ℕ → Next
@@ -163,7 +169,8 @@ next_plain (b ∷ bs) =
 
 -- a line end, `#`, a quote, `{` or a comment in a hole
 abbrev pub breaks_hole : List ℕ → Bool
-breaks_hole bs = is_at bs 0 10 || is_at bs 0 13 || is_at bs 0 35 || is_at bs 0 34 || is_at bs 0 123 || begins_comment bs
+breaks_hole bs = is_at bs 0 10 || is_at bs 0 13 || is_at bs 0 35 || is_at bs 0 34 ||
+    is_at bs 0 123 || begins_comment bs
 
 abbrev pub next_hole : List ℕ → Next
 next_hole [] = HoleEnd

@@ -1,5 +1,6 @@
 -- The characters of a text.
-use Rattle.std.specs.Prelude.{ℕ, ◌+◌, ◌≤◌, Bool, ◌==◌, ◌||◌, if◌then◌else◌, List, [], ◌∷◌, Option, Some, None}
+use Rattle.std.specs.Prelude.{ℕ, ◌+◌, ◌≤◌, Bool, ◌==◌, ◌||◌, if◌then◌else◌, List, [], ◌∷◌, Option}
+use Rattle.std.specs.Prelude.{Some, None}
 use Rattle.verse_lex.specs.Bytes.{is_at}
 use Rattle.verse_lex.specs.declared.texts.Ending.{Ending}
 use Rattle.verse_lex.specs.declared.texts.Ending.TheVariants as e
@@ -7,8 +8,8 @@ use Rattle.verse_lex.specs.declared.rules.TheConstants.{UNEXPECTED, ESCAPE}
 
 -- a character that stands for itself behind a backslash: \ " ' { } < > & # ~
 abbrev pub is_quoted : ℕ → Bool
-is_quoted b = (b == 92) || (b == 34) || (b == 39) || (b == 123) || (b == 125) || (b == 60) || (b == 62) || (b == 38) || (b == 35) ||
-    (b == 126)
+is_quoted b = (b == 92) || (b == 34) || (b == 39) || (b == 123) || (b == 125) || (b == 60) ||
+    (b == 62) || (b == 38) || (b == 35) || (b == 126)
 
 -- what this byte stands for behind a backslash, if they are an escape
 abbrev pub escape : ℕ → Option ℕ

@@ -1,5 +1,6 @@
 -- Words, left-out words and names.
-use Rattle.std.specs.Prelude.{ℕ, Bool, true, false, if◌then◌else◌, List, [], ◌∷◌, Option, Some, None, codes, nat_eq}
+use Rattle.std.specs.Prelude.{ℕ, Bool, true, false, if◌then◌else◌, List, [], ◌∷◌, Option, Some}
+use Rattle.std.specs.Prelude.{None, codes, nat_eq}
 use Rattle.std.specs.Cmp.Lexicographic.{pointwise}
 use Rattle.verse_lex.specs.declared.tokens.Word.{Word}
 use Rattle.verse_lex.specs.declared.tokens.Word.TheVariants as w
@@ -81,11 +82,13 @@ left_out =
 module _ {A : Type 0} where
   abbrev pub look_up : List (List ℕ × A) → List ℕ → Option A
   look_up [] spelling = None
-  look_up (row ∷ rows) spelling = if pointwise nat_eq spelling row.0 then Some row.1 else look_up rows spelling
+  look_up (row ∷ rows) spelling =
+      if pointwise nat_eq spelling row.0 then Some row.1 else look_up rows spelling
 
 abbrev pub is_among : List (List ℕ) → List ℕ → Bool
 is_among [] spelling = false
-is_among (row ∷ rows) spelling = if pointwise nat_eq spelling row then true else is_among rows spelling
+is_among (row ∷ rows) spelling =
+    if pointwise nat_eq spelling row then true else is_among rows spelling
 
 -- a word, or else a left-out word or a name
 abbrev pub kind_of : Option Word → Bool → TokenKind

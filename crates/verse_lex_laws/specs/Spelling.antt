@@ -1,8 +1,10 @@
 -- How the pieces are spelled, whatever follows them, and what breaks each rule.
-use Rattle.std.specs.Prelude.{◌≡◌, ℕ, ◌+◌, ◌≤◌, ◌^◌, Bool, true, false, not, ◌==◌, ◌&&◌, ◌||◌, if◌then◌else◌, nat_le, nat_lt, List, [], ◌∷◌}
+use Rattle.std.specs.Prelude.{◌≡◌, ℕ, ◌+◌, ◌≤◌, ◌^◌, Bool, true, false, not, ◌==◌, ◌&&◌, ◌||◌}
+use Rattle.std.specs.Prelude.{if◌then◌else◌, nat_le, nat_lt, List, [], ◌∷◌}
 use Rattle.std.specs.Prelude.{◌++◌, length, Option, Some, None, pos, slice_get}
 use Rattle.verse_base.specs.declared.refusals.Rule.{Rule}
-use Rattle.verse_lex.specs.Bytes.{is_letter, is_digit, is_hex_digit, in_name, is_blank, in_line, is_at, letter_at}
+use Rattle.verse_lex.specs.Bytes.{is_letter, is_digit, is_hex_digit, in_name, is_blank, in_line}
+use Rattle.verse_lex.specs.Bytes.{is_at, letter_at}
 use Rattle.verse_lex.specs.Words.{look_up, name_kind}
 use Rattle.verse_lex.specs.Marks.{doubles, singles}
 use Rattle.verse_lex.specs.Numbers.{decimal, hexadecimal, thousandths}
@@ -13,7 +15,8 @@ use Rattle.verse_lex.specs.Contents.{token_text}
 use Rattle.verse_lex.specs.Cut.{mark_len, first_place, after, AreTokens}
 use Rattle.verse_lex.specs.declared.numbers.TheConstants.{MOST_DURATION}
 use Rattle.verse_lex.specs.declared.tokens.Token.{Token}
-use Rattle.verse_lex.specs.declared.rules.TheConstants.{UNEXPECTED, TEXT_END, COMMENT_END, ESCAPE, INTEGER, DURATION, CHARACTER}
+use Rattle.verse_lex.specs.declared.rules.TheConstants.{UNEXPECTED, TEXT_END, COMMENT_END, ESCAPE}
+use Rattle.verse_lex.specs.declared.rules.TheConstants.{INTEGER, DURATION, CHARACTER}
 use Rattle.verse_lex.specs.declared.texts.Ending.{Ending}
 use Rattle.verse_lex.specs.declared.texts.Ending.TheVariants as e
 use Rattle.verse_lex.specs.declared.tokens.Mark.{Mark}
@@ -30,17 +33,20 @@ all_pass p (b ∷ bs) = p b && all_pass p bs
 pub data Body : List ℕ → Type 0 where
   ends : Body (35 ∷ 62 ∷ [])
   nested : {cs ds : List ℕ} → Body cs → Body ds → Body (60 ∷ 35 ∷ (cs ++ ds))
-  more : {b c : ℕ} {cs : List ℕ} → closes b c ≡ false → opens b c ≡ false → is_lone b c ≡ false → Body (c ∷ cs) → Body (b ∷ c ∷ cs)
+  more : {b c : ℕ} {cs : List ℕ} → closes b c ≡ false → opens b c ≡ false → is_lone b c ≡ false →
+      Body (c ∷ cs) → Body (b ∷ c ∷ cs)
 
 -- no quote, brace, backslash, line feed or carriage return
 abbrev pub is_plain : ℕ → Bool
-is_plain b = not (b == 34) && (not (b == 123) && (not (b == 125) && (not (b == 10) && (not (b == 13) && not (b == 92)))))
+is_plain b = not (b == 34) && (not (b == 123) &&
+    (not (b == 125) && (not (b == 10) && (not (b == 13) && not (b == 92)))))
 
 -- the characters of a text, and the bytes that they stand for
 pub data Chars : List ℕ → List ℕ → Type 0 where
   no_chars : Chars [] []
   plain : {b : ℕ} {cs ms : List ℕ} → is_plain b ≡ true → Chars cs ms → Chars (b ∷ cs) (b ∷ ms)
-  escaped : {b c : ℕ} {cs ms : List ℕ} → escape b ≡ Some c → Chars cs ms → Chars (92 ∷ b ∷ cs) (c ∷ ms)
+  escaped : {b c : ℕ} {cs ms : List ℕ} → escape b ≡ Some c → Chars cs ms →
+      Chars (92 ∷ b ∷ cs) (c ∷ ms)
 
 -- a character literal, and the byte that it stands for
 pub data Literal : List ℕ → ℕ → Type 0 where
@@ -53,17 +59,20 @@ integer_rule value = if nat_le (2 ^ 63) value then Some INTEGER else None
 
 -- the rule that a duration breaks, of these digits behind the point
 abbrev pub duration_rule : List ℕ → ℕ → Option Rule
-duration_rule fraction value = if nat_lt 3 (length fraction) || nat_lt MOST_DURATION value then Some DURATION else None
+duration_rule fraction value =
+    if nat_lt 3 (length fraction) || nat_lt MOST_DURATION value then Some DURATION else None
 
 -- a number, and the rule that it breaks if it breaks one
 pub data Number : List ℕ → TokenKind → Option Rule → Type 0 where
   digits : (d : ℕ) (ds : List ℕ) → is_digit d ≡ true → all_pass is_digit ds ≡ true →
       Number (d ∷ ds) (k.Int (pos (decimal (d ∷ ds)))) (integer_rule (decimal (d ∷ ds)))
   hex_digits : (d : ℕ) (ds : List ℕ) → is_hex_digit d ≡ true → all_pass is_hex_digit ds ≡ true →
-      Number (48 ∷ 120 ∷ d ∷ ds) (k.Int (pos (hexadecimal (d ∷ ds)))) (integer_rule (hexadecimal (d ∷ ds)))
-  fraction : (c d : ℕ) (cs ds : List ℕ) → is_digit c ≡ true → all_pass is_digit cs ≡ true → is_digit d ≡ true →
-      all_pass is_digit ds ≡ true →
-      Number ((c ∷ cs) ++ 46 ∷ d ∷ ds) (k.Dec (thousandths (c ∷ cs) (d ∷ ds))) (duration_rule (d ∷ ds) (thousandths (c ∷ cs) (d ∷ ds)))
+      Number (48 ∷ 120 ∷ d ∷ ds) (k.Int (pos (hexadecimal (d ∷ ds))))
+      (integer_rule (hexadecimal (d ∷ ds)))
+  fraction : (c d : ℕ) (cs ds : List ℕ) → is_digit c ≡ true → all_pass is_digit cs ≡ true →
+      is_digit d ≡ true → all_pass is_digit ds ≡ true →
+      Number ((c ∷ cs) ++ 46 ∷ d ∷ ds) (k.Dec (thousandths (c ∷ cs) (d ∷ ds)))
+      (duration_rule (d ∷ ds) (thousandths (c ∷ cs) (d ∷ ds)))
 
 pub data Piece : Type 0 where
   separates : Piece
@@ -79,17 +88,23 @@ pub data Spells : Bool → List ℕ → Piece → Type 0 where
   comment : {cs : List ℕ} → Body cs → is_at cs 0 62 ≡ false → Spells false (60 ∷ 35 ∷ cs) separates
   name : {hole : Bool} {b : ℕ} {cs : List ℕ} → is_letter b ≡ true → all_pass in_name cs ≡ true →
       Spells hole (b ∷ cs) (is_token (name_kind (b ∷ cs)))
-  number : {hole : Bool} {cs : List ℕ} {kind : TokenKind} → Number cs kind None → Spells hole cs (is_token kind)
-  literal : {hole : Bool} {cs : List ℕ} {c : ℕ} → Literal cs c → Spells hole cs (is_token (k.Char c))
+  number : {hole : Bool} {cs : List ℕ} {kind : TokenKind} → Number cs kind None →
+      Spells hole cs (is_token kind)
+  literal : {hole : Bool} {cs : List ℕ} {c : ℕ} → Literal cs c →
+      Spells hole cs (is_token (k.Char c))
   text : {cs ms : List ℕ} → Chars cs ms → Spells false (34 ∷ (cs ++ 34 ∷ [])) (is_token k.Text)
-  text_open : {cs ms : List ℕ} → Chars cs ms → Spells false (34 ∷ (cs ++ 123 ∷ [])) (is_token k.TextOpen)
-  text_mid : {cs ms : List ℕ} → Chars cs ms → Spells true (125 ∷ (cs ++ 123 ∷ [])) (is_token k.TextMid)
-  text_close : {cs ms : List ℕ} → Chars cs ms → Spells true (125 ∷ (cs ++ 34 ∷ [])) (is_token k.TextClose)
+  text_open : {cs ms : List ℕ} → Chars cs ms →
+      Spells false (34 ∷ (cs ++ 123 ∷ [])) (is_token k.TextOpen)
+  text_mid : {cs ms : List ℕ} → Chars cs ms →
+      Spells true (125 ∷ (cs ++ 123 ∷ [])) (is_token k.TextMid)
+  text_close : {cs ms : List ℕ} → Chars cs ms →
+      Spells true (125 ∷ (cs ++ 34 ∷ [])) (is_token k.TextClose)
   double : {hole : Bool} {b c : ℕ} {mark : Mark} → look_up doubles (b ∷ c ∷ []) ≡ Some mark →
       Spells hole (b ∷ c ∷ []) (is_token (k.Mark mark))
-  single : {b : ℕ} {mark : Mark} → look_up singles (b ∷ []) ≡ Some mark → Spells false (b ∷ []) (is_token (k.Mark mark))
-  single_in_hole : {b : ℕ} {mark : Mark} → look_up singles (b ∷ []) ≡ Some mark → (b == 123) ≡ false → (b == 125) ≡ false →
-      Spells true (b ∷ []) (is_token (k.Mark mark))
+  single : {b : ℕ} {mark : Mark} → look_up singles (b ∷ []) ≡ Some mark →
+      Spells false (b ∷ []) (is_token (k.Mark mark))
+  single_in_hole : {b : ℕ} {mark : Mark} → look_up singles (b ∷ []) ≡ Some mark →
+      (b == 123) ≡ false → (b == 125) ≡ false → Spells true (b ∷ []) (is_token (k.Mark mark))
 
 -- what stands behind the characters of a text, and how that ends them
 pub data Stops : List ℕ → Ending → Type 0 where
@@ -97,7 +112,8 @@ pub data Stops : List ℕ → Ending → Type 0 where
   hole : {ds : List ℕ} → Stops (123 ∷ ds) (e.Brace 1)
   brace : {ds : List ℕ} → Stops (125 ∷ ds) (e.Broken UNEXPECTED 0)
   lone : {ds : List ℕ} → is_lone_at ds 0 ≡ true → Stops ds (e.Broken UNEXPECTED 0)
-  no_escape : {ds : List ℕ} → escape_of (slice_get ds 0) ≡ None → Stops (92 ∷ ds) (e.Broken ESCAPE 0)
+  no_escape : {ds : List ℕ} → escape_of (slice_get ds 0) ≡ None →
+      Stops (92 ∷ ds) (e.Broken ESCAPE 0)
   file_end : Stops [] e.Line
   line_end : {ds : List ℕ} → Stops (10 ∷ ds) e.Line
   return_end : {ds : List ℕ} → Stops (13 ∷ 10 ∷ ds) e.Line
@@ -106,13 +122,15 @@ pub data Stops : List ℕ → Ending → Type 0 where
 abbrev pub NoBody : List ℕ → Type 0
 NoBody bs = (cs ds : List ℕ) → bs ≡ cs ++ ds → Body cs → ⊥
 
--- A carriage return with no line feed behind it stands behind so many of these bytes, in a comment that is open there.
+-- A carriage return with no line feed behind it stands behind so many of these bytes, in a comment
+-- that is open there.
 pub data MeetsLone : List ℕ → ℕ → Type 0 where
   lone_here : {bs : List ℕ} → is_lone_at bs 0 ≡ true → MeetsLone bs 0
   in_nested : {bs : List ℕ} {count : ℕ} → MeetsLone bs count → MeetsLone (60 ∷ 35 ∷ bs) (2 + count)
-  past_nested : {cs ds : List ℕ} {count : ℕ} → Body cs → MeetsLone ds count → MeetsLone (60 ∷ 35 ∷ (cs ++ ds)) (2 + length cs + count)
-  past_byte : {b c : ℕ} {bs : List ℕ} {count : ℕ} → closes b c ≡ false → opens b c ≡ false → is_lone b c ≡ false →
-      MeetsLone (c ∷ bs) count →
+  past_nested : {cs ds : List ℕ} {count : ℕ} → Body cs → MeetsLone ds count →
+      MeetsLone (60 ∷ 35 ∷ (cs ++ ds)) (2 + length cs + count)
+  past_byte : {b c : ℕ} {bs : List ℕ} {count : ℕ} → closes b c ≡ false → opens b c ≡ false →
+      is_lone b c ≡ false → MeetsLone (c ∷ bs) count →
       MeetsLone (b ∷ c ∷ bs) (1 + count)
 
 -- these bytes begin with a backslash that begins no escape
@@ -127,7 +145,8 @@ NoLiteral bs = (cs ds : List ℕ) (c : ℕ) → bs ≡ cs ++ ds → Literal cs c
 
 -- no number that begins here is longer
 abbrev pub LongestNumber : List ℕ → ℕ → Type 0
-LongestNumber bs len = (cs ds : List ℕ) (kind : TokenKind) (rule : Option Rule) → bs ≡ cs ++ ds → Number cs kind rule → length cs ≤ len
+LongestNumber bs len = (cs ds : List ℕ) (kind : TokenKind) (rule : Option Rule) → bs ≡ cs ++ ds →
+    Number cs kind rule → length cs ≤ len
 
 -- a byte with which nothing begins
 pub record IsStray (b : ℕ) : Type 0 where
@@ -144,27 +163,31 @@ pub record IsStray (b : ℕ) : Type 0 where
 -- What breaks each rule, and how many bytes on.
 pub data Breaks : Bool → List ℕ → Rule → ℕ → Type 0 where
   stray : {within : Bool} {b : ℕ} {bs : List ℕ} → IsStray b → Breaks within (b ∷ bs) UNEXPECTED 0
-  lone_return : {within : Bool} {bs : List ℕ} → is_lone_at bs 0 ≡ true → Breaks within bs UNEXPECTED 0
+  lone_return : {within : Bool} {bs : List ℕ} → is_lone_at bs 0 ≡ true →
+      Breaks within bs UNEXPECTED 0
   lone_in_line : (cs ds : List ℕ) → all_pass in_line cs ≡ true → is_lone_at ds 0 ≡ true →
       Breaks false (35 ∷ (cs ++ ds)) UNEXPECTED (1 + length cs)
   lone_in_comment : {bs : List ℕ} {count : ℕ} → is_at bs 0 62 ≡ false → MeetsLone bs count →
       Breaks false (60 ∷ 35 ∷ bs) UNEXPECTED (count + 2)
   no_comment : {bs : List ℕ} → Breaks false (60 ∷ 35 ∷ 62 ∷ bs) UNEXPECTED 0
-  letter_behind : {within : Bool} {cs : List ℕ} (ds : List ℕ) {kind : TokenKind} → Number cs kind None →
-      LongestNumber (cs ++ ds) (length cs) → letter_at ds 0 ≡ true →
+  letter_behind : {within : Bool} {cs : List ℕ} (ds : List ℕ) {kind : TokenKind} →
+      Number cs kind None → LongestNumber (cs ++ ds) (length cs) → letter_at ds 0 ≡ true →
       Breaks within (cs ++ ds) UNEXPECTED (length cs)
-  broken_number : {within : Bool} {cs : List ℕ} (ds : List ℕ) {kind : TokenKind} {rule : Rule} → Number cs kind (Some rule) →
-      LongestNumber (cs ++ ds) (length cs) →
+  broken_number : {within : Bool} {cs : List ℕ} (ds : List ℕ) {kind : TokenKind} {rule : Rule} →
+      Number cs kind (Some rule) → LongestNumber (cs ++ ds) (length cs) →
       Breaks within (cs ++ ds) rule 0
-  no_literal : {within : Bool} {bs : List ℕ} → NoLiteral (39 ∷ bs) → (NoEscape bs → ⊥) → Breaks within (39 ∷ bs) CHARACTER 0
-  literal_escape : {within : Bool} {bs : List ℕ} → escape_of (slice_get bs 0) ≡ None → Breaks within (39 ∷ 92 ∷ bs) ESCAPE 1
+  no_literal : {within : Bool} {bs : List ℕ} → NoLiteral (39 ∷ bs) → (NoEscape bs → ⊥) →
+      Breaks within (39 ∷ bs) CHARACTER 0
+  literal_escape : {within : Bool} {bs : List ℕ} → escape_of (slice_get bs 0) ≡ None →
+      Breaks within (39 ∷ 92 ∷ bs) ESCAPE 1
   broken_text : {cs ms ds : List ℕ} {rule : Rule} → Chars cs ms → Stops ds (e.Broken rule 0) →
       Breaks false (34 ∷ (cs ++ ds)) rule (1 + length cs)
   broken_part : {cs ms ds : List ℕ} {rule : Rule} → Chars cs ms → Stops ds (e.Broken rule 0) →
       Breaks true (125 ∷ (cs ++ ds)) rule (1 + length cs)
-  unended_text : {cs ms ds : List ℕ} → Chars cs ms → Stops ds e.Line → Breaks false (34 ∷ (cs ++ ds)) TEXT_END 0
-  unended_comment : {bs : List ℕ} → is_at bs 0 62 ≡ false → NoBody bs → ((count : ℕ) → MeetsLone bs count → ⊥) →
-      Breaks false (60 ∷ 35 ∷ bs) COMMENT_END 0
+  unended_text : {cs ms ds : List ℕ} → Chars cs ms → Stops ds e.Line →
+      Breaks false (34 ∷ (cs ++ ds)) TEXT_END 0
+  unended_comment : {bs : List ℕ} → is_at bs 0 62 ≡ false → NoBody bs →
+      ((count : ℕ) → MeetsLone bs count → ⊥) → Breaks false (60 ∷ 35 ∷ bs) COMMENT_END 0
 
 -- where the text round a hole does not end
 pub data Unended : List ℕ → Type 0 where
@@ -191,7 +214,8 @@ pub record BeginsWith (within : Bool) (bs : List ℕ) (piece : Piece) (count : �
 
 -- what is spelled at a place is never longer than the piece there
 abbrev pub NoneLonger : Type 0
-NoneLonger = (within : Bool) (cs ds : List ℕ) (piece : Piece) → Spells within cs piece → Reaches (piece_at within (cs ++ ds)) (length cs)
+NoneLonger = (within : Bool) (cs ds : List ℕ) (piece : Piece) → Spells within cs piece →
+    Reaches (piece_at within (cs ++ ds)) (length cs)
 
 -- what begins here is spelled, or breaks a rule
 abbrev pub Explains : Bool → List ℕ → Next → Type 0
@@ -207,16 +231,18 @@ EachExplained = (within : Bool) (bs : List ℕ) → Explains within bs (piece_at
 
 -- where a rule is broken, no piece goes on, and that rule is answered there
 abbrev pub EachBroken : Type 0
-EachBroken = (within : Bool) (bs : List ℕ) (rule : Rule) (count : ℕ) → Breaks within bs rule count → piece_at within bs ≡ n.Bad rule count
+EachBroken = (within : Bool) (bs : List ℕ) (rule : Rule) (count : ℕ) → Breaks within bs rule count →
+    piece_at within bs ≡ n.Bad rule count
 
 -- where the text round a hole does not end, that is answered
 abbrev pub EachUnended : Type 0
 EachUnended = (bs : List ℕ) → Unended bs → piece_at true bs ≡ n.HoleEnd
 
--- at a place at most one rule is broken, at one offset, and none where the text round a hole does not end
+-- at a place at most one rule is broken, at one offset, and none where the text round a hole does
+-- not end
 pub record OneBreak : Type 0 where
-  pub one : (within : Bool) (bs : List ℕ) (rule other : Rule) (count offset : ℕ) → Breaks within bs rule count →
-      Breaks within bs other offset →
+  pub one : (within : Bool) (bs : List ℕ) (rule other : Rule) (count offset : ℕ) →
+      Breaks within bs rule count → Breaks within bs other offset →
       (rule ≡ other) × (count ≡ offset)
   pub apart : (bs : List ℕ) (rule : Rule) (count : ℕ) → Breaks true bs rule count → Unended bs → ⊥
 
@@ -228,11 +254,13 @@ next_of (is_token kind) count = n.Token kind count
 
 -- each spelling, by itself, is read as what it spells
 abbrev pub SpelledAlone : Type 0
-SpelledAlone = (within : Bool) (cs : List ℕ) (piece : Piece) → Spells within cs piece → piece_at within cs ≡ next_of piece (length cs)
+SpelledAlone = (within : Bool) (cs : List ℕ) (piece : Piece) → Spells within cs piece →
+    piece_at within cs ≡ next_of piece (length cs)
 
 -- no bytes spell two pieces
 abbrev pub OnePiece : Type 0
-OnePiece = (within : Bool) (cs : List ℕ) (p q : Piece) → Spells within cs p → Spells within cs q → p ≡ q
+OnePiece = (within : Bool) (cs : List ℕ) (p q : Piece) → Spells within cs p → Spells within cs q →
+    p ≡ q
 
 -- The file is cut round this token: a byte-order mark, the bytes before it, its own, those behind.
 pub record IsSpelled (file : ℕ) (bs : List ℕ) (t : Token) : Type 0 where
@@ -254,7 +282,8 @@ EachSpelled file bs (t ∷ ts) = IsSpelled file bs t × EachSpelled file bs ts
 
 -- the tokens of a file are spelled by the bytes of their spans, and stand at their places
 abbrev pub TokensSpelled : Type 0
-TokensSpelled = (file : ℕ) (bs : List ℕ) (ts : List Token) → AreTokens file bs ts → EachSpelled file bs ts
+TokensSpelled = (file : ℕ) (bs : List ℕ) (ts : List Token) → AreTokens file bs ts →
+    EachSpelled file bs ts
 
 -- the bytes of a text token are what its characters stand for
 abbrev pub TextsMean : Type 0

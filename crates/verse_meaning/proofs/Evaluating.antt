@@ -15,14 +15,16 @@ use Rattle.verse_meaning.specs.Programs.{Program, ref_at}
 use Rattle.verse_meaning.specs.Residuals as form
 use Rattle.verse_meaning.specs.Residuals.{Env, Bound, constant, variable, Base, in_variable, in_self, in_object, Form, Binder, no_name}
 use Rattle.verse_meaning.specs.Residuals.{a_constant, a_variable, Generator, Values, Role, part, body, root, Residual, leaf, args, seq}
-use Rattle.verse_meaning.specs.Residuals.{deferred, looped, filling, generated, called, arms, Scope, scope, Scopes, none, also, Arms, no_arms, gave}
+use Rattle.verse_meaning.specs.Residuals.{deferred, looped, filling, generated, called, arms, Scope, scope, Scopes, none, also, Arms}
+use Rattle.verse_meaning.specs.Residuals.{no_arms, gave}
 use Rattle.verse_meaning.specs.Residuals.{runs}
 use Rattle.verse_meaning.specs.Outcomes.{World, set_behind, Outcome, value, failed, returned, broke, halted, rests, TaskOutcome, ends, Went}
 use Rattle.verse_meaning.specs.Outcomes.{went, quits, on_went_task, finished, not_given, all_gave, first_gave, with_arm}
 use Rattle.verse_meaning.specs.Forms.{Deeper, look, this_of, values_of}
 use Rattle.verse_meaning.specs.Evaluating.{Statement, plain, defines, defers, generates, statement_of, Callee, alone, of_object, of_value}
 use Rattle.verse_meaning.specs.Evaluating.{of_quotient, no_callee, spawned_callee, mode_of, on_bool, callee_of, base_of, enum_member}
-use Rattle.verse_meaning.specs.Evaluating.{picked, none_left, class_ref, pattern_fits, cancel_kids, cancel_own, cancel_scope_kids, cancel_scope_own}
+use Rattle.verse_meaning.specs.Evaluating.{picked, none_left, class_ref, pattern_fits, cancel_kids, cancel_own, cancel_scope_kids}
+use Rattle.verse_meaning.specs.Evaluating.{cancel_scope_own}
 use Rattle.verse_meaning.specs.Evaluating.{cancel_behind, cancel_arms, scope_ended, scope_returned, scope_end, or_stands, settled, arm_gave}
 use Rattle.verse_meaning.specs.Evaluating.{begins_scope, stated, claused, generates_from, levelled, by_callee, named, member_form, membered}
 use Rattle.verse_meaning.specs.Evaluating.{ev, ev_shape, statements, inner, inner_shape, all_args, holed, paired_args, given_args, quotient}
@@ -32,7 +34,8 @@ use Rattle.verse_meaning.specs.Laws.{KeepsWent}
 use Rattle.verse_meaning.specs.Laws.{Grown, Leaves, Apart, Keeps, KeepsTask}
 use Rattle.verse_meaning.proofs.Forms.{DeeperKeeps, still_memory, added_memory, read_bound_keeps, read_slot_keeps, apply_keeps}
 use Rattle.verse_meaning.proofs.Forms.{defined_keeps}
-use Rattle.verse_meaning.proofs.Keeping.{undone_keeps, failed_keeps, leaves_same, leaves_then, valued_keeps, attempted_keeps, spends_keeps, there_keeps}
+use Rattle.verse_meaning.proofs.Keeping.{undone_keeps, failed_keeps, leaves_same, leaves_then, valued_keeps, attempted_keeps, spends_keeps}
+use Rattle.verse_meaning.proofs.Keeping.{there_keeps}
 use Rattle.verse_meaning.proofs.Keeping.{known_keeps, told_keeps, outside_keeps, suspended_keeps, dropped_keeps, went_on_keeps}
 use Rattle.verse_meaning.proofs.Keeping.{on_went_keeps, closing_keeps, branch_keeps, armed_keeps, left_leaves}
 
@@ -273,8 +276,8 @@ module _ (p : Program) (k : Deeper) (d : DeeperKeeps k) where
     shape_keeps (t.Shape.query a) n pl m e w =
         valued_keeps m w _ _ _ (ev_keeps a m e w) (λ v u h. apply_keeps p k d form.querying (v ∷ []) m e u)
     shape_keeps (t.Shape.member a x) n pl m e w =
-        membered_keeps (enum_member p a x) m e w _ (valued_keeps m w _ _ _ (ev_keeps a m e w) (λ v u h. apply_keeps p k d (member_form (ref_at p n)
-        x) (v ∷ []) m e u))
+        membered_keeps (enum_member p a x) m e w _
+        (valued_keeps m w _ _ _ (ev_keeps a m e w) (λ v u h. apply_keeps p k d (member_form (ref_at p n) x) (v ∷ []) m e u))
     shape_keeps (t.Shape.call a ts) n pl m e w = callee_keeps (callee_of p a (picked ts) pl) m w _ _ _ _ (λ f. args_keep ts f [] m e w)
         (λ f. valued_keeps m w _ _ _ (inner_keeps a m e w) (λ v u h. args_keep ts f (v ∷ []) m e u)) (λ f. valued_keeps m w _ _ _
         (ev_keeps a m e w) (λ v u h. apply_keeps p k d f (v ∷ []) m e u)) (λ f. quotient_keeps ts f m e w)

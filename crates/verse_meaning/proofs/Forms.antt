@@ -13,11 +13,13 @@ use Rattle.verse_value.specs.Storing.{read_slot, write_slot}
 use Rattle.verse_value.specs.declared.modes.Mode.{Mode}
 use Rattle.verse_meaning_state.specs.State.{State, Given}
 use Rattle.verse_meaning_state.specs.Waits.{done, heard, nth}
-use Rattle.verse_meaning_state.specs.Effects.{task_of, Effect, still, added, changed, slot_read, slot_written, text_printed, line_printed, class_of}
+use Rattle.verse_meaning_state.specs.Effects.{task_of, Effect, still, added, changed, slot_read, slot_written, text_printed, line_printed}
+use Rattle.verse_meaning_state.specs.Effects.{class_of}
 use Rattle.verse_meaning_state.specs.Effects.{event_of}
 use Rattle.verse_meaning.specs.Programs.{Program, fields_of}
 use Rattle.verse_meaning.specs.Residuals as form
-use Rattle.verse_meaning.specs.Residuals.{Env, Bound, constant, variable, Base, in_variable, in_self, in_object, nowhere, Form, Binder, no_name}
+use Rattle.verse_meaning.specs.Residuals.{Env, Bound, constant, variable, Base, in_variable, in_self, in_object, nowhere, Form, Binder}
+use Rattle.verse_meaning.specs.Residuals.{no_name}
 use Rattle.verse_meaning.specs.Residuals.{a_constant, a_variable, Generator, Values, Role, part, body, root, Residual, leaf, args, seq}
 use Rattle.verse_meaning.specs.Residuals.{deferred, looped, generated, called, arms, Scope, scope, Scopes, none, also, Arms, no_arms, gave}
 use Rattle.verse_meaning.specs.Residuals.{runs}
@@ -156,14 +158,14 @@ module _ (p : Program) (k : Deeper) (d : DeeperKeeps k) where
   stored_keeps (in_object slot) (o ∷ vs) mode pl m e w = to_keeps (Some o) slot vs mode pl m e w
   stored_keeps nowhere vs mode pl m e w = tt
 
-  field_keeps : (v : Option Val) (a : Option Tree) (m : Bool) (e : Env) (w : World) (wrap : Residual → Residual) (go : Val → World → Outcome) → ((v : Val) (u : World) →
-      Keeps m u (go v u)) → Keeps m w (field_filled p k v a m e w wrap go)
+  field_keeps : (v : Option Val) (a : Option Tree) (m : Bool) (e : Env) (w : World) (wrap : Residual → Residual)
+      (go : Val → World → Outcome) → ((v : Val) (u : World) → Keeps m u (go v u)) → Keeps m w (field_filled p k v a m e w wrap go)
   field_keeps (Some v) a m e w wrap go f = f v w
   field_keeps None None m e w wrap go f = tt
   field_keeps None (Some a) m e w wrap go f = valued_keeps m w (k.defaults a m e w) wrap go (d.defaults a m e w) (λ v u h. f v u)
 
-  pub filled_keeps : (fs : List FieldTree) (xs : List Bytes) (vs : List Val) (class : ℕ) (slots : List Val) (pl : Place) (m : Bool) (e : Env)
-      (w : World) → Keeps m w (filled p k fs xs vs class slots pl m e w)
+  pub filled_keeps : (fs : List FieldTree) (xs : List Bytes) (vs : List Val) (class : ℕ) (slots : List Val) (pl : Place) (m : Bool)
+      (e : Env) (w : World) → Keeps m w (filled p k fs xs vs class slots pl m e w)
   filled_keeps [] xs vs class slots pl m e w = told_keeps m w _ pl e (added_memory w _ _)
   filled_keeps (f ∷ fs) xs vs class slots pl m e w =
       field_keeps (given_at f.name xs vs) f.default m e w _ _ (λ v u. filled_keeps fs xs vs class (slots ++ v ∷ []) pl m e u)

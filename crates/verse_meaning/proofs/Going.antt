@@ -8,7 +8,8 @@ use Rattle.verse_meaning_state.specs.State.{with_entry}
 use Rattle.verse_meaning_state.specs.Waits.{has}
 use Rattle.verse_meaning.specs.Programs.{Program, fun_at}
 use Rattle.verse_meaning.specs.Residuals as form
-use Rattle.verse_meaning.specs.Residuals.{Env, Form, Generator, Values, Role, part, body, root, Residual, leaf, args, seq, deferred, looped, filling}
+use Rattle.verse_meaning.specs.Residuals.{Env, Form, Generator, Values, Role, part, body, root, Residual, leaf, args, seq, deferred, looped}
+use Rattle.verse_meaning.specs.Residuals.{filling}
 use Rattle.verse_meaning.specs.Residuals.{generated, called, arms, Scope, scope, Scopes, none, also, Arms, no_arms, gave, runs}
 use Rattle.verse_meaning.specs.Residuals.{scope_leaves, is_behind}
 use Rattle.verse_meaning.specs.Outcomes.{World, with_state, set_behind, Outcome, value, failed, returned, broke, halted, rests, TaskOutcome}
@@ -25,19 +26,27 @@ use Rattle.verse_meaning.proofs.Forms.{DeeperKeeps, filled_keeps, apply_keeps, d
 use Rattle.verse_meaning.proofs.Evaluating.{scope_keeps, quiet_scope, settled_keeps, ev_keeps, statements_keep, clauses_keep, level_keeps}
 use Rattle.verse_meaning.proofs.Evaluating.{chosen_keeps}
 
-entered_keeps : (p : Program) (k : Deeper) (d : DeeperKeeps k) (q : Role) (f : FunTree) (e : Env) (w : World) → KeepsTask true w (entered p k q f e true w)
-entered_keeps p k d q f e w = scope_keeps p k d q w (ev p k f.body true e (set_behind w none)) (ev_keeps p k d f.body true e (set_behind w none))
+entered_keeps : (p : Program) (k : Deeper) (d : DeeperKeeps k) (q : Role) (f : FunTree) (e : Env) (w : World) →
+    KeepsTask true w (entered p k q f e true w)
+entered_keeps p k d q f e w = scope_keeps p k d q w (ev p k f.body true e (set_behind w none))
+    (ev_keeps p k d f.body true e (set_behind w none))
 
-called_keeps : (p : Program) (k : Deeper) (d : DeeperKeeps k) (f : FunTree) (e : Env) (m : Bool) (w : World) → KeepsTask m w (entered p k body f e m w)
+called_keeps : (p : Program) (k : Deeper) (d : DeeperKeeps k) (f : FunTree) (e : Env) (m : Bool) (w : World) →
+    KeepsTask m w (entered p k body f e m w)
 called_keeps p k d f e true w = entered_keeps p k d body f e w
-called_keeps p k d f e false w = quiet_scope p k d w (ev p k f.body false e (set_behind w none)) (ev_keeps p k d f.body false e (set_behind w none))
+called_keeps p k d f e false w = quiet_scope p k d w (ev p k f.body false e (set_behind w none))
+    (ev_keeps p k d f.body false e (set_behind w none))
 
-default_keeps : (p : Program) (k : Deeper) (d : DeeperKeeps k) (a : Tree) (m : Bool) (w : World) → KeepsTask m w (scope_end p k body w.behind (ev p k a m [] (set_behind w none)))
-default_keeps p k d a true w = scope_keeps p k d body w (ev p k a true [] (set_behind w none)) (ev_keeps p k d a true [] (set_behind w none))
+default_keeps : (p : Program) (k : Deeper) (d : DeeperKeeps k) (a : Tree) (m : Bool) (w : World) →
+    KeepsTask m w (scope_end p k body w.behind (ev p k a m [] (set_behind w none)))
+default_keeps p k d a true w = scope_keeps p k d body w (ev p k a true [] (set_behind w none))
+    (ev_keeps p k d a true [] (set_behind w none))
 default_keeps p k d a false w = quiet_scope p k d w (ev p k a false [] (set_behind w none)) (ev_keeps p k d a false [] (set_behind w none))
 
-taking_keeps : (p : Program) (f : ℕ) (o : Option Val) (vs : List Val) (m : Bool) (w : World) (go : FunTree → Env → Outcome) → ((fn : FunTree) (e : Env) → Keeps m w (go fn e)) → Keeps m w (taking p f o vs w go)
-taking_keeps p f o vs m w go h = known_keeps m w (fun_at p f) _ (λ fn. known_keeps m w (with_params fn.params vs (with_this o)) _ (λ e. h fn e))
+taking_keeps : (p : Program) (f : ℕ) (o : Option Val) (vs : List Val) (m : Bool) (w : World) (go : FunTree → Env → Outcome) →
+    ((fn : FunTree) (e : Env) → Keeps m w (go fn e)) → Keeps m w (taking p f o vs w go)
+taking_keeps p f o vs m w go h = known_keeps m w (fun_at p f) _
+    (λ fn. known_keeps m w (with_params fn.params vs (with_this o)) _ (λ e. h fn e))
 
 next_keeps : (x : Option ((Val × Val) × Values)) (m : Bool) (w : World) (o : Outcome) (go : Val × Val → Values → Outcome) → Keeps m w o →
     ((v : Val × Val) (vs : Values) → Keeps m w (go v vs)) → Keeps m w (on_next x o go)
@@ -66,7 +75,8 @@ deeper_keeps p (suc n) = record {
       (λ u h.
       valued_keeps m u (go x a u) _ _ (f x a u) (λ b z h. (deeper_keeps p n).takes m go wrap e left b z f)));
   parts = λ a e w. spends_keeps false w w.state.clock.left _ (λ u h. ev_keeps p (deeper p n) (deeper_keeps p n) a false e u);
-  defaults = λ a m e w. spends_keeps m w w.state.clock.left _ (λ u h. call_end_keeps m u e _ (default_keeps p (deeper p n) (deeper_keeps p n) a m u));
+  defaults = λ a m e w. spends_keeps m w w.state.clock.left _
+      (λ u h. call_end_keeps m u e _ (default_keeps p (deeper p n) (deeper_keeps p n) a m u));
 }
 
 bool_task : (b : Bool) (w : World) (f g : Bool → TaskOutcome) → KeepsTask true w (f true) → KeepsTask true w (g false) →
@@ -161,7 +171,8 @@ module _ (p : Program) (k : Deeper) (d : DeeperKeeps k) where
         valued_keeps true w _ _ _ (resume_keeps r n v w) (λ y u h. defined_keeps p k d b e y true u _ (λ e z x. statements_keep p k d left
         true e z x))
     resume_keeps (deferred e a r) n v w = closing_keeps true w _ _ _ e (resume_keeps r n v w) (λ u. d.parts a e u)
-    resume_keeps (filling e c pl fs xs vs ss r) n v w = valued_keeps true w _ _ _ (resume_keeps r n v w) (λ y u h. filled_keeps p k d fs xs vs c (ss ++ y ∷ []) pl true e u)
+    resume_keeps (filling e c pl fs xs vs ss r) n v w =
+        valued_keeps true w _ _ _ (resume_keeps r n v w) (λ y u h. filled_keeps p k d fs xs vs c (ss ++ y ∷ []) pl true e u)
     resume_keeps (looped e a r) n v w =
         turned_keeps true w _ _ e _ (resume_keeps r n v w) (λ u h. d.loops true _ _ e u (λ z. ev_keeps p k d a true e z))
     resume_keeps (generated e g cs a pl vs r) n v w =

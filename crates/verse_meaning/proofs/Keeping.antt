@@ -9,7 +9,8 @@ use Rattle.verse_meaning_state.specs.Effects.{Effect}
 use Rattle.verse_meaning.specs.Residuals.{Env, Residual, Scope, Scopes, none, also, Arms, no_arms, gave, runs, and_then}
 use Rattle.verse_meaning.specs.Outcomes.{World, with_state, leave, Outcome, value, failed, returned, broke, halted, rests, TaskOutcome}
 use Rattle.verse_meaning.specs.Outcomes.{ends, lost, stops, sleeps, Went, went, quits, valued, attempted, turned, dropped, on_went, went_on}
-use Rattle.verse_meaning.specs.Outcomes.{on_went_task, ran, closing, call_end, branch_started, task_started, armed, told, told_plain, if_there}
+use Rattle.verse_meaning.specs.Outcomes.{on_went_task, ran, closing, call_end, branch_started, task_started, armed, told, told_plain}
+use Rattle.verse_meaning.specs.Outcomes.{if_there}
 use Rattle.verse_meaning.specs.Outcomes.{if_known, outside, spends, suspended, leave_all}
 use Rattle.verse_meaning.specs.Laws.{KeepsWent, Calm, Grown, Extends, Leaves, LeavesClock, Apart, Keeps, KeepsTask}
 
@@ -235,7 +236,8 @@ unfolding on_went_task
 on_went_task_keeps m w (went u) go a f = f u a
 on_went_task_keeps m w (quits h) go a f = tt
 
-ran_keeps : (m : Bool) (w : World) (o : Outcome) (go : World → Outcome) → Keeps false w o → ((u : World) → Leaves m w u → Keeps m w (go u)) → Keeps m w (ran o go)
+ran_keeps : (m : Bool) (w : World) (o : Outcome) (go : World → Outcome) → Keeps false w o →
+    ((u : World) → Leaves m w u → Keeps m w (go u)) → Keeps m w (ran o go)
 unfolding ran
 ran_keeps m w (value e v u) go a f = f u (leaves_weak m w u a)
 ran_keeps m w (failed s) go a f = clock_weak m w s a
@@ -247,10 +249,13 @@ ran_keeps m w (rests r u) go a f = cc
 pub closing_keeps : (m : Bool) (w : World) (o : Outcome) (run : World → Outcome) (wrap : Residual → Residual) (e : Env) → Keeps m w o →
     ((u : World) → Keeps false u (run u)) → Keeps m w (closing o run wrap e)
 unfolding closing
-closing_keeps m w (value e1 v u) run wrap e a f = keeps_then m w u (ran (run u) (λ w. value e v w)) a (ran_keeps m u (run u) (λ w. value e v w) (f u) (λ x h. h))
+closing_keeps m w (value e1 v u) run wrap e a f =
+    keeps_then m w u (ran (run u) (λ w. value e v w)) a (ran_keeps m u (run u) (λ w. value e v w) (f u) (λ x h. h))
 closing_keeps m w (failed s) run wrap e a f = a
-closing_keeps m w (returned v u) run wrap e a f = keeps_then m w u (ran (run u) (λ w. returned v w)) a (ran_keeps m u (run u) (λ w. returned v w) (f u) (λ x h. h))
-closing_keeps m w (broke u) run wrap e a f = keeps_then m w u (ran (run u) (λ w. broke w)) a (ran_keeps m u (run u) (λ w. broke w) (f u) (λ x h. h))
+closing_keeps m w (returned v u) run wrap e a f =
+    keeps_then m w u (ran (run u) (λ w. returned v w)) a (ran_keeps m u (run u) (λ w. returned v w) (f u) (λ x h. h))
+closing_keeps m w (broke u) run wrap e a f =
+    keeps_then m w u (ran (run u) (λ w. broke w)) a (ran_keeps m u (run u) (λ w. broke w) (f u) (λ x h. h))
 closing_keeps m w (halted h) run wrap e a f = tt
 closing_keeps m w (rests r u) run wrap e a f = a
 

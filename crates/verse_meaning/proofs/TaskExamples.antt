@@ -117,12 +117,12 @@ race_over_at_once_program = record {
         (tree 9 (at 4 13) (t.Shape.block (more_trees (tree 4 (at 4 13) (t.Shape.defer (tree 3 (at 4 18) (t.Shape.block (more_trees (tree 2
         (at 4 24) (t.Shape.call (tree 0 (at 4 19) (t.Shape.name (codes "Print")))
         (more_trees (tree 1 (at 4 25) (t.Shape.text (codes
-        "d"))) no_trees))) no_trees))))) (more_trees (tree 5 (at 5 13) (t.Shape.sleep 1000)) (more_trees (tree 8 (at 6 18) (t.Shape.call (tree 6 (at 6 13) (t.Shape.name (codes "Print")))
-        (more_trees (tree 7 (at 6 19) (t.Shape.text (codes
-        "no"))) no_trees))) no_trees))))))) (more_trees (tree 13 (at 7 14) (t.Shape.call (tree 11 (at 7 9) (t.Shape.name (codes "Print")))
-        (more_trees (tree 12 (at 7 15) (t.Shape.text (codes
-        "a"))) no_trees))) (more_trees (tree 16 (at 8 14) (t.Shape.call (tree 14 (at 8 9) (t.Shape.name (codes "Print"))) (more_trees (tree
-        15
+        "d"))) no_trees))) no_trees))))) (more_trees (tree 5 (at 5 13) (t.Shape.sleep 1000))
+        (more_trees (tree 8 (at 6 18) (t.Shape.call (tree 6 (at 6 13) (t.Shape.name (codes "Print")))
+        (more_trees (tree 7 (at 6 19) (t.Shape.text (codes "no"))) no_trees))) no_trees)))))))
+        (more_trees (tree 13 (at 7 14) (t.Shape.call (tree 11 (at 7 9) (t.Shape.name (codes "Print")))
+        (more_trees (tree 12 (at 7 15) (t.Shape.text (codes "a"))) no_trees)))
+        (more_trees (tree 16 (at 8 14) (t.Shape.call (tree 14 (at 8 9) (t.Shape.name (codes "Print"))) (more_trees (tree 15
         (at 8 15) (t.Shape.text (codes "not begun"))) no_trees))) no_trees))))) (more_trees (tree 18 (at 9 5) (t.Shape.sleep 2000))
         no_trees))));
   }) ∷ []);
@@ -187,10 +187,12 @@ scope_cancels_program = record {
         (at 3 9) (t.Shape.defer (tree 3 (at 3 14) (t.Shape.block (more_trees (tree 2 (at 3 20) (t.Shape.call (tree 0 (at 3 15) (t.Shape.name
         (codes "Print")))
         (more_trees (tree 1 (at 3 21) (t.Shape.text (codes
-        "b"))) no_trees))) no_trees))))) (more_trees (tree 5 (at 4 9) t.Shape.sleep_forever) no_trees)))))) (more_trees (tree 12 (at 5 5) (t.Shape.defer (tree 11 (at 5 10) (t.Shape.block (more_trees (tree 10 (at 5 16) (t.Shape.call (tree 8 (at 5 11) (t.Shape.name (codes "Print")))
-        (more_trees (tree 9 (at 5 17) (t.Shape.text (codes "m"))) no_trees))) no_trees))))) (more_trees (tree 13 (at 6 5) (t.Shape.sleep
-        1000))
-        no_trees)))));
+        "b"))) no_trees))) no_trees))))) (more_trees (tree 5 (at 4 9) t.Shape.sleep_forever) no_trees))))))
+        (more_trees (tree 12 (at 5 5) (t.Shape.defer
+        (tree 11 (at 5 10) (t.Shape.block (more_trees
+        (tree 10 (at 5 16) (t.Shape.call (tree 8 (at 5 11) (t.Shape.name (codes "Print")))
+        (more_trees (tree 9 (at 5 17) (t.Shape.text (codes "m"))) no_trees))) no_trees)))))
+        (more_trees (tree 13 (at 6 5) (t.Shape.sleep 1000)) no_trees)))));
   }) ∷ []);
   is_array = λ n. false;
   is_event = λ n. false;
@@ -284,16 +286,24 @@ one_signal_program = record {
     written = t.Written.void;
     body = (tree 48 (at 7 5) (t.Shape.block (more_trees (tree 23 (at 7 5)
         (t.Shape.definition (codes
-        "E") (tree 22 (at 7 10) (t.Shape.event t.Written.void)))) (more_trees (tree 28 (at 8 5) (t.Shape.spawn (tree 27 (at 8 12) (t.Shape.call (tree 24 (at 8 11) (t.Shape.name (codes "W")))
-        (more_trees (tree 25 (at 8 13) (t.Shape.name (codes
-        "E"))) (more_trees (tree 26 (at 8 16) (t.Shape.integer (pos 1))) no_trees)))))) (more_trees (tree 33 (at 9 5) (t.Shape.spawn (tree 32 (at 9 12) (t.Shape.call (tree 29 (at 9 11) (t.Shape.name (codes "W")))
-        (more_trees (tree 30 (at 9 13) (t.Shape.name (codes
-        "E"))) (more_trees (tree 31 (at 9 16) (t.Shape.integer (pos 2))) no_trees)))))) (more_trees (tree 34 (at 10 5) (t.Shape.sleep 1000)) (more_trees (tree 38 (at 11 13) (t.Shape.call (tree 36 (at 11 6) (t.Shape.member (tree 35 (at 11 5) (t.Shape.name (codes "E")))
-        (codes
-        "Signal"))) (more_trees (tree 37 (at 11 14) (t.Shape.integer (pos 5))) no_trees))) (more_trees (tree 42 (at 12 13) (t.Shape.call (tree 40 (at 12 6) (t.Shape.member (tree 39 (at 12 5) (t.Shape.name (codes "E")))
-        (codes
-        "Signal"))) (more_trees (tree 41 (at 12 14) (t.Shape.integer (pos 6))) no_trees))) (more_trees (tree 43 (at 13 5) (t.Shape.sleep 0)) (more_trees (tree 47 (at 14 13) (t.Shape.call (tree 45 (at 14 6) (t.Shape.member (tree 44 (at 14 5) (t.Shape.name (codes "E")))
-        (codes "Signal"))) (more_trees (tree 46 (at 14 14) (t.Shape.integer (pos 7))) no_trees))) no_trees))))))))));
+        "E") (tree 22 (at 7 10) (t.Shape.event t.Written.void))))
+        (more_trees (tree 28 (at 8 5) (t.Shape.spawn
+        (tree 27 (at 8 12) (t.Shape.call (tree 24 (at 8 11) (t.Shape.name (codes "W")))
+        (more_trees (tree 25 (at 8 13) (t.Shape.name (codes "E"))) (more_trees (tree 26 (at 8 16) (t.Shape.integer (pos 1))) no_trees))))))
+        (more_trees (tree 33 (at 9 5) (t.Shape.spawn
+        (tree 32 (at 9 12) (t.Shape.call (tree 29 (at 9 11) (t.Shape.name (codes "W")))
+        (more_trees (tree 30 (at 9 13) (t.Shape.name (codes "E"))) (more_trees (tree 31 (at 9 16) (t.Shape.integer (pos 2))) no_trees))))))
+        (more_trees (tree 34 (at 10 5) (t.Shape.sleep 1000))
+        (more_trees (tree 38 (at 11 13) (t.Shape.call
+        (tree 36 (at 11 6) (t.Shape.member (tree 35 (at 11 5) (t.Shape.name (codes "E"))) (codes "Signal")))
+        (more_trees (tree 37 (at 11 14) (t.Shape.integer (pos 5))) no_trees)))
+        (more_trees (tree 42 (at 12 13) (t.Shape.call
+        (tree 40 (at 12 6) (t.Shape.member (tree 39 (at 12 5) (t.Shape.name (codes "E"))) (codes "Signal")))
+        (more_trees (tree 41 (at 12 14) (t.Shape.integer (pos 6))) no_trees)))
+        (more_trees (tree 43 (at 13 5) (t.Shape.sleep 0))
+        (more_trees (tree 47 (at 14 13) (t.Shape.call
+        (tree 45 (at 14 6) (t.Shape.member (tree 44 (at 14 5) (t.Shape.name (codes "E"))) (codes "Signal")))
+        (more_trees (tree 46 (at 14 14) (t.Shape.integer (pos 7))) no_trees))) no_trees))))))))));
   }) ∷ []);
   is_array = λ n.
       false;
@@ -374,17 +384,23 @@ undone_values_program = record {
         (pos 1))) (tree 3 (at 3 23) (t.Shape.integer (pos 3))))) (more_trees (tree 7 (at 3 26) (t.Shape.assignment assign.Add (tree 5 (at 3
         30)
         (t.Shape.name (codes
-        "N"))) (tree 6 (at 3 35) (t.Shape.integer (pos 1))))) (more_trees (tree 11 (at 3 43) (t.Shape.call (tree 8 (at 3 38) (t.Shape.name (codes "Print")))
-        (more_trees (tree 10 (at 3 44) (t.Shape.holes [] (more_holes (tree 9 (at 3 46) (t.Shape.name (codes
-        "I"))) [] no_holes))) no_trees))) (more_trees (tree 14 (at 3 54) (t.Shape.compared cmp.Differs (tree 12 (at 3 52) (t.Shape.name (codes "I")))
-        (tree 13 (at 3 57) (t.Shape.integer (pos 2))))) no_trees)))) (tree 16 (at 3 60) (t.Shape.block (more_trees (tree 15 (at 3 62)
-        (t.Shape.name (codes
-        "N"))) no_trees))))))) (more_trees (tree 35 (at 4 5) (t.Shape.if_alone (more_trees (tree 27 (at 4 9) (t.Shape.negation (tree 26 (at 4 13) (t.Shape.block_form (tree 25 (at 4 18) (t.Shape.block (more_trees (tree 21 (at 4 19) (t.Shape.assignment assign.Set (tree 19 (at 4 23) (t.Shape.name (codes "N")))
-        (tree 20 (at 4 27) (t.Shape.integer (pos 9))))) (more_trees (tree 24 (at 4 32) (t.Shape.compared cmp.Above (tree 22 (at 4 30)
-        (t.Shape.integer (pos 1))) (tree 23 (at 4 34) (t.Shape.integer (pos 2))))) no_trees)))))))) no_trees) (tree 34 (at 5 9)
-        (t.Shape.block
-        (more_trees (tree 33 (at 5 14) (t.Shape.call (tree 28 (at 5 9) (t.Shape.name (codes
-        "Print"))) (more_trees (tree 32 (at 5 15) (t.Shape.holes [] (more_holes (tree 29 (at 5 17) (t.Shape.name (codes "N"))) (codes " ")
+        "N"))) (tree 6 (at 3 35) (t.Shape.integer (pos 1)))))
+        (more_trees (tree 11 (at 3 43) (t.Shape.call (tree 8 (at 3 38) (t.Shape.name (codes "Print")))
+        (more_trees (tree 10 (at 3 44) (t.Shape.holes [] (more_holes (tree 9 (at 3 46) (t.Shape.name (codes "I"))) [] no_holes)))
+        no_trees))) (more_trees (tree 14 (at 3 54)
+        (t.Shape.compared cmp.Differs (tree 12 (at 3 52) (t.Shape.name (codes "I"))) (tree 13 (at 3 57) (t.Shape.integer (pos 2)))))
+        no_trees)))) (tree 16 (at 3 60) (t.Shape.block (more_trees (tree 15 (at 3 62) (t.Shape.name (codes "N"))) no_trees)))))))
+        (more_trees (tree 35 (at 4 5) (t.Shape.if_alone
+        (more_trees (tree 27 (at 4 9) (t.Shape.negation
+        (tree 26 (at 4 13) (t.Shape.block_form (tree 25 (at 4 18)
+        (t.Shape.block (more_trees (tree 21 (at 4 19)
+        (t.Shape.assignment assign.Set (tree 19 (at 4 23) (t.Shape.name (codes "N"))) (tree 20 (at 4 27) (t.Shape.integer (pos 9)))))
+        (more_trees (tree 24 (at 4 32) (t.Shape.compared cmp.Above (tree 22 (at 4 30) (t.Shape.integer (pos 1)))
+        (tree 23 (at 4 34) (t.Shape.integer (pos 2))))) no_trees)))))))) no_trees)
+        (tree 34 (at 5 9) (t.Shape.block (more_trees
+        (tree 33 (at 5 14) (t.Shape.call (tree 28 (at 5 9) (t.Shape.name (codes "Print")))
+        (more_trees (tree 32 (at 5 15) (t.Shape.holes []
+        (more_holes (tree 29 (at 5 17) (t.Shape.name (codes "N"))) (codes " ")
         (more_holes (tree 31 (at 5 22) (t.Shape.member (tree 30 (at 5 21) (t.Shape.name (codes "R"))) (codes "Length"))) [] no_holes))))
         no_trees))) no_trees))))) no_trees)))));
   }) ∷ []);
@@ -456,9 +472,14 @@ steps_in_cancelled_program = record {
         (tree 11 (at 4 13) (t.Shape.block (more_trees (tree 4 (at 4 13) (t.Shape.defer (tree 3 (at 4 18) (t.Shape.block (more_trees (tree 2
         (at 4 24) (t.Shape.call (tree 0 (at 4 19) (t.Shape.name (codes "Print")))
         (more_trees (tree 1 (at 4 25) (t.Shape.text (codes
-        "first"))) no_trees))) no_trees))))) (more_trees (tree 9 (at 5 13) (t.Shape.defer (tree 8 (at 5 18) (t.Shape.block (more_trees (tree 7 (at 5 24) (t.Shape.call (tree 5 (at 5 19) (t.Shape.name (codes "Print")))
-        (more_trees (tree 6 (at 5 25) (t.Shape.text (codes
-        "second"))) no_trees))) no_trees))))) (more_trees (tree 10 (at 6 13) t.Shape.sleep_forever) no_trees))))))) (more_trees (tree 13 (at 7 9) (t.Shape.sleep 1000)) no_trees)))) (more_trees (tree 17 (at 8 10) (t.Shape.call (tree 15 (at 8 5) (t.Shape.name (codes "Print")))
+        "first"))) no_trees))) no_trees))))) (more_trees
+        (tree 9 (at 5 13) (t.Shape.defer (tree 8 (at 5 18)
+        (t.Shape.block (more_trees (tree 7 (at 5 24)
+        (t.Shape.call (tree 5 (at 5 19) (t.Shape.name (codes "Print")))
+        (more_trees (tree 6 (at 5 25) (t.Shape.text (codes "second"))) no_trees))) no_trees)))))
+        (more_trees (tree 10 (at 6 13) t.Shape.sleep_forever) no_trees)))))))
+        (more_trees (tree 13 (at 7 9) (t.Shape.sleep 1000)) no_trees))))
+        (more_trees (tree 17 (at 8 10) (t.Shape.call (tree 15 (at 8 5) (t.Shape.name (codes "Print")))
         (more_trees (tree 16 (at 8 11) (t.Shape.text (codes "after"))) no_trees))) no_trees))));
   }) ∷ []);
   is_array = λ n. false;

@@ -1,5 +1,6 @@
 -- The forms with operands, applied to their operands' values.
-use Rattle.std.specs.Prelude.{ℕ, suc, pos, ◌+ℤ◌, int_le, List, [], ◌∷◌, ◌++◌, Option, Some, None, Bool, true, false, cond}
+use Rattle.std.specs.Prelude.{ℕ, suc, pos, ◌+ℤ◌, int_le, List, [], ◌∷◌, ◌++◌, Option, Some, None}
+use Rattle.std.specs.Prelude.{Bool, true, false, cond}
 use Rattle.std.specs.Ordering.{int_eq}
 use Rattle.verse_base.specs.declared.places.Place.{Place}
 use Rattle.verse_tree.specs.Tree.{Bytes, Tree}
@@ -8,24 +9,32 @@ use Rattle.verse_tree.specs.declared.exprs.Comparison.{Comparison}
 use Rattle.verse_tree.specs.declared.exprs.Comparison.TheVariants as c
 use Rattle.verse_tree.specs.declared.exprs.Operator.{Operator}
 use Rattle.verse_tree.specs.declared.exprs.Operator.TheVariants as op
-use Rattle.verse_value.specs.Val.{Val, Vals, no_vals, more_vals, Pairs, no_pairs, more_pairs, unit, int, object, task, array, mapping}
+use Rattle.verse_value.specs.Val.{Val, Vals, no_vals, more_vals, Pairs, no_pairs, more_pairs, unit}
+use Rattle.verse_value.specs.Val.{int, object, task, array, mapping}
 use Rattle.verse_value.specs.Val.{tuple}
 use Rattle.verse_value.specs.Keys.{key_val}
 use Rattle.verse_value.specs.Answer.{Answer, gives, stuck}
-use Rattle.verse_value.specs.Operations.{text_val, sum_of, difference_of, product_of, negation_of, floor_of, ceil_of, modulo_of, concat_of}
-use Rattle.verse_value.specs.Operations.{join_of, less_of, at_most_of, greater_of, at_least_of, equal_of, unequal_of, array_of, map_of}
+use Rattle.verse_value.specs.Operations.{text_val, sum_of, difference_of, product_of, negation_of}
+use Rattle.verse_value.specs.Operations.{floor_of, ceil_of, modulo_of, concat_of}
+use Rattle.verse_value.specs.Operations.{join_of, less_of, at_most_of, greater_of, at_least_of}
+use Rattle.verse_value.specs.Operations.{equal_of, unequal_of, array_of, map_of}
 use Rattle.verse_value.specs.Operations.{tuple_of, query_of, item_of, at_of, length_of, append_of}
 use Rattle.verse_value.specs.declared.modes.Mode.{Mode}
 use Rattle.verse_meaning_state.specs.State.{Given}
 use Rattle.verse_meaning_state.specs.Waits.{done, heard, nth}
-use Rattle.verse_meaning_state.specs.Effects.{still, variable_made, object_made, slot_read, slot_written, line_printed, class_of, event_of, task_of}
+use Rattle.verse_meaning_state.specs.Effects.{still, variable_made, object_made, slot_read}
+use Rattle.verse_meaning_state.specs.Effects.{slot_written, line_printed, class_of, event_of}
+use Rattle.verse_meaning_state.specs.Effects.{task_of}
 use Rattle.verse_meaning_state.specs.Effects.{signal_sent}
 use Rattle.verse_meaning.specs.Programs.{Program, same_name, method_at, fields_of}
 use Rattle.verse_meaning.specs.Residuals as form
-use Rattle.verse_meaning.specs.Residuals.{Env, Binding, Bound, constant, variable, Base, in_variable, in_self, in_object, nowhere, Form, Binder}
-use Rattle.verse_meaning.specs.Residuals.{no_name, a_constant, a_variable, Generator, of_elements, of_entries, of_range, Values, listed}
+use Rattle.verse_meaning.specs.Residuals.{Env, Binding, Bound, constant, variable, Base}
+use Rattle.verse_meaning.specs.Residuals.{in_variable, in_self, in_object, nowhere, Form, Binder}
+use Rattle.verse_meaning.specs.Residuals.{no_name, a_constant, a_variable, Generator, of_elements}
+use Rattle.verse_meaning.specs.Residuals.{of_entries, of_range, Values, listed}
 use Rattle.verse_meaning.specs.Residuals.{between, Residual}
-use Rattle.verse_meaning.specs.Outcomes.{World, Outcome, value, returned, halted, wrong, jammed, valued, told, told_plain, if_there}
+use Rattle.verse_meaning.specs.Outcomes.{World, Outcome, value, returned, halted, wrong, jammed}
+use Rattle.verse_meaning.specs.Outcomes.{valued, told, told_plain, if_there}
 use Rattle.verse_meaning.specs.Outcomes.{if_known, outside, suspended}
 
 -- what is begun by a step: other trees, and other turns of one's own
@@ -37,7 +46,8 @@ pub record Deeper : Type 0 where
   -- the turns of a `loop`
   pub loops : (World → Outcome) → (Residual → Residual) → Env → World → Outcome
   -- the turns of a generator: what a value taken leads to with the results so far
-  pub takes : (Val × Val → Val → World → Outcome) → (Values → Residual → Residual) → Env → Values → Val → World → Outcome
+  pub takes : (Val × Val → Val → World → Outcome) → (Values → Residual → Residual) → Env → Values →
+      Val → World → Outcome
   -- a deferred block
   pub parts : Tree → Env → World → Outcome
   -- a default, as a function without parameters
@@ -169,14 +179,16 @@ values_of (of_range x) v = range_values v
 abbrev pub next_value : Values → Option ((Val × Val) × Values)
 next_value (listed []) = None
 next_value (listed (v ∷ vs)) = Some (v, listed vs)
-next_value (between a b) = cond (int_le a b) (Some ((int a, unit), cond (int_eq a b) (listed []) (between (a +ℤ pos 1) b))) None
+next_value (between a b) = cond (int_le a b)
+    (Some ((int a, unit), cond (int_eq a b) (listed []) (between (a +ℤ pos 1) b))) None
 
 module _ (p : Program) (k : Deeper) where
   -- where `set` writes: the cell, the slot, and the operands behind the object
   abbrev pub written_to : Option Val → ℕ → List Val → Mode → Place → Env → World → Outcome
   written_to None slot vs m pl e w = halted (wrong w.state)
   written_to (Some c) slot [] m pl e w = halted (wrong w.state)
-  written_to (Some c) slot (v ∷ vs) m pl e w = told (slot_written slot (split_last v vs).0 m (split_last v vs).1 c w.state) pl e w
+  written_to (Some c) slot (v ∷ vs) m pl e w =
+      told (slot_written slot (split_last v vs).0 m (split_last v vs).1 c w.state) pl e w
 
   abbrev pub stored : Base → List Val → Mode → Place → Env → World → Outcome
   stored (in_variable x) vs m pl e w = written_to (cell_of (look x e)) 0 vs m pl e w
@@ -185,16 +197,19 @@ module _ (p : Program) (k : Deeper) where
   stored (in_object slot) (o ∷ vs) m pl e w = written_to (Some o) slot vs m pl e w
   stored nowhere vs m pl e w = halted (wrong w.state)
 
-  abbrev pub field_filled : Option Val → Option Tree → (m : Bool) → Env → World → (Residual → Residual) → (Val → World → Outcome) → Outcome
+  abbrev pub field_filled : Option Val → Option Tree → (m : Bool) → Env → World →
+      (Residual → Residual) → (Val → World → Outcome) → Outcome
   field_filled (Some v) d m e w wrap go = go v w
   field_filled None None m e w wrap go = halted (wrong w.state)
   field_filled None (Some d) m e w wrap go = valued (k.defaults d m e w) wrap go
 
   -- the fields that are not given are their defaults, in their order; then the object is made
-  abbrev pub filled : List FieldTree → List Bytes → List Val → (class : ℕ) → List Val → Place → (m : Bool) → Env → World → Outcome
+  abbrev pub filled : List FieldTree → List Bytes → List Val → (class : ℕ) → List Val → Place →
+      (m : Bool) → Env → World → Outcome
   filled [] xs vs class slots pl m e w = told (object_made class slots w.state) pl e w
   filled (f ∷ fs) xs vs class slots pl m e w =
-      field_filled (given_at f.name xs vs) f.default m e w (form.filling e class pl fs xs vs slots) (λ v w. filled fs xs vs class (slots ++ v ∷ []) pl m e w)
+      field_filled (given_at f.name xs vs) f.default m e w (form.filling e class pl fs xs vs slots)
+      (λ v w. filled fs xs vs class (slots ++ v ∷ []) pl m e w)
 
   -- a method of an object by its class
   abbrev pub method_found : Option ℕ → ℕ → Option ℕ
@@ -202,10 +217,12 @@ module _ (p : Program) (k : Deeper) where
   method_found (Some class) m = method_at p class m
 
   abbrev pub method_called : ℕ → Val → List Val → Bool → Env → World → Outcome
-  method_called m o vs b e w = if_there (method_found (class_of o w.state) m) w (λ f. k.calls f (Some o) vs b e w)
+  method_called m o vs b e w = if_there (method_found (class_of o w.state) m) w
+      (λ f. k.calls f (Some o) vs b e w)
 
   abbrev pub method_spawned : ℕ → Val → List Val → Env → World → Outcome
-  method_spawned m o vs e w = if_there (method_found (class_of o w.state) m) w (λ f. k.spawns f (Some o) vs e w)
+  method_spawned m o vs e w = if_there (method_found (class_of o w.state) m) w
+      (λ f. k.spawns f (Some o) vs e w)
 
   -- the value of a finished task; otherwise the evaluation waits for it
   abbrev pub task_awaited : Option (Option Given) → ℕ → Env → World → Outcome
@@ -214,7 +231,8 @@ module _ (p : Program) (k : Deeper) where
   task_awaited (Some (Some g)) entry e w = value e g.value w
 
   abbrev pub awaited : (of_event : Bool) → Val → Env → World → Outcome
-  awaited false v e w = if_there (task_of v) w (λ entry. task_awaited (nth w.state.clock.results entry) entry e w)
+  awaited false v e w = if_there (task_of v) w
+      (λ entry. task_awaited (nth w.state.clock.results entry) entry e w)
   awaited true v e w = if_there (event_of v w.state) w (λ c. suspended (heard c) e w)
 
   abbrev pub signal_told : List Val → Val → Env → World → Outcome
@@ -248,12 +266,14 @@ module _ (p : Program) (k : Deeper) where
   apply (form.awaiting t) (a ∷ vs) m e w = outside m w (λ w. awaited t a e w)
   apply form.signalling (o ∷ vs) m e w = outside m w (λ w. signal_told vs o e w)
   apply (form.spawning f) vs m e w = outside m w (λ w. k.spawns f None vs e w)
-  apply (form.spawning_own f) vs m e w = outside m w (λ w. if_known (this_of e) w (λ o. method_spawned f o vs e w))
+  apply (form.spawning_own f) vs m e w =
+      outside m w (λ w. if_known (this_of e) w (λ o. method_spawned f o vs e w))
   apply (form.spawning_method f) (o ∷ vs) m e w = outside m w (λ w. method_spawned f o vs e w)
   apply (form.storing b mode pl) vs m e w = stored b vs mode pl e w
   apply (form.instancing class xs pl) vs m e w = filled (fields_of p class) xs vs class [] pl m e w
   apply form.defining (a ∷ []) m e w = value e a w
-  apply (form.varying pl) (a ∷ []) m e w = valued (told (variable_made a w.state) pl e w) (λ r. r) (λ c w. value e a w)
+  apply (form.varying pl) (a ∷ []) m e w =
+      valued (told (variable_made a w.state) pl e w) (λ r. r) (λ c w. value e a w)
   apply form.returning (a ∷ []) m e w = returned a w
   apply (form.appending so_far pl) (a ∷ []) m e w = told (still (append_of so_far a) w.state) pl e w
   apply f vs m e w = halted (wrong w.state)
@@ -262,4 +282,5 @@ module _ (p : Program) (k : Deeper) where
   unfoldable pub defined : Binder → Env → Val → World → (Env → Val → World → Outcome) → Outcome
   defined no_name e v w go = go e v w
   defined (a_constant x) e v w go = go (bound_to x (constant v) e) v w
-  defined (a_variable x pl) e v w go = valued (told (variable_made v w.state) pl e w) (λ r. r) (λ c w. go (variable_bound x c e) v w)
+  defined (a_variable x pl) e v w go =
+      valued (told (variable_made v w.state) pl e w) (λ r. r) (λ c w. go (variable_bound x c e) v w)

@@ -7,10 +7,12 @@ use Rattle.verse_value.specs.Answer.{gives, fails, error, stuck}
 use Rattle.verse_meaning_state.specs.State.{State, spending, restored, with_result, drawn}
 use Rattle.verse_meaning_state.specs.Waits.{Cause, waiting}
 use Rattle.verse_meaning_state.specs.Effects.{Effect}
-use Rattle.verse_meaning.specs.Residuals.{Env, Role, part, body, root, Residual, leaf, called, Scope, scope, Scopes, also, Arms, no_arms}
+use Rattle.verse_meaning.specs.Residuals.{Env, Role, part, body, root, Residual, leaf, called}
+use Rattle.verse_meaning.specs.Residuals.{Scope, scope, Scopes, also, Arms, no_arms}
 use Rattle.verse_meaning.specs.Residuals.{gave, runs, and_then}
 
--- the state, with what is in the background of the innermost task scope, and the tasks of the forest that are behind this one
+-- the state, with what is in the background of the innermost task scope, and the tasks of the
+-- forest that are behind this one
 pub record World : Type 0 where
   pub state : State
   pub behind : Scopes
@@ -83,8 +85,10 @@ valued (broke w) wrap go = broke w
 valued (halted h) wrap go = halted h
 valued (rests r w) wrap go = rests (wrap r) w
 
--- Attempt: at a failure the memory is that of the world in which it began. An attempt is not suspended.
-unfoldable pub attempted : Outcome → World → (Env → Val → World → Outcome) → (World → Outcome) → Outcome
+-- Attempt: at a failure the memory is that of the world in which it began. An attempt is not
+-- suspended.
+unfoldable pub attempted : Outcome → World → (Env → Val → World → Outcome) → (World → Outcome) →
+    Outcome
 attempted (value e v w) entry yes_do no_do = yes_do e v w
 attempted (failed s) entry yes_do no_do = no_do (with_state entry (restored entry.state.memory s))
 attempted (returned v w) entry yes_do no_do = halted (wrong w.state)
@@ -122,7 +126,8 @@ unfoldable pub on_went_task : Went → (World → TaskOutcome) → TaskOutcome
 on_went_task (went w) go = go w
 on_went_task (quits h) go = stops h
 
--- a deferred block has run as control leaves its block: its value is dropped, and where it fails, so does the block
+-- a deferred block has run as control leaves its block: its value is dropped, and where it fails,
+-- so does the block
 unfoldable pub ran : Outcome → (World → Outcome) → Outcome
 ran (value e v w) go = go w
 ran (failed s) go = failed s
@@ -131,7 +136,8 @@ ran (broke w) go = halted (wrong w.state)
 ran (halted h) go = halted h
 ran (rests r w) go = halted (wrong w.state)
 
--- control leaves a block that has reached a `defer`: at Value, Return and Break the deferred block runs, then that outcome
+-- control leaves a block that has reached a `defer`: at Value, Return and Break the deferred block
+-- runs, then that outcome
 unfoldable pub closing : Outcome → (World → Outcome) → (Residual → Residual) → Env → Outcome
 closing (value e1 v w) run wrap e = ran (run w) (λ w. value e v w)
 closing (failed s) run wrap e = failed s

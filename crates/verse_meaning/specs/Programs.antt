@@ -1,9 +1,12 @@
 -- A program as its meaning sees it: the items of its files, and what its names stand for.
-use Rattle.std.specs.Prelude.{ℕ, zero, suc, ◌==◌, List, [], ◌∷◌, ◌++◌, length, Option, Some, None, Bool, true, false, cond, slice_get, map}
-use Rattle.verse_tree.specs.Tree.{Bytes, Tree, tree, Shape, Trees, no_trees, more_trees, Holes, no_holes, more_holes, Givens, no_givens}
+use Rattle.std.specs.Prelude.{ℕ, zero, suc, ◌==◌, List, [], ◌∷◌, ◌++◌, length, Option, Some, None}
+use Rattle.std.specs.Prelude.{Bool, true, false, cond, slice_get, map}
+use Rattle.verse_tree.specs.Tree.{Bytes, Tree, tree, Shape, Trees, no_trees, more_trees, Holes}
+use Rattle.verse_tree.specs.Tree.{no_holes, more_holes, Givens, no_givens}
 use Rattle.verse_tree.specs.Tree.{more_givens}
 use Rattle.verse_tree.specs.Tree as t
-use Rattle.verse_tree.specs.ItemTree.{EnumTree, FieldTree, FunTree, MemberTree, field, method, ClassTree, ItemTree, using, enumeration}
+use Rattle.verse_tree.specs.ItemTree.{EnumTree, FieldTree, FunTree, MemberTree, field, method}
+use Rattle.verse_tree.specs.ItemTree.{ClassTree, ItemTree, using, enumeration}
 use Rattle.verse_tree.specs.ItemTree.{class, function}
 use Rattle.verse_tree.specs.ItemView.{item_of}
 use Rattle.verse_tree.specs.declared.tables.FunInfo.{FunInfo}
@@ -77,13 +80,15 @@ or_else (Some x) other = Some x
 abbrev pub method_numbered : ℕ → List MemberTree → Option FunTree
 method_numbered number [] = None
 method_numbered number (field f ∷ ms) = method_numbered number ms
-method_numbered number (method f ∷ ms) = cond (f.number == number) (Some f) (method_numbered number ms)
+method_numbered number (method f ∷ ms) =
+    cond (f.number == number) (Some f) (method_numbered number ms)
 
 abbrev pub fun_numbered : ℕ → List ItemTree → Option FunTree
 fun_numbered number [] = None
 fun_numbered number (using u ∷ is) = fun_numbered number is
 fun_numbered number (enumeration e ∷ is) = fun_numbered number is
-fun_numbered number (class c ∷ is) = or_else (method_numbered number c.members) (fun_numbered number is)
+fun_numbered number (class c ∷ is) =
+    or_else (method_numbered number c.members) (fun_numbered number is)
 fun_numbered number (function f ∷ is) = cond (f.number == number) (Some f) (fun_numbered number is)
 
 abbrev pub fun_of_info : List ItemTree → Option FunInfo → Option FunTree

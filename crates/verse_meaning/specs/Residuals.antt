@@ -23,7 +23,8 @@ pub record Binding : Type 0 where
 abbrev pub Env : Type 0
 Env = List Binding
 
--- what `set` writes to: a variable, a field of `Self`, a field of the object that is the first operand, or nothing that can be written
+-- what `set` writes to: a variable, a field of `Self`, a field of the object that is the first
+-- operand, or nothing that can be written
 pub data Base : Type 0 where
   in_variable : Bytes → Base
   in_self : (slot : ℕ) → Base
@@ -84,7 +85,8 @@ pub data Values : Type 0 where
   between : ℤ → ℤ → Values
 
 pub data Role : Type 0 where
-  -- an arm or the body of a `branch`; the body of a call; the call that a spawned entry or Main runs
+  -- an arm or the body of a `branch`; the body of a call; the call that a spawned entry or Main
+  -- runs
   part : Role
   body : Role
   root : Option ℕ → Role
@@ -99,9 +101,11 @@ mutual
     deferred : Env → Tree → Residual → Residual
     looped : Env → (body : Tree) → Residual → Residual
     -- an instance: the fields left, the names and values given, and the slots so far
-    filling : Env → (class : ℕ) → Place → (left : List FieldTree) → (given : List Bytes) → (values slots : List Val) → Residual → Residual
+    filling : Env → (class : ℕ) → Place → (left : List FieldTree) → (given : List Bytes) →
+        (values slots : List Val) → Residual → Residual
     -- one generator of a `for`: the clauses behind it, the body, and the values not yet taken
-    generated : Env → Generator → (clauses : Trees) → (body : Tree) → Place → Values → Residual → Residual
+    generated : Env → Generator → (clauses : Trees) → (body : Tree) → Place → Values → Residual →
+        Residual
     called : Env → Scope → Residual
     -- Sync, Race or Rush
     arms : Kind → Place → Env → Arms → Residual

@@ -1,16 +1,22 @@
--- What holds of each evaluation, of turns and of whole runs: steps, lines, depths, groups, numbers of waits.
-use Rattle.std.specs.Prelude.{◌++◌, true, cond, Option, Some, None, ◌≡◌, ℕ, suc, ◌+◌, ◌≤◌, ℤ, List, [], ◌∷◌, Bool}
+-- What holds of each evaluation, of turns and of whole runs: steps, lines, depths, groups, numbers
+-- of waits.
+use Rattle.std.specs.Prelude.{◌++◌, true, cond, Option, Some, None, ◌≡◌, ℕ, suc, ◌+◌, ◌≤◌, ℤ, List}
+use Rattle.std.specs.Prelude.{[], ◌∷◌, Bool}
 use Rattle.verse_tree.specs.Tree.{Tree}
 use Rattle.verse_value.specs.Runs.{Line}
 use Rattle.verse_value.specs.Val.{Val}
-use Rattle.verse_meaning_state.specs.Turns.{Stage, amiss, broken, closed, going, Kind, sync, race, rush}
+use Rattle.verse_meaning_state.specs.Turns.{Stage, amiss, broken, closed, going, Kind, sync, race}
+use Rattle.verse_meaning_state.specs.Turns.{rush}
 use Rattle.verse_meaning_state.specs.State.{State, begun}
 use Rattle.verse_meaning_state.specs.Waits.{Wait, eqn, ltn, has}
 use Rattle.verse_meaning.specs.Programs.{Program}
-use Rattle.verse_meaning.specs.Residuals.{Env, Residual, Scope, Arms, Scopes, also, args, arms, called, deferred, filling, gave}
-use Rattle.verse_meaning.specs.Residuals.{generated, leaf, looped, no_arms, none, runs, scope, seq, arms_leaves, behind_leaves, is_behind}
+use Rattle.verse_meaning.specs.Residuals.{Env, Residual, Scope, Arms, Scopes, also, args, arms}
+use Rattle.verse_meaning.specs.Residuals.{called, deferred, filling, gave}
+use Rattle.verse_meaning.specs.Residuals.{generated, leaf, looped, no_arms, none, runs, scope, seq}
+use Rattle.verse_meaning.specs.Residuals.{arms_leaves, behind_leaves, is_behind}
 use Rattle.verse_meaning.specs.Residuals.{leaves, scope_leaves}
-use Rattle.verse_meaning.specs.Outcomes.{Halt, Outcome, World, broke, failed, fault, halted, jammed, out, rests, returned, value, wrong}
+use Rattle.verse_meaning.specs.Outcomes.{Halt, Outcome, World, broke, failed, fault, halted, jammed}
+use Rattle.verse_meaning.specs.Outcomes.{out, rests, returned, value, wrong}
 use Rattle.verse_meaning.specs.Outcomes.{all_gave, first_gave}
 use Rattle.verse_meaning.specs.Evaluating.{ev}
 use Rattle.verse_meaning.specs.Resuming.{resume, resume_scope}
@@ -43,11 +49,15 @@ pub record StepsStand (s u : State) : Type 0 where
   pub falls : u.clock.left ≤ s.clock.left
 
 pub record StepsCount (p : Program) : Type 0 where
-  pub evaluation : (fuel : ℕ) (a : Tree) (m : Bool) (e : Env) (w : World) → Reaches StepsStand w.state (ev p (deeper p fuel) a m e w)
-  pub going : (fuel : ℕ) (r : Residual) (n : ℕ) (v : Val) (w : World) → Reaches StepsStand w.state (resume p (deeper p fuel) r n v w)
-  pub turn : (until : ℕ) (s : State) (fs : Forest) → StepsStand s (stage_state (turn_taken p until s fs))
+  pub evaluation : (fuel : ℕ) (a : Tree) (m : Bool) (e : Env) (w : World) →
+      Reaches StepsStand w.state (ev p (deeper p fuel) a m e w)
+  pub going : (fuel : ℕ) (r : Residual) (n : ℕ) (v : Val) (w : World) →
+      Reaches StepsStand w.state (resume p (deeper p fuel) r n v w)
+  pub turn : (until : ℕ) (s : State) (fs : Forest) →
+      StepsStand s (stage_state (turn_taken p until s fs))
   -- of a run's steps those that are not left are spent
-  pub run : (ns : List ℤ) (steps until k : ℕ) → StepsStand (begun steps) (stage_state (after p ns steps until k))
+  pub run : (ns : List ℤ) (steps until k : ℕ) →
+      StepsStand (begun steps) (stage_state (after p ns steps until k))
 
 abbrev pub StepsCounted : Type 0
 StepsCounted = (p : Program) → StepsCount p
@@ -60,8 +70,10 @@ Begins (x ∷ xs) (y ∷ ys) = (x ≡ y) × Begins xs ys
 
 -- lines are only added from turn to turn
 pub record LinesStand (p : Program) : Type 0 where
-  pub turn : (until : ℕ) (s : State) (fs : Forest) → Begins s.memory.trace (stage_state (turn_taken p until s fs)).memory.trace
-  pub run : (ns : List ℤ) (steps until k : ℕ) → Begins (stage_state (after p ns steps until k)).memory.trace
+  pub turn : (until : ℕ) (s : State) (fs : Forest) →
+      Begins s.memory.trace (stage_state (turn_taken p until s fs)).memory.trace
+  pub run : (ns : List ℤ) (steps until k : ℕ) →
+      Begins (stage_state (after p ns steps until k)).memory.trace
       (stage_state (after p ns steps until (suc k))).memory.trace
 
 abbrev pub LinesStay : Type 0
@@ -69,10 +81,11 @@ LinesStay = (p : Program) → LinesStand p
 
 -- Every depth that is no less than the steps left comes to the same, so none is ever seen to end.
 pub record DepthsAgree (p : Program) : Type 0 where
-  pub evaluation : (n n' : ℕ) (a : Tree) (m : Bool) (e : Env) (w : World) → w.state.clock.left ≤ n → w.state.clock.left ≤ n' →
-      ev p (deeper p n) a m e w ≡ ev p (deeper p n') a m e w
-  pub going : (n n' : ℕ) (s : Scope) (i : ℕ) (v : Val) (w : World) → w.state.clock.left ≤ n → w.state.clock.left ≤ n' →
-      resume_scope p (deeper p n) s i v w ≡ resume_scope p (deeper p n') s i v w
+  pub evaluation : (n n' : ℕ) (a : Tree) (m : Bool) (e : Env) (w : World) → w.state.clock.left ≤ n →
+      w.state.clock.left ≤ n' → ev p (deeper p n) a m e w ≡ ev p (deeper p n') a m e w
+  pub going : (n n' : ℕ) (s : Scope) (i : ℕ) (v : Val) (w : World) → w.state.clock.left ≤ n →
+      w.state.clock.left ≤ n' → resume_scope p (deeper p n) s i v w ≡
+      resume_scope p (deeper p n') s i v w
 
 abbrev pub DepthEnough : Type 0
 DepthEnough = (p : Program) → DepthsAgree p
@@ -121,7 +134,8 @@ StageWaits (amiss s) = Unit {0}
 
 -- between two turns no race and no rush has an arm with a value, and no sync has all
 pub record StatesWait (p : Program) : Type 0 where
-  pub turn : (until : ℕ) (s : State) (fs : Forest) → ForestWaits fs → StageWaits (turn_taken p until s fs)
+  pub turn : (until : ℕ) (s : State) (fs : Forest) → ForestWaits fs →
+      StageWaits (turn_taken p until s fs)
   pub run : (ns : List ℤ) (steps until k : ℕ) → StageWaits (after p ns steps until k)
 
 abbrev pub GroupsWait : Type 0
@@ -146,21 +160,23 @@ StageChances i b (closed e s fs) = chances i s (forest_leaves fs) ≤ b
 StageChances i b (broken e s) = Unit {0}
 StageChances i b (amiss s) = Unit {0}
 
--- A number that is neither live nor still to be drawn never comes back. So the numbers of live waits are distinct and below `next`, and each
--- is woken or cancelled no more than once.
+-- A number that is neither live nor still to be drawn never comes back. So the numbers of live
+-- waits are distinct and below `next`, and each is woken or cancelled no more than once.
 pub record NumberOnce (p : Program) : Type 0 where
-  pub turn : (i until : ℕ) (s : State) (fs : Forest) → StageChances i (chances i s (forest_leaves fs)) (turn_taken p until s fs)
+  pub turn : (i until : ℕ) (s : State) (fs : Forest) →
+      StageChances i (chances i s (forest_leaves fs)) (turn_taken p until s fs)
   -- the number that is woken goes
-  pub goes : (n : ℕ) (v : Val) (fs : Forest) (s : State) (b : ℕ) → has n (forest_leaves fs) ≡ true → chances n s (forest_leaves fs) ≤ suc b
-      →
+  pub goes : (n : ℕ) (v : Val) (fs : Forest) (s : State) (b : ℕ) → has n (forest_leaves fs) ≡ true →
+      chances n s (forest_leaves fs) ≤ suc b →
       StageChances n b (woken p n v [] fs s)
   pub run : (ns : List ℤ) (i steps until k : ℕ) → StageChances i 1 (after p ns steps until k)
 
 abbrev pub NumbersOnce : Type 0
 NumbersOnce = (p : Program) → NumberOnce p
 
--- The waits that must still be live where the wait n is woken: of a race or a rush those of the woken arm alone, and of a scope whose own
--- residual is woken none of its background, since it may end.
+-- The waits that must still be live where the wait n is woken: of a race or a rush those of the
+-- woken arm alone, and of a scope whose own residual is woken none of its background, since it may
+-- end.
 abbrev mutual
   pub standing : ℕ → Residual → List Wait
   standing n (leaf x e) = []
@@ -174,26 +190,32 @@ abbrev mutual
   standing n (arms kd pl e gs) = arms_standing kd n gs
 
   pub scope_standing : ℕ → Scope → List Wait
-  scope_standing n (scope q r bs) = cond (is_behind n bs) (behind_standing n bs ++ leaves r) (standing n r)
+  scope_standing n (scope q r bs) =
+      cond (is_behind n bs) (behind_standing n bs ++ leaves r) (standing n r)
 
   pub behind_standing : ℕ → Scopes → List Wait
   behind_standing n none = []
   behind_standing n (also s bs) =
-      cond (has n (scope_leaves s)) (scope_standing n s ++ behind_leaves bs []) (scope_leaves s ++ behind_standing n bs)
+      cond (has n (scope_leaves s)) (scope_standing n s ++ behind_leaves bs [])
+      (scope_leaves s ++ behind_standing n bs)
 
   pub arms_standing : Kind → ℕ → Arms → List Wait
   arms_standing kd n no_arms = []
   arms_standing kd n (gave v gs) = arms_standing kd n gs
   arms_standing sync n (runs s gs) =
-      cond (has n (scope_leaves s)) (scope_standing n s ++ arms_leaves gs) (scope_leaves s ++ arms_standing sync n gs)
-  arms_standing race n (runs s gs) = cond (has n (scope_leaves s)) (scope_standing n s) (arms_standing race n gs)
-  arms_standing rush n (runs s gs) = cond (has n (scope_leaves s)) (scope_standing n s) (arms_standing rush n gs)
+      cond (has n (scope_leaves s)) (scope_standing n s ++ arms_leaves gs)
+      (scope_leaves s ++ arms_standing sync n gs)
+  arms_standing race n (runs s gs) =
+      cond (has n (scope_leaves s)) (scope_standing n s) (arms_standing race n gs)
+  arms_standing rush n (runs s gs) =
+      cond (has n (scope_leaves s)) (scope_standing n s) (arms_standing rush n gs)
 
 abbrev pub forest_standing : ℕ → Forest → List Wait
 forest_standing n [] = []
 forest_standing n (None ∷ fs) = forest_standing n fs
 forest_standing n (Some s ∷ fs) =
-    cond (has n (scope_leaves s)) (scope_standing n s ++ forest_leaves fs) (scope_leaves s ++ forest_standing n fs)
+    cond (has n (scope_leaves s)) (scope_standing n s ++ forest_leaves fs)
+    (scope_leaves s ++ forest_standing n fs)
 
 abbrev pub StageHas : ℕ → ℕ → Stage Forest → Type 0
 StageHas i c (going s fs) = c ≤ count i (forest_leaves fs)
@@ -201,8 +223,8 @@ StageHas i c (closed e s fs) = c ≤ count i (forest_leaves fs)
 StageHas i c (broken e s) = Unit {0}
 StageHas i c (amiss s) = Unit {0}
 
--- a wait that is no longer live was woken, or stood in another arm of a race or a rush, or in the background of a scope, in which the one
--- that was woken is
+-- a wait that is no longer live was woken, or stood in another arm of a race or a rush, or in the
+-- background of a scope, in which the one that was woken is
 abbrev pub NothingLost : Type 0
 NothingLost = (p : Program) (i n : ℕ) (v : Val) (fs : Forest) (s : State) → ForestWaits fs →
     StageHas i (count i (forest_standing n fs)) (woken p n v [] fs s)

@@ -1,5 +1,6 @@
 -- What each operation does with memory and clock, as an answer with a value and the state after it.
-use Rattle.std.specs.Prelude.{ℕ, ◌+◌, cond, nat_le, List, [], ◌∷◌, length, Option, Some, None, slice_get}
+use Rattle.std.specs.Prelude.{ℕ, ◌+◌, cond, nat_le, List, [], ◌∷◌, length, Option, Some, None}
+use Rattle.std.specs.Prelude.{slice_get}
 use Rattle.std.specs.List.{flat_map}
 use Rattle.verse_base.specs.TraceLine.{line_bytes}
 use Rattle.verse_base.specs.declared.limits.TheConstants.{MOST_TRACE_BYTES}
@@ -57,7 +58,8 @@ changed stuck s = stuck
 
 -- writes at a path in a slot of the cell that a value names, and gives the value written
 abbrev pub slot_written : ℕ → List Val → Mode → Val → Val → State → Effect
-slot_written slot path mode v (object c) s = changed (write_slot s.memory.store c slot path mode v) s
+slot_written slot path mode v (object c) s =
+    changed (write_slot s.memory.store c slot path mode v) s
 slot_written slot path mode v other s = stuck
 
 -- the bytes of the trace as it is printed

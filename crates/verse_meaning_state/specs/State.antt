@@ -1,4 +1,5 @@
--- The state of a run: its memory, which a failed context puts back, and its clock, which only goes on.
+-- The state of a run: its memory, which a failed context puts back, and its clock, which only goes
+-- on.
 use Rattle.std.specs.Prelude.{ℕ, zero, suc, List, [], ◌∷◌, ◌++◌, Option, Some, None}
 use Rattle.verse_value.specs.Val.{Val}
 use Rattle.verse_value.specs.Store.{Store}
@@ -62,7 +63,10 @@ abbrev pub with_store : State → Store → State
 with_store s store = record s { memory = record { store = store; trace = s.memory.trace } }
 
 abbrev pub with_line : State → Line → State
-with_line s line = record s { memory = record { store = s.memory.store; trace = s.memory.trace ++ line ∷ [] } }
+with_line s line = record s {
+  memory =
+      record { store = s.memory.store; trace = s.memory.trace ++ line ∷ [] };
+}
 
 -- what a failed context leaves: the memory of its entry, and the clock as it is
 abbrev pub restored : Memory → State → State
@@ -110,4 +114,8 @@ set_at (x ∷ xs) (suc n) v = x ∷ set_at xs n v
 abbrev pub with_result : Option ℕ → Val → State → State
 with_result None v s = s
 with_result (Some entry) v s =
-    record s { clock = record s.clock { results = set_at s.clock.results entry (Some (record { value = v; moment = s.clock.now })) } }
+    record s {
+      clock = record s.clock {
+        results = set_at s.clock.results entry (Some (record { value = v; moment = s.clock.now }));
+      };
+    }

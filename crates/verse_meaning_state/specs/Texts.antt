@@ -1,5 +1,6 @@
 -- The text of a run: its trace, its heap where that is asked for, and its ending.
-use Rattle.std.specs.Prelude.{ℕ, suc, ◌+◌, List, [], ◌∷◌, ◌++◌, Bool, Option, Some, None, cond, nat_le, codes, decimal}
+use Rattle.std.specs.Prelude.{ℕ, suc, ◌+◌, List, [], ◌∷◌, ◌++◌, Bool, Option, Some, None, cond}
+use Rattle.std.specs.Prelude.{nat_le, codes, decimal}
 use Rattle.verse_base.specs.declared.places.Place.{Place}
 use Rattle.verse_base.specs.declared.refusals.Kind.{Kind}
 use Rattle.verse_base.specs.declared.refusals.Kind.TheVariants as kind
@@ -24,7 +25,8 @@ kind_text (cell.Object class) = codes "obj " ++ decimal class
 kind_text cell.Event = codes "event"
 
 abbrev pub cell_line : ℕ → Cell → List ℕ
-cell_line address c = 64 ∷ (decimal address ++ 32 ∷ (kind_text c.kind ++ (slots_text c.slots ++ 10 ∷ [])))
+cell_line address c = 64 ∷ (decimal address ++ 32 ∷
+    (kind_text c.kind ++ (slots_text c.slots ++ 10 ∷ [])))
 
 -- a line for each cell, by address
 abbrev pub heap_lines : ℕ → Store → List ℕ
@@ -33,7 +35,8 @@ heap_lines address (c ∷ cells) = cell_line address c ++ heap_lines (suc addres
 
 -- the file's number from 1 stands before line and column where there are several files
 abbrev pub place_text : ℕ → Place → List ℕ
-place_text files p = cond (nat_le 2 files) (decimal (p.file + 1) ++ codes ":") [] ++ (decimal p.line ++ (codes ":" ++ decimal p.col))
+place_text files p = cond (nat_le 2 files) (decimal (p.file + 1) ++ codes ":") [] ++
+    (decimal p.line ++ (codes ":" ++ decimal p.col))
 
 abbrev pub error_name : Kind → List ℕ
 error_name kind.Overflow = codes "K1"
@@ -46,7 +49,8 @@ ending_name files ending.Done = codes "done"
 ending_name files ending.Waiting = codes "waiting"
 ending_name files ending.Until = codes "until"
 ending_name files ending.Steps = codes "steps"
-ending_name files (ending.Error k p) = codes "error " ++ (error_name k ++ (codes " " ++ place_text files p))
+ending_name files (ending.Error k p) =
+    codes "error " ++ (error_name k ++ (codes " " ++ place_text files p))
 ending_name files ending.Stuck = codes "stuck"
 
 abbrev pub live_text : Option ℕ → List ℕ
@@ -54,8 +58,11 @@ live_text None = []
 live_text (Some live) = codes " live " ++ decimal live
 
 abbrev pub ending_line : ℕ → Run → List ℕ
-ending_line files r = codes "= " ++ (ending_name files r.ending ++ (codes " at " ++ (decimal r.now ++ (codes " steps " ++ (decimal r.steps
-    ++ (live_text r.live ++ codes "\n"))))))
+ending_line files r = codes "= " ++
+    (ending_name files r.ending ++
+    (codes " at " ++ (decimal r.now ++
+    (codes " steps " ++ (decimal r.steps ++ (live_text r.live ++ codes "\n"))))))
 
 abbrev pub run_text : Run → (heap : Bool) → (files : ℕ) → List ℕ
-run_text r heap files = printed r.trace ++ (cond heap (heap_lines 0 r.store) [] ++ ending_line files r)
+run_text r heap files = printed r.trace ++
+    (cond heap (heap_lines 0 r.store) [] ++ ending_line files r)

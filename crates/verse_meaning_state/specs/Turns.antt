@@ -6,8 +6,8 @@ use Rattle.verse_value.specs.declared.runs.Ending.TheVariants as ending
 use Rattle.verse_meaning_state.specs.State.{State, spending, at_moment}
 use Rattle.verse_meaning_state.specs.Waits.{Wait, Due, least}
 
--- what several arms give: the tuple of their values; the value of the first, and the others are cancelled; or it, and the others go on
--- behind
+-- what several arms give: the tuple of their values; the value of the first, and the others are
+-- cancelled; or it, and the others go on behind
 pub data Kind : Type 0 where
   sync : Kind
   race : Kind
@@ -50,7 +50,15 @@ module _ {A : Type 0} where
   waits_in waits (amiss s) = []
 
 abbrev pub run : State → Ending → Option ℕ → Run
-run s e live = record { trace = s.memory.trace; store = s.memory.store; ending = e; now = s.clock.now; steps = s.clock.spent; live = live }
+run s e live = record {
+  trace = s.memory.trace;
+  store = s.memory.store;
+  ending = e;
+  now =
+      s.clock.now;
+  steps = s.clock.spent;
+  live = live;
+}
 
 -- how many waits are live counts where the run has ended by itself
 abbrev pub run_closed : Ending → State → ℕ → Run

@@ -1,5 +1,6 @@
 -- Waits, and when they are due.
-use Rattle.std.specs.Prelude.{ℕ, zero, suc, ◌+◌, List, [], ◌∷◌, Option, Some, None, Bool, true, false, cond, nat_lt}
+use Rattle.std.specs.Prelude.{ℕ, zero, suc, ◌+◌, List, [], ◌∷◌, Option, Some, None, Bool, true}
+use Rattle.std.specs.Prelude.{false, cond, nat_lt}
 use Rattle.verse_value.specs.Val.{unit}
 use Rattle.verse_meaning_state.specs.State.{State, Given, Signal}
 
@@ -70,7 +71,8 @@ pub record Due : Type 0 where
 abbrev pub sooner : ℕ → Given → Option Due → Option Due
 sooner n g None = Some (record { number = n; given = g })
 sooner n g (Some d) =
-    cond (nat_lt d.given.moment g.moment) (Some d) (cond (nat_lt g.moment d.given.moment) (Some (record {
+    cond (nat_lt d.given.moment g.moment) (Some d)
+    (cond (nat_lt g.moment d.given.moment) (Some (record {
       number = n;
       given =
           g;

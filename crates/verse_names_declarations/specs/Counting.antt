@@ -1,7 +1,9 @@
--- How functions, classes and enums are numbered: each in the order of the items, and methods in the place of their class.
+-- How functions, classes and enums are numbered: each in the order of the items, and methods in the
+-- place of their class.
 use Rattle.std.specs.Prelude.{ℕ, ◌+◌, List, [], ◌∷◌, Option, Some, None}
 use Rattle.verse_tree.specs.Tree.{Bytes}
-use Rattle.verse_tree.specs.ItemTree.{MemberTree, field, method, ItemTree, using, enumeration, class, function}
+use Rattle.verse_tree.specs.ItemTree.{MemberTree, field, method, ItemTree, using, enumeration}
+use Rattle.verse_tree.specs.ItemTree.{class, function}
 use Rattle.verse_tree.specs.ItemView.{item_of}
 use Rattle.verse_tree.specs.declared.tables.Ref.{Ref}
 use Rattle.verse_tree.specs.declared.tables.Ref.TheVariants as ref
@@ -20,7 +22,11 @@ funs_after (m ∷ ms) n = funs_after ms (fun_after m n)
 abbrev pub counts_after : ItemTree → Counts → Counts
 counts_after (using u) n = n
 counts_after (enumeration e) n = record { funs = n.funs; classes = n.classes; enums = n.enums + 1 }
-counts_after (class c) n = record { funs = funs_after c.members n.funs; classes = n.classes + 1; enums = n.enums }
+counts_after (class c) n = record {
+  funs = funs_after c.members n.funs;
+  classes = n.classes + 1;
+  enums = n.enums;
+}
 counts_after (function f) n = record { funs = n.funs + 1; classes = n.classes; enums = n.enums }
 
 -- an item, and how many functions, classes and enums stand before it

@@ -7,7 +7,8 @@ use Rattle.verse_tree.specs.declared.tables.Ref.{Ref}
 use Rattle.verse_tree.specs.declared.tables.Ref.TheVariants as ref
 use Rattle.verse_tree.specs.declared.tables.Effects.{Effects}
 use Rattle.verse_tree.specs.declared.tables.FunInfo.{FunInfo}
-use Rattle.verse_rules_types.specs.Types.{Ty, Tys, never, void, int, logic, char, string, enum, class, option, array, task, event, mapping, tuple}
+use Rattle.verse_rules_types.specs.Types.{Ty, Tys, never, void, int, logic, char, string, enum}
+use Rattle.verse_rules_types.specs.Types.{class, option, array, task, event, mapping, tuple}
 use Rattle.verse_rules_types.specs.Types.{no_tys, more_tys, ty_of}
 use Rattle.verse_names_declarations.specs.Names.{Table, look}
 use Rattle.verse_names_declarations.specs.Words.{effects_of}
@@ -52,7 +53,12 @@ pub record Function : Type 0 where
   pub item : ℕ
 
 abbrev pub function_of : FunInfo → Function
-function_of f = record { params = map ty_of f.params; result = ty_of f.result; effects = f.effects; item = f.item }
+function_of f = record {
+  params = map ty_of f.params;
+  result = ty_of f.result;
+  effects = f.effects;
+  item = f.item;
+}
 
 abbrev pub param_type : Table → ParamTree → Ty
 param_type ts p = spelled ts p.written

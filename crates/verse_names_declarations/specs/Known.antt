@@ -1,7 +1,8 @@
 -- What is known of the items of a program before its bodies are looked at.
 use Rattle.std.specs.Prelude.{ℕ, List, [], ◌∷◌, ◌++◌, map, Option, Some, None, codes}
 use Rattle.verse_tree.specs.Tree.{Bytes}
-use Rattle.verse_tree.specs.ItemTree.{MemberTree, field, method, ClassTree, ItemTree, using, enumeration, class, function}
+use Rattle.verse_tree.specs.ItemTree.{MemberTree, field, method, ClassTree, ItemTree, using}
+use Rattle.verse_tree.specs.ItemTree.{enumeration, class, function}
 use Rattle.verse_tree.specs.ItemView.{class_of}
 use Rattle.verse_tree.specs.declared.tables.Ref.{Ref}
 use Rattle.verse_tree.specs.declared.tables.Ref.TheVariants as ref
@@ -10,7 +11,8 @@ use Rattle.verse_names_declarations.specs.Names.{Table, Roll, look, keep_named, 
 use Rattle.verse_names_declarations.specs.Views.{table_of, roll_of}
 use Rattle.verse_names_declarations.specs.Words.{has}
 use Rattle.verse_names_declarations.specs.Functions.{Function, fun_function, function_of}
-use Rattle.verse_names_declarations.specs.Counting.{Counted, counted, counted_of, no_counts, named_as, named_type_as, named_class_as}
+use Rattle.verse_names_declarations.specs.Counting.{Counted, counted, counted_of, no_counts}
+use Rattle.verse_names_declarations.specs.Counting.{named_as, named_type_as, named_class_as}
 use Rattle.verse_names_declarations.specs.declared.counting.Counts.{Counts}
 use Rattle.verse_names_declarations.specs.declared.indexing.Index.{Index as MadeIndex}
 use Rattle.verse_names_declarations.specs.declared.indexing.Note.{Note as MadeNote}

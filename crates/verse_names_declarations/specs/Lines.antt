@@ -1,5 +1,6 @@
 -- Classes with their ancestors, and the members that they have from them.
-use Rattle.std.specs.Prelude.{ℕ, zero, suc, ◌+◌, cond, nat_eq, List, [], ◌∷◌, length, map, Option, Some, None, slice_get}
+use Rattle.std.specs.Prelude.{ℕ, zero, suc, ◌+◌, cond, nat_eq, List, [], ◌∷◌, length, map, Option}
+use Rattle.std.specs.Prelude.{Some, None, slice_get}
 use Rattle.verse_tree.specs.Tree.{Bytes}
 use Rattle.verse_tree.specs.ItemTree.{MemberTree, field, method}
 use Rattle.verse_tree.specs.declared.tables.Ref.TheVariants as ref
@@ -42,11 +43,16 @@ pub record Members : Type 0 where
   pub methods : Table
 
 abbrev pub with_field : ℕ → Bytes → Members → Members
-with_field c x m = record { fields = keep x (ref.Field c m.count) m.fields; count = m.count + 1; methods = m.methods }
+with_field c x m = record {
+  fields = keep x (ref.Field c m.count) m.fields;
+  count = m.count + 1;
+  methods = m.methods;
+}
 
 abbrev pub with_member : (class fun : ℕ) → MemberTree → Members → Members
 with_member c n (field d) m = with_field c d.name m
-with_member c n (method f) m = record { fields = m.fields; count = m.count; methods = put f.name (ref.Fun n) m.methods }
+with_member c n (method f) m =
+    record { fields = m.fields; count = m.count; methods = put f.name (ref.Fun n) m.methods }
 
 -- those of one class, its first method being the function n
 abbrev pub with_members : (class fun : ℕ) → List MemberTree → Members → Members
@@ -88,7 +94,12 @@ home k c ms = record {
 }
 
 abbrev pub members_view : Made → Members
-members_view m = record { fields = table_of m.fields; count = m.count; methods = table_of m.methods }
+members_view m = record {
+  fields = table_of m.fields;
+  count = m.count;
+  methods =
+      table_of m.methods;
+}
 
 abbrev pub home_of : MadeHome → Home
 home_of h = record { own = roll_of h.own; above = members_view h.above }

@@ -22,7 +22,8 @@ effects_of ss = record {
 
 -- they are visible everywhere
 abbrev pub builtins : Table
-builtins = (codes "Print", ref.Builtin 0) ∷ (codes "Floor", ref.Builtin 1) ∷ (codes "Ceil", ref.Builtin 2) ∷ (
-  codes "Mod",
-  ref.Builtin 3,
-) ∷ []
+builtins = (codes "Print", ref.Builtin 0) ∷ (codes "Floor", ref.Builtin 1) ∷
+    (codes "Ceil", ref.Builtin 2) ∷ (
+      codes "Mod",
+      ref.Builtin 3,
+    ) ∷ []

@@ -14,7 +14,8 @@ use Rattle.verse_names_declarations.specs.declared.counting.Counts.{Counts}
 use Rattle.verse_names_declarations.specs.Known.{Known}
 use Rattle.verse_names_declarations.specs.Lines.{Home, home}
 use Rattle.verse_names_items.specs.Rules.{rules_at, quiet, field, method, class, function, program}
-use Rattle.verse_names_items.specs.Nodes.{Declared, number_of, place_of, one, quiet_node, written_declared, writtens_declared, param_declared}
+use Rattle.verse_names_items.specs.Nodes.{Declared, number_of, place_of, one, quiet_node, written_declared, writtens_declared}
+use Rattle.verse_names_items.specs.Nodes.{param_declared}
 use Rattle.verse_names_items.specs.Nodes.{params_declared, fun_declared, field_declared, member_declared, members_declared, item_declared}
 use Rattle.verse_names_items.specs.Nodes.{items_declared, program_declared, fault_of, keep_fault}
 use Rattle.verse_names_items.specs.Nodes.{Breaks}

@@ -3,7 +3,8 @@ use Rattle.std.specs.Prelude.{ℕ, List, [], ◌∷◌, Option, None}
 use Rattle.verse_base.specs.declared.places.Place.{Place}
 use Rattle.verse_tree.specs.Tree.{Written, Writtens, no_writtens, more_writtens}
 use Rattle.verse_tree.specs.Tree as t
-use Rattle.verse_tree.specs.ItemTree.{FieldTree, ParamTree, FunTree, MemberTree, ClassTree, ItemTree}
+use Rattle.verse_tree.specs.ItemTree.{FieldTree, ParamTree, FunTree, MemberTree, ClassTree}
+use Rattle.verse_tree.specs.ItemTree.{ItemTree}
 use Rattle.verse_tree.specs.ItemTree as i
 use Rattle.verse_tree.specs.PostOrder.{program_place}
 use Rattle.verse_rules_least.specs.Least.{first, fault_at, first_true}
@@ -12,7 +13,8 @@ use Rattle.verse_names_declarations.specs.Counting.{Counted, fun_after}
 use Rattle.verse_names_declarations.specs.declared.counting.Counts.{Counts}
 use Rattle.verse_names_declarations.specs.Known.{Known}
 use Rattle.verse_names_declarations.specs.Lines.{Home, home}
-use Rattle.verse_names_items.specs.Rules.{Subject, type_name, field, method, enumeration, class, function, program, rules_at}
+use Rattle.verse_names_items.specs.Rules.{Subject, type_name, field, method, enumeration, class}
+use Rattle.verse_names_items.specs.Rules.{function, program, rules_at}
 
 abbrev pub subject_fault : Known → ℕ → Place → Subject → Option Fault
 subject_fault k n p s = fault_at n p (first_true (rules_at k s))

@@ -1,4 +1,5 @@
--- All nodes of a program in written post-order, with what the rules of items and members ask at each.
+-- All nodes of a program in written post-order, with what the rules of items and members ask at
+-- each.
 use Rattle.std.specs.Prelude.{◌≡◌, ℕ, List, [], ◌∷◌, ◌++◌, map, length, Option, Some, None}
 use Rattle.verse_base.specs.declared.places.Place.{Place}
 use Rattle.verse_base.specs.declared.refusals.Refusal.{Refusal}
@@ -6,7 +7,8 @@ use Rattle.verse_tree.specs.Tree.{Written, Writtens, no_writtens, more_writtens}
 use Rattle.verse_tree.specs.Tree as t
 use Rattle.verse_tree.specs.ItemTree.{FieldTree, ParamTree, FunTree, MemberTree, ItemTree}
 use Rattle.verse_tree.specs.ItemTree as i
-use Rattle.verse_tree.specs.PostOrder.{Node, post_order, default_order, items_order, program_place, program_order}
+use Rattle.verse_tree.specs.PostOrder.{Node, post_order, default_order, items_order, program_place}
+use Rattle.verse_tree.specs.PostOrder.{program_order}
 use Rattle.verse_tree.specs.Numbering.{items_numbered, program_nodes}
 use Rattle.verse_rules_least.specs.Least.{first, fault_at, first_true, Holds, Broken}
 use Rattle.verse_rules_least.specs.Refusals.{place_at, IsRefusedFor}
@@ -15,7 +17,8 @@ use Rattle.verse_names_declarations.specs.Counting.{Counted, fun_after}
 use Rattle.verse_names_declarations.specs.declared.counting.Counts.{Counts}
 use Rattle.verse_names_declarations.specs.Known.{Known, known}
 use Rattle.verse_names_declarations.specs.Lines.{Home, home}
-use Rattle.verse_names_items.specs.Rules.{Subject, quiet, type_name, field, method, enumeration, class, function, program, rules_at}
+use Rattle.verse_names_items.specs.Rules.{Subject, quiet, type_name, field, method, enumeration}
+use Rattle.verse_names_items.specs.Rules.{class, function, program, rules_at}
 
 pub record Declared : Type 0 where
   pub number : ℕ
@@ -63,7 +66,8 @@ params_declared [] = []
 params_declared (p ∷ ps) = param_declared p ++ params_declared ps
 
 abbrev pub fun_declared : FunTree → List Declared
-fun_declared f = params_declared f.params ++ written_declared f.written ++ map quiet_node (post_order f.body)
+fun_declared f = params_declared f.params ++ written_declared f.written ++
+    map quiet_node (post_order f.body)
 
 abbrev pub field_declared : FieldTree → List Declared
 field_declared d = written_declared d.written ++ map quiet_node (default_order d.default)
@@ -79,16 +83,19 @@ members_declared h n (m ∷ ms) = member_declared h n m ++ members_declared h (f
 abbrev pub item_declared : Known → ItemTree → Counts → List Declared
 item_declared k (i.ItemTree.using u) n = one u.number u.place quiet
 item_declared k (i.ItemTree.enumeration e) n = one e.number e.place (enumeration e)
-item_declared k (i.ItemTree.class c) n = members_declared (home k n.classes c.members) n.funs c.members ++
+item_declared k (i.ItemTree.class c) n =
+    members_declared (home k n.classes c.members) n.funs c.members ++
     one c.number c.place (class n.classes c)
-item_declared k (i.ItemTree.function f) n = fun_declared f ++ one f.number f.place (function n.funs f)
+item_declared k (i.ItemTree.function f) n =
+    fun_declared f ++ one f.number f.place (function n.funs f)
 
 abbrev pub items_declared : Known → List Counted → List Declared
 items_declared k [] = []
 items_declared k (i ∷ is) = item_declared k i.item i.before ++ items_declared k is
 
 abbrev pub program_declared : Known → List ItemTree → List Declared
-program_declared k is = items_declared k k.items ++ one (length (items_order is)) program_place (program is)
+program_declared k is = items_declared k k.items ++
+    one (length (items_order is)) program_place (program is)
 
 abbrev pub fault_of : Known → Declared → Option Fault
 fault_of k d = fault_at d.number d.place (first_true (rules_at k d.subject))
@@ -103,11 +110,13 @@ Breaks k d o c = Holds (rules_at k d.subject) c
 
 -- the items of a program whose nodes are numbered from 0, and how many nodes it has
 abbrev pub IsNumbered : List ItemTree → ℕ → Type 0
-IsNumbered is n = (written : List ItemTree) × (is ≡ items_numbered written 0) × (n ≡ program_nodes written)
+IsNumbered is n = (written : List ItemTree) × (is ≡ items_numbered written 0) ×
+    (n ≡ program_nodes written)
 
 -- a node breaks a rule of items and members, by its number and the rule's code
 abbrev pub ItemsBreak : List ItemTree → ℕ → ℕ → Type 0
-ItemsBreak is = Broken number_of (keep_fault (known is)) (Breaks (known is)) (program_declared (known is) is) None
+ItemsBreak is = Broken number_of (keep_fault (known is)) (Breaks (known is))
+    (program_declared (known is) is) None
 
 -- the place of each node of a program, by its number
 abbrev pub places_in : List ItemTree → ℕ → Option Place

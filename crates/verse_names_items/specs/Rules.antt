@@ -1,5 +1,6 @@
 -- The rules of items and members, each a test at one node.
-use Rattle.std.specs.Prelude.{ℕ, Bool, true, false, cond, ◌&&◌, ◌||◌, not, List, [], ◌∷◌, Option, Some, None, is_some, is_none, slice_get}
+use Rattle.std.specs.Prelude.{ℕ, Bool, true, false, cond, ◌&&◌, ◌||◌, not, List, [], ◌∷◌, Option}
+use Rattle.std.specs.Prelude.{Some, None, is_some, is_none, slice_get}
 use Rattle.std.specs.Prelude.{codes}
 use Rattle.std.specs.Str.{bytes_eq}
 use Rattle.verse_base.specs.declared.rules.TheConstants.{NAME_DEFINED, NAME_UNKNOWN, CIRCULAR}
@@ -18,7 +19,8 @@ use Rattle.verse_names_declarations.specs.Functions.{Function}
 use Rattle.verse_names_declarations.specs.Known.{Known}
 use Rattle.verse_names_declarations.specs.Lines.{Home}
 
--- what a node is, with what the rules ask of what stands round it; numbers are those of functions and classes
+-- what a node is, with what the rules ask of what stands round it; numbers are those of functions
+-- and classes
 pub data Subject : Type 0 where
   quiet : Subject
   type_name : Bytes → Subject
@@ -39,7 +41,8 @@ is_doubled k x = is_repeated x k.index.repeated || is_some (look x builtins)
 
 -- an item, another member of the class or one that it inherits has a field's name
 abbrev pub is_field_defined : Known → Home → Bytes → Bool
-is_field_defined k h x = is_taken k x || (is_repeated x h.own || (is_some (look x h.above.fields) || is_some (look x h.above.methods)))
+is_field_defined k h x = is_taken k x ||
+    (is_repeated x h.own || (is_some (look x h.above.fields) || is_some (look x h.above.methods)))
 
 -- the same of a method, which may have the name of one that it inherits
 abbrev pub is_method_defined : Known → Home → Bytes → Bool
@@ -131,11 +134,13 @@ is_same_mark false b = not b
 
 abbrev pub has_same_effects : Effects → Effects → Bool
 has_same_effects e f = is_same_mark e.computes f.computes &&
-    (is_same_mark e.transacts f.transacts && (is_same_mark e.decides f.decides && is_same_mark e.suspends f.suspends))
+    (is_same_mark e.transacts f.transacts &&
+    (is_same_mark e.decides f.decides && is_same_mark e.suspends f.suspends))
 
 -- a method has the parameter types and the effects of another one, and its result fits that one's
 abbrev pub fits_over : List Class → Function → Function → Bool
-fits_over cs f g = all_same (tys f.params) (tys g.params) && (has_same_effects f.effects g.effects && fits cs f.result g.result)
+fits_over cs f g = all_same (tys f.params) (tys g.params) &&
+    (has_same_effects f.effects g.effects && fits cs f.result g.result)
 
 abbrev pub can_override : List Class → Option Function → Option Function → Bool
 can_override cs (Some f) (Some g) = fits_over cs f g
@@ -144,7 +149,8 @@ can_override cs (Some f) None = false
 
 -- a method, by the number of its function, and what it overrides
 abbrev pub can_override_ref : Known → ℕ → Ref → Bool
-can_override_ref k n (ref.Fun m) = can_override k.outline (slice_get k.functions n) (slice_get k.functions m)
+can_override_ref k n (ref.Fun m) =
+    can_override k.outline (slice_get k.functions n) (slice_get k.functions m)
 can_override_ref k n r = false
 
 -- by whether the method is marked, and the nearest ancestor's method of its name
@@ -155,7 +161,8 @@ misses_override k marked n (Some r) = not (marked && can_override_ref k n r)
 -- 45: an override that does not fit, a method that overrides unmarked, or the mark elsewhere
 abbrev pub misfits : Known → Subject → Bool
 misfits k (field h d) = has override_word d.specs || has override_word d.var_specs
-misfits k (method h n f) = has override_word f.effects || misses_override k (has override_word f.specs) n (look f.name h.above.methods)
+misfits k (method h n f) = has override_word f.effects ||
+    misses_override k (has override_word f.specs) n (look f.name h.above.methods)
 misfits k (enumeration e) = has override_word e.specs
 misfits k (class n c) = has override_word c.specs || has override_word c.class_specs
 misfits k (function n f) = has override_word f.specs || has override_word f.effects

@@ -1,7 +1,9 @@
 -- The tables of functions, classes and enums.
-use Rattle.std.specs.Prelude.{ℕ, ◌+◌, List, [], ◌∷◌, ◌++◌, length, map, Option, Some, None, option_map, slice_get}
+use Rattle.std.specs.Prelude.{ℕ, ◌+◌, List, [], ◌∷◌, ◌++◌, length, map, Option, Some, None}
+use Rattle.std.specs.Prelude.{option_map, slice_get}
 use Rattle.verse_tree.specs.Tree.{Tree, tree}
-use Rattle.verse_tree.specs.ItemTree.{EnumTree, FieldTree, MemberTree, field, method, ItemTree, using, enumeration, class, function}
+use Rattle.verse_tree.specs.ItemTree.{EnumTree, FieldTree, MemberTree, field, method, ItemTree}
+use Rattle.verse_tree.specs.ItemTree.{using, enumeration, class, function}
 use Rattle.verse_tree.specs.declared.tables.Ref.{Ref}
 use Rattle.verse_tree.specs.declared.tables.Ref.TheVariants as ref
 use Rattle.verse_tree.specs.declared.tables.EnumInfo.{EnumInfo}
@@ -16,7 +18,12 @@ abbrev pub tree_number : Tree → ℕ
 tree_number (tree n p s) = n
 
 abbrev pub field_info : Table → FieldTree → Field
-field_info ts d = record { ty = spelled ts d.written; is_var = d.is_var; default = option_map tree_number d.default }
+field_info ts d = record {
+  ty = spelled ts d.written;
+  is_var = d.is_var;
+  default =
+      option_map tree_number d.default;
+}
 
 abbrev pub member_fields : Table → MemberTree → List Field
 member_fields ts (field d) = field_info ts d ∷ []
@@ -83,7 +90,16 @@ pub record Tables : Type 0 where
   pub enums : List EnumInfo
 
 abbrev pub tables_of : Made → Tables
-tables_of t = record { functions = map function_of t.functions; classes = classes_of t.classes; enums = t.enums }
+tables_of t = record {
+  functions = map function_of t.functions;
+  classes = classes_of t.classes;
+  enums = t.enums;
+}
 
 abbrev pub tables : List ItemTree → Tables
-tables is = record { functions = (known is).functions; classes = class_tables (known is); enums = enum_tables is }
+tables is = record {
+  functions = (known is).functions;
+  classes = class_tables (known is);
+  enums =
+      enum_tables is;
+}

@@ -23,7 +23,8 @@ use Rattle.verse_names_declarations.specs.Known.{Known, known}
 use Rattle.verse_names_scopes.specs.Visible.{World, inside, outside}
 use Rattle.verse_names_scopes.specs.Subjects.{Subject, quiet, defined, subject, refers, locals_behind, rules_at}
 use Rattle.verse_names_scopes.specs.Subjects as u
-use Rattle.verse_names_scopes.specs.Scopes.{apart, operand, through_written, through_writtens, through, through_parts, through_all, through_arms}
+use Rattle.verse_names_scopes.specs.Scopes.{apart, operand, through_written, through_writtens, through, through_parts, through_all}
+use Rattle.verse_names_scopes.specs.Scopes.{through_arms}
 use Rattle.verse_names_scopes.specs.Scopes.{through_holes, through_pairs, through_givens, through_params, through_fun, through_default}
 use Rattle.verse_names_scopes.specs.Scopes.{through_field, through_member, through_members, through_item, through_items, through_program}
 use Rattle.verse_names_scopes.specs.Visits.{Visit, ref_of, Seen, visit, leave, keep_fault}

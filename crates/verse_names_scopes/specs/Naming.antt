@@ -1,4 +1,5 @@
--- What the pass over the nodes makes of its state: the local names that are visible, what the nodes so far refer to, and the first fault.
+-- What the pass over the nodes makes of its state: the local names that are visible, what the nodes
+-- so far refer to, and the first fault.
 use Rattle.std.specs.Prelude.{ℕ, List, [], ◌∷◌, ◌++◌, length, take, Option, None}
 use Rattle.verse_base.specs.declared.places.Place.{Place}
 use Rattle.verse_tree.specs.declared.tables.Ref.{Ref}

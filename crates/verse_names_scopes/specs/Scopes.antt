@@ -1,11 +1,16 @@
--- Which names are visible where: a way through all nodes of a program with a state that holds the local names that are visible.
--- `note` is what a node makes of the state, and `back old new` is the state `new` with the local names of `old`.
+-- Which names are visible where: a way through all nodes of a program with a state that holds the
+-- local names that are visible.
+-- `note` is what a node makes of the state, and `back old new` is the state `new` with the local
+-- names of `old`.
 use Rattle.std.specs.Prelude.{ℕ, Bool, true, false, List, [], ◌∷◌, Option, Some, None, length}
 use Rattle.verse_base.specs.declared.places.Place.{Place}
-use Rattle.verse_tree.specs.Tree.{Bytes, Written, Writtens, no_writtens, more_writtens, Tree, tree, Shape, Trees, no_trees, more_trees}
-use Rattle.verse_tree.specs.Tree.{Holes, no_holes, more_holes, Pairs, no_pairs, more_pairs, Givens, no_givens, more_givens}
+use Rattle.verse_tree.specs.Tree.{Bytes, Written, Writtens, no_writtens, more_writtens, Tree, tree}
+use Rattle.verse_tree.specs.Tree.{Shape, Trees, no_trees, more_trees}
+use Rattle.verse_tree.specs.Tree.{Holes, no_holes, more_holes, Pairs, no_pairs, more_pairs, Givens}
+use Rattle.verse_tree.specs.Tree.{no_givens, more_givens}
 use Rattle.verse_tree.specs.Tree as t
-use Rattle.verse_tree.specs.ItemTree.{FieldTree, ParamTree, FunTree, MemberTree, field, method, ItemTree, using, enumeration, class}
+use Rattle.verse_tree.specs.ItemTree.{FieldTree, ParamTree, FunTree, MemberTree, field, method}
+use Rattle.verse_tree.specs.ItemTree.{ItemTree, using, enumeration, class}
 use Rattle.verse_tree.specs.ItemTree.{function}
 use Rattle.verse_tree.specs.PostOrder.{items_order, program_place}
 use Rattle.verse_tree.specs.declared.exprs.Operator.{Operator}
@@ -72,7 +77,8 @@ module _ {S : Type 0} (note : ℕ → Place → Subject → S → S) (back : S �
     -- the names of the conditions are visible in the part that is taken
     through_parts (t.Shape.if_else cs e f) s = through f (back s (through e (through_all cs s)))
     through_parts (t.Shape.if_alone cs e) s = back s (through e (through_all cs s))
-    through_parts (t.Shape.chained o e f) s = operand back o (through f) (operand back o (through e) s)
+    through_parts (t.Shape.chained o e f) s =
+        operand back o (through f) (operand back o (through e) s)
     through_parts (t.Shape.compared c e f) s = through f (through e s)
     through_parts (t.Shape.negation e) s = apart back (through e) s
     through_parts (t.Shape.minus e) s = through e s
@@ -144,14 +150,16 @@ module _ {S : Type 0} (note : ℕ → Place → Subject → S → S) (back : S �
 
   -- a parameter is visible at those after it and in the body
   abbrev pub through_param : ParamTree → S → S
-  through_param p s = note p.number p.place (defined p.name (ref.Local p.number)) (through_written note false p.written s)
+  through_param p s = note p.number p.place (defined p.name (ref.Local p.number))
+      (through_written note false p.written s)
 
   abbrev pub through_params : List ParamTree → S → S
   through_params [] s = s
   through_params (p ∷ ps) s = through_params ps (through_param p s)
 
   abbrev pub through_fun : FunTree → S → S
-  through_fun f s = back s (through f.body (through_written note false f.written (through_params f.params s)))
+  through_fun f s = back s (through f.body
+      (through_written note false f.written (through_params f.params s)))
 
   abbrev pub through_default : Option Tree → S → S
   through_default None s = s
@@ -160,7 +168,8 @@ module _ {S : Type 0} (note : ℕ → Place → Subject → S → S) (back : S �
   abbrev pub through_field : FieldTree → S → S
   through_field d s = through_default d.default (through_written note false d.written s)
 
-module _ {S : Type 0} (note : World → ℕ → Place → Subject → S → S) (back : S → S → S) (k : Known) where
+module _ {S : Type 0} (note : World → ℕ → Place → Subject → S → S) (back : S → S → S)
+    (k : Known) where
   -- a member, in the world of fields and in that of methods
   abbrev pub through_member : (fields methods : World) → MemberTree → S → S
   through_member w v (field d) s = note w d.number d.place quiet (through_field (note w) back d s)
@@ -173,8 +182,10 @@ module _ {S : Type 0} (note : World → ℕ → Place → Subject → S → S) (
   abbrev pub through_item : ItemTree → Counts → S → S
   through_item (using u) c s = note (outside k) u.number u.place quiet s
   through_item (enumeration e) c s = note (outside k) e.number e.place quiet s
-  through_item (class d) c s = note (outside k) d.number d.place quiet (through_members (outside k) (inside k c.classes) d.members s)
-  through_item (function f) c s = note (outside k) f.number f.place quiet (through_fun (note (outside k)) back f s)
+  through_item (class d) c s = note (outside k) d.number d.place quiet
+      (through_members (outside k) (inside k c.classes) d.members s)
+  through_item (function f) c s =
+      note (outside k) f.number f.place quiet (through_fun (note (outside k)) back f s)
 
   abbrev pub through_items : List Counted → S → S
   through_items [] s = s
@@ -184,4 +195,5 @@ module _ {S : Type 0} (note : World → ℕ → Place → Subject → S → S) (
   -- all nodes of a program, its own last
   abbrev pub through_program : List ItemTree → S → S
   through_program is s =
-      note (outside (known is)) (length (items_order is)) program_place quiet (through_items note back (known is) (known is).items s)
+      note (outside (known is)) (length (items_order is)) program_place quiet
+      (through_items note back (known is) (known is).items s)

@@ -1,5 +1,6 @@
 -- What a node has to do with names, what it refers to, and the rules of names at it.
-use Rattle.std.specs.Prelude.{ℕ, Bool, false, ◌&&◌, ◌||◌, List, [], ◌∷◌, Option, Some, None, is_some, is_none}
+use Rattle.std.specs.Prelude.{ℕ, Bool, false, ◌&&◌, ◌||◌, List, [], ◌∷◌, Option, Some, None}
+use Rattle.std.specs.Prelude.{is_some, is_none}
 use Rattle.verse_base.specs.declared.rules.TheConstants.{NAME_DEFINED, NAME_UNKNOWN}
 use Rattle.verse_tree.specs.Tree.{Bytes, Shape, Givens, no_givens, more_givens}
 use Rattle.verse_tree.specs.Tree as t
@@ -62,7 +63,8 @@ locals_behind w u s = s
 -- 40: a name is defined that is visible, or a field is given twice
 abbrev pub is_defined : World → Table → Subject → Bool
 is_defined w s (defined x r) = is_some (visible w s x)
-is_defined w s (both_defined x r y q) = is_some (visible w s x) || is_some (visible w (with_local w x r s) y)
+is_defined w s (both_defined x r y q) =
+    is_some (visible w s x) || is_some (visible w (with_local w x r s) y)
 is_defined w s (instance x gs) = any_again gs []
 is_defined w s u = false
 

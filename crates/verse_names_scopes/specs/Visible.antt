@@ -29,7 +29,12 @@ bare_members k c = with_methods c 0 (names (all_members k c).methods) (all_membe
 
 -- in a method of a class
 abbrev pub inside : Known → ℕ → World
-inside k c = record { items = k.index.items; types = k.index.types; members = bare_members k c; class = Some c }
+inside k c = record {
+  items = k.index.items;
+  types = k.index.types;
+  members = bare_members k c;
+  class = Some c;
+}
 
 -- in a function that is no method, and in a field's default: neither members nor `Self` are visible
 abbrev pub outside : Known → World

@@ -1,4 +1,5 @@
--- All nodes of a program in written post-order, each with what is visible at it, and which rules of names they break.
+-- All nodes of a program in written post-order, each with what is visible at it, and which rules of
+-- names they break.
 use Rattle.std.specs.Prelude.{◌≡◌, ℕ, Bool, List, [], ◌∷◌, ◌++◌, Option, Some, None}
 use Rattle.verse_base.specs.declared.places.Place.{Place}
 use Rattle.verse_tree.specs.ItemTree.{ItemTree}
@@ -42,7 +43,8 @@ pub record Seen : Type 0 where
 abbrev pub visit : World → ℕ → Place → Subject → Seen → Seen
 visit w n p u s = record {
   locals = locals_behind w u s.locals;
-  visits = s.visits ++ record { number = n; place = p; subject = u; world = w; locals = s.locals } ∷ [];
+  visits = s.visits ++ record { number = n; place = p; subject = u; world = w; locals = s.locals } ∷
+      [];
 }
 
 abbrev pub leave : Seen → Seen → Seen
@@ -65,9 +67,11 @@ Breaks v o c = Holds (rules_of v) c
 
 -- the items of a program whose nodes are numbered from 0, and how many nodes it has
 abbrev pub IsNumbered : List ItemTree → ℕ → Type 0
-IsNumbered is n = (written : List ItemTree) × (is ≡ items_numbered written 0) × (n ≡ program_nodes written)
+IsNumbered is n = (written : List ItemTree) × (is ≡ items_numbered written 0) ×
+    (n ≡ program_nodes written)
 
--- a parameter or a node of a body or a default breaks a rule of names, by its number and the rule's code
+-- a parameter or a node of a body or a default breaks a rule of names, by its number and the rule's
+-- code
 abbrev pub NamesBreak : List ItemTree → ℕ → ℕ → Type 0
 NamesBreak is = Broken number_of keep_fault Breaks (program_visits is) None
 

@@ -15,10 +15,12 @@ abbrev pub Lacks : Holding → List ℕ → Type 0
 Lacks None name = ⊥
 Lacks (Some held) name = held name ≡ None
 
--- the first `most` bytes of what is held under the name; nothing is known where the object does not tell
+-- the first `most` bytes of what is held under the name; nothing is known where the object does not
+-- tell
 abbrev pub Loads : Holding → List ℕ → ℕ → List ℕ → Type 0
 Loads None name most bytes = Unit {0}
-Loads (Some held) name most bytes = (all : List ℕ) × (held name ≡ Some all) × (bytes ≡ take most all)
+Loads (Some held) name most bytes = (all : List ℕ) × (held name ≡ Some all) ×
+    (bytes ≡ take most all)
 
 -- the bytes taken, with more behind them
 abbrev pub with_more : Option (List ℕ) → List ℕ → Option (List ℕ)

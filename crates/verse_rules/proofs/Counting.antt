@@ -10,7 +10,8 @@ use Rattle.verse_tree.specs.Numbering.{list_nodes}
 use Rattle.verse_tree.specs.Sizes.{fields_at, tree_fields, shape_fields, trees_fields, holes_fields, pairs_fields, givens_fields}
 use Rattle.verse_tree.specs.Sizes.{default_fields, member_fields, item_fields, items_fields}
 use Rattle.verse_tree.specs.declared.tables.Names.{Names}
-use Rattle.verse_rules_walk.specs.Around.{Around, value, callee, object, target, spawned, argument, outside, default_around, used_as, freely}
+use Rattle.verse_rules_walk.specs.Around.{Around, value, callee, object, target, spawned, argument, outside, default_around, used_as}
+use Rattle.verse_rules_walk.specs.Around.{freely}
 use Rattle.verse_rules_walk.specs.Around.{caught, looped, repeated, armed, deferred, left_of}
 use Rattle.verse_rules_walk.specs.Around.{indexed}
 use Rattle.verse_rules_walk.specs.Nodes.{number_of_tree, round_body, items_nodes}
@@ -240,4 +241,5 @@ module _ (k : Names) where
   of_items (i ∷ is) = both (through_item (counted k) i) (through_items (counted k) is) (of_item i) (of_items is)
 
   pub all_counted : (is : List ItemTree) → each (counted k) (items_nodes is) 0 ≡ min (items_fields k is) top
-  all_counted is = sym (through_items_nodes (counted k) is 0) ∙ ap (through_items (counted k) is) (omega arith) ∙ (of_items is).on 0 ∙ ap (λ (y : ℕ). min y top) (omega arith)
+  all_counted is = sym (through_items_nodes (counted k) is 0) ∙ ap (through_items (counted k) is) (omega arith) ∙ (of_items is).on 0 ∙
+      ap (λ (y : ℕ). min y top) (omega arith)

@@ -6,7 +6,8 @@ use Rattle.verse_rules_least.specs.Refusals.{IsRefusedFor}
 use Rattle.verse_names_items.specs.Nodes.{ItemsBreak, places_in}
 use Rattle.verse_names_scopes.specs.Visits.{NamesBreak as BodiesBreak}
 
--- a node breaks a rule of names, by its number and the rule's code: at items, members and types, or at parameters and in bodies
+-- a node breaks a rule of names, by its number and the rule's code: at items, members and types, or
+-- at parameters and in bodies
 abbrev pub NamesBreak : List ItemTree → ℕ → ℕ → Type 0
 NamesBreak is n c = ItemsBreak is n c ⊎ BodiesBreak is n c
 

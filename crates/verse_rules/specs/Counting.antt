@@ -2,7 +2,8 @@
 use Rattle.std.specs.Prelude.{ℕ, ◌+◌, min}
 use Rattle.verse_tree.specs.Tree.{Shape}
 use Rattle.verse_tree.specs.Tree as t
-use Rattle.verse_tree.specs.PostOrder.{What, program, item, member, parameter, type_name, expression}
+use Rattle.verse_tree.specs.PostOrder.{What, program, item, member, parameter, type_name}
+use Rattle.verse_tree.specs.PostOrder.{expression}
 use Rattle.verse_tree.specs.Sizes.{fields_at}
 use Rattle.verse_tree.specs.declared.tables.Names.{Names}
 use Rattle.verse_rules_walk.specs.Nodes.{Node}

@@ -2,7 +2,8 @@
 use Rattle.std.specs.Prelude.{List, [], ◌∷◌}
 use Rattle.verse_tree.specs.declared.tables.Ty.{Ty as Made, roll-Ty}
 use Rattle.verse_tree.specs.declared.tables.Ty.TheOpen as layer
-use Rattle.verse_rules_types.specs.Types.{Ty, Tys, never, nil, void, int, logic, char, enum, class, option, array, task, event, mapping, tuple}
+use Rattle.verse_rules_types.specs.Types.{Ty, Tys, never, nil, void, int, logic, char, enum, class}
+use Rattle.verse_rules_types.specs.Types.{option, array, task, event, mapping, tuple}
 use Rattle.verse_rules_types.specs.Types.{no_tys, more_tys}
 
 abbrev mutual

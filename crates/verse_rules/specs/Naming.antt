@@ -12,13 +12,24 @@ use Rattle.verse_names_scopes.specs.Visits.{ref_of, program_visits}
 use Rattle.verse_rules.specs.Made.{made}
 
 abbrev pub made_function : Function → FunInfo
-made_function f = record { params = map made f.params; result = made f.result; effects = f.effects; item = f.item }
+made_function f = record {
+  params = map made f.params;
+  result = made f.result;
+  effects = f.effects;
+  item = f.item;
+}
 
 abbrev pub made_field : Field → FieldInfo
 made_field f = record { ty = made f.ty; is_var = f.is_var; default = f.default }
 
 abbrev pub made_class : Class → ClassInfo
-made_class c = record { parent = c.parent; is_unique = c.is_unique; fields = map made_field c.fields; methods = c.methods }
+made_class c = record {
+  parent = c.parent;
+  is_unique = c.is_unique;
+  fields =
+      map made_field c.fields;
+  methods = c.methods;
+}
 
 -- what the names of a program stand for, and what each node refers to by a bare name
 abbrev pub named : List ItemTree → Names

@@ -17,7 +17,8 @@ use Rattle.verse_check.specs.Checking as types
 use Rattle.verse_effects.specs.Rules as effects
 use Rattle.verse_rules.specs.Naming.{named}
 
--- what the names of a program stand for, with what members behind a dot refer to: that is found by the types of their objects
+-- what the names of a program stand for, with what members behind a dot refer to: that is found by
+-- the types of their objects
 abbrev pub completed : List ItemTree → Names
 completed is = record (named is) { refs = (types.all_seen (named is) is).refs }
 
@@ -46,7 +47,8 @@ pub record IsSound (is : List ItemTree) : Type 0 where
   pub named : (n c : ℕ) → NamesBreak is n c → ⊥
   pub typed : (n c : ℕ) → BodiesBreak is n c → ⊥
 
--- a refusal is that of the least rule of names that is broken, or where none is, of types and effects
+-- a refusal is that of the least rule of names that is broken, or where none is, of types and
+-- effects
 abbrev pub IsUnsound : List ItemTree → Refusal → Type 0
 IsUnsound is r = IsMisnamed is r ⊎ (((n c : ℕ) → NamesBreak is n c → ⊥) × IsMistyped is r)
 
@@ -67,4 +69,5 @@ most_size = 16777216
 
 -- a program that is kept whole has this size
 abbrev pub SizesAgree : Type 0
-SizesAgree = (p : Program) → p.names ≡ completed (map item_of p.tree.items) → sizes.size_of p ≡ size_of (map item_of p.tree.items)
+SizesAgree = (p : Program) → p.names ≡ completed (map item_of p.tree.items) →
+    sizes.size_of p ≡ size_of (map item_of p.tree.items)

@@ -5,7 +5,8 @@ use Rattle.std.proofs.lemmas.Bool.Decides.{nat_tests}
 use mathlib.Core.Logic.{inl, inr}
 use Rattle.verse_base.specs.declared.places.Place.{Place}
 use Rattle.verse_rules_least.specs.declared.faults.Fault.{Fault}
-use Rattle.verse_rules_least.specs.Least.{each, fault_at, first, Above, InOrder, StandsAt, Placed, Reaches, Broken, here, later, Told, Finds}
+use Rattle.verse_rules_least.specs.Least.{each, fault_at, first, Above, InOrder, StandsAt, Placed, Reaches, Broken, here, later, Told}
+use Rattle.verse_rules_least.specs.Least.{Finds}
 use Rattle.verse_rules_least.specs.Least.{first_true, Holds, this, other, ascends_from, ascends}
 
 first_at : (n c : ℕ) (b : Bool) → (nat_le n c && b) ≡ true → n ≤ c

@@ -1,5 +1,6 @@
 -- The less of two faults, by (node, code), and what it is the least of.
-use Rattle.std.specs.Prelude.{ℕ, Bool, true, cond, ◌&&◌, nat_lt, nat_le, nat_eq, Option, Some, None, Result, Ok, Err}
+use Rattle.std.specs.Prelude.{ℕ, Bool, true, cond, ◌&&◌, nat_lt, nat_le, nat_eq, Option, Some, None}
+use Rattle.std.specs.Prelude.{Result, Ok, Err}
 use Rattle.verse_base.specs.declared.refusals.Front.{Front}
 use Rattle.verse_base.specs.declared.refusals.Front.TheVariants as front
 use Rattle.verse_rules_least.specs.declared.faults.Fault.{Fault}

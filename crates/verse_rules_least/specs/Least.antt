@@ -1,5 +1,7 @@
--- What is broken at the nodes of a list, and which of it is the least, for any kind of node and any state of a pass.
-use Rattle.std.specs.Prelude.{◌≡◌, ℕ, ◌<◌, ◌≤◌, ◌⊎◌, List, [], ◌∷◌, Option, Some, None, Bool, true, cond, ◌&&◌, nat_le}
+-- What is broken at the nodes of a list, and which of it is the least, for any kind of node and any
+-- state of a pass.
+use Rattle.std.specs.Prelude.{◌≡◌, ℕ, ◌<◌, ◌≤◌, ◌⊎◌, List, [], ◌∷◌, Option, Some, None, Bool, true}
+use Rattle.std.specs.Prelude.{cond, ◌&&◌, nat_le}
 use Rattle.verse_base.specs.declared.places.Place.{Place}
 use Rattle.verse_base.specs.declared.refusals.Refusal.{Refusal}
 use Rattle.verse_rules_least.specs.declared.faults.Fault.{Fault}
@@ -49,14 +51,18 @@ module _ {N : Type 0} (number : N → ℕ) (place : N → Place) where
 abbrev pub Reaches : Fault → ℕ → ℕ → Type 0
 Reaches f n c = (f.node < n) ⊎ ((f.node ≡ n) × (f.rule.0 ≤ c))
 
--- a pass over nodes: each node makes of what is known before it what is known behind it, and breaks rules by what is known before it
+-- a pass over nodes: each node makes of what is known before it what is known behind it, and breaks
+-- rules by what is known before it
 module _ {N S : Type 0} (number : N → ℕ) (step : N → S → S) (Breaks : N → S → ℕ → Type 0) where
-  -- one of the nodes has the number n and breaks the rule c, by what is known of the nodes before it
+  -- one of the nodes has the number n and breaks the rule c, by what is known of the nodes before
+  -- it
   pub data Broken : List N → S → ℕ → ℕ → Type 0 where
     here : {v : N} {vs : List N} {s : S} {c : ℕ} → Breaks v s c → Broken (v ∷ vs) s (number v) c
-    later : {v : N} {vs : List N} {s : S} {n c : ℕ} → Broken vs (step v s) n c → Broken (v ∷ vs) s n c
+    later : {v : N} {vs : List N} {s : S} {n c : ℕ} → Broken vs (step v s) n c →
+        Broken (v ∷ vs) s n c
 
-  -- the rule is broken at the node of a fault, and no other one at a lesser node, or at this one with a lesser code
+  -- the rule is broken at the node of a fault, and no other one at a lesser node, or at this one
+  -- with a lesser code
   pub record IsLeast (vs : List N) (s : S) (f : Fault) : Type 0 where
     pub broken : Broken vs s f.node f.rule.0
     pub least : (n c : ℕ) → Broken vs s n c → Reaches f n c

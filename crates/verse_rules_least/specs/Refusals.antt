@@ -19,4 +19,5 @@ pub record IsRefusedFor (P : ℕ → ℕ → Type 0) (at : ℕ → Option Place)
 
 -- in one program there is at most one such refusal
 abbrev pub RefusedOnce : Type 1
-RefusedOnce = (P : ℕ → ℕ → Type 0) (at : ℕ → Option Place) (r q : Refusal) → IsRefusedFor P at r → IsRefusedFor P at q → r ≡ q
+RefusedOnce = (P : ℕ → ℕ → Type 0) (at : ℕ → Option Place) (r q : Refusal) → IsRefusedFor P at r →
+    IsRefusedFor P at q → r ≡ q

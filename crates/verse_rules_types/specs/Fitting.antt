@@ -1,6 +1,8 @@
 -- Which types fit which, and what two types join to.
-use Rattle.std.specs.Prelude.{ℕ, zero, suc, Bool, true, false, cond, nat_eq, ◌&&◌, List, length, Option, Some, None, is_some, slice_get}
-use Rattle.verse_rules_types.specs.Types.{Ty, Tys, never, nil, void, int, logic, char, enum, class, option, array, task, event, mapping, tuple}
+use Rattle.std.specs.Prelude.{ℕ, zero, suc, Bool, true, false, cond, nat_eq, ◌&&◌, List, length}
+use Rattle.std.specs.Prelude.{Option, Some, None, is_some, slice_get}
+use Rattle.verse_rules_types.specs.Types.{Ty, Tys, never, nil, void, int, logic, char, enum, class}
+use Rattle.verse_rules_types.specs.Types.{option, array, task, event, mapping, tuple}
 use Rattle.verse_rules_types.specs.Types.{no_tys, more_tys, Class}
 
 abbrev pub parent_in : Option Class → Option ℕ
@@ -15,10 +17,12 @@ abbrev pub above : Option ℕ → (ℕ → Option ℕ) → Option ℕ
 above None f = None
 above (Some c) f = f c
 
--- the first of a class and its ancestors that passes a test, fewer than n steps up; as many steps as there are classes lead to all
+-- the first of a class and its ancestors that passes a test, fewer than n steps up; as many steps
+-- as there are classes lead to all
 abbrev pub first_above : List Class → (ℕ → Bool) → ℕ → ℕ → Option ℕ
 first_above cs test zero c = None
-first_above cs test (suc n) c = cond (test c) (Some c) (above (parent_of cs c) (first_above cs test n))
+first_above cs test (suc n) c =
+    cond (test c) (Some c) (above (parent_of cs c) (first_above cs test n))
 
 -- a class is another one or inherits from it
 abbrev pub inherits : List Class → ℕ → ℕ → Bool
@@ -125,14 +129,16 @@ abbrev mutual
   joined cs (option t) (option u) = option (pick cs t u (joined cs t u))
   joined cs (array t) (array u) = array (pick cs t u (joined cs t u))
   joined cs (task t) (task u) = task (pick cs t u (joined cs t u))
-  joined cs (mapping k t) (mapping l u) = mapping (pick cs k l (joined cs k l)) (pick cs t u (joined cs t u))
+  joined cs (mapping k t) (mapping l u) =
+      mapping (pick cs k l (joined cs k l)) (pick cs t u (joined cs t u))
   joined cs (tuple ts) (tuple us) = tuple_or_void (all_joined cs ts us)
   joined cs t u = void
 
   -- part by part, where they are as many
   pub all_joined : List Class → Tys → Tys → Option Tys
   all_joined cs no_tys no_tys = Some no_tys
-  all_joined cs (more_tys t ts) (more_tys u us) = one_more (pick cs t u (joined cs t u)) (all_joined cs ts us)
+  all_joined cs (more_tys t ts) (more_tys u us) =
+      one_more (pick cs t u (joined cs t u)) (all_joined cs ts us)
   all_joined cs ts us = None
 
 -- the least type that both fit

@@ -1,6 +1,8 @@
 -- Which types are keys of maps, which have equality, and how deep a type nests.
-use Rattle.std.specs.Prelude.{ℕ, suc, max, Bool, true, false, ◌&&◌, List, length, Option, Some, None, is_some, slice_get}
-use Rattle.verse_rules_types.specs.Types.{Ty, Tys, never, nil, int, logic, char, enum, class, option, array, task, event, mapping, tuple, no_tys}
+use Rattle.std.specs.Prelude.{ℕ, suc, max, Bool, true, false, ◌&&◌, List, length, Option, Some}
+use Rattle.std.specs.Prelude.{None, is_some, slice_get}
+use Rattle.verse_rules_types.specs.Types.{Ty, Tys, never, nil, int, logic, char, enum, class}
+use Rattle.verse_rules_types.specs.Types.{option, array, task, event, mapping, tuple, no_tys}
 use Rattle.verse_rules_types.specs.Types.{more_tys, Class}
 use Rattle.verse_rules_types.specs.Fitting.{first_above}
 

@@ -76,7 +76,12 @@ abbrev pub field_of : FieldInfo → Field
 field_of f = record { ty = ty_of f.ty; is_var = f.is_var; default = f.default }
 
 abbrev pub class_of : ClassInfo → Class
-class_of c = record { parent = c.parent; is_unique = c.is_unique; fields = map field_of c.fields; methods = c.methods }
+class_of c = record {
+  parent = c.parent;
+  is_unique = c.is_unique;
+  fields = map field_of c.fields;
+  methods = c.methods;
+}
 
 abbrev pub classes_of : List ClassInfo → List Class
 classes_of cs = map class_of cs

@@ -14,12 +14,15 @@ use Rattle.verse_tree.specs.PostOrder.{item_order, items_order}
 use Rattle.verse_tree.specs.PostOrder as plain
 use Rattle.verse_tree.proofs.Order.{items_in_order}
 use Rattle.verse_rules_least.proofs.Ordered.{in_order}
-use Rattle.verse_rules_walk.specs.Around.{Around, value, callee, object, target, spawned, argument, outside, default_around, used_as, freely}
+use Rattle.verse_rules_walk.specs.Around.{Around, value, callee, object, target, spawned, argument, outside, default_around, used_as}
+use Rattle.verse_rules_walk.specs.Around.{freely}
 use Rattle.verse_rules_walk.specs.Around.{caught, looped, repeated, armed, deferred, left_of}
 use Rattle.verse_rules_walk.specs.Around.{indexed}
-use Rattle.verse_rules_walk.specs.Nodes.{Node, number_of, alone, node, number_of_tree, written_nodes, writtens_nodes, tree_nodes, shape_nodes}
+use Rattle.verse_rules_walk.specs.Nodes.{Node, number_of, alone, node, number_of_tree, written_nodes, writtens_nodes, tree_nodes}
+use Rattle.verse_rules_walk.specs.Nodes.{shape_nodes}
 use Rattle.verse_rules_walk.specs.Nodes.{trees_nodes, argument_nodes, holes_nodes, pairs_nodes, givens_nodes, param_node, params_nodes}
-use Rattle.verse_rules_walk.specs.Nodes.{round_body, fun_nodes, default_nodes, field_nodes, member_node, member_parts, members_nodes, item_node}
+use Rattle.verse_rules_walk.specs.Nodes.{round_body, fun_nodes, default_nodes, field_nodes, member_node, member_parts, members_nodes}
+use Rattle.verse_rules_walk.specs.Nodes.{item_node}
 use Rattle.verse_rules_walk.specs.Nodes.{item_parts, items_nodes}
 use Rattle.verse_rules_walk.specs.Order.{InPostOrder, NumbersInRow, NumbersRise}
 

@@ -8,12 +8,15 @@ use Rattle.verse_tree.specs.ItemTree.{FieldTree, ParamTree, FunTree, MemberTree,
 use Rattle.verse_tree.specs.ItemTree.{function}
 use Rattle.verse_tree.specs.PostOrder.{expression}
 use Rattle.verse_rules_least.specs.Least.{each}
-use Rattle.verse_rules_walk.specs.Around.{Around, value, callee, object, target, spawned, argument, outside, default_around, used_as, freely}
+use Rattle.verse_rules_walk.specs.Around.{Around, value, callee, object, target, spawned, argument, outside, default_around, used_as}
+use Rattle.verse_rules_walk.specs.Around.{freely}
 use Rattle.verse_rules_walk.specs.Around.{caught, looped, repeated, armed, deferred, left_of}
 use Rattle.verse_rules_walk.specs.Around.{indexed}
 use Rattle.verse_rules_walk.specs.Nodes.{Node, node, number_of_tree, written_nodes, writtens_nodes, tree_nodes, shape_nodes, trees_nodes}
-use Rattle.verse_rules_walk.specs.Nodes.{argument_nodes, holes_nodes, pairs_nodes, givens_nodes, param_node, params_nodes, round_body, fun_nodes}
-use Rattle.verse_rules_walk.specs.Nodes.{default_nodes, field_nodes, member_node, member_parts, members_nodes, item_node, item_parts, items_nodes}
+use Rattle.verse_rules_walk.specs.Nodes.{argument_nodes, holes_nodes, pairs_nodes, givens_nodes, param_node, params_nodes, round_body}
+use Rattle.verse_rules_walk.specs.Nodes.{fun_nodes}
+use Rattle.verse_rules_walk.specs.Nodes.{default_nodes, field_nodes, member_node, member_parts, members_nodes, item_node, item_parts}
+use Rattle.verse_rules_walk.specs.Nodes.{items_nodes}
 use Rattle.verse_rules_walk.specs.Through.{through_written, through_writtens, through, through_shape, through_trees, through_arguments}
 use Rattle.verse_rules_walk.specs.Through.{through_holes, through_pairs, through_givens, through_param, through_params, through_fun}
 use Rattle.verse_rules_walk.specs.Through.{through_default, through_field, through_member_parts, through_member, through_members}

@@ -43,11 +43,13 @@ pub record Around : Type 0 where
   pub is_tried : Bool
   -- a `defer` stands round the node
   pub is_deferred : Bool
-  -- `return` would leave no failure context but the body of a `decides` function, no arm, branch or `defer`
+  -- `return` would leave no failure context but the body of a `decides` function, no arm, branch or
+  -- `defer`
   pub may_return : Bool
   -- nor would `break`, which leaves the innermost `loop`
   pub may_break : Bool
-  -- of function body, arm, branch, body of `loop` and body of `for` the innermost is one of the last two
+  -- of function body, arm, branch, body of `loop` and body of `for` the innermost is one of the
+  -- last two
   pub repeats : Bool
 
 abbrev pub no_effects : Effects
@@ -81,7 +83,12 @@ body_around number effects result = record outside {
 abbrev pub default_around : Written → Around
 default_around ty = record outside {
   used = value ty;
-  owner = record { function = None; effects = record no_effects { transacts = true }; result = None };
+  owner = record {
+    function = None;
+    effects = record no_effects { transacts = true };
+    result =
+        None;
+  };
 }
 
 -- round a part that is used in this way
@@ -93,7 +100,13 @@ freely = used_as free
 
 -- round a part that is a failure context
 abbrev pub caught : Around → Around
-caught w = record w { used = free; is_caught = true; is_tried = true; may_return = false; may_break = false }
+caught w = record w {
+  used = free;
+  is_caught = true;
+  is_tried = true;
+  may_return = false;
+  may_break = false;
+}
 
 -- round the body of the `loop` with this number
 abbrev pub looped : ℕ → Around → Around
@@ -109,7 +122,13 @@ armed w = record w { used = free; may_return = false; may_break = false; repeats
 
 -- round the block of a `defer`
 abbrev pub deferred : Around → Around
-deferred w = record w { used = free; is_caught = false; is_deferred = true; may_return = false; may_break = false }
+deferred w = record w {
+  used = free;
+  is_caught = false;
+  is_deferred = true;
+  may_return = false;
+  may_break = false;
+}
 
 -- round the left operand of a chain: that of `or` is a failure context
 abbrev pub left_of : Operator → Around → Around

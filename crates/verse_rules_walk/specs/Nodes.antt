@@ -1,16 +1,21 @@
 -- The nodes of a program in written post-order, each with what stands round it.
 use Rattle.std.specs.Prelude.{ℕ, ◌+◌, List, [], ◌∷◌, ◌++◌, Option, Some, None}
 use Rattle.verse_base.specs.declared.places.Place.{Place}
-use Rattle.verse_tree.specs.Tree.{Bytes, Written, Writtens, no_writtens, more_writtens, Tree, tree, Shape, Trees, no_trees, more_trees}
-use Rattle.verse_tree.specs.Tree.{Holes, no_holes, more_holes, Pairs, no_pairs, more_pairs, Givens, no_givens, more_givens}
+use Rattle.verse_tree.specs.Tree.{Bytes, Written, Writtens, no_writtens, more_writtens, Tree, tree}
+use Rattle.verse_tree.specs.Tree.{Shape, Trees, no_trees, more_trees}
+use Rattle.verse_tree.specs.Tree.{Holes, no_holes, more_holes, Pairs, no_pairs, more_pairs, Givens}
+use Rattle.verse_tree.specs.Tree.{no_givens, more_givens}
 use Rattle.verse_tree.specs.Tree as t
-use Rattle.verse_tree.specs.ItemTree.{FieldTree, ParamTree, FunTree, MemberTree, field, method, ItemTree, using, enumeration, class}
+use Rattle.verse_tree.specs.ItemTree.{FieldTree, ParamTree, FunTree, MemberTree, field, method}
+use Rattle.verse_tree.specs.ItemTree.{ItemTree, using, enumeration, class}
 use Rattle.verse_tree.specs.ItemTree.{function}
 use Rattle.verse_tree.specs.PostOrder.{What, item, member, parameter, type_name, expression}
 use Rattle.verse_tree.specs.PostOrder as plain
 use Rattle.verse_rules_walk.specs.Specifiers.{written_effects}
-use Rattle.verse_rules_walk.specs.Around.{Around, value, callee, object, target, spawned, argument, outside, body_around, default_around, used_as}
-use Rattle.verse_rules_walk.specs.Around.{freely, caught, looped, repeated, armed, deferred, left_of, indexed}
+use Rattle.verse_rules_walk.specs.Around.{Around, value, callee, object, target, spawned, argument}
+use Rattle.verse_rules_walk.specs.Around.{outside, body_around, default_around, used_as}
+use Rattle.verse_rules_walk.specs.Around.{freely, caught, looped, repeated, armed, deferred}
+use Rattle.verse_rules_walk.specs.Around.{left_of, indexed}
 
 pub record Node : Type 0 where
   pub number : ℕ
@@ -67,19 +72,24 @@ abbrev mutual
   shape_nodes n w (t.Shape.defer a) = tree_nodes (deferred w) a
   shape_nodes n w (t.Shape.definition x a) = tree_nodes (freely w) a
   shape_nodes n w (t.Shape.typed x ty a) = written_nodes w ty ++ tree_nodes (used_as (value ty) w) a
-  shape_nodes n w (t.Shape.variable x ty a) = written_nodes w ty ++ tree_nodes (used_as (value ty) w) a
-  shape_nodes n w (t.Shape.assignment m a b) = tree_nodes (used_as target w) a ++ tree_nodes (freely w) b
+  shape_nodes n w (t.Shape.variable x ty a) =
+      written_nodes w ty ++ tree_nodes (used_as (value ty) w) a
+  shape_nodes n w (t.Shape.assignment m a b) =
+      tree_nodes (used_as target w) a ++ tree_nodes (freely w) b
   shape_nodes n w (t.Shape.returned a) = tree_nodes (freely w) a
   shape_nodes n w t.Shape.returned_unit = []
   shape_nodes n w t.Shape.break_form = []
-  shape_nodes n w (t.Shape.if_else ts a b) = trees_nodes (caught w) ts ++ tree_nodes (freely w) a ++ tree_nodes (freely w) b
+  shape_nodes n w (t.Shape.if_else ts a b) =
+      trees_nodes (caught w) ts ++ tree_nodes (freely w) a ++ tree_nodes (freely w) b
   shape_nodes n w (t.Shape.if_alone ts a) = trees_nodes (caught w) ts ++ tree_nodes (freely w) a
   shape_nodes n w (t.Shape.chained x a b) = tree_nodes (left_of x w) a ++ tree_nodes (freely w) b
   shape_nodes n w (t.Shape.compared x a b) = tree_nodes (freely w) a ++ tree_nodes (freely w) b
   shape_nodes n w (t.Shape.negation a) = tree_nodes (caught w) a
   shape_nodes n w (t.Shape.minus a) = tree_nodes (freely w) a
-  shape_nodes n w (t.Shape.call a ts) = tree_nodes (used_as callee w) a ++ argument_nodes w (number_of_tree a) 0 ts
-  shape_nodes n w (t.Shape.index a ts) = tree_nodes (indexed w) a ++ argument_nodes w (number_of_tree a) 0 ts
+  shape_nodes n w (t.Shape.call a ts) =
+      tree_nodes (used_as callee w) a ++ argument_nodes w (number_of_tree a) 0 ts
+  shape_nodes n w (t.Shape.index a ts) =
+      tree_nodes (indexed w) a ++ argument_nodes w (number_of_tree a) 0 ts
   shape_nodes n w (t.Shape.member a x) = tree_nodes (used_as object w) a
   shape_nodes n w (t.Shape.query a) = tree_nodes (freely w) a
   shape_nodes n w (t.Shape.integer x) = []
@@ -129,7 +139,8 @@ abbrev mutual
   -- the arguments for the callee with the number f, from the place i on
   pub argument_nodes : Around → ℕ → ℕ → Trees → List Node
   argument_nodes w f i no_trees = []
-  argument_nodes w f i (more_trees e es) = tree_nodes (used_as (argument f i) w) e ++ argument_nodes w f (i + 1) es
+  argument_nodes w f i (more_trees e es) =
+      tree_nodes (used_as (argument f i) w) e ++ argument_nodes w f (i + 1) es
 
   pub holes_nodes : Around → Holes → List Node
   holes_nodes w no_holes = []
@@ -155,7 +166,8 @@ abbrev pub round_body : FunTree → Around
 round_body f = body_around f.number (written_effects f.effects) f.written
 
 abbrev pub fun_nodes : FunTree → List Node
-fun_nodes f = params_nodes f.params ++ written_nodes outside f.written ++ tree_nodes (round_body f) f.body
+fun_nodes f = params_nodes f.params ++ written_nodes outside f.written ++
+    tree_nodes (round_body f) f.body
 
 abbrev pub default_nodes : Written → Option Tree → List Node
 default_nodes ty None = []

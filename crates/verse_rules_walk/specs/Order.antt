@@ -17,7 +17,8 @@ AreNumbered is = (written : List ItemTree) × (is ≡ items_numbered written 0)
 
 -- in such a program the first node has the number 0, and each other one the next number
 abbrev pub NumbersInRow : Type 0
-NumbersInRow = (is : List ItemTree) → AreNumbered is → map number_of (items_nodes is) ≡ range_with_len 0 (length (items_nodes is))
+NumbersInRow = (is : List ItemTree) → AreNumbered is →
+    map number_of (items_nodes is) ≡ range_with_len 0 (length (items_nodes is))
 
 -- so the numbers rise from node to node
 abbrev pub NumbersRise : Type 0

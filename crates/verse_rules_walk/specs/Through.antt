@@ -1,15 +1,21 @@
--- What a step at each node in turn makes of a state: the recursion of Nodes with a state in the place of the list.
+-- What a step at each node in turn makes of a state: the recursion of Nodes with a state in the
+-- place of the list.
 use Rattle.std.specs.Prelude.{ℕ, ◌+◌, List, [], ◌∷◌, Option, Some, None}
-use Rattle.verse_tree.specs.Tree.{Bytes, Written, Writtens, no_writtens, more_writtens, Tree, tree, Shape, Trees, no_trees, more_trees}
-use Rattle.verse_tree.specs.Tree.{Holes, no_holes, more_holes, Pairs, no_pairs, more_pairs, Givens, no_givens, more_givens}
+use Rattle.verse_tree.specs.Tree.{Bytes, Written, Writtens, no_writtens, more_writtens, Tree, tree}
+use Rattle.verse_tree.specs.Tree.{Shape, Trees, no_trees, more_trees}
+use Rattle.verse_tree.specs.Tree.{Holes, no_holes, more_holes, Pairs, no_pairs, more_pairs, Givens}
+use Rattle.verse_tree.specs.Tree.{no_givens, more_givens}
 use Rattle.verse_tree.specs.Tree as t
-use Rattle.verse_tree.specs.ItemTree.{FieldTree, ParamTree, FunTree, MemberTree, field, method, ItemTree, using, enumeration, class}
+use Rattle.verse_tree.specs.ItemTree.{FieldTree, ParamTree, FunTree, MemberTree, field, method}
+use Rattle.verse_tree.specs.ItemTree.{ItemTree, using, enumeration, class}
 use Rattle.verse_tree.specs.ItemTree.{function}
 use Rattle.verse_tree.specs.PostOrder.{type_name, expression}
-use Rattle.verse_rules_walk.specs.Around.{Around, value, callee, object, target, spawned, argument, outside, default_around, used_as, freely}
+use Rattle.verse_rules_walk.specs.Around.{Around, value, callee, object, target, spawned, argument}
+use Rattle.verse_rules_walk.specs.Around.{outside, default_around, used_as, freely}
 use Rattle.verse_rules_walk.specs.Around.{caught, looped, repeated, armed, deferred, left_of}
 use Rattle.verse_rules_walk.specs.Around.{indexed}
-use Rattle.verse_rules_walk.specs.Nodes.{Node, node, number_of_tree, round_body, param_node, member_node, item_node}
+use Rattle.verse_rules_walk.specs.Nodes.{Node, node, number_of_tree, round_body, param_node}
+use Rattle.verse_rules_walk.specs.Nodes.{member_node, item_node}
 
 module _ {S : Type 0} (step : Node → S → S) where
   abbrev mutual
@@ -40,20 +46,27 @@ module _ {S : Type 0} (step : Node → S → S) where
     through_shape n w (t.Shape.block ts) s = through_trees (freely w) ts s
     through_shape n w (t.Shape.defer a) s = through (deferred w) a s
     through_shape n w (t.Shape.definition x a) s = through (freely w) a s
-    through_shape n w (t.Shape.typed x ty a) s = through (used_as (value ty) w) a (through_written w ty s)
-    through_shape n w (t.Shape.variable x ty a) s = through (used_as (value ty) w) a (through_written w ty s)
-    through_shape n w (t.Shape.assignment m a b) s = through (freely w) b (through (used_as target w) a s)
+    through_shape n w (t.Shape.typed x ty a) s =
+        through (used_as (value ty) w) a (through_written w ty s)
+    through_shape n w (t.Shape.variable x ty a) s =
+        through (used_as (value ty) w) a (through_written w ty s)
+    through_shape n w (t.Shape.assignment m a b) s =
+        through (freely w) b (through (used_as target w) a s)
     through_shape n w (t.Shape.returned a) s = through (freely w) a s
     through_shape n w t.Shape.returned_unit s = s
     through_shape n w t.Shape.break_form s = s
-    through_shape n w (t.Shape.if_else ts a b) s = through (freely w) b (through (freely w) a (through_trees (caught w) ts s))
-    through_shape n w (t.Shape.if_alone ts a) s = through (freely w) a (through_trees (caught w) ts s)
+    through_shape n w (t.Shape.if_else ts a b) s =
+        through (freely w) b (through (freely w) a (through_trees (caught w) ts s))
+    through_shape n w (t.Shape.if_alone ts a) s =
+        through (freely w) a (through_trees (caught w) ts s)
     through_shape n w (t.Shape.chained x a b) s = through (freely w) b (through (left_of x w) a s)
     through_shape n w (t.Shape.compared x a b) s = through (freely w) b (through (freely w) a s)
     through_shape n w (t.Shape.negation a) s = through (caught w) a s
     through_shape n w (t.Shape.minus a) s = through (freely w) a s
-    through_shape n w (t.Shape.call a ts) s = through_arguments w (number_of_tree a) 0 ts (through (used_as callee w) a s)
-    through_shape n w (t.Shape.index a ts) s = through_arguments w (number_of_tree a) 0 ts (through (indexed w) a s)
+    through_shape n w (t.Shape.call a ts) s =
+        through_arguments w (number_of_tree a) 0 ts (through (used_as callee w) a s)
+    through_shape n w (t.Shape.index a ts) s =
+        through_arguments w (number_of_tree a) 0 ts (through (indexed w) a s)
     through_shape n w (t.Shape.member a x) s = through (used_as object w) a s
     through_shape n w (t.Shape.query a) s = through (freely w) a s
     through_shape n w (t.Shape.integer x) s = s
@@ -72,7 +85,8 @@ module _ {S : Type 0} (step : Node → S → S) where
     through_shape n w (t.Shape.instance x gs) s = through_givens (freely w) gs s
     through_shape n w (t.Shape.event ty) s = through_written w ty s
     through_shape n w t.Shape.bare_event s = s
-    through_shape n w (t.Shape.for_form ts a) s = through (repeated w) a (through_trees (caught w) ts s)
+    through_shape n w (t.Shape.for_form ts a) s =
+        through (repeated w) a (through_trees (caught w) ts s)
     through_shape n w (t.Shape.loop_form a) s = through (looped n w) a s
     through_shape n w (t.Shape.block_form a) s = through (freely w) a s
     through_shape n w (t.Shape.branch a) s = through (armed w) a s
@@ -102,7 +116,8 @@ module _ {S : Type 0} (step : Node → S → S) where
 
     pub through_arguments : Around → ℕ → ℕ → Trees → S → S
     through_arguments w f i no_trees s = s
-    through_arguments w f i (more_trees e es) s = through_arguments w f (i + 1) es (through (used_as (argument f i) w) e s)
+    through_arguments w f i (more_trees e es) s =
+        through_arguments w f (i + 1) es (through (used_as (argument f i) w) e s)
 
     pub through_holes : Around → Holes → S → S
     through_holes w no_holes s = s
@@ -124,7 +139,8 @@ module _ {S : Type 0} (step : Node → S → S) where
   through_params (p ∷ ps) s = through_params ps (through_param p s)
 
   abbrev pub through_fun : FunTree → S → S
-  through_fun f s = through (round_body f) f.body (through_written outside f.written (through_params f.params s))
+  through_fun f s = through (round_body f) f.body
+      (through_written outside f.written (through_params f.params s))
 
   abbrev pub through_default : Written → Option Tree → S → S
   through_default ty None s = s

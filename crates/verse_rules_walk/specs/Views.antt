@@ -24,7 +24,12 @@ abbrev pub now_written : Bor TyExpr → Written
 now_written ty = written_of ty.now
 
 abbrev pub owner_of : Owner → w.Owner
-owner_of o = record { function = o.function; effects = o.effects; result = option_map now_written o.result }
+owner_of o = record {
+  function = o.function;
+  effects = o.effects;
+  result =
+      option_map now_written o.result;
+}
 
 abbrev pub around_of : Around → w.Around
 around_of a = record {

@@ -49,7 +49,8 @@ module _ (up : ℕ → Option ℕ) where
 
     pub data FitAll : Sorts → Sorts → Type 0 where
       fit_none : FitAll no_sorts no_sorts
-      fit_more : {s t : Sort} {ss ts : Sorts} → Fits s t → FitAll ss ts → FitAll (more_sorts s ss) (more_sorts t ts)
+      fit_more : {s t : Sort} {ss ts : Sorts} → Fits s t → FitAll ss ts →
+          FitAll (more_sorts s ss) (more_sorts t ts)
 
 -- sorts of keys
 pub data IsKey : Sort → Type 0 where

@@ -7,7 +7,8 @@ use Rattle.verse_sorts_types.specs.SortOf.{sort_of}
 
 -- a type that fits another one has a sort that fits the other's
 abbrev pub TypesFit : Type 0
-TypesFit = (cs : List Class) (a b : Ty) → fits cs a b ≡ true → Fits (parent_of cs) (sort_of a) (sort_of b)
+TypesFit = (cs : List Class) (a b : Ty) → fits cs a b ≡ true →
+    Fits (parent_of cs) (sort_of a) (sort_of b)
 
 -- two types fit what they join to
 abbrev pub TypesJoin : Type 0

@@ -1,4 +1,5 @@
--- What an operation comes to, where it is not stuck: a value of which R holds, a failure where F, an error where E.
+-- What an operation comes to, where it is not stuck: a value of which R holds, a failure where F,
+-- an error where E.
 use Rattle.std.specs.Prelude.{ℕ, Option}
 use Rattle.verse_base.specs.declared.refusals.Kind.{Kind}
 use Rattle.verse_value.specs.Val.{Val}

@@ -47,7 +47,8 @@ pub data Indexed : Sort → Sort → Sort → Type 0 where
 -- and several, from the left
 pub data Path : Sort → List Sort → Sort → Type 0 where
   path_no : {q : Sort} → Path q [] q
-  path_so : {q i : Sort} (r : Sort) {d : Sort} {is : List Sort} → Indexed q i r → Path r is d → Path q (i ∷ is) d
+  path_so : {q i : Sort} (r : Sort) {d : Sort} {is : List Sort} → Indexed q i r → Path r is d →
+      Path q (i ∷ is) d
 
 -- a value of the first sort goes to a place of the second; what is written there is of the third
 pub data Writes (up : ℕ → Option ℕ) : Mode → Sort → Sort → Sort → Type 0 where

@@ -1,7 +1,8 @@
 -- What the checker has found of a tree, form by form.
 use Rattle.std.specs.Prelude.{◌≡◌, ℕ, List, [], ◌∷◌, ◌++◌, Option, Some, None, Bool, true, false}
 use Rattle.verse_base.specs.declared.places.Place.{Place}
-use Rattle.verse_tree.specs.Tree.{Bytes, Tree, tree, Shape, Trees, no_trees, more_trees, Holes, no_holes, more_holes, Givens, no_givens}
+use Rattle.verse_tree.specs.Tree.{Bytes, Tree, tree, Shape, Trees, no_trees, more_trees, Holes}
+use Rattle.verse_tree.specs.Tree.{no_holes, more_holes, Givens, no_givens}
 use Rattle.verse_tree.specs.Tree.{more_givens}
 use Rattle.verse_tree.specs.Tree as t
 use Rattle.verse_tree.specs.declared.exprs.Operator.TheVariants as op
@@ -12,9 +13,12 @@ use Rattle.verse_sorts.specs.Sorts as s
 use Rattle.verse_sorts.specs.Sorts.{Sort, Fits}
 use Rattle.verse_meaning.specs.Programs.{Program, ref_at, pieces, given_names}
 use Rattle.verse_meaning.specs.Residuals as form
-use Rattle.verse_meaning.specs.Residuals.{Form, Binder, no_name, a_constant, a_variable, Generator, of_elements, of_entries, of_range}
-use Rattle.verse_meaning.specs.Evaluating.{Callee, alone, of_object, of_value, of_quotient, no_callee, callee_of, spawned_callee, picked}
-use Rattle.verse_meaning.specs.Evaluating.{Statement, plain, defines, defers, generates, statement_of, member_form, enum_member}
+use Rattle.verse_meaning.specs.Residuals.{Form, Binder, no_name, a_constant, a_variable, Generator}
+use Rattle.verse_meaning.specs.Residuals.{of_elements, of_entries, of_range}
+use Rattle.verse_meaning.specs.Evaluating.{Callee, alone, of_object, of_value, of_quotient}
+use Rattle.verse_meaning.specs.Evaluating.{no_callee, callee_of, spawned_callee, picked}
+use Rattle.verse_meaning.specs.Evaluating.{Statement, plain, defines, defers, generates}
+use Rattle.verse_meaning.specs.Evaluating.{statement_of, member_form, enum_member}
 use Rattle.verse_meaning.specs.Evaluating.{class_ref, base_of, mode_of, number_of}
 use Rattle.verse_sound_rules.specs.Found.{Found, Allowed, tried, armed, deferred, looped, New}
 use Rattle.verse_sorts_values.specs.Operands.{sorts}
@@ -44,14 +48,16 @@ abbrev pub seen_after : Trees → Table → Table
 seen_after no_trees xs = xs
 seen_after (more_trees b ts) xs = seen_after ts (seen_behind b xs)
 
--- what a `for` takes from a domain of the first sort: its elements or values, and their indices or keys
+-- what a `for` takes from a domain of the first sort: its elements or values, and their indices or
+-- keys
 pub data Domain : Sort → Sort → Sort → Type 0 where
   domain_list : {q : Sort} → Domain (s.list q) q s.int
   domain_map : {k q : Sort} → Domain (s.map k q) q k
   domain_never : {q i : Sort} → Domain s.never q i
 
 -- by what a callee stands for
-abbrev pub on_callee : Callee → (Form → Type 0) → (Form → Type 0) → (Form → Type 0) → (Form → Type 0) → Type 0
+abbrev pub on_callee : Callee → (Form → Type 0) → (Form → Type 0) → (Form → Type 0) →
+    (Form → Type 0) → Type 0
 on_callee (alone x) by_none by_object by_value by_quotient = by_none x
 on_callee (of_object x) by_none by_object by_value by_quotient = by_object x
 on_callee (of_value x) by_none by_object by_value by_quotient = by_value x
@@ -59,7 +65,8 @@ on_callee (of_quotient x) by_none by_object by_value by_quotient = by_quotient x
 on_callee no_callee by_none by_object by_value by_quotient = ⊥
 
 -- by what a statement is
-abbrev pub on_statement : Statement → Type 0 → (Binder → Type 0) → (Tree → Type 0) → (Generator → Type 0) → Type 0
+abbrev pub on_statement : Statement → Type 0 → (Binder → Type 0) → (Tree → Type 0) →
+    (Generator → Type 0) → Type 0
 on_statement plain as_plain by_binder by_block by_generator = as_plain
 on_statement (defines y) as_plain by_binder by_block by_generator = by_binder y
 on_statement (defers b) as_plain by_binder by_block by_generator = by_block b
@@ -150,11 +157,14 @@ module _ (p : Program) (f : Found) where
 
   -- a generator, whose domain is of this sort
   pub data Generates (n : ℕ) (xs : Table) (domain : Sort) : Generator → Type 0 where
-    takes_elements : {x : Bytes} → New x xs → f.is_var n ≡ false → TakesFrom domain (f.sort n) → Generates n xs domain (of_elements x)
-    takes_entries : {k x : Bytes} → New k xs → New x (xs ++ (k, ref.Key n) ∷ []) → f.is_var n ≡ false →
-        (from : TakesFrom domain (f.sort n)) → Fits f.up from.index (f.key n) → Generates n xs domain (of_entries k x)
-    takes_range : {x : Bytes} → New x xs → f.is_var n ≡ false → Fits f.up domain (s.tuple (sorts (s.int ∷ s.int ∷ []))) →
-        Fits f.up s.int (f.sort n) → Generates n xs domain (of_range x)
+    takes_elements : {x : Bytes} → New x xs → f.is_var n ≡ false → TakesFrom domain (f.sort n) →
+        Generates n xs domain (of_elements x)
+    takes_entries : {k x : Bytes} → New k xs → New x (xs ++ (k, ref.Key n) ∷ []) →
+        f.is_var n ≡ false → (from : TakesFrom domain (f.sort n)) → Fits f.up from.index (f.key n) →
+        Generates n xs domain (of_entries k x)
+    takes_range : {x : Bytes} → New x xs → f.is_var n ≡ false →
+        Fits f.up domain (s.tuple (sorts (s.int ∷ s.int ∷ []))) → Fits f.up s.int (f.sort n) →
+        Generates n xs domain (of_range x)
 
   abbrev mutual
     -- a tree, where these names are visible
@@ -163,80 +173,104 @@ module _ (p : Program) (f : Found) where
 
     pub FineShape : Allowed → Table → ℕ → Place → Shape → Type 0
     -- blocks and statements
-    FineShape a xs n pl (t.Shape.block ts) = FineAll true a xs ts × Fits f.up (last_sort s.any ts) (f.sort n)
-    FineShape a xs n pl (t.Shape.definition x b) = Fine a xs b × Gives p f a xs form.defining (sort_at b ∷ []) (f.sort n)
-    FineShape a xs n pl (t.Shape.typed x w b) = Fine a xs b × Gives p f a xs form.defining (sort_at b ∷ []) (f.sort n)
-    FineShape a xs n pl (t.Shape.variable x w b) = Fine a xs b × Gives p f a xs (form.varying pl) (sort_at b ∷ []) (f.sort n)
+    FineShape a xs n pl (t.Shape.block ts) = FineAll true a xs ts ×
+        Fits f.up (last_sort s.any ts) (f.sort n)
+    FineShape a xs n pl (t.Shape.definition x b) = Fine a xs b ×
+        Gives p f a xs form.defining (sort_at b ∷ []) (f.sort n)
+    FineShape a xs n pl (t.Shape.typed x w b) = Fine a xs b ×
+        Gives p f a xs form.defining (sort_at b ∷ []) (f.sort n)
+    FineShape a xs n pl (t.Shape.variable x w b) = Fine a xs b ×
+        Gives p f a xs (form.varying pl) (sort_at b ∷ []) (f.sort n)
     FineShape a xs n pl (t.Shape.assignment m b d) = FineTarget a xs b × Fine a xs d ×
-        Gives p f a xs (form.storing (base_of p b) (mode_of m) pl) (target_sorts b ++ sort_at d ∷ []) (f.sort n)
-    FineShape a xs n pl (t.Shape.returned b) = Fine a xs b × Gives p f a xs form.returning (sort_at b ∷ []) (f.sort n)
-    FineShape a xs n pl t.Shape.returned_unit = (r : Sort) × (a.result ≡ Some r) × Fits f.up s.unit r
+        Gives p f a xs (form.storing (base_of p b) (mode_of m) pl)
+        (target_sorts b ++ sort_at d ∷ []) (f.sort n)
+    FineShape a xs n pl (t.Shape.returned b) = Fine a xs b ×
+        Gives p f a xs form.returning (sort_at b ∷ []) (f.sort n)
+    FineShape a xs n pl t.Shape.returned_unit = (r : Sort) × (a.result ≡ Some r) ×
+        Fits f.up s.unit r
     FineShape a xs n pl t.Shape.break_form = a.breaks ≡ true
     -- failure contexts
-    FineShape a xs n pl (t.Shape.if_else ts b d) = FineAll false (tried a) xs ts × Fine a (seen_after ts xs) b × Fine a xs d ×
-        Fits f.up (sort_at b) (f.sort n) × Fits f.up (sort_at d) (f.sort n)
-    FineShape a xs n pl (t.Shape.if_alone ts b) = FineAll false (tried a) xs ts × Fine a (seen_after ts xs) b ×
-        Fits f.up (sort_at b) (f.sort n) × Fits f.up s.unit (f.sort n)
-    FineShape a xs n pl (t.Shape.negation b) = Fine (tried a) xs b × (a.fails ≡ true) × Fits f.up s.unit (f.sort n)
-    FineShape a xs n pl (t.Shape.option ts) = FineAll false (tried a) xs ts × Fits f.up (s.opt (last_sort s.any ts)) (f.sort n)
-    FineShape a xs n pl (t.Shape.logic ts) = FineAll false (tried a) xs ts × Fits f.up s.logic (f.sort n)
-    FineShape a xs n pl (t.Shape.chained op.Or b d) = Fine (tried a) xs b × Fine a xs d × Fits f.up (sort_at b) (f.sort n) ×
+    FineShape a xs n pl (t.Shape.if_else ts b d) = FineAll false (tried a) xs ts ×
+        Fine a (seen_after ts xs) b × Fine a xs d × Fits f.up (sort_at b) (f.sort n) ×
         Fits f.up (sort_at d) (f.sort n)
-    FineShape a xs n pl (t.Shape.for_form ts b) = FineClauses (tried a) xs ts × Fine a (seen_after ts xs) b ×
-        Fits f.up (s.list (sort_at b)) (f.sort n)
+    FineShape a xs n pl (t.Shape.if_alone ts b) = FineAll false (tried a) xs ts ×
+        Fine a (seen_after ts xs) b × Fits f.up (sort_at b) (f.sort n) × Fits f.up s.unit (f.sort n)
+    FineShape a xs n pl (t.Shape.negation b) = Fine (tried a) xs b × (a.fails ≡ true) ×
+        Fits f.up s.unit (f.sort n)
+    FineShape a xs n pl (t.Shape.option ts) = FineAll false (tried a) xs ts ×
+        Fits f.up (s.opt (last_sort s.any ts)) (f.sort n)
+    FineShape a xs n pl (t.Shape.logic ts) = FineAll false (tried a) xs ts ×
+        Fits f.up s.logic (f.sort n)
+    FineShape a xs n pl (t.Shape.chained op.Or b d) = Fine (tried a) xs b × Fine a xs d ×
+        Fits f.up (sort_at b) (f.sort n) × Fits f.up (sort_at d) (f.sort n)
+    FineShape a xs n pl (t.Shape.for_form ts b) = FineClauses (tried a) xs ts ×
+        Fine a (seen_after ts xs) b × Fits f.up (s.list (sort_at b)) (f.sort n)
     -- operators
     FineShape a xs n pl (t.Shape.chained op.Div b d) = ⊥
     FineShape a xs n pl (t.Shape.chained o b d) = Fine a xs b × Fine a xs d ×
         Gives p f a xs (form.computing o (p.is_array n) pl) (sort_at b ∷ sort_at d ∷ []) (f.sort n)
     FineShape a xs n pl (t.Shape.compared o b d) = Fine a xs b × Fine a xs d ×
         Gives p f a xs (form.comparing o) (sort_at b ∷ sort_at d ∷ []) (f.sort n)
-    FineShape a xs n pl (t.Shape.minus b) = Fine a xs b × Gives p f a xs (form.negating pl) (sort_at b ∷ []) (f.sort n)
-    FineShape a xs n pl (t.Shape.query b) = Fine a xs b × Gives p f a xs form.querying (sort_at b ∷ []) (f.sort n)
+    FineShape a xs n pl (t.Shape.minus b) = Fine a xs b ×
+        Gives p f a xs (form.negating pl) (sort_at b ∷ []) (f.sort n)
+    FineShape a xs n pl (t.Shape.query b) = Fine a xs b ×
+        Gives p f a xs form.querying (sort_at b ∷ []) (f.sort n)
     -- members, calls, indices
-    FineShape a xs n pl (t.Shape.member b x) = on_member (enum_member p b x) (λ v. IsEnumValue (f.sort n) v)
+    FineShape a xs n pl (t.Shape.member b x) =
+        on_member (enum_member p b x) (λ v. IsEnumValue (f.sort n) v)
         (Fine a xs b × Gives p f a xs (member_form (ref_at p n) x) (sort_at b ∷ []) (f.sort n))
     FineShape a xs n pl (t.Shape.call b ts) = on_callee (callee_of p b (picked ts) pl)
         (λ x. FineTrees a xs ts × Gives p f a xs x (sorts_at ts) (f.sort n))
-        (λ x. FineObject a xs b × FineTrees a xs ts × Gives p f a xs x (object_sort b ∷ sorts_at ts) (f.sort n))
+        (λ x. FineObject a xs b × FineTrees a xs ts ×
+        Gives p f a xs x (object_sort b ∷ sorts_at ts) (f.sort n))
         (λ x. Fine a xs b × Gives p f a xs x (sort_at b ∷ []) (f.sort n))
         (λ x. FineQuotient a xs n x ts)
     FineShape a xs n pl (t.Shape.index b ts) = on_callee (callee_of p b form.indexing pl)
         (λ x. FineTrees a xs ts × Gives p f a xs x (sorts_at ts) (f.sort n))
-        (λ x. FineObject a xs b × FineTrees a xs ts × Gives p f a xs x (object_sort b ∷ sorts_at ts) (f.sort n))
-        (λ x. Fine a xs b × FineTrees a xs ts × Gives p f a xs x (sort_at b ∷ sorts_at ts) (f.sort n))
-        (λ x. FineQuotient a xs n x ts)
+        (λ x. FineObject a xs b × FineTrees a xs ts ×
+        Gives p f a xs x (object_sort b ∷ sorts_at ts) (f.sort n))
+        (λ x. Fine a xs b × FineTrees a xs ts ×
+        Gives p f a xs x (sort_at b ∷ sorts_at ts) (f.sort n)) (λ x. FineQuotient a xs n x ts)
     -- literals and names
     FineShape a xs n pl (t.Shape.integer z) = Fits f.up s.int (f.sort n)
     FineShape a xs n pl (t.Shape.character x) = Fits f.up s.char (f.sort n)
     FineShape a xs n pl (t.Shape.text x) = Fits f.up (s.list s.char) (f.sort n)
-    FineShape a xs n pl (t.Shape.holes x hs) = FineHoles a xs hs × Gives p f a xs (form.joining (x ∷ pieces hs) pl) (hole_sorts hs)
-        (f.sort n)
+    FineShape a xs n pl (t.Shape.holes x hs) = FineHoles a xs hs ×
+        Gives p f a xs (form.joining (x ∷ pieces hs) pl) (hole_sorts hs) (f.sort n)
     FineShape a xs n pl t.Shape.truth = Fits f.up s.logic (f.sort n)
     FineShape a xs n pl t.Shape.falsehood = Fits f.up s.nil (f.sort n)
     FineShape a xs n pl t.Shape.this = (c : ℕ) × (a.this ≡ Some c) × Fits f.up (s.obj c) (f.sort n)
-    FineShape a xs n pl (t.Shape.name x) = (q : Sort) × NameIs p f a xs x (ref_at p n) q × Fits f.up q (f.sort n)
+    FineShape a xs n pl (t.Shape.name x) = (q : Sort) × NameIs p f a xs x (ref_at p n) q ×
+        Fits f.up q (f.sort n)
     -- values that are made
-    FineShape a xs n pl (t.Shape.tuple ts) = FineTrees a xs ts × Gives p f a xs (form.making_tuple pl) (sorts_at ts) (f.sort n)
-    FineShape a xs n pl (t.Shape.array ts) = FineTrees a xs ts × Gives p f a xs (form.making_array pl) (sorts_at ts) (f.sort n)
-    FineShape a xs n pl (t.Shape.mapping ps) = FinePairs a xs ps × Gives p f a xs (form.making_map pl) (pair_sorts ps) (f.sort n)
-    FineShape a xs n pl (t.Shape.instance x gs) = (c : ℕ) × (class_ref p (ref_at p n) ≡ Some c) × FineGivens a xs gs ×
-        Gives p f a xs (form.instancing c (given_names gs) pl) (given_sorts gs) (f.sort n)
+    FineShape a xs n pl (t.Shape.tuple ts) = FineTrees a xs ts ×
+        Gives p f a xs (form.making_tuple pl) (sorts_at ts) (f.sort n)
+    FineShape a xs n pl (t.Shape.array ts) = FineTrees a xs ts ×
+        Gives p f a xs (form.making_array pl) (sorts_at ts) (f.sort n)
+    FineShape a xs n pl (t.Shape.mapping ps) = FinePairs a xs ps ×
+        Gives p f a xs (form.making_map pl) (pair_sorts ps) (f.sort n)
+    FineShape a xs n pl (t.Shape.instance x gs) = (c : ℕ) × (class_ref p (ref_at p n) ≡ Some c) ×
+        FineGivens a xs gs × Gives p f a xs (form.instancing c (given_names gs) pl) (given_sorts gs)
+        (f.sort n)
     FineShape a xs n pl (t.Shape.event w) = (q : Sort) × Fits f.up (s.event q) (f.sort n)
     FineShape a xs n pl t.Shape.bare_event = (q : Sort) × Fits f.up (s.event q) (f.sort n)
     -- loops and blocks
-    FineShape a xs n pl (t.Shape.loop_form b) = (c : Bool) × Fine (looped c a) xs b × (c ≡ true → Fits f.up s.unit (f.sort n))
+    FineShape a xs n pl (t.Shape.loop_form b) = (c : Bool) × Fine (looped c a) xs b ×
+        (c ≡ true → Fits f.up s.unit (f.sort n))
     FineShape a xs n pl (t.Shape.block_form b) = Fine a xs b × Fits f.up (sort_at b) (f.sort n)
     FineShape a xs n pl (t.Shape.cases b ts) = Fine a xs b × FineArms a xs (sort_at b) (f.sort n) ts
     -- tasks
-    FineShape a xs n pl (t.Shape.branch b) = (a.waits ≡ true) × Fine (armed a) xs b × Fits f.up s.unit (f.sort n)
-    FineShape a xs n pl (t.Shape.sync ts) = (a.waits ≡ true) × FineTrees (armed a) xs ts × Fits f.up (s.tuple (sorts (sorts_at ts)))
-        (f.sort n)
+    FineShape a xs n pl (t.Shape.branch b) = (a.waits ≡ true) × Fine (armed a) xs b ×
+        Fits f.up s.unit (f.sort n)
+    FineShape a xs n pl (t.Shape.sync ts) = (a.waits ≡ true) × FineTrees (armed a) xs ts ×
+        Fits f.up (s.tuple (sorts (sorts_at ts))) (f.sort n)
     FineShape a xs n pl (t.Shape.race ts) = (a.waits ≡ true) × FineEach (armed a) xs (f.sort n) ts
     FineShape a xs n pl (t.Shape.rush ts) = (a.waits ≡ true) × FineEach (armed a) xs (f.sort n) ts
     FineShape a xs n pl (t.Shape.spawn b) = FineSpawned a xs n b
     FineShape a xs n pl (t.Shape.sleep d) = (a.waits ≡ true) × Fits f.up s.unit (f.sort n)
     FineShape a xs n pl t.Shape.sleep_forever = (a.waits ≡ true) × Fits f.up s.unit (f.sort n)
-    -- statements of blocks alone, generators, arms of a `case` and patterns are no forms of their own
+    -- statements of blocks alone, generators, arms of a `case` and patterns are no forms of their
+    -- own
     FineShape a xs n pl x = ⊥
 
     -- statements in turn; `may_defer` says whether a `defer` may stand among them
@@ -253,7 +287,8 @@ module _ (p : Program) (f : Found) where
     FineClauses a xs (more_trees b ts) = on_statement (statement_of b) (Fine a xs b)
         (λ y. FineInner a xs b × Fits f.up (inner_sort b) (sort_at b) × Defines y (number_of b) xs)
         (λ d. ⊥)
-        (λ g. FineInner a xs b × Generates (number_of b) xs (inner_sort b) g) × FineClauses a (seen_behind b xs) ts
+        (λ g. FineInner a xs b × Generates (number_of b) xs (inner_sort b) g) ×
+        FineClauses a (seen_behind b xs) ts
 
     -- the part of a definition or of a `defer`, and the domain of a generator
     pub FineInner : Allowed → Table → Tree → Type 0
@@ -324,7 +359,8 @@ module _ (p : Program) (f : Found) where
     FineQuotientIn a xs n x (tree i pl y) = FineQuotientOf a xs n x y
 
     pub FineQuotientOf : Allowed → Table → ℕ → Form → Shape → Type 0
-    FineQuotientOf a xs n x (t.Shape.chained o b d) = Fine a xs b × Fine a xs d × Gives p f a xs x (sort_at b ∷ sort_at d ∷ []) (f.sort n)
+    FineQuotientOf a xs n x (t.Shape.chained o b d) = Fine a xs b × Fine a xs d ×
+        Gives p f a xs x (sort_at b ∷ sort_at d ∷ []) (f.sort n)
     FineQuotientOf a xs n x y = ⊥
 
     -- the object and the indices of what `set` writes to
@@ -342,9 +378,9 @@ module _ (p : Program) (f : Found) where
     FineSpawned a xs n (tree i pl x) = FineSpawnedOf a xs n pl x
 
     pub FineSpawnedOf : Allowed → Table → ℕ → Place → Shape → Type 0
-    FineSpawnedOf a xs n pl (t.Shape.call b ts) = on_callee (spawned_callee (callee_of p b (form.picking None) pl))
+    FineSpawnedOf a xs n pl (t.Shape.call b ts) =
+        on_callee (spawned_callee (callee_of p b (form.picking None) pl))
         (λ x. FineTrees a xs ts × Gives p f a xs x (sorts_at ts) (f.sort n))
-        (λ x. FineObject a xs b × FineTrees a xs ts × Gives p f a xs x (object_sort b ∷ sorts_at ts) (f.sort n))
-        (λ x. ⊥)
-        (λ x. ⊥)
+        (λ x. FineObject a xs b × FineTrees a xs ts ×
+        Gives p f a xs x (object_sort b ∷ sorts_at ts) (f.sort n)) (λ x. ⊥) (λ x. ⊥)
     FineSpawnedOf a xs n pl x = ⊥

@@ -58,11 +58,24 @@ deferred a = record { fails = false; result = None; breaks = false; waits = fals
 
 -- in the body of a loop, which a `break` may leave
 abbrev pub looped : Bool → Allowed → Allowed
-looped c a = record { fails = a.fails; result = a.result; breaks = c; waits = a.waits; this = a.this }
+looped c a = record {
+  fails = a.fails;
+  result = a.result;
+  breaks = c;
+  waits = a.waits;
+  this =
+      a.this;
+}
 
 -- in the body of a function
 abbrev pub in_function : Signature → Bool → Allowed
-in_function g m = record { fails = g.decides; result = Some g.result; breaks = false; waits = m; this = g.this }
+in_function g m = record {
+  fails = g.decides;
+  result = Some g.result;
+  breaks = false;
+  waits = m;
+  this = g.this;
+}
 
 -- in the default of a field
 abbrev pub in_default : Bool → Allowed

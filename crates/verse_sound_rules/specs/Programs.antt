@@ -64,14 +64,21 @@ module _ (p : Program) (f : Found) where
     pub are : Inputs inputs
     pub params : FineParams [] function.params inputs
     pub result : Sort
-    pub body : Fine p f (record { fails = false; result = Some result; breaks = false; waits = true; this = None })
-        (params_behind function.params []) function.body
+    pub body : Fine p f (record {
+      fails = false;
+      result = Some result;
+      breaks = false;
+      waits = true;
+      this = None;
+    }) (params_behind function.params []) function.body
 
   pub record FineFound : Type 0 where
-    pub functions : (g : ℕ) (function : FunTree) → fun_at p g ≡ Some function → FineFunction g function
+    pub functions : (g : ℕ) (function : FunTree) → fun_at p g ≡ Some function →
+        FineFunction g function
     pub defaults : (b : Tree) (q : Sort) → IsDefault p f b q → FineDefault b q
     -- a class has all fields and methods of its ancestors, at their places
-    pub slots : (c d i : ℕ) (q : Sort) → Inherits f.up c d → at (f.slots d) i ≡ Some q → at (f.slots c) i ≡ Some q
+    pub slots : (c d i : ℕ) (q : Sort) → Inherits f.up c d → at (f.slots d) i ≡ Some q →
+        at (f.slots c) i ≡ Some q
     pub methods : (c d g m : ℕ) → Inherits f.up c d → method_at p d m ≡ Some g → Overrides c g m
     pub main : FineMain
 

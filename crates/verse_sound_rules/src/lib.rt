@@ -1,4 +1,4 @@
 //! What the checker has found of a program, as sorts, said form by form: what soundness of types
-//! rests on. Read `specs/Found`, `specs/Forms` (the forms with operands), `specs/Fine` (one case for
-//! each shape of a tree), `specs/Programs`.
+//! rests on. Read `specs/Found`, `specs/Forms` (the forms with operands), `specs/Fine` (one case
+//! for each shape of a tree), `specs/Programs`.
 #![tactic(auto)]

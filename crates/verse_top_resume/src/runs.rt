@@ -20,8 +20,8 @@ use verse_top_exec::stops::Stop;
 use verse_top_exec::streams::stream_on;
 use vm_resume::machines::from_shot;
 
-/// Goes on with the run of which this is kept, over a heap and waits that are empty, writes its text
-/// as it goes on, and answers the status.
+/// Goes on with the run of which this is kept, over a heap and waits that are empty, writes its
+/// text as it goes on, and answers the status.
 pub(crate) fn go_on<H: Heap + Drop, W: Waits + Drop, S: Sink>(
     alloc: Global,
     code: &Code,

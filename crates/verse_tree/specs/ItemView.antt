@@ -1,7 +1,8 @@
 -- What an item of the code stands for.
 use Rattle.std.specs.Prelude.{List, map, Option}
 use Rattle.std.specs.Option.{option_map}
-use Rattle.verse_tree.specs.ItemTree.{SpecTree, UsingTree, EnumTree, FieldTree, ParamTree, FunTree, MemberTree, field, method, ClassTree}
+use Rattle.verse_tree.specs.ItemTree.{SpecTree, UsingTree, EnumTree, FieldTree, ParamTree, FunTree}
+use Rattle.verse_tree.specs.ItemTree.{MemberTree, field, method, ClassTree}
 use Rattle.verse_tree.specs.ItemTree.{ItemTree, using, enumeration, class, function}
 use Rattle.verse_tree.specs.View.{written_of, tree_of}
 use Rattle.verse_tree.specs.declared.items.Spec.{Spec}
@@ -23,7 +24,13 @@ abbrev pub using_of : Using → UsingTree
 using_of u = record { number = u.node; place = u.place; path = u.path }
 
 abbrev pub enum_of : EnumItem → EnumTree
-enum_of e = record { number = e.node; place = e.place; name = e.name; specs = map spec_of e.specs; values = e.values }
+enum_of e = record {
+  number = e.node;
+  place = e.place;
+  name = e.name;
+  specs = map spec_of e.specs;
+  values = e.values;
+}
 
 abbrev pub field_of : Field → FieldTree
 field_of f = record {

@@ -1,9 +1,12 @@
 -- How the nodes of a program are numbered: parts before the whole, and from left to right.
 use Rattle.std.specs.Prelude.{ℕ, ◌+◌, List, [], ◌∷◌, Option, Some, None}
-use Rattle.verse_tree.specs.Tree.{Bytes, Written, Writtens, no_writtens, more_writtens, Tree, tree, Shape, Trees, no_trees, more_trees}
-use Rattle.verse_tree.specs.Tree.{Holes, no_holes, more_holes, Pairs, no_pairs, more_pairs, Givens, no_givens, more_givens}
+use Rattle.verse_tree.specs.Tree.{Bytes, Written, Writtens, no_writtens, more_writtens, Tree, tree}
+use Rattle.verse_tree.specs.Tree.{Shape, Trees, no_trees, more_trees}
+use Rattle.verse_tree.specs.Tree.{Holes, no_holes, more_holes, Pairs, no_pairs, more_pairs, Givens}
+use Rattle.verse_tree.specs.Tree.{no_givens, more_givens}
 use Rattle.verse_tree.specs.Tree as t
-use Rattle.verse_tree.specs.ItemTree.{UsingTree, EnumTree, FieldTree, ParamTree, FunTree, MemberTree, ClassTree, ItemTree}
+use Rattle.verse_tree.specs.ItemTree.{UsingTree, EnumTree, FieldTree, ParamTree, FunTree}
+use Rattle.verse_tree.specs.ItemTree.{MemberTree, ClassTree, ItemTree}
 use Rattle.verse_tree.specs.ItemTree as i
 
 -- how many nodes a type has: its names
@@ -120,7 +123,8 @@ abbrev mutual
   written_numbered (t.Written.named number place name) next = t.Written.named next place name
   written_numbered (t.Written.option w) next = t.Written.option (written_numbered w next)
   written_numbered (t.Written.array w) next = t.Written.array (written_numbered w next)
-  written_numbered (t.Written.map w v) next = t.Written.map (written_numbered w next) (written_numbered v (next + written_nodes w))
+  written_numbered (t.Written.map w v) next =
+      t.Written.map (written_numbered w next) (written_numbered v (next + written_nodes w))
   written_numbered (t.Written.tuple ws) next = t.Written.tuple (writtens_numbered ws next)
   written_numbered (t.Written.task w) next = t.Written.task (written_numbered w next)
   written_numbered (t.Written.event w) next = t.Written.event (written_numbered w next)
@@ -128,7 +132,8 @@ abbrev mutual
 
   pub writtens_numbered : Writtens → ℕ → Writtens
   writtens_numbered no_writtens next = no_writtens
-  writtens_numbered (more_writtens w ws) next = more_writtens (written_numbered w next) (writtens_numbered ws (next + written_nodes w))
+  writtens_numbered (more_writtens w ws) next =
+      more_writtens (written_numbered w next) (writtens_numbered ws (next + written_nodes w))
 
 -- a tree with its nodes numbered from `next` on
 abbrev mutual
@@ -139,21 +144,30 @@ abbrev mutual
   shape_numbered (t.Shape.block ts) next = t.Shape.block (trees_numbered ts next)
   shape_numbered (t.Shape.defer a) next = t.Shape.defer (numbered a next)
   shape_numbered (t.Shape.definition x a) next = t.Shape.definition x (numbered a next)
-  shape_numbered (t.Shape.typed x w a) next = t.Shape.typed x (written_numbered w next) (numbered a (next + written_nodes w))
-  shape_numbered (t.Shape.variable x w a) next = t.Shape.variable x (written_numbered w next) (numbered a (next + written_nodes w))
-  shape_numbered (t.Shape.assignment x a b) next = t.Shape.assignment x (numbered a next) (numbered b (next + nodes a))
+  shape_numbered (t.Shape.typed x w a) next =
+      t.Shape.typed x (written_numbered w next) (numbered a (next + written_nodes w))
+  shape_numbered (t.Shape.variable x w a) next =
+      t.Shape.variable x (written_numbered w next) (numbered a (next + written_nodes w))
+  shape_numbered (t.Shape.assignment x a b) next =
+      t.Shape.assignment x (numbered a next) (numbered b (next + nodes a))
   shape_numbered (t.Shape.returned a) next = t.Shape.returned (numbered a next)
   shape_numbered t.Shape.returned_unit next = t.Shape.returned_unit
   shape_numbered t.Shape.break_form next = t.Shape.break_form
   shape_numbered (t.Shape.if_else ts a b) next =
-      t.Shape.if_else (trees_numbered ts next) (numbered a (next + trees_nodes ts)) (numbered b (next + trees_nodes ts + nodes a))
-  shape_numbered (t.Shape.if_alone ts a) next = t.Shape.if_alone (trees_numbered ts next) (numbered a (next + trees_nodes ts))
-  shape_numbered (t.Shape.chained x a b) next = t.Shape.chained x (numbered a next) (numbered b (next + nodes a))
-  shape_numbered (t.Shape.compared x a b) next = t.Shape.compared x (numbered a next) (numbered b (next + nodes a))
+      t.Shape.if_else (trees_numbered ts next) (numbered a (next + trees_nodes ts))
+      (numbered b (next + trees_nodes ts + nodes a))
+  shape_numbered (t.Shape.if_alone ts a) next =
+      t.Shape.if_alone (trees_numbered ts next) (numbered a (next + trees_nodes ts))
+  shape_numbered (t.Shape.chained x a b) next =
+      t.Shape.chained x (numbered a next) (numbered b (next + nodes a))
+  shape_numbered (t.Shape.compared x a b) next =
+      t.Shape.compared x (numbered a next) (numbered b (next + nodes a))
   shape_numbered (t.Shape.negation a) next = t.Shape.negation (numbered a next)
   shape_numbered (t.Shape.minus a) next = t.Shape.minus (numbered a next)
-  shape_numbered (t.Shape.call a ts) next = t.Shape.call (numbered a next) (trees_numbered ts (next + nodes a))
-  shape_numbered (t.Shape.index a ts) next = t.Shape.index (numbered a next) (trees_numbered ts (next + nodes a))
+  shape_numbered (t.Shape.call a ts) next =
+      t.Shape.call (numbered a next) (trees_numbered ts (next + nodes a))
+  shape_numbered (t.Shape.index a ts) next =
+      t.Shape.index (numbered a next) (trees_numbered ts (next + nodes a))
   shape_numbered (t.Shape.member a x) next = t.Shape.member (numbered a next) x
   shape_numbered (t.Shape.query a) next = t.Shape.query (numbered a next)
   shape_numbered (t.Shape.integer x) next = t.Shape.integer x
@@ -172,21 +186,25 @@ abbrev mutual
   shape_numbered (t.Shape.instance x gs) next = t.Shape.instance x (givens_numbered gs next)
   shape_numbered (t.Shape.event w) next = t.Shape.event (written_numbered w next)
   shape_numbered t.Shape.bare_event next = t.Shape.bare_event
-  shape_numbered (t.Shape.for_form ts a) next = t.Shape.for_form (trees_numbered ts next) (numbered a (next + trees_nodes ts))
+  shape_numbered (t.Shape.for_form ts a) next =
+      t.Shape.for_form (trees_numbered ts next) (numbered a (next + trees_nodes ts))
   shape_numbered (t.Shape.loop_form a) next = t.Shape.loop_form (numbered a next)
   shape_numbered (t.Shape.block_form a) next = t.Shape.block_form (numbered a next)
   shape_numbered (t.Shape.branch a) next = t.Shape.branch (numbered a next)
   shape_numbered (t.Shape.sync ts) next = t.Shape.sync (trees_numbered ts next)
   shape_numbered (t.Shape.race ts) next = t.Shape.race (trees_numbered ts next)
   shape_numbered (t.Shape.rush ts) next = t.Shape.rush (trees_numbered ts next)
-  shape_numbered (t.Shape.cases a ts) next = t.Shape.cases (numbered a next) (trees_numbered ts (next + nodes a))
+  shape_numbered (t.Shape.cases a ts) next =
+      t.Shape.cases (numbered a next) (trees_numbered ts (next + nodes a))
   shape_numbered (t.Shape.spawn a) next = t.Shape.spawn (numbered a next)
   shape_numbered (t.Shape.sleep x) next = t.Shape.sleep x
   shape_numbered t.Shape.sleep_forever next = t.Shape.sleep_forever
   shape_numbered (t.Shape.elements x a) next = t.Shape.elements x (numbered a next)
   shape_numbered (t.Shape.entries x y a) next = t.Shape.entries x y (numbered a next)
-  shape_numbered (t.Shape.range x a b) next = t.Shape.range x (numbered a next) (numbered b (next + nodes a))
-  shape_numbered (t.Shape.arm a b) next = t.Shape.arm (numbered a next) (numbered b (next + nodes a))
+  shape_numbered (t.Shape.range x a b) next =
+      t.Shape.range x (numbered a next) (numbered b (next + nodes a))
+  shape_numbered (t.Shape.arm a b) next =
+      t.Shape.arm (numbered a next) (numbered b (next + nodes a))
   shape_numbered (t.Shape.integer_pattern x) next = t.Shape.integer_pattern x
   shape_numbered (t.Shape.minus_pattern x) next = t.Shape.minus_pattern x
   shape_numbered (t.Shape.character_pattern x) next = t.Shape.character_pattern x
@@ -198,20 +216,24 @@ abbrev mutual
 
   pub trees_numbered : Trees → ℕ → Trees
   trees_numbered no_trees next = no_trees
-  trees_numbered (more_trees a ts) next = more_trees (numbered a next) (trees_numbered ts (next + nodes a))
+  trees_numbered (more_trees a ts) next =
+      more_trees (numbered a next) (trees_numbered ts (next + nodes a))
 
   pub holes_numbered : Holes → ℕ → Holes
   holes_numbered no_holes next = no_holes
-  holes_numbered (more_holes a x hs) next = more_holes (numbered a next) x (holes_numbered hs (next + nodes a))
+  holes_numbered (more_holes a x hs) next =
+      more_holes (numbered a next) x (holes_numbered hs (next + nodes a))
 
   pub pairs_numbered : Pairs → ℕ → Pairs
   pairs_numbered no_pairs next = no_pairs
   pairs_numbered (more_pairs a b ps) next =
-      more_pairs (numbered a next) (numbered b (next + nodes a)) (pairs_numbered ps (next + (nodes a + nodes b)))
+      more_pairs (numbered a next) (numbered b (next + nodes a))
+      (pairs_numbered ps (next + (nodes a + nodes b)))
 
   pub givens_numbered : Givens → ℕ → Givens
   givens_numbered no_givens next = no_givens
-  givens_numbered (more_givens x a gs) next = more_givens x (numbered a next) (givens_numbered gs (next + nodes a))
+  givens_numbered (more_givens x a gs) next =
+      more_givens x (numbered a next) (givens_numbered gs (next + nodes a))
 
 -- the nodes of all
 module _ {X : Type 0} (size : X → ℕ) where
@@ -249,7 +271,8 @@ abbrev pub param_nodes : ParamTree → ℕ
 param_nodes p = written_nodes p.written + 1
 
 abbrev pub param_numbered : ParamTree → ℕ → ParamTree
-param_numbered p next = record p { number = next + written_nodes p.written; written = written_numbered p.written next }
+param_numbered p next = record p
+    { number = next + written_nodes p.written; written = written_numbered p.written next }
 
 -- a function: its parameters, the names in the type of its result, its body, and itself
 abbrev pub fun_nodes : FunTree → ℕ

@@ -1,8 +1,10 @@
 -- The numbers of nodes, what a tree is but for them, and the laws of numbering.
 use Rattle.std.specs.Prelude.{◌≡◌, ℕ, List, Option, Some, None, map}
 use Rattle.std.specs.List.{range_with_len}
-use Rattle.verse_tree.specs.Tree.{Written, Writtens, no_writtens, more_writtens, Tree, tree, Shape, Trees, no_trees, more_trees, Holes}
-use Rattle.verse_tree.specs.Tree.{no_holes, more_holes, Pairs, no_pairs, more_pairs, Givens, no_givens, more_givens}
+use Rattle.verse_tree.specs.Tree.{Written, Writtens, no_writtens, more_writtens, Tree, tree, Shape}
+use Rattle.verse_tree.specs.Tree.{Trees, no_trees, more_trees, Holes}
+use Rattle.verse_tree.specs.Tree.{no_holes, more_holes, Pairs, no_pairs, more_pairs, Givens}
+use Rattle.verse_tree.specs.Tree.{no_givens, more_givens}
 use Rattle.verse_tree.specs.Tree as t
 use Rattle.verse_tree.specs.ItemTree.{FieldTree, ParamTree, FunTree, MemberTree, ItemTree}
 use Rattle.verse_tree.specs.ItemTree as i
@@ -48,7 +50,8 @@ abbrev mutual
   shape_cleared (t.Shape.returned a) = t.Shape.returned (cleared a)
   shape_cleared t.Shape.returned_unit = t.Shape.returned_unit
   shape_cleared t.Shape.break_form = t.Shape.break_form
-  shape_cleared (t.Shape.if_else ts a b) = t.Shape.if_else (trees_cleared ts) (cleared a) (cleared b)
+  shape_cleared (t.Shape.if_else ts a b) =
+      t.Shape.if_else (trees_cleared ts) (cleared a) (cleared b)
   shape_cleared (t.Shape.if_alone ts a) = t.Shape.if_alone (trees_cleared ts) (cleared a)
   shape_cleared (t.Shape.chained x a b) = t.Shape.chained x (cleared a) (cleared b)
   shape_cleared (t.Shape.compared x a b) = t.Shape.compared x (cleared a) (cleared b)
@@ -119,13 +122,24 @@ default_cleared None = None
 default_cleared (Some a) = Some (cleared a)
 
 abbrev pub field_cleared : FieldTree → FieldTree
-field_cleared f = record f { number = 0; written = written_cleared f.written; default = default_cleared f.default }
+field_cleared f = record f {
+  number = 0;
+  written = written_cleared f.written;
+  default =
+      default_cleared f.default;
+}
 
 abbrev pub param_cleared : ParamTree → ParamTree
 param_cleared p = record p { number = 0; written = written_cleared p.written }
 
 abbrev pub fun_cleared : FunTree → FunTree
-fun_cleared f = record f { number = 0; params = map param_cleared f.params; written = written_cleared f.written; body = cleared f.body }
+fun_cleared f = record f {
+  number = 0;
+  params = map param_cleared f.params;
+  written =
+      written_cleared f.written;
+  body = cleared f.body;
+}
 
 abbrev pub member_cleared : MemberTree → MemberTree
 member_cleared (i.MemberTree.field f) = i.MemberTree.field (field_cleared f)
@@ -134,18 +148,22 @@ member_cleared (i.MemberTree.method f) = i.MemberTree.method (fun_cleared f)
 abbrev pub item_cleared : ItemTree → ItemTree
 item_cleared (i.ItemTree.using u) = i.ItemTree.using (record u { number = 0 })
 item_cleared (i.ItemTree.enumeration e) = i.ItemTree.enumeration (record e { number = 0 })
-item_cleared (i.ItemTree.class c) = i.ItemTree.class (record c { number = 0; members = map member_cleared c.members })
+item_cleared (i.ItemTree.class c) =
+    i.ItemTree.class (record c { number = 0; members = map member_cleared c.members })
 item_cleared (i.ItemTree.function f) = i.ItemTree.function (fun_cleared f)
 
--- the numbers of what is numbered from `next` on are `next` and those behind it, one for each node, in order
+-- the numbers of what is numbered from `next` on are `next` and those behind it, one for each node,
+-- in order
 abbrev pub NumberedInOrder : Type 0
 NumberedInOrder = (items : List ItemTree) (next : ℕ) →
     numbers (items_order (items_numbered items next)) ≡ range_with_len next (items_nodes items)
 
 -- and the program's own node, where its items are numbered from 0, has the last number
 abbrev pub ProgramInOrder : Type 0
-ProgramInOrder = (items : List ItemTree) → numbers (program_order (items_numbered items 0)) ≡ range_with_len 0 (program_nodes items)
+ProgramInOrder = (items : List ItemTree) →
+    numbers (program_order (items_numbered items 0)) ≡ range_with_len 0 (program_nodes items)
 
 -- and nothing but numbers is changed
 abbrev pub NumbersAlone : Type 0
-NumbersAlone = (items : List ItemTree) (next : ℕ) → map item_cleared (items_numbered items next) ≡ map item_cleared items
+NumbersAlone = (items : List ItemTree) (next : ℕ) →
+    map item_cleared (items_numbered items next) ≡ map item_cleared items

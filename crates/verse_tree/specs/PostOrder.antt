@@ -1,10 +1,14 @@
--- The nodes of a program in written post-order: the parts before the whole, from left to right, and the program's own node last.
+-- The nodes of a program in written post-order: the parts before the whole, from left to right, and
+-- the program's own node last.
 use Rattle.std.specs.Prelude.{ℕ, List, [], ◌∷◌, ◌++◌, length, Option, Some, None}
 use Rattle.verse_base.specs.declared.places.Place.{Place}
-use Rattle.verse_tree.specs.Tree.{Bytes, Written, Writtens, no_writtens, more_writtens, Tree, tree, Shape, Trees, no_trees, more_trees}
-use Rattle.verse_tree.specs.Tree.{Holes, no_holes, more_holes, Pairs, no_pairs, more_pairs, Givens, no_givens, more_givens}
+use Rattle.verse_tree.specs.Tree.{Bytes, Written, Writtens, no_writtens, more_writtens, Tree, tree}
+use Rattle.verse_tree.specs.Tree.{Shape, Trees, no_trees, more_trees}
+use Rattle.verse_tree.specs.Tree.{Holes, no_holes, more_holes, Pairs, no_pairs, more_pairs, Givens}
+use Rattle.verse_tree.specs.Tree.{no_givens, more_givens}
 use Rattle.verse_tree.specs.Tree as t
-use Rattle.verse_tree.specs.ItemTree.{FieldTree, ParamTree, FunTree, MemberTree, field, method, ItemTree, using, enumeration, class}
+use Rattle.verse_tree.specs.ItemTree.{FieldTree, ParamTree, FunTree, MemberTree, field, method}
+use Rattle.verse_tree.specs.ItemTree.{ItemTree, using, enumeration, class}
 use Rattle.verse_tree.specs.ItemTree.{function}
 
 -- what a node is

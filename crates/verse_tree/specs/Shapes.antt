@@ -1,7 +1,10 @@
--- The shapes of trees: which forms may stand where. Nothing is said of the numbers and places of nodes, and of names.
+-- The shapes of trees: which forms may stand where. Nothing is said of the numbers and places of
+-- nodes, and of names.
 use Rattle.std.specs.Prelude.{◌≡◌, Bool, true, false, List, [], ◌∷◌, Option, Some, None}
-use Rattle.verse_tree.specs.Tree.{Bytes, Written, Writtens, no_writtens, more_writtens, Tree, tree, Shape, Trees, no_trees, more_trees}
-use Rattle.verse_tree.specs.Tree.{Holes, no_holes, more_holes, Pairs, no_pairs, more_pairs, Givens, no_givens, more_givens}
+use Rattle.verse_tree.specs.Tree.{Bytes, Written, Writtens, no_writtens, more_writtens, Tree, tree}
+use Rattle.verse_tree.specs.Tree.{Shape, Trees, no_trees, more_trees}
+use Rattle.verse_tree.specs.Tree.{Holes, no_holes, more_holes, Pairs, no_pairs, more_pairs, Givens}
+use Rattle.verse_tree.specs.Tree.{no_givens, more_givens}
 use Rattle.verse_tree.specs.Tree as t
 use Rattle.verse_tree.specs.ItemTree.{FieldTree, ParamTree, FunTree, MemberTree, ItemTree}
 use Rattle.verse_tree.specs.ItemTree as i
@@ -115,7 +118,8 @@ abbrev mutual
   PartsShaped (t.Shape.variable x w a) = WrittenShaped w × Shaped as_expression a
   PartsShaped (t.Shape.assignment x a b) = Shaped as_expression a × Shaped as_expression b
   PartsShaped (t.Shape.returned a) = Shaped as_expression a
-  PartsShaped (t.Shape.if_else ts a b) = SomeShaped as_statement ts × Shaped as_body a × Shaped as_body b
+  PartsShaped (t.Shape.if_else ts a b) = SomeShaped as_statement ts × Shaped as_body a ×
+      Shaped as_body b
   PartsShaped (t.Shape.if_alone ts a) = SomeShaped as_statement ts × Shaped as_body a
   PartsShaped (t.Shape.chained x a b) = Shaped as_expression a × Shaped as_expression b
   PartsShaped (t.Shape.compared x a b) = Shaped as_expression a × Shaped as_expression b

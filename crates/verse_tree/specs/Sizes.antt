@@ -1,6 +1,8 @@
--- The size of a program: 16 for each node, and 4 for each field of the class of each instance expression.
+-- The size of a program: 16 for each node, and 4 for each field of the class of each instance
+-- expression.
 use Rattle.std.specs.Prelude.{ℕ, ◌+◌, ◌*◌, List, length, map, slice_get, Option, Some, None}
-use Rattle.verse_tree.specs.Tree.{Tree, tree, Shape, Trees, no_trees, more_trees, Holes, no_holes, more_holes, Pairs, no_pairs, more_pairs}
+use Rattle.verse_tree.specs.Tree.{Tree, tree, Shape, Trees, no_trees, more_trees, Holes, no_holes}
+use Rattle.verse_tree.specs.Tree.{more_holes, Pairs, no_pairs, more_pairs}
 use Rattle.verse_tree.specs.Tree.{Givens, no_givens, more_givens}
 use Rattle.verse_tree.specs.Tree as t
 use Rattle.verse_tree.specs.ItemTree.{FieldTree, FunTree, MemberTree, ClassTree, ItemTree}
@@ -142,4 +144,5 @@ abbrev pub items_fields : Names → List ItemTree → ℕ
 items_fields names items = list_nodes (item_fields (fields_at names)) items
 
 abbrev pub size_of : Program → ℕ
-size_of program = 16 * program_nodes (map item_of program.tree.items) + 4 * items_fields program.names (map item_of program.tree.items)
+size_of program = 16 * program_nodes (map item_of program.tree.items) + 4 *
+    items_fields program.names (map item_of program.tree.items)

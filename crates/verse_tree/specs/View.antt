@@ -1,7 +1,9 @@
 -- What a value of the code stands for.
 use Rattle.std.specs.Prelude.{ℕ, List, [], ◌∷◌, Option, Some, None}
-use Rattle.verse_tree.specs.Tree.{Bytes, Written, Writtens, no_writtens, more_writtens, Tree, tree, Shape, Trees, no_trees, more_trees}
-use Rattle.verse_tree.specs.Tree.{Holes, no_holes, more_holes, Pairs, no_pairs, more_pairs, Givens, no_givens, more_givens}
+use Rattle.verse_tree.specs.Tree.{Bytes, Written, Writtens, no_writtens, more_writtens, Tree, tree}
+use Rattle.verse_tree.specs.Tree.{Shape, Trees, no_trees, more_trees}
+use Rattle.verse_tree.specs.Tree.{Holes, no_holes, more_holes, Pairs, no_pairs, more_pairs, Givens}
+use Rattle.verse_tree.specs.Tree.{no_givens, more_givens}
 use Rattle.verse_tree.specs.Tree as t
 use Rattle.verse_tree.specs.declared.types.TyExpr.{TyExpr, TyExpr-F, fold-TyExpr}
 use Rattle.verse_tree.specs.declared.types.MapTy.{MapTy-F}
@@ -86,8 +88,8 @@ pub record Parts : Type 0 where
   pub otherwise : Option Tree
 
 -- one layer, whose parts are trees already
-abbrev pub shape_step : Form-F Shape (Tree × List Tree) (Tree × List Tree) Tree (List Tree × Tree) (Bytes × Tree) (Tree × Bytes) Parts
-    (Tree × Tree) (Tree × Tree) (Written × Tree) → Shape
+abbrev pub shape_step : Form-F Shape (Tree × List Tree) (Tree × List Tree) Tree (List Tree × Tree)
+    (Bytes × Tree) (Tree × Bytes) Parts (Tree × Tree) (Tree × Tree) (Written × Tree) → Shape
 shape_step (form.Block es) = t.Shape.block (trees es)
 shape_step (form.Defer e) = t.Shape.defer e
 shape_step (form.Let n e) = t.Shape.definition n e
@@ -143,97 +145,111 @@ shape_step form.FalsePattern = t.Shape.falsehood_pattern
 shape_step (form.EnumPattern n v) = t.Shape.enum_pattern n v
 shape_step form.AnyPattern = t.Shape.any_pattern
 
-abbrev pub applied_step : Applied-F Shape (Tree × List Tree) (Tree × List Tree) Tree (List Tree × Tree) (Bytes × Tree) (Tree × Bytes) Parts
-    (Tree × Tree) (Tree × Tree) (Written × Tree) → Tree × List Tree
+abbrev pub applied_step : Applied-F Shape (Tree × List Tree) (Tree × List Tree) Tree
+    (List Tree × Tree) (Bytes × Tree) (Tree × Bytes) Parts (Tree × Tree) (Tree × Tree)
+    (Written × Tree) → Tree × List Tree
 applied_step a = (a.callee, a.args)
 
-abbrev pub cases_step : Cases-F Shape (Tree × List Tree) (Tree × List Tree) Tree (List Tree × Tree) (Bytes × Tree) (Tree × Bytes) Parts
-    (Tree × Tree) (Tree × Tree) (Written × Tree) → Tree × List Tree
+abbrev pub cases_step : Cases-F Shape (Tree × List Tree) (Tree × List Tree) Tree (List Tree × Tree)
+    (Bytes × Tree) (Tree × Bytes) Parts (Tree × Tree) (Tree × Tree) (Written × Tree) → Tree ×
+    List Tree
 cases_step a = (a.subject, a.arms)
 
-abbrev pub if_step : IfParts-F Shape (Tree × List Tree) (Tree × List Tree) Tree (List Tree × Tree) (Bytes × Tree) (Tree × Bytes) Parts
-    (Tree × Tree) (Tree × Tree) (Written × Tree) → Parts
+abbrev pub if_step : IfParts-F Shape (Tree × List Tree) (Tree × List Tree) Tree (List Tree × Tree)
+    (Bytes × Tree) (Tree × Bytes) Parts (Tree × Tree) (Tree × Tree) (Written × Tree) → Parts
 if_step a = record { conditions = a.conditions; taken = a.then; otherwise = a.otherwise }
 
-abbrev pub for_step : ForParts-F Shape (Tree × List Tree) (Tree × List Tree) Tree (List Tree × Tree) (Bytes × Tree) (Tree × Bytes) Parts
-    (Tree × Tree) (Tree × Tree) (Written × Tree) → List Tree × Tree
+abbrev pub for_step : ForParts-F Shape (Tree × List Tree) (Tree × List Tree) Tree (List Tree × Tree)
+    (Bytes × Tree) (Tree × Bytes) Parts (Tree × Tree) (Tree × Tree) (Written × Tree) → List Tree ×
+    Tree
 for_step a = (a.clauses, a.body)
 
-abbrev pub tree_step : Expr-F Shape (Tree × List Tree) (Tree × List Tree) Tree (List Tree × Tree) (Bytes × Tree) (Tree × Bytes) Parts
-    (Tree × Tree) (Tree × Tree) (Written × Tree) → Tree
+abbrev pub tree_step : Expr-F Shape (Tree × List Tree) (Tree × List Tree) Tree (List Tree × Tree)
+    (Bytes × Tree) (Tree × Bytes) Parts (Tree × Tree) (Tree × Tree) (Written × Tree) → Tree
 tree_step a = tree a.node a.place a.form
 
-abbrev pub given_step : Given-F Shape (Tree × List Tree) (Tree × List Tree) Tree (List Tree × Tree) (Bytes × Tree) (Tree × Bytes) Parts
-    (Tree × Tree) (Tree × Tree) (Written × Tree) → Bytes × Tree
+abbrev pub given_step : Given-F Shape (Tree × List Tree) (Tree × List Tree) Tree (List Tree × Tree)
+    (Bytes × Tree) (Tree × Bytes) Parts (Tree × Tree) (Tree × Tree) (Written × Tree) → Bytes × Tree
 given_step a = (a.name, a.value)
 
-abbrev pub hole_step : Hole-F Shape (Tree × List Tree) (Tree × List Tree) Tree (List Tree × Tree) (Bytes × Tree) (Tree × Bytes) Parts
-    (Tree × Tree) (Tree × Tree) (Written × Tree) → Tree × Bytes
+abbrev pub hole_step : Hole-F Shape (Tree × List Tree) (Tree × List Tree) Tree (List Tree × Tree)
+    (Bytes × Tree) (Tree × Bytes) Parts (Tree × Tree) (Tree × Tree) (Written × Tree) → Tree × Bytes
 hole_step a = (a.value, a.behind)
 
-abbrev pub pair_step : Pair-F Shape (Tree × List Tree) (Tree × List Tree) Tree (List Tree × Tree) (Bytes × Tree) (Tree × Bytes) Parts
-    (Tree × Tree) (Tree × Tree) (Written × Tree) → Tree × Tree
+abbrev pub pair_step : Pair-F Shape (Tree × List Tree) (Tree × List Tree) Tree (List Tree × Tree)
+    (Bytes × Tree) (Tree × Bytes) Parts (Tree × Tree) (Tree × Tree) (Written × Tree) → Tree × Tree
 pair_step a = (a.key, a.value)
 
-abbrev pub two_step : Two-F Shape (Tree × List Tree) (Tree × List Tree) Tree (List Tree × Tree) (Bytes × Tree) (Tree × Bytes) Parts
-    (Tree × Tree) (Tree × Tree) (Written × Tree) → Tree × Tree
+abbrev pub two_step : Two-F Shape (Tree × List Tree) (Tree × List Tree) Tree (List Tree × Tree)
+    (Bytes × Tree) (Tree × Bytes) Parts (Tree × Tree) (Tree × Tree) (Written × Tree) → Tree × Tree
 two_step a = (a.left, a.right)
 
-abbrev pub typed_value_step : TypedValue-F Shape (Tree × List Tree) (Tree × List Tree) Tree (List Tree × Tree) (Bytes × Tree)
-    (Tree × Bytes) Parts (Tree × Tree) (Tree × Tree) (Written × Tree) → Written × Tree
+abbrev pub typed_value_step : TypedValue-F Shape (Tree × List Tree) (Tree × List Tree) Tree
+    (List Tree × Tree) (Bytes × Tree) (Tree × Bytes) Parts (Tree × Tree) (Tree × Tree)
+    (Written × Tree) → Written × Tree
 typed_value_step a = (written_of a.ty, a.value)
 
 abbrev pub shape_of : Form → Shape
-shape_of = fold-Form Shape (Tree × List Tree) (Tree × List Tree) Tree (List Tree × Tree) (Bytes × Tree) (Tree × Bytes) Parts (Tree × Tree)
-    (Tree × Tree) (Written × Tree) shape_step applied_step cases_step tree_step for_step given_step hole_step if_step pair_step two_step
+shape_of = fold-Form Shape (Tree × List Tree) (Tree × List Tree) Tree (List Tree × Tree)
+    (Bytes × Tree) (Tree × Bytes) Parts (Tree × Tree) (Tree × Tree) (Written × Tree) shape_step
+    applied_step cases_step tree_step for_step given_step hole_step if_step pair_step two_step
     typed_value_step
 
 abbrev pub applied_of : Applied → Tree × List Tree
-applied_of = fold-Applied Shape (Tree × List Tree) (Tree × List Tree) Tree (List Tree × Tree) (Bytes × Tree) (Tree × Bytes) Parts
-    (Tree × Tree) (Tree × Tree) (Written × Tree) shape_step applied_step cases_step tree_step for_step given_step hole_step if_step
-    pair_step two_step typed_value_step
+applied_of = fold-Applied Shape (Tree × List Tree) (Tree × List Tree) Tree (List Tree × Tree)
+    (Bytes × Tree) (Tree × Bytes) Parts (Tree × Tree) (Tree × Tree) (Written × Tree) shape_step
+    applied_step cases_step tree_step for_step given_step hole_step if_step pair_step two_step
+    typed_value_step
 
 abbrev pub cases_of : Cases → Tree × List Tree
-cases_of = fold-Cases Shape (Tree × List Tree) (Tree × List Tree) Tree (List Tree × Tree) (Bytes × Tree) (Tree × Bytes) Parts (Tree × Tree)
-    (Tree × Tree) (Written × Tree) shape_step applied_step cases_step tree_step for_step given_step hole_step if_step pair_step two_step
+cases_of = fold-Cases Shape (Tree × List Tree) (Tree × List Tree) Tree (List Tree × Tree)
+    (Bytes × Tree) (Tree × Bytes) Parts (Tree × Tree) (Tree × Tree) (Written × Tree) shape_step
+    applied_step cases_step tree_step for_step given_step hole_step if_step pair_step two_step
     typed_value_step
 
 abbrev pub if_of : IfParts → Parts
-if_of = fold-IfParts Shape (Tree × List Tree) (Tree × List Tree) Tree (List Tree × Tree) (Bytes × Tree) (Tree × Bytes) Parts (Tree × Tree)
-    (Tree × Tree) (Written × Tree) shape_step applied_step cases_step tree_step for_step given_step hole_step if_step pair_step two_step
+if_of = fold-IfParts Shape (Tree × List Tree) (Tree × List Tree) Tree (List Tree × Tree)
+    (Bytes × Tree) (Tree × Bytes) Parts (Tree × Tree) (Tree × Tree) (Written × Tree) shape_step
+    applied_step cases_step tree_step for_step given_step hole_step if_step pair_step two_step
     typed_value_step
 
 abbrev pub for_of : ForParts → List Tree × Tree
-for_of = fold-ForParts Shape (Tree × List Tree) (Tree × List Tree) Tree (List Tree × Tree) (Bytes × Tree) (Tree × Bytes) Parts (Tree × Tree)
-    (Tree × Tree) (Written × Tree) shape_step applied_step cases_step tree_step for_step given_step hole_step if_step pair_step two_step
+for_of = fold-ForParts Shape (Tree × List Tree) (Tree × List Tree) Tree (List Tree × Tree)
+    (Bytes × Tree) (Tree × Bytes) Parts (Tree × Tree) (Tree × Tree) (Written × Tree) shape_step
+    applied_step cases_step tree_step for_step given_step hole_step if_step pair_step two_step
     typed_value_step
 
 abbrev pub tree_of : Expr → Tree
-tree_of = fold-Expr Shape (Tree × List Tree) (Tree × List Tree) Tree (List Tree × Tree) (Bytes × Tree) (Tree × Bytes) Parts (Tree × Tree)
-    (Tree × Tree) (Written × Tree) shape_step applied_step cases_step tree_step for_step given_step hole_step if_step pair_step two_step
+tree_of = fold-Expr Shape (Tree × List Tree) (Tree × List Tree) Tree (List Tree × Tree)
+    (Bytes × Tree) (Tree × Bytes) Parts (Tree × Tree) (Tree × Tree) (Written × Tree) shape_step
+    applied_step cases_step tree_step for_step given_step hole_step if_step pair_step two_step
     typed_value_step
 
 abbrev pub given_of : Given → Bytes × Tree
-given_of = fold-Given Shape (Tree × List Tree) (Tree × List Tree) Tree (List Tree × Tree) (Bytes × Tree) (Tree × Bytes) Parts (Tree × Tree)
-    (Tree × Tree) (Written × Tree) shape_step applied_step cases_step tree_step for_step given_step hole_step if_step pair_step two_step
+given_of = fold-Given Shape (Tree × List Tree) (Tree × List Tree) Tree (List Tree × Tree)
+    (Bytes × Tree) (Tree × Bytes) Parts (Tree × Tree) (Tree × Tree) (Written × Tree) shape_step
+    applied_step cases_step tree_step for_step given_step hole_step if_step pair_step two_step
     typed_value_step
 
 abbrev pub hole_of : Hole → Tree × Bytes
-hole_of = fold-Hole Shape (Tree × List Tree) (Tree × List Tree) Tree (List Tree × Tree) (Bytes × Tree) (Tree × Bytes) Parts (Tree × Tree)
-    (Tree × Tree) (Written × Tree) shape_step applied_step cases_step tree_step for_step given_step hole_step if_step pair_step two_step
+hole_of = fold-Hole Shape (Tree × List Tree) (Tree × List Tree) Tree (List Tree × Tree)
+    (Bytes × Tree) (Tree × Bytes) Parts (Tree × Tree) (Tree × Tree) (Written × Tree) shape_step
+    applied_step cases_step tree_step for_step given_step hole_step if_step pair_step two_step
     typed_value_step
 
 abbrev pub pair_of : Pair → Tree × Tree
-pair_of = fold-Pair Shape (Tree × List Tree) (Tree × List Tree) Tree (List Tree × Tree) (Bytes × Tree) (Tree × Bytes) Parts (Tree × Tree)
-    (Tree × Tree) (Written × Tree) shape_step applied_step cases_step tree_step for_step given_step hole_step if_step pair_step two_step
+pair_of = fold-Pair Shape (Tree × List Tree) (Tree × List Tree) Tree (List Tree × Tree)
+    (Bytes × Tree) (Tree × Bytes) Parts (Tree × Tree) (Tree × Tree) (Written × Tree) shape_step
+    applied_step cases_step tree_step for_step given_step hole_step if_step pair_step two_step
     typed_value_step
 
 abbrev pub two_of : Two → Tree × Tree
-two_of = fold-Two Shape (Tree × List Tree) (Tree × List Tree) Tree (List Tree × Tree) (Bytes × Tree) (Tree × Bytes) Parts (Tree × Tree)
-    (Tree × Tree) (Written × Tree) shape_step applied_step cases_step tree_step for_step given_step hole_step if_step pair_step two_step
-    typed_value_step
+two_of = fold-Two Shape (Tree × List Tree) (Tree × List Tree) Tree (List Tree × Tree) (Bytes × Tree)
+    (Tree × Bytes) Parts (Tree × Tree) (Tree × Tree) (Written × Tree) shape_step applied_step
+    cases_step tree_step for_step given_step hole_step if_step pair_step two_step typed_value_step
 
 abbrev pub typed_value_of : TypedValue → Written × Tree
-typed_value_of = fold-TypedValue Shape (Tree × List Tree) (Tree × List Tree) Tree (List Tree × Tree) (Bytes × Tree) (Tree × Bytes) Parts
-    (Tree × Tree) (Tree × Tree) (Written × Tree) shape_step applied_step cases_step tree_step for_step given_step hole_step if_step
-    pair_step two_step typed_value_step
+typed_value_of = fold-TypedValue Shape (Tree × List Tree) (Tree × List Tree) Tree (List Tree × Tree)
+    (Bytes × Tree) (Tree × Bytes) Parts (Tree × Tree) (Tree × Tree) (Written × Tree) shape_step
+    applied_step cases_step tree_step for_step given_step hole_step if_step pair_step two_step
+    typed_value_step

@@ -1,6 +1,7 @@
 -- A number that is greater for a value than for each of its parts.
 use Rattle.std.specs.Prelude.{ℕ, ◌+◌}
-use Rattle.verse_value.specs.Val.{Val, some, array, mapping, tuple, Vals, no_vals, more_vals, Pairs, no_pairs, more_pairs}
+use Rattle.verse_value.specs.Val.{Val, some, array, mapping, tuple, Vals, no_vals, more_vals, Pairs}
+use Rattle.verse_value.specs.Val.{no_pairs, more_pairs}
 
 abbrev mutual
   pub bulk : Val → ℕ

@@ -3,7 +3,8 @@ use Rattle.std.specs.Prelude.{◌≡◌, ℕ, zero, suc, ℤ, pos, negsuc, true,
 use Rattle.std.specs.Coded.{Coded, code_by}
 use mathlib.Core.Path.{refl, ap}
 use base.Stored.{Gv, gnil, gnum, gcons}
-use Rattle.verse_value.specs.Val.{Val, unit, falsity, truth, int, char, enum, object, event, task, some, array, mapping, tuple, Vals}
+use Rattle.verse_value.specs.Val.{Val, unit, falsity, truth, int, char, enum, object, event, task}
+use Rattle.verse_value.specs.Val.{some, array, mapping, tuple, Vals}
 use Rattle.verse_value.specs.Val.{no_vals, more_vals, Pairs, no_pairs, more_pairs}
 use Rattle.verse_value.specs.declared.keys.Key.{Key}
 use Rattle.verse_value.specs.declared.keys.Key.TheVariants as key
@@ -114,14 +115,17 @@ val_by_mark (suc zero) g v vs ps = falsity
 val_by_mark (suc (suc zero)) g v vs ps = truth
 val_by_mark (suc (suc (suc zero))) g v vs ps = int (int_from g)
 val_by_mark (suc (suc (suc (suc zero)))) g v vs ps = char (number g)
-val_by_mark (suc (suc (suc (suc (suc zero))))) g v vs ps = enum (number (front g)) (number (behind g))
+val_by_mark (suc (suc (suc (suc (suc zero))))) g v vs ps =
+    enum (number (front g)) (number (behind g))
 val_by_mark (suc (suc (suc (suc (suc (suc zero)))))) g v vs ps = object (number g)
 val_by_mark (suc (suc (suc (suc (suc (suc (suc zero))))))) g v vs ps = event (number g)
 val_by_mark (suc (suc (suc (suc (suc (suc (suc (suc zero)))))))) g v vs ps = task (number g)
 val_by_mark (suc (suc (suc (suc (suc (suc (suc (suc (suc zero))))))))) g v vs ps = some v
 val_by_mark (suc (suc (suc (suc (suc (suc (suc (suc (suc (suc zero)))))))))) g v vs ps = array vs
-val_by_mark (suc (suc (suc (suc (suc (suc (suc (suc (suc (suc (suc zero))))))))))) g v vs ps = mapping ps
-val_by_mark (suc (suc (suc (suc (suc (suc (suc (suc (suc (suc (suc (suc mark)))))))))))) g v vs ps = tuple vs
+val_by_mark (suc (suc (suc (suc (suc (suc (suc (suc (suc (suc (suc zero))))))))))) g v vs ps =
+    mapping ps
+val_by_mark (suc (suc (suc (suc (suc (suc (suc (suc (suc (suc (suc (suc mark)))))))))))) g v vs ps =
+    tuple vs
 
 abbrev mutual
   pub val_from : Gv → Val
@@ -163,7 +167,8 @@ mutual
 
   pub pairs_again : (ps : Pairs) → pairs_from (pairs_tree ps) ≡ ps
   pairs_again no_pairs = refl
-  pairs_again (more_pairs k v ps) = λ i. more_pairs (key_again k i) (val_again v i) (pairs_again ps i)
+  pairs_again (more_pairs k v ps) =
+      λ i. more_pairs (key_again k i) (val_again v i) (pairs_again ps i)
 
 abbrev pub coded_tree : Coded Gv
 coded_tree = record { code = λ g. g; inj = λ g h p. p }

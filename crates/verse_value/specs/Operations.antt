@@ -1,5 +1,7 @@
--- What each operation does with values. Where causes stand together, stuck comes first, then a failure, then an error.
-use Rattle.std.specs.Prelude.{ℕ, zero, suc, nat_lt, ℤ, pos, negsuc, neg_ℤ, ◌+ℤ◌, ◌-ℤ◌, ◌*ℤ◌, Bool, not, List, [], ◌∷◌, ◌++◌, Option, Some}
+-- What each operation does with values. Where causes stand together, stuck comes first, then a
+-- failure, then an error.
+use Rattle.std.specs.Prelude.{ℕ, zero, suc, nat_lt, ℤ, pos, negsuc, neg_ℤ, ◌+ℤ◌, ◌-ℤ◌, ◌*ℤ◌, Bool}
+use Rattle.std.specs.Prelude.{not, List, [], ◌∷◌, ◌++◌, Option, Some}
 use Rattle.std.specs.Prelude.{None, option_map, if◌then◌else◌}
 use Rattle.std.specs.Fmt.{signed_decimal}
 use Rattle.std.specs.Int.{int_rem_euclid}
@@ -7,12 +9,14 @@ use Rattle.std.specs.Int.Signed.{lt_z}
 use Rattle.std.specs.Ordering.{int_eq}
 use Rattle.verse_base.specs.declared.refusals.Kind.TheVariants.{Overflow, Size}
 use Rattle.verse_base.specs.Quotients.{floor_quotient, ceil_quotient}
-use Rattle.verse_value.specs.Val.{Val, falsity, truth, int, char, some, array, mapping, tuple, Vals, no_vals, more_vals, vals, Pairs}
+use Rattle.verse_value.specs.Val.{Val, falsity, truth, int, char, some, array, mapping, tuple, Vals}
+use Rattle.verse_value.specs.Val.{no_vals, more_vals, vals, Pairs}
 use Rattle.verse_value.specs.Val.{no_pairs, more_pairs}
 use Rattle.verse_value.specs.Keys.{bytes_of, chars, key_eq, key_of, key_val}
 use Rattle.verse_value.specs.Sizes.{fits}
 use Rattle.verse_value.specs.Parts.{joined}
-use Rattle.verse_value.specs.Places.{Step, part, outside, absent, misfit, nth, step_in, End, there, new_key, nowhere, unfit, end_of, put}
+use Rattle.verse_value.specs.Places.{Step, part, outside, absent, misfit, nth, step_in, End, there}
+use Rattle.verse_value.specs.Places.{new_key, nowhere, unfit, end_of, put}
 use Rattle.verse_value.specs.Places.{push, applied, path_to_map, last_key}
 use Rattle.verse_value.specs.Answer.{Answer, gives, fails, error, stuck, given_or}
 use Rattle.verse_value.specs.Equality.{val_eq}
@@ -140,7 +144,8 @@ option_of v = sized (some v)
 -- a value at a key: a present key keeps its place and takes the value, a new one goes last
 abbrev pub with_entry : Pairs → Key → Val → Pairs
 with_entry no_pairs k v = more_pairs k v no_pairs
-with_entry (more_pairs l w ps) k v = if key_eq k l then more_pairs l v ps else more_pairs l w (with_entry ps k v)
+with_entry (more_pairs l w ps) k v =
+    if key_eq k l then more_pairs l v ps else more_pairs l w (with_entry ps k v)
 
 -- keys with their values put in one after another
 abbrev pub with_entries : Pairs → List (Key × Val) → Pairs
@@ -204,7 +209,8 @@ nth_entry no_pairs i = None
 nth_entry (more_pairs k v ps) zero = Some (v, key_val k)
 nth_entry (more_pairs k v ps) (suc i) = nth_entry ps i
 
--- what a generator takes from a domain at a place counted from 0, and the index or the key beside it; it fails past the last
+-- what a generator takes from a domain at a place counted from 0, and the index or the key beside
+-- it; it fails past the last
 abbrev pub taken_of : Val → ℕ → Answer (Val × Val)
 taken_of (array vs) i = given_or fails (option_map (λ v. (v, int (pos i))) (nth vs i))
 taken_of (mapping ps) i = given_or fails (nth_entry ps i)
@@ -241,7 +247,8 @@ overwritten path slot stuck = stuck
 
 -- only `=` makes a key
 abbrev pub key_made : List Val → Mode → Val → Val → Option Key → Answer (Val × Val)
-key_made path Set value slot (Some k) = sized_slot (applied (path_to_map path) (push k value) slot) value
+key_made path Set value slot (Some k) =
+    sized_slot (applied (path_to_map path) (push k value) slot) value
 key_made path mode value slot k = fails
 
 abbrev pub written_at : End → List Val → Mode → Val → Val → Answer (Val × Val)

@@ -1,11 +1,14 @@
 -- Where a path leads in a value, and the value with a change at the end of the path.
-use Rattle.std.specs.Prelude.{ℕ, zero, suc, ℤ, pos, negsuc, List, [], ◌∷◌, Option, Some, None, if◌then◌else◌, ◌≡◌, nat_lt}
-use Rattle.verse_value.specs.Val.{Val, int, array, mapping, Vals, no_vals, more_vals, Pairs, no_pairs, more_pairs}
+use Rattle.std.specs.Prelude.{ℕ, zero, suc, ℤ, pos, negsuc, List, [], ◌∷◌, Option, Some, None}
+use Rattle.std.specs.Prelude.{if◌then◌else◌, ◌≡◌, nat_lt}
+use Rattle.verse_value.specs.Val.{Val, int, array, mapping, Vals, no_vals, more_vals, Pairs}
+use Rattle.verse_value.specs.Val.{no_pairs, more_pairs}
 use Rattle.verse_value.specs.Parts.{joined, first}
 use Rattle.verse_value.specs.Keys.{key_eq, key_of, at_key}
 use Rattle.verse_value.specs.declared.keys.Key.{Key}
 
--- what an index leads to in a value: a part, no part of an array, a key that a map lacks, or it does not go with the value
+-- what an index leads to in a value: a part, no part of an array, a key that a map lacks, or it
+-- does not go with the value
 pub data Step : Type 0 where
   part : Val → Step
   outside : Step
@@ -50,7 +53,8 @@ abbrev pub found : Step → Option Val
 found (part v) = Some v
 found other = None
 
--- where a path leads: to a value that is there, to a key that the last map lacks, nowhere, or it does not go with the value
+-- where a path leads: to a value that is there, to a key that the last map lacks, nowhere, or it
+-- does not go with the value
 pub data End : Type 0 where
   there : Val → End
   new_key : End
@@ -82,7 +86,8 @@ with_nth (more_vals v vs) (suc i) f = more_vals v (with_nth vs i f)
 -- with the value at a key changed
 abbrev pub with_key : Pairs → Key → (Val → Val) → Pairs
 with_key no_pairs k f = no_pairs
-with_key (more_pairs l v ps) k f = if key_eq k l then more_pairs l (f v) ps else more_pairs l v (with_key ps k f)
+with_key (more_pairs l v ps) k f =
+    if key_eq k l then more_pairs l (f v) ps else more_pairs l v (with_key ps k f)
 
 abbrev pub array_with : Vals → Val → (Val → Val) → Vals
 array_with vs (int (pos n)) f = with_nth vs n f
@@ -98,8 +103,8 @@ changed (array vs) index f = array (array_with vs index f)
 changed (mapping ps) index f = mapping (map_with ps (key_of index) f)
 changed v index f = v
 
--- another value in a value's place; a new key at the end of a map, or a map's last key taken off; parts at the end of an array, or all but
--- its first parts taken off
+-- another value in a value's place; a new key at the end of a map, or a map's last key taken off;
+-- parts at the end of an array, or all but its first parts taken off
 pub data Change : Type 0 where
   put : Val → Change
   push : Key → Val → Change
@@ -114,7 +119,8 @@ with_last (more_pairs l w ps) k v = more_pairs l w (with_last ps k v)
 abbrev pub without_last : Pairs → Pairs
 without_last no_pairs = no_pairs
 without_last (more_pairs k v no_pairs) = no_pairs
-without_last (more_pairs k v (more_pairs l w ps)) = more_pairs k v (without_last (more_pairs l w ps))
+without_last (more_pairs k v (more_pairs l w ps)) =
+    more_pairs k v (without_last (more_pairs l w ps))
 
 abbrev pub pushed : Key → Val → Val → Val
 pushed k new (mapping ps) = mapping (with_last ps k new)

@@ -1,5 +1,6 @@
 -- The store: cells by address from 0.
-use Rattle.std.specs.Prelude.{ℕ, ◌+◌, List, [], ◌∷◌, ◌++◌, Option, None, Some, slice_get, slice_set, option_and_then}
+use Rattle.std.specs.Prelude.{ℕ, ◌+◌, List, [], ◌∷◌, ◌++◌, Option, None, Some, slice_get, slice_set}
+use Rattle.std.specs.Prelude.{option_and_then}
 use Rattle.verse_value.specs.Val.{Val, vals}
 use Rattle.verse_value.specs.Sizes.{weights}
 use Rattle.verse_value.specs.declared.runs.CellKind.{CellKind}
@@ -20,7 +21,8 @@ store_weight [] = 0
 store_weight (c ∷ cells) = cell_weight c + store_weight cells
 
 abbrev pub slot_of : Store → ℕ → ℕ → Option Val
-slot_of store cell slot = option_and_then (λ (c : Cell). slice_get c.slots slot) (slice_get store cell)
+slot_of store cell slot = option_and_then (λ (c : Cell). slice_get c.slots slot)
+    (slice_get store cell)
 
 abbrev pub with_slot : Cell → ℕ → Val → Cell
 with_slot c slot v = record c { slots = slice_set c.slots slot v }

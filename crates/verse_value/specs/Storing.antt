@@ -14,11 +14,13 @@ read_slot store cell slot = given_or stuck (slot_of store cell slot)
 
 -- with one cell more, or K3
 abbrev pub add_cell : Store → Cell → Answer Store
-add_cell store c = if nat_le (store_weight (with_cell store c)) MOST_STORE_WEIGHT then gives (with_cell store c) else error kind.Store
+add_cell store c = if nat_le (store_weight (with_cell store c)) MOST_STORE_WEIGHT then gives
+    (with_cell store c) else error kind.Store
 
 -- the limit of the store is looked at last
 abbrev pub sized_store : Store → Val → Answer (Store × Val)
-sized_store store value = if nat_le (store_weight store) MOST_STORE_WEIGHT then gives (store, value) else error kind.Store
+sized_store store value = if nat_le (store_weight store) MOST_STORE_WEIGHT then gives (store, value)
+    else error kind.Store
 
 abbrev pub with_written : Store → ℕ → ℕ → Answer (Val × Val) → Answer (Store × Val)
 with_written store cell slot (gives w) = sized_store (stored store cell slot w.0) w.1
@@ -28,8 +30,10 @@ with_written store cell slot stuck = stuck
 
 abbrev pub write_in : Store → ℕ → ℕ → List Val → Mode → Val → Option Val → Answer (Store × Val)
 write_in store cell slot path mode value None = stuck
-write_in store cell slot path mode value (Some from) = with_written store cell slot (write_at path mode value from)
+write_in store cell slot path mode value (Some from) =
+    with_written store cell slot (write_at path mode value from)
 
 -- a write at a path in a slot: the store after it, and the value written
 abbrev pub write_slot : Store → ℕ → ℕ → List Val → Mode → Val → Answer (Store × Val)
-write_slot store cell slot path mode value = write_in store cell slot path mode value (slot_of store cell slot)
+write_slot store cell slot path mode value =
+    write_in store cell slot path mode value (slot_of store cell slot)

@@ -13,4 +13,5 @@ pub record TakenOff (ks ls : List Key) (vs ws : List Value) (taken : Size) : Typ
   pub value : Value
   pub keys : ks ≡ ls ++ key ∷ []
   pub values : vs ≡ ws ++ value ∷ []
-  pub measures : Measures taken (key_weight key + weight_of (val_of value)) (levels_of (val_of value))
+  pub measures : Measures taken (key_weight key + weight_of (val_of value))
+      (levels_of (val_of value))

@@ -1,8 +1,10 @@
 -- The text of a value.
-use Rattle.std.specs.Prelude.{◌≡◌, ℕ, ◌+◌, ◌/◌, ◌%◌, Bool, ◌&&◌, not, nat_lt, nat_le, ◌==◌, List, [], ◌∷◌, ◌++◌, flat_map, codes, decimal}
+use Rattle.std.specs.Prelude.{◌≡◌, ℕ, ◌+◌, ◌/◌, ◌%◌, Bool, ◌&&◌, not, nat_lt, nat_le, ◌==◌, List}
+use Rattle.std.specs.Prelude.{[], ◌∷◌, ◌++◌, flat_map, codes, decimal}
 use Rattle.std.specs.Prelude.{Option, Some, if◌then◌else◌}
 use Rattle.std.specs.Fmt.{signed_decimal}
-use Rattle.verse_value.specs.Val.{Val, unit, falsity, truth, int, char, enum, object, event, task, some, array, mapping, tuple, Vals}
+use Rattle.verse_value.specs.Val.{Val, unit, falsity, truth, int, char, enum, object, event, task}
+use Rattle.verse_value.specs.Val.{some, array, mapping, tuple, Vals}
 use Rattle.verse_value.specs.Val.{no_vals, more_vals, Pairs, no_pairs, more_pairs}
 use Rattle.verse_value.specs.Keys.{bytes_of, key_of, key_val}
 use Rattle.verse_value.specs.declared.keys.Key.{Key}
@@ -79,7 +81,8 @@ abbrev mutual
 
   pub rest_pairs_text : Pairs → List ℕ
   rest_pairs_text no_pairs = []
-  rest_pairs_text (more_pairs k v ps) = codes ", " ++ (entry_text k (text_of v) ++ rest_pairs_text ps)
+  rest_pairs_text (more_pairs k v ps) =
+      codes ", " ++ (entry_text k (text_of v) ++ rest_pairs_text ps)
 
 abbrev pub map_text : Pairs → List ℕ
 map_text ps = codes "map{" ++ (pairs_text ps ++ codes "}")

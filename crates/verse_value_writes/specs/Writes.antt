@@ -4,7 +4,8 @@ use Rattle.verse_value.specs.Val.{Val}
 use Rattle.verse_value.specs.View.{val_of}
 use Rattle.verse_value.specs.Answer.{Answer, gives, fails, error, stuck}
 use Rattle.verse_value.specs.Operations.{combined, write_at}
-use Rattle.verse_value.specs.Places.{there, end_of, put, pop, shorten, applied, Allows, IsArray, path_to_map}
+use Rattle.verse_value.specs.Places.{there, end_of, put, pop, shorten, applied, Allows, IsArray}
+use Rattle.verse_value.specs.Places.{path_to_map}
 use Rattle.verse_value.specs.declared.modes.Mode.{Mode}
 use Rattle.verse_value_writes.specs.Growing.{grown, parts_there}
 use Rattle.verse_value_writes.specs.declared.writes.WriteFault.{WriteFault}
@@ -45,11 +46,12 @@ pub record Wrote (path : List Val) (mode : Mode) (given before after : Val) : Ty
 -- what is written is a value in the old one's place, or parts added to it
 abbrev pub Makes : Mode → Val → Val → Made → Type 0
 Makes mode old value (made.Put new) = combined mode old value ≡ gives (val_of new)
-Makes mode old value (made.Grow len more) = (combined mode old value ≡ gives (grown (there old) more)) × (len ≡ parts_there (there old)) ×
+Makes mode old value (made.Grow len more) =
+    (combined mode old value ≡ gives (grown (there old) more)) × (len ≡ parts_there (there old)) ×
     IsArray old
 
--- what undoes a write: an old value goes back to the end of the path, the last key of the path's map goes, or all parts of the path's array
--- but the first go
+-- what undoes a write: an old value goes back to the end of the path, the last key of the path's
+-- map goes, or all parts of the path's array but the first go
 abbrev pub undone : List Val → Undo → Val → Val
 undone path (Put old) slot = applied path (put (val_of old)) slot
 undone path DropLast slot = applied (path_to_map path) pop slot

@@ -4,13 +4,16 @@ use Rattle.std.specs.Prelude.{◌&&◌, slice_get}
 use Rattle.verse_meaning_state.specs.Waits.{eqn}
 use Rattle.verse_code_machine_parents.proofs.Lists.{no_both, cond_with, eqn_is}
 use Rattle.verse_sorts.specs.Sorts as s
-use Rattle.verse_sorts.specs.Sorts.{Sort, Sorts, Inherits, itself, above, Fits, FitAll, to_none, to_any, from_never, fits_unit, fits_nil, fits_int}
-use Rattle.verse_sorts.specs.Sorts.{fits_logic, fits_char, fits_span, nil_logic, nil_opt, int_span, unit_span, fits_enum, fits_obj, fits_var}
+use Rattle.verse_sorts.specs.Sorts.{Sort, Sorts, Inherits, itself, above, Fits, FitAll, to_none, to_any, from_never, fits_unit, fits_nil}
+use Rattle.verse_sorts.specs.Sorts.{fits_int}
+use Rattle.verse_sorts.specs.Sorts.{fits_logic, fits_char, fits_span, nil_logic, nil_opt, int_span, unit_span, fits_enum, fits_obj}
+use Rattle.verse_sorts.specs.Sorts.{fits_var}
 use Rattle.verse_sorts.specs.Sorts.{fits_event, fits_task, fits_opt, fits_list, fits_map, fits_tuple, fit_none, fit_more, IsKey, key_never}
 use Rattle.verse_sorts.specs.Sorts.{key_nil, key_int, key_logic, key_char, key_enum, key_text}
 use Rattle.verse_sorts.specs.Typing.{AllFit, fit_no, fit_so}
 use Rattle.verse_verify_kept.specs.Notes.{ClassNote, parent_in}
-use Rattle.verse_verify_faults.specs.Fitting.{same, same_all, heir, on_parent, on_none, on_any, on_unit, on_nil, on_int, on_logic, on_char, on_span}
+use Rattle.verse_verify_faults.specs.Fitting.{same, same_all, heir, on_parent, on_none, on_any, on_unit, on_nil, on_int, on_logic, on_char}
+use Rattle.verse_verify_faults.specs.Fitting.{on_span}
 use Rattle.verse_verify_faults.specs.Fitting.{on_enum, on_obj, on_var, on_event, on_task, on_opt, on_list, on_map, on_tuple, fit, fit_each}
 use Rattle.verse_verify_faults.specs.Fitting.{each_fit, is_char, is_key}
 
@@ -36,7 +39,8 @@ mutual
   same_is (s.task a) (s.task b) e = ap s.task (same_is a b e)
   same_is (s.opt a) (s.opt b) e = ap s.opt (same_is a b e)
   same_is (s.list a) (s.list b) e = ap s.list (same_is a b e)
-  same_is (s.map k a) (s.map l b) e = maps k l a b (same_is k l (both (same k l) (same a b) e).0) (same_is a b (both (same k l) (same a b) e).1)
+  same_is (s.map k a) (s.map l b) e = maps k l a b (same_is k l (both (same k l) (same a b) e).0)
+      (same_is a b (both (same k l) (same a b) e).1)
     where
       maps : (k l a b : Sort) → k ≡ l → a ≡ b → s.map k a ≡ s.map l b
       maps k l a b e f = cc

@@ -30,7 +30,8 @@ number_is (Some a) None e = no_both (sym e)
 pub numbers_are : (xs ys : List ℕ) → same_numbers xs ys ≡ true → xs ≡ ys
 numbers_are [] [] e = refl
 numbers_are (x ∷ xs) (y ∷ ys) e =
-    ap₂ (λ z zs. z ∷ zs) (eqn_is x y (both (eqn x y) (same_numbers xs ys) e).0) (numbers_are xs ys (both (eqn x y) (same_numbers xs ys) e).1)
+    ap₂ (λ z zs. z ∷ zs) (eqn_is x y (both (eqn x y) (same_numbers xs ys) e).0)
+    (numbers_are xs ys (both (eqn x y) (same_numbers xs ys) e).1)
 numbers_are [] (y ∷ ys) e = no_both (sym e)
 numbers_are (x ∷ xs) [] e = no_both (sym e)
 
@@ -222,16 +223,17 @@ module _ (c : Code) (t : Table) where
       settle {j = j} {xs = xs} {ls = ls} new e f l =
           subst (λ ls. Leads c notes (cut p) ls new (opens p.stack p.tries) p.defers j) f (subst (λ ts. Leads c notes (cut p) ls new ts
           p.defers j) (opens_on p.stack new p.tries ev) (subst (λ st. Leads c notes (cut p) ls st (opens (new ++ beneath p.stack p.tries)
-          p.tries) p.defers j) (above_on p.stack p.tries ev new) (subst (λ xs. Leads c notes (cut p) ls (above xs p.tries) (opens xs p.tries)
-          p.defers j) e l)))
+          p.tries) p.defers j) (above_on p.stack p.tries ev new)
+          (subst (λ xs. Leads c notes (cut p) ls (above xs p.tries) (opens xs p.tries) p.defers j) e l)))
 
       -- the next stack has all that lies beneath the innermost open Try
       even_there : (q : Spot) (xs new : List Sort) → Fitting xs q.stack → xs ≡ new ++ beneath p.stack p.tries → p.tries ≡ q.tries →
           even (length q.stack) q.tries ≡ true
       even_there q xs new fit e f =
-          subst (λ ms. even (length q.stack) ms ≡ true) f (even_more (length p.stack) (length q.stack) p.tries (enough (under p.tries) (length
-          (beneath p.stack p.tries)) (length new) (length q.stack) (sym (beneath_length p.stack p.tries ev)) (sym (fit_length (parent_of notes)
-          fit) ∙ (ap length e ∙ length-append new (beneath p.stack p.tries)))) ev)
+          subst (λ ms. even (length q.stack) ms ≡ true) f
+          (even_more (length p.stack) (length q.stack) p.tries
+          (enough (under p.tries) (length (beneath p.stack p.tries)) (length new) (length q.stack) (sym (beneath_length p.stack p.tries ev))
+          (sym (fit_length (parent_of notes) fit) ∙ (ap length e ∙ length-append new (beneath p.stack p.tries)))) ev)
         where
           enough : (u b k q : ℕ) → u ≡ b → q ≡ k + b → u ≤ q
           enough u b k q e f = omega (arith, e, f)
@@ -239,8 +241,9 @@ module _ (c : Code) (t : Table) where
       goes_there : (j : ℕ) (made : List Made) (st new : List Sort) (nx : Next (to c t p i j made st)) →
           nx.stack.sorts ≡ new ++ beneath p.stack p.tries → To c notes (cut p) new j
       goes_there j made st new nx e =
-          settle new e (become_is p.locals nx.locals.become) (leads_with nx.spot nx.there (even_there nx.spot nx.stack.sorts new nx.stack.fit e
-          same) nx.func nx.part same nx.stack.fit nx.locals.fit)
+          settle new e (become_is p.locals nx.locals.become)
+          (leads_with nx.spot nx.there (even_there nx.spot nx.stack.sorts new nx.stack.fit e same) nx.func nx.part same nx.stack.fit
+          nx.locals.fit)
         where
           same : p.tries ≡ nx.spot.tries
           same = marks_are p.tries nx.spot.tries nx.tries

@@ -1,5 +1,7 @@
--- The rule that notes break, and where: V2 for classes and functions, V3 at entries, V4 to V9 at operations.
-use Rattle.std.specs.Prelude.{ℕ, zero, suc, ◌+◌, ◌-◌, List, [], ◌∷◌, ◌++◌, length, map, Option, Some, None, Bool, true, false, not, ◌&&◌, ◌||◌}
+-- The rule that notes break, and where: V2 for classes and functions, V3 at entries, V4 to V9 at
+-- operations.
+use Rattle.std.specs.Prelude.{ℕ, zero, suc, ◌+◌, ◌-◌, List, [], ◌∷◌, ◌++◌, length, map, Option}
+use Rattle.std.specs.Prelude.{Some, None, Bool, true, false, not, ◌&&◌, ◌||◌}
 use Rattle.std.specs.Prelude.{cond, nat_lt, slice_get}
 use Rattle.verse_code.specs.declared.operations.Op.{Op}
 use Rattle.verse_code.specs.declared.operations.Op.TheVariants as o
@@ -13,9 +15,11 @@ use Rattle.verse_sorts.specs.Sorts.{Sort}
 use Rattle.verse_sorts.specs.Typing.{at}
 use Rattle.verse_verify_kept.specs.Notes.{ClassNote, FuncNote, parent_in}
 use Rattle.verse_verify_kept.specs.Rules.{nones, rest_of}
-use Rattle.verse_verify_faults.specs.Fitting.{fit, same, all_fit, each_fit, on_list, on_map, on_var, on_event}
+use Rattle.verse_verify_faults.specs.Fitting.{fit, same, all_fit, each_fit, on_list, on_map, on_var}
+use Rattle.verse_verify_faults.specs.Fitting.{on_event}
 use Rattle.verse_verify_faults.specs.Spots.{Mark, Spot, Table, spot_at, room, above}
-use Rattle.verse_verify_faults.specs.Stepping.{Made, is, list_of, map_of, var_of, event_of, one_of, Part, inner, begins_arm, begins_block, Goes}
+use Rattle.verse_verify_faults.specs.Stepping.{Made, is, list_of, map_of, var_of, event_of, one_of}
+use Rattle.verse_verify_faults.specs.Stepping.{Part, inner, begins_arm, begins_block, Goes}
 use Rattle.verse_verify_faults.specs.Stepping.{Stepped, breaks, leads, try_label, step, spot_locals}
 
 abbrev pub is_none : {A : Type 0} → Option A → Bool
@@ -72,16 +76,20 @@ module _ (cs : List ClassNote) where
 -- the next state is of the part to which the operation leads
 abbrev pub of_part : Spot → ℕ → Part → Spot → Bool
 of_part p i (inner ds) q =
-    same_arm p.arm q.arm && same_number p.block q.block && same_numbers p.outer q.outer && eqn p.under q.under && same_numbers ds q.defers
-of_part p i begins_arm q = not (is_none q.arm) && is_none q.block && is_nil q.outer && eqn q.under 0 && is_nil q.defers
+    same_arm p.arm q.arm && same_number p.block q.block && same_numbers p.outer q.outer &&
+    eqn p.under q.under && same_numbers ds q.defers
+of_part p i begins_arm q = not (is_none q.arm) && is_none q.block && is_nil q.outer &&
+    eqn q.under 0 && is_nil q.defers
 of_part p i (begins_block names count) q =
-    same_arm p.arm q.arm && same_number (Some i) q.block && same_numbers names q.outer && eqn count q.under && is_nil q.defers
+    same_arm p.arm q.arm && same_number (Some i) q.block && same_numbers names q.outer &&
+    eqn count q.under && is_nil q.defers
 
 module _ (c : Code) (t : Table) where
   -- V7
   abbrev pub suits : Spot → Goes → Bool
-  suits p g = on_spot (spot_at t g.index) (λ q. eqn p.func q.func && of_part p g.index g.part q && known_marks g.tries q.tries && each_holds
-      t.classes g.stack q.stack && each_holds t.classes g.locals q.locals)
+  suits p g = on_spot (spot_at t g.index)
+      (λ q. eqn p.func q.func && of_part p g.index g.part q && known_marks g.tries q.tries &&
+      each_holds t.classes g.stack q.stack && each_holds t.classes g.locals q.locals)
 
   abbrev pub all_suit : Spot → List Goes → Bool
   all_suit p [] = true
@@ -93,7 +101,8 @@ module _ (c : Code) (t : Table) where
   label_behind i (Some l) = nat_lt i l
 
   abbrev pub is_around : ℕ → ℕ → Bool
-  is_around i j = nat_lt j i && label_behind i (try_label (slice_get c.ops j)) && not (is_none (spot_at t j))
+  is_around i j = nat_lt j i && label_behind i (try_label (slice_get c.ops j)) &&
+      not (is_none (spot_at t j))
 
   abbrev pub all_around : ℕ → List ℕ → Bool
   all_around i [] = true
@@ -110,7 +119,8 @@ module _ (c : Code) (t : Table) where
 
   abbrev pub is_quiet : List ℕ → ℕ → Bool
   is_quiet [] l = true
-  is_quiet (j ∷ js) l = asks_nothing (at (locals_at (try_label (slice_get c.ops j))) l) && is_quiet js l
+  is_quiet (j ∷ js) l = asks_nothing (at (locals_at (try_label (slice_get c.ops j))) l) &&
+      is_quiet js l
 
   abbrev pub all_quiet : List ℕ → List ℕ → Bool
   all_quiet js [] = true
@@ -122,7 +132,8 @@ module _ (c : Code) (t : Table) where
   func_fails (Some g) = g.may_fail
 
   abbrev pub may_fail : Spot → Bool
-  may_fail p = not (is_nil p.tries) || (is_none p.arm && is_none p.block && func_fails (slice_get t.functions p.func))
+  may_fail p = not (is_nil p.tries) ||
+      (is_none p.arm && is_none p.block && func_fails (slice_get t.functions p.func))
 
   abbrev pub func_waits : Option FuncNote → Bool
   func_waits None = false
@@ -207,7 +218,8 @@ module _ (c : Code) (t : Table) where
   tries_fit p o.Undo = level p.tries p.defers && at_height p.stack p.tries
   tries_fit p o.Return = is_nil p.tries
   tries_fit p o.ArmEnd = is_nil p.tries
-  tries_fit p (o.Leave m) = not (ltn m (keeps p.tries)) && not (ltn m p.under) && not (ltn (p.under + length p.defers) m)
+  tries_fit p (o.Leave m) = not (ltn m (keeps p.tries)) && not (ltn m p.under) &&
+      not (ltn (p.under + length p.defers) m)
   tries_fit p o.DeferEnd = is_nil p.tries && is_nil p.stack
   tries_fit p op = true
 
@@ -218,13 +230,16 @@ module _ (c : Code) (t : Table) where
 
   abbrev pub entry_fits : Spot → ℕ → ℕ → List Sort → Spot → Bool
   entry_fits p e count ls q =
-      eqn p.func q.func && same_arm p.arm q.arm && same_number (Some e) q.block && is_nil q.stack && is_nil q.tries && is_nil q.defers && eqn
-      (p.under + count) q.under && ends_with q.outer (map (λ (m : Mark). m.index) p.tries ++ p.outer) && each_fit t.classes ls q.locals
+      eqn p.func q.func && same_arm p.arm q.arm && same_number (Some e) q.block && is_nil q.stack &&
+      is_nil q.tries && is_nil q.defers && eqn (p.under + count) q.under &&
+      ends_with q.outer (map (λ (m : Mark). m.index) p.tries ++ p.outer) &&
+      each_fit t.classes ls q.locals
 
   abbrev pub ready : Spot → List Sort → List ℕ → Bool
   ready p ls [] = true
   ready p ls (e ∷ ds) =
-      on_spot (spot_at t e) (λ q. entry_fits p e (length ds) ls q) && ready p (spot_locals (spot_at t e) ls) ds
+      on_spot (spot_at t e) (λ q. entry_fits p e (length ds) ls q) &&
+      ready p (spot_locals (spot_at t e) ls) ds
 
   abbrev pub callee_is : Option FuncNote → (FuncNote → Bool) → Bool
   callee_is None test = false
@@ -235,8 +250,9 @@ module _ (c : Code) (t : Table) where
 
   abbrev pub keeps_8 : ℕ → Spot → Op → List ℕ → Option FuncNote → Bool
   keeps_8 i p op ws callee =
-      all_around i (tries_of p) && tries_fit p op && implies (can_fail op || (is_call op && callee_is callee (λ g. g.may_fail))) (may_fail p)
-      && all_quiet (tries_of p) ws && ready p p.locals p.defers
+      all_around i (tries_of p) && tries_fit p op &&
+      implies (can_fail op || (is_call op && callee_is callee (λ g. g.may_fail))) (may_fail p) &&
+      all_quiet (tries_of p) ws && ready p p.locals p.defers
 
   -- V9
   abbrev pub are_arms : ℕ → ℕ → Bool
@@ -253,8 +269,8 @@ module _ (c : Code) (t : Table) where
 
   abbrev pub keeps_9 : ℕ → Spot → Op → Option FuncNote → Bool
   keeps_9 i p op callee =
-      implies (can_wait op || (is_call op && callee_is callee (λ g. g.may_wait))) (may_wait p) && not (is_spawn op && callee_is callee (λ g.
-      g.may_fail)) && parts_fit i p op
+      implies (can_wait op || (is_call op && callee_is callee (λ g. g.may_wait))) (may_wait p) &&
+      not (is_spawn op && callee_is callee (λ g. g.may_fail)) && parts_fit i p op
 
   -- how many operands an operation pops
   abbrev pub func_pops : Option Func → ℕ
@@ -319,7 +335,8 @@ module _ (c : Code) (t : Table) where
 
   abbrev pub fault_of : ℕ → Spot → Op → Option ℕ
   fault_of i p op =
-      cond (nat_lt (room p.stack p.tries) (pops op)) (Some 4) (by_step i p op (step c t p i op (above p.stack p.tries)))
+      cond (nat_lt (room p.stack p.tries) (pops op)) (Some 4)
+      (by_step i p op (step c t p i op (above p.stack p.tries)))
 
   abbrev pub fault_here : ℕ → Option Spot → Op → Option ℕ
   fault_here i None op = None
@@ -335,11 +352,13 @@ module _ (c : Code) (t : Table) where
   begins_at k [] gs i = true
   begins_at k (f ∷ fs) [] i = false
   begins_at k (f ∷ fs) (g ∷ gs) i =
-      cond (eqn f.entry i) (on_spot (spot_at t i) (λ q. begins k f g q)) true && begins_at (suc k) fs gs i
+      cond (eqn f.entry i) (on_spot (spot_at t i) (λ q. begins k f g q)) true &&
+      begins_at (suc k) fs gs i
 
   -- the least rule at an operation, and the first operation that breaks one
   abbrev pub fault_at : ℕ → Op → Option ℕ
-  fault_at i op = cond (begins_at 0 c.functions t.functions i) (fault_here i (spot_at t i) op) (Some 3)
+  fault_at i op = cond (begins_at 0 c.functions t.functions i) (fault_here i (spot_at t i) op)
+      (Some 3)
 
   abbrev pub or_later : ℕ → Option ℕ → Option (ℕ × ℕ) → Option (ℕ × ℕ)
   or_later i None later = later
@@ -353,7 +372,8 @@ module _ (c : Code) (t : Table) where
   abbrev pub comes_back : ℕ → ℕ → Option ℕ → Bool
   comes_back zero k b = false
   comes_back (suc n) k None = false
-  comes_back (suc n) k (Some b) = cond (eqn k b) true (comes_back n k (parent_in (slice_get t.classes b)))
+  comes_back (suc n) k (Some b) =
+      cond (eqn k b) true (comes_back n k (parent_in (slice_get t.classes b)))
 
   -- its slots begin with those of its parent
   abbrev pub prefix : List Sort → List Sort → Bool
@@ -368,8 +388,9 @@ module _ (c : Code) (t : Table) where
   abbrev pub overrides : Option FuncNote → Option FuncNote → Bool
   overrides None g = false
   overrides (Some f) None = true
-  overrides (Some f) (Some g) = same_each (rest_of f.params) (rest_of g.params) && fit t.classes f.result g.result && implies f.may_fail
-      g.may_fail && implies f.may_wait g.may_wait
+  overrides (Some f) (Some g) = same_each (rest_of f.params) (rest_of g.params) &&
+      fit t.classes f.result g.result && implies f.may_fail g.may_fail &&
+      implies f.may_wait g.may_wait
 
   abbrev pub note_at : ℕ → Option FuncNote
   note_at j = slice_get t.functions j
@@ -402,10 +423,12 @@ module _ (c : Code) (t : Table) where
   abbrev pub inherits : Option ℕ → ClassNote → Class → Bool
   inherits None x q = true
   inherits (Some b) x q =
-      not (is_none (slice_get t.classes b)) && prefix (slots_in (slice_get t.classes b)) x.slots && all_override (methods_at (slice_get c.classes b)) q.methods
+      not (is_none (slice_get t.classes b)) && prefix (slots_in (slice_get t.classes b)) x.slots &&
+      all_override (methods_at (slice_get c.classes b)) q.methods
 
   abbrev pub class_is : ℕ → ClassNote → Class → Bool
-  class_is k x q = not (comes_back (length t.classes) k x.parent) && inherits x.parent x q && are_methods k q.methods
+  class_is k x q = not (comes_back (length t.classes) k x.parent) && inherits x.parent x q &&
+      are_methods k q.methods
 
   abbrev pub class_fault : ℕ → List ClassNote → List Class → Option ℕ
   class_fault k [] qs = None
@@ -418,7 +441,8 @@ module _ (c : Code) (t : Table) where
   takes_inputs (a ∷ xs) = fit t.classes (s.list s.int) a && takes_inputs xs
 
   abbrev pub func_is : ℕ → FuncNote → Bool
-  func_is k g = not (g.may_fail && g.may_wait) && cond (eqn k c.main) (not g.may_fail && takes_inputs g.params) true
+  func_is k g = not (g.may_fail && g.may_wait) &&
+      cond (eqn k c.main) (not g.may_fail && takes_inputs g.params) true
 
   abbrev pub func_fault : ℕ → List FuncNote → Option ℕ
   func_fault k [] = None

@@ -1,7 +1,9 @@
 -- Tests of sorts: which are the same, which fit which, which are keys.
-use Rattle.std.specs.Prelude.{ℕ, zero, suc, List, [], ◌∷◌, length, Option, Some, None, Bool, true, false, ◌&&◌, cond, slice_get}
+use Rattle.std.specs.Prelude.{ℕ, zero, suc, List, [], ◌∷◌, length, Option, Some, None, Bool, true}
+use Rattle.std.specs.Prelude.{false, ◌&&◌, cond, slice_get}
 use Rattle.verse_meaning_state.specs.Waits.{eqn}
-use Rattle.verse_sorts.specs.Sorts.{Sort, Sorts, none, any, never, unit, nil, int, logic, char, span, enum, obj, var, event, task, opt, list}
+use Rattle.verse_sorts.specs.Sorts.{Sort, Sorts, none, any, never, unit, nil, int, logic, char}
+use Rattle.verse_sorts.specs.Sorts.{span, enum, obj, var, event, task, opt, list}
 use Rattle.verse_sorts.specs.Sorts.{map, tuple, no_sorts, more_sorts}
 use Rattle.verse_verify_kept.specs.Notes.{ClassNote, parent_in}
 
@@ -39,7 +41,8 @@ on_parent (Some b) go = go b
 -- a class inherits from another, by at most so many parents
 abbrev pub heir : ℕ → List ClassNote → ℕ → ℕ → Bool
 heir zero cs c d = eqn c d
-heir (suc k) cs c d = cond (eqn c d) true (on_parent (parent_in (slice_get cs c)) (λ b. heir k cs b d))
+heir (suc k) cs c d = cond (eqn c d) true
+    (on_parent (parent_in (slice_get cs c)) (λ b. heir k cs b d))
 
 -- the second sort, where the first is of this form: a none or an any fits what it is
 abbrev pub on_none : Sort → Bool

@@ -1,5 +1,7 @@
--- Notes as their bytes give them: the state at an operation has its whole stack, and a height for each open Try.
-use Rattle.std.specs.Prelude.{ℕ, ◌-◌, List, [], ◌∷◌, length, take, drop, map, Option, Some, None, Bool, true, ◌&&◌, nat_le, cond, slice_get}
+-- Notes as their bytes give them: the state at an operation has its whole stack, and a height for
+-- each open Try.
+use Rattle.std.specs.Prelude.{ℕ, ◌-◌, List, [], ◌∷◌, length, take, drop, map, Option, Some, None}
+use Rattle.std.specs.Prelude.{Bool, true, ◌&&◌, nat_le, cond, slice_get}
 use Rattle.verse_sorts.specs.Sorts.{Sort}
 use Rattle.verse_verify_kept.specs.Notes.{ClassNote, FuncNote, Open, Point, Notes}
 
@@ -48,7 +50,8 @@ beneath st ms = drop (room st ms) st
 abbrev pub opens : List Sort → List Mark → List Open
 opens st [] = []
 opens st (m ∷ ms) =
-    record { index = m.index; beneath = above (beneath st (m ∷ ms)) ms } ∷ opens (beneath st (m ∷ ms)) ms
+    record { index = m.index; beneath = above (beneath st (m ∷ ms)) ms } ∷
+    opens (beneath st (m ∷ ms)) ms
 
 -- the heights are heights of the stack, the innermost the greatest
 abbrev pub even : ℕ → List Mark → Bool

@@ -1,5 +1,6 @@
 -- What an operation asks of the state at it, and where it leads.
-use Rattle.std.specs.Prelude.{ℕ, zero, suc, ◌+◌, List, [], ◌∷◌, ◌++◌, length, map, Option, Some, None, Bool, true, false, ◌&&◌, ◌||◌, cond, slice_get}
+use Rattle.std.specs.Prelude.{ℕ, zero, suc, ◌+◌, List, [], ◌∷◌, ◌++◌, length, map, Option, Some}
+use Rattle.std.specs.Prelude.{None, Bool, true, false, ◌&&◌, ◌||◌, cond, slice_get}
 use Rattle.verse_code.specs.declared.operations.Op.{Op}
 use Rattle.verse_code.specs.declared.operations.Op.TheVariants as o
 use Rattle.verse_code.specs.declared.codes.Func.{Func}
@@ -25,8 +26,9 @@ pub data Made : Type 0 where
   event_of : Made
   one_of : List Sort → Made
 
--- of which block and arm the next state is: of the same, with these blocks deferred; the first of an arm; a deferred block's first, with the
--- Trys around it and how many blocks are deferred beneath it
+-- of which block and arm the next state is: of the same, with these blocks deferred; the first of
+-- an arm; a deferred block's first, with the Trys around it and how many blocks are deferred
+-- beneath it
 pub data Part : Type 0 where
   inner : (defers : List ℕ) → Part
   begins_arm : Part
@@ -159,7 +161,8 @@ module _ (cs : List ClassNote) where
   taken (s.list a) = Some (record { value = a; beside = s.int; far = 1; last = s.int })
   taken (s.map k a) = Some (record { value = a; beside = k; far = 1; last = s.int })
   taken s.never = Some (record { value = s.never; beside = s.never; far = 1; last = s.int })
-  taken a = cond (fit cs a s.span) (Some (record { value = s.int; beside = s.any; far = 0; last = s.span })) None
+  taken a = cond (fit cs a s.span)
+      (Some (record { value = s.int; beside = s.any; far = 0; last = s.span })) None
 
   -- of a local that may be read
   abbrev pub is_taken : Option Taking → Bool
@@ -197,7 +200,8 @@ note_of fs None = None
 note_of fs (Some j) = slice_get fs j
 
 abbrev pub on_method : Code → Table → Sort → ℕ → Stepped → (FuncNote → Stepped) → Stepped
-on_method c t (s.obj k) m nothing go = on_there 6 (note_of t.functions (methods_of (slice_get c.classes k) m)) go
+on_method c t (s.obj k) m nothing go =
+    on_there 6 (note_of t.functions (methods_of (slice_get c.classes k) m)) go
 on_method c t s.never m nothing go = nothing
 on_method c t a m nothing go = breaks 5
 
@@ -236,7 +240,8 @@ abbrev pub label_locals : Table → Option ℕ → List Sort → List Sort
 label_locals t None ls = ls
 label_locals t (Some l) ls = spot_locals (spot_at t l) ls
 
--- the labels of the Arms among so many operations, and what the arms give where all of them have notes
+-- the labels of the Arms among so many operations, and what the arms give where all of them have
+-- notes
 abbrev pub with_label : Option ℕ → List ℕ → List ℕ
 with_label None ls = ls
 with_label (Some l) ls = l ∷ ls
@@ -300,7 +305,8 @@ module _ (c : Code) (t : Table) (p : Spot) (i : ℕ) where
   writing ls ws st = leads (record (to (suc i) [] st) { locals = ls } ∷ []) ws None
 
   abbrev pub ints : List Sort → (List Sort → Stepped) → Stepped
-  ints st go = pop st (λ b st. pop st (λ a st. need 5 (fit t.classes a s.int && fit t.classes b s.int) (go st)))
+  ints st go = pop st (λ b st. pop st
+      (λ a st. need 5 (fit t.classes a s.int && fit t.classes b s.int) (go st)))
 
   abbrev pub counts : List Sort → Stepped
   counts st = ints st (λ st. goes_on (is s.int ∷ []) st)
@@ -367,9 +373,10 @@ module _ (c : Code) (t : Table) (p : Spot) (i : ℕ) where
   step (o.Ceil k) st = counts st
   step o.Mod st = counts st
   step (o.Concat k) st =
-      pop st (λ b st. pop st (λ a st. on_there 5 (part_of_list a) (λ d. on_there 5 (part_of_list b) (λ e. goes_on (list_of (d ∷ e ∷ []) ∷ [])
-      st))))
-  step (o.Join m k) st = pop_all m st [] (λ xs st. need 5 (all_shown t.classes xs) (goes_on (is (s.list s.char) ∷ []) st))
+      pop st (λ b st. pop st (λ a st. on_there 5 (part_of_list a)
+      (λ d. on_there 5 (part_of_list b) (λ e. goes_on (list_of (d ∷ e ∷ []) ∷ []) st))))
+  step (o.Join m k) st = pop_all m st []
+      (λ xs st. need 5 (all_shown t.classes xs) (goes_on (is (s.list s.char) ∷ []) st))
   step o.Lt st = counts st
   step o.Le st = counts st
   step o.Gt st = counts st
@@ -378,23 +385,30 @@ module _ (c : Code) (t : Table) (p : Spot) (i : ℕ) where
   step o.Ne st = pop st (λ b st. pop st (λ a st. goes_on (is a ∷ []) st))
   step (o.Array m k) st = pop_all m st [] (λ xs st. goes_on (list_of xs ∷ []) st)
   step (o.Map m k) st =
-      pop_all (m + m) st [] (λ xs st. need 5 (all_keys (firsts xs)) (goes_on (map_of (firsts xs) (seconds xs) ∷ []) st))
+      pop_all (m + m) st [] (λ xs st. need 5 (all_keys (firsts xs))
+      (goes_on (map_of (firsts xs) (seconds xs) ∷ []) st))
   step (o.Tuple m k) st = pop_all m st [] (λ xs st. goes_on (is (s.tuple (sorts xs)) ∷ []) st)
   step (o.Some k) st = pop st (λ a st. goes_on (is (s.opt a) ∷ []) st)
   step o.Query st = pop st (λ a st. on_there 5 (queried a) (λ r. goes_on (is r ∷ []) st))
   step (o.Item m) st = pop st (λ a st. on_tuple_item t.classes a m (λ r. goes_on (is r ∷ []) st))
-  step o.At st = pop st (λ b st. pop st (λ a st. on_there 5 (part_at t.classes a b) (λ r. goes_on (is r ∷ []) st)))
+  step o.At st = pop st (λ b st. pop st
+      (λ a st. on_there 5 (part_at t.classes a b) (λ r. goes_on (is r ∷ []) st)))
   step o.Length st = pop st (λ a st. need 5 (counted a) (goes_on (is s.int ∷ []) st))
   step (o.New k) st = pop st (λ a st. goes_on (var_of a ∷ []) st)
   step (o.Load m) st = pop st (λ a st. on_slot t.classes a m (λ r. goes_on (is r ∷ []) st))
   step (o.Store slot m mode k) st =
-      pop st (λ v st. pop_all m st [] (λ xs st. pop st (λ a st. on_slot t.classes a slot (λ b. on_there 5 (at_path t.classes (Some b) xs) (λ
-      r. need 5 (may_write t.classes mode r v) (goes_on (is r ∷ []) st))))))
-  step (o.Object class k) st = on_there 6 (slice_get c.classes class) (λ (q : Class). on_there 6 (slice_get t.classes class) (λ (x :
-      ClassNote). pop_all q.slots st [] (λ xs st. need 5 (each_fit t.classes xs x.slots) (goes_on (is (s.obj class) ∷ []) st))))
+      pop st (λ v st. pop_all m st []
+      (λ xs st. pop st (λ a st. on_slot t.classes a slot
+      (λ b. on_there 5 (at_path t.classes (Some b) xs)
+      (λ r. need 5 (may_write t.classes mode r v) (goes_on (is r ∷ []) st))))))
+  step (o.Object class k) st = on_there 6 (slice_get c.classes class)
+      (λ (q : Class). on_there 6 (slice_get t.classes class)
+      (λ (x : ClassNote). pop_all q.slots st []
+      (λ xs st. need 5 (each_fit t.classes xs x.slots) (goes_on (is (s.obj class) ∷ []) st))))
   step (o.Event k) st = goes_on (event_of ∷ []) st
   step (o.Jump l) st = goes_to l [] st
-  step (o.Same l) st = pop st (λ b st. pop st (λ a st. leads (to (suc i) [] st ∷ to l [] st ∷ []) [] None))
+  step (o.Same l) st = pop st (λ b st. pop st
+      (λ a st. leads (to (suc i) [] st ∷ to l [] st ∷ []) [] None))
   step (o.Again l) st = goes_to l [] st
   step (o.Try l) st =
       leads (record (to (suc i) [] st) {
@@ -406,44 +420,66 @@ module _ (c : Code) (t : Table) (p : Spot) (i : ℕ) where
     locals = map is (label_locals t (label_at c p.tries) p.locals);
   } ∷ []) [] None
   step o.Fail st = leads [] [] None
-  step (o.Call f) st = on_there 6 (slice_get c.functions f) (λ (q : Func). on_there 6 (slice_get t.functions f) (λ (g : FuncNote). pop_all
-      q.params st [] (λ xs st. need 5 (each_fit t.classes xs g.params) (calls g g.result st))))
+  step (o.Call f) st = on_there 6 (slice_get c.functions f)
+      (λ (q : Func). on_there 6 (slice_get t.functions f)
+      (λ (g : FuncNote). pop_all q.params st []
+      (λ xs st. need 5 (each_fit t.classes xs g.params) (calls g g.result st))))
   step (o.Method m k) st =
-      pop_all k st [] (λ xs st. pop st (λ a st. on_method c t a m (goes_on (is s.never ∷ []) st) (λ g. need 6 (eqn (length g.params) (suc k))
+      pop_all k st [] (λ xs st. pop st
+      (λ a st. on_method c t a m (goes_on (is s.never ∷ []) st)
+      (λ g. need 6 (eqn (length g.params) (suc k))
       (need 5 (each_fit t.classes (a ∷ xs) g.params) (calls g g.result st)))))
-  step o.Return st = pop st (λ a st. on_there 6 (slice_get t.functions p.func) (λ (g : FuncNote). need 5 (fit t.classes a g.result) (leads []
-      [] None)))
+  step o.Return st = pop st (λ a st. on_there 6 (slice_get t.functions p.func)
+      (λ (g : FuncNote). need 5 (fit t.classes a g.result) (leads [] [] None)))
   step (o.Each l) st =
-      pop st (λ a st. need 5 (counted a) (on_there 6 (put here l (is a)) (λ ls. on_there 6 (put ls (suc l) (is s.int)) (λ ms. writing ms (l ∷
-      suc l ∷ []) st))))
+      pop st (λ a st. need 5 (counted a)
+      (on_there 6 (put here l (is a))
+      (λ ls. on_there 6 (put ls (suc l) (is s.int)) (λ ms. writing ms (l ∷ suc l ∷ []) st))))
   step (o.Range l) st =
-      ints st (λ st. on_there 6 (put here l (is s.span)) (λ ls. on_there 6 (put ls (suc l) (is s.int)) (λ ms. writing ms (l ∷ suc l ∷ [])
-      st)))
-  step (o.Take l d label) st = need 5 (may_take t.classes (readable (at p.locals l)) && may_number t.classes (readable (at p.locals (suc l))))
-      (on_there 6 (readable (at p.locals l)) (λ a. on_there 6 (readable (at p.locals (suc l))) (λ b. on_there 5 (taken t.classes a) (λ k.
-      on_there 6 (put here d (is k.value)) (λ xs. on_there 6 (put xs (suc d) (is k.beside)) (λ ys. on_there 6 (put ys (l + k.far) (is
-      k.last)) (λ zs. leads (to (suc i) [] st ∷ record (to label [] st) { locals = zs } ∷ []) (l ∷ suc l ∷ d ∷ suc d ∷ []) None)))))))
+      ints st (λ st. on_there 6 (put here l (is s.span))
+      (λ ls. on_there 6 (put ls (suc l) (is s.int)) (λ ms. writing ms (l ∷ suc l ∷ []) st)))
+  step (o.Take l d label) st = need 5
+      (may_take t.classes (readable (at p.locals l)) &&
+      may_number t.classes (readable (at p.locals (suc l))))
+      (on_there 6 (readable (at p.locals l))
+      (λ a. on_there 6 (readable (at p.locals (suc l)))
+      (λ b. on_there 5 (taken t.classes a)
+      (λ k. on_there 6 (put here d (is k.value))
+      (λ xs. on_there 6 (put xs (suc d) (is k.beside))
+      (λ ys. on_there 6 (put ys (l + k.far) (is k.last))
+      (λ zs. leads (to (suc i) [] st ∷ record (to label [] st) { locals = zs } ∷ [])
+      (l ∷ suc l ∷ d ∷ suc d ∷ []) None)))))))
   step (o.Append l k) st =
-      pop st (λ a st. on_there 6 (readable (at p.locals l)) (λ b. on_there 5 (part_of_list b) (λ d. on_there 6 (put here l (list_of (d ∷ a ∷
-      []))) (λ ls. writing ls (l ∷ []) st))))
-  step (o.Print k) st = pop st (λ a st. need 5 (fit t.classes a (s.list s.char)) (goes_on (is s.unit ∷ []) st))
+      pop st (λ a st. on_there 6 (readable (at p.locals l))
+      (λ b. on_there 5 (part_of_list b)
+      (λ d. on_there 6 (put here l (list_of (d ∷ a ∷ []))) (λ ls. writing ls (l ∷ []) st))))
+  step (o.Print k) st = pop st (λ a st. need 5 (fit t.classes a (s.list s.char))
+      (goes_on (is s.unit ∷ []) st))
   step (o.Sleep k) st = goes_on (is s.unit ∷ []) st
   step o.Forever st = goes_on (is s.unit ∷ []) st
   step o.AwaitTask st = pop st (λ a st. on_task a (λ r. goes_on (is r ∷ []) st))
   step o.AwaitEvent st = pop st (λ a st. on_heard a (λ r. goes_on (is r ∷ []) st))
-  step o.Signal st = pop st (λ v st. pop st (λ e st. need 5 (may_send t.classes e v) (goes_on (is s.unit ∷ []) st)))
-  step (o.Spawn f) st = on_there 6 (slice_get c.functions f) (λ (q : Func). on_there 6 (slice_get t.functions f) (λ (g : FuncNote). pop_all
-      q.params st [] (λ xs st. need 5 (each_fit t.classes xs g.params) (calls g (s.task g.result) st))))
+  step o.Signal st = pop st (λ v st. pop st
+      (λ e st. need 5 (may_send t.classes e v) (goes_on (is s.unit ∷ []) st)))
+  step (o.Spawn f) st = on_there 6 (slice_get c.functions f)
+      (λ (q : Func). on_there 6 (slice_get t.functions f)
+      (λ (g : FuncNote). pop_all q.params st []
+      (λ xs st. need 5 (each_fit t.classes xs g.params) (calls g (s.task g.result) st))))
   step (o.SpawnMethod m k) st =
-      pop_all k st [] (λ xs st. pop st (λ a st. on_method c t a m (goes_on (is (s.task s.never) ∷ []) st) (λ g. need 6 (eqn (length g.params)
-      (suc k)) (need 5 (each_fit t.classes (a ∷ xs) g.params) (calls g (s.task g.result) st)))))
+      pop_all k st [] (λ xs st. pop st
+      (λ a st. on_method c t a m (goes_on (is (s.task s.never) ∷ []) st)
+      (λ g. need 6 (eqn (length g.params) (suc k))
+      (need 5 (each_fit t.classes (a ∷ xs) g.params) (calls g (s.task g.result) st)))))
   step (o.Group kind m k) st =
-      leads (arms_at (arm_labels c.ops (suc i) m) (to (suc i + m) (grouped kind (arm_results t m (arm_labels c.ops (suc i) m)) ∷ []) st ∷ [])) []
-      None
+      leads (arms_at (arm_labels c.ops (suc i) m)
+      (to (suc i + m) (grouped kind (arm_results t m (arm_labels c.ops (suc i) m)) ∷ []) st ∷ []))
+      [] None
   step (o.Arm l) st = leads [] [] None
   step (o.Branch l) st = leads (arm_at (suc i) ∷ to l (is s.unit ∷ []) st ∷ []) [] None
-  step o.ArmEnd st = pop st (λ a st. need 5 (all_fit t.classes (a ∷ []) (arm_sort p.arm)) (leads [] [] None))
+  step o.ArmEnd st = pop st (λ a st. need 5 (all_fit t.classes (a ∷ []) (arm_sort p.arm))
+      (leads [] [] None))
   step (o.Defer l) st =
-      leads (block_at (suc i) (length p.defers) p.locals ∷ record (to l [] st) { part = inner (suc i ∷ p.defers) } ∷ []) [] None
+      leads (block_at (suc i) (length p.defers) p.locals ∷
+      record (to l [] st) { part = inner (suc i ∷ p.defers) } ∷ []) [] None
   step (o.Leave m) st = leads (leaves m p.locals p.defers) [] None
   step o.DeferEnd st = leads (block_again p.block) [] None

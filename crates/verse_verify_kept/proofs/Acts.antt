@@ -23,14 +23,17 @@ use Rattle.verse_sorts.specs.Typing.{fit_so}
 use Rattle.verse_sorts.proofs.Fitting.{all_itself, are_more, are_up, adds_itself}
 use Rattle.verse_verify_kept.specs.Notes.{FuncNote, Open, Point, Notes, parent_of, point_at}
 use Rattle.verse_verify_kept.specs.Known.{Known}
-use Rattle.verse_verify_kept.specs.Rules.{Kin, Fit, Each, TriesFit, Leads, To, MayFail, in_try, in_function, tries_so, MayWait, MayCall, Around, Sound, Begins, Passes, Pops}
+use Rattle.verse_verify_kept.specs.Rules.{Kin, Fit, Each, TriesFit, Leads, To, MayFail, in_try, in_function, tries_so, MayWait, MayCall}
+use Rattle.verse_verify_kept.specs.Rules.{Around, Sound, Begins, Passes, Pops}
 use Rattle.verse_verify_kept.specs.Rules.{pops_no, pops_so, Quiet, nones}
 use Rattle.verse_verify_kept.specs.Rules as r
 use Rattle.verse_verify_kept.specs.Kept.{Giver, func_gives, arm_gives, giver, All, StoreIs, Own, own, Tried, Beneath, plain, trying}
 use Rattle.verse_verify_kept.specs.Kept.{without_top, Waits, Below, Bottom}
 use Rattle.verse_verify_kept.proofs.Locals.{gets, Got, got, put_there, Put, puts, units_are, joined_are}
-use Rattle.verse_verify_kept.proofs.Places.{try_live, same_in, none_left, try_label, fits_there, handles, moves, written, tries_itself, Based, based, bases, Opened, opened, opens, with_defers}
-use Rattle.verse_verify_kept.proofs.Going.{Good, next, over, only_good, next_to, Rest, Fresh, goes_to, failing_good, Ends, same_giver, less_fresh}
+use Rattle.verse_verify_kept.proofs.Places.{try_live, same_in, none_left, try_label, fits_there, handles, moves, written, tries_itself}
+use Rattle.verse_verify_kept.proofs.Places.{Based, based, bases, Opened, opened, opens, with_defers}
+use Rattle.verse_verify_kept.proofs.Going.{Good, next, over, only_good, next_to, Rest, Fresh, goes_to, failing_good, Ends, same_giver}
+use Rattle.verse_verify_kept.proofs.Going.{less_fresh}
 
 -- the top operand and what lies beneath it
 pub data Topped (c : Code) (n : Notes) (a : Sort) (xs zs : List Sort) : Type 0 where
@@ -205,7 +208,8 @@ module _ (c : Code) (n : Notes) (bottom : Bottom c n) where
               subst (λ st. Good c n bottom (goes w x s s g ls st (suc pc) hs bl)) (sym (pieces above i.stack y.held.above y.held.more
               y.held.split)) (goes_to c n bottom ok w x s s g ls (above ++ y.held.above) y.held.more hs bl t l a (joined_are (parent_of n) t
               b (are_up (parent_of n) (are_more (parent_of n) y.grows.grows y.held.stack) (subst (λ (r : Open). Each c n y.held.point.stack
-              r.beneath) head y.operands))) (beneath_in c n y head tail (try_live c n y head) (h y.held.point (try_live c n y head)) j y.grows) z f)
+              r.beneath) head y.operands))) (beneath_in c n y head tail (try_live c n y head) (h y.held.point (try_live c n y head)) j
+              y.grows) z f)
 
       pub undo_good : {above : List Val} → All c n t above p.stack → Passes c n pc p o.Undo →
           Good c n bottom (act c o.Undo w x s g ls (above ++ more) pc hs bl)
@@ -216,10 +220,10 @@ module _ (c : Code) (n : Notes) (bottom : Bottom c n) where
               p p.defers ls g.defers g.noted r ts more hs → Good c n bottom (act c o.Undo w x s g ls (above ++ more) pc hs bl)
           with_try are_no (opened {h = i} {hs = hs} y head tail j) =
               subst (λ st. Good c n bottom (goes w x s (restored i.memory s) g ls st (suc pc) hs bl)) (sym y.held.split) (goes_to c n bottom
-              ok w x s (restored i.memory s) g ls y.held.above y.held.more hs bl y.held.typing (l y.held.label at_label) y.held.locals (are_up
-              (parent_of n) y.held.stack (subst (λ (r : Open). Each c n y.held.point.stack r.beneath) head y.operands)) (beneath_in c n y
-              head tail (try_live c n y head) (h y.held.point (try_live c n y head)) j adds_itself) y.held.store (less_fresh c n bottom ok w x
-              s.clock.left y.grows f))
+              ok w x s (restored i.memory s) g ls y.held.above y.held.more hs bl y.held.typing (l y.held.label at_label) y.held.locals
+              (are_up (parent_of n) y.held.stack (subst (λ (r : Open). Each c n y.held.point.stack r.beneath) head y.operands))
+              (beneath_in c n y head tail (try_live c n y head) (h y.held.point (try_live c n y head)) j adds_itself) y.held.store
+              (less_fresh c n bottom ok w x s.clock.left y.grows f))
             where
               at_label : point_at n label ≡ Some y.held.label
               at_label =
@@ -293,8 +297,8 @@ module _ (c : Code) (n : Notes) (bottom : Bottom c n) where
               locals = are_up (parent_of n) a l.locals;
               stack = are_up (parent_of n) b each;
               beneath = subst (λ ds. Beneath c n (Rest c n bottom w x s (giver n l.point) bl) t (without_top c n l.point ys) ds ls more hs
-                  g.defers g.noted) l.defers (subst (λ v. Beneath c n (Rest c n bottom w x s v bl) t (without_top c n l.point ys) p.defers ls
-                  more hs g.defers g.noted) (same_giver c n l.kin) (moves c n k kin l.tries adds_itself));
+                  g.defers g.noted) l.defers (subst (λ v. Beneath c n (Rest c n bottom w x s v bl) t (without_top c n l.point ys) p.defers
+                  ls more hs g.defers g.noted) (same_giver c n l.kin) (moves c n k kin l.tries adds_itself));
             };
           }
             where
@@ -304,7 +308,8 @@ module _ (c : Code) (n : Notes) (bottom : Bottom c n) where
       pub call_good : {j : ℕ} {above : List Val} → All c n t above p.stack → Passes c n pc p (o.Call j) →
           Good c n bottom (act c (o.Call j) w x s g ls (above ++ more) pc hs bl)
       call_good {j = j} {above = above} b (r.of_call {q = fn} {g = gn} e d q fit may l) =
-          there_good s _ e (many_good above [] _ q b are_no (λ vs above h b. enter_good j vs above e d (are_up (parent_of n) h fit) may l b))
+          there_good s _ e (many_good above [] _ q b are_no
+          (λ vs above h b. enter_good j vs above e d (are_up (parent_of n) h fit) may l b))
 
       pub same_good : {j : ℕ} {above : List Val} → All c n t above p.stack → Passes c n pc p (o.Same j) →
           Good c n bottom (act c (o.Same j) w x s g ls (above ++ more) pc hs bl)

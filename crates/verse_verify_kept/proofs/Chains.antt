@@ -14,7 +14,8 @@ use Rattle.verse_sorts.specs.Typing.{Typing, Grows, Adds, are_so}
 use Rattle.verse_sorts.proofs.Fitting.{are_more, is_up, adds_itself}
 use Rattle.verse_verify_kept.specs.Notes.{Point, Notes, parent_of}
 use Rattle.verse_verify_kept.specs.Rules.{Kin, MayWait}
-use Rattle.verse_verify_kept.specs.Kept.{Giver, func_gives, arm_gives, giver, Of, All, StoreIs, own, Plain, Beneath, plain, trying, within, dying}
+use Rattle.verse_verify_kept.specs.Kept.{Giver, func_gives, arm_gives, giver, Of, All, StoreIs, own, Plain, Beneath, plain, trying, within}
+use Rattle.verse_verify_kept.specs.Kept.{dying}
 use Rattle.verse_verify_kept.specs.Kept.{without_top, Below}
 use Rattle.verse_verify_kept.specs.Others.{World_is}
 use Rattle.verse_verify_kept.proofs.Places.{moves, kin_itself, tries_itself}
@@ -143,7 +144,8 @@ module _ (c : Code) (n : Notes) where
   -- a task goes on with a value
   pub resume_good : (y : Thread) (v : Val) (o : World) (s : State) (t : Typing) (g : Giver) →
       Below c n (World_is c n y.who o s.clock.results s.clock.signals s.clock.next) g (y.frame ∷ y.below) false t →
-      Of c n t v g.result → StoreIs c n t s.memory.store → Fresh c n (World_is c n) t s.clock.left → Good c n (World_is c n) (resumes y v o s)
+      Of c n t v g.result → StoreIs c n t s.memory.store → Fresh c n (World_is c n) t s.clock.left →
+      Good c n (World_is c n) (resumes y v o s)
   resume_good y v o s t g r i z f = next (record {
     typing = t;
     point = r.0;

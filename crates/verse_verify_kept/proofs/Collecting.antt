@@ -5,7 +5,8 @@ use Rattle.verse_code.specs.declared.operations.Op.TheVariants as o
 use Rattle.verse_code.specs.declared.codes.Code.{Code}
 use Rattle.verse_value.specs.Val.{Val, Pairs, more_pairs}
 use Rattle.verse_value.specs.Keys.{key_of, key_val, key_eq}
-use Rattle.verse_value.specs.Operations.{hole_bytes, both_bytes, holes_bytes, sized_text, join_of, with_entry, with_entries, keyed_with, keyed}
+use Rattle.verse_value.specs.Operations.{hole_bytes, both_bytes, holes_bytes, sized_text, join_of, with_entry, with_entries, keyed_with}
+use Rattle.verse_value.specs.Operations.{keyed}
 use Rattle.verse_value.specs.Operations.{sized_map, map_of}
 use Rattle.verse_value.specs.declared.keys.Key.{Key}
 use Rattle.verse_meaning_state.specs.State.{State}
@@ -29,8 +30,8 @@ use Rattle.verse_verify_kept.proofs.Paths.{key_back}
 module _ (c : Code) (n : Notes) (t : Typing) where
   both_there : {a b : Option (List ℕ)} {front back : List ℕ} → a ≡ Some front → b ≡ Some back → both_bytes a b ≡ Some (front ++ back)
   both_there {a = a} {b = b} {front = front} {back = back} e f =
-      subst (λ a. both_bytes a b ≡ Some (front ++ back)) (sym e) (subst (λ b. option_map (λ bs. front ++ bs) b ≡ Some (front ++ back)) (sym f)
-      refl)
+      subst (λ a. both_bytes a b ≡ Some (front ++ back)) (sym e)
+      (subst (λ b. option_map (λ bs. front ++ bs) b ≡ Some (front ++ back)) (sym f) refl)
 
   hole_int : {u : Val} → Of c n t u sort.int → (bs : List ℕ) × (hole_bytes u ≡ Some bs)
   hole_int is_int = (_, refl)
@@ -53,7 +54,8 @@ module _ (c : Code) (n : Notes) (t : Typing) where
     where
       go : {m : Option (List ℕ)} → (bs : List ℕ) × (m ≡ Some bs) → Fine F E (λ z. Of c n t z (sort.list sort.char)) (sized_text m)
       go q =
-          subst (λ m. Fine F E (λ z. Of c n t z (sort.list sort.char)) (sized_text m)) (sym q.1) (if_fine _ _ _ e (is_list (text_is c n q.0)))
+          subst (λ m. Fine F E (λ z. Of c n t z (sort.list sort.char)) (sized_text m)) (sym q.1)
+          (if_fine _ _ _ e (is_list (text_is c n q.0)))
 
   data Entries (k a : Sort) : List (Key × Val) → Type 0 where
     entries_no : Entries k a []
@@ -78,8 +80,8 @@ module _ (c : Code) (n : Notes) (t : Typing) where
   entry_put l u no_entries i j = more_entries i j no_entries
   entry_put {k = k} {a = a} l u (more_entries {l = m} {w = w} {ps = ps} p q r) i j = go (key_eq l m) (entry_put l u r i j)
     where
-      go : (b : Bool) → ArePairs (parent_of n) t (with_entry ps l u) k a → ArePairs (parent_of n) t (if b then more_pairs m u ps else more_pairs
-          m w (with_entry ps l u)) k a
+      go : (b : Bool) → ArePairs (parent_of n) t (with_entry ps l u) k a →
+          ArePairs (parent_of n) t (if b then more_pairs m u ps else more_pairs m w (with_entry ps l u)) k a
       go true h = more_entries p j r
       go false h = more_entries p q h
 
@@ -94,20 +96,23 @@ module _ (c : Code) (n : Notes) (t : Typing) where
     where
       go : {m : Option (List (Key × Val))} → Keys_there k a m → Fine F E (λ z. Of c n t z (sort.map k a)) (sized_map m)
       go (keys_there f es) =
-          subst (λ m. Fine F E (λ z. Of c n t z (sort.map k a)) (sized_map m)) (sym f) (if_fine _ _ _ e (is_map (entries_put es no_entries)))
+          subst (λ m. Fine F E (λ z. Of c n t z (sort.map k a)) (sized_map m)) (sym f)
+          (if_fine _ _ _ e (is_map (entries_put es no_entries)))
 
 module _ (c : Code) (n : Notes) (bottom : Bottom c n) (ok : Known c n) (ends : Ends c n bottom) (w : Who) (x : World) (s : State)
     (g : Life) (pc : ℕ) (bl : List Frame) (t : Typing) (p : Point) (z : StoreIs c n t s.memory.store) (f : Fresh c n bottom t s.clock.left)
     (ls more : List Val) (hs : List Handler) (k : Beneath c n (Rest c n bottom w x s (giver n p) bl) t p p.defers ls more hs g.defers
     g.noted) (a : All c n t ls p.locals) {above : List Val} (b : All c n t above p.stack) where
-  pub join_good : {m q : ℕ} → Has (place_at c q) → Passes c n pc p (o.Join m q) → Good c n bottom (act c (o.Join m q) w x s g ls (above ++ more)
-      pc hs bl)
+  pub join_good : {m q : ℕ} → Has (place_at c q) → Passes c n pc p (o.Join m q) →
+      Good c n bottom (act c (o.Join m q) w x s g ls (above ++ more) pc hs bl)
   join_good {q = q} h (r.of_join pops shown l) =
-      many_good c n bottom ok ends w x s g pc bl t p z f ls more hs k a above [] _ pops b are_no (λ vs rest i j. still_good c n bottom ok ends
-      w x s g pc bl t p z f ls more hs k a (place_at c q) (join_of vs) l j (join_fine c n t h shown i))
+      many_good c n bottom ok ends w x s g pc bl t p z f ls more hs k a above [] _ pops b are_no
+      (λ vs rest i j. still_good c n bottom ok ends w x s g pc bl t p z f ls more hs k a (place_at c q) (join_of vs) l j
+      (join_fine c n t h shown i))
 
-  pub map_good : {m q : ℕ} → Has (place_at c q) → Passes c n pc p (o.Map m q) → Good c n bottom (act c (o.Map m q) w x s g ls (above ++ more) pc
-      hs bl)
+  pub map_good : {m q : ℕ} → Has (place_at c q) → Passes c n pc p (o.Map m q) →
+      Good c n bottom (act c (o.Map m q) w x s g ls (above ++ more) pc hs bl)
   map_good {q = q} h (r.of_map pops in_keys l) =
-      many_good c n bottom ok ends w x s g pc bl t p z f ls more hs k a above [] _ pops b are_no (λ vs rest i j. still_good c n bottom ok ends
-      w x s g pc bl t p z f ls more hs k a (place_at c q) (map_of (paired vs)) l j (map_fine c n t h in_keys i))
+      many_good c n bottom ok ends w x s g pc bl t p z f ls more hs k a above [] _ pops b are_no
+      (λ vs rest i j. still_good c n bottom ok ends w x s g pc bl t p z f ls more hs k a (place_at c q) (map_of (paired vs)) l j
+      (map_fine c n t h in_keys i))

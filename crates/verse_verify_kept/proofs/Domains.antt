@@ -22,7 +22,8 @@ use Rattle.verse_sorts.specs.Typing.{are_so}
 use Rattle.verse_sorts.proofs.Fitting.{is_up, adds_itself}
 use Rattle.verse_verify_kept.specs.Notes.{Point, Notes, parent_of, names}
 use Rattle.verse_verify_kept.specs.Known.{Known}
-use Rattle.verse_verify_kept.specs.Rules.{Leads, Passes, Counted, list_counted, map_counted, never_counted, Quiet, Domain, of_list, of_map, of_span}
+use Rattle.verse_verify_kept.specs.Rules.{Leads, Passes, Counted, list_counted, map_counted, never_counted, Quiet, Domain, of_list, of_map}
+use Rattle.verse_verify_kept.specs.Rules.{of_span}
 use Rattle.verse_verify_kept.specs.Rules.{of_none}
 use Rattle.verse_verify_kept.specs.Rules as r
 use Rattle.verse_verify_kept.specs.Kept.{giver, Of, All, StoreIs, Beneath, Bottom}
@@ -49,13 +50,14 @@ module _ (c : Code) (n : Notes) (bottom : Bottom c n) (ok : Known c n) (ends : E
       goes w x s s g ls (vs ++ more) (suc pc) hs bl)))
   two_written {l = l} {u = u} {v = v} {xs = xs} {ys = ys} {vs = vs} h1 h2 i j q1 q2 lead rest = first (put_there (parent_of n) t l a h1 i)
     where
-      second : {ms : List Val} → Beneath c n (Rest c n bottom w x s (giver n p) bl) t p p.defers ms more hs g.defers g.noted → Put (parent_of
-          n) t ms (suc l) v ys → Good c n bottom (on_there (put ms (suc l) v) s (λ ls. goes w x s s g ls (vs ++ more) (suc pc) hs bl))
+      second : {ms : List Val} → Beneath c n (Rest c n bottom w x s (giver n p) bl) t p p.defers ms more hs g.defers g.noted →
+          Put (parent_of n) t ms (suc l) v ys → Good c n bottom
+          (on_there (put ms (suc l) v) s (λ ls. goes w x s s g ls (vs ++ more) (suc pc) hs bl))
       second m (puts {ws = ws} e r) =
           there _ e (goes_to c n bottom ok w x s s g ws vs more hs bl t lead r rest (written c n (suc l) v m q2 e) z f)
 
-      first : Put (parent_of n) t ls l u xs → Good c n bottom (on_there (put ls l u) s (λ ls. on_there (put ls (suc l) v) s (λ ls. goes w x s
-          s g ls (vs ++ more) (suc pc) hs bl)))
+      first : Put (parent_of n) t ls l u xs → Good c n bottom
+          (on_there (put ls l u) s (λ ls. on_there (put ls (suc l) v) s (λ ls. goes w x s s g ls (vs ++ more) (suc pc) hs bl)))
       first (puts {ws = ws} e r) = there _ e (second (written c n l u k q1 e) (put_there (parent_of n) t (suc l) r h2 j))
 
   pub range_good : {l : ℕ} → Passes c n pc p (o.Range l) → Good c n bottom (act c (o.Range l) w x s g ls (above ++ more) pc hs bl)
@@ -82,8 +84,8 @@ module _ (c : Code) (n : Notes) (bottom : Bottom c n) (ok : Known c n) (ends : E
   lead_fits : {fs st : List Sort} → Leads c n p fs st p.tries p.defers (suc pc) → fits hs (suc pc) ≡ true
   lead_fits l = fits_there c n (handles c n (moves c n k l.kin l.tries adds_itself)) (ok.live (suc pc) l.point l.live).around
 
-  pub append_good : {l m : ℕ} {pl : Place} → place_at c m ≡ Some pl → Passes c n pc p (o.Append l m) → Good c n bottom (act c (o.Append l m) w x s
-      g ls (above ++ more) pc hs bl)
+  pub append_good : {l m : ℕ} {pl : Place} → place_at c m ≡ Some pl → Passes c n pc p (o.Append l m) →
+      Good c n bottom (act c (o.Append l m) w x s g ls (above ++ more) pc hs bl)
   append_good {l = l} {m = m} {pl = pl} at_place (r.of_append {a = d} {b = e} {u = u} {st = st} {ls = xs} h at_l fl fa h1 q lead) =
       have (subst (All c n t above) h b)
     where
@@ -91,7 +93,8 @@ module _ (c : Code) (n : Notes) (bottom : Bottom c n) (ok : Known c n) (ends : E
           (answered_to (place_at c m) l (if b then gives y else error kind) w x s g ls (vs ++ more) pc hs bl)
       into {vs = vs} y i rest true kind = go (put_there (parent_of n) t l a h1 i)
         where
-          go : Put (parent_of n) t ls l y xs → Good c n bottom (on_there (put ls l y) s (λ ls. goes w x s s g ls (vs ++ more) (suc pc) hs bl))
+          go : Put (parent_of n) t ls l y xs → Good c n bottom
+              (on_there (put ls l y) s (λ ls. goes w x s s g ls (vs ++ more) (suc pc) hs bl))
           go (puts {ws = ws} e r) =
               there _ e (goes_to c n bottom ok w x s s g ws vs more hs bl t lead r rest (written c n l y k q e) z f)
       into y i rest false kind =
@@ -104,16 +107,17 @@ module _ (c : Code) (n : Notes) (bottom : Bottom c n) (ok : Known c n) (ends : E
       have : {above : List Val} → All c n t above (d ∷ st) → Good c n bottom (act c (o.Append l m) w x s g ls (above ++ more) pc hs bl)
       have (are_so {w = v2} {vs = vs} i rest) = local (gets (parent_of n) t l a at_l)
         where
-          local : Got (parent_of n) t ls l e → Good c n bottom (on_there (nth ls l) s (λ a. answered_to (place_at c m) l (append_of a v2) w x s
-              g ls (vs ++ more) pc hs bl))
+          local : Got (parent_of n) t ls l e → Good c n bottom
+              (on_there (nth ls l) s (λ a. answered_to (place_at c m) l (append_of a v2) w x s g ls (vs ++ more) pc hs bl))
           local (got e2 j) = there _ e2 (lists (is_up (parent_of n) j fl) (is_up (parent_of n) i fa) rest)
 
-  pub print_good : {m : ℕ} → Has (place_at c m) → Passes c n pc p (o.Print m) → Good c n bottom (act c (o.Print m) w x s g ls (above ++ more) pc
-      hs bl)
+  pub print_good : {m : ℕ} → Has (place_at c m) → Passes c n pc p (o.Print m) →
+      Good c n bottom (act c (o.Print m) w x s g ls (above ++ more) pc hs bl)
   print_good {m = m} has_place (r.of_print {a = d} {st = st} h fit l) = have (subst (All c n t above) h b)
     where
-      told : {vs : List Val} → All c n t vs st → (b : Bool) (line : Line) (kind : Error) → Fine (MayFail c n p) (Has (place_at c m)) (λ (y : Val × State).
-          Good c n bottom (goes w x s y.1 g ls (y.0 ∷ vs ++ more) (suc pc) hs bl)) (cond b (gives (v.unit, with_line s line)) (error kind))
+      told : {vs : List Val} → All c n t vs st → (b : Bool) (line : Line) (kind : Error) →
+          Fine (MayFail c n p) (Has (place_at c m)) (λ (y : Val × State). Good c n bottom
+          (goes w x s y.1 g ls (y.0 ∷ vs ++ more) (suc pc) hs bl)) (cond b (gives (v.unit, with_line s line)) (error kind))
       told {vs = vs} rest true line kind =
           fine_gives (goes_to c n bottom ok w x s (with_line s line) g ls (v.unit ∷ vs) more hs bl t l a (are_so is_unit rest) k z f)
       told rest false line kind = fine_error has_place
@@ -122,8 +126,8 @@ module _ (c : Code) (n : Notes) (bottom : Bottom c n) (ok : Known c n) (ends : E
           (line_printed y s) w x s g ls (vs ++ more) pc hs bl)
       text {vs = vs} (is_list i) rest =
           answered_good c n bottom ok ends w x s g pc bl t p z f ls more hs k a vs (place_at c m) _ l (subst (λ y. Fine (MayFail c n p) (Has
-          (place_at c m)) (λ (y : Val × State). Good c n bottom (goes w x s y.1 g ls (y.0 ∷ vs ++ more) (suc pc) hs bl)) (text_printed y s)) (sym (bytes_there
-          c n i).1) (told rest _ _ _))
+          (place_at c m)) (λ (y : Val × State). Good c n bottom (goes w x s y.1 g ls (y.0 ∷ vs ++ more) (suc pc) hs bl)) (text_printed y s))
+          (sym (bytes_there c n i).1) (told rest _ _ _))
 
       have : {above : List Val} → All c n t above (d ∷ st) → Good c n bottom (act c (o.Print m) w x s g ls (above ++ more) pc hs bl)
       have (are_so i rest) = text (is_up (parent_of n) i fit) rest

@@ -108,8 +108,9 @@ module _ (c : Code) (n : Notes) where
       more r = record { down = r.down; typing = r.typing; adds = adds_on r.adds y.grows; holds = r.holds }
   beneath_rest (dying y w r) = record { down = true; typing = _; adds = w; holds = r }
 
-  pub below_to : (bottom : Giver → Bool → Typing → Type 0) (P : Typing → Type 0) (f : (g : Giver) (b : Bool) (u : Typing) → bottom g b u → P u)
-      (more : (u t : Typing) → Adds u t → P u → P t) (fs : List Frame) (g : Giver) (b : Bool) (t : Typing) → Below c n bottom g fs b t → P t
+  pub below_to : (bottom : Giver → Bool → Typing → Type 0) (P : Typing → Type 0)
+      (f : (g : Giver) (b : Bool) (u : Typing) → bottom g b u → P u) (more : (u t : Typing) → Adds u t → P u → P t) (fs : List Frame)
+      (g : Giver) (b : Bool) (t : Typing) → Below c n bottom g fs b t → P t
   below_to bottom P f more [] g b t r = f g b t r
   below_to bottom P f more (h ∷ fs) g true t r = more r.1 t r.2 (below_to bottom P f more fs g true r.1 r.3)
   below_to bottom P f more (h ∷ fs) g false t r =
@@ -206,8 +207,8 @@ module _ (c : Code) (n : Notes) where
         parts : PartsAre c n t (gs ++ did u ∷ []) (d.before ++ d.running ∷ [])
         parts = parts_joined c n d.parts (part_did value parts_no)
 
-        by_kind : (k : Kind) → KindGives c n k (d.before ++ d.running ∷ d.after) d.result → Fine_step c n (arm_did k p (gs ++ did u ∷ []) ls y
-            pre post us trees s (λ y. rested (y ∷ pre) post us trees s))
+        by_kind : (k : Kind) → KindGives c n k (d.before ++ d.running ∷ d.after) d.result →
+            Fine_step c n (arm_did k p (gs ++ did u ∷ []) ls y pre post us trees s (λ y. rested (y ∷ pre) post us trees s))
         by_kind sync g =
             next_good c n ok d.result sync p y _ (calm_for c n ok q ups) d.thread parts d.labels (subst (λ rs. KindGives c n sync rs
             d.result) (sym (append_assoc d.before (d.running ∷ []) d.after)) g) (λ x same j. rested_good c n ok ups (calm_more c n ok x j
@@ -283,29 +284,31 @@ module _ (c : Code) (n : Notes) where
 
     -- what follows where all is cancelled
     pub follows_good : {t : Typing} (pre post : List Task) (us : List Up) (trees : Trees) (s : State) (after : After) (ts : List Task)
-        (w : Who) (g : Giver) → Placed us after post → StoreIs c n t s.memory.store → Fresh c n (World_is c n) t s.clock.left → Ends_in c n pre post
-        trees s.clock.results s.clock.signals s.clock.next (clearing after ts ∷ us) w g true t → Fine_step c n (follows after (world pre post
-        us trees) s)
+        (w : Who) (g : Giver) → Placed us after post → StoreIs c n t s.memory.store → Fresh c n (World_is c n) t s.clock.left →
+        Ends_in c n pre post trees s.clock.results s.clock.signals s.clock.next (clearing after ts ∷ us) w g true t →
+        Fine_step c n (follows after (world pre post us trees) s)
     follows_good {t = t} pre post us trees s (resuming y v) ts w g there z f r =
         resume_good c n y v (world pre post us trees) s t (coming false r.1) r.3 r.2 z f
-    follows_good pre post us trees s (closing x v) ts w g there z f r = part_over {g = closing_with r.1} v refl r.3.0.1 r.2 there (calm_of z f r.3)
-    follows_good pre post us trees s (finishing x e v) ts w g there z f r = root_over {g = coming false r.1} e v r.3 r.4.0.1 r.2 (calm_of z f r.4)
+    follows_good pre post us trees s (closing x v) ts w g there z f r =
+        part_over {g = closing_with r.1} v refl r.3.0.1 r.2 there (calm_of z f r.3)
+    follows_good pre post us trees s (finishing x e v) ts w g there z f r =
+        root_over {g = coming false r.1} e v r.3 r.4.0.1 r.2 (calm_of z f r.4)
 
     -- what a cancelled task's last frame leaves
     pub cleared_good : {t : Typing} (pre post : List Task) (trees : Trees) (s : State) (us : List Up) (w : Who) (g : Giver) →
         ((after : After) (ts : List Task) (vs : List Up) → us ≡ clearing after ts ∷ vs → Placed vs after post) → StoreIs c n t
-        s.memory.store → Fresh c n (World_is c n) t s.clock.left → Ends_in c n pre post trees s.clock.results s.clock.signals s.clock.next us
-        w g true t → Fine_step c n (cleared us pre post trees s)
+        s.memory.store → Fresh c n (World_is c n) t s.clock.left →
+        Ends_in c n pre post trees s.clock.results s.clock.signals s.clock.next us w g true t → Fine_step c n (cleared us pre post trees s)
     cleared_good pre post trees s [] w g there z f r = elim r [ ]
     cleared_good pre post trees s (begins y kd p ps m ls ∷ us) w g there z f r = elim r [ ]
     cleared_good pre post trees s (branching y ∷ us) w g there z f r = elim r [ ]
     cleared_good pre post trees s (spawning y e qs ps ∷ us) w g there z f r = elim r [ ]
     cleared_good pre post trees s (clearing (resuming y v) ts ∷ us) w g there z f r =
-        clears_tasks c n ok _ (resuming y v) ts _ r.0 z f (λ ts w g k. (k, r.1, r.2, r.3)) (follows_good pre post us trees s (resuming y v) ts w g (there _ _ _
-        refl) z f r)
+        clears_tasks c n ok _ (resuming y v) ts _ r.0 z f (λ ts w g k. (k, r.1, r.2, r.3))
+        (follows_good pre post us trees s (resuming y v) ts w g (there _ _ _ refl) z f r)
     cleared_good pre post trees s (clearing (closing x v) ts ∷ us) w g there z f r =
-        clears_tasks c n ok _ (closing x v) ts _ r.0 z f (λ ts w g k. (k, r.1, r.2, r.3)) (follows_good pre post us trees s (closing x v) ts w g (there _ _ _
-        refl) z f r)
+        clears_tasks c n ok _ (closing x v) ts _ r.0 z f (λ ts w g k. (k, r.1, r.2, r.3))
+        (follows_good pre post us trees s (closing x v) ts w g (there _ _ _ refl) z f r)
     cleared_good pre post trees s (clearing (finishing x e v) ts ∷ us) w g there z f r =
-        clears_tasks c n ok _ (finishing x e v) ts _ r.0 z f (λ ts w g k. (k, r.1, r.2, r.3, r.4)) (follows_good pre post us trees s (finishing x e v) ts w g
-        (there _ _ _ refl) z f r)
+        clears_tasks c n ok _ (finishing x e v) ts _ r.0 z f (λ ts w g k. (k, r.1, r.2, r.3, r.4))
+        (follows_good pre post us trees s (finishing x e v) ts w g (there _ _ _ refl) z f r)

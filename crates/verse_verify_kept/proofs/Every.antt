@@ -1,4 +1,5 @@
--- Every operation keeps what is kept, where its operands name what is there and parents stand. (`parents` stands for a field that the invariant wants: a state may fit without it.)
+-- Every operation keeps what is kept, where its operands name what is there and parents stand. (`parents` stands for a field that the
+-- invariant wants: a state may fit without it.)
 use Rattle.std.proofs.Common.{◌≡◌, ℕ, List, [], ◌∷◌, ◌++◌, Option, Some, sym, subst}
 use Rattle.std.specs.Prelude.{slice_get}
 use Rattle.verse_base.specs.declared.places.Place.{Place}
@@ -30,18 +31,22 @@ use Rattle.verse_verify_kept.proofs.Going.{Fresh}
 use Rattle.verse_verify_kept.proofs.Resting.{Fine_step, Parented}
 use Rattle.verse_verify_kept.proofs.Ending.{Placed}
 use Rattle.verse_verify_kept.proofs.Values.{Has, has}
-use Rattle.verse_verify_kept.proofs.Acts.{int_good, get_good, put_good, drop_good, jump_good, again_good, commit_good, undo_good, call_good, same_good}
+use Rattle.verse_verify_kept.proofs.Acts.{int_good, get_good, put_good, drop_good, jump_good, again_good, commit_good, undo_good, call_good}
+use Rattle.verse_verify_kept.proofs.Acts.{same_good}
 use Rattle.verse_verify_kept.proofs.Acts.{defer_good, try_good, fail_good}
 use Rattle.verse_verify_kept.proofs.Values.{query_good, at_good, load_good, add_good, concat_good}
-use Rattle.verse_verify_kept.proofs.Simple.{unit_good, false_good, true_good, char_good, enum_good, mod_good, lt_good, le_good, gt_good, ge_good, eq_good}
-use Rattle.verse_verify_kept.proofs.Simple.{ne_good, item_good, length_good, sub_good, mul_good, neg_good, floor_good, ceil_good, some_good, array_good}
+use Rattle.verse_verify_kept.proofs.Simple.{unit_good, false_good, true_good, char_good, enum_good, mod_good, lt_good, le_good, gt_good}
+use Rattle.verse_verify_kept.proofs.Simple.{ge_good, eq_good}
+use Rattle.verse_verify_kept.proofs.Simple.{ne_good, item_good, length_good, sub_good, mul_good, neg_good, floor_good, ceil_good, some_good}
+use Rattle.verse_verify_kept.proofs.Simple.{array_good}
 use Rattle.verse_verify_kept.proofs.Simple.{tuple_good, text_good}
 use Rattle.verse_verify_kept.proofs.Domains.{each_good, range_good, append_good, print_good}
 use Rattle.verse_verify_kept.proofs.Methods.{method_good}
 use Rattle.verse_verify_kept.proofs.Taking.{take_good}
 use Rattle.verse_verify_kept.proofs.Storing.{store_good, new_good, event_good, object_good}
 use Rattle.verse_verify_kept.proofs.Collecting.{join_good, map_good}
-use Rattle.verse_verify_kept.proofs.Tasking.{ends_world, return_good, sleep_good, forever_good, await_task_good, await_event_good, signal_good}
+use Rattle.verse_verify_kept.proofs.Tasking.{ends_world, return_good, sleep_good, forever_good, await_task_good, await_event_good}
+use Rattle.verse_verify_kept.proofs.Tasking.{signal_good}
 use Rattle.verse_verify_kept.proofs.Tasking.{spawn_good, branch_good, group_good, arm_end_good, defer_end_good}
 use Rattle.verse_verify_kept.proofs.Spawning.{spawn_method_good}
 
@@ -90,21 +95,30 @@ module _ (c : Code) (n : Notes) (ok : Known c n) (w : Who) (x : World) (s : Stat
   operation_good (o.Get i) is_op live h parents q = get_good c n (World_is c n) ok (ends_world c n) w x s g pc bl t p z f ls more hs k a b q
   operation_good (o.Put i) is_op live h parents q = put_good c n (World_is c n) ok (ends_world c n) w x s g pc bl t p z f ls more hs k a b q
   operation_good o.Drop is_op live h parents q = drop_good c n (World_is c n) ok (ends_world c n) w x s g pc bl t p z f ls more hs k a b q
-  operation_good (o.Jump i) is_op live h parents q = jump_good c n (World_is c n) ok (ends_world c n) w x s g pc bl t p z f ls more hs k a b q
-  operation_good (o.Again i) is_op live h parents q = again_good c n (World_is c n) ok (ends_world c n) w x s g pc bl t p z f ls more hs k a b q
-  operation_good o.Commit is_op live h parents q = commit_good c n (World_is c n) ok (ends_world c n) w x s g pc bl t p z f ls more hs k a b q
+  operation_good (o.Jump i) is_op live h parents q =
+      jump_good c n (World_is c n) ok (ends_world c n) w x s g pc bl t p z f ls more hs k a b q
+  operation_good (o.Again i) is_op live h parents q =
+      again_good c n (World_is c n) ok (ends_world c n) w x s g pc bl t p z f ls more hs k a b q
+  operation_good o.Commit is_op live h parents q =
+      commit_good c n (World_is c n) ok (ends_world c n) w x s g pc bl t p z f ls more hs k a b q
   operation_good o.Undo is_op live h parents q = undo_good c n (World_is c n) ok (ends_world c n) w x s g pc bl t p z f ls more hs k a b q
-  operation_good (o.Call i) is_op live h parents q = call_good c n (World_is c n) ok (ends_world c n) w x s g pc bl t p z f ls more hs k a b q
-  operation_good (o.Same i) is_op live h parents q = same_good c n (World_is c n) ok (ends_world c n) w x s g pc bl t p z f ls more hs k a b q
-  operation_good (o.Defer i) is_op live h parents q = defer_good c n (World_is c n) ok (ends_world c n) w x s g pc bl t p z f ls more hs k a b q
+  operation_good (o.Call i) is_op live h parents q =
+      call_good c n (World_is c n) ok (ends_world c n) w x s g pc bl t p z f ls more hs k a b q
+  operation_good (o.Same i) is_op live h parents q =
+      same_good c n (World_is c n) ok (ends_world c n) w x s g pc bl t p z f ls more hs k a b q
+  operation_good (o.Defer i) is_op live h parents q =
+      defer_good c n (World_is c n) ok (ends_world c n) w x s g pc bl t p z f ls more hs k a b q
   operation_good o.Query is_op live h parents q = query_good c n (World_is c n) ok (ends_world c n) w x s g pc bl t p z f ls more hs k a b q
   operation_good o.At is_op live h parents q = at_good c n (World_is c n) ok (ends_world c n) w x s g pc bl t p z f ls more hs k a b q
-  operation_good (o.Load i) is_op live h parents q = load_good c n (World_is c n) ok (ends_world c n) w x s g pc bl t p z f ls more hs k a b q
+  operation_good (o.Load i) is_op live h parents q =
+      load_good c n (World_is c n) ok (ends_world c n) w x s g pc bl t p z f ls more hs k a b q
   operation_good o.Unit is_op live h parents q = unit_good c n (World_is c n) ok (ends_world c n) w x s g pc bl t p z f ls more hs k a b q
   operation_good o.False is_op live h parents q = false_good c n (World_is c n) ok (ends_world c n) w x s g pc bl t p z f ls more hs k a b q
   operation_good o.True is_op live h parents q = true_good c n (World_is c n) ok (ends_world c n) w x s g pc bl t p z f ls more hs k a b q
-  operation_good (o.Char i) is_op live h parents q = char_good c n (World_is c n) ok (ends_world c n) w x s g pc bl t p z f ls more hs k a b q
-  operation_good (o.Enum i j) is_op live h parents q = enum_good c n (World_is c n) ok (ends_world c n) w x s g pc bl t p z f ls more hs k a b q
+  operation_good (o.Char i) is_op live h parents q =
+      char_good c n (World_is c n) ok (ends_world c n) w x s g pc bl t p z f ls more hs k a b q
+  operation_good (o.Enum i j) is_op live h parents q =
+      enum_good c n (World_is c n) ok (ends_world c n) w x s g pc bl t p z f ls more hs k a b q
   operation_good o.Mod is_op live h parents q = mod_good c n (World_is c n) ok (ends_world c n) w x s g pc bl t p z f ls more hs k a b q
   operation_good o.Lt is_op live h parents q = lt_good c n (World_is c n) ok (ends_world c n) w x s g pc bl t p z f ls more hs k a b q
   operation_good o.Le is_op live h parents q = le_good c n (World_is c n) ok (ends_world c n) w x s g pc bl t p z f ls more hs k a b q
@@ -112,33 +126,60 @@ module _ (c : Code) (n : Notes) (ok : Known c n) (w : Who) (x : World) (s : Stat
   operation_good o.Ge is_op live h parents q = ge_good c n (World_is c n) ok (ends_world c n) w x s g pc bl t p z f ls more hs k a b q
   operation_good o.Eq is_op live h parents q = eq_good c n (World_is c n) ok (ends_world c n) w x s g pc bl t p z f ls more hs k a b q
   operation_good o.Ne is_op live h parents q = ne_good c n (World_is c n) ok (ends_world c n) w x s g pc bl t p z f ls more hs k a b q
-  operation_good (o.Item i) is_op live h parents q = item_good c n (World_is c n) ok (ends_world c n) w x s g pc bl t p z f ls more hs k a b q
-  operation_good o.Length is_op live h parents q = length_good c n (World_is c n) ok (ends_world c n) w x s g pc bl t p z f ls more hs k a b q
-  operation_good (o.Each i) is_op live h parents q = each_good c n (World_is c n) ok (ends_world c n) w x s g pc bl t p z f ls more hs k a b q
-  operation_good (o.Range i) is_op live h parents q = range_good c n (World_is c n) ok (ends_world c n) w x s g pc bl t p z f ls more hs k a b q
-  operation_good (o.Method i j) is_op live h parents q = method_good c n (World_is c n) ok (ends_world c n) w x s g pc bl t p z f ls more hs k a b q
-  operation_good (o.Take i j m) is_op live h parents q = take_good c n (World_is c n) ok (ends_world c n) w x s g pc bl t p z f ls more hs k a b q
-  operation_good (o.Add i) is_op live h parents q = add_good c n (World_is c n) ok (ends_world c n) w x s g pc bl t p z f ls more hs k a h b q
-  operation_good (o.Concat i) is_op live h parents q = concat_good c n (World_is c n) ok (ends_world c n) w x s g pc bl t p z f ls more hs k a h b q
-  operation_good (o.Store i j m l) is_op live h parents q = store_good c n (World_is c n) ok (ends_world c n) w x s g pc bl t p z f ls more hs k a h b q
-  operation_good (o.New i) is_op live h parents q = new_good c n (World_is c n) ok (ends_world c n) w x s g pc bl t p z f ls more hs k a h b q
-  operation_good (o.Event i) is_op live h parents q = event_good c n (World_is c n) ok (ends_world c n) w x s g pc bl t p z f ls more hs k a h b q
-  operation_good (o.Object i j) is_op live h parents q = object_good c n (World_is c n) ok (ends_world c n) w x s g pc bl t p z f ls more hs k a h b q
-  operation_good (o.Sub i) is_op live h parents q = sub_good c n (World_is c n) ok (ends_world c n) w x s g pc bl t p z f ls more hs k a b h q
-  operation_good (o.Mul i) is_op live h parents q = mul_good c n (World_is c n) ok (ends_world c n) w x s g pc bl t p z f ls more hs k a b h q
-  operation_good (o.Neg i) is_op live h parents q = neg_good c n (World_is c n) ok (ends_world c n) w x s g pc bl t p z f ls more hs k a b h q
-  operation_good (o.Floor i) is_op live h parents q = floor_good c n (World_is c n) ok (ends_world c n) w x s g pc bl t p z f ls more hs k a b h q
-  operation_good (o.Ceil i) is_op live h parents q = ceil_good c n (World_is c n) ok (ends_world c n) w x s g pc bl t p z f ls more hs k a b h q
-  operation_good (o.Some i) is_op live h parents q = some_good c n (World_is c n) ok (ends_world c n) w x s g pc bl t p z f ls more hs k a b h q
-  operation_good (o.Array i j) is_op live h parents q = array_good c n (World_is c n) ok (ends_world c n) w x s g pc bl t p z f ls more hs k a b h q
-  operation_good (o.Tuple i j) is_op live h parents q = tuple_good c n (World_is c n) ok (ends_world c n) w x s g pc bl t p z f ls more hs k a b h q
-  operation_good (o.Join i j) is_op live h parents q = join_good c n (World_is c n) ok (ends_world c n) w x s g pc bl t p z f ls more hs k a b h q
-  operation_good (o.Map i j) is_op live h parents q = map_good c n (World_is c n) ok (ends_world c n) w x s g pc bl t p z f ls more hs k a b h q
-  operation_good (o.Print i) is_op live h parents q = print_good c n (World_is c n) ok (ends_world c n) w x s g pc bl t p z f ls more hs k a b h q
-  operation_good (o.Text i) is_op live h parents q = text_good c n (World_is c n) ok (ends_world c n) w x s g pc bl t p z f ls more hs k a b h.1 q
-  operation_good (o.Append i j) is_op live h parents q = by_place (λ pl e. append_good c n (World_is c n) ok (ends_world c n) w x s g pc bl t p z f ls more hs k a b e q) h
-  operation_good (o.Try i) is_op live h parents q = try_good c n (World_is c n) ok (ends_world c n) w x s g pc bl t p z f ls more hs k a b is_op live q
-  operation_good o.Fail is_op live h parents q = fail_good c n (World_is c n) ok (ends_world c n) w x s g pc bl t p z f ls more hs k a (above ++ more) q
+  operation_good (o.Item i) is_op live h parents q =
+      item_good c n (World_is c n) ok (ends_world c n) w x s g pc bl t p z f ls more hs k a b q
+  operation_good o.Length is_op live h parents q =
+      length_good c n (World_is c n) ok (ends_world c n) w x s g pc bl t p z f ls more hs k a b q
+  operation_good (o.Each i) is_op live h parents q =
+      each_good c n (World_is c n) ok (ends_world c n) w x s g pc bl t p z f ls more hs k a b q
+  operation_good (o.Range i) is_op live h parents q =
+      range_good c n (World_is c n) ok (ends_world c n) w x s g pc bl t p z f ls more hs k a b q
+  operation_good (o.Method i j) is_op live h parents q =
+      method_good c n (World_is c n) ok (ends_world c n) w x s g pc bl t p z f ls more hs k a b q
+  operation_good (o.Take i j m) is_op live h parents q =
+      take_good c n (World_is c n) ok (ends_world c n) w x s g pc bl t p z f ls more hs k a b q
+  operation_good (o.Add i) is_op live h parents q =
+      add_good c n (World_is c n) ok (ends_world c n) w x s g pc bl t p z f ls more hs k a h b q
+  operation_good (o.Concat i) is_op live h parents q =
+      concat_good c n (World_is c n) ok (ends_world c n) w x s g pc bl t p z f ls more hs k a h b q
+  operation_good (o.Store i j m l) is_op live h parents q =
+      store_good c n (World_is c n) ok (ends_world c n) w x s g pc bl t p z f ls more hs k a h b q
+  operation_good (o.New i) is_op live h parents q =
+      new_good c n (World_is c n) ok (ends_world c n) w x s g pc bl t p z f ls more hs k a h b q
+  operation_good (o.Event i) is_op live h parents q =
+      event_good c n (World_is c n) ok (ends_world c n) w x s g pc bl t p z f ls more hs k a h b q
+  operation_good (o.Object i j) is_op live h parents q =
+      object_good c n (World_is c n) ok (ends_world c n) w x s g pc bl t p z f ls more hs k a h b q
+  operation_good (o.Sub i) is_op live h parents q =
+      sub_good c n (World_is c n) ok (ends_world c n) w x s g pc bl t p z f ls more hs k a b h q
+  operation_good (o.Mul i) is_op live h parents q =
+      mul_good c n (World_is c n) ok (ends_world c n) w x s g pc bl t p z f ls more hs k a b h q
+  operation_good (o.Neg i) is_op live h parents q =
+      neg_good c n (World_is c n) ok (ends_world c n) w x s g pc bl t p z f ls more hs k a b h q
+  operation_good (o.Floor i) is_op live h parents q =
+      floor_good c n (World_is c n) ok (ends_world c n) w x s g pc bl t p z f ls more hs k a b h q
+  operation_good (o.Ceil i) is_op live h parents q =
+      ceil_good c n (World_is c n) ok (ends_world c n) w x s g pc bl t p z f ls more hs k a b h q
+  operation_good (o.Some i) is_op live h parents q =
+      some_good c n (World_is c n) ok (ends_world c n) w x s g pc bl t p z f ls more hs k a b h q
+  operation_good (o.Array i j) is_op live h parents q =
+      array_good c n (World_is c n) ok (ends_world c n) w x s g pc bl t p z f ls more hs k a b h q
+  operation_good (o.Tuple i j) is_op live h parents q =
+      tuple_good c n (World_is c n) ok (ends_world c n) w x s g pc bl t p z f ls more hs k a b h q
+  operation_good (o.Join i j) is_op live h parents q =
+      join_good c n (World_is c n) ok (ends_world c n) w x s g pc bl t p z f ls more hs k a b h q
+  operation_good (o.Map i j) is_op live h parents q =
+      map_good c n (World_is c n) ok (ends_world c n) w x s g pc bl t p z f ls more hs k a b h q
+  operation_good (o.Print i) is_op live h parents q =
+      print_good c n (World_is c n) ok (ends_world c n) w x s g pc bl t p z f ls more hs k a b h q
+  operation_good (o.Text i) is_op live h parents q =
+      text_good c n (World_is c n) ok (ends_world c n) w x s g pc bl t p z f ls more hs k a b h.1 q
+  operation_good (o.Append i j) is_op live h parents q =
+      by_place (λ pl e. append_good c n (World_is c n) ok (ends_world c n) w x s g pc bl t p z f ls more hs k a b e q) h
+  operation_good (o.Try i) is_op live h parents q =
+      try_good c n (World_is c n) ok (ends_world c n) w x s g pc bl t p z f ls more hs k a b is_op live q
+  operation_good o.Fail is_op live h parents q =
+      fail_good c n (World_is c n) ok (ends_world c n) w x s g pc bl t p z f ls more hs k a (above ++ more) q
   operation_good o.Return is_op live h parents q = return_good c n ok w x s pc t p z f g bl ls above more hs k a b q
   operation_good (o.Sleep i) is_op live h parents q = sleep_good c n ok w x s pc t p z f g bl ls above more hs k a b q
   operation_good o.Forever is_op live h parents q = forever_good c n ok w x s pc t p z f g bl ls above more hs k a b q
@@ -148,11 +189,13 @@ module _ (c : Code) (n : Notes) (ok : Known c n) (w : Who) (x : World) (s : Stat
   operation_good (o.Spawn i) is_op live h parents q = spawn_good c n ok w x s pc t p z f g bl ls above more hs k a b q
   operation_good (o.SpawnMethod i j) is_op live h parents q = spawn_method_good c n ok w x s pc t p z f g bl ls above more hs k a b q
   operation_good (o.Branch i) is_op live h parents q = branch_good c n ok w x s pc t p z f g bl ls above more hs k a b q
-  operation_good (o.Group i j m) is_op live h parents q = by_place (λ pl e. group_good c n ok w x s pc t p z f g bl ls above more hs k a b pl e q) h
+  operation_good (o.Group i j m) is_op live h parents q =
+      by_place (λ pl e. group_good c n ok w x s pc t p z f g bl ls above more hs k a b pl e q) h
   operation_good o.ArmEnd is_op live h parents q = arm_end_good c n ok w x s pc t p z f g bl ls above more hs k a b parents q
   operation_good o.DeferEnd is_op live h parents q = defer_end_good c n ok w x s pc t p z f g bl ls above more hs k a b parents q
   operation_good (o.Arm i) is_op live h parents q = elim q [ ]
-  operation_good (o.Leave i) is_op live h parents (r.of_leave keeps runs) = left_runs c n (World_is c n) ok w x s pc bl t p z f g ls above more hs is_op live k a b keeps runs
+  operation_good (o.Leave i) is_op live h parents (r.of_leave keeps runs) =
+      left_runs c n (World_is c n) ok w x s pc bl t p z f g ls above more hs is_op live k a b keeps runs
 
 keeps_of : {c : Code} {n : Notes} {i m : ℕ} {p : Point} → Passes c n i p (o.Leave m) → Keeps c n p m
 keeps_of (r.of_leave keeps runs) = keeps
@@ -170,7 +213,8 @@ module _ (c : Code) (n : Notes) (ok : Known c n) (names : (i : ℕ) (op : Op) �
       does : {fs : List Sort} {ds : List ℕ} (so : Sound c n m.frame.place a.point) → Own c n m.frame.place a.point fs ds →
           All c n a.typing m.frame.locals fs → Beneath c n (Below c n (World_is c n
           m.who m.world m.state.clock.results m.state.clock.signals m.state.clock.next) (giver n a.point) m.below) a.typing a.point ds
-          m.frame.locals a.stands.more m.frame.handlers m.frame.life.defers m.frame.life.noted → Goes (a.stands.above ++ a.stands.more) so.op
+          m.frame.locals a.stands.more m.frame.handlers m.frame.life.defers m.frame.life.noted →
+          Goes (a.stands.above ++ a.stands.more) so.op
       does so own locals k =
           operation_good c n ok m.who m.world m.state m.frame.life m.frame.place a.typing a.point a.store a.fresh m.below m.frame.locals
           a.stands.above a.stands.more m.frame.handlers k locals a.stands.stack so.op so.is_op a.live (names m.frame.place so.op

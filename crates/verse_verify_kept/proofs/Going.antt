@@ -19,7 +19,8 @@ use Rattle.verse_verify_kept.specs.Notes.{FuncNote, Open, Point, Notes, parent_o
 use Rattle.verse_verify_kept.specs.Known.{Known}
 use Rattle.verse_verify_kept.specs.Rules.{Kin, Leads, To, MayFail, in_try, in_function, Sound}
 use Rattle.verse_verify_kept.specs.Rules.{Passes, of_try}
-use Rattle.verse_verify_kept.specs.Kept.{Giver, func_gives, arm_gives, giver, All, StoreIs, Own, own, Plain, Held, Tried, Beneath, plain, trying}
+use Rattle.verse_verify_kept.specs.Kept.{Giver, func_gives, arm_gives, giver, All, StoreIs, Own, own, Plain, Held, Tried, Beneath, plain}
+use Rattle.verse_verify_kept.specs.Kept.{trying}
 use Rattle.verse_verify_kept.specs.Kept.{within, dying, without_top, Below, Bottom, MachineFits, Runs_on}
 use Rattle.verse_verify_kept.proofs.Places.{same_in, fits_there, handles, moves}
 
@@ -123,8 +124,8 @@ module _ (c : Code) (n : Notes) where
           All c n t above st → Beneath c n (Rest w x u (giver n p) bl) t (record p { tries = ts }) ds ls more hs g.defers g.noted →
           StoreIs c n t u.memory.store → Fresh t u.clock.left → Good (goes w x s u g ls (above ++ more) i hs bl)
       goes_to {p = p} {ts = ts} {ds = ds} {i = i} s u g ls above more hs bl t l a b k z f =
-          only_good s _ (fits_there c n (handles c n (leads_beneath u bl l k)) (ok.live i l.point l.live).around) (next_to u g ls above more hs bl
-          t l a b k z f)
+          only_good s _ (fits_there c n (handles c n (leads_beneath u bl l k)) (ok.live i l.point l.live).around)
+          (next_to u g ls above more hs bl t l a b k z f)
 
       label_of_try : {i l : ℕ} {q : Point} → Passes c n i q (o.Try l) → To c n q q.stack l
       label_of_try (of_try a b) = b

@@ -22,9 +22,11 @@ use Rattle.verse_sorts.proofs.Fitting.{is_up, are_up, fits_on}
 use Rattle.verse_verify_kept.specs.Notes.{FuncNote, Point, Notes, parent_of}
 use Rattle.verse_verify_kept.specs.Known.{Known}
 use Rattle.verse_verify_kept.specs.Known.{Called}
-use Rattle.verse_verify_kept.specs.Rules.{Each, Leads, To, MayCall, Passes, Pops, pops_no, pops_so, Method, method, Overrides, Begins, rest_of}
+use Rattle.verse_verify_kept.specs.Rules.{Each, Leads, To, MayCall, Passes, Pops, pops_no, pops_so, Method, method, Overrides, Begins}
+use Rattle.verse_verify_kept.specs.Rules.{rest_of}
 use Rattle.verse_verify_kept.specs.Rules as r
-use Rattle.verse_verify_kept.specs.Kept.{giver, Of, All, CellIs, var_is, object_is, event_is, CellsAre, cells_no, cells_so, StoreIs, Beneath, Bottom}
+use Rattle.verse_verify_kept.specs.Kept.{giver, Of, All, CellIs, var_is, object_is, event_is, CellsAre, cells_no, cells_so, StoreIs}
+use Rattle.verse_verify_kept.specs.Kept.{Beneath, Bottom}
 use Rattle.verse_verify_kept.proofs.Going.{Good, Ends, Rest, Fresh}
 use Rattle.verse_verify_kept.proofs.Acts.{many_good, enter_good}
 use Rattle.verse_verify_kept.proofs.Resting.{eqn_same}
@@ -66,8 +68,8 @@ module _ (c : Code) (n : Notes) (bottom : Bottom c n) (ok : Known c n) (ends : E
     (ls more : List Val) (hs : List Handler) (k : Beneath c n (Rest c n bottom w x s (giver n p) bl) t p p.defers ls more hs g.defers
     g.noted) (a : All c n t ls p.locals) {above : List Val} (b : All c n t above p.stack) where
   -- the method that is called is there, and takes as many arguments
-  pub called_there : {m j heir : ℕ} {gn : FuncNote} (i : ℕ) → at t.cells i ≡ Some (sort.obj heir) → (q : Called c n heir m gn) → q.func.params ≡
-      suc j → method_of c m j (v.object i) s ≡ Some q.func
+  pub called_there : {m j heir : ℕ} {gn : FuncNote} (i : ℕ) → at t.cells i ≡ Some (sort.obj heir) → (q : Called c n heir m gn) →
+      q.func.params ≡ suc j → method_of c m j (v.object i) s ≡ Some q.func
   called_there {m = m} {j = j} {heir = heir} i h q count =
       ap (λ class. taking (suc j) (classed c m class)) (class_there c n t i z h) ∙ (ap (λ k. taking (suc j) (method_in c.functions m k))
       q.is_class ∙ (ap (λ f. taking (suc j) (numbered c.functions f)) q.is_method ∙ (ap (λ f. taking (suc j) f) q.is_func ∙ (ap (λ b. cond b
@@ -112,9 +114,10 @@ module _ (c : Code) (n : Notes) (bottom : Bottom c n) (ok : Known c n) (ends : E
   method_good {m = m} {j = j} (r.of_method {a = d} {g = gn} {xs = xs} {st = st} pops is_method fit may l) =
       many_good c n bottom ok ends w x s g pc bl t p z f ls more hs k a above [] _ pops b are_no (λ vs rest i r. have i r)
     where
-      by_object : {u : Val} {d : Sort} {vs rest : List Val} → Method c n d m gn → Of c n t u d → Each c n (d ∷ xs) gn.params → All c n t vs xs →
-          All c n t rest st → Good c n bottom (on_there (method_of c m j u s) s (λ f. only_where (fits hs (suc pc)) s (enters f (u ∷ vs) w x
-          s (frame g ls (rest ++ more) (suc pc) hs ∷ bl))))
+      by_object : {u : Val} {d : Sort} {vs rest : List Val} → Method c n d m gn → Of c n t u d → Each c n (d ∷ xs) gn.params →
+          All c n t vs xs → All c n t rest st → Good c n bottom
+          (on_there (method_of c m j u s) s (λ f. only_where (fits hs (suc pc)) s
+          (enters f (u ∷ vs) w x s (frame g ls (rest ++ more) (suc pc) hs ∷ bl))))
       by_object {vs = vs} {rest = rest} (method {class = class} e e2 e3) (is_object {i = o} {c = heir} h up) fit i r = go (ok.methods heir
           class m gn up (method e e2 e3))
         where
@@ -126,8 +129,9 @@ module _ (c : Code) (n : Notes) (bottom : Bottom c n) (ok : Known c n) (ends : E
                   pc)) s (enters f (v.object o ∷ vs) w x s (frame g ls (rest ++ more) (suc pc) hs ∷ bl))))
               into y =
                   subst (λ m. Good c n bottom (on_there m s (λ f. only_where (fits hs (suc pc)) s (enters f (v.object o ∷ vs) w x s (frame g
-                  ls (rest ++ more) (suc pc) hs ∷ bl))))) (sym (called_there o h q y.count)) (enter_good c n bottom ok ends w x s g pc bl t p
-                  z f ls more hs k a q.number (v.object o ∷ vs) rest q.is_func q.is_note y.args (record {
+                  ls (rest ++ more) (suc pc) hs ∷ bl))))) (sym (called_there o h q y.count))
+                  (enter_good c n bottom ok ends w x s g pc bl t p z f ls more hs k a q.number (v.object o ∷ vs) rest q.is_func q.is_note
+                  y.args (record {
                     fails = λ e. may.fails (q.overrides.fails e);
                     waits = λ e. may.waits (q.overrides.waits e);
                   }) (weaker q.overrides.result l) r)
@@ -138,5 +142,6 @@ module _ (c : Code) (n : Notes) (bottom : Bottom c n) (ok : Known c n) (ends : E
   method_good {m = m} {j = j} (r.of_no_method {xs = xs} {st = st} pops l) =
       many_good c n bottom ok ends w x s g pc bl t p z f ls more hs k a above [] _ pops b are_no (λ vs rest i r. none _ r)
     where
-      none : {rest : List Val} (go : Val → List Val → Step) → All c n t rest (sort.never ∷ st) → Good c n bottom (on_top (rest ++ more) s go)
+      none : {rest : List Val} (go : Val → List Val → Step) → All c n t rest (sort.never ∷ st) →
+          Good c n bottom (on_top (rest ++ more) s go)
       none go (are_so i r) = elim i [ ]

@@ -49,8 +49,8 @@ module _ (c : Code) (n : Notes) (ok : Known c n) where
   parent_stays : {left : ℕ} {w : Who} {ws : List Who} (born : ℕ) → Rooted left (w ∷ ws) → w.role ≡ part → since w.path born w.up ≡ false
   parent_stays born (rooted_root e p l r) same = no_part (sym e ∙ same)
   parent_stays {left = left} {w = w} born (rooted_part e p l h r) same =
-      stays (since_takes w.path born) left w.up (subst (λ a. length w.up ≤ length a) (sym p) (shorter (length w.up) (length (w.up ++ w.number
-      ∷ [])) (child_longer w.up w.number)))
+      stays (since_takes w.path born) left w.up (subst (λ a. length w.up ≤ length a) (sym p)
+      (shorter (length w.up) (length (w.up ++ w.number ∷ [])) (child_longer w.up w.number)))
     where
       shorter : (i j : ℕ) → i < j → i ≤ j
       shorter i j h = omega (arith, h)
@@ -80,8 +80,8 @@ module _ (c : Code) (n : Notes) (ok : Known c n) where
   leaving_parent {left = left} {post = post} {us = us} {w = w} l none same =
       parented post (own_parent (subst (λ us. Rooted left (w ∷ chain us ++ whos post)) none l.own) same)
 
-  no_clearing : {A : Type 0} (w : Who) (us : List Up) {after : After} {ts : List Task} {vs : List Up} → Follow w us → us ≡ clearing after ts ∷
-      vs → A
+  no_clearing : {A : Type 0} (w : Who) (us : List Up) {after : After} {ts : List Task} {vs : List Up} → Follow w us →
+      us ≡ clearing after ts ∷ vs → A
   no_clearing {A = A} w us f e = elim (subst (Follow w) e f) [ ]
 
   same_ups : {u v : Up} {us vs : List Up} → u ∷ us ≡ v ∷ vs → (u ≡ v) × (us ≡ vs)
@@ -103,8 +103,8 @@ module _ (c : Code) (n : Notes) (ok : Known c n) where
           (closing w v) qs → A
       other e = cc
   placed_here {left = left} {pre = pre} {post = post} (before_closing {x = x} {us = us} b bs st l) (closing w v) ts vs e = λ none same.
-      leaving_parent {us = vs} (subst (λ us. Leaving left pre post us w) (same_ups e).1 (subst (Leaving left pre post us) (same_who (same_ups
-      e).0) l)) none same
+      leaving_parent {us = vs} (subst (λ us. Leaving left pre post us w) (same_ups e).1
+      (subst (Leaving left pre post us) (same_who (same_ups e).0) l)) none same
     where
       same_who : {u v : _} {ts qs : List Task} → clearing (closing x u) ts ≡ clearing (closing w v) qs → x ≡ w
       same_who e = cc

@@ -6,14 +6,17 @@ use Rattle.verse_code.specs.declared.codes.Code.{Code}
 use Rattle.verse_value.specs.Val as v
 use Rattle.verse_value.specs.Val.{Val, Vals, no_vals, more_vals, Pairs, no_pairs, more_pairs}
 use Rattle.verse_value.specs.Keys.{key_of, key_val, at_key, key_eq, bytes_of, chars}
-use Rattle.verse_value.specs.Places.{nth, in_array, in_map as map_step, step_in, part_or, part, outside, absent, misfit, End, there, new_key, nowhere}
-use Rattle.verse_value.specs.Places.{end_of, end_from, at_absent, with_nth, with_key, array_with, map_with, changed, Change, put, push, with_last}
+use Rattle.verse_value.specs.Places.{nth, in_array, in_map as map_step, step_in, part_or, part, outside, absent, misfit, End, there}
+use Rattle.verse_value.specs.Places.{new_key, nowhere}
+use Rattle.verse_value.specs.Places.{end_of, end_from, at_absent, with_nth, with_key, array_with, map_with, changed, Change, put, push}
+use Rattle.verse_value.specs.Places.{with_last}
 use Rattle.verse_value.specs.Places.{applied, path_to_map, last_key}
 use Rattle.verse_value.specs.Places as places
 use Rattle.verse_value.specs.declared.keys.Key.{Key}
 use Rattle.verse_sorts.specs.Sorts as s
 use Rattle.verse_sorts.specs.Sorts.{Sort, IsKey, key_never, key_nil, key_int, key_logic, key_char, key_enum, key_text}
-use Rattle.verse_sorts.specs.Typing.{Typing, AreAll, ArePairs, is_int, is_nil, is_false, is_true, is_char, is_enum, is_list, is_map, no_all, more_all, no_entries, more_entries, are_no, are_so}
+use Rattle.verse_sorts.specs.Typing.{Typing, AreAll, ArePairs, is_int, is_nil, is_false, is_true, is_char, is_enum, is_list, is_map, no_all}
+use Rattle.verse_sorts.specs.Typing.{more_all, no_entries, more_entries, are_no, are_so}
 use Rattle.verse_sorts.proofs.Fitting.{is_up}
 use Rattle.verse_verify_kept.specs.Notes.{Notes, parent_of}
 use Rattle.verse_verify_kept.specs.Rules.{Indexed, in_list, in_map, in_never, Path, path_no, path_so}
@@ -40,8 +43,8 @@ module _ (c : Code) (n : Notes) {t : Typing} where
       go (key_eq l m) h (λ h. key_changed l f r h)
     where
       go : (b : Bool) → ((x : Val) → (if b then Some w else at_key ps l) ≡ Some x → Of c n t (f x) a) → (((x : Val) → at_key ps l ≡ Some x →
-          Of c n t (f x) a) → ArePairs (parent_of n) t (with_key ps l f) k a) → ArePairs (parent_of n) t (if b then more_pairs m (f w) ps else
-          more_pairs m w (with_key ps l f)) k a
+          Of c n t (f x) a) → ArePairs (parent_of n) t (with_key ps l f) k a) →
+          ArePairs (parent_of n) t (if b then more_pairs m (f w) ps else more_pairs m w (with_key ps l f)) k a
       go true h again = more_entries i (h _ refl) r
       go false h again = more_entries i j (again h)
 
@@ -61,7 +64,8 @@ module _ (c : Code) (n : Notes) {t : Typing} where
       by_int (is_int {n = negsuc k}) h = is_list i
   change_in {w = w} f (in_map {k = k} {a = a} good fit) (is_map {ps = ps} i) j h = by_key (key_of w) h
     where
-      by_key : (m : Option Key) → ((x : Val) → map_step ps m ≡ part x → Of c n t (f x) a) → Of c n t (v.mapping (map_with ps m f)) (s.map k a)
+      by_key : (m : Option Key) → ((x : Val) → map_step ps m ≡ part x → Of c n t (f x) a) →
+          Of c n t (v.mapping (map_with ps m f)) (s.map k a)
       by_key None h = is_map i
       by_key (Some l) h = is_map (key_changed l f i (λ x e. h x (ap (part_or absent) e)))
   change_in f in_never i j h = elim i [ ]
@@ -156,15 +160,17 @@ module _ (c : Code) (n : Notes) {t : Typing} where
       by_bytes (Some bs) e = subst (λ k. Of c n t (key_val k) (s.list s.char)) (same_Some _ _ e) (is_list (chars_are bs))
 
   -- a new key at the end of a path
-  push_keeps : {path : List Val} {xs : List Sort} {a d : Sort} (u new : Val) (k : Key) → Path c n a xs d → All c n t path xs → Of c n t u a →
-      end_of path u ≡ new_key → last_key path ≡ Some k → Of c n t new d → Of c n t (applied (path_to_map path) (push k new) u) a
+  push_keeps : {path : List Val} {xs : List Sort} {a d : Sort} (u new : Val) (k : Key) → Path c n a xs d → All c n t path xs →
+      Of c n t u a → end_of path u ≡ new_key → last_key path ≡ Some k → Of c n t new d →
+      Of c n t (applied (path_to_map path) (push k new) u) a
   push_keeps u new k path_no are_no i e h j = elim (none-some _ h) [ ]
   push_keeps u new k (path_so (in_list fit) path_no) (are_so q are_no) (is_list i) e h j = is_list i
   push_keeps u new k (path_so (in_map good fit) path_no) (are_so q are_no) (is_map i) e h j =
       is_map (pushed_all k new i (is_up (parent_of n) (key_back good q h) fit) j)
   push_keeps u new k (path_so in_never path_no) (are_so q are_no) i e h j = elim i [ ]
   push_keeps {a = a} u new k (path_so m (path_so o p)) (are_so {w = w} q (are_so {w = y} {vs = path} r rs)) i e h j =
-      change_in (applied (path_to_map (y ∷ path)) (push k new)) m i q (λ x g. push_keeps x new k (path_so o p) (are_so r rs) (part_is m i q g)
+      change_in (applied (path_to_map (y ∷ path)) (push k new)) m i q
+      (λ x g. push_keeps x new k (path_so o p) (are_so r rs) (part_is m i q g)
       (subst (λ z. end_from z (y ∷ path) (end_of (y ∷ path)) ≡ new_key) g e) h j)
 
   value_fine : {F E : Type 0} {m : ℕ} {b d : Sort} {old u : Val} → E → Mode c n m b d → Of c n t old d → Of c n t u b →
@@ -179,8 +185,8 @@ module _ (c : Code) (n : Notes) {t : Typing} where
       by_mode (suc (suc m)) is_int is_int = if_fine _ _ _ e is_int
   value_fine {F = F} {E = E} e (mode_list {a = a} f) i j = by_lists i (is_up (parent_of n) j f)
     where
-      by_lists : {old u : Val} → Of c n t old (s.list a) → Of c n t u (s.list a) → Fine F E (λ z. Of c n t z (s.list a)) (combined (mode_of 1)
-          old u)
+      by_lists : {old u : Val} → Of c n t old (s.list a) → Of c n t u (s.list a) →
+          Fine F E (λ z. Of c n t z (s.list a)) (combined (mode_of 1) old u)
       by_lists (is_list i) (is_list j) = fine_gives (is_list (joined_all c n i j))
   value_fine e mode_never i j = elim i [ ]
 

@@ -28,13 +28,21 @@ pub kin_itself : (p : Point) → Kin p p
 kin_itself p = record { func = refl; arm = refl; block = refl; outer = refl; under = refl }
 
 pub kin_on : {p q r : Point} → Kin p q → Kin q r → Kin p r
-kin_on a b = record { func = a.func ∙ b.func; arm = a.arm ∙ b.arm; block = a.block ∙ b.block; outer = a.outer ∙ b.outer; under = a.under ∙ b.under }
+kin_on a b = record {
+  func = a.func ∙ b.func;
+  arm = a.arm ∙ b.arm;
+  block = a.block ∙ b.block;
+  outer = a.outer ∙ b.outer;
+  under =
+      a.under ∙ b.under;
+}
 
 pub try_label : (a b : ℕ) → o.Try a ≡ o.Try b → a ≡ b
 try_label a b e = cc
 
 two_hold : (a b x : Bool) → a ≡ true → b ≡ true → x ≡ true → cond a (cond b x false) false ≡ true
-two_hold a b x e f g = subst (λ (a : Bool). cond a (cond b x false) false ≡ true) (sym e) (subst (λ (b : Bool). cond b x false ≡ true) (sym f) g)
+two_hold a b x e f g = subst (λ (a : Bool). cond a (cond b x false) false ≡ true) (sym e)
+    (subst (λ (b : Bool). cond b x false ≡ true) (sym f) g)
 
 -- the blocks of the point are the last ones that are deferred
 pub data Based (ds all : List ℕ) : Type 0 where
@@ -97,8 +105,8 @@ module _ (c : Code) (n : Notes) where
       absurd_cons e = cc
 
   -- a Try is open
-  pub data Opened (rest : Bool → Typing → Type 0) (t : Typing) (p : Point) (ds : List ℕ) (ls : List Val) (all : List ℕ) (ns : List Note) (a : Open) (ts : List Open) :
-      List Val → List Handler → Type 0 where
+  pub data Opened (rest : Bool → Typing → Type 0) (t : Typing) (p : Point) (ds : List ℕ) (ls : List Val) (all : List ℕ) (ns : List Note)
+      (a : Open) (ts : List Open) : List Val → List Handler → Type 0 where
     opened : {h : Handler} {hs : List Handler} (x : Tried c n t p ds ls h all ns) → x.head ≡ a → x.tail ≡ ts →
         Beneath c n rest x.held.typing x.held.point x.held.point.defers ls x.held.more hs h.life.defers ns →
         Opened rest t p ds ls all ns a ts [] (h ∷ hs)
@@ -109,8 +117,8 @@ module _ (c : Code) (n : Notes) where
       subst (λ i. point_at n i ≡ Some x.held.point) (sym x.made ∙ ap (λ (a : Open). a.index) e) x.held.live
 
   -- a deferred block runs
-  pub data Blocked (rest : Bool → Typing → Type 0) (t : Typing) (p : Point) (ds : List ℕ) (ls tail : List Val) (hs : List Handler) (all : List ℕ) :
-      List Note → Type 0 where
+  pub data Blocked (rest : Bool → Typing → Type 0) (t : Typing) (p : Point) (ds : List ℕ) (ls tail : List Val) (hs : List Handler)
+      (all : List ℕ) : List Note → Type 0 where
     comes_back : {i : ℕ} {ns : List Note} (x : Left c n t p ds tail all i) → kept_defers hs ≤ length x.base →
         Beneath c n rest x.back.typing x.back.point x.back.left ls x.back.more hs x.base ns → Blocked rest t p ds ls tail hs all (to i ∷ ns)
     comes_down : {u : Typing} → hs ≡ [] → Dying c n p ds all → Adds u t → rest true u → Blocked rest t p ds ls tail hs all (gone ∷ [])
@@ -136,7 +144,8 @@ module _ (c : Code) (n : Notes) where
           outer = sym k.outer ∙ x.outer;
           under = sym k.under ∙ x.under;
         }) (adds_on g w) r
-    moves {u = u} {q = q} {ds = ds} {all = all} {ls = ls} (trying {h = h} {hs = hs} {ns = ns} x b) k f w = tried (subst (λ ts. TriesFit c n ts q.tries) x.tries f) refl
+    moves {u = u} {q = q} {ds = ds} {all = all} {ls = ls} (trying {h = h} {hs = hs} {ns = ns} x b) k f w =
+        tried (subst (λ ts. TriesFit c n ts q.tries) x.tries f) refl
       where
         tried : {ts : List Open} → TriesFit c n (x.head ∷ x.tail) ts → q.tries ≡ ts → Beneath c n rest u q ds ls [] (h ∷ hs) all ns
         tried (tries_so {b = a} {ys = ys} e f r) same =
@@ -207,9 +216,10 @@ module _ (c : Code) (n : Notes) where
                 is_try = x.held.is_try;
                 is_label = x.held.is_label;
                 typing = x.held.typing;
-                locals = put_anything (parent_of n) x.held.typing v l x.held.locals e (λ a k. g x.held.label a (subst (λ i. point_at n i ≡ Some
-                    x.held.label) (sym (try_label label h.label (same_in (subst (λ i. slice_get c.ops i ≡ Some (o.Try label)) x.made f)
-                    x.held.is_try))) x.held.is_label) k);
+                locals = put_anything (parent_of n) x.held.typing v l x.held.locals e
+                    (λ a k. g x.held.label a (subst (λ i. point_at n i ≡ Some x.held.label)
+                    (sym (try_label label h.label (same_in (subst (λ i. slice_get c.ops i ≡ Some (o.Try label)) x.made f) x.held.is_try)))
+                    x.held.is_label) k);
                 store = x.held.store;
                 above = x.held.above;
                 more = x.held.more;
@@ -268,7 +278,8 @@ module _ (c : Code) (n : Notes) where
         (es base : List ℕ) → all ≡ ds ++ base → Beneath c n rest t p ds ls more hs all ns →
         Beneath c n rest t p es ls more hs (es ++ base) ns
     with_defers {p = p} {ds = ds} es base e (plain {t = t} {ls = ls} x g r) =
-        subst (λ all. Beneath c n rest t p es ls [] [] all []) (sym (ap (λ base. es ++ base) (no_base ds base e) ∙ append-nil es)) (plain x g r)
+        subst (λ all. Beneath c n rest t p es ls [] [] all []) (sym (ap (λ base. es ++ base) (no_base ds base e) ∙ append-nil es))
+        (plain x g r)
       where
         no_base : (ds base : List ℕ) → ds ≡ ds ++ base → base ≡ []
         no_base ds base e = append_cancel_left ds base [] (sym e ∙ sym (append-nil ds))

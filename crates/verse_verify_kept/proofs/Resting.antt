@@ -1,5 +1,6 @@
 -- Tasks are suspended, begin, end and are cancelled.
-use Rattle.std.proofs.Common.{◌≡◌, ℕ, zero, suc, ◌+◌, ◌≤◌, length, List, [], ◌∷◌, ◌++◌, Option, Some, None, Bool, true, false, cond, refl, sym}
+use Rattle.std.proofs.Common.{◌≡◌, ℕ, zero, suc, ◌+◌, ◌≤◌, length, List, [], ◌∷◌, ◌++◌, Option, Some, None, Bool, true, false, cond, refl}
+use Rattle.std.proofs.Common.{sym}
 use Rattle.std.proofs.Common.{subst, ap, arith, ◌∙◌}
 use Rattle.std.specs.Prelude.{slice_get, if◌then◌else◌}
 use Rattle.std.proofs.lemmas.Bool.{cond_both}
@@ -33,17 +34,21 @@ use Rattle.verse_sorts.proofs.Fitting.{fits_itself, are_more, is_up, is_more, gr
 use Rattle.verse_verify_kept.specs.Notes.{Point, Notes, parent_of}
 use Rattle.verse_verify_kept.specs.Known.{Known}
 use Rattle.verse_verify_kept.specs.Rules.{MayWait, Ready, Fit, AllIn, in_so, sorts}
-use Rattle.verse_verify_kept.specs.Kept.{Giver, func_gives, arm_gives, giver, Of, All, CellIs, var_is, object_is, event_is, CellsAre, cells_no, cells_so, StoreIs, Own, own, Plain, plain, Below, without_top}
+use Rattle.verse_verify_kept.specs.Kept.{Giver, func_gives, arm_gives, giver, Of, All, CellIs, var_is, object_is, event_is, CellsAre}
+use Rattle.verse_verify_kept.specs.Kept.{cells_no, cells_so, StoreIs, Own, own, Plain, plain, Below, without_top}
 use Rattle.verse_verify_kept.specs.Others.{Causes, coming, RoleIs, part_is, Alone, ThreadIs, PartsAre, parts_no, part_did}
-use Rattle.verse_verify_kept.specs.Others.{part_runs, KindGives, all_give, first_gives, rush_gives, Starts, LabelsAre, labels_no, labels_so, TaskIs}
+use Rattle.verse_verify_kept.specs.Others.{part_runs, KindGives, all_give, first_gives, rush_gives, Starts, LabelsAre, labels_no, labels_so}
+use Rattle.verse_verify_kept.specs.Others.{TaskIs}
 use Rattle.verse_verify_kept.specs.Others.{sleeps, groups, TasksAre, tasks_no, tasks_so, trees_no, trees_so, UpsAre, ups_no}
 use Rattle.verse_verify_kept.specs.Others.{ups_begin, ups_branch, ups_spawn, ResultsAre, Clocked, Tasked, Ends_in, World_is}
 use Rattle.verse_verify_kept.proofs.Going.{Good, next, over, turned, Fresh}
 use Rattle.verse_verify_kept.proofs.Acts.{spends}
-use Rattle.verse_verify_kept.proofs.Chains.{Openly, opens_chain, resume_good, Plainly, plainly, plain_here, plain_rest, plain_free, below_more}
+use Rattle.verse_verify_kept.proofs.Chains.{Openly, opens_chain, resume_good, Plainly, plainly, plain_here, plain_rest, plain_free}
+use Rattle.verse_verify_kept.proofs.Chains.{below_more}
 use Rattle.verse_verify_kept.proofs.Chains.{giver_waits}
 use Rattle.verse_verify_kept.proofs.Blocks.{clears_good, Gives_any}
-use Rattle.verse_verify_kept.proofs.Worlds.{onto_are, tasks_joined, trees_joined, parts_joined, thread_more, alone_more, tasks_more, trees_more}
+use Rattle.verse_verify_kept.proofs.Worlds.{onto_are, tasks_joined, trees_joined, parts_joined, thread_more, alone_more, tasks_more}
+use Rattle.verse_verify_kept.proofs.Worlds.{trees_more}
 use Rattle.verse_verify_kept.proofs.Worlds.{ups_more, tasked_more, results_more, signals_more, parts_more, labels_more, causes_more}
 
 module _ (c : Code) (n : Notes) where
@@ -180,8 +185,8 @@ module _ (c : Code) (n : Notes) where
         clears_good c n (World_is c n) ok y.thread.who (world pre post (clearing after ts ∷ us) trees) (λ s. clears last after ts (world pre
         post us trees) s) any (y.thread.frame ∷ y.thread.below) s t t (coming true sort.any) (λ u g b w. clears_tasks last after ts s r z f
         truth good) (dies_chain y.thread.who (World_is c n y.thread.who (world pre post (clearing after ts ∷ us) trees) s.clock.results
-        s.clock.signals s.clock.next) (y.thread.frame ∷ y.thread.below) (coming true (thread_of i).0) (coming true sort.any) t (thread_of i).1
-        refl (truth ts y.thread.who (coming true sort.any) r)) adds_itself z f
+        s.clock.signals s.clock.next) (y.thread.frame ∷ y.thread.below) (coming true (thread_of i).0) (coming true sort.any) t
+        (thread_of i).1 refl (truth ts y.thread.who (coming true sort.any) r)) adds_itself z f
       where
         any : Gives_any c n (World_is c n) ok y.thread.who (world pre post (clearing after ts ∷ us) trees)
         any s u g h b = any_after after b
@@ -228,8 +233,8 @@ module _ (c : Code) (n : Notes) where
       };
     }
 
-    pub cancelled_are : {t : Typing} {pre post : List Task} {trees : Trees} (us : List Up) (f : List ℕ → Bool) → Tasked c n t pre post trees →
-        TasksAre c n t (cancelled f (world pre post us trees))
+    pub cancelled_are : {t : Typing} {pre post : List Task} {trees : Trees} (us : List Up) (f : List ℕ → Bool) →
+        Tasked c n t pre post trees → TasksAre c n t (cancelled f (world pre post us trees))
     cancelled_are us f k = tasks_joined c n (gone_before_are f k.pre_are) (gone_behind_are f k.post_are)
 
     -- a task that may wait goes on when others are cancelled
@@ -397,9 +402,9 @@ module _ (c : Code) (n : Notes) where
 
         by_role : RoleIs c n u w.role w.number (giver n st.point)
         by_role =
-            subst (λ z. RoleIs c n u z w.number (giver n st.point)) (sym role) (part_is is_part (subst (λ i. u.parts i ≡ Some r) (sym number)
-            (ap (λ z. cond z (Some r) (t.parts m)) (eqn_same m))) (subst (λ a. Fit c n (giver n st.point).result a) gives_it (fits_itself
-            (parent_of n) (giver n st.point).result)))
+            subst (λ z. RoleIs c n u z w.number (giver n st.point)) (sym role)
+            (part_is is_part (subst (λ i. u.parts i ≡ Some r) (sym number) (ap (λ z. cond z (Some r) (t.parts m)) (eqn_same m)))
+            (subst (λ a. Fit c n (giver n st.point).result a) gives_it (fits_itself (parent_of n) (giver n st.point).result)))
 
     -- the next arm begins
     pub arm_begins : {t : Typing} {pre post : List Task} {us : List Up} {trees : Trees} {s : State} {gs : List Part} {rs ss : List Sort}
@@ -439,8 +444,8 @@ module _ (c : Code) (n : Notes) where
     cond_with true x y P f g = f refl
     cond_with false x y P f g = g refl
 
-    pub calm_for : {t : Typing} {w x : Who} {pre post : List Task} {us vs : List Up} {trees : Trees} {s : State} → Calm t w pre post us trees s →
-        UpsAre c n t x vs → Calm t x pre post vs trees s
+    pub calm_for : {t : Typing} {w x : Who} {pre post : List Task} {us vs : List Up} {trees : Trees} {s : State} →
+        Calm t w pre post us trees s → UpsAre c n t x vs → Calm t x pre post vs trees s
     calm_for k ups = record { store = k.store; fresh = k.fresh; clocked = k.clocked; ups = ups; tasked = k.tasked }
 
     pub calm_more : {t : Typing} {w : Who} {pre post : List Task} {us : List Up} {trees : Trees} {s : State} (x : Task) → TaskIs c n t x →
@@ -491,8 +496,8 @@ module _ (c : Code) (n : Notes) where
     at_more (x ∷ xs) ys (suc i) a e = at_more xs ys i a e
 
     -- a task is suspended
-    pub suspends_good : {t : Typing} {pre post : List Task} {us : List Up} {trees : Trees} {s : State} (a : Sort) (y : Thread) (cause : Cause) →
-        Calm t y.who pre post us trees s → ThreadIs c n t a y → Causes c n t cause a →
+    pub suspends_good : {t : Typing} {pre post : List Task} {us : List Up} {trees : Trees} {s : State} (a : Sort) (y : Thread)
+        (cause : Cause) → Calm t y.who pre post us trees s → ThreadIs c n t a y → Causes c n t cause a →
         Fine_step (suspends cause y (world pre post us trees) s)
     suspends_good {t = t} {pre = pre} {post = post} {us = us} {trees = trees} {s = s} a y cause k r j =
         rested_good (ups_more c n grows k.ups) (record {
@@ -505,8 +510,8 @@ module _ (c : Code) (n : Notes) where
           };
           ups = ups_more c n grows k.ups;
           tasked = record {
-            pre_are = tasks_so (sleeps refl (subst (λ i. at u.waits i ≡ Some a) k.clocked.waits (at_end t.waits a)) (causes_more c n grows j)
-                (thread_more c n grows a y r)) (tasks_more c n grows k.tasked.pre_are);
+            pre_are = tasks_so (sleeps refl (subst (λ i. at u.waits i ≡ Some a) k.clocked.waits (at_end t.waits a))
+                (causes_more c n grows j) (thread_more c n grows a y r)) (tasks_more c n grows k.tasked.pre_are);
             post_are = tasks_more c n grows k.tasked.post_are;
             before_are = trees_more c n grows k.tasked.before_are;
             behind_are = trees_more c n grows k.tasked.behind_are;
@@ -556,9 +561,10 @@ module _ (c : Code) (n : Notes) where
     did_parts m w e i parts_no = parts_no
     did_parts m w e i (part_did j r) = part_did j (did_parts m w e i r)
     did_parts {t = t} {b = b} m w e i (part_runs {i = k} {gs = gs} {a = a} {b = d} {xs = xs} h f r) =
-        cond_with (eqn m k) (did w ∷ gs) (runs k ∷ with_did m w gs) (λ gs. PartsAre c n t gs (a ∷ xs)) (λ same. part_did (is_up (parent_of n)
-        (subst (Of c n t w) (same_Some _ _ (sym e ∙ subst (λ k. t.parts k ≡ Some d) (sym (eqn_is m k same)) h)) i) f) r) (λ other. part_runs
-        h f (did_parts m w e i r))
+        cond_with (eqn m k) (did w ∷ gs) (runs k ∷ with_did m w gs) (λ gs. PartsAre c n t gs (a ∷ xs))
+        (λ same. part_did (is_up (parent_of n) (subst (Of c n t w)
+        (same_Some _ _ (sym e ∙ subst (λ k. t.parts k ≡ Some d) (sym (eqn_is m k same)) h)) i) f) r)
+        (λ other. part_runs h f (did_parts m w e i r))
 
     pub joined_good : {t : Typing} {w : Who} {pre post : List Task} {trees : Trees} {s : State} {b : Sort} (m : ℕ) (u : Val) (y : Task) →
         t.parts m ≡ Some b → Of c n t u b → TaskIs c n t y → Calm t w pre post [] trees s → Fine_step (joined m u y.rest y pre post trees s)
@@ -577,8 +583,8 @@ module _ (c : Code) (n : Notes) where
         }))
     joined_good {t = t} {pre = pre} {post = post} {trees = trees} {s = s} m u y e i (groups {k = k} {p = p} {gs = gs} {a = a} h ps g r) q =
         subst (λ z. Fine_step (joined m u z y pre post trees s)) (sym h) (cond_both (is_run m gs) _ _ Fine_step (λ is. grouped_good a k p
-        y.thread _ (calm_for q ups_no) r (did_parts m u e i ps) g (λ x same j. rested_good {w = y.thread.who} ups_no (calm_more x j (calm_for q ups_no))))
-        (λ not. turn_good (record {
+        y.thread _ (calm_for q ups_no) r (did_parts m u e i ps) g
+        (λ x same j. rested_good {w = y.thread.who} ups_no (calm_more x j (calm_for q ups_no)))) (λ not. turn_good (record {
           store = q.store;
           fresh = q.fresh;
           clocked = q.clocked;

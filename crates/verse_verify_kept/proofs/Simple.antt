@@ -9,20 +9,24 @@ use Rattle.verse_value.specs.Val.{Val, Vals, vals}
 use Rattle.verse_value.specs.Answer.{Answer, fails, stuck, given_or}
 use Rattle.verse_value.specs.Keys.{chars}
 use Rattle.verse_value.specs.Places.{nth}
-use Rattle.verse_value.specs.Operations.{difference_of, product_of, negation_of, floor_of, ceil_of, modulo_of, less_of, at_most_of, greater_of}
-use Rattle.verse_value.specs.Operations.{at_least_of, equal_of, unequal_of, option_of, item_of, length_of, array_of, tuple_of, left_where, text_val}
+use Rattle.verse_value.specs.Operations.{difference_of, product_of, negation_of, floor_of, ceil_of, modulo_of, less_of, at_most_of}
+use Rattle.verse_value.specs.Operations.{greater_of}
+use Rattle.verse_value.specs.Operations.{at_least_of, equal_of, unequal_of, option_of, item_of, length_of, array_of, tuple_of, left_where}
+use Rattle.verse_value.specs.Operations.{text_val}
 use Rattle.verse_meaning_state.specs.State.{State}
 use Rattle.verse_code_machine.specs.Tasks.{Life, Handler, Frame, Who, World}
 use Rattle.verse_code_machine.specs.Frames.{on_there}
 use Rattle.verse_code_machine.specs.Acts.{pushes, place_at, act}
 use Rattle.verse_sorts.specs.Sorts as sort
 use Rattle.verse_sorts.specs.Sorts.{Sort, Sorts}
-use Rattle.verse_sorts.specs.Typing.{Typing, AreAll, AreEach, is_int, is_unit, is_nil, is_true, is_char, is_enum, is_some, is_list, is_tuple}
+use Rattle.verse_sorts.specs.Typing.{Typing, AreAll, AreEach, is_int, is_unit, is_nil, is_true, is_char, is_enum, is_some, is_list}
+use Rattle.verse_sorts.specs.Typing.{is_tuple}
 use Rattle.verse_sorts.specs.Typing.{is_map, no_all, more_all, no_each, more_each, are_no, are_so}
 use Rattle.verse_sorts.proofs.Fitting.{is_up}
 use Rattle.verse_verify_kept.specs.Notes.{Point, Notes, parent_of}
 use Rattle.verse_verify_kept.specs.Known.{Known}
-use Rattle.verse_verify_kept.specs.Rules.{To, MayFail, Passes, AllIn, in_no, in_so, Counted, list_counted, map_counted, never_counted, sorts, at_sort}
+use Rattle.verse_verify_kept.specs.Rules.{To, MayFail, Passes, AllIn, in_no, in_so, Counted, list_counted, map_counted, never_counted}
+use Rattle.verse_verify_kept.specs.Rules.{sorts, at_sort}
 use Rattle.verse_verify_kept.specs.Rules.{Pops}
 use Rattle.verse_verify_kept.specs.Rules as r
 use Rattle.verse_verify_kept.specs.Kept.{giver, Of, All, StoreIs, Beneath, Bottom}
@@ -39,15 +43,15 @@ module _ (c : Code) (n : Notes) {t : Typing} where
       (difference_of u w)
   difference_fine e is_int is_int = if_fine _ _ _ e is_int
 
-  product_fine : {F E : Type 0} {u w : Val} → E → Of c n t u sort.int → Of c n t w sort.int → Fine F E (λ z. Of c n t z sort.int) (product_of
-      u w)
+  product_fine : {F E : Type 0} {u w : Val} → E → Of c n t u sort.int → Of c n t w sort.int →
+      Fine F E (λ z. Of c n t z sort.int) (product_of u w)
   product_fine e is_int is_int = if_fine _ _ _ e is_int
 
   negation_fine : {F E : Type 0} {u : Val} → E → Of c n t u sort.int → Fine F E (λ z. Of c n t z sort.int) (negation_of u)
   negation_fine e is_int = if_fine _ _ _ e is_int
 
-  floor_fine : {F E : Type 0} {u w : Val} → F → E → Of c n t u sort.int → Of c n t w sort.int → Fine F E (λ z. Of c n t z sort.int) (floor_of
-      u w)
+  floor_fine : {F E : Type 0} {u w : Val} → F → E → Of c n t u sort.int → Of c n t w sort.int →
+      Fine F E (λ z. Of c n t z sort.int) (floor_of u w)
   floor_fine f e is_int is_int = divided_fine _ f (if_fine _ _ _ e is_int)
 
   ceil_fine : {F E : Type 0} {u w : Val} → F → E → Of c n t u sort.int → Of c n t w sort.int → Fine F E (λ z. Of c n t z sort.int) (ceil_of
@@ -65,12 +69,12 @@ module _ (c : Code) (n : Notes) {t : Typing} where
   less_fine : {F E : Type 0} {u w : Val} → F → Of c n t u sort.int → Of c n t w sort.int → Fine F E (λ z. Of c n t z sort.int) (less_of u w)
   less_fine f is_int is_int = left_fine _ f is_int
 
-  at_most_fine : {F E : Type 0} {u w : Val} → F → Of c n t u sort.int → Of c n t w sort.int → Fine F E (λ z. Of c n t z sort.int) (at_most_of
-      u w)
+  at_most_fine : {F E : Type 0} {u w : Val} → F → Of c n t u sort.int → Of c n t w sort.int →
+      Fine F E (λ z. Of c n t z sort.int) (at_most_of u w)
   at_most_fine f is_int is_int = left_fine _ f is_int
 
-  greater_fine : {F E : Type 0} {u w : Val} → F → Of c n t u sort.int → Of c n t w sort.int → Fine F E (λ z. Of c n t z sort.int) (greater_of
-      u w)
+  greater_fine : {F E : Type 0} {u w : Val} → F → Of c n t u sort.int → Of c n t w sort.int →
+      Fine F E (λ z. Of c n t z sort.int) (greater_of u w)
   greater_fine f is_int is_int = left_fine _ f is_int
 
   at_least_fine : {F E : Type 0} {u w : Val} → F → Of c n t u sort.int → Of c n t w sort.int → Fine F E (λ z. Of c n t z sort.int)
@@ -136,66 +140,84 @@ module _ (c : Code) (n : Notes) (bottom : Bottom c n) (ok : Known c n) (ends : E
 
   pub sub_good : {m : ℕ} → Has (place_at c m) → Passes c n pc p (o.Sub m) → Does (o.Sub m)
   sub_good {m = m} h (r.of_sub e fa fb l) =
-      binary_good c n bottom ok ends w x s g pc bl t p z f ls more hs k a difference_of (place_at c m) b e l (λ u y i j. difference_fine c n h (is_up (parent_of n) i fa) (is_up (parent_of n) j fb))
+      binary_good c n bottom ok ends w x s g pc bl t p z f ls more hs k a difference_of (place_at c m) b e l
+      (λ u y i j. difference_fine c n h (is_up (parent_of n) i fa) (is_up (parent_of n) j fb))
 
   pub mul_good : {m : ℕ} → Has (place_at c m) → Passes c n pc p (o.Mul m) → Does (o.Mul m)
   mul_good {m = m} h (r.of_mul e fa fb l) =
-      binary_good c n bottom ok ends w x s g pc bl t p z f ls more hs k a product_of (place_at c m) b e l (λ u y i j. product_fine c n h (is_up (parent_of n) i fa) (is_up (parent_of n) j fb))
+      binary_good c n bottom ok ends w x s g pc bl t p z f ls more hs k a product_of (place_at c m) b e l
+      (λ u y i j. product_fine c n h (is_up (parent_of n) i fa) (is_up (parent_of n) j fb))
 
   pub neg_good : {m : ℕ} → Has (place_at c m) → Passes c n pc p (o.Neg m) → Does (o.Neg m)
   neg_good {m = m} h (r.of_neg e fa l) =
-      unary_good c n bottom ok ends w x s g pc bl t p z f ls more hs k a negation_of (place_at c m) b e l (λ u i. negation_fine c n h (is_up (parent_of n) i fa))
+      unary_good c n bottom ok ends w x s g pc bl t p z f ls more hs k a negation_of (place_at c m) b e l
+      (λ u i. negation_fine c n h (is_up (parent_of n) i fa))
 
   pub floor_good : {m : ℕ} → Has (place_at c m) → Passes c n pc p (o.Floor m) → Does (o.Floor m)
   floor_good {m = m} h (r.of_floor e fa fb may l) =
-      binary_good c n bottom ok ends w x s g pc bl t p z f ls more hs k a floor_of (place_at c m) b e l (λ u y i j. floor_fine c n may h (is_up (parent_of n) i fa) (is_up (parent_of n) j fb))
+      binary_good c n bottom ok ends w x s g pc bl t p z f ls more hs k a floor_of (place_at c m) b e l
+      (λ u y i j. floor_fine c n may h (is_up (parent_of n) i fa) (is_up (parent_of n) j fb))
 
   pub ceil_good : {m : ℕ} → Has (place_at c m) → Passes c n pc p (o.Ceil m) → Does (o.Ceil m)
   ceil_good {m = m} h (r.of_ceil e fa fb may l) =
-      binary_good c n bottom ok ends w x s g pc bl t p z f ls more hs k a ceil_of (place_at c m) b e l (λ u y i j. ceil_fine c n may h (is_up (parent_of n) i fa) (is_up (parent_of n) j fb))
+      binary_good c n bottom ok ends w x s g pc bl t p z f ls more hs k a ceil_of (place_at c m) b e l
+      (λ u y i j. ceil_fine c n may h (is_up (parent_of n) i fa) (is_up (parent_of n) j fb))
 
   pub mod_good : Passes c n pc p o.Mod → Does o.Mod
   mod_good (r.of_mod e fa fb may l) =
-      binary_good c n bottom ok ends w x s g pc bl t p z f ls more hs k a modulo_of None b e l (λ u y i j. modulo_fine c n may (is_up (parent_of n) i fa) (is_up (parent_of n) j fb))
+      binary_good c n bottom ok ends w x s g pc bl t p z f ls more hs k a modulo_of None b e l
+      (λ u y i j. modulo_fine c n may (is_up (parent_of n) i fa) (is_up (parent_of n) j fb))
 
   pub lt_good : Passes c n pc p o.Lt → Does o.Lt
   lt_good (r.of_lt e fa fb may l) =
-      binary_good c n bottom ok ends w x s g pc bl t p z f ls more hs k a less_of None b e l (λ u y i j. less_fine c n may (is_up (parent_of n) i fa) (is_up (parent_of n) j fb))
+      binary_good c n bottom ok ends w x s g pc bl t p z f ls more hs k a less_of None b e l
+      (λ u y i j. less_fine c n may (is_up (parent_of n) i fa) (is_up (parent_of n) j fb))
 
   pub le_good : Passes c n pc p o.Le → Does o.Le
   le_good (r.of_le e fa fb may l) =
-      binary_good c n bottom ok ends w x s g pc bl t p z f ls more hs k a at_most_of None b e l (λ u y i j. at_most_fine c n may (is_up (parent_of n) i fa) (is_up (parent_of n) j fb))
+      binary_good c n bottom ok ends w x s g pc bl t p z f ls more hs k a at_most_of None b e l
+      (λ u y i j. at_most_fine c n may (is_up (parent_of n) i fa) (is_up (parent_of n) j fb))
 
   pub gt_good : Passes c n pc p o.Gt → Does o.Gt
   gt_good (r.of_gt e fa fb may l) =
-      binary_good c n bottom ok ends w x s g pc bl t p z f ls more hs k a greater_of None b e l (λ u y i j. greater_fine c n may (is_up (parent_of n) i fa) (is_up (parent_of n) j fb))
+      binary_good c n bottom ok ends w x s g pc bl t p z f ls more hs k a greater_of None b e l
+      (λ u y i j. greater_fine c n may (is_up (parent_of n) i fa) (is_up (parent_of n) j fb))
 
   pub ge_good : Passes c n pc p o.Ge → Does o.Ge
   ge_good (r.of_ge e fa fb may l) =
-      binary_good c n bottom ok ends w x s g pc bl t p z f ls more hs k a at_least_of None b e l (λ u y i j. at_least_fine c n may (is_up (parent_of n) i fa) (is_up (parent_of n) j fb))
+      binary_good c n bottom ok ends w x s g pc bl t p z f ls more hs k a at_least_of None b e l
+      (λ u y i j. at_least_fine c n may (is_up (parent_of n) i fa) (is_up (parent_of n) j fb))
 
   pub eq_good : Passes c n pc p o.Eq → Does o.Eq
-  eq_good (r.of_eq e may l) = binary_good c n bottom ok ends w x s g pc bl t p z f ls more hs k a equal_of None b e l (λ u y i j. left_fine c n _ may i)
+  eq_good (r.of_eq e may l) = binary_good c n bottom ok ends w x s g pc bl t p z f ls more hs k a equal_of None b e l
+      (λ u y i j. left_fine c n _ may i)
 
   pub ne_good : Passes c n pc p o.Ne → Does o.Ne
-  ne_good (r.of_ne e may l) = binary_good c n bottom ok ends w x s g pc bl t p z f ls more hs k a unequal_of None b e l (λ u y i j. left_fine c n _ may i)
+  ne_good (r.of_ne e may l) = binary_good c n bottom ok ends w x s g pc bl t p z f ls more hs k a unequal_of None b e l
+      (λ u y i j. left_fine c n _ may i)
 
   pub some_good : {m : ℕ} → Has (place_at c m) → Passes c n pc p (o.Some m) → Does (o.Some m)
-  some_good {m = m} h (r.of_some e l) = unary_good c n bottom ok ends w x s g pc bl t p z f ls more hs k a option_of (place_at c m) b e l (λ u i. if_fine _ _ _ h (is_some i))
+  some_good {m = m} h (r.of_some e l) = unary_good c n bottom ok ends w x s g pc bl t p z f ls more hs k a option_of (place_at c m) b e l
+      (λ u i. if_fine _ _ _ h (is_some i))
 
   pub item_good : {m : ℕ} → Passes c n pc p (o.Item m) → Does (o.Item m)
-  item_good {m = m} (r.of_item e there l) = unary_good c n bottom ok ends w x s g pc bl t p z f ls more hs k a (λ v. item_of v m) None b e l (λ u i. item_fine c n m there i)
-  item_good {m = m} (r.of_no_item e l) = unary_good c n bottom ok ends w x s g pc bl t p z f ls more hs k a (λ v. item_of v m) None b e l (λ u i. never_fine c n i)
+  item_good {m = m} (r.of_item e there l) = unary_good c n bottom ok ends w x s g pc bl t p z f ls more hs k a (λ v. item_of v m) None b e l
+      (λ u i. item_fine c n m there i)
+  item_good {m = m} (r.of_no_item e l) = unary_good c n bottom ok ends w x s g pc bl t p z f ls more hs k a (λ v. item_of v m) None b e l
+      (λ u i. never_fine c n i)
 
   pub length_good : Passes c n pc p o.Length → Does o.Length
-  length_good (r.of_length e q l) = unary_good c n bottom ok ends w x s g pc bl t p z f ls more hs k a length_of None b e l (λ u i. length_fine c n q i)
+  length_good (r.of_length e q l) = unary_good c n bottom ok ends w x s g pc bl t p z f ls more hs k a length_of None b e l
+      (λ u i. length_fine c n q i)
 
   pub array_good : {m q : ℕ} → Has (place_at c q) → Passes c n pc p (o.Array m q) → Does (o.Array m q)
   array_good {m = m} {q = q} h (r.of_array pops in_u l) =
-      many_good c n bottom ok ends w x s g pc bl t p z f ls more hs k a above [] _ pops b are_no (λ vs rest i j. still_good c n bottom ok ends w x s g pc bl t p z f ls more hs k a (place_at c q) (array_of vs) l j (if_fine _ _ _ h (is_list
-      (all_in c n i in_u))))
+      many_good c n bottom ok ends w x s g pc bl t p z f ls more hs k a above [] _ pops b are_no
+      (λ vs rest i j. still_good c n bottom ok ends w x s g pc bl t p z f ls more hs k a (place_at c q) (array_of vs) l j
+      (if_fine _ _ _ h (is_list (all_in c n i in_u))))
 
   pub tuple_good : {m q : ℕ} → Has (place_at c q) → Passes c n pc p (o.Tuple m q) → Does (o.Tuple m q)
   tuple_good {m = m} {q = q} h (r.of_tuple pops l) =
-      many_good c n bottom ok ends w x s g pc bl t p z f ls more hs k a above [] _ pops b are_no (λ vs rest i j. still_good c n bottom ok ends w x s g pc bl t p z f ls more hs k a (place_at c q) (tuple_of vs) l j (if_fine _ _ _ h (is_tuple
-      (each_in c n i))))
+      many_good c n bottom ok ends w x s g pc bl t p z f ls more hs k a above [] _ pops b are_no
+      (λ vs rest i j. still_good c n bottom ok ends w x s g pc bl t p z f ls more hs k a (place_at c q) (tuple_of vs) l j
+      (if_fine _ _ _ h (is_tuple (each_in c n i))))

@@ -1,5 +1,6 @@
 -- Store: a write at a path in a slot.
-use Rattle.std.proofs.Common.{◌≡◌, ◌≢◌, ℕ, zero, suc, List, [], ◌∷◌, ◌++◌, length, Option, Some, None, Bool, true, false, refl, sym, subst, ap, ◌∙◌}
+use Rattle.std.proofs.Common.{◌≡◌, ◌≢◌, ℕ, zero, suc, List, [], ◌∷◌, ◌++◌, length, Option, Some, None, Bool, true, false, refl, sym, subst}
+use Rattle.std.proofs.Common.{ap, ◌∙◌}
 use Rattle.std.specs.Prelude.{slice_get, slice_set, if◌then◌else◌}
 use Rattle.std.proofs.lemmas.Option.{same_Some, none-some}
 use Rattle.verse_base.specs.declared.places.Place.{Place}
@@ -30,7 +31,8 @@ use Rattle.verse_verify_kept.specs.Notes.{ClassNote, Point, Notes, parent_of}
 use Rattle.verse_verify_kept.specs.Known.{Known}
 use Rattle.verse_verify_kept.specs.Rules.{To, MayFail, Passes, Slot, slot_var, slot_obj, slot_never, Path, Mode}
 use Rattle.verse_verify_kept.specs.Rules as r
-use Rattle.verse_verify_kept.specs.Kept.{giver, Of, All, CellIs, var_is, object_is, event_is, CellsAre, cells_no, cells_so, StoreIs, Beneath, Bottom}
+use Rattle.verse_verify_kept.specs.Kept.{giver, Of, All, CellIs, var_is, object_is, event_is, CellsAre, cells_no, cells_so, StoreIs}
+use Rattle.verse_verify_kept.specs.Kept.{Beneath, Bottom}
 use Rattle.verse_verify_kept.proofs.Going.{Good, goes_to, Ends, Rest, Fresh}
 use Rattle.verse_verify_kept.proofs.Acts.{Fine, fine_gives, fine_fails, fine_error, many_good}
 use Rattle.verse_verify_kept.proofs.Values.{Has, Slotted, slotted, var_slot, obj_slot, answered_good}
@@ -71,8 +73,8 @@ module _ (c : Code) (n : Notes) (t : Typing) where
       Named st slot b u
   names_slot ok st slot {b = b} z slot_var (is_var {i = i} h) = go (var_slot c n i z h)
     where
-      sets : (u : Val) → Of c n t u b → (kd : CellKind) (us : List Val) → CellIs c n t kd us (sort.var b) → CellIs c n t kd (slice_set us 0 u)
-          (sort.var b)
+      sets : (u : Val) → Of c n t u b → (kd : CellKind) (us : List Val) → CellIs c n t kd us (sort.var b) →
+          CellIs c n t kd (slice_set us 0 u) (sort.var b)
       sets u j kd us (var_is i) = var_is j
 
       go : Slotted (parent_of n) t (slot_of st i 0) b → Named st 0 b (v.object i)
@@ -109,23 +111,25 @@ module _ (c : Code) (n : Notes) (bottom : Bottom c n) (ok : Known c n) (ends : E
   store_good {above = above} {slot = slot} {m = m} {mode = mode} {pl = pl} h b (r.of_store {v = d} {b = place} {r = e} {xs = xs} {st = st}
       {us = us} is pops names path how may l) = have (subst (All c n t above) is b)
     where
-      have : {above : List Val} → All c n t above (d ∷ us) → Good c n bottom (act c (o.Store slot m mode pl) w x s g ls (above ++ more) pc hs
-          bl)
+      have : {above : List Val} → All c n t above (d ∷ us) →
+          Good c n bottom (act c (o.Store slot m mode pl) w x s g ls (above ++ more) pc hs bl)
       have (are_so {w = u} {vs = vs} i rest) =
-          many_good c n bottom ok ends w x s g pc bl t p z f ls more hs k a vs [] _ pops rest are_no (λ index above j b. cell index l (λ y i. names_slot c n t ok s.memory.store slot z names i) b j)
+          many_good c n bottom ok ends w x s g pc bl t p z f ls more hs k a vs [] _ pops rest are_no
+          (λ index above j b. cell index l (λ y i. names_slot c n t ok s.memory.store slot z names i) b j)
         where
           cell : {above : List Val} {d : Sort} {st : List Sort} (index : List Val) → To c n p (e ∷ st) (suc pc) → ((y : Val) → Of c n t y
               d → Named c n t s.memory.store slot place y) → All c n t above (d ∷ st) → All c n t index xs → Good c n bottom (on_top (above
               ++ more) s (λ y st. answered (place_at c pl) (slot_written slot index (mode_of mode) u y s) w x s g ls st pc hs bl))
           cell {st = st} index l find (are_so {w = y} {vs = vs} i2 rest2) j = by_name (find y i2)
             where
-              by_written : (q : ℕ) {x2 : Answer (Val × Val)} {b : Sort} → ((v2 : Val) → Of c n t v2 b → CellsAre c n t (stored s.memory.store
-                  q slot v2) t.cells) → Fine (MayFail c n p) (Has (place_at c pl)) (λ y. Of c n t y.0 b × Of c n t y.1 e) x2 → Fine (MayFail c n
-                  p) (Has (place_at c pl)) (λ y. Good c n bottom (goes w x s y.1 g ls (y.0 ∷ vs ++ more) (suc pc) hs bl)) (changed
-                  (with_written s.memory.store q slot x2) s)
+              by_written : (q : ℕ) {x2 : Answer (Val × Val)} {b : Sort} →
+                  ((v2 : Val) → Of c n t v2 b → CellsAre c n t (stored s.memory.store q slot v2) t.cells) →
+                  Fine (MayFail c n p) (Has (place_at c pl)) (λ y. Of c n t y.0 b × Of c n t y.1 e) x2 →
+                  Fine (MayFail c n p) (Has (place_at c pl)) (λ y. Good c n bottom (goes w x s y.1 g ls (y.0 ∷ vs ++ more) (suc pc) hs bl))
+                  (changed (with_written s.memory.store q slot x2) s)
               by_written q sets (fine_gives {x = r2} i3) =
-                  sized _ _ _ (goes_to c n bottom ok w x s (with_store s (stored s.memory.store q slot r2.0)) g ls (r2.1 ∷ vs) more hs bl t l a
-                  (are_so i3.1 rest2) k (sets r2.0 i3.0) f)
+                  sized _ _ _ (goes_to c n bottom ok w x s (with_store s (stored s.memory.store q slot r2.0)) g ls (r2.1 ∷ vs) more hs bl t
+                  l a (are_so i3.1 rest2) k (sets r2.0 i3.0) f)
                 where
                   sized : (b : Bool) (st2 : Store) (kind : Error) → Good c n bottom (goes w x s (with_store s st2) g ls (r2.1 ∷ vs ++ more)
                       (suc pc) hs bl) → Fine (MayFail c n p) (Has (place_at c pl)) (λ y. Good c n bottom (goes w x s y.1 g ls (y.0 ∷ vs ++
@@ -138,10 +142,11 @@ module _ (c : Code) (n : Notes) (bottom : Bottom c n) (ok : Known c n) (ends : E
               by_name : {y : Val} → Named c n t s.memory.store slot place y → Good c n bottom (answered (place_at c pl) (slot_written slot
                   index (mode_of mode) u y s) w x s g ls (vs ++ more) pc hs bl)
               by_name (named {i = q} {from = from} e2 i2 sets) =
-                  answered_good c n bottom ok ends w x s g pc bl t p z f ls more hs k a vs (place_at c pl) _ l (subst (λ m2. Fine (MayFail c n
-                  p) (Has (place_at c pl)) (λ y. Good c n bottom (goes w x s y.1 g ls (y.0 ∷ vs ++ more) (suc pc) hs bl)) (changed (write_in
-                  s.memory.store q slot index (mode_of mode) u m2) s)) (sym e2) (by_written q sets (write_fine c n from u h (λ e3. may
-                  (not_empty c n t j e3)) path j i2 how i)))
+                  answered_good c n bottom ok ends w x s g pc bl t p z f ls more hs k a vs (place_at c pl) _ l
+                  (subst (λ m2. Fine (MayFail c n p) (Has (place_at c pl))
+                  (λ y. Good c n bottom (goes w x s y.1 g ls (y.0 ∷ vs ++ more) (suc pc) hs bl))
+                  (changed (write_in s.memory.store q slot index (mode_of mode) u m2) s)) (sym e2)
+                  (by_written q sets (write_fine c n from u h (λ e3. may (not_empty c n t j e3)) path j i2 how i)))
 
   pub new_good : {above : List Val} {pl : ℕ} → Has (place_at c pl) → All c n t above p.stack → Passes c n pc p (o.New pl) →
       Good c n bottom (act c (o.New pl) w x s g ls (above ++ more) pc hs bl)
@@ -173,19 +178,21 @@ module _ (c : Code) (n : Notes) (bottom : Bottom c n) (ok : Known c n) (ends : E
           place : at u.cells (length s.memory.store) ≡ Some (sort.var e)
           place = subst (λ i. at u.cells i ≡ Some (sort.var e)) (sym (cells_count c n z)) (at_end c n ok t.cells (sort.var e))
 
-          sized : (b : Bool) (kind : Error) → Fine (MayFail c n p) (Has (place_at c pl)) (λ y. Good c n bottom (goes w x s y.1 g ls (y.0 ∷ vs
-              ++ more) (suc pc) hs bl)) (added (if b then gives (with_cell s.memory.store made_cell) else error kind) (v.object (length
-              s.memory.store)) s)
+          sized : (b : Bool) (kind : Error) → Fine (MayFail c n p) (Has (place_at c pl))
+              (λ y. Good c n bottom (goes w x s y.1 g ls (y.0 ∷ vs ++ more) (suc pc) hs bl))
+              (added (if b then gives (with_cell s.memory.store made_cell) else error kind) (v.object (length s.memory.store)) s)
           sized true kind =
               fine_gives (goes_to c n bottom ok w x s (with_store s (with_cell s.memory.store made_cell)) g ls (v.object (length
               s.memory.store) ∷ vs) more hs bl u l (are_more (parent_of n) adds.grows a) (are_so (is_var place) (are_more (parent_of n)
-              adds.grows rest)) (moves c n k (kin_itself p) (tries_itself c n p.tries) adds) (cells_end c n made_cell (sort.var e) (cells_more c
-              n ok adds.grows z) (var_is (is_more (parent_of n) adds.grows (is_up (parent_of n) i fit)))) f)
+              adds.grows rest)) (moves c n k (kin_itself p) (tries_itself c n p.tries) adds)
+              (cells_end c n made_cell (sort.var e) (cells_more c n ok adds.grows z)
+              (var_is (is_more (parent_of n) adds.grows (is_up (parent_of n) i fit)))) f)
           sized false kind = fine_error h
 
   -- one cell more, and the value that names it
-  pub made_good : {vs : List Val} {st : List Sort} (pl : Option Place) (e : Sort) (value : ℕ → Val) (y : Cell) → Has pl → To c n p (e ∷ st) (suc
-      pc) → All c n t vs st → CellIs c n t y.kind y.slots e → ((u : Typing) (i : ℕ) → at u.cells i ≡ Some e → Of c n u (value i) e) →
+  pub made_good : {vs : List Val} {st : List Sort} (pl : Option Place) (e : Sort) (value : ℕ → Val) (y : Cell) → Has pl →
+      To c n p (e ∷ st) (suc pc) → All c n t vs st → CellIs c n t y.kind y.slots e →
+      ((u : Typing) (i : ℕ) → at u.cells i ≡ Some e → Of c n u (value i) e) →
       Good c n bottom (answered pl (added (add_cell s.memory.store y) (value (length s.memory.store)) s) w x s g ls (vs ++ more) pc hs bl)
   made_good {vs = vs} pl e value y h l rest i is =
       answered_good c n bottom ok ends w x s g pc bl t p z f ls more hs k a vs pl _ l (sized _ _)

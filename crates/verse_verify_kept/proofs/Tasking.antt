@@ -1,5 +1,6 @@
 -- Operations of tasks: Return, ArmEnd, Sleep, Forever, awaits, Branch, Spawn, Group.
-use Rattle.std.proofs.Common.{◌≡◌, ℕ, zero, suc, ◌+◌, length, List, [], ◌∷◌, ◌++◌, Option, Some, None, Bool, true, false, refl, sym, subst, ap}
+use Rattle.std.proofs.Common.{◌≡◌, ℕ, zero, suc, ◌+◌, length, List, [], ◌∷◌, ◌++◌, Option, Some, None, Bool, true, false, refl, sym, subst}
+use Rattle.std.proofs.Common.{ap}
 use Rattle.std.proofs.Common.{◌∙◌, ◌-◌, arith, ◌≤◌}
 use Rattle.std.specs.Prelude.{slice_get}
 use Rattle.std.proofs.lemmas.Option.{same_Some, none-some}
@@ -12,7 +13,8 @@ use Rattle.verse_meaning_state.specs.Waits.{heard}
 use Rattle.verse_meaning_state.specs.Effects.{event_at, event_in, signal_sent}
 use Rattle.verse_value.specs.Store.{Cell}
 use Rattle.verse_value.specs.declared.runs.CellKind.{CellKind}
-use Rattle.verse_code_machine.specs.Tasks.{Life, Handler, Note, Frame, Role, root, part, Who, Thread, thread, Task, After, resuming, closing, finishing}
+use Rattle.verse_code_machine.specs.Tasks.{Life, Handler, Note, Frame, Role, root, part, Who, Thread, thread, Task, After, resuming}
+use Rattle.verse_code_machine.specs.Tasks.{closing, finishing}
 use Rattle.verse_code_machine.specs.Tasks.{stuck, Up, branching, clearing, World, world, Next, machine, life_from, child_named, since}
 use Rattle.verse_code_machine.specs.Frames.{free, nothing, on_many, on_there, goes, answered}
 use Rattle.verse_code_machine.specs.Cancelling.{without, world_without, cancelled, cancels}
@@ -27,19 +29,28 @@ use Rattle.verse_sorts.specs.Typing.{at, Typing, Grows, Adds, is_unit, is_task, 
 use Rattle.verse_sorts.proofs.Fitting.{is_up, are_more, are_up, grows_itself, adds_itself, fits_itself}
 use Rattle.verse_verify_kept.specs.Notes.{FuncNote, Point, Notes, parent_of}
 use Rattle.verse_verify_kept.specs.Known.{Known}
-use Rattle.verse_verify_kept.specs.Rules.{Begins, Arms, arms_no, arms_so, Grouped, sync_gives, race_gives, Arm, Kin, To, Fit, Passes, MayWait}
+use Rattle.verse_verify_kept.specs.Rules.{Begins, Arms, arms_no, arms_so, Grouped, sync_gives, race_gives, Arm, Kin, To, Fit, Passes}
+use Rattle.verse_verify_kept.specs.Rules.{MayWait}
 use Rattle.verse_verify_kept.specs.Rules as r
-use Rattle.verse_verify_kept.specs.Kept.{CellIs, var_is, object_is, event_is, CellsAre, cells_no, cells_so, Giver, func_gives, arm_gives, giver, Of, All, StoreIs, Own, own, plain, Beneath, Below, without_top}
-use Rattle.verse_verify_kept.specs.Others.{KindGives, all_give, first_gives, rush_gives, LabelsAre, labels_no, labels_so, parts_no, Starts, SignalsAre, signals_no, signals_so, ups_branch, ups_spawn, ThreadIs, till_gives, never_gives, done_gives, heard_gives, ResultsAre, results_no, result_none, result_some, coming, closing_with, RoleIs, main_is, root_is, part_is, Alone, World_is, TasksAre, tasks_no, Tasked}
+use Rattle.verse_verify_kept.specs.Kept.{CellIs, var_is, object_is, event_is, CellsAre, cells_no, cells_so, Giver, func_gives, arm_gives}
+use Rattle.verse_verify_kept.specs.Kept.{giver, Of, All, StoreIs, Own, own, plain, Beneath, Below, without_top}
+use Rattle.verse_verify_kept.specs.Others.{KindGives, all_give, first_gives, rush_gives, LabelsAre, labels_no, labels_so, parts_no, Starts}
+use Rattle.verse_verify_kept.specs.Others.{SignalsAre, signals_no, signals_so, ups_branch, ups_spawn, ThreadIs, till_gives, never_gives}
+use Rattle.verse_verify_kept.specs.Others.{done_gives, heard_gives, ResultsAre, results_no, result_none, result_some, coming, closing_with}
+use Rattle.verse_verify_kept.specs.Others.{RoleIs, main_is, root_is, part_is, Alone, World_is, TasksAre, tasks_no, Tasked}
 use Rattle.verse_verify_kept.proofs.Going.{next, Ends, only_good, goes_to, Fresh, same_giver}
 use Rattle.verse_verify_kept.proofs.Acts.{spends, stepped_fresh, many_good, giver_is, Topped, topped, split_top, wait_on}
 use Rattle.verse_verify_kept.proofs.Places.{moves}
-use Rattle.verse_verify_kept.proofs.Chains.{resume_good, below_more, Plainly, plain_here, plain_rest, plain_free, plain_back, free_more, giver_waits, Openly, opens_chain}
-use Rattle.verse_verify_kept.proofs.Worlds.{ends_grown, tasked_more, thread_more, ups_more, tasks_more, trees_more, results_more, signals_more}
+use Rattle.verse_verify_kept.proofs.Chains.{resume_good, below_more, Plainly, plain_here, plain_rest, plain_free, plain_back, free_more}
+use Rattle.verse_verify_kept.proofs.Chains.{giver_waits, Openly, opens_chain}
+use Rattle.verse_verify_kept.proofs.Worlds.{ends_grown, tasked_more, thread_more, ups_more, tasks_more, trees_more, results_more}
+use Rattle.verse_verify_kept.proofs.Worlds.{signals_more}
 use Rattle.verse_verify_kept.proofs.Locals.{joined_are, units_are}
 use Rattle.verse_code.specs.declared.codes.Func.{Func}
-use Rattle.verse_verify_kept.proofs.Resting.{Fine_step, Calm, Parented, plain_all, calm_without, cancelled_are, clears_tasks, suspends_good, resumes_good, part_begins, part_grows, arm_begins, cells_more, at_more, at_end}
-use Rattle.verse_verify_kept.proofs.Ending.{below_map, ends_without, part_over, root_over, calm_of, tasked_without, no_true, below_to, ends_tasked, ends_down, ends_any, cleared_good, Placed}
+use Rattle.verse_verify_kept.proofs.Resting.{Fine_step, Calm, Parented, plain_all, calm_without, cancelled_are, clears_tasks, suspends_good}
+use Rattle.verse_verify_kept.proofs.Resting.{resumes_good, part_begins, part_grows, arm_begins, cells_more, at_more, at_end}
+use Rattle.verse_verify_kept.proofs.Ending.{below_map, ends_without, part_over, root_over, calm_of, tasked_without, no_true, below_to}
+use Rattle.verse_verify_kept.proofs.Ending.{ends_tasked, ends_down, ends_any, cleared_good, Placed}
 use Rattle.verse_verify_kept.proofs.Blocks.{block_ends}
 
 arm_starts : {c : Code} {n : Notes} {t : Typing} {p : Point} {l : ℕ} {e : Sort} {ls : List Val} → Arm c n p l e →
@@ -153,9 +164,9 @@ module _ (c : Code) (n : Notes) (ok : Known c n) (w : Who) (x : World) (s : Stat
       now : Below c n (World_is c n w (world_without away x) s.clock.results s.clock.signals s.clock.next) (coming false a.result) (h ∷ fs)
           false t
       now =
-          below_map c n Other (World_is c n w (world_without away x) s.clock.results s.clock.signals s.clock.next) (λ g b u r. ends_without c
-          n away x.pre x.post x.trees s.clock.results s.clock.signals s.clock.next x.ups w g b u r) (h ∷ fs) (coming false a.result) false t
-          (closed_below a h fs t r)
+          below_map c n Other (World_is c n w (world_without away x) s.clock.results s.clock.signals s.clock.next)
+          (λ g b u r. ends_without c n away x.pre x.post x.trees s.clock.results s.clock.signals s.clock.next x.ups w g b u r) (h ∷ fs)
+          (coming false a.result) false t (closed_below a h fs t r)
 
       tasked : Tasked c n t x.pre x.post x.trees
       tasked =
@@ -175,9 +186,10 @@ module _ (c : Code) (n : Notes) (ok : Known c n) (w : Who) (x : World) (s : Stat
       ending : (e : Option ℕ) → w.role ≡ root e → RoleIs c n t w.role w.number (coming false a.result) → Fine_step c n (cancels (λ o s.
           role_ends (root e) w u o (with_result e u s)) (finishing w e u) away x s)
       ending e role is =
-          clears_tasks c n ok (λ o s. role_ends (root e) w u o (with_result e u s)) (finishing w e u) (cancelled away x) s (cancelled_are c n
-          ok x.ups away q.tasked) z f (λ ts y g ks. (ks, a.result, i, role, ((refl, is), r.1, r.2, tasked_without c n away r.3))) (root_over c
-          n ok e u role is i (calm_without c n ok away q))
+          clears_tasks c n ok (λ o s. role_ends (root e) w u o (with_result e u s)) (finishing w e u) (cancelled away x) s
+          (cancelled_are c n ok x.ups away q.tasked) z f
+          (λ ts y g ks. (ks, a.result, i, role, ((refl, is), r.1, r.2, tasked_without c n away r.3)))
+          (root_over c n ok e u role is i (calm_without c n ok away q))
 
       by_role : {y : Role} → RoleIs c n t y w.number a → w.role ≡ y → Fine_step c n (returns_role y w x born u s)
       by_role (main_is e) role = ending None role (subst (λ y. RoleIs c n t y w.number (coming false a.result)) (sym role) (main_is refl))
@@ -198,14 +210,16 @@ module _ (c : Code) (n : Notes) (ok : Known c n) (w : Who) (x : World) (s : Stat
       ending : w.role ≡ part → RoleIs c n t w.role w.number (closing_with a.result) → Fine_step c n (cancels (λ o s. role_ends part w u o
           s) (closing w u) away x s)
       ending role what =
-          clears_tasks c n ok (λ o s. role_ends part w u o s) (closing w u) (cancelled away x) s (cancelled_are c n ok x.ups away q.tasked) z
-          f (λ ts y g ks. (ks, a.result, i, ((refl, what), r.1, r.2, tasked_without c n away r.3))) (subst (λ y. Fine_step c n (role_ends y w
+          clears_tasks c n ok (λ o s. role_ends part w u o s) (closing w u) (cancelled away x) s (cancelled_are c n ok x.ups away q.tasked)
+          z f (λ ts y g ks. (ks, a.result, i, ((refl, what), r.1, r.2, tasked_without c n away r.3)))
+          (subst (λ y. Fine_step c n (role_ends y w
           u (world_without away x) s)) role (part_over c n ok {g = closing_with a.result} u refl what i there (calm_without c n ok away q)))
 
       by_role : {y : Role} → RoleIs c n t y w.number a → w.role ≡ y → Fine_step c n (ends_role y w x born u s)
       by_role (main_is e) role = no_true c n ok (sym e ∙ is)
       by_role (root_is e h k) role = no_true c n ok (sym e ∙ is)
-      by_role (part_is e h k) role = ending role (subst (λ y. RoleIs c n t y w.number (closing_with a.result)) (sym role) (part_is refl h k))
+      by_role (part_is e h k) role = ending role
+          (subst (λ y. RoleIs c n t y w.number (closing_with a.result)) (sym role) (part_is refl h k))
 
   module _ (g : Life) (bl : List Frame) (ls above more : List Val) (hs : List Handler) (k : Beneath c n (Below c n Other (giver n p) bl) t p
       p.defers ls more hs g.defers g.noted) (a : All c n t ls p.locals) (b : All c n t above p.stack) where
@@ -235,8 +249,8 @@ module _ (c : Code) (n : Notes) (ok : Known c n) (w : Who) (x : World) (s : Stat
             Giver). v.part ≡ false) (sym as_func) refl) (raised q) (subst (λ (v : Giver). Of c n t u v.result) (sym as_func) (is_up
             (parent_of n) i fit))))
 
-    pub arm_end_good : (x.ups ≡ [] → w.role ≡ part → Parented c n ok w.up (without (since w.path g.born) x.post)) → Passes c n pc p o.ArmEnd →
-        Fine_step c n (act c o.ArmEnd w x s g ls (above ++ more) pc hs bl)
+    pub arm_end_good : (x.ups ≡ [] → w.role ≡ part → Parented c n ok w.up (without (since w.path g.born) x.post)) →
+        Passes c n pc p o.ArmEnd → Fine_step c n (act c o.ArmEnd w x s g ls (above ++ more) pc hs bl)
     arm_end_good there (r.of_arm_end {a = d} {r = result} {st = st} e tries arm block defers fit) = have (subst (All c n t above) e b)
       where
         q : Plainly c n (Below c n Other (giver n p) bl) t p p.defers more hs g.defers g.noted
@@ -301,10 +315,12 @@ module _ (c : Code) (n : Notes) (ok : Known c n) (w : Who) (x : World) (s : Stat
                 split = refl;
                 locals = are_up (parent_of n) a l.locals;
                 stack = are_up (parent_of n) h each;
-                beneath = subst (λ ds. Beneath c n (λ b u. Below c n (Alone c n w) (giver n l.point) bl b u) t (without_top c n l.point ys) ds
-                    ls more hs g.defers g.noted) l.defers (subst (λ v. Beneath c n (λ b u. Below c n (Alone c n w) v bl b u) t (without_top c
-                    n l.point ys) p.defers ls more hs g.defers g.noted) (same_giver c n l.kin) (moves c n (plain_back c n (λ b u. Below c n
-                    (Alone c n w) (giver n p) bl b u) q (o.back (Alone c n w) t grows_itself o.here.0)) kin l.tries adds_itself));
+                beneath = subst (λ ds. Beneath c n (λ b u. Below c n (Alone c n w) (giver n l.point) bl b u) t (without_top c n l.point ys)
+                    ds ls more hs g.defers g.noted) l.defers (subst
+                    (λ v. Beneath c n (λ b u. Below c n (Alone c n w) v bl b u) t (without_top c n l.point ys) p.defers ls more hs g.defers
+                    g.noted) (same_giver c n l.kin) (moves c n
+                    (plain_back c n (λ b u. Below c n (Alone c n w) (giver n p) bl b u) q (o.back (Alone c n w) t grows_itself o.here.0))
+                    kin l.tries adds_itself));
               };
             },
           );
@@ -319,8 +335,8 @@ module _ (c : Code) (n : Notes) (ok : Known c n) (w : Who) (x : World) (s : Stat
     pub sleep_good : {m : ℕ} → Passes c n pc p (o.Sleep m) → Fine_step c n (act c (o.Sleep m) w x s g ls (above ++ more) pc hs bl)
     sleep_good {m = m} (r.of_sleep may l) = go (waiting above may l b)
       where
-        go : Waiting (thread w (frame g ls (above ++ more) (suc pc) hs) bl) sort.unit → Fine_step c n (act c (o.Sleep m) w x s g ls (above ++
-            more) pc hs bl)
+        go : Waiting (thread w (frame g ls (above ++ more) (suc pc) hs) bl) sort.unit →
+            Fine_step c n (act c (o.Sleep m) w x s g ls (above ++ more) pc hs bl)
         go y =
             only_good c n (World_is c n) s _ (may_free may) (suspends_good c n ok sort.unit _ _ y.calm y.thread_is (till_gives (fits_itself
             (parent_of n) sort.unit)))
@@ -335,7 +351,8 @@ module _ (c : Code) (n : Notes) (ok : Known c n) (w : Who) (x : World) (s : Stat
     pub await_task_good : Passes c n pc p o.AwaitTask → Fine_step c n (act c o.AwaitTask w x s g ls (above ++ more) pc hs bl)
     await_task_good (r.of_await_task {r = d} {st = st} may e l) = have (subst (All c n t above) e b)
       where
-        have : {above : List Val} → All c n t above (sort.task d ∷ st) → Fine_step c n (act c o.AwaitTask w x s g ls (above ++ more) pc hs bl)
+        have : {above : List Val} → All c n t above (sort.task d ∷ st) →
+            Fine_step c n (act c o.AwaitTask w x s g ls (above ++ more) pc hs bl)
         have (are_so {vs = vs} (is_task {i = i} {a = a} h fit) rest) =
             only_good c n (World_is c n) s _ (may_free may) (go (waiting vs may l rest) (got_result i y.calm.clocked.results h))
           where
@@ -352,7 +369,8 @@ module _ (c : Code) (n : Notes) (ok : Known c n) (w : Who) (x : World) (s : Stat
                 by_result (given j) same = resumes_good c n d _ _ y.calm y.thread_is (is_up (parent_of n) j fit)
     await_task_good (r.of_no_task {st = st} may e l) = none (subst (All c n t above) e b)
       where
-        none : {above : List Val} → All c n t above (sort.never ∷ st) → Fine_step c n (act c o.AwaitTask w x s g ls (above ++ more) pc hs bl)
+        none : {above : List Val} → All c n t above (sort.never ∷ st) →
+            Fine_step c n (act c o.AwaitTask w x s g ls (above ++ more) pc hs bl)
         none (are_so i rest) = elim i [ ]
 
     pub await_event_good : Passes c n pc p o.AwaitEvent → Fine_step c n (act c o.AwaitEvent w x s g ls (above ++ more) pc hs bl)
@@ -361,15 +379,17 @@ module _ (c : Code) (n : Notes) (ok : Known c n) (w : Who) (x : World) (s : Stat
         have : {above : List Val} → All c n t above (sort.event d ∷ st) → Fine_step c n (act c o.AwaitEvent w x s g ls (above ++ more) pc hs
             bl)
         have (are_so {vs = vs} (is_event {i = i} h) rest) =
-            only_good c n (World_is c n) s _ (may_free may) (subst (λ m. Fine_step c n (on_there m s (λ e. suspends (heard e) (thread w (frame
-            g ls (vs ++ more) (suc pc) hs) bl) x s))) (sym (event_there c n s.memory.store i z h)) (go (waiting vs may l rest)))
+            only_good c n (World_is c n) s _ (may_free may)
+            (subst (λ m. Fine_step c n (on_there m s (λ e. suspends (heard e) (thread w (frame g ls (vs ++ more) (suc pc) hs) bl) x s)))
+            (sym (event_there c n s.memory.store i z h)) (go (waiting vs may l rest)))
           where
             go : Waiting (thread w (frame g ls (vs ++ more) (suc pc) hs) bl) d → Fine_step c n (suspends (heard i) (thread w (frame g ls (vs
                 ++ more) (suc pc) hs) bl) x s)
             go y = suspends_good c n ok d _ _ y.calm y.thread_is (heard_gives h (fits_itself (parent_of n) d))
     await_event_good (r.of_no_event {st = st} may e l) = none (subst (All c n t above) e b)
       where
-        none : {above : List Val} → All c n t above (sort.never ∷ st) → Fine_step c n (act c o.AwaitEvent w x s g ls (above ++ more) pc hs bl)
+        none : {above : List Val} → All c n t above (sort.never ∷ st) →
+            Fine_step c n (act c o.AwaitEvent w x s g ls (above ++ more) pc hs bl)
         none (are_so i rest) = elim i [ ]
 
     pub signal_good : Passes c n pc p o.Signal → Fine_step c n (act c o.Signal w x s g ls (above ++ more) pc hs bl)
@@ -384,10 +404,10 @@ module _ (c : Code) (n : Notes) (ok : Known c n) (w : Who) (x : World) (s : Stat
             go : Openly c n Other (giver n p) bl t → Fine_step c n (goes w x s (signalled i u s)
                 g ls (v.unit ∷ vs ++ more) (suc pc) hs bl)
             go y =
-                goes_to c n (World_is c n) ok w x s (signalled i u s) g ls (v.unit ∷ vs) more hs bl t l a (are_so is_unit rest) (plain_back c
-                n (λ b q. Below c n (World_is c n w x s.clock.results (signalled i u s).clock.signals s.clock.next) (giver n p) bl b q)
-                (plain_here c n k may.tries may.block) (y.back (World_is c n w x s.clock.results (signalled i u s).clock.signals
-                s.clock.next) t grows_itself (
+                goes_to c n (World_is c n) ok w x s (signalled i u s) g ls (v.unit ∷ vs) more hs bl t l a (are_so is_unit rest)
+                (plain_back c n (λ b q. Below c n (World_is c n w x s.clock.results (signalled i u s).clock.signals s.clock.next)
+                (giver n p) bl b q) (plain_here c n k may.tries may.block)
+                (y.back (World_is c n w x s.clock.results (signalled i u s).clock.signals s.clock.next) t grows_itself (
                   y.here.0,
                   y.here.1,
                   record {
@@ -399,20 +419,23 @@ module _ (c : Code) (n : Notes) (ok : Known c n) (w : Who) (x : World) (s : Stat
                 ))) z f
     signal_good (r.of_no_signal {a = d} {st = st} may e l) = none (subst (All c n t above) e b)
       where
-        none : {above : List Val} → All c n t above (d ∷ sort.never ∷ st) → Fine_step c n (act c o.Signal w x s g ls (above ++ more) pc hs bl)
+        none : {above : List Val} → All c n t above (d ∷ sort.never ∷ st) →
+            Fine_step c n (act c o.Signal w x s g ls (above ++ more) pc hs bl)
         none (are_so j (are_so i rest)) = elim i [ ]
 
     pub branch_good : {l : ℕ} → Passes c n pc p (o.Branch l) → Fine_step c n (act c (o.Branch l) w x s g ls (above ++ more) pc hs bl)
     branch_good {l = l} (r.of_branch {r = e} may arm to) =
         only_good c n (World_is c n) s _ (may_free may) (spends c n (World_is c n) s _ (λ m left. go m left (waiting above may to b)))
       where
-        go : (m : ℕ) → s.clock.left ≡ suc m → Waiting (thread w (frame g ls (above ++ more) l hs) bl) sort.unit → Fine_step c n (Next (machine
-            (child_named w m) (world x.pre x.post (branching (thread w (frame g ls (above ++ more) l hs) bl) ∷ x.ups) x.trees) (stepped m s)
-            (life_from m) ls [] (suc pc) [] []))
+        go : (m : ℕ) → s.clock.left ≡ suc m → Waiting (thread w (frame g ls (above ++ more) l hs) bl) sort.unit →
+            Fine_step c n (Next (machine (child_named w m)
+            (world x.pre x.post (branching (thread w (frame g ls (above ++ more) l hs) bl) ∷ x.ups) x.trees) (stepped m s) (life_from m) ls
+            [] (suc pc) [] []))
         go m left y =
-            part_begins c n ok m (suc pc) (child_named w m) ls left f z y.calm.clocked y.calm.tasked (arm_starts arm a) refl refl (ups_branch
-            refl (thread_more c n (part_grows c n ok t m s.clock.left e left f) sort.unit (thread w (frame g ls (above ++ more) l hs) bl) y.thread_is) (ups_more c n (part_grows c n ok t m
-            s.clock.left e left f) y.calm.ups))
+            part_begins c n ok m (suc pc) (child_named w m) ls left f z y.calm.clocked y.calm.tasked (arm_starts arm a) refl refl
+            (ups_branch refl (thread_more c n (part_grows c n ok t m s.clock.left e left f) sort.unit
+            (thread w (frame g ls (above ++ more) l hs) bl) y.thread_is)
+            (ups_more c n (part_grows c n ok t m s.clock.left e left f) y.calm.ups))
 
     pub group_good : {kd m q : ℕ} → (pl : Place) → slice_get c.places q ≡ Some pl → Passes c n pc p (o.Group kd m q) →
         Fine_step c n (act c (o.Group kd m q) w x s g ls (above ++ more) pc hs bl)
@@ -450,8 +473,8 @@ module _ (c : Code) (n : Notes) (ok : Known c n) (w : Who) (x : World) (s : Stat
             g ls (above ++ more) hs bl)
         go arms_no two gives y = no_two two
         go (arms_so h arm r) two gives y =
-            arm_begins c n ok e (kind_of kd) pl (thread w (frame g ls (above ++ more) (after_arms (suc pc) m) hs) bl) (λ y. stuck s) y.calm y.thread_is
-            parts_no (arm_starts arm a) (starts r) (kinds kd gives)
+            arm_begins c n ok e (kind_of kd) pl (thread w (frame g ls (above ++ more) (after_arms (suc pc) m) hs) bl) (λ y. stuck s) y.calm
+            y.thread_is parts_no (arm_starts arm a) (starts r) (kinds kd gives)
 
     pub spawn_from : {fn : Func} {gn : FuncNote} (j : ℕ) (vs rest : List Val) → slice_get c.functions j ≡ Some fn →
         slice_get n.functions j ≡ Some gn → All c n t vs gn.params → gn.may_fail ≡ false → Waiting (thread w (frame g ls (rest ++ more)
@@ -470,8 +493,8 @@ module _ (c : Code) (n : Notes) (ok : Known c n) (w : Who) (x : World) (s : Stat
             above = [];
             more = [];
             split = refl;
-            locals = are_up (parent_of n) (joined_are (parent_of n) u (are_more (parent_of n) grows h) (units_are (parent_of n) u (fn.locals -
-                fn.params))) first.locals;
+            locals = are_up (parent_of n) (joined_are (parent_of n) u (are_more (parent_of n) grows h)
+                (units_are (parent_of n) u (fn.locals - fn.params))) first.locals;
             stack = subst (All c n u []) (sym first.stack) are_no;
             beneath = plain (record {
               tries = first.tries;
@@ -480,7 +503,8 @@ module _ (c : Code) (n : Notes) (ok : Known c n) (w : Who) (x : World) (s : Stat
               under = first.under;
             }) adds_itself (
               (no_fail, as_root _),
-              ups_spawn refl entry (thread_more c n grows (sort.task gn.result) (thread w (frame g ls (rest ++ more) (suc pc) hs) bl) y.thread_is) (tasks_more
+              ups_spawn refl entry (thread_more c n grows (sort.task gn.result) (thread w (frame g ls (rest ++ more) (suc pc) hs) bl)
+                  y.thread_is) (tasks_more
                   c n grows y.calm.tasked.pre_are) (tasks_more c n grows y.calm.tasked.post_are) (ups_more c n grows y.calm.ups),
               record {
                 results = results_end gn.result (results_more c n grows y.calm.clocked.results);
@@ -533,9 +557,10 @@ module _ (c : Code) (n : Notes) (ok : Known c n) (w : Who) (x : World) (s : Stat
         (ends_world c n) w x s g pc bl t p z f ls more hs k a above [] _ pops b are_no (λ vs rest h i. spawn_from j vs rest e d (are_up
         (parent_of n) h fit) sure (waiting rest may l i))))
 
-    pub defer_end_good : ((after : After) (ts : List Task) (vs : List Up) → x.ups ≡ clearing after ts ∷ vs → Placed c n ok vs after x.post) →
-        Passes c n pc p o.DeferEnd → Fine_step c n (act c o.DeferEnd w x s g ls (above ++ more) pc hs bl)
+    pub defer_end_good : ((after : After) (ts : List Task) (vs : List Up) → x.ups ≡ clearing after ts ∷ vs →
+        Placed c n ok vs after x.post) → Passes c n pc p o.DeferEnd → Fine_step c n (act c o.DeferEnd w x s g ls (above ++ more) pc hs bl)
     defer_end_good placed q =
         block_ends c n (World_is c n) ok w x s pc bl t p z f (λ u h r m. cleared_good c n ok x.pre x.post x.trees s x.ups w h placed z f
-        (ends_down c n x.pre x.post x.trees s.clock.results s.clock.signals s.clock.next x.ups w h u t r m)) (λ s u g h r. ends_any c n x.pre
-        x.post x.trees s.clock.results s.clock.signals s.clock.next x.ups w g h u r) g.born ls above more hs k a b q
+        (ends_down c n x.pre x.post x.trees s.clock.results s.clock.signals s.clock.next x.ups w h u t r m))
+        (λ s u g h r. ends_any c n x.pre x.post x.trees s.clock.results s.clock.signals s.clock.next x.ups w g h u r) g.born ls above more
+        hs k a b q

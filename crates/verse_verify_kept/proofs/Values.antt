@@ -25,16 +25,19 @@ use Rattle.verse_code_machine.specs.Frames.{goes, faulting, answered}
 use Rattle.verse_code_machine.specs.Acts.{unary, binary, place_at, act}
 use Rattle.verse_sorts.specs.Sorts as s
 use Rattle.verse_sorts.specs.Sorts.{Sort, Fits, IsKey, key_never, key_nil, key_int, key_logic, key_char, key_enum, key_text}
-use Rattle.verse_sorts.specs.Typing.{at, Typing, Grows, Adds, Is, AreAll, ArePairs, is_int, is_object, is_list, is_map, is_some, is_empty, is_true}
+use Rattle.verse_sorts.specs.Typing.{at, Typing, Grows, Adds, Is, AreAll, ArePairs, is_int, is_object, is_list, is_map, is_some, is_empty}
+use Rattle.verse_sorts.specs.Typing.{is_true}
 use Rattle.verse_sorts.specs.Typing.{is_false, is_nil, is_var, no_all, more_all, no_entries, more_entries, are_so, is_char}
 use Rattle.verse_sorts.specs.Typing as ty
 use Rattle.verse_sorts.proofs.Fitting.{is_up}
 use Rattle.verse_verify_kept.specs.Notes.{ClassNote, Point, Notes, parent_of}
 use Rattle.verse_verify_kept.specs.Known.{Known}
-use Rattle.verse_verify_kept.specs.Rules.{To, MayFail, Passes, Indexed, in_list, in_map, in_never, Queried, of_option, of_logic, of_nil, of_never, Slot}
+use Rattle.verse_verify_kept.specs.Rules.{To, MayFail, Passes, Indexed, in_list, in_map, in_never, Queried, of_option, of_logic, of_nil}
+use Rattle.verse_verify_kept.specs.Rules.{of_never, Slot}
 use Rattle.verse_verify_kept.specs.Rules.{slot_var, slot_obj, slot_never}
 use Rattle.verse_verify_kept.specs.Rules as r
-use Rattle.verse_verify_kept.specs.Kept.{giver, Of, All, CellIs, var_is, object_is, event_is, CellsAre, cells_no, cells_so, StoreIs, Beneath, Bottom}
+use Rattle.verse_verify_kept.specs.Kept.{giver, Of, All, CellIs, var_is, object_is, event_is, CellsAre, cells_no, cells_so, StoreIs}
+use Rattle.verse_verify_kept.specs.Kept.{Beneath, Bottom}
 use Rattle.verse_verify_kept.proofs.Going.{Good, over, only_good, goes_to, failing_good, Ends, Rest, Fresh}
 use Rattle.verse_verify_kept.proofs.Acts.{Fine, fine_gives, fine_fails, fine_error, fits_to}
 
@@ -61,10 +64,12 @@ pub data Slotted (up : ℕ → Option ℕ) (t : Typing) (m : Option Val) (a : So
   slotted : {u : Val} → m ≡ Some u → Is up t u a → Slotted up t m a
 
 module _ (c : Code) (n : Notes) {t : Typing} where
-  sum_fine : {F E : Type 0} {u w : Val} → E → Is (parent_of n) t u s.int → Is (parent_of n) t w s.int → Fine F E (λ z. Is (parent_of n) t z s.int) (sum_of u w)
+  sum_fine : {F E : Type 0} {u w : Val} → E → Is (parent_of n) t u s.int → Is (parent_of n) t w s.int →
+      Fine F E (λ z. Is (parent_of n) t z s.int) (sum_of u w)
   sum_fine e (is_int {n = a}) (is_int {n = b}) = if_fine _ _ _ e is_int
 
-  query_fine : {F E : Type 0} {u : Val} {a b : Sort} → F → Queried c n a b → Is (parent_of n) t u a → Fine F E (λ z. Is (parent_of n) t z b) (query_of u)
+  query_fine : {F E : Type 0} {u : Val} {a b : Sort} → F → Queried c n a b → Is (parent_of n) t u a →
+      Fine F E (λ z. Is (parent_of n) t z b) (query_of u)
   query_fine f of_option is_empty = fine_fails f
   query_fine f of_option (is_some i) = fine_gives i
   query_fine f of_logic is_false = fine_fails f
@@ -72,7 +77,8 @@ module _ (c : Code) (n : Notes) {t : Typing} where
   query_fine f of_nil is_nil = fine_fails f
   query_fine f of_never i = elim i [ ]
 
-  pub joined_all : {xs ys : Vals} {a : Sort} → AreAll (parent_of n) t xs a → AreAll (parent_of n) t ys a → AreAll (parent_of n) t (joined xs ys) a
+  pub joined_all : {xs ys : Vals} {a : Sort} → AreAll (parent_of n) t xs a → AreAll (parent_of n) t ys a →
+      AreAll (parent_of n) t (joined xs ys) a
   joined_all no_all b = b
   joined_all (more_all i r) b = more_all i (joined_all r b)
 
@@ -100,16 +106,18 @@ module _ (c : Code) (n : Notes) {t : Typing} where
   in_array_fine {vs = vs} (pos k) f i = part_fine (nth vs k) f (λ x e. nth_all k i e)
   in_array_fine (negsuc k) f i = fine_fails f
 
-  either_is : {a : Sort} {y z x : Val} (b : Bool) → Is (parent_of n) t y a → Is (parent_of n) t z a → (if b then Some y else Some z) ≡ Some x → Is (parent_of n) t x a
+  either_is : {a : Sort} {y z x : Val} (b : Bool) → Is (parent_of n) t y a → Is (parent_of n) t z a →
+      (if b then Some y else Some z) ≡ Some x → Is (parent_of n) t x a
   either_is {a = a} true i j e = subst (λ x. Is (parent_of n) t x a) (same_Some _ _ e) i
   either_is {a = a} false i j e = subst (λ x. Is (parent_of n) t x a) (same_Some _ _ e) j
 
-  pub key_found : {ps : Pairs} {k a : Sort} {x : Val} (l : Key) → ArePairs (parent_of n) t ps k a → at_key ps l ≡ Some x → Is (parent_of n) t x a
+  pub key_found : {ps : Pairs} {k a : Sort} {x : Val} (l : Key) → ArePairs (parent_of n) t ps k a → at_key ps l ≡ Some x →
+      Is (parent_of n) t x a
   key_found l no_entries e = elim (none-some _ e) [ ]
   key_found {a = a} l (more_entries {l = m} {w = w} {ps = ps} i j r) e = go (key_eq l m) (λ x h. key_found l r h) e
     where
-      go : {x : Val} (b : Bool) → ((x : Val) → at_key ps l ≡ Some x → Is (parent_of n) t x a) → (if b then Some w else at_key ps l) ≡ Some x →
-          Is (parent_of n) t x a
+      go : {x : Val} (b : Bool) → ((x : Val) → at_key ps l ≡ Some x → Is (parent_of n) t x a) →
+          (if b then Some w else at_key ps l) ≡ Some x → Is (parent_of n) t x a
       go true h e = subst (λ x. Is (parent_of n) t x a) (same_Some _ _ e) j
       go false h e = h _ e
 
@@ -141,7 +149,8 @@ module _ (c : Code) (n : Notes) {t : Typing} where
           key_found l i h))
   at_fine f in_never i j = elim i [ ]
 
-  slot_is : {us : List Val} {xs : List Sort} {a : Sort} (k : ℕ) → All c n t us xs → at xs k ≡ Some a → Slotted (parent_of n) t (slice_get us k) a
+  slot_is : {us : List Val} {xs : List Sort} {a : Sort} (k : ℕ) → All c n t us xs → at xs k ≡ Some a →
+      Slotted (parent_of n) t (slice_get us k) a
   slot_is k ty.are_no e = elim (none-some _ e) [ ]
   slot_is zero (are_so {w = u} i r) e = slotted refl (subst (Of c n t u) (same_Some _ _ e) i)
   slot_is (suc k) (are_so i r) e = slot_is k r e
@@ -164,11 +173,13 @@ module _ (c : Code) (n : Notes) {t : Typing} where
   var_slot (suc i) (cells_so j r) e = var_slot i r e
 
   pub obj_slot : {cells : List Cell} {xs : List Sort} {a : Sort} {class : ℕ} {x : ClassNote} (i k : ℕ) → CellsAre c n t cells xs →
-      at xs i ≡ Some (s.obj class) → slice_get n.classes class ≡ Some x → at x.slots k ≡ Some a → Slotted (parent_of n) t (slot_of cells i k) a
+      at xs i ≡ Some (s.obj class) → slice_get n.classes class ≡ Some x → at x.slots k ≡ Some a →
+      Slotted (parent_of n) t (slot_of cells i k) a
   obj_slot i k cells_no e h l = elim (none-some _ e) [ ]
   obj_slot {a = a} {class = class} {x = x} zero k (cells_so i r) e h l = by_cell i (same_Some _ _ e)
     where
-      by_cell : {kd : CellKind} {us : List Val} {b : Sort} → CellIs c n t kd us b → b ≡ s.obj class → Slotted (parent_of n) t (slice_get us k) a
+      by_cell : {kd : CellKind} {us : List Val} {b : Sort} → CellIs c n t kd us b → b ≡ s.obj class →
+          Slotted (parent_of n) t (slice_get us k) a
       by_cell (object_is {class = other} {x = y} g j) e =
           slot_is k j (subst (λ (y : ClassNote). at y.slots k ≡ Some a) (same_Some _ _ (sym h ∙ subst (λ o. slice_get n.classes o ≡ Some y)
           (obj_same other class e) g)) l)
@@ -184,7 +195,8 @@ module _ (c : Code) (n : Notes) {t : Typing} where
 
   read_fine : {F E : Type 0} {u : Val} {a d : Sort} (ok : Known c n) (store : Store) (st : State) (m : ℕ) → StoreIs c n t st.memory.store →
       Slot c n a m d → Of c n t u a → (q : Answer Val) × (slot_read m u st ≡ still q st) × Fine F E (λ z. Of c n t z d) q
-  read_fine {F = F} {E = E} {d = d} ok store st m z slot_var (is_var {i = i} h) = (read_slot st.memory.store i 0, refl, found (var_slot i z h))
+  read_fine {F = F} {E = E} {d = d} ok store st m z slot_var (is_var {i = i} h) =
+      (read_slot st.memory.store i 0, refl, found (var_slot i z h))
     where
       found : Slotted (parent_of n) t (slot_of st.memory.store i 0) d → Fine F E (λ z. Of c n t z d) (read_slot st.memory.store i 0)
       found (slotted e j) = subst (λ m. Fine F E (λ z. Of c n t z d) (given_or stuck m)) (sym e) (fine_gives j)
@@ -221,7 +233,8 @@ module _ (c : Code) (n : Notes) (bottom : Bottom c n) (ok : Known c n) (ends : E
       kind s)) (sym h) (over tt))
 
   pub unary_good : {b d : Sort} {st : List Sort} {above : List Val} (fn : Val → Answer Val) (pl : Option Place) → All c n t above p.stack →
-      p.stack ≡ b ∷ st → To c n p (d ∷ st) (suc pc) → ((u : Val) → Of c n t u b → Fine (MayFail c n p) (Has pl) (λ u. Of c n t u d) (fn u)) →
+      p.stack ≡ b ∷ st → To c n p (d ∷ st) (suc pc) →
+      ((u : Val) → Of c n t u b → Fine (MayFail c n p) (Has pl) (λ u. Of c n t u d) (fn u)) →
       Good c n bottom (unary fn pl w x s g ls (above ++ more) pc hs bl)
   unary_good {b = b} {st = st} {above = above} fn pl i e l h = have (subst (All c n t above) e i)
     where
@@ -229,8 +242,9 @@ module _ (c : Code) (n : Notes) (bottom : Bottom c n) (ok : Known c n) (ends : E
       have (are_so {w = u} j r) = still_good pl (fn u) l r (h u j)
 
   pub binary_good : {b d e : Sort} {st : List Sort} {above : List Val} (fn : Val → Val → Answer Val) (pl : Option Place) →
-      All c n t above p.stack → p.stack ≡ d ∷ b ∷ st → To c n p (e ∷ st) (suc pc) → ((u w : Val) → Of c n t u b → Of c n t w d → Fine (MayFail
-      c n p) (Has pl) (λ u. Of c n t u e) (fn u w)) → Good c n bottom (binary fn pl w x s g ls (above ++ more) pc hs bl)
+      All c n t above p.stack → p.stack ≡ d ∷ b ∷ st → To c n p (e ∷ st) (suc pc) →
+      ((u w : Val) → Of c n t u b → Of c n t w d → Fine (MayFail c n p) (Has pl) (λ u. Of c n t u e) (fn u w)) →
+      Good c n bottom (binary fn pl w x s g ls (above ++ more) pc hs bl)
   binary_good {b = b} {d = d} {st = st} {above = above} fn pl i same l h = have (subst (All c n t above) same i)
     where
       have : {above : List Val} → All c n t above (d ∷ b ∷ st) → Good c n bottom (binary fn pl w x s g ls (above ++ more) pc hs bl)

@@ -1,5 +1,6 @@
 -- A wait is woken.
-use Rattle.std.proofs.Common.{◌≡◌, ℕ, zero, suc, List, [], ◌∷◌, ◌++◌, Option, Some, None, Bool, true, false, cond, nat_lt, refl, sym, subst, ap}
+use Rattle.std.proofs.Common.{◌≡◌, ℕ, zero, suc, List, [], ◌∷◌, ◌++◌, Option, Some, None, Bool, true, false, cond, nat_lt, refl, sym, subst}
+use Rattle.std.proofs.Common.{ap}
 use Rattle.std.proofs.Common.{◌∙◌}
 use Rattle.std.proofs.lemmas.Option.{same_Some, none-some}
 use Rattle.verse_code.specs.declared.codes.Code.{Code}
@@ -46,13 +47,15 @@ module _ (c : Code) (n : Notes) (ok : Known c n) where
   signal_got {t = t} {b = b} e i g (signals_so {g = q} {gs = gs} {a = a} p j r) h k =
       cond_with c n ok (eqn e q.event) (cond (ltn i q.next) (Some q.given) (first_signal gs e i)) (first_signal gs e i) (λ m. m ≡ Some g →
       Of c n t g.value b) (λ same. cond_with c n ok (ltn i q.next) (Some q.given) (first_signal gs e i) (λ m. m ≡ Some g → Of c n t g.value
-      b) (λ _. λ k. subst (λ (g : Given). Of c n t g.value b) (same_Some _ _ k) (subst (Of c n t q.given.value) (event_same a b (same_Some _ _
-      (sym p ∙ subst (λ e. at t.cells e ≡ Some (sort.event b)) (eqn_is c n ok e q.event same) h))) j)) (λ _. λ k. signal_got e i g r h k))
-      (λ other. λ k. signal_got e i g r h k) k
+      b) (λ _. λ k. subst (λ (g : Given). Of c n t g.value b) (same_Some _ _ k)
+      (subst (Of c n t q.given.value) (event_same a b
+      (same_Some _ _ (sym p ∙ subst (λ e. at t.cells e ≡ Some (sort.event b)) (eqn_is c n ok e q.event same) h))) j))
+      (λ _. λ k. signal_got e i g r h k)) (λ other. λ k. signal_got e i g r h k) k
 
   due_got : {t : Typing} (s : State) {cause : Cause} {a : Sort} (i : ℕ) (g : Given) → Clocked c n t s.clock.results s.clock.signals
       s.clock.next → Causes c n t cause a → due_of s i cause ≡ Some g → Of c n t g.value a
-  due_got {t = t} s {a = a} i g k (till_gives f) e = subst (λ (g : Given). Of c n t g.value a) (same_Some _ _ e) (is_up (parent_of n) is_unit f)
+  due_got {t = t} s {a = a} i g k (till_gives f) e =
+      subst (λ (g : Given). Of c n t g.value a) (same_Some _ _ e) (is_up (parent_of n) is_unit f)
   due_got s i g k never_gives e = elim (none-some _ e) [ ]
   due_got s i g k (done_gives {e = j} h f) e = is_up (parent_of n) (result_got j g k.results h e) f
   due_got s i g k (heard_gives {e = j} h f) e = is_up (parent_of n) (signal_got j i g k.signals h e) f
@@ -145,8 +148,8 @@ module _ (c : Code) (n : Notes) (ok : Known c n) where
   has_later i [] ys e f = f
   has_later i (w ∷ xs) ys e f = go (eqn i w.number) e f (has_later i xs ys)
     where
-      go : (b : Bool) → cond b true (has i xs) ≡ false → cond b true (has i (xs ++ ys)) ≡ true → (has i xs ≡ false → has i (xs ++ ys) ≡ true →
-          has i ys ≡ true) → has i ys ≡ true
+      go : (b : Bool) → cond b true (has i xs) ≡ false → cond b true (has i (xs ++ ys)) ≡ true →
+          (has i xs ≡ false → has i (xs ++ ys) ≡ true → has i ys ≡ true) → has i ys ≡ true
       go true e f h = no_true (sym e)
       go false e f h = h e f
 

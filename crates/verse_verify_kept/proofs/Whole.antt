@@ -71,9 +71,10 @@ module _ (c : Code) (n : Notes) where
             d.given.moment s)))))
         spent zero d e w = tt
         spent (suc l) d e w =
-            stage_fits _ (carried_good (room c steps) _ (woken_in_good c n ok (at_moment d.given.moment (stepped l s)) d.number d.given.value
-            [] tss w.1 trees_no a.trees w.0 a.store (λ i b h. omega (arith, e, a.fresh i b h)) a.clocked) (woken_roots d.number d.given.value (at_moment d.given.moment (stepped
-            l s)) tss (trees_less tss (one_less e) r)))
+            stage_fits _ (carried_good (room c steps) _
+            (woken_in_good c n ok (at_moment d.given.moment (stepped l s)) d.number d.given.value [] tss w.1 trees_no a.trees w.0 a.store
+            (λ i b h. omega (arith, e, a.fresh i b h)) a.clocked)
+            (woken_roots d.number d.given.value (at_moment d.given.moment (stepped l s)) tss (trees_less tss (one_less e) r)))
 
         late : (b : Bool) (x y : Stage Forest) → StageFits x → StageFits y → StageFits (cond b x y)
         late true x y f g = f
@@ -92,8 +93,8 @@ module _ (c : Code) (n : Notes) where
     turns_fit : (steps until k : ℕ) (g : Stage Forest) → StageFits g → StageRooted g → StageFits (turns (turn_taken c steps until) k g)
     turns_fit steps until zero g a r = a
     turns_fit steps until (suc k) (going s tss) a r =
-        turns_fit steps until k (turn_taken c steps until s tss) (turn_fits steps until s tss a r) (turn_roots c steps until s tss (tree_waits
-        tss) r)
+        turns_fit steps until k (turn_taken c steps until s tss) (turn_fits steps until s tss a r)
+        (turn_roots c steps until s tss (tree_waits tss) r)
     turns_fit steps until (suc k) (closed e s tss) a r = a
     turns_fit steps until (suc k) (broken e s) a r = a
     turns_fit steps until (suc k) (amiss s) a r = a
@@ -123,8 +124,8 @@ module _ (c : Code) (n : Notes) where
             above = [];
             more = [];
             split = refl;
-            locals = are_up (parent_of n) (joined_are (parent_of n) nothing_yet (h.params ns) (units_are (parent_of n) nothing_yet (fn.locals -
-                fn.params))) first.locals;
+            locals = are_up (parent_of n) (joined_are (parent_of n) nothing_yet (h.params ns)
+                (units_are (parent_of n) nothing_yet (fn.locals - fn.params))) first.locals;
             stack = subst (All c n nothing_yet []) (sym first.stack) are_no;
             beneath = plain (record {
               tries = first.tries;
@@ -158,8 +159,8 @@ module _ (c : Code) (n : Notes) where
         whole : (giver n first.point).part ≡ false
         whole = subst (λ (v : Giver). v.part ≡ false) (sym as_func) refl
 
-    main_stands : {fn : Func} {gn : FuncNote} (ns : List ℤ) (steps : ℕ) → MainFits fn gn → StepRooted (on_there (slice_get c.functions c.main)
-        (begun steps) (λ f. main_starts ns (begun steps) f))
+    main_stands : {fn : Func} {gn : FuncNote} (ns : List ℤ) (steps : ℕ) → MainFits fn gn →
+        StepRooted (on_there (slice_get c.functions c.main) (begun steps) (λ f. main_starts ns (begun steps) f))
     main_stands {fn = fn} ns steps h =
         subst (λ m. StepRooted (on_there m (begun steps) (λ f. main_starts ns (begun steps) f))) (sym h.is_func) (main_roots ns steps fn)
 
@@ -183,6 +184,7 @@ module _ (c : Code) (n : Notes) where
     pub mach_not_stuck : {fn : Func} {gn : FuncNote} → RunsEnd → Valid c → MainFits fn gn → (ns : List ℤ) (steps until : ℕ) →
         Runs_on c n (mach c ns steps until).ending
     mach_not_stuck ends valid main ns steps until =
-        never_stuck (mach_after c ns steps until (suc steps)) (turns_fit steps until (suc steps) (started c ns steps) (started_fits ns steps main)
-        (stage_roots c _ (carried_roots c (room c steps) _ (main_stands ns steps main)))) ((ends c ns steps
-        until valid).whole (suc steps)) ((ends c ns steps until valid).over)
+        never_stuck (mach_after c ns steps until (suc steps))
+        (turns_fit steps until (suc steps) (started c ns steps) (started_fits ns steps main)
+        (stage_roots c _ (carried_roots c (room c steps) _ (main_stands ns steps main)))) ((ends c ns steps until valid).whole (suc steps))
+        ((ends c ns steps until valid).over)

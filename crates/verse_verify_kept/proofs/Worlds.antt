@@ -11,9 +11,11 @@ use Rattle.verse_sorts.specs.Typing.{Typing, Grows, Adds}
 use Rattle.verse_sorts.proofs.Fitting.{are_more, is_more}
 use Rattle.verse_verify_kept.specs.Notes.{Notes, parent_of}
 use Rattle.verse_verify_kept.specs.Kept.{Giver}
-use Rattle.verse_verify_kept.specs.Others.{coming, RoleIs, main_is, root_is, part_is, Alone, ThreadIs, Causes, till_gives, never_gives, done_gives}
+use Rattle.verse_verify_kept.specs.Others.{coming, RoleIs, main_is, root_is, part_is, Alone, ThreadIs, Causes, till_gives, never_gives}
+use Rattle.verse_verify_kept.specs.Others.{done_gives}
 use Rattle.verse_verify_kept.specs.Others.{heard_gives, PartsAre, parts_no, part_did, part_runs, LabelsAre, labels_no, labels_so, TaskIs}
-use Rattle.verse_verify_kept.specs.Others.{sleeps, groups, TasksAre, tasks_no, tasks_so, TreesAre, trees_no, trees_so, Begun, UpsAre, ups_no}
+use Rattle.verse_verify_kept.specs.Others.{sleeps, groups, TasksAre, tasks_no, tasks_so, TreesAre, trees_no, trees_so, Begun, UpsAre}
+use Rattle.verse_verify_kept.specs.Others.{ups_no}
 use Rattle.verse_verify_kept.specs.Others.{ups_begin, ups_branch, ups_spawn, ResultsAre, results_no, result_none, result_some, SignalsAre}
 use Rattle.verse_verify_kept.specs.Others.{signals_no, signals_so, Clocked, Tasked, Ends_in}
 use Rattle.verse_verify_kept.proofs.Chains.{Openly, opens_chain}

@@ -1,5 +1,6 @@
 -- What holds of every state of a run of a verified code.
-use Rattle.std.specs.Prelude.{◌≡◌, ℕ, ◌≤◌, List, [], ◌∷◌, ◌++◌, length, Option, Some, None, Bool, true, false, slice_get}
+use Rattle.std.specs.Prelude.{◌≡◌, ℕ, ◌≤◌, List, [], ◌∷◌, ◌++◌, length, Option, Some, None, Bool}
+use Rattle.std.specs.Prelude.{true, false, slice_get}
 use Rattle.verse_code.specs.declared.operations.Op.TheVariants as o
 use Rattle.verse_code.specs.declared.codes.Code.{Code}
 use Rattle.verse_value.specs.Val.{Val}
@@ -14,10 +15,12 @@ use Rattle.verse_code_machine.specs.Frames.{kept_defers}
 use Rattle.verse_sorts.specs.Sorts as s
 use Rattle.verse_sorts.specs.Sorts.{Sort}
 use Rattle.verse_sorts.specs.Typing.{Typing, Adds, Is, Are}
-use Rattle.verse_verify_kept.specs.Notes.{ClassNote, FuncNote, Open, Point, Notes, parent_of, point_at, names}
+use Rattle.verse_verify_kept.specs.Notes.{ClassNote, FuncNote, Open, Point, Notes, parent_of}
+use Rattle.verse_verify_kept.specs.Notes.{point_at, names}
 use Rattle.verse_verify_kept.specs.Rules.{Each, Fit, TriesFit, Kin, Runs, Ready, MayFail, MayWait}
 
--- what a frame gives, and whether it may fail or wait; whether it is the first of an arm or of a task behind
+-- what a frame gives, and whether it may fail or wait; whether it is the first of an arm or of a
+-- task behind
 pub record Giver : Type 0 where
   pub result : Sort
   pub part : Bool
@@ -26,7 +29,13 @@ pub record Giver : Type 0 where
 
 abbrev pub func_gives : Option FuncNote → Giver
 func_gives None = record { result = s.any; part = false; may_fail = false; may_wait = false }
-func_gives (Some g) = record { result = g.result; part = false; may_fail = g.may_fail; may_wait = g.may_wait }
+func_gives (Some g) = record {
+  result = g.result;
+  part = false;
+  may_fail = g.may_fail;
+  may_wait =
+      g.may_wait;
+}
 
 abbrev pub arm_gives : Option Sort → Giver → Giver
 arm_gives None g = g
@@ -45,14 +54,14 @@ module _ (c : Code) (n : Notes) where
   -- a cell of the store
   pub data CellIs (t : Typing) : CellKind → List Val → Sort → Type 0 where
     var_is : {v : Val} {a : Sort} → Of t v a → CellIs t cell.Var (v ∷ []) (s.var a)
-    object_is : {class : ℕ} {x : ClassNote} {vs : List Val} → slice_get n.classes class ≡ Some x → All t vs x.slots →
-        CellIs t (cell.Object class) vs (s.obj class)
+    object_is : {class : ℕ} {x : ClassNote} {vs : List Val} → slice_get n.classes class ≡ Some x →
+        All t vs x.slots → CellIs t (cell.Object class) vs (s.obj class)
     event_is : {a : Sort} → CellIs t cell.Event [] (s.event a)
 
   pub data CellsAre (t : Typing) : List Cell → List Sort → Type 0 where
     cells_no : CellsAre t [] []
-    cells_so : {x : Cell} {xs : List Cell} {a : Sort} {ys : List Sort} → CellIs t x.kind x.slots a → CellsAre t xs ys →
-        CellsAre t (x ∷ xs) (a ∷ ys)
+    cells_so : {x : Cell} {xs : List Cell} {a : Sort} {ys : List Sort} → CellIs t x.kind x.slots a →
+        CellsAre t xs ys → CellsAre t (x ∷ xs) (a ∷ ys)
 
   abbrev pub StoreIs : Typing → Store → Type 0
   StoreIs t store = CellsAre t store t.cells
@@ -71,7 +80,8 @@ module _ (c : Code) (n : Notes) where
     pub outer : p.outer ≡ []
     pub under : p.under ≡ 0
 
-  -- an open Try: the typing of its copy of the store, the notes at it and at its label, the operands beneath it
+  -- an open Try: the typing of its copy of the store, the notes at it and at its label, the
+  -- operands beneath it
   pub record Held (ls : List Val) (h : Handler) : Type 0 where
     pub point : Point
     pub live : point_at n h.made ≡ Some point
@@ -86,8 +96,10 @@ module _ (c : Code) (n : Notes) where
     pub split : h.stack ≡ above ++ more
     pub stack : All typing above point.stack
 
-  -- it is the innermost one of a frame at a point; `base` are the blocks that are deferred beneath those of the point
-  pub record Tried (t : Typing) (p : Point) (ds : List ℕ) (ls : List Val) (h : Handler) (all : List ℕ) (ns : List Note) : Type 0 where
+  -- it is the innermost one of a frame at a point; `base` are the blocks that are deferred beneath
+  -- those of the point
+  pub record Tried (t : Typing) (p : Point) (ds : List ℕ) (ls : List Val) (h : Handler)
+      (all : List ℕ) (ns : List Note) : Type 0 where
     pub held : Held ls h
     pub head : Open
     pub tail : List Open
@@ -115,7 +127,8 @@ module _ (c : Code) (n : Notes) where
     pub split : tail ≡ above ++ more
     pub stack : All typing above point.stack
 
-  pub record Left (t : Typing) (p : Point) (ds : List ℕ) (tail : List Val) (all : List ℕ) (i : ℕ) : Type 0 where
+  pub record Left (t : Typing) (p : Point) (ds : List ℕ) (tail : List Val) (all : List ℕ) (i : ℕ) :
+      Type 0 where
     pub back : Back tail i
     pub tries : p.tries ≡ []
     pub entry : ℕ
@@ -146,20 +159,25 @@ module _ (c : Code) (n : Notes) where
     pub plain : Plain from
     pub ready : Ready c n from first.locals base
 
-  -- What stands beneath the innermost operands of a frame: its open Trys, and the deferred blocks that run in it. `rest` is what holds of
-  -- all else; it is `true` of a frame that is being cancelled.
+  -- What stands beneath the innermost operands of a frame: its open Trys, and the deferred blocks
+  -- that run in it. `rest` is what holds of all else; it is `true` of a frame that is being
+  -- cancelled.
   pub data Beneath (rest : Bool → Typing → Type 0) :
-      Typing → Point → List ℕ → List Val → List Val → List Handler → List ℕ → List Note → Type 0 where
-    plain : {t u : Typing} {p : Point} {ds : List ℕ} {ls : List Val} → Plain p → Adds u t → rest false u →
-        Beneath rest t p ds ls [] [] ds []
-    trying : {t : Typing} {p : Point} {h : Handler} {hs : List Handler} {ds all : List ℕ} {ls : List Val} {ns : List Note}
-        (x : Tried t p ds ls h all ns) → Beneath rest x.held.typing x.held.point x.held.point.defers ls x.held.more hs h.life.defers ns →
-        Beneath rest t p ds ls [] (h ∷ hs) all ns
-    within : {t : Typing} {p : Point} {i : ℕ} {hs : List Handler} {ds all : List ℕ} {ls tail : List Val} {ns : List Note}
-        (x : Left t p ds tail all i) → kept_defers hs ≤ length x.base → Beneath rest x.back.typing x.back.point x.back.left ls x.back.more hs x.base ns →
+      Typing → Point → List ℕ → List Val → List Val → List Handler → List ℕ → List Note →
+      Type 0 where
+    plain : {t u : Typing} {p : Point} {ds : List ℕ} {ls : List Val} → Plain p → Adds u t →
+        rest false u → Beneath rest t p ds ls [] [] ds []
+    trying : {t : Typing} {p : Point} {h : Handler} {hs : List Handler} {ds all : List ℕ}
+        {ls : List Val} {ns : List Note} (x : Tried t p ds ls h all ns) →
+        Beneath rest x.held.typing x.held.point x.held.point.defers ls x.held.more hs h.life.defers
+        ns → Beneath rest t p ds ls [] (h ∷ hs) all ns
+    within : {t : Typing} {p : Point} {i : ℕ} {hs : List Handler} {ds all : List ℕ}
+        {ls tail : List Val} {ns : List Note} (x : Left t p ds tail all i) →
+        kept_defers hs ≤ length x.base →
+        Beneath rest x.back.typing x.back.point x.back.left ls x.back.more hs x.base ns →
         Beneath rest t p ds ls tail hs all (to i ∷ ns)
-    dying : {t u : Typing} {p : Point} {ds all : List ℕ} {ls tail : List Val} → Dying p ds all → Adds u t → rest true u →
-        Beneath rest t p ds ls tail [] all (gone ∷ [])
+    dying : {t u : Typing} {p : Point} {ds all : List ℕ} {ls tail : List Val} → Dying p ds all →
+        Adds u t → rest true u → Beneath rest t p ds ls tail [] all (gone ∷ [])
 
   -- a frame at a point, with locals of these sorts
   pub record Stands (rest : Bool → Typing → Type 0) (t : Typing) (p : Point) (fs : List Sort)
@@ -175,7 +193,8 @@ module _ (c : Code) (n : Notes) where
   without_top p st = record p { stack = st }
 
   -- a frame that waits for the value of the one above it
-  pub record Waits (rest : Bool → Typing → Type 0) (t : Typing) (g : Giver) (f : Frame) (p : Point) : Type 0 where
+  pub record Waits (rest : Bool → Typing → Type 0) (t : Typing) (g : Giver) (f : Frame)
+      (p : Point) : Type 0 where
     pub live : point_at n f.place ≡ Some p
     pub whole : g.part ≡ false
     pub top : Sort
@@ -198,7 +217,8 @@ module _ (c : Code) (n : Notes) where
   -- the frames below one that gives `g`; `bottom` is what holds of the other tasks
   abbrev pub Below : (Giver → Bool → Typing → Type 0) → Giver → List Frame → Bool → Typing → Type 0
   Below bottom g [] b t = bottom g b t
-  Below bottom g (f ∷ fs) false t = (p : Point) × Waits (λ b u. Below bottom (giver n p) fs b u) t g f p
+  Below bottom g (f ∷ fs) false t = (p : Point) ×
+      Waits (λ b u. Below bottom (giver n p) fs b u) t g f p
   Below bottom g (f ∷ fs) true t = Dies t f × (u : Typing) × Adds u t × Below bottom g fs true u
 
   abbrev pub Bottom : Type 1
@@ -213,8 +233,8 @@ module _ (c : Code) (n : Notes) where
     pub own : Own m.frame.place point locals ds
     pub store : StoreIs typing m.state.memory.store
     pub fresh : (i : ℕ) (a : Sort) → typing.parts i ≡ Some a → m.state.clock.left ≤ i
-    pub stands : Stands (Below (bottom m.who m.world m.state.clock.results m.state.clock.signals m.state.clock.next) (giver n point)
-        m.below) typing point locals ds m.frame
+    pub stands : Stands (Below (bottom m.who m.world m.state.clock.results m.state.clock.signals
+        m.state.clock.next) (giver n point) m.below) typing point locals ds m.frame
 
   abbrev pub Runs_on : Ending → Type 0
   Runs_on ending.Stuck = ⊥

@@ -27,11 +27,16 @@ module _ (c : Code) (n : Notes) where
     pub overrides : r.Overrides c n note g
 
   pub record Known : Type 0 where
-    pub methods : (a b m : ℕ) (g : FuncNote) → Inherits (parent_of n) a b → r.Method c n (s.obj b) m g → Called a m g
+    pub methods : (a b m : ℕ) (g : FuncNote) → Inherits (parent_of n) a b →
+        r.Method c n (s.obj b) m g → Called a m g
     pub live : (i : ℕ) (p : Point) → point_at n i ≡ Some p → r.Sound c n i p
-    pub noted : (k : ℕ) (f : Func) → slice_get c.functions k ≡ Some f → (g : FuncNote) × (slice_get n.functions k ≡ Some g)
-    pub begins : (k : ℕ) (f : Func) (g : FuncNote) → slice_get c.functions k ≡ Some f → slice_get n.functions k ≡ Some g → r.Begins c n f k g
+    pub noted : (k : ℕ) (f : Func) → slice_get c.functions k ≡ Some f → (g : FuncNote) ×
+        (slice_get n.functions k ≡ Some g)
+    pub begins : (k : ℕ) (f : Func) (g : FuncNote) → slice_get c.functions k ≡ Some f →
+        slice_get n.functions k ≡ Some g → r.Begins c n f k g
     -- a class has the slots of those that it inherits from (V2, told over the chain of parents)
-    pub slots : (a b : ℕ) (y : ClassNote) → Inherits (parent_of n) a b → slice_get n.classes b ≡ Some y →
-        (x : ClassNote) × (slice_get n.classes a ≡ Some x) × ((k : ℕ) (s : Sort) → at y.slots k ≡ Some s → at x.slots k ≡ Some s)
-    pub either : (k : ℕ) (g : FuncNote) → slice_get n.functions k ≡ Some g → g.may_fail ≡ true → g.may_wait ≡ true → ⊥
+    pub slots : (a b : ℕ) (y : ClassNote) → Inherits (parent_of n) a b →
+        slice_get n.classes b ≡ Some y → (x : ClassNote) × (slice_get n.classes a ≡ Some x) ×
+        ((k : ℕ) (s : Sort) → at y.slots k ≡ Some s → at x.slots k ≡ Some s)
+    pub either : (k : ℕ) (g : FuncNote) → slice_get n.functions k ≡ Some g → g.may_fail ≡ true →
+        g.may_wait ≡ true → ⊥

@@ -17,7 +17,8 @@ pub record Open : Type 0 where
   pub index : ℕ
   pub beneath : List Sort
 
--- The state at an operation. The stack is what lies above the innermost open Try, its top first; the innermost Try is the first.
+-- The state at an operation. The stack is what lies above the innermost open Try, its top first;
+-- the innermost Try is the first.
 pub record Point : Type 0 where
   pub func : ℕ
   -- of the first frame of an arm or of a task behind: the sort of its value
@@ -25,8 +26,9 @@ pub record Point : Type 0 where
   pub locals : List Sort
   pub stack : List Sort
   pub tries : List Open
-  -- The index of the deferred block in which it stands, the Trys that were open where the block was deferred, how many blocks are
-  -- deferred beneath it, and those that were deferred since, the last first. Outside of blocks: none, none, 0.
+  -- The index of the deferred block in which it stands, the Trys that were open where the block was
+  -- deferred, how many blocks are deferred beneath it, and those that were deferred since, the last
+  -- first. Outside of blocks: none, none, 0.
   pub block : Option ℕ
   pub outer : List ℕ
   pub under : ℕ

@@ -1,12 +1,15 @@
 -- The other tasks of a run of a verified code, its clock, and what holds where a task ends.
-use Rattle.std.specs.Prelude.{◌≡◌, ℕ, ◌≤◌, List, [], ◌∷◌, ◌++◌, length, Option, Some, None, Bool, true, false}
+use Rattle.std.specs.Prelude.{◌≡◌, ℕ, ◌≤◌, List, [], ◌∷◌, ◌++◌, length, Option, Some, None, Bool}
+use Rattle.std.specs.Prelude.{true, false}
 use Rattle.verse_code.specs.declared.codes.Code.{Code}
 use Rattle.verse_value.specs.Val.{Val}
 use Rattle.verse_meaning_state.specs.State.{State, Given, Signal}
 use Rattle.verse_meaning_state.specs.Waits.{Cause, till, never, done, heard}
 use Rattle.verse_meaning_state.specs.Turns.{Kind, sync, race, rush}
-use Rattle.verse_code_machine.specs.Tasks.{Role, root, part, Who, Part, did, runs, asleep, group, Thread, Task, resuming, closing}
-use Rattle.verse_code_machine.specs.Tasks.{finishing, Up, begins, branching, spawning, clearing, Trees, World}
+use Rattle.verse_code_machine.specs.Tasks.{Role, root, part, Who, Part, did, runs, asleep, group}
+use Rattle.verse_code_machine.specs.Tasks.{Thread, Task, resuming, closing}
+use Rattle.verse_code_machine.specs.Tasks.{finishing, Up, begins, branching, spawning, clearing}
+use Rattle.verse_code_machine.specs.Tasks.{Trees, World}
 use Rattle.verse_code_machine.specs.Runs.{Forest}
 use Rattle.verse_sorts.specs.Sorts as s
 use Rattle.verse_sorts.specs.Sorts.{Sort}
@@ -27,9 +30,10 @@ module _ (c : Code) (n : Notes) where
   -- what the first frame of a task gives is what is waited for
   pub data RoleIs (t : Typing) : Role → ℕ → Giver → Type 0 where
     main_is : {i : ℕ} {g : Giver} → g.part ≡ false → RoleIs t (root None) i g
-    root_is : {e i : ℕ} {a : Sort} {g : Giver} → g.part ≡ false → at t.entries e ≡ Some a → Fit c n g.result a →
-        RoleIs t (root (Some e)) i g
-    part_is : {i : ℕ} {a : Sort} {g : Giver} → g.part ≡ true → t.parts i ≡ Some a → Fit c n g.result a → RoleIs t part i g
+    root_is : {e i : ℕ} {a : Sort} {g : Giver} → g.part ≡ false → at t.entries e ≡ Some a →
+        Fit c n g.result a → RoleIs t (root (Some e)) i g
+    part_is : {i : ℕ} {a : Sort} {g : Giver} → g.part ≡ true → t.parts i ≡ Some a →
+        Fit c n g.result a → RoleIs t part i g
 
   abbrev pub Alone : Who → Giver → Bool → Typing → Type 0
   Alone w g false t = (g.may_fail ≡ false) × RoleIs t w.role w.number g
@@ -43,14 +47,16 @@ module _ (c : Code) (n : Notes) where
     till_gives : {m : ℕ} {a : Sort} → Fit c n s.unit a → Causes t (till m) a
     never_gives : {a : Sort} → Causes t never a
     done_gives : {e : ℕ} {a b : Sort} → at t.entries e ≡ Some b → Fit c n b a → Causes t (done e) a
-    heard_gives : {e : ℕ} {a b : Sort} → at t.cells e ≡ Some (s.event b) → Fit c n b a → Causes t (heard e) a
+    heard_gives : {e : ℕ} {a b : Sort} → at t.cells e ≡ Some (s.event b) → Fit c n b a →
+        Causes t (heard e) a
 
   -- the arms of a group, each with what it gives
   pub data PartsAre (t : Typing) : List Part → List Sort → Type 0 where
     parts_no : PartsAre t [] []
-    part_did : {v : Val} {gs : List Part} {a : Sort} {xs : List Sort} → Of c n t v a → PartsAre t gs xs → PartsAre t (did v ∷ gs) (a ∷ xs)
-    part_runs : {i : ℕ} {gs : List Part} {a b : Sort} {xs : List Sort} → t.parts i ≡ Some b → Fit c n b a → PartsAre t gs xs →
-        PartsAre t (runs i ∷ gs) (a ∷ xs)
+    part_did : {v : Val} {gs : List Part} {a : Sort} {xs : List Sort} → Of c n t v a →
+        PartsAre t gs xs → PartsAre t (did v ∷ gs) (a ∷ xs)
+    part_runs : {i : ℕ} {gs : List Part} {a b : Sort} {xs : List Sort} → t.parts i ≡ Some b →
+        Fit c n b a → PartsAre t gs xs → PartsAre t (runs i ∷ gs) (a ∷ xs)
 
   pub data KindGives : Kind → List Sort → Sort → Type 0 where
     all_give : {rs : List Sort} {a : Sort} → Fit c n (s.tuple (sorts rs)) a → KindGives sync rs a
@@ -72,14 +78,16 @@ module _ (c : Code) (n : Notes) where
 
   pub data LabelsAre (t : Typing) (ls : List Val) : List ℕ → List Sort → Type 0 where
     labels_no : LabelsAre t ls [] []
-    labels_so : {l : ℕ} {more : List ℕ} {r : Sort} {rs : List Sort} → Starts t ls l r → LabelsAre t ls more rs →
-        LabelsAre t ls (l ∷ more) (r ∷ rs)
+    labels_so : {l : ℕ} {more : List ℕ} {r : Sort} {rs : List Sort} → Starts t ls l r →
+        LabelsAre t ls more rs → LabelsAre t ls (l ∷ more) (r ∷ rs)
 
   pub data TaskIs (t : Typing) : Task → Type 0 where
-    sleeps : {x : Task} {i : ℕ} {cause : Cause} {a : Sort} → x.rest ≡ asleep (record { number = i; cause = cause }) →
-        at t.waits i ≡ Some a → Causes t cause a → ThreadIs t a x.thread → TaskIs t x
-    groups : {x : Task} {k : Kind} {p : _} {gs : List Part} {rs : List Sort} {a : Sort} → x.rest ≡ group k p gs → PartsAre t gs rs →
-        KindGives k rs a → ThreadIs t a x.thread → TaskIs t x
+    sleeps : {x : Task} {i : ℕ} {cause : Cause} {a : Sort} →
+        x.rest ≡ asleep (record { number = i; cause = cause }) → at t.waits i ≡ Some a →
+        Causes t cause a → ThreadIs t a x.thread → TaskIs t x
+    groups : {x : Task} {k : Kind} {p : _} {gs : List Part} {rs : List Sort} {a : Sort} →
+        x.rest ≡ group k p gs → PartsAre t gs rs → KindGives k rs a → ThreadIs t a x.thread →
+        TaskIs t x
 
   pub data TasksAre (t : Typing) : List Task → Type 0 where
     tasks_no : TasksAre t []
@@ -87,10 +95,13 @@ module _ (c : Code) (n : Notes) where
 
   pub data TreesAre (t : Typing) : List (List Task) → Type 0 where
     trees_no : TreesAre t []
-    trees_so : {xs : List Task} {xss : List (List Task)} → TasksAre t xs → TreesAre t xss → TreesAre t (xs ∷ xss)
+    trees_so : {xs : List Task} {xss : List (List Task)} → TasksAre t xs → TreesAre t xss →
+        TreesAre t (xs ∷ xss)
 
-  -- a group whose arms begin: those before, the number of the one that runs, the labels of those to come
-  pub record Begun (t : Typing) (y : Thread) (k : Kind) (gs : List Part) (m : ℕ) (ls : List ℕ) : Type 0 where
+  -- a group whose arms begin: those before, the number of the one that runs, the labels of those to
+  -- come
+  pub record Begun (t : Typing) (y : Thread) (k : Kind) (gs : List Part) (m : ℕ) (ls : List ℕ) :
+      Type 0 where
     pub result : Sort
     pub before : List Sort
     pub given : Sort
@@ -106,26 +117,31 @@ module _ (c : Code) (n : Notes) where
   -- the tasks that wait until the one that runs is suspended or over
   pub data UpsAre (t : Typing) : Who → List Up → Type 0 where
     ups_no : {w : Who} → UpsAre t w []
-    ups_begin : {w : Who} {y : Thread} {k : Kind} {p : _} {gs : List Part} {m : ℕ} {ls : List ℕ} {us : List Up} → w.role ≡ part →
-        m ≡ w.number → Begun t y k gs m ls → UpsAre t y.who us → UpsAre t w (begins y k p gs m ls ∷ us)
-    ups_branch : {w : Who} {y : Thread} {us : List Up} → w.role ≡ part → ThreadIs t s.unit y → UpsAre t y.who us →
-        UpsAre t w (branching y ∷ us)
-    ups_spawn : {w : Who} {y : Thread} {e : ℕ} {a : Sort} {pre post : List Task} {us : List Up} → w.role ≡ root (Some e) →
-        at t.entries e ≡ Some a → ThreadIs t (s.task a) y → TasksAre t pre → TasksAre t post → UpsAre t y.who us →
+    ups_begin : {w : Who} {y : Thread} {k : Kind} {p : _} {gs : List Part} {m : ℕ} {ls : List ℕ}
+        {us : List Up} → w.role ≡ part → m ≡ w.number → Begun t y k gs m ls → UpsAre t y.who us →
+        UpsAre t w (begins y k p gs m ls ∷ us)
+    ups_branch : {w : Who} {y : Thread} {us : List Up} → w.role ≡ part → ThreadIs t s.unit y →
+        UpsAre t y.who us → UpsAre t w (branching y ∷ us)
+    ups_spawn : {w : Who} {y : Thread} {e : ℕ} {a : Sort} {pre post : List Task} {us : List Up} →
+        w.role ≡ root (Some e) → at t.entries e ≡ Some a → ThreadIs t (s.task a) y →
+        TasksAre t pre → TasksAre t post → UpsAre t y.who us →
         UpsAre t w (spawning y e pre post ∷ us)
 
   pub data ResultsAre (t : Typing) : List (Option Given) → List Sort → Type 0 where
     results_no : ResultsAre t [] []
-    result_none : {rs : List (Option Given)} {a : Sort} {xs : List Sort} → ResultsAre t rs xs → ResultsAre t (None ∷ rs) (a ∷ xs)
-    result_some : {g : Given} {rs : List (Option Given)} {a : Sort} {xs : List Sort} → Of c n t g.value a → ResultsAre t rs xs →
-        ResultsAre t (Some g ∷ rs) (a ∷ xs)
+    result_none : {rs : List (Option Given)} {a : Sort} {xs : List Sort} → ResultsAre t rs xs →
+        ResultsAre t (None ∷ rs) (a ∷ xs)
+    result_some : {g : Given} {rs : List (Option Given)} {a : Sort} {xs : List Sort} →
+        Of c n t g.value a → ResultsAre t rs xs → ResultsAre t (Some g ∷ rs) (a ∷ xs)
 
   pub data SignalsAre (t : Typing) : List Signal → Type 0 where
     signals_no : SignalsAre t []
-    signals_so : {g : Signal} {gs : List Signal} {a : Sort} → at t.cells g.event ≡ Some (s.event a) → Of c n t g.given.value a →
-        SignalsAre t gs → SignalsAre t (g ∷ gs)
+    signals_so : {g : Signal} {gs : List Signal} {a : Sort} →
+        at t.cells g.event ≡ Some (s.event a) → Of c n t g.given.value a → SignalsAre t gs →
+        SignalsAre t (g ∷ gs)
 
-  pub record Clocked (t : Typing) (rs : List (Option Given)) (gs : List Signal) (k : ℕ) : Type 0 where
+  pub record Clocked (t : Typing) (rs : List (Option Given)) (gs : List Signal) (k : ℕ) :
+      Type 0 where
     pub results : ResultsAre t rs t.entries
     pub signals : SignalsAre t gs
     pub waits : length t.waits ≡ k
@@ -136,23 +152,29 @@ module _ (c : Code) (n : Notes) where
     pub before_are : TreesAre t trees.before
     pub behind_are : TreesAre t trees.behind
 
-  module _ (pre post : List Task) (trees : Trees) (rs : List (Option Given)) (gs : List Signal) (k : ℕ) where
-    -- what holds beneath the first frame of the task that runs, by those that wait for it; it is `true` of a task that is cancelled
+  module _ (pre post : List Task) (trees : Trees) (rs : List (Option Given)) (gs : List Signal)
+      (k : ℕ) where
+    -- what holds beneath the first frame of the task that runs, by those that wait for it; it is
+    -- `true` of a task that is cancelled
     abbrev pub Ends_in : List Up → Who → Giver → Bool → Typing → Type 0
-    Ends_in us w g false t = Alone w g false t × UpsAre t w us × Clocked t rs gs k × Tasked t pre post trees
+    Ends_in us w g false t = Alone w g false t × UpsAre t w us × Clocked t rs gs k ×
+        Tasked t pre post trees
     Ends_in [] w g true t = ⊥
     Ends_in (begins y kd p ps m ls ∷ us) w g true t = ⊥
     Ends_in (branching y ∷ us) w g true t = ⊥
     Ends_in (spawning y e qs ps ∷ us) w g true t = ⊥
     Ends_in (clearing (resuming y v) ts ∷ us) w g true t =
-        TasksAre t ts × (a : Sort) × Of c n t v a × Below c n (λ g b u. Ends_in us y.who g b u) (coming false a) (y.frame ∷ y.below) false t
+        TasksAre t ts × (a : Sort) × Of c n t v a ×
+        Below c n (λ g b u. Ends_in us y.who g b u) (coming false a) (y.frame ∷ y.below) false t
     Ends_in (clearing (closing x v) ts ∷ us) w g true t =
         TasksAre t ts × (a : Sort) × Of c n t v a × Ends_in us x (closing_with a) false t
     Ends_in (clearing (finishing x e v) ts ∷ us) w g true t =
-        TasksAre t ts × (a : Sort) × Of c n t v a × (x.role ≡ root e) × Ends_in us x (coming false a) false t
+        TasksAre t ts × (a : Sort) × Of c n t v a × (x.role ≡ root e) ×
+        Ends_in us x (coming false a) false t
 
   -- what holds beneath the frames of the task that runs
-  abbrev pub World_is : Who → World → List (Option Given) → List Signal → ℕ → Giver → Bool → Typing → Type 0
+  abbrev pub World_is : Who → World → List (Option Given) → List Signal → ℕ → Giver → Bool →
+      Typing → Type 0
   World_is w x rs gs k g b t = Ends_in x.pre x.post x.trees rs gs k x.ups w g b t
 
   -- between two turns

@@ -5,7 +5,8 @@ ghost use Rattle.std.specs.Option.{option_map};
 ghost use Rattle.verse_verify_kept.specs.Rules.{rest_of};
 ghost use Rattle.verse_verify_notes.specs.View.{sorts_of, func_of, table_of};
 ghost use Rattle.verse_verify_faults.specs.Fitting.{fit};
-ghost use Rattle.verse_verify_faults.specs.Faults.{prefix, same_each, implies, overrides, all_override};
+ghost use Rattle.verse_verify_faults.specs.Faults.{prefix, same_each, implies, overrides};
+ghost use Rattle.verse_verify_faults.specs.Faults.{all_override};
 ghost use Rattle.verse_verify_faults.specs.Faults.{note_at, takes_object, is_method, are_methods};
 
 use crate::numbers::is_same_number;

@@ -8,7 +8,8 @@ use Rattle.verse_value.specs.Places.{End, Allows, applied, with_nth}
 use Rattle.verse_value.proofs.Steps.{on_ok, on_err, if_ok}
 use Rattle.verse_value.proofs.Stepping.{array_none, array_misfit, map_none, map_misfit}
 use Rattle.verse_value_writes.specs.Changes.{change_of, Replaced}
-use Rattle.verse_value_writes.proofs.Inside.{key_at, array_at, array_leads, put_back, put_same, nth_count, map_leads, map_put_back, map_put_same}
+use Rattle.verse_value_writes.proofs.Inside.{key_at, array_at, array_leads, put_back, put_same, nth_count, map_leads, map_put_back}
+use Rattle.verse_value_writes.proofs.Inside.{map_put_same}
 use Rattle.verse_value_writes.proofs.Inside.{pair_set_count, key_within}
 use Rattle.verse_value_writes.proofs.Along.{end_inside, not_outside, not_misfit, not_absent}
 use Rattle.verse_value_writes.proofs.changes.+apply.Goals as goal

@@ -15,7 +15,8 @@ returns-in-Some-fault_here c =
     let op = c.in-Some.op.now in
     let there : slice_get code.ops i ≡ Some op = sym c.get.ensures.value ∙ ap option_copied c.in-Some.is in
     let fits : entries_fit code t i ≡ true = c.entry_fault-end.ensures.first i (omega (arith, c.ops-test.true)) in
-    let this : f.fault_here code t i (spot_at t i) op ≡ Some c.in-Some-fault_here.rule = sym c.fault_here.ensures ∙ c.in-Some-fault_here.is in
+    let this : f.fault_here code t i (spot_at t i) op ≡ Some c.in-Some-fault_here.rule =
+    sym c.fault_here.ensures ∙ c.in-Some-fault_here.is in
     sym (breaks_here code t code.ops i op c.in-Some-fault_here.rule there fits this) ∙ c.ops.invariant
 
 pub ops-preserved : goal.ops-preserved
@@ -36,5 +37,5 @@ returns-then-end-len c =
     let end = c.entry_fault-end.result in
     let within : end < length code.ops = omega (arith, c.if-end-len.true, c.len.ensures) in
     let there : end ≡ c.ops.index = omega (arith, c.ops-test.false, c.ops.auto.index-end) in
-    sym (breaks_entry code t code.ops end within (c.entry_fault-end.ensures.broken within)) ∙ ap (λ j. f.first_fault code t j (drop j code.ops))
-    there ∙ c.ops.invariant
+    sym (breaks_entry code t code.ops end within (c.entry_fault-end.ensures.broken within)) ∙
+    ap (λ j. f.first_fault code t j (drop j code.ops)) there ∙ c.ops.invariant

@@ -5,4 +5,5 @@ use Rattle.lower_expr.proofs.builder.Builder.close_exits.Goals as goal
 
 pub returns : goal.returns
 unfolding built
-returns c = closed_done (built c.args.self.now).exits c.exits.exit c.args.out (built c.exits.self) _ (omega (arith, c.exits-test.false, c.len-exit-end.ensures)) c.exits.invariant.closed
+returns c = closed_done (built c.args.self.now).exits c.exits.exit c.args.out (built c.exits.self) _
+    (omega (arith, c.exits-test.false, c.len-exit-end.ensures)) c.exits.invariant.closed

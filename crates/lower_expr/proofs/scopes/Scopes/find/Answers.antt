@@ -13,10 +13,12 @@ slots-init c = record {
 pub slots-preserved : goal.slots-preserved
 slots-preserved c = record {
   within = omega (arith, c.slots.invariant.within);
-  found = looks_on c.args.name.now c.args.self.now.slots.items c.slots.left (c.slots.left - 1) c.index.result.now _ (omega (arith, c.slots-test.true))
-      (omega (arith, c.slots-test.true, c.slots.invariant.within)) c.index.ensures (sym c.found_in.ensures ∙ ap (option_map found_of) c.in_default.is) c.slots.invariant.found;
+  found = looks_on c.args.name.now c.args.self.now.slots.items c.slots.left (c.slots.left - 1) c.index.result.now _
+      (omega (arith, c.slots-test.true)) (omega (arith, c.slots-test.true, c.slots.invariant.within)) c.index.ensures
+      (sym c.found_in.ensures ∙ ap (option_map found_of) c.in_default.is) c.slots.invariant.found;
 }
 
 pub returns-in-Some : goal.returns-in-Some
-returns-in-Some c = looks_at c.args.name.now c.args.self.now.slots.items c.slots.left (c.slots.left - 1) c.index.result.now _ _ (omega (arith, c.slots-test.true))
-    (omega (arith, c.slots-test.true, c.slots.invariant.within)) c.index.ensures (sym c.found_in.ensures ∙ ap (option_map found_of) c.in-Some.is) c.slots.invariant.found
+returns-in-Some c = looks_at c.args.name.now c.args.self.now.slots.items c.slots.left (c.slots.left - 1) c.index.result.now _ _
+    (omega (arith, c.slots-test.true)) (omega (arith, c.slots-test.true, c.slots.invariant.within)) c.index.ensures
+    (sym c.found_in.ensures ∙ ap (option_map found_of) c.in-Some.is) c.slots.invariant.found
