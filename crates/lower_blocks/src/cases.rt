@@ -11,7 +11,6 @@ ghost use Rattle.lower_parts.specs.Parts.{tree_code, form_code, Lowers, no_place
 ghost use Rattle.lower_blocks.specs.Arms.{ArmLeads, arm_parts, arm_code, arms_code};
 ghost use Rattle.lower_blocks.specs.Arms.{compared_arm, comparison};
 
-use crate::parts::{arms, left, right, subject};
 use crate::patterns::{is_any, parts_of_arm, push_pattern};
 use lower_code::arounds::Around;
 use lower_expr::builder::Builder;
@@ -21,6 +20,7 @@ use lower_fail::ends::jumps_end;
 use lower_items::tables::Tables;
 use lower_lookup::statements::none_left;
 use lower_parts::lowering::Lowering;
+use lower_parts::parts::{arms, left, right, subject};
 use std::alloc::Global;
 use verse_base::refusals::Memory;
 use verse_tree::exprs::{Cases, Expr, Two};

@@ -12,7 +12,6 @@ ghost use Rattle.lower_expr.specs.Locals.{scope_of};
 ghost use Rattle.lower_parts.specs.Parts.{tree_code, form_code, Lowers, no_place};
 ghost use Rattle.lower_blocks.specs.Codes.{statements_code};
 
-use crate::parts::{conditions, left, otherwise, right, taken};
 use crate::statements::{own_statements, statements};
 use lower_code::arounds::Around;
 use lower_expr::builder::Builder;
@@ -23,6 +22,7 @@ use lower_fail::attempts::{
 };
 use lower_items::tables::Tables;
 use lower_parts::lowering::Lowering;
+use lower_parts::parts::{conditions, left, otherwise, right, taken};
 use verse_base::places::Place;
 use verse_base::refusals::Memory;
 use verse_tree::exprs::{Expr, IfParts, Two};

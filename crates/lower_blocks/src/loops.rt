@@ -15,7 +15,6 @@ ghost use Rattle.lower_blocks.specs.Codes.{inner_code, claused_code, levels_code
 ghost use Rattle.lower_blocks.specs.Codes.{body_code, for_code};
 ghost use Rattle.lower_blocks.specs.Levels.{Leads, scope_claused, turns_at};
 
-use crate::parts::{body, clauses};
 use crate::statements::{defined, inner};
 use lower_code::arounds::Around;
 use lower_expr::builder::Builder;
@@ -27,6 +26,7 @@ use lower_fail::loops::{
 use lower_items::tables::Tables;
 use lower_lookup::statements::{Generator, Statement, statement_of};
 use lower_parts::lowering::Lowering;
+use lower_parts::parts::{body, clauses};
 use std::alloc::Global;
 use verse_base::places::Place;
 use verse_base::refusals::Memory;

@@ -18,7 +18,6 @@ ghost use Rattle.lower_blocks.specs.Insides.{inside, inside_shape, within_view, 
 ghost use Rattle.lower_blocks.specs.Codes.{inner_code, inside_code, stated_code, around_behind};
 ghost use Rattle.lower_blocks.specs.Codes.{statements_code, more_code};
 
-use crate::parts::{left, right};
 use lower_code::arounds::Around;
 use lower_expr::builder::Builder;
 use lower_expr::endings::Ending;
@@ -27,6 +26,7 @@ use lower_fail::attempts::{defer_begin, defer_end};
 use lower_items::tables::Tables;
 use lower_lookup::statements::{Binder, Statement, any_defer, statement_of};
 use lower_parts::lowering::Lowering;
+use lower_parts::parts::{left, right};
 use verse_base::refusals::Memory;
 use verse_code::operations::Op;
 use verse_tree::exprs::{Expr, Form, Two};

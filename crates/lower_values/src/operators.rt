@@ -16,6 +16,7 @@ use lower_expr::scopes::Scopes;
 use lower_items::tables::Tables;
 use lower_lookup::types::is_array;
 use lower_parts::lowering::Lowering;
+use lower_parts::parts::{left, right};
 use verse_base::places::Place;
 use verse_base::refusals::Memory;
 use verse_code::operations::Op;
@@ -50,18 +51,6 @@ fn one<
     lowering.part(builder, scopes, around, part)?;
     builder.ending(ending)?;
     Ok(())
-}
-
-fn left(parts: &Two) -> &Expr
-    ensures { tree_of result.now ≡ (two_of parts.now).0 }
-{
-    parts.left.get()
-}
-
-fn right(parts: &Two) -> &Expr
-    ensures { tree_of result.now ≡ (two_of parts.now).1 }
-{
-    parts.right.get()
 }
 
 /// Two parts, and what ends them.

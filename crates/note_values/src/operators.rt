@@ -11,23 +11,12 @@ ghost use Rattle.note_values.specs.Parts.{one_ended, two_walk, arithmetic_walk};
 use lower_code::arounds::Around;
 use lower_expr::scopes::Scopes;
 use lower_items::tables::Tables;
+use lower_parts::parts::{left, right};
 use note_applied::applied::computing;
 use note_parts::noter::Noter;
 use note_stretches::noting::Noting;
 use verse_base::refusals::Memory;
 use verse_tree::exprs::{Comparison, Expr, Operator, Two};
-
-fn left(parts: &Two) -> &Expr
-    ensures { tree_of result.now ≡ (two_of parts.now).0 }
-{
-    parts.left.get()
-}
-
-fn right(parts: &Two) -> &Expr
-    ensures { tree_of result.now ≡ (two_of parts.now).1 }
-{
-    parts.right.get()
-}
 
 /// A part, and an operation on it.
 #[tactic(auto, using(note_stretches::proofs::Laws::walked_then))]

@@ -1,3 +1,4 @@
 pub mod Lists
 pub mod Order
 pub mod Leaves
+pub mod Shapes

@@ -5,8 +5,8 @@
 //! for and which types nodes have; `programs`, all three together; `laws`, what numbering means;
 //! `sizes`, the size of a program, over `instance_fields`.
 //!
-//! The public lemmas, which crates above cite, are those of `proofs/Lists`, `proofs/Order` and
-//! `proofs/Leaves`.
+//! The public lemmas, which crates above cite, are those of `proofs/Lists`, `proofs/Order`,
+//! `proofs/Leaves` and `proofs/Shapes`.
 #![tactic(auto)]
 
 pub mod exprs;

@@ -6,7 +6,7 @@ use Rattle.lower_expr.specs.Building.{built}
 use Rattle.lower_expr.specs.Locals.{scope_of}
 use Rattle.lower_calls.specs.Views.{applied_now, called_of, place_of}
 use Rattle.lower_calls.specs.Calls.{spawned_code}
-use Rattle.lower_parts.proofs.Shapes.{tree_is}
+use Rattle.verse_tree.proofs.Shapes.{tree_is}
 use Rattle.lower_calls.proofs.Seen.{spawned_is}
 use Rattle.lower_calls.proofs.Steps.{same_made}
 use Rattle.lower_calls.proofs.calls.spawn.Goals as goal

@@ -10,7 +10,7 @@ use Rattle.lower_lookup.specs.Types.{differ_of}
 use Rattle.lower_expr.specs.Building.{built}
 use Rattle.lower_expr.specs.Locals.{scope_of}
 use Rattle.lower_parts.specs.Parts.{tree_code}
-use Rattle.lower_parts.proofs.Shapes.{tree_is}
+use Rattle.verse_tree.proofs.Shapes.{tree_is}
 use Rattle.lower_calls.specs.Aims.{target_code}
 use Rattle.lower_calls.proofs.Steps.{three_steps, same_made}
 use Rattle.lower_calls.proofs.Storing.{stored, store_is}

@@ -3,12 +3,12 @@ use Rattle.std.specs.Option.{option_map}
 use Rattle.verse_tree.specs.View.{tree_of, trees, if_of}
 use Rattle.lower_expr.specs.Locals.{scope_of}
 use Rattle.lower_parts.specs.Parts.{form_code}
-use Rattle.verse_lower.proofs.Shapes.{event_code, if_code, is_arm, is_array, is_block, is_blockform, is_branch, is_call}
-use Rattle.verse_lower.proofs.Shapes.{is_case, is_chain, is_compare, is_def, is_elements, is_entries, is_event, is_for}
-use Rattle.verse_lower.proofs.Shapes.{is_holes, is_if, is_index, is_instance, is_let, is_logic, is_loop, is_map}
-use Rattle.verse_lower.proofs.Shapes.{is_member, is_name, is_neg, is_not, is_option, is_query, is_race, is_range}
-use Rattle.verse_lower.proofs.Shapes.{is_return, is_rush, is_set, is_sleep, is_spawn, is_sync, is_tuple, is_vardef}
-use Rattle.verse_lower.proofs.Shapes.{return_code, sleep_code}
+use Rattle.verse_tree.proofs.Shapes.{is_arm, is_array, is_block, is_blockform, is_branch, is_call, is_case, is_chain}
+use Rattle.verse_tree.proofs.Shapes.{is_compare, is_def, is_elements, is_entries, is_event, is_for, is_holes, is_if}
+use Rattle.verse_tree.proofs.Shapes.{is_index, is_instance, is_let, is_logic, is_loop, is_map, is_member, is_name}
+use Rattle.verse_tree.proofs.Shapes.{is_neg, is_not, is_option, is_query, is_race, is_range, is_return, is_rush, is_set}
+use Rattle.verse_tree.proofs.Shapes.{is_sleep, is_spawn, is_sync, is_tuple, is_vardef}
+use Rattle.verse_lower.proofs.Shapes.{event_code, if_code, return_code, sleep_code}
 use Rattle.verse_lower.proofs.forms.form.Goals as goal
 
 pub returns-in-Block-clause-code : goal.returns-in-Block-clause-code
