@@ -15,7 +15,7 @@ use verse_base::refusals::Memory;
 use verse_tree::exprs::Expr;
 
 /// The number of the node of a tree.
-#[tactic(auto, using(lower_parts::proofs::Shapes::tree_is))]
+#[tactic(auto, using(verse_tree::proofs::Shapes::tree_is))]
 pub fn number_of(part: &Expr) -> u32
     ensures { result ≡ number_of (tree_of part.now) }
 {
