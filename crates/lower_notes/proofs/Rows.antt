@@ -4,7 +4,7 @@ use Rattle.verse_image.specs.Reading.{many_at, within_at, number_at, digits_at}
 use Rattle.lower_code.specs.Lowering as l
 use Rattle.lower_notes.specs.Noting as n
 use Rattle.lower_notes.specs.Rows.{ValuesPass, AttemptsPass, LoopsPass, DefersPass, TasksPass, WritesPass}
-use Rattle.lower_notes.specs.Rows.{CallsPass, NothingPasses, RefusedRows}
+use Rattle.lower_notes.specs.Rows.{CallsPass, NothingPasses}
 
 pub values_pass : ValuesPass
 unfolding l.by_callee l.grouped l.arm_by l.instance_of l.named l.membered l.stated l.claused
@@ -92,14 +92,6 @@ writes_pass = record {
   field_written = refl;
 }
 
-pub refused_rows : RefusedRows
-unfolding l.by_callee l.grouped l.arm_by l.instance_of l.named l.membered l.stated l.claused
-    n.by_callee n.arm_by n.instance_of n.named n.membered n.stated n.claused
-    many_at within_at number_at digits_at
-refused_rows = record {
-  signalled = refl;
-}
-
 pub calls_pass : CallsPass
 unfolding l.by_callee l.grouped l.arm_by l.instance_of l.named l.membered l.stated l.claused
     n.by_callee n.arm_by n.instance_of n.named n.membered n.stated n.claused
@@ -122,4 +114,7 @@ nothing_passes = record {
   no_index = refl;
   indices = refl;
   awaited = refl;
+  signalled = refl;
+  counted = refl;
+  matched = refl;
 }

@@ -599,9 +599,11 @@ pub record NothingPasses : Type 0 where
   pub indices : Passes (tried (part never (t.Shape.index no_value (two (int 1) (int 2)))))
   -- (race: (loop: 1), loop: 2).Await(1)
   pub awaited : Passes (of_race (codes "Await") (alone (int 1)))
-
--- What no notes pass.
-pub record RefusedRows : Type 0 where
-  -- (race: (loop: 1), loop: 2).Signal(1, 2): by the types that are found what signals never has a
-  -- value, as what is signalled, but a Signal leaves unit.
-  pub signalled : fault (of_race (codes "Signal") (two (int 1) (int 2))) ≡ Some (7, 23)
+  -- (race: (loop: 1), loop: 2).Signal(1, 2): a Signal leaves unit, where the checker finds that there
+  -- is never a value
+  pub signalled : Passes (of_race (codes "Signal") (two (int 1) (int 2)))
+  -- option{(false?).Length}
+  pub counted : Passes (tried (part never (t.Shape.member no_value (codes "Length"))))
+  -- option{case (false?) { _ => 1 }}
+  pub matched : Passes (tried (part never (t.Shape.cases no_value
+      (alone (part void (t.Shape.arm (part void t.Shape.any_pattern) (int 1)))))))

@@ -21,7 +21,6 @@ ghost use Rattle.lower_notes.specs.Rows.{
   WritesPass,
   CallsPass,
   NothingPasses,
-  RefusedRows,
 };
 
 /// Beside the code of a tree there is one state for each operation, and so beside the code of a
@@ -69,9 +68,4 @@ pub fn calls_pass()
 /// What takes something out of what never has a value.
 pub fn nothing_passes()
     ensures { NothingPasses }
-{}
-
-/// What the rules of notes refuse, though it is a right program.
-pub fn refused_rows()
-    ensures { RefusedRows }
 {}

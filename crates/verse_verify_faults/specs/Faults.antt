@@ -16,7 +16,7 @@ use Rattle.verse_sorts.specs.Typing.{at}
 use Rattle.verse_verify_kept.specs.Notes.{ClassNote, FuncNote, parent_in}
 use Rattle.verse_verify_kept.specs.Rules.{nones, rest_of}
 use Rattle.verse_verify_faults.specs.Fitting.{fit, same, all_fit, each_fit, on_list, on_map, on_var}
-use Rattle.verse_verify_faults.specs.Fitting.{on_event}
+use Rattle.verse_verify_faults.specs.Fitting.{on_event, any_never}
 use Rattle.verse_verify_faults.specs.Spots.{Mark, Spot, Table, spot_at, room, above}
 use Rattle.verse_verify_faults.specs.Stepping.{Made, is, list_of, map_of, var_of, event_of, one_of}
 use Rattle.verse_verify_faults.specs.Stepping.{Part, inner, begins_arm, begins_block, Goes}
@@ -83,6 +83,10 @@ of_part p i begins_arm q = not (is_none q.arm) && is_none q.block && is_nil q.ou
 of_part p i (begins_block names count) q =
     same_arm p.arm q.arm && same_number (Some i) q.block && same_numbers names q.outer &&
     eqn count q.under && is_nil q.defers
+
+-- no run comes to a state in which an operand above the innermost Try, or a local, has no value
+abbrev pub lacks_values : Spot → Bool
+lacks_values p = any_never (above p.stack p.tries) || any_never p.locals
 
 module _ (c : Code) (t : Table) where
   -- V7
@@ -338,9 +342,18 @@ module _ (c : Code) (t : Table) where
       cond (nat_lt (room p.stack p.tries) (pops op)) (Some 4)
       (by_step i p op (step c t p i op (above p.stack p.tries)))
 
+  -- where an operand or a local has no value nothing is asked but that the Trys stand around the
+  -- operation, and that the blocks are ready
+  abbrev pub stands : ℕ → Spot → Bool
+  stands i p = all_around i (tries_of p) && ready p p.locals p.defers
+
+  abbrev pub fault_in : ℕ → Spot → Op → Option ℕ
+  fault_in i p op =
+      cond (lacks_values p) (cond (stands i p) None (Some 8)) (fault_of i p op)
+
   abbrev pub fault_here : ℕ → Option Spot → Op → Option ℕ
   fault_here i None op = None
-  fault_here i (Some p) op = fault_of i p op
+  fault_here i (Some p) op = fault_in i p op
 
   -- V3: the function's first operation
   abbrev pub begins : ℕ → Func → FuncNote → Spot → Bool

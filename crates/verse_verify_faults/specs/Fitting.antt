@@ -1,6 +1,6 @@
 -- Tests of sorts: which are the same, which fit which, which are keys.
 use Rattle.std.specs.Prelude.{ℕ, zero, suc, List, [], ◌∷◌, length, Option, Some, None, Bool, true}
-use Rattle.std.specs.Prelude.{false, ◌&&◌, cond, slice_get}
+use Rattle.std.specs.Prelude.{false, ◌&&◌, ◌||◌, cond, slice_get}
 use Rattle.verse_meaning_state.specs.Waits.{eqn}
 use Rattle.verse_sorts.specs.Sorts.{Sort, Sorts, none, any, never, unit, nil, int, logic, char}
 use Rattle.verse_sorts.specs.Sorts.{span, enum, obj, var, event, task, opt, list}
@@ -185,6 +185,15 @@ module _ (cs : List ClassNote) where
   each_fit [] [] = true
   each_fit (a ∷ xs) (b ∷ ys) = fit a b && each_fit xs ys
   each_fit xs ys = false
+
+-- no value is of the sort, or of one of these sorts
+abbrev pub is_never : Sort → Bool
+is_never never = true
+is_never a = false
+
+abbrev pub any_never : List Sort → Bool
+any_never [] = false
+any_never (a ∷ xs) = is_never a || any_never xs
 
 abbrev pub is_char : Sort → Bool
 is_char char = true

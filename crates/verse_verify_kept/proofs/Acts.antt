@@ -160,6 +160,7 @@ module _ (c : Code) (n : Notes) (bottom : Bottom c n) where
                   label = m.point;
                   is_try = e;
                   is_label = m.live;
+                  leads = m;
                   typing = t;
                   locals = are_up (parent_of n) a m.locals;
                   store = z;

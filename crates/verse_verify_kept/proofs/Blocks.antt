@@ -210,7 +210,7 @@ module _ (c : Code) (n : Notes) (bottom : Bottom c n) (ok : Known c n) (w : Who)
                       live = live;
                       locals = point.locals;
                       left = ds;
-                      own = own_left op rs;
+                      own = own_left op keeps rs;
                       typing = t;
                       above = above;
                       more = more;

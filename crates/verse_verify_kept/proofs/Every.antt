@@ -12,11 +12,11 @@ use Rattle.verse_code_machine.specs.Tasks.{Life, Handler, Frame, part, Who, Task
 use Rattle.verse_code_machine.specs.Cancelling.{without}
 use Rattle.verse_code_machine.specs.Acts.{place_at, act}
 use Rattle.verse_sorts.specs.Sorts.{Sort}
-use Rattle.verse_sorts.specs.Typing.{Typing}
+use Rattle.verse_sorts.specs.Typing.{Typing, are_no, are_so}
 use Rattle.verse_code_machine_parents.specs.Parents.{MachineRooted}
 use Rattle.verse_verify_kept.specs.Notes.{Point, Notes, point_at}
 use Rattle.verse_verify_kept.specs.Known.{Known}
-use Rattle.verse_verify_kept.specs.Rules.{Passes, Runs, Keeps, Sound}
+use Rattle.verse_verify_kept.specs.Rules.{Passes, Asked, asked, no_operand, no_local, AnyNever, first_never, later_never, Sound}
 use Rattle.verse_verify_kept.specs.Rules as r
 use Rattle.verse_verify_kept.proofs.Blocks.{left_runs}
 use Rattle.verse_verify_kept.specs.Kept.{Own, own, own_left, MachineFits}
@@ -197,8 +197,10 @@ module _ (c : Code) (n : Notes) (ok : Known c n) (w : Who) (x : World) (s : Stat
   operation_good (o.Leave i) is_op live h parents (r.of_leave keeps runs) =
       left_runs c n (World_is c n) ok w x s pc bl t p z f g ls above more hs is_op live k a b keeps runs
 
-keeps_of : {c : Code} {n : Notes} {i m : ℕ} {p : Point} → Passes c n i p (o.Leave m) → Keeps c n p m
-keeps_of (r.of_leave keeps runs) = keeps
+no_values : (c : Code) (n : Notes) {t : Typing} {vs : List Val} {xs : List Sort} → All c n t vs xs → AnyNever xs → ⊥
+no_values c n are_no d = elim d [ ]
+no_values c n (are_so i a) first_never = elim i [ ]
+no_values c n (are_so i a) (later_never d) = no_values c n a d
 
 module _ (c : Code) (n : Notes) (ok : Known c n) (names : (i : ℕ) (op : Op) → slice_get c.ops i ≡ Some op → Names c op)
     (parents : (m : Machine) → MachineRooted m → (op : Op) → Parents c n ok m.who m.world m.frame.life op) where
@@ -216,15 +218,20 @@ module _ (c : Code) (n : Notes) (ok : Known c n) (names : (i : ℕ) (op : Op) �
           m.frame.locals a.stands.more m.frame.handlers m.frame.life.defers m.frame.life.noted →
           Goes (a.stands.above ++ a.stands.more) so.op
       does so own locals k =
-          operation_good c n ok m.who m.world m.state m.frame.life m.frame.place a.typing a.point a.store a.fresh m.below m.frame.locals
-          a.stands.above a.stands.more m.frame.handlers k locals a.stands.stack so.op so.is_op a.live (names m.frame.place so.op
-          so.is_op) (parents m rooted so.op) so.passes
+          by_asked so.passes
+        where
+          by_asked : Asked c n m.frame.place a.point so.op → Goes (a.stands.above ++ a.stands.more) so.op
+          by_asked (asked q) =
+              operation_good c n ok m.who m.world m.state m.frame.life m.frame.place a.typing a.point a.store a.fresh m.below
+              m.frame.locals a.stands.above a.stands.more m.frame.handlers k locals a.stands.stack so.op so.is_op a.live
+              (names m.frame.place so.op so.is_op) (parents m rooted so.op) q
+          by_asked (no_operand d) = absurd (no_values c n a.stands.stack d)
+          by_asked (no_local d) = absurd (no_values c n locals d)
       -- a Leave to which a deferred block has come back
-      does so (own_left {m = q} e runs) locals k =
+      does so (own_left {m = q} e keeps runs) locals k =
           subst (Goes (a.stands.above ++ a.stands.more)) (sym (same_Some _ _ (sym so.is_op ∙ e))) (left_runs c n (World_is c n) ok m.who
           m.world m.state m.frame.place m.below a.typing a.point a.store a.fresh m.frame.life m.frame.locals a.stands.above a.stands.more
-          m.frame.handlers e a.live k locals a.stands.stack (keeps_of (subst (Passes c n m.frame.place a.point) (same_Some _ _ (sym
-          so.is_op ∙ e)) so.passes)) runs)
+          m.frame.handlers e a.live k locals a.stands.stack keeps runs)
 
       at_op : Sound c n m.frame.place a.point → Fine_step c n (step c m)
       at_op so =

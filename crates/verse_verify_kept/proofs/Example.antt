@@ -9,7 +9,7 @@ use Rattle.verse_sorts.specs.Sorts as s
 use Rattle.verse_sorts.specs.Sorts.{Inherits, fits_unit}
 use Rattle.verse_sorts.specs.Typing.{fit_no, fit_so}
 use Rattle.verse_verify_kept.specs.Notes.{FuncNote, Point, Notes, point_at}
-use Rattle.verse_verify_kept.specs.Rules.{Sound, Begins, MainIs, Verified, from_no, of_unit, of_return, around_no, ready_no, tries_no}
+use Rattle.verse_verify_kept.specs.Rules.{Sound, Begins, MainIs, Verified, from_no, asked, of_unit, of_return, around_no, ready_no, tries_no}
 
 abbrev code : Code
 code = record {
@@ -38,7 +38,7 @@ first_sound = record {
   ready = ready_no;
   op = o.Unit;
   is_op = refl;
-  passes = of_unit (record {
+  passes = asked (of_unit (record {
     point = point (s.unit ∷ []);
     live = refl;
     kin = record { func = refl; arm = refl; block = refl; outer = refl; under = refl };
@@ -46,7 +46,7 @@ first_sound = record {
     stack = fit_so fits_unit fit_no;
     tries = tries_no;
     defers = refl;
-  });
+  }));
 }
 
 last_sound : Sound code notes 1 (point (s.unit ∷ []))
@@ -55,7 +55,7 @@ last_sound = record {
   ready = ready_no;
   op = o.Return;
   is_op = refl;
-  passes = of_return refl refl refl refl refl refl fits_unit;
+  passes = asked (of_return refl refl refl refl refl refl fits_unit);
 }
 
 all_live : (i : ℕ) (p : Point) → point_at notes i ≡ Some p → Sound code notes i p

@@ -17,8 +17,7 @@ use Rattle.verse_sorts.specs.Typing.{Typing, Adds}
 use Rattle.verse_sorts.proofs.Fitting.{are_up, adds_itself}
 use Rattle.verse_verify_kept.specs.Notes.{FuncNote, Open, Point, Notes, parent_of, point_at}
 use Rattle.verse_verify_kept.specs.Known.{Known}
-use Rattle.verse_verify_kept.specs.Rules.{Kin, Leads, To, MayFail, in_try, in_function, Sound}
-use Rattle.verse_verify_kept.specs.Rules.{Passes, of_try}
+use Rattle.verse_verify_kept.specs.Rules.{Kin, Leads, To, MayFail, in_try, in_function}
 use Rattle.verse_verify_kept.specs.Kept.{Giver, func_gives, arm_gives, giver, All, StoreIs, Own, own, Plain, Held, Tried, Beneath, plain}
 use Rattle.verse_verify_kept.specs.Kept.{trying}
 use Rattle.verse_verify_kept.specs.Kept.{within, dying, without_top, Below, Bottom, MachineFits, Runs_on}
@@ -127,9 +126,6 @@ module _ (c : Code) (n : Notes) where
           only_good s _ (fits_there c n (handles c n (leads_beneath u bl l k)) (ok.live i l.point l.live).around)
           (next_to u g ls above more hs bl t l a b k z f)
 
-      label_of_try : {i l : ℕ} {q : Point} → Passes c n i q (o.Try l) → To c n q q.stack l
-      label_of_try (of_try a b) = b
-
       pub less_fresh : {t u : Typing} (left : ℕ) → Adds u t → Fresh t left → Fresh u left
       less_fresh left g f = λ i a e. f i a (g.grows.parts i a e)
 
@@ -153,11 +149,8 @@ module _ (c : Code) (n : Notes) where
           q : Point
           q = y.held.point
 
-          so : Sound c n h.made q
-          so = ok.live h.made q y.held.live
-
           l : To c n q q.stack h.label
-          l = label_of_try (subst (Passes c n h.made q) (same_in so.is_op y.held.is_try) so.passes)
+          l = y.held.leads
 
       no_fail : {p : Point} {e : ℕ} → p.tries ≡ [] → p.block ≡ Some e → MayFail c n p → ⊥
       no_fail a b (in_try e) = no_cons (sym a ∙ e)

@@ -215,6 +215,7 @@ module _ (c : Code) (n : Notes) where
                 label = x.held.label;
                 is_try = x.held.is_try;
                 is_label = x.held.is_label;
+                leads = x.held.leads;
                 typing = x.held.typing;
                 locals = put_anything (parent_of n) x.held.typing v l x.held.locals e
                     (λ a k. g x.held.label a (subst (λ i. point_at n i ≡ Some x.held.label)

@@ -17,7 +17,7 @@ use Rattle.verse_sorts.specs.Sorts.{Sort}
 use Rattle.verse_sorts.specs.Typing.{Typing, Adds, Is, Are}
 use Rattle.verse_verify_kept.specs.Notes.{ClassNote, FuncNote, Open, Point, Notes, parent_of}
 use Rattle.verse_verify_kept.specs.Notes.{point_at, names}
-use Rattle.verse_verify_kept.specs.Rules.{Each, Fit, TriesFit, Kin, Runs, Ready, MayFail, MayWait}
+use Rattle.verse_verify_kept.specs.Rules.{Each, Fit, TriesFit, Kin, To, Keeps, Runs, Ready, MayFail, MayWait}
 
 -- what a frame gives, and whether it may fail or wait; whether it is the first of an arm or of a
 -- task behind
@@ -71,7 +71,7 @@ module _ (c : Code) (n : Notes) where
   pub data Own (i : ℕ) (p : Point) : List Sort → List ℕ → Type 0 where
     own : Own i p p.locals p.defers
     own_left : {m : ℕ} {fs : List Sort} {ds : List ℕ} → slice_get c.ops i ≡ Some (o.Leave m) →
-        Runs c n p i m fs ds → Own i p fs ds
+        Keeps c n p m → Runs c n p i m fs ds → Own i p fs ds
 
   -- outside of blocks and Trys
   pub record Plain (p : Point) : Type 0 where
@@ -88,6 +88,7 @@ module _ (c : Code) (n : Notes) where
     pub label : Point
     pub is_try : slice_get c.ops h.made ≡ Some (o.Try h.label)
     pub is_label : point_at n h.label ≡ Some label
+    pub leads : To c n point point.stack h.label
     pub typing : Typing
     pub locals : All typing ls label.locals
     pub store : StoreIs typing h.memory.store

@@ -30,6 +30,11 @@ pub data Pops : ℕ → List Sort → List Sort → List Sort → List Sort → 
   pops_so : {n : ℕ} {a : Sort} {st xs ys rest : List Sort} → Pops n st (a ∷ xs) ys rest →
       Pops (suc n) (a ∷ st) xs ys rest
 
+-- among these sorts is the one that no value has
+pub data AnyNever : List Sort → Type 0 where
+  first_never : {xs : List Sort} → AnyNever (s.never ∷ xs)
+  later_never : {a : Sort} {xs : List Sort} → AnyNever xs → AnyNever (a ∷ xs)
+
 -- what may be read of a local
 abbrev pub IsRead : Sort → Type 0
 IsRead s.none = ⊥
@@ -396,12 +401,18 @@ module _ (c : Code) (n : Notes) where
         Entry p e (length ds) point → more ++ point.outer ≡ names p → Each ls point.locals →
         Ready p point.locals ds → Ready p ls (e ∷ ds)
 
+  -- nothing is asked where an operand or a local has no value, since no run comes there
+  pub data Asked (i : ℕ) (p : Point) (op : Op) : Type 0 where
+    asked : Passes i p op → Asked i p op
+    no_operand : AnyNever p.stack → Asked i p op
+    no_local : AnyNever p.locals → Asked i p op
+
   pub record Sound (i : ℕ) (p : Point) : Type 0 where
     pub around : Around i (names p)
     pub ready : Ready p p.locals p.defers
     pub op : Op
     pub is_op : slice_get c.ops i ≡ Some op
-    pub passes : Passes i p op
+    pub passes : Asked i p op
 
   pub record Begins (f : Func) (k : ℕ) (g : FuncNote) : Type 0 where
     pub point : Point

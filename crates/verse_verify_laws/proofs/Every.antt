@@ -1,18 +1,21 @@
 -- An operation that breaks no rule passes, and each live point is sound.
 use Rattle.std.proofs.Common.{◌≡◌, ℕ, zero, suc, ◌+◌, length, List, [], ◌∷◌, Option, Some, None, Bool, true, false}
-use Rattle.std.proofs.Common.{cond, refl, sym, subst}
+use Rattle.std.proofs.Common.{cond, refl, sym, subst, true≢false, ◌⊎◌, inl, inr}
 use Rattle.std.proofs.Common.{arith}
-use Rattle.std.specs.Prelude.{nat_lt, slice_get}
+use Rattle.std.specs.Prelude.{nat_lt, slice_get, ◌&&◌, ◌||◌}
 use Rattle.std.proofs.lemmas.Option.{none-some}
 use Rattle.verse_code.specs.declared.operations.Op.{Op}
 use Rattle.verse_code.specs.declared.operations.Op.TheVariants as o
 use Rattle.verse_code.specs.declared.codes.Code.{Code}
 use Rattle.verse_verify_kept.specs.Notes.{Point, point_at}
-use Rattle.verse_verify_kept.specs.Rules.{Passes, Sound}
+use Rattle.verse_sorts.specs.Sorts as s
+use Rattle.verse_sorts.specs.Sorts.{Sort}
+use Rattle.verse_verify_kept.specs.Rules.{Passes, Asked, asked, no_operand, no_local, AnyNever, first_never, later_never, Sound}
 use Rattle.verse_verify_faults.specs.Spots.{Spot, Table, spot_at, room, above, even, cut}
 use Rattle.verse_verify_faults.specs.Stepping.{Stepped, breaks, leads, step}
 use Rattle.verse_verify_faults.specs.Faults.{by_step, fault_here, fault_at, first_fault, or_later, pops, begins_at}
-use Rattle.verse_verify_faults.specs.Faults.{tries_of, all_around, ready}
+use Rattle.verse_verify_faults.specs.Faults.{tries_of, all_around, ready, lacks_values, stands, fault_of}
+use Rattle.verse_verify_faults.specs.Fitting.{is_never, any_never}
 use Rattle.verse_verify_faults.proofs.Leading.{notes}
 use Rattle.verse_verify_laws.proofs.Steps.{Fine, Led, led}
 use Rattle.verse_verify_laws.proofs.Holding.{Spotted, spotted, all_ready, around_here}
@@ -31,6 +34,41 @@ cond_later false k x e = e
 cond_first : (b : Bool) (k : ℕ) (x : Option ℕ) → cond b x (Some k) ≡ None → (b ≡ true) × (x ≡ None)
 cond_first true k x e = (refl, e)
 cond_first false k x e = elim (none-some _ (sym e)) [ ]
+
+both_true : (a b : Bool) → (a && b) ≡ true → (a ≡ true) × (b ≡ true)
+both_true true b e = (refl, e)
+both_true false b e = absurd (true≢false (sym e))
+
+either_true : (a b : Bool) → (a || b) ≡ true → (a ≡ true) ⊎ (b ≡ true)
+either_true true b e = inl refl
+either_true false b e = inr e
+
+never_is : (a : Sort) → is_never a ≡ true → a ≡ s.never
+never_is s.never e = refl
+never_is s.none e = absurd (true≢false (sym e))
+never_is s.any e = absurd (true≢false (sym e))
+never_is s.unit e = absurd (true≢false (sym e))
+never_is s.nil e = absurd (true≢false (sym e))
+never_is s.int e = absurd (true≢false (sym e))
+never_is s.logic e = absurd (true≢false (sym e))
+never_is s.char e = absurd (true≢false (sym e))
+never_is s.span e = absurd (true≢false (sym e))
+never_is (s.enum a) e = absurd (true≢false (sym e))
+never_is (s.obj a) e = absurd (true≢false (sym e))
+never_is (s.var a) e = absurd (true≢false (sym e))
+never_is (s.event a) e = absurd (true≢false (sym e))
+never_is (s.task a) e = absurd (true≢false (sym e))
+never_is (s.opt a) e = absurd (true≢false (sym e))
+never_is (s.list a) e = absurd (true≢false (sym e))
+never_is (s.tuple a) e = absurd (true≢false (sym e))
+never_is (s.map a b) e = absurd (true≢false (sym e))
+
+never_among : (xs : List Sort) → any_never xs ≡ true → AnyNever xs
+never_among [] e = absurd (true≢false (sym e))
+never_among (x ∷ xs) e = elim (either_true (is_never x) (any_never xs) e) [
+  | inl h ↦ subst (λ y. AnyNever (y ∷ xs)) (sym (never_is x h)) first_never
+  | inr h ↦ later_never (never_among xs h)
+]
 
 module _ (c : Code) (t : Table) (p : Spot) (i : ℕ) (ev : even (length p.stack) p.tries ≡ true) where
   passes : (op : Op) → Fine c t p i op (step c t p i op (above p.stack p.tries)) → Passes c (notes c t) i (cut p) op
@@ -151,19 +189,35 @@ module _ (c : Code) (t : Table) where
       Sound c (notes c t) i q
   sound i q op live is_op e = with_spot (spotted c t i q live)
     where
+      -- with values for all operands and locals, and where one has none
+      by_values : (p : Spot) (ev : even (length p.stack) p.tries ≡ true) (b : Bool) → lacks_values p ≡ b →
+          cond b (cond (stands c t i p) None (Some 8)) (fault_of c t i p op) ≡ None →
+          Lasts c t p i ev × Asked c (notes c t) i (cut p) op
+      by_values p ev true h e =
+          let s = both_true (all_around c t i (tries_of c t p)) _ (cond_first (stands c t i p) 8 None e).0 in (
+            record { around = s.0; ready = s.1 },
+            elim (either_true (any_never (above p.stack p.tries)) (any_never p.locals) h) [
+              | inl d ↦ no_operand (never_among _ d)
+              | inr d ↦ no_local (never_among _ d)
+            ],
+          )
+      by_values p ev false h e =
+          let none = cond_later (nat_lt (room p.stack p.tries) (pops c t op)) 4 (by_step c t i p op
+          (step c t p i op (above p.stack p.tries))) e in (
+            lasting c t p i ev op _ none,
+            asked (passes c t p i ev op (record { none = none })),
+          )
+
       with_spot : Spotted c t i q → Sound c (notes c t) i q
       with_spot x =
           let here = (cond_first (begins_at c t 0 c.functions t.functions i) 3 (fault_here c t i (spot_at t i) op) e).1
           in
           let at_spot = subst (λ m. fault_here c t i m op ≡ None) x.there here in
-          let none = cond_later (nat_lt (room x.spot.stack x.spot.tries) (pops c t op)) 4 (by_step c t i x.spot op
-          (step c t x.spot i op
-          (above x.spot.stack x.spot.tries))) at_spot in
-          let l = lasting c t x.spot i x.even op _ none in
+          let all = by_values x.spot x.even (lacks_values x.spot) refl at_spot in
           subst (Sound c (notes c t) i) x.is (record {
-            around = around_here c t i x.spot l.around;
-            ready = all_ready c t x.spot x.spot.locals x.spot.defers l.ready;
+            around = around_here c t i x.spot all.0.around;
+            ready = all_ready c t x.spot x.spot.locals x.spot.defers all.0.ready;
             op = op;
             is_op = is_op;
-            passes = passes c t x.spot i x.even op (record { none = none });
+            passes = all.1;
           })

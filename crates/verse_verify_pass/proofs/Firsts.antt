@@ -1,16 +1,18 @@
 -- Operations one by one, and how many operands there are.
-use Rattle.std.proofs.Common.{◌≡◌, ℕ, zero, suc, ◌+◌, ◌-◌, ◌<◌, ◌≤◌, List, [], ◌∷◌, length, take, drop, min, Bool, true, false, cond, refl}
-use Rattle.std.proofs.Common.{sym, ap, ◌∙◌, arith}
-use Rattle.std.specs.Prelude.{Option, Some, None, nat_lt, slice_get}
+use Rattle.std.proofs.Common.{◌≡◌, ℕ, zero, suc, ◌+◌, ◌-◌, ◌<◌, ◌≤◌, List, [], ◌∷◌, ◌++◌, length, reverse, take, drop, min, Bool, true, false}
+use Rattle.std.proofs.Common.{cond, refl, sym, ap, ◌∙◌, arith}
+use Rattle.std.specs.Prelude.{Option, Some, None, nat_lt, slice_get, ◌||◌}
 use Rattle.std.proofs.lemmas.Bool.{lt-ltb, le-ltb}
-use Rattle.std.proofs.lemmas.List.{length-take}
+use Rattle.std.proofs.lemmas.List.{length-take, reverse-append}
 use Rattle.std.proofs.lemmas.Option.{none-some}
 use Rattle.verse_code.specs.declared.operations.Op.{Op}
 use Rattle.verse_code.specs.declared.codes.Code.{Code}
 use Rattle.verse_sorts.specs.Sorts.{Sort}
 use Rattle.verse_verify_faults.specs.Spots.{Mark, Spot, Table, spot_at, room, above}
 use Rattle.verse_verify_faults.specs.Stepping.{step}
-use Rattle.verse_verify_faults.specs.Faults.{begins_at, by_step, fault_of, fault_here, first_fault, or_later, pops}
+use Rattle.verse_verify_faults.specs.Fitting.{is_never, any_never}
+use Rattle.verse_verify_faults.specs.Faults.{begins_at, by_step, fault_of, fault_here, first_fault, lacks_values, or_later, pops}
+use Rattle.verse_verify_notes.specs.View.{sorts_of}
 use Rattle.verse_verify_notes.specs.declared.sorts.Sort.{Sort as Kept}
 use Rattle.verse_verify_next.specs.Heres.{operands}
 use Rattle.verse_verify_next.proofs.Lists.{stack_length}
@@ -33,6 +35,44 @@ above_length st ms = length-take (room st ms) st ∙ least _ _ (room_least st ms
 
 pub room_is : (xs : List Kept) (st : List Sort) (ms : List Mark) → operands xs ≡ above st ms → length xs ≡ room st ms
 room_is xs st ms e = sym (stack_length xs) ∙ ap length e ∙ above_length st ms
+
+-- whether one has no value does not depend on the order
+any_or : (a b : Bool) → (a || b) ≡ (b || a)
+any_or true true = refl
+any_or true false = refl
+any_or false true = refl
+any_or false false = refl
+
+or_more : (a b d : Bool) → ((a || b) || d) ≡ (a || (b || d))
+or_more true b d = refl
+or_more false b d = refl
+
+any_behind : (xs ys : List Sort) → any_never (xs ++ ys) ≡ (any_never xs || any_never ys)
+any_behind [] ys = refl
+any_behind (x ∷ xs) ys =
+    ap (λ b. is_never x || b) (any_behind xs ys) ∙ sym (or_more (is_never x) (any_never xs) (any_never ys))
+
+or_false : (b : Bool) → (b || false) ≡ b
+or_false true = refl
+or_false false = refl
+
+pub any_turned : (xs : List Sort) → any_never (reverse xs) ≡ any_never xs
+any_turned [] = refl
+any_turned (x ∷ xs) =
+    ap any_never (reverse-append (x ∷ []) xs) ∙ any_behind (reverse xs) (x ∷ [])
+    ∙ ap (λ b. any_never (reverse xs) || b) (or_false (is_never x))
+    ∙ any_or (any_never (reverse xs)) (is_never x) ∙ ap (λ b. is_never x || b) (any_turned xs)
+
+-- by the operands as they are in memory, the top the last: one of them has no value, or what is asked of the locals decides
+pub lacks_operand : (p : Spot) (xs : List Kept) → operands xs ≡ above p.stack p.tries → any_never (sorts_of xs) ≡ true →
+    lacks_values p ≡ true
+lacks_operand p xs e h =
+    ap (λ k. k || any_never p.locals) (sym (ap any_never e) ∙ any_turned (sorts_of xs) ∙ h)
+
+pub lacks_local : (p : Spot) (xs : List Kept) → operands xs ≡ above p.stack p.tries → any_never (sorts_of xs) ≡ false →
+    lacks_values p ≡ any_never p.locals
+lacks_local p xs e h =
+    ap (λ k. k || any_never p.locals) (sym (ap any_never e) ∙ any_turned (sorts_of xs) ∙ h)
 
 module _ (c : Code) (t : Table) where
   -- too few operands above it, and enough

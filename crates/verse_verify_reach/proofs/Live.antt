@@ -6,11 +6,10 @@ use Rattle.verse_code.specs.declared.operations.Op.{Op}
 use Rattle.verse_code.specs.declared.operations.Op.TheVariants as o
 use Rattle.verse_code.specs.declared.codes.Code.{Code}
 use Rattle.verse_sorts.specs.Sorts.{Sort}
-use Rattle.verse_code_flow.specs.Flow.{goes_on, leads_to, Flows, flows_on, flows_to, flows_past, flows_in, Reached}
-use Rattle.verse_code_flow.specs.Flow.{FlowGoes, reached_entry, reached_by}
+use Rattle.verse_code_flow.specs.Flow.{goes_on, leads_to, Flows, flows_on, flows_to, flows_past, flows_in}
 use Rattle.verse_verify_kept.specs.Notes.{Open, Point, Notes, point_at}
 use Rattle.verse_verify_kept.specs.Rules as r
-use Rattle.verse_verify_reach.specs.Laws.{ReachedAreLive, VerifiedFlowGoes}
+use Rattle.verse_verify_reach.specs.Laws.{HasValues, Comes, comes_entry, comes_by, ReachedAreLive, VerifiedFlowGoes}
 
 some_is : {A : Type 0} {x y : A} → Some x ≡ Some y → x ≡ y
 some_is {x = x} e = ap (λ z. unwrap_or z x) e
@@ -184,34 +183,42 @@ module _ (c : Code) (n : Notes) where
       subst (λ q. slice_get c.ops q ≡ Some (o.Arm l)) same e)
 
   module _ (v : r.Verified c n) where
-    -- what is asked of the operation at a live place
-    passes : (i : ℕ) (p : Point) (op : Op) → point_at n i ≡ Some p → slice_get c.ops i ≡ Some op → r.Passes c n i p op
-    passes i p op e is =
-        let s = v.live i p e in subst (r.Passes c n i p) (some_is (sym s.is_op ∙ is)) s.passes
+    -- what is asked of the operation at a live place to which values come
+    passes : (i : ℕ) (p : Point) (op : Op) → point_at n i ≡ Some p → HasValues p → slice_get c.ops i ≡ Some op →
+        r.Passes c n i p op
+    passes i p op e has is =
+        let s = v.live i p e in subst (r.Passes c n i p) (some_is (sym s.is_op ∙ is)) (asks s.op s.passes)
+      where
+        asks : (k : Op) → r.Asked c n i p k → r.Passes c n i p k
+        asks k (r.asked q) = q
+        asks k (r.no_operand d) = absurd (has.operands d)
+        asks k (r.no_local d) = absurd (has.locals d)
 
-    flow_live : (i j : ℕ) → LiveAt i → Flows c.ops i j → LiveAt j
-    flow_live i j h (flows_on {op = op} is e) = on i h.point h.tries op is (passes i h.point op h.live is) e
-    flow_live i j h (flows_to {op = op} is e) = to i h.point h.tries op j (passes i h.point op h.live is) e
-    flow_live i j h (flows_past {kind = kind} {m = m} {place = k} is) =
-        past i h.point h.tries kind m k (passes i h.point (o.Group kind m k) h.live is)
-    flow_live i j h (flows_in {j = q} {l = l} {kind = kind} {m = m} {place = k} is lt le e) =
-        inside h.point i kind m k q l (passes i h.point (o.Group kind m k) h.live is) lt le e
+    flow_live : (i j : ℕ) (h : LiveAt i) → HasValues h.point → Flows c.ops i j → LiveAt j
+    flow_live i j h has (flows_on {op = op} is e) = on i h.point h.tries op is (passes i h.point op h.live has is) e
+    flow_live i j h has (flows_to {op = op} is e) = to i h.point h.tries op j (passes i h.point op h.live has is) e
+    flow_live i j h has (flows_past {kind = kind} {m = m} {place = k} is) =
+        past i h.point h.tries kind m k (passes i h.point (o.Group kind m k) h.live has is)
+    flow_live i j h has (flows_in {j = q} {l = l} {kind = kind} {m = m} {place = k} is lt le e) =
+        inside h.point i kind m k q l (passes i h.point (o.Group kind m k) h.live has is) lt le e
 
-    reached_live : {i : ℕ} → Reached c i → LiveAt i
-    reached_live (reached_entry k {f = f} e) =
+    reached_live : {i : ℕ} → Comes c n i → LiveAt i
+    reached_live (comes_entry k {f = f} e) =
         let g = same_there c.functions n.functions k f v.counted.1 e in
         let b = v.begins k f g.0 e g.1 in
         record { point = b.point; live = b.live; tries = none_open b.tries }
-    reached_live (reached_by {i} {j} h s) = flow_live i j (reached_live h) s
+    reached_live (comes_by {i} {j} h e has s) =
+        let there = reached_live h in
+        flow_live i j there (subst HasValues (some_is (sym e ∙ there.live)) has) s
 
     no_arm : (i l : ℕ) (p : Point) → r.Passes c n i p (o.Arm l) → ⊥
     no_arm i l p h = elim h [ ]
 
-    goes : FlowGoes c
-    goes i h l is = let a = reached_live h in no_arm i l a.point (passes i a.point (o.Arm l) a.live is)
+    goes : (i : ℕ) (p : Point) → point_at n i ≡ Some p → HasValues p → (l : ℕ) → slice_get c.ops i ≡ Some (o.Arm l) → ⊥
+    goes i p e has l is = no_arm i l p (passes i p (o.Arm l) e has is)
 
 pub reached_are_live : ReachedAreLive
 reached_are_live c n v i h = let a = reached_live c n v h in (a.point, a.live)
 
 pub verified_flow_goes : VerifiedFlowGoes
-verified_flow_goes c n v = goes c n v
+verified_flow_goes c n v i p h e has l is = goes c n v i p e has l is
