@@ -1,0 +1,13 @@
+mod OpenEnds
+mod Behind
+mod Steps
+mod Inner
+mod RuleSets
+mod Clauses
+mod Stated
+mod Listed
+mod Ifs
+mod Claused
+mod Leveled
+mod NoPatterns
+mod Arming

@@ -1,0 +1,32 @@
+-- The parts of what is applied.
+use Rattle.std.proofs.Common.{◌≡◌, List, rules, map, ap, sym, ◌∙◌}
+use Rattle.verse_tree.specs.Tree.{Tree, Trees}
+use Rattle.verse_tree.specs.View.{tree_of, trees, applied_of}
+use Rattle.verse_tree.specs.declared.exprs.Applied.{Applied, out-Applied}
+use Rattle.verse_tree.specs.declared.exprs.Expr.{Expr, the_lemmas}
+use Rattle.lower_notes.specs.Stretches.{Walk}
+use Rattle.note_stretches.specs.Noted.{Noted, walked}
+
+applied_parts : (t : Applied) → applied_of t ≡ (tree_of (out-Applied t).callee, map tree_of (out-Applied t).args)
+applied_parts t = search (rules, the_lemmas)
+
+callee_is : (t : Applied) → tree_of (out-Applied t).callee ≡ (applied_of t).0
+callee_is t = sym (ap (λ q. q.0) (applied_parts t))
+
+args_are : (t : Applied) → map tree_of (out-Applied t).args ≡ (applied_of t).1
+args_are t = sym (ap (λ q. q.1) (applied_parts t))
+
+pub callee_by : (t : Applied) (e : Expr) → e ≡ (out-Applied t).callee → tree_of e ≡ (applied_of t).0
+callee_by t e h = ap tree_of h ∙ callee_is t
+
+pub args_by : (t : Applied) (es : List Expr) → es ≡ (out-Applied t).args → trees (map tree_of es) ≡ trees (applied_of t).1
+args_by t es h = ap (λ k. trees (map tree_of k)) h ∙ ap trees (args_are t)
+
+-- what adds the states of a callee and arguments adds that of their struct
+pub applied_walked : (f : Tree → Trees → Walk) (q : Applied) (e : Expr) (es : List Expr) (x last : Noted) →
+    e ≡ (out-Applied q).callee →
+    es ≡ (out-Applied q).args → last ≡ walked (f (tree_of e) (trees (map tree_of es))) x →
+    last ≡ walked (f (applied_of q).0 (trees (applied_of q).1)) x
+applied_walked f q e es x last h k is =
+    is ∙ ap (λ a. walked (f a (trees (map tree_of es))) x) (ap tree_of h ∙ callee_is q)
+    ∙ ap (λ bs. walked (f (applied_of q).0 (trees bs)) x) (ap (map tree_of) k ∙ args_are q)

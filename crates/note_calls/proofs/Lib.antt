@@ -1,0 +1,9 @@
+mod Steps
+mod Arms
+mod Halves
+mod Indexed
+mod Unders
+mod Levels
+mod Storing
+mod Objects
+mod Seen
