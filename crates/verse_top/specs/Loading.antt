@@ -15,24 +15,20 @@ module _ (held : Holding) where
   AreLoaded [] [] = Unit {0}
   AreLoaded [] (b ∷ bs) = ⊥
   AreLoaded (f ∷ fs) [] = ⊥
-  AreLoaded (f ∷ fs) (b ∷ bs) = Loads held f most_bytes b ×
-      ((length b ≤ MOST_FILE_BYTES) × AreLoaded fs bs)
+  AreLoaded (f ∷ fs) (b ∷ bs) = Loads held f most_bytes b × ((length b ≤ MOST_FILE_BYTES) × AreLoaded fs bs)
 
-  -- the first file that is too large, by its number, where the first of these files has the number
-  -- n; those before it are loaded
+  -- the first file that is too large, by its number, where the first of these files has the number n; those before it are loaded
   abbrev pub IsTooLarge : ℕ → List (List ℕ) → ℕ → Type 0
   IsTooLarge n [] file = ⊥
   IsTooLarge n (f ∷ fs) file =
       (b : List ℕ) × (Loads held f most_bytes b ×
-      (((MOST_FILE_BYTES < length b) × (file ≡ n)) ⊎
-      ((length b ≤ MOST_FILE_BYTES) × IsTooLarge (suc n) fs file)))
+      (((MOST_FILE_BYTES < length b) × (file ≡ n)) ⊎ ((length b ≤ MOST_FILE_BYTES) × IsTooLarge (suc n) fs file)))
 
   -- the first name under which nothing is held; the files before it are loaded
   abbrev pub IsAbsent : List (List ℕ) → List ℕ → Type 0
   IsAbsent [] name = ⊥
   IsAbsent (f ∷ fs) name =
-      (Lacks held f × (name ≡ f)) ⊎ ((b : List ℕ) ×
-      (Loads held f most_bytes b × ((length b ≤ MOST_FILE_BYTES) × IsAbsent fs name)))
+      (Lacks held f × (name ≡ f)) ⊎ ((b : List ℕ) × (Loads held f most_bytes b × ((length b ≤ MOST_FILE_BYTES) × IsAbsent fs name)))
 
   -- something is held under each name
   abbrev pub AreHeld : List (List ℕ) → Type 0

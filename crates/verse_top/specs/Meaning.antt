@@ -1,6 +1,5 @@
 -- What the items of a program mean, and their code, told by the items alone.
-use Rattle.std.specs.Prelude.{◌≡◌, ℕ, List, [], Bool, true, false, cond, Option, Some, None}
-use Rattle.std.specs.Prelude.{slice_get}
+use Rattle.std.specs.Prelude.{◌≡◌, ℕ, List, [], Bool, true, false, cond, Option, Some, None, slice_get}
 use Rattle.verse_tree.specs.ItemTree.{ItemTree}
 use Rattle.verse_rules_types.specs.Types.{Ty, array, event}
 use Rattle.verse_rules_types.specs.Fitting.{is_same}
@@ -71,9 +70,7 @@ MeansSoFar is o text = Streams (stage_with is o) (mean_with is o) o.heap text
 abbrev pub code_from : List ItemTree → (files : ℕ) → Code
 code_from is files = code_of (program_from is) (differ_from is) files
 
--- with all options a code runs as items mean, and after each number of turns its machine stands in
--- the state in which they do
+-- with all options a code runs as items mean, and after each number of turns its machine stands in the state in which they do
 pub record Does (c : Code) (is : List ItemTree) : Type 0 where
   pub runs : (o : Options) → run_with c o ≡ mean_with is o
-  pub states : (o : Options) (k : ℕ) →
-      state_in (mach_after c o.inputs o.steps o.until k) ≡ state_in (stage_with is o k)
+  pub states : (o : Options) (k : ℕ) → state_in (mach_after c o.inputs o.steps o.until k) ≡ state_in (stage_with is o k)
