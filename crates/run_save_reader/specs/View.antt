@@ -20,8 +20,8 @@ known_with code numbers cells spawned = record {
 abbrev pub found_with : Code → Numbers → Cells → Spawned → Tasks → Found
 found_with code numbers cells spawned tasks = record {
   code = code;
-  kept = kept_of numbers (map cell_of cells.cells.items) (map (option_map given_of) spawned.spawned.items)
-      (map task_of tasks.tasks.items);
+  kept = kept_of numbers (map cell_of cells.cells.items)
+      (map (option_map given_of) spawned.spawned.items) (map task_of tasks.tasks.items);
   cell_lefts = cells.lefts.items;
   entry_lefts = spawned.lefts.items;
   task_lefts = tasks.lefts.items;

@@ -6,7 +6,8 @@ use Rattle.verse_code_machine.specs.Runs.{mach}
 use Rattle.verse_verify.specs.declared.faults.VerifyFault.{VerifyFault}
 use Rattle.verse_verify.specs.declared.faults.VerifyFault.TheVariants as f
 
--- an answer is that of the rules: none is broken, or this one is the first, at this place; nothing is known where memory ran out
+-- an answer is that of the rules: none is broken, or this one is the first, at this place; nothing
+-- is known where memory ran out
 abbrev pub Answers : {A : Type 0} → Result A VerifyFault → Option (ℕ × ℕ) → Type 0
 Answers (Ok x) broken = broken ≡ None
 Answers (Err f.Memory) broken = Unit {0}
