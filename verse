@@ -20,6 +20,7 @@ verse runs the proved program; where it is missing, or its sources changed, it i
   ./verse resume FILE [--until MS] [--heap]                                   goes on with a saved run
   ./verse check FILE {FILE}                                                   tells the first refusal, or = ok
   ./verse build FILE {FILE}                                                   writes the image of the program
+  ./verse note FILE {FILE}                                                    writes the notes of the program's image
   ./verse list FILE                                                           writes the listing of an image
   ./verse assemble FILE                                                       writes the image of a listing
   ./verse verify FILE FILE                                                    tests an image by the notes in the second file
@@ -94,7 +95,7 @@ fi
 explains() { [ "${VERSE_EXPLAIN-}" = 1 ] || { [ -z "${VERSE_EXPLAIN+set}" ] && [ -t 2 ]; }; }
 
 case $1 in
-  run | check | build)
+  run | check | build | note)
     if explains; then
       "$program" "$@" | "$here/scripts/explain" "$@"
       exit "${PIPESTATUS[0]}"

@@ -15,9 +15,10 @@ use Rattle.verse_top_args.specs.declared.commands.Request.TheVariants as request
 use Rattle.verse_accept.specs.Fronts.{Accepts, IsRefused, refusal}
 use Rattle.verse_accept.proofs.Answered.{one_front_end}
 use Rattle.verse_top.specs.Loading.{AreLoaded, IsTooLarge}
-use Rattle.verse_top.specs.Meaning.{code_from, default_options, mean_with}
+use Rattle.verse_top.specs.Meaning.{code_from, default_options, mean_with, notes_from}
 use Rattle.verse_top_texts.specs.Endings.{ending_status}
-use Rattle.verse_top.specs.Answers.{Answers, too_large, refused, checked, ran, built, executed, saved, resumed, listed, assembled, verified}
+use Rattle.verse_top.specs.Answers.{Answers, too_large, refused, checked, ran, built, noted, executed, saved, resumed, listed, assembled}
+use Rattle.verse_top.specs.Answers.{verified}
 use Rattle.verse_top.specs.Answers.{loaded, Alike, AnsweredOnce, ExecRunsWhatIsBuilt, IsImageOf, Loads, MeansInShort, accepted, of_one_run}
 use Rattle.verse_top.specs.Answers.{one_text, rejected}
 use Rattle.verse_top.specs.Programs.{IsForFile, IsForProgram, IsProgram}
@@ -84,6 +85,7 @@ once held c s t x y (too_large d n g p) (refused e files r h l q) = absurd (load
 once held c s t x y (too_large d n g p) (checked names files is l q) = absurd (loaded_or_large held names files 0 n l p)
 once held c s t x y (too_large d n g p) (ran names o files is l q) = absurd (loaded_or_large held names files 0 n l p)
 once held c s t x y (too_large d n g p) (built names files is bytes l q i) = absurd (loaded_or_large held names files 0 n l p)
+once held c s t x y (too_large d n g p) (noted names files is l q) = absurd (loaded_or_large held names files 0 n l p)
 once held c s t x y (too_large d n g p) (executed name o bytes u z l q) = absurd g
 once held c s t x y (too_large d n g p) (saved name o bytes u z l q) = absurd g
 once held c s t x y (too_large d n g p) (resumed name until heap bytes u z l q) = absurd g
@@ -95,6 +97,7 @@ once held c s t x y (refused e files r g l q) (too_large d n h p) = absurd (load
 once held c s t x y (checked names files is l q) (too_large d n h p) = absurd (loaded_or_large held names files 0 n l p)
 once held c s t x y (ran names o files is l q) (too_large d n h p) = absurd (loaded_or_large held names files 0 n l p)
 once held c s t x y (built names files is bytes l q i) (too_large d n h p) = absurd (loaded_or_large held names files 0 n l p)
+once held c s t x y (noted names files is l q) (too_large d n h p) = absurd (loaded_or_large held names files 0 n l p)
 once held c s t x y (executed name o bytes u z l q) (too_large d n h p) = absurd h
 once held c s t x y (saved name o bytes u z l q) (too_large d n h p) = absurd h
 once held c s t x y (resumed name until heap bytes u z l q) (too_large d n h p) = absurd h
@@ -112,6 +115,8 @@ once held c s t x y (refused d files r g l p) (ran names o others is k q) =
     let same = loaded_once held names files others l k in absurd (one_front_end.apart others is r q (subst (λ fs. IsRefused fs r) same p))
 once held c s t x y (refused d files r g l p) (built names others is bytes k q i) =
     let same = loaded_once held names files others l k in absurd (one_front_end.apart others is r q (subst (λ fs. IsRefused fs r) same p))
+once held c s t x y (refused d files r g l p) (noted names others is k q) =
+    let same = loaded_once held names files others l k in absurd (one_front_end.apart others is r q (subst (λ fs. IsRefused fs r) same p))
 once held c s t x y (refused d files r g l p) (executed name o bytes u z k q) = absurd g
 once held c s t x y (refused d files r g l p) (saved name o bytes u z k q) = absurd g
 once held c s t x y (refused d files r g l p) (resumed name until heap bytes u z k q) = absurd g
@@ -124,6 +129,8 @@ once held c s t x y (checked names others is k q) (refused d files r g l p) =
 once held c s t x y (ran names o others is k q) (refused d files r g l p) =
     let same = loaded_once held names files others l k in absurd (one_front_end.apart others is r q (subst (λ fs. IsRefused fs r) same p))
 once held c s t x y (built names others is bytes k q i) (refused d files r g l p) =
+    let same = loaded_once held names files others l k in absurd (one_front_end.apart others is r q (subst (λ fs. IsRefused fs r) same p))
+once held c s t x y (noted names others is k q) (refused d files r g l p) =
     let same = loaded_once held names files others l k in absurd (one_front_end.apart others is r q (subst (λ fs. IsRefused fs r) same p))
 once held c s t x y (executed name o bytes u z k q) (refused d files r g l p) = absurd g
 once held c s t x y (saved name o bytes u z k q) (refused d files r g l p) = absurd g
@@ -144,6 +151,10 @@ once held c s t x y (built names files is bytes l p i) (built other others js mo
     let same = loaded_once held names files others l k in
     let items = one_front_end.value others is js (subst (λ fs. Accepts fs is) same p) q in
     alone c s t x y (refl, one_built is js (length names) x y items i j)
+once held c s t x y (noted names files is l p) (noted other others js k q) =
+    let same = loaded_once held names files others l k in
+    let items = one_front_end.value others is js (subst (λ fs. Accepts fs is) same p) q in
+    alone c s t x y (refl, ap (λ (ks : List ItemTree). notes_from ks (length names)) items)
 once held c s t x y (executed name o bytes u z l p) (executed other v others w k m q) =
     let same = read_once held name bytes others l m in
     alone c s t x y (executed_once others o s t x y (subst (λ (bs : List ℕ). Executes bs o s x) same p) q)
@@ -201,6 +212,7 @@ asks_for_files (request.Save r) c a = ap files_of a.is ∙ sym a.one
 asks_for_files (request.Resume r) c a = ap files_of a.is ∙ sym a.one
 asks_for_files (request.Check files) c a = ap files_of a
 asks_for_files (request.Build files) c a = ap files_of a
+asks_for_files (request.Note files) c a = ap files_of a
 asks_for_files (request.List files) c a = ap files_of a.is ∙ sym a.one
 asks_for_files (request.Assemble files) c a = ap files_of a.is ∙ sym a.one
 asks_for_files (request.Verify files) c a = ap files_of a.is ∙ sym a.two
@@ -214,6 +226,7 @@ asks_for_one (request.Save r) c p a = (a.file, ap files_of a.is)
 asks_for_one (request.Resume r) c p a = (a.file, ap files_of a.is)
 asks_for_one (request.Check files) c p a = absurd p
 asks_for_one (request.Build files) c p a = absurd p
+asks_for_one (request.Note files) c p a = absurd p
 asks_for_one (request.List files) c p a = (a.file, ap files_of a.is)
 asks_for_one (request.Assemble files) c p a = (a.file, ap files_of a.is)
 asks_for_one (request.Verify files) c p a = absurd p
@@ -227,6 +240,7 @@ program_named (request.Save r) p n = n
 program_named (request.Resume r) p n = n
 program_named (request.Check files) p n = n
 program_named (request.Build files) p n = n
+program_named (request.Note files) p n = n
 program_named (request.List files) p n = absurd p
 program_named (request.Assemble files) p n = absurd p
 program_named (request.Verify files) p n = absurd p
@@ -239,6 +253,7 @@ asks_for_program (request.Save r) c p a = absurd p
 asks_for_program (request.Resume r) c p a = absurd p
 asks_for_program (request.Check files) c p a = subst IsProgram (sym a) tt
 asks_for_program (request.Build files) c p a = subst IsProgram (sym a) tt
+asks_for_program (request.Note files) c p a = subst IsProgram (sym a) tt
 asks_for_program (request.List files) c p a = absurd p
 asks_for_program (request.Assemble files) c p a = absurd p
 asks_for_program (request.Verify files) c p a = absurd p

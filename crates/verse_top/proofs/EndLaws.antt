@@ -20,7 +20,8 @@ use Rattle.verse_top_resume.specs.Resuming.{Resumes, course_from}
 use Rattle.verse_top_resume.specs.Resuming as resuming
 use Rattle.verse_top.specs.Loading.{AreHeld, IsMissing}
 use Rattle.verse_top.specs.Meaning.{default_options, mean_with}
-use Rattle.verse_top.specs.Answers.{Answers, too_large, refused, checked, ran, built, executed, saved, resumed, listed, assembled, verified}
+use Rattle.verse_top.specs.Answers.{Answers, too_large, refused, checked, ran, built, noted, executed, saved, resumed, listed, assembled}
+use Rattle.verse_top.specs.Answers.{verified}
 use Rattle.verse_top.specs.Answers.{loaded, Loads, accepted, rejected}
 use Rattle.verse_top.specs.Ends.{Answered, EachEndsSo, Ends, EndsSo, Tells, Unread, answer, cut_short, no_command, no_memory, not_read}
 use Rattle.verse_top.specs.Ends.{whole}
@@ -79,6 +80,7 @@ known (refused c files r g l p) = one_known
 known (checked names files is l p) = zero_known
 known (ran names o files is l p) = known_ending (mean_with is o).ending
 known (built names files is bytes l p i) = zero_known
+known (noted names files is l p) = zero_known
 known (executed name o bytes s t l p) = known_executes p
 known (saved name o bytes s t l p) = known_saves p
 known (resumed name until heap bytes s t l p) = known_resumes p
@@ -104,6 +106,7 @@ answers_or_missing {held = held} (refused c files r g l p) name a =
 answers_or_missing {held = held} (checked names files is l p) name a = absent_or_loaded held names files name l a
 answers_or_missing {held = held} (ran names o files is l p) name a = absent_or_loaded held names files name l a
 answers_or_missing {held = held} (built names files is bytes l p i) name a = absent_or_loaded held names files name l a
+answers_or_missing {held = held} (noted names files is l p) name a = absent_or_loaded held names files name l a
 answers_or_missing {held = held} (executed file o bytes s t l p) name a = absent_or_read held file bytes name l a
 answers_or_missing {held = held} (saved file o bytes s t l p) name a = absent_or_read held file bytes name l a
 answers_or_missing {held = held} (resumed file until heap bytes s t l p) name a = absent_or_read held file bytes name l a

@@ -4,7 +4,8 @@ use Rattle.std.proofs.Common.{take, subst, arith}
 use Rattle.std.proofs.lemmas.Option.{same_Some}
 use Rattle.verse_base.specs.declared.limits.TheConstants.{MOST_FILE_BYTES}
 use Rattle.verse_outside.specs.Held.{Holding, Holds, Lacks, Loads}
-use Rattle.verse_top_args.specs.Words.{AreFiles, Command, run, exec, save, resume, check, build, list, assemble, verify, load, files_of}
+use Rattle.verse_top_args.specs.Words.{AreFiles, Command, run, exec, save, resume, check, build, note, list, assemble, verify, load}
+use Rattle.verse_top_args.specs.Words.{files_of}
 use Rattle.verse_top.specs.Loading.{AreHeld, AreLoaded, IsAbsent, IsMissing, IsRead, IsTooLarge, IsUnheld, most_bytes}
 use Rattle.verse_top.specs.Programs.{IsProgram}
 
@@ -118,6 +119,7 @@ missing_of_program held (save file o) name p a = absurd p
 missing_of_program held (resume file until heap) name p a = absurd p
 missing_of_program held (check files) name p a = a
 missing_of_program held (build files) name p a = a
+missing_of_program held (note files) name p a = a
 missing_of_program held (list file) name p a = absurd p
 missing_of_program held (assemble file) name p a = absurd p
 missing_of_program held (verify image notes) name p a = absurd p
@@ -131,6 +133,7 @@ absent_of_program held (save file o) name p m = absurd p
 absent_of_program held (resume file until heap) name p m = absurd p
 absent_of_program held (check files) name p m = m
 absent_of_program held (build files) name p m = m
+absent_of_program held (note files) name p m = m
 absent_of_program held (list file) name p m = absurd p
 absent_of_program held (assemble file) name p m = absurd p
 absent_of_program held (verify image notes) name p m = absurd p
@@ -149,6 +152,7 @@ missing_of_one held (save f o) file name e a = absent_as held (f ∷ []) (file �
 missing_of_one held (resume f until heap) file name e a = absent_as held (f ∷ []) (file ∷ []) name e a
 missing_of_one held (check files) file name e a = absent_as held files (file ∷ []) name e a
 missing_of_one held (build files) file name e a = absent_as held files (file ∷ []) name e a
+missing_of_one held (note files) file name e a = absent_as held files (file ∷ []) name e a
 missing_of_one held (list f) file name e a = absent_as held (f ∷ []) (file ∷ []) name e a
 missing_of_one held (assemble f) file name e a = absent_as held (f ∷ []) (file ∷ []) name e a
 missing_of_one held (verify image notes) file name e a = absurd (cc)
@@ -166,6 +170,7 @@ held_or_missing held (save file o) name h m = held_or_absent held (file ∷ []) 
 held_or_missing held (resume file until heap) name h m = held_or_absent held (file ∷ []) name h m
 held_or_missing held (check files) name h m = held_or_absent held files name h m
 held_or_missing held (build files) name h m = held_or_absent held files name h m
+held_or_missing held (note files) name h m = held_or_absent held files name h m
 held_or_missing held (list file) name h m = held_or_absent held (file ∷ []) name h m
 held_or_missing held (assemble file) name h m = held_or_absent held (file ∷ []) name h m
 held_or_missing held (verify image notes) name h (inl lacks) = hold_or_lack held image h.0.0 h.0.1 lacks.0

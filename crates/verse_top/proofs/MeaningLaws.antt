@@ -25,10 +25,17 @@ use Rattle.lower_bounds.specs.Laws.{CodeIsValid}
 use Rattle.lower_simulation.specs.Seen.{Seen, between, ended, broke_off, seen_of}
 use Rattle.lower_simulation_runs.specs.Programs.{CanBeFollowed}
 use Rattle.lower_simulation_runs.specs.Laws.{CodeMeansTheSame, TurnsAreTheSame}
+use Rattle.verse_accept_fine.specs.Sorted.{sorted}
+use Rattle.verse_verify_bytes.specs.Bytes.{bytes_of}
+use Rattle.verse_verify_faults.specs.Spots.{Table}
+use Rattle.lower_notes.specs.Programs.{notes_of}
+use Rattle.note_sorts.specs.Tabled.{found_of}
+use Rattle.note_found.specs.Laws.{Agree, TablesAgree}
 use Rattle.verse_top_texts.specs.Streams.{state_in}
 use Rattle.verse_accept_laws.specs.Laws.{AcceptedCanBeFollowed}
 use Rattle.verse_top.specs.Programs.{IsAccepted}
-use Rattle.verse_top.specs.Meaning.{Does, are_different, code_from, differ_from, is_array, is_event, of_node, program_from, stage_with}
+use Rattle.verse_top.specs.Meaning.{Does, are_different, code_from, differ_from, is_array, is_event, notes_from, of_node, program_from}
+use Rattle.verse_top.specs.Meaning.{stage_with}
 
 -- ---- types of nodes
 
@@ -134,6 +141,22 @@ module _ (made : Made) (named : made.names ≡ completed (map item_of made.tree.
   pub same_code : (files : ℕ) → code_of (program_of made) (differ_of made) files ≡ code_from (map item_of made.tree.items) files
   same_code files = λ i. code_of (same_program i) (same_differ i) files
 
+  same_found : Agree (found_of made) (sorted (map item_of made.tree.items)) → found_of made ≡ sorted (map item_of made.tree.items)
+  same_found agree = λ i. record {
+    sort = λ n. agree.sort n i;
+    key = λ n. agree.key n i;
+    is_var = λ n. agree.is_var n i;
+    up = λ n. agree.up n i;
+    slots = λ n. agree.slots n i;
+    signature = λ n. agree.signature n i;
+  }
+
+  pub same_notes : Agree (found_of made) (sorted (map item_of made.tree.items)) → (c : Code) →
+      notes_of (program_of made) (found_of made) (differ_of made) c
+      ≡ notes_of (program_from (map item_of made.tree.items)) (sorted (map item_of made.tree.items))
+      (differ_from (map item_of made.tree.items)) c
+  same_notes agree c = λ i. notes_of (same_program i) (same_found agree i) (same_differ i) c
+
 -- ---- runs
 
 abbrev state_seen : Seen → State
@@ -182,3 +205,14 @@ module _ (files : List (List ℕ)) (made : Made) (accepted : IsAccepted files ma
       Does c (map item_of made.tree.items)
   lowered_does c e means turns = subst (λ (k : Code). Does k (map item_of made.tree.items)) (sym e)
       (does_mean (map item_of made.tree.items) made.tree.files can_follow means turns)
+
+  pub noted_is : TablesAgree → (p : Made) (c : Code) (t : Table) (bytes : List ℕ) → p ≡ made →
+      c ≡ code_from (map item_of made.tree.items) made.tree.files →
+      t ≡ notes_of (program_of p) (found_of p) (differ_of p) c → bytes ≡ bytes_of c t →
+      bytes ≡ notes_from (map item_of made.tree.items) made.tree.files
+  noted_is agree p c t bytes e f g h =
+      let is = map item_of made.tree.items in
+      let table : t ≡ notes_of (program_from is) (sorted is) (differ_from is) c =
+      g ∙ ap (λ (q : Made). notes_of (program_of q) (found_of q) (differ_of q) c) e
+      ∙ same_notes made accepted.named accepted.typed (agree made accepted.named accepted.typed) c in
+      h ∙ ap (bytes_of c) table ∙ ap (λ k. bytes_of k (notes_of (program_from is) (sorted is) (differ_from is) k)) f

@@ -1,5 +1,6 @@
 -- What is done with an accepted program is the answer to its command.
-use Rattle.std.proofs.Common.{◌≡◌, ℕ, List, [], ◌∷◌, ◌++◌, Bool, Option, Result, Ok, Err, IfOk, map, string_bytes, length, sym, ap, subst, ◌∙◌}
+use Rattle.std.proofs.Common.{◌≡◌, ℕ, List, [], ◌∷◌, ◌++◌, Bool, Option, Result, Ok, Err, IfOk, map, string_bytes, length, sym, ap, subst}
+use Rattle.std.proofs.Common.{◌∙◌}
 use Rattle.verse_tree.specs.ItemTree.{ItemTree}
 use Rattle.verse_tree.specs.ItemView.{item_of}
 use Rattle.verse_tree.specs.declared.programs.Program.{Program as Made}
@@ -15,7 +16,7 @@ use Rattle.verse_meaning_state.specs.Effects.{printed}
 use Rattle.verse_meaning_state.specs.Texts.{ending_line, run_text}
 use Rattle.verse_code.specs.declared.codes.Code.{Code}
 use Rattle.verse_code_machine.specs.Runs.{mach_after}
-use Rattle.verse_top_args.specs.Words.{Command, Options, build, check, files_of}
+use Rattle.verse_top_args.specs.Words.{Command, Options, build, check, files_of, note}
 use Rattle.verse_top_args.specs.Requests.{AsksForRun, options_with}
 use Rattle.verse_top_args.specs.declared.commands.Running.{Running}
 use Rattle.verse_top_texts.specs.Endings.{ending_status}
@@ -30,7 +31,8 @@ use Rattle.verse_top.specs.Loading.{AreLoaded}
 use Rattle.verse_top.specs.Meaning.{Does, MeansSoFar, code_from, default_options, mean_with, stage_with}
 use Rattle.verse_top.specs.Programs.{IsAccepted}
 use Rattle.verse_top_texts.specs.Verdicts.{ok_line}
-use Rattle.verse_top.specs.Answers.{Answers, Begins, IsAnswer, IsBuilt, Loads, Means, MeansInShort, built, checked, ran, running}
+use Rattle.verse_top.specs.Answers.{Answers, AreNoted, Begins, IsAnswer, IsBuilt, Loads, Means, MeansInShort, built, checked, noted, ran}
+use Rattle.verse_top.specs.Answers.{running}
 use Rattle.verse_top.specs.Answers.{rejected, accepted as accepted_load}
 use Rattle.verse_top.specs.Answers as a
 use Rattle.verse_top.specs.Fronted.{Judged}
@@ -116,6 +118,17 @@ module _ (before now : ℕ) (old new : Option (List ℕ)) (r : Result ℕ Stop) 
         leaves_as (IsBuilt is p.tree.files) (Answers held c) IsNothing (Begins held c) before now old new r
         (λ s t m. subst (λ (d : Command). Answers held d s t) (sym e) (subst (λ (k : ℕ). Answers held (build names) k t) (sym m.0)
         (built names files is t there accepted.accepts (subst (λ (k : ℕ). a.IsImageOf is k t) (named names there) m.1))))
+        (λ t m. subst (Begins held c) (sym m) (a.nothing c)) l
+
+    pub leaves_noted : (c : Command) (names : List (List ℕ)) → c ≡ note names → AreLoaded held (files_of c) files →
+        Leaves (AreNoted (map item_of p.tree.items) p.tree.files) IsNothing before now old new r →
+        Leaves (Answers held c) (Begins held c) before now old new r
+    leaves_noted c names e loaded l =
+        let is = map item_of p.tree.items in
+        let there : AreLoaded held names files = subst (λ (d : Command). AreLoaded held (files_of d) files) e loaded in
+        leaves_as (AreNoted is p.tree.files) (Answers held c) IsNothing (Begins held c) before now old new r
+        (λ s t m. subst (λ (d : Command). Answers held d s t) (sym e) (rw (m.0, m.1, named names there)
+        (noted names files is there accepted.accepts)))
         (λ t m. subst (Begins held c) (sym m) (a.nothing c)) l
 
     pub leaves_checked : (c : Command) (names : List (List ℕ)) (status : ℕ) (text : List ℕ) → c ≡ check names →

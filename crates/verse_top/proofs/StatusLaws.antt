@@ -1,5 +1,6 @@
 -- No run of an accepted program ends stuck, so no command that runs one has the status of that.
-use Rattle.std.proofs.Common.{◌≡◌, ◌≢◌, ℕ, zero, suc, Bool, false, List, [], ◌∷◌, Some, Option, slice_get, ◌⊎◌, inl, inr, refl, sym, subst, ◌∙◌}
+use Rattle.std.proofs.Common.{◌≡◌, ◌≢◌, ℕ, zero, suc, Bool, false, List, [], ◌∷◌, Some, Option, slice_get, ◌⊎◌, inl, inr, refl, sym, subst}
+use Rattle.std.proofs.Common.{◌∙◌}
 use Rattle.verse_tree.specs.ItemTree.{ItemTree}
 use Rattle.verse_rules_types.specs.Types.{Ty}
 use Rattle.verse_rules_types.specs.Types as ty

@@ -23,15 +23,16 @@ pub data Tells (words : List (List ℕ)) (held : Holding) (before now : ℕ) : �
       Tells words held before now 6 (read_line name)
 
 -- the text was written whole; or the sink, whose count of faults rose, failed and took a prefix
-pub data Ends (words : List (List ℕ)) (held : Holding) (files_before files_now before now : ℕ) (old new : Option (List ℕ)) :
-    ℕ → Type 0 where
-  whole : (status : ℕ) (text : List ℕ) → Tells words held files_before files_now status text → new ≡ with_more old text →
-      Ends words held files_before files_now before now old new status
+pub data Ends (words : List (List ℕ)) (held : Holding) (files_before files_now before now : ℕ)
+    (old new : Option (List ℕ)) : ℕ → Type 0 where
+  whole : (status : ℕ) (text : List ℕ) → Tells words held files_before files_now status text →
+      new ≡ with_more old text → Ends words held files_before files_now before now old new status
   cut_short : (status : ℕ) (text : List ℕ) → Tells words held files_before files_now status text → Rose before now →
       TookPrefix old text new → Ends words held files_before files_now before now old new 7
 
 -- What follows for the command that the words are.
-module _ (words : List (List ℕ)) (held : Holding) (files_before files_now before now : ℕ) (old new : Option (List ℕ)) where
+module _ (words : List (List ℕ)) (held : Holding) (files_before files_now before now : ℕ)
+    (old new : Option (List ℕ)) where
   -- its answer was written whole
   pub record Answered (status : ℕ) : Type 0 where
     pub command : Command
@@ -50,21 +51,25 @@ module _ (words : List (List ℕ)) (held : Holding) (files_before files_now befo
     pub absent : (c : Command) (name : List ℕ) → Says words c → IsMissing held c name →
         (status ≡ 6) ⊎ (status ≡ 5) ⊎ (status ≡ 7)
     -- with no fault, files that are held have their whole answer, or memory ran out
-    pub complete : (c : Command) → Says words c → AreHeld held (files_of c) → (Rose files_before files_now → ⊥) →
-        (Rose before now → ⊥) → (status ≡ 5) ⊎ Answered status
+    pub complete : (c : Command) → Says words c → AreHeld held (files_of c) →
+        (Rose files_before files_now → ⊥) → (Rose before now → ⊥) → (status ≡ 5) ⊎ Answered status
 
 -- of each way to end
 abbrev pub EachEndsSo : Type 0
-EachEndsSo = (words : List (List ℕ)) (held : Holding) (files_before files_now before now : ℕ) (old new : Option (List ℕ)) (status : ℕ) →
+EachEndsSo = (words : List (List ℕ)) (held : Holding) (files_before files_now before now : ℕ)
+    (old new : Option (List ℕ)) (status : ℕ) →
     Ends words held files_before files_now before now old new status →
     EndsSo words held files_before files_now before now old new status
 
 -- what is answered to a command: its answer, or that a file was not read
 abbrev pub Replies : Command → Holding → (before now status : ℕ) → List ℕ → Type 0
 Replies c held before now status text =
-    Answers held c status text ⊎ ((status ≡ 6) × ((name : List ℕ) × ((text ≡ read_line name) × Unread c held before now name)))
+    Answers held c status text ⊎ ((status ≡ 6) ×
+    ((name : List ℕ) × ((text ≡ read_line name) × Unread c held before now name)))
 
--- the text was written whole and the status is the answer, or the sink failed and took a prefix of it
+-- the text was written whole and the status is the answer, or the sink failed and took a prefix of
+-- it
 abbrev pub Finishes : ℕ → List ℕ → ℕ → ℕ → ℕ → Option (List ℕ) → Option (List ℕ) → Type 0
 Finishes status text result before now old new =
-    ((result ≡ status) × (new ≡ with_more old text)) ⊎ ((result ≡ 7) × (Rose before now × TookPrefix old text new))
+    ((result ≡ status) × (new ≡ with_more old text)) ⊎
+    ((result ≡ 7) × (Rose before now × TookPrefix old text new))

@@ -9,4 +9,5 @@ use Rattle.verse_top.specs.declared.loading.Loading.TheVariants as l
 abbrev pub Comes : Holding → (before now : ℕ) → List (List ℕ) → Loading → Type 0
 Comes held before now names (l.All files) = AreLoaded held names (map (λ f. f.items) files.items)
 Comes held before now names (l.TooLarge file) = IsTooLarge held 0 names file
-Comes held before now names (l.Failed file) = (file < length names) × (Rose before now ⊎ IsAbsent held names (slice_index_or names file []))
+Comes held before now names (l.Failed file) = (file < length names) ×
+    (Rose before now ⊎ IsAbsent held names (slice_index_or names file []))

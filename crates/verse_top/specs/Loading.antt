@@ -2,7 +2,7 @@
 use Rattle.std.specs.Prelude.{◌≡◌, ◌⊎◌, ℕ, suc, ◌+◌, ◌<◌, ◌≤◌, List, [], ◌∷◌, length}
 use Rattle.verse_base.specs.declared.limits.TheConstants.{MOST_FILE_BYTES}
 use Rattle.verse_outside.specs.Held.{Holding, Holds, Lacks, Loads}
-use Rattle.verse_top_args.specs.Words.{Command, exec, run, save, resume, check, build}
+use Rattle.verse_top_args.specs.Words.{Command, exec, run, save, resume, check, build, note}
 use Rattle.verse_top_args.specs.Words.{list, assemble, verify, load}
 
 -- one byte more than a file may have shows that there are more
@@ -15,20 +15,24 @@ module _ (held : Holding) where
   AreLoaded [] [] = Unit {0}
   AreLoaded [] (b ∷ bs) = ⊥
   AreLoaded (f ∷ fs) [] = ⊥
-  AreLoaded (f ∷ fs) (b ∷ bs) = Loads held f most_bytes b × ((length b ≤ MOST_FILE_BYTES) × AreLoaded fs bs)
+  AreLoaded (f ∷ fs) (b ∷ bs) = Loads held f most_bytes b ×
+      ((length b ≤ MOST_FILE_BYTES) × AreLoaded fs bs)
 
-  -- the first file that is too large, by its number, where the first of these files has the number n; those before it are loaded
+  -- the first file that is too large, by its number, where the first of these files has the number
+  -- n; those before it are loaded
   abbrev pub IsTooLarge : ℕ → List (List ℕ) → ℕ → Type 0
   IsTooLarge n [] file = ⊥
   IsTooLarge n (f ∷ fs) file =
       (b : List ℕ) × (Loads held f most_bytes b ×
-      (((MOST_FILE_BYTES < length b) × (file ≡ n)) ⊎ ((length b ≤ MOST_FILE_BYTES) × IsTooLarge (suc n) fs file)))
+      (((MOST_FILE_BYTES < length b) × (file ≡ n)) ⊎
+      ((length b ≤ MOST_FILE_BYTES) × IsTooLarge (suc n) fs file)))
 
   -- the first name under which nothing is held; the files before it are loaded
   abbrev pub IsAbsent : List (List ℕ) → List ℕ → Type 0
   IsAbsent [] name = ⊥
   IsAbsent (f ∷ fs) name =
-      (Lacks held f × (name ≡ f)) ⊎ ((b : List ℕ) × (Loads held f most_bytes b × ((length b ≤ MOST_FILE_BYTES) × IsAbsent fs name)))
+      (Lacks held f × (name ≡ f)) ⊎ ((b : List ℕ) ×
+      (Loads held f most_bytes b × ((length b ≤ MOST_FILE_BYTES) × IsAbsent fs name)))
 
   -- something is held under each name
   abbrev pub AreHeld : List (List ℕ) → Type 0
@@ -53,6 +57,7 @@ IsMissing held (save file o) name = IsAbsent held (file ∷ []) name
 IsMissing held (resume file until heap) name = IsAbsent held (file ∷ []) name
 IsMissing held (check files) name = IsAbsent held files name
 IsMissing held (build files) name = IsAbsent held files name
+IsMissing held (note files) name = IsAbsent held files name
 IsMissing held (list file) name = IsAbsent held (file ∷ []) name
 IsMissing held (assemble file) name = IsAbsent held (file ∷ []) name
 IsMissing held (verify image notes) name = IsUnheld held image notes name

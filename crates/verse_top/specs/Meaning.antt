@@ -1,5 +1,6 @@
 -- What the items of a program mean, and their code, told by the items alone.
-use Rattle.std.specs.Prelude.{◌≡◌, ℕ, List, [], Bool, true, false, cond, Option, Some, None, slice_get}
+use Rattle.std.specs.Prelude.{◌≡◌, ℕ, List, [], Bool, true, false, cond, Option, Some, None}
+use Rattle.std.specs.Prelude.{slice_get}
 use Rattle.verse_tree.specs.ItemTree.{ItemTree}
 use Rattle.verse_rules_types.specs.Types.{Ty, array, event}
 use Rattle.verse_rules_types.specs.Fitting.{is_same}
@@ -10,6 +11,9 @@ use Rattle.verse_meaning.specs.Programs.{Program}
 use Rattle.verse_meaning.specs.Runs.{Forest, after, mean}
 use Rattle.verse_code.specs.declared.codes.Code.{Code}
 use Rattle.lower_code.specs.Programs.{code_of}
+use Rattle.lower_notes.specs.Programs.{notes_of}
+use Rattle.verse_accept_fine.specs.Sorted.{sorted}
+use Rattle.verse_verify_bytes.specs.Bytes.{bytes_of}
 use Rattle.verse_top_args.specs.Words.{Options}
 use Rattle.verse_top_args.specs.declared.commands.TheConstants.{DEFAULT_STEPS, DEFAULT_UNTIL}
 use Rattle.verse_code_machine.specs.Runs.{mach_after}
@@ -70,7 +74,14 @@ MeansSoFar is o text = Streams (stage_with is o) (mean_with is o) o.heap text
 abbrev pub code_from : List ItemTree → (files : ℕ) → Code
 code_from is files = code_of (program_from is) (differ_from is) files
 
--- with all options a code runs as items mean, and after each number of turns its machine stands in the state in which they do
+-- and of that code, as bytes, its notes
+abbrev pub notes_from : List ItemTree → (files : ℕ) → List ℕ
+notes_from is files = bytes_of (code_from is files)
+    (notes_of (program_from is) (sorted is) (differ_from is) (code_from is files))
+
+-- with all options a code runs as items mean, and after each number of turns its machine stands in
+-- the state in which they do
 pub record Does (c : Code) (is : List ItemTree) : Type 0 where
   pub runs : (o : Options) → run_with c o ≡ mean_with is o
-  pub states : (o : Options) (k : ℕ) → state_in (mach_after c o.inputs o.steps o.until k) ≡ state_in (stage_with is o k)
+  pub states : (o : Options) (k : ℕ) →
+      state_in (mach_after c o.inputs o.steps o.until k) ≡ state_in (stage_with is o k)

@@ -6,7 +6,7 @@ use Rattle.verse_tree.specs.declared.programs.Program.{Program as Made}
 use Rattle.verse_rules_types.specs.Types.{ty_of}
 use Rattle.verse_rules.specs.Sound.{completed, types_of}
 use Rattle.verse_accept.specs.Fronts.{Accepts}
-use Rattle.verse_top_args.specs.Words.{Command, run, exec, save, resume, check, build}
+use Rattle.verse_top_args.specs.Words.{Command, run, exec, save, resume, check, build, note}
 use Rattle.verse_top_args.specs.Words.{list, assemble, verify, load}
 use Rattle.verse_top_args.specs.declared.commands.Request.{Request}
 use Rattle.verse_top_args.specs.declared.commands.Request.TheVariants as request
@@ -18,6 +18,7 @@ IsProgram (save file o) = ⊥
 IsProgram (resume file until heap) = ⊥
 IsProgram (check files) = Unit {0}
 IsProgram (build files) = Unit {0}
+IsProgram (note files) = Unit {0}
 IsProgram (list file) = ⊥
 IsProgram (assemble file) = ⊥
 IsProgram (verify image notes) = ⊥
@@ -30,6 +31,7 @@ IsForProgram (request.Save r) = ⊥
 IsForProgram (request.Resume r) = ⊥
 IsForProgram (request.Check files) = Unit {0}
 IsForProgram (request.Build files) = Unit {0}
+IsForProgram (request.Note files) = Unit {0}
 IsForProgram (request.List files) = ⊥
 IsForProgram (request.Assemble files) = ⊥
 IsForProgram (request.Verify files) = ⊥
@@ -43,6 +45,7 @@ IsForFile (request.Save r) = Unit {0}
 IsForFile (request.Resume r) = Unit {0}
 IsForFile (request.Check files) = ⊥
 IsForFile (request.Build files) = ⊥
+IsForFile (request.Note files) = ⊥
 IsForFile (request.List files) = Unit {0}
 IsForFile (request.Assemble files) = Unit {0}
 IsForFile (request.Verify files) = ⊥

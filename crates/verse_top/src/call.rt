@@ -87,9 +87,8 @@ fn answer<F: Files, S: Sink>(
         Request::List(_) | Request::Assemble(_) => over_file(alloc, request, files, out),
         Request::Verify(names) => over_pair(alloc, names, files, out),
         Request::Load(functions) => load(alloc, functions, out),
-        Request::Run(_) | Request::Check(_) | Request::Build(_) => {
-            over_program(alloc, request, files, out)
-        }
+        Request::Run(_) | Request::Check(_) => over_program(alloc, request, files, out),
+        Request::Build(_) | Request::Note(_) => over_program(alloc, request, files, out),
     }
 }
 

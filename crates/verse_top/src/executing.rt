@@ -84,7 +84,7 @@ fn over_bytes<S: Sink>(
             write_answer(answer, out)
         }
         Request::Run(_) | Request::Check(_) | Request::Build(_) => unreachable!(),
-        Request::Verify(_) | Request::Load(_) => unreachable!(),
+        Request::Note(_) | Request::Verify(_) | Request::Load(_) => unreachable!(),
     }
 }
 

@@ -8,7 +8,7 @@ ghost use Rattle.verse_top_args.specs.Words.{Command, Inputs, files_of};
 ghost use Rattle.verse_top_args.specs.Requests.{AsksFor, IsWithin, options_with};
 ghost use Rattle.verse_top_exec.specs.Executions.{IsNothing};
 ghost use Rattle.verse_top_exec.specs.Leaving.{Leaves};
-ghost use Rattle.verse_top.specs.Answers.{Answers, Begins, IsBuilt, Means};
+ghost use Rattle.verse_top.specs.Answers.{Answers, AreNoted, Begins, IsBuilt, Means};
 ghost use Rattle.verse_top.specs.Loading.{AreLoaded};
 ghost use Rattle.verse_top.specs.Meaning.{Does, MeansSoFar, code_from};
 ghost use Rattle.verse_top.specs.Programs.{IsAccepted, IsForProgram};
@@ -17,6 +17,7 @@ use crate::answers::checked;
 use crate::writing::write_answer;
 use lower_bounds::code_is_valid;
 use lower_simulation_runs::{code_means_the_same, turns_are_the_same};
+use note_found::tables_agree;
 use std::alloc::Global;
 use verse_accept_laws::accepted_can_be_followed;
 use verse_base::refusals::Memory;
@@ -30,6 +31,7 @@ use verse_top_exec::executing::run_code;
 use verse_top_exec::stops::Stop;
 use verse_top_texts::answers::Answer;
 use verse_tree_items::programs::TypedProgram;
+use verse_verify_writer::writing::write;
 
 /// Does what the request asks for of the program in its files.
 pub(crate) fn proceed<S: Sink>(
@@ -57,6 +59,7 @@ pub(crate) fn proceed<S: Sink>(
             write_answer(answer, out)
         }
         Request::Build(_) => build(alloc, program, out),
+        Request::Note(_) => note(alloc, program, out),
     }
 }
 
@@ -110,6 +113,30 @@ fn built(alloc: Global, program: TypedProgram) -> Result<Answer, Memory>
     Ok(Answer { status: 0, text })
 }
 
+/// Writes the notes of the program's code.
+fn note<S: Sink>(alloc: Global, program: TypedProgram, out: &mut S) -> Result<u8, Stop>
+    requires { (files : List (List ℕ)) × IsAccepted files program }
+    ensures leaves { Leaves (AreNoted (map item_of program.tree.items) program.tree.files) IsNothing
+        (S.faults out.old) (S.faults out.new) (S.taken out.old) (S.taken out.new) result }
+    ensures later { S.faults out.old ≤ S.faults out.new }
+{
+    let answer = noted(alloc, &program)?;
+    write_answer(answer, out)
+}
+
+/// The notes of the program's code.
+fn noted(alloc: Global, program: &TypedProgram) -> Result<Answer, Memory>
+    requires { (files : List (List ℕ)) × IsAccepted files program.now }
+    ensures { IfOk result (λ a. AreNoted (map item_of program.now.tree.items)
+        program.now.tree.files a.status a.text.items) }
+{
+    tables_agree();
+    let code = code_of(alloc, program)?;
+    let notes = verse_note::note(alloc, program.get(), &code)?;
+    let text = write(alloc, &code, &notes)?;
+    Ok(Answer { status: 0, text })
+}
+
 /// The code of the program, which does what the program means. The tree is let go.
 pub(crate) fn lowered(alloc: Global, program: TypedProgram) -> Result<Code, Memory>
     requires { (files : List (List ℕ)) × IsAccepted files program }
@@ -117,6 +144,17 @@ pub(crate) fn lowered(alloc: Global, program: TypedProgram) -> Result<Code, Memo
         program.tree.files) }
     ensures valid { IfOk result (λ c. Valid c) }
     ensures does { IfOk result (λ c. Does c (map item_of program.tree.items)) }
+{
+    code_of(alloc, &program)
+}
+
+/// The code of the program, which does what the program means.
+fn code_of(alloc: Global, program: &TypedProgram) -> Result<Code, Memory>
+    requires { (files : List (List ℕ)) × IsAccepted files program.now }
+    ensures code { IfOk result (λ c. c ≡ code_from (map item_of program.now.tree.items)
+        program.now.tree.files) }
+    ensures valid { IfOk result (λ c. Valid c) }
+    ensures does { IfOk result (λ c. Does c (map item_of program.now.tree.items)) }
 {
     accepted_can_be_followed();
     code_is_valid();

@@ -5,8 +5,10 @@ use Rattle.std.proofs.Common.{slice_index_or}
 use Rattle.std.specs.Str.{bytes_eq}
 use Rattle.std.proofs.lemmas.Slice.Eq.{bytes_eq-Decides}
 use Rattle.verse_top_args.specs.Words.{AreFiles, Command, EachIsFile, Given, Gives, Inputs, IsFile, IsIntList, IsNumber, SayOnce, Says}
-use Rattle.verse_top_args.specs.Words.{listed, no_options, not_given, options_of, run, exec, save, resume, check, build, list, assemble}
-use Rattle.verse_top_args.specs.Words.{verify, load, says_run, says_exec, says_save, says_resume, says_check, says_build, says_list}
+use Rattle.verse_top_args.specs.Words.{listed, no_options, not_given, options_of, run, exec, save, resume, check, build, note, list}
+use Rattle.verse_top_args.specs.Words.{assemble}
+use Rattle.verse_top_args.specs.Words.{verify, load, says_run, says_exec, says_save, says_resume, says_check, says_build, says_note}
+use Rattle.verse_top_args.specs.Words.{says_list}
 use Rattle.verse_top_args.specs.Words.{says_assemble, says_verify, says_load, Options}
 use Rattle.verse_top_args.specs.Requests.{AsksForImage, AsksForLoad, AsksForOne, AsksForResume, AsksForRun, AsksForVerify}
 use Rattle.verse_top_args.specs.Requests.{BeginsWithNoFile, Gave, IsWithin, NoOptions, options_with}
@@ -108,9 +110,10 @@ Meant word files options c =
     (either (bytes_eq word (codes "resume")) (Resumes files options c)
     (either (bytes_eq word (codes "check")) (Alone check files options c)
     (either (bytes_eq word (codes "build")) (Alone build files options c)
+    (either (bytes_eq word (codes "note")) (Alone note files options c)
     (either (bytes_eq word (codes "list")) (One list files options c)
     (either (bytes_eq word (codes "assemble")) (One assemble files options c)
-    (either (bytes_eq word (codes "verify")) (Two files options c) (Unit {0})))))))))
+    (either (bytes_eq word (codes "verify")) (Two files options c) (Unit {0}))))))))))
 
 one_file : {file : List ℕ} → IsFile file → AreFiles (file ∷ [])
 one_file is = record { each = (is, tt); some = omega arith; few = omega arith }
@@ -234,6 +237,9 @@ meant_of {files = files} {options = options} word (says_check {files = names} ar
 meant_of {files = files} {options = options} word (says_build {files = names} are) p =
     let named : codes "build" ≡ word = cc p.is in
     as_named (codes "build") word files options (build names) named (alone_of build word (cc named) are p)
+meant_of {files = files} {options = options} word (says_note {files = names} are) p =
+    let named : codes "note" ≡ word = cc p.is in
+    as_named (codes "note") word files options (note names) named (alone_of note word (cc named) are p)
 meant_of {files = files} {options = options} word (says_list {file = file} is) p =
     let named : codes "list" ≡ word = cc p.is in
     as_named (codes "list") word files options (list file) named (one_of list word (cc named) is p)
@@ -256,6 +262,7 @@ load_of (says_save is gives none lists) e = absurd (other_word (codes "save") (c
 load_of (says_resume is gives steps inputs) e = absurd (other_word (codes "resume") (codes "load") refl (cc e))
 load_of (says_check are) e = absurd (other_word (codes "check") (codes "load") refl (cc e))
 load_of (says_build are) e = absurd (other_word (codes "build") (codes "load") refl (cc e))
+load_of (says_note are) e = absurd (other_word (codes "note") (codes "load") refl (cc e))
 load_of (says_list is) e = absurd (other_word (codes "list") (codes "load") refl (cc e))
 load_of (says_assemble is) e = absurd (other_word (codes "assemble") (codes "load") refl (cc e))
 load_of (says_verify is it) e = absurd (other_word (codes "verify") (codes "load") refl (cc e))
@@ -271,6 +278,7 @@ files_are word (says_save is gives none lists) p other = one_before word (cc p.i
 files_are word (says_resume is gives steps inputs) p other = one_before word (cc p.is) is gives p
 files_are word (says_check are) p other = (alone_of check word (cc p.is) are p).are
 files_are word (says_build are) p other = (alone_of build word (cc p.is) are p).are
+files_are word (says_note are) p other = (alone_of note word (cc p.is) are p).are
 files_are word (says_list is) p other = one_are list word (cc p.is) is p
 files_are word (says_assemble is) p other = one_are assemble word (cc p.is) is p
 files_are word (says_verify is it) p other = two_are word (cc p.is) is it p
@@ -320,6 +328,8 @@ say_once words a b (says_check {files = files} are) t =
     let other : Alone check files [] b = meant_of (codes "check") t (parted_alone (codes "check") files are) in sym other.is
 say_once words a b (says_build {files = files} are) t =
     let other : Alone build files [] b = meant_of (codes "build") t (parted_alone (codes "build") files are) in sym other.is
+say_once words a b (says_note {files = files} are) t =
+    let other : Alone note files [] b = meant_of (codes "note") t (parted_alone (codes "note") files are) in sym other.is
 say_once words a b (says_list {file = file} is) t =
     let other : One list (file ∷ []) [] b = meant_of (codes "list") t (parted_alone (codes "list") (file ∷ []) (one_file is)) in
     cc (other.one, other.is)
@@ -559,12 +569,15 @@ module _ (files options : List (List ℕ)) (are : AreFiles files) (behind : Begi
   parted_there : (command : List ℕ) → Parted (words_with command files options) command files options
   parted_there command = record { is = refl; each = are.each; behind = behind }
 
-  -- nothing stands behind the files of a check, and of a build
+  -- nothing stands behind the files of a check, of a build, and of notes
   pub no_check : options ≢ [] → (c : Command) → ¬ (Says (words_with (codes "check") files options) c)
   no_check more c s = let p : Alone check files options c = meant_of (codes "check") s (parted_there (codes "check")) in more p.none
 
   pub no_build : options ≢ [] → (c : Command) → ¬ (Says (words_with (codes "build") files options) c)
   no_build more c s = let p : Alone build files options c = meant_of (codes "build") s (parted_there (codes "build")) in more p.none
+
+  pub no_note : options ≢ [] → (c : Command) → ¬ (Says (words_with (codes "note") files options) c)
+  no_note more c s = let p : Alone note files options c = meant_of (codes "note") s (parted_there (codes "note")) in more p.none
 
   pub is_check : options ≡ [] → (c : Command) × Says (words_with (codes "check") files options) c × (c ≡ check files)
   is_check none =
@@ -575,6 +588,11 @@ module _ (files options : List (List ℕ)) (are : AreFiles files) (behind : Begi
   is_build none =
       let all : codes "build" ∷ files ≡ words_with (codes "build") files options = cc (none, append-nil files) in
       (build files, subst (λ ws. Says ws (build files)) all (says_build are), refl)
+
+  pub is_note : options ≡ [] → (c : Command) × Says (words_with (codes "note") files options) c × (c ≡ note files)
+  is_note none =
+      let all : codes "note" ∷ files ≡ words_with (codes "note") files options = cc (none, append-nil files) in
+      (note files, subst (λ ws. Says ws (note files)) all (says_note are), refl)
 
   pub no_list : ¬ (IsAlone files options) → (c : Command) → ¬ (Says (words_with (codes "list") files options) c)
   no_list other c s = let p : One list files options c = meant_of (codes "list") s (parted_there (codes "list")) in

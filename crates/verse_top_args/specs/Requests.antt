@@ -3,8 +3,8 @@ use Rattle.verse_base.specs.declared.limits.TheConstants.{MOST_NOW, MOST_STEPS}
 use Rattle.std.specs.Prelude.{◌≡◌, ℕ, ◌≤◌, ℤ, List, [], ◌∷◌, map, string_bytes}
 use Rattle.std.specs.Prelude.{option_copied, unwrap_or}
 use Rattle.verse_top_args.specs.Words.{AreFiles, Command, Given, Gives, Inputs, IsFile, Options}
-use Rattle.verse_top_args.specs.Words.{assemble, build, check, exec, list, load, no_options, resume}
-use Rattle.verse_top_args.specs.Words.{run, save, verify}
+use Rattle.verse_top_args.specs.Words.{assemble, build, check, exec, list, load, no_options, note}
+use Rattle.verse_top_args.specs.Words.{resume, run, save, verify}
 use Rattle.verse_top_args.specs.declared.commands.Request.{Request}
 use Rattle.verse_top_args.specs.declared.commands.Request.TheVariants as request
 use Rattle.verse_top_args.specs.declared.commands.Running.{Running}
@@ -68,6 +68,7 @@ names_of (request.Save r) = map string_bytes r.files.now
 names_of (request.Resume r) = map string_bytes r.files.now
 names_of (request.Check files) = map string_bytes files.now
 names_of (request.Build files) = map string_bytes files.now
+names_of (request.Note files) = map string_bytes files.now
 names_of (request.List files) = map string_bytes files.now
 names_of (request.Assemble files) = map string_bytes files.now
 names_of (request.Verify files) = map string_bytes files.now
@@ -81,6 +82,7 @@ AreNamed (request.Save r) = AreFiles (map string_bytes r.files.now)
 AreNamed (request.Resume r) = AreFiles (map string_bytes r.files.now)
 AreNamed (request.Check files) = AreFiles (map string_bytes files.now)
 AreNamed (request.Build files) = AreFiles (map string_bytes files.now)
+AreNamed (request.Note files) = AreFiles (map string_bytes files.now)
 AreNamed (request.List files) = AreFiles (map string_bytes files.now)
 AreNamed (request.Assemble files) = AreFiles (map string_bytes files.now)
 AreNamed (request.Verify files) = AreFiles (map string_bytes files.now)
@@ -93,6 +95,7 @@ AsksFor (request.Save r) c = AsksForImage save r c
 AsksFor (request.Resume r) c = AsksForResume r c
 AsksFor (request.Check files) c = c ≡ check (map string_bytes files.now)
 AsksFor (request.Build files) c = c ≡ build (map string_bytes files.now)
+AsksFor (request.Note files) c = c ≡ note (map string_bytes files.now)
 AsksFor (request.List files) c = AsksForOne list (map string_bytes files.now) c
 AsksFor (request.Assemble files) c = AsksForOne assemble (map string_bytes files.now) c
 AsksFor (request.Verify files) c = AsksForVerify (map string_bytes files.now) c

@@ -29,6 +29,8 @@ pub data Command : Type 0 where
   check : (files : List (List ℕ)) → Command
   -- writes the image of the code of the program in these files
   build : (files : List (List ℕ)) → Command
+  -- writes the notes of the code of the program in these files
+  note : (files : List (List ℕ)) → Command
   -- writes the listing of the image in this file
   list : (file : List ℕ) → Command
   -- writes the image of the code of which this file holds the listing
@@ -46,6 +48,7 @@ files_of (save file o) = file ∷ []
 files_of (resume file until heap) = file ∷ []
 files_of (check files) = files
 files_of (build files) = files
+files_of (note files) = files
 files_of (list file) = file ∷ []
 files_of (assemble file) = file ∷ []
 files_of (verify image notes) = image ∷ notes ∷ []
@@ -139,6 +142,7 @@ pub data Says : List (List ℕ) → Command → Type 0 where
       Says (codes "resume" ∷ file ∷ words) (resume file (unwrap_or g.until MOST_NOW) g.heap)
   says_check : {files : List (List ℕ)} → AreFiles files → Says (codes "check" ∷ files) (check files)
   says_build : {files : List (List ℕ)} → AreFiles files → Says (codes "build" ∷ files) (build files)
+  says_note : {files : List (List ℕ)} → AreFiles files → Says (codes "note" ∷ files) (note files)
   says_list : {file : List ℕ} → IsFile file → Says (codes "list" ∷ file ∷ []) (list file)
   says_assemble : {file : List ℕ} → IsFile file →
       Says (codes "assemble" ∷ file ∷ []) (assemble file)

@@ -41,6 +41,8 @@ pub enum Request<'a> {
     Check(&'a [String]),
     /// The image of the code of the program in these files.
     Build(&'a [String]),
+    /// The notes of the code of the program in these files.
+    Note(&'a [String]),
     /// The listing of an image: there is one file.
     List(&'a [String]),
     /// The image of the code of a listing: there is one file.
@@ -79,7 +81,7 @@ impl<'a> Request<'a> {
             Request::Run(running) | Request::Exec(running) => running.files,
             Request::Save(running) => running.files,
             Request::Resume(resuming) => resuming.files,
-            Request::Check(files) | Request::Build(files) => files,
+            Request::Check(files) | Request::Build(files) | Request::Note(files) => files,
             Request::List(files) | Request::Assemble(files) => files,
             Request::Verify(files) => files,
             Request::Load(_) => &[],
@@ -139,6 +141,8 @@ pub fn find_request(words: &[String]) -> Option<Request<'_>>
         check(files, options)
     } else if is(command, "build") {
         build(files, options)
+    } else if is(command, "note") {
+        note(files, options)
     } else if is(command, "list") {
         list(files, options)
     } else if is(command, "assemble") {
@@ -322,6 +326,23 @@ fn build<'a>(files: &'a [String], options: &'a [String]) -> Option<Request<'a>>
 {
     if options.is_empty() {
         Some(Request::Build(files))
+    } else {
+        None
+    }
+}
+
+/// The notes of these files' program, where nothing is behind them.
+fn note<'a>(files: &'a [String], options: &'a [String]) -> Option<Request<'a>>
+    requires are { AreFiles (map string_bytes files.now) }
+    requires behind { BeginsWithNoFile (map string_bytes options.now) }
+    ensures asks { MatchOption result ((c : Command) →
+        ¬ (Says (codes "note" ∷ map string_bytes files.now ++ map string_bytes options.now) c))
+        (λ r. (c : Command) × Says (codes "note" ∷ map string_bytes files.now ++
+        map string_bytes options.now) c × AsksFor r c) }
+    ensures files { IfSome result (λ r. AreNamed r) }
+{
+    if options.is_empty() {
+        Some(Request::Note(files))
     } else {
         None
     }

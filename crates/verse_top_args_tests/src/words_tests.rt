@@ -41,6 +41,10 @@ build a.verse | build a.verse
 build a b | build a,b
 build | none
 build a --heap | none
+note a.verse | note a.verse
+note a b | note a,b
+note | none
+note a --heap | none
 --help | none
 --version | none
 run '' | none
@@ -265,6 +269,7 @@ fn request_told(alloc: Global, words: &[String]) -> Result<String, Fail> {
         Request::Resume(resuming) => resume_told(alloc, resuming),
         Request::Check(files) => files_told(alloc, "check", files),
         Request::Build(files) => files_told(alloc, "build", files),
+        Request::Note(files) => files_told(alloc, "note", files),
         Request::List(files) => files_told(alloc, "list", files),
         Request::Assemble(files) => files_told(alloc, "assemble", files),
         Request::Verify(files) => files_told(alloc, "verify", files),

@@ -106,6 +106,9 @@ const ROWS: &str =
 6`build x`a.verse=Main():void =~    Print(\"hi\")~`= read x~
 1`build a.verse`a.verse=Main():void = 1 2`1:17 E030 unexpected token~
 2`build a.verse --heap`a.verse=Main():void =~    Print(\"hi\")~`= words~
+6`note x`a.verse=Main():void =~    Print(\"hi\")~`= read x~
+1`note a.verse`a.verse=Main():void = 1 2`1:17 E030 unexpected token~
+2`note a.verse --heap`a.verse=Main():void =~    Print(\"hi\")~`= words~
 6`exec x`a.verse=Main():void =~    Print(\"hi\")~`= read x~
 1`exec a.verse`a.verse=Main():void =~    Print(\"hi\")~`= image I1 0~
 1`exec a --heap`a=`= image I3 0~
@@ -174,7 +177,7 @@ fn rows_are_told(rt: HostRuntime) -> Result<(), Fail> {
         assert!(rt; is_told_so(alloc, row)?, "{row}");
         count = count.saturating_add(1);
     }
-    assert_eq!(rt; count, 128);
+    assert_eq!(rt; count, 131);
     Ok(())
 }
 
@@ -275,6 +278,35 @@ fn what_is_built_runs(rt: HostRuntime) -> Result<(), Fail> {
     assert_eq!(rt; executed.as_slice(), ran.as_slice());
     let text = "0 2~0 3~@0 var 2~@1 var 3~= done at 0 steps 6 live 0~";
     assert_eq!(rt; ran.as_slice(), written(alloc, "0", text)?.as_slice());
+    Ok(())
+}
+
+/// The bytes that a command wrote, with the status 0.
+fn bytes_of(alloc: Global, command: &str, files: &mut MemFiles) -> Result<Vec<u8>, Fail> {
+    let told = answer(alloc, command, files)?;
+    let bytes = told
+        .as_slice()
+        .strip_prefix(b"0`".as_slice())
+        .ok_or("a status of 0")?;
+    let mut kept = Vec::new(alloc);
+    kept.extend_from_slice(bytes)?;
+    Ok(kept)
+}
+
+// what never has a value among them
+const NOTED: &str =
+    "a=Main(X:[]int):void =~    for (N : X, N > 1) { Tell(N) }~    if (Y := false?) { Tell(Y.Length) }~|b=Tell(N:int):void =~    var M:int = N~    defer:~        Print(\"{M}\")~";
+
+#[test]
+fn what_is_noted_passes(rt: HostRuntime) -> Result<(), Fail> {
+    let alloc = rt.alloc();
+    let mut files = files_of(alloc, NOTED)?;
+    let image = bytes_of(alloc, "build a b", &mut files)?;
+    let notes = bytes_of(alloc, "note a b", &mut files)?;
+    files.add("image", image.as_slice())?;
+    files.add("notes", notes.as_slice())?;
+    let told = answer(alloc, "verify image notes", &mut files)?;
+    assert_eq!(rt; told.as_slice(), b"0`= ok\n".as_slice());
     Ok(())
 }
 

@@ -9,7 +9,8 @@ use Rattle.verse_sorts.specs.Sorts as s
 use Rattle.verse_sorts.specs.Sorts.{Inherits, fits_unit}
 use Rattle.verse_sorts.specs.Typing.{fit_no, fit_so}
 use Rattle.verse_verify_kept.specs.Notes.{FuncNote, Point, Notes, point_at}
-use Rattle.verse_verify_kept.specs.Rules.{Sound, Begins, MainIs, Verified, from_no, asked, of_unit, of_return, around_no, ready_no, tries_no}
+use Rattle.verse_verify_kept.specs.Rules.{Sound, Begins, MainIs, Verified, from_no, asked, of_unit, of_return, around_no, ready_no}
+use Rattle.verse_verify_kept.specs.Rules.{tries_no}
 
 abbrev code : Code
 code = record {

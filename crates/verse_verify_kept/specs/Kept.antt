@@ -17,7 +17,8 @@ use Rattle.verse_sorts.specs.Sorts.{Sort}
 use Rattle.verse_sorts.specs.Typing.{Typing, Adds, Is, Are}
 use Rattle.verse_verify_kept.specs.Notes.{ClassNote, FuncNote, Open, Point, Notes, parent_of}
 use Rattle.verse_verify_kept.specs.Notes.{point_at, names}
-use Rattle.verse_verify_kept.specs.Rules.{Each, Fit, TriesFit, Kin, To, Keeps, Runs, Ready, MayFail, MayWait}
+use Rattle.verse_verify_kept.specs.Rules.{Each, Fit, TriesFit, Kin, To, Keeps, Runs, Ready, MayFail}
+use Rattle.verse_verify_kept.specs.Rules.{MayWait}
 
 -- what a frame gives, and whether it may fail or wait; whether it is the first of an arm or of a
 -- task behind

@@ -50,8 +50,8 @@ pub returns-in_err-answer-in-Assemble-clause-leaves : goal.returns-in_err-answer
 returns-in_err-answer-in-Assemble-clause-leaves g c held d name asks named read =
     let faults = g.S.Sink.faults c.args.out.now in
     let taken = g.S.Sink.taken c.args.out.now in
-    at_error c.from_residual-in_err-answer-in-Assemble.result (Leaves (Answers held d) (Begins held d) faults faults taken taken) stop.Memory
-    c.from_residual-in_err-answer-in-Assemble.ensures.1
+    at_error c.from_residual-in_err-answer-in-Assemble.result (Leaves (Answers held d) (Begins held d) faults faults taken taken)
+    stop.Memory c.from_residual-in_err-answer-in-Assemble.ensures.1
     (leaves_nothing (Answers held d) (Begins held d) faults faults taken taken (nothing d) refl)
 
 pub returns-in_ok-answer-in-Assemble-clause-leaves : goal.returns-in_ok-answer-in-Assemble-clause-leaves

@@ -6,7 +6,7 @@ use Rattle.verse_top_exec.specs.declared.stops.Stop.TheVariants as stop
 use Rattle.verse_top_exec.specs.Leaving.{Leaves}
 use Rattle.verse_top_exec.proofs.Leaving.{at_error, leaves_nothing}
 use Rattle.verse_top.specs.Answers.{Answers, Begins, nothing}
-use Rattle.verse_top.proofs.ProgramLaws.{leaves_built, leaves_checked, leaves_ran}
+use Rattle.verse_top.proofs.ProgramLaws.{leaves_built, leaves_checked, leaves_noted, leaves_ran}
 use Rattle.verse_top.proofs.programs.proceed.Goals as goal
 
 pub returns-in_err-answer-in-Check-clause-leaves : goal.returns-in_err-answer-in-Check-clause-leaves
@@ -38,3 +38,9 @@ returns-in-Build-clause-leaves g c held d files asks loaded accepted =
     leaves_built (g.S.Sink.faults c.args.out.now) (g.S.Sink.faults c.build.new.out) (g.S.Sink.taken c.args.out.now)
     (g.S.Sink.taken c.build.new.out) c.build.result held files c.args.program accepted d (map string_bytes c.in-Build.field-0.now)
     (subst (λ (q : Request). AsksFor q d) c.in-Build.is asks) loaded c.build.ensures.leaves
+
+pub returns-in-Note-clause-leaves : goal.returns-in-Note-clause-leaves
+returns-in-Note-clause-leaves g c held d files asks loaded accepted =
+    leaves_noted (g.S.Sink.faults c.args.out.now) (g.S.Sink.faults c.note.new.out) (g.S.Sink.taken c.args.out.now)
+    (g.S.Sink.taken c.note.new.out) c.note.result held files c.args.program accepted d (map string_bytes c.in-Note.field-0.now)
+    (subst (λ (q : Request). AsksFor q d) c.in-Note.is asks) loaded c.note.ensures.leaves
