@@ -9,25 +9,202 @@ use Rattle.verse_code.specs.Forms.{Form, bare, integer, one, two, three, four, f
 use Rattle.verse_code.specs.Agreement.{filled, Right, HasForm}
 
 pub right_forms : Right 0 forms
-right_forms =
-  (λ p. (refl, refl), (λ p. (refl, refl), (λ p. (refl, refl), (λ p. (refl, refl),
-  (λ p. (refl, refl), (λ p. (refl, refl), (λ p. (refl, refl), (λ p. (refl, refl),
-  (λ p. (refl, refl), (λ p. (refl, refl), (λ p. (refl, refl), (λ p. (refl, refl),
-  (λ p. (refl, refl), (λ p. (refl, refl), (λ p. (refl, refl), (λ p. (refl, refl),
-  (λ p. (refl, refl), (λ p. (refl, refl), (λ p. (refl, refl), (λ p. (refl, refl),
-  (λ p. (refl, refl), (λ p. (refl, refl), (λ p. (refl, refl), (λ p. (refl, refl),
-  (λ p. (refl, refl), (λ p. (refl, refl), (λ p. (refl, refl), (λ p. (refl, refl),
-  (λ p. (refl, refl), (λ p. (refl, refl), (λ p. (refl, refl), (λ p. (refl, refl),
-  (λ p. (refl, refl), (λ p. (refl, refl), (λ p. (refl, refl), (λ p. (refl, refl),
-  (λ p. (refl, refl), (λ p. (refl, refl), (λ p. (refl, refl), (λ p. (refl, refl),
-  (λ p. (refl, refl), (λ p. (refl, refl), (λ p. (refl, refl), (λ p. (refl, refl),
-  (λ p. (refl, refl), (λ p. (refl, refl), (λ p. (refl, refl), (λ p. (refl, refl),
-  (λ p. (refl, refl), (λ p. (refl, refl), (λ p. (refl, refl), (λ p. (refl, refl),
-  (λ p. (refl, refl), (λ p. (refl, refl), (λ p. (refl, refl), (λ p. (refl, refl),
-  (λ p. (refl, refl), (λ p. (refl, refl), (λ p. (refl, refl), (λ p. (refl, refl),
-  (λ p. (refl, refl), (λ p. (refl, refl), (λ p. (refl, refl), (λ p. (refl, refl),
-  (λ p. (refl, refl), (λ p. (refl, refl), (λ p. (refl, refl),
-  tt)))))))))))))))))))))))))))))))))))))))))))))))))))))))))))))))))))
+right_forms = (
+  λ p. (refl, refl),
+  (
+    λ p. (refl, refl),
+    (
+      λ p. (refl, refl),
+      (
+        λ p. (refl, refl),
+        (
+          λ p. (refl, refl),
+          (
+            λ p. (refl, refl),
+            (
+              λ p. (refl, refl),
+              (
+                λ p. (refl, refl),
+                (
+                  λ p. (refl, refl),
+                  (
+                    λ p. (refl, refl),
+                    (
+                      λ p. (refl, refl),
+                      (
+                        λ p. (refl, refl),
+                        (
+                          λ p. (refl, refl),
+                          (
+                            λ p. (refl, refl),
+                            (
+                              λ p. (refl, refl),
+                              (
+                                λ p. (refl, refl),
+                                (
+                                  λ p. (refl, refl),
+                                  (
+                                    λ p. (refl, refl),
+                                    (
+                                      λ p. (refl, refl),
+                                      (
+                                        λ p. (refl, refl),
+                                        (
+                                          λ p. (refl, refl),
+                                          (
+                                            λ p. (refl, refl),
+                                            (
+                                              λ p. (refl, refl),
+                                              (
+                                                λ p. (refl, refl),
+                                                (
+                                                  λ p. (refl, refl),
+                                                  (
+                                                    λ p. (refl, refl),
+                                                    (
+                                                      λ p. (refl, refl),
+                                                      (
+                                                        λ p. (refl, refl),
+                                                        (
+                                                          λ p. (refl, refl),
+                                                          (
+                                                            λ p. (refl, refl),
+                                                            (
+                                                              λ p. (refl, refl),
+                                                              (
+                                                                λ p. (refl, refl),
+                                                                (
+                                                                  λ p. (refl, refl),
+                                                                  (
+                                                                    λ p. (refl, refl),
+                                                                    (
+                                                                      λ p. (refl, refl),
+                                                                      (
+                                                                        λ p. (refl, refl),
+                                                                        (
+                                                                          λ p. (refl, refl),
+                                                                          (
+                                                                            λ p. (refl, refl),
+                                                                            (
+                                                                              λ p. (refl, refl),
+                                                                              (
+                                                                                λ p. (refl, refl),
+                                                                                (
+                                                                                  λ p. (refl, refl),
+                                                                                  (
+                                                                                    λ p. (refl, refl),
+                                                                                    (
+                                                                                      λ p. (refl, refl),
+                                                                                      (
+                                                                                        λ p. (refl, refl),
+                                                                                        (
+                                                                                          λ p. (refl, refl),
+                                                                                          (
+                                                                                            λ p. (refl, refl),
+                                                                                            (
+                                                                                              λ p. (refl, refl),
+                                                                                              (
+                                                                                                λ p. (refl, refl),
+                                                                                                (
+                                                                                                  λ p. (refl, refl),
+                                                                                                  (
+                                                                                                    λ p. (refl, refl),
+                                                                                                    (
+                                                                                                      λ p. (refl, refl),
+                                                                                                      (
+                                                                                                        λ p. (refl, refl),
+                                                                                                        (
+                                                                                                          λ p. (refl, refl),
+                                                                                                          (
+                                                                                                            λ p. (refl, refl),
+                                                                                                            (
+                                                                                                              λ p. (refl, refl),
+                                                                                                              (
+                                                                                                                λ p. (refl, refl),
+                                                                                                                (
+                                                                                                                  λ p. (refl, refl),
+                                                                                                                  (
+                                                                                                                    λ p. (refl, refl),
+                                                                                                                    (
+                                                                                                                      λ p. (refl, refl),
+                                                                                                                      (
+                                                                                                                        λ p. (refl, refl),
+                                                                                                                        (
+                                                                                                                          λ p. (refl, refl),
+                                                                                                                          (
+                                                                                                                            λ p. (refl, refl),
+                                                                                                                            (
+                                                                                                                              λ p. (refl, refl),
+                                                                                                                              (
+                                                                                                                                λ p. (refl, refl),
+                                                                                                                                (
+                                                                                                                                  λ p. (refl, refl),
+                                                                                                                                  (λ p. (refl, refl), (λ p. (refl, refl), tt)),
+                                                                                                                                ),
+                                                                                                                              ),
+                                                                                                                            ),
+                                                                                                                          ),
+                                                                                                                        ),
+                                                                                                                      ),
+                                                                                                                    ),
+                                                                                                                  ),
+                                                                                                                ),
+                                                                                                              ),
+                                                                                                            ),
+                                                                                                          ),
+                                                                                                        ),
+                                                                                                      ),
+                                                                                                    ),
+                                                                                                  ),
+                                                                                                ),
+                                                                                              ),
+                                                                                            ),
+                                                                                          ),
+                                                                                        ),
+                                                                                      ),
+                                                                                    ),
+                                                                                  ),
+                                                                                ),
+                                                                              ),
+                                                                            ),
+                                                                          ),
+                                                                        ),
+                                                                      ),
+                                                                    ),
+                                                                  ),
+                                                                ),
+                                                              ),
+                                                            ),
+                                                          ),
+                                                        ),
+                                                      ),
+                                                    ),
+                                                  ),
+                                                ),
+                                              ),
+                                            ),
+                                          ),
+                                        ),
+                                      ),
+                                    ),
+                                  ),
+                                ),
+                              ),
+                            ),
+                          ),
+                        ),
+                      ),
+                    ),
+                  ),
+                ),
+              ),
+            ),
+          ),
+        ),
+      ),
+    ),
+  ),
+)
 
 pub right_at : (fs : List Form) (from i : ℕ) (f : Form) → Right from fs → slice_get fs i ≡ Some f → (p : Parts) →
     (code_of (made p f) ≡ from + i) × (operands_of (made p f) ≡ filled p (shape_of f))
