@@ -206,6 +206,8 @@ module _ (files : List (List ℕ)) (made : Made) (accepted : IsAccepted files ma
   lowered_does c e means turns = subst (λ (k : Code). Does k (map item_of made.tree.items)) (sym e)
       (does_mean (map item_of made.tree.items) made.tree.files can_follow means turns)
 
+-- and its notes
+module _ (files : List (List ℕ)) (made : Made) (accepted : IsAccepted files made) where
   pub noted_is : TablesAgree → (p : Made) (c : Code) (t : Table) (bytes : List ℕ) → p ≡ made →
       c ≡ code_from (map item_of made.tree.items) made.tree.files →
       t ≡ notes_of (program_of p) (found_of p) (differ_of p) c → bytes ≡ bytes_of c t →
