@@ -294,7 +294,7 @@ fn words_are_read(rt: HostRuntime) -> Result<(), Fail> {
         );
         count = count.saturating_add(1);
     }
-    assert_eq!(rt; count, 149);
+    assert_eq!(rt; count, 153);
     words_say_once();
     Ok(())
 }

@@ -1,0 +1,4 @@
+pub mod Applied
+pub mod Calls
+pub mod Finishing
+pub mod Callees
