@@ -49,7 +49,7 @@ module _ (code : Code) (notes : Notes) where
         (λ z e s room m. let k = above z e in
         subst (λ v. Asked code notes s.at (pt v) (op s)) (sym k.1.1) (asks k.0 k.1.0 s
         (subst (λ v. Meets code notes v (suc s.at)) (gives_is q k.0)
-        (subst (λ v. MeetsAt code notes (with_value q v (Some z)) (suc s.at)) k.1.0 m)))) (λ z e. tt)
+        (subst (λ v. MeetsAt code notes (with_value q v (Some z)) (suc s.at)) k.1.0 m)))) (λ z e s room. tt)
 
     -- an operation that leaves other operands
     pub step_goes : (rs : List Sort) (h : Change) → If x (λ y. h (over qs y) ≡ over rs y) →
@@ -59,7 +59,7 @@ module _ (code : Code) (notes : Notes) where
         (λ z e s room m. let k = above z e in
         subst (λ v. Asked code notes s.at (pt v) (op s)) (sym k.1.1) (asks k.0 k.1.0 s
         (subst (λ v. Meets code notes v (suc s.at)) (ap h k.1.1 ∙ same k.0 k.1.0) m)))
-        (λ z e. let k = above z e in (k.0, (k.1.0, ap h k.1.1 ∙ same k.0 k.1.0)))
+        (λ z e s room. let k = above z e in (k.0, (k.1.0, ap h k.1.1 ∙ same k.0 k.1.0)))
 
     -- nothing goes on behind it
     pub end_goes : {k : Option State → Option State} {Q : State → Type 0} →

@@ -82,7 +82,7 @@ module _ (code : Code) (notes : Notes) where
   blocks_moved a n (blocks_before h) = blocks_before (ready_moved [] a n h)
   blocks_moved a n (blocks_so point e o l g h) = blocks_so point (entry_moved a e) o l g (blocks_moved a n h)
 
-  keeps_moved : {p q : Point} {m : ℕ} → q.tries ≡ p.tries → Keeps code notes p m → Keeps code notes q m
+  pub keeps_moved : {p q : Point} {m : ℕ} → q.tries ≡ p.tries → Keeps code notes p m → Keeps code notes q m
   keeps_moved e (keeps_all h) = keeps_all (e ∙ h)
   keeps_moved e (keeps_some h f) = keeps_some (e ∙ h) f
 
@@ -113,6 +113,7 @@ module _ (code : Code) (notes : Notes) where
   -- a `break` may stand here: the state is that in which the loop began, with more operands and blocks
   pub record Breaking (w : Way) (a : Around) (y : State) : Type 0 where
     pub in_loop : a.in_loop ≡ true
+    pub may : w.may_leave ≡ true
     pub func : y.func ≡ w.state.func
     pub arm : y.arm ≡ w.state.arm
     pub block : y.block ≡ w.state.block
@@ -174,6 +175,7 @@ module _ (code : Code) (notes : Notes) where
       };
       breaks = λ e. let g = h.breaks e in record {
         in_loop = g.in_loop;
+        may = g.may;
         func = g.func;
         arm = g.arm;
         block = g.block;

@@ -4,5 +4,3 @@ pub mod Single
 pub mod Begins
 pub mod Combined
 pub mod Inside
-pub mod Loops
-pub mod Contexts

@@ -43,7 +43,8 @@ module _ (code : Code) (notes : Notes) where
     pub just_goes : {x : Option State} {h : Change} {k : Option State → Option State} {Q : State → Type 0} →
         If x (Steady code notes ts) →
         If x (λ z. (s : Spot) → (f s).locals ≤ w.size → MeetsAt code notes (k (Some (h z))) (suc s.at) →
-        Asked code notes s.at (pt z) (op s)) → If x (λ z. Q (h z)) → Going code notes w ts x f (n.one h) k Q
+        Asked code notes s.at (pt z) (op s)) → If x (λ z. (s : Spot) → (f s).locals ≤ w.size → Q (h z)) →
+        Going code notes w ts x f (n.one h) k Q
     just_goes {x = None} st a q = record {
       leaves = λ s l v e. absurd (cc);
       exits = λ s l v y e. absurd (none-some y e);
@@ -51,7 +52,7 @@ module _ (code : Code) (notes : Notes) where
     }
     just_goes {x = Some z} {h = h} {k = k} {Q = Q} st a q = record {
       leaves = λ s l v e. absurd (cc);
-      exits = λ s l v y e. subst Q (same_Some (h z) y e) (q z refl);
+      exits = λ s l v y e. subst Q (same_Some (h z) y e) (q z refl s l.room);
       goes = λ s l v m. (
         leads_to (leads_itself code notes z s.at (st z refl).even l.states.0),
         (

@@ -1,0 +1,5 @@
+pub mod Loops
+pub mod Contexts
+pub mod Scopes
+pub mod After
+pub mod Leaving
