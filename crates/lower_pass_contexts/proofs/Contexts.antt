@@ -28,7 +28,7 @@ many_entries [] = refl
 many_entries (d ∷ ds) = ap suc (many_entries ds)
 
 -- a state that is noted is the one
-noted_is : (notes : Notes) (code : Code) (z : State) (i : ℕ) (p : Point) → Even z →
+pub noted_is : (notes : Notes) (code : Code) (z : State) (i : ℕ) (p : Point) → Even z →
     slice_get notes.points i ≡ Some (point_of (option_map spot_of (Some z))) → point_at notes i ≡ Some p → pt z ≡ p
 noted_is notes code z i p e h k = same_in (noted_point code notes z i e h) k
 

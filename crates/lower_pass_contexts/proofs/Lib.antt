@@ -3,3 +3,5 @@ pub mod Contexts
 pub mod Scopes
 pub mod After
 pub mod Leaving
+pub mod Attempts
+pub mod Trys

@@ -254,7 +254,7 @@ module _ (code : Code) (notes : Notes) where
     }
 
   -- the first of states that are noted
-  first_noted : {x : Option State} (i : ℕ) (xs : List (Option State)) → Starts x xs → Noted code notes i xs →
+  pub first_noted : {x : Option State} (i : ℕ) (xs : List (Option State)) → Starts x xs → Noted code notes i xs →
       slice_get notes.points i ≡ Some (point_of (option_map spot_of x))
   first_noted i xs starts h = h.0
 
