@@ -1,7 +1,8 @@
-//! The notes of a program's code pass: definitions, and what leaves a function or a loop.
+//! The notes of a program's code pass: definitions, failure contexts, and what leaves a function or
+//! a loop.
 //!
 //! To be read in this order, in `proofs/`: `Binding`, what a definition puts into a local, and what
-//! is known behind it; `Ways`, `return` and `break`.
+//! is known behind it; `Ways`, `return` and `break`; `Attempted`, `not` and `or`.
 //!
 //! All of these are public, for the crate that puts the forms together.
 #![tactic(auto)]

@@ -1,5 +1,5 @@
 -- What the operations of a failure context ask.
-use Rattle.std.proofs.Common.{◌≡◌, ℕ, suc, ◌-◌, length, take, drop, List, ◌∷◌, ◌++◌, Some, sym, ◌∙◌, subst, ap, arith}
+use Rattle.std.proofs.Common.{◌≡◌, ℕ, suc, ◌-◌, length, take, drop, List, ◌∷◌, ◌++◌, Some, sym, ◌∙◌, subst, ap, arith, refl}
 use Rattle.std.specs.Prelude.{slice_get, option_map}
 use Rattle.std.proofs.lemmas.List.{length-append}
 use Rattle.verse_code.specs.declared.codes.Code.{Code}
@@ -14,6 +14,7 @@ use Rattle.verse_verify_faults.proofs.Cutting.{take_all, drop_all}
 use Rattle.lower_notes.specs.States.{State, spot_of, tried, untried}
 use Rattle.lower_pass_states.proofs.Points.{pt, Even, drop_none, stack_over, tries_over, stack_tried, tries_tried}
 use Rattle.lower_pass_states.proofs.Meeting.{Meets, no_value, leads_to, entries}
+use Rattle.lower_pass_stretches.proofs.Combined.{Led}
 use Rattle.lower_pass_contexts.proofs.Contexts.{noted_is}
 
 module _ (code : Code) (notes : Notes) where
@@ -81,3 +82,20 @@ module _ (code : Code) (notes : Notes) where
         tries = subst (λ zs. TriesFit code notes zs t.point.tries) (tries_behind i y z qs h e) t.tries;
         defers = t.defers;
       }))
+
+  -- an Undo takes all back: behind it stands what is at the label, which is what was at the Try
+  pub undo_asked : (i l j : ℕ) (y : State) → Led code notes o.Try (Some y) (Some y) i l → Even y → Meets code notes y (suc j) →
+      Asked code notes j (pt (tried i y)) o.Undo
+  undo_asked i l j y led e (no_value n) = no_local n
+  undo_asked i l j y led e (leads_to t) = asked (r.of_undo (tries_tried i y) (stack_tried i y)
+      (λ q k. subst (λ (p : Point). p.defers ≡ entries y.defers) (noted_is notes code y i q e led.here k) refl) led.operation
+      (λ p k. subst (λ (p : Point). Leads code notes (pt (tried i y)) p.locals (pt y).stack (pt y).tries (entries y.defers) (suc j))
+      (noted_is notes code y l p e led.there k) (record {
+        point = t.point;
+        live = t.live;
+        kin = record { func = t.kin.func; arm = t.kin.arm; block = t.kin.block; outer = t.kin.outer; under = t.kin.under };
+        locals = t.locals;
+        stack = t.stack;
+        tries = t.tries;
+        defers = t.defers;
+      })))

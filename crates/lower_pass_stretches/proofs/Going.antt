@@ -132,6 +132,15 @@ module _ (code : Code) (notes : Notes) where
         MeetsAt code notes (k (g s.at x).exit) (past s (f s)).at →
         MeetsAt code notes x s.at × AllSound code notes s.at (g s.at x).states
 
+  -- where a Try has ended, what holds without it holds
+  pub outside : {w : Way} {ts : List ℕ} {x : Option State} {f : Maker} {g : Walk} {k : Option State → Option State} {Q : State → Type 0}
+      (i : ℕ) → Going w ts x f g k Q → Going w (i ∷ ts) x f g k Q
+  outside i h = record {
+    leaves = λ s l v e. h.leaves s l v.1 e;
+    exits = λ s l v. h.exits s l v.1;
+    goes = λ s l v m. h.goes s l v.1 m;
+  }
+
   -- ---- lists of states
 
   pub noted_first : (xs ys : List (Option State)) (i : ℕ) → Noted code notes i (xs ++ ys) → Noted code notes i xs
