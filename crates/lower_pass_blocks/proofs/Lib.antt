@@ -1,3 +1,4 @@
 pub mod Binding
 pub mod Ways
 pub mod Attempted
+pub mod Stated

@@ -23,7 +23,7 @@ use Rattle.lower_pass_stretches.proofs.Going.{Way}
 use Rattle.lower_pass_stretches.proofs.Combined.{Led}
 use Rattle.lower_pass_stretches.proofs.Inside.{Inside, Blocks, blocks_before, ready_moved, ready_of}
 
-many_entries : (ds : List states.Deferred) → length (entries ds) ≡ length ds
+pub many_entries : (ds : List states.Deferred) → length (entries ds) ≡ length ds
 many_entries [] = refl
 many_entries (d ∷ ds) = ap suc (many_entries ds)
 

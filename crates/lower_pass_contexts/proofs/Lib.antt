@@ -5,3 +5,4 @@ pub mod After
 pub mod Leaving
 pub mod Attempts
 pub mod Trys
+pub mod Deferring

@@ -1,5 +1,5 @@
 -- What is called, indexed, awaited or signalled: its operands, and the operation that ends it.
-use Rattle.std.proofs.Common.{◌≡◌, ℕ, length, List, [], ◌∷◌, ◌++◌, Option, Some, Bool, true, refl, sym, ◌∙◌, subst, ap}
+use Rattle.std.proofs.Common.{◌≡◌, ℕ, zero, suc, length, List, [], ◌∷◌, ◌++◌, Option, Some, Bool, true, refl, sym, ◌∙◌, subst, ap}
 use Rattle.std.proofs.Common.{arith}
 use Rattle.std.proofs.lemmas.Bool.Decides.{nat_tests}
 use Rattle.std.specs.Prelude.{nat_eq}
@@ -28,7 +28,7 @@ use Rattle.lower_code.specs.Arounds.{up}
 use Rattle.lower_code.specs.Scopes.{Scope, Found, fixed, varies, absent, this_found, is_fixed, push_fixed}
 use Rattle.lower_code.specs.Applied as apply
 use Rattle.lower_code.specs.Lowering.{takes_params, form_fits}
-use Rattle.lower_notes.specs.States.{State, gets}
+use Rattle.lower_notes.specs.States.{State, gives, gets}
 use Rattle.lower_notes.specs.Stretches as n
 use Rattle.lower_notes.specs.Stretches.{Walk, with_value}
 use Rattle.lower_notes.specs.Applied as walks
@@ -38,7 +38,7 @@ use Rattle.lower_notes.proofs.Counted.{code_then, walk_then}
 use Rattle.lower_notes.proofs.Others.{starts}
 use Rattle.lower_sound.proofs.Counts.{Called, gives_told, gives_many}
 use Rattle.lower_sound.proofs.Names.{params_many}
-use Rattle.lower_pass_states.proofs.Points.{pt, over}
+use Rattle.lower_pass_states.proofs.Points.{pt, over, even_over, gives_is}
 use Rattle.lower_pass_states.proofs.Locals.{local_is}
 use Rattle.lower_pass_stretches.proofs.Names.{IsOwn, is_own}
 use Rattle.lower_pass_stretches.proofs.Going.{Way, If, itself, Going, Steady, then_goes}
@@ -229,3 +229,29 @@ module _ (p : Program) (found : rules.Found) (differ : ℕ → ℕ → Bool) (co
             (λ u i. last_goes code notes (c.one (apply.awaiting t)) (λ s. apply.awaiting t) (λ s. refl) (qo ∷ []) steady i q (λ y r s k.
             let z = here y r in
             applied.await_any_passes p found code notes al xs y z.even k z.waits t e.operands e.takes e.value)))
+
+        -- a signal above its event: the first argument counts
+        pub signal_ends : Gives p F al xs form.signalling (qo ∷ has) q → Ends form.signalling
+        signal_ends e = by_operands has m many above e
+          where
+            by_operands : (has : List Sort) (m : ℕ) → m ≡ length has → If v (IsOver code notes (turned has (qo ∷ [])) x) →
+                Gives p F al xs form.signalling (qo ∷ has) q →
+                Going code notes w ts v (apply.signalling m) (walks.signalling m) (with_value q x) (λ z. Unit {0})
+            by_operands [] zero k i e = then_goes code notes counted.just
+                (step_goes code notes (c.one o.Unit) (λ s. o.Unit) (λ s. refl) (qo ∷ []) steady i (s.unit ∷ qo ∷ []) (gives 0 s.unit)
+                (λ y j. gives_is s.unit (over (qo ∷ []) y))
+                (λ y j z t. step.unit_asked code notes (over (qo ∷ []) y) (even_over y (here y j).even (qo ∷ [])) t
+                (fits_itself (parent_of notes) s.unit)))
+                (λ u j. last_goes code notes (c.one o.Signal) (λ s. o.Signal) (λ s. refl) (s.unit ∷ qo ∷ []) steady j q (λ y r z t.
+                let g = here y r in
+                applied.bare_signal_passes p found code notes al xs y g.even t g.waits e.operands e.takes e.value))
+            by_operands [] (suc m) k i e = absurd (omega (arith, k))
+            by_operands (b ∷ rest) zero k i e = absurd (omega (arith, k))
+            by_operands (b ∷ rest) (suc m) k i e =
+                let many_are : length (turned rest []) ≡ m = turned_length rest ∙ (omega (arith, k)) in
+                subst (λ j. Going code notes w ts v (apply.dropping j (c.one o.Signal)) (walks.dropping j n.last) (with_value q x)
+                (λ z. Unit {0})) many_are (drops_go code notes steady (turned rest []) (b ∷ qo ∷ [])
+                (λ z j. subst (λ qs. IsOver code notes qs x z) (sym (turned_on rest [] (b ∷ qo ∷ []))) (i z j))
+                (λ u j. last_goes code notes (c.one o.Signal) (λ s. o.Signal) (λ s. refl) (b ∷ qo ∷ []) steady j q (λ y r z t.
+                let g = here y r in
+                applied.signal_any_passes p found code notes al xs y g.even t g.waits e.operands e.takes e.value)))

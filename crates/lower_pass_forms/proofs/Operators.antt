@@ -28,7 +28,7 @@ use Rattle.lower_code.specs.Arounds.{up}
 use Rattle.lower_code.specs.Scopes.{Scope, Found, fixed, varies, absent, find, this_found, read_found, read_this, field_of_this}
 use Rattle.lower_code.specs.Applied as apply
 use Rattle.lower_code.specs.Lowering.{named}
-use Rattle.lower_notes.specs.States.{State, gets}
+use Rattle.lower_notes.specs.States.{State, gets, pops}
 use Rattle.lower_notes.specs.Stretches as n
 use Rattle.lower_notes.specs.Stretches.{Walk, with_value}
 use Rattle.lower_notes.specs.Applied as walks
@@ -48,7 +48,7 @@ use Rattle.lower_pass_forms.proofs.Applied as applied
 use Rattle.lower_pass_forms.proofs.Applied.{noted_found}
 use Rattle.lower_pass_forms.proofs.Calls as calls
 use Rattle.lower_pass_forms.proofs.Calls.{Declared}
-use Rattle.lower_pass_forms.proofs.Finishing.{IsOver, last_goes, step_goes, end_goes, over_itself}
+use Rattle.lower_pass_forms.proofs.Finishing.{IsOver, last_goes, step_goes, end_goes, over_itself, drop_goes}
 
 module _ (p : Program) (found : rules.Found) (differ : ℕ → ℕ → Bool) (code : Code) (notes : Notes)
     (declared : Declared p found code notes) (fine : FineFound p (noted_found notes found)) (w : Way) (ts : List ℕ)
@@ -299,3 +299,10 @@ module _ (p : Program) (found : rules.Found) (differ : ℕ → ℕ → Bool) (co
       array_goes pl e = then_goes code notes beside run (λ u i. last_goes code notes (c.placed pl (o.Array m)) (λ s. o.Array m s.place)
           (λ s. refl) (turned has []) steady i q (λ y j s t.
           applied.array_passes p found code notes al xs y (here y j).even t pl m s.place many e.operands e.takes e.value))
+
+    -- the first value falls away
+    pub and_goes : {f k : Maker} {g l : Walk} (qa q : Sort) → Beside f g → Going code notes w ts x f g itself (IsValue code notes qa x) →
+        ((z : Option State) → If z (IsOver code notes [] x) → Going code notes w ts z k l (with_value q x) (λ v. Unit {0})) →
+        Form q (code_then f (code_then (c.one o.Drop) k)) (walk_then g (walk_then (n.one (pops 1)) l))
+    and_goes qa q beside first rest = then_goes code notes beside first (λ z i.
+        then_goes code notes counted.just (drop_goes code notes steady qa [] i) (λ u j. rest u j))

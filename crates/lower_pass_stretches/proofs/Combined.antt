@@ -67,12 +67,13 @@ module _ (code : Code) (notes : Notes) where
   -- Op L; a stretch; L is behind it
   module _ {w : Way} {ts : List ℕ} {x : Option State} {f : Maker} {g : Walk} {P : State → Type 0}
       (k : Option State → Option State) (Q : State → Type 0) (into beyond : ℕ → Change) (inside : ℕ → List ℕ) (op : ℕ → Op)
+      (Facts : ℕ → Type 0) (facts : (s : Spot) → Lies code notes w s (c.ahead op f s) (n.ahead into beyond g s.at x) → Facts s.at)
       (steady : If x (Steady code notes ts)) (opens : Opens ts op inside)
-      (first : (i : ℕ) → Going code notes w (inside i) (option_map (into i) x) f g itself P)
+      (first : (i : ℕ) → Facts i → Going code notes w (inside i) (option_map (into i) x) f g itself P)
       (lands : (i : ℕ) (z : State) → P z → (j : ℕ) → MeetsAt code notes (k (option_map (beyond i) x)) j → Meets code notes z j)
       (asks : If x (λ y. (i j : ℕ) → Meets code notes (into i y) (suc i) → MeetsAt code notes (k (Some (beyond i y))) j →
       Asked code notes i (pt y) (op j)))
-      (known : If x (λ y. (i : ℕ) → Q (beyond i y))) where
+      (known : If x (λ y. (i : ℕ) → Facts i → Q (beyond i y))) where
     abbrev part : Spot → Piece
     part s = f (next s)
 
@@ -98,8 +99,8 @@ module _ (code : Code) (notes : Notes) where
     inner : (s : Spot) (l : Lies code notes w s (c.ahead op f s) (n.ahead into beyond g s.at x))
         (v : Within code notes ts s.at (stop s)) → MeetsAt code notes (k (option_map (beyond s.at) x)) (stop s) →
         MeetsAt code notes (option_map (into s.at) x) (suc s.at) × AllSound code notes (suc s.at) (run s).states
-    inner s l v m = (first s.at).goes (next s) (part_lies s l) (part_within s l v) (meets (run s).exit
-        ((first s.at).exits (next s) (part_lies s l) (part_within s l v)))
+    inner s l v m = (first s.at (facts s l)).goes (next s) (part_lies s l) (part_within s l v) (meets (run s).exit
+        ((first s.at (facts s l)).exits (next s) (part_lies s l) (part_within s l v)))
       where
         meets : (y : Option State) → If y P → MeetsAt code notes y (stop s)
         meets None e = tt
@@ -107,8 +108,8 @@ module _ (code : Code) (notes : Notes) where
 
     pub ahead_goes : Going code notes w ts x (c.ahead op f) (n.ahead into beyond g) k Q
     ahead_goes = record {
-      leaves = λ s l v e. (first s.at).leaves (next s) (part_lies s l) (part_within s l v) e;
-      exits = λ s l v. if_map Q (beyond s.at) x (λ y e. known y e s.at);
+      leaves = λ s l v e. (first s.at (facts s l)).leaves (next s) (part_lies s l) (part_within s l v) e;
+      exits = λ s l v. if_map Q (beyond s.at) x (λ y e. known y e s.at (facts s l));
       goes = λ s l v m.
           let a = inner s l v m in
           let h = begins_so x steady v (behind_least (part s).items (suc s.at)) (ahead_stands op f l.stands).begins.is l.states.0
