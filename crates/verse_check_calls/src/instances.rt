@@ -6,6 +6,7 @@ ghost use Rattle.verse_tree.specs.View.{given_of, givens};
 ghost use Rattle.verse_rules_types.specs.Types.{ty_of};
 ghost use Rattle.verse_check_typing.specs.Facts.{named_ref};
 ghost use Rattle.verse_check_typing.specs.Members as m;
+ghost use Rattle.verse_check_calls.specs.Given.{all_have};
 ghost use Rattle.verse_check_typing.specs.Rows as rows;
 ghost use Rattle.verse_check_typing.specs.TypeRules as r;
 ghost use Rattle.verse_check_typing.specs.Views.{facts_of, judged_of, numbers_of};
@@ -14,6 +15,7 @@ ghost use Rattle.verse_base.specs.declared.rules.TheConstants.{TYPES_DIFFER, UNC
 
 use crate::members::field_by;
 use crate::names::class_type;
+use shared_list::SharedList;
 use verse_base::refusals::Memory;
 use verse_base::rules::{LACKING, MEMBERLESS, TYPES_DIFFER, UNCALLABLE};
 use verse_check_typing::facts::Facts;
@@ -21,7 +23,7 @@ use verse_check_typing::judged::Judged;
 use verse_check_typing::sets::NumberSet;
 use verse_rules_types::fitting::does_fit;
 use verse_tree::exprs::Given;
-use verse_tree::tables::{FieldInfo, Ref, Ty};
+use verse_tree::tables::{Ref, Ty};
 
 fn does_fit_field(facts: &Facts<'_>, class: u32, ty: &Ty, place: Option<u32>) -> bool
     ensures { result ≡ m.fits_field (facts_of facts.now) class (ty_of ty.now) place }
@@ -89,44 +91,30 @@ fn places(facts: &Facts<'_>, class: u32, parts: &[Given]) -> Result<NumberSet, M
     Ok(found)
 }
 
-/// Whether each field has a default or is given.
-fn are_all_given(given: &NumberSet, fields: &[FieldInfo]) -> Result<bool, Memory>
-    ensures { IfOk result (λ b. b ≡ m.all_given (numbers_of given.now) 0 fields.now) }
+/// Whether all these places are given.
+fn are_all_given(given: &NumberSet, lacking: &SharedList<u32>) -> bool
+    ensures { result ≡ all_have (numbers_of given.now) lacking.now }
 {
-    let mut at = 0u32;
-    'fields: for field in fields {
-        if field.default.is_none() && !given.has(at) {
-            return Ok(false);
+    'places: for at in 0..lacking.len() {
+        if let Some(place) = lacking.get(at)
+            && !given.has(*place)
+        {
+            return false;
         }
-        at = next(at)?;
     }
-    Ok(true)
+    true
 }
 
-fn next(at: u32) -> Result<u32, Memory>
-    ensures { IfOk result (λ n. n ≡ at + 1) }
-{
-    match at.checked_add(1) {
-        None => Err(Memory),
-        Some(at) => Ok(at),
-    }
-}
-
-fn fields_of<'a>(facts: &Facts<'a>, class: u32) -> &'a [FieldInfo]
-    ensures { result.now ≡ m.fields_of (facts_of facts.now) class }
-{
-    match facts.classes().get(class as usize) {
-        None => &[],
-        Some(info) => info.fields.as_slice(),
-    }
-}
-
+#[tactic(auto, using(crate::proofs::Given::all_lacking))]
 fn has_all(facts: &Facts<'_>, class: u32, parts: &[Given]) -> Result<bool, Memory>
     ensures { IfOk result (λ b. b ≡
         m.has_all (facts_of facts.now) class (givens (map given_of parts.now))) }
 {
     let given = places(facts, class, parts)?;
-    are_all_given(&given, fields_of(facts, class))
+    match facts.classes().get(class as usize) {
+        None => Ok(true),
+        Some(info) => Ok(are_all_given(&given, info.fields.lacking())),
+    }
 }
 
 fn class_code(facts: &Facts<'_>, class: u32, parts: &[Given]) -> Result<Option<u16>, Memory>

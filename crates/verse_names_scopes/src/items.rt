@@ -16,7 +16,6 @@ ghost use Rattle.verse_names_scopes.specs.Scopes.{through_item, through_items};
 ghost use Rattle.verse_names_scopes.specs.Naming.{noted, cut_back};
 ghost use Rattle.verse_names_scopes.specs.Views.{world_of, naming_of};
 
-use crate::members::bare_members;
 use crate::naming::{Naming, World};
 use crate::trees::walk;
 use crate::types::walk_type;
@@ -25,8 +24,8 @@ use std::alloc::Global;
 use verse_base::places::Place;
 use verse_base::refusals::Memory;
 use verse_names_declarations::counting::Counted;
-use verse_names_declarations::dictionaries::Dict;
 use verse_names_declarations::known::Known;
+use verse_names_declarations::members::all_members;
 use verse_tree::exprs::Expr;
 use verse_tree::items::{ClassItem, Field, Fun, Item, Member, Param};
 
@@ -150,11 +149,11 @@ fn walk_class<'a>(
         through_members noted cut_back (known_of known.now) (outside (known_of known.now))
         (inside (known_of known.now) number) (class_of item.now).members (naming_of naming.old)) }
 {
-    let members = bare_members(alloc, known, number)?;
+    let members = all_members(alloc, known, number)?;
     let inner = World {
         items: &known.index.items,
         types: &known.index.types,
-        members: &members,
+        members: Some(&members),
         class: Some(number),
     };
     walk_members(naming, known, world, &inner, item.members.as_slice())
@@ -214,11 +213,10 @@ pub fn walk_program<'a>(
         (through_items noted cut_back (known_of known.now) (known_of known.now).items
         (naming_of naming.old))) }
 {
-    let none = Dict::new(alloc);
     let world = World {
         items: &known.index.items,
         types: &known.index.types,
-        members: &none,
+        members: None,
         class: None,
     };
     walk_items(alloc, naming, known, &world, &known.items)?;
