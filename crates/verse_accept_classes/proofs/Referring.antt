@@ -1,7 +1,8 @@
 -- What names stand for is there.
-use Rattle.std.proofs.Common.{◌≡◌, ℕ, zero, suc, ◌+◌, ◌<◌, Bool, true, false, cond, bytes_eq, List, [], ◌∷◌, ◌++◌, map, length}
+use Rattle.std.proofs.Common.{◌≡◌, ℕ, zero, suc, ◌+◌, ◌<◌, Bool, true, false, cond, bytes_eq, List, [], ◌∷◌, ◌++◌, length}
 use Rattle.std.proofs.Common.{Option, refl, sym, ap, ◌∙◌, subst, arith}
 use Rattle.std.specs.Prelude.{Some, None, slice_get}
+use Rattle.std.proofs.lemmas.List.{length-map}
 use Rattle.verse_tree.specs.Tree.{Bytes}
 use Rattle.verse_tree.specs.ItemTree.{MemberTree, field, method, ItemTree, using, enumeration}
 use Rattle.verse_tree.specs.ItemTree.{class, function}
@@ -162,10 +163,6 @@ found_method c x i (y ∷ ys) r e = by (bytes_eq x y) e (found_method c x (i + 1
         let g = f e in
         record { place = suc g.place; is = g.is ∙ ap (ref.Method c) (omega arith); within = omega (arith, g.within) }
 
-map_length : {A B : Type 0} (f : A → B) (xs : List A) → length (map f xs) ≡ length xs
-map_length f [] = refl
-map_length f (x ∷ xs) = ap suc (map_length f xs)
-
 entry_within : (t : Table) (i : ℕ) → i < length t → (e : Bytes × Ref) × (slice_get t i ≡ Some e)
 entry_within [] i l = absurd (omega (arith, l))
 entry_within (e ∷ t) zero l = (e, refl)
@@ -215,7 +212,7 @@ module _ (is : List ItemTree) (quiet : (n c : ℕ) → ItemsBreak is n c → ⊥
   method_there c x r e =
       let f = found_method c x 0 (names (all_members k c).methods) r e in
       let within : f.place < length (all_members k c).methods =
-      omega (arith, f.within, map_length (λ (e : Bytes × Ref). e.0) (all_members k c).methods) in
+      omega (arith, f.within, length-map (all_members k c).methods (λ (e : Bytes × Ref). e.0)) in
       subst (IsThere is (Some c)) (sym (f.is ∙ ap (ref.Method c) (omega arith))) (refl, is_method c f.place within)
 
   bare_there : (c : ℕ) (x : Bytes) (r : Ref) → look x (bare_members k c) ≡ Some r → IsThere is (Some c) r

@@ -1,7 +1,9 @@
 -- Conditions, loops, groups and what leaves a body: what their forms need.
 use Rattle.std.proofs.Common.{◌≡◌, ℕ, Bool, true, false, not, cond, ◌||◌, List, [], ◌∷◌, refl, sym, subst, ap, ◌∙◌}
 use Rattle.std.specs.Prelude.{Some, option_map}
+use Rattle.std.proofs.lemmas.Bool.{not-false}
 use Rattle.verse_base.specs.declared.places.Place.{Place}
+use Rattle.verse_base.proofs.Facts.{and_first, and_second, not_second, guarded}
 use Rattle.verse_tree.specs.Tree.{Written, Tree, Shape, Trees}
 use Rattle.verse_tree.specs.Tree as t
 use Rattle.verse_tree.specs.ItemTree.{ItemTree}
@@ -38,7 +40,7 @@ use Rattle.verse_sound_rules.specs.Forms as takes
 use Rattle.verse_sound_rules.specs.Fine.{sorts_at}
 use Rattle.verse_accept_rows.specs.Found.{final}
 use Rattle.verse_accept_fine.specs.Sorted.{At, ty_at, all_classes, up, written_sort, sorted, program, Allows, is_array_type}
-use Rattle.verse_accept_fine.proofs.Rules.{not_not, both_false, guarded, and_left, and_right, or_left, or_right}
+use Rattle.verse_accept_fine.proofs.Rules.{or_left, or_right}
 use Rattle.verse_accept_fine.proofs.Base.{types, effects, its_row, of_row, is_row}
 use Rattle.verse_accept_fine.proofs.Operators.{int_fits, caught, tuple_sorts}
 
@@ -156,8 +158,8 @@ module _ (is : List ItemTree) (arrays events : ℕ → Bool) where
       no_case = c;
       taken = s.int ∷ s.int ∷ [];
       given = s.int;
-      operands = fit_so (int_fits is arrays events (type_of F e) (and_left (is_int (type_of F e)) _ h))
-          (fit_so (int_fits is arrays events (type_of F f) (and_right (is_int (type_of F e)) _ h)) fit_no);
+      operands = fit_so (int_fits is arrays events (type_of F e) (and_first (is_int (type_of F e)) _ h))
+          (fit_so (int_fits is arrays events (type_of F f) (and_second (is_int (type_of F e)) _ h)) fit_no);
       takes = k;
       value = is_row is n ty.int r;
     }
@@ -165,13 +167,13 @@ module _ (is : List ItemTree) (arrays events : ℕ → Bool) where
     pub difference_gives : (v : Bool) (e f : Tree) → At is w a xs n p (t.Shape.chained op.Sub e f) →
         Give (form.computing op.Sub v p) (sort_of (type_of F e) ∷ sort_of (type_of F f) ∷ [])
     difference_gives v e f h =
-        ints_given (form.computing op.Sub v p) e f (not_not _ (types is w a xs n p (t.Shape.chained op.Sub e f) h).matched)
+        ints_given (form.computing op.Sub v p) e f (not-false _ (types is w a xs n p (t.Shape.chained op.Sub e f) h).matched)
         (its_row is w a xs n p (t.Shape.chained op.Sub e f) h) takes.takes_difference tt
 
     pub product_gives : (v : Bool) (e f : Tree) → At is w a xs n p (t.Shape.chained op.Mul e f) →
         Give (form.computing op.Mul v p) (sort_of (type_of F e) ∷ sort_of (type_of F f) ∷ [])
     product_gives v e f h =
-        ints_given (form.computing op.Mul v p) e f (not_not _ (types is w a xs n p (t.Shape.chained op.Mul e f) h).matched)
+        ints_given (form.computing op.Mul v p) e f (not-false _ (types is w a xs n p (t.Shape.chained op.Mul e f) h).matched)
         (its_row is w a xs n p (t.Shape.chained op.Mul e f) h) takes.takes_product tt
 
     -- the join of arrays is an array
@@ -243,7 +245,7 @@ module _ (is : List ItemTree) (arrays events : ℕ → Bool) where
     pub sum_gives : (e f : Tree) → At is w a xs n p (t.Shape.chained op.Add e f) → arrays n ≡ is_array_type (ty_at is n) →
         Give (form.computing op.Add (arrays n) p) (sort_of (type_of F e) ∷ sort_of (type_of F f) ∷ [])
     sum_gives e f h q =
-        sum_by (type_of F e) (type_of F f) (not_not _ (types is w a xs n p (t.Shape.chained op.Add e f) h).matched)
+        sum_by (type_of F e) (type_of F f) (not-false _ (types is w a xs n p (t.Shape.chained op.Add e f) h).matched)
         (its_row is w a xs n p (t.Shape.chained op.Add e f) h) q
 
     -- ---- comparisons
@@ -293,9 +295,9 @@ module _ (is : List ItemTree) (arrays events : ℕ → Bool) where
     pub returned_gives : (v : Written) (e : Tree) → At is w a xs n p (t.Shape.returned e) → a.owner.result ≡ Some v →
         Give form.returning (sort_of (type_of F e) ∷ [])
     returned_gives v e h own =
-        let may : a.may_return ≡ true = not_not _ (effects is w a xs n p (t.Shape.returned e) h).stays in
+        let may : a.may_return ≡ true = not-false _ (effects is w a xs n p (t.Shape.returned e) h).stays in
         let fit : fits (all_classes is) (type_of F e) (spelled F v) ≡ true =
-        ap (λ o. fits_result F o (type_of F e)) (sym own) ∙ not_not _ (types is w a xs n p (t.Shape.returned e) h).matched in
+        ap (λ o. fits_result F o (type_of F e)) (sym own) ∙ not-false _ (types is w a xs n p (t.Shape.returned e) h).matched in
         record {
           no_case = tt;
           taken = written_sort is v ∷ [];
@@ -312,14 +314,14 @@ module _ (is : List ItemTree) (arrays events : ℕ → Bool) where
     pub unit_returned : (v : Written) → At is w a xs n p t.Shape.returned_unit → a.owner.result ≡ Some v →
         (r : Sort) × (b.result ≡ Some r) × Fits (up is) s.unit r
     unit_returned v h own =
-        let may : a.may_return ≡ true = not_not _ (effects is w a xs n p t.Shape.returned_unit h).stays in
+        let may : a.may_return ≡ true = not-false _ (effects is w a xs n p t.Shape.returned_unit h).stays in
         let fit : fits (all_classes is) ty.void (spelled F v) ≡ true =
-        ap (λ o. fits_result F o ty.void) (sym own) ∙ not_not _ (types is w a xs n p t.Shape.returned_unit h).matched in
+        ap (λ o. fits_result F o ty.void) (sym own) ∙ not-false _ (types is w a xs n p t.Shape.returned_unit h).matched in
         (written_sort is v, allows.result may ∙ ap (option_map (written_sort is)) own, void_fits (spelled F v) fit)
 
     pub break_allowed : At is w a xs n p t.Shape.break_form → b.breaks ≡ true
     break_allowed h =
-        let may : a.may_break ≡ true = not_not _ (effects is w a xs n p t.Shape.break_form h).stays in
+        let may : a.may_break ≡ true = not-false _ (effects is w a xs n p t.Shape.break_form h).stays in
         let l = allows.loop may in
         allows.breaks may l.0 l.1 ∙ h.left l.0 l.1
 
@@ -335,14 +337,14 @@ module _ (is : List ItemTree) (arrays events : ℕ → Bool) where
     pub async_waits : (x : Shape) → At is w a xs n p x → is_async (completed is) a x ≡ true → b.waits ≡ true
     async_waits x h e =
         let kept = effects is w a xs n p x h in
-        let off = both_false (is_async (completed is) a x) _ kept.suspends e in
-        let suspends : a.owner.effects.suspends ≡ true = not_not _ (or_left (not a.owner.effects.suspends) a.is_deferred off) in
-        allows.waits (both_false (is_async (completed is) a x) a.is_tried kept.tried e) (or_right
+        let off = not_second (is_async (completed is) a x) _ kept.suspends e in
+        let suspends : a.owner.effects.suspends ≡ true = not-false _ (or_left (not a.owner.effects.suspends) a.is_deferred off) in
+        allows.waits (not_second (is_async (completed is) a x) a.is_tried kept.tried e) (or_right
         (not a.owner.effects.suspends) a.is_deferred off)
         (ap (λ q. q || Rattle.verse_effects.specs.Callees.is_lasting a.owner.effects) suspends)
 
     pub async_free : (x : Shape) → At is w a xs n p x → is_async (completed is) a x ≡ true → a.is_tried ≡ false
-    async_free x h e = both_false (is_async (completed is) a x) a.is_tried (effects is w a xs n p x h).tried e
+    async_free x h e = not_second (is_async (completed is) a x) a.is_tried (effects is w a xs n p x h).tried e
 
     pub sync_fits : (ts : Trees) → At is w a xs n p (t.Shape.sync ts) →
         Fits (up is) (s.tuple (sorts (sorts_at (program is arrays events) (sorted is) ts))) (sort_of (ty_at is n))

@@ -2,7 +2,9 @@
 use Rattle.std.proofs.Common.{◌≡◌, ℕ, zero, suc, ℤ, Bool, true, false, not, cond, ◌&&◌, nat_eq, List, [], ◌∷◌, Option, length}
 use Rattle.std.proofs.Common.{refl, sym, subst, ap, ◌∙◌}
 use Rattle.std.specs.Prelude.{Some, None, pos, negsuc}
+use Rattle.std.proofs.lemmas.Bool.{not-false}
 use Rattle.verse_base.specs.declared.places.Place.{Place}
+use Rattle.verse_base.proofs.Facts.{and_first, and_second}
 use Rattle.verse_tree.specs.Tree.{Tree, tree, Shape, Trees, no_trees, more_trees}
 use Rattle.verse_tree.specs.Tree as t
 use Rattle.verse_tree.specs.ItemTree.{ItemTree}
@@ -54,7 +56,6 @@ use Rattle.verse_accept_classes.specs.Owners.{Owned}
 use Rattle.verse_accept_classes.specs.Referring.{IsFunction, IsMethod}
 use Rattle.verse_accept_classes.specs.Laws.{FunctionsStand}
 use Rattle.verse_accept_fine.specs.Sorted.{At, ty_at, all_classes, up, sorted, program, Allows, class_in}
-use Rattle.verse_accept_fine.proofs.Rules.{not_not, and_left, and_right}
 use Rattle.verse_accept_fine.proofs.Base.{its_row, of_row, is_row}
 use Rattle.verse_accept_fine.proofs.Base as base
 use Rattle.verse_accept_fine.proofs.Operators.{int_fits, caught, key_sort}
@@ -87,7 +88,7 @@ no_case_picked (more_trees e no_trees) = tt
 no_case_picked (more_trees e (more_trees d es)) = tt
 
 -- what is fixed is neither called nor indexed
-not_called : (u : Ty) → IsFixed u → can_call (types.value u) ≡ false
+pub not_called : (u : Ty) → IsFixed u → can_call (types.value u) ≡ false
 not_called u fixed_int = refl
 not_called u fixed_enum = refl
 
@@ -184,17 +185,17 @@ module _ (is : List ItemTree) (arrays events : ℕ → Bool) where
 
     module _ (e : Tree) (ts : Trees) (h : Is (t.Shape.call e ts)) where
       fit : (k : types.Callee) → types.callee_of F e ≡ k → arguments_fit F k ts ≡ true
-      fit k g = ap (λ z. arguments_fit F z ts) (sym g) ∙ not_not _ (base.types is w a xs n p (t.Shape.call e ts) h).matched
+      fit k g = ap (λ z. arguments_fit F z ts) (sym g) ∙ not-false _ (base.types is w a xs n p (t.Shape.call e ts) h).matched
 
       counted : (k : types.Callee) → types.callee_of F e ≡ k → are_wanted (call_wanted k) (count ts) ≡ true
       counted k g =
-          ap (λ z. are_wanted (call_wanted z) (count ts)) (sym g) ∙ not_not _ (base.types is w a xs n p (t.Shape.call e ts) h).counted
+          ap (λ z. are_wanted (call_wanted z) (count ts)) (sym g) ∙ not-false _ (base.types is w a xs n p (t.Shape.call e ts) h).counted
 
       row : (k : types.Callee) → types.callee_of F e ≡ k → ty_at is n ≡ call_type k ts
       row k g = its_row is w a xs n p (t.Shape.call e ts) h ∙ ap (λ z. call_type z ts) g
 
       called : (k : types.Callee) → types.callee_of F e ≡ k → can_call k ≡ true
-      called k g = ap can_call (sym g) ∙ not_not _ (base.types is w a xs n p (t.Shape.call e ts) h).callable
+      called k g = ap can_call (sym g) ∙ not-false _ (base.types is w a xs n p (t.Shape.call e ts) h).callable
 
       -- ---- built-in functions
 
@@ -213,13 +214,13 @@ module _ (is : List ItemTree) (arrays events : ℕ → Bool) where
           Give x (sort_of (type_of F y) ∷ sort_of (type_of F z) ∷ [])
       round_gives x k take r i q y z o =
           let ints : are_ints (type_of F y) (type_of F z) ≡ true =
-          not_not _ (base.types is w (used_as (argument (number_of_tree e) 0) a) xs i q (t.Shape.chained op.Div y z) o).matched in
+          not-false _ (base.types is w (used_as (argument (number_of_tree e) 0) a) xs i q (t.Shape.chained op.Div y z) o).matched in
           record {
             no_case = k;
             taken = s.int ∷ s.int ∷ [];
             given = s.int;
-            operands = fit_so (int_fits is arrays events (type_of F y) (and_left (is_int (type_of F y)) (is_int (type_of F z)) ints))
-                (fit_so (int_fits is arrays events (type_of F z) (and_right (is_int (type_of F y)) (is_int (type_of F z)) ints)) fit_no);
+            operands = fit_so (int_fits is arrays events (type_of F y) (and_first (is_int (type_of F y)) (is_int (type_of F z)) ints))
+                (fit_so (int_fits is arrays events (type_of F z) (and_second (is_int (type_of F y)) (is_int (type_of F z)) ints)) fit_no);
             takes = take;
             value = is_row is n ty.int r;
           }
@@ -332,7 +333,7 @@ module _ (is : List ItemTree) (arrays events : ℕ → Bool) where
       pick_gives v =
           let g = v.callee in
           pick_by (type_of F e) (called (types.value (type_of F e)) g) (counted (types.value (type_of F e)) g)
-          (ap (λ z. has_called_item z ts) (sym g) ∙ not_not _ (base.types is w a xs n p (t.Shape.call e ts) h).member)
+          (ap (λ z. has_called_item z ts) (sym g) ∙ not-false _ (base.types is w a xs n p (t.Shape.call e ts) h).member)
           (row (types.value (type_of F e)) g)
 
       -- ---- by the callee
@@ -374,11 +375,11 @@ module _ (is : List ItemTree) (arrays events : ℕ → Bool) where
 
     module _ (e : Tree) (ts : Trees) (h : Is (t.Shape.index e ts)) where
       fit_index : (k : types.Callee) → types.callee_of F e ≡ k → indices_fit F k ts ≡ true
-      fit_index k g = ap (λ z. indices_fit F z ts) (sym g) ∙ not_not _ (base.types is w a xs n p (t.Shape.index e ts) h).matched
+      fit_index k g = ap (λ z. indices_fit F z ts) (sym g) ∙ not-false _ (base.types is w a xs n p (t.Shape.index e ts) h).matched
 
       counted_index : (k : types.Callee) → types.callee_of F e ≡ k → are_wanted (index_wanted k) (count ts) ≡ true
       counted_index k g =
-          ap (λ z. are_wanted (index_wanted z) (count ts)) (sym g) ∙ not_not _ (base.types is w a xs n p (t.Shape.index e ts) h).counted
+          ap (λ z. are_wanted (index_wanted z) (count ts)) (sym g) ∙ not-false _ (base.types is w a xs n p (t.Shape.index e ts) h).counted
 
       row_index : (k : types.Callee) → types.callee_of F e ≡ k → ty_at is n ≡ index_type k ts
       row_index k g = its_row is w a xs n p (t.Shape.index e ts) h ∙ ap (λ z. index_type z ts) g
@@ -447,7 +448,7 @@ module _ (is : List ItemTree) (arrays events : ℕ → Bool) where
         given = sort_of u;
         operands = fit_so (fits_itself (up is) (s.map (sort_of l) (sort_of u)))
             (fit_so (fitting.fits_sort (all_classes is) (type_of F (tree m q x)) l i) fit_no);
-        takes = takes.takes_index f (in_map (key_sort is arrays events l (and_left (is_key l) (has_keys u) k)));
+        takes = takes.takes_index f (in_map (key_sort is arrays events l (and_first (is_key l) (has_keys u) k)));
         value = is_row is n u r;
       }
       element_by (ty.mapping l u) (more_trees y (more_trees z vs)) i one k f r = absurd (not_one y z vs one)
@@ -479,6 +480,6 @@ module _ (is : List ItemTree) (arrays events : ℕ → Bool) where
       index_by stand used path keys args (as_value v has) = (has, index_gives v keys path)
       index_by stand used path keys args (is_item g) =
           let no : can_stand_indexed types.item ≡ true =
-          ap can_stand_indexed (sym g) ∙ not_not _ (base.types is w a xs n p (t.Shape.index e ts) h).callable in absurd (cc)
+          ap can_stand_indexed (sym g) ∙ not-false _ (base.types is w a xs n p (t.Shape.index e ts) h).callable in absurd (cc)
       index_by stand used path keys args (is_fixed u f g k) =
           let no : false ≡ true = sym (not_indexed u ts f) ∙ fit_index (types.value u) g in absurd (cc)

@@ -1,6 +1,8 @@
 -- Literals, statements, failure contexts, events, blocks and waits: what their forms need.
 use Rattle.std.proofs.Common.{◌≡◌, ℕ, ℤ, Bool, true, false, not, ◌&&◌, List, [], ◌∷◌, Option, refl, subst}
+use Rattle.std.proofs.lemmas.Bool.{not-false}
 use Rattle.verse_base.specs.declared.places.Place.{Place}
+use Rattle.verse_base.proofs.Facts.{guarded}
 use Rattle.verse_tree.specs.Tree.{Bytes, Written, Tree, Shape, Trees}
 use Rattle.verse_tree.specs.Tree as t
 use Rattle.verse_tree.specs.ItemTree.{ItemTree}
@@ -25,7 +27,6 @@ use Rattle.verse_sound_rules.specs.Forms.{Gives}
 use Rattle.verse_sound_rules.specs.Forms as takes
 use Rattle.verse_accept_rows.specs.Found.{final}
 use Rattle.verse_accept_fine.specs.Sorted.{At, ty_at, all_classes, up, sorted, program, Allows}
-use Rattle.verse_accept_fine.proofs.Rules.{not_not, guarded}
 use Rattle.verse_accept_fine.proofs.Base.{types, effects, its_row, of_row, is_row}
 use Rattle.verse_accept_fine.proofs.Operators.{caught}
 use Rattle.verse_accept_fine.proofs.Control.{async_waits}
@@ -106,10 +107,10 @@ module _ (is : List ItemTree) (arrays events : ℕ → Bool) (w : World) (a : Ar
   }
 
   pub may_return : (e : Tree) → Is (t.Shape.returned e) → a.may_return ≡ true
-  may_return e h = not_not a.may_return (effects is w a xs n p (t.Shape.returned e) h).stays
+  may_return e h = not-false a.may_return (effects is w a xs n p (t.Shape.returned e) h).stays
 
   pub may_return_unit : Is t.Shape.returned_unit → a.may_return ≡ true
-  may_return_unit h = not_not a.may_return (effects is w a xs n p t.Shape.returned_unit h).stays
+  may_return_unit h = not-false a.may_return (effects is w a xs n p t.Shape.returned_unit h).stays
 
   -- ---- failure contexts
 

@@ -4,7 +4,7 @@ use Rattle.std.proofs.Common.{Some, None, refl, sym, ap, ◌∙◌, cond, take, 
 use Rattle.std.proofs.lemmas.List.{drop_at}
 use Rattle.std.proofs.Math.Seq.{take-append_seam}
 use Rattle.std.proofs.Common.{subst, arith, nat_lt, nat_le, not, length}
-use Rattle.std.proofs.lemmas.Bool.{leb-true, ltb-false}
+use Rattle.std.proofs.lemmas.Bool.{leb-true, ltb-false, and_parts}
 use Rattle.verse_base.specs.declared.places.Place.{Place}
 use Rattle.verse_base.specs.declared.refusals.Rule.{Rule}
 use Rattle.verse_lex.specs.Texts.{is_quoted, escape}
@@ -20,7 +20,7 @@ use Rattle.verse_lex.specs.declared.tokens.TokenKind.{TokenKind}
 use Rattle.verse_lex.specs.declared.tokens.TokenKind.TheVariants as k
 use Rattle.verse_lex_laws.specs.Spelling as s
 use Rattle.verse_lex_laws.specs.Spelling.{Literal, Number, duration_rule, is_token, Spells, IsSpelled, EachSpelled}
-use Rattle.verse_lex_laws.proofs.Runs.{equal, both}
+use Rattle.verse_lex_laws.proofs.Runs.{equal}
 use Rattle.verse_lex_laws.proofs.Files.{tokens_spelled}
 use Rattle.verse_code.specs.declared.validity.TheConstants.{MOST_PAUSE}
 use Rattle.verse_code.specs.Validity.{IsPlace}
@@ -28,6 +28,7 @@ use Rattle.lower_bounds.proofs.Lists.{Each}
 use Rattle.verse_tree.specs.Tree.{Bytes}
 use Rattle.verse_meaning.specs.Programs.{same_name}
 use Rattle.verse_meaning.specs.Forms.{this_name}
+use Rattle.verse_meaning.proofs.Names.{name_same}
 use Rattle.verse_accept_nodes.specs.Laws.{IsNew}
 
 abbrev pub KindFits : TokenKind → Type 0
@@ -86,7 +87,7 @@ escape_low b c h =
 
 literal_low : {cs : List ℕ} {c : ℕ} → Literal cs c → c ≤ 255
 literal_low (s.literal_plain {b = b} h e) =
-    let low : b ≤ 126 = leb-true b 126 (both (nat_le b 126) (not (b == 39)) (both (nat_le 32 b) _ h).1).0 in omega arith
+    let low : b ≤ 126 = leb-true b 126 (and_parts (nat_le b 126) (not (b == 39)) (and_parts (nat_le 32 b) _ h).1).0 in omega arith
 literal_low (s.literal_escaped {b = b} {c = c} h) = escape_low b c h
 
 -- ---- pauses
@@ -124,16 +125,6 @@ spelled_fits (s.single_in_hole h e f) = tt
 both_true : (v w : Bool) → cond v w false ≡ true → (v ≡ true) × (w ≡ true)
 both_true true w h = (refl, h)
 both_true false w h = absurd (cc)
-
-name_same : (x y : Bytes) → same_name x y ≡ true → x ≡ y
-name_same [] [] h = refl
-name_same [] (c ∷ y) h = absurd (cc)
-name_same (b ∷ x) [] h = absurd (cc)
-name_same (b ∷ x) (c ∷ y) h =
-    let f = both_true (b == c) (same_name x y) h in
-    let e = name_same x y f.1 in
-    let g = equal b c f.0 in
-    cc
 
 -- what is spelled as `Self` is is a word
 not_this : (cs : Bytes) (v : Bool) → same_name this_name cs ≡ v → name_kind cs ≡ k.Name → v ≡ false

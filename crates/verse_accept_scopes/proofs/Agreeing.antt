@@ -1,8 +1,10 @@
 -- The nodes that are walked and those whose names are looked up are the sites, and parts are numbered below the whole.
 use Rattle.std.proofs.Common.{◌≡◌, ℕ, suc, ◌<◌, ◌≤◌, Bool, true, false, List, [], ◌∷◌, ◌++◌, map, Option, refl, ap, sym, ◌∙◌}
 use Rattle.std.proofs.Common.{append_assoc}
-use Rattle.std.proofs.Common.{subst, arith}
+use Rattle.std.proofs.Common.{subst, arith, append-nil}
 use Rattle.std.specs.Prelude.{Some, None}
+use Rattle.std.proofs.lemmas.List.{map-append}
+use Rattle.std.proofs.lemmas.Option.{same_Some}
 use Rattle.verse_base.specs.declared.places.Place.{Place}
 use Rattle.verse_tree.specs.Tree.{Bytes, Written, Writtens, no_writtens, more_writtens, Tree, tree, Shape, Trees, no_trees, more_trees}
 use Rattle.verse_tree.specs.Tree.{Holes}
@@ -48,7 +50,7 @@ use Rattle.verse_accept_scopes.specs.Sites.{written_sites, writtens_sites, tree_
 use Rattle.verse_accept_scopes.specs.Sites.{argument_sites, holes_sites, pairs_sites, givens_sites, params_sites, fun_sites, default_sites}
 use Rattle.verse_accept_scopes.specs.Sites.{field_sites, member_parts, member_site, members_sites, item_parts, item_site, items_sites}
 use Rattle.verse_accept_scopes.specs.Laws.{parts_of, LocalBelow, Stands}
-use Rattle.verse_accept_scopes.proofs.Rows.{map_append, append_nil, each_joined, Row, split, rises, last_number, all_below}
+use Rattle.verse_accept_scopes.proofs.Rows.{each_joined, Row, split, rises, last_number, all_below}
 
 -- a part of a program: how it is visited, the names behind it, its sites by the names before it, and its nodes
 pub record Part : Type 0 where
@@ -107,7 +109,7 @@ with_visits s vs e = ap (λ (l : List Visit). record { locals = s.locals; visits
 
 nothing_agrees : {In : World → Type 0} {ls bs : List ℕ} → Agree In ls bs nothing
 nothing_agrees s = record {
-  seen = with_visits s (s.visits ++ []) (append_nil s.visits);
+  seen = with_visits s (s.visits ++ []) (append-nil s.visits);
   walked = refl;
   stand = λ lo hi r b a m. tt;
   names = λ lo hi r m. subst (λ (k : ℕ). NamesBelow k s.locals) r m;
@@ -138,9 +140,9 @@ in_turn_above {In} {ls} {bs} {p} {q} ms up f g s =
       seen =
           ap q.see (f s).seen ∙ (g middle).seen
           ∙ ap (with_list (q.names ys)) (append_assoc s.visits (map visit_of own) (map visit_of (q.sites ys)))
-          ∙ ap (λ (l : List Visit). with_list (q.names ys) (s.visits ++ l)) (sym (map_append visit_of own (q.sites ys)));
+          ∙ ap (λ (l : List Visit). with_list (q.names ys) (s.visits ++ l)) (sym (map-append visit_of own (q.sites ys)));
       walked =
-          map_append node_of own (q.sites ys) ∙ ap (λ (l : List Node). l ++ map node_of (q.sites ys)) (f s).walked
+          map-append node_of own (q.sites ys) ∙ ap (λ (l : List Node). l ++ map node_of (q.sites ys)) (f s).walked
           ∙ ap (λ (l : List Node). p.nodes ++ l) (g middle).walked;
       stand = λ lo hi r b a m.
           let c = split lo own (q.sites ys) hi r in
@@ -229,12 +231,9 @@ used_list u = []
 abbrev pub callees : Around → List ℕ
 callees a = used_list a.used
 
-same_number : (m n : ℕ) → Some m ≡ Some n → m ≡ n
-same_number m n e = cc
-
 loop_above : (o : Option ℕ) (h n m : ℕ) → suc n ≡ h → Below (loop_list o) h → o ≡ Some m → n < m
 loop_above None h n m e b f = cc
-loop_above (Some k) h n m e b f = omega (arith, e, b.0, same_number k m f)
+loop_above (Some k) h n m e b f = omega (arith, e, b.0, same_Some k m f)
 
 same_callee : (c d i j : ℕ) → argument c i ≡ argument d j → c ≡ d
 same_callee c d i j e = cc
@@ -432,9 +431,9 @@ module _ (In : World → Type 0) (w : World) (home : In w) where
         seen =
             ap (visit w n p (subject n e)) (f s).seen
             ∙ ap (with_list (behind w (tree n p e) s.locals)) (append_assoc s.visits (map visit_of own) (visit_of at ∷ []))
-            ∙ ap (λ (l : List Visit). with_list (behind w (tree n p e) s.locals) (s.visits ++ l)) (sym (map_append visit_of own (at ∷ [])));
+            ∙ ap (λ (l : List Visit). with_list (behind w (tree n p e) s.locals) (s.visits ++ l)) (sym (map-append visit_of own (at ∷ [])));
         walked =
-            map_append node_of own (at ∷ []) ∙ ap (λ (l : List Node). l ++ node n p a (expression e) ∷ []) (f s).walked;
+            map-append node_of own (at ∷ []) ∙ ap (λ (l : List Node). l ++ node n p a (expression e) ∷ []) (f s).walked;
         stand = λ lo hi r b c m.
             let d = split lo own (at ∷ []) hi r in
             let here : suc n ≡ hi = omega (arith, d.rest.0, d.rest.1) in

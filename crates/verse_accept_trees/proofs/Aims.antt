@@ -2,7 +2,9 @@
 use Rattle.std.proofs.Common.{◌≡◌, ◌≢◌, ℕ, Bool, true, false, not, nat_eq, List, [], ◌∷◌, ◌++◌, Option}
 use Rattle.std.proofs.Common.{refl, sym, subst, ap, ◌∙◌}
 use Rattle.std.specs.Prelude.{Some, None, slice_get}
+use Rattle.std.proofs.lemmas.Bool.{not-false}
 use Rattle.verse_base.specs.declared.places.Place.{Place}
+use Rattle.verse_base.proofs.Facts.{and_first}
 use Rattle.verse_tree.specs.Tree.{Bytes, Tree, tree, Shape, Trees}
 use Rattle.verse_tree.specs.Tree as t
 use Rattle.verse_tree.specs.ItemTree.{ItemTree}
@@ -47,7 +49,6 @@ use Rattle.verse_accept_classes.specs.Laws.{Quiet}
 use Rattle.verse_accept_classes.proofs.Tables.{fields_agree_all, field_names_agree}
 use Rattle.verse_accept_fine.specs.Needs.{NoEnum}
 use Rattle.verse_accept_fine.specs.Sorted.{At, ty_at, all_classes, up, sorted, program, Allows}
-use Rattle.verse_accept_fine.proofs.Rules.{not_not, and_left}
 use Rattle.verse_accept_fine.proofs.Base.{its_row, same_known}
 use Rattle.verse_accept_fine.proofs.Base as base
 use Rattle.verse_accept_fine.proofs.Operators.{int_fits, key_sort}
@@ -96,7 +97,7 @@ module _ (is : List ItemTree) (arrays events : ℕ → Bool) where
     taken = sort_of l ∷ [];
     fit = fit_so (fitting.fits_sort (all_classes is) (type_of F (tree m q x)) l i) fit_no;
     path = subst (λ z. Path (s.map (sort_of l) (sort_of u)) (sort_of l ∷ []) (sort_of z)) (sym r)
-        (path_so (sort_of u) (in_map (key_sort is arrays events l (and_left (is_key l) (has_keys u) k))) path_no);
+        (path_so (sort_of u) (in_map (key_sort is arrays events l (and_first (is_key l) (has_keys u) k))) path_no);
   }
 
   module _ (b : Allowed) (xs : Table) where
@@ -153,7 +154,7 @@ module _ (is : List ItemTree) (arrays events : ℕ → Bool) where
 
     module _ (w : World) where
       keyed : (d : Around) (m : ℕ) (q : Place) (x : Shape) → At is w d xs m q x → has_keys (ty_at is m) ≡ true
-      keyed d m q x h = ap has_keys (its_row is w d xs m q x h) ∙ not_not _ (base.types is w d xs m q x h).keyed
+      keyed d m q x h = ap has_keys (its_row is w d xs m q x h) ∙ not-false _ (base.types is w d xs m q x h).keyed
 
       -- ---- an index
 
@@ -161,10 +162,10 @@ module _ (is : List ItemTree) (arrays events : ℕ → Bool) where
           IsValue is arrays events f → has_keys (type_of F f) ≡ true → Steps (type_of F f) ts (ty_at is m)
       more_steps d m q f ts h g k =
           let fit : can_index F (type_of F f) ts ≡ true =
-          ap (λ z. indices_fit F z ts) (sym g.callee) ∙ not_not _ (base.types is w d xs m q (t.Shape.index f ts) h).matched in
+          ap (λ z. indices_fit F z ts) (sym g.callee) ∙ not-false _ (base.types is w d xs m q (t.Shape.index f ts) h).matched in
           let number : are_wanted (takes_one_index (type_of F f)) (count ts) ≡ true =
           ap (λ z. are_wanted (index_wanted z) (count ts)) (sym g.callee) ∙
-          not_not _ (base.types is w d xs m q (t.Shape.index f ts) h).counted in
+          not-false _ (base.types is w d xs m q (t.Shape.index f ts) h).counted in
           steps (ty_at is m) (indexing F (type_of F f) ts fit number) fit k
           (its_row is w d xs m q (t.Shape.index f ts) h ∙ ap (λ z. index_type z ts) g.callee)
 

@@ -1,7 +1,9 @@
 -- Each tree of a program that breaks no rule is fine: by recursion on it, with a law for each form.
 use Rattle.std.proofs.Common.{◌≡◌, ℕ, ◌+◌, Bool, true, false, not, ◌&&◌, List, [], ◌∷◌, Option, refl, sym, ap, ◌∙◌, subst}
 use Rattle.std.specs.Prelude.{Some, None, slice_get}
+use Rattle.std.proofs.lemmas.Bool.{not-false}
 use Rattle.verse_base.specs.declared.places.Place.{Place}
+use Rattle.verse_base.proofs.Facts.{and_first, and_second, clash}
 use Rattle.verse_tree.specs.Tree.{Bytes, Written, Tree, tree, Shape, Trees, no_trees, more_trees, Holes, no_holes, more_holes, Givens}
 use Rattle.verse_tree.specs.Tree.{no_givens, more_givens}
 use Rattle.verse_tree.specs.Tree as t
@@ -45,7 +47,6 @@ use Rattle.verse_accept_classes.specs.Laws.{Quiet, FunctionsStand}
 use Rattle.verse_accept_fine.specs.Needs.{NoEnum, EachFits, ArmsFit, Values, Control, Naming}
 use Rattle.verse_accept_fine.specs.Needs as needs
 use Rattle.verse_accept_fine.specs.Sorted.{At, ty_at, sorted, program, Allows, is_event_type, is_array_type}
-use Rattle.verse_accept_fine.proofs.Rules.{not_not, and_left, and_right}
 use Rattle.verse_accept_fine.proofs.Base.{types, same_known}
 use Rattle.verse_accept_forms.specs.Plain.{Plain}
 use Rattle.verse_accept_forms.specs.Callees.{Callees, HasValue, HasObject, Rounds, Starts}
@@ -53,7 +54,7 @@ use Rattle.verse_accept_trees.specs.Targets.{Targets}
 use Rattle.verse_accept_trees.specs.Targets as targets
 use Rattle.verse_accept_trees.specs.Names.{Named}
 use Rattle.verse_accept_trees.specs.Needs.{Needs}
-use Rattle.verse_accept_trees.proofs.Nodes.{no, apart_from, IsForm, TakesForms, form_stands, stand_in, may_defer, no_generator}
+use Rattle.verse_accept_trees.proofs.Nodes.{no, IsForm, TakesForms, form_stands, stand_in, may_defer, no_generator}
 use Rattle.verse_accept_trees.proofs.Nodes.{statement_stands, clause_stands, clauses_all, some_all, two_all, holes_all, behind_is}
 use Rattle.verse_accept_trees.proofs.Nodes.{all_behind_is}
 use Rattle.verse_accept_trees.proofs.Rounding.{NoQuotient, callee_rounds, target_rounds, indexed_rounds, indexed_starts, indexed_path}
@@ -158,7 +159,7 @@ module _ (is : List ItemTree) (arrays events : ℕ → Bool) (quiet : Quiet is) 
   used_valued a b c u xs n p (t.Shape.call e ts) i h = u.spawned
   used_valued a b c u xs n p (t.Shape.index e ts) i h = (u.spawned, u.path)
   used_valued a b c u xs n p (t.Shape.chained op.Div e f) i h =
-      apart_from (is_rounded (final is) a.used) ((plain_at c xs n p).quotient e f h).0 u.rounded
+      clash (is_rounded (final is) a.used) ((plain_at c xs n p).quotient e f h).0 u.rounded
   used_valued a b c u xs n p (t.Shape.chained op.Or e f) i h = tt
   used_valued a b c u xs n p (t.Shape.chained op.And e f) i h = tt
   used_valued a b c u xs n p (t.Shape.chained op.Add e f) i h = tt
@@ -237,7 +238,7 @@ module _ (is : List ItemTree) (arrays events : ℕ → Bool) (quiet : Quiet is) 
   callee_valued d a b l q c r u v xs n p (t.Shape.call m ts) g y z o e h = u
   callee_valued d a b l q c r u v xs n p (t.Shape.index m ts) g y z o e h = (u, v)
   callee_valued d a b l q c r u v xs n p (t.Shape.chained op.Div m f) g y z o e h =
-      apart_from (is_rounded (final is) a.used) ((plain_at c xs n p).quotient m f h).0 r
+      clash (is_rounded (final is) a.used) ((plain_at c xs n p).quotient m f h).0 r
   callee_valued d a b l q c r u v xs n p (t.Shape.chained op.Or m f) g y z o e h = tt
   callee_valued d a b l q c r u v xs n p (t.Shape.chained op.And m f) g y z o e h = tt
   callee_valued d a b l q c r u v xs n p (t.Shape.chained op.Add m f) g y z o e h = tt
@@ -266,14 +267,14 @@ module _ (is : List ItemTree) (arrays events : ℕ → Bool) (quiet : Quiet is) 
   index_round a xs n e y p k g h d f = callee_rounds is arrays events w (around.indexed a) xs n e y p k h (form_at e g) d f
 
   takes_first : (e : Tree) (ts : Trees) → all_take (final is) (more_trees e ts) ≡ true → takes (final is) e ≡ true
-  takes_first e ts h = and_left (takes (final is) e) (all_take (final is) ts) h
+  takes_first e ts h = and_first (takes (final is) e) (all_take (final is) ts) h
 
   takes_rest : (e : Tree) (ts : Trees) → all_take (final is) (more_trees e ts) ≡ true → all_take (final is) ts ≡ true
-  takes_rest e ts h = and_right (takes (final is) e) (all_take (final is) ts) h
+  takes_rest e ts h = and_second (takes (final is) e) (all_take (final is) ts) h
 
   takes_of : (a : Around) (xs : Table) (n : ℕ) (p : Place) (ts : Trees) (e : Tree) → At is w a xs n p (t.Shape.for_form ts e) →
       all_take (final is) ts ≡ true
-  takes_of a xs n p ts e h = not_not _ (types is w a xs n p (t.Shape.for_form ts e) h).matched
+  takes_of a xs n p ts e h = not-false _ (types is w a xs n p (t.Shape.for_form ts e) h).matched
 
   -- ---- what the checker finds is fine, form by form
 

@@ -1,6 +1,8 @@
 -- What `set` needs.
 use Rattle.std.proofs.Common.{◌≡◌, ℕ, Bool, true, not, List, [], ◌∷◌, ◌++◌, refl, ap}
+use Rattle.std.proofs.lemmas.Bool.{not-false}
 use Rattle.verse_base.specs.declared.places.Place.{Place}
+use Rattle.verse_base.proofs.Facts.{guarded}
 use Rattle.verse_tree.specs.Tree.{Tree}
 use Rattle.verse_tree.specs.Tree as t
 use Rattle.verse_tree.specs.ItemTree.{ItemTree}
@@ -24,7 +26,6 @@ use Rattle.verse_accept_rows.specs.Found.{final, Found}
 use Rattle.verse_accept_classes.specs.Referring.{Names}
 use Rattle.verse_accept_classes.specs.Laws.{Quiet}
 use Rattle.verse_accept_fine.specs.Sorted.{At, ty_at, all_classes, sorted, program, Allows}
-use Rattle.verse_accept_fine.proofs.Rules.{not_not, guarded}
 use Rattle.verse_accept_fine.proofs.Base.{its_row}
 use Rattle.verse_accept_fine.proofs.Base as base
 use Rattle.verse_accept_fine.proofs.Operators.{caught}
@@ -45,7 +46,7 @@ module _ (is : List ItemTree) (arrays events : ℕ → Bool) (w : World) (a : Ar
     On = OnPart (Found is) w n (used_as around.target a) xs e
 
     stands : can_be_set F e ≡ true
-    stands = not_not _ (base.types is w a xs n p (t.Shape.assignment m e f) h).settable
+    stands = not-false _ (base.types is w a xs n p (t.Shape.assignment m e f) h).settable
 
     aimed : On → Aim is arrays events b xs e
     aimed o = aim is arrays events b xs w a quiet allows names (used_as around.target a) n e o stands

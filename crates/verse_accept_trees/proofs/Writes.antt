@@ -1,6 +1,7 @@
 -- What `set` writes, and what it gives.
 use Rattle.std.proofs.Common.{◌≡◌, ◌≢◌, ℕ, Bool, true, List, [], ◌∷◌, ◌++◌, sym, subst}
 use Rattle.verse_base.specs.declared.places.Place.{Place}
+use Rattle.verse_base.proofs.Facts.{and_first, and_second}
 use Rattle.verse_tree.specs.Tree.{Tree}
 use Rattle.verse_tree.specs.ItemTree.{ItemTree}
 use Rattle.verse_tree.specs.declared.exprs.Assign.{Assign}
@@ -30,7 +31,6 @@ use Rattle.verse_sound_rules.specs.Forms as takes
 use Rattle.verse_sound_rules.specs.Fine.{target_sorts}
 use Rattle.verse_accept_rows.specs.Found.{final}
 use Rattle.verse_accept_fine.specs.Sorted.{ty_at, all_classes, up, sorted, program}
-use Rattle.verse_accept_fine.proofs.Rules.{and_left, and_right}
 use Rattle.verse_accept_fine.proofs.Base.{is_row}
 use Rattle.verse_accept_fine.proofs.Operators.{int_fits}
 use Rattle.verse_accept_trees.proofs.Paths.{joined, all_joined, never_last}
@@ -131,6 +131,6 @@ module _ (is : List ItemTree) (arrays events : ℕ → Bool) (b : Allowed) (xs :
     gives_by assign.Add y u f h r =
         let l = is_summed (sum_of (all_classes is) y u) in
         let k = fits (all_classes is) u y in
-        add_by (summed (all_classes is) y u (and_left l k h)) f (and_right l k h) r
-    gives_by assign.Sub y u f h r = difference_by u (counts y (and_left (is_int y) (is_int u) h)) f (and_right (is_int y) (is_int u) h) r
-    gives_by assign.Mul y u f h r = product_by u (counts y (and_left (is_int y) (is_int u) h)) f (and_right (is_int y) (is_int u) h) r
+        add_by (summed (all_classes is) y u (and_first l k h)) f (and_second l k h) r
+    gives_by assign.Sub y u f h r = difference_by u (counts y (and_first (is_int y) (is_int u) h)) f (and_second (is_int y) (is_int u) h) r
+    gives_by assign.Mul y u f h r = product_by u (counts y (and_first (is_int y) (is_int u) h)) f (and_second (is_int y) (is_int u) h) r

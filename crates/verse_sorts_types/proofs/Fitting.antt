@@ -1,8 +1,9 @@
 -- A type that fits another one has a sort that fits the other's.
-use Rattle.std.proofs.Common.{◌≡◌, ℕ, zero, suc, Bool, true, false, cond, ◌&&◌, nat_eq, List, Option, Some, None, refl, sym}
+use Rattle.std.proofs.Common.{◌≡◌, ℕ, zero, suc, Bool, true, false, cond, nat_eq, List, Option, Some, None, refl, sym}
 use Rattle.std.proofs.Common.{subst, ap}
 use Rattle.std.specs.Prelude.{length, is_some}
 use Rattle.std.proofs.lemmas.Bool.{eqb-true}
+use Rattle.verse_base.proofs.Facts.{and_first, and_second}
 use Rattle.verse_rules_types.specs.Types as t
 use Rattle.verse_rules_types.specs.Types.{Ty, Tys, Class}
 use Rattle.verse_rules_types.specs.Fitting.{fits, all_fit, is_same, all_same, first_above, above, parent_of, alone_fits}
@@ -11,14 +12,6 @@ use Rattle.verse_sorts.specs.Sorts.{Inherits, itself, Fits, FitAll, to_any, from
 use Rattle.verse_sorts.specs.Sorts.{fits_int, fits_logic, fits_char, nil_logic, nil_opt, fits_enum}
 use Rattle.verse_sorts.specs.Sorts.{fits_obj, fits_event, fits_task, fits_opt, fits_list, fits_map, fits_tuple, fit_none, fit_more}
 use Rattle.verse_sorts_types.specs.SortOf.{sort_of, sorts_of}
-
-and_left : (a b : Bool) → (a && b) ≡ true → a ≡ true
-and_left true b h = refl
-and_left false b h = cc
-
-and_right : (a b : Bool) → (a && b) ≡ true → b ≡ true
-and_right true b h = h
-and_right false b h = cc
 
 same_number : (a b : ℕ) → nat_eq a b ≡ true → a ≡ b
 same_number a b h = eqb-true a b h
@@ -59,13 +52,13 @@ mutual
   same (t.array a) (t.array b) h = ap t.array (same a b h)
   same (t.task a) (t.task b) h = ap t.task (same a b h)
   same (t.event a) (t.event b) h = ap t.event (same a b h)
-  same (t.mapping k a) (t.mapping l b) h = both_same k l a b (same k l (and_left _ _ h)) (same a b (and_right _ _ h))
+  same (t.mapping k a) (t.mapping l b) h = both_same k l a b (same k l (and_first _ _ h)) (same a b (and_second _ _ h))
   same (t.tuple a) (t.tuple b) h = ap t.tuple (each_same a b h)
   same a b h = cc
 
   each_same : (a b : Tys) → all_same a b ≡ true → a ≡ b
   each_same t.no_tys t.no_tys h = refl
-  each_same (t.more_tys a as1) (t.more_tys b bs) h = more_same a b as1 bs (same a b (and_left _ _ h)) (each_same as1 bs (and_right _ _ h))
+  each_same (t.more_tys a as1) (t.more_tys b bs) h = more_same a b as1 bs (same a b (and_first _ _ h)) (each_same as1 bs (and_second _ _ h))
   each_same a b h = cc
 
 module _ (cs : List Class) where
@@ -99,7 +92,7 @@ module _ (cs : List Class) where
     fits_sort (t.array a) t.void h = to_any
     fits_sort (t.task a) (t.task b) h = fits_task (fits_sort a b h)
     fits_sort (t.task a) t.void h = to_any
-    fits_sort (t.mapping k a) (t.mapping l b) h = fits_map (fits_sort k l (and_left _ _ h)) (fits_sort a b (and_right _ _ h))
+    fits_sort (t.mapping k a) (t.mapping l b) h = fits_map (fits_sort k l (and_first _ _ h)) (fits_sort a b (and_second _ _ h))
     fits_sort (t.mapping k a) t.void h = to_any
     fits_sort (t.tuple a) (t.tuple b) h = fits_tuple (each_sort a b h)
     fits_sort (t.tuple a) t.void h = to_any
@@ -107,5 +100,5 @@ module _ (cs : List Class) where
 
     each_sort : (a b : Tys) → all_fit cs a b ≡ true → FitAll (parent_of cs) (sorts_of a) (sorts_of b)
     each_sort t.no_tys t.no_tys h = fit_none
-    each_sort (t.more_tys a as1) (t.more_tys b bs) h = fit_more (fits_sort a b (and_left _ _ h)) (each_sort as1 bs (and_right _ _ h))
+    each_sort (t.more_tys a as1) (t.more_tys b bs) h = fit_more (fits_sort a b (and_first _ _ h)) (each_sort as1 bs (and_second _ _ h))
     each_sort a b h = cc

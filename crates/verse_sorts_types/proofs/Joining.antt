@@ -2,6 +2,7 @@
 use Rattle.std.proofs.Common.{◌≡◌, ℕ, zero, suc, Bool, true, false, cond, List, Option, Some, None, refl}
 use Rattle.std.proofs.Common.{subst}
 use Rattle.std.specs.Prelude.{length}
+use Rattle.std.proofs.lemmas.Option.{same_Some}
 use Rattle.verse_rules_types.specs.Types as t
 use Rattle.verse_rules_types.specs.Types.{Ty, Tys, Class}
 use Rattle.verse_rules_types.specs.Fitting.{fits, inherits, first_above, above, parent_of, class_or_void, common, pick, tuple_or_void}
@@ -13,9 +14,6 @@ use Rattle.verse_sorts.specs.Sorts.{fits_int, fits_logic, fits_char, fits_enum}
 use Rattle.verse_sorts.specs.Sorts.{fits_obj, fits_event, fits_task, fits_opt, fits_list, fits_map, fits_tuple, fit_none, fit_more}
 use Rattle.verse_sorts_types.specs.SortOf.{sort_of, sorts_of}
 use Rattle.verse_sorts_types.proofs.Fitting.{fits_sort, climb}
-
-some_same : (c e : ℕ) → Some c ≡ Some e → c ≡ e
-some_same c e h = cc
 
 module _ (cs : List Class) where
   mutual
@@ -49,7 +47,7 @@ module _ (cs : List Class) where
   found_from : (test : ℕ → Bool) (n c e : ℕ) (b : Bool) → test c ≡ b → ((q : ℕ) → first_above cs test n q ≡ Some e →
       Inherits (parent_of cs) q e × (test e ≡ true)) → cond b (Some c) (above (parent_of cs c) (first_above cs test n)) ≡ Some e →
       Inherits (parent_of cs) c e × (test e ≡ true)
-  found_from test n c e true h f g = subst (λ x. Inherits (parent_of cs) c x × (test x ≡ true)) (some_same c e g) (itself, h)
+  found_from test n c e true h f g = subst (λ x. Inherits (parent_of cs) c x × (test x ≡ true)) (same_Some c e g) (itself, h)
   found_from test n c e false h f g = found_over test n c e (parent_of cs c) refl f g
 
   found : (test : ℕ → Bool) (n c e : ℕ) → first_above cs test n c ≡ Some e → Inherits (parent_of cs) c e × (test e ≡ true)
